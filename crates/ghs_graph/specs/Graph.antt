@@ -1,0 +1,17 @@
+-- Graphs.
+use Rattle.std.specs.Prelude.{ℕ, ◌≤◌, List, length}
+use Rattle.ghs_graph.specs.declared.key.Key.{Key}
+use Rattle.ghs_graph.specs.Links.{IsRising, AreAmong}
+
+-- what a graph is: its number of nodes and the keys of its links
+pub record Shape : Type 0 where
+  pub nodes : ℕ
+  pub keys : List Key
+
+-- nodes and links within the limits, and the keys rising
+pub record IsGraph (g : Shape) : Type 0 where
+  pub some : 1 ≤ g.nodes
+  pub nodes : g.nodes ≤ 1048576
+  pub links : length g.keys ≤ 8388608
+  pub among : AreAmong g.nodes g.keys
+  pub rising : IsRising g.keys

@@ -1,0 +1,4 @@
+pub mod Key
+pub mod Links
+pub mod Ports
+pub mod Graph

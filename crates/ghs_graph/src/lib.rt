@@ -1,0 +1,5 @@
+//! Graphs with ports, and their minimum spanning trees.
+#![tactic(auto)]
+
+pub mod key;
+pub mod port;
