@@ -1,1 +1,11 @@
+pub mod Arc
+pub mod Device
+pub mod Fault
+pub mod Judgement
+pub mod Key
+pub mod Line
+pub mod Pass
+pub mod Problem
 pub mod RawGraph
+pub mod Repeat
+pub mod Text

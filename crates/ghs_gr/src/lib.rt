@@ -1,4 +1,19 @@
 //! Graph texts: devices, and the `.gr` format of the 9th DIMACS Implementation Challenge.
 #![tactic(auto)]
 
+mod arc;
+mod check;
+pub mod device;
+pub mod fault;
+pub mod judgement;
+mod key;
+pub mod laws;
+mod line;
+mod pass;
+mod problem;
 pub mod raw_graph;
+mod repeat;
+pub mod steps;
+#[cfg(test)]
+mod tests;
+pub mod text;

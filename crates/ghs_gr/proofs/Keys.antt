@@ -1,0 +1,65 @@
+-- Keys in order, each once.
+use Rattle.std.proofs.Common.{◌≡◌, ℕ, true, Bool, List, get_or, Ordering, nat_cmp, Less, [], arith}
+use Rattle.std.specs.Prelude.{Contains, ◌==◌, ◌&&◌, ◌↔◌}
+use Rattle.std.specs.Cmp.{IsEquivalence, IsTotalOrder, nat_cmp_total}
+use Rattle.std.specs.List.{AllPairs}
+use Rattle.std.specs.List.Retain.{DiffersFromLast, IsFiltered}
+use Rattle.std.specs.List.Sorted.{IsPermutation, IsSorted}
+use Rattle.std.specs.Ordering.{eq_by_cmp, ordering_then}
+use Rattle.std.proofs.lemmas.Bool.{and_parts, eqb-true}
+use Rattle.std.proofs.lemmas.Bool.Decides.{nat_tests}
+use Rattle.std.proofs.lemmas.Cmp.{on_total, then_total}
+use Rattle.std.proofs.lemmas.List.Filters.{dedup_is}
+use Rattle.std.proofs.lemmas.List.Kept.{Contains-dedup, Contains-from_dedup, IsStrictlySortedBy-dedup}
+use Rattle.std.proofs.lemmas.List.Sorted.{Contains-permutation, IsPermutation-sym}
+use Rattle.std.proofs.lemmas.Map.Keys.{Less-from_sorted}
+use Rattle.ghs_gr.specs.RawGraph.{Triple, triple_lt}
+
+abbrev pub key_cmp : Triple → Triple → Ordering
+key_cmp x y = ordering_then (ordering_then (nat_cmp x.0 y.0) (nat_cmp x.1 y.1)) (nat_cmp x.2 y.2)
+
+abbrev pub key_eq : Triple → Triple → Bool
+key_eq x y = x.0 == y.0 && x.1 == y.1 && x.2 == y.2
+
+key_total : IsTotalOrder key_cmp
+key_total = then_total (then_total (on_total (λ k. k.0) nat_cmp_total) (on_total (λ k. k.1) nat_cmp_total)) (on_total (λ k. k.2) nat_cmp_total)
+
+key_eq-cmp : (x y : Triple) → key_eq x y ≡ eq_by_cmp key_cmp x y
+key_eq-cmp x y = grind (arith, nat_tests)
+
+key_eq-refl : (x : Triple) → key_eq x x ≡ true
+key_eq-refl x = grind (arith, nat_tests)
+
+key_eq-symm : (x y : Triple) → key_eq x y ≡ key_eq y x
+key_eq-symm x y = grind (arith, nat_tests)
+
+key_eq-congr : (x y z : Triple) → key_eq x y ≡ true → key_eq x z ≡ key_eq y z
+key_eq-congr x y z e = grind (arith, nat_tests)
+
+same_parts : (a b c d e f : ℕ) → a ≡ d → b ≡ e → c ≡ f → (let t : Triple = (a, b, c) in t) ≡ (d, e, f)
+same_parts a b c d e f p q r = cc
+
+key_eq-true : (x y : Triple) → key_eq x y ≡ true → x ≡ y
+key_eq-true x y e =
+    let outer = and_parts (x.0 == y.0 && x.1 == y.1) (x.2 == y.2) e in
+    let inner = and_parts (x.0 == y.0) (x.1 == y.1) outer.0 in
+    same_parts x.0 x.1 x.2 y.0 y.1 y.2 (eqb-true _ _ inner.0) (eqb-true _ _ inner.1) (eqb-true _ _ outer.1)
+
+key_equivalence : IsEquivalence key_eq
+key_equivalence = record { refl = key_eq-refl; symm = key_eq-symm; congr = key_eq-congr }
+
+triple_lt-Less : (x y : Triple) → key_cmp x y ≡ Less → triple_lt x y ≡ true
+triple_lt-Less x y e = grind (arith, nat_tests)
+
+pub rising : (xs ys : List Triple) → IsSorted key_cmp xs → IsFiltered (DiffersFromLast key_eq) [] xs ys → AllPairs (λ j k. triple_lt j k ≡ true) ys
+rising xs ys sorted kept = λ i j d l below.
+    triple_lt-Less (get_or ys i d) (get_or ys j d) (Less-from_sorted key_cmp ys i j d (rw (dedup_is key_eq xs ys kept) (IsStrictlySortedBy-dedup key_total key_eq-cmp xs sorted)) l below)
+
+pub same_keys : (ks xs ys zs : List Triple) → IsFiltered (DiffersFromLast key_eq) [] ks xs → IsPermutation xs ys → IsFiltered (DiffersFromLast key_eq) [] ys zs
+    → (key : Triple) → Contains zs key ↔ Contains ks key
+same_keys ks xs ys zs first moved last key = (
+  λ h. Contains-from_dedup key_eq ks key (rw (← dedup_is key_eq ks xs first)
+      (Contains-permutation ys xs key (IsPermutation-sym xs ys moved) (Contains-from_dedup key_eq ys key (rw (← dedup_is key_eq ys zs last) h)))),
+  λ h. rw (dedup_is key_eq ys zs last) (Contains-dedup key_equivalence key_eq-true ys key
+      (Contains-permutation xs ys key moved (rw (dedup_is key_eq ks xs first) (Contains-dedup key_equivalence key_eq-true ks key h)))),
+)

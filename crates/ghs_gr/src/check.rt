@@ -1,0 +1,79 @@
+//! The faults of one line.
+ghost use Rattle.ghs_gr.specs.Arc.{arc_in};
+ghost use Rattle.ghs_gr.specs.Fault.{ends_fault as ends_fault_of, form_fault as form_fault_of, is_node as is_node_of, loop_fault as loop_fault_of, sizes_fault as sizes_fault_of};
+ghost use Rattle.ghs_gr.specs.Problem.{sizes_of};
+ghost use Rattle.ghs_gr.specs.Pass.{early_fault as early_fault_of};
+ghost use Rattle.std.specs.Option.{option_map};
+ghost use Rattle.std.specs.Prelude.{Some, ◌≡◌};
+
+use crate::arc::Arc;
+use crate::fault::LineFault;
+use crate::line::Line;
+use crate::problem::{ARC_LIMIT, NODE_LIMIT, Problem};
+
+/// The first fault of a line but for Repeat.
+pub fn early_fault(problem: Option<Problem>, line: Line) -> Option<LineFault>
+    ensures { result ≡ early_fault_of (option_map sizes_of problem) line }
+{
+    form_fault(problem, line).or(loop_fault(line))
+}
+
+/// The first fault of a line but for Loop and Repeat.
+fn form_fault(problem: Option<Problem>, line: Line) -> Option<LineFault>
+    ensures { result ≡ form_fault_of (option_map sizes_of problem) line }
+{
+    match line {
+        Line::Passed => None,
+        Line::Malformed => Some(LineFault::BadLine),
+        Line::Problem(nodes, arcs) => match problem {
+            Some(_) => Some(LineFault::SecondProblem),
+            None => sizes_fault(nodes, arcs),
+        },
+        Line::Arc(..) => match problem {
+            Some(problem) => ends_fault(problem.nodes, line),
+            None => Some(LineFault::ArcBeforeProblem),
+        },
+    }
+}
+
+/// The fault of a problem line's numbers.
+fn sizes_fault(nodes: Option<u32>, arcs: Option<u32>) -> Option<LineFault>
+    ensures { result ≡ sizes_fault_of (nodes, arcs) }
+{
+    match (nodes, arcs) {
+        (Some(nodes), Some(arcs)) if 1 <= nodes && nodes <= NODE_LIMIT && arcs <= ARC_LIMIT => None,
+        _ => Some(LineFault::Number),
+    }
+}
+
+/// The fault of an arc line's numbers and ends, where there are so many nodes.
+fn ends_fault(nodes: u32, line: Line) -> Option<LineFault>
+    ensures { result ≡ ends_fault_of (Some nodes) (arc_in line) }
+{
+    match Arc::in_line(line) {
+        None => Some(LineFault::Number),
+        Some(arc) => {
+            if is_node(nodes, arc.from) && is_node(nodes, arc.to) {
+                None
+            } else {
+                Some(LineFault::NodeRange)
+            }
+        }
+    }
+}
+
+fn is_node(nodes: u32, node: u32) -> bool
+    ensures { result ≡ is_node_of (Some nodes) node }
+{
+    1 <= node && node <= nodes
+}
+
+/// The fault of an arc from a node to itself.
+fn loop_fault(line: Line) -> Option<LineFault>
+    ensures { result ≡ loop_fault_of (arc_in line) }
+{
+    match Arc::in_line(line) {
+        Some(arc) if arc.from == arc.to => Some(LineFault::Loop),
+        _ => None,
+    }
+}

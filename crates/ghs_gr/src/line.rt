@@ -1,0 +1,157 @@
+//! The lines of a graph text, and what each of them says.
+ghost use Rattle.ghs_gr.specs.Line.{arc_of, fields_of, is_blank as is_blank_of, lines_of, meaning, number_of, problem_of};
+ghost use Rattle.std.specs.Prelude.{IfNone, IfSome, [], false, length, slice_index, true, ◌<◌, ◌≡◌, ◌≢◌, ◌≤◌, ◌∷◌, ℕ};
+
+use bstr::ByteSlice;
+
+/// What one line says. A number is `None` where its field is no number below 2^32.
+#[derive(Clone, Copy, Debug, Drop)]
+pub enum Line {
+    /// Nothing: a line without fields, or a comment.
+    Passed,
+    /// Nothing that the format knows.
+    Malformed,
+    /// How many nodes and how many arc lines there are.
+    Problem(Option<u32>, Option<u32>),
+    /// An arc: from, to, weight.
+    Arc(Option<u32>, Option<u32>, Option<u32>),
+}
+
+/// The first line, without its line feed, and what is behind it.
+pub fn next_line(text: &[u8]) -> Option<(&[u8], &[u8])>
+    ensures some { IfSome result (λ x. lines_of text.now ≡ x.0.now ∷ lines_of x.1.now) }
+    ensures shorter { IfSome result (λ x. length x.1.now < length text.now) }
+    ensures none { IfNone result (text.now ≡ []) }
+{
+    if text.is_empty() {
+        return None;
+    }
+    match text.find_byte(b'\n') {
+        Some(end) => {
+            let (line, _) = text.split_at(end);
+            let (_, rest) = text.split_at(end + 1);
+            Some((line, rest))
+        }
+        None => {
+            let (line, rest) = text.split_at(text.len());
+            Some((line, rest))
+        }
+    }
+}
+
+/// What a line says.
+pub fn meaning_of(line: &[u8]) -> Line
+    ensures { result ≡ meaning line.now }
+{
+    let Some((first, more)) = next_field(line) else {
+        return Line::Passed;
+    };
+    match first {
+        [b'c', ..] => Line::Passed,
+        b"p" => problem(more),
+        b"a" => arc(more),
+        _ => Line::Malformed,
+    }
+}
+
+/// What a line says whose first field is `p`, from its other fields.
+fn problem(fields: &[u8]) -> Line
+    ensures { result ≡ problem_of (fields_of fields.now) }
+{
+    match three_fields(fields) {
+        Some((b"sp", nodes, arcs)) => Line::Problem(number(nodes), number(arcs)),
+        _ => Line::Malformed,
+    }
+}
+
+/// What a line says whose first field is `a`, from its other fields.
+fn arc(fields: &[u8]) -> Line
+    ensures { result ≡ arc_of (fields_of fields.now) }
+{
+    match three_fields(fields) {
+        Some((from, to, weight)) => Line::Arc(number(from), number(to), number(weight)),
+        None => Line::Malformed,
+    }
+}
+
+/// The fields, where there are just three.
+fn three_fields(line: &[u8]) -> Option<(&[u8], &[u8], &[u8])>
+    ensures some { IfSome result (λ x. fields_of line.now ≡ x.0.now ∷ x.1.now ∷ x.2.now ∷ []) }
+    ensures none { IfNone result (length (fields_of line.now) ≢ 3) }
+{
+    let (first, line) = next_field(line)?;
+    let (second, line) = next_field(line)?;
+    let (third, line) = next_field(line)?;
+    match next_field(line) {
+        Some(_) => None,
+        None => Some((first, second, third)),
+    }
+}
+
+/// The first field, and what is behind it.
+fn next_field(line: &[u8]) -> Option<(&[u8], &[u8])>
+    ensures some { IfSome result (λ x. fields_of line.now ≡ x.0.now ∷ fields_of x.1.now) }
+    ensures nonempty { IfSome result (λ x. 0 < length x.0.now) }
+    ensures none { IfNone result (fields_of line.now ≡ []) }
+{
+    let (_, rest) = line.split_at(field_start(line));
+    if rest.is_empty() {
+        return None;
+    }
+    let (field, after) = rest.split_at(field_end(rest));
+    Some((field, after))
+}
+
+/// Where the first field begins, or the length where there is none.
+fn field_start(line: &[u8]) -> usize
+    ensures within { result ≤ length line.now }
+    ensures before { (k : ℕ) → k < result → is_blank_of (slice_index line.now k) ≡ true }
+    ensures found { result < length line.now → is_blank_of (slice_index line.now result) ≡ false }
+{
+    for (i, byte) in line.iter().enumerate() {
+        if !is_blank(*byte) {
+            return i;
+        }
+    }
+    line.len()
+}
+
+/// Where the first blank is, or the length where there is none.
+fn field_end(line: &[u8]) -> usize
+    ensures within { result ≤ length line.now }
+    ensures before { (k : ℕ) → k < result → is_blank_of (slice_index line.now k) ≡ false }
+    ensures found { result < length line.now → is_blank_of (slice_index line.now result) ≡ true }
+{
+    for (i, byte) in line.iter().enumerate() {
+        if is_blank(*byte) {
+            return i;
+        }
+    }
+    line.len()
+}
+
+fn is_blank(byte: u8) -> bool
+    ensures { result ≡ is_blank_of byte }
+{
+    byte == b' ' || byte == b'\t' || byte == b'\r'
+}
+
+/// The number that a field is, where it is one.
+fn number(field: &[u8]) -> Option<u32>
+    ensures { result ≡ number_of field.now }
+{
+    if field.is_empty() {
+        return None;
+    }
+    let mut value = 0u64;
+    for byte in field {
+        if !byte.is_ascii_digit() {
+            return None;
+        }
+        value = value * 10 + (*byte - b'0') as u64;
+        if value > u32::MAX as u64 {
+            return None;
+        }
+    }
+    Some(value as u32)
+}
