@@ -1,5 +1,5 @@
 -- Ports: a node's places in the rising list of the keys that have it as an end.
-use Rattle.std.specs.Prelude.{ℕ, ◌&&◌, ◌==◌, List, filter, map, count_by, if◌then◌else◌}
+use Rattle.std.specs.Prelude.{◌≡◌, ℕ, ◌&&◌, ◌==◌, Some, List, filter, map, count_by, slice_get, if◌then◌else◌}
 use Rattle.ghs_graph.specs.declared.key.Key.{Key}
 use Rattle.ghs_graph.specs.declared.port.Port.{Port}
 use Rattle.ghs_graph.specs.Key.{key_lt, ends_at}
@@ -7,6 +7,10 @@ use Rattle.ghs_graph.specs.Key.{key_lt, ends_at}
 -- the keys that have the node as an end
 abbrev pub keys_at : List Key → ℕ → List Key
 keys_at ks v = filter (ends_at v) ks
+
+-- how many links end at a node
+unfoldable pub degree : List Key → ℕ → ℕ
+degree ks v = count_by (ends_at v) ks
 
 -- the place of a key among those of a node: how many of them are less
 abbrev pub place_of : List Key → ℕ → Key → ℕ
@@ -23,3 +27,7 @@ port_on ks v k = record { key = k; far = far_end v k; far_port = place_of ks (fa
 -- the ports of node v, in key order
 unfoldable pub ports_of : List Key → ℕ → List Port
 ports_of ks v = map (port_on ks v) (keys_at ks v)
+
+-- p is port i of node v
+abbrev pub HasPort : List Key → ℕ → ℕ → Port → Type 0
+HasPort ks v i p = slice_get (ports_of ks v) i ≡ Some p

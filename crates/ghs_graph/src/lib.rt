@@ -1,5 +1,16 @@
 //! Graphs with ports, and their minimum spanning trees.
 #![tactic(auto)]
 
+pub mod bounds;
+pub mod classes;
+pub mod graph;
+pub mod graph_fault;
 pub mod key;
+pub mod laws;
+mod layout;
 pub mod port;
+pub mod spanning;
+#[cfg(test)]
+mod tests;
+pub mod tree;
+mod triples;

@@ -1,0 +1,5 @@
+use Rattle.ghs_graph.proofs.Wiring.{ports_end_elsewhere}
+use Rattle.ghs_graph.proofs.laws.law_far_end.Goals as goal
+
+pub returns : goal.returns
+returns c = ports_end_elsewhere

@@ -1,0 +1,5 @@
+use Rattle.ghs_graph.proofs.Wiring.{ports_lead_back}
+use Rattle.ghs_graph.proofs.laws.law_far_port.Goals as goal
+
+pub returns : goal.returns
+returns c = ports_lead_back

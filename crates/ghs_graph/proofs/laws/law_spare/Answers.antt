@@ -1,0 +1,5 @@
+use Rattle.ghs_graph.proofs.Least.{none_is_spare}
+use Rattle.ghs_graph.proofs.laws.law_spare.Goals as goal
+
+pub returns : goal.returns
+returns c = none_is_spare
