@@ -1,0 +1,94 @@
+//! The procedures of the protocol, which the responses to messages share: wakeup, test, report and change-root.
+ghost use Rattle.std.specs.Prelude.{◌≡◌, ◌<◌, IfOk, OnErr};
+ghost use Rattle.ghs_node.specs.declared.message.Phase.TheVariants.{Sleeping};
+ghost use Rattle.ghs_node.specs.Words.{least_basic};
+ghost use Rattle.ghs_node.specs.NodeState.{degree, with_mark};
+ghost use Rattle.ghs_node.specs.Reaction.{closes, settles, root_to};
+ghost use Rattle.ghs_node.specs.Draft.{begun_in, Answers};
+
+use crate::delta::Delta;
+use crate::draft::Draft;
+use crate::fault::NodeFault;
+use crate::level::Level;
+use crate::mark::Mark;
+use crate::message::{Message, Phase};
+use crate::node::Node;
+use std::alloc::{AllocError, Global};
+
+/// Begins a reaction to a message that may wake its node: a node that sleeps wakes first.
+pub(crate) fn begin(alloc: Global, node: &Node) -> Result<Draft, AllocError>
+    requires { 0 < degree node.now }
+    ensures ok { IfOk result (λ d. d ≡ begun_in node.now) }
+    ensures err { OnErr result (node.now.head.phase ≡ Sleeping) }
+{
+    let mut draft = Draft::of(alloc, node);
+    if draft.head.phase == Phase::Sleeping {
+        draft.head.level = Level::ZERO;
+        draft.head.phase = Phase::Found;
+        draft.head.find_count = 0;
+        draft.mark = Some((0, Mark::Branch));
+        draft.send(0, Message::Connect(Level::ZERO))?;
+    }
+    Ok(draft)
+}
+
+/// The least port that is Basic.
+fn least_basic(draft: &Draft, node: &Node) -> Option<u32>
+    ensures { result ≡ least_basic (with_mark node.now.marks draft.now.mark) }
+{
+    for port in 0..node.degree() {
+        if draft.mark_of(node, port) == Mark::Basic {
+            return Some(port);
+        }
+    }
+    None
+}
+
+/// Looks for the fragment's least outgoing link: the least Basic port is tested, and where there is none
+/// the node reports.
+pub(crate) fn test(mut draft: Draft, node: &Node) -> Result<Delta, AllocError>
+    ensures { IfOk result (λ d. d ≡ settles node.now draft.head draft.mark draft.sends) }
+{
+    match least_basic(&draft, node) {
+        Some(port) => {
+            let head = draft.head;
+            draft.head.probe = Some(port);
+            draft.send(port, Message::Test(head.level, head.fragment_name()))?;
+            Ok(draft.done())
+        }
+        None => {
+            draft.head.probe = None;
+            report(draft)
+        }
+    }
+}
+
+/// Reports to the core, once no Report is waited for and no Test is out.
+pub(crate) fn report(mut draft: Draft) -> Result<Delta, AllocError>
+    ensures { IfOk result (λ d. d ≡ closes draft.head draft.mark draft.sends) }
+{
+    let head = draft.head;
+    if head.find_count == 0 && head.probe.is_none() {
+        draft.head.phase = Phase::Found;
+        draft.send(head.core_port(), Message::Report(head.best_key()))?;
+    }
+    Ok(draft.done())
+}
+
+/// Moves the core towards the best link: along a Branch, or out over the link itself by a Connect.
+pub(crate) fn change_root(alloc: Global, node: &Node) -> Result<Delta, NodeFault>
+    ensures { Answers result (root_to node.now node.now.head.best) }
+{
+    let head = *node.head();
+    let Some((port, _)) = head.best else {
+        return Err(NodeFault::Unforeseen);
+    };
+    let mut draft = Draft::of(alloc, node);
+    if node.mark(port) == Mark::Branch {
+        draft.send(port, Message::ChangeRoot)?;
+    } else {
+        draft.mark = Some((port, Mark::Branch));
+        draft.send(port, Message::Connect(head.level))?;
+    }
+    Ok(draft.done())
+}

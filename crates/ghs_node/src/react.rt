@@ -1,0 +1,80 @@
+//! The reaction of a node to one piece of work.
+ghost use Rattle.std.specs.Prelude.{◌≡◌, ◌<◌, ◌↔◌, Some, IfOk, IsErrOf};
+ghost use Rattle.ghs_node.specs.declared.delta.Delta.{Delta};
+ghost use Rattle.ghs_node.specs.declared.message.Message.{Message};
+ghost use Rattle.ghs_node.specs.NodeState.{IsNode, degree};
+ghost use Rattle.ghs_node.specs.Reaction.{reaction, HasPort, IsReaction};
+ghost use Rattle.ghs_node.specs.Rows.{Row};
+ghost use Rattle.ghs_node.specs.NoRule.{NoRule};
+ghost use Rattle.ghs_node.specs.Draft.{Answers};
+
+use crate::delta::Delta;
+use crate::draft::Draft;
+use crate::fault::NodeFault;
+use crate::message::{Message, Phase};
+use crate::node::Node;
+use crate::procedures::{begin, change_root};
+use crate::responses::{on_accept, on_connect, on_initiate, on_reject, on_report, on_test};
+use crate::work::Work;
+use std::alloc::Global;
+
+/// What a node does with a piece of work, by the procedures of Gallager, Humblet and Spira (ACM TOPLAS
+/// 5(1), 1983, appendix). The node itself stays as it is: `Node::apply` makes the change. The sends are
+/// all that takes memory.
+pub fn react(alloc: Global, node: &Node, work: Work) -> Result<Delta, NodeFault>
+    ensures reaction { IfOk result (λ d. reaction node.now work ≡ Some d) }
+    ensures row { IfOk result (λ d. Row node.now work d) }
+    ensures applicable { IfOk result (λ d. IsReaction node.now d) }
+
+    // The faults, the first that holds.
+    ensures no_port { IsErrOf result NodeFault.NoPort ↔ ¬ HasPort node.now work }
+    ensures unforeseen { IsErrOf result NodeFault.Unforeseen ↔ (HasPort node.now work × NoRule node.now work) }
+    ensures memory { IsErrOf result NodeFault.Memory → (d : Delta) × Row node.now work d }
+{
+    let degree = node.degree();
+    match work {
+        Work::Wake => wake(alloc, node),
+        Work::Deliver { port, message } => {
+            if port < degree {
+                respond(alloc, node, port, &message)
+            } else {
+                Err(NodeFault::NoPort)
+            }
+        }
+    }
+}
+
+/// A node wakes by itself. One without links halts at once.
+fn wake(alloc: Global, node: &Node) -> Result<Delta, NodeFault>
+    ensures { Answers result (reaction node.now Work.Wake) }
+{
+    if node.head().phase != Phase::Sleeping {
+        return Err(NodeFault::Unforeseen);
+    }
+    if node.degree() == 0 {
+        let mut draft = Draft::of(alloc, node);
+        draft.head.phase = Phase::Found;
+        return Ok(draft.halted());
+    }
+    let draft = begin(alloc, node)?;
+    Ok(draft.done())
+}
+
+/// A message has come in at a port.
+fn respond(alloc: Global, node: &Node, port: u32, message: &Message) -> Result<Delta, NodeFault>
+    requires node { IsNode node.now }
+    requires port { port < degree node.now }
+    ensures { Answers result (reaction node.now (Work.Deliver port message.now)) }
+{
+    match message {
+        Message::Connect(level) => on_connect(begin(alloc, node)?, node, port, *level),
+        Message::Initiate(level, name, phase) => {
+            on_initiate(alloc, node, port, *level, *name, *phase)
+        }
+        Message::Test(level, name) => on_test(begin(alloc, node)?, node, port, *level, *name),
+        Message::Accept => on_accept(alloc, node, port),
+        Message::Reject => on_reject(alloc, node, port),
+        Message::Report(key) => on_report(alloc, node, port, *key),
+        Message::ChangeRoot => change_root(alloc, node),
+    }
+}
