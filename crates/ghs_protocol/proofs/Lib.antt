@@ -1,0 +1,30 @@
+mod Examples
+mod InterleavingExamples
+pub mod Invariant
+pub mod Results
+mod GraphExamples
+pub mod Updates
+pub mod Wires
+pub mod Pushes
+pub mod Sends
+pub mod Events
+pub mod Runs
+pub mod Nodes
+pub mod Waking
+pub mod Acts
+pub mod Ends
+pub mod Sums
+pub mod Waits
+pub mod WellFormed
+pub mod Balance
+pub mod Lasting
+pub mod Halting
+pub mod Graphs
+pub mod Fragments
+pub mod Firsts
+pub mod StepByStep
+pub mod Effects
+pub mod Rejecting
+pub mod Bounds
+pub mod Connects
+pub mod Choosing

@@ -1,0 +1,5 @@
+use Rattle.ghs_protocol.proofs.Results.{work_has_reaction}
+use Rattle.ghs_protocol.proofs.interleavings.law_reactions.Goals as goal
+
+pub returns : goal.returns
+returns c = work_has_reaction

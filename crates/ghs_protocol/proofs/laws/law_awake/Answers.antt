@@ -1,0 +1,5 @@
+use Rattle.ghs_protocol.proofs.Firsts.{nodes_stay_awake}
+use Rattle.ghs_protocol.proofs.laws.law_awake.Goals as goal
+
+pub returns : goal.returns
+returns c = nodes_stay_awake

@@ -1,0 +1,5 @@
+use Rattle.ghs_protocol.proofs.Firsts.{branch_marks_stay}
+use Rattle.ghs_protocol.proofs.laws.law_branch_marks.Goals as goal
+
+pub returns : goal.returns
+returns c = branch_marks_stay

@@ -1,0 +1,5 @@
+use Rattle.ghs_protocol.proofs.Firsts.{connects_are_one}
+use Rattle.ghs_protocol.proofs.laws.law_connects.Goals as goal
+
+pub returns : goal.returns
+returns c = connects_are_one

@@ -1,0 +1,5 @@
+use Rattle.ghs_protocol.proofs.Firsts.{nothing_elsewhere}
+use Rattle.ghs_protocol.proofs.laws.law_elsewhere.Goals as goal
+
+pub returns : goal.returns
+returns c = nothing_elsewhere

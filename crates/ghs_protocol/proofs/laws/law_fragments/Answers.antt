@@ -1,0 +1,5 @@
+use Rattle.ghs_protocol.proofs.Firsts.{fragments_are_joined}
+use Rattle.ghs_protocol.proofs.laws.law_fragments.Goals as goal
+
+pub returns : goal.returns
+returns c = fragments_are_joined

@@ -1,0 +1,5 @@
+use Rattle.ghs_protocol.proofs.Firsts.{kinds_balance}
+use Rattle.ghs_protocol.proofs.laws.law_kinds.Goals as goal
+
+pub returns : goal.returns
+returns c = kinds_balance

@@ -1,0 +1,5 @@
+use Rattle.ghs_protocol.proofs.Firsts.{ledger_balances}
+use Rattle.ghs_protocol.proofs.laws.law_ledger.Goals as goal
+
+pub returns : goal.returns
+returns c = ledger_balances

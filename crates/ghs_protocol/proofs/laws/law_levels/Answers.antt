@@ -1,0 +1,5 @@
+use Rattle.ghs_protocol.proofs.Firsts.{levels_stay}
+use Rattle.ghs_protocol.proofs.laws.law_levels.Goals as goal
+
+pub returns : goal.returns
+returns c = levels_stay

@@ -1,0 +1,5 @@
+use Rattle.ghs_protocol.proofs.Firsts.{nodes_are_nodes}
+use Rattle.ghs_protocol.proofs.laws.law_nodes.Goals as goal
+
+pub returns : goal.returns
+returns c = nodes_are_nodes

@@ -1,0 +1,5 @@
+use Rattle.ghs_protocol.proofs.Firsts.{sleepers_wake_first}
+use Rattle.ghs_protocol.proofs.laws.law_sleepers.Goals as goal
+
+pub returns : goal.returns
+returns c = sleepers_wake_first

@@ -1,0 +1,15 @@
+pub mod Network
+pub mod Net
+pub mod Run
+pub mod Marks
+pub mod Ledger
+pub mod Invariant
+pub mod Steps
+pub mod Nodes
+pub mod Acts
+pub mod Ends
+pub mod Tallies
+pub mod Lasting
+pub mod Laws
+pub mod Interleavings
+pub mod Connects

@@ -1,0 +1,41 @@
+-- What the machine sees of a graph: nodes 1 to count, each with its ports in key order.
+use Rattle.std.specs.Prelude.{◌≡◌, ◌≢◌, ℕ, ◌<◌, ◌≤◌, List, length, slice_index_or}
+use Rattle.ghs_graph.specs.declared.port.Port.{Port}
+use Rattle.ghs_graph.specs.Graph.{Shape}
+use Rattle.ghs_graph.specs.Ports.{ports_of}
+use Rattle.ghs_node.specs.NodeState.{no_key}
+
+pub record Network : Type 0 where
+  pub count : ℕ
+  pub ports : ℕ → List Port
+
+-- the network of a graph
+abbrev pub network_of : Shape → Network
+network_of g = record { count = g.nodes; ports = ports_of g.keys }
+
+abbrev pub no_port : Port
+no_port = record { key = no_key; far = 0; far_port = 0 }
+
+abbrev pub port_at : Network → ℕ → ℕ → Port
+port_at g v p = slice_index_or (g.ports v) p no_port
+
+-- the node at the far end of a port, and that node's port on the same link
+abbrev pub far : Network → ℕ → ℕ → ℕ
+far g v p = (port_at g v p).far
+
+abbrev pub far_port : Network → ℕ → ℕ → ℕ
+far_port g v p = (port_at g v p).far_port
+
+-- v is a node, and p a port of it
+pub record At (g : Network) (v p : ℕ) : Type 0 where
+  pub some : 1 ≤ v
+  pub node : v ≤ g.count
+  pub port : p < length (g.ports v)
+
+-- what every graph's network keeps: links lead to other nodes and back again, and have one key
+pub record IsWired (g : Network) : Type 0 where
+  pub there : (v p : ℕ) → At g v p → At g (far g v p) (far_port g v p)
+  pub apart : (v p : ℕ) → At g v p → far g v p ≢ v
+  pub back : (v p : ℕ) → At g v p → far g (far g v p) (far_port g v p) ≡ v
+  pub back_port : (v p : ℕ) → At g v p → far_port g (far g v p) (far_port g v p) ≡ p
+  pub same_key : (v p : ℕ) → At g v p → (port_at g (far g v p) (far_port g v p)).key ≡ (port_at g v p).key

@@ -1,0 +1,6 @@
+//! The network as one pure machine: events in, states and counts out.
+#![tactic(auto)]
+
+pub mod event;
+pub mod interleavings;
+pub mod laws;
