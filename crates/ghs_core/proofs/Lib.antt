@@ -1,0 +1,14 @@
+pub mod Arriving
+pub mod Sending
+pub mod Few
+pub mod Stages
+pub mod Showing
+pub mod Totals
+pub mod Least
+pub mod Playing
+pub mod Reading
+pub mod Finding
+pub mod Sides
+pub mod Fragments
+pub mod Alike
+pub mod Interleaved

@@ -1,0 +1,159 @@
+-- What a net keeps when an event is played.
+use Rattle.std.proofs.Common.{◌≡◌, ◌≢◌, ℕ, ◌+◌, ◌-◌, ◌<◌, ◌≤◌, ◌^◌, true, List, [], ◌∷◌, ◌++◌, length, get_or, set, Option, Some, subst, sym, ◌∙◌, ap, arith, length-append}
+use Rattle.std.proofs.lemmas.List.{get_or_default}
+use Rattle.ghs_graph.specs.Graph.{Shape}
+use Rattle.ghs_node.specs.declared.delta.Delta.{Delta}
+use Rattle.ghs_node.specs.NodeState.{NodeState}
+use Rattle.ghs_node.specs.Reaction.{reaction, after, IsReaction}
+use Rattle.ghs_node.specs.Rows.{Row}
+use Rattle.ghs_node.proofs.Outgoing.{row_ported}
+use Rattle.ghs_links.specs.Links.{LinksState, IsFor, GoOut, HasRoomFor, KeepsLists, total_of}
+use Rattle.ghs_links.proofs.Ports.{same_for}
+use Rattle.ghs_protocol.specs.declared.event.Event.{Event}
+use Rattle.ghs_protocol.specs.Network.{network_of, IsWired}
+use Rattle.ghs_protocol.specs.Net.{Net, is_lawful, happens}
+use Rattle.ghs_protocol.specs.Run.{IsAfter, net_after}
+use Rattle.ghs_protocol.specs.Ledger.{in_all}
+use Rattle.ghs_protocol.specs.Nodes.{IsNodeOf, IsWellFormed}
+use Rattle.ghs_protocol.specs.Steps.{reacted, Happens}
+use Rattle.ghs_protocol.proofs.Events.{happens_so}
+use Rattle.ghs_protocol.proofs.Graphs.{graph_wired, graph_few}
+use Rattle.ghs_protocol.proofs.Lasting.{event_lasts}
+use Rattle.ghs_protocol.proofs.Nodes.{ports_many}
+use Rattle.ghs_protocol.proofs.Runs.{after_is_net, after_more, net_after_more}
+use Rattle.ghs_protocol.proofs.Sends.{node_here, node_there}
+use Rattle.ghs_protocol.proofs.WellFormed.{after_formed}
+use Rattle.ghs_core.specs.declared.counts.Counts.{Counts}
+use Rattle.ghs_core.specs.NetState.{NetState, event_node, work_at, lesser, IsLeastHalted, IsLawful, IsAnswer}
+use Rattle.ghs_core.specs.Dispatch.{Arrives, CountsSends, Settles, WaitsAt}
+use Rattle.ghs_core.specs.Kept.{IsKept, no_node}
+use Rattle.ghs_core.proofs.Few.{row_few}
+use Rattle.ghs_core.proofs.Stages.{Staged, staged, stage_happens, stage_low, stage_high, stage_nodes, stage_reaction, reaction_row}
+use Rattle.ghs_core.proofs.Showing.{waits_at, stage_shows, reacted_shows}
+use Rattle.ghs_core.proofs.Totals.{Settled, settled, settled_room, fit_more, total_fits, sent_fits}
+use Rattle.ghs_core.proofs.Least.{least_after}
+
+-- the events of a run so far, and the reaction of one more
+pub record Plays (g : Shape) (es : List Event) (nodes : List NodeState) (links : LinksState) (counts : Counts) (halted : Option ℕ) (e : Event) (d : Delta) : Type 0 where
+  pub kept : IsKept g es nodes links counts halted
+  pub lawful : is_lawful (network_of g) (net_after g es) e ≡ true
+  pub answer : reaction ((net_after g es).node (event_node e)) (work_at (net_after g es) e) ≡ Some d
+
+-- the same, of what contracts see
+pub plays_of : {g : Shape} {es : List Event} {nodes : List NodeState} {links : LinksState} {counts : Counts} {halted : Option ℕ} {spare : ℕ} {s : NetState} {e : Event} {d : Delta} → IsKept g es nodes links counts halted → record { graph = g; trace = es; links = links; spare = spare } ≡ s → IsLawful s e → IsAnswer s e d → Plays g es nodes links counts halted e d
+plays_of kept view lawful answer = record { kept = kept; lawful = rw (← view) at lawful; answer = rw (← view) at answer }
+
+module _ {g : Shape} {es : List Event} {nodes : List NodeState} {links : LinksState} {counts : Counts} {halted : Option ℕ} {e : Event} {d : Delta} (plays : Plays g es nodes links counts halted e d) where
+  wired : IsWired (network_of g)
+  wired = graph_wired g plays.kept.graph
+
+  run : IsAfter (network_of g) es (net_after g es)
+  run = after_is_net g es plays.kept.run
+
+  formed : IsWellFormed (network_of g) (net_after g es)
+  formed = after_formed (network_of g) wired (graph_few g plays.kept.graph) es (net_after g es) run
+
+  stages : Staged (network_of g) (net_after g es) e d
+  stages = staged (network_of g) (net_after g es) e d plays.lawful plays.answer
+
+  is_node : IsNodeOf (network_of g) (event_node e) ((net_after g es).node (event_node e))
+  is_node = formed.nodes (event_node e)
+
+  the_reaction : IsReaction ((net_after g es).node (event_node e)) d
+  the_reaction = stage_reaction stages.stage is_node
+
+  row : Row ((net_after g es).node (event_node e)) the_reaction.work d
+  row = reaction_row _ d the_reaction
+
+  pub low : 1 ≤ event_node e
+  low = stage_low stages.stage
+
+  pub high : event_node e ≤ g.nodes
+  high = stage_high stages.stage
+
+  pub inside : event_node e - 1 < length nodes
+  inside = let n = plays.kept.shows.count in omega (arith, n, low, high)
+
+  -- the node in the fields is the net's
+  pub found : (x : NodeState) → x ≡ get_or nodes (event_node e - 1) x → x ≡ (net_after g es).node (event_node e)
+  found x is = is ∙ get_or_default nodes (event_node e - 1) x no_node inside ∙ plays.kept.shows.node (event_node e) low high
+
+  pub can_react : (x : NodeState) → x ≡ get_or nodes (event_node e - 1) x → IsReaction x d
+  can_react x is = let P : NodeState → Type 0 = λ n. IsReaction n d in subst P (sym (found x is)) the_reaction
+
+  pub waits : WaitsAt e links
+  waits = waits_at g (net_after g es) nodes links counts plays.kept.queues plays.kept.shows stages.stage
+
+  pub go_out : GoOut g (event_node e) d.sends
+  go_out i x lt = let a = row_ported _ _ d is_node.node row i x lt in omega (arith, a, ports_many is_node)
+
+  pub few : length d.sends ≤ 8388610
+  few = let a = row_few row in let b = is_node.node.few in omega (arith, a, b)
+
+  -- once the message that the event takes has met its fate
+  module _ (l : LinksState) (c : Counts) (s : Settles e d.fate links l counts c) where
+    so_far : Settled links l counts c
+    so_far = settled g (net_after g es) nodes links counts plays.kept.queues plays.kept.shows l c stages.stage s
+
+    pub settled_for : IsFor g l
+    settled_for = same_for g links l so_far.ports plays.kept.queues
+
+    pub room_still : HasRoomFor g (event_node e) d.sends links → HasRoomFor g (event_node e) d.sends l
+    room_still room = settled_room g (net_after g es) nodes links counts plays.kept.queues plays.kept.shows l c (event_node e) d.sends stages.stage s room
+
+    pub total_below : length es < 2 ^ 40 → total_of l + length d.sends < 2 ^ 64
+    total_below lt = total_fits (length es) links l counts c (length d.sends) lt few plays.kept.fit so_far
+
+    pub sent_below : length es < 2 ^ 40 → (k : ℕ) → k < 7 → get_or c.sent k 0 + length d.sends < 2 ^ 64
+    sent_below lt k below = sent_fits (length es) links l counts c (length d.sends) k lt few plays.kept.fit so_far below
+
+    -- and its node has reacted
+    module _ (l' : LinksState) (sent : List ℕ) (a : Arrives g (event_node e) d.sends l l') (told : CountsSends d.sends c.sent sent) where
+      abbrev next : Net
+      next = reacted (network_of g) (event_node e) d stages.before
+
+      happened : Happens (network_of g) (net_after g es) e next
+      happened = stage_happens stages.stage
+
+      is_next : net_after g (es ++ e ∷ []) ≡ next
+      is_next = net_after_more g es e (net_after g es) next run happened
+
+      least_next : IsLeastHalted (network_of g) next (lesser halted (event_node e) d.head.halted)
+      least_next = least_after (network_of g) (net_after g es) next (event_node e) low high
+          (λ u ne h. ap (λ (n : NodeState). n.head.halted) (sym (there u ne)) ∙ h)
+          (λ u h. (event_lasts (network_of g) wired (net_after g es) next e formed happened u).halted h)
+          halted d.head.halted (ap (λ (n : NodeState). n.head.halted) (node_here (network_of g) (event_node e) d stages.before)) plays.kept.least
+        where
+          there : (u : ℕ) → u ≢ event_node e → next.node u ≡ (net_after g es).node u
+          there u ne = node_there (network_of g) (event_node e) d stages.before u ne ∙ ap (λ (f : ℕ → NodeState). f u) (stage_nodes stages.stage)
+
+      pub played : (x n : NodeState) → x ≡ get_or nodes (event_node e - 1) x → n ≡ after x d → IsKept g (es ++ e ∷ []) (set nodes (event_node e - 1) n) l' (record { sent = sent; consumed = c.consumed; requeued = c.requeued }) (lesser halted (event_node e) d.head.halted)
+      played x n is now = record {
+        graph = plays.kept.graph;
+        run = (next, after_more (network_of g) es e (net_after g es) next run happened);
+        queues = same_for g l l' a.ports settled_for;
+        shows = rw is_next (reacted_shows g plays.kept.graph (event_node e) low high d stages.before nodes n l l' c sent (now ∙ ap (λ (y : NodeState). after y d) (found x is ∙ sym (ap (λ (f : ℕ → NodeState). f (event_node e)) (stage_nodes stages.stage)))) (stage_shows g (net_after g es) nodes links counts plays.kept.queues plays.kept.shows l c stages.stage s) a told);
+        fit = rw (length-append es (e ∷ [])) (fit_more (length es) links l l' counts c sent g (event_node e) d.sends few plays.kept.fit so_far a told);
+        least = rw is_next least_next;
+      }
+
+  pub played_event : happens (network_of g) (net_after g es) e ≡ Some (net_after g (es ++ e ∷ []))
+  played_event = happens_so (stage_happens stages.stage) ∙ ap (λ (x : Net). Some x) (sym (net_after_more g es e (net_after g es) _ run (stage_happens stages.stage)))
+
+-- a reserve
+pub reserved : (g : Shape) (es : List Event) (nodes : List NodeState) (links l : LinksState) (counts : Counts) (halted : Option ℕ) → IsKept g es nodes links counts halted → KeepsLists links l → IsKept g es nodes l counts halted
+reserved g es nodes links l counts halted kept same = record {
+  graph = kept.graph;
+  run = kept.run;
+  queues = same_for g links l same.ports kept.queues;
+  shows = let shows = kept.shows in record {
+    count = shows.count;
+    node = shows.node;
+    queue = λ v p at. same.lists v p ((kept.queues.queues v p).1 (record { some = at.some; node = at.node; port = at.port })) ∙ shows.queue v p at;
+    sent = shows.sent;
+    consumed = shows.consumed;
+    requeued = shows.requeued;
+  };
+  fit = let fit = kept.fit in record { sent = fit.sent; consumed = fit.consumed; requeued = fit.requeued; waiting = ap (λ n. n + in_all (λ k. get_or counts.consumed k 0)) same.total ∙ fit.waiting };
+  least = kept.least;
+}

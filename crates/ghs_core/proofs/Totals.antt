@@ -1,0 +1,118 @@
+-- Counts over all kinds, stage by stage.
+use Rattle.std.proofs.Common.{◌≡◌, ℕ, zero, suc, ◌+◌, ◌-◌, ◌<◌, ◌≤◌, ◌==◌, ◌^◌, List, [], ◌∷◌, length, get_or, refl, ◌∙◌, ap, cond, ⊎_elim, arith, true, false, Bool}
+use Rattle.std.proofs.lemmas.Bool.{cases_eq}
+use Rattle.std.proofs.lemmas.List.{length-map}
+use Rattle.ghs_node.specs.declared.message.Message.{Message}
+use Rattle.ghs_node.specs.declared.delta.Fate.{Fate}
+use Rattle.ghs_node.specs.declared.delta.Fate.TheVariants.{Consumed, Requeued}
+use Rattle.ghs_node.specs.declared.delta.Delta.{Delta}
+use Rattle.ghs_node.specs.Kind.{kind_of, place_of}
+use Rattle.ghs_node.specs.Words.{Outgoing}
+use Rattle.ghs_node.specs.NodeState.{NodeState}
+use Rattle.ghs_graph.specs.Graph.{Shape}
+use Rattle.ghs_links.specs.Links.{LinksState, IsFor, HasRoomFor, total_of}
+use Rattle.ghs_links.proofs.Reserving.{far_queue}
+use Rattle.ghs_protocol.specs.declared.event.Event.{Event}
+use Rattle.ghs_protocol.specs.Network.{network_of}
+use Rattle.ghs_protocol.specs.Net.{Net, one_if_consumed, one_if_requeued}
+use Rattle.ghs_protocol.specs.Ledger.{sum_below, of_kind, in_all}
+use Rattle.ghs_protocol.proofs.Sums.{sum_same, sum_none, sum_add}
+use Rattle.ghs_protocol.proofs.Balance.{kinds_in_all}
+use Rattle.ghs_core.specs.declared.counts.Counts.{Counts}
+use Rattle.ghs_core.specs.Dispatch.{Arrives, CountsSends, Settles, messages_of}
+use Rattle.ghs_core.specs.Kept.{Shows, CountsFit}
+use Rattle.ghs_core.proofs.Stages.{Stage, Wakes, Takes}
+
+-- one count is part of all
+pub one_of_all : (n k : ℕ) (f : ℕ → ℕ) → k < n → f k ≤ sum_below n f
+one_of_all zero k f lt = absurd (omega arith)
+one_of_all (suc n) k f lt = ⊎_elim (λ (e : k ≡ n). rw e (omega arith)) (λ ne. let rest = one_of_all n k f (omega (arith, ne)) in omega (arith, rest)) (cases_eq k n)
+
+-- counts that rise by h kind by kind rise by its sum
+rise : (f f' h : ℕ → ℕ) → ((k : ℕ) → k < 7 → f' k ≡ f k + h k) → in_all f' ≡ in_all f + in_all h
+rise f f' h e = sum_same 7 f' (λ k. f k + h k) e ∙ sum_add 7 f h
+
+-- the fate of one message
+fate_counts : (f : Fate) (m : Message) → in_all (λ k. cond (place_of (kind_of m) == k) (one_if_consumed f) 0) ≡ one_if_consumed f
+fate_counts Consumed m = sum_same 7 (λ k. cond (place_of (kind_of m) == k) 1 0) (λ k. of_kind k (m ∷ [])) (λ k lt. omega arith) ∙ kinds_in_all (m ∷ [])
+fate_counts Requeued m = sum_none 7 (λ k. cond (place_of (kind_of m) == k) 0 0) (λ k lt. none (place_of (kind_of m) == k))
+  where
+    none : (b : Bool) → ◌≡◌ {A = ℕ} (cond b 0 0) 0
+    none true = refl
+    none false = refl
+
+one_fate : (f : Fate) → one_if_consumed f + one_if_requeued f ≡ 1
+one_fate Consumed = refl
+one_fate Requeued = refl
+
+-- what the first stage leaves: fewer wait by the one that was consumed, and the sent are as they were
+pub record Settled (links l : LinksState) (counts c : Counts) : Type 0 where
+  pub sent : c.sent ≡ counts.sent
+  pub balance : total_of l + in_all (λ k. get_or c.consumed k 0) ≡ total_of links + in_all (λ k. get_or counts.consumed k 0)
+  pub fewer : total_of l ≤ total_of links
+  pub consumed : in_all (λ k. get_or c.consumed k 0) ≤ in_all (λ k. get_or counts.consumed k 0) + 1
+  pub requeued : c.requeued ≤ counts.requeued + 1
+  pub ports : l.starts ≡ links.starts
+
+module _ (g : Shape) (w : Net) (nodes : List NodeState) (links : LinksState) (counts : Counts) (for : IsFor g links) (shows : Shows (network_of g) w nodes links counts) where
+  pub settled : {e : Event} {d : Delta} {x : Net} (l : LinksState) (c : Counts) → Stage (network_of g) w e d x → Settles e d.fate links l counts c → Settled links l counts c
+  settled l c (Wakes v d lo hi s r) z = rw (z.0, z.1) (record { sent = refl; balance = refl; fewer = omega arith; consumed = omega arith; requeued = omega arith; ports = refl })
+  settled l c (Takes v p m ms d at q r) z =
+      let one = z m ms (shows.queue v p at ∙ q) in
+      let t = one.0.total in
+      let all = rise (λ k. get_or counts.consumed k 0) (λ k. get_or c.consumed k 0) (λ k. cond (place_of (kind_of m) == k) (one_if_consumed d.fate) 0) one.1.consumed in
+      let kind = fate_counts d.fate m in
+      let fate = one_fate d.fate in
+      let again = one.1.requeued in
+      record {
+        sent = one.1.sent;
+        balance = omega (arith, t, all, kind);
+        fewer = omega (arith, t);
+        consumed = omega (arith, all, kind, fate);
+        requeued = omega (arith, again, fate);
+        ports = one.0.ports;
+      }
+
+  -- the first stage takes no room
+  pub settled_room : {e : Event} {d : Delta} {x : Net} (l : LinksState) (c : Counts) (v : ℕ) (ss : Outgoing) → Stage (network_of g) w e d x → Settles e d.fate links l counts c → HasRoomFor g v ss links → HasRoomFor g v ss l
+  settled_room l c u ss (Wakes v d lo hi s r) z room i lt = rw z.0 (room i lt)
+  settled_room l c u ss (Takes v p m ms d at q r) z room i lt =
+      let one = z m ms (shows.queue v p at ∙ q) in
+      let more = one.0.rooms _ _ (far_queue g links for u i lt) in
+      let had = room i lt in
+      omega (arith, more, had)
+
+-- the second stage: the sends are counted
+pub fit_more : (n : ℕ) (links l l' : LinksState) (counts c : Counts) (sent : List ℕ) (g : Shape) (v : ℕ) (ss : Outgoing) → length ss ≤ 8388610 → CountsFit n links counts → Settled links l counts c → Arrives g v ss l l' → CountsSends ss c.sent sent → CountsFit (n + 1) l' (record { sent = sent; consumed = c.consumed; requeued = c.requeued })
+fit_more n links l l' counts c sent g v ss few fit s a told =
+    let all : in_all (λ k. get_or sent k 0) ≡ in_all (λ k. get_or c.sent k 0) + in_all (λ k. of_kind k (messages_of ss)) = rise (λ k. get_or c.sent k 0) (λ k. get_or sent k 0) (λ k. of_kind k (messages_of ss)) told in
+    let kinds : in_all (λ k. of_kind k (messages_of ss)) ≡ length ss = kinds_in_all (messages_of ss) ∙ length-map ss (λ (x : ℕ × Message). x.1) in
+    let same : in_all (λ k. get_or c.sent k 0) ≡ in_all (λ k. get_or counts.sent k 0) = ap (λ (xs : List ℕ). in_all (λ k. get_or xs k 0)) s.sent in
+    let total = a.total in
+    record {
+      sent = let f = fit.sent in omega (arith, all, kinds, same, few, f);
+      consumed = let f = fit.consumed in let o = s.consumed in omega (arith, f, o);
+      requeued = let f = fit.requeued in let o = s.requeued in omega (arith, f, o);
+      waiting = let f = fit.waiting in let o = s.balance in omega (arith, all, kinds, same, total, f, o);
+    }
+
+-- there is room for the counts of one event more
+pub total_fits : (n : ℕ) (links l : LinksState) (counts c : Counts) (k : ℕ) → n < 2 ^ 40 → k ≤ 8388610 → CountsFit n links counts → Settled links l counts c → total_of l + k < 2 ^ 64
+total_fits n links l counts c k lt few fit s =
+    let a = fit.sent in
+    let b = fit.waiting in
+    let t = s.fewer in
+    omega (arith, a, b, t)
+
+pub sent_fits : (n : ℕ) (links l : LinksState) (counts c : Counts) (k i : ℕ) → n < 2 ^ 40 → k ≤ 8388610 → CountsFit n links counts → Settled links l counts c → i < 7 → get_or c.sent i 0 + k < 2 ^ 64
+sent_fits n links l counts c k i lt few fit s below =
+    let one = one_of_all 7 i (λ j. get_or c.sent j 0) below in
+    let same : in_all (λ j. get_or c.sent j 0) ≡ in_all (λ j. get_or counts.sent j 0) = ap (λ (xs : List ℕ). in_all (λ j. get_or xs j 0)) s.sent in
+    let a = fit.sent in
+    omega (arith, one, same, a)
+
+pub consumed_fits : (n : ℕ) (links : LinksState) (counts : Counts) (i : ℕ) → n < 2 ^ 40 → CountsFit n links counts → i < 7 → get_or counts.consumed i 0 < 2 ^ 64 - 1
+consumed_fits n links counts i lt fit below =
+    let one = one_of_all 7 i (λ j. get_or counts.consumed j 0) below in
+    let a = fit.consumed in
+    omega (arith, one, a)

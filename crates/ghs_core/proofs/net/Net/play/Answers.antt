@@ -1,0 +1,49 @@
+use Rattle.ghs_core.proofs.Playing.{plays_of, can_react, waits, go_out, settled_for, room_still, total_below, sent_below, played, played_event}
+use Rattle.ghs_core.proofs.net.Net.play.Goals as goal
+
+pub settle-requires-clause-waits : goal.settle-requires-clause-waits
+settle-requires-clause-waits c =
+    let plays = plays_of c.self.invariant c.self.view_is c.requires.lawful c.requires.answer in
+    waits plays
+
+pub apply-requires : goal.apply-requires
+apply-requires c =
+    let plays = plays_of c.self.invariant c.self.view_is c.requires.lawful c.requires.answer in
+    can_react plays c.index_mut-node.result.now (rw c.node_of-v.ensures at c.index_mut-node.ensures.value)
+
+pub send_all-requires-clause-queues : goal.send_all-requires-clause-queues
+send_all-requires-clause-queues c =
+    let plays = plays_of c.self.invariant c.self.view_is c.requires.lawful c.requires.answer in
+    settled_for plays c.settle.new.links c.settle.new.counts c.settle.ensures
+
+pub send_all-requires-clause-ports : goal.send_all-requires-clause-ports
+send_all-requires-clause-ports c =
+    let plays = plays_of c.self.invariant c.self.view_is c.requires.lawful c.requires.answer in
+    rw (c.as_slice.ensures, c.node_of-v.ensures) (go_out plays)
+
+pub send_all-requires-clause-room : goal.send_all-requires-clause-room
+send_all-requires-clause-room c =
+    let plays = plays_of c.self.invariant c.self.view_is c.requires.lawful c.requires.answer in
+    rw (c.as_slice.ensures, c.node_of-v.ensures) (room_still plays c.settle.new.links c.settle.new.counts c.settle.ensures (rw (← c.self.view_is) at c.requires.room.sends))
+
+pub send_all-requires-clause-total : goal.send_all-requires-clause-total
+send_all-requires-clause-total c =
+    let plays = plays_of c.self.invariant c.self.view_is c.requires.lawful c.requires.answer in
+    rw c.as_slice.ensures (total_below plays c.settle.new.links c.settle.new.counts c.settle.ensures (rw (← c.self.view_is) at c.requires.few))
+
+pub send_all-requires-clause-fits : goal.send_all-requires-clause-fits
+send_all-requires-clause-fits c =
+    let plays = plays_of c.self.invariant c.self.view_is c.requires.lawful c.requires.answer in
+    rw c.as_slice.ensures (sent_below plays c.settle.new.links c.settle.new.counts c.settle.ensures (rw (← c.self.view_is) at c.requires.few))
+
+pub invariant_of-self : goal.invariant_of-self
+invariant_of-self c =
+    let plays = plays_of c.self.invariant c.self.view_is c.requires.lawful c.requires.answer in
+    let arrives = rw (c.node_of-v.ensures, c.as_slice.ensures) at c.send_all.ensures.arrives in
+    let told = rw c.as_slice.ensures at c.send_all.ensures.counts in
+    rw (c.push_reserved.ensures.items, c.least-self-inside.ensures, c.node_of-v.ensures) (played plays c.settle.new.links c.settle.new.counts c.settle.ensures c.send_all.new.links c.send_all.new.sent arrives told c.index_mut-node.result.now c.apply.new.self (rw c.node_of-v.ensures at c.index_mut-node.ensures.value) c.apply.ensures)
+
+pub returns-clause-event : goal.returns-clause-event
+returns-clause-event c =
+    let plays = plays_of c.self.invariant c.self.view_is c.requires.lawful c.requires.answer in
+    rw (← c.self.view_is, c.push_reserved.ensures.items) (played_event plays)

@@ -1,0 +1,5 @@
+pub mod NetState
+pub mod Dispatch
+pub mod Kept
+pub mod Ledger
+pub mod Marked

@@ -1,0 +1,57 @@
+-- Links that are marked Branch at one end, or at both.
+use Rattle.std.specs.Prelude.{◌≡◌, ℕ, ◌-◌, ◌≤◌, ◌<◌, Bool, ◌&&◌, ◌||◌, ◌↔◌, List, length, slice_index_or}
+use Rattle.std.specs.List.{Contains}
+use Rattle.std.specs.List.Sorted.{IsStrictlyIncreasing}
+use Rattle.ghs_graph.specs.declared.key.Key.{Key}
+use Rattle.ghs_graph.specs.Graph.{Shape, IsGraph}
+use Rattle.ghs_graph.specs.Classes.{AreTogether}
+use Rattle.ghs_graph.specs.Links.{IsRising}
+use Rattle.ghs_graph.specs.Ports.{ports_of, place_of}
+use Rattle.ghs_node.specs.NodeState.{NodeState, mark_at, degree}
+use Rattle.ghs_node.specs.Words.{is_branch}
+use Rattle.ghs_protocol.specs.Network.{Network}
+use Rattle.ghs_protocol.specs.Net.{Net}
+use Rattle.ghs_protocol.specs.Marks.{IsBranchLink, InOneFragment}
+use Rattle.ghs_core.specs.declared.marked.Ends.{Ends}
+use Rattle.ghs_core.specs.declared.marked.Ends.TheVariants.{One, Both}
+use Rattle.ghs_core.specs.Kept.{no_node}
+
+abbrev pub are_wanted : Ends → Bool → Bool → Bool
+are_wanted One a b = a || b
+are_wanted Both a b = a && b
+
+abbrev pub node_in : List NodeState → ℕ → NodeState
+node_in nodes v = slice_index_or nodes (v - 1) no_node
+
+-- node v has marked the link Branch
+abbrev pub has_branch : List Key → List NodeState → ℕ → Key → Bool
+has_branch ks nodes v k = is_branch (mark_at (node_in nodes v) (place_of ks v k))
+
+abbrev pub is_wanted : Ends → List Key → List NodeState → Key → Bool
+is_wanted e ks nodes k = are_wanted e (has_branch ks nodes k.a k) (has_branch ks nodes k.b k)
+
+-- the nodes have the ports of the graph
+pub record HavePorts (g : Shape) (nodes : List NodeState) : Type 0 where
+  pub graph : IsGraph g
+  pub count : length nodes ≡ g.nodes
+  pub ports : (v : ℕ) → 1 ≤ v → v ≤ g.nodes → degree (node_in nodes v) ≡ length (ports_of g.keys v)
+
+-- all Branch links, in key order
+pub record AreBranches (g : Network) (w : Net) (ks : List Key) : Type 0 where
+  pub rising : IsRising ks
+  pub all : (k : Key) → Contains ks k ↔ IsBranchLink g w k
+
+-- u is a node of the fragment of node v
+abbrev pub IsInFragment : Network → Net → ℕ → ℕ → Type 0
+IsInFragment g w v u = (1 ≤ u) × (u ≤ g.count) × InOneFragment g w v u
+
+-- the nodes of the fragment of node v, rising
+pub record IsFragment (g : Network) (w : Net) (v : ℕ) (us : List ℕ) : Type 0 where
+  pub rising : IsStrictlyIncreasing us
+  pub all : (u : ℕ) → Contains us u ↔ IsInFragment g w v u
+
+-- of the numbers from 1 to one limit those that have the label of v, rising
+pub record AreAlike (ls : List ℕ) (limit v : ℕ) (us : List ℕ) : Type 0 where
+  pub rising : IsStrictlyIncreasing us
+  pub has : (u : ℕ) → Contains us u → (1 ≤ u) × (u < limit) × AreTogether ls v u
+  pub all : (u : ℕ) → 1 ≤ u → u < limit → AreTogether ls v u → Contains us u

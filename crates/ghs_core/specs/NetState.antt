@@ -1,0 +1,73 @@
+-- What a net is seen as: a graph and the events that were played on it, and the room beside.
+use Rattle.std.specs.Prelude.{◌≡◌, ℕ, ◌≤◌, ◌<◌, Option, Some, None, List, [], ◌∷◌, Bool, true, false, min}
+use Rattle.ghs_graph.specs.Graph.{Shape}
+use Rattle.ghs_node.specs.declared.message.Message.{Message}
+use Rattle.ghs_node.specs.declared.delta.Delta.{Delta}
+use Rattle.ghs_node.specs.declared.work.Work.{Work}
+use Rattle.ghs_node.specs.declared.work.Work.TheVariants as works
+use Rattle.ghs_node.specs.Reaction.{reaction}
+use Rattle.ghs_links.specs.Links.{LinksState, HasRoomFor, KeepsLists}
+use Rattle.ghs_protocol.specs.declared.event.Event.{Event}
+use Rattle.ghs_protocol.specs.declared.event.Event.TheVariants.{Wake, Take}
+use Rattle.ghs_protocol.specs.Network.{Network, network_of}
+use Rattle.ghs_protocol.specs.Net.{Net, is_lawful}
+use Rattle.ghs_protocol.specs.Run.{net_after}
+use Rattle.ghs_protocol.specs.Marks.{HasHalted}
+
+-- the graph and the trace; the queues with the room beside each, and for how many more events the trace has room
+pub record NetState : Type 0 where
+  pub graph : Shape
+  pub trace : List Event
+  pub links : LinksState
+  pub spare : ℕ
+
+abbrev pub network : NetState → Network
+network s = network_of s.graph
+
+-- the machine's net after the events of the trace
+abbrev pub net_of : NetState → Net
+net_of s = net_after s.graph s.trace
+
+-- the node at which an event happens, and its work there
+abbrev pub event_node : Event → ℕ
+event_node (Wake v) = v
+event_node (Take v p) = v
+
+abbrev pub delivery : ℕ → List Message → Work
+delivery p [] = works.Wake
+delivery p (m ∷ ms) = works.Deliver p m
+
+abbrev pub work_at : Net → Event → Work
+work_at w (Wake v) = works.Wake
+work_at w (Take v p) = delivery p (w.queue v p)
+
+-- the event may happen
+abbrev pub IsLawful : NetState → Event → Type 0
+IsLawful s e = is_lawful (network s) (net_of s) e ≡ true
+
+-- the reaction of the event's node to the event's work
+abbrev pub IsAnswer : NetState → Event → Delta → Type 0
+IsAnswer s e d = reaction ((net_of s).node (event_node e)) (work_at (net_of s) e) ≡ Some d
+
+-- room for the event in the trace, and for the messages that the reaction sends
+pub record HasRoomToPlay (s : NetState) (e : Event) (d : Delta) : Type 0 where
+  pub trace : 0 < s.spare
+  pub sends : HasRoomFor s.graph (event_node e) d.sends s.links
+
+-- the same net, and nowhere less room
+pub record IsSameNet (old new : NetState) : Type 0 where
+  pub graph : new.graph ≡ old.graph
+  pub trace : new.trace ≡ old.trace
+  pub links : KeepsLists old.links new.links
+  pub spare : old.spare ≤ new.spare
+
+-- the least node that has halted, if one has
+abbrev pub IsLeastHalted : Network → Net → Option ℕ → Type 0
+IsLeastHalted g w None = (v : ℕ) → 1 ≤ v → v ≤ g.count → HasHalted w v → ⊥
+IsLeastHalted g w (Some v) = (1 ≤ v) × (v ≤ g.count) × HasHalted w v × ((u : ℕ) → 1 ≤ u → u < v → HasHalted w u → ⊥)
+
+-- the least of them, where node v may have halted as well
+abbrev pub lesser : Option ℕ → ℕ → Bool → Option ℕ
+lesser o v false = o
+lesser None v true = Some v
+lesser (Some u) v true = Some (min u v)

@@ -1,0 +1,72 @@
+//! Messages on their way: what one reaction does to the queues.
+ghost use Rattle.std.specs.Prelude.{◌≡◌, ℕ, ◌+◌, ◌-◌, ◌<◌, ◌≤◌, ◌^◌, List, ◌∷◌, length, slice_index};
+ghost use Rattle.ghs_node.specs.declared.message.Message.{Message as Letter};
+ghost use Rattle.ghs_links.specs.Links.{HasQueue, IsFor, GoOut, HasRoomFor, queue_at, total_of};
+ghost use Rattle.ghs_core.specs.Dispatch.{Arrives, CountsSends, Met, CountsFate, WaitsAt, Settles};
+
+use crate::counts::Counts;
+use ghs_graph::graph::Graph;
+use ghs_links::links::Links;
+use ghs_node::delta::Fate;
+use ghs_node::message::Message;
+use ghs_protocol::event::Event;
+
+/// Sends messages out from node `v`, in their order. There is room for them at the far ends.
+pub fn send_all(
+    links: &mut Links,
+    sent: &mut [u64; 7],
+    graph: &Graph,
+    v: u32,
+    sends: &[(u32, Message)],
+)
+    requires queues { IsFor graph.now links.old }
+    requires low { 1 ≤ v }
+    requires high { v ≤ graph.now.nodes }
+    requires ports { GoOut graph.now v sends.now }
+    requires room { HasRoomFor graph.now v sends.now links.old }
+    requires total { total_of links.old + length sends.now < 2 ^ 64 }
+    requires fits { (k : ℕ) → k < 7 → slice_index sent.old k + length sends.now < 2 ^ 64 }
+    ensures arrives { Arrives graph.now v sends.now links.old links.new }
+    ensures counts { CountsSends sends.now sent.old sent.new }
+{
+    let ports = graph.ports(v);
+    for (port, message) in sends {
+        let to = ports[*port as usize];
+        links.push(to.far, to.far_port, *message);
+        sent[message.kind().place()] += 1;
+    }
+}
+
+// The first message that waits at a port meets its fate: it is gone, or goes to the end.
+fn meet_fate(links: &mut Links, counts: &mut Counts, v: u32, port: u32, fate: Fate)
+    requires port { HasQueue links.old v port }
+    requires waits { 0 < length (queue_at links.old v port) }
+    requires consumed { (k : ℕ) → k < 7 → slice_index counts.old.consumed k < 2 ^ 64 - 1 }
+    requires requeued { counts.old.requeued < 2 ^ 64 - 1 }
+    ensures met { (m : Letter) (ms : List Letter) → queue_at links.old v port ≡ m ∷ ms → Met fate v port m ms links.old links.new }
+    ensures counts { (m : Letter) (ms : List Letter) → queue_at links.old v port ≡ m ∷ ms → CountsFate fate m counts.old counts.new }
+{
+    match fate {
+        Fate::Consumed => {
+            if let Some(message) = links.take_front(v, port) {
+                counts.consumed[message.kind().place()] += 1;
+            }
+        }
+        Fate::Requeued => {
+            links.requeue(v, port);
+            counts.requeued += 1;
+        }
+    }
+}
+
+/// What an event does before its node reacts: a message that it takes meets its fate.
+pub fn settle(links: &mut Links, counts: &mut Counts, event: Event, fate: Fate)
+    requires waits { WaitsAt event links.old }
+    requires consumed { (k : ℕ) → k < 7 → slice_index counts.old.consumed k < 2 ^ 64 - 1 }
+    requires requeued { counts.old.requeued < 2 ^ 64 - 1 }
+    ensures { Settles event fate links.old links.new counts.old counts.new }
+{
+    if let Event::Take(v, port) = event {
+        meet_fate(links, counts, v, port, fate);
+    }
+}

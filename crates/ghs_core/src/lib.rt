@@ -1,0 +1,11 @@
+//! The net of one thread: all nodes and all queues, and the list of what has happened.
+#![tactic(auto)]
+
+mod counts;
+mod dispatch;
+pub mod ledger;
+mod marked;
+pub mod net;
+mod parts;
+
+pub use ghs_protocol::event;

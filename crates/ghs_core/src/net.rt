@@ -1,0 +1,286 @@
+//! The net of one thread.
+ghost use Rattle.std.specs.Prelude.{◌≡◌, ℕ, ◌+◌, ◌*◌, ◌≤◌, ◌<◌, ◌^◌, [], ◌∷◌, ◌++◌, length, IfOk, IfErr, OnOk, OnErr, IsSome, Some};
+ghost use Rattle.ghs_graph.specs.Graph.{IsGraph};
+ghost use Rattle.ghs_node.specs.Words.{is_sleeping};
+ghost use Rattle.ghs_node.specs.NodeState.{mark_at};
+ghost use Rattle.ghs_protocol.specs.Network.{network_of, far, At};
+ghost use Rattle.ghs_protocol.specs.Marks.{InOneFragment};
+ghost use Rattle.ghs_protocol.specs.Interleavings.{HaveAtLeast};
+ghost use Rattle.ghs_node.specs.Reaction.{reaction};
+ghost use Rattle.ghs_protocol.specs.Net.{opening, is_lawful, is_node, is_port, happens};
+ghost use Rattle.ghs_protocol.specs.Run.{IsRun};
+ghost use Rattle.ghs_core.specs.NetState.{network, net_of, work_at, IsLawful, IsAnswer, HasRoomToPlay, IsSameNet, IsLeastHalted, event_node, lesser};
+ghost use Rattle.ghs_core.specs.Ledger.{IsLedger};
+ghost use Rattle.ghs_core.specs.Marked.{AreBranches, IsFragment, IsInFragment};
+
+use crate::counts::Counts;
+use crate::dispatch::{send_all, settle};
+use crate::ledger::Ledger;
+use crate::marked::{Ends, branch_links, numbers_alike};
+use crate::parts::open_parts;
+use ghs_graph::graph::Graph;
+use ghs_graph::key::Key;
+use ghs_graph::spanning::span;
+use ghs_links::links::Links;
+use ghs_node::delta::Delta;
+use ghs_node::head::Head;
+use ghs_node::mark::Mark;
+use ghs_node::message::Phase;
+use ghs_node::node::Node;
+use ghs_node::work::Work;
+use ghs_protocol::event::Event;
+use std::alloc::{AllocError, Global};
+use std::marker::Model;
+
+/// All nodes and all queues of a graph's network, and the list of the events that were played on it.
+#[derive(Debug, Drop)]
+pub struct Net {
+    graph: Graph,
+    nodes: Vec<Node>,
+    links: Links,
+    counts: Counts,
+    // The least node that has halted.
+    halted: Option<u32>,
+    trace: Vec<Event>,
+}
+
+impl Model for Net {
+    ghost use Rattle.std.specs.Prelude.{◌-◌, vec_len, vec_capacity};
+    ghost use Rattle.ghs_core.specs.NetState.{NetState};
+    ghost use Rattle.ghs_core.specs.Kept.{IsKept};
+
+    ghost Value = { NetState };
+
+    ghost view = { λ n. record { graph = n.graph; trace = n.trace.items; links = n.links; spare = vec_capacity n.trace - vec_len n.trace } };
+
+    ghost invariant = { λ n. IsKept n.graph n.trace.items n.nodes.items n.links n.counts n.halted };
+}
+
+impl Net {
+    /// The opening net of a graph: all nodes asleep, nothing under way. Where memory is wanting the graph comes back.
+    pub fn open(alloc: Global, graph: Graph) -> Result<Net, (Graph, AllocError)>
+        ensures graph { IfOk result (λ n. n.graph ≡ graph) }
+        ensures trace { IfOk result (λ n. n.trace ≡ []) }
+        ensures net { IfOk result (λ n. net_of n ≡ opening (network_of graph)) }
+        ensures back { IfErr result (λ e. e.0 ≡ graph) }
+    {
+        match open_parts(alloc, &graph) {
+            Ok(parts) => Ok(Net {
+                graph,
+                nodes: parts.nodes,
+                links: parts.links,
+                counts: Counts::none(),
+                halted: None,
+                trace: Vec::new(alloc),
+            }),
+            Err(error) => Err((graph, error)),
+        }
+    }
+
+    /// Whether an event may happen now.
+    pub fn lawful(&self, event: Event) -> bool
+        ensures { result ≡ is_lawful (network self.now) (net_of self.now) event }
+    {
+        match event {
+            Event::Wake(v) => self.has_node(v) && is_asleep(self.nodes[v as usize - 1].head()),
+            Event::Take(v, port) => self.has_port(v, port) && self.links.len_at(v, port) > 0,
+        }
+    }
+
+    /// The work that an event brings to its node. The node's reaction to it has a rule.
+    pub fn work(&self, event: Event) -> Work
+        requires { IsLawful self.now event }
+        ensures work { result ≡ work_at (net_of self.now) event }
+        ensures rule { IsSome (reaction ((net_of self.now).node (event_node event)) result) }
+    {
+        self.work_of(event)
+    }
+
+    /// A node.
+    pub fn node(&self, v: u32) -> &Node
+        requires low { 1 ≤ v }
+        requires high { v ≤ self.now.graph.nodes }
+        ensures { result.now ≡ (net_of self.now).node v }
+    {
+        &self.nodes[v as usize - 1]
+    }
+
+    /// The mark of a port. A Rejected link leads back into the node's own fragment.
+    pub fn mark(&self, v: u32, port: u32) -> Mark
+        requires { At (network self.now) v port }
+        ensures mark { result ≡ mark_at ((net_of self.now).node v) port }
+        ensures inside { result ≡ Mark.Rejected → InOneFragment (network self.now) (net_of self.now) v (far (network self.now) v port) }
+    {
+        self.nodes[v as usize - 1].mark(port)
+    }
+
+    /// The level of a node, 0 to 20. The fragment of a node of level L has at least 2^L nodes.
+    pub fn level(&self, v: u32) -> u8
+        requires low { 1 ≤ v }
+        requires high { v ≤ self.now.graph.nodes }
+        ensures level { result ≡ ((net_of self.now).node v).head.level }
+        ensures fragment { HaveAtLeast (2 ^ result) (IsInFragment (network self.now) (net_of self.now) v) }
+    {
+        self.nodes[v as usize - 1].head().level.get()
+    }
+
+    /// The events that were played.
+    pub fn trace(&self) -> &[Event]
+        ensures trace { result.now ≡ self.now.trace }
+        ensures run { IsRun (network self.now) self.now.trace }
+        ensures graph { IsGraph self.now.graph }
+    {
+        self.trace.as_slice()
+    }
+
+    /// How many events were played.
+    pub fn events(&self) -> u64
+        ensures { result ≡ length self.now.trace }
+    {
+        self.trace.len() as u64
+    }
+
+    /// The graph.
+    pub fn graph(&self) -> &Graph
+        ensures { result.now ≡ self.now.graph }
+    {
+        &self.graph
+    }
+
+    /// The least node that has halted as a core node.
+    pub fn core_halted(&self) -> Option<u32>
+        ensures { IsLeastHalted (network self.now) (net_of self.now) result }
+    {
+        self.halted
+    }
+
+    /// How many messages were sent, consumed and requeued, and how many wait.
+    pub fn ledger(&self) -> Ledger
+        ensures { IsLedger (network self.now) (net_of self.now) result }
+    {
+        Ledger {
+            sent: self.counts.sent,
+            consumed: self.counts.consumed,
+            requeued: self.counts.requeued,
+            queued: self.links.total(),
+            out: 0,
+        }
+    }
+
+    /// The links that are Branch at one end at least, in key order.
+    pub fn branches(&self, alloc: Global) -> Result<Vec<Key>, AllocError>
+        ensures { IfOk result (λ ks. AreBranches (network self.now) (net_of self.now) ks.items) }
+    {
+        branch_links(alloc, &self.graph, &self.nodes, Ends::One)
+    }
+
+    /// The nodes that links which are Branch at both ends join with node `v`, rising.
+    pub fn fragment(&self, alloc: Global, v: u32) -> Result<Vec<u32>, AllocError>
+        requires low { 1 ≤ v }
+        requires high { v ≤ self.now.graph.nodes }
+        ensures { IfOk result (λ us. IsFragment (network self.now) (net_of self.now) v us.items) }
+    {
+        let joined = branch_links(alloc, &self.graph, &self.nodes, Ends::Both)?;
+        let spanning = span(alloc, self.graph.nodes(), &joined)?;
+        numbers_alike(alloc, &spanning.classes, self.graph.nodes(), v)
+    }
+
+    // What an event brings to its node.
+    fn work_of(&self, event: Event) -> Work
+        requires { IsLawful self.now event }
+        ensures work { result ≡ work_at (net_of self.now) event }
+        ensures graph { IsGraph self.now.graph }
+        ensures run { IsRun (network self.now) self.now.trace }
+    {
+        match event {
+            Event::Wake(_) => Work::Wake,
+            Event::Take(v, port) => Work::Deliver {
+                port,
+                message: self.links.front(v, port).unwrap(),
+            },
+        }
+    }
+
+    // Whether the graph has such a node.
+    fn has_node(&self, v: u32) -> bool
+        ensures { result ≡ is_node (network self.now) v }
+    {
+        v > 0 && v <= self.graph.nodes()
+    }
+
+    // Whether the node has such a port.
+    fn has_port(&self, v: u32, port: u32) -> bool
+        ensures { result ≡ is_port (network self.now) v port }
+    {
+        self.has_node(v) && (port as usize) < self.graph.ports(v).len()
+    }
+
+    /// Makes room for an event and for what its reaction sends. A refusal leaves the net as it was.
+    pub fn reserve(&mut self, event: Event, delta: &Delta) -> Result<(), AllocError>
+        requires lawful { IsLawful self.old event }
+        requires answer { IsAnswer self.old event delta.now }
+        ensures net { IsSameNet self.old self.new }
+        ensures room { OnOk result (HasRoomToPlay self.new event delta.now) }
+    {
+        self.trace.reserve(1)?;
+        self.links
+            .reserve_for(&self.graph, node_of(event), delta.sends.as_slice())
+    }
+
+    /// Plays an event: its node reacts as the delta says. Takes no memory.
+    pub fn play(&mut self, event: Event, delta: &Delta)
+        requires lawful { IsLawful self.old event }
+        requires answer { IsAnswer self.old event delta.now }
+        requires few { length self.old.trace < 2 ^ 40 }
+        requires room { HasRoomToPlay self.old event delta.now }
+        ensures graph { self.new.graph ≡ self.old.graph }
+        ensures trace { self.new.trace ≡ self.old.trace ++ event ∷ [] }
+        ensures event { happens (network self.old) (net_of self.old) event ≡ Some (net_of self.new) }
+    {
+        settle(&mut self.links, &mut self.counts, event, delta.fate);
+        let v = node_of(event);
+        let node = &mut self.nodes[v as usize - 1];
+        node.apply(delta);
+        send_all(
+            &mut self.links,
+            &mut self.counts.sent,
+            &self.graph,
+            v,
+            delta.sends.as_slice(),
+        );
+        self.halted = least(self.halted, v, delta.head.halted);
+        self.trace.push_reserved(event);
+    }
+}
+
+// The node at which an event happens.
+fn node_of(event: Event) -> u32
+    ensures { result ≡ event_node event }
+{
+    match event {
+        Event::Wake(v) => v,
+        Event::Take(v, _) => v,
+    }
+}
+
+// The least halted node, if node v has halted as well.
+fn least(halted: Option<u32>, v: u32, has_halted: bool) -> Option<u32>
+    ensures { result ≡ lesser halted v has_halted }
+{
+    if has_halted {
+        Some(halted.map_or(v, |u| u.min(v)))
+    } else {
+        halted
+    }
+}
+
+// Whether a node with these variables is asleep.
+fn is_asleep(head: &Head) -> bool
+    ensures { result ≡ is_sleeping head.now.phase }
+{
+    match head.phase {
+        Phase::Sleeping => true,
+        Phase::Find => false,
+        Phase::Found => false,
+    }
+}

@@ -1,0 +1,40 @@
+//! The parts of an opening net.
+ghost use Rattle.std.specs.Prelude.{◌≡◌, ℕ, [], IfOk};
+ghost use Rattle.ghs_links.specs.Links.{IsFor, AllEmpty, total_of};
+ghost use Rattle.ghs_core.specs.Kept.{AreAsleep};
+
+use ghs_graph::graph::Graph;
+use ghs_links::links::Links;
+use ghs_node::node::Node;
+use std::alloc::{AllocError, Global};
+
+/// All nodes, and all queues.
+#[derive(Debug, Drop)]
+pub struct Parts {
+    pub nodes: Vec<Node>,
+    pub links: Links,
+}
+
+/// The parts of the opening net of a graph.
+pub fn open_parts(alloc: Global, graph: &Graph) -> Result<Parts, AllocError>
+    ensures nodes { IfOk result (λ p. AreAsleep graph.now p.nodes.items) }
+    ensures queues { IfOk result (λ p. IsFor graph.now p.links) }
+    ensures empty { IfOk result (λ p. AllEmpty p.links) }
+    ensures total { IfOk result (λ p. total_of p.links ≡ 0) }
+{
+    let nodes = sleepers(alloc, graph)?;
+    let links = Links::new(alloc, graph)?;
+    Ok(Parts { nodes, links })
+}
+
+// All nodes, asleep.
+fn sleepers(alloc: Global, graph: &Graph) -> Result<Vec<Node>, AllocError>
+    ensures { IfOk result (λ n. AreAsleep graph.now n.items) }
+{
+    let count = graph.nodes();
+    let mut nodes = Vec::with_capacity(alloc, count as usize)?;
+    for i in 0..count {
+        nodes.push(Node::asleep(alloc, i + 1, graph.ports(i + 1))?)?;
+    }
+    Ok(nodes)
+}

@@ -1,0 +1,24 @@
+use Rattle.std.proofs.Common.{◌≡◌, ◌≤◌, ◌+◌, length, refl, ap, arith}
+use Rattle.std.proofs.lemmas.Grind.{common_steps}
+use Rattle.ghs_links.proofs.Laying.{ports_few, no_blocks, blocks_step}
+use Rattle.ghs_links.proofs.blocks.lay_blocks.Goals as goal
+
+pub loop-i-init : goal.loop-i-init
+loop-i-init c = rw (c.in_ok-push-2.ensures.items, c.in_ok-push.ensures.items, c.in_ok-starts.ensures.items) (no_blocks _, refl)
+
+pub overflow_add-end : goal.overflow_add-end
+overflow_add-end c =
+    let g = c.args.graph.now in
+    let k = c.nodes-nodes.ensures.graph in
+    let few = c.loop-i.invariant.0.few in
+    let more = ports_few g k (c.loop-i.i + 1) in
+    let e : length c.ports-degree.result.now ≤ 8388608 = rw c.ports-degree.ensures more in
+    omega (arith, few, e, k.nodes, c.loop-i.invariant.1, c.nodes-nodes.ensures.nodes)
+
+pub loop-i-preserved : goal.loop-i-preserved
+loop-i-preserved c = blocks_step _ c.nodes-nodes.ensures.graph c.loop-i.i c.loop-i.starts.items _ c.loop-i.widest c.loop-i.end _ _ c.loop-i.invariant (rw c.max-widest.ensures (grind (arith, common_steps))) (rw c.max-widest.ensures (grind (arith, common_steps))) (ap length c.ports-degree.ensures) c.in_ok-push-3.ensures.items
+
+pub returns-clause-blocks : goal.returns-clause-blocks
+returns-clause-blocks c =
+    let e : c.loop-i.i ≡ c.args.graph.now.nodes = omega (arith, c.nodes-nodes.ensures.nodes) in
+    rw e at c.loop-i.invariant.0

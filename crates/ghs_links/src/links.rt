@@ -1,0 +1,136 @@
+//! All queues of a network.
+ghost use Rattle.std.specs.Prelude.{◌≡◌, ℕ, ◌+◌, ◌-◌, ◌<◌, ◌≤◌, ◌^◌, [], length, slice_get, slice_index, slice_index_or, IfOk, OnOk, OnErr};
+ghost use Rattle.ghs_links.specs.Queue.{pushed, taken, requeued};
+ghost use Rattle.ghs_links.specs.Links.{HasQueue, IsFor, AllEmpty, Changes, KeepsLists, GoOut, HasRoomFor, start_of, state_at, queue_at, room_at, total_of};
+
+use crate::blocks::{Blocks, empty_queues, lay_blocks};
+use crate::claims::make_room;
+use crate::queue::Queue;
+use ghs_graph::graph::Graph;
+use ghs_node::message::Message;
+use std::alloc::{AllocError, Global};
+use std::marker::Model;
+
+/// A queue of messages for each port of each node of a graph. What goes out on a port waits at the port of the
+/// far end. Nodes are numbered from 1, ports from 0.
+#[derive(Debug, Drop)]
+pub struct Links {
+    // Where the queues of each number begin; 0 is no node.
+    starts: Vec<usize>,
+    queues: Vec<Queue>,
+    // For each port of a node, how much room the reserve at hand has asked for at its far end.
+    claims: Vec<usize>,
+    total: u64,
+}
+
+impl Model for Links {
+    ghost use Rattle.ghs_links.specs.Links.{LinksState};
+    ghost use Rattle.ghs_links.specs.Kept.{IsKept};
+
+    ghost Value = { LinksState };
+
+    ghost view = { λ l. record { starts = l.starts.items; queues = l.queues.items } };
+
+    ghost invariant = { λ l. IsKept (record { starts = l.starts.items; queues = l.queues.items }) l.claims.items l.total };
+}
+
+impl Links {
+    /// An empty queue for each port of each node.
+    pub fn new(alloc: Global, graph: &Graph) -> Result<Links, AllocError>
+        ensures queues { IfOk result (IsFor graph.now) }
+        ensures empty { IfOk result AllEmpty }
+        ensures total { IfOk result (λ l. total_of l ≡ 0) }
+    {
+        let Blocks { starts, widest } = lay_blocks(alloc, graph)?;
+        let queues = empty_queues(alloc, starts[starts.len() - 1])?;
+        let claims = vec![in alloc; 0usize; widest]?;
+        Ok(Links {
+            starts,
+            queues,
+            claims,
+            total: 0,
+        })
+    }
+
+    /// Makes room for the messages that node `v` sends, at the far ends of the ports that they go out on.
+    pub fn reserve_for(
+        &mut self,
+        graph: &Graph,
+        v: u32,
+        sends: &[(u32, Message)],
+    ) -> Result<(), AllocError>
+        requires queues { IsFor graph.now self.old }
+        requires low { 1 ≤ v }
+        requires high { v ≤ graph.now.nodes }
+        requires ports { GoOut graph.now v sends.now }
+        ensures lists { KeepsLists self.old self.new }
+        ensures room { OnOk result (HasRoomFor graph.now v sends.now self.new) }
+    {
+        let ports = graph.ports(v);
+        make_room(
+            &self.starts,
+            &mut self.queues,
+            &mut self.claims,
+            ports,
+            sends,
+        )
+    }
+
+    /// Appends a message to the queue of a port. Takes no memory.
+    pub fn push(&mut self, v: u32, port: u32, message: Message)
+        requires port { HasQueue self.old v port }
+        requires room { 0 < room_at self.old v port }
+        requires total { total_of self.old < 2 ^ 64 - 1 }
+        ensures { Changes self.old self.new v port (pushed (state_at self.old v port) message) }
+    {
+        let at = self.starts[v as usize] + port as usize;
+        self.queues[at].push(message);
+        self.total += 1;
+    }
+
+    /// Takes the first message of the queue of a port, if one waits there. Takes no memory.
+    pub fn take_front(&mut self, v: u32, port: u32) -> Option<Message>
+        requires port { HasQueue self.old v port }
+        ensures first { result ≡ slice_get (queue_at self.old v port) 0 }
+        ensures left { Changes self.old self.new v port (taken (state_at self.old v port)) }
+    {
+        let at = self.starts[v as usize] + port as usize;
+        let first = self.queues[at].take_front();
+        if first.is_some() {
+            self.total -= 1;
+        }
+        first
+    }
+
+    /// Puts the first message of the queue of a port behind the others; an empty queue stays so. Takes no memory.
+    pub fn requeue(&mut self, v: u32, port: u32)
+        requires port { HasQueue self.old v port }
+        ensures { Changes self.old self.new v port (requeued (state_at self.old v port)) }
+    {
+        let at = self.starts[v as usize] + port as usize;
+        self.queues[at].requeue();
+    }
+
+    /// The first message that waits at a port.
+    pub fn front(&self, v: u32, port: u32) -> Option<Message>
+        requires { HasQueue self.now v port }
+        ensures { result ≡ slice_get (queue_at self.now v port) 0 }
+    {
+        self.queues[self.starts[v as usize] + port as usize].front()
+    }
+
+    /// How many messages wait at a port.
+    pub fn len_at(&self, v: u32, port: u32) -> u64
+        requires { HasQueue self.now v port }
+        ensures { result ≡ length (queue_at self.now v port) }
+    {
+        self.queues[self.starts[v as usize] + port as usize].len()
+    }
+
+    /// How many messages wait at all ports.
+    pub fn total(&self) -> u64
+        ensures { result ≡ total_of self.now }
+    {
+        self.total
+    }
+}
