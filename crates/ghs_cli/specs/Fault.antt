@@ -1,0 +1,38 @@
+-- The program's faults.
+use Rattle.std.specs.Prelude.{ℕ}
+use Rattle.ghs_gr.specs.declared.fault.GrFault.{GrFault}
+use Rattle.ghs_gr.specs.declared.fault.GrFault.TheVariants as gr
+use Rattle.ghs_cli.specs.declared.fault.ServeFault.{ServeFault}
+use Rattle.ghs_cli.specs.declared.fault.ServeFault.TheVariants as serve
+
+-- a fault of the reading or of the text, as one of the program
+abbrev pub of_gr : GrFault → ServeFault
+of_gr gr.Read = serve.Read
+of_gr gr.TooLong = serve.TooLong
+of_gr gr.Memory = serve.Memory
+of_gr (gr.BadLine line) = serve.BadLine line
+of_gr (gr.ArcBeforeProblem line) = serve.ArcBeforeProblem line
+of_gr (gr.SecondProblem line) = serve.SecondProblem line
+of_gr (gr.Number line) = serve.Number line
+of_gr (gr.NodeRange line) = serve.NodeRange line
+of_gr (gr.Loop line) = serve.Loop line
+of_gr (gr.Repeat line) = serve.Repeat line
+of_gr gr.NoProblem = serve.NoProblem
+of_gr (gr.ArcCount said found) = serve.ArcCount said found
+
+-- the exit status: 1 for input that is refused, 4 for want of memory, 5 for a read or a write that failed
+abbrev pub status_of : ServeFault → ℕ
+status_of (serve.BadLine line) = 1
+status_of (serve.ArcBeforeProblem line) = 1
+status_of (serve.SecondProblem line) = 1
+status_of (serve.Number line) = 1
+status_of (serve.NodeRange line) = 1
+status_of (serve.Loop line) = 1
+status_of (serve.Repeat line) = 1
+status_of serve.NoProblem = 1
+status_of (serve.ArcCount said found) = 1
+status_of serve.TooLong = 1
+status_of (serve.Disconnected node) = 1
+status_of serve.Memory = 4
+status_of serve.Read = 5
+status_of (serve.Write written) = 5

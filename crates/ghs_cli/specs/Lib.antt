@@ -1,0 +1,5 @@
+pub mod Fault
+pub mod Job
+pub mod Serving
+pub mod TreeText
+pub mod Writing

@@ -1,0 +1,99 @@
+//! Why the program gives no answer.
+ghost use Rattle.ghs_cli.specs.Fault.{of_gr, status_of};
+ghost use Rattle.std.specs.Prelude.{◌≡◌};
+
+use crate::write_out::Partial;
+use ghs_gr::fault::GrFault;
+use std::alloc::AllocError;
+use thiserror::Error;
+
+/// What can go wrong in the program's work, with the line that is said of it. Lines are numbered from 1.
+#[derive(Clone, Copy, Debug, Drop, PartialEq, Eq, Error)]
+pub enum ServeFault {
+    #[error("line {0}: not a line of this format")]
+    BadLine(u32),
+    #[error("line {0}: arc before the problem line")]
+    ArcBeforeProblem(u32),
+    #[error("line {0}: second problem line")]
+    SecondProblem(u32),
+    #[error("line {0}: number missing or out of range")]
+    Number(u32),
+    #[error("line {0}: no such node")]
+    NodeRange(u32),
+    #[error("line {0}: arc from a node to itself")]
+    Loop(u32),
+    #[error("line {0}: second arc between two nodes")]
+    Repeat(u32),
+    #[error("no problem line")]
+    NoProblem,
+    #[error("arcs said {said}, found {found}")]
+    ArcCount { said: u32, found: u32 },
+    #[error("input too long")]
+    TooLong,
+    #[error("node {0} is not joined to node 1")]
+    Disconnected(u32),
+    #[error("out of memory")]
+    Memory,
+    #[error("input could not be read")]
+    Read,
+    #[error("output failed after {written} bytes")]
+    Write { written: usize },
+}
+
+impl ServeFault {
+    /// The program's exit status: 1 where the input is refused, 4 for want of memory, 5 where a read or a write
+    /// failed.
+    pub fn status(&self) -> u8
+        ensures { result ≡ status_of self.now }
+    {
+        match self {
+            ServeFault::Memory => 4,
+            ServeFault::Read => 5,
+            ServeFault::Write { written: _ } => 5,
+            _ => 1,
+        }
+    }
+}
+
+impl From<GrFault> for ServeFault {
+    ghost from_gives = { λ x e. e ≡ of_gr x };
+
+    fn from(fault: GrFault) -> ServeFault {
+        match fault {
+            GrFault::Read => ServeFault::Read,
+            GrFault::TooLong => ServeFault::TooLong,
+            GrFault::Memory => ServeFault::Memory,
+            GrFault::BadLine(line) => ServeFault::BadLine(line),
+            GrFault::ArcBeforeProblem(line) => ServeFault::ArcBeforeProblem(line),
+            GrFault::SecondProblem(line) => ServeFault::SecondProblem(line),
+            GrFault::Number(line) => ServeFault::Number(line),
+            GrFault::NodeRange(line) => ServeFault::NodeRange(line),
+            GrFault::Loop(line) => ServeFault::Loop(line),
+            GrFault::Repeat(line) => ServeFault::Repeat(line),
+            GrFault::NoProblem => ServeFault::NoProblem,
+            GrFault::ArcCount { said, found } => ServeFault::ArcCount { said, found },
+        }
+    }
+}
+
+impl From<AllocError> for ServeFault {
+    ghost use Rattle.ghs_cli.specs.declared.fault.ServeFault.{ServeFault};
+
+    ghost from_gives = { λ _ e. e ≡ ServeFault.Memory };
+
+    fn from(_error: AllocError) -> ServeFault {
+        ServeFault::Memory
+    }
+}
+
+impl From<Partial> for ServeFault {
+    ghost use Rattle.ghs_cli.specs.declared.fault.ServeFault.{ServeFault};
+
+    ghost from_gives = { λ x e. e ≡ ServeFault.Write x.written };
+
+    fn from(partial: Partial) -> ServeFault {
+        ServeFault::Write {
+            written: partial.written,
+        }
+    }
+}

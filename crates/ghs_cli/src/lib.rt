@@ -1,0 +1,8 @@
+//! The program's engine: command lines, the work they ask for, and its faults.
+#![tactic(auto)]
+
+pub mod fault;
+pub mod job;
+pub mod serve;
+pub mod tree_text;
+pub mod write_out;

@@ -1,0 +1,55 @@
+//! The text of a tree.
+ghost use Rattle.std.specs.Prelude.{◌≡◌, ◌++◌, IfOk, decimal};
+ghost use Rattle.ghs_cli.specs.TreeText.{tree_text, link_line, total_line};
+
+use ghs_graph::key::Key;
+use itoa::Buffer;
+use std::alloc::{AllocError, Global};
+
+/// A line `t A B W` for each link, and a line `w TOTAL` with the sum of their weights. The sum of a list of any
+/// length fits, so nothing is asked of it.
+pub fn tree_text(alloc: Global, tree: &[Key]) -> Result<Vec<u8>, AllocError>
+    ensures { IfOk result (λ text. text.items ≡ tree_text tree.now) }
+{
+    let mut text = Vec::new(alloc);
+    let mut total: u128 = 0;
+    for key in tree {
+        put_link(&mut text, key)?;
+        total += u128::from(key.weight);
+    }
+    put_total(&mut text, total)?;
+    Ok(text)
+}
+
+/// The line of one link.
+fn put_link(text: &mut Vec<u8>, key: &Key) -> Result<(), AllocError>
+    ensures { IfOk result (λ _. text.new.items ≡ text.old.items ++ link_line key.now) }
+{
+    text.extend_from_slice(b"t ")?;
+    put_number(text, u128::from(key.a))?;
+    text.extend_from_slice(b" ")?;
+    put_number(text, u128::from(key.b))?;
+    text.extend_from_slice(b" ")?;
+    put_number(text, u128::from(key.weight))?;
+    text.extend_from_slice(b"\n")?;
+    Ok(())
+}
+
+/// The line of the total weight.
+fn put_total(text: &mut Vec<u8>, total: u128) -> Result<(), AllocError>
+    ensures { IfOk result (λ _. text.new.items ≡ text.old.items ++ total_line total) }
+{
+    text.extend_from_slice(b"w ")?;
+    put_number(text, total)?;
+    text.extend_from_slice(b"\n")?;
+    Ok(())
+}
+
+/// A number's decimal digits.
+fn put_number(text: &mut Vec<u8>, number: u128) -> Result<(), AllocError>
+    ensures { IfOk result (λ _. text.new.items ≡ text.old.items ++ decimal number) }
+{
+    let mut buffer = Buffer::new();
+    text.extend_from_slice(buffer.format(number).as_bytes())?;
+    Ok(())
+}
