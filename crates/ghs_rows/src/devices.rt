@@ -1,0 +1,72 @@
+//! Devices in memory, whole and failing, and what the program does over them.
+ghost use Rattle.std.specs.Io.KnownBytes.{ReadConsumes, WriteAppends};
+ghost use Rattle.std.specs.Io.{ReadsAtMost, WritesAtMost};
+ghost use Rattle.std.specs.Prelude.{None};
+
+use ghs_cli::fault::ServeFault;
+use ghs_cli::job::{Job, Task};
+use ghs_cli::serve::serve;
+use ghs_gr::device::Device;
+use std::alloc::Global;
+use std::io;
+use std::io::{Read, Write};
+
+/// A reader that gives these bytes and then fails.
+#[derive(Drop)]
+pub struct Broken<'a> {
+    pub bytes: &'a [u8],
+}
+
+impl Read for Broken<'_> {
+    fn read(&mut self, room: &mut [u8]) -> io::Result<usize> {
+        if self.bytes.is_empty() {
+            return Err(io::Error::from(io::ErrorKind::Other));
+        }
+        let mut bytes = self.bytes;
+        let count = bytes.read(room)?;
+        self.bytes = bytes;
+        Ok(count)
+    }
+}
+
+/// A writer that takes so many bytes and then fails.
+#[derive(Drop)]
+pub struct Narrow {
+    pub held: Vec<u8>,
+    pub room: usize,
+}
+
+impl Write for Narrow {
+    fn write(&mut self, bytes: &[u8]) -> io::Result<usize> {
+        if self.room == 0 {
+            return Err(io::Error::from(io::ErrorKind::Other));
+        }
+        let count = self.room.min(bytes.len());
+        self.held.extend_from_slice(&bytes[..count])?;
+        self.room -= count;
+        Ok(count)
+    }
+
+    fn flush(&mut self) -> io::Result<()> {
+        Ok(())
+    }
+}
+
+/// A tree of the graph on standard input.
+pub fn tree_job() -> Job {
+    Job {
+        graph: None,
+        trace: None,
+        task: Task::Tree,
+    }
+}
+
+/// What `ghs tree` answers and writes, of this input.
+pub fn tree_of(alloc: Global, input: &[u8]) -> (Result<(), ServeFault>, Vec<u8>) {
+    let mut graph = Device::of(input);
+    let mut trace = Device::of(b"".as_slice());
+    let mut written = Vec::new(alloc);
+    let mut out = Device::of(&mut written);
+    let result = serve(alloc, &tree_job(), &mut graph, &mut trace, &mut out);
+    (result, written)
+}

@@ -1,0 +1,13 @@
+//! Worked examples that cross crates, as tests over devices in memory.
+#![tactic(auto)]
+
+#[cfg(test)]
+mod devices;
+#[cfg(test)]
+mod nets;
+#[cfg(test)]
+mod queues;
+#[cfg(test)]
+mod tree;
+#[cfg(test)]
+mod words;
