@@ -1,12 +1,15 @@
 //! The program `ghs`: it opens files and prints faults, and leaves the work to `ghs_cli`.
 #![tactic(auto)]
 
+ghost use Rattle.ghs.specs.Status.{IsStatusOf};
 ghost use Rattle.ghs_cli.specs.Fault.{status_of};
-ghost use Rattle.std.specs.Prelude.{◌≡◌, false};
+ghost use Rattle.ghs_cli.specs.Job.{kinds_of};
+ghost use Rattle.std.specs.Prelude.{◌≡◌, MatchResult, false, map, string_bytes};
 
 use ghs_cli::fault::ServeFault;
 use ghs_cli::job::{Job, JobFault, read_job};
 use ghs_cli::serve::serve;
+use ghs_cli::write_out::write_out;
 use ghs_gr::device::{Device, Source};
 use std::alloc::Global;
 use std::fs::File;
@@ -23,30 +26,30 @@ fn main(rt: HostRuntime) -> ExitCode {
 
 /// Does what the command line says, and gives the exit status.
 fn run<R: Runtime + AllocGlobal>(rt: &R, alloc: Global) -> u8 {
-    let words = match words_of(rt, alloc) {
-        Ok(words) => words,
-        Err(_) => return refuse(rt, "the command line could not be read"),
-    };
-    match read_job(alloc, &words) {
-        Ok(job) => match work(rt, alloc, &job) {
-            Ok(()) => 0,
-            Err(fault) => tell(rt, &fault),
+    match words_of(rt, alloc) {
+        Ok(words) => answer(rt, alloc, &words),
+        Err(error) => match error.kind() {
+            io::ErrorKind::OutOfMemory => tell(rt, &ServeFault::Memory),
+            _ => refuse(rt, "ghs: the command line could not be read\n"),
         },
-        Err(JobFault::Help(text)) => match rt.print(text) {
-            Ok(()) => 0,
-            Err(_) => tell(rt, &ServeFault::Write { written: 0 }),
-        },
-        Err(JobFault::Refused(text)) => {
-            let _ = rt.eprint(text);
-            REFUSED
-        }
-        Err(JobFault::Memory) => tell(rt, &ServeFault::Memory),
     }
 }
 
 /// The words after the program's name.
 fn words_of<R: Runtime + AllocGlobal>(rt: &R, alloc: Global) -> io::Result<Vec<String>> {
     Ok(env::args(rt)?.skip(1).collect(alloc)?)
+}
+
+/// Does what the words after the program's name say, and gives the exit status.
+fn answer<R: Runtime + AllocGlobal>(rt: &R, alloc: Global, words: &[String]) -> u8
+    ensures { IsStatusOf (kinds_of (map string_bytes words.now)) result }
+{
+    match read_job(alloc, words) {
+        Ok(job) => finish(rt, work(rt, alloc, &job)),
+        Err(JobFault::Help(text)) => finish(rt, help(rt, &text)),
+        Err(JobFault::Refused(text)) => refuse(rt, &text),
+        Err(JobFault::Memory) => tell(rt, &ServeFault::Memory),
+    }
 }
 
 /// Opens the graph's file and does the job. A file that can't be opened can't be read.
@@ -74,6 +77,22 @@ fn work_on<R: Runtime + AllocGlobal, S: Source>(
     serve(alloc, job, graph, &mut trace, &mut out)
 }
 
+/// Prints help that was asked for.
+fn help<R: Runtime>(rt: &R, text: &str) -> Result<(), ServeFault> {
+    write_out(&mut Device::of(io::writer(rt)), text.as_bytes())?;
+    Ok(())
+}
+
+/// The exit status of work that has come to this.
+fn finish<R: Runtime>(rt: &R, result_of_work: Result<(), ServeFault>) -> u8
+    ensures { MatchResult result_of_work (λ _. result ≡ 0) (λ fault. result ≡ status_of fault) }
+{
+    match result_of_work {
+        Ok(()) => 0,
+        Err(fault) => tell(rt, &fault),
+    }
+}
+
 /// Says what went wrong, and gives the exit status.
 fn tell<R: Runtime>(rt: &R, fault: &ServeFault) -> u8
     ensures { result ≡ status_of fault.now }
@@ -86,6 +105,6 @@ fn tell<R: Runtime>(rt: &R, fault: &ServeFault) -> u8
 fn refuse<R: Runtime>(rt: &R, text: &str) -> u8
     ensures { result ≡ REFUSED }
 {
-    let _ = eprintln!(rt; "ghs: {text}");
+    let _ = eprint!(rt; "{text}");
     REFUSED
 }

@@ -1,2 +1,3 @@
 pub mod WritingLemmas
+mod Said
 mod WordExamples

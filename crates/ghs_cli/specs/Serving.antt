@@ -5,7 +5,7 @@ use Rattle.ghs_gr.specs.Judgement.{TextIs}
 use Rattle.ghs_gr.specs.declared.fault.GrFault.TheVariants as gr
 use Rattle.ghs_graph.specs.declared.key.Key.{Key}
 use Rattle.ghs_graph.specs.Key.{key_of}
-use Rattle.ghs_graph.specs.Links.{IsTree, AllJoined, IsLeastApart}
+use Rattle.ghs_graph.specs.Links.{IsTree}
 use Rattle.ghs_cli.specs.TreeText.{tree_text}
 use Rattle.ghs_cli.specs.Writing.{HasWritten}
 use Rattle.ghs_cli.specs.declared.fault.ServeFault.{ServeFault}
@@ -15,22 +15,13 @@ use Rattle.ghs_cli.specs.declared.fault.ServeFault.TheVariants as serve
 abbrev pub keys_of : RawShape → List Key
 keys_of g = map key_of g.keys
 
--- the graph is connected, and these are the links of its minimum spanning tree
-pub record IsTreeOf (graph : RawShape) (tree : List Key) : Type 0 where
-  pub joined : AllJoined graph.nodes (keys_of graph)
-  pub least : IsTree (keys_of graph) tree
-
--- the input is the text of a connected graph, and the output that of its minimum spanning tree
+-- the input is the text of a graph, and the output that of its minimum spanning forest
 pub record IsTreeText (input output : List ℕ) : Type 0 where
   pub graph : RawShape
   pub text : TextIs input (Ok graph)
   pub tree : List Key
-  pub least : IsTreeOf graph tree
+  pub least : IsTree (keys_of graph) tree
   pub printed : output ≡ tree_text tree
-
--- the input is the text of a graph in which v is the least node that isn't joined with node 1
-abbrev pub IsApartAt : List ℕ → ℕ → Type 0
-IsApartAt input v = (g : RawShape) × TextIs input (Ok g) × IsLeastApart g.nodes (keys_of g) v
 
 -- the input gives this fault; the reader and memory may fail for any input, and the writer for none
 abbrev pub IsCause : List ℕ → ServeFault → Type 0
@@ -39,17 +30,14 @@ IsCause input (serve.ArcBeforeProblem line) = TextIs input (Err (gr.ArcBeforePro
 IsCause input (serve.SecondProblem line) = TextIs input (Err (gr.SecondProblem line))
 IsCause input (serve.Number line) = TextIs input (Err (gr.Number line))
 IsCause input (serve.NodeRange line) = TextIs input (Err (gr.NodeRange line))
-IsCause input (serve.Loop line) = TextIs input (Err (gr.Loop line))
-IsCause input (serve.Repeat line) = TextIs input (Err (gr.Repeat line))
 IsCause input serve.NoProblem = TextIs input (Err gr.NoProblem)
 IsCause input (serve.ArcCount said found) = TextIs input (Err (gr.ArcCount said found))
 IsCause input serve.TooLong = TextIs input (Err gr.TooLong)
-IsCause input (serve.Disconnected v) = IsApartAt input v
 IsCause input serve.Memory = Unit {0}
 IsCause input serve.Read = Unit {0}
 IsCause input (serve.Write written) = ⊥
 
--- what has gone out where a tree was asked for: all of its text, or only its first bytes, where a write failed
+-- what has gone out where the forest was asked for: all of its text, or only its first bytes, where a write failed
 abbrev pub Serves : List ℕ → Option (List ℕ) → Option (List ℕ) → Result (Unit {0}) ServeFault → Type 0
 Serves input old new (Ok u) = (output : List ℕ) × IsTreeText input output × HasWritten old new output (length output)
 Serves input old new (Err (serve.Write written)) = (output : List ℕ) × IsTreeText input output × (written < length output) × HasWritten old new output written
@@ -68,9 +56,3 @@ IsWrite (Err fault) = is_write fault ≡ true
 abbrev pub IsUnwritten : {W : Type 0} → W → W → Result (Unit {0}) ServeFault → Type 0
 IsUnwritten old new (Ok u) = Unit {0}
 IsUnwritten old new (Err fault) = is_write fault ≡ false → new ≡ old
-
--- the graph is in pieces, or memory ran out
-abbrev pub IsParted : RawShape → ServeFault → Type 0
-IsParted g (serve.Disconnected v) = IsLeastApart g.nodes (keys_of g) v
-IsParted g serve.Memory = Unit {0}
-IsParted g _ = ⊥

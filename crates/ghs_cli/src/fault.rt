@@ -20,18 +20,12 @@ pub enum ServeFault {
     Number(u32),
     #[error("line {0}: no such node")]
     NodeRange(u32),
-    #[error("line {0}: arc from a node to itself")]
-    Loop(u32),
-    #[error("line {0}: second arc between two nodes")]
-    Repeat(u32),
     #[error("no problem line")]
     NoProblem,
     #[error("arcs said {said}, found {found}")]
     ArcCount { said: u32, found: u32 },
     #[error("input too long")]
     TooLong,
-    #[error("node {0} is not joined to node 1")]
-    Disconnected(u32),
     #[error("out of memory")]
     Memory,
     #[error("input could not be read")]
@@ -68,8 +62,6 @@ impl From<GrFault> for ServeFault {
             GrFault::SecondProblem(line) => ServeFault::SecondProblem(line),
             GrFault::Number(line) => ServeFault::Number(line),
             GrFault::NodeRange(line) => ServeFault::NodeRange(line),
-            GrFault::Loop(line) => ServeFault::Loop(line),
-            GrFault::Repeat(line) => ServeFault::Repeat(line),
             GrFault::NoProblem => ServeFault::NoProblem,
             GrFault::ArcCount { said, found } => ServeFault::ArcCount { said, found },
         }

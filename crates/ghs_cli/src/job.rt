@@ -1,10 +1,10 @@
 //! Command lines.
 ghost use Rattle.ghs_cli.specs.declared.job.JobFault.TheVariants.{Memory};
 ghost use Rattle.ghs_cli.specs.declared.job.Task.TheVariants.{Tree};
-ghost use Rattle.ghs_cli.specs.Job.{file_in, file_in_rows, program};
-ghost use Rattle.clap.specs.Words.{app_of, kind_of, subcommand_rows_of, takes};
+ghost use Rattle.ghs_cli.specs.Job.{file_in, file_in_rows, kinds_of, program, with_name, IsSaid, IsSaidOf};
+ghost use Rattle.clap.specs.Words.{app_of, kind_of, subcommand_rows_of};
 ghost use Rattle.std.specs.Option.{option_map};
-ghost use Rattle.std.specs.Prelude.{◌≡◌, IfErr, IfOk, IsNone, map, string_bytes, true};
+ghost use Rattle.std.specs.Prelude.{◌≡◌, [], IfErr, IfOk, IsNone, OnOk, map, string_bytes};
 
 use clap::error::ErrorKind;
 use clap::{Arg, ArgMatches, Command, Error};
@@ -13,7 +13,7 @@ use std::alloc::{AllocError, Global};
 /// What is to be done.
 #[derive(Clone, Copy, Debug, PartialEq, Eq)]
 pub enum Task {
-    /// Print the minimum spanning tree.
+    /// Print the minimum spanning forest.
     Tree,
 }
 
@@ -45,14 +45,16 @@ impl From<AllocError> for JobFault {
     }
 }
 
-/// The job of a command line: the words after the program's name.
+/// The job of a command line: the words after the program's name. The words are taken as `clap` takes them.
 pub fn read_job(alloc: Global, words: &[String]) -> Result<Job, JobFault>
     ensures task { IfOk result (λ job. job.task ≡ Tree) }
     ensures trace { IfOk result (λ job. IsNone job.trace) }
     ensures graph { IfOk result (λ job. option_map string_bytes job.graph ≡ file_in (map string_bytes words.now)) }
-    ensures taken { takes program (map string_bytes words.now) ≡ true → IfErr result (λ fault. fault ≡ Memory) }
+    ensures taken { OnOk result (kinds_of (map string_bytes words.now) ≡ []) }
+    ensures fault { IfErr result (IsSaidOf (kinds_of (map string_bytes words.now))) }
 {
-    match program(alloc)?.try_get_matches_from(words) {
+    let line = line_of(alloc, words)?;
+    match program(alloc)?.try_get_matches_from(&line) {
         Ok(matches) => Ok(Job {
             graph: owned(alloc, file_of(&matches))?,
             trace: None,
@@ -60,6 +62,18 @@ pub fn read_job(alloc: Global, words: &[String]) -> Result<Job, JobFault>
         }),
         Err(error) => Err(fault_of(alloc, &error)),
     }
+}
+
+/// The words with the program's name before them, by which usage lines begin.
+fn line_of<'a>(alloc: Global, words: &'a [String]) -> Result<Vec<&'a str>, AllocError>
+    ensures { IfOk result (λ line. map (λ t. t.now) line.items ≡ with_name (map string_bytes words.entry.now)) }
+{
+    let mut line = Vec::new(alloc);
+    line.push("ghs")?;
+    for word in words {
+        line.push(word.as_str())?;
+    }
+    Ok(line)
 }
 
 /// The words that the program takes.
@@ -71,12 +85,11 @@ fn program<'a>(alloc: Global) -> Result<Command<'a>, AllocError>
         "The graph, in the .gr format; standard input where none is named",
     );
     let tree = Command::new(alloc, "tree")
-        .about("Prints the minimum spanning tree of a graph")
+        .about("Prints the minimum spanning forest of a graph")
         .arg(file)?;
     Ok(
         Command::new(alloc, "ghs")
             .about("Minimum spanning trees of networks")
-            .no_binary_name(true)
             .subcommand_required(true)
             .subcommand(tree)?,
     )
@@ -104,7 +117,8 @@ fn owned(alloc: Global, text: Option<&str>) -> Result<Option<String>, AllocError
 
 /// What is said of words that give no job.
 fn fault_of(alloc: Global, error: &Error) -> JobFault
-    ensures { kind_of error.now ≡ ErrorKind.OutOfMemory → result ≡ Memory }
+    ensures said { IsSaid (kind_of error.now) result }
+    ensures memory { kind_of error.now ≡ ErrorKind.OutOfMemory → result ≡ Memory }
 {
     match error.to_string(alloc) {
         Ok(text) => match error.kind() {

@@ -1,5 +1,5 @@
 //! The work that a job asks for.
-ghost use Rattle.ghs_cli.specs.Serving.{Serves, IsTreeText, IsCause, IsWrite, IsUnwritten, is_write, IsParted, IsTreeOf};
+ghost use Rattle.ghs_cli.specs.Serving.{Serves, IsTreeText, IsCause, IsWrite, IsUnwritten, is_write};
 ghost use Rattle.ghs_cli.specs.declared.fault.ServeFault.{ServeFault};
 ghost use Rattle.std.specs.Prelude.{◌≡◌, ◌≢◌, ◌↔◌, false, true, IfSome, IsErrOf, OnErr, IfErr, IfOk, Err, Ok};
 
@@ -9,16 +9,12 @@ use crate::tree_text::tree_text;
 use crate::write_out::write_out;
 use ghs_gr::device::{Sink, Source};
 use ghs_gr::judgement::read_gr;
-use ghs_gr::raw_graph::RawGraph;
-use ghs_graph::graph_fault::GraphFault;
-use ghs_graph::key::Key;
 use ghs_graph::tree::tree_of;
 use std::alloc::Global;
 
 /// Does what the job asks for: reads the graph, and writes what is to be printed. The output is made whole before
 /// its first byte goes out. Of several faults the first in the order of work counts: reading the graph, judging it,
-/// its connection, the writing; want of memory comes where it is met. The trace is for the replay of a run, and
-/// isn't touched.
+/// the writing; want of memory comes where it is met. The trace is for the replay of a run, and isn't touched.
 pub fn serve<R: Source, T: Source, W: Sink>(
     alloc: Global,
     job: &Job,
@@ -41,7 +37,7 @@ pub fn serve<R: Source, T: Source, W: Sink>(
     Ok(())
 }
 
-/// The text of the tree of the graph that the device gives.
+/// The text of the minimum spanning forest of the graph that the device gives.
 fn tree_text_of<R: Source>(alloc: Global, graph: &mut R) -> Result<Vec<u8>, ServeFault>
     requires { R.has_failed graph.old ≡ false }
     ensures text { IfOk result (λ text. IfSome (R.left graph.old) (λ input. IsTreeText input text.items)) }
@@ -50,18 +46,6 @@ fn tree_text_of<R: Source>(alloc: Global, graph: &mut R) -> Result<Vec<u8>, Serv
     ensures read { IsErrOf result ServeFault.Read ↔ (R.has_failed graph.new ≡ true) }
 {
     let raw = read_gr(alloc, graph)?;
-    let tree = connected_tree(alloc, &raw)?;
+    let tree = tree_of(alloc, &raw)?;
     Ok(tree_text(alloc, &tree)?)
-}
-
-/// The links of the tree, if the graph is connected.
-fn connected_tree(alloc: Global, raw: &RawGraph) -> Result<Vec<Key>, ServeFault>
-    ensures tree { IfOk result (λ tree. IsTreeOf raw.now tree.items) }
-    ensures fault { IfErr result (IsParted raw.now) }
-{
-    match tree_of(alloc, raw) {
-        Ok(tree) => Ok(tree),
-        Err(GraphFault::Memory) => Err(ServeFault::Memory),
-        Err(GraphFault::Disconnected(node)) => Err(ServeFault::Disconnected(node)),
-    }
 }

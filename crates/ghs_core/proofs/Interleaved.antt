@@ -1,6 +1,6 @@
 -- What holds of every run, for the net at hand.
-use Rattle.std.proofs.Common.{◌≡◌, ℕ, ◌≤◌, ◌^◌, List, [], ◌∷◌, true, refl}
-use Rattle.std.specs.Prelude.{IsSome}
+use Rattle.std.proofs.Common.{◌≡◌, ℕ, ◌≤◌, ◌^◌, List, [], ◌∷◌, get_or, true, refl, arith}
+use Rattle.std.specs.Prelude.{IsSome, IfOk, Result, Ok, Err, Option, Some, None, ◌↔◌}
 use Rattle.std.proofs.lemmas.Bool.{and_parts}
 use Rattle.ghs_graph.specs.Graph.{Shape, IsGraph}
 use Rattle.ghs_node.specs.NodeState.{mark_at}
@@ -11,7 +11,7 @@ use Rattle.ghs_node.specs.Reaction.{reaction}
 use Rattle.ghs_protocol.specs.declared.event.Event.{Event}
 use Rattle.ghs_protocol.specs.declared.event.Event.TheVariants.{Wake, Take}
 use Rattle.ghs_protocol.specs.Net.{Net, is_lawful, is_waiting}
-use Rattle.ghs_protocol.specs.Network.{Network, network_of, far, At}
+use Rattle.ghs_protocol.specs.Network.{Network, network_of, port_at, far, At}
 use Rattle.ghs_protocol.specs.Run.{IsRun, net_after}
 use Rattle.ghs_protocol.specs.Marks.{InOneFragment}
 use Rattle.ghs_protocol.specs.Laws.{IsNetOf}
@@ -19,9 +19,19 @@ use Rattle.ghs_protocol.specs.Interleavings.{HaveAtLeast, Asks, To_wake, To_take
 use Rattle.ghs_node.proofs.Tests.{sleeping_is}
 use Rattle.ghs_protocol.proofs.Events.{node_of}
 use Rattle.ghs_protocol.proofs.Runs.{after_is_net}
+use Rattle.ghs_graph.specs.declared.key.Key.{Key}
+use Rattle.ghs_graph.specs.Links.{InTree, IsTree}
+use Rattle.ghs_node.specs.declared.mark.Mark.TheVariants.{Branch}
+use Rattle.ghs_protocol.specs.Marks.{IsBranchLink, HasHalted, HasEnded}
+use Rattle.ghs_protocol.proofs.Invariant.SoundRuns.{branch_links_in_tree, rejected_links_aside, halt_is_exact, end_is_tree}
+use Rattle.ghs_protocol.proofs.Invariant.Bounding.{sends_within, sends_within_sharp}
+use Rattle.ghs_protocol.proofs.Sums.{sum_same}
+use Rattle.ghs_protocol.specs.Ledger.{in_all}
 use Rattle.ghs_protocol.proofs.Results.{fragments_are_large, rejected_links_inside, work_has_reaction}
-use Rattle.ghs_core.specs.Marked.{IsInFragment}
-use Rattle.ghs_core.specs.NetState.{event_node, work_at, delivery}
+use Rattle.ghs_core.specs.declared.ledger.Ledger.{Ledger}
+use Rattle.ghs_core.specs.Ledger.{IsLedger, IsWithinBound}
+use Rattle.ghs_core.specs.Marked.{IsInFragment, IsExactAt, IsExactWhere, AreInTree, AreBranches}
+use Rattle.ghs_core.specs.NetState.{IsLeastHalted, event_node, work_at, delivery}
 use Rattle.ghs_core.proofs.Reading.{lawful_port}
 
 -- the net that a run of a graph leaves
@@ -47,3 +57,42 @@ asked g w (Take v p) l = go (w.queue v p) refl (and_parts _ _ l).1 where
 pub work_has_rule : (g : Shape) (es : List Event) → IsGraph g → IsRun (network_of g) es → (e : Event) (k : Work) → is_lawful (network_of g) (net_after g es) e ≡ true → k ≡ work_at (net_after g es) e →
     IsSome (reaction ((net_after g es).node (event_node e)) k)
 work_has_rule g es graph run e k lawful is = rw is (work_has_reaction g (net_after g es) (net_of_run g es graph run) (event_node e) (work_at (net_after g es) e) (asked (network_of g) (net_after g es) e lawful))
+
+pub branch_tree : (g : Shape) (es : List Event) → IsGraph g → IsRun (network_of g) es → (v p : ℕ) → At (network_of g) v p → mark_at ((net_after g es).node v) p ≡ Branch → InTree g.keys (port_at (network_of g) v p).key
+branch_tree g es graph run v p at m = branch_links_in_tree g (net_after g es) (net_of_run g es graph run) (port_at (network_of g) v p).key (v, p, at, refl, m)
+
+pub rejected_tree : (g : Shape) (es : List Event) → IsGraph g → IsRun (network_of g) es → (v p : ℕ) → At (network_of g) v p → mark_at ((net_after g es).node v) p ≡ Rejected → InTree g.keys (port_at (network_of g) v p).key → ⊥
+rejected_tree g es graph run v p at m = rejected_links_aside g (net_after g es) (net_of_run g es graph run) (port_at (network_of g) v p).key (v, p, at, refl, m)
+
+pub branches_tree : (g : Shape) (es : List Event) → IsGraph g → IsRun (network_of g) es → (k : Key) → IsBranchLink (network_of g) (net_after g es) k → InTree g.keys k
+branches_tree g es graph run k b = branch_links_in_tree g (net_after g es) (net_of_run g es graph run) k b
+
+pub exact_halt : (g : Shape) (es : List Event) → IsGraph g → IsRun (network_of g) es → (v : ℕ) → 1 ≤ v → v ≤ g.nodes → HasHalted (net_after g es) v → IsExactAt g (net_after g es) v
+exact_halt g es graph run v lo hi h = halt_is_exact g (net_after g es) (net_of_run g es graph run) v lo hi h
+
+-- of the keys in an answer
+pub all_in_tree : (g : Shape) (es : List Event) → IsGraph g → IsRun (network_of g) es → {A E : Type 0} (r : Result A E) (items : A → List Key) → IfOk r (λ x. AreBranches (network_of g) (net_after g es) (items x)) → IfOk r (λ x. AreInTree g.keys (items x))
+all_in_tree g es graph run (Ok x) items h = λ k i. branches_tree g es graph run k ((h.all k).0 i)
+all_in_tree g es graph run (Err e) items h = tt
+
+-- and where the run has ended
+pub all_of_tree : (g : Shape) (es : List Event) → IsGraph g → IsRun (network_of g) es → {A E : Type 0} (r : Result A E) (items : A → List Key) → IfOk r (λ x. AreBranches (network_of g) (net_after g es) (items x)) →
+    IfOk r (λ x. HasEnded g (net_after g es) → IsTree g.keys (items x))
+all_of_tree g es graph run (Ok x) items h = λ ended.
+    let is : (k : Key) → IsBranchLink (network_of g) (net_after g es) k ↔ InTree g.keys k = λ k. (end_is_tree g (net_after g es) (net_of_run g es graph run) ended k).0 in
+    record { rising = h.rising; has = λ k i. (is k).0 ((h.all k).0 i); all = λ k tree. (h.all k).1 ((is k).1 tree) }
+all_of_tree g es graph run (Err e) items h = tt
+
+-- where the least halted node is named
+pub exact_where : (g : Shape) (es : List Event) → IsGraph g → IsRun (network_of g) es → (o : Option ℕ) → IsLeastHalted (network_of g) (net_after g es) o → IsExactWhere g (net_after g es) o
+exact_where g es graph run None h = tt
+exact_where g es graph run (Some v) h = exact_halt g es graph run v h.0 h.1 h.2
+
+-- what a ledger counts as sent
+pub within_bound : (g : Shape) (es : List Event) → IsGraph g → IsRun (network_of g) es → (l : Ledger) → IsLedger (network_of g) (net_after g es) l → IsWithinBound g l
+within_bound g es graph run l told =
+    let same : in_all (λ k. get_or l.sent k 0) ≡ in_all (net_after g es).sent = sum_same 7 _ _ told.sent in
+    record {
+      bound = λ b is. let z = sends_within g (net_after g es) (net_of_run g es graph run) b is in omega (arith, z, same);
+      spare = λ b two is. let z = sends_within_sharp g (net_after g es) (net_of_run g es graph run) b two is in omega (arith, z, same);
+    }

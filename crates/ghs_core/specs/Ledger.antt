@@ -1,5 +1,7 @@
 -- Ledgers of a net.
-use Rattle.std.specs.Prelude.{◌≡◌, ℕ, ◌+◌, ◌<◌, slice_index}
+use Rattle.std.specs.Prelude.{◌≡◌, ℕ, ◌+◌, ◌*◌, ◌<◌, ◌≤◌, length, slice_index}
+use Rattle.ghs_graph.specs.Bound.{IsBound}
+use Rattle.ghs_graph.specs.Graph.{Shape}
 use Rattle.ghs_protocol.specs.Network.{Network}
 use Rattle.ghs_protocol.specs.Net.{Net}
 use Rattle.ghs_protocol.specs.Ledger.{waiting, waiting_of, in_all}
@@ -14,3 +16,8 @@ pub record IsLedger (g : Network) (w : Net) (l : Ledger) : Type 0 where
   pub out : l.out ≡ 0
   pub kinds : (k : ℕ) → k < 7 → slice_index l.sent k ≡ slice_index l.consumed k + waiting_of g w k
   pub balance : in_all (λ k. slice_index l.sent k) ≡ in_all (λ k. slice_index l.consumed k) + l.queued
+
+-- the messages sent are within the bound for the graph, with twice the nodes to spare where there is more than one node
+pub record IsWithinBound (g : Shape) (l : Ledger) : Type 0 where
+  pub bound : (b : ℕ) → IsBound g.nodes (length g.keys) b → in_all (λ k. slice_index l.sent k) ≤ b
+  pub spare : (b : ℕ) → 2 ≤ g.nodes → IsBound g.nodes (length g.keys) b → in_all (λ k. slice_index l.sent k) + 2 * g.nodes ≤ b

@@ -1,17 +1,17 @@
 -- Links that are marked Branch at one end, or at both.
-use Rattle.std.specs.Prelude.{◌≡◌, ℕ, ◌-◌, ◌≤◌, ◌<◌, Bool, ◌&&◌, ◌||◌, ◌↔◌, List, length, slice_index_or}
+use Rattle.std.specs.Prelude.{Option, Some, None, ◌≡◌, ℕ, ◌-◌, ◌≤◌, ◌<◌, Bool, ◌&&◌, ◌||◌, ◌↔◌, List, length, slice_index_or}
 use Rattle.std.specs.List.{Contains}
 use Rattle.std.specs.List.Sorted.{IsStrictlyIncreasing}
 use Rattle.ghs_graph.specs.declared.key.Key.{Key}
 use Rattle.ghs_graph.specs.Graph.{Shape, IsGraph}
 use Rattle.ghs_graph.specs.Classes.{AreTogether}
-use Rattle.ghs_graph.specs.Links.{IsRising}
+use Rattle.ghs_graph.specs.Links.{IsRising, Joined, links, InTree}
 use Rattle.ghs_graph.specs.Ports.{ports_of, place_of}
 use Rattle.ghs_node.specs.NodeState.{NodeState, mark_at, degree}
 use Rattle.ghs_node.specs.Words.{is_branch}
-use Rattle.ghs_protocol.specs.Network.{Network}
+use Rattle.ghs_protocol.specs.Network.{Network, network_of}
 use Rattle.ghs_protocol.specs.Net.{Net}
-use Rattle.ghs_protocol.specs.Marks.{IsBranchLink, InOneFragment}
+use Rattle.ghs_protocol.specs.Marks.{IsBranchLink, IsJoinedLink, InOneFragment}
 use Rattle.ghs_core.specs.declared.marked.Ends.{Ends}
 use Rattle.ghs_core.specs.declared.marked.Ends.TheVariants.{One, Both}
 use Rattle.ghs_core.specs.Kept.{no_node}
@@ -55,3 +55,18 @@ pub record AreAlike (ls : List ℕ) (limit v : ℕ) (us : List ℕ) : Type 0 whe
   pub rising : IsStrictlyIncreasing us
   pub has : (u : ℕ) → Contains us u → (1 ≤ u) × (u < limit) × AreTogether ls v u
   pub all : (u : ℕ) → 1 ≤ u → u < limit → AreTogether ls v u → Contains us u
+
+-- each key is that of a link of the minimum spanning tree
+abbrev pub AreInTree : List Key → List Key → Type 0
+AreInTree ks some = (k : Key) → Contains some k → InTree ks k
+
+-- in the component of node v the Branch links are the tree's, and Branch at both ends
+abbrev pub IsExactAt : Shape → Net → ℕ → Type 0
+IsExactAt g w v =
+    (k : Key) → Contains g.keys k → Joined (links g.keys) v k.a →
+    (InTree g.keys k → IsJoinedLink (network_of g) w k) × (IsBranchLink (network_of g) w k → InTree g.keys k × IsJoinedLink (network_of g) w k)
+
+-- where a node is named, it is so there
+abbrev pub IsExactWhere : Shape → Net → Option ℕ → Type 0
+IsExactWhere g w None = Unit {0}
+IsExactWhere g w (Some v) = IsExactAt g w v

@@ -3,15 +3,16 @@ ghost use Rattle.std.specs.Prelude.{◌≡◌, ℕ, ◌+◌, ◌*◌, ◌≤◌,
 ghost use Rattle.ghs_graph.specs.Graph.{IsGraph};
 ghost use Rattle.ghs_node.specs.Words.{is_sleeping};
 ghost use Rattle.ghs_node.specs.NodeState.{mark_at};
-ghost use Rattle.ghs_protocol.specs.Network.{network_of, far, At};
-ghost use Rattle.ghs_protocol.specs.Marks.{InOneFragment};
+ghost use Rattle.ghs_graph.specs.Links.{InTree, IsTree};
+ghost use Rattle.ghs_protocol.specs.Network.{network_of, far, port_at, At};
+ghost use Rattle.ghs_protocol.specs.Marks.{InOneFragment, HasEnded};
 ghost use Rattle.ghs_protocol.specs.Interleavings.{HaveAtLeast};
 ghost use Rattle.ghs_node.specs.Reaction.{reaction};
 ghost use Rattle.ghs_protocol.specs.Net.{opening, is_lawful, is_node, is_port, happens};
 ghost use Rattle.ghs_protocol.specs.Run.{IsRun};
 ghost use Rattle.ghs_core.specs.NetState.{network, net_of, work_at, IsLawful, IsAnswer, HasRoomToPlay, IsSameNet, IsLeastHalted, event_node, lesser};
-ghost use Rattle.ghs_core.specs.Ledger.{IsLedger};
-ghost use Rattle.ghs_core.specs.Marked.{AreBranches, IsFragment, IsInFragment};
+ghost use Rattle.ghs_core.specs.Ledger.{IsLedger, IsWithinBound};
+ghost use Rattle.ghs_core.specs.Marked.{AreBranches, AreInTree, IsExactWhere, IsFragment, IsInFragment};
 
 use crate::counts::Counts;
 use crate::dispatch::{send_all, settle};
@@ -106,10 +107,13 @@ impl Net {
     }
 
     /// The mark of a port. A Rejected link leads back into the node's own fragment.
+    /// A Branch link lies in the minimum spanning tree, a Rejected one doesn't.
     pub fn mark(&self, v: u32, port: u32) -> Mark
         requires { At (network self.now) v port }
         ensures mark { result ≡ mark_at ((net_of self.now).node v) port }
         ensures inside { result ≡ Mark.Rejected → InOneFragment (network self.now) (net_of self.now) v (far (network self.now) v port) }
+        ensures tree { result ≡ Mark.Branch → InTree self.now.graph.keys (port_at (network self.now) v port).key }
+        ensures aside { result ≡ Mark.Rejected → InTree self.now.graph.keys (port_at (network self.now) v port).key → ⊥ }
     {
         self.nodes[v as usize - 1].mark(port)
     }
@@ -149,14 +153,16 @@ impl Net {
 
     /// The least node that has halted as a core node.
     pub fn core_halted(&self) -> Option<u32>
-        ensures { IsLeastHalted (network self.now) (net_of self.now) result }
+        ensures least { IsLeastHalted (network self.now) (net_of self.now) result }
+        ensures exact { IsExactWhere self.now.graph (net_of self.now) result }
     {
         self.halted
     }
 
     /// How many messages were sent, consumed and requeued, and how many wait.
     pub fn ledger(&self) -> Ledger
-        ensures { IsLedger (network self.now) (net_of self.now) result }
+        ensures counts { IsLedger (network self.now) (net_of self.now) result }
+        ensures bound { IsWithinBound self.now.graph result }
     {
         Ledger {
             sent: self.counts.sent,
@@ -167,9 +173,12 @@ impl Net {
         }
     }
 
-    /// The links that are Branch at one end at least, in key order.
+    /// The links that are Branch at one end at least, in key order: links of the minimum spanning forest, and all of them once
+    /// with each node a core node is joined that has halted.
     pub fn branches(&self, alloc: Global) -> Result<Vec<Key>, AllocError>
-        ensures { IfOk result (λ ks. AreBranches (network self.now) (net_of self.now) ks.items) }
+        ensures links { IfOk result (λ ks. AreBranches (network self.now) (net_of self.now) ks.items) }
+        ensures tree { IfOk result (λ ks. AreInTree self.now.graph.keys ks.items) }
+        ensures forest { IfOk result (λ ks. HasEnded self.now.graph (net_of self.now) → IsTree self.now.graph.keys ks.items) }
     {
         branch_links(alloc, &self.graph, &self.nodes, Ends::One)
     }

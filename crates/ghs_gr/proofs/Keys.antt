@@ -1,6 +1,6 @@
 -- Keys in order, each once.
 use Rattle.std.proofs.Common.{◌≡◌, ℕ, true, Bool, List, get_or, Ordering, nat_cmp, Less, [], arith}
-use Rattle.std.specs.Prelude.{Contains, ◌==◌, ◌&&◌, ◌↔◌}
+use Rattle.std.specs.Prelude.{◌==◌, ◌&&◌}
 use Rattle.std.specs.Cmp.{IsEquivalence, IsTotalOrder, nat_cmp_total}
 use Rattle.std.specs.List.{AllPairs}
 use Rattle.std.specs.List.Retain.{DiffersFromLast, IsFiltered}
@@ -13,6 +13,7 @@ use Rattle.std.proofs.lemmas.List.Filters.{dedup_is}
 use Rattle.std.proofs.lemmas.List.Kept.{Contains-dedup, Contains-from_dedup, IsStrictlySortedBy-dedup}
 use Rattle.std.proofs.lemmas.List.Sorted.{Contains-permutation, IsPermutation-sym}
 use Rattle.std.proofs.lemmas.Map.Keys.{Less-from_sorted}
+use Rattle.ghs_gr.specs.Key.{AreSameKeys}
 use Rattle.ghs_gr.specs.RawGraph.{Triple, triple_lt}
 
 abbrev pub key_cmp : Triple → Triple → Ordering
@@ -55,11 +56,8 @@ pub rising : (xs ys : List Triple) → IsSorted key_cmp xs → IsFiltered (Diffe
 rising xs ys sorted kept = λ i j d l below.
     triple_lt-Less (get_or ys i d) (get_or ys j d) (Less-from_sorted key_cmp ys i j d (rw (dedup_is key_eq xs ys kept) (IsStrictlySortedBy-dedup key_total key_eq-cmp xs sorted)) l below)
 
-pub same_keys : (ks xs ys zs : List Triple) → IsFiltered (DiffersFromLast key_eq) [] ks xs → IsPermutation xs ys → IsFiltered (DiffersFromLast key_eq) [] ys zs
-    → (key : Triple) → Contains zs key ↔ Contains ks key
-same_keys ks xs ys zs first moved last key = (
-  λ h. Contains-from_dedup key_eq ks key (rw (← dedup_is key_eq ks xs first)
-      (Contains-permutation ys xs key (IsPermutation-sym xs ys moved) (Contains-from_dedup key_eq ys key (rw (← dedup_is key_eq ys zs last) h)))),
-  λ h. rw (dedup_is key_eq ys zs last) (Contains-dedup key_equivalence key_eq-true ys key
-      (Contains-permutation xs ys key moved (rw (dedup_is key_eq ks xs first) (Contains-dedup key_equivalence key_eq-true ks key h)))),
+pub same_keys : (xs ys zs : List Triple) → IsPermutation xs ys → IsFiltered (DiffersFromLast key_eq) [] ys zs → AreSameKeys zs xs
+same_keys xs ys zs moved kept key = (
+  λ h. Contains-permutation ys xs key (IsPermutation-sym xs ys moved) (Contains-from_dedup key_eq ys key (rw (← dedup_is key_eq ys zs kept) h)),
+  λ h. rw (dedup_is key_eq ys zs kept) (Contains-dedup key_equivalence key_eq-true ys key (Contains-permutation xs ys key moved h)),
 )

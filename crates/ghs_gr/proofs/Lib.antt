@@ -1,13 +1,10 @@
 pub mod Cuts
 pub mod Found
-pub mod Graphs
 pub mod Judgements
 pub mod Keys
+pub mod Links
 pub mod Numbers
 pub mod Once
-pub mod Orders
 pub mod Passes
-pub mod Places
-pub mod Repeats
 pub mod Rows
 pub mod Slow

@@ -1,137 +1,151 @@
--- One more line of a pass.
-use Rattle.std.proofs.Common.{◌≡◌, ◌≢◌, ◌+◌, ◌<◌, ◌≤◌, ℕ, suc, true, false, Bool, cond, List, [], ◌∷◌, ◌++◌, length, take, drop, get_or, refl, sym, ap, ◌∙◌, arith, Some, None, Option, subst, below_more, add-one, map, length-take, length-drop, ◌==◌}
-use Rattle.std.specs.Prelude.{All, nat_le, ◌&&◌}
-use Rattle.std.specs.List.{cons_option}
-use Rattle.std.specs.Option.{option_map, option_or, option_to_list}
-use Rattle.std.proofs.Math.Seq.{drop-cons, take-suc}
-use Rattle.std.proofs.lemmas.Bool.{and_parts, leb-true, eq-eqb, false≢true}
-use Rattle.std.proofs.lemmas.List.Elements.{All-append, All-push}
-use Rattle.ghs_gr.specs.Arc.{arc_in, place, placed_arcs}
-use Rattle.ghs_gr.specs.Fault.{Sizes, is_node, problem_in}
-use Rattle.ghs_gr.specs.Line.{lines_of, meaning, meanings}
-use Rattle.ghs_gr.specs.Pass.{IsAmong, IsPass, early_at, early_fault}
+-- How a pass goes on.
+use Rattle.std.proofs.Common.{◌≡◌, ◌+◌, ◌-◌, ◌<◌, ◌≤◌, ◌∙◌, ℕ, true, false, List, [], ◌∷◌, ◌++◌, length, take, get_or, append_assoc, refl, sym, ap, arith, subst, ⊎_elim, Option, Some, None, take_all}
+use Rattle.std.specs.Prelude.{Contains, MatchOption, is_some}
+use Rattle.std.specs.Option.{option_map, option_or}
+use Rattle.std.proofs.Math.ListN.{get_or-append, get_or-eq_default}
+use Rattle.std.proofs.Math.Seq.{get_or-append_seam}
+use Rattle.std.proofs.lemmas.Bool.{cases_lt}
+use Rattle.std.proofs.lemmas.List.{length-append, take-append-le}
+use Rattle.std.proofs.lemmas.List.Elements.{Contains-append_cases, Contains-append_left, Contains-append_right, filter-append, filter_map-append}
+use Rattle.std.proofs.lemmas.List.Sums.{count_by-le-length, length-filter}
+use Rattle.ghs_gr.specs.Arc.{arc_count, is_arc_line, link_in, links_in}
+use Rattle.ghs_gr.specs.Fault.{Sizes, fault_at, line_fault, problem_in}
+use Rattle.ghs_gr.specs.Judgement.{AreSound, IsFirstFault}
+use Rattle.ghs_gr.specs.Key.{AreSameKeys}
+use Rattle.ghs_gr.specs.Pass.{IsPass, IsSoundPass, Notes}
 use Rattle.ghs_gr.specs.Problem.{sizes_of}
-use Rattle.ghs_gr.specs.declared.arc.Arc.{Arc}
-use Rattle.ghs_gr.specs.declared.arc.PlacedArc.{PlacedArc}
+use Rattle.ghs_gr.specs.RawGraph.{Triple}
 use Rattle.ghs_gr.specs.declared.fault.LineFault.{LineFault}
-use Rattle.ghs_gr.specs.declared.fault.LineFault.TheVariants.{NodeRange, Loop}
 use Rattle.ghs_gr.specs.declared.line.Line.{Line}
 use Rattle.ghs_gr.specs.declared.line.Line.TheVariants as line
-use Rattle.ghs_gr.specs.declared.problem.Problem.{Problem}
+use Rattle.ghs_gr.specs.declared.pass.Pass.{Pass}
 
--- x is line k, and rest are the lines behind it
-pub record IsNext (ls : List Line) (k : ℕ) (x : Line) (rest : List Line) : Type 0 where
-  pub below : k < length ls
-  pub here : get_or ls k line.Passed ≡ x
-  pub behind : rest ≡ drop (suc k) ls
-  pub taken : take (suc k) ls ≡ take k ls ++ (x ∷ [])
+-- what lines say, and more lines behind them
 
-next : (ls : List Line) (k : ℕ) (x : Line) (rest : List Line) → x ∷ rest ≡ drop k ls → IsNext ls k x rest
-next ls k x rest e =
-    let below : k < length ls = omega (arith, length-drop k ls, ap length e) in
-    let cut : drop k ls ≡ get_or ls k line.Passed ∷ drop (suc k) ls = drop-cons ls k line.Passed below in
-    let here : get_or ls k line.Passed ≡ x = cc in
-    record { below = below; here = here; behind = cc; taken = take-suc ls k line.Passed below ∙ ap (λ y. take k ls ++ (y ∷ [])) here }
+pub problem_in-append : (xs ys : List Line) → problem_in (xs ++ ys) ≡ option_or (problem_in xs) (problem_in ys)
+problem_in-append [] ys = refl
+problem_in-append (line.Passed ∷ xs) ys = problem_in-append xs ys
+problem_in-append (line.Malformed ∷ xs) ys = problem_in-append xs ys
+problem_in-append (line.Problem n m ∷ xs) ys = refl
+problem_in-append (line.Arc u v w ∷ xs) ys = problem_in-append xs ys
 
-pub problem_in-push : (xs : List Line) (x : Line) → problem_in (xs ++ (x ∷ [])) ≡ option_or (problem_in xs) (problem_in (x ∷ []))
-problem_in-push [] x = refl
-problem_in-push (line.Passed ∷ xs) x = problem_in-push xs x
-problem_in-push (line.Malformed ∷ xs) x = problem_in-push xs x
-problem_in-push (line.Problem n m ∷ xs) x = refl
-problem_in-push (line.Arc u v w ∷ xs) x = problem_in-push xs x
+arc_count-append : (xs ys : List Line) → arc_count (xs ++ ys) ≡ arc_count xs + arc_count ys
+arc_count-append xs ys = ap length (filter-append is_arc_line xs ys) ∙ length-append _ _
 
-cons_option-append : {X : Type 0} (o : Option X) (xs ys : List X) → cons_option o (xs ++ ys) ≡ cons_option o xs ++ ys
-cons_option-append None xs ys = refl
-cons_option-append (Some x) xs ys = refl
+-- the lines behind a line don't matter for its fault
+fault_at-append : (ls more : List Line) (k : ℕ) → k < length ls → fault_at (ls ++ more) k ≡ fault_at ls k
+fault_at-append ls more k l =
+    ap (λ xs. line_fault (problem_in xs) (get_or (ls ++ more) k line.Passed)) (take-append-le k ls more (omega arith))
+    ∙ ap (line_fault (problem_in (take k ls))) (get_or-append ls more line.Passed k l)
 
-cons_option-nil : {X : Type 0} (o : Option X) → cons_option o [] ≡ option_to_list o
-cons_option-nil None = refl
-cons_option-nil (Some x) = refl
+fault_at-end : (ls : List Line) (l : Line) → fault_at (ls ++ l ∷ []) (length ls) ≡ line_fault (problem_in ls) l
+fault_at-end ls l =
+    ap (λ xs. line_fault (problem_in xs) (get_or (ls ++ l ∷ []) (length ls) line.Passed))
+    (take-append-le (length ls) ls (l ∷ []) (omega arith) ∙ take_all (length ls) ls (omega arith))
+    ∙ ap (line_fault (problem_in ls)) (get_or-append_seam ls l [] line.Passed)
 
-placed_arcs-push : (k j : ℕ) (xs : List Line) (x : Line) → j ≡ k + length xs → placed_arcs k (xs ++ (x ∷ [])) ≡ placed_arcs k xs ++ option_to_list (option_map (place j) (arc_in x))
-placed_arcs-push k j [] x e = cons_option-nil _ ∙ ap (λ i. option_to_list (option_map (place i) (arc_in x))) (omega arith)
-placed_arcs-push k j (y ∷ xs) x e =
-    let more = option_to_list (option_map (place j) (arc_in x)) in
-    ap (cons_option (option_map (place k) (arc_in y))) (placed_arcs-push (k + 1) j xs x (omega arith))
-    ∙ cons_option-append (option_map (place k) (arc_in y)) (placed_arcs (k + 1) xs) more
+-- behind the last line there is no fault
+pub no_line : (ls : List Line) (k : ℕ) → length ls ≤ k → fault_at ls k ≡ None
+no_line ls k l = ap (line_fault (problem_in (take k ls))) (get_or-eq_default ls line.Passed l)
 
-IsAmong-more : (s t : Option Sizes) (a : PlacedArc) → IsAmong s a → IsAmong (option_or s t) a
-IsAmong-more None t a h = absurd h
-IsAmong-more (Some (None, m)) t a h = absurd h
-IsAmong-more (Some (Some n, m)) t a h = h
+pub inside : (ls : List Line) (k : ℕ) (f : LineFault) → fault_at ls k ≡ Some f → k < length ls
+inside ls k f e = ⊎_elim
+    (λ below. below)
+    (λ behind. let same : Some f ≡ None = sym e ∙ no_line ls k behind in cc)
+    (cases_lt k (length ls))
 
-passed : (b c : Bool) (f g : LineFault) → option_or (cond b None (Some f)) (cond c (Some g) None) ≡ None → (b ≡ true) × (c ≡ false)
-passed true true f g e = cc
-passed true false f g e = (refl, refl)
-passed false c f g e = cc
+-- lines behind the first faulty one change nothing
+IsFirstFault-append : (ls more : List Line) (n : ℕ) (f : LineFault) → IsFirstFault ls n f → IsFirstFault (ls ++ more) n f
+IsFirstFault-append ls more n f h =
+    let below : n - 1 < length ls = inside ls (n - 1) f h.here in
+    record {
+      counted = h.counted;
+      here = fault_at-append ls more (n - 1) below ∙ h.here;
+      before = λ k l. fault_at-append ls more k (omega arith) ∙ h.before k l;
+    }
 
--- the ends of an arc without a fault
-among_nodes : (n m : Option ℕ) (k : ℕ) (a : Arc) → option_or (cond (is_node n a.from && is_node n a.to) None (Some NodeRange)) (cond (a.from == a.to) (Some Loop) None) ≡ None → IsAmong (Some (n, m)) (place k a)
-among_nodes None m k a e = absurd (false≢true (passed false (a.from == a.to) NodeRange Loop e).0)
-among_nodes (Some n) m k a e =
-    let parts = passed (is_node (Some n) a.from && is_node (Some n) a.to) (a.from == a.to) NodeRange Loop e in
-    let ends = and_parts (is_node (Some n) a.from) (is_node (Some n) a.to) parts.0 in
-    let from = and_parts (nat_le 1 a.from) (nat_le a.from n) ends.0 in
-    let to = and_parts (nat_le 1 a.to) (nat_le a.to n) ends.1 in
-    let from_low : 1 ≤ a.from = leb-true 1 a.from from.0 in
-    let from_high : a.from ≤ n = leb-true a.from n from.1 in
-    let to_low : 1 ≤ a.to = leb-true 1 a.to to.0 in
-    let to_high : a.to ≤ n = leb-true a.to n to.1 in
-    let apart : a.from ≢ a.to = λ same. false≢true (sym parts.1 ∙ eq-eqb a.from a.to same) in
-    (omega arith, omega arith, omega arith)
+-- what a pass with this fault finds
+abbrev pub PassWith : Option LineFault → List Line → Pass → Type 0
+PassWith fault ls p = MatchOption fault (IsSoundPass ls p) (λ f. IsFirstFault ls (p.lines + 1) f)
 
-IsAmong-new : (s : Option Sizes) (k : ℕ) (x : Line) → early_fault s x ≡ None → All (IsAmong s) (option_to_list (option_map (place k) (arc_in x)))
-IsAmong-new s k line.Passed e = λ j d l. absurd (omega arith)
-IsAmong-new s k line.Malformed e = λ j d l. absurd (omega arith)
-IsAmong-new s k (line.Problem n m) e = λ j d l. absurd (omega arith)
-IsAmong-new s k (line.Arc None v w) e = λ j d l. absurd (omega arith)
-IsAmong-new s k (line.Arc (Some u) None w) e = λ j d l. absurd (omega arith)
-IsAmong-new s k (line.Arc (Some u) (Some v) None) e = λ j d l. absurd (omega arith)
-IsAmong-new None k (line.Arc (Some u) (Some v) (Some w)) e = cc
-IsAmong-new (Some p) k (line.Arc (Some u) (Some v) (Some w)) e =
-    All-push (IsAmong (Some p)) [] (place k (record { from = u; to = v; weight = w })) (λ j d l. absurd (omega arith))
-    (among_nodes p.0 p.1 k (record { from = u; to = v; weight = w }) e)
+stays_with : (o : Option LineFault) (ls more : List Line) (p : Pass) → is_some o ≡ true → PassWith o ls p → PassWith o (ls ++ more) p
+stays_with None ls more p e h = cc
+stays_with (Some f) ls more p e h = IsFirstFault-append ls more (p.lines + 1) f h
 
--- what the next line says, judged by what is known, is what line k says
-pub early_at-next : (text rest after : List ℕ) (k : ℕ) (p : Option Problem) (arcs : List PlacedArc) (l : List ℕ)
-    → IsPass (meanings text) k p arcs → meanings rest ≡ drop k (meanings text) → lines_of rest ≡ l ∷ lines_of after
-    → early_at (meanings text) k ≡ early_fault (option_map sizes_of p) (meaning l)
-early_at-next text rest after k p arcs l pass left first =
-    let ls = meanings text in
-    let e : meaning l ∷ meanings after ≡ drop k ls = sym (ap (map meaning) first) ∙ left in
-    let n = next ls k (meaning l) (meanings after) e in
-    ap (λ q. early_fault q (get_or ls k line.Passed)) (sym pass.problem_is) ∙ ap (early_fault (option_map sizes_of p)) n.here
+-- a pass that stopped for a fault has gone over the lines behind it too
+pub stopped : (ls gone more all : List Line) (p : Pass) → is_some p.fault ≡ true → all ≡ gone ++ more → IsPass (ls ++ gone) p → IsPass (ls ++ all) p
+stopped ls gone more all p some e h =
+    let whole : (ls ++ gone) ++ more ≡ ls ++ all = append_assoc ls gone more ∙ ap (λ xs. ls ++ xs) (sym e) in
+    subst (λ xs. IsPass xs p) whole (stays_with p.fault (ls ++ gone) more p some h)
 
-pub pass-more : (text rest after : List ℕ) (k : ℕ) (p p' : Option Problem) (arcs arcs' : List PlacedArc) (l : List ℕ)
-    → IsPass (meanings text) k p arcs → meanings rest ≡ drop k (meanings text) → lines_of rest ≡ l ∷ lines_of after
-    → early_fault (option_map sizes_of p) (meaning l) ≡ None
-    → arcs' ≡ arcs ++ option_to_list (option_map (place k) (arc_in (meaning l)))
-    → option_map sizes_of p' ≡ option_or (option_map sizes_of p) (problem_in (meaning l ∷ []))
-    → IsPass (meanings text) (k + 1) p' arcs' × (meanings after ≡ drop (k + 1) (meanings text))
-pass-more text rest after k p p' arcs arcs' l pass left first sound noted known =
-    let ls = meanings text in
-    let x = meaning l in
-    let e : x ∷ meanings after ≡ drop k ls = sym (ap (map meaning) first) ∙ left in
-    let n = next ls k x (meanings after) e in
-    let here : early_at ls k ≡ None = early_at-next text rest after k p arcs l pass left first ∙ sound in
-    let taken : take (k + 1) ls ≡ take k ls ++ (x ∷ []) = rw (add-one k) n.taken in
-    let count : k ≡ 0 + length (take k ls) = omega (arith, length-take k ls, pass.within) in
-    let problem : option_or (option_map sizes_of p) (problem_in (x ∷ [])) ≡ problem_in (take (k + 1) ls) =
-    ap (λ q. option_or q (problem_in (x ∷ []))) pass.problem_is ∙ sym (problem_in-push (take k ls) x) ∙ ap problem_in (sym taken) in
-    let known_now = option_or (option_map sizes_of p) (problem_in (x ∷ [])) in
-    let added = option_to_list (option_map (place k) (arc_in x)) in
-    let ends : All (IsAmong known_now) (arcs ++ added) =
-    All-append (IsAmong known_now) arcs added
-    (λ j d h. IsAmong-more (option_map sizes_of p) (problem_in (x ∷ [])) (get_or arcs j d)
-    (subst (λ s. IsAmong s (get_or arcs j d)) (sym pass.problem_is) (pass.ends j d h)))
-    (λ j d h. IsAmong-more (option_map sizes_of p) (problem_in (x ∷ [])) (get_or added j d)
-    (IsAmong-new (option_map sizes_of p) k x sound j d h)) in (
-      record {
-        within = omega (arith, n.below);
-        sound = below_more _ _ pass.sound here;
-        problem_is = known ∙ problem;
-        arcs_are = noted ∙ ap (λ q. q ++ option_to_list (option_map (place k) (arc_in x))) pass.arcs_are ∙ sym (placed_arcs-push 0 k (take k ls) x count) ∙ ap (placed_arcs 0) (sym taken);
-        ends = subst (λ s. All (IsAmong s) arcs') problem (subst (All (IsAmong known_now)) (sym noted) ends);
-      },
-      rw (add-one k) n.behind,
+-- one more line
+
+sound_both : (ls : List Line) (l : Line) → AreSound ls → line_fault (problem_in ls) l ≡ None → AreSound (ls ++ l ∷ [])
+sound_both ls l sound here = λ k b. ⊎_elim
+    (λ below. fault_at-append ls (l ∷ []) k below ∙ sound k below)
+    (λ end. let at : k ≡ length ls = omega (arith, length-append ls (l ∷ [])) in ap (fault_at (ls ++ l ∷ [])) at ∙ fault_at-end ls l ∙ here)
+    (cases_lt k (length ls))
+
+keys_more : (ls : List Line) (l : Line) (old new : List Triple)
+    → AreSameKeys old (links_in ls) → AreSameKeys new (old ++ links_in (l ∷ [])) → AreSameKeys new (links_in (ls ++ l ∷ []))
+keys_more ls l old new are adds key =
+    let all : links_in (ls ++ l ∷ []) ≡ links_in ls ++ links_in (l ∷ []) = filter_map-append link_in ls (l ∷ []) in (
+      λ c. subst (λ ks. Contains ks key) (sym all) (⊎_elim
+          (λ d. Contains-append_left (links_in ls) (links_in (l ∷ [])) key ((are key).0 d))
+          (λ d. Contains-append_right (links_in ls) (links_in (l ∷ [])) key d)
+          (Contains-append_cases old (links_in (l ∷ [])) key ((adds key).0 c))),
+      λ c. (adds key).1 (⊎_elim
+          (λ d. Contains-append_left old (links_in (l ∷ [])) key ((are key).1 d))
+          (λ d. Contains-append_right old (links_in (l ∷ [])) key d)
+          (Contains-append_cases (links_in ls) (links_in (l ∷ [])) key (subst (λ ks. Contains ks key) all c))),
     )
+
+sound_more : (ls : List Line) (l : Line) (f : Option LineFault) (old new : Pass) → IsSoundPass ls old → line_fault (problem_in ls) l ≡ None
+    → Notes l (record old { fault = f }) new → new.lines ≡ old.lines → IsSoundPass (ls ++ l ∷ []) (record new { lines = new.lines + 1 })
+sound_more ls l f old new pass sound notes lines = record {
+  sound = sound_both ls l pass.sound sound;
+  counted = omega (arith, pass.counted, lines, length-append ls (l ∷ []));
+  problem = notes.problem ∙ ap (λ p. option_or p (problem_in (l ∷ []))) pass.problem ∙ sym (problem_in-append ls (l ∷ []));
+  found = notes.found ∙ ap (λ n. n + arc_count (l ∷ [])) pass.found ∙ sym (arc_count-append ls (l ∷ []));
+  keys = keys_more ls l old.keys.items new.keys.items pass.keys notes.keys;
+  few = omega (arith, notes.few, notes.found, pass.few);
+}
+
+-- with the answers of the test of the line
+
+none_of : {A : Type 0} (o : Option A) → is_some o ≡ false → o ≡ None
+none_of None e = refl
+none_of (Some x) e = cc
+
+pub sound_of : (ls : List Line) (p : Pass) → p.fault ≡ None → IsPass ls p → IsSoundPass ls p
+sound_of ls p none h = subst (λ o. PassWith o ls p) none h
+
+known : (ls : List Line) (l : Line) (p : Pass) → IsSoundPass ls p → line_fault (option_map sizes_of p.problem) l ≡ line_fault (problem_in ls) l
+known ls l p pass = ap (λ q. line_fault q l) pass.problem
+
+pub takes_sound : (ls : List Line) (l : Line) (old new : Pass) (o : Option LineFault) → old.fault ≡ None → IsPass ls old
+    → o ≡ line_fault (option_map sizes_of old.problem) l → is_some o ≡ false
+    → Notes l (record old { fault = o }) new → new.lines ≡ old.lines → new.fault ≡ o
+    → IsPass (ls ++ l ∷ []) (record new { lines = new.lines + 1 })
+takes_sound ls l old new o none h says sound notes lines fault =
+    let pass = sound_of ls old none h in
+    let free : o ≡ None = none_of o sound in
+    let here : line_fault (problem_in ls) l ≡ None = sym (known ls l old pass) ∙ sym says ∙ free in
+    subst (λ q. PassWith q (ls ++ l ∷ []) (record new { lines = new.lines + 1 })) (sym (fault ∙ free)) (sound_more ls l o old new pass here notes lines)
+
+-- how many arc lines there are
+
+few_arcs : (ls : List Line) → arc_count ls ≤ length ls
+few_arcs ls = omega (arith, length-filter is_arc_line ls, count_by-le-length is_arc_line ls)
+
+pub few_found : (ls : List Line) (p : Pass) → p.fault ≡ None → IsPass ls p → p.found ≤ p.lines
+few_found ls p none h = let pass = sound_of ls p none h in omega (arith, few_arcs ls, pass.found, pass.counted)
+
+-- an arc line is no problem line
+
+option_or-none : {A : Type 0} (a : Option A) → a ≡ option_or a None
+option_or-none None = refl
+option_or-none (Some x) = refl
+
+pub no_problem : (p : Option Sizes) (l : Line) (u v w : Option ℕ) → l ≡ line.Arc u v w → p ≡ option_or p (problem_in (l ∷ []))
+no_problem p l u v w is = option_or-none p ∙ ap (λ x. option_or p (problem_in (x ∷ []))) (sym is)

@@ -1,11 +1,7 @@
--- The keys of arcs that are kept by their ends.
-use Rattle.std.specs.Prelude.{Contains, List, map, ◌↔◌}
+-- Keys of links.
+use Rattle.std.specs.Prelude.{Contains, List, ◌↔◌}
 use Rattle.ghs_gr.specs.RawGraph.{Triple}
-use Rattle.ghs_gr.specs.declared.arc.PlacedArc.{PlacedArc}
 
-abbrev pub placed_key : PlacedArc → Triple
-placed_key a = (a.weight, a.low, a.high)
-
--- these are the keys of these arcs, as sets
-abbrev pub HasKeysOf : List Triple → List PlacedArc → Type 0
-HasKeysOf keys arcs = (key : Triple) → Contains keys key ↔ Contains (map placed_key arcs) key
+-- the same keys, in whatever order and however often each
+abbrev pub AreSameKeys : List Triple → List Triple → Type 0
+AreSameKeys keys others = (key : Triple) → Contains keys key ↔ Contains others key

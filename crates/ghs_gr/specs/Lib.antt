@@ -7,5 +7,4 @@ pub mod Line
 pub mod Pass
 pub mod Problem
 pub mod RawGraph
-pub mod Repeat
 pub mod Text

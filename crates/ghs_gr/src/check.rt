@@ -1,26 +1,19 @@
 //! The faults of one line.
 ghost use Rattle.ghs_gr.specs.Arc.{arc_in};
-ghost use Rattle.ghs_gr.specs.Fault.{ends_fault as ends_fault_of, form_fault as form_fault_of, is_node as is_node_of, loop_fault as loop_fault_of, sizes_fault as sizes_fault_of};
+ghost use Rattle.ghs_gr.specs.Fault.{ends_fault as ends_fault_of, is_node as is_node_of, line_fault as line_fault_of, sizes_fault as sizes_fault_of};
 ghost use Rattle.ghs_gr.specs.Problem.{sizes_of};
-ghost use Rattle.ghs_gr.specs.Pass.{early_fault as early_fault_of};
 ghost use Rattle.std.specs.Option.{option_map};
 ghost use Rattle.std.specs.Prelude.{Some, ◌≡◌};
 
 use crate::arc::Arc;
 use crate::fault::LineFault;
 use crate::line::Line;
-use crate::problem::{ARC_LIMIT, NODE_LIMIT, Problem};
+use crate::problem::Problem;
+use crate::raw_graph::{ARC_LIMIT, NODE_LIMIT};
 
-/// The first fault of a line but for Repeat.
-pub fn early_fault(problem: Option<Problem>, line: Line) -> Option<LineFault>
-    ensures { result ≡ early_fault_of (option_map sizes_of problem) line }
-{
-    form_fault(problem, line).or(loop_fault(line))
-}
-
-/// The first fault of a line but for Loop and Repeat.
-fn form_fault(problem: Option<Problem>, line: Line) -> Option<LineFault>
-    ensures { result ≡ form_fault_of (option_map sizes_of problem) line }
+/// The first fault of a line, where this is the problem line before it.
+pub fn line_fault(problem: Option<Problem>, line: Line) -> Option<LineFault>
+    ensures { result ≡ line_fault_of (option_map sizes_of problem) line }
 {
     match line {
         Line::Passed => None,
@@ -66,14 +59,4 @@ fn is_node(nodes: u32, node: u32) -> bool
     ensures { result ≡ is_node_of (Some nodes) node }
 {
     1 <= node && node <= nodes
-}
-
-/// The fault of an arc from a node to itself.
-fn loop_fault(line: Line) -> Option<LineFault>
-    ensures { result ≡ loop_fault_of (arc_in line) }
-{
-    match Arc::in_line(line) {
-        Some(arc) if arc.from == arc.to => Some(LineFault::Loop),
-        _ => None,
-    }
 }

@@ -1,31 +1,30 @@
-//! The keys of arcs.
-ghost use Rattle.ghs_gr.specs.Key.{HasKeysOf, placed_key};
+//! Keys of links, as a set.
+ghost use Rattle.ghs_gr.specs.Key.{AreSameKeys};
 ghost use Rattle.ghs_gr.specs.RawGraph.{triple_lt};
 ghost use Rattle.std.specs.List.{AllPairs};
-ghost use Rattle.std.specs.Prelude.{IfOk, length, map, true, vec_len, ◌≡◌, ◌≤◌};
+ghost use Rattle.std.specs.Prelude.{IfOk, [], true, vec_len, ◌++◌, ◌+◌, ◌≡◌, ◌≤◌, ◌∷◌};
 
-use crate::arc::PlacedArc;
 use crate::raw_graph::Key3;
-use std::alloc::{AllocError, Global};
+use std::alloc::AllocError;
 
-/// The keys of arcs, rising, each once. It is fastest where arcs with the same key stand side by side.
-pub fn rising_keys(alloc: Global, arcs: &[PlacedArc]) -> Result<Vec<Key3>, AllocError>
-    ensures keys { IfOk result (λ keys. HasKeysOf keys.items arcs.now) }
-    ensures rising { IfOk result (λ keys. AllPairs (λ j k. triple_lt j k ≡ true) keys.items) }
-    ensures few { IfOk result (λ keys. vec_len keys ≤ length arcs.now) }
+/// Puts a key to the others. One that stands last already isn't put again: in road files the two arcs of a link are
+/// often neighbours.
+pub fn put_key(keys: &mut Vec<Key3>, key: Key3) -> Result<(), AllocError>
+    ensures keys { IfOk result (λ _. AreSameKeys keys.new.items (keys.old.items ++ key ∷ [])) }
+    ensures few { IfOk result (λ _. vec_len keys.new ≤ vec_len keys.old + 1) }
 {
-    let mut keys = keys_of(alloc, arcs)?;
-    keys.dedup();
-    keys.sort_unstable();
-    keys.dedup();
-    Ok(keys)
+    if keys.last() != Some(&key) {
+        keys.push(key)?;
+    }
+    Ok(())
 }
 
-/// The keys of arcs, in their order.
-fn keys_of(alloc: Global, arcs: &[PlacedArc]) -> Result<Vec<Key3>, AllocError>
-    ensures { IfOk result (λ keys. keys.items ≡ map placed_key arcs.now) }
+/// Puts keys in order, each once. It takes no memory.
+pub fn put_in_order(keys: &mut Vec<Key3>)
+    ensures keys { AreSameKeys keys.new.items keys.old.items }
+    ensures rising { AllPairs (λ j k. triple_lt j k ≡ true) keys.new.items }
+    ensures few { vec_len keys.new ≤ vec_len keys.old }
 {
-    arcs.iter()
-        .map(|arc| (arc.weight, arc.low, arc.high))
-        .collect(alloc)
+    keys.sort_unstable();
+    keys.dedup();
 }

@@ -12,7 +12,6 @@ mod line;
 mod pass;
 mod problem;
 pub mod raw_graph;
-mod repeat;
 pub mod steps;
 #[cfg(test)]
 mod tests;

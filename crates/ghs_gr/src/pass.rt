@@ -1,85 +1,106 @@
-//! One pass over the lines of a text, up to the first fault but for Repeat.
-ghost use Rattle.ghs_gr.specs.Arc.{arc_in, place};
-ghost use Rattle.ghs_gr.specs.Fault.{form_fault, problem_in};
+//! One pass over the lines of a text, up to the first fault.
+ghost use Rattle.ghs_gr.specs.Fault.{line_fault as line_fault_of};
 ghost use Rattle.ghs_gr.specs.Line.{meanings};
-ghost use Rattle.ghs_gr.specs.Pass.{ArePlaced, IsPass, StopsAt};
+ghost use Rattle.ghs_gr.specs.Pass.{IsPass, IsSomePass, Notes};
 ghost use Rattle.ghs_gr.specs.Problem.{sizes_of};
-ghost use Rattle.std.specs.Option.{option_map, option_or, option_to_list};
-ghost use Rattle.std.specs.Prelude.{IfOk, None, [], length, ◌++◌, ◌≡◌, ◌≤◌, ◌∷◌};
+ghost use Rattle.ghs_gr.specs.declared.line.Line.{Line};
+ghost use Rattle.std.specs.Option.{option_map};
+ghost use Rattle.std.specs.Prelude.{IfOk, List, None, [], length, ◌++◌, ◌+◌, ◌<◌, ◌≡◌, ◌≤◌, ◌∷◌};
 
-use crate::arc::{Arc, PlacedArc};
-use crate::check::early_fault;
+use crate::arc::link_in;
+use crate::check::line_fault;
 use crate::fault::LineFault;
+use crate::key::put_key;
 use crate::line::{Line, meaning_of, next_line};
 use crate::problem::Problem;
+use crate::raw_graph::Key3;
 use crate::text::TEXT_LIMIT;
 use std::alloc::{AllocError, Global};
 
 /// What a pass over lines has found.
 #[derive(Drop)]
 pub struct Pass {
+    /// The problem line.
     pub problem: Option<Problem>,
-    /// The arcs of the sound lines, in their order.
-    pub arcs: Vec<PlacedArc>,
-    /// How many lines were sound.
+    /// How many arc lines there are.
+    pub found: u32,
+    /// The keys of their links, in no order. A key may stand more than once.
+    pub keys: Vec<Key3>,
+    /// How many lines there are.
     pub lines: u32,
-    /// The fault of the line behind them, where there is one.
+    /// The fault of the line behind these, where there is one.
     pub fault: Option<LineFault>,
 }
 
-/// One pass over the lines, up to the first fault but for Repeat.
-pub fn pass_over(alloc: Global, text: &[u8]) -> Result<Pass, AllocError>
-    requires { length text.now ≤ TEXT_LIMIT }
-    ensures pass { IfOk result (λ p. IsPass (meanings text.now) p.lines p.problem p.arcs.items) }
-    ensures stops { IfOk result (λ p. StopsAt (meanings text.now) p.lines p.fault) }
-    ensures placed { IfOk result (λ p. ArePlaced (option_map sizes_of p.problem) p.lines p.arcs.items) }
-    ensures lines { IfOk result (λ p. p.lines ≤ TEXT_LIMIT) }
-{
-    let mut problem = None;
-    let mut arcs = Vec::new(alloc);
-    let mut lines = 0u32;
-    let mut rest = text;
-    'lines: while let Some((line, after)) = next_line(rest) {
-        let meaning = meaning_of(line);
-        let fault = early_fault(problem, meaning);
-        if fault.is_some() {
-            return Ok(Pass {
-                problem,
-                arcs,
-                lines,
-                fault,
-            });
+impl Pass {
+    /// A pass over no line.
+    pub fn new(alloc: Global) -> Pass
+        ensures pass { IsPass [] result }
+        ensures lines { result.lines ≡ 0 }
+    {
+        Pass {
+            problem: None,
+            found: 0,
+            keys: Vec::new(alloc),
+            lines: 0,
+            fault: None,
         }
-        note(&mut arcs, lines, meaning)?;
-        problem = problem_behind(problem, meaning);
-        rest = after;
-        lines += 1;
     }
-    Ok(Pass {
-        problem,
-        arcs,
-        lines,
-        fault: None,
-    })
-}
 
-/// Takes note of a line's arc.
-fn note(arcs: &mut Vec<PlacedArc>, number: u32, line: Line) -> Result<(), AllocError>
-    ensures { IfOk result (λ _. arcs.new.items ≡ arcs.old.items ++ option_to_list (option_map (place number) (arc_in line))) }
-{
-    if let Some(arc) = Arc::in_line(line) {
-        arcs.push(PlacedArc::of(arc, number))?;
+    /// Goes on over the lines of this text, up to the first fault.
+    pub fn go_over(&mut self, text: &[u8]) -> Result<(), AllocError>
+        requires pass { IsSomePass self.old }
+        requires room { self.old.lines + length text.now ≤ TEXT_LIMIT }
+        ensures pass { IfOk result (λ _. (lines : List Line) → IsPass lines self.old → IsPass (lines ++ meanings text.now) self.new) }
+        ensures lines { IfOk result (λ _. self.new.lines ≤ self.old.lines + length text.now) }
+    {
+        let mut rest = text;
+        'lines: while let Some((line, after)) = next_line(rest) {
+            if self.fault.is_some() {
+                return Ok(());
+            }
+            self.take(meaning_of(line))?;
+            rest = after;
+        }
+        Ok(())
     }
-    Ok(())
-}
 
-/// The problem line behind a sound line.
-fn problem_behind(problem: Option<Problem>, line: Line) -> Option<Problem>
-    requires { form_fault (option_map sizes_of problem) line ≡ None }
-    ensures { option_map sizes_of result ≡ option_or (option_map sizes_of problem) (problem_in (line ∷ [])) }
-{
-    match line {
-        Line::Problem(Some(nodes), Some(arcs)) => Some(Problem { nodes, arcs }),
-        _ => problem,
+    /// Takes one more line.
+    fn take(&mut self, line: Line) -> Result<(), AllocError>
+        requires pass { IsSomePass self.old }
+        requires sound { self.old.fault ≡ None }
+        requires room { self.old.lines < TEXT_LIMIT }
+        ensures pass { IfOk result (λ _. (lines : List Line) → IsPass lines self.old → IsPass (lines ++ line ∷ []) self.new) }
+        ensures lines { IfOk result (λ _. self.new.lines ≤ self.old.lines + 1) }
+    {
+        self.fault = line_fault(self.problem, line);
+        if self.fault.is_none() {
+            self.note(line)?;
+            self.lines += 1;
+        }
+        Ok(())
+    }
+
+    /// Takes note of what a line without a fault says.
+    fn note(&mut self, line: Line) -> Result<(), AllocError>
+        requires sound { line_fault_of (option_map sizes_of self.old.problem) line ≡ None }
+        requires room { self.old.found < TEXT_LIMIT }
+        ensures notes { IfOk result (λ _. Notes line self.old self.new) }
+        ensures lines { IfOk result (λ _. self.new.lines ≡ self.old.lines) }
+        ensures fault { IfOk result (λ _. self.new.fault ≡ self.old.fault) }
+    {
+        match line {
+            Line::Problem(Some(nodes), Some(arcs)) => {
+                self.problem = Some(Problem { nodes, arcs });
+            }
+            Line::Arc(..) => {
+                self.found += 1;
+                if let Some(key) = link_in(line) {
+                    put_key(&mut self.keys, key)?;
+                }
+            }
+            _ => {}
+        }
+        Ok(())
     }
 }

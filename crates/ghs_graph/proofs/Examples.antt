@@ -2,9 +2,13 @@
 use Rattle.std.proofs.Common.{◌≡◌, ℕ, List, [], ◌∷◌, refl, lit<, lit≤}
 use Rattle.ghs_graph.specs.declared.key.Key.{Key}
 use Rattle.ghs_graph.specs.declared.port.Port.{Port}
+use Rattle.ghs_graph.specs.Links.{IsTree, total_weight}
 use Rattle.ghs_graph.specs.Ports.{degree, ports_of}
+use Rattle.ghs_graph.specs.Graph.{Shape}
+use Rattle.ghs_graph.specs.Components.{IsRoot, HasComponents}
 use Rattle.ghs_graph.specs.Bound.{IsFloorLog2, IsBound}
-use Rattle.ghs_graph.proofs.Logs.{floor_log2_between}
+use Rattle.ghs_graph.proofs.lemmas.Computing.{is_rising, tree_is, root_tells, components_are}
+use Rattle.ghs_graph.proofs.lemmas.Logs.{floor_log2_between}
 
 abbrev key : ℕ → ℕ → ℕ → Key
 key w a b = record { weight = w; a = a; b = b }
@@ -39,6 +43,52 @@ ports_of_twice = refl
 degree_of_twice : degree twice 1 ≡ 2
 unfolding degree
 degree_of_twice = refl
+
+-- Forests. The lists are computed link by link from the definition of what links join.
+
+tree_of_triangle : IsTree triangle (key 1 1 2 ∷ key 2 2 3 ∷ [])
+tree_of_triangle = tree_is triangle (is_rising triangle refl)
+
+-- a triangle of equal weights: each two of its links weigh 8, and the tree is the two with the least keys
+abbrev even : List Key
+even = key 4 1 2 ∷ key 4 1 3 ∷ key 4 2 3 ∷ []
+
+weights_of_even : (total_weight (key 4 1 2 ∷ key 4 1 3 ∷ []) ≡ 8) × (total_weight (key 4 1 2 ∷ key 4 2 3 ∷ []) ≡ 8) × (total_weight (key 4 1 3 ∷ key 4 2 3 ∷ []) ≡ 8)
+weights_of_even = (refl, refl, refl)
+
+tree_of_even : IsTree even (key 4 1 2 ∷ key 4 1 3 ∷ [])
+tree_of_even = tree_is even (is_rising even refl)
+
+-- of two parallel links the lighter
+tree_of_twice : IsTree twice (key 4 1 2 ∷ [])
+tree_of_twice = tree_is twice (is_rising twice refl)
+
+-- Roots and components.
+
+root_of_one : IsRoot [] 1 1
+root_of_one = (root_tells [] 1 1).0 refl
+
+components_of_one : HasComponents (record { nodes = 1; keys = [] }) 1
+components_of_one = components_are (record { nodes = 1; keys = [] })
+
+-- two pieces and a node without links
+abbrev pieces : Shape
+pieces = record { nodes = 5; keys = key 5 1 2 ∷ key 6 3 4 ∷ [] }
+
+root_of_2 : IsRoot pieces.keys 2 1
+root_of_2 = (root_tells pieces.keys 2 1).0 refl
+
+root_of_4 : IsRoot pieces.keys 4 3
+root_of_4 = (root_tells pieces.keys 4 3).0 refl
+
+root_of_5 : IsRoot pieces.keys 5 5
+root_of_5 = (root_tells pieces.keys 5 5).0 refl
+
+components_of_pieces : HasComponents pieces 3
+components_of_pieces = components_are pieces
+
+tree_of_pieces : IsTree pieces.keys (key 5 1 2 ∷ key 6 3 4 ∷ [])
+tree_of_pieces = tree_is pieces.keys (is_rising pieces.keys refl)
 
 -- Bounds.
 

@@ -10,9 +10,10 @@ use Rattle.ghs_graph.specs.Key.{ends_at}
 use Rattle.ghs_graph.specs.Links.{AreAmong, IsRising}
 use Rattle.ghs_graph.specs.Ports.{degree, far_end, port_on, place_of, ports_of}
 use Rattle.ghs_graph.specs.Layout.{AreBlocks, ArePlaced, IsRight, AreRightBelow, AreLaid, no_port}
-use Rattle.ghs_graph.proofs.KeyOrder.{no_key}
-use Rattle.ghs_graph.proofs.Wiring.{length-ports_of, place_at, port_at, ends_a, ends_b, ends_not, far_end_a, far_end_b, among_at}
-use Rattle.ghs_graph.proofs.Counting.{degree_ends, degree_stays, degree_none, degree_above, degree_up, blocks_up, places_apart, place_in}
+use Rattle.ghs_graph.proofs.lemmas.Keys.{no_key}
+use Rattle.ghs_graph.proofs.lemmas.Ports.{length-ports_of, place_at, port_at, ends_a, ends_b, ends_not, far_end_a, far_end_b, among_at}
+use Rattle.ghs_graph.proofs.lemmas.Degrees.{degree_ends, degree_stays, degree_none, degree_above, degree_up}
+use Rattle.ghs_graph.proofs.Blocks.{blocks_up, places_apart, place_in}
 
 abbrev pub no_places : Places
 no_places = record { a = 0; b = 0 }

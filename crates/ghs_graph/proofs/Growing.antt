@@ -1,5 +1,5 @@
 -- One more link, in key order: the labels that tell what is joined, and the tree.
-use Rattle.std.proofs.Common.{◌≡◌, ◌≢◌, ℕ, ◌<◌, ◌≤◌, ◌+◌, ◌⊎◌, inl, inr, ⊎_elim, Option, Some, None, MatchOption, true, false, List, [], ◌∷◌, ◌++◌, length, take, get_or, sym, ◌∙◌, ap, subst, arith}
+use Rattle.std.proofs.Common.{◌≡◌, ℕ, ◌<◌, ◌+◌, ◌⊎◌, inl, inr, ⊎_elim, true, false, List, [], ◌∷◌, ◌++◌, length, take, get_or, sym, ◌∙◌, ap, subst, arith}
 use Rattle.std.specs.List.{Contains}
 use Rattle.std.proofs.lemmas.Bool.{both_ways}
 use Rattle.std.proofs.lemmas.List.{take_more}
@@ -7,12 +7,12 @@ use Rattle.std.proofs.lemmas.List.Quantifiers.{all_pairs_push}
 use Rattle.std.proofs.lemmas.List.Elements.{Contains-get_or, Contains-push, Contains-push_cases, Contains-append_left}
 use Rattle.ghs_graph.specs.declared.key.Key.{Key}
 use Rattle.ghs_graph.specs.Key.{key_lt}
-use Rattle.ghs_graph.specs.Links.{Joined, Same, Over, links, links_below, InTree, IsTree, IsRising, AreAmong, AllJoined, IsLeastApart}
+use Rattle.ghs_graph.specs.Links.{Joined, Same, Over, links, links_below, AllBelow, InTree, IsTree, IsRising}
 use Rattle.ghs_graph.specs.Classes.{AreTogether, Unites, IsFresh}
-use Rattle.ghs_graph.specs.Spanning.{AreTold, AreAlikeBelow}
-use Rattle.ghs_graph.proofs.Membership.{nothing_in}
-use Rattle.ghs_graph.proofs.KeyOrder.{lt_irreflexive, lt_asymmetric, AllBelow, below_at}
-use Rattle.ghs_graph.proofs.Joining.{joined_within, joined_through, joined_by_none, JoinedOver, one_more, from_one_more}
+use Rattle.ghs_graph.specs.Spanning.{AreTold, IsSpanned}
+use Rattle.ghs_graph.proofs.lemmas.Members.{nothing_in}
+use Rattle.ghs_graph.proofs.lemmas.Keys.{no_key, lt_irreflexive, lt_asymmetric, below_at}
+use Rattle.ghs_graph.proofs.lemmas.Joining.{joined_within, joined_through, joined_by_none, JoinedOver, one_more, from_one_more}
 
 older : (ks : List Key) (k j : Key) → links ks j → links (ks ++ k ∷ []) j
 older ks k j h = Contains-append_left ks (k ∷ []) j h
@@ -102,28 +102,26 @@ tree_leaves ks tree k below t joined = record {
     not_newest : InTree (ks ++ k ∷ []) k → ⊥
     not_newest h = h.1 (joined_within (λ i s. (older ks k i s, below i s)) joined)
 
--- The same for the first i + 1 links of a list.
+-- Both.
 
-pub next_told_united : (ks : List Key) (i : ℕ) (d : Key) (ls new : List ℕ) → i < length ks → (get_or ks i d).a < length ls → (get_or ks i d).b < length ls → AreTold ls (take i ks) → Unites ls new (get_or ks i d).a (get_or ks i d).b → AreTold new (take (i + 1) ks)
-next_told_united ks i d ls new lt al bl told n = rw (take_more ks i d lt) (told_united ls new (take i ks) (get_or ks i d) al bl told n)
+pub spanned_none : (n : ℕ) (ls : List ℕ) (tree : List Key) → length ls ≡ n + 1 → IsFresh ls → tree ≡ [] → IsSpanned n [] ls tree
+spanned_none n ls tree count alone e = record { count = count; told = told_fresh ls alone; tree = rw e tree_of_none }
 
-pub next_told_still : (ks : List Key) (i : ℕ) (d : Key) (ls : List ℕ) → i < length ks → (get_or ks i d).a < length ls → (get_or ks i d).b < length ls → AreTold ls (take i ks) → AreTogether ls (get_or ks i d).a (get_or ks i d).b → AreTold ls (take (i + 1) ks)
-next_told_still ks i d ls lt al bl told e = rw (take_more ks i d lt) (told_still ls (take i ks) (get_or ks i d) al bl told e)
+pub spanned_united : (n : ℕ) (ks : List Key) (k : Key) (ls new : List ℕ) (tree longer : List Key) → k.a < length ls → k.b < length ls → AllBelow ks k → IsSpanned n ks ls tree → (AreTogether ls k.a k.b → ⊥) → Unites ls new k.a k.b → longer ≡ tree ++ k ∷ [] → IsSpanned n (ks ++ k ∷ []) new longer
+spanned_united n ks k ls new tree longer al bl below s apart u e = record {
+  count = u.same ∙ s.count;
+  told = told_united ls new ks k al bl s.told u;
+  tree = rw e (tree_takes ks tree k below s.tree (λ way. apart (s.told.together k.a k.b al bl way)));
+}
 
-pub next_tree_takes : (ks : List Key) (i : ℕ) (d : Key) (ls : List ℕ) (tree longer : List Key) → IsRising ks → i < length ks → (get_or ks i d).a < length ls → (get_or ks i d).b < length ls → AreTold ls (take i ks) → IsTree (take i ks) tree → (AreTogether ls (get_or ks i d).a (get_or ks i d).b → ⊥) → longer ≡ tree ++ get_or ks i d ∷ [] → IsTree (take (i + 1) ks) longer
-next_tree_takes ks i d ls tree longer r lt al bl told t apart e =
-    rw (take_more ks i d lt, e) (tree_takes (take i ks) tree (get_or ks i d) (below_at ks i d r lt) t (λ way. apart (told.together (get_or ks i d).a (get_or ks i d).b al bl way)))
+pub spanned_still : (n : ℕ) (ks : List Key) (k : Key) (ls : List ℕ) (tree : List Key) → k.a < length ls → k.b < length ls → AllBelow ks k → IsSpanned n ks ls tree → AreTogether ls k.a k.b → IsSpanned n (ks ++ k ∷ []) ls tree
+spanned_still n ks k ls tree al bl below s e = record {
+  count = s.count;
+  told = told_still ls ks k al bl s.told e;
+  tree = tree_leaves ks tree k below s.tree (s.told.joined k.a k.b al bl e);
+}
 
-pub next_tree_leaves : (ks : List Key) (i : ℕ) (d : Key) (ls : List ℕ) (tree : List Key) → IsRising ks → i < length ks → (get_or ks i d).a < length ls → (get_or ks i d).b < length ls → AreTold ls (take i ks) → IsTree (take i ks) tree → AreTogether ls (get_or ks i d).a (get_or ks i d).b → IsTree (take (i + 1) ks) tree
-next_tree_leaves ks i d ls tree r lt al bl told t e =
-    rw (take_more ks i d lt) (tree_leaves (take i ks) tree (get_or ks i d) (below_at ks i d r lt) t (told.joined (get_or ks i d).a (get_or ks i d).b al bl e))
-
--- the ends of a link have labels where there is a label for each node
-pub ends_in : (n : ℕ) (ks : List Key) (i : ℕ) (d : Key) (m : ℕ) → AreAmong n ks → i < length ks → m ≡ n + 1 → ((get_or ks i d).a < m) × ((get_or ks i d).b < m)
-ends_in n ks i d m among lt e = let h = among i d lt in (omega (arith, h.1, h.2), omega (arith, h.2))
-
--- The least node apart.
-
-pub apart_or_not : (n : ℕ) (ks : List Key) (ls : List ℕ) (o : Option ℕ) → 1 ≤ n → length ls ≡ n + 1 → AreTold ls ks → MatchOption o (AreAlikeBelow ls (n + 1)) (λ v. (1 ≤ v) × (v ≤ n) × (get_or ls 1 0 ≢ get_or ls v 0) × AreAlikeBelow ls v) → MatchOption o (AllJoined n ks) (IsLeastApart n ks)
-apart_or_not n ks ls None some count told h = λ u low high. told.joined 1 u (omega arith) (omega arith) (h u low (omega arith))
-apart_or_not n ks ls (Some v) some count told h = record { low = h.0; high = h.1; apart = λ way. h.2 (told.together 1 v (omega arith) (omega (arith, h.1)) way); least = λ u low lt. told.joined 1 u (omega arith) (omega (arith, h.1)) (h.3 u low lt) }
+-- one link more of a list
+pub spanned_more : (n : ℕ) (ks : List Key) (i : ℕ) (k : Key) (old new : List ℕ) (tree longer : List Key) → IsRising ks → i < length ks → k ≡ get_or ks i no_key → ((js : List Key) → AllBelow js k → IsSpanned n js old tree → IsSpanned n (js ++ k ∷ []) new longer) → IsSpanned n (take i ks) old tree → IsSpanned n (take (i + 1) ks) new longer
+spanned_more n ks i k old new tree longer r lt e step s =
+    rw (take_more ks i no_key lt, ← e) (step (take i ks) (rw e (below_at ks i no_key r lt)) s)

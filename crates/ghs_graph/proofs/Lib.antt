@@ -1,12 +1,16 @@
+pub mod lemmas
 mod Examples
+mod Rising
+mod Blocks
+mod Filling
+mod Chains
+mod Firsts
+pub mod Growing
+mod Roots
+mod Reading
 pub mod Membership
 pub mod KeyOrder
+pub mod Joining
 pub mod Wiring
 pub mod Counting
-pub mod Filling
-pub mod Chains
-pub mod Joining
-pub mod Growing
-pub mod Reading
-pub mod Logs
 pub mod Least

@@ -8,7 +8,7 @@ use Rattle.ghs_graph.specs.Key.{key_of, key_lt}
 use Rattle.ghs_graph.specs.Links.{IsRising}
 use Rattle.ghs_graph.specs.Graph.{IsGraph}
 
-no_triple : Triple
+abbrev pub no_triple : Triple
 no_triple = (0, 0, 0)
 
 rising_map : (ts : List Triple) → ((i j : ℕ) (d : Triple) → i < j → j < length ts → key_lt (key_of (get_or ts i d)) (key_of (get_or ts j d)) ≡ true) → IsRising (map key_of ts)

@@ -1,5 +1,6 @@
 -- Classes of numbers: the numbers of a class have the same label.
-use Rattle.std.specs.Prelude.{◌≡◌, ◌≢◌, ℕ, zero, suc, ◌<◌, ◌^◌, ◌==◌, List, length, slice_index, count_by, ◌⊎◌}
+use Rattle.std.specs.Prelude.{◌≡◌, ◌≢◌, ℕ, zero, suc, ◌<◌, ◌≤◌, ◌^◌, ◌==◌, List, length, slice_index, count_by, ◌⊎◌}
+use Rattle.std.specs.List.{AllPairs, Contains}
 
 -- two numbers are in one class
 abbrev pub AreTogether : List ℕ → ℕ → ℕ → Type 0
@@ -49,3 +50,28 @@ pub record AreChained (ls next sizes : List ℕ) : Type 0 where
   pub own : (v : ℕ) → v < length ls → slice_index ls (slice_index ls v) ≡ slice_index ls v
   pub chain : (v : ℕ) → v < length ls → slice_index ls v ≡ v → IsChain ls next v (slice_index sizes v)
   pub place : (v : ℕ) → v < length ls → (k : ℕ) × (k < slice_index sizes (slice_index ls v)) × (after next (slice_index ls v) k ≡ v)
+
+-- r is the first number from 1 on with this label
+pub record IsFirst (ls : List ℕ) (label r : ℕ) : Type 0 where
+  pub low : 1 ≤ r
+  pub labelled : slice_index ls r ≡ label
+  pub before : (u : ℕ) → 1 ≤ u → u < r → slice_index ls u ≢ label
+
+-- for each number from 1 to below m the first one of its class, at the number's place
+pub record AreFirstsBelow (ls : List ℕ) (m : ℕ) (firsts : List ℕ) : Type 0 where
+  pub places : length firsts ≡ m
+  pub each : (v : ℕ) → 1 ≤ v → v < m → IsFirst ls (slice_index ls v) (slice_index firsts v)
+
+-- the numbers from 1 to below m have this many classes: as many as there are among them that are the first of theirs
+pub record HasClassesBelow (ls : List ℕ) (m count : ℕ) : Type 0 where
+  pub leasts : List ℕ
+  pub rising : AllPairs (λ u v. u < v) leasts
+  pub has : (v : ℕ) → Contains leasts v → (1 ≤ v) × (v < m) × IsFirst ls (slice_index ls v) v
+  pub all : (v : ℕ) → 1 ≤ v → v < m → IsFirst ls (slice_index ls v) v → Contains leasts v
+  pub number : length leasts ≡ count
+
+abbrev pub AreFirsts : List ℕ → List ℕ → Type 0
+AreFirsts ls firsts = AreFirstsBelow ls (length ls) firsts
+
+abbrev pub HasClasses : List ℕ → ℕ → Type 0
+HasClasses ls count = HasClassesBelow ls (length ls) count

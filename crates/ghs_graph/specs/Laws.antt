@@ -1,12 +1,25 @@
 -- What holds of every graph, as one fact a law.
-use Rattle.std.specs.Prelude.{◌≡◌, ◌≢◌, ℕ, ◌≤◌, ◌⊎◌, true, List}
+use Rattle.std.specs.Prelude.{◌≡◌, ◌≢◌, ℕ, ◌+◌, ◌*◌, ◌≤◌, ◌↔◌, ◌⊎◌, Bool, true, List, length}
 use Rattle.std.specs.List.{AllPairs, Contains, sum_by}
+use Rattle.std.specs.declared.cmp.Ordering.{Ordering}
+use Rattle.std.specs.Ordering.{is_lt}
 use Rattle.ghs_graph.specs.declared.key.Key.{Key}
 use Rattle.ghs_graph.specs.declared.port.Port.{Port}
 use Rattle.ghs_graph.specs.Key.{key_lt}
-use Rattle.ghs_graph.specs.Links.{Joined, links, IsRising, IsTree, AllJoined}
+use Rattle.ghs_graph.specs.Links.{Joined, links, IsRising, IsTree, AreLinksOf, JoinAll, total_weight}
 use Rattle.ghs_graph.specs.Ports.{place_of, port_on, ports_of, HasPort}
-use Rattle.ghs_graph.specs.Graph.{Shape, IsGraph}
+use Rattle.ghs_graph.specs.Graph.{Shape, IsGraph, nodes_of}
+use Rattle.ghs_graph.specs.Components.{IsRoot, HasComponents}
+use Rattle.ghs_graph.specs.Bound.{IsFloorLog2, IsBound}
+
+-- Keys.
+
+-- `<` of keys is their order, and equal keys are one
+pub record OrdersKeys (cmp : Key → Key → Ordering) (eq : Key → Key → Bool) : Type 0 where
+  pub less : (j k : Key) → is_lt (cmp j k) ≡ key_lt j k
+  pub equal : (j k : Key) → (eq j k ≡ true) ↔ (j ≡ k)
+
+-- Ports.
 
 -- the far end of a port is another node of the graph
 abbrev pub PortsEndElsewhere : Type 0
@@ -29,30 +42,52 @@ pub record HasTwoPorts (ks : List Key) (k : Key) : Type 0 where
 abbrev pub LinksHaveTwoPorts : Type 0
 LinksHaveTwoPorts = (g : Shape) → IsGraph g → (k : Key) → Contains g.keys k → HasTwoPorts g.keys k
 
--- a graph has one minimum spanning tree
-abbrev pub TreeIsOne : Type 0
-TreeIsOne = (ks t s : List Key) → IsTree ks t → IsTree ks s → t ≡ s
+-- the nodes have twice as many ports as the graph has links
+abbrev pub DegreesAreTwice : Type 0
+DegreesAreTwice = (g : Shape) → IsGraph g → sum_by (λ v. length (ports_of g.keys v)) (nodes_of g) ≡ 2 * length g.keys
 
--- the tree joins what the graph joins
+-- Components.
+
+-- each node has a root
+abbrev pub NodesHaveRoots : Type 0
+NodesHaveRoots = (ks : List Key) (v : ℕ) → (r : ℕ) × IsRoot ks v r
+
+-- nodes are joined exactly where they have the same root
+abbrev pub RootsTell : Type 0
+RootsTell = (ks : List Key) (u v r s : ℕ) → IsRoot ks u r → IsRoot ks v s → Joined (links ks) u v ↔ (r ≡ s)
+
+-- there is one number of components: by so many the links of the forest are fewer than the nodes
+abbrev pub ForestHasFewer : Type 0
+ForestHasFewer = (g : Shape) → IsGraph g → (count : ℕ) × HasComponents g count × ((c : ℕ) (tree : List Key) → HasComponents g c → IsTree g.keys tree → (c ≡ count) × (length tree + c ≡ g.nodes))
+
+-- The minimum spanning forest.
+
+-- each rising list of keys has one minimum spanning forest
+abbrev pub TreeIsOne : Type 0
+TreeIsOne = (ks : List Key) → IsRising ks → (tree : List Key) × IsTree ks tree × ((other : List Key) → IsTree ks other → other ≡ tree)
+
+-- the forest joins what the graph joins
 abbrev pub TreeJoins : Type 0
-TreeJoins = (ks tree : List Key) → IsRising ks → IsTree ks tree → (u v : ℕ) → Joined (links ks) u v → Joined (links tree) u v
+TreeJoins = (ks tree : List Key) → IsRising ks → IsTree ks tree → JoinAll ks tree
 
 -- the links of a list but one
 abbrev pub links_but : List Key → Key → Key → Type 0
 links_but ks k j = Contains ks j × (j ≢ k)
 
--- the ends of a link of the tree aren't joined by the other links of the tree
+-- the ends of a link of the forest aren't joined by the other links of the forest
 abbrev pub NoneIsSpare : Type 0
 NoneIsSpare = (ks tree : List Key) → IsTree ks tree → (k : Key) → Contains tree k → Joined (links_but tree k) k.a k.b → ⊥
 
--- the weights of links together
-abbrev pub total_weight : List Key → ℕ
-total_weight ks = sum_by (λ (k : Key). k.weight) ks
-
--- links of the graph that join all that the graph joins weigh at least as much as the tree
+-- links of the graph that join whatever the graph joins weigh at least as much as the forest
 abbrev pub TreeIsLeast : Type 0
-TreeIsLeast = (ks tree some : List Key) → IsRising ks → IsTree ks tree → ((k : Key) → Contains some k → Contains ks k) → ((u v : ℕ) → Joined (links ks) u v → Joined (links some) u v) → total_weight tree ≤ total_weight some
+TreeIsLeast = (ks tree some : List Key) → IsRising ks → IsTree ks tree → AreLinksOf ks some → JoinAll ks some → total_weight tree ≤ total_weight some
 
--- links of the graph that join all its nodes weigh at least as much as the tree
-abbrev pub TreeIsLeastSpanning : Type 0
-TreeIsLeastSpanning = (g : Shape) → IsGraph g → (tree some : List Key) → IsTree g.keys tree → ((k : Key) → Contains some k → Contains g.keys k) → AllJoined g.nodes some → total_weight tree ≤ total_weight some
+-- Bounds.
+
+-- each number from 1 on has one floor of log2
+abbrev pub FloorLog2IsOne : Type 0
+FloorLog2IsOne = (n : ℕ) → 1 ≤ n → (k : ℕ) × IsFloorLog2 n k × ((j : ℕ) → IsFloorLog2 n j → j ≡ k)
+
+-- each number of nodes from 1 on, with each number of links, has one bound
+abbrev pub BoundIsOne : Type 0
+BoundIsOne = (n e : ℕ) → 1 ≤ n → (b : ℕ) × IsBound n e b × ((c : ℕ) → IsBound n e c → c ≡ b)

@@ -2,9 +2,10 @@ pub mod Key
 pub mod Links
 pub mod Ports
 pub mod Graph
+pub mod Components
+pub mod Built
 pub mod Laws
 pub mod Layout
 pub mod Classes
 pub mod Spanning
-pub mod GraphFault
 pub mod Bound

@@ -1,6 +1,6 @@
--- Sets of links: what they join, and the minimum spanning tree.
+-- Sets of links: what they join, and the minimum spanning forest, which is a tree where they join all nodes.
 use Rattle.std.specs.Prelude.{◌≡◌, ℕ, ◌≤◌, ◌<◌, List, true}
-use Rattle.std.specs.List.{All, AllPairs, Contains}
+use Rattle.std.specs.List.{All, AllPairs, Contains, sum_by}
 use Rattle.ghs_graph.specs.declared.key.Key.{Key}
 use Rattle.ghs_graph.specs.Key.{key_lt}
 
@@ -14,11 +14,23 @@ pub data Joined (S : Key → Type 0) : ℕ → ℕ → Type 0 where
 abbrev pub links : List Key → Key → Type 0
 links ks j = Contains ks j
 
+-- some are links of ks
+abbrev pub AreLinksOf : List Key → List Key → Type 0
+AreLinksOf ks some = (k : Key) → Contains some k → Contains ks k
+
+-- some join whatever ks join
+abbrev pub JoinAll : List Key → List Key → Type 0
+JoinAll ks some = (u v : ℕ) → Joined (links ks) u v → Joined (links some) u v
+
 -- the links of a list with smaller keys than k
 abbrev pub links_below : List Key → Key → Key → Type 0
 links_below ks k j = Contains ks j × (key_lt j k ≡ true)
 
--- a link of the minimum spanning tree: its ends aren't joined by the links with smaller keys
+-- the links of a list have smaller keys than k
+abbrev pub AllBelow : List Key → Key → Type 0
+AllBelow ks k = (j : Key) → Contains ks j → key_lt j k ≡ true
+
+-- a link of the minimum spanning forest: its ends aren't joined by the links with smaller keys
 abbrev pub InTree : List Key → Key → Type 0
 InTree ks k = Contains ks k × (Joined (links_below ks k) k.a k.b → ⊥)
 
@@ -26,7 +38,7 @@ InTree ks k = Contains ks k × (Joined (links_below ks k) k.a k.b → ⊥)
 abbrev pub IsRising : List Key → Type 0
 IsRising ks = AllPairs (λ j k. key_lt j k ≡ true) ks
 
--- the list has the links of the minimum spanning tree, in key order
+-- the list has the links of the minimum spanning forest, in key order
 pub record IsTree (ks tree : List Key) : Type 0 where
   pub rising : IsRising tree
   pub has : (k : Key) → Contains tree k → InTree ks k
@@ -36,13 +48,6 @@ pub record IsTree (ks tree : List Key) : Type 0 where
 abbrev pub AreAmong : ℕ → List Key → Type 0
 AreAmong n ks = All (λ k. (1 ≤ k.a) × (k.a < k.b) × (k.b ≤ n)) ks
 
--- all nodes from 1 to n are joined with node 1
-abbrev pub AllJoined : ℕ → List Key → Type 0
-AllJoined n ks = (u : ℕ) → 1 ≤ u → u ≤ n → Joined (links ks) 1 u
-
--- v is the least node that isn't joined with node 1
-pub record IsLeastApart (n : ℕ) (ks : List Key) (v : ℕ) : Type 0 where
-  pub low : 1 ≤ v
-  pub high : v ≤ n
-  pub apart : Joined (links ks) 1 v → ⊥
-  pub least : (u : ℕ) → 1 ≤ u → u < v → Joined (links ks) 1 u
+-- the weights of links together
+abbrev pub total_weight : List Key → ℕ
+total_weight ks = sum_by (λ (k : Key). k.weight) ks

@@ -1,6 +1,6 @@
 //! Classes of numbers, each with a label. When two are made one, the smaller takes the label of the larger.
 ghost use Rattle.std.specs.Prelude.{◌≡◌, ◌≢◌, ℕ, ◌<◌, ◌≤◌, ◌-◌, ◌^◌, length, slice_index, IfOk};
-ghost use Rattle.ghs_graph.specs.Classes.{Unites, Moves, Relabels, IsFresh, after};
+ghost use Rattle.ghs_graph.specs.Classes.{Unites, Moves, Relabels, IsFresh, AreFirsts, HasClasses, after};
 
 use std::alloc::{AllocError, Global};
 use std::marker::Model;
@@ -13,6 +13,13 @@ pub struct Classes {
     next: Vec<u32>,
     // How many numbers have each label.
     sizes: Vec<u32>,
+}
+
+/// The first number of each one's class, at the place of the one, and how many classes there are.
+#[derive(Debug, Drop)]
+pub struct Firsts {
+    pub numbers: Vec<u32>,
+    pub classes: u32,
 }
 
 impl Model for Classes {
@@ -51,6 +58,28 @@ impl Classes {
         ensures { result ≡ slice_index self.now x }
     {
         self.labels[x as usize]
+    }
+
+    /// The first of each class, for the numbers from 1 on.
+    pub fn firsts(&self, alloc: Global) -> Result<Firsts, AllocError>
+        requires { 1 ≤ length self.now }
+        ensures numbers { IfOk result (λ f. AreFirsts self.now f.numbers.items) }
+        ensures classes { IfOk result (λ f. HasClasses self.now f.classes) }
+    {
+        // The first number met with each label, and 0 where there is none yet.
+        let mut with_label = vec![in alloc; 0u32; self.labels.len()]?;
+        let mut numbers = Vec::with_capacity(alloc, self.labels.len())?;
+        numbers.push(0)?;
+        let mut classes = 0;
+        for v in 1..self.labels.len() as u32 {
+            let label = self.labels[v as usize] as usize;
+            if with_label[label] == 0 {
+                with_label[label] = v;
+                classes += 1;
+            }
+            numbers.push(with_label[label])?;
+        }
+        Ok(Firsts { numbers, classes })
     }
 
     /// Makes the classes of `u` and `v` one.

@@ -2,35 +2,39 @@
 ghost use Rattle.std.specs.Prelude.{◌≡◌, ◌↔◌, ◌≤◌, length, map, IfOk, IfErr, IsTrue};
 ghost use Rattle.ghs_graph.specs.Key.{key_of};
 ghost use Rattle.ghs_graph.specs.Ports.{ports_of};
-ghost use Rattle.ghs_graph.specs.Graph.{IsGraph, IsJoined};
-ghost use Rattle.ghs_graph.specs.GraphFault.{IsCause};
+ghost use Rattle.ghs_graph.specs.Graph.{IsGraph};
+ghost use Rattle.ghs_graph.specs.Components.{IsRoot, HasComponents};
 
 use crate::graph_fault::GraphFault;
 use crate::key::Key;
 use crate::layout::{Layout, block, lay};
 use crate::port::Port;
-use crate::spanning::{least_apart, span};
+use crate::spanning::span;
 use crate::triples::keys_of;
 use ghs_gr::raw_graph::RawGraph;
 use std::alloc::{AllocError, Global};
 use std::marker::Model;
 
-/// A graph. Its nodes are numbered from 1, and all are joined. Each node has ports, numbered from 0 in key order.
+/// A graph. Its nodes are numbered from 1. Each node has ports, numbered from 0 in key order.
 #[derive(Debug, Drop)]
 pub struct Graph {
     nodes: u32,
     keys: Vec<Key>,
     layout: Layout,
+    // The root of each node, at the node's number.
+    roots: Vec<u32>,
+    components: u32,
 }
 
 impl Model for Graph {
-    ghost use Rattle.ghs_graph.specs.Graph.{Shape, IsKept};
+    ghost use Rattle.ghs_graph.specs.Graph.{Shape};
+    ghost use Rattle.ghs_graph.specs.Built.{IsBuilt};
 
     ghost Value = { Shape };
 
     ghost view = { λ g. record { nodes = g.nodes; keys = g.keys.items } };
 
-    ghost invariant = { λ g. IsKept (record { nodes = g.nodes; keys = g.keys.items }) g.layout.starts.items g.layout.ports.items };
+    ghost invariant = { λ g. IsBuilt (record { nodes = g.nodes; keys = g.keys.items }) g.layout.starts.items g.layout.ports.items g.roots.items g.components };
 }
 
 impl Graph {
@@ -38,40 +42,35 @@ impl Graph {
     pub fn build(alloc: Global, raw: RawGraph) -> Result<Graph, (RawGraph, GraphFault)>
         ensures nodes { IfOk result (λ g. g.nodes ≡ raw.nodes) }
         ensures keys { IfOk result (λ g. g.keys ≡ map key_of raw.keys) }
-        ensures joined { IfOk result IsJoined }
         ensures handed_back { IfErr result (λ e. e.0 ≡ raw) }
-        ensures refused { IfErr result (λ e. IsCause raw.nodes (map key_of raw.keys) e.1) }
     {
         match Graph::of(alloc, &raw) {
             Ok(graph) => Ok(graph),
-            Err(fault) => Err((raw, fault)),
+            Err(error) => Err((raw, error.into())),
         }
     }
 
-    fn of(alloc: Global, raw: &RawGraph) -> Result<Graph, GraphFault>
+    fn of(alloc: Global, raw: &RawGraph) -> Result<Graph, AllocError>
         ensures nodes { IfOk result (λ g. g.nodes ≡ raw.now.nodes) }
         ensures keys { IfOk result (λ g. g.keys ≡ map key_of raw.now.keys) }
-        ensures joined { IfOk result IsJoined }
-        ensures refused { IfErr result (IsCause raw.now.nodes (map key_of raw.now.keys)) }
     {
         let nodes = raw.nodes();
         let keys = keys_of(alloc, raw)?;
-        let spanning = span(alloc, nodes, &keys)?;
-        match least_apart(&spanning.classes, nodes) {
-            Some(v) => Err(GraphFault::Disconnected(v)),
-            None => Ok(Graph {
-                nodes,
-                layout: lay(alloc, nodes, &keys)?,
-                keys,
-            }),
-        }
+        let firsts = span(alloc, nodes, &keys)?.classes.firsts(alloc)?;
+        let layout = lay(alloc, nodes, &keys)?;
+        Ok(Graph {
+            nodes,
+            keys,
+            layout,
+            roots: firsts.numbers,
+            components: firsts.classes,
+        })
     }
 
     /// The number of nodes.
     pub fn nodes(&self) -> u32
         ensures nodes { result ≡ self.now.nodes }
         ensures graph { IsGraph self.now }
-        ensures joined { IsJoined self.now }
     {
         self.nodes
     }
@@ -100,6 +99,23 @@ impl Graph {
         block(&self.layout.ports, &self.layout.starts, v)
     }
 
+    /// The least node that is joined with this one.
+    pub fn root(&self, v: u32) -> u32
+        requires low { 1 ≤ v }
+        requires high { v ≤ self.now.nodes }
+        ensures root { IsRoot self.now.keys v result }
+        ensures node { 1 ≤ result }
+    {
+        self.roots[v as usize]
+    }
+
+    /// How many components the graph has: 1, where it is connected.
+    pub fn components(&self) -> u32
+        ensures { HasComponents self.now result }
+    {
+        self.components
+    }
+
     /// An equal graph.
     pub fn copy(&self, alloc: Global) -> Result<Graph, AllocError>
         ensures { IfOk result (λ g. g ≡ self.now) }
@@ -111,6 +127,8 @@ impl Graph {
                 starts: Vec::from_slice(alloc, &self.layout.starts)?,
                 ports: Vec::from_slice(alloc, &self.layout.ports)?,
             },
+            roots: Vec::from_slice(alloc, &self.roots)?,
+            components: self.components,
         })
     }
 

@@ -15,8 +15,6 @@ impl Key {
     pub fn is_below(&self, other: &Key) -> bool
         ensures { result ≡ key_lt self.now other.now }
     {
-        self.weight < other.weight
-            || (self.weight == other.weight
-                && (self.a < other.a || (self.a == other.a && self.b < other.b)))
+        self < other
     }
 }

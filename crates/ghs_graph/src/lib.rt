@@ -1,4 +1,4 @@
-//! Graphs with ports, and their minimum spanning trees.
+//! Graphs with ports, and their minimum spanning forests.
 #![tactic(auto)]
 
 pub mod bounds;

@@ -1,20 +1,50 @@
 //! What the links of a graph join, and by which of them.
-ghost use Rattle.std.specs.Prelude.{◌≡◌, ◌≢◌, ◌<◌, ◌≤◌, ◌+◌, length, slice_index, IfOk, MatchOption};
-ghost use Rattle.ghs_graph.specs.Links.{AreAmong, IsRising, IsTree, AllJoined, IsLeastApart};
-ghost use Rattle.ghs_graph.specs.Spanning.{AreTold, AreAlikeBelow};
+ghost use Rattle.std.specs.Prelude.{◌≡◌, ◌<◌, ◌≤◌, ◌+◌, ℕ, List, [], ◌∷◌, ◌++◌, length, map, IfOk};
+ghost use Rattle.ghs_graph.specs.declared.key.Key.{Key};
+ghost use Rattle.ghs_graph.specs.Key.{key_of};
+ghost use Rattle.ghs_graph.specs.Links.{AllBelow, AreAmong, IsRising, IsTree};
+ghost use Rattle.ghs_graph.specs.Spanning.{AreTold, IsSpanned};
 
 use crate::classes::Classes;
 use crate::key::Key;
+use crate::triples::key_of;
+use ghs_gr::raw_graph::RawGraph;
 use std::alloc::{AllocError, Global};
 
-/// The classes of nodes that links join, and the minimum spanning tree of the links. 0 is in a class of its own.
+/// The classes of nodes that links join, and the links' minimum spanning forest. 0 is in a class of its own.
 #[derive(Debug, Drop)]
 pub struct Spanning {
     pub classes: Classes,
     pub tree: Vec<Key>,
 }
 
-/// Takes the links in key order, each into the tree that joins two classes.
+impl Spanning {
+    // No links yet, and room for the forest of so many.
+    fn fresh(alloc: Global, nodes: u32, links: usize) -> Result<Spanning, AllocError>
+        requires { nodes ≤ 1048576 }
+        ensures { IfOk result (λ s. IsSpanned nodes [] s.classes s.tree.items) }
+    {
+        let classes = Classes::fresh(alloc, nodes + 1)?;
+        let tree = Vec::with_capacity(alloc, links.min(nodes as usize))?;
+        Ok(Spanning { classes, tree })
+    }
+
+    // One more link, whose key is above those of all before: the forest takes it if it joins two classes.
+    #[inline]
+    fn take(&mut self, key: Key) -> Result<(), AllocError>
+        requires a { key.a < length self.old.classes }
+        requires b { key.b < length self.old.classes }
+        ensures { IfOk result (λ _. (n : ℕ) (ks : List Key) → AllBelow ks key → IsSpanned n ks self.old.classes self.old.tree.items → IsSpanned n (ks ++ key ∷ []) self.new.classes self.new.tree.items) }
+    {
+        if self.classes.label(key.a) != self.classes.label(key.b) {
+            self.classes.unite(key.a, key.b);
+            self.tree.push(key)?;
+        }
+        Ok(())
+    }
+}
+
+/// Takes the links in key order, each into the forest that joins two classes.
 pub fn span(alloc: Global, nodes: u32, keys: &[Key]) -> Result<Spanning, AllocError>
     requires rising { IsRising keys.now }
     requires among { AreAmong nodes keys.now }
@@ -23,29 +53,21 @@ pub fn span(alloc: Global, nodes: u32, keys: &[Key]) -> Result<Spanning, AllocEr
     ensures told { IfOk result (λ s. AreTold s.classes keys.now) }
     ensures tree { IfOk result (λ s. IsTree keys.now s.tree.items) }
 {
-    let mut classes = Classes::fresh(alloc, nodes + 1)?;
-    let mut tree = Vec::new(alloc);
+    let mut spanning = Spanning::fresh(alloc, nodes, keys.len())?;
     for key in keys {
-        if classes.label(key.a) != classes.label(key.b) {
-            classes.unite(key.a, key.b);
-            tree.push(*key)?;
-        }
+        spanning.take(*key)?;
     }
-    Ok(Spanning { classes, tree })
+    Ok(spanning)
 }
 
-/// The least number from 1 to `nodes` that isn't in the class of 1, if there is one.
-pub fn least_apart(classes: &Classes, nodes: u32) -> Option<u32>
-    requires some { 1 ≤ nodes }
-    requires nodes { nodes ≤ 1048576 }
-    requires count { length classes.now ≡ nodes + 1 }
-    ensures { MatchOption result (AreAlikeBelow classes.now (nodes + 1)) (λ v. (1 ≤ v) × (v ≤ nodes) × (slice_index classes.now 1 ≢ slice_index classes.now v) × AreAlikeBelow classes.now v) }
+/// The same of the graph of a text, whose keys aren't copied.
+pub fn span_raw(alloc: Global, raw: &RawGraph) -> Result<Spanning, AllocError>
+    ensures { IfOk result (λ s. IsSpanned raw.now.nodes (map key_of raw.now.keys) s.classes s.tree.items) }
 {
-    let first = classes.label(1);
-    for v in 1..nodes + 1 {
-        if first != classes.label(v) {
-            return Some(v);
-        }
+    let keys = raw.keys();
+    let mut spanning = Spanning::fresh(alloc, raw.nodes(), keys.len())?;
+    for triple in keys {
+        spanning.take(key_of(*triple))?;
     }
-    None
+    Ok(spanning)
 }

@@ -4,7 +4,6 @@ ghost use Rattle.ghs_gr.specs.RawGraph.{IsRawGraph};
 
 use crate::bounds::{bound, floor_log2};
 use crate::graph::Graph;
-use crate::graph_fault::GraphFault;
 use crate::key::Key;
 use crate::port::Port;
 use crate::tree::{tree_of, tree_slow};
@@ -80,22 +79,34 @@ fn triangle(rt: HostRuntime) -> Result<(), Fail> {
 fn equal_weights(rt: HostRuntime) -> Result<(), Fail> {
     let alloc = rt.alloc();
     let raw = raw(alloc, 3, &[(4, 1, 2), (4, 1, 3), (4, 2, 3)])?;
+    let (least, middle, greatest) = (key(4, 1, 2), key(4, 1, 3), key(4, 2, 3));
+    // Each two of the links join all nodes, and weigh as much.
+    for (one, other) in [(least, middle), (least, greatest), (middle, greatest)] {
+        assert_eq!(rt; u64::from(one.weight) + u64::from(other.weight), 8);
+    }
     let tree = tree_of(alloc, &raw)?;
-    assert_eq!(rt; tree.as_slice(), [key(4, 1, 2), key(4, 1, 3)].as_slice());
+    assert_eq!(rt; tree.as_slice(), [least, middle].as_slice());
     Ok(())
 }
 
 #[test]
 fn two_pieces(rt: HostRuntime) -> Result<(), Fail> {
     let alloc = rt.alloc();
-    let raw = raw(alloc, 4, &[(5, 1, 2), (6, 3, 4)])?;
-    assert_eq!(rt;
-        tree_of(alloc, &raw).err(),
-        Some(GraphFault::Disconnected(3))
-    );
-    let (back, fault) = Graph::build(alloc, raw).err().ok_or("accepted")?;
-    assert_eq!(rt; fault, GraphFault::Disconnected(3));
-    assert_eq!(rt; back.nodes(), 4);
-    assert_eq!(rt; back.keys(), [(5, 1, 2), (6, 3, 4)].as_slice());
+    let raw = raw(alloc, 5, &[(5, 1, 2), (6, 3, 4)])?;
+    let both = [key(5, 1, 2), key(6, 3, 4)];
+    assert_eq!(rt; tree_of(alloc, &raw)?.as_slice(), both.as_slice());
+    let graph = Graph::build(alloc, raw).ok().ok_or("refused")?;
+    assert_eq!(rt; tree_slow(alloc, &graph)?.as_slice(), both.as_slice());
+    assert_eq!(rt; graph.components(), 3);
+    assert_eq!(rt; graph.nodes(), 5);
+    let roots = [1, 1, 3, 3, 5];
+    for v in 1..6u32 {
+        assert_eq!(rt; graph.root(v), roots[v as usize - 1], "of {v}");
+    }
+    let copy = graph.copy(alloc)?;
+    assert!(rt; copy.same(&graph));
+    assert_eq!(rt; copy.components(), 3);
+    assert_eq!(rt; copy.nodes(), 5);
+    assert_eq!(rt; copy.root(4), 3);
     Ok(())
 }

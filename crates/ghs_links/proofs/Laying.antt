@@ -6,7 +6,7 @@ use Rattle.std.proofs.lemmas.List.Sums.{sum_by-cons}
 use Rattle.std.specs.List.{sum_by}
 use Rattle.ghs_graph.specs.Graph.{Shape, IsGraph}
 use Rattle.ghs_graph.specs.Ports.{ports_of}
-use Rattle.ghs_graph.proofs.Wiring.{length-ports_of, degree-le-length}
+use Rattle.ghs_graph.proofs.lemmas.Ports.{length-ports_of, degree-le-length}
 use Rattle.ghs_links.specs.Queue.{QueueState}
 use Rattle.ghs_links.specs.Links.{HasQueue, IsPort, IsFor}
 use Rattle.ghs_links.specs.Kept.{AreBlocks, EachEmpty, IsKept}

@@ -8,7 +8,7 @@ use Rattle.std.proofs.Math.Seq.{take-append_seam}
 use Rattle.ghs_graph.specs.Graph.{Shape}
 use Rattle.ghs_graph.specs.Ports.{ports_of, HasPort}
 use Rattle.ghs_graph.specs.Layout.{no_port}
-use Rattle.ghs_graph.proofs.Wiring.{ports_end_elsewhere, ports_lead_back}
+use Rattle.ghs_graph.proofs.lemmas.Ports.{ports_end_elsewhere, ports_lead_back}
 use Rattle.ghs_links.specs.Queue.{QueueState, no_queue}
 use Rattle.ghs_links.specs.Links.{LinksState, HasQueue, IsPort, IsFor, KeepsLists, port_of, start_of}
 use Rattle.ghs_links.specs.Kept.{IsKept, KeepsEach, LeadsAmong}

@@ -1,5 +1,5 @@
 -- What an act leaves at the two sides of each link.
-use Rattle.std.proofs.Common.{◌≡◌, ◌≢◌, ℕ, ◌≤◌, length, refl, sym, ◌∙◌, ap, ap₂, subst, subst₂, ⊎_elim}
+use Rattle.std.proofs.Common.{◌≡◌, ◌≢◌, ℕ, ◌≤◌, sym, ◌∙◌, ap, subst, subst₂, ⊎_elim}
 use Rattle.std.proofs.lemmas.Bool.{cases_eq}
 use Rattle.ghs_node.specs.declared.message.Message.{Message}
 use Rattle.ghs_node.specs.Words.{Outgoing}
@@ -7,9 +7,6 @@ use Rattle.ghs_protocol.specs.Network.{Network, far, far_port, At, IsWired}
 use Rattle.ghs_protocol.specs.Net.{put}
 use Rattle.ghs_protocol.specs.Steps.{sent_on}
 use Rattle.ghs_protocol.specs.Acts.{add_all, Places, Side, side, acts}
-use Rattle.ghs_protocol.specs.Tallies.{sum_over_links, IsTally}
-use Rattle.ghs_protocol.specs.Ledger.{sum_below}
-use Rattle.ghs_protocol.proofs.Sums.{sum_same}
 use Rattle.ghs_protocol.proofs.Updates.{put_same, put_other}
 use Rattle.ghs_protocol.proofs.Wires.{no_loop, neighbour}
 use Rattle.ghs_protocol.proofs.Pushes.{pushed, unpushed}
@@ -71,25 +68,3 @@ module _ (g : Network) (wired : IsWired g) where
         ((i : ℕ) → At g u i → P (near_side i) (across_side i)) → ((i : ℕ) → At g u i → P (across_side i) (near_side i)) → (v p : ℕ) →
         At g v p → P (side w' v p) (side w' (far g v p) (far_port g v p))
     acts_keeps P before near away = acts_at (λ v p. P) (λ v p at ne ne'. before v p at) near away
-
-    -- a number that each node keeps for all its links stays their sum, where it does at u, and u's acting changes no neighbour's term
-    pub acts_tally : (c : X → ℕ) (o : Side X Q → Side X Q → ℕ) → IsTally g c o w →
-        ((i : ℕ) → At g u i → o (across_side i) (near_side i) ≡ o (side w (far g u i) (far_port g u i)) (side w u i)) →
-        c x ≡ sum_below (length (g.ports u)) (λ i. o (near_side i) (across_side i)) → IsTally g c o w'
-    acts_tally c o before keeps now v vlo vhi = ⊎_elim here away (cases_eq v u)
-      where
-        here : v ≡ u → c (w'.at v) ≡ sum_over_links g o w' v
-        here e =
-            subst (λ y. c (w'.at y) ≡ sum_over_links g o w' y) (sym e)
-            (ap c (put_same w.at u x) ∙ now ∙ sym (sum_same (length (g.ports u)) _ _ (λ p lt. ap₂ o (here_side p) (far_side p (record { some = lo; node = hi; port = lt })))))
-
-        others : (a p : ℕ) → At g a p → a ≢ u → o (side w' a p) (side w' (far g a p) (far_port g a p)) ≡ o (side w a p) (side w (far g a p) (far_port g a p))
-        others =
-            acts_at (λ a p s t. a ≢ u → o s t ≡ o (side w a p) (side w (far g a p) (far_port g a p))) (λ a p at ne ne' x. refl)
-            (λ i at ne. absurd (ne refl))
-            (λ i at ne. keeps i at ∙ sym (ap (o (side w (far g u i) (far_port g u i))) (ap₂ (side w) (wired.back u i at) (wired.back_port u i at))))
-
-        away : v ≢ u → c (w'.at v) ≡ sum_over_links g o w' v
-        away ne =
-            ap c (put_other w.at u v x ne) ∙ before v vlo vhi
-            ∙ sym (sum_same (length (g.ports v)) _ _ (λ p lt. others v p (record { some = vlo; node = vhi; port = lt }) ne))

@@ -15,7 +15,7 @@ use Rattle.ghs_protocol.specs.Network.{network_of, no_port, port_at, far, far_po
 use Rattle.ghs_protocol.specs.Nodes.{HasFewPorts}
 
 module _ (g : Shape) (ok : IsGraph g) where
-  has_port : (v p : ℕ) → At (network_of g) v p → HasPort g.keys v p (port_at (network_of g) v p)
+  pub has_port : (v p : ℕ) → At (network_of g) v p → HasPort g.keys v p (port_at (network_of g) v p)
   has_port v p at = slice_get-get_or (ports_of g.keys v) p no_port at.port
 
   -- the port across
@@ -50,7 +50,7 @@ module _ (g : Shape) (ok : IsGraph g) where
   port_is : (v p : ℕ) → At (network_of g) v p → port_at (network_of g) v p ≡ port_on g.keys v (port_at (network_of g) v p).key
   port_is v p at = let o = on_key v p at in o.port ∙ ap (port_on g.keys v) (sym (ap (λ (x : Port). x.key) o.port))
 
-  is_key : (v p : ℕ) → At (network_of g) v p → Contains g.keys (port_at (network_of g) v p).key
+  pub is_key : (v p : ℕ) → At (network_of g) v p → Contains g.keys (port_at (network_of g) v p).key
   is_key v p at = let o = on_key v p at in (o.at, o.within, get_or_default g.keys o.at _ no_key o.within ∙ sym (ap (λ (x : Port). x.key) o.port))
 
   ordered : (v p : ℕ) → At (network_of g) v p → (port_at (network_of g) v p).key.a < (port_at (network_of g) v p).key.b

@@ -1,4 +1,6 @@
 mod Examples
+mod Inhabited
+mod LivingExamples
 mod InterleavingExamples
 pub mod Invariant
 pub mod Results
@@ -14,6 +16,7 @@ pub mod Waking
 pub mod Acts
 pub mod Ends
 pub mod Sums
+pub mod Degrees
 pub mod Waits
 pub mod WellFormed
 pub mod Balance
@@ -28,3 +31,7 @@ pub mod Rejecting
 pub mod Bounds
 pub mod Connects
 pub mod Choosing
+pub mod Awaiting
+pub mod Requeues
+pub mod Finishing
+pub mod Rounds

@@ -1,7 +1,8 @@
 -- What holds however the events of a run interleave, as one fact a law.
-use Rattle.std.specs.Prelude.{◌≡◌, ◌≢◌, ℕ, ◌≤◌, ◌^◌, true, List, ◌∷◌, length, IsSome}
-use Rattle.std.specs.List.{All, AllPairs}
-use Rattle.ghs_graph.specs.Graph.{Shape}
+use Rattle.std.specs.Prelude.{◌≡◌, ◌≢◌, ◌↔◌, ℕ, ◌+◌, ◌*◌, ◌≤◌, ◌^◌, true, List, ◌∷◌, length, IsSome, Some}
+use Rattle.std.specs.List.{All, AllPairs, Contains}
+use Rattle.ghs_graph.specs.Bound.{IsBound, IsFloorLog2}
+use Rattle.ghs_graph.specs.Graph.{Shape, IsGraph}
 use Rattle.ghs_node.specs.declared.mark.Mark.TheVariants.{Rejected}
 use Rattle.ghs_node.specs.NodeState.{mark_at}
 use Rattle.ghs_node.specs.declared.message.Message.{Message}
@@ -11,8 +12,13 @@ use Rattle.ghs_node.specs.declared.work.Work.TheVariants.{Wake, Deliver}
 use Rattle.ghs_node.specs.Reaction.{reaction}
 use Rattle.ghs_protocol.specs.declared.event.Event.{Event}
 use Rattle.ghs_protocol.specs.Network.{Network, network_of, At, far}
-use Rattle.ghs_protocol.specs.Net.{Net, is_lawful, effect}
-use Rattle.ghs_protocol.specs.Marks.{InOneFragment}
+use Rattle.ghs_protocol.specs.Net.{Net, opening, is_lawful, effect}
+use Rattle.ghs_graph.specs.declared.key.Key.{Key}
+use Rattle.ghs_graph.specs.Links.{Joined, links, InTree}
+use Rattle.ghs_protocol.specs.Marks.{InOneFragment, IsBranchLink, IsRejectedLink, IsJoinedLink, HasHalted, HasEnded}
+use Rattle.ghs_protocol.specs.Ledger.{in_all}
+use Rattle.ghs_protocol.specs.Payments.{LevelPays, added_up, port_pays}
+use Rattle.ghs_protocol.specs.Run.{IsAfter}
 use Rattle.ghs_protocol.specs.Laws.{IsNetOf, IsLater}
 
 -- at least n numbers have P: they stand in a list, each once
@@ -46,3 +52,43 @@ pub data Asks (g : Network) (w : Net) : ℕ → Work → Type 0 where
 -- a node's reaction to what a lawful event gives it to do is never missing
 abbrev pub WorkHasReaction : Type 0
 WorkHasReaction = (g : Shape) (w : Net) → IsNetOf g w → (v : ℕ) (k : Work) → Asks (network_of g) w v k → IsSome (reaction (w.node v) k)
+
+-- each Branch link is one of the minimum spanning forest
+abbrev pub BranchLinksInTree : Type 0
+BranchLinksInTree = (g : Shape) (w : Net) → IsNetOf g w → (k : Key) → IsBranchLink (network_of g) w k → InTree g.keys k
+
+-- and no Rejected link is
+abbrev pub RejectedLinksAside : Type 0
+RejectedLinksAside = (g : Shape) (w : Net) → IsNetOf g w → (k : Key) → IsRejectedLink (network_of g) w k → InTree g.keys k → ⊥
+
+-- where a node has halted, the links of the tree in its component are Branch at both ends, and no other link there is Branch
+abbrev pub HaltIsExact : Type 0
+HaltIsExact =
+    (g : Shape) (w : Net) → IsNetOf g w → (v : ℕ) → 1 ≤ v → v ≤ g.nodes → HasHalted w v → (k : Key) → Contains g.keys k → Joined (links g.keys) v k.a →
+    (InTree g.keys k → IsJoinedLink (network_of g) w k) × (IsBranchLink (network_of g) w k → InTree g.keys k × IsJoinedLink (network_of g) w k)
+
+-- where a run has ended, the Branch links are those of the minimum spanning forest, and they are Branch at both ends
+abbrev pub EndIsTree : Type 0
+EndIsTree =
+    (g : Shape) (w : Net) → IsNetOf g w → HasEnded g w → (k : Key) →
+    (IsBranchLink (network_of g) w k ↔ InTree g.keys k) × (InTree g.keys k → IsJoinedLink (network_of g) w k)
+
+-- no run sends more messages than the bound
+abbrev pub SendsWithinBound : Type 0
+SendsWithinBound = (g : Shape) (w : Net) → IsNetOf g w → (b : ℕ) → IsBound g.nodes (length g.keys) b → in_all w.sent ≤ b
+
+-- where a graph has more than one node, it is less by twice the nodes
+abbrev pub SendsWithinSharpBound : Type 0
+SendsWithinSharpBound = (g : Shape) (w : Net) → IsNetOf g w → (b : ℕ) → 2 ≤ g.nodes → IsBound g.nodes (length g.keys) b → in_all w.sent + 2 * g.nodes ≤ b
+
+-- each level of a node pays for one message of each sort at most
+abbrev pub LevelsPayOnce : Type 0
+LevelsPayOnce =
+    (g : Shape) (es : List Event) (w : Net) → IsGraph g → IsAfter (network_of g) es w → (k : ℕ) → IsFloorLog2 g.nodes k → (v : ℕ) → 1 ≤ v → v ≤ g.nodes → (l : ℕ) →
+    LevelPays (network_of g) k es w v l
+
+-- each direction of a link pays once at most, and not while it is being tested
+abbrev pub PortsPayOnce : Type 0
+PortsPayOnce =
+    (g : Shape) (es : List Event) (w : Net) → IsGraph g → IsAfter (network_of g) es w → (k : ℕ) → IsFloorLog2 g.nodes k → (v p : ℕ) → At (network_of g) v p →
+    (added_up (port_pays v p) (network_of g) es (opening (network_of g)) ≤ 1) × ((w.node v).head.probe ≡ Some p → added_up (port_pays v p) (network_of g) es (opening (network_of g)) ≡ 0)

@@ -10,3 +10,6 @@ pub mod Rest
 pub mod Whole
 pub mod Wiring
 pub mod Uniting
+pub mod Lives
+pub mod Floors
+pub mod Charges

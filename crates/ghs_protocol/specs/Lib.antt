@@ -8,8 +8,9 @@ pub mod Steps
 pub mod Nodes
 pub mod Acts
 pub mod Ends
-pub mod Tallies
 pub mod Lasting
 pub mod Laws
+pub mod Payments
 pub mod Interleavings
 pub mod Connects
+pub mod Living

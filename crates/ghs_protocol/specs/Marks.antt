@@ -1,6 +1,8 @@
 -- Links by their marks, fragments, and the halt.
-use Rattle.std.specs.Prelude.{◌≡◌, ℕ, true}
+use Rattle.std.specs.Prelude.{◌≡◌, ℕ, ◌≤◌, true}
 use Rattle.ghs_graph.specs.declared.key.Key.{Key}
+use Rattle.ghs_graph.specs.Graph.{Shape}
+use Rattle.ghs_graph.specs.Links.{Joined, links}
 use Rattle.ghs_node.specs.declared.mark.Mark.TheVariants.{Branch, Rejected}
 use Rattle.ghs_node.specs.NodeState.{mark_at}
 use Rattle.ghs_protocol.specs.Network.{Network, At, port_at, far, far_port}
@@ -35,6 +37,6 @@ InOneFragment g w v u = Leads g (IsJoined g w) v u
 abbrev pub HasHalted : Net → ℕ → Type 0
 HasHalted w v = (w.node v).head.halted ≡ true
 
--- the run has ended: a core node has halted
-abbrev pub HasEnded : Net → Type 0
-HasEnded w = (v : ℕ) × HasHalted w v
+-- the run has ended: with each node a core node is joined that has halted
+abbrev pub HasEnded : Shape → Net → Type 0
+HasEnded g w = (v : ℕ) → 1 ≤ v → v ≤ g.nodes → (u : ℕ) × (1 ≤ u) × (u ≤ g.nodes) × Joined (links g.keys) v u × HasHalted w u

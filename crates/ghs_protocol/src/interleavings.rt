@@ -1,5 +1,6 @@
 //! What holds in every run of every graph, however its events interleave. Each law is a function that does nothing.
-ghost use Rattle.ghs_protocol.specs.Interleavings.{FragmentsAreLarge, RejectedLinksInside, RejectedMarksStay, EventsHaveRules, WorkHasReaction};
+ghost use Rattle.ghs_protocol.specs.Interleavings.{FragmentsAreLarge, RejectedLinksInside, RejectedMarksStay, EventsHaveRules, WorkHasReaction, BranchLinksInTree, RejectedLinksAside, HaltIsExact, EndIsTree, SendsWithinBound, SendsWithinSharpBound, LevelsPayOnce, PortsPayOnce};
+ghost use Rattle.ghs_protocol.specs.Living.{NodesAwait, RequeuesAreWaits, WaitingTakesTurn, SilenceIsEnd, NoRunIsStuck, EveryRunCanEnd, SilentNetsHaveEnded, SilentNetsAreExact, RunsAreShort, FairRunsEnd};
 
 /// The fragment of a node of level L has at least 2^L nodes.
 pub fn law_fragment_sizes()
@@ -24,4 +25,94 @@ pub fn law_rules()
 /// A node's reaction to what a lawful event gives it to do is never missing.
 pub fn law_reactions()
     ensures { WorkHasReaction }
+{}
+
+/// Who searches waits for a Report or an answer; who is awake without ports has halted.
+pub fn law_awaits()
+    ensures { NodesAwait }
+{}
+
+/// Each Branch link lies in the minimum spanning forest.
+pub fn law_branch_links()
+    ensures { BranchLinksInTree }
+{}
+
+/// No Rejected link lies in the minimum spanning forest.
+pub fn law_rejected_not_tree()
+    ensures { RejectedLinksAside }
+{}
+
+/// Where a node has halted, the Branch links of its component are the tree's, and are Branch at both ends.
+pub fn law_halt()
+    ensures { HaltIsExact }
+{}
+
+/// Where a run has ended, the Branch links are those of the minimum spanning forest, and are Branch at both ends.
+pub fn law_tree()
+    ensures { EndIsTree }
+{}
+
+/// In a set of nodes that no link leaves, one of them awake, either a message waits or one has halted.
+pub fn law_silence()
+    ensures { SilenceIsEnd }
+{}
+
+/// In such a set where none has halted a message can be taken that isn't put back, behind one that is at most.
+pub fn law_progress()
+    ensures { NoRunIsStuck }
+{}
+
+/// A node that is awake puts a message back just where it waits.
+pub fn law_requeues()
+    ensures { RequeuesAreWaits }
+{}
+
+/// Taking a message that waits turns its queue, and does nothing else.
+pub fn law_turns()
+    ensures { WaitingTakesTurn }
+{}
+
+/// Each run can be brought to its end, by at most twice as many Takes as the bound on messages and the nodes together.
+pub fn law_finish()
+    ensures { EveryRunCanEnd }
+{}
+
+/// Where no message waits, links lead from each node that is awake to one that has halted.
+pub fn law_silent()
+    ensures { SilentNetsHaveEnded }
+{}
+
+/// There the Branch links of such a node's component are the tree's, and are Branch at both ends.
+pub fn law_silent_exact()
+    ensures { SilentNetsAreExact }
+{}
+
+/// A run has at most as many events as messages sent, requeues and nodes together.
+pub fn law_lengths()
+    ensures { RunsAreShort }
+{}
+
+/// As many rounds as the bound on messages and the nodes together end each run; in a round each queue has two turns, and anything else may happen.
+pub fn law_rounds()
+    ensures { FairRunsEnd }
+{}
+
+/// No run sends more messages than twice the links and five times the nodes times their floor of log2.
+pub fn law_bound()
+    ensures { SendsWithinBound }
+{}
+
+/// Where there is more than one node, the bound is met with twice the nodes to spare.
+pub fn law_sharp_bound()
+    ensures { SendsWithinSharpBound }
+{}
+
+/// Each level of a node pays at most once for a Connect or ChangeRoot, a Report, an Initiate and an Accept; level 0 for a Connect alone, the highest for a Report and an Initiate alone.
+pub fn law_levels_pay()
+    ensures { LevelsPayOnce }
+{}
+
+/// Each direction of a link pays at most once, for a Reject or for a Test that ended without an Accept, and not while it is being tested.
+pub fn law_ports_pay()
+    ensures { PortsPayOnce }
 {}

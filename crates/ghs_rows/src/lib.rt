@@ -4,6 +4,8 @@
 #[cfg(test)]
 mod devices;
 #[cfg(test)]
+mod graphs;
+#[cfg(test)]
 mod nets;
 #[cfg(test)]
 mod queues;

@@ -10,22 +10,27 @@ use std::alloc::Global;
 use std::process::Abort;
 use std::test::Fail;
 
+const SINGLE: &str = "p sp 1 0";
+
 const PAIR: &str = "p sp 2 1\na 1 2 5";
 
 const PATH: &str = "p sp 3 2\na 1 2 5\na 2 3 7";
 
 const TRIANGLE: &str = "p sp 3 3\na 1 2 1\na 2 3 2\na 1 3 3";
 
+/// All weights are equal: the smaller ends decide.
+const ALIKE: &str = "p sp 3 3\na 1 2 4\na 2 3 4\na 1 3 4";
+
 const TWO_PAIRS: &str = "p sp 4 3\na 1 2 1\na 3 4 2\na 2 3 3";
 
 const FIVE: &str = "p sp 5 4\na 1 2 1\na 2 3 2\na 4 5 3\na 3 4 4";
 
+const FORKED: &str = "p sp 5 4\na 1 2 1\na 3 4 2\na 2 3 5\na 2 5 9";
+
 /// The opening net of the graph of a text.
 fn net_of(rt: &impl Abort, alloc: Global, text: &str) -> Net {
     let raw = judge(alloc, text.as_bytes()).ok().expect(rt, "a graph");
-    let graph = Graph::build(alloc, raw)
-        .ok()
-        .expect(rt, "a connected graph");
+    let graph = Graph::build(alloc, raw).ok().expect(rt, "ports");
     Net::open(alloc, graph).ok().expect(rt, "a net")
 }
 
@@ -80,21 +85,46 @@ fn greatest_level(rt: &impl Abort, alloc: Global, net: &Net, nodes: u32) -> u8 {
     greatest
 }
 
+/// How many messages were sent.
+fn sent_in(net: &Net) -> u64 {
+    let mut total = 0u64;
+    for count in net.ledger().sent {
+        total = total.saturating_add(count);
+    }
+    total
+}
+
+/// A graph, and what is known of all its runs.
+#[derive(Clone, Copy)]
+struct Example {
+    text: &'static str,
+    nodes: u32,
+    // The greatest level at the end.
+    level: u8,
+    // The most messages that a run sends: twice the links, and 5K - 2 for each node, where 2^K is at most the number of nodes.
+    most: u64,
+    // The links of the tree: weight, smaller end, larger end.
+    tree: &'static [(u32, u32, u32)],
+}
+
 /// Plays an event if it is lawful.
-fn try_to_play(rt: &impl Abort, alloc: Global, net: &mut Net, nodes: u32, event: Event) {
+fn try_to_play(rt: &impl Abort, alloc: Global, net: &mut Net, example: &Example, event: Event) {
     if halted_in(net).is_none() && is_lawful(net, event) {
         play(rt, alloc, net, event);
-        let _ = greatest_level(rt, alloc, net, nodes);
+        let _ = greatest_level(rt, alloc, net, example.nodes);
+        assert!(rt; sent_in(net) <= example.most);
     }
 }
 
 /// Serves all nodes in turn, each with its wake and its ports in turn, until a core node halts.
-fn run_in_turn(rt: &impl Abort, alloc: Global, net: &mut Net, nodes: u32) {
+fn run_in_turn(rt: &impl Abort, alloc: Global, net: &mut Net, example: &Example) {
     for _ in 0..100 {
-        for v in 0..nodes {
-            try_to_play(rt, alloc, net, nodes, Event::Wake(v + 1));
-            for port in 0..nodes {
-                try_to_play(rt, alloc, net, nodes, Event::Take(v + 1, port));
+        for v in 0..example.nodes {
+            if v < u32::MAX {
+                try_to_play(rt, alloc, net, example, Event::Wake(v + 1));
+                for port in 0..example.nodes {
+                    try_to_play(rt, alloc, net, example, Event::Take(v + 1, port));
+                }
             }
         }
     }
@@ -167,22 +197,154 @@ fn path(rt: HostRuntime) {
 }
 
 #[test]
-fn fragments(rt: HostRuntime) {
+fn runs_in_turn(rt: HostRuntime) {
     let alloc = rt.alloc();
-    for (text, nodes, level) in [(TRIANGLE, 3, 1), (TWO_PAIRS, 4, 2), (FIVE, 5, 2)] {
-        let mut net = net_of(&rt, alloc, text);
-        run_in_turn(&rt, alloc, &mut net, nodes);
-        assert_eq!(rt; greatest_level(&rt, alloc, &net, nodes), level);
+    let examples = [
+        Example {
+            text: SINGLE,
+            nodes: 1,
+            level: 0,
+            most: 0,
+            tree: &[],
+        },
+        Example {
+            text: PAIR,
+            nodes: 2,
+            level: 1,
+            most: 8,
+            tree: &[(5, 1, 2)],
+        },
+        Example {
+            text: PATH,
+            nodes: 3,
+            level: 1,
+            most: 13,
+            tree: &[(5, 1, 2), (7, 2, 3)],
+        },
+        Example {
+            text: TRIANGLE,
+            nodes: 3,
+            level: 1,
+            most: 15,
+            tree: &[(1, 1, 2), (2, 2, 3)],
+        },
+        Example {
+            text: ALIKE,
+            nodes: 3,
+            level: 1,
+            most: 15,
+            tree: &[(4, 1, 2), (4, 1, 3)],
+        },
+        Example {
+            text: TWO_PAIRS,
+            nodes: 4,
+            level: 2,
+            most: 38,
+            tree: &[(1, 1, 2), (2, 3, 4), (3, 2, 3)],
+        },
+        Example {
+            text: FIVE,
+            nodes: 5,
+            level: 2,
+            most: 48,
+            tree: &[(1, 1, 2), (2, 2, 3), (3, 4, 5), (4, 3, 4)],
+        },
+        Example {
+            text: FORKED,
+            nodes: 5,
+            level: 2,
+            most: 48,
+            tree: &[(1, 1, 2), (2, 3, 4), (5, 2, 3), (9, 2, 5)],
+        },
+    ];
+    for example in examples {
+        let mut net = net_of(&rt, alloc, example.text);
+        run_in_turn(&rt, alloc, &mut net, &example);
+        assert_eq!(rt;
+            greatest_level(&rt, alloc, &net, example.nodes),
+            example.level
+        );
         let (_, fragment) = fragment_of(&rt, alloc, &net, 1);
-        assert_eq!(rt; fragment.len(), nodes as usize);
+        assert_eq!(rt; fragment.len().checked_sub(1), Some(example.tree.len()));
+        let links = branches_of(&rt, alloc, &net);
+        assert_eq!(rt; links.len(), example.tree.len());
+        for (link, (weight, a, b)) in links.iter().zip(example.tree) {
+            assert_eq!(rt; (link.weight, link.a, link.b), (*weight, *a, *b));
+        }
     }
+}
+
+/// What changes when an event is played: messages consumed, and messages put back.
+fn fates_of(rt: &impl Abort, alloc: Global, net: &mut Net, event: Event) -> (bool, bool) {
+    let before = net.ledger();
+    play(rt, alloc, net, event);
+    let after = net.ledger();
+    (
+        after.consumed != before.consumed,
+        after.requeued != before.requeued,
+    )
+}
+
+// A message that comes to a sleeping node is put back, and yet the run has moved on: the node is awake.
+#[test]
+fn a_message_put_back_at_a_sleeper(rt: HostRuntime) {
+    let alloc = rt.alloc();
+    let mut net = net_of(&rt, alloc, "p sp 3 2\na 1 2 5\na 2 3 4");
+    play(&rt, alloc, &mut net, Event::Wake(1));
+    assert!(rt; is_lawful(&net, Event::Wake(2)));
+    assert_eq!(rt;
+        fates_of(&rt, alloc, &mut net, Event::Take(2, 1)),
+        (false, true)
+    );
+    assert!(rt; !is_lawful(&net, Event::Wake(2)));
+    assert_eq!(rt; sent_in(&net), 2);
+    assert_eq!(rt;
+        fates_of(&rt, alloc, &mut net, Event::Take(2, 1)),
+        (false, true)
+    );
+    assert_eq!(rt; sent_in(&net), 2);
+}
+
+// All first messages wait; behind one of them stands the message that moves the run on.
+#[test]
+fn all_first_messages_wait(rt: HostRuntime) {
+    let alloc = rt.alloc();
+    let mut net = net_of(&rt, alloc, "p sp 3 2\na 1 2 5\na 1 3 7");
+    let events = [
+        Event::Wake(1),
+        Event::Wake(3),
+        Event::Take(2, 0),
+        Event::Take(1, 0),
+        Event::Take(1, 0),
+        Event::Take(2, 0),
+        Event::Take(1, 1),
+    ];
+    for event in events {
+        play(&rt, alloc, &mut net, event);
+    }
+    // Node 1 waits for node 3, which holds its Test and behind it the Initiate; node 2's Report waits at node 1.
+    for (v, port) in [(1, 1), (2, 0)] {
+        assert!(rt; !is_lawful(&net, Event::Take(v, port)), "at {v}, {port}");
+    }
+    assert_eq!(rt;
+        fates_of(&rt, alloc, &mut net, Event::Take(1, 0)),
+        (false, true)
+    );
+    assert_eq!(rt;
+        fates_of(&rt, alloc, &mut net, Event::Take(3, 0)),
+        (false, true)
+    );
+    assert_eq!(rt;
+        fates_of(&rt, alloc, &mut net, Event::Take(3, 0)),
+        (true, false)
+    );
 }
 
 #[test]
 fn copies(rt: HostRuntime) -> Result<(), Fail> {
     let alloc = rt.alloc();
     let raw = judge(alloc, PATH.as_bytes()).ok().ok_or("a graph")?;
-    let graph = Graph::build(alloc, raw).ok().ok_or("a connected graph")?;
+    let graph = Graph::build(alloc, raw).ok().ok_or("ports")?;
     let copy = graph.copy(alloc)?;
     assert!(rt; graph.same(&copy));
     Ok(())

@@ -71,11 +71,6 @@ fn texts_of_line_faults(rt: HostRuntime) -> Result<(), Fail> {
             "line 7: number missing or out of range",
         ),
         (ServeFault::NodeRange(2), "line 2: no such node"),
-        (ServeFault::Loop(2), "line 2: arc from a node to itself"),
-        (
-            ServeFault::Repeat(3),
-            "line 3: second arc between two nodes",
-        ),
     ];
     for (fault, text) in rows {
         let said = fault.to_string(rt.alloc())?;
@@ -95,11 +90,6 @@ fn texts_of_other_faults(rt: HostRuntime) -> Result<(), Fail> {
             1,
         ),
         (ServeFault::TooLong, "input too long", 1),
-        (
-            ServeFault::Disconnected(3),
-            "node 3 is not joined to node 1",
-            1,
-        ),
         (ServeFault::Memory, "out of memory", 4),
         (ServeFault::Read, "input could not be read", 5),
         (

@@ -83,19 +83,19 @@ module _ (g : Network) (wired : IsWired g) (keyed : IsKeyed g) (u : ℕ) (lo : 1
   inside : Joins (tree_end (end g w u j)) (tree_end (over g w u j)) → IsJoinedIn g (forest w) u j
   inside h = record { here = ap is_branch h.here; there = ap is_branch h.there }
 
-  came : Came (tree_end (end g w u j)) (tree_end (over g w u j)) l ms
+  pub came : Came (tree_end (end g w u j)) (tree_end (over g w u j)) l ms
   came =
       came_in (tree_end (end g w u j)) (tree_end (over g w u j)) link.tree link'.tree (λ h. holds.trees.joined_lead u j at (inside h))
       (λ h. (holds.trees.by_fragment (far g u j) u (sym (holds.trees.joined_within u j at (inside h)))).0) l ms waits lower
 
-  below : (w.at (far g u j)).head.level < (w.at u).head.level
+  pub below : (w.at (far g u j)).head.level < (w.at u).head.level
   below = let z = came.level in omega (arith, z, lower)
 
   coming_low : (w.at (far g u j)).coming < (w.at u).coming
   coming_low = let a = came.under.level in let b = fits.lag.level in let c = below in omega (arith, a, b, c)
 
   -- the way to u's root is another port
-  way_not : (w.at u).up ≢ Some j
+  pub way_not : (w.at u).up ≢ Some j
   way_not e = let z = fits.points awake (omega (arith, at.port)) in came.mark (subst (λ y. (w.at u).mark y ≡ Branch) (same_Some z.port j (sym z.up ∙ e)) z.mark)
 
   back_mark : (w.at (far g (far g u j) (far_port g u j))).mark (far_port g (far g u j) (far_port g u j)) ≢ Branch
@@ -107,7 +107,7 @@ module _ (g : Network) (wired : IsWired g) (keyed : IsKeyed g) (u : ℕ) (lo : 1
   quiet_far : Quiet g w (w.at (far g u j)).fragment
   quiet_far = holds.resting.out (far g u j) (far_port g u j) at' (record { here = came.mark'; there = back_mark })
 
-  found_far : (w.at (far g u j)).head.phase ≡ Found
+  pub found_far : (w.at (far g u j)).head.phase ≡ Found
   found_far = quiet_far.found (far g u j) is' refl
 
   abbrev pub head' : Head

@@ -44,7 +44,7 @@ module _ (g : Network) (wired : IsWired g) where
     w' = acts g u x own ss w
 
     -- a fact of both ends, which may name the link's place
-    acts_read : (R : ℕ → ℕ → End → End → Type 0) →
+    pub acts_read : (R : ℕ → ℕ → End → End → Type 0) →
         ((v p : ℕ) → At g v p → v ≢ u → far g v p ≢ u → R v p (end g w v p) (end g w (far g v p) (far_port g v p))) →
         ((i : ℕ) → At g u i → R u i (near_end i) (across_end i)) → ((i : ℕ) → At g u i → R (far g u i) (far_port g u i) (across_end i) (near_end i)) →
         (v p : ℕ) → At g v p → R v p (end g w' v p) (end g w' (far g v p) (far_port g v p))

@@ -144,7 +144,7 @@ module _ (e f : TreeEnd) (finds : e.phase ≡ Find) where
       moved_root = λ c. absurd (unmoved (record { both = record { joins = j; up = up; up_beyond = c.both.up }; unnamed = λ z. c.unnamed (same ∙ z ∙ ap Some (sym keys)) }));
     }
 
-has_report_append : (xs : List Message) (k : Option Key) → has_report (xs ++ Report k ∷ []) ≡ true
+pub has_report_append : (xs : List Message) (k : Option Key) → has_report (xs ++ Report k ∷ []) ≡ true
 has_report_append [] k = refl
 has_report_append (Connect l ∷ xs) k = has_report_append xs k
 has_report_append (Initiate l f s ∷ xs) k = has_report_append xs k
@@ -184,22 +184,22 @@ module _ (g : Network) (wired : IsWired g) (u : ℕ) (lo : 1 ≤ u) (hi : u ≤ 
   abbrev pub facing : ℕ → End
   facing i = record { port = far_port g u i; key = (port_at g u i).key; mark = (w.at (far g u i)).mark (far_port g u i); is = w.at (far g u i); seen = w.seen (far g u i) (far_port g u i) }
 
-  top : (w.at u).head.level ≡ (w.at u).coming
+  pub top : (w.at u).head.level ≡ (w.at u).coming
   top = (fits'.searching finds).level
 
-  up : (w.at u).up ≡ Some j
+  pub up : (w.at u).up ≡ Some j
   up = let s = fits'.searching finds in s.up ∙ sym s.in_branch ∙ back
 
   branch : (w.at u).mark j ≡ Branch
   branch = let z = fits'.points (λ y. cc (finds, y)) (omega (arith, at.port)) in subst (λ y. (w.at u).mark y ≡ Branch) (same_Some z.port j (sym z.up ∙ up)) z.mark
 
-  busy : Quiet g w (w.at u).fragment → ⊥
+  pub busy : Quiet g w (w.at u).fragment → ⊥
   busy q = let z = q.found u (record { some = lo; node = hi }) refl in cc (z, finds)
 
-  joins' : Joins (tree_end (end g w u j)) (tree_end (facing j))
+  pub joins' : Joins (tree_end (end g w u j)) (tree_end (facing j))
   joins' = ⊎_elim (λ b. record { here = branch; there = b }) (λ b. absurd (busy (holds.resting.out u j at (record { here = branch; there = b })))) (mark_is ((w.at (far g u j)).mark (far_port g u j)))
 
-  unmoved' : Moved (tree_end (end g w u j)) (tree_end (facing j)) → ⊥
+  pub unmoved' : Moved (tree_end (end g w u j)) (tree_end (facing j)) → ⊥
   unmoved' m = busy (holds.resting.moved u j at (record { both = record { joins = record { here = m.both.joins.here; there = m.both.joins.there }; up = m.both.up; up_beyond = m.both.up_beyond }; unnamed = m.unnamed }))
 
   same_name : (w.at (far g u j)).coming_name ≡ (w.at u).coming_name
@@ -224,7 +224,7 @@ module _ (g : Network) (wired : IsWired g) (u : ℕ) (lo : 1 ≤ u) (hi : u ≤ 
     best_port = fits'.best_port;
   }
 
-  away : (i : ℕ) → i ≢ j → (w.at u).up ≢ Some i
+  pub away : (i : ℕ) → i ≢ j → (w.at u).up ≢ Some i
   away i ne e = ne (sym (same_Some j i (sym up ∙ e)))
 
   here' : ℕ → End

@@ -97,16 +97,17 @@ forwards_few q (Branch ∷ ms) j m =
     elim (q == j) as (λ b. length (if b then on_branches_from (suc q) ms j m else ((q, m) ∷ on_branches_from (suc q) ms j m)) ≤ suc (length ms))
     [ true ↦ omega (arith, z) | false ↦ omega (arith, z) ]
 
--- a sum of terms that are at most 1, one of them 0
-sum_lacks : (n j : ℕ) (f : ℕ → ℕ) → j < n → ((i : ℕ) → f i ≤ 1) → f j ≡ 0 → sum_below n f < n
+-- a sum of terms that are at most 1
+pub sum_ones : (n : ℕ) (f : ℕ → ℕ) → ((i : ℕ) → f i ≤ 1) → sum_below n f ≤ n
+sum_ones zero f most = omega arith
+sum_ones (suc n) f most = let z = sum_ones n f most in let y = most n in omega (arith, z, y)
+
+-- where one of them is 0
+pub sum_lacks : (n j : ℕ) (f : ℕ → ℕ) → j < n → ((i : ℕ) → f i ≤ 1) → f j ≡ 0 → sum_below n f < n
 sum_lacks zero j f lt most none = absurd (omega arith)
 sum_lacks (suc n) j f lt most none =
     ⊎_elim (λ (e : j ≡ n). let z = sum_ones n f most in let y : ◌≡◌ {A = ℕ} (f n) 0 = ap f (sym e) ∙ none in omega (arith, z, y))
     (λ ne. let z = sum_lacks n j f (omega arith) most none in let y = most n in omega (arith, z, y)) (cases_eq j n)
-  where
-    sum_ones : (n : ℕ) (f : ℕ → ℕ) → ((i : ℕ) → f i ≤ 1) → sum_below n f ≤ n
-    sum_ones zero f most = omega arith
-    sum_ones (suc n) f most = let z = sum_ones n f most in let y = most n in omega (arith, z, y)
 
 module _ (g : Network) (wired : IsWired g) (few : g.count ≤ 1048576) (v p : ℕ) (at : At g v p) (w : Net) (is : IsNodeOf g v (w.node v)) (gh : Ghost) (holds : Invariant g (world w gh)) where
   inside : InNetwork g v

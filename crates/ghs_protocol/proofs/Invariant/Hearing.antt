@@ -41,7 +41,7 @@ key_same : (p j : ℕ) (k l : Key) → ◌≡◌ {A = Best} (Some (p, k)) (Some 
 key_same p j k l e = key_Some k l (ap best_key e)
 
 -- the better one at a port
-better_at : (o : Best) (j : ℕ) (w : Option Key) (p : ℕ) (k : Key) → better o j w ≡ Some (p, k) → (o ≡ Some (p, k)) ⊎ ((p ≡ j) × (w ≡ Some k))
+pub better_at : (o : Best) (j : ℕ) (w : Option Key) (p : ℕ) (k : Key) → better o j w ≡ Some (p, k) → (o ≡ Some (p, k)) ⊎ ((p ≡ j) × (w ≡ Some k))
 better_at o j w p k e = ⊎_elim (λ z. inl (sym z ∙ e)) (λ t. let y : Some (p, k) ≡ Some (j, t.0) = sym e ∙ t.2 in inr (port_same p j k t.0 y, t.1 ∙ ap Some (sym (key_same p j k t.0 y)))) (better_is o j w)
 
 module _ (g : Network) (wired : IsWired g) (u : ℕ) (lo : 1 ≤ u) (hi : u ≤ g.count) (j : ℕ) (at : At g u j) (w : World) (holds : Invariant g w) where

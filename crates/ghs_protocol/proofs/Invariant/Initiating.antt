@@ -32,7 +32,7 @@ use Rattle.ghs_protocol.proofs.Invariant.Reports.{mark_is}
 use Rattle.ghs_protocol.proofs.Invariant.Forwarding.{forwards_on, forwards_many, one_on}
 use Rattle.ghs_protocol.proofs.Invariant.Calling.{Calls, calls, tree_told, tree_told', tree_past, tree_past', tree_passed, tree_passed', search_told, search_told'}
 
-has_call_more : (xs : List Message) (l : ℕ) (n : Key) (s : Phase) → has_call (xs ++ Initiate l n s ∷ []) ≡ (has_call xs || is_find s)
+pub has_call_more : (xs : List Message) (l : ℕ) (n : Key) (s : Phase) → has_call (xs ++ Initiate l n s ∷ []) ≡ (has_call xs || is_find s)
 has_call_more [] l n Sleeping = refl
 has_call_more [] l n Find = refl
 has_call_more [] l n Found = refl
@@ -46,7 +46,7 @@ has_call_more (Reject ∷ xs) l n s = has_call_more xs l n s
 has_call_more (Report _ ∷ xs) l n s = has_call_more xs l n s
 has_call_more (ChangeRoot ∷ xs) l n s = has_call_more xs l n s
 
-has_call_first : (xs : List Message) (l : ℕ) (n : Key) (s : Phase) → has_call (Initiate l n s ∷ xs) ≡ (is_find s || has_call xs)
+pub has_call_first : (xs : List Message) (l : ℕ) (n : Key) (s : Phase) → has_call (Initiate l n s ∷ xs) ≡ (is_find s || has_call xs)
 has_call_first xs l n Sleeping = refl
 has_call_first xs l n Find = refl
 has_call_first xs l n Found = refl
@@ -135,10 +135,10 @@ module _ (g : Network) (wired : IsWired g) (u : ℕ) (lo : 1 ≤ u) (hi : u ≤ 
   link' : (i : ℕ) → At g u i → LinkFits (NamesOf g w) (across i) (end g w u i)
   link' i at' = at_far g wired w (LinkFits (NamesOf g w)) holds.links u i at'
 
-  inside : (i : ℕ) → At g u i → Joins (tree_end (end g w u i)) (tree_end (across i)) → (w.at u).fragment ≡ (w.at (far g u i)).fragment
+  pub inside : (i : ℕ) → At g u i → Joins (tree_end (end g w u i)) (tree_end (across i)) → (w.at u).fragment ≡ (w.at (far g u i)).fragment
   inside i at' h = holds.trees.joined_within u i at' (record { here = ap is_branch h.here; there = ap is_branch h.there })
 
-  ghosts : (i : ℕ) → At g u i → Joins (tree_end (end g w u i)) (tree_end (across i)) → ((w.at (far g u i)).coming ≡ (w.at u).coming) × ((w.at (far g u i)).coming_name ≡ (w.at u).coming_name)
+  pub ghosts : (i : ℕ) → At g u i → Joins (tree_end (end g w u i)) (tree_end (across i)) → ((w.at (far g u i)).coming ≡ (w.at u).coming) × ((w.at (far g u i)).coming_name ≡ (w.at u).coming_name)
   ghosts i at' h = holds.trees.by_fragment (far g u i) u (sym (inside i at' h))
 
   ways : (i : ℕ) → At g u i → Joins (tree_end (end g w u i)) (tree_end (across i)) → Ups (tree_end (end g w u i)) ⊎ Ups (tree_end (across i))
@@ -150,10 +150,10 @@ module _ (g : Network) (wired : IsWired g) (u : ℕ) (lo : 1 ≤ u) (hi : u ≤ 
   lags : Joins (tree_end (end g w u j)) (tree_end (across j)) → (w.at (far g u j)).head.level ≤ (w.at u).coming
   lags h = let t = wired.there u j at in let z = (holds.nodes (far g u j) (record { some = t.some; node = t.node })).lag.level in omega (arith, z, (ghosts j at h).0)
 
-  call : Calls (NamesOf g w (w.at u).fragment) (tree_end (end g w u j)) (tree_end (across j)) l n s ms
+  pub call : Calls (NamesOf g w (w.at u).fragment) (tree_end (end g w u j)) (tree_end (across j)) l n s ms
   call = calls (tree_end (end g w u j)) (tree_end (across j)) (link j at).tree (link' j at).tree (ways j at) named lags l n s ms waits
 
-  found : (w.at u).head.phase ≡ Found
+  pub found : (w.at u).head.phase ≡ Found
   found = go (w.at u).head.phase refl
     where
       go : (p : Phase) → (w.at u).head.phase ≡ p → (w.at u).head.phase ≡ Found
@@ -161,16 +161,16 @@ module _ (g : Network) (wired : IsWired g) (u : ℕ) (lo : 1 ≤ u) (hi : u ≤ 
       go Find e = absurd (let z = (fits.searching e).level in let a = call.rises in let b = call.most in omega (arith, z, a, b))
       go Found e = e
 
-  idle : ((w.at u).head.probe ≡ None) × (◌≡◌ {A = ℕ} (w.at u).head.find_count 0)
+  pub idle : ((w.at u).head.probe ≡ None) × (◌≡◌ {A = ℕ} (w.at u).head.find_count 0)
   idle = fits.idle (λ z. cc (z, found))
 
-  away : (i : ℕ) → i ≢ j → (w.at u).up ≢ Some i
+  pub away : (i : ℕ) → i ≢ j → (w.at u).up ≢ Some i
   away i ne e = ne (sym (same_Some j i (sym call.up ∙ e)))
 
-  branch_joined : (i : ℕ) → At g u i → i ≢ j → (w.at u).mark i ≡ Branch → Joins (tree_end (end g w u i)) (tree_end (across i))
+  pub branch_joined : (i : ℕ) → At g u i → i ≢ j → (w.at u).mark i ≡ Branch → Joins (tree_end (end g w u i)) (tree_end (across i))
   branch_joined i at' ne b = ⊎_elim (λ z. record { here = b; there = z }) (λ z. absurd (away i ne ((link i at').tree.out_connect (record { here = b; there = z })).up)) (mark_is ((w.at (far g u i)).mark (far_port g u i)))
 
-  child : (i : ℕ) → At g u i → i ≢ j → (w.at u).mark i ≡ Branch → Ups (tree_end (across i))
+  pub child : (i : ℕ) → At g u i → i ≢ j → (w.at u).mark i ≡ Branch → Ups (tree_end (across i))
   child i at' ne b = ⊎_elim (λ z. absurd (away i ne z)) (λ z. z) (ways i at' (branch_joined i at' ne b))
 
   -- what goes out on each port
@@ -189,6 +189,13 @@ module _ (g : Network) (wired : IsWired g) (u : ℕ) (lo : 1 ≤ u) (hi : u ≤ 
       ⊎_elim
       (λ (e : i ≡ j). subst (λ y. P (near' g wired u lo hi hearer (put (w.seen u) j left) passing w y) (far' g wired u lo hi hearer (put (w.seen u) j left) passing w y)) (sym e) (subst₂ (λ a b. P (record { port = j; key = (port_at g u j).key; mark = (w.at u).mark j; is = hearer; seen = a }) (record (across j) { seen = adds (w.seen (far g u j) (far_port g u j)) b })) (sym (put_same (w.seen u) j left)) (sym sent_here) hit))
       (λ ne. ⊎_elim (λ b. subst₂ (λ a c. P (record { port = i; key = (port_at g u i).key; mark = (w.at u).mark i; is = hearer; seen = a }) (record (across i) { seen = adds (w.seen (far g u i) (far_port g u i)) c })) (sym (put_other (w.seen u) j i left ne)) (sym (sent_branch i ne b)) (branch i at' ne b)) (λ nb. subst₂ (λ a c. P (record { port = i; key = (port_at g u i).key; mark = (w.at u).mark i; is = hearer; seen = a }) (record (across i) { seen = adds (w.seen (far g u i) (far_port g u i)) c })) (sym (put_other (w.seen u) j i left ne)) (sym (sent_other i nb)) (other i at' ne nb)) (mark_is ((w.at u).mark i)))
+      (cases_eq i j)
+
+  pub by_port_at : (P : ℕ → End → End → Type 0) → P j heard_at (across j) → ((i : ℕ) → At g u i → i ≢ j → (w.at u).mark i ≡ Branch → P i (still i) (passed i)) → ((i : ℕ) → At g u i → i ≢ j → (w.at u).mark i ≢ Branch → P i (still i) (across i)) → (i : ℕ) → At g u i → P i (near' g wired u lo hi hearer (put (w.seen u) j left) passing w i) (far' g wired u lo hi hearer (put (w.seen u) j left) passing w i)
+  by_port_at P hit branch other i at' =
+      ⊎_elim
+      (λ (e : i ≡ j). subst (λ y. P y (near' g wired u lo hi hearer (put (w.seen u) j left) passing w y) (far' g wired u lo hi hearer (put (w.seen u) j left) passing w y)) (sym e) (subst₂ (λ a b. P j (record { port = j; key = (port_at g u j).key; mark = (w.at u).mark j; is = hearer; seen = a }) (record (across j) { seen = adds (w.seen (far g u j) (far_port g u j)) b })) (sym (put_same (w.seen u) j left)) (sym sent_here) hit))
+      (λ ne. ⊎_elim (λ b. subst₂ (λ a c. P i (record { port = i; key = (port_at g u i).key; mark = (w.at u).mark i; is = hearer; seen = a }) (record (across i) { seen = adds (w.seen (far g u i) (far_port g u i)) c })) (sym (put_other (w.seen u) j i left ne)) (sym (sent_branch i ne b)) (branch i at' ne b)) (λ nb. subst₂ (λ a c. P i (record { port = i; key = (port_at g u i).key; mark = (w.at u).mark i; is = hearer; seen = a }) (record (across i) { seen = adds (w.seen (far g u i) (far_port g u i)) c })) (sym (put_other (w.seen u) j i left ne)) (sym (sent_other i nb)) (other i at' ne nb)) (mark_is ((w.at u).mark i)))
       (cases_eq i j)
 
   -- the node

@@ -41,7 +41,7 @@ module _ (g : Network) (wired : IsWired g) (w : World) (P : End → End → Type
   at_far = subst₂ P far_is (λ k. end g w (wired.back u i at k) (wired.back_port u i at k)) (all _ _ (wired.there u i at))
 
 module _ (g : Network) (wired : IsWired g) (u : ℕ) (lo : 1 ≤ u) (hi : u ≤ g.count) (x : Member) (j : ℕ) (at : At g u j) (q : Seen) (ms : List Message) (ss : Outgoing) (on : SendsOn j ms ss) (w : World) where
-  own : ℕ → Seen
+  pub own : ℕ → Seen
   own = put (w.seen u) j q
 
   -- u's ends of a link but j's, and of j's link
@@ -57,27 +57,32 @@ module _ (g : Network) (wired : IsWired g) (u : ℕ) (lo : 1 ≤ u) (hi : u ≤ 
   abbrev pub onto : ℕ → End
   onto i = record { port = far_port g u i; key = (port_at g u i).key; mark = (w.at (far g u i)).mark (far_port g u i); is = w.at (far g u i); seen = w.seen (far g u i) (far_port g u i) }
 
-  near_still : (i : ℕ) → i ≢ j → near' g wired u lo hi x own ss w i ≡ still i
+  pub near_still : (i : ℕ) → i ≢ j → near' g wired u lo hi x own ss w i ≡ still i
   unfolding own
   near_still i ne = λ k. record { port = i; key = (port_at g u i).key; mark = (x).mark (i); is = x; seen = put_other (w.seen u) j i q ne k }
 
-  far_onto : (i : ℕ) → i ≢ j → far' g wired u lo hi x own ss w i ≡ onto i
+  pub far_onto : (i : ℕ) → i ≢ j → far' g wired u lo hi x own ss w i ≡ onto i
   unfolding own
   far_onto i ne = λ k. record { port = far_port g u i; key = (port_at g u i).key; mark = (w.at (far g u i)).mark (far_port g u i); is = w.at (far g u i); seen = adds (w.seen (far g u i) (far_port g u i)) (on.none i ne k) }
 
-  near_here : near' g wired u lo hi x own ss w j ≡ here
+  pub near_here : near' g wired u lo hi x own ss w j ≡ here
   unfolding own
   near_here = λ k. record { port = j; key = (port_at g u j).key; mark = (x).mark (j); is = x; seen = put_same (w.seen u) j q k }
 
-  far_there : far' g wired u lo hi x own ss w j ≡ there
+  pub far_there : far' g wired u lo hi x own ss w j ≡ there
   unfolding own
   far_there = λ k. record { port = far_port g u j; key = (port_at g u j).key; mark = (w.at (far g u j)).mark (far_port g u j); is = w.at (far g u j); seen = adds (w.seen (far g u j) (far_port g u j)) (on.only k) }
 
-  by_port : (P : End → End → Type 0) → P here there → ((i : ℕ) → At g u i → i ≢ j → P (still i) (onto i)) → (i : ℕ) → At g u i → P (near' g wired u lo hi x own ss w i) (far' g wired u lo hi x own ss w i)
+  pub by_port : (P : End → End → Type 0) → P here there → ((i : ℕ) → At g u i → i ≢ j → P (still i) (onto i)) → (i : ℕ) → At g u i → P (near' g wired u lo hi x own ss w i) (far' g wired u lo hi x own ss w i)
   by_port P hit miss i at' = ⊎_elim (λ (e : i ≡ j). subst (λ y. P (near' g wired u lo hi x own ss w y) (far' g wired u lo hi x own ss w y)) (sym e) (subst₂ P (sym near_here) (sym far_there) hit)) (λ ne. subst₂ P (sym (near_still i ne)) (sym (far_onto i ne)) (miss i at' ne)) (cases_eq i j)
 
-  by_port' : (P : End → End → Type 0) → P there here → ((i : ℕ) → At g u i → i ≢ j → P (onto i) (still i)) → (i : ℕ) → At g u i → P (far' g wired u lo hi x own ss w i) (near' g wired u lo hi x own ss w i)
+  pub by_port' : (P : End → End → Type 0) → P there here → ((i : ℕ) → At g u i → i ≢ j → P (onto i) (still i)) → (i : ℕ) → At g u i → P (far' g wired u lo hi x own ss w i) (near' g wired u lo hi x own ss w i)
   by_port' P hit miss = by_port (λ e f. P f e) hit miss
+
+  -- a fact of the two ends that names the port
+  pub by_port_at : (P : ℕ → End → End → Type 0) → P j here there → ((i : ℕ) → At g u i → i ≢ j → P i (still i) (onto i)) → (i : ℕ) → At g u i → P i (near' g wired u lo hi x (put (w.seen u) j q) ss w i) (far' g wired u lo hi x (put (w.seen u) j q) ss w i)
+  unfolding own
+  by_port_at P hit miss i at' = ⊎_elim (λ (e : i ≡ j). subst (λ y. P y (near' g wired u lo hi x own ss w y) (far' g wired u lo hi x own ss w y)) (sym e) (subst₂ (P j) (sym near_here) (sym far_there) hit)) (λ ne. subst₂ (P i) (sym (near_still i ne)) (sym (far_onto i ne)) (miss i at' ne)) (cases_eq i j)
 
   abbrev pub then : World
   then = acts g u x (put (w.seen u) j q) ss w

@@ -57,7 +57,7 @@ module _ (g : Network) (wired : IsWired g) (u : ℕ) (lo : 1 ≤ u) (hi : u ≤ 
       apart p e name = named_apart (w.at u) (w.at (far g u j)) l n here_fits.lag far_fits.lag same_ghosts le e (far_fits.searching (probing_finds far_fits p)).level name other
 
   -- a name is of one fragment, at the two ends
-  one_name : (n : Key) → IsKeyed g → (w.at u).head.name ≡ Some n → (w.at (far g u j)).head.name ≡ Some n → (w.at u).fragment ≡ (w.at (far g u j)).fragment
+  pub one_name : (n : Key) → IsKeyed g → (w.at u).head.name ≡ Some n → (w.at (far g u j)).head.name ≡ Some n → (w.at u).fragment ≡ (w.at (far g u j)).fragment
   one_name n keyed e f = let t = wired.there u j at in one_fragment g (forest w) _ _ n keyed holds.trees.joined_within (holds.named u n (record { some = lo; node = hi }) e) (holds.named (far g u j) n (record { some = t.some; node = t.node }) f)
 
   -- at a link but j's, a mark of u's is as it was
@@ -66,6 +66,10 @@ module _ (g : Network) (wired : IsWired g) (u : ℕ) (lo : 1 ≤ u) (hi : u ≤ 
 
   ahead : (P : Mark → Type 0) → P (rejected ((w.at u).mark j)) → P (marked (w.at u).mark j j)
   ahead P h = subst P (sym (put_same (w.at u).mark j (rejected ((w.at u).mark j)))) h
+
+  -- a Test of one's own name comes from one's own fragment
+  pub reject_inside : (l : ℕ) (n : Key) (ts : List (ℕ × Key)) → IsKeyed g → (w.seen u j).tests ≡ (l, n) ∷ ts → (w.at u).head.name ≡ Some n → (w.at u).head.probe ≢ Some j → (w.at u).fragment ≡ (w.at (far g u j)).fragment
+  reject_inside l n ts keyed waits name free = reject_frag (test_end (end g w u j)) (test_end beyond') l n ts waits link.tests link'.tests free (λ p e. one_name n keyed name e)
 
   -- a Test of one's own name is rejected
   pub reject_sends : (l : ℕ) (n : Key) (ts : List (ℕ × Key)) → IsKeyed g → (w.at u).head.phase ≢ Sleeping → (w.seen u j).tests ≡ (l, n) ∷ ts → (w.at u).head.name ≡ Some n → (w.at u).head.probe ≢ Some j → Invariant g (acts g u (record (w.at u) { mark = marked (w.at u).mark j }) (put (w.seen u) j (record (w.seen u j) { tests = ts })) ((j, Reject) ∷ []) w)
@@ -126,6 +130,13 @@ module _ (g : Network) (wired : IsWired g) (u : ℕ) (lo : 1 ≤ u) (hi : u ≤ 
 
   elsewhere : (i : ℕ) → i ≢ j → (w.at u).head.probe ≡ Some j → (w.at u).head.probe ≢ Some i
   elsewhere i ne own = λ z. ne (sym (same_Some j i (sym own ∙ z)))
+
+  -- so does one that crosses one's own Test
+  pub cross_inside : (l : ℕ) (n : Key) (ts : List (ℕ × Key)) → IsKeyed g → (w.seen u j).tests ≡ (l, n) ∷ ts → (w.at u).head.name ≡ Some n → (w.at u).head.probe ≡ Some j → (w.at u).fragment ≡ (w.at (far g u j)).fragment
+  cross_inside l n ts keyed waits name own = cross_frag (test_end (end g w u j)) (test_end beyond') l n ts waits link.tests link'.tests own (λ p e. one_name n keyed name e) alike
+    where
+      alike : (w.at (far g u j)).head.probe ≡ Some (far_port g u j) → (w.at u).fragment ≡ (w.at (far g u j)).fragment → ((w.at u).head.level ≡ (w.at (far g u j)).head.level) × ((w.at u).head.name ≡ (w.at (far g u j)).head.name)
+      alike p e = let t = same_ghosts (sym e) in tops_alike (w.at u) (w.at (far g u j)) here_fits.lag far_fits.lag (sym t.0) (sym t.1) (here_fits.searching (probing_finds here_fits own)).level (far_fits.searching (probing_finds far_fits p)).level
 
   -- a Test of one's own name that crosses one's own Test
   pub crosses : (l : ℕ) (n : Key) (ts : List (ℕ × Key)) → IsKeyed g → (w.seen u j).tests ≡ (l, n) ∷ ts → (w.at u).head.name ≡ Some n → (w.at u).head.probe ≡ Some j → Invariant g (acts g u (record (w.at u) { mark = marked (w.at u).mark j; head = record (w.at u).head { probe = None } }) (put (w.seen u) j (record (w.seen u j) { tests = ts })) [] w)

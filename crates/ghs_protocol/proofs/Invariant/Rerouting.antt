@@ -105,6 +105,17 @@ module _ (g : Network) (wired : IsWired g) (u : ℕ) (lo : 1 ≤ u) (hi : u ≤ 
   by_ports' : (P : End → End → Type 0) → P (over g w u j) here → P there (still b) → ((i : ℕ) → At g u i → i ≢ j → i ≢ b → P (over g w u i) (still i)) → (i : ℕ) → At g u i → P (far_now i) (near_now i)
   by_ports' P hit sent miss = by_ports (λ e f. P f e) hit sent miss
 
+  -- a fact of the two ends that names the port
+  pub by_ports_at : (P : ℕ → End → End → Type 0) → P j here (over g w u j) → P b (still b) there → ((i : ℕ) → At g u i → i ≢ j → i ≢ b → P i (still i) (over g w u i)) → (i : ℕ) → At g u i → P i (near' g wired u lo hi (record (w.at u) { up = Some b; mark = μ }) (put (w.seen u) j (record (w.seen u j) { tree = ms })) ((b, m) ∷ []) w i) (far' g wired u lo hi (record (w.at u) { up = Some b; mark = μ }) (put (w.seen u) j (record (w.seen u j) { tree = ms })) ((b, m) ∷ []) w i)
+  unfolding own ss
+  by_ports_at P hit sent miss i at' = ⊎_elim left (λ ne. ⊎_elim taken (λ ne'. subst₂ (P i) (sym (near_still i ne)) (sym (far_onto i ne')) (miss i at' ne ne')) (cases_eq i b)) (cases_eq i j)
+    where
+      left : i ≡ j → P i (near_now i) (far_now i)
+      left e = subst (λ y. P y (near_now y) (far_now y)) (sym e) (subst₂ (P j) (sym near_here) (sym (far_onto j (λ z. apart (sym z)))) hit)
+
+      taken : i ≡ b → P i (near_now i) (far_now i)
+      taken e = subst (λ y. P y (near_now y) (far_now y)) (sym e) (subst₂ (P b) (sym (near_still b apart)) (sym far_there) sent)
+
   is : InNetwork g u
   is = record { some = lo; node = hi }
 

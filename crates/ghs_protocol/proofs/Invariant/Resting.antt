@@ -85,7 +85,7 @@ called_early e Called i a top = omega (arith, a, top)
 called_early e Asking i a top = cc
 called_early e Begun i a top = cc
 
-by_find : (a b c : Bool) → c ≡ true → (a || (b || c)) ≡ true
+pub by_find : (a b c : Bool) → c ≡ true → (a || (b || c)) ≡ true
 by_find true b c e = refl
 by_find false true c e = refl
 by_find false false c e = e

@@ -1,22 +1,17 @@
 -- How a reaction of the search ends, as an act of its own: the next Test, the Report, or nothing.
-use Rattle.std.proofs.Common.{◌≡◌, ℕ, ◌≤◌, Option, Some, None, List, [], ◌∷◌, ◌++◌, length, refl, sym, ◌∙◌, ap, subst, get_or}
-use Rattle.std.proofs.lemmas.List.Quantifiers.{position-Some}
+use Rattle.std.proofs.Common.{◌≡◌, ℕ, ◌≤◌, Option, Some, None, [], ◌∷◌, length, refl, sym, ◌∙◌, ap, subst}
 use Rattle.ghs_graph.specs.declared.key.Key.{Key}
-use Rattle.ghs_node.specs.declared.mark.Mark.{Mark}
-use Rattle.ghs_node.specs.declared.mark.Mark.TheVariants.{Basic, Rejected}
+use Rattle.ghs_node.specs.declared.mark.Mark.TheVariants.{Basic}
 use Rattle.ghs_node.specs.declared.message.Phase.TheVariants.{Find}
 use Rattle.ghs_node.specs.declared.message.Message.TheVariants.{Report}
-use Rattle.ghs_node.specs.Words.{Outgoing, is_basic, best_key}
+use Rattle.ghs_node.specs.Words.{best_key}
 use Rattle.ghs_node.specs.Reaction.{Ending, Probing, Reporting, Waiting, phase_after, probe_after, last_sends, name_of, core_port}
-use Rattle.ghs_node.specs.Rows.{Closes, Reports, Waits, Settles, Probes, Exhausts}
-use Rattle.ghs_node.proofs.Tests.{basic_is}
 use Rattle.ghs_protocol.specs.Network.{Network, At, IsWired}
 use Rattle.ghs_protocol.specs.Net.{put}
 use Rattle.ghs_protocol.specs.Invariant.World.{Seen, Member, World, acts}
 use Rattle.ghs_protocol.specs.Invariant.Nodes.{NodeFits, Searching}
 use Rattle.ghs_protocol.specs.Invariant.Whole.{Invariant}
-use Rattle.ghs_protocol.proofs.Updates.{put_same}
-use Rattle.ghs_protocol.proofs.Invariant.Splitting.{put_again, acts_split}
+use Rattle.ghs_protocol.proofs.Invariant.Splitting.{put_again}
 use Rattle.ghs_protocol.proofs.Invariant.Probing.{scans}
 use Rattle.ghs_protocol.proofs.Invariant.Closing as closing
 
@@ -26,21 +21,13 @@ pub data EndsBy (m : Member) : Ending → Type 0 where
   Reports_now : ◌≡◌ {A = ℕ} m.head.find_count 0 → m.head.probe ≡ None → EndsBy m Reporting
   Waits_on : EndsBy m Waiting
 
-pub closes_by : (m : Member) (e : Ending) → Closes m.head e → EndsBy m e
-closes_by m _ (Reports z p) = Reports_now z p
-closes_by m _ (Waits w) = Waits_on
-
-pub settles_by : (m : Member) (ms : List Mark) (e : Ending) → (λ (p : ℕ). get_or ms p Rejected) ≡ m.mark → m.head.probe ≡ None → Settles ms m.head e → EndsBy m e
-settles_by m ms _ is none (Probes p least) = Tests_next p none (sym (ap (λ (f : ℕ → Mark). f p) is) ∙ basic_is _ (position-Some is_basic ms p Rejected least).1)
-settles_by m ms e is none (Exhausts least c) = closes_by m e c
-
 -- the member after the ending
 abbrev pub ended : Member → Ending → Member
 ended m e = record m { head = record m.head { phase = phase_after m.head.phase e; probe = probe_after m.head.probe e } }
 
 module _ (g : Network) (wired : IsWired g) (v : ℕ) (lo : 1 ≤ v) (hi : v ≤ g.count) where
   -- who searches has a name, and a way to the core
-  named : (m : Member) → NodeFits (length (g.ports v)) m → m.head.phase ≡ Find → m.head.name ≡ Some (name_of m.head)
+  pub named : (m : Member) → NodeFits (length (g.ports v)) m → m.head.phase ≡ Find → m.head.name ≡ Some (name_of m.head)
   named m fits finds = go m.head.name refl
     where
       go : (o : Option Key) → m.head.name ≡ o → m.head.name ≡ Some (name_of m.head)
@@ -51,7 +38,7 @@ module _ (g : Network) (wired : IsWired g) (v : ℕ) (lo : 1 ≤ v) (hi : v ≤ 
       go (Some k) e = e ∙ ap (λ o. Some (name_of (record m.head { name = o }))) (sym e)
 
   -- the ending alone
-  ends_alone :
+  pub ends_alone :
       (w : World) → Invariant g w → (e : Ending) → (w.at v).head.phase ≡ Find → EndsBy (w.at v) e →
       Invariant g (acts g v (ended (w.at v) e) (w.seen v) (last_sends (w.at v).head e) w)
   ends_alone w holds _ finds (Tests_next p none basic) =
@@ -80,17 +67,3 @@ module _ (g : Network) (wired : IsWired g) (v : ℕ) (lo : 1 ≤ v) (hi : v ≤ 
       at : At g v s.port
       at = record { some = lo; node = hi; port = fits.own_ports.in_branch s.port s.in_branch }
   ends_alone w holds _ finds Waits_on = subst (Invariant g) (λ i. record { at = sym (put_again w.at v) i; seen = sym (put_again w.seen v) i }) holds
-
-  -- the reaction with its ending, as one act
-  pub ends_after :
-      (x : Member) (own : ℕ → Seen) (ss : Outgoing) (w : World) → Invariant g (acts g v x own ss w) → (e : Ending) → x.head.phase ≡ Find →
-      EndsBy x e → Invariant g (acts g v (ended x e) own (ss ++ last_sends x.head e) w)
-  ends_after x own ss w holds e finds by =
-      subst (Invariant g) (sym (acts_split g v (ended x e) x own ss (last_sends x.head e) w))
-      (subst (λ (m : Member). Invariant g (acts g v (ended m e) (mid.seen v) (last_sends m.head e) mid)) is (ends_alone mid holds e (ap (λ (m : Member). m.head.phase) is ∙ finds) (subst (λ (m : Member). EndsBy m e) (sym is) by)))
-    where
-      mid : World
-      mid = acts g v x own ss w
-
-      is : mid.at v ≡ x
-      is = put_same w.at v x

@@ -1,43 +1,34 @@
 -- A message that goes round is the only one of its sort in its queue, so that the invariant doesn't see it.
-use Rattle.std.proofs.Common.{◌≡◌, ◌≢◌, ℕ, suc, ◌≤◌, Option, Some, List, [], ◌∷◌, ◌++◌, length, refl, sym, ◌∙◌, ap, subst, arith, ⊎_elim, ◌⊎◌}
+use Rattle.std.proofs.Common.{◌≡◌, ◌≢◌, ℕ, suc, ◌≤◌, Option, List, [], ◌∷◌, ◌++◌, length, refl, sym, ◌∙◌, ap, arith, ⊎_elim, ◌⊎◌}
 use Rattle.ghs_graph.specs.declared.key.Key.{Key}
 use Rattle.ghs_node.specs.declared.mark.Mark.TheVariants.{Basic, Branch}
 use Rattle.ghs_node.specs.declared.message.Phase.TheVariants.{Find}
 use Rattle.ghs_node.specs.declared.message.Message.{Message}
 use Rattle.ghs_node.specs.declared.message.Message.TheVariants.{Connect, Initiate, Test, Report, ChangeRoot}
-use Rattle.ghs_node.specs.Reaction.{requeues}
-use Rattle.ghs_protocol.specs.Network.{Network, At, IsWired}
-use Rattle.ghs_protocol.specs.Net.{Net}
-use Rattle.ghs_protocol.specs.Steps.{taken}
-use Rattle.ghs_protocol.specs.Invariant.World.{TreeEnd, TestEnd, end, tree_end, test_end, unseen, add, see, world, Ghost}
+use Rattle.ghs_protocol.specs.Invariant.World.{TreeEnd, TestEnd, unseen, add, see}
 use Rattle.ghs_protocol.specs.Invariant.Links.{Joins, Ups}
 use Rattle.ghs_protocol.specs.Invariant.TreeMessages.{TreeFits, Downward, Initiates, Old_report, CoreFits, CoreQueue, Plain, With_report, MovedFits, To_here, To_there, Stage, Asking, Called, Begun, called}
 use Rattle.ghs_protocol.specs.Invariant.Tests.{TestsFit}
-use Rattle.ghs_protocol.specs.Invariant.Whole.{Invariant, HasInvariant}
-use Rattle.ghs_protocol.proofs.Invariant.Resting.{over}
-use Rattle.ghs_protocol.proofs.Invariant.RowsTaking.{node_fits, link_fits, link_fits', link_leads}
-use Rattle.ghs_protocol.proofs.Invariant.Splitting.{round_world}
 use Rattle.ghs_protocol.proofs.Invariant.Tests.{probe_is}
-use Rattle.ghs_protocol.proofs.Invariant.RowsSeen.{tree_first, test_first}
 use Rattle.ghs_protocol.proofs.Invariant.Refining.{both, same_seen, see_first, see_more}
 use Rattle.ghs_protocol.proofs.Invariant.Reports.{Joint, Down_here, Down_there, On_core, On_moved, joint, mark_is, no_report, no_plain, joined}
 
 -- an only tree message, and an only Test, go round, and no clause sees it
-connect_round : (l : ℕ) (ms : List Message) → (see ms).tree ≡ [] → see (ms ++ Connect l ∷ []) ≡ see (Connect l ∷ ms)
+pub connect_round : (l : ℕ) (ms : List Message) → (see ms).tree ≡ [] → see (ms ++ Connect l ∷ []) ≡ see (Connect l ∷ ms)
 connect_round l ms e =
     see_more ms (Connect l) ∙
     same_seen (add (see ms) (Connect l)) (both (add unseen (Connect l)) (see ms))
     (ap (λ z. z ++ Connect l ∷ []) e ∙ sym (ap (λ z. Connect l ∷ z) e)) refl (omega arith) (omega arith) ∙
     sym (see_first (Connect l) ms)
 
-report_round : (w : Option Key) (ms : List Message) → (see ms).tree ≡ [] → see (ms ++ Report w ∷ []) ≡ see (Report w ∷ ms)
+pub report_round : (w : Option Key) (ms : List Message) → (see ms).tree ≡ [] → see (ms ++ Report w ∷ []) ≡ see (Report w ∷ ms)
 report_round w ms e =
     see_more ms (Report w) ∙
     same_seen (add (see ms) (Report w)) (both (add unseen (Report w)) (see ms)) (ap (λ z. z ++ Report w ∷ []) e ∙ sym (ap (λ z. Report w ∷ z) e))
     refl (omega arith) (omega arith) ∙
     sym (see_first (Report w) ms)
 
-test_round : (l : ℕ) (n : Key) (ms : List Message) → (see ms).tests ≡ [] → see (ms ++ Test l n ∷ []) ≡ see (Test l n ∷ ms)
+pub test_round : (l : ℕ) (n : Key) (ms : List Message) → (see ms).tests ≡ [] → see (ms ++ Test l n ∷ []) ≡ see (Test l n ∷ ms)
 test_round l n ms e =
     see_more ms (Test l n) ∙
     same_seen (add (see ms) (Test l n)) (both (add unseen (Test l n)) (see ms)) refl (ap (λ z. z ++ (l, n) ∷ []) e ∙ sym (ap (λ z. (l, n) ∷ z) e))
@@ -96,27 +87,3 @@ lone_test e f hf t ts waits =
   where
     many : length e.tests ≡ suc (length ts)
     many = ap length waits
-
-module _ (g : Network) (wired : IsWired g) (v p : ℕ) (at : At g v p) (w : Net) (gh : Ghost) (holds : Invariant g (world w gh)) (ms : List Message) where
-  goes_round : (m : Message) → see (ms ++ m ∷ []) ≡ see (w.queue v p) → HasInvariant g (taken g v p m ms (requeues (w.node v).head) w)
-  goes_round m e = record { ghost = gh; holds = subst (Invariant g) (sym (round_world g v w gh p m ms e)) holds }
-
-  pub row_connect_waits : (l : ℕ) → w.queue v p ≡ Connect l ∷ ms → ((world w gh).at v).mark p ≡ Basic → HasInvariant g (taken g v p (Connect l) ms (requeues (w.node v).head) w)
-  row_connect_waits l waits basic =
-      goes_round (Connect l)
-      (connect_round l ms (lone_connect (tree_end (end g (world w gh) v p)) (tree_end (over g (world w gh) v p)) (link_fits g wired (world w gh) holds v p at).tree (link_fits' g wired (world w gh) holds v p at).tree l (see ms).tree (tree_first (w.queue v p) ms (Connect l) refl waits) basic) ∙ sym (ap see waits))
-
-  pub row_report_waits :
-      (k : Option Key) → w.queue v p ≡ Report k ∷ ms → (w.node v).head.in_branch ≡ Some p → (w.node v).head.phase ≡ Find →
-      HasInvariant g (taken g v p (Report k) ms (requeues (w.node v).head) w)
-  row_report_waits k waits way finds =
-      goes_round (Report k)
-      (report_round k ms (lone_report (tree_end (end g (world w gh) v p)) (tree_end (over g (world w gh) v p)) (link_fits g wired (world w gh) holds v p at).tree (link_fits' g wired (world w gh) holds v p at).tree (link_leads g wired (world w gh) holds v p at) k (see ms).tree (tree_first (w.queue v p) ms (Report k) refl waits) finds up) ∙ sym (ap see waits))
-    where
-      up : gh.up v ≡ Some p
-      up = let s = (node_fits g wired (world w gh) holds v p at).searching finds in s.up ∙ sym s.in_branch ∙ way
-
-  pub row_test_waits : (l : ℕ) (n : Key) → w.queue v p ≡ Test l n ∷ ms → HasInvariant g (taken g v p (Test l n) ms (requeues (w.node v).head) w)
-  row_test_waits l n waits =
-      goes_round (Test l n)
-      (test_round l n ms (lone_test (test_end (end g (world w gh) v p)) (test_end (over g (world w gh) v p)) (link_fits' g wired (world w gh) holds v p at).tests (l, n) (see ms).tests (test_first (w.queue v p) ms l n waits)) ∙ sym (ap see waits))

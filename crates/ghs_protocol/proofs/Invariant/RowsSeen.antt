@@ -1,5 +1,5 @@
 -- What of a queue is left once its first message was taken, and what of marks and keys is read.
-use Rattle.std.proofs.Common.{◌≡◌, ℕ, suc, ◌<◌, Bool, true, false, List, [], ◌∷◌, length, refl, sym, ◌∙◌, ap, ⊎_elim, get_or, set, get_or-set_same, get_or-set_other, arith}
+use Rattle.std.proofs.Common.{◌≡◌, ◌≢◌, Option, Some, None, subst, eq-eqb, ℕ, suc, ◌<◌, Bool, true, false, List, [], ◌∷◌, length, refl, sym, ◌∙◌, ap, ⊎_elim, get_or, set, get_or-set_same, get_or-set_other, arith}
 use Rattle.std.proofs.Math.Path.{fun_ext}
 use Rattle.std.proofs.Math.ListN.{get_or-map}
 use Rattle.std.proofs.lemmas.Bool.{cases_eq}
@@ -10,6 +10,7 @@ use Rattle.ghs_node.specs.declared.mark.Mark.TheVariants.{Basic, Branch, Rejecte
 use Rattle.ghs_node.specs.declared.message.Message.{Message}
 use Rattle.ghs_node.specs.declared.message.Message.TheVariants.{Connect, Initiate, Test, Accept, Reject, Report, ChangeRoot}
 use Rattle.ghs_node.specs.NodeState.{NodeState, key_at, mark_at, with_mark, degree, no_key}
+use Rattle.ghs_node.specs.Words.{is_name}
 use Rattle.ghs_node.specs.Reaction.{reject_at}
 use Rattle.ghs_protocol.specs.Network.{Network, no_port, port_at}
 use Rattle.ghs_protocol.specs.Net.{put}
@@ -107,3 +108,18 @@ reject_marks n j lt = go (mark_at n j) refl
 -- a node's keys are those of its ports
 pub key_is_port : (g : Network) (v : ℕ) (n : NodeState) (p : ℕ) → IsNodeOf g v n → key_at n p ≡ (port_at g v p).key
 key_is_port g v n p is = ap (λ ks. get_or ks p no_key) is.keys ∙ get_or-map (λ (x : Port). x.key) (g.ports v) p no_port
+
+-- names that are alike, and that aren't
+pub same_name : (o : Option Key) (k : Key) → is_name o k ≡ true → o ≡ Some k
+same_name None k e = cc
+same_name (Some n) k e =
+    let a : n.weight ≡ k.weight = search (arith, e) in
+    let b : n.a ≡ k.a = search (arith, e) in
+    let c : n.b ≡ k.b = search (arith, e) in
+    λ i. Some (record { weight = a i; a = b i; b = c i })
+
+pub other_name : (o : Option Key) (k : Key) → is_name o k ≡ false → o ≢ Some k
+other_name o k h e =
+    let t : is_name (Some k) k ≡ true = rw (eq-eqb k.weight k.weight refl, eq-eqb k.a k.a refl, eq-eqb k.b k.b refl) refl in
+    let f : is_name (Some k) k ≡ false = subst (λ y. is_name y k ≡ false) e h in
+    cc (t, f)

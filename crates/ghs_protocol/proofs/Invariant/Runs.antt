@@ -26,14 +26,14 @@ use Rattle.ghs_protocol.specs.Interleavings.{HaveAtLeast, Asks, To_wake, To_take
 use Rattle.ghs_protocol.specs.Nodes.{HasFewPorts, IsWellFormed}
 use Rattle.ghs_protocol.specs.Invariant.World.{forest, world}
 use Rattle.ghs_protocol.specs.Invariant.Fragments.{InNetwork, IsJoinedIn, IsIn, First, Later, Apart, One_more, HasMany}
-use Rattle.ghs_protocol.specs.Invariant.Wiring.{IsKeyed}
+use Rattle.ghs_protocol.specs.Invariant.Wiring.{IsKeyed, IsOrdered}
 use Rattle.ghs_protocol.specs.Invariant.Whole.{HasInvariant}
 use Rattle.ghs_protocol.proofs.Events.{at_of}
 use Rattle.ghs_protocol.proofs.WellFormed.{after_formed}
-use Rattle.ghs_protocol.proofs.StepByStep.{run_by_steps}
 use Rattle.ghs_protocol.proofs.Invariant.Frame.{branch_mark}
-use Rattle.ghs_protocol.proofs.Invariant.Opening.{opening_has}
-use Rattle.ghs_protocol.proofs.Invariant.Rows.{step_keeps}
+use Rattle.ghs_protocol.proofs.Invariant.SoundRows.{step_keeps}
+use Rattle.ghs_protocol.proofs.Invariant.SoundRuns.{after_sound}
+use Rattle.ghs_protocol.specs.Invariant.Floors.{HasSound}
 use Rattle.ghs_protocol.proofs.Rejecting.{run_rejected}
 use Rattle.ghs_protocol.proofs.Invariant.Sparing.{spares}
 use Rattle.ghs_protocol.proofs.Invariant.Foreseen.{foreseen}
@@ -41,17 +41,21 @@ use Rattle.ghs_protocol.proofs.Invariant.Foreseen.{foreseen}
 -- what the invariant rests on, and it
 pub record Holds (g : Network) (w : Net) : Type 0 where
   pub formed : IsWellFormed g w
-  pub invariant : HasInvariant g w
+  pub sound : HasSound g w
 
-module _ (g : Network) (wired : IsWired g) (keyed : IsKeyed g) where
+-- the invariant alone
+abbrev pub without_floors : {g : Network} {w : Net} → HasSound g w → HasInvariant g w
+without_floors s = record { ghost = s.ghost; holds = s.holds.first }
+
+module _ (g : Network) (wired : IsWired g) (keyed : IsKeyed g) (ordered : IsOrdered g) where
   -- every net of a run
   pub after_holds : HasFewPorts g → (es : List Event) (w : Net) → IsAfter g es w → Holds g w
   after_holds few es w h =
-      record { formed = after_formed g wired few es w h; invariant = run_by_steps g wired few (HasInvariant g) (λ w w' f i s. step_keeps g wired keyed w w' f.nodes i s) (opening_has g) es w h }
+      record { formed = after_formed g wired few es w h; sound = after_sound g wired keyed ordered few es w h }
 
   -- between two moments of a run
   pub rejected_stays : (es : List Event) (w w' : Net) → Holds g w → run g es w ≡ Some w' → (v p : ℕ) → At g v p → mark_at (w.node v) p ≡ Rejected → mark_at (w'.node v) p ≡ Rejected
-  rejected_stays es w w' h r = run_rejected g wired (HasInvariant g) (λ x y f i s. step_keeps g wired keyed x y f.nodes i s) (λ x f i. spares g wired x i) es w w' h.formed h.invariant r
+  rejected_stays es w w' h r = run_rejected g wired (HasSound g) (λ x y f i s. step_keeps g wired ordered keyed x y f.nodes i s) (λ x f i. spares g wired x (without_floors i)) es w w' h.formed h.sound r
 
 -- many in one way, and in the other
 all_in : (P : ℕ → Type 0) (xs : List ℕ) → ((x : ℕ) → IsIn x xs → P x) → All P xs
@@ -64,7 +68,7 @@ all_apart (x ∷ xs) (One_more ne a) = AllPairs-cons (λ x y. x ≢ y) x xs (all
 
 module _ (g : Network) (wired : IsWired g) (w : Net) (h : Holds g w) where
   -- joined in the forest, and by marks
-  leads_so : (v u : ℕ) → Leads g (IsJoinedIn g (forest (world w h.invariant.ghost))) v u → InOneFragment g w v u
+  leads_so : (v u : ℕ) → Leads g (IsJoinedIn g (forest (world w h.sound.ghost))) v u → InOneFragment g w v u
   leads_so v _ Here = Here
   leads_so v u (Over p at j l) = Over p at (branch_mark _ j.here, branch_mark _ j.there) (leads_so _ u l)
 
@@ -74,28 +78,28 @@ module _ (g : Network) (wired : IsWired g) (w : Net) (h : Holds g w) where
     once = all_apart m.some m.apart;
     each =
         all_in (λ u. (1 ≤ u) × (u ≤ g.count) × InOneFragment g w v u) m.some
-        (λ x i. let e = m.each x i in (e.0.some, e.0.node, leads_so v x (h.invariant.holds.trees.connected v x is e.0 (sym e.1))));
-    many = let z = pow_mono (h.invariant.holds.nodes v is).lag.level in let y = m.many in omega (arith, z, y);
+        (λ x i. let e = m.each x i in (e.0.some, e.0.node, leads_so v x (h.sound.holds.first.trees.connected v x is e.0 (sym e.1))));
+    many = let z = pow_mono (h.sound.holds.first.nodes v is).lag.level in let y = m.many in omega (arith, z, y);
   }
     where
       is : InNetwork g v
       is = record { some = lo; node = hi }
 
-      m : HasMany (λ u. InNetwork g u × (h.invariant.ghost.fragment u ≡ h.invariant.ghost.fragment v)) (2 ^ h.invariant.ghost.coming (h.invariant.ghost.fragment v))
-      m = h.invariant.holds.trees.sizes v is
+      m : HasMany (λ u. InNetwork g u × (h.sound.ghost.fragment u ≡ h.sound.ghost.fragment v)) (2 ^ h.sound.ghost.coming (h.sound.ghost.fragment v))
+      m = h.sound.holds.first.trees.sizes v is
 
   pub rejected_inside : (v p : ℕ) → At g v p → mark_at (w.node v) p ≡ Rejected → InOneFragment g w v (far g v p)
   rejected_inside v p at r =
       let t = wired.there v p at in
       leads_so v (far g v p)
-      (h.invariant.holds.trees.connected v (far g v p) (record { some = at.some; node = at.node }) (record { some = t.some; node = t.node }) ((h.invariant.holds.links v p at).search.rejected_inside r))
+      (h.sound.holds.first.trees.connected v (far g v p) (record { some = at.some; node = at.node }) (record { some = t.some; node = t.node }) ((h.sound.holds.first.links v p at).search.rejected_inside r))
 
   module _ (few : g.count ≤ 1048576) where
     -- a message that is taken has a reaction
     reacts : (v p : ℕ) → At g v p → (m : Message) (ms : List Message) → w.queue v p ≡ m ∷ ms → (o : Option Delta) → reaction (w.node v) (Deliver p m) ≡ o → IsSome o
     reacts v p at m ms q None e =
         absurd
-        (foreseen g wired few v p at w (h.formed.nodes v) h.invariant.ghost h.invariant.holds m ms q (reaction_ruleless (w.node v) (Deliver p m) (h.formed.nodes v).node.level e))
+        (foreseen g wired few v p at w (h.formed.nodes v) h.sound.ghost h.sound.holds.first m ms q (reaction_ruleless (w.node v) (Deliver p m) (h.formed.nodes v).node.level e))
     reacts v p at m ms q (Some d) e = refl
 
     took : (v p : ℕ) (m : Message) (ms : List Message) (o : Option Delta) → IsSome o → IsSome (after_take g w v p m ms o)

@@ -1,6 +1,7 @@
 use Rattle.std.proofs.Common.{◌≡◌, ◌≤◌, ◌*◌, take}
 use Rattle.std.specs.List.{flat_map}
-use Rattle.ghs_cli.specs.TreeText.{link_line, total_weight}
+use Rattle.ghs_graph.specs.Links.{total_weight}
+use Rattle.ghs_cli.specs.TreeText.{link_line}
 use Rattle.ghs_cli.proofs.tree_text.tree_text.Given as goal
 
 abbrev pub invariant-loop-key : goal.invariant-loop-key

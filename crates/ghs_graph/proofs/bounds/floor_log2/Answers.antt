@@ -1,5 +1,5 @@
 use Rattle.std.proofs.Common.{rules}
-use Rattle.ghs_graph.proofs.Logs.{floor_log2_between}
+use Rattle.ghs_graph.proofs.lemmas.Logs.{floor_log2_between}
 use Rattle.ghs_graph.proofs.bounds.floor_log2.Goals as goal
 
 pub returns : goal.returns

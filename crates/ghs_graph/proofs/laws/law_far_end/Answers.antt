@@ -1,4 +1,4 @@
-use Rattle.ghs_graph.proofs.Wiring.{ports_end_elsewhere}
+use Rattle.ghs_graph.proofs.lemmas.Ports.{ports_end_elsewhere}
 use Rattle.ghs_graph.proofs.laws.law_far_end.Goals as goal
 
 pub returns : goal.returns

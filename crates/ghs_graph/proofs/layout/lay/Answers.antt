@@ -1,4 +1,4 @@
-use Rattle.ghs_graph.proofs.Counting.{none_counted}
+use Rattle.ghs_graph.proofs.lemmas.Degrees.{none_counted}
 use Rattle.ghs_graph.proofs.layout.lay.Goals as goal
 
 pub places_of-requires-clause-none : goal.places_of-requires-clause-none

@@ -1,4 +1,4 @@
-use Rattle.ghs_graph.proofs.Counting.{one_placed}
+use Rattle.ghs_graph.proofs.Blocks.{one_placed}
 use Rattle.ghs_graph.proofs.layout.places_of.Goals as goal
 
 pub loop-key-preserved : goal.loop-key-preserved

@@ -1,0 +1,7 @@
+pub mod Bits
+pub mod Sums
+pub mod Towers
+pub mod Ranks
+pub mod Rows
+pub mod Turning
+pub mod Finding

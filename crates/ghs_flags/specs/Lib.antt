@@ -1,0 +1,5 @@
+pub mod First
+pub mod Word
+pub mod Counts
+pub mod Flags
+pub mod Row

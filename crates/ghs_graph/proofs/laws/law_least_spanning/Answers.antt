@@ -1,5 +1,0 @@
-use Rattle.ghs_graph.proofs.Least.{tree_is_least_spanning}
-use Rattle.ghs_graph.proofs.laws.law_least_spanning.Goals as goal
-
-pub returns : goal.returns
-returns c = tree_is_least_spanning

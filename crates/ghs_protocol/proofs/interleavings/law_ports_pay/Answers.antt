@@ -1,0 +1,5 @@
+use Rattle.ghs_protocol.proofs.Invariant.PortsRuns.{ports_pay_once}
+use Rattle.ghs_protocol.proofs.interleavings.law_ports_pay.Goals as goal
+
+pub returns : goal.returns
+returns c = ports_pay_once

@@ -1,0 +1,5 @@
+use Rattle.ghs_protocol.proofs.Invariant.SoundRuns.{rejected_links_aside}
+use Rattle.ghs_protocol.proofs.interleavings.law_rejected_not_tree.Goals as goal
+
+pub returns : goal.returns
+returns c = rejected_links_aside

@@ -1,0 +1,5 @@
+use Rattle.ghs_protocol.proofs.Invariant.LivesRuns.{silence_is_end}
+use Rattle.ghs_protocol.proofs.interleavings.law_silence.Goals as goal
+
+pub returns : goal.returns
+returns c = silence_is_end

@@ -1,0 +1,5 @@
+use Rattle.ghs_protocol.proofs.Invariant.SoundRuns.{end_is_tree}
+use Rattle.ghs_protocol.proofs.interleavings.law_tree.Goals as goal
+
+pub returns : goal.returns
+returns c = end_is_tree
