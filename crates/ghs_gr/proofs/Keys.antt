@@ -1,19 +1,19 @@
 -- Keys in order, each once.
-use Rattle.std.proofs.Common.{◌≡◌, ℕ, true, Bool, List, get_or, Ordering, nat_cmp, Less, [], arith}
-use Rattle.std.specs.Prelude.{◌==◌, ◌&&◌}
+use Rattle.std.proofs.Common.{◌≡◌, ◌≤◌, ◌+◌, ℕ, true, false, Bool, List, get_or, Ordering, nat_cmp, Less, [], arith}
+use Rattle.std.specs.Prelude.{All, ◌==◌, ◌&&◌}
 use Rattle.std.specs.Cmp.{IsEquivalence, IsTotalOrder, nat_cmp_total}
 use Rattle.std.specs.List.{AllPairs}
 use Rattle.std.specs.List.Retain.{DiffersFromLast, IsFiltered}
-use Rattle.std.specs.List.Sorted.{IsPermutation, IsSorted}
-use Rattle.std.specs.Ordering.{eq_by_cmp, ordering_then}
+use Rattle.std.specs.List.Sorted.{IsNonDecreasingBy, IsPermutation, IsSorted}
+use Rattle.std.specs.Ordering.{eq_by_cmp, is_lt, ordering_then}
 use Rattle.std.proofs.lemmas.Bool.{and_parts, eqb-true}
 use Rattle.std.proofs.lemmas.Bool.Decides.{nat_tests}
 use Rattle.std.proofs.lemmas.Cmp.{on_total, then_total}
 use Rattle.std.proofs.lemmas.List.Filters.{dedup_is}
 use Rattle.std.proofs.lemmas.List.Kept.{Contains-dedup, Contains-from_dedup, IsStrictlySortedBy-dedup}
-use Rattle.std.proofs.lemmas.List.Sorted.{Contains-permutation, IsPermutation-sym}
+use Rattle.std.proofs.lemmas.List.Sorted.{All-permutation, Contains-permutation, IsPermutation-sym}
 use Rattle.std.proofs.lemmas.Map.Keys.{Less-from_sorted}
-use Rattle.ghs_gr.specs.Key.{AreSameKeys}
+use Rattle.ghs_gr.specs.Key.{AreSameKeys, HasSmallEnds, code_of}
 use Rattle.ghs_gr.specs.RawGraph.{Triple, triple_lt}
 
 abbrev pub key_cmp : Triple → Triple → Ordering
@@ -61,3 +61,16 @@ same_keys xs ys zs moved kept key = (
   λ h. Contains-permutation ys xs key (IsPermutation-sym xs ys moved) (Contains-from_dedup key_eq ys key (rw (← dedup_is key_eq ys zs kept) h)),
   λ h. rw (dedup_is key_eq ys zs kept) (Contains-dedup key_equivalence key_eq-true ys key (Contains-permutation xs ys key moved h)),
 )
+
+-- a key of a greater number is no smaller key
+no_less : (x y : Triple) → HasSmallEnds x → HasSmallEnds y → code_of x ≤ code_of y → is_lt (key_cmp y x) ≡ false
+no_less x y p q le =
+    let weight : x.0 ≤ y.0 = omega (arith, le, p.0, p.1, q.0, q.1) in
+    let low : x.0 ≡ y.0 → x.1 ≤ y.1 = λ e. omega (arith, le, e, p.0, p.1, q.0, q.1) in
+    let high : x.0 ≡ y.0 → x.1 ≡ y.1 → x.2 ≤ y.2 = λ e f. omega (arith, le, e, f) in
+    grind (arith, nat_tests)
+
+pub sorted_by_code : (xs ys : List Triple) → All HasSmallEnds xs → IsPermutation xs ys → IsNonDecreasingBy code_of ys → IsSorted key_cmp ys
+sorted_by_code xs ys small moved up =
+    let all : All HasSmallEnds ys = All-permutation HasSmallEnds xs ys moved small in
+    λ k d l h. no_less (get_or ys k d) (get_or ys (k + 1) d) (all k d (omega arith)) (all (k + 1) d h) (up k (k + 1) d (omega arith) h)

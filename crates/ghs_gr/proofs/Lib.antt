@@ -6,5 +6,6 @@ pub mod Links
 pub mod Numbers
 pub mod Once
 pub mod Passes
+pub mod Plain
 pub mod Rows
 pub mod Slow

@@ -1,5 +1,5 @@
 -- The lines of a graph text, their fields and numbers, and what a line says.
-use Rattle.std.specs.Prelude.{ℕ, Bool, true, false, cond, codes, filter, map, nat_eq, nat_lt, ◌==◌, ◌&&◌, ◌||◌, ◌^◌, List, [], ◌∷◌, Option, Some, None}
+use Rattle.std.specs.Prelude.{ℕ, ◌≡◌, ◌<◌, ◌++◌, length, Bool, true, false, cond, codes, filter, map, nat_eq, nat_lt, ◌==◌, ◌&&◌, ◌||◌, ◌^◌, List, [], ◌∷◌, Option, Some, None}
 use Rattle.std.specs.List.{onto_first, slice_split, starts_with}
 use Rattle.std.specs.Str.{all_ascii_digits, bytes_eq}
 use Rattle.std.specs.Str.Parse.{digits_value}
@@ -27,6 +27,14 @@ fields_of line = filter is_nonempty (slice_split is_blank line)
 abbrev pub number_of : List ℕ → Option ℕ
 number_of field = let value = digits_value 10 field in
     cond (is_nonempty field && all_ascii_digits field && nat_lt value (2 ^ 32)) (Some value) None
+
+-- a text begins with digits of this value, then this byte, then the rest
+pub record IsNumberBefore (end : ℕ) (text : List ℕ) (value : ℕ) (rest : List ℕ) : Type 0 where
+  pub digits : List ℕ
+  pub some : 0 < length digits
+  pub all : all_ascii_digits digits ≡ true
+  pub number : number_of digits ≡ Some value
+  pub cut : text ≡ digits ++ end ∷ rest
 
 -- what the fields behind a `p` say
 abbrev pub problem_of : List (List ℕ) → Line

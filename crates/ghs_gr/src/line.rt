@@ -1,6 +1,7 @@
 //! The lines of a graph text, and what each of them says.
-ghost use Rattle.ghs_gr.specs.Line.{arc_of, fields_of, is_blank as is_blank_of, lines_of, meaning, number_of, problem_of};
-ghost use Rattle.std.specs.Prelude.{IfNone, IfSome, [], false, length, slice_index, true, ◌<◌, ◌≡◌, ◌≢◌, ◌≤◌, ◌∷◌, ℕ};
+ghost use Rattle.ghs_gr.specs.Line.{IsNumberBefore, arc_of, fields_of, is_blank as is_blank_of, lines_of, meaning, meanings, number_of, problem_of};
+ghost use Rattle.ghs_gr.specs.declared.line.Line.TheVariants as line;
+ghost use Rattle.std.specs.Prelude.{IfNone, IfSome, Some, [], false, length, slice_index, true, ◌<◌, ◌≡◌, ◌≢◌, ◌≤◌, ◌∷◌, ℕ};
 
 use bstr::ByteSlice;
 
@@ -17,8 +18,55 @@ pub enum Line {
     Arc(Option<u32>, Option<u32>, Option<u32>),
 }
 
+/// What the first line says, and what is behind it.
+pub fn next_meaning(text: &[u8]) -> Option<(Line, &[u8])>
+    ensures some { IfSome result (λ x. meanings text.now ≡ x.0 ∷ meanings x.1.now) }
+    ensures shorter { IfSome result (λ x. length x.1.now < length text.now) }
+    ensures none { IfNone result (text.now ≡ []) }
+{
+    if let Some((from, to, weight, rest)) = plain_arc(text) {
+        return Some((Line::Arc(Some(from), Some(to), Some(weight)), rest));
+    }
+    let (line, rest) = next_line(text)?;
+    Some((meaning_of(line), rest))
+}
+
+/// From, to and weight of the first line, where it is an arc line in the form that nearly all have: single spaces, a
+/// line feed behind it, and numbers that fit. It is read as it stands, without being cut into fields first.
+fn plain_arc(text: &[u8]) -> Option<(u32, u32, u32, &[u8])>
+    ensures some { IfSome result (λ x. meanings text.now ≡ line.Arc (Some x.0) (Some x.1) (Some x.2) ∷ meanings x.3.now) }
+    ensures shorter { IfSome result (λ x. length x.3.now < length text.now) }
+{
+    let fields = text.strip_prefix(b"a ")?;
+    let (from, rest) = number_before(b' ', fields)?;
+    let (to, rest) = number_before(b' ', rest)?;
+    let (weight, rest) = number_before(b'\n', rest)?;
+    Some((from, to, weight, rest))
+}
+
+/// The number of the digits at the front, where this byte stands right behind them, and what is behind that byte.
+fn number_before(end: u8, text: &[u8]) -> Option<(u32, &[u8])>
+    ensures { IfSome result (λ x. IsNumberBefore end text.now x.0 x.1.now) }
+{
+    let mut value = 0u64;
+    for (i, byte) in text.iter().enumerate() {
+        if !byte.is_ascii_digit() {
+            if *byte != end || i == 0 {
+                return None;
+            }
+            let (_, rest) = text.split_at(i + 1);
+            return Some((value as u32, rest));
+        }
+        value = value * 10 + (*byte - b'0') as u64;
+        if value >= 1 << 32 {
+            return None;
+        }
+    }
+    None
+}
+
 /// The first line, without its line feed, and what is behind it.
-pub fn next_line(text: &[u8]) -> Option<(&[u8], &[u8])>
+fn next_line(text: &[u8]) -> Option<(&[u8], &[u8])>
     ensures some { IfSome result (λ x. lines_of text.now ≡ x.0.now ∷ lines_of x.1.now) }
     ensures shorter { IfSome result (λ x. length x.1.now < length text.now) }
     ensures none { IfNone result (text.now ≡ []) }
@@ -40,7 +88,7 @@ pub fn next_line(text: &[u8]) -> Option<(&[u8], &[u8])>
 }
 
 /// What a line says.
-pub fn meaning_of(line: &[u8]) -> Line
+fn meaning_of(line: &[u8]) -> Line
     ensures { result ≡ meaning line.now }
 {
     let Some((first, more)) = next_field(line) else {

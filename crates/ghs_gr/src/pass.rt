@@ -11,7 +11,7 @@ use crate::arc::link_in;
 use crate::check::line_fault;
 use crate::fault::LineFault;
 use crate::key::put_key;
-use crate::line::{Line, meaning_of, next_line};
+use crate::line::{Line, next_meaning};
 use crate::problem::Problem;
 use crate::raw_graph::Key3;
 use crate::text::TEXT_LIMIT;
@@ -55,11 +55,11 @@ impl Pass {
         ensures lines { IfOk result (λ _. self.new.lines ≤ self.old.lines + length text.now) }
     {
         let mut rest = text;
-        'lines: while let Some((line, after)) = next_line(rest) {
+        'lines: while let Some((line, after)) = next_meaning(rest) {
             if self.fault.is_some() {
                 return Ok(());
             }
-            self.take(meaning_of(line))?;
+            self.take(line)?;
             rest = after;
         }
         Ok(())
