@@ -65,6 +65,7 @@ fn parallel_arcs(rt: HostRuntime) -> Result<(), Fail> {
         ("p sp 2 2\na 1 2 5\na 1 2 5", 1, "t 1 2 5\nw 5\n"),
         ("p sp 2 2\na 1 1 3\na 1 2 5", 1, "t 1 2 5\nw 5\n"),
         ("p sp 1 1\na 1 1 5", 0, "w 0\n"),
+        ("p sp 2 1\na 1 1 5", 0, "w 0\n"),
         (
             "p sp 3 4\na 1 2 4\na 2 3 9\na 2 1 7\na 3 2 8",
             4,
@@ -92,7 +93,6 @@ fn faults(rt: HostRuntime) -> Result<(), Fail> {
         ("p sp 2 1\np sp 2 1", ServeFault::SecondProblem(2)),
         ("p sp 2 1\na 1 3 5", ServeFault::NodeRange(2)),
         ("p sp 2 1\na 9 9 5", ServeFault::NodeRange(2)),
-        ("p sp 2 1\na 1 1 5", ServeFault::Disconnected(2)),
         ("p sp 2 1\na 1 2 -5", ServeFault::Number(2)),
         ("p sp 2 1\na 1 2 5 6", ServeFault::BadLine(2)),
         ("p sp 2 1\na 0 2 5", ServeFault::NodeRange(2)),
