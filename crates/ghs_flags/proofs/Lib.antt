@@ -4,4 +4,5 @@ pub mod Towers
 pub mod Ranks
 pub mod Rows
 pub mod Turning
-pub mod Finding
+pub mod Counted
+pub mod lemmas

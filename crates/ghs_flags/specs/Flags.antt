@@ -1,6 +1,7 @@
 -- Rows of flags.
 use Rattle.std.specs.Prelude.{◌≡◌, ℕ, ◌≤◌, Bool, true, false, Option, List, length, take, slice_index_or, if◌then◌else◌}
 use Rattle.std.specs.List.{count_by}
+use Rattle.ghs_flags.specs.declared.flags.TheConstants.{BLOCK, FLAG_LIMIT}
 use Rattle.ghs_flags.specs.First.{IsFirst}
 use Rattle.ghs_flags.specs.Counts.{AreCounts}
 
@@ -24,7 +25,7 @@ IsFirstFrom flags i e found = IsFirst (at flags) i e found
 abbrev pub one_if : Bool → ℕ
 one_if raised = if raised then 1 else 0
 
--- the raised flags of each block of 512 are counted
+-- the raised flags of each block are counted
 pub record IsCounted (flags : List Bool) (blocks : List ℕ) : Type 0 where
-  pub few : length flags ≤ 2147483648
-  pub counted : AreCounts 512 one_if blocks flags
+  pub few : length flags ≤ FLAG_LIMIT
+  pub counted : AreCounts BLOCK one_if blocks flags

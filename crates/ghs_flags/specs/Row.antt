@@ -1,6 +1,7 @@
 -- Flags as the bits of words.
 use Rattle.std.specs.Prelude.{◌≡◌, ℕ, ◌+◌, ◌*◌, ◌/◌, ◌%◌, ◌^◌, ◌<◌, ◌≤◌, Bool, true, List, length, take, map, slice_index, count_ones}
 use Rattle.std.specs.List.{sum_by, range_with_len}
+use Rattle.ghs_flags.specs.declared.flags.TheConstants.{FLAG_LIMIT}
 use Rattle.ghs_flags.specs.Word.{has_bit, ones_below}
 use Rattle.ghs_flags.specs.Flags.{count}
 
@@ -29,6 +30,6 @@ pub record IsNthFlag (words : List ℕ) (k p : ℕ) : Type 0 where
 -- words for n flags, and no bit set past them
 pub record IsRow (words : List ℕ) (n : ℕ) : Type 0 where
   pub bits : (k : ℕ) → slice_index words k < 2 ^ 64
-  pub few : n ≤ 2147483648
+  pub few : n ≤ FLAG_LIMIT
   pub enough : length words ≡ n / 64 + 1
   pub all : sum_by count_ones words ≡ count (flags_of words n)

@@ -6,7 +6,7 @@ ghost use Rattle.ghs_flags.specs.Counts.{PassesAt};
 use std::alloc::{AllocError, Global};
 use std::marker::Model;
 
-// How many counts of one height the next height adds up.
+/// How many counts of one height the next height adds up.
 const WIDTH: usize = 32;
 
 /// A list of counts.
@@ -112,7 +112,7 @@ impl Counts {
     }
 }
 
-// Where the sum of the counts passes what comes before `start` and `rest` more, and what is left there.
+/// Where the sum of the counts passes what comes before `start` and `rest` more, and what is left there.
 fn find_from(counts: &[u32], start: usize, mut rest: u32) -> (usize, u32)
     requires { sum (take start counts.now) + rest < sum counts.now }
     ensures { PassesAt counts.now (sum (take start counts.now) + rest) result.0 result.1 }
@@ -127,7 +127,7 @@ fn find_from(counts: &[u32], start: usize, mut rest: u32) -> (usize, u32)
     unreachable!()
 }
 
-// The sum of the counts from one place up to another.
+/// The sum of the counts from one place up to another.
 fn sum_between(counts: &[u32], start: usize, end: usize) -> u32
     requires order { start ≤ end }
     requires within { end ≤ length counts.now }

@@ -1,4 +1,8 @@
 //! Rows of flags whose raised ones are quickly found.
+//!
+//! A flag takes a bit, and a sixteenth of a bit for what counts it. To find a flag by its rank, or the first from a
+//! place on, and to count those before a place takes 4 passes over at most 32 counts each (the last over one count for
+//! 16 million flags), and one over at most 9 words; to change a flag takes 6 writes.
 ghost use Rattle.std.specs.Prelude.{◌≡◌, ◌*◌, ◌<◌, ◌≤◌, false, length, take, replicate, slice_set, IfOk};
 ghost use Rattle.ghs_flags.specs.Flags.{IsKth, IsFirstFrom, at, count};
 
@@ -7,10 +11,13 @@ use crate::row::Row;
 use std::alloc::{AllocError, Global};
 use std::marker::Model;
 
-// How many flags one count is of.
+/// How many flags a row has at most.
+pub const FLAG_LIMIT: usize = 2_147_483_648;
+
+/// How many flags one count is of.
 const BLOCK: usize = 512;
 
-/// A row of flags.
+/// A row of flags, numbered from 0.
 #[derive(Debug, Drop)]
 pub struct Flags {
     row: Row,
@@ -30,9 +37,9 @@ impl Model for Flags {
 }
 
 impl Flags {
-    /// So many flags, none of them raised.
+    /// So many flags, none of them raised. At most `FLAG_LIMIT`; O(len).
     pub fn lowered(alloc: Global, len: usize) -> Result<Flags, AllocError>
-        requires { len ≤ 2147483648 }
+        requires { len ≤ FLAG_LIMIT }
         ensures { IfOk result (λ f. f ≡ replicate len false) }
     {
         let row = Row::lowered(alloc, len)?;
@@ -40,21 +47,21 @@ impl Flags {
         Ok(Flags { row, blocks })
     }
 
-    /// How many flags there are.
+    /// How many flags there are. O(1).
     pub fn len(&self) -> usize
         ensures { result ≡ length self.now }
     {
         self.row.len()
     }
 
-    /// How many flags are raised.
+    /// How many flags are raised. O(1).
     pub fn count(&self) -> u32
         ensures { result ≡ count self.now }
     {
         self.blocks.total()
     }
 
-    /// Whether a flag is raised.
+    /// Whether the flag at a place is raised. O(1).
     pub fn is_raised(&self, place: usize) -> bool
         requires { place < length self.now }
         ensures { result ≡ at self.now place }
@@ -62,7 +69,7 @@ impl Flags {
         self.row.is_raised(place)
     }
 
-    /// Raises or lowers a flag. Takes no memory.
+    /// Raises or lowers the flag at a place. O(1), and takes no memory.
     pub fn set(&mut self, place: usize, raised: bool)
         requires { place < length self.old }
         ensures { self.new ≡ slice_set self.old place raised }
@@ -77,7 +84,7 @@ impl Flags {
         }
     }
 
-    /// The place of the raised flag before which `k` are raised.
+    /// The place of the raised flag before which `k` are raised; `k` is below `count()`.
     pub fn kth(&self, k: u32) -> usize
         requires { k < count self.now }
         ensures within { result < length self.now }
@@ -87,7 +94,7 @@ impl Flags {
         self.row.find_from(block * BLOCK, rest)
     }
 
-    /// How many flags before a place are raised.
+    /// How many flags before a place are raised. The place may be the end of the row.
     pub fn count_before(&self, place: usize) -> u32
         requires { place ≤ length self.now }
         ensures { result ≡ count (take place self.now) }
@@ -96,7 +103,7 @@ impl Flags {
         self.blocks.sum_before(block) + self.row.count_between(block * BLOCK, place)
     }
 
-    /// The first raised flag at a place or behind it.
+    /// The place of the first raised flag at a place or behind it, if one is raised there.
     pub fn first_from(&self, place: usize) -> Option<usize>
         requires { place ≤ length self.now }
         ensures { IsFirstFrom self.now place (length self.now) result }
@@ -104,7 +111,7 @@ impl Flags {
         self.first_from_to(place, self.len())
     }
 
-    /// The first raised flag from a place up to another.
+    /// The place of the first raised flag from a place up to another, which isn't looked at.
     pub fn first_from_to(&self, place: usize, end: usize) -> Option<usize>
         requires order { place ≤ end }
         requires within { end ≤ length self.now }
@@ -120,11 +127,11 @@ impl Flags {
         }
     }
 
-    // The first raised flag from where a block begins up to a place.
+    /// The same, from where a block begins.
     fn first_from_block(&self, block: usize, end: usize) -> Option<usize>
-        requires order { block * 512 ≤ end }
+        requires order { block * BLOCK ≤ end }
         requires within { end ≤ length self.now }
-        ensures { IsFirstFrom self.now (block * 512) end result }
+        ensures { IsFirstFrom self.now (block * BLOCK) end result }
     {
         let before = self.blocks.sum_before(block);
         if before == self.count() {

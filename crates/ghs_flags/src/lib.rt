@@ -4,4 +4,6 @@
 mod counts;
 pub mod flags;
 mod row;
+#[cfg(test)]
+mod tests;
 mod word;

@@ -5,11 +5,12 @@ ghost use Rattle.ghs_flags.specs.First.{IsFirst};
 ghost use Rattle.ghs_flags.specs.Flags.{IsKth, IsFirstFrom, at, count};
 ghost use Rattle.ghs_flags.specs.Row.{IsNthFlag, flag_at, ones_of, rank};
 
+use crate::flags::FLAG_LIMIT;
 use crate::word::{first_bit, has_bit, nth_bit, ones_below, turned};
 use std::alloc::{AllocError, Global};
 use std::marker::Model;
 
-// How many flags a word has.
+/// How many flags a word has.
 const BITS: usize = 64;
 
 /// A row of flags. Flag p is bit p % 64 of word p / 64.
@@ -33,7 +34,7 @@ impl Model for Row {
 impl Row {
     /// So many flags, none of them raised.
     pub fn lowered(alloc: Global, len: usize) -> Result<Row, AllocError>
-        requires { len ≤ 2147483648 }
+        requires { len ≤ FLAG_LIMIT }
         ensures { IfOk result (λ r. r ≡ replicate len false) }
     {
         let words = vec![in alloc; 0u64; len / BITS + 1]?;
@@ -93,7 +94,7 @@ impl Row {
     }
 }
 
-// How many bits are set from word `start` up to the bit of a flag.
+/// How many bits are set from word `start` up to the bit of a flag.
 fn count_from(words: &[u64], start: usize, place: usize) -> u32
     requires order { start ≤ place / 64 }
     requires within { place < length words.now * 64 }
@@ -108,7 +109,7 @@ fn count_from(words: &[u64], start: usize, place: usize) -> u32
     total
 }
 
-// The set bit with `rest` set ones between word `start` and itself.
+/// The set bit with `rest` set ones between word `start` and itself.
 fn find_bit(words: &[u64], start: usize, mut rest: u32) -> usize
     requires few { length words.now * 64 < 2 ^ 32 }
     requires some { ones_of start words.now + rest < sum_by count_ones words.now }
@@ -124,7 +125,7 @@ fn find_bit(words: &[u64], start: usize, mut rest: u32) -> usize
     unreachable!()
 }
 
-// The first set bit from that of one flag up to that of another.
+/// The first set bit from that of one flag up to that of another.
 fn first_bit_between(words: &[u64], start: usize, end: usize) -> Option<usize>
     requires few { length words.now * 64 < 2 ^ 32 }
     requires within { end ≤ length words.now * 64 }

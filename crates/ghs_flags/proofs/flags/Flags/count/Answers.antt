@@ -1,5 +1,5 @@
 use Rattle.std.proofs.Common.{◌∙◌}
-use Rattle.ghs_flags.proofs.Finding.{sum_blocks}
+use Rattle.ghs_flags.proofs.Counted.{sum_blocks}
 use Rattle.ghs_flags.proofs.flags.Flags.count.Goals as goal
 
 pub returns : goal.returns

@@ -1,5 +1,5 @@
 use Rattle.std.proofs.Common.{◌*◌, ◌∙◌, arith}
-use Rattle.ghs_flags.proofs.Finding.{kth_from, none_from}
+use Rattle.ghs_flags.proofs.lemmas.Raised.{kth_from, none_from}
 use Rattle.ghs_flags.proofs.flags.Flags.first_from_block.Goals as goal
 
 pub returns-then-before-count : goal.returns-then-before-count

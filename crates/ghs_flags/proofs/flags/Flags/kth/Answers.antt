@@ -1,5 +1,5 @@
 use Rattle.std.proofs.Common.{arith}
-use Rattle.ghs_flags.proofs.Finding.{sum_blocks}
+use Rattle.ghs_flags.proofs.Counted.{sum_blocks}
 use Rattle.ghs_flags.proofs.flags.Flags.kth.Goals as goal
 
 pub find-block-requires : goal.find-block-requires

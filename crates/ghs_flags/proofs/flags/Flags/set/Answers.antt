@@ -1,6 +1,6 @@
 use Rattle.std.proofs.Common.{◌≡◌, true, false, rules, arith}
 use Rattle.ghs_flags.specs.Flags.{at}
-use Rattle.ghs_flags.proofs.Finding.{sum_blocks, count_few, counted_set, block_some}
+use Rattle.ghs_flags.proofs.Counted.{sum_blocks, count_few, counted_set, block_some}
 use Rattle.ghs_flags.proofs.flags.Flags.set.Goals as goal
 
 pub increase-requires-clause-room : goal.increase-requires-clause-room

@@ -1,12 +1,11 @@
 -- Raised flags by their rank, and from a place on.
-use Rattle.std.proofs.Common.{◌≡◌, ℕ, ◌+◌, ◌/◌, ◌<◌, ◌≤◌, Bool, true, false, List, length, get_or, take, set, sym, ap, ◌∙◌, arith, ⊎_elim, length-set, true≢false}
-use Rattle.std.specs.List.{sum}
+use Rattle.std.proofs.Common.{◌≡◌, ℕ, ◌+◌, ◌<◌, ◌≤◌, Bool, true, false, List, length, take, sym, ◌∙◌, arith, ⊎_elim, true≢false}
 use Rattle.std.proofs.lemmas.Bool.{cases_lt, false_from_ne_true}
 use Rattle.std.proofs.lemmas.List.{get_or_past}
-use Rattle.std.proofs.lemmas.List.Sums.{sum_by-take-le, count_by_more_yes, count_by-le-length}
+use Rattle.std.proofs.lemmas.List.Sums.{sum_by-take-le, count_by_more_yes}
 use Rattle.ghs_flags.specs.First.{NonePasses}
-use Rattle.ghs_flags.specs.Flags.{IsKth, IsCounted, at, count, one_if}
-use Rattle.ghs_flags.proofs.Sums.{front_le, counts_all, counts_set, weight_le}
+use Rattle.ghs_flags.specs.Flags.{IsKth, at, count, one_if}
+use Rattle.ghs_flags.proofs.Sums.{front_le}
 
 module _ (flags : List Bool) where
   -- a raised flag is one of the row
@@ -39,26 +38,3 @@ module _ (flags : List Bool) where
       let front = front_le one_if flags e j le in
       let whole = sum_by-take-le one_if flags (j + 1) in
       absurd (omega arith))
-
--- none passes on one way and none on the next
-pub none_further : (passes : ℕ → Bool) (i e f : ℕ) → NonePasses passes i e → NonePasses passes e f → NonePasses passes i f
-none_further passes i e f first next = λ j lo hi. ⊎_elim (λ (lt : j < e). first j lo lt) (λ (le : e ≤ j). next j le hi) (cases_lt j e)
-
-module _ {flags : List Bool} {blocks : List ℕ} (kept : IsCounted flags blocks) where
-  pub sum_blocks : sum blocks ≡ count flags
-  sum_blocks = counts_all 512 (omega arith) one_if blocks flags kept.counted
-
-  pub count_few : count flags ≤ 2147483648
-  count_few = let few = kept.few in omega (arith, count_by-le-length (λ b. b) flags)
-
-  pub block_some : (p : ℕ) → at flags p ≡ true → 0 < get_or blocks (p / 512) 0
-  block_some p up =
-      let one : one_if (at flags p) ≡ 1 = ap one_if up in
-      omega (arith, weight_le 512 (omega arith) one_if blocks flags kept.counted p (raised_within flags p up) false)
-
-  -- a flag is written to, and its block's count
-  pub counted_set : (p : ℕ) (y : Bool) (c : ℕ) → p < length flags → c + one_if (at flags p) ≡ get_or blocks (p / 512) 0 + one_if y → IsCounted (set flags p y) (set blocks (p / 512) c)
-  counted_set p y c lt change = record {
-    few = let few = kept.few in omega (arith, length-set flags p y);
-    counted = counts_set 512 (omega arith) one_if blocks flags kept.counted p lt y false c change;
-  }

@@ -1,0 +1,2 @@
+-- What proofs about flags above this crate may use.
+pub mod Raised
