@@ -7,7 +7,7 @@ use Rattle.std.proofs.lemmas.List.Elements.{All-nil, All-cons, All-append}
 use Rattle.ghs_graph.specs.declared.key.Key.{Key}
 use Rattle.ghs_graph.specs.Graph.{Shape, IsGraph}
 use Rattle.ghs_graph.specs.Links.{Joined, Same, Over as Along, Back, links}
-use Rattle.ghs_graph.proofs.Joining.{joined_then, joined_back, passing, Decided, decided_joined}
+use Rattle.ghs_graph.proofs.lemmas.Joining.{joined_then, joined_back, passing, Decided, decided_joined}
 use Rattle.ghs_node.specs.declared.message.Phase.TheVariants.{Sleeping}
 use Rattle.ghs_node.specs.declared.message.Message.{Message}
 use Rattle.ghs_node.specs.declared.delta.Fate.{Fate}

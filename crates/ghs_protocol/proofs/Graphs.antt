@@ -1,18 +1,30 @@
--- The network of a graph is wired, and its nodes have few ports.
-use Rattle.std.proofs.Common.{◌≡◌, ℕ, ◌<◌, ◌⊎◌, inl, inr, ⊎_elim, true, refl, sym, ◌∙◌, ap, arith, subst}
-use Rattle.std.specs.List.{Contains}
+-- The network of a graph: it is wired, a node's ports rise and are few, and all ports together are twice the links.
+use Rattle.std.proofs.Common.{◌≡◌, ℕ, zero, suc, ◌+◌, ◌*◌, ◌<◌, ◌⊎◌, inl, inr, ⊎_elim, true, length, map, sum, refl, sym, ◌∙◌, ap, arith, subst, add-one}
+use Rattle.std.specs.List.{Contains, range_with_len}
+use Rattle.std.proofs.lemmas.List.FromFn.{sum_by-map-range_with_len_more}
+use Rattle.std.proofs.lemmas.List.Sums.{sum-map}
 use Rattle.std.proofs.lemmas.List.{get_or_default}
 use Rattle.std.proofs.lemmas.Option.{slice_get_within, slice_get-get_or, get_or_from_slice_get}
 use Rattle.ghs_graph.specs.declared.key.Key.{Key}
 use Rattle.ghs_graph.specs.declared.port.Port.{Port}
 use Rattle.ghs_graph.specs.Key.{key_lt, ends_at}
-use Rattle.ghs_graph.specs.Graph.{Shape, IsGraph}
+use Rattle.ghs_graph.specs.Graph.{Shape, IsGraph, nodes_of}
 use Rattle.ghs_graph.specs.Ports.{place_of, far_end, port_on, ports_of, HasPort}
 use Rattle.ghs_graph.specs.Laws.{HasTwoPorts}
-use Rattle.ghs_graph.proofs.KeyOrder.{no_key}
-use Rattle.ghs_graph.proofs.Wiring.{length-ports_of, degree-le-length, ports_end_elsewhere, ports_lead_back, ports_rise, OnLink, on_link, far_end_a, far_end_b, end_cases, among_at, links_have_two_ports}
+use Rattle.ghs_graph.proofs.lemmas.Keys.{no_key}
+use Rattle.ghs_graph.proofs.lemmas.Ports.{length-ports_of, degree-le-length, ports_end_elsewhere, ports_lead_back, ports_rise, OnLink, on_link, far_end_a, far_end_b, end_cases, among_at, links_have_two_ports}
+use Rattle.ghs_graph.proofs.lemmas.Degrees.{degrees_are_twice}
 use Rattle.ghs_protocol.specs.Network.{network_of, no_port, port_at, far, far_port, At, IsWired}
 use Rattle.ghs_protocol.specs.Nodes.{HasFewPorts}
+use Rattle.ghs_protocol.specs.Ledger.{sum_below}
+
+-- a sum over the nodes, in ghs_graph's way to say it
+sum_nodes : (n : ℕ) (f : ℕ → ℕ) → sum_below n (λ i. f (suc i)) ≡ sum (map f (range_with_len 1 n))
+sum_nodes zero f = refl
+sum_nodes (suc n) f =
+    let one_more : sum (map f (range_with_len 1 (n + 1))) ≡ sum (map f (range_with_len 1 n)) + f (suc n) = sum_by-map-range_with_len_more (λ x. x) f 1 n (suc n) (omega arith) in
+    let same : sum (map f (range_with_len 1 (suc n))) ≡ sum (map f (range_with_len 1 (n + 1))) = ap (λ m. sum (map f (range_with_len 1 m))) (sym (add-one n)) in
+    omega (arith, sum_nodes n f, one_more, same)
 
 module _ (g : Shape) (ok : IsGraph g) where
   pub has_port : (v p : ℕ) → At (network_of g) v p → HasPort g.keys v p (port_at (network_of g) v p)
@@ -38,6 +50,9 @@ module _ (g : Shape) (ok : IsGraph g) where
 
   pub graph_few : HasFewPorts (network_of g)
   graph_few v = omega (arith, length-ports_of g.keys v, degree-le-length g.keys v, ok.links)
+
+  pub twice_links : sum_below g.nodes (λ i. length (ports_of g.keys (suc i))) ≡ 2 * length g.keys
+  twice_links = sum_nodes g.nodes (λ v. length (ports_of g.keys v)) ∙ sum-map (λ v. length (ports_of g.keys v)) (nodes_of g) ∙ degrees_are_twice g ok
 
   -- the keys of a node's ports rise
   pub graph_rising : (v p q : ℕ) → p < q → At (network_of g) v q → key_lt (port_at (network_of g) v p).key (port_at (network_of g) v q).key ≡ true

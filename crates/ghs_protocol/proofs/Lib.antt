@@ -16,7 +16,6 @@ pub mod Waking
 pub mod Acts
 pub mod Ends
 pub mod Sums
-pub mod Degrees
 pub mod Waits
 pub mod WellFormed
 pub mod Balance

@@ -81,14 +81,14 @@ SendsWithinBound = (g : Shape) (w : Net) → IsNetOf g w → (b : ℕ) → IsBou
 abbrev pub SendsWithinSharpBound : Type 0
 SendsWithinSharpBound = (g : Shape) (w : Net) → IsNetOf g w → (b : ℕ) → 2 ≤ g.nodes → IsBound g.nodes (length g.keys) b → in_all w.sent + 2 * g.nodes ≤ b
 
--- each level of a node pays for one message of each sort at most
+-- each level of a node pays for one message of each sort at most, up to the highest level, which is the floor of log2 of the nodes
 abbrev pub LevelsPayOnce : Type 0
 LevelsPayOnce =
-    (g : Shape) (es : List Event) (w : Net) → IsGraph g → IsAfter (network_of g) es w → (k : ℕ) → IsFloorLog2 g.nodes k → (v : ℕ) → 1 ≤ v → v ≤ g.nodes → (l : ℕ) →
-    LevelPays (network_of g) k es w v l
+    (g : Shape) (es : List Event) (w : Net) → IsGraph g → IsAfter (network_of g) es w →
+    (k : ℕ) × IsFloorLog2 g.nodes k × ((v : ℕ) → 1 ≤ v → v ≤ g.nodes → (l : ℕ) → LevelPays (network_of g) k es w v l)
 
 -- each direction of a link pays once at most, and not while it is being tested
 abbrev pub PortsPayOnce : Type 0
 PortsPayOnce =
-    (g : Shape) (es : List Event) (w : Net) → IsGraph g → IsAfter (network_of g) es w → (k : ℕ) → IsFloorLog2 g.nodes k → (v p : ℕ) → At (network_of g) v p →
+    (g : Shape) (es : List Event) (w : Net) → IsGraph g → IsAfter (network_of g) es w → (v p : ℕ) → At (network_of g) v p →
     (added_up (port_pays v p) (network_of g) es (opening (network_of g)) ≤ 1) × ((w.node v).head.probe ≡ Some p → added_up (port_pays v p) (network_of g) es (opening (network_of g)) ≡ 0)

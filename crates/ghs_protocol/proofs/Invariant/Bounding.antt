@@ -13,8 +13,7 @@ use Rattle.ghs_protocol.specs.Invariant.World.{Ghost, world}
 use Rattle.ghs_protocol.specs.Invariant.Whole.{opening_ghost}
 use Rattle.ghs_protocol.specs.Invariant.Charges.{sum_over_nodes, busy, testing, moved_on, paid_at, Charges, HasCharges}
 use Rattle.ghs_protocol.proofs.Balance.{after_balanced}
-use Rattle.ghs_protocol.proofs.Degrees.{twice_links}
-use Rattle.ghs_protocol.proofs.Graphs.{graph_wired, graph_few, graph_keyed, graph_rising}
+use Rattle.ghs_protocol.proofs.Graphs.{graph_wired, graph_few, graph_keyed, graph_rising, twice_links}
 use Rattle.ghs_protocol.proofs.Sums.{sum_most, sum_add}
 use Rattle.ghs_protocol.proofs.Invariant.ChargesRuns.{after_charges, by_memory}
 use Rattle.ghs_protocol.proofs.Invariant.Pending.{level_most, calls_most, quota, accepts_most, ports_most, roots_most}

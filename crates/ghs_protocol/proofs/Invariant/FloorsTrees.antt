@@ -9,11 +9,10 @@ use Rattle.ghs_graph.specs.Graph.{Shape, IsGraph}
 use Rattle.ghs_graph.specs.Links.{Joined, Same, Over as Along, Back, links, links_below, InTree, IsTree}
 use Rattle.ghs_graph.specs.Laws.{links_but}
 use Rattle.ghs_graph.specs.Ports.{place_of, port_on, ports_of}
-use Rattle.ghs_graph.proofs.KeyOrder.{no_key, below_at}
-use Rattle.ghs_graph.proofs.Growing.{tree_of_none, tree_takes, tree_leaves}
-use Rattle.ghs_graph.proofs.Joining.{decided_joined, joined_within, joined_back}
-use Rattle.ghs_graph.proofs.Least.{none_is_spare}
-use Rattle.ghs_graph.proofs.Wiring.{links_have_two_ports, among_at, far_end_a}
+use Rattle.ghs_graph.proofs.lemmas.Joining.{joined_back}
+use Rattle.ghs_graph.proofs.lemmas.Computing.{tree, tree_is}
+use Rattle.ghs_graph.proofs.lemmas.Forests.{none_is_spare}
+use Rattle.ghs_graph.proofs.lemmas.Ports.{links_have_two_ports, among_at, far_end_a}
 use Rattle.ghs_node.specs.Words.{is_branch}
 use Rattle.ghs_node.specs.declared.mark.Mark.TheVariants.{Branch, Rejected}
 use Rattle.ghs_protocol.specs.Network.{Network, network_of, no_port, port_at, At, far, far_port}
@@ -73,21 +72,12 @@ module _ (s : Shape) (ok : IsGraph s) where
           ⊎_elim (λ e. subst (λ y. Joined T y b) (sym e.0) (Along k (from a p at x) (subst (λ y. Joined T y b) e.1 rest)))
           (λ e. subst (λ y. Joined T y b) (sym e.0) (Back k (from a p at x) (subst (λ y. Joined T y b) e.1 rest))) (port_ends s ok a p at)
 
-  -- a tree there is
-  tree_up_to : (i : ℕ) → i ≤ length s.keys → (t : List Key) × IsTree (take i s.keys) t
-  tree_up_to zero le = ([], tree_of_none)
-  tree_up_to (suc i) le =
-      let k = get_or s.keys i no_key in
-      let rest = tree_up_to i (omega arith) in
-      let below = below_at s.keys i no_key ok.rising (omega arith) in
-      let more : take i s.keys ++ k ∷ [] ≡ take (suc i) s.keys = sym (ap (λ n. take n s.keys) (sym (add-one i)) ∙ take_more s.keys i no_key (omega arith)) in
-      ⊎_elim
-      (λ way. (rest.0, subst (λ ks. IsTree ks rest.0) more (tree_leaves (take i s.keys) rest.0 k below rest.1 (joined_within (λ j z. z.0) way))))
-      (λ ne. (rest.0 ++ k ∷ [], subst (λ ks. IsTree ks (rest.0 ++ k ∷ [])) more (tree_takes (take i s.keys) rest.0 k below rest.1 (λ way. ne (joined_within (λ j z. (z, refl)) way)))))
-      (decided_joined (λ x. true) (take i s.keys) k.a k.b)
+  -- the graph's minimum spanning forest
+  abbrev forest_of : List Key
+  forest_of = tree s.keys
 
-  the_tree : (t : List Key) × IsTree s.keys t
-  the_tree = let z = tree_up_to (length s.keys) (omega arith) in (z.0, subst (λ ks. IsTree ks z.0) (take_all (length s.keys) s.keys (omega arith)) z.1)
+  is_forest : IsTree s.keys forest_of
+  is_forest = tree_is s.keys ok.rising
 
   module _ (w : World) (holds : Invariant (network_of s) w) (floor : ℕ → Floor) (floors : Floors (network_of s) w floor) where
     joined_back_in : (v p : ℕ) → At g v p → IsJoinedIn g (forest w) v p → IsJoinedIn g (forest w) (far g v p) (far_port g v p)
@@ -115,17 +105,17 @@ module _ (s : Shape) (ok : IsGraph s) where
         k = (port_at (network_of s) v p).key
 
         T : Key → Type 0
-        T = links_but the_tree.0 k
+        T = links_but forest_of k
 
-        spare : Joined (links_but the_tree.0 k) (port_at g v p).key.a (port_at g v p).key.b → ⊥
-        spare = none_is_spare s.keys the_tree.0 the_tree.1 (port_at g v p).key (the_tree.1.all _ tree)
+        spare : Joined (links_but forest_of k) (port_at g v p).key.a (port_at g v p).key.b → ⊥
+        spare = none_is_spare s.keys forest_of is_forest (port_at g v p).key (is_forest.all _ tree)
 
         joined_turned : {a b : ℕ} → Joined T a b → Joined T b a
         joined_turned x = joined_back x
 
         from : (a b : ℕ) → At g a b → IsJoinedIn g (forest w) a b → T (port_at g a b).key
         from a b at' j = (
-          the_tree.1.all _ (branch_in_tree a b at' (branch_mark _ j.here)),
+          is_forest.all _ (branch_in_tree a b at' (branch_mark _ j.here)),
           λ e. ⊎_elim (λ z. apart (subst₂ (λ x y. IsJoinedIn g (forest w) x y) z.0 z.1 j)) (λ z. apart (subst₂ (λ x y. IsJoinedIn g (forest w) x y) z.0 z.1 (joined_back_in a b at' j))) (graph_keyed s ok a b v p at' at e),
         )
 

@@ -3,6 +3,7 @@ use Rattle.std.proofs.Common.{◌≡◌, ◌≢◌, ◌⊎◌, ℕ, zero, suc, �
 use Rattle.std.proofs.lemmas.Bool.{cases_eq, cases_lt}
 use Rattle.std.proofs.lemmas.Option.{same_Some}
 use Rattle.ghs_graph.specs.Bound.{IsFloorLog2}
+use Rattle.ghs_graph.proofs.lemmas.Logs.{floor_log2_is_one}
 use Rattle.ghs_node.specs.declared.head.Head.{Head}
 use Rattle.ghs_node.specs.declared.message.Phase.{Phase}
 use Rattle.ghs_node.specs.declared.message.Phase.TheVariants.{Sleeping, Find, Found}
@@ -402,4 +403,6 @@ module _ (g : Network) (wired : IsWired g) (ordered : IsOrdered g) (keyed : IsKe
     }
 
 pub levels_pay_once : LevelsPayOnce
-levels_pay_once g es w ok after k log v lo hi l = level_pays (network_of g) (graph_wired g ok) (graph_rising g ok) (graph_keyed g ok) k log (graph_few g ok) es w after v (record { some = lo; node = hi }) l
+levels_pay_once g es w ok after =
+    let top = floor_log2_is_one g.nodes ok.some in
+    (top.0, top.1, λ v lo hi l. level_pays (network_of g) (graph_wired g ok) (graph_rising g ok) (graph_keyed g ok) top.0 top.1 (graph_few g ok) es w after v (record { some = lo; node = hi }) l)

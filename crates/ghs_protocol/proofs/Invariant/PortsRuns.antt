@@ -2,6 +2,7 @@
 use Rattle.std.proofs.Common.{◌≡◌, ◌≢◌, ◌⊎◌, inl, inr, ℕ, ◌+◌, ◌-◌, ◌≤◌, ◌==◌, ◌&&◌, not, Bool, true, false, Option, Some, None, List, [], ◌∷◌, refl, sym, ◌∙◌, ap, ap₂, subst, arith, ⊎_elim, eq-eqb, ne_eqb, zero-add, if◌then◌else◌}
 use Rattle.std.proofs.lemmas.Bool.{cases_eq}
 use Rattle.ghs_graph.specs.Bound.{IsFloorLog2}
+use Rattle.ghs_graph.proofs.lemmas.Logs.{floor_log2_is_one}
 use Rattle.ghs_node.specs.declared.head.Head.{Head}
 use Rattle.ghs_node.specs.declared.mark.Mark.{Mark}
 use Rattle.ghs_node.specs.declared.mark.Mark.TheVariants.{Basic, Branch, Rejected}
@@ -221,4 +222,6 @@ module _ (g : Network) (wired : IsWired g) (ordered : IsOrdered g) (keyed : IsKe
           (counted g wired (port_pays v p) Covered event_covered es (opening g) w 0 (opening_formed g few) (record { has = opening_has g wired ordered keyed k log; within = omega arith }) after)
 
 pub ports_pay_once : PortsPayOnce
-ports_pay_once g es w ok after k log v p at = port_covered (network_of g) (graph_wired g ok) (graph_rising g ok) (graph_keyed g ok) k log v p at (graph_few g ok) es w after
+ports_pay_once g es w ok after v p at =
+    let top = floor_log2_is_one g.nodes ok.some in
+    port_covered (network_of g) (graph_wired g ok) (graph_rising g ok) (graph_keyed g ok) top.0 top.1 v p at (graph_few g ok) es w after

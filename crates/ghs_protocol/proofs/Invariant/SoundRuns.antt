@@ -5,7 +5,7 @@ use Rattle.ghs_graph.specs.Graph.{Shape}
 use Rattle.ghs_graph.specs.Links.{Joined, Same, Over as Along, links, InTree}
 use Rattle.ghs_graph.specs.Ports.{place_of}
 use Rattle.std.proofs.lemmas.List.Elements.{All-contains}
-use Rattle.ghs_graph.proofs.Joining.{joined_then, joined_back}
+use Rattle.ghs_graph.proofs.lemmas.Joining.{joined_then, joined_back}
 use Rattle.ghs_protocol.specs.declared.event.Event.{Event}
 use Rattle.ghs_protocol.specs.Network.{Network, network_of, port_at, At, IsWired}
 use Rattle.ghs_protocol.specs.Net.{Net, opening}
