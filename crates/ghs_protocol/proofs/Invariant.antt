@@ -85,4 +85,5 @@ pub mod ChargesRuns
 pub mod Pending
 pub mod PaymentsRuns
 pub mod PortsRuns
+pub mod Exhausting
 pub mod Bounding

@@ -17,7 +17,7 @@ use Rattle.ghs_graph.specs.declared.key.Key.{Key}
 use Rattle.ghs_graph.specs.Links.{Joined, links, InTree}
 use Rattle.ghs_protocol.specs.Marks.{InOneFragment, IsBranchLink, IsRejectedLink, IsJoinedLink, HasHalted, HasEnded}
 use Rattle.ghs_protocol.specs.Ledger.{in_all}
-use Rattle.ghs_protocol.specs.Payments.{LevelPays, added_up, port_pays}
+use Rattle.ghs_protocol.specs.Payments.{LevelPays, AllIsPaid, added_up, port_pays}
 use Rattle.ghs_protocol.specs.Run.{IsAfter}
 use Rattle.ghs_protocol.specs.Laws.{IsNetOf, IsLater}
 
@@ -86,6 +86,12 @@ abbrev pub LevelsPayOnce : Type 0
 LevelsPayOnce =
     (g : Shape) (es : List Event) (w : Net) → IsGraph g → IsAfter (network_of g) es w →
     (k : ℕ) × IsFloorLog2 g.nodes k × ((v : ℕ) → 1 ≤ v → v ≤ g.nodes → (l : ℕ) → LevelPays (network_of g) k es w v l)
+
+-- all that was sent is what levels and ports have paid, what waits, and the Tests that have no end yet
+abbrev pub SendsArePaid : Type 0
+SendsArePaid =
+    (g : Shape) (es : List Event) (w : Net) → IsGraph g → IsAfter (network_of g) es w →
+    (k : ℕ) × IsFloorLog2 g.nodes k × AllIsPaid (network_of g) k es w
 
 -- each direction of a link pays once at most, and not while it is being tested
 abbrev pub PortsPayOnce : Type 0

@@ -1,5 +1,5 @@
--- What each level of a node pays for, counted over the events of a run.
-use Rattle.std.specs.Prelude.{◌≡◌, ℕ, ◌+◌, ◌-◌, ◌≤◌, ◌<◌, Bool, true, false, not, ◌&&◌, ◌==◌, Option, Some, None, List, [], ◌∷◌, length, if◌then◌else◌}
+-- What each level of a node pays for, and each port, counted over the events of a run.
+use Rattle.std.specs.Prelude.{◌≡◌, ℕ, suc, ◌+◌, ◌-◌, ◌≤◌, ◌<◌, Bool, true, false, not, ◌&&◌, ◌==◌, Option, Some, None, List, [], ◌∷◌, length, if◌then◌else◌}
 use Rattle.ghs_node.specs.declared.message.Message.{Message}
 use Rattle.ghs_node.specs.declared.message.Message.TheVariants.{Accept, Initiate}
 use Rattle.ghs_node.specs.Words.{is_at}
@@ -7,7 +7,7 @@ use Rattle.ghs_protocol.specs.declared.event.Event.{Event}
 use Rattle.ghs_protocol.specs.declared.event.Event.TheVariants.{Wake, Take}
 use Rattle.ghs_protocol.specs.Network.{Network}
 use Rattle.ghs_protocol.specs.Net.{Net, opening, happens}
-use Rattle.ghs_protocol.specs.Ledger.{sum_below, of_kind}
+use Rattle.ghs_protocol.specs.Ledger.{sum_below, sum_over_nodes, sum_over_ports, of_kind, waiting_of}
 
 -- the node of an event
 abbrev pub event_node : Event → ℕ
@@ -71,6 +71,32 @@ calls_waiting g w v l = sum_below (length (g.ports v)) (λ p. calls_at l (w.queu
 
 abbrev pub accepts_waiting : Network → Net → ℕ → ℕ
 accepts_waiting g w v = sum_below (length (g.ports v)) (λ p. of_kind 3 (w.queue v p))
+
+-- what all levels up to k of all nodes have paid of a count
+abbrev pub paid_by_levels : (Net → ℕ) → Network → ℕ → List Event → Net → ℕ
+paid_by_levels m g k es w = sum_over_nodes g (λ v. sum_below (suc k) (λ l. paid_by m g v l es w))
+
+-- what all ports have paid
+abbrev pub paid_by_ports : Network → List Event → Net → ℕ
+paid_by_ports g es w = sum_over_ports g (λ v p. added_up (port_pays v p) g es w)
+
+-- 1 where a port is probed
+abbrev pub testing : Option ℕ → ℕ
+testing None = 0
+testing (Some p) = 1
+
+-- how many Tests have no end yet
+abbrev pub tests_out : Network → Net → ℕ
+tests_out g w = sum_over_nodes g (λ v. testing (w.node v).head.probe)
+
+-- What was sent in these events, which lead to net w, is what was paid and no more; k is the highest level.
+pub record AllIsPaid (g : Network) (k : ℕ) (es : List Event) (w : Net) : Type 0 where
+  pub root : w.sent 0 + w.sent 6 ≡ paid_by_levels roots g k es (opening g)
+  pub report : w.sent 5 ≡ paid_by_levels reports g k es (opening g)
+  pub call : w.sent 1 ≡ paid_by_levels calls g k es (opening g) + waiting_of g w 1
+  pub accept : w.sent 3 ≡ paid_by_levels accepts g k es (opening g) + waiting_of g w 3
+  -- each Test was accepted, or has no end yet, or failed; for those that failed ports pay, and for Rejects
+  pub test : w.sent 2 + w.sent 4 ≡ paid_by_levels accepts g k es (opening g) + tests_out g w + paid_by_ports g es (opening g)
 
 -- What node v has paid at level l in these events, which lead to net w; k is the highest level.
 pub record LevelPays (g : Network) (k : ℕ) (es : List Event) (w : Net) (v l : ℕ) : Type 0 where

@@ -1,5 +1,5 @@
 //! What holds in every run of every graph, however its events interleave. Each law is a function that does nothing.
-ghost use Rattle.ghs_protocol.specs.Interleavings.{FragmentsAreLarge, RejectedLinksInside, RejectedMarksStay, EventsHaveRules, WorkHasReaction, BranchLinksInTree, RejectedLinksAside, HaltIsExact, EndIsTree, SendsWithinBound, SendsWithinSharpBound, LevelsPayOnce, PortsPayOnce};
+ghost use Rattle.ghs_protocol.specs.Interleavings.{FragmentsAreLarge, RejectedLinksInside, RejectedMarksStay, EventsHaveRules, WorkHasReaction, BranchLinksInTree, RejectedLinksAside, HaltIsExact, EndIsTree, SendsWithinBound, SendsWithinSharpBound, LevelsPayOnce, PortsPayOnce, SendsArePaid};
 ghost use Rattle.ghs_protocol.specs.Living.{NodesAwait, RequeuesAreWaits, WaitingTakesTurn, SilenceIsEnd, NoRunIsStuck, EveryRunCanEnd, SilentNetsHaveEnded, SilentNetsAreExact, RunsAreShort, FairRunsEnd};
 
 /// The fragment of a node of level L has at least 2^L nodes.
@@ -115,4 +115,9 @@ pub fn law_levels_pay()
 /// Each direction of a link pays at most once, for a Reject or for a Test that ended without an Accept, and not while it is being tested.
 pub fn law_ports_pay()
     ensures { PortsPayOnce }
+{}
+
+/// All that was sent is what levels and ports have paid, what waits, and the Tests that have no end yet.
+pub fn law_all_paid()
+    ensures { SendsArePaid }
 {}

@@ -4,14 +4,15 @@ use Rattle.ghs_graph.specs.Bound.{IsFloorLog2}
 use Rattle.ghs_graph.specs.Graph.{Shape}
 use Rattle.ghs_protocol.specs.Network.{Network, network_of, IsWired}
 use Rattle.ghs_protocol.specs.Net.{Net}
-use Rattle.ghs_protocol.specs.Ledger.{sum_below, of_kind, IsBalanced, in_all}
+use Rattle.ghs_protocol.specs.Ledger.{sum_below, of_kind, IsBalanced, in_all, sum_over_nodes}
 use Rattle.ghs_protocol.specs.Laws.{IsNetOf}
 use Rattle.ghs_protocol.specs.Interleavings.{SendsWithinBound, SendsWithinSharpBound}
 use Rattle.ghs_protocol.specs.Invariant.Fragments.{InNetwork}
 use Rattle.ghs_protocol.specs.Invariant.Floors.{Sound}
 use Rattle.ghs_protocol.specs.Invariant.World.{Ghost, world}
 use Rattle.ghs_protocol.specs.Invariant.Whole.{opening_ghost}
-use Rattle.ghs_protocol.specs.Invariant.Charges.{sum_over_nodes, busy, testing, moved_on, paid_at, Charges, HasCharges}
+use Rattle.ghs_protocol.specs.Payments.{testing}
+use Rattle.ghs_protocol.specs.Invariant.Charges.{busy, moved_on, paid_at, Charges, HasCharges}
 use Rattle.ghs_protocol.proofs.Balance.{after_balanced}
 use Rattle.ghs_protocol.proofs.Graphs.{graph_wired, graph_few, graph_keyed, graph_rising, twice_links}
 use Rattle.ghs_protocol.proofs.Sums.{sum_most, sum_add}

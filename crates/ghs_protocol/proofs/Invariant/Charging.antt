@@ -16,8 +16,9 @@ use Rattle.ghs_node.specs.Reaction.{Ending, Probing, Reporting, Waiting, last_se
 use Rattle.ghs_node.specs.Rows.{Closes, Reports, Waits}
 use Rattle.ghs_protocol.specs.Network.{Network}
 use Rattle.ghs_protocol.specs.Net.{Net}
-use Rattle.ghs_protocol.specs.Ledger.{of_kind}
-use Rattle.ghs_protocol.specs.Invariant.Charges.{sum_over_nodes, finding, testing, moved_on, busy, IsLow, Charges, Pays, Acted}
+use Rattle.ghs_protocol.specs.Ledger.{of_kind, sum_over_nodes}
+use Rattle.ghs_protocol.specs.Payments.{testing}
+use Rattle.ghs_protocol.specs.Invariant.Charges.{finding, moved_on, busy, IsLow, Charges, Pays, Acted}
 use Rattle.ghs_protocol.specs.Invariant.World.{world}
 use Rattle.ghs_protocol.specs.Invariant.Whole.{opening_ghost}
 use Rattle.ghs_protocol.proofs.Invariant.Paid.{all_more}
@@ -25,7 +26,7 @@ use Rattle.ghs_protocol.proofs.Sends.{messages}
 use Rattle.ghs_protocol.proofs.Sums.{sum_one}
 
 -- the number of one node changes
-nodes_one : (g : Network) (f h : ℕ → ℕ) (v : ℕ) → 1 ≤ v → v ≤ g.count → ((u : ℕ) → u ≢ v → f u ≡ h u) → sum_over_nodes g h + f v ≡ sum_over_nodes g f + h v
+pub nodes_one : (g : Network) (f h : ℕ → ℕ) (v : ℕ) → 1 ≤ v → v ≤ g.count → ((u : ℕ) → u ≢ v → f u ≡ h u) → sum_over_nodes g h + f v ≡ sum_over_nodes g f + h v
 nodes_one g f h zero lo hi e = absurd (omega arith)
 nodes_one g f h (suc v) lo hi e = sum_one g.count v (λ i. f (suc i)) (λ i. h (suc i)) (omega arith) (λ i ne. e (suc i) (λ z. ne (omega (arith, z))))
 

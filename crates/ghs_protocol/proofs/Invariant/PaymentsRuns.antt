@@ -14,13 +14,13 @@ use Rattle.ghs_protocol.specs.Run.{run, IsAfter}
 use Rattle.ghs_protocol.specs.Ledger.{sum_below, of_kind}
 use Rattle.ghs_protocol.specs.Nodes.{HasFewPorts, IsWellFormed}
 use Rattle.ghs_protocol.specs.Steps.{Happens}
-use Rattle.ghs_protocol.specs.Payments.{calls_at, added_up, LevelPays, event_node, risen, then_count, paid_by, roots, reports, calls, accepts}
+use Rattle.ghs_protocol.specs.Payments.{calls_at, added_up, LevelPays, event_node, risen, then_count, paid_by, roots, reports, calls, accepts, testing}
 use Rattle.ghs_protocol.specs.Interleavings.{LevelsPayOnce}
 use Rattle.ghs_protocol.specs.Invariant.World.{Member, world}
 use Rattle.ghs_protocol.specs.Invariant.Nodes.{NodeFits}
 use Rattle.ghs_protocol.specs.Invariant.Fragments.{InNetwork}
 use Rattle.ghs_protocol.specs.Invariant.Wiring.{IsKeyed, IsOrdered}
-use Rattle.ghs_protocol.specs.Invariant.Charges.{Acted, HasCharges, busy, finding, moved_on, testing}
+use Rattle.ghs_protocol.specs.Invariant.Charges.{Acted, HasCharges, busy, finding, moved_on}
 use Rattle.ghs_protocol.proofs.Events.{happening}
 use Rattle.ghs_protocol.proofs.Graphs.{graph_wired, graph_few, graph_keyed, graph_rising}
 use Rattle.ghs_protocol.proofs.Runs.{both_some}

@@ -9,7 +9,7 @@ use Rattle.ghs_node.specs.Words.{is_branch}
 use Rattle.ghs_protocol.specs.Network.{Network, At, IsWired, far}
 use Rattle.ghs_protocol.specs.Net.{Net}
 use Rattle.ghs_protocol.specs.Ledger.{sum_below, of_kind}
-use Rattle.ghs_protocol.specs.Payments.{calls_at}
+use Rattle.ghs_protocol.specs.Payments.{calls_at, testing}
 use Rattle.ghs_protocol.specs.Invariant.World.{Ghost, Seen, TreeEnd, add, adds, end, see, test_end, tree_end, unseen, world}
 use Rattle.ghs_protocol.specs.Invariant.Links.{Joins, Ups, Child}
 use Rattle.ghs_protocol.specs.Invariant.Nodes.{NodeFits}
@@ -17,7 +17,7 @@ use Rattle.ghs_protocol.specs.Invariant.Tests.{TestsFit}
 use Rattle.ghs_protocol.specs.Invariant.TreeMessages.{TreeFits, Upward, Nothing_up, Report_up, Chain, Downward, Initiates, Old_report, Stage, Asking, Called, Begun, AtStage, asked, called, CoreQueue, Plain, With_report, Core, CoreFits, MovedFits, To_here, To_there}
 use Rattle.ghs_protocol.specs.Invariant.Fragments.{InNetwork}
 use Rattle.ghs_protocol.specs.Invariant.Whole.{Invariant, opening_ghost}
-use Rattle.ghs_protocol.specs.Invariant.Charges.{IsLow, busy, testing, moved_on, paid_at}
+use Rattle.ghs_protocol.specs.Invariant.Charges.{IsLow, busy, moved_on, paid_at}
 use Rattle.ghs_protocol.proofs.Balance.{of_kind_append}
 use Rattle.ghs_protocol.proofs.Sums.{sum_none}
 use Rattle.ghs_protocol.proofs.Invariant.Charging.{busy_below, busy_some, busy_top, moved_most}

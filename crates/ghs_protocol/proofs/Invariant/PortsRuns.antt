@@ -44,18 +44,18 @@ use Rattle.ghs_protocol.proofs.Invariant.Paying.{closes_probe, cross_rises, hear
 use Rattle.ghs_protocol.proofs.Invariant.PaymentsRuns.{counted}
 
 -- no Test has failed where the port is probed as before, where none was, and where an Accept came
-probes_on : (b c : Bool) → ◌≡◌ {A = ℕ} (if b && (not b && c) then 1 else 0) 0
+pub probes_on : (b c : Bool) → ◌≡◌ {A = ℕ} (if b && (not b && c) then 1 else 0) 0
 probes_on true c = refl
 probes_on false c = refl
 
-unprobed : (o : Option ℕ) (p : ℕ) (c : Bool) → o ≡ None → ◌≡◌ {A = ℕ} (if is_at o p && c then 1 else 0) 0
+pub unprobed : (o : Option ℕ) (p : ℕ) (c : Bool) → o ≡ None → ◌≡◌ {A = ℕ} (if is_at o p && c then 1 else 0) 0
 unprobed None p c e = refl
 unprobed (Some q) p c e = absurd (let z = e in cc)
 
 probes_so : (b : Bool) → 0 + (if b && (not b && true) then 1 else 0) ≡ 0
 probes_so b = let z = probes_on b true in omega (arith, z)
 
-accepted_one : (b c : Bool) → ◌≡◌ {A = ℕ} (if b && (not c && false) then 1 else 0) 0
+pub accepted_one : (b c : Bool) → ◌≡◌ {A = ℕ} (if b && (not c && false) then 1 else 0) 0
 accepted_one true true = refl
 accepted_one true false = refl
 accepted_one false c = refl
@@ -74,7 +74,7 @@ root_no_reject b l Basic = refl
 root_no_reject b l Branch = refl
 root_no_reject b l Rejected = refl
 
-first_only : (m : Message) (ms : List Message) → no_accept_first (m ∷ ms) ≡ no_accept_first (m ∷ [])
+pub first_only : (m : Message) (ms : List Message) → no_accept_first (m ∷ ms) ≡ no_accept_first (m ∷ [])
 first_only (Connect l) ms = refl
 first_only (Initiate l f s) ms = refl
 first_only (Test l f) ms = refl
@@ -84,15 +84,15 @@ first_only (Report w) ms = refl
 first_only ChangeRoot ms = refl
 
 -- a message was taken
-record Taking (g : Network) (w : Net) (v p : ℕ) (x : Net) : Type 0 where
-  message : Message
-  others : List Message
-  delta : Delta
-  waits : w.queue v p ≡ message ∷ others
-  reacts : reaction (w.node v) (Deliver p message) ≡ Some delta
-  is : x ≡ taken g v p message others delta w
+pub record Taking (g : Network) (w : Net) (v p : ℕ) (x : Net) : Type 0 where
+  pub message : Message
+  pub others : List Message
+  pub delta : Delta
+  pub waits : w.queue v p ≡ message ∷ others
+  pub reacts : reaction (w.node v) (Deliver p message) ≡ Some delta
+  pub is : x ≡ taken g v p message others delta w
 
-taking : {g : Network} {w : Net} {v p : ℕ} {x : Net} → Happens g w (events.Take v p) x → Taking g w v p x
+pub taking : {g : Network} {w : Net} {v p : ℕ} {x : Net} → Happens g w (events.Take v p) x → Taking g w v p x
 taking (Took v p m ms d at q r) = record { message = m; others = ms; delta = d; waits = q; reacts = r; is = refl }
 
 module _ (g : Network) (wired : IsWired g) (ordered : IsOrdered g) (keyed : IsKeyed g) (k : ℕ) (log : IsFloorLog2 g.count k) (v p : ℕ) (at : At g v p) where

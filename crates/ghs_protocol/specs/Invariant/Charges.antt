@@ -10,26 +10,18 @@ use Rattle.ghs_node.specs.declared.message.Message.{Message}
 use Rattle.ghs_node.specs.Words.{is_at}
 use Rattle.ghs_protocol.specs.Network.{Network, far, far_port, At}
 use Rattle.ghs_protocol.specs.Net.{Net}
-use Rattle.ghs_protocol.specs.Ledger.{sum_below, sum_over_ports, of_kind}
+use Rattle.ghs_protocol.specs.Ledger.{sum_over_nodes, sum_over_ports, of_kind}
+use Rattle.ghs_protocol.specs.Payments.{testing}
 use Rattle.ghs_protocol.specs.Invariant.World.{Ghost, World, world, end, TestEnd, test_end}
 use Rattle.ghs_protocol.specs.Invariant.Fragments.{InNetwork}
 use Rattle.ghs_protocol.specs.Invariant.Whole.{opening_ghost}
 use Rattle.ghs_protocol.specs.Invariant.Floors.{Sound}
-
--- a number for each node, added up
-abbrev pub sum_over_nodes : Network → (ℕ → ℕ) → ℕ
-sum_over_nodes g f = sum_below g.count (λ i. f (suc i))
 
 -- 1 where a node searches
 abbrev pub finding : Phase → ℕ
 finding Sleeping = 0
 finding Find = 1
 finding Found = 0
-
--- 1 where a port is probed
-abbrev pub testing : Option ℕ → ℕ
-testing None = 0
-testing (Some p) = 1
 
 -- 1 where a node's way to the root isn't its way to the core: since its last Initiate it has sent the root on
 abbrev pub moved_on : Option ℕ → Option ℕ → ℕ
