@@ -375,7 +375,7 @@ module _ (g : Shape) (graph : IsGraph g) where
         let a = sum_few g.nodes (λ i. awake_one (w.node (suc i))) (λ i. awake_few (w.node (suc i))) in
         omega (arith, l, s, a)
 
-    finishes : (k : ℕ) (w : Net) → IsNetOf g w → b + g.nodes ≤ k + reached (network_of g) w → Finish (network_of g) w (2 * k)
+    pub finishes : (k : ℕ) (w : Net) → IsNetOf g w → b + g.nodes ≤ k + reached (network_of g) w → Finish (network_of g) w (2 * k)
     finishes zero w n le =
         ⊎_elim (λ z. absurd (let a = advance w n (component z.0) (no_run_is_stuck g w n (component z.0) z.1) in let m = most a.next a.is in let x = a.more in omega (arith, m, x, le)))
         (ends_here zero w) (going w)
@@ -391,7 +391,7 @@ silent_nets_have_ended g w n silent =
     ⊎_elim (λ z. let m = silence_is_end g w n (component g n.graph z.0) z.1 in absurd (m.4 (silent m.0 m.1 m.2))) (λ all. all) (going g n.graph w)
 
 -- links lead to nodes of the network
-leads_inside : (g : Network) → IsWired g → {v u : ℕ} → Leads g AnyLink v u → InNetwork g v → InNetwork g u
+pub leads_inside : (g : Network) → IsWired g → {v u : ℕ} → Leads g AnyLink v u → InNetwork g v → InNetwork g u
 leads_inside g wired Here is = is
 leads_inside g wired {v} (Over p at x rest) is = leads_inside g wired rest (let t = wired.there v p at in record { some = t.some; node = t.node })
 
@@ -429,7 +429,7 @@ module _ (g : Network) (wired : IsWired g) where
       (λ i lt. awake_stays (w.node (suc i)) ((taken g v p m ms d w).node (suc i)) ((event_lasts g wired w (taken g v p m ms d w) (events.Take v p) f h (suc i)).awake)) in
       omega (arith, a, s)
 
-  run_short : (es : List Event) (w w' : Net) → IsWellFormed g w → run g es w ≡ Some w' → length es + (in_all w.consumed + w.requeued + awake_count g w) ≤ in_all w'.consumed + w'.requeued + awake_count g w'
+  pub run_short : (es : List Event) (w w' : Net) → IsWellFormed g w → run g es w ≡ Some w' → length es + (in_all w.consumed + w.requeued + awake_count g w) ≤ in_all w'.consumed + w'.requeued + awake_count g w'
   run_short [] w w' f h = subst (λ (x : Net). 0 + (in_all w.consumed + w.requeued + awake_count g w) ≤ in_all x.consumed + x.requeued + awake_count g x) (same_Some w w' h) (omega arith)
   run_short (e ∷ es) w w' f h =
       both_some (happens g w e) (λ x. run g es x) w' h

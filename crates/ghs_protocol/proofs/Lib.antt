@@ -34,3 +34,4 @@ pub mod Awaiting
 pub mod Requeues
 pub mod Finishing
 pub mod Rounds
+pub mod Schedules

@@ -33,7 +33,7 @@ module _ (g : Shape) (graph : IsGraph g) where
   up_to w = reached (network_of g) w
 
   -- a wake gets on
-  wake_gets_on : (w : Net) (v : ℕ) (w' : Net) → IsNetOf g w → Happens (network_of g) w (events.Wake v) w' → suc (reached (network_of g) w) ≤ reached (network_of g) w'
+  pub wake_gets_on : (w : Net) (v : ℕ) (w' : Net) → IsNetOf g w → Happens (network_of g) w (events.Wake v) w' → suc (reached (network_of g) w) ≤ reached (network_of g) w'
   wake_gets_on w _ _ n (Woke v d lo hi s r) =
       let a = woken_more (network_of g) (graph_wired g graph) w (formed g graph w n) v d lo hi s r in
       let c = ap in_all (consumed_now (network_of g) v d w) in

@@ -14,3 +14,4 @@ pub mod Payments
 pub mod Interleavings
 pub mod Connects
 pub mod Living
+pub mod Schedules

@@ -66,6 +66,11 @@ take_first f v p m ms w =
     let k = place_of (kind_of m) in
     record w { queue = put_at w.queue v p (left_of f m ms); consumed = put w.consumed k (w.consumed k + one_if_consumed f); requeued = w.requeued + one_if_requeued f }
 
+-- the node of an event
+abbrev pub event_node : Event → ℕ
+event_node (events.Wake v) = v
+event_node (events.Take v p) = v
+
 abbrev pub is_node : Network → ℕ → Bool
 is_node g v = nat_lt 0 v && nat_le v g.count
 

@@ -6,13 +6,8 @@ use Rattle.ghs_node.specs.Words.{is_at}
 use Rattle.ghs_protocol.specs.declared.event.Event.{Event}
 use Rattle.ghs_protocol.specs.declared.event.Event.TheVariants.{Wake, Take}
 use Rattle.ghs_protocol.specs.Network.{Network}
-use Rattle.ghs_protocol.specs.Net.{Net, opening, happens}
+use Rattle.ghs_protocol.specs.Net.{Net, opening, event_node, happens}
 use Rattle.ghs_protocol.specs.Ledger.{sum_below, sum_over_nodes, sum_over_ports, of_kind, waiting_of}
-
--- the node of an event
-abbrev pub event_node : Event → ℕ
-event_node (Wake v) = v
-event_node (Take v p) = v
 
 -- by how much a count rises where the event is one of node v that leaves it at level l
 abbrev pub risen : (Net → ℕ) → ℕ → ℕ → Net → Event → Net → ℕ

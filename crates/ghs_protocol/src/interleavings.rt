@@ -1,6 +1,7 @@
 //! What holds in every run of every graph, however its events interleave. Each law is a function that does nothing.
 ghost use Rattle.ghs_protocol.specs.Interleavings.{FragmentsAreLarge, RejectedLinksInside, RejectedMarksStay, EventsHaveRules, WorkHasReaction, BranchLinksInTree, RejectedLinksAside, HaltIsExact, EndIsTree, SendsWithinBound, SendsWithinSharpBound, LevelsPayOnce, PortsPayOnce, SendsArePaid};
 ghost use Rattle.ghs_protocol.specs.Living.{NodesAwait, RequeuesAreWaits, WaitingTakesTurn, SilenceIsEnd, NoRunIsStuck, EveryRunCanEnd, SilentNetsHaveEnded, SilentNetsAreExact, RunsAreShort, FairRunsEnd};
+ghost use Rattle.ghs_protocol.specs.Schedules.{OthersLeaveAlone, StillnessIsEnd, EveryRunCanEndWhole, PatientRunsAreShort, PatienceGoesOn, RealEventsAreFew};
 
 /// The fragment of a node of level L has at least 2^L nodes.
 pub fn law_fragment_sizes()
@@ -120,4 +121,34 @@ pub fn law_ports_pay()
 /// All that was sent is what levels and ports have paid, what waits, and the Tests that have no end yet.
 pub fn law_all_paid()
     ensures { SendsArePaid }
+{}
+
+/// What other nodes do leaves a node as it was, appends to its queues at most, and leaves its events lawful, with the same reactions.
+pub fn law_others()
+    ensures { OthersLeaveAlone }
+{}
+
+/// Where no event can happen, the run has ended, or the part of it that wakes by itself has.
+pub fn law_stillness()
+    ensures { StillnessIsEnd }
+{}
+
+/// From every moment at most twice as many events as the bound on messages and the nodes together lead to the end of the run, wakes of all who may wake among them.
+pub fn law_finish_whole()
+    ensures { EveryRunCanEndWhole }
+{}
+
+/// The events that put nothing back are at most as many as the bound on messages and the nodes together.
+pub fn law_real_events()
+    ensures { RealEventsAreFew }
+{}
+
+/// Whoever takes what isn't put back where there is such, and else uncovers such, makes at most twice as many events as the bound on messages and the nodes together.
+pub fn law_patience()
+    ensures { PatientRunsAreShort }
+{}
+
+/// There is such an event until each woken component has ended.
+pub fn law_patience_goes_on()
+    ensures { PatienceGoesOn }
 {}

@@ -20,12 +20,12 @@ use Rattle.ghs_protocol.specs.declared.event.Event.{Event}
 use Rattle.ghs_protocol.specs.declared.event.Event.TheVariants as events
 use Rattle.ghs_protocol.specs.Interleavings.{SendsArePaid}
 use Rattle.ghs_protocol.specs.Network.{Network, network_of, At, IsWired}
-use Rattle.ghs_protocol.specs.Net.{Net, opening, happens, one_if_consumed}
+use Rattle.ghs_protocol.specs.Net.{Net, opening, event_node, happens, one_if_consumed}
 use Rattle.ghs_protocol.specs.Run.{IsAfter}
 use Rattle.ghs_protocol.specs.Ledger.{sum_below, sum_over_nodes, sum_over_ports, of_kind, IsBalanced}
 use Rattle.ghs_protocol.specs.Nodes.{HasFewPorts, IsNodeOf, IsWellFormed}
 use Rattle.ghs_protocol.specs.Steps.{Happens, Took, Woke, taken, reacted}
-use Rattle.ghs_protocol.specs.Payments.{AllIsPaid, accepts, added_up, calls, event_node, failed, no_accept_first, paid_by, paid_by_levels, paid_by_ports, port_pays, reports, risen, roots, testing, tests_out, then_count}
+use Rattle.ghs_protocol.specs.Payments.{AllIsPaid, accepts, added_up, calls, failed, no_accept_first, paid_by, paid_by_levels, paid_by_ports, port_pays, reports, risen, roots, testing, tests_out, then_count}
 use Rattle.ghs_protocol.specs.Invariant.World.{Ghost, world}
 use Rattle.ghs_protocol.specs.Invariant.Fragments.{InNetwork}
 use Rattle.ghs_protocol.specs.Invariant.Wiring.{IsKeyed, IsOrdered}

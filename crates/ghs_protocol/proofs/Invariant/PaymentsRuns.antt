@@ -9,12 +9,12 @@ use Rattle.ghs_node.specs.declared.message.Phase.{Phase}
 use Rattle.ghs_node.specs.declared.message.Phase.TheVariants.{Sleeping, Find, Found}
 use Rattle.ghs_protocol.specs.declared.event.Event.{Event}
 use Rattle.ghs_protocol.specs.Network.{Network, network_of, IsWired}
-use Rattle.ghs_protocol.specs.Net.{Net, opening, happens}
+use Rattle.ghs_protocol.specs.Net.{Net, opening, event_node, happens}
 use Rattle.ghs_protocol.specs.Run.{run, IsAfter}
 use Rattle.ghs_protocol.specs.Ledger.{sum_below, of_kind}
 use Rattle.ghs_protocol.specs.Nodes.{HasFewPorts, IsWellFormed}
 use Rattle.ghs_protocol.specs.Steps.{Happens}
-use Rattle.ghs_protocol.specs.Payments.{calls_at, added_up, LevelPays, event_node, risen, then_count, paid_by, roots, reports, calls, accepts, testing}
+use Rattle.ghs_protocol.specs.Payments.{calls_at, added_up, LevelPays, risen, then_count, paid_by, roots, reports, calls, accepts, testing}
 use Rattle.ghs_protocol.specs.Interleavings.{LevelsPayOnce}
 use Rattle.ghs_protocol.specs.Invariant.World.{Member, world}
 use Rattle.ghs_protocol.specs.Invariant.Nodes.{NodeFits}

@@ -1,0 +1,5 @@
+use Rattle.ghs_protocol.proofs.Schedules.{patience_goes_on}
+use Rattle.ghs_protocol.proofs.interleavings.law_patience_goes_on.Goals as goal
+
+pub returns : goal.returns
+returns c = patience_goes_on
