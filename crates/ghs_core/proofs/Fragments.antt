@@ -1,5 +1,5 @@
 -- Branch links and fragments, as they are found.
-use Rattle.std.proofs.Common.{◌≡◌, ℕ, ◌+◌, ◌<◌, ◌≤◌, inl, inr, Bool, true, false, ◌||◌, List, length, Option, refl, sym, ◌∙◌, ap, ⊎_elim, arith, Result, IfOk}
+use Rattle.std.proofs.Common.{◌≡◌, ℕ, ◌+◌, ◌<◌, ◌≤◌, inl, inr, Bool, true, false, ◌||◌, List, length, refl, sym, ◌∙◌, ap, ⊎_elim, arith, Result, IfOk}
 use Rattle.std.specs.List.{Contains, filter}
 use Rattle.std.proofs.lemmas.Bool.{and_parts, or_cases}
 use Rattle.std.proofs.lemmas.List.{get_or_default}
@@ -30,6 +30,7 @@ use Rattle.ghs_protocol.proofs.Fragments.{fragments_joined}
 use Rattle.ghs_protocol.proofs.Nodes.{ports_many}
 use Rattle.ghs_core.specs.declared.counts.Counts.{Counts}
 use Rattle.ghs_core.specs.declared.marked.Ends.TheVariants.{One, Both}
+use Rattle.ghs_core.specs.declared.halts.Halts.{Halts}
 use Rattle.ghs_core.specs.Kept.{IsKept}
 use Rattle.ghs_core.specs.Marked.{is_wanted, has_branch, HavePorts, AreBranches, IsFragment, AreAlike}
 use Rattle.ghs_core.proofs.Reading.{formed}
@@ -39,7 +40,7 @@ or_true : (b : Bool) → (b || true) ≡ true
 or_true true = refl
 or_true false = refl
 
-module _ {g : Shape} {es : List Event} {nodes : List NodeState} {links : LinksState} {counts : Counts} {halted : Option ℕ} (kept : IsKept g es nodes links counts halted) where
+module _ {g : Shape} {es : List Event} {nodes : List NodeState} {links : LinksState} {counts : Counts} {halts : Halts} (kept : IsKept g es nodes links counts halts) where
   abbrev net : Network
   net = network_of g
 

@@ -30,7 +30,7 @@ use Rattle.ghs_protocol.specs.Ledger.{in_all}
 use Rattle.ghs_protocol.proofs.Results.{fragments_are_large, rejected_links_inside, work_has_reaction}
 use Rattle.ghs_core.specs.declared.ledger.Ledger.{Ledger}
 use Rattle.ghs_core.specs.Ledger.{IsLedger, IsWithinBound}
-use Rattle.ghs_core.specs.Marked.{IsInFragment, IsExactAt, IsExactWhere, AreInTree, AreBranches}
+use Rattle.ghs_core.specs.Marked.{IsInFragment, IsExactAt, IsExactWhere, IsExact, AreInTree, AreBranches}
 use Rattle.ghs_core.specs.NetState.{IsLeastHalted, event_node, work_at, delivery}
 use Rattle.ghs_core.proofs.Reading.{lawful_port}
 
@@ -87,6 +87,10 @@ all_of_tree g es graph run (Err e) items h = tt
 pub exact_where : (g : Shape) (es : List Event) → IsGraph g → IsRun (network_of g) es → (o : Option ℕ) → IsLeastHalted (network_of g) (net_after g es) o → IsExactWhere g (net_after g es) o
 exact_where g es graph run None h = tt
 exact_where g es graph run (Some v) h = exact_halt g es graph run v h.0 h.1 h.2
+
+-- where the run has ended
+pub exact_end : (g : Shape) (es : List Event) → IsGraph g → IsRun (network_of g) es → HasEnded g (net_after g es) → IsExact g (net_after g es)
+exact_end g es graph run ended = end_is_tree g (net_after g es) (net_of_run g es graph run) ended
 
 -- what a ledger counts as sent
 pub within_bound : (g : Shape) (es : List Event) → IsGraph g → IsRun (network_of g) es → (l : Ledger) → IsLedger (network_of g) (net_after g es) l → IsWithinBound g l

@@ -4,7 +4,8 @@ pub mod Few
 pub mod Stages
 pub mod Showing
 pub mod Totals
-pub mod Least
+pub mod Halting
+pub mod Events
 pub mod Playing
 pub mod Reading
 pub mod Finding

@@ -1,5 +1,5 @@
 -- What a net keeps when an event is played.
-use Rattle.std.proofs.Common.{◌≡◌, ◌≢◌, ℕ, ◌+◌, ◌-◌, ◌<◌, ◌≤◌, ◌^◌, true, List, [], ◌∷◌, ◌++◌, length, get_or, set, Option, Some, subst, sym, ◌∙◌, ap, arith, length-append}
+use Rattle.std.proofs.Common.{◌≡◌, ◌≢◌, ℕ, ◌+◌, ◌-◌, ◌<◌, ◌≤◌, ◌^◌, true, Bool, List, [], ◌∷◌, ◌++◌, length, get_or, set, Some, subst, sym, ◌∙◌, ap, arith, length-append}
 use Rattle.std.proofs.lemmas.List.{get_or_default}
 use Rattle.ghs_graph.specs.Graph.{Shape}
 use Rattle.ghs_node.specs.declared.delta.Delta.{Delta}
@@ -24,26 +24,28 @@ use Rattle.ghs_protocol.proofs.Runs.{after_is_net, after_more, net_after_more}
 use Rattle.ghs_protocol.proofs.Sends.{node_here, node_there}
 use Rattle.ghs_protocol.proofs.WellFormed.{after_formed}
 use Rattle.ghs_core.specs.declared.counts.Counts.{Counts}
-use Rattle.ghs_core.specs.NetState.{NetState, event_node, work_at, lesser, IsLeastHalted, IsLawful, IsAnswer}
+use Rattle.ghs_core.specs.NetState.{NetState, event_node, work_at, halted_in, IsLawful, IsAnswer}
 use Rattle.ghs_core.specs.Dispatch.{Arrives, CountsSends, Settles, WaitsAt}
+use Rattle.ghs_core.specs.declared.halts.Halts.{Halts}
+use Rattle.ghs_core.specs.Halts.{AreHalts, with_node}
 use Rattle.ghs_core.specs.Kept.{IsKept, no_node}
 use Rattle.ghs_core.proofs.Few.{row_few}
 use Rattle.ghs_core.proofs.Stages.{Staged, staged, stage_happens, stage_low, stage_high, stage_nodes, stage_reaction, reaction_row}
 use Rattle.ghs_core.proofs.Showing.{waits_at, stage_shows, reacted_shows}
 use Rattle.ghs_core.proofs.Totals.{Settled, settled, settled_room, fit_more, total_fits, sent_fits}
-use Rattle.ghs_core.proofs.Least.{least_after}
+use Rattle.ghs_core.proofs.Halting.{are_like, with_node_is}
 
 -- the events of a run so far, and the reaction of one more
-pub record Plays (g : Shape) (es : List Event) (nodes : List NodeState) (links : LinksState) (counts : Counts) (halted : Option ℕ) (e : Event) (d : Delta) : Type 0 where
-  pub kept : IsKept g es nodes links counts halted
+pub record Plays (g : Shape) (es : List Event) (nodes : List NodeState) (links : LinksState) (counts : Counts) (halts : Halts) (e : Event) (d : Delta) : Type 0 where
+  pub kept : IsKept g es nodes links counts halts
   pub lawful : is_lawful (network_of g) (net_after g es) e ≡ true
   pub answer : reaction ((net_after g es).node (event_node e)) (work_at (net_after g es) e) ≡ Some d
 
 -- the same, of what contracts see
-pub plays_of : {g : Shape} {es : List Event} {nodes : List NodeState} {links : LinksState} {counts : Counts} {halted : Option ℕ} {spare : ℕ} {s : NetState} {e : Event} {d : Delta} → IsKept g es nodes links counts halted → record { graph = g; trace = es; links = links; spare = spare } ≡ s → IsLawful s e → IsAnswer s e d → Plays g es nodes links counts halted e d
+pub plays_of : {g : Shape} {es : List Event} {nodes : List NodeState} {links : LinksState} {counts : Counts} {halts : Halts} {spare : ℕ} {s : NetState} {e : Event} {d : Delta} → IsKept g es nodes links counts halts → record { graph = g; trace = es; links = links; spare = spare } ≡ s → IsLawful s e → IsAnswer s e d → Plays g es nodes links counts halts e d
 plays_of kept view lawful answer = record { kept = kept; lawful = rw (← view) at lawful; answer = rw (← view) at answer }
 
-module _ {g : Shape} {es : List Event} {nodes : List NodeState} {links : LinksState} {counts : Counts} {halted : Option ℕ} {e : Event} {d : Delta} (plays : Plays g es nodes links counts halted e d) where
+module _ {g : Shape} {es : List Event} {nodes : List NodeState} {links : LinksState} {counts : Counts} {halts : Halts} {e : Event} {d : Delta} (plays : Plays g es nodes links counts halts e d) where
   wired : IsWired (network_of g)
   wired = graph_wired g plays.kept.graph
 
@@ -118,31 +120,33 @@ module _ {g : Shape} {es : List Event} {nodes : List NodeState} {links : LinksSt
       is_next : net_after g (es ++ e ∷ []) ≡ next
       is_next = net_after_more g es e (net_after g es) next run happened
 
-      least_next : IsLeastHalted (network_of g) next (lesser halted (event_node e) d.head.halted)
-      least_next = least_after (network_of g) (net_after g es) next (event_node e) low high
-          (λ u ne h. ap (λ (n : NodeState). n.head.halted) (sym (there u ne)) ∙ h)
-          (λ u h. (event_lasts (network_of g) wired (net_after g es) next e formed happened u).halted h)
-          halted d.head.halted (ap (λ (n : NodeState). n.head.halted) (node_here (network_of g) (event_node e) d stages.before)) plays.kept.least
+      halts_next : (k : Halts) → ((halted : ℕ → Bool) → AreHalts g halted halts → AreHalts g (with_node halted (event_node e) d.head.halted) k) → AreHalts g (halted_in next) k
+      halts_next k noted = are_like g _ (halted_in next) k
+          (λ u _ _. with_node_is (halted_in (net_after g es)) (halted_in next) (event_node e) d.head.halted here (λ u ne. ap (λ (n : NodeState). n.head.halted) (there u ne)) (λ h. (event_lasts (network_of g) wired (net_after g es) next e formed happened (event_node e)).halted h) u)
+          (noted (halted_in (net_after g es)) plays.kept.halted)
         where
+          here : halted_in next (event_node e) ≡ d.head.halted
+          here = ap (λ (n : NodeState). n.head.halted) (node_here (network_of g) (event_node e) d stages.before)
+
           there : (u : ℕ) → u ≢ event_node e → next.node u ≡ (net_after g es).node u
           there u ne = node_there (network_of g) (event_node e) d stages.before u ne ∙ ap (λ (f : ℕ → NodeState). f u) (stage_nodes stages.stage)
 
-      pub played : (x n : NodeState) → x ≡ get_or nodes (event_node e - 1) x → n ≡ after x d → IsKept g (es ++ e ∷ []) (set nodes (event_node e - 1) n) l' (record { sent = sent; consumed = c.consumed; requeued = c.requeued }) (lesser halted (event_node e) d.head.halted)
-      played x n is now = record {
+      pub played : (k : Halts) → ((halted : ℕ → Bool) → AreHalts g halted halts → AreHalts g (with_node halted (event_node e) d.head.halted) k) → (x n : NodeState) → x ≡ get_or nodes (event_node e - 1) x → n ≡ after x d → IsKept g (es ++ e ∷ []) (set nodes (event_node e - 1) n) l' (record { sent = sent; consumed = c.consumed; requeued = c.requeued }) k
+      played k noted x n is now = record {
         graph = plays.kept.graph;
         run = (next, after_more (network_of g) es e (net_after g es) next run happened);
         queues = same_for g l l' a.ports settled_for;
         shows = rw is_next (reacted_shows g plays.kept.graph (event_node e) low high d stages.before nodes n l l' c sent (now ∙ ap (λ (y : NodeState). after y d) (found x is ∙ sym (ap (λ (f : ℕ → NodeState). f (event_node e)) (stage_nodes stages.stage)))) (stage_shows g (net_after g es) nodes links counts plays.kept.queues plays.kept.shows l c stages.stage s) a told);
         fit = rw (length-append es (e ∷ [])) (fit_more (length es) links l l' counts c sent g (event_node e) d.sends few plays.kept.fit so_far a told);
-        least = rw is_next least_next;
+        halted = rw is_next (halts_next k noted);
       }
 
   pub played_event : happens (network_of g) (net_after g es) e ≡ Some (net_after g (es ++ e ∷ []))
   played_event = happens_so (stage_happens stages.stage) ∙ ap (λ (x : Net). Some x) (sym (net_after_more g es e (net_after g es) _ run (stage_happens stages.stage)))
 
 -- a reserve
-pub reserved : (g : Shape) (es : List Event) (nodes : List NodeState) (links l : LinksState) (counts : Counts) (halted : Option ℕ) → IsKept g es nodes links counts halted → KeepsLists links l → IsKept g es nodes l counts halted
-reserved g es nodes links l counts halted kept same = record {
+pub reserved : (g : Shape) (es : List Event) (nodes : List NodeState) (links l : LinksState) (counts : Counts) (halts : Halts) → IsKept g es nodes links counts halts → KeepsLists links l → IsKept g es nodes l counts halts
+reserved g es nodes links l counts halts kept same = record {
   graph = kept.graph;
   run = kept.run;
   queues = same_for g links l same.ports kept.queues;
@@ -155,5 +159,5 @@ reserved g es nodes links l counts halted kept same = record {
     requeued = shows.requeued;
   };
   fit = let fit = kept.fit in record { sent = fit.sent; consumed = fit.consumed; requeued = fit.requeued; waiting = ap (λ n. n + in_all (λ k. get_or counts.consumed k 0)) same.total ∙ fit.waiting };
-  least = kept.least;
+  halted = kept.halted;
 }

@@ -1,5 +1,5 @@
 -- What the fields of a net tell.
-use Rattle.std.proofs.Common.{◌≡◌, ℕ, ◌+◌, ◌-◌, ◌<◌, ◌≤◌, true, List, [], length, get_or, Option, None, refl, ◌∙◌, ap, arith}
+use Rattle.std.proofs.Common.{◌≡◌, ℕ, ◌+◌, ◌-◌, ◌<◌, ◌≤◌, true, List, [], length, get_or, refl, ◌∙◌, ap, arith}
 use Rattle.std.proofs.lemmas.Bool.{and_parts}
 use Rattle.std.proofs.lemmas.List.{get_or_default}
 use Rattle.ghs_graph.specs.Graph.{Shape}
@@ -21,9 +21,11 @@ use Rattle.ghs_protocol.proofs.Runs.{after_is_net, net_after_is}
 use Rattle.ghs_protocol.proofs.WellFormed.{after_formed}
 use Rattle.ghs_core.specs.declared.counts.Counts.{Counts}
 use Rattle.ghs_core.specs.Ledger.{IsLedger}
+use Rattle.ghs_core.specs.declared.halts.Halts.{Halts}
+use Rattle.ghs_core.specs.Halts.{AreHalts, none_halted}
 use Rattle.ghs_core.specs.Kept.{IsKept, AreAsleep, no_node}
 
-module _ {g : Shape} {es : List Event} {nodes : List NodeState} {links : LinksState} {counts : Counts} {halted : Option ℕ} (kept : IsKept g es nodes links counts halted) where
+module _ {g : Shape} {es : List Event} {nodes : List NodeState} {links : LinksState} {counts : Counts} {halts : Halts} (kept : IsKept g es nodes links counts halts) where
   pub run : IsAfter (network_of g) es (net_after g es)
   run = after_is_net g es kept.run
 
@@ -66,8 +68,8 @@ pub lawful_port : (g : Network) (w : Net) (v p : ℕ) → is_lawful g w (Take v 
 lawful_port g w v p l = let b = and_parts _ _ l in at_of g v p b.0
 
 -- the fields of an opening net
-pub opened : (g : Shape) (nodes : List NodeState) (links : LinksState) (counts : Counts) → AreAsleep g nodes → IsFor g links → AllEmpty links → total_of links ≡ 0 → ((k : ℕ) → get_or counts.sent k 0 ≡ 0) → ((k : ℕ) → get_or counts.consumed k 0 ≡ 0) → counts.requeued ≡ 0 → IsKept g [] nodes links counts None
-opened g nodes links counts asleep for empty total sent consumed requeued = record {
+pub opened : (g : Shape) (nodes : List NodeState) (links : LinksState) (counts : Counts) (halts : Halts) → AreAsleep g nodes → IsFor g links → AllEmpty links → total_of links ≡ 0 → ((k : ℕ) → get_or counts.sent k 0 ≡ 0) → ((k : ℕ) → get_or counts.consumed k 0 ≡ 0) → counts.requeued ≡ 0 → AreHalts g none_halted halts → IsKept g [] nodes links counts halts
+opened g nodes links counts halts asleep for empty total sent consumed requeued none = record {
   graph = asleep.graph;
   run = (opening (network_of g), refl);
   queues = for;
@@ -85,5 +87,5 @@ opened g nodes links counts asleep for empty total sent consumed requeued = reco
     requeued = omega (arith, requeued);
     waiting = let s = consumed in let t = sent in omega (arith, total, s 0, s 1, s 2, s 3, s 4, s 5, s 6, t 0, t 1, t 2, t 3, t 4, t 5, t 6);
   };
-  least = λ v lo hi h. let e : ((opening (network_of g)).node v).head.halted ≡ true = rw (net_after_is g [] (opening (network_of g)) refl) at h in cc;
+  halted = rw (net_after_is g [] (opening (network_of g)) refl) none;
 }

@@ -1,5 +1,5 @@
 -- What the fields of a net keep.
-use Rattle.std.specs.Prelude.{◌≡◌, ℕ, ◌+◌, ◌-◌, ◌*◌, ◌≤◌, ◌<◌, Option, List, [], length, slice_index, slice_index_or}
+use Rattle.std.specs.Prelude.{◌≡◌, ℕ, ◌+◌, ◌-◌, ◌*◌, ◌≤◌, ◌<◌, List, [], length, slice_index, slice_index_or}
 use Rattle.ghs_graph.specs.Graph.{Shape, IsGraph}
 use Rattle.ghs_graph.specs.Ports.{ports_of}
 use Rattle.ghs_node.specs.NodeState.{NodeState, sleeper}
@@ -10,7 +10,9 @@ use Rattle.ghs_protocol.specs.Net.{Net}
 use Rattle.ghs_protocol.specs.Run.{IsRun, net_after}
 use Rattle.ghs_protocol.specs.Ledger.{in_all}
 use Rattle.ghs_core.specs.declared.counts.Counts.{Counts}
-use Rattle.ghs_core.specs.NetState.{IsLeastHalted}
+use Rattle.ghs_core.specs.declared.halts.Halts.{Halts}
+use Rattle.ghs_core.specs.Halts.{AreHalts}
+use Rattle.ghs_core.specs.NetState.{halted_in}
 
 -- stands where a list lookup wants a default
 abbrev pub no_node : NodeState
@@ -33,13 +35,13 @@ pub record CountsFit (n : ℕ) (links : LinksState) (counts : Counts) : Type 0 w
   pub waiting : total_of links + in_all (λ k. slice_index counts.consumed k) ≡ in_all (λ k. slice_index counts.sent k)
 
 -- the fields are those of the net after a run of the graph
-pub record IsKept (g : Shape) (es : List Event) (nodes : List NodeState) (links : LinksState) (counts : Counts) (halted : Option ℕ) : Type 0 where
+pub record IsKept (g : Shape) (es : List Event) (nodes : List NodeState) (links : LinksState) (counts : Counts) (halts : Halts) : Type 0 where
   pub graph : IsGraph g
   pub run : IsRun (network_of g) es
   pub queues : IsFor g links
   pub shows : Shows (network_of g) (net_after g es) nodes links counts
   pub fit : CountsFit (length es) links counts
-  pub least : IsLeastHalted (network_of g) (net_after g es) halted
+  pub halted : AreHalts g (halted_in (net_after g es)) halts
 
 -- all nodes of a graph, as they are at the opening
 pub record AreAsleep (g : Shape) (nodes : List NodeState) : Type 0 where

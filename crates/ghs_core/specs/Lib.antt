@@ -1,3 +1,4 @@
+pub mod Halts
 pub mod NetState
 pub mod Dispatch
 pub mod Kept

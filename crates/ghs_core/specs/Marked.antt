@@ -66,6 +66,10 @@ IsExactAt g w v =
     (k : Key) → Contains g.keys k → Joined (links g.keys) v k.a →
     (InTree g.keys k → IsJoinedLink (network_of g) w k) × (IsBranchLink (network_of g) w k → InTree g.keys k × IsJoinedLink (network_of g) w k)
 
+-- in each component
+abbrev pub IsExact : Shape → Net → Type 0
+IsExact g w = (k : Key) → (IsBranchLink (network_of g) w k ↔ InTree g.keys k) × (InTree g.keys k → IsJoinedLink (network_of g) w k)
+
 -- where a node is named, it is so there
 abbrev pub IsExactWhere : Shape → Net → Option ℕ → Type 0
 IsExactWhere g w None = Unit {0}

@@ -1,5 +1,5 @@
 -- What a net is seen as: a graph and the events that were played on it, and the room beside.
-use Rattle.std.specs.Prelude.{◌≡◌, ℕ, ◌≤◌, ◌<◌, Option, Some, None, List, [], ◌∷◌, Bool, true, false, min}
+use Rattle.std.specs.Prelude.{◌≡◌, ℕ, ◌≤◌, ◌<◌, Option, Some, List, [], ◌∷◌, Bool, true}
 use Rattle.ghs_graph.specs.Graph.{Shape}
 use Rattle.ghs_node.specs.declared.message.Message.{Message}
 use Rattle.ghs_node.specs.declared.delta.Delta.{Delta}
@@ -12,7 +12,7 @@ use Rattle.ghs_protocol.specs.declared.event.Event.TheVariants.{Wake, Take}
 use Rattle.ghs_protocol.specs.Network.{Network, network_of}
 use Rattle.ghs_protocol.specs.Net.{Net, is_lawful}
 use Rattle.ghs_protocol.specs.Run.{net_after}
-use Rattle.ghs_protocol.specs.Marks.{HasHalted}
+use Rattle.ghs_core.specs.Halts.{IsLeast}
 
 -- the graph and the trace; the queues with the room beside each, and for how many more events the trace has room
 pub record NetState : Type 0 where
@@ -61,13 +61,14 @@ pub record IsSameNet (old new : NetState) : Type 0 where
   pub links : KeepsLists old.links new.links
   pub spare : old.spare ≤ new.spare
 
+-- the same graph, and the same events played on it
+abbrev pub IsSameRun : NetState → NetState → Type 0
+IsSameRun s t = (s.graph ≡ t.graph) × (s.trace ≡ t.trace)
+
+-- which nodes have halted, as core nodes
+abbrev pub halted_in : Net → ℕ → Bool
+halted_in w v = (w.node v).head.halted
+
 -- the least node that has halted, if one has
 abbrev pub IsLeastHalted : Network → Net → Option ℕ → Type 0
-IsLeastHalted g w None = (v : ℕ) → 1 ≤ v → v ≤ g.count → HasHalted w v → ⊥
-IsLeastHalted g w (Some v) = (1 ≤ v) × (v ≤ g.count) × HasHalted w v × ((u : ℕ) → 1 ≤ u → u < v → HasHalted w u → ⊥)
-
--- the least of them, where node v may have halted as well
-abbrev pub lesser : Option ℕ → ℕ → Bool → Option ℕ
-lesser o v false = o
-lesser None v true = Some v
-lesser (Some u) v true = Some (min u v)
+IsLeastHalted g w o = IsLeast (halted_in w) g.count o

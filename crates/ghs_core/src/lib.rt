@@ -3,6 +3,7 @@
 
 mod counts;
 mod dispatch;
+mod halts;
 pub mod ledger;
 mod marked;
 pub mod net;

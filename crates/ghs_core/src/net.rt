@@ -1,5 +1,5 @@
 //! The net of one thread.
-ghost use Rattle.std.specs.Prelude.{◌≡◌, ℕ, ◌+◌, ◌*◌, ◌≤◌, ◌<◌, ◌^◌, [], ◌∷◌, ◌++◌, length, IfOk, IfErr, OnOk, OnErr, IsSome, Some};
+ghost use Rattle.std.specs.Prelude.{◌≡◌, ℕ, ◌+◌, ◌*◌, ◌≤◌, ◌<◌, ◌^◌, [], ◌∷◌, ◌++◌, length, IfOk, IfErr, OnOk, OnErr, IsSome, Some, IsTrue, ◌↔◌};
 ghost use Rattle.ghs_graph.specs.Graph.{IsGraph};
 ghost use Rattle.ghs_node.specs.Words.{is_sleeping};
 ghost use Rattle.ghs_node.specs.NodeState.{mark_at};
@@ -10,12 +10,13 @@ ghost use Rattle.ghs_protocol.specs.Interleavings.{HaveAtLeast};
 ghost use Rattle.ghs_node.specs.Reaction.{reaction};
 ghost use Rattle.ghs_protocol.specs.Net.{opening, is_lawful, is_node, is_port, happens};
 ghost use Rattle.ghs_protocol.specs.Run.{IsRun};
-ghost use Rattle.ghs_core.specs.NetState.{network, net_of, work_at, IsLawful, IsAnswer, HasRoomToPlay, IsSameNet, IsLeastHalted, event_node, lesser};
+ghost use Rattle.ghs_core.specs.NetState.{network, net_of, work_at, IsLawful, IsAnswer, HasRoomToPlay, IsSameNet, IsLeastHalted, IsSameRun, event_node};
 ghost use Rattle.ghs_core.specs.Ledger.{IsLedger, IsWithinBound};
-ghost use Rattle.ghs_core.specs.Marked.{AreBranches, AreInTree, IsExactWhere, IsFragment, IsInFragment};
+ghost use Rattle.ghs_core.specs.Marked.{AreBranches, AreInTree, IsExactWhere, IsExact, IsFragment, IsInFragment};
 
 use crate::counts::Counts;
 use crate::dispatch::{send_all, settle};
+use crate::halts::Halts;
 use crate::ledger::Ledger;
 use crate::marked::{Ends, branch_links, numbers_alike};
 use crate::parts::open_parts;
@@ -40,8 +41,7 @@ pub struct Net {
     nodes: Vec<Node>,
     links: Links,
     counts: Counts,
-    // The least node that has halted.
-    halted: Option<u32>,
+    halts: Halts,
     trace: Vec<Event>,
 }
 
@@ -54,7 +54,7 @@ impl Model for Net {
 
     ghost view = { λ n. record { graph = n.graph; trace = n.trace.items; links = n.links; spare = vec_capacity n.trace - vec_len n.trace } };
 
-    ghost invariant = { λ n. IsKept n.graph n.trace.items n.nodes.items n.links n.counts n.halted };
+    ghost invariant = { λ n. IsKept n.graph n.trace.items n.nodes.items n.links n.counts n.halts };
 }
 
 impl Net {
@@ -71,7 +71,7 @@ impl Net {
                 nodes: parts.nodes,
                 links: parts.links,
                 counts: Counts::none(),
-                halted: None,
+                halts: parts.halts,
                 trace: Vec::new(alloc),
             }),
             Err(error) => Err((graph, error)),
@@ -104,6 +104,15 @@ impl Net {
         ensures { result.now ≡ (net_of self.now).node v }
     {
         &self.nodes[v as usize - 1]
+    }
+
+    /// A node to work with elsewhere, which equals the one that stays. The net is seen as before.
+    pub fn lift(&self, alloc: Global, v: u32) -> Result<Node, AllocError>
+        requires low { 1 ≤ v }
+        requires high { v ≤ self.now.graph.nodes }
+        ensures { IfOk result (λ n. n ≡ (net_of self.now).node v) }
+    {
+        self.nodes[v as usize - 1].copy(alloc)
     }
 
     /// The mark of a port. A Rejected link leads back into the node's own fragment.
@@ -156,7 +165,16 @@ impl Net {
         ensures least { IsLeastHalted (network self.now) (net_of self.now) result }
         ensures exact { IsExactWhere self.now.graph (net_of self.now) result }
     {
-        self.halted
+        self.halts.least()
+    }
+
+    /// Whether the run has ended: each component has a node that has halted. Then the Branch links are the minimum spanning
+    /// forest's, each of them Branch at both ends. Takes no memory, and no more than a step.
+    pub fn ended(&self) -> bool
+        ensures ended { IsTrue result ↔ HasEnded self.now.graph (net_of self.now) }
+        ensures forest { IsTrue result → IsExact self.now.graph (net_of self.now) }
+    {
+        self.halts.has_each()
     }
 
     /// How many messages were sent, consumed and requeued, and how many wait.
@@ -192,6 +210,20 @@ impl Net {
         let joined = branch_links(alloc, &self.graph, &self.nodes, Ends::Both)?;
         let spanning = span(alloc, self.graph.nodes(), &joined)?;
         numbers_alike(alloc, &spanning.classes, self.graph.nodes(), v)
+    }
+
+    /// Whether both are nets of one graph on which the same events were played, whatever room they have.
+    pub fn same(&self, other: &Net) -> bool
+        ensures { IsTrue result ↔ IsSameRun self.now other.now }
+    {
+        self.graph.same(&other.graph) && same_events(&self.trace, &other.trace)
+    }
+
+    /// The graph, when the net is done with.
+    pub fn into_graph(self) -> Graph
+        ensures { result ≡ self.graph }
+    {
+        self.graph
     }
 
     // What an event brings to its node.
@@ -257,7 +289,7 @@ impl Net {
             v,
             delta.sends.as_slice(),
         );
-        self.halted = least(self.halted, v, delta.head.halted);
+        self.halts.note(&self.graph, v, delta.head.halted);
         self.trace.push_reserved(event);
     }
 }
@@ -272,15 +304,10 @@ fn node_of(event: Event) -> u32
     }
 }
 
-// The least halted node, if node v has halted as well.
-fn least(halted: Option<u32>, v: u32, has_halted: bool) -> Option<u32>
-    ensures { result ≡ lesser halted v has_halted }
+fn same_events(left: &[Event], right: &[Event]) -> bool
+    ensures { IsTrue result ↔ (left.now ≡ right.now) }
 {
-    if has_halted {
-        Some(halted.map_or(v, |u| u.min(v)))
-    } else {
-        halted
-    }
+    left == right
 }
 
 // Whether a node with these variables is asleep.

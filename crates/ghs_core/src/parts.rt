@@ -1,18 +1,21 @@
 //! The parts of an opening net.
 ghost use Rattle.std.specs.Prelude.{◌≡◌, ℕ, [], IfOk};
 ghost use Rattle.ghs_links.specs.Links.{IsFor, AllEmpty, total_of};
+ghost use Rattle.ghs_core.specs.Halts.{AreHalts, none_halted};
 ghost use Rattle.ghs_core.specs.Kept.{AreAsleep};
 
+use crate::halts::Halts;
 use ghs_graph::graph::Graph;
 use ghs_links::links::Links;
 use ghs_node::node::Node;
 use std::alloc::{AllocError, Global};
 
-/// All nodes, and all queues.
+/// All nodes, all queues, and what has halted.
 #[derive(Debug, Drop)]
 pub struct Parts {
     pub nodes: Vec<Node>,
     pub links: Links,
+    pub halts: Halts,
 }
 
 /// The parts of the opening net of a graph.
@@ -21,10 +24,16 @@ pub fn open_parts(alloc: Global, graph: &Graph) -> Result<Parts, AllocError>
     ensures queues { IfOk result (λ p. IsFor graph.now p.links) }
     ensures empty { IfOk result (λ p. AllEmpty p.links) }
     ensures total { IfOk result (λ p. total_of p.links ≡ 0) }
+    ensures halts { IfOk result (λ p. AreHalts graph.now none_halted p.halts) }
 {
     let nodes = sleepers(alloc, graph)?;
     let links = Links::new(alloc, graph)?;
-    Ok(Parts { nodes, links })
+    let halts = Halts::none(alloc, graph)?;
+    Ok(Parts {
+        nodes,
+        links,
+        halts,
+    })
 }
 
 // All nodes, asleep.

@@ -58,6 +58,10 @@ fn halted_in(net: &Net) -> Option<u32> {
     net.core_halted()
 }
 
+fn has_ended(net: &Net) -> bool {
+    net.ended()
+}
+
 fn ledger_of(net: &Net) -> Ledger {
     net.ledger()
 }
@@ -94,6 +98,15 @@ fn sent_in(net: &Net) -> u64 {
     total
 }
 
+/// The Branch links are these: weight, smaller end, larger end.
+fn assert_branches(rt: &impl Abort, alloc: Global, net: &Net, tree: &[(u32, u32, u32)]) {
+    let links = branches_of(rt, alloc, net);
+    assert_eq!(rt; links.len(), tree.len());
+    for (link, (weight, a, b)) in links.iter().zip(tree) {
+        assert_eq!(rt; (link.weight, link.a, link.b), (*weight, *a, *b));
+    }
+}
+
 /// A graph, and what is known of all its runs.
 #[derive(Clone, Copy)]
 struct Example {
@@ -107,28 +120,26 @@ struct Example {
     tree: &'static [(u32, u32, u32)],
 }
 
-/// Plays an event if it is lawful.
+/// Plays an event if it is lawful and the run goes on.
 fn try_to_play(rt: &impl Abort, alloc: Global, net: &mut Net, example: &Example, event: Event) {
-    if halted_in(net).is_none() && is_lawful(net, event) {
+    if !has_ended(net) && is_lawful(net, event) {
         play(rt, alloc, net, event);
         let _ = greatest_level(rt, alloc, net, example.nodes);
         assert!(rt; sent_in(net) <= example.most);
     }
 }
 
-/// Serves all nodes in turn, each with its wake and its ports in turn, until a core node halts.
-fn run_in_turn(rt: &impl Abort, alloc: Global, net: &mut Net, example: &Example) {
+/// Serves the nodes in this order, again and again, each with its wake and its ports in turn, until the run has ended.
+fn run_in_order(rt: &impl Abort, alloc: Global, net: &mut Net, example: &Example, order: &[u32]) {
     for _ in 0..100 {
-        for v in 0..example.nodes {
-            if v < u32::MAX {
-                try_to_play(rt, alloc, net, example, Event::Wake(v + 1));
-                for port in 0..example.nodes {
-                    try_to_play(rt, alloc, net, example, Event::Take(v + 1, port));
-                }
+        for v in order {
+            try_to_play(rt, alloc, net, example, Event::Wake(*v));
+            for port in 0..example.nodes {
+                try_to_play(rt, alloc, net, example, Event::Take(*v, port));
             }
         }
     }
-    assert!(rt; halted_in(net).is_some());
+    assert!(rt; has_ended(net));
 }
 
 #[test]
@@ -259,19 +270,103 @@ fn runs_in_turn(rt: HostRuntime) {
     ];
     for example in examples {
         let mut net = net_of(&rt, alloc, example.text);
-        run_in_turn(&rt, alloc, &mut net, &example);
+        run_in_order(&rt, alloc, &mut net, &example, &[1, 2, 3, 4, 5]);
         assert_eq!(rt;
             greatest_level(&rt, alloc, &net, example.nodes),
             example.level
         );
         let (_, fragment) = fragment_of(&rt, alloc, &net, 1);
         assert_eq!(rt; fragment.len().checked_sub(1), Some(example.tree.len()));
-        let links = branches_of(&rt, alloc, &net);
-        assert_eq!(rt; links.len(), example.tree.len());
-        for (link, (weight, a, b)) in links.iter().zip(example.tree) {
-            assert_eq!(rt; (link.weight, link.a, link.b), (*weight, *a, *b));
-        }
+        assert_branches(&rt, alloc, &net, example.tree);
     }
+}
+
+// Of two parallel links the lighter one is the tree. Each node tests the other one, and neither Test is answered.
+#[test]
+fn parallel_links(rt: HostRuntime) {
+    let alloc = rt.alloc();
+    let example = Example {
+        text: "p sp 2 2\na 1 2 5\na 2 1 6",
+        nodes: 2,
+        level: 1,
+        most: 10,
+        tree: &[(5, 1, 2)],
+    };
+    let orders = [
+        [1, 2].as_slice(),
+        [2, 1].as_slice(),
+        [1, 1, 1, 2].as_slice(),
+        [2, 2, 1].as_slice(),
+    ];
+    for order in orders {
+        let mut net = net_of(&rt, alloc, example.text);
+        run_in_order(&rt, alloc, &mut net, &example, order);
+        assert_branches(&rt, alloc, &net, example.tree);
+        assert_eq!(rt;
+            ledger_of(&net).sent,
+            [2, 2, 2, 0, 0, 2, 0],
+            "in order {order:?}"
+        );
+    }
+}
+
+// A run has ended where each component has, and not before.
+#[test]
+fn pieces(rt: HostRuntime) {
+    let alloc = rt.alloc();
+    let mut net = net_of(&rt, alloc, "p sp 5 2\na 1 2 5\na 3 4 6");
+    let events = [
+        Event::Wake(1),
+        Event::Wake(2),
+        Event::Take(1, 0),
+        Event::Take(2, 0),
+        Event::Take(1, 0),
+        Event::Take(2, 0),
+        Event::Take(1, 0),
+    ];
+    for event in events {
+        play(&rt, alloc, &mut net, event);
+    }
+    assert_eq!(rt; halted_in(&net), Some(1));
+    assert!(rt; !has_ended(&net));
+    // The other core node halts as well, which ends no further component.
+    play(&rt, alloc, &mut net, Event::Take(2, 0));
+    assert!(rt; !has_ended(&net));
+    let events = [
+        Event::Wake(4),
+        Event::Wake(3),
+        Event::Take(4, 0),
+        Event::Take(3, 0),
+        Event::Take(4, 0),
+        Event::Take(3, 0),
+        Event::Take(4, 0),
+    ];
+    for event in events {
+        play(&rt, alloc, &mut net, event);
+    }
+    assert!(rt; !has_ended(&net));
+    play(&rt, alloc, &mut net, Event::Wake(5));
+    assert!(rt; has_ended(&net));
+    assert_eq!(rt; halted_in(&net), Some(1));
+    assert_branches(&rt, alloc, &net, &[(5, 1, 2), (6, 3, 4)]);
+}
+
+#[test]
+fn same_runs(rt: HostRuntime) {
+    let alloc = rt.alloc();
+    let mut left = net_of(&rt, alloc, PATH);
+    let mut right = net_of(&rt, alloc, PATH);
+    play(&rt, alloc, &mut left, Event::Wake(2));
+    assert!(rt; !left.same(&right));
+    play(&rt, alloc, &mut right, Event::Wake(3));
+    assert!(rt; !left.same(&right));
+    let other = left.into_graph();
+    assert!(rt; other.same(right.graph()));
+    let again = Net::open(alloc, other).ok().expect(&rt, "memory");
+    assert!(rt; !again.same(&net_of(&rt, alloc, PAIR)));
+    assert!(rt; again.same(&net_of(&rt, alloc, PATH)));
+    let node = again.lift(alloc, 1).expect(&rt, "memory");
+    assert!(rt; node.same(again.node(1)));
 }
 
 /// What changes when an event is played: messages consumed, and messages put back.

@@ -40,10 +40,14 @@ pub invariant_of-self : goal.invariant_of-self
 invariant_of-self c =
     let plays = plays_of c.self.invariant c.self.view_is c.requires.lawful c.requires.answer in
     let arrives = rw (c.node_of-v.ensures, c.as_slice.ensures) at c.send_all.ensures.arrives in
+    let noted = rw c.node_of-v.ensures at c.note.ensures in
     let told = rw c.as_slice.ensures at c.send_all.ensures.counts in
-    rw (c.push_reserved.ensures.items, c.least-self-inside.ensures, c.node_of-v.ensures) (played plays c.settle.new.links c.settle.new.counts c.settle.ensures c.send_all.new.links c.send_all.new.sent arrives told c.index_mut-node.result.now c.apply.new.self (rw c.node_of-v.ensures at c.index_mut-node.ensures.value) c.apply.ensures)
+    rw (c.push_reserved.ensures.items, c.node_of-v.ensures) (played plays c.settle.new.links c.settle.new.counts c.settle.ensures c.send_all.new.links c.send_all.new.sent arrives told c.note.new.self noted c.index_mut-node.result.now c.apply.new.self (rw c.node_of-v.ensures at c.index_mut-node.ensures.value) c.apply.ensures)
 
 pub returns-clause-event : goal.returns-clause-event
 returns-clause-event c =
     let plays = plays_of c.self.invariant c.self.view_is c.requires.lawful c.requires.answer in
     rw (← c.self.view_is, c.push_reserved.ensures.items) (played_event plays)
+
+pub note-requires-clause-halts : goal.note-requires-clause-halts
+note-requires-clause-halts c = (_, c.self.invariant.halted)
