@@ -7,5 +7,6 @@ pub mod Numbers
 pub mod Once
 pub mod Passes
 pub mod Plain
+pub mod Readings
 pub mod Rows
 pub mod Slow

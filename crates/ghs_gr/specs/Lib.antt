@@ -7,4 +7,5 @@ pub mod Line
 pub mod Pass
 pub mod Problem
 pub mod RawGraph
+pub mod Reading
 pub mod Text

@@ -12,6 +12,7 @@ mod line;
 mod pass;
 mod problem;
 pub mod raw_graph;
+mod reading;
 pub mod steps;
 #[cfg(test)]
 mod tests;
