@@ -1,0 +1,4 @@
+-- What proofs about texts of lines above this crate may use.
+pub mod Cuts
+pub mod Digits
+pub mod Words
