@@ -62,9 +62,3 @@ module _ (g : Network) (wired : IsWired g) where
             ⊎_elim there
             (λ ne'. subst₂ (P v p) (sym (other_side v p at ne ne')) (sym (other_side _ _ (wired.there v p at) ne' (λ y. ne (sym (wired.back v p at) ∙ y)))) (before v p at ne ne'))
             (cases_eq (far g v p) u)
-
-    -- the same of facts that name no place
-    pub acts_keeps : (P : Side X Q → Side X Q → Type 0) → ((v p : ℕ) → At g v p → P (side w v p) (side w (far g v p) (far_port g v p))) →
-        ((i : ℕ) → At g u i → P (near_side i) (across_side i)) → ((i : ℕ) → At g u i → P (across_side i) (near_side i)) → (v p : ℕ) →
-        At g v p → P (side w' v p) (side w' (far g v p) (far_port g v p))
-    acts_keeps P before near away = acts_at (λ v p. P) (λ v p at ne ne'. before v p at) near away

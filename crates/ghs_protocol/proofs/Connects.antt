@@ -1,152 +1,142 @@
--- What a reaction does to the Connects of a link.
-use Rattle.std.proofs.Common.{◌≡◌, ◌≢◌, ℕ, suc, ◌<◌, ◌≤◌, ◌==◌, Bool, true, false, ◌&&◌, List, [], ◌∷◌, ◌++◌, length, refl, sym, ◌∙◌, ap, cond, ⊎_elim, arith, Some, None, get_or-set_same, get_or-set_other, get_or, eq-eqb, ne_eqb, eqb-true}
-use Rattle.std.proofs.lemmas.Bool.{cases_eq, and_parts, and_from}
+-- Of the Connects of a link none waits, or one, as its two marks ask: read off what the invariant says of tree messages.
+use Rattle.std.proofs.Common.{◌≡◌, ◌≢◌, ℕ, ◌+◌, ◌≤◌, Option, Some, List, [], ◌∷◌, ◌++◌, refl, ◌∙◌, ap, subst₂, arith, ⊎_elim, ◌⊎◌}
 use Rattle.ghs_graph.specs.declared.key.Key.{Key}
-use Rattle.ghs_node.specs.declared.head.Head.{Head}
 use Rattle.ghs_node.specs.declared.mark.Mark.{Mark}
-use Rattle.ghs_node.specs.declared.mark.Mark.TheVariants.{Basic, Branch, Rejected}
-use Rattle.ghs_node.specs.declared.message.Phase.{Phase}
-use Rattle.ghs_node.specs.declared.message.Phase.TheVariants.{Find, Found}
+use Rattle.ghs_node.specs.declared.mark.Mark.TheVariants.{Basic, Branch}
 use Rattle.ghs_node.specs.declared.message.Message.{Message}
-use Rattle.ghs_node.specs.declared.message.Message.TheVariants.{Connect, Initiate, Reject, ChangeRoot}
-use Rattle.ghs_node.specs.declared.delta.Delta.{Delta}
-use Rattle.ghs_node.specs.declared.delta.Fate.{Fate}
-use Rattle.ghs_node.specs.declared.delta.Fate.TheVariants.{Consumed, Requeued}
-use Rattle.ghs_node.specs.Kind.{kind_of, place_of}
-use Rattle.ghs_node.specs.Words.{Outgoing, is_basic, on_branches_from}
-use Rattle.ghs_node.specs.NodeState.{NodeState, mark_at, key_at, degree, with_mark}
-use Rattle.ghs_node.specs.Reaction.{Ending, Probing, Reporting, Waiting, last_sends, no_probe, searching, passed_on, answered, heard, reject_at, root_mark, root_message, after, at_wake}
-use Rattle.ghs_node.specs.Rows.{AwakeRow, Connect_absorbed, Connect_waits, Connect_merges, Initiate_rests, Initiate_searches, Test_rejected, Tests_cross, Accept_heard, Reject_heard, Report_heard, Report_moves_root, Root_moves}
-use Rattle.ghs_node.proofs.Marks.{mark_set}
-use Rattle.ghs_protocol.specs.Net.{left_of}
+use Rattle.ghs_node.specs.declared.message.Message.TheVariants.{Connect, Initiate, Test, Accept, Reject, Report, ChangeRoot}
+use Rattle.ghs_protocol.specs.Network.{Network, network_of, At, IsWired, far, far_port}
+use Rattle.ghs_protocol.specs.Net.{Net}
 use Rattle.ghs_protocol.specs.Ledger.{of_kind}
-use Rattle.ghs_protocol.specs.Steps.{sent_on, waking}
-use Rattle.ghs_protocol.proofs.Balance.{of_kind_append}
+use Rattle.ghs_protocol.specs.Ends.{end_of, far_end_of}
+use Rattle.ghs_protocol.specs.Connects.{ConnectsFrom}
+use Rattle.ghs_protocol.specs.Laws.{IsNetOf, ConnectsAreOne}
+use Rattle.ghs_protocol.specs.Invariant.World.{Ghost, TreeEnd, end, tree_end, world}
+use Rattle.ghs_protocol.specs.Invariant.Links.{Joins, Ups, Child}
+use Rattle.ghs_protocol.specs.Invariant.TreeMessages.{TreeFits, Upward, Nothing_up, Report_up, Chain, Downward, Initiates, Old_report, Stage, Asking, Called, Begun, asked, called, CoreQueue, Plain, With_report, CoreFits, MovedFits, To_here, To_there}
+use Rattle.ghs_protocol.specs.Invariant.Whole.{Invariant, NamesOf}
+use Rattle.ghs_protocol.proofs.Graphs.{graph_wired}
+use Rattle.ghs_protocol.proofs.Results.{holds}
+use Rattle.ghs_protocol.proofs.Invariant.Pending.{kinds_seen}
+use Rattle.ghs_protocol.proofs.Invariant.Reports.{Joint, joint, Down_here, Down_there, On_core, On_moved, mark_is}
+use Rattle.ghs_protocol.proofs.Invariant.Resting.{over}
+use Rattle.ghs_protocol.proofs.Invariant.Runs.{Holds}
+use Rattle.ghs_protocol.proofs.Invariant.RowsTaking.{link_fits, link_fits', link_leads}
 
-abbrev pub one_if_connect : Message → ℕ
-one_if_connect m = cond (place_of (kind_of m) == 0) 1 0
+-- how many Connects wait at an end
+abbrev connects_at : TreeEnd → ℕ
+connects_at e = of_kind 0 e.tree
 
--- Sends without a Connect.
+no_connect : (e : TreeEnd) (ms : List Message) → e.tree ≡ ms → of_kind 0 ms ≡ 0 → connects_at e ≡ 0
+no_connect e ms q z = ap (of_kind 0) q ∙ z
 
-abbrev free : Outgoing → Bool
-free [] = true
-free (s ∷ ss) = (one_if_connect s.1 == 0) && free ss
+chain_free : (N : Key → Type 0) (top : ℕ) (name : Option Key) (t l : ℕ) (ms : List Message) → Chain N top name t l ms → of_kind 0 ms ≡ 0
+chain_free N top name t l [] c = omega arith
+chain_free N top name t l (Initiate k f s ∷ ms) c = let z = chain_free N top name t k ms c.5 in omega (arith, z)
+chain_free N top name t l (Connect k ∷ ms) c = absurd c
+chain_free N top name t l (Test k f ∷ ms) c = absurd c
+chain_free N top name t l (Accept ∷ ms) c = absurd c
+chain_free N top name t l (Reject ∷ ms) c = absurd c
+chain_free N top name t l (Report k ∷ ms) c = absurd c
+chain_free N top name t l (ChangeRoot ∷ ms) c = absurd c
 
-free_append : (a b : Outgoing) → free a ≡ true → free b ≡ true → free (a ++ b) ≡ true
-free_append [] b h k = k
-free_append (s ∷ a) b h k = let t = and_parts _ _ h in and_from _ _ t.0 (free_append a b t.1 k)
+-- at an end of the core one waits at most
+core_one : (l n : ℕ) (k : Key) (a b : Stage) → of_kind 0 (asked l b ++ called n k a) ≤ 1
+core_one l n k Asking Asking = omega arith
+core_one l n k Asking Called = omega arith
+core_one l n k Asking Begun = omega arith
+core_one l n k Called Asking = omega arith
+core_one l n k Called Called = omega arith
+core_one l n k Called Begun = omega arith
+core_one l n k Begun Asking = omega arith
+core_one l n k Begun Called = omega arith
+core_one l n k Begun Begun = omega arith
 
-free_last : (h : Head) (e : Ending) → free (last_sends h e) ≡ true
-free_last h (Probing p) = refl
-free_last h Reporting = refl
-free_last h Waiting = refl
+half_free : (n : ℕ) (k : Key) (r : Option Key) (a : Stage) → of_kind 0 (called n k a ++ Report r ∷ []) ≡ 0
+half_free n k r Asking = omega arith
+half_free n k r Called = omega arith
+half_free n k r Begun = omega arith
 
-free_branches : (p : ℕ) (ms : List Mark) (j l : ℕ) (f : Key) (s : Phase) → free (on_branches_from p ms j (Initiate l f s)) ≡ true
-free_branches p [] j l f s = refl
-free_branches p (Branch ∷ ms) j l f s = go (p == j) (free_branches (suc p) ms j l f s)
+module _ {N : ℕ → Key → Type 0} (e f : TreeEnd) (he : TreeFits N e f) (hf : TreeFits N f e) (ups : Joins e f → Ups e ⊎ Ups f) where
+  most_joined : Joins e f → connects_at f ≤ 1
+  most_joined j = go (joint e f j (ups j))
+    where
+      few : connects_at f ≡ 0 → connects_at f ≤ 1
+      few z = omega (arith, z)
+
+      up : Upward e f → connects_at f ≤ 1
+      up (Nothing_up q) = few (no_connect f [] q (omega arith))
+      up (Report_up r q h) = few (no_connect f (Report r ∷ []) q (omega arith))
+
+      down : Downward (N f.fragment) f e → connects_at f ≤ 1
+      down (Initiates c) = few (chain_free _ _ _ _ _ f.tree c)
+      down (Old_report r ms q h c) = let z = chain_free _ _ _ _ _ ms c in few (no_connect f (Report r ∷ ms) q (omega (arith, z)))
+
+      core : (z : CoreFits e f) → CoreQueue f e z.there z.here → connects_at f ≤ 1
+      core z (Plain q) = let a = core_one e.level f.coming f.key z.there z.here in let b = ap (of_kind 0) q in omega (arith, a, b)
+      core z (With_report r q b s k) = few (no_connect f _ q (half_free f.coming f.key r z.there))
+
+      moved : MovedFits e f → connects_at f ≤ 1
+      moved (To_here m) = few (no_connect f [] m.queue_beyond (omega arith))
+      moved (To_there m) = few (no_connect f (ChangeRoot ∷ []) m.queue (omega arith))
+
+      go : Joint e f → connects_at f ≤ 1
+      go (Down_here c) = up (he.upward c)
+      go (Down_there c) = down (hf.downward c)
+      go (On_core c) = let z = he.core_queues c in core z z.queue_beyond
+      go (On_moved c) = moved (he.moved_root c)
+
+  none_sent : e.mark ≢ Branch → connects_at f ≡ 0
+  none_sent a = ⊎_elim (λ b. no_connect f [] (hf.out_connect (record { here = b; there = a })).none (omega arith)) (λ b. no_connect f [] (hf.silent b a) (omega arith)) (mark_is f.mark)
+
+  one_sent : e.mark ≡ Branch → f.mark ≢ Branch → connects_at f ≡ 1
+  one_sent a b = ap (of_kind 0) (he.out_connect (record { here = a; there = b })).one ∙ omega arith
+
+  most_sent : connects_at f ≤ 1
+  most_sent = ⊎_elim
+      (λ a. ⊎_elim (λ b. most_joined (record { here = a; there = b })) (λ b. let z = one_sent a b in omega (arith, z)) (mark_is f.mark))
+      (λ a. let z = none_sent a in omega (arith, z))
+      (mark_is e.mark)
+
+basic_not : (m : Mark) → m ≡ Basic → m ≢ Branch
+basic_not m b e = cc (b, e)
+
+module _ (g : Network) (wired : IsWired g) (w : Net) (gh : Ghost) (fits : Invariant g (world w gh)) where
+  -- of the Connects that port p of v has sent
+  sent_from : (v p : ℕ) → At g v p → ConnectsFrom (end_of w v p) (far_end_of g w v p)
+  sent_from v p at = record {
+    none = λ ne. let z = none_sent here there he hf ups ne in omega (arith, z, seen);
+    one = λ a b. let z = one_sent here there he hf ups a (basic_not there.mark b) in omega (arith, z, seen);
+    most = let z = most_sent here there he hf ups in omega (arith, z, seen);
+  }
+    where
+      here : TreeEnd
+      here = tree_end (end g (world w gh) v p)
+
+      there : TreeEnd
+      there = tree_end (over g (world w gh) v p)
+
+      he : TreeFits (NamesOf g (world w gh)) here there
+      he = (link_fits g wired (world w gh) fits v p at).tree
+
+      hf : TreeFits (NamesOf g (world w gh)) there here
+      hf = (link_fits' g wired (world w gh) fits v p at).tree
+
+      ups : Joins here there → Ups here ⊎ Ups there
+      ups = link_leads g wired (world w gh) fits v p at
+
+      seen : of_kind 0 there.tree ≡ of_kind 0 (w.queue (far g v p) (far_port g v p))
+      seen = kinds_seen 0 refl refl refl (w.queue (far g v p) (far_port g v p))
+
+pub connects_are_one : ConnectsAreOne
+connects_are_one g w n v p at = (
+  sent_from (network_of g) wired w h.sound.ghost h.sound.holds.first v p at,
+  subst₂ (λ a b. ConnectsFrom (far_end_of (network_of g) w v p) (end_of w a b)) (wired.back v p at) (wired.back_port v p at)
+  (sent_from (network_of g) wired w h.sound.ghost h.sound.holds.first (far (network_of g) v p) (far_port (network_of g) v p) (wired.there v p at)),
+)
   where
-    go : (b : Bool) → free (on_branches_from (suc p) ms j (Initiate l f s)) ≡ true →
-        free (cond b (on_branches_from (suc p) ms j (Initiate l f s)) ((p, Initiate l f s) ∷ on_branches_from (suc p) ms j (Initiate l f s))) ≡ true
-    go true e = e
-    go false e = e
-free_branches p (Basic ∷ ms) j l f s = free_branches (suc p) ms j l f s
-free_branches p (Rejected ∷ ms) j l f s = free_branches (suc p) ms j l f s
+    wired : IsWired (network_of g)
+    wired = graph_wired g n.graph
 
-free_on : (s : Outgoing) (p : ℕ) → free s ≡ true → of_kind 0 (sent_on s p) ≡ 0
-free_on [] p e = refl
-free_on (x ∷ s) p e =
-    let t = and_parts _ _ e in
-    let rest = free_on s p t.1 in
-    let one = eqb-true (one_if_connect x.1) 0 t.0 in
-    elim (x.0 == p) as (λ b. of_kind 0 (cond b (x.1 ∷ sent_on s p) (sent_on s p)) ≡ 0) [ true ↦ omega (arith, one, rest) | false ↦ rest ]
-
--- What a reaction to the message m at port j does to the link at port p: nothing, or a Connect goes out on it and it becomes Branch, or its Connect is absorbed.
-pub data OnLink (n : NodeState) (j : ℕ) (m : Message) (d : Delta) (p : ℕ) : Type 0 where
-  Same : of_kind 0 (sent_on d.sends p) ≡ 0 → (mark_at (after n d) p ≡ Branch → mark_at n p ≡ Branch) → OnLink n j m d p
-  Chosen : of_kind 0 (sent_on d.sends p) ≡ 1 → mark_at n p ≢ Branch → mark_at (after n d) p ≡ Branch → OnLink n j m d p
-  Absorbed : of_kind 0 (sent_on d.sends p) ≡ 0 → j ≡ p → one_if_connect m ≡ 1 → OnLink n j m d p
-
-rejected_same : (n : NodeState) (j p : ℕ) → get_or (with_mark n.marks (reject_at n j)) p Rejected ≡ Branch → mark_at n p ≡ Branch
-rejected_same n j p h = go (mark_at n j) h
-  where
-    go : (k : Mark) → get_or (with_mark n.marks (cond (is_basic k) (Some (j, Rejected)) None)) p Rejected ≡ Branch → mark_at n p ≡ Branch
-    go Basic h = ⊎_elim (λ e. sym e ∙ h) (λ e. absurd (let z = sym e.1 ∙ h in cc)) (mark_set n.marks j p Rejected)
-    go Branch h = h
-    go Rejected h = h
-
--- the core moves over port b
-on_root : (n : NodeState) (j b p : ℕ) (m : Message) (d : Delta) → p < degree n → d.mark ≡ root_mark (mark_at n b) b →
-    d.sends ≡ (b, root_message (mark_at n b) n.head.level) ∷ [] → OnLink n j m d p
-on_root n j b p m d lt e f = ⊎_elim here away (cases_eq b p)
-  where
-    at : (k : Mark) → mark_at n b ≡ k → b ≡ p → OnLink n j m d p
-    at Branch h q = Same (rw (f, h, eq-eqb b p q)) (λ x. rw (← q) h)
-    at Basic h q = Chosen (rw (f, h, eq-eqb b p q)) (λ x. cc) (rw (e, h, q) (get_or-set_same n.marks p Branch Rejected lt))
-    at Rejected h q = Chosen (rw (f, h, eq-eqb b p q)) (λ x. cc) (rw (e, h, q) (get_or-set_same n.marks p Branch Rejected lt))
-
-    here : b ≡ p → OnLink n j m d p
-    here q = at (mark_at n b) refl q
-
-    other : (k : Mark) → d.mark ≡ root_mark k b → b ≢ p → mark_at (after n d) p ≡ Branch → mark_at n p ≡ Branch
-    other Branch x ne y = rw x at y
-    other Basic x ne y = sym (get_or-set_other n.marks b p Branch Rejected (λ z. ne (sym z))) ∙ rw x at y
-    other Rejected x ne y = sym (get_or-set_other n.marks b p Branch Rejected (λ z. ne (sym z))) ∙ rw x at y
-
-    away : b ≢ p → OnLink n j m d p
-    away ne = Same (rw (f, ne_eqb b p ne)) (other (mark_at n b) e ne)
-
-absorbed : (n : NodeState) (j l p : ℕ) (d : Delta) → d.mark ≡ Some (j, Branch) → of_kind 0 (sent_on d.sends p) ≡ 0 → OnLink n j (Connect l) d p
-absorbed n j l p d e f =
-    ⊎_elim (λ q. Absorbed f q refl) (λ ne. Same f (λ y. sym (get_or-set_other n.marks j p Branch Rejected (λ z. ne (sym z))) ∙ rw e at y))
-    (cases_eq j p)
-
-quiet : (n : NodeState) (j : ℕ) (m : Message) (d : Delta) (p : ℕ) → free d.sends ≡ true → d.mark ≡ None → OnLink n j m d p
-quiet n j m d p e h = Same (free_on d.sends p e) (λ x. rw h at x)
-
-pub row_link : {n : NodeState} {j : ℕ} {m : Message} {d : Delta} (p : ℕ) → p < degree n → AwakeRow n j m d → OnLink n j m d p
-row_link {n} {j} p lt (Connect_absorbed a e) = absorbed n j _ p _ refl (free_on ((j, _) ∷ []) p refl)
-row_link {n} p lt (Initiate_rests {j = j} {l = l} {f = f} a) = Same (free_on _ p (free_branches 0 n.marks j l f Found)) (λ x. x)
-row_link {n} p lt (Initiate_searches {j = j} {l = l} {f = f} {e = e} a c s) =
-    Same
-    (free_on _ p (free_append (passed_on n j l f Find) (last_sends (no_probe (searching n j l f)) e) (free_branches 0 n.marks j l f Find) (free_last (no_probe (searching n j l f)) e)))
-    (λ x. x)
-row_link {n} p lt (Test_rejected {j = j} a b c) = Same (free_on ((j, Reject) ∷ []) p refl) (rejected_same n j p)
-row_link {n} p lt (Tests_cross {j = j} {e = e} a b c s) = Same (free_on _ p (free_last (no_probe n.head) e)) (rejected_same n j p)
-row_link {n} p lt (Reject_heard {j = j} {e = e} a s) = Same (free_on _ p (free_last (no_probe n.head) e)) (rejected_same n j p)
-row_link {n} p lt (Accept_heard {j = j} {e = e} a s) = Same (free_on _ p (free_last (answered n.head j (Some (key_at n j))) e)) (λ x. x)
-row_link {n} p lt (Report_heard {j = j} {w = w} {e = e} k a b s) = Same (free_on _ p (free_last (heard n.head k j w) e)) (λ x. x)
-row_link {n} {j} {m} p lt (Report_moves_root b k x y z e) = on_root n j b p m _ lt refl refl
-row_link {n} {j} {m} p lt (Root_moves b k e) = on_root n j b p m _ lt refl refl
-row_link {n} {j} {m} {d} p lt _ = quiet n j m d p refl refl
-
--- a sleeping node chooses its port 0
-pub wake_link : (n : NodeState) (p : ℕ) → p < degree n → mark_at n p ≡ Basic → OnLink n p ChangeRoot (waking n) p
-wake_link n p lt b = go n.marks refl
-  where
-    go : (ms : List Mark) → n.marks ≡ ms → OnLink n p ChangeRoot (at_wake n ms) p
-    go [] e = absurd (omega (arith, ap length e))
-    go (k ∷ ms) e = ⊎_elim
-        (λ z. Chosen (rw (eq-eqb 0 p z)) (λ x. let y = b in cc) (rw (← z) (get_or-set_same n.marks 0 Branch Rejected (omega arith))))
-        (λ ne. Same (rw (ne_eqb 0 p ne)) (λ h. sym (get_or-set_other n.marks 0 p Branch Rejected (λ z. ne (sym z))) ∙ h)) (cases_eq 0 p)
-
--- what is left of the Connects that wait at j
-pub record Left (n : NodeState) (j : ℕ) (m : Message) (ms : List Message) (d : Delta) : Type 0 where
-  pub most : of_kind 0 (left_of d.fate m ms) ≤ of_kind 0 (m ∷ ms)
-  pub same : mark_at (after n d) j ≡ Basic → of_kind 0 (left_of d.fate m ms) ≡ of_kind 0 (m ∷ ms)
-
-left_same : (n : NodeState) (j : ℕ) (m : Message) (ms : List Message) (d : Delta) → one_if_connect m ≡ 0 → Left n j m ms d
-left_same n j m ms d z = record { most = go d.fate; same = λ _. eq d.fate }
-  where
-    go : (f : Fate) → of_kind 0 (left_of f m ms) ≤ of_kind 0 (m ∷ ms)
-    go Consumed = omega arith
-    go Requeued = omega (arith, of_kind_append 0 ms (m ∷ []))
-
-    eq : (f : Fate) → of_kind 0 (left_of f m ms) ≡ of_kind 0 (m ∷ ms)
-    eq Consumed = omega (arith, z)
-    eq Requeued = omega (arith, of_kind_append 0 ms (m ∷ []))
-
-pub row_left : {n : NodeState} {j : ℕ} {m : Message} {d : Delta} (ms : List Message) → j < degree n → AwakeRow n j m d → Left n j m ms d
-row_left {n} {j} ms lt (Connect_absorbed a e) = record { most = omega arith; same = λ h. absurd (let z = sym (get_or-set_same n.marks j Branch Rejected lt) ∙ h in cc) }
-row_left ms lt (Connect_waits {l = l} a e) = record { most = omega (arith, of_kind_append 0 ms (Connect l ∷ [])); same = λ _. omega (arith, of_kind_append 0 ms (Connect l ∷ [])) }
-row_left {n} {j} ms lt (Connect_merges a e le) = record { most = omega arith; same = λ h. absurd (e h) }
-row_left {n} {j} {m} {d} ms lt _ = left_same n j m ms d refl
+    h : Holds (network_of g) w
+    h = holds g w n

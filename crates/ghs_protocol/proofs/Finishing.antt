@@ -144,9 +144,6 @@ before_it zero lo = absurd (omega (arith, lo))
 before_it (suc i) lo = (i, refl)
 
 module _ (g : Shape) (graph : IsGraph g) where
-  abbrev net_of : Network
-  net_of = network_of g
-
   abbrev any : Key → Type 0
   any = passing (λ k. true) g.keys
 

@@ -5,7 +5,7 @@ use Rattle.ghs_protocol.specs.Network.{network_of}
 use Rattle.ghs_protocol.specs.Net.{Net, opening}
 use Rattle.ghs_protocol.specs.Run.{run}
 use Rattle.ghs_protocol.specs.Nodes.{IsWellFormed}
-use Rattle.ghs_protocol.specs.Laws.{IsNetOf, IsLater, BranchMarksStay, MarkedPortsStay, NodesStayAwake, LevelsStay, HaltsStay, HaltedByReaction, NodesAreNodes, MessagesHaveLevels, NothingElsewhere, KindsBalance, LedgerBalances, ConnectsAreOne, TakesAreCounted, SendsAreBounded, EventsHappenSo, SleepersWakeFirst, FragmentsAreJoined}
+use Rattle.ghs_protocol.specs.Laws.{IsNetOf, IsLater, BranchMarksStay, MarkedPortsStay, NodesStayAwake, LevelsStay, HaltsStay, HaltedByReaction, NodesAreNodes, MessagesHaveLevels, NothingElsewhere, KindsBalance, LedgerBalances, TakesAreCounted, SendsAreBounded, EventsHappenSo, SleepersWakeFirst, FragmentsAreJoined}
 use Rattle.ghs_protocol.proofs.Graphs.{graph_wired, graph_few}
 use Rattle.ghs_protocol.proofs.Events.{happening, happens_so}
 use Rattle.ghs_protocol.proofs.Runs.{run_joins}
@@ -15,7 +15,6 @@ use Rattle.ghs_protocol.proofs.Bounds.{run_counts, run_sends}
 use Rattle.ghs_protocol.proofs.Lasting.{AllLast, run_lasts}
 use Rattle.ghs_protocol.proofs.Halting.{after_halted}
 use Rattle.ghs_protocol.proofs.Balance.{after_balanced, balanced_in_all}
-use Rattle.ghs_protocol.proofs.Choosing.{after_connects}
 use Rattle.ghs_protocol.proofs.Fragments.{fragments_joined}
 
 -- the net of a run is well formed
@@ -81,6 +80,3 @@ pub sends_are_bounded : SendsAreBounded
 sends_are_bounded g ok es w h =
     omega
     (arith, run_sends (network_of g) (graph_wired g ok) es (opening (network_of g)) w (opening_formed (network_of g) (graph_few g ok)) h)
-
-pub connects_are_one : ConnectsAreOne
-connects_are_one g w n = after_connects (network_of g) (graph_wired g n.graph) (graph_few g n.graph) n.events w n.run

@@ -16,11 +16,6 @@ module _ (g : Network) where
   leads_on Here k = k
   leads_on (Over p at s j) k = Over p at s (leads_on j k)
 
-  -- more ports lead at least as far
-  pub leads_in : {S T : ℕ → ℕ → Type 0} {a b : ℕ} → ((v p : ℕ) → At g v p → S v p → T v p) → Leads g S a b → Leads g T a b
-  leads_in f Here = Here
-  leads_in f (Over p at s j) = Over p at (f _ p at s) (leads_in f j)
-
   module _ (wired : IsWired g) where
     -- over one port, and back again
     pub leads_back : {S : ℕ → ℕ → Type 0} {a b : ℕ} → ((v p : ℕ) → At g v p → S v p → S (far g v p) (far_port g v p)) → Leads g S a b → Leads g S b a

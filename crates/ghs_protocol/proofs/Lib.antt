@@ -4,6 +4,7 @@ mod LivingExamples
 mod InterleavingExamples
 pub mod Invariant
 pub mod Results
+pub mod Connects
 mod GraphExamples
 pub mod Updates
 pub mod Wires
@@ -14,7 +15,6 @@ pub mod Runs
 pub mod Nodes
 pub mod Waking
 pub mod Acts
-pub mod Ends
 pub mod Sums
 pub mod Waits
 pub mod WellFormed
@@ -28,8 +28,6 @@ pub mod StepByStep
 pub mod Effects
 pub mod Rejecting
 pub mod Bounds
-pub mod Connects
-pub mod Choosing
 pub mod Awaiting
 pub mod Requeues
 pub mod Finishing

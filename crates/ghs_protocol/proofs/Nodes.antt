@@ -49,11 +49,3 @@ module _ (g : Network) (u : ℕ) (d : Delta) (w w1 : Net) (nodes : w1.node ≡ w
 pub node_step : (g : Network) (I : ℕ → NodeState → Type 0) → NodeKept I → (w w' : Net) → ((v : ℕ) → I v (w.node v)) → Step g w w' → (v : ℕ) → I v (w'.node v)
 node_step g I k w w' b (Wakes_up u lo hi s) = node_kept g u (waking (w.node u)) w w refl I b (k.wakes u (w.node u) (b u) s)
 node_step g I k w w' b (Takes_one u j m ms d at q up row) = node_kept g u d w (take_first d.fate u j m ms w) refl I b (k.takes u (w.node u) j m d (b u) up row)
-
--- a fact of a node before and after that step
-pub step_grows : (g : Network) (R : ℕ → NodeState → NodeState → Type 0) → ((v : ℕ) (n : NodeState) → R v n n) → (w w' : Net) →
-    ((v j : ℕ) (m : Message) (d : Delta) → (w.node v).head.phase ≢ Sleeping → AwakeRow (w.node v) j m d → R v (w.node v) (after (w.node v) d)) →
-    ((v : ℕ) → (w.node v).head.phase ≡ Sleeping → R v (w.node v) (after (w.node v) (waking (w.node v)))) → Step g w w' → AllNodes R w w'
-step_grows g R same w w' takes wakes (Wakes_up u lo hi s) = node_by_node g u (waking (w.node u)) w w refl R (wakes u s) (λ v ne. same v (w.node v))
-step_grows g R same w w' takes wakes (Takes_one u j m ms d at q up row) =
-    node_by_node g u d w (take_first d.fate u j m ms w) refl R (takes u j m d up row) (λ v ne. same v (w.node v))

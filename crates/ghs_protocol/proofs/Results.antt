@@ -8,7 +8,7 @@ use Rattle.ghs_protocol.proofs.Firsts.{earlier, further}
 use Rattle.ghs_protocol.proofs.Graphs.{graph_wired, graph_few, graph_keyed, graph_rising}
 use Rattle.ghs_protocol.proofs.Invariant.Runs as runs
 
-holds : (g : Shape) (w : Net) → IsNetOf g w → runs.Holds (network_of g) w
+pub holds : (g : Shape) (w : Net) → IsNetOf g w → runs.Holds (network_of g) w
 holds g w n = runs.after_holds (network_of g) (graph_wired g n.graph) (graph_keyed g n.graph) (graph_rising g n.graph) (graph_few g n.graph) n.events w n.run
 
 pub fragments_are_large : FragmentsAreLarge

@@ -29,9 +29,6 @@ first_same : (x y : Message) (xs ys : List Message) → x ∷ xs ≡ y ∷ ys �
 first_same x y xs ys e = (cc, cc)
 
 module _ (g : Shape) (graph : IsGraph g) where
-  abbrev up_to : Net → ℕ
-  up_to w = reached (network_of g) w
-
   -- a wake gets on
   pub wake_gets_on : (w : Net) (v : ℕ) (w' : Net) → IsNetOf g w → Happens (network_of g) w (events.Wake v) w' → suc (reached (network_of g) w) ≤ reached (network_of g) w'
   wake_gets_on w _ _ n (Woke v d lo hi s r) =

@@ -25,10 +25,6 @@ pub put_count : (f : ℕ → ℕ) (i c x k : ℕ) → x ≡ f i + c → put f i 
 put_count f i c x k q = ⊎_elim (λ (e : k ≡ i). rw (e, eq-eqb i i refl) q) (λ ne. rw (ne_eqb k i ne, ne_eqb i k (λ z. ne (sym z)), add-zero)) (cases_eq k i)
 
 module _ (g : Network) (v : ℕ) where
-  pub sends_append : (a b : Outgoing) (w : Net) → send_all g v (a ++ b) w ≡ send_all g v b (send_all g v a w)
-  sends_append [] b w = refl
-  sends_append (s ∷ a) b w = sends_append a b (send g v w s)
-
   -- sends touch no node, nor the counts of what was consumed and requeued
   pub node_sent : (ss : Outgoing) (w : Net) → (send_all g v ss w).node ≡ w.node
   node_sent [] w = refl
@@ -49,10 +45,6 @@ module _ (g : Network) (v : ℕ) where
       let one = put_count w.sent (place_of (kind_of s.1)) 1 (suc (w.sent (place_of (kind_of s.1)))) k (omega arith) in
       let rest = count_sent ss (send g v w s) k in
       omega (arith, one, rest)
-
-  pub change_sends : (ss : Outgoing) (d : Delta) (w : Net) → change v d (send_all g v ss w) ≡ send_all g v ss (change v d w)
-  change_sends [] d w = refl
-  change_sends (s ∷ ss) d w = change_sends ss d (send g v w s)
 
   -- the queues, by what is pushed
   pub queues_sent : (ss : Outgoing) (w : Net) → (send_all g v ss w).queue ≡ push_all at_end g v ss w.queue

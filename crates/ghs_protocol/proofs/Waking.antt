@@ -90,10 +90,6 @@ wake_is {n} (Wakes_alone s z) = go n.marks refl
     go [] e = refl
     go (m ∷ ms) e = absurd (omega (arith, ap length e))
 
--- a sleeping node wakes by a row
-pub wake_row : (n : NodeState) → n.head.phase ≡ Sleeping → Row n Wake (waking n)
-wake_row n s = reaction_inverts n Wake (waking n) tt (rw s)
-
 same_net : {w v : Net} → w.node ≡ v.node → w.queue ≡ v.queue → w.sent ≡ v.sent → w.consumed ≡ v.consumed → w.requeued ≡ v.requeued → w ≡ v
 same_net a b c d e = λ i. record { node = a i; queue = b i; sent = c i; consumed = d i; requeued = e i }
 

@@ -142,9 +142,6 @@ module _ (N : ℕ → Key → Type 0) (e f : TreeEnd) (l : ℕ) (n : Key) (s : P
   here_queue (Plain q) = Plain q
   here_queue (With_report k q t p x) = With_report k q t p x
 
-  far_stage : (b : Stage) → AtStage f b → AtStage (record f { tree = f.tree }) b
-  far_stage b h = h
-
   told_core : Way (N e.fragment) e f l n s ms → Core e f → CoreFits (told e l s (Some e.port) ms) f
   told_core (From_parent d x q) k = absurd (d.down k.both.up_beyond)
   told_core (Over_core d b at ne far queue top) k = record { here = Begun; there = b; at_here = top; at_there = at; served = unasked b ne; served_beyond = begun_after b; queue = here_queue queue; queue_beyond = Plain far }

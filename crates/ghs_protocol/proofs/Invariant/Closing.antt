@@ -79,12 +79,6 @@ module _ (e f : TreeEnd) (finds : e.phase ≡ Find) where
 
   -- the link to its parent, or the core
   module _ (j : Joins e f) (up : Ups e) (top : e.level ≡ e.coming) (back : e.in_branch ≡ Some e.port) (unmoved : Moved e f → ⊥) where
-    k' : Option Key
-    k' = best_key e.best
-
-    old_joins : Joins (found e) (with_report f (best_key e.best)) → Joins e f
-    old_joins z = j
-
     empty_up : Upward e f → f.tree ≡ []
     empty_up (Nothing_up q) = q
     empty_up (Report_up k q r) = absurd (not_yet r.phase)

@@ -20,9 +20,6 @@ use Rattle.ghs_protocol.proofs.Invariant.Popping.{search_trees, debt_one, debt_u
 use Rattle.ghs_protocol.proofs.Invariant.Reports.{Joint, joint, Down_here, Down_there, On_core, On_moved, no_report, no_plain, joined}
 use Rattle.ghs_protocol.proofs.Invariant.Situations.{is_find'}
 
-with_tree : TreeEnd → List Message → TreeEnd
-with_tree e t = record e { tree = t }
-
 -- the Report is an old one, or that of the other half of the core
 pub data Back (N : Key → Type 0) (e f : TreeEnd) (k : Option Key) (ms : List Message) : Type 0 where
   Old : Child e f → Harmless e f k ms → Falls N e f ms → Back N e f k ms

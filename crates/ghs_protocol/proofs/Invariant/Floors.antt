@@ -28,9 +28,6 @@ use Rattle.ghs_protocol.proofs.Invariant.RowsTaking.{link_fits, link_fits', link
 
 -- The order of floors.
 
-not_lt_on : (i j k : Key) → key_lt j i ≡ false → key_lt k j ≡ false → key_lt k i ≡ false
-not_lt_on i j k h l = grind (arith, nat_tests)
-
 pub lower_on : (a b c : Floor) → lower a b ≡ true → lower b c ≡ true → lower a c ≡ true
 lower_on None b c h l = refl
 lower_on (Some a) None c h l = cc

@@ -24,9 +24,6 @@ key_not : (j k : Key) → key_lt j k ≡ true → key_lt k j ≡ false
 key_not j k h = grind (arith, nat_tests)
 
 module _ (g : Network) (u : ℕ) (lo : 1 ≤ u) (hi : u ≤ g.count) (x : Member) (own : ℕ → Seen) (ss : Outgoing) (w : World) where
-  abbrev then' : World
-  then' = acts g u x own ss w
-
   -- all but u, which has yet to test its next port
   pub scans_but : AllScanBut g w u → AllScanBut g (acts g u x own ss w) u
   scans_but h v is ne = subst (ScansInOrder g v) (sym (put_other w.at u v x ne)) (h v is ne)

@@ -69,9 +69,6 @@ module _ (g : Network) (wired : IsWired g) (u : ℕ) (lo : 1 ≤ u) (hi : u ≤ 
 
   -- an Accept is heard
   module _ (a : ℕ) (waits : (w.seen u j).accepts ≡ suc a) (own : (w.at u).head.probe ≡ Some j) where
-    abbrev pub hearer : Member
-    hearer = record (w.at u) { head = record (w.at u).head { probe = None; best = better (w.at u).head.best j (Some (port_at g u j).key) } }
-
     finds : (w.at u).head.phase ≡ Find
     finds = probing_finds my_fits own
 
@@ -96,10 +93,6 @@ module _ (g : Network) (wired : IsWired g) (u : ℕ) (lo : 1 ≤ u) (hi : u ≤ 
 
     best_fits : (p : ℕ) → (k : Key) → better (w.at u).head.best j (Some (port_at g u j).key) ≡ Some (p, k) → (p < length (g.ports u)) × ((w.at u).head.in_branch ≢ Some p)
     best_fits p k e = ⊎_elim (λ z. my_fits.best_port p k z) (λ t. subst (λ y. (y < length (g.ports u)) × ((w.at u).head.in_branch ≢ Some y)) (sym t.0) (at.port, not_up)) (better_at _ j (Some (port_at g u j).key) p k e)
-
-    -- the two ends of each link, but for Tests
-    bests : (e : TreeEnd) → TreeEnd
-    bests e = with_best e (better (w.at u).head.best j (Some (port_at g u j).key))
 
     keeps : (w.at u).head.best ≢ None → better (w.at u).head.best j (Some (port_at g u j).key) ≢ None
     keeps ne = some_better (w.at u).head.best j (Some (port_at g u j).key) ne
@@ -130,9 +123,6 @@ module _ (g : Network) (wired : IsWired g) (u : ℕ) (lo : 1 ≤ u) (hi : u ≤ 
 
     heard : Heard (tree_end (end g w u j)) (tree_end (opposite j)) k
     heard = heard_first (tree_end (end g w u j)) (tree_end (opposite j)) lnk.tree lnk'.tree (ways j at) k ms waits away
-
-    none_left : ms ≡ []
-    none_left = let e : Report k ∷ [] ≡ Report k ∷ ms = sym heard.tree ∙ waits in cc
 
     joins : Joins (tree_end (end g w u j)) (tree_end (opposite j))
     joins = record { here = heard.child.joins.there; there = heard.child.joins.here }

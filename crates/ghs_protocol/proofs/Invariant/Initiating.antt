@@ -65,10 +65,6 @@ turn_about true false = refl
 turn_about false true = refl
 turn_about false false = refl
 
-middle_true : (a b : Bool) → (a || (true || b)) ≡ true
-middle_true true b = refl
-middle_true false b = refl
-
 not_find : (p : Phase) → p ≢ Find → is_find p ≡ false
 not_find Sleeping ne = refl
 not_find Find ne = absurd (ne refl)

@@ -37,9 +37,6 @@ not_less j k h = grind (arith, nat_tests)
 
 -- A Connect under way goes over the least link that leaves its fragment: its sender's floor is that link's key, and no floor of the fragment is below it.
 module _ (g : Network) (wired : IsWired g) (w : World) (holds : Invariant g w) (floor : ℕ → Floor) (floors : Floors g w floor) (a j : ℕ) (at : At g a j) (mark : (w.at a).mark j ≡ Branch) (free : is_branch ((w.at (far g a j)).mark (far_port g a j)) ≡ false) where
-  came : ConnectUnderWay (tree_end (end g w a j)) (tree_end (over g w a j))
-  came = (link_fits g wired w holds a j at).tree.out_connect (record { here = mark; there = mark_branch _ free })
-
   is_floor : floor a ≡ Some (Some (port_at g a j).key)
   is_floor = (near_fits g wired w holds floor floors a j at).out (record { here = mark; there = mark_branch _ free })
 

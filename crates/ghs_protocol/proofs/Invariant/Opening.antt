@@ -100,6 +100,3 @@ module _ (g : Network) where
       only : (v x : ℕ) → IsIn x (v ∷ []) → InNetwork g v → InNetwork g x × (x ≡ v)
       only v x First is = (is, refl)
       only v x (Later i) is = absurd (nowhere [] x refl i)
-
-  pub opening_has : HasInvariant g (opening g)
-  opening_has = record { ghost = opening_ghost; holds = opening_holds }

@@ -1,5 +1,5 @@
 -- How many Initiates and Accepts may wait at a node.
-use Rattle.std.proofs.Common.{◌≡◌, ◌≢◌, ◌⊎◌, inl, inr, ℕ, zero, suc, ◌+◌, ◌≤◌, ◌<◌, Option, Some, None, List, [], ◌∷◌, ◌++◌, length, refl, sym, ◌∙◌, ap, subst, arith, ⊎_elim, eq-eqb, ne_eqb, ◌==◌, if◌then◌else◌}
+use Rattle.std.proofs.Common.{◌≡◌, ◌≢◌, ◌⊎◌, inl, inr, ℕ, zero, suc, ◌+◌, ◌≤◌, ◌<◌, false, Option, Some, None, List, [], ◌∷◌, ◌++◌, length, refl, sym, ◌∙◌, ap, subst, arith, ⊎_elim, eq-eqb, ne_eqb, ◌==◌, if◌then◌else◌}
 use Rattle.std.proofs.lemmas.Bool.{cases_eq, cases_lt}
 use Rattle.ghs_graph.specs.declared.key.Key.{Key}
 use Rattle.ghs_graph.specs.Bound.{IsFloorLog2}
@@ -32,15 +32,19 @@ use Rattle.ghs_protocol.proofs.Invariant.Tests.{probe_is}
 
 -- what is read of a queue, counted
 
-calls_added : (q : Seen) (ms : List Message) → of_kind 1 (adds q ms).tree ≡ of_kind 1 q.tree + of_kind 1 ms
-calls_added q [] = omega arith
-calls_added q (Connect l ∷ ms) = let z = calls_added (add q (Connect l)) ms in let y = of_kind_append 1 q.tree (Connect l ∷ []) in omega (arith, z, y)
-calls_added q (Initiate l f s ∷ ms) = let z = calls_added (add q (Initiate l f s)) ms in let y = of_kind_append 1 q.tree (Initiate l f s ∷ []) in omega (arith, z, y)
-calls_added q (Test l f ∷ ms) = let z = calls_added (add q (Test l f)) ms in omega (arith, z)
-calls_added q (Accept ∷ ms) = let z = calls_added (add q Accept) ms in omega (arith, z)
-calls_added q (Reject ∷ ms) = let z = calls_added (add q Reject) ms in omega (arith, z)
-calls_added q (Report w ∷ ms) = let z = calls_added (add q (Report w)) ms in let y = of_kind_append 1 q.tree (Report w ∷ []) in omega (arith, z, y)
-calls_added q (ChangeRoot ∷ ms) = let z = calls_added (add q ChangeRoot) ms in let y = of_kind_append 1 q.tree (ChangeRoot ∷ []) in omega (arith, z, y)
+none_of : (i j : ℕ) → (i == j) ≡ false → ◌≡◌ {A = ℕ} (if i == j then 1 else 0) 0
+none_of i j e = ap (λ b. if b then 1 else 0) e
+
+-- messages of a kind that stays among the tree messages
+kinds_added : (j : ℕ) → (2 == j) ≡ false → (3 == j) ≡ false → (4 == j) ≡ false → (q : Seen) (ms : List Message) → of_kind j (adds q ms).tree ≡ of_kind j q.tree + of_kind j ms
+kinds_added j t a r q [] = omega arith
+kinds_added j t a r q (Connect l ∷ ms) = let z = kinds_added j t a r (add q (Connect l)) ms in let y = of_kind_append j q.tree (Connect l ∷ []) in omega (arith, z, y)
+kinds_added j t a r q (Initiate l f s ∷ ms) = let z = kinds_added j t a r (add q (Initiate l f s)) ms in let y = of_kind_append j q.tree (Initiate l f s ∷ []) in omega (arith, z, y)
+kinds_added j t a r q (Test l f ∷ ms) = let z = kinds_added j t a r (add q (Test l f)) ms in let y = none_of 2 j t in omega (arith, z, y)
+kinds_added j t a r q (Accept ∷ ms) = let z = kinds_added j t a r (add q Accept) ms in let y = none_of 3 j a in omega (arith, z, y)
+kinds_added j t a r q (Reject ∷ ms) = let z = kinds_added j t a r (add q Reject) ms in let y = none_of 4 j r in omega (arith, z, y)
+kinds_added j t a r q (Report w ∷ ms) = let z = kinds_added j t a r (add q (Report w)) ms in let y = of_kind_append j q.tree (Report w ∷ []) in omega (arith, z, y)
+kinds_added j t a r q (ChangeRoot ∷ ms) = let z = kinds_added j t a r (add q ChangeRoot) ms in let y = of_kind_append j q.tree (ChangeRoot ∷ []) in omega (arith, z, y)
 
 accepts_added : (q : Seen) (ms : List Message) → (adds q ms).accepts ≡ q.accepts + of_kind 3 ms
 accepts_added q [] = omega arith
@@ -52,8 +56,11 @@ accepts_added q (Reject ∷ ms) = let z = accepts_added (add q Reject) ms in ome
 accepts_added q (Report w ∷ ms) = let z = accepts_added (add q (Report w)) ms in omega (arith, z)
 accepts_added q (ChangeRoot ∷ ms) = let z = accepts_added (add q ChangeRoot) ms in omega (arith, z)
 
+pub kinds_seen : (j : ℕ) → (2 == j) ≡ false → (3 == j) ≡ false → (4 == j) ≡ false → (ms : List Message) → of_kind j (see ms).tree ≡ of_kind j ms
+kinds_seen j t a r ms = let z = kinds_added j t a r unseen ms in omega (arith, z)
+
 calls_seen : (ms : List Message) → of_kind 1 (see ms).tree ≡ of_kind 1 ms
-calls_seen ms = let z = calls_added unseen ms in omega (arith, z)
+calls_seen = kinds_seen 1 refl refl refl
 
 accepts_seen : (ms : List Message) → (see ms).accepts ≡ of_kind 3 ms
 accepts_seen ms = let z = accepts_added unseen ms in omega (arith, z)

@@ -18,14 +18,8 @@ use Rattle.ghs_protocol.proofs.Invariant.Tests.{rejected, not_some, tests_aside,
 use Rattle.ghs_protocol.proofs.Invariant.Situations.{probing_finds, tops_alike, named_apart, one_fragment, tree_rejected, tree_rejected', search_rejected, search_rejected', node_turned, marked, branch_marked, within_marked}
 
 module _ (g : Network) (wired : IsWired g) (u : ℕ) (lo : 1 ≤ u) (hi : u ≤ g.count) (j : ℕ) (at : At g u j) (w : World) (holds : Invariant g w) where
-  m : Member
-  m = w.at u
-
   abbrev pub beyond' : End
   beyond' = onto g wired u lo hi (w.at u) j at (w.seen u j) [] [] (sends_none j) w j
-
-  k : Member
-  k = w.at (far g u j)
 
   here_fits : NodeFits (length (g.ports u)) (w.at u)
   here_fits = holds.nodes u (record { some = lo; node = hi })

@@ -33,11 +33,6 @@ pub data EndsSo (g : Network) (v : ℕ) (m : Member) : Ending → Type 0 where
   Reports_so : ◌≡◌ {A = ℕ} m.head.find_count 0 → m.head.probe ≡ None → ScansInOrder g v m → EndsSo g v m Reporting
   Waits_so : ScansInOrder g v m → EndsSo g v m Waiting
 
-pub ends_by : {g : Network} {v : ℕ} {m : Member} {e : Ending} → EndsSo g v m e → EndsBy m e
-ends_by (Tests_least p a b c) = Tests_next p a b
-ends_by (Reports_so a b c) = Reports_now a b
-ends_by (Waits_so a) = Waits_on
-
 pub closes_so : (g : Network) (v : ℕ) (m : Member) (e : Ending) → ScansInOrder g v m → Closes m.head e → EndsSo g v m e
 closes_so g v m _ s (Reports z p) = Reports_so z p s
 closes_so g v m _ s (Waits w) = Waits_so s

@@ -52,16 +52,6 @@ module _ (c a l : ℕ) (n : Option Key) (w : Net) (gh : Ghost) where
   grouped_world = λ i. record { at = fun_ext group_member i; seen = λ x y. see (w.queue x y) }
 
 module _ (g : Network) (v : ℕ) where
-  -- a fragment that absorbs another is in the memory alone
-  pub absorbed_has : (p : ℕ) (w : Net) (gh : Ghost) → Invariant g (absorb g v p (world w gh)) → HasInvariant g w
-  absorbed_has p w gh h =
-      record { ghost = regrouped (gh.fragment (far g v p)) (gh.fragment v) (gh.coming (gh.fragment v)) (gh.coming_name (gh.fragment v)) gh; holds = subst (Invariant g) (sym (grouped_world _ _ _ _ w gh)) h }
-
-  -- so are two that merge
-  pub met_has : (p : ℕ) (w : Net) (gh : Ghost) → Invariant g (meet g v p (world w gh)) → HasInvariant g w
-  met_has p w gh h =
-      record { ghost = regrouped (gh.fragment (far g v p)) (gh.fragment v) (suc (w.node v).head.level) (Some (port_at g v p).key) gh; holds = subst (Invariant g) (sym (grouped_world _ _ _ _ w gh)) h }
-
   of_node : Ghost → ℕ → NodeState → Member
   of_node gh u n = record { head = n.head; mark = λ q. mark_at n q; fragment = gh.fragment u; coming = gh.coming (gh.fragment u); coming_name = gh.coming_name (gh.fragment u); up = gh.up u }
 
@@ -113,13 +103,6 @@ module _ (g : Network) (v : ℕ) where
       (w : Net) (gh : Ghost) (p : ℕ) (m : Message) (ms : List Message) (d : Delta) → d.fate ≡ Consumed →
       world (taken g v p m ms d w) gh ≡ acts g v (reacts g v w gh d) (put (λ i. see (w.queue v i)) p (see ms)) d.sends (world w gh)
   taken_acts w gh p m ms d e = ap (world (taken g v p m ms d w)) (sym (same_up gh)) ∙ taken_up w gh (gh.up v) p m ms d e
-
-  -- the invariant after a message that is taken for good, from that after its act
-  pub taken_has :
-      (w : Net) (gh : Ghost) (p : ℕ) (m : Message) (ms : List Message) (d : Delta) (x : Member) → d.fate ≡ Consumed → reacts g v w gh d ≡ x →
-      Invariant g (acts g v x (put (λ i. see (w.queue v i)) p (see ms)) d.sends (world w gh)) → HasInvariant g (taken g v p m ms d w)
-  taken_has w gh p m ms d x e is h =
-      record { ghost = gh; holds = subst (Invariant g) (sym (taken_acts w gh p m ms d e)) (subst (λ (y : Member). Invariant g (acts g v y (put (λ i. see (w.queue v i)) p (see ms)) d.sends (world w gh))) (sym is) h) }
 
   -- a node that reacts to no message
   pub wake_acts :

@@ -100,9 +100,6 @@ module _ (e f : TestEnd) (l : ℕ) (n : Key) (ts : List (ℕ × Key)) (waits : e
 
   -- and e is
   module _ (own : e.probe ≡ Some e.port) (same : f.probe ≡ Some f.port → f.name ≡ Some n → e.fragment ≡ f.fragment) (alike : f.probe ≡ Some f.port → e.fragment ≡ f.fragment → (e.level ≡ f.level) × (e.name ≡ f.name)) where
-    crossed_end : TestEnd
-    crossed_end = with_mark' (with_tests (with_probe e None) ts) (rejected e.mark)
-
     pub cross_frag : e.fragment ≡ f.fragment
     cross_frag = ⊎_elim (λ h. same h (from_first _ _ (hf.probing h).from).1) (λ ne. ((hf.not_probing ne).crossed (omega (arith, len))).same) (probe_is f.probe f.port)
 

@@ -150,9 +150,6 @@ module _ (g : Network) (wired : IsWired g) (u : ℕ) (lo : 1 ≤ u) (hi : u ≤ 
     tests = tests_branch' _ _ (tests_aside' (test_end (end g w u 0)) (test_end (across g wired u lo hi w holds at sleeps 0)) (w.at u).head.probe 0 (w.at u).head.name (quits g wired u lo hi w holds at sleeps 0) (quits g wired u lo hi w holds at sleeps 0) (low g wired u lo hi w holds at sleeps) fit.tests fit'.tests);
   }
 
-  one_sent : sent_on ((0, Connect 0) ∷ []) 0 ≡ Connect 0 ∷ []
-  one_sent = refl
-
   sender_is : near' g wired u lo hi awake (w.seen u) ((0, Connect 0) ∷ []) w 0 ≡ sender
   sender_is = λ i. record { port = 0; key = (port_at g u 0).key; mark = put_same (w.at u).mark 0 Branch i; is = awake; seen = w.seen u 0 }
 
