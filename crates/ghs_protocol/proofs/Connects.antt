@@ -132,7 +132,7 @@ pub connects_are_one : ConnectsAreOne
 connects_are_one g w n v p at = (
   sent_from (network_of g) wired w h.sound.ghost h.sound.holds.first v p at,
   subst₂ (λ a b. ConnectsFrom (far_end_of (network_of g) w v p) (end_of w a b)) (wired.back v p at) (wired.back_port v p at)
-  (sent_from (network_of g) wired w h.sound.ghost h.sound.holds.first (far (network_of g) v p) (far_port (network_of g) v p) (wired.there v p at)),
+      (sent_from (network_of g) wired w h.sound.ghost h.sound.holds.first (far (network_of g) v p) (far_port (network_of g) v p) (wired.there v p at)),
 )
   where
     wired : IsWired (network_of g)
