@@ -84,7 +84,7 @@ impl Net {
     {
         match event {
             Event::Wake(v) => self.has_node(v) && is_asleep(self.nodes[v as usize - 1].head()),
-            Event::Take(v, port) => self.has_port(v, port) && self.links.len_at(v, port) > 0,
+            Event::Take(v, port) => self.has_port(v, port) && self.links.front(v, port).is_some(),
         }
     }
 

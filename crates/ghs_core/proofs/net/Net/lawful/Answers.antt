@@ -5,7 +5,7 @@ use Rattle.ghs_protocol.proofs.Events.{at_of}
 use Rattle.ghs_core.proofs.Reading.{port_queue}
 use Rattle.ghs_core.proofs.net.Net.lawful.Goals as goal
 
-pub len_at-requires : goal.len_at-requires
-len_at-requires c =
+pub front-requires : goal.front-requires
+front-requires c =
     let has : is_port (network c.args.self.now) c.in-Take.v c.in-Take.port ≡ true = sym c.has_port.ensures ∙ c.if-has_port.true in
     port_queue c.self.invariant c.in-Take.v c.in-Take.port (at_of _ c.in-Take.v c.in-Take.port (rw (← c.self.view_is) at has))
