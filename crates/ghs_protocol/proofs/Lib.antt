@@ -1,35 +1,30 @@
-mod Examples
-mod Inhabited
-mod LivingExamples
-mod InterleavingExamples
-pub mod Invariant
-pub mod Results
-pub mod Connects
-mod GraphExamples
-pub mod Updates
-pub mod Wires
-pub mod Pushes
-pub mod Sends
-pub mod Events
-pub mod Runs
-pub mod Nodes
-pub mod Waking
-pub mod Acts
-pub mod Sums
-pub mod Waits
-pub mod WellFormed
+pub mod clauses
+pub mod lemmas
+pub mod acts
+pub mod tests
+pub mod search
+pub mod rest
+pub mod root
+pub mod union
+pub mod wake
+pub mod rows
+pub mod charges
+pub mod progress
+pub mod every_run
+pub mod examples
 pub mod Balance
-pub mod Lasting
-pub mod Halting
-pub mod Graphs
-pub mod Fragments
-pub mod Firsts
-pub mod StepByStep
 pub mod Effects
-pub mod Rejecting
-pub mod Bounds
-pub mod Awaiting
-pub mod Requeues
-pub mod Finishing
-pub mod Rounds
-pub mod Schedules
+pub mod Events
+pub mod Fragments
+pub mod Graphs
+pub mod Lasting
+pub mod Nodes
+pub mod Pushes
+pub mod Runs
+pub mod Sends
+pub mod Sums
+pub mod Updates
+pub mod WellFormed
+pub mod Wires
+pub mod Results
+pub mod Invariant

@@ -3,10 +3,8 @@ pub mod Net
 pub mod Run
 pub mod Marks
 pub mod Ledger
-pub mod Invariant
 pub mod Steps
 pub mod Nodes
-pub mod Acts
 pub mod Ends
 pub mod Lasting
 pub mod Laws

@@ -12,7 +12,7 @@ use Rattle.ghs_node.specs.Words.{is_zero, is_missing}
 use Rattle.ghs_node.specs.NodeState.{NodeState, mark_at, degree}
 use Rattle.ghs_protocol.specs.declared.event.Event.{Event}
 use Rattle.ghs_protocol.specs.declared.event.Event.TheVariants.{Wake, Take}
-use Rattle.ghs_protocol.specs.Network.{Network, network_of, far, At}
+use Rattle.ghs_protocol.specs.Network.{Network, network_of, far, At, InNetwork}
 use Rattle.ghs_protocol.specs.Net.{Net, happens}
 use Rattle.ghs_protocol.specs.Run.{run, IsAfter}
 use Rattle.ghs_protocol.specs.Ledger.{in_all}
@@ -23,7 +23,6 @@ use Rattle.ghs_node.specs.declared.work.Work.TheVariants.{Deliver}
 use Rattle.ghs_node.specs.Reaction.{reaction}
 use Rattle.ghs_protocol.specs.Marks.{HasHalted, Leads, IsBranchLink, IsJoinedLink}
 use Rattle.ghs_protocol.specs.Laws.{IsNetOf}
-use Rattle.ghs_protocol.specs.Invariant.Fragments.{InNetwork}
 use Rattle.ghs_graph.specs.Links.{Joined, links, InTree}
 
 -- a message at port p that the node, being awake, would put back

@@ -26,6 +26,11 @@ far g v p = (port_at g v p).far
 abbrev pub far_port : Network → ℕ → ℕ → ℕ
 far_port g v p = (port_at g v p).far_port
 
+-- v is a node of the network
+pub record InNetwork (g : Network) (v : ℕ) : Type 0 where
+  pub some : 1 ≤ v
+  pub node : v ≤ g.count
+
 -- v is a node, and p a port of it
 pub record At (g : Network) (v p : ℕ) : Type 0 where
   pub some : 1 ≤ v

@@ -1,4 +1,4 @@
-use Rattle.ghs_protocol.proofs.Finishing.{every_run_can_end}
+use Rattle.ghs_protocol.proofs.progress.Finish.{every_run_can_end}
 use Rattle.ghs_protocol.proofs.interleavings.law_finish.Goals as goal
 
 pub returns : goal.returns

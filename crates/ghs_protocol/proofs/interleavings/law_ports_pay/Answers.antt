@@ -1,4 +1,4 @@
-use Rattle.ghs_protocol.proofs.Invariant.PortsRuns.{ports_pay_once}
+use Rattle.ghs_protocol.proofs.charges.PortsPay.{ports_pay_once}
 use Rattle.ghs_protocol.proofs.interleavings.law_ports_pay.Goals as goal
 
 pub returns : goal.returns

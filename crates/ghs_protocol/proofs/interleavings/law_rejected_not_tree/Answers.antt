@@ -1,4 +1,4 @@
-use Rattle.ghs_protocol.proofs.Invariant.SoundRuns.{rejected_links_aside}
+use Rattle.ghs_protocol.proofs.every_run.Sound.{rejected_links_aside}
 use Rattle.ghs_protocol.proofs.interleavings.law_rejected_not_tree.Goals as goal
 
 pub returns : goal.returns

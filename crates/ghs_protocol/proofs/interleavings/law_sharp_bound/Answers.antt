@@ -1,4 +1,4 @@
-use Rattle.ghs_protocol.proofs.Invariant.Bounding.{sends_within_sharp}
+use Rattle.ghs_protocol.proofs.charges.Bound.{sends_within_sharp}
 use Rattle.ghs_protocol.proofs.interleavings.law_sharp_bound.Goals as goal
 
 pub returns : goal.returns

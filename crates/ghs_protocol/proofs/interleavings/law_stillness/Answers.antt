@@ -1,4 +1,4 @@
-use Rattle.ghs_protocol.proofs.Schedules.{stillness_is_end}
+use Rattle.ghs_protocol.proofs.progress.Schedules.{stillness_is_end}
 use Rattle.ghs_protocol.proofs.interleavings.law_stillness.Goals as goal
 
 pub returns : goal.returns

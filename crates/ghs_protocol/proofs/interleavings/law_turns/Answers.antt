@@ -1,4 +1,4 @@
-use Rattle.ghs_protocol.proofs.Requeues.{waiting_takes_turn}
+use Rattle.ghs_protocol.proofs.progress.Requeues.{waiting_takes_turn}
 use Rattle.ghs_protocol.proofs.interleavings.law_turns.Goals as goal
 
 pub returns : goal.returns

@@ -1,4 +1,4 @@
-use Rattle.ghs_protocol.proofs.Firsts.{branch_marks_stay}
+use Rattle.ghs_protocol.proofs.every_run.Firsts.{branch_marks_stay}
 use Rattle.ghs_protocol.proofs.laws.law_branch_marks.Goals as goal
 
 pub returns : goal.returns

@@ -1,4 +1,4 @@
-use Rattle.ghs_protocol.proofs.Firsts.{kinds_balance}
+use Rattle.ghs_protocol.proofs.every_run.Firsts.{kinds_balance}
 use Rattle.ghs_protocol.proofs.laws.law_kinds.Goals as goal
 
 pub returns : goal.returns

@@ -1,4 +1,4 @@
-use Rattle.ghs_protocol.proofs.Firsts.{marked_ports_stay}
+use Rattle.ghs_protocol.proofs.every_run.Firsts.{marked_ports_stay}
 use Rattle.ghs_protocol.proofs.laws.law_marked_ports.Goals as goal
 
 pub returns : goal.returns

@@ -1,4 +1,4 @@
-use Rattle.ghs_protocol.proofs.Firsts.{messages_have_levels}
+use Rattle.ghs_protocol.proofs.every_run.Firsts.{messages_have_levels}
 use Rattle.ghs_protocol.proofs.laws.law_message_levels.Goals as goal
 
 pub returns : goal.returns

@@ -1,4 +1,4 @@
-use Rattle.ghs_protocol.proofs.Firsts.{takes_are_counted}
+use Rattle.ghs_protocol.proofs.every_run.Firsts.{takes_are_counted}
 use Rattle.ghs_protocol.proofs.laws.law_takes.Goals as goal
 
 pub returns : goal.returns

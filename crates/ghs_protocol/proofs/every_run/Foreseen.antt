@@ -1,0 +1,266 @@
+-- No lawful event is without a rule.
+use Rattle.std.proofs.Common.{◌≡◌, ◌≢◌, ℕ, zero, suc, ◌+◌, ◌^◌, ◌<◌, ◌≤◌, Bool, true, false, not, ◌&&◌, ◌==◌, Option, Some, List, [], ◌∷◌, length, refl, sym, ◌∙◌, ap, subst, arith, ⊎_elim, ◌⊎◌, if◌then◌else◌, eqb-true, pow_mono}
+use Rattle.std.proofs.lemmas.Bool.{cases_eq, cases_lt, eqb-false}
+use Rattle.ghs_graph.specs.declared.key.Key.{Key}
+use Rattle.ghs_node.specs.declared.mark.Mark.{Mark}
+use Rattle.ghs_node.specs.declared.mark.Mark.TheVariants.{Basic, Branch, Rejected}
+use Rattle.ghs_node.specs.declared.message.Phase.{Phase}
+use Rattle.ghs_node.specs.declared.message.Phase.TheVariants.{Sleeping, Find, Found}
+use Rattle.ghs_node.specs.declared.message.Message.{Message}
+use Rattle.ghs_node.specs.declared.message.Message.TheVariants.{Connect, Initiate, Accept, Reject, Report, ChangeRoot}
+use Rattle.ghs_node.specs.declared.work.Work.TheVariants.{Deliver}
+use Rattle.ghs_node.specs.Words.{is_branch, is_at, on_branches, on_branches_from, find_more}
+use Rattle.ghs_node.specs.NodeState.{degree}
+use Rattle.ghs_node.specs.NoRule.{NoRule, IsForAwake, An_initiate, An_accept, A_reject, A_report, A_change_root, Still_asleep, Initiate_too_low, Initiate_to_sleep, Accept_untested, Reject_untested, Report_unowed, Root_without_best, Merge_above_levels, Absorbs_too_many, Searches_too_many}
+use Rattle.ghs_protocol.specs.Network.{Network, At, IsWired, port_at, far, far_port, InNetwork}
+use Rattle.ghs_protocol.specs.Net.{Net}
+use Rattle.ghs_protocol.specs.Nodes.{IsNodeOf}
+use Rattle.ghs_protocol.specs.Ledger.{sum_below}
+use Rattle.ghs_protocol.proofs.clauses.World.{End, end, tree_end, see, world, Ghost}
+use Rattle.ghs_protocol.proofs.clauses.Links.{Joins, Ups}
+use Rattle.ghs_protocol.proofs.clauses.Nodes.{NodeFits, Searching}
+use Rattle.ghs_protocol.proofs.clauses.Fragments.{IsIn, First, Later, Apart, One_more, HasMany}
+use Rattle.ghs_protocol.proofs.clauses.Rest.{owes, debt}
+use Rattle.ghs_protocol.proofs.clauses.Whole.{Invariant, LinkFits, NamesOf}
+use Rattle.ghs_protocol.proofs.lemmas.Nodes.{ports_many}
+use Rattle.ghs_protocol.proofs.lemmas.Sums.{sum_same, term_le}
+use Rattle.ghs_protocol.proofs.rest.AtRest.{over}
+use Rattle.ghs_protocol.proofs.rows.Link.{node_fits, link_fits, link_fits', link_leads}
+use Rattle.ghs_protocol.proofs.search.ReportGone.{debt_one, debt_up}
+use Rattle.ghs_protocol.proofs.search.FirstReport as reports
+use Rattle.ghs_protocol.proofs.search.FirstReport.{Joint, Down_here, Down_there, On_core, On_moved, joint, mark_is}
+use Rattle.ghs_protocol.proofs.union.CoreAnswered.{asked_on}
+use Rattle.ghs_protocol.proofs.root.AtRoot.{root_sent}
+use Rattle.ghs_protocol.proofs.search.Called.{Calls, calls}
+use Rattle.ghs_protocol.proofs.rows.Read.{is_tree, tree_first, accept_first, reject_first}
+
+-- different numbers from 1 to n are at most n
+
+abbrev drop_one : ℕ → List ℕ → List ℕ
+drop_one n [] = []
+drop_one n (x ∷ xs) = if x == n then xs else (x ∷ drop_one n xs)
+
+in_later : (y x : ℕ) (xs zs : List ℕ) → (IsIn y zs → IsIn y xs) → IsIn y (x ∷ zs) → IsIn y (x ∷ xs)
+in_later y x xs zs f First = First
+in_later y x xs zs f (Later k) = Later (f k)
+
+drop_in : (n y : ℕ) (xs : List ℕ) → IsIn y (drop_one n xs) → IsIn y xs
+drop_in n y [] i = i
+drop_in n y (x ∷ xs) i = go (drop_in n y xs) (x == n) i
+  where
+    go : (IsIn y (drop_one n xs) → IsIn y xs) → (b : Bool) → IsIn y (if b then xs else (x ∷ drop_one n xs)) → IsIn y (x ∷ xs)
+    go f true k = Later k
+    go f false k = in_later y x xs (drop_one n xs) f k
+
+drop_apart : (n : ℕ) (xs : List ℕ) → Apart xs → Apart (drop_one n xs)
+drop_apart n [] a = a
+drop_apart n (x ∷ xs) (One_more ne a) = go (drop_apart n xs a) (x == n)
+  where
+    go : Apart (drop_one n xs) → (b : Bool) → Apart (if b then xs else (x ∷ drop_one n xs))
+    go r true = a
+    go r false = One_more (λ y i. ne y (drop_in n y xs i)) r
+
+not_later : (n y x : ℕ) (zs : List ℕ) → x ≢ n → (IsIn y zs → y ≢ n) → IsIn y (x ∷ zs) → y ≢ n
+not_later n y x zs ne f First = λ z. ne z
+not_later n y x zs ne f (Later k) = λ z. f k z
+
+drop_gone : (n y : ℕ) (xs : List ℕ) → Apart xs → IsIn y (drop_one n xs) → y ≢ n
+drop_gone n y [] a i = elim i [ ]
+drop_gone n y (x ∷ xs) (One_more ne a) i = go (drop_gone n y xs a) (x == n) refl i
+  where
+    go : (IsIn y (drop_one n xs) → y ≢ n) → (b : Bool) → (x == n) ≡ b → IsIn y (if b then xs else (x ∷ drop_one n xs)) → y ≢ n
+    go f true e k = λ z. ne y k (eqb-true x n e ∙ sym z)
+    go f false e k = not_later n y x (drop_one n xs) (eqb-false x n e) f k
+
+drop_length : (n : ℕ) (xs : List ℕ) → length xs ≤ suc (length (drop_one n xs))
+drop_length n [] = omega arith
+drop_length n (x ∷ xs) = go (drop_length n xs) (x == n)
+  where
+    go : length xs ≤ suc (length (drop_one n xs)) → (b : Bool) → suc (length xs) ≤ suc (length (if b then xs else (x ∷ drop_one n xs)))
+    go h true = omega arith
+    go h false = omega arith
+
+pub few_apart : (n : ℕ) (xs : List ℕ) → Apart xs → ((x : ℕ) → IsIn x xs → (1 ≤ x) × (x ≤ n)) → length xs ≤ n
+few_apart zero [] a b = omega arith
+few_apart zero (x ∷ xs) a b = absurd (let z = b x First in omega (arith, z.0, z.1))
+few_apart (suc n) xs a b =
+    let rest = few_apart n (drop_one (suc n) xs) (drop_apart (suc n) xs a) (λ x i. let z = b x (drop_in (suc n) x xs i) in let ne = drop_gone (suc n) x xs a i in (z.0, omega (arith, z.1, ne))) in
+    let one = drop_length (suc n) xs in
+    omega (arith, rest, one)
+
+forwards_few : (q : ℕ) (ms : List Mark) (j : ℕ) (m : Message) → length (on_branches_from q ms j m) ≤ length ms
+forwards_few q [] j m = omega arith
+forwards_few q (Basic ∷ ms) j m = let z = forwards_few (suc q) ms j m in omega (arith, z)
+forwards_few q (Rejected ∷ ms) j m = let z = forwards_few (suc q) ms j m in omega (arith, z)
+forwards_few q (Branch ∷ ms) j m =
+    let z = forwards_few (suc q) ms j m in
+    elim (q == j) as (λ b. length (if b then on_branches_from (suc q) ms j m else ((q, m) ∷ on_branches_from (suc q) ms j m)) ≤ suc (length ms))
+    [ true ↦ omega (arith, z) | false ↦ omega (arith, z) ]
+
+-- a sum of terms that are at most 1
+pub sum_ones : (n : ℕ) (f : ℕ → ℕ) → ((i : ℕ) → f i ≤ 1) → sum_below n f ≤ n
+sum_ones zero f most = omega arith
+sum_ones (suc n) f most = let z = sum_ones n f most in let y = most n in omega (arith, z, y)
+
+-- where one of them is 0
+pub sum_lacks : (n j : ℕ) (f : ℕ → ℕ) → j < n → ((i : ℕ) → f i ≤ 1) → f j ≡ 0 → sum_below n f < n
+sum_lacks zero j f lt most none = absurd (omega arith)
+sum_lacks (suc n) j f lt most none =
+    ⊎_elim (λ (e : j ≡ n). let z = sum_ones n f most in let y : ◌≡◌ {A = ℕ} (f n) 0 = ap f (sym e) ∙ none in omega (arith, z, y))
+    (λ ne. let z = sum_lacks n j f (omega arith) most none in let y = most n in omega (arith, z, y)) (cases_eq j n)
+
+module _ (g : Network) (wired : IsWired g) (few : g.count ≤ 1048576) (v p : ℕ) (at : At g v p) (w : Net) (is : IsNodeOf g v (w.node v)) (gh : Ghost) (holds : Invariant g (world w gh)) where
+  inside : InNetwork g v
+  inside = record { some = at.some; node = at.node }
+
+  fits : NodeFits (length (g.ports v)) ((world w gh).at v)
+  fits = node_fits g wired (world w gh) holds v p at
+
+  link : LinkFits (NamesOf g (world w gh)) (end g (world w gh) v p) (over g (world w gh) v p)
+  link = link_fits g wired (world w gh) holds v p at
+
+  link' : LinkFits (NamesOf g (world w gh)) (over g (world w gh) v p) (end g (world w gh) v p)
+  link' = link_fits' g wired (world w gh) holds v p at
+
+  ways : Joins (tree_end (end g (world w gh) v p)) (tree_end (over g (world w gh) v p)) → Ups (tree_end (end g (world w gh) v p)) ⊎ Ups (tree_end (over g (world w gh) v p))
+  ways = link_leads g wired (world w gh) holds v p at
+
+  -- to a sleeping node no other message comes than a Connect or a Test
+  quiet_sleep : (m : Message) (ms : List Message) → w.queue v p ≡ m ∷ ms → is_tree m ≡ true → ((l : ℕ) → m ≢ Connect l) → (w.node v).head.phase ≡ Sleeping → ⊥
+  quiet_sleep m ms q tree other sleeps =
+      ⊎_elim
+      (λ b. other (tree_end (over g (world w gh) v p)).level (let z : m ∷ (see ms).tree ≡ Connect (tree_end (over g (world w gh) v p)).level ∷ [] = sym first ∙ (link'.tree.out_connect (record { here = b; there = bare })).one in cc))
+      (λ b. let z : m ∷ (see ms).tree ≡ [] = sym first ∙ link.tree.silent bare b in cc) (mark_is (tree_end (over g (world w gh) v p)).mark)
+    where
+      bare : (tree_end (end g (world w gh) v p)).mark ≢ Branch
+      bare = (fits.untouched sleeps).marks p
+
+      first : (see (w.queue v p)).tree ≡ m ∷ (see ms).tree
+      first = tree_first (w.queue v p) ms m tree q
+
+  -- answers come to who probes
+  answered : (w.node v).head.probe ≢ Some p → ((see (w.queue v p)).accepts ≡ 0) × ((see (w.queue v p)).rejects ≡ 0)
+  answered ne = let z = link.tests.not_probing ne in (z.accepts, z.rejects)
+
+  unprobed : (w.node v).head.phase ≡ Sleeping → (w.node v).head.probe ≢ Some p
+  unprobed s e = let z = (fits.untouched s).probe in cc (z, e)
+
+  no_accept : (ms : List Message) → w.queue v p ≡ Accept ∷ ms → (w.node v).head.probe ≢ Some p → ⊥
+  no_accept ms q ne = let z = (answered ne).0 in let y = accept_first (w.queue v p) ms q in omega (arith, z, y)
+
+  no_reject : (ms : List Message) → w.queue v p ≡ Reject ∷ ms → (w.node v).head.probe ≢ Some p → ⊥
+  no_reject ms q ne = let z = (answered ne).1 in let y = reject_first (w.queue v p) ms q in omega (arith, z, y)
+
+  asleep_foreseen : (m : Message) (ms : List Message) → w.queue v p ≡ m ∷ ms → IsForAwake m → (w.node v).head.phase ≡ Sleeping → ⊥
+  asleep_foreseen m ms q An_initiate s = quiet_sleep m ms q refl (λ l z. cc) s
+  asleep_foreseen m ms q An_accept s = no_accept ms q (unprobed s)
+  asleep_foreseen m ms q A_reject s = no_reject ms q (unprobed s)
+  asleep_foreseen m ms q A_report s = quiet_sleep m ms q refl (λ l z. cc) s
+  asleep_foreseen m ms q A_change_root s = quiet_sleep m ms q refl (λ l z. cc) s
+
+  -- an Initiate rises
+  called_by :
+      (l : ℕ) (n : Key) (s : Phase) (ms : List Message) → w.queue v p ≡ Initiate l n s ∷ ms →
+      Calls (NamesOf g (world w gh) (gh.fragment v)) (tree_end (end g (world w gh) v p)) (tree_end (over g (world w gh) v p)) l n s (see ms).tree
+  called_by l n s ms q =
+      calls (tree_end (end g (world w gh) v p)) (tree_end (over g (world w gh) v p)) link.tree link'.tree ways own lags l n s (see ms).tree
+      (tree_first (w.queue v p) ms (Initiate l n s) refl q)
+    where
+      own : Joins (tree_end (end g (world w gh) v p)) (tree_end (over g (world w gh) v p)) → NamesOf g (world w gh) (gh.fragment v) (port_at g v p).key
+      own j = record { node = v; port = p; at = at; joined = record { here = ap is_branch j.here; there = ap is_branch j.there }; fragment = refl; key = refl }
+
+      lags : Joins (tree_end (end g (world w gh) v p)) (tree_end (over g (world w gh) v p)) → (tree_end (over g (world w gh) v p)).level ≤ (tree_end (end g (world w gh) v p)).coming
+      lags j =
+          let t = wired.there v p at in
+          let same = (holds.trees.by_fragment v (far g v p) (holds.trees.joined_within v p at (record { here = ap is_branch j.here; there = ap is_branch j.there }))).0 in
+          let z = (holds.nodes (far g v p) (record { some = t.some; node = t.node })).lag.level in
+          omega (arith, same, z)
+
+  -- find_count
+  owed : (w.node v).head.find_count ≡ sum_below (length (g.ports v)) (λ i. debt (end g (world w gh) v i) (over g (world w gh) v i))
+  owed =
+      holds.counted v inside ∙
+      sum_same (length (g.ports v)) _ _
+      (λ i lt. let at' : At g v i = record { some = at.some; node = at.node; port = lt } in ap (debt (end g (world w gh) v i)) (λ k. record { port = far_port g v i; key = wired.same_key v i at' k; mark = ((world w gh).at (far g v i)).mark (far_port g v i); is = (world w gh).at (far g v i); seen = (world w gh).seen (far g v i) (far_port g v i) }))
+
+  debt_most : (e f : End) → debt e f ≤ 1
+  debt_most e f = elim (not (is_at e.is.up e.port) && owes e f) as (λ b. (if b then 1 else 0) ≤ 1) [ true ↦ omega arith | false ↦ omega arith ]
+
+  -- who searches waits for less Reports than it has ports
+  owed_few : (w.node v).head.phase ≡ Find → (w.node v).head.find_count < degree (w.node v)
+  owed_few finds =
+      let s : Searching ((world w gh).at v) = fits.searching finds in
+      let lt : s.port < length (g.ports v) = fits.own_ports.in_branch s.port s.in_branch in
+      let z = sum_lacks (length (g.ports v)) s.port (λ i. debt (end g (world w gh) v i) (over g (world w gh) v i)) lt (λ i. debt_most (end g (world w gh) v i) (over g (world w gh) v i)) (debt_up (end g (world w gh) v s.port) (over g (world w gh) v s.port) s.up) in
+      omega (arith, z, owed, ports_many is)
+
+  more_few : degree (w.node v) < find_more (w.node v).head.phase (w.node v).head.find_count → ⊥
+  more_few many = go (w.node v).head.phase refl
+    where
+      go : (s : Phase) → (w.node v).head.phase ≡ s → ⊥
+      go Find e =
+          let y : degree (w.node v) < suc (w.node v).head.find_count = subst (λ s. degree (w.node v) < find_more s (w.node v).head.find_count) e many in
+          let z = owed_few e in
+          omega (arith, y, z)
+      go Found e =
+          let y : degree (w.node v) < (w.node v).head.find_count = subst (λ s. degree (w.node v) < find_more s (w.node v).head.find_count) e many in
+          let z = (fits.idle (λ h. cc (e, h))).1 in
+          omega (arith, y, z)
+      go Sleeping e =
+          let y : degree (w.node v) < (w.node v).head.find_count = subst (λ s. degree (w.node v) < find_more s (w.node v).head.find_count) e many in
+          let z = (fits.idle (λ h. cc (e, h))).1 in
+          omega (arith, y, z)
+
+  -- a fragment's coming level is one that a network of so few nodes can have
+  coming_most : gh.coming (gh.fragment v) ≤ 20
+  coming_most =
+      ⊎_elim
+      (λ big. absurd (let many = h.many in let all = few_apart g.count h.some h.apart (λ x i. let z = (h.each x i).0 in (z.some, z.node)) in let power : 2 ^ 21 ≤ 2 ^ gh.coming (gh.fragment v) = pow_mono big in omega (arith, many, all, power, few)))
+      (λ small. omega (arith, small)) (cases_lt 20 (gh.coming (gh.fragment v)))
+    where
+      h : HasMany (λ u. InNetwork g u × (gh.fragment u ≡ gh.fragment v)) (2 ^ gh.coming (gh.fragment v))
+      h = holds.trees.sizes v inside
+
+  -- a Report over another link than the way to the core is owed
+  unowed : (k : Option Key) (ms : List Message) → w.queue v p ≡ Report k ∷ ms → (w.node v).head.in_branch ≢ Some p → (w.node v).head.find_count ≡ 0 → ⊥
+  unowed k ms q ne none = omega (arith, none, owed, term, one)
+    where
+      first : (see (w.queue v p)).tree ≡ Report k ∷ (see ms).tree
+      first = tree_first (w.queue v p) ms (Report k) refl q
+
+      f : ℕ → ℕ
+      f i = debt (end g (world w gh) v i) (over g (world w gh) v i)
+
+      term : f p ≤ sum_below (length (g.ports v)) f
+      term = term_le (length (g.ports v)) p f at.port
+
+      one : ◌≡◌ {A = ℕ} (f p) 1
+      one =
+          debt_one (end g (world w gh) v p) (over g (world w gh) v p)
+          (reports.heard_first (tree_end (end g (world w gh) v p)) (tree_end (over g (world w gh) v p)) link.tree link'.tree ways k (see ms).tree first ne).child.down
+          (rw first refl)
+
+  search_few :
+      (l : ℕ) (n : Key) (ms : List Message) → w.queue v p ≡ Initiate l n Find ∷ ms →
+      degree (w.node v) < (w.node v).head.find_count + length (on_branches (w.node v).marks p (Initiate l n Find)) → ⊥
+  search_few l n ms q many =
+      let c = called_by l n Find ms q in
+      let z = (fits.idle (λ h. let y = (fits.searching h).level in let r = c.rises in let t = c.most in omega (arith, y, r, t))).1 in
+      let few' = forwards_few 0 (w.node v).marks p (Initiate l n Find) in
+      omega (arith, z, few', many)
+
+  pub foreseen : (m : Message) (ms : List Message) → w.queue v p ≡ m ∷ ms → NoRule (w.node v) (Deliver p m) → ⊥
+  foreseen m ms q (Still_asleep s a) = asleep_foreseen m ms q a s
+  foreseen m ms q (Initiate_too_low {l = l} {f = f} {s = s} up le) = let z = (called_by l f s ms q).rises in omega (arith, z, le)
+  foreseen m ms q (Initiate_to_sleep {l = l} {f = f} up) = (called_by l f Sleeping ms q).awake refl
+  foreseen m ms q (Accept_untested up ne) = no_accept ms q ne
+  foreseen m ms q (Reject_untested up ne) = no_reject ms q ne
+  foreseen m ms q (Report_unowed {w = k} up ne z) = unowed k ms q ne z
+  foreseen m ms q (Root_without_best up none) =
+      (root_sent (tree_end (end g (world w gh) v p)) (tree_end (over g (world w gh) v p)) link.tree link'.tree ways (see ms).tree (tree_first (w.queue v p) ms ChangeRoot refl q)).fits.best
+      none
+  foreseen m ms q (Merge_above_levels {l = l} up top le marked) =
+      let z = (asked_on (tree_end (end g (world w gh) v p)) (tree_end (over g (world w gh) v p)) link.tree link'.tree ways l (see ms).tree (tree_first (w.queue v p) ms (Connect l) refl q) marked).below in
+      omega (arith, z, top, coming_most)
+  foreseen m ms q (Absorbs_too_many up lt many) = more_few many
+  foreseen m ms q (Searches_too_many {l = l} {f = f} up lt many) = search_few l f ms q many

@@ -1,0 +1,19 @@
+-- What proofs about nets above this crate may use.
+pub mod Balance
+pub mod Effects
+pub mod Events
+pub mod Fragments
+pub mod Graphs
+pub mod Lasting
+pub mod Nodes
+pub mod Pushes
+pub mod Runs
+pub mod Sends
+pub mod Sums
+pub mod Updates
+pub mod WellFormed
+pub mod Wires
+pub mod Queues
+pub mod Steps
+pub mod Woken
+pub mod Laws

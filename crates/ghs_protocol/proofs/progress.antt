@@ -1,0 +1,15 @@
+-- Something is always under way, and what that makes of runs.
+pub mod Depths
+pub mod KeyDescent
+pub mod Askers
+pub mod Halves
+pub mod OneWaits
+pub mod Worlds
+pub mod Found
+pub mod Nets
+pub mod Runs
+pub mod Awaits
+pub mod Requeues
+pub mod Finish
+pub mod Rounds
+pub mod Schedules

@@ -1,0 +1,108 @@
+-- Who searches waits for a Report or an answer; who is awake without ports has halted.
+use Rattle.std.proofs.Common.{◌≡◌, ◌≢◌, ℕ, Bool, true, false, ◌&&◌, Option, Some, None, List, [], ◌∷◌, length, refl, sym, ◌∙◌, ap, arith, length-set}
+use Rattle.ghs_node.specs.declared.head.Head.{Head}
+use Rattle.ghs_node.specs.declared.mark.Mark.{Mark}
+use Rattle.ghs_node.specs.declared.mark.Mark.TheVariants.{Branch}
+use Rattle.ghs_node.specs.declared.message.Message.{Message}
+use Rattle.ghs_node.specs.declared.message.Phase.{Phase}
+use Rattle.ghs_node.specs.declared.message.Phase.TheVariants.{Sleeping, Find, Found}
+use Rattle.ghs_node.specs.declared.delta.Delta.{Delta}
+use Rattle.ghs_node.specs.Words.{is_zero, is_missing, find_more, Outgoing}
+use Rattle.ghs_node.specs.NodeState.{NodeState, degree, with_mark}
+use Rattle.ghs_node.specs.Reaction.{after, at_wake, ends, Ending}
+use Rattle.ghs_node.specs.Rows.{AwakeRow, Closes, Reports, Waits, Settles, Probes, Exhausts, Connect_absorbed, Connect_waits, Connect_merges, Initiate_rests, Initiate_searches, Test_waits, Test_accepted, Test_rejected, Tests_cross, Accept_heard, Reject_heard, Report_heard, Report_waits, Report_moves_root, Report_halts, Report_passes, Root_moves}
+use Rattle.ghs_protocol.specs.Network.{Network, IsWired}
+use Rattle.ghs_protocol.specs.Net.{Net}
+use Rattle.ghs_protocol.specs.Run.{IsAfter}
+use Rattle.ghs_protocol.specs.Steps.{waking}
+use Rattle.ghs_protocol.specs.Nodes.{HasFewPorts}
+use Rattle.ghs_protocol.proofs.lemmas.Nodes.{NodeKept, node_step}
+use Rattle.ghs_protocol.proofs.lemmas.Steps.{run_by_steps}
+
+abbrev pub awaits : Head → Type 0
+awaits h = h.phase ≡ Find → (is_zero h.find_count && is_missing h.probe) ≡ false
+
+pub record Awaits (v : ℕ) (n : NodeState) : Type 0 where
+  pub search : n.head.phase ≡ Find → (is_zero n.head.find_count && is_missing n.head.probe) ≡ false
+  pub halts : n.head.phase ≢ Sleeping → ◌≡◌ {A = ℕ} (degree n) 0 → n.head.halted ≡ true
+
+and_false : (a : Bool) → (a && false) ≡ false
+and_false true = refl
+and_false false = refl
+
+absorbing : (s : Phase) (c : ℕ) (o : Option ℕ) → s ≡ Find → (is_zero (find_more s c) && is_missing o) ≡ false
+absorbing Find c o e = refl
+absorbing Found c o e = cc
+absorbing Sleeping c o e = cc
+
+closing : (h : Head) (m : Option (ℕ × Mark)) (s : Outgoing) (e : Ending) → Closes h e → awaits (ends h m s e).head
+closing h m s _ (Reports z p) = λ f. cc
+closing h m s _ (Waits x) = λ f. x
+
+settling : (ms : List Mark) (h : Head) (m : Option (ℕ × Mark)) (s : Outgoing) (e : Ending) → Settles ms h e → awaits (ends h m s e).head
+settling ms h m s _ (Probes p x) = λ f. and_false (is_zero h.find_count)
+settling ms h m s e (Exhausts x c) = closing h m s e c
+
+row_search : (n : NodeState) (j : ℕ) (m : Message) (d : Delta) → awaits n.head → AwakeRow n j m d → awaits d.head
+row_search n j m _ a (Connect_absorbed lt few) = λ f. absorbing n.head.phase n.head.find_count n.head.probe f
+row_search n j m _ a (Connect_waits le b) = a
+row_search n j m _ a (Connect_merges le ne lt) = a
+row_search n j m _ a (Initiate_rests lt) = λ f. cc
+row_search n j m _ a (Initiate_searches lt few s) = settling _ _ None [] _ s
+row_search n j m _ a (Test_waits lt) = a
+row_search n j m _ a (Test_accepted le x) = a
+row_search n j m _ a (Test_rejected le x y) = a
+row_search n j m _ a (Tests_cross le x y s) = settling _ _ None [] _ s
+row_search n j m _ a (Accept_heard x c) = closing _ None [] _ c
+row_search n j m _ a (Reject_heard x s) = settling _ _ None [] _ s
+row_search n j m _ a (Report_heard c x y z) = closing _ None [] _ z
+row_search n j m _ a (Report_waits x y) = a
+row_search n j m _ a (Report_moves_root b k x y z t) = a
+row_search n j m _ a (Report_halts x y z) = a
+row_search n j m _ a (Report_passes x y z t) = a
+row_search n j m _ a (Root_moves b k x) = a
+
+row_halted : (n : NodeState) (j : ℕ) (m : Message) (d : Delta) → AwakeRow n j m d → n.head.halted ≡ true → d.head.halted ≡ true
+row_halted n j m _ (Connect_absorbed lt few) h = h
+row_halted n j m _ (Connect_waits le b) h = h
+row_halted n j m _ (Connect_merges le ne lt) h = h
+row_halted n j m _ (Initiate_rests lt) h = h
+row_halted n j m _ (Initiate_searches lt few s) h = h
+row_halted n j m _ (Test_waits lt) h = h
+row_halted n j m _ (Test_accepted le x) h = h
+row_halted n j m _ (Test_rejected le x y) h = h
+row_halted n j m _ (Tests_cross le x y s) h = h
+row_halted n j m _ (Accept_heard x c) h = h
+row_halted n j m _ (Reject_heard x s) h = h
+row_halted n j m _ (Report_heard c x y z) h = h
+row_halted n j m _ (Report_waits x y) h = h
+row_halted n j m _ (Report_moves_root b k x y z t) h = h
+row_halted n j m _ (Report_halts x y z) h = refl
+row_halted n j m _ (Report_passes x y z t) h = h
+row_halted n j m _ (Root_moves b k x) h = h
+
+same_degree : (ms : List Mark) (o : Option (ℕ × Mark)) → length (with_mark ms o) ≡ length ms
+same_degree ms None = refl
+same_degree ms (Some m) = length-set ms m.0 m.1
+
+awakes : (v : ℕ) (n : NodeState) → n.head.phase ≡ Sleeping → Awaits v (after n (waking n))
+awakes v n s = record { search = search n.marks; halts = halts n.marks refl }
+  where
+    search : (ms : List Mark) → awaits (at_wake n ms).head
+    search [] = λ f. cc
+    search (m ∷ ms) = λ f. cc
+
+    halts : (ms : List Mark) → n.marks ≡ ms → (at_wake n ms).head.phase ≢ Sleeping → ◌≡◌ {A = ℕ} (length (with_mark n.marks (at_wake n ms).mark)) 0 → (at_wake n ms).head.halted ≡ true
+    halts [] e a z = refl
+    halts (m ∷ ms) e a z = absurd (let x = same_degree n.marks (Some (0, Branch)) in let y = ap length e in omega (arith, x, y, z))
+
+pub kept : NodeKept Awaits
+kept = record {
+  takes = λ v n j m d a up row. record { search = row_search n j m d a.search row; halts = λ w z. row_halted n j m d row (a.halts up (sym (same_degree n.marks d.mark) ∙ z)) };
+  wakes = λ v n a s. awakes v n s;
+}
+
+module _ (g : Network) (wired : IsWired g) where
+  -- in every net of a run
+  pub all_await : HasFewPorts g → (es : List _) (w : Net) → IsAfter g es w → (v : ℕ) → Awaits v (w.node v)
+  all_await few es w h = run_by_steps g wired few (λ x. (v : ℕ) → Awaits v (x.node v)) (λ x y f i s. node_step g Awaits kept x y i s) (λ v. record { search = λ f. cc; halts = λ a z. absurd (a refl) }) es w h

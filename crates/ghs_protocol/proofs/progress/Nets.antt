@@ -1,0 +1,59 @@
+-- From the clauses of one net to its message that doesn't wait.
+use Rattle.std.proofs.Common.{◌≡◌, ◌≢◌, ℕ, Bool, false, List, [], ◌∷◌, arith}
+use Rattle.std.specs.List.{All}
+use Rattle.std.proofs.lemmas.List.Elements.{All-cons}
+use Rattle.ghs_graph.specs.Key.{key_lt}
+use Rattle.ghs_node.specs.declared.mark.Mark.TheVariants.{Branch}
+use Rattle.ghs_node.specs.declared.message.Message.{Message}
+use Rattle.ghs_node.specs.declared.message.Message.TheVariants.{Connect, Initiate, Test, Accept, Reject, Report, ChangeRoot}
+use Rattle.ghs_node.specs.NodeState.{NodeState}
+use Rattle.ghs_node.specs.Words.{is_branch}
+use Rattle.ghs_protocol.specs.Network.{Network, At, port_at, far, far_port, IsWired}
+use Rattle.ghs_protocol.specs.Net.{Net}
+use Rattle.ghs_protocol.proofs.clauses.World.{Ghost, world}
+use Rattle.ghs_protocol.proofs.clauses.Wiring.{IsKeyed}
+use Rattle.ghs_protocol.proofs.clauses.Whole.{Invariant}
+use Rattle.ghs_protocol.specs.Living.{Waits, Unended, GoesOn}
+use Rattle.ghs_protocol.proofs.clauses.UnderWay.{Living}
+use Rattle.ghs_protocol.specs.Living as living
+use Rattle.ghs_protocol.proofs.progress.Worlds.{AllOf}
+use Rattle.ghs_protocol.proofs.progress.Found.{node_waits, Found_one, goes_on}
+use Rattle.ghs_protocol.proofs.progress.OneWaits.{few}
+
+so : (n : NodeState) (p : ℕ) (x : Message) → node_waits n p x → Waits n p x
+so n p (Connect l) h = living.Connect_waits h.0 h.1 h.2
+so n p (Report k) h = living.Report_waits h.0 h.1
+so n p (Test l f) h = living.Test_waits h.0 h.1
+so n p (Initiate l f s) h = elim h [ ]
+so n p ChangeRoot h = elim h [ ]
+so n p Accept h = elim h [ ]
+so n p Reject h = elim h [ ]
+
+back : (n : NodeState) (p : ℕ) (x : Message) → Waits n p x → node_waits n p x
+back n p _ (living.Connect_waits a b c) = (a, b, c)
+back n p _ (living.Report_waits a b) = (a, b)
+back n p _ (living.Test_waits a b) = (a, b)
+
+all_so : (n : NodeState) (p : ℕ) (xs : List Message) → AllOf (node_waits n p) xs → All (Waits n p) xs
+all_so n p [] h = λ k d lt. absurd (omega arith)
+all_so n p (x ∷ xs) h = All-cons (Waits n p) x xs (so n p x h.0) (all_so n p xs h.1)
+
+module _ (g : Network) (wired : IsWired g) (keyed : IsKeyed g) (w : Net) (gh : Ghost) (holds : Invariant g (world w gh)) (lives : Living g (world w gh)) (S : ℕ → Bool) (going : Unended g w S) where
+  -- behind one message that waits at most, one that doesn't
+  pub progress : ((a j : ℕ) → At g a j → ((world w gh).at a).mark j ≡ Branch → is_branch (((world w gh).at (far g a j)).mark (far_port g a j)) ≡ false → (u q : ℕ) → At g u q → gh.fragment u ≡ gh.fragment a → gh.fragment (far g u q) ≢ gh.fragment a → key_lt (port_at g u q).key (port_at g a j).key ≡ false) → GoesOn g w S
+  progress least = go (goes_on g wired keyed w gh holds lives S going least)
+    where
+      go : Found_one g w S → GoesOn g w S
+      go z = record {
+        node = z.node;
+        port = z.port;
+        at = z.at;
+        member = z.member;
+        before = z.place.before;
+        message = z.place.message;
+        behind = z.place.behind;
+        queue = z.place.whole;
+        waiting = all_so (w.node z.node) z.port z.place.before z.place.all;
+        few = few g wired z.node z.port z.at w gh holds z.place;
+        goes = λ h. z.place.goes (back (w.node z.node) z.port z.place.message h);
+      }

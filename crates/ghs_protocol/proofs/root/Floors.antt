@@ -1,0 +1,349 @@
+-- The root is sent on: floors stay, and are kept.
+use Rattle.std.proofs.Common.{◌≡◌, ◌≢◌, ℕ, suc, ◌≤◌, ◌<◌, false, Some, List, [], ◌∷◌, ◌++◌, length, refl, sym, ◌∙◌, ap, subst, ⊎_elim, ◌⊎◌, arith}
+use Rattle.std.proofs.lemmas.Bool.{cases_eq}
+use Rattle.std.proofs.lemmas.Option.{same_Some}
+use Rattle.ghs_graph.specs.declared.key.Key.{Key}
+use Rattle.ghs_node.specs.declared.mark.Mark.{Mark}
+use Rattle.ghs_node.specs.declared.mark.Mark.TheVariants.{Branch}
+use Rattle.ghs_node.specs.Words.{is_branch, best_key}
+use Rattle.ghs_node.specs.declared.message.Phase.TheVariants.{Find, Found}
+use Rattle.ghs_node.specs.declared.message.Message.{Message}
+use Rattle.ghs_node.specs.declared.message.Message.TheVariants.{Connect, ChangeRoot}
+use Rattle.ghs_protocol.specs.Network.{Network, port_at, At, far, far_port, IsWired, InNetwork}
+use Rattle.ghs_protocol.specs.Net.{put}
+use Rattle.ghs_protocol.proofs.clauses.World.{Seen, add, adds, Member, World, End, tree_end, end, acts}
+use Rattle.ghs_protocol.proofs.clauses.Links.{Joins}
+use Rattle.ghs_protocol.proofs.clauses.TreeMessages.{ConnectUnderWay, Reported, Upward, Nothing_up, Report_up}
+use Rattle.ghs_protocol.proofs.clauses.Nodes.{NodeFits}
+use Rattle.ghs_protocol.proofs.clauses.Rest.{has_call}
+use Rattle.ghs_protocol.proofs.clauses.Search.{LeadsOut}
+use Rattle.ghs_protocol.proofs.clauses.Wiring.{IsKeyed}
+use Rattle.ghs_protocol.proofs.clauses.Uniting.{SendsRoot, meet}
+use Rattle.ghs_protocol.proofs.clauses.Whole.{LinkFits, Invariant, NamesOf}
+use Rattle.ghs_protocol.proofs.clauses.Floors.{Floor, FloorsAt, IsTreeLink, Floors}
+use Rattle.ghs_protocol.proofs.lemmas.Updates.{put_same, put_other}
+use Rattle.ghs_protocol.proofs.acts.Reactions.{put_again}
+use Rattle.ghs_protocol.proofs.rest.AtRest.{over}
+use Rattle.ghs_protocol.proofs.root.AtRoot.{AtRoot, at_root}
+use Rattle.ghs_protocol.proofs.root.Sent.{by_ports_at, put_alike}
+use Rattle.ghs_protocol.proofs.root.Inward.{at_best, best_apart, best_aside, leads_to}
+use Rattle.ghs_protocol.proofs.root.OldLink.{call_append}
+use Rattle.ghs_protocol.proofs.search.FirstReport.{mark_is}
+use Rattle.ghs_protocol.proofs.rows.Link.{link_fits, link_fits'}
+use Rattle.ghs_protocol.proofs.acts.Ends.{here_seen, far_seen}
+use Rattle.ghs_protocol.proofs.acts.OneLink.{sends_one}
+use Rattle.ghs_protocol.proofs.union.MetByRoot.{connects_meeting}
+use Rattle.ghs_protocol.proofs.union.Floors.{floors_met}
+use Rattle.ghs_protocol.proofs.acts.Floors.{near_fits, far_fits, RootFloors, root_floors, best_in_tree}
+use Rattle.ghs_protocol.proofs.search.CloseFloors.{FloorsOff, nodes_after, links_after, links_after_off, in_tree_after, halted_after}
+
+module _ (g : Network) (wired : IsWired g) (u : ℕ) (lo : 1 ≤ u) (hi : u ≤ g.count) (j : ℕ) (at : At g u j) (w : World) (holds : Invariant g w) (ms : List Message) (root : AtRoot g w u j ms)
+    (b : ℕ) (atb : At g u b) (apart : b ≢ j) (μ : ℕ → Mark) (to : μ b ≡ Branch) (same : (i : ℕ) → i ≢ b → μ i ≡ (w.at u).mark i) (m : Message)
+    (no_call : (q : Seen) → has_call q.tree ≡ false → has_call (add q m).tree ≡ false) (floor : ℕ → Floor) (floors : Floors g w floor) (rf : RootFloors g wired w holds floor floors u j at ms root) where
+  abbrev x : Member
+  x = record (w.at u) { up = Some b; mark = μ }
+
+  abbrev own : ℕ → Seen
+  own = put (w.seen u) j (record (w.seen u j) { tree = ms })
+
+  abbrev pub still : ℕ → End
+  still i = record { port = i; key = (port_at g u i).key; mark = μ i; is = record (w.at u) { up = Some b; mark = μ }; seen = w.seen u i }
+
+  abbrev pub here : End
+  here = record { port = j; key = (port_at g u j).key; mark = μ j; is = record (w.at u) { up = Some b; mark = μ }; seen = record (w.seen u j) { tree = ms } }
+
+  abbrev pub there : End
+  there = record { port = far_port g u b; key = (port_at g u b).key; mark = (w.at (far g u b)).mark (far_port g u b); is = w.at (far g u b); seen = add (w.seen (far g u b) (far_port g u b)) m }
+
+  found : (w.at u).head.phase ≡ Found
+  found = root.quiet.found u (record { some = lo; node = hi }) refl
+
+  not_find : (w.at u).head.phase ≡ Find → ⊥
+  not_find e = cc (e, found)
+
+  fits : NodeFits (length (g.ports u)) (w.at u)
+  fits = holds.nodes u (record { some = lo; node = hi })
+
+  inside : (w.at u).fragment ≡ (w.at (far g u j)).fragment
+  inside = holds.trees.joined_within u j at (record { here = ap is_branch root.joins.here; there = ap is_branch root.joins.there })
+
+  not_way : (i : ℕ) → i ≢ b → Some b ≢ Some i
+  not_way i ne e = ne (sym (same_Some b i e))
+
+  was_not : (i : ℕ) → i ≢ j → (w.at u).up ≢ Some i
+  was_not i ne e = ne (sym (same_Some j i (sym root.up ∙ e)))
+
+  away : j ≢ b
+  away e = apart (sym e)
+
+  -- the old root link: the far end is a child's now
+  near_left : FloorsAt here (over g w u j) (floor u) (floor (far g u j))
+  near_left = record {
+    none_below = λ out. absurd (out (sym inside));
+    falls = λ c. absurd (not_way j away c.up);
+    covered = λ p c o. absurd (not_way j away c.up);
+    report = λ r c t. absurd (not_way j away c.up);
+    core = λ c l p. absurd (not_way j away c.both.up);
+    out = λ o. absurd (o.there root.joins.there);
+    moved = λ z t. absurd (not_way j away z.both.up);
+    best = λ y e l z. absurd ((fits.best_port j y e).1 root.in_branch);
+  }
+
+  far_left : FloorsAt (over g w u j) here (floor (far g u j)) (floor u)
+  far_left = record {
+    none_below = λ out. absurd (out inside);
+    falls = λ c. rf.theirs;
+    covered = λ p c o. absurd (not_find p);
+    report = λ r c t. absurd (let z = sym root.rest ∙ t in cc);
+    core = λ c l p. absurd (not_way j away c.both.up_beyond);
+    out = λ o. absurd (o.there (same j away ∙ root.joins.here));
+    moved = λ z t. absurd (not_way j away z.both.up_beyond);
+    best = λ y e l z. (far_fits g wired w holds floor floors u j at).best y e l (record { here = root.joins.there; there = root.joins.here });
+  }
+
+  -- another link
+  near_other : (i : ℕ) → At g u i → i ≢ j → i ≢ b → FloorsAt (still i) (over g w u i) (floor u) (floor (far g u i))
+  near_other i at' ne ne' =
+      let f = near_fits g wired w holds floor floors u i at' in
+      record {
+        none_below = f.none_below;
+        falls = λ c. absurd (not_way i ne' c.up);
+        covered = λ p c o. absurd (not_way i ne' c.up);
+        report = λ r c t. absurd (not_way i ne' c.up);
+        core = λ c l p. absurd (not_way i ne' c.both.up);
+        out = λ o. f.out (record { here = sym (same i ne') ∙ o.here; there = o.there });
+        moved = λ z t. absurd (not_way i ne' z.both.up);
+        best = λ y e l z. f.best y e l (record { here = sym (same i ne') ∙ z.here; there = z.there });
+      }
+
+  far_other : (i : ℕ) → At g u i → i ≢ j → i ≢ b → FloorsAt (over g w u i) (still i) (floor (far g u i)) (floor u)
+  far_other i at' ne ne' =
+      let f = far_fits g wired w holds floor floors u i at' in
+      record {
+        none_below = f.none_below;
+        falls = λ c. f.falls (record { joins = record { here = c.joins.here; there = sym (same i ne') ∙ c.joins.there }; up = c.up; down = was_not i ne });
+        covered = λ p c o. absurd (not_find p);
+        report = λ r c t. f.report r (record { joins = record { here = c.joins.here; there = sym (same i ne') ∙ c.joins.there }; up = c.up; down = was_not i ne }) t;
+        core = λ c l p. absurd (not_way i ne' c.both.up_beyond);
+        out = λ o. f.out (record { here = o.here; there = λ e. o.there (same i ne' ∙ e) });
+        moved = λ z t. absurd (not_way i ne' z.both.up_beyond);
+        best = λ y e l z. f.best y e l (record { here = z.here; there = sym (same i ne') ∙ z.there });
+      }
+
+  -- all together
+  pub reroutes_floors : FloorsAt (still b) there (floor u) (floor (far g u b)) → FloorsAt there (still b) (floor (far g u b)) (floor u) → IsTreeLink g u b →
+      Floors g (acts g u (record (w.at u) { up = Some b; mark = μ }) (put (w.seen u) j (record (w.seen u j) { tree = ms })) ((b, m) ∷ []) w) floor
+  reroutes_floors sent sent' tree =
+      subst (Floors g (acts g u x own ((b, m) ∷ []) w)) (put_again floor u) (record {
+        nodes = nodes_after g wired u lo hi x own ((b, m) ∷ []) w floor floors (floor u) (let z = floors.nodes u (record { some = lo; node = hi }) in record { asleep = z.asleep; search = z.search });
+        links =
+            links_after g wired u lo hi x own ((b, m) ∷ []) w floor floors (floor u)
+            (by_ports_at g wired u lo hi j at w holds ms root b atb apart μ to same m no_call (λ i e f. FloorsAt e f (floor u) (floor (far g u i))) near_left sent near_other)
+            (by_ports_at g wired u lo hi j at w holds ms root b atb apart μ to same m no_call (λ i e f. FloorsAt f e (floor (far g u i)) (floor u)) far_left sent' far_other);
+        in_tree = in_tree_after g wired u lo hi x own ((b, m) ∷ []) w floor floors (floor u) (λ p at' z. ⊎_elim (λ (e : p ≡ b). subst (IsTreeLink g u) (sym e) tree) (λ ne. floors.in_tree u p at' (sym (same p ne) ∙ z)) (cases_eq p b));
+        halted = halted_after g wired u lo hi x own ((b, m) ∷ []) w floor floors (floor u) refl refl;
+      })
+
+  -- all together but the link over which the root goes
+  pub reroutes_off : IsTreeLink g u b → FloorsOff g (acts g u (record (w.at u) { up = Some b; mark = μ }) (put (w.seen u) j (record (w.seen u j) { tree = ms })) ((b, m) ∷ []) w) floor u b
+  reroutes_off tree =
+      subst (λ f. FloorsOff g (acts g u x own ((b, m) ∷ []) w) f u b) (put_again floor u) (record {
+        nodes = nodes_after g wired u lo hi x own ((b, m) ∷ []) w floor floors (floor u) (let z = floors.nodes u (record { some = lo; node = hi }) in record { asleep = z.asleep; search = z.search });
+        links =
+            links_after_off g wired u lo hi x own ((b, m) ∷ []) w floor floors (floor u) b
+            (by_ports_at g wired u lo hi j at w holds ms root b atb apart μ to same m no_call (λ i e f. i ≢ b → FloorsAt e f (floor u) (floor (far g u i))) (λ ne. near_left) (λ ne. absurd (ne refl)) (λ i at' ne ne' no. near_other i at' ne ne'))
+            (by_ports_at g wired u lo hi j at w holds ms root b atb apart μ to same m no_call (λ i e f. i ≢ b → FloorsAt f e (floor (far g u i)) (floor u)) (λ ne. far_left) (λ ne. absurd (ne refl)) (λ i at' ne ne' no. far_other i at' ne ne'));
+        in_tree = in_tree_after g wired u lo hi x own ((b, m) ∷ []) w floor floors (floor u) (λ p at' z. ⊎_elim (λ (e : p ≡ b). subst (IsTreeLink g u) (sym e) tree) (λ ne. floors.in_tree u p at' (sym (same p ne) ∙ z)) (cases_eq p b));
+        halted = halted_after g wired u lo hi x own ((b, m) ∷ []) w floor floors (floor u) refl refl;
+      })
+
+module _ (g : Network) (wired : IsWired g) (u : ℕ) (lo : 1 ≤ u) (hi : u ≤ g.count) (w : World) (holds : Invariant g w) (j : ℕ) (at : At g u j) (ms : List Message) (b : ℕ) (k : Key) (calls : SendsRoot w u j ms) (best : (w.at u).head.best ≡ Some (b, k))
+    (floor : ℕ → Floor) (floors : Floors g w floor) where
+  root : AtRoot g w u j ms
+  root = at_root g wired u lo hi j at w holds ms calls
+
+  rf : RootFloors g wired w holds floor floors u j at ms root
+  rf = root_floors g wired w holds floor floors u j at ms root calls
+
+  my_fits : NodeFits (length (g.ports u)) (w.at u)
+  my_fits = holds.nodes u (record { some = lo; node = hi })
+
+  atb : At g u b
+  atb = at_best g wired u lo hi j at w holds ms root b k best
+
+  apart : b ≢ j
+  apart = best_apart g wired u lo hi j at w holds ms root b k best
+
+  link : LinkFits (NamesOf g w) (end g w u b) (over g w u b)
+  link = link_fits g wired w holds u b atb
+
+  link' : LinkFits (NamesOf g w) (over g w u b) (end g w u b)
+  link' = link_fits' g wired w holds u b atb
+
+  not_core : (w.at u).head.in_branch ≢ Some b
+  not_core = (my_fits.best_port b k best).1
+
+  is_floor : floor u ≡ Some (Some k)
+  is_floor = rf.mine ∙ ap (λ o. Some (best_key o)) best
+
+  -- the root moves on over a Branch link
+  module _ (mark : (w.at u).mark b ≡ Branch) where
+    joins : Joins (tree_end (end g w u b)) (tree_end (over g w u b))
+    joins = ⊎_elim (λ h. record { here = mark; there = h }) (λ h. absurd (best_aside g wired u lo hi j at w holds ms root b k best ((link.tree.out_connect (record { here = mark; there = h })).up))) (mark_is ((w.at (far g u b)).mark (far_port g u b)))
+
+    inside_b : (w.at u).fragment ≡ (w.at (far g u b)).fragment
+    inside_b = holds.trees.joined_within u b atb (record { here = ap is_branch joins.here; there = ap is_branch joins.there })
+
+    ghosts : ((w.at (far g u b)).coming ≡ (w.at u).coming) × ((w.at (far g u b)).coming_name ≡ (w.at u).coming_name)
+    ghosts = holds.trees.by_fragment (far g u b) u (sym inside_b)
+
+    below_way : (w.at (far g u b)).up ≡ Some (far_port g u b)
+    below_way = leads_to g wired u lo hi j at w holds ms root b k best b atb (record { here = ap is_branch joins.here; there = ap is_branch joins.there })
+
+    reported : Reported (tree_end (over g w u b)) (Some k)
+    reported = link.search.find_reported k best root.top joins
+
+    child_floor : floor (far g u b) ≡ Some (Some k)
+    child_floor = (near_fits g wired w holds floor floors u b atb).best k best root.top joins
+
+    unnamed : (w.at u).coming_name ≢ Some (port_at g u b).key
+    unnamed n = not_core ((link.tree.core_ends joins n).at_top root.top)
+
+    -- no ChangeRoot waits at b
+    no_root : (w.seen u b).tree ≡ ChangeRoot ∷ [] → ⊥
+    no_root q = up_only (link'.tree.upward (record { joins = record { here = joins.there; there = joins.here }; up = below_way; down = best_aside g wired u lo hi j at w holds ms root b k best }))
+      where
+        up_only : Upward (tree_end (over g w u b)) (tree_end (end g w u b)) → ⊥
+        up_only (Nothing_up z) = let y = sym z ∙ q in cc
+        up_only (Report_up r z h) = let y = sym z ∙ q in cc
+
+    near_best : FloorsAt (record { port = b; key = (port_at g u b).key; mark = (w.at u).mark b; is = record (w.at u) { up = Some b }; seen = w.seen u b }) (record { port = far_port g u b; key = (port_at g u b).key; mark = (w.at (far g u b)).mark (far_port g u b); is = w.at (far g u b); seen = add (w.seen (far g u b) (far_port g u b)) ChangeRoot }) (floor u) (floor (far g u b))
+    near_best = record {
+      none_below = λ out. absurd (out (sym inside_b));
+      falls = λ c. absurd (c.down below_way);
+      covered = λ p c o. absurd (c.down below_way);
+      report = λ r c t. absurd (c.down below_way);
+      core = λ c l p. absurd (unnamed c.named);
+      out = λ o. absurd (o.there joins.there);
+      moved = λ z t. absurd (no_root t);
+      best = λ y e l z. (near_fits g wired w holds floor floors u b atb).best y e l joins;
+    }
+
+    far_best : FloorsAt (record { port = far_port g u b; key = (port_at g u b).key; mark = (w.at (far g u b)).mark (far_port g u b); is = w.at (far g u b); seen = add (w.seen (far g u b) (far_port g u b)) ChangeRoot }) (record { port = b; key = (port_at g u b).key; mark = (w.at u).mark b; is = record (w.at u) { up = Some b }; seen = w.seen u b }) (floor (far g u b)) (floor u)
+    far_best = record {
+      none_below = λ out. absurd (out inside_b);
+      falls = λ c. absurd (c.down refl);
+      covered = λ p c o. absurd (c.down refl);
+      report = λ r c t. absurd (c.down refl);
+      core = λ c l p. absurd (unnamed (sym ghosts.1 ∙ c.named));
+      out = λ o. absurd (o.there joins.here);
+      moved = λ z t. (child_floor ∙ ap Some (sym reported.key), is_floor ∙ sym child_floor);
+      best = λ y e l z. (far_fits g wired w holds floor floors u b atb).best y e l (record { here = joins.there; there = joins.here });
+    }
+
+    pub passes_floors : Floors g (acts g u (record (w.at u) { up = Some b }) (put (w.seen u) j (record (w.seen u j) { tree = ms })) ((b, ChangeRoot) ∷ []) w) floor
+    passes_floors =
+        reroutes_floors g wired u lo hi j at w holds ms root b atb apart (w.at u).mark mark (λ i ne. refl) ChangeRoot (λ q n. call_append ChangeRoot refl q.tree ∙ n) floor floors rf
+        near_best far_best (floors.in_tree u b atb mark)
+
+  -- the root goes out, to a fragment that hasn't connected to this one
+  module _ (mark : (w.at u).mark b ≢ Branch) (mark' : (w.at (far g u b)).mark (far_port g u b) ≢ Branch) where
+    out : LeadsOut (tree_end (end g w u b)) (tree_end (over g w u b)) k
+    out = link.search.find_leads k best root.top mark
+
+    l : ℕ
+    l = (w.at u).head.level
+
+    μ : ℕ → Mark
+    μ = put (w.at u).mark b Branch
+
+    near_out : FloorsAt (record { port = b; key = (port_at g u b).key; mark = put (w.at u).mark b Branch b; is = record (w.at u) { up = Some b; mark = put (w.at u).mark b Branch }; seen = w.seen u b }) (record { port = far_port g u b; key = (port_at g u b).key; mark = (w.at (far g u b)).mark (far_port g u b); is = w.at (far g u b); seen = add (w.seen (far g u b) (far_port g u b)) (Connect (w.at u).head.level) }) (floor u) (floor (far g u b))
+    near_out = record {
+      none_below = (near_fits g wired w holds floor floors u b atb).none_below;
+      falls = λ c. absurd (mark' c.joins.there);
+      covered = λ p c o. absurd (mark' c.joins.there);
+      report = λ r c t. absurd (mark' c.joins.there);
+      core = λ c y p. absurd (mark' c.both.joins.there);
+      out = λ o. is_floor ∙ ap (λ z. Some (Some z)) out.key;
+      moved = λ z t. absurd (mark' z.both.joins.there);
+      best = λ y e h z. absurd (mark' z.there);
+    }
+
+    far_out : FloorsAt (record { port = far_port g u b; key = (port_at g u b).key; mark = (w.at (far g u b)).mark (far_port g u b); is = w.at (far g u b); seen = add (w.seen (far g u b) (far_port g u b)) (Connect (w.at u).head.level) }) (record { port = b; key = (port_at g u b).key; mark = put (w.at u).mark b Branch b; is = record (w.at u) { up = Some b; mark = put (w.at u).mark b Branch }; seen = w.seen u b }) (floor (far g u b)) (floor u)
+    far_out = record {
+      none_below = (far_fits g wired w holds floor floors u b atb).none_below;
+      falls = λ c. absurd (mark' c.joins.here);
+      covered = λ p c o. absurd (mark' c.joins.here);
+      report = λ r c t. absurd (mark' c.joins.here);
+      core = λ c y p. absurd (mark' c.both.joins.here);
+      out = λ o. absurd (mark' o.here);
+      moved = λ z t. absurd (mark' z.both.joins.here);
+      best = λ y e h z. absurd (mark' z.here);
+    }
+
+    pub connects_floors : Floors g (acts g u (record (w.at u) { up = Some b; mark = put (w.at u).mark b Branch }) (put (w.seen u) j (record (w.seen u j) { tree = ms })) ((b, Connect (w.at u).head.level) ∷ []) w) floor
+    connects_floors =
+        reroutes_floors g wired u lo hi j at w holds ms root b atb apart (put (w.at u).mark b Branch) (put_same (w.at u).mark b Branch) (λ i ne. put_other (w.at u).mark b i Branch ne)
+        (Connect (w.at u).head.level) (λ q n. call_append (Connect (w.at u).head.level) refl q.tree ∙ n) floor floors rf near_out far_out
+        (best_in_tree g wired w holds floor floors u j at ms root calls b k atb best mark)
+
+  -- the root goes out, and meets the Connect of the far end
+  module _ (keyed : IsKeyed g) (mark : (w.at u).mark b ≢ Branch) (mark' : (w.at (far g u b)).mark (far_port g u b) ≡ Branch) where
+    abbrev mid : World
+    mid = acts g u (record (w.at u) { up = Some b; mark = put (w.at u).mark b Branch }) (put (w.seen u) j (record (w.seen u j) { tree = ms })) ((b, Connect (w.at u).head.level) ∷ []) w
+
+    leads : LeadsOut (tree_end (end g w u b)) (tree_end (over g w u b)) k
+    leads = link.search.find_leads k best root.top mark
+
+    came : ConnectUnderWay (tree_end (over g w u b)) (tree_end (end g w u b))
+    came = link'.tree.out_connect (record { here = mark'; there = mark })
+
+    here_is : mid.at u ≡ record (w.at u) { up = Some b; mark = put (w.at u).mark b Branch }
+    here_is = put_same w.at u (record (w.at u) { up = Some b; mark = put (w.at u).mark b Branch })
+
+    else_is : (t : ℕ) → t ≢ u → mid.at t ≡ w.at t
+    else_is t ne = put_other w.at u t (record (w.at u) { up = Some b; mark = put (w.at u).mark b Branch }) ne
+
+    far_is : mid.at (far g u b) ≡ w.at (far g u b)
+    far_is = else_is (far g u b) (wired.apart u b atb)
+
+    level_is : (t : ℕ) → (mid.at t).head.level ≡ (w.at t).head.level
+    level_is t = put_alike (λ (m : Member). m.head.level) w.at u (record (w.at u) { up = Some b; mark = put (w.at u).mark b Branch }) refl t
+
+    fragment_is : (t : ℕ) → (mid.at t).fragment ≡ (w.at t).fragment
+    fragment_is t = put_alike (λ (m : Member). m.fragment) w.at u (record (w.at u) { up = Some b; mark = put (w.at u).mark b Branch }) refl t
+
+    low : (t : ℕ) → InNetwork g t → ((mid.at t).fragment ≡ (mid.at (far g u b)).fragment) ⊎ ((mid.at t).fragment ≡ (mid.at u).fragment) → (mid.at t).head.level < suc (mid.at u).head.level
+    low t it i =
+        let a = level_is t in
+        let c = level_is u in
+        let d = (holds.nodes t it).lag.level in
+        let e = root.top in
+        let f = came.level in
+        let h = came.higher in
+        ⊎_elim
+        (λ s. let z = (holds.trees.by_fragment t (far g u b) (sym (fragment_is t) ∙ s ∙ fragment_is (far g u b))).0 in omega (arith, a, c, d, e, f, h, z))
+        (λ s. let z = (holds.trees.by_fragment t u (sym (fragment_is t) ∙ s ∙ fragment_is u)).0 in omega (arith, a, c, d, e, z)) i
+
+    off : FloorsOff g mid floor u b
+    off =
+        reroutes_off g wired u lo hi j at w holds ms root b atb apart (put (w.at u).mark b Branch) (put_same (w.at u).mark b Branch) (λ i ne. put_other (w.at u).mark b i Branch ne)
+        (Connect (w.at u).head.level) (λ q n. call_append (Connect (w.at u).head.level) refl q.tree ∙ n) floor floors rf (best_in_tree g wired w holds floor floors u j at ms root calls b k atb best mark)
+
+    own_seen : mid.seen u b ≡ w.seen u b
+    own_seen = here_seen g wired u lo hi (record (w.at u) { up = Some b; mark = put (w.at u).mark b Branch }) (put (w.seen u) j (record (w.seen u j) { tree = ms })) ((b, Connect (w.at u).head.level) ∷ []) w b ∙ put_other (w.seen u) j b (record (w.seen u j) { tree = ms }) apart
+
+    their_seen : (mid.seen (far g u b) (far_port g u b)).tree ≡ (w.seen (far g u b) (far_port g u b)).tree ++ Connect (w.at u).head.level ∷ []
+    their_seen =
+        ap (λ (q : Seen). q.tree) (far_seen g wired u lo hi (record (w.at u) { up = Some b; mark = put (w.at u).mark b Branch }) (put (w.seen u) j (record (w.seen u j) { tree = ms })) ((b, Connect (w.at u).head.level) ∷ []) w b atb) ∙
+        ap (λ ss. (adds (w.seen (far g u b) (far_port g u b)) ss).tree) ((sends_one b (Connect (w.at u).head.level)).only)
+
+    pub meets_floors : Floors g (meet g u b (acts g u (record (w.at u) { up = Some b; mark = put (w.at u).mark b Branch }) (put (w.seen u) j (record (w.seen u j) { tree = ms })) ((b, Connect (w.at u).head.level) ∷ []) w)) floor
+    meets_floors =
+        floors_met g wired mid floor off.nodes off.in_tree off.halted u b atb
+        (λ e. leads.apart (sym (fragment_is (far g u b)) ∙ e ∙ fragment_is u)) off.links low
+        (ap (λ (m : Member). m.mark b) here_is ∙ put_same (w.at u).mark b Branch) (ap (λ (m : Member). m.mark (far_port g u b)) far_is ∙ mark')
+        (ap (λ (m : Member). m.up) here_is) (ap (λ (m : Member). m.up) far_is ∙ came.up)
+        (λ e. let z = came.one in let y = ap (λ (q : Seen). q.tree) own_seen in let s : Connect (w.at (far g u b)).head.level ∷ [] ≡ ChangeRoot ∷ [] = sym z ∙ sym y ∙ e in cc)
+        (λ e. let z = came.none in let s : [] ++ Connect (w.at u).head.level ∷ [] ≡ ChangeRoot ∷ [] = ap (λ q. q ++ Connect (w.at u).head.level ∷ []) (sym z) ∙ sym their_seen ∙ e in cc)
+        (connects_meeting g wired keyed u lo hi w holds j at ms b k calls best mark mark')

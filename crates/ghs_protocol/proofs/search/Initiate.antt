@@ -1,0 +1,356 @@
+-- An Initiate is heard and passed on: the invariant is kept.
+use Rattle.std.proofs.Common.{◌≡◌, ◌≢◌, ℕ, zero, suc, ◌+◌, ◌<◌, ◌≤◌, Bool, true, false, ◌&&◌, ◌||◌, Option, Some, None, List, [], ◌∷◌, ◌++◌, refl, sym, ◌∙◌, ap, subst, subst₂, ⊎_elim, ◌⊎◌, length, arith, cond, eq-eqb, ne_eqb, zero-add}
+use Rattle.std.proofs.lemmas.Option.{same_Some}
+use Rattle.std.proofs.lemmas.Bool.{cases_eq}
+use Rattle.ghs_graph.specs.declared.key.Key.{Key}
+use Rattle.ghs_node.specs.declared.mark.Mark.{Mark}
+use Rattle.ghs_node.specs.declared.mark.Mark.TheVariants.{Branch}
+use Rattle.ghs_node.specs.declared.message.Phase.{Phase}
+use Rattle.ghs_node.specs.declared.message.Phase.TheVariants.{Sleeping, Find, Found}
+use Rattle.ghs_node.specs.declared.message.Message.{Message}
+use Rattle.ghs_node.specs.declared.message.Message.TheVariants.{Connect, Initiate, Test, Accept, Reject, Report, ChangeRoot}
+use Rattle.ghs_node.specs.Words.{Outgoing, is_branch, is_find, on_branches}
+use Rattle.ghs_protocol.specs.Network.{Network, port_at, At, far, far_port, IsWired, InNetwork}
+use Rattle.ghs_protocol.specs.Net.{put}
+use Rattle.ghs_protocol.specs.Ledger.{sum_below}
+use Rattle.ghs_protocol.proofs.clauses.World.{Seen, add, adds, Member, World, End, tree_end, test_end, end, forest, acts}
+use Rattle.ghs_protocol.proofs.clauses.Nodes.{NodeFits}
+use Rattle.ghs_protocol.proofs.clauses.Links.{Joins, Ups}
+use Rattle.ghs_protocol.proofs.clauses.Fragments.{Names}
+use Rattle.ghs_protocol.proofs.clauses.Rest.{DebtsCounted, debt, Quiet, has_call}
+use Rattle.ghs_protocol.proofs.clauses.Whole.{Invariant, NamesOf, LinkFits}
+use Rattle.ghs_protocol.proofs.clauses.Uniting.{MarksAre}
+use Rattle.ghs_protocol.specs.Steps.{sent_on}
+use Rattle.ghs_protocol.proofs.lemmas.Updates.{put_same, put_other}
+use Rattle.ghs_protocol.proofs.lemmas.Sums.{sum_same, term_le}
+use Rattle.ghs_protocol.proofs.acts.SameForest.{Alike, near', far', quiet_after, forest_after, sums_after, kept_after, branch_mark}
+use Rattle.ghs_protocol.proofs.acts.OneLink.{at_near, at_far}
+use Rattle.ghs_protocol.proofs.tests.Links.{tests_aside, tests_aside', not_some}
+use Rattle.ghs_protocol.proofs.rest.StaysAtRest.{rests_alike}
+use Rattle.ghs_protocol.proofs.search.ReportGone.{debt_up, debt_one}
+use Rattle.ghs_protocol.proofs.search.FirstReport.{mark_is}
+use Rattle.ghs_protocol.proofs.search.PassedOn.{forwards_on, forwards_many, one_on}
+use Rattle.ghs_protocol.proofs.search.Called.{Calls, calls, tree_told, tree_told', tree_past, tree_past', tree_passed, tree_passed', search_told, search_told'}
+
+pub has_call_more : (xs : List Message) (l : ℕ) (n : Key) (s : Phase) → has_call (xs ++ Initiate l n s ∷ []) ≡ (has_call xs || is_find s)
+has_call_more [] l n Sleeping = refl
+has_call_more [] l n Find = refl
+has_call_more [] l n Found = refl
+has_call_more (Initiate k f Find ∷ xs) l n s = refl
+has_call_more (Initiate k f Found ∷ xs) l n s = has_call_more xs l n s
+has_call_more (Initiate k f Sleeping ∷ xs) l n s = has_call_more xs l n s
+has_call_more (Connect _ ∷ xs) l n s = has_call_more xs l n s
+has_call_more (Test _ _ ∷ xs) l n s = has_call_more xs l n s
+has_call_more (Accept ∷ xs) l n s = has_call_more xs l n s
+has_call_more (Reject ∷ xs) l n s = has_call_more xs l n s
+has_call_more (Report _ ∷ xs) l n s = has_call_more xs l n s
+has_call_more (ChangeRoot ∷ xs) l n s = has_call_more xs l n s
+
+pub has_call_first : (xs : List Message) (l : ℕ) (n : Key) (s : Phase) → has_call (Initiate l n s ∷ xs) ≡ (is_find s || has_call xs)
+has_call_first xs l n Sleeping = refl
+has_call_first xs l n Find = refl
+has_call_first xs l n Found = refl
+
+and_false : (b : Bool) → (b && false) ≡ false
+and_false true = refl
+and_false false = refl
+
+or_false : (b : Bool) → (b || false) ≡ b
+or_false true = refl
+or_false false = refl
+
+turn_about : (b c : Bool) → (b || (c && true)) ≡ ((c || b) || false)
+turn_about true true = refl
+turn_about true false = refl
+turn_about false true = refl
+turn_about false false = refl
+
+not_find : (p : Phase) → p ≢ Find → is_find p ≡ false
+not_find Sleeping ne = refl
+not_find Find ne = absurd (ne refl)
+not_find Found ne = refl
+
+any_true : (a b c : Bool) → (a || ((b || true) || c)) ≡ true
+any_true true b c = refl
+any_true false true c = refl
+any_true false false c = refl
+
+cond_zero : (b : Bool) → ◌≡◌ {A = ℕ} (cond b 0 0) 0
+cond_zero true = refl
+cond_zero false = refl
+
+zero_of : (a b : ℕ) → a ≤ b → b ≡ 0 → a ≡ 0
+zero_of a b le e = omega (arith, le, e)
+
+sum_zero : (n : ℕ) → sum_below n (λ i. 0) ≡ 0
+sum_zero zero = refl
+sum_zero (suc n) = let z = sum_zero n in omega (arith, z)
+
+is_branch_not : (k : Mark) → k ≢ Branch → is_branch k ≡ false
+is_branch_not k ne = go (is_branch k) refl
+  where
+    go : (b : Bool) → is_branch k ≡ b → is_branch k ≡ false
+    go true e = absurd (ne (branch_mark k e))
+    go false e = e
+
+module _ (g : Network) (wired : IsWired g) (u : ℕ) (lo : 1 ≤ u) (hi : u ≤ g.count) (j : ℕ) (at : At g u j) (w : World) (holds : Invariant g w) (l : ℕ) (n : Key) (s : Phase) (ms : List Message) (xs : List Mark) (marks : MarksAre g u (w.at u) xs) (waits : (w.seen u j).tree ≡ Initiate l n s ∷ ms) (o : Option ℕ) (quit : o ≡ None) (count : ℕ) (counts : ◌≡◌ {A =
+    ℕ} (w.at u).head.find_count 0 → count ≡ cond (is_find s) (length (on_branches xs j (Initiate l n s))) 0) where
+  abbrev pub across : ℕ → End
+  across i = record { port = far_port g u i; key = (port_at g u i).key; mark = (w.at (far g u i)).mark (far_port g u i); is = w.at (far g u i); seen = w.seen (far g u i) (far_port g u i) }
+
+  abbrev pub hearer : Member
+  hearer = record (w.at u) { head = record (w.at u).head { level = l; name = Some n; phase = s; in_branch = Some j; best = None; probe = o; find_count = count } }
+
+  abbrev pub left : Seen
+  left = record (w.seen u j) { tree = ms }
+
+  abbrev pub passing : Outgoing
+  passing = on_branches xs j (Initiate l n s)
+
+  abbrev pub still : ℕ → End
+  still i = record { port = i; key = (port_at g u i).key; mark = (w.at u).mark i; is = hearer; seen = w.seen u i }
+
+  abbrev pub heard_at : End
+  heard_at = record { port = j; key = (port_at g u j).key; mark = (w.at u).mark j; is = hearer; seen = left }
+
+  abbrev pub passed : ℕ → End
+  passed i = record (across i) { seen = add (w.seen (far g u i) (far_port g u i)) (Initiate l n s) }
+
+  abbrev pub then : World
+  then = acts g u hearer (put (w.seen u) j left) passing w
+
+  here : InNetwork g u
+  here = record { some = lo; node = hi }
+
+  fits : NodeFits (length (g.ports u)) (w.at u)
+  fits = holds.nodes u here
+
+  link : (i : ℕ) → At g u i → LinkFits (NamesOf g w) (end g w u i) (across i)
+  link i at' = at_near g wired w (LinkFits (NamesOf g w)) holds.links u i at'
+
+  link' : (i : ℕ) → At g u i → LinkFits (NamesOf g w) (across i) (end g w u i)
+  link' i at' = at_far g wired w (LinkFits (NamesOf g w)) holds.links u i at'
+
+  pub inside : (i : ℕ) → At g u i → Joins (tree_end (end g w u i)) (tree_end (across i)) → (w.at u).fragment ≡ (w.at (far g u i)).fragment
+  inside i at' h = holds.trees.joined_within u i at' (record { here = ap is_branch h.here; there = ap is_branch h.there })
+
+  pub ghosts : (i : ℕ) → At g u i → Joins (tree_end (end g w u i)) (tree_end (across i)) → ((w.at (far g u i)).coming ≡ (w.at u).coming) × ((w.at (far g u i)).coming_name ≡ (w.at u).coming_name)
+  ghosts i at' h = holds.trees.by_fragment (far g u i) u (sym (inside i at' h))
+
+  ways : (i : ℕ) → At g u i → Joins (tree_end (end g w u i)) (tree_end (across i)) → Ups (tree_end (end g w u i)) ⊎ Ups (tree_end (across i))
+  ways i at' h = holds.trees.joined_lead u i at' (record { here = ap is_branch h.here; there = ap is_branch h.there })
+
+  named : Joins (tree_end (end g w u j)) (tree_end (across j)) → NamesOf g w (w.at u).fragment (port_at g u j).key
+  named h = record { node = u; port = j; at = at; joined = record { here = ap is_branch h.here; there = ap is_branch h.there }; fragment = refl; key = refl }
+
+  lags : Joins (tree_end (end g w u j)) (tree_end (across j)) → (w.at (far g u j)).head.level ≤ (w.at u).coming
+  lags h = let t = wired.there u j at in let z = (holds.nodes (far g u j) (record { some = t.some; node = t.node })).lag.level in omega (arith, z, (ghosts j at h).0)
+
+  pub call : Calls (NamesOf g w (w.at u).fragment) (tree_end (end g w u j)) (tree_end (across j)) l n s ms
+  call = calls (tree_end (end g w u j)) (tree_end (across j)) (link j at).tree (link' j at).tree (ways j at) named lags l n s ms waits
+
+  pub found : (w.at u).head.phase ≡ Found
+  found = go (w.at u).head.phase refl
+    where
+      go : (p : Phase) → (w.at u).head.phase ≡ p → (w.at u).head.phase ≡ Found
+      go Sleeping e = absurd (let z = (fits.untouched e).up in let y = call.up in cc)
+      go Find e = absurd (let z = (fits.searching e).level in let a = call.rises in let b = call.most in omega (arith, z, a, b))
+      go Found e = e
+
+  pub idle : ((w.at u).head.probe ≡ None) × (◌≡◌ {A = ℕ} (w.at u).head.find_count 0)
+  idle = fits.idle (λ z. cc (z, found))
+
+  pub away : (i : ℕ) → i ≢ j → (w.at u).up ≢ Some i
+  away i ne e = ne (sym (same_Some j i (sym call.up ∙ e)))
+
+  pub branch_joined : (i : ℕ) → At g u i → i ≢ j → (w.at u).mark i ≡ Branch → Joins (tree_end (end g w u i)) (tree_end (across i))
+  branch_joined i at' ne b = ⊎_elim (λ z. record { here = b; there = z }) (λ z. absurd (away i ne ((link i at').tree.out_connect (record { here = b; there = z })).up)) (mark_is ((w.at (far g u i)).mark (far_port g u i)))
+
+  pub child : (i : ℕ) → At g u i → i ≢ j → (w.at u).mark i ≡ Branch → Ups (tree_end (across i))
+  child i at' ne b = ⊎_elim (λ z. absurd (away i ne z)) (λ z. z) (ways i at' (branch_joined i at' ne b))
+
+  -- what goes out on each port
+  sent_here : sent_on passing j ≡ []
+  sent_here = forwards_on xs j j (Initiate l n s) ∙ rw (eq-eqb j j refl, and_false) refl
+
+  sent_branch : (i : ℕ) → i ≢ j → (w.at u).mark i ≡ Branch → sent_on passing i ≡ Initiate l n s ∷ []
+  sent_branch i ne b = forwards_on xs j i (Initiate l n s) ∙ rw (← marks.marks i, b, ne_eqb i j ne) refl
+
+  sent_other : (i : ℕ) → (w.at u).mark i ≢ Branch → sent_on passing i ≡ []
+  sent_other i nb = forwards_on xs j i (Initiate l n s) ∙ rw (← marks.marks i, is_branch_not ((w.at u).mark i) nb) refl
+
+  -- by the three sorts of port
+  by_port : (P : End → End → Type 0) → P heard_at (across j) → ((i : ℕ) → At g u i → i ≢ j → (w.at u).mark i ≡ Branch → P (still i) (passed i)) → ((i : ℕ) → At g u i → i ≢ j → (w.at u).mark i ≢ Branch → P (still i) (across i)) → (i : ℕ) → At g u i → P (near' g wired u lo hi hearer (put (w.seen u) j left) passing w i) (far' g wired u lo hi hearer (put (w.seen u) j left) passing w i)
+  by_port P hit branch other i at' =
+      ⊎_elim
+      (λ (e : i ≡ j). subst (λ y. P (near' g wired u lo hi hearer (put (w.seen u) j left) passing w y) (far' g wired u lo hi hearer (put (w.seen u) j left) passing w y)) (sym e) (subst₂ (λ a b. P (record { port = j; key = (port_at g u j).key; mark = (w.at u).mark j; is = hearer; seen = a }) (record (across j) { seen = adds (w.seen (far g u j) (far_port g u j)) b })) (sym (put_same (w.seen u) j left)) (sym sent_here) hit))
+      (λ ne. ⊎_elim (λ b. subst₂ (λ a c. P (record { port = i; key = (port_at g u i).key; mark = (w.at u).mark i; is = hearer; seen = a }) (record (across i) { seen = adds (w.seen (far g u i) (far_port g u i)) c })) (sym (put_other (w.seen u) j i left ne)) (sym (sent_branch i ne b)) (branch i at' ne b)) (λ nb. subst₂ (λ a c. P (record { port = i; key = (port_at g u i).key; mark = (w.at u).mark i; is = hearer; seen = a }) (record (across i) { seen = adds (w.seen (far g u i) (far_port g u i)) c })) (sym (put_other (w.seen u) j i left ne)) (sym (sent_other i nb)) (other i at' ne nb)) (mark_is ((w.at u).mark i)))
+      (cases_eq i j)
+
+  pub by_port_at : (P : ℕ → End → End → Type 0) → P j heard_at (across j) → ((i : ℕ) → At g u i → i ≢ j → (w.at u).mark i ≡ Branch → P i (still i) (passed i)) → ((i : ℕ) → At g u i → i ≢ j → (w.at u).mark i ≢ Branch → P i (still i) (across i)) → (i : ℕ) → At g u i → P i (near' g wired u lo hi hearer (put (w.seen u) j left) passing w i) (far' g wired u lo hi hearer (put (w.seen u) j left) passing w i)
+  by_port_at P hit branch other i at' =
+      ⊎_elim
+      (λ (e : i ≡ j). subst (λ y. P y (near' g wired u lo hi hearer (put (w.seen u) j left) passing w y) (far' g wired u lo hi hearer (put (w.seen u) j left) passing w y)) (sym e) (subst₂ (λ a b. P j (record { port = j; key = (port_at g u j).key; mark = (w.at u).mark j; is = hearer; seen = a }) (record (across j) { seen = adds (w.seen (far g u j) (far_port g u j)) b })) (sym (put_same (w.seen u) j left)) (sym sent_here) hit))
+      (λ ne. ⊎_elim (λ b. subst₂ (λ a c. P i (record { port = i; key = (port_at g u i).key; mark = (w.at u).mark i; is = hearer; seen = a }) (record (across i) { seen = adds (w.seen (far g u i) (far_port g u i)) c })) (sym (put_other (w.seen u) j i left ne)) (sym (sent_branch i ne b)) (branch i at' ne b)) (λ nb. subst₂ (λ a c. P i (record { port = i; key = (port_at g u i).key; mark = (w.at u).mark i; is = hearer; seen = a }) (record (across i) { seen = adds (w.seen (far g u i) (far_port g u i)) c })) (sym (put_other (w.seen u) j i left ne)) (sym (sent_other i nb)) (other i at' ne nb)) (mark_is ((w.at u).mark i)))
+      (cases_eq i j)
+
+  -- the node
+  node : NodeFits (length (g.ports u)) hearer
+  node = record {
+    own_ports = record { probe = λ p e. absurd (not_some o p quit e); in_branch = λ p e. subst (λ y. y < length (g.ports u)) (same_Some j p e) at.port; mark = fits.own_ports.mark };
+    untouched = λ e. absurd (call.awake e);
+    points = λ e lt. let z = fits.points (λ y. cc (y, found)) lt in record { port = z.port; up = z.up; within = z.within; mark = z.mark };
+    idle = λ z. (quit, counts idle.1 ∙ ap (λ b. cond b (length (on_branches xs j (Initiate l n s))) 0) (not_find s z));
+    searching = λ e. record { level = call.find e; port = j; in_branch = refl; up = call.up };
+    naming = record { level = λ e. absurd (let z = e in cc); in_branch = λ e. absurd (let z = call.rises in omega (arith, z, e)); name = λ e. absurd (let z = e in cc) };
+    lag = record { level = call.most; name = λ e. sym (call.name e) };
+    best_port = λ p k e. absurd (let z = e in cc);
+  }
+
+  -- nobody owed a Report before
+  owed_none : (i : ℕ) → At g u i → ◌≡◌ {A = ℕ} (debt (end g w u i) (across i)) 0
+  owed_none i at' = zero_of _ _ (term_le (length (g.ports u)) i f at'.port) (sym all ∙ idle.1)
+    where
+      f : ℕ → ℕ
+      f i = debt (end g w u i) (across i)
+
+      all : (w.at u).head.find_count ≡ sum_below (length (g.ports u)) f
+      all = holds.counted u here ∙ sum_same (length (g.ports u)) _ _ (λ i lt. let at'' : At g u i = record { some = lo; node = hi; port = lt } in ap (debt (end g w u i)) (λ k. record { port = far_port g u i; key = wired.same_key u i at'' k; mark = (w.at (far g u i)).mark (far_port g u i); is = w.at (far g u i); seen = w.seen (far g u i) (far_port g u i) }))
+
+  value : ℕ → ℕ
+  value i = cond (is_find s) (one_on xs 0 j i) 0
+
+  owed_here : (i : ℕ) → At g u i → debt (near' g wired u lo hi hearer (put (w.seen u) j left) passing w i) (far' g wired u lo hi hearer (put (w.seen u) j left) passing w i) ≡ value i
+  unfolding value
+  owed_here = by_port (λ e f. debt e f ≡ value e.port) hit branch other
+    where
+      hit : debt heard_at (across j) ≡ value j
+      hit = debt_up heard_at (across j) call.up ∙ sym (rw (zero-add, eq-eqb j j refl, and_false, cond_zero) refl)
+
+      branch : (i : ℕ) → At g u i → i ≢ j → (w.at u).mark i ≡ Branch → debt (still i) (passed i) ≡ value i
+      branch i at' ne b = go (is_find s) refl
+        where
+          go : (c : Bool) → is_find s ≡ c → debt (still i) (passed i) ≡ cond c (one_on xs 0 j i) 0
+          go true e = debt_one (still i) (passed i) (away i ne) (rw (has_call_more (w.seen (far g u i) (far_port g u i)).tree l n s, e) (any_true _ _ _)) ∙ sym (rw (zero-add, ← marks.marks i, b, ne_eqb i j ne) refl)
+          go false e = rw (has_call_more (w.seen (far g u i) (far_port g u i)).tree l n s, e, or_false) (owed_none i at')
+
+      other : (i : ℕ) → At g u i → i ≢ j → (w.at u).mark i ≢ Branch → debt (still i) (across i) ≡ value i
+      other i at' ne nb = owed_none i at' ∙ sym (rw (← marks.marks i, is_branch_not ((w.at u).mark i) nb, cond_zero) refl)
+
+  total : count ≡ sum_below (length (g.ports u)) value
+  unfolding value
+  total = counts idle.1 ∙ go (is_find s)
+    where
+      go : (c : Bool) → cond c (length (on_branches xs j (Initiate l n s))) 0 ≡ sum_below (length (g.ports u)) (λ i. cond c (one_on xs 0 j i) 0)
+      go true = forwards_many xs j (Initiate l n s) ∙ ap (λ k. sum_below k (one_on xs 0 j)) marks.ports
+      go false = sym (sum_zero (length (g.ports u)))
+
+  owed_there : (i : ℕ) → At g u i → debt (far' g wired u lo hi hearer (put (w.seen u) j left) passing w i) (near' g wired u lo hi hearer (put (w.seen u) j left) passing w i) ≡ debt (across i) (end g w u i)
+  owed_there = by_port (λ e f. debt f e ≡ debt (across e.port) (end g w u e.port)) hit branch other
+    where
+      hit : debt (across j) heard_at ≡ debt (across j) (end g w u j)
+      hit = rw (waits, has_call_first ms l n s, found, eq-eqb j j refl, turn_about) refl
+
+      branch : (i : ℕ) → At g u i → i ≢ j → (w.at u).mark i ≡ Branch → debt (passed i) (still i) ≡ debt (across i) (end g w u i)
+      branch i at' ne b = debt_up (passed i) (still i) (child i at' ne b) ∙ sym (debt_up (across i) (end g w u i) (child i at' ne b))
+
+      other : (i : ℕ) → At g u i → i ≢ j → (w.at u).mark i ≢ Branch → debt (across i) (still i) ≡ debt (across i) (end g w u i)
+      other i at' ne nb = rw (ne_eqb j i (λ z. ne (sym z)), found, and_false) refl
+
+  debts : DebtsCounted g then
+  debts = sums_after g wired u lo hi hearer (put (w.seen u) j left) passing w holds.counted (total ∙ sum_same (length (g.ports u)) _ _ (λ i lt. sym (owed_here i (record { some = lo; node = hi; port = lt })))) owed_there
+
+  -- the links, from this node's ends and from the far ones
+  quits : (i : ℕ) → (w.at u).head.probe ≢ Some i
+  quits i = not_some (w.at u).head.probe i idle.0
+
+  low : (w.at u).head.level ≤ l
+  low = let z = call.rises in omega (arith, z)
+
+  fits_near : (i : ℕ) → At g u i → LinkFits (NamesOf g w) (near' g wired u lo hi hearer (put (w.seen u) j left) passing w i) (far' g wired u lo hi hearer (put (w.seen u) j left) passing w i)
+  fits_near = by_port (LinkFits (NamesOf g w)) hit branch other
+    where
+      hit : LinkFits (NamesOf g w) heard_at (across j)
+      hit = record {
+        tree = tree_told (NamesOf g w) (tree_end (end g w u j)) (tree_end (across j)) l n s ms call;
+        search = search_told (tree_end (end g w u j)) (tree_end (across j)) l s (Some j) call.rises call.most ms (w.seen (far g u j) (far_port g u j)).tree (link j at).search;
+        tests = tests_aside (test_end (end g w u j)) (test_end (across j)) o l (Some n) (quits j) (not_some o j quit) low (link j at).tests (link' j at).tests;
+      }
+
+      branch : (i : ℕ) → At g u i → i ≢ j → (w.at u).mark i ≡ Branch → LinkFits (NamesOf g w) (still i) (passed i)
+      branch i at' ne b = let jo = branch_joined i at' ne b in record {
+        tree = tree_passed (NamesOf g w) (tree_end (end g w u i)) (tree_end (across i)) l n s (Some j) (away i ne) call.rises call.most jo (child i at' ne b) (sym (inside i at' jo)) (ghosts i at' jo).0 (ghosts i at' jo).1 call.inside call.name call.awake call.find (link i at').tree;
+        search = search_told (tree_end (end g w u i)) (tree_end (across i)) l s (Some j) call.rises call.most (w.seen u i).tree (tree_end (passed i)).tree (link i at').search;
+        tests = tests_aside (test_end (end g w u i)) (test_end (across i)) o l (Some n) (quits i) (not_some o i quit) low (link i at').tests (link' i at').tests;
+      }
+
+      other : (i : ℕ) → At g u i → i ≢ j → (w.at u).mark i ≢ Branch → LinkFits (NamesOf g w) (still i) (across i)
+      other i at' ne nb = record {
+        tree = tree_past (NamesOf g w) (tree_end (end g w u i)) (tree_end (across i)) l n s (Some j) (away i ne) call.rises call.most nb (link i at').tree;
+        search = search_told (tree_end (end g w u i)) (tree_end (across i)) l s (Some j) call.rises call.most (w.seen u i).tree (tree_end (across i)).tree (link i at').search;
+        tests = tests_aside (test_end (end g w u i)) (test_end (across i)) o l (Some n) (quits i) (not_some o i quit) low (link i at').tests (link' i at').tests;
+      }
+
+  fits_far : (i : ℕ) → At g u i → LinkFits (NamesOf g w) (far' g wired u lo hi hearer (put (w.seen u) j left) passing w i) (near' g wired u lo hi hearer (put (w.seen u) j left) passing w i)
+  fits_far = by_port (λ e f. LinkFits (NamesOf g w) f e) hit branch other
+    where
+      hit : LinkFits (NamesOf g w) (across j) heard_at
+      hit = record {
+        tree = tree_told' (NamesOf g w) (tree_end (end g w u j)) (tree_end (across j)) l n s ms call (ghosts j at call.joins).1 refl (link' j at).tree;
+        search = search_told' (tree_end (end g w u j)) (tree_end (across j)) l s (Some j) call.rises call.most ms (w.seen (far g u j) (far_port g u j)).tree (link' j at).search;
+        tests = tests_aside' (test_end (end g w u j)) (test_end (across j)) o l (Some n) (quits j) (not_some o j quit) low (link j at).tests (link' j at).tests;
+      }
+
+      branch : (i : ℕ) → At g u i → i ≢ j → (w.at u).mark i ≡ Branch → LinkFits (NamesOf g w) (passed i) (still i)
+      branch i at' ne b = let jo = branch_joined i at' ne b in record {
+        tree = tree_passed' (NamesOf g w) (tree_end (end g w u i)) (tree_end (across i)) l n s (Some j) (away i ne) call.rises call.most jo (child i at' ne b) (sym (inside i at' jo)) (ghosts i at' jo).0 (ghosts i at' jo).1 call.inside call.name call.awake call.find (link' i at').tree;
+        search = search_told' (tree_end (end g w u i)) (tree_end (across i)) l s (Some j) call.rises call.most (w.seen u i).tree (tree_end (passed i)).tree (link' i at').search;
+        tests = tests_aside' (test_end (end g w u i)) (test_end (across i)) o l (Some n) (quits i) (not_some o i quit) low (link i at').tests (link' i at').tests;
+      }
+
+      other : (i : ℕ) → At g u i → i ≢ j → (w.at u).mark i ≢ Branch → LinkFits (NamesOf g w) (across i) (still i)
+      other i at' ne nb = record {
+        tree = tree_past' (NamesOf g w) (tree_end (end g w u i)) (tree_end (across i)) l n s (Some j) (away i ne) call.rises call.most nb (link' i at').tree;
+        search = search_told' (tree_end (end g w u i)) (tree_end (across i)) l s (Some j) call.rises call.most (w.seen u i).tree (tree_end (across i)).tree (link' i at').search;
+        tests = tests_aside' (test_end (end g w u i)) (test_end (across i)) o l (Some n) (quits i) (not_some o i quit) low (link i at').tests (link' i at').tests;
+      }
+
+  -- a fragment at rest hears no call to search
+  quiet : (a : ℕ) → Quiet g w a → Quiet g then a
+  quiet a q = quiet_after g wired u lo hi hearer (put (w.seen u) j left) passing w a q (λ e. found_is s call.awake (calm e).0) mine theirs
+    where
+      neither : (b c : Bool) → (b || c) ≡ false → (b ≡ false) × (c ≡ false)
+      neither true c e = absurd (let z = e in cc)
+      neither false c e = (refl, e)
+
+      calm : (w.at u).fragment ≡ a → (is_find s ≡ false) × (has_call ms ≡ false)
+      calm e = neither _ _ (sym (has_call_first ms l n s) ∙ sym (ap has_call waits) ∙ q.uncalled u j at e)
+
+      found_is : (p : Phase) → p ≢ Sleeping → is_find p ≡ false → p ≡ Found
+      found_is Sleeping ne e = absurd (ne refl)
+      found_is Find ne e = absurd (let z = e in cc)
+      found_is Found ne e = refl
+
+      mine : (i : ℕ) → At g u i → hearer.fragment ≡ a → has_call (put (w.seen u) j left i).tree ≡ false
+      mine = by_port (λ e f. e.is.fragment ≡ a → has_call e.seen.tree ≡ false) (λ e. (calm e).1) (λ i at' ne b e. q.uncalled u i at' e) (λ i at' ne nb e. q.uncalled u i at' e)
+
+      theirs : (i : ℕ) → At g u i → (w.at (far g u i)).fragment ≡ a → has_call (adds (w.seen (far g u i) (far_port g u i)) (sent_on passing i)).tree ≡ false
+      theirs = by_port (λ e f. f.is.fragment ≡ a → has_call f.seen.tree ≡ false) (λ e. q.uncalled _ _ (wired.there u j at) e) (λ i at' ne b e. rw (has_call_more (w.seen (far g u i) (far_port g u i)).tree l n s, q.uncalled _ _ (wired.there u i at') e) (calm (inside i at' (branch_joined i at' ne b) ∙ e)).0) (λ i at' ne nb e. q.uncalled _ _ (wired.there u i at') e)
+
+  pub initiates : Invariant g then
+  initiates = kept_after g wired u lo hi hearer (put (w.seen u) j left) passing w holds alike node fits_near fits_far (λ e. absurd (call.awake e)) (λ k e. subst (Names g (forest w) (w.at u).fragment) (name_is k e) call.inside) (rests_alike g w then (forest_after g wired u lo hi hearer (put (w.seen u) j left) passing w alike) quiet holds.resting) debts
+    where
+      alike : Alike (w.at u) hearer
+      alike = record { fragment = refl; coming = refl; coming_name = refl; up = refl; branch = λ p. refl }
+
+      name_is : (k : Key) → Some n ≡ Some k → n ≡ k
+      name_is k e = cc
+
+module _ (g : Network) (wired : IsWired g) (u : ℕ) (lo : 1 ≤ u) (hi : u ≤ g.count) (w : World) (holds : Invariant g w) (j : ℕ) (at : At g u j) (ms : List Message) (l : ℕ) (n : Key) (xs : List Mark) (marks : MarksAre g u (w.at u) xs) where
+  -- the node is told of a search that doesn't concern it yet
+  pub initiates_rest : (w.seen u j).tree ≡ Initiate l n Found ∷ ms → Invariant g (acts g u (record (w.at u) { head = record (w.at u).head { level = l; name = Some n; phase = Found; in_branch = Some j; best = None } }) (put (w.seen u) j (record (w.seen u j) { tree = ms })) (on_branches xs j (Initiate l n Found)) w)
+  initiates_rest waits = initiates g wired u lo hi j at w holds l n Found ms xs marks waits (w.at u).head.probe (idle g wired u lo hi j at w holds l n Found ms xs marks waits None refl 0 (λ e. refl)).0 (w.at u).head.find_count (λ e. e)
+
+  -- the node searches; its first Test comes in a step of its own
+  pub initiates_search : (w.seen u j).tree ≡ Initiate l n Find ∷ ms → Invariant g (acts g u (record (w.at u) { head = record (w.at u).head { level = l; name = Some n; phase = Find; in_branch = Some j; best = None; probe = None; find_count = (w.at u).head.find_count + length (on_branches xs j (Initiate l n Find)) } }) (put (w.seen u) j (record (w.seen u j) { tree = ms })) (on_branches xs j (Initiate l n Find)) w)
+  initiates_search waits = initiates g wired u lo hi j at w holds l n Find ms xs marks waits None refl ((w.at u).head.find_count + length (on_branches xs j (Initiate l n Find))) (λ e. rw e (zero-add _))

@@ -1,0 +1,218 @@
+-- A sleeping node wakes: its floor is its least link, over which its Connect goes out.
+use Rattle.std.proofs.Common.{◌≡◌, ◌≢◌, ℕ, zero, suc, ◌≤◌, ◌<◌, true, false, Some, [], ◌∷◌, ◌++◌, refl, sym, ◌∙◌, ap, subst, ⊎_elim, ◌⊎◌, arith}
+use Rattle.std.proofs.lemmas.Bool.{cases_eq}
+use Rattle.std.proofs.lemmas.Bool.Decides.{nat_tests}
+use Rattle.ghs_graph.specs.declared.key.Key.{Key}
+use Rattle.ghs_graph.specs.Key.{key_lt}
+use Rattle.ghs_node.specs.declared.mark.Mark.TheVariants.{Branch}
+use Rattle.ghs_node.specs.Words.{Outgoing}
+use Rattle.ghs_node.specs.declared.message.Phase.TheVariants.{Sleeping, Find, Found}
+use Rattle.ghs_node.specs.declared.message.Message.TheVariants.{Connect, ChangeRoot}
+use Rattle.ghs_protocol.specs.Network.{Network, port_at, At, far, far_port, IsWired, InNetwork}
+use Rattle.ghs_protocol.specs.Net.{put}
+use Rattle.ghs_protocol.proofs.clauses.World.{Seen, add, adds, Member, World, End, tree_end, end, acts}
+use Rattle.ghs_protocol.proofs.clauses.TreeMessages.{ConnectUnderWay}
+use Rattle.ghs_protocol.proofs.clauses.Nodes.{Untouched}
+use Rattle.ghs_protocol.proofs.clauses.Wiring.{IsKeyed, IsOrdered}
+use Rattle.ghs_protocol.proofs.clauses.Uniting.{meet}
+use Rattle.ghs_protocol.proofs.clauses.Whole.{Invariant}
+use Rattle.ghs_protocol.proofs.clauses.Floors.{Floor, FloorsAt, NodeFloor, IsTreeLink, BranchesInTree, HaltedIsWhole, Floors}
+use Rattle.ghs_protocol.proofs.lemmas.Updates.{put_same, put_other}
+use Rattle.ghs_protocol.proofs.acts.Ends.{here_seen, far_seen}
+use Rattle.ghs_protocol.proofs.acts.OneLink.{by_port_at, sends_one}
+use Rattle.ghs_protocol.proofs.root.Sent.{put_alike}
+use Rattle.ghs_protocol.proofs.rest.AtRest.{over}
+use Rattle.ghs_protocol.proofs.acts.Reactions.{put_again}
+use Rattle.ghs_protocol.proofs.rows.Link.{link_fits'}
+use Rattle.ghs_protocol.proofs.wake.Inward.{wakes_meeting}
+use Rattle.ghs_protocol.proofs.acts.Floors.{far_fits, lower_self, below_lower, cut_link}
+use Rattle.ghs_protocol.proofs.search.CloseFloors.{FloorsOff, nodes_after, links_after, links_after_off, in_tree_after, halted_after}
+use Rattle.ghs_protocol.proofs.union.Floors.{floors_met}
+
+lt_not : (j k : Key) → key_lt j k ≡ true → key_lt k j ≡ false
+lt_not j k h = grind (arith, nat_tests)
+
+lt_self : (k : Key) → key_lt k k ≡ false
+lt_self k = grind (arith, nat_tests)
+
+module _ (g : Network) (wired : IsWired g) (ordered : IsOrdered g) (u : ℕ) (lo : 1 ≤ u) (hi : u ≤ g.count) (w : World) (holds : Invariant g w) (at : At g u 0) (sleeps : (w.at u).head.phase ≡ Sleeping) (floor : ℕ → Floor) (floors : Floors g w floor) where
+  abbrev x : Member
+  x = record (w.at u) { head = record (w.at u).head { level = 0; phase = Found; find_count = 0 }; mark = put (w.at u).mark 0 Branch; up = Some 0 }
+
+  abbrev ss : Outgoing
+  ss = (0, Connect 0) ∷ []
+
+  abbrev pub woken : World
+  woken = acts g u (record (w.at u) { head = record (w.at u).head { level = 0; phase = Found; find_count = 0 }; mark = put (w.at u).mark 0 Branch; up = Some 0 }) (w.seen u) ((0, Connect 0) ∷ []) w
+
+  abbrev pub least : Floor
+  least = Some (Some (port_at g u 0).key)
+
+  is : InNetwork g u
+  is = record { some = lo; node = hi }
+
+  fresh : Untouched (w.at u)
+  fresh = (holds.nodes u is).untouched sleeps
+
+  unmarked : (i : ℕ) → (w.at u).mark i ≢ Branch
+  unmarked = fresh.marks
+
+  alone : (t : ℕ) → InNetwork g t → (w.at t).fragment ≡ (w.at u).fragment → t ≡ u
+  alone t it e = holds.alone u t is it sleeps e
+
+  far_in : (i : ℕ) → At g u i → InNetwork g (far g u i)
+  far_in i at' = let z = wired.there u i at' in record { some = z.some; node = z.node }
+
+  apart : (w.at (far g u 0)).fragment ≢ (w.at u).fragment
+  apart e = wired.apart u 0 at (alone (far g u 0) (far_in 0 at) e)
+
+  tree : IsTreeLink g u 0
+  tree =
+      cut_link g (λ t. (w.at t).fragment) (w.at u).fragment u 0 apart
+      (λ t q at' same out. let e = alone t (record { some = at'.some; node = at'.node }) same in subst (λ y. key_lt (port_at g y q).key (port_at g u 0).key ≡ false) (sym e) (not_less q (subst (λ y. At g y q) e at'))) refl
+    where
+      not_less : (q : ℕ) → At g u q → key_lt (port_at g u q).key (port_at g u 0).key ≡ false
+      not_less zero at' = lt_self (port_at g u 0).key
+      not_less (suc q) at' = lt_not (port_at g u 0).key (port_at g u (suc q)).key (ordered u 0 (suc q) (omega arith) at')
+
+  abbrev still : ℕ → End
+  still i = record { port = i; key = (port_at g u i).key; mark = put (w.at u).mark 0 Branch i; is = x; seen = w.seen u i }
+
+  plain : (i : ℕ) → i ≢ 0 → put (w.at u).mark 0 Branch i ≢ Branch
+  plain i ne e = unmarked i (sym (put_other (w.at u).mark 0 i Branch ne) ∙ e)
+
+  near_other : (i : ℕ) → At g u i → i ≢ 0 → FloorsAt (still i) (over g w u i) least (floor (far g u i))
+  near_other i at' ne = record {
+    none_below = λ o. below_lower (Some (port_at g u 0).key) (Some (port_at g u i).key) (ordered u 0 i (omega (arith, ne)) at');
+    falls = λ c. absurd (plain i ne c.joins.here);
+    covered = λ p c o. absurd (plain i ne c.joins.here);
+    report = λ r c t. absurd (plain i ne c.joins.here);
+    core = λ c l p. absurd (plain i ne c.both.joins.here);
+    out = λ o. absurd (plain i ne o.here);
+    moved = λ m t. absurd (plain i ne m.both.joins.here);
+    best = λ y b l z. absurd (plain i ne z.here);
+  }
+
+  far_other : (i : ℕ) → At g u i → i ≢ 0 → FloorsAt (over g w u i) (still i) (floor (far g u i)) least
+  far_other i at' ne = record {
+    none_below = (far_fits g wired w holds floor floors u i at').none_below;
+    falls = λ c. absurd (plain i ne c.joins.there);
+    covered = λ p c o. absurd (plain i ne c.joins.there);
+    report = λ r c t. absurd (plain i ne c.joins.there);
+    core = λ c l p. absurd (plain i ne c.both.joins.there);
+    out = λ o. (far_fits g wired w holds floor floors u i at').out (record { here = o.here; there = unmarked i });
+    moved = λ m t. absurd (plain i ne m.both.joins.there);
+    best = λ y b l z. absurd (plain i ne z.there);
+  }
+
+  abbrev there : End
+  there = record { port = far_port g u 0; key = (port_at g u 0).key; mark = (w.at (far g u 0)).mark (far_port g u 0); is = w.at (far g u 0); seen = add (w.seen (far g u 0) (far_port g u 0)) (Connect 0) }
+
+  node_floor : NodeFloor x least
+  node_floor = record { asleep = λ e. absurd (let z : Found ≡ Sleeping = e in cc); search = λ e. absurd (let z : Found ≡ Find = e in cc) }
+
+  trees : BranchesInTree g woken
+  trees = in_tree_after g wired u lo hi x (w.seen u) ss w floor floors least (λ p at' m. ⊎_elim (λ e. subst (IsTreeLink g u) (sym e) tree) (λ ne. absurd (plain p ne m)) (cases_eq p 0))
+
+  halts : HaltedIsWhole g woken
+  halts = halted_after g wired u lo hi x (w.seen u) ss w floor floors least refl refl
+
+  -- what waits at u is as it was
+  own_again : acts g u x (put (w.seen u) 0 (w.seen u 0)) ss w ≡ woken
+  own_again = λ i. acts g u x (put_again (w.seen u) 0 i) ss w
+
+  -- nobody has connected over the link
+  module _ (free : (w.at (far g u 0)).mark (far_port g u 0) ≢ Branch) where
+    near_out : FloorsAt (still 0) there least (floor (far g u 0))
+    near_out = record {
+      none_below = λ o. lower_self least;
+      falls = λ c. absurd (free c.joins.there);
+      covered = λ p c o. absurd (free c.joins.there);
+      report = λ r c t. absurd (free c.joins.there);
+      core = λ c l p. absurd (free c.both.joins.there);
+      out = λ o. refl;
+      moved = λ m t. absurd (free m.both.joins.there);
+      best = λ y b l z. absurd (free z.there);
+    }
+
+    far_out : FloorsAt there (still 0) (floor (far g u 0)) least
+    far_out = record {
+      none_below = (far_fits g wired w holds floor floors u 0 at).none_below;
+      falls = λ c. absurd (free c.joins.here);
+      covered = λ p c o. absurd (free c.joins.here);
+      report = λ r c t. absurd (free c.joins.here);
+      core = λ c l p. absurd (free c.both.joins.here);
+      out = λ o. absurd (free o.here);
+      moved = λ m t. absurd (free m.both.joins.here);
+      best = λ y b l z. absurd (free z.here);
+    }
+
+    pub wakes_out_floors : Floors g woken (put floor u least)
+    wakes_out_floors =
+        subst (λ v. Floors g v (put floor u least)) own_again (record {
+          nodes = nodes_after g wired u lo hi x (put (w.seen u) 0 (w.seen u 0)) ss w floor floors least node_floor;
+          links =
+              links_after g wired u lo hi x (put (w.seen u) 0 (w.seen u 0)) ss w floor floors least
+              (by_port_at g wired u lo hi x 0 at (w.seen u 0) (Connect 0 ∷ []) ss (sends_one 0 (Connect 0)) w (λ i e f. FloorsAt e f least (floor (far g u i))) near_out near_other)
+              (by_port_at g wired u lo hi x 0 at (w.seen u 0) (Connect 0 ∷ []) ss (sends_one 0 (Connect 0)) w (λ i e f. FloorsAt f e (floor (far g u i)) least) far_out far_other);
+          in_tree = trees;
+          halted = halts;
+        })
+
+  -- the far end's Connect has come in
+  module _ (keyed : IsKeyed g) (met : (w.at (far g u 0)).mark (far_port g u 0) ≡ Branch) where
+    came : ConnectUnderWay (tree_end (over g w u 0)) (tree_end (end g w u 0))
+    came = (link_fits' g wired w holds u 0 at).tree.out_connect (record { here = met; there = unmarked 0 })
+
+    off : FloorsOff g woken (put floor u least) u 0
+    off =
+        subst (λ v. FloorsOff g v (put floor u least) u 0) own_again (record {
+          nodes = nodes_after g wired u lo hi x (put (w.seen u) 0 (w.seen u 0)) ss w floor floors least node_floor;
+          links =
+              links_after_off g wired u lo hi x (put (w.seen u) 0 (w.seen u 0)) ss w floor floors least 0
+              (by_port_at g wired u lo hi x 0 at (w.seen u 0) (Connect 0 ∷ []) ss (sends_one 0 (Connect 0)) w (λ i e f. i ≢ 0 → FloorsAt e f least (floor (far g u i))) (λ ne. absurd (ne refl)) (λ i at' ne no. near_other i at' ne))
+              (by_port_at g wired u lo hi x 0 at (w.seen u 0) (Connect 0 ∷ []) ss (sends_one 0 (Connect 0)) w (λ i e f. i ≢ 0 → FloorsAt f e (floor (far g u i)) least) (λ ne. absurd (ne refl)) (λ i at' ne no. far_other i at' ne));
+          in_tree = trees;
+          halted = halts;
+        })
+
+    here_is : woken.at u ≡ x
+    here_is = put_same w.at u x
+
+    far_is : woken.at (far g u 0) ≡ w.at (far g u 0)
+    far_is = put_other w.at u (far g u 0) x (wired.apart u 0 at)
+
+    fragment_is : (t : ℕ) → (woken.at t).fragment ≡ (w.at t).fragment
+    fragment_is t = put_alike (λ (m : Member). m.fragment) w.at u x refl t
+
+    level_is : (t : ℕ) → (woken.at t).head.level ≡ (w.at t).head.level
+    level_is t = put_alike (λ (m : Member). m.head.level) w.at u x (sym fresh.level) t
+
+    low : (t : ℕ) → InNetwork g t → ((woken.at t).fragment ≡ (woken.at (far g u 0)).fragment) ⊎ ((woken.at t).fragment ≡ (woken.at u).fragment) → (woken.at t).head.level < suc (woken.at u).head.level
+    low t it i =
+        let a = level_is t in
+        let c = level_is u in
+        let d = (holds.nodes t it).lag.level in
+        let f = came.level in
+        let h = came.higher in
+        let o = fresh.level in
+        let q = fresh.coming in
+        ⊎_elim
+        (λ s. let z = (holds.trees.by_fragment t (far g u 0) (sym (fragment_is t) ∙ s ∙ fragment_is (far g u 0))).0 in omega (arith, a, c, d, f, h, z, o))
+        (λ s. let z = (holds.trees.by_fragment t u (sym (fragment_is t) ∙ s ∙ fragment_is u)).0 in omega (arith, a, c, d, z, o, q)) i
+
+    own_seen : woken.seen u 0 ≡ w.seen u 0
+    own_seen = here_seen g wired u lo hi x (w.seen u) ss w 0
+
+    their_seen : (woken.seen (far g u 0) (far_port g u 0)).tree ≡ (w.seen (far g u 0) (far_port g u 0)).tree ++ Connect 0 ∷ []
+    their_seen = ap (λ (q : Seen). q.tree) (far_seen g wired u lo hi x (w.seen u) ss w 0 at) ∙ ap (λ s. (adds (w.seen (far g u 0) (far_port g u 0)) s).tree) ((sends_one 0 (Connect 0)).only)
+
+    pub wakes_meeting_floors : Floors g (meet g u 0 woken) (put floor u least)
+    wakes_meeting_floors =
+        floors_met g wired woken (put floor u least) off.nodes off.in_tree off.halted u 0 at
+        (λ e. apart (sym (fragment_is (far g u 0)) ∙ e ∙ fragment_is u)) off.links low
+        (ap (λ (m : Member). m.mark 0) here_is ∙ put_same (w.at u).mark 0 Branch) (ap (λ (m : Member). m.mark (far_port g u 0)) far_is ∙ met)
+        (ap (λ (m : Member). m.up) here_is) (ap (λ (m : Member). m.up) far_is ∙ came.up)
+        (λ e. let z = came.one in let y = ap (λ (q : Seen). q.tree) own_seen in let s : Connect (w.at (far g u 0)).head.level ∷ [] ≡ ChangeRoot ∷ [] = sym z ∙ sym y ∙ e in cc)
+        (λ e. let z = came.none in let s : [] ++ Connect 0 ∷ [] ≡ ChangeRoot ∷ [] = ap (λ q. q ++ Connect 0 ∷ []) (sym z) ∙ sym their_seen ∙ e in cc)
+        (wakes_meeting g wired u lo hi w holds at sleeps keyed met)
