@@ -4,7 +4,7 @@ use Rattle.std.specs.List.{Contains}
 use Rattle.std.proofs.lemmas.Bool.{cases_lt}
 use Rattle.std.proofs.lemmas.List.{get_or_default, get_or_push, get_or_append_left}
 use Rattle.std.proofs.lemmas.List.Elements.{Contains-append_left, Contains-append_right, Contains-append_cases}
-use Rattle.ghs_graph.proofs.Membership.{nothing_in, first_in, in_cases}
+use Rattle.ghs_graph.proofs.lemmas.Members.{nothing_in, first_in, in_cases}
 use Rattle.ghs_graph.specs.Classes.{AreTogether}
 use Rattle.ghs_core.specs.Marked.{AreAlike}
 

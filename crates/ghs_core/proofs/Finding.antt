@@ -4,13 +4,12 @@ use Rattle.std.specs.List.{filter}
 use Rattle.std.proofs.lemmas.List.{get_or_default}
 use Rattle.std.proofs.lemmas.List.Elements.{filter_more}
 use Rattle.ghs_graph.specs.declared.key.Key.{Key}
-use Rattle.ghs_graph.specs.Key.{ends_at}
+use Rattle.ghs_graph.specs.Key.{ends_at, no_key}
 use Rattle.ghs_graph.specs.Graph.{Shape}
 use Rattle.ghs_graph.specs.Layout.{AreDegrees}
-use Rattle.ghs_graph.specs.Ports.{ports_of, place_of, degree as degree_of}
-use Rattle.ghs_graph.proofs.Counting.{none_counted, one_counted, degree_ends, degree_up}
-use Rattle.ghs_graph.proofs.KeyOrder.{no_key}
-use Rattle.ghs_graph.proofs.Wiring.{place_at, length-ports_of}
+use Rattle.ghs_graph.specs.Ports.{ports_of, port_number, degree as degree_of}
+use Rattle.ghs_graph.proofs.lemmas.Degrees.{none_counted, one_counted, degree_ends, degree_up}
+use Rattle.ghs_graph.proofs.lemmas.Ports.{place_at, length-ports_of}
 use Rattle.ghs_node.specs.Words.{is_branch}
 use Rattle.ghs_node.specs.NodeState.{NodeState, mark_at, degree}
 use Rattle.ghs_core.specs.declared.marked.Ends.{Ends}
@@ -40,7 +39,7 @@ module _ (g : Shape) (nodes : List NodeState) (have : HavePorts g nodes) (e : En
     at = is ∙ get_or_default ports v x 0 (let n = f.next.count in omega (arith, n))
 
     -- the port is the link's
-    pub port_is : x ≡ place_of g.keys v (get_or g.keys i no_key)
+    pub port_is : x ≡ port_number g.keys v (get_or g.keys i no_key)
     port_is = at ∙ counted ∙ sym (place_at g.keys v i no_key have.graph.rising lt)
 
     pub port_fits : ends_at v (get_or g.keys i no_key) ≡ true → x < length (ports_of g.keys v)

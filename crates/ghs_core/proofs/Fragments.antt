@@ -10,14 +10,12 @@ use Rattle.std.proofs.lemmas.Option.{slice_get-get_or}
 use Rattle.ghs_graph.specs.declared.key.Key.{Key}
 use Rattle.ghs_graph.specs.declared.port.Port.{Port}
 use Rattle.ghs_graph.specs.Graph.{Shape}
-use Rattle.ghs_graph.specs.Key.{key_lt}
-use Rattle.ghs_graph.specs.Layout.{no_port}
+use Rattle.ghs_graph.specs.Key.{key_lt, no_key}
 use Rattle.ghs_graph.specs.Links.{IsRising, AreAmong}
 use Rattle.ghs_graph.specs.Spanning.{AreTold}
-use Rattle.ghs_graph.specs.Ports.{ports_of, place_of}
-use Rattle.ghs_graph.proofs.KeyOrder.{no_key}
-use Rattle.ghs_graph.proofs.Joining.{joined_within}
-use Rattle.ghs_graph.proofs.Wiring.{OnLink, on_link}
+use Rattle.ghs_graph.specs.Ports.{ports_of, port_number, no_port}
+use Rattle.ghs_graph.proofs.lemmas.Joining.{joined_within}
+use Rattle.ghs_graph.proofs.lemmas.Ports.{OnLink, on_link}
 use Rattle.ghs_node.specs.declared.mark.Mark.TheVariants.{Branch}
 use Rattle.ghs_node.specs.NodeState.{NodeState, mark_at, degree}
 use Rattle.ghs_links.specs.Links.{LinksState}
@@ -63,10 +61,10 @@ module _ {g : Shape} {es : List Event} {nodes : List NodeState} {links : LinksSt
       )
 
   -- marks, as the fields have them and as the net does
-  marked : (k : Key) (v : ℕ) → 1 ≤ v → v ≤ g.nodes → has_branch g.keys nodes v k ≡ true → mark_at (w.node v) (place_of g.keys v k) ≡ Branch
+  marked : (k : Key) (v : ℕ) → 1 ≤ v → v ≤ g.nodes → has_branch g.keys nodes v k ≡ true → mark_at (w.node v) (port_number g.keys v k) ≡ Branch
   marked k v lo hi h = branch_so _ (rw (kept.shows.node v lo hi) at h)
 
-  marked_back : (k : Key) (v : ℕ) → 1 ≤ v → v ≤ g.nodes → mark_at (w.node v) (place_of g.keys v k) ≡ Branch → has_branch g.keys nodes v k ≡ true
+  marked_back : (k : Key) (v : ℕ) → 1 ≤ v → v ≤ g.nodes → mark_at (w.node v) (port_number g.keys v k) ≡ Branch → has_branch g.keys nodes v k ≡ true
   marked_back k v lo hi h = rw (kept.shows.node v lo hi, h) refl
 
   pub branches_are : AreBranches net w (filter (is_wanted One g.keys nodes) g.keys)

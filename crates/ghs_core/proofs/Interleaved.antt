@@ -16,7 +16,7 @@ use Rattle.ghs_protocol.specs.Run.{IsRun, net_after}
 use Rattle.ghs_protocol.specs.Marks.{InOneFragment}
 use Rattle.ghs_protocol.specs.Laws.{IsNetOf}
 use Rattle.ghs_protocol.specs.Interleavings.{HaveAtLeast, Asks, To_wake, To_take}
-use Rattle.ghs_node.proofs.Tests.{sleeping_is}
+use Rattle.ghs_node.proofs.lemmas.{sleeping_is}
 use Rattle.ghs_protocol.proofs.Events.{node_of}
 use Rattle.ghs_protocol.proofs.Runs.{after_is_net}
 use Rattle.ghs_graph.specs.declared.key.Key.{Key}

@@ -6,7 +6,7 @@ use Rattle.ghs_node.specs.declared.delta.Delta.{Delta}
 use Rattle.ghs_node.specs.NodeState.{NodeState}
 use Rattle.ghs_node.specs.Reaction.{reaction, after, IsReaction}
 use Rattle.ghs_node.specs.Rows.{Row}
-use Rattle.ghs_node.proofs.Outgoing.{row_ported}
+use Rattle.ghs_node.proofs.lemmas.{row_ported}
 use Rattle.ghs_links.specs.Links.{LinksState, IsFor, GoOut, HasRoomFor, KeepsLists, total_of}
 use Rattle.ghs_links.proofs.Ports.{same_for}
 use Rattle.ghs_protocol.specs.declared.event.Event.{Event}

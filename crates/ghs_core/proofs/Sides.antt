@@ -7,12 +7,11 @@ use Rattle.std.proofs.lemmas.Option.{slice_get_within, slice_get-get_or, get_or_
 use Rattle.ghs_graph.specs.declared.key.Key.{Key}
 use Rattle.ghs_graph.specs.declared.port.Port.{Port}
 use Rattle.ghs_graph.specs.Graph.{Shape, IsGraph}
-use Rattle.ghs_graph.specs.Layout.{no_port}
 use Rattle.ghs_graph.specs.Laws.{HasTwoPorts}
-use Rattle.ghs_graph.specs.Ports.{ports_of, place_of, far_end, port_on}
-use Rattle.ghs_graph.proofs.KeyOrder.{no_key}
-use Rattle.ghs_graph.proofs.Membership.{nothing_in, first_in, later_in, in_cases}
-use Rattle.ghs_graph.proofs.Wiring.{links_have_two_ports}
+use Rattle.ghs_graph.specs.Ports.{ports_of, port_number, far_end, port_on, no_port}
+use Rattle.ghs_graph.specs.Key.{no_key}
+use Rattle.ghs_graph.proofs.lemmas.Members.{nothing_in, first_in, later_in, in_cases}
+use Rattle.ghs_graph.proofs.lemmas.Ports.{links_have_two_ports}
 use Rattle.ghs_node.specs.declared.mark.Mark.{Mark}
 use Rattle.ghs_node.specs.declared.mark.Mark.TheVariants.{Basic, Branch, Rejected}
 use Rattle.ghs_node.specs.NodeState.{mark_at}
@@ -55,10 +54,10 @@ module _ (g : Shape) (ok : IsGraph g) (k : Key) (in_graph : Contains g.keys k) w
   among = let i = in_graph.0 in let e : get_or g.keys i no_key ≡ k = get_or_default g.keys i no_key k in_graph.1 ∙ in_graph.2 in rw e at (ok.among i no_key in_graph.1)
 
   abbrev pa : ℕ
-  pa = place_of g.keys k.a k
+  pa = port_number g.keys k.a k
 
   abbrev pb : ℕ
-  pb = place_of g.keys k.b k
+  pb = port_number g.keys k.b k
 
   -- one end, with its port on the link
   pub record Side (v p u r : ℕ) : Type 0 where
@@ -69,24 +68,24 @@ module _ (g : Shape) (ok : IsGraph g) (k : Key) (in_graph : Contains g.keys k) w
 
   pub side_a : Side k.a pa k.b pb
   side_a =
-      let is : port_at net k.a pa ≡ port_on g.keys k.a k = get_or_from_slice_get (ports_of g.keys k.a) (place_of g.keys k.a k) (port_on g.keys k.a k) no_port two.at_a in
+      let is : port_at net k.a pa ≡ port_on g.keys k.a k = get_or_from_slice_get (ports_of g.keys k.a) (port_number g.keys k.a k) (port_on g.keys k.a k) no_port two.at_a in
       let other : far_end k.a k ≡ k.b = rw (eq-eqb k.a k.a refl) refl in
       record {
-        at = let r = among in record { some = r.0; node = omega (arith, r.1, r.2); port = slice_get_within (ports_of g.keys k.a) (place_of g.keys k.a k) (port_on g.keys k.a k) two.at_a };
+        at = let r = among in record { some = r.0; node = omega (arith, r.1, r.2); port = slice_get_within (ports_of g.keys k.a) (port_number g.keys k.a k) (port_on g.keys k.a k) two.at_a };
         key = ap (λ (x : Port). x.key) is;
         far = ap (λ (x : Port). x.far) is ∙ other;
-        far_port = ap (λ (x : Port). x.far_port) is ∙ ap (λ (v : ℕ). place_of g.keys v k) other;
+        far_port = ap (λ (x : Port). x.far_port) is ∙ ap (λ (v : ℕ). port_number g.keys v k) other;
       }
 
   pub side_b : Side k.b pb k.a pa
   side_b =
-      let is : port_at net k.b pb ≡ port_on g.keys k.b k = get_or_from_slice_get (ports_of g.keys k.b) (place_of g.keys k.b k) (port_on g.keys k.b k) no_port two.at_b in
+      let is : port_at net k.b pb ≡ port_on g.keys k.b k = get_or_from_slice_get (ports_of g.keys k.b) (port_number g.keys k.b k) (port_on g.keys k.b k) no_port two.at_b in
       let other : far_end k.b k ≡ k.a = let r = among in rw (ne_eqb k.a k.b (λ z. absurd (omega (arith, r.1, z)))) refl in
       record {
-        at = let r = among in record { some = omega (arith, r.0, r.1); node = r.2; port = slice_get_within (ports_of g.keys k.b) (place_of g.keys k.b k) (port_on g.keys k.b k) two.at_b };
+        at = let r = among in record { some = omega (arith, r.0, r.1); node = r.2; port = slice_get_within (ports_of g.keys k.b) (port_number g.keys k.b k) (port_on g.keys k.b k) two.at_b };
         key = ap (λ (x : Port). x.key) is;
         far = ap (λ (x : Port). x.far) is ∙ other;
-        far_port = ap (λ (x : Port). x.far_port) is ∙ ap (λ (v : ℕ). place_of g.keys v k) other;
+        far_port = ap (λ (x : Port). x.far_port) is ∙ ap (λ (v : ℕ). port_number g.keys v k) other;
       }
 
   -- a port on the link is one of the two

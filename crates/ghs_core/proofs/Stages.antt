@@ -8,8 +8,7 @@ use Rattle.ghs_node.specs.declared.work.Work.TheVariants as works
 use Rattle.ghs_node.specs.NodeState.{NodeState}
 use Rattle.ghs_node.specs.Reaction.{reaction, IsReaction}
 use Rattle.ghs_node.specs.Rows.{Row}
-use Rattle.ghs_node.proofs.Inversion.{reaction_inverts}
-use Rattle.ghs_node.proofs.Tests.{sleeping_is}
+use Rattle.ghs_node.proofs.lemmas.{reaction_inverts, sleeping_is}
 use Rattle.ghs_protocol.specs.declared.event.Event.{Event}
 use Rattle.ghs_protocol.specs.declared.event.Event.TheVariants.{Wake, Take}
 use Rattle.ghs_protocol.specs.Network.{Network, At}

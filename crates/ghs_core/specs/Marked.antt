@@ -6,7 +6,7 @@ use Rattle.ghs_graph.specs.declared.key.Key.{Key}
 use Rattle.ghs_graph.specs.Graph.{Shape, IsGraph}
 use Rattle.ghs_graph.specs.Classes.{AreTogether}
 use Rattle.ghs_graph.specs.Links.{IsRising, Joined, links, InTree}
-use Rattle.ghs_graph.specs.Ports.{ports_of, place_of}
+use Rattle.ghs_graph.specs.Ports.{ports_of, port_number}
 use Rattle.ghs_node.specs.NodeState.{NodeState, mark_at, degree}
 use Rattle.ghs_node.specs.Words.{is_branch}
 use Rattle.ghs_protocol.specs.Network.{Network, network_of}
@@ -25,7 +25,7 @@ node_in nodes v = slice_index_or nodes (v - 1) no_node
 
 -- node v has marked the link Branch
 abbrev pub has_branch : List Key → List NodeState → ℕ → Key → Bool
-has_branch ks nodes v k = is_branch (mark_at (node_in nodes v) (place_of ks v k))
+has_branch ks nodes v k = is_branch (mark_at (node_in nodes v) (port_number ks v k))
 
 abbrev pub is_wanted : Ends → List Key → List NodeState → Key → Bool
 is_wanted e ks nodes k = are_wanted e (has_branch ks nodes k.a k) (has_branch ks nodes k.b k)

@@ -56,7 +56,8 @@ module _ (a t : ℕ) where
       let less : a * 2 ^ (t + 1) + 2 ^ t - 1 ≡ a * 2 ^ (t + 1) + (2 ^ t - 1) = omega arith in
       let low : bit_and (2 ^ t) (2 ^ t - 1) ≡ 0 = and_mask (2 ^ t) t ∙ ap (λ (n : ℕ). n % 2 ^ t) alone ∙ mod_low 1 t 0 pos in
       let all = and_self a in
-      ap (bit_and (a * 2 ^ (t + 1) + 2 ^ t)) less ∙ and_block (t + 1) a a (2 ^ t) (2 ^ t - 1) below (let lt = below in omega arith) ∙ rw (all, low) (omega arith)
+      ap (bit_and (a * 2 ^ (t + 1) + 2 ^ t)) less ∙ and_block (t + 1) a a (2 ^ t) (2 ^ t - 1) below (let lt = below in omega arith)
+      ∙ rw (all, low) (omega arith)
 
   one_less : count_ones (a * 2 ^ (t + 1) + 2 ^ t) ≡ count_ones (a * 2 ^ (t + 1)) + 1
   one_less =
@@ -75,7 +76,9 @@ module _ (a t : ℕ) where
       (λ (le : t + 1 ≤ i). le) (cases_lt i (t + 1))
 
   same : (i : ℕ) → t + 1 ≤ i → bit_at (a * 2 ^ (t + 1) + 2 ^ t) i ≡ bit_at (a * 2 ^ (t + 1)) i
-  same i le = bit_at_cat_high a (t + 1) (2 ^ t) i below le ∙ sym (bit_at_cat_high a (t + 1) 0 i (pow_pos (t + 1)) le) ∙ ap (λ (n : ℕ). bit_at n i) (omega arith)
+  same i le =
+      bit_at_cat_high a (t + 1) (2 ^ t) i below le ∙ sym (bit_at_cat_high a (t + 1) 0 i (pow_pos (t + 1)) le)
+      ∙ ap (λ (n : ℕ). bit_at n i) (omega arith)
 
   front : (r j : ℕ) → r < 2 ^ (t + 1) → ones_below (a * 2 ^ (t + 1) + r) (j + (t + 1)) ≡ count_ones (a % 2 ^ j) + count_ones r
   front r j lt =
@@ -120,7 +123,8 @@ pub nth-suc : (w k i : ℕ) → 0 < w → w < 2 ^ 64 → IsNthBit (bit_and w (w 
 nth-suc w k i = by_lowest (λ n. IsNthBit (bit_and n (n - 1)) k i → IsNthBit n (k + 1) i) (λ a t nth. nth_above a t k i (rw (cleared a t) at nth)) w
 
 pub ones-cleared : (w : ℕ) → 0 < w → w < 2 ^ 64 → count_ones w ≡ count_ones (bit_and w (w - 1)) + 1
-ones-cleared w = by_lowest (λ n. count_ones n ≡ count_ones (bit_and n (n - 1)) + 1) (λ a t. one_less a t ∙ ap (λ (n : ℕ). count_ones n + 1) (sym (cleared a t))) w
+ones-cleared w =
+    by_lowest (λ n. count_ones n ≡ count_ones (bit_and n (n - 1)) + 1) (λ a t. one_less a t ∙ ap (λ (n : ℕ). count_ones n + 1) (sym (cleared a t))) w
 
 -- the bits from bit i on are those of the word moved down
 bit_at-shr : (w i j : ℕ) → bit_at (w / 2 ^ i) j ≡ bit_at w (i + j)
@@ -143,7 +147,8 @@ first-some w i fits some =
     let lowest = bit_at-trailing_zeros w64 rest some (omega arith) in
     let one : bit_at w (i + t) ≡ 1 = sym (bit_at-shr w i t) ∙ lowest.1 in (
       omega arith,
-      ⊎_elim (λ (lt : i + t < 64). lt) (λ (past : 64 ≤ i + t). let zero = bit_at_above w 64 (i + t) fits past in absurd (omega arith)) (cases_lt (i + t) 64),
+      ⊎_elim (λ (lt : i + t < 64). lt) (λ (past : 64 ≤ i + t). let zero = bit_at_above w 64 (i + t) fits past in absurd (omega arith))
+          (cases_lt (i + t) 64),
       eq-eqb _ _ one,
       λ m lo hi. unset w i m lo (lowest.2 (m - i) (omega arith)),
     )

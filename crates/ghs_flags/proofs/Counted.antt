@@ -21,7 +21,8 @@ module _ {flags : List Bool} {blocks : List ℕ} (kept : IsCounted flags blocks)
       omega (arith, weight_le BLOCK (omega arith) one_if blocks flags kept.counted p (raised_within flags p up) false)
 
   -- a flag is written to, and its block's count
-  pub counted_set : (p : ℕ) (y : Bool) (c : ℕ) → p < length flags → c + one_if (at flags p) ≡ get_or blocks (p / BLOCK) 0 + one_if y → IsCounted (set flags p y) (set blocks (p / BLOCK) c)
+  pub counted_set : (p : ℕ) (y : Bool) (c : ℕ) → p < length flags → c + one_if (at flags p) ≡ get_or blocks (p / BLOCK) 0 + one_if y
+      → IsCounted (set flags p y) (set blocks (p / BLOCK) c)
   counted_set p y c lt change = record {
     few = let few = kept.few in omega (arith, length-set flags p y);
     counted = counts_set BLOCK (omega arith) one_if blocks flags kept.counted p lt y false c change;

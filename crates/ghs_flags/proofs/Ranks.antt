@@ -29,7 +29,8 @@ module _ (words : List ℕ) where
   count-more : (n : ℕ) → count (flags_of words (n + 1)) ≡ count (flags_of words n) + cond (flag_at words n) 1 0
   unfolding flags_of
   count-more n =
-      ap count (map-range_with_len_more (flag_at words) 0 n n (omega arith)) ∙ sum_by_push (λ (b : Bool). cond b 1 0) (map (flag_at words) (range_with_len 0 n)) (flag_at words n)
+      ap count (map-range_with_len_more (flag_at words) 0 n n (omega arith))
+      ∙ sum_by_push (λ (b : Bool). cond b 1 0) (map (flag_at words) (range_with_len 0 n)) (flag_at words n)
 
   count-none : count (flags_of words 0) ≡ 0
   unfolding flags_of
@@ -68,7 +69,8 @@ module _ (words : List ℕ) where
     count-words =
         let word : length words * 64 / 64 ≡ length words = omega arith in
         let bit : length words * 64 % 64 ≡ 0 = omega arith in
-        let all : sum_by count_ones (take (length words) words) ≡ sum_by count_ones words = ap (sum_by count_ones) (take_all (length words) words (omega arith)) in
+        let all : sum_by count_ones (take (length words) words) ≡ sum_by count_ones words = ap (sum_by count_ones)
+        (take_all (length words) words (omega arith)) in
         let none = ones_below-zero (get_or words (length words) 0) in
         count-flags_of (length words * 64) (omega arith) ∙ rw (word, bit) (omega arith)
 
@@ -86,10 +88,13 @@ module _ (words : List ℕ) where
         omega arith
 
     -- the flag whose bit is set, with k before it
-    pub kth-flags_of : (n k p : ℕ) → n ≤ length words * 64 → k < count (flags_of words n) → IsNthFlag words k p → (p < n) × IsKth (flags_of words n) k p
+    pub kth-flags_of : (n k p : ℕ) → n ≤ length words * 64 → k < count (flags_of words n) → IsNthFlag words k p
+        → (p < n) × IsKth (flags_of words n) k p
     kth-flags_of n k p within some nth =
         let inside : p < n = ⊎_elim (λ (lt : p < n). lt)
-        (λ (past : n ≤ p). let le = rank_le n p past (let in' = nth.within in omega arith) in let all = count-flags_of n within in let before = nth.before in absurd (omega arith))
+        (λ (past : n ≤ p).
+        let le = rank_le n p past (let in' = nth.within in omega arith) in
+        let all = count-flags_of n within in let before = nth.before in absurd (omega arith))
         (cases_lt p n) in (
           inside,
           record {
@@ -101,4 +106,5 @@ module _ (words : List ℕ) where
   -- what is first among the bits is first among the flags
   pub first-flags_of : (n i e : ℕ) → e ≤ n → (found : Option ℕ) → IsFirst (flag_at words) i e found → IsFirst (at (flags_of words n)) i e found
   first-flags_of n i e within None none = λ j lo hi. at-flags_of n j (omega arith) ∙ none j lo hi
-  first-flags_of n i e within (Some j) (lo, hi, here, none) = (lo, hi, at-flags_of n j (omega arith) ∙ here, λ m from to. at-flags_of n m (omega arith) ∙ none m from to)
+  first-flags_of n i e within (Some j) (lo, hi, here, none) =
+      (lo, hi, at-flags_of n j (omega arith) ∙ here, λ m from to. at-flags_of n m (omega arith) ∙ none m from to)

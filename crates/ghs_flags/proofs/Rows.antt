@@ -49,12 +49,14 @@ module _ (m n : ℕ) where
       (cases_lt k m)
 
   pub flags-lowered : flags_of (replicate m 0) n ≡ replicate n false
-  flags-lowered = ext_get_or false (flags_of (replicate m 0) n) (replicate n false) (length-flags_of (replicate m 0) n ∙ sym (length-replicate n false)) each
+  flags-lowered =
+      ext_get_or false (flags_of (replicate m 0) n) (replicate n false) (length-flags_of (replicate m 0) n ∙ sym (length-replicate n false)) each
     where
       each : (p : ℕ) → p < length (flags_of (replicate m 0) n) → get_or (flags_of (replicate m 0) n) p false ≡ get_or (replicate n false) p false
       each p lt =
           let len = length-flags_of (replicate m 0) n in
-          let down : flag_at (replicate m 0) p ≡ false = ap (λ (w : ℕ). has_bit w (p % 64)) (zero_at (p / 64)) ∙ ap (λ (b : ℕ). nat_eq b 1) (bit_at-zero (p % 64)) in
+          let down : flag_at (replicate m 0) p ≡ false = ap (λ (w : ℕ). has_bit w (p % 64)) (zero_at (p / 64)) ∙ ap (λ (b : ℕ). nat_eq b 1)
+          (bit_at-zero (p % 64)) in
           at-flags_of (replicate m 0) n p (omega arith) ∙ down ∙ sym (get_or-replicate n p false false (omega arith))
 
   pub row_lowered : m ≡ n / 64 + 1 → n ≤ 2147483648 → IsRow (replicate m 0) n

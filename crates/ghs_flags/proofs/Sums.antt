@@ -19,7 +19,8 @@ module _ {X : Type 0} (f : X → ℕ) where
   front_le (x ∷ xs) (suc i) (suc j) le = omega (arith, front_le xs i j (omega arith), sum_by-cons f x (take i xs), sum_by-cons f x (take j xs))
 
   -- what a front sums up to once one place is written to
-  pub front_set : (xs : List X) (m p : ℕ) (y d : X) → p < length xs → p < m → sum_by f (take m (set xs p y)) + f (get_or xs p d) ≡ sum_by f (take m xs) + f y
+  pub front_set : (xs : List X) (m p : ℕ) (y d : X) → p < length xs → p < m
+      → sum_by f (take m (set xs p y)) + f (get_or xs p d) ≡ sum_by f (take m xs) + f y
   front_set [] m p y d lt below = absurd (omega arith)
   front_set (x ∷ xs) zero p y d lt below = absurd (omega arith)
   front_set (x ∷ xs) (suc m) zero y d lt below = omega (arith, sum_by-cons f x (take m xs), sum_by-cons f y (take m xs))

@@ -17,7 +17,8 @@ module _ {counts groups regions zones : List ℕ} {total : ℕ} (tower : IsTower
   sum_zones = counts_all 32 (omega arith) (λ n. n) zones regions tower.third ∙ sum_regions
 
   -- the sums before a place, height by height
-  pub sum_heights : (p z r g c : ℕ) → 0 + z ≡ sum (take (p / 32 / 32 / 32) zones) → sum (take (p / 32 / 32 / 32 * 32) regions) + r ≡ sum (take (p / 32 / 32) regions)
+  pub sum_heights : (p z r g c : ℕ) → 0 + z ≡ sum (take (p / 32 / 32 / 32) zones)
+      → sum (take (p / 32 / 32 / 32 * 32) regions) + r ≡ sum (take (p / 32 / 32) regions)
       → sum (take (p / 32 / 32 * 32) groups) + g ≡ sum (take (p / 32) groups) → sum (take (p / 32 * 32) counts) + c ≡ sum (take p counts)
       → z + r + g + c ≡ sum (take p counts)
   sum_heights p z r g c one two three four =
@@ -62,7 +63,8 @@ module _ {counts groups regions zones : List ℕ} {total : ℕ} (tower : IsTower
     total_ge = let all = tower.all in omega (arith, get_or-le-sum_by (λ (n : ℕ). n) counts p 0 lt)
 
     -- all of them change by the same
-    pub tower_set : (c g r z c' g' r' z' t' : ℕ) → c ≡ get_or counts p c → g ≡ get_or groups (p / 32) g → r ≡ get_or regions (p / 32 / 32) r → z ≡ get_or zones (p / 32 / 32 / 32) z
+    pub tower_set : (c g r z c' g' r' z' t' : ℕ) → c ≡ get_or counts p c → g ≡ get_or groups (p / 32) g → r ≡ get_or regions (p / 32 / 32) r
+        → z ≡ get_or zones (p / 32 / 32 / 32) z
         → g' + c ≡ g + c' → r' + c ≡ r + c' → z' + c ≡ z + c' → t' + c ≡ total + c' → t' < 2 ^ 32
         → IsTower (set counts p c') (set groups (p / 32) g') (set regions (p / 32 / 32) r') (set zones (p / 32 / 32 / 32) z') t'
     tower_set c g r z c' g' r' z' t' read-c read-g read-r read-z eg er ez et few =

@@ -28,24 +28,34 @@ module _ (words : List ℕ) (p : ℕ) (within : p / 64 < length words) where
       ⊎_elim
       (λ (same : q / 64 ≡ p / 64).
       let bit : q % 64 ≢ p % 64 = λ e. ne (omega arith) in
-      rw same (ap (λ (x : ℕ). has_bit x (q % 64)) (get_or-set_same words (p / 64) (turned w (p % 64)) 0 within) ∙ turned_other w (p % 64) (q % 64) bit))
+      rw same
+      (ap (λ (x : ℕ). has_bit x (q % 64)) (get_or-set_same words (p / 64) (turned w (p % 64)) 0 within) ∙ turned_other w (p % 64) (q % 64) bit))
       (λ (other : q / 64 ≡ p / 64 → ⊥). ap (λ (x : ℕ). has_bit x (q % 64)) (get_or-set_other words (p / 64) (q / 64) (turned w (p % 64)) 0 other))
       (cases_eq (q / 64) (p / 64))
 
   pub flags-turned : (n : ℕ) → p < n → flags_of (turned_in words p) n ≡ set (flags_of words n) p (not (flag_at words p))
   unfolding flags_of
-  flags-turned n lt = sym (fill_by_all (flag_at (turned_in words p)) (set (flags_of words n) p (not (flag_at words p))) n false (length-set (flags_of words n) p (not (flag_at words p)) ∙ length-flags_of words n) each)
+  flags-turned n lt =
+      sym
+      (fill_by_all (flag_at (turned_in words p)) (set (flags_of words n) p (not (flag_at words p))) n false
+      (length-set (flags_of words n) p (not (flag_at words p)) ∙ length-flags_of words n) each)
     where
       each : (q : ℕ) → q < n → get_or (set (flags_of words n) p (not (flag_at words p))) q false ≡ flag_at (turned_in words p) q
       each q inside = ⊎_elim
-          (λ (same : q ≡ p). rw same (get_or-set_same (flags_of words n) p (not (flag_at words p)) false (let len = length-flags_of words n in omega arith) ∙ sym flag_same))
-          (λ (other : q ≡ p → ⊥). get_or-set_other (flags_of words n) p q (not (flag_at words p)) false other ∙ at-flags_of words n q inside ∙ sym (flag_other q other))
+          (λ (same : q ≡ p).
+          rw same
+          (get_or-set_same (flags_of words n) p (not (flag_at words p)) false (let len = length-flags_of words n in omega arith)
+          ∙ sym flag_same))
+          (λ (other : q ≡ p → ⊥).
+          get_or-set_other (flags_of words n) p q (not (flag_at words p)) false other ∙ at-flags_of words n q inside ∙ sym (flag_other q other))
           (cases_eq q p)
 
   -- how many flags are raised then
-  count-turned : (n : ℕ) → p < n → count (flags_of (turned_in words p) n) + cond (flag_at words p) 1 0 ≡ count (flags_of words n) + cond (not (flag_at words p)) 1 0
+  count-turned : (n : ℕ) → p < n
+      → count (flags_of (turned_in words p) n) + cond (flag_at words p) 1 0 ≡ count (flags_of words n) + cond (not (flag_at words p)) 1 0
   count-turned n lt =
-      let one = sum_by-set (λ (b : Bool). cond b 1 0) (flags_of words n) p (not (flag_at words p)) false (let len = length-flags_of words n in omega arith) in
+      let one = sum_by-set (λ (b : Bool). cond b 1 0) (flags_of words n) p (not (flag_at words p)) false
+      (let len = length-flags_of words n in omega arith) in
       ap (λ (fs : List Bool). count fs + cond (flag_at words p) 1 0) (flags-turned n lt)
       ∙ ap (λ (b : Bool). count (set (flags_of words n) p (not (flag_at words p))) + cond b 1 0) (sym (at-flags_of words n p lt)) ∙ one
 

@@ -8,7 +8,7 @@ use Rattle.ghs_graph.specs.Links.{AreAmong}
 use Rattle.ghs_graph.specs.Ports.{degree}
 use Rattle.ghs_graph.specs.declared.layout.Places.{Places}
 use Rattle.ghs_graph.specs.Layout.{AreDegrees, AreStarts, AreBlocks, ArePlaced}
-use Rattle.ghs_graph.proofs.lemmas.Keys.{no_key}
+use Rattle.ghs_graph.specs.Key.{no_key}
 use Rattle.ghs_graph.proofs.lemmas.Degrees.{one_counted}
 use Rattle.ghs_graph.proofs.lemmas.Ports.{among_at}
 

@@ -6,11 +6,10 @@ use Rattle.std.proofs.lemmas.Option.{get_or_from_slice_get}
 use Rattle.ghs_graph.specs.declared.key.Key.{Key}
 use Rattle.ghs_graph.specs.declared.port.Port.{Port}
 use Rattle.ghs_graph.specs.declared.layout.Places.{Places}
-use Rattle.ghs_graph.specs.Key.{ends_at}
+use Rattle.ghs_graph.specs.Key.{ends_at, no_key}
 use Rattle.ghs_graph.specs.Links.{AreAmong, IsRising}
-use Rattle.ghs_graph.specs.Ports.{degree, far_end, port_on, place_of, ports_of}
-use Rattle.ghs_graph.specs.Layout.{AreBlocks, ArePlaced, IsRight, AreRightBelow, AreLaid, no_port}
-use Rattle.ghs_graph.proofs.lemmas.Keys.{no_key}
+use Rattle.ghs_graph.specs.Ports.{degree, far_end, port_on, port_number, ports_of, no_port}
+use Rattle.ghs_graph.specs.Layout.{AreBlocks, ArePlaced, IsRight, AreRightBelow, AreLaid}
 use Rattle.ghs_graph.proofs.lemmas.Ports.{length-ports_of, place_at, port_at, ends_a, ends_b, ends_not, far_end_a, far_end_b, among_at}
 use Rattle.ghs_graph.proofs.lemmas.Degrees.{degree_ends, degree_stays, degree_none, degree_above, degree_up}
 use Rattle.ghs_graph.proofs.Blocks.{blocks_up, places_apart, place_in}
@@ -59,7 +58,7 @@ an_end n ks i d u place far far_place rising lt le ends ef ep eq =
       inside = omega (arith, more, ep, degree_up ks (i + 1) u (omega arith));
       port =
           rw ep (get_or_from_slice_get (ports_of ks u) (degree (take i ks) u) (port_on ks u (get_or ks i d)) no_port (port_at ks u i d lt ends)
-          ∙ ap (λ f. let p : Port = record { key = get_or ks i d; far = f; far_port = place_of ks f (get_or ks i d) } in p) ef
+          ∙ ap (λ f. let p : Port = record { key = get_or ks i d; far = f; far_port = port_number ks f (get_or ks i d) } in p) ef
           ∙ ap (λ m. let p : Port = record { key = get_or ks i d; far = far; far_port = m } in p) (place_at ks far i d rising lt ∙ sym eq));
     }
 

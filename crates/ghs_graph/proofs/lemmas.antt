@@ -5,6 +5,7 @@ pub mod Joining
 pub mod Ports
 pub mod Degrees
 pub mod Components
+pub mod Trees
 pub mod Forests
 pub mod Computing
 pub mod Logs

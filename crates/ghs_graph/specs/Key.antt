@@ -11,6 +11,10 @@ key_lt j k = nat_lt j.weight k.weight || ((j.weight == k.weight) && (nat_lt j.a 
 abbrev pub key_of : Triple → Key
 key_of t = record { weight = t.0; a = t.1; b = t.2 }
 
+-- stands where a lookup in a list of keys wants a default
+abbrev pub no_key : Key
+no_key = record { weight = 0; a = 0; b = 0 }
+
 -- the link has the node as an end
 abbrev pub ends_at : ℕ → Key → Bool
 ends_at v k = (k.a == v) || (k.b == v)

@@ -7,7 +7,7 @@ use Rattle.ghs_graph.specs.declared.key.Key.{Key}
 use Rattle.ghs_graph.specs.declared.port.Port.{Port}
 use Rattle.ghs_graph.specs.Key.{key_lt}
 use Rattle.ghs_graph.specs.Links.{Joined, links, IsRising, IsTree, AreLinksOf, JoinAll, total_weight}
-use Rattle.ghs_graph.specs.Ports.{place_of, port_on, ports_of, HasPort}
+use Rattle.ghs_graph.specs.Ports.{port_number, port_on, ports_of, HasPort}
 use Rattle.ghs_graph.specs.Graph.{Shape, IsGraph, nodes_of}
 use Rattle.ghs_graph.specs.Components.{IsRoot, HasComponents}
 use Rattle.ghs_graph.specs.Bound.{IsFloorLog2, IsBound}
@@ -35,9 +35,9 @@ PortsRise = (g : Shape) → IsGraph g → (v : ℕ) → AllPairs (λ p q. key_lt
 
 -- a link has one port at each of its ends, and no other
 pub record HasTwoPorts (ks : List Key) (k : Key) : Type 0 where
-  pub at_a : HasPort ks k.a (place_of ks k.a k) (port_on ks k.a k)
-  pub at_b : HasPort ks k.b (place_of ks k.b k) (port_on ks k.b k)
-  pub only : (v i : ℕ) (p : Port) → HasPort ks v i p → p.key ≡ k → ((v ≡ k.a) × (i ≡ place_of ks k.a k)) ⊎ ((v ≡ k.b) × (i ≡ place_of ks k.b k))
+  pub at_a : HasPort ks k.a (port_number ks k.a k) (port_on ks k.a k)
+  pub at_b : HasPort ks k.b (port_number ks k.b k) (port_on ks k.b k)
+  pub only : (v i : ℕ) (p : Port) → HasPort ks v i p → p.key ≡ k → ((v ≡ k.a) × (i ≡ port_number ks k.a k)) ⊎ ((v ≡ k.b) × (i ≡ port_number ks k.b k))
 
 abbrev pub LinksHaveTwoPorts : Type 0
 LinksHaveTwoPorts = (g : Shape) → IsGraph g → (k : Key) → Contains g.keys k → HasTwoPorts g.keys k

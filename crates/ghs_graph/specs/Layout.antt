@@ -3,7 +3,8 @@ use Rattle.std.specs.Prelude.{◌≡◌, ℕ, ◌+◌, ◌*◌, ◌≤◌, ◌<�
 use Rattle.ghs_graph.specs.declared.key.Key.{Key}
 use Rattle.ghs_graph.specs.declared.port.Port.{Port}
 use Rattle.ghs_graph.specs.declared.layout.Places.{Places}
-use Rattle.ghs_graph.specs.Ports.{degree, ports_of}
+use Rattle.ghs_graph.specs.Key.{no_key}
+use Rattle.ghs_graph.specs.Ports.{no_port, degree, ports_of}
 
 -- how many of the links end at each number up to n
 pub record AreDegrees (n : ℕ) (ks : List Key) (cs : List ℕ) : Type 0 where
@@ -22,10 +23,6 @@ pub record AreBlocks (n : ℕ) (ks : List Key) (ss : List ℕ) : Type 0 where
   pub next : (v : ℕ) → v ≤ n → slice_index ss (v + 1) ≡ slice_index ss v + degree ks v
   pub total : slice_index ss (n + 1) ≡ 2 * length ks
 
--- stands where a list lookup wants a default
-abbrev pub no_port : Port
-no_port = record { key = record { weight = 0; a = 0; b = 0 }; far = 0; far_port = 0 }
-
 -- the port of v at place j stands where it belongs
 abbrev pub IsRight : List Key → List ℕ → List Port → ℕ → ℕ → Type 0
 IsRight ks ss ps v j = slice_index_or ps (slice_index ss v + j) no_port ≡ slice_index_or (ports_of ks v) j no_port
@@ -37,8 +34,8 @@ AreRightBelow m ks ss ps = (v j : ℕ) → v < m → j < degree ks v → IsRight
 -- the first i links are ports at these places of their ends
 pub record ArePlaced (ks : List Key) (i : ℕ) (qs : List Places) : Type 0 where
   pub count : length qs ≡ i
-  pub at_a : (m : ℕ) → m < i → (slice_index_or qs m (record { a = 0; b = 0 })).a ≡ degree (take m ks) (slice_index_or ks m (record { weight = 0; a = 0; b = 0 })).a
-  pub at_b : (m : ℕ) → m < i → (slice_index_or qs m (record { a = 0; b = 0 })).b ≡ degree (take m ks) (slice_index_or ks m (record { weight = 0; a = 0; b = 0 })).b
+  pub at_a : (m : ℕ) → m < i → (slice_index_or qs m (record { a = 0; b = 0 })).a ≡ degree (take m ks) (slice_index_or ks m no_key).a
+  pub at_b : (m : ℕ) → m < i → (slice_index_or qs m (record { a = 0; b = 0 })).b ≡ degree (take m ks) (slice_index_or ks m no_key).b
 
 -- each node's ports stand in its block
 pub record AreLaid (n : ℕ) (ks : List Key) (ss : List ℕ) (ps : List Port) : Type 0 where

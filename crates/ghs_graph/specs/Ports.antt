@@ -2,7 +2,11 @@
 use Rattle.std.specs.Prelude.{◌≡◌, ℕ, ◌&&◌, ◌==◌, Some, List, filter, map, count_by, slice_get, if◌then◌else◌}
 use Rattle.ghs_graph.specs.declared.key.Key.{Key}
 use Rattle.ghs_graph.specs.declared.port.Port.{Port}
-use Rattle.ghs_graph.specs.Key.{key_lt, ends_at}
+use Rattle.ghs_graph.specs.Key.{no_key, key_lt, ends_at}
+
+-- stands where a lookup in a list of ports wants a default
+abbrev pub no_port : Port
+no_port = record { key = no_key; far = 0; far_port = 0 }
 
 -- the keys that have the node as an end
 abbrev pub keys_at : List Key → ℕ → List Key
@@ -12,9 +16,9 @@ keys_at ks v = filter (ends_at v) ks
 unfoldable pub degree : List Key → ℕ → ℕ
 degree ks v = count_by (ends_at v) ks
 
--- the place of a key among those of a node: how many of them are less
-abbrev pub place_of : List Key → ℕ → Key → ℕ
-place_of ks v k = count_by (λ j. ends_at v j && key_lt j k) ks
+-- the number of a node's port on a link: how many of its keys are less
+abbrev pub port_number : List Key → ℕ → Key → ℕ
+port_number ks v k = count_by (λ j. ends_at v j && key_lt j k) ks
 
 -- the end that isn't v
 abbrev pub far_end : ℕ → Key → ℕ
@@ -22,7 +26,7 @@ far_end v k = if k.a == v then k.b else k.a
 
 -- the port of node v on a link
 abbrev pub port_on : List Key → ℕ → Key → Port
-port_on ks v k = record { key = k; far = far_end v k; far_port = place_of ks (far_end v k) k }
+port_on ks v k = record { key = k; far = far_end v k; far_port = port_number ks (far_end v k) k }
 
 -- the ports of node v, in key order
 unfoldable pub ports_of : List Key → ℕ → List Port

@@ -98,7 +98,7 @@ impl Classes {
         }
     }
 
-    // The class with the label `from` takes the label `to`, and its chain goes in behind the first number of the other.
+    /// The class with the label `from` takes the label `to`, and its chain goes in behind the first number of the other.
     fn merge(&mut self, from: u32, to: u32)
         requires from { from < length self.old }
         requires to { to < length self.old }
@@ -115,7 +115,7 @@ impl Classes {
     }
 }
 
-// The first `count` numbers of a chain take the label `to`. Answers the last of them.
+/// The first `count` numbers of a chain take the label `to`. Answers the last of them.
 fn relabel(labels: &mut Vec<u32>, next: &[u32], from: u32, count: u32, to: u32) -> u32
     requires next { length next.now ≡ length labels.old.items }
     requires inside { (k : ℕ) → k < count → after next.now from k < length labels.old.items }

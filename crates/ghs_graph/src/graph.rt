@@ -12,6 +12,7 @@ use crate::port::Port;
 use crate::spanning::span;
 use crate::triples::keys_of;
 use ghs_gr::raw_graph::RawGraph;
+pub use ghs_gr::raw_graph::{ARC_LIMIT, NODE_LIMIT};
 use std::alloc::{AllocError, Global};
 use std::marker::Model;
 

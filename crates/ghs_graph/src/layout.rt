@@ -5,6 +5,7 @@ ghost use Rattle.ghs_graph.specs.Layout.{AreDegrees, AreStarts, AreBlocks, ArePl
 
 use crate::key::Key;
 use crate::port::Port;
+use ghs_gr::raw_graph::{ARC_LIMIT, NODE_LIMIT};
 use std::alloc::{AllocError, Global};
 
 /// The ports, and where the block of each number from 0 to one above the nodes begins among them.
@@ -21,16 +22,16 @@ pub struct Places {
     pub b: u32,
 }
 
-// How many nodes' ports are written in one pass over the links. Links come in key order, so their ports lie far apart:
-// in a large graph, passes that each write to a part of them are several times as fast as one that writes to all.
+/// How many nodes' ports are written in one pass over the links. Links come in key order, so their ports lie far apart:
+/// in a large graph, passes that each write to a part of them are several times as fast as one that writes to all.
 const NODES_OF_PASS: u32 = 131_072;
 
 /// Lays out the ports of all nodes.
 pub fn lay(alloc: Global, nodes: u32, keys: &[Key]) -> Result<Layout, AllocError>
     requires among { AreAmong nodes keys.now }
     requires rising { IsRising keys.now }
-    requires nodes { nodes ≤ 1048576 }
-    requires links { length keys.now ≤ 8388608 }
+    requires nodes { nodes ≤ NODE_LIMIT }
+    requires links { length keys.now ≤ ARC_LIMIT }
     ensures { IfOk result (λ l. AreLaid nodes keys.now l.starts.items l.ports.items) }
 {
     let mut counts = vec![in alloc; 0u32; nodes as usize + 1]?;
@@ -52,7 +53,7 @@ pub fn block<'a>(ports: &'a [Port], starts: &[u32], v: u32) -> &'a [Port]
     &ports[from as usize..to as usize]
 }
 
-// Which ports the links are, and how many each node has. No link ends at 0.
+/// Which ports the links are, and how many each node has. No link ends at 0.
 fn places_of(
     alloc: Global,
     nodes: u32,
@@ -60,8 +61,8 @@ fn places_of(
     counts: &mut Vec<u32>,
 ) -> Result<Vec<Places>, AllocError>
     requires among { AreAmong nodes keys.now }
-    requires nodes { nodes ≤ 1048576 }
-    requires links { length keys.now ≤ 8388608 }
+    requires nodes { nodes ≤ NODE_LIMIT }
+    requires links { length keys.now ≤ ARC_LIMIT }
     requires none { AreDegrees nodes [] counts.old.items }
     ensures places { IfOk result (λ q. ArePlaced keys.now (length keys.now) q.items) }
     ensures counts { OnOk result (AreDegrees nodes keys.now counts.new.items) }
@@ -79,7 +80,7 @@ fn places_of(
     Ok(places)
 }
 
-// Where each block begins, and where the last one ends.
+/// Where each block begins, and where the last one ends.
 fn starts_of(alloc: Global, counts: &[u32]) -> Result<Vec<u32>, AllocError>
     requires short { length counts.now < 2 ^ 32 }
     requires fits { sum counts.now < 2 ^ 32 }
@@ -95,7 +96,7 @@ fn starts_of(alloc: Global, counts: &[u32]) -> Result<Vec<u32>, AllocError>
     Ok(starts)
 }
 
-// The ports of all nodes, each node's in its block.
+/// The ports of all nodes, each node's in its block.
 fn fill(
     alloc: Global,
     nodes: u32,
@@ -105,8 +106,8 @@ fn fill(
 ) -> Result<Vec<Port>, AllocError>
     requires among { AreAmong nodes keys.now }
     requires rising { IsRising keys.now }
-    requires nodes { nodes ≤ 1048576 }
-    requires links { length keys.now ≤ 8388608 }
+    requires nodes { nodes ≤ NODE_LIMIT }
+    requires links { length keys.now ≤ ARC_LIMIT }
     requires places { ArePlaced keys.now (length keys.now) places.now }
     requires blocks { AreBlocks nodes keys.now starts.now }
     ensures { IfOk result (λ p. AreLaid nodes keys.now starts.now p.items) }
@@ -128,7 +129,7 @@ fn fill(
     Ok(ports)
 }
 
-// The ports of `NODES_OF_PASS` numbers, from one number on.
+/// The ports of `NODES_OF_PASS` numbers, from one number on.
 fn fill_from(
     nodes: u32,
     keys: &[Key],
@@ -139,9 +140,9 @@ fn fill_from(
 )
     requires among { AreAmong nodes keys.now }
     requires rising { IsRising keys.now }
-    requires nodes { nodes ≤ 1048576 }
-    requires links { length keys.now ≤ 8388608 }
-    requires from { from ≤ 1048576 }
+    requires nodes { nodes ≤ NODE_LIMIT }
+    requires links { length keys.now ≤ ARC_LIMIT }
+    requires from { from ≤ NODE_LIMIT }
     requires places { ArePlaced keys.now (length keys.now) places.now }
     requires blocks { AreBlocks nodes keys.now starts.now }
     requires room { length ports.old.items ≡ slice_index starts.now (nodes + 1) }

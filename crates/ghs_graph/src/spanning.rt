@@ -8,7 +8,7 @@ ghost use Rattle.ghs_graph.specs.Spanning.{AreTold, IsSpanned};
 use crate::classes::Classes;
 use crate::key::Key;
 use crate::triples::key_of;
-use ghs_gr::raw_graph::RawGraph;
+use ghs_gr::raw_graph::{NODE_LIMIT, RawGraph};
 use std::alloc::{AllocError, Global};
 
 /// The classes of nodes that links join, and the links' minimum spanning forest. 0 is in a class of its own.
@@ -19,9 +19,9 @@ pub struct Spanning {
 }
 
 impl Spanning {
-    // No links yet, and room for the forest of so many.
+    /// No links yet, and room for the forest of so many.
     fn fresh(alloc: Global, nodes: u32, links: usize) -> Result<Spanning, AllocError>
-        requires { nodes ≤ 1048576 }
+        requires { nodes ≤ NODE_LIMIT }
         ensures { IfOk result (λ s. IsSpanned nodes [] s.classes s.tree.items) }
     {
         let classes = Classes::fresh(alloc, nodes + 1)?;
@@ -29,7 +29,7 @@ impl Spanning {
         Ok(Spanning { classes, tree })
     }
 
-    // One more link, whose key is above those of all before: the forest takes it if it joins two classes.
+    /// One more link, whose key is above those of all before: the forest takes it if it joins two classes.
     #[inline]
     fn take(&mut self, key: Key) -> Result<(), AllocError>
         requires a { key.a < length self.old.classes }
@@ -48,7 +48,7 @@ impl Spanning {
 pub fn span(alloc: Global, nodes: u32, keys: &[Key]) -> Result<Spanning, AllocError>
     requires rising { IsRising keys.now }
     requires among { AreAmong nodes keys.now }
-    requires nodes { nodes ≤ 1048576 }
+    requires nodes { nodes ≤ NODE_LIMIT }
     ensures count { IfOk result (λ s. length s.classes ≡ nodes + 1) }
     ensures told { IfOk result (λ s. AreTold s.classes keys.now) }
     ensures tree { IfOk result (λ s. IsTree keys.now s.tree.items) }

@@ -6,8 +6,7 @@ use Rattle.std.proofs.lemmas.List.Sums.{sum_by-cons}
 use Rattle.std.proofs.lemmas.Option.{slice_get_within, slice_get-get_or}
 use Rattle.std.proofs.Math.Seq.{take-append_seam}
 use Rattle.ghs_graph.specs.Graph.{Shape}
-use Rattle.ghs_graph.specs.Ports.{ports_of, HasPort}
-use Rattle.ghs_graph.specs.Layout.{no_port}
+use Rattle.ghs_graph.specs.Ports.{ports_of, HasPort, no_port}
 use Rattle.ghs_graph.proofs.lemmas.Ports.{ports_end_elsewhere, ports_lead_back}
 use Rattle.ghs_links.specs.Queue.{QueueState, no_queue}
 use Rattle.ghs_links.specs.Links.{LinksState, HasQueue, IsPort, IsFor, KeepsLists, port_of, start_of}

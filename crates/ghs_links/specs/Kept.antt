@@ -3,8 +3,7 @@ use Rattle.std.specs.Prelude.{◌≡◌, ℕ, ◌+◌, ◌*◌, ◌<◌, ◌≤�
 use Rattle.std.specs.List.{count_by}
 use Rattle.ghs_graph.specs.declared.port.Port.{Port}
 use Rattle.ghs_graph.specs.Graph.{Shape}
-use Rattle.ghs_graph.specs.Ports.{ports_of}
-use Rattle.ghs_graph.specs.Layout.{no_port}
+use Rattle.ghs_graph.specs.Ports.{ports_of, no_port}
 use Rattle.ghs_node.specs.Words.{Outgoing}
 use Rattle.ghs_links.specs.Queue.{QueueState, no_queue}
 use Rattle.ghs_links.specs.Links.{LinksState, start_of, total_of}

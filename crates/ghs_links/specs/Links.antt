@@ -3,8 +3,7 @@ use Rattle.std.specs.Prelude.{◌≡◌, ℕ, ◌+◌, ◌<◌, ◌≤◌, ◌==
 use Rattle.std.specs.List.{All, sum_by, count_by}
 use Rattle.ghs_graph.specs.declared.port.Port.{Port}
 use Rattle.ghs_graph.specs.Graph.{Shape, IsGraph}
-use Rattle.ghs_graph.specs.Ports.{ports_of}
-use Rattle.ghs_graph.specs.Layout.{no_port}
+use Rattle.ghs_graph.specs.Ports.{ports_of, no_port}
 use Rattle.ghs_node.specs.declared.message.Message.{Message}
 use Rattle.ghs_node.specs.Words.{Outgoing}
 use Rattle.ghs_links.specs.Queue.{QueueState, no_queue}

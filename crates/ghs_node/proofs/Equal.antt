@@ -13,12 +13,10 @@ use Rattle.ghs_node.specs.declared.mark.Mark.{Mark}
 use Rattle.ghs_node.specs.declared.mark.Mark.TheVariants.{Basic, Branch, Rejected}
 use Rattle.ghs_node.specs.declared.message.Phase.{Phase}
 use Rattle.ghs_node.specs.declared.message.Phase.TheVariants.{Sleeping, Find, Found}
+use Rattle.ghs_node.specs.Words.{key_eq}
 use Rattle.ghs_node.specs.contracts.mark.Mark as marks
 use Rattle.ghs_node.specs.contracts.message.Phase as phases
 use denote.Enum.Bare.{sameb}
-
-abbrev key_eq : Key → Key → Bool
-key_eq k l = (k.weight == l.weight) && ((k.a == l.a) && (k.b == l.b))
 
 pub key_decides : (k l : Key) → Decides (key_eq k l) (k ≡ l)
 key_decides k l = (λ t. equal (and_parts (k.weight == l.weight) ((k.a == l.a) && (k.b == l.b)) t), λ e. let p = ap (λ (k : Key). k.weight) e in let q = ap (λ (k : Key). k.a) e in let r = ap (λ (k : Key). k.b) e in rw (eq-eqb k.weight l.weight p, eq-eqb k.a l.a q, eq-eqb k.b l.b r) refl)

@@ -1,13 +1,14 @@
+pub mod lemmas
 mod Examples
-pub mod Tests
-pub mod Inversion
-pub mod Ruleless
-pub mod Computed
-pub mod Marks
-pub mod Kept
-pub mod Outgoing
-pub mod Whole
-pub mod Equal
-pub mod Branches
-pub mod Going
-pub mod Answering
+mod Tests
+mod Inversion
+mod Ruleless
+mod Computed
+mod Marks
+mod Kept
+mod Outgoing
+mod Whole
+mod Equal
+mod Branches
+mod Going
+mod Answering

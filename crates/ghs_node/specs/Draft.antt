@@ -1,5 +1,5 @@
 -- A reaction that is being worked out.
-use Rattle.std.specs.Prelude.{◌≡◌, ℕ, ◌++◌, ◌∷◌, [], Option, Some, None, Result, Ok, Err, IsSome, if◌then◌else◌}
+use Rattle.std.specs.Prelude.{◌≡◌, ℕ, ◌<◌, ◌++◌, ◌∷◌, [], length, Option, Some, None, Result, Ok, Err, if◌then◌else◌}
 use Rattle.ghs_node.specs.declared.mark.Mark.{Mark}
 use Rattle.ghs_node.specs.declared.mark.Mark.TheVariants.{Branch}
 use Rattle.ghs_node.specs.declared.message.Message.TheVariants.{Connect}
@@ -37,9 +37,14 @@ abbrev pub goes_on : Draft → Option Delta → Option Delta
 goes_on d None = None
 goes_on d (Some e) = Some (record e { mark = later d.mark e.mark; sends = d.sends ++ e.sends })
 
--- the answer to work at a port of the node: the reaction, and where there is one, want of memory at most
+-- a reaction by which something is sent
+abbrev pub SendsSome : Option Delta → Type 0
+SendsSome None = ⊥
+SendsSome (Some d) = 0 < length d.sends
+
+-- the answer to work at a port of the node: the reaction, and want of memory only where something is sent
 abbrev pub Answers : Result Delta NodeFault → Option Delta → Type 0
 Answers (Ok d) o = o ≡ Some d
 Answers (Err Unforeseen) o = o ≡ None
-Answers (Err Memory) o = IsSome o
+Answers (Err Memory) o = SendsSome o
 Answers (Err NoPort) o = ⊥

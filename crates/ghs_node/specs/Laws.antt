@@ -1,6 +1,7 @@
 -- What holds of the table of reactions, as one fact a law.
 use Rattle.std.specs.Prelude.{◌≡◌, ◌≢◌, ℕ, ◌<◌, ◌≤◌, ◌⊎◌, ◌↔◌, ◌||◌, Option, Some, None}
 use Rattle.std.specs.List.{All}
+use Rattle.ghs_node.specs.declared.level.TheConstants.{TOP_LEVEL}
 use Rattle.ghs_node.specs.declared.mark.Mark.{Mark}
 use Rattle.ghs_node.specs.declared.mark.Mark.TheVariants.{Basic, Branch, Rejected}
 use Rattle.ghs_node.specs.declared.message.Phase.TheVariants.{Sleeping}
@@ -16,9 +17,9 @@ use Rattle.ghs_node.specs.NoRule.{NoRule}
 
 -- a message's level is a level
 abbrev pub HasLevel : Message → Type 0
-HasLevel (Connect l) = l ≤ 20
-HasLevel (Initiate l f s) = l ≤ 20
-HasLevel (Test l f) = l ≤ 20
+HasLevel (Connect l) = l ≤ TOP_LEVEL
+HasLevel (Initiate l f s) = l ≤ TOP_LEVEL
+HasLevel (Test l f) = l ≤ TOP_LEVEL
 HasLevel _ = Unit {0}
 
 abbrev pub WorkHasLevel : Work → Type 0

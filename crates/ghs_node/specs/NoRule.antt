@@ -1,6 +1,7 @@
 -- The pairs of state and work for which there is no rule.
 use Rattle.std.specs.Prelude.{◌≡◌, ◌≢◌, ℕ, ◌<◌, ◌≤◌, Option, Some, None}
 use Rattle.ghs_graph.specs.declared.key.Key.{Key}
+use Rattle.ghs_node.specs.declared.level.TheConstants.{TOP_LEVEL}
 use Rattle.ghs_node.specs.declared.mark.Mark.TheVariants.{Basic}
 use Rattle.ghs_node.specs.declared.message.Phase.{Phase}
 use Rattle.ghs_node.specs.declared.message.Phase.TheVariants.{Sleeping, Find}
@@ -28,6 +29,6 @@ pub data NoRule (n : NodeState) : Work → Type 0 where
   Reject_untested : {j : ℕ} → n.head.phase ≢ Sleeping → n.head.probe ≢ Some j → NoRule n (Deliver j Reject)
   Report_unowed : {j : ℕ} {w : Option Key} → n.head.phase ≢ Sleeping → n.head.in_branch ≢ Some j → n.head.find_count ≡ 0 → NoRule n (Deliver j (Report w))
   Root_without_best : {j : ℕ} → n.head.phase ≢ Sleeping → n.head.best ≡ None → NoRule n (Deliver j ChangeRoot)
-  Merge_above_levels : {j l : ℕ} → n.head.phase ≢ Sleeping → n.head.level ≡ 20 → 20 ≤ l → mark_at n j ≢ Basic → NoRule n (Deliver j (Connect l))
+  Merge_above_levels : {j l : ℕ} → n.head.phase ≢ Sleeping → n.head.level ≡ TOP_LEVEL → TOP_LEVEL ≤ l → mark_at n j ≢ Basic → NoRule n (Deliver j (Connect l))
   Absorbs_too_many : {j l : ℕ} → n.head.phase ≢ Sleeping → l < n.head.level → degree n < (absorbs n j).head.find_count → NoRule n (Deliver j (Connect l))
   Searches_too_many : {j l : ℕ} {f : Key} → n.head.phase ≢ Sleeping → n.head.level < l → degree n < (searching n j l f).find_count → NoRule n (Deliver j (Initiate l f Find))

@@ -3,6 +3,9 @@ use Rattle.std.specs.Prelude.{◌≡◌, ◌≢◌, ℕ, ◌<◌, ◌≤◌, ◌
 use Rattle.std.specs.List.{All}
 use Rattle.ghs_graph.specs.declared.key.Key.{Key}
 use Rattle.ghs_graph.specs.declared.port.Port.{Port}
+use Rattle.ghs_graph.specs.Key.{no_key}
+use Rattle.ghs_graph.specs.Graph.{ARC_LIMIT}
+use Rattle.ghs_node.specs.declared.level.TheConstants.{TOP_LEVEL}
 use Rattle.ghs_node.specs.declared.head.Head.{Head}
 use Rattle.ghs_node.specs.declared.mark.Mark.{Mark}
 use Rattle.ghs_node.specs.declared.mark.Mark.TheVariants.{Basic, Rejected}
@@ -14,9 +17,6 @@ pub record NodeState : Type 0 where
   pub keys : List Key
   pub marks : List Mark
   pub head : Head
-
-abbrev pub no_key : Key
-no_key = record { weight = 0; a = 0; b = 0 }
 
 -- the key of a port
 abbrev pub key_at : NodeState → ℕ → Key
@@ -55,8 +55,8 @@ BestIsBelow d (Some b) = b.0 < d
 -- what every node keeps
 pub record IsNode (n : NodeState) : Type 0 where
   pub ports : length n.marks ≡ length n.keys
-  pub few : length n.marks ≤ 8388608
-  pub level : n.head.level ≤ 20
+  pub few : length n.marks ≤ ARC_LIMIT
+  pub level : n.head.level ≤ TOP_LEVEL
   -- before the first Initiate there is no name, no way to the core, and nothing to search for
   pub unnamed : (n.head.in_branch ≡ None) ↔ (n.head.name ≡ None)
   pub new : n.head.name ≡ None → (n.head.level ≡ 0) × (n.head.find_count ≡ 0) × (n.head.best ≡ None) × (n.head.probe ≡ None) × (n.head.phase ≢ Find)

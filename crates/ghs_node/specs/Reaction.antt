@@ -1,6 +1,7 @@
 -- One node's reaction: a table, as a function of the node's state and its work.
 use Rattle.std.specs.Prelude.{◌≡◌, ℕ, ◌+◌, ◌-◌, ◌<◌, true, false, not, ◌&&◌, ◌||◌, ◌==◌, nat_lt, nat_le, Option, Some, None, List, [], ◌∷◌, ◌++◌, length, slice_set, if◌then◌else◌, unwrap_or}
 use Rattle.ghs_graph.specs.declared.key.Key.{Key}
+use Rattle.ghs_node.specs.declared.level.TheConstants.{TOP_LEVEL}
 use Rattle.ghs_node.specs.declared.head.Head.{Head}
 use Rattle.ghs_node.specs.declared.mark.Mark.{Mark}
 use Rattle.ghs_node.specs.declared.mark.Mark.TheVariants.{Basic, Branch, Rejected}
@@ -13,7 +14,8 @@ use Rattle.ghs_node.specs.declared.delta.Delta.{Delta}
 use Rattle.ghs_node.specs.declared.work.Work.{Work}
 use Rattle.ghs_node.specs.declared.work.Work.TheVariants.{Wake, Deliver}
 use Rattle.ghs_node.specs.Words.{Outgoing, Best, below, is_name, is_basic, is_sleeping, is_find, is_at, is_missing, is_zero, least_basic, on_branches, best_key, better, find_more}
-use Rattle.ghs_node.specs.NodeState.{NodeState, no_key, key_at, mark_at, degree, with_mark}
+use Rattle.ghs_node.specs.NodeState.{NodeState, key_at, mark_at, degree, with_mark}
+use Rattle.ghs_graph.specs.Key.{no_key}
 
 -- Where a name or a way to the core is missing, these stand in for it; no node that keeps what nodes keep meets them.
 abbrev pub name_of : Head → Key
@@ -145,7 +147,7 @@ awake n j (Connect l) =
     then within_degree n (absorbs n j)
     else (if is_basic (mark_at n j)
     then Some (requeues n.head)
-    else (if nat_lt n.head.level 20
+    else (if nat_lt n.head.level TOP_LEVEL
     then Some (merges n j)
     else None))
 awake n j (Initiate l f s) =
@@ -198,12 +200,12 @@ at_wake n [] = wakes_alone n
 at_wake n (m ∷ ms) = wakes n
 
 -- the reaction of a sleeping node to a message: it wakes, and then does this
-abbrev pub after_wake : Delta → Delta
-after_wake d = record d { mark = Some (0, Branch); sends = (0, Connect 0) ∷ d.sends }
+abbrev pub once_woken : Delta → Delta
+once_woken d = record d { mark = Some (0, Branch); sends = (0, Connect 0) ∷ d.sends }
 
 abbrev pub asleep : NodeState → ℕ → Message → Option Delta
-asleep n j (Connect l) = if j == 0 then Some (after_wake (does (woken n).head None ((0, Initiate 1 (key_at n 0) Find) ∷ []))) else Some (after_wake (requeues (woken n).head))
-asleep n j (Test l f) = if l == 0 then Some (after_wake (does (woken n).head None ((j, Accept) ∷ []))) else Some (after_wake (requeues (woken n).head))
+asleep n j (Connect l) = if j == 0 then Some (once_woken (does (woken n).head None ((0, Initiate 1 (key_at n 0) Find) ∷ []))) else Some (once_woken (requeues (woken n).head))
+asleep n j (Test l f) = if l == 0 then Some (once_woken (does (woken n).head None ((j, Accept) ∷ []))) else Some (once_woken (requeues (woken n).head))
 asleep n j (Initiate l f s) = None
 asleep n j Accept = None
 asleep n j Reject = None

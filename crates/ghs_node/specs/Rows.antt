@@ -1,6 +1,7 @@
 -- The table of reactions, a row a constructor.
 use Rattle.std.specs.Prelude.{◌≡◌, ◌≢◌, ℕ, suc, ◌<◌, ◌≤◌, false, true, ◌&&◌, Option, Some, None, List, [], ◌∷◌}
 use Rattle.ghs_graph.specs.declared.key.Key.{Key}
+use Rattle.ghs_node.specs.declared.level.TheConstants.{TOP_LEVEL}
 use Rattle.ghs_node.specs.declared.head.Head.{Head}
 use Rattle.ghs_node.specs.declared.mark.Mark.{Mark}
 use Rattle.ghs_node.specs.declared.mark.Mark.TheVariants.{Basic}
@@ -12,7 +13,7 @@ use Rattle.ghs_node.specs.declared.work.Work.{Work}
 use Rattle.ghs_node.specs.declared.work.Work.TheVariants.{Wake, Deliver}
 use Rattle.ghs_node.specs.Words.{below, is_name, is_missing, is_zero, least_basic, best_key}
 use Rattle.ghs_node.specs.NodeState.{NodeState, key_at, mark_at, degree, with_mark}
-use Rattle.ghs_node.specs.Reaction.{Ending, Probing, Reporting, Waiting, does, requeues, stops, ends, no_probe, reject_at, moves_root, absorbs, merges, searching, passed_on, rests, answered, heard, woken, wakes, wakes_alone, after_wake}
+use Rattle.ghs_node.specs.Reaction.{Ending, Probing, Reporting, Waiting, does, requeues, stops, ends, no_probe, reject_at, moves_root, absorbs, merges, searching, passed_on, rests, answered, heard, woken, wakes, wakes_alone, once_woken}
 
 -- close: the node reports where it waits for nothing, and else does nothing more
 pub data Closes (h : Head) : Ending → Type 0 where
@@ -28,7 +29,7 @@ pub data Settles (ms : List Mark) (h : Head) : Ending → Type 0 where
 pub data AwakeRow (n : NodeState) : ℕ → Message → Delta → Type 0 where
   Connect_absorbed : {j l : ℕ} → l < n.head.level → (absorbs n j).head.find_count ≤ degree n → AwakeRow n j (Connect l) (absorbs n j)
   Connect_waits : {j l : ℕ} → n.head.level ≤ l → mark_at n j ≡ Basic → AwakeRow n j (Connect l) (requeues n.head)
-  Connect_merges : {j l : ℕ} → n.head.level ≤ l → mark_at n j ≢ Basic → n.head.level < 20 → AwakeRow n j (Connect l) (merges n j)
+  Connect_merges : {j l : ℕ} → n.head.level ≤ l → mark_at n j ≢ Basic → n.head.level < TOP_LEVEL → AwakeRow n j (Connect l) (merges n j)
   Initiate_rests : {j l : ℕ} {f : Key} → n.head.level < l → AwakeRow n j (Initiate l f Found) (rests n j l f)
   Initiate_searches : {j l : ℕ} {f : Key} {e : Ending} → n.head.level < l → (searching n j l f).find_count ≤ degree n → Settles n.marks (no_probe (searching n j l f)) e → AwakeRow n j (Initiate l f Find) (ends (no_probe (searching n j l f)) None (passed_on n j l f Find) e)
   Test_waits : {j l : ℕ} {f : Key} → n.head.level < l → AwakeRow n j (Test l f) (requeues n.head)
@@ -48,8 +49,8 @@ pub data AwakeRow (n : NodeState) : ℕ → Message → Delta → Type 0 where
 pub data Row (n : NodeState) : Work → Delta → Type 0 where
   Wakes : n.head.phase ≡ Sleeping → 0 < degree n → Row n Wake (wakes n)
   Wakes_alone : n.head.phase ≡ Sleeping → degree n ≡ 0 → Row n Wake (wakes_alone n)
-  Woken_merges : {l : ℕ} → n.head.phase ≡ Sleeping → 0 < degree n → Row n (Deliver 0 (Connect l)) (after_wake (does (woken n).head None ((0, Initiate 1 (key_at n 0) Find) ∷ [])))
-  Woken_connect_waits : {j l : ℕ} → n.head.phase ≡ Sleeping → j < degree n → j ≢ 0 → Row n (Deliver j (Connect l)) (after_wake (requeues (woken n).head))
-  Woken_test_waits : {j l : ℕ} {f : Key} → n.head.phase ≡ Sleeping → j < degree n → 0 < l → Row n (Deliver j (Test l f)) (after_wake (requeues (woken n).head))
-  Woken_accepts : {j : ℕ} {f : Key} → n.head.phase ≡ Sleeping → j < degree n → Row n (Deliver j (Test 0 f)) (after_wake (does (woken n).head None ((j, Accept) ∷ [])))
+  Woken_merges : {l : ℕ} → n.head.phase ≡ Sleeping → 0 < degree n → Row n (Deliver 0 (Connect l)) (once_woken (does (woken n).head None ((0, Initiate 1 (key_at n 0) Find) ∷ [])))
+  Woken_connect_waits : {j l : ℕ} → n.head.phase ≡ Sleeping → j < degree n → j ≢ 0 → Row n (Deliver j (Connect l)) (once_woken (requeues (woken n).head))
+  Woken_test_waits : {j l : ℕ} {f : Key} → n.head.phase ≡ Sleeping → j < degree n → 0 < l → Row n (Deliver j (Test l f)) (once_woken (requeues (woken n).head))
+  Woken_accepts : {j : ℕ} {f : Key} → n.head.phase ≡ Sleeping → j < degree n → Row n (Deliver j (Test 0 f)) (once_woken (does (woken n).head None ((j, Accept) ∷ [])))
   Awake : {j : ℕ} {m : Message} {d : Delta} → n.head.phase ≢ Sleeping → j < degree n → AwakeRow n j m d → Row n (Deliver j m) d

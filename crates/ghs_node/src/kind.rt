@@ -2,6 +2,9 @@
 ghost use Rattle.std.specs.Prelude.{◌≡◌, ◌<◌};
 ghost use Rattle.ghs_node.specs.Kind.{place_of};
 
+/// How many kinds of messages there are.
+pub const KINDS: usize = 7;
+
 /// The kind of a message, in the order in which ledgers list them.
 #[derive(Clone, Copy, Debug, PartialEq, Eq)]
 pub enum Kind {
@@ -15,10 +18,10 @@ pub enum Kind {
 }
 
 impl Kind {
-    /// The place of this kind in a ledger, 0 to 6.
+    /// The place of this kind in a ledger, from 0 on.
     pub fn place(self) -> usize
         ensures place { result ≡ place_of self }
-        ensures bound { result < 7 }
+        ensures bound { result < KINDS }
     {
         self as usize
     }

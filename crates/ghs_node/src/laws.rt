@@ -36,7 +36,7 @@ pub fn law_send_ports()
     ensures { SendsHavePorts }
 {}
 
-/// The levels in what a node sends are at most 20, where the level that it was sent was.
+/// The levels in what a node sends are at most `TOP_LEVEL`, where the level that it was sent was.
 pub fn law_send_levels()
     ensures { SendsHaveLevels }
 {}

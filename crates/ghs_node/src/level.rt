@@ -1,20 +1,26 @@
 //! Levels of fragments.
-ghost use Rattle.std.specs.Prelude.{◌≡◌, ℕ, ◌≤◌, ◌↔◌, IsSome, IfSome};
+ghost use Rattle.std.specs.Prelude.{◌≡◌, ◌≤◌, ◌↔◌, IsSome, IfSome};
 
 use std::marker::Model;
 
-/// A fragment's level: 0 to 20, since a fragment of level L has at least 2^L nodes.
+/// The highest level. A fragment of level L has at least 2^L nodes, and a graph at most 2^20.
+pub const TOP_LEVEL: u8 = 20;
+
+/// A fragment's level, 0 to `TOP_LEVEL`.
 #[derive(Clone, Copy, Debug, PartialEq, Eq)]
 pub struct Level {
     level: u8,
 }
 
 impl Model for Level {
+    ghost use Rattle.std.specs.Prelude.{ℕ, ◌≤◌};
+    ghost use Rattle.ghs_node.specs.declared.level.TheConstants.{TOP_LEVEL};
+
     ghost Value = { ℕ };
 
     ghost view = { λ l. l.level };
 
-    ghost invariant = { λ l. l.level ≤ 20 };
+    ghost invariant = { λ l. l.level ≤ TOP_LEVEL };
 
     ghost inverse = { λ n. record { level = n } };
 }
@@ -25,20 +31,20 @@ impl Level {
 
     /// The level of this number, if there is one.
     pub fn of(level: u8) -> Option<Level>
-        ensures within { IsSome result ↔ (level ≤ 20) }
+        ensures within { IsSome result ↔ (level ≤ TOP_LEVEL) }
         ensures value { IfSome result (λ l. l ≡ level) }
     {
-        if level <= 20 {
+        if level <= TOP_LEVEL {
             Some(Level { level })
         } else {
             None
         }
     }
 
-    /// The level's number, 0 to 20.
+    /// The level's number, 0 to `TOP_LEVEL`.
     pub fn get(self) -> u8
         ensures value { result ≡ self }
-        ensures within { self ≤ 20 }
+        ensures within { self ≤ TOP_LEVEL }
     {
         self.level
     }
@@ -50,7 +56,9 @@ impl Level {
 
     pub(crate) const TWO: Level = Level { level: 2 };
 
-    pub(crate) const NINETEEN: Level = Level { level: 19 };
+    pub(crate) const NEXT_TO_TOP: Level = Level {
+        level: TOP_LEVEL - 1,
+    };
 
-    pub(crate) const TWENTY: Level = Level { level: 20 };
+    pub(crate) const TOP: Level = Level { level: TOP_LEVEL };
 }

@@ -4,6 +4,8 @@
 pub mod delta;
 mod draft;
 pub mod fault;
+#[cfg(test)]
+mod fixtures;
 pub mod head;
 pub mod kind;
 pub mod laws;

@@ -1,62 +1,17 @@
 //! The middle node of the path 1-2-3: a whole run of it, works that have no rule, and copies.
-use super::*;
-use delta::{Delta, Fate};
-use fault::NodeFault;
-use ghs_graph::key::Key;
-use ghs_graph::port::Port;
-use kind::Kind;
-use level::Level;
-use mark::Mark;
-use message::{Message, Phase};
-use node::Node;
-use react::react;
-use std::alloc::Global;
-use std::process::Abort;
-use work::Work;
+use crate::delta::{Delta, Fate};
+use crate::fault::NodeFault;
+use crate::fixtures::{JOIN, LEFT, NO_LINK, SEARCH, Works, after, at, works};
+use crate::kind::Kind;
+use crate::level::Level;
+use crate::mark::Mark;
+use crate::message::{Message, Phase};
+use crate::react::react;
+use crate::work::Work;
 
-const LEFT: Key = Key {
-    weight: 5,
-    a: 1,
-    b: 2,
-};
+const TOP: Message = Message::Initiate(Level::TOP, LEFT, Phase::Found);
 
-const RIGHT: Key = Key {
-    weight: 7,
-    a: 2,
-    b: 3,
-};
-
-const PORTS: [Port; 2] = [
-    Port {
-        key: LEFT,
-        far: 1,
-        far_port: 0,
-    },
-    Port {
-        key: RIGHT,
-        far: 3,
-        far_port: 0,
-    },
-];
-
-const JOIN: Message = Message::Connect(Level::ZERO);
-
-const SEARCH: Message = Message::Initiate(Level::ONE, LEFT, Phase::Find);
-
-const TOP: Message = Message::Initiate(Level::TWENTY, LEFT, Phase::Found);
-
-const NO_LINK: Message = Message::Report(None);
-
-macro_rules! at {
-    ($port:literal, $message:expr) => {
-        Work::Deliver {
-            port: $port,
-            message: $message,
-        }
-    };
-}
-
-/// What the node does with a piece of work; of what goes out the first message.
+/// What the node does with a piece of work, and of what goes out the first message.
 #[derive(Clone, Copy, Debug, PartialEq)]
 enum Answer {
     Does {
@@ -79,15 +34,6 @@ fn answer_of(reply: &Result<Delta, NodeFault>) -> Answer {
             mark: delta.mark,
             sent: delta.sends.as_slice().first().copied(),
         },
-    }
-}
-
-/// Lets the node do the work, and compares what it does.
-fn assert_answer(rt: &impl Abort, alloc: Global, node: &mut Node, work: Work, answer: Answer) {
-    let reply = react(alloc, node, work);
-    assert_eq!(rt; answer_of(&reply), answer);
-    if let Ok(delta) = reply {
-        node.apply(&delta);
     }
 }
 
@@ -149,90 +95,92 @@ const RUN: [(Work, Answer, u32); 11] = [
 
 #[test]
 fn a_whole_run(rt: HostRuntime) {
-    let mut node = Node::asleep(rt.alloc(), 2, &PORTS).expect(&rt, "memory for a node");
+    let mut node = after(&rt, rt.alloc(), 2, &[]);
     for (work, answer, find_count) in RUN {
-        assert_answer(&rt, rt.alloc(), &mut node, work, answer);
-        assert_eq!(rt; node.head().find_count, find_count);
+        let reply = react(rt.alloc(), &node, work);
+        assert_eq!(rt; answer_of(&reply), answer, "to {work:?}");
+        if let Ok(delta) = reply {
+            node.apply(&delta);
+        }
+        assert_eq!(rt; node.head().find_count, find_count, "after {work:?}");
     }
     assert!(rt; node.head().halted);
 }
 
-/// What a node that has woken, and done some works, does with one more.
+/// What a node that has done some works does with one more.
 #[derive(Clone, Copy)]
 struct Edge {
-    before: [Option<Work>; 3],
+    name: &'static str,
+    before: Works,
     work: Work,
     answer: Answer,
 }
 
 const EDGES: [Edge; 7] = [
     Edge {
-        before: [None, None, None],
+        name: "an Initiate of no higher level",
+        before: works!(Work::Wake),
         work: at!(0, Message::Initiate(Level::ZERO, LEFT, Phase::Find)),
         answer: Refuses(NodeFault::Unforeseen),
     },
     Edge {
-        before: [None, None, None],
+        name: "an Initiate to sleep",
+        before: works!(Work::Wake),
         work: at!(0, Message::Initiate(Level::ONE, LEFT, Phase::Sleeping)),
         answer: Refuses(NodeFault::Unforeseen),
     },
     Edge {
-        before: [None, None, None],
+        name: "a Report that isn't waited for",
+        before: works!(Work::Wake),
         work: at!(0, NO_LINK),
         answer: Refuses(NodeFault::Unforeseen),
     },
     Edge {
-        before: [None, None, None],
+        name: "a ChangeRoot without a best link",
+        before: works!(Work::Wake),
         work: at!(0, Message::ChangeRoot),
         answer: Refuses(NodeFault::Unforeseen),
     },
     Edge {
-        before: [Some(at!(0, TOP)), None, None],
-        work: at!(0, Message::Connect(Level::TWENTY)),
+        name: "a merge at the top level",
+        before: works!(Work::Wake, at!(0, TOP)),
+        work: at!(0, Message::Connect(Level::TOP)),
         answer: Refuses(NodeFault::Unforeseen),
     },
     Edge {
-        before: [Some(at!(0, TOP)), None, None],
-        work: at!(0, Message::Connect(Level::NINETEEN)),
+        name: "an absorption at the top level",
+        before: works!(Work::Wake, at!(0, TOP)),
+        work: at!(0, Message::Connect(Level::NEXT_TO_TOP)),
         answer: Does {
             mark: Some((0, Mark::Branch)),
             sent: Some((0, TOP)),
         },
     },
     Edge {
-        before: [Some(at!(0, SEARCH)), Some(at!(1, JOIN)), Some(at!(1, JOIN))],
+        name: "more fragments to wait for than ports",
+        before: works!(Work::Wake, at!(0, SEARCH), at!(1, JOIN), at!(1, JOIN)),
         work: at!(1, JOIN),
         answer: Refuses(NodeFault::Unforeseen),
     },
 ];
 
-/// The node that has woken, and done some works.
-fn after_waking(rt: &impl Abort, alloc: Global, works: &[Option<Work>]) -> Node {
-    let mut node = Node::asleep(alloc, 2, &PORTS).expect(rt, "memory for a node");
-    let delta = react(alloc, &node, Work::Wake).expect(rt, "a reaction");
-    node.apply(&delta);
-    for work in works {
-        if let Some(work) = work {
-            let delta = react(alloc, &node, *work).expect(rt, "a reaction");
-            node.apply(&delta);
-        }
-    }
-    node
-}
-
 #[test]
 fn at_the_edges_of_the_rules(rt: HostRuntime) {
     for edge in &EDGES {
-        let mut node = after_waking(&rt, rt.alloc(), &edge.before);
+        let mut node = after(&rt, rt.alloc(), 2, &edge.before);
         let awaited = node.head().find_count;
-        assert_answer(&rt, rt.alloc(), &mut node, edge.work, edge.answer);
-        assert_eq!(rt; node.head().find_count, awaited);
+        let reply = react(rt.alloc(), &node, edge.work);
+        assert_eq!(rt; answer_of(&reply), edge.answer, "{}", edge.name);
+        if let Ok(delta) = reply {
+            node.apply(&delta);
+        }
+        assert_eq!(rt; node.head().find_count, awaited, "{}", edge.name);
     }
 }
 
 #[test]
 fn copies(rt: HostRuntime) {
-    let node = Node::asleep(rt.alloc(), 2, &PORTS).expect(&rt, "memory for a node");
+    let node = after(&rt, rt.alloc(), 2, &[]);
     let mut copy = node.copy(rt.alloc()).expect(&rt, "memory for a copy");
     assert!(rt; copy.same(&node));
     let delta = react(rt.alloc(), &copy, Work::Wake).expect(&rt, "a reaction");
@@ -265,6 +213,6 @@ fn cross_threads<T: Send + Sync>(_shared: &T) {}
 
 #[test]
 fn nodes_cross_threads(rt: HostRuntime) {
-    let node = Node::asleep(rt.alloc(), 2, &PORTS).expect(&rt, "memory for a node");
+    let node = after(&rt, rt.alloc(), 2, &[]);
     cross_threads(&node);
 }

@@ -1,5 +1,5 @@
 //! The procedures of the protocol, which the responses to messages share: wakeup, test, report and change-root.
-ghost use Rattle.std.specs.Prelude.{◌≡◌, ◌<◌, IfOk, OnErr};
+ghost use Rattle.std.specs.Prelude.{◌≡◌, ◌<◌, length, IfOk, OnErr};
 ghost use Rattle.ghs_node.specs.declared.message.Phase.TheVariants.{Sleeping};
 ghost use Rattle.ghs_node.specs.Words.{least_basic};
 ghost use Rattle.ghs_node.specs.NodeState.{degree, with_mark};
@@ -47,7 +47,8 @@ fn least_basic(draft: &Draft, node: &Node) -> Option<u32>
 /// Looks for the fragment's least outgoing link: the least Basic port is tested, and where there is none
 /// the node reports.
 pub(crate) fn test(mut draft: Draft, node: &Node) -> Result<Delta, AllocError>
-    ensures { IfOk result (λ d. d ≡ settles node.now draft.head draft.mark draft.sends) }
+    ensures ok { IfOk result (λ d. d ≡ settles node.now draft.head draft.mark draft.sends) }
+    ensures err { OnErr result (0 < length (settles node.now draft.head draft.mark draft.sends).sends) }
 {
     match least_basic(&draft, node) {
         Some(port) => {
@@ -65,7 +66,8 @@ pub(crate) fn test(mut draft: Draft, node: &Node) -> Result<Delta, AllocError>
 
 /// Reports to the core, once no Report is waited for and no Test is out.
 pub(crate) fn report(mut draft: Draft) -> Result<Delta, AllocError>
-    ensures { IfOk result (λ d. d ≡ closes draft.head draft.mark draft.sends) }
+    ensures ok { IfOk result (λ d. d ≡ closes draft.head draft.mark draft.sends) }
+    ensures err { OnErr result (0 < length (closes draft.head draft.mark draft.sends).sends) }
 {
     let head = draft.head;
     if head.find_count == 0 && head.probe.is_none() {

@@ -1,5 +1,5 @@
 //! The reaction of a node to one piece of work.
-ghost use Rattle.std.specs.Prelude.{◌≡◌, ◌<◌, ◌↔◌, Some, IfOk, IsErrOf};
+ghost use Rattle.std.specs.Prelude.{◌≡◌, ◌<◌, ◌↔◌, length, Some, IfOk, IsErrOf};
 ghost use Rattle.ghs_node.specs.declared.delta.Delta.{Delta};
 ghost use Rattle.ghs_node.specs.declared.message.Message.{Message};
 ghost use Rattle.ghs_node.specs.NodeState.{IsNode, degree};
@@ -29,7 +29,7 @@ pub fn react(alloc: Global, node: &Node, work: Work) -> Result<Delta, NodeFault>
     // The faults, the first that holds.
     ensures no_port { IsErrOf result NodeFault.NoPort ↔ ¬ HasPort node.now work }
     ensures unforeseen { IsErrOf result NodeFault.Unforeseen ↔ (HasPort node.now work × NoRule node.now work) }
-    ensures memory { IsErrOf result NodeFault.Memory → (d : Delta) × Row node.now work d }
+    ensures memory { IsErrOf result NodeFault.Memory → (d : Delta) × Row node.now work d × (0 < length d.sends) }
 {
     let degree = node.degree();
     match work {

@@ -1,5 +1,5 @@
 //! The responses to the seven messages, one function each.
-ghost use Rattle.std.specs.Prelude.{◌≡◌, ◌≢◌, ◌<◌, ◌≤◌, ◌++◌, length, None, IfOk};
+ghost use Rattle.std.specs.Prelude.{◌≡◌, ◌≢◌, ◌<◌, ◌≤◌, ◌++◌, length, None, IfOk, OnErr};
 ghost use Rattle.ghs_node.specs.declared.message.Message.{Message};
 ghost use Rattle.ghs_node.specs.Words.{on_branches};
 ghost use Rattle.ghs_node.specs.NodeState.{degree};
@@ -159,7 +159,8 @@ fn send_on_branches(
     port: u32,
     message: &Message,
 ) -> Result<(), AllocError>
-    ensures { IfOk result (λ _. draft.new ≡ record draft.old { sends = draft.old.sends ++ on_branches node.now.marks port message.now }) }
+    ensures ok { IfOk result (λ _. draft.new ≡ record draft.old { sends = draft.old.sends ++ on_branches node.now.marks port message.now }) }
+    ensures err { OnErr result (0 < length (on_branches node.now.marks port message.now)) }
 {
     for branch in 0..node.degree() {
         if node.mark(branch) == Mark::Branch && branch != port {

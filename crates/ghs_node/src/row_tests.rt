@@ -1,60 +1,14 @@
-//! Each row of the table on a small node, and the middle node of a path through a whole run.
-use super::*;
-use delta::{Delta, Fate};
-use fault::NodeFault;
-use ghs_graph::key::Key;
-use ghs_graph::port::Port;
-use head::Head;
-use kind::Kind;
-use level::Level;
-use mark::Mark;
-use message::{Message, Phase};
-use node::Node;
-use react::react;
+//! Each row of the table on a small node.
+use crate::delta::{Delta, Fate};
+use crate::fixtures::{FAR, JOIN, LEFT, NO_LINK, RIGHT, SEARCH, Works, after, at, works};
+use crate::head::Head;
+use crate::level::Level;
+use crate::mark::Mark;
+use crate::message::{Message, Phase};
+use crate::react::react;
+use crate::work::Work;
 use std::alloc::Global;
 use std::process::Abort;
-use work::Work;
-
-const LEFT: Key = Key {
-    weight: 5,
-    a: 1,
-    b: 2,
-};
-
-const RIGHT: Key = Key {
-    weight: 7,
-    a: 2,
-    b: 3,
-};
-
-const FAR: Key = Key {
-    weight: 9,
-    a: 2,
-    b: 4,
-};
-
-/// The ports of node 2, in key order. A row's node has the first of them.
-const PORTS: [Port; 3] = [
-    Port {
-        key: LEFT,
-        far: 1,
-        far_port: 0,
-    },
-    Port {
-        key: RIGHT,
-        far: 3,
-        far_port: 0,
-    },
-    Port {
-        key: FAR,
-        far: 4,
-        far_port: 0,
-    },
-];
-
-const JOIN: Message = Message::Connect(Level::ZERO);
-
-const SEARCH: Message = Message::Initiate(Level::ONE, LEFT, Phase::Find);
 
 const REST: Message = Message::Initiate(Level::ONE, LEFT, Phase::Found);
 
@@ -63,29 +17,6 @@ const SEARCH_ON: Message = Message::Initiate(Level::TWO, FAR, Phase::Find);
 const REST_ON: Message = Message::Initiate(Level::TWO, FAR, Phase::Found);
 
 const TEST: Message = Message::Test(Level::ONE, LEFT);
-
-const NO_LINK: Message = Message::Report(None);
-
-macro_rules! at {
-    ($port:literal, $message:expr) => {
-        Work::Deliver {
-            port: $port,
-            message: $message,
-        }
-    };
-}
-
-/// Up to five works, in order.
-type Works = [Option<Work>; 5];
-
-macro_rules! works {
-    () => { [None, None, None, None, None] };
-    ($a:expr) => { [Some($a), None, None, None, None] };
-    ($a:expr, $b:expr) => { [Some($a), Some($b), None, None, None] };
-    ($a:expr, $b:expr, $c:expr) => { [Some($a), Some($b), Some($c), None, None] };
-    ($a:expr, $b:expr, $c:expr, $d:expr) => { [Some($a), Some($b), Some($c), Some($d), None] };
-    ($a:expr, $b:expr, $c:expr, $d:expr, $e:expr) => { [Some($a), Some($b), Some($c), Some($d), Some($e)] };
-}
 
 /// Up to two messages that go out, in order.
 type Sent = [Option<(u32, Message)>; 2];
@@ -130,6 +61,8 @@ const SEARCHING: Head = Head {
 /// One row of the table: a node that has done some works, one more work, and what comes of it.
 #[derive(Clone, Copy)]
 struct Row {
+    /// The constructor in `Rows`, and where it has several ends, which.
+    name: &'static str,
     degree: usize,
     before: Works,
     work: Work,
@@ -141,6 +74,7 @@ struct Row {
 
 /// What most rows have: two ports, a message that is done with and no other, and a node at rest afterwards.
 const PLAIN: Row = Row {
+    name: "",
     degree: 2,
     before: works!(),
     work: Work::Wake,
@@ -151,16 +85,16 @@ const PLAIN: Row = Row {
 };
 
 const SLEEPING: [Row; 6] = [
-    // Wakes
     Row {
+        name: "Wakes",
         work: Work::Wake,
         mark: Some((0, Mark::Branch)),
         sent: sent!(0: JOIN),
         head: WOKEN,
         ..PLAIN
     },
-    // Wakes_alone
     Row {
+        name: "Wakes_alone",
         degree: 0,
         work: Work::Wake,
         head: Head {
@@ -169,16 +103,16 @@ const SLEEPING: [Row; 6] = [
         },
         ..PLAIN
     },
-    // Woken_merges
     Row {
+        name: "Woken_merges",
         work: at!(0, JOIN),
         mark: Some((0, Mark::Branch)),
         sent: sent!(0: JOIN, 0: SEARCH),
         head: WOKEN,
         ..PLAIN
     },
-    // Woken_connect_waits
     Row {
+        name: "Woken_connect_waits",
         work: at!(1, JOIN),
         fate: Fate::Requeued,
         mark: Some((0, Mark::Branch)),
@@ -186,8 +120,8 @@ const SLEEPING: [Row; 6] = [
         head: WOKEN,
         ..PLAIN
     },
-    // Woken_test_waits
     Row {
+        name: "Woken_test_waits",
         work: at!(1, TEST),
         fate: Fate::Requeued,
         mark: Some((0, Mark::Branch)),
@@ -195,8 +129,8 @@ const SLEEPING: [Row; 6] = [
         head: WOKEN,
         ..PLAIN
     },
-    // Woken_accepts
     Row {
+        name: "Woken_accepts",
         work: at!(1, Message::Test(Level::ZERO, RIGHT)),
         mark: Some((0, Mark::Branch)),
         sent: sent!(0: JOIN, 1: Message::Accept),
@@ -206,8 +140,8 @@ const SLEEPING: [Row; 6] = [
 ];
 
 const CONNECTS: [Row; 4] = [
-    // Connect_absorbed, in search
     Row {
+        name: "Connect_absorbed, in search",
         before: works!(Work::Wake, at!(0, SEARCH)),
         work: at!(1, JOIN),
         mark: Some((1, Mark::Branch)),
@@ -218,24 +152,24 @@ const CONNECTS: [Row; 4] = [
         },
         ..PLAIN
     },
-    // Connect_absorbed, at rest
     Row {
+        name: "Connect_absorbed, at rest",
         before: works!(Work::Wake, at!(0, REST)),
         work: at!(1, JOIN),
         mark: Some((1, Mark::Branch)),
         sent: sent!(1: REST),
         ..PLAIN
     },
-    // Connect_waits
     Row {
+        name: "Connect_waits",
         before: works!(Work::Wake),
         work: at!(1, JOIN),
         fate: Fate::Requeued,
         head: WOKEN,
         ..PLAIN
     },
-    // Connect_merges
     Row {
+        name: "Connect_merges",
         before: works!(Work::Wake),
         work: at!(0, JOIN),
         sent: sent!(0: SEARCH),
@@ -245,8 +179,8 @@ const CONNECTS: [Row; 4] = [
 ];
 
 const INITIATES: [Row; 4] = [
-    // Initiate_rests
     Row {
+        name: "Initiate_rests",
         degree: 3,
         before: works!(Work::Wake, at!(0, REST), at!(1, JOIN)),
         work: at!(0, REST_ON),
@@ -258,8 +192,8 @@ const INITIATES: [Row; 4] = [
         },
         ..PLAIN
     },
-    // Initiate_searches, and tests
     Row {
+        name: "Initiate_searches, and tests",
         degree: 3,
         before: works!(Work::Wake, at!(0, REST), at!(1, JOIN)),
         work: at!(0, SEARCH_ON),
@@ -274,8 +208,8 @@ const INITIATES: [Row; 4] = [
         },
         ..PLAIN
     },
-    // Initiate_searches, and waits for a Report
     Row {
+        name: "Initiate_searches, and waits for a Report",
         before: works!(Work::Wake, at!(0, REST), at!(1, JOIN)),
         work: at!(0, SEARCH_ON),
         sent: sent!(1: SEARCH_ON),
@@ -288,8 +222,8 @@ const INITIATES: [Row; 4] = [
         },
         ..PLAIN
     },
-    // Initiate_searches, and reports
     Row {
+        name: "Initiate_searches, and reports",
         degree: 1,
         before: works!(Work::Wake),
         work: at!(0, SEARCH),
@@ -299,45 +233,45 @@ const INITIATES: [Row; 4] = [
 ];
 
 const TESTS: [Row; 6] = [
-    // Test_waits
     Row {
+        name: "Test_waits",
         before: works!(Work::Wake, at!(0, REST)),
         work: at!(1, Message::Test(Level::TWO, LEFT)),
         fate: Fate::Requeued,
         ..PLAIN
     },
-    // Test_accepted
     Row {
+        name: "Test_accepted",
         before: works!(Work::Wake, at!(0, REST)),
         work: at!(1, Message::Test(Level::ONE, FAR)),
         sent: sent!(1: Message::Accept),
         ..PLAIN
     },
-    // Test_rejected, on a Basic port
     Row {
+        name: "Test_rejected, on a Basic port",
         before: works!(Work::Wake, at!(0, REST)),
         work: at!(1, TEST),
         mark: Some((1, Mark::Rejected)),
         sent: sent!(1: Message::Reject),
         ..PLAIN
     },
-    // Test_rejected, on a Branch
     Row {
+        name: "Test_rejected, on a Branch",
         before: works!(Work::Wake, at!(0, REST)),
         work: at!(0, TEST),
         sent: sent!(0: Message::Reject),
         ..PLAIN
     },
-    // Tests_cross, and the node reports
     Row {
+        name: "Tests_cross, and the node reports",
         before: works!(Work::Wake, at!(0, SEARCH)),
         work: at!(1, TEST),
         mark: Some((1, Mark::Rejected)),
         sent: sent!(0: NO_LINK),
         ..PLAIN
     },
-    // Tests_cross, and the node tests on
     Row {
+        name: "Tests_cross, and the node tests on",
         degree: 3,
         before: works!(Work::Wake, at!(0, SEARCH)),
         work: at!(1, TEST),
@@ -352,8 +286,8 @@ const TESTS: [Row; 6] = [
 ];
 
 const ANSWERS: [Row; 3] = [
-    // Accept_heard
     Row {
+        name: "Accept_heard",
         before: works!(Work::Wake, at!(0, SEARCH)),
         work: at!(1, Message::Accept),
         sent: sent!(0: Message::Report(Some(RIGHT))),
@@ -363,16 +297,16 @@ const ANSWERS: [Row; 3] = [
         },
         ..PLAIN
     },
-    // Reject_heard, and the node reports
     Row {
+        name: "Reject_heard, and the node reports",
         before: works!(Work::Wake, at!(0, SEARCH)),
         work: at!(1, Message::Reject),
         mark: Some((1, Mark::Rejected)),
         sent: sent!(0: NO_LINK),
         ..PLAIN
     },
-    // Reject_heard, and the node tests on
     Row {
+        name: "Reject_heard, and the node tests on",
         degree: 3,
         before: works!(Work::Wake, at!(0, SEARCH)),
         work: at!(1, Message::Reject),
@@ -387,8 +321,8 @@ const ANSWERS: [Row; 3] = [
 ];
 
 const REPORTS: [Row; 9] = [
-    // Report_heard, while a Test is out
     Row {
+        name: "Report_heard, while a Test is out",
         before: works!(Work::Wake, at!(0, SEARCH), at!(1, JOIN)),
         work: at!(1, Message::Report(Some(FAR))),
         head: Head {
@@ -397,8 +331,8 @@ const REPORTS: [Row; 9] = [
         },
         ..PLAIN
     },
-    // Report_heard, the last
     Row {
+        name: "Report_heard, the last",
         before: works!(
             Work::Wake,
             at!(0, SEARCH),
@@ -413,16 +347,16 @@ const REPORTS: [Row; 9] = [
         },
         ..PLAIN
     },
-    // Report_waits
     Row {
+        name: "Report_waits",
         before: works!(Work::Wake, at!(0, SEARCH)),
         work: at!(0, NO_LINK),
         fate: Fate::Requeued,
         head: SEARCHING,
         ..PLAIN
     },
-    // Report_moves_root, along a Branch
     Row {
+        name: "Report_moves_root, along a Branch",
         before: works!(
             Work::Wake,
             at!(0, SEARCH),
@@ -438,8 +372,8 @@ const REPORTS: [Row; 9] = [
         },
         ..PLAIN
     },
-    // Report_moves_root, out over the link
     Row {
+        name: "Report_moves_root, out over the link",
         before: works!(Work::Wake, at!(0, SEARCH), at!(1, Message::Accept)),
         work: at!(0, NO_LINK),
         mark: Some((1, Mark::Branch)),
@@ -450,8 +384,8 @@ const REPORTS: [Row; 9] = [
         },
         ..PLAIN
     },
-    // Root_moves, along a Branch
     Row {
+        name: "Root_moves, along a Branch",
         before: works!(
             Work::Wake,
             at!(0, SEARCH),
@@ -467,8 +401,8 @@ const REPORTS: [Row; 9] = [
         },
         ..PLAIN
     },
-    // Root_moves, out over the link
     Row {
+        name: "Root_moves, out over the link",
         before: works!(Work::Wake, at!(0, SEARCH), at!(1, Message::Accept)),
         work: at!(0, Message::ChangeRoot),
         mark: Some((1, Mark::Branch)),
@@ -479,8 +413,8 @@ const REPORTS: [Row; 9] = [
         },
         ..PLAIN
     },
-    // Report_halts
     Row {
+        name: "Report_halts",
         before: works!(Work::Wake, at!(0, SEARCH), at!(1, Message::Reject)),
         work: at!(0, NO_LINK),
         head: Head {
@@ -489,8 +423,8 @@ const REPORTS: [Row; 9] = [
         },
         ..PLAIN
     },
-    // Report_passes
     Row {
+        name: "Report_passes",
         before: works!(Work::Wake, at!(0, SEARCH), at!(1, Message::Accept)),
         work: at!(0, Message::Report(Some(LEFT))),
         head: Head {
@@ -501,36 +435,22 @@ const REPORTS: [Row; 9] = [
     },
 ];
 
-/// Node 2 with the first of its ports, after some works.
-fn after(rt: &impl Abort, alloc: Global, degree: usize, works: &[Option<Work>]) -> Node {
-    assert!(rt; degree <= 3);
-    let mut node = Node::asleep(alloc, 2, &PORTS[..degree]).expect(rt, "memory for a node");
-    for work in works {
-        if let Some(work) = work {
-            let delta = react(alloc, &node, *work).expect(rt, "a reaction");
-            node.apply(&delta);
-        }
-    }
-    node
-}
-
-fn assert_sent(rt: &impl Abort, delta: &Delta, sent: &[Option<(u32, Message)>]) {
+fn assert_sent(rt: &impl Abort, delta: &Delta, row: &Row) {
     let sends = delta.sends.as_slice();
-    assert!(rt; sends.len() <= 2);
-    assert_eq!(rt; sent.len(), 2);
-    assert_eq!(rt; sends.get(0).copied(), sent[0]);
-    assert_eq!(rt; sends.get(1).copied(), sent[1]);
+    assert!(rt; sends.len() <= 2, "{}", row.name);
+    assert_eq!(rt; sends.get(0).copied(), row.sent[0], "{}", row.name);
+    assert_eq!(rt; sends.get(1).copied(), row.sent[1], "{}", row.name);
 }
 
 fn assert_row(rt: &impl Abort, alloc: Global, row: &Row) {
     let mut node = after(rt, alloc, row.degree, &row.before);
-    let delta = react(alloc, &node, row.work).expect(rt, "a reaction");
-    assert_eq!(rt; delta.fate, row.fate, "at {:?}", row.work);
-    assert_eq!(rt; delta.mark, row.mark, "at {:?}", row.work);
-    assert_sent(rt, &delta, &row.sent);
-    assert_eq!(rt; delta.halts, row.head.halted, "at {:?}", row.work);
+    let delta = react(alloc, &node, row.work).expect(rt, row.name);
+    assert_eq!(rt; delta.fate, row.fate, "{}", row.name);
+    assert_eq!(rt; delta.mark, row.mark, "{}", row.name);
+    assert_sent(rt, &delta, row);
+    assert_eq!(rt; delta.halts, row.head.halted, "{}", row.name);
     node.apply(&delta);
-    assert_eq!(rt; *node.head(), row.head, "at {:?}", row.work);
+    assert_eq!(rt; *node.head(), row.head, "{}", row.name);
 }
 
 fn assert_rows(rt: &impl Abort, alloc: Global, rows: &[Row]) {

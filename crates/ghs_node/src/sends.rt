@@ -28,6 +28,21 @@ impl Sends {
         }
     }
 
+    /// These messages, each with its port.
+    pub fn of(list: Vec<(u32, Message)>) -> Sends
+        ensures { result ≡ list.items }
+    {
+        Sends { list }
+    }
+
+    /// The vector that it was made from, with what was pushed.
+    pub fn into_vec(self) -> Vec<(u32, Message)>
+        ensures { result.items ≡ self }
+    {
+        let Sends { list } = self;
+        list
+    }
+
     /// One message more, the last.
     pub fn push(&mut self, port: u32, message: Message) -> Result<(), AllocError>
         ensures ok { IfOk result (λ _. self.new ≡ self.old ++ (port, message) ∷ []) }

@@ -2,8 +2,7 @@
 use Rattle.std.specs.Prelude.{◌≡◌, ◌≢◌, ℕ, ◌<◌, ◌≤◌, List, length, slice_index_or}
 use Rattle.ghs_graph.specs.declared.port.Port.{Port}
 use Rattle.ghs_graph.specs.Graph.{Shape}
-use Rattle.ghs_graph.specs.Ports.{ports_of}
-use Rattle.ghs_node.specs.NodeState.{no_key}
+use Rattle.ghs_graph.specs.Ports.{ports_of, no_port}
 
 pub record Network : Type 0 where
   pub count : ℕ
@@ -12,9 +11,6 @@ pub record Network : Type 0 where
 -- the network of a graph
 abbrev pub network_of : Shape → Network
 network_of g = record { count = g.nodes; ports = ports_of g.keys }
-
-abbrev pub no_port : Port
-no_port = record { key = no_key; far = 0; far_port = 0 }
 
 abbrev pub port_at : Network → ℕ → ℕ → Port
 port_at g v p = slice_index_or (g.ports v) p no_port

@@ -10,7 +10,9 @@ use Rattle.ghs_flags.proofs.Sums.{front_le}
 module _ (flags : List Bool) where
   -- a raised flag is one of the row
   pub raised_within : (i : ℕ) → at flags i ≡ true → i < length flags
-  raised_within i up = ⊎_elim (λ (lt : i < length flags). lt) (λ (past : length flags ≤ i). absurd (true≢false (sym up ∙ get_or_past flags i false past))) (cases_lt i (length flags))
+  raised_within i up =
+      ⊎_elim (λ (lt : i < length flags). lt) (λ (past : length flags ≤ i). absurd (true≢false (sym up ∙ get_or_past flags i false past)))
+      (cases_lt i (length flags))
 
   -- and makes the front behind it one more
   more : (i : ℕ) → at flags i ≡ true → count (take (i + 1) flags) ≡ count (take i flags) + 1
@@ -23,7 +25,8 @@ module _ (flags : List Bool) where
   -- the one with as many raised before it as before place e is the first from there on
   pub kth_from : (e i : ℕ) → IsKth flags (count (take e flags)) i → (e ≤ i) × NonePasses (at flags) e i
   kth_from e i kth = (
-    ⊎_elim (λ (lt : i < e). let fewer = raised_before i e kth.raised lt in let same = kth.before in absurd (omega arith)) (λ (le : e ≤ i). le) (cases_lt i e),
+    ⊎_elim (λ (lt : i < e). let fewer = raised_before i e kth.raised lt in let same = kth.before in absurd (omega arith)) (λ (le : e ≤ i). le)
+        (cases_lt i e),
     λ m lo hi. false_from_ne_true _ (λ (up : at flags m ≡ true).
         let fewer = raised_before m i up hi in
         let front = front_le one_if flags e m lo in

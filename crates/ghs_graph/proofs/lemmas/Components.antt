@@ -7,16 +7,16 @@ use Rattle.std.proofs.lemmas.List.Kept.{AllPairs-filter}
 use Rattle.std.proofs.lemmas.List.Elements.{All-take, Contains-push_cases, Contains-append_left, Contains-push}
 use Rattle.std.proofs.lemmas.List.FromFn.{length-range_with_len}
 use Rattle.ghs_graph.specs.declared.key.Key.{Key}
-use Rattle.ghs_graph.specs.Key.{key_lt}
+use Rattle.ghs_graph.specs.Key.{key_lt, no_key}
 use Rattle.ghs_graph.specs.Links.{Joined, Same, Over, links, IsTree, AreAmong}
 use Rattle.ghs_graph.specs.Graph.{Shape, IsGraph}
 use Rattle.ghs_graph.specs.Components.{IsRoot, HasComponents}
 use Rattle.ghs_graph.specs.Laws.{NodesHaveRoots, RootsTell, ForestHasFewer}
 use Rattle.ghs_graph.proofs.lemmas.Members.{nothing_in, in_filter, filter_has}
 use Rattle.ghs_graph.proofs.Rising.{same_rising, length-without}
-use Rattle.ghs_graph.proofs.lemmas.Keys.{no_key, below_at, tree_is_same}
+use Rattle.ghs_graph.proofs.lemmas.Keys.{below_at, tree_is_same}
 use Rattle.ghs_graph.proofs.lemmas.Joining.{joined_nodes, joined_then, joined_back, joined_within, joined_through, joined_by_none, one_more, joins, joins_tells, decided}
-use Rattle.ghs_graph.proofs.Growing.{tree_of_none, tree_takes, tree_leaves}
+use Rattle.ghs_graph.proofs.lemmas.Trees.{tree_of_none, tree_takes, tree_leaves}
 use Rattle.ghs_graph.proofs.lemmas.Computing.{nodes_rise, node_in, in_nodes}
 
 -- Roots.

@@ -6,13 +6,12 @@ use Rattle.std.specs.List.{sum_by, range_with_len}
 use Rattle.std.proofs.lemmas.List.FromFn.{fill_by_all}
 use Rattle.std.proofs.lemmas.List.Sums.{count_by_more_yes, count_by_more_no, sum_by-set, sum_by-cons, sum-map}
 use Rattle.ghs_graph.specs.declared.key.Key.{Key}
-use Rattle.ghs_graph.specs.Key.{ends_at}
+use Rattle.ghs_graph.specs.Key.{ends_at, no_key}
 use Rattle.ghs_graph.specs.Links.{AreAmong}
 use Rattle.ghs_graph.specs.Ports.{degree}
 use Rattle.ghs_graph.specs.Graph.{nodes_of}
 use Rattle.ghs_graph.specs.Laws.{DegreesAreTwice}
 use Rattle.ghs_graph.specs.Layout.{AreDegrees}
-use Rattle.ghs_graph.proofs.lemmas.Keys.{no_key}
 use Rattle.ghs_graph.proofs.lemmas.Ports.{length-ports_of, ends_a, ends_b, ends_not, degree-take, among_at}
 
 -- One more link.

@@ -7,11 +7,11 @@ use Rattle.std.proofs.lemmas.List.{get_or_default, take_more, take_all, drop_all
 use Rattle.std.proofs.lemmas.List.Sums.{sum_by-cons}
 use Rattle.std.proofs.lemmas.List.Elements.{Contains-get_or, Contains-push, Contains-push_cases, Contains-append_left, Contains-append_right, Contains-append_cases}
 use Rattle.ghs_graph.specs.declared.key.Key.{Key}
-use Rattle.ghs_graph.specs.Key.{key_lt}
+use Rattle.ghs_graph.specs.Key.{key_lt, no_key}
 use Rattle.ghs_graph.specs.Links.{Joined, Same, Over, Back, links, links_below, IsTree, IsRising, total_weight}
 use Rattle.ghs_graph.specs.Laws.{TreeJoins, links_but, NoneIsSpare, TreeIsLeast}
 use Rattle.ghs_graph.proofs.lemmas.Members.{nothing_in, first_in, later_in, in_cases}
-use Rattle.ghs_graph.proofs.lemmas.Keys.{no_key, lt_irreflexive, lt_asymmetric, below_at}
+use Rattle.ghs_graph.proofs.lemmas.Keys.{lt_irreflexive, lt_asymmetric, below_at}
 use Rattle.ghs_graph.proofs.lemmas.Joining.{joined_then, joined_back, joined_within, joined_through, JoinedOver, one_more, Decided, decided_alike, passing, decided_joined}
 
 -- The first i + 1 of a list.

@@ -9,10 +9,6 @@ use Rattle.ghs_graph.specs.Key.{key_lt}
 use Rattle.ghs_graph.specs.Links.{AllBelow, IsRising, IsTree}
 use Rattle.ghs_graph.proofs.Rising.{same_rising}
 
--- stands where a list lookup wants a default
-abbrev pub no_key : Key
-no_key = record { weight = 0; a = 0; b = 0 }
-
 pub lt_irreflexive : (k : Key) → key_lt k k ≡ false
 lt_irreflexive k = grind (arith, nat_tests)
 

@@ -8,12 +8,12 @@ use Rattle.std.proofs.lemmas.List.Sums.{sum_by-append, sum_by-cons, length-filte
 use Rattle.std.proofs.lemmas.Option.{slice_get_within, slice_get-get_or, get_or_from_slice_get}
 use Rattle.ghs_graph.specs.declared.key.Key.{Key}
 use Rattle.ghs_graph.specs.declared.port.Port.{Port}
-use Rattle.ghs_graph.specs.Key.{key_lt, ends_at}
+use Rattle.ghs_graph.specs.Key.{key_lt, ends_at, no_key}
 use Rattle.ghs_graph.specs.Links.{IsRising, AreAmong}
-use Rattle.ghs_graph.specs.Ports.{keys_at, degree, place_of, far_end, port_on, ports_of, HasPort}
+use Rattle.ghs_graph.specs.Ports.{keys_at, degree, port_number, far_end, port_on, ports_of, HasPort}
 use Rattle.ghs_graph.specs.Graph.{Shape, IsGraph}
 use Rattle.ghs_graph.specs.Laws.{PortsEndElsewhere, PortsLeadBack, PortsRise, HasTwoPorts, LinksHaveTwoPorts}
-use Rattle.ghs_graph.proofs.lemmas.Keys.{no_key, below_at, none_below}
+use Rattle.ghs_graph.proofs.lemmas.Keys.{below_at, none_below}
 
 -- Counts and filters.
 
@@ -71,10 +71,10 @@ unfolding degree
 degree-le-length ks v = count_by-le-length (ends_at v) ks
 
 -- among rising keys, those of u that are less than a key are those that stand before it
-pub place_at : (ks : List Key) (u i : ℕ) (d : Key) → IsRising ks → i < length ks → place_of ks u (get_or ks i d) ≡ degree (take i ks) u
+pub place_at : (ks : List Key) (u i : ℕ) (d : Key) → IsRising ks → i < length ks → port_number ks u (get_or ks i d) ≡ degree (take i ks) u
 unfolding degree
 place_at ks u i d r lt =
-    ap (λ (js : List Key). place_of js u k) (sym (take-append-drop i ks))
+    ap (λ (js : List Key). port_number js u k) (sym (take-append-drop i ks))
     ∙ sum_by-append (λ j. cond (ends_at u j && key_lt j k) 1 0) (take i ks) (drop i ks)
     ∙ (rw (before, after) (omega arith))
   where
@@ -193,9 +193,9 @@ ports_lead_back g ok v i p h =
     let r : (1 ≤ k.a) × (k.a < k.b) × (k.b ≤ g.nodes) = among_at g.nodes g.keys o.at no_key ok.among o.within in
     let f : FarEnd v k = far_end_is k r.1 v o.ends in
     let there : HasPort g.keys (far_end v k) (degree (take o.at g.keys) (far_end v k)) (port_on g.keys (far_end v k) k) = port_at g.keys (far_end v k) o.at no_key o.within f.ends in
-    let away : place_of g.keys (far_end v k) k ≡ degree (take o.at g.keys) (far_end v k) = place_at g.keys (far_end v k) o.at no_key ok.rising o.within in
-    let home : place_of g.keys v k ≡ i = place_at g.keys v o.at no_key ok.rising o.within ∙ o.place in
-    let is : port_on g.keys (far_end v k) k ≡ record { key = k; far = v; far_port = i } = λ t. record { key = k; far = f.back t; far_port = (ap (λ u. place_of g.keys u k) f.back ∙ home) t } in
+    let away : port_number g.keys (far_end v k) k ≡ degree (take o.at g.keys) (far_end v k) = place_at g.keys (far_end v k) o.at no_key ok.rising o.within in
+    let home : port_number g.keys v k ≡ i = place_at g.keys v o.at no_key ok.rising o.within ∙ o.place in
+    let is : port_on g.keys (far_end v k) k ≡ record { key = k; far = v; far_port = i } = λ t. record { key = k; far = f.back t; far_port = (ap (λ u. port_number g.keys u k) f.back ∙ home) t } in
     rw o.port (rw (away, ← is) there)
 
 -- fewer links, fewer ports
@@ -219,8 +219,8 @@ two_ports_at g ok m lt = record {
       let o : OnLink g.keys v i p = on_link g.keys v i p h in
       let same : get_or g.keys o.at no_key ≡ k = sym (ap (λ (q : Port). q.key) o.port) ∙ e in
       let ends : ends_at v k ≡ true = subst (λ (x : Key). ends_at v x ≡ true) same o.ends in
-      let place : i ≡ place_of g.keys v k = sym o.place ∙ sym (place_at g.keys v o.at no_key ok.rising o.within) ∙ ap (λ (x : Key). place_of g.keys v x) same in
-      ⊎_elim (λ q. inl (q, place ∙ ap (λ u. place_of g.keys u k) q)) (λ q. inr (q, place ∙ ap (λ u. place_of g.keys u k) q)) (end_cases v k ends);
+      let place : i ≡ port_number g.keys v k = sym o.place ∙ sym (place_at g.keys v o.at no_key ok.rising o.within) ∙ ap (λ (x : Key). port_number g.keys v x) same in
+      ⊎_elim (λ q. inl (q, place ∙ ap (λ u. port_number g.keys u k) q)) (λ q. inr (q, place ∙ ap (λ u. port_number g.keys u k) q)) (end_cases v k ends);
 }
   where
     k : Key

@@ -15,7 +15,7 @@ use Rattle.ghs_node.specs.NodeState.{NodeState, degree, key_at, mark_at, with_ma
 use Rattle.ghs_node.specs.Words.{is_at}
 use Rattle.ghs_node.specs.Reaction.{Ending, Probing, Reporting, Waiting, answered, heard, last_sends, no_probe, passed_on, probe_after, reject_at, root_message, searching}
 use Rattle.ghs_node.specs.Rows.{Accept_heard, Awake, AwakeRow, Closes, Connect_absorbed, Connect_merges, Connect_waits, Initiate_rests, Initiate_searches, Reject_heard, Report_halts, Report_heard, Report_moves_root, Report_passes, Report_waits, Reports, Root_moves, Row, Settles, Test_accepted, Test_rejected, Test_waits, Tests_cross, Waits, Wakes, Wakes_alone, Woken_accepts, Woken_connect_waits, Woken_merges, Woken_test_waits}
-use Rattle.ghs_node.proofs.Inversion.{reaction_inverts}
+use Rattle.ghs_node.proofs.lemmas.{reaction_inverts}
 use Rattle.ghs_protocol.specs.declared.event.Event.{Event}
 use Rattle.ghs_protocol.specs.declared.event.Event.TheVariants as events
 use Rattle.ghs_protocol.specs.Interleavings.{SendsArePaid}

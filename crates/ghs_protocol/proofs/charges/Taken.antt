@@ -14,7 +14,7 @@ use Rattle.ghs_node.specs.Kind.{kind_of, place_of}
 use Rattle.ghs_node.specs.Words.{is_at, is_basic}
 use Rattle.ghs_node.specs.Reaction.{Ending, Probing}
 use Rattle.ghs_node.specs.Rows.{Closes, Reports, Waits, Settles, Probes, Exhausts}
-use Rattle.ghs_node.proofs.Tests.{basic_is}
+use Rattle.ghs_node.proofs.lemmas.{basic_is}
 use Rattle.ghs_protocol.specs.Network.{Network}
 use Rattle.ghs_protocol.specs.Net.{Net, put, one_if_consumed}
 use Rattle.ghs_protocol.specs.Steps.{taken}

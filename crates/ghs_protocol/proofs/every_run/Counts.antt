@@ -14,7 +14,7 @@ use Rattle.ghs_node.specs.declared.delta.Fate.TheVariants.{Consumed, Requeued}
 use Rattle.ghs_node.specs.declared.work.Work.{Work}
 use Rattle.ghs_node.specs.declared.work.Work.TheVariants.{Wake}
 use Rattle.ghs_node.specs.Kind.{kind_of, place_of}
-use Rattle.ghs_node.proofs.Inversion.{reaction_inverts}
+use Rattle.ghs_node.proofs.lemmas.{reaction_inverts}
 use Rattle.ghs_protocol.specs.declared.event.Event.{Event}
 use Rattle.ghs_protocol.specs.Network.{Network, IsWired}
 use Rattle.ghs_protocol.specs.Net.{Net, happens, take_first, one_if_consumed, one_if_requeued}

@@ -7,8 +7,7 @@ use Rattle.ghs_node.specs.declared.delta.Delta.{Delta}
 use Rattle.ghs_node.specs.declared.work.Work.TheVariants.{Wake, Deliver}
 use Rattle.ghs_node.specs.NodeState.{NodeState}
 use Rattle.ghs_node.specs.Reaction.{reaction}
-use Rattle.ghs_node.proofs.Inversion.{reaction_inverts}
-use Rattle.ghs_node.proofs.Kept.{row_halts}
+use Rattle.ghs_node.proofs.lemmas.{reaction_inverts, row_halts}
 use Rattle.ghs_protocol.specs.declared.event.Event.{Event}
 use Rattle.ghs_protocol.specs.declared.event.Event.TheVariants as events
 use Rattle.ghs_protocol.specs.Network.{Network, IsWired}

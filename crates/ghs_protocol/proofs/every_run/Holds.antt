@@ -14,8 +14,7 @@ use Rattle.ghs_node.specs.declared.work.Work.TheVariants.{Deliver}
 use Rattle.ghs_node.specs.Reaction.{reaction}
 use Rattle.ghs_node.specs.NodeState.{mark_at}
 use Rattle.ghs_node.specs.Words.{is_sleeping}
-use Rattle.ghs_node.proofs.Tests.{sleeping_is}
-use Rattle.ghs_node.proofs.Ruleless.{reaction_ruleless}
+use Rattle.ghs_node.proofs.lemmas.{sleeping_is, reaction_ruleless}
 use Rattle.ghs_protocol.specs.declared.event.Event.{Event}
 use Rattle.ghs_protocol.specs.declared.event.Event.TheVariants as events
 use Rattle.ghs_protocol.specs.Network.{Network, At, IsWired, far, InNetwork}

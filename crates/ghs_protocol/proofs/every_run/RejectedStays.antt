@@ -7,7 +7,7 @@ use Rattle.ghs_node.specs.declared.delta.Delta.{Delta}
 use Rattle.ghs_node.specs.NodeState.{NodeState, mark_at, with_mark}
 use Rattle.ghs_node.specs.Rows.{AwakeRow}
 use Rattle.ghs_node.specs.Laws.{MarkChange, Stays, To_branch, To_rejected}
-use Rattle.ghs_node.proofs.Marks.{awake_marks, mark_set}
+use Rattle.ghs_node.proofs.lemmas.{awake_marks, mark_set}
 use Rattle.ghs_protocol.specs.declared.event.Event.{Event}
 use Rattle.ghs_protocol.specs.Network.{Network, At, IsWired}
 use Rattle.ghs_protocol.specs.Net.{Net, take_first}

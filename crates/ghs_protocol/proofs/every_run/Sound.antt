@@ -3,7 +3,7 @@ use Rattle.std.proofs.Common.{◌≡◌, ℕ, ◌≤◌, ◌<◌, None, List, ar
 use Rattle.ghs_graph.specs.declared.key.Key.{Key}
 use Rattle.ghs_graph.specs.Graph.{Shape}
 use Rattle.ghs_graph.specs.Links.{Joined, Same, Over as Along, links, InTree}
-use Rattle.ghs_graph.specs.Ports.{place_of}
+use Rattle.ghs_graph.specs.Ports.{port_number}
 use Rattle.std.proofs.lemmas.List.Elements.{All-contains}
 use Rattle.ghs_graph.proofs.lemmas.Joining.{joined_then, joined_back}
 use Rattle.ghs_protocol.specs.declared.event.Event.{Event}
@@ -43,7 +43,7 @@ pub rejected_links_aside : RejectedLinksAside
 rejected_links_aside g w n k (v, p, at, e, m) tree = let s = sound g w n in rejected_aside g n.graph (world w s.ghost) s.holds.first s.holds.floor s.holds.floors v p at m (subst (InTree g.keys) (sym e) tree)
 
 pub halt_is_exact : HaltIsExact
-halt_is_exact g w n v lo hi halted k has way = (λ tree. link k.a (place_of g.keys k.a k) (at_a g n.graph k has) (key_there g n.graph k has) (tree_is_joined g n.graph (world w s.ghost) s.holds.first s.holds.floor s.holds.floors v is halted k.a (place_of g.keys k.a k) (at_a g n.graph k has) way (subst (InTree g.keys) (sym (key_there g n.graph k has)) tree)), branch)
+halt_is_exact g w n v lo hi halted k has way = (λ tree. link k.a (port_number g.keys k.a k) (at_a g n.graph k has) (key_there g n.graph k has) (tree_is_joined g n.graph (world w s.ghost) s.holds.first s.holds.floor s.holds.floors v is halted k.a (port_number g.keys k.a k) (at_a g n.graph k has) way (subst (InTree g.keys) (sym (key_there g n.graph k has)) tree)), branch)
   where
     s : HasSound (network_of g) w
     s = sound g w n

@@ -8,14 +8,14 @@ use Rattle.ghs_graph.specs.Key.{key_lt}
 use Rattle.ghs_graph.specs.Graph.{Shape, IsGraph}
 use Rattle.ghs_graph.specs.Links.{Joined, Same, Over as Along, Back, links, links_below, InTree, IsTree}
 use Rattle.ghs_graph.specs.Laws.{links_but}
-use Rattle.ghs_graph.specs.Ports.{place_of, port_on, ports_of}
+use Rattle.ghs_graph.specs.Ports.{port_number, port_on, ports_of, no_port}
 use Rattle.ghs_graph.proofs.lemmas.Joining.{joined_back}
 use Rattle.ghs_graph.proofs.lemmas.Computing.{tree, tree_is}
 use Rattle.ghs_graph.proofs.lemmas.Forests.{none_is_spare}
 use Rattle.ghs_graph.proofs.lemmas.Ports.{links_have_two_ports, among_at, far_end_a}
 use Rattle.ghs_node.specs.Words.{is_branch}
 use Rattle.ghs_node.specs.declared.mark.Mark.TheVariants.{Branch, Rejected}
-use Rattle.ghs_protocol.specs.Network.{Network, network_of, no_port, port_at, At, far, far_port, InNetwork}
+use Rattle.ghs_protocol.specs.Network.{Network, network_of, port_at, At, far, far_port, InNetwork}
 use Rattle.ghs_protocol.specs.Marks.{Leads, Here, Over}
 use Rattle.ghs_protocol.proofs.clauses.World.{World, forest}
 use Rattle.ghs_protocol.proofs.clauses.Fragments.{IsJoinedIn}
@@ -35,16 +35,16 @@ module _ (s : Shape) (ok : IsGraph s) where
   among k h = subst (λ (x : Key). (1 ≤ x.a) × (x.a < x.b) × (x.b ≤ s.nodes)) h.2 (among_at s.nodes s.keys h.0 k ok.among h.1)
 
   -- the port of a link at its smaller end
-  pub at_a : (k : Key) → Contains s.keys k → At g k.a (place_of s.keys k.a k)
-  at_a k h = let z = among k h in record { some = z.0; node = (let a = z.1 in let b = z.2 in omega (arith, a, b)); port = slice_get_within (ports_of s.keys k.a) (place_of s.keys k.a k) _ (links_have_two_ports s ok k h).at_a }
+  pub at_a : (k : Key) → Contains s.keys k → At g k.a (port_number s.keys k.a k)
+  at_a k h = let z = among k h in record { some = z.0; node = (let a = z.1 in let b = z.2 in omega (arith, a, b)); port = slice_get_within (ports_of s.keys k.a) (port_number s.keys k.a k) _ (links_have_two_ports s ok k h).at_a }
 
-  is_port : (k : Key) → (h : Contains s.keys k) → port_at g k.a (place_of s.keys k.a k) ≡ port_on s.keys k.a k
-  is_port k h = get_or_from_slice_get (ports_of s.keys k.a) (place_of s.keys k.a k) _ no_port (links_have_two_ports s ok k h).at_a
+  is_port : (k : Key) → (h : Contains s.keys k) → port_at g k.a (port_number s.keys k.a k) ≡ port_on s.keys k.a k
+  is_port k h = get_or_from_slice_get (ports_of s.keys k.a) (port_number s.keys k.a k) _ no_port (links_have_two_ports s ok k h).at_a
 
-  pub key_there : (k : Key) → (h : Contains s.keys k) → (port_at g k.a (place_of s.keys k.a k)).key ≡ k
+  pub key_there : (k : Key) → (h : Contains s.keys k) → (port_at g k.a (port_number s.keys k.a k)).key ≡ k
   key_there k h = ap (λ p. p.key) (is_port k h)
 
-  far_there : (k : Key) → (h : Contains s.keys k) → far g k.a (place_of s.keys k.a k) ≡ k.b
+  far_there : (k : Key) → (h : Contains s.keys k) → far g k.a (port_number s.keys k.a k) ≡ k.b
   far_there k h = ap (λ p. p.far) (is_port k h) ∙ far_end_a k
 
   -- a way over links is a way over their ports
@@ -52,7 +52,7 @@ module _ (s : Shape) (ok : IsGraph s) where
     step : (k : Key) → T k → Leads g S k.a k.b
     step k t =
         let h = has k t in
-        subst (Leads g S k.a) (far_there k h) (Over (place_of s.keys k.a k) (at_a k h) (to k.a (place_of s.keys k.a k) (at_a k h) (subst T (sym (key_there k h)) t)) Here)
+        subst (Leads g S k.a) (far_there k h) (Over (port_number s.keys k.a k) (at_a k h) (to k.a (port_number s.keys k.a k) (at_a k h) (subst T (sym (key_there k h)) t)) Here)
 
     pub join_leads : {a b : ℕ} → Joined T a b → Leads g S a b
     join_leads Same = Here

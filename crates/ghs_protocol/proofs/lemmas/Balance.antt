@@ -8,7 +8,7 @@ use Rattle.ghs_node.specs.declared.delta.Fate.TheVariants.{Consumed, Requeued}
 use Rattle.ghs_node.specs.declared.work.Work.TheVariants.{Wake, Deliver}
 use Rattle.ghs_node.specs.Kind.{kind_of, place_of}
 use Rattle.ghs_node.specs.Words.{Outgoing}
-use Rattle.ghs_node.proofs.Inversion.{reaction_inverts}
+use Rattle.ghs_node.proofs.lemmas.{reaction_inverts}
 use Rattle.ghs_protocol.specs.declared.event.Event.{Event}
 use Rattle.ghs_protocol.specs.Network.{Network, far, far_port, At, IsWired}
 use Rattle.ghs_protocol.specs.Net.{Net, opening, put_at, send, send_all, change, take_first, left_of, one_if_consumed}

@@ -8,7 +8,7 @@ use Rattle.ghs_node.specs.declared.delta.Delta.{Delta}
 use Rattle.ghs_node.specs.declared.work.Work.TheVariants.{Wake, Deliver}
 use Rattle.ghs_node.specs.Words.{is_sleeping}
 use Rattle.ghs_node.specs.Reaction.{reaction}
-use Rattle.ghs_node.proofs.Tests.{sleeping_is}
+use Rattle.ghs_node.proofs.lemmas.{sleeping_is}
 use Rattle.ghs_protocol.specs.declared.event.Event.{Event}
 use Rattle.ghs_protocol.specs.declared.event.Event.TheVariants as events
 use Rattle.ghs_protocol.specs.Network.{Network, At}

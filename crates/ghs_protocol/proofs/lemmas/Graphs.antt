@@ -7,14 +7,13 @@ use Rattle.std.proofs.lemmas.List.{get_or_default}
 use Rattle.std.proofs.lemmas.Option.{slice_get_within, slice_get-get_or, get_or_from_slice_get}
 use Rattle.ghs_graph.specs.declared.key.Key.{Key}
 use Rattle.ghs_graph.specs.declared.port.Port.{Port}
-use Rattle.ghs_graph.specs.Key.{key_lt, ends_at}
+use Rattle.ghs_graph.specs.Key.{key_lt, ends_at, no_key}
 use Rattle.ghs_graph.specs.Graph.{Shape, IsGraph, nodes_of}
-use Rattle.ghs_graph.specs.Ports.{place_of, far_end, port_on, ports_of, HasPort}
+use Rattle.ghs_graph.specs.Ports.{port_number, far_end, port_on, ports_of, HasPort, no_port}
 use Rattle.ghs_graph.specs.Laws.{HasTwoPorts}
-use Rattle.ghs_graph.proofs.lemmas.Keys.{no_key}
 use Rattle.ghs_graph.proofs.lemmas.Ports.{length-ports_of, degree-le-length, ports_end_elsewhere, ports_lead_back, ports_rise, OnLink, on_link, far_end_a, far_end_b, end_cases, among_at, links_have_two_ports}
 use Rattle.ghs_graph.proofs.lemmas.Degrees.{degrees_are_twice}
-use Rattle.ghs_protocol.specs.Network.{network_of, no_port, port_at, far, far_port, At, IsWired}
+use Rattle.ghs_protocol.specs.Network.{network_of, port_at, far, far_port, At, IsWired}
 use Rattle.ghs_protocol.specs.Nodes.{HasFewPorts}
 use Rattle.ghs_protocol.specs.Ledger.{sum_below}
 
@@ -101,13 +100,13 @@ module _ (g : Shape) (ok : IsGraph g) where
       two : HasTwoPorts g.keys k
       two = links_have_two_ports g ok k (is_key v p at)
 
-      here : ((v ≡ k.a) × (p ≡ place_of g.keys k.a k)) ⊎ ((v ≡ k.b) × (p ≡ place_of g.keys k.b k))
+      here : ((v ≡ k.a) × (p ≡ port_number g.keys k.a k)) ⊎ ((v ≡ k.b) × (p ≡ port_number g.keys k.b k))
       here = two.only v p (port_at (network_of g) v p) (has_port v p at) refl
 
-      there : ((u ≡ k.a) × (q ≡ place_of g.keys k.a k)) ⊎ ((u ≡ k.b) × (q ≡ place_of g.keys k.b k))
+      there : ((u ≡ k.a) × (q ≡ port_number g.keys k.a k)) ⊎ ((u ≡ k.b) × (q ≡ port_number g.keys k.b k))
       there = two.only u q (port_at (network_of g) u q) (has_port u q at') (sym e)
 
-      across_to : {a b : ℕ} → v ≡ a → (u ≡ b) × (q ≡ place_of g.keys b k) → far_end a k ≡ b → (far (network_of g) v p ≡ u) × (far_port (network_of g) v p ≡ q)
+      across_to : {a b : ℕ} → v ≡ a → (u ≡ b) × (q ≡ port_number g.keys b k) → far_end a k ≡ b → (far (network_of g) v p ≡ u) × (far_port (network_of g) v p ≡ q)
       across_to {a} {b} x y f =
           let end : far_end v k ≡ b = ap (λ z. far_end z k) x ∙ f in
-          (ap (λ (z : Port). z.far) (port_is v p at) ∙ end ∙ sym y.0, ap (λ (z : Port). z.far_port) (port_is v p at) ∙ ap (λ z. place_of g.keys z k) end ∙ sym y.1)
+          (ap (λ (z : Port). z.far) (port_is v p at) ∙ end ∙ sym y.0, ap (λ (z : Port). z.far_port) (port_is v p at) ∙ ap (λ z. port_number g.keys z k) end ∙ sym y.1)

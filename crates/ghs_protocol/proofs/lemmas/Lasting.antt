@@ -9,9 +9,7 @@ use Rattle.ghs_node.specs.NodeState.{NodeState, mark_at, with_mark, IsNode}
 use Rattle.ghs_node.specs.Reaction.{after}
 use Rattle.ghs_node.specs.Rows.{Row}
 use Rattle.ghs_node.specs.Laws.{MarkChange, Stays, To_branch, To_rejected}
-use Rattle.ghs_node.proofs.Inversion.{reaction_inverts}
-use Rattle.ghs_node.proofs.Marks.{row_marks, mark_set, branch_stays}
-use Rattle.ghs_node.proofs.Kept.{row_level, row_awake, row_halts}
+use Rattle.ghs_node.proofs.lemmas.{reaction_inverts, row_marks, mark_set, branch_stays, row_level, row_awake, row_halts}
 use Rattle.ghs_protocol.specs.declared.event.Event.{Event}
 use Rattle.ghs_protocol.specs.Network.{Network, IsWired}
 use Rattle.ghs_protocol.specs.Net.{Net, take_first}

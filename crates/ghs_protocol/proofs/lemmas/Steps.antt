@@ -2,7 +2,7 @@
 use Rattle.std.proofs.Common.{◌≡◌, List, arith, Some}
 use Rattle.ghs_node.specs.declared.work.Work.TheVariants.{Deliver}
 use Rattle.ghs_node.specs.Rows.{Awake}
-use Rattle.ghs_node.proofs.Computed.{row_computes}
+use Rattle.ghs_node.proofs.lemmas.{row_computes}
 use Rattle.ghs_protocol.specs.declared.event.Event.{Event}
 use Rattle.ghs_protocol.specs.declared.event.Event.TheVariants as events
 use Rattle.ghs_protocol.specs.Network.{Network, IsWired}

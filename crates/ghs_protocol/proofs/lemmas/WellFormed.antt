@@ -14,9 +14,7 @@ use Rattle.ghs_node.specs.NodeState.{NodeState, sleeper, IsNode}
 use Rattle.ghs_node.specs.Reaction.{reaction, after}
 use Rattle.ghs_node.specs.Rows.{Row}
 use Rattle.ghs_node.specs.Laws.{HasLevel, WorkHasLevel}
-use Rattle.ghs_node.proofs.Inversion.{reaction_inverts}
-use Rattle.ghs_node.proofs.Kept.{row_kept}
-use Rattle.ghs_node.proofs.Outgoing.{row_ported, row_leveled}
+use Rattle.ghs_node.proofs.lemmas.{reaction_inverts, row_kept, row_ported, row_leveled}
 use Rattle.ghs_protocol.specs.declared.event.Event.{Event}
 use Rattle.ghs_protocol.specs.Network.{Network, far, far_port, At, IsWired}
 use Rattle.ghs_protocol.specs.Net.{Net, opening, change, take_first}

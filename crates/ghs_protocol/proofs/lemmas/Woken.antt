@@ -12,9 +12,9 @@ use Rattle.ghs_node.specs.declared.message.Message.TheVariants.{Connect}
 use Rattle.ghs_node.specs.declared.delta.Delta.{Delta}
 use Rattle.ghs_node.specs.declared.work.Work.TheVariants.{Wake, Deliver}
 use Rattle.ghs_node.specs.NodeState.{NodeState, mark_at, degree, with_mark, IsNode}
-use Rattle.ghs_node.specs.Reaction.{at_wake, wakes, wakes_alone, woken, after_wake, after}
+use Rattle.ghs_node.specs.Reaction.{at_wake, wakes, wakes_alone, woken, once_woken, after}
 use Rattle.ghs_node.specs.Rows.{AwakeRow, Connect_waits, Connect_merges, Test_waits, Test_accepted, Row, Wakes, Wakes_alone, Woken_merges, Woken_connect_waits, Woken_test_waits, Woken_accepts, Awake}
-use Rattle.ghs_node.proofs.Inversion.{reaction_inverts}
+use Rattle.ghs_node.proofs.lemmas.{reaction_inverts}
 use Rattle.ghs_protocol.specs.declared.event.Event.{Event}
 use Rattle.ghs_protocol.specs.Network.{Network, far, far_port, At, IsWired}
 use Rattle.ghs_protocol.specs.Net.{Net, event_node, put, put_at, send, send_all, change, left_of, take_first}
@@ -26,7 +26,7 @@ use Rattle.ghs_protocol.proofs.lemmas.Sends.{node_here}
 
 -- what a node that has just woken does is a row of its own, which changes no mark
 pub data WokenRow (n : NodeState) (j : ℕ) (m : Message) : Delta → Type 0 where
-  Woken : (d : Delta) → AwakeRow (woken n) j m d → d.mark ≡ None → ◌≡◌ {A = ℕ} d.head.level 0 → WokenRow n j m (after_wake d)
+  Woken : (d : Delta) → AwakeRow (woken n) j m d → d.mark ≡ None → ◌≡◌ {A = ℕ} d.head.level 0 → WokenRow n j m (once_woken d)
 
 -- the node of a step
 abbrev pub step_node : {g : Network} {w w' : Net} → Step g w w' → ℕ
@@ -100,13 +100,13 @@ module _ (g : Network) (wired : IsWired g) where
   -- the wake and what follows it, as two steps
   two_steps : (w : Net) (v p : ℕ) (m : Message) (ms : List Message) (d : Delta) → At g v p → (w.node v).head.phase ≡ Sleeping →
       degree (w.node v) ≡ length (g.ports v) → w.queue v p ≡ m ∷ ms → AwakeRow (woken (w.node v)) p m d → d.mark ≡ None → ◌≡◌ {A = ℕ} d.head.level 0 →
-      StepsBy g v w (taken g v p m ms (after_wake d) w)
+      StepsBy g v w (taken g v p m ms (once_woken d) w)
   two_steps w v p m ms d at s len q row bare low = wake (w.node v).marks refl
     where
       first : At g v 0
       first = record { some = at.some; node = at.node; port = let lt = at.port in omega arith }
 
-      wake : (ks : List Mark) → (w.node v).marks ≡ ks → StepsBy g v w (taken g v p m ms (after_wake d) w)
+      wake : (ks : List Mark) → (w.node v).marks ≡ ks → StepsBy g v w (taken g v p m ms (once_woken d) w)
       wake [] e = absurd (let lt = at.port in omega (arith, ap length e))
       wake (k ∷ ks) e = Two_by one (subst (StepBy g v mid) whole two) level
         where
@@ -133,14 +133,14 @@ module _ (g : Network) (wired : IsWired g) where
             by = refl;
           }
 
-          level : (mid.node v).head.level ≡ ((taken g v p m ms (after_wake d) w).node v).head.level
-          level = ap (λ (n : NodeState). n.head.level) here ∙ sym (ap (λ (n : NodeState). n.head.level) (node_here g v (after_wake d) (take_first (after_wake d).fate v p m ms w)) ∙ low)
+          level : (mid.node v).head.level ≡ ((taken g v p m ms (once_woken d) w).node v).head.level
+          level = ap (λ (n : NodeState). n.head.level) here ∙ sym (ap (λ (n : NodeState). n.head.level) (node_here g v (once_woken d) (take_first (once_woken d).fate v p m ms w)) ∙ low)
 
-          whole : taken g v p m ms d mid ≡ taken g v p m ms (after_wake d) w
+          whole : taken g v p m ms d mid ≡ taken g v p m ms (once_woken d) w
           whole = ap (send_all g v d.sends) (same_net (fun_ext nodes) (fun_ext (λ a. fun_ext (λ b. queues a b))) refl refl refl)
             where
               last : NodeState
-              last = after (w.node v) (after_wake d)
+              last = after (w.node v) (once_woken d)
 
               same_node : after (mid.node v) d ≡ last
               same_node = ap (λ (n : NodeState). after n d) here ∙ no_mark (woken (w.node v)) d bare

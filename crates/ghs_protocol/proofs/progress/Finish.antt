@@ -17,10 +17,8 @@ use Rattle.ghs_node.specs.declared.work.Work.TheVariants.{Wake, Deliver}
 use Rattle.ghs_node.specs.NodeState.{NodeState}
 use Rattle.ghs_node.specs.Rows.{Row}
 use Rattle.ghs_node.specs.Reaction.{reaction}
-use Rattle.ghs_node.proofs.Inversion.{reaction_inverts}
+use Rattle.ghs_node.proofs.lemmas.{reaction_inverts, sleeping_is, sleeping_not, is_sleeping_not, row_awake}
 use Rattle.ghs_node.specs.Words.{is_sleeping}
-use Rattle.ghs_node.proofs.Tests.{sleeping_is, sleeping_not, is_sleeping_not}
-use Rattle.ghs_node.proofs.Kept.{row_awake}
 use Rattle.ghs_protocol.specs.declared.event.Event.{Event}
 use Rattle.ghs_protocol.specs.declared.event.Event.TheVariants.{Take}
 use Rattle.ghs_protocol.specs.declared.event.Event.TheVariants as events

@@ -12,8 +12,7 @@ use Rattle.ghs_node.specs.Rows.{AwakeRow, Awake}
 use Rattle.ghs_node.specs.Rows as rows
 use Rattle.ghs_node.specs.Kind.{kind_of, place_of}
 use Rattle.ghs_node.specs.NodeState.{NodeState, degree}
-use Rattle.ghs_node.proofs.Computed.{row_computes}
-use Rattle.ghs_node.proofs.Inversion.{reaction_inverts}
+use Rattle.ghs_node.proofs.lemmas.{row_computes, reaction_inverts}
 use Rattle.ghs_protocol.specs.declared.event.Event.TheVariants as events
 use Rattle.ghs_protocol.specs.Network.{Network, network_of, At}
 use Rattle.ghs_protocol.specs.Net.{Net}

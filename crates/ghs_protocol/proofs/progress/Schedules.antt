@@ -16,8 +16,7 @@ use Rattle.ghs_node.specs.declared.work.Work.TheVariants.{Wake, Deliver}
 use Rattle.ghs_node.specs.NodeState.{NodeState, degree}
 use Rattle.ghs_node.specs.Reaction.{reaction}
 use Rattle.ghs_node.specs.Words.{Outgoing, is_sleeping}
-use Rattle.ghs_node.proofs.Inversion.{reaction_inverts}
-use Rattle.ghs_node.proofs.Kept.{row_awake}
+use Rattle.ghs_node.proofs.lemmas.{reaction_inverts, row_awake}
 use Rattle.ghs_protocol.specs.declared.event.Event.{Event}
 use Rattle.ghs_protocol.specs.declared.event.Event.TheVariants as events
 use Rattle.ghs_protocol.specs.Network.{Network, network_of, At, far, far_port, port_at}

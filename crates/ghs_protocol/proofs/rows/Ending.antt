@@ -10,7 +10,7 @@ use Rattle.ghs_node.specs.declared.message.Message.TheVariants.{Report}
 use Rattle.ghs_node.specs.Words.{Outgoing, is_basic, best_key, least_basic}
 use Rattle.ghs_node.specs.Reaction.{Ending, Probing, Reporting, Waiting, last_sends, name_of, core_port}
 use Rattle.ghs_node.specs.Rows.{Closes, Reports, Waits, Settles, Probes, Exhausts}
-use Rattle.ghs_node.proofs.Tests.{basic_is}
+use Rattle.ghs_node.proofs.lemmas.{basic_is}
 use Rattle.ghs_protocol.proofs.clauses.Wiring.{IsOrdered}
 use Rattle.ghs_protocol.specs.Network.{Network, At, IsWired, InNetwork}
 use Rattle.ghs_protocol.specs.Net.{put}

@@ -9,10 +9,12 @@ use Rattle.ghs_node.specs.declared.mark.Mark.{Mark}
 use Rattle.ghs_node.specs.declared.mark.Mark.TheVariants.{Basic, Branch, Rejected}
 use Rattle.ghs_node.specs.declared.message.Message.{Message}
 use Rattle.ghs_node.specs.declared.message.Message.TheVariants.{Connect, Initiate, Test, Accept, Reject, Report, ChangeRoot}
-use Rattle.ghs_node.specs.NodeState.{NodeState, key_at, mark_at, with_mark, degree, no_key}
+use Rattle.ghs_node.specs.NodeState.{NodeState, key_at, mark_at, with_mark, degree}
+use Rattle.ghs_graph.specs.Key.{no_key}
 use Rattle.ghs_node.specs.Words.{is_name}
 use Rattle.ghs_node.specs.Reaction.{reject_at}
-use Rattle.ghs_protocol.specs.Network.{Network, no_port, port_at}
+use Rattle.ghs_protocol.specs.Network.{Network, port_at}
+use Rattle.ghs_graph.specs.Ports.{no_port}
 use Rattle.ghs_protocol.specs.Net.{put}
 use Rattle.ghs_protocol.specs.Nodes.{IsNodeOf}
 use Rattle.ghs_protocol.proofs.clauses.World.{Seen, unseen, add, see}

@@ -3,7 +3,7 @@ use Rattle.std.proofs.lemmas.Bool.{both_ways}
 use Rattle.ghs_graph.specs.declared.key.Key.{Key}
 use Rattle.ghs_graph.specs.declared.port.Port.{Port}
 use Rattle.ghs_graph.specs.declared.layout.Places.{Places}
-use Rattle.ghs_graph.proofs.lemmas.Keys.{no_key}
+use Rattle.ghs_graph.specs.Key.{no_key}
 use Rattle.ghs_graph.proofs.Filling.{no_places, none_filled, one_filled, all_filled, end_a, end_b, port_at_a, port_at_b, place_fits, written_blocks, IsWrittenWithin}
 use Rattle.ghs_graph.proofs.layout.fill_from.Goals as goal
 use Rattle.ghs_graph.proofs.layout.fill_from.Goals.{then-is_within, else-is_within, then-is_within-2, else-is_within-2}

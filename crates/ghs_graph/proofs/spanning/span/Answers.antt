@@ -1,5 +1,5 @@
 use Rattle.std.proofs.Common.{get_or, refl}
-use Rattle.ghs_graph.proofs.lemmas.Keys.{no_key}
+use Rattle.ghs_graph.specs.Key.{no_key}
 use Rattle.ghs_graph.proofs.Growing.{spanned_more}
 use Rattle.ghs_graph.proofs.spanning.span.Goals as goal
 

@@ -2,9 +2,8 @@ use Rattle.std.proofs.Common.{◌≡◌, ◌∙◌, ◌<◌, List, length, map, 
 use Rattle.std.proofs.lemmas.List.{get_or-map, length-map, take_all}
 use Rattle.ghs_gr.specs.RawGraph.{Triple}
 use Rattle.ghs_graph.specs.declared.key.Key.{Key}
-use Rattle.ghs_graph.specs.Key.{key_of}
+use Rattle.ghs_graph.specs.Key.{key_of, no_key}
 use Rattle.ghs_graph.specs.Spanning.{IsSpanned}
-use Rattle.ghs_graph.proofs.lemmas.Keys.{no_key}
 use Rattle.ghs_graph.proofs.Growing.{spanned_more}
 use Rattle.ghs_graph.proofs.Reading.{graph_of, no_triple}
 use Rattle.ghs_graph.proofs.spanning.span_raw.Goals as goal

@@ -30,4 +30,5 @@ invariant_of-self c =
     let region = region_ge c.self.invariant c.args.at lt _ c.index_mut-3.ensures.value in
     let zone = zone_ge c.self.invariant c.args.at lt _ c.index_mut-4.ensures.value in
     let total = total_ge c.self.invariant c.args.at lt in
-    tower_set c.self.invariant c.args.at lt _ _ _ _ _ _ _ _ _ c.index_mut.ensures.value c.index_mut-2.ensures.value c.index_mut-3.ensures.value c.index_mut-4.ensures.value (omega arith) (omega arith) (omega arith) (omega arith) (omega arith)
+    tower_set c.self.invariant c.args.at lt _ _ _ _ _ _ _ _ _ c.index_mut.ensures.value c.index_mut-2.ensures.value c.index_mut-3.ensures.value
+    c.index_mut-4.ensures.value (omega arith) (omega arith) (omega arith) (omega arith) (omega arith)

@@ -3,7 +3,11 @@ use Rattle.ghs_flags.proofs.lemmas.Raised.{kth_from, none_from}
 use Rattle.ghs_flags.proofs.flags.Flags.first_from_block.Goals as goal
 
 pub returns-then-before-count : goal.returns-then-before-count
-returns-then-before-count c = λ j lo hi. rw (← c.self.view_is) (none_from c.self.inside.row (c.args.block * 512) (let before = c.self.invariant.counted.fronts c.args.block in let same = rw (← c.self.view_is) at c.count.ensures in omega arith) j lo)
+returns-then-before-count c =
+    λ j lo hi.
+    rw (← c.self.view_is)
+    (none_from c.self.inside.row (c.args.block * 512)
+    (let before = c.self.invariant.counted.fronts c.args.block in let same = rw (← c.self.view_is) at c.count.ensures in omega arith) j lo)
 
 pub returns-then-found-end : goal.returns-then-found-end
 returns-then-found-end c =
