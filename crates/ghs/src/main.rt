@@ -9,7 +9,7 @@ ghost use Rattle.std.specs.Prelude.{◌≡◌, MatchResult, false, map, string_b
 use ghs_cli::fault::ServeFault;
 use ghs_cli::job::{Job, JobFault, read_job};
 use ghs_cli::serve::serve;
-use ghs_cli::write_out::write_out;
+use ghs_report::write_out::write_out;
 use ghs_gr::device::{Device, Source};
 use std::alloc::Global;
 use std::fs::File;

@@ -1,3 +1,2 @@
-pub mod WritingLemmas
 mod Said
 mod WordExamples

@@ -1,5 +1,3 @@
 pub mod Fault
 pub mod Job
 pub mod Serving
-pub mod TreeText
-pub mod Writing

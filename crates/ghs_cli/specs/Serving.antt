@@ -6,8 +6,8 @@ use Rattle.ghs_gr.specs.declared.fault.GrFault.TheVariants as gr
 use Rattle.ghs_graph.specs.declared.key.Key.{Key}
 use Rattle.ghs_graph.specs.Key.{key_of}
 use Rattle.ghs_graph.specs.Links.{IsTree}
-use Rattle.ghs_cli.specs.TreeText.{tree_text}
-use Rattle.ghs_cli.specs.Writing.{HasWritten}
+use Rattle.ghs_report.specs.TreeText.{tree_text}
+use Rattle.ghs_report.specs.Writing.{HasWritten}
 use Rattle.ghs_cli.specs.declared.fault.ServeFault.{ServeFault}
 use Rattle.ghs_cli.specs.declared.fault.ServeFault.TheVariants as serve
 

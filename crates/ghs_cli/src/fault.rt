@@ -2,7 +2,7 @@
 ghost use Rattle.ghs_cli.specs.Fault.{of_gr, status_of};
 ghost use Rattle.std.specs.Prelude.{◌≡◌};
 
-use crate::write_out::Partial;
+use ghs_report::write_out::Partial;
 use ghs_gr::fault::GrFault;
 use std::alloc::AllocError;
 use thiserror::Error;

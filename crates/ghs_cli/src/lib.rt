@@ -4,5 +4,3 @@
 pub mod fault;
 pub mod job;
 pub mod serve;
-pub mod tree_text;
-pub mod write_out;

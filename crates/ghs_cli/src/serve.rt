@@ -5,8 +5,8 @@ ghost use Rattle.std.specs.Prelude.{◌≡◌, ◌≢◌, ◌↔◌, false, true
 
 use crate::fault::ServeFault;
 use crate::job::{Job, Task};
-use crate::tree_text::tree_text;
-use crate::write_out::write_out;
+use ghs_report::tree_text::tree_text;
+use ghs_report::write_out::write_out;
 use ghs_gr::device::{Sink, Source};
 use ghs_gr::judgement::read_gr;
 use ghs_graph::tree::tree_of;

@@ -1,6 +1,6 @@
 //! Writing a text out.
 ghost use Rattle.std.specs.Prelude.{◌≡◌, ◌<◌, false, true, length, OnOk, IfErr, MatchResult};
-ghost use Rattle.ghs_cli.specs.Writing.{HasWritten};
+ghost use Rattle.ghs_report.specs.Writing.{HasWritten};
 
 use ghs_gr::device::Sink;
 

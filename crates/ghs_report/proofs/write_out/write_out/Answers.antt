@@ -1,8 +1,8 @@
 use Rattle.std.proofs.Common.{rules, arith, ◌∙◌, ap, ◌==◌, length-take-le, length-drop}
 use Rattle.std.specs.Prelude.{◌||◌}
 use Rattle.std.proofs.lemmas.Bool.{ne_eqb}
-use Rattle.ghs_cli.proofs.WritingLemmas.{appends_more, within_rest}
-use Rattle.ghs_cli.proofs.write_out.write_out.Goals as goal
+use Rattle.ghs_report.proofs.WritingLemmas.{appends_more, within_rest}
+use Rattle.ghs_report.proofs.write_out.write_out.Goals as goal
 
 pub writes-preserved : goal.writes-preserved
 writes-preserved g c = record {

@@ -2,8 +2,8 @@ use Rattle.std.proofs.Common.{◌≡◌, ◌++◌, take, arith, ap, ◌∙◌}
 use Rattle.std.proofs.lemmas.List.{take_all}
 use Rattle.std.specs.List.{flat_map}
 use Rattle.ghs_graph.specs.Links.{total_weight}
-use Rattle.ghs_cli.specs.TreeText.{tree_text, link_line, total_line}
-use Rattle.ghs_cli.proofs.tree_text.tree_text.Goals as goal
+use Rattle.ghs_report.specs.TreeText.{tree_text, link_line, total_line}
+use Rattle.ghs_report.proofs.tree_text.tree_text.Goals as goal
 
 -- the loop has gone over all links
 pub returns : goal.returns

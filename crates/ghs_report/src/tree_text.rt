@@ -1,9 +1,9 @@
 //! The text of a tree.
-ghost use Rattle.std.specs.Prelude.{◌≡◌, ◌++◌, IfOk, decimal};
-ghost use Rattle.ghs_cli.specs.TreeText.{tree_text, link_line, total_line};
+ghost use Rattle.std.specs.Prelude.{◌≡◌, ◌++◌, IfOk};
+ghost use Rattle.ghs_report.specs.TreeText.{tree_text, link_line, total_line};
 
+use crate::number::put_number;
 use ghs_graph::key::Key;
-use itoa::Buffer;
 use std::alloc::{AllocError, Global};
 
 /// A line `t A B W` for each link, and a line `w TOTAL` with the sum of their weights. The sum of a list of any
@@ -42,14 +42,5 @@ fn put_total(text: &mut Vec<u8>, total: u128) -> Result<(), AllocError>
     text.extend_from_slice(b"w ")?;
     put_number(text, total)?;
     text.extend_from_slice(b"\n")?;
-    Ok(())
-}
-
-/// A number's decimal digits.
-fn put_number(text: &mut Vec<u8>, number: u128) -> Result<(), AllocError>
-    ensures { IfOk result (λ _. text.new.items ≡ text.old.items ++ decimal number) }
-{
-    let mut buffer = Buffer::new();
-    text.extend_from_slice(buffer.format(number).as_bytes())?;
     Ok(())
 }

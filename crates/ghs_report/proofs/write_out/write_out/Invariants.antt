@@ -1,6 +1,6 @@
 use Rattle.std.proofs.Common.{length, ◌-◌, ◌≡◌, ◌≤◌, false}
-use Rattle.ghs_cli.specs.Writing.{HasWritten}
-use Rattle.ghs_cli.proofs.write_out.write_out.Given as goal
+use Rattle.ghs_report.specs.Writing.{HasWritten}
+use Rattle.ghs_report.proofs.write_out.write_out.Given as goal
 
 abbrev pub invariant-writes : goal.invariant-writes
 invariant-writes g l = record {

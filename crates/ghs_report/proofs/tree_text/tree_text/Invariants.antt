@@ -1,8 +1,8 @@
 use Rattle.std.proofs.Common.{◌≡◌, ◌≤◌, ◌*◌, take}
 use Rattle.std.specs.List.{flat_map}
 use Rattle.ghs_graph.specs.Links.{total_weight}
-use Rattle.ghs_cli.specs.TreeText.{link_line}
-use Rattle.ghs_cli.proofs.tree_text.tree_text.Given as goal
+use Rattle.ghs_report.specs.TreeText.{link_line}
+use Rattle.ghs_report.proofs.tree_text.tree_text.Given as goal
 
 abbrev pub invariant-loop-key : goal.invariant-loop-key
 invariant-loop-key l = record {

@@ -1,0 +1,3 @@
+pub mod NetText
+pub mod TreeText
+pub mod Writing

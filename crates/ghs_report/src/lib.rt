@@ -1,0 +1,7 @@
+//! Output texts: of a tree and of a finished run, and writing a text out.
+#![tactic(auto)]
+
+pub mod net_text;
+pub mod number;
+pub mod tree_text;
+pub mod write_out;
