@@ -10,16 +10,8 @@ fn roots(rt: HostRuntime) -> Result<(), Fail> {
         ("p sp 2 0", [1, 2].as_slice(), 2),
         ("p sp 3 2\na 1 2 5\na 2 3 7", [1, 1, 1].as_slice(), 1),
         ("p sp 3 1\na 3 2 5", [1, 2, 2].as_slice(), 2),
-        (
-            "p sp 4 2\na 1 2 5\na 3 4 6",
-            [1, 1, 3, 3].as_slice(),
-            2,
-        ),
-        (
-            "p sp 5 2\na 1 2 5\na 3 4 6",
-            [1, 1, 3, 3, 5].as_slice(),
-            3,
-        ),
+        ("p sp 4 2\na 1 2 5\na 3 4 6", [1, 1, 3, 3].as_slice(), 2),
+        ("p sp 5 2\na 1 2 5\na 3 4 6", [1, 1, 3, 3, 5].as_slice(), 3),
         (
             "p sp 6 4\na 5 6 1\na 4 6 2\na 2 4 3\na 1 3 9",
             [1, 2, 1, 2, 2, 2].as_slice(),

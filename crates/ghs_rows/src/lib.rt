@@ -10,6 +10,8 @@ mod nets;
 #[cfg(test)]
 mod queues;
 #[cfg(test)]
+mod texts;
+#[cfg(test)]
 mod tree;
 #[cfg(test)]
 mod words;

@@ -28,14 +28,14 @@ const FIVE: &str = "p sp 5 4\na 1 2 1\na 2 3 2\na 4 5 3\na 3 4 4";
 const FORKED: &str = "p sp 5 4\na 1 2 1\na 3 4 2\na 2 3 5\na 2 5 9";
 
 /// The opening net of the graph of a text.
-fn net_of(rt: &impl Abort, alloc: Global, text: &str) -> Net {
+pub fn net_of(rt: &impl Abort, alloc: Global, text: &str) -> Net {
     let raw = judge(alloc, text.as_bytes()).ok().expect(rt, "a graph");
     let graph = Graph::build(alloc, raw).ok().expect(rt, "ports");
     Net::open(alloc, graph).ok().expect(rt, "a net")
 }
 
 /// Plays an event, which has to be lawful.
-fn play(rt: &impl Abort, alloc: Global, net: &mut Net, event: Event) {
+pub fn play(rt: &impl Abort, alloc: Global, net: &mut Net, event: Event) {
     assert!(rt; net.lawful(event));
     assert!(rt; net.events() < 1 << 40);
     let v = match event {
@@ -50,7 +50,7 @@ fn play(rt: &impl Abort, alloc: Global, net: &mut Net, event: Event) {
     net.play(event, &delta);
 }
 
-fn is_lawful(net: &Net, event: Event) -> bool {
+pub fn is_lawful(net: &Net, event: Event) -> bool {
     net.lawful(event)
 }
 
@@ -58,7 +58,7 @@ fn halted_in(net: &Net) -> Option<u32> {
     net.core_halted()
 }
 
-fn has_ended(net: &Net) -> bool {
+pub fn has_ended(net: &Net) -> bool {
     net.ended()
 }
 

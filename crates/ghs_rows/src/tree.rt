@@ -38,14 +38,8 @@ fn trees(rt: HostRuntime) -> Result<(), Fail> {
         ),
         // Graphs in pieces: their minimum spanning forest.
         ("p sp 2 0", "w 0\n"),
-        (
-            "p sp 4 2\na 1 2 5\na 3 4 6",
-            "t 1 2 5\nt 3 4 6\nw 11\n",
-        ),
-        (
-            "p sp 5 2\na 1 2 5\na 3 4 6",
-            "t 1 2 5\nt 3 4 6\nw 11\n",
-        ),
+        ("p sp 4 2\na 1 2 5\na 3 4 6", "t 1 2 5\nt 3 4 6\nw 11\n"),
+        ("p sp 5 2\na 1 2 5\na 3 4 6", "t 1 2 5\nt 3 4 6\nw 11\n"),
     ];
     for (input, output) in rows {
         let (result, written) = tree_of(rt.alloc(), input.as_bytes());
