@@ -1,0 +1,10 @@
+//! Runs: the text of a trace, written and read.
+#![tactic(auto)]
+
+pub mod fault;
+pub mod laws;
+mod line;
+mod reading;
+#[cfg(test)]
+mod tests;
+pub mod trace;
