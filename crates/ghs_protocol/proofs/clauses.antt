@@ -11,6 +11,6 @@ pub mod Wiring
 pub mod Uniting
 pub mod Floors
 pub mod Charges
-pub mod World
+pub mod Scene
 pub mod UnderWay
 pub mod Acts

@@ -4,7 +4,7 @@ pub mod KeyDescent
 pub mod Askers
 pub mod Halves
 pub mod OneWaits
-pub mod Worlds
+pub mod Scenes
 pub mod Found
 pub mod Nets
 pub mod Runs

@@ -11,7 +11,7 @@ use Rattle.ghs_node.specs.Reaction.{after}
 use Rattle.ghs_protocol.specs.Network.{Network, port_at}
 use Rattle.ghs_protocol.specs.Net.{Net, put_at, send, send_all}
 use Rattle.ghs_protocol.proofs.lemmas.Updates.{put_at_same, put_at_miss}
-use Rattle.ghs_protocol.proofs.clauses.World.{Seen, unseen, add, adds, see, Member, member, Ghost, push_all}
+use Rattle.ghs_protocol.proofs.clauses.Scene.{Seen, unseen, add, adds, see, Member, member, Ghost, push_all}
 use Rattle.ghs_protocol.proofs.lemmas.Pushes.{add_all_append}
 
 -- two parts of a queue together

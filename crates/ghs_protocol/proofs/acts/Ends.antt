@@ -10,28 +10,28 @@ use Rattle.ghs_protocol.proofs.clauses.Acts.{Side}
 use Rattle.ghs_protocol.proofs.acts.Sides.{acts_at}
 use Rattle.ghs_protocol.proofs.lemmas.Updates.{put_same, put_other}
 use Rattle.ghs_protocol.proofs.lemmas.Wires.{no_loop, neighbour}
-use Rattle.ghs_protocol.proofs.clauses.World.{Seen, add, adds, Member, World, End, end, acts}
+use Rattle.ghs_protocol.proofs.clauses.Scene.{Seen, add, adds, Member, Scene, End, end, acts}
 
 module _ (g : Network) (wired : IsWired g) where
   -- one act
-  module _ (u : ℕ) (lo : 1 ≤ u) (hi : u ≤ g.count) (x : Member) (own : ℕ → Seen) (ss : Outgoing) (w : World) where
+  module _ (u : ℕ) (lo : 1 ≤ u) (hi : u ≤ g.count) (x : Member) (own : ℕ → Seen) (ss : Outgoing) (w : Scene) where
     pub here_seen : (i : ℕ) → (acts g u x own ss w).seen u i ≡ own i
     here_seen i = unpushed add g u u i ss (put w.seen u own) (λ a e h. no_loop g wired u a lo hi e) ∙ ap (λ (f : ℕ → Seen). f i) (put_same w.seen u own)
 
-    pub here_end : (i : ℕ) → end g (acts g u x own ss w) u i ≡ record { port = i; key = (port_at g u i).key; mark = (x).mark (i); is = x; seen = own i }
-    here_end i = λ k. record { port = i; key = (port_at g u i).key; mark = (put_same w.at u x k).mark (i); is = put_same w.at u x k; seen = here_seen i k }
+    pub here_end_is : (i : ℕ) → end g (acts g u x own ss w) u i ≡ record { port = i; key = (port_at g u i).key; mark = (x).mark (i); is = x; seen = own i }
+    here_end_is i = λ k. record { port = i; key = (port_at g u i).key; mark = (put_same w.at u x k).mark (i); is = put_same w.at u x k; seen = here_seen i k }
 
     pub far_seen : (i : ℕ) → At g u i → (acts g u x own ss w).seen (far g u i) (far_port g u i) ≡ adds (w.seen (far g u i) (far_port g u i)) (sent_on ss i)
     far_seen i at = pushed add g wired u i ss (put w.seen u own) at ∙ ap (λ (f : ℕ → Seen). adds (f (far_port g u i)) (sent_on ss i)) (put_other w.seen u (far g u i) own (wired.apart u i at))
 
-    pub far_end : (i : ℕ) → At g u i → end g (acts g u x own ss w) (far g u i) (far_port g u i) ≡ record { port = far_port g u i; key = (port_at g u i).key; mark = (w.at (far g u i)).mark (far_port g u i); is = w.at (far g u i); seen = adds (w.seen (far g u i) (far_port g u i)) (sent_on ss i) }
-    far_end i at = λ k. record { port = far_port g u i; key = wired.same_key u i at k; mark = (put_other w.at u (far g u i) x (wired.apart u i at) k).mark (far_port g u i); is = put_other w.at u (far g u i) x (wired.apart u i at) k; seen = far_seen i at k }
+    pub far_end_is : (i : ℕ) → At g u i → end g (acts g u x own ss w) (far g u i) (far_port g u i) ≡ record { port = far_port g u i; key = (port_at g u i).key; mark = (w.at (far g u i)).mark (far_port g u i); is = w.at (far g u i); seen = adds (w.seen (far g u i) (far_port g u i)) (sent_on ss i) }
+    far_end_is i at = λ k. record { port = far_port g u i; key = wired.same_key u i at k; mark = (put_other w.at u (far g u i) x (wired.apart u i at) k).mark (far_port g u i); is = put_other w.at u (far g u i) x (wired.apart u i at) k; seen = far_seen i at k }
 
     pub other_seen : (a b : ℕ) → At g a b → a ≢ u → far g a b ≢ u → (acts g u x own ss w).seen a b ≡ w.seen a b
     other_seen a b at ne away = unpushed add g u a b ss (put w.seen u own) (λ i e h. away (neighbour g wired u i a b lo hi at e h)) ∙ ap (λ (f : ℕ → Seen). f b) (put_other w.seen u a own ne)
 
-    pub other_end : (a b : ℕ) → At g a b → a ≢ u → far g a b ≢ u → end g (acts g u x own ss w) a b ≡ end g w a b
-    other_end a b at ne away = λ k. record { port = b; key = (port_at g a b).key; mark = (put_other w.at u a x ne k).mark (b); is = put_other w.at u a x ne k; seen = other_seen a b at ne away k }
+    pub other_end_is : (a b : ℕ) → At g a b → a ≢ u → far g a b ≢ u → end g (acts g u x own ss w) a b ≡ end g w a b
+    other_end_is a b at ne away = λ k. record { port = b; key = (port_at g a b).key; mark = (put_other w.at u a x ne k).mark (b); is = put_other w.at u a x ne k; seen = other_seen a b at ne away k }
 
     -- the two ends of the link at port i of u afterwards
     abbrev pub near_end : ℕ → End
@@ -40,7 +40,7 @@ module _ (g : Network) (wired : IsWired g) where
     abbrev pub across_end : ℕ → End
     across_end i = record { port = far_port g u i; key = (port_at g u i).key; mark = (w.at (far g u i)).mark (far_port g u i); is = w.at (far g u i); seen = adds (w.seen (far g u i) (far_port g u i)) (sent_on ss i) }
 
-    abbrev w' : World
+    abbrev w' : Scene
     w' = acts g u x own ss w
 
     -- a fact of both ends, which may name the link's place

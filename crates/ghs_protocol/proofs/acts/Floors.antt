@@ -11,7 +11,7 @@ use Rattle.ghs_node.specs.declared.message.Message.{Message}
 use Rattle.ghs_node.specs.declared.message.Message.TheVariants.{Report, ChangeRoot}
 use Rattle.ghs_protocol.specs.Network.{Network, port_at, At, far, far_port, IsWired, InNetwork}
 use Rattle.ghs_protocol.specs.Marks.{Leads, Here, Over}
-use Rattle.ghs_protocol.proofs.clauses.World.{World, End, tree_end, end, forest}
+use Rattle.ghs_protocol.proofs.clauses.Scene.{Scene, End, tree_end, end, forest, far_end}
 use Rattle.ghs_protocol.proofs.clauses.Links.{Joins, Ups}
 use Rattle.ghs_protocol.proofs.clauses.Search.{LeadsOut}
 use Rattle.ghs_protocol.proofs.clauses.TreeMessages.{Begun, Stage, AtStage, Asking, Called}
@@ -23,7 +23,6 @@ use Rattle.ghs_protocol.proofs.acts.SameForest.{branch_mark}
 use Rattle.ghs_protocol.proofs.tests.Links.{probe_is}
 use Rattle.ghs_protocol.proofs.rest.Halt.{Back, Old, Half, back}
 use Rattle.ghs_protocol.proofs.root.AtRoot.{AtRoot, root_sent}
-use Rattle.ghs_protocol.proofs.rest.AtRest.{over}
 use Rattle.ghs_protocol.proofs.rows.Link.{link_fits, link_fits', link_leads}
 
 -- The order of floors.
@@ -61,17 +60,17 @@ module _ (g : Network) (part : ℕ → ℕ) (a : ℕ) (v p : ℕ) (apart : part 
   pub cut_link : part v ≡ a → IsTreeLink g v p
   cut_link in_it l = stays l apart in_it
 
-module _ (g : Network) (wired : IsWired g) (w : World) (holds : Invariant g w) (floor : ℕ → Floor) (floors : Floors g w floor) where
+module _ (g : Network) (wired : IsWired g) (w : Scene) (holds : Invariant g w) (floor : ℕ → Floor) (floors : Floors g w floor) where
   -- what holds of a link, from both ends
-  pub near_fits : (v p : ℕ) → At g v p → FloorsAt (end g w v p) (over g w v p) (floor v) (floor (far g v p))
+  pub near_fits : (v p : ℕ) → At g v p → FloorsAt (end g w v p) (far_end g w v p) (floor v) (floor (far g v p))
   near_fits v p at =
       subst (λ (e : End). FloorsAt (end g w v p) e (floor v) (floor (far g v p)))
       (λ k. record { port = far_port g v p; key = wired.same_key v p at k; mark = (w.at (far g v p)).mark (far_port g v p); is = w.at (far g v p); seen = w.seen (far g v p) (far_port g v p) })
       (floors.links v p at)
 
-  pub far_fits : (v p : ℕ) → At g v p → FloorsAt (over g w v p) (end g w v p) (floor (far g v p)) (floor v)
+  pub far_fits : (v p : ℕ) → At g v p → FloorsAt (far_end g w v p) (end g w v p) (floor (far g v p)) (floor v)
   far_fits v p at =
-      subst₂ (λ (x y : ℕ). FloorsAt (over g w v p) (end g w x y) (floor (far g v p)) (floor x)) (wired.back v p at) (wired.back_port v p at)
+      subst₂ (λ (x y : ℕ). FloorsAt (far_end g w v p) (end g w x y) (floor (far g v p)) (floor x)) (wired.back v p at) (wired.back_port v p at)
       (subst (λ (e : End). FloorsAt e (end g w (far g (far g v p) (far_port g v p)) (far_port g (far g v p) (far_port g v p))) (floor (far g v p)) (floor (far g (far g v p) (far_port g v p))))
       (λ k. record { port = far_port g v p; key = wired.same_key v p at k; mark = (w.at (far g v p)).mark (far_port g v p); is = w.at (far g v p); seen = w.seen (far g v p) (far_port g v p) })
       (floors.links _ _ (wired.there v p at)))
@@ -104,16 +103,16 @@ module _ (g : Network) (wired : IsWired g) (w : World) (holds : Invariant g w) (
 
   -- The root is about to be sent on.
   module _ (u j : ℕ) (at : At g u j) (ms : List Message) (root : AtRoot g w u j ms) where
-    link : LinkFits (NamesOf g w) (end g w u j) (over g w u j)
+    link : LinkFits (NamesOf g w) (end g w u j) (far_end g w u j)
     link = link_fits g wired w holds u j at
 
-    link' : LinkFits (NamesOf g w) (over g w u j) (end g w u j)
+    link' : LinkFits (NamesOf g w) (far_end g w u j) (end g w u j)
     link' = link_fits' g wired w holds u j at
 
-    ways : Joins (tree_end (end g w u j)) (tree_end (over g w u j)) → Ups (tree_end (end g w u j)) ⊎ Ups (tree_end (over g w u j))
+    ways : Joins (tree_end (end g w u j)) (tree_end (far_end g w u j)) → Ups (tree_end (end g w u j)) ⊎ Ups (tree_end (far_end g w u j))
     ways = link_leads g wired w holds u j at
 
-    there_fits : FloorsAt (over g w u j) (end g w u j) (floor (far g u j)) (floor u)
+    there_fits : FloorsAt (far_end g w u j) (end g w u j) (floor (far g u j)) (floor u)
     there_fits = far_fits u j at
 
     -- the two floors at the root
@@ -124,15 +123,15 @@ module _ (g : Network) (wired : IsWired g) (w : World) (holds : Invariant g w) (
     found : (w.at u).head.phase ≡ Found
     found = root.quiet.found u (record { some = at.some; node = at.node }) refl
 
-    begun : (s : Stage) → s ≡ Begun → AtStage (tree_end (over g w u j)) s → (w.at (far g u j)).head.level ≡ (w.at (far g u j)).coming
+    begun : (s : Stage) → s ≡ Begun → AtStage (tree_end (far_end g w u j)) s → (w.at (far g u j)).head.level ≡ (w.at (far g u j)).coming
     begun Begun i a = a
     begun Asking i a = cc
     begun Called i a = cc
 
     by_report : (k : Option Key) → (waits : (w.seen u j).tree ≡ Report k ∷ ms) → below (best_key (w.at u).head.best) k ≡ true → RootFloors
-    by_report k waits better = go (back (tree_end (end g w u j)) (tree_end (over g w u j)) link.tree link'.tree ways k ms waits (λ ne. ne root.up))
+    by_report k waits better = go (back (tree_end (end g w u j)) (tree_end (far_end g w u j)) link.tree link'.tree ways k ms waits (λ ne. ne root.up))
       where
-        go : Back (NamesOf g w (w.at u).fragment) (tree_end (end g w u j)) (tree_end (over g w u j)) k ms → RootFloors
+        go : Back (NamesOf g w (w.at u).fragment) (tree_end (end g w u j)) (tree_end (far_end g w u j)) k ms → RootFloors
         go (Old c h x) = absurd (c.down root.up_beyond)
         go (Half c z a b n p q) =
             let same = holds.trees.by_fragment (far g u j) u (sym (holds.trees.joined_within u j at (record { here = ap is_branch c.both.joins.here; there = ap is_branch c.both.joins.there }))) in
@@ -142,7 +141,7 @@ module _ (g : Network) (wired : IsWired g) (w : World) (holds : Invariant g w) (
 
     by_root : (waits : (w.seen u j).tree ≡ ChangeRoot ∷ ms) → RootFloors
     by_root waits =
-        let s = root_sent (tree_end (end g w u j)) (tree_end (over g w u j)) link.tree link'.tree ways ms waits in
+        let s = root_sent (tree_end (end g w u j)) (tree_end (far_end g w u j)) link.tree link'.tree ways ms waits in
         let f = (near_fits u j at).moved s.moved s.fits.queue in
         record { mine = f.0; theirs = subst (λ (x : Floor). lower (floor u) x ≡ true) (sym f.1) (lower_self (floor u)) }
 
@@ -154,7 +153,7 @@ module _ (g : Network) (wired : IsWired g) (w : World) (holds : Invariant g w) (
     pub best_in_tree : SendsRoot w u j ms → (b : ℕ) (k : Key) → At g u b → (w.at u).head.best ≡ Some (b, k) → (w.at u).mark b ≢ Branch → IsTreeLink g u b
     best_in_tree calls b k atb best mark = cut_link g (λ t. (w.at t).fragment) (w.at u).fragment u b out.apart least refl
       where
-        out : LeadsOut (tree_end (end g w u b)) (tree_end (over g w u b)) k
+        out : LeadsOut (tree_end (end g w u b)) (tree_end (far_end g w u b)) k
         out = (link_fits g wired w holds u b atb).search.find_leads k best root.top mark
 
         floors_here : RootFloors

@@ -11,7 +11,7 @@ use Rattle.ghs_protocol.specs.Steps.{sent_on}
 use Rattle.ghs_protocol.proofs.lemmas.Updates.{put_same, put_other}
 use Rattle.ghs_protocol.proofs.lemmas.Sums.{sum_same, sum_one}
 use Rattle.ghs_protocol.specs.Ledger.{sum_below}
-use Rattle.ghs_protocol.proofs.clauses.World.{Seen, adds, Member, World, End, end, Forest, forest, acts}
+use Rattle.ghs_protocol.proofs.clauses.Scene.{Seen, adds, Member, Scene, End, end, Forest, forest, acts}
 use Rattle.ghs_protocol.proofs.clauses.Nodes.{NodeFits}
 use Rattle.ghs_protocol.proofs.clauses.Whole.{LinkFits, Invariant, NamesOf}
 use Rattle.ghs_protocol.proofs.clauses.Fragments.{Names}
@@ -30,7 +30,7 @@ pub sends_one : (j : ℕ) (m : Message) → SendsOn j (m ∷ []) ((j, m) ∷ [])
 sends_one j m = record { only = rw (eq-eqb j j refl) refl; none = λ i ne. rw (ne_eqb j i (λ e. ne (sym e))) refl }
 
 -- a fact of all links, at the two ends of u's
-module _ (g : Network) (wired : IsWired g) (w : World) (P : End → End → Type 0) (all : (v p : ℕ) → At g v p → P (end g w v p) (end g w (far g v p) (far_port g v p))) (u i : ℕ) (at : At g u i) where
+module _ (g : Network) (wired : IsWired g) (w : Scene) (P : End → End → Type 0) (all : (v p : ℕ) → At g v p → P (end g w v p) (end g w (far g v p) (far_port g v p))) (u i : ℕ) (at : At g u i) where
   far_is : end g w (far g u i) (far_port g u i) ≡ record { port = far_port g u i; key = (port_at g u i).key; mark = (w.at (far g u i)).mark (far_port g u i); is = w.at (far g u i); seen = w.seen (far g u i) (far_port g u i) }
   far_is = λ k. record { port = far_port g u i; key = wired.same_key u i at k; mark = (w.at (far g u i)).mark (far_port g u i); is = w.at (far g u i); seen = w.seen (far g u i) (far_port g u i) }
 
@@ -40,7 +40,7 @@ module _ (g : Network) (wired : IsWired g) (w : World) (P : End → End → Type
   pub at_far : P (record { port = far_port g u i; key = (port_at g u i).key; mark = (w.at (far g u i)).mark (far_port g u i); is = w.at (far g u i); seen = w.seen (far g u i) (far_port g u i) }) (end g w u i)
   at_far = subst₂ P far_is (λ k. end g w (wired.back u i at k) (wired.back_port u i at k)) (all _ _ (wired.there u i at))
 
-module _ (g : Network) (wired : IsWired g) (u : ℕ) (lo : 1 ≤ u) (hi : u ≤ g.count) (x : Member) (j : ℕ) (at : At g u j) (q : Seen) (ms : List Message) (ss : Outgoing) (on : SendsOn j ms ss) (w : World) where
+module _ (g : Network) (wired : IsWired g) (u : ℕ) (lo : 1 ≤ u) (hi : u ≤ g.count) (x : Member) (j : ℕ) (at : At g u j) (q : Seen) (ms : List Message) (ss : Outgoing) (on : SendsOn j ms ss) (w : Scene) where
   pub own : ℕ → Seen
   own = put (w.seen u) j q
 
@@ -84,7 +84,7 @@ module _ (g : Network) (wired : IsWired g) (u : ℕ) (lo : 1 ≤ u) (hi : u ≤ 
   unfolding own
   by_port_at P hit miss i at' = ⊎_elim (λ (e : i ≡ j). subst (λ y. P y (near' g wired u lo hi x own ss w y) (far' g wired u lo hi x own ss w y)) (sym e) (subst₂ (P j) (sym near_here) (sym far_there) hit)) (λ ne. subst₂ (P i) (sym (near_still i ne)) (sym (far_onto i ne)) (miss i at' ne)) (cases_eq i j)
 
-  abbrev pub then : World
+  abbrev pub then : Scene
   then = acts g u x (put (w.seen u) j q) ss w
 
   -- find_count

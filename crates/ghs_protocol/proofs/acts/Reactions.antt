@@ -1,4 +1,4 @@
--- Reactions as acts of the world, and acts one after another.
+-- Reactions as acts of the scene, and acts one after another.
 use Rattle.std.proofs.Common.{◌≡◌, ◌≢◌, ℕ, suc, Bool, true, false, ◌||◌, ◌==◌, Option, Some, List, [], ◌∷◌, ◌++◌, refl, sym, ◌∙◌, ap, subst, cond, ⊎_elim, if◌then◌else◌}
 use Rattle.std.proofs.Math.Path.{fun_ext}
 use Rattle.std.proofs.lemmas.Bool.{cases_eq, eqb-false}
@@ -12,7 +12,7 @@ use Rattle.ghs_node.specs.Reaction.{after, requeues}
 use Rattle.ghs_protocol.specs.Network.{Network, port_at, far}
 use Rattle.ghs_protocol.specs.Net.{Net, put, put_at, change, take_first}
 use Rattle.ghs_protocol.specs.Steps.{reacted, taken}
-use Rattle.ghs_protocol.proofs.clauses.World.{Seen, see, Member, member, World, world, Ghost, push_all, acts}
+use Rattle.ghs_protocol.proofs.clauses.Scene.{Seen, see, Member, member, Scene, scene, Ghost, push_all, acts}
 use Rattle.ghs_protocol.proofs.clauses.Uniting.{joining, relabel, meet, absorb}
 use Rattle.ghs_protocol.proofs.clauses.Whole.{Invariant, HasInvariant}
 use Rattle.ghs_protocol.proofs.lemmas.Updates.{put_same, put_other, put_put}
@@ -48,19 +48,19 @@ module _ (c a l : ℕ) (n : Option Key) (w : Net) (gh : Ghost) where
           let ne : gh.fragment v ≢ a = eqb-false (gh.fragment v) a (or_right _ _ e) in
           λ i. record (member w gh v) { coming = put_other gh.coming a (gh.fragment v) l ne i; coming_name = put_other gh.coming_name a (gh.fragment v) n ne i }
 
-  pub grouped_world : world w (regrouped c a l n gh) ≡ relabel c a l n (world w gh)
-  grouped_world = λ i. record { at = fun_ext group_member i; seen = λ x y. see (w.queue x y) }
+  pub grouped_scene : scene w (regrouped c a l n gh) ≡ relabel c a l n (scene w gh)
+  grouped_scene = λ i. record { at = fun_ext group_member i; seen = λ x y. see (w.queue x y) }
 
 module _ (g : Network) (v : ℕ) where
   of_node : Ghost → ℕ → NodeState → Member
   of_node gh u n = record { head = n.head; mark = λ q. mark_at n q; fragment = gh.fragment u; coming = gh.coming (gh.fragment u); coming_name = gh.coming_name (gh.fragment u); up = gh.up u }
 
   -- what a reaction leaves, where v's way to the root is then this one
-  pub reacted_world :
+  pub reacted_scene :
       (w : Net) (gh : Ghost) (o : Option ℕ) (d : Delta) →
-      world (reacted g v d w) (with_up gh v o) ≡ record { at = put (world w gh).at v (record (reacts g v w gh d) { up = o }); seen = push_all g v d.sends (world w gh).seen }
+      scene (reacted g v d w) (with_up gh v o) ≡ record { at = put (scene w gh).at v (record (reacts g v w gh d) { up = o }); seen = push_all g v d.sends (scene w gh).seen }
   unfolding of_node
-  reacted_world w gh o d = λ i. record { at = fun_ext at i; seen = seen_sent g v d.sends (change v d w) i }
+  reacted_scene w gh o d = λ i. record { at = fun_ext at i; seen = seen_sent g v d.sends (change v d w) i }
     where
       x : Member
       x = record (reacts g v w gh d) { up = o }
@@ -86,11 +86,11 @@ module _ (g : Network) (v : ℕ) where
   -- a message that is taken for good
   pub taken_up :
       (w : Net) (gh : Ghost) (o : Option ℕ) (p : ℕ) (m : Message) (ms : List Message) (d : Delta) → d.fate ≡ Consumed →
-      world (taken g v p m ms d w) (with_up gh v o) ≡ acts g v (record (reacts g v w gh d) { up = o }) (put (λ i. see (w.queue v i)) p (see ms)) d.sends (world w gh)
+      scene (taken g v p m ms d w) (with_up gh v o) ≡ acts g v (record (reacts g v w gh d) { up = o }) (put (λ i. see (w.queue v i)) p (see ms)) d.sends (scene w gh)
   taken_up w gh o p m ms d e =
-      ap (λ f. world (reacted g v d (take_first f v p m ms w)) (with_up gh v o)) e ∙
-      reacted_world (take_first Consumed v p m ms w) gh o d ∙
-      (λ i. record { at = put (world w gh).at v (record (reacts g v w gh d) { up = o }); seen = push_all g v d.sends (seen i) })
+      ap (λ f. scene (reacted g v d (take_first f v p m ms w)) (with_up gh v o)) e ∙
+      reacted_scene (take_first Consumed v p m ms w) gh o d ∙
+      (λ i. record { at = put (scene w gh).at v (record (reacts g v w gh d) { up = o }); seen = push_all g v d.sends (seen i) })
     where
       seen : (λ (a b : ℕ). see (put_at w.queue v p ms a b)) ≡ put (λ a b. see (w.queue a b)) v (put (λ i. see (w.queue v i)) p (see ms))
       seen = fun_ext (λ a. fun_ext (λ b. see_put w.queue v p ms a b))
@@ -101,22 +101,22 @@ module _ (g : Network) (v : ℕ) where
   -- the same, where the way to the root stays
   pub taken_acts :
       (w : Net) (gh : Ghost) (p : ℕ) (m : Message) (ms : List Message) (d : Delta) → d.fate ≡ Consumed →
-      world (taken g v p m ms d w) gh ≡ acts g v (reacts g v w gh d) (put (λ i. see (w.queue v i)) p (see ms)) d.sends (world w gh)
-  taken_acts w gh p m ms d e = ap (world (taken g v p m ms d w)) (sym (same_up gh)) ∙ taken_up w gh (gh.up v) p m ms d e
+      scene (taken g v p m ms d w) gh ≡ acts g v (reacts g v w gh d) (put (λ i. see (w.queue v i)) p (see ms)) d.sends (scene w gh)
+  taken_acts w gh p m ms d e = ap (scene (taken g v p m ms d w)) (sym (same_up gh)) ∙ taken_up w gh (gh.up v) p m ms d e
 
   -- a node that reacts to no message
   pub wake_acts :
       (w : Net) (gh : Ghost) (o : Option ℕ) (d : Delta) →
-      world (reacted g v d w) (with_up gh v o) ≡ acts g v (record (reacts g v w gh d) { up = o }) ((world w gh).seen v) d.sends (world w gh)
+      scene (reacted g v d w) (with_up gh v o) ≡ acts g v (record (reacts g v w gh d) { up = o }) ((scene w gh).seen v) d.sends (scene w gh)
   wake_acts w gh o d =
-      reacted_world w gh o d ∙
-      (λ i. record { at = put (world w gh).at v (record (reacts g v w gh d) { up = o }); seen = push_all g v d.sends (sym (put_again (world w gh).seen v) i) })
+      reacted_scene w gh o d ∙
+      (λ i. record { at = put (scene w gh).at v (record (reacts g v w gh d) { up = o }); seen = push_all g v d.sends (sym (put_again (scene w gh).seen v) i) })
 
   -- a message that goes round, where the queue looks as before, changes nothing
-  pub round_world :
+  pub round_scene :
       (w : Net) (gh : Ghost) (p : ℕ) (m : Message) (ms : List Message) → see (ms ++ m ∷ []) ≡ see (w.queue v p) →
-      world (taken g v p m ms (requeues (w.node v).head) w) gh ≡ world w gh
-  round_world w gh p m ms e = λ i. record { at = λ u. member (record w { node = put_again w.node v i }) gh u; seen = seen i }
+      scene (taken g v p m ms (requeues (w.node v).head) w) gh ≡ scene w gh
+  round_scene w gh p m ms e = λ i. record { at = λ u. member (record w { node = put_again w.node v i }) gh u; seen = seen i }
     where
       seen : ◌≡◌ {A = ℕ → ℕ → Seen} (λ a b. see (put_at w.queue v p (ms ++ m ∷ []) a b)) (λ a b. see (w.queue a b))
       seen =
@@ -130,6 +130,6 @@ module _ (g : Network) (v : ℕ) where
   pushes (x ∷ s) t q = pushes s t _
 
   -- an act whose sends are those of two
-  pub acts_split : (x y : Member) (own : ℕ → Seen) (s t : Outgoing) (w : World) → acts g v x own (s ++ t) w ≡ acts g v x ((acts g v y own s w).seen v) t (acts g v y own s w)
+  pub acts_split : (x y : Member) (own : ℕ → Seen) (s t : Outgoing) (w : Scene) → acts g v x own (s ++ t) w ≡ acts g v x ((acts g v y own s w).seen v) t (acts g v y own s w)
   acts_split x y own s t w =
       λ i. record { at = sym (put_put w.at v y x) i; seen = (pushes s t (put w.seen v own) ∙ ap (push_all g v t) (sym (put_again (push_all g v s (put w.seen v own)) v))) i }

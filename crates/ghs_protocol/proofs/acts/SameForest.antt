@@ -4,21 +4,21 @@ use Rattle.std.proofs.Math.Path.{fun_ext}
 use Rattle.std.proofs.lemmas.Bool.{cases_eq}
 use Rattle.ghs_graph.specs.declared.key.Key.{Key}
 use Rattle.ghs_node.specs.declared.mark.Mark.{Mark}
-use Rattle.ghs_node.specs.declared.mark.Mark.TheVariants.{Branch}
+use Rattle.ghs_node.specs.declared.mark.Mark.TheVariants.{Branch, Basic, Rejected}
 use Rattle.ghs_node.specs.Words.{is_branch, Outgoing}
 use Rattle.ghs_node.specs.declared.message.Phase.TheVariants.{Sleeping, Found}
 use Rattle.ghs_protocol.specs.Network.{Network, port_at, At, far, far_port, IsWired, InNetwork}
 use Rattle.ghs_protocol.specs.Net.{put}
 use Rattle.ghs_protocol.specs.Steps.{sent_on}
-use Rattle.ghs_protocol.proofs.lemmas.Updates.{put_same, put_other}
+use Rattle.ghs_protocol.proofs.lemmas.Updates.{put_same, put_other, put_alike}
 use Rattle.ghs_protocol.proofs.lemmas.Sums.{sum_same}
 use Rattle.ghs_protocol.specs.Ledger.{sum_below}
-use Rattle.ghs_protocol.proofs.clauses.World.{Seen, adds, Member, World, End, end, Forest, forest, acts}
+use Rattle.ghs_protocol.proofs.clauses.Scene.{Seen, adds, Member, Scene, End, end, Forest, forest, acts, far_end}
 use Rattle.ghs_protocol.proofs.clauses.Nodes.{NodeFits}
 use Rattle.ghs_protocol.proofs.clauses.Whole.{LinkFits, Invariant, NamesOf}
 use Rattle.ghs_protocol.proofs.clauses.Fragments.{Names, ForestFits}
 use Rattle.ghs_protocol.proofs.clauses.Rest.{Quiet, Resting, has_call, debt, debts, DebtsCounted}
-use Rattle.ghs_protocol.proofs.acts.Ends.{here_end, far_end, other_end, acts_keeps}
+use Rattle.ghs_protocol.proofs.acts.Ends.{here_end_is, far_end_is, other_end_is, acts_keeps}
 
 -- the same in what fragments are read off
 pub record Alike (m x : Member) : Type 0 where
@@ -28,9 +28,6 @@ pub record Alike (m x : Member) : Type 0 where
   pub up : x.up ≡ m.up
   pub branch : (p : ℕ) → is_branch (x.mark p) ≡ is_branch (m.mark p)
 
-put_alike : {A B : Type 0} (k : A → B) (f : ℕ → A) (u : ℕ) (x : A) → k x ≡ k (f u) → (v : ℕ) → k (put f u x v) ≡ k (f v)
-put_alike k f u x e v = ⊎_elim (λ (h : v ≡ u). rw h (ap k (put_same f u x) ∙ e)) (λ ne. ap k (put_other f u v x ne)) (cases_eq v u)
-
 pub branch_mark : (m : Mark) → is_branch m ≡ true → m ≡ Branch
 branch_mark Branch e = refl
 branch_mark _ e = cc
@@ -39,8 +36,8 @@ pub mark_branch : (m : Mark) → is_branch m ≡ false → m ≢ Branch
 mark_branch Branch e = cc
 mark_branch _ e = λ z. cc
 
-module _ (g : Network) (wired : IsWired g) (u : ℕ) (lo : 1 ≤ u) (hi : u ≤ g.count) (x : Member) (own : ℕ → Seen) (ss : Outgoing) (w : World) where
-  after : World
+module _ (g : Network) (wired : IsWired g) (u : ℕ) (lo : 1 ≤ u) (hi : u ≤ g.count) (x : Member) (own : ℕ → Seen) (ss : Outgoing) (w : Scene) where
+  after : Scene
   after = acts g u x own ss w
 
   -- the ends of u's link i after the act
@@ -53,9 +50,6 @@ module _ (g : Network) (wired : IsWired g) (u : ℕ) (lo : 1 ≤ u) (hi : u ≤ 
   -- and before, seen from u
   abbrev pub near : ℕ → End
   near i = end g w u i
-
-  abbrev pub beyond : ℕ → End
-  beyond i = record { port = far_port g u i; key = (port_at g u i).key; mark = (w.at (far g u i)).mark (far_port g u i); is = w.at (far g u i); seen = w.seen (far g u i) (far_port g u i) }
 
   pub forest_after : Alike (w.at u) x → forest (acts g u x own ss w) ≡ forest w
   forest_after h =
@@ -73,14 +67,14 @@ module _ (g : Network) (wired : IsWired g) (u : ℕ) (lo : 1 ≤ u) (hi : u ≤ 
   }
 
   -- find_count, where only u's own sum changes
-  pub sums_after : DebtsCounted g w → x.head.find_count ≡ sum_below (length (g.ports u)) (λ i. debt (near' i) (far' i)) → ((i : ℕ) → At g u i → debt (far' i) (near' i) ≡ debt (beyond i) (near i)) → DebtsCounted g (acts g u x own ss w)
+  pub sums_after : DebtsCounted g w → x.head.find_count ≡ sum_below (length (g.ports u)) (λ i. debt (near' i) (far' i)) → ((i : ℕ) → At g u i → debt (far' i) (near' i) ≡ debt (far_end g w u i) (near i)) → DebtsCounted g (acts g u x own ss w)
   sums_after counted mine theirs v is = ⊎_elim here away (cases_eq v u)
     where
-      w' : World
+      w' : Scene
       w' = acts g u x own ss w
 
       here : v ≡ u → (w'.at v).head.find_count ≡ debts g w' v
-      here e = subst (λ y. (w'.at y).head.find_count ≡ debts g w' y) (sym e) (ap (λ (m : Member). m.head.find_count) (put_same w.at u x) ∙ mine ∙ sum_same (length (g.ports u)) _ _ (λ i lt. let at : At g u i = record { some = lo; node = hi; port = lt } in sym (ap₂ debt (here_end g wired u lo hi x own ss w i) (far_end g wired u lo hi x own ss w i at))))
+      here e = subst (λ y. (w'.at y).head.find_count ≡ debts g w' y) (sym e) (ap (λ (m : Member). m.head.find_count) (put_same w.at u x) ∙ mine ∙ sum_same (length (g.ports u)) _ _ (λ i lt. let at : At g u i = record { some = lo; node = hi; port = lt } in sym (ap₂ debt (here_end_is g wired u lo hi x own ss w i) (far_end_is g wired u lo hi x own ss w i at))))
 
       term : v ≢ u → (p : ℕ) → At g v p → debt (end g w v p) (end g w (far g v p) (far_port g v p)) ≡ debt (end g w' v p) (end g w' (far g v p) (far_port g v p))
       term ne p at = ⊎_elim toward beside (cases_eq (far g v p) u)
@@ -91,12 +85,12 @@ module _ (g : Network) (wired : IsWired g) (u : ℕ) (lo : 1 ≤ u) (hi : u ≤ 
               let at' : At g u i = subst (λ y. At g y i) e (wired.there v p at) in
               let b : far g u i ≡ v = ap (λ y. far g y i) (sym e) ∙ wired.back v p at in
               let b' : far_port g u i ≡ p = ap (λ y. far_port g y i) (sym e) ∙ wired.back_port v p at in
-              let back : end g w (far g u i) (far_port g u i) ≡ beyond i = λ k. record { port = far_port g u i; key = wired.same_key u i at' k; mark = (w.at (far g u i)).mark (far_port g u i); is = w.at (far g u i); seen = w.seen (far g u i) (far_port g u i) } in
-              let both : debt (end g w (far g u i) (far_port g u i)) (end g w u i) ≡ debt (end g w' (far g u i) (far_port g u i)) (end g w' u i) = ap (λ (z : End). debt z (end g w u i)) back ∙ sym (theirs i at') ∙ sym (ap₂ debt (far_end g wired u lo hi x own ss w i at') (here_end g wired u lo hi x own ss w i)) in
+              let back : end g w (far g u i) (far_port g u i) ≡ far_end g w u i = λ k. record { port = far_port g u i; key = wired.same_key u i at' k; mark = (w.at (far g u i)).mark (far_port g u i); is = w.at (far g u i); seen = w.seen (far g u i) (far_port g u i) } in
+              let both : debt (end g w (far g u i) (far_port g u i)) (end g w u i) ≡ debt (end g w' (far g u i) (far_port g u i)) (end g w' u i) = ap (λ (z : End). debt z (end g w u i)) back ∙ sym (theirs i at') ∙ sym (ap₂ debt (far_end_is g wired u lo hi x own ss w i at') (here_end_is g wired u lo hi x own ss w i)) in
               subst (λ y. debt (end g w v p) (end g w y i) ≡ debt (end g w' v p) (end g w' y i)) (sym e) (subst₂ (λ y z. debt (end g w y z) (end g w u i) ≡ debt (end g w' y z) (end g w' u i)) b b' both)
 
           beside : far g v p ≢ u → debt (end g w v p) (end g w (far g v p) (far_port g v p)) ≡ debt (end g w' v p) (end g w' (far g v p) (far_port g v p))
-          beside ne' = sym (ap₂ debt (other_end g wired u lo hi x own ss w v p at ne ne') (other_end g wired u lo hi x own ss w _ _ (wired.there v p at) ne' (λ y. ne (sym (wired.back v p at) ∙ y))))
+          beside ne' = sym (ap₂ debt (other_end_is g wired u lo hi x own ss w v p at ne ne') (other_end_is g wired u lo hi x own ss w _ _ (wired.there v p at) ne' (λ y. ne (sym (wired.back v p at) ∙ y))))
 
       away : v ≢ u → (w'.at v).head.find_count ≡ debts g w' v
       away ne = ap (λ (m : Member). m.head.find_count) (put_other w.at u v x ne) ∙ counted v is ∙ sum_same (length (g.ports v)) _ _ (λ p lt. term ne p (record { some = is.some; node = is.node; port = lt }))
@@ -122,3 +116,8 @@ module _ (g : Network) (wired : IsWired g) (u : ℕ) (lo : 1 ≤ u) (hi : u ≤ 
 
       slept : (v : ℕ) → (after.at v).head.phase ≡ Sleeping → (w.at v).head.phase ≡ Sleeping
       slept v e = ⊎_elim (λ (h : v ≡ u). subst (λ y. (w.at y).head.phase ≡ Sleeping) (sym h) (awake (ap (λ (m : Member). m.head.phase) (sym (put_same w.at u x)) ∙ subst (λ y. (after.at y).head.phase ≡ Sleeping) h e))) (λ ne. ap (λ (m : Member). m.head.phase) (sym (put_other w.at u v x ne)) ∙ e) (cases_eq v u)
+
+pub not_branch : (k : Mark) → k ≢ Branch → is_branch k ≡ false
+not_branch Basic ne = refl
+not_branch Branch ne = absurd (ne refl)
+not_branch Rejected ne = refl

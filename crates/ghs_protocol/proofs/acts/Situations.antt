@@ -9,7 +9,7 @@ use Rattle.ghs_node.specs.declared.message.Phase.{Phase}
 use Rattle.ghs_node.specs.declared.message.Phase.TheVariants.{Sleeping, Find, Found}
 use Rattle.ghs_protocol.specs.Network.{Network}
 use Rattle.ghs_protocol.specs.Net.{put}
-use Rattle.ghs_protocol.proofs.clauses.World.{Member, TreeEnd, Forest}
+use Rattle.ghs_protocol.proofs.clauses.Scene.{Member, TreeEnd, Forest}
 use Rattle.ghs_protocol.proofs.clauses.Nodes.{NodeFits, LevelLags}
 use Rattle.ghs_protocol.proofs.clauses.TreeMessages.{TreeFits}
 use Rattle.ghs_protocol.proofs.clauses.Search.{SearchFits}
@@ -127,3 +127,9 @@ branch_marked f j p = ⊎_elim (λ (e : p ≡ j). subst (λ z. is_branch (marked
 
 pub within_marked : (f : ℕ → Mark) (j n : ℕ) → j < n → ((p : ℕ) → f p ≢ Rejected → p < n) → (p : ℕ) → marked f j p ≢ Rejected → p < n
 within_marked f j n lt h p ne = ⊎_elim (λ (e : p ≡ j). omega (arith, e, lt)) (λ no. h p (λ z. ne (put_other f j p (rejected (f j)) no ∙ z))) (cases_eq p j)
+
+-- a mark that is neither Branch nor Rejected
+pub basic_left : (m : Mark) → m ≢ Branch → m ≢ Rejected → m ≡ Basic
+basic_left Basic a c = refl
+basic_left Branch a c = absurd (a refl)
+basic_left Rejected a c = absurd (c refl)

@@ -19,7 +19,7 @@ use Rattle.ghs_protocol.specs.Net.{Net}
 use Rattle.ghs_protocol.specs.Ledger.{of_kind, sum_over_nodes}
 use Rattle.ghs_protocol.specs.Payments.{testing}
 use Rattle.ghs_protocol.proofs.clauses.Charges.{finding, moved_on, busy, IsLow, Charges, Pays, Acted}
-use Rattle.ghs_protocol.proofs.clauses.World.{world}
+use Rattle.ghs_protocol.proofs.clauses.Scene.{scene}
 use Rattle.ghs_protocol.proofs.clauses.Whole.{opening_ghost}
 use Rattle.ghs_protocol.proofs.charges.Due.{all_more}
 use Rattle.ghs_protocol.proofs.lemmas.Sends.{messages}
@@ -41,7 +41,7 @@ module _ (g : Network) (k v : ℕ) (lo : 1 ≤ v) (hi : v ≤ g.count) (up up' :
     reports = let t = tally (λ h o. h.level) in let f = tally (λ h o. finding h.phase) in let c = act.sent 5 in let p = act.pays.reports in omega (arith, t, f, c, old.reports, p);
     roots = let t = tally (λ h o. h.level) in let f = tally (λ h o. moved_on h.in_branch o) in let c = act.sent 0 in let d = act.sent 6 in let p = act.pays.roots in omega (arith, t, f, c, d, old.roots, p);
     accepts = let t = tally (λ h o. h.level) in let f = tally (λ h o. busy k h.level h.probe) in let c = act.consumed 3 in let p = act.pays.accepts in omega (arith, t, f, c, old.accepts, p);
-    tests = let f = tally (λ h o. testing h.probe) in let c = act.sent 2 in let d = act.sent 4 in let e = act.consumed 3 in let m = all_more g (world w opening_ghost) (world w' opening_ghost) v act.port act.paid_more act.ports in let p = act.pays.tests in omega (arith, f, c, d, e, m, old.tests, p);
+    tests = let f = tally (λ h o. testing h.probe) in let c = act.sent 2 in let d = act.sent 4 in let e = act.consumed 3 in let m = all_more g (scene w opening_ghost) (scene w' opening_ghost) v act.port act.paid_more act.ports in let p = act.pays.tests in omega (arith, f, c, d, e, m, old.tests, p);
     low = λ u is. ⊎_elim
         (λ (e : u ≡ v). subst (λ y. IsLow k (w'.node y).head (up' y)) (sym e) act.pays.low)
         (λ ne. subst₂ (λ n o. IsLow k n.head o) (sym (act.there u ne)) (sym (act.ways u ne)) (old.low u is))

@@ -26,14 +26,14 @@ use Rattle.ghs_protocol.specs.Ledger.{sum_below, sum_over_nodes, sum_over_ports,
 use Rattle.ghs_protocol.specs.Nodes.{HasFewPorts, IsNodeOf, IsWellFormed}
 use Rattle.ghs_protocol.specs.Steps.{Happens, Took, Woke, taken, reacted}
 use Rattle.ghs_protocol.specs.Payments.{AllIsPaid, accepts, added_up, calls, failed, no_accept_first, paid_by, paid_by_levels, paid_by_ports, port_pays, reports, risen, roots, testing, tests_out, then_count}
-use Rattle.ghs_protocol.proofs.clauses.World.{Ghost, world}
+use Rattle.ghs_protocol.proofs.clauses.Scene.{Ghost, scene}
 use Rattle.ghs_protocol.proofs.clauses.Wiring.{IsKeyed, IsOrdered}
 use Rattle.ghs_protocol.proofs.clauses.Floors.{Sound}
 use Rattle.ghs_protocol.proofs.clauses.Charges.{Charges, HasCharges}
 use Rattle.ghs_protocol.proofs.lemmas.Balance.{after_balanced}
 use Rattle.ghs_protocol.proofs.lemmas.Effects.{taken_consumed, taken_here, taken_sent, taken_there}
 use Rattle.ghs_protocol.proofs.lemmas.Graphs.{graph_few, graph_keyed, graph_rising, graph_wired}
-use Rattle.ghs_protocol.proofs.lemmas.Nodes.{ports_many}
+use Rattle.ghs_protocol.proofs.lemmas.Nodes.{ports_many, node_before}
 use Rattle.ghs_protocol.proofs.lemmas.Sends.{consumed_now, messages, node_here, node_there, sent_now}
 use Rattle.ghs_protocol.proofs.lemmas.Steps.{event_by_steps}
 use Rattle.ghs_protocol.proofs.lemmas.Sums.{ports_none, ports_one, ports_same, sum_add, sum_none, sum_one, sum_same}
@@ -49,6 +49,7 @@ use Rattle.ghs_protocol.proofs.rows.Read.{reject_marks}
 use Rattle.ghs_protocol.proofs.charges.Taken.{next_basic}
 use Rattle.ghs_protocol.proofs.tests.Links.{not_basic, rejected}
 use Rattle.ghs_protocol.proofs.lemmas.Updates.{put_same}
+use Rattle.ghs_protocol.proofs.lemmas.Events.{taken_at}
 
 -- Sums of sums over the events.
 
@@ -76,10 +77,6 @@ pays_sum (suc n) f g es w = let a = pays_sum n f g es w in let b = pays_both (λ
 
 sum_single : (n j : ℕ) (f : ℕ → ℕ) → j < n → ((i : ℕ) → i ≢ j → f i ≡ 0) → sum_below n f ≡ f j
 sum_single n j f lt none = let a = sum_one n j (λ i. 0) f lt (λ i ne. sym (none i ne)) in let b = sum_none n (λ i. 0) (λ i l. refl) in omega (arith, a, b)
-
-node_before : (v : ℕ) → 1 ≤ v → (i : ℕ) × (v ≡ suc i)
-node_before zero lo = absurd (omega (arith, lo))
-node_before (suc i) lo = (i, refl)
 
 -- What an event adds to a count it pays at one level of one node.
 
@@ -122,9 +119,6 @@ ports_add_up g es w =
 event_inside : {g : Network} {w x : Net} {e : Event} → Happens g w e x → InNetwork g (event_node e)
 event_inside (Woke v d lo hi s r) = record { some = lo; node = hi }
 event_inside (Took v p m ms d at q r) = record { some = at.some; node = at.node }
-
-taken_at : {g : Network} {w : Net} {v p : ℕ} {x : Net} → Happens g w (events.Take v p) x → At g v p
-taken_at (Took v p m ms d at q r) = at
 
 sent_grows : {g : Network} {w x : Net} {e : Event} → Happens g w e x → (j : ℕ) → w.sent j ≤ x.sent j
 sent_grows {g} {w} (Woke v d lo hi s r) j = let z = sent_now g v d w j in omega (arith, z)
@@ -179,7 +173,7 @@ module _ (g : Network) (wired : IsWired g) (ordered : IsOrdered g) (keyed : IsKe
   abbrev TestsTally : NodeState → ℕ → Message → Delta → Type 0
   TestsTally n p m d = of_kind 2 (messages d.sends) + testing n.head.probe ≡ hears m d + testing d.head.probe + fails n p m d
 
-  module _ (v p : ℕ) (at : At g v p) (w : Net) (is : IsNodeOf g v (w.node v)) (gh : Ghost) (sound : Sound g (world w gh)) (charges : Charges g k gh.up w) (ms : List Message) where
+  module _ (v p : ℕ) (at : At g v p) (w : Net) (is : IsNodeOf g v (w.node v)) (gh : Ghost) (sound : Sound g (scene w gh)) (charges : Charges g k gh.up w) (ms : List Message) where
     -- port p, which stops being probed, isn't tested next
     other_next : (e : Ending) → Settles (with_mark (w.node v).marks (reject_at (w.node v) p)) (no_probe (w.node v).head) e → is_at (probe_after None e) p ≡ false
     other_next e s = not_next e p (λ q z same. not_basic (mark_at (w.node v) p)

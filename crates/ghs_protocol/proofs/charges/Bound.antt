@@ -8,7 +8,7 @@ use Rattle.ghs_protocol.specs.Ledger.{sum_below, of_kind, IsBalanced, in_all, su
 use Rattle.ghs_protocol.specs.Laws.{IsNetOf}
 use Rattle.ghs_protocol.specs.Interleavings.{SendsWithinBound, SendsWithinSharpBound}
 use Rattle.ghs_protocol.proofs.clauses.Floors.{Sound}
-use Rattle.ghs_protocol.proofs.clauses.World.{Ghost, world}
+use Rattle.ghs_protocol.proofs.clauses.Scene.{Ghost, scene}
 use Rattle.ghs_protocol.proofs.clauses.Whole.{opening_ghost}
 use Rattle.ghs_protocol.specs.Payments.{testing}
 use Rattle.ghs_protocol.proofs.clauses.Charges.{busy, moved_on, paid_at, Charges, HasCharges}
@@ -29,7 +29,7 @@ module _ (g : Network) where
   nodes_add : (f h : ℕ → ℕ) → sum_over_nodes g (λ v. f v + h v) ≡ sum_over_nodes g f + sum_over_nodes g h
   nodes_add f h = sum_add g.count (λ i. f (suc i)) (λ i. h (suc i))
 
-  module _ (wired : IsWired g) (k : ℕ) (log : IsFloorLog2 g.count k) (w : Net) (gh : Ghost) (sound : Sound g (world w gh)) (charges : Charges g k gh.up w) (balanced : IsBalanced g w) (s : ℕ) (one : s ≤ 1) (low : s ≤ k) where
+  module _ (wired : IsWired g) (k : ℕ) (log : IsFloorLog2 g.count k) (w : Net) (gh : Ghost) (sound : Sound g (scene w gh)) (charges : Charges g k gh.up w) (balanced : IsBalanced g w) (s : ℕ) (one : s ≤ 1) (low : s ≤ k) where
     levels : ℕ → ℕ
     levels v = (w.node v).head.level
 
@@ -76,8 +76,8 @@ module _ (g : Network) where
         let each = nodes_most (λ v. levels v + s) (λ v. k + busy_at v) (λ v is. quota g wired k log w gh sound.first v is s one low) in
         let left = nodes_add levels (λ v. s) in
         let right = nodes_add (λ v. k) busy_at in
-        let ports = nodes_most (λ v. sum_below (length (g.ports v)) (paid_at g (world w opening_ghost) v) + testing (w.node v).head.probe) (λ v. length (g.ports v)) (λ v is. ports_most g wired k log w gh sound.first v is) in
-        let both = nodes_add (λ v. sum_below (length (g.ports v)) (paid_at g (world w opening_ghost) v)) (λ v. testing (w.node v).head.probe) in
+        let ports = nodes_most (λ v. sum_below (length (g.ports v)) (paid_at g (scene w opening_ghost) v) + testing (w.node v).head.probe) (λ v. length (g.ports v)) (λ v is. ports_most g wired k log w gh sound.first v is) in
+        let both = nodes_add (λ v. sum_below (length (g.ports v)) (paid_at g (scene w opening_ghost) v)) (λ v. testing (w.node v).head.probe) in
         let a = charges.accepts in let c = charges.tests in let n = sum_all g.count k in let m = sum_all g.count s in
         omega (arith, each, left, right, ports, both, a, c, n, m)
 

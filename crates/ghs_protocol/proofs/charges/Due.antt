@@ -10,7 +10,7 @@ use Rattle.ghs_node.specs.Words.{Outgoing, is_at}
 use Rattle.ghs_protocol.specs.Network.{Network, At, far, far_port, IsWired}
 use Rattle.ghs_protocol.specs.Ledger.{sum_below, sum_over_ports, of_kind}
 use Rattle.ghs_protocol.specs.Steps.{sent_on}
-use Rattle.ghs_protocol.proofs.clauses.World.{Seen, add, adds, Member, World, end, TestEnd, test_end, acts}
+use Rattle.ghs_protocol.proofs.clauses.Scene.{Seen, add, adds, Member, Scene, end, TestEnd, test_end, acts}
 use Rattle.ghs_protocol.proofs.clauses.Charges.{any_test, settled, due, paid, paid_at, Rises}
 use Rattle.ghs_protocol.proofs.lemmas.Sends.{messages}
 use Rattle.ghs_protocol.proofs.lemmas.Sums.{sum_most}
@@ -142,7 +142,7 @@ sent_aside [] p i m ne = rw (ne_eqb p i (λ z. ne (sym z))) refl
 sent_aside (s ∷ ss) p i m ne = ap (λ (x : List Message). if s.0 == i then s.1 ∷ x else x) (sent_aside ss p i m ne)
 
 -- One act, as ports pay.
-module _ (g : Network) (wired : IsWired g) (u : ℕ) (lo : 1 ≤ u) (hi : u ≤ g.count) (x : Member) (own : ℕ → Seen) (ss : Outgoing) (w : World) where
+module _ (g : Network) (wired : IsWired g) (u : ℕ) (lo : 1 ≤ u) (hi : u ≤ g.count) (x : Member) (own : ℕ → Seen) (ss : Outgoing) (w : Scene) where
   -- the far end's node, and the queue there
   abbrev pub beyond : ℕ → Member
   beyond i = w.at (far g u i)
@@ -211,12 +211,12 @@ module _ (g : Network) (wired : IsWired g) (u : ℕ) (lo : 1 ≤ u) (hi : u ≤ 
     }
 
 -- what all ports have paid
-pub all_more : (g : Network) (w w' : World) (v p a : ℕ) → Rises g w w' v p a → sum_over_ports g (paid_at g w) + a ≤ sum_over_ports g (paid_at g w')
+pub all_more : (g : Network) (w w' : Scene) (v p a : ℕ) → Rises g w w' v p a → sum_over_ports g (paid_at g w) + a ≤ sum_over_ports g (paid_at g w')
 all_more g w w' v p zero r = let z = ports_most g (paid_at g w) (paid_at g w') r.stays in omega (arith, z)
 all_more g w w' v p (suc a) r = let z = r.more (omega arith) in ports_more g (paid_at g w) (paid_at g w') v p (suc a) z.0 r.stays z.1
 
 -- no port pays more than once, and none does that is being tested
-module _ (g : Network) (w : World) (v p : ℕ) where
+module _ (g : Network) (w : Scene) (v p : ℕ) where
   abbrev f : TestEnd
   f = test_end (end g w (far g v p) (far_port g v p))
 

@@ -16,7 +16,7 @@ use Rattle.ghs_protocol.specs.Nodes.{HasFewPorts, IsWellFormed}
 use Rattle.ghs_protocol.specs.Steps.{Happens}
 use Rattle.ghs_protocol.specs.Payments.{calls_at, added_up, LevelPays, risen, then_count, paid_by, roots, reports, calls, accepts, testing}
 use Rattle.ghs_protocol.specs.Interleavings.{LevelsPayOnce}
-use Rattle.ghs_protocol.proofs.clauses.World.{Member, world}
+use Rattle.ghs_protocol.proofs.clauses.Scene.{Member, scene}
 use Rattle.ghs_protocol.proofs.clauses.Nodes.{NodeFits}
 use Rattle.ghs_protocol.proofs.clauses.Wiring.{IsKeyed, IsOrdered}
 use Rattle.ghs_protocol.proofs.clauses.Charges.{Acted, HasCharges, busy, finding, moved_on}
@@ -183,7 +183,7 @@ low_test {n} {m} fits = go m.head.probe refl
     go (Some p) e = let z = low_find fits in let y = ap finding (probing_finds fits e) in omega (arith, z, y)
 
 module _ (g : Network) (wired : IsWired g) (ordered : IsOrdered g) (keyed : IsKeyed g) (k : ℕ) (log : IsFloorLog2 g.count k) where
-  fits : (w : Net) (h : HasCharges g k w) (u : ℕ) → InNetwork g u → NodeFits (length (g.ports u)) ((world w h.sound.ghost).at u)
+  fits : (w : Net) (h : HasCharges g k w) (u : ℕ) → InNetwork g u → NodeFits (length (g.ports u)) ((scene w h.sound.ghost).at u)
   fits w h u is = h.sound.holds.first.nodes u is
 
   root_cap : Head → Option ℕ → ℕ

@@ -11,7 +11,7 @@ use Rattle.ghs_node.specs.Reaction.{Ending, Probing, Reporting, Waiting, last_se
 use Rattle.ghs_protocol.specs.Network.{Network, At, far, far_port, IsWired}
 use Rattle.ghs_protocol.specs.Net.{put}
 use Rattle.ghs_protocol.specs.Steps.{sent_on}
-use Rattle.ghs_protocol.proofs.clauses.World.{Seen, adds, Member, World, acts}
+use Rattle.ghs_protocol.proofs.clauses.Scene.{Seen, adds, Member, Scene, acts}
 use Rattle.ghs_protocol.proofs.clauses.Charges.{any_test, settled, due, Rises}
 use Rattle.ghs_protocol.proofs.lemmas.Sends.{messages}
 use Rattle.ghs_protocol.proofs.lemmas.Updates.{put_same, put_other}
@@ -82,7 +82,7 @@ grows_branch f j i free = ⊎_elim (λ (e : i ≡ j). subst (λ y. Grows (f y) (
     branch Branch free ne = refl
     branch Rejected free ne = absurd (free refl)
 
-module _ (g : Network) (wired : IsWired g) (u : ℕ) (lo : 1 ≤ u) (hi : u ≤ g.count) (x : Member) (own : ℕ → Seen) (w : World) (fewer : (i : ℕ) → any_test (own i).tests ≡ true → any_test (w.seen u i).tests ≡ true) where
+module _ (g : Network) (wired : IsWired g) (u : ℕ) (lo : 1 ≤ u) (hi : u ≤ g.count) (x : Member) (own : ℕ → Seen) (w : Scene) (fewer : (i : ℕ) → any_test (own i).tests ≡ true → any_test (w.seen u i).tests ≡ true) where
   -- no Test goes out, and no port stops being probed
   pub calm_pays : (ss : Outgoing) → NoTests (messages ss) → x.head.probe ≡ (w.at u).head.probe → ((i : ℕ) → Grows ((w.at u).mark i) (x.mark i)) →
       (j : ℕ) → Rises g w (acts g u x own ss w) u j 0

@@ -26,7 +26,7 @@ use Rattle.ghs_protocol.specs.Ledger.{of_kind}
 use Rattle.ghs_protocol.specs.Nodes.{HasFewPorts, IsNodeOf, IsWellFormed}
 use Rattle.ghs_protocol.specs.Steps.{Happens, Took, taken}
 use Rattle.ghs_protocol.specs.Payments.{added_up, failed, no_accept_first, port_pays}
-use Rattle.ghs_protocol.proofs.clauses.World.{Ghost, world}
+use Rattle.ghs_protocol.proofs.clauses.Scene.{Ghost, scene}
 use Rattle.ghs_protocol.proofs.clauses.Wiring.{IsKeyed, IsOrdered}
 use Rattle.ghs_protocol.proofs.clauses.Whole.{opening_ghost}
 use Rattle.ghs_protocol.proofs.clauses.Floors.{Sound}
@@ -102,8 +102,8 @@ module _ (g : Network) (wired : IsWired g) (ordered : IsOrdered g) (keyed : IsKe
 
   -- it pays nothing, or its having paid rises by one
   row_port :
-      (w : Net) (is : IsNodeOf g v (w.node v)) (gh : Ghost) (sound : Sound g (world w gh)) (charges : Charges g k gh.up w) (ms : List Message) (m : Message) (d : Delta) → w.queue v p ≡ m ∷ ms → (w.node v).head.phase ≢ Sleeping → AwakeRow (w.node v) p m d →
-      (owed w m d ≡ 0) ⊎ ((owed w m d ≤ 1) × Rises g (world w opening_ghost) (world (taken g v p m ms d w) opening_ghost) v p 1)
+      (w : Net) (is : IsNodeOf g v (w.node v)) (gh : Ghost) (sound : Sound g (scene w gh)) (charges : Charges g k gh.up w) (ms : List Message) (m : Message) (d : Delta) → w.queue v p ≡ m ∷ ms → (w.node v).head.phase ≢ Sleeping → AwakeRow (w.node v) p m d →
+      (owed w m d ≡ 0) ⊎ ((owed w m d ≤ 1) × Rises g (scene w opening_ghost) (scene (taken g v p m ms d w) opening_ghost) v p 1)
   row_port w is gh sound charges ms m d q up (Connect_absorbed lt few) = inl (probes_so (is_at (w.node v).head.probe p))
   row_port w is gh sound charges ms m d q up (Connect_waits le basic) = inl (probes_so (is_at (w.node v).head.probe p))
   row_port w is gh sound charges ms m d q up (Connect_merges le free lower) = inl (probes_so (is_at (w.node v).head.probe p))
@@ -147,7 +147,7 @@ module _ (g : Network) (wired : IsWired g) (ordered : IsOrdered g) (keyed : IsKe
   -- what port p of v has paid
   pub record Covered (w : Net) (t : ℕ) : Type 0 where
     pub has : HasCharges g k w
-    pub within : t ≤ paid_at g (world w opening_ghost) v p
+    pub within : t ≤ paid_at g (scene w opening_ghost) v p
 
   step_covered : (u : ℕ) (w x : Net) (t : ℕ) → IsWellFormed g w → Covered w t → StepBy g u w x → Covered x t
   step_covered u w x t f h s = record { has = record { up = did.up; sound = did.sound; charges = charges_keep g k u did.some did.within h.has.up did.up w x did.acted h.has.charges }; within = let a = h.within in let b = did.acted.ports.stays v p at in omega (arith, a, b) }
@@ -183,16 +183,16 @@ module _ (g : Network) (wired : IsWired g) (ordered : IsOrdered g) (keyed : IsKe
       all : (x.sent 4 - w.sent 4) + failed v p w x ≡ owed w took.message took.delta
       all = let a = fails in let b = sent in omega (arith, a, b)
 
-      nothing : owed w took.message took.delta ≡ 0 → t + ((x.sent 4 - w.sent 4) + failed v p w x) ≤ paid_at g (world x opening_ghost) v p
+      nothing : owed w took.message took.delta ≡ 0 → t + ((x.sent 4 - w.sent 4) + failed v p w x) ≤ paid_at g (scene x opening_ghost) v p
       nothing z = let a = all in let b = after.within in omega (arith, a, b, z)
 
-      one : (owed w took.message took.delta ≤ 1) × Rises g (world w opening_ghost) (world (taken g v p took.message took.others took.delta w) opening_ghost) v p 1 → t + ((x.sent 4 - w.sent 4) + failed v p w x) ≤ paid_at g (world x opening_ghost) v p
+      one : (owed w took.message took.delta ≤ 1) × Rises g (scene w opening_ghost) (scene (taken g v p took.message took.others took.delta w) opening_ghost) v p 1 → t + ((x.sent 4 - w.sent 4) + failed v p w x) ≤ paid_at g (scene x opening_ghost) v p
       one z =
-          let r = subst (λ (y : Net). Rises g (world w opening_ghost) (world y opening_ghost) v p 1) (sym took.is) z.1 in
+          let r = subst (λ (y : Net). Rises g (scene w opening_ghost) (scene y opening_ghost) v p 1) (sym took.is) z.1 in
           let more = (r.more (omega arith)).1 in let a = all in let b = h.within in let c = z.0 in
           omega (arith, a, b, c, more)
 
-      go : ((w.node v).head.phase ≡ Sleeping) ⊎ ((w.node v).head.phase ≢ Sleeping) → t + ((x.sent 4 - w.sent 4) + failed v p w x) ≤ paid_at g (world x opening_ghost) v p
+      go : ((w.node v).head.phase ≡ Sleeping) ⊎ ((w.node v).head.phase ≢ Sleeping) → t + ((x.sent 4 - w.sent 4) + failed v p w x) ≤ paid_at g (scene x opening_ghost) v p
       go (inl s) = nothing (woken_port w took.message took.delta ((h.has.sound.holds.first.nodes v (record { some = at.some; node = at.node })).untouched s).probe s row)
       go (inr up) = ⊎_elim nothing one
           (row_port w (f.nodes v) h.has.sound.ghost h.has.sound.holds (by_memory g wired ordered keyed k log h.has.sound h.has.charges) took.others took.message took.delta took.waits up (awake_row up row))
@@ -215,7 +215,7 @@ module _ (g : Network) (wired : IsWired g) (ordered : IsOrdered g) (keyed : IsKe
       aside = steps_covered u w x t f h (event_steps_by g wired w x (events.Take u q) f.nodes happened)
 
   pub port_covered : HasFewPorts g → (es : List Event) (w : Net) → IsAfter g es w → (added_up (port_pays v p) g es (opening g) ≤ 1) × ((w.node v).head.probe ≡ Some p → added_up (port_pays v p) g es (opening g) ≡ 0)
-  port_covered few es w after = ((let a = c.within in let b = paid_once g (world w opening_ghost) v p in omega (arith, a, b)), λ own. let a = c.within in let b = paid_not g (world w opening_ghost) v p own in omega (arith, a, b))
+  port_covered few es w after = ((let a = c.within in let b = paid_once g (scene w opening_ghost) v p in omega (arith, a, b)), λ own. let a = c.within in let b = paid_not g (scene w opening_ghost) v p own in omega (arith, a, b))
     where
       c : Covered w (added_up (port_pays v p) g es (opening g))
       c = subst (Covered w) (zero-add (added_up (port_pays v p) g es (opening g)))

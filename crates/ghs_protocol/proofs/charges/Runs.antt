@@ -13,7 +13,7 @@ use Rattle.ghs_protocol.specs.Net.{Net, opening, put}
 use Rattle.ghs_protocol.specs.Run.{IsAfter}
 use Rattle.ghs_protocol.specs.Nodes.{AreNodes, HasFewPorts, IsNodeOf}
 use Rattle.ghs_protocol.specs.Steps.{Step, Takes_one, Wakes_up, reacted, taken, waking}
-use Rattle.ghs_protocol.proofs.clauses.World.{Ghost, World, see, world}
+use Rattle.ghs_protocol.proofs.clauses.Scene.{Ghost, Scene, see, scene}
 use Rattle.ghs_protocol.proofs.clauses.Nodes.{Untouched}
 use Rattle.ghs_protocol.proofs.clauses.Wiring.{IsKeyed, IsOrdered}
 use Rattle.ghs_protocol.proofs.clauses.Whole.{opening_ghost}
@@ -35,8 +35,8 @@ use Rattle.ghs_protocol.proofs.rows.Rows.{row_keeps, up_waking, ups_after, wake_
 use Rattle.ghs_protocol.proofs.every_run.Sound.{opening_sound}
 use Rattle.ghs_protocol.proofs.acts.Reactions.{wake_acts}
 
-module _ (g : Network) (wired : IsWired g) (k : ℕ) (log : IsFloorLog2 g.count k) (v : ℕ) (lo : 1 ≤ v) (hi : v ≤ g.count) (w : Net) (is : IsNodeOf g v (w.node v)) (gh : Ghost) (sound : Sound g (world w gh)) (sleeps : (w.node v).head.phase ≡ Sleeping) where
-  rested : Untouched ((world w gh).at v)
+module _ (g : Network) (wired : IsWired g) (k : ℕ) (log : IsFloorLog2 g.count k) (v : ℕ) (lo : 1 ≤ v) (hi : v ≤ g.count) (w : Net) (is : IsNodeOf g v (w.node v)) (gh : Ghost) (sound : Sound g (scene w gh)) (sleeps : (w.node v).head.phase ≡ Sleeping) where
+  rested : Untouched ((scene w gh).at v)
   rested = (sound.first.nodes v (record { some = lo; node = hi })).untouched sleeps
 
   -- a node reacts to no message, pays, and its ports pay nothing
@@ -53,7 +53,7 @@ module _ (g : Network) (wired : IsWired g) (k : ℕ) (log : IsFloorLog2 g.count 
     sent = sent_now g v d w;
     consumed = λ j. let z = ap (λ (f : ℕ → ℕ). f j) (consumed_now g v d w) in omega (arith, z);
     ports =
-        let r = subst (λ (z : World). Rises g (world w opening_ghost) z v 0 0) (sym (wake_acts g v w opening_ghost None d)) (calm_pays g wired v lo hi (record (reacts g v w opening_ghost d) { up = None }) (λ i. see (w.queue v i)) (world w opening_ghost) (λ i h. h) d.sends none probe grows 0) in
+        let r = subst (λ (z : Scene). Rises g (scene w opening_ghost) z v 0 0) (sym (wake_acts g v w opening_ghost None d)) (calm_pays g wired v lo hi (record (reacts g v w opening_ghost d) { up = None }) (λ i. see (w.queue v i)) (scene w opening_ghost) (λ i h. h) d.sends none probe grows 0) in
         record { stays = r.stays; more = r.more };
     pays = subst (λ (n : NodeState). Pays k (w.node v).head (gh.up v) n.head (put gh.up v o v) (λ j. 0) (messages d.sends) 0) (sym (node_here g v d w))
         (subst (λ a. Pays k (w.node v).head a d.head (put gh.up v o v) (λ j. 0) (messages d.sends) 0) (sym rested.up)

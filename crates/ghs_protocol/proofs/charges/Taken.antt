@@ -18,7 +18,7 @@ use Rattle.ghs_node.proofs.lemmas.{basic_is}
 use Rattle.ghs_protocol.specs.Network.{Network}
 use Rattle.ghs_protocol.specs.Net.{Net, put, one_if_consumed}
 use Rattle.ghs_protocol.specs.Steps.{taken}
-use Rattle.ghs_protocol.proofs.clauses.World.{Seen, unseen, add, see, World, world, acts, TestEnd}
+use Rattle.ghs_protocol.proofs.clauses.Scene.{Seen, unseen, add, see, Scene, scene, acts, TestEnd}
 use Rattle.ghs_protocol.proofs.clauses.Tests.{TestsFit}
 use Rattle.ghs_protocol.proofs.clauses.Whole.{opening_ghost}
 use Rattle.ghs_protocol.proofs.clauses.Charges.{Acted, Pays, Rises, any_test}
@@ -41,10 +41,6 @@ none_left t (s ∷ ts) xs e le = absurd (let z : length xs ≡ suc (suc (length 
 -- a Test that waits is alone
 pub lone : (e f : TestEnd) → TestsFit f e → length e.tests ≤ 1
 lone e f fits = ⊎_elim (λ p. let z = (fits.probing p).one in omega (arith, z)) (λ ne. (fits.not_probing ne).one) (probe_is f.probe f.port)
-
-pub is_not_at : (o : Option ℕ) (p : ℕ) → o ≢ Some p → is_at o p ≡ false
-is_not_at None p ne = refl
-is_not_at (Some q) p ne = ne_eqb q p (λ e. ne (ap Some e))
 
 -- the port to be tested next is Basic
 pub no_probing : (h : Head) (e : Ending) → Closes h e → (q : ℕ) → e ≡ Probing q → ⊥
@@ -70,17 +66,17 @@ module _ (g : Network) (v p : ℕ) (w : Net) (m : Message) (ms : List Message) w
 
   module _ (d : Delta) where
     -- the net, as ports read it, before and after
-    abbrev pub before : World
-    before = world w opening_ghost
+    abbrev pub before : Scene
+    before = scene w opening_ghost
 
-    abbrev pub afterwards : World
+    abbrev pub afterwards : Scene
     afterwards = acts g v (reacts g v w opening_ghost d) (put (λ i. see (w.queue v i)) p (see ms)) d.sends before
 
-    pub arrives : d.fate ≡ Consumed → (a : ℕ) → Rises g before afterwards v p a → Rises g before (world (taken g v p m ms d w) opening_ghost) v p a
-    arrives once a h = subst (λ (z : World). Rises g before z v p a) (sym (taken_acts g v w opening_ghost p m ms d once)) h
+    pub arrives : d.fate ≡ Consumed → (a : ℕ) → Rises g before afterwards v p a → Rises g before (scene (taken g v p m ms d w) opening_ghost) v p a
+    arrives once a h = subst (λ (z : Scene). Rises g before z v p a) (sym (taken_acts g v w opening_ghost p m ms d once)) h
 
     pub taken_pays :
-        (k : ℕ) (up up' : ℕ → Option ℕ) (a : ℕ) → ((u : ℕ) → u ≢ v → up' u ≡ up u) → Rises g before (world (taken g v p m ms d w) opening_ghost) v p a →
+        (k : ℕ) (up up' : ℕ → Option ℕ) (a : ℕ) → ((u : ℕ) → u ≢ v → up' u ≡ up u) → Rises g before (scene (taken g v p m ms d w) opening_ghost) v p a →
         Pays k (w.node v).head (up v) d.head (up' v) (λ j. cond (place_of (kind_of m) == j) (one_if_consumed d.fate) 0) (messages d.sends) a →
         Acted g k v up up' w (taken g v p m ms d w)
     taken_pays k up up' a ways more pays = record {

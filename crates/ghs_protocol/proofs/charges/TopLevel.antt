@@ -2,13 +2,13 @@
 use Rattle.std.proofs.Common.{◌≡◌, ◌≢◌, ℕ, suc, ◌^◌, ◌≤◌, ◌<◌, sym, ◌∙◌, arith, ⊎_elim, ◌⊎◌, pow_mono}
 use Rattle.ghs_graph.specs.Bound.{IsFloorLog2}
 use Rattle.ghs_protocol.specs.Network.{Network, InNetwork}
-use Rattle.ghs_protocol.proofs.clauses.World.{World}
+use Rattle.ghs_protocol.proofs.clauses.Scene.{Scene}
 use Rattle.ghs_protocol.proofs.clauses.Fragments.{HasMany}
 use Rattle.ghs_protocol.proofs.clauses.Whole.{Invariant}
 use Rattle.ghs_protocol.proofs.every_run.Foreseen.{few_apart}
 use Rattle.ghs_protocol.proofs.acts.Many.{doubled}
 
-module _ (g : Network) (k : ℕ) (log : IsFloorLog2 g.count k) (w : World) (holds : Invariant g w) where
+module _ (g : Network) (k : ℕ) (log : IsFloorLog2 g.count k) (w : Scene) (holds : Invariant g w) where
   abbrev Mates : ℕ → ℕ → Type 0
   Mates v u = InNetwork g u × ((w.at u).fragment ≡ (w.at v).fragment)
 

@@ -10,7 +10,7 @@ use Rattle.ghs_protocol.specs.Network.{Network, At, IsWired, far, InNetwork}
 use Rattle.ghs_protocol.specs.Net.{Net}
 use Rattle.ghs_protocol.specs.Ledger.{sum_below, of_kind}
 use Rattle.ghs_protocol.specs.Payments.{calls_at, testing}
-use Rattle.ghs_protocol.proofs.clauses.World.{Ghost, Seen, TreeEnd, add, adds, end, see, test_end, tree_end, unseen, world}
+use Rattle.ghs_protocol.proofs.clauses.Scene.{Ghost, Seen, TreeEnd, add, adds, end, see, test_end, tree_end, unseen, scene, far_end}
 use Rattle.ghs_protocol.proofs.clauses.Links.{Joins, Ups, Child}
 use Rattle.ghs_protocol.proofs.clauses.Nodes.{NodeFits}
 use Rattle.ghs_protocol.proofs.clauses.Tests.{TestsFit}
@@ -18,13 +18,12 @@ use Rattle.ghs_protocol.proofs.clauses.TreeMessages.{TreeFits, Upward, Nothing_u
 use Rattle.ghs_protocol.proofs.clauses.Whole.{Invariant, opening_ghost}
 use Rattle.ghs_protocol.proofs.clauses.Charges.{IsLow, busy, moved_on, paid_at}
 use Rattle.ghs_protocol.proofs.lemmas.Balance.{of_kind_append}
-use Rattle.ghs_protocol.proofs.lemmas.Sums.{sum_none}
+use Rattle.ghs_protocol.proofs.lemmas.Sums.{sum_none, sum_few}
 use Rattle.ghs_protocol.proofs.charges.Acts.{busy_below, busy_some, busy_top, moved_most}
-use Rattle.ghs_protocol.proofs.every_run.Foreseen.{sum_lacks, sum_ones}
+use Rattle.ghs_protocol.proofs.every_run.Foreseen.{sum_lacks}
 use Rattle.ghs_protocol.proofs.charges.TopLevel.{below_top, coming_most}
 use Rattle.ghs_protocol.proofs.charges.Due.{paid_not, paid_once}
 use Rattle.ghs_protocol.proofs.search.FirstReport.{Joint, joint, Down_here, Down_there, On_core, On_moved, chain_rises, mark_is}
-use Rattle.ghs_protocol.proofs.rest.AtRest.{over}
 use Rattle.ghs_protocol.proofs.rows.Link.{link_fits, link_fits', link_leads}
 use Rattle.ghs_protocol.proofs.acts.Situations.{probing_finds}
 use Rattle.ghs_protocol.proofs.tests.Links.{probe_is}
@@ -247,21 +246,21 @@ lonely (suc n) j f z = ⊎_elim
     (let y = lonely n j f (λ i lt ne. z i (omega arith) ne) in λ ne. let x = z n (omega arith) (λ h. ne (sym h)) in omega (arith, y, x))
     (cases_eq j n)
 
-module _ (g : Network) (wired : IsWired g) (k : ℕ) (log : IsFloorLog2 g.count k) (w : Net) (gh : Ghost) (holds : Invariant g (world w gh)) (v : ℕ) (is : InNetwork g v) where
+module _ (g : Network) (wired : IsWired g) (k : ℕ) (log : IsFloorLog2 g.count k) (w : Net) (gh : Ghost) (holds : Invariant g (scene w gh)) (v : ℕ) (is : InNetwork g v) where
   place : (p : ℕ) → p < length (g.ports v) → At g v p
   place p lt = record { some = is.some; node = is.node; port = lt }
 
-  fits : NodeFits (length (g.ports v)) ((world w gh).at v)
+  fits : NodeFits (length (g.ports v)) ((scene w gh).at v)
   fits = holds.nodes v is
 
   pub level_most : (w.node v).head.level ≤ k
-  level_most = let a = fits.lag.level in let b = coming_most g k log (world w gh) holds v is in omega (arith, a, b)
+  level_most = let a = fits.lag.level in let b = coming_most g k log (scene w gh) holds v is in omega (arith, a, b)
 
   few_at : (p : ℕ) → p < length (g.ports v) → (of_kind 1 (w.queue v p) ≡ 0) ⊎ ((gh.up v ≡ Some p) × (of_kind 1 (w.queue v p) + (w.node v).head.level ≤ gh.coming (gh.fragment v)))
   few_at p lt = ⊎_elim (λ z. inl (sym (calls_seen (w.queue v p)) ∙ z)) (λ z. inr (z.0, (let y = calls_seen (w.queue v p) in omega (arith, y, z.1))))
-      (few (tree_end (end g (world w gh) v p)) (tree_end (over g (world w gh) v p)) (link_fits g wired (world w gh) holds v p (place p lt)).tree (link_fits' g wired (world w gh) holds v p (place p lt)).tree (link_leads g wired (world w gh) holds v p (place p lt)) lags)
+      (few (tree_end (end g (scene w gh) v p)) (tree_end (far_end g (scene w gh) v p)) (link_fits g wired (scene w gh) holds v p (place p lt)).tree (link_fits' g wired (scene w gh) holds v p (place p lt)).tree (link_leads g wired (scene w gh) holds v p (place p lt)) lags)
     where
-      lags : Joins (tree_end (end g (world w gh) v p)) (tree_end (over g (world w gh) v p)) → (tree_end (over g (world w gh) v p)).level ≤ (tree_end (end g (world w gh) v p)).coming
+      lags : Joins (tree_end (end g (scene w gh) v p)) (tree_end (far_end g (scene w gh) v p)) → (tree_end (far_end g (scene w gh) v p)).level ≤ (tree_end (end g (scene w gh) v p)).coming
       lags j =
           let t = wired.there v p (place p lt) in
           let same = (holds.trees.by_fragment v (far g v p) (holds.trees.joined_within v p (place p lt) (record { here = ap is_branch j.here; there = ap is_branch j.there }))).0 in
@@ -284,7 +283,7 @@ module _ (g : Network) (wired : IsWired g) (k : ℕ) (log : IsFloorLog2 g.count 
           within : q < length (g.ports v) → sum_below (length (g.ports v)) (λ p. of_kind 1 (w.queue v p)) + (w.node v).head.level ≤ k
           within lt =
               let s = lonely (length (g.ports v)) q (λ p. of_kind 1 (w.queue v p)) others in
-              let top = coming_most g k log (world w gh) holds v is in
+              let top = coming_most g k log (scene w gh) holds v is in
               ⊎_elim (λ a. omega (arith, s, a, level_most)) (λ a. omega (arith, s, a.1, top)) (few_at q lt)
 
           outside : length (g.ports v) ≤ q → sum_below (length (g.ports v)) (λ p. of_kind 1 (w.queue v p)) + (w.node v).head.level ≤ k
@@ -293,9 +292,9 @@ module _ (g : Network) (wired : IsWired g) (k : ℕ) (log : IsFloorLog2 g.count 
   -- the Initiates of one level that wait
   one_at : (n p : ℕ) → p < length (g.ports v) → (calls_at n (w.queue v p) ≡ 0) ⊎ ((gh.up v ≡ Some p) × (calls_at n (w.queue v p) ≡ 1) × ((w.node v).head.level < n) × (n ≤ gh.coming (gh.fragment v)))
   one_at n p lt = ⊎_elim (λ z. inl (sym (calls_at_seen n (w.queue v p)) ∙ z)) (λ z. inr (z.0, (sym (calls_at_seen n (w.queue v p)) ∙ z.1), z.2, z.3))
-      (few_at_end n (tree_end (end g (world w gh) v p)) (tree_end (over g (world w gh) v p)) (link_fits g wired (world w gh) holds v p (place p lt)).tree (link_fits' g wired (world w gh) holds v p (place p lt)).tree (link_leads g wired (world w gh) holds v p (place p lt)) lags)
+      (few_at_end n (tree_end (end g (scene w gh) v p)) (tree_end (far_end g (scene w gh) v p)) (link_fits g wired (scene w gh) holds v p (place p lt)).tree (link_fits' g wired (scene w gh) holds v p (place p lt)).tree (link_leads g wired (scene w gh) holds v p (place p lt)) lags)
     where
-      lags : Joins (tree_end (end g (world w gh) v p)) (tree_end (over g (world w gh) v p)) → (tree_end (over g (world w gh) v p)).level ≤ (tree_end (end g (world w gh) v p)).coming
+      lags : Joins (tree_end (end g (scene w gh) v p)) (tree_end (far_end g (scene w gh) v p)) → (tree_end (far_end g (scene w gh) v p)).level ≤ (tree_end (end g (scene w gh) v p)).coming
       lags j =
           let t = wired.there v p (place p lt) in
           let same = (holds.trees.by_fragment v (far g v p) (holds.trees.joined_within v p (place p lt) (record { here = ap is_branch j.here; there = ap is_branch j.there }))).0 in
@@ -315,7 +314,7 @@ module _ (g : Network) (wired : IsWired g) (k : ℕ) (log : IsFloorLog2 g.count 
           within : q < length (g.ports v) → (sum_below (length (g.ports v)) (λ p. calls_at n (w.queue v p)) ≡ 0) ⊎ ((sum_below (length (g.ports v)) (λ p. calls_at n (w.queue v p)) ≤ 1) × ((w.node v).head.level < n) × (n ≤ k))
           within lt =
               let s = lonely (length (g.ports v)) q (λ p. calls_at n (w.queue v p)) others in
-              let top = coming_most g k log (world w gh) holds v is in
+              let top = coming_most g k log (scene w gh) holds v is in
               ⊎_elim (λ a. inl (omega (arith, s, a))) (λ a. inr (omega (arith, s, a.1), a.2, omega (arith, a.3, top))) (one_at n q lt)
 
           outside : length (g.ports v) ≤ q → (sum_below (length (g.ports v)) (λ p. calls_at n (w.queue v p)) ≡ 0) ⊎ ((sum_below (length (g.ports v)) (λ p. calls_at n (w.queue v p)) ≤ 1) × ((w.node v).head.level < n) × (n ≤ k))
@@ -338,8 +337,8 @@ module _ (g : Network) (wired : IsWired g) (k : ℕ) (log : IsFloorLog2 g.count 
         seen : (see (w.queue v p)).accepts ≡ of_kind 3 (w.queue v p)
         seen = accepts_seen (w.queue v p)
 
-        link : TestsFit (test_end (end g (world w gh) v p)) (test_end (over g (world w gh) v p))
-        link = (link_fits g wired (world w gh) holds v p (place p lt)).tests
+        link : TestsFit (test_end (end g (scene w gh) v p)) (test_end (far_end g (scene w gh) v p))
+        link = (link_fits g wired (scene w gh) holds v p (place p lt)).tests
 
         far_in : InNetwork g (far g v p)
         far_in = let t = wired.there v p (place p lt) in record { some = t.some; node = t.node }
@@ -352,7 +351,7 @@ module _ (g : Network) (wired : IsWired g) (k : ℕ) (log : IsFloorLog2 g.count 
             let finds = probing_finds fits own in
             let top = (fits.searching finds).level in
             let lag = (holds.nodes (far g v p) far_in).lag.level in
-            let lower = below_top g k log (world w gh) holds v (far g v p) is far_in apart.0 (omega (arith, top, lag, apart.1)) in
+            let lower = below_top g k log (scene w gh) holds v (far g v p) is far_in apart.0 (omega (arith, top, lag, apart.1)) in
             (own, omega (arith, count, seen), omega (arith, lower, top))
 
         go : (of_kind 3 (w.queue v p) ≡ 0) ⊎ (of_kind 3 (w.queue v p) ≢ 0) → (of_kind 3 (w.queue v p) ≡ 0) ⊎ (((w.node v).head.probe ≡ Some p) × (of_kind 3 (w.queue v p) ≤ 1) × ((w.node v).head.level < k))
@@ -387,12 +386,12 @@ module _ (g : Network) (wired : IsWired g) (k : ℕ) (log : IsFloorLog2 g.count 
           ⊎_elim (λ a. inl (omega (arith, sum, a))) (λ a. inr (omega (arith, sum, a.1), ap (busy k (w.node v).head.level) e ∙ busy_some k (w.node v).head.level q)) (accepts_at 0 (omega arith) (omega arith) q q_in)
 
   -- the ports that have paid, and the one that is being tested
-  pub ports_most : sum_below (length (g.ports v)) (paid_at g (world w opening_ghost) v) + testing (w.node v).head.probe ≤ length (g.ports v)
+  pub ports_most : sum_below (length (g.ports v)) (paid_at g (scene w opening_ghost) v) + testing (w.node v).head.probe ≤ length (g.ports v)
   ports_most = go (w.node v).head.probe refl
     where
-      go : (o : Option ℕ) → (w.node v).head.probe ≡ o → sum_below (length (g.ports v)) (paid_at g (world w opening_ghost) v) + testing (w.node v).head.probe ≤ length (g.ports v)
-      go None e = let z = sum_ones (length (g.ports v)) (paid_at g (world w opening_ghost) v) (λ p. paid_once g (world w opening_ghost) v p) in let t = ap testing e in omega (arith, z, t)
-      go (Some q) e = let z = sum_lacks (length (g.ports v)) q (paid_at g (world w opening_ghost) v) (fits.own_ports.probe q e) (λ p. paid_once g (world w opening_ghost) v p) (paid_not g (world w opening_ghost) v q e) in let t = ap testing e in omega (arith, z, t)
+      go : (o : Option ℕ) → (w.node v).head.probe ≡ o → sum_below (length (g.ports v)) (paid_at g (scene w opening_ghost) v) + testing (w.node v).head.probe ≤ length (g.ports v)
+      go None e = let z = sum_few (length (g.ports v)) (paid_at g (scene w opening_ghost) v) (λ p. paid_once g (scene w opening_ghost) v p) in let t = ap testing e in omega (arith, z, t)
+      go (Some q) e = let z = sum_lacks (length (g.ports v)) q (paid_at g (scene w opening_ghost) v) (fits.own_ports.probe q e) (λ p. paid_once g (scene w opening_ghost) v p) (paid_not g (scene w opening_ghost) v q e) in let t = ap testing e in omega (arith, z, t)
 
   -- the root messages
   pub roots_most : IsLow k (w.node v).head (gh.up v) → (w.node v).head.level + moved_on (w.node v).head.in_branch (gh.up v) ≤ k

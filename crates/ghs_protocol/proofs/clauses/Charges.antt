@@ -12,7 +12,7 @@ use Rattle.ghs_protocol.specs.Network.{Network, far, far_port, At, InNetwork}
 use Rattle.ghs_protocol.specs.Net.{Net}
 use Rattle.ghs_protocol.specs.Ledger.{sum_over_nodes, sum_over_ports, of_kind}
 use Rattle.ghs_protocol.specs.Payments.{testing}
-use Rattle.ghs_protocol.proofs.clauses.World.{Ghost, World, world, end, TestEnd, test_end}
+use Rattle.ghs_protocol.proofs.clauses.Scene.{Ghost, Scene, scene, end, TestEnd, test_end}
 use Rattle.ghs_protocol.proofs.clauses.Whole.{opening_ghost}
 use Rattle.ghs_protocol.proofs.clauses.Floors.{Sound}
 
@@ -56,12 +56,12 @@ due own b t m n = if own then 0 else (if b && t then 0 else settled b m n)
 abbrev pub paid : TestEnd → TestEnd → ℕ
 paid e f = due (is_at e.probe e.port) (is_at f.probe f.port) (any_test e.tests) e.mark f.mark
 
--- the same in a world, and in a net, of which what is remembered doesn't matter here
-abbrev pub paid_at : Network → World → ℕ → ℕ → ℕ
+-- the same in a scene, and in a net, of which what is remembered doesn't matter here
+abbrev pub paid_at : Network → Scene → ℕ → ℕ → ℕ
 paid_at g w v p = paid (test_end (end g w v p)) (test_end (end g w (far g v p) (far_port g v p)))
 
 abbrev pub paid_in : Network → Net → ℕ
-paid_in g w = sum_over_ports g (paid_at g (world w opening_ghost))
+paid_in g w = sum_over_ports g (paid_at g (scene w opening_ghost))
 
 -- who has sent the root on, and who has found a link that leads out, is below the highest level
 pub record IsLow (k : ℕ) (h : Head) (up : Option ℕ) : Type 0 where
@@ -94,7 +94,7 @@ pub record Pays (k : ℕ) (h : Head) (o : Option ℕ) (x : Head) (o' : Option �
   pub rises : h.level < x.level → (c 1 ≤ 1) × (c 3 ≡ 0) × (of_kind 0 ss + of_kind 6 ss ≡ 0) × (of_kind 5 ss + finding x.phase ≤ 1)
 
 -- no port has paid less than before, and port p of node v pays a more
-pub record Rises (g : Network) (w w' : World) (v p a : ℕ) : Type 0 where
+pub record Rises (g : Network) (w w' : Scene) (v p a : ℕ) : Type 0 where
   pub stays : (u q : ℕ) → At g u q → paid_at g w u q ≤ paid_at g w' u q
   pub more : 1 ≤ a → At g v p × (paid_at g w v p + a ≤ paid_at g w' v p)
 
@@ -108,13 +108,13 @@ pub record Acted (g : Network) (k v : ℕ) (up up' : ℕ → Option ℕ) (w w' :
   pub ways : (u : ℕ) → u ≢ v → up' u ≡ up u
   pub sent : (j : ℕ) → w'.sent j ≡ w.sent j + of_kind j kinds
   pub consumed : (j : ℕ) → w'.consumed j ≡ w.consumed j + came j
-  pub ports : Rises g (world w opening_ghost) (world w' opening_ghost) v port paid_more
+  pub ports : Rises g (scene w opening_ghost) (scene w' opening_ghost) v port paid_more
   pub pays : Pays k (w.node v).head (up v) (w'.node v).head (up' v) came kinds paid_more
 
 -- some memory with these ways to the root makes all clauses of floors hold
 pub record SoundWith (g : Network) (up : ℕ → Option ℕ) (n : Net) : Type 0 where
   pub ghost : Ghost
-  pub holds : Sound g (world n ghost)
+  pub holds : Sound g (scene n ghost)
   pub ups : ghost.up ≡ up
 
 -- and charges are paid

@@ -10,7 +10,7 @@ use Rattle.ghs_protocol.specs.Network.{Network, port_at, far, far_port, At, InNe
 use Rattle.ghs_protocol.specs.Marks.{Leads}
 use Rattle.ghs_protocol.specs.Net.{Net}
 use Rattle.ghs_protocol.proofs.clauses.Whole.{Invariant}
-use Rattle.ghs_protocol.proofs.clauses.World.{Ghost, world, World, Member, End, end, TreeEnd, tree_end}
+use Rattle.ghs_protocol.proofs.clauses.Scene.{Ghost, scene, Scene, Member, End, end, TreeEnd, tree_end}
 use Rattle.ghs_protocol.proofs.clauses.Links.{Joins, Out, Child}
 use Rattle.ghs_protocol.proofs.clauses.TreeMessages.{Core, Moved}
 use Rattle.ghs_protocol.proofs.clauses.Rest.{has_report, has_call}
@@ -91,29 +91,29 @@ abbrev pub IsTreeLink : Network → ℕ → ℕ → Type 0
 IsTreeLink g v p = Leads g (λ a b. key_lt (port_at g a b).key (port_at g v p).key ≡ true) v (far g v p) → ⊥
 
 -- each Branch link is one of the minimum spanning forest
-abbrev pub BranchesInTree : Network → World → Type 0
+abbrev pub BranchesInTree : Network → Scene → Type 0
 BranchesInTree g w = (v p : ℕ) → At g v p → (w.at v).mark p ≡ Branch → IsTreeLink g v p
 
 -- no link leads out of the fragment of a node that has halted
-abbrev pub HaltedIsWhole : Network → World → Type 0
+abbrev pub HaltedIsWhole : Network → Scene → Type 0
 HaltedIsWhole g w = (v t p : ℕ) → InNetwork g v → (w.at v).head.halted ≡ true → At g t p → (w.at t).fragment ≡ (w.at v).fragment → (w.at (far g t p)).fragment ≡ (w.at v).fragment
 
 -- all clauses of floors, trees and halts but the order of tests
-pub record Floors (g : Network) (w : World) (floor : ℕ → Floor) : Type 0 where
+pub record Floors (g : Network) (w : Scene) (floor : ℕ → Floor) : Type 0 where
   pub nodes : (v : ℕ) → InNetwork g v → NodeFloor (w.at v) (floor v)
   pub links : (v p : ℕ) → At g v p → FloorsAt (end g w v p) (end g w (far g v p) (far_port g v p)) (floor v) (floor (far g v p))
   pub in_tree : BranchesInTree g w
   pub halted : HaltedIsWhole g w
 
 -- all nodes test in order, but v, which has yet to test its next port
-abbrev pub AllScanBut : Network → World → ℕ → Type 0
+abbrev pub AllScanBut : Network → Scene → ℕ → Type 0
 AllScanBut g w v = (u : ℕ) → InNetwork g u → u ≢ v → ScansInOrder g u (w.at u)
 
-abbrev pub AllScan : Network → World → Type 0
+abbrev pub AllScan : Network → Scene → Type 0
 AllScan g w = (u : ℕ) → InNetwork g u → ScansInOrder g u (w.at u)
 
 -- the invariant, with floors, with tests in order, and with what is always under way
-pub record Sound (g : Network) (w : World) : Type 0 where
+pub record Sound (g : Network) (w : Scene) : Type 0 where
   pub first : Invariant g w
   pub floor : ℕ → Floor
   pub floors : Floors g w floor
@@ -121,7 +121,7 @@ pub record Sound (g : Network) (w : World) : Type 0 where
   pub lives : Lives g w
 
 -- the same while node u has yet to test its next port
-pub record Nearly (g : Network) (w : World) (u : ℕ) : Type 0 where
+pub record Nearly (g : Network) (w : Scene) (u : ℕ) : Type 0 where
   pub first : Invariant g w
   pub floor : ℕ → Floor
   pub floors : Floors g w floor
@@ -131,4 +131,4 @@ pub record Nearly (g : Network) (w : World) (u : ℕ) : Type 0 where
 -- some memory makes all this hold
 pub record HasSound (g : Network) (n : Net) : Type 0 where
   pub ghost : Ghost
-  pub holds : Sound g (world n ghost)
+  pub holds : Sound g (scene n ghost)

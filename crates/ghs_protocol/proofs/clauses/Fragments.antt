@@ -3,7 +3,7 @@ use Rattle.std.specs.Prelude.{◌⊎◌, ◌≡◌, ◌≢◌, ℕ, ◌^◌, ◌
 use Rattle.ghs_graph.specs.declared.key.Key.{Key}
 use Rattle.ghs_protocol.specs.Network.{Network, port_at, far, far_port, At, InNetwork}
 use Rattle.ghs_protocol.specs.Marks.{Leads}
-use Rattle.ghs_protocol.proofs.clauses.World.{Forest}
+use Rattle.ghs_protocol.proofs.clauses.Scene.{Forest}
 
 -- the link at port p of v is Branch at both ends
 pub record IsJoinedIn (g : Network) (s : Forest) (v p : ℕ) : Type 0 where

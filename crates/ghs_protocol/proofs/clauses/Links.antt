@@ -1,7 +1,7 @@
 -- How the two ends of a link stand to each other: e is this end, f the far one.
 use Rattle.std.specs.Prelude.{◌≡◌, ◌≢◌, Some}
 use Rattle.ghs_node.specs.declared.mark.Mark.TheVariants.{Branch}
-use Rattle.ghs_protocol.proofs.clauses.World.{TreeEnd}
+use Rattle.ghs_protocol.proofs.clauses.Scene.{TreeEnd}
 
 -- Branch at both ends
 pub record Joins (e f : TreeEnd) : Type 0 where

@@ -3,7 +3,7 @@ use Rattle.std.specs.Prelude.{◌≡◌, ◌≢◌, ℕ, ◌<◌, ◌≤◌, fal
 use Rattle.ghs_graph.specs.declared.key.Key.{Key}
 use Rattle.ghs_node.specs.declared.mark.Mark.TheVariants.{Branch, Rejected}
 use Rattle.ghs_node.specs.declared.message.Phase.TheVariants.{Sleeping, Find}
-use Rattle.ghs_protocol.proofs.clauses.World.{Member}
+use Rattle.ghs_protocol.proofs.clauses.Scene.{Member}
 
 -- the ports named are ports, and marks are of ports
 pub record OwnPorts (n : ℕ) (m : Member) : Type 0 where

@@ -2,7 +2,7 @@
 use Rattle.std.specs.Prelude.{◌≡◌, ◌≢◌, ◌≤◌, Some}
 use Rattle.ghs_graph.specs.declared.key.Key.{Key}
 use Rattle.ghs_node.specs.declared.mark.Mark.TheVariants.{Branch, Rejected}
-use Rattle.ghs_protocol.proofs.clauses.World.{TreeEnd}
+use Rattle.ghs_protocol.proofs.clauses.Scene.{TreeEnd}
 use Rattle.ghs_protocol.proofs.clauses.Links.{Joins}
 use Rattle.ghs_protocol.proofs.clauses.TreeMessages.{Reported}
 

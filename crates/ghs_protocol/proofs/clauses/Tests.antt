@@ -2,7 +2,7 @@
 use Rattle.std.specs.Prelude.{◌≡◌, ◌≢◌, ℕ, ◌+◌, ◌≤◌, Option, Some, List, [], ◌∷◌, length, ⊤}
 use Rattle.ghs_graph.specs.declared.key.Key.{Key}
 use Rattle.ghs_node.specs.declared.mark.Mark.TheVariants.{Basic}
-use Rattle.ghs_protocol.proofs.clauses.World.{TestEnd}
+use Rattle.ghs_protocol.proofs.clauses.Scene.{TestEnd}
 
 -- each Test has this level and name
 abbrev pub AllFrom : ℕ → Option Key → List (ℕ × Key) → Type 0

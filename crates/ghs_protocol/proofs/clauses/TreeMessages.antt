@@ -6,7 +6,7 @@ use Rattle.ghs_node.specs.declared.message.Phase.TheVariants.{Sleeping, Find, Fo
 use Rattle.ghs_node.specs.declared.message.Message.{Message}
 use Rattle.ghs_node.specs.declared.message.Message.TheVariants.{Connect, Initiate, Report, ChangeRoot}
 use Rattle.ghs_node.specs.Words.{below, best_key}
-use Rattle.ghs_protocol.proofs.clauses.World.{TreeEnd}
+use Rattle.ghs_protocol.proofs.clauses.Scene.{TreeEnd}
 use Rattle.ghs_protocol.proofs.clauses.Links.{Joins, Out, Ups, Child, Mutual}
 
 -- a Connect under way is the only tree message of its link, and leads to another fragment of at least its level

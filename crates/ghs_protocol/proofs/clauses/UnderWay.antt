@@ -9,7 +9,7 @@ use Rattle.ghs_node.specs.declared.message.Message.{Message}
 use Rattle.ghs_node.specs.declared.message.Message.TheVariants.{Initiate}
 use Rattle.ghs_node.specs.Words.{Best, below, best_key, is_zero, is_missing}
 use Rattle.ghs_protocol.specs.Network.{Network, far, far_port, At, InNetwork}
-use Rattle.ghs_protocol.proofs.clauses.World.{World, Member, End, end}
+use Rattle.ghs_protocol.proofs.clauses.Scene.{Scene, Member, End, end}
 use Rattle.ghs_protocol.proofs.clauses.Rest.{has_report}
 
 -- what is under way for a probe: its Test at the far end, the answer, or the far end's own Test here, which the probe's has crossed
@@ -53,7 +53,7 @@ abbrev pub CoreHeard : End → End → Type 0
 CoreHeard e f = IsCore e f → e.is.head.level ≡ e.is.coming → e.is.head.phase ≡ Found → has_report f.seen.tree ≡ false → HeardBy f.is.head.level f.is.coming f.is.head.phase f.is.head.best e.is.head.best f.is.head.halted
 
 -- all three, of each link from each end
-pub record Lives (g : Network) (w : World) : Type 0 where
+pub record Lives (g : Network) (w : Scene) : Type 0 where
   pub asks : (v p : ℕ) → At g v p → ProbeAsks (end g w v p) (end g w (far g v p) (far_port g v p))
   pub brought : (v p : ℕ) → At g v p → ChildBrought (end g w v p) (end g w (far g v p) (far_port g v p))
   pub heard : (v p : ℕ) → At g v p → CoreHeard (end g w v p) (end g w (far g v p) (far_port g v p))
@@ -67,7 +67,7 @@ abbrev pub FindAwaits : Member → Type 0
 FindAwaits m = m.head.phase ≡ Find → (is_zero m.head.find_count && is_missing m.head.probe) ≡ false
 
 -- the same, with what holds of each node
-pub record Living (g : Network) (w : World) : Type 0 where
+pub record Living (g : Network) (w : Scene) : Type 0 where
   pub no_port : (v : ℕ) → InNetwork g v → NoPortHalts (length (g.ports v)) (w.at v)
   pub awaits : (v : ℕ) → InNetwork g v → FindAwaits (w.at v)
   pub links : Lives g w

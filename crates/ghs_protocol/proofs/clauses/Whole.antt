@@ -3,7 +3,7 @@ use Rattle.std.specs.Prelude.{ℕ, None, length}
 use Rattle.ghs_graph.specs.declared.key.Key.{Key}
 use Rattle.ghs_protocol.specs.Network.{Network, far, far_port, At, InNetwork}
 use Rattle.ghs_protocol.specs.Net.{Net}
-use Rattle.ghs_protocol.proofs.clauses.World.{Ghost, World, world, End, end, tree_end, test_end, forest}
+use Rattle.ghs_protocol.proofs.clauses.Scene.{Ghost, Scene, scene, End, end, tree_end, test_end, forest}
 use Rattle.ghs_protocol.proofs.clauses.Nodes.{NodeFits}
 use Rattle.ghs_protocol.proofs.clauses.TreeMessages.{TreeFits}
 use Rattle.ghs_protocol.proofs.clauses.Search.{SearchFits}
@@ -18,11 +18,11 @@ pub record LinkFits (N : ℕ → Key → Type 0) (e f : End) : Type 0 where
   pub tests : TestsFit (test_end e) (test_end f)
 
 -- the names of a fragment's links
-abbrev pub NamesOf : Network → World → ℕ → Key → Type 0
+abbrev pub NamesOf : Network → Scene → ℕ → Key → Type 0
 NamesOf g w a k = Names g (forest w) a k
 
 -- all clauses
-pub record Invariant (g : Network) (w : World) : Type 0 where
+pub record Invariant (g : Network) (w : Scene) : Type 0 where
   pub nodes : (v : ℕ) → InNetwork g v → NodeFits (length (g.ports v)) (w.at v)
   pub trees : ForestFits g (forest w)
   pub links : (v p : ℕ) → At g v p → LinkFits (NamesOf g w) (end g w v p) (end g w (far g v p) (far_port g v p))
@@ -34,7 +34,7 @@ pub record Invariant (g : Network) (w : World) : Type 0 where
 -- some memory makes all clauses hold
 pub record HasInvariant (g : Network) (n : Net) : Type 0 where
   pub ghost : Ghost
-  pub holds : Invariant g (world n ghost)
+  pub holds : Invariant g (scene n ghost)
 
 -- at the opening each node is a fragment of level 0 without a name
 abbrev pub opening_ghost : Ghost

@@ -11,7 +11,7 @@ use Rattle.ghs_protocol.specs.Ledger.{of_kind}
 use Rattle.ghs_protocol.specs.Ends.{end_of, far_end_of}
 use Rattle.ghs_protocol.specs.Connects.{ConnectsFrom}
 use Rattle.ghs_protocol.specs.Laws.{IsNetOf, ConnectsAreOne}
-use Rattle.ghs_protocol.proofs.clauses.World.{Ghost, TreeEnd, end, tree_end, world}
+use Rattle.ghs_protocol.proofs.clauses.Scene.{Ghost, TreeEnd, end, tree_end, scene, far_end}
 use Rattle.ghs_protocol.proofs.clauses.Links.{Joins, Ups, Child}
 use Rattle.ghs_protocol.proofs.clauses.TreeMessages.{TreeFits, Upward, Nothing_up, Report_up, Chain, Downward, Initiates, Old_report, Stage, Asking, Called, Begun, asked, called, CoreQueue, Plain, With_report, CoreFits, MovedFits, To_here, To_there}
 use Rattle.ghs_protocol.proofs.clauses.Whole.{Invariant, NamesOf}
@@ -19,7 +19,6 @@ use Rattle.ghs_protocol.proofs.lemmas.Graphs.{graph_wired}
 use Rattle.ghs_protocol.proofs.every_run.Interleavings.{holds}
 use Rattle.ghs_protocol.proofs.charges.Waiting.{kinds_seen}
 use Rattle.ghs_protocol.proofs.search.FirstReport.{Joint, joint, Down_here, Down_there, On_core, On_moved, mark_is}
-use Rattle.ghs_protocol.proofs.rest.AtRest.{over}
 use Rattle.ghs_protocol.proofs.every_run.Holds.{Holds}
 use Rattle.ghs_protocol.proofs.rows.Link.{link_fits, link_fits', link_leads}
 
@@ -101,7 +100,7 @@ module _ {N : ℕ → Key → Type 0} (e f : TreeEnd) (he : TreeFits N e f) (hf 
 basic_not : (m : Mark) → m ≡ Basic → m ≢ Branch
 basic_not m b e = cc (b, e)
 
-module _ (g : Network) (wired : IsWired g) (w : Net) (gh : Ghost) (fits : Invariant g (world w gh)) where
+module _ (g : Network) (wired : IsWired g) (w : Net) (gh : Ghost) (fits : Invariant g (scene w gh)) where
   -- of the Connects that port p of v has sent
   sent_from : (v p : ℕ) → At g v p → ConnectsFrom (end_of w v p) (far_end_of g w v p)
   sent_from v p at = record {
@@ -111,19 +110,19 @@ module _ (g : Network) (wired : IsWired g) (w : Net) (gh : Ghost) (fits : Invari
   }
     where
       here : TreeEnd
-      here = tree_end (end g (world w gh) v p)
+      here = tree_end (end g (scene w gh) v p)
 
       there : TreeEnd
-      there = tree_end (over g (world w gh) v p)
+      there = tree_end (far_end g (scene w gh) v p)
 
-      he : TreeFits (NamesOf g (world w gh)) here there
-      he = (link_fits g wired (world w gh) fits v p at).tree
+      he : TreeFits (NamesOf g (scene w gh)) here there
+      he = (link_fits g wired (scene w gh) fits v p at).tree
 
-      hf : TreeFits (NamesOf g (world w gh)) there here
-      hf = (link_fits' g wired (world w gh) fits v p at).tree
+      hf : TreeFits (NamesOf g (scene w gh)) there here
+      hf = (link_fits' g wired (scene w gh) fits v p at).tree
 
       ups : Joins here there → Ups here ⊎ Ups there
-      ups = link_leads g wired (world w gh) fits v p at
+      ups = link_leads g wired (scene w gh) fits v p at
 
       seen : of_kind 0 there.tree ≡ of_kind 0 (w.queue (far g v p) (far_port g v p))
       seen = kinds_seen 0 refl refl refl (w.queue (far g v p) (far_port g v p))

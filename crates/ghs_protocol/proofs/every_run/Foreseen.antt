@@ -16,15 +16,14 @@ use Rattle.ghs_protocol.specs.Network.{Network, At, IsWired, port_at, far, far_p
 use Rattle.ghs_protocol.specs.Net.{Net}
 use Rattle.ghs_protocol.specs.Nodes.{IsNodeOf}
 use Rattle.ghs_protocol.specs.Ledger.{sum_below}
-use Rattle.ghs_protocol.proofs.clauses.World.{End, end, tree_end, see, world, Ghost}
+use Rattle.ghs_protocol.proofs.clauses.Scene.{End, end, tree_end, see, scene, Ghost, far_end}
 use Rattle.ghs_protocol.proofs.clauses.Links.{Joins, Ups}
 use Rattle.ghs_protocol.proofs.clauses.Nodes.{NodeFits, Searching}
 use Rattle.ghs_protocol.proofs.clauses.Fragments.{IsIn, First, Later, Apart, One_more, HasMany}
 use Rattle.ghs_protocol.proofs.clauses.Rest.{owes, debt}
 use Rattle.ghs_protocol.proofs.clauses.Whole.{Invariant, LinkFits, NamesOf}
 use Rattle.ghs_protocol.proofs.lemmas.Nodes.{ports_many}
-use Rattle.ghs_protocol.proofs.lemmas.Sums.{sum_same, term_le}
-use Rattle.ghs_protocol.proofs.rest.AtRest.{over}
+use Rattle.ghs_protocol.proofs.lemmas.Sums.{sum_same, term_le, sum_few}
 use Rattle.ghs_protocol.proofs.rows.Link.{node_fits, link_fits, link_fits', link_leads}
 use Rattle.ghs_protocol.proofs.search.ReportGone.{debt_one, debt_up}
 use Rattle.ghs_protocol.proofs.search.FirstReport as reports
@@ -97,42 +96,37 @@ forwards_few q (Branch ∷ ms) j m =
     elim (q == j) as (λ b. length (if b then on_branches_from (suc q) ms j m else ((q, m) ∷ on_branches_from (suc q) ms j m)) ≤ suc (length ms))
     [ true ↦ omega (arith, z) | false ↦ omega (arith, z) ]
 
--- a sum of terms that are at most 1
-pub sum_ones : (n : ℕ) (f : ℕ → ℕ) → ((i : ℕ) → f i ≤ 1) → sum_below n f ≤ n
-sum_ones zero f most = omega arith
-sum_ones (suc n) f most = let z = sum_ones n f most in let y = most n in omega (arith, z, y)
-
 -- where one of them is 0
 pub sum_lacks : (n j : ℕ) (f : ℕ → ℕ) → j < n → ((i : ℕ) → f i ≤ 1) → f j ≡ 0 → sum_below n f < n
 sum_lacks zero j f lt most none = absurd (omega arith)
 sum_lacks (suc n) j f lt most none =
-    ⊎_elim (λ (e : j ≡ n). let z = sum_ones n f most in let y : ◌≡◌ {A = ℕ} (f n) 0 = ap f (sym e) ∙ none in omega (arith, z, y))
+    ⊎_elim (λ (e : j ≡ n). let z = sum_few n f most in let y : ◌≡◌ {A = ℕ} (f n) 0 = ap f (sym e) ∙ none in omega (arith, z, y))
     (λ ne. let z = sum_lacks n j f (omega arith) most none in let y = most n in omega (arith, z, y)) (cases_eq j n)
 
-module _ (g : Network) (wired : IsWired g) (few : g.count ≤ 1048576) (v p : ℕ) (at : At g v p) (w : Net) (is : IsNodeOf g v (w.node v)) (gh : Ghost) (holds : Invariant g (world w gh)) where
+module _ (g : Network) (wired : IsWired g) (few : g.count ≤ 1048576) (v p : ℕ) (at : At g v p) (w : Net) (is : IsNodeOf g v (w.node v)) (gh : Ghost) (holds : Invariant g (scene w gh)) where
   inside : InNetwork g v
   inside = record { some = at.some; node = at.node }
 
-  fits : NodeFits (length (g.ports v)) ((world w gh).at v)
-  fits = node_fits g wired (world w gh) holds v p at
+  fits : NodeFits (length (g.ports v)) ((scene w gh).at v)
+  fits = node_fits g wired (scene w gh) holds v p at
 
-  link : LinkFits (NamesOf g (world w gh)) (end g (world w gh) v p) (over g (world w gh) v p)
-  link = link_fits g wired (world w gh) holds v p at
+  link : LinkFits (NamesOf g (scene w gh)) (end g (scene w gh) v p) (far_end g (scene w gh) v p)
+  link = link_fits g wired (scene w gh) holds v p at
 
-  link' : LinkFits (NamesOf g (world w gh)) (over g (world w gh) v p) (end g (world w gh) v p)
-  link' = link_fits' g wired (world w gh) holds v p at
+  link' : LinkFits (NamesOf g (scene w gh)) (far_end g (scene w gh) v p) (end g (scene w gh) v p)
+  link' = link_fits' g wired (scene w gh) holds v p at
 
-  ways : Joins (tree_end (end g (world w gh) v p)) (tree_end (over g (world w gh) v p)) → Ups (tree_end (end g (world w gh) v p)) ⊎ Ups (tree_end (over g (world w gh) v p))
-  ways = link_leads g wired (world w gh) holds v p at
+  ways : Joins (tree_end (end g (scene w gh) v p)) (tree_end (far_end g (scene w gh) v p)) → Ups (tree_end (end g (scene w gh) v p)) ⊎ Ups (tree_end (far_end g (scene w gh) v p))
+  ways = link_leads g wired (scene w gh) holds v p at
 
   -- to a sleeping node no other message comes than a Connect or a Test
   quiet_sleep : (m : Message) (ms : List Message) → w.queue v p ≡ m ∷ ms → is_tree m ≡ true → ((l : ℕ) → m ≢ Connect l) → (w.node v).head.phase ≡ Sleeping → ⊥
   quiet_sleep m ms q tree other sleeps =
       ⊎_elim
-      (λ b. other (tree_end (over g (world w gh) v p)).level (let z : m ∷ (see ms).tree ≡ Connect (tree_end (over g (world w gh) v p)).level ∷ [] = sym first ∙ (link'.tree.out_connect (record { here = b; there = bare })).one in cc))
-      (λ b. let z : m ∷ (see ms).tree ≡ [] = sym first ∙ link.tree.silent bare b in cc) (mark_is (tree_end (over g (world w gh) v p)).mark)
+      (λ b. other (tree_end (far_end g (scene w gh) v p)).level (let z : m ∷ (see ms).tree ≡ Connect (tree_end (far_end g (scene w gh) v p)).level ∷ [] = sym first ∙ (link'.tree.out_connect (record { here = b; there = bare })).one in cc))
+      (λ b. let z : m ∷ (see ms).tree ≡ [] = sym first ∙ link.tree.silent bare b in cc) (mark_is (tree_end (far_end g (scene w gh) v p)).mark)
     where
-      bare : (tree_end (end g (world w gh) v p)).mark ≢ Branch
+      bare : (tree_end (end g (scene w gh) v p)).mark ≢ Branch
       bare = (fits.untouched sleeps).marks p
 
       first : (see (w.queue v p)).tree ≡ m ∷ (see ms).tree
@@ -161,15 +155,15 @@ module _ (g : Network) (wired : IsWired g) (few : g.count ≤ 1048576) (v p : �
   -- an Initiate rises
   called_by :
       (l : ℕ) (n : Key) (s : Phase) (ms : List Message) → w.queue v p ≡ Initiate l n s ∷ ms →
-      Calls (NamesOf g (world w gh) (gh.fragment v)) (tree_end (end g (world w gh) v p)) (tree_end (over g (world w gh) v p)) l n s (see ms).tree
+      Calls (NamesOf g (scene w gh) (gh.fragment v)) (tree_end (end g (scene w gh) v p)) (tree_end (far_end g (scene w gh) v p)) l n s (see ms).tree
   called_by l n s ms q =
-      calls (tree_end (end g (world w gh) v p)) (tree_end (over g (world w gh) v p)) link.tree link'.tree ways own lags l n s (see ms).tree
+      calls (tree_end (end g (scene w gh) v p)) (tree_end (far_end g (scene w gh) v p)) link.tree link'.tree ways own lags l n s (see ms).tree
       (tree_first (w.queue v p) ms (Initiate l n s) refl q)
     where
-      own : Joins (tree_end (end g (world w gh) v p)) (tree_end (over g (world w gh) v p)) → NamesOf g (world w gh) (gh.fragment v) (port_at g v p).key
+      own : Joins (tree_end (end g (scene w gh) v p)) (tree_end (far_end g (scene w gh) v p)) → NamesOf g (scene w gh) (gh.fragment v) (port_at g v p).key
       own j = record { node = v; port = p; at = at; joined = record { here = ap is_branch j.here; there = ap is_branch j.there }; fragment = refl; key = refl }
 
-      lags : Joins (tree_end (end g (world w gh) v p)) (tree_end (over g (world w gh) v p)) → (tree_end (over g (world w gh) v p)).level ≤ (tree_end (end g (world w gh) v p)).coming
+      lags : Joins (tree_end (end g (scene w gh) v p)) (tree_end (far_end g (scene w gh) v p)) → (tree_end (far_end g (scene w gh) v p)).level ≤ (tree_end (end g (scene w gh) v p)).coming
       lags j =
           let t = wired.there v p at in
           let same = (holds.trees.by_fragment v (far g v p) (holds.trees.joined_within v p at (record { here = ap is_branch j.here; there = ap is_branch j.there }))).0 in
@@ -177,11 +171,11 @@ module _ (g : Network) (wired : IsWired g) (few : g.count ≤ 1048576) (v p : �
           omega (arith, same, z)
 
   -- find_count
-  owed : (w.node v).head.find_count ≡ sum_below (length (g.ports v)) (λ i. debt (end g (world w gh) v i) (over g (world w gh) v i))
+  owed : (w.node v).head.find_count ≡ sum_below (length (g.ports v)) (λ i. debt (end g (scene w gh) v i) (far_end g (scene w gh) v i))
   owed =
       holds.counted v inside ∙
       sum_same (length (g.ports v)) _ _
-      (λ i lt. let at' : At g v i = record { some = at.some; node = at.node; port = lt } in ap (debt (end g (world w gh) v i)) (λ k. record { port = far_port g v i; key = wired.same_key v i at' k; mark = ((world w gh).at (far g v i)).mark (far_port g v i); is = (world w gh).at (far g v i); seen = (world w gh).seen (far g v i) (far_port g v i) }))
+      (λ i lt. let at' : At g v i = record { some = at.some; node = at.node; port = lt } in ap (debt (end g (scene w gh) v i)) (λ k. record { port = far_port g v i; key = wired.same_key v i at' k; mark = ((scene w gh).at (far g v i)).mark (far_port g v i); is = (scene w gh).at (far g v i); seen = (scene w gh).seen (far g v i) (far_port g v i) }))
 
   debt_most : (e f : End) → debt e f ≤ 1
   debt_most e f = elim (not (is_at e.is.up e.port) && owes e f) as (λ b. (if b then 1 else 0) ≤ 1) [ true ↦ omega arith | false ↦ omega arith ]
@@ -189,9 +183,9 @@ module _ (g : Network) (wired : IsWired g) (few : g.count ≤ 1048576) (v p : �
   -- who searches waits for less Reports than it has ports
   owed_few : (w.node v).head.phase ≡ Find → (w.node v).head.find_count < degree (w.node v)
   owed_few finds =
-      let s : Searching ((world w gh).at v) = fits.searching finds in
+      let s : Searching ((scene w gh).at v) = fits.searching finds in
       let lt : s.port < length (g.ports v) = fits.own_ports.in_branch s.port s.in_branch in
-      let z = sum_lacks (length (g.ports v)) s.port (λ i. debt (end g (world w gh) v i) (over g (world w gh) v i)) lt (λ i. debt_most (end g (world w gh) v i) (over g (world w gh) v i)) (debt_up (end g (world w gh) v s.port) (over g (world w gh) v s.port) s.up) in
+      let z = sum_lacks (length (g.ports v)) s.port (λ i. debt (end g (scene w gh) v i) (far_end g (scene w gh) v i)) lt (λ i. debt_most (end g (scene w gh) v i) (far_end g (scene w gh) v i)) (debt_up (end g (scene w gh) v s.port) (far_end g (scene w gh) v s.port) s.up) in
       omega (arith, z, owed, ports_many is)
 
   more_few : degree (w.node v) < find_more (w.node v).head.phase (w.node v).head.find_count → ⊥
@@ -229,15 +223,15 @@ module _ (g : Network) (wired : IsWired g) (few : g.count ≤ 1048576) (v p : �
       first = tree_first (w.queue v p) ms (Report k) refl q
 
       f : ℕ → ℕ
-      f i = debt (end g (world w gh) v i) (over g (world w gh) v i)
+      f i = debt (end g (scene w gh) v i) (far_end g (scene w gh) v i)
 
       term : f p ≤ sum_below (length (g.ports v)) f
       term = term_le (length (g.ports v)) p f at.port
 
       one : ◌≡◌ {A = ℕ} (f p) 1
       one =
-          debt_one (end g (world w gh) v p) (over g (world w gh) v p)
-          (reports.heard_first (tree_end (end g (world w gh) v p)) (tree_end (over g (world w gh) v p)) link.tree link'.tree ways k (see ms).tree first ne).child.down
+          debt_one (end g (scene w gh) v p) (far_end g (scene w gh) v p)
+          (reports.heard_first (tree_end (end g (scene w gh) v p)) (tree_end (far_end g (scene w gh) v p)) link.tree link'.tree ways k (see ms).tree first ne).child.down
           (rw first refl)
 
   search_few :
@@ -257,10 +251,10 @@ module _ (g : Network) (wired : IsWired g) (few : g.count ≤ 1048576) (v p : �
   foreseen m ms q (Reject_untested up ne) = no_reject ms q ne
   foreseen m ms q (Report_unowed {w = k} up ne z) = unowed k ms q ne z
   foreseen m ms q (Root_without_best up none) =
-      (root_sent (tree_end (end g (world w gh) v p)) (tree_end (over g (world w gh) v p)) link.tree link'.tree ways (see ms).tree (tree_first (w.queue v p) ms ChangeRoot refl q)).fits.best
+      (root_sent (tree_end (end g (scene w gh) v p)) (tree_end (far_end g (scene w gh) v p)) link.tree link'.tree ways (see ms).tree (tree_first (w.queue v p) ms ChangeRoot refl q)).fits.best
       none
   foreseen m ms q (Merge_above_levels {l = l} up top le marked) =
-      let z = (asked_on (tree_end (end g (world w gh) v p)) (tree_end (over g (world w gh) v p)) link.tree link'.tree ways l (see ms).tree (tree_first (w.queue v p) ms (Connect l) refl q) marked).below in
+      let z = (asked_on (tree_end (end g (scene w gh) v p)) (tree_end (far_end g (scene w gh) v p)) link.tree link'.tree ways l (see ms).tree (tree_first (w.queue v p) ms (Connect l) refl q) marked).below in
       omega (arith, z, top, coming_most)
   foreseen m ms q (Absorbs_too_many up lt many) = more_few many
   foreseen m ms q (Searches_too_many {l = l} {f = f} up lt many) = search_few l f ms q many

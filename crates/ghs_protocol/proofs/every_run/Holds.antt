@@ -23,7 +23,7 @@ use Rattle.ghs_protocol.specs.Run.{run, IsAfter}
 use Rattle.ghs_protocol.specs.Marks.{Leads, Here, Over, InOneFragment}
 use Rattle.ghs_protocol.specs.Interleavings.{HaveAtLeast, Asks, To_wake, To_take}
 use Rattle.ghs_protocol.specs.Nodes.{HasFewPorts, IsWellFormed}
-use Rattle.ghs_protocol.proofs.clauses.World.{forest, world}
+use Rattle.ghs_protocol.proofs.clauses.Scene.{forest, scene}
 use Rattle.ghs_protocol.proofs.clauses.Fragments.{IsJoinedIn, IsIn, First, Later, Apart, One_more, HasMany}
 use Rattle.ghs_protocol.proofs.clauses.Wiring.{IsKeyed, IsOrdered}
 use Rattle.ghs_protocol.proofs.clauses.Whole.{HasInvariant}
@@ -67,7 +67,7 @@ all_apart (x ∷ xs) (One_more ne a) = AllPairs-cons (λ x y. x ≢ y) x xs (all
 
 module _ (g : Network) (wired : IsWired g) (w : Net) (h : Holds g w) where
   -- joined in the forest, and by marks
-  leads_so : (v u : ℕ) → Leads g (IsJoinedIn g (forest (world w h.sound.ghost))) v u → InOneFragment g w v u
+  leads_so : (v u : ℕ) → Leads g (IsJoinedIn g (forest (scene w h.sound.ghost))) v u → InOneFragment g w v u
   leads_so v _ Here = Here
   leads_so v u (Over p at j l) = Over p at (branch_mark _ j.here, branch_mark _ j.there) (leads_so _ u l)
 

@@ -13,11 +13,10 @@ use Rattle.ghs_node.specs.Reaction.{root_mark, reject_at}
 use Rattle.ghs_node.specs.Rows.{AwakeRow, Connect_absorbed, Test_rejected, Tests_cross, Reject_heard, Report_moves_root, Root_moves}
 use Rattle.ghs_protocol.specs.Network.{Network, At, IsWired}
 use Rattle.ghs_protocol.specs.Net.{Net}
-use Rattle.ghs_protocol.proofs.clauses.World.{end, tree_end, see, world, Ghost}
+use Rattle.ghs_protocol.proofs.clauses.Scene.{end, tree_end, see, scene, Ghost, far_end}
 use Rattle.ghs_protocol.proofs.clauses.Uniting.{SendsRoot, By_report, By_root}
 use Rattle.ghs_protocol.proofs.clauses.Whole.{Invariant, HasInvariant}
 use Rattle.ghs_protocol.proofs.every_run.RejectedStays.{SparesRejected}
-use Rattle.ghs_protocol.proofs.rest.AtRest.{over}
 use Rattle.ghs_protocol.proofs.rows.Link.{node_fits, link_fits, link_fits', link_leads}
 use Rattle.ghs_protocol.proofs.union.CoreAnswered.{Asked, asked_on}
 use Rattle.ghs_protocol.proofs.root.AtRoot.{at_root}
@@ -41,24 +40,24 @@ root_port Basic b q e = ap (λ (o : ℕ × Mark). o.0) (same_Some _ _ e)
 root_port Rejected b q e = ap (λ (o : ℕ × Mark). o.0) (same_Some _ _ e)
 root_port Branch b q e = absurd (let z : ◌≡◌ {A = Option (ℕ × Mark)} None (Some (q, Branch)) = e in cc)
 
-module _ (g : Network) (wired : IsWired g) (w : Net) (gh : Ghost) (holds : Invariant g (world w gh)) (v p : ℕ) (at : At g v p) where
+module _ (g : Network) (wired : IsWired g) (w : Net) (gh : Ghost) (holds : Invariant g (scene w gh)) (v p : ℕ) (at : At g v p) where
   -- a Connect of a lower level never comes over a Rejected link
   absorbs_spare : (l : ℕ) (ms : List Message) → w.queue v p ≡ Connect l ∷ ms → mark_at (w.node v) p ≢ Rejected
   absorbs_spare l ms q rejected = let z = come.core.both.joins.here in cc (z, rejected)
     where
-      come : Asked (tree_end (end g (world w gh) v p)) (tree_end (over g (world w gh) v p)) l (see ms).tree
+      come : Asked (tree_end (end g (scene w gh) v p)) (tree_end (far_end g (scene w gh) v p)) l (see ms).tree
       come =
-          asked_on (tree_end (end g (world w gh) v p)) (tree_end (over g (world w gh) v p)) (link_fits g wired (world w gh) holds v p at).tree
-          (link_fits' g wired (world w gh) holds v p at).tree (link_leads g wired (world w gh) holds v p at) l (see ms).tree
+          asked_on (tree_end (end g (scene w gh) v p)) (tree_end (far_end g (scene w gh) v p)) (link_fits g wired (scene w gh) holds v p at).tree
+          (link_fits' g wired (scene w gh) holds v p at).tree (link_leads g wired (scene w gh) holds v p at) l (see ms).tree
           (tree_first (w.queue v p) ms (Connect l) refl q) (λ z. cc (z, rejected))
 
   -- nor is a best link Rejected when the root moves
-  root_spares : (ms : List Message) (b : ℕ) (k : Key) → SendsRoot (world w gh) v p ms → (w.node v).head.best ≡ Some (b, k) → mark_at (w.node v) b ≢ Rejected
+  root_spares : (ms : List Message) (b : ℕ) (k : Key) → SendsRoot (scene w gh) v p ms → (w.node v).head.best ≡ Some (b, k) → mark_at (w.node v) b ≢ Rejected
   root_spares ms b k calls best rejected =
-      let n = node_fits g wired (world w gh) holds v p at in
+      let n = node_fits g wired (scene w gh) holds v p at in
       let at' : At g v b = record { some = at.some; node = at.node; port = (n.best_port b k best).0 } in
-      let s = (link_fits g wired (world w gh) holds v b at').search in
-      let out = s.find_leads k best (at_root g wired v at.some at.node p at (world w gh) holds ms calls).top (λ z. cc (z, rejected)) in
+      let s = (link_fits g wired (scene w gh) holds v b at').search in
+      let out = s.find_leads k best (at_root g wired v at.some at.node p at (scene w gh) holds ms calls).top (λ z. cc (z, rejected)) in
       out.apart (sym (s.rejected_inside rejected))
 
   row_spares : (q : ℕ) (m : Message) (ms : List Message) (d : Delta) → w.queue v p ≡ m ∷ ms → AwakeRow (w.node v) p m d → d.mark ≡ Some (q, Branch) → mark_at (w.node v) q ≢ Rejected

@@ -17,7 +17,7 @@ use Rattle.ghs_node.specs.Words.{is_branch}
 use Rattle.ghs_node.specs.declared.mark.Mark.TheVariants.{Branch, Rejected}
 use Rattle.ghs_protocol.specs.Network.{Network, network_of, port_at, At, far, far_port, InNetwork}
 use Rattle.ghs_protocol.specs.Marks.{Leads, Here, Over}
-use Rattle.ghs_protocol.proofs.clauses.World.{World, forest}
+use Rattle.ghs_protocol.proofs.clauses.Scene.{Scene, forest}
 use Rattle.ghs_protocol.proofs.clauses.Fragments.{IsJoinedIn}
 use Rattle.ghs_protocol.proofs.clauses.Whole.{Invariant}
 use Rattle.ghs_protocol.proofs.clauses.Floors.{Floor, Floors}
@@ -79,7 +79,7 @@ module _ (s : Shape) (ok : IsGraph s) where
   is_forest : IsTree s.keys forest_of
   is_forest = tree_is s.keys ok.rising
 
-  module _ (w : World) (holds : Invariant (network_of s) w) (floor : ℕ → Floor) (floors : Floors (network_of s) w floor) where
+  module _ (w : Scene) (holds : Invariant (network_of s) w) (floor : ℕ → Floor) (floors : Floors (network_of s) w floor) where
     joined_back_in : (v p : ℕ) → At g v p → IsJoinedIn g (forest w) v p → IsJoinedIn g (forest w) (far g v p) (far_port g v p)
     joined_back_in v p at j = record { here = j.there; there = subst₂ (λ a b. is_branch ((w.at a).mark b) ≡ true) (sym ((graph_wired s ok).back v p at)) (sym ((graph_wired s ok).back_port v p at)) j.here }
 

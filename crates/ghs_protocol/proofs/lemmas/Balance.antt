@@ -27,7 +27,7 @@ pub of_kind_append : (k : ℕ) (a b : List Message) → of_kind k (a ++ b) ≡ o
 of_kind_append k [] b = omega arith
 of_kind_append k (m ∷ a) b = omega (arith, of_kind_append k a b)
 
-none_or_none : (b : Bool) → ◌≡◌ {A = ℕ} (cond b 0 0) 0
+pub none_or_none : (b : Bool) → ◌≡◌ {A = ℕ} (cond b 0 0) 0
 none_or_none true = refl
 none_or_none false = refl
 

@@ -72,3 +72,6 @@ happens_so {g} {w} (Woke v d lo hi s r) = lawful_happens g w (events.Wake v) (an
 happens_so {g} {w} (Took v p m ms d at q r) =
     lawful_happens g w (events.Take v p) (and_true _ _ (is_port_of g v p at) (ap is_waiting q)) ∙ ap (takes_from g w v p) q
     ∙ ap (after_take g w v p m ms) r
+
+pub taken_at : {g : Network} {w : Net} {v p : ℕ} {x : Net} → Happens g w (events.Take v p) x → At g v p
+taken_at (Took v p m ms d at q r) = at

@@ -1,5 +1,5 @@
 -- Facts of one node, carried over what one node does.
-use Rattle.std.proofs.Common.{◌≡◌, ◌≢◌, ℕ, length, refl, sym, ◌∙◌, ap, subst, ⊎_elim}
+use Rattle.std.proofs.Common.{◌≡◌, ◌≢◌, ℕ, length, refl, sym, ◌∙◌, ap, subst, ⊎_elim, zero, suc, ◌≤◌, arith}
 use Rattle.std.proofs.lemmas.Bool.{cases_eq}
 use Rattle.std.proofs.lemmas.List.{length-map}
 use Rattle.ghs_node.specs.declared.message.Message.{Message}
@@ -49,3 +49,7 @@ module _ (g : Network) (u : ℕ) (d : Delta) (w w1 : Net) (nodes : w1.node ≡ w
 pub node_step : (g : Network) (I : ℕ → NodeState → Type 0) → NodeKept I → (w w' : Net) → ((v : ℕ) → I v (w.node v)) → Step g w w' → (v : ℕ) → I v (w'.node v)
 node_step g I k w w' b (Wakes_up u lo hi s) = node_kept g u (waking (w.node u)) w w refl I b (k.wakes u (w.node u) (b u) s)
 node_step g I k w w' b (Takes_one u j m ms d at q up row) = node_kept g u d w (take_first d.fate u j m ms w) refl I b (k.takes u (w.node u) j m d (b u) up row)
+
+pub node_before : (v : ℕ) → 1 ≤ v → (i : ℕ) × (v ≡ suc i)
+node_before zero lo = absurd (omega (arith, lo))
+node_before (suc i) lo = (i, refl)

@@ -67,3 +67,7 @@ module _ (g : Network) where
           sum_below n (λ i. sum_below (length (g.ports (suc i))) (λ p. f (suc i) p + h (suc i) p)) ≡ sum_below n (λ i. sum_below (length (g.ports (suc i))) (f (suc i))) + sum_below n (λ i. sum_below (length (g.ports (suc i))) (h (suc i)))
       go zero = refl
       go (suc n) = omega (arith, go n, sum_add (length (g.ports (suc n))) (f (suc n)) (h (suc n)))
+
+pub sum_few : (n : ℕ) (f : ℕ → ℕ) → ((i : ℕ) → f i ≤ 1) → sum_below n f ≤ n
+sum_few zero f e = omega arith
+sum_few (suc n) f e = let a = sum_few n f e in let b = e n in omega (arith, a, b)

@@ -50,3 +50,6 @@ put_at_swap f v p a b x h ne c d = ⊎_elim at_a off_a (one_place a b c d)
     off_a no_a = put_at_miss (put_at f v p x) a b c d _ no_a ∙ ⊎_elim
         (λ e. put_at_hit f v p c d x e.0 e.1 ∙ sym (put_at_hit (put_at f a b (h (f a b))) v p c d x e.0 e.1))
         (λ no_v. put_at_miss f v p c d x no_v ∙ sym (put_at_miss (put_at f a b (h (f a b))) v p c d x no_v ∙ put_at_miss f a b c d _ no_a)) (one_place v p c d)
+
+pub put_alike : {A B : Type 0} (k : A → B) (f : ℕ → A) (u : ℕ) (x : A) → k x ≡ k (f u) → (v : ℕ) → k (put f u x v) ≡ k (f v)
+put_alike k f u x e v = ⊎_elim (λ (h : v ≡ u). rw h (ap k (put_same f u x) ∙ e)) (λ ne. ap k (put_other f u v x ne)) (cases_eq v u)

@@ -6,7 +6,7 @@ use Rattle.ghs_node.specs.declared.message.Phase.TheVariants.{Sleeping, Find, Fo
 use Rattle.ghs_node.specs.Words.{is_find, is_at, is_branch, is_zero, is_missing}
 use Rattle.ghs_protocol.specs.Network.{Network, At, far, far_port, IsWired, InNetwork}
 use Rattle.ghs_protocol.specs.Ledger.{sum_below}
-use Rattle.ghs_protocol.proofs.clauses.World.{World, End, end, forest}
+use Rattle.ghs_protocol.proofs.clauses.Scene.{Scene, End, end, forest}
 use Rattle.ghs_protocol.proofs.clauses.Fragments.{IsJoinedIn, Reach}
 use Rattle.ghs_protocol.proofs.clauses.Rest.{owes, debt, has_call, has_report}
 use Rattle.ghs_protocol.proofs.clauses.Whole.{Invariant}
@@ -15,10 +15,7 @@ use Rattle.std.proofs.lemmas.Option.{same_Some}
 use Rattle.ghs_protocol.proofs.acts.SameForest.{mark_branch}
 use Rattle.ghs_protocol.proofs.search.ReportGone.{at_it}
 use Rattle.ghs_protocol.proofs.progress.Depths.{IsChild, upwards}
-
-bool_is : (b : Bool) → (b ≡ true) ⊎ (b ≡ false)
-bool_is true = inl refl
-bool_is false = inr refl
+use Rattle.std.proofs.lemmas.Bool.{cases_Bool}
 
 -- a sum above 0 has a term above 0
 pub some_term : (n : ℕ) (f : ℕ → ℕ) → 1 ≤ sum_below n f → (i : ℕ) × (i < n) × (1 ≤ f i)
@@ -63,7 +60,7 @@ debt_is e f le = go (is_at e.is.up e.port) (owes e f) refl refl le
     go false false h i le = absurd (omega (arith, le))
 
 -- a node that searches and has a probe
-pub record Asker (g : Network) (w : World) (S : ℕ → Bool) (f : ℕ) : Type 0 where
+pub record Asker (g : Network) (w : Scene) (S : ℕ → Bool) (f : ℕ) : Type 0 where
   pub node : ℕ
   pub port : ℕ
   pub is : InNetwork g node
@@ -72,13 +69,13 @@ pub record Asker (g : Network) (w : World) (S : ℕ → Bool) (f : ℕ) : Type 0
   pub finds : (w.at node).head.phase ≡ Find
   pub probe : (w.at node).head.probe ≡ Some port
 
-module _ (g : Network) (wired : IsWired g) (w : World) (holds : Invariant g w) (awaits : (v : ℕ) → InNetwork g v → FindAwaits (w.at v))
+module _ (g : Network) (wired : IsWired g) (w : Scene) (holds : Invariant g w) (awaits : (v : ℕ) → InNetwork g v → FindAwaits (w.at v))
     (S : ℕ → Bool) (closed : (v p : ℕ) → At g v p → S v ≡ true → S (far g v p) ≡ true)
     (no_call : (v p : ℕ) → At g v p → S v ≡ true → has_call (w.seen v p).tree ≢ true)
     (no_report : (v p : ℕ) → At g v p → S v ≡ true → (w.at v).head.phase ≡ Find → (w.at v).up ≢ Some p → has_report (w.seen v p).tree ≢ true) where
   -- the ways of who searches are joined
   search_joined : (z p : ℕ) → At g z p → (w.at z).head.phase ≡ Find → (w.at z).up ≡ Some p → IsJoinedIn g (forest w) z p
-  search_joined z p at finds up = record { here = here; there = ⊎_elim (λ h. h) (λ h. absurd (away h)) (bool_is _) }
+  search_joined z p at finds up = record { here = here; there = ⊎_elim (λ h. h) (λ h. absurd (away h)) (cases_Bool _) }
     where
       is : InNetwork g z
       is = record { some = at.some; node = at.node }

@@ -2,7 +2,7 @@
 use Rattle.std.proofs.Common.{◌≡◌, ◌≢◌, ℕ, zero, suc, ◌+◌, ◌≤◌, Some, List, [], ◌∷◌, length, true, false, refl, sym, ◌∙◌, ap, subst, ⊎_elim, arith}
 use Rattle.std.proofs.lemmas.Option.{same_Some}
 use Rattle.ghs_protocol.specs.Network.{Network, At, far, far_port, InNetwork}
-use Rattle.ghs_protocol.proofs.clauses.World.{Forest}
+use Rattle.ghs_protocol.proofs.clauses.Scene.{Forest}
 use Rattle.ghs_protocol.proofs.clauses.Fragments.{IsJoinedIn, Root, Goes_out, Both_ways, Reach, At_root, By_step, IsIn, First, Later, Apart, None_apart, One_more}
 use Rattle.ghs_protocol.proofs.tests.Links.{probe_is}
 use Rattle.ghs_protocol.proofs.every_run.Foreseen.{few_apart}

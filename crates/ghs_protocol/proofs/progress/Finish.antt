@@ -40,7 +40,7 @@ use Rattle.ghs_protocol.proofs.lemmas.Effects.{taken_here, taken_requeued}
 use Rattle.ghs_protocol.proofs.lemmas.Lasting.{event_lasts}
 use Rattle.ghs_protocol.proofs.every_run.Firsts.{ledger_balances}
 use Rattle.ghs_protocol.proofs.every_run.Interleavings.{events_have_rules}
-use Rattle.ghs_protocol.proofs.lemmas.Sums.{sum_most}
+use Rattle.ghs_protocol.proofs.lemmas.Sums.{sum_most, sum_few}
 use Rattle.ghs_protocol.proofs.lemmas.Woken.{awake_row}
 use Rattle.ghs_protocol.proofs.lemmas.WellFormed.{after_formed, opening_formed, event_formed, event_row}
 use Rattle.ghs_protocol.proofs.progress.Requeues.{fate_is, turned, turns, turn_happens}
@@ -48,6 +48,7 @@ use Rattle.ghs_protocol.proofs.every_run.Trees.{join_leads, leads_join}
 use Rattle.ghs_protocol.proofs.every_run.Sound.{halt_is_exact}
 use Rattle.ghs_protocol.proofs.charges.Bound.{sends_within}
 use Rattle.ghs_protocol.proofs.progress.Runs.{no_run_is_stuck, silence_is_end}
+use Rattle.ghs_protocol.proofs.lemmas.Nodes.{node_before}
 
 -- one term more
 sum_more : (n j : ℕ) (f h : ℕ → ℕ) → j < n → ((i : ℕ) → i < n → f i ≤ h i) → suc (f j) ≤ h j → suc (sum_below n f) ≤ sum_below n h
@@ -59,10 +60,6 @@ sum_more (suc n) j f h lt e s = ⊎_elim here (λ ne. before (sum_more n j f h) 
 
     before : (j < n → ((i : ℕ) → i < n → f i ≤ h i) → suc (f j) ≤ h j → suc (sum_below n f) ≤ sum_below n h) → j ≢ n → suc (sum_below n f + f n) ≤ sum_below n h + h n
     before ih ne = let rest = ih (omega (arith, lt, ne)) (λ i l. e i (omega arith)) s in let last = e n (omega arith) in omega (arith, rest, last)
-
-sum_few : (n : ℕ) (f : ℕ → ℕ) → ((i : ℕ) → f i ≤ 1) → sum_below n f ≤ n
-sum_few zero f e = omega arith
-sum_few (suc n) f e = let a = sum_few n f e in let b = e n in omega (arith, a, b)
 
 -- 1 where the node is awake
 abbrev pub awake_one : NodeState → ℕ
@@ -135,10 +132,6 @@ truth false = inr (λ e. cc)
 
 head_same : (x y : Message) (xs ys : List Message) → x ∷ xs ≡ y ∷ ys → x ≡ y
 head_same x y xs ys e = cc
-
-before_it : (v : ℕ) → 1 ≤ v → (i : ℕ) × (v ≡ suc i)
-before_it zero lo = absurd (omega (arith, lo))
-before_it (suc i) lo = (i, refl)
 
 module _ (g : Shape) (graph : IsGraph g) where
   abbrev any : Key → Type 0
@@ -268,7 +261,7 @@ module _ (g : Shape) (graph : IsGraph g) where
 
       slept : (w.node v).head.phase ≡ Sleeping → suc (reached (network_of g) w) ≤ reached (network_of g) (taken (network_of g) v p m ms d w)
       slept e =
-          let i = before_it v at.some in
+          let i = node_before v at.some in
           let a = counts w (taken (network_of g) v p m ms d w) v p h in
           let c = requeued_most w (taken (network_of g) v p m ms d w) (Take v p) h in
           let f = asleep_is (w.node v) e in
@@ -400,7 +393,7 @@ silent_nets_are_exact g w n silent v is up k has way =
 module _ (g : Network) (wired : IsWired g) where
   pub woken_more : (w : Net) → IsWellFormed g w → (v : ℕ) (d : Delta) → 1 ≤ v → v ≤ g.count → (w.node v).head.phase ≡ Sleeping → reaction (w.node v) Wake ≡ Some d → suc (awake_count g w) ≤ awake_count g (reacted g v d w)
   woken_more w f v d lo hi s r =
-      let i = before_it v lo in
+      let i = node_before v lo in
       let same = i.1 in
       let e = asleep_is (w.node v) s in
       let up : ((reacted g v d w).node v).head.phase ≢ Sleeping = subst (λ (y : NodeState). y.head.phase ≢ Sleeping) (sym (node_here g v d w)) (row_awake (w.node v) Wake d (reaction_inverts (w.node v) Wake d tt r)) in

@@ -1,6 +1,6 @@
 -- In a net that is not stuck, a message that doesn't wait is found.
 use Rattle.std.proofs.Common.{◌≡◌, ◌≢◌, ℕ, zero, suc, ◌<◌, ◌≤◌, Bool, true, false, Some, List, [], ◌∷◌, ◌++◌, length, refl, sym, ◌∙◌, ap, subst, ⊎_elim, ◌⊎◌, inl, inr, arith}
-use Rattle.std.proofs.lemmas.Bool.{cases_lt}
+use Rattle.std.proofs.lemmas.Bool.{cases_lt, cases_Bool}
 use Rattle.ghs_graph.specs.declared.key.Key.{Key}
 use Rattle.ghs_graph.specs.Key.{key_lt}
 use Rattle.ghs_node.specs.declared.mark.Mark.{Mark}
@@ -13,14 +13,14 @@ use Rattle.ghs_node.specs.Words.{is_branch}
 use Rattle.ghs_node.specs.NodeState.{NodeState, mark_at}
 use Rattle.ghs_protocol.specs.Network.{Network, port_at, At, far, far_port, IsWired, InNetwork}
 use Rattle.ghs_protocol.specs.Net.{Net}
-use Rattle.ghs_protocol.proofs.clauses.World.{Member, Seen, Ghost, world, add, adds, see, unseen}
+use Rattle.ghs_protocol.proofs.clauses.Scene.{Member, Seen, Ghost, scene, add, adds, see, unseen}
 use Rattle.ghs_protocol.proofs.clauses.Wiring.{IsKeyed}
 use Rattle.ghs_protocol.proofs.clauses.Whole.{Invariant}
 use Rattle.ghs_protocol.specs.Living.{Unended}
 use Rattle.ghs_protocol.proofs.clauses.UnderWay.{Living}
 use Rattle.ghs_protocol.proofs.tests.Links.{probe_is}
 use Rattle.ghs_protocol.proofs.acts.Situations.{is_find'}
-use Rattle.ghs_protocol.proofs.progress.Worlds.{tree_waits, test_waits, AllOf, AllTests, SeenWaits, not_stuck}
+use Rattle.ghs_protocol.proofs.progress.Scenes.{tree_waits, test_waits, AllOf, AllTests, SeenWaits, not_stuck}
 
 -- a message waits
 abbrev pub node_waits : NodeState → ℕ → Message → Type 0
@@ -42,7 +42,7 @@ tests_end P (y ∷ xs) x a h = (a.0, tests_end P xs x a.1 h)
 
 module _ (g : Network) (w : Net) (gh : Ghost) (v p : ℕ) where
   abbrev m : Member
-  m = (world w gh).at v
+  m = (scene w gh).at v
 
   more : (q : Seen) (x : Message) → SeenWaits m p q → node_waits (w.node v) p x → SeenWaits m p (add q x)
   more q (Connect l) a h = record { tree = tree_end (tree_waits m p) q.tree (Connect l) a.tree h; tests = a.tests; accepts = a.accepts; rejects = a.rejects }
@@ -125,10 +125,6 @@ record Here (g : Network) (w : Net) (S : ℕ → Bool) (v p : ℕ) : Type 0 wher
 abbrev AllWait : Network → Net → (ℕ → Bool) → ℕ → Type 0
 AllWait g w S v = (p : ℕ) → At g v p → S v ≡ true → AllOf (node_waits (w.node v) p) (w.queue v p)
 
-bool_is : (b : Bool) → (b ≡ true) ⊎ (b ≡ false)
-bool_is true = inl refl
-bool_is false = inr refl
-
 module _ (g : Network) (w : Net) (S : ℕ → Bool) where
   at_node : (v : ℕ) → InNetwork g v → ((p : ℕ) × Here g w S v p) ⊎ AllWait g w S v
   at_node v is =
@@ -137,7 +133,7 @@ module _ (g : Network) (w : Net) (S : ℕ → Bool) where
       (search (λ p. Here g w S v p) (λ p. AllOf (node_waits (w.node v) p) (w.queue v p)) (length (g.ports v))
       (λ p lt. ⊎_elim (λ a. inr a) (λ s. inl (record { at = record { some = is.some; node = is.node; port = lt }; member = m; place = s })) (split (node_waits (w.node v) p) (waits_is (w.node v) p) (w.queue v p)))))
       (λ n. inr (λ p at m. let z : true ≡ false = sym m ∙ n in cc))
-      (bool_is (S v))
+      (cases_Bool (S v))
 
   pub look : Found_one g w S ⊎ ((v p : ℕ) → At g v p → S v ≡ true → AllOf (node_waits (w.node v) p) (w.queue v p))
   look =
@@ -148,10 +144,10 @@ module _ (g : Network) (w : Net) (S : ℕ → Bool) where
       all h zero p at m = absurd (let z = at.some in omega (arith, z))
       all h (suc i) p at m = h i (let z = at.node in omega (arith, z)) p at m
 
-module _ (g : Network) (wired : IsWired g) (keyed : IsKeyed g) (w : Net) (gh : Ghost) (holds : Invariant g (world w gh)) (lives : Living g (world w gh)) (S : ℕ → Bool) (going : Unended g w S) where
+module _ (g : Network) (wired : IsWired g) (keyed : IsKeyed g) (w : Net) (gh : Ghost) (holds : Invariant g (scene w gh)) (lives : Living g (scene w gh)) (S : ℕ → Bool) (going : Unended g w S) where
   -- a message that doesn't wait, if the Connects under way go over least links
-  pub goes_on : ((a j : ℕ) → At g a j → ((world w gh).at a).mark j ≡ Branch → is_branch (((world w gh).at (far g a j)).mark (far_port g a j)) ≡ false → (u q : ℕ) → At g u q → gh.fragment u ≡ gh.fragment a → gh.fragment (far g u q) ≢ gh.fragment a → key_lt (port_at g u q).key (port_at g a j).key ≡ false) → Found_one g w S
+  pub goes_on : ((a j : ℕ) → At g a j → ((scene w gh).at a).mark j ≡ Branch → is_branch (((scene w gh).at (far g a j)).mark (far_port g a j)) ≡ false → (u q : ℕ) → At g u q → gh.fragment u ≡ gh.fragment a → gh.fragment (far g u q) ≢ gh.fragment a → key_lt (port_at g u q).key (port_at g a j).key ≡ false) → Found_one g w S
   goes_on least =
       ⊎_elim (λ h. h)
-      (λ all. absurd (not_stuck g wired keyed (world w gh) holds lives S going.closed (λ v p at m. seen_waits g w gh v p (all v p at m)) (λ v is m. going.none_halted v is m) least going.node going.is going.member going.awake))
+      (λ all. absurd (not_stuck g wired keyed (scene w gh) holds lives S going.closed (λ v p at m. seen_waits g w gh v p (all v p at m)) (λ v is m. going.none_halted v is m) least going.node going.is going.member going.awake))
       (look g w S)

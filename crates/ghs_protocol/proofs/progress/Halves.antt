@@ -5,7 +5,7 @@ use Rattle.ghs_graph.specs.declared.key.Key.{Key}
 use Rattle.ghs_node.specs.declared.mark.Mark.TheVariants.{Branch}
 use Rattle.ghs_node.specs.Words.{is_branch, best_key, Best}
 use Rattle.ghs_protocol.specs.Network.{Network, port_at, At, far, far_port, IsWired, InNetwork}
-use Rattle.ghs_protocol.proofs.clauses.World.{World, Forest, end, tree_end, forest}
+use Rattle.ghs_protocol.proofs.clauses.Scene.{Scene, Forest, end, tree_end, forest}
 use Rattle.ghs_protocol.proofs.clauses.TreeMessages.{Reported}
 use Rattle.ghs_protocol.proofs.clauses.Fragments.{IsJoinedIn, Goes_out, Both_ways, Reach}
 use Rattle.ghs_protocol.proofs.clauses.Wiring.{IsKeyed}
@@ -50,7 +50,7 @@ module _ (g : Network) (wired : IsWired g) (s : Forest) where
       not_both_sides a j r t (subst (λ q. Side g s (far g a j) (far g u q)) (same_Some p' p (sym up' ∙ up)) t')
 
 -- an outgoing link of this key, on x's side
-pub record Tip (g : Network) (w : World) (x : ℕ) (k : Key) (f : ℕ) : Type 0 where
+pub record Tip (g : Network) (w : Scene) (x : ℕ) (k : Key) (f : ℕ) : Type 0 where
   pub node : ℕ
   pub port : ℕ
   pub at : At g node port
@@ -60,12 +60,12 @@ pub record Tip (g : Network) (w : World) (x : ℕ) (k : Key) (f : ℕ) : Type 0 
   pub side : Side g (forest w) x node
 
 -- who has reported k, its way being its in_branch
-pub record Stands (w : World) (k : Key) (v : ℕ) : Type 0 where
+pub record Stands (w : Scene) (k : Key) (v : ℕ) : Type 0 where
   pub top : (w.at v).head.level ≡ (w.at v).coming
   pub way : (w.at v).up ≡ (w.at v).head.in_branch
   pub best : best_key (w.at v).head.best ≡ Some k
 
-module _ (g : Network) (wired : IsWired g) (w : World) (holds : Invariant g w) (a j : ℕ) (r : RootLink g (forest w) a j) (k : Key) where
+module _ (g : Network) (wired : IsWired g) (w : Scene) (holds : Invariant g w) (a j : ℕ) (r : RootLink g (forest w) a j) (k : Key) where
   -- no Connect of the fragment is under way
   no_out : (v p : ℕ) → At g v p → (w.at v).fragment ≡ (w.at a).fragment → (w.at v).mark p ≡ Branch → is_branch ((w.at (far g v p)).mark (far_port g v p)) ≡ false → ⊥
   no_out v p at same here away =

@@ -10,13 +10,13 @@ use Rattle.ghs_node.specs.NodeState.{NodeState}
 use Rattle.ghs_node.specs.Words.{is_branch}
 use Rattle.ghs_protocol.specs.Network.{Network, At, port_at, far, far_port, IsWired}
 use Rattle.ghs_protocol.specs.Net.{Net}
-use Rattle.ghs_protocol.proofs.clauses.World.{Ghost, world}
+use Rattle.ghs_protocol.proofs.clauses.Scene.{Ghost, scene}
 use Rattle.ghs_protocol.proofs.clauses.Wiring.{IsKeyed}
 use Rattle.ghs_protocol.proofs.clauses.Whole.{Invariant}
 use Rattle.ghs_protocol.specs.Living.{Waits, Unended, GoesOn}
 use Rattle.ghs_protocol.proofs.clauses.UnderWay.{Living}
 use Rattle.ghs_protocol.specs.Living as living
-use Rattle.ghs_protocol.proofs.progress.Worlds.{AllOf}
+use Rattle.ghs_protocol.proofs.progress.Scenes.{AllOf}
 use Rattle.ghs_protocol.proofs.progress.Found.{node_waits, Found_one, goes_on}
 use Rattle.ghs_protocol.proofs.progress.OneWaits.{few}
 
@@ -38,9 +38,9 @@ all_so : (n : NodeState) (p : ℕ) (xs : List Message) → AllOf (node_waits n p
 all_so n p [] h = λ k d lt. absurd (omega arith)
 all_so n p (x ∷ xs) h = All-cons (Waits n p) x xs (so n p x h.0) (all_so n p xs h.1)
 
-module _ (g : Network) (wired : IsWired g) (keyed : IsKeyed g) (w : Net) (gh : Ghost) (holds : Invariant g (world w gh)) (lives : Living g (world w gh)) (S : ℕ → Bool) (going : Unended g w S) where
+module _ (g : Network) (wired : IsWired g) (keyed : IsKeyed g) (w : Net) (gh : Ghost) (holds : Invariant g (scene w gh)) (lives : Living g (scene w gh)) (S : ℕ → Bool) (going : Unended g w S) where
   -- behind one message that waits at most, one that doesn't
-  pub progress : ((a j : ℕ) → At g a j → ((world w gh).at a).mark j ≡ Branch → is_branch (((world w gh).at (far g a j)).mark (far_port g a j)) ≡ false → (u q : ℕ) → At g u q → gh.fragment u ≡ gh.fragment a → gh.fragment (far g u q) ≢ gh.fragment a → key_lt (port_at g u q).key (port_at g a j).key ≡ false) → GoesOn g w S
+  pub progress : ((a j : ℕ) → At g a j → ((scene w gh).at a).mark j ≡ Branch → is_branch (((scene w gh).at (far g a j)).mark (far_port g a j)) ≡ false → (u q : ℕ) → At g u q → gh.fragment u ≡ gh.fragment a → gh.fragment (far g u q) ≢ gh.fragment a → key_lt (port_at g u q).key (port_at g a j).key ≡ false) → GoesOn g w S
   progress least = go (goes_on g wired keyed w gh holds lives S going least)
     where
       go : Found_one g w S → GoesOn g w S

@@ -7,12 +7,11 @@ use Rattle.ghs_node.specs.declared.message.Message.{Message}
 use Rattle.ghs_node.specs.declared.message.Message.TheVariants.{Connect, Initiate, Test, Accept, Reject, Report, ChangeRoot}
 use Rattle.ghs_protocol.specs.Network.{Network, At, far, far_port, IsWired}
 use Rattle.ghs_protocol.specs.Net.{Net}
-use Rattle.ghs_protocol.proofs.clauses.World.{World, TreeEnd, End, Seen, Ghost, world, see, end, tree_end, test_end}
+use Rattle.ghs_protocol.proofs.clauses.Scene.{Scene, TreeEnd, End, Seen, Ghost, scene, see, end, tree_end, test_end, far_end}
 use Rattle.ghs_protocol.proofs.clauses.Links.{Joins, Ups}
 use Rattle.ghs_protocol.proofs.clauses.TreeMessages.{TreeFits, Downward, Initiates, Old_report, CoreFits, CoreQueue, Plain, With_report, MovedFits, To_here, To_there}
 use Rattle.ghs_protocol.proofs.clauses.Tests.{AllFrom}
 use Rattle.ghs_protocol.proofs.clauses.Whole.{Invariant}
-use Rattle.ghs_protocol.proofs.rest.AtRest.{over}
 use Rattle.ghs_protocol.proofs.acts.AsRead.{see_first}
 use Rattle.ghs_protocol.proofs.rows.Read.{is_tree, seen, tree_first, test_first}
 use Rattle.ghs_protocol.proofs.rows.Link.{node_fits, link_fits, link_fits', link_leads}
@@ -21,7 +20,7 @@ use Rattle.ghs_protocol.proofs.search.FirstReport.{Joint, Down_here, Down_there,
 use Rattle.ghs_protocol.proofs.acts.Situations.{probing_finds}
 use Rattle.ghs_protocol.proofs.tests.Links.{probe_is}
 use Rattle.ghs_protocol.proofs.progress.Found.{node_waits, Split}
-use Rattle.ghs_protocol.proofs.progress.Worlds.{AllOf}
+use Rattle.ghs_protocol.proofs.progress.Scenes.{AllOf}
 
 -- a Report to a searching node comes from the other half of the core, which is done
 module _ {N : ℕ → Key → Type 0} (e f : TreeEnd) (he : TreeFits N e f) (hf : TreeFits N f e) (ups : Joins e f → Ups e ⊎ Ups f) (k : Option Key) (ms : List Message) (waits : e.tree ≡ Report k ∷ ms) (finds : e.phase ≡ Find) (up : Ups e) where
@@ -49,15 +48,15 @@ module _ {N : ℕ → Key → Type 0} (e f : TreeEnd) (he : TreeFits N e f) (hf 
       go (On_core c) = let z = he.core_queues c in core z z.queue
       go (On_moved c) = moved (he.moved_root c)
 
-module _ (g : Network) (wired : IsWired g) (v p : ℕ) (at : At g v p) (n : Net) (gh : Ghost) (holds : Invariant g (world n gh)) where
-  abbrev w : World
-  w = world n gh
+module _ (g : Network) (wired : IsWired g) (v p : ℕ) (at : At g v p) (n : Net) (gh : Ghost) (holds : Invariant g (scene n gh)) where
+  abbrev w : Scene
+  w = scene n gh
 
   abbrev e : End
   e = end g w v p
 
   abbrev f : End
-  f = over g w v p
+  f = far_end g w v p
 
   at' : At g (far g v p) (far_port g v p)
   at' = wired.there v p at

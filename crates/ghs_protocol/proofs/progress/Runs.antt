@@ -14,7 +14,7 @@ use Rattle.ghs_protocol.specs.Nodes.{IsNodeOf}
 use Rattle.ghs_protocol.specs.Laws.{IsNetOf}
 use Rattle.ghs_protocol.specs.Living.{SilenceIsEnd, NoRunIsStuck}
 use Rattle.ghs_protocol.proofs.clauses.UnderWay.{Living}
-use Rattle.ghs_protocol.proofs.clauses.World.{World, world, forest, end, tree_end}
+use Rattle.ghs_protocol.proofs.clauses.Scene.{Scene, scene, forest, end, tree_end}
 use Rattle.ghs_protocol.proofs.clauses.Nodes.{IsUp}
 use Rattle.ghs_protocol.proofs.clauses.Fragments.{Root, Goes_out, Both_ways, Reach, At_root, By_step}
 use Rattle.ghs_protocol.proofs.clauses.TreeMessages.{ConnectUnderWay}
@@ -27,7 +27,6 @@ use Rattle.ghs_protocol.proofs.lemmas.WellFormed.{after_formed}
 use Rattle.ghs_protocol.proofs.acts.SameForest.{branch_mark, mark_branch}
 use Rattle.ghs_protocol.proofs.tests.Links.{probe_is}
 use Rattle.ghs_protocol.proofs.rows.Link.{link_fits}
-use Rattle.ghs_protocol.proofs.rest.AtRest.{over}
 use Rattle.ghs_protocol.proofs.acts.Floors.{near_fits, lower_on, lower_self}
 use Rattle.ghs_protocol.proofs.every_run.Sound.{sound}
 use Rattle.ghs_protocol.proofs.progress.Nets.{progress}
@@ -36,7 +35,7 @@ not_less : (j k : Key) → lower (Some (Some j)) (Some (Some k)) ≡ true → ke
 not_less j k h = grind (arith, nat_tests)
 
 -- A Connect under way goes over the least link that leaves its fragment: its sender's floor is that link's key, and no floor of the fragment is below it.
-module _ (g : Network) (wired : IsWired g) (w : World) (holds : Invariant g w) (floor : ℕ → Floor) (floors : Floors g w floor) (a j : ℕ) (at : At g a j) (mark : (w.at a).mark j ≡ Branch) (free : is_branch ((w.at (far g a j)).mark (far_port g a j)) ≡ false) where
+module _ (g : Network) (wired : IsWired g) (w : Scene) (holds : Invariant g w) (floor : ℕ → Floor) (floors : Floors g w floor) (a j : ℕ) (at : At g a j) (mark : (w.at a).mark j ≡ Branch) (free : is_branch ((w.at (far g a j)).mark (far_port g a j)) ≡ false) where
   is_floor : floor a ≡ Some (Some (port_at g a j).key)
   is_floor = (near_fits g wired w holds floor floors a j at).out (record { here = mark; there = mark_branch _ free })
 
@@ -76,12 +75,12 @@ module _ (g : Network) (wired : IsWired g) (w : World) (holds : Invariant g w) (
       z = (holds.nodes u its).points (λ e. awake (subst (λ y. (w.at y).head.phase ≡ Sleeping) (sym (holds.alone u a its is e (sym same))) e)) (omega (arith, at'.port))
 
 -- a Connect under way goes over the least link that leaves its fragment
-abbrev pub GoesOverLeast : Network → World → Type 0
+abbrev pub GoesOverLeast : Network → Scene → Type 0
 GoesOverLeast g w =
     (a j : ℕ) → At g a j → (w.at a).mark j ≡ Branch → is_branch ((w.at (far g a j)).mark (far_port g a j)) ≡ false →
     (u q : ℕ) → At g u q → (w.at u).fragment ≡ (w.at a).fragment → (w.at (far g u q)).fragment ≢ (w.at a).fragment → key_lt (port_at g u q).key (port_at g a j).key ≡ false
 
-pub goes_over_least : (g : Network) → IsWired g → (w : World) → Invariant g w → (floor : ℕ → Floor) → Floors g w floor → GoesOverLeast g w
+pub goes_over_least : (g : Network) → IsWired g → (w : Scene) → Invariant g w → (floor : ℕ → Floor) → Floors g w floor → GoesOverLeast g w
 goes_over_least g wired w holds floor floors a j at mark free u q at' same out = over_least g wired w holds floor floors a j at mark free u q at' same out
 
 module _ (g : Shape) (w : Net) (n : IsNetOf g w) where
@@ -91,7 +90,7 @@ module _ (g : Shape) (w : Net) (n : IsNetOf g w) where
   waits : (v : ℕ) → Awaits v (w.node v)
   waits v = all_await (network_of g) (graph_wired g n.graph) (graph_few g n.graph) n.events w n.run v
 
-  living : Living (network_of g) (world w (sound g w n).ghost)
+  living : Living (network_of g) (scene w (sound g w n).ghost)
   living = record {
     no_port = λ v is awake none. (waits v).halts awake (ports_many (node_of v) ∙ none);
     awaits = λ v is. (waits v).search;
@@ -102,7 +101,7 @@ pub no_run_is_stuck : NoRunIsStuck
 no_run_is_stuck g w n S u =
     let s = sound g w n in
     progress (network_of g) (graph_wired g n.graph) (graph_keyed g n.graph) w s.ghost s.holds.first (living g w n) S u
-    (goes_over_least (network_of g) (graph_wired g n.graph) (world w s.ghost) s.holds.first s.holds.floor s.holds.floors)
+    (goes_over_least (network_of g) (graph_wired g n.graph) (scene w s.ghost) s.holds.first s.holds.floor s.holds.floors)
 
 -- a queue with such a message isn't empty
 pub silence_is_end : SilenceIsEnd

@@ -1,7 +1,7 @@
 -- What a schedule may rely on.
 use Rattle.std.proofs.Common.{◌≡◌, ◌≢◌, ℕ, zero, suc, ◌<◌, ◌≤◌, ◌+◌, ◌-◌, ◌*◌, Bool, true, false, ◌&&◌, Option, Some, None, List, [], ◌∷◌, ◌++◌, length, refl, sym, ◌∙◌, ap, ap₂, subst, ⊎_elim, ◌⊎◌, inl, inr, arith, length-append, append_assoc, append-nil}
 use Rattle.std.specs.List.{All}
-use Rattle.std.proofs.lemmas.Bool.{and_parts, and_from, both_ways, cases_eq}
+use Rattle.std.proofs.lemmas.Bool.{and_parts, and_from, both_ways, cases_eq, cases_Bool}
 use Rattle.std.proofs.lemmas.Option.{same_Some}
 use Rattle.std.proofs.lemmas.List.Elements.{All-nil, All-cons, All-append}
 use Rattle.ghs_graph.specs.Graph.{Shape, IsGraph}
@@ -30,7 +30,7 @@ use Rattle.ghs_protocol.specs.Laws.{IsNetOf}
 use Rattle.ghs_protocol.specs.Living.{AnyLink, Waits, GoesOn, Finish, IsTake}
 use Rattle.ghs_protocol.specs.Schedules.{LeftAlone, OthersLeaveAlone, NothingIsReady, AllMayWake, StillnessIsEnd, WholeFinish, EveryRunCanEndWhole, IsPatientIn, A_wake, Moves_on, Uncovers, IsPatient, No_more, And_then, PatientRunsAreShort, PatienceGoesOn, RealEventsAreFew}
 use Rattle.ghs_protocol.proofs.lemmas.Effects.{taken_there}
-use Rattle.ghs_protocol.proofs.lemmas.Events.{happening, happens_so, is_node_of, is_port_of}
+use Rattle.ghs_protocol.proofs.lemmas.Events.{happening, happens_so, is_node_of, is_port_of, taken_at}
 use Rattle.ghs_protocol.proofs.lemmas.Graphs.{graph_wired, graph_few, is_key}
 use Rattle.ghs_protocol.proofs.lemmas.Nodes.{ports_many}
 use Rattle.ghs_protocol.proofs.lemmas.Lasting.{AllLast, event_lasts, run_lasts}
@@ -122,10 +122,6 @@ others_leave_alone g v es w w' all h =
 
 -- Nothing can happen.
 
-truth : (b : Bool) → (b ≡ true) ⊎ (b ≡ false)
-truth true = inl refl
-truth false = inr refl
-
 waits_or_none : (q : List Message) → (q ≡ []) ⊎ (is_waiting q ≡ true)
 waits_or_none [] = inl refl
 waits_or_none (m ∷ q) = inr refl
@@ -186,9 +182,6 @@ fate_told Consumed = inr (λ e. cc)
 
 same_first : (m k : Message) (ms ks : List Message) → m ∷ ms ≡ k ∷ ks → m ≡ k
 same_first m k ms ks e = cc
-
-taken_at : {g : Network} {w : Net} {v p : ℕ} {x : Net} → Happens g w (events.Take v p) x → At g v p
-taken_at (Took v p m ms d at q r) = at
 
 -- the reaction by which a message is taken
 taken_by : {g : Network} {w : Net} {v p : ℕ} {x : Net} → Happens g w (events.Take v p) x → (m : Message) × (ms : List Message) × (d : Delta) × (w.queue v p ≡ m ∷ ms) × (reaction (w.node v) (Deliver p m) ≡ Some d)
@@ -334,7 +327,7 @@ module _ (g : Shape) (ok : IsGraph g) (may : ℕ → Bool) (w : Net) (n : IsNetO
   woken_up_to (suc k) le = next (woken_up_to k (omega (arith, le)))
     where
       next : Woken may g w k → Woken may g w (suc k)
-      next z = ⊎_elim (λ can. ⊎_elim (λ s. wake can s) (λ up. same (λ c. up)) (asleep_or_not (z.next.node (suc k)).head.phase)) (λ no. same (λ c. absurd (both_ways (may (suc k)) no c))) (truth (may (suc k)))
+      next z = ⊎_elim (λ can. ⊎_elim (λ s. wake can s) (λ up. same (λ c. up)) (asleep_or_not (z.next.node (suc k)).head.phase)) (λ no. same (λ c. absurd (both_ways (may (suc k)) no c))) (cases_Bool (may (suc k)))
         where
           same : (may (suc k) ≡ true → (z.next.node (suc k)).head.phase ≢ Sleeping) → Woken may g w (suc k)
           same last = record {

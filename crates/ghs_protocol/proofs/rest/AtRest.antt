@@ -9,7 +9,7 @@ use Rattle.ghs_node.specs.declared.message.Message.{Message}
 use Rattle.ghs_node.specs.declared.message.Message.TheVariants.{Report}
 use Rattle.ghs_protocol.specs.Network.{Network, port_at, At, far, far_port, IsWired, InNetwork}
 use Rattle.ghs_protocol.specs.Marks.{Leads, Here, Over}
-use Rattle.ghs_protocol.proofs.clauses.World.{World, End, TreeEnd, tree_end, end, forest}
+use Rattle.ghs_protocol.proofs.clauses.Scene.{Scene, End, TreeEnd, tree_end, end, forest, far_end}
 use Rattle.ghs_protocol.proofs.clauses.Links.{Joins, Child, Ups}
 use Rattle.ghs_protocol.proofs.clauses.TreeMessages.{TreeFits, Upward, Nothing_up, Report_up, CoreFits, CoreQueue, Plain, With_report, Core, MovedFits, To_here, To_there, Stage, Asking, Called, Begun, AtStage, asked, called}
 use Rattle.ghs_protocol.proofs.clauses.Fragments.{IsJoinedIn, Root, Both_ways, Reach, At_root, By_step}
@@ -76,7 +76,7 @@ abbrev pub FindsIfOwed : End → End → Type 0
 FindsIfOwed e f = e.is.up ≢ Some e.port → owes e f ≡ true → e.is.head.phase ≡ Find
 
 -- a node that neither searches nor is called to
-pub record AtEase (g : Network) (w : World) (v : ℕ) : Type 0 where
+pub record AtEase (g : Network) (w : Scene) (v : ℕ) : Type 0 where
   pub found : (w.at v).head.phase ≢ Find
   pub uncalled : (p : ℕ) → At g v p → has_call (w.seen v p).tree ≢ true
 
@@ -108,21 +108,17 @@ pub not_true : (b : Bool) → b ≢ true → b ≡ false
 not_true false h = refl
 not_true true h = absurd (h refl)
 
--- the far end of a port, with the key as read from here
-abbrev pub over : Network → World → ℕ → ℕ → End
-over g w v p = record { port = far_port g v p; key = (port_at g v p).key; mark = (w.at (far g v p)).mark (far_port g v p); is = w.at (far g v p); seen = w.seen (far g v p) (far_port g v p) }
-
-module _ (g : Network) (wired : IsWired g) (w : World) (holds : Invariant g w) where
-  pub calls_from : (v p : ℕ) → At g v p → has_call (w.seen v p).tree ≡ true → CalledTo (tree_end (end g w v p)) (tree_end (over g w v p))
+module _ (g : Network) (wired : IsWired g) (w : Scene) (holds : Invariant g w) where
+  pub calls_from : (v p : ℕ) → At g v p → has_call (w.seen v p).tree ≡ true → CalledTo (tree_end (end g w v p)) (tree_end (far_end g w v p))
   calls_from v p at =
-      called_to (tree_end (end g w v p)) (tree_end (over g w v p)) (at_near g wired w (LinkFits (NamesOf g w)) holds.links v p at).tree
+      called_to (tree_end (end g w v p)) (tree_end (far_end g w v p)) (at_near g wired w (LinkFits (NamesOf g w)) holds.links v p at).tree
       (at_far g wired w (LinkFits (NamesOf g w)) holds.links v p at).tree (λ j. holds.trees.joined_lead v p at (record { here = ap is_branch j.here; there = ap is_branch j.there }))
 
   owed : (v p : ℕ) → At g v p → FindsIfOwed (end g w v p) (end g w (far g v p) (far_port g v p))
   owed v p at ne o = owed_finds g wired v at.some at.node p at w holds ne o
 
   -- a parent that is owed is in search
-  pub parent_finds : (v p : ℕ) → At g v p → (w.at (far g v p)).up ≢ Some (far_port g v p) → owes (over g w v p) (end g w v p) ≡ true → (w.at (far g v p)).head.phase ≡ Find
+  pub parent_finds : (v p : ℕ) → At g v p → (w.at (far g v p)).up ≢ Some (far_port g v p) → owes (far_end g w v p) (end g w v p) ≡ true → (w.at (far g v p)).head.phase ≡ Find
   parent_finds v p at = at_far g wired w FindsIfOwed owed v p at
 
   -- an end of a root link, at the coming level
@@ -132,7 +128,7 @@ module _ (g : Network) (wired : IsWired g) (w : World) (holds : Invariant g w) w
     uncalled = λ q at' h. go q at' (calls_from v q at' h);
   }
     where
-      go : (q : ℕ) → At g v q → CalledTo (tree_end (end g w v q)) (tree_end (over g w v q)) → ⊥
+      go : (q : ℕ) → At g v q → CalledTo (tree_end (end g w v q)) (tree_end (far_end g w v q)) → ⊥
       go q at' (By_parent c) = let same : q ≡ p = same_Some q p (sym c.up ∙ up) in c.down (subst (λ y. (w.at (far g v y)).up ≡ Some (far_port g v y)) (sym same) up_beyond)
       go q at' (By_core c z s) = called_early (tree_end (end g w v q)) z.here s z.at_here top
 
@@ -158,7 +154,7 @@ module _ (g : Network) (wired : IsWired g) (w : World) (holds : Invariant g w) w
       uncalled = λ q at'' h. let same : q ≡ p = same_Some q p (sym (way_of q (calls_from v q at'' h)) ∙ way) in ease.found (parent_finds v p at' down (by_call (has_report (w.seen (far g v p) (far_port g v p)).tree) (has_call (w.seen v p).tree) _ (subst (λ y. has_call (w.seen v y).tree ≡ true) same h)));
     }
       where
-        way_of : (q : ℕ) → CalledTo (tree_end (end g w v q)) (tree_end (over g w v q)) → (w.at v).up ≡ Some q
+        way_of : (q : ℕ) → CalledTo (tree_end (end g w v q)) (tree_end (far_end g w v q)) → (w.at v).up ≡ Some q
         way_of q (By_parent c) = c.up
         way_of q (By_core c z s) = c.both.up
 

@@ -9,7 +9,7 @@ use Rattle.ghs_protocol.specs.Network.{Network, port_at, At, far, far_port, IsWi
 use Rattle.ghs_protocol.specs.Net.{put}
 use Rattle.ghs_protocol.specs.Ledger.{sum_below}
 use Rattle.ghs_protocol.proofs.lemmas.Sums.{sum_same, term_le}
-use Rattle.ghs_protocol.proofs.clauses.World.{Member, World, End, TreeEnd, tree_end, end, acts}
+use Rattle.ghs_protocol.proofs.clauses.Scene.{Member, Scene, End, TreeEnd, tree_end, end, acts, far_end}
 use Rattle.ghs_protocol.proofs.clauses.Nodes.{NodeFits}
 use Rattle.ghs_protocol.proofs.clauses.TreeMessages.{TreeFits, Falls, Upward, Nothing_up, Report_up, Downward, Initiates, Old_report, Harmless, CoreFits, CoreQueue, Plain, With_report, Core, MovedFits, To_here, To_there, Stage, Asking, Called, Begun, AtStage, Served, asked, called}
 use Rattle.ghs_protocol.proofs.clauses.Whole.{LinkFits, Invariant, NamesOf}
@@ -121,25 +121,22 @@ module _ (e f : TreeEnd) (k : Option Key) (ms : List Message) where
     moved_root = λ y. absurd (y.unnamed (vns ∙ c.named ∙ ap Some (sym keys)));
   }
 
-module _ (g : Network) (wired : IsWired g) (u : ℕ) (lo : 1 ≤ u) (hi : u ≤ g.count) (j : ℕ) (at : At g u j) (w : World) (holds : Invariant g w) where
-  abbrev pub across : ℕ → End
-  across i = record { port = far_port g u i; key = (port_at g u i).key; mark = (w.at (far g u i)).mark (far_port g u i); is = w.at (far g u i); seen = w.seen (far g u i) (far_port g u i) }
-
+module _ (g : Network) (wired : IsWired g) (u : ℕ) (lo : 1 ≤ u) (hi : u ≤ g.count) (j : ℕ) (at : At g u j) (w : Scene) (holds : Invariant g w) where
   fits : NodeFits (length (g.ports u)) (w.at u)
   fits = holds.nodes u (record { some = lo; node = hi })
 
-  link : LinkFits (NamesOf g w) (end g w u j) (across j)
+  link : LinkFits (NamesOf g w) (end g w u j) (far_end g w u j)
   link = at_near g wired w (LinkFits (NamesOf g w)) holds.links u j at
 
-  link' : LinkFits (NamesOf g w) (across j) (end g w u j)
+  link' : LinkFits (NamesOf g w) (far_end g w u j) (end g w u j)
   link' = at_far g wired w (LinkFits (NamesOf g w)) holds.links u j at
 
   -- who is owed a Report by another than its parent searches
-  pub owed_finds : (w.at u).up ≢ Some j → owes (end g w u j) (across j) ≡ true → (w.at u).head.phase ≡ Find
+  pub owed_finds : (w.at u).up ≢ Some j → owes (end g w u j) (far_end g w u j) ≡ true → (w.at u).head.phase ≡ Find
   owed_finds ne o = ⊎_elim (λ h. h) (λ no. absurd (let z = (fits.idle no).1 in omega (arith, z, count, term, one))) (is_find' (w.at u).head.phase)
     where
       f : ℕ → ℕ
-      f i = debt (end g w u i) (across i)
+      f i = debt (end g w u i) (far_end g w u i)
 
       count : (w.at u).head.find_count ≡ sum_below (length (g.ports u)) f
       count = holds.counted u (record { some = lo; node = hi }) ∙ sum_same (length (g.ports u)) _ _ (λ i lt. let at' : At g u i = record { some = lo; node = hi; port = lt } in ap (debt (end g w u i)) (λ k. record { port = far_port g u i; key = wired.same_key u i at' k; mark = (w.at (far g u i)).mark (far_port g u i); is = w.at (far g u i); seen = w.seen (far g u i) (far_port g u i) }))
@@ -148,25 +145,25 @@ module _ (g : Network) (wired : IsWired g) (u : ℕ) (lo : 1 ≤ u) (hi : u ≤ 
       term = term_le (length (g.ports u)) j f at.port
 
       one : ◌≡◌ {A = ℕ} (f j) 1
-      one = debt_one (end g w u j) (across j) ne o
+      one = debt_one (end g w u j) (far_end g w u j) ne o
 
   module _ (k : Option Key) (ms : List Message) (waits : (w.seen u j).tree ≡ Report k ∷ ms) (rests : (w.at u).head.phase ≡ Found) where
     mine : (w.at u).up ≢ Some j → ⊥
     mine ne = let z = owed_finds ne (rw waits refl) in cc (z, rests)
 
-    ways : Joins (tree_end (end g w u j)) (tree_end (across j)) → Ups (tree_end (end g w u j)) ⊎ Ups (tree_end (across j))
+    ways : Joins (tree_end (end g w u j)) (tree_end (far_end g w u j)) → Ups (tree_end (end g w u j)) ⊎ Ups (tree_end (far_end g w u j))
     ways h = holds.trees.joined_lead u j at (record { here = ap is_branch h.here; there = ap is_branch h.there })
 
-    came : Back (NamesOf g w (w.at u).fragment) (tree_end (end g w u j)) (tree_end (across j)) k ms
-    came = back (tree_end (end g w u j)) (tree_end (across j)) link.tree link'.tree ways k ms waits mine
+    came : Back (NamesOf g w (w.at u).fragment) (tree_end (end g w u j)) (tree_end (far_end g w u j)) k ms
+    came = back (tree_end (end g w u j)) (tree_end (far_end g w u j)) link.tree link'.tree ways k ms waits mine
 
-    joins' : Joins (tree_end (end g w u j)) (tree_end (across j))
-    joins' = joined (tree_end (end g w u j)) (tree_end (across j)) link.tree link'.tree ways k ms waits
+    joins' : Joins (tree_end (end g w u j)) (tree_end (far_end g w u j))
+    joins' = joined (tree_end (end g w u j)) (tree_end (far_end g w u j)) link.tree link'.tree ways k ms waits
 
     ghosts : ((w.at (far g u j)).coming ≡ (w.at u).coming) × ((w.at (far g u j)).coming_name ≡ (w.at u).coming_name)
     ghosts = let z = holds.trees.joined_within u j at (record { here = ap is_branch joins'.here; there = ap is_branch joins'.there }) in holds.trees.by_fragment (far g u j) u (sym z)
 
-    up : Back (NamesOf g w (w.at u).fragment) (tree_end (end g w u j)) (tree_end (across j)) k ms → (w.at u).up ≡ Some j
+    up : Back (NamesOf g w (w.at u).fragment) (tree_end (end g w u j)) (tree_end (far_end g w u j)) k ms → (w.at u).up ≡ Some j
     up (Old c h x) = c.up
     up (Half c z a b n p q) = c.both.up
 
@@ -176,11 +173,11 @@ module _ (g : Network) (wired : IsWired g) (u : ℕ) (lo : 1 ≤ u) (hi : u ≤ 
         kept_one g wired u lo hi x j at (record (w.seen u j) { tree = ms }) [] [] (sends_none j) w
         (record { alike = record { fragment = refl; coming = refl; coming_name = refl; up = refl; branch = λ p. refl }; found = λ e. e; mine = λ e. sym (ap has_call waits) ∙ e; theirs = λ e. e })
         holds node
-        (record { tree = tree_taken (tree_end (end g w u j)) (tree_end (across j)) k ms came link.tree; search = search_trees (tree_end (end g w u j)) (tree_end (across j)) ms (w.seen (far g u j) (far_port g u j)).tree link.search; tests = record { probing = link.tests.probing; not_probing = link.tests.not_probing } })
-        (record { tree = tree_taken' (tree_end (end g w u j)) (tree_end (across j)) k ms ghosts.1 refl ghosts.0 came link'.tree; search = search_trees (tree_end (across j)) (tree_end (end g w u j)) (w.seen (far g u j) (far_port g u j)).tree ms link'.search; tests = record { probing = link'.tests.probing; not_probing = link'.tests.not_probing } })
+        (record { tree = tree_taken (tree_end (end g w u j)) (tree_end (far_end g w u j)) k ms came link.tree; search = search_trees (tree_end (end g w u j)) (tree_end (far_end g w u j)) ms (w.seen (far g u j) (far_port g u j)).tree link.search; tests = record { probing = link.tests.probing; not_probing = link.tests.not_probing } })
+        (record { tree = tree_taken' (tree_end (end g w u j)) (tree_end (far_end g w u j)) k ms ghosts.1 refl ghosts.0 came link'.tree; search = search_trees (tree_end (far_end g w u j)) (tree_end (end g w u j)) (w.seen (far g u j) (far_port g u j)).tree ms link'.search; tests = record { probing = link'.tests.probing; not_probing = link'.tests.not_probing } })
         (λ i at' ne h h'. record { tree = h.tree; search = h.search; tests = h.tests })
         (λ i at' ne h h'. record { tree = h'.tree; search = h'.search; tests = h'.tests }) (λ e. e) refl
-        (sums_one g wired u lo hi x j at (record (w.seen u j) { tree = ms }) [] [] (sends_none j) w holds.counted same_count (λ i ne. refl) (sym (ap (λ t. debt (across j) (record (end g w u j) { seen = record (w.seen u j) { tree = t } })) waits)) (λ i ne. refl))
+        (sums_one g wired u lo hi x j at (record (w.seen u j) { tree = ms }) [] [] (sends_none j) w holds.counted same_count (λ i ne. refl) (sym (ap (λ t. debt (far_end g w u j) (record (end g w u j) { seen = record (w.seen u j) { tree = t } })) waits)) (λ i ne. refl))
       where
         x : Member
         x = record (w.at u) { head = record (w.at u).head { halted = b } }
@@ -200,5 +197,5 @@ module _ (g : Network) (wired : IsWired g) (u : ℕ) (lo : 1 ≤ u) (hi : u ≤ 
           best_port = fits.best_port;
         }
 
-        same_count : (w.at u).head.find_count + debt (end g w u j) (across j) ≡ (w.at u).head.find_count + debt here' (across j)
-        same_count = ap (λ z. (w.at u).head.find_count + z) (debt_up (end g w u j) (across j) (up came) ∙ sym (debt_up here' (across j) (up came)))
+        same_count : (w.at u).head.find_count + debt (end g w u j) (far_end g w u j) ≡ (w.at u).head.find_count + debt here' (far_end g w u j)
+        same_count = ap (λ z. (w.at u).head.find_count + z) (debt_up (end g w u j) (far_end g w u j) (up came) ∙ sym (debt_up here' (far_end g w u j) (up came)))

@@ -3,11 +3,11 @@ use Rattle.std.proofs.Common.{◌≡◌, ◌≢◌, ℕ, sym, ◌∙◌, ap, sub
 use Rattle.ghs_node.specs.declared.mark.Mark.TheVariants.{Branch}
 use Rattle.ghs_node.specs.Words.{is_branch}
 use Rattle.ghs_protocol.specs.Network.{Network}
-use Rattle.ghs_protocol.proofs.clauses.World.{World, Forest, forest}
+use Rattle.ghs_protocol.proofs.clauses.Scene.{Scene, Forest, forest}
 use Rattle.ghs_protocol.proofs.clauses.Rest.{Quiet, Resting}
 use Rattle.ghs_protocol.proofs.acts.SameForest.{branch_mark}
 
-module _ (g : Network) (w w' : World) (same : forest w' ≡ forest w) where
+module _ (g : Network) (w w' : Scene) (same : forest w' ≡ forest w) where
   was : (v p : ℕ) → (w'.at v).mark p ≡ Branch → (w.at v).mark p ≡ Branch
   was v p e = branch_mark _ (sym (ap (λ (s : Forest). s.branch v p) same) ∙ ap is_branch e)
 

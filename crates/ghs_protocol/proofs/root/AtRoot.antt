@@ -8,7 +8,7 @@ use Rattle.ghs_node.specs.declared.message.Phase.TheVariants.{Found}
 use Rattle.ghs_node.specs.declared.message.Message.{Message}
 use Rattle.ghs_node.specs.declared.message.Message.TheVariants.{Report, ChangeRoot}
 use Rattle.ghs_protocol.specs.Network.{Network, port_at, At, far, far_port, IsWired}
-use Rattle.ghs_protocol.proofs.clauses.World.{World, TreeEnd, tree_end, end, forest}
+use Rattle.ghs_protocol.proofs.clauses.Scene.{Scene, TreeEnd, tree_end, end, forest, far_end}
 use Rattle.ghs_protocol.proofs.clauses.Links.{Joins, Ups}
 use Rattle.ghs_protocol.proofs.clauses.TreeMessages.{TreeFits, Chain, Upward, Nothing_up, Report_up, Downward, Initiates, Old_report, CoreFits, CoreQueue, Plain, With_report, Moved, Moving, MovedFits, To_here, To_there, Stage, Asking, Called, Begun, AtStage, asked, called}
 use Rattle.ghs_protocol.proofs.clauses.Fragments.{IsJoinedIn}
@@ -18,7 +18,7 @@ use Rattle.ghs_protocol.proofs.clauses.Uniting.{SendsRoot, By_report, By_root}
 use Rattle.ghs_protocol.proofs.acts.OneLink.{at_near, at_far}
 use Rattle.ghs_protocol.proofs.search.FirstReport.{Joint, joint, Down_here, Down_there, On_core, On_moved, mark_is}
 use Rattle.ghs_protocol.proofs.rest.Halt.{Back, Old, Half, back, owed_finds}
-use Rattle.ghs_protocol.proofs.rest.AtRest.{over, core_rests}
+use Rattle.ghs_protocol.proofs.rest.AtRest.{core_rests}
 
 lt_asym : (k l : Key) → key_lt k l ≡ true → key_lt l k ≡ true → ⊥
 lt_asym k l a b = grind (arith, nat_tests)
@@ -92,36 +92,36 @@ pub data Left (f : TreeEnd) : Type 0 where
   Report_left : (k : Option Key) → f.tree ≡ Report k ∷ [] → f.in_branch ≡ Some f.port → below k (best_key f.best) ≡ true → Left f
 
 -- u, at one end of the root link j, is about to send the root on
-pub record AtRoot (g : Network) (w : World) (u j : ℕ) (ms : List Message) : Type 0 where
-  pub joins : Joins (tree_end (end g w u j)) (tree_end (over g w u j))
+pub record AtRoot (g : Network) (w : Scene) (u j : ℕ) (ms : List Message) : Type 0 where
+  pub joins : Joins (tree_end (end g w u j)) (tree_end (far_end g w u j))
   pub up : (w.at u).up ≡ Some j
   pub up_beyond : (w.at (far g u j)).up ≡ Some (far_port g u j)
   pub in_branch : (w.at u).head.in_branch ≡ Some j
   pub top : (w.at u).head.level ≡ (w.at u).coming
   pub top' : (w.at (far g u j)).head.level ≡ (w.at u).coming
   pub rest : ms ≡ []
-  pub left : Left (tree_end (over g w u j))
+  pub left : Left (tree_end (far_end g w u j))
   pub quiet : Quiet g w (w.at u).fragment
 
-module _ (g : Network) (wired : IsWired g) (u : ℕ) (lo : 1 ≤ u) (hi : u ≤ g.count) (j : ℕ) (at : At g u j) (w : World) (holds : Invariant g w) (ms : List Message) where
-  link : LinkFits (NamesOf g w) (end g w u j) (over g w u j)
+module _ (g : Network) (wired : IsWired g) (u : ℕ) (lo : 1 ≤ u) (hi : u ≤ g.count) (j : ℕ) (at : At g u j) (w : Scene) (holds : Invariant g w) (ms : List Message) where
+  link : LinkFits (NamesOf g w) (end g w u j) (far_end g w u j)
   link = at_near g wired w (LinkFits (NamesOf g w)) holds.links u j at
 
-  link' : LinkFits (NamesOf g w) (over g w u j) (end g w u j)
+  link' : LinkFits (NamesOf g w) (far_end g w u j) (end g w u j)
   link' = at_far g wired w (LinkFits (NamesOf g w)) holds.links u j at
 
-  inside : Joins (tree_end (end g w u j)) (tree_end (over g w u j)) → IsJoinedIn g (forest w) u j
+  inside : Joins (tree_end (end g w u j)) (tree_end (far_end g w u j)) → IsJoinedIn g (forest w) u j
   inside h = record { here = ap is_branch h.here; there = ap is_branch h.there }
 
-  ghosts : Joins (tree_end (end g w u j)) (tree_end (over g w u j)) → ((w.at (far g u j)).coming ≡ (w.at u).coming) × ((w.at (far g u j)).coming_name ≡ (w.at u).coming_name)
+  ghosts : Joins (tree_end (end g w u j)) (tree_end (far_end g w u j)) → ((w.at (far g u j)).coming ≡ (w.at u).coming) × ((w.at (far g u j)).coming_name ≡ (w.at u).coming_name)
   ghosts h = holds.trees.by_fragment (far g u j) u (sym (holds.trees.joined_within u j at (inside h)))
 
-  ways : Joins (tree_end (end g w u j)) (tree_end (over g w u j)) → Ups (tree_end (end g w u j)) ⊎ Ups (tree_end (over g w u j))
+  ways : Joins (tree_end (end g w u j)) (tree_end (far_end g w u j)) → Ups (tree_end (end g w u j)) ⊎ Ups (tree_end (far_end g w u j))
   ways h = holds.trees.joined_lead u j at (inside h)
 
   by_report : (k : Option Key) → (waits : (w.seen u j).tree ≡ Report k ∷ ms) → (w.at u).head.in_branch ≡ Some j → (rests : (w.at u).head.phase ≡ Found) →
       below (best_key (w.at u).head.best) k ≡ true → AtRoot g w u j ms
-  by_report k waits way rests better = go (back (tree_end (end g w u j)) (tree_end (over g w u j)) link.tree link'.tree ways k ms waits mine)
+  by_report k waits way rests better = go (back (tree_end (end g w u j)) (tree_end (far_end g w u j)) link.tree link'.tree ways k ms waits mine)
     where
       mine : (w.at u).up ≢ Some j → ⊥
       mine ne = let z = owed_finds g wired u lo hi j at w holds ne (rw waits refl) in cc (z, rests)
@@ -131,7 +131,7 @@ module _ (g : Network) (wired : IsWired g) (u : ℕ) (lo : 1 ≤ u) (hi : u ≤ 
       begun e Asking i a = cc
       begun e Called i a = cc
 
-      go : Back (NamesOf g w (w.at u).fragment) (tree_end (end g w u j)) (tree_end (over g w u j)) k ms → AtRoot g w u j ms
+      go : Back (NamesOf g w (w.at u).fragment) (tree_end (end g w u j)) (tree_end (far_end g w u j)) k ms → AtRoot g w u j ms
       go (Old c h x) = absurd (below_asym (best_key (w.at u).head.best) k better h.worse)
       go (Half c z a b n p q) = record {
         joins = c.both.joins;
@@ -152,18 +152,18 @@ module _ (g : Network) (wired : IsWired g) (u : ℕ) (lo : 1 ≤ u) (hi : u ≤ 
           top = begun (tree_end (end g w u j)) z.here a z.at_here
 
           top' : (w.at (far g u j)).head.level ≡ (w.at (far g u j)).coming
-          top' = begun (tree_end (over g w u j)) z.there b z.at_there
+          top' = begun (tree_end (far_end g w u j)) z.there b z.at_there
 
           back' : (w.at (far g u j)).head.in_branch ≡ Some (far_port g u j)
           back' = (link'.tree.core_ends (record { here = c.both.joins.there; there = c.both.joins.here }) (same.1 ∙ c.named)).at_top top'
 
-          remains : CoreQueue (tree_end (over g w u j)) (tree_end (end g w u j)) z.there z.here → Left (tree_end (over g w u j))
+          remains : CoreQueue (tree_end (far_end g w u j)) (tree_end (end g w u j)) z.there z.here → Left (tree_end (far_end g w u j))
           remains (Plain y) = Nothing_left (y ∙ no_stage (w.at u).head.level (w.at (far g u j)).coming (port_at g u j).key z.here z.there a b)
           remains (With_report r y s t h) = Report_left r (y ∙ ap (λ s. called (w.at (far g u j)).coming (port_at g u j).key s ++ Report r ∷ []) b) back' (subst₂ (λ x y. below x y ≡ true) h (sym q) better)
 
   by_root : (w.seen u j).tree ≡ ChangeRoot ∷ ms → AtRoot g w u j ms
   by_root waits =
-      let s = root_sent (tree_end (end g w u j)) (tree_end (over g w u j)) link.tree link'.tree ways ms waits in
+      let s = root_sent (tree_end (end g w u j)) (tree_end (far_end g w u j)) link.tree link'.tree ways ms waits in
       record {
         joins = s.moved.both.joins;
         up = s.moved.both.up;

@@ -11,7 +11,7 @@ use Rattle.ghs_node.specs.declared.message.Message.{Message}
 use Rattle.ghs_node.specs.declared.message.Message.TheVariants.{Connect, ChangeRoot}
 use Rattle.ghs_protocol.specs.Network.{Network, port_at, At, far, far_port, IsWired, InNetwork}
 use Rattle.ghs_protocol.specs.Net.{put}
-use Rattle.ghs_protocol.proofs.clauses.World.{Seen, add, adds, Member, World, End, tree_end, end, acts}
+use Rattle.ghs_protocol.proofs.clauses.Scene.{Seen, add, adds, Member, Scene, End, tree_end, end, acts, far_end}
 use Rattle.ghs_protocol.proofs.clauses.Links.{Joins}
 use Rattle.ghs_protocol.proofs.clauses.TreeMessages.{ConnectUnderWay, Reported, Upward, Nothing_up, Report_up}
 use Rattle.ghs_protocol.proofs.clauses.Nodes.{NodeFits}
@@ -21,11 +21,10 @@ use Rattle.ghs_protocol.proofs.clauses.Wiring.{IsKeyed}
 use Rattle.ghs_protocol.proofs.clauses.Uniting.{SendsRoot, meet}
 use Rattle.ghs_protocol.proofs.clauses.Whole.{LinkFits, Invariant, NamesOf}
 use Rattle.ghs_protocol.proofs.clauses.Floors.{Floor, FloorsAt, IsTreeLink, Floors}
-use Rattle.ghs_protocol.proofs.lemmas.Updates.{put_same, put_other}
+use Rattle.ghs_protocol.proofs.lemmas.Updates.{put_same, put_other, put_alike}
 use Rattle.ghs_protocol.proofs.acts.Reactions.{put_again}
-use Rattle.ghs_protocol.proofs.rest.AtRest.{over}
 use Rattle.ghs_protocol.proofs.root.AtRoot.{AtRoot, at_root}
-use Rattle.ghs_protocol.proofs.root.Sent.{by_ports_at, put_alike}
+use Rattle.ghs_protocol.proofs.root.Sent.{by_ports_at}
 use Rattle.ghs_protocol.proofs.root.Inward.{at_best, best_apart, best_aside, leads_to}
 use Rattle.ghs_protocol.proofs.root.OldLink.{call_append}
 use Rattle.ghs_protocol.proofs.search.FirstReport.{mark_is}
@@ -37,7 +36,7 @@ use Rattle.ghs_protocol.proofs.union.Floors.{floors_met}
 use Rattle.ghs_protocol.proofs.acts.Floors.{near_fits, far_fits, RootFloors, root_floors, best_in_tree}
 use Rattle.ghs_protocol.proofs.search.CloseFloors.{FloorsOff, nodes_after, links_after, links_after_off, in_tree_after, halted_after}
 
-module _ (g : Network) (wired : IsWired g) (u : ℕ) (lo : 1 ≤ u) (hi : u ≤ g.count) (j : ℕ) (at : At g u j) (w : World) (holds : Invariant g w) (ms : List Message) (root : AtRoot g w u j ms)
+module _ (g : Network) (wired : IsWired g) (u : ℕ) (lo : 1 ≤ u) (hi : u ≤ g.count) (j : ℕ) (at : At g u j) (w : Scene) (holds : Invariant g w) (ms : List Message) (root : AtRoot g w u j ms)
     (b : ℕ) (atb : At g u b) (apart : b ≢ j) (μ : ℕ → Mark) (to : μ b ≡ Branch) (same : (i : ℕ) → i ≢ b → μ i ≡ (w.at u).mark i) (m : Message)
     (no_call : (q : Seen) → has_call q.tree ≡ false → has_call (add q m).tree ≡ false) (floor : ℕ → Floor) (floors : Floors g w floor) (rf : RootFloors g wired w holds floor floors u j at ms root) where
   abbrev x : Member
@@ -77,7 +76,7 @@ module _ (g : Network) (wired : IsWired g) (u : ℕ) (lo : 1 ≤ u) (hi : u ≤ 
   away e = apart (sym e)
 
   -- the old root link: the far end is a child's now
-  near_left : FloorsAt here (over g w u j) (floor u) (floor (far g u j))
+  near_left : FloorsAt here (far_end g w u j) (floor u) (floor (far g u j))
   near_left = record {
     none_below = λ out. absurd (out (sym inside));
     falls = λ c. absurd (not_way j away c.up);
@@ -89,7 +88,7 @@ module _ (g : Network) (wired : IsWired g) (u : ℕ) (lo : 1 ≤ u) (hi : u ≤ 
     best = λ y e l z. absurd ((fits.best_port j y e).1 root.in_branch);
   }
 
-  far_left : FloorsAt (over g w u j) here (floor (far g u j)) (floor u)
+  far_left : FloorsAt (far_end g w u j) here (floor (far g u j)) (floor u)
   far_left = record {
     none_below = λ out. absurd (out inside);
     falls = λ c. rf.theirs;
@@ -102,7 +101,7 @@ module _ (g : Network) (wired : IsWired g) (u : ℕ) (lo : 1 ≤ u) (hi : u ≤ 
   }
 
   -- another link
-  near_other : (i : ℕ) → At g u i → i ≢ j → i ≢ b → FloorsAt (still i) (over g w u i) (floor u) (floor (far g u i))
+  near_other : (i : ℕ) → At g u i → i ≢ j → i ≢ b → FloorsAt (still i) (far_end g w u i) (floor u) (floor (far g u i))
   near_other i at' ne ne' =
       let f = near_fits g wired w holds floor floors u i at' in
       record {
@@ -116,7 +115,7 @@ module _ (g : Network) (wired : IsWired g) (u : ℕ) (lo : 1 ≤ u) (hi : u ≤ 
         best = λ y e l z. f.best y e l (record { here = sym (same i ne') ∙ z.here; there = z.there });
       }
 
-  far_other : (i : ℕ) → At g u i → i ≢ j → i ≢ b → FloorsAt (over g w u i) (still i) (floor (far g u i)) (floor u)
+  far_other : (i : ℕ) → At g u i → i ≢ j → i ≢ b → FloorsAt (far_end g w u i) (still i) (floor (far g u i)) (floor u)
   far_other i at' ne ne' =
       let f = far_fits g wired w holds floor floors u i at' in
       record {
@@ -157,7 +156,7 @@ module _ (g : Network) (wired : IsWired g) (u : ℕ) (lo : 1 ≤ u) (hi : u ≤ 
         halted = halted_after g wired u lo hi x own ((b, m) ∷ []) w floor floors (floor u) refl refl;
       })
 
-module _ (g : Network) (wired : IsWired g) (u : ℕ) (lo : 1 ≤ u) (hi : u ≤ g.count) (w : World) (holds : Invariant g w) (j : ℕ) (at : At g u j) (ms : List Message) (b : ℕ) (k : Key) (calls : SendsRoot w u j ms) (best : (w.at u).head.best ≡ Some (b, k))
+module _ (g : Network) (wired : IsWired g) (u : ℕ) (lo : 1 ≤ u) (hi : u ≤ g.count) (w : Scene) (holds : Invariant g w) (j : ℕ) (at : At g u j) (ms : List Message) (b : ℕ) (k : Key) (calls : SendsRoot w u j ms) (best : (w.at u).head.best ≡ Some (b, k))
     (floor : ℕ → Floor) (floors : Floors g w floor) where
   root : AtRoot g w u j ms
   root = at_root g wired u lo hi j at w holds ms calls
@@ -174,10 +173,10 @@ module _ (g : Network) (wired : IsWired g) (u : ℕ) (lo : 1 ≤ u) (hi : u ≤ 
   apart : b ≢ j
   apart = best_apart g wired u lo hi j at w holds ms root b k best
 
-  link : LinkFits (NamesOf g w) (end g w u b) (over g w u b)
+  link : LinkFits (NamesOf g w) (end g w u b) (far_end g w u b)
   link = link_fits g wired w holds u b atb
 
-  link' : LinkFits (NamesOf g w) (over g w u b) (end g w u b)
+  link' : LinkFits (NamesOf g w) (far_end g w u b) (end g w u b)
   link' = link_fits' g wired w holds u b atb
 
   not_core : (w.at u).head.in_branch ≢ Some b
@@ -188,7 +187,7 @@ module _ (g : Network) (wired : IsWired g) (u : ℕ) (lo : 1 ≤ u) (hi : u ≤ 
 
   -- the root moves on over a Branch link
   module _ (mark : (w.at u).mark b ≡ Branch) where
-    joins : Joins (tree_end (end g w u b)) (tree_end (over g w u b))
+    joins : Joins (tree_end (end g w u b)) (tree_end (far_end g w u b))
     joins = ⊎_elim (λ h. record { here = mark; there = h }) (λ h. absurd (best_aside g wired u lo hi j at w holds ms root b k best ((link.tree.out_connect (record { here = mark; there = h })).up))) (mark_is ((w.at (far g u b)).mark (far_port g u b)))
 
     inside_b : (w.at u).fragment ≡ (w.at (far g u b)).fragment
@@ -200,7 +199,7 @@ module _ (g : Network) (wired : IsWired g) (u : ℕ) (lo : 1 ≤ u) (hi : u ≤ 
     below_way : (w.at (far g u b)).up ≡ Some (far_port g u b)
     below_way = leads_to g wired u lo hi j at w holds ms root b k best b atb (record { here = ap is_branch joins.here; there = ap is_branch joins.there })
 
-    reported : Reported (tree_end (over g w u b)) (Some k)
+    reported : Reported (tree_end (far_end g w u b)) (Some k)
     reported = link.search.find_reported k best root.top joins
 
     child_floor : floor (far g u b) ≡ Some (Some k)
@@ -213,7 +212,7 @@ module _ (g : Network) (wired : IsWired g) (u : ℕ) (lo : 1 ≤ u) (hi : u ≤ 
     no_root : (w.seen u b).tree ≡ ChangeRoot ∷ [] → ⊥
     no_root q = up_only (link'.tree.upward (record { joins = record { here = joins.there; there = joins.here }; up = below_way; down = best_aside g wired u lo hi j at w holds ms root b k best }))
       where
-        up_only : Upward (tree_end (over g w u b)) (tree_end (end g w u b)) → ⊥
+        up_only : Upward (tree_end (far_end g w u b)) (tree_end (end g w u b)) → ⊥
         up_only (Nothing_up z) = let y = sym z ∙ q in cc
         up_only (Report_up r z h) = let y = sym z ∙ q in cc
 
@@ -248,7 +247,7 @@ module _ (g : Network) (wired : IsWired g) (u : ℕ) (lo : 1 ≤ u) (hi : u ≤ 
 
   -- the root goes out, to a fragment that hasn't connected to this one
   module _ (mark : (w.at u).mark b ≢ Branch) (mark' : (w.at (far g u b)).mark (far_port g u b) ≢ Branch) where
-    out : LeadsOut (tree_end (end g w u b)) (tree_end (over g w u b)) k
+    out : LeadsOut (tree_end (end g w u b)) (tree_end (far_end g w u b)) k
     out = link.search.find_leads k best root.top mark
 
     l : ℕ
@@ -289,13 +288,13 @@ module _ (g : Network) (wired : IsWired g) (u : ℕ) (lo : 1 ≤ u) (hi : u ≤ 
 
   -- the root goes out, and meets the Connect of the far end
   module _ (keyed : IsKeyed g) (mark : (w.at u).mark b ≢ Branch) (mark' : (w.at (far g u b)).mark (far_port g u b) ≡ Branch) where
-    abbrev mid : World
+    abbrev mid : Scene
     mid = acts g u (record (w.at u) { up = Some b; mark = put (w.at u).mark b Branch }) (put (w.seen u) j (record (w.seen u j) { tree = ms })) ((b, Connect (w.at u).head.level) ∷ []) w
 
-    leads : LeadsOut (tree_end (end g w u b)) (tree_end (over g w u b)) k
+    leads : LeadsOut (tree_end (end g w u b)) (tree_end (far_end g w u b)) k
     leads = link.search.find_leads k best root.top mark
 
-    came : ConnectUnderWay (tree_end (over g w u b)) (tree_end (end g w u b))
+    came : ConnectUnderWay (tree_end (far_end g w u b)) (tree_end (end g w u b))
     came = link'.tree.out_connect (record { here = mark'; there = mark })
 
     here_is : mid.at u ≡ record (w.at u) { up = Some b; mark = put (w.at u).mark b Branch }

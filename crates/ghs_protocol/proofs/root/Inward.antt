@@ -8,23 +8,22 @@ use Rattle.ghs_node.specs.declared.message.Message.{Message}
 use Rattle.ghs_node.specs.declared.message.Message.TheVariants.{ChangeRoot}
 use Rattle.ghs_protocol.specs.Network.{Network, port_at, At, far, far_port, IsWired}
 use Rattle.ghs_protocol.specs.Net.{put}
-use Rattle.ghs_protocol.proofs.clauses.World.{Member, World, End, TreeEnd, tree_end, end, forest, acts}
+use Rattle.ghs_protocol.proofs.clauses.Scene.{Member, Scene, End, TreeEnd, tree_end, end, forest, acts, far_end}
 use Rattle.ghs_protocol.proofs.clauses.Links.{Joins, Child, Ups}
 use Rattle.ghs_protocol.proofs.clauses.TreeMessages.{TreeFits, Reported, Upward, Nothing_up, Report_up, Downward, Initiates, Old_report, To_here, To_there}
 use Rattle.ghs_protocol.proofs.clauses.Nodes.{NodeFits}
 use Rattle.ghs_protocol.proofs.clauses.Fragments.{IsJoinedIn, Root, Both_ways}
 use Rattle.ghs_protocol.proofs.clauses.Whole.{LinkFits, Invariant, NamesOf}
 use Rattle.ghs_protocol.proofs.clauses.Uniting.{SendsRoot}
-use Rattle.ghs_protocol.proofs.lemmas.Updates.{put_same, put_other}
+use Rattle.ghs_protocol.proofs.lemmas.Updates.{put_same, put_other, put_alike}
 use Rattle.ghs_protocol.proofs.acts.OneLink.{at_near, at_far}
 use Rattle.ghs_protocol.proofs.search.ReportGone.{debt_up}
 use Rattle.ghs_protocol.proofs.search.FirstReport.{chain_top, mark_is}
 use Rattle.ghs_protocol.proofs.rest.Halt.{owed_finds}
-use Rattle.ghs_protocol.proofs.rest.AtRest.{over}
 use Rattle.ghs_protocol.proofs.root.AtRoot.{AtRoot, at_root}
 use Rattle.ghs_protocol.proofs.root.Ways.{Turns}
 use Rattle.ghs_protocol.proofs.root.OldLink.{search_turns, search_turns', call_append}
-use Rattle.ghs_protocol.proofs.root.Sent.{reroutes, put_alike}
+use Rattle.ghs_protocol.proofs.root.Sent.{reroutes}
 
 -- the best link, of a child that has reported: e is the parent's end, at the root
 pub record Below (e f : TreeEnd) : Type 0 where
@@ -70,7 +69,7 @@ module _ (e f : TreeEnd) (b : Below e f) where
   }
 
 -- a node's best is at a port other than its in_branch
-module _ (g : Network) (wired : IsWired g) (u : ℕ) (lo : 1 ≤ u) (hi : u ≤ g.count) (j : ℕ) (at : At g u j) (w : World) (holds : Invariant g w) (ms : List Message) (root : AtRoot g w u j ms)
+module _ (g : Network) (wired : IsWired g) (u : ℕ) (lo : 1 ≤ u) (hi : u ≤ g.count) (j : ℕ) (at : At g u j) (w : Scene) (holds : Invariant g w) (ms : List Message) (root : AtRoot g w u j ms)
     (b : ℕ) (k : Key) (best : (w.at u).head.best ≡ Some (b, k)) where
   fits : NodeFits (length (g.ports u)) (w.at u)
   fits = holds.nodes u (record { some = lo; node = hi })
@@ -97,10 +96,10 @@ module _ (g : Network) (wired : IsWired g) (u : ℕ) (lo : 1 ≤ u) (hi : u ≤ 
   pub leads_to : (p : ℕ) → At g u p → IsJoinedIn g (forest w) u p → (w.at (far g u p)).up ≡ Some (far_port g u p)
   leads_to p at' l = ⊎_elim (λ e. let same : j ≡ p = same_Some j p (sym root.up ∙ e) in subst (λ y. (w.at (far g u y)).up ≡ Some (far_port g u y)) same root.up_beyond) (λ e. e) (holds.trees.joined_lead u p at' l)
 
-  best_link : LinkFits (NamesOf g w) (end g w u b) (over g w u b)
+  best_link : LinkFits (NamesOf g w) (end g w u b) (far_end g w u b)
   best_link = at_near g wired w (LinkFits (NamesOf g w)) holds.links u b at_best
 
-  best_link' : LinkFits (NamesOf g w) (over g w u b) (end g w u b)
+  best_link' : LinkFits (NamesOf g w) (far_end g w u b) (end g w u b)
   best_link' = at_far g wired w (LinkFits (NamesOf g w)) holds.links u b at_best
 
   module _ (mark : (w.at u).mark b ≡ Branch) where
@@ -108,40 +107,40 @@ module _ (g : Network) (wired : IsWired g) (u : ℕ) (lo : 1 ≤ u) (hi : u ≤ 
     e = tree_end (end g w u b)
 
     f : TreeEnd
-    f = tree_end (over g w u b)
+    f = tree_end (far_end g w u b)
 
-    joins : Joins (tree_end (end g w u b)) (tree_end (over g w u b))
+    joins : Joins (tree_end (end g w u b)) (tree_end (far_end g w u b))
     joins = ⊎_elim (λ h. record { here = mark; there = h }) (λ h. absurd (best_aside (best_link.tree.out_connect (record { here = mark; there = h })).up)) (mark_is ((w.at (far g u b)).mark (far_port g u b)))
 
     inside : IsJoinedIn g (forest w) u b
     inside = record { here = ap is_branch joins.here; there = ap is_branch joins.there }
 
-    child : Child (tree_end (over g w u b)) (tree_end (end g w u b))
+    child : Child (tree_end (far_end g w u b)) (tree_end (end g w u b))
     child = record { joins = record { here = joins.there; there = joins.here }; up = leads_to b at_best inside; down = best_aside }
 
     ghosts : ((w.at (far g u b)).coming ≡ (w.at u).coming) × ((w.at (far g u b)).coming_name ≡ (w.at u).coming_name)
     ghosts = holds.trees.by_fragment (far g u b) u (sym (holds.trees.joined_within u b at_best inside))
 
-    reported : Reported (tree_end (over g w u b)) (Some k)
+    reported : Reported (tree_end (far_end g w u b)) (Some k)
     reported = best_link.search.find_reported k best root.top joins
 
     not_core : (w.at u).head.in_branch ≢ Some b
     not_core = (fits.best_port b k best).1
 
-    no_report' : Upward (tree_end (over g w u b)) (tree_end (end g w u b)) → (w.seen u b).tree ≡ []
+    no_report' : Upward (tree_end (far_end g w u b)) (tree_end (end g w u b)) → (w.seen u b).tree ≡ []
     no_report' (Nothing_up q) = q
     no_report' (Report_up r q h) = absurd (let z = owed_finds g wired u lo hi b at_best w holds best_aside (rw q refl) in let y = root.quiet.found u (record { some = lo; node = hi }) refl in cc (z, y))
 
     level_up : (w.at u).head.level ≤ (w.at (far g u b)).head.level
     level_up = let a = root.top in let c = reported.level in let d = ghosts.0 in omega (arith, a, c, d)
 
-    no_initiate : Downward (NamesOf g w (w.at (far g u b)).fragment) (tree_end (over g w u b)) (tree_end (end g w u b)) → (w.seen (far g u b) (far_port g u b)).tree ≡ []
+    no_initiate : Downward (NamesOf g w (w.at (far g u b)).fragment) (tree_end (far_end g w u b)) (tree_end (end g w u b)) → (w.seen (far g u b) (far_port g u b)).tree ≡ []
     no_initiate (Initiates c) = chain_top (NamesOf g w (w.at (far g u b)).fragment) (w.at (far g u b)).coming (w.at (far g u b)).coming_name (w.at u).head.level (w.at (far g u b)).head.level _ level_up c
     no_initiate (Old_report r xs q h c) =
         absurd
         (not_core (h.there (chain_top (NamesOf g w (w.at (far g u b)).fragment) (w.at (far g u b)).coming (w.at (far g u b)).coming_name (w.at u).head.level (w.at (far g u b)).head.level xs level_up c)))
 
-    below : Below (tree_end (end g w u b)) (tree_end (over g w u b))
+    below : Below (tree_end (end g w u b)) (tree_end (far_end g w u b))
     below = record {
       joins = joins;
       up = child.up;
@@ -185,13 +184,13 @@ module _ (g : Network) (wired : IsWired g) (u : ℕ) (lo : 1 ≤ u) (hi : u ≤ 
     pub passes : Invariant g (acts g u (record (w.at u) { up = Some b }) (put (w.seen u) j (record (w.seen u j) { tree = ms })) ((b, ChangeRoot) ∷ []) w)
     passes =
         reroutes g wired u lo hi j at w holds ms root b at_best best_apart (w.at u).mark mark (λ i ne. refl) ChangeRoot (λ q n. call_append ChangeRoot refl q.tree ∙ n) turns
-        (record { tree = tree_passes (tree_end (end g w u b)) (tree_end (over g w u b)) below; search = search_turns (tree_end (end g w u b)) (tree_end (over g w u b)) (Some b) _ _ best_link.search; tests = best_link.tests })
-        (record { tree = tree_passes' (tree_end (end g w u b)) (tree_end (over g w u b)) below; search = search_turns' (tree_end (end g w u b)) (tree_end (over g w u b)) (Some b) _ _ best_link'.search; tests = best_link'.tests })
-        (debt_up receiver sender child.up ∙ sym (debt_up (over g w u b) (end g w u b) child.up))
+        (record { tree = tree_passes (tree_end (end g w u b)) (tree_end (far_end g w u b)) below; search = search_turns (tree_end (end g w u b)) (tree_end (far_end g w u b)) (Some b) _ _ best_link.search; tests = best_link.tests })
+        (record { tree = tree_passes' (tree_end (end g w u b)) (tree_end (far_end g w u b)) below; search = search_turns' (tree_end (end g w u b)) (tree_end (far_end g w u b)) (Some b) _ _ best_link'.search; tests = best_link'.tests })
+        (debt_up receiver sender child.up ∙ sym (debt_up (far_end g w u b) (end g w u b) child.up))
 
 -- a step: the root moves on over a Branch link
 pub passes_root :
-    (g : Network) (wired : IsWired g) (u : ℕ) (lo : 1 ≤ u) (hi : u ≤ g.count) (w : World) (holds : Invariant g w) (j : ℕ) (at : At g u j) (ms : List Message) (b : ℕ) (k : Key) →
+    (g : Network) (wired : IsWired g) (u : ℕ) (lo : 1 ≤ u) (hi : u ≤ g.count) (w : Scene) (holds : Invariant g w) (j : ℕ) (at : At g u j) (ms : List Message) (b : ℕ) (k : Key) →
     SendsRoot w u j ms → (w.at u).head.best ≡ Some (b, k) → (w.at u).mark b ≡ Branch →
     Invariant g (acts g u (record (w.at u) { up = Some b }) (put (w.seen u) j (record (w.seen u j) { tree = ms })) ((b, ChangeRoot) ∷ []) w)
 passes_root g wired u lo hi w holds j at ms b k calls best mark = passes g wired u lo hi j at w holds ms (at_root g wired u lo hi j at w holds ms calls) b k best mark

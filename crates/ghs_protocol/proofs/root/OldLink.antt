@@ -5,7 +5,7 @@ use Rattle.ghs_node.specs.declared.message.Phase.TheVariants.{Sleeping, Find, Fo
 use Rattle.ghs_node.specs.declared.message.Message.{Message}
 use Rattle.ghs_node.specs.declared.message.Message.TheVariants.{Connect, Initiate, Test, Accept, Reject, Report, ChangeRoot}
 use Rattle.ghs_node.specs.Words.{is_at}
-use Rattle.ghs_protocol.proofs.clauses.World.{End, TreeEnd, tree_end}
+use Rattle.ghs_protocol.proofs.clauses.Scene.{End, TreeEnd, tree_end}
 use Rattle.ghs_protocol.proofs.clauses.Links.{Joins, Ups}
 use Rattle.ghs_protocol.proofs.clauses.TreeMessages.{TreeFits, Chain, Upward, Nothing_up, Report_up, Downward, Initiates, Old_report}
 use Rattle.ghs_protocol.proofs.clauses.Search.{SearchFits}

@@ -1,6 +1,6 @@
 -- The root goes out over the best link, to a fragment that hasn't connected to this one.
 use Rattle.std.proofs.Common.{◌≡◌, ◌≢◌, ℕ, ◌≤◌, Bool, true, false, Some, List, [], ◌∷◌, ◌++◌, refl, sym, ◌∙◌, ap, ap₂, subst, subst₂, ⊎_elim, ◌⊎◌, inl, inr}
-use Rattle.std.proofs.lemmas.Bool.{cases_eq}
+use Rattle.std.proofs.lemmas.Bool.{cases_eq, cases_Bool}
 use Rattle.ghs_graph.specs.declared.key.Key.{Key}
 use Rattle.ghs_node.specs.Words.{is_branch}
 use Rattle.ghs_node.specs.declared.mark.Mark.{Mark}
@@ -9,7 +9,7 @@ use Rattle.ghs_node.specs.declared.message.Message.{Message}
 use Rattle.ghs_node.specs.declared.message.Message.TheVariants.{Connect}
 use Rattle.ghs_protocol.specs.Network.{Network, port_at, At, far, far_port, IsWired}
 use Rattle.ghs_protocol.specs.Net.{put}
-use Rattle.ghs_protocol.proofs.clauses.World.{Member, World, End, TreeEnd, TestEnd, tree_end, end, forest, acts}
+use Rattle.ghs_protocol.proofs.clauses.Scene.{Member, Scene, End, TreeEnd, TestEnd, tree_end, end, forest, acts, far_end}
 use Rattle.ghs_protocol.proofs.clauses.TreeMessages.{TreeFits}
 use Rattle.ghs_protocol.proofs.clauses.Search.{SearchFits, LeadsOut}
 use Rattle.ghs_protocol.proofs.clauses.Tests.{TestsFit}
@@ -19,13 +19,13 @@ use Rattle.ghs_protocol.proofs.clauses.Whole.{LinkFits, Invariant, NamesOf}
 use Rattle.ghs_protocol.proofs.clauses.Uniting.{SendsRoot}
 use Rattle.ghs_protocol.proofs.lemmas.Updates.{put_same, put_other}
 use Rattle.ghs_protocol.proofs.acts.OneLink.{at_near, at_far}
-use Rattle.ghs_protocol.proofs.union.OneFragment.{not_branch, truth}
-use Rattle.ghs_protocol.proofs.rest.AtRest.{over}
 use Rattle.ghs_protocol.proofs.root.AtRoot.{AtRoot, at_root}
 use Rattle.ghs_protocol.proofs.root.Ways.{Turns}
 use Rattle.ghs_protocol.proofs.root.OldLink.{call_append, report_append}
 use Rattle.ghs_protocol.proofs.root.Sent.{reroutes}
 use Rattle.ghs_protocol.proofs.root.Inward.{at_best, best_apart, leads_to, old_roots}
+use Rattle.ghs_protocol.proofs.acts.SameForest.{not_branch}
+use Rattle.ghs_protocol.proofs.acts.Situations.{basic_left}
 
 -- a port turns Branch: the clauses of Tests
 abbrev pub joined_by : TestEnd → TestEnd
@@ -42,12 +42,6 @@ tests_branch' e f h = record {
   probing = λ p. let z = h.probing p in record { one = z.one; from = z.from; accepted = z.accepted; rejected = λ l. let r = z.rejected l in (r.0, (λ y. cc), r.2) };
   not_probing = λ p. let z = h.not_probing p in record { accepts = z.accepts; rejects = z.rejects; one = z.one; crossed = λ l. let c = z.crossed l in record { probe = c.probe; same = c.same; mark = c.mark; tests = c.tests; accepts = c.accepts; rejects = c.rejects; from = c.from } };
 }
-
--- a mark that is neither Branch nor Rejected
-pub basic_left : (m : Mark) → m ≢ Branch → m ≢ Rejected → m ≡ Basic
-basic_left Basic a c = refl
-basic_left Branch a c = absurd (a refl)
-basic_left Rejected a c = absurd (c refl)
 
 -- e has connected over the link
 abbrev pub connected : TreeEnd → TreeEnd
@@ -94,18 +88,18 @@ module _ (e f : TreeEnd) (k : Key) (mark : e.mark ≢ Branch) (mark' : f.mark �
     find_reported = λ l x y j. absurd (mark' j.here);
   }
 
-module _ (g : Network) (wired : IsWired g) (u : ℕ) (lo : 1 ≤ u) (hi : u ≤ g.count) (j : ℕ) (at : At g u j) (w : World) (holds : Invariant g w) (ms : List Message) (root : AtRoot g w u j ms)
+module _ (g : Network) (wired : IsWired g) (u : ℕ) (lo : 1 ≤ u) (hi : u ≤ g.count) (j : ℕ) (at : At g u j) (w : Scene) (holds : Invariant g w) (ms : List Message) (root : AtRoot g w u j ms)
     (b : ℕ) (k : Key) (best : (w.at u).head.best ≡ Some (b, k)) (mark : (w.at u).mark b ≢ Branch) where
   atb : At g u b
   atb = at_best g wired u lo hi j at w holds ms root b k best
 
-  pub out_link : LinkFits (NamesOf g w) (end g w u b) (over g w u b)
+  pub out_link : LinkFits (NamesOf g w) (end g w u b) (far_end g w u b)
   out_link = at_near g wired w (LinkFits (NamesOf g w)) holds.links u b atb
 
-  pub out_link' : LinkFits (NamesOf g w) (over g w u b) (end g w u b)
+  pub out_link' : LinkFits (NamesOf g w) (far_end g w u b) (end g w u b)
   out_link' = at_far g wired w (LinkFits (NamesOf g w)) holds.links u b atb
 
-  pub leads_out : LeadsOut (tree_end (end g w u b)) (tree_end (over g w u b)) k
+  pub leads_out : LeadsOut (tree_end (end g w u b)) (tree_end (far_end g w u b)) k
   leads_out = out_link.search.find_leads k best root.top mark
 
   goes : Member
@@ -132,7 +126,7 @@ module _ (g : Network) (wired : IsWired g) (u : ℕ) (lo : 1 ≤ u) (hi : u ≤ 
       (λ ne. branch_else v p (λ z. ne z.0) ∙ h) (cases_eq v u)
 
   pub branch_less : (v p : ℕ) → branch_now v p ≡ false → is_branch ((w.at v).mark p) ≡ false
-  branch_less v p h = ⊎_elim (λ e. absurd (let z = branch_more v p e in cc (z, h))) (λ e. e) (truth (is_branch ((w.at v).mark p)))
+  branch_less v p h = ⊎_elim (λ e. absurd (let z = branch_more v p e in cc (z, h))) (λ e. e) (cases_Bool (is_branch ((w.at v).mark p)))
 
   pub branch_is : (v p : ℕ) → branch_now v p ≡ true → ((v ≡ u) × (p ≡ b)) ⊎ (is_branch ((w.at v).mark p) ≡ true)
   branch_is v p h = ⊎_elim (λ e. ⊎_elim (λ e'. inl (e, e')) (λ ne. inr (sym (branch_else v p (λ z. ne z.1)) ∙ h)) (cases_eq p b)) (λ ne. inr (sym (branch_else v p (λ z. ne z.0)) ∙ h)) (cases_eq v u)
@@ -179,12 +173,12 @@ module _ (g : Network) (wired : IsWired g) (u : ℕ) (lo : 1 ≤ u) (hi : u ≤ 
     marked = λ i. record { port = b; key = (port_at g u b).key; mark = sym (put_same (w.at u).mark b Branch) i; is = record (w.at u) { up = Some b; mark = put (w.at u).mark b Branch }; seen = w.seen u b }
 
     sent : LinkFits (NamesOf g w) sender receiver
-    sent = record { tree = tree_connects (tree_end (end g w u b)) (tree_end (over g w u b)) k mark mark' leads_out root.top out_link.search out_link'.search out_link.tree out_link'.tree; search = search_connects (tree_end (end g w u b)) (tree_end (over g w u b)) k mark mark' leads_out root.top out_link.search out_link'.search; tests = tests_branch _ _ out_link.tests }
+    sent = record { tree = tree_connects (tree_end (end g w u b)) (tree_end (far_end g w u b)) k mark mark' leads_out root.top out_link.search out_link'.search out_link.tree out_link'.tree; search = search_connects (tree_end (end g w u b)) (tree_end (far_end g w u b)) k mark mark' leads_out root.top out_link.search out_link'.search; tests = tests_branch _ _ out_link.tests }
 
     sent' : LinkFits (NamesOf g w) receiver sender
-    sent' = record { tree = tree_connects' (tree_end (end g w u b)) (tree_end (over g w u b)) k mark mark' leads_out root.top out_link.search out_link'.search; search = search_connects' (tree_end (end g w u b)) (tree_end (over g w u b)) k mark mark' leads_out root.top out_link.search out_link'.search; tests = tests_branch' _ _ out_link'.tests }
+    sent' = record { tree = tree_connects' (tree_end (end g w u b)) (tree_end (far_end g w u b)) k mark mark' leads_out root.top out_link.search out_link'.search; search = search_connects' (tree_end (end g w u b)) (tree_end (far_end g w u b)) k mark mark' leads_out root.top out_link.search out_link'.search; tests = tests_branch' _ _ out_link'.tests }
 
-    owing : debt receiver sender' ≡ debt (over g w u b) (end g w u b)
+    owing : debt receiver sender' ≡ debt (far_end g w u b) (end g w u b)
     owing = rw (report_append (Connect (w.at u).head.level) refl (w.seen (far g u b) (far_port g u b)).tree) refl
 
     pub goes_out : Invariant g (acts g u (record (w.at u) { up = Some b; mark = put (w.at u).mark b Branch }) (put (w.seen u) j (record (w.seen u j) { tree = ms })) ((b, Connect (w.at u).head.level) ∷ []) w)
@@ -195,7 +189,7 @@ module _ (g : Network) (wired : IsWired g) (u : ℕ) (lo : 1 ≤ u) (hi : u ≤ 
 
 -- a step: the root goes out over its best link, the far end not being a Branch
 pub connects_out :
-    (g : Network) (wired : IsWired g) (u : ℕ) (lo : 1 ≤ u) (hi : u ≤ g.count) (w : World) (holds : Invariant g w) (j : ℕ) (at : At g u j) (ms : List Message) (b : ℕ) (k : Key) →
+    (g : Network) (wired : IsWired g) (u : ℕ) (lo : 1 ≤ u) (hi : u ≤ g.count) (w : Scene) (holds : Invariant g w) (j : ℕ) (at : At g u j) (ms : List Message) (b : ℕ) (k : Key) →
     SendsRoot w u j ms → (w.at u).head.best ≡ Some (b, k) → (w.at u).mark b ≢ Branch → (w.at (far g u b)).mark (far_port g u b) ≢ Branch →
     Invariant g (acts g u (record (w.at u) { up = Some b; mark = put (w.at u).mark b Branch }) (put (w.seen u) j (record (w.seen u j) { tree = ms })) ((b, Connect (w.at u).head.level) ∷ []) w)
 connects_out g wired u lo hi w holds j at ms b k calls best mark mark' = goes_out g wired u lo hi j at w holds ms (at_root g wired u lo hi j at w holds ms calls) b k best mark mark'

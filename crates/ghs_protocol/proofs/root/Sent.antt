@@ -12,20 +12,20 @@ use Rattle.ghs_node.specs.declared.message.Message.{Message}
 use Rattle.ghs_protocol.specs.Network.{Network, port_at, At, far, far_port, IsWired, InNetwork}
 use Rattle.ghs_protocol.specs.Net.{put}
 use Rattle.ghs_protocol.specs.Ledger.{sum_below}
-use Rattle.ghs_protocol.proofs.clauses.World.{Seen, add, adds, Member, World, End, end, tree_end, forest, acts}
+use Rattle.ghs_protocol.proofs.clauses.Scene.{Seen, add, adds, Member, Scene, End, end, tree_end, forest, acts, far_end}
 use Rattle.ghs_protocol.proofs.clauses.Nodes.{NodeFits}
 use Rattle.ghs_protocol.proofs.clauses.Links.{Out}
 use Rattle.ghs_protocol.proofs.clauses.TreeMessages.{Moved}
 use Rattle.ghs_protocol.proofs.clauses.Fragments.{IsJoinedIn, Names, ForestFits}
 use Rattle.ghs_protocol.proofs.clauses.Rest.{Quiet, Resting, owes, debt, DebtsCounted, has_call, has_report}
 use Rattle.ghs_protocol.proofs.clauses.Whole.{LinkFits, Invariant, NamesOf}
-use Rattle.ghs_protocol.proofs.lemmas.Updates.{put_same, put_other}
+use Rattle.ghs_protocol.proofs.lemmas.Updates.{put_same, put_other, put_alike}
 use Rattle.ghs_protocol.proofs.acts.Ends.{acts_keeps}
 use Rattle.ghs_protocol.proofs.acts.SameForest.{near', far', node_after, quiet_after, sums_after, branch_mark}
 use Rattle.ghs_protocol.proofs.acts.OneLink.{sends_one, at_near, at_far}
 use Rattle.ghs_protocol.proofs.search.ReportGone.{debt_up, debt_none}
 use Rattle.ghs_protocol.proofs.rest.Halt.{owed_finds}
-use Rattle.ghs_protocol.proofs.rest.AtRest.{over, not_true}
+use Rattle.ghs_protocol.proofs.rest.AtRest.{not_true}
 use Rattle.ghs_protocol.proofs.root.AtRoot.{AtRoot}
 use Rattle.ghs_protocol.proofs.root.Ways.{Turns, turning, forest_turn, names_turn}
 use Rattle.ghs_protocol.proofs.root.OldLink.{search_turns, search_turns', tree_aside, tree_aside', tree_leaves, tree_leaves', link_names, debt_unowed}
@@ -35,14 +35,11 @@ put_field k f u x v =
     ⊎_elim (λ (h : v ≡ u). rw h (ap k (put_same f u x) ∙ sym (put_same (λ y. k (f y)) u (k x)))) (λ ne. ap k (put_other f u v x ne) ∙ sym (put_other (λ y. k (f y)) u v (k x) ne))
     (cases_eq v u)
 
-pub put_alike : {A B : Type 0} (k : A → B) (f : ℕ → A) (u : ℕ) (x : A) → k x ≡ k (f u) → (v : ℕ) → k (put f u x v) ≡ k (f v)
-put_alike k f u x e v = ⊎_elim (λ (h : v ≡ u). rw h (ap k (put_same f u x) ∙ e)) (λ ne. ap k (put_other f u v x ne)) (cases_eq v u)
-
 pub sum_zero : (n : ℕ) (f : ℕ → ℕ) → ((i : ℕ) → i < n → ◌≡◌ {A = ℕ} (f i) 0) → ◌≡◌ {A = ℕ} (sum_below n f) 0
 sum_zero zero f h = refl
 sum_zero (suc n) f h = let a = sum_zero n f (λ i lt. h i (omega arith)) in let b = h n (omega arith) in omega (arith, a, b)
 
-module _ (g : Network) (wired : IsWired g) (u : ℕ) (lo : 1 ≤ u) (hi : u ≤ g.count) (j : ℕ) (at : At g u j) (w : World) (holds : Invariant g w) (ms : List Message) (root : AtRoot g w u j ms)
+module _ (g : Network) (wired : IsWired g) (u : ℕ) (lo : 1 ≤ u) (hi : u ≤ g.count) (j : ℕ) (at : At g u j) (w : Scene) (holds : Invariant g w) (ms : List Message) (root : AtRoot g w u j ms)
     (b : ℕ) (atb : At g u b) (apart : b ≢ j) (μ : ℕ → Mark) (to : μ b ≡ Branch) (same : (i : ℕ) → i ≢ b → μ i ≡ (w.at u).mark i) (m : Message)
     (no_call : (q : Seen) → has_call q.tree ≡ false → has_call (add q m).tree ≡ false) where
   -- u afterwards, and what waits at its port j
@@ -52,7 +49,7 @@ module _ (g : Network) (wired : IsWired g) (u : ℕ) (lo : 1 ≤ u) (hi : u ≤ 
   abbrev pub rest : Seen
   rest = record (w.seen u j) { tree = ms }
 
-  abbrev pub then : World
+  abbrev pub then : Scene
   then = acts g u (record (w.at u) { up = Some b; mark = μ }) (put (w.seen u) j (record (w.seen u j) { tree = ms })) ((b, m) ∷ []) w
 
   -- the ends of its links
@@ -85,7 +82,7 @@ module _ (g : Network) (wired : IsWired g) (u : ℕ) (lo : 1 ≤ u) (hi : u ≤ 
   unfolding own
   near_here = λ k. record { port = j; key = (port_at g u j).key; mark = μ j; is = goes; seen = put_same (w.seen u) j rest k }
 
-  far_onto : (i : ℕ) → i ≢ b → far_now i ≡ over g w u i
+  far_onto : (i : ℕ) → i ≢ b → far_now i ≡ far_end g w u i
   unfolding ss
   far_onto i ne = λ k. record { port = far_port g u i; key = (port_at g u i).key; mark = (w.at (far g u i)).mark (far_port g u i); is = w.at (far g u i); seen = adds (w.seen (far g u i) (far_port g u i)) ((sends_one b m).none i ne k) }
 
@@ -93,7 +90,7 @@ module _ (g : Network) (wired : IsWired g) (u : ℕ) (lo : 1 ≤ u) (hi : u ≤ 
   unfolding ss
   far_there = λ k. record { port = far_port g u b; key = (port_at g u b).key; mark = (w.at (far g u b)).mark (far_port g u b); is = w.at (far g u b); seen = adds (w.seen (far g u b) (far_port g u b)) ((sends_one b m).only k) }
 
-  by_ports : (P : End → End → Type 0) → P here (over g w u j) → P (still b) there → ((i : ℕ) → At g u i → i ≢ j → i ≢ b → P (still i) (over g w u i)) → (i : ℕ) → At g u i → P (near_now i) (far_now i)
+  by_ports : (P : End → End → Type 0) → P here (far_end g w u j) → P (still b) there → ((i : ℕ) → At g u i → i ≢ j → i ≢ b → P (still i) (far_end g w u i)) → (i : ℕ) → At g u i → P (near_now i) (far_now i)
   by_ports P hit sent miss i at' = ⊎_elim left (λ ne. ⊎_elim taken (λ ne'. subst₂ P (sym (near_still i ne)) (sym (far_onto i ne')) (miss i at' ne ne')) (cases_eq i b)) (cases_eq i j)
     where
       left : i ≡ j → P (near_now i) (far_now i)
@@ -102,11 +99,11 @@ module _ (g : Network) (wired : IsWired g) (u : ℕ) (lo : 1 ≤ u) (hi : u ≤ 
       taken : i ≡ b → P (near_now i) (far_now i)
       taken e = subst (λ y. P (near_now y) (far_now y)) (sym e) (subst₂ P (sym (near_still b apart)) (sym far_there) sent)
 
-  by_ports' : (P : End → End → Type 0) → P (over g w u j) here → P there (still b) → ((i : ℕ) → At g u i → i ≢ j → i ≢ b → P (over g w u i) (still i)) → (i : ℕ) → At g u i → P (far_now i) (near_now i)
+  by_ports' : (P : End → End → Type 0) → P (far_end g w u j) here → P there (still b) → ((i : ℕ) → At g u i → i ≢ j → i ≢ b → P (far_end g w u i) (still i)) → (i : ℕ) → At g u i → P (far_now i) (near_now i)
   by_ports' P hit sent miss = by_ports (λ e f. P f e) hit sent miss
 
   -- a fact of the two ends that names the port
-  pub by_ports_at : (P : ℕ → End → End → Type 0) → P j here (over g w u j) → P b (still b) there → ((i : ℕ) → At g u i → i ≢ j → i ≢ b → P i (still i) (over g w u i)) → (i : ℕ) → At g u i → P i (near' g wired u lo hi (record (w.at u) { up = Some b; mark = μ }) (put (w.seen u) j (record (w.seen u j) { tree = ms })) ((b, m) ∷ []) w i) (far' g wired u lo hi (record (w.at u) { up = Some b; mark = μ }) (put (w.seen u) j (record (w.seen u j) { tree = ms })) ((b, m) ∷ []) w i)
+  pub by_ports_at : (P : ℕ → End → End → Type 0) → P j here (far_end g w u j) → P b (still b) there → ((i : ℕ) → At g u i → i ≢ j → i ≢ b → P i (still i) (far_end g w u i)) → (i : ℕ) → At g u i → P i (near' g wired u lo hi (record (w.at u) { up = Some b; mark = μ }) (put (w.seen u) j (record (w.seen u j) { tree = ms })) ((b, m) ∷ []) w i) (far' g wired u lo hi (record (w.at u) { up = Some b; mark = μ }) (put (w.seen u) j (record (w.seen u j) { tree = ms })) ((b, m) ∷ []) w i)
   unfolding own ss
   by_ports_at P hit sent miss i at' = ⊎_elim left (λ ne. ⊎_elim taken (λ ne'. subst₂ (P i) (sym (near_still i ne)) (sym (far_onto i ne')) (miss i at' ne ne')) (cases_eq i b)) (cases_eq i j)
     where
@@ -137,10 +134,10 @@ module _ (g : Network) (wired : IsWired g) (u : ℕ) (lo : 1 ≤ u) (hi : u ≤ 
     best_port = fits.best_port;
   }
 
-  link_at : (i : ℕ) → At g u i → LinkFits (NamesOf g w) (end g w u i) (over g w u i)
+  link_at : (i : ℕ) → At g u i → LinkFits (NamesOf g w) (end g w u i) (far_end g w u i)
   link_at i at' = at_near g wired w (LinkFits (NamesOf g w)) holds.links u i at'
 
-  link_at' : (i : ℕ) → At g u i → LinkFits (NamesOf g w) (over g w u i) (end g w u i)
+  link_at' : (i : ℕ) → At g u i → LinkFits (NamesOf g w) (far_end g w u i) (end g w u i)
   link_at' i at' = at_far g wired w (LinkFits (NamesOf g w)) holds.links u i at'
 
   way_else : (i : ℕ) → i ≢ j → (w.at u).up ≢ Some i
@@ -153,19 +150,19 @@ module _ (g : Network) (wired : IsWired g) (u : ℕ) (lo : 1 ≤ u) (hi : u ≤ 
   away z = apart (sym z)
 
   -- the links but those of ports j and b
-  link_aside : (i : ℕ) → At g u i → i ≢ j → i ≢ b → LinkFits (NamesOf g w) (still i) (over g w u i)
+  link_aside : (i : ℕ) → At g u i → i ≢ j → i ≢ b → LinkFits (NamesOf g w) (still i) (far_end g w u i)
   link_aside i at' ne ne' =
       let h = link_at i at' in
       let e = tree_end (end g w u i) in
-      let f = tree_end (over g w u i) in
-      subst (λ k. LinkFits (NamesOf g w) (record { port = i; key = (port_at g u i).key; mark = k; is = goes; seen = w.seen u i }) (over g w u i)) (sym (same i ne')) (record { tree = tree_aside e f (Some b) (way_else i ne) (way_not i ne') h.tree; search = search_turns e f (Some b) e.tree f.tree h.search; tests = h.tests })
+      let f = tree_end (far_end g w u i) in
+      subst (λ k. LinkFits (NamesOf g w) (record { port = i; key = (port_at g u i).key; mark = k; is = goes; seen = w.seen u i }) (far_end g w u i)) (sym (same i ne')) (record { tree = tree_aside e f (Some b) (way_else i ne) (way_not i ne') h.tree; search = search_turns e f (Some b) e.tree f.tree h.search; tests = h.tests })
 
-  link_aside' : (i : ℕ) → At g u i → i ≢ j → i ≢ b → LinkFits (NamesOf g w) (over g w u i) (still i)
+  link_aside' : (i : ℕ) → At g u i → i ≢ j → i ≢ b → LinkFits (NamesOf g w) (far_end g w u i) (still i)
   link_aside' i at' ne ne' =
       let h = link_at' i at' in
       let e = tree_end (end g w u i) in
-      let f = tree_end (over g w u i) in
-      subst (λ k. LinkFits (NamesOf g w) (over g w u i) (record { port = i; key = (port_at g u i).key; mark = k; is = goes; seen = w.seen u i })) (sym (same i ne')) (record { tree = tree_aside' e f (Some b) (way_else i ne) (way_not i ne') h.tree; search = search_turns' e f (Some b) e.tree f.tree h.search; tests = h.tests })
+      let f = tree_end (far_end g w u i) in
+      subst (λ k. LinkFits (NamesOf g w) (far_end g w u i) (record { port = i; key = (port_at g u i).key; mark = k; is = goes; seen = w.seen u i })) (sym (same i ne')) (record { tree = tree_aside' e f (Some b) (way_else i ne) (way_not i ne') h.tree; search = search_turns' e f (Some b) e.tree f.tree h.search; tests = h.tests })
 
   -- the old root link
   inside : IsJoinedIn g (forest w) u j
@@ -180,19 +177,19 @@ module _ (g : Network) (wired : IsWired g) (u : ℕ) (lo : 1 ≤ u) (hi : u ≤ 
   lag' : (w.at (far g u j)).head.level ≤ (w.at u).head.level
   lag' = let a = root.top in let c = root.top' in omega (arith, a, c)
 
-  link_left : LinkFits (NamesOf g w) here (over g w u j)
+  link_left : LinkFits (NamesOf g w) here (far_end g w u j)
   link_left =
       let h = link_at j at in
       let e = tree_end (end g w u j) in
-      let f = tree_end (over g w u j) in
-      subst (λ k. LinkFits (NamesOf g w) (record { port = j; key = (port_at g u j).key; mark = k; is = goes; seen = rest }) (over g w u j)) (sym (same j away)) (record { tree = tree_leaves e f (Some b) ms root.rest (way_not j away) root.joins root.up_beyond root.in_branch root.top lag' found' root.left h.tree; search = search_turns e f (Some b) ms f.tree h.search; tests = h.tests })
+      let f = tree_end (far_end g w u j) in
+      subst (λ k. LinkFits (NamesOf g w) (record { port = j; key = (port_at g u j).key; mark = k; is = goes; seen = rest }) (far_end g w u j)) (sym (same j away)) (record { tree = tree_leaves e f (Some b) ms root.rest (way_not j away) root.joins root.up_beyond root.in_branch root.top lag' found' root.left h.tree; search = search_turns e f (Some b) ms f.tree h.search; tests = h.tests })
 
-  link_left' : LinkFits (NamesOf g w) (over g w u j) here
+  link_left' : LinkFits (NamesOf g w) (far_end g w u j) here
   link_left' =
       let h = link_at' j at in
       let e = tree_end (end g w u j) in
-      let f = tree_end (over g w u j) in
-      subst (λ k. LinkFits (NamesOf g w) (over g w u j) (record { port = j; key = (port_at g u j).key; mark = k; is = goes; seen = rest })) (sym (same j away)) (record { tree = tree_leaves' e f (Some b) ms root.rest (way_not j away) root.joins root.up_beyond root.in_branch root.top lag' found' root.left h.tree; search = search_turns' e f (Some b) ms f.tree h.search; tests = h.tests })
+      let f = tree_end (far_end g w u j) in
+      subst (λ k. LinkFits (NamesOf g w) (far_end g w u j) (record { port = j; key = (port_at g u j).key; mark = k; is = goes; seen = rest })) (sym (same j away)) (record { tree = tree_leaves' e f (Some b) ms root.rest (way_not j away) root.joins root.up_beyond root.in_branch root.top lag' found' root.left h.tree; search = search_turns' e f (Some b) ms f.tree h.search; tests = h.tests })
 
   -- all links but b's
   pub near_aside : (i : ℕ) → At g u i → i ≢ b →
@@ -211,34 +208,34 @@ module _ (g : Network) (wired : IsWired g) (u : ℕ) (lo : 1 ≤ u) (hi : u ≤ 
       left e = subst (λ y. LinkFits (NamesOf g w) (far_now y) (near_now y)) (sym e) (subst₂ (LinkFits (NamesOf g w)) (sym (far_onto j away)) (sym near_here) link_left')
 
   -- nobody owes u a Report
-  owed_none : (i : ℕ) → At g u i → i ≢ j → owes (end g w u i) (over g w u i) ≡ false
+  owed_none : (i : ℕ) → At g u i → i ≢ j → owes (end g w u i) (far_end g w u i) ≡ false
   owed_none i at' ne = not_true _ (λ o. let z = owed_finds g wired u lo hi i at' w holds (way_else i ne) o in cc (z, found))
 
   -- u's own sum
   debts_none : (i : ℕ) → At g u i → ◌≡◌ {A = ℕ} (debt (near_now i) (far_now i)) 0
   debts_none =
       by_ports (λ e f. ◌≡◌ {A = ℕ} (debt e f) 0)
-      (debt_none here (over g w u j) (ap has_report root.rest) (root.quiet.uncalled _ _ (wired.there u j at) (sym one_fragment)) (ap is_find found')) (debt_up (still b) there refl)
-      (λ i at' ne ne'. debt_unowed (still i) (over g w u i) (owed_none i at' ne))
+      (debt_none here (far_end g w u j) (ap has_report root.rest) (root.quiet.uncalled _ _ (wired.there u j at) (sym one_fragment)) (ap is_find found')) (debt_up (still b) there refl)
+      (λ i at' ne ne'. debt_unowed (still i) (far_end g w u i) (owed_none i at' ne))
 
   no_count : ◌≡◌ {A = ℕ} (w.at u).head.find_count 0
   no_count = (fits.idle (λ e. cc (e, found))).1
 
   -- find_count
-  pub counts : debt there (still b) ≡ debt (over g w u b) (end g w u b) → DebtsCounted g then
+  pub counts : debt there (still b) ≡ debt (far_end g w u b) (end g w u b) → DebtsCounted g then
   unfolding own ss
   counts sent = sums_after g wired u lo hi goes own ss w holds.counted (no_count ∙ sym (sum_zero (length (g.ports u)) _ (λ i lt. debts_none i (record { some = lo; node = hi; port = lt })))) theirs
     where
-      theirs : (i : ℕ) → At g u i → debt (far_now i) (near_now i) ≡ debt (over g w u i) (end g w u i)
+      theirs : (i : ℕ) → At g u i → debt (far_now i) (near_now i) ≡ debt (far_end g w u i) (end g w u i)
       theirs i at' = ⊎_elim left (λ ne. ⊎_elim taken (λ ne'. ap₂ debt (far_onto i ne') (near_still i ne)) (cases_eq i b)) (cases_eq i j)
         where
-          left : i ≡ j → debt (far_now i) (near_now i) ≡ debt (over g w u i) (end g w u i)
+          left : i ≡ j → debt (far_now i) (near_now i) ≡ debt (far_end g w u i) (end g w u i)
           left e =
-              subst (λ y. debt (far_now y) (near_now y) ≡ debt (over g w u y) (end g w u y)) (sym e)
-              (ap₂ debt (far_onto j away) near_here ∙ debt_up (over g w u j) here root.up_beyond ∙ sym (debt_up (over g w u j) (end g w u j) root.up_beyond))
+              subst (λ y. debt (far_now y) (near_now y) ≡ debt (far_end g w u y) (end g w u y)) (sym e)
+              (ap₂ debt (far_onto j away) near_here ∙ debt_up (far_end g w u j) here root.up_beyond ∙ sym (debt_up (far_end g w u j) (end g w u j) root.up_beyond))
 
-          taken : i ≡ b → debt (far_now i) (near_now i) ≡ debt (over g w u i) (end g w u i)
-          taken e = subst (λ y. debt (far_now y) (near_now y) ≡ debt (over g w u y) (end g w u y)) (sym e) (ap₂ debt far_there (near_still b apart) ∙ sent)
+          taken : i ≡ b → debt (far_now i) (near_now i) ≡ debt (far_end g w u i) (end g w u i)
+          taken e = subst (λ y. debt (far_now y) (near_now y) ≡ debt (far_end g w u y) (end g w u y)) (sym e) (ap₂ debt far_there (near_still b apart) ∙ sent)
 
   -- quiet fragments stay quiet
   pub quiet_still : (a : ℕ) → Quiet g w a → Quiet g then a
@@ -301,7 +298,7 @@ module _ (g : Network) (wired : IsWired g) (u : ℕ) (lo : 1 ≤ u) (hi : u ≤ 
     names_now a k n = subst (λ s. Names g s a k) (sym forest_now) (names_turn g wired (forest w) u b branches turns holds.trees a k n)
 
     -- all together
-    pub reroutes : LinkFits (NamesOf g w) (still b) there → LinkFits (NamesOf g w) there (still b) → debt there (still b) ≡ debt (over g w u b) (end g w u b) → Invariant g then
+    pub reroutes : LinkFits (NamesOf g w) (still b) there → LinkFits (NamesOf g w) there (still b) → debt there (still b) ≡ debt (far_end g w u b) (end g w u b) → Invariant g then
     unfolding own ss
     reroutes sent sent' owing = record {
       nodes = node_after g wired u lo hi goes own ss w NodeFits holds.nodes node;

@@ -9,7 +9,7 @@ use Rattle.ghs_node.specs.declared.message.Message.{Message}
 use Rattle.ghs_node.specs.declared.message.Message.TheVariants.{Connect, ChangeRoot}
 use Rattle.ghs_protocol.specs.Network.{Network, port_at, At, far, far_port, IsWired, InNetwork}
 use Rattle.ghs_protocol.specs.Net.{put}
-use Rattle.ghs_protocol.proofs.clauses.World.{Seen, add, Member, World, End, TreeEnd, tree_end, end, acts}
+use Rattle.ghs_protocol.proofs.clauses.Scene.{Seen, add, Member, Scene, End, TreeEnd, tree_end, end, acts, far_end}
 use Rattle.ghs_protocol.proofs.clauses.Links.{Joins}
 use Rattle.ghs_protocol.proofs.clauses.TreeMessages.{ConnectUnderWay}
 use Rattle.ghs_protocol.proofs.clauses.Nodes.{NodeFits}
@@ -18,11 +18,10 @@ use Rattle.ghs_protocol.proofs.clauses.Wiring.{IsKeyed}
 use Rattle.ghs_protocol.proofs.clauses.Uniting.{SendsRoot, meet}
 use Rattle.ghs_protocol.proofs.clauses.Whole.{LinkFits, Invariant, NamesOf}
 use Rattle.ghs_protocol.proofs.clauses.UnderWay.{ProbeAsks, brought_to, ChildBrought, CoreHeard, Lives}
-use Rattle.ghs_protocol.proofs.lemmas.Updates.{put_same, put_other}
+use Rattle.ghs_protocol.proofs.lemmas.Updates.{put_same, put_other, put_alike}
 use Rattle.ghs_protocol.proofs.acts.Ends.{acts_keeps}
-use Rattle.ghs_protocol.proofs.rest.AtRest.{over}
 use Rattle.ghs_protocol.proofs.root.AtRoot.{AtRoot, at_root, Left, Nothing_left, Report_left}
-use Rattle.ghs_protocol.proofs.root.Sent.{by_ports_at, put_alike}
+use Rattle.ghs_protocol.proofs.root.Sent.{by_ports_at}
 use Rattle.ghs_protocol.proofs.root.Inward.{at_best, best_apart, best_aside, leads_to}
 use Rattle.ghs_protocol.proofs.root.OldLink.{call_append}
 use Rattle.ghs_protocol.proofs.search.FirstReport.{mark_is}
@@ -36,7 +35,7 @@ left_brought : (f : TreeEnd) → Left f → brought_to f.level f.tree ≡ f.leve
 left_brought f (Nothing_left q) = ap (brought_to f.level) q
 left_brought f (Report_left k q b h) = ap (brought_to f.level) q
 
-module _ (g : Network) (wired : IsWired g) (u : ℕ) (lo : 1 ≤ u) (hi : u ≤ g.count) (j : ℕ) (at : At g u j) (w : World) (holds : Invariant g w) (lives : Lives g w) (ms : List Message) (root : AtRoot g w u j ms)
+module _ (g : Network) (wired : IsWired g) (u : ℕ) (lo : 1 ≤ u) (hi : u ≤ g.count) (j : ℕ) (at : At g u j) (w : Scene) (holds : Invariant g w) (lives : Lives g w) (ms : List Message) (root : AtRoot g w u j ms)
     (b : ℕ) (atb : At g u b) (apart : b ≢ j) (μ : ℕ → Mark) (to : μ b ≡ Branch) (same : (i : ℕ) → i ≢ b → μ i ≡ (w.at u).mark i) (m : Message)
     (no_call : (q : Seen) → has_call q.tree ≡ false → has_call (add q m).tree ≡ false) (tree : (q : Seen) → add q m ≡ record q { tree = (add q m).tree })
     -- over the new root link nobody is a child, and it hasn't the coming name
@@ -55,7 +54,7 @@ module _ (g : Network) (wired : IsWired g) (u : ℕ) (lo : 1 ≤ u) (hi : u ≤ 
   here = record { port = j; key = (port_at g u j).key; mark = μ j; is = record (w.at u) { up = Some b; mark = μ }; seen = record (w.seen u j) { tree = ms } }
 
   abbrev there : End
-  there = record (over g w u b) { seen = record (w.seen (far g u b) (far_port g u b)) { tree = (add (w.seen (far g u b) (far_port g u b)) m).tree } }
+  there = record (far_end g w u b) { seen = record (w.seen (far g u b) (far_port g u b)) { tree = (add (w.seen (far g u b) (far_port g u b)) m).tree } }
 
   not_way : (i : ℕ) → i ≢ b → Some b ≢ Some i
   not_way i ne e = ne (sym (same_Some b i e))
@@ -68,32 +67,32 @@ module _ (g : Network) (wired : IsWired g) (u : ℕ) (lo : 1 ≤ u) (hi : u ≤ 
 
   moves :
       (P : End → End → Type 0) → ((v p : ℕ) → At g v p → P (end g w v p) (end g w (far g v p) (far_port g v p))) →
-      P here (over g w u j) → P (over g w u j) here → P (still b) there → P there (still b) →
-      ((i : ℕ) → At g u i → i ≢ j → i ≢ b → P (still i) (over g w u i)) → ((i : ℕ) → At g u i → i ≢ j → i ≢ b → P (over g w u i) (still i)) →
+      P here (far_end g w u j) → P (far_end g w u j) here → P (still b) there → P there (still b) →
+      ((i : ℕ) → At g u i → i ≢ j → i ≢ b → P (still i) (far_end g w u i)) → ((i : ℕ) → At g u i → i ≢ j → i ≢ b → P (far_end g w u i) (still i)) →
       (v p : ℕ) → At g v p → P (end g (acts g u x own ((b, m) ∷ []) w) v p) (end g (acts g u x own ((b, m) ∷ []) w) (far g v p) (far_port g v p))
   moves P all hit hit' sent sent' miss miss' =
       acts_keeps g wired u lo hi x own ((b, m) ∷ []) w P all
-      (by_ports_at g wired u lo hi j at w holds ms root b atb apart μ to same m no_call (λ i e f. P e f) hit (subst (λ q. P (still b) (record (over g w u b) { seen = q })) (sym (tree (w.seen (far g u b) (far_port g u b)))) sent) miss)
-      (by_ports_at g wired u lo hi j at w holds ms root b atb apart μ to same m no_call (λ i e f. P f e) hit' (subst (λ q. P (record (over g w u b) { seen = q }) (still b)) (sym (tree (w.seen (far g u b) (far_port g u b)))) sent') miss')
+      (by_ports_at g wired u lo hi j at w holds ms root b atb apart μ to same m no_call (λ i e f. P e f) hit (subst (λ q. P (still b) (record (far_end g w u b) { seen = q })) (sym (tree (w.seen (far g u b) (far_port g u b)))) sent) miss)
+      (by_ports_at g wired u lo hi j at w holds ms root b atb apart μ to same m no_call (λ i e f. P f e) hit' (subst (λ q. P (record (far_end g w u b) { seen = q }) (still b)) (sym (tree (w.seen (far g u b) (far_port g u b)))) sent') miss')
 
   pub moves_lives : Lives g (acts g u (record (w.at u) { up = Some b; mark = μ }) (put (w.seen u) j (record (w.seen u j) { tree = ms })) ((b, m) ∷ []) w)
   moves_lives = record {
     asks = moves ProbeAsks lives.asks (mine j at) (theirs j at) (mine b atb) (theirs b atb) (λ i at' ne ne'. mine i at') (λ i at' ne ne'. theirs i at');
     brought =
-        moves ChildBrought lives.brought (λ c. absurd (not_way j away c.2)) (λ c. left_brought (tree_end (over g w u j)) root.left ∙ root.top' ∙ sym root.top) (λ c. absurd (c.3 (unchild c.1))) (λ c. absurd (c.3 refl))
+        moves ChildBrought lives.brought (λ c. absurd (not_way j away c.2)) (λ c. left_brought (tree_end (far_end g w u j)) root.left ∙ root.top' ∙ sym root.top) (λ c. absurd (c.3 (unchild c.1))) (λ c. absurd (c.3 refl))
         (λ i at' ne ne' c. absurd (not_way i ne' c.2)) (λ i at' ne ne' c. far_brought g wired u lo hi j at w holds lives i at' (c.0, sym (same i ne') ∙ c.1, c.2, was_not i ne));
     heard =
         moves CoreHeard lives.heard (λ c. absurd (not_way j away c.2)) (λ c. absurd (not_way j away c.3)) (λ c. absurd (unnamed c.1 c.4)) (λ c. absurd (unnamed' c.0 c.4))
         (λ i at' ne ne' c. absurd (not_way i ne' c.2)) (λ i at' ne ne' c. absurd (not_way i ne' c.3));
   }
     where
-      mine : (i : ℕ) → (at' : At g u i) → ProbeAsks (end g w u i) (over g w u i)
+      mine : (i : ℕ) → (at' : At g u i) → ProbeAsks (end g w u i) (far_end g w u i)
       mine i at' = near_asks g wired u lo hi j at w holds lives i at'
 
-      theirs : (i : ℕ) → (at' : At g u i) → ProbeAsks (over g w u i) (end g w u i)
+      theirs : (i : ℕ) → (at' : At g u i) → ProbeAsks (far_end g w u i) (end g w u i)
       theirs i at' = far_asks g wired u lo hi j at w holds lives i at'
 
-module _ (g : Network) (wired : IsWired g) (u : ℕ) (lo : 1 ≤ u) (hi : u ≤ g.count) (w : World) (holds : Invariant g w) (lives : Lives g w) (j : ℕ) (at : At g u j) (ms : List Message) (b : ℕ) (k : Key) (calls : SendsRoot w u j ms) (best : (w.at u).head.best ≡ Some (b, k)) where
+module _ (g : Network) (wired : IsWired g) (u : ℕ) (lo : 1 ≤ u) (hi : u ≤ g.count) (w : Scene) (holds : Invariant g w) (lives : Lives g w) (j : ℕ) (at : At g u j) (ms : List Message) (b : ℕ) (k : Key) (calls : SendsRoot w u j ms) (best : (w.at u).head.best ≡ Some (b, k)) where
   root : AtRoot g w u j ms
   root = at_root g wired u lo hi j at w holds ms calls
 
@@ -106,15 +105,15 @@ module _ (g : Network) (wired : IsWired g) (u : ℕ) (lo : 1 ≤ u) (hi : u ≤ 
   apart : b ≢ j
   apart = best_apart g wired u lo hi j at w holds ms root b k best
 
-  link : LinkFits (NamesOf g w) (end g w u b) (over g w u b)
+  link : LinkFits (NamesOf g w) (end g w u b) (far_end g w u b)
   link = link_fits g wired w holds u b atb
 
-  link' : LinkFits (NamesOf g w) (over g w u b) (end g w u b)
+  link' : LinkFits (NamesOf g w) (far_end g w u b) (end g w u b)
   link' = link_fits' g wired w holds u b atb
 
   -- the root moves on over a Branch link
   module _ (mark : (w.at u).mark b ≡ Branch) where
-    joins : Joins (tree_end (end g w u b)) (tree_end (over g w u b))
+    joins : Joins (tree_end (end g w u b)) (tree_end (far_end g w u b))
     joins = ⊎_elim (λ h. record { here = mark; there = h }) (λ h. absurd (best_aside g wired u lo hi j at w holds ms root b k best ((link.tree.out_connect (record { here = mark; there = h })).up))) (mark_is ((w.at (far g u b)).mark (far_port g u b)))
 
     ghosts : ((w.at (far g u b)).coming ≡ (w.at u).coming) × ((w.at (far g u b)).coming_name ≡ (w.at u).coming_name)
@@ -141,10 +140,10 @@ module _ (g : Network) (wired : IsWired g) (u : ℕ) (lo : 1 ≤ u) (hi : u ≤ 
 
     -- and meets the Connect of the far end
     module _ (keyed : IsKeyed g) (mark' : (w.at (far g u b)).mark (far_port g u b) ≡ Branch) where
-      abbrev mid : World
+      abbrev mid : Scene
       mid = acts g u (record (w.at u) { up = Some b; mark = put (w.at u).mark b Branch }) (put (w.seen u) j (record (w.seen u j) { tree = ms })) ((b, Connect (w.at u).head.level) ∷ []) w
 
-      came : ConnectUnderWay (tree_end (over g w u b)) (tree_end (end g w u b))
+      came : ConnectUnderWay (tree_end (far_end g w u b)) (tree_end (end g w u b))
       came = link'.tree.out_connect (record { here = mark'; there = mark })
 
       level_is : (t : ℕ) → (mid.at t).head.level ≡ (w.at t).head.level

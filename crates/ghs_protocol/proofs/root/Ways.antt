@@ -6,7 +6,7 @@ use Rattle.ghs_graph.specs.declared.key.Key.{Key}
 use Rattle.ghs_protocol.specs.Network.{Network, At, far, far_port, IsWired}
 use Rattle.ghs_protocol.specs.Net.{put}
 use Rattle.ghs_protocol.specs.Marks.{Leads, Here, Over}
-use Rattle.ghs_protocol.proofs.clauses.World.{Forest}
+use Rattle.ghs_protocol.proofs.clauses.Scene.{Forest}
 use Rattle.ghs_protocol.proofs.clauses.Fragments.{IsJoinedIn, Names, ForestFits, Root, Goes_out, Both_ways, Reach, At_root, By_step}
 use Rattle.ghs_protocol.proofs.lemmas.Updates.{put_same, put_other}
 

@@ -14,7 +14,7 @@ use Rattle.ghs_node.proofs.lemmas.{basic_is}
 use Rattle.ghs_protocol.proofs.clauses.Wiring.{IsOrdered}
 use Rattle.ghs_protocol.specs.Network.{Network, At, IsWired, InNetwork}
 use Rattle.ghs_protocol.specs.Net.{put}
-use Rattle.ghs_protocol.proofs.clauses.World.{Seen, Member, World, acts}
+use Rattle.ghs_protocol.proofs.clauses.Scene.{Seen, Member, Scene, acts}
 use Rattle.ghs_protocol.proofs.clauses.Nodes.{NodeFits, Searching}
 use Rattle.ghs_protocol.proofs.clauses.Floors.{Floors, ScansInOrder, Sound, Nearly}
 use Rattle.ghs_protocol.proofs.clauses.UnderWay.{Lives}
@@ -63,7 +63,7 @@ module _ (g : Network) (wired : IsWired g) (ordered : IsOrdered g) (v : ℕ) (lo
   is = record { some = lo; node = hi }
 
   -- the ending alone
-  ends_so : (w : World) → (n : Nearly g w v) → (e : Ending) → (w.at v).head.phase ≡ Find → EndsSo g v (w.at v) e → Sound g (acts g v (ended (w.at v) e) (w.seen v) (last_sends (w.at v).head e) w)
+  ends_so : (w : Scene) → (n : Nearly g w v) → (e : Ending) → (w.at v).head.phase ≡ Find → EndsSo g v (w.at v) e → Sound g (acts g v (ended (w.at v) e) (w.seen v) (last_sends (w.at v).head e) w)
   ends_so w n _ finds (Tests_least p none basic least) = record {
     first = ends_alone g wired v lo hi w n.first (Probing p) finds (Tests_next p none basic);
     floor = n.floor;
@@ -107,13 +107,13 @@ module _ (g : Network) (wired : IsWired g) (ordered : IsOrdered g) (v : ℕ) (lo
 
   -- the reaction with its ending, as one act
   pub ends_after_so :
-      (x : Member) (own : ℕ → Seen) (ss : Outgoing) (w : World) → Nearly g (acts g v x own ss w) v → (e : Ending) → x.head.phase ≡ Find →
+      (x : Member) (own : ℕ → Seen) (ss : Outgoing) (w : Scene) → Nearly g (acts g v x own ss w) v → (e : Ending) → x.head.phase ≡ Find →
       EndsSo g v x e → Sound g (acts g v (ended x e) own (ss ++ last_sends x.head e) w)
   ends_after_so x own ss w n e finds by =
       subst (Sound g) (sym (acts_split g v (ended x e) x own ss (last_sends x.head e) w))
       (subst (λ (m : Member). Sound g (acts g v (ended m e) (mid.seen v) (last_sends m.head e) mid)) is_x (ends_so mid n e (ap (λ (m : Member). m.head.phase) is_x ∙ finds) (subst (λ (m : Member). EndsSo g v m e) (sym is_x) by)))
     where
-      mid : World
+      mid : Scene
       mid = acts g v x own ss w
 
       is_x : mid.at v ≡ x

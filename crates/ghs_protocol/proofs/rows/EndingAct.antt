@@ -8,7 +8,7 @@ use Rattle.ghs_node.specs.Words.{best_key}
 use Rattle.ghs_node.specs.Reaction.{Ending, Probing, Reporting, Waiting, phase_after, probe_after, last_sends, name_of, core_port}
 use Rattle.ghs_protocol.specs.Network.{Network, At, IsWired}
 use Rattle.ghs_protocol.specs.Net.{put}
-use Rattle.ghs_protocol.proofs.clauses.World.{Seen, Member, World, acts}
+use Rattle.ghs_protocol.proofs.clauses.Scene.{Seen, Member, Scene, acts}
 use Rattle.ghs_protocol.proofs.clauses.Nodes.{NodeFits, Searching}
 use Rattle.ghs_protocol.proofs.clauses.Whole.{Invariant}
 use Rattle.ghs_protocol.proofs.acts.Reactions.{put_again}
@@ -39,7 +39,7 @@ module _ (g : Network) (wired : IsWired g) (v : ℕ) (lo : 1 ≤ v) (hi : v ≤ 
 
   -- the ending alone
   pub ends_alone :
-      (w : World) → Invariant g w → (e : Ending) → (w.at v).head.phase ≡ Find → EndsBy (w.at v) e →
+      (w : Scene) → Invariant g w → (e : Ending) → (w.at v).head.phase ≡ Find → EndsBy (w.at v) e →
       Invariant g (acts g v (ended (w.at v) e) (w.seen v) (last_sends (w.at v).head e) w)
   ends_alone w holds _ finds (Tests_next p none basic) =
       subst (λ (q : ℕ → Seen). Invariant g (acts g v (ended (w.at v) (Probing p)) q (last_sends (w.at v).head (Probing p)) w))

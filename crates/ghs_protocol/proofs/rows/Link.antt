@@ -1,25 +1,24 @@
--- A message that is taken for good: what is known of its link, and the way from the act of the world to the net after the row.
+-- A message that is taken for good: what is known of its link, and the way from the act of the scene to the net after the row.
 use Rattle.std.proofs.Common.{ℕ, length, ap, ◌⊎◌}
 use Rattle.ghs_node.specs.Words.{is_branch}
 use Rattle.ghs_protocol.specs.Network.{Network, At, IsWired}
-use Rattle.ghs_protocol.proofs.clauses.World.{World, end, tree_end}
+use Rattle.ghs_protocol.proofs.clauses.Scene.{Scene, end, tree_end, far_end}
 use Rattle.ghs_protocol.proofs.clauses.Links.{Joins, Ups}
 use Rattle.ghs_protocol.proofs.clauses.Nodes.{NodeFits}
 use Rattle.ghs_protocol.proofs.clauses.Whole.{Invariant, LinkFits, NamesOf}
 use Rattle.ghs_protocol.proofs.acts.OneLink.{at_near, at_far}
-use Rattle.ghs_protocol.proofs.rest.AtRest.{over}
 
 -- a node, and the link at one of its ports
-module _ (g : Network) (wired : IsWired g) (w : World) (holds : Invariant g w) (v p : ℕ) (at : At g v p) where
+module _ (g : Network) (wired : IsWired g) (w : Scene) (holds : Invariant g w) (v p : ℕ) (at : At g v p) where
   pub node_fits : NodeFits (length (g.ports v)) (w.at v)
   node_fits = holds.nodes v (record { some = at.some; node = at.node })
 
-  pub link_fits : LinkFits (NamesOf g w) (end g w v p) (over g w v p)
+  pub link_fits : LinkFits (NamesOf g w) (end g w v p) (far_end g w v p)
   link_fits = at_near g wired w (LinkFits (NamesOf g w)) holds.links v p at
 
-  pub link_fits' : LinkFits (NamesOf g w) (over g w v p) (end g w v p)
+  pub link_fits' : LinkFits (NamesOf g w) (far_end g w v p) (end g w v p)
   link_fits' = at_far g wired w (LinkFits (NamesOf g w)) holds.links v p at
 
   -- a joined link is the way of one of its ends
-  pub link_leads : Joins (tree_end (end g w v p)) (tree_end (over g w v p)) → Ups (tree_end (end g w v p)) ⊎ Ups (tree_end (over g w v p))
+  pub link_leads : Joins (tree_end (end g w v p)) (tree_end (far_end g w v p)) → Ups (tree_end (end g w v p)) ⊎ Ups (tree_end (far_end g w v p))
   link_leads j = holds.trees.joined_lead v p at (record { here = ap is_branch j.here; there = ap is_branch j.there })

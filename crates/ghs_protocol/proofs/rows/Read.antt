@@ -17,7 +17,7 @@ use Rattle.ghs_protocol.specs.Network.{Network, port_at}
 use Rattle.ghs_graph.specs.Ports.{no_port}
 use Rattle.ghs_protocol.specs.Net.{put}
 use Rattle.ghs_protocol.specs.Nodes.{IsNodeOf}
-use Rattle.ghs_protocol.proofs.clauses.World.{Seen, unseen, add, see}
+use Rattle.ghs_protocol.proofs.clauses.Scene.{Seen, unseen, add, see}
 use Rattle.ghs_protocol.proofs.lemmas.Updates.{put_same, put_other}
 use Rattle.ghs_protocol.proofs.acts.AsRead.{both, same_seen, see_first}
 use Rattle.ghs_protocol.proofs.acts.Reactions.{put_again}

@@ -10,7 +10,7 @@ use Rattle.ghs_node.specs.declared.message.Message.TheVariants.{Connect, Initiat
 use Rattle.ghs_node.specs.Words.{below, better, best_key, find_more, on_branches}
 use Rattle.ghs_protocol.specs.Network.{Network, port_at, At, far, far_port, IsWired, InNetwork}
 use Rattle.ghs_protocol.specs.Net.{put}
-use Rattle.ghs_protocol.proofs.clauses.World.{Member, World, acts}
+use Rattle.ghs_protocol.proofs.clauses.Scene.{Member, Scene, acts}
 use Rattle.ghs_protocol.proofs.clauses.Wiring.{IsKeyed, IsOrdered}
 use Rattle.ghs_protocol.proofs.clauses.Uniting.{MarksAre, SendsRoot, relabel, meet, absorb}
 use Rattle.ghs_protocol.proofs.clauses.Floors.{ScansInOrder, AllScan, Sound, Nearly}
@@ -57,7 +57,7 @@ basic_was f j q e = ⊎_elim (λ (z : q ≡ j). absurd (not_basic (f j) (sym (pu
 basic_still : (f : ℕ → Mark) (j q : ℕ) → put f j Branch q ≡ Basic → f q ≡ Basic
 basic_still f j q e = ⊎_elim (λ (z : q ≡ j). absurd (let y = sym (put_same f j Branch) ∙ subst (λ y. put f j Branch y ≡ Basic) z e in cc)) (λ ne. sym (put_other f j q Branch ne) ∙ e) (cases_eq q j)
 
-scans_relabel : (g : Network) (c a l : ℕ) (n : Option Key) (w : World) → AllScan g w → AllScan g (relabel c a l n w)
+scans_relabel : (g : Network) (c a l : ℕ) (n : Option Key) (w : Scene) → AllScan g w → AllScan g (relabel c a l n w)
 scans_relabel g c a l n w h v is = subst (ScansInOrder g v) (sym (joining_as c a l n (w.at v))) (let s = h v is in record { probing = s.probing; done = s.done })
 
 -- after an act of u
@@ -67,7 +67,7 @@ now_but g u x at h v is ne = subst (ScansInOrder g v) (sym (put_other at u v x n
 now : (g : Network) (u : ℕ) (x : Member) (at : ℕ → Member) → ((v : ℕ) → InNetwork g v → ScansInOrder g v (at v)) → ScansInOrder g u x → (v : ℕ) → InNetwork g v → ScansInOrder g v (put at u x v)
 now g u x at h here v is = ⊎_elim (λ (e : v ≡ u). subst (λ y. ScansInOrder g y (put at u x y)) (sym e) (subst (ScansInOrder g u) (sym (put_same at u x)) here)) (λ ne. now_but g u x at h v is ne) (cases_eq v u)
 
-module _ (g : Network) (wired : IsWired g) (u : ℕ) (lo : 1 ≤ u) (hi : u ≤ g.count) (j : ℕ) (at : At g u j) (w : World) (s : Sound g w) where
+module _ (g : Network) (wired : IsWired g) (u : ℕ) (lo : 1 ≤ u) (hi : u ≤ g.count) (j : ℕ) (at : At g u j) (w : Scene) (s : Sound g w) where
   here : InNetwork g u
   here = record { some = lo; node = hi }
 
@@ -107,7 +107,7 @@ module _ (g : Network) (wired : IsWired g) (u : ℕ) (lo : 1 ≤ u) (hi : u ≤ 
   pub end_sound : (k : Option Key) (ms : List Message) → (w.seen u j).tree ≡ Report k ∷ ms → (w.at u).head.phase ≡ Found → (b : Bool) → (b ≡ (w.at u).head.halted) ⊎ ((k ≡ None) × ((w.at u).head.best ≡ None)) → below (best_key (w.at u).head.best) k ≡ false → (k ≡ None → (w.at u).head.best ≡ None → b ≡ true) → Sound g (acts g u (record (w.at u) { head = record (w.at u).head { halted = b } }) (put (w.seen u) j (record (w.seen u j) { tree = ms })) [] w)
   end_sound k ms waits rests b why less halts = record { first = report_ends g wired u lo hi j at w s.first k ms waits rests b; floor = s.floor; floors = ends_floors g wired u lo hi j at w s.first k ms waits rests s.floor s.floors b why; scans = now g u (record (w.at u) { head = record (w.at u).head { halted = b } }) w.at s.scans (rests_scan g u (record (w.at u) { head = record (w.at u).head { halted = b } }) (λ e. cc (e, rests))); lives = end_lives g wired u lo hi j at w s.first s.lives k ms waits rests b (⊎_elim (λ e. inl e) (λ z. inr (halts z.0 z.1)) why) less halts }
 
-module _ (g : Network) (wired : IsWired g) (u : ℕ) (lo : 1 ≤ u) (hi : u ≤ g.count) (w : World) (s : Sound g w) (j : ℕ) (at : At g u j) (ms : List Message) where
+module _ (g : Network) (wired : IsWired g) (u : ℕ) (lo : 1 ≤ u) (hi : u ≤ g.count) (w : Scene) (s : Sound g w) (j : ℕ) (at : At g u j) (ms : List Message) where
   this : InNetwork g u
   this = record { some = lo; node = hi }
 
@@ -175,7 +175,7 @@ module _ (g : Network) (wired : IsWired g) (u : ℕ) (lo : 1 ≤ u) (hi : u ≤ 
   }
 
 -- a node wakes
-module _ (g : Network) (wired : IsWired g) (ordered : IsOrdered g) (u : ℕ) (lo : 1 ≤ u) (hi : u ≤ g.count) (w : World) (s : Sound g w) (sleeps : (w.at u).head.phase ≡ Sleeping) where
+module _ (g : Network) (wired : IsWired g) (ordered : IsOrdered g) (u : ℕ) (lo : 1 ≤ u) (hi : u ≤ g.count) (w : Scene) (s : Sound g w) (sleeps : (w.at u).head.phase ≡ Sleeping) where
   abbrev waker : Member
   waker = record (w.at u) { head = record (w.at u).head { level = 0; phase = Found; find_count = 0 }; mark = put (w.at u).mark 0 Branch; up = Some 0 }
 

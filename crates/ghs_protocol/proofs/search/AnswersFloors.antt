@@ -11,7 +11,7 @@ use Rattle.ghs_node.specs.declared.message.Message.{Message}
 use Rattle.ghs_node.specs.declared.message.Message.TheVariants.{Report}
 use Rattle.ghs_protocol.specs.Network.{Network, port_at, At, far, far_port, IsWired, InNetwork}
 use Rattle.ghs_protocol.specs.Net.{put}
-use Rattle.ghs_protocol.proofs.clauses.World.{Seen, Member, World, End, TreeEnd, tree_end, test_end, end, forest, acts}
+use Rattle.ghs_protocol.proofs.clauses.Scene.{Seen, Member, Scene, End, TreeEnd, tree_end, test_end, end, forest, acts, far_end}
 use Rattle.ghs_protocol.proofs.clauses.Links.{Joins, Child, Ups}
 use Rattle.ghs_protocol.proofs.clauses.TreeMessages.{Moved, MovedFits, To_here, To_there, Stage, AtStage, Asking, Called, Begun}
 use Rattle.ghs_protocol.proofs.clauses.Fragments.{IsJoinedIn}
@@ -23,7 +23,6 @@ use Rattle.ghs_protocol.proofs.tests.Links.{accepted_apart}
 use Rattle.ghs_protocol.proofs.acts.Situations.{probing_finds, is_find'}
 use Rattle.ghs_protocol.proofs.acts.OneLink.{by_port_at, sends_none}
 use Rattle.ghs_protocol.proofs.search.FirstReport.{Heard, heard_first}
-use Rattle.ghs_protocol.proofs.rest.AtRest.{over}
 use Rattle.ghs_protocol.proofs.rest.Halt.{Back, Old, Half, back, owed_finds}
 use Rattle.ghs_protocol.proofs.search.Answers.{better_at}
 use Rattle.ghs_protocol.proofs.rows.Link.{link_fits, link_fits', link_leads}
@@ -31,7 +30,7 @@ use Rattle.ghs_protocol.proofs.acts.Floors.{near_fits, far_fits, lower_on, lower
 use Rattle.ghs_protocol.proofs.search.CloseFloors.{nodes_after, links_after, in_tree_after, halted_after, halted_more}
 
 -- One link is touched, and nothing is sent.
-module _ (g : Network) (wired : IsWired g) (u : ℕ) (lo : 1 ≤ u) (hi : u ≤ g.count) (x : Member) (j : ℕ) (at : At g u j) (q : Seen) (w : World) (floor : ℕ → Floor) (floors : Floors g w floor) where
+module _ (g : Network) (wired : IsWired g) (u : ℕ) (lo : 1 ≤ u) (hi : u ≤ g.count) (x : Member) (j : ℕ) (at : At g u j) (q : Seen) (w : Scene) (floor : ℕ → Floor) (floors : Floors g w floor) where
   abbrev pub still : ℕ → End
   still i = record { port = i; key = (port_at g u i).key; mark = x.mark i; is = x; seen = w.seen u i }
 
@@ -39,8 +38,8 @@ module _ (g : Network) (wired : IsWired g) (u : ℕ) (lo : 1 ≤ u) (hi : u ≤ 
   here = record { port = j; key = (port_at g u j).key; mark = x.mark j; is = x; seen = q }
 
   pub hears_floors :
-      FloorsAt here (over g w u j) (floor u) (floor (far g u j)) → FloorsAt (over g w u j) here (floor (far g u j)) (floor u) →
-      ((i : ℕ) → At g u i → i ≢ j → FloorsAt (still i) (over g w u i) (floor u) (floor (far g u i))) → ((i : ℕ) → At g u i → i ≢ j → FloorsAt (over g w u i) (still i) (floor (far g u i)) (floor u)) →
+      FloorsAt here (far_end g w u j) (floor u) (floor (far g u j)) → FloorsAt (far_end g w u j) here (floor (far g u j)) (floor u) →
+      ((i : ℕ) → At g u i → i ≢ j → FloorsAt (still i) (far_end g w u i) (floor u) (floor (far g u i))) → ((i : ℕ) → At g u i → i ≢ j → FloorsAt (far_end g w u i) (still i) (floor (far g u i)) (floor u)) →
       NodeFloor x (floor u) → ((p : ℕ) → x.mark p ≡ Branch → (w.at u).mark p ≡ Branch) → HaltedIsWhole g (acts g u x (put (w.seen u) j q) [] w) →
       Floors g (acts g u x (put (w.seen u) j q) [] w) floor
   hears_floors hit hit' miss miss' node marks halted =
@@ -55,21 +54,21 @@ module _ (g : Network) (wired : IsWired g) (u : ℕ) (lo : 1 ≤ u) (hi : u ≤ 
       })
 
 -- A Report of the core's other half, or an old one, is heard at rest.
-module _ (g : Network) (wired : IsWired g) (u : ℕ) (lo : 1 ≤ u) (hi : u ≤ g.count) (j : ℕ) (at : At g u j) (w : World) (holds : Invariant g w) (k : Option Key) (ms : List Message) (waits : (w.seen u j).tree ≡ Report k ∷ ms) (rests : (w.at u).head.phase ≡ Found) (floor : ℕ → Floor) (floors : Floors g w floor) where
-  link : LinkFits (NamesOf g w) (end g w u j) (over g w u j)
+module _ (g : Network) (wired : IsWired g) (u : ℕ) (lo : 1 ≤ u) (hi : u ≤ g.count) (j : ℕ) (at : At g u j) (w : Scene) (holds : Invariant g w) (k : Option Key) (ms : List Message) (waits : (w.seen u j).tree ≡ Report k ∷ ms) (rests : (w.at u).head.phase ≡ Found) (floor : ℕ → Floor) (floors : Floors g w floor) where
+  link : LinkFits (NamesOf g w) (end g w u j) (far_end g w u j)
   link = link_fits g wired w holds u j at
 
-  link' : LinkFits (NamesOf g w) (over g w u j) (end g w u j)
+  link' : LinkFits (NamesOf g w) (far_end g w u j) (end g w u j)
   link' = link_fits' g wired w holds u j at
 
-  ways : Joins (tree_end (end g w u j)) (tree_end (over g w u j)) → Ups (tree_end (end g w u j)) ⊎ Ups (tree_end (over g w u j))
+  ways : Joins (tree_end (end g w u j)) (tree_end (far_end g w u j)) → Ups (tree_end (end g w u j)) ⊎ Ups (tree_end (far_end g w u j))
   ways = link_leads g wired w holds u j at
 
   mine : (w.at u).up ≢ Some j → ⊥
   mine ne = let z = owed_finds g wired u lo hi j at w holds ne (rw waits refl) in cc (z, rests)
 
-  came : Back (NamesOf g w (w.at u).fragment) (tree_end (end g w u j)) (tree_end (over g w u j)) k ms
-  came = back (tree_end (end g w u j)) (tree_end (over g w u j)) link.tree link'.tree ways k ms waits mine
+  came : Back (NamesOf g w (w.at u).fragment) (tree_end (end g w u j)) (tree_end (far_end g w u j)) k ms
+  came = back (tree_end (end g w u j)) (tree_end (far_end g w u j)) link.tree link'.tree ways k ms waits mine
 
   not_find : (w.at u).head.phase ≡ Find → ⊥
   not_find e = cc (e, rests)
@@ -77,14 +76,14 @@ module _ (g : Network) (wired : IsWired g) (u : ℕ) (lo : 1 ≤ u) (hi : u ≤ 
   abbrev taken : Bool → End
   taken b = record { port = j; key = (port_at g u j).key; mark = (w.at u).mark j; is = record (w.at u) { head = record (w.at u).head { halted = b } }; seen = record (w.seen u j) { tree = ms } }
 
-  no_moved : Moved (tree_end (end g w u j)) (tree_end (over g w u j)) → MovedFits (tree_end (end g w u j)) (tree_end (over g w u j)) → ⊥
+  no_moved : Moved (tree_end (end g w u j)) (tree_end (far_end g w u j)) → MovedFits (tree_end (end g w u j)) (tree_end (far_end g w u j)) → ⊥
   no_moved c (To_here m) = let z = sym waits ∙ m.queue in cc
   no_moved c (To_there m) = let z = sym waits ∙ m.queue_beyond in cc
 
-  up_only : Child (tree_end (over g w u j)) (tree_end (end g w u j)) → ⊥
+  up_only : Child (tree_end (far_end g w u j)) (tree_end (end g w u j)) → ⊥
   up_only c = mine c.down
 
-  near_taken : (b : Bool) → FloorsAt (taken b) (over g w u j) (floor u) (floor (far g u j))
+  near_taken : (b : Bool) → FloorsAt (taken b) (far_end g w u j) (floor u) (floor (far g u j))
   near_taken b =
       let f = near_fits g wired w holds floor floors u j at in
       record {
@@ -94,11 +93,11 @@ module _ (g : Network) (wired : IsWired g) (u : ℕ) (lo : 1 ≤ u) (hi : u ≤ 
         report = λ r c t. f.report r (record { joins = record { here = c.joins.here; there = c.joins.there }; up = c.up; down = c.down }) t;
         core = λ c y p. f.core (record { both = record { joins = record { here = c.both.joins.here; there = c.both.joins.there }; up = c.both.up; up_beyond = c.both.up_beyond }; named = c.named }) y p;
         out = λ o. f.out (record { here = o.here; there = o.there });
-        moved = λ z t. let m : Moved (tree_end (end g w u j)) (tree_end (over g w u j)) = record { both = record { joins = record { here = z.both.joins.here; there = z.both.joins.there }; up = z.both.up; up_beyond = z.both.up_beyond }; unnamed = z.unnamed } in absurd (no_moved m (link.tree.moved_root m));
+        moved = λ z t. let m : Moved (tree_end (end g w u j)) (tree_end (far_end g w u j)) = record { both = record { joins = record { here = z.both.joins.here; there = z.both.joins.there }; up = z.both.up; up_beyond = z.both.up_beyond }; unnamed = z.unnamed } in absurd (no_moved m (link.tree.moved_root m));
         best = λ y e l z. f.best y e l (record { here = z.here; there = z.there });
       }
 
-  far_taken : (b : Bool) → FloorsAt (over g w u j) (taken b) (floor (far g u j)) (floor u)
+  far_taken : (b : Bool) → FloorsAt (far_end g w u j) (taken b) (floor (far g u j)) (floor u)
   far_taken b =
       let f = far_fits g wired w holds floor floors u j at in
       record {
@@ -121,7 +120,7 @@ module _ (g : Network) (wired : IsWired g) (u : ℕ) (lo : 1 ≤ u) (hi : u ≤ 
       begun e Asking i a = cc
       begun e Called i a = cc
 
-      go : Back (NamesOf g w (w.at u).fragment) (tree_end (end g w u j)) (tree_end (over g w u j)) k ms → (w.at (far g t p)).fragment ≡ (w.at u).fragment
+      go : Back (NamesOf g w (w.at u).fragment) (tree_end (end g w u j)) (tree_end (far_end g w u j)) k ms → (w.at (far g t p)).fragment ≡ (w.at u).fragment
       go (Old c h x) = absurd (let z = h.worse in cc (z, none, best))
       go (Half c z a b n f y) = ⊎_elim (λ e. e) (λ ne. absurd (let l = leads ne in cc)) (cases_eq (w.at (far g t p)).fragment (w.at u).fragment)
         where
@@ -138,7 +137,7 @@ module _ (g : Network) (wired : IsWired g) (u : ℕ) (lo : 1 ≤ u) (hi : u ≤ 
           floor_there =
               (far_fits g wired w holds floor floors u j at).core
               (record { both = record { joins = record { here = c.both.joins.there; there = c.both.joins.here }; up = c.both.up_beyond; up_beyond = c.both.up }; named = ghosts.1 ∙ c.named })
-              (begun (tree_end (over g w u j)) z.there b z.at_there) f ∙ ap Some (y ∙ none)
+              (begun (tree_end (far_end g w u j)) z.there b z.at_there) f ∙ ap Some (y ∙ none)
 
           leads : (w.at (far g t p)).fragment ≢ (w.at u).fragment → lower (Some None) (Some (Some (port_at g t p).key)) ≡ true
           leads = leads_above g wired w holds floor floors u j at inside c.both.up c.both.up_beyond (Some None) (subst (λ v. lower (Some None) v ≡ true) (sym floor_here) refl) (subst (λ v. lower (Some None) v ≡ true) (sym floor_there) refl) (λ e. cc (e, rests)) t p at' same
@@ -211,7 +210,7 @@ module _ (e f : TreeEnd) (b : Best) (a c : Floor) (finds : e.phase ≡ Find) whe
   }
 
 -- a node that searches
-module _ (g : Network) (wired : IsWired g) (u : ℕ) (lo : 1 ≤ u) (hi : u ≤ g.count) (w : World) (holds : Invariant g w) (finds : (w.at u).head.phase ≡ Find) where
+module _ (g : Network) (wired : IsWired g) (u : ℕ) (lo : 1 ≤ u) (hi : u ≤ g.count) (w : Scene) (holds : Invariant g w) (finds : (w.at u).head.phase ≡ Find) where
   its : InNetwork g u
   its = record { some = lo; node = hi }
 
@@ -221,11 +220,11 @@ module _ (g : Network) (wired : IsWired g) (u : ℕ) (lo : 1 ≤ u) (hi : u ≤ 
   restless : Quiet g w (w.at u).fragment → ⊥
   restless q = let z = q.found u its refl in cc (z, finds)
 
-  root_unmoved : (i : ℕ) → At g u i → Moved (tree_end (end g w u i)) (tree_end (over g w u i)) → ⊥
+  root_unmoved : (i : ℕ) → At g u i → Moved (tree_end (end g w u i)) (tree_end (far_end g w u i)) → ⊥
   root_unmoved i at m = restless (holds.resting.moved u i at (record { both = record { joins = record { here = m.both.joins.here; there = m.both.joins.there }; up = m.both.up; up_beyond = m.both.up_beyond }; unnamed = m.unnamed }))
 
 -- An Accept is heard.
-module _ (g : Network) (wired : IsWired g) (u : ℕ) (lo : 1 ≤ u) (hi : u ≤ g.count) (j : ℕ) (at : At g u j) (w : World) (holds : Invariant g w) (a : ℕ) (waits : (w.seen u j).accepts ≡ suc a) (own : (w.at u).head.probe ≡ Some j) (floor : ℕ → Floor) (floors : Floors g w floor) where
+module _ (g : Network) (wired : IsWired g) (u : ℕ) (lo : 1 ≤ u) (hi : u ≤ g.count) (j : ℕ) (at : At g u j) (w : Scene) (holds : Invariant g w) (a : ℕ) (waits : (w.seen u j).accepts ≡ suc a) (own : (w.at u).head.probe ≡ Some j) (floor : ℕ → Floor) (floors : Floors g w floor) where
   finds : (w.at u).head.phase ≡ Find
   finds = probing_finds (holds.nodes u (record { some = lo; node = hi })) own
 
@@ -233,19 +232,19 @@ module _ (g : Network) (wired : IsWired g) (u : ℕ) (lo : 1 ≤ u) (hi : u ≤ 
   b = better (w.at u).head.best j (Some (port_at g u j).key)
 
   apart : (w.at (far g u j)).fragment ≢ (w.at u).fragment
-  apart = (accepted_apart (test_end (end g w u j)) (test_end (over g w u j)) own (link_fits g wired w holds u j at).tests (link_fits' g wired w holds u j at).tests a waits).0
+  apart = (accepted_apart (test_end (end g w u j)) (test_end (far_end g w u j)) own (link_fits g wired w holds u j at).tests (link_fits' g wired w holds u j at).tests a waits).0
 
   -- what is new is no child's
-  news : (i : ℕ) → At g u i → (y : Key) → b ≡ Some (i, y) → Joins (tree_end (end g w u i)) (tree_end (over g w u i)) → ((w.at u).head.best ≡ Some (i, y)) ⊎ (floor (far g u i) ≡ Some (Some y))
+  news : (i : ℕ) → At g u i → (y : Key) → b ≡ Some (i, y) → Joins (tree_end (end g w u i)) (tree_end (far_end g w u i)) → ((w.at u).head.best ≡ Some (i, y)) ⊎ (floor (far g u i) ≡ Some (Some y))
   news i at' y e z =
       ⊎_elim inl (λ t. absurd (apart (subst (λ v. (w.at (far g u v)).fragment ≡ (w.at u).fragment) t.0 (sym (holds.trees.joined_within u i at' (record { here = ap is_branch z.here; there = ap is_branch z.there }))))))
       (better_at (w.at u).head.best j (Some (port_at g u j).key) i y e)
 
-  near_accepts : (i : ℕ) → At g u i → FloorsFit (record (tree_end (end g w u i)) { best = b }) (tree_end (over g w u i)) (floor u) (floor (far g u i))
-  near_accepts i at' = near_best (tree_end (end g w u i)) (tree_end (over g w u i)) b (floor u) (floor (far g u i)) finds (root_unmoved g wired u lo hi w holds finds i at') (news i at') (λ z. at_top g wired u lo hi w holds finds) (at_top g wired u lo hi w holds finds) (near_fits g wired w holds floor floors u i at')
+  near_accepts : (i : ℕ) → At g u i → FloorsFit (record (tree_end (end g w u i)) { best = b }) (tree_end (far_end g w u i)) (floor u) (floor (far g u i))
+  near_accepts i at' = near_best (tree_end (end g w u i)) (tree_end (far_end g w u i)) b (floor u) (floor (far g u i)) finds (root_unmoved g wired u lo hi w holds finds i at') (news i at') (λ z. at_top g wired u lo hi w holds finds) (at_top g wired u lo hi w holds finds) (near_fits g wired w holds floor floors u i at')
 
-  far_accepts : (i : ℕ) → At g u i → FloorsFit (tree_end (over g w u i)) (record (tree_end (end g w u i)) { best = b }) (floor (far g u i)) (floor u)
-  far_accepts i at' = far_best (tree_end (end g w u i)) (tree_end (over g w u i)) b (floor u) (floor (far g u i)) finds (better_lower (w.at u).head.best j (Some (port_at g u j).key)) (far_fits g wired w holds floor floors u i at')
+  far_accepts : (i : ℕ) → At g u i → FloorsFit (tree_end (far_end g w u i)) (record (tree_end (end g w u i)) { best = b }) (floor (far g u i)) (floor u)
+  far_accepts i at' = far_best (tree_end (end g w u i)) (tree_end (far_end g w u i)) b (floor u) (floor (far g u i)) finds (better_lower (w.at u).head.best j (Some (port_at g u j).key)) (far_fits g wired w holds floor floors u i at')
 
   pub accept_floors : Floors g (acts g u (record (w.at u) { head = record (w.at u).head { probe = None; best = better (w.at u).head.best j (Some (port_at g u j).key) } }) (put (w.seen u) j (record (w.seen u j) { accepts = a })) [] w) floor
   accept_floors =
@@ -260,7 +259,7 @@ module _ (g : Network) (wired : IsWired g) (u : ℕ) (lo : 1 ≤ u) (hi : u ≤ 
   accept_scans probed q m = above_best (Some (port_at g u q).key) (Some (port_at g u j).key) (best_key b) (better_heard (w.at u).head.best j (Some (port_at g u j).key)) (probed q m)
 
 -- A child's Report is heard.
-module _ (g : Network) (wired : IsWired g) (u : ℕ) (lo : 1 ≤ u) (hi : u ≤ g.count) (j : ℕ) (at : At g u j) (w : World) (holds : Invariant g w) (k : Option Key) (ms : List Message) (c : ℕ) (waits : (w.seen u j).tree ≡ Report k ∷ ms) (away : (w.at u).head.in_branch ≢ Some j) (count : (w.at u).head.find_count ≡ suc c)
+module _ (g : Network) (wired : IsWired g) (u : ℕ) (lo : 1 ≤ u) (hi : u ≤ g.count) (j : ℕ) (at : At g u j) (w : Scene) (holds : Invariant g w) (k : Option Key) (ms : List Message) (c : ℕ) (waits : (w.seen u j).tree ≡ Report k ∷ ms) (away : (w.at u).head.in_branch ≢ Some j) (count : (w.at u).head.find_count ≡ suc c)
     (floor : ℕ → Floor) (floors : Floors g w floor) where
   searches : (w.at u).head.phase ≡ Find
   searches = ⊎_elim (λ h. h) (λ ne. absurd (let z = ((holds.nodes u (record { some = lo; node = hi })).idle ne).1 in omega (arith, z, count))) (is_find' (w.at u).head.phase)
@@ -268,23 +267,23 @@ module _ (g : Network) (wired : IsWired g) (u : ℕ) (lo : 1 ≤ u) (hi : u ≤ 
   abbrev best' : Best
   best' = better (w.at u).head.best j k
 
-  heard : Heard (tree_end (end g w u j)) (tree_end (over g w u j)) k
-  heard = heard_first (tree_end (end g w u j)) (tree_end (over g w u j)) (link_fits g wired w holds u j at).tree (link_fits' g wired w holds u j at).tree (link_leads g wired w holds u j at) k ms waits away
+  heard : Heard (tree_end (end g w u j)) (tree_end (far_end g w u j)) k
+  heard = heard_first (tree_end (end g w u j)) (tree_end (far_end g w u j)) (link_fits g wired w holds u j at).tree (link_fits' g wired w holds u j at).tree (link_leads g wired w holds u j at) k ms waits away
 
   child_floor : floor (far g u j) ≡ Some k
   child_floor = (far_fits g wired w holds floor floors u j at).report k heard.child heard.tree
 
-  learnt : (i : ℕ) → At g u i → (y : Key) → better (w.at u).head.best j k ≡ Some (i, y) → Joins (tree_end (end g w u i)) (tree_end (over g w u i)) → ((w.at u).head.best ≡ Some (i, y)) ⊎ (floor (far g u i) ≡ Some (Some y))
+  learnt : (i : ℕ) → At g u i → (y : Key) → better (w.at u).head.best j k ≡ Some (i, y) → Joins (tree_end (end g w u i)) (tree_end (far_end g w u i)) → ((w.at u).head.best ≡ Some (i, y)) ⊎ (floor (far g u i) ≡ Some (Some y))
   learnt i at' y e z = ⊎_elim inl (λ t. inr (subst (λ v. floor (far g u v) ≡ Some (Some y)) (sym t.0) (child_floor ∙ ap Some t.1))) (better_at (w.at u).head.best j k i y e)
 
-  near_hears : (i : ℕ) → At g u i → FloorsFit (record (tree_end (end g w u i)) { best = best' }) (tree_end (over g w u i)) (floor u) (floor (far g u i))
-  near_hears i at' = near_best (tree_end (end g w u i)) (tree_end (over g w u i)) best' (floor u) (floor (far g u i)) searches (root_unmoved g wired u lo hi w holds searches i at') (learnt i at') (λ z. at_top g wired u lo hi w holds searches) (at_top g wired u lo hi w holds searches) (near_fits g wired w holds floor floors u i at')
+  near_hears : (i : ℕ) → At g u i → FloorsFit (record (tree_end (end g w u i)) { best = best' }) (tree_end (far_end g w u i)) (floor u) (floor (far g u i))
+  near_hears i at' = near_best (tree_end (end g w u i)) (tree_end (far_end g w u i)) best' (floor u) (floor (far g u i)) searches (root_unmoved g wired u lo hi w holds searches i at') (learnt i at') (λ z. at_top g wired u lo hi w holds searches) (at_top g wired u lo hi w holds searches) (near_fits g wired w holds floor floors u i at')
 
-  far_hears : (i : ℕ) → At g u i → FloorsFit (tree_end (over g w u i)) (record (tree_end (end g w u i)) { best = best' }) (floor (far g u i)) (floor u)
-  far_hears i at' = far_best (tree_end (end g w u i)) (tree_end (over g w u i)) best' (floor u) (floor (far g u i)) searches (better_lower (w.at u).head.best j k) (far_fits g wired w holds floor floors u i at')
+  far_hears : (i : ℕ) → At g u i → FloorsFit (tree_end (far_end g w u i)) (record (tree_end (end g w u i)) { best = best' }) (floor (far g u i)) (floor u)
+  far_hears i at' = far_best (tree_end (end g w u i)) (tree_end (far_end g w u i)) best' (floor u) (floor (far g u i)) searches (better_lower (w.at u).head.best j k) (far_fits g wired w holds floor floors u i at')
 
   -- the link of the Report
-  near_popped : FloorsFit (record (tree_end (end g w u j)) { best = best'; tree = [] }) (tree_end (over g w u j)) (floor u) (floor (far g u j))
+  near_popped : FloorsFit (record (tree_end (end g w u j)) { best = best'; tree = [] }) (tree_end (far_end g w u j)) (floor u) (floor (far g u j))
   near_popped =
       let h = near_hears j at in
       record {
@@ -298,7 +297,7 @@ module _ (g : Network) (wired : IsWired g) (u : ℕ) (lo : 1 ≤ u) (hi : u ≤ 
         best = λ y q l z. h.best y q l (record { here = z.here; there = z.there });
       }
 
-  far_popped : FloorsFit (tree_end (over g w u j)) (record (tree_end (end g w u j)) { best = best'; tree = [] }) (floor (far g u j)) (floor u)
+  far_popped : FloorsFit (tree_end (far_end g w u j)) (record (tree_end (end g w u j)) { best = best'; tree = [] }) (floor (far g u j)) (floor u)
   far_popped =
       let h = far_hears j at in
       record {

@@ -4,7 +4,7 @@ use Rattle.ghs_graph.specs.declared.key.Key.{Key}
 use Rattle.ghs_node.specs.Words.{Best, below, better, best_key}
 use Rattle.ghs_node.specs.declared.mark.Mark.TheVariants.{Branch}
 use Rattle.ghs_node.specs.declared.message.Phase.TheVariants.{Find, Found}
-use Rattle.ghs_protocol.proofs.clauses.World.{TreeEnd}
+use Rattle.ghs_protocol.proofs.clauses.Scene.{TreeEnd}
 use Rattle.ghs_protocol.proofs.clauses.TreeMessages.{TreeFits, Reported, Upward, Nothing_up, Report_up, Downward, Initiates, Old_report, CoreQueue, Plain, With_report, MovedFits, To_here, To_there, Stage, Asking, Called, Begun, AtStage}
 use Rattle.ghs_protocol.proofs.clauses.Search.{SearchFits, LeadsOut}
 use Rattle.ghs_protocol.proofs.clauses.Links.{Joins}

@@ -6,7 +6,7 @@ use Rattle.ghs_node.specs.declared.message.Phase.{Phase}
 use Rattle.ghs_node.specs.declared.message.Phase.TheVariants.{Sleeping, Find}
 use Rattle.ghs_node.specs.declared.message.Message.{Message}
 use Rattle.ghs_node.specs.declared.message.Message.TheVariants.{Connect, Initiate, Test, Accept, Reject, Report, ChangeRoot}
-use Rattle.ghs_protocol.proofs.clauses.World.{TreeEnd}
+use Rattle.ghs_protocol.proofs.clauses.Scene.{TreeEnd}
 use Rattle.ghs_protocol.proofs.clauses.Links.{Joins, Ups, Child}
 use Rattle.ghs_protocol.proofs.clauses.TreeMessages.{Upward, Nothing_up, Report_up, Chain, Falls, Downward, Initiates, Old_report, Stage, Asking, Called, Begun, AtStage, Served, called, CoreQueue, Plain, With_report, Core, CoreFits, MovedFits, To_here, To_there, TreeFits}
 use Rattle.ghs_protocol.proofs.clauses.Search.{SearchFits}

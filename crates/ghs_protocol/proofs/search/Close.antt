@@ -9,7 +9,7 @@ use Rattle.ghs_node.specs.declared.message.Message.{Message}
 use Rattle.ghs_node.specs.declared.message.Message.TheVariants.{Connect, Initiate, Test, Accept, Reject, Report, ChangeRoot}
 use Rattle.ghs_protocol.specs.Network.{Network, port_at, At, far, far_port, IsWired}
 use Rattle.ghs_protocol.specs.Net.{put}
-use Rattle.ghs_protocol.proofs.clauses.World.{Member, World, End, TreeEnd, tree_end, end, acts}
+use Rattle.ghs_protocol.proofs.clauses.Scene.{Member, Scene, End, TreeEnd, tree_end, end, acts, far_end}
 use Rattle.ghs_protocol.proofs.clauses.Nodes.{NodeFits}
 use Rattle.ghs_protocol.proofs.clauses.TreeMessages.{TreeFits, Upward, Nothing_up, Report_up, Downward, Initiates, Old_report, CoreFits, CoreQueue, Plain, With_report, Moved, Stage, Asking, Called, Begun, AtStage, asked, called}
 use Rattle.ghs_protocol.proofs.clauses.Search.{SearchFits}
@@ -19,7 +19,7 @@ use Rattle.ghs_protocol.proofs.clauses.Rest.{debt, owes, has_call, has_report, Q
 use Rattle.ghs_protocol.proofs.acts.OneLink.{sends_one, at_near, at_far, sums_one, kept_one}
 use Rattle.ghs_protocol.proofs.search.ReportGone.{search_trees, debt_up, not_at, at_it}
 use Rattle.ghs_protocol.proofs.search.FirstReport.{mark_is}
-use Rattle.ghs_protocol.proofs.search.Answers.{opposite}
+use Rattle.ghs_protocol.proofs.rest.AtRest.{by_find}
 
 abbrev pub found : TreeEnd → TreeEnd
 found e = record e { phase = Found }
@@ -160,19 +160,14 @@ has_call_append (Reject ∷ xs) k = has_call_append xs k
 has_call_append (Report r ∷ xs) k = has_call_append xs k
 has_call_append (ChangeRoot ∷ xs) k = has_call_append xs k
 
-owes_or : (a b c : Bool) → c ≡ true → (a || (b || c)) ≡ true
-owes_or true b c e = refl
-owes_or false true c e = refl
-owes_or false false c e = e
-
-module _ (g : Network) (wired : IsWired g) (u : ℕ) (lo : 1 ≤ u) (hi : u ≤ g.count) (j : ℕ) (at : At g u j) (w : World) (holds : Invariant g w) (finds : (w.at u).head.phase ≡ Find) (back : (w.at u).head.in_branch ≡ Some j) (quit : (w.at u).head.probe ≡ None) (at_zero : ◌≡◌ {A = ℕ} (w.at u).head.find_count 0) where
+module _ (g : Network) (wired : IsWired g) (u : ℕ) (lo : 1 ≤ u) (hi : u ≤ g.count) (j : ℕ) (at : At g u j) (w : Scene) (holds : Invariant g w) (finds : (w.at u).head.phase ≡ Find) (back : (w.at u).head.in_branch ≡ Some j) (quit : (w.at u).head.probe ≡ None) (at_zero : ◌≡◌ {A = ℕ} (w.at u).head.find_count 0) where
   fits' : NodeFits (length (g.ports u)) (w.at u)
   fits' = holds.nodes u (record { some = lo; node = hi })
 
-  link : LinkFits (NamesOf g w) (end g w u j) (opposite g wired u lo hi j at w holds j)
+  link : LinkFits (NamesOf g w) (end g w u j) (far_end g w u j)
   link = at_near g wired w (LinkFits (NamesOf g w)) holds.links u j at
 
-  link' : LinkFits (NamesOf g w) (opposite g wired u lo hi j at w holds j) (end g w u j)
+  link' : LinkFits (NamesOf g w) (far_end g w u j) (end g w u j)
   link' = at_far g wired w (LinkFits (NamesOf g w)) holds.links u j at
 
   abbrev pub facing : ℕ → End
@@ -228,7 +223,7 @@ module _ (g : Network) (wired : IsWired g) (u : ℕ) (lo : 1 ≤ u) (hi : u ≤ 
   there' = record { port = far_port g u j; key = (port_at g u j).key; mark = (w.at (far g u j)).mark (far_port g u j); is = w.at (far g u j); seen = record (w.seen (far g u j) (far_port g u j)) { tree = (w.seen (far g u j) (far_port g u j)).tree ++ Report k ∷ [] } }
 
   owing : owes (facing j) (end g w u j) ≡ true
-  owing = owes_or (has_report (w.seen (far g u j) (far_port g u j)).tree) (has_call (w.seen u j).tree) _ (rw (finds, at_it (w.at u).head.in_branch j back) refl)
+  owing = by_find (has_report (w.seen (far g u j) (far_port g u j)).tree) (has_call (w.seen u j).tree) _ (rw (finds, at_it (w.at u).head.in_branch j back) refl)
 
   debt_kept : debt there' (here' j) ≡ debt (facing j) (end g w u j)
   unfolding there' here' x k

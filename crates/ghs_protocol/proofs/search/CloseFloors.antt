@@ -11,7 +11,7 @@ use Rattle.ghs_node.specs.declared.message.Message.{Message}
 use Rattle.ghs_node.specs.declared.message.Message.TheVariants.{Report}
 use Rattle.ghs_protocol.specs.Network.{Network, port_at, At, far, far_port, IsWired, InNetwork}
 use Rattle.ghs_protocol.specs.Net.{put}
-use Rattle.ghs_protocol.proofs.clauses.World.{Seen, Member, World, End, tree_end, end, acts}
+use Rattle.ghs_protocol.proofs.clauses.Scene.{Seen, Member, Scene, End, tree_end, end, acts, far_end}
 use Rattle.ghs_protocol.proofs.clauses.Links.{Joins, Out, Child}
 use Rattle.ghs_protocol.proofs.clauses.TreeMessages.{Moved}
 use Rattle.ghs_protocol.proofs.clauses.Nodes.{NodeFits}
@@ -25,20 +25,21 @@ use Rattle.ghs_protocol.proofs.acts.SameForest.{near', far'}
 use Rattle.ghs_protocol.proofs.acts.OneLink.{by_port_at, sends_one, at_near, at_far}
 use Rattle.ghs_protocol.proofs.search.FirstReport.{mark_is}
 use Rattle.ghs_protocol.proofs.union.OneFragment.{Off}
-use Rattle.ghs_protocol.proofs.rest.AtRest.{over, parent_finds, by_find}
+use Rattle.ghs_protocol.proofs.rest.AtRest.{parent_finds, by_find}
 use Rattle.ghs_protocol.proofs.search.ReportGone.{at_it, not_at}
 use Rattle.ghs_protocol.proofs.search.Close.{busy, joins', unmoved', up, away, has_report_append}
+use Rattle.ghs_protocol.proofs.acts.Situations.{basic_left}
 
 -- all clauses of floors, but at the link at port b of u, and but the order of tests
-pub record FloorsOff (g : Network) (w : World) (floor : ℕ → Floor) (u b : ℕ) : Type 0 where
+pub record FloorsOff (g : Network) (w : Scene) (floor : ℕ → Floor) (u b : ℕ) : Type 0 where
   pub nodes : (v : ℕ) → InNetwork g v → NodeFloor (w.at v) (floor v)
   pub links : (v p : ℕ) → At g v p → Off g u b v p → FloorsAt (end g w v p) (end g w (far g v p) (far_port g v p)) (floor v) (floor (far g v p))
   pub in_tree : BranchesInTree g w
   pub halted : HaltedIsWhole g w
 
 -- One act: node u becomes x, and has floor a then.
-module _ (g : Network) (wired : IsWired g) (u : ℕ) (lo : 1 ≤ u) (hi : u ≤ g.count) (x : Member) (own : ℕ → Seen) (ss : Outgoing) (w : World) (floor : ℕ → Floor) (floors : Floors g w floor) (a : Floor) where
-  abbrev pub acted : World
+module _ (g : Network) (wired : IsWired g) (u : ℕ) (lo : 1 ≤ u) (hi : u ≤ g.count) (x : Member) (own : ℕ → Seen) (ss : Outgoing) (w : Scene) (floor : ℕ → Floor) (floors : Floors g w floor) (a : Floor) where
+  abbrev pub acted : Scene
   acted = acts g u x own ss w
 
   abbrev pub floor' : ℕ → Floor
@@ -103,11 +104,6 @@ module _ (g : Network) (wired : IsWired g) (u : ℕ) (lo : 1 ≤ u) (hi : u ≤ 
       within : (w.at t).fragment ≡ (w.at v).fragment
       within = sym (keeps (λ (m : Member). m.fragment) same t) ∙ inside ∙ keeps (λ (m : Member). m.fragment) same v
 
-basic_of : (m : Mark) → m ≢ Branch → m ≢ Rejected → m ≡ Basic
-basic_of Basic a b = refl
-basic_of Branch a b = absurd (a refl)
-basic_of Rejected a b = absurd (b refl)
-
 last_report : (xs : List Message) (k r : Option Key) → xs ++ Report k ∷ [] ≡ Report r ∷ [] → k ≡ r
 last_report [] k r e = cc
 last_report (y ∷ []) k r e = cc
@@ -119,7 +115,7 @@ unowed false true e h = cc
 unowed true c e h = cc
 
 -- A node that has heard all reports.
-module _ (g : Network) (wired : IsWired g) (u : ℕ) (lo : 1 ≤ u) (hi : u ≤ g.count) (j : ℕ) (at : At g u j) (w : World) (holds : Invariant g w) (finds : (w.at u).head.phase ≡ Find) (back : (w.at u).head.in_branch ≡ Some j) (quit : (w.at u).head.probe ≡ None) (at_zero : ◌≡◌ {A = ℕ} (w.at u).head.find_count 0)
+module _ (g : Network) (wired : IsWired g) (u : ℕ) (lo : 1 ≤ u) (hi : u ≤ g.count) (j : ℕ) (at : At g u j) (w : Scene) (holds : Invariant g w) (finds : (w.at u).head.phase ≡ Find) (back : (w.at u).head.in_branch ≡ Some j) (quit : (w.at u).head.probe ≡ None) (at_zero : ◌≡◌ {A = ℕ} (w.at u).head.find_count 0)
     (floor : ℕ → Floor) (floors : Floors g w floor) (scanned : (q : ℕ) → (w.at u).mark q ≡ Basic → below (Some (port_at g u q).key) (best_key (w.at u).head.best) ≡ false) where
   is : InNetwork g u
   is = record { some = lo; node = hi }
@@ -133,10 +129,10 @@ module _ (g : Network) (wired : IsWired g) (u : ℕ) (lo : 1 ≤ u) (hi : u ≤ 
   abbrev pub q : Seen
   q = w.seen u j
 
-  link : (i : ℕ) → At g u i → LinkFits (NamesOf g w) (end g w u i) (over g w u i)
+  link : (i : ℕ) → At g u i → LinkFits (NamesOf g w) (end g w u i) (far_end g w u i)
   link i at' = at_near g wired w (LinkFits (NamesOf g w)) holds.links u i at'
 
-  link' : (i : ℕ) → At g u i → LinkFits (NamesOf g w) (over g w u i) (end g w u i)
+  link' : (i : ℕ) → At g u i → LinkFits (NamesOf g w) (far_end g w u i) (end g w u i)
   link' i at' = at_far g wired w (LinkFits (NamesOf g w)) holds.links u i at'
 
   -- u's ends afterwards, and those across
@@ -146,7 +142,7 @@ module _ (g : Network) (wired : IsWired g) (u : ℕ) (lo : 1 ≤ u) (hi : u ≤ 
   abbrev there : End
   there = record { port = far_port g u j; key = (port_at g u j).key; mark = (w.at (far g u j)).mark (far_port g u j); is = w.at (far g u j); seen = record (w.seen (far g u j) (far_port g u j)) { tree = (w.seen (far g u j) (far_port g u j)).tree ++ Report k ∷ [] } }
 
-  joins : Joins (tree_end (end g w u j)) (tree_end (over g w u j))
+  joins : Joins (tree_end (end g w u j)) (tree_end (far_end g w u j))
   joins = joins' g wired u lo hi j at w holds finds back quit at_zero
 
   ups : (w.at u).up ≡ Some j
@@ -158,16 +154,16 @@ module _ (g : Network) (wired : IsWired g) (u : ℕ) (lo : 1 ≤ u) (hi : u ≤ 
   restless : Quiet g w (w.at u).fragment → ⊥
   restless = busy g wired u lo hi j at w holds finds back quit at_zero
 
-  no_out : (i : ℕ) → At g u i → Out (tree_end (end g w u i)) (tree_end (over g w u i)) → ⊥
+  no_out : (i : ℕ) → At g u i → Out (tree_end (end g w u i)) (tree_end (far_end g w u i)) → ⊥
   no_out i at' o = restless (holds.resting.out u i at' (record { here = o.here; there = o.there }))
 
-  same_fragment : (i : ℕ) → At g u i → Joins (tree_end (end g w u i)) (tree_end (over g w u i)) → (w.at u).fragment ≡ (w.at (far g u i)).fragment
+  same_fragment : (i : ℕ) → At g u i → Joins (tree_end (end g w u i)) (tree_end (far_end g w u i)) → (w.at u).fragment ≡ (w.at (far g u i)).fragment
   same_fragment i at' z = holds.trees.joined_within u i at' (record { here = ap is_branch z.here; there = ap is_branch z.there })
 
   -- a port that leads out is Basic
   leads_basic : (i : ℕ) → At g u i → (w.at (far g u i)).fragment ≢ (w.at u).fragment → (w.at u).mark i ≡ Basic
   leads_basic i at' ne =
-      basic_of ((w.at u).mark i)
+      basic_left ((w.at u).mark i)
       (λ b. ⊎_elim (λ c. ne (sym (same_fragment i at' (record { here = b; there = c })))) (λ c. no_out i at' (record { here = b; there = c })) (mark_is ((w.at (far g u i)).mark (far_port g u i))))
       (λ r. ne (sym ((link i at').search.rejected_inside r)))
 
@@ -178,18 +174,18 @@ module _ (g : Network) (wired : IsWired g) (u : ℕ) (lo : 1 ≤ u) (hi : u ≤ 
       let y = term_le (length (g.ports u)) i (λ p. debt (end g w u p) (end g w (far g u p) (far_port g u p))) at'.port in
       omega (arith, z, y, at_zero)
 
-  unowed_by : (i : ℕ) → At g u i → i ≢ j → owes (end g w u i) (over g w u i) ≡ false
+  unowed_by : (i : ℕ) → At g u i → i ≢ j → owes (end g w u i) (far_end g w u i) ≡ false
   unowed_by i at' ne = unowed (is_at (w.at u).up i) _ (not_at (w.at u).up i (aside i ne)) (debts_over i at')
 
-  was_near : (i : ℕ) → At g u i → FloorsAt (end g w u i) (over g w u i) (floor u) (floor (far g u i))
+  was_near : (i : ℕ) → At g u i → FloorsAt (end g w u i) (far_end g w u i) (floor u) (floor (far g u i))
   was_near i at' =
       subst (λ (e : End). FloorsAt (end g w u i) e (floor u) (floor (far g u i)))
       (λ z. record { port = far_port g u i; key = wired.same_key u i at' z; mark = (w.at (far g u i)).mark (far_port g u i); is = w.at (far g u i); seen = w.seen (far g u i) (far_port g u i) })
       (floors.links u i at')
 
-  was_far : (i : ℕ) → At g u i → FloorsAt (over g w u i) (end g w u i) (floor (far g u i)) (floor u)
+  was_far : (i : ℕ) → At g u i → FloorsAt (far_end g w u i) (end g w u i) (floor (far g u i)) (floor u)
   was_far i at' =
-      subst₂ (λ (y z : ℕ). FloorsAt (over g w u i) (end g w y z) (floor (far g u i)) (floor y)) (wired.back u i at') (wired.back_port u i at')
+      subst₂ (λ (y z : ℕ). FloorsAt (far_end g w u i) (end g w y z) (floor (far g u i)) (floor y)) (wired.back u i at') (wired.back_port u i at')
       (subst (λ (e : End). FloorsAt e (end g w (far g (far g u i) (far_port g u i)) (far_port g (far g u i) (far_port g u i))) (floor (far g u i)) (floor (far g (far g u i) (far_port g u i))))
       (λ z. record { port = far_port g u i; key = wired.same_key u i at' z; mark = (w.at (far g u i)).mark (far_port g u i); is = w.at (far g u i); seen = w.seen (far g u i) (far_port g u i) })
       (floors.links _ _ (wired.there u i at')))
@@ -201,7 +197,7 @@ module _ (g : Network) (wired : IsWired g) (u : ℕ) (lo : 1 ≤ u) (hi : u ≤ 
   negated b e = ap not e
 
   -- another link of u
-  near_aside : (i : ℕ) → At g u i → i ≢ j → FloorsAt (still i) (over g w u i) (Some k) (floor (far g u i))
+  near_aside : (i : ℕ) → At g u i → i ≢ j → FloorsAt (still i) (far_end g w u i) (Some k) (floor (far g u i))
   near_aside i at' ne = record {
     none_below = λ out. negated _ (scanned i (leads_basic i at' out));
     falls = λ c. absurd (aside i ne c.up);
@@ -213,7 +209,7 @@ module _ (g : Network) (wired : IsWired g) (u : ℕ) (lo : 1 ≤ u) (hi : u ≤ 
     best = λ y b l z. (was_near i at').best y b l (record { here = z.here; there = z.there });
   }
 
-  far_aside : (i : ℕ) → At g u i → i ≢ j → FloorsAt (over g w u i) (still i) (floor (far g u i)) (Some k)
+  far_aside : (i : ℕ) → At g u i → i ≢ j → FloorsAt (far_end g w u i) (still i) (floor (far g u i)) (Some k)
   far_aside i at' ne = record {
     none_below = (was_far i at').none_below;
     falls = λ c. (was_far i at').covered finds (record { joins = record { here = c.joins.here; there = c.joins.there }; up = c.up; down = c.down }) (unowed_by i at' ne);
@@ -241,13 +237,13 @@ module _ (g : Network) (wired : IsWired g) (u : ℕ) (lo : 1 ≤ u) (hi : u ≤ 
       fits : NodeFits (length (g.ports u)) (w.at u)
       fits = holds.nodes u is
 
-      unmoved : Moved (tree_end (end g w u j)) (tree_end (over g w u j)) → ⊥
+      unmoved : Moved (tree_end (end g w u j)) (tree_end (far_end g w u j)) → ⊥
       unmoved = unmoved' g wired u lo hi j at w holds finds back quit at_zero
 
       reported : owes there (still j) ≡ true
       reported = rw (has_report_append (w.seen (far g u j) (far_port g u j)).tree k) refl
 
-      parent_none : Child (tree_end (end g w u j)) (tree_end (over g w u j)) → floor (far g u j) ≡ None
+      parent_none : Child (tree_end (end g w u j)) (tree_end (far_end g w u j)) → floor (far g u j) ≡ None
       parent_none c =
           let z = wired.there u j at in
           (floors.nodes (far g u j) (record { some = z.some; node = z.node })).search

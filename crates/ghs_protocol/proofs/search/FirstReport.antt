@@ -6,7 +6,7 @@ use Rattle.ghs_node.specs.declared.mark.Mark.{Mark}
 use Rattle.ghs_node.specs.declared.mark.Mark.TheVariants.{Basic, Branch, Rejected}
 use Rattle.ghs_node.specs.declared.message.Message.{Message}
 use Rattle.ghs_node.specs.declared.message.Message.TheVariants.{Connect, Initiate, Test, Accept, Reject, Report, ChangeRoot}
-use Rattle.ghs_protocol.proofs.clauses.World.{TreeEnd}
+use Rattle.ghs_protocol.proofs.clauses.Scene.{TreeEnd}
 use Rattle.ghs_protocol.proofs.clauses.TreeMessages.{TreeFits, Reported, Upward, Nothing_up, Report_up, Chain, Downward, Initiates, Old_report, CoreFits, CoreQueue, Plain, With_report, Core, Moved, MovedFits, To_here, To_there, Stage, Asking, Called, Begun, AtStage, Served, asked, called}
 use Rattle.ghs_protocol.proofs.clauses.Links.{Joins, Child, Ups}
 use Rattle.ghs_protocol.proofs.tests.Links.{probe_is}

@@ -13,7 +13,7 @@ use Rattle.ghs_node.specs.Words.{Outgoing, is_branch, is_find, on_branches}
 use Rattle.ghs_protocol.specs.Network.{Network, port_at, At, far, far_port, IsWired, InNetwork}
 use Rattle.ghs_protocol.specs.Net.{put}
 use Rattle.ghs_protocol.specs.Ledger.{sum_below}
-use Rattle.ghs_protocol.proofs.clauses.World.{Seen, add, adds, Member, World, End, tree_end, test_end, end, forest, acts}
+use Rattle.ghs_protocol.proofs.clauses.Scene.{Seen, add, adds, Member, Scene, End, tree_end, test_end, end, forest, acts, far_end}
 use Rattle.ghs_protocol.proofs.clauses.Nodes.{NodeFits}
 use Rattle.ghs_protocol.proofs.clauses.Links.{Joins, Ups}
 use Rattle.ghs_protocol.proofs.clauses.Fragments.{Names}
@@ -23,7 +23,7 @@ use Rattle.ghs_protocol.proofs.clauses.Uniting.{MarksAre}
 use Rattle.ghs_protocol.specs.Steps.{sent_on}
 use Rattle.ghs_protocol.proofs.lemmas.Updates.{put_same, put_other}
 use Rattle.ghs_protocol.proofs.lemmas.Sums.{sum_same, term_le}
-use Rattle.ghs_protocol.proofs.acts.SameForest.{Alike, near', far', quiet_after, forest_after, sums_after, kept_after, branch_mark}
+use Rattle.ghs_protocol.proofs.acts.SameForest.{Alike, near', far', quiet_after, forest_after, sums_after, kept_after, branch_mark, not_branch}
 use Rattle.ghs_protocol.proofs.acts.OneLink.{at_near, at_far}
 use Rattle.ghs_protocol.proofs.tests.Links.{tests_aside, tests_aside', not_some}
 use Rattle.ghs_protocol.proofs.rest.StaysAtRest.{rests_alike}
@@ -31,6 +31,7 @@ use Rattle.ghs_protocol.proofs.search.ReportGone.{debt_up, debt_one}
 use Rattle.ghs_protocol.proofs.search.FirstReport.{mark_is}
 use Rattle.ghs_protocol.proofs.search.PassedOn.{forwards_on, forwards_many, one_on}
 use Rattle.ghs_protocol.proofs.search.Called.{Calls, calls, tree_told, tree_told', tree_past, tree_past', tree_passed, tree_passed', search_told, search_told'}
+use Rattle.ghs_protocol.proofs.lemmas.Balance.{none_or_none}
 
 pub has_call_more : (xs : List Message) (l : ℕ) (n : Key) (s : Phase) → has_call (xs ++ Initiate l n s ∷ []) ≡ (has_call xs || is_find s)
 has_call_more [] l n Sleeping = refl
@@ -75,10 +76,6 @@ any_true true b c = refl
 any_true false true c = refl
 any_true false false c = refl
 
-cond_zero : (b : Bool) → ◌≡◌ {A = ℕ} (cond b 0 0) 0
-cond_zero true = refl
-cond_zero false = refl
-
 zero_of : (a b : ℕ) → a ≤ b → b ≡ 0 → a ≡ 0
 zero_of a b le e = omega (arith, le, e)
 
@@ -86,18 +83,8 @@ sum_zero : (n : ℕ) → sum_below n (λ i. 0) ≡ 0
 sum_zero zero = refl
 sum_zero (suc n) = let z = sum_zero n in omega (arith, z)
 
-is_branch_not : (k : Mark) → k ≢ Branch → is_branch k ≡ false
-is_branch_not k ne = go (is_branch k) refl
-  where
-    go : (b : Bool) → is_branch k ≡ b → is_branch k ≡ false
-    go true e = absurd (ne (branch_mark k e))
-    go false e = e
-
-module _ (g : Network) (wired : IsWired g) (u : ℕ) (lo : 1 ≤ u) (hi : u ≤ g.count) (j : ℕ) (at : At g u j) (w : World) (holds : Invariant g w) (l : ℕ) (n : Key) (s : Phase) (ms : List Message) (xs : List Mark) (marks : MarksAre g u (w.at u) xs) (waits : (w.seen u j).tree ≡ Initiate l n s ∷ ms) (o : Option ℕ) (quit : o ≡ None) (count : ℕ) (counts : ◌≡◌ {A =
+module _ (g : Network) (wired : IsWired g) (u : ℕ) (lo : 1 ≤ u) (hi : u ≤ g.count) (j : ℕ) (at : At g u j) (w : Scene) (holds : Invariant g w) (l : ℕ) (n : Key) (s : Phase) (ms : List Message) (xs : List Mark) (marks : MarksAre g u (w.at u) xs) (waits : (w.seen u j).tree ≡ Initiate l n s ∷ ms) (o : Option ℕ) (quit : o ≡ None) (count : ℕ) (counts : ◌≡◌ {A =
     ℕ} (w.at u).head.find_count 0 → count ≡ cond (is_find s) (length (on_branches xs j (Initiate l n s))) 0) where
-  abbrev pub across : ℕ → End
-  across i = record { port = far_port g u i; key = (port_at g u i).key; mark = (w.at (far g u i)).mark (far_port g u i); is = w.at (far g u i); seen = w.seen (far g u i) (far_port g u i) }
-
   abbrev pub hearer : Member
   hearer = record (w.at u) { head = record (w.at u).head { level = l; name = Some n; phase = s; in_branch = Some j; best = None; probe = o; find_count = count } }
 
@@ -114,9 +101,9 @@ module _ (g : Network) (wired : IsWired g) (u : ℕ) (lo : 1 ≤ u) (hi : u ≤ 
   heard_at = record { port = j; key = (port_at g u j).key; mark = (w.at u).mark j; is = hearer; seen = left }
 
   abbrev pub passed : ℕ → End
-  passed i = record (across i) { seen = add (w.seen (far g u i) (far_port g u i)) (Initiate l n s) }
+  passed i = record (far_end g w u i) { seen = add (w.seen (far g u i) (far_port g u i)) (Initiate l n s) }
 
-  abbrev pub then : World
+  abbrev pub then : Scene
   then = acts g u hearer (put (w.seen u) j left) passing w
 
   here : InNetwork g u
@@ -125,29 +112,29 @@ module _ (g : Network) (wired : IsWired g) (u : ℕ) (lo : 1 ≤ u) (hi : u ≤ 
   fits : NodeFits (length (g.ports u)) (w.at u)
   fits = holds.nodes u here
 
-  link : (i : ℕ) → At g u i → LinkFits (NamesOf g w) (end g w u i) (across i)
+  link : (i : ℕ) → At g u i → LinkFits (NamesOf g w) (end g w u i) (far_end g w u i)
   link i at' = at_near g wired w (LinkFits (NamesOf g w)) holds.links u i at'
 
-  link' : (i : ℕ) → At g u i → LinkFits (NamesOf g w) (across i) (end g w u i)
+  link' : (i : ℕ) → At g u i → LinkFits (NamesOf g w) (far_end g w u i) (end g w u i)
   link' i at' = at_far g wired w (LinkFits (NamesOf g w)) holds.links u i at'
 
-  pub inside : (i : ℕ) → At g u i → Joins (tree_end (end g w u i)) (tree_end (across i)) → (w.at u).fragment ≡ (w.at (far g u i)).fragment
+  pub inside : (i : ℕ) → At g u i → Joins (tree_end (end g w u i)) (tree_end (far_end g w u i)) → (w.at u).fragment ≡ (w.at (far g u i)).fragment
   inside i at' h = holds.trees.joined_within u i at' (record { here = ap is_branch h.here; there = ap is_branch h.there })
 
-  pub ghosts : (i : ℕ) → At g u i → Joins (tree_end (end g w u i)) (tree_end (across i)) → ((w.at (far g u i)).coming ≡ (w.at u).coming) × ((w.at (far g u i)).coming_name ≡ (w.at u).coming_name)
+  pub ghosts : (i : ℕ) → At g u i → Joins (tree_end (end g w u i)) (tree_end (far_end g w u i)) → ((w.at (far g u i)).coming ≡ (w.at u).coming) × ((w.at (far g u i)).coming_name ≡ (w.at u).coming_name)
   ghosts i at' h = holds.trees.by_fragment (far g u i) u (sym (inside i at' h))
 
-  ways : (i : ℕ) → At g u i → Joins (tree_end (end g w u i)) (tree_end (across i)) → Ups (tree_end (end g w u i)) ⊎ Ups (tree_end (across i))
+  ways : (i : ℕ) → At g u i → Joins (tree_end (end g w u i)) (tree_end (far_end g w u i)) → Ups (tree_end (end g w u i)) ⊎ Ups (tree_end (far_end g w u i))
   ways i at' h = holds.trees.joined_lead u i at' (record { here = ap is_branch h.here; there = ap is_branch h.there })
 
-  named : Joins (tree_end (end g w u j)) (tree_end (across j)) → NamesOf g w (w.at u).fragment (port_at g u j).key
+  named : Joins (tree_end (end g w u j)) (tree_end (far_end g w u j)) → NamesOf g w (w.at u).fragment (port_at g u j).key
   named h = record { node = u; port = j; at = at; joined = record { here = ap is_branch h.here; there = ap is_branch h.there }; fragment = refl; key = refl }
 
-  lags : Joins (tree_end (end g w u j)) (tree_end (across j)) → (w.at (far g u j)).head.level ≤ (w.at u).coming
+  lags : Joins (tree_end (end g w u j)) (tree_end (far_end g w u j)) → (w.at (far g u j)).head.level ≤ (w.at u).coming
   lags h = let t = wired.there u j at in let z = (holds.nodes (far g u j) (record { some = t.some; node = t.node })).lag.level in omega (arith, z, (ghosts j at h).0)
 
-  pub call : Calls (NamesOf g w (w.at u).fragment) (tree_end (end g w u j)) (tree_end (across j)) l n s ms
-  call = calls (tree_end (end g w u j)) (tree_end (across j)) (link j at).tree (link' j at).tree (ways j at) named lags l n s ms waits
+  pub call : Calls (NamesOf g w (w.at u).fragment) (tree_end (end g w u j)) (tree_end (far_end g w u j)) l n s ms
+  call = calls (tree_end (end g w u j)) (tree_end (far_end g w u j)) (link j at).tree (link' j at).tree (ways j at) named lags l n s ms waits
 
   pub found : (w.at u).head.phase ≡ Found
   found = go (w.at u).head.phase refl
@@ -163,10 +150,10 @@ module _ (g : Network) (wired : IsWired g) (u : ℕ) (lo : 1 ≤ u) (hi : u ≤ 
   pub away : (i : ℕ) → i ≢ j → (w.at u).up ≢ Some i
   away i ne e = ne (sym (same_Some j i (sym call.up ∙ e)))
 
-  pub branch_joined : (i : ℕ) → At g u i → i ≢ j → (w.at u).mark i ≡ Branch → Joins (tree_end (end g w u i)) (tree_end (across i))
+  pub branch_joined : (i : ℕ) → At g u i → i ≢ j → (w.at u).mark i ≡ Branch → Joins (tree_end (end g w u i)) (tree_end (far_end g w u i))
   branch_joined i at' ne b = ⊎_elim (λ z. record { here = b; there = z }) (λ z. absurd (away i ne ((link i at').tree.out_connect (record { here = b; there = z })).up)) (mark_is ((w.at (far g u i)).mark (far_port g u i)))
 
-  pub child : (i : ℕ) → At g u i → i ≢ j → (w.at u).mark i ≡ Branch → Ups (tree_end (across i))
+  pub child : (i : ℕ) → At g u i → i ≢ j → (w.at u).mark i ≡ Branch → Ups (tree_end (far_end g w u i))
   child i at' ne b = ⊎_elim (λ z. absurd (away i ne z)) (λ z. z) (ways i at' (branch_joined i at' ne b))
 
   -- what goes out on each port
@@ -177,21 +164,21 @@ module _ (g : Network) (wired : IsWired g) (u : ℕ) (lo : 1 ≤ u) (hi : u ≤ 
   sent_branch i ne b = forwards_on xs j i (Initiate l n s) ∙ rw (← marks.marks i, b, ne_eqb i j ne) refl
 
   sent_other : (i : ℕ) → (w.at u).mark i ≢ Branch → sent_on passing i ≡ []
-  sent_other i nb = forwards_on xs j i (Initiate l n s) ∙ rw (← marks.marks i, is_branch_not ((w.at u).mark i) nb) refl
+  sent_other i nb = forwards_on xs j i (Initiate l n s) ∙ rw (← marks.marks i, not_branch ((w.at u).mark i) nb) refl
 
   -- by the three sorts of port
-  by_port : (P : End → End → Type 0) → P heard_at (across j) → ((i : ℕ) → At g u i → i ≢ j → (w.at u).mark i ≡ Branch → P (still i) (passed i)) → ((i : ℕ) → At g u i → i ≢ j → (w.at u).mark i ≢ Branch → P (still i) (across i)) → (i : ℕ) → At g u i → P (near' g wired u lo hi hearer (put (w.seen u) j left) passing w i) (far' g wired u lo hi hearer (put (w.seen u) j left) passing w i)
+  by_port : (P : End → End → Type 0) → P heard_at (far_end g w u j) → ((i : ℕ) → At g u i → i ≢ j → (w.at u).mark i ≡ Branch → P (still i) (passed i)) → ((i : ℕ) → At g u i → i ≢ j → (w.at u).mark i ≢ Branch → P (still i) (far_end g w u i)) → (i : ℕ) → At g u i → P (near' g wired u lo hi hearer (put (w.seen u) j left) passing w i) (far' g wired u lo hi hearer (put (w.seen u) j left) passing w i)
   by_port P hit branch other i at' =
       ⊎_elim
-      (λ (e : i ≡ j). subst (λ y. P (near' g wired u lo hi hearer (put (w.seen u) j left) passing w y) (far' g wired u lo hi hearer (put (w.seen u) j left) passing w y)) (sym e) (subst₂ (λ a b. P (record { port = j; key = (port_at g u j).key; mark = (w.at u).mark j; is = hearer; seen = a }) (record (across j) { seen = adds (w.seen (far g u j) (far_port g u j)) b })) (sym (put_same (w.seen u) j left)) (sym sent_here) hit))
-      (λ ne. ⊎_elim (λ b. subst₂ (λ a c. P (record { port = i; key = (port_at g u i).key; mark = (w.at u).mark i; is = hearer; seen = a }) (record (across i) { seen = adds (w.seen (far g u i) (far_port g u i)) c })) (sym (put_other (w.seen u) j i left ne)) (sym (sent_branch i ne b)) (branch i at' ne b)) (λ nb. subst₂ (λ a c. P (record { port = i; key = (port_at g u i).key; mark = (w.at u).mark i; is = hearer; seen = a }) (record (across i) { seen = adds (w.seen (far g u i) (far_port g u i)) c })) (sym (put_other (w.seen u) j i left ne)) (sym (sent_other i nb)) (other i at' ne nb)) (mark_is ((w.at u).mark i)))
+      (λ (e : i ≡ j). subst (λ y. P (near' g wired u lo hi hearer (put (w.seen u) j left) passing w y) (far' g wired u lo hi hearer (put (w.seen u) j left) passing w y)) (sym e) (subst₂ (λ a b. P (record { port = j; key = (port_at g u j).key; mark = (w.at u).mark j; is = hearer; seen = a }) (record (far_end g w u j) { seen = adds (w.seen (far g u j) (far_port g u j)) b })) (sym (put_same (w.seen u) j left)) (sym sent_here) hit))
+      (λ ne. ⊎_elim (λ b. subst₂ (λ a c. P (record { port = i; key = (port_at g u i).key; mark = (w.at u).mark i; is = hearer; seen = a }) (record (far_end g w u i) { seen = adds (w.seen (far g u i) (far_port g u i)) c })) (sym (put_other (w.seen u) j i left ne)) (sym (sent_branch i ne b)) (branch i at' ne b)) (λ nb. subst₂ (λ a c. P (record { port = i; key = (port_at g u i).key; mark = (w.at u).mark i; is = hearer; seen = a }) (record (far_end g w u i) { seen = adds (w.seen (far g u i) (far_port g u i)) c })) (sym (put_other (w.seen u) j i left ne)) (sym (sent_other i nb)) (other i at' ne nb)) (mark_is ((w.at u).mark i)))
       (cases_eq i j)
 
-  pub by_port_at : (P : ℕ → End → End → Type 0) → P j heard_at (across j) → ((i : ℕ) → At g u i → i ≢ j → (w.at u).mark i ≡ Branch → P i (still i) (passed i)) → ((i : ℕ) → At g u i → i ≢ j → (w.at u).mark i ≢ Branch → P i (still i) (across i)) → (i : ℕ) → At g u i → P i (near' g wired u lo hi hearer (put (w.seen u) j left) passing w i) (far' g wired u lo hi hearer (put (w.seen u) j left) passing w i)
+  pub by_port_at : (P : ℕ → End → End → Type 0) → P j heard_at (far_end g w u j) → ((i : ℕ) → At g u i → i ≢ j → (w.at u).mark i ≡ Branch → P i (still i) (passed i)) → ((i : ℕ) → At g u i → i ≢ j → (w.at u).mark i ≢ Branch → P i (still i) (far_end g w u i)) → (i : ℕ) → At g u i → P i (near' g wired u lo hi hearer (put (w.seen u) j left) passing w i) (far' g wired u lo hi hearer (put (w.seen u) j left) passing w i)
   by_port_at P hit branch other i at' =
       ⊎_elim
-      (λ (e : i ≡ j). subst (λ y. P y (near' g wired u lo hi hearer (put (w.seen u) j left) passing w y) (far' g wired u lo hi hearer (put (w.seen u) j left) passing w y)) (sym e) (subst₂ (λ a b. P j (record { port = j; key = (port_at g u j).key; mark = (w.at u).mark j; is = hearer; seen = a }) (record (across j) { seen = adds (w.seen (far g u j) (far_port g u j)) b })) (sym (put_same (w.seen u) j left)) (sym sent_here) hit))
-      (λ ne. ⊎_elim (λ b. subst₂ (λ a c. P i (record { port = i; key = (port_at g u i).key; mark = (w.at u).mark i; is = hearer; seen = a }) (record (across i) { seen = adds (w.seen (far g u i) (far_port g u i)) c })) (sym (put_other (w.seen u) j i left ne)) (sym (sent_branch i ne b)) (branch i at' ne b)) (λ nb. subst₂ (λ a c. P i (record { port = i; key = (port_at g u i).key; mark = (w.at u).mark i; is = hearer; seen = a }) (record (across i) { seen = adds (w.seen (far g u i) (far_port g u i)) c })) (sym (put_other (w.seen u) j i left ne)) (sym (sent_other i nb)) (other i at' ne nb)) (mark_is ((w.at u).mark i)))
+      (λ (e : i ≡ j). subst (λ y. P y (near' g wired u lo hi hearer (put (w.seen u) j left) passing w y) (far' g wired u lo hi hearer (put (w.seen u) j left) passing w y)) (sym e) (subst₂ (λ a b. P j (record { port = j; key = (port_at g u j).key; mark = (w.at u).mark j; is = hearer; seen = a }) (record (far_end g w u j) { seen = adds (w.seen (far g u j) (far_port g u j)) b })) (sym (put_same (w.seen u) j left)) (sym sent_here) hit))
+      (λ ne. ⊎_elim (λ b. subst₂ (λ a c. P i (record { port = i; key = (port_at g u i).key; mark = (w.at u).mark i; is = hearer; seen = a }) (record (far_end g w u i) { seen = adds (w.seen (far g u i) (far_port g u i)) c })) (sym (put_other (w.seen u) j i left ne)) (sym (sent_branch i ne b)) (branch i at' ne b)) (λ nb. subst₂ (λ a c. P i (record { port = i; key = (port_at g u i).key; mark = (w.at u).mark i; is = hearer; seen = a }) (record (far_end g w u i) { seen = adds (w.seen (far g u i) (far_port g u i)) c })) (sym (put_other (w.seen u) j i left ne)) (sym (sent_other i nb)) (other i at' ne nb)) (mark_is ((w.at u).mark i)))
       (cases_eq i j)
 
   -- the node
@@ -208,11 +195,11 @@ module _ (g : Network) (wired : IsWired g) (u : ℕ) (lo : 1 ≤ u) (hi : u ≤ 
   }
 
   -- nobody owed a Report before
-  owed_none : (i : ℕ) → At g u i → ◌≡◌ {A = ℕ} (debt (end g w u i) (across i)) 0
+  owed_none : (i : ℕ) → At g u i → ◌≡◌ {A = ℕ} (debt (end g w u i) (far_end g w u i)) 0
   owed_none i at' = zero_of _ _ (term_le (length (g.ports u)) i f at'.port) (sym all ∙ idle.1)
     where
       f : ℕ → ℕ
-      f i = debt (end g w u i) (across i)
+      f i = debt (end g w u i) (far_end g w u i)
 
       all : (w.at u).head.find_count ≡ sum_below (length (g.ports u)) f
       all = holds.counted u here ∙ sum_same (length (g.ports u)) _ _ (λ i lt. let at'' : At g u i = record { some = lo; node = hi; port = lt } in ap (debt (end g w u i)) (λ k. record { port = far_port g u i; key = wired.same_key u i at'' k; mark = (w.at (far g u i)).mark (far_port g u i); is = w.at (far g u i); seen = w.seen (far g u i) (far_port g u i) }))
@@ -224,8 +211,8 @@ module _ (g : Network) (wired : IsWired g) (u : ℕ) (lo : 1 ≤ u) (hi : u ≤ 
   unfolding value
   owed_here = by_port (λ e f. debt e f ≡ value e.port) hit branch other
     where
-      hit : debt heard_at (across j) ≡ value j
-      hit = debt_up heard_at (across j) call.up ∙ sym (rw (zero-add, eq-eqb j j refl, and_false, cond_zero) refl)
+      hit : debt heard_at (far_end g w u j) ≡ value j
+      hit = debt_up heard_at (far_end g w u j) call.up ∙ sym (rw (zero-add, eq-eqb j j refl, and_false, none_or_none) refl)
 
       branch : (i : ℕ) → At g u i → i ≢ j → (w.at u).mark i ≡ Branch → debt (still i) (passed i) ≡ value i
       branch i at' ne b = go (is_find s) refl
@@ -234,8 +221,8 @@ module _ (g : Network) (wired : IsWired g) (u : ℕ) (lo : 1 ≤ u) (hi : u ≤ 
           go true e = debt_one (still i) (passed i) (away i ne) (rw (has_call_more (w.seen (far g u i) (far_port g u i)).tree l n s, e) (any_true _ _ _)) ∙ sym (rw (zero-add, ← marks.marks i, b, ne_eqb i j ne) refl)
           go false e = rw (has_call_more (w.seen (far g u i) (far_port g u i)).tree l n s, e, or_false) (owed_none i at')
 
-      other : (i : ℕ) → At g u i → i ≢ j → (w.at u).mark i ≢ Branch → debt (still i) (across i) ≡ value i
-      other i at' ne nb = owed_none i at' ∙ sym (rw (← marks.marks i, is_branch_not ((w.at u).mark i) nb, cond_zero) refl)
+      other : (i : ℕ) → At g u i → i ≢ j → (w.at u).mark i ≢ Branch → debt (still i) (far_end g w u i) ≡ value i
+      other i at' ne nb = owed_none i at' ∙ sym (rw (← marks.marks i, not_branch ((w.at u).mark i) nb, none_or_none) refl)
 
   total : count ≡ sum_below (length (g.ports u)) value
   unfolding value
@@ -245,16 +232,16 @@ module _ (g : Network) (wired : IsWired g) (u : ℕ) (lo : 1 ≤ u) (hi : u ≤ 
       go true = forwards_many xs j (Initiate l n s) ∙ ap (λ k. sum_below k (one_on xs 0 j)) marks.ports
       go false = sym (sum_zero (length (g.ports u)))
 
-  owed_there : (i : ℕ) → At g u i → debt (far' g wired u lo hi hearer (put (w.seen u) j left) passing w i) (near' g wired u lo hi hearer (put (w.seen u) j left) passing w i) ≡ debt (across i) (end g w u i)
-  owed_there = by_port (λ e f. debt f e ≡ debt (across e.port) (end g w u e.port)) hit branch other
+  owed_there : (i : ℕ) → At g u i → debt (far' g wired u lo hi hearer (put (w.seen u) j left) passing w i) (near' g wired u lo hi hearer (put (w.seen u) j left) passing w i) ≡ debt (far_end g w u i) (end g w u i)
+  owed_there = by_port (λ e f. debt f e ≡ debt (far_end g w u e.port) (end g w u e.port)) hit branch other
     where
-      hit : debt (across j) heard_at ≡ debt (across j) (end g w u j)
+      hit : debt (far_end g w u j) heard_at ≡ debt (far_end g w u j) (end g w u j)
       hit = rw (waits, has_call_first ms l n s, found, eq-eqb j j refl, turn_about) refl
 
-      branch : (i : ℕ) → At g u i → i ≢ j → (w.at u).mark i ≡ Branch → debt (passed i) (still i) ≡ debt (across i) (end g w u i)
-      branch i at' ne b = debt_up (passed i) (still i) (child i at' ne b) ∙ sym (debt_up (across i) (end g w u i) (child i at' ne b))
+      branch : (i : ℕ) → At g u i → i ≢ j → (w.at u).mark i ≡ Branch → debt (passed i) (still i) ≡ debt (far_end g w u i) (end g w u i)
+      branch i at' ne b = debt_up (passed i) (still i) (child i at' ne b) ∙ sym (debt_up (far_end g w u i) (end g w u i) (child i at' ne b))
 
-      other : (i : ℕ) → At g u i → i ≢ j → (w.at u).mark i ≢ Branch → debt (across i) (still i) ≡ debt (across i) (end g w u i)
+      other : (i : ℕ) → At g u i → i ≢ j → (w.at u).mark i ≢ Branch → debt (far_end g w u i) (still i) ≡ debt (far_end g w u i) (end g w u i)
       other i at' ne nb = rw (ne_eqb j i (λ z. ne (sym z)), found, and_false) refl
 
   debts : DebtsCounted g then
@@ -270,49 +257,49 @@ module _ (g : Network) (wired : IsWired g) (u : ℕ) (lo : 1 ≤ u) (hi : u ≤ 
   fits_near : (i : ℕ) → At g u i → LinkFits (NamesOf g w) (near' g wired u lo hi hearer (put (w.seen u) j left) passing w i) (far' g wired u lo hi hearer (put (w.seen u) j left) passing w i)
   fits_near = by_port (LinkFits (NamesOf g w)) hit branch other
     where
-      hit : LinkFits (NamesOf g w) heard_at (across j)
+      hit : LinkFits (NamesOf g w) heard_at (far_end g w u j)
       hit = record {
-        tree = tree_told (NamesOf g w) (tree_end (end g w u j)) (tree_end (across j)) l n s ms call;
-        search = search_told (tree_end (end g w u j)) (tree_end (across j)) l s (Some j) call.rises call.most ms (w.seen (far g u j) (far_port g u j)).tree (link j at).search;
-        tests = tests_aside (test_end (end g w u j)) (test_end (across j)) o l (Some n) (quits j) (not_some o j quit) low (link j at).tests (link' j at).tests;
+        tree = tree_told (NamesOf g w) (tree_end (end g w u j)) (tree_end (far_end g w u j)) l n s ms call;
+        search = search_told (tree_end (end g w u j)) (tree_end (far_end g w u j)) l s (Some j) call.rises call.most ms (w.seen (far g u j) (far_port g u j)).tree (link j at).search;
+        tests = tests_aside (test_end (end g w u j)) (test_end (far_end g w u j)) o l (Some n) (quits j) (not_some o j quit) low (link j at).tests (link' j at).tests;
       }
 
       branch : (i : ℕ) → At g u i → i ≢ j → (w.at u).mark i ≡ Branch → LinkFits (NamesOf g w) (still i) (passed i)
       branch i at' ne b = let jo = branch_joined i at' ne b in record {
-        tree = tree_passed (NamesOf g w) (tree_end (end g w u i)) (tree_end (across i)) l n s (Some j) (away i ne) call.rises call.most jo (child i at' ne b) (sym (inside i at' jo)) (ghosts i at' jo).0 (ghosts i at' jo).1 call.inside call.name call.awake call.find (link i at').tree;
-        search = search_told (tree_end (end g w u i)) (tree_end (across i)) l s (Some j) call.rises call.most (w.seen u i).tree (tree_end (passed i)).tree (link i at').search;
-        tests = tests_aside (test_end (end g w u i)) (test_end (across i)) o l (Some n) (quits i) (not_some o i quit) low (link i at').tests (link' i at').tests;
+        tree = tree_passed (NamesOf g w) (tree_end (end g w u i)) (tree_end (far_end g w u i)) l n s (Some j) (away i ne) call.rises call.most jo (child i at' ne b) (sym (inside i at' jo)) (ghosts i at' jo).0 (ghosts i at' jo).1 call.inside call.name call.awake call.find (link i at').tree;
+        search = search_told (tree_end (end g w u i)) (tree_end (far_end g w u i)) l s (Some j) call.rises call.most (w.seen u i).tree (tree_end (passed i)).tree (link i at').search;
+        tests = tests_aside (test_end (end g w u i)) (test_end (far_end g w u i)) o l (Some n) (quits i) (not_some o i quit) low (link i at').tests (link' i at').tests;
       }
 
-      other : (i : ℕ) → At g u i → i ≢ j → (w.at u).mark i ≢ Branch → LinkFits (NamesOf g w) (still i) (across i)
+      other : (i : ℕ) → At g u i → i ≢ j → (w.at u).mark i ≢ Branch → LinkFits (NamesOf g w) (still i) (far_end g w u i)
       other i at' ne nb = record {
-        tree = tree_past (NamesOf g w) (tree_end (end g w u i)) (tree_end (across i)) l n s (Some j) (away i ne) call.rises call.most nb (link i at').tree;
-        search = search_told (tree_end (end g w u i)) (tree_end (across i)) l s (Some j) call.rises call.most (w.seen u i).tree (tree_end (across i)).tree (link i at').search;
-        tests = tests_aside (test_end (end g w u i)) (test_end (across i)) o l (Some n) (quits i) (not_some o i quit) low (link i at').tests (link' i at').tests;
+        tree = tree_past (NamesOf g w) (tree_end (end g w u i)) (tree_end (far_end g w u i)) l n s (Some j) (away i ne) call.rises call.most nb (link i at').tree;
+        search = search_told (tree_end (end g w u i)) (tree_end (far_end g w u i)) l s (Some j) call.rises call.most (w.seen u i).tree (tree_end (far_end g w u i)).tree (link i at').search;
+        tests = tests_aside (test_end (end g w u i)) (test_end (far_end g w u i)) o l (Some n) (quits i) (not_some o i quit) low (link i at').tests (link' i at').tests;
       }
 
   fits_far : (i : ℕ) → At g u i → LinkFits (NamesOf g w) (far' g wired u lo hi hearer (put (w.seen u) j left) passing w i) (near' g wired u lo hi hearer (put (w.seen u) j left) passing w i)
   fits_far = by_port (λ e f. LinkFits (NamesOf g w) f e) hit branch other
     where
-      hit : LinkFits (NamesOf g w) (across j) heard_at
+      hit : LinkFits (NamesOf g w) (far_end g w u j) heard_at
       hit = record {
-        tree = tree_told' (NamesOf g w) (tree_end (end g w u j)) (tree_end (across j)) l n s ms call (ghosts j at call.joins).1 refl (link' j at).tree;
-        search = search_told' (tree_end (end g w u j)) (tree_end (across j)) l s (Some j) call.rises call.most ms (w.seen (far g u j) (far_port g u j)).tree (link' j at).search;
-        tests = tests_aside' (test_end (end g w u j)) (test_end (across j)) o l (Some n) (quits j) (not_some o j quit) low (link j at).tests (link' j at).tests;
+        tree = tree_told' (NamesOf g w) (tree_end (end g w u j)) (tree_end (far_end g w u j)) l n s ms call (ghosts j at call.joins).1 refl (link' j at).tree;
+        search = search_told' (tree_end (end g w u j)) (tree_end (far_end g w u j)) l s (Some j) call.rises call.most ms (w.seen (far g u j) (far_port g u j)).tree (link' j at).search;
+        tests = tests_aside' (test_end (end g w u j)) (test_end (far_end g w u j)) o l (Some n) (quits j) (not_some o j quit) low (link j at).tests (link' j at).tests;
       }
 
       branch : (i : ℕ) → At g u i → i ≢ j → (w.at u).mark i ≡ Branch → LinkFits (NamesOf g w) (passed i) (still i)
       branch i at' ne b = let jo = branch_joined i at' ne b in record {
-        tree = tree_passed' (NamesOf g w) (tree_end (end g w u i)) (tree_end (across i)) l n s (Some j) (away i ne) call.rises call.most jo (child i at' ne b) (sym (inside i at' jo)) (ghosts i at' jo).0 (ghosts i at' jo).1 call.inside call.name call.awake call.find (link' i at').tree;
-        search = search_told' (tree_end (end g w u i)) (tree_end (across i)) l s (Some j) call.rises call.most (w.seen u i).tree (tree_end (passed i)).tree (link' i at').search;
-        tests = tests_aside' (test_end (end g w u i)) (test_end (across i)) o l (Some n) (quits i) (not_some o i quit) low (link i at').tests (link' i at').tests;
+        tree = tree_passed' (NamesOf g w) (tree_end (end g w u i)) (tree_end (far_end g w u i)) l n s (Some j) (away i ne) call.rises call.most jo (child i at' ne b) (sym (inside i at' jo)) (ghosts i at' jo).0 (ghosts i at' jo).1 call.inside call.name call.awake call.find (link' i at').tree;
+        search = search_told' (tree_end (end g w u i)) (tree_end (far_end g w u i)) l s (Some j) call.rises call.most (w.seen u i).tree (tree_end (passed i)).tree (link' i at').search;
+        tests = tests_aside' (test_end (end g w u i)) (test_end (far_end g w u i)) o l (Some n) (quits i) (not_some o i quit) low (link i at').tests (link' i at').tests;
       }
 
-      other : (i : ℕ) → At g u i → i ≢ j → (w.at u).mark i ≢ Branch → LinkFits (NamesOf g w) (across i) (still i)
+      other : (i : ℕ) → At g u i → i ≢ j → (w.at u).mark i ≢ Branch → LinkFits (NamesOf g w) (far_end g w u i) (still i)
       other i at' ne nb = record {
-        tree = tree_past' (NamesOf g w) (tree_end (end g w u i)) (tree_end (across i)) l n s (Some j) (away i ne) call.rises call.most nb (link' i at').tree;
-        search = search_told' (tree_end (end g w u i)) (tree_end (across i)) l s (Some j) call.rises call.most (w.seen u i).tree (tree_end (across i)).tree (link' i at').search;
-        tests = tests_aside' (test_end (end g w u i)) (test_end (across i)) o l (Some n) (quits i) (not_some o i quit) low (link i at').tests (link' i at').tests;
+        tree = tree_past' (NamesOf g w) (tree_end (end g w u i)) (tree_end (far_end g w u i)) l n s (Some j) (away i ne) call.rises call.most nb (link' i at').tree;
+        search = search_told' (tree_end (end g w u i)) (tree_end (far_end g w u i)) l s (Some j) call.rises call.most (w.seen u i).tree (tree_end (far_end g w u i)).tree (link' i at').search;
+        tests = tests_aside' (test_end (end g w u i)) (test_end (far_end g w u i)) o l (Some n) (quits i) (not_some o i quit) low (link i at').tests (link' i at').tests;
       }
 
   -- a fragment at rest hears no call to search
@@ -346,7 +333,7 @@ module _ (g : Network) (wired : IsWired g) (u : ℕ) (lo : 1 ≤ u) (hi : u ≤ 
       name_is : (k : Key) → Some n ≡ Some k → n ≡ k
       name_is k e = cc
 
-module _ (g : Network) (wired : IsWired g) (u : ℕ) (lo : 1 ≤ u) (hi : u ≤ g.count) (w : World) (holds : Invariant g w) (j : ℕ) (at : At g u j) (ms : List Message) (l : ℕ) (n : Key) (xs : List Mark) (marks : MarksAre g u (w.at u) xs) where
+module _ (g : Network) (wired : IsWired g) (u : ℕ) (lo : 1 ≤ u) (hi : u ≤ g.count) (w : Scene) (holds : Invariant g w) (j : ℕ) (at : At g u j) (ms : List Message) (l : ℕ) (n : Key) (xs : List Mark) (marks : MarksAre g u (w.at u) xs) where
   -- the node is told of a search that doesn't concern it yet
   pub initiates_rest : (w.seen u j).tree ≡ Initiate l n Found ∷ ms → Invariant g (acts g u (record (w.at u) { head = record (w.at u).head { level = l; name = Some n; phase = Found; in_branch = Some j; best = None } }) (put (w.seen u) j (record (w.seen u j) { tree = ms })) (on_branches xs j (Initiate l n Found)) w)
   initiates_rest waits = initiates g wired u lo hi j at w holds l n Found ms xs marks waits (w.at u).head.probe (idle g wired u lo hi j at w holds l n Found ms xs marks waits None refl 0 (λ e. refl)).0 (w.at u).head.find_count (λ e. e)

@@ -9,7 +9,7 @@ use Rattle.ghs_node.specs.declared.message.Message.{Message}
 use Rattle.ghs_node.specs.declared.message.Message.TheVariants.{Initiate, Report}
 use Rattle.ghs_protocol.specs.Network.{Network, port_at, At, far, far_port, IsWired}
 use Rattle.ghs_protocol.specs.Net.{put}
-use Rattle.ghs_protocol.proofs.clauses.World.{Seen, Member, World, TreeEnd, tree_end, end, acts}
+use Rattle.ghs_protocol.proofs.clauses.Scene.{Seen, Member, Scene, TreeEnd, tree_end, end, acts, far_end}
 use Rattle.ghs_protocol.proofs.clauses.Links.{Joins, Out, Child}
 use Rattle.ghs_protocol.proofs.clauses.TreeMessages.{TreeFits, Upward, Nothing_up, Report_up, Core, CoreQueue, Plain, With_report, Stage, Asking, Called, Begun, asked, called, Moved, MovedFits, To_here, To_there}
 use Rattle.ghs_protocol.proofs.clauses.Rest.{has_call, has_report}
@@ -17,7 +17,7 @@ use Rattle.ghs_protocol.proofs.clauses.Uniting.{MarksAre}
 use Rattle.ghs_protocol.proofs.clauses.Whole.{LinkFits, Invariant, NamesOf}
 use Rattle.ghs_protocol.proofs.clauses.Floors.{Floor, lower, owing, FloorsFit, FloorsAt, Floors}
 use Rattle.ghs_protocol.proofs.search.ReportGone.{at_it}
-use Rattle.ghs_protocol.proofs.rest.AtRest.{over, parent_finds, by_call, by_find}
+use Rattle.ghs_protocol.proofs.rest.AtRest.{parent_finds, by_call, by_find}
 use Rattle.ghs_protocol.proofs.search.Called.{Calls, told}
 use Rattle.ghs_protocol.proofs.search.Initiate as initiating
 use Rattle.ghs_protocol.proofs.search.Initiate.{has_call_more, has_call_first}
@@ -113,7 +113,7 @@ module _ {N : ℕ → Key → Type 0} (e f : TreeEnd) (l : ℕ) (n : Key) (s : P
     best = λ k q y z. absurd (unbest k q y (record { here = z.here; there = z.there }));
   }
 
-module _ (g : Network) (wired : IsWired g) (u : ℕ) (lo : 1 ≤ u) (hi : u ≤ g.count) (j : ℕ) (at : At g u j) (w : World) (holds : Invariant g w) (l : ℕ) (n : Key) (s : Phase) (ms : List Message) (xs : List Mark) (marks : MarksAre g u (w.at u) xs) (waits : (w.seen u j).tree ≡ Initiate l n s ∷ ms) (o : Option ℕ) (quit : o ≡ None) (count : ℕ) (counts : ◌≡◌ {A =
+module _ (g : Network) (wired : IsWired g) (u : ℕ) (lo : 1 ≤ u) (hi : u ≤ g.count) (j : ℕ) (at : At g u j) (w : Scene) (holds : Invariant g w) (l : ℕ) (n : Key) (s : Phase) (ms : List Message) (xs : List Mark) (marks : MarksAre g u (w.at u) xs) (waits : (w.seen u j).tree ≡ Initiate l n s ∷ ms) (o : Option ℕ) (quit : o ≡ None) (count : ℕ) (counts : ◌≡◌ {A =
     ℕ} (w.at u).head.find_count 0 → count ≡ cond (is_find s) (length (on_branches xs j (Initiate l n s))) 0)
     (floor : ℕ → Floor) (floors : Floors g w floor) (b : Floor) (falls : s ≢ Find → b ≡ floor u) (sought : s ≡ Find → b ≡ None) where
   abbrev hearer : Member
@@ -125,7 +125,7 @@ module _ (g : Network) (wired : IsWired g) (u : ℕ) (lo : 1 ≤ u) (hi : u ≤ 
   abbrev passing : Outgoing
   passing = on_branches xs j (Initiate l n s)
 
-  calls : Calls (NamesOf g w (w.at u).fragment) (tree_end (end g w u j)) (tree_end (over g w u j)) l n s ms
+  calls : Calls (NamesOf g w (w.at u).fragment) (tree_end (end g w u j)) (tree_end (far_end g w u j)) l n s ms
   calls = initiating.call g wired u lo hi j at w holds l n s ms xs marks waits o quit count counts
 
   rests : (w.at u).head.phase ≡ Found
@@ -134,20 +134,20 @@ module _ (g : Network) (wired : IsWired g) (u : ℕ) (lo : 1 ≤ u) (hi : u ≤ 
   aside : (i : ℕ) → i ≢ j → (w.at u).up ≢ Some i
   aside i ne = initiating.away g wired u lo hi j at w holds l n s ms xs marks waits o quit count counts i ne
 
-  link : (i : ℕ) → At g u i → LinkFits (NamesOf g w) (end g w u i) (over g w u i)
+  link : (i : ℕ) → At g u i → LinkFits (NamesOf g w) (end g w u i) (far_end g w u i)
   link i at' = link_fits g wired w holds u i at'
 
-  link' : (i : ℕ) → At g u i → LinkFits (NamesOf g w) (over g w u i) (end g w u i)
+  link' : (i : ℕ) → At g u i → LinkFits (NamesOf g w) (far_end g w u i) (end g w u i)
   link' i at' = link_fits' g wired w holds u i at'
 
-  within : (i : ℕ) → At g u i → Joins (tree_end (end g w u i)) (tree_end (over g w u i)) → (w.at u).fragment ≡ (w.at (far g u i)).fragment
+  within : (i : ℕ) → At g u i → Joins (tree_end (end g w u i)) (tree_end (far_end g w u i)) → (w.at u).fragment ≡ (w.at (far g u i)).fragment
   within i at' z = initiating.inside g wired u lo hi j at w holds l n s ms xs marks waits o quit count counts i at' z
 
-  no_out : (i : ℕ) → At g u i → i ≢ j → Out (tree_end (end g w u i)) (tree_end (over g w u i)) → ⊥
+  no_out : (i : ℕ) → At g u i → i ≢ j → Out (tree_end (end g w u i)) (tree_end (far_end g w u i)) → ⊥
   no_out i at' ne z = aside i ne ((link i at').tree.out_connect z).up
 
   -- nobody's best is at u: it hasn't come to its level
-  unbest : (i : ℕ) → At g u i → (k : Key) → (w.at (far g u i)).head.best ≡ Some (far_port g u i, k) → (w.at (far g u i)).head.level ≡ (w.at (far g u i)).coming → Joins (tree_end (over g w u i)) (tree_end (end g w u i)) → ⊥
+  unbest : (i : ℕ) → At g u i → (k : Key) → (w.at (far g u i)).head.best ≡ Some (far_port g u i, k) → (w.at (far g u i)).head.level ≡ (w.at (far g u i)).coming → Joins (tree_end (far_end g w u i)) (tree_end (end g w u i)) → ⊥
   unbest i at' k q y z = let h = ((link' i at').search.find_reported k q y z).level in let x = calls.rises in let v = calls.most in omega (arith, h, x, v)
 
   phases : (s ≡ Find) ⊎ (s ≢ Find)
@@ -170,14 +170,14 @@ module _ (g : Network) (wired : IsWired g) (u : ℕ) (lo : 1 ≤ u) (hi : u ≤ 
       go Sleeping a c = absurd (c refl)
 
   -- the ports other than that of the Initiate
-  near_other : (i : ℕ) → At g u i → i ≢ j → (t : List Message) → FloorsFit (told (tree_end (end g w u i)) l s (Some j) (w.seen u i).tree) (record (tree_end (over g w u i)) { tree = t }) b (floor (far g u i))
+  near_other : (i : ℕ) → At g u i → i ≢ j → (t : List Message) → FloorsFit (told (tree_end (end g w u i)) l s (Some j) (w.seen u i).tree) (record (tree_end (far_end g w u i)) { tree = t }) b (floor (far g u i))
   near_other i at' ne t =
-      near_passed (tree_end (end g w u i)) (tree_end (over g w u i)) l s (Some j) t (floor u) b (floor (far g u i)) (aside i ne) (no_out i at' ne)
+      near_passed (tree_end (end g w u i)) (tree_end (far_end g w u i)) l s (Some j) t (floor u) b (floor (far g u i)) (aside i ne) (no_out i at' ne)
       (λ out. ⊎_elim (λ e. none_lower e _) (λ nt. subst (λ v. lower v (Some (Some (port_at g u i).key)) ≡ true) (sym (falls nt)) ((near_fits g wired w holds floor floors u i at').none_below out)) phases)
 
-  far_other : (i : ℕ) → At g u i → i ≢ j → (t : List Message) → (s ≡ Find → Joins (tree_end (over g w u i)) (tree_end (end g w u i)) → has_call t ≡ true) → FloorsFit (record (tree_end (over g w u i)) { tree = t }) (told (tree_end (end g w u i)) l s (Some j) (w.seen u i).tree) (floor (far g u i)) b
+  far_other : (i : ℕ) → At g u i → i ≢ j → (t : List Message) → (s ≡ Find → Joins (tree_end (far_end g w u i)) (tree_end (end g w u i)) → has_call t ≡ true) → FloorsFit (record (tree_end (far_end g w u i)) { tree = t }) (told (tree_end (end g w u i)) l s (Some j) (w.seen u i).tree) (floor (far g u i)) b
   far_other i at' ne t called =
-      far_passed (tree_end (end g w u i)) (tree_end (over g w u i)) l s (Some j) t (floor u) b (floor (far g u i)) (aside i ne) called (unbest i at')
+      far_passed (tree_end (end g w u i)) (tree_end (far_end g w u i)) l s (Some j) t (floor u) b (floor (far g u i)) (aside i ne) called (unbest i at')
       (λ c. ⊎_elim (λ e. none_lower e _) (λ nt. subst (λ v. lower v (floor (far g u i)) ≡ true) (sym (falls nt)) ((far_fits g wired w holds floor floors u i at').falls c)) phases)
       (far_fits g wired w holds floor floors u i at')
 
@@ -185,31 +185,31 @@ module _ (g : Network) (wired : IsWired g) (u : ℕ) (lo : 1 ≤ u) (hi : u ≤ 
   called_first : (s ≡ Find) → has_call (w.seen u j).tree ≡ true
   called_first e = ap has_call waits ∙ has_call_first ms l n s ∙ ap (λ v. v || has_call ms) (is_call s e)
 
-  near_here : FloorsFit (told (tree_end (end g w u j)) l s (Some j) ms) (tree_end (over g w u j)) b (floor (far g u j))
+  near_here : FloorsFit (told (tree_end (end g w u j)) l s (Some j) ms) (tree_end (far_end g w u j)) b (floor (far g u j))
   near_here =
-      near_told (tree_end (end g w u j)) (tree_end (over g w u j)) l n s ms (floor u) b (floor (far g u j)) (link j at).tree (link' j at).tree calls waits
+      near_told (tree_end (end g w u j)) (tree_end (far_end g w u j)) l n s ms (floor u) b (floor (far g u j)) (link j at).tree (link' j at).tree calls waits
       (holds.trees.by_fragment (far g u j) u (sym (within j at calls.joins))).1 refl (sym (within j at calls.joins))
       (λ c. ⊎_elim (λ e. subst (λ v. lower v b ≡ true) (sym (parent_none c e)) refl) (λ nt. subst (λ v. lower (floor (far g u j)) v ≡ true) (sym (falls nt)) ((near_fits g wired w holds floor floors u j at).falls c)) phases)
       (λ p c z. ⊎_elim (λ e. absurd (let y = by_self e in cc (y, z))) (λ nt. subst (λ v. lower (Some (best_key (w.at (far g u j)).head.best)) v ≡ true) (sym (falls nt)) ((near_fits g wired w holds floor floors u j at).covered p c (owed_before nt z))) phases)
     where
-      parent_none : Child (tree_end (end g w u j)) (tree_end (over g w u j)) → s ≡ Find → floor (far g u j) ≡ None
+      parent_none : Child (tree_end (end g w u j)) (tree_end (far_end g w u j)) → s ≡ Find → floor (far g u j) ≡ None
       parent_none c e =
           let z = wired.there u j at in
           (floors.nodes (far g u j) (record { some = z.some; node = z.node })).search
           (parent_finds g wired w holds u j at c.down (by_call (has_report (w.seen (far g u j) (far_port g u j)).tree) (has_call (w.seen u j).tree) _ (called_first e)))
 
-      by_self : s ≡ Find → owing (tree_end (over g w u j)) (told (tree_end (end g w u j)) l s (Some j) ms) ≡ true
+      by_self : s ≡ Find → owing (tree_end (far_end g w u j)) (told (tree_end (end g w u j)) l s (Some j) ms) ≡ true
       by_self e = by_find (has_report (w.seen (far g u j) (far_port g u j)).tree) (has_call ms) (is_find s && is_at (Some j) j) (rw (e, at_it (Some j) j refl) refl)
 
-      owed_before : s ≢ Find → owing (tree_end (over g w u j)) (told (tree_end (end g w u j)) l s (Some j) ms) ≡ false → owing (tree_end (over g w u j)) (tree_end (end g w u j)) ≡ false
+      owed_before : s ≢ Find → owing (tree_end (far_end g w u j)) (told (tree_end (end g w u j)) l s (Some j) ms) ≡ false → owing (tree_end (far_end g w u j)) (tree_end (end g w u j)) ≡ false
       owed_before ne z = go s (not_found ne) z
         where
-          go : (p : Phase) → p ≡ Found → owing (tree_end (over g w u j)) (told (tree_end (end g w u j)) l p (Some j) ms) ≡ false → owing (tree_end (over g w u j)) (tree_end (end g w u j)) ≡ false
-          go p e y = rw (waits, has_call_first ms l n s, not_found ne, rests) (subst (λ v. owing (tree_end (over g w u j)) (told (tree_end (end g w u j)) l v (Some j) ms) ≡ false) e y)
+          go : (p : Phase) → p ≡ Found → owing (tree_end (far_end g w u j)) (told (tree_end (end g w u j)) l p (Some j) ms) ≡ false → owing (tree_end (far_end g w u j)) (tree_end (end g w u j)) ≡ false
+          go p e y = rw (waits, has_call_first ms l n s, not_found ne, rests) (subst (λ v. owing (tree_end (far_end g w u j)) (told (tree_end (end g w u j)) l v (Some j) ms) ≡ false) e y)
 
-  far_here : FloorsFit (tree_end (over g w u j)) (told (tree_end (end g w u j)) l s (Some j) ms) (floor (far g u j)) b
+  far_here : FloorsFit (tree_end (far_end g w u j)) (told (tree_end (end g w u j)) l s (Some j) ms) (floor (far g u j)) b
   far_here =
-      far_told (tree_end (end g w u j)) (tree_end (over g w u j)) l n s ms (floor u) b (floor (far g u j)) (link j at).tree (link' j at).tree calls waits
+      far_told (tree_end (end g w u j)) (tree_end (far_end g w u j)) l n s ms (floor u) b (floor (far g u j)) (link j at).tree (link' j at).tree calls waits
       (holds.trees.by_fragment (far g u j) u (sym (within j at calls.joins))).1 refl (sym (within j at calls.joins)) (unbest j at) (far_fits g wired w holds floor floors u j at)
 
   more_call : (i : ℕ) → s ≡ Find → has_call ((w.seen (far g u i) (far_port g u i)).tree ++ Initiate l n s ∷ []) ≡ true

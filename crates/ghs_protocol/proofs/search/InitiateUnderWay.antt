@@ -10,21 +10,20 @@ use Rattle.ghs_node.specs.declared.message.Message.{Message}
 use Rattle.ghs_node.specs.declared.message.Message.TheVariants.{Initiate}
 use Rattle.ghs_protocol.specs.Network.{Network, At, far, far_port, IsWired}
 use Rattle.ghs_protocol.specs.Net.{put}
-use Rattle.ghs_protocol.proofs.clauses.World.{Seen, Member, World, End, tree_end, end, acts}
+use Rattle.ghs_protocol.proofs.clauses.Scene.{Seen, Member, Scene, End, tree_end, end, acts, far_end}
 use Rattle.ghs_protocol.proofs.clauses.TreeMessages.{CoreFits}
 use Rattle.ghs_protocol.proofs.clauses.Rest.{has_report}
 use Rattle.ghs_protocol.proofs.clauses.Uniting.{MarksAre}
 use Rattle.ghs_protocol.proofs.clauses.Whole.{Invariant, NamesOf}
 use Rattle.ghs_protocol.proofs.clauses.UnderWay.{Answering, ProbeAsks, brought_to, ChildBrought, IsCore, CoreHeard, Lives}
 use Rattle.ghs_protocol.proofs.acts.Ends.{acts_keeps}
-use Rattle.ghs_protocol.proofs.rest.AtRest.{over}
 use Rattle.ghs_protocol.proofs.search.Called.{Calls}
 use Rattle.ghs_protocol.proofs.search.Initiate as initiating
 use Rattle.ghs_protocol.proofs.rows.Link.{link_fits}
 use Rattle.ghs_protocol.proofs.search.InitiateFloors.{core_searches}
 use Rattle.ghs_protocol.proofs.tests.UnderWay.{dropped, far_asks, near_brought, far_heard, brought_by_call}
 
-module _ (g : Network) (wired : IsWired g) (u : ℕ) (lo : 1 ≤ u) (hi : u ≤ g.count) (j : ℕ) (at : At g u j) (w : World) (holds : Invariant g w) (lives : Lives g w) (l : ℕ) (n : Key) (s : Phase) (ms : List Message) (xs : List Mark) (marks : MarksAre g u (w.at u) xs) (waits : (w.seen u j).tree ≡ Initiate l n s ∷ ms) (o : Option ℕ) (quit : o ≡ None) (count : ℕ)
+module _ (g : Network) (wired : IsWired g) (u : ℕ) (lo : 1 ≤ u) (hi : u ≤ g.count) (j : ℕ) (at : At g u j) (w : Scene) (holds : Invariant g w) (lives : Lives g w) (l : ℕ) (n : Key) (s : Phase) (ms : List Message) (xs : List Mark) (marks : MarksAre g u (w.at u) xs) (waits : (w.seen u j).tree ≡ Initiate l n s ∷ ms) (o : Option ℕ) (quit : o ≡ None) (count : ℕ)
     (counts : ◌≡◌ {A = ℕ} (w.at u).head.find_count 0 → count ≡ cond (is_find s) (length (on_branches xs j (Initiate l n s))) 0) where
   abbrev hearer : Member
   hearer = record (w.at u) { head = record (w.at u).head { level = l; name = Some n; phase = s; in_branch = Some j; best = None; probe = o; find_count = count } }
@@ -35,7 +34,7 @@ module _ (g : Network) (wired : IsWired g) (u : ℕ) (lo : 1 ≤ u) (hi : u ≤ 
   abbrev passing : Outgoing
   passing = on_branches xs j (Initiate l n s)
 
-  calls : Calls (NamesOf g w (w.at u).fragment) (tree_end (end g w u j)) (tree_end (over g w u j)) l n s ms
+  calls : Calls (NamesOf g w (w.at u).fragment) (tree_end (end g w u j)) (tree_end (far_end g w u j)) l n s ms
   calls = initiating.call g wired u lo hi j at w holds l n s ms xs marks waits o quit count counts
 
   aside : (i : ℕ) → i ≢ j → (w.at u).up ≢ Some i
@@ -44,9 +43,9 @@ module _ (g : Network) (wired : IsWired g) (u : ℕ) (lo : 1 ≤ u) (hi : u ≤ 
   -- a fact of all links
   initiates :
       (P : End → End → Type 0) → ((v p : ℕ) → At g v p → P (end g w v p) (end g w (far g v p) (far_port g v p))) →
-      P (record (end g w u j) { is = hearer; seen = record (w.seen u j) { tree = ms } }) (over g w u j) → P (over g w u j) (record (end g w u j) { is = hearer; seen = record (w.seen u j) { tree = ms } }) →
-      ((i : ℕ) → At g u i → i ≢ j → (t : List Message) → P (record (end g w u i) { is = hearer }) (record (over g w u i) { seen = record (w.seen (far g u i) (far_port g u i)) { tree = t } })) →
-      ((i : ℕ) → At g u i → i ≢ j → (t : List Message) → ((w.at u).mark i ≡ Branch → t ≡ (w.seen (far g u i) (far_port g u i)).tree ++ Initiate l n s ∷ []) → P (record (over g w u i) { seen = record (w.seen (far g u i) (far_port g u i)) { tree = t } }) (record (end g w u i) { is = hearer })) →
+      P (record (end g w u j) { is = hearer; seen = record (w.seen u j) { tree = ms } }) (far_end g w u j) → P (far_end g w u j) (record (end g w u j) { is = hearer; seen = record (w.seen u j) { tree = ms } }) →
+      ((i : ℕ) → At g u i → i ≢ j → (t : List Message) → P (record (end g w u i) { is = hearer }) (record (far_end g w u i) { seen = record (w.seen (far g u i) (far_port g u i)) { tree = t } })) →
+      ((i : ℕ) → At g u i → i ≢ j → (t : List Message) → ((w.at u).mark i ≡ Branch → t ≡ (w.seen (far g u i) (far_port g u i)).tree ++ Initiate l n s ∷ []) → P (record (far_end g w u i) { seen = record (w.seen (far g u i) (far_port g u i)) { tree = t } }) (record (end g w u i) { is = hearer })) →
       (v p : ℕ) → At g v p → P (end g (acts g u hearer own passing w) v p) (end g (acts g u hearer own passing w) (far g v p) (far_port g v p))
   initiates P all hit hit' miss miss' =
       acts_keeps g wired u lo hi hearer own passing w P all
@@ -60,10 +59,10 @@ module _ (g : Network) (wired : IsWired g) (u : ℕ) (lo : 1 ≤ u) (hi : u ≤ 
   left_asks i at' theirs = subst (λ y. Answering (w.seen u i).tests (w.seen (far g u i) (far_port g u i)).accepts (w.seen (far g u i) (far_port g u i)).rejects (w.seen (far g u i) (far_port g u i)).tests y i) (sym quit) (dropped _ _ _ _ (w.at u).head.probe i (far_asks g wired u lo hi j at w holds lives i at' theirs))
 
   -- over the core it begins a search
-  core_finds : IsCore (end g w u j) (over g w u j) → s ≡ Find
+  core_finds : IsCore (end g w u j) (far_end g w u j) → s ≡ Find
   core_finds c =
-      let q : CoreFits (tree_end (end g w u j)) (tree_end (over g w u j)) = (link_fits g wired w holds u j at).tree.core_queues (record { both = record { joins = record { here = c.0; there = c.1 }; up = c.2; up_beyond = c.3 }; named = c.4 }) in
-      core_searches (tree_end (end g w u j)) (tree_end (over g w u j)) l n s ms q.here q.there waits q.queue
+      let q : CoreFits (tree_end (end g w u j)) (tree_end (far_end g w u j)) = (link_fits g wired w holds u j at).tree.core_queues (record { both = record { joins = record { here = c.0; there = c.1 }; up = c.2; up_beyond = c.3 }; named = c.4 }) in
+      core_searches (tree_end (end g w u j)) (tree_end (far_end g w u j)) l n s ms q.here q.there waits q.queue
 
   -- who isn't at its coming level has heard nothing
   low : (w.at u).head.level ≡ (w.at u).coming → ⊥

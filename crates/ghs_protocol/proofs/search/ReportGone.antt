@@ -4,7 +4,7 @@ use Rattle.ghs_graph.specs.declared.key.Key.{Key}
 use Rattle.ghs_node.specs.Words.{is_find, is_at}
 use Rattle.ghs_node.specs.declared.message.Message.{Message}
 use Rattle.ghs_node.specs.declared.message.Message.TheVariants.{Report}
-use Rattle.ghs_protocol.proofs.clauses.World.{End, TreeEnd}
+use Rattle.ghs_protocol.proofs.clauses.Scene.{End, TreeEnd}
 use Rattle.ghs_protocol.proofs.clauses.TreeMessages.{TreeFits, Nothing_up, Downward, Initiates, Old_report}
 use Rattle.ghs_protocol.proofs.clauses.Search.{SearchFits}
 use Rattle.ghs_protocol.proofs.clauses.Links.{Child}

@@ -11,19 +11,15 @@ use Rattle.ghs_node.specs.declared.message.Phase.TheVariants.{Sleeping, Find}
 use Rattle.ghs_protocol.proofs.clauses.Wiring.{IsOrdered}
 use Rattle.ghs_protocol.specs.Network.{Network, port_at, At}
 use Rattle.ghs_protocol.specs.Net.{put, opening}
-use Rattle.ghs_protocol.proofs.clauses.World.{Seen, Member, World, world, acts}
+use Rattle.ghs_protocol.proofs.clauses.Scene.{Seen, Member, Scene, scene, acts}
 use Rattle.ghs_protocol.proofs.clauses.Whole.{opening_ghost}
 use Rattle.ghs_protocol.proofs.clauses.UnderWay.{Lives}
 use Rattle.ghs_protocol.proofs.clauses.Floors.{Floors, ScansInOrder, AllScan, AllScanBut}
 use Rattle.ghs_protocol.proofs.lemmas.Updates.{put_same, put_other}
+use Rattle.ghs_graph.proofs.lemmas.Keys.{lt_asymmetric, lt_irreflexive}
+use Rattle.ghs_protocol.proofs.wake.Opening.{unmarked}
 
-key_self : (k : Key) → key_lt k k ≡ false
-key_self k = grind (arith, nat_tests)
-
-key_not : (j k : Key) → key_lt j k ≡ true → key_lt k j ≡ false
-key_not j k h = grind (arith, nat_tests)
-
-module _ (g : Network) (u : ℕ) (lo : 1 ≤ u) (hi : u ≤ g.count) (x : Member) (own : ℕ → Seen) (ss : Outgoing) (w : World) where
+module _ (g : Network) (u : ℕ) (lo : 1 ≤ u) (hi : u ≤ g.count) (x : Member) (own : ℕ → Seen) (ss : Outgoing) (w : Scene) where
   -- all but u, which has yet to test its next port
   pub scans_but : AllScanBut g w u → AllScanBut g (acts g u x own ss w) u
   scans_but h v is ne = subst (ScansInOrder g v) (sym (put_other w.at u v x ne)) (h v is ne)
@@ -48,19 +44,14 @@ probing_scan g ordered u x p at probe least within = record {
   where
     order : (q : ℕ) → x.mark q ≡ Basic → key_lt (port_at g u q).key (port_at g u p).key ≡ false
     order q b =
-        ⊎_elim (λ (e : q ≡ p). subst (λ y. key_lt (port_at g u y).key (port_at g u p).key ≡ false) (sym e) (key_self (port_at g u p).key))
-        (λ ne. key_not (port_at g u p).key (port_at g u q).key (ordered u p q (past q b ne) (within q b))) (cases_eq q p)
+        ⊎_elim (λ (e : q ≡ p). subst (λ y. key_lt (port_at g u y).key (port_at g u p).key ≡ false) (sym e) (lt_irreflexive (port_at g u p).key))
+        (λ ne. lt_asymmetric (port_at g u p).key (port_at g u q).key (ordered u p q (past q b ne) (within q b))) (cases_eq q p)
       where
         past : (q : ℕ) → x.mark q ≡ Basic → q ≢ p → p < q
         past q b ne = ⊎_elim (λ (lt : q < p). absurd (least q lt b)) (λ (le : p ≤ q). omega (arith, le, ne)) (cases_lt q p)
 
-unmarked : (n p : ℕ) → get_or (replicate n Basic) p Rejected ≢ Branch
-unmarked zero p = λ e. cc
-unmarked (suc n) zero = λ e. cc
-unmarked (suc n) (suc p) = unmarked n p
-
 -- at the opening nothing is known
-pub opening_floors : (g : Network) → Floors g (world (opening g) opening_ghost) (λ v. None)
+pub opening_floors : (g : Network) → Floors g (scene (opening g) opening_ghost) (λ v. None)
 opening_floors g = record {
   nodes = λ v is. record { asleep = λ e. refl; search = λ e. refl };
   links = λ v p at. record { none_below = λ o. refl; falls = λ c. refl; covered = λ e c. absurd (let z : Sleeping ≡ Find = e in cc); report = λ k c. absurd (none v p c.joins.here); core = λ c. absurd (none v p c.both.joins.here); out = λ o. absurd (none v p o.here); moved = λ m. absurd (none v p m.both.joins.here); best = λ k e. absurd (let z : None ≡ Some (p, k) = e in cc) };
@@ -68,13 +59,13 @@ opening_floors g = record {
   halted = λ v t p is h. absurd (let z : false ≡ true = h in cc);
 }
   where
-    none : (v p : ℕ) → ((world (opening g) opening_ghost).at v).mark p ≢ Branch
+    none : (v p : ℕ) → ((scene (opening g) opening_ghost).at v).mark p ≢ Branch
     none v p = unmarked (length (g.ports v)) p
 
-pub opening_scans : (g : Network) → AllScan g (world (opening g) opening_ghost)
-opening_scans g v is = rests_scan g v ((world (opening g) opening_ghost).at v) (λ e. let z : Sleeping ≡ Find = e in cc)
+pub opening_scans : (g : Network) → AllScan g (scene (opening g) opening_ghost)
+opening_scans g v is = rests_scan g v ((scene (opening g) opening_ghost).at v) (λ e. let z : Sleeping ≡ Find = e in cc)
 
-pub opening_lives : (g : Network) → Lives g (world (opening g) opening_ghost)
+pub opening_lives : (g : Network) → Lives g (scene (opening g) opening_ghost)
 opening_lives g = record {
   asks = λ v p at e. absurd (let z : None ≡ Some p = e in cc);
   brought = λ v p at c. absurd (unmarked (length (g.ports v)) p c.0);

@@ -9,14 +9,13 @@ use Rattle.ghs_node.specs.declared.message.Message.{Message}
 use Rattle.ghs_node.specs.declared.message.Message.TheVariants.{Connect, Initiate, Test, Accept, Reject}
 use Rattle.ghs_protocol.specs.Network.{Network, port_at, At, far, far_port, IsWired}
 use Rattle.ghs_protocol.specs.Net.{put}
-use Rattle.ghs_protocol.proofs.clauses.World.{Seen, adds, Member, World, End, TreeEnd, tree_end, end, acts}
+use Rattle.ghs_protocol.proofs.clauses.Scene.{Seen, adds, Member, Scene, End, TreeEnd, tree_end, end, acts, far_end}
 use Rattle.ghs_protocol.proofs.clauses.Whole.{Invariant}
 use Rattle.ghs_protocol.proofs.clauses.Floors.{Floor, FloorsFit, FloorsAt, NodeFloor, HaltedIsWhole, Floors}
 use Rattle.ghs_protocol.proofs.acts.SameForest.{branch_mark}
 use Rattle.ghs_protocol.proofs.acts.Reactions.{put_again}
 use Rattle.ghs_protocol.proofs.acts.Situations.{marked, branch_marked}
 use Rattle.ghs_protocol.proofs.acts.OneLink.{SendsOn, sends_none, sends_one, by_port_at}
-use Rattle.ghs_protocol.proofs.rest.AtRest.{over}
 use Rattle.ghs_protocol.proofs.union.CoreAnswered.{Asked, asked_on}
 use Rattle.ghs_protocol.proofs.rows.Link.{link_fits, link_fits', link_leads}
 use Rattle.ghs_protocol.proofs.acts.Floors.{near_fits, far_fits}
@@ -55,7 +54,7 @@ module _ (e f : TreeEnd) (m : Mark) (a c : Floor) (same : is_branch m ≡ is_bra
   }
 
 -- One link is touched, floors stay.
-module _ (g : Network) (wired : IsWired g) (u : ℕ) (lo : 1 ≤ u) (hi : u ≤ g.count) (x : Member) (j : ℕ) (at : At g u j) (q : Seen) (ms : List Message) (ss : Outgoing) (on : SendsOn j ms ss) (w : World) (floor : ℕ → Floor) (floors : Floors g w floor) where
+module _ (g : Network) (wired : IsWired g) (u : ℕ) (lo : 1 ≤ u) (hi : u ≤ g.count) (x : Member) (j : ℕ) (at : At g u j) (q : Seen) (ms : List Message) (ss : Outgoing) (on : SendsOn j ms ss) (w : Scene) (floor : ℕ → Floor) (floors : Floors g w floor) where
   abbrev pub still : ℕ → End
   still i = record { port = i; key = (port_at g u i).key; mark = x.mark i; is = x; seen = w.seen u i }
 
@@ -67,7 +66,7 @@ module _ (g : Network) (wired : IsWired g) (u : ℕ) (lo : 1 ≤ u) (hi : u ≤ 
 
   pub touches_floors :
       FloorsAt here there (floor u) (floor (far g u j)) → FloorsAt there here (floor (far g u j)) (floor u) →
-      ((i : ℕ) → At g u i → i ≢ j → FloorsAt (still i) (over g w u i) (floor u) (floor (far g u i))) → ((i : ℕ) → At g u i → i ≢ j → FloorsAt (over g w u i) (still i) (floor (far g u i)) (floor u)) →
+      ((i : ℕ) → At g u i → i ≢ j → FloorsAt (still i) (far_end g w u i) (floor u) (floor (far g u i))) → ((i : ℕ) → At g u i → i ≢ j → FloorsAt (far_end g w u i) (still i) (floor (far g u i)) (floor u)) →
       NodeFloor x (floor u) → ((p : ℕ) → x.mark p ≡ Branch → (w.at u).mark p ≡ Branch) → HaltedIsWhole g (acts g u x (put (w.seen u) j q) ss w) →
       Floors g (acts g u x (put (w.seen u) j q) ss w) floor
   touches_floors hit hit' miss miss' node marks halted =
@@ -81,15 +80,15 @@ module _ (g : Network) (wired : IsWired g) (u : ℕ) (lo : 1 ≤ u) (hi : u ≤ 
         halted = halted;
       })
 
-module _ (g : Network) (wired : IsWired g) (u : ℕ) (lo : 1 ≤ u) (hi : u ≤ g.count) (j : ℕ) (at : At g u j) (w : World) (holds : Invariant g w) (floor : ℕ → Floor) (floors : Floors g w floor) where
+module _ (g : Network) (wired : IsWired g) (u : ℕ) (lo : 1 ≤ u) (hi : u ≤ g.count) (j : ℕ) (at : At g u j) (w : Scene) (holds : Invariant g w) (floor : ℕ → Floor) (floors : Floors g w floor) where
   same_node : NodeFloor (w.at u) (floor u)
   same_node = floors.nodes u (record { some = lo; node = hi })
 
-  near_mark : (m : Mark) (i : ℕ) → At g u i → is_branch m ≡ is_branch ((w.at u).mark i) → FloorsFit (record (tree_end (end g w u i)) { mark = m }) (tree_end (over g w u i)) (floor u) (floor (far g u i))
-  near_mark m i at' e = near_marked (tree_end (end g w u i)) (tree_end (over g w u i)) m (floor u) (floor (far g u i)) e (near_fits g wired w holds floor floors u i at')
+  near_mark : (m : Mark) (i : ℕ) → At g u i → is_branch m ≡ is_branch ((w.at u).mark i) → FloorsFit (record (tree_end (end g w u i)) { mark = m }) (tree_end (far_end g w u i)) (floor u) (floor (far g u i))
+  near_mark m i at' e = near_marked (tree_end (end g w u i)) (tree_end (far_end g w u i)) m (floor u) (floor (far g u i)) e (near_fits g wired w holds floor floors u i at')
 
-  far_mark : (m : Mark) (i : ℕ) → At g u i → is_branch m ≡ is_branch ((w.at u).mark i) → FloorsFit (tree_end (over g w u i)) (record (tree_end (end g w u i)) { mark = m }) (floor (far g u i)) (floor u)
-  far_mark m i at' e = far_marked (tree_end (end g w u i)) (tree_end (over g w u i)) m (floor u) (floor (far g u i)) e (far_fits g wired w holds floor floors u i at')
+  far_mark : (m : Mark) (i : ℕ) → At g u i → is_branch m ≡ is_branch ((w.at u).mark i) → FloorsFit (tree_end (far_end g w u i)) (record (tree_end (end g w u i)) { mark = m }) (floor (far g u i)) (floor u)
+  far_mark m i at' e = far_marked (tree_end (end g w u i)) (tree_end (far_end g w u i)) m (floor u) (floor (far g u i)) e (far_fits g wired w holds floor floors u i at')
 
   -- a Test is accepted
   pub accept_sent_floors : (ts : List (ℕ × Key)) → Floors g (acts g u (w.at u) (put (w.seen u) j (record (w.seen u j) { tests = ts })) ((j, Accept) ∷ []) w) floor
@@ -134,10 +133,10 @@ module _ (g : Network) (wired : IsWired g) (u : ℕ) (lo : 1 ≤ u) (hi : u ≤ 
 
   -- a Connect over the core is answered
   module _ (l : ℕ) (ms : List Message) (waits : (w.seen u j).tree ≡ Connect l ∷ ms) (marked_so : (w.at u).mark j ≢ Basic) (m : ℕ) (k : Key) where
-    asked : Asked (tree_end (end g w u j)) (tree_end (over g w u j)) l ms
-    asked = asked_on (tree_end (end g w u j)) (tree_end (over g w u j)) (link_fits g wired w holds u j at).tree (link_fits' g wired w holds u j at).tree (link_leads g wired w holds u j at) l ms waits marked_so
+    asked : Asked (tree_end (end g w u j)) (tree_end (far_end g w u j)) l ms
+    asked = asked_on (tree_end (end g w u j)) (tree_end (far_end g w u j)) (link_fits g wired w holds u j at).tree (link_fits' g wired w holds u j at).tree (link_leads g wired w holds u j at) l ms waits marked_so
 
-    near_served : FloorsFit (record (tree_end (end g w u j)) { tree = ms }) (record (tree_end (over g w u j)) { tree = (w.seen (far g u j) (far_port g u j)).tree ++ Initiate m k Find ∷ [] }) (floor u) (floor (far g u j))
+    near_served : FloorsFit (record (tree_end (end g w u j)) { tree = ms }) (record (tree_end (far_end g w u j)) { tree = (w.seen (far g u j) (far_port g u j)).tree ++ Initiate m k Find ∷ [] }) (floor u) (floor (far g u j))
     near_served =
         let f = near_fits g wired w holds floor floors u j at in
         record {
@@ -151,7 +150,7 @@ module _ (g : Network) (wired : IsWired g) (u : ℕ) (lo : 1 ≤ u) (hi : u ≤ 
           best = λ y b e z. f.best y b e asked.core.both.joins;
         }
 
-    far_served : FloorsFit (record (tree_end (over g w u j)) { tree = (w.seen (far g u j) (far_port g u j)).tree ++ Initiate m k Find ∷ [] }) (record (tree_end (end g w u j)) { tree = ms }) (floor (far g u j)) (floor u)
+    far_served : FloorsFit (record (tree_end (far_end g w u j)) { tree = (w.seen (far g u j) (far_port g u j)).tree ++ Initiate m k Find ∷ [] }) (record (tree_end (end g w u j)) { tree = ms }) (floor (far g u j)) (floor u)
     far_served =
         let f = far_fits g wired w holds floor floors u j at in
         record {
@@ -175,7 +174,7 @@ module _ (g : Network) (wired : IsWired g) (u : ℕ) (lo : 1 ≤ u) (hi : u ≤ 
         same_node (λ p e. e) (halted_after g wired u lo hi (w.at u) (put (w.seen u) j (record (w.seen u j) { tree = ms })) ((j, Initiate m k Find) ∷ []) w floor floors (floor u) refl refl)
 
 -- A node without ports wakes and halts.
-module _ (g : Network) (wired : IsWired g) (u : ℕ) (lo : 1 ≤ u) (hi : u ≤ g.count) (w : World) (holds : Invariant g w) (lone : ◌≡◌ {A = ℕ} (length (g.ports u)) 0) (sleeps : (w.at u).head.phase ≡ Sleeping) (floor : ℕ → Floor) (floors : Floors g w floor) where
+module _ (g : Network) (wired : IsWired g) (u : ℕ) (lo : 1 ≤ u) (hi : u ≤ g.count) (w : Scene) (holds : Invariant g w) (lone : ◌≡◌ {A = ℕ} (length (g.ports u)) 0) (sleeps : (w.at u).head.phase ≡ Sleeping) (floor : ℕ → Floor) (floors : Floors g w floor) where
   no_port : (i : ℕ) → At g u i → ⊥
   no_port i at = omega (arith, at.port, lone)
 

@@ -5,7 +5,7 @@ use Rattle.std.proofs.lemmas.Option.{same_Some}
 use Rattle.ghs_graph.specs.declared.key.Key.{Key}
 use Rattle.ghs_node.specs.declared.mark.Mark.{Mark}
 use Rattle.ghs_node.specs.declared.mark.Mark.TheVariants.{Basic, Branch, Rejected}
-use Rattle.ghs_protocol.proofs.clauses.World.{TestEnd}
+use Rattle.ghs_protocol.proofs.clauses.Scene.{TestEnd}
 use Rattle.ghs_protocol.proofs.clauses.Tests.{Probes, Strays, TestsFit, AllFrom}
 
 pub probe_is : (o : Option ℕ) (p : ℕ) → (o ≡ Some p) ⊎ (o ≢ Some p)

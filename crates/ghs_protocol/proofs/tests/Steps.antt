@@ -9,7 +9,7 @@ use Rattle.ghs_node.specs.declared.message.Message.TheVariants.{Accept, Reject, 
 use Rattle.ghs_protocol.specs.Network.{Network, port_at, At, far, far_port, IsWired}
 use Rattle.ghs_protocol.specs.Net.{put}
 use Rattle.ghs_protocol.proofs.lemmas.Updates.{put_same, put_other}
-use Rattle.ghs_protocol.proofs.clauses.World.{Seen, Member, World, End, tree_end, test_end, end, forest, acts}
+use Rattle.ghs_protocol.proofs.clauses.Scene.{Seen, Member, Scene, End, tree_end, test_end, end, forest, acts}
 use Rattle.ghs_protocol.proofs.clauses.Nodes.{NodeFits}
 use Rattle.ghs_protocol.proofs.clauses.Whole.{LinkFits, Invariant, NamesOf}
 use Rattle.ghs_protocol.proofs.clauses.Wiring.{IsKeyed}
@@ -17,7 +17,7 @@ use Rattle.ghs_protocol.proofs.acts.OneLink.{sends_none, sends_one, at_near, at_
 use Rattle.ghs_protocol.proofs.tests.Links.{rejected, not_some, tests_aside, tests_aside', accept_here, accept_there, reject_here, reject_there, reject_frag, cross_frag, cross_here, cross_there, rejected_facts, rejected_here, rejected_there, scan_here, scan_there}
 use Rattle.ghs_protocol.proofs.acts.Situations.{probing_finds, tops_alike, named_apart, one_fragment, tree_rejected, tree_rejected', search_rejected, search_rejected', node_turned, marked, branch_marked, within_marked}
 
-module _ (g : Network) (wired : IsWired g) (u : ℕ) (lo : 1 ≤ u) (hi : u ≤ g.count) (j : ℕ) (at : At g u j) (w : World) (holds : Invariant g w) where
+module _ (g : Network) (wired : IsWired g) (u : ℕ) (lo : 1 ≤ u) (hi : u ≤ g.count) (j : ℕ) (at : At g u j) (w : Scene) (holds : Invariant g w) where
   abbrev pub beyond' : End
   beyond' = onto g wired u lo hi (w.at u) j at (w.seen u j) [] [] (sends_none j) w j
 

@@ -11,7 +11,7 @@ use Rattle.ghs_node.specs.declared.message.Message.{Message}
 use Rattle.ghs_node.specs.declared.message.Message.TheVariants.{Connect, Initiate, Test, Accept, Reject, Report, ChangeRoot}
 use Rattle.ghs_protocol.specs.Network.{Network, port_at, At, far, far_port, IsWired}
 use Rattle.ghs_protocol.specs.Net.{put}
-use Rattle.ghs_protocol.proofs.clauses.World.{Seen, adds, Member, World, End, TreeEnd, tree_end, end, acts}
+use Rattle.ghs_protocol.proofs.clauses.Scene.{Seen, adds, Member, Scene, End, TreeEnd, tree_end, end, acts, far_end}
 use Rattle.ghs_protocol.proofs.clauses.Whole.{LinkFits, Invariant, NamesOf}
 use Rattle.ghs_protocol.proofs.clauses.Tests.{AllFrom}
 use Rattle.ghs_protocol.proofs.clauses.TreeMessages.{Stage, AtStage, Asking, Called, Begun}
@@ -22,7 +22,6 @@ use Rattle.ghs_protocol.proofs.acts.SameForest.{branch_mark}
 use Rattle.ghs_protocol.proofs.tests.Steps.{one_name}
 use Rattle.ghs_protocol.proofs.clauses.Wiring.{IsKeyed}
 use Rattle.ghs_protocol.proofs.acts.OneLink.{SendsOn, sends_none, sends_one, by_port_at, at_near, at_far}
-use Rattle.ghs_protocol.proofs.rest.AtRest.{over}
 use Rattle.ghs_protocol.proofs.rows.Link.{link_fits, link_fits', link_leads}
 use Rattle.ghs_protocol.proofs.acts.Situations.{marked, branch_marked, probing_finds, is_find'}
 use Rattle.ghs_protocol.proofs.search.FirstReport.{Heard, heard_first}
@@ -32,7 +31,7 @@ use Rattle.ghs_protocol.proofs.search.Close.{has_report_append}
 use Rattle.ghs_protocol.proofs.tests.Links.{probe_is}
 
 -- One link is touched: a fact of all links.
-module _ (g : Network) (wired : IsWired g) (u : ℕ) (lo : 1 ≤ u) (hi : u ≤ g.count) (x : Member) (j : ℕ) (at : At g u j) (q : Seen) (ms : List Message) (ss : Outgoing) (on : SendsOn j ms ss) (w : World) where
+module _ (g : Network) (wired : IsWired g) (u : ℕ) (lo : 1 ≤ u) (hi : u ≤ g.count) (x : Member) (j : ℕ) (at : At g u j) (q : Seen) (ms : List Message) (ss : Outgoing) (on : SendsOn j ms ss) (w : Scene) where
   abbrev pub still : ℕ → End
   still i = record { port = i; key = (port_at g u i).key; mark = x.mark i; is = x; seen = w.seen u i }
 
@@ -42,12 +41,12 @@ module _ (g : Network) (wired : IsWired g) (u : ℕ) (lo : 1 ≤ u) (hi : u ≤ 
   abbrev pub there : End
   there = record { port = far_port g u j; key = (port_at g u j).key; mark = (w.at (far g u j)).mark (far_port g u j); is = w.at (far g u j); seen = adds (w.seen (far g u j) (far_port g u j)) ms }
 
-  abbrev after : World
+  abbrev after : Scene
   after = acts g u x (put (w.seen u) j q) ss w
 
   pub touches :
       (P : End → End → Type 0) → ((v p : ℕ) → At g v p → P (end g w v p) (end g w (far g v p) (far_port g v p))) → P here there → P there here →
-      ((i : ℕ) → At g u i → i ≢ j → P (still i) (over g w u i)) → ((i : ℕ) → At g u i → i ≢ j → P (over g w u i) (still i)) →
+      ((i : ℕ) → At g u i → i ≢ j → P (still i) (far_end g w u i)) → ((i : ℕ) → At g u i → i ≢ j → P (far_end g w u i) (still i)) →
       (v p : ℕ) → At g v p → P (end g after v p) (end g after (far g v p) (far_port g v p))
   touches P all hit hit' miss miss' =
       acts_keeps g wired u lo hi x (put (w.seen u) j q) ss w P all
@@ -56,7 +55,7 @@ module _ (g : Network) (wired : IsWired g) (u : ℕ) (lo : 1 ≤ u) (hi : u ≤ 
 
   -- the four readings of a fact that the act leaves to show
   abbrev pub Ends : (End → End → Type 0) → Type 0
-  Ends P = P here there × P there here × ((i : ℕ) → At g u i → i ≢ j → P (still i) (over g w u i)) × ((i : ℕ) → At g u i → i ≢ j → P (over g w u i) (still i))
+  Ends P = P here there × P there here × ((i : ℕ) → At g u i → i ≢ j → P (still i) (far_end g w u i)) × ((i : ℕ) → At g u i → i ≢ j → P (far_end g w u i) (still i))
 
   pub touches_lives : Lives g w → Ends ProbeAsks → Ends ChildBrought → Ends CoreHeard → Lives g (acts g u x (put (w.seen u) j q) ss w)
   touches_lives lives a b c = record {
@@ -110,36 +109,36 @@ brought_despite (Reject ∷ xs) l k = brought_despite xs l k
 brought_despite (Report r ∷ xs) l k = brought_despite xs l k
 brought_despite (ChangeRoot ∷ xs) l k = brought_despite xs l k
 
-module _ (g : Network) (wired : IsWired g) (u : ℕ) (lo : 1 ≤ u) (hi : u ≤ g.count) (j : ℕ) (at : At g u j) (w : World) (holds : Invariant g w) (lives : Lives g w) where
-  pub near_asks : (i : ℕ) → At g u i → ProbeAsks (end g w u i) (over g w u i)
+module _ (g : Network) (wired : IsWired g) (u : ℕ) (lo : 1 ≤ u) (hi : u ≤ g.count) (j : ℕ) (at : At g u j) (w : Scene) (holds : Invariant g w) (lives : Lives g w) where
+  pub near_asks : (i : ℕ) → At g u i → ProbeAsks (end g w u i) (far_end g w u i)
   near_asks i at' = at_near g wired w ProbeAsks lives.asks u i at'
 
-  pub far_asks : (i : ℕ) → At g u i → ProbeAsks (over g w u i) (end g w u i)
+  pub far_asks : (i : ℕ) → At g u i → ProbeAsks (far_end g w u i) (end g w u i)
   far_asks i at' = at_far g wired w ProbeAsks lives.asks u i at'
 
-  pub near_brought : (i : ℕ) → At g u i → ChildBrought (end g w u i) (over g w u i)
+  pub near_brought : (i : ℕ) → At g u i → ChildBrought (end g w u i) (far_end g w u i)
   near_brought i at' = at_near g wired w ChildBrought lives.brought u i at'
 
-  pub far_brought : (i : ℕ) → At g u i → ChildBrought (over g w u i) (end g w u i)
+  pub far_brought : (i : ℕ) → At g u i → ChildBrought (far_end g w u i) (end g w u i)
   far_brought i at' = at_far g wired w ChildBrought lives.brought u i at'
 
-  pub near_heard : (i : ℕ) → At g u i → CoreHeard (end g w u i) (over g w u i)
+  pub near_heard : (i : ℕ) → At g u i → CoreHeard (end g w u i) (far_end g w u i)
   near_heard i at' = at_near g wired w CoreHeard lives.heard u i at'
 
-  pub far_heard : (i : ℕ) → At g u i → CoreHeard (over g w u i) (end g w u i)
+  pub far_heard : (i : ℕ) → At g u i → CoreHeard (far_end g w u i) (end g w u i)
   far_heard i at' = at_far g wired w CoreHeard lives.heard u i at'
 
   -- with a mark more, which isn't Branch
-  near_brought_marked : (i : ℕ) → At g u i → ChildBrought (record (end g w u i) { mark = marked (w.at u).mark j i }) (over g w u i)
+  near_brought_marked : (i : ℕ) → At g u i → ChildBrought (record (end g w u i) { mark = marked (w.at u).mark j i }) (far_end g w u i)
   near_brought_marked i at' c = near_brought i at' (was_branch (w.at u).mark j i c.0, c.1, c.2, c.3)
 
-  far_brought_marked : (i : ℕ) → At g u i → ChildBrought (over g w u i) (record (end g w u i) { mark = marked (w.at u).mark j i })
+  far_brought_marked : (i : ℕ) → At g u i → ChildBrought (far_end g w u i) (record (end g w u i) { mark = marked (w.at u).mark j i })
   far_brought_marked i at' c = far_brought i at' (c.0, was_branch (w.at u).mark j i c.1, c.2, c.3)
 
-  near_heard_marked : (i : ℕ) → At g u i → CoreHeard (record (end g w u i) { mark = marked (w.at u).mark j i }) (over g w u i)
+  near_heard_marked : (i : ℕ) → At g u i → CoreHeard (record (end g w u i) { mark = marked (w.at u).mark j i }) (far_end g w u i)
   near_heard_marked i at' c = near_heard i at' (was_branch (w.at u).mark j i c.0, c.1, c.2, c.3, c.4)
 
-  far_heard_marked : (i : ℕ) → At g u i → CoreHeard (over g w u i) (record (end g w u i) { mark = marked (w.at u).mark j i })
+  far_heard_marked : (i : ℕ) → At g u i → CoreHeard (far_end g w u i) (record (end g w u i) { mark = marked (w.at u).mark j i })
   far_heard_marked i at' c = far_heard i at' (c.0, was_branch (w.at u).mark j i c.1, c.2, c.3, c.4)
 
   -- a Test that comes in is the far end's own, unless u's name is its
@@ -187,7 +186,7 @@ module _ (g : Network) (wired : IsWired g) (u : ℕ) (lo : 1 ≤ u) (hi : u ≤ 
       (near_brought_marked j at, far_brought_marked j at, (λ i at' ne. near_brought_marked i at'), (λ i at' ne. far_brought_marked i at'))
       (near_heard_marked j at, far_heard_marked j at, (λ i at' ne. near_heard_marked i at'), (λ i at' ne. far_heard_marked i at'))
     where
-      mine : LinkFits (NamesOf g w) (end g w u j) (over g w u j)
+      mine : LinkFits (NamesOf g w) (end g w u j) (far_end g w u j)
       mine = link_fits g wired w holds u j at
 
       -- the far end's Test has my name, so it is of my fragment
@@ -232,7 +231,7 @@ module _ (g : Network) (wired : IsWired g) (u : ℕ) (lo : 1 ≤ u) (hi : u ≤ 
       beside i ne (Crossed_here h z) = Crossed_here h (λ y. ne (sym (same_Some j i y)))
 
   -- while u searches, no end of a core has heard it
-  hears_nothing : (w.at u).head.phase ≡ Find → (i : ℕ) → At g u i → IsCore (over g w u i) (end g w u i) → (w.at (far g u i)).head.level ≡ (w.at (far g u i)).coming → (w.at (far g u i)).head.phase ≡ Found → has_report (w.seen u i).tree ≡ false → ⊥
+  hears_nothing : (w.at u).head.phase ≡ Find → (i : ℕ) → At g u i → IsCore (far_end g w u i) (end g w u i) → (w.at (far g u i)).head.level ≡ (w.at (far g u i)).coming → (w.at (far g u i)).head.phase ≡ Found → has_report (w.seen u i).tree ≡ false → ⊥
   hears_nothing finds i at' c top done none = let z = (far_heard i at' c top done none).done in cc (z, finds)
 
   -- an Accept is heard
@@ -257,8 +256,8 @@ module _ (g : Network) (wired : IsWired g) (u : ℕ) (lo : 1 ≤ u) (hi : u ≤ 
       finds : (w.at u).head.phase ≡ Find
       finds = ⊎_elim (λ h. h) (λ ne. absurd (let z = ((holds.nodes u (record { some = lo; node = hi })).idle ne).1 in omega (arith, z, count))) (is_find' (w.at u).head.phase)
 
-      heard : Heard (tree_end (end g w u j)) (tree_end (over g w u j)) k
-      heard = heard_first (tree_end (end g w u j)) (tree_end (over g w u j)) (link_fits g wired w holds u j at).tree (link_fits' g wired w holds u j at).tree (link_leads g wired w holds u j at) k ms waits away
+      heard : Heard (tree_end (end g w u j)) (tree_end (far_end g w u j)) k
+      heard = heard_first (tree_end (end g w u j)) (tree_end (far_end g w u j)) (link_fits g wired w holds u j at).tree (link_fits' g wired w holds u j at).tree (link_leads g wired w holds u j at) k ms waits away
 
   -- a Connect over the core is answered
   pub serve_lives : (l : ℕ) (ms : List Message) → (w.seen u j).tree ≡ Connect l ∷ ms → (w.at u).mark j ≢ Basic → (m : ℕ) (k : Key) → Lives g (acts g u (w.at u) (put (w.seen u) j (record (w.seen u j) { tree = ms })) ((j, Initiate m k Find) ∷ []) w)
@@ -268,8 +267,8 @@ module _ (g : Network) (wired : IsWired g) (u : ℕ) (lo : 1 ≤ u) (hi : u ≤ 
       ((λ z. absurd (z.3 asked.core.both.up_beyond)), (λ z. absurd (z.3 asked.core.both.up)), (λ i at' ne. near_brought i at'), (λ i at' ne. far_brought i at'))
       ((λ z t f n. near_heard j at z t f (sym (call_unreported (w.seen (far g u j) (far_port g u j)).tree m k Find) ∙ n)), (λ z t f n. far_heard j at z t f (ap has_report waits ∙ n)), (λ i at' ne. near_heard i at'), (λ i at' ne. far_heard i at'))
     where
-      asked : Asked (tree_end (end g w u j)) (tree_end (over g w u j)) l ms
-      asked = asked_on (tree_end (end g w u j)) (tree_end (over g w u j)) (link_fits g wired w holds u j at).tree (link_fits' g wired w holds u j at).tree (link_leads g wired w holds u j at) l ms waits marked_so
+      asked : Asked (tree_end (end g w u j)) (tree_end (far_end g w u j)) l ms
+      asked = asked_on (tree_end (end g w u j)) (tree_end (far_end g w u j)) (link_fits g wired w holds u j at).tree (link_fits' g wired w holds u j at).tree (link_leads g wired w holds u j at) l ms waits marked_so
 
   -- a Report of the core's other half, or an old one, is heard at rest; with b the node halts
   pub end_lives : (k : Option Key) (ms : List Message) → (w.seen u j).tree ≡ Report k ∷ ms → (w.at u).head.phase ≡ Found → (b : Bool) → (b ≡ (w.at u).head.halted) ⊎ (b ≡ true) → below (best_key (w.at u).head.best) k ≡ false → (k ≡ None → (w.at u).head.best ≡ None → b ≡ true) →
@@ -283,8 +282,8 @@ module _ (g : Network) (wired : IsWired g) (u : ℕ) (lo : 1 ≤ u) (hi : u ≤ 
       mine : (w.at u).up ≢ Some j → ⊥
       mine ne = let z = owed_finds g wired u lo hi j at w holds ne (rw waits refl) in cc (z, rests)
 
-      came : Back (NamesOf g w (w.at u).fragment) (tree_end (end g w u j)) (tree_end (over g w u j)) k ms
-      came = back (tree_end (end g w u j)) (tree_end (over g w u j)) (link_fits g wired w holds u j at).tree (link_fits' g wired w holds u j at).tree (link_leads g wired w holds u j at) k ms waits mine
+      came : Back (NamesOf g w (w.at u).fragment) (tree_end (end g w u j)) (tree_end (far_end g w u j)) k ms
+      came = back (tree_end (end g w u j)) (tree_end (far_end g w u j)) (link_fits g wired w holds u j at).tree (link_fits' g wired w holds u j at).tree (link_leads g wired w holds u j at) k ms waits mine
 
       more : {o : Best} → HeardBy (w.at u).head.level (w.at u).coming (w.at u).head.phase (w.at u).head.best o (w.at u).head.halted → HeardBy (w.at u).head.level (w.at u).coming (w.at u).head.phase (w.at u).head.best o b
       more h = record { top = h.top; done = h.done; key = h.key; halts = λ x y. ⊎_elim (λ e. e ∙ h.halts x y) (λ e. e) why }
@@ -294,7 +293,7 @@ module _ (g : Network) (wired : IsWired g) (u : ℕ) (lo : 1 ≤ u) (hi : u ≤ 
       begun e Asking i a = cc
       begun e Called i a = cc
 
-      from_back : IsCore (over g w u j) (end g w u j) → Back (NamesOf g w (w.at u).fragment) (tree_end (end g w u j)) (tree_end (over g w u j)) k ms → HeardBy (w.at u).head.level (w.at u).coming (w.at u).head.phase (w.at u).head.best (w.at (far g u j)).head.best b
+      from_back : IsCore (far_end g w u j) (end g w u j) → Back (NamesOf g w (w.at u).fragment) (tree_end (end g w u j)) (tree_end (far_end g w u j)) k ms → HeardBy (w.at u).head.level (w.at u).coming (w.at u).head.phase (w.at u).head.best (w.at (far g u j)).head.best b
       from_back c (Old h x y) = absurd (h.down c.2)
       from_back c (Half z s x y n f q) = record {
         top = begun (tree_end (end g w u j)) s.here x s.at_here;
@@ -315,7 +314,7 @@ module _ (g : Network) (wired : IsWired g) (u : ℕ) (lo : 1 ≤ u) (hi : u ≤ 
       up = let s = (holds.nodes u (record { some = lo; node = hi })).searching finds in s.up ∙ sym s.in_branch ∙ way
 
 -- a node without ports wakes and halts
-module _ (g : Network) (wired : IsWired g) (u : ℕ) (lo : 1 ≤ u) (hi : u ≤ g.count) (w : World) (lives : Lives g w) (lone : ◌≡◌ {A = ℕ} (length (g.ports u)) 0) where
+module _ (g : Network) (wired : IsWired g) (u : ℕ) (lo : 1 ≤ u) (hi : u ≤ g.count) (w : Scene) (lives : Lives g w) (lone : ◌≡◌ {A = ℕ} (length (g.ports u)) 0) where
   no_port : (i : ℕ) → At g u i → ⊥
   no_port i at = omega (arith, at.port, lone)
 

@@ -12,7 +12,7 @@ use Rattle.ghs_node.specs.declared.message.Message.{Message}
 use Rattle.ghs_node.specs.declared.message.Message.TheVariants.{Connect, Initiate}
 use Rattle.ghs_protocol.specs.Network.{Network, port_at, At, far, far_port, IsWired, InNetwork}
 use Rattle.ghs_protocol.specs.Net.{put}
-use Rattle.ghs_protocol.proofs.clauses.World.{Seen, adds, Member, World, End, end, tree_end, test_end, forest, acts}
+use Rattle.ghs_protocol.proofs.clauses.Scene.{Seen, adds, Member, Scene, End, end, tree_end, test_end, forest, acts, far_end}
 use Rattle.ghs_protocol.proofs.clauses.Links.{Joins}
 use Rattle.ghs_protocol.proofs.clauses.Nodes.{NodeFits}
 use Rattle.ghs_protocol.proofs.clauses.Fragments.{IsJoinedIn, Names, Root, Goes_out, Both_ways, OneRoot, Reach, At_root, By_step, RootsReached, JoinedLinksLead, HasMany}
@@ -20,17 +20,16 @@ use Rattle.ghs_protocol.proofs.clauses.Rest.{Quiet, Resting, DebtsCounted, debt,
 use Rattle.ghs_protocol.proofs.clauses.Whole.{Invariant, NamesOf, LinkFits}
 use Rattle.ghs_protocol.proofs.clauses.Wiring.{IsKeyed}
 use Rattle.ghs_protocol.proofs.clauses.Uniting.{absorb, joining}
-use Rattle.ghs_protocol.proofs.lemmas.Updates.{put_same, put_other}
+use Rattle.ghs_protocol.proofs.lemmas.Updates.{put_same, put_other, put_alike}
 use Rattle.ghs_protocol.proofs.acts.Ends.{here_seen, far_seen, other_seen}
-use Rattle.ghs_protocol.proofs.acts.SameForest.{near', far', branch_mark}
+use Rattle.ghs_protocol.proofs.acts.SameForest.{near', far', branch_mark, not_branch}
 use Rattle.ghs_protocol.proofs.acts.OneLink.{sends_one, at_near, at_far, sums_one, there}
 use Rattle.ghs_protocol.proofs.search.ReportGone.{debt_one, debt_up, debt_none}
 use Rattle.ghs_protocol.proofs.acts.Situations.{one_fragment}
 use Rattle.ghs_protocol.proofs.acts.Many.{many_as}
-use Rattle.ghs_protocol.proofs.union.OneFragment.{Off, Joinable, unites, raised, rise, rise_in, rise_out, rise_keeps, risen, not_branch, root_from, names_here}
+use Rattle.ghs_protocol.proofs.union.OneFragment.{Off, Joinable, unites, raised, rise, rise_in, rise_out, rise_keeps, risen, root_from, names_here}
 use Rattle.ghs_protocol.proofs.union.NewBranch.{Branches, fragment_was, coming_was, name_was, mark_else, joined_grows, joined_was, bridged, names_grow, by_fragment_grown, names_within_grown, sizes_grown, within_grown, connected_grown, alone_grown, named_grown, nodes_grown, links_grown}
-use Rattle.ghs_protocol.proofs.rest.AtRest.{over, by_call}
-use Rattle.ghs_protocol.proofs.root.Sent.{put_alike}
+use Rattle.ghs_protocol.proofs.rest.AtRest.{by_call}
 use Rattle.ghs_protocol.proofs.union.ConnectIn.{Came, came_in, tree_takes, tree_takes', search_takes, search_takes', tests_take, tests_take', count_more, more_none, call_only}
 
 -- a link is that at port j of u, from this end or the other, or another one
@@ -60,7 +59,7 @@ some_key : (o : Option Key) → o ≢ None → (k : Key) × (o ≡ Some k)
 some_key None ne = absurd (ne refl)
 some_key (Some k) ne = (k, refl)
 
-module _ (g : Network) (wired : IsWired g) (keyed : IsKeyed g) (u : ℕ) (lo : 1 ≤ u) (hi : u ≤ g.count) (w : World) (holds : Invariant g w) (j : ℕ) (at : At g u j) (ms : List Message) (l : ℕ)
+module _ (g : Network) (wired : IsWired g) (keyed : IsKeyed g) (u : ℕ) (lo : 1 ≤ u) (hi : u ≤ g.count) (w : Scene) (holds : Invariant g w) (j : ℕ) (at : At g u j) (ms : List Message) (l : ℕ)
     (k : Key) (waits : (w.seen u j).tree ≡ Connect l ∷ ms) (lower : l < (w.at u).head.level) (name : (w.at u).head.name ≡ Some k) (awake : (w.at u).head.phase ≢ Sleeping) where
   is : InNetwork g u
   is = record { some = lo; node = hi }
@@ -74,18 +73,18 @@ module _ (g : Network) (wired : IsWired g) (keyed : IsKeyed g) (u : ℕ) (lo : 1
   fits : NodeFits (length (g.ports u)) (w.at u)
   fits = holds.nodes u is
 
-  link : LinkFits (NamesOf g w) (end g w u j) (over g w u j)
+  link : LinkFits (NamesOf g w) (end g w u j) (far_end g w u j)
   link = at_near g wired w (LinkFits (NamesOf g w)) holds.links u j at
 
-  link' : LinkFits (NamesOf g w) (over g w u j) (end g w u j)
+  link' : LinkFits (NamesOf g w) (far_end g w u j) (end g w u j)
   link' = at_far g wired w (LinkFits (NamesOf g w)) holds.links u j at
 
-  inside : Joins (tree_end (end g w u j)) (tree_end (over g w u j)) → IsJoinedIn g (forest w) u j
+  inside : Joins (tree_end (end g w u j)) (tree_end (far_end g w u j)) → IsJoinedIn g (forest w) u j
   inside h = record { here = ap is_branch h.here; there = ap is_branch h.there }
 
-  pub came : Came (tree_end (end g w u j)) (tree_end (over g w u j)) l ms
+  pub came : Came (tree_end (end g w u j)) (tree_end (far_end g w u j)) l ms
   came =
-      came_in (tree_end (end g w u j)) (tree_end (over g w u j)) link.tree link'.tree (λ h. holds.trees.joined_lead u j at (inside h))
+      came_in (tree_end (end g w u j)) (tree_end (far_end g w u j)) link.tree link'.tree (λ h. holds.trees.joined_lead u j at (inside h))
       (λ h. (holds.trees.by_fragment (far g u j) u (sym (holds.trees.joined_within u j at (inside h)))).0) l ms waits lower
 
   pub below : (w.at (far g u j)).head.level < (w.at u).head.level
@@ -122,7 +121,7 @@ module _ (g : Network) (wired : IsWired g) (keyed : IsKeyed g) (u : ℕ) (lo : 1
   abbrev pub sends : Outgoing
   sends = (j, Initiate (w.at u).head.level k (w.at u).head.phase) ∷ []
 
-  abbrev pub grown : World
+  abbrev pub grown : Scene
   grown =
       acts g u (record (w.at u) { head = record (w.at u).head { find_count = find_more (w.at u).head.phase (w.at u).head.find_count }; mark = put (w.at u).mark j Branch })
       (put (w.seen u) j (record (w.seen u j) { tree = ms })) ((j, Initiate (w.at u).head.level k (w.at u).head.phase) ∷ []) w
@@ -146,7 +145,7 @@ module _ (g : Network) (wired : IsWired g) (keyed : IsKeyed g) (u : ℕ) (lo : 1
   near_is : (i : ℕ) → i ≢ j → near' g wired u lo hi takes (put (w.seen u) j rest) sends w i ≡ record { port = i; key = (port_at g u i).key; mark = (w.at u).mark i; is = takes; seen = w.seen u i }
   near_is i ne = λ z. record { port = i; key = (port_at g u i).key; mark = put_other (w.at u).mark j i Branch ne z; is = takes; seen = put_other (w.seen u) j i rest ne z }
 
-  far_is : (i : ℕ) → i ≢ j → far' g wired u lo hi takes (put (w.seen u) j rest) sends w i ≡ over g w u i
+  far_is : (i : ℕ) → i ≢ j → far' g wired u lo hi takes (put (w.seen u) j rest) sends w i ≡ far_end g w u i
   far_is i ne = λ z. record { port = far_port g u i; key = (port_at g u i).key; mark = (w.at (far g u i)).mark (far_port g u i); is = w.at (far g u i); seen = adds (w.seen (far g u i) (far_port g u i)) ((sends_one j (Initiate (w.at u).head.level k (w.at u).head.phase)).none i ne z) }
 
   near : (i : ℕ) → At g u i → i ≢ j → LinkFits (NamesOf g w) (near' g wired u lo hi takes (put (w.seen u) j rest) sends w i) (far' g wired u lo hi takes (put (w.seen u) j rest) sends w i)
@@ -162,8 +161,8 @@ module _ (g : Network) (wired : IsWired g) (keyed : IsKeyed g) (u : ℕ) (lo : 1
   abbrev there_now : End
   there_now = record { port = far_port g u j; key = (port_at g u j).key; mark = (w.at (far g u j)).mark (far_port g u j); is = w.at (far g u j); seen = record (w.seen (far g u j) (far_port g u j)) { tree = (w.seen (far g u j) (far_port g u j)).tree ++ Initiate (w.at u).head.level k (w.at u).head.phase ∷ [] } }
 
-  no_debt : ◌≡◌ {A = ℕ} (debt (end g w u j) (over g w u j)) 0
-  no_debt = debt_none (end g w u j) (over g w u j) (ap has_report waits ∙ ap has_report came.rest) (ap has_call came.under.none) (ap is_find found_far)
+  no_debt : ◌≡◌ {A = ℕ} (debt (end g w u j) (far_end g w u j)) 0
+  no_debt = debt_none (end g w u j) (far_end g w u j) (ap has_report waits ∙ ap has_report came.rest) (ap has_call came.under.none) (ap is_find found_far)
 
   a_debt : (w.at u).head.phase ≡ Find → ◌≡◌ {A = ℕ} (debt here_now there_now) 1
   a_debt e = debt_one here_now there_now way_not (by_call (has_report ms) _ _ (subst₂ (λ t s. has_call (t ++ Initiate (w.at u).head.level k s ∷ []) ≡ true) (sym came.under.none) (sym e) refl))
@@ -177,8 +176,8 @@ module _ (g : Network) (wired : IsWired g) (keyed : IsKeyed g) (u : ℕ) (lo : 1
   counted : DebtsCounted g grown
   counted =
       sums_one g wired u lo hi takes j at rest (Initiate (w.at u).head.level k (w.at u).head.phase ∷ []) sends (sends_one j (Initiate (w.at u).head.level k (w.at u).head.phase)) w
-      holds.counted (count_more (w.at u).head.phase (w.at u).head.find_count (debt (end g w u j) (over g w u j)) (debt here_now there_now) awake no_debt a_debt still_none) (λ i ne. refl)
-      (debt_up there_now here_now came.under.up ∙ sym (debt_up (over g w u j) (end g w u j) came.under.up)) (λ i ne. refl)
+      holds.counted (count_more (w.at u).head.phase (w.at u).head.find_count (debt (end g w u j) (far_end g w u j)) (debt here_now there_now) awake no_debt a_debt still_none) (λ i ne. refl)
+      (debt_up there_now here_now came.under.up ∙ sym (debt_up (far_end g w u j) (end g w u j) came.under.up)) (λ i ne. refl)
 
   -- members, ways and queues
   fragment_is : (t : ℕ) → (grown.at t).fragment ≡ (w.at t).fragment
@@ -354,7 +353,7 @@ module _ (g : Network) (wired : IsWired g) (keyed : IsKeyed g) (u : ℕ) (lo : 1
     other = λ t p a off e l' same. came.under.apart (one_fragment g (forest w) (w.at u).fragment (w.at t).fragment (port_at g t p).key keyed holds.trees.joined_within (name_in _ (sym (name_is u) ∙ same)) (record { node = t; port = p; at = a; joined = joined_old t p off l'; fragment = refl; key = refl }) ∙ in_far t e);
   }
 
-  abbrev pub joint : World
+  abbrev pub joint : Scene
   joint = risen lifts (grown.at u).fragment (grown.at u).coming (grown.at u).coming_name grown
 
   lifted : (t : ℕ) → (w.at t).fragment ≡ (w.at (far g u j)).fragment → joint.at t ≡ raised (grown.at u).fragment (grown.at u).coming (grown.at u).coming_name (grown.at t)
@@ -463,23 +462,23 @@ module _ (g : Network) (wired : IsWired g) (keyed : IsKeyed g) (u : ℕ) (lo : 1
   down : LinkFits (NamesOf g joint) parent child
   down = record {
     tree =
-        tree_takes (NamesOf g joint) (tree_end (end g w u j)) (tree_end (over g w u j)) k ms came.rest came.mark came.mark' came.under below fits.lag.level way_not awake at_search names
+        tree_takes (NamesOf g joint) (tree_end (end g w u j)) (tree_end (far_end g w u j)) k ms came.rest came.mark came.mark' came.under below fits.lag.level way_not awake at_search names
         named_top unnamed refl;
     search =
-        search_takes (NamesOf g joint) (tree_end (end g w u j)) (tree_end (over g w u j)) k ms came.rest came.mark came.mark' came.under below fits.lag.level way_not awake at_search names
+        search_takes (NamesOf g joint) (tree_end (end g w u j)) (tree_end (far_end g w u j)) k ms came.rest came.mark came.mark' came.under below fits.lag.level way_not awake at_search names
         named_top unnamed refl link.search;
-    tests = tests_take (test_end (end g w u j)) (test_end (over g w u j)) (λ z. came.under.apart (sym z)) below idle link.tests;
+    tests = tests_take (test_end (end g w u j)) (test_end (far_end g w u j)) (λ z. came.under.apart (sym z)) below idle link.tests;
   }
 
   up : LinkFits (NamesOf g joint) child parent
   up = record {
     tree =
-        tree_takes' (NamesOf g joint) (tree_end (end g w u j)) (tree_end (over g w u j)) k ms came.rest came.mark came.mark' came.under below fits.lag.level way_not awake at_search names
+        tree_takes' (NamesOf g joint) (tree_end (end g w u j)) (tree_end (far_end g w u j)) k ms came.rest came.mark came.mark' came.under below fits.lag.level way_not awake at_search names
         named_top unnamed refl;
     search =
-        search_takes' (NamesOf g joint) (tree_end (end g w u j)) (tree_end (over g w u j)) k ms came.rest came.mark came.mark' came.under below fits.lag.level way_not awake at_search names
+        search_takes' (NamesOf g joint) (tree_end (end g w u j)) (tree_end (far_end g w u j)) k ms came.rest came.mark came.mark' came.under below fits.lag.level way_not awake at_search names
         named_top unnamed refl;
-    tests = tests_take' (test_end (end g w u j)) (test_end (over g w u j)) (λ z. came.under.apart (sym z)) below idle link'.tests;
+    tests = tests_take' (test_end (end g w u j)) (test_end (far_end g w u j)) (λ z. came.under.apart (sym z)) below idle link'.tests;
   }
 
   -- u's own fragment has its level and name already
@@ -493,7 +492,7 @@ module _ (g : Network) (wired : IsWired g) (keyed : IsKeyed g) (u : ℕ) (lo : 1
 
 -- a step: a fragment of a lower level, whose Connect has come in, is absorbed
 pub absorbs_in :
-    (g : Network) (wired : IsWired g) (keyed : IsKeyed g) (u : ℕ) (lo : 1 ≤ u) (hi : u ≤ g.count) (w : World) (holds : Invariant g w) (j : ℕ) (at : At g u j) (ms : List Message) (l : ℕ) (k : Key) →
+    (g : Network) (wired : IsWired g) (keyed : IsKeyed g) (u : ℕ) (lo : 1 ≤ u) (hi : u ≤ g.count) (w : Scene) (holds : Invariant g w) (j : ℕ) (at : At g u j) (ms : List Message) (l : ℕ) (k : Key) →
     (w.seen u j).tree ≡ Connect l ∷ ms → l < (w.at u).head.level → (w.at u).head.name ≡ Some k → (w.at u).head.phase ≢ Sleeping →
     Invariant g (absorb g u j (acts g u (record (w.at u) { head = record (w.at u).head { find_count = find_more (w.at u).head.phase (w.at u).head.find_count }; mark = put (w.at u).mark j Branch }) (put (w.seen u) j (record (w.seen u j) { tree = ms })) ((j, Initiate (w.at u).head.level k (w.at u).head.phase) ∷ []) w))
 absorbs_in g wired keyed u lo hi w holds j at ms l k waits lower name awake = absorbs g wired keyed u lo hi w holds j at ms l k waits lower name awake

@@ -12,20 +12,19 @@ use Rattle.ghs_node.specs.declared.message.Message.TheVariants.{Connect, Initiat
 use Rattle.ghs_protocol.specs.Network.{Network, port_at, At, far, far_port, IsWired, InNetwork}
 use Rattle.ghs_protocol.specs.Marks.{Leads}
 use Rattle.ghs_protocol.specs.Net.{put}
-use Rattle.ghs_protocol.proofs.clauses.World.{Seen, adds, Member, World, tree_end, end, acts}
+use Rattle.ghs_protocol.proofs.clauses.Scene.{Seen, adds, Member, Scene, tree_end, end, acts, far_end}
 use Rattle.ghs_protocol.proofs.clauses.Links.{Joins, Mutual}
 use Rattle.ghs_protocol.proofs.clauses.Rest.{has_call}
 use Rattle.ghs_protocol.proofs.clauses.Wiring.{IsKeyed}
 use Rattle.ghs_protocol.proofs.clauses.Uniting.{absorb}
 use Rattle.ghs_protocol.proofs.clauses.Whole.{Invariant}
 use Rattle.ghs_protocol.proofs.clauses.Floors.{Floor, lower, owing, FloorsAt, IsTreeLink, Floors}
-use Rattle.ghs_protocol.proofs.lemmas.Updates.{put_same, put_other}
+use Rattle.ghs_protocol.proofs.lemmas.Updates.{put_same, put_other, put_alike}
 use Rattle.ghs_protocol.proofs.lemmas.Fragments.{leads_back}
 use Rattle.ghs_protocol.proofs.root.Ways.{leads_map}
 use Rattle.ghs_protocol.proofs.acts.Ends.{here_seen, far_seen}
 use Rattle.ghs_protocol.proofs.acts.OneLink.{by_port_at, sends_one}
-use Rattle.ghs_protocol.proofs.root.Sent.{put_alike}
-use Rattle.ghs_protocol.proofs.rest.AtRest.{over, by_call}
+use Rattle.ghs_protocol.proofs.rest.AtRest.{by_call}
 use Rattle.ghs_protocol.proofs.root.AtRoot.{root_sent}
 use Rattle.ghs_protocol.proofs.acts.Reactions.{put_again}
 use Rattle.ghs_protocol.proofs.union.OneFragment.{Off}
@@ -44,7 +43,7 @@ tree_link_back g wired v p at h l =
     (leads_back g wired (λ a b at' s. subst (λ (k : Key). key_lt k (port_at g (far g v p) (far_port g v p)).key ≡ true) (sym (wired.same_key a b at')) s)
     (leads_map (λ a b at' s. subst (λ (k : Key). key_lt (port_at g a b).key k ≡ true) (sym (wired.same_key v p at)) s) l)))
 
-module _ (g : Network) (wired : IsWired g) (keyed : IsKeyed g) (u : ℕ) (lo : 1 ≤ u) (hi : u ≤ g.count) (w : World) (holds : Invariant g w) (j : ℕ) (at : At g u j) (ms : List Message) (l : ℕ) (k : Key) (waits : (w.seen u j).tree ≡ Connect l ∷ ms) (less : l < (w.at u).head.level) (name : (w.at u).head.name ≡ Some k) (awake : (w.at u).head.phase ≢ Sleeping)
+module _ (g : Network) (wired : IsWired g) (keyed : IsKeyed g) (u : ℕ) (lo : 1 ≤ u) (hi : u ≤ g.count) (w : Scene) (holds : Invariant g w) (j : ℕ) (at : At g u j) (ms : List Message) (l : ℕ) (k : Key) (waits : (w.seen u j).tree ≡ Connect l ∷ ms) (less : l < (w.at u).head.level) (name : (w.at u).head.name ≡ Some k) (awake : (w.at u).head.phase ≢ Sleeping)
     (floor : ℕ → Floor) (floors : Floors g w floor) where
   abbrev x : Member
   x = record (w.at u) { head = record (w.at u).head { find_count = find_more (w.at u).head.phase (w.at u).head.find_count }; mark = put (w.at u).mark j Branch }
@@ -55,13 +54,13 @@ module _ (g : Network) (wired : IsWired g) (keyed : IsKeyed g) (u : ℕ) (lo : 1
   abbrev call : Message
   call = Initiate (w.at u).head.level k (w.at u).head.phase
 
-  abbrev pub grown : World
+  abbrev pub grown : Scene
   grown = acts g u (record (w.at u) { head = record (w.at u).head { find_count = find_more (w.at u).head.phase (w.at u).head.find_count }; mark = put (w.at u).mark j Branch }) (put (w.seen u) j (record (w.seen u j) { tree = ms })) ((j, Initiate (w.at u).head.level k (w.at u).head.phase) ∷ []) w
 
-  abbrev pub joint : World
+  abbrev pub joint : Scene
   joint = absorb g u j grown
 
-  its : Came (tree_end (end g w u j)) (tree_end (over g w u j)) l ms
+  its : Came (tree_end (end g w u j)) (tree_end (far_end g w u j)) l ms
   its = came g wired keyed u lo hi w holds j at ms l k waits less name awake
 
   lower_far : (w.at (far g u j)).head.level < (w.at u).head.level
@@ -70,11 +69,11 @@ module _ (g : Network) (wired : IsWired g) (keyed : IsKeyed g) (u : ℕ) (lo : 1
   no_way : (w.at u).up ≢ Some j
   no_way = way_not g wired keyed u lo hi w holds j at ms l k waits less name awake
 
-  near_other : (i : ℕ) → At g u i → i ≢ j → FloorsAt (record { port = i; key = (port_at g u i).key; mark = put (w.at u).mark j Branch i; is = x; seen = w.seen u i }) (over g w u i) (floor u) (floor (far g u i))
-  near_other i at' ne = subst (λ m. FloorsAt (record { port = i; key = (port_at g u i).key; mark = m; is = x; seen = w.seen u i }) (over g w u i) (floor u) (floor (far g u i))) (sym (put_other (w.at u).mark j i Branch ne)) (near_fits g wired w holds floor floors u i at')
+  near_other : (i : ℕ) → At g u i → i ≢ j → FloorsAt (record { port = i; key = (port_at g u i).key; mark = put (w.at u).mark j Branch i; is = x; seen = w.seen u i }) (far_end g w u i) (floor u) (floor (far g u i))
+  near_other i at' ne = subst (λ m. FloorsAt (record { port = i; key = (port_at g u i).key; mark = m; is = x; seen = w.seen u i }) (far_end g w u i) (floor u) (floor (far g u i))) (sym (put_other (w.at u).mark j i Branch ne)) (near_fits g wired w holds floor floors u i at')
 
-  far_other : (i : ℕ) → At g u i → i ≢ j → FloorsAt (over g w u i) (record { port = i; key = (port_at g u i).key; mark = put (w.at u).mark j Branch i; is = x; seen = w.seen u i }) (floor (far g u i)) (floor u)
-  far_other i at' ne = subst (λ m. FloorsAt (over g w u i) (record { port = i; key = (port_at g u i).key; mark = m; is = x; seen = w.seen u i }) (floor (far g u i)) (floor u)) (sym (put_other (w.at u).mark j i Branch ne)) (far_fits g wired w holds floor floors u i at')
+  far_other : (i : ℕ) → At g u i → i ≢ j → FloorsAt (far_end g w u i) (record { port = i; key = (port_at g u i).key; mark = put (w.at u).mark j Branch i; is = x; seen = w.seen u i }) (floor (far g u i)) (floor u)
+  far_other i at' ne = subst (λ m. FloorsAt (far_end g w u i) (record { port = i; key = (port_at g u i).key; mark = m; is = x; seen = w.seen u i }) (floor (far g u i)) (floor u)) (sym (put_other (w.at u).mark j i Branch ne)) (far_fits g wired w holds floor floors u i at')
 
   off : FloorsOff g grown floor u j
   off =
@@ -138,7 +137,7 @@ module _ (g : Network) (wired : IsWired g) (keyed : IsKeyed g) (u : ℕ) (lo : 1
   -- a ChangeRoot goes to a node at the coming level
   still : (t p : ℕ) → At g t p → Off g u j t p → (grown.at t).head.level < (grown.at u).coming → ((grown.at t).fragment ≡ far_part) ⊎ ((grown.at t).fragment ≡ near_part) → (grown.seen t p).tree ≡ ChangeRoot ∷ [] → Mutual (tree_end (end g grown t p)) (tree_end (end g grown (far g t p) (far_port g t p))) → ⊥
   still t p at' o lt i r m =
-      let s = (root_sent (tree_end (end g joint t p)) (tree_end (over g joint t p)) (link_fits g wired joint after t p at').tree (link_fits' g wired joint after t p at').tree (link_leads g wired joint after t p at') [] r).fits.level in
+      let s = (root_sent (tree_end (end g joint t p)) (tree_end (far_end g joint t p)) (link_fits g wired joint after t p at').tree (link_fits' g wired joint after t p at').tree (link_leads g wired joint after t p at') [] r).fits.level in
       go (joining_is far_part near_part (grown.at u).coming (grown.at u).coming_name (grown.at t)) s
     where
       go : Joining far_part near_part (grown.at u).coming (grown.at u).coming_name (grown.at t) → (joint.at t).head.level ≡ (joint.at t).coming → ⊥

@@ -7,13 +7,14 @@ use Rattle.ghs_node.specs.declared.message.Phase.{Phase}
 use Rattle.ghs_node.specs.declared.message.Phase.TheVariants.{Sleeping, Find, Found}
 use Rattle.ghs_node.specs.declared.message.Message.{Message}
 use Rattle.ghs_node.specs.declared.message.Message.TheVariants.{Connect, Initiate, Report, ChangeRoot}
-use Rattle.ghs_protocol.proofs.clauses.World.{TreeEnd, TestEnd}
+use Rattle.ghs_protocol.proofs.clauses.Scene.{TreeEnd, TestEnd}
 use Rattle.ghs_protocol.proofs.clauses.Links.{Joins, Ups}
 use Rattle.ghs_protocol.proofs.clauses.TreeMessages.{ConnectUnderWay, TreeFits, Chain, Upward, Nothing_up, Report_up, Downward, Initiates, Old_report, CoreFits, CoreQueue, Plain, With_report, MovedFits, To_here, To_there, Stage, Asking, Called, Begun, AtStage, Served, asked, called}
 use Rattle.ghs_protocol.proofs.clauses.Search.{SearchFits}
 use Rattle.ghs_protocol.proofs.clauses.Tests.{TestsFit}
 use Rattle.ghs_protocol.proofs.clauses.Rest.{has_call}
 use Rattle.ghs_protocol.proofs.search.FirstReport.{Joint, joint, Down_here, Down_there, On_core, On_moved, mark_is}
+use Rattle.ghs_protocol.proofs.union.CoreAnswered.{no_connect}
 
 -- the Connect at e has come over a link that isn't joined
 pub record Came (e f : TreeEnd) (l : ℕ) (ms : List Message) : Type 0 where
@@ -22,9 +23,6 @@ pub record Came (e f : TreeEnd) (l : ℕ) (ms : List Message) : Type 0 where
   pub under : ConnectUnderWay f e
   pub level : f.level ≡ l
   pub rest : ms ≡ []
-
-no_connect : (N : Key → Type 0) (coming : ℕ) (coming_name : Option Key) (t l k : ℕ) (ms xs : List Message) → xs ≡ Connect k ∷ ms → Chain N coming coming_name t l xs → ⊥
-no_connect N coming coming_name t l k ms xs e c = subst (Chain N coming coming_name t l) e c
 
 no_half : (v : ℕ) (n : Key) (a : Stage) (r : Option Key) (l : ℕ) (ms : List Message) → called v n a ++ Report r ∷ [] ≡ Connect l ∷ ms → ⊥
 no_half v n Asking r l ms q = cc

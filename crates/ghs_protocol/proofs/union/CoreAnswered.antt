@@ -10,7 +10,7 @@ use Rattle.ghs_node.specs.declared.message.Message.{Message}
 use Rattle.ghs_node.specs.declared.message.Message.TheVariants.{Connect, Initiate, Report, ChangeRoot}
 use Rattle.ghs_protocol.specs.Network.{Network, port_at, At, far, far_port, IsWired}
 use Rattle.ghs_protocol.specs.Net.{put}
-use Rattle.ghs_protocol.proofs.clauses.World.{Member, World, End, TreeEnd, tree_end, end, forest, acts, adds}
+use Rattle.ghs_protocol.proofs.clauses.Scene.{Member, Scene, End, TreeEnd, tree_end, end, forest, acts, adds, far_end}
 use Rattle.ghs_protocol.proofs.clauses.Nodes.{NodeFits}
 use Rattle.ghs_protocol.proofs.clauses.TreeMessages.{TreeFits, Chain, Upward, Nothing_up, Report_up, Downward, Initiates, Old_report, CoreFits, CoreQueue, Plain, With_report, Core, Moved, MovedFits, To_here, To_there, Stage, Asking, Called, Begun, AtStage, Served, asked, called}
 use Rattle.ghs_protocol.proofs.clauses.Whole.{LinkFits, Invariant, NamesOf}
@@ -23,7 +23,7 @@ use Rattle.ghs_protocol.proofs.acts.OneLink.{sends_one, at_near, at_far, sums_on
 use Rattle.ghs_protocol.proofs.search.ReportGone.{search_trees, debt_up}
 use Rattle.ghs_protocol.proofs.search.FirstReport.{Joint, joint, Down_here, Down_there, On_core, On_moved, mark_is}
 
-no_connect : (N : Key → Type 0) (coming : ℕ) (coming_name : Option Key) (t l k : ℕ) (ms xs : List Message) → xs ≡ Connect k ∷ ms → Chain N coming coming_name t l xs → ⊥
+pub no_connect : (N : Key → Type 0) (coming : ℕ) (coming_name : Option Key) (t l k : ℕ) (ms xs : List Message) → xs ≡ Connect k ∷ ms → Chain N coming coming_name t l xs → ⊥
 no_connect N coming coming_name t l k ms xs e c = subst (Chain N coming coming_name t l) e c
 
 pub record Asked (e f : TreeEnd) (l : ℕ) (ms : List Message) : Type 0 where
@@ -151,21 +151,18 @@ not_branch' Basic h = refl
 not_branch' Branch h = absurd (h refl)
 not_branch' Rejected h = refl
 
-module _ (g : Network) (wired : IsWired g) (u : ℕ) (lo : 1 ≤ u) (hi : u ≤ g.count) (j : ℕ) (at : At g u j) (w : World) (holds : Invariant g w) (l : ℕ) (ms : List Message) (waits : (w.seen u j).tree ≡ Connect l ∷ ms) (marked : (w.at u).mark j ≢ Basic) where
-  abbrev pub across : ℕ → End
-  across i = record { port = far_port g u i; key = (port_at g u i).key; mark = (w.at (far g u i)).mark (far_port g u i); is = w.at (far g u i); seen = w.seen (far g u i) (far_port g u i) }
-
+module _ (g : Network) (wired : IsWired g) (u : ℕ) (lo : 1 ≤ u) (hi : u ≤ g.count) (j : ℕ) (at : At g u j) (w : Scene) (holds : Invariant g w) (l : ℕ) (ms : List Message) (waits : (w.seen u j).tree ≡ Connect l ∷ ms) (marked : (w.at u).mark j ≢ Basic) where
   fits : NodeFits (length (g.ports u)) (w.at u)
   fits = holds.nodes u (record { some = lo; node = hi })
 
-  link : LinkFits (NamesOf g w) (end g w u j) (across j)
+  link : LinkFits (NamesOf g w) (end g w u j) (far_end g w u j)
   link = at_near g wired w (LinkFits (NamesOf g w)) holds.links u j at
 
-  link' : LinkFits (NamesOf g w) (across j) (end g w u j)
+  link' : LinkFits (NamesOf g w) (far_end g w u j) (end g w u j)
   link' = at_far g wired w (LinkFits (NamesOf g w)) holds.links u j at
 
-  serving : Asked (tree_end (end g w u j)) (tree_end (across j)) l ms
-  serving = asked_on (tree_end (end g w u j)) (tree_end (across j)) link.tree link'.tree (λ h. holds.trees.joined_lead u j at (record { here = ap is_branch h.here; there = ap is_branch h.there })) l ms waits marked
+  serving : Asked (tree_end (end g w u j)) (tree_end (far_end g w u j)) l ms
+  serving = asked_on (tree_end (end g w u j)) (tree_end (far_end g w u j)) link.tree link'.tree (λ h. holds.trees.joined_lead u j at (record { here = ap is_branch h.here; there = ap is_branch h.there })) l ms waits marked
 
   joined' : IsJoinedIn g (forest w) u j
   joined' = let b = serving.core.both.joins in record { here = ap is_branch b.here; there = ap is_branch b.there }
@@ -188,7 +185,7 @@ module _ (g : Network) (wired : IsWired g) (u : ℕ) (lo : 1 ≤ u) (hi : u ≤ 
   answer : Message
   answer = Initiate ((w.at u).head.level + 1) (port_at g u j).key Find
 
-  abbrev pub served_beyond : World
+  abbrev pub served_beyond : Scene
   served_beyond = acts g u (w.at u) (put (w.seen u) j (record (w.seen u j) { tree = ms })) ((j, Initiate ((w.at u).head.level + 1) (port_at g u j).key Find) ∷ []) w
 
   -- another fragment's rest
@@ -233,11 +230,11 @@ module _ (g : Network) (wired : IsWired g) (u : ℕ) (lo : 1 ≤ u) (hi : u ≤ 
   serves =
       kept_at g wired u lo hi (w.at u) j at (record (w.seen u j) { tree = ms }) (answer ∷ []) ((j, answer) ∷ []) (sends_one j answer) w
       (record { fragment = refl; coming = refl; coming_name = refl; up = refl; branch = λ p. refl }) rests holds fits
-      (record { tree = serve_here (tree_end (end g w u j)) (tree_end (across j)) l ms serving ghosts.0 refl ghosts.1 link.tree; search = search_trees (tree_end (end g w u j)) (tree_end (across j)) ms (tree_end there_is).tree link.search; tests = record { probing = link.tests.probing; not_probing = link.tests.not_probing } })
-      (record { tree = serve_there (tree_end (end g w u j)) (tree_end (across j)) l ms serving ghosts.0 refl ghosts.1 link'.tree; search = search_trees (tree_end (across j)) (tree_end (end g w u j)) (tree_end there_is).tree ms link'.search; tests = record { probing = link'.tests.probing; not_probing = link'.tests.not_probing } })
+      (record { tree = serve_here (tree_end (end g w u j)) (tree_end (far_end g w u j)) l ms serving ghosts.0 refl ghosts.1 link.tree; search = search_trees (tree_end (end g w u j)) (tree_end (far_end g w u j)) ms (tree_end there_is).tree link.search; tests = record { probing = link.tests.probing; not_probing = link.tests.not_probing } })
+      (record { tree = serve_there (tree_end (end g w u j)) (tree_end (far_end g w u j)) l ms serving ghosts.0 refl ghosts.1 link'.tree; search = search_trees (tree_end (far_end g w u j)) (tree_end (end g w u j)) (tree_end there_is).tree ms link'.search; tests = record { probing = link'.tests.probing; not_probing = link'.tests.not_probing } })
       (λ i at' ne h h'. record { tree = h.tree; search = h.search; tests = h.tests })
       (λ i at' ne h h'. record { tree = h'.tree; search = h'.search; tests = h'.tests }) (λ e. e) refl
-      (sums_one g wired u lo hi (w.at u) j at (record (w.seen u j) { tree = ms }) (answer ∷ []) ((j, answer) ∷ []) (sends_one j answer) w holds.counted count (λ i ne. refl) (debt_up there_is here_is serving.core.both.up_beyond ∙ sym (debt_up (across j) (end g w u j) serving.core.both.up_beyond)) (λ i ne. refl))
+      (sums_one g wired u lo hi (w.at u) j at (record (w.seen u j) { tree = ms }) (answer ∷ []) ((j, answer) ∷ []) (sends_one j answer) w holds.counted count (λ i ne. refl) (debt_up there_is here_is serving.core.both.up_beyond ∙ sym (debt_up (far_end g w u j) (end g w u j) serving.core.both.up_beyond)) (λ i ne. refl))
     where
-      count : (w.at u).head.find_count + debt (end g w u j) (across j) ≡ (w.at u).head.find_count + debt here_is there_is
-      count = ap (λ z. (w.at u).head.find_count + z) (debt_up (end g w u j) (across j) serving.core.both.up ∙ sym (debt_up here_is there_is serving.core.both.up))
+      count : (w.at u).head.find_count + debt (end g w u j) (far_end g w u j) ≡ (w.at u).head.find_count + debt here_is there_is
+      count = ap (λ z. (w.at u).head.find_count + z) (debt_up (end g w u j) (far_end g w u j) serving.core.both.up ∙ sym (debt_up here_is there_is serving.core.both.up))

@@ -5,7 +5,7 @@ use Rattle.ghs_node.specs.declared.mark.Mark.TheVariants.{Branch}
 use Rattle.ghs_node.specs.declared.message.Message.TheVariants.{ChangeRoot}
 use Rattle.ghs_node.specs.declared.head.Head.{Head}
 use Rattle.ghs_protocol.specs.Network.{Network, port_at, At, far, far_port, IsWired, InNetwork}
-use Rattle.ghs_protocol.proofs.clauses.World.{Member, World, TreeEnd, tree_end, end}
+use Rattle.ghs_protocol.proofs.clauses.Scene.{Member, Scene, TreeEnd, tree_end, end}
 use Rattle.ghs_protocol.proofs.clauses.Links.{Joins, Mutual, Ups}
 use Rattle.ghs_protocol.proofs.clauses.Uniting.{joining, relabel, meet}
 use Rattle.ghs_protocol.proofs.clauses.Whole.{Invariant}
@@ -66,7 +66,7 @@ module _ (c a l : ℕ) (n : Option Key) where
           Left_out (λ t. let y = eq-eqb m.fragment c t in let x = z.0 in cc (x, y)) (λ t. let y = eq-eqb m.fragment a t in let x = z.1 in cc (x, y)) (rw e refl)
 
 -- The fragments at both ends of port b of u become one.
-module _ (g : Network) (wired : IsWired g) (w : World) (floor : ℕ → Floor) (nodes : (v : ℕ) → InNetwork g v → NodeFloor (w.at v) (floor v)) (in_tree : BranchesInTree g w) (halted : HaltedIsWhole g w)
+module _ (g : Network) (wired : IsWired g) (w : Scene) (floor : ℕ → Floor) (nodes : (v : ℕ) → InNetwork g v → NodeFloor (w.at v) (floor v)) (in_tree : BranchesInTree g w) (halted : HaltedIsWhole g w)
     (u b : ℕ) (at : At g u b) (apart : (w.at (far g u b)).fragment ≢ (w.at u).fragment)
     (links : (t p : ℕ) → At g t p → Off g u b t p → FloorsAt (end g w t p) (end g w (far g t p) (far_port g t p)) (floor t) (floor (far g t p))) (l : ℕ) (n : Option Key)
     -- who joins is below the new level, or has it and the name already
@@ -79,7 +79,7 @@ module _ (g : Network) (wired : IsWired g) (w : World) (floor : ℕ → Floor) (
   abbrev pub a : ℕ
   a = (w.at u).fragment
 
-  abbrev pub united : World
+  abbrev pub united : Scene
   united = relabel (w.at (far g u b)).fragment (w.at u).fragment l n w
 
   abbrev new : ℕ → Member
@@ -166,7 +166,7 @@ new_core_floors e f a c j up up' low same quiet = record {
 }
 
 -- Two Connects meet over port b of u: in the net w both are under way.
-module _ (g : Network) (wired : IsWired g) (w : World) (floor : ℕ → Floor) (nodes : (v : ℕ) → InNetwork g v → NodeFloor (w.at v) (floor v)) (in_tree : BranchesInTree g w) (halted : HaltedIsWhole g w)
+module _ (g : Network) (wired : IsWired g) (w : Scene) (floor : ℕ → Floor) (nodes : (v : ℕ) → InNetwork g v → NodeFloor (w.at v) (floor v)) (in_tree : BranchesInTree g w) (halted : HaltedIsWhole g w)
     (u b : ℕ) (at : At g u b) (apart : (w.at (far g u b)).fragment ≢ (w.at u).fragment)
     (links : (t p : ℕ) → At g t p → Off g u b t p → FloorsAt (end g w t p) (end g w (far g t p) (far_port g t p)) (floor t) (floor (far g t p)))
     (low : (t : ℕ) → InNetwork g t → ((w.at t).fragment ≡ (w.at (far g u b)).fragment) ⊎ ((w.at t).fragment ≡ (w.at u).fragment) → (w.at t).head.level < suc (w.at u).head.level)
@@ -185,7 +185,7 @@ module _ (g : Network) (wired : IsWired g) (w : World) (floor : ℕ → Floor) (
   abbrev new_name : Option Key
   new_name = Some (port_at g u b).key
 
-  abbrev merged : World
+  abbrev merged : Scene
   merged = meet g u b w
 
   marks_of : (t : ℕ) → (merged.at t).mark ≡ (w.at t).mark

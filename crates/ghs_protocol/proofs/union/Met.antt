@@ -11,7 +11,7 @@ use Rattle.ghs_node.specs.declared.message.Message.TheVariants.{Connect}
 use Rattle.ghs_node.specs.Words.{Outgoing, is_branch}
 use Rattle.ghs_protocol.specs.Network.{Network, port_at, At, far, far_port, IsWired, InNetwork}
 use Rattle.ghs_protocol.specs.Net.{put}
-use Rattle.ghs_protocol.proofs.clauses.World.{Seen, adds, Member, World, End, TestEnd, end, tree_end, test_end, forest, acts}
+use Rattle.ghs_protocol.proofs.clauses.Scene.{Seen, adds, Member, Scene, End, TestEnd, end, tree_end, test_end, forest, acts, far_end}
 use Rattle.ghs_protocol.proofs.clauses.Nodes.{NodeFits}
 use Rattle.ghs_protocol.proofs.clauses.Links.{Out}
 use Rattle.ghs_protocol.proofs.clauses.TreeMessages.{ConnectUnderWay, Moved}
@@ -24,12 +24,12 @@ use Rattle.ghs_protocol.proofs.clauses.Uniting.{meet}
 use Rattle.ghs_protocol.specs.Steps.{sent_on}
 use Rattle.ghs_protocol.proofs.lemmas.Updates.{put_same, put_other}
 use Rattle.ghs_protocol.proofs.acts.Ends.{here_seen, far_seen}
-use Rattle.ghs_protocol.proofs.acts.SameForest.{near', far', quiet_after}
+use Rattle.ghs_protocol.proofs.acts.SameForest.{near', far', quiet_after, not_branch}
 use Rattle.ghs_protocol.proofs.acts.OneLink.{at_near, at_far}
 use Rattle.ghs_protocol.proofs.union.Risen.{tests_lifted}
 use Rattle.ghs_protocol.proofs.union.NewCore.{has_call_connect, either_eq, or_true, new_core, new_search, tests_branch, tests_branch'}
 use Rattle.ghs_protocol.proofs.acts.Many.{doubled, many_as}
-use Rattle.ghs_protocol.proofs.union.OneFragment.{Off, Joinable, unites, raised, rise_in, not_branch, place, On_it, Across, Off_it, Place, root_from}
+use Rattle.ghs_protocol.proofs.union.OneFragment.{Off, Joinable, unites, raised, rise_in, place, On_it, Across, Off_it, Place, root_from}
 use Rattle.ghs_protocol.proofs.union.NewBranch.{Branches, at_here, at_else, fragment_was, coming_was, name_was, mark_else, mark_here, joined_grows, joined_was, bridged, by_fragment_grown, names_within_grown, sizes_grown, within_grown, connected_grown, alone_grown, named_grown, nodes_grown, links_grown}
 
 -- the node that meets, with its new head
@@ -37,7 +37,7 @@ abbrev pub meeting : Member → Head → ℕ → Member
 meeting m h b = record m { head = h; mark = put m.mark b Branch; up = Some b }
 
 -- what is owed of u, whose Connect goes out on port b
-pub record Meets (g : Network) (wired : IsWired g) (u : ℕ) (lo : 1 ≤ u) (hi : u ≤ g.count) (b : ℕ) (w : World) (h : Head) (own : ℕ → Seen) : Type 0 where
+pub record Meets (g : Network) (wired : IsWired g) (u : ℕ) (lo : 1 ≤ u) (hi : u ≤ g.count) (b : ℕ) (w : Scene) (h : Head) (own : ℕ → Seen) : Type 0 where
   pub node : NodeFits (length (g.ports u)) (meeting (w.at u) h b)
   pub found : h.phase ≡ Found
   pub name : h.name ≡ (w.at u).head.name
@@ -57,11 +57,11 @@ pub record Meets (g : Network) (wired : IsWired g) (u : ℕ) (lo : 1 ≤ u) (hi 
   pub led : (i : ℕ) → At g u i → IsJoinedIn g (forest w) u i → (w.at (far g u i)).up ≡ Some (far_port g u i)
   pub counted : DebtsCounted g (acts g u (meeting (w.at u) h b) own ((b, Connect h.level) ∷ []) w)
 
-module _ (g : Network) (wired : IsWired g) (keyed : IsKeyed g) (u : ℕ) (lo : 1 ≤ u) (hi : u ≤ g.count) (b : ℕ) (at : At g u b) (w : World) (holds : Invariant g w) (h : Head) (own : ℕ → Seen) (owed : Meets g wired u lo hi b w h own) where
+module _ (g : Network) (wired : IsWired g) (keyed : IsKeyed g) (u : ℕ) (lo : 1 ≤ u) (hi : u ≤ g.count) (b : ℕ) (at : At g u b) (w : Scene) (holds : Invariant g w) (h : Head) (own : ℕ → Seen) (owed : Meets g wired u lo hi b w h own) where
   abbrev pub sends : Outgoing
   sends = (b, Connect h.level) ∷ []
 
-  abbrev pub sent : World
+  abbrev pub sent : Scene
   sent = acts g u (meeting (w.at u) h b) own ((b, Connect h.level) ∷ []) w
 
   more : Branches (w.at u) (meeting (w.at u) h b) b
@@ -107,16 +107,13 @@ module _ (g : Network) (wired : IsWired g) (keyed : IsKeyed g) (u : ℕ) (lo : 1
   unmarked_back : (w.at (far g (far g u b) (far_port g u b))).mark (far_port g (far g u b) (far_port g u b)) ≢ Branch
   unmarked_back e = owed.unmarked (subst₂ (λ p q. (w.at p).mark q ≡ Branch) (wired.back u b at) (wired.back_port u b at) e)
 
-  abbrev pub across : End
-  across = record { port = far_port g u b; key = (port_at g u b).key; mark = (w.at (far g u b)).mark (far_port g u b); is = w.at (far g u b); seen = w.seen (far g u b) (far_port g u b) }
-
-  link : LinkFits (NamesOf g w) (end g w u b) across
+  link : LinkFits (NamesOf g w) (end g w u b) (far_end g w u b)
   link = at_near g wired w (LinkFits (NamesOf g w)) holds.links u b at
 
-  link' : LinkFits (NamesOf g w) across (end g w u b)
+  link' : LinkFits (NamesOf g w) (far_end g w u b) (end g w u b)
   link' = at_far g wired w (LinkFits (NamesOf g w)) holds.links u b at
 
-  came : ConnectUnderWay (tree_end across) (tree_end (end g w u b))
+  came : ConnectUnderWay (tree_end (far_end g w u b)) (tree_end (end g w u b))
   came = link'.tree.out_connect (record { here = owed.marked; there = owed.unmarked })
 
   level_y : (w.at (far g u b)).head.level ≡ h.level
@@ -247,7 +244,7 @@ module _ (g : Network) (wired : IsWired g) (keyed : IsKeyed g) (u : ℕ) (lo : 1
   unfolding lifts
   which k e = either_eq k _ _ e
 
-  -- in terms of the world before
+  -- in terms of the scene before
   of_two : (t : ℕ) → lifts (sent.at t).fragment ≡ true → ((w.at t).fragment ≡ (w.at (far g u b)).fragment) ⊎ ((w.at t).fragment ≡ (w.at u).fragment)
   of_two t e = ⊎_elim (λ z. inl (sym (fragment_is t) ∙ z ∙ fragment_is _)) (λ z. inr (sym (fragment_is t) ∙ z ∙ fragment_is u)) (which _ e)
 
@@ -304,7 +301,7 @@ module _ (g : Network) (wired : IsWired g) (keyed : IsKeyed g) (u : ℕ) (lo : 1
       one_key : {j k : Key} → Some j ≡ Some k → j ≡ k
       one_key e = cc
 
-  abbrev pub met : World
+  abbrev pub met : Scene
   met = meet g u b (acts g u (meeting (w.at u) h b) own ((b, Connect h.level) ∷ []) w)
 
   fragment_two : (t : ℕ) → lifts (sent.at t).fragment ≡ true → (met.at t).fragment ≡ (sent.at u).fragment
@@ -480,8 +477,8 @@ module _ (g : Network) (wired : IsWired g) (keyed : IsKeyed g) (u : ℕ) (lo : 1
   head_tests : was_here ≡ record { port = b; mark = Branch; fragment = (w.at u).fragment; level = h.level; name = h.name; probe = h.probe; tests = (w.seen u b).tests; accepts = (w.seen u b).accepts; rejects = (w.seen u b).rejects }
   head_tests = λ i. record { port = b; mark = Branch; fragment = (w.at u).fragment; level = sym owed.same_level i; name = sym owed.name i; probe = sym owed.probe' i; tests = (w.seen u b).tests; accepts = (w.seen u b).accepts; rejects = (w.seen u b).rejects }
 
-  mark_tests : test_end across ≡ record (test_end across) { mark = Branch }
-  mark_tests = λ i. record { port = far_port g u b; mark = owed.marked i; fragment = (w.at (far g u b)).fragment; level = (w.at (far g u b)).head.level; name = (w.at (far g u b)).head.name; probe = (w.at (far g u b)).head.probe; tests = (test_end across).tests; accepts = (test_end across).accepts; rejects = (test_end across).rejects }
+  mark_tests : test_end (far_end g w u b) ≡ record (test_end (far_end g w u b)) { mark = Branch }
+  mark_tests = λ i. record { port = far_port g u b; mark = owed.marked i; fragment = (w.at (far g u b)).fragment; level = (w.at (far g u b)).head.level; name = (w.at (far g u b)).head.name; probe = (w.at (far g u b)).head.probe; tests = (test_end (far_end g w u b)).tests; accepts = (test_end (far_end g w u b)).accepts; rejects = (test_end (far_end g w u b)).rejects }
 
   up_level : suc h.level ≡ high
   up_level = ap suc (sym level_u)
@@ -490,14 +487,14 @@ module _ (g : Network) (wired : IsWired g) (keyed : IsKeyed g) (u : ℕ) (lo : 1
   core_near = record {
     tree = new_core (tree_end core_here) (tree_end core_there) refl refl refl up_y up_level (ap suc level_y ∙ up_level) refl came.one (ap (λ z. z ++ Connect h.level ∷ []) came.none);
     search = new_search (tree_end core_here) (tree_end core_there) refl up_level;
-    tests = tests_lifted (sent.at u).fragment high (Some (port_at g u b).key) _ _ owed.probe' idle_y (subst₂ TestsFit head_tests mark_tests (tests_branch (test_end (end g w u b)) (test_end across) Branch owed.probe link.tests));
+    tests = tests_lifted (sent.at u).fragment high (Some (port_at g u b).key) _ _ owed.probe' idle_y (subst₂ TestsFit head_tests mark_tests (tests_branch (test_end (end g w u b)) (test_end (far_end g w u b)) Branch owed.probe link.tests));
   }
 
   core_away : LinkFits (NamesOf g met) core_there core_here
   core_away = record {
     tree = new_core (tree_end core_there) (tree_end core_here) refl refl up_y refl (ap suc level_y ∙ up_level) up_level refl (ap (λ z. z ++ Connect h.level ∷ []) came.none) came.one;
     search = new_search (tree_end core_there) (tree_end core_here) refl (ap suc level_y ∙ up_level);
-    tests = tests_lifted (sent.at u).fragment high (Some (port_at g u b).key) _ _ idle_y owed.probe' (subst₂ TestsFit mark_tests head_tests (tests_branch' (test_end (end g w u b)) (test_end across) owed.probe link'.tests));
+    tests = tests_lifted (sent.at u).fragment high (Some (port_at g u b).key) _ _ idle_y owed.probe' (subst₂ TestsFit mark_tests head_tests (tests_branch' (test_end (end g w u b)) (test_end (far_end g w u b)) owed.probe link'.tests));
   }
 
   pub meets : Invariant g (meet g u b (acts g u (meeting (w.at u) h b) own ((b, Connect h.level) ∷ []) w))

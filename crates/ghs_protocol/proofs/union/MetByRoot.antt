@@ -7,14 +7,13 @@ use Rattle.ghs_node.specs.declared.message.Message.{Message}
 use Rattle.ghs_node.specs.declared.message.Message.TheVariants.{Connect}
 use Rattle.ghs_protocol.specs.Network.{Network, port_at, At, far, far_port, IsWired}
 use Rattle.ghs_protocol.specs.Net.{put}
-use Rattle.ghs_protocol.proofs.clauses.World.{World, End, tree_end, end, acts}
+use Rattle.ghs_protocol.proofs.clauses.Scene.{Scene, End, tree_end, end, acts, far_end}
 use Rattle.ghs_protocol.proofs.clauses.TreeMessages.{ConnectUnderWay}
 use Rattle.ghs_protocol.proofs.clauses.Whole.{Invariant}
 use Rattle.ghs_protocol.proofs.clauses.Wiring.{IsKeyed}
 use Rattle.ghs_protocol.proofs.clauses.Uniting.{SendsRoot, meet}
 use Rattle.ghs_protocol.proofs.lemmas.Updates.{put_same, put_other}
 use Rattle.ghs_protocol.proofs.search.ReportGone.{debt_up}
-use Rattle.ghs_protocol.proofs.rest.AtRest.{over}
 use Rattle.ghs_protocol.proofs.root.AtRoot.{AtRoot, at_root}
 use Rattle.ghs_protocol.proofs.root.OldLink.{call_append}
 use Rattle.ghs_protocol.proofs.root.Sent.{near_aside, far_aside, node, quiet_still, counts}
@@ -22,7 +21,7 @@ use Rattle.ghs_protocol.proofs.root.Inward.{at_best, best_apart, leads_to, old_r
 use Rattle.ghs_protocol.proofs.root.Outward.{out_link', leads_out}
 use Rattle.ghs_protocol.proofs.union.Met.{Meets, meets}
 
-module _ (g : Network) (wired : IsWired g) (keyed : IsKeyed g) (u : ℕ) (lo : 1 ≤ u) (hi : u ≤ g.count) (j : ℕ) (at : At g u j) (w : World) (holds : Invariant g w) (ms : List Message)
+module _ (g : Network) (wired : IsWired g) (keyed : IsKeyed g) (u : ℕ) (lo : 1 ≤ u) (hi : u ≤ g.count) (j : ℕ) (at : At g u j) (w : Scene) (holds : Invariant g w) (ms : List Message)
     (root : AtRoot g w u j ms) (b : ℕ) (k : Key) (best : (w.at u).head.best ≡ Some (b, k)) (mark : (w.at u).mark b ≢ Branch) (mark' : (w.at (far g u b)).mark (far_port g u b) ≡ Branch) where
   atb : At g u b
   atb = at_best g wired u lo hi j at w holds ms root b k best
@@ -36,7 +35,7 @@ module _ (g : Network) (wired : IsWired g) (keyed : IsKeyed g) (u : ℕ) (lo : 1
   idle : (w.at u).head.probe ≡ None
   idle = ((holds.nodes u (record { some = lo; node = hi })).idle (λ e. cc (e, found))).0
 
-  came : ConnectUnderWay (tree_end (over g w u b)) (tree_end (end g w u b))
+  came : ConnectUnderWay (tree_end (far_end g w u b)) (tree_end (end g w u b))
   came = (out_link' g wired u lo hi j at w holds ms root b k best mark).tree.out_connect (record { here = mark'; there = mark })
 
   abbrev sender : End
@@ -74,12 +73,12 @@ module _ (g : Network) (wired : IsWired g) (keyed : IsKeyed g) (u : ℕ) (lo : 1
     counted =
         counts g wired u lo hi j at w holds ms root b atb apart (put (w.at u).mark b Branch) (put_same (w.at u).mark b Branch) (λ i ne. put_other (w.at u).mark b i Branch ne)
         (Connect (w.at u).head.level) (λ q n. call_append (Connect (w.at u).head.level) refl q.tree ∙ n)
-        (debt_up receiver sender came.up ∙ sym (debt_up (over g w u b) (end g w u b) came.up));
+        (debt_up receiver sender came.up ∙ sym (debt_up (far_end g w u b) (end g w u b) came.up));
   }
 
 -- a step: the root goes out and meets the far end
 pub connects_meeting :
-    (g : Network) (wired : IsWired g) (keyed : IsKeyed g) (u : ℕ) (lo : 1 ≤ u) (hi : u ≤ g.count) (w : World) (holds : Invariant g w) (j : ℕ) (at : At g u j) (ms : List Message) (b : ℕ) (k : Key) →
+    (g : Network) (wired : IsWired g) (keyed : IsKeyed g) (u : ℕ) (lo : 1 ≤ u) (hi : u ≤ g.count) (w : Scene) (holds : Invariant g w) (j : ℕ) (at : At g u j) (ms : List Message) (b : ℕ) (k : Key) →
     SendsRoot w u j ms → (w.at u).head.best ≡ Some (b, k) → (w.at u).mark b ≢ Branch → (w.at (far g u b)).mark (far_port g u b) ≡ Branch →
     Invariant g (meet g u b (acts g u (record (w.at u) { up = Some b; mark = put (w.at u).mark b Branch }) (put (w.seen u) j (record (w.seen u j) { tree = ms })) ((b, Connect (w.at u).head.level) ∷ []) w))
 connects_meeting g wired keyed u lo hi w holds j at ms b k calls best mark mark' =

@@ -7,7 +7,7 @@ use Rattle.ghs_node.specs.declared.message.Phase.TheVariants.{Sleeping}
 use Rattle.ghs_node.specs.Words.{Outgoing, is_branch}
 use Rattle.ghs_protocol.specs.Network.{Network, At, far, far_port, IsWired, InNetwork}
 use Rattle.ghs_protocol.specs.Marks.{Leads, Here, Over}
-use Rattle.ghs_protocol.proofs.clauses.World.{Seen, Member, World, End, end, tree_end, forest, acts}
+use Rattle.ghs_protocol.proofs.clauses.Scene.{Seen, Member, Scene, End, end, tree_end, forest, acts}
 use Rattle.ghs_protocol.proofs.clauses.Nodes.{NodeFits}
 use Rattle.ghs_protocol.proofs.clauses.Fragments.{IsJoinedIn, Names, NamesWithin, LargeFragments, FragmentsJoined, GhostsByFragment, HasMany}
 use Rattle.ghs_protocol.proofs.clauses.Rest.{Alone, Named}
@@ -30,8 +30,8 @@ pub record Branches (m x : Member) (b : ℕ) : Type 0 where
 pub link_named : (N N' : ℕ → Key → Type 0) (e f : End) → ((k : Key) → N e.is.fragment k → N' e.is.fragment k) → LinkFits N e f → LinkFits N' e f
 link_named N N' e f h l = record { tree = tree_named N N' (tree_end e) (tree_end f) h l.tree; search = l.search; tests = l.tests }
 
-module _ (g : Network) (wired : IsWired g) (u : ℕ) (lo : 1 ≤ u) (hi : u ≤ g.count) (b : ℕ) (at : At g u b) (w : World) (holds : Invariant g w) (x : Member) (own : ℕ → Seen) (ss : Outgoing) (more : Branches (w.at u) x b) where
-  abbrev pub grown : World
+module _ (g : Network) (wired : IsWired g) (u : ℕ) (lo : 1 ≤ u) (hi : u ≤ g.count) (b : ℕ) (at : At g u b) (w : Scene) (holds : Invariant g w) (x : Member) (own : ℕ → Seen) (ss : Outgoing) (more : Branches (w.at u) x b) where
+  abbrev pub grown : Scene
   grown = acts g u x own ss w
 
   pub at_here : grown.at u ≡ x

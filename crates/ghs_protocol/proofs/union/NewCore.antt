@@ -6,7 +6,7 @@ use Rattle.ghs_node.specs.declared.mark.Mark.TheVariants.{Branch}
 use Rattle.ghs_node.specs.declared.message.Phase.TheVariants.{Sleeping, Find, Found}
 use Rattle.ghs_node.specs.declared.message.Message.{Message}
 use Rattle.ghs_node.specs.declared.message.Message.TheVariants.{Connect, Initiate, Test, Accept, Reject, Report, ChangeRoot}
-use Rattle.ghs_protocol.proofs.clauses.World.{TreeEnd, TestEnd}
+use Rattle.ghs_protocol.proofs.clauses.Scene.{TreeEnd, TestEnd}
 use Rattle.ghs_protocol.proofs.clauses.Links.{Ups}
 use Rattle.ghs_protocol.proofs.clauses.TreeMessages.{TreeFits, Asking, Plain}
 use Rattle.ghs_protocol.proofs.clauses.Search.{SearchFits}

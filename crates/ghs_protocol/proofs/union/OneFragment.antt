@@ -1,6 +1,6 @@
 -- Two fragments become one over a link that is newly joined: what is owed, and what follows.
 use Rattle.std.proofs.Common.{◌≡◌, ◌≢◌, ℕ, ◌^◌, ◌<◌, ◌≤◌, Bool, true, false, not, ◌&&◌, ◌||◌, Option, Some, None, refl, sym, ◌∙◌, ap, ap₂, subst, subst₂, ⊎_elim, ◌⊎◌, inl, inr, length, arith, cond, if◌then◌else◌}
-use Rattle.std.proofs.lemmas.Bool.{cases_eq}
+use Rattle.std.proofs.lemmas.Bool.{cases_eq, cases_Bool}
 use Rattle.ghs_graph.specs.declared.key.Key.{Key}
 use Rattle.ghs_node.specs.declared.mark.Mark.{Mark}
 use Rattle.ghs_node.specs.declared.mark.Mark.TheVariants.{Basic, Branch, Rejected}
@@ -9,7 +9,7 @@ use Rattle.ghs_node.specs.declared.head.Head.{Head}
 use Rattle.ghs_node.specs.Words.{is_branch, is_find, is_at}
 use Rattle.ghs_protocol.specs.Network.{Network, port_at, At, far, far_port, IsWired, InNetwork}
 use Rattle.ghs_protocol.specs.Marks.{Leads, Here, Over}
-use Rattle.ghs_protocol.proofs.clauses.World.{Member, World, end, tree_end, test_end, forest}
+use Rattle.ghs_protocol.proofs.clauses.Scene.{Member, Scene, end, tree_end, test_end, forest}
 use Rattle.ghs_protocol.proofs.clauses.Nodes.{NodeFits}
 use Rattle.ghs_protocol.proofs.clauses.Links.{Joins, Out, Mutual}
 use Rattle.ghs_protocol.proofs.clauses.Fragments.{IsJoinedIn, Names, NamesWithin, LargeFragments, FragmentsJoined, JoinedWithin, JoinedLinksLead, Root, Goes_out, Both_ways, OneRoot, Reach, At_root, By_step, RootsReached, GhostsByFragment, HasMany}
@@ -19,6 +19,7 @@ use Rattle.ghs_protocol.proofs.lemmas.Sums.{sum_same, term_le}
 use Rattle.ghs_protocol.proofs.search.ReportGone.{debt_one}
 use Rattle.ghs_protocol.proofs.acts.Situations.{probing_finds}
 use Rattle.ghs_protocol.proofs.union.Risen.{tree_named, Lifts, tree_lifted, tree_lifted_here, tree_lifted_there, search_lifted, search_lifted_there, tests_lifted, tests_lifted_here, tests_lifted_there}
+use Rattle.ghs_protocol.proofs.acts.SameForest.{not_branch}
 
 -- a member of a fragment that is lifted comes to fragment a, level l and name n
 abbrev pub raised : ℕ → ℕ → Option Key → Member → Member
@@ -27,7 +28,7 @@ raised a l n m = record m { fragment = a; coming = l; coming_name = n }
 abbrev pub rise : (ℕ → Bool) → ℕ → ℕ → Option Key → Member → Member
 rise lifts a l n m = if lifts m.fragment then raised a l n m else m
 
-abbrev pub risen : (ℕ → Bool) → ℕ → ℕ → Option Key → World → World
+abbrev pub risen : (ℕ → Bool) → ℕ → ℕ → Option Key → Scene → Scene
 risen lifts a l n w = record w { at = λ t. rise lifts a l n (w.at t) }
 
 pub rise_in : (lifts : ℕ → Bool) (a l : ℕ) (n : Option Key) (m : Member) → lifts m.fragment ≡ true → rise lifts a l n m ≡ raised a l n m
@@ -45,17 +46,8 @@ pub record Off (g : Network) (v b t p : ℕ) : Type 0 where
   pub here : (t ≡ v) × (p ≡ b) → ⊥
   pub there : (far g t p ≡ v) × (far_port g t p ≡ b) → ⊥
 
-pub truth : (b : Bool) → (b ≡ true) ⊎ (b ≡ false)
-truth true = inl refl
-truth false = inr refl
-
-pub not_branch : (k : Mark) → k ≢ Branch → is_branch k ≡ false
-not_branch Basic ne = refl
-not_branch Branch ne = absurd (ne refl)
-not_branch Rejected ne = refl
-
--- what is known of the world w before the lift; the new link is that at port b of v, and v's fragment gives the number
-pub record Joinable (g : Network) (w : World) (v b : ℕ) (lifts : ℕ → Bool) (l : ℕ) (n : Option Key) : Type 0 where
+-- what is known of the scene w before the lift; the new link is that at port b of v, and v's fragment gives the number
+pub record Joinable (g : Network) (w : Scene) (v b : ℕ) (lifts : ℕ → Bool) (l : ℕ) (n : Option Key) : Type 0 where
   pub at : At g v b
   pub bridge : IsJoinedIn g (forest w) v b
   -- the clauses, but for those of the new link and of the united fragment
@@ -85,8 +77,8 @@ pub record Joinable (g : Network) (w : World) (v b : ℕ) (lifts : ℕ → Bool)
   pub name_in : Names g (forest w) (w.at v).fragment name
   pub other : (t p : ℕ) → At g t p → Off g v b t p → lifts (w.at t).fragment ≡ true → IsJoinedIn g (forest w) t p → n ≢ Some (port_at g t p).key
 
-module _ (g : Network) (wired : IsWired g) (w : World) (v b : ℕ) (lifts : ℕ → Bool) (l : ℕ) (n : Option Key) (known : Joinable g w v b lifts l n) where
-  abbrev pub united : World
+module _ (g : Network) (wired : IsWired g) (w : Scene) (v b : ℕ) (lifts : ℕ → Bool) (l : ℕ) (n : Option Key) (known : Joinable g w v b lifts l n) where
+  abbrev pub united : Scene
   united = risen lifts (w.at v).fragment l n w
 
   new : ℕ → ℕ
@@ -140,7 +132,7 @@ module _ (g : Network) (wired : IsWired g) (w : World) (v b : ℕ) (lifts : ℕ 
   new_out k e = rw e refl
 
   new_here : new (w.at v).fragment ≡ (w.at v).fragment
-  new_here = ⊎_elim (λ e. new_in _ e) (λ e. new_out _ e) (truth (lifts (w.at v).fragment))
+  new_here = ⊎_elim (λ e. new_in _ e) (λ e. new_out _ e) (cases_Bool (lifts (w.at v).fragment))
 
   pub names_here : (x : Key) → Names g (forest w) (w.at v).fragment x → Names g (forest united) (w.at v).fragment x
   names_here x z = subst (λ k. Names g (forest united) k x) new_here (names_to _ x z)
@@ -157,11 +149,11 @@ module _ (g : Network) (wired : IsWired g) (w : World) (v b : ℕ) (lifts : ℕ 
       ⊎_elim
       (λ x. (ap (λ (m : Member). m.coming) (rise_in lifts (w.at v).fragment l n (w.at t) x), ap (λ (m : Member). m.coming_name) (rise_in lifts (w.at v).fragment l n (w.at t) x)))
       (λ x. let same : (w.at t).fragment ≡ (w.at v).fragment = sym (new_out _ x) ∙ sym (fragment_is t) ∙ e in let k = known.kept (sym (ap lifts same) ∙ x) in let z = known.by_fragment t v same in (ap (λ (m : Member). m.coming) (rise_out lifts (w.at v).fragment l n (w.at t) x) ∙ z.0 ∙ sym k.0, ap (λ (m : Member). m.coming_name) (rise_out lifts (w.at v).fragment l n (w.at t) x) ∙ z.1 ∙ sym k.1))
-      (truth (lifts (w.at t).fragment))
+      (cases_Bool (lifts (w.at t).fragment))
 
   -- any other node is as it was
   other_is : (t : ℕ) → ((united.at t).fragment ≢ (w.at v).fragment) → (lifts (w.at t).fragment ≡ false) × (united.at t ≡ w.at t)
-  other_is t ne = ⊎_elim (λ x. absurd (ne (fragment_is t ∙ new_in _ x))) (λ x. (x, rise_out lifts (w.at v).fragment l n (w.at t) x)) (truth (lifts (w.at t).fragment))
+  other_is t ne = ⊎_elim (λ x. absurd (ne (fragment_is t ∙ new_in _ x))) (λ x. (x, rise_out lifts (w.at v).fragment l n (w.at t) x)) (cases_Bool (lifts (w.at t).fragment))
 
   by_fragment' : GhostsByFragment g (forest united)
   by_fragment' s t e =
@@ -250,7 +242,7 @@ module _ (g : Network) (wired : IsWired g) (w : World) (v b : ℕ) (lifts : ℕ 
 
   -- a node of the united fragment was in one of the two
   part : (t : ℕ) → (united.at t).fragment ≡ (w.at v).fragment → ((w.at t).fragment ≡ (w.at v).fragment) ⊎ ((w.at t).fragment ≡ (w.at (far g v b)).fragment)
-  part t e = ⊎_elim (λ x. known.which _ x) (λ x. inl (sym (new_out _ x) ∙ sym (fragment_is t) ∙ e)) (truth (lifts (w.at t).fragment))
+  part t e = ⊎_elim (λ x. known.which _ x) (λ x. inl (sym (new_out _ x) ∙ sym (fragment_is t) ∙ e)) (cases_Bool (lifts (w.at t).fragment))
 
   connected' : FragmentsJoined g (forest united)
   connected' s t is it e = ⊎_elim (λ x. both (part s x) (part t (sym e ∙ x))) (λ ne. let y = (other_is s ne).1 in let z = (other_is t (λ q. ne (e ∙ q))).1 in leads_to (known.connected s t is it (sym (ap (λ (m : Member). m.fragment) y) ∙ e ∙ ap (λ (m : Member). m.fragment) z))) (cases_eq (united.at s).fragment (w.at v).fragment)
@@ -268,13 +260,13 @@ module _ (g : Network) (wired : IsWired g) (w : World) (v b : ℕ) (lifts : ℕ 
   reached' t p is e = reach_to (known.reached t p is (sym (up_is t) ∙ e))
 
   alone' : Alone g united
-  alone' t s it is asleep same = ⊎_elim (λ x. absurd (let z = known.found t it x in cc (z, slept))) calm (truth (lifts (w.at t).fragment))
+  alone' t s it is asleep same = ⊎_elim (λ x. absurd (let z = known.found t it x in cc (z, slept))) calm (cases_Bool (lifts (w.at t).fragment))
     where
       slept : (w.at t).head.phase ≡ Sleeping
       slept = ap (λ (h : Head). h.phase) (sym (head_is t)) ∙ asleep
 
       calm : lifts (w.at t).fragment ≡ false → s ≡ t
-      calm x = ⊎_elim (λ y. absurd (let z : (w.at t).fragment ≡ (w.at v).fragment = kept x ∙ sym same ∙ fragment_is s ∙ new_in _ y in known.awake (subst (λ q. (w.at q).head.phase ≡ Sleeping) (sym (known.alone t v it here_in slept (sym z))) slept))) (λ y. known.alone t s it is slept (sym (new_out _ y) ∙ sym (fragment_is s) ∙ same ∙ fragment_is t ∙ new_out _ x)) (truth (lifts (w.at s).fragment))
+      calm x = ⊎_elim (λ y. absurd (let z : (w.at t).fragment ≡ (w.at v).fragment = kept x ∙ sym same ∙ fragment_is s ∙ new_in _ y in known.awake (subst (λ q. (w.at q).head.phase ≡ Sleeping) (sym (known.alone t v it here_in slept (sym z))) slept))) (λ y. known.alone t s it is slept (sym (new_out _ y) ∙ sym (fragment_is s) ∙ same ∙ fragment_is t ∙ new_out _ x)) (cases_Bool (lifts (w.at s).fragment))
         where
           kept : lifts (w.at t).fragment ≡ false → (w.at t).fragment ≡ (united.at t).fragment
           kept x = sym (new_out _ x) ∙ sym (fragment_is t)
@@ -294,7 +286,7 @@ module _ (g : Network) (wired : IsWired g) (w : World) (v b : ℕ) (lifts : ℕ 
 
   -- who is lifted waits for no Report
   unowed : (t p : ℕ) → At g t p → (w.at t).head.phase ≡ Found → (w.at t).up ≢ Some p → owes (end g w t p) (end g w (far g t p) (far_port g t p)) ≡ false
-  unowed t p at rests ne = ⊎_elim (λ x. absurd (let z = debt_one (end g w t p) (end g w (far g t p) (far_port g t p)) ne x in omega (arith, z, term, count, none))) (λ x. x) (truth (owes (end g w t p) (end g w (far g t p) (far_port g t p))))
+  unowed t p at rests ne = ⊎_elim (λ x. absurd (let z = debt_one (end g w t p) (end g w (far g t p) (far_port g t p)) ne x in omega (arith, z, term, count, none))) (λ x. x) (cases_Bool (owes (end g w t p) (end g w (far g t p) (far_port g t p))))
     where
       is : InNetwork g t
       is = record { some = at.some; node = at.node }
@@ -345,7 +337,7 @@ module _ (g : Network) (wired : IsWired g) (w : World) (v b : ℕ) (lifts : ℕ 
   -- the links off the new one
   off_link : (t p : ℕ) → At g t p → Off g v b t p → LinkFits (NamesOf g united) (end g united t p) (end g united (far g t p) (far_port g t p))
   unfolding ends_as
-  off_link t p at off = go (truth (lifts (w.at t).fragment)) (truth (lifts (w.at (far g t p)).fragment))
+  off_link t p at off = go (cases_Bool (lifts (w.at t).fragment)) (cases_Bool (lifts (w.at (far g t p)).fragment))
     where
       h : LinkFits (NamesOf g w) (end g w t p) (end g w (far g t p) (far_port g t p))
       h = known.links t p at off
@@ -409,7 +401,7 @@ module _ (g : Network) (wired : IsWired g) (w : World) (v b : ℕ) (lifts : ℕ 
   }
 
   nodes' : (t : ℕ) → InNetwork g t → NodeFits (length (g.ports t)) (united.at t)
-  nodes' t is = ⊎_elim (λ x. subst (NodeFits (length (g.ports t))) (sym (rise_in lifts (w.at v).fragment l n (w.at t) x)) (raised_fits _ (w.at t) (known.found t is x) (known.low t is x) (known.nodes t is))) (λ x. subst (NodeFits (length (g.ports t))) (sym (rise_out lifts (w.at v).fragment l n (w.at t) x)) (known.nodes t is)) (truth (lifts (w.at t).fragment))
+  nodes' t is = ⊎_elim (λ x. subst (NodeFits (length (g.ports t))) (sym (rise_in lifts (w.at v).fragment l n (w.at t) x)) (raised_fits _ (w.at t) (known.found t is x) (known.low t is x) (known.nodes t is))) (λ x. subst (NodeFits (length (g.ports t))) (sym (rise_out lifts (w.at v).fragment l n (w.at t) x)) (known.nodes t is)) (cases_Bool (lifts (w.at t).fragment))
 
   -- all together
   pub unites : HasMany (λ t. InNetwork g t × ((united.at t).fragment ≡ (w.at v).fragment)) (2 ^ l) → OneRoot g (forest united) → Resting g united → LinkFits (NamesOf g united) (end g united v b) (end g united (far g v b) (far_port g v b)) → LinkFits (NamesOf g united) (end g united (far g v b) (far_port g v b)) (end g united v b) → Invariant g united

@@ -5,7 +5,7 @@ use Rattle.ghs_node.specs.declared.mark.Mark.TheVariants.{Rejected}
 use Rattle.ghs_node.specs.declared.message.Phase.TheVariants.{Sleeping, Find, Found}
 use Rattle.ghs_node.specs.declared.message.Message.{Message}
 use Rattle.ghs_node.specs.declared.message.Message.TheVariants.{Connect, Initiate, Test, Accept, Reject, Report, ChangeRoot}
-use Rattle.ghs_protocol.proofs.clauses.World.{TreeEnd, TestEnd}
+use Rattle.ghs_protocol.proofs.clauses.Scene.{TreeEnd, TestEnd}
 use Rattle.ghs_protocol.proofs.clauses.Links.{Joins, Out, Mutual}
 use Rattle.ghs_protocol.proofs.clauses.TreeMessages.{Upward, Nothing_up, Report_up, Chain, Falls, Downward, Initiates, Old_report, TreeFits}
 use Rattle.ghs_protocol.proofs.clauses.Search.{SearchFits}

@@ -4,7 +4,7 @@ use Rattle.ghs_node.specs.declared.mark.Mark.TheVariants.{Branch}
 use Rattle.ghs_node.specs.Words.{is_branch}
 use Rattle.ghs_graph.specs.declared.key.Key.{Key}
 use Rattle.ghs_protocol.specs.Network.{Network, port_at, At, far, far_port, InNetwork}
-use Rattle.ghs_protocol.proofs.clauses.World.{Member, World, End, end, forest}
+use Rattle.ghs_protocol.proofs.clauses.Scene.{Member, Scene, End, end, forest}
 use Rattle.ghs_protocol.proofs.clauses.Fragments.{Names}
 use Rattle.ghs_protocol.proofs.clauses.Wiring.{IsKeyed}
 use Rattle.ghs_protocol.proofs.clauses.Uniting.{joining, relabel}
@@ -14,7 +14,7 @@ use Rattle.ghs_protocol.proofs.acts.SameForest.{branch_mark}
 use Rattle.ghs_protocol.proofs.union.Floors.{Joining, Joined_in, Left_out, joining_is, joining_as}
 
 -- a link that isn't Branch at one end gives no fragment its name
-pub no_name : (g : Network) → IsKeyed g → (w : World) → Invariant g w → (u b : ℕ) → At g u b → (w.at u).mark b ≢ Branch → (v : ℕ) → InNetwork g v → (w.at v).coming_name ≡ Some (port_at g u b).key → ⊥
+pub no_name : (g : Network) → IsKeyed g → (w : Scene) → Invariant g w → (u b : ℕ) → At g u b → (w.at u).mark b ≢ Branch → (v : ℕ) → InNetwork g v → (w.at v).coming_name ≡ Some (port_at g u b).key → ⊥
 no_name g keyed w holds u b at ne v is e =
     ⊎_elim (λ z. ne (branch_mark ((w.at u).mark b) (subst₂ (λ x y. is_branch ((w.at x).mark y) ≡ true) z.0 z.1 name.joined.here)))
     (λ z. ne (branch_mark ((w.at u).mark b) (subst₂ (λ x y. is_branch ((w.at x).mark y) ≡ true) z.0 z.1 name.joined.there)))
@@ -23,7 +23,7 @@ no_name g keyed w holds u b at ne v is e =
     name : Names g (forest w) (w.at v).fragment (port_at g u b).key
     name = holds.trees.names_within.inside v (port_at g u b).key is e
 
-module _ (g : Network) (w : World) (lives : Lives g w) (c a l : ℕ) (n : Option Key)
+module _ (g : Network) (w : Scene) (lives : Lives g w) (c a l : ℕ) (n : Option Key)
     -- who joins is below the new level, or has it and the name already, and then so has the core's other end
     (low : (t : ℕ) → InNetwork g t → ((w.at t).fragment ≡ c) ⊎ ((w.at t).fragment ≡ a) → ((w.at t).head.level < l) ⊎ (((w.at t).coming ≡ l) × ((w.at t).coming_name ≡ n) × ((p : ℕ) → At g t p → IsCore (end g w t p) (end g w (far g t p) (far_port g t p)) → (w.at (far g t p)).coming ≡ (w.at t).coming)))
     (after : Invariant g (relabel c a l n w)) where

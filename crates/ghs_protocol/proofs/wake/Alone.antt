@@ -4,13 +4,13 @@ use Rattle.ghs_node.specs.declared.message.Phase.TheVariants.{Sleeping, Find, Fo
 use Rattle.ghs_protocol.specs.Network.{Network, At, far_port, IsWired, InNetwork}
 use Rattle.ghs_protocol.proofs.lemmas.Updates.{put_other}
 use Rattle.ghs_protocol.proofs.lemmas.Sums.{sum_same}
-use Rattle.ghs_protocol.proofs.clauses.World.{Member, World, acts}
+use Rattle.ghs_protocol.proofs.clauses.Scene.{Member, Scene, acts}
 use Rattle.ghs_protocol.proofs.clauses.Nodes.{NodeFits, Untouched}
 use Rattle.ghs_protocol.proofs.clauses.Rest.{Quiet, Resting}
 use Rattle.ghs_protocol.proofs.clauses.Whole.{Invariant}
 use Rattle.ghs_protocol.proofs.acts.SameForest.{quiet_after, sums_after, kept_after}
 
-module _ (g : Network) (wired : IsWired g) (u : ℕ) (lo : 1 ≤ u) (hi : u ≤ g.count) (w : World) (holds : Invariant g w) (lone : ◌≡◌ {A = ℕ} (length (g.ports u)) 0) (sleeps : (w.at u).head.phase ≡ Sleeping) where
+module _ (g : Network) (wired : IsWired g) (u : ℕ) (lo : 1 ≤ u) (hi : u ≤ g.count) (w : Scene) (holds : Invariant g w) (lone : ◌≡◌ {A = ℕ} (length (g.ports u)) 0) (sleeps : (w.at u).head.phase ≡ Sleeping) where
   x : Member
   x = record (w.at u) { head = record (w.at u).head { phase = Found; halted = true } }
 
@@ -29,7 +29,7 @@ module _ (g : Network) (wired : IsWired g) (u : ℕ) (lo : 1 ≤ u) (hi : u ≤ 
   else_where : (v p : ℕ) → At g v p → v ≢ u
   else_where v p at e = not_some p (subst (λ y. At g y p) e at)
 
-  after : World
+  after : Scene
   after = acts g u x (w.seen u) [] w
 
   same : (v p : ℕ) → At g v p → after.at v ≡ w.at v

@@ -10,39 +10,32 @@ use Rattle.ghs_node.specs.declared.message.Phase.TheVariants.{Sleeping, Find, Fo
 use Rattle.ghs_node.specs.declared.message.Message.TheVariants.{Connect, ChangeRoot}
 use Rattle.ghs_protocol.specs.Network.{Network, port_at, At, far, far_port, IsWired, InNetwork}
 use Rattle.ghs_protocol.specs.Net.{put}
-use Rattle.ghs_protocol.proofs.clauses.World.{Seen, add, adds, Member, World, End, tree_end, end, acts}
+use Rattle.ghs_protocol.proofs.clauses.Scene.{Seen, add, adds, Member, Scene, End, tree_end, end, acts, far_end}
 use Rattle.ghs_protocol.proofs.clauses.TreeMessages.{ConnectUnderWay}
 use Rattle.ghs_protocol.proofs.clauses.Nodes.{Untouched}
 use Rattle.ghs_protocol.proofs.clauses.Wiring.{IsKeyed, IsOrdered}
 use Rattle.ghs_protocol.proofs.clauses.Uniting.{meet}
 use Rattle.ghs_protocol.proofs.clauses.Whole.{Invariant}
 use Rattle.ghs_protocol.proofs.clauses.Floors.{Floor, FloorsAt, NodeFloor, IsTreeLink, BranchesInTree, HaltedIsWhole, Floors}
-use Rattle.ghs_protocol.proofs.lemmas.Updates.{put_same, put_other}
+use Rattle.ghs_protocol.proofs.lemmas.Updates.{put_same, put_other, put_alike}
 use Rattle.ghs_protocol.proofs.acts.Ends.{here_seen, far_seen}
 use Rattle.ghs_protocol.proofs.acts.OneLink.{by_port_at, sends_one}
-use Rattle.ghs_protocol.proofs.root.Sent.{put_alike}
-use Rattle.ghs_protocol.proofs.rest.AtRest.{over}
 use Rattle.ghs_protocol.proofs.acts.Reactions.{put_again}
 use Rattle.ghs_protocol.proofs.rows.Link.{link_fits'}
 use Rattle.ghs_protocol.proofs.wake.Inward.{wakes_meeting}
 use Rattle.ghs_protocol.proofs.acts.Floors.{far_fits, lower_self, below_lower, cut_link}
 use Rattle.ghs_protocol.proofs.search.CloseFloors.{FloorsOff, nodes_after, links_after, links_after_off, in_tree_after, halted_after}
 use Rattle.ghs_protocol.proofs.union.Floors.{floors_met}
+use Rattle.ghs_graph.proofs.lemmas.Keys.{lt_asymmetric, lt_irreflexive}
 
-lt_not : (j k : Key) → key_lt j k ≡ true → key_lt k j ≡ false
-lt_not j k h = grind (arith, nat_tests)
-
-lt_self : (k : Key) → key_lt k k ≡ false
-lt_self k = grind (arith, nat_tests)
-
-module _ (g : Network) (wired : IsWired g) (ordered : IsOrdered g) (u : ℕ) (lo : 1 ≤ u) (hi : u ≤ g.count) (w : World) (holds : Invariant g w) (at : At g u 0) (sleeps : (w.at u).head.phase ≡ Sleeping) (floor : ℕ → Floor) (floors : Floors g w floor) where
+module _ (g : Network) (wired : IsWired g) (ordered : IsOrdered g) (u : ℕ) (lo : 1 ≤ u) (hi : u ≤ g.count) (w : Scene) (holds : Invariant g w) (at : At g u 0) (sleeps : (w.at u).head.phase ≡ Sleeping) (floor : ℕ → Floor) (floors : Floors g w floor) where
   abbrev x : Member
   x = record (w.at u) { head = record (w.at u).head { level = 0; phase = Found; find_count = 0 }; mark = put (w.at u).mark 0 Branch; up = Some 0 }
 
   abbrev ss : Outgoing
   ss = (0, Connect 0) ∷ []
 
-  abbrev pub woken : World
+  abbrev pub woken : Scene
   woken = acts g u (record (w.at u) { head = record (w.at u).head { level = 0; phase = Found; find_count = 0 }; mark = put (w.at u).mark 0 Branch; up = Some 0 }) (w.seen u) ((0, Connect 0) ∷ []) w
 
   abbrev pub least : Floor
@@ -72,8 +65,8 @@ module _ (g : Network) (wired : IsWired g) (ordered : IsOrdered g) (u : ℕ) (lo
       (λ t q at' same out. let e = alone t (record { some = at'.some; node = at'.node }) same in subst (λ y. key_lt (port_at g y q).key (port_at g u 0).key ≡ false) (sym e) (not_less q (subst (λ y. At g y q) e at'))) refl
     where
       not_less : (q : ℕ) → At g u q → key_lt (port_at g u q).key (port_at g u 0).key ≡ false
-      not_less zero at' = lt_self (port_at g u 0).key
-      not_less (suc q) at' = lt_not (port_at g u 0).key (port_at g u (suc q)).key (ordered u 0 (suc q) (omega arith) at')
+      not_less zero at' = lt_irreflexive (port_at g u 0).key
+      not_less (suc q) at' = lt_asymmetric (port_at g u 0).key (port_at g u (suc q)).key (ordered u 0 (suc q) (omega arith) at')
 
   abbrev still : ℕ → End
   still i = record { port = i; key = (port_at g u i).key; mark = put (w.at u).mark 0 Branch i; is = x; seen = w.seen u i }
@@ -81,7 +74,7 @@ module _ (g : Network) (wired : IsWired g) (ordered : IsOrdered g) (u : ℕ) (lo
   plain : (i : ℕ) → i ≢ 0 → put (w.at u).mark 0 Branch i ≢ Branch
   plain i ne e = unmarked i (sym (put_other (w.at u).mark 0 i Branch ne) ∙ e)
 
-  near_other : (i : ℕ) → At g u i → i ≢ 0 → FloorsAt (still i) (over g w u i) least (floor (far g u i))
+  near_other : (i : ℕ) → At g u i → i ≢ 0 → FloorsAt (still i) (far_end g w u i) least (floor (far g u i))
   near_other i at' ne = record {
     none_below = λ o. below_lower (Some (port_at g u 0).key) (Some (port_at g u i).key) (ordered u 0 i (omega (arith, ne)) at');
     falls = λ c. absurd (plain i ne c.joins.here);
@@ -93,7 +86,7 @@ module _ (g : Network) (wired : IsWired g) (ordered : IsOrdered g) (u : ℕ) (lo
     best = λ y b l z. absurd (plain i ne z.here);
   }
 
-  far_other : (i : ℕ) → At g u i → i ≢ 0 → FloorsAt (over g w u i) (still i) (floor (far g u i)) least
+  far_other : (i : ℕ) → At g u i → i ≢ 0 → FloorsAt (far_end g w u i) (still i) (floor (far g u i)) least
   far_other i at' ne = record {
     none_below = (far_fits g wired w holds floor floors u i at').none_below;
     falls = λ c. absurd (plain i ne c.joins.there);
@@ -161,7 +154,7 @@ module _ (g : Network) (wired : IsWired g) (ordered : IsOrdered g) (u : ℕ) (lo
 
   -- the far end's Connect has come in
   module _ (keyed : IsKeyed g) (met : (w.at (far g u 0)).mark (far_port g u 0) ≡ Branch) where
-    came : ConnectUnderWay (tree_end (over g w u 0)) (tree_end (end g w u 0))
+    came : ConnectUnderWay (tree_end (far_end g w u 0)) (tree_end (end g w u 0))
     came = (link_fits' g wired w holds u 0 at).tree.out_connect (record { here = met; there = unmarked 0 })
 
     off : FloorsOff g woken (put floor u least) u 0

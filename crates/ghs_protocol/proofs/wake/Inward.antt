@@ -1,6 +1,6 @@
 -- A sleeping node wakes: its Connect goes out over its least link.
 use Rattle.std.proofs.Common.{◌≡◌, ◌≢◌, ℕ, zero, suc, ◌<◌, ◌≤◌, ◌==◌, Bool, true, false, not, ◌&&◌, Option, Some, None, [], ◌∷◌, refl, sym, ◌∙◌, ap, ap₂, subst, subst₂, ⊎_elim, length, arith, cond}
-use Rattle.std.proofs.lemmas.Bool.{cases_eq}
+use Rattle.std.proofs.lemmas.Bool.{cases_eq, cases_Bool}
 use Rattle.ghs_graph.specs.declared.key.Key.{Key}
 use Rattle.ghs_node.specs.declared.head.Head.{Head}
 use Rattle.ghs_node.specs.declared.mark.Mark.TheVariants.{Branch}
@@ -10,7 +10,7 @@ use Rattle.ghs_node.specs.Words.{Outgoing, is_branch, is_at}
 use Rattle.ghs_protocol.specs.Network.{Network, port_at, At, far, far_port, IsWired, InNetwork}
 use Rattle.ghs_protocol.specs.Net.{put}
 use Rattle.ghs_protocol.specs.Ledger.{sum_below}
-use Rattle.ghs_protocol.proofs.clauses.World.{Seen, adds, Member, World, End, TreeEnd, end, tree_end, test_end, forest, acts}
+use Rattle.ghs_protocol.proofs.clauses.Scene.{Seen, adds, Member, Scene, End, TreeEnd, end, tree_end, test_end, forest, acts, far_end}
 use Rattle.ghs_protocol.proofs.clauses.Nodes.{NodeFits, Untouched}
 use Rattle.ghs_protocol.proofs.clauses.TreeMessages.{TreeFits}
 use Rattle.ghs_protocol.proofs.clauses.Search.{SearchFits}
@@ -28,7 +28,6 @@ use Rattle.ghs_protocol.proofs.tests.Links.{tests_aside, tests_aside', not_some}
 use Rattle.ghs_protocol.proofs.search.ReportGone.{debt_up, debt_one}
 use Rattle.ghs_protocol.proofs.search.FirstReport.{mark_is}
 use Rattle.ghs_protocol.proofs.root.OldLink.{report_append}
-use Rattle.ghs_protocol.proofs.union.OneFragment.{truth}
 use Rattle.ghs_protocol.proofs.union.Met.{meets}
 
 -- a node that isn't on the link, awake now, at level 0 as before
@@ -72,7 +71,7 @@ module _ (e f : TreeEnd) (o : Option ℕ) (low : ◌≡◌ {A = ℕ} e.level 0) 
   pub uncalled : {N : ℕ → Key → Type 0} → TreeFits N e f → TreeFits N f e → has_call e.tree ≡ false
   uncalled t t' = ⊎_elim (λ z. ap has_call (t'.out_connect (record { here = z; there = plain })).one) (λ z. ap has_call (t.silent plain z)) (mark_is f.mark)
 
-module _ (g : Network) (wired : IsWired g) (u : ℕ) (lo : 1 ≤ u) (hi : u ≤ g.count) (w : World) (holds : Invariant g w) (at : At g u 0) (sleeps : (w.at u).head.phase ≡ Sleeping) where
+module _ (g : Network) (wired : IsWired g) (u : ℕ) (lo : 1 ≤ u) (hi : u ≤ g.count) (w : Scene) (holds : Invariant g w) (at : At g u 0) (sleeps : (w.at u).head.phase ≡ Sleeping) where
   abbrev pub woken_head : Head
   woken_head = record (w.at u).head { level = 0; phase = Found; find_count = 0 }
 
@@ -82,7 +81,7 @@ module _ (g : Network) (wired : IsWired g) (u : ℕ) (lo : 1 ≤ u) (hi : u ≤ 
   abbrev pub sends : Outgoing
   sends = (0, Connect 0) ∷ []
 
-  abbrev pub sent : World
+  abbrev pub sent : Scene
   sent = acts g u waker (w.seen u) sends w
 
   pub is : InNetwork g u
@@ -94,13 +93,10 @@ module _ (g : Network) (wired : IsWired g) (u : ℕ) (lo : 1 ≤ u) (hi : u ≤ 
   pub fresh : Untouched (w.at u)
   fresh = fits.untouched sleeps
 
-  abbrev pub across : ℕ → End
-  across i = record { port = far_port g u i; key = (port_at g u i).key; mark = (w.at (far g u i)).mark (far_port g u i); is = w.at (far g u i); seen = w.seen (far g u i) (far_port g u i) }
-
-  pub link : (i : ℕ) → At g u i → LinkFits (NamesOf g w) (end g w u i) (across i)
+  pub link : (i : ℕ) → At g u i → LinkFits (NamesOf g w) (end g w u i) (far_end g w u i)
   link i at' = at_near g wired w (LinkFits (NamesOf g w)) holds.links u i at'
 
-  pub link' : (i : ℕ) → At g u i → LinkFits (NamesOf g w) (across i) (end g w u i)
+  pub link' : (i : ℕ) → At g u i → LinkFits (NamesOf g w) (far_end g w u i) (end g w u i)
   link' i at' = at_far g wired w (LinkFits (NamesOf g w)) holds.links u i at'
 
   -- the ends of its other links
@@ -110,7 +106,7 @@ module _ (g : Network) (wired : IsWired g) (u : ℕ) (lo : 1 ≤ u) (hi : u ≤ 
   near_is : (i : ℕ) → i ≢ 0 → near' g wired u lo hi waker (w.seen u) sends w i ≡ still i
   near_is i ne = λ k. record { port = i; key = (port_at g u i).key; mark = put_other (w.at u).mark 0 i Branch ne k; is = waker; seen = w.seen u i }
 
-  far_is : (i : ℕ) → i ≢ 0 → far' g wired u lo hi waker (w.seen u) sends w i ≡ across i
+  far_is : (i : ℕ) → i ≢ 0 → far' g wired u lo hi waker (w.seen u) sends w i ≡ far_end g w u i
   far_is i ne = λ k. record { port = far_port g u i; key = (port_at g u i).key; mark = (w.at (far g u i)).mark (far_port g u i); is = w.at (far g u i); seen = adds (w.seen (far g u i) (far_port g u i)) ((sends_one 0 (Connect 0)).none i ne k) }
 
   pub quits : (i : ℕ) → (w.at u).head.probe ≢ Some i
@@ -119,18 +115,18 @@ module _ (g : Network) (wired : IsWired g) (u : ℕ) (lo : 1 ≤ u) (hi : u ≤ 
   pub low : (w.at u).head.level ≤ 0
   low = let z = fresh.level in omega (arith, z)
 
-  still_fits : (i : ℕ) → At g u i → LinkFits (NamesOf g w) (still i) (across i)
+  still_fits : (i : ℕ) → At g u i → LinkFits (NamesOf g w) (still i) (far_end g w u i)
   still_fits i at' = record {
-    tree = tree_woke (tree_end (end g w u i)) (tree_end (across i)) (Some 0) fresh.level (fresh.marks i) (link i at').tree;
-    search = search_woke (tree_end (end g w u i)) (tree_end (across i)) (Some 0) fresh.level (fresh.marks i) (link i at').search fresh.best;
-    tests = tests_aside (test_end (end g w u i)) (test_end (across i)) (w.at u).head.probe 0 (w.at u).head.name (quits i) (quits i) low (link i at').tests (link' i at').tests;
+    tree = tree_woke (tree_end (end g w u i)) (tree_end (far_end g w u i)) (Some 0) fresh.level (fresh.marks i) (link i at').tree;
+    search = search_woke (tree_end (end g w u i)) (tree_end (far_end g w u i)) (Some 0) fresh.level (fresh.marks i) (link i at').search fresh.best;
+    tests = tests_aside (test_end (end g w u i)) (test_end (far_end g w u i)) (w.at u).head.probe 0 (w.at u).head.name (quits i) (quits i) low (link i at').tests (link' i at').tests;
   }
 
-  still_fits' : (i : ℕ) → At g u i → LinkFits (NamesOf g w) (across i) (still i)
+  still_fits' : (i : ℕ) → At g u i → LinkFits (NamesOf g w) (far_end g w u i) (still i)
   still_fits' i at' = record {
-    tree = tree_woke' (tree_end (end g w u i)) (tree_end (across i)) (Some 0) fresh.level (fresh.marks i) (link' i at').tree;
-    search = search_woke' (tree_end (end g w u i)) (tree_end (across i)) (Some 0) fresh.level (fresh.marks i) (link' i at').search;
-    tests = tests_aside' (test_end (end g w u i)) (test_end (across i)) (w.at u).head.probe 0 (w.at u).head.name (quits i) (quits i) low (link i at').tests (link' i at').tests;
+    tree = tree_woke' (tree_end (end g w u i)) (tree_end (far_end g w u i)) (Some 0) fresh.level (fresh.marks i) (link' i at').tree;
+    search = search_woke' (tree_end (end g w u i)) (tree_end (far_end g w u i)) (Some 0) fresh.level (fresh.marks i) (link' i at').search;
+    tests = tests_aside' (test_end (end g w u i)) (test_end (far_end g w u i)) (w.at u).head.probe 0 (w.at u).head.name (quits i) (quits i) low (link i at').tests (link' i at').tests;
   }
 
   pub near_fits : (i : ℕ) → At g u i → i ≢ 0 → LinkFits (NamesOf g w) (near' g wired u lo hi waker (w.seen u) sends w i) (far' g wired u lo hi waker (w.seen u) sends w i)
@@ -152,11 +148,11 @@ module _ (g : Network) (wired : IsWired g) (u : ℕ) (lo : 1 ≤ u) (hi : u ≤ 
   }
 
   -- nobody owes it a Report
-  unowed : (i : ℕ) → At g u i → owes (end g w u i) (across i) ≡ false
-  unowed i at' = ⊎_elim (λ z. absurd (let one = debt_one (end g w u i) (across i) (λ y. let q = fresh.up in cc (q, y)) z in let n = fresh.find_count in omega (arith, one, term, all, n))) (λ z. z) (truth (owes (end g w u i) (across i)))
+  unowed : (i : ℕ) → At g u i → owes (end g w u i) (far_end g w u i) ≡ false
+  unowed i at' = ⊎_elim (λ z. absurd (let one = debt_one (end g w u i) (far_end g w u i) (λ y. let q = fresh.up in cc (q, y)) z in let n = fresh.find_count in omega (arith, one, term, all, n))) (λ z. z) (cases_Bool (owes (end g w u i) (far_end g w u i)))
     where
       f : ℕ → ℕ
-      f i = debt (end g w u i) (across i)
+      f i = debt (end g w u i) (far_end g w u i)
 
       all : (w.at u).head.find_count ≡ sum_below (length (g.ports u)) f
       all = holds.counted u is ∙ sum_same (length (g.ports u)) _ _ (λ i lt. let at'' : At g u i = record { some = lo; node = hi; port = lt } in ap (debt (end g w u i)) (λ k. record { port = far_port g u i; key = wired.same_key u i at'' k; mark = (w.at (far g u i)).mark (far_port g u i); is = w.at (far g u i); seen = w.seen (far g u i) (far_port g u i) }))
@@ -178,10 +174,10 @@ module _ (g : Network) (wired : IsWired g) (u : ℕ) (lo : 1 ≤ u) (hi : u ≤ 
           none true = refl
           none false = refl
 
-      theirs : (i : ℕ) → At g u i → debt (far' g wired u lo hi waker (w.seen u) sends w i) (near' g wired u lo hi waker (w.seen u) sends w i) ≡ debt (across i) (end g w u i)
+      theirs : (i : ℕ) → At g u i → debt (far' g wired u lo hi waker (w.seen u) sends w i) (near' g wired u lo hi waker (w.seen u) sends w i) ≡ debt (far_end g w u i) (end g w u i)
       theirs i at' = go (0 == i)
         where
-          go : (c : Bool) → debt (record (across i) { seen = adds (w.seen (far g u i) (far_port g u i)) (cond c (Connect 0 ∷ []) []) }) (near' g wired u lo hi waker (w.seen u) sends w i) ≡ debt (across i) (end g w u i)
+          go : (c : Bool) → debt (record (far_end g w u i) { seen = adds (w.seen (far g u i) (far_port g u i)) (cond c (Connect 0 ∷ []) []) }) (near' g wired u lo hi waker (w.seen u) sends w i) ≡ debt (far_end g w u i) (end g w u i)
           go true = rw (report_append (Connect 0) refl (w.seen (far g u i) (far_port g u i)).tree, sleeps) refl
           go false = rw sleeps refl
 
@@ -199,7 +195,7 @@ module _ (g : Network) (wired : IsWired g) (u : ℕ) (lo : 1 ≤ u) (hi : u ≤ 
   }
     where
       calm : (p : ℕ) → At g u p → has_call (sent.seen u p).tree ≡ false
-      calm p at' = ap (λ (s : Seen). has_call s.tree) (here_seen g wired u lo hi waker (w.seen u) sends w p) ∙ uncalled (tree_end (end g w u p)) (tree_end (across p)) (Some 0) fresh.level (fresh.marks p) (link p at').tree (link' p at').tree
+      calm p at' = ap (λ (s : Seen). has_call s.tree) (here_seen g wired u lo hi waker (w.seen u) sends w p) ∙ uncalled (tree_end (end g w u p)) (tree_end (far_end g w u p)) (Some 0) fresh.level (fresh.marks p) (link p at').tree (link' p at').tree
 
   pub no_root : (t p : ℕ) → At g t p → Root g (forest w) t p → (w.at t).fragment ≡ (w.at u).fragment → ⊥
   no_root t p at' r e = go (subst (λ y. Root g (forest w) y p) (holds.alone u t is (record { some = at'.some; node = at'.node }) sleeps e) r)

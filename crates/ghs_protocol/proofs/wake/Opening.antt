@@ -10,11 +10,11 @@ use Rattle.ghs_protocol.specs.Net.{opening}
 use Rattle.ghs_protocol.specs.Marks.{Leads, Here}
 use Rattle.ghs_protocol.proofs.clauses.Fragments.{IsIn, First, Later, One_more, None_apart, IsJoinedIn, Goes_out, Both_ways, Root}
 use Rattle.ghs_protocol.specs.Ledger.{sum_below}
-use Rattle.ghs_protocol.proofs.clauses.World.{World, world, end, forest}
+use Rattle.ghs_protocol.proofs.clauses.Scene.{Scene, scene, end, forest}
 use Rattle.ghs_protocol.proofs.clauses.Nodes.{NodeFits}
 use Rattle.ghs_protocol.proofs.clauses.Whole.{LinkFits, Invariant, HasInvariant, NamesOf, opening_ghost}
 
-unmarked : (n p : ℕ) → get_or (replicate n Basic) p Rejected ≢ Branch
+pub unmarked : (n p : ℕ) → get_or (replicate n Basic) p Rejected ≢ Branch
 unmarked zero p = λ e. cc
 unmarked (suc n) zero = λ e. cc
 unmarked (suc n) (suc p) = unmarked n p
@@ -38,8 +38,8 @@ nowhere xs y e First = cc
 nowhere xs y e (Later i) = cc
 
 module _ (g : Network) where
-  w : World
-  w = world (opening g) opening_ghost
+  w : Scene
+  w = scene (opening g) opening_ghost
 
   none : (v p : ℕ) → (w.at v).mark p ≢ Branch
   unfolding w
@@ -70,7 +70,7 @@ module _ (g : Network) where
     tests = record { probing = λ e. cc; not_probing = λ e. record { accepts = refl; rejects = refl; one = omega arith; crossed = λ c. absurd (omega (arith, c)) } };
   }
 
-  pub opening_holds : Invariant g (world (opening g) opening_ghost)
+  pub opening_holds : Invariant g (scene (opening g) opening_ghost)
   unfolding w
   opening_holds = record {
     nodes = λ v is. node v;

@@ -9,7 +9,7 @@ use Rattle.ghs_node.specs.declared.message.Message.TheVariants.{Connect}
 use Rattle.ghs_node.specs.Words.{is_branch}
 use Rattle.ghs_protocol.specs.Network.{Network, port_at, At, far, far_port, IsWired, InNetwork}
 use Rattle.ghs_protocol.specs.Net.{put}
-use Rattle.ghs_protocol.proofs.clauses.World.{Seen, adds, Member, World, End, TreeEnd, end, tree_end, test_end, forest, acts}
+use Rattle.ghs_protocol.proofs.clauses.Scene.{Seen, adds, Member, Scene, End, TreeEnd, end, tree_end, test_end, forest, acts, far_end}
 use Rattle.ghs_protocol.proofs.clauses.Nodes.{Untouched}
 use Rattle.ghs_protocol.proofs.clauses.TreeMessages.{Moved}
 use Rattle.ghs_protocol.proofs.clauses.Search.{LeadsOut, SearchFits}
@@ -19,21 +19,20 @@ use Rattle.ghs_protocol.proofs.clauses.Whole.{Invariant, NamesOf, LinkFits}
 use Rattle.ghs_protocol.specs.Steps.{sent_on}
 use Rattle.ghs_protocol.proofs.lemmas.Updates.{put_same, put_other}
 use Rattle.ghs_protocol.proofs.acts.Ends.{acts_keeps}
-use Rattle.ghs_protocol.proofs.acts.SameForest.{near', far', quiet_after, branch_mark}
+use Rattle.ghs_protocol.proofs.acts.SameForest.{near', far', quiet_after, branch_mark, not_branch}
 use Rattle.ghs_protocol.proofs.tests.Links.{tests_aside, tests_aside'}
 use Rattle.ghs_protocol.proofs.root.Ways.{Turns, turning, forest_turn}
 use Rattle.ghs_protocol.proofs.root.Sent.{put_field}
 use Rattle.ghs_protocol.proofs.root.OldLink.{call_append}
 use Rattle.ghs_protocol.proofs.root.Outward.{tree_connects, tree_connects', search_connects, search_connects', tests_branch, tests_branch'}
-use Rattle.ghs_protocol.proofs.union.OneFragment.{not_branch}
 use Rattle.ghs_protocol.proofs.union.NewBranch.{Branches, link_named, fragment_was, coming_was, name_was, mark_else, mark_here, branch_grows, names_grow, alone_grown, named_grown, nodes_grown}
-use Rattle.ghs_protocol.proofs.wake.Inward.{waker, sent, across, is, fresh, link, link', near_fits, far_fits, node, counted, unbranched, no_root, quiet, quits, low, woke, tree_woke, tree_woke', search_woke, search_woke'}
+use Rattle.ghs_protocol.proofs.wake.Inward.{waker, sent, is, fresh, link, link', near_fits, far_fits, node, counted, unbranched, no_root, quiet, quits, low, woke, tree_woke, tree_woke', search_woke, search_woke'}
 
-module _ (g : Network) (wired : IsWired g) (u : ℕ) (lo : 1 ≤ u) (hi : u ≤ g.count) (w : World) (holds : Invariant g w) (at : At g u 0) (sleeps : (w.at u).head.phase ≡ Sleeping) (apart : (w.at (far g u 0)).mark (far_port g u 0) ≢ Branch) where
+module _ (g : Network) (wired : IsWired g) (u : ℕ) (lo : 1 ≤ u) (hi : u ≤ g.count) (w : Scene) (holds : Invariant g w) (at : At g u 0) (sleeps : (w.at u).head.phase ≡ Sleeping) (apart : (w.at (far g u 0)).mark (far_port g u 0) ≢ Branch) where
   abbrev awake : Member
   awake = waker g wired u lo hi w holds at sleeps
 
-  abbrev then : World
+  abbrev then : Scene
   then = sent g wired u lo hi w holds at sleeps
 
   new : Untouched (w.at u)
@@ -112,42 +111,42 @@ module _ (g : Network) (wired : IsWired g) (u : ℕ) (lo : 1 ≤ u) (hi : u ≤ 
   sender = record { port = 0; key = (port_at g u 0).key; mark = Branch; is = awake; seen = w.seen u 0 }
 
   abbrev pub receiver : End
-  receiver = record (across g wired u lo hi w holds at sleeps 0) { seen = record (w.seen (far g u 0) (far_port g u 0)) { tree = (w.seen (far g u 0) (far_port g u 0)).tree ++ Connect 0 ∷ [] } }
+  receiver = record (far_end g w u 0) { seen = record (w.seen (far g u 0) (far_port g u 0)) { tree = (w.seen (far g u 0) (far_port g u 0)).tree ++ Connect 0 ∷ [] } }
 
   alone : (w.at (far g u 0)).fragment ≢ (w.at u).fragment
   alone same = let t = wired.there u 0 at in not_u (holds.alone u (far g u 0) (is g wired u lo hi w holds at sleeps) (record { some = t.some; node = t.node }) sleeps same)
 
-  out : LeadsOut (woke (tree_end (end g w u 0)) (Some 0)) (tree_end (across g wired u lo hi w holds at sleeps 0)) (port_at g u 0).key
+  out : LeadsOut (woke (tree_end (end g w u 0)) (Some 0)) (tree_end (far_end g w u 0)) (port_at g u 0).key
   out = record { key = refl; apart = alone; higher = omega arith }
 
-  fit : LinkFits (NamesOf g w) (end g w u 0) (across g wired u lo hi w holds at sleeps 0)
+  fit : LinkFits (NamesOf g w) (end g w u 0) (far_end g w u 0)
   fit = link g wired u lo hi w holds at sleeps 0 at
 
-  fit' : LinkFits (NamesOf g w) (across g wired u lo hi w holds at sleeps 0) (end g w u 0)
+  fit' : LinkFits (NamesOf g w) (far_end g w u 0) (end g w u 0)
   fit' = link' g wired u lo hi w holds at sleeps 0 at
 
-  searches : SearchFits (woke (tree_end (end g w u 0)) (Some 0)) (tree_end (across g wired u lo hi w holds at sleeps 0))
-  searches = search_woke (tree_end (end g w u 0)) (tree_end (across g wired u lo hi w holds at sleeps 0)) (Some 0) new.level (new.marks 0) fit.search new.best
+  searches : SearchFits (woke (tree_end (end g w u 0)) (Some 0)) (tree_end (far_end g w u 0))
+  searches = search_woke (tree_end (end g w u 0)) (tree_end (far_end g w u 0)) (Some 0) new.level (new.marks 0) fit.search new.best
 
-  searches' : SearchFits (tree_end (across g wired u lo hi w holds at sleeps 0)) (woke (tree_end (end g w u 0)) (Some 0))
-  searches' = search_woke' (tree_end (end g w u 0)) (tree_end (across g wired u lo hi w holds at sleeps 0)) (Some 0) new.level (new.marks 0) fit'.search
+  searches' : SearchFits (tree_end (far_end g w u 0)) (woke (tree_end (end g w u 0)) (Some 0))
+  searches' = search_woke' (tree_end (end g w u 0)) (tree_end (far_end g w u 0)) (Some 0) new.level (new.marks 0) fit'.search
 
   connect_fits : LinkFits (NamesOf g w) sender receiver
   connect_fits = record {
     tree =
-        tree_connects (woke (tree_end (end g w u 0)) (Some 0)) (tree_end (across g wired u lo hi w holds at sleeps 0)) (port_at g u 0).key
+        tree_connects (woke (tree_end (end g w u 0)) (Some 0)) (tree_end (far_end g w u 0)) (port_at g u 0).key
         (new.marks 0) apart out (sym new.coming) searches searches'
-        (tree_woke (tree_end (end g w u 0)) (tree_end (across g wired u lo hi w holds at sleeps 0)) (Some 0) new.level (new.marks 0) fit.tree)
-        (tree_woke' (tree_end (end g w u 0)) (tree_end (across g wired u lo hi w holds at sleeps 0)) (Some 0) new.level (new.marks 0) fit'.tree);
-    search = search_connects (woke (tree_end (end g w u 0)) (Some 0)) (tree_end (across g wired u lo hi w holds at sleeps 0)) (port_at g u 0).key (new.marks 0) apart out (sym new.coming) searches searches';
-    tests = tests_branch _ _ (tests_aside (test_end (end g w u 0)) (test_end (across g wired u lo hi w holds at sleeps 0)) (w.at u).head.probe 0 (w.at u).head.name (quits g wired u lo hi w holds at sleeps 0) (quits g wired u lo hi w holds at sleeps 0) (low g wired u lo hi w holds at sleeps) fit.tests fit'.tests);
+        (tree_woke (tree_end (end g w u 0)) (tree_end (far_end g w u 0)) (Some 0) new.level (new.marks 0) fit.tree)
+        (tree_woke' (tree_end (end g w u 0)) (tree_end (far_end g w u 0)) (Some 0) new.level (new.marks 0) fit'.tree);
+    search = search_connects (woke (tree_end (end g w u 0)) (Some 0)) (tree_end (far_end g w u 0)) (port_at g u 0).key (new.marks 0) apart out (sym new.coming) searches searches';
+    tests = tests_branch _ _ (tests_aside (test_end (end g w u 0)) (test_end (far_end g w u 0)) (w.at u).head.probe 0 (w.at u).head.name (quits g wired u lo hi w holds at sleeps 0) (quits g wired u lo hi w holds at sleeps 0) (low g wired u lo hi w holds at sleeps) fit.tests fit'.tests);
   }
 
   connect_fits' : LinkFits (NamesOf g w) receiver sender
   connect_fits' = record {
-    tree = tree_connects' (woke (tree_end (end g w u 0)) (Some 0)) (tree_end (across g wired u lo hi w holds at sleeps 0)) (port_at g u 0).key (new.marks 0) apart out (sym new.coming) searches searches';
-    search = search_connects' (woke (tree_end (end g w u 0)) (Some 0)) (tree_end (across g wired u lo hi w holds at sleeps 0)) (port_at g u 0).key (new.marks 0) apart out (sym new.coming) searches searches';
-    tests = tests_branch' _ _ (tests_aside' (test_end (end g w u 0)) (test_end (across g wired u lo hi w holds at sleeps 0)) (w.at u).head.probe 0 (w.at u).head.name (quits g wired u lo hi w holds at sleeps 0) (quits g wired u lo hi w holds at sleeps 0) (low g wired u lo hi w holds at sleeps) fit.tests fit'.tests);
+    tree = tree_connects' (woke (tree_end (end g w u 0)) (Some 0)) (tree_end (far_end g w u 0)) (port_at g u 0).key (new.marks 0) apart out (sym new.coming) searches searches';
+    search = search_connects' (woke (tree_end (end g w u 0)) (Some 0)) (tree_end (far_end g w u 0)) (port_at g u 0).key (new.marks 0) apart out (sym new.coming) searches searches';
+    tests = tests_branch' _ _ (tests_aside' (test_end (end g w u 0)) (test_end (far_end g w u 0)) (w.at u).head.probe 0 (w.at u).head.name (quits g wired u lo hi w holds at sleeps 0) (quits g wired u lo hi w holds at sleeps 0) (low g wired u lo hi w holds at sleeps) fit.tests fit'.tests);
   }
 
   sender_is : near' g wired u lo hi awake (w.seen u) ((0, Connect 0) ∷ []) w 0 ≡ sender

@@ -6,31 +6,29 @@ use Rattle.ghs_node.specs.declared.message.Phase.TheVariants.{Sleeping, Found}
 use Rattle.ghs_node.specs.declared.message.Message.TheVariants.{Connect}
 use Rattle.ghs_protocol.specs.Network.{Network, port_at, At, far, far_port, IsWired, InNetwork}
 use Rattle.ghs_protocol.specs.Net.{put}
-use Rattle.ghs_protocol.proofs.clauses.World.{Member, World, tree_end, end, acts}
+use Rattle.ghs_protocol.proofs.clauses.Scene.{Member, Scene, tree_end, end, acts, far_end}
 use Rattle.ghs_protocol.proofs.clauses.TreeMessages.{ConnectUnderWay}
 use Rattle.ghs_protocol.proofs.clauses.Nodes.{Untouched}
 use Rattle.ghs_protocol.proofs.clauses.Wiring.{IsKeyed}
 use Rattle.ghs_protocol.proofs.clauses.Uniting.{meet}
 use Rattle.ghs_protocol.proofs.clauses.Whole.{Invariant}
 use Rattle.ghs_protocol.proofs.clauses.UnderWay.{Lives}
-use Rattle.ghs_protocol.proofs.lemmas.Updates.{put_other}
+use Rattle.ghs_protocol.proofs.lemmas.Updates.{put_other, put_alike}
 use Rattle.ghs_protocol.proofs.acts.OneLink.{sends_one}
-use Rattle.ghs_protocol.proofs.root.Sent.{put_alike}
-use Rattle.ghs_protocol.proofs.rest.AtRest.{over}
 use Rattle.ghs_protocol.proofs.acts.Reactions.{put_again}
 use Rattle.ghs_protocol.proofs.rows.Link.{link_fits'}
 use Rattle.ghs_protocol.proofs.wake.Inward.{wakes_meeting}
 use Rattle.ghs_protocol.proofs.tests.UnderWay.{touches_lives, near_asks, far_asks}
 use Rattle.ghs_protocol.proofs.union.UnderWay.{no_name, united_lives}
 
-module _ (g : Network) (wired : IsWired g) (u : ℕ) (lo : 1 ≤ u) (hi : u ≤ g.count) (w : World) (holds : Invariant g w) (lives : Lives g w) (at : At g u 0) (sleeps : (w.at u).head.phase ≡ Sleeping) where
+module _ (g : Network) (wired : IsWired g) (u : ℕ) (lo : 1 ≤ u) (hi : u ≤ g.count) (w : Scene) (holds : Invariant g w) (lives : Lives g w) (at : At g u 0) (sleeps : (w.at u).head.phase ≡ Sleeping) where
   abbrev x : Member
   x = record (w.at u) { head = record (w.at u).head { level = 0; phase = Found; find_count = 0 }; mark = put (w.at u).mark 0 Branch; up = Some 0 }
 
   abbrev ss : Outgoing
   ss = (0, Connect 0) ∷ []
 
-  abbrev woken : World
+  abbrev woken : Scene
   woken = acts g u (record (w.at u) { head = record (w.at u).head { level = 0; phase = Found; find_count = 0 }; mark = put (w.at u).mark 0 Branch; up = Some 0 }) (w.seen u) ((0, Connect 0) ∷ []) w
 
   is : InNetwork g u
@@ -59,7 +57,7 @@ module _ (g : Network) (wired : IsWired g) (u : ℕ) (lo : 1 ≤ u) (hi : u ≤ 
 
   -- the far end's Connect has come in
   module _ (keyed : IsKeyed g) (met : (w.at (far g u 0)).mark (far_port g u 0) ≡ Branch) where
-    came : ConnectUnderWay (tree_end (over g w u 0)) (tree_end (end g w u 0))
+    came : ConnectUnderWay (tree_end (far_end g w u 0)) (tree_end (end g w u 0))
     came = (link_fits' g wired w holds u 0 at).tree.out_connect (record { here = met; there = fresh.marks 0 })
 
     fragment_is : (t : ℕ) → (woken.at t).fragment ≡ (w.at t).fragment

@@ -8,7 +8,7 @@ use Rattle.ghs_node.specs.declared.message.Message.TheVariants.{Connect, Initiat
 use Rattle.ghs_node.specs.declared.head.Head.{Head}
 use Rattle.ghs_node.specs.Words.{Outgoing, Best, is_branch}
 use Rattle.ghs_node.specs.NodeState.{mark_at}
-use Rattle.ghs_protocol.specs.Network.{Network, port_at}
+use Rattle.ghs_protocol.specs.Network.{Network, port_at, far, far_port}
 use Rattle.ghs_protocol.proofs.clauses.Acts.{add_all, push_all as pushes}
 use Rattle.ghs_protocol.specs.Net.{Net, put}
 
@@ -60,7 +60,7 @@ pub record Ghost : Type 0 where
   pub up : ℕ → Option ℕ
 
 -- all members, and what is read of the queue at each port
-pub record World : Type 0 where
+pub record Scene : Type 0 where
   pub at : ℕ → Member
   pub seen : ℕ → ℕ → Seen
 
@@ -69,8 +69,8 @@ abbrev pub member : Net → Ghost → ℕ → Member
 member w gh v = record { head = (w.node v).head; mark = λ p. mark_at (w.node v) p; fragment = gh.fragment v; coming = gh.coming (gh.fragment v); coming_name = gh.coming_name (gh.fragment v); up = gh.up v }
 
 -- the net with its memory
-abbrev pub world : Net → Ghost → World
-world w gh = record { at = λ v. member w gh v; seen = λ v p. see (w.queue v p) }
+abbrev pub scene : Net → Ghost → Scene
+scene w gh = record { at = λ v. member w gh v; seen = λ v p. see (w.queue v p) }
 
 -- one end of a link: the port, the link's key, the port's mark, the node, and the queue there
 pub record End : Type 0 where
@@ -81,8 +81,12 @@ pub record End : Type 0 where
   pub seen : Seen
 
 -- the end at port p of v
-abbrev pub end : Network → World → ℕ → ℕ → End
+abbrev pub end : Network → Scene → ℕ → ℕ → End
 end g w v p = record { port = p; key = (port_at g v p).key; mark = (w.at v).mark p; is = w.at v; seen = w.seen v p }
+
+-- the far end of the link at port p of v, of which the key is the same
+abbrev pub far_end : Network → Scene → ℕ → ℕ → End
+far_end g w v p = record { port = far_port g v p; key = (port_at g v p).key; mark = (w.at (far g v p)).mark (far_port g v p); is = w.at (far g v p); seen = w.seen (far g v p) (far_port g v p) }
 
 -- what the clauses on tree messages and on the search read of an end
 pub record TreeEnd : Type 0 where
@@ -125,7 +129,7 @@ pub record Forest : Type 0 where
   pub coming_name : ℕ → Option Key
   pub up : ℕ → Option ℕ
 
-abbrev pub forest : World → Forest
+abbrev pub forest : Scene → Forest
 forest w = record { branch = λ v p. is_branch ((w.at v).mark p); fragment = λ v. (w.at v).fragment; coming = λ v. (w.at v).coming; coming_name = λ v. (w.at v).coming_name; up = λ v. (w.at v).up }
 
 -- messages go out, one after another
@@ -133,5 +137,5 @@ abbrev pub push_all : Network → ℕ → Outgoing → (ℕ → ℕ → Seen) �
 push_all g v ss q = pushes add g v ss q
 
 -- one act of a node: u becomes x, its own queues become own, and it sends ss
-abbrev pub acts : Network → ℕ → Member → (ℕ → Seen) → Outgoing → World → World
+abbrev pub acts : Network → ℕ → Member → (ℕ → Seen) → Outgoing → Scene → Scene
 acts g u x own ss w = record { at = put w.at u x; seen = push_all g u ss (put w.seen u own) }

@@ -11,7 +11,7 @@ use Rattle.ghs_node.specs.declared.message.Message.{Message}
 use Rattle.ghs_node.specs.declared.message.Message.TheVariants.{Connect, Initiate, Test, Accept, Reject, Report, ChangeRoot}
 use Rattle.ghs_node.specs.Words.{Best, is_branch, below, best_key}
 use Rattle.ghs_protocol.specs.Network.{Network, port_at, At, far, far_port, IsWired, InNetwork}
-use Rattle.ghs_protocol.proofs.clauses.World.{World, Member, End, TreeEnd, end, tree_end, forest, Seen}
+use Rattle.ghs_protocol.proofs.clauses.Scene.{Scene, Member, End, TreeEnd, end, tree_end, forest, Seen, far_end}
 use Rattle.ghs_protocol.proofs.clauses.Links.{Mutual}
 use Rattle.ghs_protocol.proofs.clauses.TreeMessages.{CoreFits, CoreQueue, Plain, With_report, Stage, Asking, Called, Begun, AtStage, asked, called, MovedFits, To_here, To_there, ConnectUnderWay}
 use Rattle.ghs_protocol.proofs.clauses.Tests.{AllFrom}
@@ -21,13 +21,13 @@ use Rattle.ghs_protocol.proofs.clauses.Wiring.{IsKeyed}
 use Rattle.ghs_protocol.proofs.clauses.Whole.{Invariant, LinkFits, NamesOf}
 use Rattle.ghs_protocol.proofs.clauses.UnderWay.{Answering, Test_there, Accept_here, Reject_here, Crossed_here, CoreHeard, HeardBy, brought_to, Living}
 use Rattle.ghs_protocol.proofs.acts.OneLink.{at_near, at_far}
-use Rattle.ghs_protocol.proofs.rest.AtRest.{over}
 use Rattle.ghs_protocol.proofs.search.FirstReport.{key_is}
 use Rattle.ghs_protocol.proofs.tests.Links.{probe_is}
 use Rattle.ghs_protocol.proofs.acts.SameForest.{branch_mark, mark_branch}
 use Rattle.ghs_protocol.proofs.progress.Askers.{Asker, someone_asks}
 use Rattle.ghs_protocol.proofs.progress.Halves.{RootLink, Stands, no_tie}
 use Rattle.ghs_protocol.proofs.progress.KeyDescent.{key_descent}
+use Rattle.std.proofs.lemmas.Bool.{cases_Bool}
 
 -- neither of two keys is below the other
 pub same_lt : (j k : Key) → key_lt j k ≡ false → key_lt k j ≡ false → j ≡ k
@@ -109,16 +109,12 @@ none_brought m p l (Reject ∷ xs) a = elim a.0 [ ]
 first_of : (P : Message → Type 0) (x : Message) (xs ys : List Message) → ys ≡ x ∷ xs → AllOf P ys → P x
 first_of P x xs ys e a = let z : AllOf P (x ∷ xs) = subst (AllOf P) e a in z.0
 
-bool_is : (b : Bool) → (b ≡ true) ⊎ (b ≡ false)
-bool_is true = inl refl
-bool_is false = inr refl
-
 -- the tests that wait, one of them at least, are above the reader
 above : (m : Member) (l : ℕ) (n : Option Key) (ts : List (ℕ × Key)) → 1 ≤ length ts → AllFrom l n ts → AllTests (test_waits m) ts → (m.head.phase ≢ Sleeping) × (m.head.level < l)
 above m l n [] le a b = absurd (omega (arith, le))
 above m l n (t ∷ ts) le a b = let z : (m.head.phase ≢ Sleeping) × (m.head.level < t.0) = b.0 in (z.0, subst (λ x. m.head.level < x) a.0 z.1)
 
-module _ (g : Network) (wired : IsWired g) (keyed : IsKeyed g) (w : World) (holds : Invariant g w) (lives : Living g w)
+module _ (g : Network) (wired : IsWired g) (keyed : IsKeyed g) (w : Scene) (holds : Invariant g w) (lives : Living g w)
     (S : ℕ → Bool) (closed : (v p : ℕ) → At g v p → S v ≡ true → S (far g v p) ≡ true)
     (stuck : (v p : ℕ) → At g v p → S v ≡ true → SeenWaits (w.at v) p (w.seen v p))
     (unended : (v : ℕ) → InNetwork g v → S v ≡ true → (w.at v).head.halted ≢ true) where
@@ -215,7 +211,7 @@ module _ (g : Network) (wired : IsWired g) (keyed : IsKeyed g) (w : World) (hold
     e1 = end g w a j
 
     abbrev f1 : End
-    f1 = over g w a j
+    f1 = far_end g w a j
 
     -- no Connect and no Initiate stands in a queue of the core
     no_asked : (x : Member) (p l v : ℕ) (n : Key) (s t : Stage) → x.mark p ≡ Branch → AllOf (tree_waits x p) (asked l t ++ called v n s) → (s ≢ Called) × (t ≢ Asking)
@@ -260,7 +256,7 @@ module _ (g : Network) (wired : IsWired g) (keyed : IsKeyed g) (w : World) (hold
     begun = ⊎_elim done (λ ne. absurd (moved ne)) (key_is (w.at a).coming_name (port_at g a j).key)
 
     no_reports : (v p : ℕ) → At g v p → S v ≡ true → (w.at v).head.phase ≡ Found → has_report (w.seen v p).tree ≡ false
-    no_reports v p at y f = ⊎_elim (λ h. absurd (let z = (report_waits (w.at v) p (w.seen v p).tree (stuck v p at y).tree h).1 in cc (z, f))) (λ h. h) (bool_is _)
+    no_reports v p at y f = ⊎_elim (λ h. absurd (let z = (report_waits (w.at v) p (w.seen v p).tree (stuck v p at y).tree h).1 in cc (z, f))) (λ h. h) (cases_Bool _)
 
     -- the ends aren't both done
     pub not_done : (w.at a).head.phase ≡ Found → (w.at (far g a j)).head.phase ≡ Found → ⊥
@@ -431,7 +427,7 @@ module _ (g : Network) (wired : IsWired g) (keyed : IsKeyed g) (w : World) (hold
 
           go : Next (far g a j) → ⊥
           go (Lower x lt z) = low x (omega (arith, lt, comes)) z
-          go (Outward o) = ⊎_elim (λ h. r (port_at g o.node o.port).key (subst (λ z. key_lt (port_at g o.node o.port).key z ≡ true) e h) o.node o.port o.at o.member (alike o.node (far g a j) o.same ∙ comes) o.here o.away refl) (λ h. same h) (bool_is _)
+          go (Outward o) = ⊎_elim (λ h. r (port_at g o.node o.port).key (subst (λ z. key_lt (port_at g o.node o.port).key z ≡ true) e h) o.node o.port o.at o.member (alike o.node (far g a j) o.same ∙ comes) o.here o.away refl) (λ h. same h) (cases_Bool _)
             where
               not_less : key_lt (port_at g a j).key (port_at g o.node o.port).key ≡ false
               not_less = subst (λ z. key_lt z (port_at g o.node o.port).key ≡ false) (wired.same_key a j at) (least o.node o.port o.at o.here o.away (far g a j) (far_port g a j) at' (sym o.same) (λ h. under.apart (sym o.same ∙ sym h ∙ ap (λ z. (w.at z).fragment) (wired.back a j at))))
