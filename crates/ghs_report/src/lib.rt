@@ -2,6 +2,5 @@
 #![tactic(auto)]
 
 pub mod net_text;
-pub mod number;
 pub mod tree_text;
 pub mod write_out;

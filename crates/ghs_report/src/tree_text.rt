@@ -2,8 +2,8 @@
 ghost use Rattle.std.specs.Prelude.{◌≡◌, ◌++◌, IfOk};
 ghost use Rattle.ghs_report.specs.TreeText.{tree_text, link_line, total_line};
 
-use crate::number::put_number;
 use ghs_graph::key::Key;
+use ghs_lines::numbers::put_number;
 use std::alloc::{AllocError, Global};
 
 /// A line `t A B W` for each link, and a line `w TOTAL` with the sum of their weights. The sum of a list of any

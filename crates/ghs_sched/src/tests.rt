@@ -1,5 +1,6 @@
-//! Texts of traces, with ample memory.
+//! Texts of traces, with ample memory, and picks of schedules.
 use crate::fault::TraceFault;
+use crate::schedule::Schedule;
 use crate::trace::{read_trace, write_trace};
 use ghs_protocol::event::Event;
 use std::alloc::Global;
@@ -88,5 +89,20 @@ fn names_the_first_fault(rt: HostRuntime) {
     for (text, fault) in rows {
         let found = read_trace(rt.alloc(), text.as_bytes()).err();
         assert_eq!(rt; found, Some(fault), "{text}");
+    }
+}
+
+#[test]
+fn picks_are_the_words_of_the_seed(rt: HostRuntime) {
+    let rows = [
+        (0, [503, 255, 180, 330, 874]),
+        (1, [387, 965, 744, 470, 780]),
+        (u64::MAX, [986, 512, 435, 187, 841]),
+    ];
+    for (seed, places) in rows {
+        let mut schedule = Schedule::seeded(seed);
+        for place in places {
+            assert_eq!(rt; schedule.pick(1000), place);
+        }
     }
 }
