@@ -16,7 +16,7 @@ use Rattle.ghs_node.specs.Reaction.{Ending, Probing, Reporting, Waiting, phase_a
 use Rattle.ghs_node.specs.Rows.{Closes, Reports, Waits, Settles, Probes, Exhausts, AwakeRow, Connect_absorbed, Initiate_rests, Initiate_searches, Tests_cross, Accept_heard, Reject_heard, Report_heard, Report_halts, Row, Wakes, Wakes_alone, Woken_merges, Woken_connect_waits, Woken_test_waits, Woken_accepts, Awake}
 use Rattle.ghs_node.specs.Laws.{HasLevel, WorkHasLevel}
 use Rattle.ghs_node.proofs.Inversion.{reaction_inverts}
-use Rattle.ghs_node.proofs.Marks.{length-with_mark}
+use Rattle.ghs_node.proofs.MarkChanges.{length-with_mark}
 
 -- the level
 

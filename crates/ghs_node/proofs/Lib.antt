@@ -4,7 +4,8 @@ mod Tests
 mod Inversion
 mod Ruleless
 mod Computed
-mod Marks
+mod MarkChanges
+mod LeastBasic
 mod Kept
 mod Outgoing
 mod Whole

@@ -16,7 +16,7 @@ use Rattle.ghs_node.specs.NodeState.{NodeState, IsNode, IsPortBelow, key_at, mar
 use Rattle.ghs_node.specs.Reaction.{Ending, Probing, Reporting, Waiting, last_sends, core_port, name_of, no_probe, reject_at, answered, heard, searching, passed_on, root_message}
 use Rattle.ghs_node.specs.Rows.{Closes, Reports, Waits, Settles, Probes, Exhausts, AwakeRow, Connect_absorbed, Connect_merges, Initiate_rests, Initiate_searches, Test_accepted, Test_rejected, Tests_cross, Accept_heard, Reject_heard, Report_heard, Report_moves_root, Root_moves, Row, Wakes, Wakes_alone, Woken_merges, Woken_connect_waits, Woken_test_waits, Woken_accepts, Awake}
 use Rattle.ghs_node.specs.Laws.{HasLevel, WorkHasLevel}
-use Rattle.ghs_node.proofs.Marks.{length-with_mark, best_below}
+use Rattle.ghs_node.proofs.MarkChanges.{length-with_mark, best_below}
 
 -- ports
 

@@ -6,6 +6,6 @@ pub use Rattle.ghs_node.proofs.Computed.{row_computes}
 pub use Rattle.ghs_node.proofs.Inversion.{reaction_inverts}
 pub use Rattle.ghs_node.proofs.Ruleless.{reaction_ruleless}
 -- What a row does to marks, sends, levels and phases, and what it keeps.
-pub use Rattle.ghs_node.proofs.Marks.{mark_set, awake_marks, row_marks, branch_stays}
+pub use Rattle.ghs_node.proofs.MarkChanges.{mark_set, awake_marks, row_marks, branch_stays}
 pub use Rattle.ghs_node.proofs.Outgoing.{row_ported, row_leveled}
 pub use Rattle.ghs_node.proofs.Kept.{row_level, row_awake, row_halts, row_kept}

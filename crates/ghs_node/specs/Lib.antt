@@ -6,3 +6,4 @@ pub mod Rows
 pub mod NoRule
 pub mod Laws
 pub mod Draft
+pub mod LeastBasic

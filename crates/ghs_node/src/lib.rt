@@ -11,6 +11,7 @@ pub mod kind;
 pub mod laws;
 pub mod level;
 pub mod mark;
+mod marks;
 pub mod message;
 pub mod node;
 #[cfg(test)]

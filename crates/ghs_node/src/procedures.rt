@@ -1,8 +1,7 @@
 //! The procedures of the protocol, which the responses to messages share: wakeup, test, report and change-root.
 ghost use Rattle.std.specs.Prelude.{◌≡◌, ◌<◌, length, IfOk, OnErr};
 ghost use Rattle.ghs_node.specs.declared.message.Phase.TheVariants.{Sleeping};
-ghost use Rattle.ghs_node.specs.Words.{least_basic};
-ghost use Rattle.ghs_node.specs.NodeState.{degree, with_mark};
+ghost use Rattle.ghs_node.specs.NodeState.{degree};
 ghost use Rattle.ghs_node.specs.Reaction.{closes, settles, root_to};
 ghost use Rattle.ghs_node.specs.Draft.{begun_in, Answers};
 
@@ -32,25 +31,13 @@ pub(crate) fn begin(alloc: Global, node: &Node) -> Result<Draft, AllocError>
     Ok(draft)
 }
 
-/// The least port that is Basic.
-fn least_basic(draft: &Draft, node: &Node) -> Option<u32>
-    ensures { result ≡ least_basic (with_mark node.now.marks draft.now.mark) }
-{
-    for port in 0..node.degree() {
-        if draft.mark_of(node, port) == Mark::Basic {
-            return Some(port);
-        }
-    }
-    None
-}
-
 /// Looks for the fragment's least outgoing link: the least Basic port is tested, and where there is none
 /// the node reports.
 pub(crate) fn test(mut draft: Draft, node: &Node) -> Result<Delta, AllocError>
     ensures ok { IfOk result (λ d. d ≡ settles node.now draft.head draft.mark draft.sends) }
     ensures err { OnErr result (0 < length (settles node.now draft.head draft.mark draft.sends).sends) }
 {
-    match least_basic(&draft, node) {
+    match node.least_basic(draft.mark) {
         Some(port) => {
             let head = draft.head;
             draft.head.probe = Some(port);

@@ -1,4 +1,4 @@
-use Rattle.ghs_node.proofs.Marks.{row_marks, branch_stays}
+use Rattle.ghs_node.proofs.MarkChanges.{row_marks, branch_stays}
 use Rattle.ghs_node.proofs.laws.law_branch_stays.Goals as goal
 
 pub returns : goal.returns

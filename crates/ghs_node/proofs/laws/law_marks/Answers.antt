@@ -1,4 +1,4 @@
-use Rattle.ghs_node.proofs.Marks.{row_marks}
+use Rattle.ghs_node.proofs.MarkChanges.{row_marks}
 use Rattle.ghs_node.proofs.laws.law_marks.Goals as goal
 
 pub returns : goal.returns
