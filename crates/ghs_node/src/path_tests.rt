@@ -107,10 +107,21 @@ fn a_whole_run(rt: HostRuntime) {
     assert!(rt; node.head().halted);
 }
 
+#[derive(Clone, Copy, Debug)]
+enum Name {
+    InitiateOfNoHigherLevel,
+    InitiateToSleep,
+    ReportNotWaitedFor,
+    ChangeRootWithoutBestLink,
+    MergeAtTheTop,
+    AbsorptionAtTheTop,
+    MoreToWaitForThanPorts,
+}
+
 /// What a node that has done some works does with one more.
 #[derive(Clone, Copy)]
 struct Edge {
-    name: &'static str,
+    name: Name,
     before: Works,
     work: Work,
     answer: Answer,
@@ -118,37 +129,37 @@ struct Edge {
 
 const EDGES: [Edge; 7] = [
     Edge {
-        name: "an Initiate of no higher level",
+        name: Name::InitiateOfNoHigherLevel,
         before: works!(Work::Wake),
         work: at!(0, Message::Initiate(Level::ZERO, LEFT, Phase::Find)),
         answer: Refuses(NodeFault::Unforeseen),
     },
     Edge {
-        name: "an Initiate to sleep",
+        name: Name::InitiateToSleep,
         before: works!(Work::Wake),
         work: at!(0, Message::Initiate(Level::ONE, LEFT, Phase::Sleeping)),
         answer: Refuses(NodeFault::Unforeseen),
     },
     Edge {
-        name: "a Report that isn't waited for",
+        name: Name::ReportNotWaitedFor,
         before: works!(Work::Wake),
         work: at!(0, NO_LINK),
         answer: Refuses(NodeFault::Unforeseen),
     },
     Edge {
-        name: "a ChangeRoot without a best link",
+        name: Name::ChangeRootWithoutBestLink,
         before: works!(Work::Wake),
         work: at!(0, Message::ChangeRoot),
         answer: Refuses(NodeFault::Unforeseen),
     },
     Edge {
-        name: "a merge at the top level",
+        name: Name::MergeAtTheTop,
         before: works!(Work::Wake, at!(0, TOP)),
         work: at!(0, Message::Connect(Level::TOP)),
         answer: Refuses(NodeFault::Unforeseen),
     },
     Edge {
-        name: "an absorption at the top level",
+        name: Name::AbsorptionAtTheTop,
         before: works!(Work::Wake, at!(0, TOP)),
         work: at!(0, Message::Connect(Level::NEXT_TO_TOP)),
         answer: Does {
@@ -157,7 +168,7 @@ const EDGES: [Edge; 7] = [
         },
     },
     Edge {
-        name: "more fragments to wait for than ports",
+        name: Name::MoreToWaitForThanPorts,
         before: works!(Work::Wake, at!(0, SEARCH), at!(1, JOIN), at!(1, JOIN)),
         work: at!(1, JOIN),
         answer: Refuses(NodeFault::Unforeseen),
@@ -170,11 +181,11 @@ fn at_the_edges_of_the_rules(rt: HostRuntime) {
         let mut node = after(&rt, rt.alloc(), 2, &edge.before);
         let awaited = node.head().find_count;
         let reply = react(rt.alloc(), &node, edge.work);
-        assert_eq!(rt; answer_of(&reply), edge.answer, "{}", edge.name);
+        assert_eq!(rt; answer_of(&reply), edge.answer, "{:?}", edge.name);
         if let Ok(delta) = reply {
             node.apply(&delta);
         }
-        assert_eq!(rt; node.head().find_count, awaited, "{}", edge.name);
+        assert_eq!(rt; node.head().find_count, awaited, "{:?}", edge.name);
     }
 }
 

@@ -58,11 +58,47 @@ const SEARCHING: Head = Head {
     ..RESTING
 };
 
+/// The rows by their constructors in `Rows`, and where one ends in several ways, by the way.
+#[derive(Clone, Copy, Debug)]
+enum Name {
+    Wakes,
+    WakesAlone,
+    WokenMerges,
+    WokenConnectWaits,
+    WokenTestWaits,
+    WokenAccepts,
+    ConnectAbsorbedInSearch,
+    ConnectAbsorbedAtRest,
+    ConnectWaits,
+    ConnectMerges,
+    InitiateRests,
+    InitiateSearchesAndTests,
+    InitiateSearchesAndWaitsForAReport,
+    InitiateSearchesAndReports,
+    TestWaits,
+    TestAccepted,
+    TestRejectedOnABasicPort,
+    TestRejectedOnABranch,
+    TestsCrossAndTheNodeReports,
+    TestsCrossAndTheNodeTestsOn,
+    AcceptHeard,
+    RejectHeardAndTheNodeReports,
+    RejectHeardAndTheNodeTestsOn,
+    ReportHeardWhileATestIsOut,
+    ReportHeardTheLast,
+    ReportWaits,
+    ReportMovesRootAlongABranch,
+    ReportMovesRootOutOverTheLink,
+    RootMovesAlongABranch,
+    RootMovesOutOverTheLink,
+    ReportHalts,
+    ReportPasses,
+}
+
 /// One row of the table: a node that has done some works, one more work, and what comes of it.
 #[derive(Clone, Copy)]
 struct Row {
-    /// The constructor in `Rows`, and where it has several ends, which.
-    name: &'static str,
+    name: Name,
     degree: usize,
     before: Works,
     work: Work,
@@ -74,7 +110,7 @@ struct Row {
 
 /// What most rows have: two ports, a message that is done with and no other, and a node at rest afterwards.
 const PLAIN: Row = Row {
-    name: "",
+    name: Name::Wakes,
     degree: 2,
     before: works!(),
     work: Work::Wake,
@@ -86,7 +122,7 @@ const PLAIN: Row = Row {
 
 const SLEEPING: [Row; 6] = [
     Row {
-        name: "Wakes",
+        name: Name::Wakes,
         work: Work::Wake,
         mark: Some((0, Mark::Branch)),
         sent: sent!(0: JOIN),
@@ -94,7 +130,7 @@ const SLEEPING: [Row; 6] = [
         ..PLAIN
     },
     Row {
-        name: "Wakes_alone",
+        name: Name::WakesAlone,
         degree: 0,
         work: Work::Wake,
         head: Head {
@@ -104,7 +140,7 @@ const SLEEPING: [Row; 6] = [
         ..PLAIN
     },
     Row {
-        name: "Woken_merges",
+        name: Name::WokenMerges,
         work: at!(0, JOIN),
         mark: Some((0, Mark::Branch)),
         sent: sent!(0: JOIN, 0: SEARCH),
@@ -112,7 +148,7 @@ const SLEEPING: [Row; 6] = [
         ..PLAIN
     },
     Row {
-        name: "Woken_connect_waits",
+        name: Name::WokenConnectWaits,
         work: at!(1, JOIN),
         fate: Fate::Requeued,
         mark: Some((0, Mark::Branch)),
@@ -121,7 +157,7 @@ const SLEEPING: [Row; 6] = [
         ..PLAIN
     },
     Row {
-        name: "Woken_test_waits",
+        name: Name::WokenTestWaits,
         work: at!(1, TEST),
         fate: Fate::Requeued,
         mark: Some((0, Mark::Branch)),
@@ -130,7 +166,7 @@ const SLEEPING: [Row; 6] = [
         ..PLAIN
     },
     Row {
-        name: "Woken_accepts",
+        name: Name::WokenAccepts,
         work: at!(1, Message::Test(Level::ZERO, RIGHT)),
         mark: Some((0, Mark::Branch)),
         sent: sent!(0: JOIN, 1: Message::Accept),
@@ -141,7 +177,7 @@ const SLEEPING: [Row; 6] = [
 
 const CONNECTS: [Row; 4] = [
     Row {
-        name: "Connect_absorbed, in search",
+        name: Name::ConnectAbsorbedInSearch,
         before: works!(Work::Wake, at!(0, SEARCH)),
         work: at!(1, JOIN),
         mark: Some((1, Mark::Branch)),
@@ -153,7 +189,7 @@ const CONNECTS: [Row; 4] = [
         ..PLAIN
     },
     Row {
-        name: "Connect_absorbed, at rest",
+        name: Name::ConnectAbsorbedAtRest,
         before: works!(Work::Wake, at!(0, REST)),
         work: at!(1, JOIN),
         mark: Some((1, Mark::Branch)),
@@ -161,7 +197,7 @@ const CONNECTS: [Row; 4] = [
         ..PLAIN
     },
     Row {
-        name: "Connect_waits",
+        name: Name::ConnectWaits,
         before: works!(Work::Wake),
         work: at!(1, JOIN),
         fate: Fate::Requeued,
@@ -169,7 +205,7 @@ const CONNECTS: [Row; 4] = [
         ..PLAIN
     },
     Row {
-        name: "Connect_merges",
+        name: Name::ConnectMerges,
         before: works!(Work::Wake),
         work: at!(0, JOIN),
         sent: sent!(0: SEARCH),
@@ -180,7 +216,7 @@ const CONNECTS: [Row; 4] = [
 
 const INITIATES: [Row; 4] = [
     Row {
-        name: "Initiate_rests",
+        name: Name::InitiateRests,
         degree: 3,
         before: works!(Work::Wake, at!(0, REST), at!(1, JOIN)),
         work: at!(0, REST_ON),
@@ -193,7 +229,7 @@ const INITIATES: [Row; 4] = [
         ..PLAIN
     },
     Row {
-        name: "Initiate_searches, and tests",
+        name: Name::InitiateSearchesAndTests,
         degree: 3,
         before: works!(Work::Wake, at!(0, REST), at!(1, JOIN)),
         work: at!(0, SEARCH_ON),
@@ -209,7 +245,7 @@ const INITIATES: [Row; 4] = [
         ..PLAIN
     },
     Row {
-        name: "Initiate_searches, and waits for a Report",
+        name: Name::InitiateSearchesAndWaitsForAReport,
         before: works!(Work::Wake, at!(0, REST), at!(1, JOIN)),
         work: at!(0, SEARCH_ON),
         sent: sent!(1: SEARCH_ON),
@@ -223,7 +259,7 @@ const INITIATES: [Row; 4] = [
         ..PLAIN
     },
     Row {
-        name: "Initiate_searches, and reports",
+        name: Name::InitiateSearchesAndReports,
         degree: 1,
         before: works!(Work::Wake),
         work: at!(0, SEARCH),
@@ -234,21 +270,21 @@ const INITIATES: [Row; 4] = [
 
 const TESTS: [Row; 6] = [
     Row {
-        name: "Test_waits",
+        name: Name::TestWaits,
         before: works!(Work::Wake, at!(0, REST)),
         work: at!(1, Message::Test(Level::TWO, LEFT)),
         fate: Fate::Requeued,
         ..PLAIN
     },
     Row {
-        name: "Test_accepted",
+        name: Name::TestAccepted,
         before: works!(Work::Wake, at!(0, REST)),
         work: at!(1, Message::Test(Level::ONE, FAR)),
         sent: sent!(1: Message::Accept),
         ..PLAIN
     },
     Row {
-        name: "Test_rejected, on a Basic port",
+        name: Name::TestRejectedOnABasicPort,
         before: works!(Work::Wake, at!(0, REST)),
         work: at!(1, TEST),
         mark: Some((1, Mark::Rejected)),
@@ -256,14 +292,14 @@ const TESTS: [Row; 6] = [
         ..PLAIN
     },
     Row {
-        name: "Test_rejected, on a Branch",
+        name: Name::TestRejectedOnABranch,
         before: works!(Work::Wake, at!(0, REST)),
         work: at!(0, TEST),
         sent: sent!(0: Message::Reject),
         ..PLAIN
     },
     Row {
-        name: "Tests_cross, and the node reports",
+        name: Name::TestsCrossAndTheNodeReports,
         before: works!(Work::Wake, at!(0, SEARCH)),
         work: at!(1, TEST),
         mark: Some((1, Mark::Rejected)),
@@ -271,7 +307,7 @@ const TESTS: [Row; 6] = [
         ..PLAIN
     },
     Row {
-        name: "Tests_cross, and the node tests on",
+        name: Name::TestsCrossAndTheNodeTestsOn,
         degree: 3,
         before: works!(Work::Wake, at!(0, SEARCH)),
         work: at!(1, TEST),
@@ -287,7 +323,7 @@ const TESTS: [Row; 6] = [
 
 const ANSWERS: [Row; 3] = [
     Row {
-        name: "Accept_heard",
+        name: Name::AcceptHeard,
         before: works!(Work::Wake, at!(0, SEARCH)),
         work: at!(1, Message::Accept),
         sent: sent!(0: Message::Report(Some(RIGHT))),
@@ -298,7 +334,7 @@ const ANSWERS: [Row; 3] = [
         ..PLAIN
     },
     Row {
-        name: "Reject_heard, and the node reports",
+        name: Name::RejectHeardAndTheNodeReports,
         before: works!(Work::Wake, at!(0, SEARCH)),
         work: at!(1, Message::Reject),
         mark: Some((1, Mark::Rejected)),
@@ -306,7 +342,7 @@ const ANSWERS: [Row; 3] = [
         ..PLAIN
     },
     Row {
-        name: "Reject_heard, and the node tests on",
+        name: Name::RejectHeardAndTheNodeTestsOn,
         degree: 3,
         before: works!(Work::Wake, at!(0, SEARCH)),
         work: at!(1, Message::Reject),
@@ -320,9 +356,9 @@ const ANSWERS: [Row; 3] = [
     },
 ];
 
-const REPORTS: [Row; 9] = [
+const REPORTS: [Row; 5] = [
     Row {
-        name: "Report_heard, while a Test is out",
+        name: Name::ReportHeardWhileATestIsOut,
         before: works!(Work::Wake, at!(0, SEARCH), at!(1, JOIN)),
         work: at!(1, Message::Report(Some(FAR))),
         head: Head {
@@ -332,7 +368,7 @@ const REPORTS: [Row; 9] = [
         ..PLAIN
     },
     Row {
-        name: "Report_heard, the last",
+        name: Name::ReportHeardTheLast,
         before: works!(
             Work::Wake,
             at!(0, SEARCH),
@@ -348,7 +384,7 @@ const REPORTS: [Row; 9] = [
         ..PLAIN
     },
     Row {
-        name: "Report_waits",
+        name: Name::ReportWaits,
         before: works!(Work::Wake, at!(0, SEARCH)),
         work: at!(0, NO_LINK),
         fate: Fate::Requeued,
@@ -356,65 +392,7 @@ const REPORTS: [Row; 9] = [
         ..PLAIN
     },
     Row {
-        name: "Report_moves_root, along a Branch",
-        before: works!(
-            Work::Wake,
-            at!(0, SEARCH),
-            at!(1, JOIN),
-            at!(1, Message::Reject),
-            at!(1, Message::Report(Some(FAR)))
-        ),
-        work: at!(0, NO_LINK),
-        sent: sent!(1: Message::ChangeRoot),
-        head: Head {
-            best: Some((1, FAR)),
-            ..RESTING
-        },
-        ..PLAIN
-    },
-    Row {
-        name: "Report_moves_root, out over the link",
-        before: works!(Work::Wake, at!(0, SEARCH), at!(1, Message::Accept)),
-        work: at!(0, NO_LINK),
-        mark: Some((1, Mark::Branch)),
-        sent: sent!(1: Message::Connect(Level::ONE)),
-        head: Head {
-            best: Some((1, RIGHT)),
-            ..RESTING
-        },
-        ..PLAIN
-    },
-    Row {
-        name: "Root_moves, along a Branch",
-        before: works!(
-            Work::Wake,
-            at!(0, SEARCH),
-            at!(1, JOIN),
-            at!(1, Message::Reject),
-            at!(1, Message::Report(Some(FAR)))
-        ),
-        work: at!(0, Message::ChangeRoot),
-        sent: sent!(1: Message::ChangeRoot),
-        head: Head {
-            best: Some((1, FAR)),
-            ..RESTING
-        },
-        ..PLAIN
-    },
-    Row {
-        name: "Root_moves, out over the link",
-        before: works!(Work::Wake, at!(0, SEARCH), at!(1, Message::Accept)),
-        work: at!(0, Message::ChangeRoot),
-        mark: Some((1, Mark::Branch)),
-        sent: sent!(1: Message::Connect(Level::ONE)),
-        head: Head {
-            best: Some((1, RIGHT)),
-            ..RESTING
-        },
-        ..PLAIN
-    },
-    Row {
-        name: "Report_halts",
+        name: Name::ReportHalts,
         before: works!(Work::Wake, at!(0, SEARCH), at!(1, Message::Reject)),
         work: at!(0, NO_LINK),
         head: Head {
@@ -424,7 +402,7 @@ const REPORTS: [Row; 9] = [
         ..PLAIN
     },
     Row {
-        name: "Report_passes",
+        name: Name::ReportPasses,
         before: works!(Work::Wake, at!(0, SEARCH), at!(1, Message::Accept)),
         work: at!(0, Message::Report(Some(LEFT))),
         head: Head {
@@ -435,22 +413,85 @@ const REPORTS: [Row; 9] = [
     },
 ];
 
+const MOVES: [Row; 4] = [
+    Row {
+        name: Name::ReportMovesRootAlongABranch,
+        before: works!(
+            Work::Wake,
+            at!(0, SEARCH),
+            at!(1, JOIN),
+            at!(1, Message::Reject),
+            at!(1, Message::Report(Some(FAR)))
+        ),
+        work: at!(0, NO_LINK),
+        sent: sent!(1: Message::ChangeRoot),
+        head: Head {
+            best: Some((1, FAR)),
+            ..RESTING
+        },
+        ..PLAIN
+    },
+    Row {
+        name: Name::ReportMovesRootOutOverTheLink,
+        before: works!(Work::Wake, at!(0, SEARCH), at!(1, Message::Accept)),
+        work: at!(0, NO_LINK),
+        mark: Some((1, Mark::Branch)),
+        sent: sent!(1: Message::Connect(Level::ONE)),
+        head: Head {
+            best: Some((1, RIGHT)),
+            ..RESTING
+        },
+        ..PLAIN
+    },
+    Row {
+        name: Name::RootMovesAlongABranch,
+        before: works!(
+            Work::Wake,
+            at!(0, SEARCH),
+            at!(1, JOIN),
+            at!(1, Message::Reject),
+            at!(1, Message::Report(Some(FAR)))
+        ),
+        work: at!(0, Message::ChangeRoot),
+        sent: sent!(1: Message::ChangeRoot),
+        head: Head {
+            best: Some((1, FAR)),
+            ..RESTING
+        },
+        ..PLAIN
+    },
+    Row {
+        name: Name::RootMovesOutOverTheLink,
+        before: works!(Work::Wake, at!(0, SEARCH), at!(1, Message::Accept)),
+        work: at!(0, Message::ChangeRoot),
+        mark: Some((1, Mark::Branch)),
+        sent: sent!(1: Message::Connect(Level::ONE)),
+        head: Head {
+            best: Some((1, RIGHT)),
+            ..RESTING
+        },
+        ..PLAIN
+    },
+];
+
 fn assert_sent(rt: &impl Abort, delta: &Delta, row: &Row) {
     let sends = delta.sends.as_slice();
-    assert!(rt; sends.len() <= 2, "{}", row.name);
-    assert_eq!(rt; sends.get(0).copied(), row.sent[0], "{}", row.name);
-    assert_eq!(rt; sends.get(1).copied(), row.sent[1], "{}", row.name);
+    assert!(rt; sends.len() <= 2, "{:?}", row.name);
+    assert_eq!(rt; sends.get(0).copied(), row.sent[0], "{:?}", row.name);
+    assert_eq!(rt; sends.get(1).copied(), row.sent[1], "{:?}", row.name);
 }
 
 fn assert_row(rt: &impl Abort, alloc: Global, row: &Row) {
     let mut node = after(rt, alloc, row.degree, &row.before);
-    let delta = react(alloc, &node, row.work).expect(rt, row.name);
-    assert_eq!(rt; delta.fate, row.fate, "{}", row.name);
-    assert_eq!(rt; delta.mark, row.mark, "{}", row.name);
+    let reply = react(alloc, &node, row.work);
+    assert!(rt; reply.is_ok(), "{:?}", row.name);
+    let delta = reply.expect(rt, "a reaction");
+    assert_eq!(rt; delta.fate, row.fate, "{:?}", row.name);
+    assert_eq!(rt; delta.mark, row.mark, "{:?}", row.name);
     assert_sent(rt, &delta, row);
-    assert_eq!(rt; delta.halts, row.head.halted, "{}", row.name);
+    assert_eq!(rt; delta.halts, row.head.halted, "{:?}", row.name);
     node.apply(&delta);
-    assert_eq!(rt; *node.head(), row.head, "{}", row.name);
+    assert_eq!(rt; *node.head(), row.head, "{:?}", row.name);
 }
 
 fn assert_rows(rt: &impl Abort, alloc: Global, rows: &[Row]) {
@@ -477,6 +518,11 @@ fn rows_of_tests_and_answers(rt: HostRuntime) {
 }
 
 #[test]
-fn rows_of_reports_and_change_roots(rt: HostRuntime) {
+fn rows_of_reports(rt: HostRuntime) {
     assert_rows(&rt, rt.alloc(), &REPORTS);
+}
+
+#[test]
+fn rows_of_moves_of_the_root(rt: HostRuntime) {
+    assert_rows(&rt, rt.alloc(), &MOVES);
 }
