@@ -1,10 +1,13 @@
-// A road-like graph in the .gr format: nodes in rows, links between near ones, each link as two arcs (or as one).
-// The same words give the same graph: road NODES LINKS [one]
+// A road-like graph in the .gr format: nodes in rows, links between near ones, each link as two arcs or as one.
+// The same words give the same text: road NODES LINKS ORDER
+// ORDER: pairs (a link's arcs side by side), nodes (a node's arcs together), shuffled, apart (all arcs there before all
+// arcs back), or one (an arc a link, a node's arcs together).
+#include <algorithm>
 #include <cstdint>
 #include <cstdio>
 #include <cstdlib>
-#include <cstring>
 #include <string>
+#include <utility>
 #include <vector>
 
 static uint64_t state = 0x9e3779b97f4a7c15ull;
@@ -18,25 +21,26 @@ static uint64_t word() {
 }
 
 struct Arc {
-    uint32_t to, weight;
+    uint32_t from, to, weight;
 };
 
 int main(int argc, char **argv) {
-    if (argc < 3) {
-        std::fprintf(stderr, "usage: road NODES LINKS [one]\n");
+    const std::string order = argc > 3 ? argv[3] : "";
+    if (order != "pairs" && order != "nodes" && order != "shuffled" && order != "apart" && order != "one") {
+        std::fprintf(stderr, "usage: road NODES LINKS pairs|nodes|shuffled|apart|one\n");
         return 2;
     }
     const uint32_t nodes = std::strtoul(argv[1], nullptr, 10);
-    uint64_t links = std::strtoull(argv[2], nullptr, 10);
-    const bool one = argc > 3 && std::strcmp(argv[3], "one") == 0;
+    const uint64_t links = std::strtoull(argv[2], nullptr, 10);
+    const bool one = order == "one";
     uint32_t width = 1;
     while (uint64_t(width) * width < nodes) ++width;
-    std::vector<std::vector<Arc>> arcs(nodes + 1);
+    std::vector<Arc> arcs; // each link's arc there, and then its arc back
     uint64_t made = 0;
     auto link = [&](uint32_t u, uint32_t v) {
         const uint32_t weight = 1 + word() % 30000;
-        arcs[u].push_back({v, weight});
-        if (!one) arcs[v].push_back({u, weight});
+        arcs.push_back({u, v, weight});
+        if (!one) arcs.push_back({v, u, weight});
         ++made;
     };
     // Each node but the first leads to the one beside it or to the one above it.
@@ -62,12 +66,20 @@ int main(int argc, char **argv) {
         std::fprintf(stderr, "road: %llu links at most\n", (unsigned long long)made);
         return 1;
     }
+    if (order != "pairs") {
+        std::stable_sort(arcs.begin(), arcs.end(), [](const Arc &a, const Arc &b) { return a.from < b.from; });
+    }
+    if (order == "apart") {
+        std::stable_partition(arcs.begin(), arcs.end(), [](const Arc &arc) { return arc.from > arc.to; });
+    }
+    if (order == "shuffled") {
+        for (size_t k = arcs.size(); k > 1; --k) std::swap(arcs[k - 1], arcs[word() % k]);
+    }
+
     std::string text = "c A road-like graph, made by bench/road.cpp\np sp " + std::to_string(nodes) + " " +
-                       std::to_string(one ? links : 2 * links) + "\n";
-    for (uint32_t u = 1; u <= nodes; ++u) {
-        for (const Arc &arc : arcs[u]) {
-            text += "a " + std::to_string(u) + " " + std::to_string(arc.to) + " " + std::to_string(arc.weight) + "\n";
-        }
+                       std::to_string(arcs.size()) + "\n";
+    for (const Arc &arc : arcs) {
+        text += "a " + std::to_string(arc.from) + " " + std::to_string(arc.to) + " " + std::to_string(arc.weight) + "\n";
         if (text.size() > (1 << 20)) {
             std::fwrite(text.data(), 1, text.size(), stdout);
             text.clear();

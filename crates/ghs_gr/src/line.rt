@@ -44,23 +44,22 @@ fn plain_arc(text: &[u8]) -> Option<(u32, u32, u32, &[u8])>
     Some((from, to, weight, rest))
 }
 
-/// The number of the digits at the front, where this byte stands right behind them, and what is behind that byte.
+/// The number of the digits at the front, of which there are ten at most, where this byte stands right behind them, and
+/// what is behind that byte.
 fn number_before(end: u8, text: &[u8]) -> Option<(u32, &[u8])>
     ensures { IfSome result (λ x. IsNumberBefore end text.now x.0 x.1.now) }
 {
     let mut value = 0u64;
-    for (i, byte) in text.iter().enumerate() {
+    for i in 0..text.len().min(11) {
+        let byte = text[i];
         if !byte.is_ascii_digit() {
-            if *byte != end || i == 0 {
+            if byte != end || i == 0 || value >= 1 << 32 {
                 return None;
             }
             let (_, rest) = text.split_at(i + 1);
             return Some((value as u32, rest));
         }
-        value = value * 10 + (*byte - b'0') as u64;
-        if value >= 1 << 32 {
-            return None;
-        }
+        value = value * 10 + (byte - b'0') as u64;
     }
     None
 }
