@@ -8,3 +8,4 @@ pub mod Many
 pub mod AsRead
 pub mod Reactions
 pub mod Floors
+pub mod Grounds

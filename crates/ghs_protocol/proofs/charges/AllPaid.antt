@@ -27,7 +27,7 @@ use Rattle.ghs_protocol.specs.Nodes.{HasFewPorts, IsNodeOf, IsWellFormed}
 use Rattle.ghs_protocol.specs.Steps.{Happens, Took, Woke, taken, reacted}
 use Rattle.ghs_protocol.specs.Payments.{AllIsPaid, accepts, added_up, calls, failed, no_accept_first, paid_by, paid_by_levels, paid_by_ports, port_pays, reports, risen, roots, testing, tests_out, then_count}
 use Rattle.ghs_protocol.proofs.clauses.Scene.{Ghost, scene}
-use Rattle.ghs_protocol.proofs.clauses.Wiring.{IsKeyed, IsOrdered}
+use Rattle.ghs_protocol.proofs.clauses.Wiring.{IsKeyed, IsOrdered, Ground}
 use Rattle.ghs_protocol.proofs.clauses.Floors.{Sound}
 use Rattle.ghs_protocol.proofs.clauses.Charges.{Charges, HasCharges}
 use Rattle.ghs_protocol.proofs.lemmas.Balance.{after_balanced}
@@ -50,6 +50,7 @@ use Rattle.ghs_protocol.proofs.charges.Taken.{next_basic}
 use Rattle.ghs_protocol.proofs.tests.Links.{not_basic, rejected}
 use Rattle.ghs_protocol.proofs.lemmas.Updates.{put_same}
 use Rattle.ghs_protocol.proofs.lemmas.Events.{taken_at}
+use Rattle.ghs_protocol.proofs.acts.Grounds.{graph_ground}
 
 -- Sums of sums over the events.
 
@@ -161,7 +162,7 @@ not_next (Probing q) p ne = ne_eqb q p (ne q refl)
 not_next Reporting p ne = refl
 not_next Waiting p ne = refl
 
-module _ (g : Network) (wired : IsWired g) (ordered : IsOrdered g) (keyed : IsKeyed g) (k : ℕ) (log : IsFloorLog2 g.count k) where
+module _ (g : Network) (ground : Ground g) (k : ℕ) (log : IsFloorLog2 g.count k) where
   -- what port p of v pays for a Test that ends in this reaction, and the Accept that comes in
   abbrev fails : NodeState → ℕ → Message → Delta → ℕ
   fails n p m d = if is_at n.head.probe p && (not (is_at d.head.probe p) && no_accept_first (m ∷ [])) then 1 else 0
@@ -204,7 +205,7 @@ module _ (g : Network) (wired : IsWired g) (ordered : IsOrdered g) (keyed : IsKe
     row_tests m d q (Connect_merges le free lower) = let z = still m in omega (arith, z)
     row_tests m d q (Initiate_rests {l = l} {f = f} lt) = let z = still m in let a = all_calls 0 (w.node v).marks p l f Found 2 (λ e. omega (arith, e)) in omega (arith, z, a)
     row_tests m d q (Initiate_searches {l = l} {f = f} {e = e} lt few s) =
-        let none = search_free g wired keyed k log v p at w is gh sound charges ms l f q in
+        let none = search_free g ground k log v p at w is gh sound charges ms l f q in
         let a = all_calls 0 (w.node v).marks p l f Find 2 (λ e. omega (arith, e)) in
         let b = kinds_append 2 (passed_on (w.node v) p l f Find) (last_sends (no_probe (searching (w.node v) p l f)) e) in
         let c = ending_tests (no_probe (searching (w.node v) p l f)) e in
@@ -257,16 +258,16 @@ module _ (g : Network) (wired : IsWired g) (ordered : IsOrdered g) (keyed : IsKe
     counts : total w t
 
   has_more : (w x : Net) (e : Event) → IsWellFormed g w → HasCharges g k w → Happens g w e x → HasCharges g k x
-  has_more w x e f h happened = event_by_steps g wired (HasCharges g k) (λ w w' f i s. charged g wired ordered keyed k log w w' i (step_node s) (stepped g wired ordered keyed k log w w' f.nodes i s)) w x e f h happened
+  has_more w x e f h happened = event_by_steps g ground.wired (HasCharges g k) (λ w w' f i s. charged g ground k log w w' i (step_node s) (stepped g ground k log w w' f.nodes i s)) w x e f h happened
 
   low : (x : Net) → HasCharges g k x → (v : ℕ) → InNetwork g v → (x.node v).head.level ≤ k
-  low x h v is = level_most g wired k log x h.sound.ghost h.sound.holds.first v is
+  low x h v is = level_most g ground.wired k log x h.sound.ghost h.sound.holds.first v is
 
   -- a count that never falls, and is 0 at first
   module _ (few : HasFewPorts g) (es : List Event) (w : Net) (after : IsAfter g es w) where
     levels_have_paid : (m : Net → ℕ) → ((w x : Net) (e : Event) → Happens g w e x → m w ≤ m x) → m (opening g) ≡ 0 → m w ≡ paid_by_levels m g k es (opening g)
     levels_have_paid m grows none =
-        sym (counted g wired (table_of m k g) (Tallied (λ w t. t ≡ m w)) each es (opening g) w 0 (opening_formed g few) (record { has = opening_has g wired ordered keyed k log; counts = sym none }) after).counts
+        sym (counted g ground.wired (table_of m k g) (Tallied (λ w t. t ≡ m w)) each es (opening g) w 0 (opening_formed g few) (record { has = opening_has g ground k log; counts = sym none }) after).counts
         ∙ zero-add (added_up (table_of m k g) g es (opening g)) ∙ sym (levels_add m k g es (opening g))
       where
         each : (w x : Net) (e : Event) (t : ℕ) → IsWellFormed g w → Tallied (λ w t. t ≡ m w) w t → Happens g w e x → Tallied (λ w t. t ≡ m w) x (t + table_of m k g w e x)
@@ -320,11 +321,11 @@ module _ (g : Network) (wired : IsWired g) (ordered : IsOrdered g) (keyed : IsKe
         consumed = ap (λ (y : Net). y.consumed 3) took.is ∙ taken_consumed g v p took.message took.others took.delta w 3
 
         row : Row (w.node v) (Deliver p took.message) took.delta
-        row = event_row g wired v (w.node v) p took.message took.delta at (f.nodes v) took.reacts
+        row = event_row g ground.wired v (w.node v) p took.message took.delta at (f.nodes v) took.reacts
 
         tally : ((w.node v).head.phase ≡ Sleeping) ⊎ ((w.node v).head.phase ≢ Sleeping) → TestsTally (w.node v) p took.message took.delta
         tally (inl s) = woken_tests (w.node v) p took.message took.delta ((h.sound.holds.first.nodes v inside).untouched s).probe s row
-        tally (inr up) = row_tests v p at w (f.nodes v) h.sound.ghost h.sound.holds (by_memory g wired ordered keyed k log h.sound h.charges) took.others took.message took.delta took.waits (awake_row up row)
+        tally (inr up) = row_tests v p at w (f.nodes v) h.sound.ghost h.sound.holds (by_memory g ground k log h.sound h.charges) took.others took.message took.delta took.waits (awake_row up row)
 
         fails_so : failed v p w x ≡ fails (w.node v) p took.message took.delta
         fails_so = ap₂ (λ (y : Head) b. if is_at (w.node v).head.probe p && (not (is_at y.probe p) && b) then 1 else 0) here (ap no_accept_first took.waits ∙ first_only took.message took.others)
@@ -362,7 +363,7 @@ module _ (g : Network) (wired : IsWired g) (ordered : IsOrdered g) (keyed : IsKe
 
     tests_have_paid : w.sent 2 + w.sent 4 ≡ w.consumed 3 + tests_out g w + paid_by_ports g es (opening g)
     tests_have_paid =
-        let z = (counted g wired all_ports (Tallied TestsSo) each es (opening g) w 0 (opening_formed g few) (record { has = opening_has g wired ordered keyed k log; counts = (let n = sum_none g.count (λ i. 0) (λ i lt. refl) in omega (arith, n)) }) after).counts in
+        let z = (counted g ground.wired all_ports (Tallied TestsSo) each es (opening g) w 0 (opening_formed g few) (record { has = opening_has g ground k log; counts = (let n = sum_none g.count (λ i. 0) (λ i lt. refl) in omega (arith, n)) }) after).counts in
         let y = ports_add_up g es (opening g) in
         omega (arith, z, y)
       where
@@ -384,4 +385,4 @@ module _ (g : Network) (wired : IsWired g) (ordered : IsOrdered g) (keyed : IsKe
 pub sends_are_paid : SendsArePaid
 sends_are_paid g es w ok after =
     let top = floor_log2_is_one g.nodes ok.some in
-    (top.0, top.1, all_paid (network_of g) (graph_wired g ok) (graph_rising g ok) (graph_keyed g ok) top.0 top.1 (graph_few g ok) es w after (after_balanced (network_of g) (graph_wired g ok) (graph_few g ok) es w after))
+    (top.0, top.1, all_paid (network_of g) (graph_ground g ok) top.0 top.1 (graph_few g ok) es w after (after_balanced (network_of g) (graph_wired g ok) (graph_few g ok) es w after))

@@ -17,6 +17,7 @@ use Rattle.ghs_protocol.proofs.lemmas.Graphs.{graph_wired, graph_few, graph_keye
 use Rattle.ghs_protocol.proofs.lemmas.Sums.{sum_most, sum_add}
 use Rattle.ghs_protocol.proofs.charges.Runs.{after_charges, by_memory}
 use Rattle.ghs_protocol.proofs.charges.Waiting.{level_most, calls_most, quota, accepts_most, ports_most, roots_most}
+use Rattle.ghs_protocol.proofs.acts.Grounds.{graph_ground}
 
 sum_all : (n c : ℕ) → sum_below n (λ i. c) ≡ n * c
 sum_all zero c = sym (zero-mul c)
@@ -86,12 +87,12 @@ module _ (g : Network) where
 
 module _ (g : Shape) (w : Net) (n : IsNetOf g w) (k : ℕ) (log : IsFloorLog2 g.nodes k) where
   paid : HasCharges (network_of g) k w
-  paid = after_charges (network_of g) (graph_wired g n.graph) (graph_rising g n.graph) (graph_keyed g n.graph) k log (graph_few g n.graph) n.events w n.run
+  paid = after_charges (network_of g) (graph_ground g n.graph) k log (graph_few g n.graph) n.events w n.run
 
   bounded : (s : ℕ) → s ≤ 1 → s ≤ k → in_all w.sent + 2 * (g.nodes * s) ≤ 2 * length g.keys + 5 * (g.nodes * k)
   bounded s one low =
       let h = paid in
-      let z = within (network_of g) (graph_wired g n.graph) k log w h.sound.ghost h.sound.holds (by_memory (network_of g) (graph_wired g n.graph) (graph_rising g n.graph) (graph_keyed g n.graph) k log h.sound h.charges) (after_balanced (network_of g) (graph_wired g n.graph) (graph_few g n.graph) n.events w n.run) s one low in
+      let z = within (network_of g) (graph_wired g n.graph) k log w h.sound.ghost h.sound.holds (by_memory (network_of g) (graph_ground g n.graph) k log h.sound h.charges) (after_balanced (network_of g) (graph_wired g n.graph) (graph_few g n.graph) n.events w n.run) s one low in
       let t = twice_links g n.graph in
       omega (arith, z, t)
 

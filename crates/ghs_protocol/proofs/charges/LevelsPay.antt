@@ -18,7 +18,7 @@ use Rattle.ghs_protocol.specs.Payments.{calls_at, added_up, LevelPays, risen, th
 use Rattle.ghs_protocol.specs.Interleavings.{LevelsPayOnce}
 use Rattle.ghs_protocol.proofs.clauses.Scene.{Member, scene}
 use Rattle.ghs_protocol.proofs.clauses.Nodes.{NodeFits}
-use Rattle.ghs_protocol.proofs.clauses.Wiring.{IsKeyed, IsOrdered}
+use Rattle.ghs_protocol.proofs.clauses.Wiring.{IsKeyed, IsOrdered, Ground}
 use Rattle.ghs_protocol.proofs.clauses.Charges.{Acted, HasCharges, busy, finding, moved_on}
 use Rattle.ghs_protocol.proofs.lemmas.Events.{happening}
 use Rattle.ghs_protocol.proofs.lemmas.Graphs.{graph_wired, graph_few, graph_keyed, graph_rising}
@@ -30,6 +30,7 @@ use Rattle.ghs_protocol.proofs.charges.Acts.{busy_most, busy_some, busy_top, cha
 use Rattle.ghs_protocol.proofs.charges.Runs.{Stepped, opening_has, stepped}
 use Rattle.ghs_protocol.proofs.charges.Waiting.{accepts_one, calls_one, level_most}
 use Rattle.ghs_protocol.proofs.acts.Situations.{probing_finds}
+use Rattle.ghs_protocol.proofs.acts.Grounds.{graph_ground}
 
 -- level l has paid t, where the present level may have paid cap, and one that is left may have paid top
 pub record Within (t l level cap top : ℕ) : Type 0 where
@@ -77,7 +78,7 @@ counted g wired each I keeps (e ∷ es) w x t f h r =
     more o c y z t i j e = let one : then_count o c ≡ c y = ap (λ q. then_count q c) z in omega (arith, one, e)
 
 -- a sort of messages: m counts them, cap is what the present level may have paid, and an act pays for its own
-module _ (g : Network) (wired : IsWired g) (ordered : IsOrdered g) (keyed : IsKeyed g) (k : ℕ) (log : IsFloorLog2 g.count k) (m : Net → ℕ) (cap : Head → Option ℕ → ℕ) (top : ℕ → ℕ) (most : (h : Head) (o : Option ℕ) → cap h o ≤ top h.level) where
+module _ (g : Network) (ground : Ground g) (k : ℕ) (log : IsFloorLog2 g.count k) (m : Net → ℕ) (cap : Head → Option ℕ → ℕ) (top : ℕ → ℕ) (most : (h : Head) (o : Option ℕ) → cap h o ≤ top h.level) where
   -- what an act of node u does to them
   pub record Sorted (u : ℕ) (o o' : Option ℕ) (w x : Net) : Type 0 where
     pub grows : m w ≤ m x
@@ -95,8 +96,8 @@ module _ (g : Network) (wired : IsWired g) (ordered : IsOrdered g) (keyed : IsKe
     steps_in : (w x : Net) (t : ℕ) → IsWellFormed g w → Tolled w t → StepBy g v w x → Tolled x (t + (if (x.node v).head.level == l then m x - m w else 0)) × (m w ≤ m x)
     steps_in w x t f h s = (record { has = record { up = did.up; sound = did.sound; charges = charges_keep g k v did.some did.within h.has.up did.up w x did.acted h.has.charges }; within = within_step t l (w.node v).head.level (x.node v).head.level (cap (w.node v).head (h.has.up v)) (cap (x.node v).head (did.up v)) (m x - m w) (top l) (λ e. subst (λ n. cap (w.node v).head (h.has.up v) ≤ top n) e (most (w.node v).head (h.has.up v))) of.climbs of.stay of.rise h.within }, of.grows)
       where
-        did : Stepped g wired ordered keyed k log w x h.has v
-        did = subst (Stepped g wired ordered keyed k log w x h.has) s.by (stepped g wired ordered keyed k log w x f.nodes h.has s.step)
+        did : Stepped g ground k log w x h.has v
+        did = subst (Stepped g ground k log w x h.has) s.by (stepped g ground k log w x f.nodes h.has s.step)
 
         of : Sorted v (h.has.up v) (did.up v) w x
         of = sorted w x h.has v did.up (record { some = did.some; node = did.within }) did.acted
@@ -108,14 +109,14 @@ module _ (g : Network) (wired : IsWired g) (ordered : IsOrdered g) (keyed : IsKe
       within = subst₂ (λ n o. Within t l n.head.level (cap n.head o) (top l)) (sym (did.acted.there v (λ e. ne (sym e)))) (sym (did.acted.ways v (λ e. ne (sym e)))) h.within;
     }
       where
-        did : Stepped g wired ordered keyed k log w x h.has u
-        did = subst (Stepped g wired ordered keyed k log w x h.has) s.by (stepped g wired ordered keyed k log w x f.nodes h.has s.step)
+        did : Stepped g ground k log w x h.has u
+        did = subst (Stepped g ground k log w x h.has) s.by (stepped g ground k log w x f.nodes h.has s.step)
 
     event_tolled : (w x : Net) (e : Event) (t : ℕ) → IsWellFormed g w → Tolled w t → Happens g w e x → Tolled x (t + risen m v l w e x)
     event_tolled w x e t f h happened = ⊎_elim own other (cases_eq (event_node e) v)
       where
         steps : StepsBy g (event_node e) w x
-        steps = event_steps_by g wired w x e f.nodes happened
+        steps = event_steps_by g ground.wired w x e f.nodes happened
 
         own : event_node e ≡ v → Tolled x (t + risen m v l w e x)
         own z = subst (Tolled x) (ap (λ b. t + (if b && ((x.node v).head.level == l) then m x - m w else 0)) (sym (eq-eqb (event_node e) v z))) (go (subst (λ u. StepsBy g u w x) z steps))
@@ -124,7 +125,7 @@ module _ (g : Network) (wired : IsWired g) (ordered : IsOrdered g) (keyed : IsKe
             go (One_by s) = (steps_in w x t f h s).0
             go (Two_by {u = y} s s' level) =
                 let a = steps_in w y t f h s in
-                let b = steps_in y x (t + (if (y.node v).head.level == l then m y - m w else 0)) (step_formed g wired f s.step) a.0 s' in
+                let b = steps_in y x (t + (if (y.node v).head.level == l then m y - m w else 0)) (step_formed g ground.wired f s.step) a.0 s' in
                 subst (Tolled x) (together ((x.node v).head.level == l) (m w) (m y) (m x) a.1 b.1 ∙ refl) (subst (λ n. Tolled x (t + (if n == l then m y - m w else 0) + (if (x.node v).head.level == l then m x - m y else 0))) level b.0)
               where
                 together : (b : Bool) (i j n : ℕ) → i ≤ j → j ≤ n → t + (if b then j - i else 0) + (if b then n - j else 0) ≡ t + (if b then n - i else 0)
@@ -139,10 +140,10 @@ module _ (g : Network) (wired : IsWired g) (ordered : IsOrdered g) (keyed : IsKe
 
             go : StepsBy g (event_node e) w x → Tolled x t
             go (One_by s) = steps_aside (event_node e) w x t f h s ne
-            go (Two_by {u = y} s s' level) = steps_aside (event_node e) y x t (step_formed g wired f s.step) (steps_aside (event_node e) w y t f h s ne) s' ne
+            go (Two_by {u = y} s s' level) = steps_aside (event_node e) y x t (step_formed g ground.wired f s.step) (steps_aside (event_node e) w y t f h s ne) s' ne
 
     run_tolled : (es : List Event) (w x : Net) (t : ℕ) → IsWellFormed g w → Tolled w t → run g es w ≡ Some x → Tolled x (t + paid_by m g v l es w)
-    run_tolled = counted g wired (risen m v l) Tolled event_tolled
+    run_tolled = counted g ground.wired (risen m v l) Tolled event_tolled
 
     pub from_opening : (es : List Event) (w : Net) → HasFewPorts g → HasCharges g k (opening g) → IsAfter g es w → Tolled w (paid_by m g v l es (opening g))
     from_opening es w few has after =
@@ -182,7 +183,7 @@ low_test {n} {m} fits = go m.head.probe refl
     go None e = omega arith
     go (Some p) e = let z = low_find fits in let y = ap finding (probing_finds fits e) in omega (arith, z, y)
 
-module _ (g : Network) (wired : IsWired g) (ordered : IsOrdered g) (keyed : IsKeyed g) (k : ℕ) (log : IsFloorLog2 g.count k) where
+module _ (g : Network) (ground : Ground g) (k : ℕ) (log : IsFloorLog2 g.count k) where
   fits : (w : Net) (h : HasCharges g k w) (u : ℕ) → InNetwork g u → NodeFits (length (g.ports u)) ((scene w h.sound.ghost).at u)
   fits w h u is = h.sound.holds.first.nodes u is
 
@@ -224,7 +225,7 @@ module _ (g : Network) (wired : IsWired g) (ordered : IsOrdered g) (keyed : IsKe
     up_by : (w.node u).head.level ≤ (x.node u).head.level
     up_by = let p = act.pays.calls in omega (arith, p)
 
-    root_sorted : Sorted g wired ordered keyed k log roots root_cap one root_most u (h.up u) (up u) w x
+    root_sorted : Sorted g ground k log roots root_cap one root_most u (h.up u) (up u) w x
     unfolding root_cap
     root_sorted =
         let a = act.sent 0 in let b = act.sent 6 in let p = act.pays.roots in
@@ -235,7 +236,7 @@ module _ (g : Network) (wired : IsWired g) (ordered : IsOrdered g) (keyed : IsKe
           rise = λ lt. let z = (act.pays.rises lt).2 in omega (arith, a, b, z);
         }
 
-    report_sorted : Sorted g wired ordered keyed k log reports report_cap some report_most u (h.up u) (up u) w x
+    report_sorted : Sorted g ground k log reports report_cap some report_most u (h.up u) (up u) w x
     unfolding report_cap
     report_sorted =
         let a = act.sent 5 in let p = act.pays.reports in let low = low_find (fits w h u is) in let f = finding_most (w.node u).head.phase in
@@ -252,7 +253,7 @@ module _ (g : Network) (wired : IsWired g) (ordered : IsOrdered g) (keyed : IsKe
           rise = λ lt. let z = (act.pays.rises lt).3 in let c = above_is (x.node u).head.level (1 - finding (x.node u).head.phase) (omega (arith, lt)) in omega (arith, a, z, c);
         }
 
-    call_sorted : Sorted g wired ordered keyed k log calls call_cap some call_most u (h.up u) (up u) w x
+    call_sorted : Sorted g ground k log calls call_cap some call_most u (h.up u) (up u) w x
     unfolding call_cap
     call_sorted =
         let a = act.consumed 1 in let p = act.pays.calls in
@@ -263,7 +264,7 @@ module _ (g : Network) (wired : IsWired g) (ordered : IsOrdered g) (keyed : IsKe
           rise = λ lt. let z = (act.pays.rises lt).0 in let c = above_is (x.node u).head.level 1 (omega (arith, lt)) in omega (arith, a, z, c);
         }
 
-    accept_sorted : Sorted g wired ordered keyed k log accepts accept_cap some accept_most u (h.up u) (up u) w x
+    accept_sorted : Sorted g ground k log accepts accept_cap some accept_most u (h.up u) (up u) w x
     unfolding accept_cap
     accept_sorted =
         let a = act.consumed 3 in let p = act.pays.accepts in let low = low_test (fits w h u is) in let f = busy_most k (w.node u).head.level (w.node u).head.probe in
@@ -294,20 +295,20 @@ module _ (g : Network) (wired : IsWired g) (ordered : IsOrdered g) (keyed : IsKe
       (cases_lt l level)
 
   module _ (few : HasFewPorts g) (es : List Event) (w : Net) (after : IsAfter g es w) (v : ℕ) (is : InNetwork g v) (l : ℕ) where
-    root_paid : Tolled g wired ordered keyed k log roots root_cap one root_most root_sorted v l w (paid_by roots g v l es (opening g))
-    root_paid = from_opening g wired ordered keyed k log roots root_cap one root_most root_sorted v l es w few (opening_has g wired ordered keyed k log) after
+    root_paid : Tolled g ground k log roots root_cap one root_most root_sorted v l w (paid_by roots g v l es (opening g))
+    root_paid = from_opening g ground k log roots root_cap one root_most root_sorted v l es w few (opening_has g ground k log) after
 
-    report_paid : Tolled g wired ordered keyed k log reports report_cap some report_most report_sorted v l w (paid_by reports g v l es (opening g))
-    report_paid = from_opening g wired ordered keyed k log reports report_cap some report_most report_sorted v l es w few (opening_has g wired ordered keyed k log) after
+    report_paid : Tolled g ground k log reports report_cap some report_most report_sorted v l w (paid_by reports g v l es (opening g))
+    report_paid = from_opening g ground k log reports report_cap some report_most report_sorted v l es w few (opening_has g ground k log) after
 
-    call_paid : Tolled g wired ordered keyed k log calls call_cap some call_most call_sorted v l w (paid_by calls g v l es (opening g))
-    call_paid = from_opening g wired ordered keyed k log calls call_cap some call_most call_sorted v l es w few (opening_has g wired ordered keyed k log) after
+    call_paid : Tolled g ground k log calls call_cap some call_most call_sorted v l w (paid_by calls g v l es (opening g))
+    call_paid = from_opening g ground k log calls call_cap some call_most call_sorted v l es w few (opening_has g ground k log) after
 
-    accept_paid : Tolled g wired ordered keyed k log accepts accept_cap some accept_most accept_sorted v l w (paid_by accepts g v l es (opening g))
-    accept_paid = from_opening g wired ordered keyed k log accepts accept_cap some accept_most accept_sorted v l es w few (opening_has g wired ordered keyed k log) after
+    accept_paid : Tolled g ground k log accepts accept_cap some accept_most accept_sorted v l w (paid_by accepts g v l es (opening g))
+    accept_paid = from_opening g ground k log accepts accept_cap some accept_most accept_sorted v l es w few (opening_has g ground k log) after
 
     level_is : (h : HasCharges g k w) → (w.node v).head.level ≤ k
-    level_is h = level_most g wired k log w h.sound.ghost h.sound.holds.first v is
+    level_is h = level_most g ground.wired k log w h.sound.ghost h.sound.holds.first v is
 
     -- at most what the limit is
     root_top : paid_by roots g v l es (opening g) ≤ 1
@@ -374,7 +375,7 @@ module _ (g : Network) (wired : IsWired g) (ordered : IsOrdered g) (keyed : IsKe
 
     -- with what waits
     waiting_one : (sum_below (length (g.ports v)) (λ p. calls_at l (w.queue v p)) ≡ 0) ⊎ ((sum_below (length (g.ports v)) (λ p. calls_at l (w.queue v p)) ≤ 1) × ((w.node v).head.level < l) × (l ≤ k))
-    waiting_one = let h = call_paid in calls_one g wired k log w h.has.sound.ghost h.has.sound.holds.first v is l
+    waiting_one = let h = call_paid in calls_one g ground.wired k log w h.has.sound.ghost h.has.sound.holds.first v is l
 
     all_calls : paid_by calls g v l es (opening g) + sum_below (length (g.ports v)) (λ p. calls_at l (w.queue v p)) ≤ above_zero l 1
     all_calls = ⊎_elim (λ z. let a = call_top in omega (arith, a, z)) (λ z. let a = call_paid.within.ahead z.1 in let b = above_is l 1 (omega (arith, z.1)) in omega (arith, a, b, z.0)) waiting_one
@@ -386,7 +387,7 @@ module _ (g : Network) (wired : IsWired g) (ordered : IsOrdered g) (keyed : IsKe
     accept_with e =
         let h = accept_paid in
         ⊎_elim (λ z. let a = zero_or_one _ accept_top in omega (arith, a, z)) (λ z. let a = no_accept e z.1 in omega (arith, a, z.0))
-        (accepts_one g wired k log w h.has.sound.ghost h.has.sound.holds.first v is)
+        (accepts_one g ground.wired k log w h.has.sound.ghost h.has.sound.holds.first v is)
 
     pub level_pays : LevelPays g k es w v l
     level_pays = record {
@@ -404,4 +405,4 @@ module _ (g : Network) (wired : IsWired g) (ordered : IsOrdered g) (keyed : IsKe
 pub levels_pay_once : LevelsPayOnce
 levels_pay_once g es w ok after =
     let top = floor_log2_is_one g.nodes ok.some in
-    (top.0, top.1, λ v lo hi l. level_pays (network_of g) (graph_wired g ok) (graph_rising g ok) (graph_keyed g ok) top.0 top.1 (graph_few g ok) es w after v (record { some = lo; node = hi }) l)
+    (top.0, top.1, λ v lo hi l. level_pays (network_of g) (graph_ground g ok) top.0 top.1 (graph_few g ok) es w after v (record { some = lo; node = hi }) l)

@@ -27,7 +27,7 @@ use Rattle.ghs_protocol.specs.Nodes.{HasFewPorts, IsNodeOf, IsWellFormed}
 use Rattle.ghs_protocol.specs.Steps.{Happens, Took, taken}
 use Rattle.ghs_protocol.specs.Payments.{added_up, failed, no_accept_first, port_pays}
 use Rattle.ghs_protocol.proofs.clauses.Scene.{Ghost, scene}
-use Rattle.ghs_protocol.proofs.clauses.Wiring.{IsKeyed, IsOrdered}
+use Rattle.ghs_protocol.proofs.clauses.Wiring.{IsKeyed, IsOrdered, Ground}
 use Rattle.ghs_protocol.proofs.clauses.Whole.{opening_ghost}
 use Rattle.ghs_protocol.proofs.clauses.Floors.{Sound}
 use Rattle.ghs_protocol.proofs.clauses.Charges.{Charges, HasCharges, Rises, paid_at}
@@ -42,6 +42,7 @@ use Rattle.ghs_protocol.proofs.charges.Runs.{Stepped, by_memory, opening_has, st
 use Rattle.ghs_protocol.proofs.charges.Due.{paid_not, paid_once}
 use Rattle.ghs_protocol.proofs.charges.Rows.{closes_probe, cross_rises, heard_rises, rejected_rises, search_free}
 use Rattle.ghs_protocol.proofs.charges.LevelsPay.{counted}
+use Rattle.ghs_protocol.proofs.acts.Grounds.{graph_ground}
 
 -- no Test has failed where the port is probed as before, where none was, and where an Accept came
 pub probes_on : (b c : Bool) → ◌≡◌ {A = ℕ} (if b && (not b && c) then 1 else 0) 0
@@ -95,7 +96,7 @@ pub record Taking (g : Network) (w : Net) (v p : ℕ) (x : Net) : Type 0 where
 pub taking : {g : Network} {w : Net} {v p : ℕ} {x : Net} → Happens g w (events.Take v p) x → Taking g w v p x
 taking (Took v p m ms d at q r) = record { message = m; others = ms; delta = d; waits = q; reacts = r; is = refl }
 
-module _ (g : Network) (wired : IsWired g) (ordered : IsOrdered g) (keyed : IsKeyed g) (k : ℕ) (log : IsFloorLog2 g.count k) (v p : ℕ) (at : At g v p) where
+module _ (g : Network) (ground : Ground g) (k : ℕ) (log : IsFloorLog2 g.count k) (v p : ℕ) (at : At g v p) where
   -- what v's port p pays for a row of its own
   abbrev owed : Net → Message → Delta → ℕ
   owed w m d = of_kind 4 (messages d.sends) + (if is_at (w.node v).head.probe p && (not (is_at d.head.probe p) && no_accept_first (m ∷ [])) then 1 else 0)
@@ -109,20 +110,20 @@ module _ (g : Network) (wired : IsWired g) (ordered : IsOrdered g) (keyed : IsKe
   row_port w is gh sound charges ms m d q up (Connect_merges le free lower) = inl (probes_so (is_at (w.node v).head.probe p))
   row_port w is gh sound charges ms m d q up (Initiate_rests {l = l} {f = f} lt) = inl (let z = all_calls 0 (w.node v).marks p l f Found 4 (λ e. omega (arith, e)) in let y = probes_on (is_at (w.node v).head.probe p) true in omega (arith, z, y))
   row_port w is gh sound charges ms m d q up (Initiate_searches {l = l} {f = f} {e = e} lt few s) =
-      inl (let none = search_free g wired keyed k log v p at w is gh sound charges ms l f q in
+      inl (let none = search_free g ground k log v p at w is gh sound charges ms l f q in
       let z = all_calls 0 (w.node v).marks p l f Find 4 (λ e. omega (arith, e)) in
       let a = kinds_append 4 (passed_on (w.node v) p l f Find) (last_sends (no_probe (searching (w.node v) p l f)) e) in
       let y = no_reject (no_probe (searching (w.node v) p l f)) e in
       let x = unprobed (w.node v).head.probe p (not (is_at d.head.probe p) && true) none in omega (arith, z, a, y, x))
   row_port w is gh sound charges ms m d q up (Test_waits lt) = inl (probes_so (is_at (w.node v).head.probe p))
   row_port w is gh sound charges ms m d q up (Test_accepted le other) = inl (probes_so (is_at (w.node v).head.probe p))
-  row_port w is gh sound charges ms m d q up (Test_rejected {l = l} {f = f} le same free) = inr ((let y = probes_on (is_at (w.node v).head.probe p) true in omega (arith, y)), rejected_rises g wired keyed k log v p at w is gh sound charges ms l f q same free)
+  row_port w is gh sound charges ms m d q up (Test_rejected {l = l} {f = f} le same free) = inr ((let y = probes_on (is_at (w.node v).head.probe p) true in omega (arith, y)), rejected_rises g ground k log v p at w is gh sound charges ms l f q same free)
   row_port w is gh sound charges ms m d q up (Tests_cross {l = l} {f = f} {e = e} le same mine s) =
-      inr ((let y = no_reject (no_probe (w.node v).head) e in let z = failed_most (is_at (w.node v).head.probe p && (not (is_at d.head.probe p) && true)) in omega (arith, y, z)), cross_rises g wired keyed k log v p at w is gh sound charges ms l f e q same mine s)
+      inr ((let y = no_reject (no_probe (w.node v).head) e in let z = failed_most (is_at (w.node v).head.probe p && (not (is_at d.head.probe p) && true)) in omega (arith, y, z)), cross_rises g ground k log v p at w is gh sound charges ms l f e q same mine s)
   row_port w is gh sound charges ms m d q up (Accept_heard {e = e} mine c) =
       inl (let y = no_reject (answered (w.node v).head p (Some (key_at (w.node v) p))) e in let z = accepted_one (is_at (w.node v).head.probe p) (is_at d.head.probe p) in omega (arith, y, z))
   row_port w is gh sound charges ms m d q up (Reject_heard {e = e} mine s) =
-      inr ((let y = no_reject (no_probe (w.node v).head) e in let z = failed_most (is_at (w.node v).head.probe p && (not (is_at d.head.probe p) && true)) in omega (arith, y, z)), heard_rises g wired keyed k log v p at w is gh sound charges ms e q mine s)
+      inr ((let y = no_reject (no_probe (w.node v).head) e in let z = failed_most (is_at (w.node v).head.probe p && (not (is_at d.head.probe p) && true)) in omega (arith, y, z)), heard_rises g ground k log v p at w is gh sound charges ms e q mine s)
   row_port w is gh sound charges ms m d q up (Report_heard {w = r} {e = e} c away count s) =
       inl (let y = no_reject (heard (w.node v).head c p r) e in
       let o = closes_probe (heard (w.node v).head c p r) e (w.node v).head.probe s in
@@ -152,12 +153,12 @@ module _ (g : Network) (wired : IsWired g) (ordered : IsOrdered g) (keyed : IsKe
   step_covered : (u : ℕ) (w x : Net) (t : ℕ) → IsWellFormed g w → Covered w t → StepBy g u w x → Covered x t
   step_covered u w x t f h s = record { has = record { up = did.up; sound = did.sound; charges = charges_keep g k u did.some did.within h.has.up did.up w x did.acted h.has.charges }; within = let a = h.within in let b = did.acted.ports.stays v p at in omega (arith, a, b) }
     where
-      did : Stepped g wired ordered keyed k log w x h.has u
-      did = subst (Stepped g wired ordered keyed k log w x h.has) s.by (stepped g wired ordered keyed k log w x f.nodes h.has s.step)
+      did : Stepped g ground k log w x h.has u
+      did = subst (Stepped g ground k log w x h.has) s.by (stepped g ground k log w x f.nodes h.has s.step)
 
   steps_covered : (u : ℕ) (w x : Net) (t : ℕ) → IsWellFormed g w → Covered w t → StepsBy g u w x → Covered x t
   steps_covered u w x t f h (One_by s) = step_covered u w x t f h s
-  steps_covered u w x t f h (Two_by {u = y} s s' level) = step_covered u y x t (step_formed g wired f s.step) (step_covered u w y t f h s) s'
+  steps_covered u w x t f h (Two_by {u = y} s s' level) = step_covered u y x t (step_formed g ground.wired f s.step) (step_covered u w y t f h s) s'
 
   -- port p of v takes a message
   own_covered : (w x : Net) (t : ℕ) → IsWellFormed g w → Covered w t → Happens g w (events.Take v p) x → Covered x (t + ((x.sent 4 - w.sent 4) + failed v p w x))
@@ -167,10 +168,10 @@ module _ (g : Network) (wired : IsWired g) (ordered : IsOrdered g) (keyed : IsKe
       took = taking happened
 
       after : Covered x t
-      after = steps_covered v w x t f h (event_steps_by g wired w x (events.Take v p) f.nodes happened)
+      after = steps_covered v w x t f h (event_steps_by g ground.wired w x (events.Take v p) f.nodes happened)
 
       row : Row (w.node v) (Deliver p took.message) took.delta
-      row = event_row g wired v (w.node v) p took.message took.delta at (f.nodes v) took.reacts
+      row = event_row g ground.wired v (w.node v) p took.message took.delta at (f.nodes v) took.reacts
 
       fails : failed v p w x ≡ (if is_at (w.node v).head.probe p && (not (is_at took.delta.head.probe p) && no_accept_first (took.message ∷ [])) then 1 else 0)
       fails = ap₂ (λ (n : NodeState) b. if is_at (w.node v).head.probe p && (not (is_at n.head.probe p) && b) then 1 else 0)
@@ -195,13 +196,13 @@ module _ (g : Network) (wired : IsWired g) (ordered : IsOrdered g) (keyed : IsKe
       go : ((w.node v).head.phase ≡ Sleeping) ⊎ ((w.node v).head.phase ≢ Sleeping) → t + ((x.sent 4 - w.sent 4) + failed v p w x) ≤ paid_at g (scene x opening_ghost) v p
       go (inl s) = nothing (woken_port w took.message took.delta ((h.has.sound.holds.first.nodes v (record { some = at.some; node = at.node })).untouched s).probe s row)
       go (inr up) = ⊎_elim nothing one
-          (row_port w (f.nodes v) h.has.sound.ghost h.has.sound.holds (by_memory g wired ordered keyed k log h.has.sound h.has.charges) took.others took.message took.delta took.waits up (awake_row up row))
+          (row_port w (f.nodes v) h.has.sound.ghost h.has.sound.holds (by_memory g ground k log h.has.sound h.has.charges) took.others took.message took.delta took.waits up (awake_row up row))
 
   plain : (x : Net) (t n : ℕ) → n ≡ 0 → Covered x t → Covered x (t + n)
   plain x t n z c = record { has = c.has; within = let a = c.within in omega (arith, a, z) }
 
   event_covered : (w x : Net) (e : Event) (t : ℕ) → IsWellFormed g w → Covered w t → Happens g w e x → Covered x (t + port_pays v p w e x)
-  event_covered w x (events.Wake u) t f h happened = plain x t 0 refl (steps_covered u w x t f h (event_steps_by g wired w x (events.Wake u) f.nodes happened))
+  event_covered w x (events.Wake u) t f h happened = plain x t 0 refl (steps_covered u w x t f h (event_steps_by g ground.wired w x (events.Wake u) f.nodes happened))
   event_covered w x (events.Take u q) t f h happened = ⊎_elim
       (λ (e : u ≡ v). ⊎_elim
       (λ (e' : q ≡ p). subst (λ n. Covered x (t + n)) (sym (ap₂ (λ a b. if a && b then (x.sent 4 - w.sent 4) + failed v p w x else 0) (eq-eqb u v e) (eq-eqb q p e')))
@@ -212,16 +213,16 @@ module _ (g : Network) (wired : IsWired g) (ordered : IsOrdered g) (keyed : IsKe
       (cases_eq u v)
     where
       aside : Covered x t
-      aside = steps_covered u w x t f h (event_steps_by g wired w x (events.Take u q) f.nodes happened)
+      aside = steps_covered u w x t f h (event_steps_by g ground.wired w x (events.Take u q) f.nodes happened)
 
   pub port_covered : HasFewPorts g → (es : List Event) (w : Net) → IsAfter g es w → (added_up (port_pays v p) g es (opening g) ≤ 1) × ((w.node v).head.probe ≡ Some p → added_up (port_pays v p) g es (opening g) ≡ 0)
   port_covered few es w after = ((let a = c.within in let b = paid_once g (scene w opening_ghost) v p in omega (arith, a, b)), λ own. let a = c.within in let b = paid_not g (scene w opening_ghost) v p own in omega (arith, a, b))
     where
       c : Covered w (added_up (port_pays v p) g es (opening g))
       c = subst (Covered w) (zero-add (added_up (port_pays v p) g es (opening g)))
-          (counted g wired (port_pays v p) Covered event_covered es (opening g) w 0 (opening_formed g few) (record { has = opening_has g wired ordered keyed k log; within = omega arith }) after)
+          (counted g ground.wired (port_pays v p) Covered event_covered es (opening g) w 0 (opening_formed g few) (record { has = opening_has g ground k log; within = omega arith }) after)
 
 pub ports_pay_once : PortsPayOnce
 ports_pay_once g es w ok after v p at =
     let top = floor_log2_is_one g.nodes ok.some in
-    port_covered (network_of g) (graph_wired g ok) (graph_rising g ok) (graph_keyed g ok) top.0 top.1 v p at (graph_few g ok) es w after
+    port_covered (network_of g) (graph_ground g ok) top.0 top.1 v p at (graph_few g ok) es w after

@@ -23,7 +23,7 @@ use Rattle.ghs_protocol.proofs.clauses.Scene.{Ghost, Seen, TreeEnd, Scene, end, 
 use Rattle.ghs_protocol.proofs.clauses.Nodes.{NodeFits}
 use Rattle.ghs_protocol.proofs.clauses.TreeMessages.{TreeFits}
 use Rattle.ghs_protocol.proofs.clauses.Uniting.{By_report, By_root, MarksAre, SendsRoot}
-use Rattle.ghs_protocol.proofs.clauses.Wiring.{IsKeyed, IsOrdered}
+use Rattle.ghs_protocol.proofs.clauses.Wiring.{IsKeyed, IsOrdered, Ground}
 use Rattle.ghs_protocol.proofs.clauses.Whole.{LinkFits, NamesOf, opening_ghost}
 use Rattle.ghs_protocol.proofs.clauses.Floors.{Sound}
 use Rattle.ghs_protocol.proofs.clauses.Charges.{Acted, Charges, IsLow, Pays, Rises, any_test}
@@ -64,24 +64,24 @@ pub closes_probe : (h : Head) (e : Ending) (o : Option ℕ) → Closes h e → p
 closes_probe h _ o (Reports a b) = refl
 closes_probe h _ o (Waits a) = refl
 
-module _ (g : Network) (wired : IsWired g) (keyed : IsKeyed g) (k : ℕ) (log : IsFloorLog2 g.count k) (v p : ℕ) (at : At g v p) (w : Net) (is : IsNodeOf g v (w.node v)) (gh : Ghost) (sound : Sound g (scene w gh)) (charges : Charges g k gh.up w) (ms : List Message) where
+module _ (g : Network) (ground : Ground g) (k : ℕ) (log : IsFloorLog2 g.count k) (v p : ℕ) (at : At g v p) (w : Net) (is : IsNodeOf g v (w.node v)) (gh : Ghost) (sound : Sound g (scene w gh)) (charges : Charges g k gh.up w) (ms : List Message) where
   inside : InNetwork g v
   inside = record { some = at.some; node = at.node }
 
   fits : NodeFits (length (g.ports v)) ((scene w gh).at v)
-  fits = node_fits g wired (scene w gh) sound.first v p at
+  fits = node_fits g ground.wired (scene w gh) sound.first v p at
 
   link : LinkFits (NamesOf g (scene w gh)) (end g (scene w gh) v p) (far_end g (scene w gh) v p)
-  link = link_fits g wired (scene w gh) sound.first v p at
+  link = link_fits g ground.wired (scene w gh) sound.first v p at
 
   link' : LinkFits (NamesOf g (scene w gh)) (far_end g (scene w gh) v p) (end g (scene w gh) v p)
-  link' = link_fits' g wired (scene w gh) sound.first v p at
+  link' = link_fits' g ground.wired (scene w gh) sound.first v p at
 
   low : IsLow k (w.node v).head (gh.up v)
   low = charges.low v inside
 
   far_in : InNetwork g (far g v p)
-  far_in = let t = wired.there v p at in record { some = t.some; node = t.node }
+  far_in = let t = ground.wired.there v p at in record { some = t.some; node = t.node }
 
   in_marks : p < degree (w.node v)
   in_marks = let lt = at.port in omega (arith, lt, ports_many is)
@@ -105,7 +105,7 @@ module _ (g : Network) (wired : IsWired g) (keyed : IsKeyed g) (k : ℕ) (log : 
       ((i : ℕ) → Grows (mark_at (w.node v) i) (get_or (with_mark (w.node v).marks d.mark) i Rejected)) → Rises g (scene w opening_ghost) (scene (taken g v p m ms d w) opening_ghost) v p 0
   calm m waits d once none probe grows =
       arrives g v p w m ms d once 0
-      (calm_pays g wired v at.some at.node (reacts g v w opening_ghost d) own (scene w opening_ghost) (fewer g v p w m ms waits) d.sends none probe grows p)
+      (calm_pays g ground.wired v at.some at.node (reacts g v w opening_ghost d) own (scene w opening_ghost) (fewer g v p w m ms waits) d.sends none probe grows p)
 
   -- where no mark changes either
   still : (i : ℕ) → Grows (mark_at (w.node v) i) (get_or (with_mark (w.node v).marks None) i Rejected)
@@ -162,10 +162,10 @@ module _ (g : Network) (wired : IsWired g) (keyed : IsKeyed g) (k : ℕ) (log : 
       (pays_rest k (w.node v).head (gh.up v) low p l f (w.node v).head.find_count _ (passed_on (w.node v) p l f Found) lt up refl refl (all_calls 0 (w.node v).marks p l f Found))
     where
       up : gh.up v ≡ Some p
-      up = (initiating.call g wired v at.some at.node p at (scene w gh) sound.first l f Found (see ms).tree (w.node v).marks marks (tree_first (w.queue v p) ms (Initiate l f Found) refl waits) None refl 0 (λ e. refl)).up
+      up = (initiating.call g ground.wired v at.some at.node p at (scene w gh) sound.first l f Found (see ms).tree (w.node v).marks marks (tree_first (w.queue v p) ms (Initiate l f Found) refl waits) None refl 0 (λ e. refl)).up
 
   pub search_free : (l : ℕ) (f : Key) → w.queue v p ≡ Initiate l f Find ∷ ms → (w.node v).head.probe ≡ None
-  search_free l f waits = (initiating.idle g wired v at.some at.node p at (scene w gh) sound.first l f Find (see ms).tree (w.node v).marks marks (tree_first (w.queue v p) ms (Initiate l f Find) refl waits) None refl (length (passed_on (w.node v) p l f Find)) (λ e. refl)).0
+  search_free l f waits = (initiating.idle g ground.wired v at.some at.node p at (scene w gh) sound.first l f Find (see ms).tree (w.node v).marks marks (tree_first (w.queue v p) ms (Initiate l f Find) refl waits) None refl (length (passed_on (w.node v) p l f Find)) (λ e. refl)).0
 
   row_searches :
       (l : ℕ) (f : Key) (e : Ending) → w.queue v p ≡ Initiate l f Find ∷ ms → (w.node v).head.level < l → Settles (w.node v).marks (no_probe (searching (w.node v) p l f)) e →
@@ -173,15 +173,15 @@ module _ (g : Network) (wired : IsWired g) (keyed : IsKeyed g) (k : ℕ) (log : 
   row_searches l f e waits lt s =
       pays_so (Initiate l f Find) (ends (no_probe (searching (w.node v) p l f)) None (passed_on (w.node v) p l f Find) e) 0 refl
       (arrives g v p w (Initiate l f Find) ms (ends (no_probe (searching (w.node v) p l f)) None (passed_on (w.node v) p l f Find) e) refl 0
-      (search_pays g wired v at.some at.node (reacts g v w opening_ghost (ends (no_probe (searching (w.node v) p l f)) None (passed_on (w.node v) p l f Find) e)) own (scene w opening_ghost) (fewer g v p w (Initiate l f Find) ms waits)
+      (search_pays g ground.wired v at.some at.node (reacts g v w opening_ghost (ends (no_probe (searching (w.node v) p l f)) None (passed_on (w.node v) p l f Find) e)) own (scene w opening_ghost) (fewer g v p w (Initiate l f Find) ms waits)
       (passed_on (w.node v) p l f Find) (no_probe (searching (w.node v) p l f)) e (all_calls 0 (w.node v).marks p l f Find 2 (λ e. omega (arith, e))) refl (next_basic (w.node v).marks (no_probe (searching (w.node v) p l f)) e s) refl free p))
       (pays_search k (w.node v).head (gh.up v) low p l f ((w.node v).head.find_count + length (passed_on (w.node v) p l f Find)) _ (passed_on (w.node v) p l f Find) e lt free up refl refl (all_calls 0 (w.node v).marks p l f Find))
     where
       up : gh.up v ≡ Some p
-      up = (initiating.call g wired v at.some at.node p at (scene w gh) sound.first l f Find (see ms).tree (w.node v).marks marks (tree_first (w.queue v p) ms (Initiate l f Find) refl waits) None refl (length (passed_on (w.node v) p l f Find)) (λ e. refl)).up
+      up = (initiating.call g ground.wired v at.some at.node p at (scene w gh) sound.first l f Find (see ms).tree (w.node v).marks marks (tree_first (w.queue v p) ms (Initiate l f Find) refl waits) None refl (length (passed_on (w.node v) p l f Find)) (λ e. refl)).up
 
       free : (w.node v).head.probe ≡ None
-      free = (initiating.idle g wired v at.some at.node p at (scene w gh) sound.first l f Find (see ms).tree (w.node v).marks marks (tree_first (w.queue v p) ms (Initiate l f Find) refl waits) None refl (length (passed_on (w.node v) p l f Find)) (λ e. refl)).0
+      free = (initiating.idle g ground.wired v at.some at.node p at (scene w gh) sound.first l f Find (see ms).tree (w.node v).marks marks (tree_first (w.queue v p) ms (Initiate l f Find) refl waits) None refl (length (passed_on (w.node v) p l f Find)) (λ e. refl)).0
 
   -- the marks once port p is Rejected where it was Basic
   rejects : (λ (q : ℕ). get_or (with_mark (w.node v).marks (reject_at (w.node v) p)) q Rejected) ≡ marked (λ q. mark_at (w.node v) q) p
@@ -205,7 +205,7 @@ module _ (g : Network) (wired : IsWired g) (keyed : IsKeyed g) (k : ℕ) (log : 
       Rises g (scene w opening_ghost) (scene (taken g v p (Test l n) ms (does (w.node v).head (reject_at (w.node v) p) ((p, Reject) ∷ [])) w) opening_ghost) v p 1
   rejected_rises l n waits name free =
       (arrives g v p w (Test l n) ms (does (w.node v).head (reject_at (w.node v) p) ((p, Reject) ∷ [])) refl 1
-      (reject_pays g wired v at.some at.node (reacts g v w opening_ghost (does (w.node v).head (reject_at (w.node v) p) ((p, Reject) ∷ []))) own (scene w opening_ghost) (fewer g v p w (Test l n) ms waits) p at
+      (reject_pays g ground.wired v at.some at.node (reacts g v w opening_ghost (does (w.node v).head (reject_at (w.node v) p) ((p, Reject) ∷ []))) own (scene w opening_ghost) (fewer g v p w (Test l n) ms waits) p at
       ((p, Reject) ∷ []) refl refl (not_at (w.node v).head.probe p free) rejects (at_it (w.node (far g v p)).head.probe (far_port g v p) theirs) (ap any_test first)
       (own_tests (none_left (l, n) (see ms).tests (see (w.queue v p)).tests first (lone (test_end (end g (scene w gh) v p)) (test_end (far_end g (scene w gh) v p)) link'.tests)))
       (λ e. marked_beyond same (was_branch (sym (ap (λ (f : ℕ → Mark). f p) rejects) ∙ e)))))
@@ -214,7 +214,7 @@ module _ (g : Network) (wired : IsWired g) (keyed : IsKeyed g) (k : ℕ) (log : 
       first = test_first (w.queue v p) ms l n waits
 
       same : gh.fragment v ≡ gh.fragment (far g v p)
-      same = reject_inside g wired v at.some at.node p at (scene w gh) sound.first l n (see ms).tests keyed first (same_name _ n name) free
+      same = reject_inside g ground.wired v at.some at.node p at (scene w gh) sound.first l n (see ms).tests ground.keyed first (same_name _ n name) free
 
       theirs : (w.node (far g v p)).head.probe ≡ Some (far_port g v p)
       theirs = ⊎_elim (λ e. e) (λ ne. absurd (free ((link'.tests.not_probing ne).crossed (let z = ap length first in omega (arith, z))).probe)) (probe_is (w.node (far g v p)).head.probe (far_port g v p))
@@ -235,7 +235,7 @@ module _ (g : Network) (wired : IsWired g) (keyed : IsKeyed g) (k : ℕ) (log : 
       Rises g (scene w opening_ghost) (scene (taken g v p m ms (ends (no_probe (w.node v).head) (reject_at (w.node v) p) [] e) w) opening_ghost) v p 1
   turn_rises m e waits mine s met why =
       (arrives g v p w m ms (ends (no_probe (w.node v).head) (reject_at (w.node v) p) [] e) refl 1
-      (turn_pays g wired v at.some at.node (reacts g v w opening_ghost (ends (no_probe (w.node v).head) (reject_at (w.node v) p) [] e)) own (scene w opening_ghost) (fewer g v p w m ms waits) p at
+      (turn_pays g ground.wired v at.some at.node (reacts g v w opening_ghost (ends (no_probe (w.node v).head) (reject_at (w.node v) p) [] e)) own (scene w opening_ghost) (fewer g v p w m ms waits) p at
       (no_probe (w.node v).head) e refl mine (λ q z. basic_was (λ q. mark_at (w.node v) q) p q (next q z))
       (λ q z y. not_basic (mark_at (w.node v) p) (sym (put_same (λ q. mark_at (w.node v) q) p (rejected (mark_at (w.node v) p))) ∙ subst (λ x. marked (λ q. mark_at (w.node v) q) p x ≡ Basic) y (next q z)))
       rejects (λ z. own_tests (met z)) (⊎_elim inl (λ z. inr (z.0, ap (λ (f : ℕ → Mark). f p) rejects ∙ z.1)) why)))
@@ -267,7 +267,7 @@ module _ (g : Network) (wired : IsWired g) (keyed : IsKeyed g) (k : ℕ) (log : 
       first = test_first (w.queue v p) ms l n waits
 
       same : gh.fragment v ≡ gh.fragment (far g v p)
-      same = cross_inside g wired v at.some at.node p at (scene w gh) sound.first l n (see ms).tests keyed first (same_name _ n name) mine
+      same = cross_inside g ground.wired v at.some at.node p at (scene w gh) sound.first l n (see ms).tests ground.keyed first (same_name _ n name) mine
 
       kind : (m : Mark) → m ≢ Basic → is_at (w.node (far g v p)).head.probe (far_port g v p) ≡ true → (m ≡ Branch → mark_at (w.node (far g v p)) (far_port g v p) ≢ Basic) →
           (mark_at (w.node (far g v p)) (far_port g v p) ≢ Basic) ⊎ ((is_at (w.node (far g v p)).head.probe (far_port g v p) ≡ true) × (m ≡ Rejected))
@@ -300,7 +300,7 @@ module _ (g : Network) (wired : IsWired g) (keyed : IsKeyed g) (k : ℕ) (log : 
   row_accept_heard e waits mine c =
       pays_so Accept (ends (answered (w.node v).head p (Some (key_at (w.node v) p))) None [] e) 0 refl
       (arrives g v p w Accept ms (ends (answered (w.node v).head p (Some (key_at (w.node v) p))) None [] e) refl 0
-      (accept_pays g wired v at.some at.node (reacts g v w opening_ghost (ends (answered (w.node v).head p (Some (key_at (w.node v) p))) None [] e)) own (scene w opening_ghost) (fewer g v p w Accept ms waits) p at
+      (accept_pays g ground.wired v at.some at.node (reacts g v w opening_ghost (ends (answered (w.node v).head p (Some (key_at (w.node v) p))) None [] e)) own (scene w opening_ghost) (fewer g v p w Accept ms waits) p at
       (answered (w.node v).head p (Some (key_at (w.node v) p))) e refl mine (λ q z. absurd (no_probing _ e c q z)) (λ q z. absurd (no_probing _ e c q z)) refl
       (λ b rej. apart.0 (link'.search.rejected_inside rej))))
       (pays_accept k (w.node v).head (gh.up v) low p (Some (key_at (w.node v) p)) _ e mine finds lower refl refl c)
@@ -332,7 +332,7 @@ module _ (g : Network) (wired : IsWired g) (keyed : IsKeyed g) (k : ℕ) (log : 
 
       only : Heard (tree_end (end g (scene w gh) v p)) (tree_end (far_end g (scene w gh) v p)) r
       only =
-          heard_first (tree_end (end g (scene w gh) v p)) (tree_end (far_end g (scene w gh) v p)) link.tree link'.tree (link_leads g wired (scene w gh) sound.first v p at) r (see ms).tree
+          heard_first (tree_end (end g (scene w gh) v p)) (tree_end (far_end g (scene w gh) v p)) link.tree link'.tree (link_leads g ground.wired (scene w gh) sound.first v p at) r (see ms).tree
           (tree_first (w.queue v p) ms (Report r) refl waits) away
 
       lower : r ≢ None → (w.node v).head.level < k
@@ -356,7 +356,7 @@ module _ (g : Network) (wired : IsWired g) (keyed : IsKeyed g) (k : ℕ) (log : 
       (pays_root k (w.node v).head (gh.up v) low p b (mark_at (w.node v) b) _ root.in_branch root.up (fits.best_port b q best).1 (low.best (λ e. cc (e, best))) c1 c3))
     where
       root : AtRoot g (scene w gh) v p (see ms).tree
-      root = at_root g wired v at.some at.node p at (scene w gh) sound.first (see ms).tree calls
+      root = at_root g ground.wired v at.some at.node p at (scene w gh) sound.first (see ms).tree calls
 
       at_b : At g v b
       at_b = record { some = at.some; node = at.node; port = (fits.best_port b q best).0 }
@@ -368,7 +368,7 @@ module _ (g : Network) (wired : IsWired g) (keyed : IsKeyed g) (k : ℕ) (log : 
 
       free : mark_at (w.node v) b ≢ Rejected
       free rej =
-          let l = link_fits g wired (scene w gh) sound.first v b at_b in
+          let l = link_fits g ground.wired (scene w gh) sound.first v b at_b in
           (l.search.find_leads q best root.top (λ z. cc (z, rej))).apart (sym (l.search.rejected_inside rej))
 
       in_b : b < degree (w.node v)
@@ -387,22 +387,22 @@ module _ (g : Network) (wired : IsWired g) (keyed : IsKeyed g) (k : ℕ) (log : 
 
   -- each row
   pub row_acts :
-      (m : Message) (d : Delta) → w.queue v p ≡ m ∷ ms → (row : AwakeRow (w.node v) p m d) → IsOrdered g → Acted g k v gh.up (ups_after row gh.up v) w (taken g v p m ms d w)
-  row_acts m d q (Connect_absorbed {l = l} lt few) o = row_absorbs l q
-  row_acts m d q (Connect_waits {l = l} le basic) o = row_round (Connect l) (connect_again g wired o v p at w gh sound ms l q basic)
-  row_acts m d q (Connect_merges {l = l} le free lower) o = row_merges l q
-  row_acts m d q (Initiate_rests {l = l} {f = f} lt) o = row_rests l f q lt
-  row_acts m d q (Initiate_searches {l = l} {f = f} {e = e} lt few s) o = row_searches l f e q lt s
-  row_acts m d q (Test_waits {l = l} {f = f} lt) o = row_round (Test l f) (test_again g wired o v p at w gh sound ms l f q)
-  row_acts m d q (Test_accepted {l = l} {f = f} le other) o = row_test_accepted l f q
-  row_acts m d q (Test_rejected {l = l} {f = f} le same free) o = row_test_rejected l f q same free
-  row_acts m d q (Tests_cross {l = l} {f = f} {e = e} le same mine s) o = row_tests_cross l f e q same mine s
-  row_acts m d q (Accept_heard {e = e} mine c) o = row_accept_heard e q mine c
-  row_acts m d q (Reject_heard {e = e} mine s) o = row_reject_heard e q mine s
-  row_acts m d q (Report_heard {w = r} {e = e} c away count s) o = row_report_heard r c e q away count s
-  row_acts m d q (Report_waits {w = r} way finds) o = row_round (Report r) (report_again g wired o v p at w gh sound ms r q way finds)
-  row_acts m d q (Report_moves_root {w = r} b y way found best less) o =
+      (m : Message) (d : Delta) → w.queue v p ≡ m ∷ ms → (row : AwakeRow (w.node v) p m d) → Acted g k v gh.up (ups_after row gh.up v) w (taken g v p m ms d w)
+  row_acts m d q (Connect_absorbed {l = l} lt few) = row_absorbs l q
+  row_acts m d q (Connect_waits {l = l} le basic) = row_round (Connect l) (connect_again g ground v p at w gh sound ms l q basic)
+  row_acts m d q (Connect_merges {l = l} le free lower) = row_merges l q
+  row_acts m d q (Initiate_rests {l = l} {f = f} lt) = row_rests l f q lt
+  row_acts m d q (Initiate_searches {l = l} {f = f} {e = e} lt few s) = row_searches l f e q lt s
+  row_acts m d q (Test_waits {l = l} {f = f} lt) = row_round (Test l f) (test_again g ground v p at w gh sound ms l f q)
+  row_acts m d q (Test_accepted {l = l} {f = f} le other) = row_test_accepted l f q
+  row_acts m d q (Test_rejected {l = l} {f = f} le same free) = row_test_rejected l f q same free
+  row_acts m d q (Tests_cross {l = l} {f = f} {e = e} le same mine s) = row_tests_cross l f e q same mine s
+  row_acts m d q (Accept_heard {e = e} mine c) = row_accept_heard e q mine c
+  row_acts m d q (Reject_heard {e = e} mine s) = row_reject_heard e q mine s
+  row_acts m d q (Report_heard {w = r} {e = e} c away count s) = row_report_heard r c e q away count s
+  row_acts m d q (Report_waits {w = r} way finds) = row_round (Report r) (report_again g ground v p at w gh sound ms r q way finds)
+  row_acts m d q (Report_moves_root {w = r} b y way found best less) =
       root_moves (Report r) b y (By_report r (tree_first (w.queue v p) ms (Report r) refl q) way found (ap (λ o. below (best_key o) r) best ∙ less)) q best refl refl
-  row_acts m d q (Report_halts way found best) o = row_halts None q
-  row_acts m d q (Report_passes {w = r} way found b s) o = row_passes r q
-  row_acts m d q (Root_moves b y best) o = root_moves ChangeRoot b y (By_root (tree_first (w.queue v p) ms ChangeRoot refl q)) q best refl refl
+  row_acts m d q (Report_halts way found best) = row_halts None q
+  row_acts m d q (Report_passes {w = r} way found b s) = row_passes r q
+  row_acts m d q (Root_moves b y best) = root_moves ChangeRoot b y (By_root (tree_first (w.queue v p) ms ChangeRoot refl q)) q best refl refl

@@ -15,7 +15,7 @@ use Rattle.ghs_protocol.specs.Nodes.{AreNodes, HasFewPorts, IsNodeOf}
 use Rattle.ghs_protocol.specs.Steps.{Step, Takes_one, Wakes_up, reacted, taken, waking}
 use Rattle.ghs_protocol.proofs.clauses.Scene.{Ghost, Scene, see, scene}
 use Rattle.ghs_protocol.proofs.clauses.Nodes.{Untouched}
-use Rattle.ghs_protocol.proofs.clauses.Wiring.{IsKeyed, IsOrdered}
+use Rattle.ghs_protocol.proofs.clauses.Wiring.{IsKeyed, IsOrdered, Ground}
 use Rattle.ghs_protocol.proofs.clauses.Whole.{opening_ghost}
 use Rattle.ghs_protocol.proofs.clauses.Floors.{Sound}
 use Rattle.ghs_protocol.proofs.clauses.Charges.{Acted, Charges, HasCharges, Pays, Rises, SoundWith}
@@ -80,7 +80,7 @@ module _ (g : Network) (wired : IsWired g) (k : ℕ) (log : IsFloorLog2 g.count 
           (subst (λ a. Pays k (w.node v).head None (wakes_alone (w.node v)).head a (λ j. 0) [] 0) (sym rested.up) (pays_alone k (w.node v).head (λ j. 0) sleeps rested.best refl refl))
       go (m ∷ ks) e = wakes_over (record { some = lo; node = hi; port = let z = ports_many is in let y = ap length e in omega (arith, z, y) })
 
-module _ (g : Network) (wired : IsWired g) (ordered : IsOrdered g) (keyed : IsKeyed g) (k : ℕ) (log : IsFloorLog2 g.count k) where
+module _ (g : Network) (ground : Ground g) (k : ℕ) (log : IsFloorLog2 g.count k) where
   -- what is known of a net, by its memory
   pub by_memory : {w : Net} {up : ℕ → Option ℕ} (s : SoundWith g up w) → Charges g k up w → Charges g k s.ghost.up w
   by_memory {w} s c = subst (λ u. Charges g k u w) (sym s.ups) c
@@ -98,17 +98,17 @@ module _ (g : Network) (wired : IsWired g) (ordered : IsOrdered g) (keyed : IsKe
     some = lo;
     within = hi;
     up = put h.sound.ghost.up v (up_waking (w.node v).marks (h.sound.ghost.up v));
-    sound = wake_keeps g wired ordered keyed v lo hi w (nodes v) h.sound.ghost h.sound.holds sleeps;
+    sound = wake_keeps g ground v lo hi w (nodes v) h.sound.ghost h.sound.holds sleeps;
     acted = subst (λ u. Acted g k v u (put h.sound.ghost.up v (up_waking (w.node v).marks (h.sound.ghost.up v))) w (reacted g v (waking (w.node v)) w)) h.sound.ups
-        (wake_acts_so g wired k log v lo hi w (nodes v) h.sound.ghost h.sound.holds sleeps);
+        (wake_acts_so g ground.wired k log v lo hi w (nodes v) h.sound.ghost h.sound.holds sleeps);
   }
   stepped w _ nodes h (Takes_one v p m ms d at q up row) = record {
     some = at.some;
     within = at.node;
     up = ups_after row h.sound.ghost.up v;
-    sound = row_keeps g wired ordered keyed v p at w (nodes v) h.sound.ghost h.sound.holds m ms d q up row;
+    sound = row_keeps g ground v p at w (nodes v) h.sound.ghost h.sound.holds m ms d q up row;
     acted = subst (λ u. Acted g k v u (ups_after row h.sound.ghost.up v) w (taken g v p m ms d w)) h.sound.ups
-        (row_acts g wired keyed k log v p at w (nodes v) h.sound.ghost h.sound.holds (by_memory h.sound h.charges) ms m d q row ordered);
+        (row_acts g ground k log v p at w (nodes v) h.sound.ghost h.sound.holds (by_memory h.sound h.charges) ms m d q row);
   }
 
   pub charged : (w w' : Net) (h : HasCharges g k w) (v : ℕ) → Stepped w w' h v → HasCharges g k w'
@@ -128,4 +128,4 @@ module _ (g : Network) (wired : IsWired g) (ordered : IsOrdered g) (keyed : IsKe
   opening_has = record { up = λ v. None; sound = record { ghost = opening_ghost; holds = opening_sound g; ups = refl }; charges = opening_charges }
 
   pub after_charges : HasFewPorts g → (es : List Event) (w : Net) → IsAfter g es w → HasCharges g k w
-  after_charges few es w h = run_by_steps g wired few (HasCharges g k) (λ w w' f i s. charged w w' i (step_node s) (stepped w w' f.nodes i s)) opening_has es w h
+  after_charges few es w h = run_by_steps g ground.wired few (HasCharges g k) (λ w w' f i s. charged w w' i (step_node s) (stepped w w' f.nodes i s)) opening_has es w h

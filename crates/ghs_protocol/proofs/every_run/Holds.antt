@@ -25,7 +25,7 @@ use Rattle.ghs_protocol.specs.Interleavings.{HaveAtLeast, Asks, To_wake, To_take
 use Rattle.ghs_protocol.specs.Nodes.{HasFewPorts, IsWellFormed}
 use Rattle.ghs_protocol.proofs.clauses.Scene.{forest, scene}
 use Rattle.ghs_protocol.proofs.clauses.Fragments.{IsJoinedIn, IsIn, First, Later, Apart, One_more, HasMany}
-use Rattle.ghs_protocol.proofs.clauses.Wiring.{IsKeyed, IsOrdered}
+use Rattle.ghs_protocol.proofs.clauses.Wiring.{IsKeyed, IsOrdered, Ground}
 use Rattle.ghs_protocol.proofs.clauses.Whole.{HasInvariant}
 use Rattle.ghs_protocol.proofs.lemmas.Events.{at_of}
 use Rattle.ghs_protocol.proofs.lemmas.WellFormed.{after_formed}
@@ -46,15 +46,15 @@ pub record Holds (g : Network) (w : Net) : Type 0 where
 abbrev pub without_floors : {g : Network} {w : Net} → HasSound g w → HasInvariant g w
 without_floors s = record { ghost = s.ghost; holds = s.holds.first }
 
-module _ (g : Network) (wired : IsWired g) (keyed : IsKeyed g) (ordered : IsOrdered g) where
+module _ (g : Network) (ground : Ground g) where
   -- every net of a run
   pub after_holds : HasFewPorts g → (es : List Event) (w : Net) → IsAfter g es w → Holds g w
   after_holds few es w h =
-      record { formed = after_formed g wired few es w h; sound = after_sound g wired keyed ordered few es w h }
+      record { formed = after_formed g ground.wired few es w h; sound = after_sound g ground few es w h }
 
   -- between two moments of a run
   pub rejected_stays : (es : List Event) (w w' : Net) → Holds g w → run g es w ≡ Some w' → (v p : ℕ) → At g v p → mark_at (w.node v) p ≡ Rejected → mark_at (w'.node v) p ≡ Rejected
-  rejected_stays es w w' h r = run_rejected g wired (HasSound g) (λ x y f i s. step_keeps g wired ordered keyed x y f.nodes i s) (λ x f i. spares g wired x (without_floors i)) es w w' h.formed h.sound r
+  rejected_stays es w w' h r = run_rejected g ground.wired (HasSound g) (λ x y f i s. step_keeps g ground x y f.nodes i s) (λ x f i. spares g ground.wired x (without_floors i)) es w w' h.formed h.sound r
 
 -- many in one way, and in the other
 all_in : (P : ℕ → Type 0) (xs : List ℕ) → ((x : ℕ) → IsIn x xs → P x) → All P xs

@@ -7,9 +7,10 @@ use Rattle.ghs_protocol.specs.Interleavings.{FragmentsAreLarge, RejectedLinksIns
 use Rattle.ghs_protocol.proofs.every_run.Firsts.{earlier, further}
 use Rattle.ghs_protocol.proofs.lemmas.Graphs.{graph_wired, graph_few, graph_keyed, graph_rising}
 use Rattle.ghs_protocol.proofs.every_run.Holds as runs
+use Rattle.ghs_protocol.proofs.acts.Grounds.{graph_ground}
 
 pub holds : (g : Shape) (w : Net) → IsNetOf g w → runs.Holds (network_of g) w
-holds g w n = runs.after_holds (network_of g) (graph_wired g n.graph) (graph_keyed g n.graph) (graph_rising g n.graph) (graph_few g n.graph) n.events w n.run
+holds g w n = runs.after_holds (network_of g) (graph_ground g n.graph) (graph_few g n.graph) n.events w n.run
 
 pub fragments_are_large : FragmentsAreLarge
 fragments_are_large g w n = runs.large (network_of g) (graph_wired g n.graph) w (holds g w n)
@@ -24,4 +25,4 @@ pub work_has_reaction : WorkHasReaction
 work_has_reaction g w n = runs.has_reaction (network_of g) (graph_wired g n.graph) w (holds g w n) n.graph.nodes
 
 pub rejected_marks_stay : RejectedMarksStay
-rejected_marks_stay g w w' l v p = runs.rejected_stays (network_of g) (graph_wired g l.graph) (graph_keyed g l.graph) (graph_rising g l.graph) l.further w w' (holds g w (earlier g w w' l)) (further g w w' l) v p
+rejected_marks_stay g w w' l v p = runs.rejected_stays (network_of g) (graph_ground g l.graph) l.further w w' (holds g w (earlier g w w' l)) (further g w w' l) v p

@@ -15,7 +15,7 @@ use Rattle.ghs_protocol.specs.Nodes.{HasFewPorts}
 use Rattle.ghs_protocol.specs.Laws.{IsNetOf}
 use Rattle.ghs_protocol.specs.Interleavings.{BranchLinksInTree, RejectedLinksAside, HaltIsExact, EndIsTree}
 use Rattle.ghs_protocol.proofs.clauses.Scene.{scene, forest}
-use Rattle.ghs_protocol.proofs.clauses.Wiring.{IsKeyed, IsOrdered}
+use Rattle.ghs_protocol.proofs.clauses.Wiring.{Ground}
 use Rattle.ghs_protocol.proofs.clauses.Fragments.{IsJoinedIn}
 use Rattle.ghs_protocol.proofs.clauses.Whole.{opening_ghost}
 use Rattle.ghs_protocol.proofs.clauses.Floors.{HasSound, Sound}
@@ -26,15 +26,16 @@ use Rattle.ghs_protocol.proofs.wake.Opening.{opening_holds}
 use Rattle.ghs_protocol.proofs.search.ScanOrder.{opening_floors, opening_scans, opening_lives}
 use Rattle.ghs_protocol.proofs.every_run.Trees.{at_a, key_there, branch_in_tree, rejected_aside, branch_is_joined, tree_is_joined}
 use Rattle.ghs_protocol.proofs.rows.Rows.{step_keeps}
+use Rattle.ghs_protocol.proofs.acts.Grounds.{graph_ground}
 
 pub opening_sound : (g : Network) → Sound g (scene (opening g) opening_ghost)
 opening_sound g = record { first = opening_holds g; floor = λ v. None; floors = opening_floors g; scans = opening_scans g; lives = opening_lives g }
 
-pub after_sound : (g : Network) → IsWired g → IsKeyed g → IsOrdered g → HasFewPorts g → (es : List Event) (w : Net) → IsAfter g es w → HasSound g w
-after_sound g wired keyed ordered few es w h = run_by_steps g wired few (HasSound g) (λ w w' f i s. step_keeps g wired ordered keyed w w' f.nodes i s) (record { ghost = opening_ghost; holds = opening_sound g }) es w h
+pub after_sound : (g : Network) → Ground g → HasFewPorts g → (es : List Event) (w : Net) → IsAfter g es w → HasSound g w
+after_sound g ground few es w h = run_by_steps g ground.wired few (HasSound g) (λ w w' f i s. step_keeps g ground w w' f.nodes i s) (record { ghost = opening_ghost; holds = opening_sound g }) es w h
 
 pub sound : (g : Shape) (w : Net) → IsNetOf g w → HasSound (network_of g) w
-sound g w n = after_sound (network_of g) (graph_wired g n.graph) (graph_keyed g n.graph) (graph_rising g n.graph) (graph_few g n.graph) n.events w n.run
+sound g w n = after_sound (network_of g) (graph_ground g n.graph) (graph_few g n.graph) n.events w n.run
 
 pub branch_links_in_tree : BranchLinksInTree
 branch_links_in_tree g w n k (v, p, at, e, m) = let s = sound g w n in subst (InTree g.keys) e (branch_in_tree g n.graph (scene w s.ghost) s.holds.first s.holds.floor s.holds.floors v p at m)

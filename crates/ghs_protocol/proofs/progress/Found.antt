@@ -14,7 +14,7 @@ use Rattle.ghs_node.specs.NodeState.{NodeState, mark_at}
 use Rattle.ghs_protocol.specs.Network.{Network, port_at, At, far, far_port, IsWired, InNetwork}
 use Rattle.ghs_protocol.specs.Net.{Net}
 use Rattle.ghs_protocol.proofs.clauses.Scene.{Member, Seen, Ghost, scene, add, adds, see, unseen}
-use Rattle.ghs_protocol.proofs.clauses.Wiring.{IsKeyed}
+use Rattle.ghs_protocol.proofs.clauses.Wiring.{IsKeyed, Ground}
 use Rattle.ghs_protocol.proofs.clauses.Whole.{Invariant}
 use Rattle.ghs_protocol.specs.Living.{Unended}
 use Rattle.ghs_protocol.proofs.clauses.UnderWay.{Living}
@@ -144,10 +144,10 @@ module _ (g : Network) (w : Net) (S : ℕ → Bool) where
       all h zero p at m = absurd (let z = at.some in omega (arith, z))
       all h (suc i) p at m = h i (let z = at.node in omega (arith, z)) p at m
 
-module _ (g : Network) (wired : IsWired g) (keyed : IsKeyed g) (w : Net) (gh : Ghost) (holds : Invariant g (scene w gh)) (lives : Living g (scene w gh)) (S : ℕ → Bool) (going : Unended g w S) where
+module _ (g : Network) (ground : Ground g) (w : Net) (gh : Ghost) (holds : Invariant g (scene w gh)) (lives : Living g (scene w gh)) (S : ℕ → Bool) (going : Unended g w S) where
   -- a message that doesn't wait, if the Connects under way go over least links
   pub goes_on : ((a j : ℕ) → At g a j → ((scene w gh).at a).mark j ≡ Branch → is_branch (((scene w gh).at (far g a j)).mark (far_port g a j)) ≡ false → (u q : ℕ) → At g u q → gh.fragment u ≡ gh.fragment a → gh.fragment (far g u q) ≢ gh.fragment a → key_lt (port_at g u q).key (port_at g a j).key ≡ false) → Found_one g w S
   goes_on least =
       ⊎_elim (λ h. h)
-      (λ all. absurd (not_stuck g wired keyed (scene w gh) holds lives S going.closed (λ v p at m. seen_waits g w gh v p (all v p at m)) (λ v is m. going.none_halted v is m) least going.node going.is going.member going.awake))
+      (λ all. absurd (not_stuck g ground (scene w gh) holds lives S going.closed (λ v p at m. seen_waits g w gh v p (all v p at m)) (λ v is m. going.none_halted v is m) least going.node going.is going.member going.awake))
       (look g w S)

@@ -11,7 +11,7 @@ use Rattle.ghs_node.specs.Words.{is_branch}
 use Rattle.ghs_protocol.specs.Network.{Network, At, port_at, far, far_port, IsWired}
 use Rattle.ghs_protocol.specs.Net.{Net}
 use Rattle.ghs_protocol.proofs.clauses.Scene.{Ghost, scene}
-use Rattle.ghs_protocol.proofs.clauses.Wiring.{IsKeyed}
+use Rattle.ghs_protocol.proofs.clauses.Wiring.{IsKeyed, Ground}
 use Rattle.ghs_protocol.proofs.clauses.Whole.{Invariant}
 use Rattle.ghs_protocol.specs.Living.{Waits, Unended, GoesOn}
 use Rattle.ghs_protocol.proofs.clauses.UnderWay.{Living}
@@ -38,10 +38,10 @@ all_so : (n : NodeState) (p : ℕ) (xs : List Message) → AllOf (node_waits n p
 all_so n p [] h = λ k d lt. absurd (omega arith)
 all_so n p (x ∷ xs) h = All-cons (Waits n p) x xs (so n p x h.0) (all_so n p xs h.1)
 
-module _ (g : Network) (wired : IsWired g) (keyed : IsKeyed g) (w : Net) (gh : Ghost) (holds : Invariant g (scene w gh)) (lives : Living g (scene w gh)) (S : ℕ → Bool) (going : Unended g w S) where
+module _ (g : Network) (ground : Ground g) (w : Net) (gh : Ghost) (holds : Invariant g (scene w gh)) (lives : Living g (scene w gh)) (S : ℕ → Bool) (going : Unended g w S) where
   -- behind one message that waits at most, one that doesn't
   pub progress : ((a j : ℕ) → At g a j → ((scene w gh).at a).mark j ≡ Branch → is_branch (((scene w gh).at (far g a j)).mark (far_port g a j)) ≡ false → (u q : ℕ) → At g u q → gh.fragment u ≡ gh.fragment a → gh.fragment (far g u q) ≢ gh.fragment a → key_lt (port_at g u q).key (port_at g a j).key ≡ false) → GoesOn g w S
-  progress least = go (goes_on g wired keyed w gh holds lives S going least)
+  progress least = go (goes_on g ground w gh holds lives S going least)
     where
       go : Found_one g w S → GoesOn g w S
       go z = record {
@@ -54,6 +54,6 @@ module _ (g : Network) (wired : IsWired g) (keyed : IsKeyed g) (w : Net) (gh : G
         behind = z.place.behind;
         queue = z.place.whole;
         waiting = all_so (w.node z.node) z.port z.place.before z.place.all;
-        few = few g wired z.node z.port z.at w gh holds z.place;
+        few = few g ground.wired z.node z.port z.at w gh holds z.place;
         goes = λ h. z.place.goes (back (w.node z.node) z.port z.place.message h);
       }

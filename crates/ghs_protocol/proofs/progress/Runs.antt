@@ -30,6 +30,7 @@ use Rattle.ghs_protocol.proofs.rows.Link.{link_fits}
 use Rattle.ghs_protocol.proofs.acts.Floors.{near_fits, lower_on, lower_self}
 use Rattle.ghs_protocol.proofs.every_run.Sound.{sound}
 use Rattle.ghs_protocol.proofs.progress.Nets.{progress}
+use Rattle.ghs_protocol.proofs.acts.Grounds.{graph_ground}
 
 not_less : (j k : Key) → lower (Some (Some j)) (Some (Some k)) ≡ true → key_lt k j ≡ false
 not_less j k h = grind (arith, nat_tests)
@@ -100,7 +101,7 @@ module _ (g : Shape) (w : Net) (n : IsNetOf g w) where
 pub no_run_is_stuck : NoRunIsStuck
 no_run_is_stuck g w n S u =
     let s = sound g w n in
-    progress (network_of g) (graph_wired g n.graph) (graph_keyed g n.graph) w s.ghost s.holds.first (living g w n) S u
+    progress (network_of g) (graph_ground g n.graph) w s.ghost s.holds.first (living g w n) S u
     (goes_over_least (network_of g) (graph_wired g n.graph) (scene w s.ghost) s.holds.first s.holds.floor s.holds.floors)
 
 -- a queue with such a message isn't empty

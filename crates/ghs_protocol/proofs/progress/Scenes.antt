@@ -17,7 +17,7 @@ use Rattle.ghs_protocol.proofs.clauses.TreeMessages.{CoreFits, CoreQueue, Plain,
 use Rattle.ghs_protocol.proofs.clauses.Tests.{AllFrom}
 use Rattle.ghs_protocol.proofs.clauses.Fragments.{Root, Goes_out, Both_ways, Reach, At_root, By_step}
 use Rattle.ghs_protocol.proofs.clauses.Rest.{has_call, has_report}
-use Rattle.ghs_protocol.proofs.clauses.Wiring.{IsKeyed}
+use Rattle.ghs_protocol.proofs.clauses.Wiring.{IsKeyed, Ground}
 use Rattle.ghs_protocol.proofs.clauses.Whole.{Invariant, LinkFits, NamesOf}
 use Rattle.ghs_protocol.proofs.clauses.UnderWay.{Answering, Test_there, Accept_here, Reject_here, Crossed_here, CoreHeard, HeardBy, brought_to, Living}
 use Rattle.ghs_protocol.proofs.acts.OneLink.{at_near, at_far}
@@ -114,7 +114,7 @@ above : (m : Member) (l : ℕ) (n : Option Key) (ts : List (ℕ × Key)) → 1 �
 above m l n [] le a b = absurd (omega (arith, le))
 above m l n (t ∷ ts) le a b = let z : (m.head.phase ≢ Sleeping) × (m.head.level < t.0) = b.0 in (z.0, subst (λ x. m.head.level < x) a.0 z.1)
 
-module _ (g : Network) (wired : IsWired g) (keyed : IsKeyed g) (w : Scene) (holds : Invariant g w) (lives : Living g w)
+module _ (g : Network) (ground : Ground g) (w : Scene) (holds : Invariant g w) (lives : Living g w)
     (S : ℕ → Bool) (closed : (v p : ℕ) → At g v p → S v ≡ true → S (far g v p) ≡ true)
     (stuck : (v p : ℕ) → At g v p → S v ≡ true → SeenWaits (w.at v) p (w.seen v p))
     (unended : (v : ℕ) → InNetwork g v → S v ≡ true → (w.at v).head.halted ≢ true) where
@@ -157,11 +157,11 @@ module _ (g : Network) (wired : IsWired g) (keyed : IsKeyed g) (w : Scene) (hold
   connect_waits : (a j : ℕ) → At g a j → S a ≡ true → (w.at a).mark j ≡ Branch → is_branch ((w.at (far g a j)).mark (far_port g a j)) ≡ false → tree_waits (w.at (far g a j)) (far_port g a j) (Connect (w.at a).head.level)
   connect_waits a j at m here away =
       first_of (tree_waits (w.at (far g a j)) (far_port g a j)) (Connect (w.at a).head.level) [] (w.seen (far g a j) (far_port g a j)).tree (connect a j at here away).one
-      (stuck (far g a j) (far_port g a j) (wired.there a j at) (closed a j at m)).tree
+      (stuck (far g a j) (far_port g a j) (ground.wired.there a j at) (closed a j at m)).tree
 
   module _ (a j : ℕ) (m : S a ≡ true) (r : RootLink g (forest w) a j) where
     at' : At g (far g a j) (far_port g a j)
-    at' = wired.there a j r.at
+    at' = ground.wired.there a j r.at
 
     m' : S (far g a j) ≡ true
     m' = closed a j r.at m
@@ -266,20 +266,20 @@ module _ (g : Network) (wired : IsWired g) (keyed : IsKeyed g) (w : Scene) (hold
         linked = (holds.trees.by_fragment (far g a j) a (sym (holds.trees.joined_within a j r.at r.joined))).1
 
         h : HeardBy f1.is.head.level f1.is.coming f1.is.head.phase f1.is.head.best e1.is.head.best f1.is.head.halted
-        h = at_near g wired w CoreHeard lives.links.heard a j r.at (here, there, r.up, r.up_beyond, begun.named) begun.top phase (no_reports (far g a j) (far_port g a j) at' m' phase')
+        h = at_near g ground.wired w CoreHeard lives.links.heard a j r.at (here, there, r.up, r.up_beyond, begun.named) begun.top phase (no_reports (far g a j) (far_port g a j) at' m' phase')
 
         h' : HeardBy e1.is.head.level e1.is.coming e1.is.head.phase e1.is.head.best f1.is.head.best e1.is.head.halted
-        h' = at_far g wired w CoreHeard lives.links.heard a j r.at (there, here, r.up_beyond, r.up, linked ∙ begun.named) begun.top' phase' (no_reports a j r.at m phase)
+        h' = at_far g ground.wired w CoreHeard lives.links.heard a j r.at (there, here, r.up_beyond, r.up, linked ∙ begun.named) begun.top' phase' (no_reports a j r.at m phase)
 
         stands : (k : Key) → best_key e1.is.head.best ≡ Some k → Stands w k a
         stands k x = record { top = begun.top; way = r.up ∙ sym (((holds.links a j r.at).tree.core_ends (record { here = here; there = there }) begun.named).at_top begun.top); best = x }
 
         stands' : (k : Key) → best_key f1.is.head.best ≡ Some k → Stands w k (far g a j)
-        stands' k x = record { top = begun.top'; way = r.up_beyond ∙ sym (((at_far g wired w (LinkFits (NamesOf g w)) holds.links a j r.at).tree.core_ends (record { here = there; there = here }) (linked ∙ begun.named)).at_top begun.top'); best = x }
+        stands' k x = record { top = begun.top'; way = r.up_beyond ∙ sym (((at_far g ground.wired w (LinkFits (NamesOf g w)) holds.links a j r.at).tree.core_ends (record { here = there; there = here }) (linked ∙ begun.named)).at_top begun.top'); best = x }
 
         by_keys : Even f1.is.head.best e1.is.head.best → ⊥
         by_keys (Both_missing x y) = unended (far g a j) is' m' (h.halts y x)
-        by_keys (One_key k x y) = no_tie g wired w holds a j r k keyed is' (stands k y) (stands' k x)
+        by_keys (One_key k x y) = no_tie g ground.wired w holds a j r k ground.keyed is' (stands k y) (stands' k x)
 
   -- who stands at the root is at the coming level
   root_top : (v p : ℕ) → At g v p → S v ≡ true → (w.at v).up ≡ Some p → Root g (forest w) v p → (w.at v).head.level ≡ (w.at v).coming
@@ -309,7 +309,7 @@ module _ (g : Network) (wired : IsWired g) (keyed : IsKeyed g) (w : Scene) (hold
 
   -- below a search there is a lower level
   pub search_lower : (v : ℕ) → InNetwork g v → S v ≡ true → (w.at v).head.phase ≡ Find → (l : ℕ) × (l < (w.at v).coming) × At_level l
-  search_lower v is m finds = asks (someone_asks g wired w holds lives.awaits S closed (λ x p at y h. calls_none (w.at x) p (w.seen x p).tree (stuck x p at y).tree h) no_report v (reach v is m (λ e. cc (e, finds))) is m finds)
+  search_lower v is m finds = asks (someone_asks g ground.wired w holds lives.awaits S closed (λ x p at y h. calls_none (w.at x) p (w.seen x p).tree (stuck x p at y).tree h) no_report v (reach v is m (λ e. cc (e, finds))) is m finds)
     where
       no_report : (x p : ℕ) → At g x p → S x ≡ true → (w.at x).head.phase ≡ Find → (w.at x).up ≢ Some p → has_report (w.seen x p).tree ≢ true
       no_report x p at y f ne h =
@@ -326,7 +326,7 @@ module _ (g : Network) (wired : IsWired g) (keyed : IsKeyed g) (w : Scene) (hold
           at = record { some = k.is.some; node = k.is.node; port = (holds.nodes k.node k.is).own_ports.probe k.port k.probe }
 
           at' : At g (far g k.node k.port) (far_port g k.node k.port)
-          at' = wired.there k.node k.port at
+          at' = ground.wired.there k.node k.port at
 
           m' : S (far g k.node k.port) ≡ true
           m' = closed k.node k.port at k.member
@@ -345,7 +345,7 @@ module _ (g : Network) (wired : IsWired g) (keyed : IsKeyed g) (w : Scene) (hold
           go (Accept_here le) = let z = (stuck k.node k.port at k.member).accepts in absurd (omega (arith, le, z))
           go (Reject_here le) = let z = (stuck k.node k.port at k.member).rejects in absurd (omega (arith, le, z))
           go (Crossed_here le ne) =
-              let c = ((at_far g wired w (LinkFits (NamesOf g w)) holds.links k.node k.port at).tests.not_probing ne).crossed le in
+              let c = ((at_far g ground.wired w (LinkFits (NamesOf g w)) holds.links k.node k.port at).tests.not_probing ne).crossed le in
               let z = above (w.at k.node) (w.at k.node).head.level (w.at k.node).head.name (w.seen k.node k.port).tests le c.from (stuck k.node k.port at k.member).tests in
               let lt = z.1 in absurd (omega (arith, lt))
 
@@ -380,8 +380,8 @@ module _ (g : Network) (wired : IsWired g) (keyed : IsKeyed g) (w : Scene) (hold
       by_core : (a j : ℕ) → S a ≡ true → (w.at a).fragment ≡ (w.at v).fragment → RootLink g (forest w) a j → Next v
       by_core a j y e r =
           ⊎_elim
-          (λ f. ⊎_elim (λ f'. absurd (not_done a j y r f f')) (λ f'. lower (far g a j) (sym (holds.trees.joined_within a j r.at r.joined) ∙ e) (search_lower (far g a j) (record { some = (wired.there a j r.at).some; node = (wired.there a j r.at).node }) (closed a j r.at y) f'))
-          (phase_of (far g a j) (far_port g a j) (wired.there a j r.at) (branch_mark _ r.joined.there)))
+          (λ f. ⊎_elim (λ f'. absurd (not_done a j y r f f')) (λ f'. lower (far g a j) (sym (holds.trees.joined_within a j r.at r.joined) ∙ e) (search_lower (far g a j) (record { some = (ground.wired.there a j r.at).some; node = (ground.wired.there a j r.at).node }) (closed a j r.at y) f'))
+          (phase_of (far g a j) (far_port g a j) (ground.wired.there a j r.at) (branch_mark _ r.joined.there)))
           (λ f. lower a e (search_lower a (record { some = r.at.some; node = r.at.node }) y f))
           (phase_of a j r.at (branch_mark _ r.joined.here))
 
@@ -405,7 +405,7 @@ module _ (g : Network) (wired : IsWired g) (keyed : IsKeyed g) (w : Scene) (hold
           y = far g a j
 
           at' : At g (far g a j) (far_port g a j)
-          at' = wired.there a j at
+          at' = ground.wired.there a j at
 
           is' : InNetwork g (far g a j)
           is' = record { some = at'.some; node = at'.node }
@@ -430,13 +430,13 @@ module _ (g : Network) (wired : IsWired g) (keyed : IsKeyed g) (w : Scene) (hold
           go (Outward o) = ⊎_elim (λ h. r (port_at g o.node o.port).key (subst (λ z. key_lt (port_at g o.node o.port).key z ≡ true) e h) o.node o.port o.at o.member (alike o.node (far g a j) o.same ∙ comes) o.here o.away refl) (λ h. same h) (cases_Bool _)
             where
               not_less : key_lt (port_at g a j).key (port_at g o.node o.port).key ≡ false
-              not_less = subst (λ z. key_lt z (port_at g o.node o.port).key ≡ false) (wired.same_key a j at) (least o.node o.port o.at o.here o.away (far g a j) (far_port g a j) at' (sym o.same) (λ h. under.apart (sym o.same ∙ sym h ∙ ap (λ z. (w.at z).fragment) (wired.back a j at))))
+              not_less = subst (λ z. key_lt z (port_at g o.node o.port).key ≡ false) (ground.wired.same_key a j at) (least o.node o.port o.at o.here o.away (far g a j) (far_port g a j) at' (sym o.same) (λ h. under.apart (sym o.same ∙ sym h ∙ ap (λ z. (w.at z).fragment) (ground.wired.back a j at))))
 
               same : key_lt (port_at g o.node o.port).key (port_at g a j).key ≡ false → ⊥
               same h =
                   ⊎_elim (λ t. under.apart (sym o.same ∙ ap (λ z. (w.at z).fragment) (sym t.0)))
                   (λ t. let b : (w.at (far g a j)).mark (far_port g a j) ≡ Branch = subst₂ (λ z q. (w.at z).mark q ≡ Branch) (sym t.0) (sym t.1) o.here in let x : Basic ≡ Branch = sym waits.2 ∙ b in cc)
-                  (keyed a j o.node o.port at o.at (same_lt _ _ not_less h))
+                  (ground.keyed a j o.node o.port at o.at (same_lt _ _ not_less h))
 
       none_at : At_level l → ⊥
       none_at z = go (next z.node z.is z.member z.awake)

@@ -17,7 +17,7 @@ use Rattle.ghs_protocol.proofs.clauses.TreeMessages.{ConnectUnderWay, Reported, 
 use Rattle.ghs_protocol.proofs.clauses.Nodes.{NodeFits}
 use Rattle.ghs_protocol.proofs.clauses.Rest.{has_call}
 use Rattle.ghs_protocol.proofs.clauses.Search.{LeadsOut}
-use Rattle.ghs_protocol.proofs.clauses.Wiring.{IsKeyed}
+use Rattle.ghs_protocol.proofs.clauses.Wiring.{Ground}
 use Rattle.ghs_protocol.proofs.clauses.Uniting.{SendsRoot, meet}
 use Rattle.ghs_protocol.proofs.clauses.Whole.{LinkFits, Invariant, NamesOf}
 use Rattle.ghs_protocol.proofs.clauses.Floors.{Floor, FloorsAt, IsTreeLink, Floors}
@@ -287,7 +287,7 @@ module _ (g : Network) (wired : IsWired g) (u : ℕ) (lo : 1 ≤ u) (hi : u ≤ 
         (best_in_tree g wired w holds floor floors u j at ms root calls b k atb best mark)
 
   -- the root goes out, and meets the Connect of the far end
-  module _ (keyed : IsKeyed g) (mark : (w.at u).mark b ≢ Branch) (mark' : (w.at (far g u b)).mark (far_port g u b) ≡ Branch) where
+  module _ (ground : Ground g) (mark : (w.at u).mark b ≢ Branch) (mark' : (w.at (far g u b)).mark (far_port g u b) ≡ Branch) where
     abbrev mid : Scene
     mid = acts g u (record (w.at u) { up = Some b; mark = put (w.at u).mark b Branch }) (put (w.seen u) j (record (w.seen u j) { tree = ms })) ((b, Connect (w.at u).head.level) ∷ []) w
 
@@ -345,4 +345,4 @@ module _ (g : Network) (wired : IsWired g) (u : ℕ) (lo : 1 ≤ u) (hi : u ≤ 
         (ap (λ (m : Member). m.up) here_is) (ap (λ (m : Member). m.up) far_is ∙ came.up)
         (λ e. let z = came.one in let y = ap (λ (q : Seen). q.tree) own_seen in let s : Connect (w.at (far g u b)).head.level ∷ [] ≡ ChangeRoot ∷ [] = sym z ∙ sym y ∙ e in cc)
         (λ e. let z = came.none in let s : [] ++ Connect (w.at u).head.level ∷ [] ≡ ChangeRoot ∷ [] = ap (λ q. q ++ Connect (w.at u).head.level ∷ []) (sym z) ∙ sym their_seen ∙ e in cc)
-        (connects_meeting g wired keyed u lo hi w holds j at ms b k calls best mark mark')
+        (connects_meeting g ground u lo hi w holds j at ms b k calls best mark mark')

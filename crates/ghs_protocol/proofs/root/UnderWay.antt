@@ -14,7 +14,7 @@ use Rattle.ghs_protocol.proofs.clauses.Links.{Joins}
 use Rattle.ghs_protocol.proofs.clauses.TreeMessages.{ConnectUnderWay}
 use Rattle.ghs_protocol.proofs.clauses.Nodes.{NodeFits}
 use Rattle.ghs_protocol.proofs.clauses.Rest.{has_call}
-use Rattle.ghs_protocol.proofs.clauses.Wiring.{IsKeyed}
+use Rattle.ghs_protocol.proofs.clauses.Wiring.{Ground}
 use Rattle.ghs_protocol.proofs.clauses.Uniting.{SendsRoot, meet}
 use Rattle.ghs_protocol.proofs.clauses.Whole.{LinkFits, Invariant, NamesOf}
 use Rattle.ghs_protocol.proofs.clauses.UnderWay.{ProbeAsks, brought_to, ChildBrought, CoreHeard, Lives}
@@ -139,7 +139,7 @@ module _ (g : Network) (wired : IsWired g) (u : ℕ) (lo : 1 ≤ u) (hi : u ≤ 
         (Connect (w.at u).head.level) (λ q n. call_append (Connect (w.at u).head.level) refl q.tree ∙ n) (λ q. refl) (λ e. absurd (free e)) (λ e. absurd (free e)) (λ e. absurd (free e))
 
     -- and meets the Connect of the far end
-    module _ (keyed : IsKeyed g) (mark' : (w.at (far g u b)).mark (far_port g u b) ≡ Branch) where
+    module _ (ground : Ground g) (mark' : (w.at (far g u b)).mark (far_port g u b) ≡ Branch) where
       abbrev mid : Scene
       mid = acts g u (record (w.at u) { up = Some b; mark = put (w.at u).mark b Branch }) (put (w.seen u) j (record (w.seen u j) { tree = ms })) ((b, Connect (w.at u).head.level) ∷ []) w
 
@@ -168,8 +168,8 @@ module _ (g : Network) (wired : IsWired g) (u : ℕ) (lo : 1 ≤ u) (hi : u ≤ 
       met =
           moves_lives g wired u lo hi j at w holds lives ms root b atb apart (put (w.at u).mark b Branch) (put_same (w.at u).mark b Branch) (λ i ne. put_other (w.at u).mark b i Branch ne)
           (Connect (w.at u).head.level) (λ q n. call_append (Connect (w.at u).head.level) refl q.tree ∙ n) (λ q. refl) (λ e. came.up)
-          (λ e. no_name g keyed w holds u b atb mark u (record { some = lo; node = hi })) (λ e. no_name g keyed w holds u b atb mark (far g u b) (let z = wired.there u b atb in record { some = z.some; node = z.node }))
+          (λ e. no_name g ground.keyed w holds u b atb mark u (record { some = lo; node = hi })) (λ e. no_name g ground.keyed w holds u b atb mark (far g u b) (let z = wired.there u b atb in record { some = z.some; node = z.node }))
 
       pub meets_lives : Lives g (meet g u b (acts g u (record (w.at u) { up = Some b; mark = put (w.at u).mark b Branch }) (put (w.seen u) j (record (w.seen u j) { tree = ms })) ((b, Connect (w.at u).head.level) ∷ []) w))
       meets_lives =
-          united_lives g mid met (mid.at (far g u b)).fragment (mid.at u).fragment (suc (mid.at u).head.level) (Some (port_at g u b).key) (λ t it i. inl (low t it i)) (connects_meeting g wired keyed u lo hi w holds j at ms b k calls best mark mark')
+          united_lives g mid met (mid.at (far g u b)).fragment (mid.at u).fragment (suc (mid.at u).head.level) (Some (port_at g u b).key) (λ t it i. inl (low t it i)) (connects_meeting g ground u lo hi w holds j at ms b k calls best mark mark')

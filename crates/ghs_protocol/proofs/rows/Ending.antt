@@ -11,7 +11,7 @@ use Rattle.ghs_node.specs.Words.{Outgoing, is_basic, best_key, least_basic}
 use Rattle.ghs_node.specs.Reaction.{Ending, Probing, Reporting, Waiting, last_sends, name_of, core_port}
 use Rattle.ghs_node.specs.Rows.{Closes, Reports, Waits, Settles, Probes, Exhausts}
 use Rattle.ghs_node.proofs.lemmas.{basic_is}
-use Rattle.ghs_protocol.proofs.clauses.Wiring.{IsOrdered}
+use Rattle.ghs_protocol.proofs.clauses.Wiring.{IsOrdered, Ground}
 use Rattle.ghs_protocol.specs.Network.{Network, At, IsWired, InNetwork}
 use Rattle.ghs_protocol.specs.Net.{put}
 use Rattle.ghs_protocol.proofs.clauses.Scene.{Seen, Member, Scene, acts}
@@ -58,18 +58,18 @@ settles_so g v m ms _ is none (Probes p least) =
     Tests_least p none (sym (ap (λ (f : ℕ → Mark). f p) is) ∙ basic_is _ (position-Some is_basic ms p Rejected least).1) (λ q lt b. least_some ms p least q lt (ap (λ (f : ℕ → Mark). f q) is ∙ b))
 settles_so g v m ms e is none (Exhausts least c) = closes_so g v m e (exhausted_scan g v m none (λ q b. least_none ms least q (ap (λ (f : ℕ → Mark). f q) is ∙ b))) c
 
-module _ (g : Network) (wired : IsWired g) (ordered : IsOrdered g) (v : ℕ) (lo : 1 ≤ v) (hi : v ≤ g.count) where
+module _ (g : Network) (ground : Ground g) (v : ℕ) (lo : 1 ≤ v) (hi : v ≤ g.count) where
   is : InNetwork g v
   is = record { some = lo; node = hi }
 
   -- the ending alone
   ends_so : (w : Scene) → (n : Nearly g w v) → (e : Ending) → (w.at v).head.phase ≡ Find → EndsSo g v (w.at v) e → Sound g (acts g v (ended (w.at v) e) (w.seen v) (last_sends (w.at v).head e) w)
   ends_so w n _ finds (Tests_least p none basic least) = record {
-    first = ends_alone g wired v lo hi w n.first (Probing p) finds (Tests_next p none basic);
+    first = ends_alone g ground.wired v lo hi w n.first (Probing p) finds (Tests_next p none basic);
     floor = n.floor;
-    floors = subst (λ (q : ℕ → Seen). Floors g (acts g v (ended (w.at v) (Probing p)) q (last_sends (w.at v).head (Probing p)) w) n.floor) (put_again (w.seen v) p) (scan_floors g wired v lo hi p at w n.first n.floor n.floors (w.at v).head.level (name_of (w.at v).head));
-    scans = scans_after g v lo hi (ended (w.at v) (Probing p)) (w.seen v) (last_sends (w.at v).head (Probing p)) w n.scans (probing_scan g ordered v (ended (w.at v) (Probing p)) p at refl least (λ q b. record { some = lo; node = hi; port = fits.own_ports.mark q (λ z. cc (z, b)) }));
-    lives = subst (λ (q : ℕ → Seen). Lives g (acts g v (ended (w.at v) (Probing p)) q (last_sends (w.at v).head (Probing p)) w)) (put_again (w.seen v) p) (scan_lives g wired v lo hi p at w n.first n.lives (w.at v).head.level (name_of (w.at v).head) none basic);
+    floors = subst (λ (q : ℕ → Seen). Floors g (acts g v (ended (w.at v) (Probing p)) q (last_sends (w.at v).head (Probing p)) w) n.floor) (put_again (w.seen v) p) (scan_floors g ground.wired v lo hi p at w n.first n.floor n.floors (w.at v).head.level (name_of (w.at v).head));
+    scans = scans_after g v lo hi (ended (w.at v) (Probing p)) (w.seen v) (last_sends (w.at v).head (Probing p)) w n.scans (probing_scan g ground.ordered v (ended (w.at v) (Probing p)) p at refl least (λ q b. record { some = lo; node = hi; port = fits.own_ports.mark q (λ z. cc (z, b)) }));
+    lives = subst (λ (q : ℕ → Seen). Lives g (acts g v (ended (w.at v) (Probing p)) q (last_sends (w.at v).head (Probing p)) w)) (put_again (w.seen v) p) (scan_lives g ground.wired v lo hi p at w n.first n.lives (w.at v).head.level (name_of (w.at v).head) none basic);
   }
     where
       fits : NodeFits (length (g.ports v)) (w.at v)
@@ -78,16 +78,16 @@ module _ (g : Network) (wired : IsWired g) (ordered : IsOrdered g) (v : ℕ) (lo
       at : At g v p
       at = record { some = lo; node = hi; port = fits.own_ports.mark p (λ z. cc (z, basic)) }
   ends_so w n _ finds (Reports_so at_zero none scan) = record {
-    first = ends_alone g wired v lo hi w n.first Reporting finds (Reports_now at_zero none);
+    first = ends_alone g ground.wired v lo hi w n.first Reporting finds (Reports_now at_zero none);
     floor = put n.floor v (Some (best_key (w.at v).head.best));
     floors =
         subst (λ (q : ℕ → Seen). Floors g (acts g v (ended (w.at v) Reporting) q (last_sends (w.at v).head Reporting) w) (put n.floor v (Some (best_key (w.at v).head.best)))) (put_again (w.seen v) s.port)
         (subst (λ b. Floors g (acts g v (ended (w.at v) Reporting) (put (w.seen v) s.port (w.seen v s.port)) ((b, Report (best_key (w.at v).head.best)) ∷ []) w) (put n.floor v (Some (best_key (w.at v).head.best)))) (sym way)
-        (closes_floors g wired v lo hi s.port at w n.first finds s.in_branch none at_zero n.floor n.floors (λ q b. scan.done q finds none b)));
+        (closes_floors g ground.wired v lo hi s.port at w n.first finds s.in_branch none at_zero n.floor n.floors (λ q b. scan.done q finds none b)));
     scans = scans_after g v lo hi (ended (w.at v) Reporting) (w.seen v) (last_sends (w.at v).head Reporting) w n.scans (rests_scan g v (ended (w.at v) Reporting) (λ e. cc));
     lives =
         subst (λ (q : ℕ → Seen). Lives g (acts g v (ended (w.at v) Reporting) q (last_sends (w.at v).head Reporting) w)) (put_again (w.seen v) s.port)
-        (subst (λ b. Lives g (acts g v (ended (w.at v) Reporting) (put (w.seen v) s.port (w.seen v s.port)) ((b, Report (best_key (w.at v).head.best)) ∷ []) w)) (sym way) (closes_lives g wired v lo hi s.port at w n.first n.lives finds s.in_branch (best_key (w.at v).head.best)));
+        (subst (λ b. Lives g (acts g v (ended (w.at v) Reporting) (put (w.seen v) s.port (w.seen v s.port)) ((b, Report (best_key (w.at v).head.best)) ∷ []) w)) (sym way) (closes_lives g ground.wired v lo hi s.port at w n.first n.lives finds s.in_branch (best_key (w.at v).head.best)));
   }
     where
       fits : NodeFits (length (g.ports v)) (w.at v)

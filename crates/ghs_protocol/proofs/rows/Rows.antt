@@ -27,7 +27,7 @@ use Rattle.ghs_protocol.proofs.clauses.Charges.{SoundWith}
 use Rattle.ghs_protocol.proofs.clauses.Floors.{HasSound, Nearly, ScansInOrder, Sound}
 use Rattle.ghs_protocol.proofs.clauses.Nodes.{NodeFits}
 use Rattle.ghs_protocol.proofs.clauses.Uniting.{By_report, By_root, MarksAre, SendsRoot, absorb, meet}
-use Rattle.ghs_protocol.proofs.clauses.Wiring.{IsKeyed, IsOrdered}
+use Rattle.ghs_protocol.proofs.clauses.Wiring.{IsKeyed, IsOrdered, Ground}
 use Rattle.ghs_protocol.proofs.clauses.Scene.{Ghost, Member, Seen, Scene, acts, end, see, test_end, tree_end, scene, far_end}
 use Rattle.ghs_protocol.specs.Net.{Net, put}
 use Rattle.ghs_protocol.specs.Network.{At, IsWired, Network, far, far_port, port_at}
@@ -75,19 +75,19 @@ module _ (g : Network) (v p : ℕ) (w : Net) (gh : Ghost) (ms : List Message) wh
       (subst (λ (q : Seen). Sound g (acts g v x (left q) d.sends (scene w gh))) (tree_left (w.queue v p) ms m tree waits) (act (tree_first (w.queue v p) ms m tree waits)))
 
   search_taken :
-      IsWired g → IsOrdered g → 1 ≤ v → v ≤ g.count → (m : Message) (q : Seen) → q ≡ see ms → (x : Member) (mark : Option (ℕ × Mark)) (ss : Outgoing) (e : Ending) →
+      Ground g → 1 ≤ v → v ≤ g.count → (m : Message) (q : Seen) → q ≡ see ms → (x : Member) (mark : Option (ℕ × Mark)) (ss : Outgoing) (e : Ending) →
       reacts g v w gh (ends x.head mark ss e) ≡ ended x e → x.head.phase ≡ Find → EndsSo g v x e → Nearly g (acts g v x (left q) ss (scene w gh)) v →
       SoundWith g gh.up (taken g v p m ms (ends x.head mark ss e) w)
-  search_taken wired ordered lo hi m q rest x mark ss e is finds by act =
+  search_taken ground lo hi m q rest x mark ss e is finds by act =
       taken_sound g v w gh p m ms (ends x.head mark ss e) (ended x e) refl is
-      (ends_after_so g wired ordered v lo hi x (left (see ms)) ss (scene w gh) (subst (λ (s : Seen). Nearly g (acts g v x (left s) ss (scene w gh)) v) rest act) e finds by)
+      (ends_after_so g ground v lo hi x (left (see ms)) ss (scene w gh) (subst (λ (s : Seen). Nearly g (acts g v x (left s) ss (scene w gh)) v) rest act) e finds by)
 
-module _ (g : Network) (wired : IsWired g) (ordered : IsOrdered g) (keyed : IsKeyed g) (v p : ℕ) (at : At g v p) (w : Net) (is : IsNodeOf g v (w.node v)) (gh : Ghost) (sound : Sound g (scene w gh)) (ms : List Message) where
+module _ (g : Network) (ground : Ground g) (v p : ℕ) (at : At g v p) (w : Net) (is : IsNodeOf g v (w.node v)) (gh : Ghost) (sound : Sound g (scene w gh)) (ms : List Message) where
   in_marks : p < degree (w.node v)
   in_marks = let lt = at.port in omega (arith, lt, ports_many is)
 
   probes_find : (w.node v).head.probe ≡ Some p → (w.node v).head.phase ≡ Find
-  probes_find own = probing_finds (node_fits g wired (scene w gh) sound.first v p at) own
+  probes_find own = probing_finds (node_fits g ground.wired (scene w gh) sound.first v p at) own
 
   -- a Test is taken
   test_taken :
@@ -103,7 +103,7 @@ module _ (g : Network) (wired : IsWired g) (ordered : IsOrdered g) (keyed : IsKe
       SoundWith g gh.up (taken g v p (Test l n) ms (does (w.node v).head None ((p, Accept) ∷ [])) w)
   row_test_accepted l n waits le other =
       test_taken l n waits (does (w.node v).head None ((p, Accept) ∷ [])) ((scene w gh).at v) refl refl
-      (λ first. accept_sound g wired v at.some at.node p at (scene w gh) sound l n (see ms).tests first le (other_name (w.node v).head.name n other))
+      (λ first. accept_sound g ground.wired v at.some at.node p at (scene w gh) sound l n (see ms).tests first le (other_name (w.node v).head.name n other))
 
   -- with port p rejected where it was Basic
   abbrev rejecting : Head → Member
@@ -118,7 +118,7 @@ module _ (g : Network) (wired : IsWired g) (ordered : IsOrdered g) (keyed : IsKe
   row_test_rejected l n awake waits name free =
       test_taken l n waits (does (w.node v).head (reject_at (w.node v) p) ((p, Reject) ∷ [])) (rejecting (w.node v).head) refl
       (rejects _ ((p, Reject) ∷ []))
-      (λ first. reject_sound g wired v at.some at.node p at (scene w gh) sound l n (see ms).tests keyed awake first (same_name _ n name) free)
+      (λ first. reject_sound g ground.wired v at.some at.node p at (scene w gh) sound l n (see ms).tests ground.keyed awake first (same_name _ n name) free)
 
   -- the search goes on after port p was rejected
   abbrev unprobed : Head
@@ -130,7 +130,7 @@ module _ (g : Network) (wired : IsWired g) (ordered : IsOrdered g) (keyed : IsKe
       Settles (with_mark (w.node v).marks (reject_at (w.node v) p)) unprobed e →
       SoundWith g gh.up (taken g v p m ms (ends unprobed (reject_at (w.node v) p) [] e) w)
   goes_on m q e rest finds act s =
-      search_taken g v p w gh ms wired ordered at.some at.node m q rest (rejecting unprobed) (reject_at (w.node v) p) [] e
+      search_taken g v p w gh ms ground at.some at.node m q rest (rejecting unprobed) (reject_at (w.node v) p) [] e
       (λ i. ended (rejects unprobed [] i) e) finds (settles_so g v (rejecting unprobed) _ e (reject_marks (w.node v) p in_marks) refl s) act
 
   row_tests_cross :
@@ -139,7 +139,7 @@ module _ (g : Network) (wired : IsWired g) (ordered : IsOrdered g) (keyed : IsKe
       SoundWith g gh.up (taken g v p (Test l n) ms (ends (no_probe (w.node v).head) (reject_at (w.node v) p) [] e) w)
   row_tests_cross l n e waits name own s =
       goes_on (Test l n) _ e (test_left (w.queue v p) ms l n waits) (probes_find own)
-      (cross_nearly g wired v at.some at.node p at (scene w gh) sound l n (see ms).tests keyed (test_first (w.queue v p) ms l n waits) (same_name _ n name) own)
+      (cross_nearly g ground.wired v at.some at.node p at (scene w gh) sound l n (see ms).tests ground.keyed (test_first (w.queue v p) ms l n waits) (same_name _ n name) own)
       s
 
   row_reject_heard :
@@ -148,7 +148,7 @@ module _ (g : Network) (wired : IsWired g) (ordered : IsOrdered g) (keyed : IsKe
       SoundWith g gh.up (taken g v p Reject ms (ends (no_probe (w.node v).head) (reject_at (w.node v) p) [] e) w)
   row_reject_heard e waits own s =
       goes_on Reject _ e (reject_left (w.queue v p) ms waits) (probes_find own)
-      (reject_nearly g wired v at.some at.node p at (scene w gh) sound (see ms).rejects (reject_first (w.queue v p) ms waits) own) s
+      (reject_nearly g ground.wired v at.some at.node p at (scene w gh) sound (see ms).rejects (reject_first (w.queue v p) ms waits) own) s
 
   -- an Accept of a link of this key is heard
   abbrev accepting : Key → Member
@@ -161,11 +161,11 @@ module _ (g : Network) (wired : IsWired g) (ordered : IsOrdered g) (keyed : IsKe
       (e : Ending) → w.queue v p ≡ Accept ∷ ms → (w.node v).head.probe ≡ Some p → Closes (answered (w.node v).head p (Some (key_at (w.node v) p))) e →
       SoundWith g gh.up (taken g v p Accept ms (ends (answered (w.node v).head p (Some (key_at (w.node v) p))) None [] e) w)
   row_accept_heard e waits own c =
-      search_taken g v p w gh ms wired ordered at.some at.node Accept accepted (accept_left (w.queue v p) ms waits) (accepting (key_at (w.node v) p)) None
-      [] e refl (probes_find own) (closes_so g v (accepting (key_at (w.node v) p)) e (subst (λ k. ScansInOrder g v (accepting k)) (sym (key_is_port g v (w.node v) p is)) (accept_scanned g wired v at.some at.node p at (scene w gh) sound (see ms).accepts (accept_first (w.queue v p) ms waits) own)) c)
-      (subst (λ k. Nearly g (acts g v (accepting k) (left g v p w gh ms accepted) [] (scene w gh)) v) (sym (key_is_port g v (w.node v) p is)) (accept_nearly g wired v at.some at.node p at (scene w gh) sound (see ms).accepts (accept_first (w.queue v p) ms waits) own))
+      search_taken g v p w gh ms ground at.some at.node Accept accepted (accept_left (w.queue v p) ms waits) (accepting (key_at (w.node v) p)) None
+      [] e refl (probes_find own) (closes_so g v (accepting (key_at (w.node v) p)) e (subst (λ k. ScansInOrder g v (accepting k)) (sym (key_is_port g v (w.node v) p is)) (accept_scanned g ground.wired v at.some at.node p at (scene w gh) sound (see ms).accepts (accept_first (w.queue v p) ms waits) own)) c)
+      (subst (λ k. Nearly g (acts g v (accepting k) (left g v p w gh ms accepted) [] (scene w gh)) v) (sym (key_is_port g v (w.node v) p is)) (accept_nearly g ground.wired v at.some at.node p at (scene w gh) sound (see ms).accepts (accept_first (w.queue v p) ms waits) own))
 
-module _ (g : Network) (wired : IsWired g) (ordered : IsOrdered g) (v p : ℕ) (at : At g v p) (w : Net) (is : IsNodeOf g v (w.node v)) (gh : Ghost) (sound : Sound g (scene w gh)) (ms : List Message) where
+module _ (g : Network) (ground : Ground g) (v p : ℕ) (at : At g v p) (w : Net) (is : IsNodeOf g v (w.node v)) (gh : Ghost) (sound : Sound g (scene w gh)) (ms : List Message) where
   -- the node, as a member with another head
   abbrev with_head : Head → Member
   with_head h = record ((scene w gh).at v) { head = h }
@@ -179,7 +179,7 @@ module _ (g : Network) (wired : IsWired g) (ordered : IsOrdered g) (v p : ℕ) (
   row_merges : (l : ℕ) → w.queue v p ≡ Connect l ∷ ms → mark_at (w.node v) p ≢ Basic → SoundWith g gh.up (taken g v p (Connect l) ms (merges (w.node v) p) w)
   row_merges l waits marked =
       tree_taken g v p w gh ms (Connect l) refl waits (merges (w.node v) p) ((scene w gh).at v) refl refl
-      (λ first. subst Answered (sym (key_is_port g v (w.node v) p is)) (serve_sound g wired v at.some at.node p at (scene w gh) sound l (see ms).tree first marked))
+      (λ first. subst Answered (sym (key_is_port g v (w.node v) p is)) (serve_sound g ground.wired v at.some at.node p at (scene w gh) sound l (see ms).tree first marked))
 
   marks : MarksAre g v ((scene w gh).at v) (w.node v).marks
   marks = record { ports = ports_many is; marks = λ i. refl }
@@ -187,15 +187,15 @@ module _ (g : Network) (wired : IsWired g) (ordered : IsOrdered g) (v p : ℕ) (
   row_rests : (l : ℕ) (f : Key) → w.queue v p ≡ Initiate l f Found ∷ ms → SoundWith g gh.up (taken g v p (Initiate l f Found) ms (rests (w.node v) p l f) w)
   row_rests l f waits =
       tree_taken g v p w gh ms (Initiate l f Found) refl waits (rests (w.node v) p l f) (with_head (rests (w.node v) p l f).head) refl refl
-      (rest_sound g wired v at.some at.node (scene w gh) sound p at (see ms).tree l f (w.node v).marks marks)
+      (rest_sound g ground.wired v at.some at.node (scene w gh) sound p at (see ms).tree l f (w.node v).marks marks)
 
   row_searches :
       (l : ℕ) (f : Key) (e : Ending) → w.queue v p ≡ Initiate l f Find ∷ ms → Settles (w.node v).marks (no_probe (searching (w.node v) p l f)) e →
       SoundWith g gh.up (taken g v p (Initiate l f Find) ms (ends (no_probe (searching (w.node v) p l f)) None (passed_on (w.node v) p l f Find) e) w)
   row_searches l f e waits s =
-      search_taken g v p w gh ms wired ordered at.some at.node (Initiate l f Find) _ (tree_left (w.queue v p) ms (Initiate l f Find) refl waits) x None
+      search_taken g v p w gh ms ground at.some at.node (Initiate l f Find) _ (tree_left (w.queue v p) ms (Initiate l f Find) refl waits) x None
       (passed_on (w.node v) p l f Find) e refl refl (settles_so g v x (w.node v).marks e refl refl s)
-      (search_nearly g wired v at.some at.node (scene w gh) sound p at (see ms).tree l f (w.node v).marks marks (tree_first (w.queue v p) ms (Initiate l f Find) refl waits))
+      (search_nearly g ground.wired v at.some at.node (scene w gh) sound p at (see ms).tree l f (w.node v).marks marks (tree_first (w.queue v p) ms (Initiate l f Find) refl waits))
     where
       x : Member
       x = with_head (no_probe (searching (w.node v) p l f))
@@ -204,8 +204,8 @@ module _ (g : Network) (wired : IsWired g) (ordered : IsOrdered g) (v p : ℕ) (
       (k : Option Key) (c : ℕ) (e : Ending) → w.queue v p ≡ Report k ∷ ms → (w.node v).head.in_branch ≢ Some p → (w.node v).head.find_count ≡ suc c →
       Closes (heard (w.node v).head c p k) e → SoundWith g gh.up (taken g v p (Report k) ms (ends (heard (w.node v).head c p k) None [] e) w)
   row_report_heard k c e waits away count s =
-      search_taken g v p w gh ms wired ordered at.some at.node (Report k) _ (all_left (w.queue v p) ms (Report k) refl waits none) x None [] e refl finds
-      (closes_so g v x e (report_scanned g wired v at.some at.node p at (scene w gh) sound k (see ms).tree c first away count) s) (report_nearly g wired v at.some at.node p at (scene w gh) sound k (see ms).tree c first away count)
+      search_taken g v p w gh ms ground at.some at.node (Report k) _ (all_left (w.queue v p) ms (Report k) refl waits none) x None [] e refl finds
+      (closes_so g v x e (report_scanned g ground.wired v at.some at.node p at (scene w gh) sound k (see ms).tree c first away count) s) (report_nearly g ground.wired v at.some at.node p at (scene w gh) sound k (see ms).tree c first away count)
     where
       x : Member
       x = with_head (heard (w.node v).head c p k)
@@ -215,32 +215,32 @@ module _ (g : Network) (wired : IsWired g) (ordered : IsOrdered g) (v p : ℕ) (
 
       only : Heard (tree_end (end g (scene w gh) v p)) (tree_end (far_end g (scene w gh) v p)) k
       only =
-          heard_first (tree_end (end g (scene w gh) v p)) (tree_end (far_end g (scene w gh) v p)) (link_fits g wired (scene w gh) sound.first v p at).tree
-          (link_fits' g wired (scene w gh) sound.first v p at).tree (link_leads g wired (scene w gh) sound.first v p at) k (see ms).tree first away
+          heard_first (tree_end (end g (scene w gh) v p)) (tree_end (far_end g (scene w gh) v p)) (link_fits g ground.wired (scene w gh) sound.first v p at).tree
+          (link_fits' g ground.wired (scene w gh) sound.first v p at).tree (link_leads g ground.wired (scene w gh) sound.first v p at) k (see ms).tree first away
 
       none : (see ms).tree ≡ []
       none = let z : Report k ∷ (see ms).tree ≡ Report k ∷ [] = sym first ∙ only.tree in cc
 
       finds : (w.node v).head.phase ≡ Find
-      finds = ⊎_elim (λ h. h) (λ ne. absurd (let z = ((node_fits g wired (scene w gh) sound.first v p at).idle ne).1 in omega (arith, z, count))) (is_find' (w.node v).head.phase)
+      finds = ⊎_elim (λ h. h) (λ ne. absurd (let z = ((node_fits g ground.wired (scene w gh) sound.first v p at).idle ne).1 in omega (arith, z, count))) (is_find' (w.node v).head.phase)
 
   row_report_halts : (k : Option Key) → w.queue v p ≡ Report k ∷ ms → (w.node v).head.phase ≡ Found → k ≡ None → (w.node v).head.best ≡ None → SoundWith g gh.up (taken g v p (Report k) ms (stops (w.node v).head) w)
   row_report_halts k waits found none best =
       tree_taken g v p w gh ms (Report k) refl waits (stops (w.node v).head) (with_head (stops (w.node v).head).head) refl refl
-      (λ first. end_sound g wired v at.some at.node p at (scene w gh) sound k (see ms).tree first found true (inr (none, best)) (ap₂ below (ap best_key best) none) (λ x y. refl))
+      (λ first. end_sound g ground.wired v at.some at.node p at (scene w gh) sound k (see ms).tree first found true (inr (none, best)) (ap₂ below (ap best_key best) none) (λ x y. refl))
 
   row_report_passes : (k : Option Key) → w.queue v p ≡ Report k ∷ ms → (w.node v).head.phase ≡ Found → below (best_key (w.node v).head.best) k ≡ false → (k ≡ None → (w.node v).head.best ≢ None) → SoundWith g gh.up (taken g v p (Report k) ms (does (w.node v).head None []) w)
   row_report_passes k waits found less some =
       tree_taken g v p w gh ms (Report k) refl waits (does (w.node v).head None []) ((scene w gh).at v) refl refl
-      (λ first. end_sound g wired v at.some at.node p at (scene w gh) sound k (see ms).tree first found (w.node v).head.halted (inl refl) less (λ x y. absurd (some x y)))
+      (λ first. end_sound g ground.wired v at.some at.node p at (scene w gh) sound k (see ms).tree first found (w.node v).head.halted (inl refl) less (λ x y. absurd (some x y)))
 
-module _ (g : Network) (wired : IsWired g) (ordered : IsOrdered g) (v p : ℕ) (at : At g v p) (w : Net) (gh : Ghost) (sound : Sound g (scene w gh)) (ms : List Message) where
+module _ (g : Network) (ground : Ground g) (v p : ℕ) (at : At g v p) (w : Net) (gh : Ghost) (sound : Sound g (scene w gh)) (ms : List Message) where
   goes_round : (m : Message) → see (ms ++ m ∷ []) ≡ see (w.queue v p) → SoundWith g gh.up (taken g v p m ms (requeues (w.node v).head) w)
   goes_round m e = record { ghost = gh; ups = refl; holds = subst (Sound g) (sym (round_scene g v w gh p m ms e)) sound }
 
   pub connect_again : (l : ℕ) → w.queue v p ≡ Connect l ∷ ms → ((scene w gh).at v).mark p ≡ Basic → see (ms ++ Connect l ∷ []) ≡ see (w.queue v p)
   connect_again l waits basic =
-      (connect_round l ms (lone_connect (tree_end (end g (scene w gh) v p)) (tree_end (far_end g (scene w gh) v p)) (link_fits g wired (scene w gh) sound.first v p at).tree (link_fits' g wired (scene w gh) sound.first v p at).tree l (see ms).tree (tree_first (w.queue v p) ms (Connect l) refl waits) basic) ∙ sym (ap see waits))
+      (connect_round l ms (lone_connect (tree_end (end g (scene w gh) v p)) (tree_end (far_end g (scene w gh) v p)) (link_fits g ground.wired (scene w gh) sound.first v p at).tree (link_fits' g ground.wired (scene w gh) sound.first v p at).tree l (see ms).tree (tree_first (w.queue v p) ms (Connect l) refl waits) basic) ∙ sym (ap see waits))
 
   row_connect_waits : (l : ℕ) → w.queue v p ≡ Connect l ∷ ms → ((scene w gh).at v).mark p ≡ Basic → SoundWith g gh.up (taken g v p (Connect l) ms (requeues (w.node v).head) w)
   row_connect_waits l waits basic = goes_round (Connect l) (connect_again l waits basic)
@@ -249,10 +249,10 @@ module _ (g : Network) (wired : IsWired g) (ordered : IsOrdered g) (v p : ℕ) (
       (k : Option Key) → w.queue v p ≡ Report k ∷ ms → (w.node v).head.in_branch ≡ Some p → (w.node v).head.phase ≡ Find →
       see (ms ++ Report k ∷ []) ≡ see (w.queue v p)
   report_again k waits way finds =
-      (report_round k ms (lone_report (tree_end (end g (scene w gh) v p)) (tree_end (far_end g (scene w gh) v p)) (link_fits g wired (scene w gh) sound.first v p at).tree (link_fits' g wired (scene w gh) sound.first v p at).tree (link_leads g wired (scene w gh) sound.first v p at) k (see ms).tree (tree_first (w.queue v p) ms (Report k) refl waits) finds up) ∙ sym (ap see waits))
+      (report_round k ms (lone_report (tree_end (end g (scene w gh) v p)) (tree_end (far_end g (scene w gh) v p)) (link_fits g ground.wired (scene w gh) sound.first v p at).tree (link_fits' g ground.wired (scene w gh) sound.first v p at).tree (link_leads g ground.wired (scene w gh) sound.first v p at) k (see ms).tree (tree_first (w.queue v p) ms (Report k) refl waits) finds up) ∙ sym (ap see waits))
     where
       up : gh.up v ≡ Some p
-      up = let s = (node_fits g wired (scene w gh) sound.first v p at).searching finds in s.up ∙ sym s.in_branch ∙ way
+      up = let s = (node_fits g ground.wired (scene w gh) sound.first v p at).searching finds in s.up ∙ sym s.in_branch ∙ way
 
   row_report_waits :
       (k : Option Key) → w.queue v p ≡ Report k ∷ ms → (w.node v).head.in_branch ≡ Some p → (w.node v).head.phase ≡ Find →
@@ -261,14 +261,14 @@ module _ (g : Network) (wired : IsWired g) (ordered : IsOrdered g) (v p : ℕ) (
 
   pub test_again : (l : ℕ) (n : Key) → w.queue v p ≡ Test l n ∷ ms → see (ms ++ Test l n ∷ []) ≡ see (w.queue v p)
   test_again l n waits =
-      (test_round l n ms (lone_test (test_end (end g (scene w gh) v p)) (test_end (far_end g (scene w gh) v p)) (link_fits' g wired (scene w gh) sound.first v p at).tests (l, n) (see ms).tests (test_first (w.queue v p) ms l n waits)) ∙ sym (ap see waits))
+      (test_round l n ms (lone_test (test_end (end g (scene w gh) v p)) (test_end (far_end g (scene w gh) v p)) (link_fits' g ground.wired (scene w gh) sound.first v p at).tests (l, n) (see ms).tests (test_first (w.queue v p) ms l n waits)) ∙ sym (ap see waits))
 
   row_test_waits : (l : ℕ) (n : Key) → w.queue v p ≡ Test l n ∷ ms → SoundWith g gh.up (taken g v p (Test l n) ms (requeues (w.node v).head) w)
   row_test_waits l n waits = goes_round (Test l n) (test_again l n waits)
 
-module _ (g : Network) (wired : IsWired g) (ordered : IsOrdered g) (keyed : IsKeyed g) (v p : ℕ) (at : At g v p) (w : Net) (is : IsNodeOf g v (w.node v)) (gh : Ghost) (sound : Sound g (scene w gh)) (ms : List Message) where
+module _ (g : Network) (ground : Ground g) (v p : ℕ) (at : At g v p) (w : Net) (is : IsNodeOf g v (w.node v)) (gh : Ghost) (sound : Sound g (scene w gh)) (ms : List Message) where
   here_fits : NodeFits (length (g.ports v)) ((scene w gh).at v)
-  here_fits = node_fits g wired (scene w gh) sound.first v p at
+  here_fits = node_fits g ground.wired (scene w gh) sound.first v p at
 
   -- v's queues, the first tree message of port p taken
   abbrev popped : ℕ → Seen
@@ -306,7 +306,7 @@ module _ (g : Network) (wired : IsWired g) (ordered : IsOrdered g) (keyed : IsKe
       answer = Initiate (w.node v).head.level (name_of (w.node v).head) (w.node v).head.phase
 
       step : Sound g (absorb g v p (acts g v x popped ((p, answer) ∷ []) (scene w gh)))
-      step = absorb_sound g wired v at.some at.node (scene w gh) sound p at (see ms).tree keyed l (name_of (w.node v).head) first lower (named (omega (arith, lower))) awake
+      step = absorb_sound g ground.wired v at.some at.node (scene w gh) sound p at (see ms).tree ground l (name_of (w.node v).head) first lower (named (omega (arith, lower))) awake
 
       same : scene absorbed gh ≡ acts g v x popped ((p, answer) ∷ []) (scene w gh)
       same =
@@ -353,11 +353,11 @@ module _ (g : Network) (wired : IsWired g) (ordered : IsOrdered g) (keyed : IsKe
         meets : ((scene w gh).at (far g v b)).mark (far_port g v b) ≡ Branch → SoundWith g (put gh.up v (Some b)) moved_net
         meets met =
             met_sound g v b moved_net (with_up gh v (Some b))
-            (subst (λ (z : Scene). Sound g (meet g v b z)) (sym same) (meet_sound g wired v at.some at.node (scene w gh) sound p at (see ms).tree b k calls best keyed free met))
+            (subst (λ (z : Scene). Sound g (meet g v b z)) (sym same) (meet_sound g ground.wired v at.some at.node (scene w gh) sound p at (see ms).tree b k calls best ground free met))
 
         goes_out : ((scene w gh).at (far g v b)).mark (far_port g v b) ≢ Branch → SoundWith g (put gh.up v (Some b)) moved_net
         goes_out apart =
-            record { ghost = with_up gh v (Some b); ups = refl; holds = subst (Sound g) (sym same) (out_sound g wired v at.some at.node (scene w gh) sound p at (see ms).tree b k calls best free apart) }
+            record { ghost = with_up gh v (Some b); ups = refl; holds = subst (Sound g) (sym same) (out_sound g ground.wired v at.some at.node (scene w gh) sound p at (see ms).tree b k calls best free apart) }
 
     moves : SoundWith g (put gh.up v (Some b)) moved_net
     moves = go (mark_at (w.node v) b) refl
@@ -369,7 +369,7 @@ module _ (g : Network) (wired : IsWired g) (ordered : IsOrdered g) (keyed : IsKe
         go Basic e = connects Basic e (λ z. cc) refl refl
         go Rejected e = connects Rejected e (λ z. cc) refl refl
         go Branch e =
-            record { ghost = with_up gh v (Some b); ups = refl; holds = subst (Sound g) (sym (same e)) (pass_sound g wired v at.some at.node (scene w gh) sound p at (see ms).tree b k calls best e) }
+            record { ghost = with_up gh v (Some b); ups = refl; holds = subst (Sound g) (sym (same e)) (pass_sound g ground.wired v at.some at.node (scene w gh) sound p at (see ms).tree b k calls best e) }
 
   row_report_moves :
       (r : Option Key) (b : ℕ) (k : Key) → w.queue v p ≡ Report r ∷ ms → (w.node v).head.in_branch ≡ Some p → (w.node v).head.phase ≡ Found →
@@ -382,7 +382,7 @@ module _ (g : Network) (wired : IsWired g) (ordered : IsOrdered g) (keyed : IsKe
   row_root_moves : (b : ℕ) (k : Key) → w.queue v p ≡ ChangeRoot ∷ ms → (w.node v).head.best ≡ Some (b, k) → SoundWith g (put gh.up v (Some b)) (taken g v p ChangeRoot ms (moves_root (w.node v) b) w)
   row_root_moves b k waits best = moves ChangeRoot b k (By_root (tree_first (w.queue v p) ms ChangeRoot refl waits)) (seen (w.queue v p) ms ChangeRoot refl waits) best
 
-module _ (g : Network) (wired : IsWired g) (ordered : IsOrdered g) (keyed : IsKeyed g) (v : ℕ) (lo : 1 ≤ v) (hi : v ≤ g.count) (w : Net) (is : IsNodeOf g v (w.node v)) (gh : Ghost) (sound : Sound g (scene w gh)) (sleeps : (w.node v).head.phase ≡ Sleeping) where
+module _ (g : Network) (ground : Ground g) (v : ℕ) (lo : 1 ≤ v) (hi : v ≤ g.count) (w : Net) (is : IsNodeOf g v (w.node v)) (gh : Ghost) (sound : Sound g (scene w gh)) (sleeps : (w.node v).head.phase ≡ Sleeping) where
   wakes_over : At g v 0 → SoundWith g (put gh.up v (Some 0)) (reacted g v (wakes (w.node v)) w)
   wakes_over at = ⊎_elim meets goes_out (mark_is (((scene w gh).at (far g v 0)).mark (far_port g v 0)))
     where
@@ -402,42 +402,42 @@ module _ (g : Network) (wired : IsWired g) (ordered : IsOrdered g) (keyed : IsKe
       meets : ((scene w gh).at (far g v 0)).mark (far_port g v 0) ≡ Branch → SoundWith g (put gh.up v (Some 0)) woken_net
       meets met =
           met_sound g v 0 woken_net (with_up gh v (Some 0))
-          (subst (λ (z : Scene). Sound g (meet g v 0 z)) (sym same) (wake_meeting_sound g wired ordered v lo hi (scene w gh) sound sleeps at keyed met))
+          (subst (λ (z : Scene). Sound g (meet g v 0 z)) (sym same) (wake_meeting_sound g ground v lo hi (scene w gh) sound sleeps at met))
 
       goes_out : ((scene w gh).at (far g v 0)).mark (far_port g v 0) ≢ Branch → SoundWith g (put gh.up v (Some 0)) woken_net
-      goes_out apart = record { ghost = with_up gh v (Some 0); ups = refl; holds = subst (Sound g) (sym same) (wake_out_sound g wired ordered v lo hi (scene w gh) sound sleeps at apart) }
+      goes_out apart = record { ghost = with_up gh v (Some 0); ups = refl; holds = subst (Sound g) (sym same) (wake_out_sound g ground v lo hi (scene w gh) sound sleeps at apart) }
 
   pub wake_keeps : SoundWith g (put gh.up v (up_waking (w.node v).marks (gh.up v))) (reacted g v (waking (w.node v)) w)
   wake_keeps = go (w.node v).marks refl
     where
       go : (ks : List Mark) → (w.node v).marks ≡ ks → SoundWith g (put gh.up v (up_waking ks (gh.up v))) (reacted g v (at_wake (w.node v) ks) w)
       go [] e =
-          record { ghost = with_up gh v (gh.up v); ups = refl; holds = subst (Sound g) (sym (wake_acts g v w gh (gh.up v) (wakes_alone (w.node v)))) (lone_sound g wired ordered v lo hi (scene w gh) sound sleeps (sym (ports_many is) ∙ ap length e)) }
+          record { ghost = with_up gh v (gh.up v); ups = refl; holds = subst (Sound g) (sym (wake_acts g v w gh (gh.up v) (wakes_alone (w.node v)))) (lone_sound g ground v lo hi (scene w gh) sound sleeps (sym (ports_many is) ∙ ap length e)) }
       go (k ∷ ks) e = wakes_over (record { some = lo; node = hi; port = let z = ports_many is in let y = ap length e in omega (arith, z, y) })
 
-module _ (g : Network) (wired : IsWired g) (ordered : IsOrdered g) (keyed : IsKeyed g) where
+module _ (g : Network) (ground : Ground g) where
   pub row_keeps :
       (v p : ℕ) → At g v p → (w : Net) → IsNodeOf g v (w.node v) → (gh : Ghost) → Sound g (scene w gh) →
       (m : Message) (ms : List Message) (d : Delta) → w.queue v p ≡ m ∷ ms → (w.node v).head.phase ≢ Sleeping → (row : AwakeRow (w.node v) p m d) →
       SoundWith g (ups_after row gh.up v) (taken g v p m ms d w)
-  row_keeps v p at w is gh holds m ms d q up (Connect_absorbed {l = l} lt few) = row_absorbs g wired ordered keyed v p at w is gh holds ms l q lt up
-  row_keeps v p at w is gh holds m ms d q up (Connect_waits {l = l} le basic) = row_connect_waits g wired ordered v p at w gh holds ms l q basic
-  row_keeps v p at w is gh holds m ms d q up (Connect_merges {l = l} le marked low) = row_merges g wired ordered v p at w is gh holds ms l q marked
-  row_keeps v p at w is gh holds m ms d q up (Initiate_rests {l = l} {f = f} lt) = row_rests g wired ordered v p at w is gh holds ms l f q
-  row_keeps v p at w is gh holds m ms d q up (Initiate_searches {l = l} {f = f} {e = e} lt few s) = row_searches g wired ordered v p at w is gh holds ms l f e q s
-  row_keeps v p at w is gh holds m ms d q up (Test_waits {l = l} {f = f} lt) = row_test_waits g wired ordered v p at w gh holds ms l f q
-  row_keeps v p at w is gh holds m ms d q up (Test_accepted {l = l} {f = f} le other) = row_test_accepted g wired ordered keyed v p at w is gh holds ms l f q le other
-  row_keeps v p at w is gh holds m ms d q up (Test_rejected {l = l} {f = f} le same free) = row_test_rejected g wired ordered keyed v p at w is gh holds ms l f up q same free
-  row_keeps v p at w is gh holds m ms d q up (Tests_cross {l = l} {f = f} {e = e} le same own s) = row_tests_cross g wired ordered keyed v p at w is gh holds ms l f e q same own s
-  row_keeps v p at w is gh holds m ms d q up (Accept_heard {e = e} own c) = row_accept_heard g wired ordered keyed v p at w is gh holds ms e q own c
-  row_keeps v p at w is gh holds m ms d q up (Reject_heard {e = e} own s) = row_reject_heard g wired ordered keyed v p at w is gh holds ms e q own s
-  row_keeps v p at w is gh holds m ms d q up (Report_heard {w = k} {e = e} c away count s) = row_report_heard g wired ordered v p at w is gh holds ms k c e q away count s
-  row_keeps v p at w is gh holds m ms d q up (Report_waits {w = k} way finds) = row_report_waits g wired ordered v p at w gh holds ms k q way finds
-  row_keeps v p at w is gh holds m ms d q up (Report_moves_root {w = r} b k way found best less) = row_report_moves g wired ordered keyed v p at w is gh holds ms r b k q way found best less
-  row_keeps v p at w is gh holds m ms d q up (Report_halts way found best) = row_report_halts g wired ordered v p at w is gh holds ms None q found refl best
-  row_keeps v p at w is gh holds m ms d q up (Report_passes {w = k} way found b s) = row_report_passes g wired ordered v p at w is gh holds ms k q found b s
-  row_keeps v p at w is gh holds m ms d q up (Root_moves b k best) = row_root_moves g wired ordered keyed v p at w is gh holds ms b k q best
+  row_keeps v p at w is gh holds m ms d q up (Connect_absorbed {l = l} lt few) = row_absorbs g ground v p at w is gh holds ms l q lt up
+  row_keeps v p at w is gh holds m ms d q up (Connect_waits {l = l} le basic) = row_connect_waits g ground v p at w gh holds ms l q basic
+  row_keeps v p at w is gh holds m ms d q up (Connect_merges {l = l} le marked low) = row_merges g ground v p at w is gh holds ms l q marked
+  row_keeps v p at w is gh holds m ms d q up (Initiate_rests {l = l} {f = f} lt) = row_rests g ground v p at w is gh holds ms l f q
+  row_keeps v p at w is gh holds m ms d q up (Initiate_searches {l = l} {f = f} {e = e} lt few s) = row_searches g ground v p at w is gh holds ms l f e q s
+  row_keeps v p at w is gh holds m ms d q up (Test_waits {l = l} {f = f} lt) = row_test_waits g ground v p at w gh holds ms l f q
+  row_keeps v p at w is gh holds m ms d q up (Test_accepted {l = l} {f = f} le other) = row_test_accepted g ground v p at w is gh holds ms l f q le other
+  row_keeps v p at w is gh holds m ms d q up (Test_rejected {l = l} {f = f} le same free) = row_test_rejected g ground v p at w is gh holds ms l f up q same free
+  row_keeps v p at w is gh holds m ms d q up (Tests_cross {l = l} {f = f} {e = e} le same own s) = row_tests_cross g ground v p at w is gh holds ms l f e q same own s
+  row_keeps v p at w is gh holds m ms d q up (Accept_heard {e = e} own c) = row_accept_heard g ground v p at w is gh holds ms e q own c
+  row_keeps v p at w is gh holds m ms d q up (Reject_heard {e = e} own s) = row_reject_heard g ground v p at w is gh holds ms e q own s
+  row_keeps v p at w is gh holds m ms d q up (Report_heard {w = k} {e = e} c away count s) = row_report_heard g ground v p at w is gh holds ms k c e q away count s
+  row_keeps v p at w is gh holds m ms d q up (Report_waits {w = k} way finds) = row_report_waits g ground v p at w gh holds ms k q way finds
+  row_keeps v p at w is gh holds m ms d q up (Report_moves_root {w = r} b k way found best less) = row_report_moves g ground v p at w is gh holds ms r b k q way found best less
+  row_keeps v p at w is gh holds m ms d q up (Report_halts way found best) = row_report_halts g ground v p at w is gh holds ms None q found refl best
+  row_keeps v p at w is gh holds m ms d q up (Report_passes {w = k} way found b s) = row_report_passes g ground v p at w is gh holds ms k q found b s
+  row_keeps v p at w is gh holds m ms d q up (Root_moves b k best) = row_root_moves g ground v p at w is gh holds ms b k q best
 
   pub step_keeps : (w w' : Net) → AreNodes g w → HasSound g w → Step g w w' → HasSound g w'
-  step_keeps w _ nodes h (Wakes_up v lo hi sleeps) = let s = wake_keeps g wired ordered keyed v lo hi w (nodes v) h.ghost h.holds sleeps in record { ghost = s.ghost; holds = s.holds }
+  step_keeps w _ nodes h (Wakes_up v lo hi sleeps) = let s = wake_keeps g ground v lo hi w (nodes v) h.ghost h.holds sleeps in record { ghost = s.ghost; holds = s.holds }
   step_keeps w _ nodes h (Takes_one v p m ms d at q up row) = let s = row_keeps v p at w (nodes v) h.ghost h.holds m ms d q up row in record { ghost = s.ghost; holds = s.holds }

@@ -11,7 +11,7 @@ use Rattle.ghs_node.specs.Words.{below, better, best_key, find_more, on_branches
 use Rattle.ghs_protocol.specs.Network.{Network, port_at, At, far, far_port, IsWired, InNetwork}
 use Rattle.ghs_protocol.specs.Net.{put}
 use Rattle.ghs_protocol.proofs.clauses.Scene.{Member, Scene, acts}
-use Rattle.ghs_protocol.proofs.clauses.Wiring.{IsKeyed, IsOrdered}
+use Rattle.ghs_protocol.proofs.clauses.Wiring.{IsKeyed, IsOrdered, Ground}
 use Rattle.ghs_protocol.proofs.clauses.Uniting.{MarksAre, SendsRoot, relabel, meet, absorb}
 use Rattle.ghs_protocol.proofs.clauses.Floors.{ScansInOrder, AllScan, Sound, Nearly}
 use Rattle.ghs_protocol.proofs.lemmas.Updates.{put_same, put_other}
@@ -152,30 +152,30 @@ module _ (g : Network) (wired : IsWired g) (u : ℕ) (lo : 1 ≤ u) (hi : u ≤ 
       lives = connects_lives g wired u lo hi w s.first s.lives j at ms b k calls best m m';
     }
 
-    pub meet_sound : IsKeyed g → (w.at u).mark b ≢ Branch → (w.at (far g u b)).mark (far_port g u b) ≡ Branch → Sound g (meet g u b (acts g u (record (w.at u) { up = Some b; mark = put (w.at u).mark b Branch }) (put (w.seen u) j (record (w.seen u j) { tree = ms })) ((b, Connect (w.at u).head.level) ∷ []) w))
-    meet_sound keyed m m' = record {
-      first = connects_meeting g wired keyed u lo hi w s.first j at ms b k calls best m m';
+    pub meet_sound : Ground g → (w.at u).mark b ≢ Branch → (w.at (far g u b)).mark (far_port g u b) ≡ Branch → Sound g (meet g u b (acts g u (record (w.at u) { up = Some b; mark = put (w.at u).mark b Branch }) (put (w.seen u) j (record (w.seen u j) { tree = ms })) ((b, Connect (w.at u).head.level) ∷ []) w))
+    meet_sound ground m m' = record {
+      first = connects_meeting g ground u lo hi w s.first j at ms b k calls best m m';
       floor = s.floor;
-      floors = meets_floors g wired u lo hi w s.first j at ms b k calls best s.floor s.floors keyed m m';
+      floors = meets_floors g wired u lo hi w s.first j at ms b k calls best s.floor s.floors ground m m';
       scans = scans_relabel g _ _ _ _ (acts g u (record (w.at u) { up = Some b; mark = put (w.at u).mark b Branch }) (put (w.seen u) j (record (w.seen u j) { tree = ms })) ((b, Connect (w.at u).head.level) ∷ []) w) (now g u (record (w.at u) { up = Some b; mark = put (w.at u).mark b Branch }) w.at s.scans (rests_scan g u (record (w.at u) { up = Some b; mark = put (w.at u).mark b Branch }) (λ e. cc (e, rested))));
-      lives = meets_lives g wired u lo hi w s.first s.lives j at ms b k calls best m keyed m';
+      lives = meets_lives g wired u lo hi w s.first s.lives j at ms b k calls best m ground m';
     }
 
-  pub absorb_sound : IsKeyed g → (l : ℕ) (k : Key) → (w.seen u j).tree ≡ Connect l ∷ ms → l < (w.at u).head.level → (w.at u).head.name ≡ Some k → (w.at u).head.phase ≢ Sleeping →
+  pub absorb_sound : Ground g → (l : ℕ) (k : Key) → (w.seen u j).tree ≡ Connect l ∷ ms → l < (w.at u).head.level → (w.at u).head.name ≡ Some k → (w.at u).head.phase ≢ Sleeping →
       Sound g (absorb g u j (acts g u (record (w.at u) { head = record (w.at u).head { find_count = find_more (w.at u).head.phase (w.at u).head.find_count }; mark = put (w.at u).mark j Branch }) (put (w.seen u) j (record (w.seen u j) { tree = ms })) ((j, Initiate (w.at u).head.level k (w.at u).head.phase) ∷ []) w))
-  absorb_sound keyed l k waits less name awake = record {
-    first = absorbs_in g wired keyed u lo hi w s.first j at ms l k waits less name awake;
+  absorb_sound ground l k waits less name awake = record {
+    first = absorbs_in g ground u lo hi w s.first j at ms l k waits less name awake;
     floor = s.floor;
-    floors = absorbs_floors g wired keyed u lo hi w s.first j at ms l k waits less name awake s.floor s.floors;
+    floors = absorbs_floors g ground u lo hi w s.first j at ms l k waits less name awake s.floor s.floors;
     scans =
         scans_relabel g _ _ _ _ (acts g u (record (w.at u) { head = record (w.at u).head { find_count = find_more (w.at u).head.phase (w.at u).head.find_count }; mark = put (w.at u).mark j Branch }) (put (w.seen u) j (record (w.seen u j) { tree = ms })) ((j, Initiate (w.at u).head.level k (w.at u).head.phase) ∷ []) w)
         (now g u (record (w.at u) { head = record (w.at u).head { find_count = find_more (w.at u).head.phase (w.at u).head.find_count }; mark = put (w.at u).mark j Branch }) w.at s.scans
         (fewer g u (w.at u) (record (w.at u) { head = record (w.at u).head { find_count = find_more (w.at u).head.phase (w.at u).head.find_count }; mark = put (w.at u).mark j Branch }) refl refl refl (basic_still (w.at u).mark j) (s.scans u this)));
-    lives = absorbs_lives g wired keyed u lo hi w s.first s.lives j at ms l k waits less name awake;
+    lives = absorbs_lives g ground u lo hi w s.first s.lives j at ms l k waits less name awake;
   }
 
 -- a node wakes
-module _ (g : Network) (wired : IsWired g) (ordered : IsOrdered g) (u : ℕ) (lo : 1 ≤ u) (hi : u ≤ g.count) (w : Scene) (s : Sound g w) (sleeps : (w.at u).head.phase ≡ Sleeping) where
+module _ (g : Network) (ground : Ground g) (u : ℕ) (lo : 1 ≤ u) (hi : u ≤ g.count) (w : Scene) (s : Sound g w) (sleeps : (w.at u).head.phase ≡ Sleeping) where
   abbrev waker : Member
   waker = record (w.at u) { head = record (w.at u).head { level = 0; phase = Found; find_count = 0 }; mark = put (w.at u).mark 0 Branch; up = Some 0 }
 
@@ -183,22 +183,22 @@ module _ (g : Network) (wired : IsWired g) (ordered : IsOrdered g) (u : ℕ) (lo
   awoken = now g u waker w.at s.scans (rests_scan g u waker (λ e. let z : Found ≡ Find = e in cc))
 
   pub wake_out_sound : (at : At g u 0) → (w.at (far g u 0)).mark (far_port g u 0) ≢ Branch → Sound g (acts g u (record (w.at u) { head = record (w.at u).head { level = 0; phase = Found; find_count = 0 }; mark = put (w.at u).mark 0 Branch; up = Some 0 }) (w.seen u) ((0, Connect 0) ∷ []) w)
-  wake_out_sound at m = record { first = wakes_out g wired u lo hi w s.first at sleeps m; floor = put s.floor u (Some (Some (port_at g u 0).key)); floors = wakes_out_floors g wired ordered u lo hi w s.first at sleeps s.floor s.floors m; scans = awoken; lives = wakes_out_lives g wired u lo hi w s.first s.lives at sleeps m }
+  wake_out_sound at m = record { first = wakes_out g ground.wired u lo hi w s.first at sleeps m; floor = put s.floor u (Some (Some (port_at g u 0).key)); floors = wakes_out_floors g ground u lo hi w s.first at sleeps s.floor s.floors m; scans = awoken; lives = wakes_out_lives g ground.wired u lo hi w s.first s.lives at sleeps m }
 
-  pub wake_meeting_sound : (at : At g u 0) → IsKeyed g → (w.at (far g u 0)).mark (far_port g u 0) ≡ Branch → Sound g (meet g u 0 (acts g u (record (w.at u) { head = record (w.at u).head { level = 0; phase = Found; find_count = 0 }; mark = put (w.at u).mark 0 Branch; up = Some 0 }) (w.seen u) ((0, Connect 0) ∷ []) w))
-  wake_meeting_sound at keyed m = record {
-    first = wakes_meeting g wired u lo hi w s.first at sleeps keyed m;
+  pub wake_meeting_sound : (at : At g u 0) → (w.at (far g u 0)).mark (far_port g u 0) ≡ Branch → Sound g (meet g u 0 (acts g u (record (w.at u) { head = record (w.at u).head { level = 0; phase = Found; find_count = 0 }; mark = put (w.at u).mark 0 Branch; up = Some 0 }) (w.seen u) ((0, Connect 0) ∷ []) w))
+  wake_meeting_sound at m = record {
+    first = wakes_meeting g ground.wired u lo hi w s.first at sleeps ground m;
     floor = put s.floor u (Some (Some (port_at g u 0).key));
-    floors = wakes_meeting_floors g wired ordered u lo hi w s.first at sleeps s.floor s.floors keyed m;
+    floors = wakes_meeting_floors g ground u lo hi w s.first at sleeps s.floor s.floors m;
     scans = scans_relabel g _ _ _ _ (acts g u (record (w.at u) { head = record (w.at u).head { level = 0; phase = Found; find_count = 0 }; mark = put (w.at u).mark 0 Branch; up = Some 0 }) (w.seen u) ((0, Connect 0) ∷ []) w) awoken;
-    lives = wakes_meeting_lives g wired u lo hi w s.first s.lives at sleeps keyed m;
+    lives = wakes_meeting_lives g ground.wired u lo hi w s.first s.lives at sleeps ground m;
   }
 
   pub lone_sound : ◌≡◌ {A = ℕ} (length (g.ports u)) 0 → Sound g (acts g u (record (w.at u) { head = record (w.at u).head { phase = Found; halted = true } }) (w.seen u) [] w)
   lone_sound none = record {
-    first = lone.wakes_alone g wired u lo hi w s.first none sleeps;
+    first = lone.wakes_alone g ground.wired u lo hi w s.first none sleeps;
     floor = s.floor;
-    floors = lone_floors g wired u lo hi w s.first none sleeps s.floor s.floors;
+    floors = lone_floors g ground.wired u lo hi w s.first none sleeps s.floor s.floors;
     scans = now g u (record (w.at u) { head = record (w.at u).head { phase = Found; halted = true } }) w.at s.scans (rests_scan g u (record (w.at u) { head = record (w.at u).head { phase = Found; halted = true } }) (λ e. let z : Found ≡ Find = e in cc));
-    lives = lone_lives g wired u lo hi w s.lives none;
+    lives = lone_lives g ground.wired u lo hi w s.lives none;
   }

@@ -18,7 +18,7 @@ use Rattle.ghs_protocol.proofs.clauses.Nodes.{NodeFits}
 use Rattle.ghs_protocol.proofs.clauses.Fragments.{IsJoinedIn, Names, Root, Goes_out, Both_ways, OneRoot, Reach, At_root, By_step, RootsReached, JoinedLinksLead, HasMany}
 use Rattle.ghs_protocol.proofs.clauses.Rest.{Quiet, Resting, DebtsCounted, debt, has_call, has_report}
 use Rattle.ghs_protocol.proofs.clauses.Whole.{Invariant, NamesOf, LinkFits}
-use Rattle.ghs_protocol.proofs.clauses.Wiring.{IsKeyed}
+use Rattle.ghs_protocol.proofs.clauses.Wiring.{IsKeyed, Ground}
 use Rattle.ghs_protocol.proofs.clauses.Uniting.{absorb, joining}
 use Rattle.ghs_protocol.proofs.lemmas.Updates.{put_same, put_other, put_alike}
 use Rattle.ghs_protocol.proofs.acts.Ends.{here_seen, far_seen, other_seen}
@@ -59,13 +59,13 @@ some_key : (o : Option Key) → o ≢ None → (k : Key) × (o ≡ Some k)
 some_key None ne = absurd (ne refl)
 some_key (Some k) ne = (k, refl)
 
-module _ (g : Network) (wired : IsWired g) (keyed : IsKeyed g) (u : ℕ) (lo : 1 ≤ u) (hi : u ≤ g.count) (w : Scene) (holds : Invariant g w) (j : ℕ) (at : At g u j) (ms : List Message) (l : ℕ)
+module _ (g : Network) (ground : Ground g) (u : ℕ) (lo : 1 ≤ u) (hi : u ≤ g.count) (w : Scene) (holds : Invariant g w) (j : ℕ) (at : At g u j) (ms : List Message) (l : ℕ)
     (k : Key) (waits : (w.seen u j).tree ≡ Connect l ∷ ms) (lower : l < (w.at u).head.level) (name : (w.at u).head.name ≡ Some k) (awake : (w.at u).head.phase ≢ Sleeping) where
   is : InNetwork g u
   is = record { some = lo; node = hi }
 
   at' : At g (far g u j) (far_port g u j)
-  at' = wired.there u j at
+  at' = ground.wired.there u j at
 
   is' : InNetwork g (far g u j)
   is' = record { some = at'.some; node = at'.node }
@@ -74,10 +74,10 @@ module _ (g : Network) (wired : IsWired g) (keyed : IsKeyed g) (u : ℕ) (lo : 1
   fits = holds.nodes u is
 
   link : LinkFits (NamesOf g w) (end g w u j) (far_end g w u j)
-  link = at_near g wired w (LinkFits (NamesOf g w)) holds.links u j at
+  link = at_near g ground.wired w (LinkFits (NamesOf g w)) holds.links u j at
 
   link' : LinkFits (NamesOf g w) (far_end g w u j) (end g w u j)
-  link' = at_far g wired w (LinkFits (NamesOf g w)) holds.links u j at
+  link' = at_far g ground.wired w (LinkFits (NamesOf g w)) holds.links u j at
 
   inside : Joins (tree_end (end g w u j)) (tree_end (far_end g w u j)) → IsJoinedIn g (forest w) u j
   inside h = record { here = ap is_branch h.here; there = ap is_branch h.there }
@@ -98,7 +98,7 @@ module _ (g : Network) (wired : IsWired g) (keyed : IsKeyed g) (u : ℕ) (lo : 1
   way_not e = let z = fits.points awake (omega (arith, at.port)) in came.mark (subst (λ y. (w.at u).mark y ≡ Branch) (same_Some z.port j (sym z.up ∙ e)) z.mark)
 
   back_mark : (w.at (far g (far g u j) (far_port g u j))).mark (far_port g (far g u j) (far_port g u j)) ≢ Branch
-  back_mark e = came.mark (subst₂ (λ p q. (w.at p).mark q ≡ Branch) (wired.back u j at) (wired.back_port u j at) e)
+  back_mark e = came.mark (subst₂ (λ p q. (w.at p).mark q ≡ Branch) (ground.wired.back u j at) (ground.wired.back_port u j at) e)
 
   root_far : Root g (forest w) (far g u j) (far_port g u j)
   root_far = Goes_out (ap is_branch came.mark') (not_branch _ back_mark)
@@ -142,17 +142,17 @@ module _ (g : Network) (wired : IsWired g) (keyed : IsKeyed g) (u : ℕ) (lo : 1
   }
 
   -- the links but this one
-  near_is : (i : ℕ) → i ≢ j → near' g wired u lo hi takes (put (w.seen u) j rest) sends w i ≡ record { port = i; key = (port_at g u i).key; mark = (w.at u).mark i; is = takes; seen = w.seen u i }
+  near_is : (i : ℕ) → i ≢ j → near' g ground.wired u lo hi takes (put (w.seen u) j rest) sends w i ≡ record { port = i; key = (port_at g u i).key; mark = (w.at u).mark i; is = takes; seen = w.seen u i }
   near_is i ne = λ z. record { port = i; key = (port_at g u i).key; mark = put_other (w.at u).mark j i Branch ne z; is = takes; seen = put_other (w.seen u) j i rest ne z }
 
-  far_is : (i : ℕ) → i ≢ j → far' g wired u lo hi takes (put (w.seen u) j rest) sends w i ≡ far_end g w u i
+  far_is : (i : ℕ) → i ≢ j → far' g ground.wired u lo hi takes (put (w.seen u) j rest) sends w i ≡ far_end g w u i
   far_is i ne = λ z. record { port = far_port g u i; key = (port_at g u i).key; mark = (w.at (far g u i)).mark (far_port g u i); is = w.at (far g u i); seen = adds (w.seen (far g u i) (far_port g u i)) ((sends_one j (Initiate (w.at u).head.level k (w.at u).head.phase)).none i ne z) }
 
-  near : (i : ℕ) → At g u i → i ≢ j → LinkFits (NamesOf g w) (near' g wired u lo hi takes (put (w.seen u) j rest) sends w i) (far' g wired u lo hi takes (put (w.seen u) j rest) sends w i)
-  near i a ne = let h = at_near g wired w (LinkFits (NamesOf g w)) holds.links u i a in subst₂ (LinkFits (NamesOf g w)) (sym (near_is i ne)) (sym (far_is i ne)) (record { tree = h.tree; search = h.search; tests = h.tests })
+  near : (i : ℕ) → At g u i → i ≢ j → LinkFits (NamesOf g w) (near' g ground.wired u lo hi takes (put (w.seen u) j rest) sends w i) (far' g ground.wired u lo hi takes (put (w.seen u) j rest) sends w i)
+  near i a ne = let h = at_near g ground.wired w (LinkFits (NamesOf g w)) holds.links u i a in subst₂ (LinkFits (NamesOf g w)) (sym (near_is i ne)) (sym (far_is i ne)) (record { tree = h.tree; search = h.search; tests = h.tests })
 
-  away : (i : ℕ) → At g u i → i ≢ j → LinkFits (NamesOf g w) (far' g wired u lo hi takes (put (w.seen u) j rest) sends w i) (near' g wired u lo hi takes (put (w.seen u) j rest) sends w i)
-  away i a ne = let h = at_far g wired w (LinkFits (NamesOf g w)) holds.links u i a in subst₂ (LinkFits (NamesOf g w)) (sym (far_is i ne)) (sym (near_is i ne)) (record { tree = h.tree; search = h.search; tests = h.tests })
+  away : (i : ℕ) → At g u i → i ≢ j → LinkFits (NamesOf g w) (far' g ground.wired u lo hi takes (put (w.seen u) j rest) sends w i) (near' g ground.wired u lo hi takes (put (w.seen u) j rest) sends w i)
+  away i a ne = let h = at_far g ground.wired w (LinkFits (NamesOf g w)) holds.links u i a in subst₂ (LinkFits (NamesOf g w)) (sym (far_is i ne)) (sym (near_is i ne)) (record { tree = h.tree; search = h.search; tests = h.tests })
 
   -- find_count
   abbrev here_now : End
@@ -175,19 +175,19 @@ module _ (g : Network) (wired : IsWired g) (keyed : IsKeyed g) (u : ℕ) (lo : 1
 
   counted : DebtsCounted g grown
   counted =
-      sums_one g wired u lo hi takes j at rest (Initiate (w.at u).head.level k (w.at u).head.phase ∷ []) sends (sends_one j (Initiate (w.at u).head.level k (w.at u).head.phase)) w
+      sums_one g ground.wired u lo hi takes j at rest (Initiate (w.at u).head.level k (w.at u).head.phase ∷ []) sends (sends_one j (Initiate (w.at u).head.level k (w.at u).head.phase)) w
       holds.counted (count_more (w.at u).head.phase (w.at u).head.find_count (debt (end g w u j) (far_end g w u j)) (debt here_now there_now) awake no_debt a_debt still_none) (λ i ne. refl)
       (debt_up there_now here_now came.under.up ∙ sym (debt_up (far_end g w u j) (end g w u j) came.under.up)) (λ i ne. refl)
 
   -- members, ways and queues
   fragment_is : (t : ℕ) → (grown.at t).fragment ≡ (w.at t).fragment
-  fragment_is t = fragment_was g wired u lo hi j at w holds takes (put (w.seen u) j rest) sends more t
+  fragment_is t = fragment_was g ground.wired u lo hi j at w holds takes (put (w.seen u) j rest) sends more t
 
   coming_is : (t : ℕ) → (grown.at t).coming ≡ (w.at t).coming
-  coming_is t = coming_was g wired u lo hi j at w holds takes (put (w.seen u) j rest) sends more t
+  coming_is t = coming_was g ground.wired u lo hi j at w holds takes (put (w.seen u) j rest) sends more t
 
   name_is : (t : ℕ) → (grown.at t).coming_name ≡ (w.at t).coming_name
-  name_is t = name_was g wired u lo hi j at w holds takes (put (w.seen u) j rest) sends more t
+  name_is t = name_was g ground.wired u lo hi j at w holds takes (put (w.seen u) j rest) sends more t
 
   up_is : (t : ℕ) → (grown.at t).up ≡ (w.at t).up
   up_is t = put_alike (λ (m : Member). m.up) w.at u takes refl t
@@ -196,20 +196,20 @@ module _ (g : Network) (wired : IsWired g) (keyed : IsKeyed g) (u : ℕ) (lo : 1
   phase_is t = put_alike (λ (m : Member). m.head.phase) w.at u takes refl t
 
   mark_off : (t p : ℕ) → ((t ≡ u) × (p ≡ j) → ⊥) → (grown.at t).mark p ≡ (w.at t).mark p
-  mark_off t p off = mark_else g wired u lo hi j at w holds takes (put (w.seen u) j rest) sends more t p off
+  mark_off t p off = mark_else g ground.wired u lo hi j at w holds takes (put (w.seen u) j rest) sends more t p off
 
   joined_old : (t p : ℕ) → Off g u j t p → IsJoinedIn g (forest grown) t p → IsJoinedIn g (forest w) t p
-  joined_old t p off l' = joined_was g wired u lo hi j at w holds takes (put (w.seen u) j rest) sends more t p off l'
+  joined_old t p off l' = joined_was g ground.wired u lo hi j at w holds takes (put (w.seen u) j rest) sends more t p off l'
 
   joined_new : (t p : ℕ) → IsJoinedIn g (forest w) t p → IsJoinedIn g (forest grown) t p
-  joined_new t p l' = joined_grows g wired u lo hi j at w holds takes (put (w.seen u) j rest) sends more t p l'
+  joined_new t p l' = joined_grows g ground.wired u lo hi j at w holds takes (put (w.seen u) j rest) sends more t p l'
 
   bridge : IsJoinedIn g (forest grown) u j
-  bridge = bridged g wired u lo hi j at w holds takes (put (w.seen u) j rest) sends more came.mark'
+  bridge = bridged g ground.wired u lo hi j at w holds takes (put (w.seen u) j rest) sends more came.mark'
 
   -- the far end of this link, from the other side
   across : (t p : ℕ) → At g t p → far g t p ≡ u → far_port g t p ≡ j → (far g u j ≡ t) × (far_port g u j ≡ p)
-  across t p a e h = (ap₂ (far g) (sym e) (sym h) ∙ wired.back t p a, ap₂ (far_port g) (sym e) (sym h) ∙ wired.back_port t p a)
+  across t p a e h = (ap₂ (far g) (sym e) (sym h) ∙ ground.wired.back t p a, ap₂ (far_port g) (sym e) (sym h) ∙ ground.wired.back_port t p a)
 
   joined_lead : JoinedLinksLead g (forest grown)
   joined_lead t p a l' = go (where_is g u j t p)
@@ -255,24 +255,24 @@ module _ (g : Network) (wired : IsWired g) (keyed : IsKeyed g) (u : ℕ) (lo : 1
 
   -- what waits off this link
   seen_off : (t p : ℕ) → At g t p → Off g u j t p → grown.seen t p ≡ w.seen t p
-  seen_off t p a off = ⊎_elim mine (λ ne. ⊎_elim theirs (λ ne'. other_seen g wired u lo hi takes (put (w.seen u) j rest) sends w t p a ne ne') (cases_eq (far g t p) u)) (cases_eq t u)
+  seen_off t p a off = ⊎_elim mine (λ ne. ⊎_elim theirs (λ ne'. other_seen g ground.wired u lo hi takes (put (w.seen u) j rest) sends w t p a ne ne') (cases_eq (far g t p) u)) (cases_eq t u)
     where
       mine : t ≡ u → grown.seen t p ≡ w.seen t p
-      mine e = subst (λ y. grown.seen y p ≡ w.seen y p) (sym e) (here_seen g wired u lo hi takes (put (w.seen u) j rest) sends w p ∙ put_other (w.seen u) j p rest (λ h. off.here (e, h)))
+      mine e = subst (λ y. grown.seen y p ≡ w.seen y p) (sym e) (here_seen g ground.wired u lo hi takes (put (w.seen u) j rest) sends w p ∙ put_other (w.seen u) j p rest (λ h. off.here (e, h)))
 
       theirs : far g t p ≡ u → grown.seen t p ≡ w.seen t p
       theirs e =
           let i = far_port g t p in
-          let a' : At g u i = subst (λ y. At g y i) e (wired.there t p a) in
-          let z : far g u i ≡ t = ap (λ y. far g y i) (sym e) ∙ wired.back t p a in
-          let z' : far_port g u i ≡ p = ap (λ y. far_port g y i) (sym e) ∙ wired.back_port t p a in
-          subst₂ (λ x y. grown.seen x y ≡ w.seen x y) z z' (far_seen g wired u lo hi takes (put (w.seen u) j rest) sends w i a' ∙ ap (adds (w.seen (far g u i) (far_port g u i))) ((sends_one j (Initiate (w.at u).head.level k (w.at u).head.phase)).none i (λ h. off.there (e, h))))
+          let a' : At g u i = subst (λ y. At g y i) e (ground.wired.there t p a) in
+          let z : far g u i ≡ t = ap (λ y. far g y i) (sym e) ∙ ground.wired.back t p a in
+          let z' : far_port g u i ≡ p = ap (λ y. far_port g y i) (sym e) ∙ ground.wired.back_port t p a in
+          subst₂ (λ x y. grown.seen x y ≡ w.seen x y) z z' (far_seen g ground.wired u lo hi takes (put (w.seen u) j rest) sends w i a' ∙ ap (adds (w.seen (far g u i) (far_port g u i))) ((sends_one j (Initiate (w.at u).head.level k (w.at u).head.phase)).none i (λ h. off.there (e, h))))
 
   seen_here : grown.seen u j ≡ rest
-  seen_here = here_seen g wired u lo hi takes (put (w.seen u) j rest) sends w j ∙ put_same (w.seen u) j rest
+  seen_here = here_seen g ground.wired u lo hi takes (put (w.seen u) j rest) sends w j ∙ put_same (w.seen u) j rest
 
   seen_there : grown.seen (far g u j) (far_port g u j) ≡ there_now.seen
-  seen_there = far_seen g wired u lo hi takes (put (w.seen u) j rest) sends w j at ∙ ap (adds (w.seen (far g u j) (far_port g u j))) ((sends_one j (Initiate (w.at u).head.level k (w.at u).head.phase)).only)
+  seen_there = far_seen g ground.wired u lo hi takes (put (w.seen u) j rest) sends w j at ∙ ap (adds (w.seen (far g u j) (far_port g u j))) ((sends_one j (Initiate (w.at u).head.level k (w.at u).head.phase)).only)
 
   -- a root off this link is an old root of another fragment
   pub record Lies (t p : ℕ) : Type 0 where
@@ -281,7 +281,7 @@ module _ (g : Network) (wired : IsWired g) (keyed : IsKeyed g) (u : ℕ) (lo : 1
     pub other : (w.at t).fragment ≢ (w.at (far g u j)).fragment
 
   lies_off : (t p : ℕ) → At g t p → Off g u j t p → Root g (forest grown) t p → Lies t p
-  lies_off t p a off r = record { off = off; root = old r; other = λ same. ⊎_elim (λ z. off.there (ap₂ (far g) (sym z.0) (sym z.1) ∙ wired.back u j at, ap₂ (far_port g) (sym z.0) (sym z.1) ∙ wired.back_port u j at)) (λ z. off.here (sym z.0 ∙ wired.back u j at, sym z.1 ∙ wired.back_port u j at)) (holds.trees.one_root (far g u j) (far_port g u j) t p at' a root_far (old r) (sym same)) }
+  lies_off t p a off r = record { off = off; root = old r; other = λ same. ⊎_elim (λ z. off.there (ap₂ (far g) (sym z.0) (sym z.1) ∙ ground.wired.back u j at, ap₂ (far_port g) (sym z.0) (sym z.1) ∙ ground.wired.back_port u j at)) (λ z. off.here (sym z.0 ∙ ground.wired.back u j at, sym z.1 ∙ ground.wired.back_port u j at)) (holds.trees.one_root (far g u j) (far_port g u j) t p at' a root_far (old r) (sym same)) }
     where
       old : Root g (forest grown) t p → Root g (forest w) t p
       old (Goes_out x y) = Goes_out (sym (ap is_branch (mark_off t p off.here)) ∙ x) (sym (ap is_branch (mark_off _ _ off.there)) ∙ y)
@@ -327,17 +327,17 @@ module _ (g : Network) (wired : IsWired g) (keyed : IsKeyed g) (u : ℕ) (lo : 1
   joinable = record {
     at = at;
     bridge = bridge;
-    nodes = nodes_grown g wired u lo hi j at w holds takes (put (w.seen u) j rest) sends more node;
-    links = links_grown g wired u lo hi j at w holds takes (put (w.seen u) j rest) sends more near away;
-    by_fragment = by_fragment_grown g wired u lo hi j at w holds takes (put (w.seen u) j rest) sends more;
-    names_within = names_within_grown g wired u lo hi j at w holds takes (put (w.seen u) j rest) sends more;
-    sizes = sizes_grown g wired u lo hi j at w holds takes (put (w.seen u) j rest) sends more;
-    within = within_grown g wired u lo hi j at w holds takes (put (w.seen u) j rest) sends more;
-    connected = connected_grown g wired u lo hi j at w holds takes (put (w.seen u) j rest) sends more;
+    nodes = nodes_grown g ground.wired u lo hi j at w holds takes (put (w.seen u) j rest) sends more node;
+    links = links_grown g ground.wired u lo hi j at w holds takes (put (w.seen u) j rest) sends more near away;
+    by_fragment = by_fragment_grown g ground.wired u lo hi j at w holds takes (put (w.seen u) j rest) sends more;
+    names_within = names_within_grown g ground.wired u lo hi j at w holds takes (put (w.seen u) j rest) sends more;
+    sizes = sizes_grown g ground.wired u lo hi j at w holds takes (put (w.seen u) j rest) sends more;
+    within = within_grown g ground.wired u lo hi j at w holds takes (put (w.seen u) j rest) sends more;
+    connected = connected_grown g ground.wired u lo hi j at w holds takes (put (w.seen u) j rest) sends more;
     joined_lead = joined_lead;
     reached = reached;
-    alone = alone_grown g wired u lo hi j at w holds takes (put (w.seen u) j rest) sends more awake;
-    named = named_grown g wired u lo hi j at w holds takes (put (w.seen u) j rest) sends more refl;
+    alone = alone_grown g ground.wired u lo hi j at w holds takes (put (w.seen u) j rest) sends more awake;
+    named = named_grown g ground.wired u lo hi j at w holds takes (put (w.seen u) j rest) sends more refl;
     counted = counted;
     awake = λ e. awake (sym (phase_is u) ∙ e);
     which = λ x e. inr (eqb-true x _ e);
@@ -349,8 +349,8 @@ module _ (g : Network) (wired : IsWired g) (keyed : IsKeyed g) (u : ℕ) (lo : 1
     unrooted = λ t p a off e r. (lies_off t p a off r).other (in_far t e);
     name = named.0;
     is_name = name_is u ∙ named.1;
-    name_in = subst (λ x. Names g (forest grown) x named.0) (sym (fragment_is u)) (names_grow g wired u lo hi j at w holds takes (put (w.seen u) j rest) sends more _ _ (name_in named.0 named.1));
-    other = λ t p a off e l' same. came.under.apart (one_fragment g (forest w) (w.at u).fragment (w.at t).fragment (port_at g t p).key keyed holds.trees.joined_within (name_in _ (sym (name_is u) ∙ same)) (record { node = t; port = p; at = a; joined = joined_old t p off l'; fragment = refl; key = refl }) ∙ in_far t e);
+    name_in = subst (λ x. Names g (forest grown) x named.0) (sym (fragment_is u)) (names_grow g ground.wired u lo hi j at w holds takes (put (w.seen u) j rest) sends more _ _ (name_in named.0 named.1));
+    other = λ t p a off e l' same. came.under.apart (one_fragment g (forest w) (w.at u).fragment (w.at t).fragment (port_at g t p).key ground.keyed holds.trees.joined_within (name_in _ (sym (name_is u) ∙ same)) (record { node = t; port = p; at = a; joined = joined_old t p off l'; fragment = refl; key = refl }) ∙ in_far t e);
   }
 
   abbrev pub joint : Scene
@@ -385,7 +385,7 @@ module _ (g : Network) (wired : IsWired g) (keyed : IsKeyed g) (u : ℕ) (lo : 1
 
   -- roots
   lies_joint : (t p : ℕ) → At g t p → Root g (forest joint) t p → Lies t p
-  lies_joint t p a r = lies t p a (root_from g wired grown u j lifts (grown.at u).coming (grown.at u).coming_name joinable t p r)
+  lies_joint t p a r = lies t p a (root_from g ground.wired grown u j lifts (grown.at u).coming (grown.at u).coming_name joinable t p r)
 
   one_root : OneRoot g (forest joint)
   one_root t p s q a b r r' same = let x = lies_joint t p a r in let y = lies_joint s q b r' in holds.trees.one_root t p s q a b x.root y.root (sym (fragment_else t x.other) ∙ same ∙ fragment_else s y.other)
@@ -428,7 +428,7 @@ module _ (g : Network) (wired : IsWired g) (keyed : IsKeyed g) (u : ℕ) (lo : 1
   member_here = unlifted u came.under.apart ∙ put_same w.at u takes
 
   member_there : joint.at (far g u j) ≡ raised (w.at u).fragment (w.at u).coming (w.at u).coming_name (w.at (far g u j))
-  member_there = lifted (far g u j) refl ∙ (λ i. raised (fragment_is u i) (coming_is u i) (name_is u i) (put_other w.at u (far g u j) takes (wired.apart u j at) i))
+  member_there = lifted (far g u j) refl ∙ (λ i. raised (fragment_is u i) (coming_is u i) (name_is u i) (put_other w.at u (far g u j) takes (ground.wired.apart u j at) i))
 
   abbrev parent : End
   parent = record { port = j; key = (port_at g u j).key; mark = Branch; is = takes; seen = rest }
@@ -440,15 +440,15 @@ module _ (g : Network) (wired : IsWired g) (keyed : IsKeyed g) (u : ℕ) (lo : 1
   end_here = λ i. record { port = j; key = (port_at g u j).key; mark = (ap (λ (m : Member). m.mark j) member_here ∙ put_same (w.at u).mark j Branch) i; is = member_here i; seen = seen_here i }
 
   end_there : end g joint (far g u j) (far_port g u j) ≡ child
-  end_there = λ i. record { port = far_port g u j; key = wired.same_key u j at i; mark = (member_there i).mark (far_port g u j); is = member_there i; seen = seen_there i }
+  end_there = λ i. record { port = far_port g u j; key = ground.wired.same_key u j at i; mark = (member_there i).mark (far_port g u j); is = member_there i; seen = seen_there i }
 
   names : NamesOf g joint (w.at u).fragment k
   names =
       subst (λ x. NamesOf g joint x k) (fragment_is u)
-      (names_here g wired grown u j lifts (grown.at u).coming (grown.at u).coming_name joinable k (subst (λ x. Names g (forest grown) x k) (sym (fragment_is u)) (names_grow g wired u lo hi j at w holds takes (put (w.seen u) j rest) sends more _ k (holds.named u k is name))))
+      (names_here g ground.wired grown u j lifts (grown.at u).coming (grown.at u).coming_name joinable k (subst (λ x. Names g (forest grown) x k) (sym (fragment_is u)) (names_grow g ground.wired u lo hi j at w holds takes (put (w.seen u) j rest) sends more _ k (holds.named u k is name))))
 
   unnamed : (w.at u).coming_name ≢ Some (port_at g u j).key
-  unnamed e = let n = name_in _ e in ⊎_elim (λ z. came.mark (branch_mark _ (subst₂ (λ s q. is_branch ((w.at s).mark q) ≡ true) z.0 z.1 n.joined.here))) (λ z. came.mark (branch_mark _ (subst₂ (λ s q. is_branch ((w.at s).mark q) ≡ true) z.0 z.1 n.joined.there))) (keyed n.node n.port u j n.at at n.key)
+  unnamed e = let n = name_in _ e in ⊎_elim (λ z. came.mark (branch_mark _ (subst₂ (λ s q. is_branch ((w.at s).mark q) ≡ true) z.0 z.1 n.joined.here))) (λ z. came.mark (branch_mark _ (subst₂ (λ s q. is_branch ((w.at s).mark q) ≡ true) z.0 z.1 n.joined.there))) (ground.keyed n.node n.port u j n.at at n.key)
 
   idle : (w.at (far g u j)).head.probe ≡ None
   idle = ((holds.nodes (far g u j) is').idle (λ e. cc (e, found_far))).0
@@ -488,11 +488,11 @@ module _ (g : Network) (wired : IsWired g) (keyed : IsKeyed g) (u : ℕ) (lo : 1
   pub absorbs : Invariant g (absorb g u j grown)
   absorbs =
       subst (Invariant g) is_absorbed
-      (unites g wired grown u j lifts (grown.at u).coming (grown.at u).coming_name joinable many one_root rests (subst₂ (LinkFits (NamesOf g joint)) (sym end_here) (sym end_there) down) (subst₂ (LinkFits (NamesOf g joint)) (sym end_there) (sym end_here) up))
+      (unites g ground.wired grown u j lifts (grown.at u).coming (grown.at u).coming_name joinable many one_root rests (subst₂ (LinkFits (NamesOf g joint)) (sym end_here) (sym end_there) down) (subst₂ (LinkFits (NamesOf g joint)) (sym end_there) (sym end_here) up))
 
 -- a step: a fragment of a lower level, whose Connect has come in, is absorbed
 pub absorbs_in :
-    (g : Network) (wired : IsWired g) (keyed : IsKeyed g) (u : ℕ) (lo : 1 ≤ u) (hi : u ≤ g.count) (w : Scene) (holds : Invariant g w) (j : ℕ) (at : At g u j) (ms : List Message) (l : ℕ) (k : Key) →
+    (g : Network) (ground : Ground g) (u : ℕ) (lo : 1 ≤ u) (hi : u ≤ g.count) (w : Scene) (holds : Invariant g w) (j : ℕ) (at : At g u j) (ms : List Message) (l : ℕ) (k : Key) →
     (w.seen u j).tree ≡ Connect l ∷ ms → l < (w.at u).head.level → (w.at u).head.name ≡ Some k → (w.at u).head.phase ≢ Sleeping →
     Invariant g (absorb g u j (acts g u (record (w.at u) { head = record (w.at u).head { find_count = find_more (w.at u).head.phase (w.at u).head.find_count }; mark = put (w.at u).mark j Branch }) (put (w.seen u) j (record (w.seen u j) { tree = ms })) ((j, Initiate (w.at u).head.level k (w.at u).head.phase) ∷ []) w))
-absorbs_in g wired keyed u lo hi w holds j at ms l k waits lower name awake = absorbs g wired keyed u lo hi w holds j at ms l k waits lower name awake
+absorbs_in g ground u lo hi w holds j at ms l k waits lower name awake = absorbs g ground u lo hi w holds j at ms l k waits lower name awake

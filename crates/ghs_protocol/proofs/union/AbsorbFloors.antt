@@ -15,7 +15,7 @@ use Rattle.ghs_protocol.specs.Net.{put}
 use Rattle.ghs_protocol.proofs.clauses.Scene.{Seen, adds, Member, Scene, tree_end, end, acts, far_end}
 use Rattle.ghs_protocol.proofs.clauses.Links.{Joins, Mutual}
 use Rattle.ghs_protocol.proofs.clauses.Rest.{has_call}
-use Rattle.ghs_protocol.proofs.clauses.Wiring.{IsKeyed}
+use Rattle.ghs_protocol.proofs.clauses.Wiring.{IsKeyed, Ground}
 use Rattle.ghs_protocol.proofs.clauses.Uniting.{absorb}
 use Rattle.ghs_protocol.proofs.clauses.Whole.{Invariant}
 use Rattle.ghs_protocol.proofs.clauses.Floors.{Floor, lower, owing, FloorsAt, IsTreeLink, Floors}
@@ -43,7 +43,7 @@ tree_link_back g wired v p at h l =
     (leads_back g wired (λ a b at' s. subst (λ (k : Key). key_lt k (port_at g (far g v p) (far_port g v p)).key ≡ true) (sym (wired.same_key a b at')) s)
     (leads_map (λ a b at' s. subst (λ (k : Key). key_lt (port_at g a b).key k ≡ true) (sym (wired.same_key v p at)) s) l)))
 
-module _ (g : Network) (wired : IsWired g) (keyed : IsKeyed g) (u : ℕ) (lo : 1 ≤ u) (hi : u ≤ g.count) (w : Scene) (holds : Invariant g w) (j : ℕ) (at : At g u j) (ms : List Message) (l : ℕ) (k : Key) (waits : (w.seen u j).tree ≡ Connect l ∷ ms) (less : l < (w.at u).head.level) (name : (w.at u).head.name ≡ Some k) (awake : (w.at u).head.phase ≢ Sleeping)
+module _ (g : Network) (ground : Ground g) (u : ℕ) (lo : 1 ≤ u) (hi : u ≤ g.count) (w : Scene) (holds : Invariant g w) (j : ℕ) (at : At g u j) (ms : List Message) (l : ℕ) (k : Key) (waits : (w.seen u j).tree ≡ Connect l ∷ ms) (less : l < (w.at u).head.level) (name : (w.at u).head.name ≡ Some k) (awake : (w.at u).head.phase ≢ Sleeping)
     (floor : ℕ → Floor) (floors : Floors g w floor) where
   abbrev x : Member
   x = record (w.at u) { head = record (w.at u).head { find_count = find_more (w.at u).head.phase (w.at u).head.find_count }; mark = put (w.at u).mark j Branch }
@@ -61,32 +61,32 @@ module _ (g : Network) (wired : IsWired g) (keyed : IsKeyed g) (u : ℕ) (lo : 1
   joint = absorb g u j grown
 
   its : Came (tree_end (end g w u j)) (tree_end (far_end g w u j)) l ms
-  its = came g wired keyed u lo hi w holds j at ms l k waits less name awake
+  its = came g ground u lo hi w holds j at ms l k waits less name awake
 
   lower_far : (w.at (far g u j)).head.level < (w.at u).head.level
-  lower_far = below g wired keyed u lo hi w holds j at ms l k waits less name awake
+  lower_far = below g ground u lo hi w holds j at ms l k waits less name awake
 
   no_way : (w.at u).up ≢ Some j
-  no_way = way_not g wired keyed u lo hi w holds j at ms l k waits less name awake
+  no_way = way_not g ground u lo hi w holds j at ms l k waits less name awake
 
   near_other : (i : ℕ) → At g u i → i ≢ j → FloorsAt (record { port = i; key = (port_at g u i).key; mark = put (w.at u).mark j Branch i; is = x; seen = w.seen u i }) (far_end g w u i) (floor u) (floor (far g u i))
-  near_other i at' ne = subst (λ m. FloorsAt (record { port = i; key = (port_at g u i).key; mark = m; is = x; seen = w.seen u i }) (far_end g w u i) (floor u) (floor (far g u i))) (sym (put_other (w.at u).mark j i Branch ne)) (near_fits g wired w holds floor floors u i at')
+  near_other i at' ne = subst (λ m. FloorsAt (record { port = i; key = (port_at g u i).key; mark = m; is = x; seen = w.seen u i }) (far_end g w u i) (floor u) (floor (far g u i))) (sym (put_other (w.at u).mark j i Branch ne)) (near_fits g ground.wired w holds floor floors u i at')
 
   far_other : (i : ℕ) → At g u i → i ≢ j → FloorsAt (far_end g w u i) (record { port = i; key = (port_at g u i).key; mark = put (w.at u).mark j Branch i; is = x; seen = w.seen u i }) (floor (far g u i)) (floor u)
-  far_other i at' ne = subst (λ m. FloorsAt (far_end g w u i) (record { port = i; key = (port_at g u i).key; mark = m; is = x; seen = w.seen u i }) (floor (far g u i)) (floor u)) (sym (put_other (w.at u).mark j i Branch ne)) (far_fits g wired w holds floor floors u i at')
+  far_other i at' ne = subst (λ m. FloorsAt (far_end g w u i) (record { port = i; key = (port_at g u i).key; mark = m; is = x; seen = w.seen u i }) (floor (far g u i)) (floor u)) (sym (put_other (w.at u).mark j i Branch ne)) (far_fits g ground.wired w holds floor floors u i at')
 
   off : FloorsOff g grown floor u j
   off =
       subst (λ f. FloorsOff g grown f u j) (put_again floor u) (record {
-        nodes = nodes_after g wired u lo hi x (put (w.seen u) j q) ((j, call) ∷ []) w floor floors (floor u) (let z = floors.nodes u (record { some = lo; node = hi }) in record { asleep = z.asleep; search = z.search });
+        nodes = nodes_after g ground.wired u lo hi x (put (w.seen u) j q) ((j, call) ∷ []) w floor floors (floor u) (let z = floors.nodes u (record { some = lo; node = hi }) in record { asleep = z.asleep; search = z.search });
         links =
-            links_after_off g wired u lo hi x (put (w.seen u) j q) ((j, call) ∷ []) w floor floors (floor u) j
-            (by_port_at g wired u lo hi x j at q (call ∷ []) ((j, call) ∷ []) (sends_one j call) w (λ i e f. i ≢ j → FloorsAt e f (floor u) (floor (far g u i))) (λ ne. absurd (ne refl)) (λ i at' ne no. near_other i at' ne))
-            (by_port_at g wired u lo hi x j at q (call ∷ []) ((j, call) ∷ []) (sends_one j call) w (λ i e f. i ≢ j → FloorsAt f e (floor (far g u i)) (floor u)) (λ ne. absurd (ne refl)) (λ i at' ne no. far_other i at' ne));
+            links_after_off g ground.wired u lo hi x (put (w.seen u) j q) ((j, call) ∷ []) w floor floors (floor u) j
+            (by_port_at g ground.wired u lo hi x j at q (call ∷ []) ((j, call) ∷ []) (sends_one j call) w (λ i e f. i ≢ j → FloorsAt e f (floor u) (floor (far g u i))) (λ ne. absurd (ne refl)) (λ i at' ne no. near_other i at' ne))
+            (by_port_at g ground.wired u lo hi x j at q (call ∷ []) ((j, call) ∷ []) (sends_one j call) w (λ i e f. i ≢ j → FloorsAt f e (floor (far g u i)) (floor u)) (λ ne. absurd (ne refl)) (λ i at' ne no. far_other i at' ne));
         in_tree =
-            in_tree_after g wired u lo hi x (put (w.seen u) j q) ((j, call) ∷ []) w floor floors (floor u)
-            (λ p at' m. ⊎_elim (λ e. subst (IsTreeLink g u) (sym e) (tree_link_back g wired u j at (floors.in_tree _ _ (wired.there u j at) its.mark'))) (λ ne. floors.in_tree u p at' (sym (put_other (w.at u).mark j p Branch ne) ∙ m)) (cases_eq p j));
-        halted = halted_after g wired u lo hi x (put (w.seen u) j q) ((j, call) ∷ []) w floor floors (floor u) refl refl;
+            in_tree_after g ground.wired u lo hi x (put (w.seen u) j q) ((j, call) ∷ []) w floor floors (floor u)
+            (λ p at' m. ⊎_elim (λ e. subst (IsTreeLink g u) (sym e) (tree_link_back g ground.wired u j at (floors.in_tree _ _ (ground.wired.there u j at) its.mark'))) (λ ne. floors.in_tree u p at' (sym (put_other (w.at u).mark j p Branch ne) ∙ m)) (cases_eq p j));
+        halted = halted_after g ground.wired u lo hi x (put (w.seen u) j q) ((j, call) ∷ []) w floor floors (floor u) refl refl;
       })
 
   -- what the act leaves
@@ -94,7 +94,7 @@ module _ (g : Network) (wired : IsWired g) (keyed : IsKeyed g) (u : ℕ) (lo : 1
   here_is = put_same w.at u x
 
   far_is : grown.at (far g u j) ≡ w.at (far g u j)
-  far_is = put_other w.at u (far g u j) x (wired.apart u j at)
+  far_is = put_other w.at u (far g u j) x (ground.wired.apart u j at)
 
   fragment_is : (t : ℕ) → (grown.at t).fragment ≡ (w.at t).fragment
   fragment_is t = put_alike (λ (m : Member). m.fragment) w.at u x refl t
@@ -126,7 +126,7 @@ module _ (g : Network) (wired : IsWired g) (keyed : IsKeyed g) (u : ℕ) (lo : 1
       (λ s. let z = holds.trees.by_fragment t u (sym (fragment_is t) ∙ s ∙ fragment_is u) in inr (coming_is t ∙ z.0 ∙ sym (coming_is u), name_is t ∙ z.1 ∙ sym (name_is u))) i
 
   after : Invariant g joint
-  after = absorbs_in g wired keyed u lo hi w holds j at ms l k waits less name awake
+  after = absorbs_in g ground u lo hi w holds j at ms l k waits less name awake
 
   abbrev far_part : ℕ
   far_part = (grown.at (far g u j)).fragment
@@ -137,7 +137,7 @@ module _ (g : Network) (wired : IsWired g) (keyed : IsKeyed g) (u : ℕ) (lo : 1
   -- a ChangeRoot goes to a node at the coming level
   still : (t p : ℕ) → At g t p → Off g u j t p → (grown.at t).head.level < (grown.at u).coming → ((grown.at t).fragment ≡ far_part) ⊎ ((grown.at t).fragment ≡ near_part) → (grown.seen t p).tree ≡ ChangeRoot ∷ [] → Mutual (tree_end (end g grown t p)) (tree_end (end g grown (far g t p) (far_port g t p))) → ⊥
   still t p at' o lt i r m =
-      let s = (root_sent (tree_end (end g joint t p)) (tree_end (far_end g joint t p)) (link_fits g wired joint after t p at').tree (link_fits' g wired joint after t p at').tree (link_leads g wired joint after t p at') [] r).fits.level in
+      let s = (root_sent (tree_end (end g joint t p)) (tree_end (far_end g joint t p)) (link_fits g ground.wired joint after t p at').tree (link_fits' g ground.wired joint after t p at').tree (link_leads g ground.wired joint after t p at') [] r).fits.level in
       go (joining_is far_part near_part (grown.at u).coming (grown.at u).coming_name (grown.at t)) s
     where
       go : Joining far_part near_part (grown.at u).coming (grown.at u).coming_name (grown.at t) → (joint.at t).head.level ≡ (joint.at t).coming → ⊥
@@ -186,12 +186,12 @@ module _ (g : Network) (wired : IsWired g) (keyed : IsKeyed g) (u : ℕ) (lo : 1
     where
       -- u's best isn't this link, which leads to a lower level
       unled : (y : Key) → (w.at u).head.best ≡ Some (j, y) → (w.at u).head.level ≡ (w.at u).coming → ⊥
-      unled y b e = let z = ((link_fits g wired w holds u j at).search.find_leads y b e its.mark).higher in let s = lower_far in omega (arith, z, s)
+      unled y b e = let z = ((link_fits g ground.wired w holds u j at).search.find_leads y b e its.mark).higher in let s = lower_far in omega (arith, z, s)
 
   away_new : FloorsAt (end g joint (far g u j) (far_port g u j)) (end g joint u j) (floor (far g u j)) (floor u)
   away_new = record {
     none_below = λ o. absurd (o (sym in_one));
-    falls = λ c. subst (λ v. lower (floor u) v ≡ true) (sym ((far_fits g wired w holds floor floors u j at).out (record { here = its.mark'; there = its.mark }))) ((near_fits g wired w holds floor floors u j at).none_below (λ e. its.under.apart (sym e)));
+    falls = λ c. subst (λ v. lower (floor u) v ≡ true) (sym ((far_fits g ground.wired w holds floor floors u j at).out (record { here = its.mark'; there = its.mark }))) ((near_fits g ground.wired w holds floor floors u j at).none_below (λ e. its.under.apart (sym e)));
     covered = λ p c o. absurd (let y = owed (sym (ap (λ (m : Member). m.head.phase) here_is) ∙ sym (keeps (λ m. m.head.phase) (λ m a b n. refl) u) ∙ p) in let z = o in cc (y, z));
     report = λ r c t. absurd (let y : [] ≡ Report r ∷ [] = sym its.rest ∙ sym own_tree ∙ t in cc);
     core = λ c y p. absurd (up_here c.both.up_beyond);
@@ -201,11 +201,11 @@ module _ (g : Network) (wired : IsWired g) (keyed : IsKeyed g) (u : ℕ) (lo : 1
   }
     where
       own_tree : (grown.seen u j).tree ≡ ms
-      own_tree = ap (λ (v : Seen). v.tree) (here_seen g wired u lo hi x (put (w.seen u) j q) ((j, call) ∷ []) w j ∙ put_same (w.seen u) j q)
+      own_tree = ap (λ (v : Seen). v.tree) (here_seen g ground.wired u lo hi x (put (w.seen u) j q) ((j, call) ∷ []) w j ∙ put_same (w.seen u) j q)
 
       their_tree : (grown.seen (far g u j) (far_port g u j)).tree ≡ Initiate (w.at u).head.level k (w.at u).head.phase ∷ []
       their_tree =
-          ap (λ (v : Seen). v.tree) (far_seen g wired u lo hi x (put (w.seen u) j q) ((j, call) ∷ []) w j at) ∙
+          ap (λ (v : Seen). v.tree) (far_seen g ground.wired u lo hi x (put (w.seen u) j q) ((j, call) ∷ []) w j at) ∙
           ap (λ s. (adds (w.seen (far g u j) (far_port g u j)) s).tree) ((sends_one j call).only) ∙ ap (λ t. t ++ call ∷ []) its.under.none
 
       called : (s : Phase) → s ≡ Find → has_call (Initiate (w.at u).head.level k s ∷ []) ≡ true
@@ -218,4 +218,4 @@ module _ (g : Network) (wired : IsWired g) (keyed : IsKeyed g) (u : ℕ) (lo : 1
 
   pub absorbs_floors : Floors g (absorb g u j (acts g u (record (w.at u) { head = record (w.at u).head { find_count = find_more (w.at u).head.phase (w.at u).head.find_count }; mark = put (w.at u).mark j Branch }) (put (w.seen u) j (record (w.seen u j) { tree = ms })) ((j, Initiate (w.at u).head.level k (w.at u).head.phase) ∷ []) w)) floor
   absorbs_floors =
-      floors_united g wired grown floor off.nodes off.in_tree off.halted u j at (λ e. its.under.apart (sym (fragment_is u) ∙ sym e ∙ fragment_is (far g u j))) off.links (grown.at u).coming (grown.at u).coming_name low still near_new away_new
+      floors_united g ground.wired grown floor off.nodes off.in_tree off.halted u j at (λ e. its.under.apart (sym (fragment_is u) ∙ sym e ∙ fragment_is (far g u j))) off.links (grown.at u).coming (grown.at u).coming_name low still near_new away_new

@@ -19,7 +19,7 @@ use Rattle.ghs_protocol.proofs.clauses.Tests.{TestsFit}
 use Rattle.ghs_protocol.proofs.clauses.Fragments.{IsJoinedIn, Root, Goes_out, Both_ways, OneRoot, Reach, At_root, By_step, RootsReached, JoinedLinksLead, HasMany}
 use Rattle.ghs_protocol.proofs.clauses.Rest.{Quiet, Resting, has_call, DebtsCounted}
 use Rattle.ghs_protocol.proofs.clauses.Whole.{Invariant, NamesOf, LinkFits}
-use Rattle.ghs_protocol.proofs.clauses.Wiring.{IsKeyed}
+use Rattle.ghs_protocol.proofs.clauses.Wiring.{IsKeyed, Ground}
 use Rattle.ghs_protocol.proofs.clauses.Uniting.{meet}
 use Rattle.ghs_protocol.specs.Steps.{sent_on}
 use Rattle.ghs_protocol.proofs.lemmas.Updates.{put_same, put_other}
@@ -57,7 +57,7 @@ pub record Meets (g : Network) (wired : IsWired g) (u : ℕ) (lo : 1 ≤ u) (hi 
   pub led : (i : ℕ) → At g u i → IsJoinedIn g (forest w) u i → (w.at (far g u i)).up ≡ Some (far_port g u i)
   pub counted : DebtsCounted g (acts g u (meeting (w.at u) h b) own ((b, Connect h.level) ∷ []) w)
 
-module _ (g : Network) (wired : IsWired g) (keyed : IsKeyed g) (u : ℕ) (lo : 1 ≤ u) (hi : u ≤ g.count) (b : ℕ) (at : At g u b) (w : Scene) (holds : Invariant g w) (h : Head) (own : ℕ → Seen) (owed : Meets g wired u lo hi b w h own) where
+module _ (g : Network) (ground : Ground g) (u : ℕ) (lo : 1 ≤ u) (hi : u ≤ g.count) (b : ℕ) (at : At g u b) (w : Scene) (holds : Invariant g w) (h : Head) (own : ℕ → Seen) (owed : Meets g ground.wired u lo hi b w h own) where
   abbrev pub sends : Outgoing
   sends = (b, Connect h.level) ∷ []
 
@@ -68,32 +68,32 @@ module _ (g : Network) (wired : IsWired g) (keyed : IsKeyed g) (u : ℕ) (lo : 1
   more = record { fragment = refl; coming = refl; coming_name = refl; mark = put_same (w.at u).mark b Branch; marks = λ p ne. put_other (w.at u).mark b p Branch ne }
 
   is_here : sent.at u ≡ meeting (w.at u) h b
-  is_here = at_here g wired u lo hi b at w holds (meeting (w.at u) h b) own sends more
+  is_here = at_here g ground.wired u lo hi b at w holds (meeting (w.at u) h b) own sends more
 
   is_else : (t : ℕ) → t ≢ u → sent.at t ≡ w.at t
-  is_else t ne = at_else g wired u lo hi b at w holds (meeting (w.at u) h b) own sends more t ne
+  is_else t ne = at_else g ground.wired u lo hi b at w holds (meeting (w.at u) h b) own sends more t ne
 
   fragment_is : (t : ℕ) → (sent.at t).fragment ≡ (w.at t).fragment
-  fragment_is t = fragment_was g wired u lo hi b at w holds (meeting (w.at u) h b) own sends more t
+  fragment_is t = fragment_was g ground.wired u lo hi b at w holds (meeting (w.at u) h b) own sends more t
 
   coming_is : (t : ℕ) → (sent.at t).coming ≡ (w.at t).coming
-  coming_is t = coming_was g wired u lo hi b at w holds (meeting (w.at u) h b) own sends more t
+  coming_is t = coming_was g ground.wired u lo hi b at w holds (meeting (w.at u) h b) own sends more t
 
   mark_is_else : (t p : ℕ) → ((t ≡ u) × (p ≡ b) → ⊥) → (sent.at t).mark p ≡ (w.at t).mark p
-  mark_is_else t p off = mark_else g wired u lo hi b at w holds (meeting (w.at u) h b) own sends more t p off
+  mark_is_else t p off = mark_else g ground.wired u lo hi b at w holds (meeting (w.at u) h b) own sends more t p off
 
   joined_old : (t p : ℕ) → Off g u b t p → IsJoinedIn g (forest sent) t p → IsJoinedIn g (forest w) t p
-  joined_old t p off j = joined_was g wired u lo hi b at w holds (meeting (w.at u) h b) own sends more t p off j
+  joined_old t p off j = joined_was g ground.wired u lo hi b at w holds (meeting (w.at u) h b) own sends more t p off j
 
   joined_new : (t p : ℕ) → IsJoinedIn g (forest w) t p → IsJoinedIn g (forest sent) t p
-  joined_new t p j = joined_grows g wired u lo hi b at w holds (meeting (w.at u) h b) own sends more t p j
+  joined_new t p j = joined_grows g ground.wired u lo hi b at w holds (meeting (w.at u) h b) own sends more t p j
 
   bridge : IsJoinedIn g (forest sent) u b
-  bridge = bridged g wired u lo hi b at w holds (meeting (w.at u) h b) own sends more owed.marked
+  bridge = bridged g ground.wired u lo hi b at w holds (meeting (w.at u) h b) own sends more owed.marked
 
   -- the far end: its Connect has come in
   at_y : At g (far g u b) (far_port g u b)
-  at_y = wired.there u b at
+  at_y = ground.wired.there u b at
 
   y_in : InNetwork g (far g u b)
   y_in = record { some = at_y.some; node = at_y.node }
@@ -102,16 +102,16 @@ module _ (g : Network) (wired : IsWired g) (keyed : IsKeyed g) (u : ℕ) (lo : 1
   u_in = record { some = lo; node = hi }
 
   not_u : far g u b ≢ u
-  not_u = wired.apart u b at
+  not_u = ground.wired.apart u b at
 
   unmarked_back : (w.at (far g (far g u b) (far_port g u b))).mark (far_port g (far g u b) (far_port g u b)) ≢ Branch
-  unmarked_back e = owed.unmarked (subst₂ (λ p q. (w.at p).mark q ≡ Branch) (wired.back u b at) (wired.back_port u b at) e)
+  unmarked_back e = owed.unmarked (subst₂ (λ p q. (w.at p).mark q ≡ Branch) (ground.wired.back u b at) (ground.wired.back_port u b at) e)
 
   link : LinkFits (NamesOf g w) (end g w u b) (far_end g w u b)
-  link = at_near g wired w (LinkFits (NamesOf g w)) holds.links u b at
+  link = at_near g ground.wired w (LinkFits (NamesOf g w)) holds.links u b at
 
   link' : LinkFits (NamesOf g w) (far_end g w u b) (end g w u b)
-  link' = at_far g wired w (LinkFits (NamesOf g w)) holds.links u b at
+  link' = at_far g ground.wired w (LinkFits (NamesOf g w)) holds.links u b at
 
   came : ConnectUnderWay (tree_end (far_end g w u b)) (tree_end (end g w u b))
   came = link'.tree.out_connect (record { here = owed.marked; there = owed.unmarked })
@@ -139,7 +139,7 @@ module _ (g : Network) (wired : IsWired g) (keyed : IsKeyed g) (u : ℕ) (lo : 1
 
   -- fragments but u's stay at rest
   quiet_else : (a : ℕ) → (w.at u).fragment ≢ a → Quiet g w a → Quiet g sent a
-  quiet_else a ne q = quiet_after g wired u lo hi (meeting (w.at u) h b) own sends w a q (λ e. absurd (ne e)) (λ i at' e. absurd (ne e)) (λ i at' e. calls_same (w.seen (far g u i) (far_port g u i)) i ∙ q.uncalled _ _ (wired.there u i at') e)
+  quiet_else a ne q = quiet_after g ground.wired u lo hi (meeting (w.at u) h b) own sends w a q (λ e. absurd (ne e)) (λ i at' e. absurd (ne e)) (λ i at' e. calls_same (w.seen (far g u i) (far_port g u i)) i ∙ q.uncalled _ _ (ground.wired.there u i at') e)
 
   quiet_y' : Quiet g sent (w.at (far g u b)).fragment
   quiet_y' = quiet_else _ apart quiet_y
@@ -149,7 +149,7 @@ module _ (g : Network) (wired : IsWired g) (keyed : IsKeyed g) (u : ℕ) (lo : 1
     Old_root : Root g (forest w) t p → (w.at t).fragment ≢ (w.at u).fragment → (w.at t).fragment ≢ (w.at (far g u b)).fragment → Elsewhere t p
 
   not_of_y : (t p : ℕ) → At g t p → Off g u b t p → Root g (forest w) t p → (w.at t).fragment ≢ (w.at (far g u b)).fragment
-  not_of_y t p at' off r same = ⊎_elim (λ z. off.there (ap₂ (far g) (sym z.0) (sym z.1) ∙ wired.back u b at, ap₂ (far_port g) (sym z.0) (sym z.1) ∙ wired.back_port u b at)) (λ z. off.here (sym z.0 ∙ wired.back u b at, sym z.1 ∙ wired.back_port u b at)) (holds.trees.one_root (far g u b) (far_port g u b) t p at_y at' root_y r (sym same))
+  not_of_y t p at' off r same = ⊎_elim (λ z. off.there (ap₂ (far g) (sym z.0) (sym z.1) ∙ ground.wired.back u b at, ap₂ (far_port g) (sym z.0) (sym z.1) ∙ ground.wired.back_port u b at)) (λ z. off.here (sym z.0 ∙ ground.wired.back u b at, sym z.1 ∙ ground.wired.back_port u b at)) (holds.trees.one_root (far g u b) (far_port g u b) t p at_y at' root_y r (sym same))
 
   up_here : (sent.at u).up ≡ Some b
   up_here = ap (λ (m : Member). m.up) is_here
@@ -184,12 +184,12 @@ module _ (g : Network) (wired : IsWired g) (keyed : IsKeyed g) (u : ℕ) (lo : 1
   reach_u = At_root b at up_here (Both_ways bridge up_here up_far)
 
   reach_y : Reach g (forest sent) (far g u b)
-  reach_y = By_step (far_port g u b) at_y up_far (record { here = bridge.there; there = subst₂ (λ p q. (forest sent).branch p q ≡ true) (sym (wired.back u b at)) (sym (wired.back_port u b at)) bridge.here }) (subst (Reach g (forest sent)) (sym (wired.back u b at)) reach_u)
+  reach_y = By_step (far_port g u b) at_y up_far (record { here = bridge.there; there = subst₂ (λ p q. (forest sent).branch p q ≡ true) (sym (ground.wired.back u b at)) (sym (ground.wired.back_port u b at)) bridge.here }) (subst (Reach g (forest sent)) (sym (ground.wired.back u b at)) reach_u)
 
   carried : {t : ℕ} → Reach g (forest w) t → Reach g (forest sent) t
   carried {t} (At_root p at' way (Goes_out c d)) =
       ⊎_elim (λ e. subst (Reach g (forest sent)) (sym e) reach_u)
-      (λ ne. ⊎_elim (λ e. subst (Reach g (forest sent)) (sym e) reach_y) (λ ne'. At_root p at' (up_else t ne ∙ way) (Goes_out (ap is_branch (mark_is_else t p (λ z. ne z.0)) ∙ c) (ap is_branch (mark_is_else _ _ (λ z. ne' (sym (wired.back t p at') ∙ ap₂ (far g) z.0 z.1))) ∙ d))) (cases_eq t (far g u b)))
+      (λ ne. ⊎_elim (λ e. subst (Reach g (forest sent)) (sym e) reach_y) (λ ne'. At_root p at' (up_else t ne ∙ way) (Goes_out (ap is_branch (mark_is_else t p (λ z. ne z.0)) ∙ c) (ap is_branch (mark_is_else _ _ (λ z. ne' (sym (ground.wired.back t p at') ∙ ap₂ (far g) z.0 z.1))) ∙ d))) (cases_eq t (far g u b)))
       (cases_eq t u)
   carried {t} (At_root p at' way (Both_ways j c d)) = ⊎_elim (λ e. subst (Reach g (forest sent)) (sym e) reach_u) (λ ne. ⊎_elim (λ e. By_step p at' (up_else t ne ∙ way) (joined_new t p j) (subst (Reach g (forest sent)) (sym e) reach_u)) (λ ne'. At_root p at' (up_else t ne ∙ way) (Both_ways (joined_new t p j) (up_else t ne ∙ c) (up_else _ ne' ∙ d))) (cases_eq (far g t p) u)) (cases_eq t u)
   carried {t} (By_step p at' way j r) = ⊎_elim (λ e. subst (Reach g (forest sent)) (sym e) reach_u) (λ ne. By_step p at' (up_else t ne ∙ way) (joined_new t p j) (carried r)) (cases_eq t u)
@@ -204,20 +204,20 @@ module _ (g : Network) (wired : IsWired g) (keyed : IsKeyed g) (u : ℕ) (lo : 1
       here e =
           ⊎_elim
           (λ z. inl (subst₂ (λ s q. (sent.at s).up ≡ Some q) (sym e) (sym z) up_here))
-          (λ ne. inr (up_else _ (λ z. wired.apart t p at' (z ∙ sym e)) ∙ subst (λ s. (w.at (far g s p)).up ≡ Some (far_port g s p)) (sym e) (owed.led p (subst (λ s. At g s p) e at') (subst (λ s. IsJoinedIn g (forest w) s p) e (joined_old t p (record { here = λ z. ne z.1; there = λ z. wired.apart t p at' (z.0 ∙ sym e) }) j)))))
+          (λ ne. inr (up_else _ (λ z. ground.wired.apart t p at' (z ∙ sym e)) ∙ subst (λ s. (w.at (far g s p)).up ≡ Some (far_port g s p)) (sym e) (owed.led p (subst (λ s. At g s p) e at') (subst (λ s. IsJoinedIn g (forest w) s p) e (joined_old t p (record { here = λ z. ne z.1; there = λ z. ground.wired.apart t p at' (z.0 ∙ sym e) }) j)))))
           (cases_eq p b)
 
       there : t ≢ u → far g t p ≡ u → ((sent.at t).up ≡ Some p) ⊎ ((sent.at (far g t p)).up ≡ Some (far_port g t p))
       there ne e =
           ⊎_elim
           (λ z. inr (subst₂ (λ s q. (sent.at s).up ≡ Some q) (sym e) (sym z) up_here))
-          (λ nb. inl (up_else t ne ∙ subst₂ (λ s q. (w.at s).up ≡ Some q) (ap (λ s. far g s (far_port g t p)) (sym e) ∙ wired.back t p at') (ap (λ s. far_port g s (far_port g t p)) (sym e) ∙ wired.back_port t p at') (owed.led (far_port g t p) (subst (λ s. At g s (far_port g t p)) e (wired.there t p at')) (turned ne nb e))))
+          (λ nb. inl (up_else t ne ∙ subst₂ (λ s q. (w.at s).up ≡ Some q) (ap (λ s. far g s (far_port g t p)) (sym e) ∙ ground.wired.back t p at') (ap (λ s. far_port g s (far_port g t p)) (sym e) ∙ ground.wired.back_port t p at') (owed.led (far_port g t p) (subst (λ s. At g s (far_port g t p)) e (ground.wired.there t p at')) (turned ne nb e))))
           (cases_eq (far_port g t p) b)
         where
           turned : t ≢ u → far_port g t p ≢ b → far g t p ≡ u → IsJoinedIn g (forest w) u (far_port g t p)
           turned ne nb e =
               let z = joined_old t p (record { here = λ q. ne q.0; there = λ q. nb q.1 }) j in record
-              { here = subst (λ s. (forest w).branch s (far_port g t p) ≡ true) e z.there; there = subst (λ s. (forest w).branch (far g s (far_port g t p)) (far_port g s (far_port g t p)) ≡ true) e (subst₂ (λ s q. (forest w).branch s q ≡ true) (sym (wired.back t p at')) (sym (wired.back_port t p at')) z.here) }
+              { here = subst (λ s. (forest w).branch s (far_port g t p) ≡ true) e z.there; there = subst (λ s. (forest w).branch (far g s (far_port g t p)) (far_port g s (far_port g t p)) ≡ true) e (subst₂ (λ s q. (forest w).branch s q ≡ true) (sym (ground.wired.back t p at')) (sym (ground.wired.back_port t p at')) z.here) }
 
       not_here : t ≢ u → ((sent.at t).up ≡ Some p) ⊎ ((sent.at (far g t p)).up ≡ Some (far_port g t p))
       not_here ne = ⊎_elim (there ne) (λ ne'. ⊎_elim (λ z. inl (up_else t ne ∙ z)) (λ z. inr (up_else _ ne' ∙ z)) (holds.trees.joined_lead t p at' (joined_old t p (record { here = λ q. ne q.0; there = λ q. ne' q.0 }) j))) (cases_eq (far g t p) u)
@@ -269,17 +269,17 @@ module _ (g : Network) (wired : IsWired g) (keyed : IsKeyed g) (u : ℕ) (lo : 1
   joinable = record {
     at = at;
     bridge = bridge;
-    nodes = nodes_grown g wired u lo hi b at w holds (meeting (w.at u) h b) own sends more owed.node;
-    links = links_grown g wired u lo hi b at w holds (meeting (w.at u) h b) own sends more owed.near owed.away;
-    by_fragment = by_fragment_grown g wired u lo hi b at w holds (meeting (w.at u) h b) own sends more;
-    names_within = names_within_grown g wired u lo hi b at w holds (meeting (w.at u) h b) own sends more;
-    sizes = sizes_grown g wired u lo hi b at w holds (meeting (w.at u) h b) own sends more;
-    within = within_grown g wired u lo hi b at w holds (meeting (w.at u) h b) own sends more;
-    connected = connected_grown g wired u lo hi b at w holds (meeting (w.at u) h b) own sends more;
+    nodes = nodes_grown g ground.wired u lo hi b at w holds (meeting (w.at u) h b) own sends more owed.node;
+    links = links_grown g ground.wired u lo hi b at w holds (meeting (w.at u) h b) own sends more owed.near owed.away;
+    by_fragment = by_fragment_grown g ground.wired u lo hi b at w holds (meeting (w.at u) h b) own sends more;
+    names_within = names_within_grown g ground.wired u lo hi b at w holds (meeting (w.at u) h b) own sends more;
+    sizes = sizes_grown g ground.wired u lo hi b at w holds (meeting (w.at u) h b) own sends more;
+    within = within_grown g ground.wired u lo hi b at w holds (meeting (w.at u) h b) own sends more;
+    connected = connected_grown g ground.wired u lo hi b at w holds (meeting (w.at u) h b) own sends more;
     joined_lead = joined_lead;
     reached = reached;
-    alone = alone_grown g wired u lo hi b at w holds (meeting (w.at u) h b) own sends more (λ z. let y = owed.found in cc (y, z));
-    named = named_grown g wired u lo hi b at w holds (meeting (w.at u) h b) own sends more owed.name;
+    alone = alone_grown g ground.wired u lo hi b at w holds (meeting (w.at u) h b) own sends more (λ z. let y = owed.found in cc (y, z));
+    named = named_grown g ground.wired u lo hi b at w holds (meeting (w.at u) h b) own sends more owed.name;
     counted = owed.counted;
     awake = λ z. let y = owed.found in let q = ap (λ (m : Member). m.head.phase) is_here in cc (y, z, q);
     which = λ k e. ⊎_elim inr inl (which k e);
@@ -292,7 +292,7 @@ module _ (g : Network) (wired : IsWired g) (keyed : IsKeyed g) (u : ℕ) (lo : 1
     name = (port_at g u b).key;
     is_name = refl;
     name_in = record { node = u; port = b; at = at; joined = bridge; fragment = refl; key = refl };
-    other = λ t p at' off e j same. ⊎_elim (λ z. off.here (sym z.0, sym z.1)) (λ z. off.there (ap₂ (far g) (sym z.0) (sym z.1) ∙ wired.back u b at, ap₂ (far_port g) (sym z.0) (sym z.1) ∙ wired.back_port u b at)) (keyed u b t p at at' (one_key same));
+    other = λ t p at' off e j same. ⊎_elim (λ z. off.here (sym z.0, sym z.1)) (λ z. off.there (ap₂ (far g) (sym z.0) (sym z.1) ∙ ground.wired.back u b at, ap₂ (far_port g) (sym z.0) (sym z.1) ∙ ground.wired.back_port u b at)) (ground.keyed u b t p at at' (one_key same));
   }
     where
       gone : (t : ℕ) → {p : ℕ} → Elsewhere t p → ((w.at t).fragment ≡ (w.at (far g u b)).fragment) ⊎ ((w.at t).fragment ≡ (w.at u).fragment) → ⊥
@@ -327,15 +327,15 @@ module _ (g : Network) (wired : IsWired g) (keyed : IsKeyed g) (u : ℕ) (lo : 1
 
   lies : (t p : ℕ) → At g t p → Root g (forest met) t p → Lies t p
   unfolding lifts
-  lies t p at' r = go (place g wired sent u b lifts high (Some (port_at g u b).key) joinable t p)
+  lies t p at' r = go (place g ground.wired sent u b lifts high (Some (port_at g u b).key) joinable t p)
     where
       off : {t p : ℕ} → Elsewhere t p → Lies t p
       off {t} (Old_root r ne ne') = Off_link r (unlifted t ne ne')
 
-      go : Place g wired sent u b lifts high (Some (port_at g u b).key) joinable t p → Lies t p
+      go : Place g ground.wired sent u b lifts high (Some (port_at g u b).key) joinable t p → Lies t p
       go (On_it e k) = At_link e k
       go (Across e k) = At_far e k
-      go (Off_it o) = off (old_root t p at' o (root_from g wired sent u b lifts high (Some (port_at g u b).key) joinable t p r))
+      go (Off_it o) = off (old_root t p at' o (root_from g ground.wired sent u b lifts high (Some (port_at g u b).key) joinable t p r))
 
   on_link : (t : ℕ) → (t ≡ u) ⊎ (t ≡ far g u b) → (met.at t).fragment ≡ (sent.at u).fragment
   on_link t (inl e) = fragment_two t (ap (λ s. lifts (sent.at s).fragment) e ∙ lifts_u)
@@ -345,7 +345,7 @@ module _ (g : Network) (wired : IsWired g) (keyed : IsKeyed g) (u : ℕ) (lo : 1
   off_two t e z = let y : (sent.at t).fragment ≡ (sent.at u).fragment = sym (ap (λ (m : Member). m.fragment) (fragment_other t e)) ∙ z in let q = ap lifts y in let r = lifts_u in cc (e, q, r)
 
   at_far_is : (t p : ℕ) → At g t p → far g t p ≡ u → far_port g t p ≡ b → (t ≡ far g u b) × (p ≡ far_port g u b)
-  at_far_is t p at' e k = (sym (wired.back t p at') ∙ ap₂ (far g) e k, sym (wired.back_port t p at') ∙ ap₂ (far_port g) e k)
+  at_far_is t p at' e k = (sym (ground.wired.back t p at') ∙ ap₂ (far g) e k, sym (ground.wired.back_port t p at') ∙ ap₂ (far_port g) e k)
 
   one_root : OneRoot g (forest met)
   one_root t p s q at' at'' r r' same = go (lies t p at' r) (lies s q at'' r')
@@ -410,21 +410,21 @@ module _ (g : Network) (wired : IsWired g) (keyed : IsKeyed g) (u : ℕ) (lo : 1
 
   rests : Resting g met
   rests = record {
-    out = λ t p at' o. out t p at' o (place g wired sent u b lifts high (Some (port_at g u b).key) joinable t p);
-    moved = λ t p at' m. moved t p at' m (place g wired sent u b lifts high (Some (port_at g u b).key) joinable t p);
+    out = λ t p at' o. out t p at' o (place g ground.wired sent u b lifts high (Some (port_at g u b).key) joinable t p);
+    moved = λ t p at' m. moved t p at' m (place g ground.wired sent u b lifts high (Some (port_at g u b).key) joinable t p);
   }
     where
-      out : (t p : ℕ) → At g t p → Out (tree_end (end g met t p)) (tree_end (end g met (far g t p) (far_port g t p))) → Place g wired sent u b lifts high (Some (port_at g u b).key) joinable t p → Quiet g met (met.at t).fragment
+      out : (t p : ℕ) → At g t p → Out (tree_end (end g met t p)) (tree_end (end g met (far g t p) (far_port g t p))) → Place g ground.wired sent u b lifts high (Some (port_at g u b).key) joinable t p → Quiet g met (met.at t).fragment
       out t p at' o (On_it e k) = absurd (o.there (mark_met _ _ ∙ ap₂ (λ s q. (sent.at (far g s q)).mark (far_port g s q)) e k ∙ mark_is_else _ _ (λ z. not_u z.0) ∙ owed.marked))
-      out t p at' o (Across e k) = absurd (o.there (mark_met _ _ ∙ ap₂ (λ s q. (sent.at s).mark q) e k ∙ mark_here g wired u lo hi b at w holds (meeting (w.at u) h b) own sends more))
+      out t p at' o (Across e k) = absurd (o.there (mark_met _ _ ∙ ap₂ (λ s q. (sent.at s).mark q) e k ∙ mark_here g ground.wired u lo hi b at w holds (meeting (w.at u) h b) own sends more))
       out t p at' o (Off_it off) = quiet_met t (calm_off t p off (lies t p at' (Goes_out (ap is_branch o.here) (not_branch _ o.there)))) (holds.resting.out t p at' (record { here = sym (old_mark t p off.here) ∙ o.here; there = λ z. o.there (old_mark _ _ off.there ∙ z) }))
 
-      moved : (t p : ℕ) → At g t p → Moved (tree_end (end g met t p)) (tree_end (end g met (far g t p) (far_port g t p))) → Place g wired sent u b lifts high (Some (port_at g u b).key) joinable t p → Quiet g met (met.at t).fragment
+      moved : (t p : ℕ) → At g t p → Moved (tree_end (end g met t p)) (tree_end (end g met (far g t p) (far_port g t p))) → Place g ground.wired sent u b lifts high (Some (port_at g u b).key) joinable t p → Quiet g met (met.at t).fragment
       moved t p at' m (On_it e k) = absurd (m.unnamed (ap (λ s. (met.at s).coming_name) e ∙ named_here ∙ ap₂ (λ s q. Some (port_at g s q).key) (sym e) (sym k)))
-      moved t p at' m (Across e k) = let z = at_far_is t p at' e k in absurd (m.unnamed (ap (λ s. (met.at s).coming_name) z.0 ∙ named_far ∙ ap Some (sym (wired.same_key u b at)) ∙ ap₂ (λ s q. Some (port_at g s q).key) (sym z.0) (sym z.1)))
+      moved t p at' m (Across e k) = let z = at_far_is t p at' e k in absurd (m.unnamed (ap (λ s. (met.at s).coming_name) z.0 ∙ named_far ∙ ap Some (sym (ground.wired.same_key u b at)) ∙ ap₂ (λ s q. Some (port_at g s q).key) (sym z.0) (sym z.1)))
       moved t p at' m (Off_it off) =
           quiet_met t calm
-          (holds.resting.moved t p at' (record { both = record { joins = record { here = mine; there = theirs }; up = sym (old_up t calm) ∙ m.both.up; up_beyond = sym (old_up _ calm') ∙ m.both.up_beyond }; unnamed = λ z. m.unnamed (ap (λ (k : Member). k.coming_name) (fragment_other t calm) ∙ name_was g wired u lo hi b at w holds (meeting (w.at u) h b) own sends more t ∙ z) }))
+          (holds.resting.moved t p at' (record { both = record { joins = record { here = mine; there = theirs }; up = sym (old_up t calm) ∙ m.both.up; up_beyond = sym (old_up _ calm') ∙ m.both.up_beyond }; unnamed = λ z. m.unnamed (ap (λ (k : Member). k.coming_name) (fragment_other t calm) ∙ name_was g ground.wired u lo hi b at w holds (meeting (w.at u) h b) own sends more t ∙ z) }))
         where
           mine : (w.at t).mark p ≡ Branch
           mine = sym (old_mark t p off.here) ∙ m.both.joins.here
@@ -454,19 +454,19 @@ module _ (g : Network) (wired : IsWired g) (keyed : IsKeyed g) (u : ℕ) (lo : 1
   member_there = rise_in lifts (sent.at u).fragment high (Some (port_at g u b).key) (sent.at (far g u b)) lifts_y ∙ ap (raised (sent.at u).fragment high (Some (port_at g u b).key)) (is_else _ not_u)
 
   seen_here : met.seen u b ≡ w.seen u b
-  seen_here = here_seen g wired u lo hi (meeting (w.at u) h b) own sends w b ∙ owed.own_same
+  seen_here = here_seen g ground.wired u lo hi (meeting (w.at u) h b) own sends w b ∙ owed.own_same
 
   one_sent : sent_on sends b ≡ Connect h.level ∷ []
   one_sent = rw (eq-eqb b b refl) refl
 
   seen_there : met.seen (far g u b) (far_port g u b) ≡ record (w.seen (far g u b) (far_port g u b)) { tree = (w.seen (far g u b) (far_port g u b)).tree ++ Connect h.level ∷ [] }
-  seen_there = far_seen g wired u lo hi (meeting (w.at u) h b) own sends w b at ∙ ap (λ (xs : List Message). adds (w.seen (far g u b) (far_port g u b)) xs) one_sent
+  seen_there = far_seen g ground.wired u lo hi (meeting (w.at u) h b) own sends w b at ∙ ap (λ (xs : List Message). adds (w.seen (far g u b) (far_port g u b)) xs) one_sent
 
   end_here : end g met u b ≡ core_here
   end_here = λ i. record { port = b; key = (port_at g u b).key; mark = (ap (λ (m : Member). m.mark b) member_here ∙ put_same (w.at u).mark b Branch) i; is = member_here i; seen = seen_here i }
 
   end_there : end g met (far g u b) (far_port g u b) ≡ core_there
-  end_there = λ i. record { port = far_port g u b; key = wired.same_key u b at i; mark = (ap (λ (m : Member). m.mark (far_port g u b)) member_there ∙ owed.marked) i; is = member_there i; seen = seen_there i }
+  end_there = λ i. record { port = far_port g u b; key = ground.wired.same_key u b at i; mark = (ap (λ (m : Member). m.mark (far_port g u b)) member_there ∙ owed.marked) i; is = member_there i; seen = seen_there i }
 
   idle_y : (w.at (far g u b)).head.probe ≡ None
   idle_y = ((holds.nodes (far g u b) y_in).idle (λ z. let q = quiet_y.found (far g u b) y_in refl in cc (z, q))).0
@@ -499,4 +499,4 @@ module _ (g : Network) (wired : IsWired g) (keyed : IsKeyed g) (u : ℕ) (lo : 1
 
   pub meets : Invariant g (meet g u b (acts g u (meeting (w.at u) h b) own ((b, Connect h.level) ∷ []) w))
   unfolding lifts
-  meets = unites g wired sent u b lifts high (Some (port_at g u b).key) joinable many one_root rests (subst₂ (LinkFits (NamesOf g met)) (sym end_here) (sym end_there) core_near) (subst₂ (LinkFits (NamesOf g met)) (sym end_there) (sym end_here) core_away)
+  meets = unites g ground.wired sent u b lifts high (Some (port_at g u b).key) joinable many one_root rests (subst₂ (LinkFits (NamesOf g met)) (sym end_here) (sym end_there) core_near) (subst₂ (LinkFits (NamesOf g met)) (sym end_there) (sym end_here) core_away)

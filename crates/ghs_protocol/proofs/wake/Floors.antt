@@ -13,7 +13,7 @@ use Rattle.ghs_protocol.specs.Net.{put}
 use Rattle.ghs_protocol.proofs.clauses.Scene.{Seen, add, adds, Member, Scene, End, tree_end, end, acts, far_end}
 use Rattle.ghs_protocol.proofs.clauses.TreeMessages.{ConnectUnderWay}
 use Rattle.ghs_protocol.proofs.clauses.Nodes.{Untouched}
-use Rattle.ghs_protocol.proofs.clauses.Wiring.{IsKeyed, IsOrdered}
+use Rattle.ghs_protocol.proofs.clauses.Wiring.{IsKeyed, IsOrdered, Ground}
 use Rattle.ghs_protocol.proofs.clauses.Uniting.{meet}
 use Rattle.ghs_protocol.proofs.clauses.Whole.{Invariant}
 use Rattle.ghs_protocol.proofs.clauses.Floors.{Floor, FloorsAt, NodeFloor, IsTreeLink, BranchesInTree, HaltedIsWhole, Floors}
@@ -28,7 +28,7 @@ use Rattle.ghs_protocol.proofs.search.CloseFloors.{FloorsOff, nodes_after, links
 use Rattle.ghs_protocol.proofs.union.Floors.{floors_met}
 use Rattle.ghs_graph.proofs.lemmas.Keys.{lt_asymmetric, lt_irreflexive}
 
-module _ (g : Network) (wired : IsWired g) (ordered : IsOrdered g) (u : ℕ) (lo : 1 ≤ u) (hi : u ≤ g.count) (w : Scene) (holds : Invariant g w) (at : At g u 0) (sleeps : (w.at u).head.phase ≡ Sleeping) (floor : ℕ → Floor) (floors : Floors g w floor) where
+module _ (g : Network) (ground : Ground g) (u : ℕ) (lo : 1 ≤ u) (hi : u ≤ g.count) (w : Scene) (holds : Invariant g w) (at : At g u 0) (sleeps : (w.at u).head.phase ≡ Sleeping) (floor : ℕ → Floor) (floors : Floors g w floor) where
   abbrev x : Member
   x = record (w.at u) { head = record (w.at u).head { level = 0; phase = Found; find_count = 0 }; mark = put (w.at u).mark 0 Branch; up = Some 0 }
 
@@ -54,10 +54,10 @@ module _ (g : Network) (wired : IsWired g) (ordered : IsOrdered g) (u : ℕ) (lo
   alone t it e = holds.alone u t is it sleeps e
 
   far_in : (i : ℕ) → At g u i → InNetwork g (far g u i)
-  far_in i at' = let z = wired.there u i at' in record { some = z.some; node = z.node }
+  far_in i at' = let z = ground.wired.there u i at' in record { some = z.some; node = z.node }
 
   apart : (w.at (far g u 0)).fragment ≢ (w.at u).fragment
-  apart e = wired.apart u 0 at (alone (far g u 0) (far_in 0 at) e)
+  apart e = ground.wired.apart u 0 at (alone (far g u 0) (far_in 0 at) e)
 
   tree : IsTreeLink g u 0
   tree =
@@ -66,7 +66,7 @@ module _ (g : Network) (wired : IsWired g) (ordered : IsOrdered g) (u : ℕ) (lo
     where
       not_less : (q : ℕ) → At g u q → key_lt (port_at g u q).key (port_at g u 0).key ≡ false
       not_less zero at' = lt_irreflexive (port_at g u 0).key
-      not_less (suc q) at' = lt_asymmetric (port_at g u 0).key (port_at g u (suc q)).key (ordered u 0 (suc q) (omega arith) at')
+      not_less (suc q) at' = lt_asymmetric (port_at g u 0).key (port_at g u (suc q)).key (ground.ordered u 0 (suc q) (omega arith) at')
 
   abbrev still : ℕ → End
   still i = record { port = i; key = (port_at g u i).key; mark = put (w.at u).mark 0 Branch i; is = x; seen = w.seen u i }
@@ -76,7 +76,7 @@ module _ (g : Network) (wired : IsWired g) (ordered : IsOrdered g) (u : ℕ) (lo
 
   near_other : (i : ℕ) → At g u i → i ≢ 0 → FloorsAt (still i) (far_end g w u i) least (floor (far g u i))
   near_other i at' ne = record {
-    none_below = λ o. below_lower (Some (port_at g u 0).key) (Some (port_at g u i).key) (ordered u 0 i (omega (arith, ne)) at');
+    none_below = λ o. below_lower (Some (port_at g u 0).key) (Some (port_at g u i).key) (ground.ordered u 0 i (omega (arith, ne)) at');
     falls = λ c. absurd (plain i ne c.joins.here);
     covered = λ p c o. absurd (plain i ne c.joins.here);
     report = λ r c t. absurd (plain i ne c.joins.here);
@@ -88,12 +88,12 @@ module _ (g : Network) (wired : IsWired g) (ordered : IsOrdered g) (u : ℕ) (lo
 
   far_other : (i : ℕ) → At g u i → i ≢ 0 → FloorsAt (far_end g w u i) (still i) (floor (far g u i)) least
   far_other i at' ne = record {
-    none_below = (far_fits g wired w holds floor floors u i at').none_below;
+    none_below = (far_fits g ground.wired w holds floor floors u i at').none_below;
     falls = λ c. absurd (plain i ne c.joins.there);
     covered = λ p c o. absurd (plain i ne c.joins.there);
     report = λ r c t. absurd (plain i ne c.joins.there);
     core = λ c l p. absurd (plain i ne c.both.joins.there);
-    out = λ o. (far_fits g wired w holds floor floors u i at').out (record { here = o.here; there = unmarked i });
+    out = λ o. (far_fits g ground.wired w holds floor floors u i at').out (record { here = o.here; there = unmarked i });
     moved = λ m t. absurd (plain i ne m.both.joins.there);
     best = λ y b l z. absurd (plain i ne z.there);
   }
@@ -105,10 +105,10 @@ module _ (g : Network) (wired : IsWired g) (ordered : IsOrdered g) (u : ℕ) (lo
   node_floor = record { asleep = λ e. absurd (let z : Found ≡ Sleeping = e in cc); search = λ e. absurd (let z : Found ≡ Find = e in cc) }
 
   trees : BranchesInTree g woken
-  trees = in_tree_after g wired u lo hi x (w.seen u) ss w floor floors least (λ p at' m. ⊎_elim (λ e. subst (IsTreeLink g u) (sym e) tree) (λ ne. absurd (plain p ne m)) (cases_eq p 0))
+  trees = in_tree_after g ground.wired u lo hi x (w.seen u) ss w floor floors least (λ p at' m. ⊎_elim (λ e. subst (IsTreeLink g u) (sym e) tree) (λ ne. absurd (plain p ne m)) (cases_eq p 0))
 
   halts : HaltedIsWhole g woken
-  halts = halted_after g wired u lo hi x (w.seen u) ss w floor floors least refl refl
+  halts = halted_after g ground.wired u lo hi x (w.seen u) ss w floor floors least refl refl
 
   -- what waits at u is as it was
   own_again : acts g u x (put (w.seen u) 0 (w.seen u 0)) ss w ≡ woken
@@ -130,7 +130,7 @@ module _ (g : Network) (wired : IsWired g) (ordered : IsOrdered g) (u : ℕ) (lo
 
     far_out : FloorsAt there (still 0) (floor (far g u 0)) least
     far_out = record {
-      none_below = (far_fits g wired w holds floor floors u 0 at).none_below;
+      none_below = (far_fits g ground.wired w holds floor floors u 0 at).none_below;
       falls = λ c. absurd (free c.joins.here);
       covered = λ p c o. absurd (free c.joins.here);
       report = λ r c t. absurd (free c.joins.here);
@@ -143,28 +143,28 @@ module _ (g : Network) (wired : IsWired g) (ordered : IsOrdered g) (u : ℕ) (lo
     pub wakes_out_floors : Floors g woken (put floor u least)
     wakes_out_floors =
         subst (λ v. Floors g v (put floor u least)) own_again (record {
-          nodes = nodes_after g wired u lo hi x (put (w.seen u) 0 (w.seen u 0)) ss w floor floors least node_floor;
+          nodes = nodes_after g ground.wired u lo hi x (put (w.seen u) 0 (w.seen u 0)) ss w floor floors least node_floor;
           links =
-              links_after g wired u lo hi x (put (w.seen u) 0 (w.seen u 0)) ss w floor floors least
-              (by_port_at g wired u lo hi x 0 at (w.seen u 0) (Connect 0 ∷ []) ss (sends_one 0 (Connect 0)) w (λ i e f. FloorsAt e f least (floor (far g u i))) near_out near_other)
-              (by_port_at g wired u lo hi x 0 at (w.seen u 0) (Connect 0 ∷ []) ss (sends_one 0 (Connect 0)) w (λ i e f. FloorsAt f e (floor (far g u i)) least) far_out far_other);
+              links_after g ground.wired u lo hi x (put (w.seen u) 0 (w.seen u 0)) ss w floor floors least
+              (by_port_at g ground.wired u lo hi x 0 at (w.seen u 0) (Connect 0 ∷ []) ss (sends_one 0 (Connect 0)) w (λ i e f. FloorsAt e f least (floor (far g u i))) near_out near_other)
+              (by_port_at g ground.wired u lo hi x 0 at (w.seen u 0) (Connect 0 ∷ []) ss (sends_one 0 (Connect 0)) w (λ i e f. FloorsAt f e (floor (far g u i)) least) far_out far_other);
           in_tree = trees;
           halted = halts;
         })
 
   -- the far end's Connect has come in
-  module _ (keyed : IsKeyed g) (met : (w.at (far g u 0)).mark (far_port g u 0) ≡ Branch) where
+  module _ (met : (w.at (far g u 0)).mark (far_port g u 0) ≡ Branch) where
     came : ConnectUnderWay (tree_end (far_end g w u 0)) (tree_end (end g w u 0))
-    came = (link_fits' g wired w holds u 0 at).tree.out_connect (record { here = met; there = unmarked 0 })
+    came = (link_fits' g ground.wired w holds u 0 at).tree.out_connect (record { here = met; there = unmarked 0 })
 
     off : FloorsOff g woken (put floor u least) u 0
     off =
         subst (λ v. FloorsOff g v (put floor u least) u 0) own_again (record {
-          nodes = nodes_after g wired u lo hi x (put (w.seen u) 0 (w.seen u 0)) ss w floor floors least node_floor;
+          nodes = nodes_after g ground.wired u lo hi x (put (w.seen u) 0 (w.seen u 0)) ss w floor floors least node_floor;
           links =
-              links_after_off g wired u lo hi x (put (w.seen u) 0 (w.seen u 0)) ss w floor floors least 0
-              (by_port_at g wired u lo hi x 0 at (w.seen u 0) (Connect 0 ∷ []) ss (sends_one 0 (Connect 0)) w (λ i e f. i ≢ 0 → FloorsAt e f least (floor (far g u i))) (λ ne. absurd (ne refl)) (λ i at' ne no. near_other i at' ne))
-              (by_port_at g wired u lo hi x 0 at (w.seen u 0) (Connect 0 ∷ []) ss (sends_one 0 (Connect 0)) w (λ i e f. i ≢ 0 → FloorsAt f e (floor (far g u i)) least) (λ ne. absurd (ne refl)) (λ i at' ne no. far_other i at' ne));
+              links_after_off g ground.wired u lo hi x (put (w.seen u) 0 (w.seen u 0)) ss w floor floors least 0
+              (by_port_at g ground.wired u lo hi x 0 at (w.seen u 0) (Connect 0 ∷ []) ss (sends_one 0 (Connect 0)) w (λ i e f. i ≢ 0 → FloorsAt e f least (floor (far g u i))) (λ ne. absurd (ne refl)) (λ i at' ne no. near_other i at' ne))
+              (by_port_at g ground.wired u lo hi x 0 at (w.seen u 0) (Connect 0 ∷ []) ss (sends_one 0 (Connect 0)) w (λ i e f. i ≢ 0 → FloorsAt f e (floor (far g u i)) least) (λ ne. absurd (ne refl)) (λ i at' ne no. far_other i at' ne));
           in_tree = trees;
           halted = halts;
         })
@@ -173,7 +173,7 @@ module _ (g : Network) (wired : IsWired g) (ordered : IsOrdered g) (u : ℕ) (lo
     here_is = put_same w.at u x
 
     far_is : woken.at (far g u 0) ≡ w.at (far g u 0)
-    far_is = put_other w.at u (far g u 0) x (wired.apart u 0 at)
+    far_is = put_other w.at u (far g u 0) x (ground.wired.apart u 0 at)
 
     fragment_is : (t : ℕ) → (woken.at t).fragment ≡ (w.at t).fragment
     fragment_is t = put_alike (λ (m : Member). m.fragment) w.at u x refl t
@@ -195,17 +195,17 @@ module _ (g : Network) (wired : IsWired g) (ordered : IsOrdered g) (u : ℕ) (lo
         (λ s. let z = (holds.trees.by_fragment t u (sym (fragment_is t) ∙ s ∙ fragment_is u)).0 in omega (arith, a, c, d, z, o, q)) i
 
     own_seen : woken.seen u 0 ≡ w.seen u 0
-    own_seen = here_seen g wired u lo hi x (w.seen u) ss w 0
+    own_seen = here_seen g ground.wired u lo hi x (w.seen u) ss w 0
 
     their_seen : (woken.seen (far g u 0) (far_port g u 0)).tree ≡ (w.seen (far g u 0) (far_port g u 0)).tree ++ Connect 0 ∷ []
-    their_seen = ap (λ (q : Seen). q.tree) (far_seen g wired u lo hi x (w.seen u) ss w 0 at) ∙ ap (λ s. (adds (w.seen (far g u 0) (far_port g u 0)) s).tree) ((sends_one 0 (Connect 0)).only)
+    their_seen = ap (λ (q : Seen). q.tree) (far_seen g ground.wired u lo hi x (w.seen u) ss w 0 at) ∙ ap (λ s. (adds (w.seen (far g u 0) (far_port g u 0)) s).tree) ((sends_one 0 (Connect 0)).only)
 
     pub wakes_meeting_floors : Floors g (meet g u 0 woken) (put floor u least)
     wakes_meeting_floors =
-        floors_met g wired woken (put floor u least) off.nodes off.in_tree off.halted u 0 at
+        floors_met g ground.wired woken (put floor u least) off.nodes off.in_tree off.halted u 0 at
         (λ e. apart (sym (fragment_is (far g u 0)) ∙ e ∙ fragment_is u)) off.links low
         (ap (λ (m : Member). m.mark 0) here_is ∙ put_same (w.at u).mark 0 Branch) (ap (λ (m : Member). m.mark (far_port g u 0)) far_is ∙ met)
         (ap (λ (m : Member). m.up) here_is) (ap (λ (m : Member). m.up) far_is ∙ came.up)
         (λ e. let z = came.one in let y = ap (λ (q : Seen). q.tree) own_seen in let s : Connect (w.at (far g u 0)).head.level ∷ [] ≡ ChangeRoot ∷ [] = sym z ∙ sym y ∙ e in cc)
         (λ e. let z = came.none in let s : [] ++ Connect 0 ∷ [] ≡ ChangeRoot ∷ [] = ap (λ q. q ++ Connect 0 ∷ []) (sym z) ∙ sym their_seen ∙ e in cc)
-        (wakes_meeting g wired u lo hi w holds at sleeps keyed met)
+        (wakes_meeting g ground.wired u lo hi w holds at sleeps ground met)

@@ -17,7 +17,7 @@ use Rattle.ghs_protocol.proofs.clauses.Search.{SearchFits}
 use Rattle.ghs_protocol.proofs.clauses.Fragments.{Root, Goes_out, Both_ways}
 use Rattle.ghs_protocol.proofs.clauses.Rest.{Quiet, has_call, owes, debt, DebtsCounted}
 use Rattle.ghs_protocol.proofs.clauses.Whole.{Invariant, NamesOf, LinkFits}
-use Rattle.ghs_protocol.proofs.clauses.Wiring.{IsKeyed}
+use Rattle.ghs_protocol.proofs.clauses.Wiring.{Ground}
 use Rattle.ghs_protocol.proofs.clauses.Uniting.{meet}
 use Rattle.ghs_protocol.proofs.lemmas.Updates.{put_same, put_other}
 use Rattle.ghs_protocol.proofs.lemmas.Sums.{sum_same, term_le}
@@ -205,8 +205,8 @@ module _ (g : Network) (wired : IsWired g) (u : ℕ) (lo : 1 ≤ u) (hi : u ≤ 
       go (Both_ways j h k) = unbranched p j.here
 
   -- over its least link a Connect has come in
-  pub wakes_meeting : IsKeyed g → (w.at (far g u 0)).mark (far_port g u 0) ≡ Branch → Invariant g (meet g u 0 (acts g u (record (w.at u) { head = record (w.at u).head { level = 0; phase = Found; find_count = 0 }; mark = put (w.at u).mark 0 Branch; up = Some 0 }) (w.seen u) ((0, Connect 0) ∷ []) w))
-  wakes_meeting keyed came = meets g wired keyed u lo hi 0 at w holds woken_head (w.seen u) (record {
+  pub wakes_meeting : Ground g → (w.at (far g u 0)).mark (far_port g u 0) ≡ Branch → Invariant g (meet g u 0 (acts g u (record (w.at u) { head = record (w.at u).head { level = 0; phase = Found; find_count = 0 }; mark = put (w.at u).mark 0 Branch; up = Some 0 }) (w.seen u) ((0, Connect 0) ∷ []) w))
+  wakes_meeting ground came = meets g ground u lo hi 0 at w holds woken_head (w.seen u) (record {
     node = node;
     found = refl;
     name = refl;

@@ -9,7 +9,7 @@ use Rattle.ghs_protocol.specs.Net.{put}
 use Rattle.ghs_protocol.proofs.clauses.Scene.{Member, Scene, tree_end, end, acts, far_end}
 use Rattle.ghs_protocol.proofs.clauses.TreeMessages.{ConnectUnderWay}
 use Rattle.ghs_protocol.proofs.clauses.Nodes.{Untouched}
-use Rattle.ghs_protocol.proofs.clauses.Wiring.{IsKeyed}
+use Rattle.ghs_protocol.proofs.clauses.Wiring.{Ground}
 use Rattle.ghs_protocol.proofs.clauses.Uniting.{meet}
 use Rattle.ghs_protocol.proofs.clauses.Whole.{Invariant}
 use Rattle.ghs_protocol.proofs.clauses.UnderWay.{Lives}
@@ -56,7 +56,7 @@ module _ (g : Network) (wired : IsWired g) (u : ℕ) (lo : 1 ≤ u) (hi : u ≤ 
   wakes_out_lives free = woken_lives (λ e. absurd (free e)) (λ e. absurd (free e)) (λ e. absurd (free e))
 
   -- the far end's Connect has come in
-  module _ (keyed : IsKeyed g) (met : (w.at (far g u 0)).mark (far_port g u 0) ≡ Branch) where
+  module _ (ground : Ground g) (met : (w.at (far g u 0)).mark (far_port g u 0) ≡ Branch) where
     came : ConnectUnderWay (tree_end (far_end g w u 0)) (tree_end (end g w u 0))
     came = (link_fits' g wired w holds u 0 at).tree.out_connect (record { here = met; there = fresh.marks 0 })
 
@@ -81,8 +81,8 @@ module _ (g : Network) (wired : IsWired g) (u : ℕ) (lo : 1 ≤ u) (hi : u ≤ 
 
     woken_met : Lives g woken
     woken_met =
-        woken_lives (λ e. came.up) (λ e. no_name g keyed w holds u 0 at (fresh.marks 0) u is)
-        (λ e. no_name g keyed w holds u 0 at (fresh.marks 0) (far g u 0) (let z = wired.there u 0 at in record { some = z.some; node = z.node }))
+        woken_lives (λ e. came.up) (λ e. no_name g ground.keyed w holds u 0 at (fresh.marks 0) u is)
+        (λ e. no_name g ground.keyed w holds u 0 at (fresh.marks 0) (far g u 0) (let z = wired.there u 0 at in record { some = z.some; node = z.node }))
 
     pub wakes_meeting_lives : Lives g (meet g u 0 (acts g u (record (w.at u) { head = record (w.at u).head { level = 0; phase = Found; find_count = 0 }; mark = put (w.at u).mark 0 Branch; up = Some 0 }) (w.seen u) ((0, Connect 0) ∷ []) w))
-    wakes_meeting_lives = united_lives g woken woken_met (woken.at (far g u 0)).fragment (woken.at u).fragment (suc (woken.at u).head.level) (Some (port_at g u 0).key) (λ t it i. inl (low t it i)) (wakes_meeting g wired u lo hi w holds at sleeps keyed met)
+    wakes_meeting_lives = united_lives g woken woken_met (woken.at (far g u 0)).fragment (woken.at u).fragment (suc (woken.at u).head.level) (Some (port_at g u 0).key) (λ t it i. inl (low t it i)) (wakes_meeting g wired u lo hi w holds at sleeps ground met)
