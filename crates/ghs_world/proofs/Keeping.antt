@@ -1,0 +1,88 @@
+-- What a world keeps.
+use Rattle.std.proofs.Common.{◌≡◌, ◌≢◌, ℕ, ◌+◌, ◌<◌, ◌≤◌, Bool, true, false, ◌&&◌, not, cond, List, [], ◌∷◌, ◌++◌, length, Option, Some, None, refl, sym, ◌∙◌, ap, subst, arith, length-append, ltb-true}
+use Rattle.std.specs.List.{All}
+use Rattle.std.proofs.lemmas.Bool.{and_parts}
+use Rattle.ghs_protocol.specs.declared.event.Event.{Event}
+use Rattle.ghs_protocol.specs.declared.event.Event.TheVariants.{Wake, Take}
+use Rattle.ghs_protocol.specs.Network.{Network, network_of}
+use Rattle.ghs_protocol.specs.Net.{Net, is_lawful, is_lawful_under}
+use Rattle.ghs_protocol.proofs.lemmas.Events.{node_of, at_of}
+use Rattle.ghs_protocol.proofs.lemmas.Runs.{lawful_under}
+use Rattle.ghs_core.specs.NetState.{NetState, network, net_of, event_node, IsLawful, IsSameNet}
+use Rattle.ghs_world.specs.declared.fault.OutFault.TheVariants.{NoSuch, Busy, Nothing, TurnLimit}
+use Rattle.ghs_world.specs.Outs.{Outs, event_out, without, is_out, AllOut}
+use Rattle.ghs_world.specs.WorldState.{WorldState, IsWorld, home, wakers, may_happen, has_place, has_turn, refusal, gone_out}
+use Rattle.ghs_world.proofs.Going.{all_more, all_without, all_at, length_without}
+
+-- what is not refused
+pub record IsFree (s : WorldState) (e : Event) : Type 0 where
+  pub place : has_place (network s.net) e ≡ true
+  pub home : is_out s.outs (event_node e) ≡ false
+  pub happens : may_happen s e ≡ true
+  pub turn : has_turn s ≡ true
+
+through : (a b m t : Bool) → cond (not a) (Some NoSuch) (cond b (Some Busy) (cond (not m) (Some Nothing) (cond (not t) (Some TurnLimit) None))) ≡ None →
+    (a ≡ true) × (b ≡ false) × (m ≡ true) × (t ≡ true)
+through true true m t h = cc
+through true false true true h = (refl, refl, refl, refl)
+through true false true false h = cc
+through true false false t h = cc
+through false b m t h = cc
+
+pub not_refused : (s : WorldState) (e : Event) → refusal s e ≡ None → IsFree s e
+not_refused s e h =
+    let all = through (has_place (network s.net) e) (is_out s.outs (event_node e)) (may_happen s e) (has_turn s) h in
+    record { place = all.0; home = all.1; happens = all.2; turn = all.3 }
+
+-- what may happen under a wake set is lawful
+pub may_lawful : (s : WorldState) (e : Event) → may_happen s e ≡ true → IsLawful s.net e
+may_lawful s e h = ((lawful_under (wakers s) (network s.net) (home s) e).0 h).1
+
+-- what is out may happen
+pub out_happens : (s : WorldState) (n : ℕ) (e : Event) → IsWorld s → event_out s.outs n ≡ Some e → may_happen s e ≡ true
+out_happens s n e world out = all_at (may_happen s) n e s.outs world.lawful out
+
+pub out_lawful : (s : WorldState) (n : ℕ) (e : Event) → IsWorld s → event_out s.outs n ≡ Some e → IsLawful s.net e
+out_lawful s n e world out = may_lawful s e (out_happens s n e world out)
+
+lawful_there : (g : Network) (w : Net) (e : Event) → is_lawful g w e ≡ true → (1 ≤ event_node e) × (event_node e ≤ g.count)
+lawful_there g w (Wake v) h = node_of g v (and_parts _ _ h).0
+lawful_there g w (Take v p) h = let at = at_of g v p (and_parts _ _ h).0 in (at.some, at.node)
+
+-- a lawful event is of a node of the graph
+pub lawful_node : (s : NetState) (e : Event) → IsLawful s e → (1 ≤ event_node e) × (event_node e ≤ s.graph.nodes)
+lawful_node s e h = lawful_there (network s) (net_of s) e h
+
+-- an event goes out
+pub world_out : (s : WorldState) (e : Event) → IsWorld s → refusal s e ≡ None → IsWorld (gone_out s e)
+world_out s e world unrefused =
+    let is_free = not_refused s e unrefused in
+    let turn : length s.net.trace + length s.outs < s.turns = ltb-true _ _ (and_parts _ _ is_free.turn).0 in
+    record {
+      wakes = world.wakes;
+      lawful = all_more (may_happen s) s.outs (s.last + 1, e) world.lawful is_free.happens;
+      turns = let l = length-append s.outs ((s.last + 1, e) ∷ []) in omega arith;
+      few = world.few;
+    }
+
+-- an event comes back
+pub world_back : (s : WorldState) (n : ℕ) (e : Event) → IsWorld s → event_out s.outs n ≡ Some e → IsWorld (record s { outs = without n s.outs })
+world_back s n e world out = record {
+  wakes = world.wakes;
+  lawful = all_without (may_happen s) n s.outs world.lawful;
+  turns = let l = length_without n e s.outs out in let t = world.turns in omega arith;
+  few = world.few;
+}
+
+-- what is not refused is lawful
+pub free_lawful : (s : WorldState) (e : Event) → refusal s e ≡ None → IsLawful s.net e
+free_lawful s e h = may_lawful s e (not_refused s e h).happens
+
+-- the same net, but for the room
+pub world_same : (s : WorldState) (net : NetState) → IsWorld s → IsSameNet s.net net → IsWorld (record s { net = net })
+world_same s net world same = record {
+  wakes = rw (same.graph, same.trace) world.wakes;
+  lawful = rw (same.graph, same.trace) world.lawful;
+  turns = rw same.trace world.turns;
+  few = world.few;
+}

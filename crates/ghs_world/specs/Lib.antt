@@ -1,0 +1,7 @@
+pub mod Wakes
+pub mod Tickets
+pub mod Outs
+pub mod WorldState
+pub mod WorldLedger
+pub mod Ready
+pub mod Steps

@@ -1,0 +1,412 @@
+//! The world.
+ghost use Rattle.std.specs.Prelude.{◌≡◌, ◌↔◌, ◌≤◌, ◌+◌, ◌^◌, [], length, filter, IfOk, IfErr, OnOk, OnErr, IsTrue, Some, true};
+ghost use Rattle.std.specs.List.{list_any};
+ghost use Rattle.ghs_node.specs.Rows.{Row};
+ghost use Rattle.ghs_world.specs.Ready.{node_events, has_ready};
+ghost use Rattle.ghs_world.specs.Steps.{Commits, LeavesOthers, AreReadyOf, HasAllRoused, RefusesStep, IsSameWorld, HasEach, touched};
+ghost use Rattle.ghs_graph.specs.Graph.{IsGraph};
+ghost use Rattle.ghs_graph.specs.Links.{IsTree};
+ghost use Rattle.ghs_protocol.specs.Network.{network_of};
+ghost use Rattle.ghs_protocol.specs.Net.{opening, is_node, is_lawful_under};
+ghost use Rattle.ghs_protocol.specs.Run.{IsRunUnder};
+ghost use Rattle.ghs_protocol.specs.Marks.{HasEnded};
+ghost use Rattle.ghs_core.specs.NetState.{network, net_of, event_node, work_at, IsLawful, IsAnswer, HasRoomToPlay, IsLeastHalted};
+ghost use Rattle.ghs_core.specs.Ledger.{IsWithinBound};
+ghost use Rattle.ghs_core.specs.Marked.{AreBranches, AreInTree, IsExact, IsExactWhere};
+ghost use Rattle.ghs_world.specs.Outs.{event_out, without};
+ghost use Rattle.ghs_world.specs.Tickets.{HasRule};
+ghost use Rattle.ghs_world.specs.WorldLedger.{IsWorldLedger};
+ghost use Rattle.ghs_world.specs.WorldState.{home, wakers, has_place, may_happen, has_turn, refusal, Refuses, ticket_of, gone_out, IsOut, RefusesTicket};
+
+use crate::fault::{BackFault, CommitFault, OutFault};
+use crate::outs::{Outs, node_of};
+use crate::ticket::{Step, Ticket};
+use crate::wake_set::WakeSet;
+use crate::woken::{Committed, Woken, touched};
+use ghs_core::event::Event;
+use ghs_core::ledger::Ledger;
+use ghs_core::net::Net;
+use ghs_graph::graph::Graph;
+use ghs_graph::key::Key;
+use ghs_node::delta::Delta;
+use ghs_node::work::Work;
+use std::alloc::{AllocError, Global};
+use std::marker::Model;
+
+/// A net from which nodes go out on tickets. The net is the home view: what is out stands in it where it was.
+#[derive(Debug, Drop)]
+pub struct World {
+    net: Net,
+    wake: WakeSet,
+    turns: u64,
+    outs: Outs,
+}
+
+impl Model for World {
+    ghost use Rattle.std.specs.Prelude.{◌≡◌};
+    ghost use Rattle.ghs_world.specs.WorldState.{WorldState, IsWorld};
+
+    ghost Value = { WorldState };
+
+    ghost view = { λ w. record { net = w.net; wake = w.wake; turns = w.turns; outs = w.outs.list; last = w.outs.last } };
+
+    ghost invariant = { λ w. IsWorld (record { net = w.net; wake = w.wake; turns = w.turns; outs = w.outs.list; last = w.outs.last }) × (w.outs.nodes ≡ w.net.graph.nodes) };
+}
+
+impl World {
+    /// The opening world of a graph: all nodes asleep, nothing under way, nothing out. There may be 1 to 2^40 commits,
+    /// `turns` of them. Where memory is wanting the graph comes back.
+    pub fn open(
+        alloc: Global,
+        graph: Graph,
+        wake: WakeSet,
+        turns: u64,
+    ) -> Result<World, (Graph, AllocError)>
+        requires some { 1 ≤ turns }
+        requires few { turns ≤ 2 ^ 40 }
+        ensures graph { IfOk result (λ w. w.net.graph ≡ graph) }
+        ensures trace { IfOk result (λ w. w.net.trace ≡ []) }
+        ensures net { IfOk result (λ w. home w ≡ opening (network_of graph)) }
+        ensures wake { IfOk result (λ w. w.wake ≡ wake) }
+        ensures turns { IfOk result (λ w. w.turns ≡ turns) }
+        ensures outs { IfOk result (λ w. w.outs ≡ []) }
+        ensures last { IfOk result (λ w. w.last ≡ 0) }
+        ensures back { IfErr result (λ e. e.0 ≡ graph) }
+    {
+        let outs = match Outs::none(alloc, graph.nodes()) {
+            Ok(outs) => outs,
+            Err(error) => return Err((graph, error)),
+        };
+        let net = Net::open(alloc, graph)?;
+        Ok(World {
+            net,
+            wake,
+            turns,
+            outs,
+        })
+    }
+
+    /// An event's node goes out with the work that the event brings. The home view stays as it was; a refusal uses
+    /// no number. The node has a reaction to the work.
+    pub fn check_out(&mut self, alloc: Global, event: Event) -> Result<Ticket, OutFault>
+        ensures ok { OnOk result (refusal self.old event ≡ None) }
+        ensures ticket { IfOk result (λ t. t ≡ ticket_of self.old event) }
+        ensures rule { IfOk result (λ t. HasRule t.node t.work) }
+        ensures out { OnOk result (self.new ≡ gone_out self.old event) }
+        ensures fault { IfErr result (λ f. Refuses self.old event f) }
+        ensures err { OnErr result (self.new ≡ self.old) }
+    {
+        match self.refusal(event) {
+            Some(fault) => return Err(fault),
+            None => {}
+        }
+        let _ = self.net.trace();
+        let node = self.net.lift(alloc, node_of(event))?;
+        let work = self.net.work(event);
+        let number = self.outs.add(event)?;
+        Ok(Ticket::of(number, event, node, work))
+    }
+
+    // Why an event isn't checked out, memory aside.
+    fn refusal(&self, event: Event) -> Option<OutFault>
+        ensures { result ≡ refusal self.now event }
+    {
+        if !has_place(self.net.graph(), event) {
+            Some(OutFault::NoSuch)
+        } else if self.outs.has_node(node_of(event)) {
+            Some(OutFault::Busy)
+        } else if !self.may_happen(event) {
+            Some(OutFault::Nothing)
+        } else if !self.has_turn() {
+            Some(OutFault::TurnLimit)
+        } else {
+            None
+        }
+    }
+
+    // Whether one of a node's events may be checked out, turns and memory aside.
+    fn has_ready(&self, v: u32) -> bool
+        ensures { result ≡ has_ready self.now v }
+    {
+        if !has_node(self.net.graph(), v) {
+            return false;
+        }
+        !self.outs.has_node(v) && self.has_lawful(v)
+    }
+
+    // Whether one of a node's events is lawful in the home view, under the wake set.
+    fn has_lawful(&self, v: u32) -> bool
+        requires low { 1 ≤ v }
+        requires high { v ≤ self.now.net.graph.nodes }
+        ensures { result ≡ list_any (may_happen self.now) (node_events (network self.now.net) v) }
+    {
+        let _ = self.net.trace();
+        if self.may_happen(Event::Wake(v)) {
+            return true;
+        }
+        for port in 0..self.net.graph().ports(v).len() as u32 {
+            if self.net.lawful(Event::Take(v, port)) {
+                return true;
+            }
+        }
+        false
+    }
+
+    // Whether an event is lawful in the home view, under the wake set.
+    fn may_happen(&self, event: Event) -> bool
+        requires { has_place (network self.now.net) event ≡ true }
+        ensures { result ≡ may_happen self.now event }
+    {
+        match event {
+            Event::Wake(v) => self.wake.has(self.net.graph(), v) && self.net.lawful(event),
+            Event::Take(..) => self.net.lawful(event),
+        }
+    }
+
+    // Whether there are turns and a number for one ticket more.
+    fn has_turn(&self) -> bool
+        ensures { result ≡ has_turn self.now }
+    {
+        self.net.events() + self.outs.len() < self.turns && self.outs.last() < u64::MAX
+    }
+
+    /// The event of a step happens: the home view makes exactly it, and its ticket is out no more. All room is taken
+    /// before any change; a refusal hands the step back. A step of another world is taken where its number, event,
+    /// node and work are equal to those that are out here: then it is the same step.
+    pub fn commit(&mut self, alloc: Global, step: Step) -> Result<Committed, (Step, CommitFault)>
+        ensures ok { OnOk result (IsOut self.old step.ticket) }
+        ensures commits { OnOk result (Commits self.old step.ticket.number step.ticket.event self.new) }
+        ensures others { OnOk result (LeavesOthers self.old step.ticket.number self.new) }
+        ensures woken { IfOk result (λ c. AreReadyOf self.new (touched (network self.old.net) (event_node step.ticket.event) step.delta.sends) c.woken) }
+        ensures roused { IfOk result (λ c. HasAllRoused self.old self.new c.woken) }
+        ensures halted { IfOk result (λ c. c.halted ≡ step.delta.halts) }
+        ensures fault { IfErr result (λ e. RefusesStep self.old step.ticket e.1) }
+        ensures back { IfErr result (λ e. e.0 ≡ step) }
+        ensures err { OnErr result (IsSameWorld self.old self.new) }
+    {
+        let number = step.number();
+        let Some(event) = self.outs.event_of(number) else {
+            return Err((step, CommitFault::UnknownTicket));
+        };
+        if !self.is_counterfoil(step.ticket(), event) {
+            return Err((step, CommitFault::Altered));
+        }
+        let Ok(nodes) = self.make_room(alloc, event, step.delta()) else {
+            return Err((step, CommitFault::Memory));
+        };
+        let halted = step.delta().halts;
+        let woken = self.carry_out(number, event, step.delta(), nodes);
+        Ok(Committed { woken, halted })
+    }
+
+    // Makes the room for a commit, and finds the nodes that it will touch.
+    fn make_room(
+        &mut self,
+        alloc: Global,
+        event: Event,
+        delta: &Delta,
+    ) -> Result<Vec<u32>, AllocError>
+        requires lawful { IsLawful self.old.net event }
+        requires row { Row ((home self.old).node (event_node event)) (work_at (home self.old) event) delta.now }
+        requires answer { IsAnswer self.old.net event delta.now }
+        ensures same { IsSameWorld self.old self.new }
+        ensures room { OnOk result (HasRoomToPlay self.new.net event delta.now) }
+        ensures touched { IfOk result (λ us. HasEach (touched (network self.old.net) (event_node event) delta.now.sends) us.items) }
+    {
+        let _ = self.net.trace();
+        let nodes = touched(
+            alloc,
+            self.net.graph(),
+            node_of(event),
+            delta.sends.as_slice(),
+        );
+        self.net.reserve(event, delta)?;
+        nodes
+    }
+
+    // The event of a ticket that is out happens, and touches these nodes. Takes no memory.
+    fn carry_out(&mut self, out: u64, event: Event, delta: &Delta, nodes: Vec<u32>) -> Woken
+        requires out { event_out self.old.outs out ≡ Some event }
+        requires answer { IsAnswer self.old.net event delta.now }
+        requires room { HasRoomToPlay self.old.net event delta.now }
+        requires touched { HasEach (touched (network self.old.net) (event_node event) delta.now.sends) nodes.items }
+        ensures commits { Commits self.old out event self.new }
+        ensures others { LeavesOthers self.old out self.new }
+        ensures woken { AreReadyOf self.new (touched (network self.old.net) (event_node event) delta.now.sends) result }
+        ensures roused { HasAllRoused self.old self.new result }
+    {
+        let _ = self.net.trace();
+        self.net.play(event, delta);
+        self.outs.remove(out, event);
+        self.ready_of(nodes)
+    }
+
+    // Of some nodes those that may be checked out.
+    fn ready_of(&self, mut nodes: Vec<u32>) -> Woken
+        ensures { result ≡ filter (has_ready self.now) nodes.items }
+    {
+        nodes.retain(|v| self.has_ready(*v));
+        Woken::of(nodes)
+    }
+
+    /// A ticket comes back, and its event is out no more. A refusal hands it back. Takes no memory.
+    pub fn give_back(&mut self, ticket: Ticket) -> Result<(), (Ticket, BackFault)>
+        ensures ok { OnOk result (IsOut self.old ticket) }
+        ensures home { OnOk result (self.new ≡ record self.old { outs = without ticket.number self.old.outs }) }
+        ensures fault { IfErr result (λ e. RefusesTicket self.old ticket e.1) }
+        ensures back { IfErr result (λ e. e.0 ≡ ticket) }
+        ensures err { OnErr result (self.new ≡ self.old) }
+    {
+        let number = ticket.number();
+        let Some(event) = self.outs.event_of(number) else {
+            return Err((ticket, BackFault::UnknownTicket));
+        };
+        if !self.is_counterfoil(&ticket, event) {
+            return Err((ticket, BackFault::Altered));
+        }
+        self.outs.remove(number, event);
+        Ok(())
+    }
+
+    /// All that is out comes back. The numbers of these tickets aren't used again. Takes no memory.
+    pub fn recall_all(&mut self)
+        ensures { self.new ≡ record self.old { outs = [] } }
+    {
+        self.outs.clear();
+    }
+
+    // Whether a ticket is the one of its number, whose event is out.
+    fn is_counterfoil(&self, ticket: &Ticket, event: Event) -> bool
+        requires { event_out self.now.outs ticket.now.number ≡ Some event }
+        ensures same { IsTrue result ↔ IsOut self.now ticket.now }
+        ensures event { IsTrue result → ticket.now.event ≡ event }
+        ensures lawful { IsLawful self.now.net event }
+    {
+        same_event(ticket.event(), event)
+            && same_work(ticket.work(), self.net.work(event))
+            && ticket.node().same(self.net.node(node_of(event)))
+    }
+
+    /// The home view: what one thread leaves that does the events of the trace in their order.
+    pub fn net(&self) -> &Net
+        ensures net { result.now ≡ self.now.net }
+        ensures run { IsRunUnder (wakers self.now) (network self.now.net) self.now.net.trace }
+    {
+        let _ = self.net.trace();
+        &self.net
+    }
+
+    /// The graph.
+    pub fn graph(&self) -> &Graph
+        ensures { result.now ≡ self.now.net.graph }
+    {
+        self.net.graph()
+    }
+
+    /// The events that were committed, in their order.
+    pub fn trace(&self) -> &[Event]
+        ensures trace { result.now ≡ self.now.net.trace }
+        ensures run { IsRunUnder (wakers self.now) (network self.now.net) self.now.net.trace }
+    {
+        self.net.trace()
+    }
+
+    /// Which nodes may wake by themselves.
+    pub fn wake_set(&self) -> WakeSet
+        ensures { result ≡ self.now.wake }
+    {
+        self.wake
+    }
+
+    /// How many commits there may be, 1 to 2^40.
+    pub fn turns(&self) -> u64
+        ensures turns { result ≡ self.now.turns }
+        ensures few { result ≤ 2 ^ 40 }
+        ensures fits { length self.now.net.trace + length self.now.outs ≤ result }
+    {
+        self.turns
+    }
+
+    /// How many tickets are out.
+    pub fn out_count(&self) -> u64
+        ensures { result ≡ length self.now.outs }
+    {
+        self.outs.len()
+    }
+
+    /// The least node that has halted as a core node.
+    pub fn core_halted(&self) -> Option<u32>
+        ensures least { IsLeastHalted (network self.now.net) (home self.now) result }
+        ensures exact { IsExactWhere self.now.net.graph (home self.now) result }
+    {
+        self.net.core_halted()
+    }
+
+    /// Whether the run has ended: each component has a core node that has halted. Then the Branch links are the minimum
+    /// spanning forest's, each of them Branch at both ends.
+    pub fn ended(&self) -> bool
+        ensures ended { IsTrue result ↔ HasEnded self.now.net.graph (home self.now) }
+        ensures forest { IsTrue result → IsExact self.now.net.graph (home self.now) }
+    {
+        self.net.ended()
+    }
+
+    /// How many messages were sent, consumed and requeued, how many wait in queues, and how many are out with tickets.
+    pub fn ledger(&self) -> Ledger
+        ensures counts { IsWorldLedger self.now result }
+        ensures bound { IsWithinBound self.now.net.graph result }
+    {
+        let home = self.net.ledger();
+        let out = self.outs.messages();
+        Ledger {
+            queued: home.queued - out,
+            out,
+            ..home
+        }
+    }
+
+    /// The links that are Branch at one end at least, in key order: links of the minimum spanning forest, and all of
+    /// them once the run has ended.
+    pub fn branches(&self, alloc: Global) -> Result<Vec<Key>, AllocError>
+        ensures links { IfOk result (λ ks. AreBranches (network self.now.net) (home self.now) ks.items) }
+        ensures tree { IfOk result (λ ks. AreInTree self.now.net.graph.keys ks.items) }
+        ensures forest { IfOk result (λ ks. HasEnded self.now.net.graph (home self.now) → IsTree self.now.net.graph.keys ks.items) }
+    {
+        self.net.branches(alloc)
+    }
+
+    /// The graph, when the world is done with.
+    pub fn into_graph(self) -> Graph
+        ensures { result ≡ self.net.graph }
+    {
+        self.net.into_graph()
+    }
+}
+
+// Whether the graph has the event's node and port.
+fn has_place(graph: &Graph, event: Event) -> bool
+    ensures { result ≡ has_place (network_of graph.now) event }
+{
+    match event {
+        Event::Wake(v) => has_node(graph, v),
+        Event::Take(v, port) => has_node(graph, v) && (port as usize) < graph.ports(v).len(),
+    }
+}
+
+fn has_node(graph: &Graph, v: u32) -> bool
+    ensures { result ≡ is_node (network_of graph.now) v }
+{
+    v > 0 && v <= graph.nodes()
+}
+
+fn same_event(left: Event, right: Event) -> bool
+    ensures { IsTrue result ↔ (left ≡ right) }
+{
+    left == right
+}
+
+fn same_work(left: Work, right: Work) -> bool
+    ensures { IsTrue result ↔ (left ≡ right) }
+{
+    left == right
+}
