@@ -1,3 +1,4 @@
+-- Serves the proof: nothing here has to be believed. lemmas is what proofs above this crate may use.
 pub mod clauses
 pub mod lemmas
 pub mod acts

@@ -111,8 +111,8 @@ module _ (g : Network) (ground : Ground g) (k : ℕ) (log : IsFloorLog2 g.count 
   still : (i : ℕ) → Grows (mark_at (w.node v) i) (get_or (with_mark (w.node v).marks None) i Rejected)
   still i ne = refl
 
-  row_absorbs : (l : ℕ) → w.queue v p ≡ Connect l ∷ ms → Acted g k v gh.up gh.up w (taken g v p (Connect l) ms (absorbs (w.node v) p) w)
-  row_absorbs l waits =
+  row_connect_absorbed : (l : ℕ) → w.queue v p ≡ Connect l ∷ ms → Acted g k v gh.up gh.up w (taken g v p (Connect l) ms (absorbs (w.node v) p) w)
+  row_connect_absorbed l waits =
       pays_so (Connect l) (absorbs (w.node v) p) 0 refl
       (calm (Connect l) waits (absorbs (w.node v) p) refl refl refl
       (λ i. subst (λ (f : ℕ → Mark). Grows (mark_at (w.node v) i) (f i)) (sym (set_marks (w.node v).marks p Branch in_marks)) (grows_branch (λ q. mark_at (w.node v) q) p i free)))
@@ -121,8 +121,8 @@ module _ (g : Network) (ground : Ground g) (k : ℕ) (log : IsFloorLog2 g.count 
       free : mark_at (w.node v) p ≢ Rejected
       free = not_rejected (tree_end (end g (scene w gh) v p)) (tree_end (far_end g (scene w gh) v p)) link.tree link'.tree (Connect l) (see ms).tree (tree_first (w.queue v p) ms (Connect l) refl waits)
 
-  row_merges : (l : ℕ) → w.queue v p ≡ Connect l ∷ ms → Acted g k v gh.up gh.up w (taken g v p (Connect l) ms (merges (w.node v) p) w)
-  row_merges l waits =
+  row_connect_merges : (l : ℕ) → w.queue v p ≡ Connect l ∷ ms → Acted g k v gh.up gh.up w (taken g v p (Connect l) ms (merges (w.node v) p) w)
+  row_connect_merges l waits =
       pays_so (Connect l) (merges (w.node v) p) 0 refl (calm (Connect l) waits (merges (w.node v) p) refl refl refl still)
       (pays_idle k (w.node v).head (gh.up v) low (w.node v).head _ _ 0 refl refl refl refl refl refl refl refl refl refl refl)
 
@@ -131,13 +131,13 @@ module _ (g : Network) (ground : Ground g) (k : ℕ) (log : IsFloorLog2 g.count 
       pays_so (Test l n) (does (w.node v).head None ((p, Accept) ∷ [])) 0 refl (calm (Test l n) waits (does (w.node v).head None ((p, Accept) ∷ [])) refl refl refl still)
       (pays_idle k (w.node v).head (gh.up v) low (w.node v).head _ _ 0 refl refl refl refl refl refl refl refl refl refl refl)
 
-  row_halts : (r : Option Key) → w.queue v p ≡ Report r ∷ ms → Acted g k v gh.up gh.up w (taken g v p (Report r) ms (stops (w.node v).head) w)
-  row_halts r waits =
+  row_report_halts : (r : Option Key) → w.queue v p ≡ Report r ∷ ms → Acted g k v gh.up gh.up w (taken g v p (Report r) ms (stops (w.node v).head) w)
+  row_report_halts r waits =
       pays_so (Report r) (stops (w.node v).head) 0 refl (calm (Report r) waits (stops (w.node v).head) refl refl refl still)
       (pays_idle k (w.node v).head (gh.up v) low (stops (w.node v).head).head _ _ 0 refl refl refl refl refl refl refl refl refl refl refl)
 
-  row_passes : (r : Option Key) → w.queue v p ≡ Report r ∷ ms → Acted g k v gh.up gh.up w (taken g v p (Report r) ms (does (w.node v).head None []) w)
-  row_passes r waits =
+  row_report_passes : (r : Option Key) → w.queue v p ≡ Report r ∷ ms → Acted g k v gh.up gh.up w (taken g v p (Report r) ms (does (w.node v).head None []) w)
+  row_report_passes r waits =
       pays_so (Report r) (does (w.node v).head None []) 0 refl (calm (Report r) waits (does (w.node v).head None []) refl refl refl still)
       (pays_idle k (w.node v).head (gh.up v) low (w.node v).head _ _ 0 refl refl refl refl refl refl refl refl refl refl refl)
 
@@ -155,8 +155,8 @@ module _ (g : Network) (ground : Ground g) (k : ℕ) (log : IsFloorLog2 g.count 
   marks : MarksAre g v ((scene w gh).at v) (w.node v).marks
   marks = record { ports = ports_many is; marks = λ i. refl }
 
-  row_rests : (l : ℕ) (f : Key) → w.queue v p ≡ Initiate l f Found ∷ ms → (w.node v).head.level < l → Acted g k v gh.up gh.up w (taken g v p (Initiate l f Found) ms (rests (w.node v) p l f) w)
-  row_rests l f waits lt =
+  row_initiate_rests : (l : ℕ) (f : Key) → w.queue v p ≡ Initiate l f Found ∷ ms → (w.node v).head.level < l → Acted g k v gh.up gh.up w (taken g v p (Initiate l f Found) ms (rests (w.node v) p l f) w)
+  row_initiate_rests l f waits lt =
       pays_so (Initiate l f Found) (rests (w.node v) p l f) 0 refl
       (calm (Initiate l f Found) waits (rests (w.node v) p l f) refl (all_calls 0 (w.node v).marks p l f Found 2 (λ e. omega (arith, e))) refl still)
       (pays_rest k (w.node v).head (gh.up v) low p l f (w.node v).head.find_count _ (passed_on (w.node v) p l f Found) lt up refl refl (all_calls 0 (w.node v).marks p l f Found))
@@ -167,10 +167,10 @@ module _ (g : Network) (ground : Ground g) (k : ℕ) (log : IsFloorLog2 g.count 
   pub search_free : (l : ℕ) (f : Key) → w.queue v p ≡ Initiate l f Find ∷ ms → (w.node v).head.probe ≡ None
   search_free l f waits = (initiating.idle g ground.wired v at.some at.node p at (scene w gh) sound.first l f Find (see ms).tree (w.node v).marks marks (tree_first (w.queue v p) ms (Initiate l f Find) refl waits) None refl (length (passed_on (w.node v) p l f Find)) (λ e. refl)).0
 
-  row_searches :
+  row_initiate_searches :
       (l : ℕ) (f : Key) (e : Ending) → w.queue v p ≡ Initiate l f Find ∷ ms → (w.node v).head.level < l → Settles (w.node v).marks (no_probe (searching (w.node v) p l f)) e →
       Acted g k v gh.up gh.up w (taken g v p (Initiate l f Find) ms (ends (no_probe (searching (w.node v) p l f)) None (passed_on (w.node v) p l f Find) e) w)
-  row_searches l f e waits lt s =
+  row_initiate_searches l f e waits lt s =
       pays_so (Initiate l f Find) (ends (no_probe (searching (w.node v) p l f)) None (passed_on (w.node v) p l f Find) e) 0 refl
       (arrives g v p w (Initiate l f Find) ms (ends (no_probe (searching (w.node v) p l f)) None (passed_on (w.node v) p l f Find) e) refl 0
       (search_pays g ground.wired v at.some at.node (reacts g v w opening_ghost (ends (no_probe (searching (w.node v) p l f)) None (passed_on (w.node v) p l f Find) e)) own (scene w opening_ghost) (fewer g v p w (Initiate l f Find) ms waits)
@@ -388,11 +388,11 @@ module _ (g : Network) (ground : Ground g) (k : ℕ) (log : IsFloorLog2 g.count 
   -- each row
   pub row_acts :
       (m : Message) (d : Delta) → w.queue v p ≡ m ∷ ms → (row : AwakeRow (w.node v) p m d) → Acted g k v gh.up (ups_after row gh.up v) w (taken g v p m ms d w)
-  row_acts m d q (Connect_absorbed {l = l} lt few) = row_absorbs l q
+  row_acts m d q (Connect_absorbed {l = l} lt few) = row_connect_absorbed l q
   row_acts m d q (Connect_waits {l = l} le basic) = row_round (Connect l) (connect_again g ground v p at w gh sound ms l q basic)
-  row_acts m d q (Connect_merges {l = l} le free lower) = row_merges l q
-  row_acts m d q (Initiate_rests {l = l} {f = f} lt) = row_rests l f q lt
-  row_acts m d q (Initiate_searches {l = l} {f = f} {e = e} lt few s) = row_searches l f e q lt s
+  row_acts m d q (Connect_merges {l = l} le free lower) = row_connect_merges l q
+  row_acts m d q (Initiate_rests {l = l} {f = f} lt) = row_initiate_rests l f q lt
+  row_acts m d q (Initiate_searches {l = l} {f = f} {e = e} lt few s) = row_initiate_searches l f e q lt s
   row_acts m d q (Test_waits {l = l} {f = f} lt) = row_round (Test l f) (test_again g ground v p at w gh sound ms l f q)
   row_acts m d q (Test_accepted {l = l} {f = f} le other) = row_test_accepted l f q
   row_acts m d q (Test_rejected {l = l} {f = f} le same free) = row_test_rejected l f q same free
@@ -403,6 +403,6 @@ module _ (g : Network) (ground : Ground g) (k : ℕ) (log : IsFloorLog2 g.count 
   row_acts m d q (Report_waits {w = r} way finds) = row_round (Report r) (report_again g ground v p at w gh sound ms r q way finds)
   row_acts m d q (Report_moves_root {w = r} b y way found best less) =
       root_moves (Report r) b y (By_report r (tree_first (w.queue v p) ms (Report r) refl q) way found (ap (λ o. below (best_key o) r) best ∙ less)) q best refl refl
-  row_acts m d q (Report_halts way found best) = row_halts None q
-  row_acts m d q (Report_passes {w = r} way found b s) = row_passes r q
+  row_acts m d q (Report_halts way found best) = row_report_halts None q
+  row_acts m d q (Report_passes {w = r} way found b s) = row_report_passes r q
   row_acts m d q (Root_moves b y best) = root_moves ChangeRoot b y (By_root (tree_first (w.queue v p) ms ChangeRoot refl q)) q best refl refl

@@ -1,4 +1,4 @@
--- Each row of the table, and the wake, with floors and tests in order.
+-- Each row of the table, and the wake, read as steps of a scene: all clauses are kept. A row's lemma has its name.
 use Rattle.ghs_graph.specs.declared.key.Key.{Key}
 use Rattle.ghs_node.specs.NodeState.{NodeState, degree, key_at, mark_at, with_mark}
 use Rattle.ghs_node.specs.Reaction.{Ending, absorbs, answered, at_wake, does, ends, heard, merges, moves_root, name_of, no_probe, passed_on, reject_at, requeues, rests, root_mark, root_message, searching, stops, wakes, wakes_alone}
@@ -46,7 +46,7 @@ abbrev pub up_waking : List Mark → Option ℕ → Option ℕ
 up_waking [] o = o
 up_waking (m ∷ ms) o = Some 0
 
--- memory and scenes
+-- a scene in which the clauses hold, as a net with some memory
 module _ (g : Network) (v : ℕ) where
   absorbed_sound : (p : ℕ) (w : Net) (gh : Ghost) → Sound g (absorb g v p (scene w gh)) → SoundWith g gh.up w
   absorbed_sound p w gh h =
@@ -82,7 +82,43 @@ module _ (g : Network) (v p : ℕ) (w : Net) (gh : Ghost) (ms : List Message) wh
       taken_sound g v w gh p m ms (ends x.head mark ss e) (ended x e) refl is
       (ends_after_so g ground v lo hi x (left (see ms)) ss (scene w gh) (subst (λ (s : Seen). Nearly g (acts g v x (left s) ss (scene w gh)) v) rest act) e finds by)
 
+-- a message that goes round: the scene stays
+module _ (g : Network) (ground : Ground g) (v p : ℕ) (at : At g v p) (w : Net) (gh : Ghost) (sound : Sound g (scene w gh)) (ms : List Message) where
+  goes_round : (m : Message) → see (ms ++ m ∷ []) ≡ see (w.queue v p) → SoundWith g gh.up (taken g v p m ms (requeues (w.node v).head) w)
+  goes_round m e = record { ghost = gh; ups = refl; holds = subst (Sound g) (sym (round_scene g v w gh p m ms e)) sound }
+
+  pub connect_again : (l : ℕ) → w.queue v p ≡ Connect l ∷ ms → ((scene w gh).at v).mark p ≡ Basic → see (ms ++ Connect l ∷ []) ≡ see (w.queue v p)
+  connect_again l waits basic =
+      (connect_round l ms (lone_connect (tree_end (end g (scene w gh) v p)) (tree_end (far_end g (scene w gh) v p)) (link_fits g ground.wired (scene w gh) sound.first v p at).tree (link_fits' g ground.wired (scene w gh) sound.first v p at).tree l (see ms).tree (tree_first (w.queue v p) ms (Connect l) refl waits) basic) ∙ sym (ap see waits))
+
+  row_connect_waits : (l : ℕ) → w.queue v p ≡ Connect l ∷ ms → ((scene w gh).at v).mark p ≡ Basic → SoundWith g gh.up (taken g v p (Connect l) ms (requeues (w.node v).head) w)
+  row_connect_waits l waits basic = goes_round (Connect l) (connect_again l waits basic)
+
+  pub report_again :
+      (k : Option Key) → w.queue v p ≡ Report k ∷ ms → (w.node v).head.in_branch ≡ Some p → (w.node v).head.phase ≡ Find →
+      see (ms ++ Report k ∷ []) ≡ see (w.queue v p)
+  report_again k waits way finds =
+      (report_round k ms (lone_report (tree_end (end g (scene w gh) v p)) (tree_end (far_end g (scene w gh) v p)) (link_fits g ground.wired (scene w gh) sound.first v p at).tree (link_fits' g ground.wired (scene w gh) sound.first v p at).tree (link_leads g ground.wired (scene w gh) sound.first v p at) k (see ms).tree (tree_first (w.queue v p) ms (Report k) refl waits) finds up) ∙ sym (ap see waits))
+    where
+      up : gh.up v ≡ Some p
+      up = let s = (node_fits g ground.wired (scene w gh) sound.first v p at).searching finds in s.up ∙ sym s.in_branch ∙ way
+
+  row_report_waits :
+      (k : Option Key) → w.queue v p ≡ Report k ∷ ms → (w.node v).head.in_branch ≡ Some p → (w.node v).head.phase ≡ Find →
+      SoundWith g gh.up (taken g v p (Report k) ms (requeues (w.node v).head) w)
+  row_report_waits k waits way finds = goes_round (Report k) (report_again k waits way finds)
+
+  pub test_again : (l : ℕ) (n : Key) → w.queue v p ≡ Test l n ∷ ms → see (ms ++ Test l n ∷ []) ≡ see (w.queue v p)
+  test_again l n waits =
+      (test_round l n ms (lone_test (test_end (end g (scene w gh) v p)) (test_end (far_end g (scene w gh) v p)) (link_fits' g ground.wired (scene w gh) sound.first v p at).tests (l, n) (see ms).tests (test_first (w.queue v p) ms l n waits)) ∙ sym (ap see waits))
+
+  row_test_waits : (l : ℕ) (n : Key) → w.queue v p ≡ Test l n ∷ ms → SoundWith g gh.up (taken g v p (Test l n) ms (requeues (w.node v).head) w)
+  row_test_waits l n waits = goes_round (Test l n) (test_again l n waits)
+
+-- a message that is taken for good
 module _ (g : Network) (ground : Ground g) (v p : ℕ) (at : At g v p) (w : Net) (is : IsNodeOf g v (w.node v)) (gh : Ghost) (sound : Sound g (scene w gh)) (ms : List Message) where
+  -- Tests and their answers
+
   in_marks : p < degree (w.node v)
   in_marks = let lt = at.port in omega (arith, lt, ports_many is)
 
@@ -165,7 +201,8 @@ module _ (g : Network) (ground : Ground g) (v p : ℕ) (at : At g v p) (w : Net)
       [] e refl (probes_find own) (closes_so g v (accepting (key_at (w.node v) p)) e (subst (λ k. ScansInOrder g v (accepting k)) (sym (key_is_port g v (w.node v) p is)) (accept_scanned g ground.wired v at.some at.node p at (scene w gh) sound (see ms).accepts (accept_first (w.queue v p) ms waits) own)) c)
       (subst (λ k. Nearly g (acts g v (accepting k) (left g v p w gh ms accepted) [] (scene w gh)) v) (sym (key_is_port g v (w.node v) p is)) (accept_nearly g ground.wired v at.some at.node p at (scene w gh) sound (see ms).accepts (accept_first (w.queue v p) ms waits) own))
 
-module _ (g : Network) (ground : Ground g) (v p : ℕ) (at : At g v p) (w : Net) (is : IsNodeOf g v (w.node v)) (gh : Ghost) (sound : Sound g (scene w gh)) (ms : List Message) where
+  -- Connects over the core, Initiates and Reports
+
   -- the node, as a member with another head
   abbrev with_head : Head → Member
   with_head h = record ((scene w gh).at v) { head = h }
@@ -176,23 +213,23 @@ module _ (g : Network) (ground : Ground g) (v p : ℕ) (at : At g v p) (w : Net)
       Sound g
       (acts g v ((scene w gh).at v) (left g v p w gh ms (record (see (w.queue v p)) { tree = (see ms).tree })) ((p, Initiate ((w.node v).head.level + 1) k Find) ∷ []) (scene w gh))
 
-  row_merges : (l : ℕ) → w.queue v p ≡ Connect l ∷ ms → mark_at (w.node v) p ≢ Basic → SoundWith g gh.up (taken g v p (Connect l) ms (merges (w.node v) p) w)
-  row_merges l waits marked =
+  row_connect_merges : (l : ℕ) → w.queue v p ≡ Connect l ∷ ms → mark_at (w.node v) p ≢ Basic → SoundWith g gh.up (taken g v p (Connect l) ms (merges (w.node v) p) w)
+  row_connect_merges l waits marked =
       tree_taken g v p w gh ms (Connect l) refl waits (merges (w.node v) p) ((scene w gh).at v) refl refl
       (λ first. subst Answered (sym (key_is_port g v (w.node v) p is)) (serve_sound g ground.wired v at.some at.node p at (scene w gh) sound l (see ms).tree first marked))
 
   marks : MarksAre g v ((scene w gh).at v) (w.node v).marks
   marks = record { ports = ports_many is; marks = λ i. refl }
 
-  row_rests : (l : ℕ) (f : Key) → w.queue v p ≡ Initiate l f Found ∷ ms → SoundWith g gh.up (taken g v p (Initiate l f Found) ms (rests (w.node v) p l f) w)
-  row_rests l f waits =
+  row_initiate_rests : (l : ℕ) (f : Key) → w.queue v p ≡ Initiate l f Found ∷ ms → SoundWith g gh.up (taken g v p (Initiate l f Found) ms (rests (w.node v) p l f) w)
+  row_initiate_rests l f waits =
       tree_taken g v p w gh ms (Initiate l f Found) refl waits (rests (w.node v) p l f) (with_head (rests (w.node v) p l f).head) refl refl
       (rest_sound g ground.wired v at.some at.node (scene w gh) sound p at (see ms).tree l f (w.node v).marks marks)
 
-  row_searches :
+  row_initiate_searches :
       (l : ℕ) (f : Key) (e : Ending) → w.queue v p ≡ Initiate l f Find ∷ ms → Settles (w.node v).marks (no_probe (searching (w.node v) p l f)) e →
       SoundWith g gh.up (taken g v p (Initiate l f Find) ms (ends (no_probe (searching (w.node v) p l f)) None (passed_on (w.node v) p l f Find) e) w)
-  row_searches l f e waits s =
+  row_initiate_searches l f e waits s =
       search_taken g v p w gh ms ground at.some at.node (Initiate l f Find) _ (tree_left (w.queue v p) ms (Initiate l f Find) refl waits) x None
       (passed_on (w.node v) p l f Find) e refl refl (settles_so g v x (w.node v).marks e refl refl s)
       (search_nearly g ground.wired v at.some at.node (scene w gh) sound p at (see ms).tree l f (w.node v).marks marks (tree_first (w.queue v p) ms (Initiate l f Find) refl waits))
@@ -234,39 +271,8 @@ module _ (g : Network) (ground : Ground g) (v p : ℕ) (at : At g v p) (w : Net)
       tree_taken g v p w gh ms (Report k) refl waits (does (w.node v).head None []) ((scene w gh).at v) refl refl
       (λ first. end_sound g ground.wired v at.some at.node p at (scene w gh) sound k (see ms).tree first found (w.node v).head.halted (inl refl) less (λ x y. absurd (some x y)))
 
-module _ (g : Network) (ground : Ground g) (v p : ℕ) (at : At g v p) (w : Net) (gh : Ghost) (sound : Sound g (scene w gh)) (ms : List Message) where
-  goes_round : (m : Message) → see (ms ++ m ∷ []) ≡ see (w.queue v p) → SoundWith g gh.up (taken g v p m ms (requeues (w.node v).head) w)
-  goes_round m e = record { ghost = gh; ups = refl; holds = subst (Sound g) (sym (round_scene g v w gh p m ms e)) sound }
+  -- a Connect is absorbed, or the root moves
 
-  pub connect_again : (l : ℕ) → w.queue v p ≡ Connect l ∷ ms → ((scene w gh).at v).mark p ≡ Basic → see (ms ++ Connect l ∷ []) ≡ see (w.queue v p)
-  connect_again l waits basic =
-      (connect_round l ms (lone_connect (tree_end (end g (scene w gh) v p)) (tree_end (far_end g (scene w gh) v p)) (link_fits g ground.wired (scene w gh) sound.first v p at).tree (link_fits' g ground.wired (scene w gh) sound.first v p at).tree l (see ms).tree (tree_first (w.queue v p) ms (Connect l) refl waits) basic) ∙ sym (ap see waits))
-
-  row_connect_waits : (l : ℕ) → w.queue v p ≡ Connect l ∷ ms → ((scene w gh).at v).mark p ≡ Basic → SoundWith g gh.up (taken g v p (Connect l) ms (requeues (w.node v).head) w)
-  row_connect_waits l waits basic = goes_round (Connect l) (connect_again l waits basic)
-
-  pub report_again :
-      (k : Option Key) → w.queue v p ≡ Report k ∷ ms → (w.node v).head.in_branch ≡ Some p → (w.node v).head.phase ≡ Find →
-      see (ms ++ Report k ∷ []) ≡ see (w.queue v p)
-  report_again k waits way finds =
-      (report_round k ms (lone_report (tree_end (end g (scene w gh) v p)) (tree_end (far_end g (scene w gh) v p)) (link_fits g ground.wired (scene w gh) sound.first v p at).tree (link_fits' g ground.wired (scene w gh) sound.first v p at).tree (link_leads g ground.wired (scene w gh) sound.first v p at) k (see ms).tree (tree_first (w.queue v p) ms (Report k) refl waits) finds up) ∙ sym (ap see waits))
-    where
-      up : gh.up v ≡ Some p
-      up = let s = (node_fits g ground.wired (scene w gh) sound.first v p at).searching finds in s.up ∙ sym s.in_branch ∙ way
-
-  row_report_waits :
-      (k : Option Key) → w.queue v p ≡ Report k ∷ ms → (w.node v).head.in_branch ≡ Some p → (w.node v).head.phase ≡ Find →
-      SoundWith g gh.up (taken g v p (Report k) ms (requeues (w.node v).head) w)
-  row_report_waits k waits way finds = goes_round (Report k) (report_again k waits way finds)
-
-  pub test_again : (l : ℕ) (n : Key) → w.queue v p ≡ Test l n ∷ ms → see (ms ++ Test l n ∷ []) ≡ see (w.queue v p)
-  test_again l n waits =
-      (test_round l n ms (lone_test (test_end (end g (scene w gh) v p)) (test_end (far_end g (scene w gh) v p)) (link_fits' g ground.wired (scene w gh) sound.first v p at).tests (l, n) (see ms).tests (test_first (w.queue v p) ms l n waits)) ∙ sym (ap see waits))
-
-  row_test_waits : (l : ℕ) (n : Key) → w.queue v p ≡ Test l n ∷ ms → SoundWith g gh.up (taken g v p (Test l n) ms (requeues (w.node v).head) w)
-  row_test_waits l n waits = goes_round (Test l n) (test_again l n waits)
-
-module _ (g : Network) (ground : Ground g) (v p : ℕ) (at : At g v p) (w : Net) (is : IsNodeOf g v (w.node v)) (gh : Ghost) (sound : Sound g (scene w gh)) (ms : List Message) where
   here_fits : NodeFits (length (g.ports v)) ((scene w gh).at v)
   here_fits = node_fits g ground.wired (scene w gh) sound.first v p at
 
@@ -288,10 +294,10 @@ module _ (g : Network) (ground : Ground g) (v p : ℕ) (at : At g v p) (w : Net)
       go None e = absurd (let z = here_fits.naming.level e in omega (arith, z, lt))
       go (Some k) e = e ∙ ap (λ o. Some (name_of (record (w.node v).head { name = o }))) (sym e)
 
-  row_absorbs :
+  row_connect_absorbed :
       (l : ℕ) → w.queue v p ≡ Connect l ∷ ms → l < (w.node v).head.level → (w.node v).head.phase ≢ Sleeping →
       SoundWith g gh.up (taken g v p (Connect l) ms (absorbs (w.node v) p) w)
-  row_absorbs l waits lower awake = absorbed_sound g v p absorbed gh (subst (λ (z : Scene). Sound g (absorb g v p z)) (sym same) step)
+  row_connect_absorbed l waits lower awake = absorbed_sound g v p absorbed gh (subst (λ (z : Scene). Sound g (absorb g v p z)) (sym same) step)
     where
       first : (see (w.queue v p)).tree ≡ Connect l ∷ (see ms).tree
       first = tree_first (w.queue v p) ms (Connect l) refl waits
@@ -371,10 +377,10 @@ module _ (g : Network) (ground : Ground g) (v p : ℕ) (at : At g v p) (w : Net)
         go Branch e =
             record { ghost = with_up gh v (Some b); ups = refl; holds = subst (Sound g) (sym (same e)) (pass_sound g ground.wired v at.some at.node (scene w gh) sound p at (see ms).tree b k calls best e) }
 
-  row_report_moves :
+  row_report_moves_root :
       (r : Option Key) (b : ℕ) (k : Key) → w.queue v p ≡ Report r ∷ ms → (w.node v).head.in_branch ≡ Some p → (w.node v).head.phase ≡ Found →
       (w.node v).head.best ≡ Some (b, k) → below (Some k) r ≡ true → SoundWith g (put gh.up v (Some b)) (taken g v p (Report r) ms (moves_root (w.node v) b) w)
-  row_report_moves r b k waits way found best less =
+  row_report_moves_root r b k waits way found best less =
       moves (Report r) b k
       (By_report r (tree_first (w.queue v p) ms (Report r) refl waits) way found (ap (λ o. below (best_key o) r) best ∙ less))
       (seen (w.queue v p) ms (Report r) refl waits) best
@@ -382,6 +388,7 @@ module _ (g : Network) (ground : Ground g) (v p : ℕ) (at : At g v p) (w : Net)
   row_root_moves : (b : ℕ) (k : Key) → w.queue v p ≡ ChangeRoot ∷ ms → (w.node v).head.best ≡ Some (b, k) → SoundWith g (put gh.up v (Some b)) (taken g v p ChangeRoot ms (moves_root (w.node v) b) w)
   row_root_moves b k waits best = moves ChangeRoot b k (By_root (tree_first (w.queue v p) ms ChangeRoot refl waits)) (seen (w.queue v p) ms ChangeRoot refl waits) best
 
+-- a wake
 module _ (g : Network) (ground : Ground g) (v : ℕ) (lo : 1 ≤ v) (hi : v ≤ g.count) (w : Net) (is : IsNodeOf g v (w.node v)) (gh : Ghost) (sound : Sound g (scene w gh)) (sleeps : (w.node v).head.phase ≡ Sleeping) where
   wakes_over : At g v 0 → SoundWith g (put gh.up v (Some 0)) (reacted g v (wakes (w.node v)) w)
   wakes_over at = ⊎_elim meets goes_out (mark_is (((scene w gh).at (far g v 0)).mark (far_port g v 0)))
@@ -415,16 +422,17 @@ module _ (g : Network) (ground : Ground g) (v : ℕ) (lo : 1 ≤ v) (hi : v ≤ 
           record { ghost = with_up gh v (gh.up v); ups = refl; holds = subst (Sound g) (sym (wake_acts g v w gh (gh.up v) (wakes_alone (w.node v)))) (lone_sound g ground v lo hi (scene w gh) sound sleeps (sym (ports_many is) ∙ ap length e)) }
       go (k ∷ ks) e = wakes_over (record { some = lo; node = hi; port = let z = ports_many is in let y = ap length e in omega (arith, z, y) })
 
+-- all rows, and all steps of a net
 module _ (g : Network) (ground : Ground g) where
   pub row_keeps :
       (v p : ℕ) → At g v p → (w : Net) → IsNodeOf g v (w.node v) → (gh : Ghost) → Sound g (scene w gh) →
       (m : Message) (ms : List Message) (d : Delta) → w.queue v p ≡ m ∷ ms → (w.node v).head.phase ≢ Sleeping → (row : AwakeRow (w.node v) p m d) →
       SoundWith g (ups_after row gh.up v) (taken g v p m ms d w)
-  row_keeps v p at w is gh holds m ms d q up (Connect_absorbed {l = l} lt few) = row_absorbs g ground v p at w is gh holds ms l q lt up
+  row_keeps v p at w is gh holds m ms d q up (Connect_absorbed {l = l} lt few) = row_connect_absorbed g ground v p at w is gh holds ms l q lt up
   row_keeps v p at w is gh holds m ms d q up (Connect_waits {l = l} le basic) = row_connect_waits g ground v p at w gh holds ms l q basic
-  row_keeps v p at w is gh holds m ms d q up (Connect_merges {l = l} le marked low) = row_merges g ground v p at w is gh holds ms l q marked
-  row_keeps v p at w is gh holds m ms d q up (Initiate_rests {l = l} {f = f} lt) = row_rests g ground v p at w is gh holds ms l f q
-  row_keeps v p at w is gh holds m ms d q up (Initiate_searches {l = l} {f = f} {e = e} lt few s) = row_searches g ground v p at w is gh holds ms l f e q s
+  row_keeps v p at w is gh holds m ms d q up (Connect_merges {l = l} le marked low) = row_connect_merges g ground v p at w is gh holds ms l q marked
+  row_keeps v p at w is gh holds m ms d q up (Initiate_rests {l = l} {f = f} lt) = row_initiate_rests g ground v p at w is gh holds ms l f q
+  row_keeps v p at w is gh holds m ms d q up (Initiate_searches {l = l} {f = f} {e = e} lt few s) = row_initiate_searches g ground v p at w is gh holds ms l f e q s
   row_keeps v p at w is gh holds m ms d q up (Test_waits {l = l} {f = f} lt) = row_test_waits g ground v p at w gh holds ms l f q
   row_keeps v p at w is gh holds m ms d q up (Test_accepted {l = l} {f = f} le other) = row_test_accepted g ground v p at w is gh holds ms l f q le other
   row_keeps v p at w is gh holds m ms d q up (Test_rejected {l = l} {f = f} le same free) = row_test_rejected g ground v p at w is gh holds ms l f up q same free
@@ -433,7 +441,7 @@ module _ (g : Network) (ground : Ground g) where
   row_keeps v p at w is gh holds m ms d q up (Reject_heard {e = e} own s) = row_reject_heard g ground v p at w is gh holds ms e q own s
   row_keeps v p at w is gh holds m ms d q up (Report_heard {w = k} {e = e} c away count s) = row_report_heard g ground v p at w is gh holds ms k c e q away count s
   row_keeps v p at w is gh holds m ms d q up (Report_waits {w = k} way finds) = row_report_waits g ground v p at w gh holds ms k q way finds
-  row_keeps v p at w is gh holds m ms d q up (Report_moves_root {w = r} b k way found best less) = row_report_moves g ground v p at w is gh holds ms r b k q way found best less
+  row_keeps v p at w is gh holds m ms d q up (Report_moves_root {w = r} b k way found best less) = row_report_moves_root g ground v p at w is gh holds ms r b k q way found best less
   row_keeps v p at w is gh holds m ms d q up (Report_halts way found best) = row_report_halts g ground v p at w is gh holds ms None q found refl best
   row_keeps v p at w is gh holds m ms d q up (Report_passes {w = k} way found b s) = row_report_passes g ground v p at w is gh holds ms k q found b s
   row_keeps v p at w is gh holds m ms d q up (Root_moves b k best) = row_root_moves g ground v p at w is gh holds ms b k q best
