@@ -15,7 +15,10 @@ use Rattle.ghs_graph.proofs.lemmas.Ports.{among_at}
 -- Places.
 
 -- the counts before a link are the places of its ports
-pub one_placed : (n : ℕ) (ks : List Key) (cs : List ℕ) (i : ℕ) (x y : ℕ) (qs new : List Places) → AreAmong n ks → i < length ks → AreDegrees n (take i ks) cs → x ≡ get_or cs (get_or ks i no_key).a x → y ≡ get_or cs (get_or ks i no_key).b y → ArePlaced ks i qs → new ≡ qs ++ record { a = x; b = y } ∷ [] → AreDegrees n (take (i + 1) ks) (set (set cs (get_or ks i no_key).a (x + 1)) (get_or ks i no_key).b (y + 1)) × ArePlaced ks (i + 1) new
+pub one_placed : (n : ℕ) (ks : List Key) (cs : List ℕ) (i : ℕ) (x y : ℕ) (qs new : List Places) → AreAmong n ks → i < length ks
+    → AreDegrees n (take i ks) cs → x ≡ get_or cs (get_or ks i no_key).a x → y ≡ get_or cs (get_or ks i no_key).b y → ArePlaced ks i qs
+    → new ≡ qs ++ record { a = x; b = y } ∷ []
+    → AreDegrees n (take (i + 1) ks) (set (set cs (get_or ks i no_key).a (x + 1)) (get_or ks i no_key).b (y + 1)) × ArePlaced ks (i + 1) new
 one_placed n ks cs i x y qs new among lt g ex ey placed e = (
   one_counted n ks cs i no_key x y among lt g x_is y_is,
   rw e (record {
@@ -72,7 +75,8 @@ blocks_from n ks cs ss d s = record {
   total = s.each (n + 1) (omega (arith, d.count)) ∙ ap (λ (xs : List ℕ). sum xs) (take_all (n + 1) cs (omega (arith, d.count))) ∙ d.total;
 }
 
-pub blocks_up : (n : ℕ) (ks : List Key) (ss : List ℕ) → AreBlocks n ks ss → (u w : ℕ) → u < w → w ≤ n + 1 → get_or ss u 0 + degree ks u ≤ get_or ss w 0
+pub blocks_up : (n : ℕ) (ks : List Key) (ss : List ℕ) → AreBlocks n ks ss → (u w : ℕ) → u < w → w ≤ n + 1
+    → get_or ss u 0 + degree ks u ≤ get_or ss w 0
 blocks_up n ks ss b u zero lt le = absurd (omega arith)
 blocks_up n ks ss b u (suc w) lt le =
     let h : get_or ss (suc w) 0 ≡ get_or ss w 0 + degree ks w = rw (← add-one w) (b.next w (omega arith)) in
@@ -82,11 +86,13 @@ blocks_up n ks ss b u (suc w) lt le =
     (cases_eq u w)
 
 -- places of different nodes differ
-pub places_apart : (n : ℕ) (ks : List Key) (ss : List ℕ) → AreBlocks n ks ss → (u v i j : ℕ) → u ≤ n → v ≤ n → u ≢ v → i < degree ks u → j < degree ks v → get_or ss u 0 + i ≢ get_or ss v 0 + j
+pub places_apart : (n : ℕ) (ks : List Key) (ss : List ℕ) → AreBlocks n ks ss → (u v i j : ℕ) → u ≤ n → v ≤ n → u ≢ v → i < degree ks u
+    → j < degree ks v → get_or ss u 0 + i ≢ get_or ss v 0 + j
 places_apart n ks ss b u v i j ul vl ne il jl e = ⊎_elim
     (λ (lt : u < v). let h = blocks_up n ks ss b u v lt (omega arith) in absurd (omega (arith, h)))
     (λ ge. let h = blocks_up n ks ss b v u (omega arith) (omega arith) in absurd (omega (arith, h)))
     (cases_lt u v)
 
-pub place_in : (n : ℕ) (ks : List Key) (ss : List ℕ) → AreBlocks n ks ss → (u i : ℕ) → u ≤ n → i < degree ks u → get_or ss u 0 + i < get_or ss (n + 1) 0
+pub place_in : (n : ℕ) (ks : List Key) (ss : List ℕ) → AreBlocks n ks ss → (u i : ℕ) → u ≤ n → i < degree ks u
+    → get_or ss u 0 + i < get_or ss (n + 1) 0
 place_in n ks ss b u i ul il = let h = blocks_up n ks ss b u (n + 1) (omega arith) (omega arith) in omega (arith, h)

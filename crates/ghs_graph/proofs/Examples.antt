@@ -53,7 +53,8 @@ tree_of_triangle = tree_is triangle (is_rising triangle refl)
 abbrev even : List Key
 even = key 4 1 2 ∷ key 4 1 3 ∷ key 4 2 3 ∷ []
 
-weights_of_even : (total_weight (key 4 1 2 ∷ key 4 1 3 ∷ []) ≡ 8) × (total_weight (key 4 1 2 ∷ key 4 2 3 ∷ []) ≡ 8) × (total_weight (key 4 1 3 ∷ key 4 2 3 ∷ []) ≡ 8)
+weights_of_even : (total_weight (key 4 1 2 ∷ key 4 1 3 ∷ []) ≡ 8) × (total_weight (key 4 1 2 ∷ key 4 2 3 ∷ []) ≡ 8)
+    × (total_weight (key 4 1 3 ∷ key 4 2 3 ∷ []) ≡ 8)
 weights_of_even = (refl, refl, refl)
 
 tree_of_even : IsTree even (key 4 1 2 ∷ key 4 1 3 ∷ [])

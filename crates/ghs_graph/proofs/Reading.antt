@@ -11,7 +11,8 @@ use Rattle.ghs_graph.specs.Graph.{IsGraph}
 abbrev pub no_triple : Triple
 no_triple = (0, 0, 0)
 
-rising_map : (ts : List Triple) → ((i j : ℕ) (d : Triple) → i < j → j < length ts → key_lt (key_of (get_or ts i d)) (key_of (get_or ts j d)) ≡ true) → IsRising (map key_of ts)
+rising_map : (ts : List Triple) → ((i j : ℕ) (d : Triple) → i < j → j < length ts → key_lt (key_of (get_or ts i d)) (key_of (get_or ts j d)) ≡ true)
+    → IsRising (map key_of ts)
 rising_map ts r i j d lt jl =
     let len = length-map ts key_of in
     rw (get_or-map key_of ts i no_triple d (omega arith), get_or-map key_of ts j no_triple d (omega arith)) (r i j no_triple lt (omega arith))

@@ -18,7 +18,8 @@ module _ (g : Shape) (ls : List ℕ) (among : AreAmong g.nodes g.keys) (told : A
     joined = told.joined v r (omega arith) (omega (arith, r_high)) (sym f.labelled);
     least = λ u way.
         let in_graph : (1 ≤ u) × (u ≤ g.nodes) = joined_nodes g.nodes g.keys among low high way in
-        ⊎_elim (λ lt. absurd (f.before u in_graph.0 lt (sym (told.together v u (omega arith) (omega (arith, in_graph.1)) way)))) (λ le. le) (cases_lt u r);
+        ⊎_elim (λ lt. absurd (f.before u in_graph.0 lt (sym (told.together v u (omega arith) (omega (arith, in_graph.1)) way)))) (λ le. le)
+        (cases_lt u r);
   }
     where
       r_high : r ≤ v
@@ -44,7 +45,9 @@ module _ (g : Shape) (ls : List ℕ) (among : AreAmong g.nodes g.keys) (told : A
   }
 
 -- what a graph is built of: its links, the classes that they join, and the ports
-pub built : (n m : ℕ) (ks given laid_of : List Key) (ls starts rs : List ℕ) (ports : List Port) (count : ℕ) → n ≡ m → IsGraph (record { nodes = m; keys = ks }) → given ≡ ks → AreTold ls given → length ls ≡ n + 1 → AreFirsts ls rs → HasClasses ls count → laid_of ≡ ks → AreLaid n laid_of starts ports → IsBuilt (record { nodes = n; keys = ks }) starts ports rs count
+pub built : (n m : ℕ) (ks given laid_of : List Key) (ls starts rs : List ℕ) (ports : List Port) (count : ℕ) → n ≡ m
+    → IsGraph (record { nodes = m; keys = ks }) → given ≡ ks → AreTold ls given → length ls ≡ n + 1 → AreFirsts ls rs → HasClasses ls count
+    → laid_of ≡ ks → AreLaid n laid_of starts ports → IsBuilt (record { nodes = n; keys = ks }) starts ports rs count
 built n m ks given laid_of ls starts rs ports count en ok eg told size firsts classes el laid =
     let g : Shape = record { nodes = n; keys = ks } in
     let graph : IsGraph g = rw en ok in

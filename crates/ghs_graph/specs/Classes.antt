@@ -13,7 +13,8 @@ IsFresh ls = (v : ℕ) → v < length ls → slice_index ls v ≡ v
 -- the classes of u and v have become one, and the others stay
 pub record Unites (old new : List ℕ) (u v : ℕ) : Type 0 where
   pub same : length new ≡ length old
-  pub to : (x y : ℕ) → x < length old → y < length old → AreTogether new x y → AreTogether old x y ⊎ ((AreTogether old x u × AreTogether old v y) ⊎ (AreTogether old x v × AreTogether old u y))
+  pub to : (x y : ℕ) → x < length old → y < length old → AreTogether new x y
+      → AreTogether old x y ⊎ ((AreTogether old x u × AreTogether old v y) ⊎ (AreTogether old x v × AreTogether old u y))
   pub keeps : (x y : ℕ) → x < length old → y < length old → AreTogether old x y → AreTogether new x y
   pub joins : AreTogether new u v
 

@@ -27,7 +27,9 @@ PortsEndElsewhere = (g : Shape) → IsGraph g → (v i : ℕ) (p : Port) → Has
 
 -- the far port of a port has the same key, and leads back
 abbrev pub PortsLeadBack : Type 0
-PortsLeadBack = (g : Shape) → IsGraph g → (v i : ℕ) (p : Port) → HasPort g.keys v i p → HasPort g.keys p.far p.far_port (record { key = p.key; far = v; far_port = i })
+PortsLeadBack =
+    (g : Shape) → IsGraph g → (v i : ℕ) (p : Port) → HasPort g.keys v i p
+    → HasPort g.keys p.far p.far_port (record { key = p.key; far = v; far_port = i })
 
 -- the keys of a node's ports rise
 abbrev pub PortsRise : Type 0
@@ -58,7 +60,10 @@ RootsTell = (ks : List Key) (u v r s : ℕ) → IsRoot ks u r → IsRoot ks v s 
 
 -- there is one number of components: by so many the links of the forest are fewer than the nodes
 abbrev pub ForestHasFewer : Type 0
-ForestHasFewer = (g : Shape) → IsGraph g → (count : ℕ) × HasComponents g count × ((c : ℕ) (tree : List Key) → HasComponents g c → IsTree g.keys tree → (c ≡ count) × (length tree + c ≡ g.nodes))
+ForestHasFewer =
+    (g : Shape) → IsGraph g
+    → (count : ℕ) × HasComponents g count
+    × ((c : ℕ) (tree : List Key) → HasComponents g c → IsTree g.keys tree → (c ≡ count) × (length tree + c ≡ g.nodes))
 
 -- The minimum spanning forest.
 

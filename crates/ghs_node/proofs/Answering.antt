@@ -33,7 +33,8 @@ module _ (n : NodeState) (w : Work) (f : IsNode n) (h : HasPort n w) where
   answered_memory (Err Unforeseen) a e = absurd cc
   answered_memory (Err Memory) a e = sending_row (reaction n w) refl a
 
-  pub answered_unforeseen : (r : Result Delta NodeFault) → Answers r (reaction n w) → (IsErrOf r Unforeseen → HasPort n w × NoRule n w) × (HasPort n w × NoRule n w → IsErrOf r Unforeseen)
+  pub answered_unforeseen : (r : Result Delta NodeFault) → Answers r (reaction n w)
+      → (IsErrOf r Unforeseen → HasPort n w × NoRule n w) × (HasPort n w × NoRule n w → IsErrOf r Unforeseen)
   answered_unforeseen (Ok d) a = (λ e. absurd cc, λ l. absurd (let z = ruleless_computes n w l.1 in cc))
   answered_unforeseen (Err NoPort) a = absurd a
   answered_unforeseen (Err Unforeseen) a = (λ e. (h, reaction_ruleless n w f.level a), λ l. refl)

@@ -5,10 +5,12 @@ use Rattle.ghs_node.specs.declared.mark.Mark.TheVariants.{Basic, Branch, Rejecte
 use Rattle.ghs_node.specs.declared.message.Message.{Message}
 use Rattle.ghs_node.specs.Words.{Outgoing, on_branches, on_branches_from}
 
-pub branches_here : (ms : List Mark) (i j : ℕ) (m : Message) → i < length ms → get_or ms i Rejected ≡ Branch → i ≢ j → on_branches_from i (drop i ms) j m ≡ (i, m) ∷ on_branches_from (i + 1) (drop (i + 1) ms) j m
+pub branches_here : (ms : List Mark) (i j : ℕ) (m : Message) → i < length ms → get_or ms i Rejected ≡ Branch → i ≢ j
+    → on_branches_from i (drop i ms) j m ≡ (i, m) ∷ on_branches_from (i + 1) (drop (i + 1) ms) j m
 branches_here ms i j m lt e ne = rw (drop-cons ms i Rejected lt, e, ne_eqb i j ne, add-one)
 
-pub branches_past : (ms : List Mark) (i j : ℕ) (m : Message) → i < length ms → (get_or ms i Rejected ≡ Branch → i ≡ j) → on_branches_from i (drop i ms) j m ≡ on_branches_from (i + 1) (drop (i + 1) ms) j m
+pub branches_past : (ms : List Mark) (i j : ℕ) (m : Message) → i < length ms → (get_or ms i Rejected ≡ Branch → i ≡ j)
+    → on_branches_from i (drop i ms) j m ≡ on_branches_from (i + 1) (drop (i + 1) ms) j m
 branches_past ms i j m lt h = rw (drop-cons ms i Rejected lt, add-one) (go (get_or ms i Rejected) h)
   where
     go : (k : Mark) → (k ≡ Branch → i ≡ j) → on_branches_from i (k ∷ drop (suc i) ms) j m ≡ on_branches_from (suc i) (drop (suc i) ms) j m

@@ -24,10 +24,12 @@ settle_computes ms h e (Probes p l) = rw l
 settle_computes ms h e (Exhausts l c) = rw l (close_computes h e c)
 
 -- the same reaction, by the same ending
-ends_alike : (h : Head) (m : Option (ℕ × Mark)) (s : Outgoing) {e f : Ending} → e ≡ f → ◌≡◌ {A = Option Delta} (Some (ends h m s e)) (Some (ends h m s f))
+ends_alike : (h : Head) (m : Option (ℕ × Mark)) (s : Outgoing) {e f : Ending} → e ≡ f
+    → ◌≡◌ {A = Option Delta} (Some (ends h m s e)) (Some (ends h m s f))
 ends_alike h m s q = ap (λ (e : Ending). Some (ends h m s e)) q
 
-passes_computes : (n : NodeState) (w : Option Key) (o : Best) → below (best_key o) w ≡ false → (w ≡ None → o ≢ None) → (below w None || below (best_key o) None) ≡ true
+passes_computes : (n : NodeState) (w : Option Key) (o : Best) → below (best_key o) w ≡ false → (w ≡ None → o ≢ None)
+    → (below w None || below (best_key o) None) ≡ true
 passes_computes n None None b s = absurd (s refl refl)
 passes_computes n None (Some k) b s = refl
 passes_computes n (Some k) o b s = refl
@@ -81,7 +83,8 @@ pub ruleless_computes : (n : NodeState) (w : Work) → NoRule n w → reaction n
 ruleless_computes n w (Already_awake up) = rw (is_sleeping_not _ up)
 ruleless_computes n w (Still_asleep s m) = rw s (for_awake_computes n _ _ m)
 ruleless_computes n w (Initiate_too_low up le) = rw (is_sleeping_not _ up, le-ltb _ _ le)
-ruleless_computes n w (Initiate_to_sleep {l = l} up) = rw (is_sleeping_not _ up) (elim (nat_lt n.head.level l) as (λ b. ◌≡◌ {A = Option Delta} (cond b None None) None) [ true ↦ refl | false ↦ refl ])
+ruleless_computes n w (Initiate_to_sleep {l = l} up) =
+    rw (is_sleeping_not _ up) (elim (nat_lt n.head.level l) as (λ b. ◌≡◌ {A = Option Delta} (cond b None None) None) [ true ↦ refl | false ↦ refl ])
 ruleless_computes n w (Accept_untested up ne) = rw (is_sleeping_not _ up, is_at_not _ _ ne)
 ruleless_computes n w (Reject_untested up ne) = rw (is_sleeping_not _ up, is_at_not _ _ ne)
 ruleless_computes n w (Report_unowed up ne z) = rw (is_sleeping_not _ up, is_at_not _ _ ne, z)

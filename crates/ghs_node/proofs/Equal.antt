@@ -19,7 +19,12 @@ use Rattle.ghs_node.specs.contracts.message.Phase as phases
 use denote.Enum.Bare.{sameb}
 
 pub key_decides : (k l : Key) → Decides (key_eq k l) (k ≡ l)
-key_decides k l = (λ t. equal (and_parts (k.weight == l.weight) ((k.a == l.a) && (k.b == l.b)) t), λ e. let p = ap (λ (k : Key). k.weight) e in let q = ap (λ (k : Key). k.a) e in let r = ap (λ (k : Key). k.b) e in rw (eq-eqb k.weight l.weight p, eq-eqb k.a l.a q, eq-eqb k.b l.b r) refl)
+key_decides k l = (
+  λ t. equal (and_parts (k.weight == l.weight) ((k.a == l.a) && (k.b == l.b)) t),
+  λ e.
+      let p = ap (λ (k : Key). k.weight) e in
+      let q = ap (λ (k : Key). k.a) e in let r = ap (λ (k : Key). k.b) e in rw (eq-eqb k.weight l.weight p, eq-eqb k.a l.a q, eq-eqb k.b l.b r) refl,
+)
   where
     equal : ((k.weight == l.weight) ≡ true) × (((k.a == l.a) && (k.b == l.b)) ≡ true) → k ≡ l
     equal h =
@@ -57,11 +62,53 @@ best_decides b c =
     (λ t. (let h = d.0 t in λ i. (h.0 i, h.1 i)), λ e. d.1 (ap (λ (p : ℕ × Key). p.0) e, ap (λ (p : ℕ × Key). p.1) e))
 
 abbrev head_eq : Head → Head → Bool
-head_eq g h = (g.level == h.level) && (option_eq key_eq g.name h.name && (sameb phases.the_type g.phase h.phase && ((g.find_count == h.find_count) && (option_eq (λ a b. a == b) g.in_branch h.in_branch && (option_eq best_eq g.best h.best && (option_eq (λ a b. a == b) g.probe h.probe && beq g.halted h.halted))))))
+head_eq g h =
+    (g.level == h.level) &&
+    (option_eq key_eq g.name h.name &&
+    (sameb phases.the_type g.phase h.phase &&
+    ((g.find_count == h.find_count) &&
+    (option_eq (λ a b. a == b) g.in_branch h.in_branch &&
+    (option_eq best_eq g.best h.best && (option_eq (λ a b. a == b) g.probe h.probe && beq g.halted h.halted))))))
 
 pub head_decides : (g h : Head) → Decides (head_eq g h) (g ≡ h)
 head_decides g h =
-    let d = Decides-and _ _ (Decides-eqb g.level h.level) (Decides-and _ _ (option_decides key_decides g.name h.name) (Decides-and _ _ (phase_decides g.phase h.phase) (Decides-and _ _ (Decides-eqb g.find_count h.find_count) (Decides-and _ _ (option_decides Decides-eqb g.in_branch h.in_branch) (Decides-and _ _ (option_decides best_decides g.best h.best) (Decides-and _ _ (option_decides Decides-eqb g.probe h.probe) (booleans_Decides g.halted h.halted))))))) in (
-      λ t. (let e = d.0 t in λ i. record { level = e.0 i; name = e.1.0 i; phase = e.1.1.0 i; find_count = e.1.1.1.0 i; in_branch = e.1.1.1.1.0 i; best = e.1.1.1.1.1.0 i; probe = e.1.1.1.1.1.1.0 i; halted = e.1.1.1.1.1.1.1 i }),
-      λ e. d.1 (ap (λ (x : Head). x.level) e, (ap (λ (x : Head). x.name) e, (ap (λ (x : Head). x.phase) e, (ap (λ (x : Head). x.find_count) e, (ap (λ (x : Head). x.in_branch) e, (ap (λ (x : Head). x.best) e, (ap (λ (x : Head). x.probe) e, ap (λ (x : Head). x.halted) e))))))),
+    let d =
+    Decides-and _ _ (Decides-eqb g.level h.level)
+    (Decides-and _ _ (option_decides key_decides g.name h.name)
+    (Decides-and _ _ (phase_decides g.phase h.phase)
+    (Decides-and _ _ (Decides-eqb g.find_count h.find_count)
+    (Decides-and _ _ (option_decides Decides-eqb g.in_branch h.in_branch)
+    (Decides-and _ _ (option_decides best_decides g.best h.best)
+    (Decides-and _ _ (option_decides Decides-eqb g.probe h.probe)
+    (booleans_Decides g.halted h.halted))))))) in (
+      λ t.
+          (let e = d.0 t in
+          λ i.
+          record {
+            level = e.0 i;
+            name = e.1.0 i;
+            phase = e.1.1.0 i;
+            find_count = e.1.1.1.0 i;
+            in_branch = e.1.1.1.1.0 i;
+            best = e.1.1.1.1.1.0 i;
+            probe = e.1.1.1.1.1.1.0 i;
+            halted = e.1.1.1.1.1.1.1 i;
+          }),
+      λ e.
+          d.1 (
+            ap (λ (x : Head). x.level) e,
+            (
+              ap (λ (x : Head). x.name) e,
+              (
+                ap (λ (x : Head). x.phase) e,
+                (
+                  ap (λ (x : Head). x.find_count) e,
+                  (
+                    ap (λ (x : Head). x.in_branch) e,
+                    (ap (λ (x : Head). x.best) e, (ap (λ (x : Head). x.probe) e, ap (λ (x : Head). x.halted) e)),
+                  ),
+                ),
+              ),
+            ),
+          ),
     )

@@ -68,14 +68,16 @@ module _ (n : NodeState) (f : IsNode n) (d : Draft) (begun : d ≡ begun_in n) w
   pub connect_begins : (j l : ℕ) → j < degree n → goes_on d (awake (drafted n d) j (Connect l)) ≡ reaction n (Deliver j (Connect l))
   connect_begins j l lt = rw begun (go (is_sleeping n.head.phase) refl)
     where
-      go : (b : Bool) → is_sleeping n.head.phase ≡ b → goes_on (begun_in n) (awake (drafted n (begun_in n)) j (Connect l)) ≡ reaction n (Deliver j (Connect l))
+      go : (b : Bool) → is_sleeping n.head.phase ≡ b
+          → goes_on (begun_in n) (awake (drafted n (begun_in n)) j (Connect l)) ≡ reaction n (Deliver j (Connect l))
       go false e = rw e (blank_goes_on n (awake n j (Connect l)))
       go true e = rw e (connect_goes_on n f (sleeping_is _ e) j l lt)
 
   pub test_begins : (j l : ℕ) (k : Key) → j < degree n → goes_on d (awake (drafted n d) j (Test l k)) ≡ reaction n (Deliver j (Test l k))
   test_begins j l k lt = rw begun (go (is_sleeping n.head.phase) refl)
     where
-      go : (b : Bool) → is_sleeping n.head.phase ≡ b → goes_on (begun_in n) (awake (drafted n (begun_in n)) j (Test l k)) ≡ reaction n (Deliver j (Test l k))
+      go : (b : Bool) → is_sleeping n.head.phase ≡ b
+          → goes_on (begun_in n) (awake (drafted n (begun_in n)) j (Test l k)) ≡ reaction n (Deliver j (Test l k))
       go false e = rw e (blank_goes_on n (awake n j (Test l k)))
       go true e = rw e (test_goes_on n f (sleeping_is _ e) j l k lt)
 

@@ -102,14 +102,17 @@ closed_probe d o w (Waits a) = w
 
 better_below : (d : ℕ) (b : Best) (j : ℕ) (w : Option Key) → j < d → BestIsBelow d b → BestIsBelow d (better b j w)
 better_below d b j None lt i = i
-better_below d b j (Some k) lt i = elim (below (Some k) (best_key b)) as (λ (t : Bool). BestIsBelow d (cond t (Some (j, k)) b)) [ true ↦ lt | false ↦ i ]
+better_below d b j (Some k) lt i =
+    elim (below (Some k) (best_key b)) as (λ (t : Bool). BestIsBelow d (cond t (Some (j, k)) b)) [ true ↦ lt | false ↦ i ]
 
-named : {n : NodeState} {j : ℕ} {m : Message} {d : Delta} → (n.head.in_branch ≡ None → n.head.name ≡ None) → AwakeRow n j m d → d.head.in_branch ≡ None → d.head.name ≡ None
+named : {n : NodeState} {j : ℕ} {m : Message} {d : Delta} → (n.head.in_branch ≡ None → n.head.name ≡ None) → AwakeRow n j m d
+    → d.head.in_branch ≡ None → d.head.name ≡ None
 named h (Initiate_rests lt) x = cc
 named h (Initiate_searches lt few s) x = cc
 named h _ x = h x
 
-nameless : {n : NodeState} {j : ℕ} {m : Message} {d : Delta} → (n.head.name ≡ None → n.head.in_branch ≡ None) → AwakeRow n j m d → d.head.name ≡ None → d.head.in_branch ≡ None
+nameless : {n : NodeState} {j : ℕ} {m : Message} {d : Delta} → (n.head.name ≡ None → n.head.in_branch ≡ None) → AwakeRow n j m d → d.head.name ≡ None
+    → d.head.in_branch ≡ None
 nameless h (Initiate_rests lt) x = cc
 nameless h (Initiate_searches lt few s) x = cc
 nameless h _ x = h x
@@ -128,22 +131,27 @@ new h (Reject_heard a s) x = absurd (let z = (h x).3 in cc)
 new h (Report_heard c a e s) x = absurd (let z = (h x).1 in cc)
 new h _ x = h x
 
-in_branch_below : {n : NodeState} {j : ℕ} {m : Message} {d : Delta} {k : ℕ} → j < k → IsPortBelow k n.head.in_branch → AwakeRow n j m d → IsPortBelow k d.head.in_branch
+in_branch_below : {n : NodeState} {j : ℕ} {m : Message} {d : Delta} {k : ℕ} → j < k → IsPortBelow k n.head.in_branch → AwakeRow n j m d
+    → IsPortBelow k d.head.in_branch
 in_branch_below lt i (Initiate_rests a) = lt
 in_branch_below lt i (Initiate_searches a few s) = lt
 in_branch_below lt i _ = i
 
-best_kept_below : {n : NodeState} {j : ℕ} {m : Message} {d : Delta} {k : ℕ} → j < k → BestIsBelow k n.head.best → AwakeRow n j m d → BestIsBelow k d.head.best
+best_kept_below : {n : NodeState} {j : ℕ} {m : Message} {d : Delta} {k : ℕ} → j < k → BestIsBelow k n.head.best → AwakeRow n j m d
+    → BestIsBelow k d.head.best
 best_kept_below lt i (Initiate_rests a) = tt
 best_kept_below lt i (Initiate_searches a few s) = tt
 best_kept_below {n} {j} {k = k} lt i (Accept_heard a s) = better_below k n.head.best j (Some (key_at n j)) lt i
 best_kept_below {n} {j} {k = k} lt i (Report_heard {w = w} c a e s) = better_below k n.head.best j w lt i
 best_kept_below lt i _ = i
 
-probe_below : {n : NodeState} {j : ℕ} {m : Message} {d : Delta} → IsPortBelow (degree n) n.head.probe → AwakeRow n j m d → IsPortBelow (degree n) d.head.probe
+probe_below : {n : NodeState} {j : ℕ} {m : Message} {d : Delta} → IsPortBelow (degree n) n.head.probe → AwakeRow n j m d
+    → IsPortBelow (degree n) d.head.probe
 probe_below i (Initiate_searches {e = e} a few s) = ended_probe s
-probe_below {n} {j} i (Tests_cross {e = e} a b c s) = subst (λ k. IsPortBelow k (probe_after None e)) (length-with_mark n.marks (reject_at n j)) (ended_probe s)
-probe_below {n} {j} i (Reject_heard {e = e} a s) = subst (λ k. IsPortBelow k (probe_after None e)) (length-with_mark n.marks (reject_at n j)) (ended_probe s)
+probe_below {n} {j} i (Tests_cross {e = e} a b c s) =
+    subst (λ k. IsPortBelow k (probe_after None e)) (length-with_mark n.marks (reject_at n j)) (ended_probe s)
+probe_below {n} {j} i (Reject_heard {e = e} a s) =
+    subst (λ k. IsPortBelow k (probe_after None e)) (length-with_mark n.marks (reject_at n j)) (ended_probe s)
 probe_below i (Accept_heard a s) = closed_probe _ None tt s
 probe_below i (Report_heard c a e s) = closed_probe _ _ i s
 probe_below i _ = i
@@ -159,7 +167,8 @@ level_below i l (Initiate_rests lt) = l
 level_below i l (Initiate_searches lt few s) = l
 level_below i l _ = i
 
-pub awake_kept : {n : NodeState} {j : ℕ} {m : Message} {d : Delta} → n.head.phase ≢ Sleeping → j < degree n → IsNode n → d.head.level ≤ 20 → AwakeRow n j m d → IsNode (after n d)
+pub awake_kept : {n : NodeState} {j : ℕ} {m : Message} {d : Delta} → n.head.phase ≢ Sleeping → j < degree n → IsNode n → d.head.level ≤ 20
+    → AwakeRow n j m d → IsNode (after n d)
 awake_kept {n} {j} {m} {d} up lt f l r = record {
   ports = length-with_mark n.marks d.mark ∙ f.ports;
   few = rw (length-with_mark n.marks d.mark) f.few;
@@ -174,7 +183,8 @@ awake_kept {n} {j} {m} {d} up lt f l r = record {
 }
 
 -- a node that has just woken
-pub woken_kept : (n : NodeState) → IsNode n → n.head.phase ≡ Sleeping → IsNode (record n { head = (woken n).head; marks = with_mark n.marks (Some (0, Branch)) })
+pub woken_kept : (n : NodeState) → IsNode n → n.head.phase ≡ Sleeping
+    → IsNode (record n { head = (woken n).head; marks = with_mark n.marks (Some (0, Branch)) })
 woken_kept n f s =
     let e = (f.asleep s).0 in
     let same = length-with_mark n.marks (Some (0, Branch)) in

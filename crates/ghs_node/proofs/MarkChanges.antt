@@ -64,7 +64,8 @@ row_marks n w d f (Woken_accepts s lt) = To_branch 0 (omega arith)
 row_marks n w d f (Awake up lt r) = awake_marks f lt r
 
 -- a mark after one was set: as it was, or the one that was set
-pub mark_set : (ms : List Mark) (p q : ℕ) (k : Mark) → (get_or (set ms p k) q Rejected ≡ get_or ms q Rejected) ⊎ ((q ≡ p) × (get_or (set ms p k) q Rejected ≡ k))
+pub mark_set : (ms : List Mark) (p q : ℕ) (k : Mark)
+    → (get_or (set ms p k) q Rejected ≡ get_or ms q Rejected) ⊎ ((q ≡ p) × (get_or (set ms p k) q Rejected ≡ k))
 mark_set ms p q k = ⊎_elim same other (cases_eq q p)
   where
     past : q ≡ p → length ms ≤ p → get_or (set ms p k) q Rejected ≡ get_or ms q Rejected
@@ -77,7 +78,8 @@ mark_set ms p q k = ⊎_elim same other (cases_eq q p)
     other ne = inl (get_or-set_other ms p q k Rejected ne)
 
 -- a Branch mark stays where a mark changes so
-pub branch_stays : (n : NodeState) (o : Option (ℕ × Mark)) (q : ℕ) → MarkChange n o → mark_at n q ≡ Branch → get_or (with_mark n.marks o) q Rejected ≡ Branch
+pub branch_stays : (n : NodeState) (o : Option (ℕ × Mark)) (q : ℕ) → MarkChange n o → mark_at n q ≡ Branch
+    → get_or (with_mark n.marks o) q Rejected ≡ Branch
 branch_stays n None q Stays h = h
 branch_stays n _ q (To_branch p lt) h = ⊎_elim (λ e. e ∙ h) (λ e. e.1) (mark_set n.marks p q Branch)
 branch_stays n _ q (To_rejected p lt b) h = ⊎_elim (λ e. e ∙ h) (λ e. absurd (clash e.0)) (mark_set n.marks p q Rejected)
@@ -100,10 +102,14 @@ basic_no Branch ne = refl
 basic_no Rejected ne = refl
 
 -- the least Basic port, found by looking at the ports in turn
-pub least_basic_at : (ms : List Mark) (i : ℕ) → i < length ms → get_or ms i Rejected ≡ Basic → ((k : ℕ) → k < i → get_or ms k Rejected ≢ Basic) → least_basic ms ≡ Some i
+pub least_basic_at : (ms : List Mark) (i : ℕ) → i < length ms → get_or ms i Rejected ≡ Basic → ((k : ℕ) → k < i → get_or ms k Rejected ≢ Basic)
+    → least_basic ms ≡ Some i
 least_basic_at ms i lt e below =
-    let at : position_or_len is_basic ms ≡ i = position_or_len_is is_basic ms i Rejected (omega arith) (λ k h. basic_no _ (below k h)) (λ h. rw e) in rw (at, lt-ltb i (length ms) lt)
+    let at : position_or_len is_basic ms ≡ i = position_or_len_is is_basic ms i Rejected (omega arith) (λ k h. basic_no _ (below k h)) (λ h. rw e) in
+    rw (at, lt-ltb i (length ms) lt)
 
 pub least_basic_none : (ms : List Mark) (i : ℕ) → length ms ≤ i → ((k : ℕ) → k < i → get_or ms k Rejected ≢ Basic) → least_basic ms ≡ None
 least_basic_none ms i le below =
-    let at : position_or_len is_basic ms ≡ length ms = position_or_len_is is_basic ms (length ms) Rejected (omega arith) (λ k h. basic_no _ (below k (omega arith))) (λ h. absurd (omega arith)) in rw (at, le-ltb (length ms) (length ms) (omega arith))
+    let at : position_or_len is_basic ms ≡ length ms =
+    position_or_len_is is_basic ms (length ms) Rejected (omega arith) (λ k h. basic_no _ (below k (omega arith))) (λ h. absurd (omega arith)) in
+    rw (at, le-ltb (length ms) (length ms) (omega arith))

@@ -18,9 +18,14 @@ module _ (n : NodeState) (j : ℕ) (up : n.head.phase ≢ Sleeping) where
   connect_ruleless : (l : ℕ) → n.head.level ≤ 20 → awake n j (Connect l) ≡ None → NoRule n (Deliver j (Connect l))
   connect_ruleless l top e =
       none_by (nat_lt l n.head.level) _ _
-      (λ t x. none_by (nat_le (absorbs n j).head.find_count (degree n)) _ _ (λ a y. a_delta _ y) (λ a y. Absorbs_too_many up (ltb-true _ _ t) (leb-false _ _ a)) x)
+      (λ t x.
+      none_by (nat_le (absorbs n j).head.find_count (degree n)) _ _ (λ a y. a_delta _ y)
+      (λ a y. Absorbs_too_many up (ltb-true _ _ t) (leb-false _ _ a)) x)
       (λ t x. none_by (is_basic (mark_at n j)) _ _ (λ a y. a_delta _ y)
-      (λ a y. none_by (nat_lt n.head.level 20) _ _ (λ b z. a_delta _ z) (λ b z. let le = ltb-false _ _ b in let ge = ltb-false _ _ t in Merge_above_levels up (omega arith) (omega arith) (basic_not _ a)) y) x) e
+      (λ a y.
+      none_by (nat_lt n.head.level 20) _ _ (λ b z. a_delta _ z)
+      (λ b z. let le = ltb-false _ _ b in let ge = ltb-false _ _ t in Merge_above_levels up (omega arith) (omega arith) (basic_not _ a)) y)
+      x) e
 
   initiate_ruleless : (l : ℕ) (f : Key) (s : Phase) → awake n j (Initiate l f s) ≡ None → NoRule n (Deliver j (Initiate l f s))
   initiate_ruleless l f s e = none_by (nat_lt n.head.level l) _ _ (λ t x. start s (ltb-true _ _ t) x) (λ t x. Initiate_too_low up (ltb-false _ _ t)) e
@@ -28,12 +33,16 @@ module _ (n : NodeState) (j : ℕ) (up : n.head.phase ≢ Sleeping) where
       start : (s : Phase) → n.head.level < l → at_initiate n j l f s ≡ None → NoRule n (Deliver j (Initiate l f s))
       start Sleeping lt x = Initiate_to_sleep up
       start Found lt x = a_delta _ x
-      start Find lt x = none_by (nat_le (searching n j l f).find_count (degree n)) _ _ (λ a y. a_delta _ y) (λ a y. Searches_too_many up lt (leb-false _ _ a)) x
+      start Find lt x =
+          none_by (nat_le (searching n j l f).find_count (degree n)) _ _ (λ a y. a_delta _ y) (λ a y. Searches_too_many up lt (leb-false _ _ a)) x
 
   test_rules : {P : Type 0} (l : ℕ) (f : Key) → awake n j (Test l f) ≡ None → P
   test_rules l f e =
       none_by (nat_lt n.head.level l) _ _ (λ t x. a_delta _ x)
-      (λ t x. none_by (not (is_name n.head.name f)) _ _ (λ a y. a_delta _ y) (λ a y. none_by (not (is_at n.head.probe j)) _ _ (λ b z. a_delta _ z) (λ b z. a_delta _ z) y) x) e
+      (λ t x.
+      none_by (not (is_name n.head.name f)) _ _ (λ a y. a_delta _ y)
+      (λ a y. none_by (not (is_at n.head.probe j)) _ _ (λ b z. a_delta _ z) (λ b z. a_delta _ z) y) x)
+      e
 
   -- a best link that is above some key is there
   above_rules : {P : Type 0} (w : Option Key) (o : Best) → below (best_key o) w ≡ true → root_to n o ≡ None → P

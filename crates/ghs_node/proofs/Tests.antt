@@ -10,7 +10,8 @@ use Rattle.ghs_node.specs.declared.delta.Delta.{Delta}
 use Rattle.ghs_node.specs.Words.{is_basic, is_branch, is_sleeping, is_find, is_at, is_missing, is_zero}
 
 -- a choice that came out as Some d
-pub by_test : {P : Type 0} (b : Bool) (x y : Option Delta) (d : Delta) → (b ≡ true → x ≡ Some d → P) → (b ≡ false → y ≡ Some d → P) → cond b x y ≡ Some d → P
+pub by_test : {P : Type 0} (b : Bool) (x y : Option Delta) (d : Delta) → (b ≡ true → x ≡ Some d → P) → (b ≡ false → y ≡ Some d → P)
+    → cond b x y ≡ Some d → P
 by_test true x y d f g e = f refl e
 by_test false x y d f g e = g refl e
 

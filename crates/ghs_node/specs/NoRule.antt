@@ -27,8 +27,12 @@ pub data NoRule (n : NodeState) : Work → Type 0 where
   Initiate_to_sleep : {j l : ℕ} {f : Key} → n.head.phase ≢ Sleeping → NoRule n (Deliver j (Initiate l f Sleeping))
   Accept_untested : {j : ℕ} → n.head.phase ≢ Sleeping → n.head.probe ≢ Some j → NoRule n (Deliver j Accept)
   Reject_untested : {j : ℕ} → n.head.phase ≢ Sleeping → n.head.probe ≢ Some j → NoRule n (Deliver j Reject)
-  Report_unowed : {j : ℕ} {w : Option Key} → n.head.phase ≢ Sleeping → n.head.in_branch ≢ Some j → n.head.find_count ≡ 0 → NoRule n (Deliver j (Report w))
+  Report_unowed : {j : ℕ} {w : Option Key} → n.head.phase ≢ Sleeping → n.head.in_branch ≢ Some j → n.head.find_count ≡ 0
+      → NoRule n (Deliver j (Report w))
   Root_without_best : {j : ℕ} → n.head.phase ≢ Sleeping → n.head.best ≡ None → NoRule n (Deliver j ChangeRoot)
-  Merge_above_levels : {j l : ℕ} → n.head.phase ≢ Sleeping → n.head.level ≡ TOP_LEVEL → TOP_LEVEL ≤ l → mark_at n j ≢ Basic → NoRule n (Deliver j (Connect l))
-  Absorbs_too_many : {j l : ℕ} → n.head.phase ≢ Sleeping → l < n.head.level → degree n < (absorbs n j).head.find_count → NoRule n (Deliver j (Connect l))
-  Searches_too_many : {j l : ℕ} {f : Key} → n.head.phase ≢ Sleeping → n.head.level < l → degree n < (searching n j l f).find_count → NoRule n (Deliver j (Initiate l f Find))
+  Merge_above_levels : {j l : ℕ} → n.head.phase ≢ Sleeping → n.head.level ≡ TOP_LEVEL → TOP_LEVEL ≤ l → mark_at n j ≢ Basic
+      → NoRule n (Deliver j (Connect l))
+  Absorbs_too_many : {j l : ℕ} → n.head.phase ≢ Sleeping → l < n.head.level → degree n < (absorbs n j).head.find_count
+      → NoRule n (Deliver j (Connect l))
+  Searches_too_many : {j l : ℕ} {f : Key} → n.head.phase ≢ Sleeping → n.head.level < l → degree n < (searching n j l f).find_count
+      → NoRule n (Deliver j (Initiate l f Find))

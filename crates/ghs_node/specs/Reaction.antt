@@ -58,7 +58,14 @@ last_sends h Reporting = (core_port h, Report (best_key h.best)) ∷ []
 last_sends h Waiting = []
 
 abbrev pub ends : Head → Option (ℕ × Mark) → Outgoing → Ending → Delta
-ends h m s e = record { head = record h { phase = phase_after h.phase e; probe = probe_after h.probe e }; mark = m; sends = s ++ last_sends h e; fate = Consumed; halts = false }
+ends h m s e =
+    record {
+      head = record h { phase = phase_after h.phase e; probe = probe_after h.probe e };
+      mark = m;
+      sends = s ++ last_sends h e;
+      fate = Consumed;
+      halts = false;
+    }
 
 -- close: where no Report is waited for and no Test is out, the node reports
 abbrev pub close_ending : Head → Ending
@@ -102,7 +109,9 @@ root_to n (Some b) = Some (moves_root n b.0)
 
 -- a Connect of a lower level: its fragment is absorbed, and joins the search where there is one
 abbrev pub absorbs : NodeState → ℕ → Delta
-absorbs n j = does (record n.head { find_count = find_more n.head.phase n.head.find_count }) (Some (j, Branch)) ((j, Initiate n.head.level (name_of n.head) n.head.phase) ∷ [])
+absorbs n j =
+    does (record n.head { find_count = find_more n.head.phase n.head.find_count }) (Some (j, Branch))
+    ((j, Initiate n.head.level (name_of n.head) n.head.phase) ∷ [])
 
 -- a Connect over a link that this node has chosen too: the two fragments merge
 abbrev pub merges : NodeState → ℕ → Delta
@@ -204,8 +213,11 @@ abbrev pub once_woken : Delta → Delta
 once_woken d = record d { mark = Some (0, Branch); sends = (0, Connect 0) ∷ d.sends }
 
 abbrev pub asleep : NodeState → ℕ → Message → Option Delta
-asleep n j (Connect l) = if j == 0 then Some (once_woken (does (woken n).head None ((0, Initiate 1 (key_at n 0) Find) ∷ []))) else Some (once_woken (requeues (woken n).head))
-asleep n j (Test l f) = if l == 0 then Some (once_woken (does (woken n).head None ((j, Accept) ∷ []))) else Some (once_woken (requeues (woken n).head))
+asleep n j (Connect l) =
+    if j == 0 then Some (once_woken (does (woken n).head None ((0, Initiate 1 (key_at n 0) Find) ∷ []))) else Some
+    (once_woken (requeues (woken n).head))
+asleep n j (Test l f) =
+    if l == 0 then Some (once_woken (does (woken n).head None ((j, Accept) ∷ []))) else Some (once_woken (requeues (woken n).head))
 asleep n j (Initiate l f s) = None
 asleep n j Accept = None
 asleep n j Reject = None

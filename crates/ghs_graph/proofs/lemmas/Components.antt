@@ -34,19 +34,29 @@ found test (suc n) = next (found test n)
     next (At m lt e before) = At m (omega arith) e before
     next (Nowhere none) = ⊎_elim
         (λ e. At n (omega arith) e none)
-        (λ e. Nowhere (λ u lt p. ⊎_elim (λ (q : u ≡ n). both_ways (test n) e (subst (λ x. test x ≡ true) q p)) (λ ne. none u (omega arith) p) (cases_eq u n)))
+        (λ e.
+        Nowhere
+        (λ u lt p.
+        ⊎_elim (λ (q : u ≡ n). both_ways (test n) e (subst (λ x. test x ≡ true) q p)) (λ ne. none u (omega arith) p) (cases_eq u n)))
         (cases_Bool (test n))
 
 pub nodes_have_roots : NodesHaveRoots
 nodes_have_roots ks v = root (found (joins ks v) (suc v))
   where
     root : Found (joins ks v) (suc v) → (r : ℕ) × IsRoot ks v r
-    root (At r lt e before) = (r, record { joined = (joins_tells ks v r).0 e; least = λ u way. ⊎_elim (λ l. absurd (before u l ((joins_tells ks v u).1 way))) (λ le. le) (cases_lt u r) })
+    root (At r lt e before) = (
+      r,
+      record {
+        joined = (joins_tells ks v r).0 e;
+        least = λ u way. ⊎_elim (λ l. absurd (before u l ((joins_tells ks v u).1 way))) (λ le. le) (cases_lt u r);
+      },
+    )
     root (Nowhere none) = absurd (none v (omega arith) ((joins_tells ks v v).1 Same))
 
 pub roots_tell : RootsTell
 roots_tell ks u v r s p q = (
-  λ way. let low : s ≤ r = q.least r (joined_then (joined_back way) p.joined) in let high : r ≤ s = p.least s (joined_then way q.joined) in omega arith,
+  λ way.
+      let low : s ≤ r = q.least r (joined_then (joined_back way) p.joined) in let high : r ≤ s = p.least s (joined_then way q.joined) in omega arith,
   λ e. joined_then p.joined (joined_back (subst (λ x. Joined (links ks) v x) (sym e) q.joined)),
 )
 
@@ -63,10 +73,13 @@ root_own ks v r h = record { joined = Same; least = λ u way. h.least u (joined_
 
 -- Links that join the same.
 
-root_like : (ks js : List Key) → ((u v : ℕ) → Joined (links ks) u v → Joined (links js) u v) → ((u v : ℕ) → Joined (links js) u v → Joined (links ks) u v) → (v r : ℕ) → IsRoot ks v r → IsRoot js v r
+root_like : (ks js : List Key) → ((u v : ℕ) → Joined (links ks) u v → Joined (links js) u v)
+    → ((u v : ℕ) → Joined (links js) u v → Joined (links ks) u v) → (v r : ℕ) → IsRoot ks v r → IsRoot js v r
 root_like ks js f g v r h = record { joined = f v r h.joined; least = λ u way. h.least u (g v u way) }
 
-components_like : (n : ℕ) (ks js : List Key) (c : ℕ) → ((u v : ℕ) → Joined (links ks) u v → Joined (links js) u v) → ((u v : ℕ) → Joined (links js) u v → Joined (links ks) u v) → HasComponents (record { nodes = n; keys = ks }) c → HasComponents (record { nodes = n; keys = js }) c
+components_like : (n : ℕ) (ks js : List Key) (c : ℕ) → ((u v : ℕ) → Joined (links ks) u v → Joined (links js) u v)
+    → ((u v : ℕ) → Joined (links js) u v → Joined (links ks) u v) → HasComponents (record { nodes = n; keys = ks }) c
+    → HasComponents (record { nodes = n; keys = js }) c
 components_like n ks js c f g h = record {
   leasts = h.leasts;
   rising = h.rising;
@@ -80,7 +93,8 @@ components_like n ks js c f g h = record {
 -- the links js are ks and one more, whose ends are p and q
 record IsBridged (ks js : List Key) (p q : ℕ) : Type 0 where
   wider : {u v : ℕ} → Joined (links ks) u v → Joined (links js) u v
-  over : {u v : ℕ} → Joined (links js) u v → Joined (links ks) u v ⊎ ((Joined (links ks) u p × Joined (links ks) q v) ⊎ (Joined (links ks) u q × Joined (links ks) p v))
+  over : {u v : ℕ} → Joined (links js) u v
+      → Joined (links ks) u v ⊎ ((Joined (links ks) u p × Joined (links ks) q v) ⊎ (Joined (links ks) u q × Joined (links ks) p v))
   joins : Joined (links js) p q
 
 bridged : (ks : List Key) (k : Key) → IsBridged ks (ks ++ k ∷ []) k.a k.b
@@ -102,7 +116,12 @@ module _ (ks js : List Key) (p q r s : ℕ) (b : IsBridged ks js p q) (of_p : Is
   root_left : (v : ℕ) → IsRoot js v v → IsRoot ks v v × (v ≢ s)
   root_left v h = (
     record { joined = Same; least = λ u way. h.least u (b.wider way) },
-    λ e. let low : v ≤ r = h.least r (subst (λ x. Joined (links js) x r) (sym e) (joined_then (b.wider (joined_back of_q.joined)) (joined_then (joined_back b.joins) (b.wider of_p.joined)))) in absurd (omega arith),
+    λ e.
+        let low : v ≤ r =
+        h.least r
+        (subst (λ x. Joined (links js) x r) (sym e)
+        (joined_then (b.wider (joined_back of_q.joined)) (joined_then (joined_back b.joins) (b.wider of_p.joined)))) in
+        absurd (omega arith),
   )
 
   -- the others stay
@@ -118,17 +137,21 @@ module _ (ks js : List Key) (p q r s : ℕ) (b : IsBridged ks js p q) (of_p : Is
         (b.over way);
   }
 
-  components_fewer : (n c : ℕ) → 1 ≤ s → s ≤ n → HasComponents (record { nodes = n; keys = ks }) c → (d : ℕ) × HasComponents (record { nodes = n; keys = js }) d × (d + 1 ≡ c)
+  components_fewer : (n c : ℕ) → 1 ≤ s → s ≤ n → HasComponents (record { nodes = n; keys = ks }) c
+      → (d : ℕ) × HasComponents (record { nodes = n; keys = js }) d × (d + 1 ≡ c)
   components_fewer n c low high h = (
     length (filter other h.leasts),
     record {
       leasts = filter other h.leasts;
       rising = AllPairs-filter (λ u v. u < v) other h.leasts h.rising;
-      has = λ v o. let i = in_filter other h.leasts v o in let t = h.has v i.0 in (t.0, t.1, root_stays v t.2 (eqb-false v s (not-true (v == s) i.1)));
+      has =
+          λ v o. let i = in_filter other h.leasts v o in let t = h.has v i.0 in (t.0, t.1, root_stays v t.2 (eqb-false v s (not-true (v == s) i.1)));
       all = λ v vl vh w. let i = root_left v w in filter_has other h.leasts v (h.all v vl vh i.0) (not_from_false (v == s) (ne_eqb v s i.1));
       number = refl;
     },
-    length-without (λ u v. u < v) (λ x l. absurd (omega arith)) (λ x y l m. absurd (omega arith)) other s (ap not (eq-eqb s s refl)) (λ x ne. not_from_false (x == s) (ne_eqb x s ne)) h.leasts h.rising (h.all s low high (root_own ks q s of_q)) ∙ h.number,
+    length-without (λ u v. u < v) (λ x l. absurd (omega arith)) (λ x y l m. absurd (omega arith)) other s (ap not (eq-eqb s s refl))
+        (λ x ne. not_from_false (x == s) (ne_eqb x s ne)) h.leasts h.rising (h.all s low high (root_own ks q s of_q))
+        ∙ h.number,
   )
     where
       other : ℕ → Bool
@@ -160,7 +183,8 @@ record IsCounted (n : ℕ) (ks : List Key) : Type 0 where
 counted_none : (n : ℕ) → IsCounted n []
 counted_none n = record { tree = []; is = tree_of_none; count = n; has = components_of_none n; fewer = omega arith }
 
-counted_more : (n : ℕ) (ks : List Key) (k : Key) → AreAmong n ks → (1 ≤ k.a) × (k.a < k.b) × (k.b ≤ n) → ((j : Key) → Contains ks j → key_lt j k ≡ true) → IsCounted n ks → IsCounted n (ks ++ k ∷ [])
+counted_more : (n : ℕ) (ks : List Key) (k : Key) → AreAmong n ks → (1 ≤ k.a) × (k.a < k.b) × (k.b ≤ n)
+    → ((j : Key) → Contains ks j → key_lt j k ≡ true) → IsCounted n ks → IsCounted n (ks ++ k ∷ [])
 counted_more n ks k among ends below c = ⊎_elim still fewer (decided (joins ks k.a k.b) (joins_tells ks k.a k.b))
   where
     more : List Key
@@ -173,7 +197,9 @@ counted_more n ks k among ends below c = ⊎_elim still fewer (decided (joins ks
       count = c.count;
       has = components_like n ks more c.count
           (λ u v w. joined_within (λ j s. Contains-append_left ks (k ∷ []) j s) w)
-          (λ u v w. joined_through (λ j s. ⊎_elim (λ o. Over j o Same) (λ e. subst (λ (x : Key). Joined (links ks) x.a x.b) e way) (Contains-push_cases ks k j s)) w)
+          (λ u v w.
+          joined_through
+          (λ j s. ⊎_elim (λ o. Over j o Same) (λ e. subst (λ (x : Key). Joined (links ks) x.a x.b) e way) (Contains-push_cases ks k j s)) w)
           c.has;
       fewer = c.fewer;
     }
@@ -204,7 +230,9 @@ counted_more n ks k among ends below c = ⊎_elim still fewer (decided (joins ks
         (λ e. absurd (apart ((roots_tell ks k.a k.b root_a.0 root_b.0 root_a.1 root_b.1).1 e)))
         (λ o. ⊎_elim
         (λ lt. components_fewer ks more k.a k.b root_a.0 root_b.0 (bridged ks k) root_a.1 root_b.1 lt n c.count node_b.0 node_b.1 c.has)
-        (λ lt. components_fewer ks more k.b k.a root_b.0 root_a.0 (bridged_back ks more k.a k.b (bridged ks k)) root_b.1 root_a.1 lt n c.count node_a.0 node_a.1 c.has)
+        (λ lt.
+        components_fewer ks more k.b k.a root_b.0 root_a.0 (bridged_back ks more k.a k.b (bridged ks k)) root_b.1 root_a.1 lt n c.count node_a.0
+        node_a.1 c.has)
         o)
         (cases_order root_a.0 root_b.0))
 
@@ -216,7 +244,8 @@ module _ (g : Shape) (ok : IsGraph g) where
       let k : Key = get_or g.keys i no_key in
       let ends : (1 ≤ k.a) × (k.a < k.b) × (k.b ≤ g.nodes) = ok.among i no_key lt in
       subst (IsCounted g.nodes) (sym (ap (λ m. take m g.keys) (sym (add-one i)) ∙ take_more g.keys i no_key lt))
-      (counted_more g.nodes (take i g.keys) k (All-take (λ (j : Key). (1 ≤ j.a) × (j.a < j.b) × (j.b ≤ g.nodes)) i g.keys ok.among) ends (below_at g.keys i no_key ok.rising lt) (counted_up_to i (omega arith)))
+      (counted_more g.nodes (take i g.keys) k (All-take (λ (j : Key). (1 ≤ j.a) × (j.a < j.b) × (j.b ≤ g.nodes)) i g.keys ok.among) ends
+      (below_at g.keys i no_key ok.rising lt) (counted_up_to i (omega arith)))
 
   counted : IsCounted g.nodes g.keys
   counted = subst (IsCounted g.nodes) (take_all (length g.keys) g.keys (omega arith)) (counted_up_to (length g.keys) (omega arith))
@@ -224,8 +253,13 @@ module _ (g : Shape) (ok : IsGraph g) where
 -- there is one number of components
 pub components_are_one : (g : Shape) (c d : ℕ) → HasComponents g c → HasComponents g d → c ≡ d
 components_are_one g c d p q =
-    let within : (x y : ℕ) (f : HasComponents g x) (h : HasComponents g y) (v : ℕ) → Contains f.leasts v → Contains h.leasts v = λ x y f h v o. let t = f.has v o in h.all v t.0 t.1 t.2 in
-    sym p.number ∙ ap (λ (xs : List ℕ). length xs) (same_rising (λ u v. u < v) (λ x l. absurd (omega arith)) (λ x y l m. absurd (omega arith)) p.leasts q.leasts p.rising q.rising (within c d p q) (within d c q p)) ∙ q.number
+    let within : (x y : ℕ) (f : HasComponents g x) (h : HasComponents g y) (v : ℕ) → Contains f.leasts v → Contains h.leasts v =
+    λ x y f h v o. let t = f.has v o in h.all v t.0 t.1 t.2 in
+    sym p.number
+    ∙ ap (λ (xs : List ℕ). length xs)
+    (same_rising (λ u v. u < v) (λ x l. absurd (omega arith)) (λ x y l m. absurd (omega arith)) p.leasts q.leasts p.rising q.rising
+    (within c d p q) (within d c q p))
+    ∙ q.number
 
 pub forest_has_fewer : ForestHasFewer
 forest_has_fewer g ok = (

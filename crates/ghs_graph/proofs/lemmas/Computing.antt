@@ -38,8 +38,20 @@ tree ks = filter (in_tree ks) ks
 pub tree_is : (ks : List Key) → IsRising ks → IsTree ks (tree ks)
 tree_is ks r = record {
   rising = AllPairs-filter (λ j k. key_lt j k ≡ true) (in_tree ks) ks r;
-  has = λ k h. let o = in_filter (in_tree ks) ks k h in (o.0, λ way. both_ways (below k) (not-true (below k) o.1) ((joins_tells (smaller k) k.a k.b).1 (joined_within (λ j s. filter_has (λ i. key_lt i k) ks j s.0 s.1) way)));
-  all = λ k h. filter_has (in_tree ks) ks k h.0 (not_from_false (below k) (false_from_ne_true (below k) (λ e. h.1 (joined_within (λ j s. in_filter (λ i. key_lt i k) ks j s) ((joins_tells (smaller k) k.a k.b).0 e)))));
+  has =
+      λ k h.
+      let o = in_filter (in_tree ks) ks k h in (
+        o.0,
+        λ way.
+            both_ways (below k) (not-true (below k) o.1)
+            ((joins_tells (smaller k) k.a k.b).1 (joined_within (λ j s. filter_has (λ i. key_lt i k) ks j s.0 s.1) way)),
+      );
+  all =
+      λ k h.
+      filter_has (in_tree ks) ks k h.0
+      (not_from_false (below k)
+      (false_from_ne_true (below k)
+      (λ e. h.1 (joined_within (λ j s. in_filter (λ i. key_lt i k) ks j s) ((joins_tells (smaller k) k.a k.b).0 e)))));
 }
   where
     smaller : Key → List Key
@@ -63,12 +75,18 @@ root_tells ks v r = Decides-like (is_root ks v r)
     (λ h. record { joined = h.0; least = λ u way. ⊎_elim (λ (lt : u < r). absurd (h.1 u lt way)) (λ le. le) (cases_lt u r) })
     (λ h. (h.joined, λ u lt way. absurd (omega (arith, h.least u way))))
     (Decides-and (joins ks v r) (none_below (joins ks v) r) (joins_tells ks v r)
-    (Decides-below_and (λ u. not (joins ks v u)) (λ u. Joined (links ks) v u → ⊥) (none_below (joins ks v)) (λ u. Decides-not (joins ks v u) (joins_tells ks v u)) refl (λ n. refl) r))
+    (Decides-below_and (λ u. not (joins ks v u)) (λ u. Joined (links ks) v u → ⊥) (none_below (joins ks v))
+    (λ u. Decides-not (joins ks v u) (joins_tells ks v u)) refl (λ n. refl) r))
 
 -- Components.
 
 pub nodes_rise : (n : ℕ) → AllPairs (λ u v. u < v) (range_with_len 1 n)
-nodes_rise n i j d lt jl = omega (arith, get_or-range_with_len 1 n i d (omega (arith, length-range_with_len 1 n)), get_or-range_with_len 1 n j d (omega (arith, length-range_with_len 1 n)))
+nodes_rise n i j d lt jl =
+    omega (
+      arith,
+      get_or-range_with_len 1 n i d (omega (arith, length-range_with_len 1 n)),
+      get_or-range_with_len 1 n j d (omega (arith, length-range_with_len 1 n)),
+    )
 
 pub node_in : (n v : ℕ) → Contains (range_with_len 1 n) v → (1 ≤ v) × (v ≤ n)
 node_in n v h =
@@ -76,7 +94,9 @@ node_in n v h =
     (omega (arith, here, h.2), omega (arith, here, h.2, h.1, length-range_with_len 1 n))
 
 pub in_nodes : (n v : ℕ) → 1 ≤ v → v ≤ n → Contains (range_with_len 1 n) v
-in_nodes n v low high = let place : v ≡ 1 + (v - 1) = omega arith in (v - 1, omega (arith, length-range_with_len 1 n), get_or-range_with_len 1 n (v - 1) v (omega arith) ∙ sym place)
+in_nodes n v low high =
+    let place : v ≡ 1 + (v - 1) = omega arith in
+    (v - 1, omega (arith, length-range_with_len 1 n), get_or-range_with_len 1 n (v - 1) v (omega arith) ∙ sym place)
 
 -- how many nodes are their own roots
 abbrev pub components : Shape → ℕ

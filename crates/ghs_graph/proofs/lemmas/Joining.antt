@@ -74,8 +74,10 @@ from_one_more S T e f t (inr (inr p)) = joined_then (joined_within f p.0) (Back 
 -- a node is joined with nodes alone
 pub joined_nodes : (n : ℕ) (ks : List Key) {v u : ℕ} → AreAmong n ks → 1 ≤ v → v ≤ n → Joined (links ks) v u → (1 ≤ u) × (u ≤ n)
 joined_nodes n ks among low high Same = (low, high)
-joined_nodes n ks among low high (Over k s way) = let r = All-contains (λ (j : Key). (1 ≤ j.a) × (j.a < j.b) × (j.b ≤ n)) ks k among s in joined_nodes n ks among (omega (arith, r.0, r.1)) r.2 way
-joined_nodes n ks among low high (Back k s way) = let r = All-contains (λ (j : Key). (1 ≤ j.a) × (j.a < j.b) × (j.b ≤ n)) ks k among s in joined_nodes n ks among r.0 (omega (arith, r.1, r.2)) way
+joined_nodes n ks among low high (Over k s way) =
+    let r = All-contains (λ (j : Key). (1 ≤ j.a) × (j.a < j.b) × (j.b ≤ n)) ks k among s in joined_nodes n ks among (omega (arith, r.0, r.1)) r.2 way
+joined_nodes n ks among low high (Back k s way) =
+    let r = All-contains (λ (j : Key). (1 ≤ j.a) × (j.a < j.b) × (j.b ≤ n)) ks k among s in joined_nodes n ks among r.0 (omega (arith, r.1, r.2)) way
 
 -- Whether links of a list join two nodes.
 

@@ -19,15 +19,24 @@ in_cases x y xs h = ⊎_elim (λ a. ⊎_elim (λ n. absurd (nothing_in y n)) inr
 pub in_filter : {X : Type 0} (test : X → Bool) (xs : List X) (x : X) → Contains (filter test xs) x → Contains xs x × (test x ≡ true)
 in_filter test [] x h = absurd (nothing_in x h)
 in_filter {X} test (y ∷ ys) x h =
-    let later : Contains (filter test ys) x → Contains (y ∷ ys) x × (test x ≡ true) = λ o. let r = in_filter test ys x o in (later_in y x ys r.0, r.1) in
+    let later : Contains (filter test ys) x → Contains (y ∷ ys) x × (test x ≡ true) =
+    λ o. let r = in_filter test ys x o in (later_in y x ys r.0, r.1) in
     ⊎_elim
-    (λ e. ⊎_elim later (λ q. (subst (λ (z : X). Contains (y ∷ ys) z) q (first_in y ys), subst (λ (z : X). test z ≡ true) q e)) (in_cases y x (filter test ys) (rw e at h)))
+    (λ e.
+    ⊎_elim later (λ q. (subst (λ (z : X). Contains (y ∷ ys) z) q (first_in y ys), subst (λ (z : X). test z ≡ true) q e))
+    (in_cases y x (filter test ys) (rw e at h)))
     (λ e. later (rw e at h))
     (cases_Bool (test y))
 
 pub filter_has : {X : Type 0} (test : X → Bool) (xs : List X) (x : X) → Contains xs x → test x ≡ true → Contains (filter test xs) x
 filter_has test [] x h t = absurd (nothing_in x h)
 filter_has {X} test (y ∷ ys) x h t = ⊎_elim
-    (λ e. rw e (⊎_elim (λ o. later_in y x (filter test ys) (filter_has test ys x o t)) (λ q. subst (λ (z : X). Contains (y ∷ filter test ys) z) q (first_in y (filter test ys))) (in_cases y x ys h)))
-    (λ e. rw e (⊎_elim (λ o. filter_has test ys x o t) (λ q. absurd (both_ways (test y) e (subst (λ (z : X). test z ≡ true) (sym q) t))) (in_cases y x ys h)))
+    (λ e.
+    rw e
+    (⊎_elim (λ o. later_in y x (filter test ys) (filter_has test ys x o t))
+    (λ q. subst (λ (z : X). Contains (y ∷ filter test ys) z) q (first_in y (filter test ys))) (in_cases y x ys h)))
+    (λ e.
+    rw e
+    (⊎_elim (λ o. filter_has test ys x o t) (λ q. absurd (both_ways (test y) e (subst (λ (z : X). test z ≡ true) (sym q) t)))
+    (in_cases y x ys h)))
     (cases_Bool (test y))

@@ -37,10 +37,24 @@ record KeptAt {X : Type 0} (p : X → Bool) (xs : List X) (i : ℕ) (d : X) : Ty
   before : count_by p (take at xs) ≡ i
 
 kept_later : {X : Type 0} (p : X → Bool) (x : X) (xs : List X) (i : ℕ) (d : X) → p x ≡ true → KeptAt p xs i d → KeptAt p (x ∷ xs) (suc i) d
-kept_later p x xs i d e r = record { at = suc r.at; within = let w = r.within in omega arith; passes = r.passes; same = rw e r.same; before = sum_by-cons (λ y. cond (p y) 1 0) x (take r.at xs) ∙ rw (e, r.before) (omega arith) }
+kept_later p x xs i d e r =
+    record {
+      at = suc r.at;
+      within = let w = r.within in omega arith;
+      passes = r.passes;
+      same = rw e r.same;
+      before = sum_by-cons (λ y. cond (p y) 1 0) x (take r.at xs) ∙ rw (e, r.before) (omega arith);
+    }
 
 kept_past : {X : Type 0} (p : X → Bool) (x : X) (xs : List X) (i : ℕ) (d : X) → p x ≡ false → KeptAt p xs i d → KeptAt p (x ∷ xs) i d
-kept_past p x xs i d e r = record { at = suc r.at; within = let w = r.within in omega arith; passes = r.passes; same = rw e r.same; before = sum_by-cons (λ y. cond (p y) 1 0) x (take r.at xs) ∙ rw (e, r.before) (omega arith) }
+kept_past p x xs i d e r =
+    record {
+      at = suc r.at;
+      within = let w = r.within in omega arith;
+      passes = r.passes;
+      same = rw e r.same;
+      before = sum_by-cons (λ y. cond (p y) 1 0) x (take r.at xs) ∙ rw (e, r.before) (omega arith);
+    }
 
 kept_at : {X : Type 0} (p : X → Bool) (xs : List X) (i : ℕ) (d : X) → i < length (filter p xs) → KeptAt p xs i d
 kept_at p [] i d lt = absurd (omega arith)
@@ -54,11 +68,17 @@ kept_at p (x ∷ xs) (suc i) d lt = ⊎_elim
     (cases_Bool (p x))
 
 -- an element that passes stands in the filtered list behind those that pass before it
-filtered_at : {X : Type 0} (p : X → Bool) (xs : List X) (m : ℕ) (d : X) → m < length xs → p (get_or xs m d) ≡ true → (count_by p (take m xs) < length (filter p xs)) × (get_or (filter p xs) (count_by p (take m xs)) d ≡ get_or xs m d)
+filtered_at : {X : Type 0} (p : X → Bool) (xs : List X) (m : ℕ) (d : X) → m < length xs → p (get_or xs m d) ≡ true
+    → (count_by p (take m xs) < length (filter p xs)) × (get_or (filter p xs) (count_by p (take m xs)) d ≡ get_or xs m d)
 filtered_at {X} p xs m d lt e =
-    let split : filter p xs ≡ filter p (take m xs) ++ get_or xs m d ∷ filter p (drop (m + 1) xs) = ap (λ (ys : List X). filter p ys) (sym (take-append-drop m xs)) ∙ filter-append p (take m xs) (drop m xs) ∙ ap (λ (ys : List X). filter p (take m xs) ++ filter p ys) (drop_more xs m d lt) ∙ rw e refl in
+    let split : filter p xs ≡ filter p (take m xs) ++ get_or xs m d ∷ filter p (drop (m + 1) xs) = ap (λ (ys : List X). filter p ys)
+    (sym (take-append-drop m xs)) ∙ filter-append p (take m xs) (drop m xs) ∙ ap (λ (ys : List X). filter p (take m xs) ++ filter p ys)
+    (drop_more xs m d lt) ∙ rw e refl in
     let len : length (filter p (take m xs)) ≡ count_by p (take m xs) = length-filter p (take m xs) in
-    rw split (omega (arith, len, length-append (filter p (take m xs)) (get_or xs m d ∷ filter p (drop (m + 1) xs))), get_or_at (filter p (take m xs)) (get_or xs m d) (filter p (drop (m + 1) xs)) d (count_by p (take m xs)) len)
+    rw split (
+      omega (arith, len, length-append (filter p (take m xs)) (get_or xs m d ∷ filter p (drop (m + 1) xs))),
+      get_or_at (filter p (take m xs)) (get_or xs m d) (filter p (drop (m + 1) xs)) d (count_by p (take m xs)) len,
+    )
 
 -- Degrees and places.
 
@@ -90,10 +110,17 @@ place_at ks u i d r lt =
     neither false y e = refl
 
     before : count_by (λ j. ends_at u j && key_lt j k) (take i ks) ≡ count_by (ends_at u) (take i ks)
-    before = count_by-agree (λ j. ends_at u j && key_lt j k) (ends_at u) (take i ks) (λ m e ml. both (ends_at u (get_or (take i ks) m e)) (key_lt (get_or (take i ks) m e) k) (below_at ks i d r lt (get_or (take i ks) m e) (Contains-get_or (take i ks) m e ml)))
+    before =
+        count_by-agree (λ j. ends_at u j && key_lt j k) (ends_at u) (take i ks)
+        (λ m e ml.
+        both (ends_at u (get_or (take i ks) m e)) (key_lt (get_or (take i ks) m e) k)
+        (below_at ks i d r lt (get_or (take i ks) m e) (Contains-get_or (take i ks) m e ml)))
 
     after : count_by (λ j. ends_at u j && key_lt j k) (drop i ks) ≡ 0
-    after = count_by-agree (λ j. ends_at u j && key_lt j k) (λ j. false) (drop i ks) (λ m e ml. neither (ends_at u (get_or (drop i ks) m e)) (key_lt (get_or (drop i ks) m e) k) (none_below ks i d r lt m e ml)) ∙ count_by-never (drop i ks)
+    after =
+        count_by-agree (λ j. ends_at u j && key_lt j k) (λ j. false) (drop i ks)
+        (λ m e ml. neither (ends_at u (get_or (drop i ks) m e)) (key_lt (get_or (drop i ks) m e) k) (none_below ks i d r lt m e ml))
+        ∙ count_by-never (drop i ks)
 
 -- Ends.
 
@@ -132,17 +159,22 @@ record FarEnd (v : ℕ) (k : Key) : Type 0 where
 far_end_is : (k : Key) → k.a < k.b → (v : ℕ) → ends_at v k ≡ true → FarEnd v k
 far_end_is k lt = at_ends (λ v. FarEnd v k) k
     (record { ends = rw (far_end_a k) (ends_b k); other = rw (far_end_a k) (λ e. absurd (omega arith)); back = rw (far_end_a k) (far_end_b k lt) })
-    (record { ends = rw (far_end_b k lt) (ends_a k); other = rw (far_end_b k lt) (λ e. absurd (omega arith)); back = rw (far_end_b k lt) (far_end_a k) })
+    (record
+    { ends = rw (far_end_b k lt) (ends_a k); other = rw (far_end_b k lt) (λ e. absurd (omega arith)); back = rw (far_end_b k lt) (far_end_a k) })
 
 -- Ports.
 
 -- the link at place m is a port of each of its ends
-pub port_at : (ks : List Key) (v m : ℕ) (d : Key) → m < length ks → ends_at v (get_or ks m d) ≡ true → HasPort ks v (degree (take m ks) v) (port_on ks v (get_or ks m d))
+pub port_at : (ks : List Key) (v m : ℕ) (d : Key) → m < length ks → ends_at v (get_or ks m d) ≡ true
+    → HasPort ks v (degree (take m ks) v) (port_on ks v (get_or ks m d))
 unfolding ports_of degree
 port_at ks v m d lt e =
-    let f : (count_by (ends_at v) (take m ks) < length (keys_at ks v)) × (get_or (keys_at ks v) (count_by (ends_at v) (take m ks)) d ≡ get_or ks m d) = filtered_at (ends_at v) ks m d lt e in
-    slice_get-get_or (ports_of ks v) (count_by (ends_at v) (take m ks)) (port_on ks v d) (omega (arith, f.0, length-map (keys_at ks v) (port_on ks v)))
-    ∙ ap (λ (p : Port). Some p) (get_or-map (port_on ks v) (keys_at ks v) (count_by (ends_at v) (take m ks)) d (port_on ks v d) f.0 ∙ ap (port_on ks v) f.1)
+    let f : (count_by (ends_at v) (take m ks) < length (keys_at ks v)) × (get_or (keys_at ks v) (count_by (ends_at v) (take m ks)) d ≡ get_or ks m d)
+    = filtered_at (ends_at v) ks m d lt e in
+    slice_get-get_or (ports_of ks v) (count_by (ends_at v) (take m ks)) (port_on ks v d)
+    (omega (arith, f.0, length-map (keys_at ks v) (port_on ks v)))
+    ∙ ap (λ (p : Port). Some p)
+    (get_or-map (port_on ks v) (keys_at ks v) (count_by (ends_at v) (take m ks)) d (port_on ks v d) f.0 ∙ ap (port_on ks v) f.1)
 
 -- between the two ways to speak of a port: by `HasPort`, and by a place below the degree
 pub has_port_at : (ks : List Key) (v i : ℕ) (d : Port) → i < degree ks v → HasPort ks v i (get_or (ports_of ks v) i d)
@@ -168,11 +200,14 @@ on_link ks v i p h =
       at = r.at;
       within = r.within;
       ends = r.passes;
-      port = sym (get_or_from_slice_get (ports_of ks v) i p (port_on ks v no_key) h) ∙ get_or-map (port_on ks v) (keys_at ks v) i no_key (port_on ks v no_key) lt ∙ ap (port_on ks v) r.same;
+      port =
+          sym (get_or_from_slice_get (ports_of ks v) i p (port_on ks v no_key) h)
+          ∙ get_or-map (port_on ks v) (keys_at ks v) i no_key (port_on ks v no_key) lt ∙ ap (port_on ks v) r.same;
       place = r.before;
     }
 
-pub among_at : (n : ℕ) (ks : List Key) (i : ℕ) (d : Key) → AreAmong n ks → i < length ks → (1 ≤ (get_or ks i d).a) × ((get_or ks i d).a < (get_or ks i d).b) × ((get_or ks i d).b ≤ n)
+pub among_at : (n : ℕ) (ks : List Key) (i : ℕ) (d : Key) → AreAmong n ks → i < length ks
+    → (1 ≤ (get_or ks i d).a) × ((get_or ks i d).a < (get_or ks i d).b) × ((get_or ks i d).b ≤ n)
 among_at n ks i d w lt = w i d lt
 
 pub ports_end_elsewhere : PortsEndElsewhere
@@ -192,23 +227,29 @@ ports_lead_back g ok v i p h =
     let k : Key = get_or g.keys o.at no_key in
     let r : (1 ≤ k.a) × (k.a < k.b) × (k.b ≤ g.nodes) = among_at g.nodes g.keys o.at no_key ok.among o.within in
     let f : FarEnd v k = far_end_is k r.1 v o.ends in
-    let there : HasPort g.keys (far_end v k) (degree (take o.at g.keys) (far_end v k)) (port_on g.keys (far_end v k) k) = port_at g.keys (far_end v k) o.at no_key o.within f.ends in
-    let away : port_number g.keys (far_end v k) k ≡ degree (take o.at g.keys) (far_end v k) = place_at g.keys (far_end v k) o.at no_key ok.rising o.within in
+    let there : HasPort g.keys (far_end v k) (degree (take o.at g.keys) (far_end v k)) (port_on g.keys (far_end v k) k) = port_at g.keys (far_end v k)
+    o.at no_key o.within f.ends in
+    let away : port_number g.keys (far_end v k) k ≡ degree (take o.at g.keys) (far_end v k) = place_at g.keys (far_end v k) o.at no_key ok.rising
+    o.within in
     let home : port_number g.keys v k ≡ i = place_at g.keys v o.at no_key ok.rising o.within ∙ o.place in
-    let is : port_on g.keys (far_end v k) k ≡ record { key = k; far = v; far_port = i } = λ t. record { key = k; far = f.back t; far_port = (ap (λ u. port_number g.keys u k) f.back ∙ home) t } in
+    let is : port_on g.keys (far_end v k) k ≡ record { key = k; far = v; far_port = i } =
+    λ t. record { key = k; far = f.back t; far_port = (ap (λ u. port_number g.keys u k) f.back ∙ home) t } in
     rw o.port (rw (away, ← is) there)
 
 -- fewer links, fewer ports
 pub degree-take : (ks : List Key) (v i j : ℕ) → i ≤ j → degree (take i ks) v ≤ degree (take j ks) v
 unfolding degree
-degree-take ks v i j le = subst (λ (xs : List Key). count_by (ends_at v) xs ≤ count_by (ends_at v) (take j ks)) (take-take i j ks le) (sum_by-take-le (λ k. cond (ends_at v k) 1 0) (take j ks) i)
+degree-take ks v i j le =
+    subst (λ (xs : List Key). count_by (ends_at v) xs ≤ count_by (ends_at v) (take j ks)) (take-take i j ks le)
+    (sum_by-take-le (λ k. cond (ends_at v k) 1 0) (take j ks) i)
 
 pub ports_rise : PortsRise
 ports_rise g ok v i j d lt jl =
     let ps : List Port = ports_of g.keys v in
     let o : OnLink g.keys v i (get_or ps i d) = on_link g.keys v i (get_or ps i d) (slice_get-get_or ps i d (omega arith)) in
     let q : OnLink g.keys v j (get_or ps j d) = on_link g.keys v j (get_or ps j d) (slice_get-get_or ps j d jl) in
-    let before : o.at < q.at = ⊎_elim (λ h. h) (λ h. absurd (omega (arith, o.place, q.place, degree-take g.keys v q.at o.at h))) (cases_lt o.at q.at) in
+    let before : o.at < q.at = ⊎_elim (λ h. h) (λ h. absurd (omega (arith, o.place, q.place, degree-take g.keys v q.at o.at h))) (cases_lt o.at q.at)
+    in
     rw (o.port, q.port) (ok.rising o.at q.at no_key before q.within)
 
 two_ports_at : (g : Shape) → IsGraph g → (m : ℕ) → m < length g.keys → HasTwoPorts g.keys (get_or g.keys m no_key)
@@ -219,8 +260,10 @@ two_ports_at g ok m lt = record {
       let o : OnLink g.keys v i p = on_link g.keys v i p h in
       let same : get_or g.keys o.at no_key ≡ k = sym (ap (λ (q : Port). q.key) o.port) ∙ e in
       let ends : ends_at v k ≡ true = subst (λ (x : Key). ends_at v x ≡ true) same o.ends in
-      let place : i ≡ port_number g.keys v k = sym o.place ∙ sym (place_at g.keys v o.at no_key ok.rising o.within) ∙ ap (λ (x : Key). port_number g.keys v x) same in
-      ⊎_elim (λ q. inl (q, place ∙ ap (λ u. port_number g.keys u k) q)) (λ q. inr (q, place ∙ ap (λ u. port_number g.keys u k) q)) (end_cases v k ends);
+      let place : i ≡ port_number g.keys v k = sym o.place ∙ sym (place_at g.keys v o.at no_key ok.rising o.within) ∙ ap
+      (λ (x : Key). port_number g.keys v x) same in
+      ⊎_elim (λ q. inl (q, place ∙ ap (λ u. port_number g.keys u k) q)) (λ q. inr (q, place ∙ ap (λ u. port_number g.keys u k) q))
+      (end_cases v k ends);
 }
   where
     k : Key

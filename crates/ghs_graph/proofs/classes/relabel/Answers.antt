@@ -11,9 +11,12 @@ loop-step-init c = record {
 
 pub loop-step-preserved : goal.loop-step-preserved
 loop-step-preserved c =
-    let inside : c.loop-step.at < length c.args.labels.now.items = rw c.loop-step.invariant.here (c.requires.inside c.loop-step.step c.loop-step-test.true) in
+    let inside : c.loop-step.at < length c.args.labels.now.items = rw c.loop-step.invariant.here
+    (c.requires.inside c.loop-step.step c.loop-step-test.true) in
     record {
       here = ap (λ x. get_or c.args.next.now x 0) c.loop-step.invariant.here ∙ sym (after_more c.args.next.now c.args.from c.loop-step.step);
       before = let e : c.loop-step.step + 1 - 1 ≡ c.loop-step.step = omega arith in rw e c.loop-step.invariant.here;
-      done = one_relabelled c.args.labels.now.items c.loop-step.labels.items c.args.next.now c.args.from c.args.to c.loop-step.step c.loop-step.at c.loop-step.invariant.here inside c.loop-step.invariant.done;
+      done =
+          one_relabelled c.args.labels.now.items c.loop-step.labels.items c.args.next.now c.args.from c.args.to c.loop-step.step c.loop-step.at
+          c.loop-step.invariant.here inside c.loop-step.invariant.done;
     }

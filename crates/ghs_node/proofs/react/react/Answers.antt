@@ -18,16 +18,20 @@ returns-in-Wake-clause-memory c = rw c.in-Wake.is (answered_memory _ Wake c.degr
 
 pub returns-then-port-degree-clause-row : goal.returns-then-port-degree-clause-row
 returns-then-port-degree-clause-row c =
-    let port : c.in-Deliver.port < degree c.args.node.now = omega arith in rw c.in-Deliver.is (answered_row _ _ c.degree-degree.ensures.node port _ c.respond.ensures)
+    let port : c.in-Deliver.port < degree c.args.node.now = omega arith in
+    rw c.in-Deliver.is (answered_row _ _ c.degree-degree.ensures.node port _ c.respond.ensures)
 
 pub returns-then-port-degree-clause-applicable : goal.returns-then-port-degree-clause-applicable
 returns-then-port-degree-clause-applicable c =
-    let port : c.in-Deliver.port < degree c.args.node.now = omega arith in answered_change _ (Deliver c.in-Deliver.port c.in-Deliver.message) c.degree-degree.ensures.node port _ c.respond.ensures
+    let port : c.in-Deliver.port < degree c.args.node.now = omega arith in
+    answered_change _ (Deliver c.in-Deliver.port c.in-Deliver.message) c.degree-degree.ensures.node port _ c.respond.ensures
 
 pub returns-then-port-degree-clause-unforeseen : goal.returns-then-port-degree-clause-unforeseen
 returns-then-port-degree-clause-unforeseen c =
-    let port : c.in-Deliver.port < degree c.args.node.now = omega arith in rw c.in-Deliver.is (answered_unforeseen _ _ c.degree-degree.ensures.node port _ c.respond.ensures)
+    let port : c.in-Deliver.port < degree c.args.node.now = omega arith in
+    rw c.in-Deliver.is (answered_unforeseen _ _ c.degree-degree.ensures.node port _ c.respond.ensures)
 
 pub returns-then-port-degree-clause-memory : goal.returns-then-port-degree-clause-memory
 returns-then-port-degree-clause-memory c =
-    let port : c.in-Deliver.port < degree c.args.node.now = omega arith in rw c.in-Deliver.is (answered_memory _ _ c.degree-degree.ensures.node port _ c.respond.ensures)
+    let port : c.in-Deliver.port < degree c.args.node.now = omega arith in
+    rw c.in-Deliver.is (answered_memory _ _ c.degree-degree.ensures.node port _ c.respond.ensures)

@@ -10,5 +10,6 @@ returns-in_err-send-clause-err c =
     let ms = c.args.node.now.marks in
     let branch : get_or ms c.loop-branch.branch Rejected ≡ Branch = sym c.mark.ensures ∙ (mark_decides _ _).0 (sym c.if-eq.ensures) in
     let sent = c.loop-branch.invariant in
-    let some = some_branch ms c.loop-branch.branch c.args.port c.args.message.now _ _ (omega arith) branch c.if-branch-port.true sent.grown sent.sends in
+    let some = some_branch ms c.loop-branch.branch c.args.port c.args.message.now _ _ (omega arith) branch c.if-branch-port.true sent.grown sent.sends
+    in
     search (rules, some)
