@@ -214,10 +214,13 @@ once_woken d = record d { mark = Some (0, Branch); sends = (0, Connect 0) ∷ d.
 
 abbrev pub asleep : NodeState → ℕ → Message → Option Delta
 asleep n j (Connect l) =
-    if j == 0 then Some (once_woken (does (woken n).head None ((0, Initiate 1 (key_at n 0) Find) ∷ []))) else Some
-    (once_woken (requeues (woken n).head))
+    if j == 0
+    then Some (once_woken (does (woken n).head None ((0, Initiate 1 (key_at n 0) Find) ∷ [])))
+    else Some (once_woken (requeues (woken n).head))
 asleep n j (Test l f) =
-    if l == 0 then Some (once_woken (does (woken n).head None ((j, Accept) ∷ []))) else Some (once_woken (requeues (woken n).head))
+    if l == 0
+    then Some (once_woken (does (woken n).head None ((j, Accept) ∷ [])))
+    else Some (once_woken (requeues (woken n).head))
 asleep n j (Initiate l f s) = None
 asleep n j Accept = None
 asleep n j Reject = None
