@@ -1,4 +1,3 @@
-pub mod Cuts
 pub mod Found
 pub mod Judgements
 pub mod Keys

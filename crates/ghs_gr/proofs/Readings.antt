@@ -5,7 +5,8 @@ use Rattle.std.proofs.lemmas.Bool.{cases_lt}
 use Rattle.std.specs.List.{onto_first}
 use Rattle.std.specs.Prelude.{◌==◌}
 use Rattle.std.proofs.lemmas.List.{append-nil, get_or-append-add, length-append, map-append}
-use Rattle.ghs_gr.specs.Line.{lines_of, meaning, meanings}
+use Rattle.ghs_lines.specs.Lines.{lines_of}
+use Rattle.ghs_gr.specs.Line.{meaning, meanings}
 use Rattle.ghs_gr.specs.Pass.{IsPass}
 use Rattle.ghs_gr.specs.Reading.{EndsInFeed, EndsLine, HasNoFeed, HasTaken}
 use Rattle.ghs_gr.specs.declared.line.Line.{Line}

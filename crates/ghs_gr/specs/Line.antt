@@ -1,49 +1,33 @@
--- The lines of a graph text, their fields and numbers, and what a line says.
-use Rattle.std.specs.Prelude.{ℕ, ◌≡◌, ◌<◌, ◌++◌, length, Bool, true, false, cond, codes, filter, map, nat_eq, nat_lt, ◌==◌, ◌&&◌, ◌||◌, ◌^◌, List, [], ◌∷◌, Option, Some, None}
-use Rattle.std.specs.List.{onto_first, slice_split, starts_with}
+-- What the lines of a graph text say.
+use Rattle.std.specs.Prelude.{ℕ, ◌≡◌, ◌<◌, ◌-◌, ◌^◌, ◌++◌, length, true, cond, codes, map, nat_eq, List, [], ◌∷◌, Option, Some}
+use Rattle.std.specs.List.{starts_with}
 use Rattle.std.specs.Str.{all_ascii_digits, bytes_eq}
-use Rattle.std.specs.Str.Parse.{digits_value}
+use Rattle.ghs_lines.specs.Fields.{fields_of}
+use Rattle.ghs_lines.specs.Lines.{lines_of}
+use Rattle.ghs_lines.specs.Numbers.{number_of}
 use Rattle.ghs_gr.specs.declared.line.Line.{Line}
 use Rattle.ghs_gr.specs.declared.line.Line.TheVariants.{Passed, Malformed, Problem, Arc}
 
--- the lines: cut at each line feed, of which a last one begins no new line
-abbrev pub lines_of : List ℕ → List (List ℕ)
-lines_of [] = []
-lines_of (b ∷ bs) = cond (b == 10) ([] ∷ lines_of bs) (onto_first b (lines_of bs))
-
--- a space, a tab or a carriage return
-abbrev pub is_blank : ℕ → Bool
-is_blank b = b == 32 || b == 9 || b == 13
-
-abbrev pub is_nonempty : List ℕ → Bool
-is_nonempty [] = false
-is_nonempty (b ∷ bs) = true
-
--- the fields: the longest runs of bytes that are no blanks
-abbrev pub fields_of : List ℕ → List (List ℕ)
-fields_of line = filter is_nonempty (slice_split is_blank line)
-
--- the number that a field is: digits, leading zeros among them, of a value that fits 32 bits
-abbrev pub number_of : List ℕ → Option ℕ
-number_of field = let value = digits_value 10 field in
-    cond (is_nonempty field && all_ascii_digits field && nat_lt value (2 ^ 32)) (Some value) None
+-- the number below 2^32 that a field is
+abbrev pub number_in : List ℕ → Option ℕ
+number_in field = number_of (2 ^ 32 - 1) field
 
 -- a text begins with digits of this value, then this byte, then the rest
 pub record IsNumberBefore (end : ℕ) (text : List ℕ) (value : ℕ) (rest : List ℕ) : Type 0 where
   pub digits : List ℕ
   pub some : 0 < length digits
   pub all : all_ascii_digits digits ≡ true
-  pub number : number_of digits ≡ Some value
+  pub number : number_in digits ≡ Some value
   pub cut : text ≡ digits ++ end ∷ rest
 
 -- what the fields behind a `p` say
 abbrev pub problem_of : List (List ℕ) → Line
-problem_of (sp ∷ nodes ∷ arcs ∷ []) = cond (bytes_eq sp (codes "sp")) (Problem (number_of nodes) (number_of arcs)) Malformed
+problem_of (sp ∷ nodes ∷ arcs ∷ []) = cond (bytes_eq sp (codes "sp")) (Problem (number_in nodes) (number_in arcs)) Malformed
 problem_of _ = Malformed
 
 -- what the fields behind an `a` say
 abbrev pub arc_of : List (List ℕ) → Line
-arc_of (from ∷ to ∷ weight ∷ []) = Arc (number_of from) (number_of to) (number_of weight)
+arc_of (from ∷ to ∷ weight ∷ []) = Arc (number_in from) (number_in to) (number_in weight)
 arc_of _ = Malformed
 
 -- what fields say: nothing, a comment, a problem line, an arc line, or nothing that is known

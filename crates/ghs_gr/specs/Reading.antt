@@ -1,6 +1,7 @@
 -- What is known of a text while it is read.
 use Rattle.std.specs.Prelude.{ℕ, ◌≡◌, ◌≢◌, ◌<◌, ◌≤◌, ◌++◌, ◌∷◌, [], length, slice_index, List}
-use Rattle.ghs_gr.specs.Line.{lines_of, meanings}
+use Rattle.ghs_lines.specs.Lines.{lines_of}
+use Rattle.ghs_gr.specs.Line.{meanings}
 use Rattle.ghs_gr.specs.Pass.{IsPass}
 use Rattle.ghs_gr.specs.declared.reading.Reading.{Reading}
 

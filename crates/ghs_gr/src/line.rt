@@ -1,9 +1,12 @@
-//! The lines of a graph text, and what each of them says.
-ghost use Rattle.ghs_gr.specs.Line.{IsNumberBefore, arc_of, fields_of, is_blank as is_blank_of, lines_of, meaning, meanings, number_of, problem_of};
+//! What the lines of a graph text say.
+ghost use Rattle.ghs_gr.specs.Line.{IsNumberBefore, arc_of, meaning, meanings, number_in, problem_of};
 ghost use Rattle.ghs_gr.specs.declared.line.Line.TheVariants as line;
-ghost use Rattle.std.specs.Prelude.{IfNone, IfSome, Some, [], false, length, slice_index, true, ◌<◌, ◌≡◌, ◌≢◌, ◌≤◌, ◌∷◌, ℕ};
+ghost use Rattle.ghs_lines.specs.Fields.{fields_of};
+ghost use Rattle.std.specs.Prelude.{IfNone, IfSome, Some, [], length, ◌<◌, ◌≡◌, ◌≢◌, ◌∷◌};
 
-use bstr::ByteSlice;
+use ghs_lines::fields::next_field;
+use ghs_lines::lines::next_line;
+use ghs_lines::numbers::number as number_up_to;
 
 /// What one line says. A number is `None` where its field is no number below 2^32.
 #[derive(Clone, Copy, Debug, Drop)]
@@ -64,28 +67,6 @@ fn number_before(end: u8, text: &[u8]) -> Option<(u32, &[u8])>
     None
 }
 
-/// The first line, without its line feed, and what is behind it.
-fn next_line(text: &[u8]) -> Option<(&[u8], &[u8])>
-    ensures some { IfSome result (λ x. lines_of text.now ≡ x.0.now ∷ lines_of x.1.now) }
-    ensures shorter { IfSome result (λ x. length x.1.now < length text.now) }
-    ensures none { IfNone result (text.now ≡ []) }
-{
-    if text.is_empty() {
-        return None;
-    }
-    match text.find_byte(b'\n') {
-        Some(end) => {
-            let (line, _) = text.split_at(end);
-            let (_, rest) = text.split_at(end + 1);
-            Some((line, rest))
-        }
-        None => {
-            let (line, rest) = text.split_at(text.len());
-            Some((line, rest))
-        }
-    }
-}
-
 /// What a line says.
 fn meaning_of(line: &[u8]) -> Line
     ensures { result ≡ meaning line.now }
@@ -135,70 +116,10 @@ fn three_fields(line: &[u8]) -> Option<(&[u8], &[u8], &[u8])>
     }
 }
 
-/// The first field, and what is behind it.
-fn next_field(line: &[u8]) -> Option<(&[u8], &[u8])>
-    ensures some { IfSome result (λ x. fields_of line.now ≡ x.0.now ∷ fields_of x.1.now) }
-    ensures nonempty { IfSome result (λ x. 0 < length x.0.now) }
-    ensures none { IfNone result (fields_of line.now ≡ []) }
-{
-    let (_, rest) = line.split_at(field_start(line));
-    if rest.is_empty() {
-        return None;
-    }
-    let (field, after) = rest.split_at(field_end(rest));
-    Some((field, after))
-}
-
-/// Where the first field begins, or the length where there is none.
-fn field_start(line: &[u8]) -> usize
-    ensures within { result ≤ length line.now }
-    ensures before { (k : ℕ) → k < result → is_blank_of (slice_index line.now k) ≡ true }
-    ensures found { result < length line.now → is_blank_of (slice_index line.now result) ≡ false }
-{
-    for (i, byte) in line.iter().enumerate() {
-        if !is_blank(*byte) {
-            return i;
-        }
-    }
-    line.len()
-}
-
-/// Where the first blank is, or the length where there is none.
-fn field_end(line: &[u8]) -> usize
-    ensures within { result ≤ length line.now }
-    ensures before { (k : ℕ) → k < result → is_blank_of (slice_index line.now k) ≡ false }
-    ensures found { result < length line.now → is_blank_of (slice_index line.now result) ≡ true }
-{
-    for (i, byte) in line.iter().enumerate() {
-        if is_blank(*byte) {
-            return i;
-        }
-    }
-    line.len()
-}
-
-fn is_blank(byte: u8) -> bool
-    ensures { result ≡ is_blank_of byte }
-{
-    byte == b' ' || byte == b'\t' || byte == b'\r'
-}
-
 /// The number that a field is, where it is one.
 fn number(field: &[u8]) -> Option<u32>
-    ensures { result ≡ number_of field.now }
+    ensures { result ≡ number_in field.now }
 {
-    if field.is_empty() {
-        return None;
-    }
-    let mut value = 0u64;
-    for byte in field {
-        if !byte.is_ascii_digit() {
-            return None;
-        }
-        value = value * 10 + (*byte - b'0') as u64;
-        if value > u32::MAX as u64 {
-            return None;
-        }
-    }
+    let value = number_up_to(field, u32::MAX as u64)?;
     Some(value as u32)
 }
