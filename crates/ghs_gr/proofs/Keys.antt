@@ -54,7 +54,8 @@ triple_lt-Less x y e = grind (arith, nat_tests)
 
 pub rising : (xs ys : List Triple) → IsSorted key_cmp xs → IsFiltered (DiffersFromLast key_eq) [] xs ys → AllPairs (λ j k. triple_lt j k ≡ true) ys
 rising xs ys sorted kept = λ i j d l below.
-    triple_lt-Less (get_or ys i d) (get_or ys j d) (Less-from_sorted key_cmp ys i j d (rw (dedup_is key_eq xs ys kept) (IsStrictlySortedBy-dedup key_total key_eq-cmp xs sorted)) l below)
+    triple_lt-Less (get_or ys i d) (get_or ys j d)
+    (Less-from_sorted key_cmp ys i j d (rw (dedup_is key_eq xs ys kept) (IsStrictlySortedBy-dedup key_total key_eq-cmp xs sorted)) l below)
 
 pub same_keys : (xs ys zs : List Triple) → IsPermutation xs ys → IsFiltered (DiffersFromLast key_eq) [] ys zs → AreSameKeys zs xs
 same_keys xs ys zs moved kept key = (

@@ -26,7 +26,8 @@ record IsGivenAt (ls : List Line) (key : Triple) (k : ℕ) : Type 0 where
 later : (l : Line) (ls : List Line) (key : Triple) → (k : ℕ) × IsGivenAt ls key k → (k : ℕ) × IsGivenAt (l ∷ ls) key k
 later l ls key (k, h) = let below : k < length ls = h.below in (suc k, record { below = omega arith; here = h.here })
 
-given_at : (l : Line) (o : Option Triple) (ls : List Line) (key : Triple) → link_in l ≡ o → (Contains (links_in ls) key → (k : ℕ) × IsGivenAt ls key k)
+given_at : (l : Line) (o : Option Triple) (ls : List Line) (key : Triple) → link_in l ≡ o
+    → (Contains (links_in ls) key → (k : ℕ) × IsGivenAt ls key k)
     → Contains (cons_option o (links_in ls)) key → (k : ℕ) × IsGivenAt (l ∷ ls) key k
 given_at l None ls key e more c = later l ls key (more c)
 given_at l (Some j) ls key e more (zero, low, same) = (zero, record { below = omega arith; here = e ∙ ap (λ x. Some x) same })

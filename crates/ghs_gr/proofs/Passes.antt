@@ -131,7 +131,8 @@ takes_sound ls l old new o none h says sound notes lines fault =
     let pass = sound_of ls old none h in
     let free : o ≡ None = none_of o sound in
     let here : line_fault (problem_in ls) l ≡ None = sym (known ls l old pass) ∙ sym says ∙ free in
-    subst (λ q. PassWith q (ls ++ l ∷ []) (record new { lines = new.lines + 1 })) (sym (fault ∙ free)) (sound_more ls l o old new pass here notes lines)
+    subst (λ q. PassWith q (ls ++ l ∷ []) (record new { lines = new.lines + 1 })) (sym (fault ∙ free))
+    (sound_more ls l o old new pass here notes lines)
 
 -- how many arc lines there are
 

@@ -17,7 +17,8 @@ plain text r1 r2 rest u v w a b c =
     let back : tail ++ 10 ∷ rest ≡ r1 = append_assoc b.digits (32 ∷ c.digits) (10 ∷ rest) ∙ ap (λ bs. b.digits ++ 32 ∷ bs) (sym c.cut) ∙ sym b.cut in
     let whole : line ++ 10 ∷ rest ≡ 97 ∷ 32 ∷ text =
     ap (λ bs. 97 ∷ 32 ∷ bs) (append_assoc a.digits (32 ∷ tail) (10 ∷ rest) ∙ ap (λ bs. a.digits ++ 32 ∷ bs) back ∙ sym a.cut) in
-    let none : has_no_feed line ≡ true = has_no_feed-word a.digits (32 ∷ tail) a_plain (has_no_feed-word b.digits (32 ∷ c.digits) b_plain (has_no_feed-last c.digits c_plain)) in
+    let none : has_no_feed line ≡ true =
+    has_no_feed-word a.digits (32 ∷ tail) a_plain (has_no_feed-word b.digits (32 ∷ c.digits) b_plain (has_no_feed-last c.digits c_plain)) in
     let lines : lines_of (97 ∷ 32 ∷ text) ≡ line ∷ lines_of rest = ap lines_of (sym whole) ∙ lines_of-line line rest none in
     let fields : fields_of line ≡ (97 ∷ []) ∷ a.digits ∷ b.digits ∷ c.digits ∷ [] =
     fields_of-word (97 ∷ []) (a.digits ++ 32 ∷ tail) (omega arith) refl

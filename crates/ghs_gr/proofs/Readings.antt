@@ -16,7 +16,8 @@ use Rattle.ghs_gr.specs.declared.reading.Reading.{Reading}
 abbrev AreCut : (List ℕ → List (List ℕ)) → Type 0
 AreCut lines = (first : List ℕ) × (others : List (List ℕ)) × ((more : List ℕ) → lines more ≡ first ∷ (others ++ lines_of more))
 
-one_more : (b : ℕ) (is_feed : Bool) (lines : List ℕ → List (List ℕ)) → AreCut lines → AreCut (λ more. cond is_feed ([] ∷ lines more) (onto_first b (lines more)))
+one_more : (b : ℕ) (is_feed : Bool) (lines : List ℕ → List (List ℕ)) → AreCut lines
+    → AreCut (λ more. cond is_feed ([] ∷ lines more) (onto_first b (lines more)))
 one_more b true lines c = ([], c.0 ∷ c.1, λ more. ap (λ ls. [] ∷ ls) (c.2 more))
 one_more b false lines c = (b ∷ c.0, c.1, λ more. ap (onto_first b) (c.2 more))
 
@@ -28,7 +29,8 @@ behind_feed (b ∷ front) = one_more b (b == 10) (λ more. lines_of (front ++ 10
 EndsLine-feed : (bytes : List ℕ) → EndsInFeed bytes → EndsLine bytes
 EndsLine-feed bytes feed = λ more.
     let c = behind_feed feed.0 in
-    let whole : lines_of (bytes ++ more) ≡ c.0 ∷ (c.1 ++ lines_of more) = ap (λ bs. lines_of (bs ++ more)) feed.1 ∙ ap lines_of (append_assoc feed.0 (10 ∷ []) more) ∙ c.2 more in
+    let whole : lines_of (bytes ++ more) ≡ c.0 ∷ (c.1 ++ lines_of more) =
+    ap (λ bs. lines_of (bs ++ more)) feed.1 ∙ ap lines_of (append_assoc feed.0 (10 ∷ []) more) ∙ c.2 more in
     let alone : lines_of bytes ≡ c.0 ∷ c.1 = ap lines_of feed.1 ∙ c.2 [] ∙ ap (λ ls. c.0 ∷ ls) (append-nil c.1) in
     whole ∙ sym (ap (λ ls. ls ++ lines_of more) alone)
 
@@ -44,13 +46,16 @@ pub meanings-append : (xs ys : List ℕ) → EndsLine xs → meanings (xs ++ ys)
 meanings-append xs ys p = ap (map meaning) (p ys) ∙ map-append meaning (lines_of xs) (lines_of ys)
 
 -- the line that was cut, and whole lines behind it, are gone over
-pub took_lines : (text piece lines rest held : List ℕ) (old new : Reading) → HasTaken old text → piece ≡ lines ++ rest → EndsInFeed lines → HasNoFeed rest
+pub took_lines : (text piece lines rest held : List ℕ) (old new : Reading)
+    → HasTaken old text → piece ≡ lines ++ rest → EndsInFeed lines → HasNoFeed rest
     → held ≡ old.cut.items ++ lines → new.cut.items ≡ rest
-    → ((ls : List Line) → IsPass ls old.pass → IsPass (ls ++ meanings held) new.pass) → new.pass.lines ≤ old.pass.lines + length held → HasTaken new (text ++ piece)
+    → ((ls : List Line) → IsPass ls old.pass → IsPass (ls ++ meanings held) new.pass)
+    → new.pass.lines ≤ old.pass.lines + length held → HasTaken new (text ++ piece)
 took_lines text piece lines rest held old new taken parts feed last is kept pass few = record {
   gone = taken.gone ++ held;
   all = ap (λ bs. text ++ bs) parts ∙ ap (λ bs. bs ++ (lines ++ rest)) taken.all ∙ append_assoc taken.gone old.cut.items (lines ++ rest)
-      ∙ ap (λ bs. taken.gone ++ bs) (sym (append_assoc old.cut.items lines rest) ∙ ap (λ bs. bs ++ rest) (sym is)) ∙ sym (append_assoc taken.gone held rest)
+      ∙ ap (λ bs. taken.gone ++ bs) (sym (append_assoc old.cut.items lines rest) ∙ ap (λ bs. bs ++ rest) (sym is))
+      ∙ sym (append_assoc taken.gone held rest)
       ∙ ap (λ bs. (taken.gone ++ held) ++ bs) (sym kept);
   whole = EndsLine-append taken.gone held taken.whole (EndsLine-feed held (subst EndsInFeed (sym is) (EndsInFeed-append old.cut.items lines feed)));
   cut = subst HasNoFeed (sym kept) last;
@@ -68,7 +73,8 @@ HasNoFeed-append xs ys p q = λ k l e. ⊎_elim
     (cases_lt k (length xs))
 
 -- a line that is cut goes on
-pub took_part : (text piece : List ℕ) (old new : Reading) → HasTaken old text → HasNoFeed piece → new.cut.items ≡ old.cut.items ++ piece → new.pass ≡ old.pass → HasTaken new (text ++ piece)
+pub took_part : (text piece : List ℕ) (old new : Reading)
+    → HasTaken old text → HasNoFeed piece → new.cut.items ≡ old.cut.items ++ piece → new.pass ≡ old.pass → HasTaken new (text ++ piece)
 took_part text piece old new taken none kept same = record {
   gone = taken.gone;
   all = ap (λ bs. bs ++ piece) taken.all ∙ append_assoc taken.gone old.cut.items piece ∙ ap (λ bs. taken.gone ++ bs) (sym kept);

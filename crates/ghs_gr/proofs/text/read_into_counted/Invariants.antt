@@ -8,7 +8,8 @@ invariant-reads g l = record {
   room : 0 < length l.room.items;
   within : l.length ≤ TEXT_LIMIT;
   fresh : g.R.Source.has_failed l.reader ≡ false;
-  taken : (text : List ℕ) × Consumes (g.R.Source.left l.fn.reader) (g.R.Source.left l.reader) text × g.T.Taker.has_taken l.taker text × (length text ≡ l.length);
+  taken : (text : List ℕ) × Consumes (g.R.Source.left l.fn.reader) (g.R.Source.left l.reader) text
+      × g.T.Taker.has_taken l.taker text × (length text ≡ l.length);
   cost : l.steps ≤ l.fn.steps + l.length;
 }
 
