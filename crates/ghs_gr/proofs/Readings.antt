@@ -1,4 +1,4 @@
--- Lines of a text that comes in pieces.
+-- Lines of a text that comes in chunks.
 use Rattle.std.proofs.Common.{◌≡◌, ◌∙◌, ◌≤◌, ◌+◌, ◌-◌, ℕ, Bool, true, false, cond, List, [], ◌∷◌, ◌++◌, length, map, slice_index, append_assoc, refl, sym, ap, arith, subst, ⊎_elim}
 use Rattle.std.proofs.Math.ListN.{get_or-append}
 use Rattle.std.proofs.lemmas.Bool.{cases_lt}
@@ -46,12 +46,12 @@ pub meanings-append : (xs ys : List ℕ) → EndsLine xs → meanings (xs ++ ys)
 meanings-append xs ys p = ap (map meaning) (p ys) ∙ map-append meaning (lines_of xs) (lines_of ys)
 
 -- the line that was cut, and whole lines behind it, are gone over
-pub took_lines : (text piece lines rest held : List ℕ) (old new : Reading)
-    → HasTaken old text → piece ≡ lines ++ rest → EndsInFeed lines → HasNoFeed rest
+pub took_lines : (text chunk lines rest held : List ℕ) (old new : Reading)
+    → HasTaken old text → chunk ≡ lines ++ rest → EndsInFeed lines → HasNoFeed rest
     → held ≡ old.cut.items ++ lines → new.cut.items ≡ rest
     → ((ls : List Line) → IsPass ls old.pass → IsPass (ls ++ meanings held) new.pass)
-    → new.pass.lines ≤ old.pass.lines + length held → HasTaken new (text ++ piece)
-took_lines text piece lines rest held old new taken parts feed last is kept pass few = record {
+    → new.pass.lines ≤ old.pass.lines + length held → HasTaken new (text ++ chunk)
+took_lines text chunk lines rest held old new taken parts feed last is kept pass few = record {
   gone = taken.gone ++ held;
   all = ap (λ bs. text ++ bs) parts ∙ ap (λ bs. bs ++ (lines ++ rest)) taken.all ∙ append_assoc taken.gone old.cut.items (lines ++ rest)
       ∙ ap (λ bs. taken.gone ++ bs) (sym (append_assoc old.cut.items lines rest) ∙ ap (λ bs. bs ++ rest) (sym is))
@@ -73,13 +73,13 @@ HasNoFeed-append xs ys p q = λ k l e. ⊎_elim
     (cases_lt k (length xs))
 
 -- a line that is cut goes on
-pub took_part : (text piece : List ℕ) (old new : Reading)
-    → HasTaken old text → HasNoFeed piece → new.cut.items ≡ old.cut.items ++ piece → new.pass ≡ old.pass → HasTaken new (text ++ piece)
-took_part text piece old new taken none kept same = record {
+pub took_part : (text chunk : List ℕ) (old new : Reading)
+    → HasTaken old text → HasNoFeed chunk → new.cut.items ≡ old.cut.items ++ chunk → new.pass ≡ old.pass → HasTaken new (text ++ chunk)
+took_part text chunk old new taken none kept same = record {
   gone = taken.gone;
-  all = ap (λ bs. bs ++ piece) taken.all ∙ append_assoc taken.gone old.cut.items piece ∙ ap (λ bs. taken.gone ++ bs) (sym kept);
+  all = ap (λ bs. bs ++ chunk) taken.all ∙ append_assoc taken.gone old.cut.items chunk ∙ ap (λ bs. taken.gone ++ bs) (sym kept);
   whole = taken.whole;
-  cut = subst HasNoFeed (sym kept) (HasNoFeed-append old.cut.items piece taken.cut none);
+  cut = subst HasNoFeed (sym kept) (HasNoFeed-append old.cut.items chunk taken.cut none);
   pass = subst (λ p. IsPass (meanings taken.gone) p) (sym same) taken.pass;
   few = subst (λ p. p.lines ≤ length taken.gone) (sym same) taken.few;
 }

@@ -8,7 +8,7 @@ use crate::pass::Pass;
 use crate::text::{TEXT_LIMIT, Taker};
 use std::alloc::{AllocError, Global};
 
-/// A pass over the lines of a text that comes in pieces. Of the text itself only a line whose end hasn't come yet is
+/// A pass over the lines of a text that comes in chunks. Of the text itself only a line whose end hasn't come yet is
 /// kept.
 #[derive(Drop)]
 pub struct Reading {
@@ -19,7 +19,7 @@ pub struct Reading {
 }
 
 impl Reading {
-    /// Before the first piece.
+    /// Before the first chunk.
     pub fn new(alloc: Global) -> Reading
         ensures { HasTaken result [] }
     {
@@ -29,7 +29,7 @@ impl Reading {
         }
     }
 
-    /// The pass over the whole text, when all its pieces have come.
+    /// The pass over the whole text, when all its chunks have come.
     pub fn end(self) -> Result<Pass, AllocError>
         requires { (text : List ℕ) × HasTaken self text × (length text ≤ TEXT_LIMIT) }
         ensures pass { IfOk result (λ pass. (text : List ℕ) → HasTaken self text → IsPass (meanings text) pass) }
@@ -44,15 +44,15 @@ impl Reading {
 impl Taker for Reading {
     ghost has_taken = { λ reading text. HasTaken reading text };
 
-    fn take(&mut self, piece: &[u8]) -> Result<(), AllocError> {
-        match whole_lines(piece) {
+    fn take(&mut self, chunk: &[u8]) -> Result<(), AllocError> {
+        match whole_lines(chunk) {
             Some((lines, rest)) => {
                 self.cut.extend_from_slice(lines)?;
                 self.pass.go_over(self.cut.as_slice())?;
                 self.cut.clear();
                 self.cut.extend_from_slice(rest)?;
             }
-            None => self.cut.extend_from_slice(piece)?,
+            None => self.cut.extend_from_slice(chunk)?,
         }
         Ok(())
     }
