@@ -5,7 +5,7 @@ use Rattle.ghs_node.specs.declared.mark.Mark.TheVariants.{Branch}
 use Rattle.ghs_node.specs.Words.{is_branch, Outgoing}
 use Rattle.ghs_node.specs.declared.message.Phase.TheVariants.{Sleeping, Found}
 use Rattle.ghs_node.specs.declared.message.Message.{Message}
-use Rattle.ghs_protocol.specs.Network.{Network, port_at, At, far, far_port, IsWired}
+use Rattle.ghs_protocol.specs.Network.{Network, port_at, At, far, far_port, IsWired, InNetwork}
 use Rattle.ghs_protocol.specs.Net.{put}
 use Rattle.ghs_protocol.specs.Steps.{sent_on}
 use Rattle.ghs_protocol.proofs.lemmas.Updates.{put_same, put_other}
@@ -40,7 +40,7 @@ module _ (g : Network) (wired : IsWired g) (w : Scene) (P : End → End → Type
   pub at_far : P (record { port = far_port g u i; key = (port_at g u i).key; mark = (w.at (far g u i)).mark (far_port g u i); is = w.at (far g u i); seen = w.seen (far g u i) (far_port g u i) }) (end g w u i)
   at_far = subst₂ P far_is (λ k. end g w (wired.back u i at k) (wired.back_port u i at k)) (all _ _ (wired.there u i at))
 
-module _ (g : Network) (wired : IsWired g) (u : ℕ) (lo : 1 ≤ u) (hi : u ≤ g.count) (x : Member) (j : ℕ) (at : At g u j) (q : Seen) (ms : List Message) (ss : Outgoing) (on : SendsOn j ms ss) (w : Scene) where
+module _ (g : Network) (wired : IsWired g) (u : ℕ) (u_is : InNetwork g u) (x : Member) (j : ℕ) (at : At g u j) (q : Seen) (ms : List Message) (ss : Outgoing) (on : SendsOn j ms ss) (w : Scene) where
   pub own : ℕ → Seen
   own = put (w.seen u) j q
 
@@ -57,32 +57,32 @@ module _ (g : Network) (wired : IsWired g) (u : ℕ) (lo : 1 ≤ u) (hi : u ≤ 
   abbrev pub onto : ℕ → End
   onto i = record { port = far_port g u i; key = (port_at g u i).key; mark = (w.at (far g u i)).mark (far_port g u i); is = w.at (far g u i); seen = w.seen (far g u i) (far_port g u i) }
 
-  pub near_still : (i : ℕ) → i ≢ j → near' g wired u lo hi x own ss w i ≡ still i
+  pub near_still : (i : ℕ) → i ≢ j → near' g wired u u_is x own ss w i ≡ still i
   unfolding own
   near_still i ne = λ k. record { port = i; key = (port_at g u i).key; mark = (x).mark (i); is = x; seen = put_other (w.seen u) j i q ne k }
 
-  pub far_onto : (i : ℕ) → i ≢ j → far' g wired u lo hi x own ss w i ≡ onto i
+  pub far_onto : (i : ℕ) → i ≢ j → far' g wired u u_is x own ss w i ≡ onto i
   unfolding own
   far_onto i ne = λ k. record { port = far_port g u i; key = (port_at g u i).key; mark = (w.at (far g u i)).mark (far_port g u i); is = w.at (far g u i); seen = adds (w.seen (far g u i) (far_port g u i)) (on.none i ne k) }
 
-  pub near_here : near' g wired u lo hi x own ss w j ≡ here
+  pub near_here : near' g wired u u_is x own ss w j ≡ here
   unfolding own
   near_here = λ k. record { port = j; key = (port_at g u j).key; mark = (x).mark (j); is = x; seen = put_same (w.seen u) j q k }
 
-  pub far_there : far' g wired u lo hi x own ss w j ≡ there
+  pub far_there : far' g wired u u_is x own ss w j ≡ there
   unfolding own
   far_there = λ k. record { port = far_port g u j; key = (port_at g u j).key; mark = (w.at (far g u j)).mark (far_port g u j); is = w.at (far g u j); seen = adds (w.seen (far g u j) (far_port g u j)) (on.only k) }
 
-  pub by_port : (P : End → End → Type 0) → P here there → ((i : ℕ) → At g u i → i ≢ j → P (still i) (onto i)) → (i : ℕ) → At g u i → P (near' g wired u lo hi x own ss w i) (far' g wired u lo hi x own ss w i)
-  by_port P hit miss i at' = ⊎_elim (λ (e : i ≡ j). subst (λ y. P (near' g wired u lo hi x own ss w y) (far' g wired u lo hi x own ss w y)) (sym e) (subst₂ P (sym near_here) (sym far_there) hit)) (λ ne. subst₂ P (sym (near_still i ne)) (sym (far_onto i ne)) (miss i at' ne)) (cases_eq i j)
+  pub by_port : (P : End → End → Type 0) → P here there → ((i : ℕ) → At g u i → i ≢ j → P (still i) (onto i)) → (i : ℕ) → At g u i → P (near' g wired u u_is x own ss w i) (far' g wired u u_is x own ss w i)
+  by_port P hit miss i at' = ⊎_elim (λ (e : i ≡ j). subst (λ y. P (near' g wired u u_is x own ss w y) (far' g wired u u_is x own ss w y)) (sym e) (subst₂ P (sym near_here) (sym far_there) hit)) (λ ne. subst₂ P (sym (near_still i ne)) (sym (far_onto i ne)) (miss i at' ne)) (cases_eq i j)
 
-  pub by_port' : (P : End → End → Type 0) → P there here → ((i : ℕ) → At g u i → i ≢ j → P (onto i) (still i)) → (i : ℕ) → At g u i → P (far' g wired u lo hi x own ss w i) (near' g wired u lo hi x own ss w i)
+  pub by_port' : (P : End → End → Type 0) → P there here → ((i : ℕ) → At g u i → i ≢ j → P (onto i) (still i)) → (i : ℕ) → At g u i → P (far' g wired u u_is x own ss w i) (near' g wired u u_is x own ss w i)
   by_port' P hit miss = by_port (λ e f. P f e) hit miss
 
   -- a fact of the two ends that names the port
-  pub by_port_at : (P : ℕ → End → End → Type 0) → P j here there → ((i : ℕ) → At g u i → i ≢ j → P i (still i) (onto i)) → (i : ℕ) → At g u i → P i (near' g wired u lo hi x (put (w.seen u) j q) ss w i) (far' g wired u lo hi x (put (w.seen u) j q) ss w i)
+  pub by_port_at : (P : ℕ → End → End → Type 0) → P j here there → ((i : ℕ) → At g u i → i ≢ j → P i (still i) (onto i)) → (i : ℕ) → At g u i → P i (near' g wired u u_is x (put (w.seen u) j q) ss w i) (far' g wired u u_is x (put (w.seen u) j q) ss w i)
   unfolding own
-  by_port_at P hit miss i at' = ⊎_elim (λ (e : i ≡ j). subst (λ y. P y (near' g wired u lo hi x own ss w y) (far' g wired u lo hi x own ss w y)) (sym e) (subst₂ (P j) (sym near_here) (sym far_there) hit)) (λ ne. subst₂ (P i) (sym (near_still i ne)) (sym (far_onto i ne)) (miss i at' ne)) (cases_eq i j)
+  by_port_at P hit miss i at' = ⊎_elim (λ (e : i ≡ j). subst (λ y. P y (near' g wired u u_is x own ss w y) (far' g wired u u_is x own ss w y)) (sym e) (subst₂ (P j) (sym near_here) (sym far_there) hit)) (λ ne. subst₂ (P i) (sym (near_still i ne)) (sym (far_onto i ne)) (miss i at' ne)) (cases_eq i j)
 
   abbrev pub then : Scene
   then = acts g u x (put (w.seen u) j q) ss w
@@ -90,13 +90,13 @@ module _ (g : Network) (wired : IsWired g) (u : ℕ) (lo : 1 ≤ u) (hi : u ≤ 
   -- find_count
   pub sums_one : DebtsCounted g w → x.head.find_count + debt (end g w u j) (onto j) ≡ (w.at u).head.find_count + debt here there → ((i : ℕ) → i ≢ j → debt (still i) (onto i) ≡ debt (end g w u i) (onto i)) → debt there here ≡ debt (onto j) (end g w u j) → ((i : ℕ) → i ≢ j → debt (onto i) (still i) ≡ debt (onto i) (end g w u i)) → DebtsCounted g then
   unfolding own
-  sums_one counted count mine hit theirs = sums_after g wired u lo hi x own ss w counted total (λ i at'. ⊎_elim (λ (e : i ≡ j). subst (λ y. debt (far' g wired u lo hi x own ss w y) (near' g wired u lo hi x own ss w y) ≡ debt (onto y) (end g w u y)) (sym e) (ap₂ debt far_there near_here ∙ hit)) (λ ne. ap₂ debt (far_onto i ne) (near_still i ne) ∙ theirs i ne) (cases_eq i j))
+  sums_one counted count mine hit theirs = sums_after g wired u u_is x own ss w counted total (λ i at'. ⊎_elim (λ (e : i ≡ j). subst (λ y. debt (far' g wired u u_is x own ss w y) (near' g wired u u_is x own ss w y) ≡ debt (onto y) (end g w u y)) (sym e) (ap₂ debt far_there near_here ∙ hit)) (λ ne. ap₂ debt (far_onto i ne) (near_still i ne) ∙ theirs i ne) (cases_eq i j))
     where
       f : ℕ → ℕ
       f i = debt (end g w u i) (onto i)
 
       h : ℕ → ℕ
-      h i = debt (near' g wired u lo hi x own ss w i) (far' g wired u lo hi x own ss w i)
+      h i = debt (near' g wired u u_is x own ss w i) (far' g wired u u_is x own ss w i)
 
       one : sum_below (length (g.ports u)) h + f j ≡ sum_below (length (g.ports u)) f + h j
       one = sum_one (length (g.ports u)) j f h at.port (λ i ne. sym (ap₂ debt (near_still i ne) (far_onto i ne) ∙ mine i ne))
@@ -105,7 +105,7 @@ module _ (g : Network) (wired : IsWired g) (u : ℕ) (lo : 1 ≤ u) (hi : u ≤ 
       hj = ap₂ debt near_here far_there
 
       old : (w.at u).head.find_count ≡ sum_below (length (g.ports u)) f
-      old = counted u (record { some = lo; node = hi }) ∙ sum_same (length (g.ports u)) _ _ (λ i lt. let at' : At g u i = record { some = lo; node = hi; port = lt } in ap (debt (end g w u i)) (λ k. record { port = far_port g u i; key = wired.same_key u i at' k; mark = (w.at (far g u i)).mark (far_port g u i); is = w.at (far g u i); seen = w.seen (far g u i) (far_port g u i) }))
+      old = counted u u_is ∙ sum_same (length (g.ports u)) _ _ (λ i lt. let at' : At g u i = record { some = u_is.some; node = u_is.node; port = lt } in ap (debt (end g w u i)) (λ k. record { port = far_port g u i; key = wired.same_key u i at' k; mark = (w.at (far g u i)).mark (far_port g u i); is = w.at (far g u i); seen = w.seen (far g u i) (far_port g u i) }))
 
       total : x.head.find_count ≡ sum_below (length (g.ports u)) h
       total = omega (arith, one, hj, old, count)
@@ -114,10 +114,10 @@ module _ (g : Network) (wired : IsWired g) (u : ℕ) (lo : 1 ≤ u) (hi : u ≤ 
   pub kept_at : Alike (w.at u) x → Resting g then → Invariant g w → NodeFits (length (g.ports u)) x → LinkFits (NamesOf g w) here there → LinkFits (NamesOf g w) there here → ((i : ℕ) → At g u i → i ≢ j → LinkFits (NamesOf g w) (end g w u i) (onto i) → LinkFits (NamesOf g w) (onto i) (end g w u i) → LinkFits (NamesOf g w) (still i) (onto i)) → ((i : ℕ) → At g u i → i ≢ j → LinkFits (NamesOf g w) (end g w u i) (onto i) → LinkFits (NamesOf g w) (onto i) (end g w u i) → LinkFits (NamesOf g w) (onto i) (still i)) → (x.head.phase ≡ Sleeping → (w.at u).head.phase ≡ Sleeping) → x.head.name ≡ (w.at u).head.name → DebtsCounted g then → Invariant g then
   unfolding own
   kept_at alike resting holds node hit hit' miss miss' awake name counted =
-      kept_after g wired u lo hi x own ss w holds alike node
+      kept_after g wired u u_is x own ss w holds alike node
       (by_port (LinkFits (NamesOf g w)) hit (λ i at' ne. miss i at' ne (was_near i at') (was_far i at')))
       (by_port' (LinkFits (NamesOf g w)) hit' (λ i at' ne. miss' i at' ne (was_near i at') (was_far i at'))) awake
-      (λ k e. subst (λ a. Names g (forest w) a k) (sym alike.fragment) (holds.named u k (record { some = lo; node = hi }) (sym name ∙ e)))
+      (λ k e. subst (λ a. Names g (forest w) a k) (sym alike.fragment) (holds.named u k u_is (sym name ∙ e)))
       resting counted
     where
       was_near : (i : ℕ) → At g u i → LinkFits (NamesOf g w) (end g w u i) (onto i)
@@ -136,7 +136,7 @@ module _ (g : Network) (wired : IsWired g) (u : ℕ) (lo : 1 ≤ u) (hi : u ≤ 
   module _ (calm : Calm) where
     forests : forest then ≡ forest w
     unfolding own
-    forests = forest_after g wired u lo hi x own ss w calm.alike
+    forests = forest_after g wired u u_is x own ss w calm.alike
 
     branches : (v p : ℕ) → is_branch ((then.at v).mark p) ≡ is_branch ((w.at v).mark p)
     branches v p = ap (λ (s : Forest). s.branch v p) forests
@@ -159,8 +159,8 @@ module _ (g : Network) (wired : IsWired g) (u : ℕ) (lo : 1 ≤ u) (hi : u ≤ 
     calm_quiet : (a : ℕ) → Quiet g w a → Quiet g then a
     unfolding own
     calm_quiet a z =
-        quiet_after g wired u lo hi x own ss w a z
-        (λ e. calm.found (z.found u (record { some = lo; node = hi }) (sym calm.alike.fragment ∙ e)))
+        quiet_after g wired u u_is x own ss w a z
+        (λ e. calm.found (z.found u u_is (sym calm.alike.fragment ∙ e)))
         (by_port (λ e f. e.is.fragment ≡ a → has_call e.seen.tree ≡ false) (λ e. calm.mine (z.uncalled u j at (sym calm.alike.fragment ∙ e))) (λ i at' ne e. z.uncalled u i at' (sym calm.alike.fragment ∙ e)))
         (by_port' (λ e f. e.is.fragment ≡ a → has_call e.seen.tree ≡ false) (λ e. calm.theirs (z.uncalled _ _ (wired.there u j at) e)) (λ i at' ne e. z.uncalled _ _ (wired.there u i at') e))
 
@@ -174,10 +174,10 @@ module _ (g : Network) (wired : IsWired g) (u : ℕ) (lo : 1 ≤ u) (hi : u ≤ 
     pub kept_one : Invariant g w → NodeFits (length (g.ports u)) x → LinkFits (NamesOf g w) here there → LinkFits (NamesOf g w) there here → ((i : ℕ) → At g u i → i ≢ j → LinkFits (NamesOf g w) (end g w u i) (onto i) → LinkFits (NamesOf g w) (onto i) (end g w u i) → LinkFits (NamesOf g w) (still i) (onto i)) → ((i : ℕ) → At g u i → i ≢ j → LinkFits (NamesOf g w) (end g w u i) (onto i) → LinkFits (NamesOf g w) (onto i) (end g w u i) → LinkFits (NamesOf g w) (onto i) (still i)) → (x.head.phase ≡ Sleeping → (w.at u).head.phase ≡ Sleeping) → x.head.name ≡ (w.at u).head.name → DebtsCounted g then → Invariant g then
     unfolding own
     kept_one holds node hit hit' miss miss' awake name counted =
-        kept_after g wired u lo hi x own ss w holds calm.alike node
+        kept_after g wired u u_is x own ss w holds calm.alike node
         (by_port (LinkFits (NamesOf g w)) hit (λ i at' ne. miss i at' ne (was_near i at') (was_far i at')))
         (by_port' (LinkFits (NamesOf g w)) hit' (λ i at' ne. miss' i at' ne (was_near i at') (was_far i at'))) awake
-        (λ k e. subst (λ a. Names g (forest w) a k) (sym calm.alike.fragment) (holds.named u k (record { some = lo; node = hi }) (sym name ∙ e)))
+        (λ k e. subst (λ a. Names g (forest w) a k) (sym calm.alike.fragment) (holds.named u k u_is (sym name ∙ e)))
         (resting_calm holds.resting) counted
       where
         was_near : (i : ℕ) → At g u i → LinkFits (NamesOf g w) (end g w u i) (onto i)

@@ -36,7 +36,7 @@ pub mark_branch : (m : Mark) → is_branch m ≡ false → m ≢ Branch
 mark_branch Branch e = cc
 mark_branch _ e = λ z. cc
 
-module _ (g : Network) (wired : IsWired g) (u : ℕ) (lo : 1 ≤ u) (hi : u ≤ g.count) (x : Member) (own : ℕ → Seen) (ss : Outgoing) (w : Scene) where
+module _ (g : Network) (wired : IsWired g) (u : ℕ) (u_is : InNetwork g u) (x : Member) (own : ℕ → Seen) (ss : Outgoing) (w : Scene) where
   after : Scene
   after = acts g u x own ss w
 
@@ -63,7 +63,7 @@ module _ (g : Network) (wired : IsWired g) (u : ℕ) (lo : 1 ≤ u) (hi : u ≤ 
   pub quiet_after : (a : ℕ) → Quiet g w a → (x.fragment ≡ a → x.head.phase ≡ Found) → ((i : ℕ) → At g u i → x.fragment ≡ a → has_call (own i).tree ≡ false) → ((i : ℕ) → At g u i → (w.at (far g u i)).fragment ≡ a → has_call (adds (w.seen (far g u i) (far_port g u i)) (sent_on ss i)).tree ≡ false) → Quiet g (acts g u x own ss w) a
   quiet_after a q found mine theirs = record {
     found = node_after (λ n m. m.fragment ≡ a → m.head.phase ≡ Found) q.found found;
-    uncalled = acts_keeps g wired u lo hi x own ss w (λ e f. e.is.fragment ≡ a → has_call e.seen.tree ≡ false) q.uncalled mine theirs;
+    uncalled = acts_keeps g wired u u_is.some u_is.node x own ss w (λ e f. e.is.fragment ≡ a → has_call e.seen.tree ≡ false) q.uncalled mine theirs;
   }
 
   -- find_count, where only u's own sum changes
@@ -74,7 +74,7 @@ module _ (g : Network) (wired : IsWired g) (u : ℕ) (lo : 1 ≤ u) (hi : u ≤ 
       w' = acts g u x own ss w
 
       here : v ≡ u → (w'.at v).head.find_count ≡ debts g w' v
-      here e = subst (λ y. (w'.at y).head.find_count ≡ debts g w' y) (sym e) (ap (λ (m : Member). m.head.find_count) (put_same w.at u x) ∙ mine ∙ sum_same (length (g.ports u)) _ _ (λ i lt. let at : At g u i = record { some = lo; node = hi; port = lt } in sym (ap₂ debt (here_end_is g wired u lo hi x own ss w i) (far_end_is g wired u lo hi x own ss w i at))))
+      here e = subst (λ y. (w'.at y).head.find_count ≡ debts g w' y) (sym e) (ap (λ (m : Member). m.head.find_count) (put_same w.at u x) ∙ mine ∙ sum_same (length (g.ports u)) _ _ (λ i lt. let at : At g u i = record { some = u_is.some; node = u_is.node; port = lt } in sym (ap₂ debt (here_end_is g wired u u_is.some u_is.node x own ss w i) (far_end_is g wired u u_is.some u_is.node x own ss w i at))))
 
       term : v ≢ u → (p : ℕ) → At g v p → debt (end g w v p) (end g w (far g v p) (far_port g v p)) ≡ debt (end g w' v p) (end g w' (far g v p) (far_port g v p))
       term ne p at = ⊎_elim toward beside (cases_eq (far g v p) u)
@@ -86,11 +86,11 @@ module _ (g : Network) (wired : IsWired g) (u : ℕ) (lo : 1 ≤ u) (hi : u ≤ 
               let b : far g u i ≡ v = ap (λ y. far g y i) (sym e) ∙ wired.back v p at in
               let b' : far_port g u i ≡ p = ap (λ y. far_port g y i) (sym e) ∙ wired.back_port v p at in
               let back : end g w (far g u i) (far_port g u i) ≡ far_end g w u i = λ k. record { port = far_port g u i; key = wired.same_key u i at' k; mark = (w.at (far g u i)).mark (far_port g u i); is = w.at (far g u i); seen = w.seen (far g u i) (far_port g u i) } in
-              let both : debt (end g w (far g u i) (far_port g u i)) (end g w u i) ≡ debt (end g w' (far g u i) (far_port g u i)) (end g w' u i) = ap (λ (z : End). debt z (end g w u i)) back ∙ sym (theirs i at') ∙ sym (ap₂ debt (far_end_is g wired u lo hi x own ss w i at') (here_end_is g wired u lo hi x own ss w i)) in
+              let both : debt (end g w (far g u i) (far_port g u i)) (end g w u i) ≡ debt (end g w' (far g u i) (far_port g u i)) (end g w' u i) = ap (λ (z : End). debt z (end g w u i)) back ∙ sym (theirs i at') ∙ sym (ap₂ debt (far_end_is g wired u u_is.some u_is.node x own ss w i at') (here_end_is g wired u u_is.some u_is.node x own ss w i)) in
               subst (λ y. debt (end g w v p) (end g w y i) ≡ debt (end g w' v p) (end g w' y i)) (sym e) (subst₂ (λ y z. debt (end g w y z) (end g w u i) ≡ debt (end g w' y z) (end g w' u i)) b b' both)
 
           beside : far g v p ≢ u → debt (end g w v p) (end g w (far g v p) (far_port g v p)) ≡ debt (end g w' v p) (end g w' (far g v p) (far_port g v p))
-          beside ne' = sym (ap₂ debt (other_end_is g wired u lo hi x own ss w v p at ne ne') (other_end_is g wired u lo hi x own ss w _ _ (wired.there v p at) ne' (λ y. ne (sym (wired.back v p at) ∙ y))))
+          beside ne' = sym (ap₂ debt (other_end_is g wired u u_is.some u_is.node x own ss w v p at ne ne') (other_end_is g wired u u_is.some u_is.node x own ss w _ _ (wired.there v p at) ne' (λ y. ne (sym (wired.back v p at) ∙ y))))
 
       away : v ≢ u → (w'.at v).head.find_count ≡ debts g w' v
       away ne = ap (λ (m : Member). m.head.find_count) (put_other w.at u v x ne) ∙ counted v is ∙ sum_same (length (g.ports v)) _ _ (λ p lt. term ne p (record { some = is.some; node = is.node; port = lt }))
@@ -101,7 +101,7 @@ module _ (g : Network) (wired : IsWired g) (u : ℕ) (lo : 1 ≤ u) (hi : u ≤ 
   kept_after holds alike node link link' awake named resting counted = record {
     nodes = node_after NodeFits holds.nodes node;
     trees = subst (ForestFits g) (sym forests) holds.trees;
-    links = subst (λ (s : Forest). (v p : ℕ) → At g v p → LinkFits (Names g s) (end g after v p) (end g after (far g v p) (far_port g v p))) (sym forests) (acts_keeps g wired u lo hi x own ss w (LinkFits (NamesOf g w)) holds.links link link');
+    links = subst (λ (s : Forest). (v p : ℕ) → At g v p → LinkFits (Names g s) (end g after v p) (end g after (far g v p) (far_port g v p))) (sym forests) (acts_keeps g wired u u_is.some u_is.node x own ss w (LinkFits (NamesOf g w)) holds.links link link');
     alone = λ v t iv it asleep same. holds.alone v t iv it (slept v asleep) (sym (frags t) ∙ same ∙ frags v);
     named = subst (λ (s : Forest). (v : ℕ) → (k : Key) → InNetwork g v → (after.at v).head.name ≡ Some k → Names g s (after.at v).fragment k) (sym forests) (λ v k is e. node_after (λ n m. (m.head.name ≡ Some k → Names g (forest w) m.fragment k)) (λ v' is'. holds.named v' k is') (named k) v is e);
     resting = resting;

@@ -7,7 +7,7 @@ use Rattle.ghs_node.specs.declared.mark.Mark.TheVariants.{Basic, Branch, Rejecte
 use Rattle.ghs_node.specs.declared.message.Message.{Message}
 use Rattle.ghs_node.specs.declared.message.Message.TheVariants.{Connect, Initiate, Test, Accept, Reject, Report, ChangeRoot}
 use Rattle.ghs_node.specs.Words.{Outgoing, is_at}
-use Rattle.ghs_protocol.specs.Network.{Network, At, far, far_port, IsWired}
+use Rattle.ghs_protocol.specs.Network.{Network, At, far, far_port, IsWired, InNetwork}
 use Rattle.ghs_protocol.specs.Ledger.{sum_below, sum_over_ports, of_kind}
 use Rattle.ghs_protocol.specs.Steps.{sent_on}
 use Rattle.ghs_protocol.proofs.clauses.Scene.{Seen, add, adds, Member, Scene, end, TestEnd, test_end, acts}
@@ -142,7 +142,7 @@ sent_aside [] p i m ne = rw (ne_eqb p i (λ z. ne (sym z))) refl
 sent_aside (s ∷ ss) p i m ne = ap (λ (x : List Message). if s.0 == i then s.1 ∷ x else x) (sent_aside ss p i m ne)
 
 -- One act, as ports pay.
-module _ (g : Network) (wired : IsWired g) (u : ℕ) (lo : 1 ≤ u) (hi : u ≤ g.count) (x : Member) (own : ℕ → Seen) (ss : Outgoing) (w : Scene) where
+module _ (g : Network) (wired : IsWired g) (u : ℕ) (u_is : InNetwork g u) (x : Member) (own : ℕ → Seen) (ss : Outgoing) (w : Scene) where
   -- the far end's node, and the queue there
   abbrev pub beyond : ℕ → Member
   beyond i = w.at (far g u i)
@@ -191,7 +191,7 @@ module _ (g : Network) (wired : IsWired g) (u : ℕ) (lo : 1 ≤ u) (hi : u ≤ 
 
   module _ (fares : (i : ℕ) → At g u i → Fares i) where
     pub paid_stays : (v p : ℕ) → At g v p → paid_at g w v p ≤ paid_at g (acts g u x own ss w) v p
-    paid_stays = acts_read g wired u lo hi x own ss w (λ v p e f. paid_at g w v p ≤ paid (test_end e) (test_end f)) (λ v p at ne ne'. omega arith)
+    paid_stays = acts_read g wired u u_is.some u_is.node x own ss w (λ v p e f. paid_at g w v p ≤ paid (test_end e) (test_end f)) (λ v p at ne ne'. omega arith)
         (λ i at. fares_here i (fares i at))
         (λ i at. subst₂ (λ a b. paid (test_end (end g w (far g u i) (far_port g u i))) (test_end (end g w a b)) ≤ there_is i) (sym (wired.back u i at)) (sym (wired.back_port u i at)) (fares_there i (fares i at)))
 
@@ -204,7 +204,7 @@ module _ (g : Network) (wired : IsWired g) (u : ℕ) (lo : 1 ≤ u) (hi : u ≤ 
       stays = paid_stays;
       more = λ h. (
         at,
-        acts_read g wired u lo hi x own ss w (λ v p e f. v ≡ u → p ≡ j → paid_at g w v p + d ≤ paid (test_end e) (test_end f)) (λ v p at ne ne' e e'. absurd (ne e))
+        acts_read g wired u u_is.some u_is.node x own ss w (λ v p e f. v ≡ u → p ≡ j → paid_at g w v p + d ≤ paid (test_end e) (test_end f)) (λ v p at ne ne' e e'. absurd (ne e))
             (λ i at e e'. subst (λ y. here_was y + d ≤ here_is y) (sym e') more)
             (λ i at e e'. absurd (wired.apart u i at e)) u j at refl refl,
       );

@@ -8,7 +8,7 @@ use Rattle.ghs_node.specs.declared.message.Message.{Message}
 use Rattle.ghs_node.specs.declared.message.Message.TheVariants.{Test}
 use Rattle.ghs_node.specs.Words.{Outgoing, is_at}
 use Rattle.ghs_node.specs.Reaction.{Ending, Probing, Reporting, Waiting, last_sends, probe_after, name_of}
-use Rattle.ghs_protocol.specs.Network.{Network, At, far, far_port, IsWired}
+use Rattle.ghs_protocol.specs.Network.{Network, At, far, far_port, IsWired, InNetwork}
 use Rattle.ghs_protocol.specs.Net.{put}
 use Rattle.ghs_protocol.specs.Steps.{sent_on}
 use Rattle.ghs_protocol.proofs.clauses.Scene.{Seen, adds, Member, Scene, acts}
@@ -82,15 +82,15 @@ grows_branch f j i free = ⊎_elim (λ (e : i ≡ j). subst (λ y. Grows (f y) (
     branch Branch free ne = refl
     branch Rejected free ne = absurd (free refl)
 
-module _ (g : Network) (wired : IsWired g) (u : ℕ) (lo : 1 ≤ u) (hi : u ≤ g.count) (x : Member) (own : ℕ → Seen) (w : Scene) (fewer : (i : ℕ) → any_test (own i).tests ≡ true → any_test (w.seen u i).tests ≡ true) where
+module _ (g : Network) (wired : IsWired g) (u : ℕ) (u_is : InNetwork g u) (x : Member) (own : ℕ → Seen) (w : Scene) (fewer : (i : ℕ) → any_test (own i).tests ≡ true → any_test (w.seen u i).tests ≡ true) where
   -- no Test goes out, and no port stops being probed
   pub calm_pays : (ss : Outgoing) → NoTests (messages ss) → x.head.probe ≡ (w.at u).head.probe → ((i : ℕ) → Grows ((w.at u).mark i) (x.mark i)) →
       (j : ℕ) → Rises g w (acts g u x own ss w) u j 0
-  calm_pays ss none probe grows = paid_most g wired u lo hi x own ss w (λ i at. Same (ap (λ o. is_at o i) probe) (grows i) (fewer i) (tests_stay (w.seen (far g u i) (far_port g u i)) (sent_on ss i) (sent_none ss i none)))
+  calm_pays ss none probe grows = paid_most g wired u u_is x own ss w (λ i at. Same (ap (λ o. is_at o i) probe) (grows i) (fewer i) (tests_stay (w.seen (far g u i) (far_port g u i)) (sent_on ss i) (sent_none ss i none)))
 
   -- a port that isn't probed, where what comes next is this ending
   next_fares : (base : Outgoing) (h : Head) (e : Ending) → NoTests (messages base) → x.head.probe ≡ probe_after None e → ((q : ℕ) → e ≡ Probing q → (w.at u).mark q ≡ Basic) →
-      (i : ℕ) → Grows ((w.at u).mark i) (x.mark i) → is_at (w.at u).head.probe i ≡ false → Fares g wired u lo hi x own (base ++ last_sends h e) w i
+      (i : ℕ) → Grows ((w.at u).mark i) (x.mark i) → is_at (w.at u).head.probe i ≡ false → Fares g wired u u_is x own (base ++ last_sends h e) w i
   next_fares base h (Probing q) none probe next i grows free = ⊎_elim
       (λ (z : i ≡ q). Tested (ap (w.at u).mark z ∙ next q refl) free)
       (λ ne. Same (ap (λ o. is_at o i) probe ∙ not_at q i ne ∙ sym free) grows (fewer i)
@@ -111,7 +111,7 @@ module _ (g : Network) (wired : IsWired g) (u : ℕ) (lo : 1 ≤ u) (hi : u ≤ 
   pub search_pays : (base : Outgoing) (h : Head) (e : Ending) → NoTests (messages base) → x.head.probe ≡ probe_after None e → ((q : ℕ) → e ≡ Probing q → (w.at u).mark q ≡ Basic) →
       x.mark ≡ (w.at u).mark → (w.at u).head.probe ≡ None → (j : ℕ) → Rises g w (acts g u x own (base ++ last_sends h e) w) u j 0
   search_pays base h e none probe next marks free =
-      paid_most g wired u lo hi x own (base ++ last_sends h e) w (λ i at. next_fares base h e none probe next i (grows_same _ _ (ap (λ (f : ℕ → Mark). f i) marks)) (ap (λ o. is_at o i) free))
+      paid_most g wired u u_is x own (base ++ last_sends h e) w (λ i at. next_fares base h e none probe next i (grows_same _ _ (ap (λ (f : ℕ → Mark). f i) marks)) (ap (λ o. is_at o i) free))
 
   module _ (j : ℕ) (at : At g u j) where
     -- what stands at j's far end
@@ -134,19 +134,19 @@ module _ (g : Network) (wired : IsWired g) (u : ℕ) (lo : 1 ≤ u) (hi : u ≤ 
           after Reporting ne = refl
           after Waiting ne = refl
 
-      others : ((i : ℕ) → Grows ((w.at u).mark i) (x.mark i)) → there_was g wired u lo hi x own (last_sends h e) w j ≤ there_is g wired u lo hi x own (last_sends h e) w j → (i : ℕ) → At g u i → Fares g wired u lo hi x own (last_sends h e) w i
+      others : ((i : ℕ) → Grows ((w.at u).mark i) (x.mark i)) → there_was g wired u u_is x own (last_sends h e) w j ≤ there_is g wired u u_is x own (last_sends h e) w j → (i : ℕ) → At g u i → Fares g wired u u_is x own (last_sends h e) w i
       others grows there i at' = ⊎_elim
-          (λ (z : i ≡ j). subst (Fares g wired u lo hi x own (last_sends h e) w) (sym z) (Done (omega (arith, no_debt)) there))
+          (λ (z : i ≡ j). subst (Fares g wired u u_is x own (last_sends h e) w) (sym z) (Done (omega (arith, no_debt)) there))
           (λ ne. next_fares [] h e refl probe next i (grows i) (ap (λ o. is_at o i) was ∙ not_at j i ne))
           (cases_eq i j)
         where
-          no_debt : here_was g wired u lo hi x own (last_sends h e) w j ≡ 0
+          no_debt : here_was g wired u u_is x own (last_sends h e) w j ≡ 0
           no_debt = ap (λ b. due b z_own (any_test (w.seen u j).tests) ((w.at u).mark j) z_mark) (ap (λ o. is_at o j) was ∙ eq-eqb j j refl)
 
       -- after an Accept
       pub accept_pays : x.mark ≡ (w.at u).mark → ((w.at u).mark j ≡ Basic → z_mark ≢ Rejected) → Rises g w (acts g u x own (last_sends h e) w) u j 0
       accept_pays marks free =
-          paid_most g wired u lo hi x own (last_sends h e) w
+          paid_most g wired u u_is x own (last_sends h e) w
           (others (λ i. grows_same _ _ (ap (λ (f : ℕ → Mark). f i) marks))
           (subst₂ (λ b b'. due z_own b (any_test z_tests.tests) z_mark ((w.at u).mark j) ≤ due z_own b' (any_test (adds z_tests (sent_on (last_sends h e) j)).tests) z_mark (x.mark j)) (sym (ap (λ o. is_at o j) was ∙ eq-eqb j j refl)) (sym gone)
           (subst (λ (f : ℕ → Mark). due z_own true (any_test z_tests.tests) z_mark ((w.at u).mark j) ≤ due z_own false (any_test (adds z_tests (sent_on (last_sends h e) j)).tests) z_mark (f j)) (sym marks)
@@ -156,7 +156,7 @@ module _ (g : Network) (wired : IsWired g) (u : ℕ) (lo : 1 ≤ u) (hi : u ≤ 
       pub turn_pays : x.mark ≡ marked (w.at u).mark j → (z_own ≡ true → any_test (own j).tests ≡ false) → (z_mark ≢ Basic) ⊎ ((z_own ≡ true) × (x.mark j ≡ Rejected)) →
           Rises g w (acts g u x own (last_sends h e) w) u j 1
       turn_pays marks met why =
-          paid_more g wired u lo hi x own (last_sends h e) w
+          paid_more g wired u u_is x own (last_sends h e) w
           (others (λ i. subst (λ (f : ℕ → Mark). Grows ((w.at u).mark i) (f i)) (sym marks) (grows_marked (w.at u).mark j i))
           (subst₂ (λ b b'. due z_own b (any_test z_tests.tests) z_mark ((w.at u).mark j) ≤ due z_own b' (any_test (adds z_tests (sent_on (last_sends h e) j)).tests) z_mark (x.mark j)) (sym probed) (sym gone)
           (freed z_own (any_test z_tests.tests) (any_test (adds z_tests (sent_on (last_sends h e) j)).tests) z_mark ((w.at u).mark j) (x.mark j) has_mark)))
@@ -175,11 +175,11 @@ module _ (g : Network) (wired : IsWired g) (u : ℕ) (lo : 1 ≤ u) (hi : u ≤ 
         z_own ≡ true → any_test (w.seen u j).tests ≡ true → any_test (own j).tests ≡ false → (x.mark j ≡ Branch → z_mark ≢ Basic) →
         Rises g w (acts g u x own ss w) u j 1
     reject_pays ss none probe free marks theirs waits left why =
-        paid_more g wired u lo hi x own ss w
+        paid_more g wired u u_is x own ss w
         (λ i at'. Same (ap (λ o. is_at o i) probe) (subst (λ (f : ℕ → Mark). Grows ((w.at u).mark i) (f i)) (sym marks) (grows_marked (w.at u).mark j i)) (fewer i) (tests_stay (w.seen (far g u i) (far_port g u i)) (sent_on ss i) (sent_none ss i none)))
         j 1 at
-        (let was : here_was g wired u lo hi x own ss w j ≡ 0 = ap₂ (λ b t. due (is_at (w.at u).head.probe j) b t ((w.at u).mark j) z_mark) theirs waits ∙ ap (λ b. due b true true ((w.at u).mark j) z_mark) free in
-        let is : here_is g wired u lo hi x own ss w j ≡ 1 = ap (λ b. due b z_own (any_test (own j).tests) (x.mark j) z_mark) (ap (λ o. is_at o j) probe ∙ free) ∙ unmet z_own (any_test (own j).tests) (x.mark j) z_mark (λ e. left) ∙ settled_one z_own (x.mark j) z_mark has_mark (kind (x.mark j) has_mark why) in
+        (let was : here_was g wired u u_is x own ss w j ≡ 0 = ap₂ (λ b t. due (is_at (w.at u).head.probe j) b t ((w.at u).mark j) z_mark) theirs waits ∙ ap (λ b. due b true true ((w.at u).mark j) z_mark) free in
+        let is : here_is g wired u u_is x own ss w j ≡ 1 = ap (λ b. due b z_own (any_test (own j).tests) (x.mark j) z_mark) (ap (λ o. is_at o j) probe ∙ free) ∙ unmet z_own (any_test (own j).tests) (x.mark j) z_mark (λ e. left) ∙ settled_one z_own (x.mark j) z_mark has_mark (kind (x.mark j) has_mark why) in
         omega (arith, was, is))
       where
         has_mark : x.mark j ≢ Basic

@@ -48,6 +48,7 @@ use Rattle.ghs_protocol.proofs.rows.Rows.{ups_after, connect_again, report_again
 use Rattle.ghs_protocol.proofs.acts.Reactions.{round_scene}
 use Rattle.ghs_protocol.proofs.charges.Taken.{arrives, fewer, lone, next_basic, no_probing, none_left, taken_pays}
 use Rattle.ghs_protocol.proofs.tests.Links.{accepted_apart, not_basic, probe_is, rejected, rejected_facts}
+use Rattle.ghs_protocol.proofs.lemmas.Wires.{at_in}
 
 -- a port at which a tree message waits isn't Rejected
 not_rejected : {N : ℕ → Key → Type 0} (e f : TreeEnd) → TreeFits N e f → TreeFits N f e → (m : Message) (ms : List Message) → e.tree ≡ m ∷ ms → e.mark ≢ Rejected
@@ -105,7 +106,7 @@ module _ (g : Network) (ground : Ground g) (k : ℕ) (log : IsFloorLog2 g.count 
       ((i : ℕ) → Grows (mark_at (w.node v) i) (get_or (with_mark (w.node v).marks d.mark) i Rejected)) → Rises g (scene w opening_ghost) (scene (taken g v p m ms d w) opening_ghost) v p 0
   calm m waits d once none probe grows =
       arrives g v p w m ms d once 0
-      (calm_pays g ground.wired v at.some at.node (reacts g v w opening_ghost d) own (scene w opening_ghost) (fewer g v p w m ms waits) d.sends none probe grows p)
+      (calm_pays g ground.wired v (at_in at) (reacts g v w opening_ghost d) own (scene w opening_ghost) (fewer g v p w m ms waits) d.sends none probe grows p)
 
   -- where no mark changes either
   still : (i : ℕ) → Grows (mark_at (w.node v) i) (get_or (with_mark (w.node v).marks None) i Rejected)
@@ -162,10 +163,10 @@ module _ (g : Network) (ground : Ground g) (k : ℕ) (log : IsFloorLog2 g.count 
       (pays_rest k (w.node v).head (gh.up v) low p l f (w.node v).head.find_count _ (passed_on (w.node v) p l f Found) lt up refl refl (all_calls 0 (w.node v).marks p l f Found))
     where
       up : gh.up v ≡ Some p
-      up = (initiating.call g ground.wired v at.some at.node p at (scene w gh) sound.first l f Found (see ms).tree (w.node v).marks marks (tree_first (w.queue v p) ms (Initiate l f Found) refl waits) None refl 0 (λ e. refl)).up
+      up = (initiating.call g ground.wired v (at_in at) p at (scene w gh) sound.first l f Found (see ms).tree (w.node v).marks marks (tree_first (w.queue v p) ms (Initiate l f Found) refl waits) None refl 0 (λ e. refl)).up
 
   pub search_free : (l : ℕ) (f : Key) → w.queue v p ≡ Initiate l f Find ∷ ms → (w.node v).head.probe ≡ None
-  search_free l f waits = (initiating.idle g ground.wired v at.some at.node p at (scene w gh) sound.first l f Find (see ms).tree (w.node v).marks marks (tree_first (w.queue v p) ms (Initiate l f Find) refl waits) None refl (length (passed_on (w.node v) p l f Find)) (λ e. refl)).0
+  search_free l f waits = (initiating.idle g ground.wired v (at_in at) p at (scene w gh) sound.first l f Find (see ms).tree (w.node v).marks marks (tree_first (w.queue v p) ms (Initiate l f Find) refl waits) None refl (length (passed_on (w.node v) p l f Find)) (λ e. refl)).0
 
   row_initiate_searches :
       (l : ℕ) (f : Key) (e : Ending) → w.queue v p ≡ Initiate l f Find ∷ ms → (w.node v).head.level < l → Settles (w.node v).marks (no_probe (searching (w.node v) p l f)) e →
@@ -173,15 +174,15 @@ module _ (g : Network) (ground : Ground g) (k : ℕ) (log : IsFloorLog2 g.count 
   row_initiate_searches l f e waits lt s =
       pays_so (Initiate l f Find) (ends (no_probe (searching (w.node v) p l f)) None (passed_on (w.node v) p l f Find) e) 0 refl
       (arrives g v p w (Initiate l f Find) ms (ends (no_probe (searching (w.node v) p l f)) None (passed_on (w.node v) p l f Find) e) refl 0
-      (search_pays g ground.wired v at.some at.node (reacts g v w opening_ghost (ends (no_probe (searching (w.node v) p l f)) None (passed_on (w.node v) p l f Find) e)) own (scene w opening_ghost) (fewer g v p w (Initiate l f Find) ms waits)
+      (search_pays g ground.wired v (at_in at) (reacts g v w opening_ghost (ends (no_probe (searching (w.node v) p l f)) None (passed_on (w.node v) p l f Find) e)) own (scene w opening_ghost) (fewer g v p w (Initiate l f Find) ms waits)
       (passed_on (w.node v) p l f Find) (no_probe (searching (w.node v) p l f)) e (all_calls 0 (w.node v).marks p l f Find 2 (λ e. omega (arith, e))) refl (next_basic (w.node v).marks (no_probe (searching (w.node v) p l f)) e s) refl free p))
       (pays_search k (w.node v).head (gh.up v) low p l f ((w.node v).head.find_count + length (passed_on (w.node v) p l f Find)) _ (passed_on (w.node v) p l f Find) e lt free up refl refl (all_calls 0 (w.node v).marks p l f Find))
     where
       up : gh.up v ≡ Some p
-      up = (initiating.call g ground.wired v at.some at.node p at (scene w gh) sound.first l f Find (see ms).tree (w.node v).marks marks (tree_first (w.queue v p) ms (Initiate l f Find) refl waits) None refl (length (passed_on (w.node v) p l f Find)) (λ e. refl)).up
+      up = (initiating.call g ground.wired v (at_in at) p at (scene w gh) sound.first l f Find (see ms).tree (w.node v).marks marks (tree_first (w.queue v p) ms (Initiate l f Find) refl waits) None refl (length (passed_on (w.node v) p l f Find)) (λ e. refl)).up
 
       free : (w.node v).head.probe ≡ None
-      free = (initiating.idle g ground.wired v at.some at.node p at (scene w gh) sound.first l f Find (see ms).tree (w.node v).marks marks (tree_first (w.queue v p) ms (Initiate l f Find) refl waits) None refl (length (passed_on (w.node v) p l f Find)) (λ e. refl)).0
+      free = (initiating.idle g ground.wired v (at_in at) p at (scene w gh) sound.first l f Find (see ms).tree (w.node v).marks marks (tree_first (w.queue v p) ms (Initiate l f Find) refl waits) None refl (length (passed_on (w.node v) p l f Find)) (λ e. refl)).0
 
   -- the marks once port p is Rejected where it was Basic
   rejects : (λ (q : ℕ). get_or (with_mark (w.node v).marks (reject_at (w.node v) p)) q Rejected) ≡ marked (λ q. mark_at (w.node v) q) p
@@ -205,7 +206,7 @@ module _ (g : Network) (ground : Ground g) (k : ℕ) (log : IsFloorLog2 g.count 
       Rises g (scene w opening_ghost) (scene (taken g v p (Test l n) ms (does (w.node v).head (reject_at (w.node v) p) ((p, Reject) ∷ [])) w) opening_ghost) v p 1
   rejected_rises l n waits name free =
       (arrives g v p w (Test l n) ms (does (w.node v).head (reject_at (w.node v) p) ((p, Reject) ∷ [])) refl 1
-      (reject_pays g ground.wired v at.some at.node (reacts g v w opening_ghost (does (w.node v).head (reject_at (w.node v) p) ((p, Reject) ∷ []))) own (scene w opening_ghost) (fewer g v p w (Test l n) ms waits) p at
+      (reject_pays g ground.wired v (at_in at) (reacts g v w opening_ghost (does (w.node v).head (reject_at (w.node v) p) ((p, Reject) ∷ []))) own (scene w opening_ghost) (fewer g v p w (Test l n) ms waits) p at
       ((p, Reject) ∷ []) refl refl (not_at (w.node v).head.probe p free) rejects (at_it (w.node (far g v p)).head.probe (far_port g v p) theirs) (ap any_test first)
       (own_tests (none_left (l, n) (see ms).tests (see (w.queue v p)).tests first (lone (test_end (end g (scene w gh) v p)) (test_end (far_end g (scene w gh) v p)) link'.tests)))
       (λ e. marked_beyond same (was_branch (sym (ap (λ (f : ℕ → Mark). f p) rejects) ∙ e)))))
@@ -214,7 +215,7 @@ module _ (g : Network) (ground : Ground g) (k : ℕ) (log : IsFloorLog2 g.count 
       first = test_first (w.queue v p) ms l n waits
 
       same : gh.fragment v ≡ gh.fragment (far g v p)
-      same = reject_inside g ground.wired v at.some at.node p at (scene w gh) sound.first l n (see ms).tests ground.keyed first (same_name _ n name) free
+      same = reject_inside g ground.wired v (at_in at) p at (scene w gh) sound.first l n (see ms).tests ground.keyed first (same_name _ n name) free
 
       theirs : (w.node (far g v p)).head.probe ≡ Some (far_port g v p)
       theirs = ⊎_elim (λ e. e) (λ ne. absurd (free ((link'.tests.not_probing ne).crossed (let z = ap length first in omega (arith, z))).probe)) (probe_is (w.node (far g v p)).head.probe (far_port g v p))
@@ -235,7 +236,7 @@ module _ (g : Network) (ground : Ground g) (k : ℕ) (log : IsFloorLog2 g.count 
       Rises g (scene w opening_ghost) (scene (taken g v p m ms (ends (no_probe (w.node v).head) (reject_at (w.node v) p) [] e) w) opening_ghost) v p 1
   turn_rises m e waits mine s met why =
       (arrives g v p w m ms (ends (no_probe (w.node v).head) (reject_at (w.node v) p) [] e) refl 1
-      (turn_pays g ground.wired v at.some at.node (reacts g v w opening_ghost (ends (no_probe (w.node v).head) (reject_at (w.node v) p) [] e)) own (scene w opening_ghost) (fewer g v p w m ms waits) p at
+      (turn_pays g ground.wired v (at_in at) (reacts g v w opening_ghost (ends (no_probe (w.node v).head) (reject_at (w.node v) p) [] e)) own (scene w opening_ghost) (fewer g v p w m ms waits) p at
       (no_probe (w.node v).head) e refl mine (λ q z. basic_was (λ q. mark_at (w.node v) q) p q (next q z))
       (λ q z y. not_basic (mark_at (w.node v) p) (sym (put_same (λ q. mark_at (w.node v) q) p (rejected (mark_at (w.node v) p))) ∙ subst (λ x. marked (λ q. mark_at (w.node v) q) p x ≡ Basic) y (next q z)))
       rejects (λ z. own_tests (met z)) (⊎_elim inl (λ z. inr (z.0, ap (λ (f : ℕ → Mark). f p) rejects ∙ z.1)) why)))
@@ -267,7 +268,7 @@ module _ (g : Network) (ground : Ground g) (k : ℕ) (log : IsFloorLog2 g.count 
       first = test_first (w.queue v p) ms l n waits
 
       same : gh.fragment v ≡ gh.fragment (far g v p)
-      same = cross_inside g ground.wired v at.some at.node p at (scene w gh) sound.first l n (see ms).tests ground.keyed first (same_name _ n name) mine
+      same = cross_inside g ground.wired v (at_in at) p at (scene w gh) sound.first l n (see ms).tests ground.keyed first (same_name _ n name) mine
 
       kind : (m : Mark) → m ≢ Basic → is_at (w.node (far g v p)).head.probe (far_port g v p) ≡ true → (m ≡ Branch → mark_at (w.node (far g v p)) (far_port g v p) ≢ Basic) →
           (mark_at (w.node (far g v p)) (far_port g v p) ≢ Basic) ⊎ ((is_at (w.node (far g v p)).head.probe (far_port g v p) ≡ true) × (m ≡ Rejected))
@@ -300,7 +301,7 @@ module _ (g : Network) (ground : Ground g) (k : ℕ) (log : IsFloorLog2 g.count 
   row_accept_heard e waits mine c =
       pays_so Accept (ends (answered (w.node v).head p (Some (key_at (w.node v) p))) None [] e) 0 refl
       (arrives g v p w Accept ms (ends (answered (w.node v).head p (Some (key_at (w.node v) p))) None [] e) refl 0
-      (accept_pays g ground.wired v at.some at.node (reacts g v w opening_ghost (ends (answered (w.node v).head p (Some (key_at (w.node v) p))) None [] e)) own (scene w opening_ghost) (fewer g v p w Accept ms waits) p at
+      (accept_pays g ground.wired v (at_in at) (reacts g v w opening_ghost (ends (answered (w.node v).head p (Some (key_at (w.node v) p))) None [] e)) own (scene w opening_ghost) (fewer g v p w Accept ms waits) p at
       (answered (w.node v).head p (Some (key_at (w.node v) p))) e refl mine (λ q z. absurd (no_probing _ e c q z)) (λ q z. absurd (no_probing _ e c q z)) refl
       (λ b rej. apart.0 (link'.search.rejected_inside rej))))
       (pays_accept k (w.node v).head (gh.up v) low p (Some (key_at (w.node v) p)) _ e mine finds lower refl refl c)
@@ -356,7 +357,7 @@ module _ (g : Network) (ground : Ground g) (k : ℕ) (log : IsFloorLog2 g.count 
       (pays_root k (w.node v).head (gh.up v) low p b (mark_at (w.node v) b) _ root.in_branch root.up (fits.best_port b q best).1 (low.best (λ e. cc (e, best))) c1 c3))
     where
       root : AtRoot g (scene w gh) v p (see ms).tree
-      root = at_root g ground.wired v at.some at.node p at (scene w gh) sound.first (see ms).tree calls
+      root = at_root g ground.wired v (at_in at) p at (scene w gh) sound.first (see ms).tree calls
 
       at_b : At g v b
       at_b = record { some = at.some; node = at.node; port = (fits.best_port b q best).0 }

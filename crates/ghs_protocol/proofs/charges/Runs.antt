@@ -53,7 +53,7 @@ module _ (g : Network) (wired : IsWired g) (k : ℕ) (log : IsFloorLog2 g.count 
     sent = sent_now g v d w;
     consumed = λ j. let z = ap (λ (f : ℕ → ℕ). f j) (consumed_now g v d w) in omega (arith, z);
     ports =
-        let r = subst (λ (z : Scene). Rises g (scene w opening_ghost) z v 0 0) (sym (wake_acts g v w opening_ghost None d)) (calm_pays g wired v lo hi (record (reacts g v w opening_ghost d) { up = None }) (λ i. see (w.queue v i)) (scene w opening_ghost) (λ i h. h) d.sends none probe grows 0) in
+        let r = subst (λ (z : Scene). Rises g (scene w opening_ghost) z v 0 0) (sym (wake_acts g v w opening_ghost None d)) (calm_pays g wired v (record { some = lo; node = hi }) (record (reacts g v w opening_ghost d) { up = None }) (λ i. see (w.queue v i)) (scene w opening_ghost) (λ i h. h) d.sends none probe grows 0) in
         record { stays = r.stays; more = r.more };
     pays = subst (λ (n : NodeState). Pays k (w.node v).head (gh.up v) n.head (put gh.up v o v) (λ j. 0) (messages d.sends) 0) (sym (node_here g v d w))
         (subst (λ a. Pays k (w.node v).head a d.head (put gh.up v o v) (λ j. 0) (messages d.sends) 0) (sym rested.up)
@@ -98,7 +98,7 @@ module _ (g : Network) (ground : Ground g) (k : ℕ) (log : IsFloorLog2 g.count 
     some = lo;
     within = hi;
     up = put h.sound.ghost.up v (up_waking (w.node v).marks (h.sound.ghost.up v));
-    sound = wake_keeps g ground v lo hi w (nodes v) h.sound.ghost h.sound.holds sleeps;
+    sound = wake_keeps g ground v (record { some = lo; node = hi }) w (nodes v) h.sound.ghost h.sound.holds sleeps;
     acted = subst (λ u. Acted g k v u (put h.sound.ghost.up v (up_waking (w.node v).marks (h.sound.ghost.up v))) w (reacted g v (waking (w.node v)) w)) h.sound.ups
         (wake_acts_so g ground.wired k log v lo hi w (nodes v) h.sound.ghost h.sound.holds sleeps);
   }

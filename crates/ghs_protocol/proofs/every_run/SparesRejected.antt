@@ -21,6 +21,7 @@ use Rattle.ghs_protocol.proofs.rows.Link.{node_fits, link_fits, link_fits', link
 use Rattle.ghs_protocol.proofs.union.CoreAnswered.{Asked, asked_on}
 use Rattle.ghs_protocol.proofs.root.AtRoot.{at_root}
 use Rattle.ghs_protocol.proofs.rows.Read.{tree_first}
+use Rattle.ghs_protocol.proofs.lemmas.Wires.{at_in}
 
 -- a port that turns Rejected doesn't turn Branch
 reject_no_branch : (n : NodeState) (j q : ℕ) → reject_at n j ≡ Some (q, Branch) → ⊥
@@ -57,7 +58,7 @@ module _ (g : Network) (wired : IsWired g) (w : Net) (gh : Ghost) (holds : Invar
       let n = node_fits g wired (scene w gh) holds v p at in
       let at' : At g v b = record { some = at.some; node = at.node; port = (n.best_port b k best).0 } in
       let s = (link_fits g wired (scene w gh) holds v b at').search in
-      let out = s.find_leads k best (at_root g wired v at.some at.node p at (scene w gh) holds ms calls).top (λ z. cc (z, rejected)) in
+      let out = s.find_leads k best (at_root g wired v (at_in at) p at (scene w gh) holds ms calls).top (λ z. cc (z, rejected)) in
       out.apart (sym (s.rejected_inside rejected))
 
   row_spares : (q : ℕ) (m : Message) (ms : List Message) (d : Delta) → w.queue v p ≡ m ∷ ms → AwakeRow (w.node v) p m d → d.mark ≡ Some (q, Branch) → mark_at (w.node v) q ≢ Rejected

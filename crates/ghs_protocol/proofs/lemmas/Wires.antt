@@ -3,8 +3,12 @@ use Rattle.std.proofs.Common.{◌≡◌, ◌≢◌, ℕ, ◌<◌, ◌≤◌, len
 use Rattle.std.proofs.lemmas.Bool.{cases_lt}
 use Rattle.std.proofs.lemmas.List.{get_or_past}
 use Rattle.ghs_graph.specs.declared.port.Port.{Port}
-use Rattle.ghs_protocol.specs.Network.{Network, far, far_port, At, IsWired}
+use Rattle.ghs_protocol.specs.Network.{Network, far, far_port, At, IsWired, InNetwork}
 use Rattle.ghs_graph.specs.Ports.{no_port}
+
+-- a node with a port is a node
+pub at_in : {g : Network} {v p : ℕ} → At g v p → InNetwork g v
+at_in at = record { some = at.some; node = at.node }
 
 module _ (g : Network) where
   -- what is no port leads to node 0, which is none

@@ -20,6 +20,7 @@ use Rattle.ghs_protocol.proofs.search.FirstReport.{Joint, joint, Down_here, Down
 use Rattle.ghs_protocol.proofs.search.ReportGone.{at_it}
 use Rattle.ghs_protocol.proofs.tests.Links.{probe_is}
 use Rattle.ghs_protocol.proofs.rest.Halt.{owed_finds}
+use Rattle.ghs_protocol.proofs.lemmas.Wires.{at_in}
 
 -- a call waits: its receiver's way leads to the sender
 pub data CalledTo (e f : TreeEnd) : Type 0 where
@@ -115,7 +116,7 @@ module _ (g : Network) (wired : IsWired g) (w : Scene) (holds : Invariant g w) w
       (at_far g wired w (LinkFits (NamesOf g w)) holds.links v p at).tree (λ j. holds.trees.joined_lead v p at (record { here = ap is_branch j.here; there = ap is_branch j.there }))
 
   owed : (v p : ℕ) → At g v p → FindsIfOwed (end g w v p) (end g w (far g v p) (far_port g v p))
-  owed v p at ne o = owed_finds g wired v at.some at.node p at w holds ne o
+  owed v p at ne o = owed_finds g wired v (at_in at) p at w holds ne o
 
   -- a parent that is owed is in search
   pub parent_finds : (v p : ℕ) → At g v p → (w.at (far g v p)).up ≢ Some (far_port g v p) → owes (far_end g w v p) (end g w v p) ≡ true → (w.at (far g v p)).head.phase ≡ Find

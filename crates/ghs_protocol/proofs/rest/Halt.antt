@@ -5,7 +5,7 @@ use Rattle.ghs_node.specs.Words.{is_branch, best_key}
 use Rattle.ghs_node.specs.declared.message.Phase.TheVariants.{Find, Found}
 use Rattle.ghs_node.specs.declared.message.Message.{Message}
 use Rattle.ghs_node.specs.declared.message.Message.TheVariants.{Report}
-use Rattle.ghs_protocol.specs.Network.{Network, port_at, At, far, far_port, IsWired}
+use Rattle.ghs_protocol.specs.Network.{Network, port_at, At, far, far_port, IsWired, InNetwork}
 use Rattle.ghs_protocol.specs.Net.{put}
 use Rattle.ghs_protocol.specs.Ledger.{sum_below}
 use Rattle.ghs_protocol.proofs.lemmas.Sums.{sum_same, term_le}
@@ -121,9 +121,9 @@ module _ (e f : TreeEnd) (k : Option Key) (ms : List Message) where
     moved_root = λ y. absurd (y.unnamed (vns ∙ c.named ∙ ap Some (sym keys)));
   }
 
-module _ (g : Network) (wired : IsWired g) (u : ℕ) (lo : 1 ≤ u) (hi : u ≤ g.count) (j : ℕ) (at : At g u j) (w : Scene) (holds : Invariant g w) where
+module _ (g : Network) (wired : IsWired g) (u : ℕ) (u_is : InNetwork g u) (j : ℕ) (at : At g u j) (w : Scene) (holds : Invariant g w) where
   fits : NodeFits (length (g.ports u)) (w.at u)
-  fits = holds.nodes u (record { some = lo; node = hi })
+  fits = holds.nodes u u_is
 
   link : LinkFits (NamesOf g w) (end g w u j) (far_end g w u j)
   link = at_near g wired w (LinkFits (NamesOf g w)) holds.links u j at
@@ -139,7 +139,7 @@ module _ (g : Network) (wired : IsWired g) (u : ℕ) (lo : 1 ≤ u) (hi : u ≤ 
       f i = debt (end g w u i) (far_end g w u i)
 
       count : (w.at u).head.find_count ≡ sum_below (length (g.ports u)) f
-      count = holds.counted u (record { some = lo; node = hi }) ∙ sum_same (length (g.ports u)) _ _ (λ i lt. let at' : At g u i = record { some = lo; node = hi; port = lt } in ap (debt (end g w u i)) (λ k. record { port = far_port g u i; key = wired.same_key u i at' k; mark = (w.at (far g u i)).mark (far_port g u i); is = w.at (far g u i); seen = w.seen (far g u i) (far_port g u i) }))
+      count = holds.counted u u_is ∙ sum_same (length (g.ports u)) _ _ (λ i lt. let at' : At g u i = record { some = u_is.some; node = u_is.node; port = lt } in ap (debt (end g w u i)) (λ k. record { port = far_port g u i; key = wired.same_key u i at' k; mark = (w.at (far g u i)).mark (far_port g u i); is = w.at (far g u i); seen = w.seen (far g u i) (far_port g u i) }))
 
       term : f j ≤ sum_below (length (g.ports u)) f
       term = term_le (length (g.ports u)) j f at.port
@@ -170,14 +170,14 @@ module _ (g : Network) (wired : IsWired g) (u : ℕ) (lo : 1 ≤ u) (hi : u ≤ 
     -- the Report is taken; with b the node halts
     pub report_ends : (b : Bool) → Invariant g (acts g u (record (w.at u) { head = record (w.at u).head { halted = b } }) (put (w.seen u) j (record (w.seen u j) { tree = ms })) [] w)
     report_ends b =
-        kept_one g wired u lo hi x j at (record (w.seen u j) { tree = ms }) [] [] (sends_none j) w
+        kept_one g wired u u_is x j at (record (w.seen u j) { tree = ms }) [] [] (sends_none j) w
         (record { alike = record { fragment = refl; coming = refl; coming_name = refl; up = refl; branch = λ p. refl }; found = λ e. e; mine = λ e. sym (ap has_call waits) ∙ e; theirs = λ e. e })
         holds node
         (record { tree = tree_taken (tree_end (end g w u j)) (tree_end (far_end g w u j)) k ms came link.tree; search = search_trees (tree_end (end g w u j)) (tree_end (far_end g w u j)) ms (w.seen (far g u j) (far_port g u j)).tree link.search; tests = record { probing = link.tests.probing; not_probing = link.tests.not_probing } })
         (record { tree = tree_taken' (tree_end (end g w u j)) (tree_end (far_end g w u j)) k ms ghosts.1 refl ghosts.0 came link'.tree; search = search_trees (tree_end (far_end g w u j)) (tree_end (end g w u j)) (w.seen (far g u j) (far_port g u j)).tree ms link'.search; tests = record { probing = link'.tests.probing; not_probing = link'.tests.not_probing } })
         (λ i at' ne h h'. record { tree = h.tree; search = h.search; tests = h.tests })
         (λ i at' ne h h'. record { tree = h'.tree; search = h'.search; tests = h'.tests }) (λ e. e) refl
-        (sums_one g wired u lo hi x j at (record (w.seen u j) { tree = ms }) [] [] (sends_none j) w holds.counted same_count (λ i ne. refl) (sym (ap (λ t. debt (far_end g w u j) (record (end g w u j) { seen = record (w.seen u j) { tree = t } })) waits)) (λ i ne. refl))
+        (sums_one g wired u u_is x j at (record (w.seen u j) { tree = ms }) [] [] (sends_none j) w holds.counted same_count (λ i ne. refl) (sym (ap (λ t. debt (far_end g w u j) (record (end g w u j) { seen = record (w.seen u j) { tree = t } })) waits)) (λ i ne. refl))
       where
         x : Member
         x = record (w.at u) { head = record (w.at u).head { halted = b } }

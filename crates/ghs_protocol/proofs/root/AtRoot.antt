@@ -7,7 +7,7 @@ use Rattle.ghs_node.specs.Words.{is_branch, below, best_key}
 use Rattle.ghs_node.specs.declared.message.Phase.TheVariants.{Found}
 use Rattle.ghs_node.specs.declared.message.Message.{Message}
 use Rattle.ghs_node.specs.declared.message.Message.TheVariants.{Report, ChangeRoot}
-use Rattle.ghs_protocol.specs.Network.{Network, port_at, At, far, far_port, IsWired}
+use Rattle.ghs_protocol.specs.Network.{Network, port_at, At, far, far_port, IsWired, InNetwork}
 use Rattle.ghs_protocol.proofs.clauses.Scene.{Scene, TreeEnd, tree_end, end, forest, far_end}
 use Rattle.ghs_protocol.proofs.clauses.Links.{Joins, Ups}
 use Rattle.ghs_protocol.proofs.clauses.TreeMessages.{TreeFits, Chain, Upward, Nothing_up, Report_up, Downward, Initiates, Old_report, CoreFits, CoreQueue, Plain, With_report, Moved, Moving, MovedFits, To_here, To_there, Stage, Asking, Called, Begun, AtStage, asked, called}
@@ -103,7 +103,7 @@ pub record AtRoot (g : Network) (w : Scene) (u j : ℕ) (ms : List Message) : Ty
   pub left : Left (tree_end (far_end g w u j))
   pub quiet : Quiet g w (w.at u).fragment
 
-module _ (g : Network) (wired : IsWired g) (u : ℕ) (lo : 1 ≤ u) (hi : u ≤ g.count) (j : ℕ) (at : At g u j) (w : Scene) (holds : Invariant g w) (ms : List Message) where
+module _ (g : Network) (wired : IsWired g) (u : ℕ) (u_is : InNetwork g u) (j : ℕ) (at : At g u j) (w : Scene) (holds : Invariant g w) (ms : List Message) where
   link : LinkFits (NamesOf g w) (end g w u j) (far_end g w u j)
   link = at_near g wired w (LinkFits (NamesOf g w)) holds.links u j at
 
@@ -124,7 +124,7 @@ module _ (g : Network) (wired : IsWired g) (u : ℕ) (lo : 1 ≤ u) (hi : u ≤ 
   by_report k waits way rests better = go (back (tree_end (end g w u j)) (tree_end (far_end g w u j)) link.tree link'.tree ways k ms waits mine)
     where
       mine : (w.at u).up ≢ Some j → ⊥
-      mine ne = let z = owed_finds g wired u lo hi j at w holds ne (rw waits refl) in cc (z, rests)
+      mine ne = let z = owed_finds g wired u u_is j at w holds ne (rw waits refl) in cc (z, rests)
 
       begun : (e : TreeEnd) (s : Stage) → s ≡ Begun → AtStage e s → e.level ≡ e.coming
       begun e Begun i a = a

@@ -36,7 +36,7 @@ use Rattle.ghs_protocol.proofs.union.Floors.{floors_met}
 use Rattle.ghs_protocol.proofs.acts.Floors.{near_fits, far_fits, RootFloors, root_floors, best_in_tree}
 use Rattle.ghs_protocol.proofs.search.CloseFloors.{FloorsOff, nodes_after, links_after, links_after_off, in_tree_after, halted_after}
 
-module _ (g : Network) (wired : IsWired g) (u : ℕ) (lo : 1 ≤ u) (hi : u ≤ g.count) (j : ℕ) (at : At g u j) (w : Scene) (holds : Invariant g w) (ms : List Message) (root : AtRoot g w u j ms)
+module _ (g : Network) (wired : IsWired g) (u : ℕ) (u_is : InNetwork g u) (j : ℕ) (at : At g u j) (w : Scene) (holds : Invariant g w) (ms : List Message) (root : AtRoot g w u j ms)
     (b : ℕ) (atb : At g u b) (apart : b ≢ j) (μ : ℕ → Mark) (to : μ b ≡ Branch) (same : (i : ℕ) → i ≢ b → μ i ≡ (w.at u).mark i) (m : Message)
     (no_call : (q : Seen) → has_call q.tree ≡ false → has_call (add q m).tree ≡ false) (floor : ℕ → Floor) (floors : Floors g w floor) (rf : RootFloors g wired w holds floor floors u j at ms root) where
   abbrev x : Member
@@ -55,13 +55,13 @@ module _ (g : Network) (wired : IsWired g) (u : ℕ) (lo : 1 ≤ u) (hi : u ≤ 
   there = record { port = far_port g u b; key = (port_at g u b).key; mark = (w.at (far g u b)).mark (far_port g u b); is = w.at (far g u b); seen = add (w.seen (far g u b) (far_port g u b)) m }
 
   found : (w.at u).head.phase ≡ Found
-  found = root.quiet.found u (record { some = lo; node = hi }) refl
+  found = root.quiet.found u u_is refl
 
   not_find : (w.at u).head.phase ≡ Find → ⊥
   not_find e = cc (e, found)
 
   fits : NodeFits (length (g.ports u)) (w.at u)
-  fits = holds.nodes u (record { some = lo; node = hi })
+  fits = holds.nodes u u_is
 
   inside : (w.at u).fragment ≡ (w.at (far g u j)).fragment
   inside = holds.trees.joined_within u j at (record { here = ap is_branch root.joins.here; there = ap is_branch root.joins.there })
@@ -134,44 +134,44 @@ module _ (g : Network) (wired : IsWired g) (u : ℕ) (lo : 1 ≤ u) (hi : u ≤ 
       Floors g (acts g u (record (w.at u) { up = Some b; mark = μ }) (put (w.seen u) j (record (w.seen u j) { tree = ms })) ((b, m) ∷ []) w) floor
   reroutes_floors sent sent' tree =
       subst (Floors g (acts g u x own ((b, m) ∷ []) w)) (put_again floor u) (record {
-        nodes = nodes_after g wired u lo hi x own ((b, m) ∷ []) w floor floors (floor u) (let z = floors.nodes u (record { some = lo; node = hi }) in record { asleep = z.asleep; search = z.search });
+        nodes = nodes_after g wired u u_is x own ((b, m) ∷ []) w floor floors (floor u) (let z = floors.nodes u u_is in record { asleep = z.asleep; search = z.search });
         links =
-            links_after g wired u lo hi x own ((b, m) ∷ []) w floor floors (floor u)
-            (by_ports_at g wired u lo hi j at w holds ms root b atb apart μ to same m no_call (λ i e f. FloorsAt e f (floor u) (floor (far g u i))) near_left sent near_other)
-            (by_ports_at g wired u lo hi j at w holds ms root b atb apart μ to same m no_call (λ i e f. FloorsAt f e (floor (far g u i)) (floor u)) far_left sent' far_other);
-        in_tree = in_tree_after g wired u lo hi x own ((b, m) ∷ []) w floor floors (floor u) (λ p at' z. ⊎_elim (λ (e : p ≡ b). subst (IsTreeLink g u) (sym e) tree) (λ ne. floors.in_tree u p at' (sym (same p ne) ∙ z)) (cases_eq p b));
-        halted = halted_after g wired u lo hi x own ((b, m) ∷ []) w floor floors (floor u) refl refl;
+            links_after g wired u u_is x own ((b, m) ∷ []) w floor floors (floor u)
+            (by_ports_at g wired u u_is j at w holds ms root b atb apart μ to same m no_call (λ i e f. FloorsAt e f (floor u) (floor (far g u i))) near_left sent near_other)
+            (by_ports_at g wired u u_is j at w holds ms root b atb apart μ to same m no_call (λ i e f. FloorsAt f e (floor (far g u i)) (floor u)) far_left sent' far_other);
+        in_tree = in_tree_after g wired u u_is x own ((b, m) ∷ []) w floor floors (floor u) (λ p at' z. ⊎_elim (λ (e : p ≡ b). subst (IsTreeLink g u) (sym e) tree) (λ ne. floors.in_tree u p at' (sym (same p ne) ∙ z)) (cases_eq p b));
+        halted = halted_after g wired u u_is x own ((b, m) ∷ []) w floor floors (floor u) refl refl;
       })
 
   -- all together but the link over which the root goes
   pub reroutes_off : IsTreeLink g u b → FloorsOff g (acts g u (record (w.at u) { up = Some b; mark = μ }) (put (w.seen u) j (record (w.seen u j) { tree = ms })) ((b, m) ∷ []) w) floor u b
   reroutes_off tree =
       subst (λ f. FloorsOff g (acts g u x own ((b, m) ∷ []) w) f u b) (put_again floor u) (record {
-        nodes = nodes_after g wired u lo hi x own ((b, m) ∷ []) w floor floors (floor u) (let z = floors.nodes u (record { some = lo; node = hi }) in record { asleep = z.asleep; search = z.search });
+        nodes = nodes_after g wired u u_is x own ((b, m) ∷ []) w floor floors (floor u) (let z = floors.nodes u u_is in record { asleep = z.asleep; search = z.search });
         links =
-            links_after_off g wired u lo hi x own ((b, m) ∷ []) w floor floors (floor u) b
-            (by_ports_at g wired u lo hi j at w holds ms root b atb apart μ to same m no_call (λ i e f. i ≢ b → FloorsAt e f (floor u) (floor (far g u i))) (λ ne. near_left) (λ ne. absurd (ne refl)) (λ i at' ne ne' no. near_other i at' ne ne'))
-            (by_ports_at g wired u lo hi j at w holds ms root b atb apart μ to same m no_call (λ i e f. i ≢ b → FloorsAt f e (floor (far g u i)) (floor u)) (λ ne. far_left) (λ ne. absurd (ne refl)) (λ i at' ne ne' no. far_other i at' ne ne'));
-        in_tree = in_tree_after g wired u lo hi x own ((b, m) ∷ []) w floor floors (floor u) (λ p at' z. ⊎_elim (λ (e : p ≡ b). subst (IsTreeLink g u) (sym e) tree) (λ ne. floors.in_tree u p at' (sym (same p ne) ∙ z)) (cases_eq p b));
-        halted = halted_after g wired u lo hi x own ((b, m) ∷ []) w floor floors (floor u) refl refl;
+            links_after_off g wired u u_is x own ((b, m) ∷ []) w floor floors (floor u) b
+            (by_ports_at g wired u u_is j at w holds ms root b atb apart μ to same m no_call (λ i e f. i ≢ b → FloorsAt e f (floor u) (floor (far g u i))) (λ ne. near_left) (λ ne. absurd (ne refl)) (λ i at' ne ne' no. near_other i at' ne ne'))
+            (by_ports_at g wired u u_is j at w holds ms root b atb apart μ to same m no_call (λ i e f. i ≢ b → FloorsAt f e (floor (far g u i)) (floor u)) (λ ne. far_left) (λ ne. absurd (ne refl)) (λ i at' ne ne' no. far_other i at' ne ne'));
+        in_tree = in_tree_after g wired u u_is x own ((b, m) ∷ []) w floor floors (floor u) (λ p at' z. ⊎_elim (λ (e : p ≡ b). subst (IsTreeLink g u) (sym e) tree) (λ ne. floors.in_tree u p at' (sym (same p ne) ∙ z)) (cases_eq p b));
+        halted = halted_after g wired u u_is x own ((b, m) ∷ []) w floor floors (floor u) refl refl;
       })
 
-module _ (g : Network) (wired : IsWired g) (u : ℕ) (lo : 1 ≤ u) (hi : u ≤ g.count) (w : Scene) (holds : Invariant g w) (j : ℕ) (at : At g u j) (ms : List Message) (b : ℕ) (k : Key) (calls : SendsRoot w u j ms) (best : (w.at u).head.best ≡ Some (b, k))
+module _ (g : Network) (wired : IsWired g) (u : ℕ) (u_is : InNetwork g u) (w : Scene) (holds : Invariant g w) (j : ℕ) (at : At g u j) (ms : List Message) (b : ℕ) (k : Key) (calls : SendsRoot w u j ms) (best : (w.at u).head.best ≡ Some (b, k))
     (floor : ℕ → Floor) (floors : Floors g w floor) where
   root : AtRoot g w u j ms
-  root = at_root g wired u lo hi j at w holds ms calls
+  root = at_root g wired u u_is j at w holds ms calls
 
   rf : RootFloors g wired w holds floor floors u j at ms root
   rf = root_floors g wired w holds floor floors u j at ms root calls
 
   my_fits : NodeFits (length (g.ports u)) (w.at u)
-  my_fits = holds.nodes u (record { some = lo; node = hi })
+  my_fits = holds.nodes u u_is
 
   atb : At g u b
-  atb = at_best g wired u lo hi j at w holds ms root b k best
+  atb = at_best g wired u u_is j at w holds ms root b k best
 
   apart : b ≢ j
-  apart = best_apart g wired u lo hi j at w holds ms root b k best
+  apart = best_apart g wired u u_is j at w holds ms root b k best
 
   link : LinkFits (NamesOf g w) (end g w u b) (far_end g w u b)
   link = link_fits g wired w holds u b atb
@@ -188,7 +188,7 @@ module _ (g : Network) (wired : IsWired g) (u : ℕ) (lo : 1 ≤ u) (hi : u ≤ 
   -- the root moves on over a Branch link
   module _ (mark : (w.at u).mark b ≡ Branch) where
     joins : Joins (tree_end (end g w u b)) (tree_end (far_end g w u b))
-    joins = ⊎_elim (λ h. record { here = mark; there = h }) (λ h. absurd (best_aside g wired u lo hi j at w holds ms root b k best ((link.tree.out_connect (record { here = mark; there = h })).up))) (mark_is ((w.at (far g u b)).mark (far_port g u b)))
+    joins = ⊎_elim (λ h. record { here = mark; there = h }) (λ h. absurd (best_aside g wired u u_is j at w holds ms root b k best ((link.tree.out_connect (record { here = mark; there = h })).up))) (mark_is ((w.at (far g u b)).mark (far_port g u b)))
 
     inside_b : (w.at u).fragment ≡ (w.at (far g u b)).fragment
     inside_b = holds.trees.joined_within u b atb (record { here = ap is_branch joins.here; there = ap is_branch joins.there })
@@ -197,7 +197,7 @@ module _ (g : Network) (wired : IsWired g) (u : ℕ) (lo : 1 ≤ u) (hi : u ≤ 
     ghosts = holds.trees.by_fragment (far g u b) u (sym inside_b)
 
     below_way : (w.at (far g u b)).up ≡ Some (far_port g u b)
-    below_way = leads_to g wired u lo hi j at w holds ms root b k best b atb (record { here = ap is_branch joins.here; there = ap is_branch joins.there })
+    below_way = leads_to g wired u u_is j at w holds ms root b k best b atb (record { here = ap is_branch joins.here; there = ap is_branch joins.there })
 
     reported : Reported (tree_end (far_end g w u b)) (Some k)
     reported = link.search.find_reported k best root.top joins
@@ -210,7 +210,7 @@ module _ (g : Network) (wired : IsWired g) (u : ℕ) (lo : 1 ≤ u) (hi : u ≤ 
 
     -- no ChangeRoot waits at b
     no_root : (w.seen u b).tree ≡ ChangeRoot ∷ [] → ⊥
-    no_root q = up_only (link'.tree.upward (record { joins = record { here = joins.there; there = joins.here }; up = below_way; down = best_aside g wired u lo hi j at w holds ms root b k best }))
+    no_root q = up_only (link'.tree.upward (record { joins = record { here = joins.there; there = joins.here }; up = below_way; down = best_aside g wired u u_is j at w holds ms root b k best }))
       where
         up_only : Upward (tree_end (far_end g w u b)) (tree_end (end g w u b)) → ⊥
         up_only (Nothing_up z) = let y = sym z ∙ q in cc
@@ -242,7 +242,7 @@ module _ (g : Network) (wired : IsWired g) (u : ℕ) (lo : 1 ≤ u) (hi : u ≤ 
 
     pub passes_floors : Floors g (acts g u (record (w.at u) { up = Some b }) (put (w.seen u) j (record (w.seen u j) { tree = ms })) ((b, ChangeRoot) ∷ []) w) floor
     passes_floors =
-        reroutes_floors g wired u lo hi j at w holds ms root b atb apart (w.at u).mark mark (λ i ne. refl) ChangeRoot (λ q n. call_append ChangeRoot refl q.tree ∙ n) floor floors rf
+        reroutes_floors g wired u u_is j at w holds ms root b atb apart (w.at u).mark mark (λ i ne. refl) ChangeRoot (λ q n. call_append ChangeRoot refl q.tree ∙ n) floor floors rf
         near_best far_best (floors.in_tree u b atb mark)
 
   -- the root goes out, to a fragment that hasn't connected to this one
@@ -282,7 +282,7 @@ module _ (g : Network) (wired : IsWired g) (u : ℕ) (lo : 1 ≤ u) (hi : u ≤ 
 
     pub connects_floors : Floors g (acts g u (record (w.at u) { up = Some b; mark = put (w.at u).mark b Branch }) (put (w.seen u) j (record (w.seen u j) { tree = ms })) ((b, Connect (w.at u).head.level) ∷ []) w) floor
     connects_floors =
-        reroutes_floors g wired u lo hi j at w holds ms root b atb apart (put (w.at u).mark b Branch) (put_same (w.at u).mark b Branch) (λ i ne. put_other (w.at u).mark b i Branch ne)
+        reroutes_floors g wired u u_is j at w holds ms root b atb apart (put (w.at u).mark b Branch) (put_same (w.at u).mark b Branch) (λ i ne. put_other (w.at u).mark b i Branch ne)
         (Connect (w.at u).head.level) (λ q n. call_append (Connect (w.at u).head.level) refl q.tree ∙ n) floor floors rf near_out far_out
         (best_in_tree g wired w holds floor floors u j at ms root calls b k atb best mark)
 
@@ -326,15 +326,15 @@ module _ (g : Network) (wired : IsWired g) (u : ℕ) (lo : 1 ≤ u) (hi : u ≤ 
 
     off : FloorsOff g mid floor u b
     off =
-        reroutes_off g wired u lo hi j at w holds ms root b atb apart (put (w.at u).mark b Branch) (put_same (w.at u).mark b Branch) (λ i ne. put_other (w.at u).mark b i Branch ne)
+        reroutes_off g wired u u_is j at w holds ms root b atb apart (put (w.at u).mark b Branch) (put_same (w.at u).mark b Branch) (λ i ne. put_other (w.at u).mark b i Branch ne)
         (Connect (w.at u).head.level) (λ q n. call_append (Connect (w.at u).head.level) refl q.tree ∙ n) floor floors rf (best_in_tree g wired w holds floor floors u j at ms root calls b k atb best mark)
 
     own_seen : mid.seen u b ≡ w.seen u b
-    own_seen = here_seen g wired u lo hi (record (w.at u) { up = Some b; mark = put (w.at u).mark b Branch }) (put (w.seen u) j (record (w.seen u j) { tree = ms })) ((b, Connect (w.at u).head.level) ∷ []) w b ∙ put_other (w.seen u) j b (record (w.seen u j) { tree = ms }) apart
+    own_seen = here_seen g wired u u_is.some u_is.node (record (w.at u) { up = Some b; mark = put (w.at u).mark b Branch }) (put (w.seen u) j (record (w.seen u j) { tree = ms })) ((b, Connect (w.at u).head.level) ∷ []) w b ∙ put_other (w.seen u) j b (record (w.seen u j) { tree = ms }) apart
 
     their_seen : (mid.seen (far g u b) (far_port g u b)).tree ≡ (w.seen (far g u b) (far_port g u b)).tree ++ Connect (w.at u).head.level ∷ []
     their_seen =
-        ap (λ (q : Seen). q.tree) (far_seen g wired u lo hi (record (w.at u) { up = Some b; mark = put (w.at u).mark b Branch }) (put (w.seen u) j (record (w.seen u j) { tree = ms })) ((b, Connect (w.at u).head.level) ∷ []) w b atb) ∙
+        ap (λ (q : Seen). q.tree) (far_seen g wired u u_is.some u_is.node (record (w.at u) { up = Some b; mark = put (w.at u).mark b Branch }) (put (w.seen u) j (record (w.seen u j) { tree = ms })) ((b, Connect (w.at u).head.level) ∷ []) w b atb) ∙
         ap (λ ss. (adds (w.seen (far g u b) (far_port g u b)) ss).tree) ((sends_one b (Connect (w.at u).head.level)).only)
 
     pub meets_floors : Floors g (meet g u b (acts g u (record (w.at u) { up = Some b; mark = put (w.at u).mark b Branch }) (put (w.seen u) j (record (w.seen u j) { tree = ms })) ((b, Connect (w.at u).head.level) ∷ []) w)) floor
@@ -345,4 +345,4 @@ module _ (g : Network) (wired : IsWired g) (u : ℕ) (lo : 1 ≤ u) (hi : u ≤ 
         (ap (λ (m : Member). m.up) here_is) (ap (λ (m : Member). m.up) far_is ∙ came.up)
         (λ e. let z = came.one in let y = ap (λ (q : Seen). q.tree) own_seen in let s : Connect (w.at (far g u b)).head.level ∷ [] ≡ ChangeRoot ∷ [] = sym z ∙ sym y ∙ e in cc)
         (λ e. let z = came.none in let s : [] ++ Connect (w.at u).head.level ∷ [] ≡ ChangeRoot ∷ [] = ap (λ q. q ++ Connect (w.at u).head.level ∷ []) (sym z) ∙ sym their_seen ∙ e in cc)
-        (connects_meeting g ground u lo hi w holds j at ms b k calls best mark mark')
+        (connects_meeting g ground u u_is w holds j at ms b k calls best mark mark')

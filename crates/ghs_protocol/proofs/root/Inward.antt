@@ -6,7 +6,7 @@ use Rattle.ghs_node.specs.Words.{is_branch}
 use Rattle.ghs_node.specs.declared.mark.Mark.TheVariants.{Branch}
 use Rattle.ghs_node.specs.declared.message.Message.{Message}
 use Rattle.ghs_node.specs.declared.message.Message.TheVariants.{ChangeRoot}
-use Rattle.ghs_protocol.specs.Network.{Network, port_at, At, far, far_port, IsWired}
+use Rattle.ghs_protocol.specs.Network.{Network, port_at, At, far, far_port, IsWired, InNetwork}
 use Rattle.ghs_protocol.specs.Net.{put}
 use Rattle.ghs_protocol.proofs.clauses.Scene.{Member, Scene, End, TreeEnd, tree_end, end, forest, acts, far_end}
 use Rattle.ghs_protocol.proofs.clauses.Links.{Joins, Child, Ups}
@@ -69,13 +69,13 @@ module _ (e f : TreeEnd) (b : Below e f) where
   }
 
 -- a node's best is at a port other than its in_branch
-module _ (g : Network) (wired : IsWired g) (u : ℕ) (lo : 1 ≤ u) (hi : u ≤ g.count) (j : ℕ) (at : At g u j) (w : Scene) (holds : Invariant g w) (ms : List Message) (root : AtRoot g w u j ms)
+module _ (g : Network) (wired : IsWired g) (u : ℕ) (u_is : InNetwork g u) (j : ℕ) (at : At g u j) (w : Scene) (holds : Invariant g w) (ms : List Message) (root : AtRoot g w u j ms)
     (b : ℕ) (k : Key) (best : (w.at u).head.best ≡ Some (b, k)) where
   fits : NodeFits (length (g.ports u)) (w.at u)
-  fits = holds.nodes u (record { some = lo; node = hi })
+  fits = holds.nodes u u_is
 
   pub at_best : At g u b
-  at_best = record { some = lo; node = hi; port = (fits.best_port b k best).0 }
+  at_best = record { some = u_is.some; node = u_is.node; port = (fits.best_port b k best).0 }
 
   pub best_apart : b ≢ j
   best_apart e = (fits.best_port b k best).1 (root.in_branch ∙ ap Some (sym e))
@@ -129,7 +129,7 @@ module _ (g : Network) (wired : IsWired g) (u : ℕ) (lo : 1 ≤ u) (hi : u ≤ 
 
     no_report' : Upward (tree_end (far_end g w u b)) (tree_end (end g w u b)) → (w.seen u b).tree ≡ []
     no_report' (Nothing_up q) = q
-    no_report' (Report_up r q h) = absurd (let z = owed_finds g wired u lo hi b at_best w holds best_aside (rw q refl) in let y = root.quiet.found u (record { some = lo; node = hi }) refl in cc (z, y))
+    no_report' (Report_up r q h) = absurd (let z = owed_finds g wired u u_is b at_best w holds best_aside (rw q refl) in let y = root.quiet.found u u_is refl in cc (z, y))
 
     level_up : (w.at u).head.level ≤ (w.at (far g u b)).head.level
     level_up = let a = root.top in let c = reported.level in let d = ghosts.0 in omega (arith, a, c, d)
@@ -183,14 +183,13 @@ module _ (g : Network) (wired : IsWired g) (u : ℕ) (lo : 1 ≤ u) (hi : u ≤ 
 
     pub passes : Invariant g (acts g u (record (w.at u) { up = Some b }) (put (w.seen u) j (record (w.seen u j) { tree = ms })) ((b, ChangeRoot) ∷ []) w)
     passes =
-        reroutes g wired u lo hi j at w holds ms root b at_best best_apart (w.at u).mark mark (λ i ne. refl) ChangeRoot (λ q n. call_append ChangeRoot refl q.tree ∙ n) turns
+        reroutes g wired u u_is j at w holds ms root b at_best best_apart (w.at u).mark mark (λ i ne. refl) ChangeRoot (λ q n. call_append ChangeRoot refl q.tree ∙ n) turns
         (record { tree = tree_passes (tree_end (end g w u b)) (tree_end (far_end g w u b)) below; search = search_turns (tree_end (end g w u b)) (tree_end (far_end g w u b)) (Some b) _ _ best_link.search; tests = best_link.tests })
         (record { tree = tree_passes' (tree_end (end g w u b)) (tree_end (far_end g w u b)) below; search = search_turns' (tree_end (end g w u b)) (tree_end (far_end g w u b)) (Some b) _ _ best_link'.search; tests = best_link'.tests })
         (debt_up receiver sender child.up ∙ sym (debt_up (far_end g w u b) (end g w u b) child.up))
 
 -- a step: the root moves on over a Branch link
-pub passes_root :
-    (g : Network) (wired : IsWired g) (u : ℕ) (lo : 1 ≤ u) (hi : u ≤ g.count) (w : Scene) (holds : Invariant g w) (j : ℕ) (at : At g u j) (ms : List Message) (b : ℕ) (k : Key) →
+pub passes_root : (g : Network) (wired : IsWired g) (u : ℕ) (u_is : InNetwork g u) (w : Scene) (holds : Invariant g w) (j : ℕ) (at : At g u j) (ms : List Message) (b : ℕ) (k : Key) →
     SendsRoot w u j ms → (w.at u).head.best ≡ Some (b, k) → (w.at u).mark b ≡ Branch →
     Invariant g (acts g u (record (w.at u) { up = Some b }) (put (w.seen u) j (record (w.seen u j) { tree = ms })) ((b, ChangeRoot) ∷ []) w)
-passes_root g wired u lo hi w holds j at ms b k calls best mark = passes g wired u lo hi j at w holds ms (at_root g wired u lo hi j at w holds ms calls) b k best mark
+passes_root g wired u u_is w holds j at ms b k calls best mark = passes g wired u u_is j at w holds ms (at_root g wired u u_is j at w holds ms calls) b k best mark

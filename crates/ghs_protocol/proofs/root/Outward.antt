@@ -7,7 +7,7 @@ use Rattle.ghs_node.specs.declared.mark.Mark.{Mark}
 use Rattle.ghs_node.specs.declared.mark.Mark.TheVariants.{Basic, Branch, Rejected}
 use Rattle.ghs_node.specs.declared.message.Message.{Message}
 use Rattle.ghs_node.specs.declared.message.Message.TheVariants.{Connect}
-use Rattle.ghs_protocol.specs.Network.{Network, port_at, At, far, far_port, IsWired}
+use Rattle.ghs_protocol.specs.Network.{Network, port_at, At, far, far_port, IsWired, InNetwork}
 use Rattle.ghs_protocol.specs.Net.{put}
 use Rattle.ghs_protocol.proofs.clauses.Scene.{Member, Scene, End, TreeEnd, TestEnd, tree_end, end, forest, acts, far_end}
 use Rattle.ghs_protocol.proofs.clauses.TreeMessages.{TreeFits}
@@ -88,10 +88,10 @@ module _ (e f : TreeEnd) (k : Key) (mark : e.mark ≢ Branch) (mark' : f.mark �
     find_reported = λ l x y j. absurd (mark' j.here);
   }
 
-module _ (g : Network) (wired : IsWired g) (u : ℕ) (lo : 1 ≤ u) (hi : u ≤ g.count) (j : ℕ) (at : At g u j) (w : Scene) (holds : Invariant g w) (ms : List Message) (root : AtRoot g w u j ms)
+module _ (g : Network) (wired : IsWired g) (u : ℕ) (u_is : InNetwork g u) (j : ℕ) (at : At g u j) (w : Scene) (holds : Invariant g w) (ms : List Message) (root : AtRoot g w u j ms)
     (b : ℕ) (k : Key) (best : (w.at u).head.best ≡ Some (b, k)) (mark : (w.at u).mark b ≢ Branch) where
   atb : At g u b
-  atb = at_best g wired u lo hi j at w holds ms root b k best
+  atb = at_best g wired u u_is j at w holds ms root b k best
 
   pub out_link : LinkFits (NamesOf g w) (end g w u b) (far_end g w u b)
   out_link = at_near g wired w (LinkFits (NamesOf g w)) holds.links u b atb
@@ -146,8 +146,8 @@ module _ (g : Network) (wired : IsWired g) (u : ℕ) (lo : 1 ≤ u) (hi : u ≤ 
       only = λ v p at' l. record { here = was v p at' l.here l.there; there = was' v p at' l.here l.there };
       out_keeps = λ v p at' x y. (branch_more v p x, branch_else _ _ (λ z. let n = not_far v p at' z.0 z.1 in cc (n, x)) ∙ y);
       out_only = λ v p at' x y. ⊎_elim inl (λ h. inr (h, branch_less _ _ y)) (branch_is v p x);
-      led = leads_to g wired u lo hi j at w holds ms root b k best;
-      old = old_roots g wired u lo hi j at w holds ms root b k best;
+      led = leads_to g wired u u_is j at w holds ms root b k best;
+      old = old_roots g wired u u_is j at w holds ms root b k best;
       root = Goes_out branch_here (branch_else _ _ (λ z. wired.apart u b atb z.0) ∙ far_none);
     }
       where
@@ -183,13 +183,12 @@ module _ (g : Network) (wired : IsWired g) (u : ℕ) (lo : 1 ≤ u) (hi : u ≤ 
 
     pub goes_out : Invariant g (acts g u (record (w.at u) { up = Some b; mark = put (w.at u).mark b Branch }) (put (w.seen u) j (record (w.seen u j) { tree = ms })) ((b, Connect (w.at u).head.level) ∷ []) w)
     goes_out =
-        reroutes g wired u lo hi j at w holds ms root b atb (best_apart g wired u lo hi j at w holds ms root b k best) (put (w.at u).mark b Branch) (put_same (w.at u).mark b Branch)
+        reroutes g wired u u_is j at w holds ms root b atb (best_apart g wired u u_is j at w holds ms root b k best) (put (w.at u).mark b Branch) (put_same (w.at u).mark b Branch)
         (λ i ne. put_other (w.at u).mark b i Branch ne) (Connect (w.at u).head.level) (λ q n. call_append (Connect (w.at u).head.level) refl q.tree ∙ n) turns
         (subst (λ e. LinkFits (NamesOf g w) e receiver) marked sent) (subst (LinkFits (NamesOf g w) receiver) marked sent') owing
 
 -- a step: the root goes out over its best link, the far end not being a Branch
-pub connects_out :
-    (g : Network) (wired : IsWired g) (u : ℕ) (lo : 1 ≤ u) (hi : u ≤ g.count) (w : Scene) (holds : Invariant g w) (j : ℕ) (at : At g u j) (ms : List Message) (b : ℕ) (k : Key) →
+pub connects_out : (g : Network) (wired : IsWired g) (u : ℕ) (u_is : InNetwork g u) (w : Scene) (holds : Invariant g w) (j : ℕ) (at : At g u j) (ms : List Message) (b : ℕ) (k : Key) →
     SendsRoot w u j ms → (w.at u).head.best ≡ Some (b, k) → (w.at u).mark b ≢ Branch → (w.at (far g u b)).mark (far_port g u b) ≢ Branch →
     Invariant g (acts g u (record (w.at u) { up = Some b; mark = put (w.at u).mark b Branch }) (put (w.seen u) j (record (w.seen u j) { tree = ms })) ((b, Connect (w.at u).head.level) ∷ []) w)
-connects_out g wired u lo hi w holds j at ms b k calls best mark mark' = goes_out g wired u lo hi j at w holds ms (at_root g wired u lo hi j at w holds ms calls) b k best mark mark'
+connects_out g wired u u_is w holds j at ms b k calls best mark mark' = goes_out g wired u u_is j at w holds ms (at_root g wired u u_is j at w holds ms calls) b k best mark mark'

@@ -39,7 +39,7 @@ pub sum_zero : (n : ℕ) (f : ℕ → ℕ) → ((i : ℕ) → i < n → ◌≡�
 sum_zero zero f h = refl
 sum_zero (suc n) f h = let a = sum_zero n f (λ i lt. h i (omega arith)) in let b = h n (omega arith) in omega (arith, a, b)
 
-module _ (g : Network) (wired : IsWired g) (u : ℕ) (lo : 1 ≤ u) (hi : u ≤ g.count) (j : ℕ) (at : At g u j) (w : Scene) (holds : Invariant g w) (ms : List Message) (root : AtRoot g w u j ms)
+module _ (g : Network) (wired : IsWired g) (u : ℕ) (u_is : InNetwork g u) (j : ℕ) (at : At g u j) (w : Scene) (holds : Invariant g w) (ms : List Message) (root : AtRoot g w u j ms)
     (b : ℕ) (atb : At g u b) (apart : b ≢ j) (μ : ℕ → Mark) (to : μ b ≡ Branch) (same : (i : ℕ) → i ≢ b → μ i ≡ (w.at u).mark i) (m : Message)
     (no_call : (q : Seen) → has_call q.tree ≡ false → has_call (add q m).tree ≡ false) where
   -- u afterwards, and what waits at its port j
@@ -69,10 +69,10 @@ module _ (g : Network) (wired : IsWired g) (u : ℕ) (lo : 1 ≤ u) (hi : u ≤ 
   ss = (b, m) ∷ []
 
   abbrev near_now : ℕ → End
-  near_now i = near' g wired u lo hi goes own ss w i
+  near_now i = near' g wired u u_is goes own ss w i
 
   abbrev far_now : ℕ → End
-  far_now i = far' g wired u lo hi goes own ss w i
+  far_now i = far' g wired u u_is goes own ss w i
 
   near_still : (i : ℕ) → i ≢ j → near_now i ≡ still i
   unfolding own
@@ -103,7 +103,7 @@ module _ (g : Network) (wired : IsWired g) (u : ℕ) (lo : 1 ≤ u) (hi : u ≤ 
   by_ports' P hit sent miss = by_ports (λ e f. P f e) hit sent miss
 
   -- a fact of the two ends that names the port
-  pub by_ports_at : (P : ℕ → End → End → Type 0) → P j here (far_end g w u j) → P b (still b) there → ((i : ℕ) → At g u i → i ≢ j → i ≢ b → P i (still i) (far_end g w u i)) → (i : ℕ) → At g u i → P i (near' g wired u lo hi (record (w.at u) { up = Some b; mark = μ }) (put (w.seen u) j (record (w.seen u j) { tree = ms })) ((b, m) ∷ []) w i) (far' g wired u lo hi (record (w.at u) { up = Some b; mark = μ }) (put (w.seen u) j (record (w.seen u j) { tree = ms })) ((b, m) ∷ []) w i)
+  pub by_ports_at : (P : ℕ → End → End → Type 0) → P j here (far_end g w u j) → P b (still b) there → ((i : ℕ) → At g u i → i ≢ j → i ≢ b → P i (still i) (far_end g w u i)) → (i : ℕ) → At g u i → P i (near' g wired u u_is (record (w.at u) { up = Some b; mark = μ }) (put (w.seen u) j (record (w.seen u j) { tree = ms })) ((b, m) ∷ []) w i) (far' g wired u u_is (record (w.at u) { up = Some b; mark = μ }) (put (w.seen u) j (record (w.seen u j) { tree = ms })) ((b, m) ∷ []) w i)
   unfolding own ss
   by_ports_at P hit sent miss i at' = ⊎_elim left (λ ne. ⊎_elim taken (λ ne'. subst₂ (P i) (sym (near_still i ne)) (sym (far_onto i ne')) (miss i at' ne ne')) (cases_eq i b)) (cases_eq i j)
     where
@@ -114,7 +114,7 @@ module _ (g : Network) (wired : IsWired g) (u : ℕ) (lo : 1 ≤ u) (hi : u ≤ 
       taken e = subst (λ y. P y (near_now y) (far_now y)) (sym e) (subst₂ (P b) (sym (near_still b apart)) (sym far_there) sent)
 
   is : InNetwork g u
-  is = record { some = lo; node = hi }
+  is = u_is
 
   pub found : (w.at u).head.phase ≡ Found
   found = root.quiet.found u is refl
@@ -193,14 +193,14 @@ module _ (g : Network) (wired : IsWired g) (u : ℕ) (lo : 1 ≤ u) (hi : u ≤ 
 
   -- all links but b's
   pub near_aside : (i : ℕ) → At g u i → i ≢ b →
-      LinkFits (NamesOf g w) (near' g wired u lo hi goes (put (w.seen u) j rest) ((b, m) ∷ []) w i) (far' g wired u lo hi goes (put (w.seen u) j rest) ((b, m) ∷ []) w i)
+      LinkFits (NamesOf g w) (near' g wired u u_is goes (put (w.seen u) j rest) ((b, m) ∷ []) w i) (far' g wired u u_is goes (put (w.seen u) j rest) ((b, m) ∷ []) w i)
   unfolding own ss
   near_aside i at' ne = ⊎_elim left (λ ne'. subst₂ (LinkFits (NamesOf g w)) (sym (near_still i ne')) (sym (far_onto i ne)) (link_aside i at' ne' ne)) (cases_eq i j)
     where
       left : i ≡ j → LinkFits (NamesOf g w) (near_now i) (far_now i)
       left e = subst (λ y. LinkFits (NamesOf g w) (near_now y) (far_now y)) (sym e) (subst₂ (LinkFits (NamesOf g w)) (sym near_here) (sym (far_onto j away)) link_left)
 
-  pub far_aside : (i : ℕ) → At g u i → i ≢ b → LinkFits (NamesOf g w) (far' g wired u lo hi goes (put (w.seen u) j rest) ((b, m) ∷ []) w i) (near' g wired u lo hi goes (put (w.seen u) j rest) ((b, m) ∷ []) w i)
+  pub far_aside : (i : ℕ) → At g u i → i ≢ b → LinkFits (NamesOf g w) (far' g wired u u_is goes (put (w.seen u) j rest) ((b, m) ∷ []) w i) (near' g wired u u_is goes (put (w.seen u) j rest) ((b, m) ∷ []) w i)
   unfolding own ss
   far_aside i at' ne = ⊎_elim left (λ ne'. subst₂ (LinkFits (NamesOf g w)) (sym (far_onto i ne)) (sym (near_still i ne')) (link_aside' i at' ne' ne)) (cases_eq i j)
     where
@@ -209,7 +209,7 @@ module _ (g : Network) (wired : IsWired g) (u : ℕ) (lo : 1 ≤ u) (hi : u ≤ 
 
   -- nobody owes u a Report
   owed_none : (i : ℕ) → At g u i → i ≢ j → owes (end g w u i) (far_end g w u i) ≡ false
-  owed_none i at' ne = not_true _ (λ o. let z = owed_finds g wired u lo hi i at' w holds (way_else i ne) o in cc (z, found))
+  owed_none i at' ne = not_true _ (λ o. let z = owed_finds g wired u u_is i at' w holds (way_else i ne) o in cc (z, found))
 
   -- u's own sum
   debts_none : (i : ℕ) → At g u i → ◌≡◌ {A = ℕ} (debt (near_now i) (far_now i)) 0
@@ -224,7 +224,7 @@ module _ (g : Network) (wired : IsWired g) (u : ℕ) (lo : 1 ≤ u) (hi : u ≤ 
   -- find_count
   pub counts : debt there (still b) ≡ debt (far_end g w u b) (end g w u b) → DebtsCounted g then
   unfolding own ss
-  counts sent = sums_after g wired u lo hi goes own ss w holds.counted (no_count ∙ sym (sum_zero (length (g.ports u)) _ (λ i lt. debts_none i (record { some = lo; node = hi; port = lt })))) theirs
+  counts sent = sums_after g wired u u_is goes own ss w holds.counted (no_count ∙ sym (sum_zero (length (g.ports u)) _ (λ i lt. debts_none i (record { some = u_is.some; node = u_is.node; port = lt })))) theirs
     where
       theirs : (i : ℕ) → At g u i → debt (far_now i) (near_now i) ≡ debt (far_end g w u i) (end g w u i)
       theirs i at' = ⊎_elim left (λ ne. ⊎_elim taken (λ ne'. ap₂ debt (far_onto i ne') (near_still i ne)) (cases_eq i b)) (cases_eq i j)
@@ -241,7 +241,7 @@ module _ (g : Network) (wired : IsWired g) (u : ℕ) (lo : 1 ≤ u) (hi : u ≤ 
   pub quiet_still : (a : ℕ) → Quiet g w a → Quiet g then a
   unfolding own ss
   quiet_still a z =
-      quiet_after g wired u lo hi goes own ss w a z (λ e. found)
+      quiet_after g wired u u_is goes own ss w a z (λ e. found)
       (by_ports (λ e f. e.is.fragment ≡ a → has_call e.seen.tree ≡ false) (λ e. ap has_call root.rest) (λ e. z.uncalled u b atb e) (λ i at' ne ne' e. z.uncalled u i at' e))
       (by_ports' (λ e f. e.is.fragment ≡ a → has_call e.seen.tree ≡ false) (λ e. z.uncalled _ _ (wired.there u j at) e) (λ e. no_call (w.seen (far g u b) (far_port g u b)) (z.uncalled _ _ (wired.there u b atb) e)) (λ i at' ne ne' e. z.uncalled _ _ (wired.there u i at') e))
 
@@ -301,9 +301,9 @@ module _ (g : Network) (wired : IsWired g) (u : ℕ) (lo : 1 ≤ u) (hi : u ≤ 
     pub reroutes : LinkFits (NamesOf g w) (still b) there → LinkFits (NamesOf g w) there (still b) → debt there (still b) ≡ debt (far_end g w u b) (end g w u b) → Invariant g then
     unfolding own ss
     reroutes sent sent' owing = record {
-      nodes = node_after g wired u lo hi goes own ss w NodeFits holds.nodes node;
+      nodes = node_after g wired u u_is goes own ss w NodeFits holds.nodes node;
       trees = subst (ForestFits g) (sym forest_now) (forest_turn g wired (forest w) u b branches turns holds.trees);
-      links = λ v p at'. link_names (NamesOf g w) (NamesOf g then) names_now (end g then v p) (end g then (far g v p) (far_port g v p)) (acts_keeps g wired u lo hi goes own ss w (LinkFits (NamesOf g w)) holds.links (by_ports (LinkFits (NamesOf g w)) link_left sent link_aside) (by_ports' (LinkFits (NamesOf g w)) link_left' sent' link_aside') v p at');
+      links = λ v p at'. link_names (NamesOf g w) (NamesOf g then) names_now (end g then v p) (end g then (far g v p) (far_port g v p)) (acts_keeps g wired u u_is.some u_is.node goes own ss w (LinkFits (NamesOf g w)) holds.links (by_ports (LinkFits (NamesOf g w)) link_left sent link_aside) (by_ports' (LinkFits (NamesOf g w)) link_left' sent' link_aside') v p at');
       alone = λ v t iv it asleep alike. holds.alone v t iv it (slept v asleep) (sym (frags t) ∙ alike ∙ frags v);
       named = λ v k iv e. subst (λ a. NamesOf g then a k) (sym (frags v)) (names_now _ k (holds.named v k iv (sym (put_alike (λ (m : Member). m.head.name) w.at u goes refl v) ∙ e)));
       resting = rests;

@@ -35,7 +35,7 @@ left_brought : (f : TreeEnd) → Left f → brought_to f.level f.tree ≡ f.leve
 left_brought f (Nothing_left q) = ap (brought_to f.level) q
 left_brought f (Report_left k q b h) = ap (brought_to f.level) q
 
-module _ (g : Network) (wired : IsWired g) (u : ℕ) (lo : 1 ≤ u) (hi : u ≤ g.count) (j : ℕ) (at : At g u j) (w : Scene) (holds : Invariant g w) (lives : Lives g w) (ms : List Message) (root : AtRoot g w u j ms)
+module _ (g : Network) (wired : IsWired g) (u : ℕ) (u_is : InNetwork g u) (j : ℕ) (at : At g u j) (w : Scene) (holds : Invariant g w) (lives : Lives g w) (ms : List Message) (root : AtRoot g w u j ms)
     (b : ℕ) (atb : At g u b) (apart : b ≢ j) (μ : ℕ → Mark) (to : μ b ≡ Branch) (same : (i : ℕ) → i ≢ b → μ i ≡ (w.at u).mark i) (m : Message)
     (no_call : (q : Seen) → has_call q.tree ≡ false → has_call (add q m).tree ≡ false) (tree : (q : Seen) → add q m ≡ record q { tree = (add q m).tree })
     -- over the new root link nobody is a child, and it hasn't the coming name
@@ -71,39 +71,39 @@ module _ (g : Network) (wired : IsWired g) (u : ℕ) (lo : 1 ≤ u) (hi : u ≤ 
       ((i : ℕ) → At g u i → i ≢ j → i ≢ b → P (still i) (far_end g w u i)) → ((i : ℕ) → At g u i → i ≢ j → i ≢ b → P (far_end g w u i) (still i)) →
       (v p : ℕ) → At g v p → P (end g (acts g u x own ((b, m) ∷ []) w) v p) (end g (acts g u x own ((b, m) ∷ []) w) (far g v p) (far_port g v p))
   moves P all hit hit' sent sent' miss miss' =
-      acts_keeps g wired u lo hi x own ((b, m) ∷ []) w P all
-      (by_ports_at g wired u lo hi j at w holds ms root b atb apart μ to same m no_call (λ i e f. P e f) hit (subst (λ q. P (still b) (record (far_end g w u b) { seen = q })) (sym (tree (w.seen (far g u b) (far_port g u b)))) sent) miss)
-      (by_ports_at g wired u lo hi j at w holds ms root b atb apart μ to same m no_call (λ i e f. P f e) hit' (subst (λ q. P (record (far_end g w u b) { seen = q }) (still b)) (sym (tree (w.seen (far g u b) (far_port g u b)))) sent') miss')
+      acts_keeps g wired u u_is.some u_is.node x own ((b, m) ∷ []) w P all
+      (by_ports_at g wired u u_is j at w holds ms root b atb apart μ to same m no_call (λ i e f. P e f) hit (subst (λ q. P (still b) (record (far_end g w u b) { seen = q })) (sym (tree (w.seen (far g u b) (far_port g u b)))) sent) miss)
+      (by_ports_at g wired u u_is j at w holds ms root b atb apart μ to same m no_call (λ i e f. P f e) hit' (subst (λ q. P (record (far_end g w u b) { seen = q }) (still b)) (sym (tree (w.seen (far g u b) (far_port g u b)))) sent') miss')
 
   pub moves_lives : Lives g (acts g u (record (w.at u) { up = Some b; mark = μ }) (put (w.seen u) j (record (w.seen u j) { tree = ms })) ((b, m) ∷ []) w)
   moves_lives = record {
     asks = moves ProbeAsks lives.asks (mine j at) (theirs j at) (mine b atb) (theirs b atb) (λ i at' ne ne'. mine i at') (λ i at' ne ne'. theirs i at');
     brought =
         moves ChildBrought lives.brought (λ c. absurd (not_way j away c.2)) (λ c. left_brought (tree_end (far_end g w u j)) root.left ∙ root.top' ∙ sym root.top) (λ c. absurd (c.3 (unchild c.1))) (λ c. absurd (c.3 refl))
-        (λ i at' ne ne' c. absurd (not_way i ne' c.2)) (λ i at' ne ne' c. far_brought g wired u lo hi j at w holds lives i at' (c.0, sym (same i ne') ∙ c.1, c.2, was_not i ne));
+        (λ i at' ne ne' c. absurd (not_way i ne' c.2)) (λ i at' ne ne' c. far_brought g wired u u_is j at w holds lives i at' (c.0, sym (same i ne') ∙ c.1, c.2, was_not i ne));
     heard =
         moves CoreHeard lives.heard (λ c. absurd (not_way j away c.2)) (λ c. absurd (not_way j away c.3)) (λ c. absurd (unnamed c.1 c.4)) (λ c. absurd (unnamed' c.0 c.4))
         (λ i at' ne ne' c. absurd (not_way i ne' c.2)) (λ i at' ne ne' c. absurd (not_way i ne' c.3));
   }
     where
       mine : (i : ℕ) → (at' : At g u i) → ProbeAsks (end g w u i) (far_end g w u i)
-      mine i at' = near_asks g wired u lo hi j at w holds lives i at'
+      mine i at' = near_asks g wired u u_is j at w holds lives i at'
 
       theirs : (i : ℕ) → (at' : At g u i) → ProbeAsks (far_end g w u i) (end g w u i)
-      theirs i at' = far_asks g wired u lo hi j at w holds lives i at'
+      theirs i at' = far_asks g wired u u_is j at w holds lives i at'
 
-module _ (g : Network) (wired : IsWired g) (u : ℕ) (lo : 1 ≤ u) (hi : u ≤ g.count) (w : Scene) (holds : Invariant g w) (lives : Lives g w) (j : ℕ) (at : At g u j) (ms : List Message) (b : ℕ) (k : Key) (calls : SendsRoot w u j ms) (best : (w.at u).head.best ≡ Some (b, k)) where
+module _ (g : Network) (wired : IsWired g) (u : ℕ) (u_is : InNetwork g u) (w : Scene) (holds : Invariant g w) (lives : Lives g w) (j : ℕ) (at : At g u j) (ms : List Message) (b : ℕ) (k : Key) (calls : SendsRoot w u j ms) (best : (w.at u).head.best ≡ Some (b, k)) where
   root : AtRoot g w u j ms
-  root = at_root g wired u lo hi j at w holds ms calls
+  root = at_root g wired u u_is j at w holds ms calls
 
   my_fits : NodeFits (length (g.ports u)) (w.at u)
-  my_fits = holds.nodes u (record { some = lo; node = hi })
+  my_fits = holds.nodes u u_is
 
   atb : At g u b
-  atb = at_best g wired u lo hi j at w holds ms root b k best
+  atb = at_best g wired u u_is j at w holds ms root b k best
 
   apart : b ≢ j
-  apart = best_apart g wired u lo hi j at w holds ms root b k best
+  apart = best_apart g wired u u_is j at w holds ms root b k best
 
   link : LinkFits (NamesOf g w) (end g w u b) (far_end g w u b)
   link = link_fits g wired w holds u b atb
@@ -114,20 +114,20 @@ module _ (g : Network) (wired : IsWired g) (u : ℕ) (lo : 1 ≤ u) (hi : u ≤ 
   -- the root moves on over a Branch link
   module _ (mark : (w.at u).mark b ≡ Branch) where
     joins : Joins (tree_end (end g w u b)) (tree_end (far_end g w u b))
-    joins = ⊎_elim (λ h. record { here = mark; there = h }) (λ h. absurd (best_aside g wired u lo hi j at w holds ms root b k best ((link.tree.out_connect (record { here = mark; there = h })).up))) (mark_is ((w.at (far g u b)).mark (far_port g u b)))
+    joins = ⊎_elim (λ h. record { here = mark; there = h }) (λ h. absurd (best_aside g wired u u_is j at w holds ms root b k best ((link.tree.out_connect (record { here = mark; there = h })).up))) (mark_is ((w.at (far g u b)).mark (far_port g u b)))
 
     ghosts : ((w.at (far g u b)).coming ≡ (w.at u).coming) × ((w.at (far g u b)).coming_name ≡ (w.at u).coming_name)
     ghosts = holds.trees.by_fragment (far g u b) u (sym (holds.trees.joined_within u b atb (record { here = ap is_branch joins.here; there = ap is_branch joins.there })))
 
     below_way : (w.at (far g u b)).up ≡ Some (far_port g u b)
-    below_way = leads_to g wired u lo hi j at w holds ms root b k best b atb (record { here = ap is_branch joins.here; there = ap is_branch joins.there })
+    below_way = leads_to g wired u u_is j at w holds ms root b k best b atb (record { here = ap is_branch joins.here; there = ap is_branch joins.there })
 
     unnamed : (w.at u).coming_name ≢ Some (port_at g u b).key
     unnamed n = (my_fits.best_port b k best).1 ((link.tree.core_ends joins n).at_top root.top)
 
     pub passes_lives : Lives g (acts g u (record (w.at u) { up = Some b }) (put (w.seen u) j (record (w.seen u j) { tree = ms })) ((b, ChangeRoot) ∷ []) w)
     passes_lives =
-        moves_lives g wired u lo hi j at w holds lives ms root b atb apart (w.at u).mark mark (λ i ne. refl) ChangeRoot (λ q n. call_append ChangeRoot refl q.tree ∙ n) (λ q. refl)
+        moves_lives g wired u u_is j at w holds lives ms root b atb apart (w.at u).mark mark (λ i ne. refl) ChangeRoot (λ q n. call_append ChangeRoot refl q.tree ∙ n) (λ q. refl)
         (λ e. below_way) (λ e. unnamed) (λ e n. unnamed (sym ghosts.1 ∙ n))
 
   -- the root goes out
@@ -135,7 +135,7 @@ module _ (g : Network) (wired : IsWired g) (u : ℕ) (lo : 1 ≤ u) (hi : u ≤ 
     -- to a fragment that hasn't connected to this one
     pub connects_lives : (w.at (far g u b)).mark (far_port g u b) ≢ Branch → Lives g (acts g u (record (w.at u) { up = Some b; mark = put (w.at u).mark b Branch }) (put (w.seen u) j (record (w.seen u j) { tree = ms })) ((b, Connect (w.at u).head.level) ∷ []) w)
     connects_lives free =
-        moves_lives g wired u lo hi j at w holds lives ms root b atb apart (put (w.at u).mark b Branch) (put_same (w.at u).mark b Branch) (λ i ne. put_other (w.at u).mark b i Branch ne)
+        moves_lives g wired u u_is j at w holds lives ms root b atb apart (put (w.at u).mark b Branch) (put_same (w.at u).mark b Branch) (λ i ne. put_other (w.at u).mark b i Branch ne)
         (Connect (w.at u).head.level) (λ q n. call_append (Connect (w.at u).head.level) refl q.tree ∙ n) (λ q. refl) (λ e. absurd (free e)) (λ e. absurd (free e)) (λ e. absurd (free e))
 
     -- and meets the Connect of the far end
@@ -166,10 +166,10 @@ module _ (g : Network) (wired : IsWired g) (u : ℕ) (lo : 1 ≤ u) (hi : u ≤ 
 
       met : Lives g mid
       met =
-          moves_lives g wired u lo hi j at w holds lives ms root b atb apart (put (w.at u).mark b Branch) (put_same (w.at u).mark b Branch) (λ i ne. put_other (w.at u).mark b i Branch ne)
+          moves_lives g wired u u_is j at w holds lives ms root b atb apart (put (w.at u).mark b Branch) (put_same (w.at u).mark b Branch) (λ i ne. put_other (w.at u).mark b i Branch ne)
           (Connect (w.at u).head.level) (λ q n. call_append (Connect (w.at u).head.level) refl q.tree ∙ n) (λ q. refl) (λ e. came.up)
-          (λ e. no_name g ground.keyed w holds u b atb mark u (record { some = lo; node = hi })) (λ e. no_name g ground.keyed w holds u b atb mark (far g u b) (let z = wired.there u b atb in record { some = z.some; node = z.node }))
+          (λ e. no_name g ground.keyed w holds u b atb mark u u_is) (λ e. no_name g ground.keyed w holds u b atb mark (far g u b) (let z = wired.there u b atb in record { some = z.some; node = z.node }))
 
       pub meets_lives : Lives g (meet g u b (acts g u (record (w.at u) { up = Some b; mark = put (w.at u).mark b Branch }) (put (w.seen u) j (record (w.seen u j) { tree = ms })) ((b, Connect (w.at u).head.level) ∷ []) w))
       meets_lives =
-          united_lives g mid met (mid.at (far g u b)).fragment (mid.at u).fragment (suc (mid.at u).head.level) (Some (port_at g u b).key) (λ t it i. inl (low t it i)) (connects_meeting g ground u lo hi w holds j at ms b k calls best mark mark')
+          united_lives g mid met (mid.at (far g u b)).fragment (mid.at u).fragment (suc (mid.at u).head.level) (Some (port_at g u b).key) (λ t it i. inl (low t it i)) (connects_meeting g ground u u_is w holds j at ms b k calls best mark mark')

@@ -58,36 +58,36 @@ settles_so g v m ms _ is none (Probes p least) =
     Tests_least p none (sym (ap (λ (f : ℕ → Mark). f p) is) ∙ basic_is _ (position-Some is_basic ms p Rejected least).1) (λ q lt b. least_some ms p least q lt (ap (λ (f : ℕ → Mark). f q) is ∙ b))
 settles_so g v m ms e is none (Exhausts least c) = closes_so g v m e (exhausted_scan g v m none (λ q b. least_none ms least q (ap (λ (f : ℕ → Mark). f q) is ∙ b))) c
 
-module _ (g : Network) (ground : Ground g) (v : ℕ) (lo : 1 ≤ v) (hi : v ≤ g.count) where
+module _ (g : Network) (ground : Ground g) (v : ℕ) (v_is : InNetwork g v) where
   is : InNetwork g v
-  is = record { some = lo; node = hi }
+  is = v_is
 
   -- the ending alone
   ends_so : (w : Scene) → (n : Nearly g w v) → (e : Ending) → (w.at v).head.phase ≡ Find → EndsSo g v (w.at v) e → Sound g (acts g v (ended (w.at v) e) (w.seen v) (last_sends (w.at v).head e) w)
   ends_so w n _ finds (Tests_least p none basic least) = record {
-    first = ends_alone g ground.wired v lo hi w n.first (Probing p) finds (Tests_next p none basic);
+    first = ends_alone g ground.wired v v_is w n.first (Probing p) finds (Tests_next p none basic);
     floor = n.floor;
-    floors = subst (λ (q : ℕ → Seen). Floors g (acts g v (ended (w.at v) (Probing p)) q (last_sends (w.at v).head (Probing p)) w) n.floor) (put_again (w.seen v) p) (scan_floors g ground.wired v lo hi p at w n.first n.floor n.floors (w.at v).head.level (name_of (w.at v).head));
-    scans = scans_after g v lo hi (ended (w.at v) (Probing p)) (w.seen v) (last_sends (w.at v).head (Probing p)) w n.scans (probing_scan g ground.ordered v (ended (w.at v) (Probing p)) p at refl least (λ q b. record { some = lo; node = hi; port = fits.own_ports.mark q (λ z. cc (z, b)) }));
-    lives = subst (λ (q : ℕ → Seen). Lives g (acts g v (ended (w.at v) (Probing p)) q (last_sends (w.at v).head (Probing p)) w)) (put_again (w.seen v) p) (scan_lives g ground.wired v lo hi p at w n.first n.lives (w.at v).head.level (name_of (w.at v).head) none basic);
+    floors = subst (λ (q : ℕ → Seen). Floors g (acts g v (ended (w.at v) (Probing p)) q (last_sends (w.at v).head (Probing p)) w) n.floor) (put_again (w.seen v) p) (scan_floors g ground.wired v v_is p at w n.first n.floor n.floors (w.at v).head.level (name_of (w.at v).head));
+    scans = scans_after g v v_is.some v_is.node (ended (w.at v) (Probing p)) (w.seen v) (last_sends (w.at v).head (Probing p)) w n.scans (probing_scan g ground.ordered v (ended (w.at v) (Probing p)) p at refl least (λ q b. record { some = v_is.some; node = v_is.node; port = fits.own_ports.mark q (λ z. cc (z, b)) }));
+    lives = subst (λ (q : ℕ → Seen). Lives g (acts g v (ended (w.at v) (Probing p)) q (last_sends (w.at v).head (Probing p)) w)) (put_again (w.seen v) p) (scan_lives g ground.wired v v_is p at w n.first n.lives (w.at v).head.level (name_of (w.at v).head) none basic);
   }
     where
       fits : NodeFits (length (g.ports v)) (w.at v)
       fits = n.first.nodes v is
 
       at : At g v p
-      at = record { some = lo; node = hi; port = fits.own_ports.mark p (λ z. cc (z, basic)) }
+      at = record { some = v_is.some; node = v_is.node; port = fits.own_ports.mark p (λ z. cc (z, basic)) }
   ends_so w n _ finds (Reports_so at_zero none scan) = record {
-    first = ends_alone g ground.wired v lo hi w n.first Reporting finds (Reports_now at_zero none);
+    first = ends_alone g ground.wired v v_is w n.first Reporting finds (Reports_now at_zero none);
     floor = put n.floor v (Some (best_key (w.at v).head.best));
     floors =
         subst (λ (q : ℕ → Seen). Floors g (acts g v (ended (w.at v) Reporting) q (last_sends (w.at v).head Reporting) w) (put n.floor v (Some (best_key (w.at v).head.best)))) (put_again (w.seen v) s.port)
         (subst (λ b. Floors g (acts g v (ended (w.at v) Reporting) (put (w.seen v) s.port (w.seen v s.port)) ((b, Report (best_key (w.at v).head.best)) ∷ []) w) (put n.floor v (Some (best_key (w.at v).head.best)))) (sym way)
-        (closes_floors g ground.wired v lo hi s.port at w n.first finds s.in_branch none at_zero n.floor n.floors (λ q b. scan.done q finds none b)));
-    scans = scans_after g v lo hi (ended (w.at v) Reporting) (w.seen v) (last_sends (w.at v).head Reporting) w n.scans (rests_scan g v (ended (w.at v) Reporting) (λ e. cc));
+        (closes_floors g ground.wired v v_is s.port at w n.first finds s.in_branch none at_zero n.floor n.floors (λ q b. scan.done q finds none b)));
+    scans = scans_after g v v_is.some v_is.node (ended (w.at v) Reporting) (w.seen v) (last_sends (w.at v).head Reporting) w n.scans (rests_scan g v (ended (w.at v) Reporting) (λ e. cc));
     lives =
         subst (λ (q : ℕ → Seen). Lives g (acts g v (ended (w.at v) Reporting) q (last_sends (w.at v).head Reporting) w)) (put_again (w.seen v) s.port)
-        (subst (λ b. Lives g (acts g v (ended (w.at v) Reporting) (put (w.seen v) s.port (w.seen v s.port)) ((b, Report (best_key (w.at v).head.best)) ∷ []) w)) (sym way) (closes_lives g ground.wired v lo hi s.port at w n.first n.lives finds s.in_branch (best_key (w.at v).head.best)));
+        (subst (λ b. Lives g (acts g v (ended (w.at v) Reporting) (put (w.seen v) s.port (w.seen v s.port)) ((b, Report (best_key (w.at v).head.best)) ∷ []) w)) (sym way) (closes_lives g ground.wired v v_is s.port at w n.first n.lives finds s.in_branch (best_key (w.at v).head.best)));
   }
     where
       fits : NodeFits (length (g.ports v)) (w.at v)
@@ -100,7 +100,7 @@ module _ (g : Network) (ground : Ground g) (v : ℕ) (lo : 1 ≤ v) (hi : v ≤ 
       way = ap (λ o. core_port (record (w.at v).head { in_branch = o })) s.in_branch
 
       at : At g v s.port
-      at = record { some = lo; node = hi; port = fits.own_ports.in_branch s.port s.in_branch }
+      at = record { some = v_is.some; node = v_is.node; port = fits.own_ports.in_branch s.port s.in_branch }
   ends_so w n _ finds (Waits_so scan) =
       subst (Sound g) (λ i. record { at = sym (put_again w.at v) i; seen = sym (put_again w.seen v) i })
       (record { first = n.first; floor = n.floor; floors = n.floors; scans = λ u iu. ⊎_elim (λ (e : u ≡ v). subst (λ y. ScansInOrder g y (w.at y)) (sym e) scan) (λ ne. n.scans u iu ne) (cases_eq u v); lives = n.lives })

@@ -6,7 +6,7 @@ use Rattle.ghs_node.specs.declared.message.Phase.TheVariants.{Find}
 use Rattle.ghs_node.specs.declared.message.Message.TheVariants.{Report}
 use Rattle.ghs_node.specs.Words.{best_key}
 use Rattle.ghs_node.specs.Reaction.{Ending, Probing, Reporting, Waiting, phase_after, probe_after, last_sends, name_of, core_port}
-use Rattle.ghs_protocol.specs.Network.{Network, At, IsWired}
+use Rattle.ghs_protocol.specs.Network.{Network, At, IsWired, InNetwork}
 use Rattle.ghs_protocol.specs.Net.{put}
 use Rattle.ghs_protocol.proofs.clauses.Scene.{Seen, Member, Scene, acts}
 use Rattle.ghs_protocol.proofs.clauses.Nodes.{NodeFits, Searching}
@@ -25,7 +25,7 @@ pub data EndsBy (m : Member) : Ending → Type 0 where
 abbrev pub ended : Member → Ending → Member
 ended m e = record m { head = record m.head { phase = phase_after m.head.phase e; probe = probe_after m.head.probe e } }
 
-module _ (g : Network) (wired : IsWired g) (v : ℕ) (lo : 1 ≤ v) (hi : v ≤ g.count) where
+module _ (g : Network) (wired : IsWired g) (v : ℕ) (v_is : InNetwork g v) where
   -- who searches has a name, and a way to the core
   pub named : (m : Member) → NodeFits (length (g.ports v)) m → m.head.phase ≡ Find → m.head.name ≡ Some (name_of m.head)
   named m fits finds = go m.head.name refl
@@ -43,20 +43,20 @@ module _ (g : Network) (wired : IsWired g) (v : ℕ) (lo : 1 ≤ v) (hi : v ≤ 
       Invariant g (acts g v (ended (w.at v) e) (w.seen v) (last_sends (w.at v).head e) w)
   ends_alone w holds _ finds (Tests_next p none basic) =
       subst (λ (q : ℕ → Seen). Invariant g (acts g v (ended (w.at v) (Probing p)) q (last_sends (w.at v).head (Probing p)) w))
-      (put_again (w.seen v) p) (scans g wired v lo hi p at w holds (name_of (w.at v).head) (named (w.at v) fits finds) finds none basic)
+      (put_again (w.seen v) p) (scans g wired v v_is p at w holds (name_of (w.at v).head) (named (w.at v) fits finds) finds none basic)
     where
       fits : NodeFits (length (g.ports v)) (w.at v)
-      fits = holds.nodes v (record { some = lo; node = hi })
+      fits = holds.nodes v v_is
 
       at : At g v p
-      at = record { some = lo; node = hi; port = fits.own_ports.mark p (λ z. cc (z, basic)) }
+      at = record { some = v_is.some; node = v_is.node; port = fits.own_ports.mark p (λ z. cc (z, basic)) }
   ends_alone w holds _ finds (Reports_now at_zero none) =
       subst (λ (q : ℕ → Seen). Invariant g (acts g v (ended (w.at v) Reporting) q (last_sends (w.at v).head Reporting) w))
       (put_again (w.seen v) s.port)
-      (subst (λ b. Invariant g (acts g v (ended (w.at v) Reporting) (put (w.seen v) s.port (w.seen v s.port)) ((b, Report (best_key (w.at v).head.best)) ∷ []) w)) (sym way) (closing.closes g wired v lo hi s.port at w holds finds s.in_branch none at_zero))
+      (subst (λ b. Invariant g (acts g v (ended (w.at v) Reporting) (put (w.seen v) s.port (w.seen v s.port)) ((b, Report (best_key (w.at v).head.best)) ∷ []) w)) (sym way) (closing.closes g wired v v_is s.port at w holds finds s.in_branch none at_zero))
     where
       fits : NodeFits (length (g.ports v)) (w.at v)
-      fits = holds.nodes v (record { some = lo; node = hi })
+      fits = holds.nodes v v_is
 
       s : Searching (w.at v)
       s = fits.searching finds
@@ -65,5 +65,5 @@ module _ (g : Network) (wired : IsWired g) (v : ℕ) (lo : 1 ≤ v) (hi : v ≤ 
       way = ap (λ o. core_port (record (w.at v).head { in_branch = o })) s.in_branch
 
       at : At g v s.port
-      at = record { some = lo; node = hi; port = fits.own_ports.in_branch s.port s.in_branch }
+      at = record { some = v_is.some; node = v_is.node; port = fits.own_ports.in_branch s.port s.in_branch }
   ends_alone w holds _ finds Waits_on = subst (Invariant g) (λ i. record { at = sym (put_again w.at v) i; seen = sym (put_again w.seen v) i }) holds

@@ -30,10 +30,11 @@ use Rattle.ghs_protocol.proofs.clauses.Uniting.{By_report, By_root, MarksAre, Se
 use Rattle.ghs_protocol.proofs.clauses.Wiring.{IsKeyed, IsOrdered, Ground}
 use Rattle.ghs_protocol.proofs.clauses.Scene.{Ghost, Member, Seen, Scene, acts, end, see, test_end, tree_end, scene, far_end}
 use Rattle.ghs_protocol.specs.Net.{Net, put}
-use Rattle.ghs_protocol.specs.Network.{At, IsWired, Network, far, far_port, port_at}
+use Rattle.ghs_protocol.specs.Network.{At, IsWired, Network, far, far_port, port_at, InNetwork}
 use Rattle.ghs_protocol.specs.Nodes.{AreNodes, IsNodeOf}
 use Rattle.ghs_protocol.specs.Steps.{Step, Takes_one, Wakes_up, reacted, taken, waking}
 use Rattle.std.proofs.Common.{List, None, Option, Some, [], ap, ap₂, arith, false, get_or, inl, inr, length, refl, subst, suc, sym, true, ℕ, ⊎_elim, ◌++◌, ◌+◌, ◌<◌, ◌∙◌, ◌∷◌, ◌≡◌, ◌≢◌, ◌≤◌}
+use Rattle.ghs_protocol.proofs.lemmas.Wires.{at_in}
 
 -- the ways to the root after a row: that of v, where it sends the root on
 abbrev pub ups_after : {n : NodeState} {p : ℕ} {m : Message} {d : Delta} → AwakeRow n p m d → (ℕ → Option ℕ) → ℕ → ℕ → Option ℕ
@@ -80,7 +81,7 @@ module _ (g : Network) (v p : ℕ) (w : Net) (gh : Ghost) (ms : List Message) wh
       SoundWith g gh.up (taken g v p m ms (ends x.head mark ss e) w)
   search_taken ground lo hi m q rest x mark ss e is finds by act =
       taken_sound g v w gh p m ms (ends x.head mark ss e) (ended x e) refl is
-      (ends_after_so g ground v lo hi x (left (see ms)) ss (scene w gh) (subst (λ (s : Seen). Nearly g (acts g v x (left s) ss (scene w gh)) v) rest act) e finds by)
+      (ends_after_so g ground v (record { some = lo; node = hi }) x (left (see ms)) ss (scene w gh) (subst (λ (s : Seen). Nearly g (acts g v x (left s) ss (scene w gh)) v) rest act) e finds by)
 
 -- a message that goes round: the scene stays
 module _ (g : Network) (ground : Ground g) (v p : ℕ) (at : At g v p) (w : Net) (gh : Ghost) (sound : Sound g (scene w gh)) (ms : List Message) where
@@ -139,7 +140,7 @@ module _ (g : Network) (ground : Ground g) (v p : ℕ) (at : At g v p) (w : Net)
       SoundWith g gh.up (taken g v p (Test l n) ms (does (w.node v).head None ((p, Accept) ∷ [])) w)
   row_test_accepted l n waits le other =
       test_taken l n waits (does (w.node v).head None ((p, Accept) ∷ [])) ((scene w gh).at v) refl refl
-      (λ first. accept_sound g ground.wired v at.some at.node p at (scene w gh) sound l n (see ms).tests first le (other_name (w.node v).head.name n other))
+      (λ first. accept_sound g ground.wired v (at_in at) p at (scene w gh) sound l n (see ms).tests first le (other_name (w.node v).head.name n other))
 
   -- with port p rejected where it was Basic
   abbrev rejecting : Head → Member
@@ -154,7 +155,7 @@ module _ (g : Network) (ground : Ground g) (v p : ℕ) (at : At g v p) (w : Net)
   row_test_rejected l n awake waits name free =
       test_taken l n waits (does (w.node v).head (reject_at (w.node v) p) ((p, Reject) ∷ [])) (rejecting (w.node v).head) refl
       (rejects _ ((p, Reject) ∷ []))
-      (λ first. reject_sound g ground.wired v at.some at.node p at (scene w gh) sound l n (see ms).tests ground.keyed awake first (same_name _ n name) free)
+      (λ first. reject_sound g ground.wired v (at_in at) p at (scene w gh) sound l n (see ms).tests ground.keyed awake first (same_name _ n name) free)
 
   -- the search goes on after port p was rejected
   abbrev unprobed : Head
@@ -175,7 +176,7 @@ module _ (g : Network) (ground : Ground g) (v p : ℕ) (at : At g v p) (w : Net)
       SoundWith g gh.up (taken g v p (Test l n) ms (ends (no_probe (w.node v).head) (reject_at (w.node v) p) [] e) w)
   row_tests_cross l n e waits name own s =
       goes_on (Test l n) _ e (test_left (w.queue v p) ms l n waits) (probes_find own)
-      (cross_nearly g ground.wired v at.some at.node p at (scene w gh) sound l n (see ms).tests ground.keyed (test_first (w.queue v p) ms l n waits) (same_name _ n name) own)
+      (cross_nearly g ground.wired v (at_in at) p at (scene w gh) sound l n (see ms).tests ground.keyed (test_first (w.queue v p) ms l n waits) (same_name _ n name) own)
       s
 
   row_reject_heard :
@@ -184,7 +185,7 @@ module _ (g : Network) (ground : Ground g) (v p : ℕ) (at : At g v p) (w : Net)
       SoundWith g gh.up (taken g v p Reject ms (ends (no_probe (w.node v).head) (reject_at (w.node v) p) [] e) w)
   row_reject_heard e waits own s =
       goes_on Reject _ e (reject_left (w.queue v p) ms waits) (probes_find own)
-      (reject_nearly g ground.wired v at.some at.node p at (scene w gh) sound (see ms).rejects (reject_first (w.queue v p) ms waits) own) s
+      (reject_nearly g ground.wired v (at_in at) p at (scene w gh) sound (see ms).rejects (reject_first (w.queue v p) ms waits) own) s
 
   -- an Accept of a link of this key is heard
   abbrev accepting : Key → Member
@@ -198,8 +199,8 @@ module _ (g : Network) (ground : Ground g) (v p : ℕ) (at : At g v p) (w : Net)
       SoundWith g gh.up (taken g v p Accept ms (ends (answered (w.node v).head p (Some (key_at (w.node v) p))) None [] e) w)
   row_accept_heard e waits own c =
       search_taken g v p w gh ms ground at.some at.node Accept accepted (accept_left (w.queue v p) ms waits) (accepting (key_at (w.node v) p)) None
-      [] e refl (probes_find own) (closes_so g v (accepting (key_at (w.node v) p)) e (subst (λ k. ScansInOrder g v (accepting k)) (sym (key_is_port g v (w.node v) p is)) (accept_scanned g ground.wired v at.some at.node p at (scene w gh) sound (see ms).accepts (accept_first (w.queue v p) ms waits) own)) c)
-      (subst (λ k. Nearly g (acts g v (accepting k) (left g v p w gh ms accepted) [] (scene w gh)) v) (sym (key_is_port g v (w.node v) p is)) (accept_nearly g ground.wired v at.some at.node p at (scene w gh) sound (see ms).accepts (accept_first (w.queue v p) ms waits) own))
+      [] e refl (probes_find own) (closes_so g v (accepting (key_at (w.node v) p)) e (subst (λ k. ScansInOrder g v (accepting k)) (sym (key_is_port g v (w.node v) p is)) (accept_scanned g ground.wired v (at_in at) p at (scene w gh) sound (see ms).accepts (accept_first (w.queue v p) ms waits) own)) c)
+      (subst (λ k. Nearly g (acts g v (accepting k) (left g v p w gh ms accepted) [] (scene w gh)) v) (sym (key_is_port g v (w.node v) p is)) (accept_nearly g ground.wired v (at_in at) p at (scene w gh) sound (see ms).accepts (accept_first (w.queue v p) ms waits) own))
 
   -- Connects over the core, Initiates and Reports
 
@@ -216,7 +217,7 @@ module _ (g : Network) (ground : Ground g) (v p : ℕ) (at : At g v p) (w : Net)
   row_connect_merges : (l : ℕ) → w.queue v p ≡ Connect l ∷ ms → mark_at (w.node v) p ≢ Basic → SoundWith g gh.up (taken g v p (Connect l) ms (merges (w.node v) p) w)
   row_connect_merges l waits marked =
       tree_taken g v p w gh ms (Connect l) refl waits (merges (w.node v) p) ((scene w gh).at v) refl refl
-      (λ first. subst Answered (sym (key_is_port g v (w.node v) p is)) (serve_sound g ground.wired v at.some at.node p at (scene w gh) sound l (see ms).tree first marked))
+      (λ first. subst Answered (sym (key_is_port g v (w.node v) p is)) (serve_sound g ground.wired v (at_in at) p at (scene w gh) sound l (see ms).tree first marked))
 
   marks : MarksAre g v ((scene w gh).at v) (w.node v).marks
   marks = record { ports = ports_many is; marks = λ i. refl }
@@ -224,7 +225,7 @@ module _ (g : Network) (ground : Ground g) (v p : ℕ) (at : At g v p) (w : Net)
   row_initiate_rests : (l : ℕ) (f : Key) → w.queue v p ≡ Initiate l f Found ∷ ms → SoundWith g gh.up (taken g v p (Initiate l f Found) ms (rests (w.node v) p l f) w)
   row_initiate_rests l f waits =
       tree_taken g v p w gh ms (Initiate l f Found) refl waits (rests (w.node v) p l f) (with_head (rests (w.node v) p l f).head) refl refl
-      (rest_sound g ground.wired v at.some at.node (scene w gh) sound p at (see ms).tree l f (w.node v).marks marks)
+      (rest_sound g ground.wired v (at_in at) (scene w gh) sound p at (see ms).tree l f (w.node v).marks marks)
 
   row_initiate_searches :
       (l : ℕ) (f : Key) (e : Ending) → w.queue v p ≡ Initiate l f Find ∷ ms → Settles (w.node v).marks (no_probe (searching (w.node v) p l f)) e →
@@ -232,7 +233,7 @@ module _ (g : Network) (ground : Ground g) (v p : ℕ) (at : At g v p) (w : Net)
   row_initiate_searches l f e waits s =
       search_taken g v p w gh ms ground at.some at.node (Initiate l f Find) _ (tree_left (w.queue v p) ms (Initiate l f Find) refl waits) x None
       (passed_on (w.node v) p l f Find) e refl refl (settles_so g v x (w.node v).marks e refl refl s)
-      (search_nearly g ground.wired v at.some at.node (scene w gh) sound p at (see ms).tree l f (w.node v).marks marks (tree_first (w.queue v p) ms (Initiate l f Find) refl waits))
+      (search_nearly g ground.wired v (at_in at) (scene w gh) sound p at (see ms).tree l f (w.node v).marks marks (tree_first (w.queue v p) ms (Initiate l f Find) refl waits))
     where
       x : Member
       x = with_head (no_probe (searching (w.node v) p l f))
@@ -242,7 +243,7 @@ module _ (g : Network) (ground : Ground g) (v p : ℕ) (at : At g v p) (w : Net)
       Closes (heard (w.node v).head c p k) e → SoundWith g gh.up (taken g v p (Report k) ms (ends (heard (w.node v).head c p k) None [] e) w)
   row_report_heard k c e waits away count s =
       search_taken g v p w gh ms ground at.some at.node (Report k) _ (all_left (w.queue v p) ms (Report k) refl waits none) x None [] e refl finds
-      (closes_so g v x e (report_scanned g ground.wired v at.some at.node p at (scene w gh) sound k (see ms).tree c first away count) s) (report_nearly g ground.wired v at.some at.node p at (scene w gh) sound k (see ms).tree c first away count)
+      (closes_so g v x e (report_scanned g ground.wired v (at_in at) p at (scene w gh) sound k (see ms).tree c first away count) s) (report_nearly g ground.wired v (at_in at) p at (scene w gh) sound k (see ms).tree c first away count)
     where
       x : Member
       x = with_head (heard (w.node v).head c p k)
@@ -264,12 +265,12 @@ module _ (g : Network) (ground : Ground g) (v p : ℕ) (at : At g v p) (w : Net)
   row_report_halts : (k : Option Key) → w.queue v p ≡ Report k ∷ ms → (w.node v).head.phase ≡ Found → k ≡ None → (w.node v).head.best ≡ None → SoundWith g gh.up (taken g v p (Report k) ms (stops (w.node v).head) w)
   row_report_halts k waits found none best =
       tree_taken g v p w gh ms (Report k) refl waits (stops (w.node v).head) (with_head (stops (w.node v).head).head) refl refl
-      (λ first. end_sound g ground.wired v at.some at.node p at (scene w gh) sound k (see ms).tree first found true (inr (none, best)) (ap₂ below (ap best_key best) none) (λ x y. refl))
+      (λ first. end_sound g ground.wired v (at_in at) p at (scene w gh) sound k (see ms).tree first found true (inr (none, best)) (ap₂ below (ap best_key best) none) (λ x y. refl))
 
   row_report_passes : (k : Option Key) → w.queue v p ≡ Report k ∷ ms → (w.node v).head.phase ≡ Found → below (best_key (w.node v).head.best) k ≡ false → (k ≡ None → (w.node v).head.best ≢ None) → SoundWith g gh.up (taken g v p (Report k) ms (does (w.node v).head None []) w)
   row_report_passes k waits found less some =
       tree_taken g v p w gh ms (Report k) refl waits (does (w.node v).head None []) ((scene w gh).at v) refl refl
-      (λ first. end_sound g ground.wired v at.some at.node p at (scene w gh) sound k (see ms).tree first found (w.node v).head.halted (inl refl) less (λ x y. absurd (some x y)))
+      (λ first. end_sound g ground.wired v (at_in at) p at (scene w gh) sound k (see ms).tree first found (w.node v).head.halted (inl refl) less (λ x y. absurd (some x y)))
 
   -- a Connect is absorbed, or the root moves
 
@@ -312,7 +313,7 @@ module _ (g : Network) (ground : Ground g) (v p : ℕ) (at : At g v p) (w : Net)
       answer = Initiate (w.node v).head.level (name_of (w.node v).head) (w.node v).head.phase
 
       step : Sound g (absorb g v p (acts g v x popped ((p, answer) ∷ []) (scene w gh)))
-      step = absorb_sound g ground.wired v at.some at.node (scene w gh) sound p at (see ms).tree ground l (name_of (w.node v).head) first lower (named (omega (arith, lower))) awake
+      step = absorb_sound g ground.wired v (at_in at) (scene w gh) sound p at (see ms).tree ground l (name_of (w.node v).head) first lower (named (omega (arith, lower))) awake
 
       same : scene absorbed gh ≡ acts g v x popped ((p, answer) ∷ []) (scene w gh)
       same =
@@ -359,11 +360,11 @@ module _ (g : Network) (ground : Ground g) (v p : ℕ) (at : At g v p) (w : Net)
         meets : ((scene w gh).at (far g v b)).mark (far_port g v b) ≡ Branch → SoundWith g (put gh.up v (Some b)) moved_net
         meets met =
             met_sound g v b moved_net (with_up gh v (Some b))
-            (subst (λ (z : Scene). Sound g (meet g v b z)) (sym same) (meet_sound g ground.wired v at.some at.node (scene w gh) sound p at (see ms).tree b k calls best ground free met))
+            (subst (λ (z : Scene). Sound g (meet g v b z)) (sym same) (meet_sound g ground.wired v (at_in at) (scene w gh) sound p at (see ms).tree b k calls best ground free met))
 
         goes_out : ((scene w gh).at (far g v b)).mark (far_port g v b) ≢ Branch → SoundWith g (put gh.up v (Some b)) moved_net
         goes_out apart =
-            record { ghost = with_up gh v (Some b); ups = refl; holds = subst (Sound g) (sym same) (out_sound g ground.wired v at.some at.node (scene w gh) sound p at (see ms).tree b k calls best free apart) }
+            record { ghost = with_up gh v (Some b); ups = refl; holds = subst (Sound g) (sym same) (out_sound g ground.wired v (at_in at) (scene w gh) sound p at (see ms).tree b k calls best free apart) }
 
     moves : SoundWith g (put gh.up v (Some b)) moved_net
     moves = go (mark_at (w.node v) b) refl
@@ -375,7 +376,7 @@ module _ (g : Network) (ground : Ground g) (v p : ℕ) (at : At g v p) (w : Net)
         go Basic e = connects Basic e (λ z. cc) refl refl
         go Rejected e = connects Rejected e (λ z. cc) refl refl
         go Branch e =
-            record { ghost = with_up gh v (Some b); ups = refl; holds = subst (Sound g) (sym (same e)) (pass_sound g ground.wired v at.some at.node (scene w gh) sound p at (see ms).tree b k calls best e) }
+            record { ghost = with_up gh v (Some b); ups = refl; holds = subst (Sound g) (sym (same e)) (pass_sound g ground.wired v (at_in at) (scene w gh) sound p at (see ms).tree b k calls best e) }
 
   row_report_moves_root :
       (r : Option Key) (b : ℕ) (k : Key) → w.queue v p ≡ Report r ∷ ms → (w.node v).head.in_branch ≡ Some p → (w.node v).head.phase ≡ Found →
@@ -389,7 +390,7 @@ module _ (g : Network) (ground : Ground g) (v p : ℕ) (at : At g v p) (w : Net)
   row_root_moves b k waits best = moves ChangeRoot b k (By_root (tree_first (w.queue v p) ms ChangeRoot refl waits)) (seen (w.queue v p) ms ChangeRoot refl waits) best
 
 -- a wake
-module _ (g : Network) (ground : Ground g) (v : ℕ) (lo : 1 ≤ v) (hi : v ≤ g.count) (w : Net) (is : IsNodeOf g v (w.node v)) (gh : Ghost) (sound : Sound g (scene w gh)) (sleeps : (w.node v).head.phase ≡ Sleeping) where
+module _ (g : Network) (ground : Ground g) (v : ℕ) (v_is : InNetwork g v) (w : Net) (is : IsNodeOf g v (w.node v)) (gh : Ghost) (sound : Sound g (scene w gh)) (sleeps : (w.node v).head.phase ≡ Sleeping) where
   wakes_over : At g v 0 → SoundWith g (put gh.up v (Some 0)) (reacted g v (wakes (w.node v)) w)
   wakes_over at = ⊎_elim meets goes_out (mark_is (((scene w gh).at (far g v 0)).mark (far_port g v 0)))
     where
@@ -409,18 +410,18 @@ module _ (g : Network) (ground : Ground g) (v : ℕ) (lo : 1 ≤ v) (hi : v ≤ 
       meets : ((scene w gh).at (far g v 0)).mark (far_port g v 0) ≡ Branch → SoundWith g (put gh.up v (Some 0)) woken_net
       meets met =
           met_sound g v 0 woken_net (with_up gh v (Some 0))
-          (subst (λ (z : Scene). Sound g (meet g v 0 z)) (sym same) (wake_meeting_sound g ground v lo hi (scene w gh) sound sleeps at met))
+          (subst (λ (z : Scene). Sound g (meet g v 0 z)) (sym same) (wake_meeting_sound g ground v v_is (scene w gh) sound sleeps at met))
 
       goes_out : ((scene w gh).at (far g v 0)).mark (far_port g v 0) ≢ Branch → SoundWith g (put gh.up v (Some 0)) woken_net
-      goes_out apart = record { ghost = with_up gh v (Some 0); ups = refl; holds = subst (Sound g) (sym same) (wake_out_sound g ground v lo hi (scene w gh) sound sleeps at apart) }
+      goes_out apart = record { ghost = with_up gh v (Some 0); ups = refl; holds = subst (Sound g) (sym same) (wake_out_sound g ground v v_is (scene w gh) sound sleeps at apart) }
 
   pub wake_keeps : SoundWith g (put gh.up v (up_waking (w.node v).marks (gh.up v))) (reacted g v (waking (w.node v)) w)
   wake_keeps = go (w.node v).marks refl
     where
       go : (ks : List Mark) → (w.node v).marks ≡ ks → SoundWith g (put gh.up v (up_waking ks (gh.up v))) (reacted g v (at_wake (w.node v) ks) w)
       go [] e =
-          record { ghost = with_up gh v (gh.up v); ups = refl; holds = subst (Sound g) (sym (wake_acts g v w gh (gh.up v) (wakes_alone (w.node v)))) (lone_sound g ground v lo hi (scene w gh) sound sleeps (sym (ports_many is) ∙ ap length e)) }
-      go (k ∷ ks) e = wakes_over (record { some = lo; node = hi; port = let z = ports_many is in let y = ap length e in omega (arith, z, y) })
+          record { ghost = with_up gh v (gh.up v); ups = refl; holds = subst (Sound g) (sym (wake_acts g v w gh (gh.up v) (wakes_alone (w.node v)))) (lone_sound g ground v v_is (scene w gh) sound sleeps (sym (ports_many is) ∙ ap length e)) }
+      go (k ∷ ks) e = wakes_over (record { some = v_is.some; node = v_is.node; port = let z = ports_many is in let y = ap length e in omega (arith, z, y) })
 
 -- all rows, and all steps of a net
 module _ (g : Network) (ground : Ground g) where
@@ -447,5 +448,5 @@ module _ (g : Network) (ground : Ground g) where
   row_keeps v p at w is gh holds m ms d q up (Root_moves b k best) = row_root_moves g ground v p at w is gh holds ms b k q best
 
   pub step_keeps : (w w' : Net) → AreNodes g w → HasSound g w → Step g w w' → HasSound g w'
-  step_keeps w _ nodes h (Wakes_up v lo hi sleeps) = let s = wake_keeps g ground v lo hi w (nodes v) h.ghost h.holds sleeps in record { ghost = s.ghost; holds = s.holds }
+  step_keeps w _ nodes h (Wakes_up v lo hi sleeps) = let s = wake_keeps g ground v (record { some = lo; node = hi }) w (nodes v) h.ghost h.holds sleeps in record { ghost = s.ghost; holds = s.holds }
   step_keeps w _ nodes h (Takes_one v p m ms d at q up row) = let s = row_keeps v p at w (nodes v) h.ghost h.holds m ms d q up row in record { ghost = s.ghost; holds = s.holds }

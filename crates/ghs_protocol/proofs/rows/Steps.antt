@@ -67,115 +67,115 @@ now_but g u x at h v is ne = subst (ScansInOrder g v) (sym (put_other at u v x n
 now : (g : Network) (u : ℕ) (x : Member) (at : ℕ → Member) → ((v : ℕ) → InNetwork g v → ScansInOrder g v (at v)) → ScansInOrder g u x → (v : ℕ) → InNetwork g v → ScansInOrder g v (put at u x v)
 now g u x at h here v is = ⊎_elim (λ (e : v ≡ u). subst (λ y. ScansInOrder g y (put at u x y)) (sym e) (subst (ScansInOrder g u) (sym (put_same at u x)) here)) (λ ne. now_but g u x at h v is ne) (cases_eq v u)
 
-module _ (g : Network) (wired : IsWired g) (u : ℕ) (lo : 1 ≤ u) (hi : u ≤ g.count) (j : ℕ) (at : At g u j) (w : Scene) (s : Sound g w) where
+module _ (g : Network) (wired : IsWired g) (u : ℕ) (u_is : InNetwork g u) (j : ℕ) (at : At g u j) (w : Scene) (s : Sound g w) where
   here : InNetwork g u
-  here = record { some = lo; node = hi }
+  here = u_is
 
   pub accept_sound : (l : ℕ) (n : Key) (ts : List (ℕ × Key)) → (w.seen u j).tests ≡ (l, n) ∷ ts → l ≤ (w.at u).head.level → (w.at u).head.name ≢ Some n → Sound g (acts g u (w.at u) (put (w.seen u) j (record (w.seen u j) { tests = ts })) ((j, Accept) ∷ []) w)
-  accept_sound l n ts waits le other = record { first = accept_sends g wired u lo hi j at w s.first l n ts waits le other; floor = s.floor; floors = accept_sent_floors g wired u lo hi j at w s.first s.floor s.floors ts; scans = now g u (w.at u) w.at s.scans (s.scans u here); lives = accept_sent_lives g wired u lo hi j at w s.first s.lives l n ts waits other }
+  accept_sound l n ts waits le other = record { first = accept_sends g wired u u_is j at w s.first l n ts waits le other; floor = s.floor; floors = accept_sent_floors g wired u u_is j at w s.first s.floor s.floors ts; scans = now g u (w.at u) w.at s.scans (s.scans u here); lives = accept_sent_lives g wired u u_is j at w s.first s.lives l n ts waits other }
 
   pub reject_sound : (l : ℕ) (n : Key) (ts : List (ℕ × Key)) → IsKeyed g → (w.at u).head.phase ≢ Sleeping → (w.seen u j).tests ≡ (l, n) ∷ ts → (w.at u).head.name ≡ Some n → (w.at u).head.probe ≢ Some j → Sound g (acts g u (record (w.at u) { mark = marked (w.at u).mark j }) (put (w.seen u) j (record (w.seen u j) { tests = ts })) ((j, Reject) ∷ []) w)
-  reject_sound l n ts keyed awake waits name free = record { first = reject_sends g wired u lo hi j at w s.first l n ts keyed awake waits name free; floor = s.floor; floors = reject_sent_floors g wired u lo hi j at w s.first s.floor s.floors ts; scans = now g u (record (w.at u) { mark = marked (w.at u).mark j }) w.at s.scans (fewer g u (w.at u) (record (w.at u) { mark = marked (w.at u).mark j }) refl refl refl (basic_was (w.at u).mark j) (s.scans u here)); lives = reject_sent_lives g wired u lo hi j at w s.first s.lives ts free }
+  reject_sound l n ts keyed awake waits name free = record { first = reject_sends g wired u u_is j at w s.first l n ts keyed awake waits name free; floor = s.floor; floors = reject_sent_floors g wired u u_is j at w s.first s.floor s.floors ts; scans = now g u (record (w.at u) { mark = marked (w.at u).mark j }) w.at s.scans (fewer g u (w.at u) (record (w.at u) { mark = marked (w.at u).mark j }) refl refl refl (basic_was (w.at u).mark j) (s.scans u here)); lives = reject_sent_lives g wired u u_is j at w s.first s.lives ts free }
 
   pub cross_nearly : (l : ℕ) (n : Key) (ts : List (ℕ × Key)) → IsKeyed g → (w.seen u j).tests ≡ (l, n) ∷ ts → (w.at u).head.name ≡ Some n → (w.at u).head.probe ≡ Some j → Nearly g (acts g u (record (w.at u) { mark = marked (w.at u).mark j; head = record (w.at u).head { probe = None } }) (put (w.seen u) j (record (w.seen u j) { tests = ts })) [] w) u
-  cross_nearly l n ts keyed waits name own = record { first = crosses g wired u lo hi j at w s.first l n ts keyed waits name own; floor = s.floor; floors = cross_floors g wired u lo hi j at w s.first s.floor s.floors ts; scans = now_but g u (record (w.at u) { mark = marked (w.at u).mark j; head = record (w.at u).head { probe = None } }) w.at s.scans; lives = cross_lives g wired u lo hi j at w s.first s.lives l n ts keyed waits name own }
+  cross_nearly l n ts keyed waits name own = record { first = crosses g wired u u_is j at w s.first l n ts keyed waits name own; floor = s.floor; floors = cross_floors g wired u u_is j at w s.first s.floor s.floors ts; scans = now_but g u (record (w.at u) { mark = marked (w.at u).mark j; head = record (w.at u).head { probe = None } }) w.at s.scans; lives = cross_lives g wired u u_is j at w s.first s.lives l n ts keyed waits name own }
 
   pub reject_nearly : (r : ℕ) → (w.seen u j).rejects ≡ suc r → (w.at u).head.probe ≡ Some j → Nearly g (acts g u (record (w.at u) { mark = marked (w.at u).mark j; head = record (w.at u).head { probe = None } }) (put (w.seen u) j (record (w.seen u j) { rejects = r })) [] w) u
-  reject_nearly r waits own = record { first = hears_reject g wired u lo hi j at w s.first r waits own; floor = s.floor; floors = reject_floors g wired u lo hi j at w s.first s.floor s.floors r; scans = now_but g u (record (w.at u) { mark = marked (w.at u).mark j; head = record (w.at u).head { probe = None } }) w.at s.scans; lives = reject_lives g wired u lo hi j at w s.first s.lives r }
+  reject_nearly r waits own = record { first = hears_reject g wired u u_is j at w s.first r waits own; floor = s.floor; floors = reject_floors g wired u u_is j at w s.first s.floor s.floors r; scans = now_but g u (record (w.at u) { mark = marked (w.at u).mark j; head = record (w.at u).head { probe = None } }) w.at s.scans; lives = reject_lives g wired u u_is j at w s.first s.lives r }
 
   pub accept_nearly : (a : ℕ) → (w.seen u j).accepts ≡ suc a → (w.at u).head.probe ≡ Some j → Nearly g (acts g u (record (w.at u) { head = record (w.at u).head { probe = None; best = better (w.at u).head.best j (Some (port_at g u j).key) } }) (put (w.seen u) j (record (w.seen u j) { accepts = a })) [] w) u
-  accept_nearly a waits own = record { first = hears_accept g wired u lo hi j at w s.first a waits own; floor = s.floor; floors = accept_floors g wired u lo hi j at w s.first a waits own s.floor s.floors; scans = now_but g u (record (w.at u) { head = record (w.at u).head { probe = None; best = better (w.at u).head.best j (Some (port_at g u j).key) } }) w.at s.scans; lives = accept_lives g wired u lo hi j at w s.first s.lives a own }
+  accept_nearly a waits own = record { first = hears_accept g wired u u_is j at w s.first a waits own; floor = s.floor; floors = accept_floors g wired u u_is j at w s.first a waits own s.floor s.floors; scans = now_but g u (record (w.at u) { head = record (w.at u).head { probe = None; best = better (w.at u).head.best j (Some (port_at g u j).key) } }) w.at s.scans; lives = accept_lives g wired u u_is j at w s.first s.lives a own }
 
   pub accept_scanned : (a : ℕ) → (w.seen u j).accepts ≡ suc a → (own : (w.at u).head.probe ≡ Some j) → ScansInOrder g u (record (w.at u) { head = record (w.at u).head { probe = None; best = better (w.at u).head.best j (Some (port_at g u j).key) } })
   accept_scanned a waits own = record {
     probing = λ p q e o b. absurd (let z : None ≡ Some p = o in cc);
-    done = λ q e o b. accept_scans g wired u lo hi j at w s.first a waits own s.floor s.floors (λ r m. (s.scans u here).probing j r (probing_finds (s.first.nodes u here) own) own m) q b;
+    done = λ q e o b. accept_scans g wired u u_is j at w s.first a waits own s.floor s.floors (λ r m. (s.scans u here).probing j r (probing_finds (s.first.nodes u here) own) own m) q b;
   }
 
   pub report_nearly : (k : Option Key) (ms : List Message) (c : ℕ) → (w.seen u j).tree ≡ Report k ∷ ms → (w.at u).head.in_branch ≢ Some j → (w.at u).head.find_count ≡ suc c → Nearly g (acts g u (record (w.at u) { head = record (w.at u).head { find_count = c; best = better (w.at u).head.best j k } }) (put (w.seen u) j (record (w.seen u j) { tree = [] })) [] w) u
-  report_nearly k ms c waits away count = record { first = hears_report g wired u lo hi j at w s.first k ms c waits away count; floor = s.floor; floors = report_floors g wired u lo hi j at w s.first k ms c waits away count s.floor s.floors; scans = now_but g u (record (w.at u) { head = record (w.at u).head { find_count = c; best = better (w.at u).head.best j k } }) w.at s.scans; lives = report_lives g wired u lo hi j at w s.first s.lives k ms c waits away count }
+  report_nearly k ms c waits away count = record { first = hears_report g wired u u_is j at w s.first k ms c waits away count; floor = s.floor; floors = report_floors g wired u u_is j at w s.first k ms c waits away count s.floor s.floors; scans = now_but g u (record (w.at u) { head = record (w.at u).head { find_count = c; best = better (w.at u).head.best j k } }) w.at s.scans; lives = report_lives g wired u u_is j at w s.first s.lives k ms c waits away count }
 
   pub report_scanned : (k : Option Key) (ms : List Message) (c : ℕ) → (w.seen u j).tree ≡ Report k ∷ ms → (w.at u).head.in_branch ≢ Some j → (w.at u).head.find_count ≡ suc c → ScansInOrder g u (record (w.at u) { head = record (w.at u).head { find_count = c; best = better (w.at u).head.best j k } })
   report_scanned k ms c waits away count = record {
     probing = λ p q e o b. (s.scans u here).probing p q e o b;
-    done = λ q e o b. report_scans g wired u lo hi j at w s.first k ms c waits away count s.floor s.floors (λ r m. (s.scans u here).done r e o m) q b;
+    done = λ q e o b. report_scans g wired u u_is j at w s.first k ms c waits away count s.floor s.floors (λ r m. (s.scans u here).done r e o m) q b;
   }
 
   pub serve_sound : (l : ℕ) (ms : List Message) → (w.seen u j).tree ≡ Connect l ∷ ms → (w.at u).mark j ≢ Basic → Sound g (acts g u (w.at u) (put (w.seen u) j (record (w.seen u j) { tree = ms })) ((j, Initiate ((w.at u).head.level + 1) (port_at g u j).key Find) ∷ []) w)
-  serve_sound l ms waits m = record { first = serves g wired u lo hi j at w s.first l ms waits m; floor = s.floor; floors = serve_floors g wired u lo hi j at w s.first s.floor s.floors l ms waits m ((w.at u).head.level + 1) (port_at g u j).key; scans = now g u (w.at u) w.at s.scans (s.scans u here); lives = serve_lives g wired u lo hi j at w s.first s.lives l ms waits m ((w.at u).head.level + 1) (port_at g u j).key }
+  serve_sound l ms waits m = record { first = serves g wired u u_is j at w s.first l ms waits m; floor = s.floor; floors = serve_floors g wired u u_is j at w s.first s.floor s.floors l ms waits m ((w.at u).head.level + 1) (port_at g u j).key; scans = now g u (w.at u) w.at s.scans (s.scans u here); lives = serve_lives g wired u u_is j at w s.first s.lives l ms waits m ((w.at u).head.level + 1) (port_at g u j).key }
 
   pub end_sound : (k : Option Key) (ms : List Message) → (w.seen u j).tree ≡ Report k ∷ ms → (w.at u).head.phase ≡ Found → (b : Bool) → (b ≡ (w.at u).head.halted) ⊎ ((k ≡ None) × ((w.at u).head.best ≡ None)) → below (best_key (w.at u).head.best) k ≡ false → (k ≡ None → (w.at u).head.best ≡ None → b ≡ true) → Sound g (acts g u (record (w.at u) { head = record (w.at u).head { halted = b } }) (put (w.seen u) j (record (w.seen u j) { tree = ms })) [] w)
-  end_sound k ms waits rests b why less halts = record { first = report_ends g wired u lo hi j at w s.first k ms waits rests b; floor = s.floor; floors = ends_floors g wired u lo hi j at w s.first k ms waits rests s.floor s.floors b why; scans = now g u (record (w.at u) { head = record (w.at u).head { halted = b } }) w.at s.scans (rests_scan g u (record (w.at u) { head = record (w.at u).head { halted = b } }) (λ e. cc (e, rests))); lives = end_lives g wired u lo hi j at w s.first s.lives k ms waits rests b (⊎_elim (λ e. inl e) (λ z. inr (halts z.0 z.1)) why) less halts }
+  end_sound k ms waits rests b why less halts = record { first = report_ends g wired u u_is j at w s.first k ms waits rests b; floor = s.floor; floors = ends_floors g wired u u_is j at w s.first k ms waits rests s.floor s.floors b why; scans = now g u (record (w.at u) { head = record (w.at u).head { halted = b } }) w.at s.scans (rests_scan g u (record (w.at u) { head = record (w.at u).head { halted = b } }) (λ e. cc (e, rests))); lives = end_lives g wired u u_is j at w s.first s.lives k ms waits rests b (⊎_elim (λ e. inl e) (λ z. inr (halts z.0 z.1)) why) less halts }
 
-module _ (g : Network) (wired : IsWired g) (u : ℕ) (lo : 1 ≤ u) (hi : u ≤ g.count) (w : Scene) (s : Sound g w) (j : ℕ) (at : At g u j) (ms : List Message) where
+module _ (g : Network) (wired : IsWired g) (u : ℕ) (u_is : InNetwork g u) (w : Scene) (s : Sound g w) (j : ℕ) (at : At g u j) (ms : List Message) where
   this : InNetwork g u
-  this = record { some = lo; node = hi }
+  this = u_is
 
   pub rest_sound : (l : ℕ) (n : Key) (xs : List Mark) → MarksAre g u (w.at u) xs → (w.seen u j).tree ≡ Initiate l n Found ∷ ms → Sound g (acts g u (record (w.at u) { head = record (w.at u).head { level = l; name = Some n; phase = Found; in_branch = Some j; best = None } }) (put (w.seen u) j (record (w.seen u j) { tree = ms })) (on_branches xs j (Initiate l n Found)) w)
   rest_sound l n xs marks waits = record {
-    first = initiates_rest g wired u lo hi w s.first j at ms l n xs marks waits;
+    first = initiates_rest g wired u u_is w s.first j at ms l n xs marks waits;
     floor = put s.floor u (s.floor u);
-    floors = initiates_floors g wired u lo hi j at w s.first l n Found ms xs marks waits (w.at u).head.probe (idle g wired u lo hi j at w s.first l n Found ms xs marks waits None refl 0 (λ e. refl)).0 (w.at u).head.find_count (λ e. e) s.floor s.floors (s.floor u) (λ ne. refl) (λ e. absurd (let z : Found ≡ Find = e in cc));
+    floors = initiates_floors g wired u u_is j at w s.first l n Found ms xs marks waits (w.at u).head.probe (idle g wired u u_is j at w s.first l n Found ms xs marks waits None refl 0 (λ e. refl)).0 (w.at u).head.find_count (λ e. e) s.floor s.floors (s.floor u) (λ ne. refl) (λ e. absurd (let z : Found ≡ Find = e in cc));
     scans = now g u (record (w.at u) { head = record (w.at u).head { level = l; name = Some n; phase = Found; in_branch = Some j; best = None } }) w.at s.scans (rests_scan g u (record (w.at u) { head = record (w.at u).head { level = l; name = Some n; phase = Found; in_branch = Some j; best = None } }) (λ e. let z : Found ≡ Find = e in cc));
-    lives = initiates_lives g wired u lo hi j at w s.first s.lives l n Found ms xs marks waits (w.at u).head.probe (idle g wired u lo hi j at w s.first l n Found ms xs marks waits None refl 0 (λ e. refl)).0 (w.at u).head.find_count (λ e. e);
+    lives = initiates_lives g wired u u_is j at w s.first s.lives l n Found ms xs marks waits (w.at u).head.probe (idle g wired u u_is j at w s.first l n Found ms xs marks waits None refl 0 (λ e. refl)).0 (w.at u).head.find_count (λ e. e);
   }
 
   pub search_nearly : (l : ℕ) (n : Key) (xs : List Mark) → MarksAre g u (w.at u) xs → (w.seen u j).tree ≡ Initiate l n Find ∷ ms → Nearly g (acts g u (record (w.at u) { head = record (w.at u).head { level = l; name = Some n; phase = Find; in_branch = Some j; best = None; probe = None; find_count = (w.at u).head.find_count + length (on_branches xs j (Initiate l n Find)) } }) (put (w.seen u) j (record (w.seen u j) { tree = ms })) (on_branches xs j (Initiate l n Find)) w) u
   search_nearly l n xs marks waits = record {
-    first = initiates_search g wired u lo hi w s.first j at ms l n xs marks waits;
+    first = initiates_search g wired u u_is w s.first j at ms l n xs marks waits;
     floor = put s.floor u None;
-    floors = initiates_floors g wired u lo hi j at w s.first l n Find ms xs marks waits None refl ((w.at u).head.find_count + length (on_branches xs j (Initiate l n Find))) (λ e. rw e (zero-add _)) s.floor s.floors None (λ ne. absurd (ne refl)) (λ e. refl);
+    floors = initiates_floors g wired u u_is j at w s.first l n Find ms xs marks waits None refl ((w.at u).head.find_count + length (on_branches xs j (Initiate l n Find))) (λ e. rw e (zero-add _)) s.floor s.floors None (λ ne. absurd (ne refl)) (λ e. refl);
     scans = now_but g u (record (w.at u) { head = record (w.at u).head { level = l; name = Some n; phase = Find; in_branch = Some j; best = None; probe = None; find_count = (w.at u).head.find_count + length (on_branches xs j (Initiate l n Find)) } }) w.at s.scans;
-    lives = initiates_lives g wired u lo hi j at w s.first s.lives l n Find ms xs marks waits None refl ((w.at u).head.find_count + length (on_branches xs j (Initiate l n Find))) (λ e. rw e (zero-add _));
+    lives = initiates_lives g wired u u_is j at w s.first s.lives l n Find ms xs marks waits None refl ((w.at u).head.find_count + length (on_branches xs j (Initiate l n Find))) (λ e. rw e (zero-add _));
   }
 
   -- the root is sent on
   module _ (b : ℕ) (k : Key) (calls : SendsRoot w u j ms) (best : (w.at u).head.best ≡ Some (b, k)) where
     rested : (w.at u).head.phase ≡ Found
-    rested = let r = at_root g wired u lo hi j at w s.first ms calls in r.quiet.found u this refl
+    rested = let r = at_root g wired u u_is j at w s.first ms calls in r.quiet.found u this refl
 
     pub pass_sound : (w.at u).mark b ≡ Branch → Sound g (acts g u (record (w.at u) { up = Some b }) (put (w.seen u) j (record (w.seen u j) { tree = ms })) ((b, ChangeRoot) ∷ []) w)
     pass_sound m = record {
-      first = passes_root g wired u lo hi w s.first j at ms b k calls best m;
+      first = passes_root g wired u u_is w s.first j at ms b k calls best m;
       floor = s.floor;
-      floors = passes_floors g wired u lo hi w s.first j at ms b k calls best s.floor s.floors m;
+      floors = passes_floors g wired u u_is w s.first j at ms b k calls best s.floor s.floors m;
       scans = now g u (record (w.at u) { up = Some b }) w.at s.scans (rests_scan g u (record (w.at u) { up = Some b }) (λ e. cc (e, rested)));
-      lives = passes_lives g wired u lo hi w s.first s.lives j at ms b k calls best m;
+      lives = passes_lives g wired u u_is w s.first s.lives j at ms b k calls best m;
     }
 
     pub out_sound : (w.at u).mark b ≢ Branch → (w.at (far g u b)).mark (far_port g u b) ≢ Branch → Sound g (acts g u (record (w.at u) { up = Some b; mark = put (w.at u).mark b Branch }) (put (w.seen u) j (record (w.seen u j) { tree = ms })) ((b, Connect (w.at u).head.level) ∷ []) w)
     out_sound m m' = record {
-      first = connects_out g wired u lo hi w s.first j at ms b k calls best m m';
+      first = connects_out g wired u u_is w s.first j at ms b k calls best m m';
       floor = s.floor;
-      floors = connects_floors g wired u lo hi w s.first j at ms b k calls best s.floor s.floors m m';
+      floors = connects_floors g wired u u_is w s.first j at ms b k calls best s.floor s.floors m m';
       scans = now g u (record (w.at u) { up = Some b; mark = put (w.at u).mark b Branch }) w.at s.scans (rests_scan g u (record (w.at u) { up = Some b; mark = put (w.at u).mark b Branch }) (λ e. cc (e, rested)));
-      lives = connects_lives g wired u lo hi w s.first s.lives j at ms b k calls best m m';
+      lives = connects_lives g wired u u_is w s.first s.lives j at ms b k calls best m m';
     }
 
     pub meet_sound : Ground g → (w.at u).mark b ≢ Branch → (w.at (far g u b)).mark (far_port g u b) ≡ Branch → Sound g (meet g u b (acts g u (record (w.at u) { up = Some b; mark = put (w.at u).mark b Branch }) (put (w.seen u) j (record (w.seen u j) { tree = ms })) ((b, Connect (w.at u).head.level) ∷ []) w))
     meet_sound ground m m' = record {
-      first = connects_meeting g ground u lo hi w s.first j at ms b k calls best m m';
+      first = connects_meeting g ground u u_is w s.first j at ms b k calls best m m';
       floor = s.floor;
-      floors = meets_floors g wired u lo hi w s.first j at ms b k calls best s.floor s.floors ground m m';
+      floors = meets_floors g wired u u_is w s.first j at ms b k calls best s.floor s.floors ground m m';
       scans = scans_relabel g _ _ _ _ (acts g u (record (w.at u) { up = Some b; mark = put (w.at u).mark b Branch }) (put (w.seen u) j (record (w.seen u j) { tree = ms })) ((b, Connect (w.at u).head.level) ∷ []) w) (now g u (record (w.at u) { up = Some b; mark = put (w.at u).mark b Branch }) w.at s.scans (rests_scan g u (record (w.at u) { up = Some b; mark = put (w.at u).mark b Branch }) (λ e. cc (e, rested))));
-      lives = meets_lives g wired u lo hi w s.first s.lives j at ms b k calls best m ground m';
+      lives = meets_lives g wired u u_is w s.first s.lives j at ms b k calls best m ground m';
     }
 
   pub absorb_sound : Ground g → (l : ℕ) (k : Key) → (w.seen u j).tree ≡ Connect l ∷ ms → l < (w.at u).head.level → (w.at u).head.name ≡ Some k → (w.at u).head.phase ≢ Sleeping →
       Sound g (absorb g u j (acts g u (record (w.at u) { head = record (w.at u).head { find_count = find_more (w.at u).head.phase (w.at u).head.find_count }; mark = put (w.at u).mark j Branch }) (put (w.seen u) j (record (w.seen u j) { tree = ms })) ((j, Initiate (w.at u).head.level k (w.at u).head.phase) ∷ []) w))
   absorb_sound ground l k waits less name awake = record {
-    first = absorbs_in g ground u lo hi w s.first j at ms l k waits less name awake;
+    first = absorbs_in g ground u u_is w s.first j at ms l k waits less name awake;
     floor = s.floor;
-    floors = absorbs_floors g ground u lo hi w s.first j at ms l k waits less name awake s.floor s.floors;
+    floors = absorbs_floors g ground u u_is w s.first j at ms l k waits less name awake s.floor s.floors;
     scans =
         scans_relabel g _ _ _ _ (acts g u (record (w.at u) { head = record (w.at u).head { find_count = find_more (w.at u).head.phase (w.at u).head.find_count }; mark = put (w.at u).mark j Branch }) (put (w.seen u) j (record (w.seen u j) { tree = ms })) ((j, Initiate (w.at u).head.level k (w.at u).head.phase) ∷ []) w)
         (now g u (record (w.at u) { head = record (w.at u).head { find_count = find_more (w.at u).head.phase (w.at u).head.find_count }; mark = put (w.at u).mark j Branch }) w.at s.scans
         (fewer g u (w.at u) (record (w.at u) { head = record (w.at u).head { find_count = find_more (w.at u).head.phase (w.at u).head.find_count }; mark = put (w.at u).mark j Branch }) refl refl refl (basic_still (w.at u).mark j) (s.scans u this)));
-    lives = absorbs_lives g ground u lo hi w s.first s.lives j at ms l k waits less name awake;
+    lives = absorbs_lives g ground u u_is w s.first s.lives j at ms l k waits less name awake;
   }
 
 -- a node wakes
-module _ (g : Network) (ground : Ground g) (u : ℕ) (lo : 1 ≤ u) (hi : u ≤ g.count) (w : Scene) (s : Sound g w) (sleeps : (w.at u).head.phase ≡ Sleeping) where
+module _ (g : Network) (ground : Ground g) (u : ℕ) (u_is : InNetwork g u) (w : Scene) (s : Sound g w) (sleeps : (w.at u).head.phase ≡ Sleeping) where
   abbrev waker : Member
   waker = record (w.at u) { head = record (w.at u).head { level = 0; phase = Found; find_count = 0 }; mark = put (w.at u).mark 0 Branch; up = Some 0 }
 
@@ -183,22 +183,22 @@ module _ (g : Network) (ground : Ground g) (u : ℕ) (lo : 1 ≤ u) (hi : u ≤ 
   awoken = now g u waker w.at s.scans (rests_scan g u waker (λ e. let z : Found ≡ Find = e in cc))
 
   pub wake_out_sound : (at : At g u 0) → (w.at (far g u 0)).mark (far_port g u 0) ≢ Branch → Sound g (acts g u (record (w.at u) { head = record (w.at u).head { level = 0; phase = Found; find_count = 0 }; mark = put (w.at u).mark 0 Branch; up = Some 0 }) (w.seen u) ((0, Connect 0) ∷ []) w)
-  wake_out_sound at m = record { first = wakes_out g ground.wired u lo hi w s.first at sleeps m; floor = put s.floor u (Some (Some (port_at g u 0).key)); floors = wakes_out_floors g ground u lo hi w s.first at sleeps s.floor s.floors m; scans = awoken; lives = wakes_out_lives g ground.wired u lo hi w s.first s.lives at sleeps m }
+  wake_out_sound at m = record { first = wakes_out g ground.wired u u_is w s.first at sleeps m; floor = put s.floor u (Some (Some (port_at g u 0).key)); floors = wakes_out_floors g ground u u_is w s.first at sleeps s.floor s.floors m; scans = awoken; lives = wakes_out_lives g ground.wired u u_is w s.first s.lives at sleeps m }
 
   pub wake_meeting_sound : (at : At g u 0) → (w.at (far g u 0)).mark (far_port g u 0) ≡ Branch → Sound g (meet g u 0 (acts g u (record (w.at u) { head = record (w.at u).head { level = 0; phase = Found; find_count = 0 }; mark = put (w.at u).mark 0 Branch; up = Some 0 }) (w.seen u) ((0, Connect 0) ∷ []) w))
   wake_meeting_sound at m = record {
-    first = wakes_meeting g ground.wired u lo hi w s.first at sleeps ground m;
+    first = wakes_meeting g ground.wired u u_is w s.first at sleeps ground m;
     floor = put s.floor u (Some (Some (port_at g u 0).key));
-    floors = wakes_meeting_floors g ground u lo hi w s.first at sleeps s.floor s.floors m;
+    floors = wakes_meeting_floors g ground u u_is w s.first at sleeps s.floor s.floors m;
     scans = scans_relabel g _ _ _ _ (acts g u (record (w.at u) { head = record (w.at u).head { level = 0; phase = Found; find_count = 0 }; mark = put (w.at u).mark 0 Branch; up = Some 0 }) (w.seen u) ((0, Connect 0) ∷ []) w) awoken;
-    lives = wakes_meeting_lives g ground.wired u lo hi w s.first s.lives at sleeps ground m;
+    lives = wakes_meeting_lives g ground.wired u u_is w s.first s.lives at sleeps ground m;
   }
 
   pub lone_sound : ◌≡◌ {A = ℕ} (length (g.ports u)) 0 → Sound g (acts g u (record (w.at u) { head = record (w.at u).head { phase = Found; halted = true } }) (w.seen u) [] w)
   lone_sound none = record {
-    first = lone.wakes_alone g ground.wired u lo hi w s.first none sleeps;
+    first = lone.wakes_alone g ground.wired u u_is w s.first none sleeps;
     floor = s.floor;
-    floors = lone_floors g ground.wired u lo hi w s.first none sleeps s.floor s.floors;
+    floors = lone_floors g ground.wired u u_is w s.first none sleeps s.floor s.floors;
     scans = now g u (record (w.at u) { head = record (w.at u).head { phase = Found; halted = true } }) w.at s.scans (rests_scan g u (record (w.at u) { head = record (w.at u).head { phase = Found; halted = true } }) (λ e. let z : Found ≡ Find = e in cc));
-    lives = lone_lives g ground.wired u lo hi w s.lives none;
+    lives = lone_lives g ground.wired u u_is w s.lives none;
   }

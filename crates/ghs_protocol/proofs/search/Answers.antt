@@ -7,7 +7,7 @@ use Rattle.ghs_node.specs.declared.mark.Mark.TheVariants.{Branch}
 use Rattle.ghs_node.specs.declared.message.Phase.TheVariants.{Find}
 use Rattle.ghs_node.specs.declared.message.Message.{Message}
 use Rattle.ghs_node.specs.declared.message.Message.TheVariants.{Report}
-use Rattle.ghs_protocol.specs.Network.{Network, port_at, At, far, far_port, IsWired}
+use Rattle.ghs_protocol.specs.Network.{Network, port_at, At, far, far_port, IsWired, InNetwork}
 use Rattle.ghs_protocol.specs.Net.{put}
 use Rattle.ghs_protocol.proofs.clauses.Scene.{Seen, Member, Scene, End, TreeEnd, tree_end, test_end, end, acts, far_end}
 use Rattle.ghs_protocol.proofs.clauses.Nodes.{NodeFits}
@@ -44,9 +44,9 @@ key_same p j k l e = key_Some k l (ap best_key e)
 pub better_at : (o : Best) (j : ℕ) (w : Option Key) (p : ℕ) (k : Key) → better o j w ≡ Some (p, k) → (o ≡ Some (p, k)) ⊎ ((p ≡ j) × (w ≡ Some k))
 better_at o j w p k e = ⊎_elim (λ z. inl (sym z ∙ e)) (λ t. let y : Some (p, k) ≡ Some (j, t.0) = sym e ∙ t.2 in inr (port_same p j k t.0 y, t.1 ∙ ap Some (sym (key_same p j k t.0 y)))) (better_is o j w)
 
-module _ (g : Network) (wired : IsWired g) (u : ℕ) (lo : 1 ≤ u) (hi : u ≤ g.count) (j : ℕ) (at : At g u j) (w : Scene) (holds : Invariant g w) where
+module _ (g : Network) (wired : IsWired g) (u : ℕ) (u_is : InNetwork g u) (j : ℕ) (at : At g u j) (w : Scene) (holds : Invariant g w) where
   my_fits : NodeFits (length (g.ports u)) (w.at u)
-  my_fits = holds.nodes u (record { some = lo; node = hi })
+  my_fits = holds.nodes u u_is
 
   lnk : LinkFits (NamesOf g w) (end g w u j) (far_end g w u j)
   lnk = at_near g wired w (LinkFits (NamesOf g w)) holds.links u j at
@@ -62,7 +62,7 @@ module _ (g : Network) (wired : IsWired g) (u : ℕ) (lo : 1 ≤ u) (hi : u ≤ 
 
   -- at a node that searches each Branch link is joined
   branch_joined : (i : ℕ) → At g u i → (w.at u).head.phase ≡ Find → (w.at u).mark i ≡ Branch → Joins (tree_end (end g w u i)) (tree_end (far_end g w u i))
-  branch_joined i at' finds here = ⊎_elim (λ b. record { here = here; there = b }) (λ b. absurd (let z = (holds.resting.out u i at' (record { here = here; there = b })).found u (record { some = lo; node = hi }) refl in cc (z, finds))) (mark_is ((w.at (far g u i)).mark (far_port g u i)))
+  branch_joined i at' finds here = ⊎_elim (λ b. record { here = here; there = b }) (λ b. absurd (let z = (holds.resting.out u i at' (record { here = here; there = b })).found u u_is refl in cc (z, finds))) (mark_is ((w.at (far g u i)).mark (far_port g u i)))
 
   -- an Accept is heard
   module _ (a : ℕ) (waits : (w.seen u j).accepts ≡ suc a) (own : (w.at u).head.probe ≡ Some j) where
@@ -96,7 +96,7 @@ module _ (g : Network) (wired : IsWired g) (u : ℕ) (lo : 1 ≤ u) (hi : u ≤ 
 
     pub hears_accept : Invariant g (acts g u (record (w.at u) { head = record (w.at u).head { probe = None; best = better (w.at u).head.best j (Some (port_at g u j).key) } }) (put (w.seen u) j (record (w.seen u j) { accepts = a })) [] w)
     hears_accept =
-        kept_one g wired u lo hi x j at (record (w.seen u j) { accepts = a }) [] [] (sends_none j) w
+        kept_one g wired u u_is x j at (record (w.seen u j) { accepts = a }) [] [] (sends_none j) w
         (record { alike = record { fragment = refl; coming = refl; coming_name = refl; up = refl; branch = λ p. refl }; found = λ e. e; mine = λ e. e; theirs = λ e. e })
         holds
         (node_turned (length (g.ports u)) (w.at u) (w.at u).mark None _ _ my_fits (λ z. cc (finds, z)) (λ p. refl) my_fits.own_ports.mark (λ p z. absurd (not_some None p refl z)) (λ z. absurd (z finds)) best_fits)
@@ -105,7 +105,7 @@ module _ (g : Network) (wired : IsWired g) (u : ℕ) (lo : 1 ≤ u) (hi : u ≤ 
         (λ i at' ne h h'. record { tree = tree_best (tree_end (end g w u i)) (tree_end (far_end g w u i)) b finds keeps h.tree; search = search_best (tree_end (end g w u i)) (tree_end (far_end g w u i)) b finds keeps (new i) h.search; tests = tests_aside (test_end (end g w u i)) (test_end (far_end g w u i)) None _ _ (λ z. ne (sym (same_Some j i (sym own ∙ z)))) (not_some None i refl) (le_refl _) h.tests h'.tests })
         (λ i at' ne h h'. record { tree = tree_best' (tree_end (end g w u i)) (tree_end (far_end g w u i)) b finds keeps h'.tree; search = search_best' (tree_end (end g w u i)) (tree_end (far_end g w u i)) b finds keeps h'.search; tests = tests_aside' (test_end (end g w u i)) (test_end (far_end g w u i)) None _ (w.at u).head.name (λ z. ne (sym (same_Some j i (sym own ∙ z)))) (not_some None i refl) (le_refl _) h.tests h'.tests })
         (λ e. e) refl
-        (sums_one g wired u lo hi x j at (record (w.seen u j) { accepts = a }) [] [] (sends_none j) w holds.counted refl (λ i ne. refl) refl (λ i ne. refl))
+        (sums_one g wired u u_is x j at (record (w.seen u j) { accepts = a }) [] [] (sends_none j) w holds.counted refl (λ i ne. refl) refl (λ i ne. refl))
       where
         b : Best
         b = better (w.at u).head.best j (Some (port_at g u j).key)
@@ -148,7 +148,7 @@ module _ (g : Network) (wired : IsWired g) (u : ℕ) (lo : 1 ≤ u) (hi : u ≤ 
     pub hears_report : Invariant g (acts g u (record (w.at u) { head = record (w.at u).head { find_count = c; best = better (w.at u).head.best j k } }) (put (w.seen u) j (record (w.seen u j) { tree = [] })) [] w)
     unfolding b'
     hears_report =
-        kept_one g wired u lo hi x j at q [] [] (sends_none j) w
+        kept_one g wired u u_is x j at q [] [] (sends_none j) w
         (record { alike = record { fragment = refl; coming = refl; coming_name = refl; up = refl; branch = λ p. refl }; found = λ e. e; mine = λ e. refl; theirs = λ e. e })
         holds
         (node_turned (length (g.ports u)) (w.at u) (w.at u).mark _ c _ my_fits (λ z. cc (finds', z)) (λ p. refl) my_fits.own_ports.mark my_fits.own_ports.probe (λ z. absurd (z finds')) best_fits')
@@ -157,7 +157,7 @@ module _ (g : Network) (wired : IsWired g) (u : ℕ) (lo : 1 ≤ u) (hi : u ≤ 
         (λ i at' ne h h'. record { tree = tree_best (tree_end (end g w u i)) (tree_end (far_end g w u i)) b' finds' keeps' h.tree; search = search_best (tree_end (end g w u i)) (tree_end (far_end g w u i)) b' finds' keeps' (new' i) h.search; tests = record { probing = h.tests.probing; not_probing = h.tests.not_probing } })
         (λ i at' ne h h'. record { tree = tree_best' (tree_end (end g w u i)) (tree_end (far_end g w u i)) b' finds' keeps' h'.tree; search = search_best' (tree_end (end g w u i)) (tree_end (far_end g w u i)) b' finds' keeps' h'.search; tests = record { probing = h'.tests.probing; not_probing = h'.tests.not_probing } })
         (λ e. e) refl
-        (sums_one g wired u lo hi x j at q [] [] (sends_none j) w holds.counted (omega (arith, count, was, is)) (λ i ne. refl) (debt_up (far_end g w u j) here' heard.child.up ∙ sym (debt_up (far_end g w u j) (end g w u j) heard.child.up)) (λ i ne. refl))
+        (sums_one g wired u u_is x j at q [] [] (sends_none j) w holds.counted (omega (arith, count, was, is)) (λ i ne. refl) (debt_up (far_end g w u j) here' heard.child.up ∙ sym (debt_up (far_end g w u j) (end g w u j) heard.child.up)) (λ i ne. refl))
       where
         q : Seen
         q = record (w.seen u j) { tree = [] }

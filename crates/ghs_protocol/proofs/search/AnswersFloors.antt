@@ -30,7 +30,7 @@ use Rattle.ghs_protocol.proofs.acts.Floors.{near_fits, far_fits, lower_on, lower
 use Rattle.ghs_protocol.proofs.search.CloseFloors.{nodes_after, links_after, in_tree_after, halted_after, halted_more}
 
 -- One link is touched, and nothing is sent.
-module _ (g : Network) (wired : IsWired g) (u : ℕ) (lo : 1 ≤ u) (hi : u ≤ g.count) (x : Member) (j : ℕ) (at : At g u j) (q : Seen) (w : Scene) (floor : ℕ → Floor) (floors : Floors g w floor) where
+module _ (g : Network) (wired : IsWired g) (u : ℕ) (u_is : InNetwork g u) (x : Member) (j : ℕ) (at : At g u j) (q : Seen) (w : Scene) (floor : ℕ → Floor) (floors : Floors g w floor) where
   abbrev pub still : ℕ → End
   still i = record { port = i; key = (port_at g u i).key; mark = x.mark i; is = x; seen = w.seen u i }
 
@@ -44,17 +44,17 @@ module _ (g : Network) (wired : IsWired g) (u : ℕ) (lo : 1 ≤ u) (hi : u ≤ 
       Floors g (acts g u x (put (w.seen u) j q) [] w) floor
   hears_floors hit hit' miss miss' node marks halted =
       subst (Floors g (acts g u x (put (w.seen u) j q) [] w)) (put_again floor u) (record {
-        nodes = nodes_after g wired u lo hi x (put (w.seen u) j q) [] w floor floors (floor u) node;
+        nodes = nodes_after g wired u u_is x (put (w.seen u) j q) [] w floor floors (floor u) node;
         links =
-            links_after g wired u lo hi x (put (w.seen u) j q) [] w floor floors (floor u)
-            (by_port_at g wired u lo hi x j at q [] [] (sends_none j) w (λ i e f. FloorsAt e f (floor u) (floor (far g u i))) hit miss)
-            (by_port_at g wired u lo hi x j at q [] [] (sends_none j) w (λ i e f. FloorsAt f e (floor (far g u i)) (floor u)) hit' miss');
-        in_tree = in_tree_after g wired u lo hi x (put (w.seen u) j q) [] w floor floors (floor u) (λ p at' z. floors.in_tree u p at' (marks p z));
+            links_after g wired u u_is x (put (w.seen u) j q) [] w floor floors (floor u)
+            (by_port_at g wired u u_is x j at q [] [] (sends_none j) w (λ i e f. FloorsAt e f (floor u) (floor (far g u i))) hit miss)
+            (by_port_at g wired u u_is x j at q [] [] (sends_none j) w (λ i e f. FloorsAt f e (floor (far g u i)) (floor u)) hit' miss');
+        in_tree = in_tree_after g wired u u_is x (put (w.seen u) j q) [] w floor floors (floor u) (λ p at' z. floors.in_tree u p at' (marks p z));
         halted = halted;
       })
 
 -- A Report of the core's other half, or an old one, is heard at rest.
-module _ (g : Network) (wired : IsWired g) (u : ℕ) (lo : 1 ≤ u) (hi : u ≤ g.count) (j : ℕ) (at : At g u j) (w : Scene) (holds : Invariant g w) (k : Option Key) (ms : List Message) (waits : (w.seen u j).tree ≡ Report k ∷ ms) (rests : (w.at u).head.phase ≡ Found) (floor : ℕ → Floor) (floors : Floors g w floor) where
+module _ (g : Network) (wired : IsWired g) (u : ℕ) (u_is : InNetwork g u) (j : ℕ) (at : At g u j) (w : Scene) (holds : Invariant g w) (k : Option Key) (ms : List Message) (waits : (w.seen u j).tree ≡ Report k ∷ ms) (rests : (w.at u).head.phase ≡ Found) (floor : ℕ → Floor) (floors : Floors g w floor) where
   link : LinkFits (NamesOf g w) (end g w u j) (far_end g w u j)
   link = link_fits g wired w holds u j at
 
@@ -65,7 +65,7 @@ module _ (g : Network) (wired : IsWired g) (u : ℕ) (lo : 1 ≤ u) (hi : u ≤ 
   ways = link_leads g wired w holds u j at
 
   mine : (w.at u).up ≢ Some j → ⊥
-  mine ne = let z = owed_finds g wired u lo hi j at w holds ne (rw waits refl) in cc (z, rests)
+  mine ne = let z = owed_finds g wired u u_is j at w holds ne (rw waits refl) in cc (z, rests)
 
   came : Back (NamesOf g w (w.at u).fragment) (tree_end (end g w u j)) (tree_end (far_end g w u j)) k ms
   came = back (tree_end (end g w u j)) (tree_end (far_end g w u j)) link.tree link'.tree ways k ms waits mine
@@ -146,11 +146,11 @@ module _ (g : Network) (wired : IsWired g) (u : ℕ) (lo : 1 ≤ u) (hi : u ≤ 
   pub ends_floors : (b : Bool) → (b ≡ (w.at u).head.halted) ⊎ ((k ≡ None) × ((w.at u).head.best ≡ None)) →
       Floors g (acts g u (record (w.at u) { head = record (w.at u).head { halted = b } }) (put (w.seen u) j (record (w.seen u j) { tree = ms })) [] w) floor
   ends_floors b why =
-      hears_floors g wired u lo hi (record (w.at u) { head = record (w.at u).head { halted = b } }) j at (record (w.seen u j) { tree = ms }) w floor floors
+      hears_floors g wired u u_is (record (w.at u) { head = record (w.at u).head { halted = b } }) j at (record (w.seen u j) { tree = ms }) w floor floors
       (near_taken b) (far_taken b) (λ i at' ne. near_fits g wired w holds floor floors u i at') (λ i at' ne. far_fits g wired w holds floor floors u i at')
-      (let z = floors.nodes u (record { some = lo; node = hi }) in record { asleep = z.asleep; search = z.search }) (λ p z. z)
-      (⊎_elim (λ e. halted_after g wired u lo hi (record (w.at u) { head = record (w.at u).head { halted = b } }) (put (w.seen u) j (record (w.seen u j) { tree = ms })) [] w floor floors (floor u) refl e)
-      (λ h. halted_more g wired u lo hi (record (w.at u) { head = record (w.at u).head { halted = b } }) (put (w.seen u) j (record (w.seen u j) { tree = ms })) [] w floor floors (floor u) refl (whole h.0 h.1)) why)
+      (let z = floors.nodes u u_is in record { asleep = z.asleep; search = z.search }) (λ p z. z)
+      (⊎_elim (λ e. halted_after g wired u u_is (record (w.at u) { head = record (w.at u).head { halted = b } }) (put (w.seen u) j (record (w.seen u j) { tree = ms })) [] w floor floors (floor u) refl e)
+      (λ h. halted_more g wired u u_is (record (w.at u) { head = record (w.at u).head { halted = b } }) (put (w.seen u) j (record (w.seen u j) { tree = ms })) [] w floor floors (floor u) refl (whole h.0 h.1)) why)
 
 -- Another best.
 
@@ -210,9 +210,9 @@ module _ (e f : TreeEnd) (b : Best) (a c : Floor) (finds : e.phase ≡ Find) whe
   }
 
 -- a node that searches
-module _ (g : Network) (wired : IsWired g) (u : ℕ) (lo : 1 ≤ u) (hi : u ≤ g.count) (w : Scene) (holds : Invariant g w) (finds : (w.at u).head.phase ≡ Find) where
+module _ (g : Network) (wired : IsWired g) (u : ℕ) (u_is : InNetwork g u) (w : Scene) (holds : Invariant g w) (finds : (w.at u).head.phase ≡ Find) where
   its : InNetwork g u
-  its = record { some = lo; node = hi }
+  its = u_is
 
   at_top : (w.at u).head.level ≡ (w.at u).coming
   at_top = ((holds.nodes u its).searching finds).level
@@ -224,9 +224,9 @@ module _ (g : Network) (wired : IsWired g) (u : ℕ) (lo : 1 ≤ u) (hi : u ≤ 
   root_unmoved i at m = restless (holds.resting.moved u i at (record { both = record { joins = record { here = m.both.joins.here; there = m.both.joins.there }; up = m.both.up; up_beyond = m.both.up_beyond }; unnamed = m.unnamed }))
 
 -- An Accept is heard.
-module _ (g : Network) (wired : IsWired g) (u : ℕ) (lo : 1 ≤ u) (hi : u ≤ g.count) (j : ℕ) (at : At g u j) (w : Scene) (holds : Invariant g w) (a : ℕ) (waits : (w.seen u j).accepts ≡ suc a) (own : (w.at u).head.probe ≡ Some j) (floor : ℕ → Floor) (floors : Floors g w floor) where
+module _ (g : Network) (wired : IsWired g) (u : ℕ) (u_is : InNetwork g u) (j : ℕ) (at : At g u j) (w : Scene) (holds : Invariant g w) (a : ℕ) (waits : (w.seen u j).accepts ≡ suc a) (own : (w.at u).head.probe ≡ Some j) (floor : ℕ → Floor) (floors : Floors g w floor) where
   finds : (w.at u).head.phase ≡ Find
-  finds = probing_finds (holds.nodes u (record { some = lo; node = hi })) own
+  finds = probing_finds (holds.nodes u u_is) own
 
   abbrev b : Best
   b = better (w.at u).head.best j (Some (port_at g u j).key)
@@ -241,17 +241,17 @@ module _ (g : Network) (wired : IsWired g) (u : ℕ) (lo : 1 ≤ u) (hi : u ≤ 
       (better_at (w.at u).head.best j (Some (port_at g u j).key) i y e)
 
   near_accepts : (i : ℕ) → At g u i → FloorsFit (record (tree_end (end g w u i)) { best = b }) (tree_end (far_end g w u i)) (floor u) (floor (far g u i))
-  near_accepts i at' = near_best (tree_end (end g w u i)) (tree_end (far_end g w u i)) b (floor u) (floor (far g u i)) finds (root_unmoved g wired u lo hi w holds finds i at') (news i at') (λ z. at_top g wired u lo hi w holds finds) (at_top g wired u lo hi w holds finds) (near_fits g wired w holds floor floors u i at')
+  near_accepts i at' = near_best (tree_end (end g w u i)) (tree_end (far_end g w u i)) b (floor u) (floor (far g u i)) finds (root_unmoved g wired u u_is w holds finds i at') (news i at') (λ z. at_top g wired u u_is w holds finds) (at_top g wired u u_is w holds finds) (near_fits g wired w holds floor floors u i at')
 
   far_accepts : (i : ℕ) → At g u i → FloorsFit (tree_end (far_end g w u i)) (record (tree_end (end g w u i)) { best = b }) (floor (far g u i)) (floor u)
   far_accepts i at' = far_best (tree_end (end g w u i)) (tree_end (far_end g w u i)) b (floor u) (floor (far g u i)) finds (better_lower (w.at u).head.best j (Some (port_at g u j).key)) (far_fits g wired w holds floor floors u i at')
 
   pub accept_floors : Floors g (acts g u (record (w.at u) { head = record (w.at u).head { probe = None; best = better (w.at u).head.best j (Some (port_at g u j).key) } }) (put (w.seen u) j (record (w.seen u j) { accepts = a })) [] w) floor
   accept_floors =
-      hears_floors g wired u lo hi (record (w.at u) { head = record (w.at u).head { probe = None; best = better (w.at u).head.best j (Some (port_at g u j).key) } }) j at (record (w.seen u j) { accepts = a }) w floor floors
+      hears_floors g wired u u_is (record (w.at u) { head = record (w.at u).head { probe = None; best = better (w.at u).head.best j (Some (port_at g u j).key) } }) j at (record (w.seen u j) { accepts = a }) w floor floors
       (near_accepts j at) (far_accepts j at) (λ i at' ne. near_accepts i at') (λ i at' ne. far_accepts i at')
-      (let z = floors.nodes u (record { some = lo; node = hi }) in record { asleep = z.asleep; search = z.search }) (λ p z. z)
-      (halted_after g wired u lo hi (record (w.at u) { head = record (w.at u).head { probe = None; best = better (w.at u).head.best j (Some (port_at g u j).key) } }) (put (w.seen u) j (record (w.seen u j) { accepts = a })) [] w floor floors (floor u) refl refl)
+      (let z = floors.nodes u u_is in record { asleep = z.asleep; search = z.search }) (λ p z. z)
+      (halted_after g wired u u_is (record (w.at u) { head = record (w.at u).head { probe = None; best = better (w.at u).head.best j (Some (port_at g u j).key) } }) (put (w.seen u) j (record (w.seen u j) { accepts = a })) [] w floor floors (floor u) refl refl)
 
   -- and the ports that are left aren't below the new best
   pub accept_scans : ((q : ℕ) → (w.at u).mark q ≡ Basic → key_lt (port_at g u q).key (port_at g u j).key ≡ false) → (q : ℕ) → (w.at u).mark q ≡ Basic →
@@ -259,10 +259,10 @@ module _ (g : Network) (wired : IsWired g) (u : ℕ) (lo : 1 ≤ u) (hi : u ≤ 
   accept_scans probed q m = above_best (Some (port_at g u q).key) (Some (port_at g u j).key) (best_key b) (better_heard (w.at u).head.best j (Some (port_at g u j).key)) (probed q m)
 
 -- A child's Report is heard.
-module _ (g : Network) (wired : IsWired g) (u : ℕ) (lo : 1 ≤ u) (hi : u ≤ g.count) (j : ℕ) (at : At g u j) (w : Scene) (holds : Invariant g w) (k : Option Key) (ms : List Message) (c : ℕ) (waits : (w.seen u j).tree ≡ Report k ∷ ms) (away : (w.at u).head.in_branch ≢ Some j) (count : (w.at u).head.find_count ≡ suc c)
+module _ (g : Network) (wired : IsWired g) (u : ℕ) (u_is : InNetwork g u) (j : ℕ) (at : At g u j) (w : Scene) (holds : Invariant g w) (k : Option Key) (ms : List Message) (c : ℕ) (waits : (w.seen u j).tree ≡ Report k ∷ ms) (away : (w.at u).head.in_branch ≢ Some j) (count : (w.at u).head.find_count ≡ suc c)
     (floor : ℕ → Floor) (floors : Floors g w floor) where
   searches : (w.at u).head.phase ≡ Find
-  searches = ⊎_elim (λ h. h) (λ ne. absurd (let z = ((holds.nodes u (record { some = lo; node = hi })).idle ne).1 in omega (arith, z, count))) (is_find' (w.at u).head.phase)
+  searches = ⊎_elim (λ h. h) (λ ne. absurd (let z = ((holds.nodes u u_is).idle ne).1 in omega (arith, z, count))) (is_find' (w.at u).head.phase)
 
   abbrev best' : Best
   best' = better (w.at u).head.best j k
@@ -277,7 +277,7 @@ module _ (g : Network) (wired : IsWired g) (u : ℕ) (lo : 1 ≤ u) (hi : u ≤ 
   learnt i at' y e z = ⊎_elim inl (λ t. inr (subst (λ v. floor (far g u v) ≡ Some (Some y)) (sym t.0) (child_floor ∙ ap Some t.1))) (better_at (w.at u).head.best j k i y e)
 
   near_hears : (i : ℕ) → At g u i → FloorsFit (record (tree_end (end g w u i)) { best = best' }) (tree_end (far_end g w u i)) (floor u) (floor (far g u i))
-  near_hears i at' = near_best (tree_end (end g w u i)) (tree_end (far_end g w u i)) best' (floor u) (floor (far g u i)) searches (root_unmoved g wired u lo hi w holds searches i at') (learnt i at') (λ z. at_top g wired u lo hi w holds searches) (at_top g wired u lo hi w holds searches) (near_fits g wired w holds floor floors u i at')
+  near_hears i at' = near_best (tree_end (end g w u i)) (tree_end (far_end g w u i)) best' (floor u) (floor (far g u i)) searches (root_unmoved g wired u u_is w holds searches i at') (learnt i at') (λ z. at_top g wired u u_is w holds searches) (at_top g wired u u_is w holds searches) (near_fits g wired w holds floor floors u i at')
 
   far_hears : (i : ℕ) → At g u i → FloorsFit (tree_end (far_end g w u i)) (record (tree_end (end g w u i)) { best = best' }) (floor (far g u i)) (floor u)
   far_hears i at' = far_best (tree_end (end g w u i)) (tree_end (far_end g w u i)) best' (floor u) (floor (far g u i)) searches (better_lower (w.at u).head.best j k) (far_fits g wired w holds floor floors u i at')
@@ -313,10 +313,10 @@ module _ (g : Network) (wired : IsWired g) (u : ℕ) (lo : 1 ≤ u) (hi : u ≤ 
 
   pub report_floors : Floors g (acts g u (record (w.at u) { head = record (w.at u).head { find_count = c; best = better (w.at u).head.best j k } }) (put (w.seen u) j (record (w.seen u j) { tree = [] })) [] w) floor
   report_floors =
-      hears_floors g wired u lo hi (record (w.at u) { head = record (w.at u).head { find_count = c; best = better (w.at u).head.best j k } }) j at (record (w.seen u j) { tree = [] }) w floor floors
+      hears_floors g wired u u_is (record (w.at u) { head = record (w.at u).head { find_count = c; best = better (w.at u).head.best j k } }) j at (record (w.seen u j) { tree = [] }) w floor floors
       near_popped far_popped (λ i at' ne. near_hears i at') (λ i at' ne. far_hears i at')
-      (let z = floors.nodes u (record { some = lo; node = hi }) in record { asleep = z.asleep; search = z.search }) (λ p z. z)
-      (halted_after g wired u lo hi (record (w.at u) { head = record (w.at u).head { find_count = c; best = better (w.at u).head.best j k } }) (put (w.seen u) j (record (w.seen u j) { tree = [] })) [] w floor floors (floor u) refl refl)
+      (let z = floors.nodes u u_is in record { asleep = z.asleep; search = z.search }) (λ p z. z)
+      (halted_after g wired u u_is (record (w.at u) { head = record (w.at u).head { find_count = c; best = better (w.at u).head.best j k } }) (put (w.seen u) j (record (w.seen u j) { tree = [] })) [] w floor floors (floor u) refl refl)
 
   -- and the ports that are left aren't below the new best
   pub report_scans : ((q : ℕ) → (w.at u).mark q ≡ Basic → below (Some (port_at g u q).key) (best_key (w.at u).head.best) ≡ false) → (q : ℕ) → (w.at u).mark q ≡ Basic → below (Some (port_at g u q).key) (best_key (better (w.at u).head.best j k)) ≡ false

@@ -7,7 +7,7 @@ use Rattle.ghs_node.specs.declared.mark.Mark.TheVariants.{Branch}
 use Rattle.ghs_node.specs.declared.message.Phase.TheVariants.{Sleeping, Find, Found}
 use Rattle.ghs_node.specs.declared.message.Message.{Message}
 use Rattle.ghs_node.specs.declared.message.Message.TheVariants.{Connect, Initiate, Test, Accept, Reject, Report, ChangeRoot}
-use Rattle.ghs_protocol.specs.Network.{Network, port_at, At, far, far_port, IsWired}
+use Rattle.ghs_protocol.specs.Network.{Network, port_at, At, far, far_port, IsWired, InNetwork}
 use Rattle.ghs_protocol.specs.Net.{put}
 use Rattle.ghs_protocol.proofs.clauses.Scene.{Member, Scene, End, TreeEnd, tree_end, end, acts, far_end}
 use Rattle.ghs_protocol.proofs.clauses.Nodes.{NodeFits}
@@ -160,9 +160,9 @@ has_call_append (Reject ∷ xs) k = has_call_append xs k
 has_call_append (Report r ∷ xs) k = has_call_append xs k
 has_call_append (ChangeRoot ∷ xs) k = has_call_append xs k
 
-module _ (g : Network) (wired : IsWired g) (u : ℕ) (lo : 1 ≤ u) (hi : u ≤ g.count) (j : ℕ) (at : At g u j) (w : Scene) (holds : Invariant g w) (finds : (w.at u).head.phase ≡ Find) (back : (w.at u).head.in_branch ≡ Some j) (quit : (w.at u).head.probe ≡ None) (at_zero : ◌≡◌ {A = ℕ} (w.at u).head.find_count 0) where
+module _ (g : Network) (wired : IsWired g) (u : ℕ) (u_is : InNetwork g u) (j : ℕ) (at : At g u j) (w : Scene) (holds : Invariant g w) (finds : (w.at u).head.phase ≡ Find) (back : (w.at u).head.in_branch ≡ Some j) (quit : (w.at u).head.probe ≡ None) (at_zero : ◌≡◌ {A = ℕ} (w.at u).head.find_count 0) where
   fits' : NodeFits (length (g.ports u)) (w.at u)
-  fits' = holds.nodes u (record { some = lo; node = hi })
+  fits' = holds.nodes u u_is
 
   link : LinkFits (NamesOf g w) (end g w u j) (far_end g w u j)
   link = at_near g wired w (LinkFits (NamesOf g w)) holds.links u j at
@@ -183,7 +183,7 @@ module _ (g : Network) (wired : IsWired g) (u : ℕ) (lo : 1 ≤ u) (hi : u ≤ 
   branch = let z = fits'.points (λ y. cc (finds, y)) (omega (arith, at.port)) in subst (λ y. (w.at u).mark y ≡ Branch) (same_Some z.port j (sym z.up ∙ up)) z.mark
 
   pub busy : Quiet g w (w.at u).fragment → ⊥
-  busy q = let z = q.found u (record { some = lo; node = hi }) refl in cc (z, finds)
+  busy q = let z = q.found u u_is refl in cc (z, finds)
 
   pub joins' : Joins (tree_end (end g w u j)) (tree_end (facing j))
   joins' = ⊎_elim (λ b. record { here = branch; there = b }) (λ b. absurd (busy (holds.resting.out u j at (record { here = branch; there = b })))) (mark_is ((w.at (far g u j)).mark (far_port g u j)))
@@ -241,7 +241,7 @@ module _ (g : Network) (wired : IsWired g) (u : ℕ) (lo : 1 ≤ u) (hi : u ≤ 
   pub closes : Invariant g (acts g u (record (w.at u) { head = record (w.at u).head { phase = Found } }) (put (w.seen u) j (w.seen u j)) ((j, Report (best_key (w.at u).head.best)) ∷ []) w)
   unfolding x k here' there'
   closes =
-      kept_one g wired u lo hi x j at (w.seen u j) (Report k ∷ []) ((j, Report k) ∷ []) (sends_one j (Report k)) w
+      kept_one g wired u u_is x j at (w.seen u j) (Report k ∷ []) ((j, Report k) ∷ []) (sends_one j (Report k)) w
       (record { alike = record { fragment = refl; coming = refl; coming_name = refl; up = refl; branch = λ p. refl }; found = λ e. refl; mine = λ e. e; theirs = λ e. has_call_append (w.seen (far g u j) (far_port g u j)).tree k ∙ e })
       holds node
       (record { tree = tree_reports (tree_end (end g w u j)) (tree_end (facing j)) finds joins' up top back unmoved' link.tree; search = search_trees (found (tree_end (end g w u j))) (tree_end (facing j)) _ _ (search_done (tree_end (end g w u j)) (tree_end (facing j)) finds link.search); tests = record { probing = link.tests.probing; not_probing = link.tests.not_probing } })
@@ -249,7 +249,7 @@ module _ (g : Network) (wired : IsWired g) (u : ℕ) (lo : 1 ≤ u) (hi : u ≤ 
       (λ i at' ne h h'. record { tree = tree_done (tree_end (end g w u i)) (tree_end (facing i)) finds (away i ne) h.tree; search = search_done (tree_end (end g w u i)) (tree_end (facing i)) finds h.search; tests = record { probing = h.tests.probing; not_probing = h.tests.not_probing } })
       (λ i at' ne h h'. record { tree = tree_done' (tree_end (end g w u i)) (tree_end (facing i)) finds (away i ne) h'.tree; search = search_done' (tree_end (end g w u i)) (tree_end (facing i)) finds h'.search; tests = record { probing = h'.tests.probing; not_probing = h'.tests.not_probing } })
       (λ e. absurd (let z : Found ≡ Sleeping = e in cc)) refl
-      (sums_one g wired u lo hi x j at (w.seen u j) (Report k ∷ []) ((j, Report k) ∷ []) (sends_one j (Report k)) w holds.counted same_count (λ i ne. refl) debt_kept debt_aside)
+      (sums_one g wired u u_is x j at (w.seen u j) (Report k ∷ []) ((j, Report k) ∷ []) (sends_one j (Report k)) w holds.counted same_count (λ i ne. refl) debt_kept debt_aside)
     where
       same_count : (w.at u).head.find_count + debt (end g w u j) (facing j) ≡ (w.at u).head.find_count + debt (here' j) there'
       same_count = ap (λ z. (w.at u).head.find_count + z) (debt_up (end g w u j) (facing j) up ∙ sym (debt_up (here' j) there' up))

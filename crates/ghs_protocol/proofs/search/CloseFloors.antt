@@ -38,7 +38,7 @@ pub record FloorsOff (g : Network) (w : Scene) (floor : ℕ → Floor) (u b : �
   pub halted : HaltedIsWhole g w
 
 -- One act: node u becomes x, and has floor a then.
-module _ (g : Network) (wired : IsWired g) (u : ℕ) (lo : 1 ≤ u) (hi : u ≤ g.count) (x : Member) (own : ℕ → Seen) (ss : Outgoing) (w : Scene) (floor : ℕ → Floor) (floors : Floors g w floor) (a : Floor) where
+module _ (g : Network) (wired : IsWired g) (u : ℕ) (u_is : InNetwork g u) (x : Member) (own : ℕ → Seen) (ss : Outgoing) (w : Scene) (floor : ℕ → Floor) (floors : Floors g w floor) (a : Floor) where
   abbrev pub acted : Scene
   acted = acts g u x own ss w
 
@@ -52,25 +52,25 @@ module _ (g : Network) (wired : IsWired g) (u : ℕ) (lo : 1 ≤ u) (hi : u ≤ 
   floor_else v ne = put_other floor u v a ne
 
   pub links_after :
-      ((i : ℕ) → At g u i → FloorsAt (near' g wired u lo hi x own ss w i) (far' g wired u lo hi x own ss w i) a (floor (far g u i))) →
-      ((i : ℕ) → At g u i → FloorsAt (far' g wired u lo hi x own ss w i) (near' g wired u lo hi x own ss w i) (floor (far g u i)) a) →
+      ((i : ℕ) → At g u i → FloorsAt (near' g wired u u_is x own ss w i) (far' g wired u u_is x own ss w i) a (floor (far g u i))) →
+      ((i : ℕ) → At g u i → FloorsAt (far' g wired u u_is x own ss w i) (near' g wired u u_is x own ss w i) (floor (far g u i)) a) →
       (v p : ℕ) → At g v p → FloorsAt (end g acted v p) (end g acted (far g v p) (far_port g v p)) (floor' v) (floor' (far g v p))
   links_after near away =
-      acts_read g wired u lo hi x own ss w (λ v p e f. FloorsAt e f (floor' v) (floor' (far g v p)))
+      acts_read g wired u u_is.some u_is.node x own ss w (λ v p e f. FloorsAt e f (floor' v) (floor' (far g v p)))
       (λ v p at ne ne'. subst₂ (FloorsAt (end g w v p) (end g w (far g v p) (far_port g v p))) (sym (floor_else v ne)) (sym (floor_else (far g v p) ne')) (floors.links v p at))
-      (λ i at. subst₂ (FloorsAt (near' g wired u lo hi x own ss w i) (far' g wired u lo hi x own ss w i)) (sym floor_here) (sym (floor_else (far g u i) (wired.apart u i at))) (near i at))
-      (λ i at. subst₂ (FloorsAt (far' g wired u lo hi x own ss w i) (near' g wired u lo hi x own ss w i)) (sym (floor_else (far g u i) (wired.apart u i at))) (sym (ap floor' (wired.back u i at) ∙ floor_here)) (away i at))
+      (λ i at. subst₂ (FloorsAt (near' g wired u u_is x own ss w i) (far' g wired u u_is x own ss w i)) (sym floor_here) (sym (floor_else (far g u i) (wired.apart u i at))) (near i at))
+      (λ i at. subst₂ (FloorsAt (far' g wired u u_is x own ss w i) (near' g wired u u_is x own ss w i)) (sym (floor_else (far g u i) (wired.apart u i at))) (sym (ap floor' (wired.back u i at) ∙ floor_here)) (away i at))
 
   -- the links but that at port b
   pub links_after_off : (b : ℕ) →
-      ((i : ℕ) → At g u i → i ≢ b → FloorsAt (near' g wired u lo hi x own ss w i) (far' g wired u lo hi x own ss w i) a (floor (far g u i))) →
-      ((i : ℕ) → At g u i → i ≢ b → FloorsAt (far' g wired u lo hi x own ss w i) (near' g wired u lo hi x own ss w i) (floor (far g u i)) a) →
+      ((i : ℕ) → At g u i → i ≢ b → FloorsAt (near' g wired u u_is x own ss w i) (far' g wired u u_is x own ss w i) a (floor (far g u i))) →
+      ((i : ℕ) → At g u i → i ≢ b → FloorsAt (far' g wired u u_is x own ss w i) (near' g wired u u_is x own ss w i) (floor (far g u i)) a) →
       (v p : ℕ) → At g v p → Off g u b v p → FloorsAt (end g acted v p) (end g acted (far g v p) (far_port g v p)) (floor' v) (floor' (far g v p))
   links_after_off b near away =
-      acts_read g wired u lo hi x own ss w (λ v p e f. Off g u b v p → FloorsAt e f (floor' v) (floor' (far g v p)))
+      acts_read g wired u u_is.some u_is.node x own ss w (λ v p e f. Off g u b v p → FloorsAt e f (floor' v) (floor' (far g v p)))
       (λ v p at ne ne' off. subst₂ (FloorsAt (end g w v p) (end g w (far g v p) (far_port g v p))) (sym (floor_else v ne)) (sym (floor_else (far g v p) ne')) (floors.links v p at))
-      (λ i at off. subst₂ (FloorsAt (near' g wired u lo hi x own ss w i) (far' g wired u lo hi x own ss w i)) (sym floor_here) (sym (floor_else (far g u i) (wired.apart u i at))) (near i at (λ e. off.here (refl, e))))
-      (λ i at off. subst₂ (FloorsAt (far' g wired u lo hi x own ss w i) (near' g wired u lo hi x own ss w i)) (sym (floor_else (far g u i) (wired.apart u i at))) (sym (ap floor' (wired.back u i at) ∙ floor_here)) (away i at (λ e. off.there (wired.back u i at, wired.back_port u i at ∙ e))))
+      (λ i at off. subst₂ (FloorsAt (near' g wired u u_is x own ss w i) (far' g wired u u_is x own ss w i)) (sym floor_here) (sym (floor_else (far g u i) (wired.apart u i at))) (near i at (λ e. off.here (refl, e))))
+      (λ i at off. subst₂ (FloorsAt (far' g wired u u_is x own ss w i) (near' g wired u u_is x own ss w i)) (sym (floor_else (far g u i) (wired.apart u i at))) (sym (ap floor' (wired.back u i at) ∙ floor_here)) (away i at (λ e. off.there (wired.back u i at, wired.back_port u i at ∙ e))))
 
   pub nodes_after : NodeFloor x a → (v : ℕ) → InNetwork g v → NodeFloor (acted.at v) (floor' v)
   nodes_after here v is =
@@ -115,10 +115,10 @@ unowed false true e h = cc
 unowed true c e h = cc
 
 -- A node that has heard all reports.
-module _ (g : Network) (wired : IsWired g) (u : ℕ) (lo : 1 ≤ u) (hi : u ≤ g.count) (j : ℕ) (at : At g u j) (w : Scene) (holds : Invariant g w) (finds : (w.at u).head.phase ≡ Find) (back : (w.at u).head.in_branch ≡ Some j) (quit : (w.at u).head.probe ≡ None) (at_zero : ◌≡◌ {A = ℕ} (w.at u).head.find_count 0)
+module _ (g : Network) (wired : IsWired g) (u : ℕ) (u_is : InNetwork g u) (j : ℕ) (at : At g u j) (w : Scene) (holds : Invariant g w) (finds : (w.at u).head.phase ≡ Find) (back : (w.at u).head.in_branch ≡ Some j) (quit : (w.at u).head.probe ≡ None) (at_zero : ◌≡◌ {A = ℕ} (w.at u).head.find_count 0)
     (floor : ℕ → Floor) (floors : Floors g w floor) (scanned : (q : ℕ) → (w.at u).mark q ≡ Basic → below (Some (port_at g u q).key) (best_key (w.at u).head.best) ≡ false) where
   is : InNetwork g u
-  is = record { some = lo; node = hi }
+  is = u_is
 
   abbrev pub k : Option Key
   k = best_key (w.at u).head.best
@@ -143,16 +143,16 @@ module _ (g : Network) (wired : IsWired g) (u : ℕ) (lo : 1 ≤ u) (hi : u ≤ 
   there = record { port = far_port g u j; key = (port_at g u j).key; mark = (w.at (far g u j)).mark (far_port g u j); is = w.at (far g u j); seen = record (w.seen (far g u j) (far_port g u j)) { tree = (w.seen (far g u j) (far_port g u j)).tree ++ Report k ∷ [] } }
 
   joins : Joins (tree_end (end g w u j)) (tree_end (far_end g w u j))
-  joins = joins' g wired u lo hi j at w holds finds back quit at_zero
+  joins = joins' g wired u u_is j at w holds finds back quit at_zero
 
   ups : (w.at u).up ≡ Some j
-  ups = up g wired u lo hi j at w holds finds back quit at_zero
+  ups = up g wired u u_is j at w holds finds back quit at_zero
 
   aside : (i : ℕ) → i ≢ j → (w.at u).up ≢ Some i
-  aside i ne = away g wired u lo hi j at w holds finds back quit at_zero i ne
+  aside i ne = away g wired u u_is j at w holds finds back quit at_zero i ne
 
   restless : Quiet g w (w.at u).fragment → ⊥
-  restless = busy g wired u lo hi j at w holds finds back quit at_zero
+  restless = busy g wired u u_is j at w holds finds back quit at_zero
 
   no_out : (i : ℕ) → At g u i → Out (tree_end (end g w u i)) (tree_end (far_end g w u i)) → ⊥
   no_out i at' o = restless (holds.resting.out u i at' (record { here = o.here; there = o.there }))
@@ -238,7 +238,7 @@ module _ (g : Network) (wired : IsWired g) (u : ℕ) (lo : 1 ≤ u) (hi : u ≤ 
       fits = holds.nodes u is
 
       unmoved : Moved (tree_end (end g w u j)) (tree_end (far_end g w u j)) → ⊥
-      unmoved = unmoved' g wired u lo hi j at w holds finds back quit at_zero
+      unmoved = unmoved' g wired u u_is j at w holds finds back quit at_zero
 
       reported : owes there (still j) ≡ true
       reported = rw (has_report_append (w.seen (far g u j) (far_port g u j)).tree k) refl
@@ -265,16 +265,16 @@ module _ (g : Network) (wired : IsWired g) (u : ℕ) (lo : 1 ≤ u) (hi : u ≤ 
       ghosts = holds.trees.by_fragment (far g u j) u (sym (same_fragment j at joins))
 
       unmoved : Moved (tree_end there) (tree_end (still j)) → ⊥
-      unmoved m = unmoved' g wired u lo hi j at w holds finds back quit at_zero (record { both = record { joins = joins; up = m.both.up_beyond; up_beyond = m.both.up }; unnamed = λ e. m.unnamed (ghosts.1 ∙ e) })
+      unmoved m = unmoved' g wired u u_is j at w holds finds back quit at_zero (record { both = record { joins = joins; up = m.both.up_beyond; up_beyond = m.both.up }; unnamed = λ e. m.unnamed (ghosts.1 ∙ e) })
 
   -- the node reports: its floor is what it reports
   pub closes_floors : Floors g (acts g u x (put (w.seen u) j q) ((j, Report k) ∷ []) w) (put floor u (Some k))
   closes_floors = record {
-    nodes = nodes_after g wired u lo hi x (put (w.seen u) j q) ((j, Report k) ∷ []) w floor floors (Some k) (record { asleep = λ e. absurd (let z : Found ≡ Sleeping = e in cc); search = λ e. absurd (let z : Found ≡ Find = e in cc) });
+    nodes = nodes_after g wired u u_is x (put (w.seen u) j q) ((j, Report k) ∷ []) w floor floors (Some k) (record { asleep = λ e. absurd (let z : Found ≡ Sleeping = e in cc); search = λ e. absurd (let z : Found ≡ Find = e in cc) });
     links =
-        links_after g wired u lo hi x (put (w.seen u) j q) ((j, Report k) ∷ []) w floor floors (Some k)
-        (by_port_at g wired u lo hi x j at q (Report k ∷ []) ((j, Report k) ∷ []) (sends_one j (Report k)) w (λ i e f. FloorsAt e f (Some k) (floor (far g u i))) here_fits near_aside)
-        (by_port_at g wired u lo hi x j at q (Report k ∷ []) ((j, Report k) ∷ []) (sends_one j (Report k)) w (λ i e f. FloorsAt f e (floor (far g u i)) (Some k)) there_fits far_aside);
-    in_tree = in_tree_after g wired u lo hi x (put (w.seen u) j q) ((j, Report k) ∷ []) w floor floors (Some k) (λ p at' m. floors.in_tree u p at' m);
-    halted = halted_after g wired u lo hi x (put (w.seen u) j q) ((j, Report k) ∷ []) w floor floors (Some k) refl refl;
+        links_after g wired u u_is x (put (w.seen u) j q) ((j, Report k) ∷ []) w floor floors (Some k)
+        (by_port_at g wired u u_is x j at q (Report k ∷ []) ((j, Report k) ∷ []) (sends_one j (Report k)) w (λ i e f. FloorsAt e f (Some k) (floor (far g u i))) here_fits near_aside)
+        (by_port_at g wired u u_is x j at q (Report k ∷ []) ((j, Report k) ∷ []) (sends_one j (Report k)) w (λ i e f. FloorsAt f e (floor (far g u i)) (Some k)) there_fits far_aside);
+    in_tree = in_tree_after g wired u u_is x (put (w.seen u) j q) ((j, Report k) ∷ []) w floor floors (Some k) (λ p at' m. floors.in_tree u p at' m);
+    halted = halted_after g wired u u_is x (put (w.seen u) j q) ((j, Report k) ∷ []) w floor floors (Some k) refl refl;
   }

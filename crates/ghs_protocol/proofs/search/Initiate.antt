@@ -83,7 +83,7 @@ sum_zero : (n : ℕ) → sum_below n (λ i. 0) ≡ 0
 sum_zero zero = refl
 sum_zero (suc n) = let z = sum_zero n in omega (arith, z)
 
-module _ (g : Network) (wired : IsWired g) (u : ℕ) (lo : 1 ≤ u) (hi : u ≤ g.count) (j : ℕ) (at : At g u j) (w : Scene) (holds : Invariant g w) (l : ℕ) (n : Key) (s : Phase) (ms : List Message) (xs : List Mark) (marks : MarksAre g u (w.at u) xs) (waits : (w.seen u j).tree ≡ Initiate l n s ∷ ms) (o : Option ℕ) (quit : o ≡ None) (count : ℕ) (counts : ◌≡◌ {A =
+module _ (g : Network) (wired : IsWired g) (u : ℕ) (u_is : InNetwork g u) (j : ℕ) (at : At g u j) (w : Scene) (holds : Invariant g w) (l : ℕ) (n : Key) (s : Phase) (ms : List Message) (xs : List Mark) (marks : MarksAre g u (w.at u) xs) (waits : (w.seen u j).tree ≡ Initiate l n s ∷ ms) (o : Option ℕ) (quit : o ≡ None) (count : ℕ) (counts : ◌≡◌ {A =
     ℕ} (w.at u).head.find_count 0 → count ≡ cond (is_find s) (length (on_branches xs j (Initiate l n s))) 0) where
   abbrev pub hearer : Member
   hearer = record (w.at u) { head = record (w.at u).head { level = l; name = Some n; phase = s; in_branch = Some j; best = None; probe = o; find_count = count } }
@@ -107,7 +107,7 @@ module _ (g : Network) (wired : IsWired g) (u : ℕ) (lo : 1 ≤ u) (hi : u ≤ 
   then = acts g u hearer (put (w.seen u) j left) passing w
 
   here : InNetwork g u
-  here = record { some = lo; node = hi }
+  here = u_is
 
   fits : NodeFits (length (g.ports u)) (w.at u)
   fits = holds.nodes u here
@@ -167,17 +167,17 @@ module _ (g : Network) (wired : IsWired g) (u : ℕ) (lo : 1 ≤ u) (hi : u ≤ 
   sent_other i nb = forwards_on xs j i (Initiate l n s) ∙ rw (← marks.marks i, not_branch ((w.at u).mark i) nb) refl
 
   -- by the three sorts of port
-  by_port : (P : End → End → Type 0) → P heard_at (far_end g w u j) → ((i : ℕ) → At g u i → i ≢ j → (w.at u).mark i ≡ Branch → P (still i) (passed i)) → ((i : ℕ) → At g u i → i ≢ j → (w.at u).mark i ≢ Branch → P (still i) (far_end g w u i)) → (i : ℕ) → At g u i → P (near' g wired u lo hi hearer (put (w.seen u) j left) passing w i) (far' g wired u lo hi hearer (put (w.seen u) j left) passing w i)
+  by_port : (P : End → End → Type 0) → P heard_at (far_end g w u j) → ((i : ℕ) → At g u i → i ≢ j → (w.at u).mark i ≡ Branch → P (still i) (passed i)) → ((i : ℕ) → At g u i → i ≢ j → (w.at u).mark i ≢ Branch → P (still i) (far_end g w u i)) → (i : ℕ) → At g u i → P (near' g wired u u_is hearer (put (w.seen u) j left) passing w i) (far' g wired u u_is hearer (put (w.seen u) j left) passing w i)
   by_port P hit branch other i at' =
       ⊎_elim
-      (λ (e : i ≡ j). subst (λ y. P (near' g wired u lo hi hearer (put (w.seen u) j left) passing w y) (far' g wired u lo hi hearer (put (w.seen u) j left) passing w y)) (sym e) (subst₂ (λ a b. P (record { port = j; key = (port_at g u j).key; mark = (w.at u).mark j; is = hearer; seen = a }) (record (far_end g w u j) { seen = adds (w.seen (far g u j) (far_port g u j)) b })) (sym (put_same (w.seen u) j left)) (sym sent_here) hit))
+      (λ (e : i ≡ j). subst (λ y. P (near' g wired u u_is hearer (put (w.seen u) j left) passing w y) (far' g wired u u_is hearer (put (w.seen u) j left) passing w y)) (sym e) (subst₂ (λ a b. P (record { port = j; key = (port_at g u j).key; mark = (w.at u).mark j; is = hearer; seen = a }) (record (far_end g w u j) { seen = adds (w.seen (far g u j) (far_port g u j)) b })) (sym (put_same (w.seen u) j left)) (sym sent_here) hit))
       (λ ne. ⊎_elim (λ b. subst₂ (λ a c. P (record { port = i; key = (port_at g u i).key; mark = (w.at u).mark i; is = hearer; seen = a }) (record (far_end g w u i) { seen = adds (w.seen (far g u i) (far_port g u i)) c })) (sym (put_other (w.seen u) j i left ne)) (sym (sent_branch i ne b)) (branch i at' ne b)) (λ nb. subst₂ (λ a c. P (record { port = i; key = (port_at g u i).key; mark = (w.at u).mark i; is = hearer; seen = a }) (record (far_end g w u i) { seen = adds (w.seen (far g u i) (far_port g u i)) c })) (sym (put_other (w.seen u) j i left ne)) (sym (sent_other i nb)) (other i at' ne nb)) (mark_is ((w.at u).mark i)))
       (cases_eq i j)
 
-  pub by_port_at : (P : ℕ → End → End → Type 0) → P j heard_at (far_end g w u j) → ((i : ℕ) → At g u i → i ≢ j → (w.at u).mark i ≡ Branch → P i (still i) (passed i)) → ((i : ℕ) → At g u i → i ≢ j → (w.at u).mark i ≢ Branch → P i (still i) (far_end g w u i)) → (i : ℕ) → At g u i → P i (near' g wired u lo hi hearer (put (w.seen u) j left) passing w i) (far' g wired u lo hi hearer (put (w.seen u) j left) passing w i)
+  pub by_port_at : (P : ℕ → End → End → Type 0) → P j heard_at (far_end g w u j) → ((i : ℕ) → At g u i → i ≢ j → (w.at u).mark i ≡ Branch → P i (still i) (passed i)) → ((i : ℕ) → At g u i → i ≢ j → (w.at u).mark i ≢ Branch → P i (still i) (far_end g w u i)) → (i : ℕ) → At g u i → P i (near' g wired u u_is hearer (put (w.seen u) j left) passing w i) (far' g wired u u_is hearer (put (w.seen u) j left) passing w i)
   by_port_at P hit branch other i at' =
       ⊎_elim
-      (λ (e : i ≡ j). subst (λ y. P y (near' g wired u lo hi hearer (put (w.seen u) j left) passing w y) (far' g wired u lo hi hearer (put (w.seen u) j left) passing w y)) (sym e) (subst₂ (λ a b. P j (record { port = j; key = (port_at g u j).key; mark = (w.at u).mark j; is = hearer; seen = a }) (record (far_end g w u j) { seen = adds (w.seen (far g u j) (far_port g u j)) b })) (sym (put_same (w.seen u) j left)) (sym sent_here) hit))
+      (λ (e : i ≡ j). subst (λ y. P y (near' g wired u u_is hearer (put (w.seen u) j left) passing w y) (far' g wired u u_is hearer (put (w.seen u) j left) passing w y)) (sym e) (subst₂ (λ a b. P j (record { port = j; key = (port_at g u j).key; mark = (w.at u).mark j; is = hearer; seen = a }) (record (far_end g w u j) { seen = adds (w.seen (far g u j) (far_port g u j)) b })) (sym (put_same (w.seen u) j left)) (sym sent_here) hit))
       (λ ne. ⊎_elim (λ b. subst₂ (λ a c. P i (record { port = i; key = (port_at g u i).key; mark = (w.at u).mark i; is = hearer; seen = a }) (record (far_end g w u i) { seen = adds (w.seen (far g u i) (far_port g u i)) c })) (sym (put_other (w.seen u) j i left ne)) (sym (sent_branch i ne b)) (branch i at' ne b)) (λ nb. subst₂ (λ a c. P i (record { port = i; key = (port_at g u i).key; mark = (w.at u).mark i; is = hearer; seen = a }) (record (far_end g w u i) { seen = adds (w.seen (far g u i) (far_port g u i)) c })) (sym (put_other (w.seen u) j i left ne)) (sym (sent_other i nb)) (other i at' ne nb)) (mark_is ((w.at u).mark i)))
       (cases_eq i j)
 
@@ -202,12 +202,12 @@ module _ (g : Network) (wired : IsWired g) (u : ℕ) (lo : 1 ≤ u) (hi : u ≤ 
       f i = debt (end g w u i) (far_end g w u i)
 
       all : (w.at u).head.find_count ≡ sum_below (length (g.ports u)) f
-      all = holds.counted u here ∙ sum_same (length (g.ports u)) _ _ (λ i lt. let at'' : At g u i = record { some = lo; node = hi; port = lt } in ap (debt (end g w u i)) (λ k. record { port = far_port g u i; key = wired.same_key u i at'' k; mark = (w.at (far g u i)).mark (far_port g u i); is = w.at (far g u i); seen = w.seen (far g u i) (far_port g u i) }))
+      all = holds.counted u here ∙ sum_same (length (g.ports u)) _ _ (λ i lt. let at'' : At g u i = record { some = u_is.some; node = u_is.node; port = lt } in ap (debt (end g w u i)) (λ k. record { port = far_port g u i; key = wired.same_key u i at'' k; mark = (w.at (far g u i)).mark (far_port g u i); is = w.at (far g u i); seen = w.seen (far g u i) (far_port g u i) }))
 
   value : ℕ → ℕ
   value i = cond (is_find s) (one_on xs 0 j i) 0
 
-  owed_here : (i : ℕ) → At g u i → debt (near' g wired u lo hi hearer (put (w.seen u) j left) passing w i) (far' g wired u lo hi hearer (put (w.seen u) j left) passing w i) ≡ value i
+  owed_here : (i : ℕ) → At g u i → debt (near' g wired u u_is hearer (put (w.seen u) j left) passing w i) (far' g wired u u_is hearer (put (w.seen u) j left) passing w i) ≡ value i
   unfolding value
   owed_here = by_port (λ e f. debt e f ≡ value e.port) hit branch other
     where
@@ -232,7 +232,7 @@ module _ (g : Network) (wired : IsWired g) (u : ℕ) (lo : 1 ≤ u) (hi : u ≤ 
       go true = forwards_many xs j (Initiate l n s) ∙ ap (λ k. sum_below k (one_on xs 0 j)) marks.ports
       go false = sym (sum_zero (length (g.ports u)))
 
-  owed_there : (i : ℕ) → At g u i → debt (far' g wired u lo hi hearer (put (w.seen u) j left) passing w i) (near' g wired u lo hi hearer (put (w.seen u) j left) passing w i) ≡ debt (far_end g w u i) (end g w u i)
+  owed_there : (i : ℕ) → At g u i → debt (far' g wired u u_is hearer (put (w.seen u) j left) passing w i) (near' g wired u u_is hearer (put (w.seen u) j left) passing w i) ≡ debt (far_end g w u i) (end g w u i)
   owed_there = by_port (λ e f. debt f e ≡ debt (far_end g w u e.port) (end g w u e.port)) hit branch other
     where
       hit : debt (far_end g w u j) heard_at ≡ debt (far_end g w u j) (end g w u j)
@@ -245,7 +245,7 @@ module _ (g : Network) (wired : IsWired g) (u : ℕ) (lo : 1 ≤ u) (hi : u ≤ 
       other i at' ne nb = rw (ne_eqb j i (λ z. ne (sym z)), found, and_false) refl
 
   debts : DebtsCounted g then
-  debts = sums_after g wired u lo hi hearer (put (w.seen u) j left) passing w holds.counted (total ∙ sum_same (length (g.ports u)) _ _ (λ i lt. sym (owed_here i (record { some = lo; node = hi; port = lt })))) owed_there
+  debts = sums_after g wired u u_is hearer (put (w.seen u) j left) passing w holds.counted (total ∙ sum_same (length (g.ports u)) _ _ (λ i lt. sym (owed_here i (record { some = u_is.some; node = u_is.node; port = lt })))) owed_there
 
   -- the links, from this node's ends and from the far ones
   quits : (i : ℕ) → (w.at u).head.probe ≢ Some i
@@ -254,7 +254,7 @@ module _ (g : Network) (wired : IsWired g) (u : ℕ) (lo : 1 ≤ u) (hi : u ≤ 
   low : (w.at u).head.level ≤ l
   low = let z = call.rises in omega (arith, z)
 
-  fits_near : (i : ℕ) → At g u i → LinkFits (NamesOf g w) (near' g wired u lo hi hearer (put (w.seen u) j left) passing w i) (far' g wired u lo hi hearer (put (w.seen u) j left) passing w i)
+  fits_near : (i : ℕ) → At g u i → LinkFits (NamesOf g w) (near' g wired u u_is hearer (put (w.seen u) j left) passing w i) (far' g wired u u_is hearer (put (w.seen u) j left) passing w i)
   fits_near = by_port (LinkFits (NamesOf g w)) hit branch other
     where
       hit : LinkFits (NamesOf g w) heard_at (far_end g w u j)
@@ -278,7 +278,7 @@ module _ (g : Network) (wired : IsWired g) (u : ℕ) (lo : 1 ≤ u) (hi : u ≤ 
         tests = tests_aside (test_end (end g w u i)) (test_end (far_end g w u i)) o l (Some n) (quits i) (not_some o i quit) low (link i at').tests (link' i at').tests;
       }
 
-  fits_far : (i : ℕ) → At g u i → LinkFits (NamesOf g w) (far' g wired u lo hi hearer (put (w.seen u) j left) passing w i) (near' g wired u lo hi hearer (put (w.seen u) j left) passing w i)
+  fits_far : (i : ℕ) → At g u i → LinkFits (NamesOf g w) (far' g wired u u_is hearer (put (w.seen u) j left) passing w i) (near' g wired u u_is hearer (put (w.seen u) j left) passing w i)
   fits_far = by_port (λ e f. LinkFits (NamesOf g w) f e) hit branch other
     where
       hit : LinkFits (NamesOf g w) (far_end g w u j) heard_at
@@ -304,7 +304,7 @@ module _ (g : Network) (wired : IsWired g) (u : ℕ) (lo : 1 ≤ u) (hi : u ≤ 
 
   -- a fragment at rest hears no call to search
   quiet : (a : ℕ) → Quiet g w a → Quiet g then a
-  quiet a q = quiet_after g wired u lo hi hearer (put (w.seen u) j left) passing w a q (λ e. found_is s call.awake (calm e).0) mine theirs
+  quiet a q = quiet_after g wired u u_is hearer (put (w.seen u) j left) passing w a q (λ e. found_is s call.awake (calm e).0) mine theirs
     where
       neither : (b c : Bool) → (b || c) ≡ false → (b ≡ false) × (c ≡ false)
       neither true c e = absurd (let z = e in cc)
@@ -325,7 +325,7 @@ module _ (g : Network) (wired : IsWired g) (u : ℕ) (lo : 1 ≤ u) (hi : u ≤ 
       theirs = by_port (λ e f. f.is.fragment ≡ a → has_call f.seen.tree ≡ false) (λ e. q.uncalled _ _ (wired.there u j at) e) (λ i at' ne b e. rw (has_call_more (w.seen (far g u i) (far_port g u i)).tree l n s, q.uncalled _ _ (wired.there u i at') e) (calm (inside i at' (branch_joined i at' ne b) ∙ e)).0) (λ i at' ne nb e. q.uncalled _ _ (wired.there u i at') e)
 
   pub initiates : Invariant g then
-  initiates = kept_after g wired u lo hi hearer (put (w.seen u) j left) passing w holds alike node fits_near fits_far (λ e. absurd (call.awake e)) (λ k e. subst (Names g (forest w) (w.at u).fragment) (name_is k e) call.inside) (rests_alike g w then (forest_after g wired u lo hi hearer (put (w.seen u) j left) passing w alike) quiet holds.resting) debts
+  initiates = kept_after g wired u u_is hearer (put (w.seen u) j left) passing w holds alike node fits_near fits_far (λ e. absurd (call.awake e)) (λ k e. subst (Names g (forest w) (w.at u).fragment) (name_is k e) call.inside) (rests_alike g w then (forest_after g wired u u_is hearer (put (w.seen u) j left) passing w alike) quiet holds.resting) debts
     where
       alike : Alike (w.at u) hearer
       alike = record { fragment = refl; coming = refl; coming_name = refl; up = refl; branch = λ p. refl }
@@ -333,11 +333,11 @@ module _ (g : Network) (wired : IsWired g) (u : ℕ) (lo : 1 ≤ u) (hi : u ≤ 
       name_is : (k : Key) → Some n ≡ Some k → n ≡ k
       name_is k e = cc
 
-module _ (g : Network) (wired : IsWired g) (u : ℕ) (lo : 1 ≤ u) (hi : u ≤ g.count) (w : Scene) (holds : Invariant g w) (j : ℕ) (at : At g u j) (ms : List Message) (l : ℕ) (n : Key) (xs : List Mark) (marks : MarksAre g u (w.at u) xs) where
+module _ (g : Network) (wired : IsWired g) (u : ℕ) (u_is : InNetwork g u) (w : Scene) (holds : Invariant g w) (j : ℕ) (at : At g u j) (ms : List Message) (l : ℕ) (n : Key) (xs : List Mark) (marks : MarksAre g u (w.at u) xs) where
   -- the node is told of a search that doesn't concern it yet
   pub initiates_rest : (w.seen u j).tree ≡ Initiate l n Found ∷ ms → Invariant g (acts g u (record (w.at u) { head = record (w.at u).head { level = l; name = Some n; phase = Found; in_branch = Some j; best = None } }) (put (w.seen u) j (record (w.seen u j) { tree = ms })) (on_branches xs j (Initiate l n Found)) w)
-  initiates_rest waits = initiates g wired u lo hi j at w holds l n Found ms xs marks waits (w.at u).head.probe (idle g wired u lo hi j at w holds l n Found ms xs marks waits None refl 0 (λ e. refl)).0 (w.at u).head.find_count (λ e. e)
+  initiates_rest waits = initiates g wired u u_is j at w holds l n Found ms xs marks waits (w.at u).head.probe (idle g wired u u_is j at w holds l n Found ms xs marks waits None refl 0 (λ e. refl)).0 (w.at u).head.find_count (λ e. e)
 
   -- the node searches; its first Test comes in a step of its own
   pub initiates_search : (w.seen u j).tree ≡ Initiate l n Find ∷ ms → Invariant g (acts g u (record (w.at u) { head = record (w.at u).head { level = l; name = Some n; phase = Find; in_branch = Some j; best = None; probe = None; find_count = (w.at u).head.find_count + length (on_branches xs j (Initiate l n Find)) } }) (put (w.seen u) j (record (w.seen u j) { tree = ms })) (on_branches xs j (Initiate l n Find)) w)
-  initiates_search waits = initiates g wired u lo hi j at w holds l n Find ms xs marks waits None refl ((w.at u).head.find_count + length (on_branches xs j (Initiate l n Find))) (λ e. rw e (zero-add _))
+  initiates_search waits = initiates g wired u u_is j at w holds l n Find ms xs marks waits None refl ((w.at u).head.find_count + length (on_branches xs j (Initiate l n Find))) (λ e. rw e (zero-add _))

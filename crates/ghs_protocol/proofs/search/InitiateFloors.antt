@@ -7,7 +7,7 @@ use Rattle.ghs_node.specs.declared.message.Phase.{Phase}
 use Rattle.ghs_node.specs.declared.message.Phase.TheVariants.{Sleeping, Find, Found}
 use Rattle.ghs_node.specs.declared.message.Message.{Message}
 use Rattle.ghs_node.specs.declared.message.Message.TheVariants.{Initiate, Report}
-use Rattle.ghs_protocol.specs.Network.{Network, port_at, At, far, far_port, IsWired}
+use Rattle.ghs_protocol.specs.Network.{Network, port_at, At, far, far_port, IsWired, InNetwork}
 use Rattle.ghs_protocol.specs.Net.{put}
 use Rattle.ghs_protocol.proofs.clauses.Scene.{Seen, Member, Scene, TreeEnd, tree_end, end, acts, far_end}
 use Rattle.ghs_protocol.proofs.clauses.Links.{Joins, Out, Child}
@@ -113,7 +113,7 @@ module _ {N : ℕ → Key → Type 0} (e f : TreeEnd) (l : ℕ) (n : Key) (s : P
     best = λ k q y z. absurd (unbest k q y (record { here = z.here; there = z.there }));
   }
 
-module _ (g : Network) (wired : IsWired g) (u : ℕ) (lo : 1 ≤ u) (hi : u ≤ g.count) (j : ℕ) (at : At g u j) (w : Scene) (holds : Invariant g w) (l : ℕ) (n : Key) (s : Phase) (ms : List Message) (xs : List Mark) (marks : MarksAre g u (w.at u) xs) (waits : (w.seen u j).tree ≡ Initiate l n s ∷ ms) (o : Option ℕ) (quit : o ≡ None) (count : ℕ) (counts : ◌≡◌ {A =
+module _ (g : Network) (wired : IsWired g) (u : ℕ) (u_is : InNetwork g u) (j : ℕ) (at : At g u j) (w : Scene) (holds : Invariant g w) (l : ℕ) (n : Key) (s : Phase) (ms : List Message) (xs : List Mark) (marks : MarksAre g u (w.at u) xs) (waits : (w.seen u j).tree ≡ Initiate l n s ∷ ms) (o : Option ℕ) (quit : o ≡ None) (count : ℕ) (counts : ◌≡◌ {A =
     ℕ} (w.at u).head.find_count 0 → count ≡ cond (is_find s) (length (on_branches xs j (Initiate l n s))) 0)
     (floor : ℕ → Floor) (floors : Floors g w floor) (b : Floor) (falls : s ≢ Find → b ≡ floor u) (sought : s ≡ Find → b ≡ None) where
   abbrev hearer : Member
@@ -126,13 +126,13 @@ module _ (g : Network) (wired : IsWired g) (u : ℕ) (lo : 1 ≤ u) (hi : u ≤ 
   passing = on_branches xs j (Initiate l n s)
 
   calls : Calls (NamesOf g w (w.at u).fragment) (tree_end (end g w u j)) (tree_end (far_end g w u j)) l n s ms
-  calls = initiating.call g wired u lo hi j at w holds l n s ms xs marks waits o quit count counts
+  calls = initiating.call g wired u u_is j at w holds l n s ms xs marks waits o quit count counts
 
   rests : (w.at u).head.phase ≡ Found
-  rests = initiating.found g wired u lo hi j at w holds l n s ms xs marks waits o quit count counts
+  rests = initiating.found g wired u u_is j at w holds l n s ms xs marks waits o quit count counts
 
   aside : (i : ℕ) → i ≢ j → (w.at u).up ≢ Some i
-  aside i ne = initiating.away g wired u lo hi j at w holds l n s ms xs marks waits o quit count counts i ne
+  aside i ne = initiating.away g wired u u_is j at w holds l n s ms xs marks waits o quit count counts i ne
 
   link : (i : ℕ) → At g u i → LinkFits (NamesOf g w) (end g w u i) (far_end g w u i)
   link i at' = link_fits g wired w holds u i at'
@@ -141,7 +141,7 @@ module _ (g : Network) (wired : IsWired g) (u : ℕ) (lo : 1 ≤ u) (hi : u ≤ 
   link' i at' = link_fits' g wired w holds u i at'
 
   within : (i : ℕ) → At g u i → Joins (tree_end (end g w u i)) (tree_end (far_end g w u i)) → (w.at u).fragment ≡ (w.at (far g u i)).fragment
-  within i at' z = initiating.inside g wired u lo hi j at w holds l n s ms xs marks waits o quit count counts i at' z
+  within i at' z = initiating.inside g wired u u_is j at w holds l n s ms xs marks waits o quit count counts i at' z
 
   no_out : (i : ℕ) → At g u i → i ≢ j → Out (tree_end (end g w u i)) (tree_end (far_end g w u i)) → ⊥
   no_out i at' ne z = aside i ne ((link i at').tree.out_connect z).up
@@ -222,11 +222,11 @@ module _ (g : Network) (wired : IsWired g) (u : ℕ) (lo : 1 ≤ u) (hi : u ≤ 
   -- all together
   pub initiates_floors : Floors g (acts g u hearer own passing w) (put floor u b)
   initiates_floors = record {
-    nodes = nodes_after g wired u lo hi hearer own passing w floor floors b (record { asleep = λ e. absurd (calls.awake e); search = sought });
+    nodes = nodes_after g wired u u_is hearer own passing w floor floors b (record { asleep = λ e. absurd (calls.awake e); search = sought });
     links =
-        links_after g wired u lo hi hearer own passing w floor floors b
-        (initiating.by_port_at g wired u lo hi j at w holds l n s ms xs marks waits o quit count counts (λ i e f. FloorsAt e f b (floor (far g u i))) near_here (λ i at' ne m. near_other i at' ne _) (λ i at' ne m. near_other i at' ne _))
-        (initiating.by_port_at g wired u lo hi j at w holds l n s ms xs marks waits o quit count counts (λ i e f. FloorsAt f e (floor (far g u i)) b) far_here (λ i at' ne m. far_other i at' ne _ (λ e z. more_call i e)) (λ i at' ne m. far_other i at' ne _ (λ e z. absurd (m z.there))));
-    in_tree = in_tree_after g wired u lo hi hearer own passing w floor floors b (λ p at' m. floors.in_tree u p at' m);
-    halted = halted_after g wired u lo hi hearer own passing w floor floors b refl refl;
+        links_after g wired u u_is hearer own passing w floor floors b
+        (initiating.by_port_at g wired u u_is j at w holds l n s ms xs marks waits o quit count counts (λ i e f. FloorsAt e f b (floor (far g u i))) near_here (λ i at' ne m. near_other i at' ne _) (λ i at' ne m. near_other i at' ne _))
+        (initiating.by_port_at g wired u u_is j at w holds l n s ms xs marks waits o quit count counts (λ i e f. FloorsAt f e (floor (far g u i)) b) far_here (λ i at' ne m. far_other i at' ne _ (λ e z. more_call i e)) (λ i at' ne m. far_other i at' ne _ (λ e z. absurd (m z.there))));
+    in_tree = in_tree_after g wired u u_is hearer own passing w floor floors b (λ p at' m. floors.in_tree u p at' m);
+    halted = halted_after g wired u u_is hearer own passing w floor floors b refl refl;
   }

@@ -8,7 +8,7 @@ use Rattle.ghs_node.specs.declared.message.Phase.{Phase}
 use Rattle.ghs_node.specs.declared.message.Phase.TheVariants.{Find, Found}
 use Rattle.ghs_node.specs.declared.message.Message.{Message}
 use Rattle.ghs_node.specs.declared.message.Message.TheVariants.{Initiate}
-use Rattle.ghs_protocol.specs.Network.{Network, At, far, far_port, IsWired}
+use Rattle.ghs_protocol.specs.Network.{Network, At, far, far_port, IsWired, InNetwork}
 use Rattle.ghs_protocol.specs.Net.{put}
 use Rattle.ghs_protocol.proofs.clauses.Scene.{Seen, Member, Scene, End, tree_end, end, acts, far_end}
 use Rattle.ghs_protocol.proofs.clauses.TreeMessages.{CoreFits}
@@ -23,7 +23,7 @@ use Rattle.ghs_protocol.proofs.rows.Link.{link_fits}
 use Rattle.ghs_protocol.proofs.search.InitiateFloors.{core_searches}
 use Rattle.ghs_protocol.proofs.tests.UnderWay.{dropped, far_asks, near_brought, far_heard, brought_by_call}
 
-module _ (g : Network) (wired : IsWired g) (u : ℕ) (lo : 1 ≤ u) (hi : u ≤ g.count) (j : ℕ) (at : At g u j) (w : Scene) (holds : Invariant g w) (lives : Lives g w) (l : ℕ) (n : Key) (s : Phase) (ms : List Message) (xs : List Mark) (marks : MarksAre g u (w.at u) xs) (waits : (w.seen u j).tree ≡ Initiate l n s ∷ ms) (o : Option ℕ) (quit : o ≡ None) (count : ℕ)
+module _ (g : Network) (wired : IsWired g) (u : ℕ) (u_is : InNetwork g u) (j : ℕ) (at : At g u j) (w : Scene) (holds : Invariant g w) (lives : Lives g w) (l : ℕ) (n : Key) (s : Phase) (ms : List Message) (xs : List Mark) (marks : MarksAre g u (w.at u) xs) (waits : (w.seen u j).tree ≡ Initiate l n s ∷ ms) (o : Option ℕ) (quit : o ≡ None) (count : ℕ)
     (counts : ◌≡◌ {A = ℕ} (w.at u).head.find_count 0 → count ≡ cond (is_find s) (length (on_branches xs j (Initiate l n s))) 0) where
   abbrev hearer : Member
   hearer = record (w.at u) { head = record (w.at u).head { level = l; name = Some n; phase = s; in_branch = Some j; best = None; probe = o; find_count = count } }
@@ -35,10 +35,10 @@ module _ (g : Network) (wired : IsWired g) (u : ℕ) (lo : 1 ≤ u) (hi : u ≤ 
   passing = on_branches xs j (Initiate l n s)
 
   calls : Calls (NamesOf g w (w.at u).fragment) (tree_end (end g w u j)) (tree_end (far_end g w u j)) l n s ms
-  calls = initiating.call g wired u lo hi j at w holds l n s ms xs marks waits o quit count counts
+  calls = initiating.call g wired u u_is j at w holds l n s ms xs marks waits o quit count counts
 
   aside : (i : ℕ) → i ≢ j → (w.at u).up ≢ Some i
-  aside i ne = initiating.away g wired u lo hi j at w holds l n s ms xs marks waits o quit count counts i ne
+  aside i ne = initiating.away g wired u u_is j at w holds l n s ms xs marks waits o quit count counts i ne
 
   -- a fact of all links
   initiates :
@@ -48,15 +48,15 @@ module _ (g : Network) (wired : IsWired g) (u : ℕ) (lo : 1 ≤ u) (hi : u ≤ 
       ((i : ℕ) → At g u i → i ≢ j → (t : List Message) → ((w.at u).mark i ≡ Branch → t ≡ (w.seen (far g u i) (far_port g u i)).tree ++ Initiate l n s ∷ []) → P (record (far_end g w u i) { seen = record (w.seen (far g u i) (far_port g u i)) { tree = t } }) (record (end g w u i) { is = hearer })) →
       (v p : ℕ) → At g v p → P (end g (acts g u hearer own passing w) v p) (end g (acts g u hearer own passing w) (far g v p) (far_port g v p))
   initiates P all hit hit' miss miss' =
-      acts_keeps g wired u lo hi hearer own passing w P all
-      (initiating.by_port_at g wired u lo hi j at w holds l n s ms xs marks waits o quit count counts (λ i e f. P e f) hit (λ i at' ne m. miss i at' ne _) (λ i at' ne m. miss i at' ne _))
-      (initiating.by_port_at g wired u lo hi j at w holds l n s ms xs marks waits o quit count counts (λ i e f. P f e) hit' (λ i at' ne m. miss' i at' ne _ (λ z. refl)) (λ i at' ne m. miss' i at' ne _ (λ z. absurd (m z))))
+      acts_keeps g wired u u_is.some u_is.node hearer own passing w P all
+      (initiating.by_port_at g wired u u_is j at w holds l n s ms xs marks waits o quit count counts (λ i e f. P e f) hit (λ i at' ne m. miss i at' ne _) (λ i at' ne m. miss i at' ne _))
+      (initiating.by_port_at g wired u u_is j at w holds l n s ms xs marks waits o quit count counts (λ i e f. P f e) hit' (λ i at' ne m. miss' i at' ne _ (λ z. refl)) (λ i at' ne m. miss' i at' ne _ (λ z. absurd (m z))))
 
   unprobed : (i : ℕ) → o ≡ Some i → ⊥
   unprobed i e = let z = sym quit ∙ e in cc
 
   left_asks : (i : ℕ) → At g u i → (w.at (far g u i)).head.probe ≡ Some (far_port g u i) → Answering (w.seen u i).tests (w.seen (far g u i) (far_port g u i)).accepts (w.seen (far g u i) (far_port g u i)).rejects (w.seen (far g u i) (far_port g u i)).tests o i
-  left_asks i at' theirs = subst (λ y. Answering (w.seen u i).tests (w.seen (far g u i) (far_port g u i)).accepts (w.seen (far g u i) (far_port g u i)).rejects (w.seen (far g u i) (far_port g u i)).tests y i) (sym quit) (dropped _ _ _ _ (w.at u).head.probe i (far_asks g wired u lo hi j at w holds lives i at' theirs))
+  left_asks i at' theirs = subst (λ y. Answering (w.seen u i).tests (w.seen (far g u i) (far_port g u i)).accepts (w.seen (far g u i) (far_port g u i)).rejects (w.seen (far g u i) (far_port g u i)).tests y i) (sym quit) (dropped _ _ _ _ (w.at u).head.probe i (far_asks g wired u u_is j at w holds lives i at' theirs))
 
   -- over the core it begins a search
   core_finds : IsCore (end g w u j) (far_end g w u j) → s ≡ Find
@@ -72,9 +72,9 @@ module _ (g : Network) (wired : IsWired g) (u : ℕ) (lo : 1 ≤ u) (hi : u ≤ 
   initiates_lives = record {
     asks = initiates ProbeAsks lives.asks (λ z. absurd (unprobed j z)) (left_asks j at) (λ i at' ne t z. absurd (unprobed i z)) (λ i at' ne t is. left_asks i at');
     brought =
-        initiates ChildBrought lives.brought (λ c. ap (brought_to (w.at u).head.level) (sym waits) ∙ near_brought g wired u lo hi j at w holds lives j at c) (λ c. absurd (c.3 calls.up)) (λ i at' ne t c. absurd (aside i ne c.2))
+        initiates ChildBrought lives.brought (λ c. ap (brought_to (w.at u).head.level) (sym waits) ∙ near_brought g wired u u_is j at w holds lives j at c) (λ c. absurd (c.3 calls.up)) (λ i at' ne t c. absurd (aside i ne c.2))
         (λ i at' ne t is c. ap (brought_to (w.at (far g u i)).head.level) (is c.1) ∙ brought_by_call (w.seen (far g u i) (far_port g u i)).tree (w.at (far g u i)).head.level l n s);
     heard =
-        initiates CoreHeard lives.heard (λ c t f r. absurd (let z = core_finds c in let y : s ≡ Found = f in cc (z, y))) (λ c t f r. absurd (low (far_heard g wired u lo hi j at w holds lives j at c t f (ap has_report waits ∙ r)).top)) (λ i at' ne t c. absurd (aside i ne c.2))
+        initiates CoreHeard lives.heard (λ c t f r. absurd (let z = core_finds c in let y : s ≡ Found = f in cc (z, y))) (λ c t f r. absurd (low (far_heard g wired u u_is j at w holds lives j at c t f (ap has_report waits ∙ r)).top)) (λ i at' ne t c. absurd (aside i ne c.2))
         (λ i at' ne t is c. absurd (aside i ne c.3));
   }

@@ -7,7 +7,7 @@ use Rattle.ghs_node.specs.Words.{is_branch, Outgoing}
 use Rattle.ghs_node.specs.declared.message.Phase.TheVariants.{Sleeping, Find, Found}
 use Rattle.ghs_node.specs.declared.message.Message.{Message}
 use Rattle.ghs_node.specs.declared.message.Message.TheVariants.{Connect, Initiate, Test, Accept, Reject}
-use Rattle.ghs_protocol.specs.Network.{Network, port_at, At, far, far_port, IsWired}
+use Rattle.ghs_protocol.specs.Network.{Network, port_at, At, far, far_port, IsWired, InNetwork}
 use Rattle.ghs_protocol.specs.Net.{put}
 use Rattle.ghs_protocol.proofs.clauses.Scene.{Seen, adds, Member, Scene, End, TreeEnd, tree_end, end, acts, far_end}
 use Rattle.ghs_protocol.proofs.clauses.Whole.{Invariant}
@@ -54,7 +54,7 @@ module _ (e f : TreeEnd) (m : Mark) (a c : Floor) (same : is_branch m ≡ is_bra
   }
 
 -- One link is touched, floors stay.
-module _ (g : Network) (wired : IsWired g) (u : ℕ) (lo : 1 ≤ u) (hi : u ≤ g.count) (x : Member) (j : ℕ) (at : At g u j) (q : Seen) (ms : List Message) (ss : Outgoing) (on : SendsOn j ms ss) (w : Scene) (floor : ℕ → Floor) (floors : Floors g w floor) where
+module _ (g : Network) (wired : IsWired g) (u : ℕ) (u_is : InNetwork g u) (x : Member) (j : ℕ) (at : At g u j) (q : Seen) (ms : List Message) (ss : Outgoing) (on : SendsOn j ms ss) (w : Scene) (floor : ℕ → Floor) (floors : Floors g w floor) where
   abbrev pub still : ℕ → End
   still i = record { port = i; key = (port_at g u i).key; mark = x.mark i; is = x; seen = w.seen u i }
 
@@ -71,18 +71,18 @@ module _ (g : Network) (wired : IsWired g) (u : ℕ) (lo : 1 ≤ u) (hi : u ≤ 
       Floors g (acts g u x (put (w.seen u) j q) ss w) floor
   touches_floors hit hit' miss miss' node marks halted =
       subst (Floors g (acts g u x (put (w.seen u) j q) ss w)) (put_again floor u) (record {
-        nodes = nodes_after g wired u lo hi x (put (w.seen u) j q) ss w floor floors (floor u) node;
+        nodes = nodes_after g wired u u_is x (put (w.seen u) j q) ss w floor floors (floor u) node;
         links =
-            links_after g wired u lo hi x (put (w.seen u) j q) ss w floor floors (floor u)
-            (by_port_at g wired u lo hi x j at q ms ss on w (λ i e f. FloorsAt e f (floor u) (floor (far g u i))) hit miss)
-            (by_port_at g wired u lo hi x j at q ms ss on w (λ i e f. FloorsAt f e (floor (far g u i)) (floor u)) hit' miss');
-        in_tree = in_tree_after g wired u lo hi x (put (w.seen u) j q) ss w floor floors (floor u) (λ p at' z. floors.in_tree u p at' (marks p z));
+            links_after g wired u u_is x (put (w.seen u) j q) ss w floor floors (floor u)
+            (by_port_at g wired u u_is x j at q ms ss on w (λ i e f. FloorsAt e f (floor u) (floor (far g u i))) hit miss)
+            (by_port_at g wired u u_is x j at q ms ss on w (λ i e f. FloorsAt f e (floor (far g u i)) (floor u)) hit' miss');
+        in_tree = in_tree_after g wired u u_is x (put (w.seen u) j q) ss w floor floors (floor u) (λ p at' z. floors.in_tree u p at' (marks p z));
         halted = halted;
       })
 
-module _ (g : Network) (wired : IsWired g) (u : ℕ) (lo : 1 ≤ u) (hi : u ≤ g.count) (j : ℕ) (at : At g u j) (w : Scene) (holds : Invariant g w) (floor : ℕ → Floor) (floors : Floors g w floor) where
+module _ (g : Network) (wired : IsWired g) (u : ℕ) (u_is : InNetwork g u) (j : ℕ) (at : At g u j) (w : Scene) (holds : Invariant g w) (floor : ℕ → Floor) (floors : Floors g w floor) where
   same_node : NodeFloor (w.at u) (floor u)
-  same_node = floors.nodes u (record { some = lo; node = hi })
+  same_node = floors.nodes u u_is
 
   near_mark : (m : Mark) (i : ℕ) → At g u i → is_branch m ≡ is_branch ((w.at u).mark i) → FloorsFit (record (tree_end (end g w u i)) { mark = m }) (tree_end (far_end g w u i)) (floor u) (floor (far g u i))
   near_mark m i at' e = near_marked (tree_end (end g w u i)) (tree_end (far_end g w u i)) m (floor u) (floor (far g u i)) e (near_fits g wired w holds floor floors u i at')
@@ -93,43 +93,43 @@ module _ (g : Network) (wired : IsWired g) (u : ℕ) (lo : 1 ≤ u) (hi : u ≤ 
   -- a Test is accepted
   pub accept_sent_floors : (ts : List (ℕ × Key)) → Floors g (acts g u (w.at u) (put (w.seen u) j (record (w.seen u j) { tests = ts })) ((j, Accept) ∷ []) w) floor
   accept_sent_floors ts =
-      touches_floors g wired u lo hi (w.at u) j at (record (w.seen u j) { tests = ts }) (Accept ∷ []) ((j, Accept) ∷ []) (sends_one j Accept) w floor floors
+      touches_floors g wired u u_is (w.at u) j at (record (w.seen u j) { tests = ts }) (Accept ∷ []) ((j, Accept) ∷ []) (sends_one j Accept) w floor floors
       (near_fits g wired w holds floor floors u j at) (far_fits g wired w holds floor floors u j at) (λ i at' ne. near_fits g wired w holds floor floors u i at') (λ i at' ne. far_fits g wired w holds floor floors u i at')
-      same_node (λ p e. e) (halted_after g wired u lo hi (w.at u) (put (w.seen u) j (record (w.seen u j) { tests = ts })) ((j, Accept) ∷ []) w floor floors (floor u) refl refl)
+      same_node (λ p e. e) (halted_after g wired u u_is (w.at u) (put (w.seen u) j (record (w.seen u j) { tests = ts })) ((j, Accept) ∷ []) w floor floors (floor u) refl refl)
 
   -- a Test is rejected
   pub reject_sent_floors : (ts : List (ℕ × Key)) → Floors g (acts g u (record (w.at u) { mark = marked (w.at u).mark j }) (put (w.seen u) j (record (w.seen u j) { tests = ts })) ((j, Reject) ∷ []) w) floor
   reject_sent_floors ts =
-      touches_floors g wired u lo hi (record (w.at u) { mark = marked (w.at u).mark j }) j at (record (w.seen u j) { tests = ts }) (Reject ∷ []) ((j, Reject) ∷ []) (sends_one j Reject) w floor floors
+      touches_floors g wired u u_is (record (w.at u) { mark = marked (w.at u).mark j }) j at (record (w.seen u j) { tests = ts }) (Reject ∷ []) ((j, Reject) ∷ []) (sends_one j Reject) w floor floors
       (near_mark (marked (w.at u).mark j j) j at (branch_marked (w.at u).mark j j)) (far_mark (marked (w.at u).mark j j) j at (branch_marked (w.at u).mark j j))
       (λ i at' ne. near_mark (marked (w.at u).mark j i) i at' (branch_marked (w.at u).mark j i)) (λ i at' ne. far_mark (marked (w.at u).mark j i) i at' (branch_marked (w.at u).mark j i))
       (record { asleep = same_node.asleep; search = same_node.search }) (λ p e. branch_mark _ (sym (branch_marked (w.at u).mark j p) ∙ ap is_branch e))
-      (halted_after g wired u lo hi (record (w.at u) { mark = marked (w.at u).mark j }) (put (w.seen u) j (record (w.seen u j) { tests = ts })) ((j, Reject) ∷ []) w floor floors (floor u) refl refl)
+      (halted_after g wired u u_is (record (w.at u) { mark = marked (w.at u).mark j }) (put (w.seen u) j (record (w.seen u j) { tests = ts })) ((j, Reject) ∷ []) w floor floors (floor u) refl refl)
 
   -- Tests cross
   pub cross_floors : (ts : List (ℕ × Key)) → Floors g (acts g u (record (w.at u) { mark = marked (w.at u).mark j; head = record (w.at u).head { probe = None } }) (put (w.seen u) j (record (w.seen u j) { tests = ts })) [] w) floor
   cross_floors ts =
-      touches_floors g wired u lo hi (record (w.at u) { mark = marked (w.at u).mark j; head = record (w.at u).head { probe = None } }) j at (record (w.seen u j) { tests = ts }) [] [] (sends_none j) w floor floors
+      touches_floors g wired u u_is (record (w.at u) { mark = marked (w.at u).mark j; head = record (w.at u).head { probe = None } }) j at (record (w.seen u j) { tests = ts }) [] [] (sends_none j) w floor floors
       (near_mark (marked (w.at u).mark j j) j at (branch_marked (w.at u).mark j j)) (far_mark (marked (w.at u).mark j j) j at (branch_marked (w.at u).mark j j))
       (λ i at' ne. near_mark (marked (w.at u).mark j i) i at' (branch_marked (w.at u).mark j i)) (λ i at' ne. far_mark (marked (w.at u).mark j i) i at' (branch_marked (w.at u).mark j i))
       (record { asleep = same_node.asleep; search = same_node.search }) (λ p e. branch_mark _ (sym (branch_marked (w.at u).mark j p) ∙ ap is_branch e))
-      (halted_after g wired u lo hi (record (w.at u) { mark = marked (w.at u).mark j; head = record (w.at u).head { probe = None } }) (put (w.seen u) j (record (w.seen u j) { tests = ts })) [] w floor floors (floor u) refl refl)
+      (halted_after g wired u u_is (record (w.at u) { mark = marked (w.at u).mark j; head = record (w.at u).head { probe = None } }) (put (w.seen u) j (record (w.seen u j) { tests = ts })) [] w floor floors (floor u) refl refl)
 
   -- a Reject is heard
   pub reject_floors : (r : ℕ) → Floors g (acts g u (record (w.at u) { mark = marked (w.at u).mark j; head = record (w.at u).head { probe = None } }) (put (w.seen u) j (record (w.seen u j) { rejects = r })) [] w) floor
   reject_floors r =
-      touches_floors g wired u lo hi (record (w.at u) { mark = marked (w.at u).mark j; head = record (w.at u).head { probe = None } }) j at (record (w.seen u j) { rejects = r }) [] [] (sends_none j) w floor floors
+      touches_floors g wired u u_is (record (w.at u) { mark = marked (w.at u).mark j; head = record (w.at u).head { probe = None } }) j at (record (w.seen u j) { rejects = r }) [] [] (sends_none j) w floor floors
       (near_mark (marked (w.at u).mark j j) j at (branch_marked (w.at u).mark j j)) (far_mark (marked (w.at u).mark j j) j at (branch_marked (w.at u).mark j j))
       (λ i at' ne. near_mark (marked (w.at u).mark j i) i at' (branch_marked (w.at u).mark j i)) (λ i at' ne. far_mark (marked (w.at u).mark j i) i at' (branch_marked (w.at u).mark j i))
       (record { asleep = same_node.asleep; search = same_node.search }) (λ p e. branch_mark _ (sym (branch_marked (w.at u).mark j p) ∙ ap is_branch e))
-      (halted_after g wired u lo hi (record (w.at u) { mark = marked (w.at u).mark j; head = record (w.at u).head { probe = None } }) (put (w.seen u) j (record (w.seen u j) { rejects = r })) [] w floor floors (floor u) refl refl)
+      (halted_after g wired u u_is (record (w.at u) { mark = marked (w.at u).mark j; head = record (w.at u).head { probe = None } }) (put (w.seen u) j (record (w.seen u j) { rejects = r })) [] w floor floors (floor u) refl refl)
 
   -- the next Test goes out
   pub scan_floors : (l : ℕ) (n : Key) → Floors g (acts g u (record (w.at u) { head = record (w.at u).head { probe = Some j } }) (put (w.seen u) j (w.seen u j)) ((j, Test l n) ∷ []) w) floor
   scan_floors l n =
-      touches_floors g wired u lo hi (record (w.at u) { head = record (w.at u).head { probe = Some j } }) j at (w.seen u j) (Test l n ∷ []) ((j, Test l n) ∷ []) (sends_one j (Test l n)) w floor floors
+      touches_floors g wired u u_is (record (w.at u) { head = record (w.at u).head { probe = Some j } }) j at (w.seen u j) (Test l n ∷ []) ((j, Test l n) ∷ []) (sends_one j (Test l n)) w floor floors
       (near_fits g wired w holds floor floors u j at) (far_fits g wired w holds floor floors u j at) (λ i at' ne. near_fits g wired w holds floor floors u i at') (λ i at' ne. far_fits g wired w holds floor floors u i at')
-      (record { asleep = same_node.asleep; search = same_node.search }) (λ p e. e) (halted_after g wired u lo hi (record (w.at u) { head = record (w.at u).head { probe = Some j } }) (put (w.seen u) j (w.seen u j)) ((j, Test l n) ∷ []) w floor floors (floor u) refl refl)
+      (record { asleep = same_node.asleep; search = same_node.search }) (λ p e. e) (halted_after g wired u u_is (record (w.at u) { head = record (w.at u).head { probe = Some j } }) (put (w.seen u) j (w.seen u j)) ((j, Test l n) ∷ []) w floor floors (floor u) refl refl)
 
   -- a Connect over the core is answered
   module _ (l : ℕ) (ms : List Message) (waits : (w.seen u j).tree ≡ Connect l ∷ ms) (marked_so : (w.at u).mark j ≢ Basic) (m : ℕ) (k : Key) where
@@ -169,12 +169,12 @@ module _ (g : Network) (wired : IsWired g) (u : ℕ) (lo : 1 ≤ u) (hi : u ≤ 
 
     pub serve_floors : Floors g (acts g u (w.at u) (put (w.seen u) j (record (w.seen u j) { tree = ms })) ((j, Initiate m k Find) ∷ []) w) floor
     serve_floors =
-        touches_floors g wired u lo hi (w.at u) j at (record (w.seen u j) { tree = ms }) (Initiate m k Find ∷ []) ((j, Initiate m k Find) ∷ []) (sends_one j (Initiate m k Find)) w floor floors
+        touches_floors g wired u u_is (w.at u) j at (record (w.seen u j) { tree = ms }) (Initiate m k Find ∷ []) ((j, Initiate m k Find) ∷ []) (sends_one j (Initiate m k Find)) w floor floors
         near_served far_served (λ i at' ne. near_fits g wired w holds floor floors u i at') (λ i at' ne. far_fits g wired w holds floor floors u i at')
-        same_node (λ p e. e) (halted_after g wired u lo hi (w.at u) (put (w.seen u) j (record (w.seen u j) { tree = ms })) ((j, Initiate m k Find) ∷ []) w floor floors (floor u) refl refl)
+        same_node (λ p e. e) (halted_after g wired u u_is (w.at u) (put (w.seen u) j (record (w.seen u j) { tree = ms })) ((j, Initiate m k Find) ∷ []) w floor floors (floor u) refl refl)
 
 -- A node without ports wakes and halts.
-module _ (g : Network) (wired : IsWired g) (u : ℕ) (lo : 1 ≤ u) (hi : u ≤ g.count) (w : Scene) (holds : Invariant g w) (lone : ◌≡◌ {A = ℕ} (length (g.ports u)) 0) (sleeps : (w.at u).head.phase ≡ Sleeping) (floor : ℕ → Floor) (floors : Floors g w floor) where
+module _ (g : Network) (wired : IsWired g) (u : ℕ) (u_is : InNetwork g u) (w : Scene) (holds : Invariant g w) (lone : ◌≡◌ {A = ℕ} (length (g.ports u)) 0) (sleeps : (w.at u).head.phase ≡ Sleeping) (floor : ℕ → Floor) (floors : Floors g w floor) where
   no_port : (i : ℕ) → At g u i → ⊥
   no_port i at = omega (arith, at.port, lone)
 
@@ -184,10 +184,10 @@ module _ (g : Network) (wired : IsWired g) (u : ℕ) (lo : 1 ≤ u) (hi : u ≤ 
   pub lone_floors : Floors g (acts g u (record (w.at u) { head = record (w.at u).head { phase = Found; halted = true } }) (w.seen u) [] w) floor
   lone_floors =
       subst (Floors g (acts g u x (w.seen u) [] w)) (put_again floor u) (record {
-        nodes = nodes_after g wired u lo hi x (w.seen u) [] w floor floors (floor u) (record { asleep = λ e. absurd (let z : Found ≡ Sleeping = e in cc); search = λ e. absurd (let z : Found ≡ Find = e in cc) });
-        links = links_after g wired u lo hi x (w.seen u) [] w floor floors (floor u) (λ i at. absurd (no_port i at)) (λ i at. absurd (no_port i at));
-        in_tree = in_tree_after g wired u lo hi x (w.seen u) [] w floor floors (floor u) (λ p at m. absurd (no_port p at));
+        nodes = nodes_after g wired u u_is x (w.seen u) [] w floor floors (floor u) (record { asleep = λ e. absurd (let z : Found ≡ Sleeping = e in cc); search = λ e. absurd (let z : Found ≡ Find = e in cc) });
+        links = links_after g wired u u_is x (w.seen u) [] w floor floors (floor u) (λ i at. absurd (no_port i at)) (λ i at. absurd (no_port i at));
+        in_tree = in_tree_after g wired u u_is x (w.seen u) [] w floor floors (floor u) (λ p at m. absurd (no_port p at));
         halted =
-            halted_more g wired u lo hi x (w.seen u) [] w floor floors (floor u) refl
-            (λ t p at same. absurd (let e = holds.alone u t (record { some = lo; node = hi }) (record { some = at.some; node = at.node }) sleeps same in no_port p (subst (λ y. At g y p) e at)));
+            halted_more g wired u u_is x (w.seen u) [] w floor floors (floor u) refl
+            (λ t p at same. absurd (let e = holds.alone u t u_is (record { some = at.some; node = at.node }) sleeps same in no_port p (subst (λ y. At g y p) e at)));
       })

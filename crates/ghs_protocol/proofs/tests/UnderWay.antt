@@ -9,7 +9,7 @@ use Rattle.ghs_node.specs.declared.message.Phase.{Phase}
 use Rattle.ghs_node.specs.declared.message.Phase.TheVariants.{Find, Found}
 use Rattle.ghs_node.specs.declared.message.Message.{Message}
 use Rattle.ghs_node.specs.declared.message.Message.TheVariants.{Connect, Initiate, Test, Accept, Reject, Report, ChangeRoot}
-use Rattle.ghs_protocol.specs.Network.{Network, port_at, At, far, far_port, IsWired}
+use Rattle.ghs_protocol.specs.Network.{Network, port_at, At, far, far_port, IsWired, InNetwork}
 use Rattle.ghs_protocol.specs.Net.{put}
 use Rattle.ghs_protocol.proofs.clauses.Scene.{Seen, adds, Member, Scene, End, TreeEnd, tree_end, end, acts, far_end}
 use Rattle.ghs_protocol.proofs.clauses.Whole.{LinkFits, Invariant, NamesOf}
@@ -31,7 +31,7 @@ use Rattle.ghs_protocol.proofs.search.Close.{has_report_append}
 use Rattle.ghs_protocol.proofs.tests.Links.{probe_is}
 
 -- One link is touched: a fact of all links.
-module _ (g : Network) (wired : IsWired g) (u : ℕ) (lo : 1 ≤ u) (hi : u ≤ g.count) (x : Member) (j : ℕ) (at : At g u j) (q : Seen) (ms : List Message) (ss : Outgoing) (on : SendsOn j ms ss) (w : Scene) where
+module _ (g : Network) (wired : IsWired g) (u : ℕ) (u_is : InNetwork g u) (x : Member) (j : ℕ) (at : At g u j) (q : Seen) (ms : List Message) (ss : Outgoing) (on : SendsOn j ms ss) (w : Scene) where
   abbrev pub still : ℕ → End
   still i = record { port = i; key = (port_at g u i).key; mark = x.mark i; is = x; seen = w.seen u i }
 
@@ -49,9 +49,9 @@ module _ (g : Network) (wired : IsWired g) (u : ℕ) (lo : 1 ≤ u) (hi : u ≤ 
       ((i : ℕ) → At g u i → i ≢ j → P (still i) (far_end g w u i)) → ((i : ℕ) → At g u i → i ≢ j → P (far_end g w u i) (still i)) →
       (v p : ℕ) → At g v p → P (end g after v p) (end g after (far g v p) (far_port g v p))
   touches P all hit hit' miss miss' =
-      acts_keeps g wired u lo hi x (put (w.seen u) j q) ss w P all
-      (by_port_at g wired u lo hi x j at q ms ss on w (λ i e f. P e f) hit miss)
-      (by_port_at g wired u lo hi x j at q ms ss on w (λ i e f. P f e) hit' miss')
+      acts_keeps g wired u u_is.some u_is.node x (put (w.seen u) j q) ss w P all
+      (by_port_at g wired u u_is x j at q ms ss on w (λ i e f. P e f) hit miss)
+      (by_port_at g wired u u_is x j at q ms ss on w (λ i e f. P f e) hit' miss')
 
   -- the four readings of a fact that the act leaves to show
   abbrev pub Ends : (End → End → Type 0) → Type 0
@@ -109,7 +109,7 @@ brought_despite (Reject ∷ xs) l k = brought_despite xs l k
 brought_despite (Report r ∷ xs) l k = brought_despite xs l k
 brought_despite (ChangeRoot ∷ xs) l k = brought_despite xs l k
 
-module _ (g : Network) (wired : IsWired g) (u : ℕ) (lo : 1 ≤ u) (hi : u ≤ g.count) (j : ℕ) (at : At g u j) (w : Scene) (holds : Invariant g w) (lives : Lives g w) where
+module _ (g : Network) (wired : IsWired g) (u : ℕ) (u_is : InNetwork g u) (j : ℕ) (at : At g u j) (w : Scene) (holds : Invariant g w) (lives : Lives g w) where
   pub near_asks : (i : ℕ) → At g u i → ProbeAsks (end g w u i) (far_end g w u i)
   near_asks i at' = at_near g wired w ProbeAsks lives.asks u i at'
 
@@ -155,7 +155,7 @@ module _ (g : Network) (wired : IsWired g) (u : ℕ) (lo : 1 ≤ u) (hi : u ≤ 
   -- a Test is accepted
   pub accept_sent_lives : (l : ℕ) (n : Key) (ts : List (ℕ × Key)) → (w.seen u j).tests ≡ (l, n) ∷ ts → (w.at u).head.name ≢ Some n → Lives g (acts g u (w.at u) (put (w.seen u) j (record (w.seen u j) { tests = ts })) ((j, Accept) ∷ []) w)
   accept_sent_lives l n ts waits other =
-      touches_lives g wired u lo hi (w.at u) j at (record (w.seen u j) { tests = ts }) (Accept ∷ []) ((j, Accept) ∷ []) (sends_one j Accept) w lives
+      touches_lives g wired u u_is (w.at u) j at (record (w.seen u j) { tests = ts }) (Accept ∷ []) ((j, Accept) ∷ []) (sends_one j Accept) w lives
       ((λ own. go (near_asks j at own)), (λ own. Accept_here (omega arith)), (λ i at' ne. near_asks i at'), (λ i at' ne. far_asks i at'))
       (near_brought j at, far_brought j at, (λ i at' ne. near_brought i at'), (λ i at' ne. far_brought i at'))
       (near_heard j at, far_heard j at, (λ i at' ne. near_heard i at'), (λ i at' ne. far_heard i at'))
@@ -169,7 +169,7 @@ module _ (g : Network) (wired : IsWired g) (u : ℕ) (lo : 1 ≤ u) (hi : u ≤ 
   -- a Test is rejected
   pub reject_sent_lives : (ts : List (ℕ × Key)) → (w.at u).head.probe ≢ Some j → Lives g (acts g u (record (w.at u) { mark = marked (w.at u).mark j }) (put (w.seen u) j (record (w.seen u j) { tests = ts })) ((j, Reject) ∷ []) w)
   reject_sent_lives ts free =
-      touches_lives g wired u lo hi (record (w.at u) { mark = marked (w.at u).mark j }) j at (record (w.seen u j) { tests = ts }) (Reject ∷ []) ((j, Reject) ∷ []) (sends_one j Reject) w lives
+      touches_lives g wired u u_is (record (w.at u) { mark = marked (w.at u).mark j }) j at (record (w.seen u j) { tests = ts }) (Reject ∷ []) ((j, Reject) ∷ []) (sends_one j Reject) w lives
       ((λ own. absurd (free own)), (λ own. Reject_here (omega arith)), (λ i at' ne. near_asks i at'), (λ i at' ne. far_asks i at'))
       (near_brought_marked j at, far_brought_marked j at, (λ i at' ne. near_brought_marked i at'), (λ i at' ne. far_brought_marked i at'))
       (near_heard_marked j at, far_heard_marked j at, (λ i at' ne. near_heard_marked i at'), (λ i at' ne. far_heard_marked i at'))
@@ -181,7 +181,7 @@ module _ (g : Network) (wired : IsWired g) (u : ℕ) (lo : 1 ≤ u) (hi : u ≤ 
   -- Tests cross
   pub cross_lives : (l : ℕ) (n : Key) (ts : List (ℕ × Key)) → IsKeyed g → (w.seen u j).tests ≡ (l, n) ∷ ts → (w.at u).head.name ≡ Some n → (w.at u).head.probe ≡ Some j → Lives g (acts g u (record (w.at u) { mark = marked (w.at u).mark j; head = record (w.at u).head { probe = None } }) (put (w.seen u) j (record (w.seen u j) { tests = ts })) [] w)
   cross_lives l n ts keyed waits name own =
-      touches_lives g wired u lo hi (record (w.at u) { mark = marked (w.at u).mark j; head = record (w.at u).head { probe = None } }) j at (record (w.seen u j) { tests = ts }) [] [] (sends_none j) w lives
+      touches_lives g wired u u_is (record (w.at u) { mark = marked (w.at u).mark j; head = record (w.at u).head { probe = None } }) j at (record (w.seen u j) { tests = ts }) [] [] (sends_none j) w lives
       ((λ z. absurd (unprobed j z)), (λ theirs. go theirs (near_asks j at own)), (λ i at' ne z. absurd (unprobed i z)), (λ i at' ne. far_dropped i at'))
       (near_brought_marked j at, far_brought_marked j at, (λ i at' ne. near_brought_marked i at'), (λ i at' ne. far_brought_marked i at'))
       (near_heard_marked j at, far_heard_marked j at, (λ i at' ne. near_heard_marked i at'), (λ i at' ne. far_heard_marked i at'))
@@ -193,7 +193,7 @@ module _ (g : Network) (wired : IsWired g) (u : ℕ) (lo : 1 ≤ u) (hi : u ≤ 
       same : (w.at (far g u j)).head.probe ≡ Some (far_port g u j) → (w.at (far g u j)).fragment ≡ (w.at u).fragment
       same theirs =
           let a : AllFrom (w.at (far g u j)).head.level (w.at (far g u j)).head.name ((l, n) ∷ ts) = subst (AllFrom (w.at (far g u j)).head.level (w.at (far g u j)).head.name) waits ((link_fits' g wired w holds u j at).tests.probing theirs).from in
-          sym (one_name g wired u lo hi j at w holds n keyed name a.1)
+          sym (one_name g wired u u_is j at w holds n keyed name a.1)
 
       go : (w.at (far g u j)).head.probe ≡ Some (far_port g u j) → Answering (w.seen (far g u j) (far_port g u j)).tests (w.seen u j).accepts (w.seen u j).rejects (w.seen u j).tests (w.at (far g u j)).head.probe (far_port g u j) → Answering ts (w.seen (far g u j) (far_port g u j)).accepts (w.seen (far g u j) (far_port g u j)).rejects (w.seen (far g u j) (far_port g u j)).tests None j
       go theirs (Test_there h) = Crossed_here h (λ z. cc)
@@ -204,7 +204,7 @@ module _ (g : Network) (wired : IsWired g) (u : ℕ) (lo : 1 ≤ u) (hi : u ≤ 
   -- a Reject is heard
   pub reject_lives : (r : ℕ) → Lives g (acts g u (record (w.at u) { mark = marked (w.at u).mark j; head = record (w.at u).head { probe = None } }) (put (w.seen u) j (record (w.seen u j) { rejects = r })) [] w)
   reject_lives r =
-      touches_lives g wired u lo hi (record (w.at u) { mark = marked (w.at u).mark j; head = record (w.at u).head { probe = None } }) j at (record (w.seen u j) { rejects = r }) [] [] (sends_none j) w lives
+      touches_lives g wired u u_is (record (w.at u) { mark = marked (w.at u).mark j; head = record (w.at u).head { probe = None } }) j at (record (w.seen u j) { rejects = r }) [] [] (sends_none j) w lives
       ((λ z. absurd (unprobed j z)), far_dropped j at, (λ i at' ne z. absurd (unprobed i z)), (λ i at' ne. far_dropped i at'))
       (near_brought_marked j at, far_brought_marked j at, (λ i at' ne. near_brought_marked i at'), (λ i at' ne. far_brought_marked i at'))
       (near_heard_marked j at, far_heard_marked j at, (λ i at' ne. near_heard_marked i at'), (λ i at' ne. far_heard_marked i at'))
@@ -212,7 +212,7 @@ module _ (g : Network) (wired : IsWired g) (u : ℕ) (lo : 1 ≤ u) (hi : u ≤ 
   -- the next Test goes out
   pub scan_lives : (l : ℕ) (n : Key) → (w.at u).head.probe ≡ None → (w.at u).mark j ≡ Basic → Lives g (acts g u (record (w.at u) { head = record (w.at u).head { probe = Some j } }) (put (w.seen u) j (w.seen u j)) ((j, Test l n) ∷ []) w)
   scan_lives l n none basic =
-      touches_lives g wired u lo hi (record (w.at u) { head = record (w.at u).head { probe = Some j } }) j at (w.seen u j) (Test l n ∷ []) ((j, Test l n) ∷ []) (sends_one j (Test l n)) w lives
+      touches_lives g wired u u_is (record (w.at u) { head = record (w.at u).head { probe = Some j } }) j at (w.seen u j) (Test l n ∷ []) ((j, Test l n) ∷ []) (sends_one j (Test l n)) w lives
       ((λ own. Test_there (let z = length-append (w.seen (far g u j) (far_port g u j)).tests ((l, n) ∷ []) in omega (arith, z))), (λ theirs. here (far_asks j at theirs)), (λ i at' ne own. absurd (ne (sym (same_Some j i own)))), (λ i at' ne theirs. beside i ne (far_asks i at' theirs)))
       (near_brought j at, far_brought j at, (λ i at' ne. near_brought i at'), (λ i at' ne. far_brought i at'))
       (near_heard j at, far_heard j at, (λ i at' ne. near_heard i at'), (λ i at' ne. far_heard i at'))
@@ -237,24 +237,24 @@ module _ (g : Network) (wired : IsWired g) (u : ℕ) (lo : 1 ≤ u) (hi : u ≤ 
   -- an Accept is heard
   pub accept_lives : (a : ℕ) → (w.at u).head.probe ≡ Some j → Lives g (acts g u (record (w.at u) { head = record (w.at u).head { probe = None; best = better (w.at u).head.best j (Some (port_at g u j).key) } }) (put (w.seen u) j (record (w.seen u j) { accepts = a })) [] w)
   accept_lives a own =
-      touches_lives g wired u lo hi (record (w.at u) { head = record (w.at u).head { probe = None; best = better (w.at u).head.best j (Some (port_at g u j).key) } }) j at (record (w.seen u j) { accepts = a }) [] [] (sends_none j) w lives
+      touches_lives g wired u u_is (record (w.at u) { head = record (w.at u).head { probe = None; best = better (w.at u).head.best j (Some (port_at g u j).key) } }) j at (record (w.seen u j) { accepts = a }) [] [] (sends_none j) w lives
       ((λ z. absurd (unprobed j z)), far_dropped j at, (λ i at' ne z. absurd (unprobed i z)), (λ i at' ne. far_dropped i at'))
       (near_brought j at, far_brought j at, (λ i at' ne. near_brought i at'), (λ i at' ne. far_brought i at'))
       ((λ c t f n. absurd (let z : (w.at u).head.phase ≡ Found = f in cc (z, finds))), (λ c t f n. absurd (hears_nothing finds j at c t f n)), (λ i at' ne c t f n. absurd (let z : (w.at u).head.phase ≡ Found = f in cc (z, finds))), (λ i at' ne c t f n. absurd (hears_nothing finds i at' c t f n)))
     where
       finds : (w.at u).head.phase ≡ Find
-      finds = probing_finds (holds.nodes u (record { some = lo; node = hi })) own
+      finds = probing_finds (holds.nodes u u_is) own
 
   -- a child's Report is heard
   pub report_lives : (k : Option Key) (ms : List Message) (c : ℕ) → (w.seen u j).tree ≡ Report k ∷ ms → (w.at u).head.in_branch ≢ Some j → (w.at u).head.find_count ≡ suc c → Lives g (acts g u (record (w.at u) { head = record (w.at u).head { find_count = c; best = better (w.at u).head.best j k } }) (put (w.seen u) j (record (w.seen u j) { tree = [] })) [] w)
   report_lives k ms c waits away count =
-      touches_lives g wired u lo hi (record (w.at u) { head = record (w.at u).head { find_count = c; best = better (w.at u).head.best j k } }) j at (record (w.seen u j) { tree = [] }) [] [] (sends_none j) w lives
+      touches_lives g wired u u_is (record (w.at u) { head = record (w.at u).head { find_count = c; best = better (w.at u).head.best j k } }) j at (record (w.seen u j) { tree = [] }) [] [] (sends_none j) w lives
       (near_asks j at, far_asks j at, (λ i at' ne. near_asks i at'), (λ i at' ne. far_asks i at'))
       ((λ z. absurd (heard.child.down z.2)), far_brought j at, (λ i at' ne. near_brought i at'), (λ i at' ne. far_brought i at'))
       ((λ z. absurd (heard.child.down z.2)), (λ z. absurd (heard.child.down z.3)), (λ i at' ne z t f n. absurd (let y : (w.at u).head.phase ≡ Found = f in cc (y, finds))), (λ i at' ne z t f n. absurd (hears_nothing finds i at' z t f n)))
     where
       finds : (w.at u).head.phase ≡ Find
-      finds = ⊎_elim (λ h. h) (λ ne. absurd (let z = ((holds.nodes u (record { some = lo; node = hi })).idle ne).1 in omega (arith, z, count))) (is_find' (w.at u).head.phase)
+      finds = ⊎_elim (λ h. h) (λ ne. absurd (let z = ((holds.nodes u u_is).idle ne).1 in omega (arith, z, count))) (is_find' (w.at u).head.phase)
 
       heard : Heard (tree_end (end g w u j)) (tree_end (far_end g w u j)) k
       heard = heard_first (tree_end (end g w u j)) (tree_end (far_end g w u j)) (link_fits g wired w holds u j at).tree (link_fits' g wired w holds u j at).tree (link_leads g wired w holds u j at) k ms waits away
@@ -262,7 +262,7 @@ module _ (g : Network) (wired : IsWired g) (u : ℕ) (lo : 1 ≤ u) (hi : u ≤ 
   -- a Connect over the core is answered
   pub serve_lives : (l : ℕ) (ms : List Message) → (w.seen u j).tree ≡ Connect l ∷ ms → (w.at u).mark j ≢ Basic → (m : ℕ) (k : Key) → Lives g (acts g u (w.at u) (put (w.seen u) j (record (w.seen u j) { tree = ms })) ((j, Initiate m k Find) ∷ []) w)
   serve_lives l ms waits marked_so m k =
-      touches_lives g wired u lo hi (w.at u) j at (record (w.seen u j) { tree = ms }) (Initiate m k Find ∷ []) ((j, Initiate m k Find) ∷ []) (sends_one j (Initiate m k Find)) w lives
+      touches_lives g wired u u_is (w.at u) j at (record (w.seen u j) { tree = ms }) (Initiate m k Find ∷ []) ((j, Initiate m k Find) ∷ []) (sends_one j (Initiate m k Find)) w lives
       (near_asks j at, far_asks j at, (λ i at' ne. near_asks i at'), (λ i at' ne. far_asks i at'))
       ((λ z. absurd (z.3 asked.core.both.up_beyond)), (λ z. absurd (z.3 asked.core.both.up)), (λ i at' ne. near_brought i at'), (λ i at' ne. far_brought i at'))
       ((λ z t f n. near_heard j at z t f (sym (call_unreported (w.seen (far g u j) (far_port g u j)).tree m k Find) ∙ n)), (λ z t f n. far_heard j at z t f (ap has_report waits ∙ n)), (λ i at' ne. near_heard i at'), (λ i at' ne. far_heard i at'))
@@ -274,13 +274,13 @@ module _ (g : Network) (wired : IsWired g) (u : ℕ) (lo : 1 ≤ u) (hi : u ≤ 
   pub end_lives : (k : Option Key) (ms : List Message) → (w.seen u j).tree ≡ Report k ∷ ms → (w.at u).head.phase ≡ Found → (b : Bool) → (b ≡ (w.at u).head.halted) ⊎ (b ≡ true) → below (best_key (w.at u).head.best) k ≡ false → (k ≡ None → (w.at u).head.best ≡ None → b ≡ true) →
       Lives g (acts g u (record (w.at u) { head = record (w.at u).head { halted = b } }) (put (w.seen u) j (record (w.seen u j) { tree = ms })) [] w)
   end_lives k ms waits rests b why less halts =
-      touches_lives g wired u lo hi (record (w.at u) { head = record (w.at u).head { halted = b } }) j at (record (w.seen u j) { tree = ms }) [] [] (sends_none j) w lives
+      touches_lives g wired u u_is (record (w.at u) { head = record (w.at u).head { halted = b } }) j at (record (w.seen u j) { tree = ms }) [] [] (sends_none j) w lives
       (near_asks j at, far_asks j at, (λ i at' ne. near_asks i at'), (λ i at' ne. far_asks i at'))
       ((λ c. ap (brought_to (w.at u).head.level) (sym waits) ∙ near_brought j at c), far_brought j at, (λ i at' ne. near_brought i at'), (λ i at' ne. far_brought i at'))
       (near_heard j at, (λ c t f n. from_back c came), (λ i at' ne. near_heard i at'), (λ i at' ne c t f n. more (far_heard i at' c t f n)))
     where
       mine : (w.at u).up ≢ Some j → ⊥
-      mine ne = let z = owed_finds g wired u lo hi j at w holds ne (rw waits refl) in cc (z, rests)
+      mine ne = let z = owed_finds g wired u u_is j at w holds ne (rw waits refl) in cc (z, rests)
 
       came : Back (NamesOf g w (w.at u).fragment) (tree_end (end g w u j)) (tree_end (far_end g w u j)) k ms
       came = back (tree_end (end g w u j)) (tree_end (far_end g w u j)) (link_fits g wired w holds u j at).tree (link_fits' g wired w holds u j at).tree (link_leads g wired w holds u j at) k ms waits mine
@@ -305,16 +305,16 @@ module _ (g : Network) (wired : IsWired g) (u : ℕ) (lo : 1 ≤ u) (hi : u ≤ 
   -- a node that has heard all reports makes its own
   pub closes_lives : (w.at u).head.phase ≡ Find → (w.at u).head.in_branch ≡ Some j → (k : Option Key) → Lives g (acts g u (record (w.at u) { head = record (w.at u).head { phase = Found } }) (put (w.seen u) j (w.seen u j)) ((j, Report k) ∷ []) w)
   closes_lives finds way k =
-      touches_lives g wired u lo hi (record (w.at u) { head = record (w.at u).head { phase = Found } }) j at (w.seen u j) (Report k ∷ []) ((j, Report k) ∷ []) (sends_one j (Report k)) w lives
+      touches_lives g wired u u_is (record (w.at u) { head = record (w.at u).head { phase = Found } }) j at (w.seen u j) (Report k ∷ []) ((j, Report k) ∷ []) (sends_one j (Report k)) w lives
       (near_asks j at, far_asks j at, (λ i at' ne. near_asks i at'), (λ i at' ne. far_asks i at'))
       (near_brought j at, (λ c. brought_despite (w.seen (far g u j) (far_port g u j)).tree (w.at (far g u j)).head.level k ∙ far_brought j at c), (λ i at' ne. near_brought i at'), (λ i at' ne. far_brought i at'))
       ((λ c t f n. absurd (let z = has_report_append (w.seen (far g u j) (far_port g u j)).tree k in cc (z, n))), (λ c t f n. absurd (hears_nothing finds j at c t f n)), (λ i at' ne c t f n. absurd (ne (sym (same_Some j i (sym up ∙ c.2))))), (λ i at' ne c t f n. absurd (hears_nothing finds i at' c t f n)))
     where
       up : (w.at u).up ≡ Some j
-      up = let s = (holds.nodes u (record { some = lo; node = hi })).searching finds in s.up ∙ sym s.in_branch ∙ way
+      up = let s = (holds.nodes u u_is).searching finds in s.up ∙ sym s.in_branch ∙ way
 
 -- a node without ports wakes and halts
-module _ (g : Network) (wired : IsWired g) (u : ℕ) (lo : 1 ≤ u) (hi : u ≤ g.count) (w : Scene) (lives : Lives g w) (lone : ◌≡◌ {A = ℕ} (length (g.ports u)) 0) where
+module _ (g : Network) (wired : IsWired g) (u : ℕ) (u_is : InNetwork g u) (w : Scene) (lives : Lives g w) (lone : ◌≡◌ {A = ℕ} (length (g.ports u)) 0) where
   no_port : (i : ℕ) → At g u i → ⊥
   no_port i at = omega (arith, at.port, lone)
 
@@ -323,7 +323,7 @@ module _ (g : Network) (wired : IsWired g) (u : ℕ) (lo : 1 ≤ u) (hi : u ≤ 
 
   pub lone_lives : Lives g (acts g u (record (w.at u) { head = record (w.at u).head { phase = Found; halted = true } }) (w.seen u) [] w)
   lone_lives = record {
-    asks = acts_keeps g wired u lo hi x (w.seen u) [] w ProbeAsks lives.asks (λ i at. absurd (no_port i at)) (λ i at. absurd (no_port i at));
-    brought = acts_keeps g wired u lo hi x (w.seen u) [] w ChildBrought lives.brought (λ i at. absurd (no_port i at)) (λ i at. absurd (no_port i at));
-    heard = acts_keeps g wired u lo hi x (w.seen u) [] w CoreHeard lives.heard (λ i at. absurd (no_port i at)) (λ i at. absurd (no_port i at));
+    asks = acts_keeps g wired u u_is.some u_is.node x (w.seen u) [] w ProbeAsks lives.asks (λ i at. absurd (no_port i at)) (λ i at. absurd (no_port i at));
+    brought = acts_keeps g wired u u_is.some u_is.node x (w.seen u) [] w ChildBrought lives.brought (λ i at. absurd (no_port i at)) (λ i at. absurd (no_port i at));
+    heard = acts_keeps g wired u u_is.some u_is.node x (w.seen u) [] w CoreHeard lives.heard (λ i at. absurd (no_port i at)) (λ i at. absurd (no_port i at));
   }

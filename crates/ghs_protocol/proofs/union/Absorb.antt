@@ -59,10 +59,10 @@ some_key : (o : Option Key) → o ≢ None → (k : Key) × (o ≡ Some k)
 some_key None ne = absurd (ne refl)
 some_key (Some k) ne = (k, refl)
 
-module _ (g : Network) (ground : Ground g) (u : ℕ) (lo : 1 ≤ u) (hi : u ≤ g.count) (w : Scene) (holds : Invariant g w) (j : ℕ) (at : At g u j) (ms : List Message) (l : ℕ)
+module _ (g : Network) (ground : Ground g) (u : ℕ) (u_is : InNetwork g u) (w : Scene) (holds : Invariant g w) (j : ℕ) (at : At g u j) (ms : List Message) (l : ℕ)
     (k : Key) (waits : (w.seen u j).tree ≡ Connect l ∷ ms) (lower : l < (w.at u).head.level) (name : (w.at u).head.name ≡ Some k) (awake : (w.at u).head.phase ≢ Sleeping) where
   is : InNetwork g u
-  is = record { some = lo; node = hi }
+  is = u_is
 
   at' : At g (far g u j) (far_port g u j)
   at' = ground.wired.there u j at
@@ -142,16 +142,16 @@ module _ (g : Network) (ground : Ground g) (u : ℕ) (lo : 1 ≤ u) (hi : u ≤ 
   }
 
   -- the links but this one
-  near_is : (i : ℕ) → i ≢ j → near' g ground.wired u lo hi takes (put (w.seen u) j rest) sends w i ≡ record { port = i; key = (port_at g u i).key; mark = (w.at u).mark i; is = takes; seen = w.seen u i }
+  near_is : (i : ℕ) → i ≢ j → near' g ground.wired u u_is takes (put (w.seen u) j rest) sends w i ≡ record { port = i; key = (port_at g u i).key; mark = (w.at u).mark i; is = takes; seen = w.seen u i }
   near_is i ne = λ z. record { port = i; key = (port_at g u i).key; mark = put_other (w.at u).mark j i Branch ne z; is = takes; seen = put_other (w.seen u) j i rest ne z }
 
-  far_is : (i : ℕ) → i ≢ j → far' g ground.wired u lo hi takes (put (w.seen u) j rest) sends w i ≡ far_end g w u i
+  far_is : (i : ℕ) → i ≢ j → far' g ground.wired u u_is takes (put (w.seen u) j rest) sends w i ≡ far_end g w u i
   far_is i ne = λ z. record { port = far_port g u i; key = (port_at g u i).key; mark = (w.at (far g u i)).mark (far_port g u i); is = w.at (far g u i); seen = adds (w.seen (far g u i) (far_port g u i)) ((sends_one j (Initiate (w.at u).head.level k (w.at u).head.phase)).none i ne z) }
 
-  near : (i : ℕ) → At g u i → i ≢ j → LinkFits (NamesOf g w) (near' g ground.wired u lo hi takes (put (w.seen u) j rest) sends w i) (far' g ground.wired u lo hi takes (put (w.seen u) j rest) sends w i)
+  near : (i : ℕ) → At g u i → i ≢ j → LinkFits (NamesOf g w) (near' g ground.wired u u_is takes (put (w.seen u) j rest) sends w i) (far' g ground.wired u u_is takes (put (w.seen u) j rest) sends w i)
   near i a ne = let h = at_near g ground.wired w (LinkFits (NamesOf g w)) holds.links u i a in subst₂ (LinkFits (NamesOf g w)) (sym (near_is i ne)) (sym (far_is i ne)) (record { tree = h.tree; search = h.search; tests = h.tests })
 
-  away : (i : ℕ) → At g u i → i ≢ j → LinkFits (NamesOf g w) (far' g ground.wired u lo hi takes (put (w.seen u) j rest) sends w i) (near' g ground.wired u lo hi takes (put (w.seen u) j rest) sends w i)
+  away : (i : ℕ) → At g u i → i ≢ j → LinkFits (NamesOf g w) (far' g ground.wired u u_is takes (put (w.seen u) j rest) sends w i) (near' g ground.wired u u_is takes (put (w.seen u) j rest) sends w i)
   away i a ne = let h = at_far g ground.wired w (LinkFits (NamesOf g w)) holds.links u i a in subst₂ (LinkFits (NamesOf g w)) (sym (far_is i ne)) (sym (near_is i ne)) (record { tree = h.tree; search = h.search; tests = h.tests })
 
   -- find_count
@@ -175,19 +175,19 @@ module _ (g : Network) (ground : Ground g) (u : ℕ) (lo : 1 ≤ u) (hi : u ≤ 
 
   counted : DebtsCounted g grown
   counted =
-      sums_one g ground.wired u lo hi takes j at rest (Initiate (w.at u).head.level k (w.at u).head.phase ∷ []) sends (sends_one j (Initiate (w.at u).head.level k (w.at u).head.phase)) w
+      sums_one g ground.wired u u_is takes j at rest (Initiate (w.at u).head.level k (w.at u).head.phase ∷ []) sends (sends_one j (Initiate (w.at u).head.level k (w.at u).head.phase)) w
       holds.counted (count_more (w.at u).head.phase (w.at u).head.find_count (debt (end g w u j) (far_end g w u j)) (debt here_now there_now) awake no_debt a_debt still_none) (λ i ne. refl)
       (debt_up there_now here_now came.under.up ∙ sym (debt_up (far_end g w u j) (end g w u j) came.under.up)) (λ i ne. refl)
 
   -- members, ways and queues
   fragment_is : (t : ℕ) → (grown.at t).fragment ≡ (w.at t).fragment
-  fragment_is t = fragment_was g ground.wired u lo hi j at w holds takes (put (w.seen u) j rest) sends more t
+  fragment_is t = fragment_was g ground.wired u u_is j at w holds takes (put (w.seen u) j rest) sends more t
 
   coming_is : (t : ℕ) → (grown.at t).coming ≡ (w.at t).coming
-  coming_is t = coming_was g ground.wired u lo hi j at w holds takes (put (w.seen u) j rest) sends more t
+  coming_is t = coming_was g ground.wired u u_is j at w holds takes (put (w.seen u) j rest) sends more t
 
   name_is : (t : ℕ) → (grown.at t).coming_name ≡ (w.at t).coming_name
-  name_is t = name_was g ground.wired u lo hi j at w holds takes (put (w.seen u) j rest) sends more t
+  name_is t = name_was g ground.wired u u_is j at w holds takes (put (w.seen u) j rest) sends more t
 
   up_is : (t : ℕ) → (grown.at t).up ≡ (w.at t).up
   up_is t = put_alike (λ (m : Member). m.up) w.at u takes refl t
@@ -196,16 +196,16 @@ module _ (g : Network) (ground : Ground g) (u : ℕ) (lo : 1 ≤ u) (hi : u ≤ 
   phase_is t = put_alike (λ (m : Member). m.head.phase) w.at u takes refl t
 
   mark_off : (t p : ℕ) → ((t ≡ u) × (p ≡ j) → ⊥) → (grown.at t).mark p ≡ (w.at t).mark p
-  mark_off t p off = mark_else g ground.wired u lo hi j at w holds takes (put (w.seen u) j rest) sends more t p off
+  mark_off t p off = mark_else g ground.wired u u_is j at w holds takes (put (w.seen u) j rest) sends more t p off
 
   joined_old : (t p : ℕ) → Off g u j t p → IsJoinedIn g (forest grown) t p → IsJoinedIn g (forest w) t p
-  joined_old t p off l' = joined_was g ground.wired u lo hi j at w holds takes (put (w.seen u) j rest) sends more t p off l'
+  joined_old t p off l' = joined_was g ground.wired u u_is j at w holds takes (put (w.seen u) j rest) sends more t p off l'
 
   joined_new : (t p : ℕ) → IsJoinedIn g (forest w) t p → IsJoinedIn g (forest grown) t p
-  joined_new t p l' = joined_grows g ground.wired u lo hi j at w holds takes (put (w.seen u) j rest) sends more t p l'
+  joined_new t p l' = joined_grows g ground.wired u u_is j at w holds takes (put (w.seen u) j rest) sends more t p l'
 
   bridge : IsJoinedIn g (forest grown) u j
-  bridge = bridged g ground.wired u lo hi j at w holds takes (put (w.seen u) j rest) sends more came.mark'
+  bridge = bridged g ground.wired u u_is j at w holds takes (put (w.seen u) j rest) sends more came.mark'
 
   -- the far end of this link, from the other side
   across : (t p : ℕ) → At g t p → far g t p ≡ u → far_port g t p ≡ j → (far g u j ≡ t) × (far_port g u j ≡ p)
@@ -255,10 +255,10 @@ module _ (g : Network) (ground : Ground g) (u : ℕ) (lo : 1 ≤ u) (hi : u ≤ 
 
   -- what waits off this link
   seen_off : (t p : ℕ) → At g t p → Off g u j t p → grown.seen t p ≡ w.seen t p
-  seen_off t p a off = ⊎_elim mine (λ ne. ⊎_elim theirs (λ ne'. other_seen g ground.wired u lo hi takes (put (w.seen u) j rest) sends w t p a ne ne') (cases_eq (far g t p) u)) (cases_eq t u)
+  seen_off t p a off = ⊎_elim mine (λ ne. ⊎_elim theirs (λ ne'. other_seen g ground.wired u u_is.some u_is.node takes (put (w.seen u) j rest) sends w t p a ne ne') (cases_eq (far g t p) u)) (cases_eq t u)
     where
       mine : t ≡ u → grown.seen t p ≡ w.seen t p
-      mine e = subst (λ y. grown.seen y p ≡ w.seen y p) (sym e) (here_seen g ground.wired u lo hi takes (put (w.seen u) j rest) sends w p ∙ put_other (w.seen u) j p rest (λ h. off.here (e, h)))
+      mine e = subst (λ y. grown.seen y p ≡ w.seen y p) (sym e) (here_seen g ground.wired u u_is.some u_is.node takes (put (w.seen u) j rest) sends w p ∙ put_other (w.seen u) j p rest (λ h. off.here (e, h)))
 
       theirs : far g t p ≡ u → grown.seen t p ≡ w.seen t p
       theirs e =
@@ -266,13 +266,13 @@ module _ (g : Network) (ground : Ground g) (u : ℕ) (lo : 1 ≤ u) (hi : u ≤ 
           let a' : At g u i = subst (λ y. At g y i) e (ground.wired.there t p a) in
           let z : far g u i ≡ t = ap (λ y. far g y i) (sym e) ∙ ground.wired.back t p a in
           let z' : far_port g u i ≡ p = ap (λ y. far_port g y i) (sym e) ∙ ground.wired.back_port t p a in
-          subst₂ (λ x y. grown.seen x y ≡ w.seen x y) z z' (far_seen g ground.wired u lo hi takes (put (w.seen u) j rest) sends w i a' ∙ ap (adds (w.seen (far g u i) (far_port g u i))) ((sends_one j (Initiate (w.at u).head.level k (w.at u).head.phase)).none i (λ h. off.there (e, h))))
+          subst₂ (λ x y. grown.seen x y ≡ w.seen x y) z z' (far_seen g ground.wired u u_is.some u_is.node takes (put (w.seen u) j rest) sends w i a' ∙ ap (adds (w.seen (far g u i) (far_port g u i))) ((sends_one j (Initiate (w.at u).head.level k (w.at u).head.phase)).none i (λ h. off.there (e, h))))
 
   seen_here : grown.seen u j ≡ rest
-  seen_here = here_seen g ground.wired u lo hi takes (put (w.seen u) j rest) sends w j ∙ put_same (w.seen u) j rest
+  seen_here = here_seen g ground.wired u u_is.some u_is.node takes (put (w.seen u) j rest) sends w j ∙ put_same (w.seen u) j rest
 
   seen_there : grown.seen (far g u j) (far_port g u j) ≡ there_now.seen
-  seen_there = far_seen g ground.wired u lo hi takes (put (w.seen u) j rest) sends w j at ∙ ap (adds (w.seen (far g u j) (far_port g u j))) ((sends_one j (Initiate (w.at u).head.level k (w.at u).head.phase)).only)
+  seen_there = far_seen g ground.wired u u_is.some u_is.node takes (put (w.seen u) j rest) sends w j at ∙ ap (adds (w.seen (far g u j) (far_port g u j))) ((sends_one j (Initiate (w.at u).head.level k (w.at u).head.phase)).only)
 
   -- a root off this link is an old root of another fragment
   pub record Lies (t p : ℕ) : Type 0 where
@@ -327,17 +327,17 @@ module _ (g : Network) (ground : Ground g) (u : ℕ) (lo : 1 ≤ u) (hi : u ≤ 
   joinable = record {
     at = at;
     bridge = bridge;
-    nodes = nodes_grown g ground.wired u lo hi j at w holds takes (put (w.seen u) j rest) sends more node;
-    links = links_grown g ground.wired u lo hi j at w holds takes (put (w.seen u) j rest) sends more near away;
-    by_fragment = by_fragment_grown g ground.wired u lo hi j at w holds takes (put (w.seen u) j rest) sends more;
-    names_within = names_within_grown g ground.wired u lo hi j at w holds takes (put (w.seen u) j rest) sends more;
-    sizes = sizes_grown g ground.wired u lo hi j at w holds takes (put (w.seen u) j rest) sends more;
-    within = within_grown g ground.wired u lo hi j at w holds takes (put (w.seen u) j rest) sends more;
-    connected = connected_grown g ground.wired u lo hi j at w holds takes (put (w.seen u) j rest) sends more;
+    nodes = nodes_grown g ground.wired u u_is j at w holds takes (put (w.seen u) j rest) sends more node;
+    links = links_grown g ground.wired u u_is j at w holds takes (put (w.seen u) j rest) sends more near away;
+    by_fragment = by_fragment_grown g ground.wired u u_is j at w holds takes (put (w.seen u) j rest) sends more;
+    names_within = names_within_grown g ground.wired u u_is j at w holds takes (put (w.seen u) j rest) sends more;
+    sizes = sizes_grown g ground.wired u u_is j at w holds takes (put (w.seen u) j rest) sends more;
+    within = within_grown g ground.wired u u_is j at w holds takes (put (w.seen u) j rest) sends more;
+    connected = connected_grown g ground.wired u u_is j at w holds takes (put (w.seen u) j rest) sends more;
     joined_lead = joined_lead;
     reached = reached;
-    alone = alone_grown g ground.wired u lo hi j at w holds takes (put (w.seen u) j rest) sends more awake;
-    named = named_grown g ground.wired u lo hi j at w holds takes (put (w.seen u) j rest) sends more refl;
+    alone = alone_grown g ground.wired u u_is j at w holds takes (put (w.seen u) j rest) sends more awake;
+    named = named_grown g ground.wired u u_is j at w holds takes (put (w.seen u) j rest) sends more refl;
     counted = counted;
     awake = λ e. awake (sym (phase_is u) ∙ e);
     which = λ x e. inr (eqb-true x _ e);
@@ -349,7 +349,7 @@ module _ (g : Network) (ground : Ground g) (u : ℕ) (lo : 1 ≤ u) (hi : u ≤ 
     unrooted = λ t p a off e r. (lies_off t p a off r).other (in_far t e);
     name = named.0;
     is_name = name_is u ∙ named.1;
-    name_in = subst (λ x. Names g (forest grown) x named.0) (sym (fragment_is u)) (names_grow g ground.wired u lo hi j at w holds takes (put (w.seen u) j rest) sends more _ _ (name_in named.0 named.1));
+    name_in = subst (λ x. Names g (forest grown) x named.0) (sym (fragment_is u)) (names_grow g ground.wired u u_is j at w holds takes (put (w.seen u) j rest) sends more _ _ (name_in named.0 named.1));
     other = λ t p a off e l' same. came.under.apart (one_fragment g (forest w) (w.at u).fragment (w.at t).fragment (port_at g t p).key ground.keyed holds.trees.joined_within (name_in _ (sym (name_is u) ∙ same)) (record { node = t; port = p; at = a; joined = joined_old t p off l'; fragment = refl; key = refl }) ∙ in_far t e);
   }
 
@@ -445,7 +445,7 @@ module _ (g : Network) (ground : Ground g) (u : ℕ) (lo : 1 ≤ u) (hi : u ≤ 
   names : NamesOf g joint (w.at u).fragment k
   names =
       subst (λ x. NamesOf g joint x k) (fragment_is u)
-      (names_here g ground.wired grown u j lifts (grown.at u).coming (grown.at u).coming_name joinable k (subst (λ x. Names g (forest grown) x k) (sym (fragment_is u)) (names_grow g ground.wired u lo hi j at w holds takes (put (w.seen u) j rest) sends more _ k (holds.named u k is name))))
+      (names_here g ground.wired grown u j lifts (grown.at u).coming (grown.at u).coming_name joinable k (subst (λ x. Names g (forest grown) x k) (sym (fragment_is u)) (names_grow g ground.wired u u_is j at w holds takes (put (w.seen u) j rest) sends more _ k (holds.named u k is name))))
 
   unnamed : (w.at u).coming_name ≢ Some (port_at g u j).key
   unnamed e = let n = name_in _ e in ⊎_elim (λ z. came.mark (branch_mark _ (subst₂ (λ s q. is_branch ((w.at s).mark q) ≡ true) z.0 z.1 n.joined.here))) (λ z. came.mark (branch_mark _ (subst₂ (λ s q. is_branch ((w.at s).mark q) ≡ true) z.0 z.1 n.joined.there))) (ground.keyed n.node n.port u j n.at at n.key)
@@ -491,8 +491,7 @@ module _ (g : Network) (ground : Ground g) (u : ℕ) (lo : 1 ≤ u) (hi : u ≤ 
       (unites g ground.wired grown u j lifts (grown.at u).coming (grown.at u).coming_name joinable many one_root rests (subst₂ (LinkFits (NamesOf g joint)) (sym end_here) (sym end_there) down) (subst₂ (LinkFits (NamesOf g joint)) (sym end_there) (sym end_here) up))
 
 -- a step: a fragment of a lower level, whose Connect has come in, is absorbed
-pub absorbs_in :
-    (g : Network) (ground : Ground g) (u : ℕ) (lo : 1 ≤ u) (hi : u ≤ g.count) (w : Scene) (holds : Invariant g w) (j : ℕ) (at : At g u j) (ms : List Message) (l : ℕ) (k : Key) →
+pub absorbs_in : (g : Network) (ground : Ground g) (u : ℕ) (u_is : InNetwork g u) (w : Scene) (holds : Invariant g w) (j : ℕ) (at : At g u j) (ms : List Message) (l : ℕ) (k : Key) →
     (w.seen u j).tree ≡ Connect l ∷ ms → l < (w.at u).head.level → (w.at u).head.name ≡ Some k → (w.at u).head.phase ≢ Sleeping →
     Invariant g (absorb g u j (acts g u (record (w.at u) { head = record (w.at u).head { find_count = find_more (w.at u).head.phase (w.at u).head.find_count }; mark = put (w.at u).mark j Branch }) (put (w.seen u) j (record (w.seen u j) { tree = ms })) ((j, Initiate (w.at u).head.level k (w.at u).head.phase) ∷ []) w))
-absorbs_in g ground u lo hi w holds j at ms l k waits lower name awake = absorbs g ground u lo hi w holds j at ms l k waits lower name awake
+absorbs_in g ground u u_is w holds j at ms l k waits lower name awake = absorbs g ground u u_is w holds j at ms l k waits lower name awake

@@ -43,7 +43,7 @@ tree_link_back g wired v p at h l =
     (leads_back g wired (λ a b at' s. subst (λ (k : Key). key_lt k (port_at g (far g v p) (far_port g v p)).key ≡ true) (sym (wired.same_key a b at')) s)
     (leads_map (λ a b at' s. subst (λ (k : Key). key_lt (port_at g a b).key k ≡ true) (sym (wired.same_key v p at)) s) l)))
 
-module _ (g : Network) (ground : Ground g) (u : ℕ) (lo : 1 ≤ u) (hi : u ≤ g.count) (w : Scene) (holds : Invariant g w) (j : ℕ) (at : At g u j) (ms : List Message) (l : ℕ) (k : Key) (waits : (w.seen u j).tree ≡ Connect l ∷ ms) (less : l < (w.at u).head.level) (name : (w.at u).head.name ≡ Some k) (awake : (w.at u).head.phase ≢ Sleeping)
+module _ (g : Network) (ground : Ground g) (u : ℕ) (u_is : InNetwork g u) (w : Scene) (holds : Invariant g w) (j : ℕ) (at : At g u j) (ms : List Message) (l : ℕ) (k : Key) (waits : (w.seen u j).tree ≡ Connect l ∷ ms) (less : l < (w.at u).head.level) (name : (w.at u).head.name ≡ Some k) (awake : (w.at u).head.phase ≢ Sleeping)
     (floor : ℕ → Floor) (floors : Floors g w floor) where
   abbrev x : Member
   x = record (w.at u) { head = record (w.at u).head { find_count = find_more (w.at u).head.phase (w.at u).head.find_count }; mark = put (w.at u).mark j Branch }
@@ -61,13 +61,13 @@ module _ (g : Network) (ground : Ground g) (u : ℕ) (lo : 1 ≤ u) (hi : u ≤ 
   joint = absorb g u j grown
 
   its : Came (tree_end (end g w u j)) (tree_end (far_end g w u j)) l ms
-  its = came g ground u lo hi w holds j at ms l k waits less name awake
+  its = came g ground u u_is w holds j at ms l k waits less name awake
 
   lower_far : (w.at (far g u j)).head.level < (w.at u).head.level
-  lower_far = below g ground u lo hi w holds j at ms l k waits less name awake
+  lower_far = below g ground u u_is w holds j at ms l k waits less name awake
 
   no_way : (w.at u).up ≢ Some j
-  no_way = way_not g ground u lo hi w holds j at ms l k waits less name awake
+  no_way = way_not g ground u u_is w holds j at ms l k waits less name awake
 
   near_other : (i : ℕ) → At g u i → i ≢ j → FloorsAt (record { port = i; key = (port_at g u i).key; mark = put (w.at u).mark j Branch i; is = x; seen = w.seen u i }) (far_end g w u i) (floor u) (floor (far g u i))
   near_other i at' ne = subst (λ m. FloorsAt (record { port = i; key = (port_at g u i).key; mark = m; is = x; seen = w.seen u i }) (far_end g w u i) (floor u) (floor (far g u i))) (sym (put_other (w.at u).mark j i Branch ne)) (near_fits g ground.wired w holds floor floors u i at')
@@ -78,15 +78,15 @@ module _ (g : Network) (ground : Ground g) (u : ℕ) (lo : 1 ≤ u) (hi : u ≤ 
   off : FloorsOff g grown floor u j
   off =
       subst (λ f. FloorsOff g grown f u j) (put_again floor u) (record {
-        nodes = nodes_after g ground.wired u lo hi x (put (w.seen u) j q) ((j, call) ∷ []) w floor floors (floor u) (let z = floors.nodes u (record { some = lo; node = hi }) in record { asleep = z.asleep; search = z.search });
+        nodes = nodes_after g ground.wired u u_is x (put (w.seen u) j q) ((j, call) ∷ []) w floor floors (floor u) (let z = floors.nodes u u_is in record { asleep = z.asleep; search = z.search });
         links =
-            links_after_off g ground.wired u lo hi x (put (w.seen u) j q) ((j, call) ∷ []) w floor floors (floor u) j
-            (by_port_at g ground.wired u lo hi x j at q (call ∷ []) ((j, call) ∷ []) (sends_one j call) w (λ i e f. i ≢ j → FloorsAt e f (floor u) (floor (far g u i))) (λ ne. absurd (ne refl)) (λ i at' ne no. near_other i at' ne))
-            (by_port_at g ground.wired u lo hi x j at q (call ∷ []) ((j, call) ∷ []) (sends_one j call) w (λ i e f. i ≢ j → FloorsAt f e (floor (far g u i)) (floor u)) (λ ne. absurd (ne refl)) (λ i at' ne no. far_other i at' ne));
+            links_after_off g ground.wired u u_is x (put (w.seen u) j q) ((j, call) ∷ []) w floor floors (floor u) j
+            (by_port_at g ground.wired u u_is x j at q (call ∷ []) ((j, call) ∷ []) (sends_one j call) w (λ i e f. i ≢ j → FloorsAt e f (floor u) (floor (far g u i))) (λ ne. absurd (ne refl)) (λ i at' ne no. near_other i at' ne))
+            (by_port_at g ground.wired u u_is x j at q (call ∷ []) ((j, call) ∷ []) (sends_one j call) w (λ i e f. i ≢ j → FloorsAt f e (floor (far g u i)) (floor u)) (λ ne. absurd (ne refl)) (λ i at' ne no. far_other i at' ne));
         in_tree =
-            in_tree_after g ground.wired u lo hi x (put (w.seen u) j q) ((j, call) ∷ []) w floor floors (floor u)
+            in_tree_after g ground.wired u u_is x (put (w.seen u) j q) ((j, call) ∷ []) w floor floors (floor u)
             (λ p at' m. ⊎_elim (λ e. subst (IsTreeLink g u) (sym e) (tree_link_back g ground.wired u j at (floors.in_tree _ _ (ground.wired.there u j at) its.mark'))) (λ ne. floors.in_tree u p at' (sym (put_other (w.at u).mark j p Branch ne) ∙ m)) (cases_eq p j));
-        halted = halted_after g ground.wired u lo hi x (put (w.seen u) j q) ((j, call) ∷ []) w floor floors (floor u) refl refl;
+        halted = halted_after g ground.wired u u_is x (put (w.seen u) j q) ((j, call) ∷ []) w floor floors (floor u) refl refl;
       })
 
   -- what the act leaves
@@ -119,14 +119,14 @@ module _ (g : Network) (ground : Ground g) (u : ℕ) (lo : 1 ≤ u) (hi : u ≤ 
       let a = level_is t in
       let c = coming_is u in
       let d = (holds.nodes t it).lag.level in
-      let e = (holds.nodes u (record { some = lo; node = hi })).lag.level in
+      let e = (holds.nodes u u_is).lag.level in
       let f = its.under.level in
       let h = lower_far in
       omega (arith, z, a, c, d, e, f, h)))
       (λ s. let z = holds.trees.by_fragment t u (sym (fragment_is t) ∙ s ∙ fragment_is u) in inr (coming_is t ∙ z.0 ∙ sym (coming_is u), name_is t ∙ z.1 ∙ sym (name_is u))) i
 
   after : Invariant g joint
-  after = absorbs_in g ground u lo hi w holds j at ms l k waits less name awake
+  after = absorbs_in g ground u u_is w holds j at ms l k waits less name awake
 
   abbrev far_part : ℕ
   far_part = (grown.at (far g u j)).fragment
@@ -197,15 +197,15 @@ module _ (g : Network) (ground : Ground g) (u : ℕ) (lo : 1 ≤ u) (hi : u ≤ 
     core = λ c y p. absurd (up_here c.both.up_beyond);
     out = λ o. absurd (o.there joins.here);
     moved = λ z t. absurd (up_here z.both.up_beyond);
-    best = λ y b e z. absurd (let s = level_at (far g u j) in let c = coming_at (far g u j) (inl refl) in let d = lower_far in let h = (holds.nodes u (record { some = lo; node = hi })).lag.level in omega (arith, s, c, d, h, e));
+    best = λ y b e z. absurd (let s = level_at (far g u j) in let c = coming_at (far g u j) (inl refl) in let d = lower_far in let h = (holds.nodes u u_is).lag.level in omega (arith, s, c, d, h, e));
   }
     where
       own_tree : (grown.seen u j).tree ≡ ms
-      own_tree = ap (λ (v : Seen). v.tree) (here_seen g ground.wired u lo hi x (put (w.seen u) j q) ((j, call) ∷ []) w j ∙ put_same (w.seen u) j q)
+      own_tree = ap (λ (v : Seen). v.tree) (here_seen g ground.wired u u_is.some u_is.node x (put (w.seen u) j q) ((j, call) ∷ []) w j ∙ put_same (w.seen u) j q)
 
       their_tree : (grown.seen (far g u j) (far_port g u j)).tree ≡ Initiate (w.at u).head.level k (w.at u).head.phase ∷ []
       their_tree =
-          ap (λ (v : Seen). v.tree) (far_seen g ground.wired u lo hi x (put (w.seen u) j q) ((j, call) ∷ []) w j at) ∙
+          ap (λ (v : Seen). v.tree) (far_seen g ground.wired u u_is.some u_is.node x (put (w.seen u) j q) ((j, call) ∷ []) w j at) ∙
           ap (λ s. (adds (w.seen (far g u j) (far_port g u j)) s).tree) ((sends_one j call).only) ∙ ap (λ t. t ++ call ∷ []) its.under.none
 
       called : (s : Phase) → s ≡ Find → has_call (Initiate (w.at u).head.level k s ∷ []) ≡ true

@@ -21,7 +21,7 @@ use Rattle.ghs_protocol.proofs.union.Absorb.{absorbs_in, came, below, way_not}
 use Rattle.ghs_protocol.proofs.tests.UnderWay.{touches_lives, near_asks, far_asks, near_brought, far_brought, near_heard, far_heard, brought_by_call}
 use Rattle.ghs_protocol.proofs.union.UnderWay.{united_lives}
 
-module _ (g : Network) (ground : Ground g) (u : ℕ) (lo : 1 ≤ u) (hi : u ≤ g.count) (w : Scene) (holds : Invariant g w) (lives : Lives g w) (j : ℕ) (at : At g u j) (ms : List Message) (l : ℕ) (k : Key) (waits : (w.seen u j).tree ≡ Connect l ∷ ms) (less : l < (w.at u).head.level) (name : (w.at u).head.name ≡ Some k)
+module _ (g : Network) (ground : Ground g) (u : ℕ) (u_is : InNetwork g u) (w : Scene) (holds : Invariant g w) (lives : Lives g w) (j : ℕ) (at : At g u j) (ms : List Message) (l : ℕ) (k : Key) (waits : (w.seen u j).tree ≡ Connect l ∷ ms) (less : l < (w.at u).head.level) (name : (w.at u).head.name ≡ Some k)
     (awake : (w.at u).head.phase ≢ Sleeping) where
   abbrev x : Member
   x = record (w.at u) { head = record (w.at u).head { find_count = find_more (w.at u).head.phase (w.at u).head.find_count }; mark = put (w.at u).mark j Branch }
@@ -36,30 +36,30 @@ module _ (g : Network) (ground : Ground g) (u : ℕ) (lo : 1 ≤ u) (hi : u ≤ 
   grown = acts g u (record (w.at u) { head = record (w.at u).head { find_count = find_more (w.at u).head.phase (w.at u).head.find_count }; mark = put (w.at u).mark j Branch }) (put (w.seen u) j (record (w.seen u j) { tree = ms })) ((j, Initiate (w.at u).head.level k (w.at u).head.phase) ∷ []) w
 
   its : Came (tree_end (end g w u j)) (tree_end (far_end g w u j)) l ms
-  its = came g ground u lo hi w holds j at ms l k waits less name awake
+  its = came g ground u u_is w holds j at ms l k waits less name awake
 
   lower_far : (w.at (far g u j)).head.level < (w.at u).head.level
-  lower_far = below g ground u lo hi w holds j at ms l k waits less name awake
+  lower_far = below g ground u u_is w holds j at ms l k waits less name awake
 
   no_way : (w.at u).up ≢ Some j
-  no_way = way_not g ground u lo hi w holds j at ms l k waits less name awake
+  no_way = way_not g ground u u_is w holds j at ms l k waits less name awake
 
   was : (i : ℕ) → i ≢ j → put (w.at u).mark j Branch i ≡ Branch → (w.at u).mark i ≡ Branch
   was i ne e = sym (put_other (w.at u).mark j i Branch ne) ∙ e
 
   grown_lives : Lives g grown
   grown_lives =
-      touches_lives g ground.wired u lo hi x j at q (call ∷ []) ((j, call) ∷ []) (sends_one j call) w lives
-      (near_asks g ground.wired u lo hi j at w holds lives j at, far_asks g ground.wired u lo hi j at w holds lives j at, (λ i at' ne. near_asks g ground.wired u lo hi j at w holds lives i at'), (λ i at' ne. far_asks g ground.wired u lo hi j at w holds lives i at')) (
+      touches_lives g ground.wired u u_is x j at q (call ∷ []) ((j, call) ∷ []) (sends_one j call) w lives
+      (near_asks g ground.wired u u_is j at w holds lives j at, far_asks g ground.wired u u_is j at w holds lives j at, (λ i at' ne. near_asks g ground.wired u u_is j at w holds lives i at'), (λ i at' ne. far_asks g ground.wired u u_is j at w holds lives i at')) (
         (λ c. absurd (no_way c.2)),
         (λ c. brought_by_call (w.seen (far g u j) (far_port g u j)).tree (w.at (far g u j)).head.level (w.at u).head.level k (w.at u).head.phase),
-        (λ i at' ne c. near_brought g ground.wired u lo hi j at w holds lives i at' (was i ne c.0, c.1, c.2, c.3)),
-        (λ i at' ne c. far_brought g ground.wired u lo hi j at w holds lives i at' (c.0, was i ne c.1, c.2, c.3)),
+        (λ i at' ne c. near_brought g ground.wired u u_is j at w holds lives i at' (was i ne c.0, c.1, c.2, c.3)),
+        (λ i at' ne c. far_brought g ground.wired u u_is j at w holds lives i at' (c.0, was i ne c.1, c.2, c.3)),
       ) (
         (λ c. absurd (no_way c.2)),
         (λ c. absurd (no_way c.3)),
-        (λ i at' ne c. near_heard g ground.wired u lo hi j at w holds lives i at' (was i ne c.0, c.1, c.2, c.3, c.4)),
-        (λ i at' ne c. far_heard g ground.wired u lo hi j at w holds lives i at' (c.0, was i ne c.1, c.2, c.3, c.4)),
+        (λ i at' ne c. near_heard g ground.wired u u_is j at w holds lives i at' (was i ne c.0, c.1, c.2, c.3, c.4)),
+        (λ i at' ne c. far_heard g ground.wired u u_is j at w holds lives i at' (c.0, was i ne c.1, c.2, c.3, c.4)),
       )
 
   fragment_is : (t : ℕ) → (grown.at t).fragment ≡ (w.at t).fragment
@@ -102,11 +102,11 @@ module _ (g : Network) (ground : Ground g) (u : ℕ) (lo : 1 ≤ u) (hi : u ≤ 
       let a = level_is t in
       let c = coming_is u in
       let d = (holds.nodes t it).lag.level in
-      let e = (holds.nodes u (record { some = lo; node = hi })).lag.level in
+      let e = (holds.nodes u u_is).lag.level in
       let f = its.under.level in
       let h = lower_far in
       omega (arith, z, a, c, d, e, f, h)))
       (λ s. let z = holds.trees.by_fragment t u (sym (fragment_is t) ∙ s ∙ fragment_is u) in inr (coming_is t ∙ z.0 ∙ sym (coming_is u), name_is t ∙ z.1 ∙ sym (name_is u), core_alike t)) i
 
   pub absorbs_lives : Lives g (absorb g u j (acts g u (record (w.at u) { head = record (w.at u).head { find_count = find_more (w.at u).head.phase (w.at u).head.find_count }; mark = put (w.at u).mark j Branch }) (put (w.seen u) j (record (w.seen u j) { tree = ms })) ((j, Initiate (w.at u).head.level k (w.at u).head.phase) ∷ []) w))
-  absorbs_lives = united_lives g grown grown_lives (grown.at (far g u j)).fragment (grown.at u).fragment (grown.at u).coming (grown.at u).coming_name low (absorbs_in g ground u lo hi w holds j at ms l k waits less name awake)
+  absorbs_lives = united_lives g grown grown_lives (grown.at (far g u j)).fragment (grown.at u).fragment (grown.at u).coming (grown.at u).coming_name low (absorbs_in g ground u u_is w holds j at ms l k waits less name awake)

@@ -8,7 +8,7 @@ use Rattle.ghs_node.specs.declared.mark.Mark.TheVariants.{Basic, Branch, Rejecte
 use Rattle.ghs_node.specs.declared.message.Phase.TheVariants.{Find}
 use Rattle.ghs_node.specs.declared.message.Message.{Message}
 use Rattle.ghs_node.specs.declared.message.Message.TheVariants.{Connect, Initiate, Report, ChangeRoot}
-use Rattle.ghs_protocol.specs.Network.{Network, port_at, At, far, far_port, IsWired}
+use Rattle.ghs_protocol.specs.Network.{Network, port_at, At, far, far_port, IsWired, InNetwork}
 use Rattle.ghs_protocol.specs.Net.{put}
 use Rattle.ghs_protocol.proofs.clauses.Scene.{Member, Scene, End, TreeEnd, tree_end, end, forest, acts, adds, far_end}
 use Rattle.ghs_protocol.proofs.clauses.Nodes.{NodeFits}
@@ -151,9 +151,9 @@ not_branch' Basic h = refl
 not_branch' Branch h = absurd (h refl)
 not_branch' Rejected h = refl
 
-module _ (g : Network) (wired : IsWired g) (u : ℕ) (lo : 1 ≤ u) (hi : u ≤ g.count) (j : ℕ) (at : At g u j) (w : Scene) (holds : Invariant g w) (l : ℕ) (ms : List Message) (waits : (w.seen u j).tree ≡ Connect l ∷ ms) (marked : (w.at u).mark j ≢ Basic) where
+module _ (g : Network) (wired : IsWired g) (u : ℕ) (u_is : InNetwork g u) (j : ℕ) (at : At g u j) (w : Scene) (holds : Invariant g w) (l : ℕ) (ms : List Message) (waits : (w.seen u j).tree ≡ Connect l ∷ ms) (marked : (w.at u).mark j ≢ Basic) where
   fits : NodeFits (length (g.ports u)) (w.at u)
-  fits = holds.nodes u (record { some = lo; node = hi })
+  fits = holds.nodes u u_is
 
   link : LinkFits (NamesOf g w) (end g w u j) (far_end g w u j)
   link = at_near g wired w (LinkFits (NamesOf g w)) holds.links u j at
@@ -191,7 +191,7 @@ module _ (g : Network) (wired : IsWired g) (u : ℕ) (lo : 1 ≤ u) (hi : u ≤ 
   -- another fragment's rest
   quiet_else : (a : ℕ) → (w.at u).fragment ≢ a → Quiet g w a → Quiet g served_beyond a
   quiet_else a ne z =
-      quiet_after g wired u lo hi (w.at u) (put (w.seen u) j (record (w.seen u j) { tree = ms }))
+      quiet_after g wired u u_is (w.at u) (put (w.seen u) j (record (w.seen u j) { tree = ms }))
       ((j, Initiate ((w.at u).head.level + 1) (port_at g u j).key Find) ∷ []) w a z (λ e. absurd (ne e)) (λ i at' e. absurd (ne e))
       (λ i at' e. ⊎_elim (λ (h : i ≡ j). absurd (ne (one_frag ∙ ap (λ y. (w.at (far g u y)).fragment) (sym h) ∙ e))) (λ no. subst (λ t. has_call (adds (w.seen (far g u i) (far_port g u i)) t).tree ≡ false) (sym ((sends_one j (Initiate ((w.at u).head.level + 1) (port_at g u j).key Find)).none i no)) (z.uncalled _ _ (wired.there u i at') e)) (cases_eq i j))
 
@@ -228,13 +228,13 @@ module _ (g : Network) (wired : IsWired g) (u : ℕ) (lo : 1 ≤ u) (hi : u ≤ 
   pub serves : Invariant g served_beyond
   unfolding here_is there_is answer
   serves =
-      kept_at g wired u lo hi (w.at u) j at (record (w.seen u j) { tree = ms }) (answer ∷ []) ((j, answer) ∷ []) (sends_one j answer) w
+      kept_at g wired u u_is (w.at u) j at (record (w.seen u j) { tree = ms }) (answer ∷ []) ((j, answer) ∷ []) (sends_one j answer) w
       (record { fragment = refl; coming = refl; coming_name = refl; up = refl; branch = λ p. refl }) rests holds fits
       (record { tree = serve_here (tree_end (end g w u j)) (tree_end (far_end g w u j)) l ms serving ghosts.0 refl ghosts.1 link.tree; search = search_trees (tree_end (end g w u j)) (tree_end (far_end g w u j)) ms (tree_end there_is).tree link.search; tests = record { probing = link.tests.probing; not_probing = link.tests.not_probing } })
       (record { tree = serve_there (tree_end (end g w u j)) (tree_end (far_end g w u j)) l ms serving ghosts.0 refl ghosts.1 link'.tree; search = search_trees (tree_end (far_end g w u j)) (tree_end (end g w u j)) (tree_end there_is).tree ms link'.search; tests = record { probing = link'.tests.probing; not_probing = link'.tests.not_probing } })
       (λ i at' ne h h'. record { tree = h.tree; search = h.search; tests = h.tests })
       (λ i at' ne h h'. record { tree = h'.tree; search = h'.search; tests = h'.tests }) (λ e. e) refl
-      (sums_one g wired u lo hi (w.at u) j at (record (w.seen u j) { tree = ms }) (answer ∷ []) ((j, answer) ∷ []) (sends_one j answer) w holds.counted count (λ i ne. refl) (debt_up there_is here_is serving.core.both.up_beyond ∙ sym (debt_up (far_end g w u j) (end g w u j) serving.core.both.up_beyond)) (λ i ne. refl))
+      (sums_one g wired u u_is (w.at u) j at (record (w.seen u j) { tree = ms }) (answer ∷ []) ((j, answer) ∷ []) (sends_one j answer) w holds.counted count (λ i ne. refl) (debt_up there_is here_is serving.core.both.up_beyond ∙ sym (debt_up (far_end g w u j) (end g w u j) serving.core.both.up_beyond)) (λ i ne. refl))
     where
       count : (w.at u).head.find_count + debt (end g w u j) (far_end g w u j) ≡ (w.at u).head.find_count + debt here_is there_is
       count = ap (λ z. (w.at u).head.find_count + z) (debt_up (end g w u j) (far_end g w u j) serving.core.both.up ∙ sym (debt_up here_is there_is serving.core.both.up))

@@ -37,7 +37,7 @@ abbrev pub meeting : Member → Head → ℕ → Member
 meeting m h b = record m { head = h; mark = put m.mark b Branch; up = Some b }
 
 -- what is owed of u, whose Connect goes out on port b
-pub record Meets (g : Network) (wired : IsWired g) (u : ℕ) (lo : 1 ≤ u) (hi : u ≤ g.count) (b : ℕ) (w : Scene) (h : Head) (own : ℕ → Seen) : Type 0 where
+pub record Meets (g : Network) (wired : IsWired g) (u : ℕ) (u_is : InNetwork g u) (b : ℕ) (w : Scene) (h : Head) (own : ℕ → Seen) : Type 0 where
   pub node : NodeFits (length (g.ports u)) (meeting (w.at u) h b)
   pub found : h.phase ≡ Found
   pub name : h.name ≡ (w.at u).head.name
@@ -49,15 +49,15 @@ pub record Meets (g : Network) (wired : IsWired g) (u : ℕ) (lo : 1 ≤ u) (hi 
   pub unmarked : (w.at u).mark b ≢ Branch
   pub marked : (w.at (far g u b)).mark (far_port g u b) ≡ Branch
   pub own_same : own b ≡ w.seen u b
-  pub near : (i : ℕ) → At g u i → i ≢ b → LinkFits (NamesOf g w) (near' g wired u lo hi (meeting (w.at u) h b) own ((b, Connect h.level) ∷ []) w i) (far' g wired u lo hi (meeting (w.at u) h b) own ((b, Connect h.level) ∷ []) w i)
-  pub away : (i : ℕ) → At g u i → i ≢ b → LinkFits (NamesOf g w) (far' g wired u lo hi (meeting (w.at u) h b) own ((b, Connect h.level) ∷ []) w i) (near' g wired u lo hi (meeting (w.at u) h b) own ((b, Connect h.level) ∷ []) w i)
+  pub near : (i : ℕ) → At g u i → i ≢ b → LinkFits (NamesOf g w) (near' g wired u u_is (meeting (w.at u) h b) own ((b, Connect h.level) ∷ []) w i) (far' g wired u u_is (meeting (w.at u) h b) own ((b, Connect h.level) ∷ []) w i)
+  pub away : (i : ℕ) → At g u i → i ≢ b → LinkFits (NamesOf g w) (far' g wired u u_is (meeting (w.at u) h b) own ((b, Connect h.level) ∷ []) w i) (near' g wired u u_is (meeting (w.at u) h b) own ((b, Connect h.level) ∷ []) w i)
   pub quiet : Quiet g (acts g u (meeting (w.at u) h b) own ((b, Connect h.level) ∷ []) w) (w.at u).fragment
   -- the fragment's old root, if there is one, is a joined link at u; and the joined links of u are their far ends' ways
   pub old : (t p : ℕ) → At g t p → Root g (forest w) t p → (w.at t).fragment ≡ (w.at u).fragment → IsJoinedIn g (forest w) t p × ((t ≡ u) ⊎ (far g t p ≡ u))
   pub led : (i : ℕ) → At g u i → IsJoinedIn g (forest w) u i → (w.at (far g u i)).up ≡ Some (far_port g u i)
   pub counted : DebtsCounted g (acts g u (meeting (w.at u) h b) own ((b, Connect h.level) ∷ []) w)
 
-module _ (g : Network) (ground : Ground g) (u : ℕ) (lo : 1 ≤ u) (hi : u ≤ g.count) (b : ℕ) (at : At g u b) (w : Scene) (holds : Invariant g w) (h : Head) (own : ℕ → Seen) (owed : Meets g ground.wired u lo hi b w h own) where
+module _ (g : Network) (ground : Ground g) (u : ℕ) (u_is : InNetwork g u) (b : ℕ) (at : At g u b) (w : Scene) (holds : Invariant g w) (h : Head) (own : ℕ → Seen) (owed : Meets g ground.wired u u_is b w h own) where
   abbrev pub sends : Outgoing
   sends = (b, Connect h.level) ∷ []
 
@@ -68,28 +68,28 @@ module _ (g : Network) (ground : Ground g) (u : ℕ) (lo : 1 ≤ u) (hi : u ≤ 
   more = record { fragment = refl; coming = refl; coming_name = refl; mark = put_same (w.at u).mark b Branch; marks = λ p ne. put_other (w.at u).mark b p Branch ne }
 
   is_here : sent.at u ≡ meeting (w.at u) h b
-  is_here = at_here g ground.wired u lo hi b at w holds (meeting (w.at u) h b) own sends more
+  is_here = at_here g ground.wired u u_is b at w holds (meeting (w.at u) h b) own sends more
 
   is_else : (t : ℕ) → t ≢ u → sent.at t ≡ w.at t
-  is_else t ne = at_else g ground.wired u lo hi b at w holds (meeting (w.at u) h b) own sends more t ne
+  is_else t ne = at_else g ground.wired u u_is b at w holds (meeting (w.at u) h b) own sends more t ne
 
   fragment_is : (t : ℕ) → (sent.at t).fragment ≡ (w.at t).fragment
-  fragment_is t = fragment_was g ground.wired u lo hi b at w holds (meeting (w.at u) h b) own sends more t
+  fragment_is t = fragment_was g ground.wired u u_is b at w holds (meeting (w.at u) h b) own sends more t
 
   coming_is : (t : ℕ) → (sent.at t).coming ≡ (w.at t).coming
-  coming_is t = coming_was g ground.wired u lo hi b at w holds (meeting (w.at u) h b) own sends more t
+  coming_is t = coming_was g ground.wired u u_is b at w holds (meeting (w.at u) h b) own sends more t
 
   mark_is_else : (t p : ℕ) → ((t ≡ u) × (p ≡ b) → ⊥) → (sent.at t).mark p ≡ (w.at t).mark p
-  mark_is_else t p off = mark_else g ground.wired u lo hi b at w holds (meeting (w.at u) h b) own sends more t p off
+  mark_is_else t p off = mark_else g ground.wired u u_is b at w holds (meeting (w.at u) h b) own sends more t p off
 
   joined_old : (t p : ℕ) → Off g u b t p → IsJoinedIn g (forest sent) t p → IsJoinedIn g (forest w) t p
-  joined_old t p off j = joined_was g ground.wired u lo hi b at w holds (meeting (w.at u) h b) own sends more t p off j
+  joined_old t p off j = joined_was g ground.wired u u_is b at w holds (meeting (w.at u) h b) own sends more t p off j
 
   joined_new : (t p : ℕ) → IsJoinedIn g (forest w) t p → IsJoinedIn g (forest sent) t p
-  joined_new t p j = joined_grows g ground.wired u lo hi b at w holds (meeting (w.at u) h b) own sends more t p j
+  joined_new t p j = joined_grows g ground.wired u u_is b at w holds (meeting (w.at u) h b) own sends more t p j
 
   bridge : IsJoinedIn g (forest sent) u b
-  bridge = bridged g ground.wired u lo hi b at w holds (meeting (w.at u) h b) own sends more owed.marked
+  bridge = bridged g ground.wired u u_is b at w holds (meeting (w.at u) h b) own sends more owed.marked
 
   -- the far end: its Connect has come in
   at_y : At g (far g u b) (far_port g u b)
@@ -99,7 +99,7 @@ module _ (g : Network) (ground : Ground g) (u : ℕ) (lo : 1 ≤ u) (hi : u ≤ 
   y_in = record { some = at_y.some; node = at_y.node }
 
   u_in : InNetwork g u
-  u_in = record { some = lo; node = hi }
+  u_in = u_is
 
   not_u : far g u b ≢ u
   not_u = ground.wired.apart u b at
@@ -139,7 +139,7 @@ module _ (g : Network) (ground : Ground g) (u : ℕ) (lo : 1 ≤ u) (hi : u ≤ 
 
   -- fragments but u's stay at rest
   quiet_else : (a : ℕ) → (w.at u).fragment ≢ a → Quiet g w a → Quiet g sent a
-  quiet_else a ne q = quiet_after g ground.wired u lo hi (meeting (w.at u) h b) own sends w a q (λ e. absurd (ne e)) (λ i at' e. absurd (ne e)) (λ i at' e. calls_same (w.seen (far g u i) (far_port g u i)) i ∙ q.uncalled _ _ (ground.wired.there u i at') e)
+  quiet_else a ne q = quiet_after g ground.wired u u_is (meeting (w.at u) h b) own sends w a q (λ e. absurd (ne e)) (λ i at' e. absurd (ne e)) (λ i at' e. calls_same (w.seen (far g u i) (far_port g u i)) i ∙ q.uncalled _ _ (ground.wired.there u i at') e)
 
   quiet_y' : Quiet g sent (w.at (far g u b)).fragment
   quiet_y' = quiet_else _ apart quiet_y
@@ -269,17 +269,17 @@ module _ (g : Network) (ground : Ground g) (u : ℕ) (lo : 1 ≤ u) (hi : u ≤ 
   joinable = record {
     at = at;
     bridge = bridge;
-    nodes = nodes_grown g ground.wired u lo hi b at w holds (meeting (w.at u) h b) own sends more owed.node;
-    links = links_grown g ground.wired u lo hi b at w holds (meeting (w.at u) h b) own sends more owed.near owed.away;
-    by_fragment = by_fragment_grown g ground.wired u lo hi b at w holds (meeting (w.at u) h b) own sends more;
-    names_within = names_within_grown g ground.wired u lo hi b at w holds (meeting (w.at u) h b) own sends more;
-    sizes = sizes_grown g ground.wired u lo hi b at w holds (meeting (w.at u) h b) own sends more;
-    within = within_grown g ground.wired u lo hi b at w holds (meeting (w.at u) h b) own sends more;
-    connected = connected_grown g ground.wired u lo hi b at w holds (meeting (w.at u) h b) own sends more;
+    nodes = nodes_grown g ground.wired u u_is b at w holds (meeting (w.at u) h b) own sends more owed.node;
+    links = links_grown g ground.wired u u_is b at w holds (meeting (w.at u) h b) own sends more owed.near owed.away;
+    by_fragment = by_fragment_grown g ground.wired u u_is b at w holds (meeting (w.at u) h b) own sends more;
+    names_within = names_within_grown g ground.wired u u_is b at w holds (meeting (w.at u) h b) own sends more;
+    sizes = sizes_grown g ground.wired u u_is b at w holds (meeting (w.at u) h b) own sends more;
+    within = within_grown g ground.wired u u_is b at w holds (meeting (w.at u) h b) own sends more;
+    connected = connected_grown g ground.wired u u_is b at w holds (meeting (w.at u) h b) own sends more;
     joined_lead = joined_lead;
     reached = reached;
-    alone = alone_grown g ground.wired u lo hi b at w holds (meeting (w.at u) h b) own sends more (λ z. let y = owed.found in cc (y, z));
-    named = named_grown g ground.wired u lo hi b at w holds (meeting (w.at u) h b) own sends more owed.name;
+    alone = alone_grown g ground.wired u u_is b at w holds (meeting (w.at u) h b) own sends more (λ z. let y = owed.found in cc (y, z));
+    named = named_grown g ground.wired u u_is b at w holds (meeting (w.at u) h b) own sends more owed.name;
     counted = owed.counted;
     awake = λ z. let y = owed.found in let q = ap (λ (m : Member). m.head.phase) is_here in cc (y, z, q);
     which = λ k e. ⊎_elim inr inl (which k e);
@@ -416,7 +416,7 @@ module _ (g : Network) (ground : Ground g) (u : ℕ) (lo : 1 ≤ u) (hi : u ≤ 
     where
       out : (t p : ℕ) → At g t p → Out (tree_end (end g met t p)) (tree_end (end g met (far g t p) (far_port g t p))) → Place g ground.wired sent u b lifts high (Some (port_at g u b).key) joinable t p → Quiet g met (met.at t).fragment
       out t p at' o (On_it e k) = absurd (o.there (mark_met _ _ ∙ ap₂ (λ s q. (sent.at (far g s q)).mark (far_port g s q)) e k ∙ mark_is_else _ _ (λ z. not_u z.0) ∙ owed.marked))
-      out t p at' o (Across e k) = absurd (o.there (mark_met _ _ ∙ ap₂ (λ s q. (sent.at s).mark q) e k ∙ mark_here g ground.wired u lo hi b at w holds (meeting (w.at u) h b) own sends more))
+      out t p at' o (Across e k) = absurd (o.there (mark_met _ _ ∙ ap₂ (λ s q. (sent.at s).mark q) e k ∙ mark_here g ground.wired u u_is b at w holds (meeting (w.at u) h b) own sends more))
       out t p at' o (Off_it off) = quiet_met t (calm_off t p off (lies t p at' (Goes_out (ap is_branch o.here) (not_branch _ o.there)))) (holds.resting.out t p at' (record { here = sym (old_mark t p off.here) ∙ o.here; there = λ z. o.there (old_mark _ _ off.there ∙ z) }))
 
       moved : (t p : ℕ) → At g t p → Moved (tree_end (end g met t p)) (tree_end (end g met (far g t p) (far_port g t p))) → Place g ground.wired sent u b lifts high (Some (port_at g u b).key) joinable t p → Quiet g met (met.at t).fragment
@@ -424,7 +424,7 @@ module _ (g : Network) (ground : Ground g) (u : ℕ) (lo : 1 ≤ u) (hi : u ≤ 
       moved t p at' m (Across e k) = let z = at_far_is t p at' e k in absurd (m.unnamed (ap (λ s. (met.at s).coming_name) z.0 ∙ named_far ∙ ap Some (sym (ground.wired.same_key u b at)) ∙ ap₂ (λ s q. Some (port_at g s q).key) (sym z.0) (sym z.1)))
       moved t p at' m (Off_it off) =
           quiet_met t calm
-          (holds.resting.moved t p at' (record { both = record { joins = record { here = mine; there = theirs }; up = sym (old_up t calm) ∙ m.both.up; up_beyond = sym (old_up _ calm') ∙ m.both.up_beyond }; unnamed = λ z. m.unnamed (ap (λ (k : Member). k.coming_name) (fragment_other t calm) ∙ name_was g ground.wired u lo hi b at w holds (meeting (w.at u) h b) own sends more t ∙ z) }))
+          (holds.resting.moved t p at' (record { both = record { joins = record { here = mine; there = theirs }; up = sym (old_up t calm) ∙ m.both.up; up_beyond = sym (old_up _ calm') ∙ m.both.up_beyond }; unnamed = λ z. m.unnamed (ap (λ (k : Member). k.coming_name) (fragment_other t calm) ∙ name_was g ground.wired u u_is b at w holds (meeting (w.at u) h b) own sends more t ∙ z) }))
         where
           mine : (w.at t).mark p ≡ Branch
           mine = sym (old_mark t p off.here) ∙ m.both.joins.here
@@ -454,13 +454,13 @@ module _ (g : Network) (ground : Ground g) (u : ℕ) (lo : 1 ≤ u) (hi : u ≤ 
   member_there = rise_in lifts (sent.at u).fragment high (Some (port_at g u b).key) (sent.at (far g u b)) lifts_y ∙ ap (raised (sent.at u).fragment high (Some (port_at g u b).key)) (is_else _ not_u)
 
   seen_here : met.seen u b ≡ w.seen u b
-  seen_here = here_seen g ground.wired u lo hi (meeting (w.at u) h b) own sends w b ∙ owed.own_same
+  seen_here = here_seen g ground.wired u u_is.some u_is.node (meeting (w.at u) h b) own sends w b ∙ owed.own_same
 
   one_sent : sent_on sends b ≡ Connect h.level ∷ []
   one_sent = rw (eq-eqb b b refl) refl
 
   seen_there : met.seen (far g u b) (far_port g u b) ≡ record (w.seen (far g u b) (far_port g u b)) { tree = (w.seen (far g u b) (far_port g u b)).tree ++ Connect h.level ∷ [] }
-  seen_there = far_seen g ground.wired u lo hi (meeting (w.at u) h b) own sends w b at ∙ ap (λ (xs : List Message). adds (w.seen (far g u b) (far_port g u b)) xs) one_sent
+  seen_there = far_seen g ground.wired u u_is.some u_is.node (meeting (w.at u) h b) own sends w b at ∙ ap (λ (xs : List Message). adds (w.seen (far g u b) (far_port g u b)) xs) one_sent
 
   end_here : end g met u b ≡ core_here
   end_here = λ i. record { port = b; key = (port_at g u b).key; mark = (ap (λ (m : Member). m.mark b) member_here ∙ put_same (w.at u).mark b Branch) i; is = member_here i; seen = seen_here i }

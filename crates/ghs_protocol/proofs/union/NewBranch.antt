@@ -30,7 +30,7 @@ pub record Branches (m x : Member) (b : ℕ) : Type 0 where
 pub link_named : (N N' : ℕ → Key → Type 0) (e f : End) → ((k : Key) → N e.is.fragment k → N' e.is.fragment k) → LinkFits N e f → LinkFits N' e f
 link_named N N' e f h l = record { tree = tree_named N N' (tree_end e) (tree_end f) h l.tree; search = l.search; tests = l.tests }
 
-module _ (g : Network) (wired : IsWired g) (u : ℕ) (lo : 1 ≤ u) (hi : u ≤ g.count) (b : ℕ) (at : At g u b) (w : Scene) (holds : Invariant g w) (x : Member) (own : ℕ → Seen) (ss : Outgoing) (more : Branches (w.at u) x b) where
+module _ (g : Network) (wired : IsWired g) (u : ℕ) (u_is : InNetwork g u) (b : ℕ) (at : At g u b) (w : Scene) (holds : Invariant g w) (x : Member) (own : ℕ → Seen) (ss : Outgoing) (more : Branches (w.at u) x b) where
   abbrev pub grown : Scene
   grown = acts g u x own ss w
 
@@ -104,12 +104,12 @@ module _ (g : Network) (wired : IsWired g) (u : ℕ) (lo : 1 ≤ u) (hi : u ≤ 
   named_grown same t k it e = subst (λ a. Names g (forest grown) a k) (sym (fragment_was t)) (names_grow _ k (holds.named t k it (sym (same_as (λ m. m.head.name) same t) ∙ e)))
 
   pub nodes_grown : NodeFits (length (g.ports u)) x → (t : ℕ) → InNetwork g t → NodeFits (length (g.ports t)) (grown.at t)
-  nodes_grown here = node_after g wired u lo hi x own ss w NodeFits holds.nodes here
+  nodes_grown here = node_after g wired u u_is x own ss w NodeFits holds.nodes here
 
   -- the links off the new one, where those of u are seen to
-  pub links_grown : ((i : ℕ) → At g u i → i ≢ b → LinkFits (NamesOf g w) (near' g wired u lo hi x own ss w i) (far' g wired u lo hi x own ss w i)) → ((i : ℕ) → At g u i → i ≢ b → LinkFits (NamesOf g w) (far' g wired u lo hi x own ss w i) (near' g wired u lo hi x own ss w i)) → (t p : ℕ) → At g t p → Off g u b t p → LinkFits (NamesOf g grown) (end g grown t p) (end g grown (far g t p) (far_port g t p))
+  pub links_grown : ((i : ℕ) → At g u i → i ≢ b → LinkFits (NamesOf g w) (near' g wired u u_is x own ss w i) (far' g wired u u_is x own ss w i)) → ((i : ℕ) → At g u i → i ≢ b → LinkFits (NamesOf g w) (far' g wired u u_is x own ss w i) (near' g wired u u_is x own ss w i)) → (t p : ℕ) → At g t p → Off g u b t p → LinkFits (NamesOf g grown) (end g grown t p) (end g grown (far g t p) (far_port g t p))
   links_grown near away t p at' off =
-      acts_keeps_off g wired u lo hi x own ss w (LinkFits (NamesOf g grown)) b
+      acts_keeps_off g wired u u_is.some u_is.node x own ss w (LinkFits (NamesOf g grown)) b
       (λ s q at'' ne ne'. link_named (NamesOf g w) (NamesOf g grown) _ _ (λ k z. names_grow _ k z) (holds.links s q at''))
       (λ i at'' ne. link_named (NamesOf g w) (NamesOf g grown) _ _ (λ k z. names_grow _ k z) (near i at'' ne))
       (λ i at'' ne. link_named (NamesOf g w) (NamesOf g grown) _ _ (λ k z. names_grow _ k z) (away i at'' ne)) t p at' off.here off.there

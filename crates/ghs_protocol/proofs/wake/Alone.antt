@@ -10,12 +10,12 @@ use Rattle.ghs_protocol.proofs.clauses.Rest.{Quiet, Resting}
 use Rattle.ghs_protocol.proofs.clauses.Whole.{Invariant}
 use Rattle.ghs_protocol.proofs.acts.SameForest.{quiet_after, sums_after, kept_after}
 
-module _ (g : Network) (wired : IsWired g) (u : ℕ) (lo : 1 ≤ u) (hi : u ≤ g.count) (w : Scene) (holds : Invariant g w) (lone : ◌≡◌ {A = ℕ} (length (g.ports u)) 0) (sleeps : (w.at u).head.phase ≡ Sleeping) where
+module _ (g : Network) (wired : IsWired g) (u : ℕ) (u_is : InNetwork g u) (w : Scene) (holds : Invariant g w) (lone : ◌≡◌ {A = ℕ} (length (g.ports u)) 0) (sleeps : (w.at u).head.phase ≡ Sleeping) where
   x : Member
   x = record (w.at u) { head = record (w.at u).head { phase = Found; halted = true } }
 
   here : InNetwork g u
-  here = record { some = lo; node = hi }
+  here = u_is
 
   fits : NodeFits (length (g.ports u)) (w.at u)
   fits = holds.nodes u here
@@ -51,7 +51,7 @@ module _ (g : Network) (wired : IsWired g) (u : ℕ) (lo : 1 ≤ u) (hi : u ≤ 
 
   quiet : (a : ℕ) → Quiet g w a → Quiet g after a
   unfolding after x
-  quiet a q = quiet_after g wired u lo hi x (w.seen u) [] w a q (λ e. refl) (λ i at. absurd (not_some i at)) (λ i at. absurd (not_some i at))
+  quiet a q = quiet_after g wired u u_is x (w.seen u) [] w a q (λ e. refl) (λ i at. absurd (not_some i at)) (λ i at. absurd (not_some i at))
 
   rests : Resting g after
   rests = record {
@@ -64,7 +64,7 @@ module _ (g : Network) (wired : IsWired g) (u : ℕ) (lo : 1 ≤ u) (hi : u ≤ 
   pub wakes_alone : Invariant g (acts g u (record (w.at u) { head = record (w.at u).head { phase = Found; halted = true } }) (w.seen u) [] w)
   unfolding after x
   wakes_alone =
-      kept_after g wired u lo hi x (w.seen u) [] w holds
+      kept_after g wired u u_is x (w.seen u) [] w holds
       (record { fragment = refl; coming = refl; coming_name = refl; up = refl; branch = λ p. refl }) node (λ i at. absurd (not_some i at))
       (λ i at. absurd (not_some i at)) (λ e. absurd (let z : Found ≡ Sleeping = e in cc)) (λ k e. holds.named u k here e) rests
-      (sums_after g wired u lo hi x (w.seen u) [] w holds.counted (holds.counted u here ∙ sum_same (length (g.ports u)) _ _ (λ i lt. absurd (omega (arith, lt, lone)))) (λ i at. absurd (not_some i at)))
+      (sums_after g wired u u_is x (w.seen u) [] w holds.counted (holds.counted u here ∙ sum_same (length (g.ports u)) _ _ (λ i lt. absurd (omega (arith, lt, lone)))) (λ i at. absurd (not_some i at)))

@@ -28,7 +28,7 @@ use Rattle.ghs_protocol.proofs.search.CloseFloors.{FloorsOff, nodes_after, links
 use Rattle.ghs_protocol.proofs.union.Floors.{floors_met}
 use Rattle.ghs_graph.proofs.lemmas.Keys.{lt_asymmetric, lt_irreflexive}
 
-module _ (g : Network) (ground : Ground g) (u : ℕ) (lo : 1 ≤ u) (hi : u ≤ g.count) (w : Scene) (holds : Invariant g w) (at : At g u 0) (sleeps : (w.at u).head.phase ≡ Sleeping) (floor : ℕ → Floor) (floors : Floors g w floor) where
+module _ (g : Network) (ground : Ground g) (u : ℕ) (u_is : InNetwork g u) (w : Scene) (holds : Invariant g w) (at : At g u 0) (sleeps : (w.at u).head.phase ≡ Sleeping) (floor : ℕ → Floor) (floors : Floors g w floor) where
   abbrev x : Member
   x = record (w.at u) { head = record (w.at u).head { level = 0; phase = Found; find_count = 0 }; mark = put (w.at u).mark 0 Branch; up = Some 0 }
 
@@ -42,7 +42,7 @@ module _ (g : Network) (ground : Ground g) (u : ℕ) (lo : 1 ≤ u) (hi : u ≤ 
   least = Some (Some (port_at g u 0).key)
 
   is : InNetwork g u
-  is = record { some = lo; node = hi }
+  is = u_is
 
   fresh : Untouched (w.at u)
   fresh = (holds.nodes u is).untouched sleeps
@@ -105,10 +105,10 @@ module _ (g : Network) (ground : Ground g) (u : ℕ) (lo : 1 ≤ u) (hi : u ≤ 
   node_floor = record { asleep = λ e. absurd (let z : Found ≡ Sleeping = e in cc); search = λ e. absurd (let z : Found ≡ Find = e in cc) }
 
   trees : BranchesInTree g woken
-  trees = in_tree_after g ground.wired u lo hi x (w.seen u) ss w floor floors least (λ p at' m. ⊎_elim (λ e. subst (IsTreeLink g u) (sym e) tree) (λ ne. absurd (plain p ne m)) (cases_eq p 0))
+  trees = in_tree_after g ground.wired u u_is x (w.seen u) ss w floor floors least (λ p at' m. ⊎_elim (λ e. subst (IsTreeLink g u) (sym e) tree) (λ ne. absurd (plain p ne m)) (cases_eq p 0))
 
   halts : HaltedIsWhole g woken
-  halts = halted_after g ground.wired u lo hi x (w.seen u) ss w floor floors least refl refl
+  halts = halted_after g ground.wired u u_is x (w.seen u) ss w floor floors least refl refl
 
   -- what waits at u is as it was
   own_again : acts g u x (put (w.seen u) 0 (w.seen u 0)) ss w ≡ woken
@@ -143,11 +143,11 @@ module _ (g : Network) (ground : Ground g) (u : ℕ) (lo : 1 ≤ u) (hi : u ≤ 
     pub wakes_out_floors : Floors g woken (put floor u least)
     wakes_out_floors =
         subst (λ v. Floors g v (put floor u least)) own_again (record {
-          nodes = nodes_after g ground.wired u lo hi x (put (w.seen u) 0 (w.seen u 0)) ss w floor floors least node_floor;
+          nodes = nodes_after g ground.wired u u_is x (put (w.seen u) 0 (w.seen u 0)) ss w floor floors least node_floor;
           links =
-              links_after g ground.wired u lo hi x (put (w.seen u) 0 (w.seen u 0)) ss w floor floors least
-              (by_port_at g ground.wired u lo hi x 0 at (w.seen u 0) (Connect 0 ∷ []) ss (sends_one 0 (Connect 0)) w (λ i e f. FloorsAt e f least (floor (far g u i))) near_out near_other)
-              (by_port_at g ground.wired u lo hi x 0 at (w.seen u 0) (Connect 0 ∷ []) ss (sends_one 0 (Connect 0)) w (λ i e f. FloorsAt f e (floor (far g u i)) least) far_out far_other);
+              links_after g ground.wired u u_is x (put (w.seen u) 0 (w.seen u 0)) ss w floor floors least
+              (by_port_at g ground.wired u u_is x 0 at (w.seen u 0) (Connect 0 ∷ []) ss (sends_one 0 (Connect 0)) w (λ i e f. FloorsAt e f least (floor (far g u i))) near_out near_other)
+              (by_port_at g ground.wired u u_is x 0 at (w.seen u 0) (Connect 0 ∷ []) ss (sends_one 0 (Connect 0)) w (λ i e f. FloorsAt f e (floor (far g u i)) least) far_out far_other);
           in_tree = trees;
           halted = halts;
         })
@@ -160,11 +160,11 @@ module _ (g : Network) (ground : Ground g) (u : ℕ) (lo : 1 ≤ u) (hi : u ≤ 
     off : FloorsOff g woken (put floor u least) u 0
     off =
         subst (λ v. FloorsOff g v (put floor u least) u 0) own_again (record {
-          nodes = nodes_after g ground.wired u lo hi x (put (w.seen u) 0 (w.seen u 0)) ss w floor floors least node_floor;
+          nodes = nodes_after g ground.wired u u_is x (put (w.seen u) 0 (w.seen u 0)) ss w floor floors least node_floor;
           links =
-              links_after_off g ground.wired u lo hi x (put (w.seen u) 0 (w.seen u 0)) ss w floor floors least 0
-              (by_port_at g ground.wired u lo hi x 0 at (w.seen u 0) (Connect 0 ∷ []) ss (sends_one 0 (Connect 0)) w (λ i e f. i ≢ 0 → FloorsAt e f least (floor (far g u i))) (λ ne. absurd (ne refl)) (λ i at' ne no. near_other i at' ne))
-              (by_port_at g ground.wired u lo hi x 0 at (w.seen u 0) (Connect 0 ∷ []) ss (sends_one 0 (Connect 0)) w (λ i e f. i ≢ 0 → FloorsAt f e (floor (far g u i)) least) (λ ne. absurd (ne refl)) (λ i at' ne no. far_other i at' ne));
+              links_after_off g ground.wired u u_is x (put (w.seen u) 0 (w.seen u 0)) ss w floor floors least 0
+              (by_port_at g ground.wired u u_is x 0 at (w.seen u 0) (Connect 0 ∷ []) ss (sends_one 0 (Connect 0)) w (λ i e f. i ≢ 0 → FloorsAt e f least (floor (far g u i))) (λ ne. absurd (ne refl)) (λ i at' ne no. near_other i at' ne))
+              (by_port_at g ground.wired u u_is x 0 at (w.seen u 0) (Connect 0 ∷ []) ss (sends_one 0 (Connect 0)) w (λ i e f. i ≢ 0 → FloorsAt f e (floor (far g u i)) least) (λ ne. absurd (ne refl)) (λ i at' ne no. far_other i at' ne));
           in_tree = trees;
           halted = halts;
         })
@@ -195,10 +195,10 @@ module _ (g : Network) (ground : Ground g) (u : ℕ) (lo : 1 ≤ u) (hi : u ≤ 
         (λ s. let z = (holds.trees.by_fragment t u (sym (fragment_is t) ∙ s ∙ fragment_is u)).0 in omega (arith, a, c, d, z, o, q)) i
 
     own_seen : woken.seen u 0 ≡ w.seen u 0
-    own_seen = here_seen g ground.wired u lo hi x (w.seen u) ss w 0
+    own_seen = here_seen g ground.wired u u_is.some u_is.node x (w.seen u) ss w 0
 
     their_seen : (woken.seen (far g u 0) (far_port g u 0)).tree ≡ (w.seen (far g u 0) (far_port g u 0)).tree ++ Connect 0 ∷ []
-    their_seen = ap (λ (q : Seen). q.tree) (far_seen g ground.wired u lo hi x (w.seen u) ss w 0 at) ∙ ap (λ s. (adds (w.seen (far g u 0) (far_port g u 0)) s).tree) ((sends_one 0 (Connect 0)).only)
+    their_seen = ap (λ (q : Seen). q.tree) (far_seen g ground.wired u u_is.some u_is.node x (w.seen u) ss w 0 at) ∙ ap (λ s. (adds (w.seen (far g u 0) (far_port g u 0)) s).tree) ((sends_one 0 (Connect 0)).only)
 
     pub wakes_meeting_floors : Floors g (meet g u 0 woken) (put floor u least)
     wakes_meeting_floors =
@@ -208,4 +208,4 @@ module _ (g : Network) (ground : Ground g) (u : ℕ) (lo : 1 ≤ u) (hi : u ≤ 
         (ap (λ (m : Member). m.up) here_is) (ap (λ (m : Member). m.up) far_is ∙ came.up)
         (λ e. let z = came.one in let y = ap (λ (q : Seen). q.tree) own_seen in let s : Connect (w.at (far g u 0)).head.level ∷ [] ≡ ChangeRoot ∷ [] = sym z ∙ sym y ∙ e in cc)
         (λ e. let z = came.none in let s : [] ++ Connect 0 ∷ [] ≡ ChangeRoot ∷ [] = ap (λ q. q ++ Connect 0 ∷ []) (sym z) ∙ sym their_seen ∙ e in cc)
-        (wakes_meeting g ground.wired u lo hi w holds at sleeps ground met)
+        (wakes_meeting g ground.wired u u_is w holds at sleeps ground met)

@@ -71,7 +71,7 @@ module _ (e f : TreeEnd) (o : Option ℕ) (low : ◌≡◌ {A = ℕ} e.level 0) 
   pub uncalled : {N : ℕ → Key → Type 0} → TreeFits N e f → TreeFits N f e → has_call e.tree ≡ false
   uncalled t t' = ⊎_elim (λ z. ap has_call (t'.out_connect (record { here = z; there = plain })).one) (λ z. ap has_call (t.silent plain z)) (mark_is f.mark)
 
-module _ (g : Network) (wired : IsWired g) (u : ℕ) (lo : 1 ≤ u) (hi : u ≤ g.count) (w : Scene) (holds : Invariant g w) (at : At g u 0) (sleeps : (w.at u).head.phase ≡ Sleeping) where
+module _ (g : Network) (wired : IsWired g) (u : ℕ) (u_is : InNetwork g u) (w : Scene) (holds : Invariant g w) (at : At g u 0) (sleeps : (w.at u).head.phase ≡ Sleeping) where
   abbrev pub woken_head : Head
   woken_head = record (w.at u).head { level = 0; phase = Found; find_count = 0 }
 
@@ -85,7 +85,7 @@ module _ (g : Network) (wired : IsWired g) (u : ℕ) (lo : 1 ≤ u) (hi : u ≤ 
   sent = acts g u waker (w.seen u) sends w
 
   pub is : InNetwork g u
-  is = record { some = lo; node = hi }
+  is = u_is
 
   pub fits : NodeFits (length (g.ports u)) (w.at u)
   fits = holds.nodes u is
@@ -103,10 +103,10 @@ module _ (g : Network) (wired : IsWired g) (u : ℕ) (lo : 1 ≤ u) (hi : u ≤ 
   abbrev pub still : ℕ → End
   still i = record { port = i; key = (port_at g u i).key; mark = (w.at u).mark i; is = waker; seen = w.seen u i }
 
-  near_is : (i : ℕ) → i ≢ 0 → near' g wired u lo hi waker (w.seen u) sends w i ≡ still i
+  near_is : (i : ℕ) → i ≢ 0 → near' g wired u u_is waker (w.seen u) sends w i ≡ still i
   near_is i ne = λ k. record { port = i; key = (port_at g u i).key; mark = put_other (w.at u).mark 0 i Branch ne k; is = waker; seen = w.seen u i }
 
-  far_is : (i : ℕ) → i ≢ 0 → far' g wired u lo hi waker (w.seen u) sends w i ≡ far_end g w u i
+  far_is : (i : ℕ) → i ≢ 0 → far' g wired u u_is waker (w.seen u) sends w i ≡ far_end g w u i
   far_is i ne = λ k. record { port = far_port g u i; key = (port_at g u i).key; mark = (w.at (far g u i)).mark (far_port g u i); is = w.at (far g u i); seen = adds (w.seen (far g u i) (far_port g u i)) ((sends_one 0 (Connect 0)).none i ne k) }
 
   pub quits : (i : ℕ) → (w.at u).head.probe ≢ Some i
@@ -129,10 +129,10 @@ module _ (g : Network) (wired : IsWired g) (u : ℕ) (lo : 1 ≤ u) (hi : u ≤ 
     tests = tests_aside' (test_end (end g w u i)) (test_end (far_end g w u i)) (w.at u).head.probe 0 (w.at u).head.name (quits i) (quits i) low (link i at').tests (link' i at').tests;
   }
 
-  pub near_fits : (i : ℕ) → At g u i → i ≢ 0 → LinkFits (NamesOf g w) (near' g wired u lo hi waker (w.seen u) sends w i) (far' g wired u lo hi waker (w.seen u) sends w i)
+  pub near_fits : (i : ℕ) → At g u i → i ≢ 0 → LinkFits (NamesOf g w) (near' g wired u u_is waker (w.seen u) sends w i) (far' g wired u u_is waker (w.seen u) sends w i)
   near_fits i at' ne = subst₂ (LinkFits (NamesOf g w)) (sym (near_is i ne)) (sym (far_is i ne)) (still_fits i at')
 
-  pub far_fits : (i : ℕ) → At g u i → i ≢ 0 → LinkFits (NamesOf g w) (far' g wired u lo hi waker (w.seen u) sends w i) (near' g wired u lo hi waker (w.seen u) sends w i)
+  pub far_fits : (i : ℕ) → At g u i → i ≢ 0 → LinkFits (NamesOf g w) (far' g wired u u_is waker (w.seen u) sends w i) (near' g wired u u_is waker (w.seen u) sends w i)
   far_fits i at' ne = subst₂ (LinkFits (NamesOf g w)) (sym (far_is i ne)) (sym (near_is i ne)) (still_fits' i at')
 
   pub node : NodeFits (length (g.ports u)) waker
@@ -155,7 +155,7 @@ module _ (g : Network) (wired : IsWired g) (u : ℕ) (lo : 1 ≤ u) (hi : u ≤ 
       f i = debt (end g w u i) (far_end g w u i)
 
       all : (w.at u).head.find_count ≡ sum_below (length (g.ports u)) f
-      all = holds.counted u is ∙ sum_same (length (g.ports u)) _ _ (λ i lt. let at'' : At g u i = record { some = lo; node = hi; port = lt } in ap (debt (end g w u i)) (λ k. record { port = far_port g u i; key = wired.same_key u i at'' k; mark = (w.at (far g u i)).mark (far_port g u i); is = w.at (far g u i); seen = w.seen (far g u i) (far_port g u i) }))
+      all = holds.counted u is ∙ sum_same (length (g.ports u)) _ _ (λ i lt. let at'' : At g u i = record { some = u_is.some; node = u_is.node; port = lt } in ap (debt (end g w u i)) (λ k. record { port = far_port g u i; key = wired.same_key u i at'' k; mark = (w.at (far g u i)).mark (far_port g u i); is = w.at (far g u i); seen = w.seen (far g u i) (far_port g u i) }))
 
       term : f i ≤ sum_below (length (g.ports u)) f
       term = term_le (length (g.ports u)) i f at'.port
@@ -165,19 +165,19 @@ module _ (g : Network) (wired : IsWired g) (u : ℕ) (lo : 1 ≤ u) (hi : u ≤ 
   zeros (suc n) f h = let a = zeros n f (λ i lt. h i (omega arith)) in let b = h n (omega arith) in omega (arith, a, b)
 
   pub counted : DebtsCounted g sent
-  counted = sums_after g wired u lo hi waker (w.seen u) sends w holds.counted (zeros (length (g.ports u)) _ (λ i lt. mine i (record { some = lo; node = hi; port = lt }))) theirs
+  counted = sums_after g wired u u_is waker (w.seen u) sends w holds.counted (zeros (length (g.ports u)) _ (λ i lt. mine i (record { some = u_is.some; node = u_is.node; port = lt }))) theirs
     where
-      mine : (i : ℕ) → At g u i → ◌≡◌ {A = ℕ} (debt (near' g wired u lo hi waker (w.seen u) sends w i) (far' g wired u lo hi waker (w.seen u) sends w i)) 0
-      mine i at' = ⊎_elim (λ (e : i ≡ 0). debt_up (near' g wired u lo hi waker (w.seen u) sends w i) (far' g wired u lo hi waker (w.seen u) sends w i) (ap Some (sym e))) (λ ne. ap₂ debt (near_is i ne) (far_is i ne) ∙ rw (unowed i at') (none (is_at (Some 0) i))) (cases_eq i 0)
+      mine : (i : ℕ) → At g u i → ◌≡◌ {A = ℕ} (debt (near' g wired u u_is waker (w.seen u) sends w i) (far' g wired u u_is waker (w.seen u) sends w i)) 0
+      mine i at' = ⊎_elim (λ (e : i ≡ 0). debt_up (near' g wired u u_is waker (w.seen u) sends w i) (far' g wired u u_is waker (w.seen u) sends w i) (ap Some (sym e))) (λ ne. ap₂ debt (near_is i ne) (far_is i ne) ∙ rw (unowed i at') (none (is_at (Some 0) i))) (cases_eq i 0)
         where
           none : (c : Bool) → ◌≡◌ {A = ℕ} (cond (not c && false) 1 0) 0
           none true = refl
           none false = refl
 
-      theirs : (i : ℕ) → At g u i → debt (far' g wired u lo hi waker (w.seen u) sends w i) (near' g wired u lo hi waker (w.seen u) sends w i) ≡ debt (far_end g w u i) (end g w u i)
+      theirs : (i : ℕ) → At g u i → debt (far' g wired u u_is waker (w.seen u) sends w i) (near' g wired u u_is waker (w.seen u) sends w i) ≡ debt (far_end g w u i) (end g w u i)
       theirs i at' = go (0 == i)
         where
-          go : (c : Bool) → debt (record (far_end g w u i) { seen = adds (w.seen (far g u i) (far_port g u i)) (cond c (Connect 0 ∷ []) []) }) (near' g wired u lo hi waker (w.seen u) sends w i) ≡ debt (far_end g w u i) (end g w u i)
+          go : (c : Bool) → debt (record (far_end g w u i) { seen = adds (w.seen (far g u i) (far_port g u i)) (cond c (Connect 0 ∷ []) []) }) (near' g wired u u_is waker (w.seen u) sends w i) ≡ debt (far_end g w u i) (end g w u i)
           go true = rw (report_append (Connect 0) refl (w.seen (far g u i) (far_port g u i)).tree, sleeps) refl
           go false = rw sleeps refl
 
@@ -195,7 +195,7 @@ module _ (g : Network) (wired : IsWired g) (u : ℕ) (lo : 1 ≤ u) (hi : u ≤ 
   }
     where
       calm : (p : ℕ) → At g u p → has_call (sent.seen u p).tree ≡ false
-      calm p at' = ap (λ (s : Seen). has_call s.tree) (here_seen g wired u lo hi waker (w.seen u) sends w p) ∙ uncalled (tree_end (end g w u p)) (tree_end (far_end g w u p)) (Some 0) fresh.level (fresh.marks p) (link p at').tree (link' p at').tree
+      calm p at' = ap (λ (s : Seen). has_call s.tree) (here_seen g wired u u_is.some u_is.node waker (w.seen u) sends w p) ∙ uncalled (tree_end (end g w u p)) (tree_end (far_end g w u p)) (Some 0) fresh.level (fresh.marks p) (link p at').tree (link' p at').tree
 
   pub no_root : (t p : ℕ) → At g t p → Root g (forest w) t p → (w.at t).fragment ≡ (w.at u).fragment → ⊥
   no_root t p at' r e = go (subst (λ y. Root g (forest w) y p) (holds.alone u t is (record { some = at'.some; node = at'.node }) sleeps e) r)
@@ -206,7 +206,7 @@ module _ (g : Network) (wired : IsWired g) (u : ℕ) (lo : 1 ≤ u) (hi : u ≤ 
 
   -- over its least link a Connect has come in
   pub wakes_meeting : Ground g → (w.at (far g u 0)).mark (far_port g u 0) ≡ Branch → Invariant g (meet g u 0 (acts g u (record (w.at u) { head = record (w.at u).head { level = 0; phase = Found; find_count = 0 }; mark = put (w.at u).mark 0 Branch; up = Some 0 }) (w.seen u) ((0, Connect 0) ∷ []) w))
-  wakes_meeting ground came = meets g ground u lo hi 0 at w holds woken_head (w.seen u) (record {
+  wakes_meeting ground came = meets g ground u u_is 0 at w holds woken_head (w.seen u) (record {
     node = node;
     found = refl;
     name = refl;

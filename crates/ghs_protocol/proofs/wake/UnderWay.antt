@@ -21,7 +21,7 @@ use Rattle.ghs_protocol.proofs.wake.Inward.{wakes_meeting}
 use Rattle.ghs_protocol.proofs.tests.UnderWay.{touches_lives, near_asks, far_asks}
 use Rattle.ghs_protocol.proofs.union.UnderWay.{no_name, united_lives}
 
-module _ (g : Network) (wired : IsWired g) (u : ℕ) (lo : 1 ≤ u) (hi : u ≤ g.count) (w : Scene) (holds : Invariant g w) (lives : Lives g w) (at : At g u 0) (sleeps : (w.at u).head.phase ≡ Sleeping) where
+module _ (g : Network) (wired : IsWired g) (u : ℕ) (u_is : InNetwork g u) (w : Scene) (holds : Invariant g w) (lives : Lives g w) (at : At g u 0) (sleeps : (w.at u).head.phase ≡ Sleeping) where
   abbrev x : Member
   x = record (w.at u) { head = record (w.at u).head { level = 0; phase = Found; find_count = 0 }; mark = put (w.at u).mark 0 Branch; up = Some 0 }
 
@@ -32,7 +32,7 @@ module _ (g : Network) (wired : IsWired g) (u : ℕ) (lo : 1 ≤ u) (hi : u ≤ 
   woken = acts g u (record (w.at u) { head = record (w.at u).head { level = 0; phase = Found; find_count = 0 }; mark = put (w.at u).mark 0 Branch; up = Some 0 }) (w.seen u) ((0, Connect 0) ∷ []) w
 
   is : InNetwork g u
-  is = record { some = lo; node = hi }
+  is = u_is
 
   fresh : Untouched (w.at u)
   fresh = (holds.nodes u is).untouched sleeps
@@ -46,8 +46,8 @@ module _ (g : Network) (wired : IsWired g) (u : ℕ) (lo : 1 ≤ u) (hi : u ≤ 
       ((w.at (far g u 0)).mark (far_port g u 0) ≡ Branch → (w.at (far g u 0)).coming_name ≢ Some (port_at g u 0).key) → Lives g woken
   woken_lives unchild unnamed unnamed' =
       subst (λ q. Lives g (acts g u x q ss w)) (put_again (w.seen u) 0)
-      (touches_lives g wired u lo hi x 0 at (w.seen u 0) (Connect 0 ∷ []) ss (sends_one 0 (Connect 0)) w lives
-      (near_asks g wired u lo hi 0 at w holds lives 0 at, far_asks g wired u lo hi 0 at w holds lives 0 at, (λ i at' ne. near_asks g wired u lo hi 0 at w holds lives i at'), (λ i at' ne. far_asks g wired u lo hi 0 at w holds lives i at'))
+      (touches_lives g wired u u_is x 0 at (w.seen u 0) (Connect 0 ∷ []) ss (sends_one 0 (Connect 0)) w lives
+      (near_asks g wired u u_is 0 at w holds lives 0 at, far_asks g wired u u_is 0 at w holds lives 0 at, (λ i at' ne. near_asks g wired u u_is 0 at w holds lives i at'), (λ i at' ne. far_asks g wired u u_is 0 at w holds lives i at'))
       ((λ c. absurd (c.3 (unchild c.1))), (λ c. absurd (c.3 refl)), (λ i at' ne c. absurd (plain i ne c.0)), (λ i at' ne c. absurd (plain i ne c.1)))
       ((λ c. absurd (unnamed c.1 c.4)), (λ c. absurd (unnamed' c.0 c.4)), (λ i at' ne c. absurd (plain i ne c.0)), (λ i at' ne c. absurd (plain i ne c.1))))
 
@@ -85,4 +85,4 @@ module _ (g : Network) (wired : IsWired g) (u : ℕ) (lo : 1 ≤ u) (hi : u ≤ 
         (λ e. no_name g ground.keyed w holds u 0 at (fresh.marks 0) (far g u 0) (let z = wired.there u 0 at in record { some = z.some; node = z.node }))
 
     pub wakes_meeting_lives : Lives g (meet g u 0 (acts g u (record (w.at u) { head = record (w.at u).head { level = 0; phase = Found; find_count = 0 }; mark = put (w.at u).mark 0 Branch; up = Some 0 }) (w.seen u) ((0, Connect 0) ∷ []) w))
-    wakes_meeting_lives = united_lives g woken woken_met (woken.at (far g u 0)).fragment (woken.at u).fragment (suc (woken.at u).head.level) (Some (port_at g u 0).key) (λ t it i. inl (low t it i)) (wakes_meeting g wired u lo hi w holds at sleeps ground met)
+    wakes_meeting_lives = united_lives g woken woken_met (woken.at (far g u 0)).fragment (woken.at u).fragment (suc (woken.at u).head.level) (Some (port_at g u 0).key) (λ t it i. inl (low t it i)) (wakes_meeting g wired u u_is w holds at sleeps ground met)
