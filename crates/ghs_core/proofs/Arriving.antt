@@ -8,9 +8,9 @@ use Rattle.ghs_protocol.specs.Network.{Network, At, IsWired, far, far_port}
 use Rattle.ghs_protocol.specs.Net.{Net, send_all}
 use Rattle.ghs_protocol.specs.Ledger.{of_kind}
 use Rattle.ghs_protocol.specs.Steps.{sent_on}
-use Rattle.ghs_protocol.proofs.Pushes.{sent_cons}
-use Rattle.ghs_protocol.proofs.Sends.{queue_sent, queue_kept}
-use Rattle.ghs_protocol.proofs.Wires.{neighbour}
+use Rattle.ghs_protocol.proofs.lemmas.Pushes.{sent_cons}
+use Rattle.ghs_protocol.proofs.lemmas.Sends.{queue_sent, queue_kept}
+use Rattle.ghs_protocol.proofs.lemmas.Wires.{neighbour}
 use Rattle.ghs_core.specs.Dispatch.{arriving, messages_of}
 
 -- one message more, at the end

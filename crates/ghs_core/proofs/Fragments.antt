@@ -24,8 +24,8 @@ use Rattle.ghs_protocol.specs.Network.{Network, network_of, At, port_at}
 use Rattle.ghs_protocol.specs.Net.{Net}
 use Rattle.ghs_protocol.specs.Run.{net_after}
 use Rattle.ghs_protocol.specs.Marks.{IsBranchLink, IsJoinedLink, InOneFragment}
-use Rattle.ghs_protocol.proofs.Fragments.{fragments_joined}
-use Rattle.ghs_protocol.proofs.Nodes.{ports_many}
+use Rattle.ghs_protocol.proofs.lemmas.Fragments.{fragments_joined}
+use Rattle.ghs_protocol.proofs.lemmas.Nodes.{ports_many}
 use Rattle.ghs_core.specs.declared.counts.Counts.{Counts}
 use Rattle.ghs_core.specs.declared.marked.Ends.TheVariants.{One, Both}
 use Rattle.ghs_core.specs.declared.halts.Halts.{Halts}

@@ -17,17 +17,15 @@ use Rattle.ghs_protocol.specs.Marks.{InOneFragment}
 use Rattle.ghs_protocol.specs.Laws.{IsNetOf}
 use Rattle.ghs_protocol.specs.Interleavings.{HaveAtLeast, Asks, To_wake, To_take}
 use Rattle.ghs_node.proofs.lemmas.{sleeping_is}
-use Rattle.ghs_protocol.proofs.Events.{node_of}
-use Rattle.ghs_protocol.proofs.Runs.{after_is_net}
+use Rattle.ghs_protocol.proofs.lemmas.Events.{node_of}
+use Rattle.ghs_protocol.proofs.lemmas.Runs.{after_is_net}
 use Rattle.ghs_graph.specs.declared.key.Key.{Key}
 use Rattle.ghs_graph.specs.Links.{InTree, IsTree}
 use Rattle.ghs_node.specs.declared.mark.Mark.TheVariants.{Branch}
 use Rattle.ghs_protocol.specs.Marks.{IsBranchLink, HasHalted, HasEnded}
-use Rattle.ghs_protocol.proofs.Invariant.SoundRuns.{branch_links_in_tree, rejected_links_aside, halt_is_exact, end_is_tree}
-use Rattle.ghs_protocol.proofs.Invariant.Bounding.{sends_within, sends_within_sharp}
-use Rattle.ghs_protocol.proofs.Sums.{sum_same}
+use Rattle.ghs_protocol.proofs.lemmas.Laws.{branch_links_in_tree, rejected_links_aside, halt_is_exact, end_is_tree, sends_within, sends_within_sharp, fragments_are_large, rejected_links_inside, work_has_reaction}
+use Rattle.ghs_protocol.proofs.lemmas.Sums.{sum_same}
 use Rattle.ghs_protocol.specs.Ledger.{in_all}
-use Rattle.ghs_protocol.proofs.Results.{fragments_are_large, rejected_links_inside, work_has_reaction}
 use Rattle.ghs_core.specs.declared.ledger.Ledger.{Ledger}
 use Rattle.ghs_core.specs.Ledger.{IsLedger, IsWithinBound}
 use Rattle.ghs_core.specs.Marked.{IsInFragment, IsExactAt, IsExactWhere, IsExact, AreInTree, AreBranches}

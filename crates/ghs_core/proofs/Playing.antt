@@ -16,13 +16,13 @@ use Rattle.ghs_protocol.specs.Run.{IsAfter, net_after}
 use Rattle.ghs_protocol.specs.Ledger.{in_all}
 use Rattle.ghs_protocol.specs.Nodes.{IsNodeOf, IsWellFormed}
 use Rattle.ghs_protocol.specs.Steps.{reacted, Happens}
-use Rattle.ghs_protocol.proofs.Events.{happens_so}
-use Rattle.ghs_protocol.proofs.Graphs.{graph_wired, graph_few}
-use Rattle.ghs_protocol.proofs.Lasting.{event_lasts}
-use Rattle.ghs_protocol.proofs.Nodes.{ports_many}
-use Rattle.ghs_protocol.proofs.Runs.{after_is_net, after_more, net_after_more}
-use Rattle.ghs_protocol.proofs.Sends.{node_here, node_there}
-use Rattle.ghs_protocol.proofs.WellFormed.{after_formed}
+use Rattle.ghs_protocol.proofs.lemmas.Events.{happens_so}
+use Rattle.ghs_protocol.proofs.lemmas.Graphs.{graph_wired, graph_few}
+use Rattle.ghs_protocol.proofs.lemmas.Lasting.{event_lasts}
+use Rattle.ghs_protocol.proofs.lemmas.Nodes.{ports_many}
+use Rattle.ghs_protocol.proofs.lemmas.Runs.{after_is_net, after_more, net_after_more}
+use Rattle.ghs_protocol.proofs.lemmas.Sends.{node_here, node_there}
+use Rattle.ghs_protocol.proofs.lemmas.WellFormed.{after_formed}
 use Rattle.ghs_core.specs.declared.counts.Counts.{Counts}
 use Rattle.ghs_core.specs.NetState.{NetState, event_node, work_at, halted_in, IsLawful, IsAnswer}
 use Rattle.ghs_core.specs.Dispatch.{Arrives, CountsSends, Settles, WaitsAt}

@@ -14,9 +14,9 @@ use Rattle.ghs_links.specs.Links.{LinksState, HasQueue, IsFor, GoOut, HasRoomFor
 use Rattle.ghs_links.proofs.Ports.{same_queue, same_for}
 use Rattle.ghs_links.proofs.Reserving.{far_queue}
 use Rattle.ghs_protocol.specs.Network.{Network, At, IsWired, network_of, far}
-use Rattle.ghs_protocol.proofs.Graphs.{graph_wired}
-use Rattle.ghs_protocol.proofs.Updates.{one_place}
-use Rattle.ghs_protocol.proofs.Wires.{far_apart}
+use Rattle.ghs_protocol.proofs.lemmas.Graphs.{graph_wired}
+use Rattle.ghs_protocol.proofs.lemmas.Updates.{one_place}
+use Rattle.ghs_protocol.proofs.lemmas.Wires.{far_apart}
 use Rattle.ghs_protocol.specs.Ledger.{of_kind}
 use Rattle.ghs_core.specs.Dispatch.{Arrives, CountsSends, arriving, messages_of}
 use Rattle.ghs_core.proofs.Arriving.{arriving_push, one_arrives, one_misses, kinds_push}

@@ -15,8 +15,8 @@ use Rattle.ghs_protocol.specs.Network.{Network, At}
 use Rattle.ghs_protocol.specs.Net.{Net, is_lawful, is_waiting, take_first}
 use Rattle.ghs_protocol.specs.Nodes.{IsNodeOf}
 use Rattle.ghs_protocol.specs.Steps.{Happens, Woke, Took, reacted}
-use Rattle.ghs_protocol.proofs.Events.{node_of, at_of}
-use Rattle.ghs_protocol.proofs.Nodes.{ports_many}
+use Rattle.ghs_protocol.proofs.lemmas.Events.{node_of, at_of}
+use Rattle.ghs_protocol.proofs.lemmas.Nodes.{ports_many}
 use Rattle.ghs_core.specs.NetState.{event_node, work_at, delivery}
 
 -- the event brings the reaction d about, and x is the net before the node reacts

@@ -16,8 +16,8 @@ use Rattle.ghs_protocol.specs.declared.event.Event.{Event}
 use Rattle.ghs_protocol.specs.Network.{network_of}
 use Rattle.ghs_protocol.specs.Net.{Net, one_if_consumed, one_if_requeued}
 use Rattle.ghs_protocol.specs.Ledger.{sum_below, of_kind, in_all}
-use Rattle.ghs_protocol.proofs.Sums.{sum_same, sum_none, sum_add}
-use Rattle.ghs_protocol.proofs.Balance.{kinds_in_all}
+use Rattle.ghs_protocol.proofs.lemmas.Sums.{sum_same, sum_none, sum_add}
+use Rattle.ghs_protocol.proofs.lemmas.Balance.{kinds_in_all}
 use Rattle.ghs_core.specs.declared.counts.Counts.{Counts}
 use Rattle.ghs_core.specs.Dispatch.{Arrives, CountsSends, Settles, messages_of}
 use Rattle.ghs_core.specs.Kept.{Shows, CountsFit}

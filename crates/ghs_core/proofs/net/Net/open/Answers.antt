@@ -1,7 +1,7 @@
 use Rattle.std.proofs.Common.{[], refl}
 use Rattle.ghs_protocol.specs.Network.{network_of}
 use Rattle.ghs_protocol.specs.Net.{opening}
-use Rattle.ghs_protocol.proofs.Runs.{net_after_is}
+use Rattle.ghs_protocol.proofs.lemmas.Runs.{net_after_is}
 use Rattle.ghs_core.proofs.Reading.{opened}
 use Rattle.ghs_core.proofs.net.Net.open.Goals as goal
 

@@ -1,2 +1,0 @@
-pub mod Bounding
-pub mod SoundRuns
