@@ -7,10 +7,10 @@ use Rattle.ghs_node.specs.NodeState.{NodeState}
 use Rattle.ghs_node.specs.Reaction.{reaction, after, IsReaction}
 use Rattle.ghs_node.specs.Rows.{Row}
 use Rattle.ghs_node.proofs.lemmas.{row_ported}
-use Rattle.ghs_links.specs.Links.{LinksState, IsFor, GoOut, HasRoomFor, KeepsLists, total_of}
-use Rattle.ghs_links.proofs.Ports.{same_for}
+use Rattle.ghs_links.specs.Links.{LinksState, IsFor, GoOut, HasRoomFor, KeepsLists, room_at, total_of}
+use Rattle.ghs_links.proofs.lemmas.Ports.{same_for}
 use Rattle.ghs_protocol.specs.declared.event.Event.{Event}
-use Rattle.ghs_protocol.specs.Network.{network_of, IsWired}
+use Rattle.ghs_protocol.specs.Network.{network_of, At, IsWired}
 use Rattle.ghs_protocol.specs.Net.{Net, is_lawful, happens}
 use Rattle.ghs_protocol.specs.Run.{IsAfter, net_after}
 use Rattle.ghs_protocol.specs.Ledger.{in_all}
@@ -25,14 +25,14 @@ use Rattle.ghs_protocol.proofs.lemmas.Sends.{node_here, node_there}
 use Rattle.ghs_protocol.proofs.lemmas.WellFormed.{after_formed}
 use Rattle.ghs_core.specs.declared.counts.Counts.{Counts}
 use Rattle.ghs_core.specs.NetState.{NetState, event_node, work_at, halted_in, IsLawful, IsAnswer}
-use Rattle.ghs_core.specs.Dispatch.{Arrives, CountsSends, Settles, WaitsAt}
+use Rattle.ghs_core.specs.Dispatch.{arriving, Arrives, CountsSends, Settles, WaitsAt}
 use Rattle.ghs_core.specs.declared.halts.Halts.{Halts}
 use Rattle.ghs_core.specs.Halts.{AreHalts, with_node}
 use Rattle.ghs_core.specs.Kept.{IsKept, no_node}
 use Rattle.ghs_core.proofs.Few.{row_few}
 use Rattle.ghs_core.proofs.Stages.{Staged, staged, stage_happens, stage_low, stage_high, stage_nodes, stage_reaction, reaction_row}
 use Rattle.ghs_core.proofs.Showing.{waits_at, stage_shows, reacted_shows}
-use Rattle.ghs_core.proofs.Totals.{Settled, settled, settled_room, fit_more, total_fits, sent_fits}
+use Rattle.ghs_core.proofs.Totals.{Settled, settled, settled_room, settled_rooms, fit_more, total_fits, sent_fits}
 use Rattle.ghs_core.proofs.Halting.{are_like, with_node_is}
 
 -- the events of a run so far, and the reaction of one more
@@ -86,8 +86,12 @@ module _ {g : Shape} {es : List Event} {nodes : List NodeState} {links : LinksSt
   pub waits : WaitsAt e links
   waits = waits_at g (net_after g es) nodes links counts plays.kept.queues plays.kept.shows stages.stage
 
-  pub go_out : GoOut g (event_node e) d.sends
-  go_out i x lt = let a = row_ported _ _ d is_node.node row i x lt in omega (arith, a, ports_many is_node)
+  pub go_out : GoOut links (event_node e) d.sends
+  go_out i x lt = let a = row_ported _ _ d is_node.node row i x lt in (plays.kept.queues.queues (event_node e) _).1 (record { some = low; node = high; port = omega (arith, a, ports_many is_node) })
+
+  -- the node has its queues
+  pub queues_there : event_node e < length links.queues
+  queues_there = let n = plays.kept.queues.count in omega (arith, n, high)
 
   pub few : length d.sends ≤ 8388610
   few = let a = row_few row in let b = is_node.node.few in omega (arith, a, b)
@@ -100,7 +104,10 @@ module _ {g : Shape} {es : List Event} {nodes : List NodeState} {links : LinksSt
     pub settled_for : IsFor g l
     settled_for = same_for g links l so_far.ports plays.kept.queues
 
-    pub room_still : HasRoomFor g (event_node e) d.sends links → HasRoomFor g (event_node e) d.sends l
+    pub out_still : GoOut l (event_node e) d.sends
+    out_still i x lt = (so_far.ports.queues (event_node e) _).0 (go_out i x lt)
+
+    pub room_still : HasRoomFor (event_node e) d.sends links → HasRoomFor (event_node e) d.sends l
     room_still room = settled_room g (net_after g es) nodes links counts plays.kept.queues plays.kept.shows l c (event_node e) d.sends stages.stage s room
 
     pub total_below : length es < 2 ^ 40 → total_of l + length d.sends < 2 ^ 64
@@ -140,6 +147,12 @@ module _ {g : Shape} {es : List Event} {nodes : List NodeState} {links : LinksSt
         fit = rw (length-append es (e ∷ [])) (fit_more (length es) links l l' counts c sent g (event_node e) d.sends few plays.kept.fit so_far a told);
         halted = rw is_next (halts_next k noted);
       }
+
+      pub played_rooms : (u r : ℕ) → At (network_of g) u r → room_at links u r ≤ room_at l' u r + length (arriving (network_of g) (event_node e) d.sends u r)
+      played_rooms u r at =
+          let first = settled_rooms g (net_after g es) nodes links counts plays.kept.queues plays.kept.shows l c stages.stage s u r ((plays.kept.queues.queues u r).1 (record { some = at.some; node = at.node; port = at.port })) in
+          let then = a.rooms u r at in
+          omega (arith, first, then)
 
   pub played_event : happens (network_of g) (net_after g es) e ≡ Some (net_after g (es ++ e ∷ []))
   played_event = happens_so (stage_happens stages.stage) ∙ ap (λ (x : Net). Some x) (sym (net_after_more g es e (net_after g es) _ run (stage_happens stages.stage)))

@@ -5,14 +5,12 @@ use Rattle.std.proofs.lemmas.Bool.{cases_eq}
 use Rattle.std.proofs.lemmas.List.{take_more}
 use Rattle.std.proofs.lemmas.List.Sums.{sum_by-drop_more}
 use Rattle.ghs_graph.specs.Graph.{Shape}
-use Rattle.ghs_graph.specs.Ports.{ports_of}
 use Rattle.ghs_node.specs.declared.message.Message.{Message}
 use Rattle.ghs_node.specs.Kind.{kind_of, place_of}
 use Rattle.ghs_node.specs.Words.{Outgoing}
 use Rattle.ghs_links.specs.Queue.{QueueState, pushed}
-use Rattle.ghs_links.specs.Links.{LinksState, HasQueue, IsFor, GoOut, HasRoomFor, Changes, state_at, queue_at, room_at, port_of}
-use Rattle.ghs_links.proofs.Ports.{same_queue, same_for}
-use Rattle.ghs_links.proofs.Reserving.{far_queue}
+use Rattle.ghs_links.specs.Links.{LinksState, HasQueue, IsPort, IsFor, SamePorts, GoOut, HasRoomFor, Changes, state_at, queue_at, room_at, port_of, far_end, destination_of}
+use Rattle.ghs_links.proofs.lemmas.Ports.{same_then, same_alike, same_for, same_destination, far_queue}
 use Rattle.ghs_protocol.specs.Network.{Network, At, IsWired, network_of, far}
 use Rattle.ghs_protocol.proofs.lemmas.Graphs.{graph_wired}
 use Rattle.ghs_protocol.proofs.lemmas.Updates.{one_place}
@@ -24,20 +22,28 @@ use Rattle.ghs_core.proofs.Arriving.{arriving_push, one_arrives, one_misses, kin
 -- what holds once the first i messages are out
 pub record Sent (g : Shape) (v : ℕ) (ss : Outgoing) (i : ℕ) (old l : LinksState) (os s : List ℕ) : Type 0 where
   pub arrives : Arrives g v (take i ss) old l
-  pub room : HasRoomFor g v (drop i ss) l
+  pub room : HasRoomFor v (drop i ss) l
   pub counts : CountsSends (take i ss) os s
   pub width : length s ≡ length os
 
-module _ (g : Shape) (v : ℕ) (lo : 1 ≤ v) (hi : v ≤ g.nodes) where
-  -- a port of v
-  port_at : (i : ℕ) → i < length (ports_of g.keys v) → At (network_of g) v i
-  port_at i lt = record { some = lo; node = hi; port = lt }
+-- a port of a graph is one of its network
+at_port : {g : Shape} {v i : ℕ} → IsPort g v i → At (network_of g) v i
+at_port p = record { some = p.some; node = p.node; port = p.port }
 
+pub port_at : {g : Shape} {v i : ℕ} → At (network_of g) v i → IsPort g v i
+port_at p = record { some = p.some; node = p.node; port = p.port }
+
+-- where a message goes
+leads_to : (g : Shape) (old l : LinksState) → IsFor g old → SamePorts old l → (v i : ℕ) → IsPort g v i → destination_of l v i ≡ far_end g v i
+leads_to g old l for same v i port = same_destination old l same v i ∙ for.leads v i port
+
+module _ (g : Shape) (v : ℕ) where
   -- one message more
-  arrives_more : (old l l' : LinksState) (ss : Outgoing) (i : ℕ) (m : Message) → IsFor g old → i < length (ports_of g.keys v) → Arrives g v ss old l → Changes l l' (port_of g v i).far (port_of g v i).far_port (pushed (state_at l (port_of g v i).far (port_of g v i).far_port) m) → Arrives g v (ss ++ (i, m) ∷ []) old l'
+  arrives_more : (old l l' : LinksState) (ss : Outgoing) (i : ℕ) (m : Message) → IsFor g old → IsPort g v i → Arrives g v ss old l → Changes l l' (port_of g v i).far (port_of g v i).far_port (pushed (state_at l (port_of g v i).far (port_of g v i).far_port) m) → Arrives g v (ss ++ (i, m) ∷ []) old l'
   arrives_more old l l' ss i m for lt a c = record {
-    ports = c.ports ∙ a.ports;
+    ports = same_then old l l' a.ports c.ports;
     queue = queue;
+    rooms = rooms;
     total = let t = c.total in let e = a.total in let n : length (queue_at l to_node to_port ++ m ∷ []) ≡ length (queue_at l to_node to_port) + 1 = length-append _ _ in omega (arith, t, e, n, length-append ss ((i, m) ∷ []));
   }
     where
@@ -58,49 +64,67 @@ module _ (g : Shape) (v : ℕ) (lo : 1 ≤ v) (hi : v ≤ g.nodes) where
         where
           same : (u ≡ to_node) × (r ≡ to_port) → queue_at l' u r ≡ queue_at old u r ++ (arriving (network_of g) v ss u r ++ arriving (network_of g) v ((i, m) ∷ []) u r)
           same e =
-              let there : At (network_of g) to_node to_port = wired.there v i (port_at i lt) in
-              let one : arriving (network_of g) v ((i, m) ∷ []) to_node to_port ≡ m ∷ [] = one_arrives (network_of g) v wired (i, m) (port_at i lt) in
+              let there : At (network_of g) to_node to_port = wired.there v i (at_port lt) in
+              let one : arriving (network_of g) v ((i, m) ∷ []) to_node to_port ≡ m ∷ [] = one_arrives (network_of g) v wired (i, m) (at_port lt) in
               let now : queue_at l' to_node to_port ≡ queue_at l to_node to_port ++ m ∷ [] = ap (λ (q : QueueState). q.list) c.here in
               rw (e.0, e.1) (now ∙ rw (a.queue to_node to_port there, one) (append_assoc (queue_at old to_node to_port) (arriving (network_of g) v ss to_node to_port) (m ∷ [])))
 
           other : ((u ≡ to_node) × (r ≡ to_port) → ⊥) → queue_at l' u r ≡ queue_at old u r ++ (arriving (network_of g) v ss u r ++ arriving (network_of g) v ((i, m) ∷ []) u r)
           other ne =
-              let had : HasQueue l u r = same_queue old l a.ports u r ((for.queues u r).1 (record { some = at.some; node = at.node; port = at.port })) in
-              let none : arriving (network_of g) v ((i, m) ∷ []) u r ≡ [] = one_misses (network_of g) v wired (i, m) u r (port_at i lt) at ne in
+              let had : HasQueue l u r = (a.ports.queues u r).0 ((for.queues u r).1 (port_at at)) in
+              let none : arriving (network_of g) v ((i, m) ∷ []) u r ≡ [] = one_misses (network_of g) v wired (i, m) u r (at_port lt) at ne in
               ap (λ (q : QueueState). q.list) (c.elsewhere u r had ne) ∙ a.queue u r at ∙ rw (none, append-nil) refl
 
-  -- the far end's queue, and its room
-  pub sends_to : (old l : LinksState) (ss : Outgoing) (i : ℕ) → IsFor g old → l.starts ≡ old.starts → i < length (ports_of g.keys v) → HasQueue l (port_of g v i).far (port_of g v i).far_port
-  sends_to old l ss i for e lt = far_queue g l (same_for g old l e for) v i lt
-
-  pub room_for_next : (l : LinksState) (ss : Outgoing) (i : ℕ) (d s : ℕ × Message) → i < length ss → s ≡ get_or ss i d → s.0 < length (ports_of g.keys v) → HasRoomFor g v (drop i ss) l → 0 < room_at l (port_of g v s.0).far (port_of g v s.0).far_port
-  room_for_next l ss i d s more is lt room =
-      let one = sum_by-drop_more (λ (x : ℕ × Message). cond (x.0 == s.0) 1 0) ss i d more in
-      let first : ◌≡◌ {A = ℕ} (cond ((get_or ss i d).0 == s.0) 1 0) 1 = rw (sym is, eq-eqb s.0 s.0 refl) refl in
-      let r = room s.0 lt in
-      omega (arith, one, first, r)
+      rooms : (u r : ℕ) → At (network_of g) u r → room_at old u r ≤ room_at l' u r + length (arriving (network_of g) v (ss ++ (i, m) ∷ []) u r)
+      rooms u r at =
+          let before = a.rooms u r at in
+          let more : length (arriving (network_of g) v (ss ++ (i, m) ∷ []) u r) ≡ length (arriving (network_of g) v ss u r) + length (arriving (network_of g) v ((i, m) ∷ []) u r) = ap length (arriving_push (network_of g) v ss (i, m) u r) ∙ length-append _ _ in
+          ⊎_elim
+          (λ (e : (u ≡ to_node) × (r ≡ to_port)).
+          let one : length (arriving (network_of g) v ((i, m) ∷ []) u r) ≡ 1 = rw (e.0, e.1) (ap length (one_arrives (network_of g) v wired (i, m) (at_port lt))) in
+          let now : room_at l' u r ≡ room_at l u r - 1 = rw (e.0, e.1) (ap (λ (q : QueueState). q.room) c.here) in
+          omega (arith, before, more, one, now))
+          (λ ne.
+          let had : HasQueue l u r = (a.ports.queues u r).0 ((for.queues u r).1 (port_at at)) in
+          let now : room_at l' u r ≡ room_at l u r = ap (λ (q : QueueState). q.room) (c.elsewhere u r had ne) in
+          omega (arith, before, more, now))
+          (one_place to_node to_port u r)
 
   -- the room that the next message leaves
-  room_after : (l l' : LinksState) (ss : Outgoing) (i : ℕ) (d s : ℕ × Message) → IsFor g l → i < length ss → s ≡ get_or ss i d → s.0 < length (ports_of g.keys v) → HasRoomFor g v (drop i ss) l → Changes l l' (port_of g v s.0).far (port_of g v s.0).far_port (pushed (state_at l (port_of g v s.0).far (port_of g v s.0).far_port) s.1) → HasRoomFor g v (drop (i + 1) ss) l'
-  room_after l l' ss i d s for more is port room c p lt = ⊎_elim here elsewhere (cases_eq p s.0)
+  room_after : (l l' : LinksState) (ss : Outgoing) (i : ℕ) (d s : ℕ × Message) → IsFor g l → i < length ss → s ≡ get_or ss i d → IsPort g v s.0 → HasRoomFor v (drop i ss) l → Changes l l' (port_of g v s.0).far (port_of g v s.0).far_port (pushed (state_at l (port_of g v s.0).far (port_of g v s.0).far_port) s.1) → HasRoomFor v (drop (i + 1) ss) l'
+  room_after l l' ss i d s for more is port room c p has =
+      let at : IsPort g v p = (for.queues v p).0 ((c.ports.queues v p).1 has) in
+      let led : destination_of l' v p ≡ far_end g v p = leads_to g l l' for c.ports v p at in
+      rw led (⊎_elim (here at) (elsewhere at) (cases_eq p s.0))
     where
-      had : count_by (λ (x : ℕ × Message). x.0 == p) (drop i ss) ≡ cond (s.0 == p) 1 0 + count_by (λ (x : ℕ × Message). x.0 == p) (drop (i + 1) ss)
-      had = sum_by-drop_more (λ (x : ℕ × Message). cond (x.0 == p) 1 0) ss i d more ∙ rw is refl
+      had : (p : ℕ) → count_by (λ (x : ℕ × Message). x.0 == p) (drop i ss) ≡ cond (s.0 == p) 1 0 + count_by (λ (x : ℕ × Message). x.0 == p) (drop (i + 1) ss)
+      had p = sum_by-drop_more (λ (x : ℕ × Message). cond (x.0 == p) 1 0) ss i d more ∙ rw is refl
 
-      here : p ≡ s.0 → count_by (λ (x : ℕ × Message). x.0 == p) (drop (i + 1) ss) ≤ room_at l' (port_of g v p).far (port_of g v p).far_port
-      here e =
-          let mine : count_by (λ (x : ℕ × Message). x.0 == s.0) (drop i ss) ≡ 1 + count_by (λ (x : ℕ × Message). x.0 == s.0) (drop (i + 1) ss) = rw e at had ∙ rw (eq-eqb s.0 s.0 refl) refl in
+      room_for : (p : ℕ) → IsPort g v p → count_by (λ (x : ℕ × Message). x.0 == p) (drop i ss) ≤ room_at l (port_of g v p).far (port_of g v p).far_port
+      room_for p at = rw (for.leads v p at) at (room p ((for.queues v p).1 at))
+
+      here : {p : ℕ} → IsPort g v p → p ≡ s.0 → count_by (λ (x : ℕ × Message). x.0 == p) (drop (i + 1) ss) ≤ room_at l' (port_of g v p).far (port_of g v p).far_port
+      here {p} at e =
+          let mine : count_by (λ (x : ℕ × Message). x.0 == s.0) (drop i ss) ≡ 1 + count_by (λ (x : ℕ × Message). x.0 == s.0) (drop (i + 1) ss) = had s.0 ∙ rw (eq-eqb s.0 s.0 refl) refl in
           let left : room_at l' (port_of g v s.0).far (port_of g v s.0).far_port ≡ room_at l (port_of g v s.0).far (port_of g v s.0).far_port - 1 = ap (λ (q : QueueState). q.room) c.here in
-          let r = room s.0 port in
+          let r = room_for s.0 port in
           rw e (omega (arith, mine, left, r))
 
-      elsewhere : p ≢ s.0 → count_by (λ (x : ℕ × Message). x.0 == p) (drop (i + 1) ss) ≤ room_at l' (port_of g v p).far (port_of g v p).far_port
-      elsewhere ne =
-          let ours : count_by (λ (x : ℕ × Message). x.0 == p) (drop i ss) ≡ count_by (λ (x : ℕ × Message). x.0 == p) (drop (i + 1) ss) = had ∙ rw (ne_eqb s.0 p (λ z. ne (sym z))) (omega arith) in
-          let apart = far_apart (network_of g) (graph_wired g for.graph) v p s.0 (port_at p lt) (λ z. ne (sym z)) in
-          let same : room_at l' (port_of g v p).far (port_of g v p).far_port ≡ room_at l (port_of g v p).far (port_of g v p).far_port = ap (λ (q : QueueState). q.room) (c.elsewhere _ _ (far_queue g l for v p lt) apart) in
-          let r = room p lt in
+      elsewhere : {p : ℕ} → IsPort g v p → p ≢ s.0 → count_by (λ (x : ℕ × Message). x.0 == p) (drop (i + 1) ss) ≤ room_at l' (port_of g v p).far (port_of g v p).far_port
+      elsewhere {p} at ne =
+          let ours : count_by (λ (x : ℕ × Message). x.0 == p) (drop i ss) ≡ count_by (λ (x : ℕ × Message). x.0 == p) (drop (i + 1) ss) = had p ∙ rw (ne_eqb s.0 p (λ z. ne (sym z))) (omega arith) in
+          let apart = far_apart (network_of g) (graph_wired g for.graph) v p s.0 (at_port at) (λ z. ne (sym z)) in
+          let same : room_at l' (port_of g v p).far (port_of g v p).far_port ≡ room_at l (port_of g v p).far (port_of g v p).far_port = ap (λ (q : QueueState). q.room) (c.elsewhere _ _ (far_queue g l for v p at.port) apart) in
+          let r = room_for p at in
           omega (arith, ours, same, r)
+
+-- the room for the next message
+pub room_for_next : (v : ℕ) (l : LinksState) (ss : Outgoing) (i : ℕ) (d s : ℕ × Message) → i < length ss → s ≡ get_or ss i d → HasQueue l v s.0 → HasRoomFor v (drop i ss) l → 0 < room_at l (destination_of l v s.0).0 (destination_of l v s.0).1
+room_for_next v l ss i d s more is has room =
+    let one = sum_by-drop_more (λ (x : ℕ × Message). cond (x.0 == s.0) 1 0) ss i d more in
+    let first : ◌≡◌ {A = ℕ} (cond ((get_or ss i d).0 == s.0) 1 0) 1 = rw (sym is, eq-eqb s.0 s.0 refl) refl in
+    let r = room s.0 has in
+    omega (arith, one, first, r)
 
 -- one message more is counted
 counts_more : (ss : Outgoing) (x : ℕ × Message) (os s : List ℕ) (k : ℕ) → length s ≡ 7 → k ≡ place_of (kind_of x.1) → k < 7 → CountsSends ss os s → CountsSends (ss ++ x ∷ []) os (set s k (get_or s k 0 + 1))
@@ -125,8 +149,8 @@ counts_more ss x os s k w e lt c j below = ⊎_elim hit miss (cases_eq j k)
         omega (arith, now, add, one, had)
 
 -- the port that a message goes out on
-pub port_out : (g : Shape) (v : ℕ) (ss : Outgoing) (i : ℕ) (x : ℕ × Message) → GoOut g v ss → i < length ss → x ≡ get_or ss i x → x.0 < length (ports_of g.keys v)
-port_out g v ss i x out lt is = let P : ℕ × Message → Type 0 = λ y. y.0 < length (ports_of g.keys v) in subst P (sym is) (out i x lt)
+pub port_out : (old l : LinksState) (v : ℕ) (ss : Outgoing) (i : ℕ) (x : ℕ × Message) → GoOut old v ss → SamePorts old l → i < length ss → x ≡ get_or ss i x → HasQueue l v x.0
+port_out old l v ss i x out same lt is = (same.queues v x.0).0 (let P : ℕ × Message → Type 0 = λ y. HasQueue old v y.0 in subst P (sym is) (out i x lt))
 
 -- no kind has more messages than there are
 pub kind_few : (k : ℕ) (ss : Outgoing) → of_kind k (messages_of ss) ≤ length ss
@@ -138,9 +162,9 @@ kind_few k (s ∷ ss) = let rest = kind_few k ss in let one = one_few (place_of 
     one_few false = omega arith
 
 -- the loop of all sends: at the start, and one message on
-pub none_sent : (g : Shape) (v : ℕ) (ss : Outgoing) (l : LinksState) (s : List ℕ) → HasRoomFor g v ss l → Sent g v ss 0 l l s s
+pub none_sent : (g : Shape) (v : ℕ) (ss : Outgoing) (l : LinksState) (s : List ℕ) → HasRoomFor v ss l → Sent g v ss 0 l l s s
 none_sent g v ss l s room = record {
-  arrives = record { ports = refl; queue = λ u r at. sym (none u r); total = omega arith };
+  arrives = record { ports = same_alike l; queue = λ u r at. sym (none u r); rooms = λ u r at. omega arith; total = omega arith };
   room = room;
   counts = λ k lt. omega arith;
   width = refl;
@@ -149,13 +173,16 @@ none_sent g v ss l s room = record {
     none : (u r : ℕ) → queue_at l u r ++ arriving (network_of g) v [] u r ≡ queue_at l u r
     none u r = elim (far (network_of g) u r == v) as (λ b. queue_at l u r ++ cond b [] [] ≡ queue_at l u r) [ true ↦ append-nil _ | false ↦ append-nil _ ]
 
-pub one_sent : (g : Shape) (v : ℕ) → 1 ≤ v → v ≤ g.nodes → (ss : Outgoing) (i : ℕ) (d x : ℕ × Message) (old l l' : LinksState) (os s : List ℕ) (k : ℕ) → IsFor g old → GoOut g v ss → length os ≡ 7 → i < length ss → x ≡ get_or ss i d → k ≡ place_of (kind_of x.1) → k < 7 → Sent g v ss i old l os s → Changes l l' (port_of g v x.0).far (port_of g v x.0).far_port (pushed (state_at l (port_of g v x.0).far (port_of g v x.0).far_port) x.1) → Sent g v ss (i + 1) old l' os (set s k (get_or s k 0 + 1))
-one_sent g v lo hi ss i d x old l l' os s k for out seven more is e lt h c = record {
-  arrives = rw (take_more ss i d more, sym is) (arrives_more g v lo hi old l l' (take i ss) x.0 x.1 for port h.arrives c);
-  room = room_after g v lo hi l l' ss i d x (same_for g old l h.arrives.ports for) more is port h.room c;
+pub one_sent : (g : Shape) (v : ℕ) (ss : Outgoing) (i : ℕ) (d x : ℕ × Message) (old l l' : LinksState) (os s : List ℕ) (k : ℕ) → IsFor g old → GoOut old v ss → length os ≡ 7 → i < length ss → x ≡ get_or ss i d → k ≡ place_of (kind_of x.1) → k < 7 → Sent g v ss i old l os s → Changes l l' (destination_of l v x.0).0 (destination_of l v x.0).1 (pushed (state_at l (destination_of l v x.0).0 (destination_of l v x.0).1) x.1) → Sent g v ss (i + 1) old l' os (set s k (get_or s k 0 + 1))
+one_sent g v ss i d x old l l' os s k for out seven more is e lt h c = record {
+  arrives = rw (take_more ss i d more, sym is) (arrives_more g v old l l' (take i ss) x.0 x.1 for port h.arrives there);
+  room = room_after g v l l' ss i d x (same_for g old l h.arrives.ports for) more is port h.room there;
   counts = rw (take_more ss i d more, sym is) (counts_more (take i ss) x os s k (h.width ∙ seven) e lt h.counts);
   width = length-set s k _ ∙ h.width;
 }
   where
-    port : x.0 < length (ports_of g.keys v)
-    port = rw is (out i d more)
+    port : IsPort g v x.0
+    port = (for.queues v x.0).0 (let P : ℕ × Message → Type 0 = λ y. HasQueue old v y.0 in subst P (sym is) (out i d more))
+
+    there : Changes l l' (port_of g v x.0).far (port_of g v x.0).far_port (pushed (state_at l (port_of g v x.0).far (port_of g v x.0).far_port) x.1)
+    there = let P : ℕ × ℕ → Type 0 = λ t. Changes l l' t.0 t.1 (pushed (state_at l t.0 t.1) x.1) in subst P (leads_to g old l for h.arrives.ports v x.0 port) c

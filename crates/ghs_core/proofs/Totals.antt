@@ -10,8 +10,8 @@ use Rattle.ghs_node.specs.Kind.{kind_of, place_of}
 use Rattle.ghs_node.specs.Words.{Outgoing}
 use Rattle.ghs_node.specs.NodeState.{NodeState}
 use Rattle.ghs_graph.specs.Graph.{Shape}
-use Rattle.ghs_links.specs.Links.{LinksState, IsFor, HasRoomFor, total_of}
-use Rattle.ghs_links.proofs.Reserving.{far_queue}
+use Rattle.ghs_links.specs.Links.{LinksState, HasQueue, IsFor, SamePorts, HasRoomFor, room_at, far_end, destination_of, total_of}
+use Rattle.ghs_links.proofs.lemmas.Ports.{same_alike, same_destination, far_queue}
 use Rattle.ghs_protocol.specs.declared.event.Event.{Event}
 use Rattle.ghs_protocol.specs.Network.{network_of}
 use Rattle.ghs_protocol.specs.Net.{Net, one_if_consumed, one_if_requeued}
@@ -52,11 +52,11 @@ pub record Settled (links l : LinksState) (counts c : Counts) : Type 0 where
   pub fewer : total_of l ≤ total_of links
   pub consumed : in_all (λ k. get_or c.consumed k 0) ≤ in_all (λ k. get_or counts.consumed k 0) + 1
   pub requeued : c.requeued ≤ counts.requeued + 1
-  pub ports : l.starts ≡ links.starts
+  pub ports : SamePorts links l
 
 module _ (g : Shape) (w : Net) (nodes : List NodeState) (links : LinksState) (counts : Counts) (for : IsFor g links) (shows : Shows (network_of g) w nodes links counts) where
   pub settled : {e : Event} {d : Delta} {x : Net} (l : LinksState) (c : Counts) → Stage (network_of g) w e d x → Settles e d.fate links l counts c → Settled links l counts c
-  settled l c (Wakes v d lo hi s r) z = rw (z.0, z.1) (record { sent = refl; balance = refl; fewer = omega arith; consumed = omega arith; requeued = omega arith; ports = refl })
+  settled l c (Wakes v d lo hi s r) z = rw (z.0, z.1) (record { sent = refl; balance = refl; fewer = omega arith; consumed = omega arith; requeued = omega arith; ports = same_alike links })
   settled l c (Takes v p m ms d at q r) z =
       let one = z m ms (shows.queue v p at ∙ q) in
       let t = one.0.total in
@@ -74,13 +74,20 @@ module _ (g : Shape) (w : Net) (nodes : List NodeState) (links : LinksState) (co
       }
 
   -- the first stage takes no room
-  pub settled_room : {e : Event} {d : Delta} {x : Net} (l : LinksState) (c : Counts) (v : ℕ) (ss : Outgoing) → Stage (network_of g) w e d x → Settles e d.fate links l counts c → HasRoomFor g v ss links → HasRoomFor g v ss l
-  settled_room l c u ss (Wakes v d lo hi s r) z room i lt = rw z.0 (room i lt)
-  settled_room l c u ss (Takes v p m ms d at q r) z room i lt =
+  pub settled_room : {e : Event} {d : Delta} {x : Net} (l : LinksState) (c : Counts) (v : ℕ) (ss : Outgoing) → Stage (network_of g) w e d x → Settles e d.fate links l counts c → HasRoomFor v ss links → HasRoomFor v ss l
+  settled_room l c u ss (Wakes v d lo hi s r) z room = rw z.0 room
+  settled_room l c u ss (Takes v p m ms d at q r) z room = λ i has.
       let one = z m ms (shows.queue v p at ∙ q) in
-      let more = one.0.rooms _ _ (far_queue g links for u i lt) in
-      let had = room i lt in
-      omega (arith, more, had)
+      let had = (one.0.ports.queues u i).1 has in
+      let port = (for.queues u i).0 had in
+      let led : destination_of links u i ≡ far_end g u i = for.leads u i port in
+      let enough = rw led at (room i had) in
+      let more = one.0.rooms _ _ (far_queue g links for u i port.port) in
+      rw (same_destination links l one.0.ports u i, led) (omega (arith, more, enough))
+
+  pub settled_rooms : {e : Event} {d : Delta} {x : Net} (l : LinksState) (c : Counts) → Stage (network_of g) w e d x → Settles e d.fate links l counts c → (u r : ℕ) → HasQueue links u r → room_at links u r ≤ room_at l u r
+  settled_rooms l c (Wakes v d lo hi s r) z = λ u r has. rw z.0 (omega arith)
+  settled_rooms l c (Takes v p m ms d at q r) z = (z m ms (shows.queue v p at ∙ q)).0.rooms
 
 -- the second stage: the sends are counted
 pub fit_more : (n : ℕ) (links l l' : LinksState) (counts c : Counts) (sent : List ℕ) (g : Shape) (v : ℕ) (ss : Outgoing) → length ss ≤ 8388610 → CountsFit n links counts → Settled links l counts c → Arrives g v ss l l' → CountsSends ss c.sent sent → CountsFit (n + 1) l' (record { sent = sent; consumed = c.consumed; requeued = c.requeued })

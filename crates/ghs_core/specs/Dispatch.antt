@@ -5,7 +5,7 @@ use Rattle.ghs_node.specs.declared.message.Message.{Message}
 use Rattle.ghs_node.specs.declared.delta.Fate.{Fate}
 use Rattle.ghs_node.specs.Kind.{kind_of, place_of}
 use Rattle.ghs_node.specs.Words.{Outgoing}
-use Rattle.ghs_links.specs.Links.{LinksState, HasQueue, queue_at, room_at, total_of}
+use Rattle.ghs_links.specs.Links.{LinksState, HasQueue, SamePorts, queue_at, room_at, total_of}
 use Rattle.ghs_protocol.specs.Network.{Network, network_of, At, far, far_port}
 use Rattle.ghs_protocol.specs.Net.{left_of, one_if_consumed, one_if_requeued}
 use Rattle.ghs_protocol.specs.Ledger.{of_kind}
@@ -18,10 +18,11 @@ use Rattle.ghs_core.specs.declared.counts.Counts.{Counts}
 abbrev pub arriving : Network → ℕ → Outgoing → ℕ → ℕ → List Message
 arriving g v ss u r = if far g u r == v then sent_on ss (far_port g u r) else []
 
--- each message has come in at the far end of the port it went out on
+-- each message has come in at the far end of the port it went out on, and took no more room than its own
 pub record Arrives (g : Shape) (v : ℕ) (ss : Outgoing) (old new : LinksState) : Type 0 where
-  pub ports : new.starts ≡ old.starts
+  pub ports : SamePorts old new
   pub queue : (u r : ℕ) → At (network_of g) u r → queue_at new u r ≡ queue_at old u r ++ arriving (network_of g) v ss u r
+  pub rooms : (u r : ℕ) → At (network_of g) u r → room_at old u r ≤ room_at new u r + length (arriving (network_of g) v ss u r)
   pub total : total_of new ≡ total_of old + length ss
 
 abbrev pub messages_of : Outgoing → List Message
@@ -33,7 +34,7 @@ CountsSends ss old new = (k : ℕ) → k < 7 → slice_index new k ≡ slice_ind
 
 -- the first message m, before which ms wait behind it, has met its fate
 pub record Met (f : Fate) (v p : ℕ) (m : Message) (ms : List Message) (old new : LinksState) : Type 0 where
-  pub ports : new.starts ≡ old.starts
+  pub ports : SamePorts old new
   pub here : queue_at new v p ≡ left_of f m ms
   pub elsewhere : (u r : ℕ) → HasQueue old u r → ((u ≡ v) × (r ≡ p) → ⊥) → queue_at new u r ≡ queue_at old u r
   pub rooms : (u r : ℕ) → HasQueue old u r → room_at old u r ≤ room_at new u r

@@ -1,17 +1,18 @@
 -- What a net is seen as: a graph and the events that were played on it, and the room beside.
-use Rattle.std.specs.Prelude.{◌≡◌, ℕ, ◌≤◌, ◌<◌, Option, Some, List, [], ◌∷◌, Bool, true}
+use Rattle.std.specs.Prelude.{◌≡◌, ℕ, ◌+◌, ◌≤◌, ◌<◌, Option, Some, List, [], ◌∷◌, length, Bool, true}
 use Rattle.ghs_graph.specs.Graph.{Shape}
 use Rattle.ghs_node.specs.declared.message.Message.{Message}
 use Rattle.ghs_node.specs.declared.delta.Delta.{Delta}
 use Rattle.ghs_node.specs.declared.work.Work.{Work}
 use Rattle.ghs_node.specs.declared.work.Work.TheVariants as works
 use Rattle.ghs_node.specs.Reaction.{reaction}
-use Rattle.ghs_links.specs.Links.{LinksState, HasRoomFor, KeepsLists}
+use Rattle.ghs_links.specs.Links.{LinksState, HasRoomFor, KeepsLists, room_at}
 use Rattle.ghs_protocol.specs.declared.event.Event.{Event}
 use Rattle.ghs_protocol.specs.declared.event.Event.TheVariants.{Wake, Take}
-use Rattle.ghs_protocol.specs.Network.{Network, network_of}
+use Rattle.ghs_protocol.specs.Network.{Network, network_of, At}
 use Rattle.ghs_protocol.specs.Net.{Net, is_lawful}
 use Rattle.ghs_protocol.specs.Run.{net_after}
+use Rattle.ghs_core.specs.Dispatch.{arriving}
 use Rattle.ghs_core.specs.Halts.{IsLeast}
 
 -- the graph and the trace; the queues with the room beside each, and for how many more events the trace has room
@@ -52,7 +53,12 @@ IsAnswer s e d = reaction ((net_of s).node (event_node e)) (work_at (net_of s) e
 -- room for the event in the trace, and for the messages that the reaction sends
 pub record HasRoomToPlay (s : NetState) (e : Event) (d : Delta) : Type 0 where
   pub trace : 0 < s.spare
-  pub sends : HasRoomFor s.graph (event_node e) d.sends s.links
+  pub sends : HasRoomFor (event_node e) d.sends s.links
+
+-- no room is let go of: the event takes one place in the trace, and each message that comes in one in its queue
+pub record KeepsRoom (old new : NetState) (e : Event) (d : Delta) : Type 0 where
+  pub trace : old.spare ≤ new.spare + 1
+  pub queues : (u r : ℕ) → At (network old) u r → room_at old.links u r ≤ room_at new.links u r + length (arriving (network old) (event_node e) d.sends u r)
 
 -- the same net, and nowhere less room
 pub record IsSameNet (old new : NetState) : Type 0 where

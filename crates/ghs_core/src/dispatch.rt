@@ -1,38 +1,28 @@
 //! Messages on their way: what one reaction does to the queues.
 ghost use Rattle.std.specs.Prelude.{◌≡◌, ℕ, ◌+◌, ◌-◌, ◌<◌, ◌≤◌, ◌^◌, List, ◌∷◌, length, slice_index};
 ghost use Rattle.ghs_node.specs.declared.message.Message.{Message as Letter};
-ghost use Rattle.ghs_links.specs.Links.{HasQueue, IsFor, GoOut, HasRoomFor, queue_at, total_of};
+ghost use Rattle.ghs_links.specs.Links.{HasQueue, IsFor, IsForSome, GoOut, HasRoomFor, queue_at, total_of};
+ghost use Rattle.ghs_graph.specs.Graph.{Shape};
 ghost use Rattle.ghs_core.specs.Dispatch.{Arrives, CountsSends, Met, CountsFate, WaitsAt, Settles};
 
 use crate::counts::Counts;
-use ghs_graph::graph::Graph;
 use ghs_links::links::Links;
 use ghs_node::delta::Fate;
 use ghs_node::message::Message;
 use ghs_protocol::event::Event;
 
 /// Sends messages out from node `v`, in their order. There is room for them at the far ends.
-pub fn send_all(
-    links: &mut Links,
-    sent: &mut [u64; 7],
-    graph: &Graph,
-    v: u32,
-    sends: &[(u32, Message)],
-)
-    requires queues { IsFor graph.now links.old }
-    requires low { 1 ≤ v }
-    requires high { v ≤ graph.now.nodes }
-    requires ports { GoOut graph.now v sends.now }
-    requires room { HasRoomFor graph.now v sends.now links.old }
+pub fn send_all(links: &mut Links, sent: &mut [u64; 7], v: u32, sends: &[(u32, Message)])
+    requires queues { IsForSome links.old }
+    requires ports { GoOut links.old v sends.now }
+    requires room { HasRoomFor v sends.now links.old }
     requires total { total_of links.old + length sends.now < 2 ^ 64 }
     requires fits { (k : ℕ) → k < 7 → slice_index sent.old k + length sends.now < 2 ^ 64 }
-    ensures arrives { Arrives graph.now v sends.now links.old links.new }
+    ensures arrives { (g : Shape) → IsFor g links.old → Arrives g v sends.now links.old links.new }
     ensures counts { CountsSends sends.now sent.old sent.new }
 {
-    let ports = graph.ports(v);
     for (port, message) in sends {
-        let to = ports[*port as usize];
-        links.push(to.far, to.far_port, *message);
+        links.send(v, *port, *message);
         sent[message.kind().place()] += 1;
     }
 }

@@ -10,7 +10,7 @@ ghost use Rattle.ghs_protocol.specs.Interleavings.{HaveAtLeast};
 ghost use Rattle.ghs_node.specs.Reaction.{reaction};
 ghost use Rattle.ghs_protocol.specs.Net.{opening, is_lawful, is_node, is_port, happens};
 ghost use Rattle.ghs_protocol.specs.Run.{IsRun};
-ghost use Rattle.ghs_core.specs.NetState.{network, net_of, work_at, IsLawful, IsAnswer, HasRoomToPlay, IsSameNet, IsLeastHalted, IsSameRun, event_node};
+ghost use Rattle.ghs_core.specs.NetState.{network, net_of, work_at, IsLawful, IsAnswer, HasRoomToPlay, KeepsRoom, IsSameNet, IsLeastHalted, IsSameRun, event_node};
 ghost use Rattle.ghs_core.specs.Ledger.{IsLedger, IsWithinBound};
 ghost use Rattle.ghs_core.specs.Marked.{AreBranches, AreInTree, IsExactWhere, IsExact, IsFragment, IsInFragment};
 
@@ -256,19 +256,21 @@ impl Net {
         self.has_node(v) && (port as usize) < self.graph.ports(v).len()
     }
 
-    /// Makes room for an event and for what its reaction sends. A refusal leaves the net as it was.
+    /// Makes room for an event and for what its reaction sends. It is refused only where there was no room for them, and
+    /// leaves the net as it was.
     pub fn reserve(&mut self, event: Event, delta: &Delta) -> Result<(), AllocError>
         requires lawful { IsLawful self.old event }
         requires answer { IsAnswer self.old event delta.now }
         ensures net { IsSameNet self.old self.new }
         ensures room { OnOk result (HasRoomToPlay self.new event delta.now) }
+        ensures full { OnErr result (HasRoomToPlay self.old event delta.now → ⊥) }
     {
         self.trace.reserve(1)?;
         self.links
-            .reserve_for(&self.graph, node_of(event), delta.sends.as_slice())
+            .reserve_for(node_of(event), delta.sends.as_slice())
     }
 
-    /// Plays an event: its node reacts as the delta says. Takes no memory.
+    /// Plays an event: its node reacts as the delta says. Takes no memory, and lets go of none.
     pub fn play(&mut self, event: Event, delta: &Delta)
         requires lawful { IsLawful self.old event }
         requires answer { IsAnswer self.old event delta.now }
@@ -277,6 +279,7 @@ impl Net {
         ensures graph { self.new.graph ≡ self.old.graph }
         ensures trace { self.new.trace ≡ self.old.trace ++ event ∷ [] }
         ensures event { happens (network self.old) (net_of self.old) event ≡ Some (net_of self.new) }
+        ensures room { KeepsRoom self.old self.new event delta.now }
     {
         settle(&mut self.links, &mut self.counts, event, delta.fate);
         let v = node_of(event);
@@ -285,7 +288,6 @@ impl Net {
         send_all(
             &mut self.links,
             &mut self.counts.sent,
-            &self.graph,
             v,
             delta.sends.as_slice(),
         );

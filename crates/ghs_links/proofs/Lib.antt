@@ -1,5 +1,5 @@
-pub mod Places
-pub mod Laying
-pub mod Claiming
-pub mod Reserving
-pub mod Ports
+pub mod lemmas
+mod Places
+mod Laying
+mod Claiming
+mod Reserving

@@ -1,7 +1,7 @@
 //! Where the queues of each node stand.
-ghost use Rattle.std.specs.Prelude.{◌≡◌, length, IfOk};
+ghost use Rattle.std.specs.Prelude.{◌≡◌, ◌+◌, ◌<◌, ◌≤◌, length, slice_index, IfOk};
 ghost use Rattle.ghs_graph.specs.Graph.{IsGraph};
-ghost use Rattle.ghs_links.specs.Kept.{AreBlocks, EachEmpty};
+ghost use Rattle.ghs_links.specs.Kept.{AreBlocks, AreParts, LeadFar, EachEmpty, part_of};
 
 use crate::queue::Queue;
 use ghs_graph::graph::Graph;
@@ -44,4 +44,31 @@ pub fn empty_queues(alloc: Global, count: usize) -> Result<Vec<Queue>, AllocErro
         queues.push(Queue::new(alloc))?;
     }
     Ok(queues)
+}
+
+/// For each queue the place of the one at the far end of its link.
+pub fn far_places(alloc: Global, graph: &Graph, starts: &[usize]) -> Result<Vec<usize>, AllocError>
+    requires { AreParts graph.now starts.now }
+    ensures count { IfOk result (λ f. length f.items ≡ slice_index starts.now (graph.now.nodes + 1)) }
+    ensures far { IfOk result (λ f. LeadFar graph.now starts.now f.items) }
+{
+    let nodes = graph.nodes();
+    let mut far = Vec::with_capacity(alloc, starts[nodes as usize + 1])?;
+    for i in 0..nodes {
+        for port in graph.ports(i + 1) {
+            far.push(starts[port.far as usize] + port.far_port as usize)?;
+        }
+    }
+    Ok(far)
+}
+
+/// The part of node `v` of a list that has something for each queue.
+pub fn part<'a>(starts: &[usize], list: &'a [usize], v: u32) -> &'a [usize]
+    requires node { v + 1 < length starts.now }
+    requires order { slice_index starts.now v ≤ slice_index starts.now (v + 1) }
+    requires within { slice_index starts.now (v + 1) ≤ length list.now }
+    ensures { result.now ≡ part_of starts.now list.now v }
+{
+    let at = v as usize;
+    &list[starts[at]..starts[at + 1]]
 }

@@ -1,56 +1,54 @@
 //! Room for what a node sends.
-ghost use Rattle.std.specs.Prelude.{◌≡◌, ℕ, ◌<◌, ◌≤◌, length, slice_index, slice_index_or, OnOk};
+ghost use Rattle.std.specs.Prelude.{◌≡◌, ℕ, ◌<◌, ◌≤◌, length, slice_index, slice_index_or, OnOk, OnErr};
 ghost use Rattle.std.specs.List.{All};
 ghost use Rattle.ghs_links.specs.Queue.{no_queue};
-ghost use Rattle.ghs_links.specs.Kept.{LeadsAmong, ClaimsOnly, KeepsEach, HasRoomAt, count_on, far_place};
+ghost use Rattle.ghs_links.specs.Kept.{ClaimsOnly, KeepsEach, HasRoomAt, count_on};
 
 use crate::queue::Queue;
-use ghs_graph::port::Port;
 use ghs_node::message::Message;
 use std::alloc::AllocError;
 
-/// Makes room at the far ends of a node's ports for what goes out on them.
+/// Makes room at the far ends of a node's ports, which have these places, for what goes out on them.
 pub fn make_room(
-    starts: &[usize],
+    far: &[usize],
     queues: &mut [Queue],
     claims: &mut [usize],
-    ports: &[Port],
     sends: &[(u32, Message)],
 ) -> Result<(), AllocError>
-    requires ports { All (λ s. s.0 < length ports.now) sends.now }
-    requires wide { length ports.now ≤ length claims.old }
-    requires among { LeadsAmong (length queues.old) starts.now ports.now }
+    requires ports { All (λ s. s.0 < length far.now) sends.now }
+    requires wide { length far.now ≤ length claims.old }
+    requires among { All (λ i. i < length queues.old) far.now }
     requires unclaimed { (k : ℕ) → slice_index claims.old k ≡ 0 }
     ensures kept { KeepsEach queues.old queues.new }
-    ensures room { OnOk result (HasRoomAt starts.now ports.now sends.now queues.new) }
+    ensures room { OnOk result (HasRoomAt far.now sends.now queues.new) }
+    ensures full { OnErr result (HasRoomAt far.now sends.now queues.old → ⊥) }
     ensures unclaimed { (k : ℕ) → slice_index claims.new k ≡ 0 }
 {
-    let granted = claim(starts, queues, claims, ports, sends);
+    let granted = claim(far, queues, claims, sends);
     unclaim(claims, sends);
     granted
 }
 
 // The claims say afterwards, for each port, how many messages have been seen to go out on it.
 fn claim(
-    starts: &[usize],
+    far: &[usize],
     queues: &mut [Queue],
     claims: &mut [usize],
-    ports: &[Port],
     sends: &[(u32, Message)],
 ) -> Result<(), AllocError>
-    requires ports { All (λ s. s.0 < length ports.now) sends.now }
-    requires wide { length ports.now ≤ length claims.old }
-    requires among { LeadsAmong (length queues.old) starts.now ports.now }
+    requires ports { All (λ s. s.0 < length far.now) sends.now }
+    requires wide { length far.now ≤ length claims.old }
+    requires among { All (λ i. i < length queues.old) far.now }
     requires unclaimed { (k : ℕ) → slice_index claims.old k ≡ 0 }
     ensures kept { KeepsEach queues.old queues.new }
-    ensures room { OnOk result (HasRoomAt starts.now ports.now sends.now queues.new) }
+    ensures room { OnOk result (HasRoomAt far.now sends.now queues.new) }
+    ensures full { OnErr result (HasRoomAt far.now sends.now queues.old → ⊥) }
     ensures claims { ClaimsOnly sends.now claims.new }
 {
     for (port, _) in sends {
         let at = *port as usize;
         claims[at] += 1;
-        let to = &ports[at];
-        queues[starts[to.far as usize] + to.far_port as usize].reserve(claims[at])?;
+        queues[far[at]].reserve(claims[at])?;
     }
     Ok(())
 }

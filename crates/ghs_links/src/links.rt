@@ -1,9 +1,9 @@
 //! All queues of a network.
 ghost use Rattle.std.specs.Prelude.{◌≡◌, ℕ, ◌+◌, ◌-◌, ◌<◌, ◌≤◌, ◌^◌, [], length, slice_get, slice_index, slice_index_or, IfOk, OnOk, OnErr};
-ghost use Rattle.ghs_links.specs.Queue.{pushed, taken, requeued};
-ghost use Rattle.ghs_links.specs.Links.{HasQueue, IsFor, AllEmpty, Changes, KeepsLists, GoOut, HasRoomFor, start_of, state_at, queue_at, room_at, total_of};
+ghost use Rattle.ghs_links.specs.Queue.{pushed, taken, requeued, counted};
+ghost use Rattle.ghs_links.specs.Links.{HasQueue, IsFor, AllEmpty, Changes, KeepsLists, GoOut, HasRoomFor, state_at, queue_at, room_at, total_of, destination_of};
 
-use crate::blocks::{Blocks, empty_queues, lay_blocks};
+use crate::blocks::{Blocks, empty_queues, far_places, lay_blocks, part};
 use crate::claims::make_room;
 use crate::queue::Queue;
 use ghs_graph::graph::Graph;
@@ -18,6 +18,8 @@ pub struct Links {
     // Where the queues of each number begin; 0 is no node.
     starts: Vec<usize>,
     queues: Vec<Queue>,
+    // For each queue the place of the one at the far end of its link.
+    far: Vec<usize>,
     // For each port of a node, how much room the reserve at hand has asked for at its far end.
     claims: Vec<usize>,
     total: u64,
@@ -25,13 +27,13 @@ pub struct Links {
 
 impl Model for Links {
     ghost use Rattle.ghs_links.specs.Links.{LinksState};
-    ghost use Rattle.ghs_links.specs.Kept.{IsKept};
+    ghost use Rattle.ghs_links.specs.Kept.{IsKept, seen};
 
     ghost Value = { LinksState };
 
-    ghost view = { λ l. record { starts = l.starts.items; queues = l.queues.items } };
+    ghost view = { λ l. seen (record { starts = l.starts.items; queues = l.queues.items; far = l.far.items }) };
 
-    ghost invariant = { λ l. IsKept (record { starts = l.starts.items; queues = l.queues.items }) l.claims.items l.total };
+    ghost invariant = { λ l. IsKept (record { starts = l.starts.items; queues = l.queues.items; far = l.far.items }) l.claims.items l.total };
 }
 
 impl Links {
@@ -43,37 +45,40 @@ impl Links {
     {
         let Blocks { starts, widest } = lay_blocks(alloc, graph)?;
         let queues = empty_queues(alloc, starts[starts.len() - 1])?;
+        let far = far_places(alloc, graph, &starts)?;
         let claims = vec![in alloc; 0usize; widest]?;
         Ok(Links {
             starts,
             queues,
+            far,
             claims,
             total: 0,
         })
     }
 
-    /// Makes room for the messages that node `v` sends, at the far ends of the ports that they go out on.
-    pub fn reserve_for(
-        &mut self,
-        graph: &Graph,
-        v: u32,
-        sends: &[(u32, Message)],
-    ) -> Result<(), AllocError>
-        requires queues { IsFor graph.now self.old }
-        requires low { 1 ≤ v }
-        requires high { v ≤ graph.now.nodes }
-        requires ports { GoOut graph.now v sends.now }
+    /// Makes room for the messages that node `v` sends, at the far ends of the ports that they go out on. It is refused
+    /// only where there was no room for them.
+    pub fn reserve_for(&mut self, v: u32, sends: &[(u32, Message)]) -> Result<(), AllocError>
+        requires node { v < length self.old.queues }
+        requires ports { GoOut self.old v sends.now }
         ensures lists { KeepsLists self.old self.new }
-        ensures room { OnOk result (HasRoomFor graph.now v sends.now self.new) }
+        ensures room { OnOk result (HasRoomFor v sends.now self.new) }
+        ensures full { OnErr result (HasRoomFor v sends.now self.old → ⊥) }
     {
-        let ports = graph.ports(v);
-        make_room(
-            &self.starts,
-            &mut self.queues,
-            &mut self.claims,
-            ports,
-            sends,
-        )
+        let far = part(&self.starts, &self.far, v);
+        make_room(far, &mut self.queues, &mut self.claims, sends)
+    }
+
+    /// Sends a message out on a port: it is appended to the queue at the far end. Takes no memory.
+    pub fn send(&mut self, v: u32, port: u32, message: Message)
+        requires port { HasQueue self.old v port }
+        requires room { let to = destination_of self.old v port in 0 < room_at self.old to.0 to.1 }
+        requires total { total_of self.old < 2 ^ 64 - 1 }
+        ensures { let to = destination_of self.old v port in Changes self.old self.new to.0 to.1 (pushed (state_at self.old to.0 to.1) message) }
+    {
+        let to = self.far[self.starts[v as usize] + port as usize];
+        self.queues[to].push(message);
+        self.total += 1;
     }
 
     /// Appends a message to the queue of a port. Takes no memory.
@@ -96,9 +101,7 @@ impl Links {
     {
         let at = self.starts[v as usize] + port as usize;
         let first = self.queues[at].take_front();
-        if first.is_some() {
-            self.total -= 1;
-        }
+        self.total -= count(&first);
         first
     }
 
@@ -132,5 +135,15 @@ impl Links {
         ensures { result ≡ total_of self.now }
     {
         self.total
+    }
+}
+
+// How many messages these are: one, or none.
+fn count(message: &Option<Message>) -> u64
+    ensures { result ≡ counted message.now }
+{
+    match message {
+        Some(_) => 1,
+        None => 0,
     }
 }

@@ -1,1 +1,1 @@
-pub mod QueuesStay
+mod Sending

@@ -25,9 +25,19 @@ fn send(rt: &impl Abort, links: &mut Links, graph: &Graph, v: u32, port: u32, me
 {
     expect_port(rt, graph, v, port);
     let sends = [(port, *message)];
-    links
-        .reserve_for(graph, v, sends.as_slice())
-        .expect(rt, "memory");
+    links.reserve_for(v, sends.as_slice()).expect(rt, "memory");
+    assert!(rt; links.total() < u64::MAX);
+    links.send(v, port, *message);
+}
+
+/// The same, by a push at the far end.
+fn push(rt: &impl Abort, links: &mut Links, graph: &Graph, v: u32, port: u32, message: &Message)
+    requires { IsFor graph.now links.old }
+    ensures { IsFor graph.now links.new }
+{
+    expect_port(rt, graph, v, port);
+    let sends = [(port, *message)];
+    links.reserve_for(v, sends.as_slice()).expect(rt, "memory");
     assert!(rt; links.total() < u64::MAX);
     let to = graph.ports(v)[port as usize];
     expect_port(rt, graph, to.far, to.far_port);
@@ -83,7 +93,7 @@ fn queues(rt: HostRuntime) -> Result<(), Fail> {
     };
     let test = Message::Test(Level::of(1).ok_or("a level")?, name);
     send(&rt, &mut links, &graph, 2, 0, &connect);
-    send(&rt, &mut links, &graph, 2, 1, &test);
+    push(&rt, &mut links, &graph, 2, 1, &test);
     assert_eq!(rt; links.total(), 2);
     requeue(&rt, &mut links, &graph, 1, 0);
     assert_eq!(rt; look(&rt, &links, &graph, 1, 0), (1, Some(connect)));

@@ -1,29 +1,40 @@
 use Rattle.std.proofs.Common.{take, arith, ℕ, length-take, ap, ◌∙◌}
 use Rattle.ghs_node.specs.declared.message.Message.{Message}
 use Rattle.ghs_node.specs.Kind.{place_of}
-use Rattle.ghs_core.proofs.Sending.{port_out, sends_to, room_for_next, kind_few, one_sent}
+use Rattle.ghs_core.proofs.Sending.{port_out, room_for_next, kind_few, none_sent, one_sent}
 use Rattle.ghs_core.proofs.dispatch.send_all.Goals as goal
 
-pub push-requires-clause-port : goal.push-requires-clause-port
-push-requires-clause-port c =
-    let port = port_out c.args.graph.now c.args.v c.args.sends.now c.loop-port.port-index c.loop-port-item.result c.requires.ports c.loop-port-test.true c.loop-port-item.is in
-    rw c.ports-ports.ensures (sends_to c.args.graph.now c.args.v c.requires.low c.requires.high c.args.links.now c.loop-port.links c.args.sends.now c.loop-port-item.result.0 c.requires.queues c.loop-port.invariant.arrives.ports port)
+pub loop-port-init : goal.loop-port-init
+loop-port-init c = λ g for. none_sent g c.args.v c.args.sends.now c.args.links.now c.args.sent.now c.requires.room
 
-pub push-requires-clause-room : goal.push-requires-clause-room
-push-requires-clause-room c =
+pub send-requires-clause-port : goal.send-requires-clause-port
+send-requires-clause-port c =
+    let so_far = c.loop-port.invariant c.requires.queues.0 c.requires.queues.1 in
+    port_out c.args.links.now c.loop-port.links c.args.v c.args.sends.now c.loop-port.port-index c.loop-port-item.result c.requires.ports so_far.arrives.ports c.loop-port-test.true c.loop-port-item.is
+
+pub send-requires-clause-room : goal.send-requires-clause-room
+send-requires-clause-room c =
     let x = c.loop-port-item.result in
-    let port = port_out c.args.graph.now c.args.v c.args.sends.now c.loop-port.port-index x c.requires.ports c.loop-port-test.true c.loop-port-item.is in
-    rw c.ports-ports.ensures (room_for_next c.args.graph.now c.args.v c.requires.low c.requires.high c.loop-port.links c.args.sends.now c.loop-port.port-index x x c.loop-port-test.true c.loop-port-item.is port c.loop-port.invariant.room)
+    let so_far = c.loop-port.invariant c.requires.queues.0 c.requires.queues.1 in
+    let port = port_out c.args.links.now c.loop-port.links c.args.v c.args.sends.now c.loop-port.port-index x c.requires.ports so_far.arrives.ports c.loop-port-test.true c.loop-port-item.is in
+    room_for_next c.args.v c.loop-port.links c.args.sends.now c.loop-port.port-index x x c.loop-port-test.true c.loop-port-item.is port so_far.room
+
+pub send-requires-clause-total : goal.send-requires-clause-total
+send-requires-clause-total c =
+    let so_far = c.loop-port.invariant c.requires.queues.0 c.requires.queues.1 in
+    let total = so_far.arrives.total in
+    omega (arith, total, length-take {A = ℕ × Message} c.loop-port.port-index c.args.sends.now)
 
 pub overflow_add-sent : goal.overflow_add-sent
 overflow_add-sent c =
     let k = c.place.result in
-    let some = c.loop-port.invariant.counts k c.place.ensures.bound in
+    let so_far = c.loop-port.invariant c.requires.queues.0 c.requires.queues.1 in
+    let some = so_far.counts k c.place.ensures.bound in
     let few = kind_few k (take c.loop-port.port-index c.args.sends.now) in
     let fits = c.requires.fits k c.place.ensures.bound in
     omega (arith, some, few, fits, length-take {A = ℕ × Message} c.loop-port.port-index c.args.sends.now)
 
 pub loop-port-preserved : goal.loop-port-preserved
-loop-port-preserved c =
+loop-port-preserved c = λ g for.
     let x = c.loop-port-item.result in
-    one_sent c.args.graph.now c.args.v c.requires.low c.requires.high c.args.sends.now c.loop-port.port-index x x c.args.links.now c.loop-port.links _ c.args.sent.now c.loop-port.sent c.place.result c.requires.queues c.requires.ports (omega arith) c.loop-port-test.true c.loop-port-item.is (c.place.ensures.place ∙ ap place_of c.kind.ensures) c.place.ensures.bound c.loop-port.invariant (rw c.ports-ports.ensures at c.push.ensures)
+    one_sent g c.args.v c.args.sends.now c.loop-port.port-index x x c.args.links.now c.loop-port.links _ c.args.sent.now c.loop-port.sent c.place.result for c.requires.ports (omega arith) c.loop-port-test.true c.loop-port-item.is (c.place.ensures.place ∙ ap place_of c.kind.ensures) c.place.ensures.bound (c.loop-port.invariant g for) c.send.ensures

@@ -1,6 +1,7 @@
 use Rattle.std.proofs.Common.{◌≡◌, ◌≤◌, ◌+◌, length, refl, ap, arith}
 use Rattle.std.proofs.lemmas.Grind.{common_steps}
-use Rattle.ghs_links.proofs.Laying.{ports_few, no_blocks, blocks_step}
+use Rattle.ghs_links.proofs.lemmas.Ports.{ports_few}
+use Rattle.ghs_links.proofs.Laying.{no_blocks, blocks_step}
 use Rattle.ghs_links.proofs.blocks.lay_blocks.Goals as goal
 
 pub loop-i-init : goal.loop-i-init

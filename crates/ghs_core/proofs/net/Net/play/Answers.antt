@@ -1,4 +1,5 @@
-use Rattle.ghs_core.proofs.Playing.{plays_of, can_react, waits, go_out, settled_for, room_still, total_below, sent_below, played, played_event}
+use Rattle.std.proofs.Common.{arith}
+use Rattle.ghs_core.proofs.Playing.{plays_of, can_react, waits, out_still, settled_for, room_still, total_below, sent_below, played, played_rooms, played_event}
 use Rattle.ghs_core.proofs.net.Net.play.Goals as goal
 
 pub settle-requires-clause-waits : goal.settle-requires-clause-waits
@@ -14,12 +15,12 @@ apply-requires c =
 pub send_all-requires-clause-queues : goal.send_all-requires-clause-queues
 send_all-requires-clause-queues c =
     let plays = plays_of c.self.invariant c.self.view_is c.requires.lawful c.requires.answer in
-    settled_for plays c.settle.new.links c.settle.new.counts c.settle.ensures
+    (c.self.inside.graph, settled_for plays c.settle.new.links c.settle.new.counts c.settle.ensures)
 
 pub send_all-requires-clause-ports : goal.send_all-requires-clause-ports
 send_all-requires-clause-ports c =
     let plays = plays_of c.self.invariant c.self.view_is c.requires.lawful c.requires.answer in
-    rw (c.as_slice.ensures, c.node_of-v.ensures) (go_out plays)
+    rw (c.as_slice.ensures, c.node_of-v.ensures) (out_still plays c.settle.new.links c.settle.new.counts c.settle.ensures)
 
 pub send_all-requires-clause-room : goal.send_all-requires-clause-room
 send_all-requires-clause-room c =
@@ -39,7 +40,7 @@ send_all-requires-clause-fits c =
 pub invariant_of-self : goal.invariant_of-self
 invariant_of-self c =
     let plays = plays_of c.self.invariant c.self.view_is c.requires.lawful c.requires.answer in
-    let arrives = rw (c.node_of-v.ensures, c.as_slice.ensures) at c.send_all.ensures.arrives in
+    let arrives = rw (c.node_of-v.ensures, c.as_slice.ensures) at (c.send_all.ensures.arrives c.self.inside.graph (settled_for plays c.settle.new.links c.settle.new.counts c.settle.ensures)) in
     let noted = rw c.node_of-v.ensures at c.note.ensures in
     let told = rw c.as_slice.ensures at c.send_all.ensures.counts in
     rw (c.push_reserved.ensures.items, c.node_of-v.ensures) (played plays c.settle.new.links c.settle.new.counts c.settle.ensures c.send_all.new.links c.send_all.new.sent arrives told c.note.new.self noted c.index_mut-node.result.now c.apply.new.self (rw c.node_of-v.ensures at c.index_mut-node.ensures.value) c.apply.ensures)
@@ -51,3 +52,10 @@ returns-clause-event c =
 
 pub note-requires-clause-halts : goal.note-requires-clause-halts
 note-requires-clause-halts c = (_, c.self.invariant.halted)
+
+pub returns-clause-room : goal.returns-clause-room
+returns-clause-room c =
+    let plays = plays_of c.self.invariant c.self.view_is c.requires.lawful c.requires.answer in
+    let arrives = rw (c.node_of-v.ensures, c.as_slice.ensures) at (c.send_all.ensures.arrives c.self.inside.graph (settled_for plays c.settle.new.links c.settle.new.counts c.settle.ensures)) in
+    let told = rw c.as_slice.ensures at c.send_all.ensures.counts in
+    rw (← c.self.view_is) (record { trace = omega (arith, c.push_reserved.ensures.capacity); queues = played_rooms plays c.settle.new.links c.settle.new.counts c.settle.ensures c.send_all.new.links c.send_all.new.sent arrives told })
