@@ -1,5 +1,5 @@
 -- Reactions as acts of the scene, and acts one after another.
-use Rattle.std.proofs.Common.{◌≡◌, ◌≢◌, ℕ, suc, Bool, true, false, ◌||◌, ◌==◌, Option, Some, List, [], ◌∷◌, ◌++◌, refl, sym, ◌∙◌, ap, subst, cond, ⊎_elim, if◌then◌else◌}
+use Rattle.std.proofs.Common.{◌≡◌, ◌≢◌, ℕ, Bool, true, false, ◌||◌, ◌==◌, Option, List, [], ◌∷◌, ◌++◌, refl, sym, ◌∙◌, ap, subst, cond, ⊎_elim, if◌then◌else◌}
 use Rattle.std.proofs.Math.Path.{fun_ext}
 use Rattle.std.proofs.lemmas.Bool.{cases_eq, eqb-false}
 use Rattle.ghs_graph.specs.declared.key.Key.{Key}
@@ -9,12 +9,11 @@ use Rattle.ghs_node.specs.declared.delta.Delta.{Delta}
 use Rattle.ghs_node.specs.declared.delta.Fate.TheVariants.{Consumed}
 use Rattle.ghs_node.specs.NodeState.{NodeState, mark_at}
 use Rattle.ghs_node.specs.Reaction.{after, requeues}
-use Rattle.ghs_protocol.specs.Network.{Network, port_at, far}
+use Rattle.ghs_protocol.specs.Network.{Network}
 use Rattle.ghs_protocol.specs.Net.{Net, put, put_at, change, take_first}
 use Rattle.ghs_protocol.specs.Steps.{reacted, taken}
 use Rattle.ghs_protocol.proofs.clauses.Scene.{Seen, see, Member, member, Scene, scene, Ghost, push_all, acts}
-use Rattle.ghs_protocol.proofs.clauses.Uniting.{joining, relabel, meet, absorb}
-use Rattle.ghs_protocol.proofs.clauses.Whole.{Invariant, HasInvariant}
+use Rattle.ghs_protocol.proofs.clauses.Uniting.{joining, relabel}
 use Rattle.ghs_protocol.proofs.lemmas.Updates.{put_same, put_other, put_put}
 use Rattle.ghs_protocol.proofs.lemmas.Sends.{node_sent}
 use Rattle.ghs_protocol.proofs.acts.AsRead.{seen_sent, see_put, reacts}

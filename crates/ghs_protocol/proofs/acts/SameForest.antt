@@ -1,5 +1,5 @@
 -- What an act that leaves the fragments' forest owes.
-use Rattle.std.proofs.Common.{◌≡◌, ◌≢◌, ℕ, ◌≤◌, true, false, Some, refl, sym, ◌∙◌, ap, ap₂, subst, subst₂, ⊎_elim, length}
+use Rattle.std.proofs.Common.{◌≡◌, ◌≢◌, ℕ, true, false, Some, refl, sym, ◌∙◌, ap, ap₂, subst, subst₂, ⊎_elim, length}
 use Rattle.std.proofs.Math.Path.{fun_ext}
 use Rattle.std.proofs.lemmas.Bool.{cases_eq}
 use Rattle.ghs_graph.specs.declared.key.Key.{Key}

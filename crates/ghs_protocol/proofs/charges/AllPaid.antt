@@ -1,5 +1,5 @@
 -- All that was sent is paid: of each kind, what levels and ports have paid adds up to it.
-use Rattle.std.proofs.Common.{◌≡◌, ◌≢◌, ◌⊎◌, inl, inr, ℕ, zero, suc, ◌+◌, ◌-◌, ◌≤◌, ◌<◌, ◌==◌, ◌&&◌, not, Bool, true, false, Option, Some, None, List, [], ◌∷◌, length, get_or, cond, refl, sym, ◌∙◌, ap, ap₂, subst, arith, ⊎_elim, eq-eqb, ne_eqb, zero-add, if◌then◌else◌}
+use Rattle.std.proofs.Common.{◌≡◌, ◌≢◌, ◌⊎◌, inl, inr, ℕ, zero, suc, ◌+◌, ◌-◌, ◌≤◌, ◌<◌, ◌==◌, ◌&&◌, not, true, false, Option, Some, None, List, [], ◌∷◌, length, get_or, cond, refl, sym, ◌∙◌, ap, ap₂, subst, arith, ⊎_elim, eq-eqb, ne_eqb, zero-add, if◌then◌else◌}
 use Rattle.std.proofs.lemmas.Bool.{cases_eq}
 use Rattle.ghs_graph.specs.Bound.{IsFloorLog2}
 use Rattle.ghs_graph.proofs.lemmas.Logs.{floor_log2_is_one}
@@ -19,24 +19,24 @@ use Rattle.ghs_node.proofs.lemmas.{reaction_inverts}
 use Rattle.ghs_protocol.specs.declared.event.Event.{Event}
 use Rattle.ghs_protocol.specs.declared.event.Event.TheVariants as events
 use Rattle.ghs_protocol.specs.Interleavings.{SendsArePaid}
-use Rattle.ghs_protocol.specs.Network.{Network, network_of, At, IsWired, InNetwork}
+use Rattle.ghs_protocol.specs.Network.{Network, network_of, At, InNetwork}
 use Rattle.ghs_protocol.specs.Net.{Net, opening, event_node, happens, one_if_consumed}
 use Rattle.ghs_protocol.specs.Run.{IsAfter}
 use Rattle.ghs_protocol.specs.Ledger.{sum_below, sum_over_nodes, sum_over_ports, of_kind, IsBalanced}
 use Rattle.ghs_protocol.specs.Nodes.{HasFewPorts, IsNodeOf, IsWellFormed}
-use Rattle.ghs_protocol.specs.Steps.{Happens, Took, Woke, taken, reacted}
+use Rattle.ghs_protocol.specs.Steps.{Happens, Took, Woke, reacted}
 use Rattle.ghs_protocol.specs.Payments.{AllIsPaid, accepts, added_up, calls, failed, no_accept_first, paid_by, paid_by_levels, paid_by_ports, port_pays, reports, risen, roots, testing, tests_out, then_count}
 use Rattle.ghs_protocol.proofs.clauses.Scene.{Ghost, scene}
-use Rattle.ghs_protocol.proofs.clauses.Wiring.{IsKeyed, IsOrdered, Ground}
+use Rattle.ghs_protocol.proofs.clauses.Wiring.{Ground}
 use Rattle.ghs_protocol.proofs.clauses.Floors.{Sound}
 use Rattle.ghs_protocol.proofs.clauses.Charges.{Charges, HasCharges}
 use Rattle.ghs_protocol.proofs.lemmas.Balance.{after_balanced}
 use Rattle.ghs_protocol.proofs.lemmas.Effects.{taken_consumed, taken_here, taken_sent, taken_there}
-use Rattle.ghs_protocol.proofs.lemmas.Graphs.{graph_few, graph_keyed, graph_rising, graph_wired}
+use Rattle.ghs_protocol.proofs.lemmas.Graphs.{graph_few, graph_wired}
 use Rattle.ghs_protocol.proofs.lemmas.Nodes.{ports_many, node_before}
 use Rattle.ghs_protocol.proofs.lemmas.Sends.{consumed_now, messages, node_here, node_there, sent_now}
 use Rattle.ghs_protocol.proofs.lemmas.Steps.{event_by_steps}
-use Rattle.ghs_protocol.proofs.lemmas.Sums.{ports_none, ports_one, ports_same, sum_add, sum_none, sum_one, sum_same}
+use Rattle.ghs_protocol.proofs.lemmas.Sums.{ports_none, ports_one, sum_none, sum_one, sum_same}
 use Rattle.ghs_protocol.proofs.lemmas.Woken.{asleep_or_not, awake_row, step_node}
 use Rattle.ghs_protocol.proofs.lemmas.WellFormed.{event_row, opening_formed}
 use Rattle.ghs_protocol.proofs.charges.Acts.{all_calls, kinds_append, nodes_one}

@@ -13,7 +13,7 @@ use Rattle.ghs_protocol.proofs.clauses.Whole.{opening_ghost}
 use Rattle.ghs_protocol.specs.Payments.{testing}
 use Rattle.ghs_protocol.proofs.clauses.Charges.{busy, moved_on, paid_at, Charges, HasCharges}
 use Rattle.ghs_protocol.proofs.lemmas.Balance.{after_balanced}
-use Rattle.ghs_protocol.proofs.lemmas.Graphs.{graph_wired, graph_few, graph_keyed, graph_rising, twice_links}
+use Rattle.ghs_protocol.proofs.lemmas.Graphs.{graph_wired, graph_few, twice_links}
 use Rattle.ghs_protocol.proofs.lemmas.Sums.{sum_most, sum_add}
 use Rattle.ghs_protocol.proofs.charges.Runs.{after_charges, by_memory}
 use Rattle.ghs_protocol.proofs.charges.Waiting.{level_most, calls_most, quota, accepts_most, ports_most, roots_most}

@@ -18,10 +18,10 @@ use Rattle.ghs_protocol.specs.Payments.{calls_at, added_up, LevelPays, risen, th
 use Rattle.ghs_protocol.specs.Interleavings.{LevelsPayOnce}
 use Rattle.ghs_protocol.proofs.clauses.Scene.{Member, scene}
 use Rattle.ghs_protocol.proofs.clauses.Nodes.{NodeFits}
-use Rattle.ghs_protocol.proofs.clauses.Wiring.{IsKeyed, IsOrdered, Ground}
+use Rattle.ghs_protocol.proofs.clauses.Wiring.{Ground}
 use Rattle.ghs_protocol.proofs.clauses.Charges.{Acted, HasCharges, busy, finding, moved_on}
 use Rattle.ghs_protocol.proofs.lemmas.Events.{happening}
-use Rattle.ghs_protocol.proofs.lemmas.Graphs.{graph_wired, graph_few, graph_keyed, graph_rising}
+use Rattle.ghs_protocol.proofs.lemmas.Graphs.{graph_few}
 use Rattle.ghs_protocol.proofs.lemmas.Runs.{both_some}
 use Rattle.ghs_protocol.proofs.lemmas.Steps.{step_formed}
 use Rattle.ghs_protocol.proofs.lemmas.Woken.{StepBy, StepsBy, One_by, Two_by, event_steps_by}

@@ -19,7 +19,7 @@ use Rattle.ghs_node.specs.Reaction.{reaction}
 use Rattle.ghs_protocol.specs.declared.event.Event.{Event}
 use Rattle.ghs_protocol.specs.declared.event.Event.TheVariants as events
 use Rattle.ghs_protocol.specs.Interleavings.{PortsPayOnce}
-use Rattle.ghs_protocol.specs.Network.{Network, network_of, At, IsWired}
+use Rattle.ghs_protocol.specs.Network.{Network, network_of, At}
 use Rattle.ghs_protocol.specs.Net.{Net, opening}
 use Rattle.ghs_protocol.specs.Run.{IsAfter}
 use Rattle.ghs_protocol.specs.Ledger.{of_kind}
@@ -27,12 +27,12 @@ use Rattle.ghs_protocol.specs.Nodes.{HasFewPorts, IsNodeOf, IsWellFormed}
 use Rattle.ghs_protocol.specs.Steps.{Happens, Took, taken}
 use Rattle.ghs_protocol.specs.Payments.{added_up, failed, no_accept_first, port_pays}
 use Rattle.ghs_protocol.proofs.clauses.Scene.{Ghost, scene}
-use Rattle.ghs_protocol.proofs.clauses.Wiring.{IsKeyed, IsOrdered, Ground}
+use Rattle.ghs_protocol.proofs.clauses.Wiring.{Ground}
 use Rattle.ghs_protocol.proofs.clauses.Whole.{opening_ghost}
 use Rattle.ghs_protocol.proofs.clauses.Floors.{Sound}
 use Rattle.ghs_protocol.proofs.clauses.Charges.{Charges, HasCharges, Rises, paid_at}
 use Rattle.ghs_protocol.proofs.lemmas.Effects.{taken_here, taken_sent}
-use Rattle.ghs_protocol.proofs.lemmas.Graphs.{graph_few, graph_keyed, graph_rising, graph_wired}
+use Rattle.ghs_protocol.proofs.lemmas.Graphs.{graph_few}
 use Rattle.ghs_protocol.proofs.lemmas.Sends.{messages}
 use Rattle.ghs_protocol.proofs.lemmas.Steps.{step_formed}
 use Rattle.ghs_protocol.proofs.lemmas.Woken.{One_by, StepBy, StepsBy, Two_by, asleep_or_not, awake_row, event_steps_by}

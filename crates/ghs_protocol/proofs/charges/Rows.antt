@@ -15,7 +15,7 @@ use Rattle.ghs_node.specs.NodeState.{degree, key_at, mark_at, with_mark}
 use Rattle.ghs_node.specs.Words.{below, best_key, is_at, is_branch, is_name}
 use Rattle.ghs_node.specs.Reaction.{Ending, Probing, absorbs, answered, does, ends, heard, last_sends, merges, moves_root, no_probe, passed_on, probe_after, reject_at, requeues, rests, root_mark, root_message, searching, stops}
 use Rattle.ghs_node.specs.Rows.{Accept_heard, AwakeRow, Closes, Reports, Waits, Connect_absorbed, Connect_merges, Connect_waits, Initiate_rests, Initiate_searches, Reject_heard, Report_halts, Report_heard, Report_moves_root, Report_passes, Report_waits, Root_moves, Settles, Test_accepted, Test_rejected, Test_waits, Tests_cross}
-use Rattle.ghs_protocol.specs.Network.{At, IsWired, Network, far, far_port, InNetwork}
+use Rattle.ghs_protocol.specs.Network.{At, Network, far, far_port, InNetwork}
 use Rattle.ghs_protocol.specs.Net.{Net, put, one_if_consumed}
 use Rattle.ghs_protocol.specs.Nodes.{IsNodeOf}
 use Rattle.ghs_protocol.specs.Steps.{taken}
@@ -23,7 +23,7 @@ use Rattle.ghs_protocol.proofs.clauses.Scene.{Ghost, Seen, TreeEnd, Scene, end, 
 use Rattle.ghs_protocol.proofs.clauses.Nodes.{NodeFits}
 use Rattle.ghs_protocol.proofs.clauses.TreeMessages.{TreeFits}
 use Rattle.ghs_protocol.proofs.clauses.Uniting.{By_report, By_root, MarksAre, SendsRoot}
-use Rattle.ghs_protocol.proofs.clauses.Wiring.{IsKeyed, IsOrdered, Ground}
+use Rattle.ghs_protocol.proofs.clauses.Wiring.{Ground}
 use Rattle.ghs_protocol.proofs.clauses.Whole.{LinkFits, NamesOf, opening_ghost}
 use Rattle.ghs_protocol.proofs.clauses.Floors.{Sound}
 use Rattle.ghs_protocol.proofs.clauses.Charges.{Acted, Charges, IsLow, Pays, Rises, any_test}

@@ -15,7 +15,7 @@ use Rattle.ghs_protocol.specs.Nodes.{AreNodes, HasFewPorts, IsNodeOf}
 use Rattle.ghs_protocol.specs.Steps.{Step, Takes_one, Wakes_up, reacted, taken, waking}
 use Rattle.ghs_protocol.proofs.clauses.Scene.{Ghost, Scene, see, scene}
 use Rattle.ghs_protocol.proofs.clauses.Nodes.{Untouched}
-use Rattle.ghs_protocol.proofs.clauses.Wiring.{IsKeyed, IsOrdered, Ground}
+use Rattle.ghs_protocol.proofs.clauses.Wiring.{Ground}
 use Rattle.ghs_protocol.proofs.clauses.Whole.{opening_ghost}
 use Rattle.ghs_protocol.proofs.clauses.Floors.{Sound}
 use Rattle.ghs_protocol.proofs.clauses.Charges.{Acted, Charges, HasCharges, Pays, Rises, SoundWith}

@@ -1,5 +1,5 @@
 -- What a row pays, from what its node pays and its ports.
-use Rattle.std.proofs.Common.{◌≡◌, ◌≢◌, ℕ, suc, ◌≤◌, ◌==◌, true, false, Option, Some, None, List, [], ◌∷◌, ◌++◌, length, refl, sym, ◌∙◌, ap, subst, arith, ⊎_elim, get_or, cond, ne_eqb}
+use Rattle.std.proofs.Common.{◌≡◌, ◌≢◌, ℕ, suc, ◌≤◌, ◌==◌, true, false, Option, List, [], ◌∷◌, ◌++◌, length, refl, sym, ◌∙◌, ap, subst, arith, ⊎_elim, get_or, cond}
 use Rattle.std.proofs.lemmas.Bool.{cases_eq}
 use Rattle.std.proofs.lemmas.List.Quantifiers.{position-Some}
 use Rattle.ghs_graph.specs.declared.key.Key.{Key}
@@ -11,7 +11,7 @@ use Rattle.ghs_node.specs.declared.delta.Delta.{Delta}
 use Rattle.ghs_node.specs.declared.delta.Fate.TheVariants.{Consumed}
 use Rattle.ghs_node.specs.NodeState.{NodeState}
 use Rattle.ghs_node.specs.Kind.{kind_of, place_of}
-use Rattle.ghs_node.specs.Words.{is_at, is_basic}
+use Rattle.ghs_node.specs.Words.{is_basic}
 use Rattle.ghs_node.specs.Reaction.{Ending, Probing}
 use Rattle.ghs_node.specs.Rows.{Closes, Reports, Waits, Settles, Probes, Exhausts}
 use Rattle.ghs_node.proofs.lemmas.{basic_is}

@@ -1,5 +1,5 @@
 -- Of the Connects of a link none waits, or one, as its two marks ask: read off what the invariant says of tree messages.
-use Rattle.std.proofs.Common.{◌≡◌, ◌≢◌, ℕ, ◌+◌, ◌≤◌, Option, Some, List, [], ◌∷◌, ◌++◌, refl, ◌∙◌, ap, subst₂, arith, ⊎_elim, ◌⊎◌}
+use Rattle.std.proofs.Common.{◌≡◌, ◌≢◌, ℕ, ◌≤◌, Option, List, [], ◌∷◌, ◌++◌, refl, ◌∙◌, ap, subst₂, arith, ⊎_elim, ◌⊎◌}
 use Rattle.ghs_graph.specs.declared.key.Key.{Key}
 use Rattle.ghs_node.specs.declared.mark.Mark.{Mark}
 use Rattle.ghs_node.specs.declared.mark.Mark.TheVariants.{Basic, Branch}
@@ -10,9 +10,9 @@ use Rattle.ghs_protocol.specs.Net.{Net}
 use Rattle.ghs_protocol.specs.Ledger.{of_kind}
 use Rattle.ghs_protocol.specs.Ends.{end_of, far_end_of}
 use Rattle.ghs_protocol.specs.Connects.{ConnectsFrom}
-use Rattle.ghs_protocol.specs.Laws.{IsNetOf, ConnectsAreOne}
+use Rattle.ghs_protocol.specs.Laws.{ConnectsAreOne}
 use Rattle.ghs_protocol.proofs.clauses.Scene.{Ghost, TreeEnd, end, tree_end, scene, far_end}
-use Rattle.ghs_protocol.proofs.clauses.Links.{Joins, Ups, Child}
+use Rattle.ghs_protocol.proofs.clauses.Links.{Joins, Ups}
 use Rattle.ghs_protocol.proofs.clauses.TreeMessages.{TreeFits, Upward, Nothing_up, Report_up, Chain, Downward, Initiates, Old_report, Stage, Asking, Called, Begun, asked, called, CoreQueue, Plain, With_report, CoreFits, MovedFits, To_here, To_there}
 use Rattle.ghs_protocol.proofs.clauses.Whole.{Invariant, NamesOf}
 use Rattle.ghs_protocol.proofs.lemmas.Graphs.{graph_wired}

@@ -25,7 +25,7 @@ use Rattle.ghs_protocol.specs.Interleavings.{HaveAtLeast, Asks, To_wake, To_take
 use Rattle.ghs_protocol.specs.Nodes.{HasFewPorts, IsWellFormed}
 use Rattle.ghs_protocol.proofs.clauses.Scene.{forest, scene}
 use Rattle.ghs_protocol.proofs.clauses.Fragments.{IsJoinedIn, IsIn, First, Later, Apart, One_more, HasMany}
-use Rattle.ghs_protocol.proofs.clauses.Wiring.{IsKeyed, IsOrdered, Ground}
+use Rattle.ghs_protocol.proofs.clauses.Wiring.{Ground}
 use Rattle.ghs_protocol.proofs.clauses.Whole.{HasInvariant}
 use Rattle.ghs_protocol.proofs.lemmas.Events.{at_of}
 use Rattle.ghs_protocol.proofs.lemmas.WellFormed.{after_formed}

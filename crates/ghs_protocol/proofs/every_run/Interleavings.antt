@@ -5,7 +5,7 @@ use Rattle.ghs_protocol.specs.Net.{Net}
 use Rattle.ghs_protocol.specs.Laws.{IsNetOf}
 use Rattle.ghs_protocol.specs.Interleavings.{FragmentsAreLarge, RejectedLinksInside, RejectedMarksStay, EventsHaveRules, WorkHasReaction}
 use Rattle.ghs_protocol.proofs.every_run.Firsts.{earlier, further}
-use Rattle.ghs_protocol.proofs.lemmas.Graphs.{graph_wired, graph_few, graph_keyed, graph_rising}
+use Rattle.ghs_protocol.proofs.lemmas.Graphs.{graph_wired, graph_few}
 use Rattle.ghs_protocol.proofs.every_run.Holds as runs
 use Rattle.ghs_protocol.proofs.acts.Grounds.{graph_ground}
 

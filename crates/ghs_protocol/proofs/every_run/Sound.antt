@@ -7,7 +7,7 @@ use Rattle.ghs_graph.specs.Ports.{port_number}
 use Rattle.std.proofs.lemmas.List.Elements.{All-contains}
 use Rattle.ghs_graph.proofs.lemmas.Joining.{joined_then, joined_back}
 use Rattle.ghs_protocol.specs.declared.event.Event.{Event}
-use Rattle.ghs_protocol.specs.Network.{Network, network_of, port_at, At, IsWired, InNetwork}
+use Rattle.ghs_protocol.specs.Network.{Network, network_of, port_at, At, InNetwork}
 use Rattle.ghs_protocol.specs.Net.{Net, opening}
 use Rattle.ghs_protocol.specs.Run.{IsAfter}
 use Rattle.ghs_protocol.specs.Marks.{IsBranchLink, IsJoinedLink, HasHalted}
@@ -19,7 +19,7 @@ use Rattle.ghs_protocol.proofs.clauses.Wiring.{Ground}
 use Rattle.ghs_protocol.proofs.clauses.Fragments.{IsJoinedIn}
 use Rattle.ghs_protocol.proofs.clauses.Whole.{opening_ghost}
 use Rattle.ghs_protocol.proofs.clauses.Floors.{HasSound, Sound}
-use Rattle.ghs_protocol.proofs.lemmas.Graphs.{graph_wired, graph_few, graph_keyed, graph_rising, port_ends}
+use Rattle.ghs_protocol.proofs.lemmas.Graphs.{graph_few, port_ends}
 use Rattle.ghs_protocol.proofs.lemmas.Steps.{run_by_steps}
 use Rattle.ghs_protocol.proofs.acts.SameForest.{branch_mark}
 use Rattle.ghs_protocol.proofs.wake.Opening.{opening_holds}

@@ -8,10 +8,10 @@ use Rattle.ghs_node.specs.declared.message.Message.{Message}
 use Rattle.ghs_node.specs.declared.message.Message.TheVariants.{Connect, Initiate, Test, Accept, Reject, Report, ChangeRoot}
 use Rattle.ghs_node.specs.NodeState.{NodeState}
 use Rattle.ghs_node.specs.Words.{is_branch}
-use Rattle.ghs_protocol.specs.Network.{Network, At, port_at, far, far_port, IsWired}
+use Rattle.ghs_protocol.specs.Network.{Network, At, port_at, far, far_port}
 use Rattle.ghs_protocol.specs.Net.{Net}
 use Rattle.ghs_protocol.proofs.clauses.Scene.{Ghost, scene}
-use Rattle.ghs_protocol.proofs.clauses.Wiring.{IsKeyed, Ground}
+use Rattle.ghs_protocol.proofs.clauses.Wiring.{Ground}
 use Rattle.ghs_protocol.proofs.clauses.Whole.{Invariant}
 use Rattle.ghs_protocol.specs.Living.{Waits, Unended, GoesOn}
 use Rattle.ghs_protocol.proofs.clauses.UnderWay.{Living}

@@ -14,19 +14,17 @@ use Rattle.ghs_protocol.specs.Nodes.{IsNodeOf}
 use Rattle.ghs_protocol.specs.Laws.{IsNetOf}
 use Rattle.ghs_protocol.specs.Living.{SilenceIsEnd, NoRunIsStuck}
 use Rattle.ghs_protocol.proofs.clauses.UnderWay.{Living}
-use Rattle.ghs_protocol.proofs.clauses.Scene.{Scene, scene, forest, end, tree_end}
+use Rattle.ghs_protocol.proofs.clauses.Scene.{Scene, scene, forest}
 use Rattle.ghs_protocol.proofs.clauses.Nodes.{IsUp}
 use Rattle.ghs_protocol.proofs.clauses.Fragments.{Root, Goes_out, Both_ways, Reach, At_root, By_step}
-use Rattle.ghs_protocol.proofs.clauses.TreeMessages.{ConnectUnderWay}
 use Rattle.ghs_protocol.proofs.clauses.Whole.{Invariant}
 use Rattle.ghs_protocol.proofs.clauses.Floors.{Floor, lower, Floors}
 use Rattle.ghs_protocol.proofs.progress.Awaits.{Awaits, all_await}
-use Rattle.ghs_protocol.proofs.lemmas.Graphs.{graph_wired, graph_few, graph_keyed}
+use Rattle.ghs_protocol.proofs.lemmas.Graphs.{graph_wired, graph_few}
 use Rattle.ghs_protocol.proofs.lemmas.Nodes.{ports_many}
 use Rattle.ghs_protocol.proofs.lemmas.WellFormed.{after_formed}
 use Rattle.ghs_protocol.proofs.acts.SameForest.{branch_mark, mark_branch}
 use Rattle.ghs_protocol.proofs.tests.Links.{probe_is}
-use Rattle.ghs_protocol.proofs.rows.Link.{link_fits}
 use Rattle.ghs_protocol.proofs.acts.Floors.{near_fits, lower_on, lower_self}
 use Rattle.ghs_protocol.proofs.every_run.Sound.{sound}
 use Rattle.ghs_protocol.proofs.progress.Nets.{progress}

@@ -10,14 +10,14 @@ use Rattle.ghs_node.specs.declared.message.Phase.TheVariants.{Sleeping, Find, Fo
 use Rattle.ghs_node.specs.declared.message.Message.{Message}
 use Rattle.ghs_node.specs.declared.message.Message.TheVariants.{Connect, Initiate, Test, Accept, Reject, Report, ChangeRoot}
 use Rattle.ghs_node.specs.Words.{Best, is_branch, below, best_key}
-use Rattle.ghs_protocol.specs.Network.{Network, port_at, At, far, far_port, IsWired, InNetwork}
+use Rattle.ghs_protocol.specs.Network.{Network, port_at, At, far, far_port, InNetwork}
 use Rattle.ghs_protocol.proofs.clauses.Scene.{Scene, Member, End, TreeEnd, end, tree_end, forest, Seen, far_end}
 use Rattle.ghs_protocol.proofs.clauses.Links.{Mutual}
 use Rattle.ghs_protocol.proofs.clauses.TreeMessages.{CoreFits, CoreQueue, Plain, With_report, Stage, Asking, Called, Begun, AtStage, asked, called, MovedFits, To_here, To_there, ConnectUnderWay}
 use Rattle.ghs_protocol.proofs.clauses.Tests.{AllFrom}
 use Rattle.ghs_protocol.proofs.clauses.Fragments.{Root, Goes_out, Both_ways, Reach, At_root, By_step}
 use Rattle.ghs_protocol.proofs.clauses.Rest.{has_call, has_report}
-use Rattle.ghs_protocol.proofs.clauses.Wiring.{IsKeyed, Ground}
+use Rattle.ghs_protocol.proofs.clauses.Wiring.{Ground}
 use Rattle.ghs_protocol.proofs.clauses.Whole.{Invariant, LinkFits, NamesOf}
 use Rattle.ghs_protocol.proofs.clauses.UnderWay.{Answering, Test_there, Accept_here, Reject_here, Crossed_here, CoreHeard, HeardBy, brought_to, Living}
 use Rattle.ghs_protocol.proofs.acts.OneLink.{at_near, at_far}

@@ -1,5 +1,5 @@
 -- What a schedule may rely on.
-use Rattle.std.proofs.Common.{◌≡◌, ◌≢◌, ℕ, zero, suc, ◌<◌, ◌≤◌, ◌+◌, ◌-◌, ◌*◌, Bool, true, false, ◌&&◌, Option, Some, None, List, [], ◌∷◌, ◌++◌, length, refl, sym, ◌∙◌, ap, ap₂, subst, ⊎_elim, ◌⊎◌, inl, inr, arith, length-append, append_assoc, append-nil}
+use Rattle.std.proofs.Common.{◌≡◌, ◌≢◌, ℕ, zero, suc, ◌<◌, ◌≤◌, ◌+◌, ◌-◌, ◌*◌, Bool, true, ◌&&◌, Some, List, [], ◌∷◌, ◌++◌, length, refl, sym, ◌∙◌, ap, subst, ⊎_elim, ◌⊎◌, inl, inr, arith, length-append, append_assoc, append-nil}
 use Rattle.std.specs.List.{All}
 use Rattle.std.proofs.lemmas.Bool.{and_parts, and_from, both_ways, cases_eq, cases_Bool}
 use Rattle.std.proofs.lemmas.Option.{same_Some}
@@ -13,25 +13,25 @@ use Rattle.ghs_node.specs.declared.delta.Fate.TheVariants.{Consumed, Requeued}
 use Rattle.ghs_node.specs.declared.delta.Fate.{Fate}
 use Rattle.ghs_node.specs.declared.delta.Delta.{Delta}
 use Rattle.ghs_node.specs.declared.work.Work.TheVariants.{Wake, Deliver}
-use Rattle.ghs_node.specs.NodeState.{NodeState, degree}
+use Rattle.ghs_node.specs.NodeState.{NodeState}
 use Rattle.ghs_node.specs.Reaction.{reaction}
 use Rattle.ghs_node.specs.Words.{Outgoing, is_sleeping}
 use Rattle.ghs_node.proofs.lemmas.{reaction_inverts, row_awake}
 use Rattle.ghs_protocol.specs.declared.event.Event.{Event}
 use Rattle.ghs_protocol.specs.declared.event.Event.TheVariants as events
-use Rattle.ghs_protocol.specs.Network.{Network, network_of, At, far, far_port, port_at}
-use Rattle.ghs_protocol.specs.Net.{Net, event_node, happens, is_lawful, is_lawful_under, is_waiting, is_node, is_port, put_at, send, send_all, change}
-use Rattle.ghs_protocol.specs.Run.{and_then, run, MayWake}
-use Rattle.ghs_protocol.specs.Ledger.{in_all, sum_below}
+use Rattle.ghs_protocol.specs.Network.{Network, network_of, At, far, far_port}
+use Rattle.ghs_protocol.specs.Net.{Net, event_node, happens, is_lawful, is_lawful_under, is_waiting, is_node, is_port, send, send_all, change}
+use Rattle.ghs_protocol.specs.Run.{run, MayWake}
+use Rattle.ghs_protocol.specs.Ledger.{in_all}
 use Rattle.ghs_protocol.specs.Marks.{HasHalted, HasEnded, Leads}
 use Rattle.ghs_protocol.specs.Steps.{Happens, Woke, Took, taken, reacted, waking}
 use Rattle.ghs_protocol.specs.Lasting.{Reacts, By_waking, By_taking}
 use Rattle.ghs_protocol.specs.Laws.{IsNetOf}
 use Rattle.ghs_protocol.specs.Living.{AnyLink, Waits, GoesOn, Finish, IsTake}
-use Rattle.ghs_protocol.specs.Schedules.{LeftAlone, OthersLeaveAlone, NothingIsReady, AllMayWake, StillnessIsEnd, WholeFinish, EveryRunCanEndWhole, IsPatientIn, A_wake, Moves_on, Uncovers, IsPatient, No_more, And_then, PatientRunsAreShort, PatienceGoesOn, RealEventsAreFew}
+use Rattle.ghs_protocol.specs.Schedules.{OthersLeaveAlone, NothingIsReady, AllMayWake, StillnessIsEnd, EveryRunCanEndWhole, IsPatientIn, A_wake, Moves_on, Uncovers, IsPatient, And_then, PatientRunsAreShort, PatienceGoesOn, RealEventsAreFew}
 use Rattle.ghs_protocol.proofs.lemmas.Effects.{taken_there}
 use Rattle.ghs_protocol.proofs.lemmas.Events.{happening, happens_so, is_node_of, is_port_of, taken_at}
-use Rattle.ghs_protocol.proofs.lemmas.Graphs.{graph_wired, graph_few, is_key}
+use Rattle.ghs_protocol.proofs.lemmas.Graphs.{graph_wired, is_key}
 use Rattle.ghs_protocol.proofs.lemmas.Nodes.{ports_many}
 use Rattle.ghs_protocol.proofs.lemmas.Lasting.{AllLast, event_lasts, run_lasts}
 use Rattle.ghs_protocol.proofs.lemmas.Runs.{both_some, run_joins, run_keeps, run_more}

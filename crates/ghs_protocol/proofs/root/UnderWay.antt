@@ -1,5 +1,5 @@
 -- The root is sent on: what is always under way.
-use Rattle.std.proofs.Common.{◌≡◌, ◌≢◌, ℕ, suc, ◌≤◌, ◌<◌, false, Some, List, [], ◌∷◌, length, refl, sym, ◌∙◌, ap, subst, ⊎_elim, ◌⊎◌, arith, inl}
+use Rattle.std.proofs.Common.{◌≡◌, ◌≢◌, ℕ, suc, ◌<◌, false, Some, List, [], ◌∷◌, length, refl, sym, ◌∙◌, ap, subst, ⊎_elim, ◌⊎◌, arith, inl}
 use Rattle.std.proofs.lemmas.Option.{same_Some}
 use Rattle.ghs_graph.specs.declared.key.Key.{Key}
 use Rattle.ghs_node.specs.declared.mark.Mark.{Mark}

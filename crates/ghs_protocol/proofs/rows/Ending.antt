@@ -1,5 +1,5 @@
 -- How a reaction of the search ends, with floors and tests in order.
-use Rattle.std.proofs.Common.{◌≡◌, ◌≢◌, ℕ, zero, suc, ◌≤◌, ◌<◌, true, Some, None, List, [], ◌∷◌, ◌++◌, length, lt-ltb, refl, sym, ◌∙◌, ap, subst, get_or, arith, ⊎_elim}
+use Rattle.std.proofs.Common.{◌≡◌, ◌≢◌, ℕ, zero, suc, ◌<◌, true, Some, None, List, [], ◌∷◌, ◌++◌, length, lt-ltb, refl, sym, ◌∙◌, ap, subst, get_or, arith, ⊎_elim}
 use Rattle.std.specs.List.{position_or_len}
 use Rattle.std.proofs.lemmas.Bool.{cases_eq}
 use Rattle.std.proofs.lemmas.List.Quantifiers.{position-Some}
@@ -11,8 +11,8 @@ use Rattle.ghs_node.specs.Words.{Outgoing, is_basic, best_key, least_basic}
 use Rattle.ghs_node.specs.Reaction.{Ending, Probing, Reporting, Waiting, last_sends, name_of, core_port}
 use Rattle.ghs_node.specs.Rows.{Closes, Reports, Waits, Settles, Probes, Exhausts}
 use Rattle.ghs_node.proofs.lemmas.{basic_is}
-use Rattle.ghs_protocol.proofs.clauses.Wiring.{IsOrdered, Ground}
-use Rattle.ghs_protocol.specs.Network.{Network, At, IsWired, InNetwork}
+use Rattle.ghs_protocol.proofs.clauses.Wiring.{Ground}
+use Rattle.ghs_protocol.specs.Network.{Network, At, InNetwork}
 use Rattle.ghs_protocol.specs.Net.{put}
 use Rattle.ghs_protocol.proofs.clauses.Scene.{Seen, Member, Scene, acts}
 use Rattle.ghs_protocol.proofs.clauses.Nodes.{NodeFits, Searching}
@@ -21,7 +21,7 @@ use Rattle.ghs_protocol.proofs.clauses.UnderWay.{Lives}
 use Rattle.ghs_protocol.proofs.lemmas.Updates.{put_same}
 use Rattle.ghs_protocol.proofs.tests.UnderWay.{scan_lives, closes_lives}
 use Rattle.ghs_protocol.proofs.acts.Reactions.{put_again, acts_split}
-use Rattle.ghs_protocol.proofs.rows.EndingAct.{EndsBy, Tests_next, Reports_now, Waits_on, ended, ends_alone}
+use Rattle.ghs_protocol.proofs.rows.EndingAct.{Tests_next, Reports_now, ended, ends_alone}
 use Rattle.ghs_protocol.proofs.tests.Floors.{scan_floors}
 use Rattle.ghs_protocol.proofs.search.CloseFloors.{closes_floors}
 use Rattle.ghs_protocol.proofs.search.ScanOrder.{scans_after, rests_scan, exhausted_scan, probing_scan}

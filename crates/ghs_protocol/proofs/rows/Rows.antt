@@ -27,10 +27,10 @@ use Rattle.ghs_protocol.proofs.clauses.Charges.{SoundWith}
 use Rattle.ghs_protocol.proofs.clauses.Floors.{HasSound, Nearly, ScansInOrder, Sound}
 use Rattle.ghs_protocol.proofs.clauses.Nodes.{NodeFits}
 use Rattle.ghs_protocol.proofs.clauses.Uniting.{By_report, By_root, MarksAre, SendsRoot, absorb, meet}
-use Rattle.ghs_protocol.proofs.clauses.Wiring.{IsKeyed, IsOrdered, Ground}
+use Rattle.ghs_protocol.proofs.clauses.Wiring.{Ground}
 use Rattle.ghs_protocol.proofs.clauses.Scene.{Ghost, Member, Seen, Scene, acts, end, see, test_end, tree_end, scene, far_end}
 use Rattle.ghs_protocol.specs.Net.{Net, put}
-use Rattle.ghs_protocol.specs.Network.{At, IsWired, Network, far, far_port, port_at, InNetwork}
+use Rattle.ghs_protocol.specs.Network.{At, Network, far, far_port, port_at, InNetwork}
 use Rattle.ghs_protocol.specs.Nodes.{AreNodes, IsNodeOf}
 use Rattle.ghs_protocol.specs.Steps.{Step, Takes_one, Wakes_up, reacted, taken, waking}
 use Rattle.std.proofs.Common.{List, None, Option, Some, [], ap, ap₂, arith, false, get_or, inl, inr, length, refl, subst, suc, sym, true, ℕ, ⊎_elim, ◌++◌, ◌+◌, ◌<◌, ◌∙◌, ◌∷◌, ◌≡◌, ◌≢◌, ◌≤◌}

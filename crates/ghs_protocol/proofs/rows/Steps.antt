@@ -11,7 +11,7 @@ use Rattle.ghs_node.specs.Words.{below, better, best_key, find_more, on_branches
 use Rattle.ghs_protocol.specs.Network.{Network, port_at, At, far, far_port, IsWired, InNetwork}
 use Rattle.ghs_protocol.specs.Net.{put}
 use Rattle.ghs_protocol.proofs.clauses.Scene.{Member, Scene, acts}
-use Rattle.ghs_protocol.proofs.clauses.Wiring.{IsKeyed, IsOrdered, Ground}
+use Rattle.ghs_protocol.proofs.clauses.Wiring.{IsKeyed, Ground}
 use Rattle.ghs_protocol.proofs.clauses.Uniting.{MarksAre, SendsRoot, relabel, meet, absorb}
 use Rattle.ghs_protocol.proofs.clauses.Floors.{ScansInOrder, AllScan, Sound, Nearly}
 use Rattle.ghs_protocol.proofs.lemmas.Updates.{put_same, put_other}

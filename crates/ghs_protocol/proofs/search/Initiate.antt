@@ -23,7 +23,7 @@ use Rattle.ghs_protocol.proofs.clauses.Uniting.{MarksAre}
 use Rattle.ghs_protocol.specs.Steps.{sent_on}
 use Rattle.ghs_protocol.proofs.lemmas.Updates.{put_same, put_other}
 use Rattle.ghs_protocol.proofs.lemmas.Sums.{sum_same, term_le}
-use Rattle.ghs_protocol.proofs.acts.SameForest.{Alike, near', far', quiet_after, forest_after, sums_after, kept_after, branch_mark, not_branch}
+use Rattle.ghs_protocol.proofs.acts.SameForest.{Alike, near', far', quiet_after, forest_after, sums_after, kept_after, not_branch}
 use Rattle.ghs_protocol.proofs.acts.OneLink.{at_near, at_far}
 use Rattle.ghs_protocol.proofs.tests.Links.{tests_aside, tests_aside', not_some}
 use Rattle.ghs_protocol.proofs.rest.StaysAtRest.{rests_alike}

@@ -1,5 +1,5 @@
 -- A Connect of a lower level is absorbed: floors stay, and are kept.
-use Rattle.std.proofs.Common.{◌≡◌, ◌≢◌, ℕ, ◌≤◌, ◌<◌, true, Option, Some, List, [], ◌∷◌, ◌++◌, refl, sym, ◌∙◌, ap, subst, ⊎_elim, ◌⊎◌, inl, inr, arith}
+use Rattle.std.proofs.Common.{◌≡◌, ◌≢◌, ℕ, ◌<◌, true, Option, Some, List, [], ◌∷◌, ◌++◌, refl, sym, ◌∙◌, ap, subst, ⊎_elim, ◌⊎◌, inl, inr, arith}
 use Rattle.std.proofs.lemmas.Bool.{cases_eq}
 use Rattle.ghs_graph.specs.declared.key.Key.{Key}
 use Rattle.ghs_graph.specs.Key.{key_lt}
@@ -15,7 +15,7 @@ use Rattle.ghs_protocol.specs.Net.{put}
 use Rattle.ghs_protocol.proofs.clauses.Scene.{Seen, adds, Member, Scene, tree_end, end, acts, far_end}
 use Rattle.ghs_protocol.proofs.clauses.Links.{Joins, Mutual}
 use Rattle.ghs_protocol.proofs.clauses.Rest.{has_call}
-use Rattle.ghs_protocol.proofs.clauses.Wiring.{IsKeyed, Ground}
+use Rattle.ghs_protocol.proofs.clauses.Wiring.{Ground}
 use Rattle.ghs_protocol.proofs.clauses.Uniting.{absorb}
 use Rattle.ghs_protocol.proofs.clauses.Whole.{Invariant}
 use Rattle.ghs_protocol.proofs.clauses.Floors.{Floor, lower, owing, FloorsAt, IsTreeLink, Floors}

@@ -1,5 +1,5 @@
 -- A node without ports wakes and halts.
-use Rattle.std.proofs.Common.{◌≡◌, ◌≢◌, ℕ, ◌≤◌, true, [], refl, sym, ◌∙◌, ap, subst, length, arith}
+use Rattle.std.proofs.Common.{◌≡◌, ◌≢◌, ℕ, true, [], refl, sym, ◌∙◌, ap, subst, length, arith}
 use Rattle.ghs_node.specs.declared.message.Phase.TheVariants.{Sleeping, Find, Found}
 use Rattle.ghs_protocol.specs.Network.{Network, At, far_port, IsWired, InNetwork}
 use Rattle.ghs_protocol.proofs.lemmas.Updates.{put_other}

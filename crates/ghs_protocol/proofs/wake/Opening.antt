@@ -12,7 +12,7 @@ use Rattle.ghs_protocol.proofs.clauses.Fragments.{IsIn, First, Later, One_more, 
 use Rattle.ghs_protocol.specs.Ledger.{sum_below}
 use Rattle.ghs_protocol.proofs.clauses.Scene.{Scene, scene, end, forest}
 use Rattle.ghs_protocol.proofs.clauses.Nodes.{NodeFits}
-use Rattle.ghs_protocol.proofs.clauses.Whole.{LinkFits, Invariant, HasInvariant, NamesOf, opening_ghost}
+use Rattle.ghs_protocol.proofs.clauses.Whole.{LinkFits, Invariant, NamesOf, opening_ghost}
 
 pub unmarked : (n p : ℕ) → get_or (replicate n Basic) p Rejected ≢ Branch
 unmarked zero p = λ e. cc
