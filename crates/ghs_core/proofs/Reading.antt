@@ -36,11 +36,15 @@ module _ {g : Shape} {es : List Event} {nodes : List NodeState} {links : LinksSt
   pub node_found : (v : ℕ) (x : NodeState) → 1 ≤ v → v ≤ g.nodes → x ≡ get_or nodes (v - 1) x → x ≡ (net_after g es).node v
   node_found v x lo hi is = is ∙ get_or_default nodes (v - 1) x no_node (let n = kept.shows.count in omega (arith, n)) ∙ kept.shows.node v lo hi
 
+  -- a node has as many ports as its graph says
+  pub node_ports : (v : ℕ) (x : NodeState) → 1 ≤ v → v ≤ g.nodes → x ≡ get_or nodes (v - 1) x → degree x ≡ length ((network_of g).ports v)
+  node_ports v x lo hi is = ap degree (node_found v x lo hi is) ∙ ports_many (formed.nodes v)
+
   -- a port of the graph is a port of the node, and has a queue
   pub port_below : (v p : ℕ) (x : NodeState) → At (network_of g) v p → x ≡ get_or nodes (v - 1) x → p < degree x
   port_below v p x at is =
       let lt = at.port in
-      let many : degree x ≡ length ((network_of g).ports v) = ap degree (node_found v x at.some at.node is) ∙ ports_many (formed.nodes v) in
+      let many = node_ports v x at.some at.node is in
       omega (arith, lt, many)
 
   pub port_queue : (v p : ℕ) → At (network_of g) v p → HasQueue links v p

@@ -253,7 +253,7 @@ impl Net {
     fn has_port(&self, v: u32, port: u32) -> bool
         ensures { result ≡ is_port (network self.now) v port }
     {
-        self.has_node(v) && (port as usize) < self.graph.ports(v).len()
+        self.has_node(v) && port < self.nodes[v as usize - 1].degree()
     }
 
     /// Makes room for an event and for what its reaction sends. It is refused only where there was no room for them, and
