@@ -1,15 +1,13 @@
 -- Runs, event by event.
 use Rattle.std.proofs.Common.{◌≡◌, ℕ, ◌↔◌, Bool, true, List, [], ◌∷◌, ◌++◌, Option, Some, None, refl, sym, ◌∙◌, ap, subst, unwrap_or}
-use Rattle.std.specs.List.{All}
 use Rattle.std.proofs.lemmas.Bool.{and_parts, and_from}
-use Rattle.std.proofs.lemmas.List.Elements.{All-nil, All-cons, All-append}
 use Rattle.std.proofs.lemmas.Option.{same_Some}
 use Rattle.ghs_graph.specs.Graph.{Shape}
 use Rattle.ghs_protocol.specs.declared.event.Event.{Event}
 use Rattle.ghs_protocol.specs.declared.event.Event.TheVariants.{Wake, Take}
 use Rattle.ghs_protocol.specs.Network.{Network, network_of}
 use Rattle.ghs_protocol.specs.Net.{Net, opening, happens, is_lawful, is_lawful_under}
-use Rattle.ghs_protocol.specs.Run.{and_then, run, IsAfter, IsRun, MayWake, IsRunUnder, net_after}
+use Rattle.ghs_protocol.specs.Run.{and_then, run, IsAfter, IsRun, MayWake, net_after}
 use Rattle.ghs_protocol.specs.Steps.{Happens}
 use Rattle.ghs_protocol.proofs.lemmas.Events.{happening, happens_so}
 
@@ -46,10 +44,6 @@ module _ (g : Network) where
 
   pub run_joins : (es fs : List Event) (w x : Net) → run g es w ≡ Some x → run g (es ++ fs) w ≡ run g fs x
   run_joins es fs w x h = run_append es fs w ∙ ap (λ o. and_then o (λ y. run g fs y)) h
-
-  -- the beginning of a run is a run
-  pub begins : (es fs : List Event) → IsRun g (es ++ fs) → IsRun g es
-  begins es fs r = run_splits es fs (opening g) r.0 r.1 (λ x h k. (x, h))
 
   -- what each event keeps, a run keeps
   pub run_keeps : (I : Net → Type 0) → ((w w' : Net) (e : Event) → I w → Happens g w e w' → I w') → (es : List Event) (w w' : Net) → I w →
@@ -91,8 +85,3 @@ after_is_net g es r = r.1 ∙ ap (λ (x : Net). Some x) (sym (net_after_is g es 
 pub lawful_under : (may : ℕ → Bool) (g : Network) (w : Net) (e : Event) → ((is_lawful_under may g w e ≡ true) ↔ (MayWake may e × (is_lawful g w e ≡ true)))
 lawful_under may g w (Wake v) = (λ h. and_parts (may v) (is_lawful g w (Wake v)) h, λ h. and_from (may v) (is_lawful g w (Wake v)) h.0 h.1)
 lawful_under may g w (Take v p) = (λ h. (tt, h), λ h. h.1)
-
--- one event more, at the end
-pub under_more : (may : ℕ → Bool) (g : Network) (es : List Event) (e : Event) (w w' : Net) → IsAfter g es w → All (MayWake may) es →
-    MayWake may e → Happens g w e w' → IsRunUnder may g (es ++ e ∷ [])
-under_more may g es e w w' h may_es may_e k = ((w', after_more g es e w w' h k), All-append (MayWake may) es (e ∷ []) may_es (All-cons (MayWake may) e [] may_e (All-nil (MayWake may))))

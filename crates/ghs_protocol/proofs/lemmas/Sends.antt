@@ -1,5 +1,5 @@
 -- What sends change, and what they leave.
-use Rattle.std.proofs.Common.{◌≡◌, ◌≢◌, ℕ, suc, ◌+◌, ◌≤◌, ◌==◌, List, [], ◌∷◌, ◌++◌, map, refl, sym, ◌∙◌, ap, cond, ⊎_elim, eq-eqb, ne_eqb, add-zero, arith}
+use Rattle.std.proofs.Common.{◌≡◌, ◌≢◌, ℕ, suc, ◌+◌, ◌==◌, List, [], ◌∷◌, ◌++◌, map, refl, sym, ◌∙◌, ap, cond, ⊎_elim, eq-eqb, ne_eqb, add-zero, arith}
 use Rattle.std.proofs.lemmas.Bool.{cases_eq}
 use Rattle.ghs_node.specs.declared.message.Message.{Message}
 use Rattle.ghs_node.specs.declared.delta.Delta.{Delta}
@@ -13,7 +13,6 @@ use Rattle.ghs_protocol.specs.Ledger.{of_kind}
 use Rattle.ghs_protocol.specs.Steps.{sent_on, reacted}
 use Rattle.ghs_protocol.proofs.clauses.Acts.{at_end, push_all}
 use Rattle.ghs_protocol.proofs.lemmas.Updates.{put_same, put_other}
-use Rattle.ghs_protocol.proofs.lemmas.Wires.{no_loop, neighbour}
 use Rattle.ghs_protocol.proofs.lemmas.Pushes.{add_all_end, pushed, unpushed}
 
 -- the messages without their ports
@@ -81,14 +80,3 @@ module _ (g : Network) (v : ℕ) (d : Delta) (w : Net) where
 
   pub requeued_now : (reacted g v d w).requeued ≡ w.requeued
   requeued_now = requeued_sent g v d.sends (change v d w)
-
-  module _ (wired : IsWired g) where
-    pub queue_there : (i : ℕ) → At g v i → (reacted g v d w).queue (far g v i) (far_port g v i) ≡ w.queue (far g v i) (far_port g v i) ++ sent_on d.sends i
-    queue_there i at = queue_sent g v wired i d.sends (change v d w) at
-
-    -- v sends nothing to itself
-    pub queue_here : (p : ℕ) → 1 ≤ v → v ≤ g.count → (reacted g v d w).queue v p ≡ w.queue v p
-    queue_here p lo hi = queue_kept g v v p d.sends (change v d w) (λ i e h. no_loop g wired v i lo hi e)
-
-    pub queue_away : (a b : ℕ) → 1 ≤ v → v ≤ g.count → At g a b → far g a b ≢ v → (reacted g v d w).queue a b ≡ w.queue a b
-    queue_away a b lo hi at ne = queue_kept g v a b d.sends (change v d w) (λ i e h. ne (neighbour g wired v i a b lo hi at e h))
