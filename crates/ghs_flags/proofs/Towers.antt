@@ -1,5 +1,5 @@
 -- The heights above a list of counts.
-use Rattle.std.proofs.Common.{◌≡◌, ℕ, ◌+◌, ◌*◌, ◌/◌, ◌<◌, ◌≤◌, ◌^◌, List, length, get_or, take, set, ◌∙◌, arith, length-set}
+use Rattle.std.proofs.Common.{◌≡◌, ℕ, ◌+◌, ◌/◌, ◌<◌, ◌≤◌, ◌^◌, List, length, get_or, set, ◌∙◌, arith, length-set}
 use Rattle.std.specs.List.{sum}
 use Rattle.std.proofs.lemmas.List.{get_or_default}
 use Rattle.std.proofs.lemmas.List.Sums.{sum_by-set, get_or-le-sum_by}
@@ -15,17 +15,6 @@ module _ {counts groups regions zones : List ℕ} {total : ℕ} (tower : IsTower
 
   pub sum_zones : sum zones ≡ sum counts
   sum_zones = counts_all 32 (omega arith) (λ n. n) zones regions tower.third ∙ sum_regions
-
-  -- the sums before a place, height by height
-  pub sum_heights : (p z r g c : ℕ) → 0 + z ≡ sum (take (p / 32 / 32 / 32) zones)
-      → sum (take (p / 32 / 32 / 32 * 32) regions) + r ≡ sum (take (p / 32 / 32) regions)
-      → sum (take (p / 32 / 32 * 32) groups) + g ≡ sum (take (p / 32) groups) → sum (take (p / 32 * 32) counts) + c ≡ sum (take p counts)
-      → z + r + g + c ≡ sum (take p counts)
-  sum_heights p z r g c one two three four =
-      let a = tower.third.fronts (p / 32 / 32 / 32) in
-      let b = tower.second.fronts (p / 32 / 32) in
-      let d = tower.first.fronts (p / 32) in
-      omega arith
 
   -- A place, and what was read of its count and of those above it.
   module _ (p : ℕ) (lt : p < length counts) where

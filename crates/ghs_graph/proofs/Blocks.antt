@@ -1,13 +1,12 @@
 -- Where each node's block of ports lies, and each port in it.
-use Rattle.std.proofs.Common.{◌≡◌, ◌≢◌, ℕ, zero, suc, ◌<◌, ◌≤◌, ◌+◌, ⊎_elim, List, [], ◌∷◌, ◌++◌, length, take, get_or, set, sum, refl, sym, ◌∙◌, ap, arith, add-one}
+use Rattle.std.proofs.Common.{◌≡◌, ◌≢◌, ℕ, zero, suc, ◌<◌, ◌≤◌, ◌+◌, ⊎_elim, List, [], ◌∷◌, ◌++◌, length, take, get_or, set, ◌∙◌, ap, arith, add-one}
 use Rattle.std.proofs.lemmas.Bool.{cases_eq, cases_lt}
-use Rattle.std.proofs.lemmas.List.{get_or_default, take_all, length_push, get_or_push, get_or_append_left}
-use Rattle.std.proofs.lemmas.List.Sums.{sum_by_more}
+use Rattle.std.proofs.lemmas.List.{get_or_default, length_push, get_or_push, get_or_append_left}
 use Rattle.ghs_graph.specs.declared.key.Key.{Key}
 use Rattle.ghs_graph.specs.Links.{AreAmong}
 use Rattle.ghs_graph.specs.Ports.{degree}
 use Rattle.ghs_graph.specs.declared.layout.Places.{Places}
-use Rattle.ghs_graph.specs.Layout.{AreDegrees, AreStarts, AreBlocks, ArePlaced}
+use Rattle.ghs_graph.specs.Layout.{AreDegrees, AreBlocks, ArePlaced}
 use Rattle.ghs_graph.specs.Key.{no_key}
 use Rattle.ghs_graph.proofs.lemmas.Degrees.{one_counted}
 use Rattle.ghs_graph.proofs.lemmas.Ports.{among_at}
@@ -61,19 +60,7 @@ one_placed n ks cs i x y qs new among lt g ex ey placed e = (
     newest : get_or (qs ++ q ∷ []) i none ≡ q
     newest = get_or_push qs q none i placed.count
 
-pub none_placed : (ks : List Key) → ArePlaced ks 0 []
-none_placed ks = record { count = refl; at_a = λ m lt. absurd (omega arith); at_b = λ m lt. absurd (omega arith) }
-
 -- Blocks.
-
-pub blocks_from : (n : ℕ) (ks : List Key) (cs ss : List ℕ) → AreDegrees n ks cs → AreStarts cs ss → AreBlocks n ks ss
-blocks_from n ks cs ss d s = record {
-  count = omega (arith, d.count, s.count);
-  next = λ v le.
-      s.each (v + 1) (omega (arith, d.count)) ∙ sum_by_more (λ x. x) cs v 0 (omega (arith, d.count))
-      ∙ ap (λ m. m + get_or cs v 0) (sym (s.each v (omega (arith, d.count)))) ∙ ap (λ m. get_or ss v 0 + m) (d.each v le);
-  total = s.each (n + 1) (omega (arith, d.count)) ∙ ap (λ (xs : List ℕ). sum xs) (take_all (n + 1) cs (omega (arith, d.count))) ∙ d.total;
-}
 
 pub blocks_up : (n : ℕ) (ks : List Key) (ss : List ℕ) → AreBlocks n ks ss → (u w : ℕ) → u < w → w ≤ n + 1
     → get_or ss u 0 + degree ks u ≤ get_or ss w 0

@@ -69,14 +69,6 @@ unites old new u v ul vl ne m = record {
   joins = m.moved u ul refl ∙ sym (m.stay v vl (λ q. ne (sym q)));
 }
 
-pub unites_back : (old new : List ℕ) (u v : ℕ) → Unites old new u v → Unites old new v u
-unites_back old new u v n = record {
-  same = n.same;
-  to = λ x y xl yl e. ⊎_elim inl (λ h. inr (⊎_elim inr inl h)) (n.to x y xl yl e);
-  keeps = n.keeps;
-  joins = sym n.joins;
-}
-
 -- Counts.
 
 abbrev count_of : ℕ → List ℕ → ℕ

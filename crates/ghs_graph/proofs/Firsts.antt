@@ -1,11 +1,10 @@
 -- The first numbers of classes, as the numbers are met one after another.
-use Rattle.std.proofs.Common.{◌≡◌, ◌≢◌, ℕ, ◌<◌, ◌≤◌, ◌+◌, ◌⊎◌, inl, inr, ⊎_elim, List, [], ◌∷◌, ◌++◌, length, get_or, set, refl, sym, ◌∙◌, ap, subst, arith, get_or-set_same, get_or-set_other, length-set}
+use Rattle.std.proofs.Common.{◌≡◌, ◌≢◌, ℕ, ◌<◌, ◌≤◌, ◌+◌, ◌⊎◌, inl, inr, ⊎_elim, List, [], ◌∷◌, ◌++◌, length, get_or, set, sym, ◌∙◌, ap, subst, arith, get_or-set_same, get_or-set_other, length-set}
 use Rattle.std.proofs.lemmas.Bool.{cases_eq}
 use Rattle.std.proofs.lemmas.List.{get_or_default, length_push, get_or_push, get_or_append_left}
 use Rattle.std.proofs.lemmas.List.Quantifiers.{all_pairs_push}
 use Rattle.std.proofs.lemmas.List.Elements.{Contains-get_or, Contains-push, Contains-push_cases, Contains-append_left}
 use Rattle.ghs_graph.specs.Classes.{IsFirst, AreFirstsBelow, HasClassesBelow}
-use Rattle.ghs_graph.proofs.lemmas.Members.{nothing_in}
 
 -- what stands for a label when the numbers from 1 to below v have been met: 0 where none has it, else the first that has
 abbrev IsMet : List ℕ → ℕ → ℕ → ℕ → Type 0
@@ -18,23 +17,6 @@ pub record AreMet (ls : List ℕ) (v : ℕ) (with_label numbers : List ℕ) (cou
   pub firsts : AreFirstsBelow ls v numbers
   pub classes : HasClassesBelow ls v count
   pub few : count < v
-
-pub none_met : (ls with_label numbers : List ℕ) → length with_label ≡ length ls → ((label : ℕ) → label < length ls → get_or with_label label 0 ≡ 0)
-    → length numbers ≡ 1 → AreMet ls 1 with_label numbers 0
-none_met ls with_label numbers places blank one = record {
-  places = places;
-  met = λ label lt. inl (blank label lt, λ u low ul. absurd (omega arith));
-  firsts = record { places = one; each = λ v low lt. absurd (omega arith) };
-  classes =
-      record {
-        leasts = [];
-        rising = λ i j d lt jl. absurd (omega arith);
-        has = λ v h. absurd (nothing_in v h);
-        all = λ v low lt f. absurd (omega arith);
-        number = refl;
-      };
-  few = omega arith;
-}
 
 -- Its first number is put behind the others.
 

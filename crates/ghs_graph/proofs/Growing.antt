@@ -3,7 +3,7 @@ use Rattle.std.proofs.Common.{◌≡◌, ℕ, ◌<◌, ◌+◌, ◌⊎◌, inl, 
 use Rattle.std.proofs.lemmas.List.{take_more}
 use Rattle.ghs_graph.specs.declared.key.Key.{Key}
 use Rattle.ghs_graph.specs.Key.{no_key}
-use Rattle.ghs_graph.specs.Links.{Joined, Same, Over, links, AllBelow, IsTree, IsRising}
+use Rattle.ghs_graph.specs.Links.{Joined, Same, Over, links, AllBelow, IsRising}
 use Rattle.ghs_graph.specs.Classes.{AreTogether, Unites, IsFresh}
 use Rattle.ghs_graph.specs.Spanning.{AreTold, IsSpanned}
 use Rattle.ghs_graph.proofs.lemmas.Members.{nothing_in}

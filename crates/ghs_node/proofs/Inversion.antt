@@ -46,10 +46,6 @@ pub within_inverts : {P : Type 0} (n : NodeState) (d d' : Delta) → (d.head.fin
 within_inverts n d d' f e =
     by_test (nat_le d.head.find_count (degree n)) _ _ d' (λ t x. f (leb-true _ _ t) (same_Some _ _ x)) (λ t x. no_delta d' x) e
 
-below_none : (o : Option Key) → below o None ≡ false → o ≡ None
-below_none None e = refl
-below_none (Some k) e = cc
-
 module _ (n : NodeState) (j : ℕ) where
   connect_row : (l : ℕ) (d : Delta) → awake n j (Connect l) ≡ Some d → AwakeRow n j (Connect l) d
   connect_row l d e =

@@ -15,9 +15,6 @@ lt_irreflexive k = grind (arith, nat_tests)
 pub lt_asymmetric : (j k : Key) → key_lt j k ≡ true → key_lt k j ≡ false
 lt_asymmetric j k h = grind (arith, nat_tests)
 
-pub lt_transitive : (i j k : Key) → key_lt i j ≡ true → key_lt j k ≡ true → key_lt i k ≡ true
-lt_transitive i j k h l = grind (arith, nat_tests)
-
 pub below_at : (ks : List Key) (i : ℕ) (d : Key) → IsRising ks → i < length ks → AllBelow (take i ks) (get_or ks i d)
 below_at ks i d r lt j h =
     let short : h.0 < i = omega (arith, h.1, length-take i ks) in

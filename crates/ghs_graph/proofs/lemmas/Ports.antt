@@ -176,10 +176,6 @@ port_at ks v m d lt e =
     ∙ ap (λ (p : Port). Some p)
     (get_or-map (port_on ks v) (keys_at ks v) (count_by (ends_at v) (take m ks)) d (port_on ks v d) f.0 ∙ ap (port_on ks v) f.1)
 
--- between the two ways to speak of a port: by `HasPort`, and by a place below the degree
-pub has_port_at : (ks : List Key) (v i : ℕ) (d : Port) → i < degree ks v → HasPort ks v i (get_or (ports_of ks v) i d)
-has_port_at ks v i d lt = slice_get-get_or (ports_of ks v) i d (rw length-ports_of lt)
-
 pub port_below : (ks : List Key) (v i : ℕ) (p d : Port) → HasPort ks v i p → (i < degree ks v) × (get_or (ports_of ks v) i d ≡ p)
 port_below ks v i p d h = (rw (← length-ports_of ks v) (slice_get_within (ports_of ks v) i p h), get_or_from_slice_get (ports_of ks v) i p d h)
 
