@@ -15,7 +15,6 @@ use Rattle.ghs_protocol.specs.Marks.{IsJoinedLink, InOneFragment, HasHalted}
 use Rattle.ghs_protocol.specs.Ledger.{IsBalanced, in_all, IsBalancedInAll, takes_in}
 use Rattle.ghs_protocol.specs.Nodes.{IsNodeOf}
 use Rattle.ghs_protocol.specs.Steps.{Happens, Steps}
-use Rattle.ghs_protocol.specs.Ends.{OnLinks}
 use Rattle.ghs_protocol.specs.Connects.{ConnectsFit}
 use Rattle.ghs_protocol.specs.Lasting.{Halts}
 
@@ -81,7 +80,7 @@ LedgerBalances = (g : Shape) (w : Net) → IsNetOf g w → IsBalancedInAll (netw
 
 -- a port sends no Connect before it is Branch, and one Connect of a Branch port waits while the far port is Basic, never more
 abbrev pub ConnectsAreOne : Type 0
-ConnectsAreOne = (g : Shape) (w : Net) → IsNetOf g w → OnLinks (network_of g) ConnectsFit w
+ConnectsAreOne = (g : Shape) (w : Net) → IsNetOf g w → (v p : ℕ) → At (network_of g) v p → ConnectsFit (network_of g) w v p
 
 -- a message that is taken is counted once, as consumed or as requeued; a wake is not counted
 abbrev pub TakesAreCounted : Type 0

@@ -6,7 +6,6 @@ pub mod Marks
 pub mod Ledger
 pub mod Steps
 pub mod Nodes
-pub mod Ends
 pub mod Lasting
 pub mod Laws
 pub mod Payments

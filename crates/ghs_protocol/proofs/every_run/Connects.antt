@@ -1,5 +1,5 @@
 -- Of the Connects of a link none waits, or one, as its two marks ask: read off what the invariant says of tree messages.
-use Rattle.std.proofs.Common.{◌≡◌, ◌≢◌, ℕ, ◌≤◌, Option, List, [], ◌∷◌, ◌++◌, refl, ◌∙◌, ap, subst₂, arith, ⊎_elim, ◌⊎◌}
+use Rattle.std.proofs.Common.{◌≡◌, ◌≢◌, ℕ, ◌≤◌, Option, List, [], ◌∷◌, ◌++◌, refl, ◌∙◌, ap, arith, ⊎_elim, ◌⊎◌}
 use Rattle.ghs_graph.specs.declared.key.Key.{Key}
 use Rattle.ghs_node.specs.declared.mark.Mark.{Mark}
 use Rattle.ghs_node.specs.declared.mark.Mark.TheVariants.{Basic, Branch}
@@ -8,8 +8,7 @@ use Rattle.ghs_node.specs.declared.message.Message.TheVariants.{Connect, Initiat
 use Rattle.ghs_protocol.specs.Network.{Network, network_of, At, IsWired, far, far_port}
 use Rattle.ghs_protocol.specs.Net.{Net}
 use Rattle.ghs_protocol.specs.Ledger.{of_kind}
-use Rattle.ghs_protocol.specs.Ends.{end_of, far_end_of}
-use Rattle.ghs_protocol.specs.Connects.{ConnectsFrom}
+use Rattle.ghs_protocol.specs.Connects.{ConnectsFit}
 use Rattle.ghs_protocol.specs.Laws.{ConnectsAreOne}
 use Rattle.ghs_protocol.proofs.clauses.Scene.{Ghost, TreeEnd, end, tree_end, scene, far_end}
 use Rattle.ghs_protocol.proofs.clauses.Links.{Joins, Ups}
@@ -19,7 +18,6 @@ use Rattle.ghs_protocol.proofs.lemmas.Graphs.{graph_wired}
 use Rattle.ghs_protocol.proofs.every_run.Interleavings.{holds}
 use Rattle.ghs_protocol.proofs.charges.Waiting.{kinds_seen}
 use Rattle.ghs_protocol.proofs.search.FirstReport.{Joint, joint, Down_here, Down_there, On_core, On_moved, mark_is}
-use Rattle.ghs_protocol.proofs.every_run.Holds.{Holds}
 use Rattle.ghs_protocol.proofs.rows.Link.{link_fits, link_fits', link_leads}
 
 -- how many Connects wait at an end
@@ -102,7 +100,7 @@ basic_not m b e = cc (b, e)
 
 module _ (g : Network) (wired : IsWired g) (w : Net) (gh : Ghost) (fits : Invariant g (scene w gh)) where
   -- of the Connects that port p of v has sent
-  sent_from : (v p : ℕ) → At g v p → ConnectsFrom (end_of w v p) (far_end_of g w v p)
+  sent_from : (v p : ℕ) → At g v p → ConnectsFit g w v p
   sent_from v p at = record {
     none = λ ne. let z = none_sent here there he hf ups ne in omega (arith, z, seen);
     one = λ a b. let z = one_sent here there he hf ups a (basic_not there.mark b) in omega (arith, z, seen);
@@ -128,14 +126,4 @@ module _ (g : Network) (wired : IsWired g) (w : Net) (gh : Ghost) (fits : Invari
       seen = kinds_seen 0 refl refl refl (w.queue (far g v p) (far_port g v p))
 
 pub connects_are_one : ConnectsAreOne
-connects_are_one g w n v p at = (
-  sent_from (network_of g) wired w h.sound.ghost h.sound.holds.first v p at,
-  subst₂ (λ a b. ConnectsFrom (far_end_of (network_of g) w v p) (end_of w a b)) (wired.back v p at) (wired.back_port v p at)
-      (sent_from (network_of g) wired w h.sound.ghost h.sound.holds.first (far (network_of g) v p) (far_port (network_of g) v p) (wired.there v p at)),
-)
-  where
-    wired : IsWired (network_of g)
-    wired = graph_wired g n.graph
-
-    h : Holds (network_of g) w
-    h = holds g w n
+connects_are_one g w n v p at = let h = holds g w n in sent_from (network_of g) (graph_wired g n.graph) w h.sound.ghost h.sound.holds.first v p at
