@@ -10,5 +10,6 @@ AreSameKeys keys others = (key : Triple) → Contains keys key ↔ Contains othe
 abbrev pub code_of : Triple → ℕ
 code_of k = (k.0 * 2 ^ 32 + k.1) * 2 ^ 32 + k.2
 
+-- ends below 2^32
 abbrev pub HasSmallEnds : Triple → Type 0
 HasSmallEnds k = (k.1 < 2 ^ 32) × (k.2 < 2 ^ 32)

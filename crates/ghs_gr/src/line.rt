@@ -8,6 +8,9 @@ use ghs_lines::fields::next_field;
 use ghs_lines::lines::next_line;
 use ghs_lines::numbers::number as number_up_to;
 
+/// How many digits a plain number has at most, as those below 2^32 without leading zeros have.
+const PLAIN_DIGITS: usize = 10;
+
 /// What one line says. A number is `None` where its field is no number below 2^32.
 #[derive(Clone, Copy, Debug, Drop)]
 pub enum Line {
@@ -47,13 +50,12 @@ fn plain_arc(text: &[u8]) -> Option<(u32, u32, u32, &[u8])>
     Some((from, to, weight, rest))
 }
 
-/// The number of the digits at the front, of which there are ten at most, where this byte stands right behind them, and
-/// what is behind that byte.
+/// The plain number of the digits at the front, where this byte stands right behind them, and what is behind that byte.
 fn number_before(end: u8, text: &[u8]) -> Option<(u32, &[u8])>
     ensures { IfSome result (λ x. IsNumberBefore end text.now x.0 x.1.now) }
 {
     let mut value = 0u64;
-    for i in 0..text.len().min(11) {
+    for i in 0..text.len().min(PLAIN_DIGITS + 1) {
         let byte = text[i];
         if !byte.is_ascii_digit() {
             if byte != end || i == 0 || value >= 1 << 32 {
