@@ -1,4 +1,6 @@
+pub mod Picking
 pub mod Readings
+pub mod Replaying
 pub mod Rows
 pub mod Slow
 pub mod Written

@@ -1,6 +1,9 @@
+pub mod Doing
 pub mod Laws
 pub mod Line
+pub mod Picks
 pub mod Reading
 pub mod Reads
+pub mod Replays
 pub mod Schedule
 pub mod Text

@@ -1,4 +1,4 @@
-//! What can be wrong with a trace's text.
+//! Why a text gives no trace, and why events can't be done again.
 ghost use Rattle.ghs_sched.specs.Reading.{of_line};
 ghost use Rattle.ghs_sched.specs.declared.fault.TraceFault.TheVariants.{Memory};
 ghost use Rattle.std.specs.Prelude.{◌≡◌};
@@ -46,4 +46,17 @@ impl From<AllocError> for TraceFault {
     fn from(_error: AllocError) -> TraceFault {
         TraceFault::Memory
     }
+}
+
+/// Why events can't be done again. Events are counted from 1.
+#[derive(Clone, Copy, Debug, Drop, PartialEq, Eq, Error)]
+pub enum ReplayFault {
+    /// The first event that isn't lawful where it stands.
+    #[error("event {0} is not lawful")]
+    NotLawful(u64),
+    /// Never answered: each lawful event has a rule.
+    #[error("event {0} met a state that has no rule")]
+    Unforeseen(u64),
+    #[error("out of memory")]
+    Memory,
 }

@@ -1,0 +1,35 @@
+-- Runs whose events a schedule picks.
+use Rattle.std.specs.Prelude.{◌≡◌, ℕ, ◌%◌, ◌<◌, ◌≤◌, Bool, Some, List, [], ◌∷◌, ◌++◌, filter, length, slice_get, take}
+use Rattle.ghs_graph.specs.Graph.{Shape}
+use Rattle.ghs_protocol.specs.declared.event.Event.{Event}
+use Rattle.ghs_protocol.specs.Marks.{HasEnded}
+use Rattle.ghs_protocol.specs.Net.{is_lawful_under}
+use Rattle.ghs_protocol.specs.Network.{network_of}
+use Rattle.ghs_protocol.specs.Run.{net_after}
+use Rattle.ghs_world.specs.Ready.{all_events}
+use Rattle.ghs_sched.specs.Schedule.{next_of, word_of}
+
+-- the lawful events of the net after a trace, by node, Wake before ports, ports rising
+abbrev pub lawful_events : (ℕ → Bool) → Shape → List Event → List Event
+lawful_events may g es = filter (is_lawful_under may (network_of g) (net_after g es)) (all_events (network_of g))
+
+-- event e is the one that the next word picks of them
+abbrev pub IsPick : List Event → List ℕ → Event → Type 0
+IsPick events words e = (0 < length events) × (slice_get events (word_of words % length events) ≡ Some e)
+
+-- A schedule has picked the events by which a trace has grown, and has this state then: each where the run hadn't ended and turns were left, of the events that were lawful there.
+pub data IsPicked (may : ℕ → Bool) (g : Shape) (turns : ℕ) (trace : List Event) (words : List ℕ) : List Event → List ℕ → Type 0 where
+  Begun : IsPicked may g turns trace words trace words
+  Picked : (es : List Event) (s : List ℕ) (e : Event) → IsPicked may g turns trace words es s →
+      (HasEnded g (net_after g es) → ⊥) → length es < turns → IsPick (lawful_events may g es) s e →
+      IsPicked may g turns trace words (es ++ e ∷ []) (next_of s)
+
+-- of two lists that a schedule has picked from one trace on the longer begins with the other; where they have one length, the schedule's states are the same too
+pub record PicksAgree (es fs : List Event) (s t : List ℕ) : Type 0 where
+  pub begins : length es ≤ length fs → take (length es) fs ≡ es
+  pub state : length es ≡ length fs → s ≡ t
+
+abbrev pub PicksAreOne : Type 0
+PicksAreOne =
+    (may : ℕ → Bool) (g : Shape) (turns : ℕ) (trace : List Event) (words : List ℕ) (es fs : List Event) (s t : List ℕ) →
+    IsPicked may g turns trace words es s → IsPicked may g turns trace words fs t → PicksAgree es fs s t

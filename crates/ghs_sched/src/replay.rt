@@ -1,0 +1,49 @@
+//! Runs done again.
+ghost use Rattle.ghs_protocol.specs.Network.{network_of};
+ghost use Rattle.ghs_protocol.specs.Run.{IsRunUnder};
+ghost use Rattle.ghs_sched.specs.Replays.{CantReplay, HasReplayed};
+ghost use Rattle.ghs_sched.specs.declared.fault.ReplayFault.TheVariants.{Memory};
+ghost use Rattle.ghs_world.specs.Wakes.{may_wake};
+ghost use Rattle.std.specs.Prelude.{IfErr, IfOk, length, ◌≡◌, ◌≤◌};
+
+use crate::doing::{DoFault, do_event};
+use crate::fault::ReplayFault;
+use crate::trace::EVENT_LIMIT;
+use ghs_graph::graph::Graph;
+use ghs_protocol::event::Event;
+use ghs_world::wake_set::WakeSet;
+use ghs_world::world::World;
+use std::alloc::Global;
+
+/// The world that a list of events leaves, done in order from the opening of the graph on: nothing is out, and there are
+/// as many turns as there may be. A fault hands the graph back. A run under the wake set has no fault but want of memory.
+pub fn replay(
+    alloc: Global,
+    graph: Graph,
+    wake: WakeSet,
+    events: &[Event],
+) -> Result<World, (Graph, ReplayFault)>
+    requires { length events.now ≤ EVENT_LIMIT }
+    ensures ok { IfOk result (λ w. HasReplayed graph wake events.now w) }
+    ensures fault { IfErr result (λ e. CantReplay graph wake events.now e.1) }
+    ensures run { IsRunUnder (may_wake graph wake) (network_of graph) events.now → IfErr result (λ e. e.1 ≡ Memory) }
+    ensures back { IfErr result (λ e. e.0 ≡ graph) }
+{
+    let mut world = match World::open(alloc, graph, wake, EVENT_LIMIT) {
+        Ok(world) => world,
+        Err((graph, _)) => return Err((graph, ReplayFault::Memory)),
+    };
+    for event in events {
+        match do_event(alloc, &mut world, *event) {
+            Ok(()) => {}
+            Err(DoFault::NotLawful) => {
+                let place = world.trace().len() as u64 + 1;
+                return Err((world.into_graph(), ReplayFault::NotLawful(place)));
+            }
+            // There are as many turns as there may be events.
+            Err(DoFault::TurnLimit) => unreachable!(),
+            Err(DoFault::Memory) => return Err((world.into_graph(), ReplayFault::Memory)),
+        }
+    }
+    Ok(world)
+}
