@@ -1,7 +1,7 @@
 -- What a commit leaves.
-use Rattle.std.proofs.Common.{◌≡◌, ◌≢◌, ◌⊎◌, inl, inr, ⊎_elim, ℕ, ◌+◌, ◌<◌, ◌≤◌, Bool, true, false, ◌&&◌, not, List, [], ◌∷◌, ◌++◌, length, Option, Some, None, refl, sym, ◌∙◌, ap, ap₂, subst, arith, length-append}
+use Rattle.std.proofs.Common.{◌≡◌, ◌≢◌, ◌⊎◌, inl, inr, ⊎_elim, ℕ, ◌+◌, ◌<◌, ◌≤◌, Bool, true, false, ◌&&◌, not, List, [], ◌∷◌, ◌++◌, length, Option, Some, None, refl, sym, ◌∙◌, ap, ap₂, subst, arith, length-append, ltb-true}
 use Rattle.std.specs.List.{All, Contains, list_any, filter}
-use Rattle.std.proofs.lemmas.Bool.{both_ways, cases_eq}
+use Rattle.std.proofs.lemmas.Bool.{both_ways, cases_eq, and_parts, not-true}
 use Rattle.std.proofs.lemmas.List.Kept.{IsStrictlyIncreasing-filter}
 use Rattle.ghs_graph.proofs.lemmas.Members.{nothing_in, first_in, later_in, in_cases, in_filter, filter_has}
 use Rattle.std.proofs.lemmas.List.Elements.{All-nil, All-cons, All-append}
@@ -14,16 +14,16 @@ use Rattle.ghs_protocol.specs.Network.{Network, network_of}
 use Rattle.ghs_protocol.specs.Net.{Net, is_lawful_under, happens}
 use Rattle.ghs_protocol.specs.Run.{MayWake}
 use Rattle.ghs_protocol.proofs.lemmas.Runs.{lawful_under}
-use Rattle.ghs_core.specs.NetState.{NetState, network, net_of, event_node, IsAnswer}
+use Rattle.ghs_core.specs.NetState.{NetState, network, net_of, event_node, IsAnswer, IsLawful}
 use Rattle.ghs_world.specs.Tickets.{TicketState, HasRule}
 use Rattle.ghs_world.specs.Outs.{Outs, event_out, without, is_out}
-use Rattle.ghs_world.specs.WorldState.{WorldState, IsWorld, IsOut, home, wakers, may_happen}
-use Rattle.ghs_world.specs.Steps.{LeavesOthers, HasAllRoused, AreReadyOf, HasEach, touched}
-use Rattle.ghs_world.specs.Ready.{has_ready, node_events}
+use Rattle.ghs_world.specs.WorldState.{WorldState, IsWorld, IsOut, home, wakers, may_happen, has_turn}
+use Rattle.ghs_world.specs.Steps.{LeavesOthers, HasAllRoused, AreReadyOf, HasEach, IsSameWorld, touched}
+use Rattle.ghs_world.specs.Ready.{has_ready, is_ready, node_events}
 use Rattle.ghs_world.proofs.Going.{all_without, all_same, length_without, out_same, event_same, is_there}
 use Rattle.ghs_world.proofs.Listing.{any_same}
 use Rattle.ghs_world.proofs.Reacting.{answers}
-use Rattle.ghs_world.proofs.Keeping.{out_happens, out_lawful}
+use Rattle.ghs_world.proofs.Keeping.{out_happens, out_lawful, may_lawful}
 use Rattle.ghs_world.proofs.Staying.{Beside, beside, still_lawful, same_lawful, same_work}
 
 -- a number stands in a list, or it doesn't
@@ -111,3 +111,54 @@ module _ (s : WorldState) (n : ℕ) (e : Event) (d : Delta) (net : NetState) (do
       (λ there. (kept.all u).1 (there, now))
       (λ none. absurd (both_ways _ before (sym (untouched u none) ∙ now)))
       (decide_in (touched (network s.net) (event_node e) d.sends) u)
+
+-- the event of a node that is at home happens
+pub record Passes (s : WorldState) (e : Event) (d : Delta) (net : NetState) : Type 0 where
+  pub world : IsWorld s
+  pub ready : is_ready s e ≡ true
+  pub turn : has_turn s ≡ true
+  pub answer : IsAnswer s.net e d
+  pub graph : net.graph ≡ s.net.graph
+  pub trace : net.trace ≡ s.net.trace ++ e ∷ []
+  pub event : happens (network s.net) (home s) e ≡ Some (net_of net)
+
+-- what is ready is at home, and may happen
+pub ready_parts : (s : WorldState) (e : Event) → is_ready s e ≡ true → (is_out s.outs (event_node e) ≡ false) × (may_happen s e ≡ true)
+ready_parts s e h = let b = and_parts _ _ h in (not-true _ b.0, b.1)
+
+pub ready_lawful : (s : WorldState) (e : Event) → is_ready s e ≡ true → IsLawful s.net e
+ready_lawful s e h = may_lawful s e (ready_parts s e h).1
+
+abbrev pub after_event : WorldState → NetState → WorldState
+after_event s net = record s { net = net; last = s.last + 1 }
+
+module _ (s : WorldState) (e : Event) (d : Delta) (net : NetState) (passes : Passes s e d net) where
+  parts : (is_out s.outs (event_node e) ≡ false) × (may_happen s e ≡ true)
+  parts = ready_parts s e passes.ready
+
+  same_now : (f : Event) → may_happen (after_event s net) f ≡ is_lawful_under (wakers s) (network s.net) (net_of net) f
+  same_now f = rw passes.graph
+
+  lasts : (f : Event) → event_node f ≢ event_node e → may_happen s f ≡ true → may_happen (after_event s net) f ≡ true
+  lasts f ne h = same_now f ∙ still_lawful (network s.net) (wakers s) (home s) (net_of net) e d f (beside (network s.net) (home s) (net_of net) e d passes.event passes.answer) ne h
+
+  may_wake_still : All (MayWake (wakers s)) (s.net.trace ++ e ∷ []) → All (MayWake (wakers (after_event s net))) net.trace
+  may_wake_still h = rw (passes.graph, passes.trace) h
+
+  pub world_made : IsWorld (after_event s net)
+  world_made = record {
+    wakes = may_wake_still (All-append (MayWake (wakers s)) s.net.trace (e ∷ []) passes.world.wakes (All-cons (MayWake (wakers s)) e [] ((lawful_under (wakers s) (network s.net) (home s) e).0 parts.1).0 (All-nil (MayWake (wakers s)))));
+    lawful = all_same (may_happen s) (may_happen (after_event s net)) (event_node e) lasts s.outs parts.0 passes.world.lawful;
+    turns = let t : length s.net.trace + length s.outs < s.turns = ltb-true _ _ (and_parts _ _ passes.turn).0 in let more = ap length passes.trace ∙ length-append s.net.trace (e ∷ []) in omega arith;
+    few = passes.world.few;
+  }
+
+-- the same world has the same events ready, and the same turns
+pub ready_still : (s t : WorldState) (e : Event) → IsSameWorld s t → is_ready s e ≡ true → is_ready t e ≡ true
+ready_still s t e same h = rw (same.net.graph, same.net.trace, same.wake, same.outs) h
+
+pub turn_still : (s t : WorldState) → IsSameWorld s t → has_turn s ≡ true → has_turn t ≡ true
+turn_still s t same h = rw (same.net.trace, same.turns, same.outs, same.last) h
+
+pub answer_still : (s t : WorldState) (e : Event) (d : Delta) → IsSameWorld s t → IsAnswer s.net e d → IsAnswer t.net e d
+answer_still s t e d same h = rw (same.net.graph, same.net.trace) h

@@ -1,16 +1,18 @@
 -- Events listed in order.
-use Rattle.std.proofs.Common.{◌≡◌, ℕ, zero, suc, ◌+◌, ◌-◌, ◌<◌, ◌≤◌, Bool, true, false, ◌||◌, ◌&&◌, not, List, [], ◌∷◌, ◌++◌, length, refl, sym, ◌∙◌, ap, ap₂, arith, ⊎_elim}
-use Rattle.std.specs.List.{list_any}
+use Rattle.std.proofs.Common.{◌≡◌, ℕ, zero, suc, Option, Some, None, cond, ◌+◌, ◌-◌, ◌<◌, ◌≤◌, Bool, true, false, ◌||◌, ◌&&◌, not, List, [], ◌∷◌, ◌++◌, length, refl, sym, ◌∙◌, ap, ap₂, arith, ⊎_elim}
+use Rattle.std.specs.List.{list_any, find, filter}
 use Rattle.std.proofs.lemmas.Bool.{cases_lt, or_right}
-use Rattle.std.proofs.lemmas.List.Folds.{list_any-append}
+use Rattle.std.proofs.lemmas.List.Folds.{list_any-append, find-append}
+use Rattle.std.specs.Option.{option_or}
+use Rattle.std.specs.Prelude.{if◌then◌else◌}
 use Rattle.ghs_protocol.specs.declared.event.Event.{Event}
 use Rattle.ghs_protocol.specs.declared.event.Event.TheVariants.{Wake, Take}
 use Rattle.ghs_protocol.specs.Network.{Network}
 use Rattle.ghs_protocol.specs.Net.{Net, is_node, is_lawful_under}
 use Rattle.ghs_core.specs.NetState.{network, event_node}
 use Rattle.ghs_world.specs.Outs.{is_out}
-use Rattle.ghs_world.specs.WorldState.{WorldState, home, wakers}
-use Rattle.ghs_world.specs.Ready.{events_at, has_ready}
+use Rattle.ghs_world.specs.WorldState.{WorldState, home, wakers, may_happen}
+use Rattle.ghs_world.specs.Ready.{events_at, events_to, takes, next_of, is_ready, has_ready}
 
 or_none : (b : Bool) → (b || false) ≡ b
 or_none true = refl
@@ -51,3 +53,63 @@ none_ready s v e = ap (λ b. not (is_out s.outs v) && b) (none_at_none (wakers s
 pub any_same : (p q : Event → Bool) (v d : ℕ) → ((f : Event) → event_node f ≡ v → p f ≡ q f) → list_any p (events_at v d) ≡ list_any q (events_at v d)
 any_same p q v zero same = ap (λ b. b || false) (same (Wake v) refl)
 any_same p q v (suc d) same = any_next p v d ∙ ap₂ (λ a b. a || b) (any_same p q v d same) (same (Take v d) refl) ∙ sym (any_next q v d)
+
+-- the events of one node more
+pub listed_node : (p : Event → Bool) (g : Network) (v d : ℕ) (es : List Event) → 1 ≤ v → d ≡ length (g.ports v) → es ≡ filter p (events_to g (v - 1) ++ events_at v d) → es ≡ filter p (events_to g (v + 1 - 1))
+listed_node p g zero d es low e h = absurd (omega arith)
+listed_node p g (suc n) d es low e h =
+    let up : suc n + 1 - 1 ≡ suc n = omega arith in
+    let down : suc n - 1 ≡ n = omega arith in
+    rw up ((rw down at h) ∙ ap (λ k. filter p (events_to g n ++ events_at (suc n) k)) e)
+
+-- the first event that passes
+module _ (p : Event → Bool) (v low : ℕ) where
+  pub find_next : (n : ℕ) → find p (takes v low (suc n)) ≡ option_or (find p (takes v low n)) (if p (Take v (low + n)) then Some (Take v (low + n)) else None)
+  find_next n = find-append p (takes v low n) (Take v (low + n) ∷ [])
+
+  pub find_up : (e : Event) (n m : ℕ) → n ≤ m → find p (takes v low n) ≡ Some e → find p (takes v low m) ≡ Some e
+  find_up e n zero le h = (let z : n ≡ 0 = omega arith in rw z at h)
+  find_up e n (suc m) le h = ⊎_elim
+      (λ (lt : n < suc m). find_next m ∙ ap (λ o. option_or o (if p (Take v (low + m)) then Some (Take v (low + m)) else None)) (find_up e n m (omega arith) h))
+      (λ (ge : suc m ≤ n). let z : n ≡ suc m = omega arith in rw z at h)
+      (cases_lt n (suc m))
+
+  -- none before, and the one at the next port passes or doesn't
+  pub none_more : (n : ℕ) → find p (takes v low n) ≡ None → p (Take v (low + n)) ≡ false → find p (takes v low (suc n)) ≡ None
+  none_more n none not_here = find_next n ∙ rw (none, not_here)
+
+  pub one_found : (n m : ℕ) → n < m → find p (takes v low n) ≡ None → p (Take v (low + n)) ≡ true → find p (takes v low m) ≡ Some (Take v (low + n))
+  one_found n m lt none here = find_up (Take v (low + n)) (suc n) m (omega arith) (find_next n ∙ rw (none, here))
+
+-- tests that agree on node v's Takes
+pub find_same : (p q : Event → Bool) (v low n : ℕ) → ((f : Event) → event_node f ≡ v → p f ≡ q f) → find p (takes v low n) ≡ find q (takes v low n)
+find_same p q v low zero same = refl
+find_same p q v low (suc n) same = find_next p v low n ∙ ap₂ (λ o (b : Bool). option_or o (if b then Some (Take v (low + n)) else None)) (find_same p q v low n same) (same (Take v (low + n)) refl) ∙ sym (find_next q v low n)
+
+none_find : (v low n : ℕ) → find (λ (e : Event). false) (takes v low n) ≡ None
+none_find v low zero = refl
+none_find v low (suc n) = find_next (λ (e : Event). false) v low n ∙ rw (none_find v low n)
+
+-- a node that is out has no next event
+pub none_next : (s : WorldState) (v from : ℕ) → is_out s.outs v ≡ true → next_of s v from ≡ None
+unfolding next_of
+none_next s v from e =
+    let d = length ((network s.net).ports v) in
+    let gone : (f : Event) → event_node f ≡ v → is_ready s f ≡ false = (λ f here. rw (here, e)) in
+    rw (gone (Wake v) refl) (find-append (is_ready s) (takes v from (length ((network s.net).ports v) - from)) (takes v 0 (length ((network s.net).ports v)))
+    ∙ ap₂ option_or (find_same (is_ready s) (λ _. false) v from (d - from) gone ∙ none_find v from (d - from)) (find_same (is_ready s) (λ _. false) v 0 d gone ∙ none_find v 0 d))
+
+-- at home, it is the wake, or the first Take
+at_home : (s : WorldState) (v : ℕ) → is_out s.outs v ≡ false → (f : Event) → event_node f ≡ v → is_ready s f ≡ may_happen s f
+at_home s v e f here = rw (here, e)
+
+pub wake_next : (s : WorldState) (v from : ℕ) → is_out s.outs v ≡ false → may_happen s (Wake v) ≡ true → next_of s v from ≡ Some (Wake v)
+unfolding next_of
+wake_next s v from e h = rw (at_home s v e (Wake v) refl ∙ h)
+
+pub take_next : (s : WorldState) (v from : ℕ) → is_out s.outs v ≡ false → may_happen s (Wake v) ≡ false →
+    next_of s v from ≡ option_or (find (may_happen s) (takes v from (length ((network s.net).ports v) - from))) (find (may_happen s) (takes v 0 (length ((network s.net).ports v))))
+unfolding next_of
+take_next s v from e h =
+    rw (at_home s v e (Wake v) refl ∙ h) (find-append (is_ready s) (takes v from (length ((network s.net).ports v) - from)) (takes v 0 (length ((network s.net).ports v)))
+    ∙ ap₂ option_or (find_same (is_ready s) (may_happen s) v from (length ((network s.net).ports v) - from) (at_home s v e)) (find_same (is_ready s) (may_happen s) v 0 (length ((network s.net).ports v)) (at_home s v e)))

@@ -1,6 +1,6 @@
 -- The events of a network in order, and those that may be checked out.
-use Rattle.std.specs.Prelude.{ℕ, zero, suc, Bool, ◌&&◌, not, List, [], ◌∷◌, ◌++◌, length, filter}
-use Rattle.std.specs.List.{list_any}
+use Rattle.std.specs.Prelude.{ℕ, zero, suc, ◌+◌, ◌-◌, Option, Bool, ◌&&◌, not, List, [], ◌∷◌, ◌++◌, length, filter}
+use Rattle.std.specs.List.{list_any, find}
 use Rattle.ghs_protocol.specs.declared.event.Event.{Event}
 use Rattle.ghs_protocol.specs.declared.event.Event.TheVariants.{Wake, Take}
 use Rattle.ghs_protocol.specs.Network.{Network}
@@ -33,6 +33,19 @@ is_ready s e = not (is_out s.outs (event_node e)) && may_happen s e
 -- all such events, in order
 abbrev pub ready_events : WorldState → List Event
 ready_events s = filter (is_ready s) (all_events (network s.net))
+
+-- the Takes of node v at n ports, from one port on
+abbrev pub takes : ℕ → ℕ → ℕ → List Event
+takes v low zero = []
+takes v low (suc n) = takes v low n ++ Take v (low + n) ∷ []
+
+-- the events of node v in the order in which it is served: Wake, the ports from one on, and then all ports from port 0 on
+abbrev pub in_turn : Network → ℕ → ℕ → List Event
+in_turn g v from = Wake v ∷ takes v from (length (g.ports v) - from) ++ takes v 0 (length (g.ports v))
+
+-- the first of them that may be checked out
+unfoldable pub next_of : WorldState → ℕ → ℕ → Option Event
+next_of s v from = find (is_ready s) (in_turn (network s.net) v from)
 
 -- one of node v's events may be checked out: it is at home, and one of its events may happen
 abbrev pub has_ready : WorldState → ℕ → Bool

@@ -1,5 +1,5 @@
 -- Steps, and what a commit does.
-use Rattle.std.specs.Prelude.{◌≡◌, ℕ, true, false, ◌↔◌, List, [], ◌∷◌, ◌++◌, length, map, Some}
+use Rattle.std.specs.Prelude.{◌≡◌, ℕ, true, false, ◌+◌, ◌↔◌, List, [], ◌∷◌, ◌++◌, length, map, Some}
 use Rattle.std.specs.List.{Contains}
 use Rattle.std.specs.List.Sorted.{IsStrictlyIncreasing}
 use Rattle.ghs_node.specs.declared.message.Message.{Message}
@@ -32,6 +32,16 @@ pub record Commits (old : WorldState) (n : ℕ) (e : Event) (new : WorldState) :
   pub turns : new.turns ≡ old.turns
   pub outs : new.outs ≡ without n old.outs
   pub last : new.last ≡ old.last
+
+-- the home view makes exactly the event, under the next number
+pub record Makes (old : WorldState) (e : Event) (new : WorldState) : Type 0 where
+  pub graph : new.net.graph ≡ old.net.graph
+  pub trace : new.net.trace ≡ old.net.trace ++ e ∷ []
+  pub event : happens (network old.net) (home old) e ≡ Some (home new)
+  pub wake : new.wake ≡ old.wake
+  pub turns : new.turns ≡ old.turns
+  pub outs : new.outs ≡ old.outs
+  pub last : new.last ≡ old.last + 1
 
 -- the same world, and nowhere less room
 pub record IsSameWorld (old new : WorldState) : Type 0 where

@@ -4,6 +4,7 @@
 pub mod fault;
 pub mod laws;
 mod outs;
+pub mod ready;
 pub mod ticket;
 pub mod wake_set;
 pub mod woken;

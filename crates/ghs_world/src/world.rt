@@ -1,10 +1,11 @@
 //! The world.
-ghost use Rattle.std.specs.Prelude.{◌≡◌, ◌↔◌, ◌≤◌, ◌+◌, ◌^◌, [], length, filter, IfOk, IfErr, OnOk, OnErr, IsTrue, Some, true};
-ghost use Rattle.std.specs.List.{list_any};
+ghost use Rattle.std.specs.Prelude.{◌≡◌, ◌↔◌, ◌≤◌, ◌+◌, ◌-◌, ◌^◌, [], length, filter, IfOk, IfErr, OnOk, OnErr, IsTrue, Some, true};
+ghost use Rattle.std.specs.List.{list_any, find};
 ghost use Rattle.ghs_node.specs.Rows.{Row};
-ghost use Rattle.ghs_world.specs.Ready.{node_events, has_ready};
-ghost use Rattle.ghs_world.specs.Steps.{Commits, LeavesOthers, AreReadyOf, HasAllRoused, RefusesStep, IsSameWorld, HasEach, touched};
+ghost use Rattle.ghs_world.specs.Ready.{node_events, has_ready, is_ready, next_of, takes};
+ghost use Rattle.ghs_world.specs.Steps.{Commits, Makes, LeavesOthers, AreReadyOf, HasAllRoused, RefusesStep, IsSameWorld, HasEach, touched};
 ghost use Rattle.ghs_graph.specs.Graph.{IsGraph};
+ghost use Rattle.ghs_graph.specs.Ports.{ports_of};
 ghost use Rattle.ghs_graph.specs.Links.{IsTree};
 ghost use Rattle.ghs_protocol.specs.Network.{network_of};
 ghost use Rattle.ghs_protocol.specs.Net.{opening, is_node, is_lawful_under};
@@ -29,6 +30,9 @@ use ghs_core::net::Net;
 use ghs_graph::graph::Graph;
 use ghs_graph::key::Key;
 use ghs_node::delta::Delta;
+use ghs_node::fault::NodeFault;
+use ghs_node::laws::law_list_has_no_row;
+use ghs_node::react::react;
 use ghs_node::work::Work;
 use std::alloc::{AllocError, Global};
 use std::marker::Model;
@@ -124,6 +128,100 @@ impl World {
         }
     }
 
+    /// An event happens here as if it were checked out, performed and committed at once, without copying or comparing
+    /// a node. It uses a ticket number. All room is taken before any change.
+    pub fn make(&mut self, alloc: Global, event: Event) -> Result<(), AllocError>
+        requires ready { is_ready self.old event ≡ true }
+        requires turn { has_turn self.old ≡ true }
+        ensures made { OnOk result (Makes self.old event self.new) }
+        ensures err { OnErr result (IsSameWorld self.old self.new) }
+    {
+        let delta = self.answer(alloc, event)?;
+        self.reserve(event, &delta)?;
+        self.happen(event, &delta);
+        Ok(())
+    }
+
+    // The event of a node that is at home happens, under the next number. Takes no memory.
+    fn happen(&mut self, event: Event, answer: &Delta)
+        requires ready { is_ready self.old event ≡ true }
+        requires turn { has_turn self.old ≡ true }
+        requires answer { IsAnswer self.old.net event answer.now }
+        requires room { HasRoomToPlay self.old.net event answer.now }
+        ensures { Makes self.old event self.new }
+    {
+        self.net.play(event, answer);
+        self.outs.pass_number();
+    }
+
+    // Makes room for an event in the net.
+    fn reserve(&mut self, event: Event, delta: &Delta) -> Result<(), AllocError>
+        requires lawful { IsLawful self.old.net event }
+        requires answer { IsAnswer self.old.net event delta.now }
+        ensures same { IsSameWorld self.old self.new }
+        ensures room { OnOk result (HasRoomToPlay self.new.net event delta.now) }
+    {
+        self.net.reserve(event, delta)
+    }
+
+    // The reaction of an event's node; want of memory is the one fault.
+    fn answer(&self, alloc: Global, event: Event) -> Result<Delta, AllocError>
+        requires { IsLawful self.now.net event }
+        ensures { IfOk result (λ d. IsAnswer self.now.net event d) }
+    {
+        let _ = self.net.trace();
+        law_list_has_no_row();
+        let given = self.net.work(event);
+        match react(alloc, self.net.node(node_of(event)), given) {
+            Ok(delta) => Ok(delta),
+            Err(NodeFault::Memory) => Err(AllocError),
+            Err(NodeFault::NoPort) => unreachable!(),
+            Err(NodeFault::Unforeseen) => unreachable!(),
+        }
+    }
+
+    /// Of a node's events that may be checked out, turns and memory aside, the next one: Wake, or the first Take at port
+    /// `from` or later, or the first from port 0 on.
+    pub fn next_event(&self, v: u32, from: u32) -> Option<Event>
+        requires low { 1 ≤ v }
+        requires high { v ≤ self.now.net.graph.nodes }
+        ensures { result ≡ next_of self.now v from }
+    {
+        if self.outs.has_node(v) {
+            return None;
+        }
+        if self.may_happen(Event::Wake(v)) {
+            return Some(Event::Wake(v));
+        }
+        match self.first_take(v, from) {
+            Some(event) => Some(event),
+            None => self.first_take(v, 0),
+        }
+    }
+
+    // The first Take at a port or later that is lawful in the home view.
+    fn first_take(&self, v: u32, low: u32) -> Option<Event>
+        requires low { 1 ≤ v }
+        requires high { v ≤ self.now.net.graph.nodes }
+        ensures { result ≡ find (may_happen self.now) (takes v low (length (ports_of self.now.net.graph.keys v) - low)) }
+    {
+        let _ = self.net.trace();
+        for port in low..self.net.graph().ports(v).len() as u32 {
+            if self.net.lawful(Event::Take(v, port)) {
+                return Some(Event::Take(v, port));
+            }
+        }
+        None
+    }
+
+    /// Whether an event that names a node or port of the graph may be checked out, turns and memory aside.
+    pub fn is_ready(&self, event: Event) -> bool
+        requires { has_place (network self.now.net) event ≡ true }
+        ensures { result ≡ is_ready self.now event }
+    {
+        !self.outs.has_node(node_of(event)) && self.may_happen(event)
+    }
+
     // Whether one of a node's events may be checked out, turns and memory aside.
     fn has_ready(&self, v: u32) -> bool
         ensures { result ≡ has_ready self.now v }
@@ -163,8 +261,8 @@ impl World {
         }
     }
 
-    // Whether there are turns and a number for one ticket more.
-    fn has_turn(&self) -> bool
+    /// Whether there are turns and a number for one ticket more.
+    pub fn has_turn(&self) -> bool
         ensures { result ≡ has_turn self.now }
     {
         self.net.events() + self.outs.len() < self.turns && self.outs.last() < u64::MAX
@@ -220,7 +318,7 @@ impl World {
             node_of(event),
             delta.sends.as_slice(),
         );
-        self.net.reserve(event, delta)?;
+        self.reserve(event, delta)?;
         nodes
     }
 
@@ -235,7 +333,6 @@ impl World {
         ensures woken { AreReadyOf self.new (touched (network self.old.net) (event_node event) delta.now.sends) result }
         ensures roused { HasAllRoused self.old self.new result }
     {
-        let _ = self.net.trace();
         self.net.play(event, delta);
         self.outs.remove(out, event);
         self.ready_of(nodes)
