@@ -64,7 +64,10 @@ module _ (g : Shape) (nodes : List NodeState) (have : HavePorts g nodes) (e : En
   other_end m y is = is ∙ get_or-set_other ports key.a key.b m y (λ z. let r = among in absurd (omega (arith, r.1, z)))
 
   -- one link more
-  pub found_more : (x y : ℕ) (wanted : Bool) (more : List Key) → x ≡ get_or ports (get_or g.keys i no_key).a x → y ≡ get_or (set ports (get_or g.keys i no_key).a (x + 1)) (get_or g.keys i no_key).b y → wanted ≡ is_wanted e g.keys nodes (get_or g.keys i no_key) → more ≡ found ++ cond wanted (get_or g.keys i no_key ∷ []) [] → Found g nodes e (i + 1) (set (set ports (get_or g.keys i no_key).a (x + 1)) (get_or g.keys i no_key).b (y + 1)) more
+  pub found_more : (x y : ℕ) (wanted : Bool) (more : List Key) → x ≡ get_or ports (get_or g.keys i no_key).a x →
+      y ≡ get_or (set ports (get_or g.keys i no_key).a (x + 1)) (get_or g.keys i no_key).b y → wanted ≡ is_wanted e g.keys nodes (get_or g.keys i no_key) →
+      more ≡ found ++ cond wanted (get_or g.keys i no_key ∷ []) [] →
+      Found g nodes e (i + 1) (set (set ports (get_or g.keys i no_key).a (x + 1)) (get_or g.keys i no_key).b (y + 1)) more
   found_more x y wanted more a b w m = record {
     next = one_counted g.nodes g.keys ports i no_key x y have.graph.among lt f.next at_a at_b;
     links = m ∙ rw (w, f.links) (sym (filter_more (is_wanted e g.keys nodes) g.keys i no_key lt));
@@ -90,5 +93,6 @@ ends_b k = rw (eq-eqb k.b k.b refl) (or_true (k.a == k.b))
     or_true true = refl
     or_true false = refl
 
-pub wanted_is : (e : Ends) (ks : List Key) (nodes : List NodeState) (k : Key) (a b w : Bool) → w ≡ are_wanted e a b → a ≡ has_branch ks nodes k.a k → b ≡ has_branch ks nodes k.b k → w ≡ is_wanted e ks nodes k
+pub wanted_is : (e : Ends) (ks : List Key) (nodes : List NodeState) (k : Key) (a b w : Bool) → w ≡ are_wanted e a b → a ≡ has_branch ks nodes k.a k →
+    b ≡ has_branch ks nodes k.b k → w ≡ is_wanted e ks nodes k
 wanted_is e ks nodes k a b w h x y = rw (h, x, y) refl

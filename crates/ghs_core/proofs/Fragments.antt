@@ -104,7 +104,8 @@ module _ {g : Shape} {es : List Event} {nodes : List NodeState} {links : LinksSt
   joined_among = All-filter (is_wanted Both g.keys nodes) (λ k. (1 ≤ k.a) × (k.a < k.b) × (k.b ≤ g.nodes)) g.keys kept.graph.among
 
   -- the numbers alike in the classes of the joined links are a fragment
-  pub fragment_is : (ls us : List ℕ) (v : ℕ) → 1 ≤ v → v ≤ g.nodes → length ls ≡ g.nodes + 1 → AreTold ls (filter (is_wanted Both g.keys nodes) g.keys) → AreAlike ls (g.nodes + 1) v us → IsFragment net w v us
+  pub fragment_is : (ls us : List ℕ) (v : ℕ) → 1 ≤ v → v ≤ g.nodes → length ls ≡ g.nodes + 1 → AreTold ls (filter (is_wanted Both g.keys nodes) g.keys) →
+      AreAlike ls (g.nodes + 1) v us → IsFragment net w v us
   fragment_is ls us v lo hi count told alike = record { rising = alike.rising; all = λ u. (there u, back u) }
     where
       there : (u : ℕ) → Contains us u → (1 ≤ u) × (u ≤ g.nodes) × InOneFragment net w v u
@@ -122,5 +123,6 @@ module _ {g : Shape} {es : List Event} {nodes : List NodeState} {links : LinksSt
   pub branches_told : {X E : Type 0} (f : X → List Key) (r : Result X E) → IfOk r (λ x. f x ≡ filter (is_wanted One g.keys nodes) g.keys) → IfOk r (λ x. AreBranches net w (f x))
   branches_told f r h = IfOk-weaker r (λ x. f x ≡ filter (is_wanted One g.keys nodes) g.keys) (λ x. AreBranches net w (f x)) (λ x e. rw e branches_are) h
 
-  pub fragment_told : {X E : Type 0} (f : X → List ℕ) (r : Result X E) (ls : List ℕ) (n v : ℕ) → 1 ≤ v → v ≤ g.nodes → n ≡ g.nodes → length ls ≡ g.nodes + 1 → AreTold ls (filter (is_wanted Both g.keys nodes) g.keys) → IfOk r (λ x. AreAlike ls (n + 1) v (f x)) → IfOk r (λ x. IsFragment net w v (f x))
+  pub fragment_told : {X E : Type 0} (f : X → List ℕ) (r : Result X E) (ls : List ℕ) (n v : ℕ) → 1 ≤ v → v ≤ g.nodes → n ≡ g.nodes → length ls ≡ g.nodes + 1 →
+      AreTold ls (filter (is_wanted Both g.keys nodes) g.keys) → IfOk r (λ x. AreAlike ls (n + 1) v (f x)) → IfOk r (λ x. IsFragment net w v (f x))
   fragment_told f r ls n v lo hi e count told h = IfOk-weaker r (λ x. AreAlike ls (n + 1) v (f x)) (λ x. IsFragment net w v (f x)) (λ x a. fragment_is ls (f x) v lo hi count told (rw e at a)) h

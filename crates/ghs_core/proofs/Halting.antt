@@ -174,7 +174,8 @@ module _ (g : Shape) (graph : IsGraph g) (v r : ℕ) (lo : 1 ≤ v) (hi : v ≤ 
   one_here halted = (v, lo, hi, joined_back root.joined, also_there halted v)
 
   -- the first one of its component
-  pub first_halts : (halted : ℕ → Bool) (h k : Halts) → AreHalts g halted h → get_or h.ended.items r true ≡ false → k.least ≡ Some (lesser h.least v) → k.ended.items ≡ set h.ended.items r true → k.running + 1 ≡ h.running → AreHalts g (also halted v) k
+  pub first_halts : (halted : ℕ → Bool) (h k : Halts) → AreHalts g halted h → get_or h.ended.items r true ≡ false → k.least ≡ Some (lesser h.least v) →
+      k.ended.items ≡ set h.ended.items r true → k.running + 1 ≡ h.running → AreHalts g (also halted v) k
   first_halts halted h k are down least ended running = record {
     graph = are.graph;
     least = rw least (least_also halted g.nodes v lo hi h.least are.least);
@@ -204,7 +205,8 @@ module _ (g : Shape) (graph : IsGraph g) (v r : ℕ) (lo : 1 ≤ v) (hi : v ≤ 
       other s ne = rw ended (get_or-set_other h.ended.items r s true true ne)
 
   -- one more of a component that had one
-  pub more_halts : (halted : ℕ → Bool) (h k : Halts) → AreHalts g halted h → get_or h.ended.items r true ≡ true → k.least ≡ Some (lesser h.least v) → k.ended ≡ h.ended → k.running ≡ h.running → AreHalts g (also halted v) k
+  pub more_halts : (halted : ℕ → Bool) (h k : Halts) → AreHalts g halted h → get_or h.ended.items r true ≡ true → k.least ≡ Some (lesser h.least v) → k.ended ≡ h.ended →
+      k.running ≡ h.running → AreHalts g (also halted v) k
   more_halts halted h k are up least ended running = record {
     graph = are.graph;
     least = rw least (least_also halted g.nodes v lo hi h.least are.least);

@@ -56,10 +56,12 @@ pub work_has_rule : (g : Shape) (es : List Event) → IsGraph g → IsRun (netwo
     IsSome (reaction ((net_after g es).node (event_node e)) k)
 work_has_rule g es graph run e k lawful is = rw is (work_has_reaction g (net_after g es) (net_of_run g es graph run) (event_node e) (work_at (net_after g es) e) (asked (network_of g) (net_after g es) e lawful))
 
-pub branch_tree : (g : Shape) (es : List Event) → IsGraph g → IsRun (network_of g) es → (v p : ℕ) → At (network_of g) v p → mark_at ((net_after g es).node v) p ≡ Branch → InTree g.keys (port_at (network_of g) v p).key
+pub branch_tree : (g : Shape) (es : List Event) → IsGraph g → IsRun (network_of g) es → (v p : ℕ) → At (network_of g) v p → mark_at ((net_after g es).node v) p ≡ Branch →
+    InTree g.keys (port_at (network_of g) v p).key
 branch_tree g es graph run v p at m = branch_links_in_tree g (net_after g es) (net_of_run g es graph run) (port_at (network_of g) v p).key (v, p, at, refl, m)
 
-pub rejected_tree : (g : Shape) (es : List Event) → IsGraph g → IsRun (network_of g) es → (v p : ℕ) → At (network_of g) v p → mark_at ((net_after g es).node v) p ≡ Rejected → InTree g.keys (port_at (network_of g) v p).key → ⊥
+pub rejected_tree : (g : Shape) (es : List Event) → IsGraph g → IsRun (network_of g) es → (v p : ℕ) → At (network_of g) v p →
+    mark_at ((net_after g es).node v) p ≡ Rejected → InTree g.keys (port_at (network_of g) v p).key → ⊥
 rejected_tree g es graph run v p at m = rejected_links_aside g (net_after g es) (net_of_run g es graph run) (port_at (network_of g) v p).key (v, p, at, refl, m)
 
 pub branches_tree : (g : Shape) (es : List Event) → IsGraph g → IsRun (network_of g) es → (k : Key) → IsBranchLink (network_of g) (net_after g es) k → InTree g.keys k
@@ -69,12 +71,14 @@ pub exact_halt : (g : Shape) (es : List Event) → IsGraph g → IsRun (network_
 exact_halt g es graph run v lo hi h = halt_is_exact g (net_after g es) (net_of_run g es graph run) v lo hi h
 
 -- of the keys in an answer
-pub all_in_tree : (g : Shape) (es : List Event) → IsGraph g → IsRun (network_of g) es → {A E : Type 0} (r : Result A E) (items : A → List Key) → IfOk r (λ x. AreBranches (network_of g) (net_after g es) (items x)) → IfOk r (λ x. AreInTree g.keys (items x))
+pub all_in_tree : (g : Shape) (es : List Event) → IsGraph g → IsRun (network_of g) es → {A E : Type 0} (r : Result A E) (items : A → List Key) →
+    IfOk r (λ x. AreBranches (network_of g) (net_after g es) (items x)) → IfOk r (λ x. AreInTree g.keys (items x))
 all_in_tree g es graph run (Ok x) items h = λ k i. branches_tree g es graph run k ((h.all k).0 i)
 all_in_tree g es graph run (Err e) items h = tt
 
 -- and where the run has ended
-pub all_of_tree : (g : Shape) (es : List Event) → IsGraph g → IsRun (network_of g) es → {A E : Type 0} (r : Result A E) (items : A → List Key) → IfOk r (λ x. AreBranches (network_of g) (net_after g es) (items x)) →
+pub all_of_tree : (g : Shape) (es : List Event) → IsGraph g → IsRun (network_of g) es → {A E : Type 0} (r : Result A E) (items : A → List Key) →
+    IfOk r (λ x. AreBranches (network_of g) (net_after g es) (items x)) →
     IfOk r (λ x. HasEnded g (net_after g es) → IsTree g.keys (items x))
 all_of_tree g es graph run (Ok x) items h = λ ended.
     let is : (k : Key) → IsBranchLink (network_of g) (net_after g es) k ↔ InTree g.keys k = λ k. (end_is_tree g (net_after g es) (net_of_run g es graph run) ended k).0 in

@@ -42,7 +42,9 @@ pub record Plays (g : Shape) (es : List Event) (nodes : List NodeState) (links :
   pub answer : reaction ((net_after g es).node (event_node e)) (work_at (net_after g es) e) ≡ Some d
 
 -- the same, of what contracts see
-pub plays_of : {g : Shape} {es : List Event} {nodes : List NodeState} {links : LinksState} {counts : Counts} {halts : Halts} {spare : ℕ} {s : NetState} {e : Event} {d : Delta} → IsKept g es nodes links counts halts → record { graph = g; trace = es; links = links; spare = spare } ≡ s → IsLawful s e → IsAnswer s e d → Plays g es nodes links counts halts e d
+pub plays_of : {g : Shape} {es : List Event} {nodes : List NodeState} {links : LinksState} {counts : Counts} {halts : Halts} {spare : ℕ} {s : NetState} {e : Event} {d : Delta} →
+    IsKept g es nodes links counts halts → record { graph = g; trace = es; links = links; spare = spare } ≡ s → IsLawful s e → IsAnswer s e d →
+    Plays g es nodes links counts halts e d
 plays_of kept view lawful answer = record { kept = kept; lawful = rw (← view) at lawful; answer = rw (← view) at answer }
 
 module _ {g : Shape} {es : List Event} {nodes : List NodeState} {links : LinksState} {counts : Counts} {halts : Halts} {e : Event} {d : Delta} (plays : Plays g es nodes links counts halts e d) where
@@ -138,7 +140,9 @@ module _ {g : Shape} {es : List Event} {nodes : List NodeState} {links : LinksSt
           there : (u : ℕ) → u ≢ event_node e → next.node u ≡ (net_after g es).node u
           there u ne = node_there (network_of g) (event_node e) d stages.before u ne ∙ ap (λ (f : ℕ → NodeState). f u) (stage_nodes stages.stage)
 
-      pub played : (k : Halts) → ((halted : ℕ → Bool) → AreHalts g halted halts → AreHalts g (with_node halted (event_node e) d.head.halted) k) → (x n : NodeState) → x ≡ get_or nodes (event_node e - 1) x → n ≡ after x d → IsKept g (es ++ e ∷ []) (set nodes (event_node e - 1) n) l' (record { sent = sent; consumed = c.consumed; requeued = c.requeued }) k
+      pub played : (k : Halts) → ((halted : ℕ → Bool) → AreHalts g halted halts → AreHalts g (with_node halted (event_node e) d.head.halted) k) → (x n : NodeState) →
+          x ≡ get_or nodes (event_node e - 1) x → n ≡ after x d →
+          IsKept g (es ++ e ∷ []) (set nodes (event_node e - 1) n) l' (record { sent = sent; consumed = c.consumed; requeued = c.requeued }) k
       played k noted x n is now = record {
         graph = plays.kept.graph;
         run = (next, after_more (network_of g) es e (net_after g es) next run happened);
@@ -158,7 +162,8 @@ module _ {g : Shape} {es : List Event} {nodes : List NodeState} {links : LinksSt
   played_event = happens_so (stage_happens stages.stage) ∙ ap (λ (x : Net). Some x) (sym (net_after_more g es e (net_after g es) _ run (stage_happens stages.stage)))
 
 -- a reserve
-pub reserved : (g : Shape) (es : List Event) (nodes : List NodeState) (links l : LinksState) (counts : Counts) (halts : Halts) → IsKept g es nodes links counts halts → KeepsLists links l → IsKept g es nodes l counts halts
+pub reserved : (g : Shape) (es : List Event) (nodes : List NodeState) (links l : LinksState) (counts : Counts) (halts : Halts) → IsKept g es nodes links counts halts →
+    KeepsLists links l → IsKept g es nodes l counts halts
 reserved g es nodes links l counts halts kept same = record {
   graph = kept.graph;
   run = kept.run;

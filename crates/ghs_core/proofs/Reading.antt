@@ -51,7 +51,8 @@ module _ {g : Shape} {es : List Event} {nodes : List NodeState} {links : LinksSt
   port_queue v p at = (kept.queues.queues v p).1 (record { some = at.some; node = at.node; port = at.port })
 
   -- the ledger
-  pub told : (queued : ℕ) → queued ≡ total_of links → IsLedger (network_of g) (net_after g es) (record { sent = counts.sent; consumed = counts.consumed; requeued = counts.requeued; queued = queued; out = 0 })
+  pub told : (queued : ℕ) → queued ≡ total_of links →
+      IsLedger (network_of g) (net_after g es) (record { sent = counts.sent; consumed = counts.consumed; requeued = counts.requeued; queued = queued; out = 0 })
   told queued q =
       let balanced = after_balanced (network_of g) (graph_wired g kept.graph) (graph_few g kept.graph) es (net_after g es) run in
       let all = balanced_in_all (network_of g) (net_after g es) balanced in
@@ -72,7 +73,9 @@ pub lawful_port : (g : Network) (w : Net) (v p : ℕ) → is_lawful g w (Take v 
 lawful_port g w v p l = let b = and_parts _ _ l in at_of g v p b.0
 
 -- the fields of an opening net
-pub opened : (g : Shape) (nodes : List NodeState) (links : LinksState) (counts : Counts) (halts : Halts) → AreAsleep g nodes → IsFor g links → AllEmpty links → total_of links ≡ 0 → ((k : ℕ) → get_or counts.sent k 0 ≡ 0) → ((k : ℕ) → get_or counts.consumed k 0 ≡ 0) → counts.requeued ≡ 0 → AreHalts g none_halted halts → IsKept g [] nodes links counts halts
+pub opened : (g : Shape) (nodes : List NodeState) (links : LinksState) (counts : Counts) (halts : Halts) → AreAsleep g nodes → IsFor g links → AllEmpty links →
+    total_of links ≡ 0 → ((k : ℕ) → get_or counts.sent k 0 ≡ 0) → ((k : ℕ) → get_or counts.consumed k 0 ≡ 0) → counts.requeued ≡ 0 → AreHalts g none_halted halts →
+    IsKept g [] nodes links counts halts
 opened g nodes links counts halts asleep for empty total sent consumed requeued none = record {
   graph = asleep.graph;
   run = (opening (network_of g), refl);

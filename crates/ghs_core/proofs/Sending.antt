@@ -39,7 +39,9 @@ leads_to g old l for same v i port = same_destination old l same v i ∙ for.lea
 
 module _ (g : Shape) (v : ℕ) where
   -- one message more
-  arrives_more : (old l l' : LinksState) (ss : Outgoing) (i : ℕ) (m : Message) → IsFor g old → IsPort g v i → Arrives g v ss old l → Changes l l' (port_of g v i).far (port_of g v i).far_port (pushed (state_at l (port_of g v i).far (port_of g v i).far_port) m) → Arrives g v (ss ++ (i, m) ∷ []) old l'
+  arrives_more : (old l l' : LinksState) (ss : Outgoing) (i : ℕ) (m : Message) → IsFor g old → IsPort g v i → Arrives g v ss old l →
+      Changes l l' (port_of g v i).far (port_of g v i).far_port (pushed (state_at l (port_of g v i).far (port_of g v i).far_port) m) →
+      Arrives g v (ss ++ (i, m) ∷ []) old l'
   arrives_more old l l' ss i m for lt a c = record {
     ports = same_then old l l' a.ports c.ports;
     queue = queue;
@@ -91,7 +93,10 @@ module _ (g : Shape) (v : ℕ) where
           (one_place to_node to_port u r)
 
   -- the room that the next message leaves
-  room_after : (l l' : LinksState) (ss : Outgoing) (i : ℕ) (d s : ℕ × Message) → IsFor g l → i < length ss → s ≡ get_or ss i d → IsPort g v s.0 → HasRoomFor v (drop i ss) l → Changes l l' (port_of g v s.0).far (port_of g v s.0).far_port (pushed (state_at l (port_of g v s.0).far (port_of g v s.0).far_port) s.1) → HasRoomFor v (drop (i + 1) ss) l'
+  room_after : (l l' : LinksState) (ss : Outgoing) (i : ℕ) (d s : ℕ × Message) → IsFor g l → i < length ss → s ≡ get_or ss i d → IsPort g v s.0 →
+      HasRoomFor v (drop i ss) l →
+      Changes l l' (port_of g v s.0).far (port_of g v s.0).far_port (pushed (state_at l (port_of g v s.0).far (port_of g v s.0).far_port) s.1) →
+      HasRoomFor v (drop (i + 1) ss) l'
   room_after l l' ss i d s for more is port room c p has =
       let at : IsPort g v p = (for.queues v p).0 ((c.ports.queues v p).1 has) in
       let led : destination_of l' v p ≡ far_end g v p = leads_to g l l' for c.ports v p at in
@@ -119,7 +124,8 @@ module _ (g : Shape) (v : ℕ) where
           omega (arith, ours, same, r)
 
 -- the room for the next message
-pub room_for_next : (v : ℕ) (l : LinksState) (ss : Outgoing) (i : ℕ) (d s : ℕ × Message) → i < length ss → s ≡ get_or ss i d → HasQueue l v s.0 → HasRoomFor v (drop i ss) l → 0 < room_at l (destination_of l v s.0).0 (destination_of l v s.0).1
+pub room_for_next : (v : ℕ) (l : LinksState) (ss : Outgoing) (i : ℕ) (d s : ℕ × Message) → i < length ss → s ≡ get_or ss i d → HasQueue l v s.0 →
+    HasRoomFor v (drop i ss) l → 0 < room_at l (destination_of l v s.0).0 (destination_of l v s.0).1
 room_for_next v l ss i d s more is has room =
     let one = sum_by-drop_more (λ (x : ℕ × Message). cond (x.0 == s.0) 1 0) ss i d more in
     let first : ◌≡◌ {A = ℕ} (cond ((get_or ss i d).0 == s.0) 1 0) 1 = rw (sym is, eq-eqb s.0 s.0 refl) refl in
@@ -127,7 +133,8 @@ room_for_next v l ss i d s more is has room =
     omega (arith, one, first, r)
 
 -- one message more is counted
-counts_more : (ss : Outgoing) (x : ℕ × Message) (os s : List ℕ) (k : ℕ) → length s ≡ 7 → k ≡ place_of (kind_of x.1) → k < 7 → CountsSends ss os s → CountsSends (ss ++ x ∷ []) os (set s k (get_or s k 0 + 1))
+counts_more : (ss : Outgoing) (x : ℕ × Message) (os s : List ℕ) (k : ℕ) → length s ≡ 7 → k ≡ place_of (kind_of x.1) → k < 7 → CountsSends ss os s →
+    CountsSends (ss ++ x ∷ []) os (set s k (get_or s k 0 + 1))
 counts_more ss x os s k w e lt c j below = ⊎_elim hit miss (cases_eq j k)
   where
     one : of_kind j (messages_of (ss ++ x ∷ [])) ≡ of_kind j (messages_of ss) + cond (place_of (kind_of x.1) == j) 1 0
@@ -173,7 +180,10 @@ none_sent g v ss l s room = record {
     none : (u r : ℕ) → queue_at l u r ++ arriving (network_of g) v [] u r ≡ queue_at l u r
     none u r = elim (far (network_of g) u r == v) as (λ b. queue_at l u r ++ cond b [] [] ≡ queue_at l u r) [ true ↦ append-nil _ | false ↦ append-nil _ ]
 
-pub one_sent : (g : Shape) (v : ℕ) (ss : Outgoing) (i : ℕ) (d x : ℕ × Message) (old l l' : LinksState) (os s : List ℕ) (k : ℕ) → IsFor g old → GoOut old v ss → length os ≡ 7 → i < length ss → x ≡ get_or ss i d → k ≡ place_of (kind_of x.1) → k < 7 → Sent g v ss i old l os s → Changes l l' (destination_of l v x.0).0 (destination_of l v x.0).1 (pushed (state_at l (destination_of l v x.0).0 (destination_of l v x.0).1) x.1) → Sent g v ss (i + 1) old l' os (set s k (get_or s k 0 + 1))
+pub one_sent : (g : Shape) (v : ℕ) (ss : Outgoing) (i : ℕ) (d x : ℕ × Message) (old l l' : LinksState) (os s : List ℕ) (k : ℕ) → IsFor g old → GoOut old v ss →
+    length os ≡ 7 → i < length ss → x ≡ get_or ss i d → k ≡ place_of (kind_of x.1) → k < 7 → Sent g v ss i old l os s →
+    Changes l l' (destination_of l v x.0).0 (destination_of l v x.0).1 (pushed (state_at l (destination_of l v x.0).0 (destination_of l v x.0).1) x.1) →
+    Sent g v ss (i + 1) old l' os (set s k (get_or s k 0 + 1))
 one_sent g v ss i d x old l l' os s k for out seven more is e lt h c = record {
   arrives = rw (take_more ss i d more, sym is) (arrives_more g v old l l' (take i ss) x.0 x.1 for port h.arrives there);
   room = room_after g v l l' ss i d x (same_for g old l h.arrives.ports for) more is port h.room there;

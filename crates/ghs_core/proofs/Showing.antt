@@ -33,7 +33,8 @@ module _ (g : Shape) (w : Net) (nodes : List NodeState) (links : LinksState) (co
   waits_at (Takes v p m ms d at q r) = (has_queue v p at, let e : length (queue_at links v p) ≡ length (m ∷ ms) = ap length (shows.queue v p at ∙ q) in omega (arith, e))
 
   -- once a message has met its fate
-  met_shows : (f : Fate) (v p : ℕ) (m : Message) (ms : List Message) (l : LinksState) (c : Counts) → At (network_of g) v p → Met f v p m ms links l → CountsFate f m counts c → Shows (network_of g) (take_first f v p m ms w) nodes l c
+  met_shows : (f : Fate) (v p : ℕ) (m : Message) (ms : List Message) (l : LinksState) (c : Counts) → At (network_of g) v p → Met f v p m ms links l →
+      CountsFate f m counts c → Shows (network_of g) (take_first f v p m ms w) nodes l c
   met_shows f v p m ms l c at met told = record {
     count = shows.count;
     node = shows.node;
@@ -54,7 +55,10 @@ module _ (g : Shape) (w : Net) (nodes : List NodeState) (links : LinksState) (co
   stage_shows l c (Takes v p m ms d at q r) z = let one = z m ms (shows.queue v p at ∙ q) in met_shows d.fate v p m ms l c at one.0 one.1
 
 -- once node v has reacted
-pub reacted_shows : (g : Shape) → IsGraph g → (v : ℕ) → 1 ≤ v → v ≤ g.nodes → (d : Delta) (w : Net) (nodes : List NodeState) (n : NodeState) (l l' : LinksState) (c : Counts) (sent : List ℕ) → n ≡ after (w.node v) d → Shows (network_of g) w nodes l c → Arrives g v d.sends l l' → CountsSends d.sends c.sent sent → Shows (network_of g) (reacted (network_of g) v d w) (set nodes (v - 1) n) l' (record { sent = sent; consumed = c.consumed; requeued = c.requeued })
+pub reacted_shows : (g : Shape) → IsGraph g → (v : ℕ) → 1 ≤ v → v ≤ g.nodes →
+    (d : Delta) (w : Net) (nodes : List NodeState) (n : NodeState) (l l' : LinksState) (c : Counts) (sent : List ℕ) → n ≡ after (w.node v) d →
+    Shows (network_of g) w nodes l c → Arrives g v d.sends l l' → CountsSends d.sends c.sent sent →
+    Shows (network_of g) (reacted (network_of g) v d w) (set nodes (v - 1) n) l' (record { sent = sent; consumed = c.consumed; requeued = c.requeued })
 reacted_shows g ok v lo hi d w nodes n l l' c sent now shows arrives told = record {
   count = length-set nodes (v - 1) n ∙ shows.count;
   node = λ u low high. ⊎_elim

@@ -22,7 +22,8 @@ use Rattle.ghs_core.specs.NetState.{event_node, work_at, delivery}
 -- the event brings the reaction d about, and x is the net before the node reacts
 pub data Stage (g : Network) (w : Net) : Event → Delta → Net → Type 0 where
   Wakes : (v : ℕ) (d : Delta) → 1 ≤ v → v ≤ g.count → (w.node v).head.phase ≡ Sleeping → reaction (w.node v) works.Wake ≡ Some d → Stage g w (Wake v) d w
-  Takes : (v p : ℕ) (m : Message) (ms : List Message) (d : Delta) → At g v p → w.queue v p ≡ m ∷ ms → reaction (w.node v) (works.Deliver p m) ≡ Some d → Stage g w (Take v p) d (take_first d.fate v p m ms w)
+  Takes : (v p : ℕ) (m : Message) (ms : List Message) (d : Delta) → At g v p → w.queue v p ≡ m ∷ ms → reaction (w.node v) (works.Deliver p m) ≡ Some d →
+      Stage g w (Take v p) d (take_first d.fate v p m ms w)
 
 pub record Staged (g : Network) (w : Net) (e : Event) (d : Delta) : Type 0 where
   pub before : Net

@@ -74,7 +74,8 @@ module _ (g : Shape) (w : Net) (nodes : List NodeState) (links : LinksState) (co
       }
 
   -- the first stage takes no room
-  pub settled_room : {e : Event} {d : Delta} {x : Net} (l : LinksState) (c : Counts) (v : ℕ) (ss : Outgoing) → Stage (network_of g) w e d x → Settles e d.fate links l counts c → HasRoomFor v ss links → HasRoomFor v ss l
+  pub settled_room : {e : Event} {d : Delta} {x : Net} (l : LinksState) (c : Counts) (v : ℕ) (ss : Outgoing) → Stage (network_of g) w e d x →
+      Settles e d.fate links l counts c → HasRoomFor v ss links → HasRoomFor v ss l
   settled_room l c u ss (Wakes v d lo hi s r) z room = rw z.0 room
   settled_room l c u ss (Takes v p m ms d at q r) z room = λ i has.
       let one = z m ms (shows.queue v p at ∙ q) in
@@ -85,12 +86,15 @@ module _ (g : Shape) (w : Net) (nodes : List NodeState) (links : LinksState) (co
       let more = one.0.rooms _ _ (far_queue g links for u i port.port) in
       rw (same_destination links l one.0.ports u i, led) (omega (arith, more, enough))
 
-  pub settled_rooms : {e : Event} {d : Delta} {x : Net} (l : LinksState) (c : Counts) → Stage (network_of g) w e d x → Settles e d.fate links l counts c → (u r : ℕ) → HasQueue links u r → room_at links u r ≤ room_at l u r
+  pub settled_rooms : {e : Event} {d : Delta} {x : Net} (l : LinksState) (c : Counts) → Stage (network_of g) w e d x → Settles e d.fate links l counts c → (u r : ℕ) →
+      HasQueue links u r → room_at links u r ≤ room_at l u r
   settled_rooms l c (Wakes v d lo hi s r) z = λ u r has. rw z.0 (omega arith)
   settled_rooms l c (Takes v p m ms d at q r) z = (z m ms (shows.queue v p at ∙ q)).0.rooms
 
 -- the second stage: the sends are counted
-pub fit_more : (n : ℕ) (links l l' : LinksState) (counts c : Counts) (sent : List ℕ) (g : Shape) (v : ℕ) (ss : Outgoing) → length ss ≤ 8388610 → CountsFit n links counts → Settled links l counts c → Arrives g v ss l l' → CountsSends ss c.sent sent → CountsFit (n + 1) l' (record { sent = sent; consumed = c.consumed; requeued = c.requeued })
+pub fit_more : (n : ℕ) (links l l' : LinksState) (counts c : Counts) (sent : List ℕ) (g : Shape) (v : ℕ) (ss : Outgoing) → length ss ≤ 8388610 →
+    CountsFit n links counts → Settled links l counts c → Arrives g v ss l l' → CountsSends ss c.sent sent →
+    CountsFit (n + 1) l' (record { sent = sent; consumed = c.consumed; requeued = c.requeued })
 fit_more n links l l' counts c sent g v ss few fit s a told =
     let all : in_all (λ k. get_or sent k 0) ≡ in_all (λ k. get_or c.sent k 0) + in_all (λ k. of_kind k (messages_of ss)) = rise (λ k. get_or c.sent k 0) (λ k. get_or sent k 0) (λ k. of_kind k (messages_of ss)) told in
     let kinds : in_all (λ k. of_kind k (messages_of ss)) ≡ length ss = kinds_in_all (messages_of ss) ∙ length-map ss (λ (x : ℕ × Message). x.1) in

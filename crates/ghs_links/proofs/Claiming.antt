@@ -35,14 +35,17 @@ count_elsewhere k ss i s lt is ne =
     omega (arith, more, none)
 
 -- one message more has its room
-module _ (far : List ℕ) (ss : Outgoing) (i : ℕ) (old qs : List QueueState) (claims : List ℕ) (s : ℕ × Message) (x r : QueueState) (claimed : Claimed far ss i old qs claims) (lt : i < length ss) (is : s ≡ get_or ss i s) (port : s.0 < length far) (wide : length far ≤ length claims) (inside : get_or far s.0 0 < length qs) where
+module _ (far : List ℕ) (ss : Outgoing) (i : ℕ) (old qs : List QueueState) (claims : List ℕ) (s : ℕ × Message) (x r : QueueState)
+    (claimed : Claimed far ss i old qs claims) (lt : i < length ss) (is : s ≡ get_or ss i s) (port : s.0 < length far) (wide : length far ≤ length claims)
+    (inside : get_or far s.0 0 < length qs) where
   abbrev place : ℕ
   place = get_or far s.0 0
 
   at_place : get_or qs place x ≡ get_or qs place no_queue
   at_place = get_or_default qs place x no_queue inside
 
-  pub claimed_more : r.list ≡ (get_or qs (get_or far s.0 0) x).list → (get_or qs (get_or far s.0 0) x).room ≤ r.room → get_or claims s.0 0 + 1 ≤ r.room → Claimed far ss (i + 1) old (set qs (get_or far s.0 0) r) (set claims s.0 (get_or claims s.0 0 + 1))
+  pub claimed_more : r.list ≡ (get_or qs (get_or far s.0 0) x).list → (get_or qs (get_or far s.0 0) x).room ≤ r.room → get_or claims s.0 0 + 1 ≤ r.room →
+      Claimed far ss (i + 1) old (set qs (get_or far s.0 0) r) (set claims s.0 (get_or claims s.0 0 + 1))
   claimed_more list more enough = record { kept = kept; counts = counts; room = room }
     where
       list_was : (get_or qs place x).list ≡ (get_or qs place no_queue).list

@@ -33,7 +33,8 @@ no_blocks g = record {
     rising u v le lt = omega (arith, zero_at u (omega arith), zero_at v lt)
 
 -- one node more
-pub blocks_more : (g : Shape) → IsGraph g → (n : ℕ) (starts : List ℕ) (widest end d m : ℕ) → AreBlocks g n starts widest → widest ≤ m → d ≤ m → end ≡ get_or starts (n + 1) 0 + d → d ≡ length (ports_of g.keys (n + 1)) → AreBlocks g (n + 1) (starts ++ end ∷ []) m
+pub blocks_more : (g : Shape) → IsGraph g → (n : ℕ) (starts : List ℕ) (widest end d m : ℕ) → AreBlocks g n starts widest → widest ≤ m → d ≤ m →
+    end ≡ get_or starts (n + 1) 0 + d → d ≡ length (ports_of g.keys (n + 1)) → AreBlocks g (n + 1) (starts ++ end ∷ []) m
 blocks_more g k n starts widest end d m b x y e f = record {
   count = omega (arith, length-append starts (end ∷ []), count);
   first = old 0 (omega (arith, count)) ∙ b.first;
@@ -62,7 +63,8 @@ blocks_more g k n starts widest end d m b x y e f = record {
         (λ (ge : n + 2 ≤ u). let z : u ≡ n + 2 = omega arith in rw z (omega arith)) (cases_lt u (n + 2))
 
 -- the same, with what the loop keeps
-pub blocks_step : (g : Shape) → IsGraph g → (n : ℕ) (starts ss : List ℕ) (widest end d m : ℕ) → AreBlocks g n starts widest × (end ≡ get_or starts (n + 1) 0) → widest ≤ m → d ≤ m → d ≡ length (ports_of g.keys (n + 1)) → ss ≡ starts ++ (end + d) ∷ [] → AreBlocks g (n + 1) ss m × (end + d ≡ get_or ss (n + 1 + 1) 0)
+pub blocks_step : (g : Shape) → IsGraph g → (n : ℕ) (starts ss : List ℕ) (widest end d m : ℕ) → AreBlocks g n starts widest × (end ≡ get_or starts (n + 1) 0) →
+    widest ≤ m → d ≤ m → d ≡ length (ports_of g.keys (n + 1)) → ss ≡ starts ++ (end + d) ∷ [] → AreBlocks g (n + 1) ss m × (end + d ≡ get_or ss (n + 1 + 1) 0)
 blocks_step g k n starts ss widest end d m b x y f e =
     let count = b.0.count in
     rw e (
@@ -121,7 +123,8 @@ module _ (g : Shape) (graph : IsGraph g) (starts : List ℕ) (widest : ℕ) (b :
   far_within v p i = place_within bare bare_order _ _ (port_place bare.far _ _ (far_port_is g graph v p i.port))
 
   -- one more far place
-  pub far_more : (far : List ℕ) (v p x : ℕ) → LeadFar g starts far → IsPort g v p → length far ≡ get_or starts v 0 + p → x ≡ get_or starts (port_of g v p).far 0 + (port_of g v p).far_port → LeadFar g starts (far ++ x ∷ [])
+  pub far_more : (far : List ℕ) (v p x : ℕ) → LeadFar g starts far → IsPort g v p → length far ≡ get_or starts v 0 + p →
+      x ≡ get_or starts (port_of g v p).far 0 + (port_of g v p).far_port → LeadFar g starts (far ++ x ∷ [])
   far_more far v p x lead port n is u r other lt = ⊎_elim
       (λ (old : get_or starts u 0 + r < length far). get_or_append_left far (x ∷ []) 0 (get_or starts u 0 + r) old ∙ lead u r other old)
       (λ new. let z : get_or starts u 0 + r ≡ length far = omega (arith, new, lt, length-append far (x ∷ [])) in last z)
@@ -193,7 +196,9 @@ next_port g i j lt port = record { some = omega arith; node = omega arith; port 
 pub far_inside : (g : Shape) → IsGraph g → (starts : List ℕ) → AreParts g starts → (v p : ℕ) → p < length (ports_of g.keys v) → (port_of g v p).far < length starts
 far_inside g graph starts parts v p lt = let there = far_port_is g graph v p lt in let node = there.node in let count = parts.1.count in omega (arith, node, count)
 
-pub far_step : (g : Shape) → IsGraph g → (starts : List ℕ) → AreParts g starts → (far fs : List ℕ) (i j x : ℕ) → i < g.nodes → j < length (ports_of g.keys (i + 1)) → LeadFar g starts far × (length far ≡ get_or starts (i + 1) 0 + j) → x ≡ get_or starts (port_of g (i + 1) j).far 0 + (port_of g (i + 1) j).far_port → fs ≡ far ++ x ∷ [] →
+pub far_step : (g : Shape) → IsGraph g → (starts : List ℕ) → AreParts g starts → (far fs : List ℕ) (i j x : ℕ) → i < g.nodes → j < length (ports_of g.keys (i + 1)) →
+    LeadFar g starts far × (length far ≡ get_or starts (i + 1) 0 + j) → x ≡ get_or starts (port_of g (i + 1) j).far 0 + (port_of g (i + 1) j).far_port →
+    fs ≡ far ++ x ∷ [] →
     LeadFar g starts fs × (length fs ≡ get_or starts (i + 1) 0 + (j + 1))
 far_step g graph starts parts far fs i j x lt port so_far is e =
     let count = get_or starts (g.nodes + 1) 0 in

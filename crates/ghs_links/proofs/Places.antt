@@ -230,7 +230,8 @@ pub start_found : (l : Laid) (v p start : ℕ) → HasPlace l v p → start ≡ 
 start_found l v p start h found = found ∙ get_or_default l.starts v start 0 (let n = h.node in omega arith)
 
 -- the queue at a port became f of what it was
-pub changed_by : (l : Laid) → AreInOrder l → (v p start : ℕ) (f : QueueState → QueueState) (x r : QueueState) → HasQueue (seen l) v p → start ≡ get_or l.starts v start → x ≡ get_or l.queues (start + p) x → r ≡ f x → Changes (seen l) (seen (record l { queues = set l.queues (start + p) r })) v p (f (state_at (seen l) v p))
+pub changed_by : (l : Laid) → AreInOrder l → (v p start : ℕ) (f : QueueState → QueueState) (x r : QueueState) → HasQueue (seen l) v p → start ≡ get_or l.starts v start →
+    x ≡ get_or l.queues (start + p) x → r ≡ f x → Changes (seen l) (seen (record l { queues = set l.queues (start + p) r })) v p (f (state_at (seen l) v p))
 changed_by l order v p start f x r has found was now =
     let h = has_place l order v p has in
     let z : start ≡ start_of l v = start_found l v p start h found in
@@ -256,7 +257,8 @@ state_found l order v p start x has found was =
     was ∙ rw z (get_or_default l.queues (start_of l v + p) x no_queue (place_within l order v p h)) ∙ sym (state_is l order v p h)
 
 -- another queue at a place, and another count of all messages
-pub kept_with : (l : Laid) (claims : List ℕ) (sum n i : ℕ) (x r : QueueState) → IsKept l claims sum → i < length l.queues → x ≡ get_or l.queues i x → n + length x.list ≡ sum + length r.list → IsKept (record l { queues = set l.queues i r }) claims n
+pub kept_with : (l : Laid) (claims : List ℕ) (sum n i : ℕ) (x r : QueueState) → IsKept l claims sum → i < length l.queues → x ≡ get_or l.queues i x →
+    n + length x.list ≡ sum + length r.list → IsKept (record l { queues = set l.queues i r }) claims n
 kept_with l claims sum n i x r kept lt was e = record {
   order = still_in_order l (set l.queues i r) (length-set l.queues i r) kept.order;
   enough = kept.enough;
@@ -316,7 +318,8 @@ module _ (l : Laid) (order : AreInOrder l) (v p start i : ℕ) (has : HasQueue (
       let at = place_of_port l order i far_found in
       was ∙ get_or_default l.queues i x no_queue far_found ∙ rw leads_there (sym (state_is l order (port_at l.starts i).0 (port_at l.starts i).1 at.0 ∙ ap (λ (k : ℕ). get_or l.queues k no_queue) at.1))
 
-  pub far_changed : (f : QueueState → QueueState) (x r : QueueState) → x ≡ get_or l.queues i x → r ≡ f x → Changes (seen l) (seen (record l { queues = set l.queues i r })) (destination_of (seen l) v p).0 (destination_of (seen l) v p).1 (f (state_at (seen l) (destination_of (seen l) v p).0 (destination_of (seen l) v p).1))
+  pub far_changed : (f : QueueState → QueueState) (x r : QueueState) → x ≡ get_or l.queues i x → r ≡ f x →
+      Changes (seen l) (seen (record l { queues = set l.queues i r })) (destination_of (seen l) v p).0 (destination_of (seen l) v p).1 (f (state_at (seen l) (destination_of (seen l) v p).0 (destination_of (seen l) v p).1))
   far_changed f x r was now =
       let at = place_of_port l order i far_found in
       let Told : ℕ → Type 0 = λ k. Changes (seen l) (seen (record l { queues = set l.queues k r })) (port_at l.starts i).0 (port_at l.starts i).1 r in

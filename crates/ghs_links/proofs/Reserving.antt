@@ -15,7 +15,8 @@ use Rattle.ghs_links.proofs.Places.{place_within, has_place, place_has, place_of
 pub written_over : {X : Type 0} (n : ℕ) (ws xs : List X) → n ≡ length xs → length ws ≡ length xs → take n (ws ++ drop (length ws) xs) ≡ ws
 written_over n ws xs e w = let z : n ≡ length ws = e ∙ sym w in rw z (take-append_seam ws (drop (length ws) xs))
 
-same_total : (qs rs : List QueueState) → length rs ≡ length qs → ((i : ℕ) → (get_or rs i no_queue).list ≡ (get_or qs i no_queue).list) → sum_by (λ (q : QueueState). length q.list) rs ≡ sum_by (λ (q : QueueState). length q.list) qs
+same_total : (qs rs : List QueueState) → length rs ≡ length qs → ((i : ℕ) → (get_or rs i no_queue).list ≡ (get_or qs i no_queue).list) →
+    sum_by (λ (q : QueueState). length q.list) rs ≡ sum_by (λ (q : QueueState). length q.list) qs
 same_total [] [] e same = refl
 same_total [] (r ∷ rs) e same = absurd (omega arith)
 same_total (q ∷ qs) [] e same = absurd (omega arith)
@@ -43,7 +44,8 @@ lists_kept l rs order e k = record {
     after : AreInOrder (record l { queues = rs })
     after = still_in_order l rs e order
 
-pub still_kept : (l : Laid) (rs : List QueueState) (claims cs : List ℕ) (total : ℕ) → IsKept l claims total → length rs ≡ length l.queues → KeepsEach l.queues rs → length cs ≡ length claims → ((k : ℕ) → get_or cs k 0 ≡ 0) → IsKept (record l { queues = rs }) cs total
+pub still_kept : (l : Laid) (rs : List QueueState) (claims cs : List ℕ) (total : ℕ) → IsKept l claims total → length rs ≡ length l.queues → KeepsEach l.queues rs →
+    length cs ≡ length claims → ((k : ℕ) → get_or cs k 0 ≡ 0) → IsKept (record l { queues = rs }) cs total
 still_kept l rs claims cs total kept e k wide none = record {
   order = still_in_order l rs e kept.order;
   enough = λ v lt. let a = kept.enough v lt in omega (arith, a, wide);
@@ -77,7 +79,8 @@ module _ (l : Laid) (order : AreInOrder l) (v : ℕ) (node : v < length (seen l)
   part_few claims sum kept = let w = part_length l order l.far v order.wide node_inside in let e = kept.enough v node_inside in omega (arith, w, e)
 
   -- room there is room at the destinations
-  far_room : (rs : List QueueState) → length rs ≡ length l.queues → (p : ℕ) → HasPlace l v p → (state_at (seen (record l { queues = rs })) (destination_of (seen l) v p).0 (destination_of (seen l) v p).1).room ≡ (get_or rs (get_or (part_of l.starts l.far v) p 0) no_queue).room
+  far_room : (rs : List QueueState) → length rs ≡ length l.queues → (p : ℕ) → HasPlace l v p →
+      (state_at (seen (record l { queues = rs })) (destination_of (seen l) v p).0 (destination_of (seen l) v p).1).room ≡ (get_or rs (get_or (part_of l.starts l.far v) p 0) no_queue).room
   far_room rs e p at =
       let after = still_in_order l rs e order in
       let i = get_or l.far (start_of l v + p) 0 in
