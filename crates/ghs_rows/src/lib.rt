@@ -12,6 +12,8 @@ mod queues;
 #[cfg(test)]
 mod texts;
 #[cfg(test)]
+mod traces;
+#[cfg(test)]
 mod tree;
 #[cfg(test)]
 mod words;
