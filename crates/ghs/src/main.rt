@@ -9,8 +9,8 @@ ghost use Rattle.std.specs.Prelude.{◌≡◌, MatchResult, false, map, string_b
 use ghs_cli::fault::ServeFault;
 use ghs_cli::job::{Job, JobFault, read_job};
 use ghs_cli::serve::serve;
-use ghs_report::write_out::write_out;
 use ghs_gr::device::{Device, Source};
+use ghs_report::write_out::write_out;
 use std::alloc::Global;
 use std::fs::File;
 use std::process::ExitCode;
@@ -52,29 +52,48 @@ fn answer<R: Runtime + AllocGlobal>(rt: &R, alloc: Global, words: &[String]) -> 
     }
 }
 
-/// Opens the graph's file and does the job. A file that can't be opened can't be read.
+/// Opens the files and does the job, the trace's before the graph's. A file that can't be opened can't be read.
 fn work<R: Runtime + AllocGlobal>(rt: &R, alloc: Global, job: &Job) -> Result<(), ServeFault> {
-    match &job.graph {
+    match &job.trace {
         Some(path) => match File::open(rt, path.as_str()) {
-            Ok(file) => work_on(rt, alloc, job, &mut Device::of(file)),
+            Ok(file) => work_after(rt, alloc, job, &mut Device::of(file)),
             Err(_) => Err(ServeFault::Read),
         },
-        None => work_on(rt, alloc, job, &mut Device::of(rt.reader())),
+        None => work_after(rt, alloc, job, &mut Device::of(b"".as_slice())),
     }
 }
 
-/// Does the job on this graph, and prints.
-fn work_on<R: Runtime + AllocGlobal, S: Source>(
+/// Opens the graph's file and does the job with this trace.
+fn work_after<R: Runtime + AllocGlobal, T: Source>(
+    rt: &R,
+    alloc: Global,
+    job: &Job,
+    trace: &mut T,
+) -> Result<(), ServeFault>
+    requires { T.has_failed trace.old ≡ false }
+{
+    match &job.graph {
+        Some(path) => match File::open(rt, path.as_str()) {
+            Ok(file) => work_on(rt, alloc, job, &mut Device::of(file), trace),
+            Err(_) => Err(ServeFault::Read),
+        },
+        None => work_on(rt, alloc, job, &mut Device::of(rt.reader()), trace),
+    }
+}
+
+/// Does the job on this graph with this trace, and prints.
+fn work_on<R: Runtime + AllocGlobal, S: Source, T: Source>(
     rt: &R,
     alloc: Global,
     job: &Job,
     graph: &mut S,
+    trace: &mut T,
 ) -> Result<(), ServeFault>
-    requires { S.has_failed graph.old ≡ false }
+    requires graph { S.has_failed graph.old ≡ false }
+    requires trace { T.has_failed trace.old ≡ false }
 {
     let mut out = Device::of(io::writer(rt));
-    let mut trace = Device::of(b"".as_slice());
-    serve(alloc, job, graph, &mut trace, &mut out)
+    serve(alloc, job, graph, trace, &mut out)
 }
 
 /// Prints help that was asked for.

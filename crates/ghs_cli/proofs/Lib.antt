@@ -1,2 +1,5 @@
+mod Commands
 mod Said
+mod Serves
+mod Traces
 mod WordExamples

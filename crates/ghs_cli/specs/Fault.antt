@@ -2,6 +2,12 @@
 use Rattle.std.specs.Prelude.{ℕ}
 use Rattle.ghs_gr.specs.declared.fault.GrFault.{GrFault}
 use Rattle.ghs_gr.specs.declared.fault.GrFault.TheVariants as gr
+use Rattle.ghs_gr.specs.declared.text.TextFault.{TextFault}
+use Rattle.ghs_gr.specs.declared.text.TextFault.TheVariants as text
+use Rattle.ghs_sched.specs.declared.fault.ReplayFault.{ReplayFault}
+use Rattle.ghs_sched.specs.declared.fault.ReplayFault.TheVariants as replay
+use Rattle.ghs_sched.specs.declared.fault.TraceFault.{TraceFault}
+use Rattle.ghs_sched.specs.declared.fault.TraceFault.TheVariants as trace
 use Rattle.ghs_cli.specs.declared.fault.ServeFault.{ServeFault}
 use Rattle.ghs_cli.specs.declared.fault.ServeFault.TheVariants as serve
 
@@ -18,7 +24,24 @@ of_gr (gr.NodeRange line) = serve.NodeRange line
 of_gr gr.NoProblem = serve.NoProblem
 of_gr (gr.ArcCount said found) = serve.ArcCount said found
 
--- the exit status: 1 for input that is refused, 4 for want of memory, 5 for a read or a write that failed
+-- the same of the reading of a trace, of its text and of a replay
+abbrev pub of_text : TextFault → ServeFault
+of_text text.Read = serve.Read
+of_text text.TooLong = serve.TooLong
+of_text text.Memory = serve.Memory
+
+abbrev pub of_trace : TraceFault → ServeFault
+of_trace (trace.BadLine line) = serve.TraceBadLine line
+of_trace (trace.Number line) = serve.TraceNumber line
+of_trace (trace.Count said found) = serve.TraceCount said found
+of_trace trace.Memory = serve.Memory
+
+abbrev pub of_replay : ReplayFault → ServeFault
+of_replay (replay.NotLawful k) = serve.NotLawful k
+of_replay (replay.Unforeseen k) = serve.Unforeseen
+of_replay replay.Memory = serve.Memory
+
+-- the exit status: 1 for input that is refused, 3 for a run that hasn't ended, 4 for want of memory, 5 for a read or a write that failed, 6 for a state without a rule
 abbrev pub status_of : ServeFault → ℕ
 status_of (serve.BadLine line) = 1
 status_of (serve.ArcBeforeProblem line) = 1
@@ -28,6 +51,12 @@ status_of (serve.NodeRange line) = 1
 status_of serve.NoProblem = 1
 status_of (serve.ArcCount said found) = 1
 status_of serve.TooLong = 1
+status_of (serve.TraceBadLine line) = 1
+status_of (serve.TraceNumber line) = 1
+status_of (serve.TraceCount said found) = 1
+status_of (serve.NotLawful k) = 1
+status_of serve.NotEnded = 3
 status_of serve.Memory = 4
 status_of serve.Read = 5
 status_of (serve.Write written) = 5
+status_of serve.Unforeseen = 6

@@ -1,37 +1,65 @@
--- Command lines: the words that the program takes, what they ask for, and what is said of others.
-use Rattle.std.specs.Prelude.{◌≡◌, ◌≢◌, ℕ, true, codes, List, [], ◌∷◌, Option}
-use Rattle.std.specs.Option.{option_and_then}
-use Rattle.clap.specs.Kinds.{Kinds, IsAmong}
-use Rattle.clap.specs.Words.{App, Row, Text, fault_of, first_of, new_app, new_rule, subcommand_of, with_rule, with_subcommand}
+-- Command lines: what the words of the program ask for, and what is said of others.
+use Rattle.std.specs.Prelude.{◌≡◌, ◌≢◌, ◌↔◌, Bool, true, codes, List, [], ◌∷◌, Option, Some, None, if◌then◌else◌}
+use Rattle.std.specs.Str.{bytes_eq}
+use Rattle.std.specs.List.{list_any}
+use Rattle.std.specs.Option.{option_and_then, option_map}
+use Rattle.clap.specs.Kinds.{Kinds, IsAmong, or_else}
+use Rattle.clap.specs.Words.{Row, Text, fault_of, first_of, subcommand_of}
 use Rattle.clap.specs.declared.error.kind.ErrorKind.{ErrorKind}
 use Rattle.clap.specs.declared.error.kind.ErrorKind.TheVariants as kind
+use Rattle.ghs_world.specs.declared.wake_set.WakeSet.{WakeSet}
+use Rattle.ghs_world.specs.declared.wake_set.WakeSet.TheVariants.{First}
+use Rattle.ghs_cli.specs.Grammar.{program}
 use Rattle.ghs_cli.specs.declared.job.JobFault.{JobFault}
 use Rattle.ghs_cli.specs.declared.job.JobFault.TheVariants as fault
-
--- `tree [FILE]`
-abbrev pub tree_command : App
-tree_command = with_rule (new_app (codes "tree")) (new_rule (codes "FILE"))
-
--- the program's command line: its name and one of its commands
-unfoldable pub program : App
-program = let a = with_subcommand (new_app (codes "ghs")) tree_command.top in
-    record a { top = record a.top { subcommand_required = true } }
+use Rattle.ghs_cli.specs.declared.job.Task.{Task}
+use Rattle.ghs_cli.specs.declared.job.Task.TheVariants as task
 
 -- the words of a command line, with the program's name before them
 abbrev pub with_name : List Text → List Text
 with_name words = codes "ghs" ∷ words
 
--- the file among what was read for a command
-abbrev pub file_in_rows : Option (Text × List Row) → Option Text
-file_in_rows command = option_and_then (λ p. first_of (codes "FILE") p.1) command
+-- a command, and what was read for it
+abbrev pub Used : Type 0
+Used = Option (Text × List Row)
 
--- the file that the words name
-abbrev pub file_in : List Text → Option Text
-file_in words = file_in_rows (subcommand_of program (with_name words))
+-- the command that the words name
+abbrev pub command_in : List Text → Used
+command_in words = subcommand_of program (with_name words)
+
+-- its name
+abbrev pub name_in : Used → Option Text
+name_in command = option_map (λ p. p.0) command
+
+-- the value that one of its arguments has
+abbrev pub value_in : Text → Used → Option Text
+value_in id command = option_and_then (λ p. first_of id p.1) command
+
+-- the wake set that `--wake` names; a choice has only two values, or the words are refused
+abbrev pub IsWake : Used → WakeSet → Type 0
+IsWake command wake = (wake ≡ First) ↔ (value_in (codes "wake") command ≡ Some (codes "first"))
+
+-- the task that a command asks for
+abbrev pub IsTask : Used → Task → Type 0
+IsTask command task.Tree = name_in command ≢ Some (codes "replay")
+IsTask command (task.Replay wake) = (name_in command ≡ Some (codes "replay")) × IsWake command wake
+
+-- a value that isn't given, or one of these
+abbrev pub is_among : List Text → Option Text → Bool
+is_among choices None = true
+is_among choices (Some text) = list_any (λ choice. bytes_eq text choice) choices
+
+-- the choice of the command is one that there is
+abbrev pub has_choice : Used → Bool
+has_choice command = is_among (codes "all" ∷ codes "first" ∷ []) (value_in (codes "wake") command)
+
+-- what is wrong with the choice of a command
+abbrev pub choice_kinds : Used → Kinds
+choice_kinds command = if has_choice command then [] else kind.InvalidValue ∷ []
 
 -- why the words are no command line of the program; nothing where they are one
 abbrev pub kinds_of : List Text → Kinds
-kinds_of words = fault_of program (with_name words)
+kinds_of words = or_else (fault_of program (with_name words)) (choice_kinds (command_in words))
 
 -- help is for those who ask for it, a refusal for every other fault of the words; memory may always be wanting
 abbrev pub IsSaidOf : Kinds → JobFault → Type 0
@@ -44,3 +72,9 @@ abbrev pub IsSaid : ErrorKind → JobFault → Type 0
 IsSaid k (fault.Help text) = k ≡ kind.DisplayHelp
 IsSaid k (fault.Refused text) = (k ≢ kind.DisplayHelp) × (k ≢ kind.OutOfMemory)
 IsSaid k fault.Memory = Unit {0}
+
+-- a refusal, or want of memory
+abbrev pub IsRefused : JobFault → Type 0
+IsRefused (fault.Help text) = ⊥
+IsRefused (fault.Refused text) = Unit {0}
+IsRefused fault.Memory = Unit {0}

@@ -1,3 +1,4 @@
 pub mod Fault
+pub mod Grammar
 pub mod Job
 pub mod Serving

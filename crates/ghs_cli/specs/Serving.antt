@@ -1,19 +1,38 @@
 -- What the program's work comes to.
-use Rattle.std.specs.Prelude.{◌≡◌, ℕ, ◌<◌, Bool, true, false, List, length, map, Option, Result, Ok, Err, vec_len}
+use Rattle.std.specs.Prelude.{◌≡◌, ◌⊎◌, ℕ, ◌<◌, Bool, true, false, List, length, map, Option, Result, Ok, Err, IfSome}
 use Rattle.ghs_gr.specs.RawGraph.{RawShape}
 use Rattle.ghs_gr.specs.Judgement.{TextIs}
+use Rattle.ghs_gr.specs.Text.{IsTooLong}
 use Rattle.ghs_gr.specs.declared.fault.GrFault.TheVariants as gr
 use Rattle.ghs_graph.specs.declared.key.Key.{Key}
+use Rattle.ghs_graph.specs.Graph.{Shape}
 use Rattle.ghs_graph.specs.Key.{key_of}
 use Rattle.ghs_graph.specs.Links.{IsTree}
+use Rattle.ghs_protocol.specs.declared.event.Event.{Event}
+use Rattle.ghs_protocol.specs.Marks.{HasEnded}
+use Rattle.ghs_protocol.specs.Net.{Net}
+use Rattle.ghs_protocol.specs.Network.{network_of}
+use Rattle.ghs_protocol.specs.Run.{IsRunUnder, net_after}
+use Rattle.ghs_report.specs.NetText.{IsNetText}
 use Rattle.ghs_report.specs.TreeText.{tree_text}
 use Rattle.ghs_report.specs.Writing.{HasWritten}
+use Rattle.ghs_sched.specs.Reading.{HasEvents, HasFault}
+use Rattle.ghs_sched.specs.Replays.{IsFirstUnlawful}
+use Rattle.ghs_sched.specs.declared.fault.TraceFault.TheVariants as trace
+use Rattle.ghs_world.specs.declared.wake_set.WakeSet.{WakeSet}
+use Rattle.ghs_world.specs.Wakes.{may_wake}
 use Rattle.ghs_cli.specs.declared.fault.ServeFault.{ServeFault}
 use Rattle.ghs_cli.specs.declared.fault.ServeFault.TheVariants as serve
+use Rattle.ghs_cli.specs.declared.job.Task.{Task}
+use Rattle.ghs_cli.specs.declared.job.Task.TheVariants as task
 
 -- the keys of a graph's links
 abbrev pub keys_of : RawShape → List Key
 keys_of g = map key_of g.keys
+
+-- the graph that is built of it
+abbrev pub shape_of : RawShape → Shape
+shape_of g = record { nodes = g.nodes; keys = keys_of g }
 
 -- the input is the text of a graph, and the output that of its minimum spanning forest
 pub record IsTreeText (input output : List ℕ) : Type 0 where
@@ -23,25 +42,98 @@ pub record IsTreeText (input output : List ℕ) : Type 0 where
   pub least : IsTree (keys_of graph) tree
   pub printed : output ≡ tree_text tree
 
--- the input gives this fault; the reader and memory may fail for any input, and the writer for none
-abbrev pub IsCause : List ℕ → ServeFault → Type 0
-IsCause input (serve.BadLine line) = TextIs input (Err (gr.BadLine line))
-IsCause input (serve.ArcBeforeProblem line) = TextIs input (Err (gr.ArcBeforeProblem line))
-IsCause input (serve.SecondProblem line) = TextIs input (Err (gr.SecondProblem line))
-IsCause input (serve.Number line) = TextIs input (Err (gr.Number line))
-IsCause input (serve.NodeRange line) = TextIs input (Err (gr.NodeRange line))
-IsCause input serve.NoProblem = TextIs input (Err gr.NoProblem)
-IsCause input (serve.ArcCount said found) = TextIs input (Err (gr.ArcCount said found))
-IsCause input serve.TooLong = TextIs input (Err gr.TooLong)
-IsCause input serve.Memory = Unit {0}
-IsCause input serve.Read = Unit {0}
-IsCause input (serve.Write written) = ⊥
+-- what is stored is the text of these events
+abbrev pub IsTraceText : List ℕ → List Event → Type 0
+IsTraceText stored events = (IsTooLong stored → ⊥) × HasEvents stored events
 
--- what has gone out where the forest was asked for: all of its text, or only its first bytes, where a write failed
-abbrev pub Serves : List ℕ → Option (List ℕ) → Option (List ℕ) → Result (Unit {0}) ServeFault → Type 0
-Serves input old new (Ok u) = (output : List ℕ) × IsTreeText input output × HasWritten old new output (length output)
-Serves input old new (Err (serve.Write written)) = (output : List ℕ) × IsTreeText input output × (written < length output) × HasWritten old new output written
-Serves input old new (Err fault) = IsCause input fault
+-- the net of a graph after events
+abbrev pub net_at : RawShape → List Event → Net
+net_at g events = net_after (shape_of g) events
+
+-- events that are a run of the graph which has ended, and the output is the text of its net
+pub record IsReplayed (wake : WakeSet) (graph : RawShape) (events : List Event) (output : List ℕ) : Type 0 where
+  pub run : IsRunUnder (may_wake (shape_of graph) wake) (network_of (shape_of graph)) events
+  pub ended : HasEnded (shape_of graph) (net_at graph events)
+  pub printed : IsNetText (shape_of graph) (net_at graph events) output
+
+-- the input is the text of a graph, what is stored that of a run of it which has ended, and the output that of its net
+pub record IsReplayText (wake : WakeSet) (stored input output : List ℕ) : Type 0 where
+  pub graph : RawShape
+  pub text : TextIs input (Ok graph)
+  pub events : List Event
+  pub trace : IsTraceText stored events
+  pub replayed : IsReplayed wake graph events output
+
+-- what a task prints
+abbrev pub IsPrinted : Task → List ℕ → List ℕ → List ℕ → Type 0
+IsPrinted task.Tree stored input output = IsTreeText input output
+IsPrinted (task.Replay wake) stored input output = IsReplayText wake stored input output
+
+-- what is stored gives this fault; it may be too long, and the reader and memory may fail for any
+abbrev pub IsTraceCause : List ℕ → ServeFault → Type 0
+IsTraceCause stored (serve.TraceBadLine line) = (IsTooLong stored → ⊥) × HasFault stored (trace.BadLine line)
+IsTraceCause stored (serve.TraceNumber line) = (IsTooLong stored → ⊥) × HasFault stored (trace.Number line)
+IsTraceCause stored (serve.TraceCount said found) = (IsTooLong stored → ⊥) × HasFault stored (trace.Count said found)
+IsTraceCause stored serve.TooLong = IsTooLong stored
+IsTraceCause stored serve.Memory = Unit {0}
+IsTraceCause stored serve.Read = Unit {0}
+IsTraceCause stored _ = ⊥
+
+-- the input gives this fault; the reader and memory may fail for any
+abbrev pub IsGraphCause : List ℕ → ServeFault → Type 0
+IsGraphCause input (serve.BadLine line) = TextIs input (Err (gr.BadLine line))
+IsGraphCause input (serve.ArcBeforeProblem line) = TextIs input (Err (gr.ArcBeforeProblem line))
+IsGraphCause input (serve.SecondProblem line) = TextIs input (Err (gr.SecondProblem line))
+IsGraphCause input (serve.Number line) = TextIs input (Err (gr.Number line))
+IsGraphCause input (serve.NodeRange line) = TextIs input (Err (gr.NodeRange line))
+IsGraphCause input serve.NoProblem = TextIs input (Err gr.NoProblem)
+IsGraphCause input (serve.ArcCount said found) = TextIs input (Err (gr.ArcCount said found))
+IsGraphCause input serve.TooLong = TextIs input (Err gr.TooLong)
+IsGraphCause input serve.Memory = Unit {0}
+IsGraphCause input serve.Read = Unit {0}
+IsGraphCause input _ = ⊥
+
+-- why a net has no text: its run goes on
+abbrev pub GoesOn : Shape → Net → ServeFault → Type 0
+GoesOn g w serve.NotEnded = HasEnded g w → ⊥
+GoesOn g w serve.Memory = Unit {0}
+GoesOn g w _ = ⊥
+
+-- these events and this graph give this fault: the first event that isn't lawful, or a run that hasn't ended
+abbrev pub IsRunCause : WakeSet → RawShape → List Event → ServeFault → Type 0
+IsRunCause wake graph events (serve.NotLawful k) = IsFirstUnlawful (shape_of graph) wake events k
+IsRunCause wake graph events serve.NotEnded = IsRunUnder (may_wake (shape_of graph) wake) (network_of (shape_of graph)) events × (HasEnded (shape_of graph) (net_at graph events) → ⊥)
+IsRunCause wake graph events serve.Memory = Unit {0}
+IsRunCause wake graph events _ = ⊥
+
+-- a trace is stored and the input is the text of a graph, and they give this fault together
+pub record GiveFault (wake : WakeSet) (stored input : List ℕ) (fault : ServeFault) : Type 0 where
+  pub events : List Event
+  pub trace : IsTraceText stored events
+  pub graph : RawShape
+  pub text : TextIs input (Ok graph)
+  pub cause : IsRunCause wake graph events fault
+
+-- why a replay prints nothing: the trace, which is read first, the graph, or the run
+abbrev pub IsReplayCause : WakeSet → List ℕ → List ℕ → ServeFault → Type 0
+IsReplayCause wake stored input fault =
+    IsTraceCause stored fault ⊎ (((events : List Event) × IsTraceText stored events × IsGraphCause input fault) ⊎ GiveFault wake stored input fault)
+
+-- why a task prints nothing
+abbrev pub IsCause : Task → List ℕ → List ℕ → ServeFault → Type 0
+IsCause task.Tree stored input fault = IsGraphCause input fault
+IsCause (task.Replay wake) stored input fault = IsReplayCause wake stored input fault
+
+-- what has gone out: all of what the task prints, or only its first bytes, where a write failed
+abbrev pub Serves : Task → List ℕ → List ℕ → Option (List ℕ) → Option (List ℕ) → Result (Unit {0}) ServeFault → Type 0
+Serves job stored input old new (Ok u) = (output : List ℕ) × IsPrinted job stored input output × HasWritten old new output (length output)
+Serves job stored input old new (Err (serve.Write written)) = (output : List ℕ) × IsPrinted job stored input output × (written < length output) × HasWritten old new output written
+Serves job stored input old new (Err fault) = IsCause job stored input fault
+
+-- what is stored, where the task reads it; other tasks read nothing
+abbrev pub IfStored : Task → Option (List ℕ) → (List ℕ → Type 0) → Type 0
+IfStored task.Tree stored P = (bytes : List ℕ) → P bytes
+IfStored (task.Replay wake) stored P = IfSome stored P
 
 abbrev pub is_write : ServeFault → Bool
 is_write (serve.Write written) = true
@@ -56,3 +148,8 @@ IsWrite (Err fault) = is_write fault ≡ true
 abbrev pub IsUnwritten : {W : Type 0} → W → W → Result (Unit {0}) ServeFault → Type 0
 IsUnwritten old new (Ok u) = Unit {0}
 IsUnwritten old new (Err fault) = is_write fault ≡ false → new ≡ old
+
+-- only a replay touches the trace
+abbrev pub IsUnread : {T : Type 0} → Task → T → T → Type 0
+IsUnread task.Tree old new = new ≡ old
+IsUnread (task.Replay wake) old new = Unit {0}

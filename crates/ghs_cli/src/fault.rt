@@ -1,9 +1,11 @@
 //! Why the program gives no answer.
-ghost use Rattle.ghs_cli.specs.Fault.{of_gr, status_of};
+ghost use Rattle.ghs_cli.specs.Fault.{of_gr, of_replay, of_text, of_trace, status_of};
 ghost use Rattle.std.specs.Prelude.{◌≡◌};
 
-use ghs_report::write_out::Partial;
 use ghs_gr::fault::GrFault;
+use ghs_gr::text::TextFault;
+use ghs_report::write_out::Partial;
+use ghs_sched::fault::{ReplayFault, TraceFault};
 use std::alloc::AllocError;
 use thiserror::Error;
 
@@ -26,24 +28,38 @@ pub enum ServeFault {
     ArcCount { said: u32, found: u32 },
     #[error("input too long")]
     TooLong,
+    #[error("trace line {0}: not a line of this format")]
+    TraceBadLine(u64),
+    #[error("trace line {0}: number missing or out of range")]
+    TraceNumber(u64),
+    #[error("events said {said}, found {found}")]
+    TraceCount { said: u64, found: u64 },
+    #[error("trace event {0} is not lawful")]
+    NotLawful(u64),
+    #[error("the run has not ended")]
+    NotEnded,
     #[error("out of memory")]
     Memory,
     #[error("input could not be read")]
     Read,
     #[error("output failed after {written} bytes")]
     Write { written: usize },
+    #[error("a message met a state that has no rule")]
+    Unforeseen,
 }
 
 impl ServeFault {
-    /// The program's exit status: 1 where the input is refused, 4 for want of memory, 5 where a read or a write
-    /// failed.
+    /// The program's exit status: 1 where the input is refused, 3 where a run hasn't ended, 4 for want of memory, 5 where
+    /// a read or a write failed, 6 for a state that has no rule.
     pub fn status(&self) -> u8
         ensures { result ≡ status_of self.now }
     {
         match self {
+            ServeFault::NotEnded => 3,
             ServeFault::Memory => 4,
             ServeFault::Read => 5,
             ServeFault::Write { written: _ } => 5,
+            ServeFault::Unforeseen => 6,
             _ => 1,
         }
     }
@@ -64,6 +80,43 @@ impl From<GrFault> for ServeFault {
             GrFault::NodeRange(line) => ServeFault::NodeRange(line),
             GrFault::NoProblem => ServeFault::NoProblem,
             GrFault::ArcCount { said, found } => ServeFault::ArcCount { said, found },
+        }
+    }
+}
+
+impl From<TextFault> for ServeFault {
+    ghost from_gives = { λ x e. e ≡ of_text x };
+
+    fn from(fault: TextFault) -> ServeFault {
+        match fault {
+            TextFault::Read => ServeFault::Read,
+            TextFault::TooLong => ServeFault::TooLong,
+            TextFault::Memory => ServeFault::Memory,
+        }
+    }
+}
+
+impl From<TraceFault> for ServeFault {
+    ghost from_gives = { λ x e. e ≡ of_trace x };
+
+    fn from(fault: TraceFault) -> ServeFault {
+        match fault {
+            TraceFault::BadLine(line) => ServeFault::TraceBadLine(line),
+            TraceFault::Number(line) => ServeFault::TraceNumber(line),
+            TraceFault::Count { said, found } => ServeFault::TraceCount { said, found },
+            TraceFault::Memory => ServeFault::Memory,
+        }
+    }
+}
+
+impl From<ReplayFault> for ServeFault {
+    ghost from_gives = { λ x e. e ≡ of_replay x };
+
+    fn from(fault: ReplayFault) -> ServeFault {
+        match fault {
+            ReplayFault::NotLawful(event) => ServeFault::NotLawful(event),
+            ReplayFault::Unforeseen(_) => ServeFault::Unforeseen,
+            ReplayFault::Memory => ServeFault::Memory,
         }
     }
 }

@@ -1,13 +1,15 @@
 //! Command lines.
 ghost use Rattle.ghs_cli.specs.declared.job.JobFault.TheVariants.{Memory};
-ghost use Rattle.ghs_cli.specs.declared.job.Task.TheVariants.{Tree};
-ghost use Rattle.ghs_cli.specs.Job.{file_in, file_in_rows, kinds_of, program, with_name, IsSaid, IsSaidOf};
-ghost use Rattle.clap.specs.Words.{app_of, kind_of, subcommand_rows_of};
+ghost use Rattle.ghs_cli.specs.Grammar.{program};
+ghost use Rattle.ghs_cli.specs.Job.{choice_kinds, command_in, is_among, kinds_of, name_in, value_in, with_name, IsRefused, IsSaid, IsSaidOf, IsTask, IsWake};
+ghost use Rattle.clap.specs.Words.{kind_of, subcommand_rows_of};
 ghost use Rattle.std.specs.Option.{option_map};
-ghost use Rattle.std.specs.Prelude.{◌≡◌, [], IfErr, IfOk, IsNone, OnOk, map, string_bytes};
+ghost use Rattle.std.specs.Prelude.{◌≡◌, ◌↔◌, ◌∷◌, [], IfErr, IfOk, OnErr, OnOk, Some, codes, map, string_bytes, true};
 
+use crate::grammar::program;
 use clap::error::ErrorKind;
-use clap::{Arg, ArgMatches, Command, Error};
+use clap::{ArgMatches, Error};
+use ghs_world::wake_set::WakeSet;
 use std::alloc::{AllocError, Global};
 
 /// What is to be done.
@@ -15,6 +17,8 @@ use std::alloc::{AllocError, Global};
 pub enum Task {
     /// Print the minimum spanning forest.
     Tree,
+    /// Play a stored run again.
+    Replay { wake: WakeSet },
 }
 
 /// What a command line asks for: the file of the graph (standard input where there is none), the file of a
@@ -45,21 +49,18 @@ impl From<AllocError> for JobFault {
     }
 }
 
-/// The job of a command line: the words after the program's name. The words are taken as `clap` takes them.
+/// The job of a command line: the words after the program's name. The words are taken as `clap` takes them, and a
+/// choice has to be one that there is.
 pub fn read_job(alloc: Global, words: &[String]) -> Result<Job, JobFault>
-    ensures task { IfOk result (λ job. job.task ≡ Tree) }
-    ensures trace { IfOk result (λ job. IsNone job.trace) }
-    ensures graph { IfOk result (λ job. option_map string_bytes job.graph ≡ file_in (map string_bytes words.now)) }
+    ensures task { IfOk result (λ job. IsTask (command_in (map string_bytes words.now)) job.task) }
+    ensures trace { IfOk result (λ job. option_map string_bytes job.trace ≡ value_in (codes "TRACE") (command_in (map string_bytes words.now))) }
+    ensures graph { IfOk result (λ job. option_map string_bytes job.graph ≡ value_in (codes "FILE") (command_in (map string_bytes words.now))) }
     ensures taken { OnOk result (kinds_of (map string_bytes words.now) ≡ []) }
     ensures fault { IfErr result (IsSaidOf (kinds_of (map string_bytes words.now))) }
 {
     let line = line_of(alloc, words)?;
     match program(alloc)?.try_get_matches_from(&line) {
-        Ok(matches) => Ok(Job {
-            graph: owned(alloc, file_of(&matches))?,
-            trace: None,
-            task: Task::Tree,
-        }),
+        Ok(matches) => job_of(alloc, &matches),
         Err(error) => Err(fault_of(alloc, &error)),
     }
 }
@@ -76,32 +77,76 @@ fn line_of<'a>(alloc: Global, words: &'a [String]) -> Result<Vec<&'a str>, Alloc
     Ok(line)
 }
 
-/// The words that the program takes.
-#[tactic(auto, unfolding(crate::specs::Job::program))]
-fn program<'a>(alloc: Global) -> Result<Command<'a>, AllocError>
-    ensures { IfOk result (λ command. app_of command ≡ program) }
+/// The job of words that `clap` takes.
+fn job_of<'a>(alloc: Global, matches: &ArgMatches<'a>) -> Result<Job, JobFault>
+    ensures task { IfOk result (λ job. IsTask (subcommand_rows_of matches.now) job.task) }
+    ensures trace { IfOk result (λ job. option_map string_bytes job.trace ≡ value_in (codes "TRACE") (subcommand_rows_of matches.now)) }
+    ensures graph { IfOk result (λ job. option_map string_bytes job.graph ≡ value_in (codes "FILE") (subcommand_rows_of matches.now)) }
+    ensures taken { OnOk result (choice_kinds (subcommand_rows_of matches.now) ≡ []) }
+    ensures fault { IfErr result (IsSaidOf (choice_kinds (subcommand_rows_of matches.now))) }
 {
-    let file = Arg::new(alloc, "FILE").help(
-        "The graph, in the .gr format; standard input where none is named",
-    );
-    let tree = Command::new(alloc, "tree")
-        .about("Prints the minimum spanning forest of a graph")
-        .arg(file)?;
-    Ok(
-        Command::new(alloc, "ghs")
-            .about("Minimum spanning trees of networks")
-            .subcommand_required(true)
-            .subcommand(tree)?,
-    )
+    let wake = value_of(matches, "wake");
+    if !is_among(wake, "all", "first") {
+        return Err(unknown_choice(alloc, "wake", wake, "all, first"));
+    }
+    Ok(Job {
+        graph: owned(alloc, value_of(matches, "FILE"))?,
+        trace: owned(alloc, value_of(matches, "TRACE"))?,
+        task: task_of(matches),
+    })
 }
 
-/// The file that a command was given.
-fn file_of<'a>(matches: &ArgMatches<'a>) -> Option<&'a str>
-    ensures { option_map (λ t. t.now) result ≡ file_in_rows (subcommand_rows_of matches.now) }
+/// The task of a command.
+fn task_of<'a>(matches: &ArgMatches<'a>) -> Task
+    ensures { IsTask (subcommand_rows_of matches.now) result }
+{
+    if matches.subcommand_name() == Some("replay") {
+        Task::Replay {
+            wake: wake_of(matches),
+        }
+    } else {
+        Task::Tree
+    }
+}
+
+/// Which nodes wake by themselves.
+fn wake_of<'a>(matches: &ArgMatches<'a>) -> WakeSet
+    ensures { IsWake (subcommand_rows_of matches.now) result }
+{
+    if is_text(value_of(matches, "wake"), "first") {
+        WakeSet::First
+    } else {
+        WakeSet::All
+    }
+}
+
+/// The value that an argument of the command has.
+fn value_of<'a>(matches: &ArgMatches<'a>, id: &str) -> Option<&'a str>
+    ensures { option_map (λ t. t.now) result ≡ value_in id.now (subcommand_rows_of matches.now) }
 {
     match matches.subcommand() {
-        Some((_, command)) => command.get_str("FILE"),
+        Some((_, command)) => command.get_str(id),
         None => None,
+    }
+}
+
+/// Whether this is the value.
+fn is_text(value: Option<&str>, text: &str) -> bool
+    ensures { (result ≡ true) ↔ (option_map (λ t. t.now) value.entry ≡ Some text.now) }
+{
+    match value {
+        Some(value) => value == text,
+        None => false,
+    }
+}
+
+/// Whether there is no value, or one of these two.
+fn is_among(value: Option<&str>, one: &str, other: &str) -> bool
+    ensures { result ≡ is_among (one.now ∷ other.now ∷ []) (option_map (λ t. t.now) value.entry) }
+{
+    match value {
+        Some(value) => value == one || value == other,
+        None => true,
     }
 }
 
@@ -112,6 +157,19 @@ fn owned(alloc: Global, text: Option<&str>) -> Result<Option<String>, AllocError
     match text {
         Some(text) => Ok(Some(String::from_str(alloc, text)?)),
         None => Ok(None),
+    }
+}
+
+/// What is said of a choice that there isn't, in `clap`'s words.
+fn unknown_choice(alloc: Global, id: &str, value: Option<&str>, choices: &str) -> JobFault
+    ensures { IsRefused result }
+{
+    let value = value.unwrap_or("");
+    match format!(in alloc;
+        "error: invalid value '{value}' for '--{id} <{id}>'\n  [possible values: {choices}]\n\nFor more information, try '--help'.\n"
+    ) {
+        Ok(text) => JobFault::Refused(text),
+        Err(_) => JobFault::Memory,
     }
 }
 

@@ -2,5 +2,6 @@
 #![tactic(auto)]
 
 pub mod fault;
+mod grammar;
 pub mod job;
 pub mod serve;

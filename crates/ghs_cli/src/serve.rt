@@ -1,20 +1,36 @@
 //! The work that a job asks for.
-ghost use Rattle.ghs_cli.specs.Serving.{Serves, IsTreeText, IsCause, IsWrite, IsUnwritten, is_write};
+ghost use Rattle.ghs_core.specs.NetState.{network};
+ghost use Rattle.ghs_protocol.specs.Marks.{HasEnded};
+ghost use Rattle.ghs_protocol.specs.Run.{IsRunUnder};
+ghost use Rattle.ghs_report.specs.NetText.{IsNetText};
+ghost use Rattle.ghs_world.specs.WorldState.{home, wakers};
+ghost use Rattle.ghs_cli.specs.Serving.{GoesOn, IfStored, IsCause, IsGraphCause, IsReplayCause, IsReplayText, IsReplayed, IsPrinted, IsRunCause, IsTraceCause, IsTraceText, IsTreeText, IsUnread, IsUnwritten, IsWrite, Serves, is_write};
 ghost use Rattle.ghs_cli.specs.declared.fault.ServeFault.{ServeFault};
-ghost use Rattle.std.specs.Prelude.{◌≡◌, ◌≢◌, ◌↔◌, false, true, IfSome, IsErrOf, OnErr, IfErr, IfOk, Err, Ok};
+ghost use Rattle.ghs_sched.specs.declared.trace.TheConstants.{EVENT_LIMIT};
+ghost use Rattle.std.specs.Prelude.{◌≡◌, ◌≢◌, ◌≤◌, ◌⊎◌, ◌↔◌, false, length, true, IfSome, IsErrOf, OnOk, IfErr, IfOk};
 
 use crate::fault::ServeFault;
 use crate::job::{Job, Task};
-use ghs_report::tree_text::tree_text;
-use ghs_report::write_out::write_out;
 use ghs_gr::device::{Sink, Source};
 use ghs_gr::judgement::read_gr;
+use ghs_gr::raw_graph::RawGraph;
+use ghs_gr::text::read_text;
+use ghs_graph::graph::Graph;
 use ghs_graph::tree::tree_of;
+use ghs_protocol::event::Event;
+use ghs_report::net_text::{ReportFault, net_text};
+use ghs_report::tree_text::tree_text;
+use ghs_report::write_out::write_out;
+use ghs_sched::replay::replay;
+use ghs_sched::trace::read_trace;
+use ghs_world::wake_set::WakeSet;
+use ghs_world::world::World;
 use std::alloc::Global;
 
-/// Does what the job asks for: reads the graph, and writes what is to be printed. The output is made whole before
-/// its first byte goes out. Of several faults the first in the order of work counts: reading the graph, judging it,
-/// the writing; want of memory comes where it is met. The trace is for the replay of a run, and isn't touched.
+/// Does what the job asks for: reads what it needs, and writes what is to be printed. The output is made whole before
+/// its first byte goes out. Of several faults the first in the order of work counts: reading the trace, judging it,
+/// reading the graph, judging it, the replay, the writing; want of memory comes where it is met. Only a replay touches
+/// the trace.
 pub fn serve<R: Source, T: Source, W: Sink>(
     alloc: Global,
     job: &Job,
@@ -23,29 +39,116 @@ pub fn serve<R: Source, T: Source, W: Sink>(
     out: &mut W,
 ) -> Result<(), ServeFault>
     requires graph { R.has_failed graph.old ≡ false }
+    requires trace { T.has_failed trace.old ≡ false }
     requires out { W.has_failed out.old ≡ false }
-    ensures serves { IfSome (R.left graph.old) (λ input. Serves input (W.held out.old) (W.held out.new) result) }
-    ensures read { IsErrOf result ServeFault.Read ↔ (R.has_failed graph.new ≡ true) }
+    ensures serves { IfStored job.now.task (T.left trace.old) (λ stored. IfSome (R.left graph.old) (λ input. Serves job.now.task stored input (W.held out.old) (W.held out.new) result)) }
+    ensures read { IsErrOf result ServeFault.Read ↔ ((R.has_failed graph.new ≡ true) ⊎ (T.has_failed trace.new ≡ true)) }
     ensures write { IsWrite result ↔ (W.has_failed out.new ≡ true) }
     ensures unwritten { IsUnwritten out.old out.new result }
-    ensures trace { trace.new ≡ trace.old }
+    ensures trace { IsUnread job.now.task trace.old trace.new }
 {
-    let text = match job.task {
-        Task::Tree => tree_text_of(alloc, graph)?,
-    };
+    let text = text_of(alloc, &job.task, graph, trace)?;
     write_out(out, &text)?;
     Ok(())
+}
+
+/// What a task prints.
+fn text_of<R: Source, T: Source>(
+    alloc: Global,
+    task: &Task,
+    graph: &mut R,
+    trace: &mut T,
+) -> Result<Vec<u8>, ServeFault>
+    requires graph { R.has_failed graph.old ≡ false }
+    requires trace { T.has_failed trace.old ≡ false }
+    ensures text { IfOk result (λ text. IfStored task.now (T.left trace.old) (λ stored. IfSome (R.left graph.old) (λ input. IsPrinted task.now stored input text.items))) }
+    ensures fault { IfErr result (λ fault. IfStored task.now (T.left trace.old) (λ stored. IfSome (R.left graph.old) (λ input. IsCause task.now stored input fault))) }
+    ensures early { IfErr result (λ fault. is_write fault ≡ false) }
+    ensures read { IsErrOf result ServeFault.Read ↔ ((R.has_failed graph.new ≡ true) ⊎ (T.has_failed trace.new ≡ true)) }
+    ensures trace { IsUnread task.now trace.old trace.new }
+{
+    match task {
+        Task::Tree => tree_text_of(alloc, graph),
+        Task::Replay { wake } => replay_text_of(alloc, *wake, graph, trace),
+    }
 }
 
 /// The text of the minimum spanning forest of the graph that the device gives.
 fn tree_text_of<R: Source>(alloc: Global, graph: &mut R) -> Result<Vec<u8>, ServeFault>
     requires { R.has_failed graph.old ≡ false }
     ensures text { IfOk result (λ text. IfSome (R.left graph.old) (λ input. IsTreeText input text.items)) }
-    ensures fault { IfErr result (λ fault. IfSome (R.left graph.old) (λ input. IsCause input fault)) }
+    ensures fault { IfErr result (λ fault. IfSome (R.left graph.old) (λ input. IsGraphCause input fault)) }
     ensures early { IfErr result (λ fault. is_write fault ≡ false) }
     ensures read { IsErrOf result ServeFault.Read ↔ (R.has_failed graph.new ≡ true) }
 {
     let raw = read_gr(alloc, graph)?;
     let tree = tree_of(alloc, &raw)?;
     Ok(tree_text(alloc, &tree)?)
+}
+
+/// The text of the net that a stored run leaves of the graph that a device gives.
+fn replay_text_of<R: Source, T: Source>(
+    alloc: Global,
+    wake: WakeSet,
+    graph: &mut R,
+    trace: &mut T,
+) -> Result<Vec<u8>, ServeFault>
+    requires graph { R.has_failed graph.old ≡ false }
+    requires trace { T.has_failed trace.old ≡ false }
+    ensures text { IfOk result (λ text. IfSome (T.left trace.old) (λ stored. IfSome (R.left graph.old) (λ input. IsReplayText wake stored input text.items))) }
+    ensures fault { IfErr result (λ fault. IfSome (T.left trace.old) (λ stored. IfSome (R.left graph.old) (λ input. IsReplayCause wake stored input fault))) }
+    ensures early { IfErr result (λ fault. is_write fault ≡ false) }
+    ensures read { IsErrOf result ServeFault.Read ↔ ((R.has_failed graph.new ≡ true) ⊎ (T.has_failed trace.new ≡ true)) }
+{
+    let events = events_of(alloc, trace)?;
+    let raw = read_gr(alloc, graph)?;
+    replayed(alloc, wake, raw, &events)
+}
+
+/// The events whose text the device gives.
+fn events_of<T: Source>(alloc: Global, trace: &mut T) -> Result<Vec<Event>, ServeFault>
+    requires { T.has_failed trace.old ≡ false }
+    ensures events { IfOk result (λ events. IfSome (T.left trace.old) (λ stored. IsTraceText stored events.items)) }
+    ensures few { IfOk result (λ events. length events.items ≤ EVENT_LIMIT) }
+    ensures fault { IfErr result (λ fault. IfSome (T.left trace.old) (λ stored. IsTraceCause stored fault)) }
+    ensures early { IfErr result (λ fault. is_write fault ≡ false) }
+    ensures read { IsErrOf result ServeFault.Read ↔ (T.has_failed trace.new ≡ true) }
+{
+    let text = read_text(alloc, trace)?;
+    Ok(read_trace(alloc, &text)?)
+}
+
+/// The text of the net that a list of events leaves of a graph.
+fn replayed(
+    alloc: Global,
+    wake: WakeSet,
+    raw: RawGraph,
+    events: &[Event],
+) -> Result<Vec<u8>, ServeFault>
+    requires { length events.now ≤ EVENT_LIMIT }
+    ensures text { IfOk result (λ text. IsReplayed wake raw events.now text.items) }
+    ensures fault { IfErr result (λ fault. IsRunCause wake raw events.now fault) }
+{
+    let Ok(graph) = Graph::build(alloc, raw) else {
+        return Err(ServeFault::Memory);
+    };
+    match replay(alloc, graph, wake, events) {
+        Ok(world) => finished(alloc, &world),
+        Err((_, fault)) => Err(fault.into()),
+    }
+}
+
+/// The text of a world whose run has ended.
+fn finished(alloc: Global, world: &World) -> Result<Vec<u8>, ServeFault>
+    ensures text { IfOk result (λ text. IsNetText world.now.net.graph (home world.now) text.items) }
+    ensures ended { OnOk result (HasEnded world.now.net.graph (home world.now)) }
+    ensures fault { IfErr result (λ fault. GoesOn world.now.net.graph (home world.now) fault) }
+    ensures run { IsRunUnder (wakers world.now) (network world.now.net) world.now.net.trace }
+{
+    let net = world.net();
+    match net_text(alloc, net) {
+        Ok(text) => Ok(text),
+        Err(ReportFault::NotEnded) => Err(ServeFault::NotEnded),
+        Err(ReportFault::Memory) => Err(ServeFault::Memory),
+    }
 }

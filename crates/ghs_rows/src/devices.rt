@@ -1,12 +1,13 @@
 //! Devices in memory, whole and failing, and what the program does over them.
 ghost use Rattle.std.specs.Io.KnownBytes.{ReadConsumes, WriteAppends};
 ghost use Rattle.std.specs.Io.{ReadsAtMost, WritesAtMost};
-ghost use Rattle.std.specs.Prelude.{None};
+ghost use Rattle.std.specs.Prelude.{None, false, ◌≡◌};
 
 use ghs_cli::fault::ServeFault;
 use ghs_cli::job::{Job, Task};
 use ghs_cli::serve::serve;
-use ghs_gr::device::Device;
+use ghs_gr::device::{Device, Source};
+use ghs_world::wake_set::WakeSet;
 use std::alloc::Global;
 use std::io;
 use std::io::{Read, Write};
@@ -68,5 +69,36 @@ pub fn tree_of(alloc: Global, input: &[u8]) -> (Result<(), ServeFault>, Vec<u8>)
     let mut written = Vec::new(alloc);
     let mut out = Device::of(&mut written);
     let result = serve(alloc, &tree_job(), &mut graph, &mut trace, &mut out);
+    (result, written)
+}
+
+/// What `ghs replay` answers and writes, of this stored run and this graph.
+pub fn replay_of(
+    alloc: Global,
+    wake: WakeSet,
+    stored: &[u8],
+    input: &[u8],
+) -> (Result<(), ServeFault>, Vec<u8>) {
+    replay_from(alloc, wake, &mut Device::of(stored), input)
+}
+
+/// The same of a run that a device gives.
+pub fn replay_from<T: Source>(
+    alloc: Global,
+    wake: WakeSet,
+    trace: &mut T,
+    input: &[u8],
+) -> (Result<(), ServeFault>, Vec<u8>)
+    requires { T.has_failed trace.old ≡ false }
+{
+    let job = Job {
+        graph: None,
+        trace: None,
+        task: Task::Replay { wake },
+    };
+    let mut graph = Device::of(input);
+    let mut written = Vec::new(alloc);
+    let mut out = Device::of(&mut written);
+    let result = serve(alloc, &job, &mut graph, trace, &mut out);
     (result, written)
 }

@@ -10,6 +10,8 @@ mod nets;
 #[cfg(test)]
 mod queues;
 #[cfg(test)]
+mod replays;
+#[cfg(test)]
 mod texts;
 #[cfg(test)]
 mod traces;

@@ -43,6 +43,7 @@ fn refusals(rt: HostRuntime) -> Result<(), Fail> {
         "run --turns 0",
         "run",
         "replay",
+        "replay --wake none run.trace",
         "tree a b",
         "tree --fast",
         "forest",

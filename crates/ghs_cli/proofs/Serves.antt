@@ -1,0 +1,116 @@
+-- What serving comes to, put together from its parts.
+use Rattle.std.proofs.Common.{◌≡◌, ℕ, ◌<◌, false, List, Option, Some, None, inr, length, map, refl, subst}
+use Rattle.std.specs.Prelude.{IfErr, IfOk, IfSome, OnOk, Result, Ok, Err}
+use Rattle.ghs_gr.specs.Judgement.{TextIs}
+use Rattle.ghs_gr.specs.RawGraph.{RawShape}
+use Rattle.ghs_graph.specs.declared.key.Key.{Key}
+use Rattle.ghs_graph.specs.Graph.{Shape}
+use Rattle.ghs_graph.specs.Key.{key_of}
+use Rattle.ghs_protocol.specs.declared.event.Event.{Event}
+use Rattle.ghs_protocol.specs.Marks.{HasEnded}
+use Rattle.ghs_protocol.specs.Network.{network_of}
+use Rattle.ghs_protocol.specs.Run.{IsRunUnder, net_after}
+use Rattle.ghs_report.specs.NetText.{IsNetText}
+use Rattle.ghs_report.specs.Writing.{HasWritten}
+use Rattle.ghs_world.specs.declared.wake_set.WakeSet.{WakeSet}
+use Rattle.ghs_world.specs.Wakes.{may_wake}
+use Rattle.ghs_cli.specs.declared.fault.ServeFault.{ServeFault}
+use Rattle.ghs_cli.specs.declared.fault.ServeFault.TheVariants as serve
+use Rattle.ghs_cli.specs.declared.job.Task.{Task}
+use Rattle.ghs_cli.specs.declared.job.Task.TheVariants as task
+use Rattle.ghs_cli.specs.Serving.{GoesOn, IfStored, IsCause, IsPrinted, IsReplayCause, IsReplayed, IsRunCause, IsTraceText, Serves, is_write, shape_of}
+
+-- what follows for each stored text follows where the task reads one
+pub if_stored : (job : Task) (stored : Option (List ℕ)) (P Q : List ℕ → Type 0) → ((bytes : List ℕ) → P bytes → Q bytes) → IfStored job stored P → IfStored job stored Q
+if_stored task.Tree stored P Q f all = λ bytes. f bytes (all bytes)
+if_stored (task.Replay wake) None P Q f all = tt
+if_stored (task.Replay wake) (Some bytes) P Q f all = f bytes all
+
+pub if_some : (o : Option (List ℕ)) (P Q : List ℕ → Type 0) → ((bytes : List ℕ) → P bytes → Q bytes) → IfSome o P → IfSome o Q
+if_some None P Q f all = tt
+if_some (Some bytes) P Q f all = f bytes all
+
+-- a fault that is no failed write is served by its cause
+pub serves_cause : (job : Task) (stored input : List ℕ) (old new : Option (List ℕ)) (fault : ServeFault) → is_write fault ≡ false → IsCause job stored input fault → Serves job stored input old new (Err fault)
+serves_cause job stored input old new (serve.BadLine line) early cause = cause
+serves_cause job stored input old new (serve.ArcBeforeProblem line) early cause = cause
+serves_cause job stored input old new (serve.SecondProblem line) early cause = cause
+serves_cause job stored input old new (serve.Number line) early cause = cause
+serves_cause job stored input old new (serve.NodeRange line) early cause = cause
+serves_cause job stored input old new serve.NoProblem early cause = cause
+serves_cause job stored input old new (serve.ArcCount said found) early cause = cause
+serves_cause job stored input old new serve.TooLong early cause = cause
+serves_cause job stored input old new (serve.TraceBadLine line) early cause = cause
+serves_cause job stored input old new (serve.TraceNumber line) early cause = cause
+serves_cause job stored input old new (serve.TraceCount said found) early cause = cause
+serves_cause job stored input old new (serve.NotLawful k) early cause = cause
+serves_cause job stored input old new serve.NotEnded early cause = cause
+serves_cause job stored input old new serve.Memory early cause = cause
+serves_cause job stored input old new serve.Read early cause = cause
+serves_cause job stored input old new (serve.Write written) early cause = cc
+serves_cause job stored input old new serve.Unforeseen early cause = cause
+
+-- a graph and a trace that give a fault together
+pub faults_together : {A : Type 0} (r : Result A ServeFault) (wake : WakeSet) (graph : RawShape) (events : List Event) (stored input : Option (List ℕ)) → IfErr r (IsRunCause wake graph events) → IfSome stored (λ s. IsTraceText s events) → IfSome input (λ i. TextIs i (Ok graph)) → IfErr r (λ fault. IfSome stored (λ s. IfSome input (λ i. IsReplayCause wake s i fault)))
+faults_together (Ok x) wake graph events stored input cause trace text = tt
+faults_together (Err fault) wake graph events None input cause trace text = tt
+faults_together (Err fault) wake graph events (Some s) None cause trace text = tt
+faults_together (Err fault) wake graph events (Some s) (Some i) cause trace text = inr (inr (record { events = events; trace = trace; graph = graph; text = text; cause = cause }))
+
+-- a world that stands at the end of events has their text
+pub is_replayed : (wake own : WakeSet) (raw : RawShape) (g : Shape) (done events : List Event) (text : List ℕ) → g ≡ shape_of raw → done ≡ events → own ≡ wake → IsRunUnder (may_wake g own) (network_of g) done → HasEnded g (net_after g done) → IsNetText g (net_after g done) text → IsReplayed wake raw events text
+is_replayed wake own raw g done events text graph trace wakes run ended printed = record {
+  run = subst (λ (s : Shape). IsRunUnder (may_wake s wake) (network_of s) events) graph (subst (λ (es : List Event). IsRunUnder (may_wake g wake) (network_of g) es) trace (subst (λ (w : WakeSet). IsRunUnder (may_wake g w) (network_of g) done) wakes run));
+  ended = subst (λ (s : Shape). HasEnded s (net_after s events)) graph (subst (λ (es : List Event). HasEnded g (net_after g es)) trace ended);
+  printed = subst (λ (s : Shape). IsNetText s (net_after s events) text) graph (subst (λ (es : List Event). IsNetText g (net_after g es) text) trace printed);
+}
+
+-- a world whose run goes on gives its fault
+pub goes_on : (wake own : WakeSet) (raw : RawShape) (g : Shape) (done events : List Event) (fault : ServeFault) → g ≡ shape_of raw → done ≡ events → own ≡ wake → IsRunUnder (may_wake g own) (network_of g) done → GoesOn g (net_after g done) fault → IsRunCause wake raw events fault
+goes_on wake own raw g done events serve.NotEnded graph trace wakes run goes = (
+  subst (λ (s : Shape). IsRunUnder (may_wake s wake) (network_of s) events) graph (subst (λ (es : List Event). IsRunUnder (may_wake g wake) (network_of g) es) trace (subst (λ (w : WakeSet). IsRunUnder (may_wake g w) (network_of g) done) wakes run)),
+  subst (λ (s : Shape). HasEnded s (net_after s events) → ⊥) graph (subst (λ (es : List Event). HasEnded g (net_after g es) → ⊥) trace goes),
+)
+goes_on wake own raw g done events serve.Memory graph trace wakes run goes = tt
+goes_on wake own raw g done events (serve.BadLine line) graph trace wakes run goes = absurd goes
+goes_on wake own raw g done events (serve.ArcBeforeProblem line) graph trace wakes run goes = absurd goes
+goes_on wake own raw g done events (serve.SecondProblem line) graph trace wakes run goes = absurd goes
+goes_on wake own raw g done events (serve.Number line) graph trace wakes run goes = absurd goes
+goes_on wake own raw g done events (serve.NodeRange line) graph trace wakes run goes = absurd goes
+goes_on wake own raw g done events serve.NoProblem graph trace wakes run goes = absurd goes
+goes_on wake own raw g done events (serve.ArcCount said found) graph trace wakes run goes = absurd goes
+goes_on wake own raw g done events serve.TooLong graph trace wakes run goes = absurd goes
+goes_on wake own raw g done events (serve.TraceBadLine line) graph trace wakes run goes = absurd goes
+goes_on wake own raw g done events (serve.TraceNumber line) graph trace wakes run goes = absurd goes
+goes_on wake own raw g done events (serve.TraceCount said found) graph trace wakes run goes = absurd goes
+goes_on wake own raw g done events (serve.NotLawful k) graph trace wakes run goes = absurd goes
+goes_on wake own raw g done events serve.Read graph trace wakes run goes = absurd goes
+goes_on wake own raw g done events (serve.Write written) graph trace wakes run goes = absurd goes
+goes_on wake own raw g done events serve.Unforeseen graph trace wakes run goes = absurd goes
+
+-- what follows for each value, or each fault, follows for a result
+pub if_ok : {A E : Type 0} (r : Result A E) (H : Type 0) (P Q : A → Type 0) → ((x : A) → H → P x → Q x) → OnOk r H → IfOk r P → IfOk r Q
+if_ok (Ok x) H P Q f h all = f x h all
+if_ok (Err e) H P Q f h all = tt
+
+pub if_err : {A E : Type 0} (r : Result A E) (P Q : E → Type 0) → ((e : E) → P e → Q e) → IfErr r P → IfErr r Q
+if_err (Ok x) P Q f all = tt
+if_err (Err e) P Q f all = f e all
+
+-- a graph with the nodes and keys of a raw one is the one that is built of it
+pub same_shape : (g : Shape) (raw : RawShape) → g.nodes ≡ raw.nodes → g.keys ≡ map key_of raw.keys → g ≡ shape_of raw
+same_shape g raw nodes keys =
+    subst (λ (ks : List Key). g ≡ record { nodes = raw.nodes; keys = ks }) keys (subst (λ (n : ℕ). g ≡ record { nodes = n; keys = g.keys }) nodes refl)
+
+-- a result that is a fault is served by its cause
+pub serves_fault : (job : Task) (stored input : List ℕ) (old new : Option (List ℕ)) (r : Result (Unit {0}) ServeFault) (fault : ServeFault) → r ≡ Err fault → is_write fault ≡ false → IsCause job stored input fault → Serves job stored input old new r
+serves_fault job stored input old new r fault is early cause = rw is (serves_cause job stored input old new fault early cause)
+
+-- a write that failed served the first bytes
+pub serves_part : (job : Task) (stored input bytes output : List ℕ) (old new : Option (List ℕ)) (r : Result (Unit {0}) ServeFault) (written : ℕ) → bytes ≡ output → r ≡ Err (serve.Write written) → written < length bytes → HasWritten old new bytes written → IsPrinted job stored input output → Serves job stored input old new r
+serves_part job stored input bytes output old new r written same is less has printed =
+    rw is (output, printed, subst (λ (b : List ℕ). written < length b) same less, subst (λ (b : List ℕ). HasWritten old new b written) same has)
+
+-- a write that succeeded served all
+pub serves_all : (job : Task) (stored input bytes output : List ℕ) (old new : Option (List ℕ)) → bytes ≡ output → HasWritten old new bytes (length bytes) → IsPrinted job stored input output → Serves job stored input old new (Ok tt)
+serves_all job stored input bytes output old new same has printed = (output, printed, subst (λ (b : List ℕ). HasWritten old new b (length b)) same has)

@@ -1,0 +1,33 @@
+-- The words that the program takes.
+use Rattle.std.specs.Prelude.{codes, [], ◌∷◌, Some, true}
+use Rattle.clap.specs.Words.{App, Rule, Text, new_app, new_rule, with_rule, with_subcommand}
+
+-- FILE: the graph
+abbrev pub file_rule : Rule
+file_rule = new_rule (codes "FILE")
+
+-- TRACE: the stored run
+abbrev pub trace_rule : Rule
+trace_rule = record (new_rule (codes "TRACE")) { required = true }
+
+-- `--NAME VALUE`, and the value where it isn't given
+abbrev pub option_rule : Text → Text → Rule
+option_rule name default = record (new_rule name) { long = Some name; defaults = default ∷ [] }
+
+-- `--wake`: which nodes wake by themselves
+abbrev pub wake_rule : Rule
+wake_rule = option_rule (codes "wake") (codes "all")
+
+-- `tree [FILE]`
+abbrev pub tree_command : App
+tree_command = with_rule (new_app (codes "tree")) file_rule
+
+-- `replay TRACE [FILE] [--wake all|first]`
+abbrev pub replay_command : App
+replay_command = with_rule (with_rule (with_rule (new_app (codes "replay")) trace_rule) file_rule) wake_rule
+
+-- the program's command line: its name and one of its commands
+unfoldable pub program : App
+program =
+    let a = with_subcommand (with_subcommand (new_app (codes "ghs")) tree_command.top) replay_command.top in
+    record a { top = record a.top { subcommand_required = true } }
