@@ -19,3 +19,5 @@ mod traces;
 mod tree;
 #[cfg(test)]
 mod words;
+#[cfg(test)]
+mod worlds;
