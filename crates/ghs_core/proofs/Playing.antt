@@ -25,14 +25,14 @@ use Rattle.ghs_protocol.proofs.lemmas.Sends.{node_here, node_there}
 use Rattle.ghs_protocol.proofs.lemmas.WellFormed.{after_formed}
 use Rattle.ghs_core.specs.declared.counts.Counts.{Counts}
 use Rattle.ghs_core.specs.NetState.{NetState, event_node, work_at, halted_in, IsLawful, IsAnswer}
-use Rattle.ghs_core.specs.Dispatch.{arriving, Arrives, CountsSends, Settles, WaitsAt}
+use Rattle.ghs_core.specs.Dispatch.{arriving, Arrives, CountsSends, Disposes, WaitsAt}
 use Rattle.ghs_core.specs.declared.halts.Halts.{Halts}
 use Rattle.ghs_core.specs.Halts.{AreHalts, with_node}
 use Rattle.ghs_core.specs.Kept.{IsKept, no_node}
 use Rattle.ghs_core.proofs.Few.{row_few}
 use Rattle.ghs_core.proofs.Stages.{Staged, staged, stage_happens, stage_low, stage_high, stage_nodes, stage_reaction, reaction_row}
 use Rattle.ghs_core.proofs.Showing.{waits_at, stage_shows, reacted_shows}
-use Rattle.ghs_core.proofs.Totals.{Settled, settled, settled_room, settled_rooms, fit_more, total_fits, sent_fits}
+use Rattle.ghs_core.proofs.Totals.{Disposed, disposed, disposed_room, disposed_rooms, fit_more, total_fits, sent_fits}
 use Rattle.ghs_core.proofs.Halting.{are_like, with_node_is}
 
 -- the events of a run so far, and the reaction of one more
@@ -99,18 +99,18 @@ module _ {g : Shape} {es : List Event} {nodes : List NodeState} {links : LinksSt
   few = let a = row_few row in let b = is_node.node.few in omega (arith, a, b)
 
   -- once the message that the event takes has met its fate
-  module _ (l : LinksState) (c : Counts) (s : Settles e d.fate links l counts c) where
-    so_far : Settled links l counts c
-    so_far = settled g (net_after g es) nodes links counts plays.kept.queues plays.kept.shows l c stages.stage s
+  module _ (l : LinksState) (c : Counts) (s : Disposes e d.fate links l counts c) where
+    so_far : Disposed links l counts c
+    so_far = disposed g (net_after g es) nodes links counts plays.kept.queues plays.kept.shows l c stages.stage s
 
-    pub settled_for : IsFor g l
-    settled_for = same_for g links l so_far.ports plays.kept.queues
+    pub disposed_for : IsFor g l
+    disposed_for = same_for g links l so_far.ports plays.kept.queues
 
     pub out_still : GoOut l (event_node e) d.sends
     out_still i x lt = (so_far.ports.queues (event_node e) _).0 (go_out i x lt)
 
     pub room_still : HasRoomFor (event_node e) d.sends links → HasRoomFor (event_node e) d.sends l
-    room_still room = settled_room g (net_after g es) nodes links counts plays.kept.queues plays.kept.shows l c (event_node e) d.sends stages.stage s room
+    room_still room = disposed_room g (net_after g es) nodes links counts plays.kept.queues plays.kept.shows l c (event_node e) d.sends stages.stage s room
 
     pub total_below : length es < 2 ^ 40 → total_of l + length d.sends < 2 ^ 64
     total_below lt = total_fits (length es) links l counts c (length d.sends) lt few plays.kept.fit so_far
@@ -146,7 +146,7 @@ module _ {g : Shape} {es : List Event} {nodes : List NodeState} {links : LinksSt
       played k noted x n is now = record {
         graph = plays.kept.graph;
         run = (next, after_more (network_of g) es e (net_after g es) next run happened);
-        queues = same_for g l l' a.ports settled_for;
+        queues = same_for g l l' a.ports disposed_for;
         shows = rw is_next (reacted_shows g plays.kept.graph (event_node e) low high d stages.before nodes n l l' c sent (now ∙ ap (λ (y : NodeState). after y d) (found x is ∙ sym (ap (λ (f : ℕ → NodeState). f (event_node e)) (stage_nodes stages.stage)))) (stage_shows g (net_after g es) nodes links counts plays.kept.queues plays.kept.shows l c stages.stage s) a told);
         fit = rw (length-append es (e ∷ [])) (fit_more (length es) links l l' counts c sent g (event_node e) d.sends few plays.kept.fit so_far a told);
         halted = rw is_next (halts_next k noted);
@@ -154,7 +154,7 @@ module _ {g : Shape} {es : List Event} {nodes : List NodeState} {links : LinksSt
 
       pub played_rooms : (u r : ℕ) → At (network_of g) u r → room_at links u r ≤ room_at l' u r + length (arriving (network_of g) (event_node e) d.sends u r)
       played_rooms u r at =
-          let first = settled_rooms g (net_after g es) nodes links counts plays.kept.queues plays.kept.shows l c stages.stage s u r ((plays.kept.queues.queues u r).1 (record { some = at.some; node = at.node; port = at.port })) in
+          let first = disposed_rooms g (net_after g es) nodes links counts plays.kept.queues plays.kept.shows l c stages.stage s u r ((plays.kept.queues.queues u r).1 (record { some = at.some; node = at.node; port = at.port })) in
           let then = a.rooms u r at in
           omega (arith, first, then)
 

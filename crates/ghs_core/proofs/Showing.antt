@@ -18,7 +18,7 @@ use Rattle.ghs_protocol.proofs.lemmas.Graphs.{graph_wired}
 use Rattle.ghs_protocol.proofs.lemmas.Updates.{one_place, put_at_hit, put_at_miss}
 use Rattle.ghs_protocol.proofs.lemmas.Sends.{put_count, node_here, node_there, sent_now, consumed_now, requeued_now}
 use Rattle.ghs_core.specs.declared.counts.Counts.{Counts}
-use Rattle.ghs_core.specs.Dispatch.{Arrives, CountsSends, Met, CountsFate, Settles, WaitsAt, arriving, messages_of}
+use Rattle.ghs_core.specs.Dispatch.{Arrives, CountsSends, Met, CountsFate, Disposes, WaitsAt, arriving, messages_of}
 use Rattle.ghs_core.specs.Kept.{Shows, no_node}
 use Rattle.ghs_core.proofs.Arriving.{machine_arrives}
 use Rattle.ghs_core.proofs.Stages.{Stage, Wakes, Takes}
@@ -50,7 +50,7 @@ module _ (g : Shape) (w : Net) (nodes : List NodeState) (links : LinksState) (co
     requeued = let had = shows.requeued in let more = told.requeued in omega (arith, had, more);
   }
 
-  pub stage_shows : {e : Event} {d : Delta} {x : Net} (l : LinksState) (c : Counts) → Stage (network_of g) w e d x → Settles e d.fate links l counts c → Shows (network_of g) x nodes l c
+  pub stage_shows : {e : Event} {d : Delta} {x : Net} (l : LinksState) (c : Counts) → Stage (network_of g) w e d x → Disposes e d.fate links l counts c → Shows (network_of g) x nodes l c
   stage_shows l c (Wakes v d lo hi s r) z = rw (z.0, z.1) shows
   stage_shows l c (Takes v p m ms d at q r) z = let one = z m ms (shows.queue v p at ∙ q) in met_shows d.fate v p m ms l c at one.0 one.1
 

@@ -19,7 +19,7 @@ use Rattle.ghs_protocol.specs.Ledger.{sum_below, of_kind, in_all}
 use Rattle.ghs_protocol.proofs.lemmas.Sums.{sum_same, sum_none, sum_add}
 use Rattle.ghs_protocol.proofs.lemmas.Balance.{kinds_in_all}
 use Rattle.ghs_core.specs.declared.counts.Counts.{Counts}
-use Rattle.ghs_core.specs.Dispatch.{Arrives, CountsSends, Settles, messages_of}
+use Rattle.ghs_core.specs.Dispatch.{Arrives, CountsSends, Disposes, messages_of}
 use Rattle.ghs_core.specs.Kept.{Shows, CountsFit}
 use Rattle.ghs_core.proofs.Stages.{Stage, Wakes, Takes}
 
@@ -46,7 +46,7 @@ one_fate Consumed = refl
 one_fate Requeued = refl
 
 -- what the first stage leaves: fewer wait by the one that was consumed, and the sent are as they were
-pub record Settled (links l : LinksState) (counts c : Counts) : Type 0 where
+pub record Disposed (links l : LinksState) (counts c : Counts) : Type 0 where
   pub sent : c.sent ≡ counts.sent
   pub balance : total_of l + in_all (λ k. get_or c.consumed k 0) ≡ total_of links + in_all (λ k. get_or counts.consumed k 0)
   pub fewer : total_of l ≤ total_of links
@@ -55,9 +55,9 @@ pub record Settled (links l : LinksState) (counts c : Counts) : Type 0 where
   pub ports : SamePorts links l
 
 module _ (g : Shape) (w : Net) (nodes : List NodeState) (links : LinksState) (counts : Counts) (for : IsFor g links) (shows : Shows (network_of g) w nodes links counts) where
-  pub settled : {e : Event} {d : Delta} {x : Net} (l : LinksState) (c : Counts) → Stage (network_of g) w e d x → Settles e d.fate links l counts c → Settled links l counts c
-  settled l c (Wakes v d lo hi s r) z = rw (z.0, z.1) (record { sent = refl; balance = refl; fewer = omega arith; consumed = omega arith; requeued = omega arith; ports = same_alike links })
-  settled l c (Takes v p m ms d at q r) z =
+  pub disposed : {e : Event} {d : Delta} {x : Net} (l : LinksState) (c : Counts) → Stage (network_of g) w e d x → Disposes e d.fate links l counts c → Disposed links l counts c
+  disposed l c (Wakes v d lo hi s r) z = rw (z.0, z.1) (record { sent = refl; balance = refl; fewer = omega arith; consumed = omega arith; requeued = omega arith; ports = same_alike links })
+  disposed l c (Takes v p m ms d at q r) z =
       let one = z m ms (shows.queue v p at ∙ q) in
       let t = one.0.total in
       let all = rise (λ k. get_or counts.consumed k 0) (λ k. get_or c.consumed k 0) (λ k. cond (place_of (kind_of m) == k) (one_if_consumed d.fate) 0) one.1.consumed in
@@ -74,10 +74,10 @@ module _ (g : Shape) (w : Net) (nodes : List NodeState) (links : LinksState) (co
       }
 
   -- the first stage takes no room
-  pub settled_room : {e : Event} {d : Delta} {x : Net} (l : LinksState) (c : Counts) (v : ℕ) (ss : Outgoing) → Stage (network_of g) w e d x →
-      Settles e d.fate links l counts c → HasRoomFor v ss links → HasRoomFor v ss l
-  settled_room l c u ss (Wakes v d lo hi s r) z room = rw z.0 room
-  settled_room l c u ss (Takes v p m ms d at q r) z room = λ i has.
+  pub disposed_room : {e : Event} {d : Delta} {x : Net} (l : LinksState) (c : Counts) (v : ℕ) (ss : Outgoing) → Stage (network_of g) w e d x →
+      Disposes e d.fate links l counts c → HasRoomFor v ss links → HasRoomFor v ss l
+  disposed_room l c u ss (Wakes v d lo hi s r) z room = rw z.0 room
+  disposed_room l c u ss (Takes v p m ms d at q r) z room = λ i has.
       let one = z m ms (shows.queue v p at ∙ q) in
       let had = (one.0.ports.queues u i).1 has in
       let port = (for.queues u i).0 had in
@@ -86,14 +86,14 @@ module _ (g : Shape) (w : Net) (nodes : List NodeState) (links : LinksState) (co
       let more = one.0.rooms _ _ (far_queue g links for u i port.port) in
       rw (same_destination links l one.0.ports u i, led) (omega (arith, more, enough))
 
-  pub settled_rooms : {e : Event} {d : Delta} {x : Net} (l : LinksState) (c : Counts) → Stage (network_of g) w e d x → Settles e d.fate links l counts c → (u r : ℕ) →
+  pub disposed_rooms : {e : Event} {d : Delta} {x : Net} (l : LinksState) (c : Counts) → Stage (network_of g) w e d x → Disposes e d.fate links l counts c → (u r : ℕ) →
       HasQueue links u r → room_at links u r ≤ room_at l u r
-  settled_rooms l c (Wakes v d lo hi s r) z = λ u r has. rw z.0 (omega arith)
-  settled_rooms l c (Takes v p m ms d at q r) z = (z m ms (shows.queue v p at ∙ q)).0.rooms
+  disposed_rooms l c (Wakes v d lo hi s r) z = λ u r has. rw z.0 (omega arith)
+  disposed_rooms l c (Takes v p m ms d at q r) z = (z m ms (shows.queue v p at ∙ q)).0.rooms
 
 -- the second stage: the sends are counted
 pub fit_more : (n : ℕ) (links l l' : LinksState) (counts c : Counts) (sent : List ℕ) (g : Shape) (v : ℕ) (ss : Outgoing) → length ss ≤ 8388610 →
-    CountsFit n links counts → Settled links l counts c → Arrives g v ss l l' → CountsSends ss c.sent sent →
+    CountsFit n links counts → Disposed links l counts c → Arrives g v ss l l' → CountsSends ss c.sent sent →
     CountsFit (n + 1) l' (record { sent = sent; consumed = c.consumed; requeued = c.requeued })
 fit_more n links l l' counts c sent g v ss few fit s a told =
     let all : in_all (λ k. get_or sent k 0) ≡ in_all (λ k. get_or c.sent k 0) + in_all (λ k. of_kind k (messages_of ss)) = rise (λ k. get_or c.sent k 0) (λ k. get_or sent k 0) (λ k. of_kind k (messages_of ss)) told in
@@ -108,14 +108,14 @@ fit_more n links l l' counts c sent g v ss few fit s a told =
     }
 
 -- there is room for the counts of one event more
-pub total_fits : (n : ℕ) (links l : LinksState) (counts c : Counts) (k : ℕ) → n < 2 ^ 40 → k ≤ 8388610 → CountsFit n links counts → Settled links l counts c → total_of l + k < 2 ^ 64
+pub total_fits : (n : ℕ) (links l : LinksState) (counts c : Counts) (k : ℕ) → n < 2 ^ 40 → k ≤ 8388610 → CountsFit n links counts → Disposed links l counts c → total_of l + k < 2 ^ 64
 total_fits n links l counts c k lt few fit s =
     let a = fit.sent in
     let b = fit.waiting in
     let t = s.fewer in
     omega (arith, a, b, t)
 
-pub sent_fits : (n : ℕ) (links l : LinksState) (counts c : Counts) (k i : ℕ) → n < 2 ^ 40 → k ≤ 8388610 → CountsFit n links counts → Settled links l counts c → i < 7 → get_or c.sent i 0 + k < 2 ^ 64
+pub sent_fits : (n : ℕ) (links l : LinksState) (counts c : Counts) (k i : ℕ) → n < 2 ^ 40 → k ≤ 8388610 → CountsFit n links counts → Disposed links l counts c → i < 7 → get_or c.sent i 0 + k < 2 ^ 64
 sent_fits n links l counts c k i lt few fit s below =
     let one = one_of_all 7 i (λ j. get_or c.sent j 0) below in
     let same : in_all (λ j. get_or c.sent j 0) ≡ in_all (λ j. get_or counts.sent j 0) = ap (λ (xs : List ℕ). in_all (λ j. get_or xs j 0)) s.sent in

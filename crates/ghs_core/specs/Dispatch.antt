@@ -52,6 +52,6 @@ WaitsAt (Wake v) l = Unit {0}
 WaitsAt (Take v p) l = HasQueue l v p × (0 < length (queue_at l v p))
 
 -- what an event does to the queues and counts before its node reacts
-abbrev pub Settles : Event → Fate → LinksState → LinksState → Counts → Counts → Type 0
-Settles (Wake v) f l l' c c' = (l' ≡ l) × (c' ≡ c)
-Settles (Take v p) f l l' c c' = (m : Message) (ms : List Message) → queue_at l v p ≡ m ∷ ms → Met f v p m ms l l' × CountsFate f m c c'
+abbrev pub Disposes : Event → Fate → LinksState → LinksState → Counts → Counts → Type 0
+Disposes (Wake v) f l l' c c' = (l' ≡ l) × (c' ≡ c)
+Disposes (Take v p) f l l' c c' = (m : Message) (ms : List Message) → queue_at l v p ≡ m ∷ ms → Met f v p m ms l l' × CountsFate f m c c'

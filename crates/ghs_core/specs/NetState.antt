@@ -10,6 +10,7 @@ use Rattle.ghs_links.specs.Links.{LinksState, HasRoomFor, KeepsLists, room_at}
 use Rattle.ghs_protocol.specs.declared.event.Event.{Event}
 use Rattle.ghs_protocol.specs.declared.event.Event.TheVariants.{Wake, Take}
 use Rattle.ghs_protocol.specs.Network.{Network, network_of, At}
+pub use Rattle.ghs_protocol.specs.Net.{event_node}
 use Rattle.ghs_protocol.specs.Net.{Net, is_lawful}
 use Rattle.ghs_protocol.specs.Run.{net_after}
 use Rattle.ghs_core.specs.Dispatch.{arriving}
@@ -29,11 +30,7 @@ network s = network_of s.graph
 abbrev pub net_of : NetState → Net
 net_of s = net_after s.graph s.trace
 
--- the node at which an event happens, and its work there
-abbrev pub event_node : Event → ℕ
-event_node (Wake v) = v
-event_node (Take v p) = v
-
+-- the work that an event brings to its node
 abbrev pub delivery : ℕ → List Message → Work
 delivery p [] = works.Wake
 delivery p (m ∷ ms) = works.Deliver p m

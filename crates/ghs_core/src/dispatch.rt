@@ -3,7 +3,7 @@ ghost use Rattle.std.specs.Prelude.{◌≡◌, ℕ, ◌+◌, ◌-◌, ◌<◌, �
 ghost use Rattle.ghs_node.specs.declared.message.Message.{Message as Letter};
 ghost use Rattle.ghs_links.specs.Links.{HasQueue, IsFor, IsForSome, GoOut, HasRoomFor, queue_at, total_of};
 ghost use Rattle.ghs_graph.specs.Graph.{Shape};
-ghost use Rattle.ghs_core.specs.Dispatch.{Arrives, CountsSends, Met, CountsFate, WaitsAt, Settles};
+ghost use Rattle.ghs_core.specs.Dispatch.{Arrives, CountsSends, Met, CountsFate, WaitsAt, Disposes};
 
 use crate::counts::Counts;
 use ghs_links::links::Links;
@@ -49,12 +49,12 @@ fn meet_fate(links: &mut Links, counts: &mut Counts, v: u32, port: u32, fate: Fa
     }
 }
 
-/// What an event does before its node reacts: a message that it takes meets its fate.
-pub fn settle(links: &mut Links, counts: &mut Counts, event: Event, fate: Fate)
+/// Disposes of the message that an event takes, before its node reacts: it meets its fate.
+pub fn dispose(links: &mut Links, counts: &mut Counts, event: Event, fate: Fate)
     requires waits { WaitsAt event links.old }
     requires consumed { (k : ℕ) → k < 7 → slice_index counts.old.consumed k < 2 ^ 64 - 1 }
     requires requeued { counts.old.requeued < 2 ^ 64 - 1 }
-    ensures { Settles event fate links.old links.new counts.old counts.new }
+    ensures { Disposes event fate links.old links.new counts.old counts.new }
 {
     if let Event::Take(v, port) = event {
         meet_fate(links, counts, v, port, fate);

@@ -15,7 +15,7 @@ ghost use Rattle.ghs_core.specs.Ledger.{IsLedger, IsWithinBound};
 ghost use Rattle.ghs_core.specs.Marked.{AreBranches, AreInTree, IsExactWhere, IsExact, IsFragment, IsInFragment};
 
 use crate::counts::Counts;
-use crate::dispatch::{send_all, settle};
+use crate::dispatch::{dispose, send_all};
 use crate::halts::Halts;
 use crate::ledger::Ledger;
 use crate::marked::{Ends, branch_links, numbers_alike};
@@ -281,7 +281,7 @@ impl Net {
         ensures event { happens (network self.old) (net_of self.old) event ≡ Some (net_of self.new) }
         ensures room { KeepsRoom self.old self.new event delta.now }
     {
-        settle(&mut self.links, &mut self.counts, event, delta.fate);
+        dispose(&mut self.links, &mut self.counts, event, delta.fate);
         let v = node_of(event);
         let node = &mut self.nodes[v as usize - 1];
         node.apply(delta);
