@@ -12,5 +12,6 @@ pub mod Uniting
 pub mod Floors
 pub mod Charges
 pub mod Scene
+pub mod Changes
 pub mod UnderWay
 pub mod Acts

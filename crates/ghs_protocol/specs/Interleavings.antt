@@ -30,15 +30,26 @@ pub record HaveAtLeast (n : ℕ) (P : ℕ → Type 0) : Type 0 where
 
 -- the fragment of a node of level L has at least 2^L nodes
 abbrev pub FragmentsAreLarge : Type 0
-FragmentsAreLarge = (g : Shape) (w : Net) → IsNetOf g w → (v : ℕ) → 1 ≤ v → v ≤ g.nodes → HaveAtLeast (2 ^ (w.node v).head.level) (λ u. (1 ≤ u) × (u ≤ g.nodes) × InOneFragment (network_of g) w v u)
+FragmentsAreLarge =
+    (g : Shape) (w : Net) → IsNetOf g w →
+    (v : ℕ) → 1 ≤ v → v ≤ g.nodes →
+    HaveAtLeast (2 ^ (w.node v).head.level) (λ u. (1 ≤ u) × (u ≤ g.nodes) × InOneFragment (network_of g) w v u)
 
 -- the ends of a Rejected link lie in one fragment
 abbrev pub RejectedLinksInside : Type 0
-RejectedLinksInside = (g : Shape) (w : Net) → IsNetOf g w → (v p : ℕ) → At (network_of g) v p → mark_at (w.node v) p ≡ Rejected → InOneFragment (network_of g) w v (far (network_of g) v p)
+RejectedLinksInside =
+    (g : Shape) (w : Net) → IsNetOf g w →
+    (v p : ℕ) → At (network_of g) v p →
+    mark_at (w.node v) p ≡ Rejected →
+    InOneFragment (network_of g) w v (far (network_of g) v p)
 
 -- a Rejected mark is never changed
 abbrev pub RejectedMarksStay : Type 0
-RejectedMarksStay = (g : Shape) (w w' : Net) → IsLater g w w' → (v p : ℕ) → At (network_of g) v p → mark_at (w.node v) p ≡ Rejected → mark_at (w'.node v) p ≡ Rejected
+RejectedMarksStay =
+    (g : Shape) (w w' : Net) → IsLater g w w' →
+    (v p : ℕ) → At (network_of g) v p →
+    mark_at (w.node v) p ≡ Rejected →
+    mark_at (w'.node v) p ≡ Rejected
 
 -- each lawful event has a rule
 abbrev pub EventsHaveRules : Type 0
@@ -64,7 +75,11 @@ RejectedLinksAside = (g : Shape) (w : Net) → IsNetOf g w → (k : Key) → IsR
 -- where a node has halted, the links of the tree in its component are Branch at both ends, and no other link there is Branch
 abbrev pub HaltIsExact : Type 0
 HaltIsExact =
-    (g : Shape) (w : Net) → IsNetOf g w → (v : ℕ) → 1 ≤ v → v ≤ g.nodes → HasHalted w v → (k : Key) → Contains g.keys k → Joined (links g.keys) v k.a →
+    (g : Shape) (w : Net) → IsNetOf g w →
+    (v : ℕ) → 1 ≤ v → v ≤ g.nodes →
+    HasHalted w v →
+    (k : Key) → Contains g.keys k →
+    Joined (links g.keys) v k.a →
     (InTree g.keys k → IsJoinedLink (network_of g) w k) × (IsBranchLink (network_of g) w k → InTree g.keys k × IsJoinedLink (network_of g) w k)
 
 -- where a run has ended, the Branch links are those of the minimum spanning forest, and they are Branch at both ends
@@ -79,7 +94,8 @@ SendsWithinBound = (g : Shape) (w : Net) → IsNetOf g w → (b : ℕ) → IsBou
 
 -- where a graph has more than one node, it is less by twice the nodes
 abbrev pub SendsWithinSharpBound : Type 0
-SendsWithinSharpBound = (g : Shape) (w : Net) → IsNetOf g w → (b : ℕ) → 2 ≤ g.nodes → IsBound g.nodes (length g.keys) b → in_all w.sent + 2 * g.nodes ≤ b
+SendsWithinSharpBound =
+    (g : Shape) (w : Net) → IsNetOf g w → (b : ℕ) → 2 ≤ g.nodes → IsBound g.nodes (length g.keys) b → in_all w.sent + 2 * g.nodes ≤ b
 
 -- each level of a node pays for one message of each sort at most, up to the highest level, which is the floor of log2 of the nodes
 abbrev pub LevelsPayOnce : Type 0
@@ -97,4 +113,5 @@ SendsArePaid =
 abbrev pub PortsPayOnce : Type 0
 PortsPayOnce =
     (g : Shape) (es : List Event) (w : Net) → IsGraph g → IsAfter (network_of g) es w → (v p : ℕ) → At (network_of g) v p →
-    (added_up (port_pays v p) (network_of g) es (opening (network_of g)) ≤ 1) × ((w.node v).head.probe ≡ Some p → added_up (port_pays v p) (network_of g) es (opening (network_of g)) ≡ 0)
+    (added_up (port_pays v p) (network_of g) es (opening (network_of g)) ≤ 1) ×
+    ((w.node v).head.probe ≡ Some p → added_up (port_pays v p) (network_of g) es (opening (network_of g)) ≡ 0)

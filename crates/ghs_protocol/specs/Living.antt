@@ -56,7 +56,10 @@ pub record GoesOn (g : Network) (w : Net) (S : ℕ → Bool) : Type 0 where
 
 -- where none of the set has halted a message waits in it: nothing under way means that a core node has halted
 abbrev pub SilenceIsEnd : Type 0
-SilenceIsEnd = (g : Shape) (w : Net) → IsNetOf g w → (S : ℕ → Bool) → Unended (network_of g) w S → (v p : ℕ) × At (network_of g) v p × (S v ≡ true) × (w.queue v p ≢ [])
+SilenceIsEnd =
+    (g : Shape) (w : Net) → IsNetOf g w →
+    (S : ℕ → Bool) → Unended (network_of g) w S →
+    (v p : ℕ) × At (network_of g) v p × (S v ≡ true) × (w.queue v p ≢ [])
 
 -- and one that doesn't wait can be had by two Takes at most: no run is ever stuck
 abbrev pub NoRunIsStuck : Type 0
@@ -114,31 +117,52 @@ pub record Comes (g : Network) (w : Net) (rs : List (List Event)) : Type 0 where
   pub first : List (List Event)
   pub others : List (List Event)
   pub whole : rs ≡ first ++ others
-  pub ended : (v : ℕ) → InNetwork g v → ((after_rounds g w first).node v).head.phase ≢ Sleeping → (u : ℕ) × Leads g AnyLink v u × HasHalted (after_rounds g w first) u
+  pub ended : (v : ℕ) →
+      InNetwork g v →
+      ((after_rounds g w first).node v).head.phase ≢ Sleeping →
+      (u : ℕ) × Leads g AnyLink v u × HasHalted (after_rounds g w first) u
 
 -- as many rounds as the bound on messages and the nodes together end a run, whatever their events are
 abbrev pub FairRunsEnd : Type 0
 FairRunsEnd =
-    (g : Shape) (w : Net) → IsNetOf g w → (b : ℕ) → IsBound g.nodes (length g.keys) b → (rs : List (List Event)) → All (IsRound (network_of g)) rs → b + g.nodes ≤ length rs → Comes (network_of g) w rs
+    (g : Shape) (w : Net) → IsNetOf g w →
+    (b : ℕ) → IsBound g.nodes (length g.keys) b →
+    (rs : List (List Event)) → All (IsRound (network_of g)) rs →
+    b + g.nodes ≤ length rs →
+    Comes (network_of g) w rs
 
 -- where no message waits, links lead from each node that is awake to one that has halted
 abbrev pub SilentNetsHaveEnded : Type 0
 SilentNetsHaveEnded =
-    (g : Shape) (w : Net) → IsNetOf g w → ((v p : ℕ) → At (network_of g) v p → w.queue v p ≡ []) → (v : ℕ) → InNetwork (network_of g) v → (w.node v).head.phase ≢ Sleeping → (u : ℕ) × Leads (network_of g) AnyLink v u × HasHalted w u
+    (g : Shape) (w : Net) → IsNetOf g w →
+    ((v p : ℕ) → At (network_of g) v p → w.queue v p ≡ []) →
+    (v : ℕ) → InNetwork (network_of g) v →
+    (w.node v).head.phase ≢ Sleeping →
+    (u : ℕ) × Leads (network_of g) AnyLink v u × HasHalted w u
 
 -- and the links of the tree in such a node's component are Branch at both ends, and no other link there is Branch
 abbrev pub SilentNetsAreExact : Type 0
 SilentNetsAreExact =
-    (g : Shape) (w : Net) → IsNetOf g w → ((v p : ℕ) → At (network_of g) v p → w.queue v p ≡ []) → (v : ℕ) → InNetwork (network_of g) v → (w.node v).head.phase ≢ Sleeping → (k : Key) → Contains g.keys k → Joined (links g.keys) v k.a →
+    (g : Shape) (w : Net) → IsNetOf g w →
+    ((v p : ℕ) → At (network_of g) v p → w.queue v p ≡ []) →
+    (v : ℕ) → InNetwork (network_of g) v →
+    (w.node v).head.phase ≢ Sleeping →
+    (k : Key) → Contains g.keys k →
+    Joined (links g.keys) v k.a →
     (InTree g.keys k → IsJoinedLink (network_of g) w k) × (IsBranchLink (network_of g) w k → InTree g.keys k × IsJoinedLink (network_of g) w k)
 
 -- only requeues make a run longer than its messages and its nodes
 abbrev pub RunsAreShort : Type 0
-RunsAreShort = (g : Shape) → IsGraph g → (es : List Event) (w : Net) → IsAfter (network_of g) es w → length es ≤ in_all w.sent + (w.requeued + g.nodes)
+RunsAreShort =
+    (g : Shape) → IsGraph g → (es : List Event) (w : Net) → IsAfter (network_of g) es w → length es ≤ in_all w.sent + (w.requeued + g.nodes)
 
 -- a node that is awake puts a message back just where it waits
 abbrev pub RequeuesAreWaits : Type 0
-RequeuesAreWaits = (n : NodeState) (p : ℕ) (m : Message) (d : Delta) → p < degree n → n.head.phase ≢ Sleeping → reaction n (Deliver p m) ≡ Some d → ((d.fate ≡ Requeued) ↔ Waits n p m)
+RequeuesAreWaits =
+    (n : NodeState) (p : ℕ) (m : Message) (d : Delta) → p < degree n →
+    n.head.phase ≢ Sleeping →
+    reaction n (Deliver p m) ≡ Some d →
+    ((d.fate ≡ Requeued) ↔ Waits n p m)
 
 -- the first message m at port p of v, others ms behind it, has gone to the end of its queue; nothing else has changed but that this was counted
 pub record Turned (w : Net) (v p : ℕ) (m : Message) (ms : List Message) (w' : Net) : Type 0 where
@@ -152,7 +176,12 @@ pub record Turned (w : Net) (v p : ℕ) (m : Message) (ms : List Message) (w' : 
 -- taking a message that waits does no more than that
 abbrev pub WaitingTakesTurn : Type 0
 WaitingTakesTurn =
-    (g : Shape) (w w' : Net) → IsNetOf g w → (v p : ℕ) (m : Message) (ms : List Message) → At (network_of g) v p → w.queue v p ≡ m ∷ ms → Waits (w.node v) p m → Happens (network_of g) w (Take v p) w' → Turned w v p m ms w'
+    (g : Shape) (w w' : Net) → IsNetOf g w →
+    (v p : ℕ) (m : Message) (ms : List Message) → At (network_of g) v p →
+    w.queue v p ≡ m ∷ ms →
+    Waits (w.node v) p m →
+    Happens (network_of g) w (Take v p) w' →
+    Turned w v p m ms w'
 
 -- who searches waits for something, and who has no port has halted, in every net of a run
 abbrev pub NodesAwait : Type 0

@@ -64,7 +64,11 @@ one_if_requeued Requeued = 1
 abbrev pub take_first : Fate → ℕ → ℕ → Message → List Message → Net → Net
 take_first f v p m ms w =
     let k = place_of (kind_of m) in
-    record w { queue = put_at w.queue v p (left_of f m ms); consumed = put w.consumed k (w.consumed k + one_if_consumed f); requeued = w.requeued + one_if_requeued f }
+    record w {
+      queue = put_at w.queue v p (left_of f m ms);
+      consumed = put w.consumed k (w.consumed k + one_if_consumed f);
+      requeued = w.requeued + one_if_requeued f;
+    }
 
 -- the node of an event
 abbrev pub event_node : Event → ℕ

@@ -95,7 +95,8 @@ pub record AllIsPaid (g : Network) (k : ℕ) (es : List Event) (w : Net) : Type 
 
 -- What node v has paid at level l in these events, which lead to net w; k is the highest level.
 pub record LevelPays (g : Network) (k : ℕ) (es : List Event) (w : Net) (v l : ℕ) : Type 0 where
-  -- a level pays for one message of each sort at most: a Connect or ChangeRoot that v sends, a Report that it sends, an Initiate that it has taken or that waits, an Accept that it has taken or that waits
+  -- a level pays for one message of each sort at most: a Connect or ChangeRoot that v sends, a Report that it sends,
+  -- an Initiate that it has taken or that waits, an Accept that it has taken or that waits
   pub root : paid_by roots g v l es (opening g) ≤ 1
   pub report : paid_by reports g v l es (opening g) ≤ 1
   pub call : paid_by calls g v l es (opening g) + calls_waiting g w v l ≤ 1
@@ -104,7 +105,10 @@ pub record LevelPays (g : Network) (k : ℕ) (es : List Event) (w : Net) (v l : 
   -- while a port is probed, its level has had no Accept
   pub probe : l ≡ (w.node v).head.level → (p : ℕ) → (w.node v).head.probe ≡ Some p → paid_by accepts g v l es (opening g) ≡ 0
   -- level 0 pays for a Connect alone
-  pub at_zero : l ≡ 0 → (paid_by reports g v l es (opening g) ≡ 0) × (paid_by calls g v l es (opening g) + calls_waiting g w v l ≡ 0) × (paid_by accepts g v l es (opening g) ≡ 0)
+  pub at_zero :
+      l ≡ 0 →
+      (paid_by reports g v l es (opening g) ≡ 0) × (paid_by calls g v l es (opening g) + calls_waiting g w v l ≡ 0) ×
+      (paid_by accepts g v l es (opening g) ≡ 0)
   -- the highest level pays for an Initiate and a Report alone, and no level is above it
   pub at_top : k ≤ l → (paid_by roots g v l es (opening g) ≡ 0) × (paid_by accepts g v l es (opening g) ≡ 0)
   pub above : k < l → (paid_by reports g v l es (opening g) ≡ 0) × (paid_by calls g v l es (opening g) + calls_waiting g w v l ≡ 0)

@@ -41,7 +41,8 @@ AllMayWake may g = (v : ℕ) → 1 ≤ v → v ≤ g.nodes → (u : ℕ) × (1 �
 abbrev pub StillnessIsEnd : Type 0
 StillnessIsEnd =
     (g : Shape) (may : ℕ → Bool) (w : Net) → IsNetOf g w → NothingIsReady may (network_of g) w →
-    ((v : ℕ) → 1 ≤ v → v ≤ g.nodes → may v ≡ true → (u : ℕ) × (1 ≤ u) × (u ≤ g.nodes) × Joined (links g.keys) v u × HasHalted w u) × (AllMayWake may g → HasEnded g w)
+    ((v : ℕ) → 1 ≤ v → v ≤ g.nodes → may v ≡ true → (u : ℕ) × (1 ≤ u) × (u ≤ g.nodes) × Joined (links g.keys) v u × HasHalted w u) ×
+    (AllMayWake may g → HasEnded g w)
 
 -- events that end the run, at most b of them
 pub record WholeFinish (may : ℕ → Bool) (g : Shape) (w : Net) (b : ℕ) : Type 0 where
@@ -54,7 +55,11 @@ pub record WholeFinish (may : ℕ → Bool) (g : Shape) (w : Net) (b : ℕ) : Ty
 
 -- from every moment of a run at most twice as many events as the bound on messages and the nodes together lead to its end
 abbrev pub EveryRunCanEndWhole : Type 0
-EveryRunCanEndWhole = (g : Shape) (may : ℕ → Bool) (w : Net) → IsNetOf g w → AllMayWake may g → (b : ℕ) → IsBound g.nodes (length g.keys) b → WholeFinish may g w (2 * (b + g.nodes))
+EveryRunCanEndWhole =
+    (g : Shape) (may : ℕ → Bool) (w : Net) → IsNetOf g w →
+    AllMayWake may g →
+    (b : ℕ) → IsBound g.nodes (length g.keys) b →
+    WholeFinish may g w (2 * (b + g.nodes))
 
 -- A patient choice: a wake, or a message that isn't put back; where all first messages would be, one with a message behind it that would not.
 pub data IsPatientIn (g : Network) (w : Net) : Event → Type 0 where
@@ -70,7 +75,11 @@ pub data IsPatient (g : Network) : Net → List Event → Type 0 where
 
 -- patience makes at most twice as many events as the bound on messages and the nodes together
 abbrev pub PatientRunsAreShort : Type 0
-PatientRunsAreShort = (g : Shape) (w : Net) → IsNetOf g w → (b : ℕ) → IsBound g.nodes (length g.keys) b → (es : List Event) → IsPatient (network_of g) w es → length es ≤ 2 * (b + g.nodes)
+PatientRunsAreShort =
+    (g : Shape) (w : Net) → IsNetOf g w →
+    (b : ℕ) → IsBound g.nodes (length g.keys) b →
+    (es : List Event) → IsPatient (network_of g) w es →
+    length es ≤ 2 * (b + g.nodes)
 
 -- there is a patient choice, or each woken component has ended
 abbrev pub PatienceGoesOn : Type 0
@@ -81,4 +90,8 @@ PatienceGoesOn =
 
 -- of whatever events a run is made, those that put nothing back are at most as many as the bound on messages and the nodes together
 abbrev pub RealEventsAreFew : Type 0
-RealEventsAreFew = (g : Shape) (w : Net) (es : List Event) (w' : Net) → IsNetOf g w → run (network_of g) es w ≡ Some w' → (b : ℕ) → IsBound g.nodes (length g.keys) b → length es + w.requeued ≤ b + g.nodes + w'.requeued
+RealEventsAreFew =
+    (g : Shape) (w : Net) (es : List Event) (w' : Net) → IsNetOf g w →
+    run (network_of g) es w ≡ Some w' →
+    (b : ℕ) → IsBound g.nodes (length g.keys) b →
+    length es + w.requeued ≤ b + g.nodes + w'.requeued

@@ -3,7 +3,6 @@ mod Firsts
 mod Going
 mod Keeping
 mod Listing
-mod Ranks
 mod Reacting
 mod Staying
 mod Waiting

@@ -49,8 +49,13 @@ see_first m ms = see_after (add unseen m) ms
 pub see_more : (ms : List Message) (m : Message) → see (ms ++ m ∷ []) ≡ add (see ms) m
 see_more ms m = sym (add_all_append add unseen ms (m ∷ []))
 
-pub see_put : (q : ℕ → ℕ → List Message) (v p : ℕ) (ms : List Message) (a b : ℕ) → see (put_at q v p ms a b) ≡ put_at (λ x y. see (q x y)) v p (see ms) a b
-see_put q v p ms a b = ⊎_elim (λ (e : a ≡ v). ⊎_elim (λ (h : b ≡ p). rw (e, h) (ap see (put_at_same q v p ms) ∙ sym (put_at_same (λ x y. see (q x y)) v p (see ms)))) (λ ne. miss (λ z. ne z.1)) (cases_eq b p)) (λ ne. miss (λ z. ne z.0)) (cases_eq a v)
+pub see_put : (q : ℕ → ℕ → List Message) (v p : ℕ) (ms : List Message) (a b : ℕ) →
+    see (put_at q v p ms a b) ≡ put_at (λ x y. see (q x y)) v p (see ms) a b
+see_put q v p ms a b =
+    ⊎_elim (λ (e : a ≡ v). ⊎_elim
+    (λ (h : b ≡ p). rw (e, h) (ap see (put_at_same q v p ms) ∙ sym (put_at_same (λ x y. see (q x y)) v p (see ms))))
+    (λ ne. miss (λ z. ne z.1)) (cases_eq b p))
+    (λ ne. miss (λ z. ne z.0)) (cases_eq a v)
   where
     miss : ((a ≡ v) × (b ≡ p) → ⊥) → see (put_at q v p ms a b) ≡ put_at (λ x y. see (q x y)) v p (see ms) a b
     miss ne = ap see (put_at_miss q v p a b ms ne) ∙ sym (put_at_miss (λ x y. see (q x y)) v p a b (see ms) ne)
@@ -58,7 +63,14 @@ see_put q v p ms a b = ⊎_elim (λ (e : a ≡ v). ⊎_elim (λ (h : b ≡ p). r
 module _ (g : Network) (v : ℕ) where
   pub seen_sent : (ss : Outgoing) (w : Net) → (λ (a b : ℕ). see ((send_all g v ss w).queue a b)) ≡ push_all g v ss (λ a b. see (w.queue a b))
   seen_sent [] w = refl
-  seen_sent (s ∷ ss) w = seen_sent ss (send g v w s) ∙ ap (push_all g v ss) (fun_ext (λ a. fun_ext (λ b. see_put w.queue _ _ (w.queue (port_at g v s.0).far (port_at g v s.0).far_port ++ s.1 ∷ []) a b ∙ ap (λ (x : Seen). put_at (λ c d. see (w.queue c d)) (port_at g v s.0).far (port_at g v s.0).far_port x a b) (see_more (w.queue (port_at g v s.0).far (port_at g v s.0).far_port) s.1))))
+  seen_sent (s ∷ ss) w =
+      seen_sent ss (send g v w s) ∙
+      ap (push_all g v ss) (fun_ext (λ a.
+      fun_ext (λ b.
+      see_put w.queue _ _ (w.queue (port_at g v s.0).far (port_at g v s.0).far_port ++ s.1 ∷ []) a b ∙
+      ap
+      (λ (x : Seen). put_at (λ c d. see (w.queue c d)) (port_at g v s.0).far (port_at g v s.0).far_port x a b)
+      (see_more (w.queue (port_at g v s.0).far (port_at g v s.0).far_port) s.1))))
 
   -- the member that a reaction leaves
   abbrev pub reacts : Net → Ghost → Delta → Member

@@ -12,6 +12,7 @@ use Rattle.ghs_node.specs.declared.message.Message.TheVariants.{Report, ChangeRo
 use Rattle.ghs_protocol.specs.Network.{Network, port_at, At, far, far_port, IsWired, InNetwork}
 use Rattle.ghs_protocol.specs.Marks.{Leads, Here, Over}
 use Rattle.ghs_protocol.proofs.clauses.Scene.{Scene, End, tree_end, end, forest, far_end}
+use Rattle.ghs_protocol.proofs.clauses.Changes.{seen_beyond}
 use Rattle.ghs_protocol.proofs.clauses.Links.{Joins, Ups}
 use Rattle.ghs_protocol.proofs.clauses.Search.{LeadsOut}
 use Rattle.ghs_protocol.proofs.clauses.TreeMessages.{Begun, Stage, AtStage, Asking, Called}
@@ -65,37 +66,63 @@ module _ (g : Network) (wired : IsWired g) (w : Scene) (holds : Invariant g w) (
   pub near_fits : (v p : ℕ) → At g v p → FloorsAt (end g w v p) (far_end g w v p) (floor v) (floor (far g v p))
   near_fits v p at =
       subst (λ (e : End). FloorsAt (end g w v p) e (floor v) (floor (far g v p)))
-      (λ k. record { port = far_port g v p; key = wired.same_key v p at k; mark = (w.at (far g v p)).mark (far_port g v p); is = w.at (far g v p); seen = w.seen (far g v p) (far_port g v p) })
+      (λ k. record {
+        port = far_port g v p;
+        key = wired.same_key v p at k;
+        mark = (w.at (far g v p)).mark (far_port g v p);
+        is = w.at (far g v p);
+        seen = seen_beyond g w v p;
+      })
       (floors.links v p at)
 
   pub far_fits : (v p : ℕ) → At g v p → FloorsAt (far_end g w v p) (end g w v p) (floor (far g v p)) (floor v)
   far_fits v p at =
       subst₂ (λ (x y : ℕ). FloorsAt (far_end g w v p) (end g w x y) (floor (far g v p)) (floor x)) (wired.back v p at) (wired.back_port v p at)
-      (subst (λ (e : End). FloorsAt e (end g w (far g (far g v p) (far_port g v p)) (far_port g (far g v p) (far_port g v p))) (floor (far g v p)) (floor (far g (far g v p) (far_port g v p))))
-      (λ k. record { port = far_port g v p; key = wired.same_key v p at k; mark = (w.at (far g v p)).mark (far_port g v p); is = w.at (far g v p); seen = w.seen (far g v p) (far_port g v p) })
+      (subst (λ (e : End).
+      FloorsAt e
+      (end g w (far g (far g v p) (far_port g v p)) (far_port g (far g v p) (far_port g v p))) (floor (far g v p))
+      (floor (far g (far g v p) (far_port g v p))))
+      (λ k. record {
+        port = far_port g v p;
+        key = wired.same_key v p at k;
+        mark = (w.at (far g v p)).mark (far_port g v p);
+        is = w.at (far g v p);
+        seen = seen_beyond g w v p;
+      })
       (floors.links _ _ (wired.there v p at)))
 
   -- the floors of a fragment are not below those of its root's ends
-  module _ (u j : ℕ) (at : At g u j) (joined : IsJoinedIn g (forest w) u j) (up : (w.at u).up ≡ Some j) (up_beyond : (w.at (far g u j)).up ≡ Some (far_port g u j))
+  module _ (u j : ℕ) (at : At g u j) (joined : IsJoinedIn g (forest w) u j) (up : (w.at u).up ≡ Some j)
+      (up_beyond : (w.at (far g u j)).up ≡ Some (far_port g u j))
       (k : Floor) (low : lower k (floor u) ≡ true) (low' : lower k (floor (far g u j)) ≡ true) where
     at_the_root : (v p : ℕ) → At g v p → Root g (forest w) v p → (w.at v).fragment ≡ (w.at u).fragment → lower k (floor v) ≡ true
     at_the_root v p at' root same =
-        ⊎_elim (λ h. subst (λ y. lower k (floor y) ≡ true) (sym h.0) low) (λ h. subst (λ y. lower k (floor y) ≡ true) (ap₂ (far g) (sym h.0) (sym h.1) ∙ wired.back v p at') low')
+        ⊎_elim (λ h. subst (λ y. lower k (floor y) ≡ true) (sym h.0) low)
+        (λ h. subst (λ y. lower k (floor y) ≡ true) (ap₂ (far g) (sym h.0) (sym h.1) ∙ wired.back v p at') low')
         (holds.trees.one_root v p u j at' at root (Both_ways joined up up_beyond) same)
 
     pub above_root : {v : ℕ} → Reach g (forest w) v → (w.at v).fragment ≡ (w.at u).fragment → lower k (floor v) ≡ true
     above_root {v} (At_root p at' way root) same = at_the_root v p at' root same
     above_root {v} (By_step p at' way link r) same =
         ⊎_elim (λ h. at_the_root v p at' (Both_ways link way h) same)
-        (λ ne. lower_on k (floor (far g v p)) (floor v) (above_root r (sym (holds.trees.joined_within v p at' link) ∙ same)) ((near_fits v p at').falls (record { joins = record { here = branch_mark _ link.here; there = branch_mark _ link.there }; up = way; down = ne })))
+        (λ ne.
+        lower_on k (floor (far g v p)) (floor v) (above_root r (sym (holds.trees.joined_within v p at' link) ∙ same))
+        ((near_fits v p at').falls
+        (record { joins = record { here = branch_mark _ link.here; there = branch_mark _ link.there }; up = way; down = ne })))
         (probe_is (w.at (far g v p)).up (far_port g v p))
 
     module _ (awake : (w.at u).head.phase ≢ Sleeping) where
       pub wakes : (v : ℕ) → InNetwork g v → (w.at v).fragment ≡ (w.at u).fragment → (w.at v).head.phase ≢ Sleeping
-      wakes v is same e = awake (subst (λ y. (w.at y).head.phase ≡ Sleeping) (sym (holds.alone v u is (record { some = at.some; node = at.node }) e (sym same))) e)
+      wakes v is same e =
+          awake
+          (subst (λ y. (w.at y).head.phase ≡ Sleeping) (sym (holds.alone v u is (record { some = at.some; node = at.node }) e (sym same))) e)
 
       -- no link that leads out of the fragment is below the floor
-      pub leads_above : (v p : ℕ) → At g v p → (w.at v).fragment ≡ (w.at u).fragment → (w.at (far g v p)).fragment ≢ (w.at u).fragment → lower k (Some (Some (port_at g v p).key)) ≡ true
+      pub leads_above : (v p : ℕ) →
+          At g v p →
+          (w.at v).fragment ≡ (w.at u).fragment →
+          (w.at (far g v p)).fragment ≢ (w.at u).fragment →
+          lower k (Some (Some (port_at g v p).key)) ≡ true
       leads_above v p at' same out =
           let is : InNetwork g v = record { some = at'.some; node = at'.node } in
           let z = (holds.nodes v is).points (wakes v is same) (omega (arith, at'.port)) in
@@ -134,10 +161,18 @@ module _ (g : Network) (wired : IsWired g) (w : Scene) (holds : Invariant g w) (
         go : Back (NamesOf g w (w.at u).fragment) (tree_end (end g w u j)) (tree_end (far_end g w u j)) k ms → RootFloors
         go (Old c h x) = absurd (c.down root.up_beyond)
         go (Half c z a b n p q) =
-            let same = holds.trees.by_fragment (far g u j) u (sym (holds.trees.joined_within u j at (record { here = ap is_branch c.both.joins.here; there = ap is_branch c.both.joins.there }))) in
+            let same = holds.trees.by_fragment (far g u j) u
+            (sym (holds.trees.joined_within u j at (record { here = ap is_branch c.both.joins.here; there = ap is_branch c.both.joins.there }))) in
             let mine : floor u ≡ Some (best_key (w.at u).head.best) = (near_fits u j at).core c root.top found in
-            let theirs : floor (far g u j) ≡ Some (best_key (w.at (far g u j)).head.best) = there_fits.core (record { both = record { joins = record { here = c.both.joins.there; there = c.both.joins.here }; up = c.both.up_beyond; up_beyond = c.both.up }; named = same.1 ∙ c.named }) (begun z.there b z.at_there) p in
-            record { mine = mine; theirs = subst₂ (λ (x y : Floor). lower x y ≡ true) (sym mine) (sym (theirs ∙ ap Some q)) (below_lower (best_key (w.at u).head.best) k better) }
+            let theirs : floor (far g u j) ≡ Some (best_key (w.at (far g u j)).head.best) = there_fits.core (record {
+              both = record { joins = record { here = c.both.joins.there; there = c.both.joins.here }; up = c.both.up_beyond; up_beyond = c.both.up };
+              named = same.1 ∙ c.named;
+            }) (begun z.there b z.at_there) p in
+            record {
+              mine = mine;
+              theirs =
+                  subst₂ (λ (x y : Floor). lower x y ≡ true) (sym mine) (sym (theirs ∙ ap Some q)) (below_lower (best_key (w.at u).head.best) k better);
+            }
 
     by_root : (waits : (w.seen u j).tree ≡ ChangeRoot ∷ ms) → RootFloors
     by_root waits =
@@ -150,7 +185,12 @@ module _ (g : Network) (wired : IsWired g) (w : Scene) (holds : Invariant g w) (
     root_floors (By_root q) = by_root q
 
     -- the best link of the root, where it leads out, is one of the tree
-    pub best_in_tree : SendsRoot w u j ms → (b : ℕ) (k : Key) → At g u b → (w.at u).head.best ≡ Some (b, k) → (w.at u).mark b ≢ Branch → IsTreeLink g u b
+    pub best_in_tree :
+        SendsRoot w u j ms →
+        (b : ℕ) (k : Key) → At g u b →
+        (w.at u).head.best ≡ Some (b, k) →
+        (w.at u).mark b ≢ Branch →
+        IsTreeLink g u b
     best_in_tree calls b k atb best mark = cut_link g (λ t. (w.at t).fragment) (w.at u).fragment u b out.apart least refl
       where
         out : LeadsOut (tree_end (end g w u b)) (tree_end (far_end g w u b)) k
@@ -162,7 +202,11 @@ module _ (g : Network) (wired : IsWired g) (w : Scene) (holds : Invariant g w) (
         is_floor : floor u ≡ Some (Some (port_at g u b).key)
         is_floor = floors_here.mine ∙ ap (λ o. Some (best_key o)) best ∙ ap (λ x. Some (Some x)) out.key
 
-        least : (t q : ℕ) → At g t q → (w.at t).fragment ≡ (w.at u).fragment → (w.at (far g t q)).fragment ≢ (w.at u).fragment → key_lt (port_at g t q).key (port_at g u b).key ≡ false
+        least : (t q : ℕ) →
+            At g t q →
+            (w.at t).fragment ≡ (w.at u).fragment →
+            (w.at (far g t q)).fragment ≢ (w.at u).fragment →
+            key_lt (port_at g t q).key (port_at g u b).key ≡ false
         least t q at' same away =
             let z = leads_above u j at (record { here = ap is_branch root.joins.here; there = ap is_branch root.joins.there }) root.up root.up_beyond (Some (Some (port_at g u b).key))
             (subst (λ x. lower (Some (Some (port_at g u b).key)) x ≡ true) (sym is_floor) (lower_self (Some (Some (port_at g u b).key))))

@@ -9,7 +9,10 @@ in_append x (y ∷ a) b (Later i) = ⊎_elim (λ k. inl (Later k)) inr (in_appen
 
 apart_append : (a b : List ℕ) → Apart a → Apart b → ((x : ℕ) → IsIn x a → IsIn x b → ⊥) → Apart (a ++ b)
 apart_append [] b k l no_both = l
-apart_append (x ∷ a) b (One_more f k) l no_both = One_more (λ y i. ⊎_elim (λ h. f y h) (λ h e. no_both x First (subst (λ z. IsIn z b) (sym e) h)) (in_append y a b i)) (apart_append a b k l (λ z h i. no_both z (Later h) i))
+apart_append (x ∷ a) b (One_more f k) l no_both =
+    One_more
+    (λ y i. ⊎_elim (λ h. f y h) (λ h e. no_both x First (subst (λ z. IsIn z b) (sym e) h)) (in_append y a b i))
+    (apart_append a b k l (λ z h i. no_both z (Later h) i))
 
 -- two sets of 2 ^ n nodes that have none in common
 pub doubled : {P Q : ℕ → Type 0} (n : ℕ) → ((x : ℕ) → P x → Q x → ⊥) → HasMany P (2 ^ n) → HasMany Q (2 ^ n) → HasMany (λ x. P x ⊎ Q x) (2 ^ (suc n))

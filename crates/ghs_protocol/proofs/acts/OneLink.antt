@@ -11,7 +11,8 @@ use Rattle.ghs_protocol.specs.Steps.{sent_on}
 use Rattle.ghs_protocol.proofs.lemmas.Updates.{put_same, put_other}
 use Rattle.ghs_protocol.proofs.lemmas.Sums.{sum_same, sum_one}
 use Rattle.ghs_protocol.specs.Ledger.{sum_below}
-use Rattle.ghs_protocol.proofs.clauses.Scene.{Seen, adds, Member, Scene, End, end, Forest, forest, acts}
+use Rattle.ghs_protocol.proofs.clauses.Scene.{Seen, adds, Member, Scene, End, end, Forest, forest, acts, far_end}
+use Rattle.ghs_protocol.proofs.clauses.Changes.{seen_beyond}
 use Rattle.ghs_protocol.proofs.clauses.Nodes.{NodeFits}
 use Rattle.ghs_protocol.proofs.clauses.Whole.{LinkFits, Invariant, NamesOf}
 use Rattle.ghs_protocol.proofs.clauses.Fragments.{Names}
@@ -30,17 +31,25 @@ pub sends_one : (j : ℕ) (m : Message) → SendsOn j (m ∷ []) ((j, m) ∷ [])
 sends_one j m = record { only = rw (eq-eqb j j refl) refl; none = λ i ne. rw (ne_eqb j i (λ e. ne (sym e))) refl }
 
 -- a fact of all links, at the two ends of u's
-module _ (g : Network) (wired : IsWired g) (w : Scene) (P : End → End → Type 0) (all : (v p : ℕ) → At g v p → P (end g w v p) (end g w (far g v p) (far_port g v p))) (u i : ℕ) (at : At g u i) where
-  far_is : end g w (far g u i) (far_port g u i) ≡ record { port = far_port g u i; key = (port_at g u i).key; mark = (w.at (far g u i)).mark (far_port g u i); is = w.at (far g u i); seen = w.seen (far g u i) (far_port g u i) }
-  far_is = λ k. record { port = far_port g u i; key = wired.same_key u i at k; mark = (w.at (far g u i)).mark (far_port g u i); is = w.at (far g u i); seen = w.seen (far g u i) (far_port g u i) }
+module _ (g : Network) (wired : IsWired g) (w : Scene) (P : End → End → Type 0)
+    (all : (v p : ℕ) → At g v p → P (end g w v p) (end g w (far g v p) (far_port g v p))) (u i : ℕ) (at : At g u i) where
+  far_is : end g w (far g u i) (far_port g u i) ≡ far_end g w u i
+  far_is = λ k. record {
+    port = far_port g u i;
+    key = wired.same_key u i at k;
+    mark = (w.at (far g u i)).mark (far_port g u i);
+    is = w.at (far g u i);
+    seen = seen_beyond g w u i;
+  }
 
-  pub at_near : P (end g w u i) (record { port = far_port g u i; key = (port_at g u i).key; mark = (w.at (far g u i)).mark (far_port g u i); is = w.at (far g u i); seen = w.seen (far g u i) (far_port g u i) })
+  pub at_near : P (end g w u i) (far_end g w u i)
   at_near = subst (P (end g w u i)) far_is (all u i at)
 
-  pub at_far : P (record { port = far_port g u i; key = (port_at g u i).key; mark = (w.at (far g u i)).mark (far_port g u i); is = w.at (far g u i); seen = w.seen (far g u i) (far_port g u i) }) (end g w u i)
+  pub at_far : P (far_end g w u i) (end g w u i)
   at_far = subst₂ P far_is (λ k. end g w (wired.back u i at k) (wired.back_port u i at k)) (all _ _ (wired.there u i at))
 
-module _ (g : Network) (wired : IsWired g) (u : ℕ) (u_is : InNetwork g u) (x : Member) (j : ℕ) (at : At g u j) (q : Seen) (ms : List Message) (ss : Outgoing) (on : SendsOn j ms ss) (w : Scene) where
+module _ (g : Network) (wired : IsWired g) (u : ℕ) (u_is : InNetwork g u) (x : Member) (j : ℕ) (at : At g u j) (q : Seen)
+    (ms : List Message) (ss : Outgoing) (on : SendsOn j ms ss) (w : Scene) where
   pub own : ℕ → Seen
   own = put (w.seen u) j q
 
@@ -52,10 +61,10 @@ module _ (g : Network) (wired : IsWired g) (u : ℕ) (u_is : InNetwork g u) (x :
   here = record { port = j; key = (port_at g u j).key; mark = (x).mark (j); is = x; seen = q }
 
   abbrev pub there : End
-  there = record { port = far_port g u j; key = (port_at g u j).key; mark = (w.at (far g u j)).mark (far_port g u j); is = w.at (far g u j); seen = adds (w.seen (far g u j) (far_port g u j)) ms }
+  there = record (far_end g w u j) { seen = adds (seen_beyond g w u j) ms }
 
   abbrev pub onto : ℕ → End
-  onto i = record { port = far_port g u i; key = (port_at g u i).key; mark = (w.at (far g u i)).mark (far_port g u i); is = w.at (far g u i); seen = w.seen (far g u i) (far_port g u i) }
+  onto i = far_end g w u i
 
   pub near_still : (i : ℕ) → i ≢ j → near' g wired u u_is x own ss w i ≡ still i
   unfolding own
@@ -63,7 +72,7 @@ module _ (g : Network) (wired : IsWired g) (u : ℕ) (u_is : InNetwork g u) (x :
 
   pub far_onto : (i : ℕ) → i ≢ j → far' g wired u u_is x own ss w i ≡ onto i
   unfolding own
-  far_onto i ne = λ k. record { port = far_port g u i; key = (port_at g u i).key; mark = (w.at (far g u i)).mark (far_port g u i); is = w.at (far g u i); seen = adds (w.seen (far g u i) (far_port g u i)) (on.none i ne k) }
+  far_onto i ne = λ k. record (far_end g w u i) { seen = adds (seen_beyond g w u i) (on.none i ne k) }
 
   pub near_here : near' g wired u u_is x own ss w j ≡ here
   unfolding own
@@ -71,26 +80,63 @@ module _ (g : Network) (wired : IsWired g) (u : ℕ) (u_is : InNetwork g u) (x :
 
   pub far_there : far' g wired u u_is x own ss w j ≡ there
   unfolding own
-  far_there = λ k. record { port = far_port g u j; key = (port_at g u j).key; mark = (w.at (far g u j)).mark (far_port g u j); is = w.at (far g u j); seen = adds (w.seen (far g u j) (far_port g u j)) (on.only k) }
+  far_there = λ k. record (far_end g w u j) { seen = adds (seen_beyond g w u j) (on.only k) }
 
-  pub by_port : (P : End → End → Type 0) → P here there → ((i : ℕ) → At g u i → i ≢ j → P (still i) (onto i)) → (i : ℕ) → At g u i → P (near' g wired u u_is x own ss w i) (far' g wired u u_is x own ss w i)
-  by_port P hit miss i at' = ⊎_elim (λ (e : i ≡ j). subst (λ y. P (near' g wired u u_is x own ss w y) (far' g wired u u_is x own ss w y)) (sym e) (subst₂ P (sym near_here) (sym far_there) hit)) (λ ne. subst₂ P (sym (near_still i ne)) (sym (far_onto i ne)) (miss i at' ne)) (cases_eq i j)
+  pub by_port : (P : End → End → Type 0) →
+      P here there →
+      ((i : ℕ) → At g u i → i ≢ j → P (still i) (onto i)) →
+      (i : ℕ) → At g u i →
+      P (near' g wired u u_is x own ss w i) (far' g wired u u_is x own ss w i)
+  by_port P hit miss i at' =
+      ⊎_elim (λ (e : i ≡ j).
+      subst
+      (λ y. P (near' g wired u u_is x own ss w y) (far' g wired u u_is x own ss w y))
+      (sym e) (subst₂ P (sym near_here) (sym far_there) hit))
+      (λ ne. subst₂ P (sym (near_still i ne)) (sym (far_onto i ne)) (miss i at' ne))
+      (cases_eq i j)
 
-  pub by_port' : (P : End → End → Type 0) → P there here → ((i : ℕ) → At g u i → i ≢ j → P (onto i) (still i)) → (i : ℕ) → At g u i → P (far' g wired u u_is x own ss w i) (near' g wired u u_is x own ss w i)
+  pub by_port' : (P : End → End → Type 0) →
+      P there here →
+      ((i : ℕ) → At g u i → i ≢ j → P (onto i) (still i)) →
+      (i : ℕ) → At g u i →
+      P (far' g wired u u_is x own ss w i) (near' g wired u u_is x own ss w i)
   by_port' P hit miss = by_port (λ e f. P f e) hit miss
 
   -- a fact of the two ends that names the port
-  pub by_port_at : (P : ℕ → End → End → Type 0) → P j here there → ((i : ℕ) → At g u i → i ≢ j → P i (still i) (onto i)) → (i : ℕ) → At g u i → P i (near' g wired u u_is x (put (w.seen u) j q) ss w i) (far' g wired u u_is x (put (w.seen u) j q) ss w i)
+  pub by_port_at : (P : ℕ → End → End → Type 0) →
+      P j here there →
+      ((i : ℕ) → At g u i → i ≢ j → P i (still i) (onto i)) →
+      (i : ℕ) → At g u i →
+      P i (near' g wired u u_is x (put (w.seen u) j q) ss w i) (far' g wired u u_is x (put (w.seen u) j q) ss w i)
   unfolding own
-  by_port_at P hit miss i at' = ⊎_elim (λ (e : i ≡ j). subst (λ y. P y (near' g wired u u_is x own ss w y) (far' g wired u u_is x own ss w y)) (sym e) (subst₂ (P j) (sym near_here) (sym far_there) hit)) (λ ne. subst₂ (P i) (sym (near_still i ne)) (sym (far_onto i ne)) (miss i at' ne)) (cases_eq i j)
+  by_port_at P hit miss i at' =
+      ⊎_elim (λ (e : i ≡ j).
+      subst
+      (λ y. P y (near' g wired u u_is x own ss w y) (far' g wired u u_is x own ss w y))
+      (sym e) (subst₂ (P j) (sym near_here) (sym far_there) hit))
+      (λ ne. subst₂ (P i) (sym (near_still i ne)) (sym (far_onto i ne)) (miss i at' ne))
+      (cases_eq i j)
 
   abbrev pub then : Scene
   then = acts g u x (put (w.seen u) j q) ss w
 
   -- find_count
-  pub sums_one : DebtsCounted g w → x.head.find_count + debt (end g w u j) (onto j) ≡ (w.at u).head.find_count + debt here there → ((i : ℕ) → i ≢ j → debt (still i) (onto i) ≡ debt (end g w u i) (onto i)) → debt there here ≡ debt (onto j) (end g w u j) → ((i : ℕ) → i ≢ j → debt (onto i) (still i) ≡ debt (onto i) (end g w u i)) → DebtsCounted g then
+  pub sums_one :
+      DebtsCounted g w →
+      x.head.find_count + debt (end g w u j) (onto j) ≡ (w.at u).head.find_count + debt here there →
+      ((i : ℕ) → i ≢ j → debt (still i) (onto i) ≡ debt (end g w u i) (onto i)) →
+      debt there here ≡ debt (onto j) (end g w u j) →
+      ((i : ℕ) → i ≢ j → debt (onto i) (still i) ≡ debt (onto i) (end g w u i)) →
+      DebtsCounted g then
   unfolding own
-  sums_one counted count mine hit theirs = sums_after g wired u u_is x own ss w counted total (λ i at'. ⊎_elim (λ (e : i ≡ j). subst (λ y. debt (far' g wired u u_is x own ss w y) (near' g wired u u_is x own ss w y) ≡ debt (onto y) (end g w u y)) (sym e) (ap₂ debt far_there near_here ∙ hit)) (λ ne. ap₂ debt (far_onto i ne) (near_still i ne) ∙ theirs i ne) (cases_eq i j))
+  sums_one counted count mine hit theirs =
+      sums_after g wired u u_is x own ss w counted total
+      (λ i at'. ⊎_elim (λ (e : i ≡ j).
+      subst
+      (λ y. debt (far' g wired u u_is x own ss w y) (near' g wired u u_is x own ss w y) ≡ debt (onto y) (end g w u y))
+      (sym e) (ap₂ debt far_there near_here ∙ hit))
+      (λ ne. ap₂ debt (far_onto i ne) (near_still i ne) ∙ theirs i ne)
+      (cases_eq i j))
     where
       f : ℕ → ℕ
       f i = debt (end g w u i) (onto i)
@@ -105,13 +151,43 @@ module _ (g : Network) (wired : IsWired g) (u : ℕ) (u_is : InNetwork g u) (x :
       hj = ap₂ debt near_here far_there
 
       old : (w.at u).head.find_count ≡ sum_below (length (g.ports u)) f
-      old = counted u u_is ∙ sum_same (length (g.ports u)) _ _ (λ i lt. let at' : At g u i = record { some = u_is.some; node = u_is.node; port = lt } in ap (debt (end g w u i)) (λ k. record { port = far_port g u i; key = wired.same_key u i at' k; mark = (w.at (far g u i)).mark (far_port g u i); is = w.at (far g u i); seen = w.seen (far g u i) (far_port g u i) }))
+      old =
+          counted u u_is ∙
+          sum_same (length (g.ports u)) _ _ (λ i lt.
+          let at' : At g u i = record { some = u_is.some; node = u_is.node; port = lt } in
+          ap (debt (end g w u i)) (λ k. record {
+            port = far_port g u i;
+            key = wired.same_key u i at' k;
+            mark = (w.at (far g u i)).mark (far_port g u i);
+            is = w.at (far g u i);
+            seen = seen_beyond g w u i;
+          }))
 
       total : x.head.find_count ≡ sum_below (length (g.ports u)) h
       total = omega (arith, one, hj, old, count)
 
   -- all together, where what rests is seen to otherwise
-  pub kept_at : Alike (w.at u) x → Resting g then → Invariant g w → NodeFits (length (g.ports u)) x → LinkFits (NamesOf g w) here there → LinkFits (NamesOf g w) there here → ((i : ℕ) → At g u i → i ≢ j → LinkFits (NamesOf g w) (end g w u i) (onto i) → LinkFits (NamesOf g w) (onto i) (end g w u i) → LinkFits (NamesOf g w) (still i) (onto i)) → ((i : ℕ) → At g u i → i ≢ j → LinkFits (NamesOf g w) (end g w u i) (onto i) → LinkFits (NamesOf g w) (onto i) (end g w u i) → LinkFits (NamesOf g w) (onto i) (still i)) → (x.head.phase ≡ Sleeping → (w.at u).head.phase ≡ Sleeping) → x.head.name ≡ (w.at u).head.name → DebtsCounted g then → Invariant g then
+  pub kept_at :
+      Alike (w.at u) x →
+      Resting g then →
+      Invariant g w →
+      NodeFits (length (g.ports u)) x →
+      LinkFits (NamesOf g w) here there →
+      LinkFits (NamesOf g w) there here →
+      ((i : ℕ) → At g u i →
+      i ≢ j →
+      LinkFits (NamesOf g w) (end g w u i) (onto i) →
+      LinkFits (NamesOf g w) (onto i) (end g w u i) →
+      LinkFits (NamesOf g w) (still i) (onto i)) →
+      ((i : ℕ) → At g u i →
+      i ≢ j →
+      LinkFits (NamesOf g w) (end g w u i) (onto i) →
+      LinkFits (NamesOf g w) (onto i) (end g w u i) →
+      LinkFits (NamesOf g w) (onto i) (still i)) →
+      (x.head.phase ≡ Sleeping → (w.at u).head.phase ≡ Sleeping) →
+      x.head.name ≡ (w.at u).head.name →
+      DebtsCounted g then →
+      Invariant g then
   unfolding own
   kept_at alike resting holds node hit hit' miss miss' awake name counted =
       kept_after g wired u u_is x own ss w holds alike node
@@ -131,7 +207,7 @@ module _ (g : Network) (wired : IsWired g) (u : ℕ) (u_is : InNetwork g u) (x :
     pub alike : Alike (w.at u) x
     pub found : (w.at u).head.phase ≡ Found → x.head.phase ≡ Found
     pub mine : has_call (w.seen u j).tree ≡ false → has_call q.tree ≡ false
-    pub theirs : has_call (w.seen (far g u j) (far_port g u j)).tree ≡ false → has_call (adds (w.seen (far g u j) (far_port g u j)) ms).tree ≡ false
+    pub theirs : has_call (seen_beyond g w u j).tree ≡ false → has_call (adds (seen_beyond g w u j) ms).tree ≡ false
 
   module _ (calm : Calm) where
     forests : forest then ≡ forest w
@@ -161,17 +237,46 @@ module _ (g : Network) (wired : IsWired g) (u : ℕ) (u_is : InNetwork g u) (x :
     calm_quiet a z =
         quiet_after g wired u u_is x own ss w a z
         (λ e. calm.found (z.found u u_is (sym calm.alike.fragment ∙ e)))
-        (by_port (λ e f. e.is.fragment ≡ a → has_call e.seen.tree ≡ false) (λ e. calm.mine (z.uncalled u j at (sym calm.alike.fragment ∙ e))) (λ i at' ne e. z.uncalled u i at' (sym calm.alike.fragment ∙ e)))
-        (by_port' (λ e f. e.is.fragment ≡ a → has_call e.seen.tree ≡ false) (λ e. calm.theirs (z.uncalled _ _ (wired.there u j at) e)) (λ i at' ne e. z.uncalled _ _ (wired.there u i at') e))
+        (by_port (λ e f. e.is.fragment ≡ a → has_call e.seen.tree ≡ false) (λ e. calm.mine (z.uncalled u j at (sym calm.alike.fragment ∙ e)))
+        (λ i at' ne e. z.uncalled u i at' (sym calm.alike.fragment ∙ e)))
+        (by_port' (λ e f. e.is.fragment ≡ a → has_call e.seen.tree ≡ false) (λ e. calm.theirs (z.uncalled _ _ (wired.there u j at) e))
+        (λ i at' ne e. z.uncalled _ _ (wired.there u i at') e))
 
     pub resting_calm : Resting g w → Resting g then
     resting_calm r = record {
-      out = λ v p at' o. subst (Quiet g then) (sym (frags v)) (calm_quiet _ (r.out v p at' (record { here = was v p o.here; there = was_not _ _ o.there })));
-      moved = λ v p at' m. subst (Quiet g then) (sym (frags v)) (calm_quiet _ (r.moved v p at' (record { both = record { joins = record { here = was v p m.both.joins.here; there = was _ _ m.both.joins.there }; up = sym (ups v) ∙ m.both.up; up_beyond = sym (ups _) ∙ m.both.up_beyond }; unnamed = λ e. m.unnamed (names v ∙ e) })));
+      out = λ v p at' o.
+          subst (Quiet g then) (sym (frags v)) (calm_quiet _ (r.out v p at' (record { here = was v p o.here; there = was_not _ _ o.there })));
+      moved = λ v p at' m.
+          subst (Quiet g then) (sym (frags v)) (calm_quiet _ (r.moved v p at' (record {
+            both = record {
+              joins = record { here = was v p m.both.joins.here; there = was _ _ m.both.joins.there };
+              up = sym (ups v) ∙ m.both.up;
+              up_beyond = sym (ups _) ∙ m.both.up_beyond;
+            };
+            unnamed = λ e. m.unnamed (names v ∙ e);
+          })));
     }
 
     -- all together, for calm steps
-    pub kept_one : Invariant g w → NodeFits (length (g.ports u)) x → LinkFits (NamesOf g w) here there → LinkFits (NamesOf g w) there here → ((i : ℕ) → At g u i → i ≢ j → LinkFits (NamesOf g w) (end g w u i) (onto i) → LinkFits (NamesOf g w) (onto i) (end g w u i) → LinkFits (NamesOf g w) (still i) (onto i)) → ((i : ℕ) → At g u i → i ≢ j → LinkFits (NamesOf g w) (end g w u i) (onto i) → LinkFits (NamesOf g w) (onto i) (end g w u i) → LinkFits (NamesOf g w) (onto i) (still i)) → (x.head.phase ≡ Sleeping → (w.at u).head.phase ≡ Sleeping) → x.head.name ≡ (w.at u).head.name → DebtsCounted g then → Invariant g then
+    pub kept_one :
+        Invariant g w →
+        NodeFits (length (g.ports u)) x →
+        LinkFits (NamesOf g w) here there →
+        LinkFits (NamesOf g w) there here →
+        ((i : ℕ) → At g u i →
+        i ≢ j →
+        LinkFits (NamesOf g w) (end g w u i) (onto i) →
+        LinkFits (NamesOf g w) (onto i) (end g w u i) →
+        LinkFits (NamesOf g w) (still i) (onto i)) →
+        ((i : ℕ) → At g u i →
+        i ≢ j →
+        LinkFits (NamesOf g w) (end g w u i) (onto i) →
+        LinkFits (NamesOf g w) (onto i) (end g w u i) →
+        LinkFits (NamesOf g w) (onto i) (still i)) →
+        (x.head.phase ≡ Sleeping → (w.at u).head.phase ≡ Sleeping) →
+        x.head.name ≡ (w.at u).head.name →
+        DebtsCounted g then →
+        Invariant g then
     unfolding own
     kept_one holds node hit hit' miss miss' awake name counted =
         kept_after g wired u u_is x own ss w holds calm.alike node

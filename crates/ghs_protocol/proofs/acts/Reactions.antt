@@ -29,7 +29,11 @@ with_up gh v o = record gh { up = put gh.up v o }
 -- the memory, where fragments c and a are fragment a, of this coming level and name
 abbrev pub regrouped : ℕ → ℕ → ℕ → Option Key → Ghost → Ghost
 regrouped c a l n gh =
-    record gh { fragment = λ v. if (gh.fragment v == c) || (gh.fragment v == a) then a else gh.fragment v; coming = put gh.coming a l; coming_name = put gh.coming_name a n }
+    record gh {
+      fragment = λ v. if (gh.fragment v == c) || (gh.fragment v == a) then a else gh.fragment v;
+      coming = put gh.coming a l;
+      coming_name = put gh.coming_name a n;
+    }
 
 or_right : (x y : Bool) → (x || y) ≡ false → y ≡ false
 or_right true y e = cc
@@ -41,23 +45,39 @@ module _ (c a l : ℕ) (n : Option Key) (w : Net) (gh : Ghost) where
     where
       go :
           (b : Bool) → ((gh.fragment v == c) || (gh.fragment v == a)) ≡ b →
-          record (member w gh v) { fragment = cond b a (gh.fragment v); coming = put gh.coming a l (cond b a (gh.fragment v)); coming_name = put gh.coming_name a n (cond b a (gh.fragment v)) } ≡ cond b (record (member w gh v) { fragment = a; coming = l; coming_name = n }) (member w gh v)
+          record (member w gh v) {
+            fragment = cond b a (gh.fragment v);
+            coming = put gh.coming a l (cond b a (gh.fragment v));
+            coming_name = put gh.coming_name a n (cond b a (gh.fragment v));
+          } ≡
+          cond b (record (member w gh v) { fragment = a; coming = l; coming_name = n }) (member w gh v)
       go true e = λ i. record (member w gh v) { fragment = a; coming = put_same gh.coming a l i; coming_name = put_same gh.coming_name a n i }
       go false e =
           let ne : gh.fragment v ≢ a = eqb-false (gh.fragment v) a (or_right _ _ e) in
-          λ i. record (member w gh v) { coming = put_other gh.coming a (gh.fragment v) l ne i; coming_name = put_other gh.coming_name a (gh.fragment v) n ne i }
+          λ i. record (member w gh v) {
+            coming = put_other gh.coming a (gh.fragment v) l ne i;
+            coming_name = put_other gh.coming_name a (gh.fragment v) n ne i;
+          }
 
   pub grouped_scene : scene w (regrouped c a l n gh) ≡ relabel c a l n (scene w gh)
   grouped_scene = λ i. record { at = fun_ext group_member i; seen = λ x y. see (w.queue x y) }
 
 module _ (g : Network) (v : ℕ) where
   of_node : Ghost → ℕ → NodeState → Member
-  of_node gh u n = record { head = n.head; mark = λ q. mark_at n q; fragment = gh.fragment u; coming = gh.coming (gh.fragment u); coming_name = gh.coming_name (gh.fragment u); up = gh.up u }
+  of_node gh u n = record {
+    head = n.head;
+    mark = λ q. mark_at n q;
+    fragment = gh.fragment u;
+    coming = gh.coming (gh.fragment u);
+    coming_name = gh.coming_name (gh.fragment u);
+    up = gh.up u;
+  }
 
   -- what a reaction leaves, where v's way to the root is then this one
   pub reacted_scene :
       (w : Net) (gh : Ghost) (o : Option ℕ) (d : Delta) →
-      scene (reacted g v d w) (with_up gh v o) ≡ record { at = put (scene w gh).at v (record (reacts g v w gh d) { up = o }); seen = push_all g v d.sends (scene w gh).seen }
+      scene (reacted g v d w) (with_up gh v o) ≡
+      record { at = put (scene w gh).at v (record (reacts g v w gh d) { up = o }); seen = push_all g v d.sends (scene w gh).seen }
   unfolding of_node
   reacted_scene w gh o d = λ i. record { at = fun_ext at i; seen = seen_sent g v d.sends (change v d w) i }
     where
@@ -65,7 +85,10 @@ module _ (g : Network) (v : ℕ) where
       x = record (reacts g v w gh d) { up = o }
 
       put_member : (u : ℕ) → of_node (with_up gh v o) u (put w.node v (after (w.node v) d) u) ≡ put (λ y. member w gh y) v x u
-      put_member u = ⊎_elim (λ (e : u ≡ v). subst (λ y. of_node (with_up gh v o) y (put w.node v (after (w.node v) d) y) ≡ put (λ y. member w gh y) v x y) (sym e) here) away (cases_eq u v)
+      put_member u =
+          ⊎_elim (λ (e : u ≡ v).
+          subst (λ y. of_node (with_up gh v o) y (put w.node v (after (w.node v) d) y) ≡ put (λ y. member w gh y) v x y) (sym e) here)
+          away (cases_eq u v)
         where
           here : of_node (with_up gh v o) v (put w.node v (after (w.node v) d) v) ≡ put (λ y. member w gh y) v x v
           here =
@@ -85,7 +108,8 @@ module _ (g : Network) (v : ℕ) where
   -- a message that is taken for good
   pub taken_up :
       (w : Net) (gh : Ghost) (o : Option ℕ) (p : ℕ) (m : Message) (ms : List Message) (d : Delta) → d.fate ≡ Consumed →
-      scene (taken g v p m ms d w) (with_up gh v o) ≡ acts g v (record (reacts g v w gh d) { up = o }) (put (λ i. see (w.queue v i)) p (see ms)) d.sends (scene w gh)
+      scene (taken g v p m ms d w) (with_up gh v o) ≡
+      acts g v (record (reacts g v w gh d) { up = o }) (put (λ i. see (w.queue v i)) p (see ms)) d.sends (scene w gh)
   taken_up w gh o p m ms d e =
       ap (λ f. scene (reacted g v d (take_first f v p m ms w)) (with_up gh v o)) e ∙
       reacted_scene (take_first Consumed v p m ms w) gh o d ∙
@@ -109,7 +133,10 @@ module _ (g : Network) (v : ℕ) where
       scene (reacted g v d w) (with_up gh v o) ≡ acts g v (record (reacts g v w gh d) { up = o }) ((scene w gh).seen v) d.sends (scene w gh)
   wake_acts w gh o d =
       reacted_scene w gh o d ∙
-      (λ i. record { at = put (scene w gh).at v (record (reacts g v w gh d) { up = o }); seen = push_all g v d.sends (sym (put_again (scene w gh).seen v) i) })
+      (λ i. record {
+        at = put (scene w gh).at v (record (reacts g v w gh d) { up = o });
+        seen = push_all g v d.sends (sym (put_again (scene w gh).seen v) i);
+      })
 
   -- a message that goes round, where the queue looks as before, changes nothing
   pub round_scene :
@@ -129,6 +156,10 @@ module _ (g : Network) (v : ℕ) where
   pushes (x ∷ s) t q = pushes s t _
 
   -- an act whose sends are those of two
-  pub acts_split : (x y : Member) (own : ℕ → Seen) (s t : Outgoing) (w : Scene) → acts g v x own (s ++ t) w ≡ acts g v x ((acts g v y own s w).seen v) t (acts g v y own s w)
+  pub acts_split : (x y : Member) (own : ℕ → Seen) (s t : Outgoing) (w : Scene) →
+      acts g v x own (s ++ t) w ≡ acts g v x ((acts g v y own s w).seen v) t (acts g v y own s w)
   acts_split x y own s t w =
-      λ i. record { at = sym (put_put w.at v y x) i; seen = (pushes s t (put w.seen v own) ∙ ap (push_all g v t) (sym (put_again (push_all g v s (put w.seen v own)) v))) i }
+      λ i. record {
+        at = sym (put_put w.at v y x) i;
+        seen = (pushes s t (put w.seen v own) ∙ ap (push_all g v t) (sym (put_again (push_all g v s (put w.seen v own)) v))) i;
+      }

@@ -25,15 +25,35 @@ module _ (g : Network) (wired : IsWired g) where
     across_side i = record { port = far_port g u i; is = w.at (far g u i); waits = add_all add (w.queue (far g u i) (far_port g u i)) (sent_on ss i) }
 
     pub here_side : (i : ℕ) → side (acts add g u x own ss w) u i ≡ near_side i
-    here_side i = λ k. record { port = i; is = put_same w.at u x k; waits = (unpushed add g u u i ss (put w.queue u own) (λ a e h. no_loop g wired u a lo hi e) ∙ ap (λ (f : ℕ → Q). f i) (put_same w.queue u own)) k }
+    here_side i = λ k. record {
+      port = i;
+      is = put_same w.at u x k;
+      waits =
+          (unpushed add g u u i ss (put w.queue u own) (λ a e h. no_loop g wired u a lo hi e) ∙ ap (λ (f : ℕ → Q). f i) (put_same w.queue u own))
+          k;
+    }
 
     pub far_side : (i : ℕ) → At g u i → side (acts add g u x own ss w) (far g u i) (far_port g u i) ≡ across_side i
     far_side i at =
         let ne = wired.apart u i at in
-        λ k. record { port = far_port g u i; is = put_other w.at u (far g u i) x ne k; waits = (pushed add g wired u i ss (put w.queue u own) at ∙ ap (λ (f : ℕ → Q). add_all add (f (far_port g u i)) (sent_on ss i)) (put_other w.queue u (far g u i) own ne)) k }
+        λ k. record {
+          port = far_port g u i;
+          is = put_other w.at u (far g u i) x ne k;
+          waits =
+              (pushed add g wired u i ss (put w.queue u own) at ∙
+              ap (λ (f : ℕ → Q). add_all add (f (far_port g u i)) (sent_on ss i)) (put_other w.queue u (far g u i) own ne))
+              k;
+        }
 
     pub other_side : (a b : ℕ) → At g a b → a ≢ u → far g a b ≢ u → side (acts add g u x own ss w) a b ≡ side w a b
-    other_side a b at ne away = λ k. record { port = b; is = put_other w.at u a x ne k; waits = (unpushed add g u a b ss (put w.queue u own) (λ i e h. away (neighbour g wired u i a b lo hi at e h)) ∙ ap (λ (f : ℕ → Q). f b) (put_other w.queue u a own ne)) k }
+    other_side a b at ne away = λ k. record {
+      port = b;
+      is = put_other w.at u a x ne k;
+      waits =
+          (unpushed add g u a b ss (put w.queue u own) (λ i e h. away (neighbour g wired u i a b lo hi at e h)) ∙
+          ap (λ (f : ℕ → Q). f b) (put_other w.queue u a own ne))
+          k;
+    }
 
     -- A fact of both sides of each link, which may name the link's place, holds after an act if it holds then at the links of the node that acts, seen from either side.
     pub acts_at : (P : ℕ → ℕ → Side X Q → Side X Q → Type 0) →
@@ -46,7 +66,8 @@ module _ (g : Network) (wired : IsWired g) where
         here : v ≡ u → P v p (side w' v p) (side w' (far g v p) (far_port g v p))
         here e =
             let at' : At g u p = subst (λ y. At g y p) e at in
-            subst (λ y. P y p (side w' y p) (side w' (far g y p) (far_port g y p))) (sym e) (subst₂ (P u p) (sym (here_side p)) (sym (far_side p at')) (near p at'))
+            subst (λ y. P y p (side w' y p) (side w' (far g y p) (far_port g y p))) (sym e)
+            (subst₂ (P u p) (sym (here_side p)) (sym (far_side p at')) (near p at'))
 
         there : far g v p ≡ u → P v p (side w' v p) (side w' (far g v p) (far_port g v p))
         there e =
@@ -60,5 +81,7 @@ module _ (g : Network) (wired : IsWired g) where
         not_here : v ≢ u → P v p (side w' v p) (side w' (far g v p) (far_port g v p))
         not_here ne =
             ⊎_elim there
-            (λ ne'. subst₂ (P v p) (sym (other_side v p at ne ne')) (sym (other_side _ _ (wired.there v p at) ne' (λ y. ne (sym (wired.back v p at) ∙ y)))) (before v p at ne ne'))
+            (λ ne'.
+            subst₂ (P v p) (sym (other_side v p at ne ne'))
+            (sym (other_side _ _ (wired.there v p at) ne' (λ y. ne (sym (wired.back v p at) ∙ y)))) (before v p at ne ne'))
             (cases_eq (far g v p) u)

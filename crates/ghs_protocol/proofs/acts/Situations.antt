@@ -8,8 +8,8 @@ use Rattle.ghs_node.specs.Words.{is_branch, Best}
 use Rattle.ghs_node.specs.declared.message.Phase.{Phase}
 use Rattle.ghs_node.specs.declared.message.Phase.TheVariants.{Sleeping, Find, Found}
 use Rattle.ghs_protocol.specs.Network.{Network}
-use Rattle.ghs_protocol.specs.Net.{put}
 use Rattle.ghs_protocol.proofs.clauses.Scene.{Member, TreeEnd, Forest}
+use Rattle.ghs_protocol.proofs.clauses.Changes.{rejected, marked}
 use Rattle.ghs_protocol.proofs.clauses.Nodes.{NodeFits, LevelLags}
 use Rattle.ghs_protocol.proofs.clauses.TreeMessages.{TreeFits}
 use Rattle.ghs_protocol.proofs.clauses.Search.{SearchFits}
@@ -17,7 +17,6 @@ use Rattle.ghs_protocol.proofs.clauses.Fragments.{Names, JoinedWithin}
 use Rattle.ghs_protocol.proofs.clauses.Wiring.{IsKeyed}
 use Rattle.ghs_protocol.proofs.lemmas.Updates.{put_same, put_other}
 use Rattle.ghs_protocol.proofs.acts.SameForest.{branch_mark}
-use Rattle.ghs_protocol.proofs.tests.Links.{rejected}
 
 pub is_find' : (s : Phase) → (s ≡ Find) ⊎ (s ≢ Find)
 is_find' Find = inl refl
@@ -26,14 +25,31 @@ is_find' Sleeping = inr (λ e. cc)
 
 -- who probes searches
 pub probing_finds : {n : ℕ} {m : Member} {p : ℕ} → NodeFits n m → m.head.probe ≡ Some p → m.head.phase ≡ Find
-probing_finds {n} {m} {p} fits e = ⊎_elim (λ h. h) (λ ne. let z = (fits.idle ne).0 in absurd (let k : m.head.probe ≡ None = z in cc)) (is_find' m.head.phase)
+probing_finds {n} {m} {p} fits e =
+    ⊎_elim (λ h. h) (λ ne. let z = (fits.idle ne).0 in absurd (let k : m.head.probe ≡ None = z in cc)) (is_find' m.head.phase)
 
 -- of one fragment: who is at the top has its level and name
-pub tops_alike : (m k : Member) → LevelLags m → LevelLags k → m.coming ≡ k.coming → m.coming_name ≡ k.coming_name → m.head.level ≡ m.coming → k.head.level ≡ k.coming → (m.head.level ≡ k.head.level) × (m.head.name ≡ k.head.name)
+pub tops_alike : (m k : Member) →
+    LevelLags m →
+    LevelLags k →
+    m.coming ≡ k.coming →
+    m.coming_name ≡ k.coming_name →
+    m.head.level ≡ m.coming →
+    k.head.level ≡ k.coming →
+    (m.head.level ≡ k.head.level) × (m.head.name ≡ k.head.name)
 tops_alike m k b c e h x y = (x ∙ e ∙ sym y, b.name x ∙ h ∙ sym (c.name y))
 
 -- a Test from one's own fragment would have one's own name
-pub named_apart : (m k : Member) (l : ℕ) (n : Key) → LevelLags m → LevelLags k → (k.fragment ≡ m.fragment → (k.coming ≡ m.coming) × (k.coming_name ≡ m.coming_name)) → l ≤ m.head.level → l ≡ k.head.level → k.head.level ≡ k.coming → k.head.name ≡ Some n → m.head.name ≢ Some n → k.fragment ≢ m.fragment
+pub named_apart : (m k : Member) (l : ℕ) (n : Key) →
+    LevelLags m →
+    LevelLags k →
+    (k.fragment ≡ m.fragment → (k.coming ≡ m.coming) × (k.coming_name ≡ m.coming_name)) →
+    l ≤ m.head.level →
+    l ≡ k.head.level →
+    k.head.level ≡ k.coming →
+    k.head.name ≡ Some n →
+    m.head.name ≢ Some n →
+    k.fragment ≢ m.fragment
 named_apart m k l n b c same le e top name other f =
     let s = same f in
     let top' : m.head.level ≡ m.coming = (let z = b.level in omega (arith, z, s.0, le, e, top)) in
@@ -41,7 +57,10 @@ named_apart m k l n b c same le e top name other f =
 
 -- a name is of one fragment
 pub one_fragment : (g : Network) (s : Forest) (a b : ℕ) (k : Key) → IsKeyed g → JoinedWithin g s → Names g s a k → Names g s b k → a ≡ b
-one_fragment g s a b k keyed joined_within x y = ⊎_elim (λ h. sym x.fragment ∙ ap s.fragment h.0 ∙ y.fragment) (λ h. sym x.fragment ∙ joined_within _ _ x.at x.joined ∙ ap s.fragment h.0 ∙ y.fragment) (keyed _ _ _ _ x.at y.at (x.key ∙ sym y.key))
+one_fragment g s a b k keyed joined_within x y =
+    ⊎_elim (λ h. sym x.fragment ∙ ap s.fragment h.0 ∙ y.fragment)
+    (λ h. sym x.fragment ∙ joined_within _ _ x.at x.joined ∙ ap s.fragment h.0 ∙ y.fragment)
+    (keyed _ _ _ _ x.at y.at (x.key ∙ sym y.key))
 
 abbrev pub marked_as : TreeEnd → Mark → TreeEnd
 marked_as e m = record e { mark = m }
@@ -71,10 +90,18 @@ module _ (e f : TreeEnd) (m : Mark) (was : e.mark ≢ Branch) (is : m ≢ Branch
   }
 
   pub search_mark : SearchFits e f → SearchFits (marked_as e m) f
-  search_mark h = record { rejected_inside = λ z. inside; find_leads = λ k b l z. let t = h.find_leads k b l was in record { key = t.key; apart = t.apart; higher = t.higher }; find_reported = λ k b l j. absurd (is j.here) }
+  search_mark h = record {
+    rejected_inside = λ z. inside;
+    find_leads = λ k b l z. let t = h.find_leads k b l was in record { key = t.key; apart = t.apart; higher = t.higher };
+    find_reported = λ k b l j. absurd (is j.here);
+  }
 
   pub search_mark' : SearchFits f e → SearchFits f (marked_as e m)
-  search_mark' h = record { rejected_inside = h.rejected_inside; find_leads = λ k b l z. let t = h.find_leads k b l z in record { key = t.key; apart = t.apart; higher = t.higher }; find_reported = λ k b l j. absurd (is j.there) }
+  search_mark' h = record {
+    rejected_inside = h.rejected_inside;
+    find_leads = λ k b l z. let t = h.find_leads k b l z in record { key = t.key; apart = t.apart; higher = t.higher };
+    find_reported = λ k b l j. absurd (is j.there);
+  }
 
 module _ (e f : TreeEnd) (inside : e.fragment ≡ f.fragment) where
   pub tree_rejected : {N : ℕ → Key → Type 0} → (m : Mark) → TreeFits N (marked_as e m) f → TreeFits N (marked_as e (rejected m)) f
@@ -101,11 +128,21 @@ module _ (e f : TreeEnd) (inside : e.fragment ≡ f.fragment) where
 abbrev pub turned : Member → (ℕ → Mark) → Option ℕ → ℕ → Best → Member
 turned m μ o c b = record m { mark = μ; head = record m.head { probe = o; find_count = c; best = b } }
 
-pub node_turned : (n : ℕ) (m : Member) (μ : ℕ → Mark) (o : Option ℕ) (c : ℕ) (b : Best) → NodeFits n m → m.head.phase ≢ Sleeping → ((p : ℕ) → is_branch (μ p) ≡ is_branch (m.mark p)) → ((p : ℕ) → μ p ≢ Rejected → p < n) → ((p : ℕ) → o ≡ Some p → p < n) → (m.head.phase ≢ Find → (o ≡ None) × (◌≡◌ {A = ℕ} c 0)) → ((p : ℕ) → (k : Key) → b ≡ Some (p, k) → (p < n) × (m.head.in_branch ≢ Some p)) → NodeFits n (turned m μ o c b)
+pub node_turned : (n : ℕ) (m : Member) (μ : ℕ → Mark) (o : Option ℕ) (c : ℕ) (b : Best) →
+    NodeFits n m →
+    m.head.phase ≢ Sleeping →
+    ((p : ℕ) → is_branch (μ p) ≡ is_branch (m.mark p)) →
+    ((p : ℕ) → μ p ≢ Rejected → p < n) →
+    ((p : ℕ) → o ≡ Some p → p < n) →
+    (m.head.phase ≢ Find → (o ≡ None) × (◌≡◌ {A = ℕ} c 0)) →
+    ((p : ℕ) → (k : Key) → b ≡ Some (p, k) → (p < n) × (m.head.in_branch ≢ Some p)) →
+    NodeFits n (turned m μ o c b)
 node_turned n m μ o c b fits awake branch within probe idle best = record {
   own_ports = record { probe = probe; in_branch = fits.own_ports.in_branch; mark = within };
   untouched = λ e. absurd (awake e);
-  points = λ e lt. let z = fits.points e lt in record { port = z.port; up = z.up; within = z.within; mark = branch_mark _ (branch z.port ∙ ap is_branch z.mark) };
+  points = λ e lt.
+      let z = fits.points e lt in
+      record { port = z.port; up = z.up; within = z.within; mark = branch_mark _ (branch z.port ∙ ap is_branch z.mark) };
   idle = idle;
   searching = λ e. let z = fits.searching e in record { level = z.level; port = z.port; in_branch = z.in_branch; up = z.up };
   naming = record { level = fits.naming.level; in_branch = fits.naming.in_branch; name = fits.naming.name };
@@ -114,19 +151,21 @@ node_turned n m μ o c b fits awake branch within probe idle best = record {
 }
 
 -- the mark of port j turns Rejected if it is Basic
-abbrev pub marked : (ℕ → Mark) → ℕ → ℕ → Mark
-marked f j = put f j (rejected (f j))
-
 same_branch : (m : Mark) → is_branch (rejected m) ≡ is_branch m
 same_branch Basic = refl
 same_branch Branch = refl
 same_branch Rejected = refl
 
 pub branch_marked : (f : ℕ → Mark) (j p : ℕ) → is_branch (marked f j p) ≡ is_branch (f p)
-branch_marked f j p = ⊎_elim (λ (e : p ≡ j). subst (λ z. is_branch (marked f j z) ≡ is_branch (f z)) (sym e) (ap is_branch (put_same f j (rejected (f j))) ∙ same_branch (f j))) (λ ne. ap is_branch (put_other f j p (rejected (f j)) ne)) (cases_eq p j)
+branch_marked f j p =
+    ⊎_elim (λ (e : p ≡ j).
+    subst (λ z. is_branch (marked f j z) ≡ is_branch (f z)) (sym e) (ap is_branch (put_same f j (rejected (f j))) ∙ same_branch (f j)))
+    (λ ne. ap is_branch (put_other f j p (rejected (f j)) ne))
+    (cases_eq p j)
 
 pub within_marked : (f : ℕ → Mark) (j n : ℕ) → j < n → ((p : ℕ) → f p ≢ Rejected → p < n) → (p : ℕ) → marked f j p ≢ Rejected → p < n
-within_marked f j n lt h p ne = ⊎_elim (λ (e : p ≡ j). omega (arith, e, lt)) (λ no. h p (λ z. ne (put_other f j p (rejected (f j)) no ∙ z))) (cases_eq p j)
+within_marked f j n lt h p ne =
+    ⊎_elim (λ (e : p ≡ j). omega (arith, e, lt)) (λ no. h p (λ z. ne (put_other f j p (rejected (f j)) no ∙ z))) (cases_eq p j)
 
 -- a mark that is neither Branch nor Rejected
 pub basic_left : (m : Mark) → m ≢ Branch → m ≢ Rejected → m ≡ Basic

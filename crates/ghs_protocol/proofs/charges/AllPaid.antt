@@ -27,6 +27,7 @@ use Rattle.ghs_protocol.specs.Nodes.{HasFewPorts, IsNodeOf, IsWellFormed}
 use Rattle.ghs_protocol.specs.Steps.{Happens, Took, Woke, reacted}
 use Rattle.ghs_protocol.specs.Payments.{AllIsPaid, accepts, added_up, calls, failed, no_accept_first, paid_by, paid_by_levels, paid_by_ports, port_pays, reports, risen, roots, testing, tests_out, then_count}
 use Rattle.ghs_protocol.proofs.clauses.Scene.{Ghost, scene}
+use Rattle.ghs_protocol.proofs.clauses.Changes.{rejected}
 use Rattle.ghs_protocol.proofs.clauses.Wiring.{Ground}
 use Rattle.ghs_protocol.proofs.clauses.Floors.{Sound}
 use Rattle.ghs_protocol.proofs.clauses.Charges.{Charges, HasCharges}
@@ -47,7 +48,7 @@ use Rattle.ghs_protocol.proofs.charges.Waiting.{level_most}
 use Rattle.ghs_protocol.proofs.charges.PortsPay.{Taking, taking, accepted_one, first_only, probes_on, unprobed}
 use Rattle.ghs_protocol.proofs.rows.Read.{reject_marks}
 use Rattle.ghs_protocol.proofs.charges.Taken.{next_basic}
-use Rattle.ghs_protocol.proofs.tests.Links.{not_basic, rejected}
+use Rattle.ghs_protocol.proofs.tests.Links.{not_basic}
 use Rattle.ghs_protocol.proofs.lemmas.Updates.{put_same}
 use Rattle.ghs_protocol.proofs.lemmas.Events.{taken_at}
 use Rattle.ghs_protocol.proofs.acts.Grounds.{graph_ground}
@@ -62,22 +63,27 @@ pays_none g (e ∷ es) w = go (λ x. pays_none g es x) (happens g w e)
     go ih None = refl
     go ih (Some x) = let z = ih x in omega (arith, z)
 
-pays_both : (f h : Net → Event → Net → ℕ) (g : Network) (es : List Event) (w : Net) → added_up (λ w e x. f w e x + h w e x) g es w ≡ added_up f g es w + added_up h g es w
+pays_both : (f h : Net → Event → Net → ℕ) (g : Network) (es : List Event) (w : Net) →
+    added_up (λ w e x. f w e x + h w e x) g es w ≡ added_up f g es w + added_up h g es w
 pays_both f h g [] w = refl
 pays_both f h g (e ∷ es) w = go (λ x. pays_both f h g es x) (happens g w e)
   where
     go : ((x : Net) → added_up (λ w e x. f w e x + h w e x) g es x ≡ added_up f g es x + added_up h g es x) → (o : Option Net) →
-        then_count o (λ x. f w e x + h w e x + added_up (λ w e x. f w e x + h w e x) g es x) ≡ then_count o (λ x. f w e x + added_up f g es x) + then_count o (λ x. h w e x + added_up h g es x)
+        then_count o (λ x. f w e x + h w e x + added_up (λ w e x. f w e x + h w e x) g es x) ≡
+        then_count o (λ x. f w e x + added_up f g es x) + then_count o (λ x. h w e x + added_up h g es x)
     go ih None = refl
     go ih (Some x) = let z = ih x in omega (arith, z)
 
 -- a sum of what events add up is what they add up of the sum
-pays_sum : (n : ℕ) (f : ℕ → Net → Event → Net → ℕ) (g : Network) (es : List Event) (w : Net) → sum_below n (λ i. added_up (f i) g es w) ≡ added_up (λ w e x. sum_below n (λ i. f i w e x)) g es w
+pays_sum : (n : ℕ) (f : ℕ → Net → Event → Net → ℕ) (g : Network) (es : List Event) (w : Net) →
+    sum_below n (λ i. added_up (f i) g es w) ≡ added_up (λ w e x. sum_below n (λ i. f i w e x)) g es w
 pays_sum zero f g es w = sym (pays_none g es w)
-pays_sum (suc n) f g es w = let a = pays_sum n f g es w in let b = pays_both (λ w e x. sum_below n (λ i. f i w e x)) (f n) g es w in omega (arith, a, b)
+pays_sum (suc n) f g es w =
+    let a = pays_sum n f g es w in let b = pays_both (λ w e x. sum_below n (λ i. f i w e x)) (f n) g es w in omega (arith, a, b)
 
 sum_single : (n j : ℕ) (f : ℕ → ℕ) → j < n → ((i : ℕ) → i ≢ j → f i ≡ 0) → sum_below n f ≡ f j
-sum_single n j f lt none = let a = sum_one n j (λ i. 0) f lt (λ i ne. sym (none i ne)) in let b = sum_none n (λ i. 0) (λ i l. refl) in omega (arith, a, b)
+sum_single n j f lt none =
+    let a = sum_one n j (λ i. 0) f lt (λ i ne. sym (none i ne)) in let b = sum_none n (λ i. 0) (λ i l. refl) in omega (arith, a, b)
 
 -- What an event adds to a count it pays at one level of one node.
 
@@ -88,7 +94,9 @@ abbrev table_of : (Net → ℕ) → ℕ → Network → Net → Event → Net �
 table_of m k g w e x = sum_over_nodes g (λ v. row_of m k v w e x)
 
 row_other : (m : Net → ℕ) (k v : ℕ) (w : Net) (e : Event) (x : Net) → event_node e ≢ v → row_of m k v w e x ≡ 0
-row_other m k v w e x ne = sum_none (suc k) (λ l. risen m v l w e x) (λ l lt. ap (λ b. if b && ((x.node v).head.level == l) then m x - m w else 0) (ne_eqb (event_node e) v ne))
+row_other m k v w e x ne =
+    sum_none (suc k) (λ l. risen m v l w e x)
+    (λ l lt. ap (λ b. if b && ((x.node v).head.level == l) then m x - m w else 0) (ne_eqb (event_node e) v ne))
 
 row_own : (m : Net → ℕ) (k v : ℕ) (w : Net) (e : Event) (x : Net) → event_node e ≡ v → (x.node v).head.level ≤ k → row_of m k v w e x ≡ m x - m w
 row_own m k v w e x own le =
@@ -96,22 +104,30 @@ row_own m k v w e x own le =
     (λ l ne. ap₂ (λ a b. if a && b then m x - m w else 0) (eq-eqb (event_node e) v own) (ne_eqb (x.node v).head.level l (λ z. ne (sym z))))
     ∙ ap₂ (λ a b. if a && b then m x - m w else 0) (eq-eqb (event_node e) v own) (eq-eqb (x.node v).head.level (x.node v).head.level refl)
 
-table_is : (m : Net → ℕ) (k : ℕ) (g : Network) (w : Net) (e : Event) (x : Net) → InNetwork g (event_node e) → (x.node (event_node e)).head.level ≤ k → table_of m k g w e x ≡ m x - m w
+table_is : (m : Net → ℕ) (k : ℕ) (g : Network) (w : Net) (e : Event) (x : Net) →
+    InNetwork g (event_node e) →
+    (x.node (event_node e)).head.level ≤ k →
+    table_of m k g w e x ≡ m x - m w
 table_is m k g w e x is le =
     let i = node_before (event_node e) is.some in
     let same = i.1 in
     let hi = is.node in
-    sum_single g.count i.0 (λ i. row_of m k (suc i) w e x) (omega (arith, same, hi)) (λ j ne. row_other m k (suc j) w e x (λ z. ne (omega (arith, z, same))))
+    sum_single g.count i.0 (λ i. row_of m k (suc i) w e x) (omega (arith, same, hi))
+    (λ j ne. row_other m k (suc j) w e x (λ z. ne (omega (arith, z, same))))
     ∙ row_own m k (suc i.0) w e x same (subst (λ v. (x.node v).head.level ≤ k) same le)
 
 levels_add : (m : Net → ℕ) (k : ℕ) (g : Network) (es : List Event) (w : Net) → paid_by_levels m g k es w ≡ added_up (table_of m k g) g es w
 levels_add m k g es w =
-    sum_same g.count (λ i. sum_below (suc k) (λ l. paid_by m g (suc i) l es w)) (λ i. added_up (row_of m k (suc i)) g es w) (λ i lt. pays_sum (suc k) (risen m (suc i)) g es w)
+    sum_same g.count (λ i. sum_below (suc k) (λ l. paid_by m g (suc i) l es w)) (λ i. added_up (row_of m k (suc i)) g es w)
+    (λ i lt. pays_sum (suc k) (risen m (suc i)) g es w)
     ∙ pays_sum g.count (λ i. row_of m k (suc i)) g es w
 
-ports_add_up : (g : Network) (es : List Event) (w : Net) → paid_by_ports g es w ≡ added_up (λ w e x. sum_over_ports g (λ v p. port_pays v p w e x)) g es w
+ports_add_up : (g : Network) (es : List Event) (w : Net) →
+    paid_by_ports g es w ≡ added_up (λ w e x. sum_over_ports g (λ v p. port_pays v p w e x)) g es w
 ports_add_up g es w =
-    sum_same g.count (λ i. sum_below (length (g.ports (suc i))) (λ p. added_up (port_pays (suc i) p) g es w)) (λ i. added_up (λ w e x. sum_below (length (g.ports (suc i))) (λ p. port_pays (suc i) p w e x)) g es w)
+    sum_same g.count
+    (λ i. sum_below (length (g.ports (suc i))) (λ p. added_up (port_pays (suc i) p) g es w))
+    (λ i. added_up (λ w e x. sum_below (length (g.ports (suc i))) (λ p. port_pays (suc i) p w e x)) g es w)
     (λ i lt. pays_sum (length (g.ports (suc i))) (port_pays (suc i)) g es w)
     ∙ pays_sum g.count (λ i w e x. sum_below (length (g.ports (suc i))) (λ p. port_pays (suc i) p w e x)) g es w
 
@@ -174,20 +190,29 @@ module _ (g : Network) (ground : Ground g) (k : ℕ) (log : IsFloorLog2 g.count 
   abbrev TestsTally : NodeState → ℕ → Message → Delta → Type 0
   TestsTally n p m d = of_kind 2 (messages d.sends) + testing n.head.probe ≡ hears m d + testing d.head.probe + fails n p m d
 
-  module _ (v p : ℕ) (at : At g v p) (w : Net) (is : IsNodeOf g v (w.node v)) (gh : Ghost) (sound : Sound g (scene w gh)) (charges : Charges g k gh.up w) (ms : List Message) where
+  module _ (v p : ℕ) (at : At g v p) (w : Net) (is : IsNodeOf g v (w.node v)) (gh : Ghost) (sound : Sound g (scene w gh))
+      (charges : Charges g k gh.up w) (ms : List Message) where
     -- port p, which stops being probed, isn't tested next
-    other_next : (e : Ending) → Settles (with_mark (w.node v).marks (reject_at (w.node v) p)) (no_probe (w.node v).head) e → is_at (probe_after None e) p ≡ false
+    other_next : (e : Ending) →
+        Settles (with_mark (w.node v).marks (reject_at (w.node v) p)) (no_probe (w.node v).head) e →
+        is_at (probe_after None e) p ≡ false
     other_next e s = not_next e p (λ q z same. not_basic (mark_at (w.node v) p)
         (sym (put_same (λ i. mark_at (w.node v) i) p (rejected (mark_at (w.node v) p)))
         ∙ sym (ap (λ (f : ℕ → Mark). f p) (reject_marks (w.node v) p in_marks))
-        ∙ subst (λ y. get_or (with_mark (w.node v).marks (reject_at (w.node v) p)) y Rejected ≡ Basic) same (next_basic (with_mark (w.node v).marks (reject_at (w.node v) p)) (no_probe (w.node v).head) e s q z)))
+        ∙ subst
+        (λ y. get_or (with_mark (w.node v).marks (reject_at (w.node v) p)) y Rejected ≡ Basic)
+        same
+        (next_basic (with_mark (w.node v).marks (reject_at (w.node v) p)) (no_probe (w.node v).head) e s q z)))
       where
         in_marks : p < degree (w.node v)
         in_marks = let lt = at.port in omega (arith, lt, ports_many is)
 
     -- a Test that ends, and not by an Accept
-    failing : (e : Ending) → (w.node v).head.probe ≡ Some p → Settles (with_mark (w.node v).marks (reject_at (w.node v) p)) (no_probe (w.node v).head) e →
-        of_kind 2 (messages (last_sends (no_probe (w.node v).head) e)) + testing (w.node v).head.probe ≡ testing (probe_after None e) + (if is_at (w.node v).head.probe p && (not (is_at (probe_after None e) p) && true) then 1 else 0)
+    failing : (e : Ending) →
+        (w.node v).head.probe ≡ Some p →
+        Settles (with_mark (w.node v).marks (reject_at (w.node v) p)) (no_probe (w.node v).head) e →
+        of_kind 2 (messages (last_sends (no_probe (w.node v).head) e)) + testing (w.node v).head.probe ≡
+        testing (probe_after None e) + (if is_at (w.node v).head.probe p && (not (is_at (probe_after None e) p) && true) then 1 else 0)
     failing e mine s =
         let a = ending_tests (no_probe (w.node v).head) e in
         let b = ending_probes e in
@@ -196,14 +221,16 @@ module _ (g : Network) (ground : Ground g) (k : ℕ) (log : IsFloorLog2 g.count 
         omega (arith, a, b, c, f)
 
     -- one that is out stays out
-    still : (m : Message) → ◌≡◌ {A = ℕ} (if is_at (w.node v).head.probe p && (not (is_at (w.node v).head.probe p) && no_accept_first (m ∷ [])) then 1 else 0) 0
+    still : (m : Message) →
+        ◌≡◌ {A = ℕ} (if is_at (w.node v).head.probe p && (not (is_at (w.node v).head.probe p) && no_accept_first (m ∷ [])) then 1 else 0) 0
     still m = probes_on (is_at (w.node v).head.probe p) (no_accept_first (m ∷ []))
 
     row_tests : (m : Message) (d : Delta) → w.queue v p ≡ m ∷ ms → AwakeRow (w.node v) p m d → TestsTally (w.node v) p m d
     row_tests m d q (Connect_absorbed lt few) = let z = still m in omega (arith, z)
     row_tests m d q (Connect_waits le basic) = let z = still m in omega (arith, z)
     row_tests m d q (Connect_merges le free lower) = let z = still m in omega (arith, z)
-    row_tests m d q (Initiate_rests {l = l} {f = f} lt) = let z = still m in let a = all_calls 0 (w.node v).marks p l f Found 2 (λ e. omega (arith, e)) in omega (arith, z, a)
+    row_tests m d q (Initiate_rests {l = l} {f = f} lt) =
+        let z = still m in let a = all_calls 0 (w.node v).marks p l f Found 2 (λ e. omega (arith, e)) in omega (arith, z, a)
     row_tests m d q (Initiate_searches {l = l} {f = f} {e = e} lt few s) =
         let none = search_free g ground k log v p at w is gh sound charges ms l f q in
         let a = all_calls 0 (w.node v).marks p l f Find 2 (λ e. omega (arith, e)) in
@@ -233,13 +260,19 @@ module _ (g : Network) (ground : Ground g) (k : ℕ) (log : IsFloorLog2 g.count 
         let z = ap (λ o. if is_at (w.node v).head.probe p && (not (is_at o p) && true) then 1 else 0) o ∙ still m in
         omega (arith, a, b, t, z)
     row_tests m d q (Report_waits way finds) = let z = still m in omega (arith, z)
-    row_tests m d q (Report_moves_root b y way found best less) = let a = root_no_test b (w.node v).head.level (mark_at (w.node v) b) in let z = still m in omega (arith, a, z)
+    row_tests m d q (Report_moves_root b y way found best less) =
+        let a = root_no_test b (w.node v).head.level (mark_at (w.node v) b) in let z = still m in omega (arith, a, z)
     row_tests m d q (Report_halts way found best) = let z = still m in omega (arith, z)
     row_tests m d q (Report_passes way found b s) = let z = still m in omega (arith, z)
-    row_tests m d q (Root_moves b y best) = let a = root_no_test b (w.node v).head.level (mark_at (w.node v) b) in let z = still m in omega (arith, a, z)
+    row_tests m d q (Root_moves b y best) =
+        let a = root_no_test b (w.node v).head.level (mark_at (w.node v) b) in let z = still m in omega (arith, a, z)
 
   -- who sleeps has no Test out, and sends none on waking
-  woken_tests : (n : NodeState) (p : ℕ) (m : Message) (d : Delta) → n.head.probe ≡ None → n.head.phase ≡ Sleeping → Row n (Deliver p m) d → TestsTally n p m d
+  woken_tests : (n : NodeState) (p : ℕ) (m : Message) (d : Delta) →
+      n.head.probe ≡ None →
+      n.head.phase ≡ Sleeping →
+      Row n (Deliver p m) d →
+      TestsTally n p m d
   woken_tests n p m d none s (Woken_merges a b) = let z = probes_on (is_at n.head.probe p) (no_accept_first (m ∷ [])) in omega (arith, z)
   woken_tests n p m d none s (Woken_connect_waits a b c) = let z = probes_on (is_at n.head.probe p) (no_accept_first (m ∷ [])) in omega (arith, z)
   woken_tests n p m d none s (Woken_test_waits a b c) = let z = probes_on (is_at n.head.probe p) (no_accept_first (m ∷ [])) in omega (arith, z)
@@ -258,19 +291,30 @@ module _ (g : Network) (ground : Ground g) (k : ℕ) (log : IsFloorLog2 g.count 
     counts : total w t
 
   has_more : (w x : Net) (e : Event) → IsWellFormed g w → HasCharges g k w → Happens g w e x → HasCharges g k x
-  has_more w x e f h happened = event_by_steps g ground.wired (HasCharges g k) (λ w w' f i s. charged g ground k log w w' i (step_node s) (stepped g ground k log w w' f.nodes i s)) w x e f h happened
+  has_more w x e f h happened =
+      event_by_steps g ground.wired (HasCharges g k)
+      (λ w w' f i s. charged g ground k log w w' i (step_node s) (stepped g ground k log w w' f.nodes i s))
+      w x e f h happened
 
   low : (x : Net) → HasCharges g k x → (v : ℕ) → InNetwork g v → (x.node v).head.level ≤ k
   low x h v is = level_most g ground.wired k log x h.sound.ghost h.sound.holds.first v is
 
   -- a count that never falls, and is 0 at first
   module _ (few : HasFewPorts g) (es : List Event) (w : Net) (after : IsAfter g es w) where
-    levels_have_paid : (m : Net → ℕ) → ((w x : Net) (e : Event) → Happens g w e x → m w ≤ m x) → m (opening g) ≡ 0 → m w ≡ paid_by_levels m g k es (opening g)
+    levels_have_paid : (m : Net → ℕ) →
+        ((w x : Net) (e : Event) → Happens g w e x → m w ≤ m x) →
+        m (opening g) ≡ 0 →
+        m w ≡ paid_by_levels m g k es (opening g)
     levels_have_paid m grows none =
-        sym (counted g ground.wired (table_of m k g) (Tallied (λ w t. t ≡ m w)) each es (opening g) w 0 (opening_formed g few) (record { has = opening_has g ground k log; counts = sym none }) after).counts
+        sym (counted g ground.wired (table_of m k g) (Tallied (λ w t. t ≡ m w)) each es (opening g) w 0 (opening_formed g few)
+        (record { has = opening_has g ground k log; counts = sym none }) after).counts
         ∙ zero-add (added_up (table_of m k g) g es (opening g)) ∙ sym (levels_add m k g es (opening g))
       where
-        each : (w x : Net) (e : Event) (t : ℕ) → IsWellFormed g w → Tallied (λ w t. t ≡ m w) w t → Happens g w e x → Tallied (λ w t. t ≡ m w) x (t + table_of m k g w e x)
+        each : (w x : Net) (e : Event) (t : ℕ) →
+            IsWellFormed g w →
+            Tallied (λ w t. t ≡ m w) w t →
+            Happens g w e x →
+            Tallied (λ w t. t ≡ m w) x (t + table_of m k g w e x)
         each w x e t f h happened =
             let next = has_more w x e f h.has happened in
             let is = event_inside happened in
@@ -287,10 +331,21 @@ module _ (g : Network) (ground : Ground g) (k : ℕ) (log : IsFloorLog2 g.count 
     all_ports w e x = sum_over_ports g (λ v p. port_pays v p w e x)
 
     -- the nodes' Tests, one node having changed
-    out_one : (w x : Net) (v : ℕ) → InNetwork g v → ((u : ℕ) → u ≢ v → x.node u ≡ w.node u) → tests_out g x + testing (w.node v).head.probe ≡ tests_out g w + testing (x.node v).head.probe
-    out_one w x v is there = nodes_one g (λ u. testing (w.node u).head.probe) (λ u. testing (x.node u).head.probe) v is.some is.node (λ u ne. ap (λ (n : NodeState). testing n.head.probe) (sym (there u ne)))
+    out_one : (w x : Net) (v : ℕ) →
+        InNetwork g v →
+        ((u : ℕ) → u ≢ v → x.node u ≡ w.node u) →
+        tests_out g x + testing (w.node v).head.probe ≡ tests_out g w + testing (x.node v).head.probe
+    out_one w x v is there =
+        nodes_one g (λ u. testing (w.node u).head.probe) (λ u. testing (x.node u).head.probe) v is.some is.node
+        (λ u ne. ap (λ (n : NodeState). testing n.head.probe) (sym (there u ne)))
 
-    take_counts : (w x : Net) (v p : ℕ) (t : ℕ) → At g v p → IsWellFormed g w → HasCharges g k w → Happens g w (events.Take v p) x → TestsSo w t → TestsSo x (t + all_ports w (events.Take v p) x)
+    take_counts : (w x : Net) (v p : ℕ) (t : ℕ) →
+        At g v p →
+        IsWellFormed g w →
+        HasCharges g k w →
+        Happens g w (events.Take v p) x →
+        TestsSo w t →
+        TestsSo x (t + all_ports w (events.Take v p) x)
     take_counts w x v p t at f h happened counts =
         let a = tally (asleep_or_not (w.node v).head.phase) in
         let b = sent 2 in
@@ -325,22 +380,29 @@ module _ (g : Network) (ground : Ground g) (k : ℕ) (log : IsFloorLog2 g.count 
 
         tally : ((w.node v).head.phase ≡ Sleeping) ⊎ ((w.node v).head.phase ≢ Sleeping) → TestsTally (w.node v) p took.message took.delta
         tally (inl s) = woken_tests (w.node v) p took.message took.delta ((h.sound.holds.first.nodes v inside).untouched s).probe s row
-        tally (inr up) = row_tests v p at w (f.nodes v) h.sound.ghost h.sound.holds (by_memory g ground k log h.sound h.charges) took.others took.message took.delta took.waits (awake_row up row)
+        tally (inr up) =
+            row_tests v p at w (f.nodes v) h.sound.ghost h.sound.holds (by_memory g ground k log h.sound h.charges) took.others took.message
+            took.delta took.waits (awake_row up row)
 
         fails_so : failed v p w x ≡ fails (w.node v) p took.message took.delta
-        fails_so = ap₂ (λ (y : Head) b. if is_at (w.node v).head.probe p && (not (is_at y.probe p) && b) then 1 else 0) here (ap no_accept_first took.waits ∙ first_only took.message took.others)
+        fails_so =
+            ap₂
+            (λ (y : Head) b. if is_at (w.node v).head.probe p && (not (is_at y.probe p) && b) then 1 else 0)
+            here (ap no_accept_first took.waits ∙ first_only took.message took.others)
 
         -- only this port pays
         pays : all_ports w (events.Take v p) x ≡ (x.sent 4 - w.sent 4) + failed v p w x
         pays =
             let a = ports_one g (λ u q. 0) (λ u q. port_pays u q w (events.Take v p) x) v p at (λ u q ne. sym (elsewhere u q ne)) in
             let b = ports_none g (λ u q. 0) (λ u q. refl) in
-            let c : port_pays v p w (events.Take v p) x ≡ (x.sent 4 - w.sent 4) + failed v p w x = ap₂ (λ a b. if a && b then (x.sent 4 - w.sent 4) + failed v p w x else 0) (eq-eqb v v refl) (eq-eqb p p refl) in
+            let c : port_pays v p w (events.Take v p) x ≡ (x.sent 4 - w.sent 4) + failed v p w x =
+            ap₂ (λ a b. if a && b then (x.sent 4 - w.sent 4) + failed v p w x else 0) (eq-eqb v v refl) (eq-eqb p p refl) in
             omega (arith, a, b, c)
           where
             elsewhere : (u q : ℕ) → ((u ≡ v) × (q ≡ p) → ⊥) → port_pays u q w (events.Take v p) x ≡ 0
             elsewhere u q ne = ⊎_elim
-                (λ (e : u ≡ v). ap₂ (λ a b. if a && b then (x.sent 4 - w.sent 4) + failed u q w x else 0) (eq-eqb v u (sym e)) (ne_eqb p q (λ z. ne (e, sym z))))
+                (λ (e : u ≡ v).
+                ap₂ (λ a b. if a && b then (x.sent 4 - w.sent 4) + failed u q w x else 0) (eq-eqb v u (sym e)) (ne_eqb p q (λ z. ne (e, sym z))))
                 (λ ne'. ap (λ a. if a && (p == q) then (x.sent 4 - w.sent 4) + failed u q w x else 0) (ne_eqb v u (λ z. ne' (sym z))))
                 (cases_eq u v)
 
@@ -363,13 +425,18 @@ module _ (g : Network) (ground : Ground g) (k : ℕ) (log : IsFloorLog2 g.count 
 
     tests_have_paid : w.sent 2 + w.sent 4 ≡ w.consumed 3 + tests_out g w + paid_by_ports g es (opening g)
     tests_have_paid =
-        let z = (counted g ground.wired all_ports (Tallied TestsSo) each es (opening g) w 0 (opening_formed g few) (record { has = opening_has g ground k log; counts = (let n = sum_none g.count (λ i. 0) (λ i lt. refl) in omega (arith, n)) }) after).counts in
+        let z = (counted g ground.wired all_ports (Tallied TestsSo) each es (opening g) w 0 (opening_formed g few)
+        (record { has = opening_has g ground k log; counts = (let n = sum_none g.count (λ i. 0) (λ i lt. refl) in omega (arith, n)) }) after).counts in
         let y = ports_add_up g es (opening g) in
         omega (arith, z, y)
       where
         each : (w x : Net) (e : Event) (t : ℕ) → IsWellFormed g w → Tallied TestsSo w t → Happens g w e x → Tallied TestsSo x (t + all_ports w e x)
-        each w x (events.Wake v) t f h happened = record { has = has_more w x (events.Wake v) f h.has happened; counts = wake_counts w v x t happened h.counts }
-        each w x (events.Take v p) t f h happened = record { has = has_more w x (events.Take v p) f h.has happened; counts = take_counts w x v p t (taken_at happened) f h.has happened h.counts }
+        each w x (events.Wake v) t f h happened =
+            record { has = has_more w x (events.Wake v) f h.has happened; counts = wake_counts w v x t happened h.counts }
+        each w x (events.Take v p) t f h happened = record {
+          has = has_more w x (events.Take v p) f h.has happened;
+          counts = take_counts w x v p t (taken_at happened) f h.has happened h.counts;
+        }
 
     pub all_paid : IsBalanced g w → AllIsPaid g k es w
     all_paid balanced =
@@ -384,5 +451,9 @@ module _ (g : Network) (ground : Ground g) (k : ℕ) (log : IsFloorLog2 g.count 
 
 pub sends_are_paid : SendsArePaid
 sends_are_paid g es w ok after =
-    let top = floor_log2_is_one g.nodes ok.some in
-    (top.0, top.1, all_paid (network_of g) (graph_ground g ok) top.0 top.1 (graph_few g ok) es w after (after_balanced (network_of g) (graph_wired g ok) (graph_few g ok) es w after))
+    let top = floor_log2_is_one g.nodes ok.some in (
+      top.0,
+      top.1,
+      all_paid (network_of g) (graph_ground g ok) top.0 top.1 (graph_few g ok) es w after
+          (after_balanced (network_of g) (graph_wired g ok) (graph_few g ok) es w after),
+    )

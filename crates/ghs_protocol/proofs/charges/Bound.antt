@@ -30,21 +30,26 @@ module _ (g : Network) where
   nodes_add : (f h : ℕ → ℕ) → sum_over_nodes g (λ v. f v + h v) ≡ sum_over_nodes g f + sum_over_nodes g h
   nodes_add f h = sum_add g.count (λ i. f (suc i)) (λ i. h (suc i))
 
-  module _ (wired : IsWired g) (k : ℕ) (log : IsFloorLog2 g.count k) (w : Net) (gh : Ghost) (sound : Sound g (scene w gh)) (charges : Charges g k gh.up w) (balanced : IsBalanced g w) (s : ℕ) (one : s ≤ 1) (low : s ≤ k) where
+  module _ (wired : IsWired g) (k : ℕ) (log : IsFloorLog2 g.count k) (w : Net) (gh : Ghost) (sound : Sound g (scene w gh))
+      (charges : Charges g k gh.up w) (balanced : IsBalanced g w) (s : ℕ) (one : s ≤ 1) (low : s ≤ k) where
     levels : ℕ → ℕ
     levels v = (w.node v).head.level
 
     all_calls : w.sent 1 ≤ g.count * k
     unfolding levels
     all_calls =
-        let each = nodes_most (λ v. sum_below (length (g.ports v)) (λ p. of_kind 1 (w.queue v p)) + levels v) (λ v. k) (λ v is. calls_most g wired k log w gh sound.first v is) in
+        let each = nodes_most
+        (λ v. sum_below (length (g.ports v)) (λ p. of_kind 1 (w.queue v p)) + levels v)
+        (λ v. k) (λ v is. calls_most g wired k log w gh sound.first v is) in
         let both = nodes_add (λ v. sum_below (length (g.ports v)) (λ p. of_kind 1 (w.queue v p))) levels in
         let b = balanced 1 in let c = charges.calls in let n = sum_all g.count k in
         omega (arith, each, both, b, c, n)
 
     all_levels : sum_over_nodes g levels ≤ g.count * k
     unfolding levels
-    all_levels = let each = nodes_most levels (λ v. k) (λ v is. level_most g wired k log w gh sound.first v is) in let n = sum_all g.count k in omega (arith, each, n)
+    all_levels =
+        let each = nodes_most levels (λ v. k) (λ v is. level_most g wired k log w gh sound.first v is) in
+        let n = sum_all g.count k in omega (arith, each, n)
 
     all_reports : w.sent 5 ≤ g.count * k
     unfolding levels
@@ -53,7 +58,8 @@ module _ (g : Network) where
     all_roots : w.sent 0 + w.sent 6 ≤ g.count * k
     unfolding levels
     all_roots =
-        let each = nodes_most (λ v. levels v + moved_on (w.node v).head.in_branch (gh.up v)) (λ v. k) (λ v is. roots_most g wired k log w gh sound.first v is (charges.low v is)) in
+        let each = nodes_most (λ v. levels v + moved_on (w.node v).head.in_branch (gh.up v)) (λ v. k)
+        (λ v is. roots_most g wired k log w gh sound.first v is (charges.low v is)) in
         let both = nodes_add levels (λ v. moved_on (w.node v).head.in_branch (gh.up v)) in
         let c = charges.roots in let n = sum_all g.count k in
         omega (arith, each, both, c, n)
@@ -64,7 +70,9 @@ module _ (g : Network) where
     all_accepts : w.sent 3 + g.count * s ≤ g.count * k
     unfolding levels
     all_accepts =
-        let each = nodes_most (λ v. sum_below (length (g.ports v)) (λ p. of_kind 3 (w.queue v p)) + levels v + s) (λ v. k + busy_at v) (λ v is. accepts_most g wired k log w gh sound.first v is s one low) in
+        let each = nodes_most
+        (λ v. sum_below (length (g.ports v)) (λ p. of_kind 3 (w.queue v p)) + levels v + s)
+        (λ v. k + busy_at v) (λ v is. accepts_most g wired k log w gh sound.first v is s one low) in
         let left = nodes_add (λ v. sum_below (length (g.ports v)) (λ p. of_kind 3 (w.queue v p)) + levels v) (λ v. s) in
         let left' = nodes_add (λ v. sum_below (length (g.ports v)) (λ p. of_kind 3 (w.queue v p))) levels in
         let right = nodes_add (λ v. k) busy_at in
@@ -77,7 +85,9 @@ module _ (g : Network) where
         let each = nodes_most (λ v. levels v + s) (λ v. k + busy_at v) (λ v is. quota g wired k log w gh sound.first v is s one low) in
         let left = nodes_add levels (λ v. s) in
         let right = nodes_add (λ v. k) busy_at in
-        let ports = nodes_most (λ v. sum_below (length (g.ports v)) (paid_at g (scene w opening_ghost) v) + testing (w.node v).head.probe) (λ v. length (g.ports v)) (λ v is. ports_most g wired k log w gh sound.first v is) in
+        let ports = nodes_most
+        (λ v. sum_below (length (g.ports v)) (paid_at g (scene w opening_ghost) v) + testing (w.node v).head.probe)
+        (λ v. length (g.ports v)) (λ v is. ports_most g wired k log w gh sound.first v is) in
         let both = nodes_add (λ v. sum_below (length (g.ports v)) (paid_at g (scene w opening_ghost) v)) (λ v. testing (w.node v).head.probe) in
         let a = charges.accepts in let c = charges.tests in let n = sum_all g.count k in let m = sum_all g.count s in
         omega (arith, each, left, right, ports, both, a, c, n, m)
@@ -92,7 +102,9 @@ module _ (g : Shape) (w : Net) (n : IsNetOf g w) (k : ℕ) (log : IsFloorLog2 g.
   bounded : (s : ℕ) → s ≤ 1 → s ≤ k → in_all w.sent + 2 * (g.nodes * s) ≤ 2 * length g.keys + 5 * (g.nodes * k)
   bounded s one low =
       let h = paid in
-      let z = within (network_of g) (graph_wired g n.graph) k log w h.sound.ghost h.sound.holds (by_memory (network_of g) (graph_ground g n.graph) k log h.sound h.charges) (after_balanced (network_of g) (graph_wired g n.graph) (graph_few g n.graph) n.events w n.run) s one low in
+      let z = within (network_of g) (graph_wired g n.graph) k log w h.sound.ghost h.sound.holds
+      (by_memory (network_of g) (graph_ground g n.graph) k log h.sound h.charges)
+      (after_balanced (network_of g) (graph_wired g n.graph) (graph_few g n.graph) n.events w n.run) s one low in
       let t = twice_links g n.graph in
       omega (arith, z, t)
 

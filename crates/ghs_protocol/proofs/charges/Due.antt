@@ -11,6 +11,7 @@ use Rattle.ghs_protocol.specs.Network.{Network, At, far, far_port, IsWired, InNe
 use Rattle.ghs_protocol.specs.Ledger.{sum_below, sum_over_ports, of_kind}
 use Rattle.ghs_protocol.specs.Steps.{sent_on}
 use Rattle.ghs_protocol.proofs.clauses.Scene.{Seen, add, adds, Member, Scene, end, TestEnd, test_end, acts}
+use Rattle.ghs_protocol.proofs.clauses.Changes.{seen_beyond}
 use Rattle.ghs_protocol.proofs.clauses.Charges.{any_test, settled, due, paid, paid_at, Rises}
 use Rattle.ghs_protocol.proofs.lemmas.Sends.{messages}
 use Rattle.ghs_protocol.proofs.lemmas.Sums.{sum_most}
@@ -22,7 +23,9 @@ more_below zero j d f h lt le more = absurd (omega arith)
 more_below (suc n) j d f h lt le more = ⊎_elim here (before (λ k. more_below n j d f h k (λ i l. le i (omega arith)) more)) (cases_eq j n)
   where
     here : j ≡ n → sum_below n f + f n + d ≤ sum_below n h + h n
-    here e = let rest = sum_most n f h (λ i l. le i (omega arith)) in let z : f n + d ≤ h n = subst (λ y. f y + d ≤ h y) e more in omega (arith, rest, z)
+    here e =
+        let rest = sum_most n f h (λ i l. le i (omega arith)) in
+        let z : f n + d ≤ h n = subst (λ y. f y + d ≤ h y) e more in omega (arith, rest, z)
 
     before : (j < n → sum_below n f + d ≤ sum_below n h) → j ≢ n → sum_below n f + f n + d ≤ sum_below n h + h n
     before ih ne = let rest = ih (omega arith) in let last = le n (omega arith) in omega (arith, rest, last)
@@ -30,14 +33,24 @@ more_below (suc n) j d f h lt le more = ⊎_elim here (before (λ k. more_below 
 module _ (g : Network) where
   pub ports_most : (f h : ℕ → ℕ → ℕ) → ((v p : ℕ) → At g v p → f v p ≤ h v p) → sum_over_ports g f ≤ sum_over_ports g h
   ports_most f h le =
-      sum_most g.count _ _ (λ i lt. sum_most (length (g.ports (suc i))) (f (suc i)) (h (suc i)) (λ p l. le (suc i) p (record { some = omega arith; node = omega arith; port = l })))
+      sum_most g.count _ _ (λ i lt.
+      sum_most (length (g.ports (suc i))) (f (suc i)) (h (suc i))
+      (λ p l. le (suc i) p (record { some = omega arith; node = omega arith; port = l })))
 
-  pub ports_more : (f h : ℕ → ℕ → ℕ) (v p d : ℕ) → At g v p → ((a b : ℕ) → At g a b → f a b ≤ h a b) → f v p + d ≤ h v p → sum_over_ports g f + d ≤ sum_over_ports g h
+  pub ports_more : (f h : ℕ → ℕ → ℕ) (v p d : ℕ) →
+      At g v p →
+      ((a b : ℕ) → At g a b → f a b ≤ h a b) →
+      f v p + d ≤ h v p →
+      sum_over_ports g f + d ≤ sum_over_ports g h
   ports_more f h zero p d at le more = absurd (let lo = at.some in omega arith)
   ports_more f h (suc v) p d at le more =
       more_below g.count v d _ _ (let k = at.node in omega arith)
-      (λ i lt. sum_most (length (g.ports (suc i))) (f (suc i)) (h (suc i)) (λ b l. le (suc i) b (record { some = omega arith; node = omega arith; port = l })))
-      (more_below (length (g.ports (suc v))) p d (f (suc v)) (h (suc v)) at.port (λ b l. le (suc v) b (record { some = omega arith; node = at.node; port = l })) more)
+      (λ i lt.
+      sum_most (length (g.ports (suc i))) (f (suc i)) (h (suc i))
+      (λ b l. le (suc i) b (record { some = omega arith; node = omega arith; port = l })))
+      (more_below (length (g.ports (suc v))) p d (f (suc v)) (h (suc v)) at.port
+      (λ b l. le (suc v) b (record { some = omega arith; node = at.node; port = l }))
+      more)
 
 -- a mark that is none may become any, others stay
 abbrev pub Grows : Mark → Mark → Type 0
@@ -46,7 +59,9 @@ Grows m m' = m ≢ Basic → m' ≡ m
 pub due_most : (own b t : Bool) (m n : Mark) → due own b t m n ≤ 1
 due_most true b t m n = omega arith
 due_most false true true m n = omega arith
-due_most false b t Basic n = elim b as (λ b. due false b t Basic n ≤ 1) [ true ↦ elim t as (λ t. due false true t Basic n ≤ 1) [ true ↦ omega arith | false ↦ omega arith ] | false ↦ omega arith ]
+due_most false b t Basic n =
+    elim b as (λ b. due false b t Basic n ≤ 1)
+    [ true ↦ elim t as (λ t. due false true t Basic n ≤ 1) [ true ↦ omega arith | false ↦ omega arith ] | false ↦ omega arith ]
 due_most false false t Branch Basic = omega arith
 due_most false false t Branch Branch = omega arith
 due_most false false t Branch Rejected = omega arith
@@ -80,7 +95,8 @@ least n = omega arith
 -- marks grow at this end, and Tests are taken
 due_near : (own b t t' : Bool) (m m' n : Mark) → (t' ≡ true → t ≡ true) → Grows m m' → due own b t m n ≤ due own b t' m' n
 due_near own b t t' Basic m' n fewer grows = let z = due_basic own b t n in let y = least (due own b t' m' n) in omega (arith, z, y)
-due_near own b t t' Branch m' n fewer grows = subst (λ x. due own b t Branch n ≤ due own b t' x n) (sym (grows (λ e. cc))) (tests Branch own b t t' fewer)
+due_near own b t t' Branch m' n fewer grows =
+    subst (λ x. due own b t Branch n ≤ due own b t' x n) (sym (grows (λ e. cc))) (tests Branch own b t t' fewer)
   where
     tests : (m : Mark) (own b t t' : Bool) → (t' ≡ true → t ≡ true) → due own b t m n ≤ due own b t' m n
     tests m true b t t' f = omega arith
@@ -88,7 +104,8 @@ due_near own b t t' Branch m' n fewer grows = subst (λ x. due own b t Branch n 
     tests m false true true t' f = least (due false true t' m n)
     tests m false true false false f = omega arith
     tests m false true false true f = absurd (let z = f refl in cc)
-due_near own b t t' Rejected m' n fewer grows = subst (λ x. due own b t Rejected n ≤ due own b t' x n) (sym (grows (λ e. cc))) (tests Rejected own b t t' fewer)
+due_near own b t t' Rejected m' n fewer grows =
+    subst (λ x. due own b t Rejected n ≤ due own b t' x n) (sym (grows (λ e. cc))) (tests Rejected own b t t' fewer)
   where
     tests : (m : Mark) (own b t t' : Bool) → (t' ≡ true → t ≡ true) → due own b t m n ≤ due own b t' m n
     tests m true b t t' f = omega arith
@@ -148,52 +165,82 @@ module _ (g : Network) (wired : IsWired g) (u : ℕ) (u_is : InNetwork g u) (x :
   beyond i = w.at (far g u i)
 
   abbrev pub queue_beyond : ℕ → Seen
-  queue_beyond i = w.seen (far g u i) (far_port g u i)
+  queue_beyond i = seen_beyond g w u i
 
   abbrev pub here_was : ℕ → ℕ
-  here_was i = due (is_at (w.at u).head.probe i) (is_at (beyond i).head.probe (far_port g u i)) (any_test (w.seen u i).tests) ((w.at u).mark i) ((beyond i).mark (far_port g u i))
+  here_was i =
+      due (is_at (w.at u).head.probe i) (is_at (beyond i).head.probe (far_port g u i)) (any_test (w.seen u i).tests) ((w.at u).mark i)
+      ((beyond i).mark (far_port g u i))
 
   abbrev pub there_was : ℕ → ℕ
-  there_was i = due (is_at (beyond i).head.probe (far_port g u i)) (is_at (w.at u).head.probe i) (any_test (queue_beyond i).tests) ((beyond i).mark (far_port g u i)) ((w.at u).mark i)
+  there_was i =
+      due (is_at (beyond i).head.probe (far_port g u i)) (is_at (w.at u).head.probe i) (any_test (queue_beyond i).tests)
+      ((beyond i).mark (far_port g u i)) ((w.at u).mark i)
 
   abbrev pub here_is : ℕ → ℕ
-  here_is i = due (is_at x.head.probe i) (is_at (beyond i).head.probe (far_port g u i)) (any_test (own i).tests) (x.mark i) ((beyond i).mark (far_port g u i))
+  here_is i =
+      due (is_at x.head.probe i) (is_at (beyond i).head.probe (far_port g u i)) (any_test (own i).tests) (x.mark i)
+      ((beyond i).mark (far_port g u i))
 
   abbrev pub there_is : ℕ → ℕ
-  there_is i = due (is_at (beyond i).head.probe (far_port g u i)) (is_at x.head.probe i) (any_test (adds (queue_beyond i) (sent_on ss i)).tests) ((beyond i).mark (far_port g u i)) (x.mark i)
+  there_is i =
+      due (is_at (beyond i).head.probe (far_port g u i)) (is_at x.head.probe i) (any_test (adds (queue_beyond i) (sent_on ss i)).tests)
+      ((beyond i).mark (far_port g u i)) (x.mark i)
 
   -- how a port of the node that acts fares: nothing but a mark, and Tests that are taken; or it is to be tested; or else
   pub data Fares (i : ℕ) : Type 0 where
-    Same : is_at x.head.probe i ≡ is_at (w.at u).head.probe i → Grows ((w.at u).mark i) (x.mark i) → (any_test (own i).tests ≡ true → any_test (w.seen u i).tests ≡ true) →
+    Same :
+        is_at x.head.probe i ≡ is_at (w.at u).head.probe i →
+        Grows ((w.at u).mark i) (x.mark i) →
+        (any_test (own i).tests ≡ true → any_test (w.seen u i).tests ≡ true) →
         (adds (queue_beyond i) (sent_on ss i)).tests ≡ (queue_beyond i).tests → Fares i
     Tested : (w.at u).mark i ≡ Basic → is_at (w.at u).head.probe i ≡ false → Fares i
     Done : here_was i ≤ here_is i → there_was i ≤ there_is i → Fares i
 
   pub fares_here : (i : ℕ) → Fares i → here_was i ≤ here_is i
   fares_here i (Same probe grows fewer same) =
-      subst (λ b. here_was i ≤ due b (is_at (beyond i).head.probe (far_port g u i)) (any_test (own i).tests) (x.mark i) ((beyond i).mark (far_port g u i))) (sym probe)
-      (due_near (is_at (w.at u).head.probe i) (is_at (beyond i).head.probe (far_port g u i)) (any_test (w.seen u i).tests) (any_test (own i).tests) ((w.at u).mark i) (x.mark i) ((beyond i).mark (far_port g u i)) fewer grows)
+      subst (λ b.
+      here_was i ≤ due b (is_at (beyond i).head.probe (far_port g u i)) (any_test (own i).tests) (x.mark i) ((beyond i).mark (far_port g u i)))
+      (sym probe)
+      (due_near (is_at (w.at u).head.probe i) (is_at (beyond i).head.probe (far_port g u i)) (any_test (w.seen u i).tests)
+      (any_test (own i).tests) ((w.at u).mark i) (x.mark i) ((beyond i).mark (far_port g u i)) fewer grows)
   fares_here i (Tested basic free) =
-      let z : here_was i ≡ 0 = ap (λ m. due (is_at (w.at u).head.probe i) (is_at (beyond i).head.probe (far_port g u i)) (any_test (w.seen u i).tests) m ((beyond i).mark (far_port g u i))) basic ∙ due_basic (is_at (w.at u).head.probe i) (is_at (beyond i).head.probe (far_port g u i)) (any_test (w.seen u i).tests) ((beyond i).mark (far_port g u i)) in
+      let z : here_was i ≡ 0 = ap (λ m.
+      due (is_at (w.at u).head.probe i) (is_at (beyond i).head.probe (far_port g u i)) (any_test (w.seen u i).tests) m
+      ((beyond i).mark (far_port g u i)))
+      basic ∙
+      due_basic (is_at (w.at u).head.probe i) (is_at (beyond i).head.probe (far_port g u i)) (any_test (w.seen u i).tests)
+      ((beyond i).mark (far_port g u i)) in
       let y = least (here_is i) in
       omega (arith, z, y)
   fares_here i (Done a b) = a
 
   pub fares_there : (i : ℕ) → Fares i → there_was i ≤ there_is i
   fares_there i (Same probe grows fewer same) =
-      subst₂ (λ b (t : List (ℕ × Key)). there_was i ≤ due (is_at (beyond i).head.probe (far_port g u i)) b (any_test t) ((beyond i).mark (far_port g u i)) (x.mark i)) (sym probe) (sym same)
-      (due_far (is_at (beyond i).head.probe (far_port g u i)) (is_at (w.at u).head.probe i) (any_test (queue_beyond i).tests) ((beyond i).mark (far_port g u i)) ((w.at u).mark i) (x.mark i) grows)
+      subst₂ (λ b (t : List (ℕ × Key)).
+      there_was i ≤ due (is_at (beyond i).head.probe (far_port g u i)) b (any_test t) ((beyond i).mark (far_port g u i)) (x.mark i))
+      (sym probe) (sym same)
+      (due_far (is_at (beyond i).head.probe (far_port g u i)) (is_at (w.at u).head.probe i) (any_test (queue_beyond i).tests)
+      ((beyond i).mark (far_port g u i)) ((w.at u).mark i) (x.mark i) grows)
   fares_there i (Tested basic free) =
-      let z : there_was i ≡ 0 = ap₂ (λ b m. due (is_at (beyond i).head.probe (far_port g u i)) b (any_test (queue_beyond i).tests) ((beyond i).mark (far_port g u i)) m) free basic ∙ due_aside (is_at (beyond i).head.probe (far_port g u i)) (any_test (queue_beyond i).tests) ((beyond i).mark (far_port g u i)) in
+      let z : there_was i ≡ 0 = ap₂
+      (λ b m. due (is_at (beyond i).head.probe (far_port g u i)) b (any_test (queue_beyond i).tests) ((beyond i).mark (far_port g u i)) m)
+      free basic ∙
+      due_aside (is_at (beyond i).head.probe (far_port g u i)) (any_test (queue_beyond i).tests) ((beyond i).mark (far_port g u i)) in
       let y = least (there_is i) in
       omega (arith, z, y)
   fares_there i (Done a b) = b
 
   module _ (fares : (i : ℕ) → At g u i → Fares i) where
     pub paid_stays : (v p : ℕ) → At g v p → paid_at g w v p ≤ paid_at g (acts g u x own ss w) v p
-    paid_stays = acts_read g wired u u_is.some u_is.node x own ss w (λ v p e f. paid_at g w v p ≤ paid (test_end e) (test_end f)) (λ v p at ne ne'. omega arith)
+    paid_stays =
+        acts_read g wired u u_is.some u_is.node x own ss w (λ v p e f. paid_at g w v p ≤ paid (test_end e) (test_end f))
+        (λ v p at ne ne'. omega arith)
         (λ i at. fares_here i (fares i at))
-        (λ i at. subst₂ (λ a b. paid (test_end (end g w (far g u i) (far_port g u i))) (test_end (end g w a b)) ≤ there_is i) (sym (wired.back u i at)) (sym (wired.back_port u i at)) (fares_there i (fares i at)))
+        (λ i at.
+        subst₂
+        (λ a b. paid (test_end (end g w (far g u i) (far_port g u i))) (test_end (end g w a b)) ≤ there_is i)
+        (sym (wired.back u i at)) (sym (wired.back_port u i at)) (fares_there i (fares i at)))
 
     pub paid_most : (j : ℕ) → Rises g w (acts g u x own ss w) u j 0
     paid_most j = record { stays = paid_stays; more = λ h. absurd (omega (arith, h)) }
@@ -204,7 +251,9 @@ module _ (g : Network) (wired : IsWired g) (u : ℕ) (u_is : InNetwork g u) (x :
       stays = paid_stays;
       more = λ h. (
         at,
-        acts_read g wired u u_is.some u_is.node x own ss w (λ v p e f. v ≡ u → p ≡ j → paid_at g w v p + d ≤ paid (test_end e) (test_end f)) (λ v p at ne ne' e e'. absurd (ne e))
+        acts_read g wired u u_is.some u_is.node x own ss w
+            (λ v p e f. v ≡ u → p ≡ j → paid_at g w v p + d ≤ paid (test_end e) (test_end f))
+            (λ v p at ne ne' e e'. absurd (ne e))
             (λ i at e e'. subst (λ y. here_was y + d ≤ here_is y) (sym e') more)
             (λ i at e e'. absurd (wired.apart u i at e)) u j at refl refl,
       );

@@ -39,11 +39,20 @@ pub record Within (t l level cap top : ℕ) : Type 0 where
   pub ahead : level < l → t ≡ 0
 
 -- n more are paid by the level that is now reached
-within_step : (t l a b cap cap' n top : ℕ) → (a ≡ l → cap ≤ top) → a ≤ b → (b ≡ a → cap + n ≤ cap') → (a < b → n ≤ cap') → Within t l a cap top → Within (t + (if b == l then n else 0)) l b cap' top
+within_step : (t l a b cap cap' n top : ℕ) →
+    (a ≡ l → cap ≤ top) →
+    a ≤ b →
+    (b ≡ a → cap + n ≤ cap') →
+    (a < b → n ≤ cap') →
+    Within t l a cap top →
+    Within (t + (if b == l then n else 0)) l b cap' top
 within_step t l a b cap cap' n top most le stay rise h = ⊎_elim here away (cases_eq b l)
   where
     before : l ≤ a → t ≤ top
-    before lt = ⊎_elim (λ (z : l < a). h.past z) (λ ge. let same : a ≡ l = omega (arith, ge, lt) in let z = h.now (sym same) in let y = most same in omega (arith, z, y)) (cases_lt l a)
+    before lt =
+        ⊎_elim (λ (z : l < a). h.past z)
+        (λ ge. let same : a ≡ l = omega (arith, ge, lt) in let z = h.now (sym same) in let y = most same in omega (arith, z, y))
+        (cases_lt l a)
 
     here : b ≡ l → Within (t + (if b == l then n else 0)) l b cap' top
     here e = rw (eq-eqb b l e) (record {
@@ -63,7 +72,8 @@ within_step t l a b cap cap' n top most le stay rise h = ⊎_elim here away (cas
     })
 
 -- what each event adds, a run adds up
-pub counted : (g : Network) (wired : IsWired g) (each : Net → Event → Net → ℕ) (I : Net → ℕ → Type 0) → ((w x : Net) (e : Event) (t : ℕ) → IsWellFormed g w → I w t → Happens g w e x → I x (t + each w e x)) →
+pub counted : (g : Network) (wired : IsWired g) (each : Net → Event → Net → ℕ) (I : Net → ℕ → Type 0) →
+    ((w x : Net) (e : Event) (t : ℕ) → IsWellFormed g w → I w t → Happens g w e x → I x (t + each w e x)) →
     (es : List Event) (w x : Net) (t : ℕ) → IsWellFormed g w → I w t → run g es w ≡ Some x → I x (t + added_up each g es w)
 counted g wired each I keeps [] w x t f h r = subst (I x) (add_none t) (subst (λ y. I y t) (same_Some w x r) h)
   where
@@ -72,13 +82,15 @@ counted g wired each I keeps [] w x t f h r = subst (I x) (add_none t) (subst (�
 counted g wired each I keeps (e ∷ es) w x t f h r =
     both_some (happens g w e) (λ y. run g es y) x r
     (λ y a b. subst (I x) (more (happens g w e) (λ z. each w e z + added_up each g es z) y a t (each w e y) (added_up each g es y) refl)
-    (counted g wired each I keeps es y x (t + each w e y) (event_formed g wired w y e f (happening g w y e a)) (keeps w y e t f h (happening g w y e a)) b))
+    (counted g wired each I keeps es y x (t + each w e y) (event_formed g wired w y e f (happening g w y e a))
+    (keeps w y e t f h (happening g w y e a)) b))
   where
     more : (o : Option Net) (c : Net → ℕ) (y : Net) → o ≡ Some y → (t i j : ℕ) → c y ≡ i + j → t + i + j ≡ t + then_count o c
     more o c y z t i j e = let one : then_count o c ≡ c y = ap (λ q. then_count q c) z in omega (arith, one, e)
 
 -- a sort of messages: m counts them, cap is what the present level may have paid, and an act pays for its own
-module _ (g : Network) (ground : Ground g) (k : ℕ) (log : IsFloorLog2 g.count k) (m : Net → ℕ) (cap : Head → Option ℕ → ℕ) (top : ℕ → ℕ) (most : (h : Head) (o : Option ℕ) → cap h o ≤ top h.level) where
+module _ (g : Network) (ground : Ground g) (k : ℕ) (log : IsFloorLog2 g.count k) (m : Net → ℕ) (cap : Head → Option ℕ → ℕ) (top : ℕ → ℕ)
+    (most : (h : Head) (o : Option ℕ) → cap h o ≤ top h.level) where
   -- what an act of node u does to them
   pub record Sorted (u : ℕ) (o o' : Option ℕ) (w x : Net) : Type 0 where
     pub grows : m w ≤ m x
@@ -86,15 +98,35 @@ module _ (g : Network) (ground : Ground g) (k : ℕ) (log : IsFloorLog2 g.count 
     pub stay : (x.node u).head.level ≡ (w.node u).head.level → cap (w.node u).head o + (m x - m w) ≤ cap (x.node u).head o'
     pub rise : (w.node u).head.level < (x.node u).head.level → m x - m w ≤ cap (x.node u).head o'
 
-  module _ (sorted : (w x : Net) (h : HasCharges g k w) (u : ℕ) (up : ℕ → Option ℕ) → InNetwork g u → Acted g k u h.up up w x → Sorted u (h.up u) (up u) w x) (v l : ℕ) where
+  module _
+      (sorted : (w x : Net) (h : HasCharges g k w) (u : ℕ) (up : ℕ → Option ℕ) →
+      InNetwork g u →
+      Acted g k u h.up up w x →
+      Sorted u (h.up u) (up u) w x)
+      (v l : ℕ) where
     -- what level l of node v has paid
     pub record Tolled (w : Net) (t : ℕ) : Type 0 where
       pub has : HasCharges g k w
       pub within : Within t l (w.node v).head.level (cap (w.node v).head (has.up v)) (top l)
 
     -- a step of v
-    steps_in : (w x : Net) (t : ℕ) → IsWellFormed g w → Tolled w t → StepBy g v w x → Tolled x (t + (if (x.node v).head.level == l then m x - m w else 0)) × (m w ≤ m x)
-    steps_in w x t f h s = (record { has = record { up = did.up; sound = did.sound; charges = charges_keep g k v did.some did.within h.has.up did.up w x did.acted h.has.charges }; within = within_step t l (w.node v).head.level (x.node v).head.level (cap (w.node v).head (h.has.up v)) (cap (x.node v).head (did.up v)) (m x - m w) (top l) (λ e. subst (λ n. cap (w.node v).head (h.has.up v) ≤ top n) e (most (w.node v).head (h.has.up v))) of.climbs of.stay of.rise h.within }, of.grows)
+    steps_in : (w x : Net) (t : ℕ) →
+        IsWellFormed g w →
+        Tolled w t →
+        StepBy g v w x →
+        Tolled x (t + (if (x.node v).head.level == l then m x - m w else 0)) × (m w ≤ m x)
+    steps_in w x t f h s = (
+      record {
+        has =
+            record { up = did.up; sound = did.sound; charges = charges_keep g k v did.some did.within h.has.up did.up w x did.acted h.has.charges };
+        within =
+            within_step t l (w.node v).head.level (x.node v).head.level (cap (w.node v).head (h.has.up v)) (cap (x.node v).head (did.up v))
+            (m x - m w) (top l)
+            (λ e. subst (λ n. cap (w.node v).head (h.has.up v) ≤ top n) e (most (w.node v).head (h.has.up v)))
+            of.climbs of.stay of.rise h.within;
+      },
+      of.grows,
+    )
       where
         did : Stepped g ground k log w x h.has v
         did = subst (Stepped g ground k log w x h.has) s.by (stepped g ground k log w x f.nodes h.has s.step)
@@ -106,7 +138,9 @@ module _ (g : Network) (ground : Ground g) (k : ℕ) (log : IsFloorLog2 g.count 
     steps_aside : (u : ℕ) (w x : Net) (t : ℕ) → IsWellFormed g w → Tolled w t → StepBy g u w x → u ≢ v → Tolled x t
     steps_aside u w x t f h s ne = record {
       has = record { up = did.up; sound = did.sound; charges = charges_keep g k u did.some did.within h.has.up did.up w x did.acted h.has.charges };
-      within = subst₂ (λ n o. Within t l n.head.level (cap n.head o) (top l)) (sym (did.acted.there v (λ e. ne (sym e)))) (sym (did.acted.ways v (λ e. ne (sym e)))) h.within;
+      within =
+          subst₂ (λ n o. Within t l n.head.level (cap n.head o) (top l)) (sym (did.acted.there v (λ e. ne (sym e))))
+          (sym (did.acted.ways v (λ e. ne (sym e)))) h.within;
     }
       where
         did : Stepped g ground k log w x h.has u
@@ -119,36 +153,53 @@ module _ (g : Network) (ground : Ground g) (k : ℕ) (log : IsFloorLog2 g.count 
         steps = event_steps_by g ground.wired w x e f.nodes happened
 
         own : event_node e ≡ v → Tolled x (t + risen m v l w e x)
-        own z = subst (Tolled x) (ap (λ b. t + (if b && ((x.node v).head.level == l) then m x - m w else 0)) (sym (eq-eqb (event_node e) v z))) (go (subst (λ u. StepsBy g u w x) z steps))
+        own z =
+            subst (Tolled x)
+            (ap (λ b. t + (if b && ((x.node v).head.level == l) then m x - m w else 0)) (sym (eq-eqb (event_node e) v z)))
+            (go (subst (λ u. StepsBy g u w x) z steps))
           where
             go : StepsBy g v w x → Tolled x (t + (if (x.node v).head.level == l then m x - m w else 0))
             go (One_by s) = (steps_in w x t f h s).0
             go (Two_by {u = y} s s' level) =
                 let a = steps_in w y t f h s in
                 let b = steps_in y x (t + (if (y.node v).head.level == l then m y - m w else 0)) (step_formed g ground.wired f s.step) a.0 s' in
-                subst (Tolled x) (together ((x.node v).head.level == l) (m w) (m y) (m x) a.1 b.1 ∙ refl) (subst (λ n. Tolled x (t + (if n == l then m y - m w else 0) + (if (x.node v).head.level == l then m x - m y else 0))) level b.0)
+                subst (Tolled x)
+                (together ((x.node v).head.level == l) (m w) (m y) (m x) a.1 b.1 ∙ refl)
+                (subst (λ n. Tolled x (t + (if n == l then m y - m w else 0) + (if (x.node v).head.level == l then m x - m y else 0))) level b.0)
               where
-                together : (b : Bool) (i j n : ℕ) → i ≤ j → j ≤ n → t + (if b then j - i else 0) + (if b then n - j else 0) ≡ t + (if b then n - i else 0)
+                together : (b : Bool) (i j n : ℕ) →
+                    i ≤ j →
+                    j ≤ n →
+                    t + (if b then j - i else 0) + (if b then n - j else 0) ≡ t + (if b then n - i else 0)
                 together true i j n p q = omega (arith, p, q)
                 together false i j n p q = omega arith
 
         other : event_node e ≢ v → Tolled x (t + risen m v l w e x)
-        other ne = subst (Tolled x) (ap (λ b. t + (if b && ((x.node v).head.level == l) then m x - m w else 0)) (sym (ne_eqb (event_node e) v ne))) (subst (Tolled x) (plus t) (go steps))
+        other ne =
+            subst (Tolled x)
+            (ap (λ b. t + (if b && ((x.node v).head.level == l) then m x - m w else 0)) (sym (ne_eqb (event_node e) v ne)))
+            (subst (Tolled x) (plus t) (go steps))
           where
             plus : (n : ℕ) → n ≡ n + 0
             plus n = omega arith
 
             go : StepsBy g (event_node e) w x → Tolled x t
             go (One_by s) = steps_aside (event_node e) w x t f h s ne
-            go (Two_by {u = y} s s' level) = steps_aside (event_node e) y x t (step_formed g ground.wired f s.step) (steps_aside (event_node e) w y t f h s ne) s' ne
+            go (Two_by {u = y} s s' level) = steps_aside (event_node e) y x t (step_formed g ground.wired f s.step)
+                (steps_aside (event_node e) w y t f h s ne) s' ne
 
     run_tolled : (es : List Event) (w x : Net) (t : ℕ) → IsWellFormed g w → Tolled w t → run g es w ≡ Some x → Tolled x (t + paid_by m g v l es w)
     run_tolled = counted g ground.wired (risen m v l) Tolled event_tolled
 
-    pub from_opening : (es : List Event) (w : Net) → HasFewPorts g → HasCharges g k (opening g) → IsAfter g es w → Tolled w (paid_by m g v l es (opening g))
+    pub from_opening : (es : List Event) (w : Net) →
+        HasFewPorts g →
+        HasCharges g k (opening g) →
+        IsAfter g es w →
+        Tolled w (paid_by m g v l es (opening g))
     from_opening es w few has after =
         subst (Tolled w) (zero-add (paid_by m g v l es (opening g)))
-        (run_tolled es (opening g) w 0 (opening_formed g few) (record { has = has; within = record { past = λ lt. omega arith; now = λ e. omega arith; ahead = λ lt. refl } }) after)
+        (run_tolled es (opening g) w 0 (opening_formed g few)
+        (record { has = has; within = record { past = λ lt. omega arith; now = λ e. omega arith; ahead = λ lt. refl } }) after)
 
 -- what a level above 0 may have paid
 abbrev above_zero : ℕ → ℕ → ℕ
@@ -174,7 +225,10 @@ low_find {n} {m} fits = go m.head.phase refl
     go : (s : Phase) → m.head.phase ≡ s → finding s ≤ m.head.level
     go Sleeping e = omega arith
     go Found e = omega arith
-    go Find e = ⊎_elim (λ (lt : 0 < m.head.level). omega (arith, lt)) (λ ge. let s = fits.searching e in let z = fits.naming.in_branch (omega (arith, ge)) in absurd (let y = s.in_branch in cc (y, z))) (cases_lt 0 m.head.level)
+    go Find e =
+        ⊎_elim (λ (lt : 0 < m.head.level). omega (arith, lt))
+        (λ ge. let s = fits.searching e in let z = fits.naming.in_branch (omega (arith, ge)) in absurd (let y = s.in_branch in cc (y, z)))
+        (cases_lt 0 m.head.level)
 
 low_test : {n : ℕ} {m : Member} → NodeFits n m → testing m.head.probe ≤ m.head.level
 low_test {n} {m} fits = go m.head.probe refl
@@ -248,9 +302,12 @@ module _ (g : Network) (ground : Ground g) (k : ℕ) (log : IsFloorLog2 g.count 
               let c = above_is (w.node u).head.level (1 - finding (w.node u).head.phase) (omega (arith, lt)) in
               let c' = above_is (x.node u).head.level (1 - finding (x.node u).head.phase) (omega (arith, lt, e)) in
               omega (arith, a, p, e, f, c, c'))
-              (λ ge. let c = above_none (w.node u).head.level (1 - finding (w.node u).head.phase) (omega (arith, ge)) in omega (arith, a, p, e, low, ge, c))
+              (λ ge.
+              let c = above_none (w.node u).head.level (1 - finding (w.node u).head.phase) (omega (arith, ge)) in omega (arith, a, p, e, low, ge, c))
               (cases_lt 0 (w.node u).head.level);
-          rise = λ lt. let z = (act.pays.rises lt).3 in let c = above_is (x.node u).head.level (1 - finding (x.node u).head.phase) (omega (arith, lt)) in omega (arith, a, z, c);
+          rise = λ lt.
+              let z = (act.pays.rises lt).3 in
+              let c = above_is (x.node u).head.level (1 - finding (x.node u).head.phase) (omega (arith, lt)) in omega (arith, a, z, c);
         }
 
     call_sorted : Sorted g ground k log calls call_cap some call_most u (h.up u) (up u) w x
@@ -267,7 +324,9 @@ module _ (g : Network) (ground : Ground g) (k : ℕ) (log : IsFloorLog2 g.count 
     accept_sorted : Sorted g ground k log accepts accept_cap some accept_most u (h.up u) (up u) w x
     unfolding accept_cap
     accept_sorted =
-        let a = act.consumed 3 in let p = act.pays.accepts in let low = low_test (fits w h u is) in let f = busy_most k (w.node u).head.level (w.node u).head.probe in
+        let a =
+        act.consumed 3 in let p =
+        act.pays.accepts in let low = low_test (fits w h u is) in let f = busy_most k (w.node u).head.level (w.node u).head.probe in
         record {
           grows = omega (arith, a);
           climbs = up_by;
@@ -291,7 +350,9 @@ module _ (g : Network) (ground : Ground g) (k : ℕ) (log : IsFloorLog2 g.count 
   within_top : (t l level cap top : ℕ) → Within t l level cap top → (level ≡ l → cap ≤ top) → t ≤ top
   within_top t l level cap top h most = ⊎_elim
       (λ (lt : l < level). h.past lt)
-      (λ ge. ⊎_elim (λ (gt : level < l). let z = h.ahead gt in omega (arith, z)) (λ le. let same : level ≡ l = omega (arith, le, ge) in let z = h.now (sym same) in let y = most same in omega (arith, z, y)) (cases_lt level l))
+      (λ ge. ⊎_elim (λ (gt : level < l). let z = h.ahead gt in omega (arith, z))
+      (λ le. let same : level ≡ l = omega (arith, le, ge) in let z = h.now (sym same) in let y = most same in omega (arith, z, y))
+      (cases_lt level l))
       (cases_lt l level)
 
   module _ (few : HasFewPorts g) (es : List Event) (w : Net) (after : IsAfter g es w) (v : ℕ) (is : InNetwork g v) (l : ℕ) where
@@ -313,19 +374,30 @@ module _ (g : Network) (ground : Ground g) (k : ℕ) (log : IsFloorLog2 g.count 
     -- at most what the limit is
     root_top : paid_by roots g v l es (opening g) ≤ 1
     unfolding one root_cap
-    root_top = let h = root_paid in within_top _ l (w.node v).head.level (root_cap (w.node v).head (h.has.up v)) 1 h.within (λ e. root_most (w.node v).head (h.has.up v))
+    root_top =
+        let h = root_paid in
+        within_top _ l (w.node v).head.level (root_cap (w.node v).head (h.has.up v)) 1 h.within (λ e. root_most (w.node v).head (h.has.up v))
 
     report_top : paid_by reports g v l es (opening g) ≤ above_zero l 1
     unfolding some
-    report_top = let h = report_paid in within_top _ l (w.node v).head.level (report_cap (w.node v).head (h.has.up v)) (some l) h.within (λ e. subst (λ n. report_cap (w.node v).head (h.has.up v) ≤ some n) e (report_most (w.node v).head (h.has.up v)))
+    report_top =
+        let h = report_paid in
+        within_top _ l (w.node v).head.level (report_cap (w.node v).head (h.has.up v)) (some l) h.within
+        (λ e. subst (λ n. report_cap (w.node v).head (h.has.up v) ≤ some n) e (report_most (w.node v).head (h.has.up v)))
 
     call_top : paid_by calls g v l es (opening g) ≤ above_zero l 1
     unfolding some
-    call_top = let h = call_paid in within_top _ l (w.node v).head.level (call_cap (w.node v).head (h.has.up v)) (some l) h.within (λ e. subst (λ n. call_cap (w.node v).head (h.has.up v) ≤ some n) e (call_most (w.node v).head (h.has.up v)))
+    call_top =
+        let h = call_paid in
+        within_top _ l (w.node v).head.level (call_cap (w.node v).head (h.has.up v)) (some l) h.within
+        (λ e. subst (λ n. call_cap (w.node v).head (h.has.up v) ≤ some n) e (call_most (w.node v).head (h.has.up v)))
 
     accept_top : paid_by accepts g v l es (opening g) ≤ above_zero l 1
     unfolding some
-    accept_top = let h = accept_paid in within_top _ l (w.node v).head.level (accept_cap (w.node v).head (h.has.up v)) (some l) h.within (λ e. subst (λ n. accept_cap (w.node v).head (h.has.up v) ≤ some n) e (accept_most (w.node v).head (h.has.up v)))
+    accept_top =
+        let h = accept_paid in
+        within_top _ l (w.node v).head.level (accept_cap (w.node v).head (h.has.up v)) (some l) h.within
+        (λ e. subst (λ n. accept_cap (w.node v).head (h.has.up v) ≤ some n) e (accept_most (w.node v).head (h.has.up v)))
 
     -- the present level's Accept, while a port is probed or the level is the highest
     no_accept : l ≡ (w.node v).head.level → busy k (w.node v).head.level (w.node v).head.probe ≡ 1 → paid_by accepts g v l es (opening g) ≡ 0
@@ -358,7 +430,9 @@ module _ (g : Network) (ground : Ground g) (k : ℕ) (log : IsFloorLog2 g.count 
         (λ ge.
         let now = h.within.now (omega (arith, top, le, ge)) in
         let low = h.has.charges.low v is in
-        ⊎_elim (λ (m : 0 < moved_on (w.node v).head.in_branch (h.has.up v)). absurd (let z = low.moved (omega (arith, m)) in omega (arith, z, le, ge))) (λ m. omega (arith, m, now)) (cases_lt 0 (moved_on (w.node v).head.in_branch (h.has.up v))))
+        ⊎_elim
+        (λ (m : 0 < moved_on (w.node v).head.in_branch (h.has.up v)). absurd (let z = low.moved (omega (arith, m)) in omega (arith, z, le, ge)))
+        (λ m. omega (arith, m, now)) (cases_lt 0 (moved_on (w.node v).head.in_branch (h.has.up v))))
         (cases_lt (w.node v).head.level l)
 
     no_accept_above : k ≤ l → paid_by accepts g v l es (opening g) ≡ 0
@@ -368,20 +442,30 @@ module _ (g : Network) (ground : Ground g) (k : ℕ) (log : IsFloorLog2 g.count 
         ⊎_elim (λ (lt : (w.node v).head.level < l). h.within.ahead lt)
         (λ ge.
         ⊎_elim
-        (λ (up : 0 < l). no_accept (omega (arith, top, le, ge)) (busy_top k (w.node v).head.level (w.node v).head.probe (omega (arith, ge, up)) (omega (arith, le, ge))))
+        (λ (up : 0 < l).
+        no_accept (omega (arith, top, le, ge))
+        (busy_top k (w.node v).head.level (w.node v).head.probe (omega (arith, ge, up)) (omega (arith, le, ge))))
         (λ none. none_at_zero _ accept_top (omega (arith, none)))
         (cases_lt 0 l))
         (cases_lt (w.node v).head.level l)
 
     -- with what waits
-    waiting_one : (sum_below (length (g.ports v)) (λ p. calls_at l (w.queue v p)) ≡ 0) ⊎ ((sum_below (length (g.ports v)) (λ p. calls_at l (w.queue v p)) ≤ 1) × ((w.node v).head.level < l) × (l ≤ k))
+    waiting_one :
+        (sum_below (length (g.ports v)) (λ p. calls_at l (w.queue v p)) ≡ 0) ⊎
+        ((sum_below (length (g.ports v)) (λ p. calls_at l (w.queue v p)) ≤ 1) × ((w.node v).head.level < l) × (l ≤ k))
     waiting_one = let h = call_paid in calls_one g ground.wired k log w h.has.sound.ghost h.has.sound.holds.first v is l
 
     all_calls : paid_by calls g v l es (opening g) + sum_below (length (g.ports v)) (λ p. calls_at l (w.queue v p)) ≤ above_zero l 1
-    all_calls = ⊎_elim (λ z. let a = call_top in omega (arith, a, z)) (λ z. let a = call_paid.within.ahead z.1 in let b = above_is l 1 (omega (arith, z.1)) in omega (arith, a, b, z.0)) waiting_one
+    all_calls =
+        ⊎_elim (λ z. let a = call_top in omega (arith, a, z))
+        (λ z. let a = call_paid.within.ahead z.1 in let b = above_is l 1 (omega (arith, z.1)) in omega (arith, a, b, z.0))
+        waiting_one
 
     no_call_above : k < l → paid_by calls g v l es (opening g) + sum_below (length (g.ports v)) (λ p. calls_at l (w.queue v p)) ≡ 0
-    no_call_above lt = let h = call_paid in let z = level_is h.has in let a = h.within.ahead (omega (arith, z, lt)) in ⊎_elim (λ y. omega (arith, a, y)) (λ y. absurd (omega (arith, y.2, lt))) waiting_one
+    no_call_above lt =
+        let h = call_paid in
+        let z = level_is h.has in
+        let a = h.within.ahead (omega (arith, z, lt)) in ⊎_elim (λ y. omega (arith, a, y)) (λ y. absurd (omega (arith, y.2, lt))) waiting_one
 
     accept_with : l ≡ (w.node v).head.level → paid_by accepts g v l es (opening g) + sum_below (length (g.ports v)) (λ p. of_kind 3 (w.queue v p)) ≤ 1
     accept_with e =
@@ -404,5 +488,8 @@ module _ (g : Network) (ground : Ground g) (k : ℕ) (log : IsFloorLog2 g.count 
 
 pub levels_pay_once : LevelsPayOnce
 levels_pay_once g es w ok after =
-    let top = floor_log2_is_one g.nodes ok.some in
-    (top.0, top.1, λ v lo hi l. level_pays (network_of g) (graph_ground g ok) top.0 top.1 (graph_few g ok) es w after v (record { some = lo; node = hi }) l)
+    let top = floor_log2_is_one g.nodes ok.some in (
+      top.0,
+      top.1,
+      λ v lo hi l. level_pays (network_of g) (graph_ground g ok) top.0 top.1 (graph_few g ok) es w after v (record { some = lo; node = hi }) l,
+    )

@@ -99,16 +99,24 @@ taking (Took v p m ms d at q r) = record { message = m; others = ms; delta = d; 
 module _ (g : Network) (ground : Ground g) (k : ℕ) (log : IsFloorLog2 g.count k) (v p : ℕ) (at : At g v p) where
   -- what v's port p pays for a row of its own
   abbrev owed : Net → Message → Delta → ℕ
-  owed w m d = of_kind 4 (messages d.sends) + (if is_at (w.node v).head.probe p && (not (is_at d.head.probe p) && no_accept_first (m ∷ [])) then 1 else 0)
+  owed w m d =
+      of_kind 4 (messages d.sends) +
+      (if is_at (w.node v).head.probe p && (not (is_at d.head.probe p) && no_accept_first (m ∷ [])) then 1 else 0)
 
   -- it pays nothing, or its having paid rises by one
   row_port :
-      (w : Net) (is : IsNodeOf g v (w.node v)) (gh : Ghost) (sound : Sound g (scene w gh)) (charges : Charges g k gh.up w) (ms : List Message) (m : Message) (d : Delta) → w.queue v p ≡ m ∷ ms → (w.node v).head.phase ≢ Sleeping → AwakeRow (w.node v) p m d →
+      (w : Net) (is : IsNodeOf g v (w.node v)) (gh : Ghost) (sound : Sound g (scene w gh)) (charges : Charges g k gh.up w) (ms : List Message)
+      (m : Message) (d : Delta) →
+      w.queue v p ≡ m ∷ ms →
+      (w.node v).head.phase ≢ Sleeping →
+      AwakeRow (w.node v) p m d →
       (owed w m d ≡ 0) ⊎ ((owed w m d ≤ 1) × Rises g (scene w opening_ghost) (scene (taken g v p m ms d w) opening_ghost) v p 1)
   row_port w is gh sound charges ms m d q up (Connect_absorbed lt few) = inl (probes_so (is_at (w.node v).head.probe p))
   row_port w is gh sound charges ms m d q up (Connect_waits le basic) = inl (probes_so (is_at (w.node v).head.probe p))
   row_port w is gh sound charges ms m d q up (Connect_merges le free lower) = inl (probes_so (is_at (w.node v).head.probe p))
-  row_port w is gh sound charges ms m d q up (Initiate_rests {l = l} {f = f} lt) = inl (let z = all_calls 0 (w.node v).marks p l f Found 4 (λ e. omega (arith, e)) in let y = probes_on (is_at (w.node v).head.probe p) true in omega (arith, z, y))
+  row_port w is gh sound charges ms m d q up (Initiate_rests {l = l} {f = f} lt) = inl
+      (let z = all_calls 0 (w.node v).marks p l f Found 4 (λ e. omega (arith, e)) in
+      let y = probes_on (is_at (w.node v).head.probe p) true in omega (arith, z, y))
   row_port w is gh sound charges ms m d q up (Initiate_searches {l = l} {f = f} {e = e} lt few s) =
       inl (let none = search_free g ground k log v p at w is gh sound charges ms l f q in
       let z = all_calls 0 (w.node v).marks p l f Find 4 (λ e. omega (arith, e)) in
@@ -117,26 +125,50 @@ module _ (g : Network) (ground : Ground g) (k : ℕ) (log : IsFloorLog2 g.count 
       let x = unprobed (w.node v).head.probe p (not (is_at d.head.probe p) && true) none in omega (arith, z, a, y, x))
   row_port w is gh sound charges ms m d q up (Test_waits lt) = inl (probes_so (is_at (w.node v).head.probe p))
   row_port w is gh sound charges ms m d q up (Test_accepted le other) = inl (probes_so (is_at (w.node v).head.probe p))
-  row_port w is gh sound charges ms m d q up (Test_rejected {l = l} {f = f} le same free) = inr ((let y = probes_on (is_at (w.node v).head.probe p) true in omega (arith, y)), rejected_rises g ground k log v p at w is gh sound charges ms l f q same free)
+  row_port w is gh sound charges ms m d q up (Test_rejected {l = l} {f = f} le same free) = inr (
+    (let y = probes_on (is_at (w.node v).head.probe p) true in omega (arith, y)),
+    rejected_rises g ground k log v p at w is gh sound charges ms l f q same free,
+  )
   row_port w is gh sound charges ms m d q up (Tests_cross {l = l} {f = f} {e = e} le same mine s) =
-      inr ((let y = no_reject (no_probe (w.node v).head) e in let z = failed_most (is_at (w.node v).head.probe p && (not (is_at d.head.probe p) && true)) in omega (arith, y, z)), cross_rises g ground k log v p at w is gh sound charges ms l f e q same mine s)
+      inr (
+        (let y = no_reject (no_probe (w.node v).head) e in
+            let z = failed_most (is_at (w.node v).head.probe p && (not (is_at d.head.probe p) && true)) in omega (arith, y, z)),
+        cross_rises g ground k log v p at w is gh sound charges ms l f e q same mine s,
+      )
   row_port w is gh sound charges ms m d q up (Accept_heard {e = e} mine c) =
-      inl (let y = no_reject (answered (w.node v).head p (Some (key_at (w.node v) p))) e in let z = accepted_one (is_at (w.node v).head.probe p) (is_at d.head.probe p) in omega (arith, y, z))
+      inl (let y = no_reject (answered (w.node v).head p (Some (key_at (w.node v) p))) e in
+      let z = accepted_one (is_at (w.node v).head.probe p) (is_at d.head.probe p) in omega (arith, y, z))
   row_port w is gh sound charges ms m d q up (Reject_heard {e = e} mine s) =
-      inr ((let y = no_reject (no_probe (w.node v).head) e in let z = failed_most (is_at (w.node v).head.probe p && (not (is_at d.head.probe p) && true)) in omega (arith, y, z)), heard_rises g ground k log v p at w is gh sound charges ms e q mine s)
+      inr (
+        (let y = no_reject (no_probe (w.node v).head) e in
+            let z = failed_most (is_at (w.node v).head.probe p && (not (is_at d.head.probe p) && true)) in omega (arith, y, z)),
+        heard_rises g ground k log v p at w is gh sound charges ms e q mine s,
+      )
   row_port w is gh sound charges ms m d q up (Report_heard {w = r} {e = e} c away count s) =
       inl (let y = no_reject (heard (w.node v).head c p r) e in
       let o = closes_probe (heard (w.node v).head c p r) e (w.node v).head.probe s in
-      let x = ap (λ o. if is_at (w.node v).head.probe p && (not (is_at o p) && true) then 1 else 0) o ∙ probes_on (is_at (w.node v).head.probe p) true in omega (arith, y, x))
+      let x =
+      ap (λ o. if is_at (w.node v).head.probe p && (not (is_at o p) && true) then 1 else 0) o ∙ probes_on (is_at (w.node v).head.probe p) true in
+      omega (arith, y, x))
   row_port w is gh sound charges ms m d q up (Report_waits way finds) = inl (probes_so (is_at (w.node v).head.probe p))
-  row_port w is gh sound charges ms m d q up (Report_moves_root b y way found best less) = inl (let z = root_no_reject b (w.node v).head.level (mark_at (w.node v) b) in let x = probes_on (is_at (w.node v).head.probe p) true in omega (arith, z, x))
+  row_port w is gh sound charges ms m d q up (Report_moves_root b y way found best less) =
+      inl (let z = root_no_reject b (w.node v).head.level (mark_at (w.node v) b) in
+      let x = probes_on (is_at (w.node v).head.probe p) true in omega (arith, z, x))
   row_port w is gh sound charges ms m d q up (Report_halts way found best) = inl (probes_so (is_at (w.node v).head.probe p))
   row_port w is gh sound charges ms m d q up (Report_passes way found b s) = inl (probes_so (is_at (w.node v).head.probe p))
-  row_port w is gh sound charges ms m d q up (Root_moves b y best) = inl (let z = root_no_reject b (w.node v).head.level (mark_at (w.node v) b) in let x = probes_on (is_at (w.node v).head.probe p) true in omega (arith, z, x))
+  row_port w is gh sound charges ms m d q up (Root_moves b y best) =
+      inl (let z = root_no_reject b (w.node v).head.level (mark_at (w.node v) b) in
+      let x = probes_on (is_at (w.node v).head.probe p) true in omega (arith, z, x))
 
   -- what a sleeping node does
-  woken_port : (w : Net) (m : Message) (d : Delta) → (w.node v).head.probe ≡ None → (w.node v).head.phase ≡ Sleeping → Row (w.node v) (Deliver p m) d → owed w m d ≡ 0
-  woken_port w m d none s row = let x = unprobed (w.node v).head.probe p (not (is_at d.head.probe p) && no_accept_first (m ∷ [])) none in let y = kinds row in omega (arith, x, y)
+  woken_port : (w : Net) (m : Message) (d : Delta) →
+      (w.node v).head.probe ≡ None →
+      (w.node v).head.phase ≡ Sleeping →
+      Row (w.node v) (Deliver p m) d →
+      owed w m d ≡ 0
+  woken_port w m d none s row =
+      let x = unprobed (w.node v).head.probe p (not (is_at d.head.probe p) && no_accept_first (m ∷ [])) none in
+      let y = kinds row in omega (arith, x, y)
     where
       kinds : {q : ℕ} {m : Message} {d : Delta} → Row (w.node v) (Deliver q m) d → of_kind 4 (messages d.sends) ≡ 0
       kinds (Woken_merges a b) = refl
@@ -151,7 +183,11 @@ module _ (g : Network) (ground : Ground g) (k : ℕ) (log : IsFloorLog2 g.count 
     pub within : t ≤ paid_at g (scene w opening_ghost) v p
 
   step_covered : (u : ℕ) (w x : Net) (t : ℕ) → IsWellFormed g w → Covered w t → StepBy g u w x → Covered x t
-  step_covered u w x t f h s = record { has = record { up = did.up; sound = did.sound; charges = charges_keep g k u did.some did.within h.has.up did.up w x did.acted h.has.charges }; within = let a = h.within in let b = did.acted.ports.stays v p at in omega (arith, a, b) }
+  step_covered u w x t f h s = record {
+    has =
+        record { up = did.up; sound = did.sound; charges = charges_keep g k u did.some did.within h.has.up did.up w x did.acted h.has.charges };
+    within = let a = h.within in let b = did.acted.ports.stays v p at in omega (arith, a, b);
+  }
     where
       did : Stepped g ground k log w x h.has u
       did = subst (Stepped g ground k log w x h.has) s.by (stepped g ground k log w x f.nodes h.has s.step)
@@ -161,7 +197,11 @@ module _ (g : Network) (ground : Ground g) (k : ℕ) (log : IsFloorLog2 g.count 
   steps_covered u w x t f h (Two_by {u = y} s s' level) = step_covered u y x t (step_formed g ground.wired f s.step) (step_covered u w y t f h s) s'
 
   -- port p of v takes a message
-  own_covered : (w x : Net) (t : ℕ) → IsWellFormed g w → Covered w t → Happens g w (events.Take v p) x → Covered x (t + ((x.sent 4 - w.sent 4) + failed v p w x))
+  own_covered : (w x : Net) (t : ℕ) →
+      IsWellFormed g w →
+      Covered w t →
+      Happens g w (events.Take v p) x →
+      Covered x (t + ((x.sent 4 - w.sent 4) + failed v p w x))
   own_covered w x t f h happened = record { has = after.has; within = go (asleep_or_not (w.node v).head.phase) }
     where
       took : Taking g w v p x
@@ -173,7 +213,9 @@ module _ (g : Network) (ground : Ground g) (k : ℕ) (log : IsFloorLog2 g.count 
       row : Row (w.node v) (Deliver p took.message) took.delta
       row = event_row g ground.wired v (w.node v) p took.message took.delta at (f.nodes v) took.reacts
 
-      fails : failed v p w x ≡ (if is_at (w.node v).head.probe p && (not (is_at took.delta.head.probe p) && no_accept_first (took.message ∷ [])) then 1 else 0)
+      fails :
+          failed v p w x ≡
+          (if is_at (w.node v).head.probe p && (not (is_at took.delta.head.probe p) && no_accept_first (took.message ∷ [])) then 1 else 0)
       fails = ap₂ (λ (n : NodeState) b. if is_at (w.node v).head.probe p && (not (is_at n.head.probe p) && b) then 1 else 0)
           (ap (λ (y : Net). y.node v) took.is ∙ taken_here g v p took.message took.others took.delta w)
           (ap no_accept_first took.waits ∙ first_only took.message took.others)
@@ -187,40 +229,62 @@ module _ (g : Network) (ground : Ground g) (k : ℕ) (log : IsFloorLog2 g.count 
       nothing : owed w took.message took.delta ≡ 0 → t + ((x.sent 4 - w.sent 4) + failed v p w x) ≤ paid_at g (scene x opening_ghost) v p
       nothing z = let a = all in let b = after.within in omega (arith, a, b, z)
 
-      one : (owed w took.message took.delta ≤ 1) × Rises g (scene w opening_ghost) (scene (taken g v p took.message took.others took.delta w) opening_ghost) v p 1 → t + ((x.sent 4 - w.sent 4) + failed v p w x) ≤ paid_at g (scene x opening_ghost) v p
+      one :
+          (owed w took.message took.delta ≤ 1) ×
+          Rises g (scene w opening_ghost) (scene (taken g v p took.message took.others took.delta w) opening_ghost) v p 1 →
+          t + ((x.sent 4 - w.sent 4) + failed v p w x) ≤ paid_at g (scene x opening_ghost) v p
       one z =
           let r = subst (λ (y : Net). Rises g (scene w opening_ghost) (scene y opening_ghost) v p 1) (sym took.is) z.1 in
           let more = (r.more (omega arith)).1 in let a = all in let b = h.within in let c = z.0 in
           omega (arith, a, b, c, more)
 
-      go : ((w.node v).head.phase ≡ Sleeping) ⊎ ((w.node v).head.phase ≢ Sleeping) → t + ((x.sent 4 - w.sent 4) + failed v p w x) ≤ paid_at g (scene x opening_ghost) v p
-      go (inl s) = nothing (woken_port w took.message took.delta ((h.has.sound.holds.first.nodes v (record { some = at.some; node = at.node })).untouched s).probe s row)
+      go :
+          ((w.node v).head.phase ≡ Sleeping) ⊎ ((w.node v).head.phase ≢ Sleeping) →
+          t + ((x.sent 4 - w.sent 4) + failed v p w x) ≤ paid_at g (scene x opening_ghost) v p
+      go (inl s) =
+          nothing (woken_port w took.message took.delta
+          ((h.has.sound.holds.first.nodes v (record { some = at.some; node = at.node })).untouched s).probe s row)
       go (inr up) = ⊎_elim nothing one
-          (row_port w (f.nodes v) h.has.sound.ghost h.has.sound.holds (by_memory g ground k log h.has.sound h.has.charges) took.others took.message took.delta took.waits up (awake_row up row))
+          (row_port w (f.nodes v) h.has.sound.ghost h.has.sound.holds (by_memory g ground k log h.has.sound h.has.charges) took.others took.message
+          took.delta took.waits up (awake_row up row))
 
   plain : (x : Net) (t n : ℕ) → n ≡ 0 → Covered x t → Covered x (t + n)
   plain x t n z c = record { has = c.has; within = let a = c.within in omega (arith, a, z) }
 
   event_covered : (w x : Net) (e : Event) (t : ℕ) → IsWellFormed g w → Covered w t → Happens g w e x → Covered x (t + port_pays v p w e x)
-  event_covered w x (events.Wake u) t f h happened = plain x t 0 refl (steps_covered u w x t f h (event_steps_by g ground.wired w x (events.Wake u) f.nodes happened))
+  event_covered w x (events.Wake u) t f h happened =
+      plain x t 0 refl (steps_covered u w x t f h (event_steps_by g ground.wired w x (events.Wake u) f.nodes happened))
   event_covered w x (events.Take u q) t f h happened = ⊎_elim
       (λ (e : u ≡ v). ⊎_elim
-      (λ (e' : q ≡ p). subst (λ n. Covered x (t + n)) (sym (ap₂ (λ a b. if a && b then (x.sent 4 - w.sent 4) + failed v p w x else 0) (eq-eqb u v e) (eq-eqb q p e')))
+      (λ (e' : q ≡ p).
+      subst (λ n. Covered x (t + n))
+      (sym (ap₂ (λ a b. if a && b then (x.sent 4 - w.sent 4) + failed v p w x else 0) (eq-eqb u v e) (eq-eqb q p e')))
       (own_covered w x t f h (subst (λ y. Happens g w y x) (ap₂ events.Take e e') happened)))
-      (λ ne. plain x t (port_pays v p w (events.Take u q) x) (ap₂ (λ a b. if a && b then (x.sent 4 - w.sent 4) + failed v p w x else 0) (eq-eqb u v e) (ne_eqb q p ne)) aside)
+      (λ ne.
+      plain x t (port_pays v p w (events.Take u q) x)
+      (ap₂ (λ a b. if a && b then (x.sent 4 - w.sent 4) + failed v p w x else 0) (eq-eqb u v e) (ne_eqb q p ne)) aside)
       (cases_eq q p))
-      (λ ne. plain x t (port_pays v p w (events.Take u q) x) (ap (λ a. if a && (q == p) then (x.sent 4 - w.sent 4) + failed v p w x else 0) (ne_eqb u v ne)) aside)
+      (λ ne.
+      plain x t (port_pays v p w (events.Take u q) x)
+      (ap (λ a. if a && (q == p) then (x.sent 4 - w.sent 4) + failed v p w x else 0) (ne_eqb u v ne)) aside)
       (cases_eq u v)
     where
       aside : Covered x t
       aside = steps_covered u w x t f h (event_steps_by g ground.wired w x (events.Take u q) f.nodes happened)
 
-  pub port_covered : HasFewPorts g → (es : List Event) (w : Net) → IsAfter g es w → (added_up (port_pays v p) g es (opening g) ≤ 1) × ((w.node v).head.probe ≡ Some p → added_up (port_pays v p) g es (opening g) ≡ 0)
-  port_covered few es w after = ((let a = c.within in let b = paid_once g (scene w opening_ghost) v p in omega (arith, a, b)), λ own. let a = c.within in let b = paid_not g (scene w opening_ghost) v p own in omega (arith, a, b))
+  pub port_covered :
+      HasFewPorts g →
+      (es : List Event) (w : Net) → IsAfter g es w →
+      (added_up (port_pays v p) g es (opening g) ≤ 1) × ((w.node v).head.probe ≡ Some p → added_up (port_pays v p) g es (opening g) ≡ 0)
+  port_covered few es w after = (
+    (let a = c.within in let b = paid_once g (scene w opening_ghost) v p in omega (arith, a, b)),
+    λ own. let a = c.within in let b = paid_not g (scene w opening_ghost) v p own in omega (arith, a, b),
+  )
     where
       c : Covered w (added_up (port_pays v p) g es (opening g))
       c = subst (Covered w) (zero-add (added_up (port_pays v p) g es (opening g)))
-          (counted g ground.wired (port_pays v p) Covered event_covered es (opening g) w 0 (opening_formed g few) (record { has = opening_has g ground k log; within = omega arith }) after)
+          (counted g ground.wired (port_pays v p) Covered event_covered es (opening g) w 0 (opening_formed g few)
+          (record { has = opening_has g ground k log; within = omega arith }) after)
 
 pub ports_pay_once : PortsPayOnce
 ports_pay_once g es w ok after v p at =

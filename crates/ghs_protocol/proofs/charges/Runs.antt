@@ -35,13 +35,16 @@ use Rattle.ghs_protocol.proofs.rows.Rows.{row_keeps, up_waking, ups_after, wake_
 use Rattle.ghs_protocol.proofs.every_run.Sound.{opening_sound}
 use Rattle.ghs_protocol.proofs.acts.Reactions.{wake_acts}
 
-module _ (g : Network) (wired : IsWired g) (k : ℕ) (log : IsFloorLog2 g.count k) (v : ℕ) (lo : 1 ≤ v) (hi : v ≤ g.count) (w : Net) (is : IsNodeOf g v (w.node v)) (gh : Ghost) (sound : Sound g (scene w gh)) (sleeps : (w.node v).head.phase ≡ Sleeping) where
+module _ (g : Network) (wired : IsWired g) (k : ℕ) (log : IsFloorLog2 g.count k) (v : ℕ) (lo : 1 ≤ v) (hi : v ≤ g.count) (w : Net)
+    (is : IsNodeOf g v (w.node v)) (gh : Ghost) (sound : Sound g (scene w gh)) (sleeps : (w.node v).head.phase ≡ Sleeping) where
   rested : Untouched ((scene w gh).at v)
   rested = (sound.first.nodes v (record { some = lo; node = hi })).untouched sleeps
 
   -- a node reacts to no message, pays, and its ports pay nothing
   reacts_pays :
-      (d : Delta) (o : Option ℕ) → NoTests (messages d.sends) → d.head.probe ≡ (w.node v).head.probe → ((i : ℕ) → Grows (mark_at (w.node v) i) (get_or (with_mark (w.node v).marks d.mark) i Rejected)) →
+      (d : Delta) (o : Option ℕ) → NoTests (messages d.sends) →
+      d.head.probe ≡ (w.node v).head.probe →
+      ((i : ℕ) → Grows (mark_at (w.node v) i) (get_or (with_mark (w.node v).marks d.mark) i Rejected)) →
       Pays k (w.node v).head None d.head o (λ j. 0) (messages d.sends) 0 → Acted g k v gh.up (put gh.up v o) w (reacted g v d w)
   reacts_pays d o none probe grows pays = record {
     came = λ j. 0;
@@ -53,9 +56,14 @@ module _ (g : Network) (wired : IsWired g) (k : ℕ) (log : IsFloorLog2 g.count 
     sent = sent_now g v d w;
     consumed = λ j. let z = ap (λ (f : ℕ → ℕ). f j) (consumed_now g v d w) in omega (arith, z);
     ports =
-        let r = subst (λ (z : Scene). Rises g (scene w opening_ghost) z v 0 0) (sym (wake_acts g v w opening_ghost None d)) (calm_pays g wired v (record { some = lo; node = hi }) (record (reacts g v w opening_ghost d) { up = None }) (λ i. see (w.queue v i)) (scene w opening_ghost) (λ i h. h) d.sends none probe grows 0) in
+        let r = subst (λ (z : Scene). Rises g (scene w opening_ghost) z v 0 0) (sym (wake_acts g v w opening_ghost None d))
+        (calm_pays g wired v (record { some = lo; node = hi }) (record (reacts g v w opening_ghost d) { up = None }) (λ i. see (w.queue v i))
+        (scene w opening_ghost) (λ i h. h) d.sends none probe grows 0) in
         record { stays = r.stays; more = r.more };
-    pays = subst (λ (n : NodeState). Pays k (w.node v).head (gh.up v) n.head (put gh.up v o v) (λ j. 0) (messages d.sends) 0) (sym (node_here g v d w))
+    pays =
+        subst
+        (λ (n : NodeState). Pays k (w.node v).head (gh.up v) n.head (put gh.up v o v) (λ j. 0) (messages d.sends) 0)
+        (sym (node_here g v d w))
         (subst (λ a. Pays k (w.node v).head a d.head (put gh.up v o v) (λ j. 0) (messages d.sends) 0) (sym rested.up)
         (subst (λ a. Pays k (w.node v).head None d.head a (λ j. 0) (messages d.sends) 0) (sym (put_same gh.up v o)) pays));
   }
@@ -63,21 +71,29 @@ module _ (g : Network) (wired : IsWired g) (k : ℕ) (log : IsFloorLog2 g.count 
   wakes_over : At g v 0 → Acted g k v gh.up (put gh.up v (Some 0)) w (reacted g v (wakes (w.node v)) w)
   wakes_over at =
       reacts_pays (wakes (w.node v)) (Some 0) refl refl
-      (λ i. subst (λ (f : ℕ → Mark). Grows (mark_at (w.node v) i) (f i)) (sym (set_marks (w.node v).marks 0 Branch in_marks)) (grows_branch (λ q. mark_at (w.node v) q) 0 i (λ z. let y = asleep_basic (w.node v) 0 is.node sleeps in_marks in cc (y, z))))
+      (λ i.
+      subst (λ (f : ℕ → Mark). Grows (mark_at (w.node v) i) (f i)) (sym (set_marks (w.node v).marks 0 Branch in_marks))
+      (grows_branch (λ q. mark_at (w.node v) q) 0 i (λ z. let y = asleep_basic (w.node v) 0 is.node sleeps in_marks in cc (y, z))))
       (pays_wake k (w.node v).head (λ j. 0) one rested.level sleeps rested.in_branch rested.best refl refl)
     where
       in_marks : 0 < degree (w.node v)
       in_marks = let lt = at.port in omega (arith, lt, ports_many is)
 
       one : 1 ≤ k
-      one = log.greatest 1 (let t = wired.there v 0 at in let a = t.some in let b = t.node in let ne = wired.apart v 0 at in omega (arith, a, b, ne, lo, hi))
+      one =
+          log.greatest 1
+          (let t = wired.there v 0 at in let a = t.some in let b = t.node in let ne = wired.apart v 0 at in omega (arith, a, b, ne, lo, hi))
 
   pub wake_acts_so : Acted g k v gh.up (put gh.up v (up_waking (w.node v).marks (gh.up v))) w (reacted g v (waking (w.node v)) w)
   wake_acts_so = go (w.node v).marks refl
     where
-      go : (ks : List Mark) → (w.node v).marks ≡ ks → Acted g k v gh.up (put gh.up v (up_waking ks (gh.up v))) w (reacted g v (at_wake (w.node v) ks) w)
+      go : (ks : List Mark) →
+          (w.node v).marks ≡ ks →
+          Acted g k v gh.up (put gh.up v (up_waking ks (gh.up v))) w (reacted g v (at_wake (w.node v) ks) w)
       go [] e = reacts_pays (wakes_alone (w.node v)) (gh.up v) refl refl (λ i ne. refl)
-          (subst (λ a. Pays k (w.node v).head None (wakes_alone (w.node v)).head a (λ j. 0) [] 0) (sym rested.up) (pays_alone k (w.node v).head (λ j. 0) sleeps rested.best refl refl))
+          (subst
+          (λ a. Pays k (w.node v).head None (wakes_alone (w.node v)).head a (λ j. 0) [] 0)
+          (sym rested.up) (pays_alone k (w.node v).head (λ j. 0) sleeps rested.best refl refl))
       go (m ∷ ks) e = wakes_over (record { some = lo; node = hi; port = let z = ports_many is in let y = ap length e in omega (arith, z, y) })
 
 module _ (g : Network) (ground : Ground g) (k : ℕ) (log : IsFloorLog2 g.count k) where
@@ -99,7 +115,10 @@ module _ (g : Network) (ground : Ground g) (k : ℕ) (log : IsFloorLog2 g.count 
     within = hi;
     up = put h.sound.ghost.up v (up_waking (w.node v).marks (h.sound.ghost.up v));
     sound = wake_keeps g ground v (record { some = lo; node = hi }) w (nodes v) h.sound.ghost h.sound.holds sleeps;
-    acted = subst (λ u. Acted g k v u (put h.sound.ghost.up v (up_waking (w.node v).marks (h.sound.ghost.up v))) w (reacted g v (waking (w.node v)) w)) h.sound.ups
+    acted =
+        subst
+        (λ u. Acted g k v u (put h.sound.ghost.up v (up_waking (w.node v).marks (h.sound.ghost.up v))) w (reacted g v (waking (w.node v)) w))
+        h.sound.ups
         (wake_acts_so g ground.wired k log v lo hi w (nodes v) h.sound.ghost h.sound.holds sleeps);
   }
   stepped w _ nodes h (Takes_one v p m ms d at q up row) = record {
@@ -128,4 +147,7 @@ module _ (g : Network) (ground : Ground g) (k : ℕ) (log : IsFloorLog2 g.count 
   opening_has = record { up = λ v. None; sound = record { ghost = opening_ghost; holds = opening_sound g; ups = refl }; charges = opening_charges }
 
   pub after_charges : HasFewPorts g → (es : List Event) (w : Net) → IsAfter g es w → HasCharges g k w
-  after_charges few es w h = run_by_steps g ground.wired few (HasCharges g k) (λ w w' f i s. charged w w' i (step_node s) (stepped w w' f.nodes i s)) opening_has es w h
+  after_charges few es w h =
+      run_by_steps g ground.wired few (HasCharges g k)
+      (λ w w' f i s. charged w w' i (step_node s) (stepped w w' f.nodes i s))
+      opening_has es w h

@@ -51,18 +51,34 @@ same_port : (p q : ℕ) → Probing p ≡ Probing q → q ≡ p
 same_port p q e = cc
 
 pub next_basic : (ms : List Mark) (h : Head) (e : Ending) → Settles ms h e → (q : ℕ) → e ≡ Probing q → get_or ms q Rejected ≡ Basic
-next_basic ms h _ (Probes p least) q e = subst (λ y. get_or ms y Rejected ≡ Basic) (sym (same_port p q e)) (basic_is (get_or ms p Rejected) (position-Some is_basic ms p Rejected least).1)
+next_basic ms h _ (Probes p least) q e =
+    subst (λ y. get_or ms y Rejected ≡ Basic) (sym (same_port p q e))
+    (basic_is (get_or ms p Rejected) (position-Some is_basic ms p Rejected least).1)
 next_basic ms h e (Exhausts none c) q z = absurd (no_probing h e c q z)
 
 module _ (g : Network) (v p : ℕ) (w : Net) (m : Message) (ms : List Message) where
   -- no more Tests wait, once the first message is taken
-  pub fewer : w.queue v p ≡ m ∷ ms → (i : ℕ) → any_test (put (λ i. see (w.queue v i)) p (see ms) i).tests ≡ true → any_test (see (w.queue v i)).tests ≡ true
-  fewer waits i h = ⊎_elim
-      (λ (e : i ≡ p). subst (λ y. any_test (see (w.queue v y)).tests ≡ true) (sym e)
-      (let some : any_test (see ms).tests ≡ true = ap (λ (s : Seen). any_test s.tests) (sym (put_same (λ i. see (w.queue v i)) p (see ms))) ∙ subst (λ y. any_test (put (λ i. see (w.queue v i)) p (see ms) y).tests ≡ true) e h in
-      ap (λ (q : List Message). any_test (see q).tests) waits ∙ ap (λ (s : Seen). any_test s.tests) (see_first m ms) ∙ any_after (add unseen m).tests (see ms).tests some))
-      (λ ne. ap (λ (s : Seen). any_test s.tests) (sym (put_other (λ i. see (w.queue v i)) p i (see ms) ne)) ∙ h)
-      (cases_eq i p)
+  pub fewer :
+      w.queue v p ≡ m ∷ ms →
+      (i : ℕ) → any_test (put (λ i. see (w.queue v i)) p (see ms) i).tests ≡ true →
+      any_test (see (w.queue v i)).tests ≡ true
+  fewer waits i h = ⊎_elim here elsewhere (cases_eq i p)
+    where
+      left : any_test (put (λ i. see (w.queue v i)) p (see ms) p).tests ≡ true → any_test (see ms).tests ≡ true
+      left some = ap (λ (s : Seen). any_test s.tests) (sym (put_same (λ i. see (w.queue v i)) p (see ms))) ∙ some
+
+      first : any_test (see ms).tests ≡ true → any_test (see (w.queue v p)).tests ≡ true
+      first some =
+          ap (λ (q : List Message). any_test (see q).tests) waits ∙ ap (λ (s : Seen). any_test s.tests) (see_first m ms) ∙
+          any_after (add unseen m).tests (see ms).tests some
+
+      here : i ≡ p → any_test (see (w.queue v i)).tests ≡ true
+      here e =
+          subst (λ y. any_test (see (w.queue v y)).tests ≡ true) (sym e)
+          (first (left (subst (λ y. any_test (put (λ i. see (w.queue v i)) p (see ms) y).tests ≡ true) e h)))
+
+      elsewhere : i ≢ p → any_test (see (w.queue v i)).tests ≡ true
+      elsewhere ne = ap (λ (s : Seen). any_test s.tests) (sym (put_other (λ i. see (w.queue v i)) p i (see ms) ne)) ∙ h
 
   module _ (d : Delta) where
     -- the net, as ports read it, before and after
@@ -76,7 +92,8 @@ module _ (g : Network) (v p : ℕ) (w : Net) (m : Message) (ms : List Message) w
     arrives once a h = subst (λ (z : Scene). Rises g before z v p a) (sym (taken_acts g v w opening_ghost p m ms d once)) h
 
     pub taken_pays :
-        (k : ℕ) (up up' : ℕ → Option ℕ) (a : ℕ) → ((u : ℕ) → u ≢ v → up' u ≡ up u) → Rises g before (scene (taken g v p m ms d w) opening_ghost) v p a →
+        (k : ℕ) (up up' : ℕ → Option ℕ) (a : ℕ) → ((u : ℕ) → u ≢ v → up' u ≡ up u) →
+        Rises g before (scene (taken g v p m ms d w) opening_ghost) v p a →
         Pays k (w.node v).head (up v) d.head (up' v) (λ j. cond (place_of (kind_of m) == j) (one_if_consumed d.fate) 0) (messages d.sends) a →
         Acted g k v up up' w (taken g v p m ms d w)
     taken_pays k up up' a ways more pays = record {
@@ -89,5 +106,8 @@ module _ (g : Network) (v p : ℕ) (w : Net) (m : Message) (ms : List Message) w
       sent = taken_sent g v p m ms d w;
       consumed = taken_consumed g v p m ms d w;
       ports = more;
-      pays = subst (λ (n : NodeState). Pays k (w.node v).head (up v) n.head (up' v) (λ j. cond (place_of (kind_of m) == j) (one_if_consumed d.fate) 0) (messages d.sends) a) (sym (taken_here g v p m ms d w)) pays;
+      pays =
+          subst (λ (n : NodeState).
+          Pays k (w.node v).head (up v) n.head (up' v) (λ j. cond (place_of (kind_of m) == j) (one_if_consumed d.fate) 0) (messages d.sends) a)
+          (sym (taken_here g v p m ms d w)) pays;
     }

@@ -20,9 +20,15 @@ module _ (g : Network) (k : ℕ) (log : IsFloorLog2 g.count k) (w : Scene) (hold
       log.greatest (w.at v).coming (omega (arith, all, many))
 
   -- where another fragment is as high, there is a higher level
-  pub below_top : (v u : ℕ) → InNetwork g v → InNetwork g u → (w.at u).fragment ≢ (w.at v).fragment → (w.at v).coming ≤ (w.at u).coming → (w.at v).coming < k
+  pub below_top : (v u : ℕ) →
+      InNetwork g v →
+      InNetwork g u →
+      (w.at u).fragment ≢ (w.at v).fragment →
+      (w.at v).coming ≤ (w.at u).coming →
+      (w.at v).coming < k
   below_top v u is is' apart le =
-      let all = few_apart g.count both.some both.apart (λ x i. ⊎_elim (λ (z : Mates v x). (z.0.some, z.0.node)) (λ z. (z.0.some, z.0.node)) (both.each x i)) in
+      let all = few_apart g.count both.some both.apart
+      (λ x i. ⊎_elim (λ (z : Mates v x). (z.0.some, z.0.node)) (λ z. (z.0.some, z.0.node)) (both.each x i)) in
       let many = both.many in
       log.greatest (suc (w.at v).coming) (omega (arith, all, many))
     where
@@ -33,7 +39,12 @@ module _ (g : Network) (k : ℕ) (log : IsFloorLog2 g.count k) (w : Scene) (hold
       b = holds.trees.sizes u is'
 
       b' : HasMany (Mates u) (2 ^ (w.at v).coming)
-      b' = record { some = b.some; apart = b.apart; each = b.each; many = let z = b.many in let p : 2 ^ (w.at v).coming ≤ 2 ^ (w.at u).coming = pow_mono le in omega (arith, z, p) }
+      b' = record {
+        some = b.some;
+        apart = b.apart;
+        each = b.each;
+        many = let z = b.many in let p : 2 ^ (w.at v).coming ≤ 2 ^ (w.at u).coming = pow_mono le in omega (arith, z, p);
+      }
 
       both : HasMany (λ x. Mates v x ⊎ Mates u x) (2 ^ (suc (w.at v).coming))
       both = doubled (w.at v).coming (λ x p q. apart (sym q.1 ∙ p.1)) a b'

@@ -77,7 +77,9 @@ pub record Charges (g : Network) (k : ℕ) (up : ℕ → Option ℕ) (w : Net) :
   -- a Connect or ChangeRoot, one a level that is left, and one at the present level
   pub roots : w.sent 0 + w.sent 6 ≤ sum_over_nodes g (λ v. (w.node v).head.level) + sum_over_nodes g (λ v. moved_on (w.node v).head.in_branch (up v))
   -- an Accept that came in, or a Test that is out, one a level
-  pub accepts : w.consumed 3 + sum_over_nodes g (λ v. busy k (w.node v).head.level (w.node v).head.probe) ≤ sum_over_nodes g (λ v. (w.node v).head.level)
+  pub accepts :
+      w.consumed 3 + sum_over_nodes g (λ v. busy k (w.node v).head.level (w.node v).head.probe) ≤ sum_over_nodes g
+      (λ v. (w.node v).head.level)
   -- each Test has its Accept, or is out, or is paid by a port; so is each Reject
   pub tests : w.sent 2 + w.sent 4 ≤ w.consumed 3 + sum_over_nodes g (λ v. testing (w.node v).head.probe) + paid_in g w
   pub low : (v : ℕ) → InNetwork g v → IsLow k (w.node v).head (up v)

@@ -96,7 +96,12 @@ BranchesInTree g w = (v p : ℕ) → At g v p → (w.at v).mark p ≡ Branch →
 
 -- no link leads out of the fragment of a node that has halted
 abbrev pub HaltedIsWhole : Network → Scene → Type 0
-HaltedIsWhole g w = (v t p : ℕ) → InNetwork g v → (w.at v).head.halted ≡ true → At g t p → (w.at t).fragment ≡ (w.at v).fragment → (w.at (far g t p)).fragment ≡ (w.at v).fragment
+HaltedIsWhole g w =
+    (v t p : ℕ) → InNetwork g v →
+    (w.at v).head.halted ≡ true →
+    At g t p →
+    (w.at t).fragment ≡ (w.at v).fragment →
+    (w.at (far g t p)).fragment ≡ (w.at v).fragment
 
 -- all clauses of floors, trees and halts but the order of tests
 pub record Floors (g : Network) (w : Scene) (floor : ℕ → Floor) : Type 0 where

@@ -65,7 +65,13 @@ pub data Root (g : Network) (s : Forest) (v p : ℕ) : Type 0 where
 
 -- a fragment has one root
 abbrev pub OneRoot : Network → Forest → Type 0
-OneRoot g s = (v p u q : ℕ) → At g v p → At g u q → Root g s v p → Root g s u q → s.fragment v ≡ s.fragment u → ((v ≡ u) × (p ≡ q)) ⊎ ((far g v p ≡ u) × (far_port g v p ≡ q))
+OneRoot g s =
+    (v p u q : ℕ) → At g v p →
+    At g u q →
+    Root g s v p →
+    Root g s u q →
+    s.fragment v ≡ s.fragment u →
+    ((v ≡ u) × (p ≡ q)) ⊎ ((far g v p ≡ u) × (far_port g v p ≡ q))
 
 -- the way from v leads to a root
 pub data Reach (g : Network) (s : Forest) : ℕ → Type 0 where

@@ -66,7 +66,14 @@ pub record Scene : Type 0 where
 
 -- a node of the net with what is remembered of it
 abbrev pub member : Net → Ghost → ℕ → Member
-member w gh v = record { head = (w.node v).head; mark = λ p. mark_at (w.node v) p; fragment = gh.fragment v; coming = gh.coming (gh.fragment v); coming_name = gh.coming_name (gh.fragment v); up = gh.up v }
+member w gh v = record {
+  head = (w.node v).head;
+  mark = λ p. mark_at (w.node v) p;
+  fragment = gh.fragment v;
+  coming = gh.coming (gh.fragment v);
+  coming_name = gh.coming_name (gh.fragment v);
+  up = gh.up v;
+}
 
 -- the net with its memory
 abbrev pub scene : Net → Ghost → Scene
@@ -86,7 +93,13 @@ end g w v p = record { port = p; key = (port_at g v p).key; mark = (w.at v).mark
 
 -- the far end of the link at port p of v, of which the key is the same
 abbrev pub far_end : Network → Scene → ℕ → ℕ → End
-far_end g w v p = record { port = far_port g v p; key = (port_at g v p).key; mark = (w.at (far g v p)).mark (far_port g v p); is = w.at (far g v p); seen = w.seen (far g v p) (far_port g v p) }
+far_end g w v p = record {
+  port = far_port g v p;
+  key = (port_at g v p).key;
+  mark = (w.at (far g v p)).mark (far_port g v p);
+  is = w.at (far g v p);
+  seen = w.seen (far g v p) (far_port g v p);
+}
 
 -- what the clauses on tree messages and on the search read of an end
 pub record TreeEnd : Type 0 where
@@ -116,10 +129,33 @@ pub record TestEnd : Type 0 where
   pub rejects : ℕ
 
 abbrev pub tree_end : End → TreeEnd
-tree_end e = record { port = e.port; key = e.key; mark = e.mark; fragment = e.is.fragment; coming = e.is.coming; coming_name = e.is.coming_name; up = e.is.up; level = e.is.head.level; phase = e.is.head.phase; in_branch = e.is.head.in_branch; best = e.is.head.best; tree = e.seen.tree }
+tree_end e = record {
+  port = e.port;
+  key = e.key;
+  mark = e.mark;
+  fragment = e.is.fragment;
+  coming = e.is.coming;
+  coming_name = e.is.coming_name;
+  up = e.is.up;
+  level = e.is.head.level;
+  phase = e.is.head.phase;
+  in_branch = e.is.head.in_branch;
+  best = e.is.head.best;
+  tree = e.seen.tree;
+}
 
 abbrev pub test_end : End → TestEnd
-test_end e = record { port = e.port; mark = e.mark; fragment = e.is.fragment; level = e.is.head.level; name = e.is.head.name; probe = e.is.head.probe; tests = e.seen.tests; accepts = e.seen.accepts; rejects = e.seen.rejects }
+test_end e = record {
+  port = e.port;
+  mark = e.mark;
+  fragment = e.is.fragment;
+  level = e.is.head.level;
+  name = e.is.head.name;
+  probe = e.is.head.probe;
+  tests = e.seen.tests;
+  accepts = e.seen.accepts;
+  rejects = e.seen.rejects;
+}
 
 -- what fragments are read off: Branch marks and the memory
 pub record Forest : Type 0 where
@@ -130,7 +166,13 @@ pub record Forest : Type 0 where
   pub up : ℕ → Option ℕ
 
 abbrev pub forest : Scene → Forest
-forest w = record { branch = λ v p. is_branch ((w.at v).mark p); fragment = λ v. (w.at v).fragment; coming = λ v. (w.at v).coming; coming_name = λ v. (w.at v).coming_name; up = λ v. (w.at v).up }
+forest w = record {
+  branch = λ v p. is_branch ((w.at v).mark p);
+  fragment = λ v. (w.at v).fragment;
+  coming = λ v. (w.at v).coming;
+  coming_name = λ v. (w.at v).coming_name;
+  up = λ v. (w.at v).up;
+}
 
 -- messages go out, one after another
 abbrev pub push_all : Network → ℕ → Outgoing → (ℕ → ℕ → Seen) → ℕ → ℕ → Seen

@@ -55,7 +55,8 @@ UpwardQueue e f = Child e f → Upward e f
 -- Initiates that rise from level l, the last at most t; N are the names of the fragment's links
 abbrev pub Chain : (Key → Type 0) → ℕ → Option Key → ℕ → ℕ → List Message → Type 0
 Chain N coming coming_name t l [] = l ≤ t
-Chain N coming coming_name t l (Initiate k f s ∷ ms) = (l < k) × N f × (k ≡ coming → coming_name ≡ Some f) × (s ≢ Sleeping) × (s ≡ Find → k ≡ coming) × Chain N coming coming_name t k ms
+Chain N coming coming_name t l (Initiate k f s ∷ ms) =
+    (l < k) × N f × (k ≡ coming → coming_name ≡ Some f) × (s ≢ Sleeping) × (s ≡ Find → k ≡ coming) × Chain N coming coming_name t k ms
 Chain N coming coming_name t l (_ ∷ ms) = Prim.⊥
 
 -- e's chain of Initiates, from its parent f
@@ -108,7 +109,12 @@ called l k Begun = []
 -- e's part of the core queue: a is its stage, b that of f
 pub data CoreQueue (e f : TreeEnd) (a b : Stage) : Type 0 where
   Plain : e.tree ≡ asked f.level b ++ called e.coming e.key a → CoreQueue e f a b
-  With_report : (k : Option Key) → e.tree ≡ called e.coming e.key a ++ Report k ∷ [] → b ≡ Begun → f.phase ≡ Found → best_key f.best ≡ k → CoreQueue e f a b
+  With_report : (k : Option Key) →
+      e.tree ≡ called e.coming e.key a ++ Report k ∷ [] →
+      b ≡ Begun →
+      f.phase ≡ Found →
+      best_key f.best ≡ k →
+      CoreQueue e f a b
 
 -- the root link that has the coming name
 pub record Core (e f : TreeEnd) : Type 0 where

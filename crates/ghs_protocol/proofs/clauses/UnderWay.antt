@@ -50,7 +50,12 @@ pub record HeardBy (level coming : ℕ) (phase : Phase) (best other : Best) (hal
 
 -- the Report of a core end that is done is under way, or was heard without a move of the root
 abbrev pub CoreHeard : End → End → Type 0
-CoreHeard e f = IsCore e f → e.is.head.level ≡ e.is.coming → e.is.head.phase ≡ Found → has_report f.seen.tree ≡ false → HeardBy f.is.head.level f.is.coming f.is.head.phase f.is.head.best e.is.head.best f.is.head.halted
+CoreHeard e f =
+    IsCore e f →
+    e.is.head.level ≡ e.is.coming →
+    e.is.head.phase ≡ Found →
+    has_report f.seen.tree ≡ false →
+    HeardBy f.is.head.level f.is.coming f.is.head.phase f.is.head.best e.is.head.best f.is.head.halted
 
 -- all three, of each link from each end
 pub record Lives (g : Network) (w : Scene) : Type 0 where

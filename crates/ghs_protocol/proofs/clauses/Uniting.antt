@@ -33,5 +33,10 @@ pub record MarksAre (g : Network) (u : ℕ) (m : Member) (ms : List Mark) : Type
 
 -- the first tree message at port j of u, others after it, sends the root on: a better Report of the other half of the core, or a ChangeRoot
 pub data SendsRoot (w : Scene) (u j : ℕ) (ms : List Message) : Type 0 where
-  By_report : (k : Option Key) → (w.seen u j).tree ≡ Report k ∷ ms → (w.at u).head.in_branch ≡ Some j → (w.at u).head.phase ≡ Found → below (best_key (w.at u).head.best) k ≡ true → SendsRoot w u j ms
+  By_report : (k : Option Key) →
+      (w.seen u j).tree ≡ Report k ∷ ms →
+      (w.at u).head.in_branch ≡ Some j →
+      (w.at u).head.phase ≡ Found →
+      below (best_key (w.at u).head.best) k ≡ true →
+      SendsRoot w u j ms
   By_root : (w.seen u j).tree ≡ ChangeRoot ∷ ms → SendsRoot w u j ms

@@ -84,7 +84,11 @@ module _ {N : ℕ → Key → Type 0} (e f : TreeEnd) (he : TreeFits N e f) (hf 
       go (On_moved c) = moved (he.moved_root c)
 
   none_sent : e.mark ≢ Branch → connects_at f ≡ 0
-  none_sent a = ⊎_elim (λ b. no_connect f [] (hf.out_connect (record { here = b; there = a })).none (omega arith)) (λ b. no_connect f [] (hf.silent b a) (omega arith)) (mark_is f.mark)
+  none_sent a =
+      ⊎_elim
+      (λ b. no_connect f [] (hf.out_connect (record { here = b; there = a })).none (omega arith))
+      (λ b. no_connect f [] (hf.silent b a) (omega arith))
+      (mark_is f.mark)
 
   one_sent : e.mark ≡ Branch → f.mark ≢ Branch → connects_at f ≡ 1
   one_sent a b = ap (of_kind 0) (he.out_connect (record { here = a; there = b })).one ∙ omega arith

@@ -53,8 +53,12 @@ last_few h Waiting = omega arith
 awake_few : {n : NodeState} {j : ℕ} {m : Message} {d : Delta} → AwakeRow n j m d → length d.sends ≤ suc (degree n)
 awake_few {n} (Initiate_rests {j = j} {l = l} {f = f} lt) = omega (arith, branches_few 0 n.marks j (Initiate l f Found))
 awake_few {n} (Initiate_searches {j = j} {l = l} {f = f} {e = e} lt few s) =
-    omega
-    (arith, branches_few 0 n.marks j (Initiate l f Find), last_few (no_probe (searching n j l f)) e, length-append (passed_on n j l f Find) (last_sends (no_probe (searching n j l f)) e))
+    omega (
+      arith,
+      branches_few 0 n.marks j (Initiate l f Find),
+      last_few (no_probe (searching n j l f)) e,
+      length-append (passed_on n j l f Find) (last_sends (no_probe (searching n j l f)) e),
+    )
 awake_few {n} (Tests_cross {e = e} a b c s) = omega (arith, last_few (no_probe n.head) e)
 awake_few {n} (Accept_heard {j = j} {e = e} a s) = omega (arith, last_few (answered n.head j (Some (key_at n j))) e)
 awake_few {n} (Reject_heard {e = e} a s) = omega (arith, last_few (no_probe n.head) e)
@@ -95,7 +99,10 @@ module _ (g : Network) where
   taken_in_all : (v p : ℕ) (m : Message) (ms : List Message) (d : Delta) (w : Net) →
       in_all (taken g v p m ms d w).consumed + (taken g v p m ms d w).requeued ≡ in_all w.consumed + w.requeued + 1
   taken_in_all v p m ms d w =
-      let c : in_all (taken g v p m ms d w).consumed ≡ in_all w.consumed + one_if_consumed d.fate = sum_same 7 _ _ (λ k lt. taken_consumed g v p m ms d w k) ∙ sum_add 7 w.consumed (λ k. cond (place_of (kind_of m) == k) (one_if_consumed d.fate) 0) ∙ ap (λ x. in_all w.consumed + x) (one_kind_of m (one_if_consumed d.fate)) in
+      let c : in_all (taken g v p m ms d w).consumed ≡ in_all w.consumed + one_if_consumed d.fate =
+      sum_same 7 _ _ (λ k lt. taken_consumed g v p m ms d w k) ∙
+      sum_add 7 w.consumed (λ k. cond (place_of (kind_of m) == k) (one_if_consumed d.fate) 0) ∙
+      ap (λ x. in_all w.consumed + x) (one_kind_of m (one_if_consumed d.fate)) in
       omega (arith, c, taken_requeued g v p m ms d w, one_fate d.fate)
 
   event_counts : (w w' : Net) (e : Event) (es : List Event) → Happens g w e w' →
@@ -104,9 +111,12 @@ module _ (g : Network) where
   event_counts w _ _ es (Took v p m ms d at q r) = omega (arith, taken_in_all v p m ms d w)
 
   -- a message that is taken is counted once
-  pub run_counts : (es : List Event) (w w' : Net) → run g es w ≡ Some w' → in_all w'.consumed + w'.requeued ≡ in_all w.consumed + w.requeued + takes_in es
+  pub run_counts : (es : List Event) (w w' : Net) →
+      run g es w ≡ Some w' →
+      in_all w'.consumed + w'.requeued ≡ in_all w.consumed + w.requeued + takes_in es
   run_counts [] w w' h = ap (λ (x : Net). in_all x.consumed + x.requeued) (sym (same_Some _ _ h)) ∙ sym (add-zero _)
-  run_counts (e ∷ es) w w' h = both_some (happens g w e) (λ x. run g es x) w' h (λ x a b. run_counts es x w' b ∙ event_counts w x e es (happening g w x e a))
+  run_counts (e ∷ es) w w' h =
+      both_some (happens g w e) (λ x. run g es x) w' h (λ x a b. run_counts es x w' b ∙ event_counts w x e es (happening g w x e a))
 
   module _ (wired : IsWired g) where
     event_sends : (w w' : Net) (e : Event) → IsWellFormed g w → Happens g w e w' → in_all w'.sent ≤ in_all w.sent + 8388609

@@ -17,6 +17,7 @@ use Rattle.ghs_protocol.specs.Net.{Net}
 use Rattle.ghs_protocol.specs.Nodes.{IsNodeOf}
 use Rattle.ghs_protocol.specs.Ledger.{sum_below}
 use Rattle.ghs_protocol.proofs.clauses.Scene.{End, end, tree_end, see, scene, Ghost, far_end}
+use Rattle.ghs_protocol.proofs.clauses.Changes.{marked}
 use Rattle.ghs_protocol.proofs.clauses.Links.{Joins, Ups}
 use Rattle.ghs_protocol.proofs.clauses.Nodes.{NodeFits, Searching}
 use Rattle.ghs_protocol.proofs.clauses.Fragments.{IsIn, First, Later, Apart, One_more, HasMany}
@@ -83,7 +84,8 @@ pub few_apart : (n : ℕ) (xs : List ℕ) → Apart xs → ((x : ℕ) → IsIn x
 few_apart zero [] a b = omega arith
 few_apart zero (x ∷ xs) a b = absurd (let z = b x First in omega (arith, z.0, z.1))
 few_apart (suc n) xs a b =
-    let rest = few_apart n (drop_one (suc n) xs) (drop_apart (suc n) xs a) (λ x i. let z = b x (drop_in (suc n) x xs i) in let ne = drop_gone (suc n) x xs a i in (z.0, omega (arith, z.1, ne))) in
+    let rest = few_apart n (drop_one (suc n) xs) (drop_apart (suc n) xs a)
+    (λ x i. let z = b x (drop_in (suc n) x xs i) in let ne = drop_gone (suc n) x xs a i in (z.0, omega (arith, z.1, ne))) in
     let one = drop_length (suc n) xs in
     omega (arith, rest, one)
 
@@ -103,7 +105,8 @@ sum_lacks (suc n) j f lt most none =
     ⊎_elim (λ (e : j ≡ n). let z = sum_few n f most in let y : ◌≡◌ {A = ℕ} (f n) 0 = ap f (sym e) ∙ none in omega (arith, z, y))
     (λ ne. let z = sum_lacks n j f (omega arith) most none in let y = most n in omega (arith, z, y)) (cases_eq j n)
 
-module _ (g : Network) (wired : IsWired g) (few : g.count ≤ 1048576) (v p : ℕ) (at : At g v p) (w : Net) (is : IsNodeOf g v (w.node v)) (gh : Ghost) (holds : Invariant g (scene w gh)) where
+module _ (g : Network) (wired : IsWired g) (few : g.count ≤ 1048576) (v p : ℕ) (at : At g v p) (w : Net) (is : IsNodeOf g v (w.node v))
+    (gh : Ghost) (holds : Invariant g (scene w gh)) where
   inside : InNetwork g v
   inside = record { some = at.some; node = at.node }
 
@@ -116,14 +119,25 @@ module _ (g : Network) (wired : IsWired g) (few : g.count ≤ 1048576) (v p : �
   link' : LinkFits (NamesOf g (scene w gh)) (far_end g (scene w gh) v p) (end g (scene w gh) v p)
   link' = link_fits' g wired (scene w gh) holds v p at
 
-  ways : Joins (tree_end (end g (scene w gh) v p)) (tree_end (far_end g (scene w gh) v p)) → Ups (tree_end (end g (scene w gh) v p)) ⊎ Ups (tree_end (far_end g (scene w gh) v p))
+  ways :
+      Joins (tree_end (end g (scene w gh) v p)) (tree_end (far_end g (scene w gh) v p)) →
+      Ups (tree_end (end g (scene w gh) v p)) ⊎ Ups (tree_end (far_end g (scene w gh) v p))
   ways = link_leads g wired (scene w gh) holds v p at
 
   -- to a sleeping node no other message comes than a Connect or a Test
-  quiet_sleep : (m : Message) (ms : List Message) → w.queue v p ≡ m ∷ ms → is_tree m ≡ true → ((l : ℕ) → m ≢ Connect l) → (w.node v).head.phase ≡ Sleeping → ⊥
+  quiet_sleep : (m : Message) (ms : List Message) →
+      w.queue v p ≡ m ∷ ms →
+      is_tree m ≡ true →
+      ((l : ℕ) → m ≢ Connect l) →
+      (w.node v).head.phase ≡ Sleeping →
+      ⊥
   quiet_sleep m ms q tree other sleeps =
       ⊎_elim
-      (λ b. other (tree_end (far_end g (scene w gh) v p)).level (let z : m ∷ (see ms).tree ≡ Connect (tree_end (far_end g (scene w gh) v p)).level ∷ [] = sym first ∙ (link'.tree.out_connect (record { here = b; there = bare })).one in cc))
+      (λ b.
+      other (tree_end (far_end g (scene w gh) v p)).level
+      (let z : m ∷ (see ms).tree ≡ Connect (tree_end (far_end g (scene w gh) v p)).level ∷ [] =
+      sym first ∙ (link'.tree.out_connect (record { here = b; there = bare })).one in
+      cc))
       (λ b. let z : m ∷ (see ms).tree ≡ [] = sym first ∙ link.tree.silent bare b in cc) (mark_is (tree_end (far_end g (scene w gh) v p)).mark)
     where
       bare : (tree_end (end g (scene w gh) v p)).mark ≢ Branch
@@ -160,13 +174,25 @@ module _ (g : Network) (wired : IsWired g) (few : g.count ≤ 1048576) (v p : �
       calls (tree_end (end g (scene w gh) v p)) (tree_end (far_end g (scene w gh) v p)) link.tree link'.tree ways own lags l n s (see ms).tree
       (tree_first (w.queue v p) ms (Initiate l n s) refl q)
     where
-      own : Joins (tree_end (end g (scene w gh) v p)) (tree_end (far_end g (scene w gh) v p)) → NamesOf g (scene w gh) (gh.fragment v) (port_at g v p).key
-      own j = record { node = v; port = p; at = at; joined = record { here = ap is_branch j.here; there = ap is_branch j.there }; fragment = refl; key = refl }
+      own :
+          Joins (tree_end (end g (scene w gh) v p)) (tree_end (far_end g (scene w gh) v p)) →
+          NamesOf g (scene w gh) (gh.fragment v) (port_at g v p).key
+      own j = record {
+        node = v;
+        port = p;
+        at = at;
+        joined = record { here = ap is_branch j.here; there = ap is_branch j.there };
+        fragment = refl;
+        key = refl;
+      }
 
-      lags : Joins (tree_end (end g (scene w gh) v p)) (tree_end (far_end g (scene w gh) v p)) → (tree_end (far_end g (scene w gh) v p)).level ≤ (tree_end (end g (scene w gh) v p)).coming
+      lags :
+          Joins (tree_end (end g (scene w gh) v p)) (tree_end (far_end g (scene w gh) v p)) →
+          (tree_end (far_end g (scene w gh) v p)).level ≤ (tree_end (end g (scene w gh) v p)).coming
       lags j =
           let t = wired.there v p at in
-          let same = (holds.trees.by_fragment v (far g v p) (holds.trees.joined_within v p at (record { here = ap is_branch j.here; there = ap is_branch j.there }))).0 in
+          let same = (holds.trees.by_fragment v (far g v p)
+          (holds.trees.joined_within v p at (record { here = ap is_branch j.here; there = ap is_branch j.there }))).0 in
           let z = (holds.nodes (far g v p) (record { some = t.some; node = t.node })).lag.level in
           omega (arith, same, z)
 
@@ -175,7 +201,15 @@ module _ (g : Network) (wired : IsWired g) (few : g.count ≤ 1048576) (v p : �
   owed =
       holds.counted v inside ∙
       sum_same (length (g.ports v)) _ _
-      (λ i lt. let at' : At g v i = record { some = at.some; node = at.node; port = lt } in ap (debt (end g (scene w gh) v i)) (λ k. record { port = far_port g v i; key = wired.same_key v i at' k; mark = ((scene w gh).at (far g v i)).mark (far_port g v i); is = (scene w gh).at (far g v i); seen = (scene w gh).seen (far g v i) (far_port g v i) }))
+      (λ i lt.
+      let at' : At g v i = record { some = at.some; node = at.node; port = lt } in
+      ap (debt (end g (scene w gh) v i)) (λ k. record {
+        port = far_port g v i;
+        key = wired.same_key v i at' k;
+        mark = ((scene w gh).at (far g v i)).mark (far_port g v i);
+        is = (scene w gh).at (far g v i);
+        seen = (scene w gh).seen (far g v i) (far_port g v i);
+      }))
 
   debt_most : (e f : End) → debt e f ≤ 1
   debt_most e f = elim (not (is_at e.is.up e.port) && owes e f) as (λ b. (if b then 1 else 0) ≤ 1) [ true ↦ omega arith | false ↦ omega arith ]
@@ -185,7 +219,9 @@ module _ (g : Network) (wired : IsWired g) (few : g.count ≤ 1048576) (v p : �
   owed_few finds =
       let s : Searching ((scene w gh).at v) = fits.searching finds in
       let lt : s.port < length (g.ports v) = fits.own_ports.in_branch s.port s.in_branch in
-      let z = sum_lacks (length (g.ports v)) s.port (λ i. debt (end g (scene w gh) v i) (far_end g (scene w gh) v i)) lt (λ i. debt_most (end g (scene w gh) v i) (far_end g (scene w gh) v i)) (debt_up (end g (scene w gh) v s.port) (far_end g (scene w gh) v s.port) s.up) in
+      let z = sum_lacks (length (g.ports v)) s.port (λ i. debt (end g (scene w gh) v i) (far_end g (scene w gh) v i)) lt
+      (λ i. debt_most (end g (scene w gh) v i) (far_end g (scene w gh) v i))
+      (debt_up (end g (scene w gh) v s.port) (far_end g (scene w gh) v s.port) s.up) in
       omega (arith, z, owed, ports_many is)
 
   more_few : degree (w.node v) < find_more (w.node v).head.phase (w.node v).head.find_count → ⊥
@@ -193,7 +229,8 @@ module _ (g : Network) (wired : IsWired g) (few : g.count ≤ 1048576) (v p : �
     where
       go : (s : Phase) → (w.node v).head.phase ≡ s → ⊥
       go Find e =
-          let y : degree (w.node v) < suc (w.node v).head.find_count = subst (λ s. degree (w.node v) < find_more s (w.node v).head.find_count) e many in
+          let y : degree (w.node v) < suc (w.node v).head.find_count =
+          subst (λ s. degree (w.node v) < find_more s (w.node v).head.find_count) e many in
           let z = owed_few e in
           omega (arith, y, z)
       go Found e =
@@ -209,14 +246,21 @@ module _ (g : Network) (wired : IsWired g) (few : g.count ≤ 1048576) (v p : �
   coming_most : gh.coming (gh.fragment v) ≤ 20
   coming_most =
       ⊎_elim
-      (λ big. absurd (let many = h.many in let all = few_apart g.count h.some h.apart (λ x i. let z = (h.each x i).0 in (z.some, z.node)) in let power : 2 ^ 21 ≤ 2 ^ gh.coming (gh.fragment v) = pow_mono big in omega (arith, many, all, power, few)))
+      (λ big.
+      absurd (let many = h.many in
+      let all = few_apart g.count h.some h.apart (λ x i. let z = (h.each x i).0 in (z.some, z.node)) in
+      let power : 2 ^ 21 ≤ 2 ^ gh.coming (gh.fragment v) = pow_mono big in omega (arith, many, all, power, few)))
       (λ small. omega (arith, small)) (cases_lt 20 (gh.coming (gh.fragment v)))
     where
       h : HasMany (λ u. InNetwork g u × (gh.fragment u ≡ gh.fragment v)) (2 ^ gh.coming (gh.fragment v))
       h = holds.trees.sizes v inside
 
   -- a Report over another link than the way to the core is owed
-  unowed : (k : Option Key) (ms : List Message) → w.queue v p ≡ Report k ∷ ms → (w.node v).head.in_branch ≢ Some p → (w.node v).head.find_count ≡ 0 → ⊥
+  unowed : (k : Option Key) (ms : List Message) →
+      w.queue v p ≡ Report k ∷ ms →
+      (w.node v).head.in_branch ≢ Some p →
+      (w.node v).head.find_count ≡ 0 →
+      ⊥
   unowed k ms q ne none = omega (arith, none, owed, term, one)
     where
       first : (see (w.queue v p)).tree ≡ Report k ∷ (see ms).tree
@@ -231,7 +275,8 @@ module _ (g : Network) (wired : IsWired g) (few : g.count ≤ 1048576) (v p : �
       one : ◌≡◌ {A = ℕ} (f p) 1
       one =
           debt_one (end g (scene w gh) v p) (far_end g (scene w gh) v p)
-          (reports.heard_first (tree_end (end g (scene w gh) v p)) (tree_end (far_end g (scene w gh) v p)) link.tree link'.tree ways k (see ms).tree first ne).child.down
+          (reports.heard_first (tree_end (end g (scene w gh) v p)) (tree_end (far_end g (scene w gh) v p)) link.tree link'.tree ways k
+          (see ms).tree first ne).child.down
           (rw first refl)
 
   search_few :
@@ -251,10 +296,12 @@ module _ (g : Network) (wired : IsWired g) (few : g.count ≤ 1048576) (v p : �
   foreseen m ms q (Reject_untested up ne) = no_reject ms q ne
   foreseen m ms q (Report_unowed {w = k} up ne z) = unowed k ms q ne z
   foreseen m ms q (Root_without_best up none) =
-      (root_sent (tree_end (end g (scene w gh) v p)) (tree_end (far_end g (scene w gh) v p)) link.tree link'.tree ways (see ms).tree (tree_first (w.queue v p) ms ChangeRoot refl q)).fits.best
+      (root_sent (tree_end (end g (scene w gh) v p)) (tree_end (far_end g (scene w gh) v p)) link.tree link'.tree ways (see ms).tree
+      (tree_first (w.queue v p) ms ChangeRoot refl q)).fits.best
       none
   foreseen m ms q (Merge_above_levels {l = l} up top le marked) =
-      let z = (asked_on (tree_end (end g (scene w gh) v p)) (tree_end (far_end g (scene w gh) v p)) link.tree link'.tree ways l (see ms).tree (tree_first (w.queue v p) ms (Connect l) refl q) marked).below in
+      let z = (asked_on (tree_end (end g (scene w gh) v p)) (tree_end (far_end g (scene w gh) v p)) link.tree link'.tree ways l (see ms).tree
+      (tree_first (w.queue v p) ms (Connect l) refl q) marked).below in
       omega (arith, z, top, coming_most)
   foreseen m ms q (Absorbs_too_many up lt many) = more_few many
   foreseen m ms q (Searches_too_many {l = l} {f = f} up lt many) = search_few l f ms q many

@@ -46,7 +46,8 @@ halted_by g w w1 u v d e nodes sets r h =
     here : v ≡ u → HasHalted w v ⊎ ((x : Delta) × Reacts w e v x × (x.halts ≡ true))
     here is =
         let now : d.head.halted ≡ true = sym (ap (λ (n : NodeState). n.head.halted) (ap (reacted g u d w1).node is ∙ node_here g u d w1)) ∙ h in
-        ⊎_elim (λ a. inl (ap (λ y. (w.node y).head.halted) is ∙ a)) (λ b. inr (d, subst (λ y. Reacts w e y d) (sym is) r, b)) (or_true _ _ (sym sets ∙ now))
+        ⊎_elim (λ a. inl (ap (λ y. (w.node y).head.halted) is ∙ a)) (λ b. inr (d, subst (λ y. Reacts w e y d) (sym is) r, b))
+        (or_true _ _ (sym sets ∙ now))
 
 -- the node that reacts has halted, where the reaction halts it
 halts_here : (g : Network) (w w1 : Net) (u : ℕ) (d : Delta) → d.head.halted ≡ ((w.node u).head.halted || d.halts) → d.halts ≡ true →
@@ -69,13 +70,16 @@ module _ (g : Network) (wired : IsWired g) where
   event_halts w _ _ _ d f (Took u p m ms d' at q r) (By_taking {m = m'} {ms = ms'} q' r') h =
       let same = same_message m' m ms' ms (sym q' ∙ q) in
       let e = same_Some d d' (sym r' ∙ ap (λ (x : Message). reaction (w.node u) (Deliver p x)) same ∙ r) in
-      halts_here g w (take_first d'.fate u p m ms w) u d' (row_halts (w.node u) (Deliver p m) d' (event_row g wired u (w.node u) p m d' at (f.nodes u) r)) (ap (λ (x : Delta). x.halts) (sym e) ∙ h)
+      halts_here g w (take_first d'.fate u p m ms w) u d'
+      (row_halts (w.node u) (Deliver p m) d' (event_row g wired u (w.node u) p m d' at (f.nodes u) r))
+      (ap (λ (x : Delta). x.halts) (sym e) ∙ h)
 
   -- a halting reaction in a run leaves the node halted
   pub halts_last : {v : ℕ} {w : Net} {es : List Event} → (w' : Net) → IsWellFormed g w → Halts g v w es → run g es w ≡ Some w' → HasHalted w' v
   halts_last {v} {w} w' f (Now {e = e} {es = es} d r h) k =
       both_some (happens g w e) (λ x. run g es x) w' k
-      (λ x a b. let t = happening g w x e a in (run_lasts g wired es x w' (event_formed g wired w x e f t) b v).halted (event_halts w x e v d f t r h))
+      (λ x a b.
+      let t = happening g w x e a in (run_lasts g wired es x w' (event_formed g wired w x e f t) b v).halted (event_halts w x e v d f t r h))
   halts_last {v} {w} w' f (Later {x = x} {e = e} {es = es} a l) k =
       halts_last w' (event_formed g wired w x e f (happening g w x e a)) l (sym (ap (λ o. and_then o (λ y. run g es y)) a) ∙ k)
 
@@ -84,7 +88,15 @@ module _ (g : Network) (wired : IsWired g) where
   halted_so v [] w w' f k h = inl (ap (λ (x : Net). (x.node v).head.halted) (same_Some _ _ k) ∙ h)
   halted_so v (e ∷ es) w w' f k h =
       both_some (happens g w e) (λ x. run g es x) w' k
-      (λ x a b. let t = happening g w x e a in ⊎_elim (λ i. ⊎_elim (λ j. inl j) (λ j. inr (Now j.0 j.1 j.2)) (event_halted w x e v f t i)) (λ i. inr (Later a i)) (halted_so v es x w' (event_formed g wired w x e f t) b h))
+      (λ x a b.
+      let t = happening g w x e a in
+      ⊎_elim
+      (λ i. ⊎_elim (λ j. inl j) (λ j. inr (Now j.0 j.1 j.2)) (event_halted w x e v f t i))
+      (λ i. inr (Later a i)) (halted_so v es x w' (event_formed g wired w x e f t) b h))
 
   pub after_halted : HasFewPorts g → (es : List Event) (w : Net) (v : ℕ) → IsAfter g es w → (HasHalted w v ↔ Halts g v (opening g) es)
-  after_halted few es w v k = (λ h. ⊎_elim (λ i. absurd (let z : false ≡ true = i in cc)) (λ i. i) (halted_so v es (opening g) w (opening_formed g few) k h), λ h. halts_last w (opening_formed g few) h k)
+  after_halted few es w v k = (
+    λ h.
+        ⊎_elim (λ i. absurd (let z : false ≡ true = i in cc)) (λ i. i) (halted_so v es (opening g) w (opening_formed g few) k h),
+    λ h. halts_last w (opening_formed g few) h k,
+  )

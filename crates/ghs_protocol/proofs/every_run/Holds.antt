@@ -53,8 +53,16 @@ module _ (g : Network) (ground : Ground g) where
       record { formed = after_formed g ground.wired few es w h; sound = after_sound g ground few es w h }
 
   -- between two moments of a run
-  pub rejected_stays : (es : List Event) (w w' : Net) → Holds g w → run g es w ≡ Some w' → (v p : ℕ) → At g v p → mark_at (w.node v) p ≡ Rejected → mark_at (w'.node v) p ≡ Rejected
-  rejected_stays es w w' h r = run_rejected g ground.wired (HasSound g) (λ x y f i s. step_keeps g ground x y f.nodes i s) (λ x f i. spares g ground.wired x (without_floors i)) es w w' h.formed h.sound r
+  pub rejected_stays : (es : List Event) (w w' : Net) →
+      Holds g w →
+      run g es w ≡ Some w' →
+      (v p : ℕ) → At g v p →
+      mark_at (w.node v) p ≡ Rejected →
+      mark_at (w'.node v) p ≡ Rejected
+  rejected_stays es w w' h r =
+      run_rejected g ground.wired (HasSound g) (λ x y f i s. step_keeps g ground x y f.nodes i s)
+      (λ x f i. spares g ground.wired x (without_floors i))
+      es w w' h.formed h.sound r
 
 -- many in one way, and in the other
 all_in : (P : ℕ → Type 0) (xs : List ℕ) → ((x : ℕ) → IsIn x xs → P x) → All P xs
@@ -91,14 +99,20 @@ module _ (g : Network) (wired : IsWired g) (w : Net) (h : Holds g w) where
   rejected_inside v p at r =
       let t = wired.there v p at in
       leads_so v (far g v p)
-      (h.sound.holds.first.trees.connected v (far g v p) (record { some = at.some; node = at.node }) (record { some = t.some; node = t.node }) ((h.sound.holds.first.links v p at).search.rejected_inside r))
+      (h.sound.holds.first.trees.connected v (far g v p) (record { some = at.some; node = at.node }) (record { some = t.some; node = t.node })
+      ((h.sound.holds.first.links v p at).search.rejected_inside r))
 
   module _ (few : g.count ≤ 1048576) where
     -- a message that is taken has a reaction
-    reacts : (v p : ℕ) → At g v p → (m : Message) (ms : List Message) → w.queue v p ≡ m ∷ ms → (o : Option Delta) → reaction (w.node v) (Deliver p m) ≡ o → IsSome o
+    reacts : (v p : ℕ) →
+        At g v p →
+        (m : Message) (ms : List Message) → w.queue v p ≡ m ∷ ms →
+        (o : Option Delta) → reaction (w.node v) (Deliver p m) ≡ o →
+        IsSome o
     reacts v p at m ms q None e =
         absurd
-        (foreseen g wired few v p at w (h.formed.nodes v) h.sound.ghost h.sound.holds.first m ms q (reaction_ruleless (w.node v) (Deliver p m) (h.formed.nodes v).node.level e))
+        (foreseen g wired few v p at w (h.formed.nodes v) h.sound.ghost h.sound.holds.first m ms q
+        (reaction_ruleless (w.node v) (Deliver p m) (h.formed.nodes v).node.level e))
     reacts v p at m ms q (Some d) e = refl
 
     took : (v p : ℕ) (m : Message) (ms : List Message) (o : Option Delta) → IsSome o → IsSome (after_take g w v p m ms o)
@@ -110,7 +124,10 @@ module _ (g : Network) (wired : IsWired g) (w : Net) (h : Holds g w) where
     takes v p at (m ∷ ms) q l = took v p m ms (reaction (w.node v) (Deliver p m)) (reacts v p at m ms q (reaction (w.node v) (Deliver p m)) refl)
 
     pub has_rule : (e : Event) → is_lawful g w e ≡ true → IsSome (effect g w e)
-    has_rule (events.Wake v) l = let s : (w.node v).head.phase ≡ Sleeping = sleeping_is (w.node v).head.phase (and_parts (is_node g v) (is_sleeping (w.node v).head.phase) l).1 in rw s refl
+    has_rule (events.Wake v) l =
+        let s : (w.node v).head.phase ≡ Sleeping =
+        sleeping_is (w.node v).head.phase (and_parts (is_node g v) (is_sleeping (w.node v).head.phase) l).1 in
+        rw s refl
     has_rule (events.Take v p) l = let b = and_parts _ _ l in takes v p (at_of g v p b.0) (w.queue v p) refl b.1
 
     pub has_reaction : (v : ℕ) (k : Work) → Asks g w v k → IsSome (reaction (w.node v) k)

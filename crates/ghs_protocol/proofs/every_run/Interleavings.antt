@@ -25,4 +25,5 @@ pub work_has_reaction : WorkHasReaction
 work_has_reaction g w n = runs.has_reaction (network_of g) (graph_wired g n.graph) w (holds g w n) n.graph.nodes
 
 pub rejected_marks_stay : RejectedMarksStay
-rejected_marks_stay g w w' l v p = runs.rejected_stays (network_of g) (graph_ground g l.graph) l.further w w' (holds g w (earlier g w w' l)) (further g w w' l) v p
+rejected_marks_stay g w w' l v p =
+    runs.rejected_stays (network_of g) (graph_ground g l.graph) l.further w w' (holds g w (earlier g w w' l)) (further g w w' l) v p

@@ -14,6 +14,7 @@ use Rattle.ghs_node.specs.Rows.{AwakeRow, Connect_absorbed, Test_rejected, Tests
 use Rattle.ghs_protocol.specs.Network.{Network, At, IsWired}
 use Rattle.ghs_protocol.specs.Net.{Net}
 use Rattle.ghs_protocol.proofs.clauses.Scene.{end, tree_end, see, scene, Ghost, far_end}
+use Rattle.ghs_protocol.proofs.clauses.Changes.{rejected}
 use Rattle.ghs_protocol.proofs.clauses.Uniting.{SendsRoot, By_report, By_root}
 use Rattle.ghs_protocol.proofs.clauses.Whole.{Invariant, HasInvariant}
 use Rattle.ghs_protocol.proofs.every_run.RejectedStays.{SparesRejected}
@@ -53,7 +54,10 @@ module _ (g : Network) (wired : IsWired g) (w : Net) (gh : Ghost) (holds : Invar
           (tree_first (w.queue v p) ms (Connect l) refl q) (λ z. cc (z, rejected))
 
   -- nor is a best link Rejected when the root moves
-  root_spares : (ms : List Message) (b : ℕ) (k : Key) → SendsRoot (scene w gh) v p ms → (w.node v).head.best ≡ Some (b, k) → mark_at (w.node v) b ≢ Rejected
+  root_spares : (ms : List Message) (b : ℕ) (k : Key) →
+      SendsRoot (scene w gh) v p ms →
+      (w.node v).head.best ≡ Some (b, k) →
+      mark_at (w.node v) b ≢ Rejected
   root_spares ms b k calls best rejected =
       let n = node_fits g wired (scene w gh) holds v p at in
       let at' : At g v b = record { some = at.some; node = at.node; port = (n.best_port b k best).0 } in
@@ -61,7 +65,11 @@ module _ (g : Network) (wired : IsWired g) (w : Net) (gh : Ghost) (holds : Invar
       let out = s.find_leads k best (at_root g wired v (at_in at) p at (scene w gh) holds ms calls).top (λ z. cc (z, rejected)) in
       out.apart (sym (s.rejected_inside rejected))
 
-  row_spares : (q : ℕ) (m : Message) (ms : List Message) (d : Delta) → w.queue v p ≡ m ∷ ms → AwakeRow (w.node v) p m d → d.mark ≡ Some (q, Branch) → mark_at (w.node v) q ≢ Rejected
+  row_spares : (q : ℕ) (m : Message) (ms : List Message) (d : Delta) →
+      w.queue v p ≡ m ∷ ms →
+      AwakeRow (w.node v) p m d →
+      d.mark ≡ Some (q, Branch) →
+      mark_at (w.node v) q ≢ Rejected
   row_spares q m ms d waits (Connect_absorbed {l = l} lt few) e =
       let z : p ≡ q = ap (λ (o : ℕ × Mark). o.0) (same_Some _ _ e) in subst (λ y. mark_at (w.node v) y ≢ Rejected) z (absorbs_spare l ms waits)
   row_spares q m ms d waits (Test_rejected le same free) e = absurd (reject_no_branch (w.node v) p q e)
@@ -69,7 +77,8 @@ module _ (g : Network) (wired : IsWired g) (w : Net) (gh : Ghost) (holds : Invar
   row_spares q m ms d waits (Reject_heard own s) e = absurd (reject_no_branch (w.node v) p q e)
   row_spares q m ms d waits (Report_moves_root {w = r} b k way found best less) e =
       subst (λ y. mark_at (w.node v) y ≢ Rejected) (root_port _ b q e)
-      (root_spares (see ms).tree b k (By_report r (tree_first (w.queue v p) ms (Report r) refl waits) way found (ap (λ o. below (best_key o) r) best ∙ less)) best)
+      (root_spares (see ms).tree b k
+      (By_report r (tree_first (w.queue v p) ms (Report r) refl waits) way found (ap (λ o. below (best_key o) r) best ∙ less)) best)
   row_spares q m ms d waits (Root_moves b k best) e =
       subst (λ y. mark_at (w.node v) y ≢ Rejected) (root_port _ b q e)
       (root_spares (see ms).tree b k (By_root (tree_first (w.queue v p) ms ChangeRoot refl waits)) best)

@@ -24,7 +24,11 @@ each zero f = []
 each (suc n) f = each n f ++ f (suc n) ∷ []
 
 abbrev seen : ℕ → Net → Seen
-seen n w = record { sent = w.sent 0 ∷ w.sent 1 ∷ w.sent 2 ∷ w.sent 3 ∷ w.sent 4 ∷ w.sent 5 ∷ w.sent 6 ∷ []; halted = each n (λ v. (w.node v).head.halted); marks = each n (λ v. (w.node v).marks) }
+seen n w = record {
+  sent = w.sent 0 ∷ w.sent 1 ∷ w.sent 2 ∷ w.sent 3 ∷ w.sent 4 ∷ w.sent 5 ∷ w.sent 6 ∷ [];
+  halted = each n (λ v. (w.node v).head.halted);
+  marks = each n (λ v. (w.node v).marks);
+}
 
 -- what is seen of the net after these events of the graph with these links
 abbrev outcome : ℕ → List Key → List Event → Seen

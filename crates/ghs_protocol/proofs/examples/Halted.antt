@@ -34,7 +34,11 @@ rising (suc i) (suc (suc k)) d lt l = absurd (omega (arith, l))
 
 is_net : IsNetOf g (net_after g events)
 unfolding net_after ports_of
-is_net = record { graph = record { some = omega arith; nodes = omega arith; links = omega arith; among = among; rising = rising }; events = events; run = refl }
+is_net = record {
+  graph = record { some = omega arith; nodes = omega arith; links = omega arith; among = among; rising = rising };
+  events = events;
+  run = refl;
+}
 
 halted : HasHalted (net_after g events) 2
 unfolding net_after ports_of
@@ -44,12 +48,17 @@ halted = refl
 greatest : (j : ℕ) → 2 ^ j ≤ 2 → j ≤ 1
 greatest zero le = omega arith
 greatest (suc zero) le = omega arith
-greatest (suc (suc j)) le = absurd (let two : 2 ≤ suc (suc j) = omega arith in let z : 2 ^ 2 ≤ 2 ^ (suc (suc j)) = pow_mono two in omega (arith, z, le))
+greatest (suc (suc j)) le =
+    absurd (let two : 2 ≤ suc (suc j) = omega arith in let z : 2 ^ 2 ≤ 2 ^ (suc (suc j)) = pow_mono two in omega (arith, z, le))
 
 bound : IsBound 2 2 14
 bound = record { levels = 1; log2 = record { at_most = omega arith; greatest = greatest }; bound = refl }
 
 -- what is counted for node 1 in these events: its level 0 pays for a Connect, its level 1 for an Initiate and a Report, and port 1 for a Test that failed
-counted : paid_by roots (network_of g) 1 0 events (opening (network_of g)) ∷ paid_by roots (network_of g) 1 1 events (opening (network_of g)) ∷ paid_by calls (network_of g) 1 1 events (opening (network_of g)) ∷ paid_by reports (network_of g) 1 1 events (opening (network_of g)) ∷ paid_by accepts (network_of g) 1 1 events (opening (network_of g)) ∷ added_up (port_pays 1 0) (network_of g) events (opening (network_of g)) ∷ added_up (port_pays 1 1) (network_of g) events (opening (network_of g)) ∷ [] ≡ 1 ∷ 0 ∷ 1 ∷ 1 ∷ 0 ∷ 0 ∷ 1 ∷ []
+counted :
+    paid_by roots (network_of g) 1 0 events (opening (network_of g)) ∷ paid_by roots (network_of g) 1 1 events (opening (network_of g)) ∷
+    paid_by calls (network_of g) 1 1 events (opening (network_of g)) ∷ paid_by reports (network_of g) 1 1 events (opening (network_of g)) ∷
+    paid_by accepts (network_of g) 1 1 events (opening (network_of g)) ∷ added_up (port_pays 1 0) (network_of g) events
+    (opening (network_of g)) ∷ added_up (port_pays 1 1) (network_of g) events (opening (network_of g)) ∷ [] ≡ 1 ∷ 0 ∷ 1 ∷ 1 ∷ 0 ∷ 0 ∷ 1 ∷ []
 unfolding ports_of
 counted = refl

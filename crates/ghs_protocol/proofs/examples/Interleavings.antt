@@ -20,7 +20,10 @@ is_among x (y ∷ ys) = (x == y) || is_among x ys
 -- the nodes, and those to which joined links lead from v's first n ports
 abbrev with_joined : Network → Net → ℕ → ℕ → List ℕ → List ℕ
 with_joined g w v zero us = us
-with_joined g w v (suc n) us = if is_branch (mark_at (w.node v) n) && (is_branch (mark_at (w.node (far g v n)) (far_port g v n)) && (if is_among (far g v n) us then false else true)) then far g v n ∷ with_joined g w v n us else with_joined g w v n us
+with_joined g w v (suc n) us =
+    if is_branch (mark_at (w.node v) n) &&
+    (is_branch (mark_at (w.node (far g v n)) (far_port g v n)) && (if is_among (far g v n) us then false else true)) then far g v n ∷
+    with_joined g w v n us else with_joined g w v n us
 
 abbrev with_neighbours : Network → Net → List ℕ → List ℕ → List ℕ
 with_neighbours g w [] us = us
@@ -90,20 +93,26 @@ outcome g n = outcome_of g (course g n)
 abbrev triangle : Network
 triangle = network_of (record { nodes = 3; keys = key 1 1 2 ∷ key 2 2 3 ∷ key 3 1 3 ∷ [] })
 
-triangle-outcome : outcome triangle 8 ≡ record { large = true; waits = 0; fragments = (1, 3) ∷ (1, 3) ∷ (1, 3) ∷ []; sent = 3 ∷ 3 ∷ 3 ∷ 0 ∷ 1 ∷ 3 ∷ 0 ∷ [] }
+triangle-outcome :
+    outcome triangle 8 ≡
+    record { large = true; waits = 0; fragments = (1, 3) ∷ (1, 3) ∷ (1, 3) ∷ []; sent = 3 ∷ 3 ∷ 3 ∷ 0 ∷ 1 ∷ 3 ∷ 0 ∷ [] }
 unfolding ports_of
 triangle-outcome = refl
 
 abbrev four : Network
 four = network_of (record { nodes = 4; keys = key 1 1 2 ∷ key 2 3 4 ∷ key 3 2 3 ∷ [] })
 
-four-outcome : outcome four 12 ≡ record { large = true; waits = 0; fragments = (2, 4) ∷ (2, 4) ∷ (2, 4) ∷ (2, 4) ∷ []; sent = 6 ∷ 8 ∷ 2 ∷ 2 ∷ 0 ∷ 8 ∷ 0 ∷ [] }
+four-outcome :
+    outcome four 12 ≡
+    record { large = true; waits = 0; fragments = (2, 4) ∷ (2, 4) ∷ (2, 4) ∷ (2, 4) ∷ []; sent = 6 ∷ 8 ∷ 2 ∷ 2 ∷ 0 ∷ 8 ∷ 0 ∷ [] }
 unfolding ports_of
 four-outcome = refl
 
 abbrev five : Network
 five = network_of (record { nodes = 5; keys = key 1 1 2 ∷ key 2 2 3 ∷ key 3 4 5 ∷ key 4 3 4 ∷ [] })
 
-five-outcome : outcome five 16 ≡ record { large = true; waits = 0; fragments = (2, 5) ∷ (2, 5) ∷ (2, 5) ∷ (2, 5) ∷ (2, 5) ∷ []; sent = 7 ∷ 10 ∷ 3 ∷ 2 ∷ 1 ∷ 10 ∷ 1 ∷ [] }
+five-outcome :
+    outcome five 16 ≡
+    record { large = true; waits = 0; fragments = (2, 5) ∷ (2, 5) ∷ (2, 5) ∷ (2, 5) ∷ (2, 5) ∷ []; sent = 7 ∷ 10 ∷ 3 ∷ 2 ∷ 1 ∷ 10 ∷ 1 ∷ [] }
 unfolding ports_of
 five-outcome = refl

@@ -38,7 +38,11 @@ rising (suc i) (suc (suc k)) d lt l = absurd (omega (arith, l))
 
 is_net : IsNetOf g (net_after g events)
 unfolding net_after ports_of
-is_net = record { graph = record { some = omega arith; nodes = omega arith; links = omega arith; among = among; rising = rising }; events = events; run = refl }
+is_net = record {
+  graph = record { some = omega arith; nodes = omega arith; links = omega arith; among = among; rising = rising };
+  events = events;
+  run = refl;
+}
 
 none_halted : (v : ℕ) → InNetwork (network_of g) v → HasHalted (net_after g events) v → ⊥
 unfolding net_after ports_of
@@ -63,7 +67,9 @@ unended = record {
 }
 
 -- all that waits
-queues : ((net_after g events).queue 1 0 ≡ Report None ∷ []) × ((net_after g events).queue 1 1 ≡ []) × ((net_after g events).queue 2 0 ≡ []) × ((net_after g events).queue 3 0 ≡ Test 1 light ∷ Initiate 1 light Find ∷ [])
+queues :
+    ((net_after g events).queue 1 0 ≡ Report None ∷ []) × ((net_after g events).queue 1 1 ≡ []) × ((net_after g events).queue 2 0 ≡ []) ×
+    ((net_after g events).queue 3 0 ≡ Test 1 light ∷ Initiate 1 light Find ∷ [])
 unfolding net_after ports_of
 queues = (refl, refl, refl, refl)
 

@@ -24,7 +24,9 @@ abbrev pair : Network
 pair = record { count = 2; ports = pair_ports }
 
 abbrev path_ports : ℕ → List Port
-path_ports v = if v == 1 then (port (key 5 1 2) 2 0 ∷ []) else (if v == 2 then (port (key 5 1 2) 1 0 ∷ port (key 7 2 3) 3 0 ∷ []) else (if v == 3 then (port (key 7 2 3) 2 1 ∷ []) else []))
+path_ports v =
+    if v == 1 then (port (key 5 1 2) 2 0 ∷ []) else
+    (if v == 2 then (port (key 5 1 2) 1 0 ∷ port (key 7 2 3) 3 0 ∷ []) else (if v == 3 then (port (key 7 2 3) 2 1 ∷ []) else []))
 
 -- the path 1-2-3
 abbrev path : Network

@@ -43,12 +43,23 @@ module _ (g : Network) where
       waiting_of g w' k + of_kind k (w.queue v p) ≡ waiting_of g w k + of_kind k x
   waiting_put w w' v p k x at e =
       rw e
-      (omega (arith, ports_one g (λ a b. of_kind k (w.queue a b)) (λ a b. of_kind k (put_at w.queue v p x a b)) v p at (λ a b ne. ap (of_kind k) (sym (put_at_miss w.queue v p a b x ne))), ap (of_kind k) (put_at_same w.queue v p x)))
+      (omega (
+        arith,
+        ports_one g (λ a b. of_kind k (w.queue a b)) (λ a b. of_kind k (put_at w.queue v p x a b)) v p at
+            (λ a b ne. ap (of_kind k) (sym (put_at_miss w.queue v p a b x ne))),
+        ap (of_kind k) (put_at_same w.queue v p x),
+      ))
 
   balanced_send : (w : Net) (v : ℕ) (s : ℕ × Message) → At g (far g v s.0) (far_port g v s.0) → IsBalanced g w → IsBalanced g (send g v w s)
   balanced_send w v s at b k =
       let q = w.queue (far g v s.0) (far_port g v s.0) in
-      omega (arith, put_count w.sent (place_of (kind_of s.1)) 1 (suc (w.sent (place_of (kind_of s.1)))) k (omega arith), waiting_put w (send g v w s) (far g v s.0) (far_port g v s.0) k (q ++ s.1 ∷ []) at refl, of_kind_append k q (s.1 ∷ []), b k)
+      omega (
+        arith,
+        put_count w.sent (place_of (kind_of s.1)) 1 (suc (w.sent (place_of (kind_of s.1)))) k (omega arith),
+        waiting_put w (send g v w s) (far g v s.0) (far_port g v s.0) k (q ++ s.1 ∷ []) at refl,
+        of_kind_append k q (s.1 ∷ []),
+        b k,
+      )
 
   pub balanced_sends : (v : ℕ) (ss : Outgoing) (w : Net) → All (λ (s : ℕ × Message). At g (far g v s.0) (far_port g v s.0)) ss →
       IsBalanced g w → IsBalanced g (send_all g v ss w)
@@ -60,7 +71,14 @@ module _ (g : Network) where
   pub balanced_take : (f : Fate) (v p : ℕ) (m : Message) (ms : List Message) (w : Net) → At g v p → w.queue v p ≡ m ∷ ms → IsBalanced g w →
       IsBalanced g (take_first f v p m ms w)
   balanced_take f v p m ms w at q b k =
-      omega (arith, put_count w.consumed (place_of (kind_of m)) (one_if_consumed f) _ k refl, waiting_put w (take_first f v p m ms w) v p k (left_of f m ms) at refl, left_kind f k m ms, ap (of_kind k) q, b k)
+      omega (
+        arith,
+        put_count w.consumed (place_of (kind_of m)) (one_if_consumed f) _ k refl,
+        waiting_put w (take_first f v p m ms w) v p k (left_of f m ms) at refl,
+        left_kind f k m ms,
+        ap (of_kind k) q,
+        b k,
+      )
 
   opening_balanced : IsBalanced g (opening g)
   opening_balanced k = omega (arith, ports_none g (λ v p. 0) (λ v p. refl))
@@ -76,7 +94,10 @@ module _ (g : Network) where
         (balanced_take d.fate v p m ms w at q b)
 
     pub run_balanced : (es : List Event) (w w' : Net) → IsWellFormed g w → IsBalanced g w → run g es w ≡ Some w' → IsBalanced g w'
-    run_balanced es w w' f b h = (run_keeps g (λ x. IsWellFormed g x × IsBalanced g x) (λ x y e i t. (event_formed g wired x y e i.0 t, event_balanced x y e i.0 i.1 t)) es w w' (f, b) h).1
+    run_balanced es w w' f b h =
+        (run_keeps g (λ x. IsWellFormed g x × IsBalanced g x)
+        (λ x y e i t. (event_formed g wired x y e i.0 t, event_balanced x y e i.0 i.1 t))
+        es w w' (f, b) h).1
 
     pub after_balanced : HasFewPorts g → (es : List Event) (w : Net) → IsAfter g es w → IsBalanced g w
     after_balanced few es w h = run_balanced es (opening g) w (opening_formed g few) opening_balanced h
@@ -103,7 +124,8 @@ kinds_in_all (m ∷ ms) = omega (arith, sum_add 7 (λ k. cond (place_of (kind_of
 -- what balances of each kind, balances in all
 pub balanced_in_all : (g : Network) (w : Net) → IsBalanced g w → IsBalancedInAll g w
 balanced_in_all g w b =
-    let kinds : in_all (waiting_of g w) ≡ waiting g w = sum_swap g 7 (λ k v p. of_kind k (w.queue v p)) ∙ ports_same g _ _ (λ v p at. kinds_in_all (w.queue v p)) in
+    let kinds : in_all (waiting_of g w) ≡ waiting g w =
+    sum_swap g 7 (λ k v p. of_kind k (w.queue v p)) ∙ ports_same g _ _ (λ v p at. kinds_in_all (w.queue v p)) in
     let each : in_all w.sent ≡ in_all (λ k. w.consumed k + waiting_of g w k) = sum_same 7 _ _ (λ k lt. b k) in
     let both : in_all (λ k. w.consumed k + waiting_of g w k) ≡ in_all w.consumed + in_all (waiting_of g w) = sum_add 7 w.consumed (waiting_of g w) in
     omega (arith, kinds, each, both)

@@ -68,7 +68,8 @@ lawful_happens g w e l = rw l
 
 -- and back
 pub happens_so : {g : Network} {w w' : Net} {e : Event} → Happens g w e w' → happens g w e ≡ Some w'
-happens_so {g} {w} (Woke v d lo hi s r) = lawful_happens g w (events.Wake v) (and_true _ _ (is_node_of g v lo hi) (ap is_sleeping s)) ∙ ap (after_wake g w v) r
+happens_so {g} {w} (Woke v d lo hi s r) =
+    lawful_happens g w (events.Wake v) (and_true _ _ (is_node_of g v lo hi) (ap is_sleeping s)) ∙ ap (after_wake g w v) r
 happens_so {g} {w} (Took v p m ms d at q r) =
     lawful_happens g w (events.Take v p) (and_true _ _ (is_port_of g v p at) (ap is_waiting q)) ∙ ap (takes_from g w v p) q
     ∙ ap (after_take g w v p m ms) r

@@ -21,7 +21,8 @@ module _ (g : Network) where
     pub leads_back : {S : ℕ → ℕ → Type 0} {a b : ℕ} → ((v p : ℕ) → At g v p → S v p → S (far g v p) (far_port g v p)) → Leads g S a b → Leads g S b a
     leads_back f Here = Here
     leads_back {S} {a = a} f (Over p at s j) =
-        let one : Leads g S (far g a p) a = subst (λ x. Leads g S (far g a p) x) (wired.back a p at) (Over (far_port g a p) (wired.there a p at) (f a p at s) Here) in
+        let one : Leads g S (far g a p) a =
+        subst (λ x. Leads g S (far g a p) x) (wired.back a p at) (Over (far_port g a p) (wired.there a p at) (f a p at s) Here) in
         leads_on (leads_back f j) one
 
     -- a link that is Branch at both ends is so from each of them
@@ -41,7 +42,10 @@ module _ (g : Shape) (ok : IsGraph g) (w : Net) where
       let one : InOneFragment (network_of g) w v (far (network_of g) v p) = Over p at l.4 Here in
       ⊎_elim
       (λ x. subst₂ (InOneFragment (network_of g) w) (x.0 ∙ ap (λ (y : Key). y.a) l.3) (x.1 ∙ ap (λ (y : Key). y.b) l.3) one)
-      (λ x. subst₂ (InOneFragment (network_of g) w) (x.1 ∙ ap (λ (y : Key). y.a) l.3) (x.0 ∙ ap (λ (y : Key). y.b) l.3) (fragment_back (network_of g) (graph_wired g ok) w v _ one)) (port_ends g ok v p at)
+      (λ x.
+      subst₂ (InOneFragment (network_of g) w) (x.1 ∙ ap (λ (y : Key). y.a) l.3) (x.0 ∙ ap (λ (y : Key). y.b) l.3)
+      (fragment_back (network_of g) (graph_wired g ok) w v _ one))
+      (port_ends g ok v p at)
 
   leads_joins : {v u : ℕ} → InOneFragment (network_of g) w v u → Joined (IsJoinedLink (network_of g) w) v u
   leads_joins Here = Same
@@ -55,8 +59,13 @@ module _ (g : Shape) (ok : IsGraph g) (w : Net) where
 
       onward : Joined (IsJoinedLink (network_of g) w) (far (network_of g) v p) u → Joined (IsJoinedLink (network_of g) w) v u
       onward rest = ⊎_elim
-          (λ x. subst (λ y. Joined (IsJoinedLink (network_of g) w) y u) (sym x.0) (Along k link (subst (λ y. Joined (IsJoinedLink (network_of g) w) y u) x.1 rest)))
-          (λ x. subst (λ y. Joined (IsJoinedLink (network_of g) w) y u) (sym x.0) (Back k link (subst (λ y. Joined (IsJoinedLink (network_of g) w) y u) x.1 rest))) (port_ends g ok v p at)
+          (λ x.
+          subst (λ y. Joined (IsJoinedLink (network_of g) w) y u) (sym x.0)
+          (Along k link (subst (λ y. Joined (IsJoinedLink (network_of g) w) y u) x.1 rest)))
+          (λ x.
+          subst (λ y. Joined (IsJoinedLink (network_of g) w) y u) (sym x.0)
+          (Back k link (subst (λ y. Joined (IsJoinedLink (network_of g) w) y u) x.1 rest)))
+          (port_ends g ok v p at)
 
   joins_leads : {v u : ℕ} → Joined (IsJoinedLink (network_of g) w) v u → InOneFragment (network_of g) w v u
   joins_leads Same = Here

@@ -21,8 +21,10 @@ use Rattle.ghs_protocol.specs.Ledger.{sum_below}
 sum_nodes : (n : ℕ) (f : ℕ → ℕ) → sum_below n (λ i. f (suc i)) ≡ sum (map f (range_with_len 1 n))
 sum_nodes zero f = refl
 sum_nodes (suc n) f =
-    let one_more : sum (map f (range_with_len 1 (n + 1))) ≡ sum (map f (range_with_len 1 n)) + f (suc n) = sum_by-map-range_with_len_more (λ x. x) f 1 n (suc n) (omega arith) in
-    let same : sum (map f (range_with_len 1 (suc n))) ≡ sum (map f (range_with_len 1 (n + 1))) = ap (λ m. sum (map f (range_with_len 1 m))) (sym (add-one n)) in
+    let one_more : sum (map f (range_with_len 1 (n + 1))) ≡ sum (map f (range_with_len 1 n)) + f (suc n) =
+    sum_by-map-range_with_len_more (λ x. x) f 1 n (suc n) (omega arith) in
+    let same : sum (map f (range_with_len 1 (suc n))) ≡ sum (map f (range_with_len 1 (n + 1))) =
+    ap (λ m. sum (map f (range_with_len 1 m))) (sym (add-one n)) in
     omega (arith, sum_nodes n f, one_more, same)
 
 module _ (g : Shape) (ok : IsGraph g) where
@@ -35,12 +37,19 @@ module _ (g : Shape) (ok : IsGraph g) where
   has_back v p at = ports_lead_back g ok v p (port_at (network_of g) v p) (has_port v p at)
 
   across : (v p : ℕ) → At (network_of g) v p →
-      port_at (network_of g) (far (network_of g) v p) (far_port (network_of g) v p) ≡ record { key = (port_at (network_of g) v p).key; far = v; far_port = p }
+      port_at (network_of g) (far (network_of g) v p) (far_port (network_of g) v p) ≡
+      record { key = (port_at (network_of g) v p).key; far = v; far_port = p }
   across v p at = get_or_from_slice_get (ports_of g.keys (far (network_of g) v p)) (far_port (network_of g) v p) _ no_port (has_back v p at)
 
   pub graph_wired : IsWired (network_of g)
   graph_wired = record {
-    there = λ v p at. let f = ports_end_elsewhere g ok v p (port_at (network_of g) v p) (has_port v p at) in record { some = f.0; node = f.1; port = slice_get_within (ports_of g.keys (far (network_of g) v p)) (far_port (network_of g) v p) _ (has_back v p at) };
+    there = λ v p at.
+        let f = ports_end_elsewhere g ok v p (port_at (network_of g) v p) (has_port v p at) in
+        record {
+          some = f.0;
+          node = f.1;
+          port = slice_get_within (ports_of g.keys (far (network_of g) v p)) (far_port (network_of g) v p) _ (has_back v p at);
+        };
     apart = λ v p at. (ports_end_elsewhere g ok v p (port_at (network_of g) v p) (has_port v p at)).2;
     back = λ v p at. ap (λ (x : Port). x.far) (across v p at);
     back_port = λ v p at. ap (λ (x : Port). x.far_port) (across v p at);
@@ -68,11 +77,14 @@ module _ (g : Shape) (ok : IsGraph g) where
   is_key v p at = let o = on_key v p at in (o.at, o.within, get_or_default g.keys o.at _ no_key o.within ∙ sym (ap (λ (x : Port). x.key) o.port))
 
   ordered : (v p : ℕ) → At (network_of g) v p → (port_at (network_of g) v p).key.a < (port_at (network_of g) v p).key.b
-  ordered v p at = let o = on_key v p at in subst (λ (x : Key). x.a < x.b) (sym (ap (λ (x : Port). x.key) o.port)) ((among_at g.nodes g.keys o.at no_key ok.among o.within).1)
+  ordered v p at =
+      let o = on_key v p at in
+      subst (λ (x : Key). x.a < x.b) (sym (ap (λ (x : Port). x.key) o.port)) ((among_at g.nodes g.keys o.at no_key ok.among o.within).1)
 
   -- a port leads from one end of its link to the other
   pub port_ends : (v p : ℕ) → At (network_of g) v p →
-      ((v ≡ (port_at (network_of g) v p).key.a) × (far (network_of g) v p ≡ (port_at (network_of g) v p).key.b)) ⊎ ((v ≡ (port_at (network_of g) v p).key.b) × (far (network_of g) v p ≡ (port_at (network_of g) v p).key.a))
+      ((v ≡ (port_at (network_of g) v p).key.a) × (far (network_of g) v p ≡ (port_at (network_of g) v p).key.b)) ⊎
+      ((v ≡ (port_at (network_of g) v p).key.b) × (far (network_of g) v p ≡ (port_at (network_of g) v p).key.a))
   port_ends v p at =
       ⊎_elim (λ x. inl (x, to ∙ ap (λ z. far_end z k) x ∙ far_end_a k))
       (λ x. inr (x, to ∙ ap (λ z. far_end z k) x ∙ far_end_b k (ordered v p at))) (end_cases v k ends)
@@ -106,7 +118,13 @@ module _ (g : Shape) (ok : IsGraph g) where
       there : ((u ≡ k.a) × (q ≡ port_number g.keys k.a k)) ⊎ ((u ≡ k.b) × (q ≡ port_number g.keys k.b k))
       there = two.only u q (port_at (network_of g) u q) (has_port u q at') (sym e)
 
-      across_to : {a b : ℕ} → v ≡ a → (u ≡ b) × (q ≡ port_number g.keys b k) → far_end a k ≡ b → (far (network_of g) v p ≡ u) × (far_port (network_of g) v p ≡ q)
+      across_to : {a b : ℕ} →
+          v ≡ a →
+          (u ≡ b) × (q ≡ port_number g.keys b k) →
+          far_end a k ≡ b →
+          (far (network_of g) v p ≡ u) × (far_port (network_of g) v p ≡ q)
       across_to {a} {b} x y f =
-          let end : far_end v k ≡ b = ap (λ z. far_end z k) x ∙ f in
-          (ap (λ (z : Port). z.far) (port_is v p at) ∙ end ∙ sym y.0, ap (λ (z : Port). z.far_port) (port_is v p at) ∙ ap (λ z. port_number g.keys z k) end ∙ sym y.1)
+          let end : far_end v k ≡ b = ap (λ z. far_end z k) x ∙ f in (
+            ap (λ (z : Port). z.far) (port_is v p at) ∙ end ∙ sym y.0,
+            ap (λ (z : Port). z.far_port) (port_is v p at) ∙ ap (λ z. port_number g.keys z k) end ∙ sym y.1,
+          )

@@ -22,7 +22,10 @@ use Rattle.ghs_protocol.proofs.lemmas.Runs.{run_relates}
 use Rattle.ghs_protocol.proofs.lemmas.WellFormed.{event_row, event_formed}
 
 -- a mark that is Basic was so before
-pub basic_before : (n : NodeState) (o : Option (ℕ × Mark)) (q : ℕ) → MarkChange n o → get_or (with_mark n.marks o) q Rejected ≡ Basic → mark_at n q ≡ Basic
+pub basic_before : (n : NodeState) (o : Option (ℕ × Mark)) (q : ℕ) →
+    MarkChange n o →
+    get_or (with_mark n.marks o) q Rejected ≡ Basic →
+    mark_at n q ≡ Basic
 basic_before n _ q Stays h = h
 basic_before n _ q (To_branch p lt) h = ⊎_elim (λ e. sym e ∙ h) (λ e. absurd (let z = sym e.1 ∙ h in cc)) (mark_set n.marks p q Branch)
 basic_before n _ q (To_rejected p lt b) h = ⊎_elim (λ e. sym e ∙ h) (λ e. absurd (let z = sym e.1 ∙ h in cc)) (mark_set n.marks p q Rejected)
@@ -43,7 +46,13 @@ pub lasts_same : (n : NodeState) → Lasts n n
 lasts_same n = record { level = le_refl _; awake = λ h. h; halted = λ h. h; branch = λ p h. h; marked = λ p h. h }
 
 pub lasts_on : (a b c : NodeState) → Lasts a b → Lasts b c → Lasts a c
-lasts_on a b c s t = record { level = omega (arith, s.level, t.level); awake = λ h. t.awake (s.awake h); halted = λ h. t.halted (s.halted h); branch = λ p h. t.branch p (s.branch p h); marked = λ p h. t.marked p (s.marked p h) }
+lasts_on a b c s t = record {
+  level = omega (arith, s.level, t.level);
+  awake = λ h. t.awake (s.awake h);
+  halted = λ h. t.halted (s.halted h);
+  branch = λ p h. t.branch p (s.branch p h);
+  marked = λ p h. t.marked p (s.marked p h);
+}
 
 -- all nodes, before and after
 abbrev pub AllLast : Net → Net → Type 0

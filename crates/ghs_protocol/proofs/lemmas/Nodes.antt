@@ -46,9 +46,14 @@ module _ (g : Network) (u : ℕ) (d : Delta) (w w1 : Net) (nodes : w1.node ≡ w
   node_kept I before now = node_by_node (λ v n n'. I v n') now (λ v ne. before v)
 
 -- a fact of one node, over a step
-pub node_step : (g : Network) (I : ℕ → NodeState → Type 0) → NodeKept I → (w w' : Net) → ((v : ℕ) → I v (w.node v)) → Step g w w' → (v : ℕ) → I v (w'.node v)
+pub node_step : (g : Network) (I : ℕ → NodeState → Type 0) →
+    NodeKept I →
+    (w w' : Net) → ((v : ℕ) → I v (w.node v)) →
+    Step g w w' →
+    (v : ℕ) → I v (w'.node v)
 node_step g I k w w' b (Wakes_up u lo hi s) = node_kept g u (waking (w.node u)) w w refl I b (k.wakes u (w.node u) (b u) s)
-node_step g I k w w' b (Takes_one u j m ms d at q up row) = node_kept g u d w (take_first d.fate u j m ms w) refl I b (k.takes u (w.node u) j m d (b u) up row)
+node_step g I k w w' b (Takes_one u j m ms d at q up row) =
+    node_kept g u d w (take_first d.fate u j m ms w) refl I b (k.takes u (w.node u) j m d (b u) up row)
 
 pub node_before : (v : ℕ) → 1 ≤ v → (i : ℕ) × (v ≡ suc i)
 node_before zero lo = absurd (omega (arith, lo))

@@ -28,7 +28,9 @@ module _ {Q : Type 0} (add : Q → Message → Q) where
 
   module _ (g : Network) where
     -- the queues to which no port of v leads are as they were
-    pub unpushed : (v a b : ℕ) (ss : Outgoing) (q : ℕ → ℕ → Q) → ((i : ℕ) → far g v i ≡ a → far_port g v i ≡ b → ⊥) → push_all add g v ss q a b ≡ q a b
+    pub unpushed : (v a b : ℕ) (ss : Outgoing) (q : ℕ → ℕ → Q) →
+        ((i : ℕ) → far g v i ≡ a → far_port g v i ≡ b → ⊥) →
+        push_all add g v ss q a b ≡ q a b
     unpushed v a b [] q away = refl
     unpushed v a b (s ∷ ss) q away = unpushed v a b ss (push add g v q s) away ∙ put_at_miss q _ _ a b _ (λ e. away s.0 (sym e.0) (sym e.1))
 

@@ -24,7 +24,10 @@ module _ (P : Message → Type 0) where
   left_all Consumed m ms h = all_rest P m ms h
   left_all Requeued m ms h = All-append P ms (m ∷ []) (all_rest P m ms h) (All-cons P m [] (all_first P m ms h) (All-nil P))
 
-  pub taken_all : (f : Fate) (v p : ℕ) (m : Message) (ms : List Message) (w : Net) → w.queue v p ≡ m ∷ ms → AllWaiting w → AllWaiting (take_first f v p m ms w)
+  pub taken_all : (f : Fate) (v p : ℕ) (m : Message) (ms : List Message) (w : Net) →
+      w.queue v p ≡ m ∷ ms →
+      AllWaiting w →
+      AllWaiting (take_first f v p m ms w)
   taken_all f v p m ms w q h a b =
       ⊎_elim (λ e. subst (All P) (sym (put_at_hit w.queue v p a b _ e.0 e.1)) (left_all f m ms (subst (All P) q (h v p))))
       (λ ne. subst (All P) (sym (put_at_miss w.queue v p a b _ ne)) (h a b)) (one_place v p a b)
@@ -32,7 +35,10 @@ module _ (P : Message → Type 0) where
   sent_one : (g : Network) (v : ℕ) (s : ℕ × Message) (w : Net) → P s.1 → AllWaiting w → AllWaiting (send g v w s)
   sent_one g v s w i h a b =
       ⊎_elim
-      (λ e. subst (All P) (sym (put_at_hit w.queue (far g v s.0) (far_port g v s.0) a b _ e.0 e.1)) (All-append P (w.queue (far g v s.0) (far_port g v s.0)) (s.1 ∷ []) (h _ _) (All-cons P s.1 [] i (All-nil P))))
+      (λ e.
+      subst (All P)
+      (sym (put_at_hit w.queue (far g v s.0) (far_port g v s.0) a b _ e.0 e.1))
+      (All-append P (w.queue (far g v s.0) (far_port g v s.0)) (s.1 ∷ []) (h _ _) (All-cons P s.1 [] i (All-nil P))))
       (λ ne. subst (All P) (sym (put_at_miss w.queue (far g v s.0) (far_port g v s.0) a b _ ne)) (h a b))
       (one_place (far g v s.0) (far_port g v s.0) a b)
 
@@ -54,12 +60,14 @@ taken_elsewhere g f v p m ms w at h a b off =
 pub sent_elsewhere : (g : Network) (v : ℕ) (ss : Outgoing) (w : Net) → All (λ (s : ℕ × Message). At g (far g v s.0) (far_port g v s.0)) ss →
     NoneElsewhere g w → NoneElsewhere g (send_all g v ss w)
 sent_elsewhere g v [] w i h = h
-sent_elsewhere g v (s ∷ ss) w i h = sent_elsewhere g v ss (send g v w s) (all_rest (λ (x : ℕ × Message). At g (far g v x.0) (far_port g v x.0)) s ss i) one
+sent_elsewhere g v (s ∷ ss) w i h =
+    sent_elsewhere g v ss (send g v w s) (all_rest (λ (x : ℕ × Message). At g (far g v x.0) (far_port g v x.0)) s ss i) one
   where
     to : At g (far g v s.0) (far_port g v s.0)
     to = all_first (λ (x : ℕ × Message). At g (far g v x.0) (far_port g v x.0)) s ss i
 
     one : NoneElsewhere g (send g v w s)
     one a b off =
-        put_at_miss w.queue (far g v s.0) (far_port g v s.0) a b _ (λ e. off (subst (λ x. At g x b) (sym e.0) (subst (At g (far g v s.0)) (sym e.1) to)))
+        put_at_miss w.queue (far g v s.0) (far_port g v s.0) a b _
+        (λ e. off (subst (λ x. At g x b) (sym e.0) (subst (At g (far g v s.0)) (sym e.1) to)))
         ∙ h a b off

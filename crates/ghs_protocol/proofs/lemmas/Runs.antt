@@ -12,7 +12,10 @@ use Rattle.ghs_protocol.specs.Steps.{Happens}
 use Rattle.ghs_protocol.proofs.lemmas.Events.{happening, happens_so}
 
 -- two steps that led somewhere, through a net between them
-pub both_some : {P : Type 0} (o : Option Net) (f : Net → Option Net) (w : Net) → and_then o f ≡ Some w → ((x : Net) → o ≡ Some x → f x ≡ Some w → P) → P
+pub both_some : {P : Type 0} (o : Option Net) (f : Net → Option Net) (w : Net) →
+    and_then o f ≡ Some w →
+    ((x : Net) → o ≡ Some x → f x ≡ Some w → P) →
+    P
 both_some None f w e k = cc
 both_some (Some x) f w e k = k x refl e
 
@@ -82,6 +85,7 @@ after_is_net g es r = r.1 ∙ ap (λ (x : Net). Some x) (sym (net_after_is g es 
 -- Runs under a wake set.
 
 -- lawful under a wake set is lawful, where a wake may be
-pub lawful_under : (may : ℕ → Bool) (g : Network) (w : Net) (e : Event) → ((is_lawful_under may g w e ≡ true) ↔ (MayWake may e × (is_lawful g w e ≡ true)))
+pub lawful_under : (may : ℕ → Bool) (g : Network) (w : Net) (e : Event) →
+    ((is_lawful_under may g w e ≡ true) ↔ (MayWake may e × (is_lawful g w e ≡ true)))
 lawful_under may g w (Wake v) = (λ h. and_parts (may v) (is_lawful g w (Wake v)) h, λ h. and_from (may v) (is_lawful g w (Wake v)) h.0 h.1)
 lawful_under may g w (Take v p) = (λ h. (tt, h), λ h. h.1)

@@ -21,7 +21,8 @@ messages ss = map (λ (s : ℕ × Message). s.1) ss
 
 -- a count that rises by c at i
 pub put_count : (f : ℕ → ℕ) (i c x k : ℕ) → x ≡ f i + c → put f i x k ≡ f k + cond (i == k) c 0
-put_count f i c x k q = ⊎_elim (λ (e : k ≡ i). rw (e, eq-eqb i i refl) q) (λ ne. rw (ne_eqb k i ne, ne_eqb i k (λ z. ne (sym z)), add-zero)) (cases_eq k i)
+put_count f i c x k q =
+    ⊎_elim (λ (e : k ≡ i). rw (e, eq-eqb i i refl) q) (λ ne. rw (ne_eqb k i ne, ne_eqb i k (λ z. ne (sym z)), add-zero)) (cases_eq k i)
 
 module _ (g : Network) (v : ℕ) where
   -- sends touch no node, nor the counts of what was consumed and requeued
@@ -51,7 +52,9 @@ module _ (g : Network) (v : ℕ) where
   queues_sent (s ∷ ss) w = queues_sent ss (send g v w s)
 
   -- the queues to which no port of v leads are as they were
-  pub queue_kept : (a b : ℕ) (ss : Outgoing) (w : Net) → ((i : ℕ) → far g v i ≡ a → far_port g v i ≡ b → ⊥) → (send_all g v ss w).queue a b ≡ w.queue a b
+  pub queue_kept : (a b : ℕ) (ss : Outgoing) (w : Net) →
+      ((i : ℕ) → far g v i ≡ a → far_port g v i ≡ b → ⊥) →
+      (send_all g v ss w).queue a b ≡ w.queue a b
   queue_kept a b ss w away = ap (λ (q : ℕ → ℕ → List Message). q a b) (queues_sent ss w) ∙ unpushed at_end g v a b ss w.queue away
 
   -- at the far end of port i waits in addition what went out on it

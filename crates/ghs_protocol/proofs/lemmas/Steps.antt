@@ -39,7 +39,10 @@ module _ (g : Network) where
     -- what each step keeps, holds from the opening on
     pub run_by_steps : HasFewPorts g → (I : Net → Type 0) → ((w w' : Net) → IsWellFormed g w → I w → Step g w w' → I w') → I (opening g) →
         (es : List Event) (w : Net) → IsAfter g es w → I w
-    run_by_steps few I each start es w h = (run_keeps g (λ x. IsWellFormed g x × I x) (λ x y e i t. (event_formed g wired x y e i.0 t, event_by_steps I each x y e i.0 i.1 t)) es (opening g) w (opening_formed g few, start) h).1
+    run_by_steps few I each start es w h =
+        (run_keeps g (λ x. IsWellFormed g x × I x)
+        (λ x y e i t. (event_formed g wired x y e i.0 t, event_by_steps I each x y e i.0 i.1 t))
+        es (opening g) w (opening_formed g few, start) h).1
 
     -- what lies between the nets before and after each step, lies between any two moments
     pub relates_by_steps : (I : Net → Type 0) (R : Net → Net → Type 0) → ((w : Net) → R w w) → ((w x w' : Net) → R w x → R x w' → R w w') →

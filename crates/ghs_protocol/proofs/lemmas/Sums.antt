@@ -46,7 +46,9 @@ module _ (g : Network) where
       inner : sum_below (length (g.ports (suc i))) (h (suc i)) + f (suc i) p ≡ sum_below (length (g.ports (suc i))) (f (suc i)) + h (suc i) p
       inner = sum_one (length (g.ports (suc i))) p (f (suc i)) (h (suc i)) at.port (λ b ne. e (suc i) b (λ z. ne z.1))
 
-      outer : sum_over_ports g h + sum_below (length (g.ports (suc i))) (f (suc i)) ≡ sum_over_ports g f + sum_below (length (g.ports (suc i))) (h (suc i))
+      outer :
+          sum_over_ports g h + sum_below (length (g.ports (suc i))) (f (suc i)) ≡
+          sum_over_ports g f + sum_below (length (g.ports (suc i))) (h (suc i))
       outer =
           sum_one g.count i (λ a. sum_below (length (g.ports (suc a))) (f (suc a))) (λ a. sum_below (length (g.ports (suc a))) (h (suc a)))
           (let k = at.node in omega arith)
@@ -58,13 +60,17 @@ module _ (g : Network) where
   pub ports_same : (f h : ℕ → ℕ → ℕ) → ((v p : ℕ) → At g v p → f v p ≡ h v p) → sum_over_ports g f ≡ sum_over_ports g h
   ports_same f h e =
       sum_same g.count _ _
-      (λ i lt. sum_same (length (g.ports (suc i))) (f (suc i)) (h (suc i)) (λ p l. e (suc i) p (record { some = omega arith; node = omega arith; port = l })))
+      (λ i lt.
+      sum_same (length (g.ports (suc i))) (f (suc i)) (h (suc i))
+      (λ p l. e (suc i) p (record { some = omega arith; node = omega arith; port = l })))
 
   pub ports_add : (f h : ℕ → ℕ → ℕ) → sum_over_ports g (λ v p. f v p + h v p) ≡ sum_over_ports g f + sum_over_ports g h
   ports_add f h = go g.count
     where
       go : (n : ℕ) →
-          sum_below n (λ i. sum_below (length (g.ports (suc i))) (λ p. f (suc i) p + h (suc i) p)) ≡ sum_below n (λ i. sum_below (length (g.ports (suc i))) (f (suc i))) + sum_below n (λ i. sum_below (length (g.ports (suc i))) (h (suc i)))
+          sum_below n (λ i. sum_below (length (g.ports (suc i))) (λ p. f (suc i) p + h (suc i) p)) ≡
+          sum_below n (λ i. sum_below (length (g.ports (suc i))) (f (suc i))) + sum_below n
+          (λ i. sum_below (length (g.ports (suc i))) (h (suc i)))
       go zero = refl
       go (suc n) = omega (arith, go n, sum_add (length (g.ports (suc n))) (f (suc n)) (h (suc n)))
 

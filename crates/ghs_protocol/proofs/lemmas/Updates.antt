@@ -20,7 +20,8 @@ put_put f i x y = fun_ext at
 
 -- two places are the same, or they aren't
 pub one_place : (v p a b : ℕ) → ((a ≡ v) × (b ≡ p)) ⊎ ((a ≡ v) × (b ≡ p) → ⊥)
-one_place v p a b = ⊎_elim (λ (e : a ≡ v). ⊎_elim (λ (h : b ≡ p). inl (e, h)) (λ h. inr (λ z. h z.1)) (cases_eq b p)) (λ e. inr (λ z. e z.0)) (cases_eq a v)
+one_place v p a b =
+    ⊎_elim (λ (e : a ≡ v). ⊎_elim (λ (h : b ≡ p). inl (e, h)) (λ h. inr (λ z. h z.1)) (cases_eq b p)) (λ e. inr (λ z. e z.0)) (cases_eq a v)
 
 pub put_at_same : {A : Type 0} (f : ℕ → ℕ → A) (v p : ℕ) (x : A) → put_at f v p x v p ≡ x
 put_at_same f v p x = rw (eq-eqb v v refl, eq-eqb p p refl)
@@ -44,12 +45,14 @@ put_at_swap f v p a b x h ne c d = ⊎_elim at_a off_a (one_place a b c d)
   where
     at_a : (c ≡ a) × (d ≡ b) → put_at (put_at f v p x) a b (h (put_at f v p x a b)) c d ≡ put_at (put_at f a b (h (f a b))) v p x c d
     at_a e =
-        put_at_hit (put_at f v p x) a b c d _ e.0 e.1 ∙ ap h (put_at_miss f v p a b x (λ z. ne z.0)) ∙ sym (put_at_miss (put_at f a b (h (f a b))) v p c d x (λ z. ne (sym e.0 ∙ z.0)) ∙ put_at_hit f a b c d _ e.0 e.1)
+        put_at_hit (put_at f v p x) a b c d _ e.0 e.1 ∙ ap h (put_at_miss f v p a b x (λ z. ne z.0)) ∙
+        sym (put_at_miss (put_at f a b (h (f a b))) v p c d x (λ z. ne (sym e.0 ∙ z.0)) ∙ put_at_hit f a b c d _ e.0 e.1)
 
     off_a : ((c ≡ a) × (d ≡ b) → ⊥) → put_at (put_at f v p x) a b (h (put_at f v p x a b)) c d ≡ put_at (put_at f a b (h (f a b))) v p x c d
     off_a no_a = put_at_miss (put_at f v p x) a b c d _ no_a ∙ ⊎_elim
         (λ e. put_at_hit f v p c d x e.0 e.1 ∙ sym (put_at_hit (put_at f a b (h (f a b))) v p c d x e.0 e.1))
-        (λ no_v. put_at_miss f v p c d x no_v ∙ sym (put_at_miss (put_at f a b (h (f a b))) v p c d x no_v ∙ put_at_miss f a b c d _ no_a)) (one_place v p c d)
+        (λ no_v. put_at_miss f v p c d x no_v ∙ sym (put_at_miss (put_at f a b (h (f a b))) v p c d x no_v ∙ put_at_miss f a b c d _ no_a))
+        (one_place v p c d)
 
 pub put_alike : {A B : Type 0} (k : A → B) (f : ℕ → A) (u : ℕ) (x : A) → k x ≡ k (f u) → (v : ℕ) → k (put f u x v) ≡ k (f v)
 put_alike k f u x e v = ⊎_elim (λ (h : v ≡ u). rw h (ap k (put_same f u x) ∙ e)) (λ ne. ap k (put_other f u v x ne)) (cases_eq v u)

@@ -134,7 +134,9 @@ module _ (g : Network) (wired : IsWired g) where
           }
 
           level : (mid.node v).head.level ≡ ((taken g v p m ms (once_woken d) w).node v).head.level
-          level = ap (λ (n : NodeState). n.head.level) here ∙ sym (ap (λ (n : NodeState). n.head.level) (node_here g v (once_woken d) (take_first (once_woken d).fate v p m ms w)) ∙ low)
+          level =
+              ap (λ (n : NodeState). n.head.level) here ∙
+              sym (ap (λ (n : NodeState). n.head.level) (node_here g v (once_woken d) (take_first (once_woken d).fate v p m ms w)) ∙ low)
 
           whole : taken g v p m ms d mid ≡ taken g v p m ms (once_woken d) w
           whole = ap (send_all g v d.sends) (same_net (fun_ext nodes) (fun_ext (λ a. fun_ext (λ b. queues a b))) refl refl refl)
@@ -151,7 +153,9 @@ module _ (g : Network) (wired : IsWired g) where
                   (λ x. put_other mid.node v a _ x ∙ put_other w.node v a _ x ∙ sym (put_other w.node v a _ x)) (cases_eq a v)
 
               queues : (a b : ℕ) →
-                  put_at mid.queue v p (left_of d.fate m ms) a b ≡ put_at (put_at w.queue v p (left_of d.fate m ms)) (far g v 0) (far_port g v 0) (put_at w.queue v p (left_of d.fate m ms) (far g v 0) (far_port g v 0) ++ Connect 0 ∷ []) a b
+                  put_at mid.queue v p (left_of d.fate m ms) a b ≡
+                  put_at (put_at w.queue v p (left_of d.fate m ms)) (far g v 0) (far_port g v 0)
+                  (put_at w.queue v p (left_of d.fate m ms) (far g v 0) (far_port g v 0) ++ Connect 0 ∷ []) a b
               queues a b = sym (put_at_swap w.queue v p (far g v 0) (far_port g v 0) (left_of d.fate m ms) (λ x. x ++ Connect 0 ∷ []) away a b)
 
   -- a Take is a row, or the row of a sleeper that wakes first
@@ -167,7 +171,8 @@ module _ (g : Network) (wired : IsWired g) where
   -- an event of a net is one step of its node or two
   pub event_steps_by : (w w' : Net) (e : Event) → AreNodes g w → Happens g w e w' → StepsBy g (event_node e) w w'
   event_steps_by w _ _ n (Woke v d lo hi s r) =
-      subst (λ x. StepsBy g v w (reacted g v x w)) (sym (wake_is (reaction_inverts (w.node v) Wake d tt r))) (One_by (record { step = Wakes_up v lo hi s; by = refl }))
+      subst (λ x. StepsBy g v w (reacted g v x w)) (sym (wake_is (reaction_inverts (w.node v) Wake d tt r)))
+      (One_by (record { step = Wakes_up v lo hi s; by = refl }))
   event_steps_by w _ _ n (Took v p m ms d at q r) =
       taken_steps w v p m ms d at (n v) q (reaction_inverts (w.node v) (Deliver p m) d (omega (arith, at.port, ports_many (n v))) r)
 

@@ -42,9 +42,17 @@ finds_is Found h = cc
 finds_is Sleeping h = cc
 
 pub owed_is : (e f : End) → owes e f ≡ true → Owed e f
-owed_is e f o = report (has_report e.seen.tree) (has_call f.seen.tree) (is_find f.is.head.phase) (is_at f.is.head.in_branch f.port) refl refl refl refl o
+owed_is e f o =
+    report (has_report e.seen.tree) (has_call f.seen.tree) (is_find f.is.head.phase) (is_at f.is.head.in_branch f.port) refl refl refl refl
+    o
   where
-    report : (a b c d : Bool) → has_report e.seen.tree ≡ a → has_call f.seen.tree ≡ b → is_find f.is.head.phase ≡ c → is_at f.is.head.in_branch f.port ≡ d → (a || (b || (c && d))) ≡ true → Owed e f
+    report : (a b c d : Bool) →
+        has_report e.seen.tree ≡ a →
+        has_call f.seen.tree ≡ b →
+        is_find f.is.head.phase ≡ c →
+        is_at f.is.head.in_branch f.port ≡ d →
+        (a || (b || (c && d))) ≡ true →
+        Owed e f
     report true b c d h i j k o = By_report h
     report false true c d h i j k o = By_call i
     report false false true true h i j k o = By_search (finds_is _ j) (at_is _ _ k)
@@ -81,7 +89,9 @@ module _ (g : Network) (wired : IsWired g) (w : Scene) (holds : Invariant g w) (
       is = record { some = at.some; node = at.node }
 
       marked : (w.at z).mark p ≡ Branch
-      marked = let y = (holds.nodes z is).points (λ e. cc (e, finds)) (let lt = at.port in omega (arith, lt)) in subst (λ q. (w.at z).mark q ≡ Branch) (same_Some y.port p (sym y.up ∙ up)) y.mark
+      marked =
+          let y = (holds.nodes z is).points (λ e. cc (e, finds)) (let lt = at.port in omega (arith, lt)) in
+          subst (λ q. (w.at z).mark q ≡ Branch) (same_Some y.port p (sym y.up ∙ up)) y.mark
 
       here : is_branch ((w.at z).mark p) ≡ true
       here = ap is_branch marked
@@ -92,10 +102,21 @@ module _ (g : Network) (wired : IsWired g) (w : Scene) (holds : Invariant g w) (
   abbrev Q : ℕ → ℕ → Type 0
   Q a v = InNetwork g v → (w.at v).fragment ≡ a → S v ≡ true → (w.at v).head.phase ≡ Find → Asker g w S a
 
-  owing : (a v p : ℕ) → ((z : ℕ) → IsChild g (forest w) z v → Q a z) → At g v p → (w.at v).fragment ≡ a → S v ≡ true → (w.at v).head.phase ≡ Find → (w.at v).up ≢ Some p → Owed (end g w v p) (end g w (far g v p) (far_port g v p)) → Asker g w S a
+  owing : (a v p : ℕ) →
+      ((z : ℕ) → IsChild g (forest w) z v → Q a z) →
+      At g v p →
+      (w.at v).fragment ≡ a →
+      S v ≡ true →
+      (w.at v).head.phase ≡ Find →
+      (w.at v).up ≢ Some p →
+      Owed (end g w v p) (end g w (far g v p) (far_port g v p)) →
+      Asker g w S a
   owing a v p below at same m finds ne (By_report h) = absurd (no_report v p at m finds ne h)
   owing a v p below at same m finds ne (By_call h) = absurd (no_call (far g v p) (far_port g v p) (wired.there v p at) (closed v p at m) h)
-  owing a v p below at same m finds ne (By_search f b) = below z child (record { some = at'.some; node = at'.node }) (holds.trees.joined_within (far g v p) (far_port g v p) at' child.joined ∙ ap (λ y. (w.at y).fragment) (wired.back v p at) ∙ same) (closed v p at m) f
+  owing a v p below at same m finds ne (By_search f b) =
+      below z child (record { some = at'.some; node = at'.node })
+      (holds.trees.joined_within (far g v p) (far_port g v p) at' child.joined ∙ ap (λ y. (w.at y).fragment) (wired.back v p at) ∙ same)
+      (closed v p at m) f
     where
       z : ℕ
       z = far g v p

@@ -92,17 +92,27 @@ awakes v n s = record { search = search n.marks; halts = halts n.marks refl }
     search [] = λ f. cc
     search (m ∷ ms) = λ f. cc
 
-    halts : (ms : List Mark) → n.marks ≡ ms → (at_wake n ms).head.phase ≢ Sleeping → ◌≡◌ {A = ℕ} (length (with_mark n.marks (at_wake n ms).mark)) 0 → (at_wake n ms).head.halted ≡ true
+    halts : (ms : List Mark) →
+        n.marks ≡ ms →
+        (at_wake n ms).head.phase ≢ Sleeping →
+        ◌≡◌ {A = ℕ} (length (with_mark n.marks (at_wake n ms).mark)) 0 →
+        (at_wake n ms).head.halted ≡ true
     halts [] e a z = refl
     halts (m ∷ ms) e a z = absurd (let x = same_degree n.marks (Some (0, Branch)) in let y = ap length e in omega (arith, x, y, z))
 
 pub kept : NodeKept Awaits
 kept = record {
-  takes = λ v n j m d a up row. record { search = row_search n j m d a.search row; halts = λ w z. row_halted n j m d row (a.halts up (sym (same_degree n.marks d.mark) ∙ z)) };
+  takes = λ v n j m d a up row. record {
+    search = row_search n j m d a.search row;
+    halts = λ w z. row_halted n j m d row (a.halts up (sym (same_degree n.marks d.mark) ∙ z));
+  };
   wakes = λ v n a s. awakes v n s;
 }
 
 module _ (g : Network) (wired : IsWired g) where
   -- in every net of a run
   pub all_await : HasFewPorts g → (es : List _) (w : Net) → IsAfter g es w → (v : ℕ) → Awaits v (w.node v)
-  all_await few es w h = run_by_steps g wired few (λ x. (v : ℕ) → Awaits v (x.node v)) (λ x y f i s. node_step g Awaits kept x y i s) (λ v. record { search = λ f. cc; halts = λ a z. absurd (a refl) }) es w h
+  all_await few es w h =
+      run_by_steps g wired few (λ x. (v : ℕ) → Awaits v (x.node v)) (λ x y f i s. node_step g Awaits kept x y i s)
+      (λ v. record { search = λ f. cc; halts = λ a z. absurd (a refl) })
+      es w h

@@ -10,7 +10,13 @@ use Rattle.ghs_protocol.proofs.every_run.Foreseen.{few_apart}
 -- v is so many steps away from its root link
 pub data Depth (g : Network) (s : Forest) : ℕ → ℕ → Type 0 where
   At_the_root : {v : ℕ} (p : ℕ) → At g v p → s.up v ≡ Some p → Root g s v p → Depth g s v zero
-  Below : {v n : ℕ} (p : ℕ) → At g v p → s.up v ≡ Some p → IsJoinedIn g s v p → s.up (far g v p) ≢ Some (far_port g v p) → Depth g s (far g v p) n → Depth g s v (suc n)
+  Below : {v n : ℕ} (p : ℕ) →
+      At g v p →
+      s.up v ≡ Some p →
+      IsJoinedIn g s v p →
+      s.up (far g v p) ≢ Some (far_port g v p) →
+      Depth g s (far g v p) n →
+      Depth g s v (suc n)
 
 -- z is a child of v
 pub record IsChild (g : Network) (s : Forest) (z v : ℕ) : Type 0 where
@@ -29,8 +35,10 @@ module _ (g : Network) (s : Forest) where
 
   pub depth_is : {v n m : ℕ} → Depth g s v n → Depth g s v m → n ≡ m
   depth_is (At_the_root p at up r) (At_the_root p' at' up' r') = refl
-  depth_is {v} (At_the_root p at up r) (Below p' at' up' j' d' e') = absurd (let same : p ≡ p' = same_Some p p' (sym up ∙ up') in not_both v p' (subst (λ q. Root g s v q) same r) j' d')
-  depth_is {v} (Below p at up j d e) (At_the_root p' at' up' r') = absurd (let same : p' ≡ p = same_Some p' p (sym up' ∙ up) in not_both v p (subst (λ q. Root g s v q) same r') j d)
+  depth_is {v} (At_the_root p at up r) (Below p' at' up' j' d' e') =
+      absurd (let same : p ≡ p' = same_Some p p' (sym up ∙ up') in not_both v p' (subst (λ q. Root g s v q) same r) j' d')
+  depth_is {v} (Below p at up j d e) (At_the_root p' at' up' r') =
+      absurd (let same : p' ≡ p = same_Some p' p (sym up' ∙ up) in not_both v p (subst (λ q. Root g s v q) same r') j d)
   depth_is {v} (Below {n = n} p at up j d e) (Below {n = m} p' at' up' j' d' e') =
       let same : p' ≡ p = same_Some p' p (sym up' ∙ up) in
       ap suc (depth_is e (subst (λ q. Depth g s (far g v q) m) same e'))
@@ -38,7 +46,8 @@ module _ (g : Network) (s : Forest) where
   pub depth_of : {v : ℕ} → Reach g s v → (n : ℕ) × Depth g s v n
   depth_of (At_root p at up r) = (zero, At_the_root p at up r)
   depth_of {v} (By_step p at up j r) =
-      ⊎_elim (λ h. (zero, At_the_root p at up (Both_ways j up h))) (λ ne. let d = depth_of r in (suc d.0, Below p at up j ne d.1)) (probe_is (s.up (far g v p)) (far_port g v p))
+      ⊎_elim (λ h. (zero, At_the_root p at up (Both_ways j up h))) (λ ne. let d = depth_of r in (suc d.0, Below p at up j ne d.1))
+      (probe_is (s.up (far g v p)) (far_port g v p))
 
   -- the nodes on the way to the root
   pub record Way (v n : ℕ) : Type 0 where
@@ -56,7 +65,9 @@ module _ (g : Network) (s : Forest) where
   }
     where
       other : (y : ℕ) → IsIn y rest.nodes → v ≢ y
-      other y i same = let z = (rest.each y i).1 in let k = depth_is mine (subst (λ x. Depth g s x z.0) (sym same) z.1) in absurd (let le = z.2 in omega (arith, k, le))
+      other y i same =
+          let z = (rest.each y i).1 in
+          let k = depth_is mine (subst (λ x. Depth g s x z.0) (sym same) z.1) in absurd (let le = z.2 in omega (arith, k, le))
 
       each_of : (x : ℕ) → IsIn x (v ∷ rest.nodes) → InNetwork g x × ((k : ℕ) × Depth g s x k × (k ≤ suc n))
       each_of _ First = (record { some = at.some; node = at.node }, (suc n, mine, omega arith))
@@ -82,7 +93,9 @@ module _ (g : Network) (s : Forest) where
   way (Below p at up j d e) = further p at (Below p at up j d e) (way e)
 
   pub bounded : {v n : ℕ} → Depth g s v n → suc n ≤ g.count
-  bounded {v} {n} d = let y = way d in let z = few_apart g.count y.nodes y.apart (λ x i. let q = (y.each x i).0 in (q.some, q.node)) in let l = y.long in omega (arith, z, l)
+  bounded {v} {n} d =
+      let y = way d in
+      let z = few_apart g.count y.nodes y.apart (λ x i. let q = (y.each x i).0 in (q.some, q.node)) in let l = y.long in omega (arith, z, l)
 
   -- from the leaves to the root
   module _ (Q : ℕ → Type 0) (step : (v : ℕ) → ((z : ℕ) → IsChild g s z v → Q z) → Q v) where

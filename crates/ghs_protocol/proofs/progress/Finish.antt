@@ -56,9 +56,13 @@ sum_more zero j f h lt e s = absurd (omega arith)
 sum_more (suc n) j f h lt e s = ⊎_elim here (λ ne. before (sum_more n j f h) ne) (cases_eq j n)
   where
     here : j ≡ n → suc (sum_below n f + f n) ≤ sum_below n h + h n
-    here x = let rest = sum_most n f h (λ i l. e i (omega arith)) in let y : suc (f n) ≤ h n = subst (λ z. suc (f z) ≤ h z) x s in omega (arith, rest, y)
+    here x =
+        let rest = sum_most n f h (λ i l. e i (omega arith)) in
+        let y : suc (f n) ≤ h n = subst (λ z. suc (f z) ≤ h z) x s in omega (arith, rest, y)
 
-    before : (j < n → ((i : ℕ) → i < n → f i ≤ h i) → suc (f j) ≤ h j → suc (sum_below n f) ≤ sum_below n h) → j ≢ n → suc (sum_below n f + f n) ≤ sum_below n h + h n
+    before : (j < n → ((i : ℕ) → i < n → f i ≤ h i) → suc (f j) ≤ h j → suc (sum_below n f) ≤ sum_below n h) →
+        j ≢ n →
+        suc (sum_below n f + f n) ≤ sum_below n h + h n
     before ih ne = let rest = ih (omega (arith, lt, ne)) (λ i l. e i (omega arith)) s in let last = e n (omega arith) in omega (arith, rest, last)
 
 -- 1 where the node is awake
@@ -87,7 +91,10 @@ phase_is n = go (is_sleeping n.head.phase) refl
     go false e = inr (sleeping_not n.head.phase e)
 
 awake_stays : (n m : NodeState) → (n.head.phase ≢ Sleeping → m.head.phase ≢ Sleeping) → awake_one n ≤ awake_one m
-awake_stays n m keeps = ⊎_elim (λ e. let z = asleep_is n e in omega (arith, z)) (λ up. let z = awake_is n up in let y = awake_is m (keeps up) in omega (arith, z, y)) (phase_is n)
+awake_stays n m keeps =
+    ⊎_elim (λ e. let z = asleep_is n e in omega (arith, z))
+    (λ up. let z = awake_is n up in let y = awake_is m (keeps up) in omega (arith, z, y))
+    (phase_is n)
 
 -- how many nodes are awake; and what each event but a requeue raises
 abbrev pub awake_count : Network → Net → ℕ
@@ -106,7 +113,8 @@ Found_in P n = (v : ℕ) × (1 ≤ v) × (v ≤ n) × P v
 
 search : (P Q : ℕ → Type 0) → ((v : ℕ) → P v ⊎ Q v) → (n : ℕ) → Found_in P n ⊎ ((v : ℕ) → 1 ≤ v → v ≤ n → Q v)
 search P Q test zero = inr (λ v lo hi. absurd (omega (arith, lo, hi)))
-search P Q test (suc n) = ⊎_elim (λ z. inl (z.0, z.1, (let hi = z.2 in omega (arith, hi)), z.3)) (λ none. last none (test (suc n))) (search P Q test n)
+search P Q test (suc n) =
+    ⊎_elim (λ z. inl (z.0, z.1, (let hi = z.2 in omega (arith, hi)), z.3)) (λ none. last none (test (suc n))) (search P Q test n)
   where
     last : ((v : ℕ) → 1 ≤ v → v ≤ n → Q v) → P (suc n) ⊎ Q (suc n) → Found_in P (suc n) ⊎ ((v : ℕ) → 1 ≤ v → v ≤ suc n → Q v)
     last none (inl p) = inl (suc n, omega arith, omega arith, p)
@@ -140,7 +148,9 @@ module _ (g : Shape) (graph : IsGraph g) where
   -- one port further is in the same component
   over_port : (x p : ℕ) → At (network_of g) x p → Joined (passing (λ k. true) g.keys) x (far (network_of g) x p)
   over_port x p at =
-      ⊎_elim (λ e. subst₂ (Joined any) (sym e.0) (sym e.1) (Along k has Same)) (λ e. subst₂ (Joined any) (sym e.0) (sym e.1) (Back k has Same)) (port_ends g graph x p at)
+      ⊎_elim (λ e. subst₂ (Joined any) (sym e.0) (sym e.1) (Along k has Same))
+      (λ e. subst₂ (Joined any) (sym e.0) (sym e.1) (Back k has Same))
+      (port_ends g graph x p at)
     where
       k : Key
       k = (port_at (network_of g) x p).key
@@ -161,7 +171,9 @@ module _ (g : Shape) (graph : IsGraph g) where
 
   component_closed : (v x p : ℕ) → At (network_of g) x p → component v x ≡ true → component v (far (network_of g) x p) ≡ true
   unfolding component
-  component_closed v x p at e = so_holds (decided_joined (λ k. true) g.keys v (far (network_of g) x p)) (joined_then (holds_so (decided_joined (λ k. true) g.keys v x) e) (over_port x p at))
+  component_closed v x p at e =
+      so_holds (decided_joined (λ k. true) g.keys v (far (network_of g) x p))
+      (joined_then (holds_so (decided_joined (λ k. true) g.keys v x) e) (over_port x p at))
 
   module _ (w : Net) where
     -- awake, in a component where none has halted
@@ -175,12 +187,16 @@ module _ (g : Shape) (graph : IsGraph g) where
     Halt v u = (component v u ≡ true) × HasHalted w u
 
     halt : (v u : ℕ) → Halt v u ⊎ (component v u ≡ true → HasHalted w u → ⊥)
-    halt v u = ⊎_elim (λ c. ⊎_elim (λ h. inl (c, h)) (λ ne. inr (λ x h. ne h)) (truth (w.node u).head.halted)) (λ ne. inr (λ c h. ne c)) (truth (component v u))
+    halt v u =
+        ⊎_elim
+        (λ c. ⊎_elim (λ h. inl (c, h)) (λ ne. inr (λ x h. ne h)) (truth (w.node u).head.halted))
+        (λ ne. inr (λ c h. ne c)) (truth (component v u))
 
     test : (v : ℕ) → Open v ⊎ Ended v
     test v =
         ⊎_elim (λ e. inr (λ up. absurd (up e)))
-        (λ up. ⊎_elim (λ z. inr (λ y. (z.0, comes v z.0 z.3.0, z.3.1))) (λ none. inl (up, none)) (search (Halt v) (λ u. component v u ≡ true → HasHalted w u → ⊥) (halt v) g.nodes))
+        (λ up. ⊎_elim (λ z. inr (λ y. (z.0, comes v z.0 z.3.0, z.3.1))) (λ none. inl (up, none))
+        (search (Halt v) (λ u. component v u ≡ true → HasHalted w u → ⊥) (halt v) g.nodes))
         (phase_is (w.node v))
 
     unended : (v : ℕ) → 1 ≤ v → v ≤ g.nodes → Open v → Unended (network_of g) w (component v)
@@ -194,7 +210,9 @@ module _ (g : Shape) (graph : IsGraph g) where
     }
 
     -- an unended component, or each node that is awake comes to one that has halted
-    pub going : ((v : ℕ) × Unended (network_of g) w (component v)) ⊎ ((v : ℕ) → InNetwork (network_of g) v → (w.node v).head.phase ≢ Sleeping → (u : ℕ) × Leads (network_of g) AnyLink v u × HasHalted w u)
+    pub going :
+        ((v : ℕ) × Unended (network_of g) w (component v)) ⊎
+        ((v : ℕ) → InNetwork (network_of g) v → (w.node v).head.phase ≢ Sleeping → (u : ℕ) × Leads (network_of g) AnyLink v u × HasHalted w u)
     going = ⊎_elim (λ z. inl (z.0, unended z.0 z.1 z.2 z.3)) (λ all. inr (λ v is up. all v is.some is.node up)) (search Open Ended test g.nodes)
 
   -- a net of a run, one event later
@@ -202,13 +220,20 @@ module _ (g : Shape) (graph : IsGraph g) where
   later w w' e n h = record { graph = graph; events = n.events ++ e ∷ []; run = after_more (network_of g) n.events e w w' n.run h }
 
   -- a message that waits at a port can be taken
-  pub can_take : (w : Net) → IsNetOf g w → (v p : ℕ) → At (network_of g) v p → (m : Message) (ms : List Message) → w.queue v p ≡ m ∷ ms → (w' : Net) × Happens (network_of g) w (Take v p) w'
+  pub can_take : (w : Net) →
+      IsNetOf g w →
+      (v p : ℕ) → At (network_of g) v p →
+      (m : Message) (ms : List Message) → w.queue v p ≡ m ∷ ms →
+      (w' : Net) × Happens (network_of g) w (Take v p) w'
   can_take w n v p at m ms q = go (effect (network_of g) w (Take v p)) refl (events_have_rules g w n (Take v p) lawful)
     where
       lawful : is_lawful (network_of g) w (Take v p) ≡ true
       lawful = rw (is_port_of (network_of g) v p at, q) refl
 
-      go : (o : Option Net) → effect (network_of g) w (Take v p) ≡ o → IsSome (effect (network_of g) w (Take v p)) → (w' : Net) × Happens (network_of g) w (Take v p) w'
+      go : (o : Option Net) →
+          effect (network_of g) w (Take v p) ≡ o →
+          IsSome (effect (network_of g) w (Take v p)) →
+          (w' : Net) × Happens (network_of g) w (Take v p) w'
       go None e s = absurd (let z = s in cc)
       go (Some x) e s = (x, happening (network_of g) w x (Take v p) (lawful_happens (network_of g) w (Take v p) lawful ∙ e))
 
@@ -220,12 +245,14 @@ module _ (g : Shape) (graph : IsGraph g) where
 
   requeued_most : (w w' : Net) (e : Event) → Happens (network_of g) w e w' → w'.requeued ≤ suc w.requeued
   requeued_most w _ _ (Woke v d lo hi s r) = let z = requeued_now (network_of g) v d w in omega (arith, z)
-  requeued_most w _ _ (Took v p m ms d at q r) = let z = taken_requeued (network_of g) v p m ms d w in let y = requeue_few d.fate in omega (arith, z, y)
+  requeued_most w _ _ (Took v p m ms d at q r) =
+      let z = taken_requeued (network_of g) v p m ms d w in let y = requeue_few d.fate in omega (arith, z, y)
 
   awake_grows : (w w' : Net) (e : Event) → IsNetOf g w → Happens (network_of g) w e w' → awake_count (network_of g) w ≤ awake_count (network_of g) w'
   awake_grows w w' e n h =
       sum_most g.nodes (λ i. awake_one (w.node (suc i))) (λ i. awake_one (w'.node (suc i)))
-      (λ i lt. awake_stays (w.node (suc i)) (w'.node (suc i)) ((event_lasts (network_of g) (graph_wired g graph) w w' e (formed w n) h (suc i)).awake))
+      (λ i lt.
+      awake_stays (w.node (suc i)) (w'.node (suc i)) ((event_lasts (network_of g) (graph_wired g graph) w w' e (formed w n) h (suc i)).awake))
 
   pub grows : (w w' : Net) (v p : ℕ) → IsNetOf g w → Happens (network_of g) w (Take v p) w' → reached (network_of g) w ≤ reached (network_of g) w'
   grows w w' v p n h =
@@ -243,7 +270,11 @@ module _ (g : Shape) (graph : IsGraph g) where
     pub waits : Waits (w.node v) p message
 
   -- a message that doesn't wait is consumed, or wakes its node
-  pub real : (w w' : Net) (e : Event) → IsNetOf g w → (v p : ℕ) → e ≡ Take v p → Happens (network_of g) w e w' → (suc (reached (network_of g) w) ≤ reached (network_of g) w') ⊎ Held w v p
+  pub real : (w w' : Net) (e : Event) →
+      IsNetOf g w →
+      (v p : ℕ) → e ≡ Take v p →
+      Happens (network_of g) w e w' →
+      (suc (reached (network_of g) w) ≤ reached (network_of g) w') ⊎ Held w v p
   real w _ _ n x y is (Woke v d lo hi s r) = cc
   real w _ _ n x y is (Took v p m ms d at q r) = ⊎_elim (λ e. inl (slept e)) woke (phase_is (w.node v))
     where
@@ -257,7 +288,9 @@ module _ (g : Shape) (graph : IsGraph g) where
       row = event_row (network_of g) (graph_wired g graph) v (w.node v) p m d at ((formed w n).nodes v) r
 
       awakes : ((taken (network_of g) v p m ms d w).node v).head.phase ≢ Sleeping
-      awakes = subst (λ (y : NodeState). y.head.phase ≢ Sleeping) (sym (taken_here (network_of g) v p m ms d w)) (row_awake (w.node v) (Deliver p m) d row)
+      awakes =
+          subst (λ (y : NodeState). y.head.phase ≢ Sleeping) (sym (taken_here (network_of g) v p m ms d w))
+          (row_awake (w.node v) (Deliver p m) d row)
 
       slept : (w.node v).head.phase ≡ Sleeping → suc (reached (network_of g) w) ≤ reached (network_of g) (taken (network_of g) v p m ms d w)
       slept e =
@@ -269,15 +302,21 @@ module _ (g : Shape) (graph : IsGraph g) where
           let hi = at.node in
           let same = i.1 in
           let s =
-          sum_more g.nodes i.0 (λ i. awake_one (w.node (suc i))) (λ i. awake_one ((taken (network_of g) v p m ms d w).node (suc i))) (omega (arith, hi, same))
-          (λ i lt. awake_stays (w.node (suc i)) ((taken (network_of g) v p m ms d w).node (suc i)) ((event_lasts (network_of g) (graph_wired g graph) w (taken (network_of g) v p m ms d w) (Take v p) (formed w n) h (suc i)).awake))
+          sum_more g.nodes i.0 (λ i. awake_one (w.node (suc i))) (λ i. awake_one ((taken (network_of g) v p m ms d w).node (suc i)))
+          (omega (arith, hi, same))
+          (λ i lt.
+          awake_stays (w.node (suc i)) ((taken (network_of g) v p m ms d w).node (suc i))
+          ((event_lasts (network_of g) (graph_wired g graph) w (taken (network_of g) v p m ms d w) (Take v p) (formed w n) h (suc i)).awake))
           (subst (λ y. suc (awake_one (w.node y)) ≤ awake_one ((taken (network_of g) v p m ms d w).node y)) same (omega (arith, f, t))) in
           omega (arith, a, c, s)
 
       held : Waits (w.node v) p m → Held w x y
-      held z = let ea : v ≡ x = cc in let eb : p ≡ y = cc in subst₂ (Held w) ea eb (record { message = m; behind = ms; at = at; queue = q; waits = z })
+      held z =
+          let ea : v ≡ x = cc in let eb : p ≡ y = cc in subst₂ (Held w) ea eb (record { message = m; behind = ms; at = at; queue = q; waits = z })
 
-      woke : (w.node v).head.phase ≢ Sleeping → (suc (reached (network_of g) w) ≤ reached (network_of g) (taken (network_of g) v p m ms d w)) ⊎ Held w x y
+      woke :
+          (w.node v).head.phase ≢ Sleeping →
+          (suc (reached (network_of g) w) ≤ reached (network_of g) (taken (network_of g) v p m ms d w)) ⊎ Held w x y
       woke up =
           ⊎_elim
           (λ c. inl
@@ -298,8 +337,16 @@ module _ (g : Shape) (graph : IsGraph g) where
     pub is : IsNetOf g next
     pub more : suc (reached (network_of g) w) ≤ reached (network_of g) next
 
-  pub gets_on : (w w' : Net) (v p : ℕ) → IsNetOf g w → (m : Message) (ms : List Message) → w.queue v p ≡ m ∷ ms → (Waits (w.node v) p m → ⊥) → Happens (network_of g) w (Take v p) w' → suc (reached (network_of g) w) ≤ reached (network_of g) w'
-  gets_on w w' v p n m ms q goes h = ⊎_elim (λ z. z) (λ z. absurd (goes (subst (Waits (w.node v) p) (head_same z.message m z.behind ms (sym z.queue ∙ q)) z.waits))) (real w w' (Take v p) n v p refl h)
+  pub gets_on : (w w' : Net) (v p : ℕ) →
+      IsNetOf g w →
+      (m : Message) (ms : List Message) → w.queue v p ≡ m ∷ ms →
+      (Waits (w.node v) p m → ⊥) →
+      Happens (network_of g) w (Take v p) w' →
+      suc (reached (network_of g) w) ≤ reached (network_of g) w'
+  gets_on w w' v p n m ms q goes h =
+      ⊎_elim (λ z. z)
+      (λ z. absurd (goes (subst (Waits (w.node v) p) (head_same z.message m z.behind ms (sym z.queue ∙ q)) z.waits)))
+      (real w w' (Take v p) n v p refl h)
 
   pub advance : (w : Net) → IsNetOf g w → (S : ℕ → Bool) → GoesOn (network_of g) w S → Advance w
   advance w n S z = go z.before z.queue z.waiting z.few
@@ -307,7 +354,11 @@ module _ (g : Shape) (graph : IsGraph g) where
       first : Event
       first = Take z.node z.port
 
-      go : (before : List Message) → w.queue z.node z.port ≡ before ++ z.message ∷ z.behind → All (Waits (w.node z.node) z.port) before → length before ≤ 1 → Advance w
+      go : (before : List Message) →
+          w.queue z.node z.port ≡ before ++ z.message ∷ z.behind →
+          All (Waits (w.node z.node) z.port) before →
+          length before ≤ 1 →
+          Advance w
       go [] q a f =
           let t = can_take w n z.node z.port z.at z.message z.behind q in
           record {
@@ -331,17 +382,22 @@ module _ (g : Shape) (graph : IsGraph g) where
             takes = All-cons IsTake (Take z.node z.port) (Take z.node z.port ∷ []) tt (All-cons IsTake (Take z.node z.port) [] tt (All-nil IsTake));
             few = omega arith;
             next = t.0;
-            leads = ap (λ o. and_then o (λ x. run (network_of g) (Take z.node z.port ∷ []) x)) (happens_so h1) ∙ ap (λ o. and_then o (λ x. Some x)) (happens_so t.1);
+            leads =
+                ap (λ o. and_then o (λ x. run (network_of g) (Take z.node z.port ∷ []) x)) (happens_so h1) ∙
+                ap (λ o. and_then o (λ x. Some x)) (happens_so t.1);
             is = later w1 t.0 (Take z.node z.port) n1 t.1;
             more =
                 let a1 = grows w w1 z.node z.port n h1 in
-                let a2 = gets_on w1 t.0 z.node z.port n1 z.message (z.behind ++ m ∷ []) s1.queue (subst (λ y. Waits y z.port z.message → ⊥) (sym (s1.nodes z.node)) z.goes) t.1 in
+                let a2 = gets_on w1 t.0 z.node z.port n1 z.message (z.behind ++ m ∷ []) s1.queue
+                (subst (λ y. Waits y z.port z.message → ⊥) (sym (s1.nodes z.node)) z.goes) t.1 in
                 omega (arith, a1, a2);
           }
       go (m ∷ (k ∷ xs)) q a f = absurd (omega (arith, f))
 
   -- nobody has to go on
-  ends_here : (k : ℕ) (w : Net) → ((v : ℕ) → InNetwork (network_of g) v → (w.node v).head.phase ≢ Sleeping → (u : ℕ) × Leads (network_of g) AnyLink v u × HasHalted w u) → Finish (network_of g) w (2 * k)
+  ends_here : (k : ℕ) (w : Net) →
+      ((v : ℕ) → InNetwork (network_of g) v → (w.node v).head.phase ≢ Sleeping → (u : ℕ) × Leads (network_of g) AnyLink v u × HasHalted w u) →
+      Finish (network_of g) w (2 * k)
   ends_here k w all = record { events = []; takes = All-nil IsTake; few = omega arith; end_net = w; run = refl; ended = all }
 
   goes_further : (k : ℕ) (w : Net) → (a : Advance w) → Finish (network_of g) a.next (2 * k) → Finish (network_of g) w (2 * suc k)
@@ -364,10 +420,14 @@ module _ (g : Shape) (graph : IsGraph g) where
 
     pub finishes : (k : ℕ) (w : Net) → IsNetOf g w → b + g.nodes ≤ k + reached (network_of g) w → Finish (network_of g) w (2 * k)
     finishes zero w n le =
-        ⊎_elim (λ z. absurd (let a = advance w n (component z.0) (no_run_is_stuck g w n (component z.0) z.1) in let m = most a.next a.is in let x = a.more in omega (arith, m, x, le)))
+        ⊎_elim (λ z.
+        absurd (let a = advance w n (component z.0) (no_run_is_stuck g w n (component z.0) z.1) in
+        let m = most a.next a.is in let x = a.more in omega (arith, m, x, le)))
         (ends_here zero w) (going w)
     finishes (suc k) w n le =
-        ⊎_elim (λ z. let a = advance w n (component z.0) (no_run_is_stuck g w n (component z.0) z.1) in goes_further k w a (finishes k a.next a.is (let x = a.more in omega (arith, x, le))))
+        ⊎_elim (λ z.
+        let a = advance w n (component z.0) (no_run_is_stuck g w n (component z.0) z.1) in
+        goes_further k w a (finishes k a.next a.is (let x = a.more in omega (arith, x, le))))
         (ends_here (suc k) w) (going w)
 
 pub every_run_can_end : EveryRunCanEnd
@@ -391,18 +451,30 @@ silent_nets_are_exact g w n silent v is up k has way =
 
 -- each event raises what is consumed, what is put back, and who is awake, together by one at least
 module _ (g : Network) (wired : IsWired g) where
-  pub woken_more : (w : Net) → IsWellFormed g w → (v : ℕ) (d : Delta) → 1 ≤ v → v ≤ g.count → (w.node v).head.phase ≡ Sleeping → reaction (w.node v) Wake ≡ Some d → suc (awake_count g w) ≤ awake_count g (reacted g v d w)
+  pub woken_more : (w : Net) →
+      IsWellFormed g w →
+      (v : ℕ) (d : Delta) → 1 ≤ v →
+      v ≤ g.count →
+      (w.node v).head.phase ≡ Sleeping →
+      reaction (w.node v) Wake ≡ Some d →
+      suc (awake_count g w) ≤ awake_count g (reacted g v d w)
   woken_more w f v d lo hi s r =
       let i = node_before v lo in
       let same = i.1 in
       let e = asleep_is (w.node v) s in
-      let up : ((reacted g v d w).node v).head.phase ≢ Sleeping = subst (λ (y : NodeState). y.head.phase ≢ Sleeping) (sym (node_here g v d w)) (row_awake (w.node v) Wake d (reaction_inverts (w.node v) Wake d tt r)) in
+      let up : ((reacted g v d w).node v).head.phase ≢ Sleeping = subst (λ (y : NodeState). y.head.phase ≢ Sleeping) (sym (node_here g v d w))
+      (row_awake (w.node v) Wake d (reaction_inverts (w.node v) Wake d tt r)) in
       let t = awake_is ((reacted g v d w).node v) up in
       sum_more g.count i.0 (λ i. awake_one (w.node (suc i))) (λ i. awake_one ((reacted g v d w).node (suc i))) (omega (arith, hi, same))
-      (λ i lt. awake_stays (w.node (suc i)) ((reacted g v d w).node (suc i)) ((event_lasts g wired w (reacted g v d w) (events.Wake v) f (Woke v d lo hi s r) (suc i)).awake))
+      (λ i lt.
+      awake_stays (w.node (suc i)) ((reacted g v d w).node (suc i))
+      ((event_lasts g wired w (reacted g v d w) (events.Wake v) f (Woke v d lo hi s r) (suc i)).awake))
       (subst (λ y. suc (awake_one (w.node y)) ≤ awake_one ((reacted g v d w).node y)) same (omega (arith, e, t)))
 
-  event_more : (w w' : Net) (e : Event) → IsWellFormed g w → Happens g w e w' → suc (in_all w.consumed + w.requeued + awake_count g w) ≤ in_all w'.consumed + w'.requeued + awake_count g w'
+  event_more : (w w' : Net) (e : Event) →
+      IsWellFormed g w →
+      Happens g w e w' →
+      suc (in_all w.consumed + w.requeued + awake_count g w) ≤ in_all w'.consumed + w'.requeued + awake_count g w'
   event_more w _ _ f (Woke v d lo hi s r) =
       let a = woken_more w f v d lo hi s r in
       let c = ap in_all (consumed_now g v d w) in
@@ -413,11 +485,20 @@ module _ (g : Network) (wired : IsWired g) where
       let a = run_counts g (Take v p ∷ []) w (taken g v p m ms d w) (ap (λ o. and_then o (λ x. Some x)) (happens_so h)) in
       let s =
       sum_most g.count (λ i. awake_one (w.node (suc i))) (λ i. awake_one ((taken g v p m ms d w).node (suc i)))
-      (λ i lt. awake_stays (w.node (suc i)) ((taken g v p m ms d w).node (suc i)) ((event_lasts g wired w (taken g v p m ms d w) (events.Take v p) f h (suc i)).awake)) in
+      (λ i lt.
+      awake_stays (w.node (suc i)) ((taken g v p m ms d w).node (suc i))
+      ((event_lasts g wired w (taken g v p m ms d w) (events.Take v p) f h (suc i)).awake))
+      in
       omega (arith, a, s)
 
-  pub run_short : (es : List Event) (w w' : Net) → IsWellFormed g w → run g es w ≡ Some w' → length es + (in_all w.consumed + w.requeued + awake_count g w) ≤ in_all w'.consumed + w'.requeued + awake_count g w'
-  run_short [] w w' f h = subst (λ (x : Net). 0 + (in_all w.consumed + w.requeued + awake_count g w) ≤ in_all x.consumed + x.requeued + awake_count g x) (same_Some w w' h) (omega arith)
+  pub run_short : (es : List Event) (w w' : Net) →
+      IsWellFormed g w →
+      run g es w ≡ Some w' →
+      length es + (in_all w.consumed + w.requeued + awake_count g w) ≤ in_all w'.consumed + w'.requeued + awake_count g w'
+  run_short [] w w' f h =
+      subst
+      (λ (x : Net). 0 + (in_all w.consumed + w.requeued + awake_count g w) ≤ in_all x.consumed + x.requeued + awake_count g x)
+      (same_Some w w' h) (omega arith)
   run_short (e ∷ es) w w' f h =
       both_some (happens g w e) (λ x. run g es x) w' h
       (λ x a b.

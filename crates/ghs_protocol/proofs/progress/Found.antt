@@ -45,9 +45,12 @@ module _ (g : Network) (w : Net) (gh : Ghost) (v p : ℕ) where
   m = (scene w gh).at v
 
   more : (q : Seen) (x : Message) → SeenWaits m p q → node_waits (w.node v) p x → SeenWaits m p (add q x)
-  more q (Connect l) a h = record { tree = tree_end (tree_waits m p) q.tree (Connect l) a.tree h; tests = a.tests; accepts = a.accepts; rejects = a.rejects }
-  more q (Report k) a h = record { tree = tree_end (tree_waits m p) q.tree (Report k) a.tree h; tests = a.tests; accepts = a.accepts; rejects = a.rejects }
-  more q (Test l f) a h = record { tree = a.tree; tests = tests_end (test_waits m) q.tests (l, f) a.tests h; accepts = a.accepts; rejects = a.rejects }
+  more q (Connect l) a h =
+      record { tree = tree_end (tree_waits m p) q.tree (Connect l) a.tree h; tests = a.tests; accepts = a.accepts; rejects = a.rejects }
+  more q (Report k) a h =
+      record { tree = tree_end (tree_waits m p) q.tree (Report k) a.tree h; tests = a.tests; accepts = a.accepts; rejects = a.rejects }
+  more q (Test l f) a h =
+      record { tree = a.tree; tests = tests_end (test_waits m) q.tests (l, f) a.tests h; accepts = a.accepts; rejects = a.rejects }
   more q (Initiate l f s) a h = elim h [ ]
   more q ChangeRoot a h = elim h [ ]
   more q Accept a h = elim h [ ]
@@ -78,8 +81,14 @@ waits_is n p (Connect l) =
     ⊎_elim (λ b. inl (a, (omega (arith, ge)), b)) (λ ne. inr (λ h. ne h.2)) (basic_is (mark_at n p)))
     (cases_lt l n.head.level))
     (asleep_is n.head.phase)
-waits_is n p (Report k) = ⊎_elim (λ a. ⊎_elim (λ b. inl (a, b)) (λ ne. inr (λ h. ne h.1)) (is_find' n.head.phase)) (λ ne. inr (λ h. ne h.0)) (probe_is n.head.in_branch p)
-waits_is n p (Test l f) = ⊎_elim (λ s. inr (λ h. h.0 s)) (λ a. ⊎_elim (λ lt. inl (a, lt)) (λ ge. inr (λ h. let lt = h.1 in omega (arith, lt, ge))) (cases_lt n.head.level l)) (asleep_is n.head.phase)
+waits_is n p (Report k) =
+    ⊎_elim
+    (λ a. ⊎_elim (λ b. inl (a, b)) (λ ne. inr (λ h. ne h.1)) (is_find' n.head.phase))
+    (λ ne. inr (λ h. ne h.0)) (probe_is n.head.in_branch p)
+waits_is n p (Test l f) =
+    ⊎_elim (λ s. inr (λ h. h.0 s))
+    (λ a. ⊎_elim (λ lt. inl (a, lt)) (λ ge. inr (λ h. let lt = h.1 in omega (arith, lt, ge))) (cases_lt n.head.level l))
+    (asleep_is n.head.phase)
 waits_is n p (Initiate l f s) = inr (λ h. elim h [ ])
 waits_is n p ChangeRoot = inr (λ h. elim h [ ])
 waits_is n p Accept = inr (λ h. elim h [ ])
@@ -97,7 +106,15 @@ pub record Split (P : Message → Type 0) (ms : List Message) : Type 0 where
 pub split : (P : Message → Type 0) → ((x : Message) → (P x) ⊎ (P x → ⊥)) → (ms : List Message) → AllOf P ms ⊎ Split P ms
 split P dec [] = inl tt
 split P dec (x ∷ ms) =
-    ⊎_elim (λ h. ⊎_elim (λ a. inl (h, a)) (λ s. inr (record { before = x ∷ s.before; message = s.message; behind = s.behind; whole = ap (λ z. x ∷ z) s.whole; all = (h, s.all); goes = s.goes })) (split P dec ms))
+    ⊎_elim (λ h. ⊎_elim (λ a. inl (h, a)) (λ s.
+    inr (record {
+      before = x ∷ s.before;
+      message = s.message;
+      behind = s.behind;
+      whole = ap (λ z. x ∷ z) s.whole;
+      all = (h, s.all);
+      goes = s.goes;
+    })) (split P dec ms))
     (λ n. inr (record { before = []; message = x; behind = ms; whole = refl; all = tt; goes = n }))
     (dec x)
 
@@ -106,7 +123,9 @@ pub search : (A B : ℕ → Type 0) → (n : ℕ) → ((i : ℕ) → i < n → A
 search A B zero f = inr (λ i lt. absurd (omega (arith, lt)))
 search A B (suc n) f =
     ⊎_elim (λ h. inl (h.0, (let lt = h.1 in omega (arith, lt)), h.2))
-    (λ h. ⊎_elim (λ a. inl (n, omega arith, a)) (λ b. inr (λ i lt. ⊎_elim (λ l. h i l) (λ ge. let e : n ≡ i = omega (arith, lt, ge) in subst B e b) (cases_lt i n))) (f n (omega arith)))
+    (λ h. ⊎_elim (λ a. inl (n, omega arith, a))
+    (λ b. inr (λ i lt. ⊎_elim (λ l. h i l) (λ ge. let e : n ≡ i = omega (arith, lt, ge) in subst B e b) (cases_lt i n)))
+    (f n (omega arith)))
     (search A B n (λ i lt. f i (omega (arith, lt))))
 
 -- what is found
@@ -131,23 +150,40 @@ module _ (g : Network) (w : Net) (S : ℕ → Bool) where
       ⊎_elim
       (λ m. ⊎_elim (λ h. inl (h.0, h.2)) (λ h. inr (λ p at y. h p at.port))
       (search (λ p. Here g w S v p) (λ p. AllOf (node_waits (w.node v) p) (w.queue v p)) (length (g.ports v))
-      (λ p lt. ⊎_elim (λ a. inr a) (λ s. inl (record { at = record { some = is.some; node = is.node; port = lt }; member = m; place = s })) (split (node_waits (w.node v) p) (waits_is (w.node v) p) (w.queue v p)))))
+      (λ p lt. ⊎_elim (λ a. inr a)
+      (λ s. inl (record { at = record { some = is.some; node = is.node; port = lt }; member = m; place = s }))
+      (split (node_waits (w.node v) p) (waits_is (w.node v) p) (w.queue v p)))))
       (λ n. inr (λ p at m. let z : true ≡ false = sym m ∙ n in cc))
       (cases_Bool (S v))
 
   pub look : Found_one g w S ⊎ ((v p : ℕ) → At g v p → S v ≡ true → AllOf (node_waits (w.node v) p) (w.queue v p))
   look =
-      ⊎_elim (λ h. let t = h.2 in inl (record { node = suc h.0; port = t.0; at = t.1.at; member = t.1.member; place = t.1.place })) (λ h. inr (λ v p at m. all h v p at m))
-      (search (λ i. (p : ℕ) × Here g w S (suc i) p) (λ i. AllWait g w S (suc i)) g.count (λ i lt. at_node (suc i) (record { some = omega arith; node = omega (arith, lt) })))
+      ⊎_elim
+      (λ h. let t = h.2 in inl (record { node = suc h.0; port = t.0; at = t.1.at; member = t.1.member; place = t.1.place }))
+      (λ h. inr (λ v p at m. all h v p at m))
+      (search (λ i. (p : ℕ) × Here g w S (suc i) p) (λ i. AllWait g w S (suc i)) g.count
+      (λ i lt. at_node (suc i) (record { some = omega arith; node = omega (arith, lt) })))
     where
       all : ((i : ℕ) → i < g.count → AllWait g w S (suc i)) → (v p : ℕ) → At g v p → S v ≡ true → AllOf (node_waits (w.node v) p) (w.queue v p)
       all h zero p at m = absurd (let z = at.some in omega (arith, z))
       all h (suc i) p at m = h i (let z = at.node in omega (arith, z)) p at m
 
-module _ (g : Network) (ground : Ground g) (w : Net) (gh : Ghost) (holds : Invariant g (scene w gh)) (lives : Living g (scene w gh)) (S : ℕ → Bool) (going : Unended g w S) where
+module _ (g : Network) (ground : Ground g) (w : Net) (gh : Ghost) (holds : Invariant g (scene w gh)) (lives : Living g (scene w gh))
+    (S : ℕ → Bool) (going : Unended g w S) where
   -- a message that doesn't wait, if the Connects under way go over least links
-  pub goes_on : ((a j : ℕ) → At g a j → ((scene w gh).at a).mark j ≡ Branch → is_branch (((scene w gh).at (far g a j)).mark (far_port g a j)) ≡ false → (u q : ℕ) → At g u q → gh.fragment u ≡ gh.fragment a → gh.fragment (far g u q) ≢ gh.fragment a → key_lt (port_at g u q).key (port_at g a j).key ≡ false) → Found_one g w S
+  pub goes_on :
+      ((a j : ℕ) → At g a j →
+      ((scene w gh).at a).mark j ≡ Branch →
+      is_branch (((scene w gh).at (far g a j)).mark (far_port g a j)) ≡ false →
+      (u q : ℕ) → At g u q →
+      gh.fragment u ≡ gh.fragment a →
+      gh.fragment (far g u q) ≢ gh.fragment a →
+      key_lt (port_at g u q).key (port_at g a j).key ≡ false) →
+      Found_one g w S
   goes_on least =
       ⊎_elim (λ h. h)
-      (λ all. absurd (not_stuck g ground (scene w gh) holds lives S going.closed (λ v p at m. seen_waits g w gh v p (all v p at m)) (λ v is m. going.none_halted v is m) least going.node going.is going.member going.awake))
+      (λ all.
+      absurd (not_stuck g ground (scene w gh) holds lives S going.closed (λ v p at m. seen_waits g w gh v p (all v p at m))
+      (λ v is m. going.none_halted v is m) least
+      going.node going.is going.member going.awake))
       (look g w S)

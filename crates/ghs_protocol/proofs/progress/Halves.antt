@@ -30,7 +30,10 @@ module _ (g : Network) (wired : IsWired g) (s : Forest) where
   pub turned : (a j : ℕ) → RootLink g s a j → RootLink g s (far g a j) (far_port g a j)
   turned a j r = record {
     at = wired.there a j r.at;
-    joined = record { here = r.joined.there; there = subst₂ (λ x y. s.branch x y ≡ true) (sym (wired.back a j r.at)) (sym (wired.back_port a j r.at)) r.joined.here };
+    joined = record {
+      here = r.joined.there;
+      there = subst₂ (λ x y. s.branch x y ≡ true) (sym (wired.back a j r.at)) (sym (wired.back_port a j r.at)) r.joined.here;
+    };
     up = r.up_beyond;
     up_beyond = subst₂ (λ x y. s.up x ≡ Some y) (sym (wired.back a j r.at)) (sym (wired.back_port a j r.at)) r.up;
   }
@@ -67,10 +70,18 @@ pub record Stands (w : Scene) (k : Key) (v : ℕ) : Type 0 where
 
 module _ (g : Network) (wired : IsWired g) (w : Scene) (holds : Invariant g w) (a j : ℕ) (r : RootLink g (forest w) a j) (k : Key) where
   -- no Connect of the fragment is under way
-  no_out : (v p : ℕ) → At g v p → (w.at v).fragment ≡ (w.at a).fragment → (w.at v).mark p ≡ Branch → is_branch ((w.at (far g v p)).mark (far_port g v p)) ≡ false → ⊥
+  no_out : (v p : ℕ) →
+      At g v p →
+      (w.at v).fragment ≡ (w.at a).fragment →
+      (w.at v).mark p ≡ Branch →
+      is_branch ((w.at (far g v p)).mark (far_port g v p)) ≡ false →
+      ⊥
   no_out v p at same here away =
       ⊎_elim
-      (λ h. let z : true ≡ false = sym (subst₂ (λ x y. is_branch ((w.at (far g x y)).mark (far_port g x y)) ≡ true) (sym h.0) (sym h.1) r.joined.there) ∙ away in cc)
+      (λ h.
+      let z : true ≡ false =
+      sym (subst₂ (λ x y. is_branch ((w.at (far g x y)).mark (far_port g x y)) ≡ true) (sym h.0) (sym h.1) r.joined.there) ∙ away in
+      cc)
       (λ h. let z : true ≡ false = sym (subst₂ (λ x y. is_branch ((w.at x).mark y) ≡ true) (sym h.0) (sym h.1) r.joined.here) ∙ away in cc)
       (holds.trees.one_root v p a j at r.at (Goes_out (ap is_branch here) away) (Both_ways r.joined r.up r.up_beyond) same)
 
@@ -109,7 +120,10 @@ module _ (g : Network) (wired : IsWired g) (w : Scene) (holds : Invariant g w) (
           not_up h = fits.1 (sym st.way ∙ h)
 
           reported : (here : (w.at v).mark q ≡ Branch) → is_branch ((w.at (far g v q)).mark (far_port g v q)) ≡ true → Tip g w x k (w.at a).fragment
-          reported here there = below (far g v q) child (record { some = at'.some; node = at'.node }) (sym (holds.trees.joined_within v q at joined) ∙ same) (Under (far_port g v q) at' up down (subst (λ y. Side g (forest w) x y) (sym (wired.back v q at)) side)) (record { top = rep.level; way = up ∙ sym rep.in_branch; best = rep.key })
+          reported here there =
+              below (far g v q) child (record { some = at'.some; node = at'.node }) (sym (holds.trees.joined_within v q at joined) ∙ same)
+              (Under (far_port g v q) at' up down (subst (λ y. Side g (forest w) x y) (sym (wired.back v q at)) side))
+              (record { top = rep.level; way = up ∙ sym rep.in_branch; best = rep.key })
             where
               joined : IsJoinedIn g (forest w) v q
               joined = record { here = ap is_branch here; there = there }
@@ -128,14 +142,20 @@ module _ (g : Network) (wired : IsWired g) (w : Scene) (holds : Invariant g w) (
                 port = far_port g v q;
                 at = at';
                 up = up;
-                joined = record { here = there; there = subst₂ (λ x y. is_branch ((w.at x).mark y) ≡ true) (sym (wired.back v q at)) (sym (wired.back_port v q at)) (ap is_branch here) };
+                joined = record {
+                  here = there;
+                  there =
+                      subst₂ (λ x y. is_branch ((w.at x).mark y) ≡ true) (sym (wired.back v q at)) (sym (wired.back_port v q at)) (ap is_branch here);
+                };
                 down = down;
                 to = wired.back v q at;
               }
 
           by_mark : ((w.at v).mark q ≡ Branch) ⊎ ((w.at v).mark q ≢ Branch) → Tip g w x k (w.at a).fragment
           by_mark (inr ne) = own ne
-          by_mark (inl here) = ⊎_elim (λ there. reported here there) (λ away. absurd (no_out v q at same here away)) (bool_is (is_branch ((w.at (far g v q)).mark (far_port g v q))))
+          by_mark (inl here) =
+              ⊎_elim (λ there. reported here there) (λ away. absurd (no_out v q at same here away))
+              (bool_is (is_branch ((w.at (far g v q)).mark (far_port g v q))))
 
   tip : (x v : ℕ) → Reach g (forest w) v → Q x v
   tip x v r' = upwards g (forest w) (Q x) (step x) v r'
@@ -145,7 +165,9 @@ module _ (g : Network) (wired : IsWired g) (w : Scene) (holds : Invariant g w) (
   no_tie keyed is' here there =
       let b = far g a j in
       let same : (w.at b).fragment ≡ (w.at a).fragment = sym (holds.trees.joined_within a j r.at r.joined) in
-      let t = tip a a (holds.trees.reached a j (record { some = r.at.some; node = r.at.node }) r.up) (record { some = r.at.some; node = r.at.node }) refl (Itself refl) here in
+      let t = tip a a
+      (holds.trees.reached a j (record { some = r.at.some; node = r.at.node }) r.up) (record { some = r.at.some; node = r.at.node }) refl
+      (Itself refl) here in
       let t' = tip b b (holds.trees.reached b (far_port g a j) is' r.up_beyond) is' same (Itself refl) there in
       ⊎_elim
       (λ h. not_both_sides g wired (forest w) a j r t.side (subst (λ y. Side g (forest w) b y) (sym h.0) t'.side))

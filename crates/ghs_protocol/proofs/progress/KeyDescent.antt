@@ -22,7 +22,13 @@ less j k h =
     (cases_lt j.weight k.weight)
 
 module _ (P : Key → Type 0) (step : (k : Key) → ((j : Key) → key_lt j k ≡ true → P j) → P k) where
-  by_b : (n m : ℕ) → ((j : Key) → j.weight < n → P j) → ((j : Key) → j.weight ≡ n → j.a < m → P j) → (z : ℕ) → (k : Key) → k.weight ≡ n → k.a ≡ m → k.b < z → P k
+  by_b : (n m : ℕ) →
+      ((j : Key) → j.weight < n → P j) →
+      ((j : Key) → j.weight ≡ n → j.a < m → P j) →
+      (z : ℕ) → (k : Key) → k.weight ≡ n →
+      k.a ≡ m →
+      k.b < z →
+      P k
   by_b n m w a zero k e f lt = absurd (omega (arith, lt))
   by_b n m w a (suc z) k e f lt = step k (λ j h. go (by_b n m w a z) j (less j k h))
     where

@@ -38,9 +38,18 @@ all_so : (n : NodeState) (p : ℕ) (xs : List Message) → AllOf (node_waits n p
 all_so n p [] h = λ k d lt. absurd (omega arith)
 all_so n p (x ∷ xs) h = All-cons (Waits n p) x xs (so n p x h.0) (all_so n p xs h.1)
 
-module _ (g : Network) (ground : Ground g) (w : Net) (gh : Ghost) (holds : Invariant g (scene w gh)) (lives : Living g (scene w gh)) (S : ℕ → Bool) (going : Unended g w S) where
+module _ (g : Network) (ground : Ground g) (w : Net) (gh : Ghost) (holds : Invariant g (scene w gh)) (lives : Living g (scene w gh))
+    (S : ℕ → Bool) (going : Unended g w S) where
   -- behind one message that waits at most, one that doesn't
-  pub progress : ((a j : ℕ) → At g a j → ((scene w gh).at a).mark j ≡ Branch → is_branch (((scene w gh).at (far g a j)).mark (far_port g a j)) ≡ false → (u q : ℕ) → At g u q → gh.fragment u ≡ gh.fragment a → gh.fragment (far g u q) ≢ gh.fragment a → key_lt (port_at g u q).key (port_at g a j).key ≡ false) → GoesOn g w S
+  pub progress :
+      ((a j : ℕ) → At g a j →
+      ((scene w gh).at a).mark j ≡ Branch →
+      is_branch (((scene w gh).at (far g a j)).mark (far_port g a j)) ≡ false →
+      (u q : ℕ) → At g u q →
+      gh.fragment u ≡ gh.fragment a →
+      gh.fragment (far g u q) ≢ gh.fragment a →
+      key_lt (port_at g u q).key (port_at g a j).key ≡ false) →
+      GoesOn g w S
   progress least = go (goes_on g ground w gh holds lives S going least)
     where
       go : Found_one g w S → GoesOn g w S

@@ -23,7 +23,8 @@ use Rattle.ghs_protocol.proofs.progress.Found.{node_waits, Split}
 use Rattle.ghs_protocol.proofs.progress.Scenes.{AllOf}
 
 -- a Report to a searching node comes from the other half of the core, which is done
-module _ {N : ℕ → Key → Type 0} (e f : TreeEnd) (he : TreeFits N e f) (hf : TreeFits N f e) (ups : Joins e f → Ups e ⊎ Ups f) (k : Option Key) (ms : List Message) (waits : e.tree ≡ Report k ∷ ms) (finds : e.phase ≡ Find) (up : Ups e) where
+module _ {N : ℕ → Key → Type 0} (e f : TreeEnd) (he : TreeFits N e f) (hf : TreeFits N f e) (ups : Joins e f → Ups e ⊎ Ups f)
+    (k : Option Key) (ms : List Message) (waits : e.tree ≡ Report k ∷ ms) (finds : e.phase ≡ Find) (up : Ups e) where
   pub from_done : f.phase ≡ Found
   from_done = go (joint e f linked (ups linked))
     where
@@ -75,7 +76,9 @@ module _ (g : Network) (wired : IsWired g) (v p : ℕ) (at : At g v p) (n : Net)
   -- a Connect that waits comes from a fragment at rest
   connect_done : (l : ℕ) (ms : List Message) → e.seen.tree ≡ Connect l ∷ ms → e.mark ≡ Basic → f.is.head.phase ≡ Found
   connect_done l ms q basic =
-      ⊎_elim (λ b. (holds.resting.out (far g v p) (far_port g v p) at' (record { here = b; there = away })).found (far g v p) (record { some = at'.some; node = at'.node }) refl)
+      ⊎_elim (λ b.
+      (holds.resting.out (far g v p) (far_port g v p) at' (record { here = b; there = away })).found (far g v p)
+      (record { some = at'.some; node = at'.node }) refl)
       (λ b. absurd (let z : Connect l ∷ ms ≡ [] = sym q ∙ (link_fits g wired w holds v p at).tree.silent unmarked b in cc)) (mark_is f.mark)
     where
       unmarked : e.mark ≢ Branch
@@ -91,10 +94,18 @@ module _ (g : Network) (wired : IsWired g) (v p : ℕ) (at : At g v p) (n : Net)
   up b finds = let s = (node_fits g wired w holds v p at).searching finds in s.up ∙ sym s.in_branch ∙ b
 
   lone_r : (k : Option Key) (ms : List Message) → e.seen.tree ≡ Report k ∷ ms → e.is.head.in_branch ≡ Some p → e.is.head.phase ≡ Find → ms ≡ []
-  lone_r k ms q b finds = lone_report (tree_end e) (tree_end f) (link_fits g wired w holds v p at).tree (link_fits' g wired w holds v p at).tree (link_leads g wired w holds v p at) k ms q finds (up b finds)
+  lone_r k ms q b finds =
+      lone_report (tree_end e) (tree_end f) (link_fits g wired w holds v p at).tree (link_fits' g wired w holds v p at).tree
+      (link_leads g wired w holds v p at) k ms q finds (up b finds)
 
-  report_done : (k : Option Key) (ms : List Message) → e.seen.tree ≡ Report k ∷ ms → e.is.head.in_branch ≡ Some p → e.is.head.phase ≡ Find → f.is.head.phase ≡ Found
-  report_done k ms q b finds = from_done (tree_end e) (tree_end f) (link_fits g wired w holds v p at).tree (link_fits' g wired w holds v p at).tree (link_leads g wired w holds v p at) k ms q finds (up b finds)
+  report_done : (k : Option Key) (ms : List Message) →
+      e.seen.tree ≡ Report k ∷ ms →
+      e.is.head.in_branch ≡ Some p →
+      e.is.head.phase ≡ Find →
+      f.is.head.phase ≡ Found
+  report_done k ms q b finds =
+      from_done (tree_end e) (tree_end f) (link_fits g wired w holds v p at).tree (link_fits' g wired w holds v p at).tree
+      (link_leads g wired w holds v p at) k ms q finds (up b finds)
 
   lone_t : (t : ℕ × Key) (ts : List (ℕ × Key)) → e.seen.tests ≡ t ∷ ts → ts ≡ []
   lone_t t ts q = lone_test (test_end e) (test_end f) (link_fits' g wired w holds v p at).tests t ts q
@@ -114,15 +125,31 @@ module _ (g : Network) (wired : IsWired g) (v p : ℕ) (at : At g v p) (n : Net)
 
   -- the first two messages of a queue don't both wait
   pub two_wait : (x y : Message) (ms : List Message) → q0 ≡ x ∷ y ∷ ms → W x → W y → ⊥
-  two_wait (Connect l) (Connect k) ms h a b = let z : (see (Connect k ∷ ms)).tree ≡ [] = lone_c l _ (tree_first q0 _ (Connect l) refl h) a.2 in let y : [] ≡ Connect k ∷ (see ms).tree = sym z ∙ tree_first _ ms (Connect k) refl refl in cc
-  two_wait (Connect l) (Report k) ms h a b = let z : (see (Report k ∷ ms)).tree ≡ [] = lone_c l _ (tree_first q0 _ (Connect l) refl h) a.2 in let y : [] ≡ Report k ∷ (see ms).tree = sym z ∙ tree_first _ ms (Report k) refl refl in cc
-  two_wait (Report l) (Connect k) ms h a b = let z : (see (Connect k ∷ ms)).tree ≡ [] = lone_r l _ (tree_first q0 _ (Report l) refl h) a.0 a.1 in let y : [] ≡ Connect k ∷ (see ms).tree = sym z ∙ tree_first _ ms (Connect k) refl refl in cc
-  two_wait (Report l) (Report k) ms h a b = let z : (see (Report k ∷ ms)).tree ≡ [] = lone_r l _ (tree_first q0 _ (Report l) refl h) a.0 a.1 in let y : [] ≡ Report k ∷ (see ms).tree = sym z ∙ tree_first _ ms (Report k) refl refl in cc
-  two_wait (Test l m) (Test k o) ms h a b = let z : (see (Test k o ∷ ms)).tests ≡ [] = lone_t (l, m) _ (test_first q0 _ l m h) in let y : [] ≡ (k, o) ∷ (see ms).tests = sym z ∙ test_first _ ms k o refl in cc
-  two_wait (Connect l) (Test k o) ms h a b = no_high (connect_done l _ (tree_first q0 _ (Connect l) refl h) a.2) k o _ (tests_after q0 _ (Connect l) refl h ∙ test_first _ ms k o refl) b.1
-  two_wait (Report l) (Test k o) ms h a b = no_high (report_done l _ (tree_first q0 _ (Report l) refl h) a.0 a.1) k o _ (tests_after q0 _ (Report l) refl h ∙ test_first _ ms k o refl) b.1
-  two_wait (Test k o) (Connect l) ms h b a = no_high (connect_done l _ (tree_after q0 _ k o h ∙ tree_first _ ms (Connect l) refl refl) a.2) k o _ (test_first q0 _ k o h) b.1
-  two_wait (Test k o) (Report l) ms h b a = no_high (report_done l _ (tree_after q0 _ k o h ∙ tree_first _ ms (Report l) refl refl) a.0 a.1) k o _ (test_first q0 _ k o h) b.1
+  two_wait (Connect l) (Connect k) ms h a b =
+      let z : (see (Connect k ∷ ms)).tree ≡ [] = lone_c l _ (tree_first q0 _ (Connect l) refl h) a.2 in
+      let y : [] ≡ Connect k ∷ (see ms).tree = sym z ∙ tree_first _ ms (Connect k) refl refl in cc
+  two_wait (Connect l) (Report k) ms h a b =
+      let z : (see (Report k ∷ ms)).tree ≡ [] = lone_c l _ (tree_first q0 _ (Connect l) refl h) a.2 in
+      let y : [] ≡ Report k ∷ (see ms).tree = sym z ∙ tree_first _ ms (Report k) refl refl in cc
+  two_wait (Report l) (Connect k) ms h a b =
+      let z : (see (Connect k ∷ ms)).tree ≡ [] = lone_r l _ (tree_first q0 _ (Report l) refl h) a.0 a.1 in
+      let y : [] ≡ Connect k ∷ (see ms).tree = sym z ∙ tree_first _ ms (Connect k) refl refl in cc
+  two_wait (Report l) (Report k) ms h a b =
+      let z : (see (Report k ∷ ms)).tree ≡ [] = lone_r l _ (tree_first q0 _ (Report l) refl h) a.0 a.1 in
+      let y : [] ≡ Report k ∷ (see ms).tree = sym z ∙ tree_first _ ms (Report k) refl refl in cc
+  two_wait (Test l m) (Test k o) ms h a b =
+      let z : (see (Test k o ∷ ms)).tests ≡ [] = lone_t (l, m) _ (test_first q0 _ l m h) in
+      let y : [] ≡ (k, o) ∷ (see ms).tests = sym z ∙ test_first _ ms k o refl in cc
+  two_wait (Connect l) (Test k o) ms h a b =
+      no_high (connect_done l _ (tree_first q0 _ (Connect l) refl h) a.2) k o _
+      (tests_after q0 _ (Connect l) refl h ∙ test_first _ ms k o refl) b.1
+  two_wait (Report l) (Test k o) ms h a b =
+      no_high (report_done l _ (tree_first q0 _ (Report l) refl h) a.0 a.1) k o _
+      (tests_after q0 _ (Report l) refl h ∙ test_first _ ms k o refl) b.1
+  two_wait (Test k o) (Connect l) ms h b a =
+      no_high (connect_done l _ (tree_after q0 _ k o h ∙ tree_first _ ms (Connect l) refl refl) a.2) k o _ (test_first q0 _ k o h) b.1
+  two_wait (Test k o) (Report l) ms h b a =
+      no_high (report_done l _ (tree_after q0 _ k o h ∙ tree_first _ ms (Report l) refl refl) a.0 a.1) k o _ (test_first q0 _ k o h) b.1
   two_wait (Initiate l m s) y ms h a b = elim a [ ]
   two_wait ChangeRoot y ms h a b = elim a [ ]
   two_wait Accept y ms h a b = elim a [ ]

@@ -62,7 +62,8 @@ waits_reaction n p m lt h = row_computes n (Deliver p m) (requeues n.head) (Awak
 
 pub requeues_are_waits : RequeuesAreWaits
 requeues_are_waits n p m d lt up r = (
-  λ e. ⊎_elim (λ c. absurd (let z : Consumed ≡ Requeued = sym c ∙ e in cc)) (λ h. h) (fate_is n p m d up (awake_row up (reaction_inverts n (Deliver p m) d lt r))),
+  λ e. ⊎_elim (λ c. absurd (let z : Consumed ≡ Requeued = sym c ∙ e in cc)) (λ h. h)
+      (fate_is n p m d up (awake_row up (reaction_inverts n (Deliver p m) d lt r))),
   λ h. ap (λ (x : Delta). x.fate) (same_Some d (requeues n.head) (sym r ∙ waits_reaction n p m lt h)),
 )
 
@@ -74,9 +75,16 @@ module _ (g : Network) (w : Net) (v p : ℕ) (m : Message) (ms : List Message) w
   turns = record {
     queue = put_at_same w.queue v p (ms ++ m ∷ []);
     queues = λ u q ne. put_at_miss w.queue v p u q (ms ++ m ∷ []) ne;
-    nodes = λ u. ⊎_elim (λ (e : u ≡ v). subst (λ y. turned.node y ≡ w.node y) (sym e) (put_same w.node v (w.node v))) (λ ne. put_other w.node v u (w.node v) ne) (cases_eq u v);
+    nodes = λ u. ⊎_elim
+        (λ (e : u ≡ v). subst (λ y. turned.node y ≡ w.node y) (sym e) (put_same w.node v (w.node v)))
+        (λ ne. put_other w.node v u (w.node v) ne)
+        (cases_eq u v);
     sent = λ k. refl;
-    consumed = λ k. ⊎_elim (λ (e : k ≡ place_of (kind_of m)). subst (λ y. turned.consumed y ≡ w.consumed y) (sym e) (let z = put_same w.consumed (place_of (kind_of m)) (w.consumed (place_of (kind_of m)) + 0) in omega (arith, z))) (λ ne. put_other w.consumed (place_of (kind_of m)) k _ ne) (cases_eq k (place_of (kind_of m)));
+    consumed = λ k. ⊎_elim (λ (e : k ≡ place_of (kind_of m)).
+        subst (λ y. turned.consumed y ≡ w.consumed y) (sym e)
+        (let z = put_same w.consumed (place_of (kind_of m)) (w.consumed (place_of (kind_of m)) + 0) in omega (arith, z)))
+        (λ ne. put_other w.consumed (place_of (kind_of m)) k _ ne)
+        (cases_eq k (place_of (kind_of m)));
     requeued = omega arith;
   }
 
@@ -85,9 +93,17 @@ module _ (g : Network) (w : Net) (v p : ℕ) (m : Message) (ms : List Message) w
     pub turn_happens : Happens g w (events.Take v p) (taken g v p m ms (requeues (w.node v).head) w)
     turn_happens = Took v p m ms (requeues (w.node v).head) at waits (waits_reaction (w.node v) p m (omega (arith, at.port, ports_many is)) h)
 
-pub turned_by : (g : Network) (w w' : Net) (v p : ℕ) (m : Message) (ms : List Message) → At g v p → IsNodeOf g v (w.node v) → w.queue v p ≡ m ∷ ms → Waits (w.node v) p m → Happens g w (events.Take v p) w' → Turned w v p m ms w'
+pub turned_by : (g : Network) (w w' : Net) (v p : ℕ) (m : Message) (ms : List Message) →
+    At g v p →
+    IsNodeOf g v (w.node v) →
+    w.queue v p ≡ m ∷ ms →
+    Waits (w.node v) p m →
+    Happens g w (events.Take v p) w' →
+    Turned w v p m ms w'
 turned_by g w w' v p m ms at is waits h t =
     subst (Turned w v p m ms) (same_Some _ _ (sym (happens_so (turn_happens g w v p m ms at is waits h)) ∙ happens_so t)) (turns g w v p m ms)
 
 pub waiting_takes_turn : WaitingTakesTurn
-waiting_takes_turn g w w' n v p m ms at waits h t = turned_by (network_of g) w w' v p m ms at ((after_formed (network_of g) (graph_wired g n.graph) (graph_few g n.graph) n.events w n.run).nodes v) waits h t
+waiting_takes_turn g w w' n v p m ms at waits h t =
+    turned_by (network_of g) w w' v p m ms at
+    ((after_formed (network_of g) (graph_wired g n.graph) (graph_few g n.graph) n.events w n.run).nodes v) waits h t

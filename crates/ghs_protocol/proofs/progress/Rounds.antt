@@ -30,7 +30,10 @@ first_same x y xs ys e = (cc, cc)
 
 module _ (g : Shape) (graph : IsGraph g) where
   -- a wake gets on
-  pub wake_gets_on : (w : Net) (v : ℕ) (w' : Net) → IsNetOf g w → Happens (network_of g) w (events.Wake v) w' → suc (reached (network_of g) w) ≤ reached (network_of g) w'
+  pub wake_gets_on : (w : Net) (v : ℕ) (w' : Net) →
+      IsNetOf g w →
+      Happens (network_of g) w (events.Wake v) w' →
+      suc (reached (network_of g) w) ≤ reached (network_of g) w'
   wake_gets_on w _ _ n (Woke v d lo hi s r) =
       let a = woken_more (network_of g) (graph_wired g graph) w (formed g graph w n) v d lo hi s r in
       let c = ap in_all (consumed_now (network_of g) v d w) in
@@ -75,11 +78,23 @@ module _ (g : Shape) (graph : IsGraph g) where
 
   -- where nodes and the queue stay it stands there still
   stays : (v p k : ℕ) (w w' : Net) → (w'.node v ≡ w.node v) → (w'.queue v p ≡ w.queue v p) → Ready v p k w → Ready v p k w'
-  stays v p k w w' same q r = record { before = r.before; message = r.message; behind = r.behind; queue = q ∙ r.queue; few = r.few; goes = subst (λ y. Waits y p r.message → ⊥) (sym same) r.goes }
+  stays v p k w w' same q r = record {
+    before = r.before;
+    message = r.message;
+    behind = r.behind;
+    queue = q ∙ r.queue;
+    few = r.few;
+    goes = subst (λ y. Waits y p r.message → ⊥) (sym same) r.goes;
+  }
 
   module _ (v p : ℕ) (at : At (network_of g) v p) where
     -- a turn of its queue brings it nearer
-    nearer : (k : ℕ) (w w' : Net) (m : Message) (ms : List Message) → w.queue v p ≡ m ∷ ms → Waits (w.node v) p m → Turned w v p m ms w' → Ready v p (suc k) w → Ready v p k w'
+    nearer : (k : ℕ) (w w' : Net) (m : Message) (ms : List Message) →
+        w.queue v p ≡ m ∷ ms →
+        Waits (w.node v) p m →
+        Turned w v p m ms w' →
+        Ready v p (suc k) w →
+        Ready v p k w'
     nearer k w w' m ms q waits t r = go r.before r.queue r.few
       where
         go : (bs : List Message) → w.queue v p ≡ bs ++ r.message ∷ r.behind → length bs ≤ suc k → Ready v p k w'
@@ -88,7 +103,8 @@ module _ (g : Shape) (graph : IsGraph g) where
           before = bs;
           message = r.message;
           behind = r.behind ++ m ∷ [];
-          queue = t.queue ∙ ap (λ zs. zs ++ m ∷ []) (first_same m x ms (bs ++ r.message ∷ r.behind) (sym q ∙ e)).1 ∙ append_last bs r.behind r.message m;
+          queue =
+              t.queue ∙ ap (λ zs. zs ++ m ∷ []) (first_same m x ms (bs ++ r.message ∷ r.behind) (sym q ∙ e)).1 ∙ append_last bs r.behind r.message m;
           few = omega (arith, f);
           goes = subst (λ y. Waits y p r.message → ⊥) (sym (t.nodes v)) r.goes;
         }
@@ -101,16 +117,33 @@ module _ (g : Shape) (graph : IsGraph g) where
         go (x ∷ bs) e f = omega (arith, f)
 
     -- any event that happens gets on, or leaves it there; one at this very port, if it doesn't get on, brings it nearer
-    happened : (w w' : Net) (e : Event) → IsNetOf g w → Happens (network_of g) w e w' → (suc (reached (network_of g) w) ≤ reached (network_of g) w') ⊎ (((k : ℕ) → Ready v p k w → Ready v p k w') × (e ≡ Take v p → (k : ℕ) → Ready v p (suc k) w → Ready v p k w') × (e ≡ Take v p → Ready v p 0 w → ⊥))
+    happened : (w w' : Net) (e : Event) →
+        IsNetOf g w →
+        Happens (network_of g) w e w' →
+        (suc (reached (network_of g) w) ≤ reached (network_of g) w') ⊎
+        (((k : ℕ) → Ready v p k w → Ready v p k w') × (e ≡ Take v p → (k : ℕ) → Ready v p (suc k) w → Ready v p k w') ×
+        (e ≡ Take v p → Ready v p 0 w → ⊥))
     happened w w' (events.Wake u) n h = inl (wake_gets_on w u w' n h)
     happened w w' (Take u q) n h = ⊎_elim (λ z. inl z) held (real g graph w w' (Take u q) n u q refl h)
       where
-        held : Held g graph w u q → (suc (reached (network_of g) w) ≤ reached (network_of g) w') ⊎ (((k : ℕ) → Ready v p k w → Ready v p k w') × (Take u q ≡ Take v p → (k : ℕ) → Ready v p (suc k) w → Ready v p k w') × (Take u q ≡ Take v p → Ready v p 0 w → ⊥))
+        held :
+            Held g graph w u q →
+            (suc (reached (network_of g) w) ≤ reached (network_of g) w') ⊎
+            (((k : ℕ) → Ready v p k w → Ready v p k w') × (Take u q ≡ Take v p → (k : ℕ) → Ready v p (suc k) w → Ready v p k w') ×
+            (Take u q ≡ Take v p → Ready v p 0 w → ⊥))
         held z =
             inr (
-              (λ k r. ⊎_elim (λ e. weaker k (nearer k w w' z.message z.behind (here e.0 e.1 ∙ z.queue) (there e.0 e.1 z.waits) (turned_here e.0 e.1) (more k r))) (λ ne. stays v p k w w' (t.nodes v) (t.queues v p (λ y. ne y)) r) (one_place u q v p)),
-              (λ i k r. let ea : u ≡ v = cc in let eb : q ≡ p = cc in nearer k w w' z.message z.behind (here (sym ea) (sym eb) ∙ z.queue) (there (sym ea) (sym eb) z.waits) (turned_here (sym ea) (sym eb)) r),
-              (λ i r. let ea : u ≡ v = cc in let eb : q ≡ p = cc in first_goes w z.message z.behind (here (sym ea) (sym eb) ∙ z.queue) (there (sym ea) (sym eb) z.waits) r),
+              (λ k r. ⊎_elim
+                  (λ e. weaker k (nearer k w w' z.message z.behind (here e.0 e.1 ∙ z.queue) (there e.0 e.1 z.waits) (turned_here e.0 e.1) (more k r)))
+                  (λ ne. stays v p k w w' (t.nodes v) (t.queues v p (λ y. ne y)) r)
+                  (one_place u q v p)),
+              (λ i k r.
+                  let ea : u ≡ v = cc in
+                  let eb : q ≡ p = cc in
+                  nearer k w w' z.message z.behind (here (sym ea) (sym eb) ∙ z.queue) (there (sym ea) (sym eb) z.waits) (turned_here (sym ea) (sym eb)) r),
+              (λ i r.
+                  let ea : u ≡ v = cc in
+                  let eb : q ≡ p = cc in first_goes w z.message z.behind (here (sym ea) (sym eb) ∙ z.queue) (there (sym ea) (sym eb) z.waits) r),
             )
           where
             t : Turned w u q z.message z.behind w'
@@ -126,7 +159,14 @@ module _ (g : Shape) (graph : IsGraph g) where
             turned_here a b = subst₂ (λ c d. Turned w c d z.message z.behind w') (sym a) (sym b) t
 
             more : (k : ℕ) → Ready v p k w → Ready v p (suc k) w
-            more k r = record { before = r.before; message = r.message; behind = r.behind; queue = r.queue; few = (let f = r.few in omega (arith, f)); goes = r.goes }
+            more k r = record {
+              before = r.before;
+              message = r.message;
+              behind = r.behind;
+              queue = r.queue;
+              few = (let f = r.few in omega (arith, f));
+              goes = r.goes;
+            }
 
             weaker : (k : ℕ) → Ready v p k w' → Ready v p k w'
             weaker k r = r
@@ -142,17 +182,28 @@ module _ (g : Shape) (graph : IsGraph g) where
         go [] q = taken_now (can_take g graph w n v p at r.message r.behind q)
         go (x ∷ bs) q = taken_now (can_take g graph w n v p at x (bs ++ r.message ∷ r.behind) q)
 
-    step : (k : ℕ) (w : Net) (e : Event) → IsNetOf g w → Ready v p k w → (suc (reached (network_of g) w) ≤ reached (network_of g) (if_can (network_of g) w e)) ⊎ Ready v p k (if_can (network_of g) w e)
+    step : (k : ℕ) (w : Net) (e : Event) →
+        IsNetOf g w →
+        Ready v p k w →
+        (suc (reached (network_of g) w) ≤ reached (network_of g) (if_can (network_of g) w e)) ⊎ Ready v p k (if_can (network_of g) w e)
     step k w e n r = go (happens (network_of g) w e) refl
       where
-        go : (o : Option Net) → happens (network_of g) w e ≡ o → (suc (reached (network_of g) w) ≤ reached (network_of g) (unwrap_or o w)) ⊎ Ready v p k (unwrap_or o w)
+        go : (o : Option Net) →
+            happens (network_of g) w e ≡ o →
+            (suc (reached (network_of g) w) ≤ reached (network_of g) (unwrap_or o w)) ⊎ Ready v p k (unwrap_or o w)
         go None h = inr r
         go (Some x) h = ⊎_elim (λ z. inl z) (λ z. inr (z.0 k r)) (happened w x e n (happening (network_of g) w x e h))
 
-    step_nearer : (k : ℕ) (w : Net) → IsNetOf g w → Ready v p (suc k) w → (suc (reached (network_of g) w) ≤ reached (network_of g) (if_can (network_of g) w (Take v p))) ⊎ Ready v p k (if_can (network_of g) w (Take v p))
+    step_nearer : (k : ℕ) (w : Net) →
+        IsNetOf g w →
+        Ready v p (suc k) w →
+        (suc (reached (network_of g) w) ≤ reached (network_of g) (if_can (network_of g) w (Take v p))) ⊎ Ready v p k
+        (if_can (network_of g) w (Take v p))
     step_nearer k w n r = go (happens (network_of g) w (Take v p)) refl
       where
-        go : (o : Option Net) → happens (network_of g) w (Take v p) ≡ o → (suc (reached (network_of g) w) ≤ reached (network_of g) (unwrap_or o w)) ⊎ Ready v p k (unwrap_or o w)
+        go : (o : Option Net) →
+            happens (network_of g) w (Take v p) ≡ o →
+            (suc (reached (network_of g) w) ≤ reached (network_of g) (unwrap_or o w)) ⊎ Ready v p k (unwrap_or o w)
         go None h = absurd (not_none w n (suc k) r h)
         go (Some x) h = ⊎_elim (λ z. inl z) (λ z. inr (z.1 refl k r)) (happened w x (Take v p) n (happening (network_of g) w x (Take v p) h))
 
@@ -163,40 +214,71 @@ module _ (g : Shape) (graph : IsGraph g) where
         go None h = absurd (not_none w n 0 r h)
         go (Some x) h = ⊎_elim (λ z. z) (λ z. absurd (z.2 refl r)) (happened w x (Take v p) n (happening (network_of g) w x (Take v p) h))
 
-    once : (es : List Event) → Stands (Take v p) es → (w : Net) → IsNetOf g w → Ready v p 0 w → suc (reached (network_of g) w) ≤ reached (network_of g) (all_that_can (network_of g) w es)
-    once _ (Now {es = es}) w n r = let a = step_last w n r in let z = least_all es (if_can (network_of g) w (Take v p)) (net_one w (Take v p) n) in omega (arith, a, z)
+    once : (es : List Event) →
+        Stands (Take v p) es →
+        (w : Net) → IsNetOf g w →
+        Ready v p 0 w →
+        suc (reached (network_of g) w) ≤ reached (network_of g) (all_that_can (network_of g) w es)
+    once _ (Now {es = es}) w n r =
+        let a = step_last w n r in let z = least_all es (if_can (network_of g) w (Take v p)) (net_one w (Take v p) n) in omega (arith, a, z)
     once _ (Soon {x = x} {es = es} s) w n r =
         ⊎_elim (λ a. let z = least_all es (if_can (network_of g) w x) (net_one w x n) in omega (arith, a, z))
         (λ r'. let a = least_one w x n in let z = once es s (if_can (network_of g) w x) (net_one w x n) r' in omega (arith, a, z)) (step 0 w x n r)
 
-    twice : (es : List Event) → StandsTwice (Take v p) es → (w : Net) → IsNetOf g w → Ready v p 1 w → suc (reached (network_of g) w) ≤ reached (network_of g) (all_that_can (network_of g) w es)
+    twice : (es : List Event) →
+        StandsTwice (Take v p) es →
+        (w : Net) → IsNetOf g w →
+        Ready v p 1 w →
+        suc (reached (network_of g) w) ≤ reached (network_of g) (all_that_can (network_of g) w es)
     twice _ (Now_and_soon {es = es} s) w n r =
         ⊎_elim (λ a. let z = least_all es (if_can (network_of g) w (Take v p)) (net_one w (Take v p) n) in omega (arith, a, z))
-        (λ r'. let a = least_one w (Take v p) n in let z = once es s (if_can (network_of g) w (Take v p)) (net_one w (Take v p) n) r' in omega (arith, a, z)) (step_nearer 0 w n r)
+        (λ r'.
+        let a = least_one w (Take v p) n in
+        let z = once es s (if_can (network_of g) w (Take v p)) (net_one w (Take v p) n) r' in omega (arith, a, z))
+        (step_nearer 0 w n r)
     twice _ (Soon_twice {x = x} {es = es} s) w n r =
         ⊎_elim (λ a. let z = least_all es (if_can (network_of g) w x) (net_one w x n) in omega (arith, a, z))
         (λ r'. let a = least_one w x n in let z = twice es s (if_can (network_of g) w x) (net_one w x n) r' in omega (arith, a, z)) (step 1 w x n r)
 
   -- a round gets on, where a component has still to end
-  round_gets_on : (w : Net) → IsNetOf g w → (S : ℕ → Bool) → GoesOn (network_of g) w S → (es : List Event) → IsRound (network_of g) es → suc (reached (network_of g) w) ≤ reached (network_of g) (all_that_can (network_of g) w es)
-  round_gets_on w n S z es round = twice z.node z.port z.at es (round z.node z.port z.at) w n (record { before = z.before; message = z.message; behind = z.behind; queue = z.queue; few = z.few; goes = z.goes })
+  round_gets_on : (w : Net) →
+      IsNetOf g w →
+      (S : ℕ → Bool) → GoesOn (network_of g) w S →
+      (es : List Event) → IsRound (network_of g) es →
+      suc (reached (network_of g) w) ≤ reached (network_of g) (all_that_can (network_of g) w es)
+  round_gets_on w n S z es round =
+      twice z.node z.port z.at es (round z.node z.port z.at) w n
+      (record { before = z.before; message = z.message; behind = z.behind; queue = z.queue; few = z.few; goes = z.goes })
 
   module _ (b : ℕ) (within : (w : Net) → IsNetOf g w → in_all w.sent ≤ b) where
     -- whoever has got as far as can be has come to the end
     at_most : (w : Net) → IsNetOf g w → b + g.nodes ≤ reached (network_of g) w → (S : ℕ → Bool) → GoesOn (network_of g) w S → ⊥
     at_most w n le S z = let a = advance g graph w n S z in let m = most g graph b within a.next a.is in let x = a.more in omega (arith, le, m, x)
 
-    onto : (w : Net) (es : List Event) (rs : List (List Event)) → Comes (network_of g) (all_that_can (network_of g) w es) rs → Comes (network_of g) w (es ∷ rs)
+    onto : (w : Net) (es : List Event) (rs : List (List Event)) →
+        Comes (network_of g) (all_that_can (network_of g) w es) rs →
+        Comes (network_of g) w (es ∷ rs)
     onto w es rs c = record { first = es ∷ c.first; others = c.others; whole = ap (λ xs. es ∷ xs) c.whole; ended = c.ended }
 
-    comes : (k : ℕ) (rs : List (List Event)) → All (IsRound (network_of g)) rs → (w : Net) → IsNetOf g w → b + g.nodes ≤ k + reached (network_of g) w → k ≤ length rs → Comes (network_of g) w rs
-    comes zero rs rounds w n le enough = ⊎_elim (λ z. absurd (at_most w n (omega (arith, le)) (component g graph z.0) (no_run_is_stuck g w n (component g graph z.0) z.1))) (λ all. record { first = []; others = rs; whole = refl; ended = all }) (going g graph w)
+    comes : (k : ℕ) (rs : List (List Event)) →
+        All (IsRound (network_of g)) rs →
+        (w : Net) → IsNetOf g w →
+        b + g.nodes ≤ k + reached (network_of g) w →
+        k ≤ length rs →
+        Comes (network_of g) w rs
+    comes zero rs rounds w n le enough =
+        ⊎_elim
+        (λ z. absurd (at_most w n (omega (arith, le)) (component g graph z.0) (no_run_is_stuck g w n (component g graph z.0) z.1)))
+        (λ all. record { first = []; others = rs; whole = refl; ended = all })
+        (going g graph w)
     comes (suc k) [] rounds w n le enough = absurd (omega (arith, enough))
     comes (suc k) (es ∷ rs) rounds w n le enough =
         ⊎_elim
         (λ z.
         let a = round_gets_on w n (component g graph z.0) (no_run_is_stuck g w n (component g graph z.0) z.1) es (rounds 0 es (omega arith)) in
-        onto w es rs (comes k rs (λ i d lt. rounds (suc i) d (omega (arith, lt))) (all_that_can (network_of g) w es) (net_all es w n) (omega (arith, le, a)) (omega (arith, enough))))
+        onto w es rs
+        (comes k rs (λ i d lt. rounds (suc i) d (omega (arith, lt))) (all_that_can (network_of g) w es) (net_all es w n) (omega (arith, le, a))
+        (omega (arith, enough))))
         (λ all. record { first = []; others = es ∷ rs; whole = refl; ended = all }) (going g graph w)
 
 pub fair_runs_end : FairRunsEnd

@@ -12,6 +12,7 @@ use Rattle.ghs_node.specs.declared.message.Message.TheVariants.{Connect, Initiat
 use Rattle.ghs_node.specs.Words.{Best, is_branch, below, best_key}
 use Rattle.ghs_protocol.specs.Network.{Network, port_at, At, far, far_port, InNetwork}
 use Rattle.ghs_protocol.proofs.clauses.Scene.{Scene, Member, End, TreeEnd, end, tree_end, forest, Seen, far_end}
+use Rattle.ghs_protocol.proofs.clauses.Changes.{seen_beyond}
 use Rattle.ghs_protocol.proofs.clauses.Links.{Mutual}
 use Rattle.ghs_protocol.proofs.clauses.TreeMessages.{CoreFits, CoreQueue, Plain, With_report, Stage, Asking, Called, Begun, AtStage, asked, called, MovedFits, To_here, To_there, ConnectUnderWay}
 use Rattle.ghs_protocol.proofs.clauses.Tests.{AllFrom}
@@ -86,7 +87,10 @@ calls_none m p (Test l f ∷ xs) a h = elim a.0 [ ]
 calls_none m p (Accept ∷ xs) a h = elim a.0 [ ]
 calls_none m p (Reject ∷ xs) a h = elim a.0 [ ]
 
-report_waits : (m : Member) (p : ℕ) (xs : List Message) → AllOf (tree_waits m p) xs → has_report xs ≡ true → (m.head.in_branch ≡ Some p) × (m.head.phase ≡ Find)
+report_waits : (m : Member) (p : ℕ) (xs : List Message) →
+    AllOf (tree_waits m p) xs →
+    has_report xs ≡ true →
+    (m.head.in_branch ≡ Some p) × (m.head.phase ≡ Find)
 report_waits m p [] a h = cc
 report_waits m p (Connect l ∷ xs) a h = report_waits m p xs a.1 h
 report_waits m p (Report k ∷ xs) a h = a.0
@@ -110,7 +114,11 @@ first_of : (P : Message → Type 0) (x : Message) (xs ys : List Message) → ys 
 first_of P x xs ys e a = let z : AllOf P (x ∷ xs) = subst (AllOf P) e a in z.0
 
 -- the tests that wait, one of them at least, are above the reader
-above : (m : Member) (l : ℕ) (n : Option Key) (ts : List (ℕ × Key)) → 1 ≤ length ts → AllFrom l n ts → AllTests (test_waits m) ts → (m.head.phase ≢ Sleeping) × (m.head.level < l)
+above : (m : Member) (l : ℕ) (n : Option Key) (ts : List (ℕ × Key)) →
+    1 ≤ length ts →
+    AllFrom l n ts →
+    AllTests (test_waits m) ts →
+    (m.head.phase ≢ Sleeping) × (m.head.level < l)
 above m l n [] le a b = absurd (omega (arith, le))
 above m l n (t ∷ ts) le a b = let z : (m.head.phase ≢ Sleeping) × (m.head.level < t.0) = b.0 in (z.0, subst (λ x. m.head.level < x) a.0 z.1)
 
@@ -143,20 +151,38 @@ module _ (g : Network) (ground : Ground g) (w : Scene) (holds : Invariant g w) (
   root_of {v} (At_root p at up root) m = record { node = v; port = p; at = at; member = m; same = refl; up = up; root = root }
   root_of {v} (By_step p at up joined r) m =
       let z = root_of r (closed v p at m) in
-      record { node = z.node; port = z.port; at = z.at; member = z.member; same = z.same ∙ sym (holds.trees.joined_within v p at joined); up = z.up; root = z.root }
+      record {
+        node = z.node;
+        port = z.port;
+        at = z.at;
+        member = z.member;
+        same = z.same ∙ sym (holds.trees.joined_within v p at joined);
+        up = z.up;
+        root = z.root;
+      }
 
   -- two nodes of one fragment come to one level
   alike : (u v : ℕ) → (w.at u).fragment ≡ (w.at v).fragment → (w.at u).coming ≡ (w.at v).coming
   alike u v e = (holds.trees.by_fragment u v e).0
 
   -- the Connect under way on a port that is Branch here alone
-  connect : (a j : ℕ) → At g a j → (w.at a).mark j ≡ Branch → is_branch ((w.at (far g a j)).mark (far_port g a j)) ≡ false → ConnectUnderWay (tree_end (end g w a j)) (tree_end (end g w (far g a j) (far_port g a j)))
+  connect : (a j : ℕ) →
+      At g a j →
+      (w.at a).mark j ≡ Branch →
+      is_branch ((w.at (far g a j)).mark (far_port g a j)) ≡ false →
+      ConnectUnderWay (tree_end (end g w a j)) (tree_end (end g w (far g a j) (far_port g a j)))
   connect a j at here away = (holds.links a j at).tree.out_connect (record { here = here; there = mark_branch _ away })
 
   -- it waits
-  connect_waits : (a j : ℕ) → At g a j → S a ≡ true → (w.at a).mark j ≡ Branch → is_branch ((w.at (far g a j)).mark (far_port g a j)) ≡ false → tree_waits (w.at (far g a j)) (far_port g a j) (Connect (w.at a).head.level)
+  connect_waits : (a j : ℕ) →
+      At g a j →
+      S a ≡ true →
+      (w.at a).mark j ≡ Branch →
+      is_branch ((w.at (far g a j)).mark (far_port g a j)) ≡ false →
+      tree_waits (w.at (far g a j)) (far_port g a j) (Connect (w.at a).head.level)
   connect_waits a j at m here away =
-      first_of (tree_waits (w.at (far g a j)) (far_port g a j)) (Connect (w.at a).head.level) [] (w.seen (far g a j) (far_port g a j)).tree (connect a j at here away).one
+      first_of (tree_waits (w.at (far g a j)) (far_port g a j)) (Connect (w.at a).head.level) [] (seen_beyond g w a j).tree
+      (connect a j at here away).one
       (stuck (far g a j) (far_port g a j) (ground.wired.there a j at) (closed a j at m)).tree
 
   module _ (a j : ℕ) (m : S a ≡ true) (r : RootLink g (forest w) a j) where
@@ -181,7 +207,7 @@ module _ (g : Network) (ground : Ground g) (w : Scene) (holds : Invariant g w) (
     near : AllOf (tree_waits (w.at a) j) (w.seen a j).tree
     near = (stuck a j r.at m).tree
 
-    away : AllOf (tree_waits (w.at (far g a j)) (far_port g a j)) (w.seen (far g a j) (far_port g a j)).tree
+    away : AllOf (tree_waits (w.at (far g a j)) (far_port g a j)) (seen_beyond g w a j).tree
     away = (stuck (far g a j) (far_port g a j) at' m').tree
 
     two_ways : Mutual (tree_end (end g w a j)) (tree_end (end g w (far g a j) (far_port g a j)))
@@ -214,8 +240,12 @@ module _ (g : Network) (ground : Ground g) (w : Scene) (holds : Invariant g w) (
     f1 = far_end g w a j
 
     -- no Connect and no Initiate stands in a queue of the core
-    no_asked : (x : Member) (p l v : ℕ) (n : Key) (s t : Stage) → x.mark p ≡ Branch → AllOf (tree_waits x p) (asked l t ++ called v n s) → (s ≢ Called) × (t ≢ Asking)
-    no_asked x p l v n s Asking b h = absurd (let z : (x.head.phase ≢ Sleeping) × (x.head.level ≤ l) × (x.mark p ≡ Basic) = h.0 in let y : Branch ≡ Basic = sym b ∙ z.2 in cc)
+    no_asked : (x : Member) (p l v : ℕ) (n : Key) (s t : Stage) →
+        x.mark p ≡ Branch →
+        AllOf (tree_waits x p) (asked l t ++ called v n s) →
+        (s ≢ Called) × (t ≢ Asking)
+    no_asked x p l v n s Asking b h =
+        absurd (let z : (x.head.phase ≢ Sleeping) × (x.head.level ≤ l) × (x.mark p ≡ Basic) = h.0 in let y : Branch ≡ Basic = sym b ∙ z.2 in cc)
     no_asked x p l v n Called Called b h = elim h.0 [ ]
     no_asked x p l v n Called Begun b h = elim h.0 [ ]
     no_asked x p l v n Asking Called b h = ((λ z. cc), (λ z. cc))
@@ -236,11 +266,18 @@ module _ (g : Network) (ground : Ground g) (w : Scene) (holds : Invariant g w) (
       where
         one : (x y : Stage) → CoreQueue e0 f0 x y → (x ≢ Called) × (y ≢ Asking)
         one x y (Plain z) = no_asked (w.at a) j f0.level e0.coming e0.key x y here (subst (AllOf (tree_waits (w.at a) j)) z near)
-        one x y (With_report k z s p c) = (not_called (w.at a) j e0.coming e0.key x k (subst (AllOf (tree_waits (w.at a) j)) z near), begun_not_asking y s)
+        one x y (With_report k z s p c) =
+            (not_called (w.at a) j e0.coming e0.key x k (subst (AllOf (tree_waits (w.at a) j)) z near), begun_not_asking y s)
 
         two : (x y : Stage) → CoreQueue f0 e0 y x → (y ≢ Called) × (x ≢ Asking)
-        two x y (Plain z) = no_asked (w.at (far g a j)) (far_port g a j) e0.level f0.coming f0.key y x there (subst (AllOf (tree_waits (w.at (far g a j)) (far_port g a j))) z away)
-        two x y (With_report k z s p c) = (not_called (w.at (far g a j)) (far_port g a j) f0.coming f0.key y k (subst (AllOf (tree_waits (w.at (far g a j)) (far_port g a j))) z away), begun_not_asking x s)
+        two x y (Plain z) =
+            no_asked (w.at (far g a j)) (far_port g a j) e0.level f0.coming f0.key y x there
+            (subst (AllOf (tree_waits (w.at (far g a j)) (far_port g a j))) z away)
+        two x y (With_report k z s p c) = (
+          not_called (w.at (far g a j)) (far_port g a j) f0.coming f0.key y k
+              (subst (AllOf (tree_waits (w.at (far g a j)) (far_port g a j))) z away),
+          begun_not_asking x s,
+        )
 
         both_begun : (x y : Stage) → AtStage e0 x → AtStage f0 y → x ≢ Called → x ≢ Asking → y ≢ Called → y ≢ Asking → Done
         both_begun Begun Begun p c h i k l = record { named = named; top = p; top' = c }
@@ -250,13 +287,18 @@ module _ (g : Network) (ground : Ground g) (w : Scene) (holds : Invariant g w) (
         both_begun Begun Asking p c h i k l = absurd (l refl)
 
         go : CoreFits e0 f0 → Done
-        go z = let x = one z.here z.there z.queue in let y = two z.here z.there z.queue_beyond in both_begun z.here z.there z.at_here z.at_there x.0 y.1 y.0 x.1
+        go z =
+            let x = one z.here z.there z.queue in
+            let y = two z.here z.there z.queue_beyond in both_begun z.here z.there z.at_here z.at_there x.0 y.1 y.0 x.1
 
     pub begun : Done
     begun = ⊎_elim done (λ ne. absurd (moved ne)) (key_is (w.at a).coming_name (port_at g a j).key)
 
     no_reports : (v p : ℕ) → At g v p → S v ≡ true → (w.at v).head.phase ≡ Found → has_report (w.seen v p).tree ≡ false
-    no_reports v p at y f = ⊎_elim (λ h. absurd (let z = (report_waits (w.at v) p (w.seen v p).tree (stuck v p at y).tree h).1 in cc (z, f))) (λ h. h) (cases_Bool _)
+    no_reports v p at y f =
+        ⊎_elim
+        (λ h. absurd (let z = (report_waits (w.at v) p (w.seen v p).tree (stuck v p at y).tree h).1 in cc (z, f)))
+        (λ h. h) (cases_Bool _)
 
     -- the ends aren't both done
     pub not_done : (w.at a).head.phase ≡ Found → (w.at (far g a j)).head.phase ≡ Found → ⊥
@@ -266,16 +308,32 @@ module _ (g : Network) (ground : Ground g) (w : Scene) (holds : Invariant g w) (
         linked = (holds.trees.by_fragment (far g a j) a (sym (holds.trees.joined_within a j r.at r.joined))).1
 
         h : HeardBy f1.is.head.level f1.is.coming f1.is.head.phase f1.is.head.best e1.is.head.best f1.is.head.halted
-        h = at_near g ground.wired w CoreHeard lives.links.heard a j r.at (here, there, r.up, r.up_beyond, begun.named) begun.top phase (no_reports (far g a j) (far_port g a j) at' m' phase')
+        h =
+            at_near g ground.wired w CoreHeard lives.links.heard a j r.at (here, there, r.up, r.up_beyond, begun.named) begun.top phase
+            (no_reports (far g a j) (far_port g a j) at' m' phase')
 
         h' : HeardBy e1.is.head.level e1.is.coming e1.is.head.phase e1.is.head.best f1.is.head.best e1.is.head.halted
-        h' = at_far g ground.wired w CoreHeard lives.links.heard a j r.at (there, here, r.up_beyond, r.up, linked ∙ begun.named) begun.top' phase' (no_reports a j r.at m phase)
+        h' =
+            at_far g ground.wired w CoreHeard lives.links.heard a j r.at (there, here, r.up_beyond, r.up, linked ∙ begun.named) begun.top' phase'
+            (no_reports a j r.at m phase)
 
         stands : (k : Key) → best_key e1.is.head.best ≡ Some k → Stands w k a
-        stands k x = record { top = begun.top; way = r.up ∙ sym (((holds.links a j r.at).tree.core_ends (record { here = here; there = there }) begun.named).at_top begun.top); best = x }
+        stands k x = record {
+          top = begun.top;
+          way = r.up ∙ sym (((holds.links a j r.at).tree.core_ends (record { here = here; there = there }) begun.named).at_top begun.top);
+          best = x;
+        }
 
         stands' : (k : Key) → best_key f1.is.head.best ≡ Some k → Stands w k (far g a j)
-        stands' k x = record { top = begun.top'; way = r.up_beyond ∙ sym (((at_far g ground.wired w (LinkFits (NamesOf g w)) holds.links a j r.at).tree.core_ends (record { here = there; there = here }) (linked ∙ begun.named)).at_top begun.top'); best = x }
+        stands' k x = record {
+          top = begun.top';
+          way =
+              r.up_beyond ∙
+              sym (((at_far g ground.wired w (LinkFits (NamesOf g w)) holds.links a j r.at).tree.core_ends (record { here = there; there = here })
+              (linked ∙ begun.named)).at_top
+              begun.top');
+          best = x;
+        }
 
         by_keys : Even f1.is.head.best e1.is.head.best → ⊥
         by_keys (Both_missing x y) = unended (far g a j) is' m' (h.halts y x)
@@ -289,12 +347,18 @@ module _ (g : Network) (ground : Ground g) (w : Scene) (holds : Invariant g w) (
   -- everyone is at the coming level
   levels : {v : ℕ} → Reach g (forest w) v → S v ≡ true → (w.at v).head.level ≡ (w.at v).coming
   levels {v} (At_root p at up root) m = root_top v p at m up root
-  levels {v} (By_step p at up joined r) m = ⊎_elim (λ h. root_top v p at m up (Both_ways joined up h)) (λ ne. by_child ne (levels r (closed v p at m))) (probe_is (w.at (far g v p)).up (far_port g v p))
+  levels {v} (By_step p at up joined r) m =
+      ⊎_elim (λ h. root_top v p at m up (Both_ways joined up h)) (λ ne. by_child ne (levels r (closed v p at m)))
+      (probe_is (w.at (far g v p)).up (far_port g v p))
     where
-      by_child : (w.at (far g v p)).up ≢ Some (far_port g v p) → (w.at (far g v p)).head.level ≡ (w.at (far g v p)).coming → (w.at v).head.level ≡ (w.at v).coming
+      by_child :
+          (w.at (far g v p)).up ≢ Some (far_port g v p) →
+          (w.at (far g v p)).head.level ≡ (w.at (far g v p)).coming →
+          (w.at v).head.level ≡ (w.at v).coming
       by_child ne top =
           let b = lives.links.brought v p at (branch_mark _ joined.here, branch_mark _ joined.there, up, ne) in
-          sym (none_brought (w.at v) p (w.at v).head.level (w.seen v p).tree (stuck v p at m).tree) ∙ b ∙ top ∙ alike (far g v p) v (sym (holds.trees.joined_within v p at joined))
+          sym (none_brought (w.at v) p (w.at v).head.level (w.seen v p).tree (stuck v p at m).tree) ∙ b ∙ top ∙
+          alike (far g v p) v (sym (holds.trees.joined_within v p at joined))
 
   top : (v : ℕ) → InNetwork g v → S v ≡ true → (w.at v).head.phase ≢ Sleeping → (w.at v).head.level ≡ (w.at v).coming
   top v is m awake = levels (reach v is m awake) m
@@ -309,7 +373,10 @@ module _ (g : Network) (ground : Ground g) (w : Scene) (holds : Invariant g w) (
 
   -- below a search there is a lower level
   pub search_lower : (v : ℕ) → InNetwork g v → S v ≡ true → (w.at v).head.phase ≡ Find → (l : ℕ) × (l < (w.at v).coming) × At_level l
-  search_lower v is m finds = asks (someone_asks g ground.wired w holds lives.awaits S closed (λ x p at y h. calls_none (w.at x) p (w.seen x p).tree (stuck x p at y).tree h) no_report v (reach v is m (λ e. cc (e, finds))) is m finds)
+  search_lower v is m finds =
+      asks (someone_asks g ground.wired w holds lives.awaits S closed
+      (λ x p at y h. calls_none (w.at x) p (w.seen x p).tree (stuck x p at y).tree h)
+      no_report v (reach v is m (λ e. cc (e, finds))) is m finds)
     where
       no_report : (x p : ℕ) → At g x p → S x ≡ true → (w.at x).head.phase ≡ Find → (w.at x).up ≢ Some p → has_report (w.seen x p).tree ≢ true
       no_report x p at y f ne h =
@@ -334,19 +401,31 @@ module _ (g : Network) (ground : Ground g) (w : Scene) (holds : Invariant g w) (
           level : (w.at k.node).head.level ≡ (w.at v).coming
           level = ((holds.nodes k.node k.is).searching k.finds).level ∙ alike k.node v k.inside
 
-          lower : ((w.at (far g k.node k.port)).head.phase ≢ Sleeping) × ((w.at (far g k.node k.port)).head.level < (w.at k.node).head.level) → (l : ℕ) × (l < (w.at v).coming) × At_level l
+          lower :
+              ((w.at (far g k.node k.port)).head.phase ≢ Sleeping) × ((w.at (far g k.node k.port)).head.level < (w.at k.node).head.level) →
+              (l : ℕ) × (l < (w.at v).coming) × At_level l
           lower (awake, lt) =
               let is' : InNetwork g (far g k.node k.port) = record { some = at'.some; node = at'.node } in
-              let t = top (far g k.node k.port) is' m' awake in
-              ((w.at (far g k.node k.port)).coming, omega (arith, lt, t, level), record { node = far g k.node k.port; is = is'; member = m'; awake = awake; comes = refl })
+              let t = top (far g k.node k.port) is' m' awake in (
+                (w.at (far g k.node k.port)).coming,
+                omega (arith, lt, t, level),
+                record { node = far g k.node k.port; is = is'; member = m'; awake = awake; comes = refl },
+              )
 
-          go : Answering (w.seen (far g k.node k.port) (far_port g k.node k.port)).tests (w.seen k.node k.port).accepts (w.seen k.node k.port).rejects (w.seen k.node k.port).tests (w.at (far g k.node k.port)).head.probe (far_port g k.node k.port) → (l : ℕ) × (l < (w.at v).coming) × At_level l
-          go (Test_there le) = lower (above (w.at (far g k.node k.port)) (w.at k.node).head.level (w.at k.node).head.name (w.seen (far g k.node k.port) (far_port g k.node k.port)).tests le ((holds.links k.node k.port at).tests.probing k.probe).from (stuck (far g k.node k.port) (far_port g k.node k.port) at' m').tests)
+          go :
+              Answering (w.seen (far g k.node k.port) (far_port g k.node k.port)).tests (w.seen k.node k.port).accepts (w.seen k.node k.port).rejects
+              (w.seen k.node k.port).tests (w.at (far g k.node k.port)).head.probe (far_port g k.node k.port) →
+              (l : ℕ) × (l < (w.at v).coming) × At_level l
+          go (Test_there le) =
+              lower (above (w.at (far g k.node k.port)) (w.at k.node).head.level (w.at k.node).head.name
+              (w.seen (far g k.node k.port) (far_port g k.node k.port)).tests le ((holds.links k.node k.port at).tests.probing k.probe).from
+              (stuck (far g k.node k.port) (far_port g k.node k.port) at' m').tests)
           go (Accept_here le) = let z = (stuck k.node k.port at k.member).accepts in absurd (omega (arith, le, z))
           go (Reject_here le) = let z = (stuck k.node k.port at k.member).rejects in absurd (omega (arith, le, z))
           go (Crossed_here le ne) =
               let c = ((at_far g ground.wired w (LinkFits (NamesOf g w)) holds.links k.node k.port at).tests.not_probing ne).crossed le in
-              let z = above (w.at k.node) (w.at k.node).head.level (w.at k.node).head.name (w.seen k.node k.port).tests le c.from (stuck k.node k.port at k.member).tests in
+              let z = above (w.at k.node) (w.at k.node).head.level (w.at k.node).head.name (w.seen k.node k.port).tests le c.from
+              (stuck k.node k.port at k.member).tests in
               let lt = z.1 in absurd (omega (arith, lt))
 
   -- a fragment's root, where its Connect is under way
@@ -380,7 +459,10 @@ module _ (g : Network) (ground : Ground g) (w : Scene) (holds : Invariant g w) (
       by_core : (a j : ℕ) → S a ≡ true → (w.at a).fragment ≡ (w.at v).fragment → RootLink g (forest w) a j → Next v
       by_core a j y e r =
           ⊎_elim
-          (λ f. ⊎_elim (λ f'. absurd (not_done a j y r f f')) (λ f'. lower (far g a j) (sym (holds.trees.joined_within a j r.at r.joined) ∙ e) (search_lower (far g a j) (record { some = (ground.wired.there a j r.at).some; node = (ground.wired.there a j r.at).node }) (closed a j r.at y) f'))
+          (λ f. ⊎_elim (λ f'. absurd (not_done a j y r f f')) (λ f'.
+          lower (far g a j) (sym (holds.trees.joined_within a j r.at r.joined) ∙ e)
+          (search_lower (far g a j)
+          (record { some = (ground.wired.there a j r.at).some; node = (ground.wired.there a j r.at).node }) (closed a j r.at y) f'))
           (phase_of (far g a j) (far_port g a j) (ground.wired.there a j r.at) (branch_mark _ r.joined.there)))
           (λ f. lower a e (search_lower a (record { some = r.at.some; node = r.at.node }) y f))
           (phase_of a j r.at (branch_mark _ r.joined.here))
@@ -389,66 +471,96 @@ module _ (g : Network) (ground : Ground g) (w : Scene) (holds : Invariant g w) (
       by_root z = go z.root
         where
           go : Root g (forest w) z.node z.port → Next v
-          go (Goes_out x y) = Outward (record { node = z.node; port = z.port; at = z.at; member = z.member; same = z.same; here = branch_mark _ x; away = y })
+          go (Goes_out x y) =
+              Outward (record { node = z.node; port = z.port; at = z.at; member = z.member; same = z.same; here = branch_mark _ x; away = y })
           go (Both_ways x y t) = by_core z.node z.port z.member z.same (record { at = z.at; joined = x; up = y; up_beyond = t })
 
   -- The Connect under way goes over the least link that leaves the fragment.
-  module _ (least : (a j : ℕ) → At g a j → (w.at a).mark j ≡ Branch → is_branch ((w.at (far g a j)).mark (far_port g a j)) ≡ false → (u q : ℕ) → At g u q → (w.at u).fragment ≡ (w.at a).fragment → (w.at (far g u q)).fragment ≢ (w.at a).fragment → key_lt (port_at g u q).key (port_at g a j).key ≡ false) where
-    module _ (l : ℕ) (low : (x : ℕ) → x < l → At_level x → ⊥) where
-      abbrev P : Key → Type 0
-      P k = (a j : ℕ) → At g a j → S a ≡ true → (w.at a).coming ≡ l → (w.at a).mark j ≡ Branch → is_branch ((w.at (far g a j)).mark (far_port g a j)) ≡ false → (port_at g a j).key ≡ k → ⊥
+  module _
+      (least : (a j : ℕ) →
+      At g a j →
+      (w.at a).mark j ≡ Branch →
+      is_branch ((w.at (far g a j)).mark (far_port g a j)) ≡ false →
+      (u q : ℕ) → At g u q →
+      (w.at u).fragment ≡ (w.at a).fragment →
+      (w.at (far g u q)).fragment ≢ (w.at a).fragment →
+      key_lt (port_at g u q).key (port_at g a j).key ≡ false)
+    where
+      module _ (l : ℕ) (low : (x : ℕ) → x < l → At_level x → ⊥) where
+        abbrev P : Key → Type 0
+        P k =
+            (a j : ℕ) → At g a j →
+            S a ≡ true →
+            (w.at a).coming ≡ l →
+            (w.at a).mark j ≡ Branch →
+            is_branch ((w.at (far g a j)).mark (far_port g a j)) ≡ false →
+            (port_at g a j).key ≡ k →
+            ⊥
 
-      out_step : (k : Key) → ((j : Key) → key_lt j k ≡ true → P j) → P k
-      out_step k r a j at m c here away e = go (next y is' m' awake)
-        where
-          y : ℕ
-          y = far g a j
+        out_step : (k : Key) → ((j : Key) → key_lt j k ≡ true → P j) → P k
+        out_step k r a j at m c here away e = go (next y is' m' awake)
+          where
+            y : ℕ
+            y = far g a j
 
-          at' : At g (far g a j) (far_port g a j)
-          at' = ground.wired.there a j at
+            at' : At g (far g a j) (far_port g a j)
+            at' = ground.wired.there a j at
 
-          is' : InNetwork g (far g a j)
-          is' = record { some = at'.some; node = at'.node }
+            is' : InNetwork g (far g a j)
+            is' = record { some = at'.some; node = at'.node }
 
-          m' : S (far g a j) ≡ true
-          m' = closed a j at m
+            m' : S (far g a j) ≡ true
+            m' = closed a j at m
 
-          under : ConnectUnderWay (tree_end (end g w a j)) (tree_end (end g w (far g a j) (far_port g a j)))
-          under = connect a j at here away
+            under : ConnectUnderWay (tree_end (end g w a j)) (tree_end (end g w (far g a j) (far_port g a j)))
+            under = connect a j at here away
 
-          waits : tree_waits (w.at (far g a j)) (far_port g a j) (Connect (w.at a).head.level)
-          waits = connect_waits a j at m here away
+            waits : tree_waits (w.at (far g a j)) (far_port g a j) (Connect (w.at a).head.level)
+            waits = connect_waits a j at m here away
 
-          awake : (w.at (far g a j)).head.phase ≢ Sleeping
-          awake = waits.0
+            awake : (w.at (far g a j)).head.phase ≢ Sleeping
+            awake = waits.0
 
-          comes : (w.at (far g a j)).coming ≡ l
-          comes = let t = top (far g a j) is' m' awake in let x = waits.1 in let h = under.higher in let v = under.level in omega (arith, t, x, h, v, c)
+            comes : (w.at (far g a j)).coming ≡ l
+            comes =
+                let t = top (far g a j) is' m' awake in let x = waits.1 in let h = under.higher in let v = under.level in omega (arith, t, x, h, v, c)
 
-          go : Next (far g a j) → ⊥
-          go (Lower x lt z) = low x (omega (arith, lt, comes)) z
-          go (Outward o) = ⊎_elim (λ h. r (port_at g o.node o.port).key (subst (λ z. key_lt (port_at g o.node o.port).key z ≡ true) e h) o.node o.port o.at o.member (alike o.node (far g a j) o.same ∙ comes) o.here o.away refl) (λ h. same h) (cases_Bool _)
-            where
-              not_less : key_lt (port_at g a j).key (port_at g o.node o.port).key ≡ false
-              not_less = subst (λ z. key_lt z (port_at g o.node o.port).key ≡ false) (ground.wired.same_key a j at) (least o.node o.port o.at o.here o.away (far g a j) (far_port g a j) at' (sym o.same) (λ h. under.apart (sym o.same ∙ sym h ∙ ap (λ z. (w.at z).fragment) (ground.wired.back a j at))))
+            go : Next (far g a j) → ⊥
+            go (Lower x lt z) = low x (omega (arith, lt, comes)) z
+            go (Outward o) =
+                ⊎_elim (λ h.
+                r (port_at g o.node o.port).key (subst (λ z. key_lt (port_at g o.node o.port).key z ≡ true) e h) o.node o.port o.at o.member
+                (alike o.node (far g a j) o.same ∙ comes) o.here o.away refl)
+                (λ h. same h) (cases_Bool _)
+              where
+                not_less : key_lt (port_at g a j).key (port_at g o.node o.port).key ≡ false
+                not_less =
+                    subst (λ z. key_lt z (port_at g o.node o.port).key ≡ false) (ground.wired.same_key a j at)
+                    (least o.node o.port o.at o.here o.away (far g a j) (far_port g a j) at' (sym o.same)
+                    (λ h. under.apart (sym o.same ∙ sym h ∙ ap (λ z. (w.at z).fragment) (ground.wired.back a j at))))
 
-              same : key_lt (port_at g o.node o.port).key (port_at g a j).key ≡ false → ⊥
-              same h =
-                  ⊎_elim (λ t. under.apart (sym o.same ∙ ap (λ z. (w.at z).fragment) (sym t.0)))
-                  (λ t. let b : (w.at (far g a j)).mark (far_port g a j) ≡ Branch = subst₂ (λ z q. (w.at z).mark q ≡ Branch) (sym t.0) (sym t.1) o.here in let x : Basic ≡ Branch = sym waits.2 ∙ b in cc)
-                  (ground.keyed a j o.node o.port at o.at (same_lt _ _ not_less h))
+                same : key_lt (port_at g o.node o.port).key (port_at g a j).key ≡ false → ⊥
+                same h =
+                    ⊎_elim (λ t. under.apart (sym o.same ∙ ap (λ z. (w.at z).fragment) (sym t.0)))
+                    (λ t.
+                    let b : (w.at (far g a j)).mark (far_port g a j) ≡ Branch = subst₂ (λ z q. (w.at z).mark q ≡ Branch) (sym t.0) (sym t.1) o.here in
+                    let x : Basic ≡ Branch = sym waits.2 ∙ b in cc)
+                    (ground.keyed a j o.node o.port at o.at (same_lt _ _ not_less h))
 
-      none_at : At_level l → ⊥
-      none_at z = go (next z.node z.is z.member z.awake)
-        where
-          go : Next z.node → ⊥
-          go (Lower x lt y) = low x (let c = z.comes in omega (arith, lt, c)) y
-          go (Outward o) = key_descent P out_step (port_at g o.node o.port).key o.node o.port o.at o.member (alike o.node z.node o.same ∙ z.comes) o.here o.away refl
+        none_at : At_level l → ⊥
+        none_at z = go (next z.node z.is z.member z.awake)
+          where
+            go : Next z.node → ⊥
+            go (Lower x lt y) = low x (let c = z.comes in omega (arith, lt, c)) y
+            go (Outward o) =
+                key_descent P out_step (port_at g o.node o.port).key o.node o.port o.at o.member (alike o.node z.node o.same ∙ z.comes) o.here o.away
+                refl
 
-    below_level : (n l : ℕ) → l < n → At_level l → ⊥
-    below_level zero l lt z = omega (arith, lt)
-    below_level (suc n) l lt z = none_at l (λ x le y. below_level n x (omega (arith, le, lt)) y) z
+      below_level : (n l : ℕ) → l < n → At_level l → ⊥
+      below_level zero l lt z = omega (arith, lt)
+      below_level (suc n) l lt z = none_at l (λ x le y. below_level n x (omega (arith, le, lt)) y) z
 
-    -- no net is stuck
-    pub not_stuck : (v : ℕ) → InNetwork g v → S v ≡ true → (w.at v).head.phase ≢ Sleeping → ⊥
-    not_stuck v is m awake = below_level (suc (w.at v).coming) (w.at v).coming (omega arith) (record { node = v; is = is; member = m; awake = awake; comes = refl })
+      -- no net is stuck
+      pub not_stuck : (v : ℕ) → InNetwork g v → S v ≡ true → (w.at v).head.phase ≢ Sleeping → ⊥
+      not_stuck v is m awake =
+          below_level (suc (w.at v).coming) (w.at v).coming (omega arith) (record { node = v; is = is; member = m; awake = awake; comes = refl })

@@ -59,13 +59,21 @@ longer_then q r s a b = (a.0 ++ b.0, b.1 ∙ ap (λ x. x ++ b.0) a.1 ∙ append_
 
 send_longer : (g : Network) (u : ℕ) (w : Net) (s : ℕ × Message) (v p : ℕ) → Longer (w.queue v p) ((send g u w s).queue v p)
 send_longer g u w s v p = ⊎_elim
-    (λ (e : (v ≡ far g u s.0) × (p ≡ far_port g u s.0)). (s.1 ∷ [], put_at_hit w.queue (far g u s.0) (far_port g u s.0) v p (w.queue (far g u s.0) (far_port g u s.0) ++ s.1 ∷ []) e.0 e.1 ∙ sym (λ i. w.queue (e.0 i) (e.1 i) ++ s.1 ∷ [])))
-    (λ ne. longer_same (w.queue v p) ((send g u w s).queue v p) (put_at_miss w.queue (far g u s.0) (far_port g u s.0) v p (w.queue (far g u s.0) (far_port g u s.0) ++ s.1 ∷ []) ne))
+    (λ (e : (v ≡ far g u s.0) × (p ≡ far_port g u s.0)). (
+      s.1 ∷ [],
+      put_at_hit w.queue (far g u s.0) (far_port g u s.0) v p (w.queue (far g u s.0) (far_port g u s.0) ++ s.1 ∷ []) e.0 e.1 ∙
+          sym (λ i. w.queue (e.0 i) (e.1 i) ++ s.1 ∷ []),
+    ))
+    (λ ne.
+    longer_same (w.queue v p) ((send g u w s).queue v p)
+    (put_at_miss w.queue (far g u s.0) (far_port g u s.0) v p (w.queue (far g u s.0) (far_port g u s.0) ++ s.1 ∷ []) ne))
     (one_place (far g u s.0) (far_port g u s.0) v p)
 
 sends_longer : (g : Network) (u : ℕ) (ss : Outgoing) (w : Net) (v p : ℕ) → Longer (w.queue v p) ((send_all g u ss w).queue v p)
 sends_longer g u [] w v p = longer_same (w.queue v p) (w.queue v p) refl
-sends_longer g u (s ∷ ss) w v p = longer_then (w.queue v p) ((send g u w s).queue v p) ((send_all g u ss (send g u w s)).queue v p) (send_longer g u w s v p) (sends_longer g u ss (send g u w s) v p)
+sends_longer g u (s ∷ ss) w v p =
+    longer_then (w.queue v p) ((send g u w s).queue v p) ((send_all g u ss (send g u w s)).queue v p) (send_longer g u w s v p)
+    (sends_longer g u ss (send g u w s) v p)
 
 event_longer : (g : Network) (w x : Net) (e : Event) (v : ℕ) → event_node e ≢ v → Happens g w e x → (p : ℕ) → Longer (w.queue v p) (x.queue v p)
 event_longer g w _ _ v ne (Woke u d lo hi s r) p = sends_longer g u d.sends (change u d w) v p
@@ -90,7 +98,10 @@ run_stays g v (e ∷ es) w w' all h =
     let one = happening g w x e a in
     let ne = all 0 e (omega arith) in
     let rest = run_stays g v es x w' (λ i d lt. all (suc i) d (omega (arith, lt))) b in
-    record { node = rest.node ∙ event_node_stays g w x e v ne one; queue = λ p. longer_then (w.queue v p) (x.queue v p) (w'.queue v p) (event_longer g w x e v ne one p) (rest.queue p) })
+    record {
+      node = rest.node ∙ event_node_stays g w x e v ne one;
+      queue = λ p. longer_then (w.queue v p) (x.queue v p) (w'.queue v p) (event_longer g w x e v ne one p) (rest.queue p);
+    })
 
 still_waiting : (q c : List Message) → is_waiting q ≡ true → is_waiting (q ++ c) ≡ true
 still_waiting [] c e = absurd (let z = e in cc)
@@ -129,12 +140,15 @@ waits_or_none (m ∷ q) = inr refl
 module _ (g : Shape) (may : ℕ → Bool) (w : Net) (n : IsNetOf g w) (still : NothingIsReady may (network_of g) w) where
   nothing_waits : (v p : ℕ) → At (network_of g) v p → w.queue v p ≡ []
   nothing_waits v p at = ⊎_elim (λ e. e)
-      (λ h. absurd (both_ways (is_lawful (network_of g) w (events.Take v p)) (still (events.Take v p)) (and_from (is_port (network_of g) v p) (is_waiting (w.queue v p)) (is_port_of (network_of g) v p at) h)))
+      (λ h.
+      absurd (both_ways (is_lawful (network_of g) w (events.Take v p)) (still (events.Take v p))
+      (and_from (is_port (network_of g) v p) (is_waiting (w.queue v p)) (is_port_of (network_of g) v p at) h)))
       (waits_or_none (w.queue v p))
 
   wakers_awake : (v : ℕ) → 1 ≤ v → v ≤ g.nodes → may v ≡ true → (w.node v).head.phase ≢ Sleeping
   wakers_awake v lo hi can s = both_ways (is_lawful_under may (network_of g) w (events.Wake v)) (still (events.Wake v))
-      (and_from (may v) (is_lawful (network_of g) w (events.Wake v)) can (and_from (is_node (network_of g) v) (is_sleeping (w.node v).head.phase) (is_node_of (network_of g) v lo hi) (ap is_sleeping s)))
+      (and_from (may v) (is_lawful (network_of g) w (events.Wake v)) can
+      (and_from (is_node (network_of g) v) (is_sleeping (w.node v).head.phase) (is_node_of (network_of g) v lo hi) (ap is_sleeping s)))
 
 -- links lead to nodes of the graph, and join them
 module _ (g : Shape) (ok : IsGraph g) where
@@ -162,7 +176,9 @@ pub stillness_is_end : StillnessIsEnd
 stillness_is_end g may w n still = (each, λ all. has_ended g n.graph may w all each)
   where
     each : (v : ℕ) → 1 ≤ v → v ≤ g.nodes → may v ≡ true → EndFor g n.graph w v
-    each v lo hi can = end_for g n.graph w v lo hi (silent_nets_have_ended g w n (nothing_waits g may w n still) v (record { some = lo; node = hi }) (wakers_awake g may w n still v lo hi can))
+    each v lo hi can =
+        end_for g n.graph w v lo hi (silent_nets_have_ended g w n (nothing_waits g may w n still) v (record { some = lo; node = hi })
+        (wakers_awake g may w n still v lo hi can))
 
 pub real_events_are_few : RealEventsAreFew
 real_events_are_few g w es w' n h b is =
@@ -184,12 +200,17 @@ same_first : (m k : Message) (ms ks : List Message) → m ∷ ms ≡ k ∷ ks �
 same_first m k ms ks e = cc
 
 -- the reaction by which a message is taken
-taken_by : {g : Network} {w : Net} {v p : ℕ} {x : Net} → Happens g w (events.Take v p) x → (m : Message) × (ms : List Message) × (d : Delta) × (w.queue v p ≡ m ∷ ms) × (reaction (w.node v) (Deliver p m) ≡ Some d)
+taken_by : {g : Network} {w : Net} {v p : ℕ} {x : Net} →
+    Happens g w (events.Take v p) x →
+    (m : Message) × (ms : List Message) × (d : Delta) × (w.queue v p ≡ m ∷ ms) × (reaction (w.node v) (Deliver p m) ≡ Some d)
 taken_by (Took v p m ms d at q r) = (m, ms, d, q, r)
 
 module _ (g : Shape) (ok : IsGraph g) (w : Net) (n : IsNetOf g w) where
   -- of a first message it can be told whether it waits
-  told : (v p : ℕ) → At (network_of g) v p → (m : Message) (ms : List Message) → w.queue v p ≡ m ∷ ms → Waits (w.node v) p m ⊎ (Waits (w.node v) p m → ⊥)
+  told : (v p : ℕ) →
+      At (network_of g) v p →
+      (m : Message) (ms : List Message) → w.queue v p ≡ m ∷ ms →
+      Waits (w.node v) p m ⊎ (Waits (w.node v) p m → ⊥)
   told v p at m ms q = ⊎_elim (λ s. inr (λ z. waits_awake (w.node v) p m z s)) awake (asleep_or_not (w.node v).head.phase)
     where
       awake : (w.node v).head.phase ≢ Sleeping → Waits (w.node v) p m ⊎ (Waits (w.node v) p m → ⊥)
@@ -226,13 +247,25 @@ module _ (g : Shape) (ok : IsGraph g) (w : Net) (n : IsNetOf g w) where
   -- looking through the ports of a node, and through the nodes
   look : (P : ℕ → Type 0) (k : ℕ) → ((i : ℕ) → i < k → Moving ⊎ P i) → Moving ⊎ ((i : ℕ) → i < k → P i)
   look P zero test = inr (λ i lt. absurd (omega (arith, lt)))
-  look P (suc k) test = ⊎_elim inl (λ rest. ⊎_elim inl (λ last. inr (λ i lt. ⊎_elim (λ (e : i ≡ k). subst P (sym e) last) (λ ne. rest i (omega (arith, lt, ne))) (cases_eq i k))) (test k (omega arith))) (look P k (λ i lt. test i (omega (arith, lt))))
+  look P (suc k) test =
+      ⊎_elim inl (λ rest. ⊎_elim inl
+      (λ last. inr (λ i lt. ⊎_elim (λ (e : i ≡ k). subst P (sym e) last) (λ ne. rest i (omega (arith, lt, ne))) (cases_eq i k)))
+      (test k (omega arith)))
+      (look P k (λ i lt. test i (omega (arith, lt))))
 
   at_node : (v : ℕ) → 1 ≤ v → v ≤ g.nodes → Moving ⊎ ((p : ℕ) → WaitsAt v p)
-  at_node v lo hi = ⊎_elim inl (λ all. inr (λ p at. all p at.port at)) (look (λ p. WaitsAt v p) (length ((network_of g).ports v)) (λ p lt. at_port v p (record { some = lo; node = hi; port = lt })))
+  at_node v lo hi =
+      ⊎_elim inl (λ all. inr (λ p at. all p at.port at))
+      (look (λ p. WaitsAt v p) (length ((network_of g).ports v)) (λ p lt. at_port v p (record { some = lo; node = hi; port = lt })))
 
   anywhere : Moving ⊎ ((v p : ℕ) → WaitsAt v p)
-  anywhere = ⊎_elim inl (λ all. inr (λ v p at. (let i = before v at.some in let e = i.1 in subst (λ u. (p : ℕ) → WaitsAt u p) (sym e) (all i.0 (let hi = at.node in omega (arith, e, hi)))) p at)) (look (λ i. (p : ℕ) → WaitsAt (suc i) p) g.nodes (λ i lt. at_node (suc i) (omega arith) (omega (arith, lt))))
+  anywhere =
+      ⊎_elim inl (λ all.
+      inr (λ v p at.
+      (let i = before v at.some in
+      let e = i.1 in subst (λ u. (p : ℕ) → WaitsAt u p) (sym e) (all i.0 (let hi = at.node in omega (arith, e, hi))))
+      p at))
+      (look (λ i. (p : ℕ) → WaitsAt (suc i) p) g.nodes (λ i lt. at_node (suc i) (omega arith) (omega (arith, lt))))
     where
       before : (v : ℕ) → 1 ≤ v → (i : ℕ) × (v ≡ suc i)
       before zero lo = absurd (omega (arith, lo))
@@ -242,18 +275,26 @@ module _ (g : Shape) (ok : IsGraph g) (w : Net) (n : IsNetOf g w) where
   Choice = (e : Event) × (x : Net) × Happens (network_of g) w e x × IsPatientIn (network_of g) w e
 
   moves : Moving → Choice
-  moves z = let t = can_take g ok w n z.node z.port z.at z.message z.behind z.queue in (events.Take z.node z.port, t.0, t.1, Moves_on z.node z.port z.message z.behind z.queue z.moves)
+  moves z =
+      let t = can_take g ok w n z.node z.port z.at z.message z.behind z.queue in
+      (events.Take z.node z.port, t.0, t.1, Moves_on z.node z.port z.message z.behind z.queue z.moves)
 
   choice : (S : ℕ → Bool) → GoesOn (network_of g) w S → Choice
   choice S z = ⊎_elim moves (λ all. go z.before z.queue z.few all) anywhere
     where
       go : (before : List Message) → w.queue z.node z.port ≡ before ++ z.message ∷ z.behind → length before ≤ 1 → ((v p : ℕ) → WaitsAt v p) → Choice
       go [] q few all = absurd (z.goes (all z.node z.port z.at z.message z.behind q))
-      go (m ∷ []) q few all = let t = can_take g ok w n z.node z.port z.at m (z.message ∷ z.behind) q in (events.Take z.node z.port, t.0, t.1, Uncovers z.node z.port m z.message z.behind q z.goes all)
+      go (m ∷ []) q few all =
+          let t = can_take g ok w n z.node z.port z.at m (z.message ∷ z.behind) q in
+          (events.Take z.node z.port, t.0, t.1, Uncovers z.node z.port m z.message z.behind q z.goes all)
       go (m ∷ (k ∷ ks)) q few all = absurd (omega (arith, few))
 
 pub patience_goes_on : PatienceGoesOn
-patience_goes_on g w n = ⊎_elim (λ z. inl (choice g n.graph w n (component g n.graph z.0) (no_run_is_stuck g w n (component g n.graph z.0) z.1))) (λ all. inr (λ v lo hi up. all v (record { some = lo; node = hi }) up)) (going g n.graph w)
+patience_goes_on g w n =
+    ⊎_elim
+    (λ z. inl (choice g n.graph w n (component g n.graph z.0) (no_run_is_stuck g w n (component g n.graph z.0) z.1)))
+    (λ all. inr (λ v lo hi up. all v (record { some = lo; node = hi }) up))
+    (going g n.graph w)
 
 module _ (g : Shape) (ok : IsGraph g) (b : ℕ) (within : (w : Net) → IsNetOf g w → in_all w.sent ≤ b) where
   -- a first message that doesn't wait leaves an event to make
@@ -270,25 +311,46 @@ module _ (g : Shape) (ok : IsGraph g) (b : ℕ) (within : (w : Net) → IsNetOf 
     moving : Moving g ok w n → suc (length es + 2 * reached (network_of g) w) ≤ 2 * (b + g.nodes)
 
   -- an event that gets on
-  left_by_one : (w : Net) (n : IsNetOf g w) (x : Net) (m : IsNetOf g x) (e : Event) (es : List Event) → suc (reached (network_of g) w) ≤ reached (network_of g) x → Left x m es → Left w n (e ∷ es)
+  left_by_one : (w : Net) (n : IsNetOf g w) (x : Net) (m : IsNetOf g x) (e : Event) (es : List Event) →
+      suc (reached (network_of g) w) ≤ reached (network_of g) x →
+      Left x m es →
+      Left w n (e ∷ es)
   left_by_one w n x m e es gets l = record { all = let a = l.all in omega (arith, a, gets); moving = λ z. let a = l.all in omega (arith, a, gets) }
 
   -- a turn that brings up a message that doesn't wait
-  uncovered : (w : Net) (n : IsNetOf g w) (x : Net) (m : IsNetOf g x) (e : Event) (es : List Event) → reached (network_of g) w ≤ reached (network_of g) x → Moving g ok x m → (Moving g ok w n → ⊥) → Left x m es → Left w n (e ∷ es)
+  uncovered : (w : Net) (n : IsNetOf g w) (x : Net) (m : IsNetOf g x) (e : Event) (es : List Event) →
+      reached (network_of g) w ≤ reached (network_of g) x →
+      Moving g ok x m →
+      (Moving g ok w n → ⊥) →
+      Left x m es →
+      Left w n (e ∷ es)
   uncovered w n x m e es le z none l = record { all = let a = l.moving z in omega (arith, a, le); moving = λ y. absurd (none y) }
 
   patient_left : (es : List Event) (w : Net) (n : IsNetOf g w) → IsPatient (network_of g) w es → Left w n es
   patient_left [] w n p = record { all = let m = most g ok b within w n in omega (arith, m); moving = λ z. let m = not_yet w n z in omega (arith, m) }
-  patient_left (e ∷ es) w n (And_then {x = x} patient h rest) = step x e es n patient h (later g ok w x e n h) (patient_left es x (later g ok w x e n h) rest)
+  patient_left (e ∷ es) w n (And_then {x = x} patient h rest) = step x e es n patient h (later g ok w x e n h)
+      (patient_left es x (later g ok w x e n h) rest)
     where
-      step : (x : Net) (e : Event) (es : List Event) (n : IsNetOf g w) → IsPatientIn (network_of g) w e → Happens (network_of g) w e x → (m : IsNetOf g x) → Left x m es → Left w n (e ∷ es)
+      step : (x : Net) (e : Event) (es : List Event) (n : IsNetOf g w) →
+          IsPatientIn (network_of g) w e →
+          Happens (network_of g) w e x →
+          (m : IsNetOf g x) → Left x m es →
+          Left w n (e ∷ es)
       step x _ es n (A_wake v) h m l = left_by_one w n x m (events.Wake v) es (wake_gets_on g ok w v x n h) l
       step x _ es n (Moves_on v p k ks q moves) h m l = left_by_one w n x m (events.Take v p) es (gets_on g ok w x v p n k ks q moves h) l
       step x _ es n (Uncovers v p k j ks q moves all) h m l =
           let at = taken_at h in
           let t = turned_by (network_of g) w x v p k (j ∷ ks) at ((formed g ok w n).nodes v) q (all v p at k (j ∷ ks) q) h in
           uncovered w n x m (events.Take v p) es (grows g ok w x v p n h)
-          (record { node = v; port = p; at = at; message = j; behind = ks ++ k ∷ []; queue = t.queue; moves = subst (λ y. Waits y p j → ⊥) (sym (t.nodes v)) moves })
+          (record {
+            node = v;
+            port = p;
+            at = at;
+            message = j;
+            behind = ks ++ k ∷ [];
+            queue = t.queue;
+            moves = subst (λ y. Waits y p j → ⊥) (sym (t.nodes v)) moves;
+          })
           (λ z. z.moves (all z.node z.port z.at z.message z.behind z.queue)) l
 
 pub patient_runs_are_short : PatientRunsAreShort
@@ -300,7 +362,9 @@ can_wake : (g : Network) (w : Net) (v : ℕ) → 1 ≤ v → v ≤ g.count → (
 can_wake g w v lo hi s = (reacted g v (waking (w.node v)) w, Woke v (waking (w.node v)) lo hi s (rw s))
 
 woken_is_awake : (g : Network) (w : Net) (v : ℕ) (x : Net) → Happens g w (events.Wake v) x → (x.node v).head.phase ≢ Sleeping
-woken_is_awake g w _ _ (Woke v d lo hi s r) = subst (λ (y : NodeState). y.head.phase ≢ Sleeping) (sym (node_here g v d w)) (row_awake (w.node v) Wake d (reaction_inverts (w.node v) Wake d tt r))
+woken_is_awake g w _ _ (Woke v d lo hi s r) =
+    subst (λ (y : NodeState). y.head.phase ≢ Sleeping) (sym (node_here g v d w))
+    (row_awake (w.node v) Wake d (reaction_inverts (w.node v) Wake d tt r))
 
 -- all who may wake, up to k, are awake after wakes of theirs
 record Woken (may : ℕ → Bool) (g : Shape) (w : Net) (k : ℕ) : Type 0 where
@@ -323,11 +387,23 @@ takes_may may (e ∷ es) a = All-cons (MayWake may) e es (one e (a 0 e (omega ar
 module _ (g : Shape) (ok : IsGraph g) (may : ℕ → Bool) (w : Net) (n : IsNetOf g w) where
   -- who may wake up to k is woken, one after another
   woken_up_to : (k : ℕ) → k ≤ g.nodes → Woken may g w k
-  woken_up_to zero le = record { wakes = []; may_happen = All-nil (MayWake may); next = w; leads = refl; is = n; reaches = omega arith; awake = λ v lo hi can. absurd (omega (arith, lo, hi)) }
+  woken_up_to zero le = record {
+    wakes = [];
+    may_happen = All-nil (MayWake may);
+    next = w;
+    leads = refl;
+    is = n;
+    reaches = omega arith;
+    awake = λ v lo hi can. absurd (omega (arith, lo, hi));
+  }
   woken_up_to (suc k) le = next (woken_up_to k (omega (arith, le)))
     where
       next : Woken may g w k → Woken may g w (suc k)
-      next z = ⊎_elim (λ can. ⊎_elim (λ s. wake can s) (λ up. same (λ c. up)) (asleep_or_not (z.next.node (suc k)).head.phase)) (λ no. same (λ c. absurd (both_ways (may (suc k)) no c))) (cases_Bool (may (suc k)))
+      next z =
+          ⊎_elim
+          (λ can. ⊎_elim (λ s. wake can s) (λ up. same (λ c. up)) (asleep_or_not (z.next.node (suc k)).head.phase))
+          (λ no. same (λ c. absurd (both_ways (may (suc k)) no c)))
+          (cases_Bool (may (suc k)))
         where
           same : (may (suc k) ≡ true → (z.next.node (suc k)).head.phase ≢ Sleeping) → Woken may g w (suc k)
           same last = record {
@@ -337,7 +413,10 @@ module _ (g : Shape) (ok : IsGraph g) (may : ℕ → Bool) (w : Net) (n : IsNetO
             leads = z.leads;
             is = z.is;
             reaches = z.reaches;
-            awake = λ v lo hi can. ⊎_elim (λ (e : v ≡ suc k). subst (λ u. (z.next.node u).head.phase ≢ Sleeping) (sym e) (last (subst (λ u. may u ≡ true) e can))) (λ ne. z.awake v lo (omega (arith, hi, ne)) can) (cases_eq v (suc k));
+            awake = λ v lo hi can. ⊎_elim
+                (λ (e : v ≡ suc k). subst (λ u. (z.next.node u).head.phase ≢ Sleeping) (sym e) (last (subst (λ u. may u ≡ true) e can)))
+                (λ ne. z.awake v lo (omega (arith, hi, ne)) can)
+                (cases_eq v (suc k));
           }
 
           wake : may (suc k) ≡ true → (z.next.node (suc k)).head.phase ≡ Sleeping → Woken may g w (suc k)
@@ -346,12 +425,20 @@ module _ (g : Shape) (ok : IsGraph g) (may : ℕ → Bool) (w : Net) (n : IsNetO
               let lasts = event_lasts (network_of g) (graph_wired g ok) z.next t.0 (events.Wake (suc k)) (formed g ok z.next z.is) t.1 in
               record {
                 wakes = z.wakes ++ events.Wake (suc k) ∷ [];
-                may_happen = All-append (MayWake may) z.wakes (events.Wake (suc k) ∷ []) z.may_happen (All-cons (MayWake may) (events.Wake (suc k)) [] can (All-nil (MayWake may)));
+                may_happen =
+                    All-append (MayWake may) z.wakes (events.Wake (suc k) ∷ []) z.may_happen
+                    (All-cons (MayWake may) (events.Wake (suc k)) [] can (All-nil (MayWake may)));
                 next = t.0;
                 leads = run_more (network_of g) z.wakes (events.Wake (suc k)) w z.next z.leads ∙ happens_so t.1;
                 is = later g ok z.next t.0 (events.Wake (suc k)) z.is t.1;
-                reaches = let a = z.reaches in let l = length-append z.wakes (events.Wake (suc k) ∷ []) in let r = wake_gets_on g ok z.next (suc k) t.0 z.is t.1 in omega (arith, a, l, r);
-                awake = λ v lo hi c. ⊎_elim (λ (e : v ≡ suc k). subst (λ u. (t.0.node u).head.phase ≢ Sleeping) (sym e) (woken_is_awake (network_of g) z.next (suc k) t.0 t.1)) (λ ne. (lasts v).awake (z.awake v lo (omega (arith, hi, ne)) c)) (cases_eq v (suc k));
+                reaches =
+                    let a = z.reaches in
+                    let l = length-append z.wakes (events.Wake (suc k) ∷ []) in
+                    let r = wake_gets_on g ok z.next (suc k) t.0 z.is t.1 in omega (arith, a, l, r);
+                awake = λ v lo hi c. ⊎_elim
+                    (λ (e : v ≡ suc k). subst (λ u. (t.0.node u).head.phase ≢ Sleeping) (sym e) (woken_is_awake (network_of g) z.next (suc k) t.0 t.1))
+                    (λ ne. (lasts v).awake (z.awake v lo (omega (arith, hi, ne)) c))
+                    (cases_eq v (suc k));
               }
 
 pub every_run_can_end_whole : EveryRunCanEndWhole
@@ -361,7 +448,9 @@ every_run_can_end_whole g may w n all b is = record {
   few = let l = length-append z.wakes f.events in let a = f.few in let m = enough in omega (arith, l, a, m);
   end_net = f.end_net;
   run_to = run_joins (network_of g) z.wakes f.events w z.next z.leads ∙ f.run;
-  ended = has_ended g n.graph may f.end_net all (λ v lo hi can. end_for g n.graph f.end_net v lo hi (f.ended v (record { some = lo; node = hi }) ((lasts v).awake (z.awake v lo hi can))));
+  ended =
+      has_ended g n.graph may f.end_net all
+      (λ v lo hi can. end_for g n.graph f.end_net v lo hi (f.ended v (record { some = lo; node = hi }) ((lasts v).awake (z.awake v lo hi can))));
 }
   where
     within : (x : Net) → IsNetOf g x → in_all x.sent ≤ b

@@ -10,6 +10,7 @@ use Rattle.ghs_node.specs.declared.message.Message.TheVariants.{Report}
 use Rattle.ghs_protocol.specs.Network.{Network, At, far, far_port, IsWired, InNetwork}
 use Rattle.ghs_protocol.specs.Marks.{Leads, Here, Over}
 use Rattle.ghs_protocol.proofs.clauses.Scene.{Scene, End, TreeEnd, tree_end, end, forest, far_end}
+use Rattle.ghs_protocol.proofs.clauses.Changes.{seen_beyond}
 use Rattle.ghs_protocol.proofs.clauses.Links.{Joins, Child, Ups}
 use Rattle.ghs_protocol.proofs.clauses.TreeMessages.{TreeFits, Upward, Nothing_up, Report_up, CoreFits, CoreQueue, Plain, With_report, Core, MovedFits, To_here, To_there, Stage, Asking, Called, Begun, AtStage, asked, called}
 use Rattle.ghs_protocol.proofs.clauses.Fragments.{IsJoinedIn, Root, Both_ways, Reach, At_root, By_step}
@@ -44,11 +45,17 @@ half_call v n Called k h = refl
 half_call v n Asking k h = cc
 half_call v n Begun k h = cc
 
-module _ {N : ℕ → Key → Type 0} (e f : TreeEnd) (he : TreeFits N e f) (hf : TreeFits N f e) (ups : Joins e f → Ups e ⊎ Ups f) (calls : has_call e.tree ≡ true) where
+module _ {N : ℕ → Key → Type 0} (e f : TreeEnd) (he : TreeFits N e f) (hf : TreeFits N f e) (ups : Joins e f → Ups e ⊎ Ups f)
+    (calls : has_call e.tree ≡ true) where
   joined_call : Joins e f
   joined_call =
-      ⊎_elim (λ a. ⊎_elim (λ b. record { here = a; there = b }) (λ b. absurd (no_call _ _ (he.out_connect (record { here = a; there = b })).none refl calls)) (mark_is f.mark))
-      (λ a. ⊎_elim (λ b. absurd (no_call _ _ (hf.out_connect (record { here = b; there = a })).one refl calls)) (λ b. absurd (no_call _ _ (he.silent a b) refl calls)) (mark_is f.mark))
+      ⊎_elim (λ a. ⊎_elim (λ b. record { here = a; there = b })
+      (λ b. absurd (no_call _ _ (he.out_connect (record { here = a; there = b })).none refl calls))
+      (mark_is f.mark))
+      (λ a. ⊎_elim
+      (λ b. absurd (no_call _ _ (hf.out_connect (record { here = b; there = a })).one refl calls))
+      (λ b. absurd (no_call _ _ (he.silent a b) refl calls))
+      (mark_is f.mark))
       (mark_is e.mark)
 
   pub called_to : CalledTo e f
@@ -113,35 +120,52 @@ module _ (g : Network) (wired : IsWired g) (w : Scene) (holds : Invariant g w) w
   pub calls_from : (v p : ℕ) → At g v p → has_call (w.seen v p).tree ≡ true → CalledTo (tree_end (end g w v p)) (tree_end (far_end g w v p))
   calls_from v p at =
       called_to (tree_end (end g w v p)) (tree_end (far_end g w v p)) (at_near g wired w (LinkFits (NamesOf g w)) holds.links v p at).tree
-      (at_far g wired w (LinkFits (NamesOf g w)) holds.links v p at).tree (λ j. holds.trees.joined_lead v p at (record { here = ap is_branch j.here; there = ap is_branch j.there }))
+      (at_far g wired w (LinkFits (NamesOf g w)) holds.links v p at).tree
+      (λ j. holds.trees.joined_lead v p at (record { here = ap is_branch j.here; there = ap is_branch j.there }))
 
   owed : (v p : ℕ) → At g v p → FindsIfOwed (end g w v p) (end g w (far g v p) (far_port g v p))
   owed v p at ne o = owed_finds g wired v (at_in at) p at w holds ne o
 
   -- a parent that is owed is in search
-  pub parent_finds : (v p : ℕ) → At g v p → (w.at (far g v p)).up ≢ Some (far_port g v p) → owes (far_end g w v p) (end g w v p) ≡ true → (w.at (far g v p)).head.phase ≡ Find
+  pub parent_finds : (v p : ℕ) →
+      At g v p →
+      (w.at (far g v p)).up ≢ Some (far_port g v p) →
+      owes (far_end g w v p) (end g w v p) ≡ true →
+      (w.at (far g v p)).head.phase ≡ Find
   parent_finds v p at = at_far g wired w FindsIfOwed owed v p at
 
   -- an end of a root link, at the coming level
-  ease_at : (v p : ℕ) → At g v p → (w.at v).up ≡ Some p → (w.at (far g v p)).up ≡ Some (far_port g v p) → (w.at v).head.level ≡ (w.at v).coming → (w.at v).head.phase ≡ Found → AtEase g w v
+  ease_at : (v p : ℕ) →
+      At g v p →
+      (w.at v).up ≡ Some p →
+      (w.at (far g v p)).up ≡ Some (far_port g v p) →
+      (w.at v).head.level ≡ (w.at v).coming →
+      (w.at v).head.phase ≡ Found →
+      AtEase g w v
   ease_at v p at up up_beyond top found = record {
     found = λ e. cc (e, found);
     uncalled = λ q at' h. go q at' (calls_from v q at' h);
   }
     where
       go : (q : ℕ) → At g v q → CalledTo (tree_end (end g w v q)) (tree_end (far_end g w v q)) → ⊥
-      go q at' (By_parent c) = let same : q ≡ p = same_Some q p (sym c.up ∙ up) in c.down (subst (λ y. (w.at (far g v y)).up ≡ Some (far_port g v y)) (sym same) up_beyond)
+      go q at' (By_parent c) =
+          let same : q ≡ p = same_Some q p (sym c.up ∙ up) in
+          c.down (subst (λ y. (w.at (far g v y)).up ≡ Some (far_port g v y)) (sym same) up_beyond)
       go q at' (By_core c z s) = called_early (tree_end (end g w v q)) z.here s z.at_here top
 
   -- the core link at port j of u
-  module _ (u j : ℕ) (at : At g u j) (joined : IsJoinedIn g (forest w) u j) (up : (w.at u).up ≡ Some j) (up_beyond : (w.at (far g u j)).up ≡ Some (far_port g u j))
-      (top : (w.at u).head.level ≡ (w.at u).coming) (top' : (w.at (far g u j)).head.level ≡ (w.at (far g u j)).coming) (done : (w.at u).head.phase ≡ Found)
+  module _ (u j : ℕ) (at : At g u j) (joined : IsJoinedIn g (forest w) u j) (up : (w.at u).up ≡ Some j)
+      (up_beyond : (w.at (far g u j)).up ≡ Some (far_port g u j))
+      (top : (w.at u).head.level ≡ (w.at u).coming) (top' : (w.at (far g u j)).head.level ≡ (w.at (far g u j)).coming)
+      (done : (w.at u).head.phase ≡ Found)
       (done' : (w.at (far g u j)).head.phase ≡ Found) where
     here : AtEase g w u
     here = ease_at u j at up up_beyond top done
 
     there : AtEase g w (far g u j)
-    there = ease_at (far g u j) (far_port g u j) (wired.there u j at) up_beyond (subst₂ (λ a b. (w.at a).up ≡ Some b) (sym (wired.back u j at)) (sym (wired.back_port u j at)) up) top' done'
+    there =
+        ease_at (far g u j) (far_port g u j) (wired.there u j at) up_beyond
+        (subst₂ (λ a b. (w.at a).up ≡ Some b) (sym (wired.back u j at)) (sym (wired.back_port u j at)) up) top' done'
 
     at_root : (v p : ℕ) → At g v p → Root g (forest w) v p → (w.at v).fragment ≡ (w.at u).fragment → AtEase g w v
     at_root v p at' root same =
@@ -151,8 +175,14 @@ module _ (g : Network) (wired : IsWired g) (w : Scene) (holds : Invariant g w) w
     -- below a node at ease
     below_ease : (v p : ℕ) → At g v p → (w.at v).up ≡ Some p → (w.at (far g v p)).up ≢ Some (far_port g v p) → AtEase g w (far g v p) → AtEase g w v
     below_ease v p at' way down ease = record {
-      found = λ e. let s = (holds.nodes v (record { some = at'.some; node = at'.node })).searching e in ease.found (parent_finds v p at' down (by_find (has_report (w.seen (far g v p) (far_port g v p)).tree) (has_call (w.seen v p).tree) _ (rw (e, at_it (w.at v).head.in_branch p (s.in_branch ∙ sym s.up ∙ way)) refl)));
-      uncalled = λ q at'' h. let same : q ≡ p = same_Some q p (sym (way_of q (calls_from v q at'' h)) ∙ way) in ease.found (parent_finds v p at' down (by_call (has_report (w.seen (far g v p) (far_port g v p)).tree) (has_call (w.seen v p).tree) _ (subst (λ y. has_call (w.seen v y).tree ≡ true) same h)));
+      found = λ e.
+          let s = (holds.nodes v (record { some = at'.some; node = at'.node })).searching e in
+          ease.found (parent_finds v p at' down (by_find (has_report (seen_beyond g w v p).tree) (has_call (w.seen v p).tree) _
+          (rw (e, at_it (w.at v).head.in_branch p (s.in_branch ∙ sym s.up ∙ way)) refl)));
+      uncalled = λ q at'' h.
+          let same : q ≡ p = same_Some q p (sym (way_of q (calls_from v q at'' h)) ∙ way) in
+          ease.found (parent_finds v p at' down
+          (by_call (has_report (seen_beyond g w v p).tree) (has_call (w.seen v p).tree) _ (subst (λ y. has_call (w.seen v y).tree ≡ true) same h)));
     }
       where
         way_of : (q : ℕ) → CalledTo (tree_end (end g w v q)) (tree_end (far_end g w v q)) → (w.at v).up ≡ Some q
@@ -162,11 +192,14 @@ module _ (g : Network) (wired : IsWired g) (w : Scene) (holds : Invariant g w) w
     eased : {v : ℕ} → Reach g (forest w) v → (w.at v).fragment ≡ (w.at u).fragment → AtEase g w v
     eased {v} (At_root p at' way root) same = at_root v p at' root same
     eased {v} (By_step p at' way link r) same =
-        ⊎_elim (λ h. at_root v p at' (Both_ways link way h) same) (λ ne. below_ease v p at' way ne (eased r (sym (holds.trees.joined_within v p at' link) ∙ same)))
+        ⊎_elim (λ h. at_root v p at' (Both_ways link way h) same)
+        (λ ne. below_ease v p at' way ne (eased r (sym (holds.trees.joined_within v p at' link) ∙ same)))
         (probe_is (w.at (far g v p)).up (far_port g v p))
 
     awake : (v : ℕ) → InNetwork g v → (w.at v).fragment ≡ (w.at u).fragment → (w.at v).head.phase ≢ Sleeping
-    awake v is same e = let z = holds.alone v u is (record { some = at.some; node = at.node }) e (sym same) in cc (subst (λ y. (w.at y).head.phase ≡ Sleeping) (sym z) e, done)
+    awake v is same e =
+        let z = holds.alone v u is (record { some = at.some; node = at.node }) e (sym same) in
+        cc (subst (λ y. (w.at y).head.phase ≡ Sleeping) (sym z) e, done)
 
     ease : (v p : ℕ) → At g v p → (w.at v).fragment ≡ (w.at u).fragment → AtEase g w v
     ease v p at' same =
@@ -177,6 +210,8 @@ module _ (g : Network) (wired : IsWired g) (w : Scene) (holds : Invariant g w) w
     -- all of its fragment is at rest
     pub core_rests : Quiet g w (w.at u).fragment
     core_rests = record {
-      found = λ v is same. let t = has_port (holds.trees.connected v u is (record { some = at.some; node = at.node }) same) j at in at_rest _ (ease v t.0 t.1 same).found (awake v is same);
+      found = λ v is same.
+          let t = has_port (holds.trees.connected v u is (record { some = at.some; node = at.node }) same) j at in
+          at_rest _ (ease v t.0 t.1 same).found (awake v is same);
       uncalled = λ v p at' same. not_true _ ((ease v p at' same).uncalled p at');
     }

@@ -6,10 +6,10 @@ use Rattle.ghs_node.specs.declared.message.Phase.TheVariants.{Find, Found}
 use Rattle.ghs_node.specs.declared.message.Message.{Message}
 use Rattle.ghs_node.specs.declared.message.Message.TheVariants.{Report}
 use Rattle.ghs_protocol.specs.Network.{Network, port_at, At, far, far_port, IsWired, InNetwork}
-use Rattle.ghs_protocol.specs.Net.{put}
 use Rattle.ghs_protocol.specs.Ledger.{sum_below}
 use Rattle.ghs_protocol.proofs.lemmas.Sums.{sum_same, term_le}
 use Rattle.ghs_protocol.proofs.clauses.Scene.{Member, Scene, End, TreeEnd, tree_end, end, acts, far_end}
+use Rattle.ghs_protocol.proofs.clauses.Changes.{left_tree, seen_beyond, with_halt}
 use Rattle.ghs_protocol.proofs.clauses.Nodes.{NodeFits}
 use Rattle.ghs_protocol.proofs.clauses.TreeMessages.{TreeFits, Falls, Upward, Nothing_up, Report_up, Downward, Initiates, Old_report, Harmless, CoreFits, CoreQueue, Plain, With_report, Core, MovedFits, To_here, To_there, Stage, Asking, Called, Begun, AtStage, Served, asked, called}
 use Rattle.ghs_protocol.proofs.clauses.Whole.{LinkFits, Invariant, NamesOf}
@@ -28,14 +28,19 @@ pub data Back (N : Key → Type 0) (e f : TreeEnd) (k : Option Key) (ms : List M
 tail_same : (k r : Option Key) (ms xs : List Message) → Report r ∷ xs ≡ Report k ∷ ms → (r ≡ k) × (xs ≡ ms)
 tail_same k r ms xs e = (cc, cc)
 
-one_report : (v : ℕ) (n : Key) (a b : Stage) (k r : Option Key) (ms : List Message) → b ≡ Begun → Served b a → called v n a ++ Report r ∷ [] ≡ Report k ∷ ms → (a ≡ Begun) × (r ≡ k) × (ms ≡ [])
+one_report : (v : ℕ) (n : Key) (a b : Stage) (k r : Option Key) (ms : List Message) →
+    b ≡ Begun →
+    Served b a →
+    called v n a ++ Report r ∷ [] ≡ Report k ∷ ms →
+    (a ≡ Begun) × (r ≡ k) × (ms ≡ [])
 one_report v n Asking Asking k r ms s served q = absurd (let z = s in cc)
 one_report v n Asking Called k r ms s served q = absurd (let z = s in cc)
 one_report v n Asking Begun k r ms s served q = absurd served
 one_report v n Called b k r ms s served q = absurd (let z = q in cc)
 one_report v n Begun b k r ms s served q = let t = tail_same k r ms [] q in (refl, t.0, sym t.1)
 
-module _ {N : ℕ → Key → Type 0} (e f : TreeEnd) (he : TreeFits N e f) (hf : TreeFits N f e) (ups : Joins e f → Ups e ⊎ Ups f) (k : Option Key) (ms : List Message) (waits : e.tree ≡ Report k ∷ ms) (mine : e.up ≢ Some e.port → ⊥) where
+module _ {N : ℕ → Key → Type 0} (e f : TreeEnd) (he : TreeFits N e f) (hf : TreeFits N f e) (ups : Joins e f → Ups e ⊎ Ups f)
+    (k : Option Key) (ms : List Message) (waits : e.tree ≡ Report k ∷ ms) (mine : e.up ≢ Some e.port → ⊥) where
   pub back : Back (N e.fragment) e f k ms
   back = go (joint e f (joined e f he hf ups k ms waits) (ups (joined e f he hf ups k ms waits)))
     where
@@ -47,7 +52,8 @@ module _ {N : ℕ → Key → Type 0} (e f : TreeEnd) (he : TreeFits N e f) (hf 
 
       core : (c : Core e f) → (z : CoreFits e f) → CoreQueue e f z.here z.there → Back (N e.fragment) e f k ms
       core c z (Plain q) = absurd (no_plain _ _ _ z.here z.there k ms (sym q ∙ waits))
-      core c z (With_report r q s p b) = let t = one_report e.coming e.key z.here z.there k r ms s z.served_beyond (sym q ∙ waits) in Half c z t.0 s t.2 p (b ∙ t.1)
+      core c z (With_report r q s p b) =
+          let t = one_report e.coming e.key z.here z.there k r ms s z.served_beyond (sym q ∙ waits) in Half c z t.0 s t.2 p (b ∙ t.1)
 
       moved : MovedFits e f → Back (N e.fragment) e f k ms
       moved (To_here m) = absurd (let z = m.queue in cc)
@@ -76,10 +82,28 @@ module _ (e f : TreeEnd) (k : Option Key) (ms : List Message) where
 
   -- in a core where both have begun
   core_taken : (z : CoreFits e f) → z.here ≡ Begun → z.there ≡ Begun → ms ≡ [] → CoreFits (record e { tree = ms }) f
-  core_taken z a b n = record { here = z.here; there = z.there; at_here = stage_taken z.here z.at_here; at_there = z.at_there; served = z.served; served_beyond = z.served_beyond; queue = Plain (n ∙ sym (ap₂ (λ x y. asked f.level x ++ called e.coming e.key y) b a)); queue_beyond = other_queue z.queue_beyond }
+  core_taken z a b n = record {
+    here = z.here;
+    there = z.there;
+    at_here = stage_taken z.here z.at_here;
+    at_there = z.at_there;
+    served = z.served;
+    served_beyond = z.served_beyond;
+    queue = Plain (n ∙ sym (ap₂ (λ x y. asked f.level x ++ called e.coming e.key y) b a));
+    queue_beyond = other_queue z.queue_beyond;
+  }
 
   swapped : CoreFits (record e { tree = ms }) f → f.coming ≡ e.coming → f.key ≡ e.key → CoreFits f (record e { tree = ms })
-  swapped z v n = record { here = z.there; there = z.here; at_here = z.at_there; at_there = z.at_here; served = z.served_beyond; served_beyond = z.served; queue = z.queue_beyond; queue_beyond = z.queue }
+  swapped z v n = record {
+    here = z.there;
+    there = z.here;
+    at_here = z.at_there;
+    at_there = z.at_here;
+    served = z.served_beyond;
+    served_beyond = z.served;
+    queue = z.queue_beyond;
+    queue_beyond = z.queue;
+  }
 
   pub tree_taken : {N : ℕ → Key → Type 0} → Back (N e.fragment) e f k ms → TreeFits N e f → TreeFits N (record e { tree = ms }) f
   tree_taken (Old c h x) t = record {
@@ -101,7 +125,13 @@ module _ (e f : TreeEnd) (k : Option Key) (ms : List Message) where
     moved_root = λ y. absurd (y.unnamed c.named);
   }
 
-  pub tree_taken' : {N : ℕ → Key → Type 0} → f.coming_name ≡ e.coming_name → f.key ≡ e.key → f.coming ≡ e.coming → Back (N e.fragment) e f k ms → TreeFits N f e → TreeFits N f (record e { tree = ms })
+  pub tree_taken' : {N : ℕ → Key → Type 0} →
+      f.coming_name ≡ e.coming_name →
+      f.key ≡ e.key →
+      f.coming ≡ e.coming →
+      Back (N e.fragment) e f k ms →
+      TreeFits N f e →
+      TreeFits N f (record e { tree = ms })
   tree_taken' vns keys vls (Old c h x) t = record {
     out_connect = λ o. absurd (o.there c.joins.here);
     silent = λ a b. absurd (b c.joins.here);
@@ -139,7 +169,17 @@ module _ (g : Network) (wired : IsWired g) (u : ℕ) (u_is : InNetwork g u) (j :
       f i = debt (end g w u i) (far_end g w u i)
 
       count : (w.at u).head.find_count ≡ sum_below (length (g.ports u)) f
-      count = holds.counted u u_is ∙ sum_same (length (g.ports u)) _ _ (λ i lt. let at' : At g u i = record { some = u_is.some; node = u_is.node; port = lt } in ap (debt (end g w u i)) (λ k. record { port = far_port g u i; key = wired.same_key u i at' k; mark = (w.at (far g u i)).mark (far_port g u i); is = w.at (far g u i); seen = w.seen (far g u i) (far_port g u i) }))
+      count =
+          holds.counted u u_is ∙
+          sum_same (length (g.ports u)) _ _ (λ i lt.
+          let at' : At g u i = record { some = u_is.some; node = u_is.node; port = lt } in
+          ap (debt (end g w u i)) (λ k. record {
+            port = far_port g u i;
+            key = wired.same_key u i at' k;
+            mark = (w.at (far g u i)).mark (far_port g u i);
+            is = w.at (far g u i);
+            seen = seen_beyond g w u i;
+          }))
 
       term : f j ≤ sum_below (length (g.ports u)) f
       term = term_le (length (g.ports u)) j f at.port
@@ -161,26 +201,42 @@ module _ (g : Network) (wired : IsWired g) (u : ℕ) (u_is : InNetwork g u) (j :
     joins' = joined (tree_end (end g w u j)) (tree_end (far_end g w u j)) link.tree link'.tree ways k ms waits
 
     ghosts : ((w.at (far g u j)).coming ≡ (w.at u).coming) × ((w.at (far g u j)).coming_name ≡ (w.at u).coming_name)
-    ghosts = let z = holds.trees.joined_within u j at (record { here = ap is_branch joins'.here; there = ap is_branch joins'.there }) in holds.trees.by_fragment (far g u j) u (sym z)
+    ghosts =
+        let z = holds.trees.joined_within u j at (record { here = ap is_branch joins'.here; there = ap is_branch joins'.there }) in
+        holds.trees.by_fragment (far g u j) u (sym z)
 
     up : Back (NamesOf g w (w.at u).fragment) (tree_end (end g w u j)) (tree_end (far_end g w u j)) k ms → (w.at u).up ≡ Some j
     up (Old c h x) = c.up
     up (Half c z a b n p q) = c.both.up
 
     -- the Report is taken; with b the node halts
-    pub report_ends : (b : Bool) → Invariant g (acts g u (record (w.at u) { head = record (w.at u).head { halted = b } }) (put (w.seen u) j (record (w.seen u j) { tree = ms })) [] w)
+    pub report_ends : (b : Bool) → Invariant g (acts g u (with_halt (w.at u) b) (left_tree w u j ms) [] w)
     report_ends b =
         kept_one g wired u u_is x j at (record (w.seen u j) { tree = ms }) [] [] (sends_none j) w
-        (record { alike = record { fragment = refl; coming = refl; coming_name = refl; up = refl; branch = λ p. refl }; found = λ e. e; mine = λ e. sym (ap has_call waits) ∙ e; theirs = λ e. e })
+        (record {
+          alike = record { fragment = refl; coming = refl; coming_name = refl; up = refl; branch = λ p. refl };
+          found = λ e. e;
+          mine = λ e. sym (ap has_call waits) ∙ e;
+          theirs = λ e. e;
+        })
         holds node
-        (record { tree = tree_taken (tree_end (end g w u j)) (tree_end (far_end g w u j)) k ms came link.tree; search = search_trees (tree_end (end g w u j)) (tree_end (far_end g w u j)) ms (w.seen (far g u j) (far_port g u j)).tree link.search; tests = record { probing = link.tests.probing; not_probing = link.tests.not_probing } })
-        (record { tree = tree_taken' (tree_end (end g w u j)) (tree_end (far_end g w u j)) k ms ghosts.1 refl ghosts.0 came link'.tree; search = search_trees (tree_end (far_end g w u j)) (tree_end (end g w u j)) (w.seen (far g u j) (far_port g u j)).tree ms link'.search; tests = record { probing = link'.tests.probing; not_probing = link'.tests.not_probing } })
+        (record {
+          tree = tree_taken (tree_end (end g w u j)) (tree_end (far_end g w u j)) k ms came link.tree;
+          search = search_trees (tree_end (end g w u j)) (tree_end (far_end g w u j)) ms (seen_beyond g w u j).tree link.search;
+          tests = record { probing = link.tests.probing; not_probing = link.tests.not_probing };
+        })
+        (record {
+          tree = tree_taken' (tree_end (end g w u j)) (tree_end (far_end g w u j)) k ms ghosts.1 refl ghosts.0 came link'.tree;
+          search = search_trees (tree_end (far_end g w u j)) (tree_end (end g w u j)) (seen_beyond g w u j).tree ms link'.search;
+          tests = record { probing = link'.tests.probing; not_probing = link'.tests.not_probing };
+        })
         (λ i at' ne h h'. record { tree = h.tree; search = h.search; tests = h.tests })
         (λ i at' ne h h'. record { tree = h'.tree; search = h'.search; tests = h'.tests }) (λ e. e) refl
-        (sums_one g wired u u_is x j at (record (w.seen u j) { tree = ms }) [] [] (sends_none j) w holds.counted same_count (λ i ne. refl) (sym (ap (λ t. debt (far_end g w u j) (record (end g w u j) { seen = record (w.seen u j) { tree = t } })) waits)) (λ i ne. refl))
+        (sums_one g wired u u_is x j at (record (w.seen u j) { tree = ms }) [] [] (sends_none j) w holds.counted same_count (λ i ne. refl)
+        (sym (ap (λ t. debt (far_end g w u j) (record (end g w u j) { seen = record (w.seen u j) { tree = t } })) waits)) (λ i ne. refl))
       where
         x : Member
-        x = record (w.at u) { head = record (w.at u).head { halted = b } }
+        x = with_halt (w.at u) b
 
         here' : End
         here' = record { port = j; key = (port_at g u j).key; mark = (w.at u).mark j; is = x; seen = record (w.seen u j) { tree = ms } }
@@ -198,4 +254,6 @@ module _ (g : Network) (wired : IsWired g) (u : ℕ) (u_is : InNetwork g u) (j :
         }
 
         same_count : (w.at u).head.find_count + debt (end g w u j) (far_end g w u j) ≡ (w.at u).head.find_count + debt here' (far_end g w u j)
-        same_count = ap (λ z. (w.at u).head.find_count + z) (debt_up (end g w u j) (far_end g w u j) (up came) ∙ sym (debt_up here' (far_end g w u j) (up came)))
+        same_count =
+            ap (λ z. (w.at u).head.find_count + z)
+            (debt_up (end g w u j) (far_end g w u j) (up came) ∙ sym (debt_up here' (far_end g w u j) (up came)))

@@ -19,6 +19,16 @@ module _ (g : Network) (w w' : Scene) (same : forest w' ≡ forest w) where
 
   pub rests_alike : ((a : ℕ) → Quiet g w a → Quiet g w' a) → Resting g w → Resting g w'
   rests_alike quiet r = record {
-    out = λ v p at o. subst (Quiet g w') (ap (λ (s : Forest). s.fragment v) (sym same)) (quiet _ (r.out v p at (record { here = was v p o.here; there = was_not _ _ o.there })));
-    moved = λ v p at m. subst (Quiet g w') (ap (λ (s : Forest). s.fragment v) (sym same)) (quiet _ (r.moved v p at (record { both = record { joins = record { here = was v p m.both.joins.here; there = was _ _ m.both.joins.there }; up = sym (ups v) ∙ m.both.up; up_beyond = sym (ups _) ∙ m.both.up_beyond }; unnamed = λ e. m.unnamed (ap (λ (s : Forest). s.coming_name v) same ∙ e) })));
+    out = λ v p at o.
+        subst (Quiet g w') (ap (λ (s : Forest). s.fragment v) (sym same))
+        (quiet _ (r.out v p at (record { here = was v p o.here; there = was_not _ _ o.there })));
+    moved = λ v p at m.
+        subst (Quiet g w') (ap (λ (s : Forest). s.fragment v) (sym same)) (quiet _ (r.moved v p at (record {
+          both = record {
+            joins = record { here = was v p m.both.joins.here; there = was _ _ m.both.joins.there };
+            up = sym (ups v) ∙ m.both.up;
+            up_beyond = sym (ups _) ∙ m.both.up_beyond;
+          };
+          unnamed = λ e. m.unnamed (ap (λ (s : Forest). s.coming_name v) same ∙ e);
+        })));
   }

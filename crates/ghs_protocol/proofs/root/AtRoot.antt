@@ -32,7 +32,10 @@ no_stage : (l v : ℕ) (n : Key) (a b : Stage) → a ≡ Begun → b ≡ Begun �
 no_stage l v n a b x y = ap₂ (λ p q. asked l p ++ called v n q) x y
 
 -- a ChangeRoot waits first
-no_root_call : (N : Key → Type 0) (coming : ℕ) (coming_name : Option Key) (t l : ℕ) (ms xs : List Message) → xs ≡ ChangeRoot ∷ ms → Chain N coming coming_name t l xs → ⊥
+no_root_call : (N : Key → Type 0) (coming : ℕ) (coming_name : Option Key) (t l : ℕ) (ms xs : List Message) →
+    xs ≡ ChangeRoot ∷ ms →
+    Chain N coming coming_name t l xs →
+    ⊥
 no_root_call N coming coming_name t l ms xs e c = subst (Chain N coming coming_name t l) e c
 
 no_core_root : (l v : ℕ) (n : Key) (a b : Stage) (ms : List Message) → asked l b ++ called v n a ≡ ChangeRoot ∷ ms → ⊥
@@ -55,11 +58,18 @@ pub record Sent (e f : TreeEnd) (ms : List Message) : Type 0 where
   pub fits : Moving e f
   pub rest : ms ≡ []
 
-module _ {N : ℕ → Key → Type 0} (e f : TreeEnd) (he : TreeFits N e f) (hf : TreeFits N f e) (ups : Joins e f → Ups e ⊎ Ups f) (ms : List Message) (waits : e.tree ≡ ChangeRoot ∷ ms) where
+module _ {N : ℕ → Key → Type 0} (e f : TreeEnd) (he : TreeFits N e f) (hf : TreeFits N f e) (ups : Joins e f → Ups e ⊎ Ups f)
+    (ms : List Message) (waits : e.tree ≡ ChangeRoot ∷ ms) where
   joined_root : Joins e f
   joined_root =
-      ⊎_elim (λ a. ⊎_elim (λ b. record { here = a; there = b }) (λ b. absurd (let z = (he.out_connect (record { here = a; there = b })).none in cc)) (mark_is f.mark))
-      (λ a. ⊎_elim (λ b. absurd (let z = (hf.out_connect (record { here = b; there = a })).one in cc)) (λ b. absurd (let z = he.silent a b in cc)) (mark_is f.mark)) (mark_is e.mark)
+      ⊎_elim (λ a. ⊎_elim (λ b. record { here = a; there = b })
+      (λ b. absurd (let z = (he.out_connect (record { here = a; there = b })).none in cc))
+      (mark_is f.mark))
+      (λ a. ⊎_elim
+      (λ b. absurd (let z = (hf.out_connect (record { here = b; there = a })).one in cc))
+      (λ b. absurd (let z = he.silent a b in cc))
+      (mark_is f.mark))
+      (mark_is e.mark)
 
   pub root_sent : Sent e f ms
   root_sent = go (joint e f joined_root (ups joined_root))
@@ -103,7 +113,8 @@ pub record AtRoot (g : Network) (w : Scene) (u j : ℕ) (ms : List Message) : Ty
   pub left : Left (tree_end (far_end g w u j))
   pub quiet : Quiet g w (w.at u).fragment
 
-module _ (g : Network) (wired : IsWired g) (u : ℕ) (u_is : InNetwork g u) (j : ℕ) (at : At g u j) (w : Scene) (holds : Invariant g w) (ms : List Message) where
+module _ (g : Network) (wired : IsWired g) (u : ℕ) (u_is : InNetwork g u) (j : ℕ) (at : At g u j) (w : Scene) (holds : Invariant g w)
+    (ms : List Message) where
   link : LinkFits (NamesOf g w) (end g w u j) (far_end g w u j)
   link = at_near g wired w (LinkFits (NamesOf g w)) holds.links u j at
 
@@ -113,13 +124,17 @@ module _ (g : Network) (wired : IsWired g) (u : ℕ) (u_is : InNetwork g u) (j :
   inside : Joins (tree_end (end g w u j)) (tree_end (far_end g w u j)) → IsJoinedIn g (forest w) u j
   inside h = record { here = ap is_branch h.here; there = ap is_branch h.there }
 
-  ghosts : Joins (tree_end (end g w u j)) (tree_end (far_end g w u j)) → ((w.at (far g u j)).coming ≡ (w.at u).coming) × ((w.at (far g u j)).coming_name ≡ (w.at u).coming_name)
+  ghosts :
+      Joins (tree_end (end g w u j)) (tree_end (far_end g w u j)) →
+      ((w.at (far g u j)).coming ≡ (w.at u).coming) × ((w.at (far g u j)).coming_name ≡ (w.at u).coming_name)
   ghosts h = holds.trees.by_fragment (far g u j) u (sym (holds.trees.joined_within u j at (inside h)))
 
   ways : Joins (tree_end (end g w u j)) (tree_end (far_end g w u j)) → Ups (tree_end (end g w u j)) ⊎ Ups (tree_end (far_end g w u j))
   ways h = holds.trees.joined_lead u j at (inside h)
 
-  by_report : (k : Option Key) → (waits : (w.seen u j).tree ≡ Report k ∷ ms) → (w.at u).head.in_branch ≡ Some j → (rests : (w.at u).head.phase ≡ Found) →
+  by_report : (k : Option Key) →
+      (waits : (w.seen u j).tree ≡ Report k ∷ ms) → (w.at u).head.in_branch ≡ Some j →
+      (rests : (w.at u).head.phase ≡ Found) →
       below (best_key (w.at u).head.best) k ≡ true → AtRoot g w u j ms
   by_report k waits way rests better = go (back (tree_end (end g w u j)) (tree_end (far_end g w u j)) link.tree link'.tree ways k ms waits mine)
     where
@@ -159,7 +174,10 @@ module _ (g : Network) (wired : IsWired g) (u : ℕ) (u_is : InNetwork g u) (j :
 
           remains : CoreQueue (tree_end (far_end g w u j)) (tree_end (end g w u j)) z.there z.here → Left (tree_end (far_end g w u j))
           remains (Plain y) = Nothing_left (y ∙ no_stage (w.at u).head.level (w.at (far g u j)).coming (port_at g u j).key z.here z.there a b)
-          remains (With_report r y s t h) = Report_left r (y ∙ ap (λ s. called (w.at (far g u j)).coming (port_at g u j).key s ++ Report r ∷ []) b) back' (subst₂ (λ x y. below x y ≡ true) h (sym q) better)
+          remains (With_report r y s t h) =
+              Report_left r
+              (y ∙ ap (λ s. called (w.at (far g u j)).coming (port_at g u j).key s ++ Report r ∷ []) b) back'
+              (subst₂ (λ x y. below x y ≡ true) h (sym q) better)
 
   by_root : (w.seen u j).tree ≡ ChangeRoot ∷ ms → AtRoot g w u j ms
   by_root waits =

@@ -12,6 +12,7 @@ use Rattle.ghs_node.specs.declared.message.Message.TheVariants.{Connect, ChangeR
 use Rattle.ghs_protocol.specs.Network.{Network, port_at, At, far, far_port, IsWired, InNetwork}
 use Rattle.ghs_protocol.specs.Net.{put}
 use Rattle.ghs_protocol.proofs.clauses.Scene.{Seen, add, adds, Member, Scene, End, tree_end, end, acts, far_end}
+use Rattle.ghs_protocol.proofs.clauses.Changes.{left_tree, seen_beyond, pointing, sent_out}
 use Rattle.ghs_protocol.proofs.clauses.Links.{Joins}
 use Rattle.ghs_protocol.proofs.clauses.TreeMessages.{ConnectUnderWay, Reported, Upward, Nothing_up, Report_up}
 use Rattle.ghs_protocol.proofs.clauses.Nodes.{NodeFits}
@@ -36,23 +37,31 @@ use Rattle.ghs_protocol.proofs.union.Floors.{floors_met}
 use Rattle.ghs_protocol.proofs.acts.Floors.{near_fits, far_fits, RootFloors, root_floors, best_in_tree}
 use Rattle.ghs_protocol.proofs.search.CloseFloors.{FloorsOff, nodes_after, links_after, links_after_off, in_tree_after, halted_after}
 
-module _ (g : Network) (wired : IsWired g) (u : ℕ) (u_is : InNetwork g u) (j : ℕ) (at : At g u j) (w : Scene) (holds : Invariant g w) (ms : List Message) (root : AtRoot g w u j ms)
+module _ (g : Network) (wired : IsWired g) (u : ℕ) (u_is : InNetwork g u) (j : ℕ) (at : At g u j) (w : Scene) (holds : Invariant g w)
+    (ms : List Message) (root : AtRoot g w u j ms)
     (b : ℕ) (atb : At g u b) (apart : b ≢ j) (μ : ℕ → Mark) (to : μ b ≡ Branch) (same : (i : ℕ) → i ≢ b → μ i ≡ (w.at u).mark i) (m : Message)
-    (no_call : (q : Seen) → has_call q.tree ≡ false → has_call (add q m).tree ≡ false) (floor : ℕ → Floor) (floors : Floors g w floor) (rf : RootFloors g wired w holds floor floors u j at ms root) where
+    (no_call : (q : Seen) → has_call q.tree ≡ false → has_call (add q m).tree ≡ false) (floor : ℕ → Floor) (floors : Floors g w floor)
+    (rf : RootFloors g wired w holds floor floors u j at ms root) where
   abbrev x : Member
   x = record (w.at u) { up = Some b; mark = μ }
 
   abbrev own : ℕ → Seen
-  own = put (w.seen u) j (record (w.seen u j) { tree = ms })
+  own = left_tree w u j ms
 
   abbrev pub still : ℕ → End
   still i = record { port = i; key = (port_at g u i).key; mark = μ i; is = record (w.at u) { up = Some b; mark = μ }; seen = w.seen u i }
 
   abbrev pub here : End
-  here = record { port = j; key = (port_at g u j).key; mark = μ j; is = record (w.at u) { up = Some b; mark = μ }; seen = record (w.seen u j) { tree = ms } }
+  here = record {
+    port = j;
+    key = (port_at g u j).key;
+    mark = μ j;
+    is = record (w.at u) { up = Some b; mark = μ };
+    seen = record (w.seen u j) { tree = ms };
+  }
 
   abbrev pub there : End
-  there = record { port = far_port g u b; key = (port_at g u b).key; mark = (w.at (far g u b)).mark (far_port g u b); is = w.at (far g u b); seen = add (w.seen (far g u b) (far_port g u b)) m }
+  there = record (far_end g w u b) { seen = add (seen_beyond g w u b) m }
 
   found : (w.at u).head.phase ≡ Found
   found = root.quiet.found u u_is refl
@@ -120,9 +129,12 @@ module _ (g : Network) (wired : IsWired g) (u : ℕ) (u_is : InNetwork g u) (j :
       let f = far_fits g wired w holds floor floors u i at' in
       record {
         none_below = f.none_below;
-        falls = λ c. f.falls (record { joins = record { here = c.joins.here; there = sym (same i ne') ∙ c.joins.there }; up = c.up; down = was_not i ne });
+        falls = λ c.
+            f.falls (record { joins = record { here = c.joins.here; there = sym (same i ne') ∙ c.joins.there }; up = c.up; down = was_not i ne });
         covered = λ p c o. absurd (not_find p);
-        report = λ r c t. f.report r (record { joins = record { here = c.joins.here; there = sym (same i ne') ∙ c.joins.there }; up = c.up; down = was_not i ne }) t;
+        report = λ r c t.
+            f.report r
+            (record { joins = record { here = c.joins.here; there = sym (same i ne') ∙ c.joins.there }; up = c.up; down = was_not i ne }) t;
         core = λ c l p. absurd (not_way i ne' c.both.up_beyond);
         out = λ o. f.out (record { here = o.here; there = λ e. o.there (same i ne' ∙ e) });
         moved = λ z t. absurd (not_way i ne' z.both.up_beyond);
@@ -130,33 +142,57 @@ module _ (g : Network) (wired : IsWired g) (u : ℕ) (u_is : InNetwork g u) (j :
       }
 
   -- all together
-  pub reroutes_floors : FloorsAt (still b) there (floor u) (floor (far g u b)) → FloorsAt there (still b) (floor (far g u b)) (floor u) → IsTreeLink g u b →
-      Floors g (acts g u (record (w.at u) { up = Some b; mark = μ }) (put (w.seen u) j (record (w.seen u j) { tree = ms })) ((b, m) ∷ []) w) floor
+  pub reroutes_floors :
+      FloorsAt (still b) there (floor u) (floor (far g u b)) →
+      FloorsAt there (still b) (floor (far g u b)) (floor u) →
+      IsTreeLink g u b →
+      Floors g (acts g u (record (w.at u) { up = Some b; mark = μ }) (left_tree w u j ms) ((b, m) ∷ []) w) floor
   reroutes_floors sent sent' tree =
       subst (Floors g (acts g u x own ((b, m) ∷ []) w)) (put_again floor u) (record {
-        nodes = nodes_after g wired u u_is x own ((b, m) ∷ []) w floor floors (floor u) (let z = floors.nodes u u_is in record { asleep = z.asleep; search = z.search });
+        nodes =
+            nodes_after g wired u u_is x own ((b, m) ∷ []) w floor floors (floor u)
+            (let z = floors.nodes u u_is in record { asleep = z.asleep; search = z.search });
         links =
             links_after g wired u u_is x own ((b, m) ∷ []) w floor floors (floor u)
-            (by_ports_at g wired u u_is j at w holds ms root b atb apart μ to same m no_call (λ i e f. FloorsAt e f (floor u) (floor (far g u i))) near_left sent near_other)
-            (by_ports_at g wired u u_is j at w holds ms root b atb apart μ to same m no_call (λ i e f. FloorsAt f e (floor (far g u i)) (floor u)) far_left sent' far_other);
-        in_tree = in_tree_after g wired u u_is x own ((b, m) ∷ []) w floor floors (floor u) (λ p at' z. ⊎_elim (λ (e : p ≡ b). subst (IsTreeLink g u) (sym e) tree) (λ ne. floors.in_tree u p at' (sym (same p ne) ∙ z)) (cases_eq p b));
+            (by_ports_at g wired u u_is j at w holds ms root b atb apart μ to same m no_call (λ i e f. FloorsAt e f (floor u) (floor (far g u i)))
+            near_left sent near_other)
+            (by_ports_at g wired u u_is j at w holds ms root b atb apart μ to same m no_call (λ i e f. FloorsAt f e (floor (far g u i)) (floor u))
+            far_left sent' far_other);
+        in_tree =
+            in_tree_after g wired u u_is x own ((b, m) ∷ []) w floor floors (floor u)
+            (λ p at' z.
+            ⊎_elim (λ (e : p ≡ b). subst (IsTreeLink g u) (sym e) tree) (λ ne. floors.in_tree u p at' (sym (same p ne) ∙ z)) (cases_eq p b));
         halted = halted_after g wired u u_is x own ((b, m) ∷ []) w floor floors (floor u) refl refl;
       })
 
   -- all together but the link over which the root goes
-  pub reroutes_off : IsTreeLink g u b → FloorsOff g (acts g u (record (w.at u) { up = Some b; mark = μ }) (put (w.seen u) j (record (w.seen u j) { tree = ms })) ((b, m) ∷ []) w) floor u b
+  pub reroutes_off :
+      IsTreeLink g u b →
+      FloorsOff g (acts g u (record (w.at u) { up = Some b; mark = μ }) (left_tree w u j ms) ((b, m) ∷ []) w) floor u b
   reroutes_off tree =
       subst (λ f. FloorsOff g (acts g u x own ((b, m) ∷ []) w) f u b) (put_again floor u) (record {
-        nodes = nodes_after g wired u u_is x own ((b, m) ∷ []) w floor floors (floor u) (let z = floors.nodes u u_is in record { asleep = z.asleep; search = z.search });
+        nodes =
+            nodes_after g wired u u_is x own ((b, m) ∷ []) w floor floors (floor u)
+            (let z = floors.nodes u u_is in record { asleep = z.asleep; search = z.search });
         links =
             links_after_off g wired u u_is x own ((b, m) ∷ []) w floor floors (floor u) b
-            (by_ports_at g wired u u_is j at w holds ms root b atb apart μ to same m no_call (λ i e f. i ≢ b → FloorsAt e f (floor u) (floor (far g u i))) (λ ne. near_left) (λ ne. absurd (ne refl)) (λ i at' ne ne' no. near_other i at' ne ne'))
-            (by_ports_at g wired u u_is j at w holds ms root b atb apart μ to same m no_call (λ i e f. i ≢ b → FloorsAt f e (floor (far g u i)) (floor u)) (λ ne. far_left) (λ ne. absurd (ne refl)) (λ i at' ne ne' no. far_other i at' ne ne'));
-        in_tree = in_tree_after g wired u u_is x own ((b, m) ∷ []) w floor floors (floor u) (λ p at' z. ⊎_elim (λ (e : p ≡ b). subst (IsTreeLink g u) (sym e) tree) (λ ne. floors.in_tree u p at' (sym (same p ne) ∙ z)) (cases_eq p b));
+            (by_ports_at g wired u u_is j at w holds ms root b atb apart μ to same m no_call
+            (λ i e f. i ≢ b → FloorsAt e f (floor u) (floor (far g u i)))
+            (λ ne. near_left) (λ ne. absurd (ne refl))
+            (λ i at' ne ne' no. near_other i at' ne ne'))
+            (by_ports_at g wired u u_is j at w holds ms root b atb apart μ to same m no_call
+            (λ i e f. i ≢ b → FloorsAt f e (floor (far g u i)) (floor u))
+            (λ ne. far_left) (λ ne. absurd (ne refl))
+            (λ i at' ne ne' no. far_other i at' ne ne'));
+        in_tree =
+            in_tree_after g wired u u_is x own ((b, m) ∷ []) w floor floors (floor u)
+            (λ p at' z.
+            ⊎_elim (λ (e : p ≡ b). subst (IsTreeLink g u) (sym e) tree) (λ ne. floors.in_tree u p at' (sym (same p ne) ∙ z)) (cases_eq p b));
         halted = halted_after g wired u u_is x own ((b, m) ∷ []) w floor floors (floor u) refl refl;
       })
 
-module _ (g : Network) (wired : IsWired g) (u : ℕ) (u_is : InNetwork g u) (w : Scene) (holds : Invariant g w) (j : ℕ) (at : At g u j) (ms : List Message) (b : ℕ) (k : Key) (calls : SendsRoot w u j ms) (best : (w.at u).head.best ≡ Some (b, k))
+module _ (g : Network) (wired : IsWired g) (u : ℕ) (u_is : InNetwork g u) (w : Scene) (holds : Invariant g w) (j : ℕ) (at : At g u j)
+    (ms : List Message) (b : ℕ) (k : Key) (calls : SendsRoot w u j ms) (best : (w.at u).head.best ≡ Some (b, k))
     (floor : ℕ → Floor) (floors : Floors g w floor) where
   root : AtRoot g w u j ms
   root = at_root g wired u u_is j at w holds ms calls
@@ -188,7 +224,10 @@ module _ (g : Network) (wired : IsWired g) (u : ℕ) (u_is : InNetwork g u) (w :
   -- the root moves on over a Branch link
   module _ (mark : (w.at u).mark b ≡ Branch) where
     joins : Joins (tree_end (end g w u b)) (tree_end (far_end g w u b))
-    joins = ⊎_elim (λ h. record { here = mark; there = h }) (λ h. absurd (best_aside g wired u u_is j at w holds ms root b k best ((link.tree.out_connect (record { here = mark; there = h })).up))) (mark_is ((w.at (far g u b)).mark (far_port g u b)))
+    joins =
+        ⊎_elim (λ h. record { here = mark; there = h })
+        (λ h. absurd (best_aside g wired u u_is j at w holds ms root b k best ((link.tree.out_connect (record { here = mark; there = h })).up)))
+        (mark_is ((w.at (far g u b)).mark (far_port g u b)))
 
     inside_b : (w.at u).fragment ≡ (w.at (far g u b)).fragment
     inside_b = holds.trees.joined_within u b atb (record { here = ap is_branch joins.here; there = ap is_branch joins.there })
@@ -197,7 +236,9 @@ module _ (g : Network) (wired : IsWired g) (u : ℕ) (u_is : InNetwork g u) (w :
     ghosts = holds.trees.by_fragment (far g u b) u (sym inside_b)
 
     below_way : (w.at (far g u b)).up ≡ Some (far_port g u b)
-    below_way = leads_to g wired u u_is j at w holds ms root b k best b atb (record { here = ap is_branch joins.here; there = ap is_branch joins.there })
+    below_way =
+        leads_to g wired u u_is j at w holds ms root b k best b atb
+        (record { here = ap is_branch joins.here; there = ap is_branch joins.there })
 
     reported : Reported (tree_end (far_end g w u b)) (Some k)
     reported = link.search.find_reported k best root.top joins
@@ -210,13 +251,21 @@ module _ (g : Network) (wired : IsWired g) (u : ℕ) (u_is : InNetwork g u) (w :
 
     -- no ChangeRoot waits at b
     no_root : (w.seen u b).tree ≡ ChangeRoot ∷ [] → ⊥
-    no_root q = up_only (link'.tree.upward (record { joins = record { here = joins.there; there = joins.here }; up = below_way; down = best_aside g wired u u_is j at w holds ms root b k best }))
+    no_root q =
+        up_only (link'.tree.upward (record {
+          joins = record { here = joins.there; there = joins.here };
+          up = below_way;
+          down = best_aside g wired u u_is j at w holds ms root b k best;
+        }))
       where
         up_only : Upward (tree_end (far_end g w u b)) (tree_end (end g w u b)) → ⊥
         up_only (Nothing_up z) = let y = sym z ∙ q in cc
         up_only (Report_up r z h) = let y = sym z ∙ q in cc
 
-    near_best : FloorsAt (record { port = b; key = (port_at g u b).key; mark = (w.at u).mark b; is = record (w.at u) { up = Some b }; seen = w.seen u b }) (record { port = far_port g u b; key = (port_at g u b).key; mark = (w.at (far g u b)).mark (far_port g u b); is = w.at (far g u b); seen = add (w.seen (far g u b) (far_port g u b)) ChangeRoot }) (floor u) (floor (far g u b))
+    near_best :
+        FloorsAt
+        (record { port = b; key = (port_at g u b).key; mark = (w.at u).mark b; is = pointing (w.at u) b; seen = w.seen u b })
+        (record (far_end g w u b) { seen = add (seen_beyond g w u b) ChangeRoot }) (floor u) (floor (far g u b))
     near_best = record {
       none_below = λ out. absurd (out (sym inside_b));
       falls = λ c. absurd (c.down below_way);
@@ -228,7 +277,11 @@ module _ (g : Network) (wired : IsWired g) (u : ℕ) (u_is : InNetwork g u) (w :
       best = λ y e l z. (near_fits g wired w holds floor floors u b atb).best y e l joins;
     }
 
-    far_best : FloorsAt (record { port = far_port g u b; key = (port_at g u b).key; mark = (w.at (far g u b)).mark (far_port g u b); is = w.at (far g u b); seen = add (w.seen (far g u b) (far_port g u b)) ChangeRoot }) (record { port = b; key = (port_at g u b).key; mark = (w.at u).mark b; is = record (w.at u) { up = Some b }; seen = w.seen u b }) (floor (far g u b)) (floor u)
+    far_best :
+        FloorsAt
+        (record (far_end g w u b) { seen = add (seen_beyond g w u b) ChangeRoot })
+        (record { port = b; key = (port_at g u b).key; mark = (w.at u).mark b; is = pointing (w.at u) b; seen = w.seen u b })
+        (floor (far g u b)) (floor u)
     far_best = record {
       none_below = λ out. absurd (out inside_b);
       falls = λ c. absurd (c.down refl);
@@ -240,9 +293,11 @@ module _ (g : Network) (wired : IsWired g) (u : ℕ) (u_is : InNetwork g u) (w :
       best = λ y e l z. (far_fits g wired w holds floor floors u b atb).best y e l (record { here = joins.there; there = joins.here });
     }
 
-    pub passes_floors : Floors g (acts g u (record (w.at u) { up = Some b }) (put (w.seen u) j (record (w.seen u j) { tree = ms })) ((b, ChangeRoot) ∷ []) w) floor
+    pub passes_floors : Floors g (acts g u (pointing (w.at u) b) (left_tree w u j ms) ((b, ChangeRoot) ∷ []) w) floor
     passes_floors =
-        reroutes_floors g wired u u_is j at w holds ms root b atb apart (w.at u).mark mark (λ i ne. refl) ChangeRoot (λ q n. call_append ChangeRoot refl q.tree ∙ n) floor floors rf
+        reroutes_floors g wired u u_is j at w holds ms root b atb apart (w.at u).mark mark (λ i ne. refl) ChangeRoot
+        (λ q n. call_append ChangeRoot refl q.tree ∙ n)
+        floor floors rf
         near_best far_best (floors.in_tree u b atb mark)
 
   -- the root goes out, to a fragment that hasn't connected to this one
@@ -256,7 +311,10 @@ module _ (g : Network) (wired : IsWired g) (u : ℕ) (u_is : InNetwork g u) (w :
     μ : ℕ → Mark
     μ = put (w.at u).mark b Branch
 
-    near_out : FloorsAt (record { port = b; key = (port_at g u b).key; mark = put (w.at u).mark b Branch b; is = record (w.at u) { up = Some b; mark = put (w.at u).mark b Branch }; seen = w.seen u b }) (record { port = far_port g u b; key = (port_at g u b).key; mark = (w.at (far g u b)).mark (far_port g u b); is = w.at (far g u b); seen = add (w.seen (far g u b) (far_port g u b)) (Connect (w.at u).head.level) }) (floor u) (floor (far g u b))
+    near_out :
+        FloorsAt
+        (record { port = b; key = (port_at g u b).key; mark = put (w.at u).mark b Branch b; is = sent_out (w.at u) b; seen = w.seen u b })
+        (record (far_end g w u b) { seen = add (seen_beyond g w u b) (Connect (w.at u).head.level) }) (floor u) (floor (far g u b))
     near_out = record {
       none_below = (near_fits g wired w holds floor floors u b atb).none_below;
       falls = λ c. absurd (mark' c.joins.there);
@@ -268,7 +326,11 @@ module _ (g : Network) (wired : IsWired g) (u : ℕ) (u_is : InNetwork g u) (w :
       best = λ y e h z. absurd (mark' z.there);
     }
 
-    far_out : FloorsAt (record { port = far_port g u b; key = (port_at g u b).key; mark = (w.at (far g u b)).mark (far_port g u b); is = w.at (far g u b); seen = add (w.seen (far g u b) (far_port g u b)) (Connect (w.at u).head.level) }) (record { port = b; key = (port_at g u b).key; mark = put (w.at u).mark b Branch b; is = record (w.at u) { up = Some b; mark = put (w.at u).mark b Branch }; seen = w.seen u b }) (floor (far g u b)) (floor u)
+    far_out :
+        FloorsAt
+        (record (far_end g w u b) { seen = add (seen_beyond g w u b) (Connect (w.at u).head.level) })
+        (record { port = b; key = (port_at g u b).key; mark = put (w.at u).mark b Branch b; is = sent_out (w.at u) b; seen = w.seen u b })
+        (floor (far g u b)) (floor u)
     far_out = record {
       none_below = (far_fits g wired w holds floor floors u b atb).none_below;
       falls = λ c. absurd (mark' c.joins.here);
@@ -280,16 +342,17 @@ module _ (g : Network) (wired : IsWired g) (u : ℕ) (u_is : InNetwork g u) (w :
       best = λ y e h z. absurd (mark' z.here);
     }
 
-    pub connects_floors : Floors g (acts g u (record (w.at u) { up = Some b; mark = put (w.at u).mark b Branch }) (put (w.seen u) j (record (w.seen u j) { tree = ms })) ((b, Connect (w.at u).head.level) ∷ []) w) floor
+    pub connects_floors : Floors g (acts g u (sent_out (w.at u) b) (left_tree w u j ms) ((b, Connect (w.at u).head.level) ∷ []) w) floor
     connects_floors =
-        reroutes_floors g wired u u_is j at w holds ms root b atb apart (put (w.at u).mark b Branch) (put_same (w.at u).mark b Branch) (λ i ne. put_other (w.at u).mark b i Branch ne)
+        reroutes_floors g wired u u_is j at w holds ms root b atb apart (put (w.at u).mark b Branch) (put_same (w.at u).mark b Branch)
+        (λ i ne. put_other (w.at u).mark b i Branch ne)
         (Connect (w.at u).head.level) (λ q n. call_append (Connect (w.at u).head.level) refl q.tree ∙ n) floor floors rf near_out far_out
         (best_in_tree g wired w holds floor floors u j at ms root calls b k atb best mark)
 
   -- the root goes out, and meets the Connect of the far end
   module _ (ground : Ground g) (mark : (w.at u).mark b ≢ Branch) (mark' : (w.at (far g u b)).mark (far_port g u b) ≡ Branch) where
     abbrev mid : Scene
-    mid = acts g u (record (w.at u) { up = Some b; mark = put (w.at u).mark b Branch }) (put (w.seen u) j (record (w.seen u j) { tree = ms })) ((b, Connect (w.at u).head.level) ∷ []) w
+    mid = acts g u (sent_out (w.at u) b) (left_tree w u j ms) ((b, Connect (w.at u).head.level) ∷ []) w
 
     leads : LeadsOut (tree_end (end g w u b)) (tree_end (far_end g w u b)) k
     leads = link.search.find_leads k best root.top mark
@@ -297,22 +360,25 @@ module _ (g : Network) (wired : IsWired g) (u : ℕ) (u_is : InNetwork g u) (w :
     came : ConnectUnderWay (tree_end (far_end g w u b)) (tree_end (end g w u b))
     came = link'.tree.out_connect (record { here = mark'; there = mark })
 
-    here_is : mid.at u ≡ record (w.at u) { up = Some b; mark = put (w.at u).mark b Branch }
-    here_is = put_same w.at u (record (w.at u) { up = Some b; mark = put (w.at u).mark b Branch })
+    here_is : mid.at u ≡ sent_out (w.at u) b
+    here_is = put_same w.at u (sent_out (w.at u) b)
 
     else_is : (t : ℕ) → t ≢ u → mid.at t ≡ w.at t
-    else_is t ne = put_other w.at u t (record (w.at u) { up = Some b; mark = put (w.at u).mark b Branch }) ne
+    else_is t ne = put_other w.at u t (sent_out (w.at u) b) ne
 
     far_is : mid.at (far g u b) ≡ w.at (far g u b)
     far_is = else_is (far g u b) (wired.apart u b atb)
 
     level_is : (t : ℕ) → (mid.at t).head.level ≡ (w.at t).head.level
-    level_is t = put_alike (λ (m : Member). m.head.level) w.at u (record (w.at u) { up = Some b; mark = put (w.at u).mark b Branch }) refl t
+    level_is t = put_alike (λ (m : Member). m.head.level) w.at u (sent_out (w.at u) b) refl t
 
     fragment_is : (t : ℕ) → (mid.at t).fragment ≡ (w.at t).fragment
-    fragment_is t = put_alike (λ (m : Member). m.fragment) w.at u (record (w.at u) { up = Some b; mark = put (w.at u).mark b Branch }) refl t
+    fragment_is t = put_alike (λ (m : Member). m.fragment) w.at u (sent_out (w.at u) b) refl t
 
-    low : (t : ℕ) → InNetwork g t → ((mid.at t).fragment ≡ (mid.at (far g u b)).fragment) ⊎ ((mid.at t).fragment ≡ (mid.at u).fragment) → (mid.at t).head.level < suc (mid.at u).head.level
+    low : (t : ℕ) →
+        InNetwork g t →
+        ((mid.at t).fragment ≡ (mid.at (far g u b)).fragment) ⊎ ((mid.at t).fragment ≡ (mid.at u).fragment) →
+        (mid.at t).head.level < suc (mid.at u).head.level
     low t it i =
         let a = level_is t in
         let c = level_is u in
@@ -321,28 +387,42 @@ module _ (g : Network) (wired : IsWired g) (u : ℕ) (u_is : InNetwork g u) (w :
         let f = came.level in
         let h = came.higher in
         ⊎_elim
-        (λ s. let z = (holds.trees.by_fragment t (far g u b) (sym (fragment_is t) ∙ s ∙ fragment_is (far g u b))).0 in omega (arith, a, c, d, e, f, h, z))
+        (λ s.
+        let z = (holds.trees.by_fragment t (far g u b) (sym (fragment_is t) ∙ s ∙ fragment_is (far g u b))).0 in
+        omega (arith, a, c, d, e, f, h, z))
         (λ s. let z = (holds.trees.by_fragment t u (sym (fragment_is t) ∙ s ∙ fragment_is u)).0 in omega (arith, a, c, d, e, z)) i
 
     off : FloorsOff g mid floor u b
     off =
-        reroutes_off g wired u u_is j at w holds ms root b atb apart (put (w.at u).mark b Branch) (put_same (w.at u).mark b Branch) (λ i ne. put_other (w.at u).mark b i Branch ne)
-        (Connect (w.at u).head.level) (λ q n. call_append (Connect (w.at u).head.level) refl q.tree ∙ n) floor floors rf (best_in_tree g wired w holds floor floors u j at ms root calls b k atb best mark)
+        reroutes_off g wired u u_is j at w holds ms root b atb apart (put (w.at u).mark b Branch) (put_same (w.at u).mark b Branch)
+        (λ i ne. put_other (w.at u).mark b i Branch ne)
+        (Connect (w.at u).head.level) (λ q n. call_append (Connect (w.at u).head.level) refl q.tree ∙ n) floor floors rf
+        (best_in_tree g wired w holds floor floors u j at ms root calls b k atb best mark)
 
     own_seen : mid.seen u b ≡ w.seen u b
-    own_seen = here_seen g wired u u_is.some u_is.node (record (w.at u) { up = Some b; mark = put (w.at u).mark b Branch }) (put (w.seen u) j (record (w.seen u j) { tree = ms })) ((b, Connect (w.at u).head.level) ∷ []) w b ∙ put_other (w.seen u) j b (record (w.seen u j) { tree = ms }) apart
+    own_seen =
+        here_seen g wired u u_is.some u_is.node (sent_out (w.at u) b) (left_tree w u j ms) ((b, Connect (w.at u).head.level) ∷ []) w b ∙
+        put_other (w.seen u) j b (record (w.seen u j) { tree = ms }) apart
 
-    their_seen : (mid.seen (far g u b) (far_port g u b)).tree ≡ (w.seen (far g u b) (far_port g u b)).tree ++ Connect (w.at u).head.level ∷ []
+    their_seen : (seen_beyond g mid u b).tree ≡ (seen_beyond g w u b).tree ++ Connect (w.at u).head.level ∷ []
     their_seen =
-        ap (λ (q : Seen). q.tree) (far_seen g wired u u_is.some u_is.node (record (w.at u) { up = Some b; mark = put (w.at u).mark b Branch }) (put (w.seen u) j (record (w.seen u j) { tree = ms })) ((b, Connect (w.at u).head.level) ∷ []) w b atb) ∙
-        ap (λ ss. (adds (w.seen (far g u b) (far_port g u b)) ss).tree) ((sends_one b (Connect (w.at u).head.level)).only)
+        ap (λ (q : Seen). q.tree)
+        (far_seen g wired u u_is.some u_is.node (sent_out (w.at u) b) (left_tree w u j ms) ((b, Connect (w.at u).head.level) ∷ []) w b atb) ∙
+        ap (λ ss. (adds (seen_beyond g w u b) ss).tree) ((sends_one b (Connect (w.at u).head.level)).only)
 
-    pub meets_floors : Floors g (meet g u b (acts g u (record (w.at u) { up = Some b; mark = put (w.at u).mark b Branch }) (put (w.seen u) j (record (w.seen u j) { tree = ms })) ((b, Connect (w.at u).head.level) ∷ []) w)) floor
+    pub meets_floors : Floors g (meet g u b (acts g u (sent_out (w.at u) b) (left_tree w u j ms) ((b, Connect (w.at u).head.level) ∷ []) w)) floor
     meets_floors =
         floors_met g wired mid floor off.nodes off.in_tree off.halted u b atb
         (λ e. leads.apart (sym (fragment_is (far g u b)) ∙ e ∙ fragment_is u)) off.links low
         (ap (λ (m : Member). m.mark b) here_is ∙ put_same (w.at u).mark b Branch) (ap (λ (m : Member). m.mark (far_port g u b)) far_is ∙ mark')
         (ap (λ (m : Member). m.up) here_is) (ap (λ (m : Member). m.up) far_is ∙ came.up)
-        (λ e. let z = came.one in let y = ap (λ (q : Seen). q.tree) own_seen in let s : Connect (w.at (far g u b)).head.level ∷ [] ≡ ChangeRoot ∷ [] = sym z ∙ sym y ∙ e in cc)
-        (λ e. let z = came.none in let s : [] ++ Connect (w.at u).head.level ∷ [] ≡ ChangeRoot ∷ [] = ap (λ q. q ++ Connect (w.at u).head.level ∷ []) (sym z) ∙ sym their_seen ∙ e in cc)
+        (λ e.
+        let z = came.one in
+        let y = ap (λ (q : Seen). q.tree) own_seen in
+        let s : Connect (w.at (far g u b)).head.level ∷ [] ≡ ChangeRoot ∷ [] = sym z ∙ sym y ∙ e in cc)
+        (λ e.
+        let z = came.none in
+        let s : [] ++ Connect (w.at u).head.level ∷ [] ≡ ChangeRoot ∷ [] =
+        ap (λ q. q ++ Connect (w.at u).head.level ∷ []) (sym z) ∙ sym their_seen ∙ e in
+        cc)
         (connects_meeting g ground u u_is w holds j at ms b k calls best mark mark')

@@ -9,6 +9,7 @@ use Rattle.ghs_node.specs.declared.message.Message.TheVariants.{ChangeRoot}
 use Rattle.ghs_protocol.specs.Network.{Network, port_at, At, far, far_port, IsWired, InNetwork}
 use Rattle.ghs_protocol.specs.Net.{put}
 use Rattle.ghs_protocol.proofs.clauses.Scene.{Member, Scene, End, TreeEnd, tree_end, end, forest, acts, far_end}
+use Rattle.ghs_protocol.proofs.clauses.Changes.{left_tree, seen_beyond, pointing}
 use Rattle.ghs_protocol.proofs.clauses.Links.{Joins, Child, Ups}
 use Rattle.ghs_protocol.proofs.clauses.TreeMessages.{TreeFits, Reported, Upward, Nothing_up, Report_up, Downward, Initiates, Old_report, To_here, To_there}
 use Rattle.ghs_protocol.proofs.clauses.Nodes.{NodeFits}
@@ -54,7 +55,15 @@ module _ (e f : TreeEnd) (b : Below e f) where
     upward = λ c. absurd (c.down b.up);
     downward = λ c. absurd (c.down b.up);
     core_queues = λ c. absurd (b.unnamed c.named);
-    moved_root = λ c. To_there (record { queue = ap (λ t. t ++ ChangeRoot ∷ []) b.empty'; queue_beyond = b.empty; level = b.top'; level_beyond = b.top ∙ sym b.coming; in_branch = b.in_branch; best = b.best });
+    moved_root = λ c.
+        To_there (record {
+          queue = ap (λ t. t ++ ChangeRoot ∷ []) b.empty';
+          queue_beyond = b.empty;
+          level = b.top';
+          level_beyond = b.top ∙ sym b.coming;
+          in_branch = b.in_branch;
+          best = b.best;
+        });
   }
 
   pub tree_passes' : {N : ℕ → Key → Type 0} → TreeFits N (called_on f) (passed e)
@@ -65,11 +74,20 @@ module _ (e f : TreeEnd) (b : Below e f) where
     upward = λ c. absurd (c.down refl);
     downward = λ c. absurd (c.down refl);
     core_queues = λ c. absurd (b.unnamed' c.named);
-    moved_root = λ c. To_here (record { queue = ap (λ t. t ++ ChangeRoot ∷ []) b.empty'; queue_beyond = b.empty; level = b.top'; level_beyond = b.top ∙ sym b.coming; in_branch = b.in_branch; best = b.best });
+    moved_root = λ c.
+        To_here (record {
+          queue = ap (λ t. t ++ ChangeRoot ∷ []) b.empty';
+          queue_beyond = b.empty;
+          level = b.top';
+          level_beyond = b.top ∙ sym b.coming;
+          in_branch = b.in_branch;
+          best = b.best;
+        });
   }
 
 -- a node's best is at a port other than its in_branch
-module _ (g : Network) (wired : IsWired g) (u : ℕ) (u_is : InNetwork g u) (j : ℕ) (at : At g u j) (w : Scene) (holds : Invariant g w) (ms : List Message) (root : AtRoot g w u j ms)
+module _ (g : Network) (wired : IsWired g) (u : ℕ) (u_is : InNetwork g u) (j : ℕ) (at : At g u j) (w : Scene) (holds : Invariant g w)
+    (ms : List Message) (root : AtRoot g w u j ms)
     (b : ℕ) (k : Key) (best : (w.at u).head.best ≡ Some (b, k)) where
   fits : NodeFits (length (g.ports u)) (w.at u)
   fits = holds.nodes u u_is
@@ -83,18 +101,39 @@ module _ (g : Network) (wired : IsWired g) (u : ℕ) (u_is : InNetwork g u) (j :
   pub best_aside : (w.at u).up ≢ Some b
   best_aside e = best_apart (sym (same_Some j b (sym root.up ∙ e)))
 
-  pub old_roots : (v p : ℕ) → At g v p → Root g (forest w) v p → (w.at v).fragment ≡ (w.at u).fragment → IsJoinedIn g (forest w) v p × ((v ≡ u) ⊎ (far g v p ≡ u))
+  pub old_roots : (v p : ℕ) →
+      At g v p →
+      Root g (forest w) v p →
+      (w.at v).fragment ≡ (w.at u).fragment →
+      IsJoinedIn g (forest w) v p × ((v ≡ u) ⊎ (far g v p ≡ u))
   old_roots v p at' r same =
       ⊎_elim
-      (λ h. (record { here = subst₂ (λ y z. is_branch ((w.at y).mark z) ≡ true) (sym h.0) (sym h.1) inside.here; there = subst₂ (λ y z. is_branch ((w.at (far g y z)).mark (far_port g y z)) ≡ true) (sym h.0) (sym h.1) inside.there }, inl h.0))
-      (λ h. (record { here = subst₂ (λ y z. is_branch ((w.at y).mark z) ≡ true) (ap₂ (far g) (sym h.0) (sym h.1) ∙ wired.back v p at') (ap₂ (far_port g) (sym h.0) (sym h.1) ∙ wired.back_port v p at') inside.there; there = subst₂ (λ y z. is_branch ((w.at y).mark z) ≡ true) (sym h.0) (sym h.1) inside.here }, inr h.0))
+      (λ h. (
+        record {
+          here = subst₂ (λ y z. is_branch ((w.at y).mark z) ≡ true) (sym h.0) (sym h.1) inside.here;
+          there = subst₂ (λ y z. is_branch ((w.at (far g y z)).mark (far_port g y z)) ≡ true) (sym h.0) (sym h.1) inside.there;
+        },
+        inl h.0,
+      ))
+      (λ h. (
+        record {
+          here =
+              subst₂ (λ y z. is_branch ((w.at y).mark z) ≡ true) (ap₂ (far g) (sym h.0) (sym h.1) ∙ wired.back v p at')
+              (ap₂ (far_port g) (sym h.0) (sym h.1) ∙ wired.back_port v p at') inside.there;
+          there = subst₂ (λ y z. is_branch ((w.at y).mark z) ≡ true) (sym h.0) (sym h.1) inside.here;
+        },
+        inr h.0,
+      ))
       (holds.trees.one_root v p u j at' at r (Both_ways inside root.up root.up_beyond) same)
     where
       inside : IsJoinedIn g (forest w) u j
       inside = record { here = ap is_branch root.joins.here; there = ap is_branch root.joins.there }
 
   pub leads_to : (p : ℕ) → At g u p → IsJoinedIn g (forest w) u p → (w.at (far g u p)).up ≡ Some (far_port g u p)
-  leads_to p at' l = ⊎_elim (λ e. let same : j ≡ p = same_Some j p (sym root.up ∙ e) in subst (λ y. (w.at (far g u y)).up ≡ Some (far_port g u y)) same root.up_beyond) (λ e. e) (holds.trees.joined_lead u p at' l)
+  leads_to p at' l =
+      ⊎_elim (λ e.
+      let same : j ≡ p = same_Some j p (sym root.up ∙ e) in subst (λ y. (w.at (far g u y)).up ≡ Some (far_port g u y)) same root.up_beyond)
+      (λ e. e) (holds.trees.joined_lead u p at' l)
 
   best_link : LinkFits (NamesOf g w) (end g w u b) (far_end g w u b)
   best_link = at_near g wired w (LinkFits (NamesOf g w)) holds.links u b at_best
@@ -110,7 +149,10 @@ module _ (g : Network) (wired : IsWired g) (u : ℕ) (u_is : InNetwork g u) (j :
     f = tree_end (far_end g w u b)
 
     joins : Joins (tree_end (end g w u b)) (tree_end (far_end g w u b))
-    joins = ⊎_elim (λ h. record { here = mark; there = h }) (λ h. absurd (best_aside (best_link.tree.out_connect (record { here = mark; there = h })).up)) (mark_is ((w.at (far g u b)).mark (far_port g u b)))
+    joins =
+        ⊎_elim (λ h. record { here = mark; there = h })
+        (λ h. absurd (best_aside (best_link.tree.out_connect (record { here = mark; there = h })).up))
+        (mark_is ((w.at (far g u b)).mark (far_port g u b)))
 
     inside : IsJoinedIn g (forest w) u b
     inside = record { here = ap is_branch joins.here; there = ap is_branch joins.there }
@@ -129,16 +171,23 @@ module _ (g : Network) (wired : IsWired g) (u : ℕ) (u_is : InNetwork g u) (j :
 
     no_report' : Upward (tree_end (far_end g w u b)) (tree_end (end g w u b)) → (w.seen u b).tree ≡ []
     no_report' (Nothing_up q) = q
-    no_report' (Report_up r q h) = absurd (let z = owed_finds g wired u u_is b at_best w holds best_aside (rw q refl) in let y = root.quiet.found u u_is refl in cc (z, y))
+    no_report' (Report_up r q h) =
+        absurd (let z = owed_finds g wired u u_is b at_best w holds best_aside (rw q refl) in let y = root.quiet.found u u_is refl in cc (z, y))
 
     level_up : (w.at u).head.level ≤ (w.at (far g u b)).head.level
     level_up = let a = root.top in let c = reported.level in let d = ghosts.0 in omega (arith, a, c, d)
 
-    no_initiate : Downward (NamesOf g w (w.at (far g u b)).fragment) (tree_end (far_end g w u b)) (tree_end (end g w u b)) → (w.seen (far g u b) (far_port g u b)).tree ≡ []
-    no_initiate (Initiates c) = chain_top (NamesOf g w (w.at (far g u b)).fragment) (w.at (far g u b)).coming (w.at (far g u b)).coming_name (w.at u).head.level (w.at (far g u b)).head.level _ level_up c
+    no_initiate :
+        Downward (NamesOf g w (w.at (far g u b)).fragment) (tree_end (far_end g w u b)) (tree_end (end g w u b)) →
+        (seen_beyond g w u b).tree ≡ []
+    no_initiate (Initiates c) =
+        chain_top (NamesOf g w (w.at (far g u b)).fragment) (w.at (far g u b)).coming (w.at (far g u b)).coming_name (w.at u).head.level
+        (w.at (far g u b)).head.level _ level_up c
     no_initiate (Old_report r xs q h c) =
         absurd
-        (not_core (h.there (chain_top (NamesOf g w (w.at (far g u b)).fragment) (w.at (far g u b)).coming (w.at (far g u b)).coming_name (w.at u).head.level (w.at (far g u b)).head.level xs level_up c)))
+        (not_core (h.there
+        (chain_top (NamesOf g w (w.at (far g u b)).fragment) (w.at (far g u b)).coming (w.at (far g u b)).coming_name (w.at u).head.level
+        (w.at (far g u b)).head.level xs level_up c)))
 
     below : Below (tree_end (end g w u b)) (tree_end (far_end g w u b))
     below = record {
@@ -156,12 +205,12 @@ module _ (g : Network) (wired : IsWired g) (u : ℕ) (u_is : InNetwork g u) (j :
     }
 
     goes' : Member
-    goes' = record (w.at u) { up = Some b }
+    goes' = pointing (w.at u) b
 
-    marks_kept : (v p : ℕ) → is_branch ((put w.at u (record (w.at u) { up = Some b }) v).mark p) ≡ is_branch ((w.at v).mark p)
-    marks_kept v p = put_alike (λ (m : Member). is_branch (m.mark p)) w.at u (record (w.at u) { up = Some b }) refl v
+    marks_kept : (v p : ℕ) → is_branch ((put w.at u (pointing (w.at u) b) v).mark p) ≡ is_branch ((w.at v).mark p)
+    marks_kept v p = put_alike (λ (m : Member). is_branch (m.mark p)) w.at u (pointing (w.at u) b) refl v
 
-    turns : Turns g (forest w) u b (λ v p. is_branch ((put w.at u (record (w.at u) { up = Some b }) v).mark p))
+    turns : Turns g (forest w) u b (λ v p. is_branch ((put w.at u (pointing (w.at u) b) v).mark p))
     turns = record {
       at = at_best;
       keeps = λ v p at' l. record { here = marks_kept v p ∙ l.here; there = marks_kept _ _ ∙ l.there };
@@ -176,20 +225,33 @@ module _ (g : Network) (wired : IsWired g) (u : ℕ) (u_is : InNetwork g u) (j :
     }
 
     abbrev sender : End
-    sender = record { port = b; key = (port_at g u b).key; mark = (w.at u).mark b; is = record (w.at u) { up = Some b }; seen = w.seen u b }
+    sender = record { port = b; key = (port_at g u b).key; mark = (w.at u).mark b; is = pointing (w.at u) b; seen = w.seen u b }
 
     abbrev receiver : End
-    receiver = record { port = far_port g u b; key = (port_at g u b).key; mark = (w.at (far g u b)).mark (far_port g u b); is = w.at (far g u b); seen = record (w.seen (far g u b) (far_port g u b)) { tree = (w.seen (far g u b) (far_port g u b)).tree ++ ChangeRoot ∷ [] } }
+    receiver = record (far_end g w u b) { seen = record (seen_beyond g w u b) { tree = (seen_beyond g w u b).tree ++ ChangeRoot ∷ [] } }
 
-    pub passes : Invariant g (acts g u (record (w.at u) { up = Some b }) (put (w.seen u) j (record (w.seen u j) { tree = ms })) ((b, ChangeRoot) ∷ []) w)
+    pub passes : Invariant g (acts g u (pointing (w.at u) b) (left_tree w u j ms) ((b, ChangeRoot) ∷ []) w)
     passes =
-        reroutes g wired u u_is j at w holds ms root b at_best best_apart (w.at u).mark mark (λ i ne. refl) ChangeRoot (λ q n. call_append ChangeRoot refl q.tree ∙ n) turns
-        (record { tree = tree_passes (tree_end (end g w u b)) (tree_end (far_end g w u b)) below; search = search_turns (tree_end (end g w u b)) (tree_end (far_end g w u b)) (Some b) _ _ best_link.search; tests = best_link.tests })
-        (record { tree = tree_passes' (tree_end (end g w u b)) (tree_end (far_end g w u b)) below; search = search_turns' (tree_end (end g w u b)) (tree_end (far_end g w u b)) (Some b) _ _ best_link'.search; tests = best_link'.tests })
+        reroutes g wired u u_is j at w holds ms root b at_best best_apart (w.at u).mark mark (λ i ne. refl) ChangeRoot
+        (λ q n. call_append ChangeRoot refl q.tree ∙ n)
+        turns
+        (record {
+          tree = tree_passes (tree_end (end g w u b)) (tree_end (far_end g w u b)) below;
+          search = search_turns (tree_end (end g w u b)) (tree_end (far_end g w u b)) (Some b) _ _ best_link.search;
+          tests = best_link.tests;
+        })
+        (record {
+          tree = tree_passes' (tree_end (end g w u b)) (tree_end (far_end g w u b)) below;
+          search = search_turns' (tree_end (end g w u b)) (tree_end (far_end g w u b)) (Some b) _ _ best_link'.search;
+          tests = best_link'.tests;
+        })
         (debt_up receiver sender child.up ∙ sym (debt_up (far_end g w u b) (end g w u b) child.up))
 
 -- a step: the root moves on over a Branch link
-pub passes_root : (g : Network) (wired : IsWired g) (u : ℕ) (u_is : InNetwork g u) (w : Scene) (holds : Invariant g w) (j : ℕ) (at : At g u j) (ms : List Message) (b : ℕ) (k : Key) →
+pub passes_root :
+    (g : Network) (wired : IsWired g) (u : ℕ) (u_is : InNetwork g u) (w : Scene) (holds : Invariant g w) (j : ℕ) (at : At g u j)
+    (ms : List Message) (b : ℕ) (k : Key) →
     SendsRoot w u j ms → (w.at u).head.best ≡ Some (b, k) → (w.at u).mark b ≡ Branch →
-    Invariant g (acts g u (record (w.at u) { up = Some b }) (put (w.seen u) j (record (w.seen u j) { tree = ms })) ((b, ChangeRoot) ∷ []) w)
-passes_root g wired u u_is w holds j at ms b k calls best mark = passes g wired u u_is j at w holds ms (at_root g wired u u_is j at w holds ms calls) b k best mark
+    Invariant g (acts g u (pointing (w.at u) b) (left_tree w u j ms) ((b, ChangeRoot) ∷ []) w)
+passes_root g wired u u_is w holds j at ms b k calls best mark =
+    passes g wired u u_is j at w holds ms (at_root g wired u u_is j at w holds ms calls) b k best mark

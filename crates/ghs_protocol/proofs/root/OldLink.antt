@@ -15,18 +15,26 @@ use Rattle.ghs_protocol.proofs.union.Risen.{tree_named}
 use Rattle.ghs_protocol.proofs.root.AtRoot.{Left, Nothing_left, Report_left}
 
 -- the search clauses don't read the ways nor the queues
-pub search_turns : (e f : TreeEnd) (o : Option ℕ) (t s : List Message) → SearchFits e f → SearchFits (record e { up = o; tree = t }) (record f { tree = s })
+pub search_turns : (e f : TreeEnd) (o : Option ℕ) (t s : List Message) →
+    SearchFits e f →
+    SearchFits (record e { up = o; tree = t }) (record f { tree = s })
 search_turns e f o t s h = record {
   rejected_inside = h.rejected_inside;
   find_leads = λ k x l m. let z = h.find_leads k x l m in record { key = z.key; apart = z.apart; higher = z.higher };
-  find_reported = λ k x l j. let z = h.find_reported k x l (record { here = j.here; there = j.there }) in record { phase = z.phase; in_branch = z.in_branch; level = z.level; key = z.key };
+  find_reported = λ k x l j.
+      let z = h.find_reported k x l (record { here = j.here; there = j.there }) in
+      record { phase = z.phase; in_branch = z.in_branch; level = z.level; key = z.key };
 }
 
-pub search_turns' : (e f : TreeEnd) (o : Option ℕ) (t s : List Message) → SearchFits f e → SearchFits (record f { tree = s }) (record e { up = o; tree = t })
+pub search_turns' : (e f : TreeEnd) (o : Option ℕ) (t s : List Message) →
+    SearchFits f e →
+    SearchFits (record f { tree = s }) (record e { up = o; tree = t })
 search_turns' e f o t s h = record {
   rejected_inside = h.rejected_inside;
   find_leads = λ k x l m. let z = h.find_leads k x l m in record { key = z.key; apart = z.apart; higher = z.higher };
-  find_reported = λ k x l j. let z = h.find_reported k x l (record { here = j.here; there = j.there }) in record { phase = z.phase; in_branch = z.in_branch; level = z.level; key = z.key };
+  find_reported = λ k x l j.
+      let z = h.find_reported k x l (record { here = j.here; there = j.there }) in
+      record { phase = z.phase; in_branch = z.in_branch; level = z.level; key = z.key };
 }
 
 -- a link that is e's way neither before nor after
@@ -43,7 +51,8 @@ module _ (e f : TreeEnd) (o : Option ℕ) (was : e.up ≢ Some e.port) (is : o �
   tree_aside h = record {
     out_connect = λ t. absurd (was (h.out_connect (record { here = t.here; there = t.there })).up);
     silent = h.silent;
-    core_ends = λ j n. let z = h.core_ends (record { here = j.here; there = j.there }) n in record { at_top = z.at_top; below = λ l. absurd (was (z.below l)) };
+    core_ends = λ j n.
+        let z = h.core_ends (record { here = j.here; there = j.there }) n in record { at_top = z.at_top; below = λ l. absurd (was (z.below l)) };
     upward = λ c. absurd (is c.up);
     downward = λ c. absurd (is c.up);
     core_queues = λ c. absurd (is c.both.up);
@@ -52,7 +61,9 @@ module _ (e f : TreeEnd) (o : Option ℕ) (was : e.up ≢ Some e.port) (is : o �
 
   pub tree_aside' : {N : ℕ → Key → Type 0} → TreeFits N f e → TreeFits N f (record e { up = o })
   tree_aside' h = record {
-    out_connect = λ t. let z = h.out_connect (record { here = t.here; there = t.there }) in record { mark = z.mark; up = z.up; apart = z.apart; level = z.level; higher = z.higher; one = z.one; none = z.none };
+    out_connect = λ t.
+        let z = h.out_connect (record { here = t.here; there = t.there }) in
+        record { mark = z.mark; up = z.up; apart = z.apart; level = z.level; higher = z.higher; one = z.one; none = z.none };
     silent = h.silent;
     core_ends = λ j n. h.core_ends (record { here = j.here; there = j.there }) n;
     upward = λ c. up_aside (h.upward (record { joins = record { here = c.joins.here; there = c.joins.there }; up = c.up; down = was }));
@@ -62,7 +73,8 @@ module _ (e f : TreeEnd) (o : Option ℕ) (was : e.up ≢ Some e.port) (is : o �
   }
 
 -- the old root link: f's end is now a child's
-module _ (e f : TreeEnd) (o : Option ℕ) (t : List Message) (rest : t ≡ []) (is : o ≢ Some e.port) (joins : Joins e f) (way : Ups f) (in_branch : e.in_branch ≡ Some e.port)
+module _ (e f : TreeEnd) (o : Option ℕ) (t : List Message) (rest : t ≡ []) (is : o ≢ Some e.port) (joins : Joins e f) (way : Ups f)
+    (in_branch : e.in_branch ≡ Some e.port)
     (top : e.level ≡ e.coming) (lag : f.level ≤ e.level) (done : f.phase ≡ Found) (left : Left f) where
   pub tree_leaves : {N : ℕ → Key → Type 0} → TreeFits N e f → TreeFits N (record e { up = o; tree = t }) f
   tree_leaves h = record {

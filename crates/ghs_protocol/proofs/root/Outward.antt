@@ -9,6 +9,7 @@ use Rattle.ghs_node.specs.declared.message.Message.TheVariants.{Connect}
 use Rattle.ghs_protocol.specs.Network.{Network, port_at, At, far, far_port, IsWired, InNetwork}
 use Rattle.ghs_protocol.specs.Net.{put}
 use Rattle.ghs_protocol.proofs.clauses.Scene.{Member, Scene, End, TreeEnd, TestEnd, tree_end, end, forest, acts, far_end}
+use Rattle.ghs_protocol.proofs.clauses.Changes.{left_tree, seen_beyond, sent_out}
 use Rattle.ghs_protocol.proofs.clauses.TreeMessages.{TreeFits}
 use Rattle.ghs_protocol.proofs.clauses.Search.{SearchFits, LeadsOut}
 use Rattle.ghs_protocol.proofs.clauses.Tests.{TestsFit}
@@ -33,13 +34,33 @@ joined_by e = record e { mark = Branch }
 pub tests_branch : (e f : TestEnd) → TestsFit e f → TestsFit (joined_by e) f
 tests_branch e f h = record {
   probing = λ p. let z = h.probing p in record { one = z.one; from = z.from; accepted = z.accepted; rejected = z.rejected };
-  not_probing = λ p. let z = h.not_probing p in record { accepts = z.accepts; rejects = z.rejects; one = z.one; crossed = λ l. let c = z.crossed l in record { probe = c.probe; same = c.same; mark = λ y. cc; tests = c.tests; accepts = c.accepts; rejects = c.rejects; from = c.from } };
+  not_probing = λ p.
+      let z = h.not_probing p in
+      record {
+        accepts = z.accepts;
+        rejects = z.rejects;
+        one = z.one;
+        crossed = λ l.
+            let c = z.crossed l in
+            record { probe = c.probe; same = c.same; mark = λ y. cc; tests = c.tests; accepts = c.accepts; rejects = c.rejects; from = c.from };
+      };
 }
 
 pub tests_branch' : (e f : TestEnd) → TestsFit f e → TestsFit f (joined_by e)
 tests_branch' e f h = record {
-  probing = λ p. let z = h.probing p in record { one = z.one; from = z.from; accepted = z.accepted; rejected = λ l. let r = z.rejected l in (r.0, (λ y. cc), r.2) };
-  not_probing = λ p. let z = h.not_probing p in record { accepts = z.accepts; rejects = z.rejects; one = z.one; crossed = λ l. let c = z.crossed l in record { probe = c.probe; same = c.same; mark = c.mark; tests = c.tests; accepts = c.accepts; rejects = c.rejects; from = c.from } };
+  probing = λ p.
+      let z = h.probing p in
+      record { one = z.one; from = z.from; accepted = z.accepted; rejected = λ l. let r = z.rejected l in (r.0, (λ y. cc), r.2) };
+  not_probing = λ p.
+      let z = h.not_probing p in
+      record {
+        accepts = z.accepts;
+        rejects = z.rejects;
+        one = z.one;
+        crossed = λ l.
+            let c = z.crossed l in
+            record { probe = c.probe; same = c.same; mark = c.mark; tests = c.tests; accepts = c.accepts; rejects = c.rejects; from = c.from };
+      };
 }
 
 -- e has connected over the link
@@ -50,10 +71,19 @@ abbrev pub asked_by : TreeEnd → ℕ → TreeEnd
 asked_by f l = record f { tree = f.tree ++ Connect l ∷ [] }
 
 -- the far end hasn't connected
-module _ (e f : TreeEnd) (k : Key) (mark : e.mark ≢ Branch) (mark' : f.mark ≢ Branch) (out : LeadsOut e f k) (top : e.level ≡ e.coming) (s : SearchFits e f) (s' : SearchFits f e) where
+module _ (e f : TreeEnd) (k : Key) (mark : e.mark ≢ Branch) (mark' : f.mark ≢ Branch) (out : LeadsOut e f k) (top : e.level ≡ e.coming)
+    (s : SearchFits e f) (s' : SearchFits f e) where
   pub tree_connects : {N : ℕ → Key → Type 0} → TreeFits N e f → TreeFits N f e → TreeFits N (connected e) (asked_by f e.level)
   tree_connects h h' = record {
-    out_connect = λ o. record { mark = basic_left f.mark mark' (λ z. out.apart (s'.rejected_inside z)); up = refl; apart = out.apart; level = top; higher = out.higher; one = ap (λ t. t ++ Connect e.level ∷ []) (h'.silent mark' mark); none = h.silent mark mark' };
+    out_connect = λ o. record {
+      mark = basic_left f.mark mark' (λ z. out.apart (s'.rejected_inside z));
+      up = refl;
+      apart = out.apart;
+      level = top;
+      higher = out.higher;
+      one = ap (λ t. t ++ Connect e.level ∷ []) (h'.silent mark' mark);
+      none = h.silent mark mark';
+    };
     silent = λ x y. absurd (x refl);
     core_ends = λ j n. absurd (mark' j.there);
     upward = λ c. absurd (mark' c.joins.there);
@@ -87,7 +117,8 @@ module _ (e f : TreeEnd) (k : Key) (mark : e.mark ≢ Branch) (mark' : f.mark �
     find_reported = λ l x y j. absurd (mark' j.here);
   }
 
-module _ (g : Network) (wired : IsWired g) (u : ℕ) (u_is : InNetwork g u) (j : ℕ) (at : At g u j) (w : Scene) (holds : Invariant g w) (ms : List Message) (root : AtRoot g w u j ms)
+module _ (g : Network) (wired : IsWired g) (u : ℕ) (u_is : InNetwork g u) (j : ℕ) (at : At g u j) (w : Scene) (holds : Invariant g w)
+    (ms : List Message) (root : AtRoot g w u j ms)
     (b : ℕ) (k : Key) (best : (w.at u).head.best ≡ Some (b, k)) (mark : (w.at u).mark b ≢ Branch) where
   atb : At g u b
   atb = at_best g wired u u_is j at w holds ms root b k best
@@ -102,11 +133,11 @@ module _ (g : Network) (wired : IsWired g) (u : ℕ) (u_is : InNetwork g u) (j :
   leads_out = out_link.search.find_leads k best root.top mark
 
   goes : Member
-  goes = record (w.at u) { up = Some b; mark = put (w.at u).mark b Branch }
+  goes = sent_out (w.at u) b
 
   -- which ports are Branch afterwards
   abbrev pub branch_now : ℕ → ℕ → Bool
-  branch_now v p = is_branch ((put w.at u (record (w.at u) { up = Some b; mark = put (w.at u).mark b Branch }) v).mark p)
+  branch_now v p = is_branch ((put w.at u (sent_out (w.at u) b) v).mark p)
 
   pub branch_here : branch_now u b ≡ true
   branch_here = ap (λ (m : Member). is_branch (m.mark b)) (put_same w.at u _) ∙ ap is_branch (put_same (w.at u).mark b Branch)
@@ -121,14 +152,21 @@ module _ (g : Network) (wired : IsWired g) (u : ℕ) (u_is : InNetwork g u) (j :
 
   pub branch_more : (v p : ℕ) → is_branch ((w.at v).mark p) ≡ true → branch_now v p ≡ true
   branch_more v p h =
-      ⊎_elim (λ e. ⊎_elim (λ e'. subst₂ (λ y z. branch_now y z ≡ true) (sym e) (sym e') branch_here) (λ ne. branch_else v p (λ z. ne z.1) ∙ h) (cases_eq p b))
+      ⊎_elim (λ e. ⊎_elim
+      (λ e'. subst₂ (λ y z. branch_now y z ≡ true) (sym e) (sym e') branch_here)
+      (λ ne. branch_else v p (λ z. ne z.1) ∙ h)
+      (cases_eq p b))
       (λ ne. branch_else v p (λ z. ne z.0) ∙ h) (cases_eq v u)
 
   pub branch_less : (v p : ℕ) → branch_now v p ≡ false → is_branch ((w.at v).mark p) ≡ false
   branch_less v p h = ⊎_elim (λ e. absurd (let z = branch_more v p e in cc (z, h))) (λ e. e) (cases_Bool (is_branch ((w.at v).mark p)))
 
   pub branch_is : (v p : ℕ) → branch_now v p ≡ true → ((v ≡ u) × (p ≡ b)) ⊎ (is_branch ((w.at v).mark p) ≡ true)
-  branch_is v p h = ⊎_elim (λ e. ⊎_elim (λ e'. inl (e, e')) (λ ne. inr (sym (branch_else v p (λ z. ne z.1)) ∙ h)) (cases_eq p b)) (λ ne. inr (sym (branch_else v p (λ z. ne z.0)) ∙ h)) (cases_eq v u)
+  branch_is v p h =
+      ⊎_elim
+      (λ e. ⊎_elim (λ e'. inl (e, e')) (λ ne. inr (sym (branch_else v p (λ z. ne z.1)) ∙ h)) (cases_eq p b))
+      (λ ne. inr (sym (branch_else v p (λ z. ne z.0)) ∙ h))
+      (cases_eq v u)
 
   module _ (mark' : (w.at (far g u b)).mark (far_port g u b) ≢ Branch) where
     far_none : is_branch ((w.at (far g u b)).mark (far_port g u b)) ≡ false
@@ -136,7 +174,9 @@ module _ (g : Network) (wired : IsWired g) (u : ℕ) (u_is : InNetwork g u) (j :
 
     -- this link has no Branch but here
     not_far : (v p : ℕ) → At g v p → far g v p ≡ u → far_port g v p ≡ b → is_branch ((w.at v).mark p) ≡ false
-    not_far v p at' e h = subst₂ (λ y z. is_branch ((w.at y).mark z) ≡ false) (ap₂ (far g) (sym e) (sym h) ∙ wired.back v p at') (ap₂ (far_port g) (sym e) (sym h) ∙ wired.back_port v p at') far_none
+    not_far v p at' e h =
+        subst₂ (λ y z. is_branch ((w.at y).mark z) ≡ false) (ap₂ (far g) (sym e) (sym h) ∙ wired.back v p at')
+        (ap₂ (far_port g) (sym e) (sym h) ∙ wired.back_port v p at') far_none
 
     turns : Turns g (forest w) u b branch_now
     turns = record {
@@ -151,43 +191,75 @@ module _ (g : Network) (wired : IsWired g) (u : ℕ) (u_is : InNetwork g u) (j :
     }
       where
         far_is : (v p : ℕ) → At g v p → v ≡ u → p ≡ b → branch_now (far g v p) (far_port g v p) ≡ true → ⊥
-        far_is v p at' e h x = let n = subst₂ (λ y z. branch_now (far g y z) (far_port g y z) ≡ true) e h x in let o = branch_else (far g u b) (far_port g u b) (λ z. wired.apart u b atb z.0) ∙ far_none in cc (n, o)
+        far_is v p at' e h x =
+            let n = subst₂ (λ y z. branch_now (far g y z) (far_port g y z) ≡ true) e h x in
+            let o = branch_else (far g u b) (far_port g u b) (λ z. wired.apart u b atb z.0) ∙ far_none in cc (n, o)
 
         was : (v p : ℕ) → At g v p → branch_now v p ≡ true → branch_now (far g v p) (far_port g v p) ≡ true → is_branch ((w.at v).mark p) ≡ true
         was v p at' x y = ⊎_elim (λ z. absurd (far_is v p at' z.0 z.1 y)) (λ h. h) (branch_is v p x)
 
-        was' : (v p : ℕ) → At g v p → branch_now v p ≡ true → branch_now (far g v p) (far_port g v p) ≡ true → is_branch ((w.at (far g v p)).mark (far_port g v p)) ≡ true
+        was' : (v p : ℕ) →
+            At g v p →
+            branch_now v p ≡ true →
+            branch_now (far g v p) (far_port g v p) ≡ true →
+            is_branch ((w.at (far g v p)).mark (far_port g v p)) ≡ true
         was' v p at' x y = ⊎_elim (λ z. absurd (let n = not_far v p at' z.0 z.1 in let o = was v p at' x y in cc (n, o))) (λ h. h) (branch_is _ _ y)
 
     abbrev sender : End
-    sender = record { port = b; key = (port_at g u b).key; mark = Branch; is = record (w.at u) { up = Some b; mark = put (w.at u).mark b Branch }; seen = w.seen u b }
+    sender = record { port = b; key = (port_at g u b).key; mark = Branch; is = sent_out (w.at u) b; seen = w.seen u b }
 
     abbrev sender' : End
-    sender' = record { port = b; key = (port_at g u b).key; mark = put (w.at u).mark b Branch b; is = record (w.at u) { up = Some b; mark = put (w.at u).mark b Branch }; seen = w.seen u b }
+    sender' = record { port = b; key = (port_at g u b).key; mark = put (w.at u).mark b Branch b; is = sent_out (w.at u) b; seen = w.seen u b }
 
     abbrev receiver : End
-    receiver = record { port = far_port g u b; key = (port_at g u b).key; mark = (w.at (far g u b)).mark (far_port g u b); is = w.at (far g u b); seen = record (w.seen (far g u b) (far_port g u b)) { tree = (w.seen (far g u b) (far_port g u b)).tree ++ Connect (w.at u).head.level ∷ [] } }
+    receiver = record (far_end g w u b) {
+      seen = record (seen_beyond g w u b) { tree = (seen_beyond g w u b).tree ++ Connect (w.at u).head.level ∷ [] };
+    }
 
     marked : sender ≡ sender'
-    marked = λ i. record { port = b; key = (port_at g u b).key; mark = sym (put_same (w.at u).mark b Branch) i; is = record (w.at u) { up = Some b; mark = put (w.at u).mark b Branch }; seen = w.seen u b }
+    marked = λ i. record {
+      port = b;
+      key = (port_at g u b).key;
+      mark = sym (put_same (w.at u).mark b Branch) i;
+      is = sent_out (w.at u) b;
+      seen = w.seen u b;
+    }
 
     sent : LinkFits (NamesOf g w) sender receiver
-    sent = record { tree = tree_connects (tree_end (end g w u b)) (tree_end (far_end g w u b)) k mark mark' leads_out root.top out_link.search out_link'.search out_link.tree out_link'.tree; search = search_connects (tree_end (end g w u b)) (tree_end (far_end g w u b)) k mark mark' leads_out root.top out_link.search out_link'.search; tests = tests_branch _ _ out_link.tests }
+    sent = record {
+      tree =
+          tree_connects (tree_end (end g w u b)) (tree_end (far_end g w u b)) k mark mark' leads_out root.top out_link.search out_link'.search
+          out_link.tree out_link'.tree;
+      search =
+          search_connects (tree_end (end g w u b)) (tree_end (far_end g w u b)) k mark mark' leads_out root.top out_link.search out_link'.search;
+      tests = tests_branch _ _ out_link.tests;
+    }
 
     sent' : LinkFits (NamesOf g w) receiver sender
-    sent' = record { tree = tree_connects' (tree_end (end g w u b)) (tree_end (far_end g w u b)) k mark mark' leads_out root.top out_link.search out_link'.search; search = search_connects' (tree_end (end g w u b)) (tree_end (far_end g w u b)) k mark mark' leads_out root.top out_link.search out_link'.search; tests = tests_branch' _ _ out_link'.tests }
+    sent' = record {
+      tree =
+          tree_connects' (tree_end (end g w u b)) (tree_end (far_end g w u b)) k mark mark' leads_out root.top out_link.search out_link'.search;
+      search =
+          search_connects' (tree_end (end g w u b)) (tree_end (far_end g w u b)) k mark mark' leads_out root.top out_link.search out_link'.search;
+      tests = tests_branch' _ _ out_link'.tests;
+    }
 
     owing : debt receiver sender' ≡ debt (far_end g w u b) (end g w u b)
-    owing = rw (report_append (Connect (w.at u).head.level) refl (w.seen (far g u b) (far_port g u b)).tree) refl
+    owing = rw (report_append (Connect (w.at u).head.level) refl (seen_beyond g w u b).tree) refl
 
-    pub goes_out : Invariant g (acts g u (record (w.at u) { up = Some b; mark = put (w.at u).mark b Branch }) (put (w.seen u) j (record (w.seen u j) { tree = ms })) ((b, Connect (w.at u).head.level) ∷ []) w)
+    pub goes_out : Invariant g (acts g u (sent_out (w.at u) b) (left_tree w u j ms) ((b, Connect (w.at u).head.level) ∷ []) w)
     goes_out =
-        reroutes g wired u u_is j at w holds ms root b atb (best_apart g wired u u_is j at w holds ms root b k best) (put (w.at u).mark b Branch) (put_same (w.at u).mark b Branch)
-        (λ i ne. put_other (w.at u).mark b i Branch ne) (Connect (w.at u).head.level) (λ q n. call_append (Connect (w.at u).head.level) refl q.tree ∙ n) turns
+        reroutes g wired u u_is j at w holds ms root b atb (best_apart g wired u u_is j at w holds ms root b k best)
+        (put (w.at u).mark b Branch) (put_same (w.at u).mark b Branch)
+        (λ i ne. put_other (w.at u).mark b i Branch ne)
+        (Connect (w.at u).head.level) (λ q n. call_append (Connect (w.at u).head.level) refl q.tree ∙ n) turns
         (subst (λ e. LinkFits (NamesOf g w) e receiver) marked sent) (subst (LinkFits (NamesOf g w) receiver) marked sent') owing
 
 -- a step: the root goes out over its best link, the far end not being a Branch
-pub connects_out : (g : Network) (wired : IsWired g) (u : ℕ) (u_is : InNetwork g u) (w : Scene) (holds : Invariant g w) (j : ℕ) (at : At g u j) (ms : List Message) (b : ℕ) (k : Key) →
+pub connects_out :
+    (g : Network) (wired : IsWired g) (u : ℕ) (u_is : InNetwork g u) (w : Scene) (holds : Invariant g w) (j : ℕ) (at : At g u j)
+    (ms : List Message) (b : ℕ) (k : Key) →
     SendsRoot w u j ms → (w.at u).head.best ≡ Some (b, k) → (w.at u).mark b ≢ Branch → (w.at (far g u b)).mark (far_port g u b) ≢ Branch →
-    Invariant g (acts g u (record (w.at u) { up = Some b; mark = put (w.at u).mark b Branch }) (put (w.seen u) j (record (w.seen u j) { tree = ms })) ((b, Connect (w.at u).head.level) ∷ []) w)
-connects_out g wired u u_is w holds j at ms b k calls best mark mark' = goes_out g wired u u_is j at w holds ms (at_root g wired u u_is j at w holds ms calls) b k best mark mark'
+    Invariant g (acts g u (sent_out (w.at u) b) (left_tree w u j ms) ((b, Connect (w.at u).head.level) ∷ []) w)
+connects_out g wired u u_is w holds j at ms b k calls best mark mark' =
+    goes_out g wired u u_is j at w holds ms (at_root g wired u u_is j at w holds ms calls) b k best mark mark'

@@ -10,6 +10,7 @@ use Rattle.ghs_node.specs.declared.message.Message.TheVariants.{Connect, ChangeR
 use Rattle.ghs_protocol.specs.Network.{Network, port_at, At, far, far_port, IsWired, InNetwork}
 use Rattle.ghs_protocol.specs.Net.{put}
 use Rattle.ghs_protocol.proofs.clauses.Scene.{Seen, add, Member, Scene, End, TreeEnd, tree_end, end, acts, far_end}
+use Rattle.ghs_protocol.proofs.clauses.Changes.{left_tree, seen_beyond, pointing, sent_out}
 use Rattle.ghs_protocol.proofs.clauses.Links.{Joins}
 use Rattle.ghs_protocol.proofs.clauses.TreeMessages.{ConnectUnderWay}
 use Rattle.ghs_protocol.proofs.clauses.Nodes.{NodeFits}
@@ -35,26 +36,35 @@ left_brought : (f : TreeEnd) → Left f → brought_to f.level f.tree ≡ f.leve
 left_brought f (Nothing_left q) = ap (brought_to f.level) q
 left_brought f (Report_left k q b h) = ap (brought_to f.level) q
 
-module _ (g : Network) (wired : IsWired g) (u : ℕ) (u_is : InNetwork g u) (j : ℕ) (at : At g u j) (w : Scene) (holds : Invariant g w) (lives : Lives g w) (ms : List Message) (root : AtRoot g w u j ms)
+module _ (g : Network) (wired : IsWired g) (u : ℕ) (u_is : InNetwork g u) (j : ℕ) (at : At g u j) (w : Scene) (holds : Invariant g w)
+    (lives : Lives g w) (ms : List Message) (root : AtRoot g w u j ms)
     (b : ℕ) (atb : At g u b) (apart : b ≢ j) (μ : ℕ → Mark) (to : μ b ≡ Branch) (same : (i : ℕ) → i ≢ b → μ i ≡ (w.at u).mark i) (m : Message)
-    (no_call : (q : Seen) → has_call q.tree ≡ false → has_call (add q m).tree ≡ false) (tree : (q : Seen) → add q m ≡ record q { tree = (add q m).tree })
+    (no_call : (q : Seen) → has_call q.tree ≡ false → has_call (add q m).tree ≡ false)
+    (tree : (q : Seen) → add q m ≡ record q { tree = (add q m).tree })
     -- over the new root link nobody is a child, and it hasn't the coming name
     (unchild : (w.at (far g u b)).mark (far_port g u b) ≡ Branch → (w.at (far g u b)).up ≡ Some (far_port g u b))
-    (unnamed : (w.at (far g u b)).mark (far_port g u b) ≡ Branch → (w.at u).coming_name ≢ Some (port_at g u b).key) (unnamed' : (w.at (far g u b)).mark (far_port g u b) ≡ Branch → (w.at (far g u b)).coming_name ≢ Some (port_at g u b).key) where
+    (unnamed : (w.at (far g u b)).mark (far_port g u b) ≡ Branch → (w.at u).coming_name ≢ Some (port_at g u b).key)
+    (unnamed' : (w.at (far g u b)).mark (far_port g u b) ≡ Branch → (w.at (far g u b)).coming_name ≢ Some (port_at g u b).key) where
   abbrev x : Member
   x = record (w.at u) { up = Some b; mark = μ }
 
   abbrev own : ℕ → Seen
-  own = put (w.seen u) j (record (w.seen u j) { tree = ms })
+  own = left_tree w u j ms
 
   abbrev still : ℕ → End
   still i = record { port = i; key = (port_at g u i).key; mark = μ i; is = record (w.at u) { up = Some b; mark = μ }; seen = w.seen u i }
 
   abbrev here : End
-  here = record { port = j; key = (port_at g u j).key; mark = μ j; is = record (w.at u) { up = Some b; mark = μ }; seen = record (w.seen u j) { tree = ms } }
+  here = record {
+    port = j;
+    key = (port_at g u j).key;
+    mark = μ j;
+    is = record (w.at u) { up = Some b; mark = μ };
+    seen = record (w.seen u j) { tree = ms };
+  }
 
   abbrev there : End
-  there = record (far_end g w u b) { seen = record (w.seen (far g u b) (far_port g u b)) { tree = (add (w.seen (far g u b) (far_port g u b)) m).tree } }
+  there = record (far_end g w u b) { seen = record (seen_beyond g w u b) { tree = (add (seen_beyond g w u b) m).tree } }
 
   not_way : (i : ℕ) → i ≢ b → Some b ≢ Some i
   not_way i ne e = ne (sym (same_Some b i e))
@@ -72,17 +82,25 @@ module _ (g : Network) (wired : IsWired g) (u : ℕ) (u_is : InNetwork g u) (j :
       (v p : ℕ) → At g v p → P (end g (acts g u x own ((b, m) ∷ []) w) v p) (end g (acts g u x own ((b, m) ∷ []) w) (far g v p) (far_port g v p))
   moves P all hit hit' sent sent' miss miss' =
       acts_keeps g wired u u_is.some u_is.node x own ((b, m) ∷ []) w P all
-      (by_ports_at g wired u u_is j at w holds ms root b atb apart μ to same m no_call (λ i e f. P e f) hit (subst (λ q. P (still b) (record (far_end g w u b) { seen = q })) (sym (tree (w.seen (far g u b) (far_port g u b)))) sent) miss)
-      (by_ports_at g wired u u_is j at w holds ms root b atb apart μ to same m no_call (λ i e f. P f e) hit' (subst (λ q. P (record (far_end g w u b) { seen = q }) (still b)) (sym (tree (w.seen (far g u b) (far_port g u b)))) sent') miss')
+      (by_ports_at g wired u u_is j at w holds ms root b atb apart μ to same m no_call (λ i e f. P e f) hit
+      (subst (λ q. P (still b) (record (far_end g w u b) { seen = q })) (sym (tree (seen_beyond g w u b))) sent) miss)
+      (by_ports_at g wired u u_is j at w holds ms root b atb apart μ to same m no_call (λ i e f. P f e) hit'
+      (subst (λ q. P (record (far_end g w u b) { seen = q }) (still b)) (sym (tree (seen_beyond g w u b))) sent') miss')
 
-  pub moves_lives : Lives g (acts g u (record (w.at u) { up = Some b; mark = μ }) (put (w.seen u) j (record (w.seen u j) { tree = ms })) ((b, m) ∷ []) w)
+  pub moves_lives : Lives g (acts g u (record (w.at u) { up = Some b; mark = μ }) (left_tree w u j ms) ((b, m) ∷ []) w)
   moves_lives = record {
-    asks = moves ProbeAsks lives.asks (mine j at) (theirs j at) (mine b atb) (theirs b atb) (λ i at' ne ne'. mine i at') (λ i at' ne ne'. theirs i at');
+    asks =
+        moves ProbeAsks lives.asks (mine j at) (theirs j at) (mine b atb) (theirs b atb) (λ i at' ne ne'. mine i at')
+        (λ i at' ne ne'. theirs i at');
     brought =
-        moves ChildBrought lives.brought (λ c. absurd (not_way j away c.2)) (λ c. left_brought (tree_end (far_end g w u j)) root.left ∙ root.top' ∙ sym root.top) (λ c. absurd (c.3 (unchild c.1))) (λ c. absurd (c.3 refl))
-        (λ i at' ne ne' c. absurd (not_way i ne' c.2)) (λ i at' ne ne' c. far_brought g wired u u_is j at w holds lives i at' (c.0, sym (same i ne') ∙ c.1, c.2, was_not i ne));
+        moves ChildBrought lives.brought (λ c. absurd (not_way j away c.2))
+        (λ c. left_brought (tree_end (far_end g w u j)) root.left ∙ root.top' ∙ sym root.top)
+        (λ c. absurd (c.3 (unchild c.1))) (λ c. absurd (c.3 refl))
+        (λ i at' ne ne' c. absurd (not_way i ne' c.2))
+        (λ i at' ne ne' c. far_brought g wired u u_is j at w holds lives i at' (c.0, sym (same i ne') ∙ c.1, c.2, was_not i ne));
     heard =
-        moves CoreHeard lives.heard (λ c. absurd (not_way j away c.2)) (λ c. absurd (not_way j away c.3)) (λ c. absurd (unnamed c.1 c.4)) (λ c. absurd (unnamed' c.0 c.4))
+        moves CoreHeard lives.heard (λ c. absurd (not_way j away c.2)) (λ c. absurd (not_way j away c.3)) (λ c. absurd (unnamed c.1 c.4))
+        (λ c. absurd (unnamed' c.0 c.4))
         (λ i at' ne ne' c. absurd (not_way i ne' c.2)) (λ i at' ne ne' c. absurd (not_way i ne' c.3));
   }
     where
@@ -92,84 +110,108 @@ module _ (g : Network) (wired : IsWired g) (u : ℕ) (u_is : InNetwork g u) (j :
       theirs : (i : ℕ) → (at' : At g u i) → ProbeAsks (far_end g w u i) (end g w u i)
       theirs i at' = far_asks g wired u u_is j at w holds lives i at'
 
-module _ (g : Network) (wired : IsWired g) (u : ℕ) (u_is : InNetwork g u) (w : Scene) (holds : Invariant g w) (lives : Lives g w) (j : ℕ) (at : At g u j) (ms : List Message) (b : ℕ) (k : Key) (calls : SendsRoot w u j ms) (best : (w.at u).head.best ≡ Some (b, k)) where
-  root : AtRoot g w u j ms
-  root = at_root g wired u u_is j at w holds ms calls
+module _ (g : Network) (wired : IsWired g) (u : ℕ) (u_is : InNetwork g u) (w : Scene) (holds : Invariant g w) (lives : Lives g w)
+    (j : ℕ) (at : At g u j) (ms : List Message) (b : ℕ) (k : Key) (calls : SendsRoot w u j ms) (best : (w.at u).head.best ≡ Some (b, k))
+  where
+    root : AtRoot g w u j ms
+    root = at_root g wired u u_is j at w holds ms calls
 
-  my_fits : NodeFits (length (g.ports u)) (w.at u)
-  my_fits = holds.nodes u u_is
+    my_fits : NodeFits (length (g.ports u)) (w.at u)
+    my_fits = holds.nodes u u_is
 
-  atb : At g u b
-  atb = at_best g wired u u_is j at w holds ms root b k best
+    atb : At g u b
+    atb = at_best g wired u u_is j at w holds ms root b k best
 
-  apart : b ≢ j
-  apart = best_apart g wired u u_is j at w holds ms root b k best
+    apart : b ≢ j
+    apart = best_apart g wired u u_is j at w holds ms root b k best
 
-  link : LinkFits (NamesOf g w) (end g w u b) (far_end g w u b)
-  link = link_fits g wired w holds u b atb
+    link : LinkFits (NamesOf g w) (end g w u b) (far_end g w u b)
+    link = link_fits g wired w holds u b atb
 
-  link' : LinkFits (NamesOf g w) (far_end g w u b) (end g w u b)
-  link' = link_fits' g wired w holds u b atb
+    link' : LinkFits (NamesOf g w) (far_end g w u b) (end g w u b)
+    link' = link_fits' g wired w holds u b atb
 
-  -- the root moves on over a Branch link
-  module _ (mark : (w.at u).mark b ≡ Branch) where
-    joins : Joins (tree_end (end g w u b)) (tree_end (far_end g w u b))
-    joins = ⊎_elim (λ h. record { here = mark; there = h }) (λ h. absurd (best_aside g wired u u_is j at w holds ms root b k best ((link.tree.out_connect (record { here = mark; there = h })).up))) (mark_is ((w.at (far g u b)).mark (far_port g u b)))
+    -- the root moves on over a Branch link
+    module _ (mark : (w.at u).mark b ≡ Branch) where
+      joins : Joins (tree_end (end g w u b)) (tree_end (far_end g w u b))
+      joins =
+          ⊎_elim (λ h. record { here = mark; there = h })
+          (λ h. absurd (best_aside g wired u u_is j at w holds ms root b k best ((link.tree.out_connect (record { here = mark; there = h })).up)))
+          (mark_is ((w.at (far g u b)).mark (far_port g u b)))
 
-    ghosts : ((w.at (far g u b)).coming ≡ (w.at u).coming) × ((w.at (far g u b)).coming_name ≡ (w.at u).coming_name)
-    ghosts = holds.trees.by_fragment (far g u b) u (sym (holds.trees.joined_within u b atb (record { here = ap is_branch joins.here; there = ap is_branch joins.there })))
+      ghosts : ((w.at (far g u b)).coming ≡ (w.at u).coming) × ((w.at (far g u b)).coming_name ≡ (w.at u).coming_name)
+      ghosts =
+          holds.trees.by_fragment (far g u b) u
+          (sym (holds.trees.joined_within u b atb (record { here = ap is_branch joins.here; there = ap is_branch joins.there })))
 
-    below_way : (w.at (far g u b)).up ≡ Some (far_port g u b)
-    below_way = leads_to g wired u u_is j at w holds ms root b k best b atb (record { here = ap is_branch joins.here; there = ap is_branch joins.there })
+      below_way : (w.at (far g u b)).up ≡ Some (far_port g u b)
+      below_way =
+          leads_to g wired u u_is j at w holds ms root b k best b atb
+          (record { here = ap is_branch joins.here; there = ap is_branch joins.there })
 
-    unnamed : (w.at u).coming_name ≢ Some (port_at g u b).key
-    unnamed n = (my_fits.best_port b k best).1 ((link.tree.core_ends joins n).at_top root.top)
+      unnamed : (w.at u).coming_name ≢ Some (port_at g u b).key
+      unnamed n = (my_fits.best_port b k best).1 ((link.tree.core_ends joins n).at_top root.top)
 
-    pub passes_lives : Lives g (acts g u (record (w.at u) { up = Some b }) (put (w.seen u) j (record (w.seen u j) { tree = ms })) ((b, ChangeRoot) ∷ []) w)
-    passes_lives =
-        moves_lives g wired u u_is j at w holds lives ms root b atb apart (w.at u).mark mark (λ i ne. refl) ChangeRoot (λ q n. call_append ChangeRoot refl q.tree ∙ n) (λ q. refl)
-        (λ e. below_way) (λ e. unnamed) (λ e n. unnamed (sym ghosts.1 ∙ n))
+      pub passes_lives : Lives g (acts g u (pointing (w.at u) b) (left_tree w u j ms) ((b, ChangeRoot) ∷ []) w)
+      passes_lives =
+          moves_lives g wired u u_is j at w holds lives ms root b atb apart (w.at u).mark mark (λ i ne. refl) ChangeRoot
+          (λ q n. call_append ChangeRoot refl q.tree ∙ n)
+          (λ q. refl)
+          (λ e. below_way) (λ e. unnamed) (λ e n. unnamed (sym ghosts.1 ∙ n))
 
-  -- the root goes out
-  module _ (mark : (w.at u).mark b ≢ Branch) where
-    -- to a fragment that hasn't connected to this one
-    pub connects_lives : (w.at (far g u b)).mark (far_port g u b) ≢ Branch → Lives g (acts g u (record (w.at u) { up = Some b; mark = put (w.at u).mark b Branch }) (put (w.seen u) j (record (w.seen u j) { tree = ms })) ((b, Connect (w.at u).head.level) ∷ []) w)
-    connects_lives free =
-        moves_lives g wired u u_is j at w holds lives ms root b atb apart (put (w.at u).mark b Branch) (put_same (w.at u).mark b Branch) (λ i ne. put_other (w.at u).mark b i Branch ne)
-        (Connect (w.at u).head.level) (λ q n. call_append (Connect (w.at u).head.level) refl q.tree ∙ n) (λ q. refl) (λ e. absurd (free e)) (λ e. absurd (free e)) (λ e. absurd (free e))
+    -- the root goes out
+    module _ (mark : (w.at u).mark b ≢ Branch) where
+      -- to a fragment that hasn't connected to this one
+      pub connects_lives :
+          (w.at (far g u b)).mark (far_port g u b) ≢ Branch →
+          Lives g (acts g u (sent_out (w.at u) b) (left_tree w u j ms) ((b, Connect (w.at u).head.level) ∷ []) w)
+      connects_lives free =
+          moves_lives g wired u u_is j at w holds lives ms root b atb apart (put (w.at u).mark b Branch) (put_same (w.at u).mark b Branch)
+          (λ i ne. put_other (w.at u).mark b i Branch ne)
+          (Connect (w.at u).head.level) (λ q n. call_append (Connect (w.at u).head.level) refl q.tree ∙ n) (λ q. refl) (λ e. absurd (free e))
+          (λ e. absurd (free e)) (λ e. absurd (free e))
 
-    -- and meets the Connect of the far end
-    module _ (ground : Ground g) (mark' : (w.at (far g u b)).mark (far_port g u b) ≡ Branch) where
-      abbrev mid : Scene
-      mid = acts g u (record (w.at u) { up = Some b; mark = put (w.at u).mark b Branch }) (put (w.seen u) j (record (w.seen u j) { tree = ms })) ((b, Connect (w.at u).head.level) ∷ []) w
+      -- and meets the Connect of the far end
+      module _ (ground : Ground g) (mark' : (w.at (far g u b)).mark (far_port g u b) ≡ Branch) where
+        abbrev mid : Scene
+        mid = acts g u (sent_out (w.at u) b) (left_tree w u j ms) ((b, Connect (w.at u).head.level) ∷ []) w
 
-      came : ConnectUnderWay (tree_end (far_end g w u b)) (tree_end (end g w u b))
-      came = link'.tree.out_connect (record { here = mark'; there = mark })
+        came : ConnectUnderWay (tree_end (far_end g w u b)) (tree_end (end g w u b))
+        came = link'.tree.out_connect (record { here = mark'; there = mark })
 
-      level_is : (t : ℕ) → (mid.at t).head.level ≡ (w.at t).head.level
-      level_is t = put_alike (λ (m : Member). m.head.level) w.at u (record (w.at u) { up = Some b; mark = put (w.at u).mark b Branch }) refl t
+        level_is : (t : ℕ) → (mid.at t).head.level ≡ (w.at t).head.level
+        level_is t = put_alike (λ (m : Member). m.head.level) w.at u (sent_out (w.at u) b) refl t
 
-      fragment_is : (t : ℕ) → (mid.at t).fragment ≡ (w.at t).fragment
-      fragment_is t = put_alike (λ (m : Member). m.fragment) w.at u (record (w.at u) { up = Some b; mark = put (w.at u).mark b Branch }) refl t
+        fragment_is : (t : ℕ) → (mid.at t).fragment ≡ (w.at t).fragment
+        fragment_is t = put_alike (λ (m : Member). m.fragment) w.at u (sent_out (w.at u) b) refl t
 
-      low : (t : ℕ) → InNetwork g t → ((mid.at t).fragment ≡ (mid.at (far g u b)).fragment) ⊎ ((mid.at t).fragment ≡ (mid.at u).fragment) → (mid.at t).head.level < suc (mid.at u).head.level
-      low t it i =
-          let a = level_is t in
-          let c = level_is u in
-          let d = (holds.nodes t it).lag.level in
-          let e = root.top in
-          let f = came.level in
-          let h = came.higher in
-          ⊎_elim
-          (λ s. let z = (holds.trees.by_fragment t (far g u b) (sym (fragment_is t) ∙ s ∙ fragment_is (far g u b))).0 in omega (arith, a, c, d, e, f, h, z))
-          (λ s. let z = (holds.trees.by_fragment t u (sym (fragment_is t) ∙ s ∙ fragment_is u)).0 in omega (arith, a, c, d, e, z)) i
+        low : (t : ℕ) →
+            InNetwork g t →
+            ((mid.at t).fragment ≡ (mid.at (far g u b)).fragment) ⊎ ((mid.at t).fragment ≡ (mid.at u).fragment) →
+            (mid.at t).head.level < suc (mid.at u).head.level
+        low t it i =
+            let a = level_is t in
+            let c = level_is u in
+            let d = (holds.nodes t it).lag.level in
+            let e = root.top in
+            let f = came.level in
+            let h = came.higher in
+            ⊎_elim
+            (λ s.
+            let z = (holds.trees.by_fragment t (far g u b) (sym (fragment_is t) ∙ s ∙ fragment_is (far g u b))).0 in
+            omega (arith, a, c, d, e, f, h, z))
+            (λ s. let z = (holds.trees.by_fragment t u (sym (fragment_is t) ∙ s ∙ fragment_is u)).0 in omega (arith, a, c, d, e, z)) i
 
-      met : Lives g mid
-      met =
-          moves_lives g wired u u_is j at w holds lives ms root b atb apart (put (w.at u).mark b Branch) (put_same (w.at u).mark b Branch) (λ i ne. put_other (w.at u).mark b i Branch ne)
-          (Connect (w.at u).head.level) (λ q n. call_append (Connect (w.at u).head.level) refl q.tree ∙ n) (λ q. refl) (λ e. came.up)
-          (λ e. no_name g ground.keyed w holds u b atb mark u u_is) (λ e. no_name g ground.keyed w holds u b atb mark (far g u b) (let z = wired.there u b atb in record { some = z.some; node = z.node }))
+        met : Lives g mid
+        met =
+            moves_lives g wired u u_is j at w holds lives ms root b atb apart (put (w.at u).mark b Branch) (put_same (w.at u).mark b Branch)
+            (λ i ne. put_other (w.at u).mark b i Branch ne)
+            (Connect (w.at u).head.level) (λ q n. call_append (Connect (w.at u).head.level) refl q.tree ∙ n) (λ q. refl) (λ e. came.up)
+            (λ e. no_name g ground.keyed w holds u b atb mark u u_is)
+            (λ e. no_name g ground.keyed w holds u b atb mark (far g u b) (let z = wired.there u b atb in record { some = z.some; node = z.node }))
 
-      pub meets_lives : Lives g (meet g u b (acts g u (record (w.at u) { up = Some b; mark = put (w.at u).mark b Branch }) (put (w.seen u) j (record (w.seen u j) { tree = ms })) ((b, Connect (w.at u).head.level) ∷ []) w))
-      meets_lives =
-          united_lives g mid met (mid.at (far g u b)).fragment (mid.at u).fragment (suc (mid.at u).head.level) (Some (port_at g u b).key) (λ t it i. inl (low t it i)) (connects_meeting g ground u u_is w holds j at ms b k calls best mark mark')
+        pub meets_lives : Lives g (meet g u b (acts g u (sent_out (w.at u) b) (left_tree w u j ms) ((b, Connect (w.at u).head.level) ∷ []) w))
+        meets_lives =
+            united_lives g mid met (mid.at (far g u b)).fragment (mid.at u).fragment (suc (mid.at u).head.level) (Some (port_at g u b).key)
+            (λ t it i. inl (low t it i))
+            (connects_meeting g ground u u_is w holds j at ms b k calls best mark mark')

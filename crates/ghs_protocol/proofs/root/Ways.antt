@@ -30,8 +30,16 @@ pub record Turns (g : Network) (s : Forest) (u b : ℕ) (β : ℕ → ℕ → Bo
   pub at : At g u b
   pub keeps : (v p : ℕ) → At g v p → IsJoinedIn g s v p → IsJoinedIn g (turning s u b β) v p
   pub only : (v p : ℕ) → At g v p → IsJoinedIn g (turning s u b β) v p → IsJoinedIn g s v p
-  pub out_keeps : (v p : ℕ) → At g v p → s.branch v p ≡ true → s.branch (far g v p) (far_port g v p) ≡ false → (β v p ≡ true) × (β (far g v p) (far_port g v p) ≡ false)
-  pub out_only : (v p : ℕ) → At g v p → β v p ≡ true → β (far g v p) (far_port g v p) ≡ false → ((v ≡ u) × (p ≡ b)) ⊎ ((s.branch v p ≡ true) × (s.branch (far g v p) (far_port g v p) ≡ false))
+  pub out_keeps : (v p : ℕ) →
+      At g v p →
+      s.branch v p ≡ true →
+      s.branch (far g v p) (far_port g v p) ≡ false →
+      (β v p ≡ true) × (β (far g v p) (far_port g v p) ≡ false)
+  pub out_only : (v p : ℕ) →
+      At g v p →
+      β v p ≡ true →
+      β (far g v p) (far_port g v p) ≡ false →
+      ((v ≡ u) × (p ≡ b)) ⊎ ((s.branch v p ≡ true) × (s.branch (far g v p) (far_port g v p) ≡ false))
   pub led : (p : ℕ) → At g u p → IsJoinedIn g s u p → s.up (far g u p) ≡ Some (far_port g u p)
   pub old : (v p : ℕ) → At g v p → Root g s v p → s.fragment v ≡ s.fragment u → IsJoinedIn g s v p × ((v ≡ u) ⊎ (far g v p ≡ u))
   pub root : Root g (turning s u b β) u b
@@ -70,35 +78,55 @@ module _ (g : Network) (wired : IsWired g) (s : Forest) (u b : ℕ) (β : ℕ �
   carried : {v : ℕ} → Reach g s v → Reach g s' v
   unfolding s'
   carried {v} (At_root p at way r) = ⊎_elim (λ e. subst (Reach g s') (sym e) reach_here) (λ ne. rooted v p at way ne r) (cases_eq v u)
-  carried {v} (By_step p at way l r) = ⊎_elim (λ e. subst (Reach g s') (sym e) reach_here) (λ ne. By_step p at (up_other v p ne way) (turns.keeps v p at l) (carried r)) (cases_eq v u)
+  carried {v} (By_step p at way l r) =
+      ⊎_elim (λ e. subst (Reach g s') (sym e) reach_here)
+      (λ ne. By_step p at (up_other v p ne way) (turns.keeps v p at l) (carried r))
+      (cases_eq v u)
 
   -- one root
   lies : (v p : ℕ) → At g v p → Root g s' v p → Lies g s u b v p
   unfolding s'
-  lies v p at (Goes_out a c) = ⊎_elim (λ h. Near h.0 h.1) (λ h. Elsewhere (Goes_out h.0 h.1) (λ e. let z = (turns.old v p at (Goes_out h.0 h.1) e).0.there in cc (z, h.1))) (turns.out_only v p at a c)
+  lies v p at (Goes_out a c) =
+      ⊎_elim (λ h. Near h.0 h.1)
+      (λ h. Elsewhere (Goes_out h.0 h.1) (λ e. let z = (turns.old v p at (Goes_out h.0 h.1) e).0.there in cc (z, h.1)))
+      (turns.out_only v p at a c)
   lies v p at (Both_ways l x y) = ⊎_elim near (λ ne. ⊎_elim away (beside ne) (cases_eq (far g v p) u)) (cases_eq v u)
     where
       near : v ≡ u → Lies g s u b v p
       near e = Near e (sym (same_Some b p (sym up_here ∙ subst (λ y. s'.up y ≡ Some p) e x)))
 
       away : far g v p ≡ u → Lies g s u b v p
-      away e = Away e (sym (same_Some b _ (sym up_here ∙ subst (λ z. s'.up z ≡ Some (far_port g v p)) e y))) (fits.joined_within v p at (turns.only v p at l) ∙ ap s.fragment e)
+      away e =
+          Away e
+          (sym (same_Some b _ (sym up_here ∙ subst (λ z. s'.up z ≡ Some (far_port g v p)) e y)))
+          (fits.joined_within v p at (turns.only v p at l) ∙ ap s.fragment e)
 
       beside : v ≢ u → far g v p ≢ u → Lies g s u b v p
-      beside ne ne' = let r : Root g s v p = Both_ways (turns.only v p at l) (up_was v p ne x) (up_was _ _ ne' y) in Elsewhere r (λ e. ⊎_elim ne ne' (turns.old v p at r e).1)
+      beside ne ne' =
+          let r : Root g s v p = Both_ways (turns.only v p at l) (up_was v p ne x) (up_was _ _ ne' y) in
+          Elsewhere r (λ e. ⊎_elim ne ne' (turns.old v p at r e).1)
 
-  meets : (v p a q : ℕ) → At g v p → At g a q → Lies g s u b v p → Lies g s u b a q → s.fragment v ≡ s.fragment a → ((v ≡ a) × (p ≡ q)) ⊎ ((far g v p ≡ a) × (far_port g v p ≡ q))
+  meets : (v p a q : ℕ) →
+      At g v p →
+      At g a q →
+      Lies g s u b v p →
+      Lies g s u b a q →
+      s.fragment v ≡ s.fragment a →
+      ((v ≡ a) × (p ≡ q)) ⊎ ((far g v p ≡ a) × (far_port g v p ≡ q))
   meets v p a q at at' (Elsewhere r ne) (Elsewhere r' ne') same = fits.one_root v p a q at at' r r' same
   meets v p a q at at' (Elsewhere r ne) (Near e h) same = absurd (ne (same ∙ ap s.fragment e))
   meets v p a q at at' (Elsewhere r ne) (Away e h f) same = absurd (ne (same ∙ f))
   meets v p a q at at' (Near e h) (Elsewhere r ne) same = absurd (ne (sym same ∙ ap s.fragment e))
   meets v p a q at at' (Away e h f) (Elsewhere r ne) same = absurd (ne (sym same ∙ f))
   meets v p a q at at' (Near e h) (Near e' h') same = inl (e ∙ sym e', h ∙ sym h')
-  meets v p a q at at' (Near e h) (Away e' h' f) same = inr (ap₂ (far g) (e ∙ sym e') (h ∙ sym h') ∙ wired.back a q at', ap₂ (far_port g) (e ∙ sym e') (h ∙ sym h') ∙ wired.back_port a q at')
+  meets v p a q at at' (Near e h) (Away e' h' f) same =
+      inr (ap₂ (far g) (e ∙ sym e') (h ∙ sym h') ∙ wired.back a q at', ap₂ (far_port g) (e ∙ sym e') (h ∙ sym h') ∙ wired.back_port a q at')
   meets v p a q at at' (Away e h f) (Near e' h') same = inr (e ∙ sym e', h ∙ sym h')
   meets v p a q at at' (Away e h f) (Away e' h' f') same =
-      inl
-      (sym (wired.back v p at) ∙ ap₂ (far g) (e ∙ sym e') (h ∙ sym h') ∙ wired.back a q at', sym (wired.back_port v p at) ∙ ap₂ (far_port g) (e ∙ sym e') (h ∙ sym h') ∙ wired.back_port a q at')
+      inl (
+        sym (wired.back v p at) ∙ ap₂ (far g) (e ∙ sym e') (h ∙ sym h') ∙ wired.back a q at',
+        sym (wired.back_port v p at) ∙ ap₂ (far_port g) (e ∙ sym e') (h ∙ sym h') ∙ wired.back_port a q at',
+      )
 
   -- each joined link leads to the root
   still_leads : (v p : ℕ) → At g v p → IsJoinedIn g s v p → (s'.up v ≡ Some p) ⊎ (s'.up (far g v p) ≡ Some (far_port g v p))
@@ -107,7 +135,8 @@ module _ (g : Network) (wired : IsWired g) (s : Forest) (u b : ℕ) (β : ℕ �
       here : v ≡ u → (s'.up v ≡ Some p) ⊎ (s'.up (far g v p) ≡ Some (far_port g v p))
       here e =
           let at' : At g u p = subst (λ y. At g y p) e at in
-          let way : s.up (far g v p) ≡ Some (far_port g v p) = subst (λ y. s.up (far g y p) ≡ Some (far_port g y p)) (sym e) (turns.led p at' (subst (λ y. IsJoinedIn g s y p) e l)) in
+          let way : s.up (far g v p) ≡ Some (far_port g v p) =
+          subst (λ y. s.up (far g y p) ≡ Some (far_port g y p)) (sym e) (turns.led p at' (subst (λ y. IsJoinedIn g s y p) e l)) in
           inr (up_other _ _ (λ z. wired.apart v p at (z ∙ sym e)) way)
 
       there : far g v p ≡ u → (s'.up v ≡ Some p) ⊎ (s'.up (far g v p) ≡ Some (far_port g v p))
@@ -127,7 +156,11 @@ module _ (g : Network) (wired : IsWired g) (s : Forest) (u b : ℕ) (β : ℕ �
   unfolding s'
   forest_turn = record {
     by_fragment = fits.by_fragment;
-    names_within = record { none = fits.names_within.none; at_zero = fits.names_within.at_zero; inside = λ v k is e. names_turn _ k (fits.names_within.inside v k is e) };
+    names_within = record {
+      none = fits.names_within.none;
+      at_zero = fits.names_within.at_zero;
+      inside = λ v k is e. names_turn _ k (fits.names_within.inside v k is e);
+    };
     sizes = fits.sizes;
     joined_within = λ v p at l. fits.joined_within v p at (turns.only v p at l);
     connected = λ a v ia iv e. leads_map turns.keeps (fits.connected a v ia iv e);

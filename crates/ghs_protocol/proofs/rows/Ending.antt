@@ -51,25 +51,47 @@ least_none ms e q b =
     let z : Some (position_or_len is_basic ms) ≡ None = sym some ∙ e in cc
 
 least_some : (ms : List Mark) (p : ℕ) → least_basic ms ≡ Some p → (q : ℕ) → q < p → get_or ms q Rejected ≢ Basic
-least_some ms p e q lt b = let z = (position-Some is_basic ms p Rejected e).2 q lt in let y : is_basic (get_or ms q Rejected) ≡ true = ap is_basic b in cc (y, z)
+least_some ms p e q lt b =
+    let z = (position-Some is_basic ms p Rejected e).2 q lt in let y : is_basic (get_or ms q Rejected) ≡ true = ap is_basic b in cc (y, z)
 
-pub settles_so : (g : Network) (v : ℕ) (m : Member) (ms : List Mark) (e : Ending) → (λ (p : ℕ). get_or ms p Rejected) ≡ m.mark → m.head.probe ≡ None → Settles ms m.head e → EndsSo g v m e
+pub settles_so : (g : Network) (v : ℕ) (m : Member) (ms : List Mark) (e : Ending) →
+    (λ (p : ℕ). get_or ms p Rejected) ≡ m.mark →
+    m.head.probe ≡ None →
+    Settles ms m.head e →
+    EndsSo g v m e
 settles_so g v m ms _ is none (Probes p least) =
-    Tests_least p none (sym (ap (λ (f : ℕ → Mark). f p) is) ∙ basic_is _ (position-Some is_basic ms p Rejected least).1) (λ q lt b. least_some ms p least q lt (ap (λ (f : ℕ → Mark). f q) is ∙ b))
-settles_so g v m ms e is none (Exhausts least c) = closes_so g v m e (exhausted_scan g v m none (λ q b. least_none ms least q (ap (λ (f : ℕ → Mark). f q) is ∙ b))) c
+    Tests_least p none
+    (sym (ap (λ (f : ℕ → Mark). f p) is) ∙ basic_is _ (position-Some is_basic ms p Rejected least).1)
+    (λ q lt b. least_some ms p least q lt (ap (λ (f : ℕ → Mark). f q) is ∙ b))
+settles_so g v m ms e is none (Exhausts least c) =
+    closes_so g v m e (exhausted_scan g v m none (λ q b. least_none ms least q (ap (λ (f : ℕ → Mark). f q) is ∙ b))) c
 
 module _ (g : Network) (ground : Ground g) (v : ℕ) (v_is : InNetwork g v) where
   is : InNetwork g v
   is = v_is
 
   -- the ending alone
-  ends_so : (w : Scene) → (n : Nearly g w v) → (e : Ending) → (w.at v).head.phase ≡ Find → EndsSo g v (w.at v) e → Sound g (acts g v (ended (w.at v) e) (w.seen v) (last_sends (w.at v).head e) w)
+  ends_so : (w : Scene) →
+      (n : Nearly g w v) → (e : Ending) → (w.at v).head.phase ≡ Find →
+      EndsSo g v (w.at v) e →
+      Sound g (acts g v (ended (w.at v) e) (w.seen v) (last_sends (w.at v).head e) w)
   ends_so w n _ finds (Tests_least p none basic least) = record {
     first = ends_alone g ground.wired v v_is w n.first (Probing p) finds (Tests_next p none basic);
     floor = n.floor;
-    floors = subst (λ (q : ℕ → Seen). Floors g (acts g v (ended (w.at v) (Probing p)) q (last_sends (w.at v).head (Probing p)) w) n.floor) (put_again (w.seen v) p) (scan_floors g ground.wired v v_is p at w n.first n.floor n.floors (w.at v).head.level (name_of (w.at v).head));
-    scans = scans_after g v v_is.some v_is.node (ended (w.at v) (Probing p)) (w.seen v) (last_sends (w.at v).head (Probing p)) w n.scans (probing_scan g ground.ordered v (ended (w.at v) (Probing p)) p at refl least (λ q b. record { some = v_is.some; node = v_is.node; port = fits.own_ports.mark q (λ z. cc (z, b)) }));
-    lives = subst (λ (q : ℕ → Seen). Lives g (acts g v (ended (w.at v) (Probing p)) q (last_sends (w.at v).head (Probing p)) w)) (put_again (w.seen v) p) (scan_lives g ground.wired v v_is p at w n.first n.lives (w.at v).head.level (name_of (w.at v).head) none basic);
+    floors =
+        subst
+        (λ (q : ℕ → Seen). Floors g (acts g v (ended (w.at v) (Probing p)) q (last_sends (w.at v).head (Probing p)) w) n.floor)
+        (put_again (w.seen v) p)
+        (scan_floors g ground.wired v v_is p at w n.first n.floor n.floors (w.at v).head.level (name_of (w.at v).head));
+    scans =
+        scans_after g v v_is.some v_is.node (ended (w.at v) (Probing p)) (w.seen v) (last_sends (w.at v).head (Probing p)) w n.scans
+        (probing_scan g ground.ordered v (ended (w.at v) (Probing p)) p at refl least
+        (λ q b. record { some = v_is.some; node = v_is.node; port = fits.own_ports.mark q (λ z. cc (z, b)) }));
+    lives =
+        subst
+        (λ (q : ℕ → Seen). Lives g (acts g v (ended (w.at v) (Probing p)) q (last_sends (w.at v).head (Probing p)) w))
+        (put_again (w.seen v) p)
+        (scan_lives g ground.wired v v_is p at w n.first n.lives (w.at v).head.level (name_of (w.at v).head) none basic);
   }
     where
       fits : NodeFits (length (g.ports v)) (w.at v)
@@ -81,13 +103,26 @@ module _ (g : Network) (ground : Ground g) (v : ℕ) (v_is : InNetwork g v) wher
     first = ends_alone g ground.wired v v_is w n.first Reporting finds (Reports_now at_zero none);
     floor = put n.floor v (Some (best_key (w.at v).head.best));
     floors =
-        subst (λ (q : ℕ → Seen). Floors g (acts g v (ended (w.at v) Reporting) q (last_sends (w.at v).head Reporting) w) (put n.floor v (Some (best_key (w.at v).head.best)))) (put_again (w.seen v) s.port)
-        (subst (λ b. Floors g (acts g v (ended (w.at v) Reporting) (put (w.seen v) s.port (w.seen v s.port)) ((b, Report (best_key (w.at v).head.best)) ∷ []) w) (put n.floor v (Some (best_key (w.at v).head.best)))) (sym way)
+        subst (λ (q : ℕ → Seen).
+        Floors g
+        (acts g v (ended (w.at v) Reporting) q (last_sends (w.at v).head Reporting) w) (put n.floor v (Some (best_key (w.at v).head.best))))
+        (put_again (w.seen v) s.port)
+        (subst (λ b.
+        Floors g
+        (acts g v (ended (w.at v) Reporting) (put (w.seen v) s.port (w.seen v s.port)) ((b, Report (best_key (w.at v).head.best)) ∷ []) w)
+        (put n.floor v (Some (best_key (w.at v).head.best))))
+        (sym way)
         (closes_floors g ground.wired v v_is s.port at w n.first finds s.in_branch none at_zero n.floor n.floors (λ q b. scan.done q finds none b)));
-    scans = scans_after g v v_is.some v_is.node (ended (w.at v) Reporting) (w.seen v) (last_sends (w.at v).head Reporting) w n.scans (rests_scan g v (ended (w.at v) Reporting) (λ e. cc));
+    scans =
+        scans_after g v v_is.some v_is.node (ended (w.at v) Reporting) (w.seen v) (last_sends (w.at v).head Reporting) w n.scans
+        (rests_scan g v (ended (w.at v) Reporting) (λ e. cc));
     lives =
         subst (λ (q : ℕ → Seen). Lives g (acts g v (ended (w.at v) Reporting) q (last_sends (w.at v).head Reporting) w)) (put_again (w.seen v) s.port)
-        (subst (λ b. Lives g (acts g v (ended (w.at v) Reporting) (put (w.seen v) s.port (w.seen v s.port)) ((b, Report (best_key (w.at v).head.best)) ∷ []) w)) (sym way) (closes_lives g ground.wired v v_is s.port at w n.first n.lives finds s.in_branch (best_key (w.at v).head.best)));
+        (subst (λ b.
+        Lives g
+        (acts g v (ended (w.at v) Reporting) (put (w.seen v) s.port (w.seen v s.port)) ((b, Report (best_key (w.at v).head.best)) ∷ []) w))
+        (sym way)
+        (closes_lives g ground.wired v v_is s.port at w n.first n.lives finds s.in_branch (best_key (w.at v).head.best)));
   }
     where
       fits : NodeFits (length (g.ports v)) (w.at v)
@@ -103,7 +138,13 @@ module _ (g : Network) (ground : Ground g) (v : ℕ) (v_is : InNetwork g v) wher
       at = record { some = v_is.some; node = v_is.node; port = fits.own_ports.in_branch s.port s.in_branch }
   ends_so w n _ finds (Waits_so scan) =
       subst (Sound g) (λ i. record { at = sym (put_again w.at v) i; seen = sym (put_again w.seen v) i })
-      (record { first = n.first; floor = n.floor; floors = n.floors; scans = λ u iu. ⊎_elim (λ (e : u ≡ v). subst (λ y. ScansInOrder g y (w.at y)) (sym e) scan) (λ ne. n.scans u iu ne) (cases_eq u v); lives = n.lives })
+      (record {
+        first = n.first;
+        floor = n.floor;
+        floors = n.floors;
+        scans = λ u iu. ⊎_elim (λ (e : u ≡ v). subst (λ y. ScansInOrder g y (w.at y)) (sym e) scan) (λ ne. n.scans u iu ne) (cases_eq u v);
+        lives = n.lives;
+      })
 
   -- the reaction with its ending, as one act
   pub ends_after_so :
@@ -111,7 +152,10 @@ module _ (g : Network) (ground : Ground g) (v : ℕ) (v_is : InNetwork g v) wher
       EndsSo g v x e → Sound g (acts g v (ended x e) own (ss ++ last_sends x.head e) w)
   ends_after_so x own ss w n e finds by =
       subst (Sound g) (sym (acts_split g v (ended x e) x own ss (last_sends x.head e) w))
-      (subst (λ (m : Member). Sound g (acts g v (ended m e) (mid.seen v) (last_sends m.head e) mid)) is_x (ends_so mid n e (ap (λ (m : Member). m.head.phase) is_x ∙ finds) (subst (λ (m : Member). EndsSo g v m e) (sym is_x) by)))
+      (subst
+      (λ (m : Member). Sound g (acts g v (ended m e) (mid.seen v) (last_sends m.head e) mid))
+      is_x
+      (ends_so mid n e (ap (λ (m : Member). m.head.phase) is_x ∙ finds) (subst (λ (m : Member). EndsSo g v m e) (sym is_x) by)))
     where
       mid : Scene
       mid = acts g v x own ss w

@@ -53,7 +53,11 @@ module _ (g : Network) (wired : IsWired g) (v : ℕ) (v_is : InNetwork g v) wher
   ends_alone w holds _ finds (Reports_now at_zero none) =
       subst (λ (q : ℕ → Seen). Invariant g (acts g v (ended (w.at v) Reporting) q (last_sends (w.at v).head Reporting) w))
       (put_again (w.seen v) s.port)
-      (subst (λ b. Invariant g (acts g v (ended (w.at v) Reporting) (put (w.seen v) s.port (w.seen v s.port)) ((b, Report (best_key (w.at v).head.best)) ∷ []) w)) (sym way) (closing.closes g wired v v_is s.port at w holds finds s.in_branch none at_zero))
+      (subst (λ b.
+      Invariant g
+      (acts g v (ended (w.at v) Reporting) (put (w.seen v) s.port (w.seen v s.port)) ((b, Report (best_key (w.at v).head.best)) ∷ []) w))
+      (sym way)
+      (closing.closes g wired v v_is s.port at w holds finds s.in_branch none at_zero))
     where
       fits : NodeFits (length (g.ports v)) (w.at v)
       fits = holds.nodes v v_is

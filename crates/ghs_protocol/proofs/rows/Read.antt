@@ -18,10 +18,10 @@ use Rattle.ghs_graph.specs.Ports.{no_port}
 use Rattle.ghs_protocol.specs.Net.{put}
 use Rattle.ghs_protocol.specs.Nodes.{IsNodeOf}
 use Rattle.ghs_protocol.proofs.clauses.Scene.{Seen, unseen, add, see}
+use Rattle.ghs_protocol.proofs.clauses.Changes.{marked}
 use Rattle.ghs_protocol.proofs.lemmas.Updates.{put_same, put_other}
 use Rattle.ghs_protocol.proofs.acts.AsRead.{both, same_seen, see_first}
 use Rattle.ghs_protocol.proofs.acts.Reactions.{put_again}
-use Rattle.ghs_protocol.proofs.acts.Situations.{marked}
 
 -- Connect, Initiate, Report and ChangeRoot
 abbrev pub is_tree : Message → Bool
@@ -60,7 +60,8 @@ module _ (q ms : List Message) where
   -- an Accept or a Reject does
   pub accept_first : q ≡ Accept ∷ ms → (see q).accepts ≡ suc (see ms).accepts
   accept_first e =
-      let z : (see q).accepts ≡ (both (add unseen Accept) (see ms)).accepts = ap (λ y. (see y).accepts) e ∙ ap (λ (s : Seen). s.accepts) (see_first Accept ms) in
+      let z : (see q).accepts ≡ (both (add unseen Accept) (see ms)).accepts =
+      ap (λ y. (see y).accepts) e ∙ ap (λ (s : Seen). s.accepts) (see_first Accept ms) in
       omega (arith, z)
 
   pub accept_left : q ≡ Accept ∷ ms → record (see q) { accepts = (see ms).accepts } ≡ see ms
@@ -71,7 +72,8 @@ module _ (q ms : List Message) where
 
   pub reject_first : q ≡ Reject ∷ ms → (see q).rejects ≡ suc (see ms).rejects
   reject_first e =
-      let z : (see q).rejects ≡ (both (add unseen Reject) (see ms)).rejects = ap (λ y. (see y).rejects) e ∙ ap (λ (s : Seen). s.rejects) (see_first Reject ms) in
+      let z : (see q).rejects ≡ (both (add unseen Reject) (see ms)).rejects =
+      ap (λ y. (see y).rejects) e ∙ ap (λ (s : Seen). s.rejects) (see_first Reject ms) in
       omega (arith, z)
 
   pub reject_left : q ≡ Reject ∷ ms → record (see q) { rejects = (see ms).rejects } ≡ see ms
@@ -93,13 +95,20 @@ module _ (q ms : List Message) where
 -- marks, as a function of the port
 
 -- a mark that is set
-pub set_marks : (ms : List Mark) (j : ℕ) (m : Mark) → j < length ms → (λ (p : ℕ). get_or (set ms j m) p Rejected) ≡ put (λ p. get_or ms p Rejected) j m
+pub set_marks : (ms : List Mark) (j : ℕ) (m : Mark) →
+    j < length ms →
+    (λ (p : ℕ). get_or (set ms j m) p Rejected) ≡ put (λ p. get_or ms p Rejected) j m
 set_marks ms j m lt =
     fun_ext
-    (λ p. ⊎_elim (λ (e : p ≡ j). rw e (get_or-set_same ms j m Rejected lt ∙ sym (put_same (λ p. get_or ms p Rejected) j m))) (λ ne. get_or-set_other ms j p m Rejected ne ∙ sym (put_other (λ p. get_or ms p Rejected) j p m ne)) (cases_eq p j))
+    (λ p. ⊎_elim
+    (λ (e : p ≡ j). rw e (get_or-set_same ms j m Rejected lt ∙ sym (put_same (λ p. get_or ms p Rejected) j m)))
+    (λ ne. get_or-set_other ms j p m Rejected ne ∙ sym (put_other (λ p. get_or ms p Rejected) j p m ne))
+    (cases_eq p j))
 
 -- the mark of port j, Rejected if it was Basic
-pub reject_marks : (n : NodeState) (j : ℕ) → j < degree n → (λ (p : ℕ). get_or (with_mark n.marks (reject_at n j)) p Rejected) ≡ marked (λ p. mark_at n p) j
+pub reject_marks : (n : NodeState) (j : ℕ) →
+    j < degree n →
+    (λ (p : ℕ). get_or (with_mark n.marks (reject_at n j)) p Rejected) ≡ marked (λ p. mark_at n p) j
 reject_marks n j lt = go (mark_at n j) refl
   where
     go : (m : Mark) → mark_at n j ≡ m → (λ (p : ℕ). get_or (with_mark n.marks (reject_at n j)) p Rejected) ≡ marked (λ p. mark_at n p) j

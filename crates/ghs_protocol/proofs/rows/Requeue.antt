@@ -36,7 +36,12 @@ test_round l n ms e =
     sym (see_first (Test l n) ms)
 
 -- a Connect at a Basic port is the only tree message there
-pub lone_connect : {N : ℕ → Key → Type 0} (e f : TreeEnd) → TreeFits N e f → TreeFits N f e → (l : ℕ) (ms : List Message) → e.tree ≡ Connect l ∷ ms → e.mark ≡ Basic → ms ≡ []
+pub lone_connect : {N : ℕ → Key → Type 0} (e f : TreeEnd) →
+    TreeFits N e f →
+    TreeFits N f e →
+    (l : ℕ) (ms : List Message) → e.tree ≡ Connect l ∷ ms →
+    e.mark ≡ Basic →
+    ms ≡ []
 lone_connect e f he hf l ms waits basic =
     ⊎_elim (λ b. let z : Connect l ∷ ms ≡ Connect f.level ∷ [] = sym waits ∙ (hf.out_connect (record { here = b; there = unmarked })).one in cc)
     (λ b. absurd (let z : Connect l ∷ ms ≡ [] = sym waits ∙ he.silent unmarked b in cc)) (mark_is f.mark)
@@ -45,7 +50,8 @@ lone_connect e f he hf l ms waits basic =
     unmarked z = cc (z, basic)
 
 -- so is a Report to a node that still searches, over its way to the core
-module _ {N : ℕ → Key → Type 0} (e f : TreeEnd) (he : TreeFits N e f) (hf : TreeFits N f e) (ups : Joins e f → Ups e ⊎ Ups f) (k : Option Key) (ms : List Message) (waits : e.tree ≡ Report k ∷ ms) (finds : e.phase ≡ Find) (up : Ups e) where
+module _ {N : ℕ → Key → Type 0} (e f : TreeEnd) (he : TreeFits N e f) (hf : TreeFits N f e) (ups : Joins e f → Ups e ⊎ Ups f)
+    (k : Option Key) (ms : List Message) (waits : e.tree ≡ Report k ∷ ms) (finds : e.phase ≡ Find) (up : Ups e) where
   only_report : (a : Stage) (r : Option Key) (v : ℕ) (n : Key) → e.tree ≡ called v n a ++ Report r ∷ [] → ms ≡ []
   only_report Asking r v n q = let z : Report k ∷ ms ≡ Report r ∷ [] = sym waits ∙ q in cc
   only_report Called r v n q = absurd (let z : Report k ∷ ms ≡ Initiate v n Find ∷ Report r ∷ [] = sym waits ∙ q in cc)
@@ -83,7 +89,8 @@ none_of (x ∷ xs) le = absurd (omega arith)
 pub lone_test : (e f : TestEnd) → TestsFit f e → (t : ℕ × Key) (ts : List (ℕ × Key)) → e.tests ≡ t ∷ ts → ts ≡ []
 lone_test e f hf t ts waits =
     none_of ts
-    (⊎_elim (λ a. let z = (hf.probing a).one in omega (arith, z, many)) (λ a. let z = (hf.not_probing a).one in omega (arith, z, many)) (probe_is f.probe f.port))
+    (⊎_elim (λ a. let z = (hf.probing a).one in omega (arith, z, many)) (λ a. let z = (hf.not_probing a).one in omega (arith, z, many))
+    (probe_is f.probe f.port))
   where
     many : length e.tests ≡ suc (length ts)
     many = ap length waits

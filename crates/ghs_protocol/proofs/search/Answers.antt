@@ -8,8 +8,8 @@ use Rattle.ghs_node.specs.declared.message.Phase.TheVariants.{Find}
 use Rattle.ghs_node.specs.declared.message.Message.{Message}
 use Rattle.ghs_node.specs.declared.message.Message.TheVariants.{Report}
 use Rattle.ghs_protocol.specs.Network.{Network, port_at, At, far, far_port, IsWired, InNetwork}
-use Rattle.ghs_protocol.specs.Net.{put}
 use Rattle.ghs_protocol.proofs.clauses.Scene.{Seen, Member, Scene, End, tree_end, test_end, end, acts, far_end}
+use Rattle.ghs_protocol.proofs.clauses.Changes.{left_tree, left_accepts, seen_beyond, took_accept, took_report}
 use Rattle.ghs_protocol.proofs.clauses.Nodes.{NodeFits}
 use Rattle.ghs_protocol.proofs.clauses.TreeMessages.{Reported}
 use Rattle.ghs_protocol.proofs.clauses.Search.{LeadsOut}
@@ -42,7 +42,10 @@ key_same p j k l e = key_Some k l (ap best_key e)
 
 -- the better one at a port
 pub better_at : (o : Best) (j : ℕ) (w : Option Key) (p : ℕ) (k : Key) → better o j w ≡ Some (p, k) → (o ≡ Some (p, k)) ⊎ ((p ≡ j) × (w ≡ Some k))
-better_at o j w p k e = ⊎_elim (λ z. inl (sym z ∙ e)) (λ t. let y : Some (p, k) ≡ Some (j, t.0) = sym e ∙ t.2 in inr (port_same p j k t.0 y, t.1 ∙ ap Some (sym (key_same p j k t.0 y)))) (better_is o j w)
+better_at o j w p k e =
+    ⊎_elim (λ z. inl (sym z ∙ e))
+    (λ t. let y : Some (p, k) ≡ Some (j, t.0) = sym e ∙ t.2 in inr (port_same p j k t.0 y, t.1 ∙ ap Some (sym (key_same p j k t.0 y))))
+    (better_is o j w)
 
 module _ (g : Network) (wired : IsWired g) (u : ℕ) (u_is : InNetwork g u) (j : ℕ) (at : At g u j) (w : Scene) (holds : Invariant g w) where
   my_fits : NodeFits (length (g.ports u)) (w.at u)
@@ -57,12 +60,22 @@ module _ (g : Network) (wired : IsWired g) (u : ℕ) (u_is : InNetwork g u) (j :
   inside : (i : ℕ) → At g u i → Joins (tree_end (end g w u i)) (tree_end (far_end g w u i)) → (w.at u).fragment ≡ (w.at (far g u i)).fragment
   inside i at' h = holds.trees.joined_within u i at' (record { here = ap is_branch h.here; there = ap is_branch h.there })
 
-  ways : (i : ℕ) → At g u i → Joins (tree_end (end g w u i)) (tree_end (far_end g w u i)) → Ups (tree_end (end g w u i)) ⊎ Ups (tree_end (far_end g w u i))
+  ways : (i : ℕ) →
+      At g u i →
+      Joins (tree_end (end g w u i)) (tree_end (far_end g w u i)) →
+      Ups (tree_end (end g w u i)) ⊎ Ups (tree_end (far_end g w u i))
   ways i at' h = holds.trees.joined_lead u i at' (record { here = ap is_branch h.here; there = ap is_branch h.there })
 
   -- at a node that searches each Branch link is joined
-  branch_joined : (i : ℕ) → At g u i → (w.at u).head.phase ≡ Find → (w.at u).mark i ≡ Branch → Joins (tree_end (end g w u i)) (tree_end (far_end g w u i))
-  branch_joined i at' finds here = ⊎_elim (λ b. record { here = here; there = b }) (λ b. absurd (let z = (holds.resting.out u i at' (record { here = here; there = b })).found u u_is refl in cc (z, finds))) (mark_is ((w.at (far g u i)).mark (far_port g u i)))
+  branch_joined : (i : ℕ) →
+      At g u i →
+      (w.at u).head.phase ≡ Find →
+      (w.at u).mark i ≡ Branch →
+      Joins (tree_end (end g w u i)) (tree_end (far_end g w u i))
+  branch_joined i at' finds here =
+      ⊎_elim (λ b. record { here = here; there = b })
+      (λ b. absurd (let z = (holds.resting.out u i at' (record { here = here; there = b })).found u u_is refl in cc (z, finds)))
+      (mark_is ((w.at (far g u i)).mark (far_port g u i)))
 
   -- an Accept is heard
   module _ (a : ℕ) (waits : (w.seen u j).accepts ≡ suc a) (own : (w.at u).head.probe ≡ Some j) where
@@ -82,30 +95,74 @@ module _ (g : Network) (wired : IsWired g) (u : ℕ) (u_is : InNetwork g u) (j :
         let same : z.port ≡ j = same_Some z.port j (sym z.up ∙ s.up ∙ sym s.in_branch ∙ e) in
         apart.0 (sym (inside j at (branch_joined j at finds (subst (λ y. (w.at u).mark y ≡ Branch) same z.mark))))
 
-    new : (i : ℕ) → (k : Key) → better (w.at u).head.best j (Some (port_at g u j).key) ≡ Some (i, k) → ((w.at u).head.best ≡ Some (i, k)) ⊎ (((w.at u).mark i ≢ Branch → LeadsOut (tree_end (end g w u i)) (tree_end (far_end g w u i)) k) × (Joins (tree_end (end g w u i)) (tree_end (far_end g w u i)) → Reported (tree_end (far_end g w u i)) (Some k)))
+    new : (i : ℕ) →
+        (k : Key) → better (w.at u).head.best j (Some (port_at g u j).key) ≡ Some (i, k) →
+        ((w.at u).head.best ≡ Some (i, k)) ⊎ (((w.at u).mark i ≢ Branch → LeadsOut (tree_end (end g w u i)) (tree_end (far_end g w u i)) k) ×
+        (Joins (tree_end (end g w u i)) (tree_end (far_end g w u i)) → Reported (tree_end (far_end g w u i)) (Some k)))
     new i k e =
         ⊎_elim inl
-        (λ t. inr (subst (λ y. ((w.at u).mark y ≢ Branch → LeadsOut (tree_end (end g w u y)) (tree_end (far_end g w u y)) k) × (Joins (tree_end (end g w u y)) (tree_end (far_end g w u y)) → Reported (tree_end (far_end g w u y)) (Some k))) (sym t.0) ((λ m. record { key = sym (key_Some (port_at g u j).key k t.1); apart = apart.0; higher = apart.1 }), (λ h. absurd (apart.0 (sym (inside j at h)))))))
+        (λ t.
+        inr (subst (λ y.
+        ((w.at u).mark y ≢ Branch → LeadsOut (tree_end (end g w u y)) (tree_end (far_end g w u y)) k) ×
+        (Joins (tree_end (end g w u y)) (tree_end (far_end g w u y)) → Reported (tree_end (far_end g w u y)) (Some k)))
+        (sym t.0) (
+          (λ m. record { key = sym (key_Some (port_at g u j).key k t.1); apart = apart.0; higher = apart.1 }),
+          (λ h. absurd (apart.0 (sym (inside j at h)))),
+        )))
         (better_at _ j (Some (port_at g u j).key) i k e)
 
-    best_fits : (p : ℕ) → (k : Key) → better (w.at u).head.best j (Some (port_at g u j).key) ≡ Some (p, k) → (p < length (g.ports u)) × ((w.at u).head.in_branch ≢ Some p)
-    best_fits p k e = ⊎_elim (λ z. my_fits.best_port p k z) (λ t. subst (λ y. (y < length (g.ports u)) × ((w.at u).head.in_branch ≢ Some y)) (sym t.0) (at.port, not_up)) (better_at _ j (Some (port_at g u j).key) p k e)
+    best_fits : (p : ℕ) →
+        (k : Key) → better (w.at u).head.best j (Some (port_at g u j).key) ≡ Some (p, k) →
+        (p < length (g.ports u)) × ((w.at u).head.in_branch ≢ Some p)
+    best_fits p k e =
+        ⊎_elim (λ z. my_fits.best_port p k z)
+        (λ t. subst (λ y. (y < length (g.ports u)) × ((w.at u).head.in_branch ≢ Some y)) (sym t.0) (at.port, not_up))
+        (better_at _ j (Some (port_at g u j).key) p k e)
 
     keeps : (w.at u).head.best ≢ None → better (w.at u).head.best j (Some (port_at g u j).key) ≢ None
     keeps ne = some_better (w.at u).head.best j (Some (port_at g u j).key) ne
 
-    pub hears_accept : Invariant g (acts g u (record (w.at u) { head = record (w.at u).head { probe = None; best = better (w.at u).head.best j (Some (port_at g u j).key) } }) (put (w.seen u) j (record (w.seen u j) { accepts = a })) [] w)
+    pub hears_accept : Invariant g (acts g u (took_accept (w.at u) j (port_at g u j).key) (left_accepts w u j a) [] w)
     hears_accept =
         kept_one g wired u u_is x j at (record (w.seen u j) { accepts = a }) [] [] (sends_none j) w
-        (record { alike = record { fragment = refl; coming = refl; coming_name = refl; up = refl; branch = λ p. refl }; found = λ e. e; mine = λ e. e; theirs = λ e. e })
+        (record {
+          alike = record { fragment = refl; coming = refl; coming_name = refl; up = refl; branch = λ p. refl };
+          found = λ e. e;
+          mine = λ e. e;
+          theirs = λ e. e;
+        })
         holds
-        (node_turned (length (g.ports u)) (w.at u) (w.at u).mark None _ _ my_fits (λ z. cc (finds, z)) (λ p. refl) my_fits.own_ports.mark (λ p z. absurd (not_some None p refl z)) (λ z. absurd (z finds)) best_fits)
-        (record { tree = tree_best (tree_end (end g w u j)) (tree_end (far_end g w u j)) b finds keeps lnk.tree; search = search_best (tree_end (end g w u j)) (tree_end (far_end g w u j)) b finds keeps (new j) lnk.search; tests = accepted_here (test_end (end g w u j)) (test_end (far_end g w u j)) own lnk.tests lnk'.tests a waits })
-        (record { tree = tree_best' (tree_end (end g w u j)) (tree_end (far_end g w u j)) b finds keeps lnk'.tree; search = search_best' (tree_end (end g w u j)) (tree_end (far_end g w u j)) b finds keeps lnk'.search; tests = accepted_there (test_end (end g w u j)) (test_end (far_end g w u j)) own lnk.tests lnk'.tests a waits })
-        (λ i at' ne h h'. record { tree = tree_best (tree_end (end g w u i)) (tree_end (far_end g w u i)) b finds keeps h.tree; search = search_best (tree_end (end g w u i)) (tree_end (far_end g w u i)) b finds keeps (new i) h.search; tests = tests_aside (test_end (end g w u i)) (test_end (far_end g w u i)) None _ _ (λ z. ne (sym (same_Some j i (sym own ∙ z)))) (not_some None i refl) (le_refl _) h.tests h'.tests })
-        (λ i at' ne h h'. record { tree = tree_best' (tree_end (end g w u i)) (tree_end (far_end g w u i)) b finds keeps h'.tree; search = search_best' (tree_end (end g w u i)) (tree_end (far_end g w u i)) b finds keeps h'.search; tests = tests_aside' (test_end (end g w u i)) (test_end (far_end g w u i)) None _ (w.at u).head.name (λ z. ne (sym (same_Some j i (sym own ∙ z)))) (not_some None i refl) (le_refl _) h.tests h'.tests })
+        (node_turned (length (g.ports u)) (w.at u) (w.at u).mark None _ _ my_fits (λ z. cc (finds, z)) (λ p. refl) my_fits.own_ports.mark
+        (λ p z. absurd (not_some None p refl z)) (λ z. absurd (z finds))
+        best_fits)
+        (record {
+          tree = tree_best (tree_end (end g w u j)) (tree_end (far_end g w u j)) b finds keeps lnk.tree;
+          search = search_best (tree_end (end g w u j)) (tree_end (far_end g w u j)) b finds keeps (new j) lnk.search;
+          tests = accepted_here (test_end (end g w u j)) (test_end (far_end g w u j)) own lnk.tests lnk'.tests a waits;
+        })
+        (record {
+          tree = tree_best' (tree_end (end g w u j)) (tree_end (far_end g w u j)) b finds keeps lnk'.tree;
+          search = search_best' (tree_end (end g w u j)) (tree_end (far_end g w u j)) b finds keeps lnk'.search;
+          tests = accepted_there (test_end (end g w u j)) (test_end (far_end g w u j)) own lnk.tests lnk'.tests a waits;
+        })
+        (λ i at' ne h h'. record {
+          tree = tree_best (tree_end (end g w u i)) (tree_end (far_end g w u i)) b finds keeps h.tree;
+          search = search_best (tree_end (end g w u i)) (tree_end (far_end g w u i)) b finds keeps (new i) h.search;
+          tests =
+              tests_aside (test_end (end g w u i)) (test_end (far_end g w u i)) None _ _ (λ z. ne (sym (same_Some j i (sym own ∙ z))))
+              (not_some None i refl) (le_refl _) h.tests h'.tests;
+        })
+        (λ i at' ne h h'. record {
+          tree = tree_best' (tree_end (end g w u i)) (tree_end (far_end g w u i)) b finds keeps h'.tree;
+          search = search_best' (tree_end (end g w u i)) (tree_end (far_end g w u i)) b finds keeps h'.search;
+          tests =
+              tests_aside' (test_end (end g w u i)) (test_end (far_end g w u i)) None _ (w.at u).head.name
+              (λ z. ne (sym (same_Some j i (sym own ∙ z))))
+              (not_some None i refl) (le_refl _) h.tests h'.tests;
+        })
         (λ e. e) refl
-        (sums_one g wired u u_is x j at (record (w.seen u j) { accepts = a }) [] [] (sends_none j) w holds.counted refl (λ i ne. refl) refl (λ i ne. refl))
+        (sums_one g wired u u_is x j at (record (w.seen u j) { accepts = a }) [] [] (sends_none j) w holds.counted refl (λ i ne. refl) refl
+        (λ i ne. refl))
       where
         b : Best
         b = better (w.at u).head.best j (Some (port_at g u j).key)
@@ -114,7 +171,8 @@ module _ (g : Network) (wired : IsWired g) (u : ℕ) (u_is : InNetwork g u) (j :
         x = record (w.at u) { head = record (w.at u).head { probe = None; best = b } }
 
   -- a child's Report is heard
-  module _ (k : Option Key) (ms : List Message) (c : ℕ) (waits : (w.seen u j).tree ≡ Report k ∷ ms) (away : (w.at u).head.in_branch ≢ Some j) (count : (w.at u).head.find_count ≡ suc c) where
+  module _ (k : Option Key) (ms : List Message) (c : ℕ) (waits : (w.seen u j).tree ≡ Report k ∷ ms)
+      (away : (w.at u).head.in_branch ≢ Some j) (count : (w.at u).head.find_count ≡ suc c) where
     finds' : (w.at u).head.phase ≡ Find
     finds' = ⊎_elim (λ h. h) (λ ne. absurd (let z = (my_fits.idle ne).1 in omega (arith, z, count))) (is_find' (w.at u).head.phase)
 
@@ -131,33 +189,81 @@ module _ (g : Network) (wired : IsWired g) (u : ℕ) (u_is : InNetwork g u) (j :
     unfolding b'
     keeps' ne = some_better (w.at u).head.best j k ne
 
-    new' : (i : ℕ) → (l : Key) → b' ≡ Some (i, l) → ((w.at u).head.best ≡ Some (i, l)) ⊎ (((w.at u).mark i ≢ Branch → LeadsOut (tree_end (end g w u i)) (tree_end (far_end g w u i)) l) × (Joins (tree_end (end g w u i)) (tree_end (far_end g w u i)) → Reported (tree_end (far_end g w u i)) (Some l)))
+    new' : (i : ℕ) →
+        (l : Key) → b' ≡ Some (i, l) →
+        ((w.at u).head.best ≡ Some (i, l)) ⊎ (((w.at u).mark i ≢ Branch → LeadsOut (tree_end (end g w u i)) (tree_end (far_end g w u i)) l) ×
+        (Joins (tree_end (end g w u i)) (tree_end (far_end g w u i)) → Reported (tree_end (far_end g w u i)) (Some l)))
     unfolding b'
-    new' i l e = ⊎_elim inl (λ t. inr (subst (λ y. ((w.at u).mark y ≢ Branch → LeadsOut (tree_end (end g w u y)) (tree_end (far_end g w u y)) l) × (Joins (tree_end (end g w u y)) (tree_end (far_end g w u y)) → Reported (tree_end (far_end g w u y)) (Some l))) (sym t.0) ((λ m. absurd (m joins.here)), (λ h. subst (Reported (tree_end (far_end g w u j))) t.1 heard.reported)))) (better_at _ j k i l e)
+    new' i l e =
+        ⊎_elim inl (λ t.
+        inr (subst (λ y.
+        ((w.at u).mark y ≢ Branch → LeadsOut (tree_end (end g w u y)) (tree_end (far_end g w u y)) l) ×
+        (Joins (tree_end (end g w u y)) (tree_end (far_end g w u y)) → Reported (tree_end (far_end g w u y)) (Some l)))
+        (sym t.0)
+        ((λ m. absurd (m joins.here)), (λ h. subst (Reported (tree_end (far_end g w u j))) t.1 heard.reported))))
+        (better_at _ j k i l e)
 
     best_fits' : (p : ℕ) → (l : Key) → b' ≡ Some (p, l) → (p < length (g.ports u)) × ((w.at u).head.in_branch ≢ Some p)
     unfolding b'
-    best_fits' p l e = ⊎_elim (λ z. my_fits.best_port p l z) (λ t. subst (λ y. (y < length (g.ports u)) × ((w.at u).head.in_branch ≢ Some y)) (sym t.0) (at.port, away)) (better_at _ j k p l e)
+    best_fits' p l e =
+        ⊎_elim (λ z. my_fits.best_port p l z)
+        (λ t. subst (λ y. (y < length (g.ports u)) × ((w.at u).head.in_branch ≢ Some y)) (sym t.0) (at.port, away))
+        (better_at _ j k p l e)
 
-    free : has_call (w.seen (far g u j) (far_port g u j)).tree ≡ false
-    free = uncalled (tree_end (end g w u j)) (tree_end (far_end g w u j)) heard.child (let s = holds.trees.by_fragment u (far g u j) (inside j at joins) in let l = my_fits.lag.level in let t = heard.reported.level in omega (arith, s.0, l, t)) (lnk'.tree.downward heard.child)
+    free : has_call (seen_beyond g w u j).tree ≡ false
+    free =
+        uncalled (tree_end (end g w u j)) (tree_end (far_end g w u j)) heard.child
+        (let s = holds.trees.by_fragment u (far g u j) (inside j at joins) in
+        let l = my_fits.lag.level in let t = heard.reported.level in omega (arith, s.0, l, t))
+        (lnk'.tree.downward heard.child)
 
     phase_free : is_find (w.at (far g u j)).head.phase ≡ false
     phase_free = ap is_find heard.reported.phase
 
-    pub hears_report : Invariant g (acts g u (record (w.at u) { head = record (w.at u).head { find_count = c; best = better (w.at u).head.best j k } }) (put (w.seen u) j (record (w.seen u j) { tree = [] })) [] w)
+    pub hears_report : Invariant g (acts g u (took_report (w.at u) j k c) (left_tree w u j []) [] w)
     unfolding b'
     hears_report =
         kept_one g wired u u_is x j at q [] [] (sends_none j) w
-        (record { alike = record { fragment = refl; coming = refl; coming_name = refl; up = refl; branch = λ p. refl }; found = λ e. e; mine = λ e. refl; theirs = λ e. e })
+        (record {
+          alike = record { fragment = refl; coming = refl; coming_name = refl; up = refl; branch = λ p. refl };
+          found = λ e. e;
+          mine = λ e. refl;
+          theirs = λ e. e;
+        })
         holds
-        (node_turned (length (g.ports u)) (w.at u) (w.at u).mark _ c _ my_fits (λ z. cc (finds', z)) (λ p. refl) my_fits.own_ports.mark my_fits.own_ports.probe (λ z. absurd (z finds')) best_fits')
-        (record { tree = tree_best (record (tree_end (end g w u j)) { tree = [] }) (tree_end (far_end g w u j)) b' finds' keeps' (tree_popped (tree_end (end g w u j)) (tree_end (far_end g w u j)) heard.child lnk.tree); search = search_trees (with_best (tree_end (end g w u j)) b') (tree_end (far_end g w u j)) [] _ (search_best (tree_end (end g w u j)) (tree_end (far_end g w u j)) b' finds' keeps' (new' j) lnk.search); tests = record { probing = lnk.tests.probing; not_probing = lnk.tests.not_probing } })
-        (record { tree = tree_best' (record (tree_end (end g w u j)) { tree = [] }) (tree_end (far_end g w u j)) b' finds' keeps' (tree_popped' (tree_end (end g w u j)) (tree_end (far_end g w u j)) heard.child lnk'.tree); search = search_trees (tree_end (far_end g w u j)) (with_best (tree_end (end g w u j)) b') _ [] (search_best' (tree_end (end g w u j)) (tree_end (far_end g w u j)) b' finds' keeps' lnk'.search); tests = record { probing = lnk'.tests.probing; not_probing = lnk'.tests.not_probing } })
-        (λ i at' ne h h'. record { tree = tree_best (tree_end (end g w u i)) (tree_end (far_end g w u i)) b' finds' keeps' h.tree; search = search_best (tree_end (end g w u i)) (tree_end (far_end g w u i)) b' finds' keeps' (new' i) h.search; tests = record { probing = h.tests.probing; not_probing = h.tests.not_probing } })
-        (λ i at' ne h h'. record { tree = tree_best' (tree_end (end g w u i)) (tree_end (far_end g w u i)) b' finds' keeps' h'.tree; search = search_best' (tree_end (end g w u i)) (tree_end (far_end g w u i)) b' finds' keeps' h'.search; tests = record { probing = h'.tests.probing; not_probing = h'.tests.not_probing } })
+        (node_turned (length (g.ports u)) (w.at u) (w.at u).mark _ c _ my_fits (λ z. cc (finds', z)) (λ p. refl) my_fits.own_ports.mark
+        my_fits.own_ports.probe (λ z. absurd (z finds')) best_fits')
+        (record {
+          tree =
+              tree_best (record (tree_end (end g w u j)) { tree = [] }) (tree_end (far_end g w u j)) b' finds' keeps'
+              (tree_popped (tree_end (end g w u j)) (tree_end (far_end g w u j)) heard.child lnk.tree);
+          search =
+              search_trees (with_best (tree_end (end g w u j)) b') (tree_end (far_end g w u j)) [] _
+              (search_best (tree_end (end g w u j)) (tree_end (far_end g w u j)) b' finds' keeps' (new' j) lnk.search);
+          tests = record { probing = lnk.tests.probing; not_probing = lnk.tests.not_probing };
+        })
+        (record {
+          tree =
+              tree_best' (record (tree_end (end g w u j)) { tree = [] }) (tree_end (far_end g w u j)) b' finds' keeps'
+              (tree_popped' (tree_end (end g w u j)) (tree_end (far_end g w u j)) heard.child lnk'.tree);
+          search =
+              search_trees (tree_end (far_end g w u j)) (with_best (tree_end (end g w u j)) b') _ []
+              (search_best' (tree_end (end g w u j)) (tree_end (far_end g w u j)) b' finds' keeps' lnk'.search);
+          tests = record { probing = lnk'.tests.probing; not_probing = lnk'.tests.not_probing };
+        })
+        (λ i at' ne h h'. record {
+          tree = tree_best (tree_end (end g w u i)) (tree_end (far_end g w u i)) b' finds' keeps' h.tree;
+          search = search_best (tree_end (end g w u i)) (tree_end (far_end g w u i)) b' finds' keeps' (new' i) h.search;
+          tests = record { probing = h.tests.probing; not_probing = h.tests.not_probing };
+        })
+        (λ i at' ne h h'. record {
+          tree = tree_best' (tree_end (end g w u i)) (tree_end (far_end g w u i)) b' finds' keeps' h'.tree;
+          search = search_best' (tree_end (end g w u i)) (tree_end (far_end g w u i)) b' finds' keeps' h'.search;
+          tests = record { probing = h'.tests.probing; not_probing = h'.tests.not_probing };
+        })
         (λ e. e) refl
-        (sums_one g wired u u_is x j at q [] [] (sends_none j) w holds.counted (omega (arith, count, was, is)) (λ i ne. refl) (debt_up (far_end g w u j) here' heard.child.up ∙ sym (debt_up (far_end g w u j) (end g w u j) heard.child.up)) (λ i ne. refl))
+        (sums_one g wired u u_is x j at q [] [] (sends_none j) w holds.counted (omega (arith, count, was, is)) (λ i ne. refl)
+        (debt_up (far_end g w u j) here' heard.child.up ∙ sym (debt_up (far_end g w u j) (end g w u j) heard.child.up)) (λ i ne. refl))
       where
         q : Seen
         q = record (w.seen u j) { tree = [] }
@@ -172,4 +278,6 @@ module _ (g : Network) (wired : IsWired g) (u : ℕ) (u_is : InNetwork g u) (j :
         was = debt_one (end g w u j) (far_end g w u j) heard.child.down (rw waits refl)
 
         is : ◌≡◌ {A = ℕ} (debt (record { port = j; key = (port_at g u j).key; mark = (w.at u).mark j; is = x; seen = q }) (far_end g w u j)) 0
-        is = debt_none (record { port = j; key = (port_at g u j).key; mark = (w.at u).mark j; is = x; seen = q }) (far_end g w u j) refl free phase_free
+        is =
+            debt_none
+            (record { port = j; key = (port_at g u j).key; mark = (w.at u).mark j; is = x; seen = q }) (far_end g w u j) refl free phase_free

@@ -53,39 +53,109 @@ module _ (e f : TreeEnd) (b : Best) (finds : e.phase ≡ Find) (some : e.best �
   stage_kept Begun h = h
 
   moved_kept : MovedFits e f → MovedFits (with_best e b) f
-  moved_kept (To_here m) = To_here (record { queue = m.queue; queue_beyond = m.queue_beyond; level = m.level; level_beyond = m.level_beyond; in_branch = m.in_branch; best = some m.best })
-  moved_kept (To_there m) = To_there (record { queue = m.queue; queue_beyond = m.queue_beyond; level = m.level; level_beyond = m.level_beyond; in_branch = m.in_branch; best = m.best })
+  moved_kept (To_here m) =
+      To_here (record {
+        queue = m.queue;
+        queue_beyond = m.queue_beyond;
+        level = m.level;
+        level_beyond = m.level_beyond;
+        in_branch = m.in_branch;
+        best = some m.best;
+      })
+  moved_kept (To_there m) =
+      To_there (record {
+        queue = m.queue;
+        queue_beyond = m.queue_beyond;
+        level = m.level;
+        level_beyond = m.level_beyond;
+        in_branch = m.in_branch;
+        best = m.best;
+      })
 
   moved_kept' : MovedFits f e → MovedFits f (with_best e b)
-  moved_kept' (To_here m) = To_here (record { queue = m.queue; queue_beyond = m.queue_beyond; level = m.level; level_beyond = m.level_beyond; in_branch = m.in_branch; best = m.best })
-  moved_kept' (To_there m) = To_there (record { queue = m.queue; queue_beyond = m.queue_beyond; level = m.level; level_beyond = m.level_beyond; in_branch = m.in_branch; best = some m.best })
+  moved_kept' (To_here m) =
+      To_here (record {
+        queue = m.queue;
+        queue_beyond = m.queue_beyond;
+        level = m.level;
+        level_beyond = m.level_beyond;
+        in_branch = m.in_branch;
+        best = m.best;
+      })
+  moved_kept' (To_there m) =
+      To_there (record {
+        queue = m.queue;
+        queue_beyond = m.queue_beyond;
+        level = m.level;
+        level_beyond = m.level_beyond;
+        in_branch = m.in_branch;
+        best = some m.best;
+      })
 
   pub tree_best : {N : ℕ → Key → Type 0} → TreeFits N e f → TreeFits N (with_best e b) f
   tree_best h = record {
-    out_connect = λ o. let z = h.out_connect (record { here = o.here; there = o.there }) in record { mark = z.mark; up = z.up; apart = z.apart; level = z.level; higher = z.higher; one = z.one; none = z.none };
+    out_connect = λ o.
+        let z = h.out_connect (record { here = o.here; there = o.there }) in
+        record { mark = z.mark; up = z.up; apart = z.apart; level = z.level; higher = z.higher; one = z.one; none = z.none };
     silent = h.silent;
     core_ends = λ j n. let z = h.core_ends (joins' j) n in record { at_top = z.at_top; below = z.below };
     upward = λ c. up_kept (h.upward (record { joins = joins' c.joins; up = c.up; down = c.down }));
     downward = λ c. down_kept (h.downward (record { joins = joins' c.joins; up = c.up; down = c.down }));
-    core_queues = λ c. let z = h.core_queues (record { both = record { joins = joins' c.both.joins; up = c.both.up; up_beyond = c.both.up_beyond }; named = c.named }) in record { here = z.here; there = z.there; at_here = stage_kept z.here z.at_here; at_there = z.at_there; served = z.served; served_beyond = z.served_beyond; queue = queue_kept z.queue; queue_beyond = queue_kept' z.queue_beyond };
-    moved_root = λ c. moved_kept (h.moved_root (record { both = record { joins = joins' c.both.joins; up = c.both.up; up_beyond = c.both.up_beyond }; unnamed = c.unnamed }));
+    core_queues = λ c.
+        let z =
+        h.core_queues (record { both = record { joins = joins' c.both.joins; up = c.both.up; up_beyond = c.both.up_beyond }; named = c.named }) in
+        record {
+          here = z.here;
+          there = z.there;
+          at_here = stage_kept z.here z.at_here;
+          at_there = z.at_there;
+          served = z.served;
+          served_beyond = z.served_beyond;
+          queue = queue_kept z.queue;
+          queue_beyond = queue_kept' z.queue_beyond;
+        };
+    moved_root = λ c.
+        moved_kept (h.moved_root
+        (record { both = record { joins = joins' c.both.joins; up = c.both.up; up_beyond = c.both.up_beyond }; unnamed = c.unnamed }));
   }
 
   pub tree_best' : {N : ℕ → Key → Type 0} → TreeFits N f e → TreeFits N f (with_best e b)
   tree_best' h = record {
-    out_connect = λ o. let z = h.out_connect (record { here = o.here; there = o.there }) in record { mark = z.mark; up = z.up; apart = z.apart; level = z.level; higher = z.higher; one = z.one; none = z.none };
+    out_connect = λ o.
+        let z = h.out_connect (record { here = o.here; there = o.there }) in
+        record { mark = z.mark; up = z.up; apart = z.apart; level = z.level; higher = z.higher; one = z.one; none = z.none };
     silent = h.silent;
     core_ends = λ j n. let z = h.core_ends (joins'' j) n in record { at_top = z.at_top; below = z.below };
     upward = λ c. up_kept' (h.upward (record { joins = joins'' c.joins; up = c.up; down = c.down }));
     downward = λ c. down_kept' (h.downward (record { joins = joins'' c.joins; up = c.up; down = c.down }));
-    core_queues = λ c. let z = h.core_queues (record { both = record { joins = joins'' c.both.joins; up = c.both.up; up_beyond = c.both.up_beyond }; named = c.named }) in record { here = z.here; there = z.there; at_here = z.at_here; at_there = stage_kept z.there z.at_there; served = z.served; served_beyond = z.served_beyond; queue = queue_kept' z.queue; queue_beyond = queue_kept z.queue_beyond };
-    moved_root = λ c. moved_kept' (h.moved_root (record { both = record { joins = joins'' c.both.joins; up = c.both.up; up_beyond = c.both.up_beyond }; unnamed = c.unnamed }));
+    core_queues = λ c.
+        let z =
+        h.core_queues (record { both = record { joins = joins'' c.both.joins; up = c.both.up; up_beyond = c.both.up_beyond }; named = c.named }) in
+        record {
+          here = z.here;
+          there = z.there;
+          at_here = z.at_here;
+          at_there = stage_kept z.there z.at_there;
+          served = z.served;
+          served_beyond = z.served_beyond;
+          queue = queue_kept' z.queue;
+          queue_beyond = queue_kept z.queue_beyond;
+        };
+    moved_root = λ c.
+        moved_kept' (h.moved_root
+        (record { both = record { joins = joins'' c.both.joins; up = c.both.up; up_beyond = c.both.up_beyond }; unnamed = c.unnamed }));
   }
 
-  pub search_best : ((k : Key) → b ≡ Some (e.port, k) → (e.best ≡ Some (e.port, k)) ⊎ ((e.mark ≢ Branch → LeadsOut e f k) × (Joins e f → Reported f (Some k)))) → SearchFits e f → SearchFits (with_best e b) f
+  pub search_best :
+      ((k : Key) → b ≡ Some (e.port, k) → (e.best ≡ Some (e.port, k)) ⊎ ((e.mark ≢ Branch → LeadsOut e f k) × (Joins e f → Reported f (Some k)))) →
+      SearchFits e f →
+      SearchFits (with_best e b) f
   search_best new h = record {
     rejected_inside = h.rejected_inside;
-    find_leads = λ k x l m. ⊎_elim (λ o. let t = h.find_leads k o l m in record { key = t.key; apart = t.apart; higher = t.higher }) (λ n. let t = n.0 m in record { key = t.key; apart = t.apart; higher = t.higher }) (new k x);
+    find_leads = λ k x l m. ⊎_elim
+        (λ o. let t = h.find_leads k o l m in record { key = t.key; apart = t.apart; higher = t.higher })
+        (λ n. let t = n.0 m in record { key = t.key; apart = t.apart; higher = t.higher })
+        (new k x);
     find_reported = λ k x l j. ⊎_elim (λ o. h.find_reported k o l (joins' j)) (λ n. n.1 (joins' j)) (new k x);
   }
 
@@ -101,6 +171,8 @@ pub better_is : (o : Best) (j : ℕ) (w : Option Key) → (better o j w ≡ o) �
 better_is o j None = inl refl
 better_is o j (Some w) = go (below (Some w) (best_key o)) refl
   where
-    go : (b : Bool) → below (Some w) (best_key o) ≡ b → (cond b (Some (j, w)) o ≡ o) ⊎ ((k : Key) × (Some w ≡ Some k) × (cond b (Some (j, w)) o ≡ Some (j, k)))
+    go : (b : Bool) →
+        below (Some w) (best_key o) ≡ b →
+        (cond b (Some (j, w)) o ≡ o) ⊎ ((k : Key) × (Some w ≡ Some k) × (cond b (Some (j, w)) o ≡ Some (j, k)))
     go true e = inr (w, refl, refl)
     go false e = inl refl

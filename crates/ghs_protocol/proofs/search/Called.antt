@@ -13,7 +13,14 @@ use Rattle.ghs_protocol.proofs.clauses.Search.{SearchFits}
 use Rattle.ghs_protocol.proofs.search.FirstReport.{Joint, joint, Down_here, Down_there, On_core, On_moved, mark_is, chain_rises}
 
 -- a chain, and one Initiate more
-pub chain_more : (N : Key → Type 0) (top : ℕ) (name : Option Key) (t l k : ℕ) (f : Key) (s : Phase) (xs : List Message) → Chain N top name t l xs → t < k → N f → (k ≡ top → name ≡ Some f) → s ≢ Sleeping → (s ≡ Find → k ≡ top) → Chain N top name k l (xs ++ Initiate k f s ∷ [])
+pub chain_more : (N : Key → Type 0) (top : ℕ) (name : Option Key) (t l k : ℕ) (f : Key) (s : Phase) (xs : List Message) →
+    Chain N top name t l xs →
+    t < k →
+    N f →
+    (k ≡ top → name ≡ Some f) →
+    s ≢ Sleeping →
+    (s ≡ Find → k ≡ top) →
+    Chain N top name k l (xs ++ Initiate k f s ∷ [])
 chain_more N top name t l k f s [] c lt a b d e = (omega (arith, c, lt), a, b, d, e, omega arith)
 chain_more N top name t l k f s (Initiate k' f' s' ∷ xs) c lt a b d e = (c.0, c.1, c.2, c.3, c.4, chain_more N top name t k' k f s xs c.5 lt a b d e)
 chain_more N top name t l k f s (Connect _ ∷ xs) c lt a b d e = absurd c
@@ -26,7 +33,14 @@ chain_more N top name t l k f s (ChangeRoot ∷ xs) c lt a b d e = absurd c
 -- the Initiate comes from the parent, or over the core, where b is the far end's stage
 pub data Way (N : Key → Type 0) (e f : TreeEnd) (l : ℕ) (n : Key) (s : Phase) (ms : List Message) : Type 0 where
   From_parent : Child e f → Chain N e.coming e.coming_name f.level l ms → f.tree ≡ [] → Way N e f l n s ms
-  Over_core : Core e f → (b : Stage) → AtStage f b → b ≢ Asking → f.tree ≡ called f.coming f.key b → CoreQueue (record e { tree = ms }) f Begun b → l ≡ e.coming → Way N e f l n s ms
+  Over_core :
+      Core e f →
+      (b : Stage) → AtStage f b →
+      b ≢ Asking →
+      f.tree ≡ called f.coming f.key b →
+      CoreQueue (record e { tree = ms }) f Begun b →
+      l ≡ e.coming →
+      Way N e f l n s ms
 
 pub record Calls (N : Key → Type 0) (e f : TreeEnd) (l : ℕ) (n : Key) (s : Phase) (ms : List Message) : Type 0 where
   pub joins : Joins e f
@@ -39,9 +53,19 @@ pub record Calls (N : Key → Type 0) (e f : TreeEnd) (l : ℕ) (n : Key) (s : P
   pub find : s ≡ Find → l ≡ e.coming
   pub way : Way N e f l n s ms
 
-module _ {N : ℕ → Key → Type 0} (e f : TreeEnd) (he : TreeFits N e f) (hf : TreeFits N f e) (ups : Joins e f → Ups e ⊎ Ups f) (own : Joins e f → N e.fragment e.key) (lags : Joins e f → f.level ≤ e.coming) (l : ℕ) (n : Key) (s : Phase) (ms : List Message) (waits : e.tree ≡ Initiate l n s ∷ ms) where
+module _ {N : ℕ → Key → Type 0} (e f : TreeEnd) (he : TreeFits N e f) (hf : TreeFits N f e) (ups : Joins e f → Ups e ⊎ Ups f)
+    (own : Joins e f → N e.fragment e.key) (lags : Joins e f → f.level ≤ e.coming) (l : ℕ) (n : Key) (s : Phase) (ms : List Message)
+    (waits : e.tree ≡ Initiate l n s ∷ ms) where
   joins_call : Joins e f
-  joins_call = ⊎_elim (λ a. ⊎_elim (λ b. record { here = a; there = b }) (λ b. absurd (let z = (he.out_connect (record { here = a; there = b })).none in cc)) (mark_is f.mark)) (λ a. ⊎_elim (λ b. absurd (let z = (hf.out_connect (record { here = b; there = a })).one in cc)) (λ b. absurd (let z = he.silent a b in cc)) (mark_is f.mark)) (mark_is e.mark)
+  joins_call =
+      ⊎_elim (λ a. ⊎_elim (λ b. record { here = a; there = b })
+      (λ b. absurd (let z = (he.out_connect (record { here = a; there = b })).none in cc))
+      (mark_is f.mark))
+      (λ a. ⊎_elim
+      (λ b. absurd (let z = (hf.out_connect (record { here = b; there = a })).one in cc))
+      (λ b. absurd (let z = he.silent a b in cc))
+      (mark_is f.mark))
+      (mark_is e.mark)
 
   down : (c : Child e f) → Downward (N e.fragment) e f → Calls (N e.fragment) e f l n s ms
   down c (Initiates x) = record {
@@ -76,7 +100,14 @@ module _ {N : ℕ → Key → Type 0} (e f : TreeEnd) (he : TreeFits N e f) (hf 
   moved (To_there m) = absurd (let z : Initiate l n s ∷ ms ≡ [] = sym waits ∙ m.queue_beyond in cc)
 
   -- over the core
-  on_core : (c : Core e f) → (b : Stage) → AtStage f b → b ≢ Asking → f.tree ≡ called f.coming f.key b → suc e.level ≡ e.coming → CoreQueue (record e { tree = ms }) f Begun b → (l ≡ e.coming) × (n ≡ e.key) × (s ≡ Find) → Calls (N e.fragment) e f l n s ms
+  on_core : (c : Core e f) →
+      (b : Stage) → AtStage f b →
+      b ≢ Asking →
+      f.tree ≡ called f.coming f.key b →
+      suc e.level ≡ e.coming →
+      CoreQueue (record e { tree = ms }) f Begun b →
+      (l ≡ e.coming) × (n ≡ e.key) × (s ≡ Find) →
+      Calls (N e.fragment) e f l n s ms
   on_core c b at ne far low queue same = record {
     joins = c.both.joins;
     up = c.both.up;
@@ -99,14 +130,27 @@ module _ {N : ℕ → Key → Type 0} (e f : TreeEnd) (he : TreeFits N e f) (hf 
   far_queue b (Plain q) = q
   far_queue b (With_report k q t p x) = absurd (let z = t in cc)
 
-  core : (c : Core e f) → (a b : Stage) → AtStage e a → AtStage f b → Served a b → CoreQueue e f a b → CoreQueue f e b a → Calls (N e.fragment) e f l n s ms
-  core c Called Called ae bf sv (Plain q) q' = let h : Initiate l n s ∷ ms ≡ Initiate e.coming e.key Find ∷ [] = sym waits ∙ q in on_core c Called bf (λ z. cc) (far_queue Called q') ae (Plain (rest_is _ _ _ h)) (parts _ _ _ h)
-  core c Called Begun ae bf sv (Plain q) q' = let h : Initiate l n s ∷ ms ≡ Initiate e.coming e.key Find ∷ [] = sym waits ∙ q in on_core c Begun bf (λ z. cc) (far_queue Begun q') ae (Plain (rest_is _ _ _ h)) (parts _ _ _ h)
-  core c Called b ae bf sv (With_report k q t p x) q' = let h : Initiate l n s ∷ ms ≡ Initiate e.coming e.key Find ∷ Report k ∷ [] = sym waits ∙ q in on_core c b bf (λ z. cc (z, t)) (far_queue b q') ae (With_report k (rest_is _ _ _ h) t p x) (parts _ _ _ h)
+  core : (c : Core e f) →
+      (a b : Stage) → AtStage e a →
+      AtStage f b →
+      Served a b →
+      CoreQueue e f a b →
+      CoreQueue f e b a →
+      Calls (N e.fragment) e f l n s ms
+  core c Called Called ae bf sv (Plain q) q' =
+      let h : Initiate l n s ∷ ms ≡ Initiate e.coming e.key Find ∷ [] = sym waits ∙ q in
+      on_core c Called bf (λ z. cc) (far_queue Called q') ae (Plain (rest_is _ _ _ h)) (parts _ _ _ h)
+  core c Called Begun ae bf sv (Plain q) q' =
+      let h : Initiate l n s ∷ ms ≡ Initiate e.coming e.key Find ∷ [] = sym waits ∙ q in
+      on_core c Begun bf (λ z. cc) (far_queue Begun q') ae (Plain (rest_is _ _ _ h)) (parts _ _ _ h)
+  core c Called b ae bf sv (With_report k q t p x) q' =
+      let h : Initiate l n s ∷ ms ≡ Initiate e.coming e.key Find ∷ Report k ∷ [] = sym waits ∙ q in
+      on_core c b bf (λ z. cc (z, t)) (far_queue b q') ae (With_report k (rest_is _ _ _ h) t p x) (parts _ _ _ h)
   core c Asking b ae bf sv (With_report k q t p x) q' = absurd (let z : Initiate l n s ∷ ms ≡ Report k ∷ [] = sym waits ∙ q in cc)
   core c Begun b ae bf sv (With_report k q t p x) q' = absurd (let z : Initiate l n s ∷ ms ≡ Report k ∷ [] = sym waits ∙ q in cc)
   core c Asking Asking ae bf sv (Plain q) q' = absurd (let z : Initiate l n s ∷ ms ≡ Connect f.level ∷ [] = sym waits ∙ q in cc)
-  core c Called Asking ae bf sv (Plain q) q' = absurd (let z : Initiate l n s ∷ ms ≡ Connect f.level ∷ Initiate e.coming e.key Find ∷ [] = sym waits ∙ q in cc)
+  core c Called Asking ae bf sv (Plain q) q' =
+      absurd (let z : Initiate l n s ∷ ms ≡ Connect f.level ∷ Initiate e.coming e.key Find ∷ [] = sym waits ∙ q in cc)
   core c Begun Asking ae bf sv (Plain q) q' = absurd sv
   core c Asking Called ae bf sv (Plain q) q' = absurd (let z : Initiate l n s ∷ ms ≡ [] = sym waits ∙ q in cc)
   core c Begun Called ae bf sv (Plain q) q' = absurd (let z : Initiate l n s ∷ ms ≡ [] = sym waits ∙ q in cc)
@@ -144,10 +188,30 @@ module _ (N : ℕ → Key → Type 0) (e f : TreeEnd) (l : ℕ) (n : Key) (s : P
 
   told_core : Way (N e.fragment) e f l n s ms → Core e f → CoreFits (told e l s (Some e.port) ms) f
   told_core (From_parent d x q) k = absurd (d.down k.both.up_beyond)
-  told_core (Over_core d b at ne far queue top) k = record { here = Begun; there = b; at_here = top; at_there = at; served = unasked b ne; served_beyond = begun_after b; queue = here_queue queue; queue_beyond = Plain far }
+  told_core (Over_core d b at ne far queue top) k = record {
+    here = Begun;
+    there = b;
+    at_here = top;
+    at_there = at;
+    served = unasked b ne;
+    served_beyond = begun_after b;
+    queue = here_queue queue;
+    queue_beyond = Plain far;
+  }
 
   told_core' : Way (N e.fragment) e f l n s ms → Core e f → CoreFits f (told e l s (Some e.port) ms)
-  told_core' w k = let z = told_core w k in record { here = z.there; there = z.here; at_here = z.at_there; at_there = z.at_here; served = z.served_beyond; served_beyond = z.served; queue = z.queue_beyond; queue_beyond = z.queue }
+  told_core' w k =
+      let z = told_core w k in
+      record {
+        here = z.there;
+        there = z.here;
+        at_here = z.at_there;
+        at_there = z.at_here;
+        served = z.served_beyond;
+        served_beyond = z.served;
+        queue = z.queue_beyond;
+        queue_beyond = z.queue;
+      }
 
   unmoved : Way (N e.fragment) e f l n s ms → Ups f → e.coming_name ≢ Some e.key → ⊥
   unmoved (From_parent d x q) u ne = d.down u
@@ -179,12 +243,15 @@ module _ (N : ℕ → Key → Type 0) (e f : TreeEnd) (l : ℕ) (n : Key) (s : P
     core_ends = λ j h. let z = t.core_ends (record { here = j.here; there = j.there }) h in record { at_top = z.at_top; below = z.below };
     upward = λ k. absurd (k.down c.up);
     downward = λ k. absurd (k.down c.up);
-    core_queues = λ k. told_core' c.way (record { both = record { joins = c.joins; up = c.up; up_beyond = k.both.up }; named = sym names ∙ k.named ∙ ap Some keys });
+    core_queues = λ k.
+        told_core' c.way
+        (record { both = record { joins = c.joins; up = c.up; up_beyond = k.both.up }; named = sym names ∙ k.named ∙ ap Some keys });
     moved_root = λ k. absurd (unmoved c.way k.both.up (λ z. k.unnamed (names ∙ z ∙ ap Some (sym keys))));
   }
 
 -- at another port
-module _ (N : ℕ → Key → Type 0) (e f : TreeEnd) (l : ℕ) (n : Key) (s : Phase) (o : Option ℕ) (away : e.up ≢ Some e.port) (rises : e.level < l) (most : l ≤ e.coming) where
+module _ (N : ℕ → Key → Type 0) (e f : TreeEnd) (l : ℕ) (n : Key) (s : Phase) (o : Option ℕ) (away : e.up ≢ Some e.port)
+    (rises : e.level < l) (most : l ≤ e.coming) where
   -- which isn't Branch
   module _ (aside : e.mark ≢ Branch) where
     pub tree_past : TreeFits N e f → TreeFits N (told e l s o e.tree) f
@@ -200,7 +267,17 @@ module _ (N : ℕ → Key → Type 0) (e f : TreeEnd) (l : ℕ) (n : Key) (s : P
 
     pub tree_past' : TreeFits N f e → TreeFits N f (told e l s o e.tree)
     tree_past' t = record {
-      out_connect = λ z. let y = t.out_connect (record { here = z.here; there = z.there }) in record { mark = y.mark; up = y.up; apart = y.apart; level = y.level; higher = let h = y.higher in omega (arith, h, rises); one = y.one; none = y.none };
+      out_connect = λ z.
+          let y = t.out_connect (record { here = z.here; there = z.there }) in
+          record {
+            mark = y.mark;
+            up = y.up;
+            apart = y.apart;
+            level = y.level;
+            higher = let h = y.higher in omega (arith, h, rises);
+            one = y.one;
+            none = y.none;
+          };
       silent = λ a b. t.silent a b;
       core_ends = λ j. absurd (aside j.there);
       upward = λ c. absurd (aside c.joins.there);
@@ -210,7 +287,9 @@ module _ (N : ℕ → Key → Type 0) (e f : TreeEnd) (l : ℕ) (n : Key) (s : P
     }
 
   -- which is: the Initiate is passed on
-  module _ (joins : Joins e f) (ups : Ups f) (same : f.fragment ≡ e.fragment) (tops : f.coming ≡ e.coming) (names : f.coming_name ≡ e.coming_name) (inside : N e.fragment n) (name : l ≡ e.coming → e.coming_name ≡ Some n) (awake : s ≢ Sleeping) (find : s ≡ Find → l ≡ e.coming) where
+  module _ (joins : Joins e f) (ups : Ups f) (same : f.fragment ≡ e.fragment) (tops : f.coming ≡ e.coming)
+      (names : f.coming_name ≡ e.coming_name) (inside : N e.fragment n) (name : l ≡ e.coming → e.coming_name ≡ Some n) (awake : s ≢ Sleeping)
+      (find : s ≡ Find → l ≡ e.coming) where
     abbrev pub passed_to : TreeEnd
     passed_to = record f { tree = f.tree ++ Initiate l n s ∷ [] }
 
@@ -230,7 +309,9 @@ module _ (N : ℕ → Key → Type 0) (e f : TreeEnd) (l : ℕ) (n : Key) (s : P
     up_passed (Report_up k q r) = Report_up k q (record { phase = r.phase; in_branch = r.in_branch; level = r.level; key = r.key })
 
     longer : (xs : List Message) → Falls (N f.fragment) f e xs → Falls (N f.fragment) passed_to (told e l s o e.tree) (xs ++ Initiate l n s ∷ [])
-    longer xs x = chain_more (N f.fragment) f.coming f.coming_name e.level f.level l n s xs x rises (subst (λ y. N y n) (sym same) inside) (λ h. names ∙ name (h ∙ tops)) awake (λ h. find h ∙ sym tops)
+    longer xs x =
+        chain_more (N f.fragment) f.coming f.coming_name e.level f.level l n s xs x rises (subst (λ y. N y n) (sym same) inside)
+        (λ h. names ∙ name (h ∙ tops)) awake (λ h. find h ∙ sym tops)
 
     more : (xs : List Message) → xs ++ Initiate l n s ∷ [] ≢ []
     more [] = λ z. cc
@@ -238,7 +319,9 @@ module _ (N : ℕ → Key → Type 0) (e f : TreeEnd) (l : ℕ) (n : Key) (s : P
 
     down_passed : Downward (N f.fragment) f e → Downward (N f.fragment) passed_to (told e l s o e.tree)
     down_passed (Initiates x) = Initiates (longer f.tree x)
-    down_passed (Old_report k xs q h x) = Old_report k (xs ++ Initiate l n s ∷ []) (ap (λ z. z ++ Initiate l n s ∷ []) q) (record { in_branch = h.in_branch; phase = h.phase; worse = h.worse; there = λ z. absurd (more xs z) }) (longer xs x)
+    down_passed (Old_report k xs q h x) =
+        Old_report k (xs ++ Initiate l n s ∷ []) (ap (λ z. z ++ Initiate l n s ∷ []) q)
+        (record { in_branch = h.in_branch; phase = h.phase; worse = h.worse; there = λ z. absurd (more xs z) }) (longer xs x)
 
     pub tree_passed' : TreeFits N f e → TreeFits N passed_to (told e l s o e.tree)
     tree_passed' t = record {
@@ -254,11 +337,17 @@ module _ (N : ℕ → Key → Type 0) (e f : TreeEnd) (l : ℕ) (n : Key) (s : P
 -- the search clauses: there is no best any more, and no child has reported yet
 module _ (e f : TreeEnd) (l : ℕ) (s : Phase) (o : Option ℕ) (rises : e.level < l) (most : l ≤ e.coming) (t t' : List Message) where
   pub search_told : SearchFits e f → SearchFits (told e l s o t) (record f { tree = t' })
-  search_told h = record { rejected_inside = h.rejected_inside; find_leads = λ k z. absurd (let y = z in cc); find_reported = λ k z. absurd (let y = z in cc) }
+  search_told h = record {
+    rejected_inside = h.rejected_inside;
+    find_leads = λ k z. absurd (let y = z in cc);
+    find_reported = λ k z. absurd (let y = z in cc);
+  }
 
   pub search_told' : SearchFits f e → SearchFits (record f { tree = t' }) (told e l s o t)
   search_told' h = record {
     rejected_inside = h.rejected_inside;
-    find_leads = λ k x y m. let z = h.find_leads k x y m in record { key = z.key; apart = z.apart; higher = let q = z.higher in omega (arith, q, rises) };
-    find_reported = λ k x y j. absurd (let z = (h.find_reported k x y (record { here = j.here; there = j.there })).level in omega (arith, z, rises, most));
+    find_leads =
+        λ k x y m. let z = h.find_leads k x y m in record { key = z.key; apart = z.apart; higher = let q = z.higher in omega (arith, q, rises) };
+    find_reported =
+        λ k x y j. absurd (let z = (h.find_reported k x y (record { here = j.here; there = j.there })).level in omega (arith, z, rises, most));
   }

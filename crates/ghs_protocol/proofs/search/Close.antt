@@ -10,6 +10,7 @@ use Rattle.ghs_node.specs.declared.message.Message.TheVariants.{Connect, Initiat
 use Rattle.ghs_protocol.specs.Network.{Network, port_at, At, far, far_port, IsWired, InNetwork}
 use Rattle.ghs_protocol.specs.Net.{put}
 use Rattle.ghs_protocol.proofs.clauses.Scene.{Member, Scene, End, TreeEnd, tree_end, end, acts, far_end}
+use Rattle.ghs_protocol.proofs.clauses.Changes.{seen_beyond}
 use Rattle.ghs_protocol.proofs.clauses.Nodes.{NodeFits}
 use Rattle.ghs_protocol.proofs.clauses.TreeMessages.{TreeFits, Upward, Nothing_up, Report_up, Downward, Initiates, Old_report, CoreFits, CoreQueue, Plain, With_report, Moved, Stage, Asking, Called, Begun, AtStage, asked, called}
 use Rattle.ghs_protocol.proofs.clauses.Search.{SearchFits}
@@ -57,7 +58,9 @@ module _ (e f : TreeEnd) (finds : e.phase ≡ Find) where
   module _ (away : e.up ≢ Some e.port) where
     pub tree_done : {N : ℕ → Key → Type 0} → TreeFits N e f → TreeFits N (found e) f
     tree_done h = record {
-      out_connect = λ o. let z = h.out_connect (record { here = o.here; there = o.there }) in record { mark = z.mark; up = z.up; apart = z.apart; level = z.level; higher = z.higher; one = z.one; none = z.none };
+      out_connect = λ o.
+          let z = h.out_connect (record { here = o.here; there = o.there }) in
+          record { mark = z.mark; up = z.up; apart = z.apart; level = z.level; higher = z.higher; one = z.one; none = z.none };
       silent = h.silent;
       core_ends = λ j n. let z = h.core_ends (record { here = j.here; there = j.there }) n in record { at_top = z.at_top; below = z.below };
       upward = λ c. absurd (away c.up);
@@ -68,7 +71,9 @@ module _ (e f : TreeEnd) (finds : e.phase ≡ Find) where
 
     pub tree_done' : {N : ℕ → Key → Type 0} → TreeFits N f e → TreeFits N f (found e)
     tree_done' h = record {
-      out_connect = λ o. let z = h.out_connect (record { here = o.here; there = o.there }) in record { mark = z.mark; up = z.up; apart = z.apart; level = z.level; higher = z.higher; one = z.one; none = z.none };
+      out_connect = λ o.
+          let z = h.out_connect (record { here = o.here; there = o.there }) in
+          record { mark = z.mark; up = z.up; apart = z.apart; level = z.level; higher = z.higher; one = z.one; none = z.none };
       silent = h.silent;
       core_ends = λ j n. let z = h.core_ends (record { here = j.here; there = j.there }) n in record { at_top = z.at_top; below = z.below };
       upward = λ c. up_done (h.upward (record { joins = record { here = c.joins.here; there = c.joins.there }; up = c.up; down = c.down }));
@@ -107,35 +112,66 @@ module _ (e f : TreeEnd) (finds : e.phase ≡ Find) where
     queue_e (With_report k q s p b) = With_report k q s p b
 
     queue_f : {x y : Stage} → x ≡ Begun → CoreQueue f e y x → CoreQueue (with_report f (best_key e.best)) (found e) y x
-    queue_f {x} {y} s (Plain q) = With_report (best_key e.best) (ap (λ z. z ++ Report (best_key e.best) ∷ []) (q ∙ ap (λ z. asked e.level z ++ called f.coming f.key y) s)) s refl refl
+    queue_f {x} {y} s (Plain q) =
+        With_report (best_key e.best)
+        (ap (λ z. z ++ Report (best_key e.best) ∷ []) (q ∙ ap (λ z. asked e.level z ++ called f.coming f.key y) s)) s refl refl
     queue_f s (With_report k q t p b) = absurd (not_yet p)
 
     core_done : CoreFits e f → CoreFits (found e) (with_report f (best_key e.best))
-    core_done z = record { here = z.here; there = z.there; at_here = stage_e z.here z.at_here; at_there = stage_f z.there z.at_there; served = z.served; served_beyond = z.served_beyond; queue = queue_e z.queue; queue_beyond = queue_f (begun_here z.here z.at_here) z.queue_beyond }
+    core_done z = record {
+      here = z.here;
+      there = z.there;
+      at_here = stage_e z.here z.at_here;
+      at_there = stage_f z.there z.at_there;
+      served = z.served;
+      served_beyond = z.served_beyond;
+      queue = queue_e z.queue;
+      queue_beyond = queue_f (begun_here z.here z.at_here) z.queue_beyond;
+    }
 
     core_done' : CoreFits f e → CoreFits (with_report f (best_key e.best)) (found e)
-    core_done' z = record { here = z.here; there = z.there; at_here = stage_f z.here z.at_here; at_there = stage_e z.there z.at_there; served = z.served; served_beyond = z.served_beyond; queue = queue_f (begun_here z.there z.at_there) z.queue; queue_beyond = queue_e z.queue_beyond }
+    core_done' z = record {
+      here = z.here;
+      there = z.there;
+      at_here = stage_f z.here z.at_here;
+      at_there = stage_e z.there z.at_there;
+      served = z.served;
+      served_beyond = z.served_beyond;
+      queue = queue_f (begun_here z.there z.at_there) z.queue;
+      queue_beyond = queue_e z.queue_beyond;
+    }
 
     pub tree_reports : {N : ℕ → Key → Type 0} → TreeFits N e f → TreeFits N (found e) (with_report f (best_key e.best))
     tree_reports h = record {
       out_connect = λ o. absurd (o.there j.there);
       silent = λ a b. absurd (a j.here);
       core_ends = λ z n. let y = h.core_ends j n in record { at_top = y.at_top; below = y.below };
-      upward = λ c. Report_up (best_key e.best) (ap (λ z. z ++ Report (best_key e.best) ∷ []) (empty_up (h.upward (record { joins = j; up = c.up; down = c.down })))) (record { phase = refl; in_branch = back; level = top; key = refl });
+      upward = λ c.
+          Report_up (best_key e.best)
+          (ap (λ z. z ++ Report (best_key e.best) ∷ []) (empty_up (h.upward (record { joins = j; up = c.up; down = c.down }))))
+          (record { phase = refl; in_branch = back; level = top; key = refl });
       downward = λ c. down_same (h.downward (record { joins = j; up = c.up; down = c.down }));
       core_queues = λ c. core_done (h.core_queues (record { both = record { joins = j; up = up; up_beyond = c.both.up_beyond }; named = c.named }));
       moved_root = λ c. absurd (unmoved (record { both = record { joins = j; up = up; up_beyond = c.both.up_beyond }; unnamed = c.unnamed }));
     }
 
-    pub tree_reports' : {N : ℕ → Key → Type 0} → f.coming_name ≡ e.coming_name → f.key ≡ e.key → TreeFits N f e → TreeFits N (with_report f (best_key e.best)) (found e)
+    pub tree_reports' : {N : ℕ → Key → Type 0} →
+        f.coming_name ≡ e.coming_name →
+        f.key ≡ e.key →
+        TreeFits N f e →
+        TreeFits N (with_report f (best_key e.best)) (found e)
     tree_reports' same keys h = record {
       out_connect = λ o. absurd (o.there j.here);
       silent = λ a b. absurd (b j.here);
       core_ends = λ z n. let y = h.core_ends (record { here = j.there; there = j.here }) n in record { at_top = y.at_top; below = y.below };
       upward = λ c. absurd (c.down up);
       downward = λ c. absurd (c.down up);
-      core_queues = λ c. core_done' (h.core_queues (record { both = record { joins = record { here = j.there; there = j.here }; up = c.both.up; up_beyond = up }; named = c.named }));
-      moved_root = λ c. absurd (unmoved (record { both = record { joins = j; up = up; up_beyond = c.both.up }; unnamed = λ z. c.unnamed (same ∙ z ∙ ap Some (sym keys)) }));
+      core_queues = λ c.
+          core_done' (h.core_queues
+          (record { both = record { joins = record { here = j.there; there = j.here }; up = c.both.up; up_beyond = up }; named = c.named }));
+      moved_root = λ c.
+          absurd (unmoved
+          (record { both = record { joins = j; up = up; up_beyond = c.both.up }; unnamed = λ z. c.unnamed (same ∙ z ∙ ap Some (sym keys)) }));
     }
 
 pub has_report_append : (xs : List Message) (k : Option Key) → has_report (xs ++ Report k ∷ []) ≡ true
@@ -160,7 +196,9 @@ has_call_append (Reject ∷ xs) k = has_call_append xs k
 has_call_append (Report r ∷ xs) k = has_call_append xs k
 has_call_append (ChangeRoot ∷ xs) k = has_call_append xs k
 
-module _ (g : Network) (wired : IsWired g) (u : ℕ) (u_is : InNetwork g u) (j : ℕ) (at : At g u j) (w : Scene) (holds : Invariant g w) (finds : (w.at u).head.phase ≡ Find) (back : (w.at u).head.in_branch ≡ Some j) (quit : (w.at u).head.probe ≡ None) (at_zero : ◌≡◌ {A = ℕ} (w.at u).head.find_count 0) where
+module _ (g : Network) (wired : IsWired g) (u : ℕ) (u_is : InNetwork g u) (j : ℕ) (at : At g u j) (w : Scene) (holds : Invariant g w)
+    (finds : (w.at u).head.phase ≡ Find) (back : (w.at u).head.in_branch ≡ Some j) (quit : (w.at u).head.probe ≡ None)
+    (at_zero : ◌≡◌ {A = ℕ} (w.at u).head.find_count 0) where
   fits' : NodeFits (length (g.ports u)) (w.at u)
   fits' = holds.nodes u u_is
 
@@ -171,7 +209,7 @@ module _ (g : Network) (wired : IsWired g) (u : ℕ) (u_is : InNetwork g u) (j :
   link' = at_far g wired w (LinkFits (NamesOf g w)) holds.links u j at
 
   abbrev pub facing : ℕ → End
-  facing i = record { port = far_port g u i; key = (port_at g u i).key; mark = (w.at (far g u i)).mark (far_port g u i); is = w.at (far g u i); seen = w.seen (far g u i) (far_port g u i) }
+  facing i = far_end g w u i
 
   pub top : (w.at u).head.level ≡ (w.at u).coming
   top = (fits'.searching finds).level
@@ -180,19 +218,30 @@ module _ (g : Network) (wired : IsWired g) (u : ℕ) (u_is : InNetwork g u) (j :
   up = let s = fits'.searching finds in s.up ∙ sym s.in_branch ∙ back
 
   branch : (w.at u).mark j ≡ Branch
-  branch = let z = fits'.points (λ y. cc (finds, y)) (omega (arith, at.port)) in subst (λ y. (w.at u).mark y ≡ Branch) (same_Some z.port j (sym z.up ∙ up)) z.mark
+  branch =
+      let z = fits'.points (λ y. cc (finds, y)) (omega (arith, at.port)) in
+      subst (λ y. (w.at u).mark y ≡ Branch) (same_Some z.port j (sym z.up ∙ up)) z.mark
 
   pub busy : Quiet g w (w.at u).fragment → ⊥
   busy q = let z = q.found u u_is refl in cc (z, finds)
 
   pub joins' : Joins (tree_end (end g w u j)) (tree_end (facing j))
-  joins' = ⊎_elim (λ b. record { here = branch; there = b }) (λ b. absurd (busy (holds.resting.out u j at (record { here = branch; there = b })))) (mark_is ((w.at (far g u j)).mark (far_port g u j)))
+  joins' =
+      ⊎_elim (λ b. record { here = branch; there = b })
+      (λ b. absurd (busy (holds.resting.out u j at (record { here = branch; there = b }))))
+      (mark_is ((w.at (far g u j)).mark (far_port g u j)))
 
   pub unmoved' : Moved (tree_end (end g w u j)) (tree_end (facing j)) → ⊥
-  unmoved' m = busy (holds.resting.moved u j at (record { both = record { joins = record { here = m.both.joins.here; there = m.both.joins.there }; up = m.both.up; up_beyond = m.both.up_beyond }; unnamed = m.unnamed }))
+  unmoved' m =
+      busy (holds.resting.moved u j at (record {
+        both = record { joins = record { here = m.both.joins.here; there = m.both.joins.there }; up = m.both.up; up_beyond = m.both.up_beyond };
+        unnamed = m.unnamed;
+      }))
 
   same_name : (w.at (far g u j)).coming_name ≡ (w.at u).coming_name
-  same_name = let z = holds.trees.joined_within u j at (record { here = ap is_branch joins'.here; there = ap is_branch joins'.there }) in sym (holds.trees.by_fragment u (far g u j) z).1
+  same_name =
+      let z = holds.trees.joined_within u j at (record { here = ap is_branch joins'.here; there = ap is_branch joins'.there }) in
+      sym (holds.trees.by_fragment u (far g u j) z).1
 
   k : Option Key
   k = best_key (w.at u).head.best
@@ -220,10 +269,10 @@ module _ (g : Network) (wired : IsWired g) (u : ℕ) (u_is : InNetwork g u) (j :
   here' i = record { port = i; key = (port_at g u i).key; mark = (w.at u).mark i; is = x; seen = w.seen u i }
 
   there' : End
-  there' = record { port = far_port g u j; key = (port_at g u j).key; mark = (w.at (far g u j)).mark (far_port g u j); is = w.at (far g u j); seen = record (w.seen (far g u j) (far_port g u j)) { tree = (w.seen (far g u j) (far_port g u j)).tree ++ Report k ∷ [] } }
+  there' = record (far_end g w u j) { seen = record (seen_beyond g w u j) { tree = (seen_beyond g w u j).tree ++ Report k ∷ [] } }
 
   owing : owes (facing j) (end g w u j) ≡ true
-  owing = by_find (has_report (w.seen (far g u j) (far_port g u j)).tree) (has_call (w.seen u j).tree) _ (rw (finds, at_it (w.at u).head.in_branch j back) refl)
+  owing = by_find (has_report (seen_beyond g w u j).tree) (has_call (w.seen u j).tree) _ (rw (finds, at_it (w.at u).head.in_branch j back) refl)
 
   debt_kept : debt there' (here' j) ≡ debt (facing j) (end g w u j)
   unfolding there' here' x k
@@ -231,25 +280,53 @@ module _ (g : Network) (wired : IsWired g) (u : ℕ) (u_is : InNetwork g u) (j :
     where
       go : (b : Bool) → ◌≡◌ {A = ℕ} (cond (not b && owes there' (here' j)) 1 0) (cond (not b && owes (facing j) (end g w u j)) 1 0)
       go true = refl
-      go false = rw (owing, has_report_append (w.seen (far g u j) (far_port g u j)).tree (best_key (w.at u).head.best)) refl
+      go false = rw (owing, has_report_append (seen_beyond g w u j).tree (best_key (w.at u).head.best)) refl
 
   debt_aside : (i : ℕ) → i ≢ j → debt (facing i) (here' i) ≡ debt (facing i) (end g w u i)
   unfolding here' x
   debt_aside i ne = rw (not_at (w.at u).head.in_branch i (λ e. ne (sym (same_Some j i (sym back ∙ e)))), finds) refl
 
   -- the node reports and comes to rest
-  pub closes : Invariant g (acts g u (record (w.at u) { head = record (w.at u).head { phase = Found } }) (put (w.seen u) j (w.seen u j)) ((j, Report (best_key (w.at u).head.best)) ∷ []) w)
+  pub closes :
+      Invariant g (acts g u (record (w.at u) { head = record (w.at u).head { phase = Found } }) (put (w.seen u) j (w.seen u j))
+      ((j, Report (best_key (w.at u).head.best)) ∷ []) w)
   unfolding x k here' there'
   closes =
       kept_one g wired u u_is x j at (w.seen u j) (Report k ∷ []) ((j, Report k) ∷ []) (sends_one j (Report k)) w
-      (record { alike = record { fragment = refl; coming = refl; coming_name = refl; up = refl; branch = λ p. refl }; found = λ e. refl; mine = λ e. e; theirs = λ e. has_call_append (w.seen (far g u j) (far_port g u j)).tree k ∙ e })
+      (record {
+        alike = record { fragment = refl; coming = refl; coming_name = refl; up = refl; branch = λ p. refl };
+        found = λ e. refl;
+        mine = λ e. e;
+        theirs = λ e. has_call_append (seen_beyond g w u j).tree k ∙ e;
+      })
       holds node
-      (record { tree = tree_reports (tree_end (end g w u j)) (tree_end (facing j)) finds joins' up top back unmoved' link.tree; search = search_trees (found (tree_end (end g w u j))) (tree_end (facing j)) _ _ (search_done (tree_end (end g w u j)) (tree_end (facing j)) finds link.search); tests = record { probing = link.tests.probing; not_probing = link.tests.not_probing } })
-      (record { tree = tree_reports' (tree_end (end g w u j)) (tree_end (facing j)) finds joins' up top back unmoved' same_name refl link'.tree; search = search_trees (tree_end (facing j)) (found (tree_end (end g w u j))) _ _ (search_done' (tree_end (end g w u j)) (tree_end (facing j)) finds link'.search); tests = record { probing = link'.tests.probing; not_probing = link'.tests.not_probing } })
-      (λ i at' ne h h'. record { tree = tree_done (tree_end (end g w u i)) (tree_end (facing i)) finds (away i ne) h.tree; search = search_done (tree_end (end g w u i)) (tree_end (facing i)) finds h.search; tests = record { probing = h.tests.probing; not_probing = h.tests.not_probing } })
-      (λ i at' ne h h'. record { tree = tree_done' (tree_end (end g w u i)) (tree_end (facing i)) finds (away i ne) h'.tree; search = search_done' (tree_end (end g w u i)) (tree_end (facing i)) finds h'.search; tests = record { probing = h'.tests.probing; not_probing = h'.tests.not_probing } })
+      (record {
+        tree = tree_reports (tree_end (end g w u j)) (tree_end (facing j)) finds joins' up top back unmoved' link.tree;
+        search =
+            search_trees (found (tree_end (end g w u j))) (tree_end (facing j)) _ _
+            (search_done (tree_end (end g w u j)) (tree_end (facing j)) finds link.search);
+        tests = record { probing = link.tests.probing; not_probing = link.tests.not_probing };
+      })
+      (record {
+        tree = tree_reports' (tree_end (end g w u j)) (tree_end (facing j)) finds joins' up top back unmoved' same_name refl link'.tree;
+        search =
+            search_trees (tree_end (facing j)) (found (tree_end (end g w u j))) _ _
+            (search_done' (tree_end (end g w u j)) (tree_end (facing j)) finds link'.search);
+        tests = record { probing = link'.tests.probing; not_probing = link'.tests.not_probing };
+      })
+      (λ i at' ne h h'. record {
+        tree = tree_done (tree_end (end g w u i)) (tree_end (facing i)) finds (away i ne) h.tree;
+        search = search_done (tree_end (end g w u i)) (tree_end (facing i)) finds h.search;
+        tests = record { probing = h.tests.probing; not_probing = h.tests.not_probing };
+      })
+      (λ i at' ne h h'. record {
+        tree = tree_done' (tree_end (end g w u i)) (tree_end (facing i)) finds (away i ne) h'.tree;
+        search = search_done' (tree_end (end g w u i)) (tree_end (facing i)) finds h'.search;
+        tests = record { probing = h'.tests.probing; not_probing = h'.tests.not_probing };
+      })
       (λ e. absurd (let z : Found ≡ Sleeping = e in cc)) refl
-      (sums_one g wired u u_is x j at (w.seen u j) (Report k ∷ []) ((j, Report k) ∷ []) (sends_one j (Report k)) w holds.counted same_count (λ i ne. refl) debt_kept debt_aside)
+      (sums_one g wired u u_is x j at (w.seen u j) (Report k ∷ []) ((j, Report k) ∷ []) (sends_one j (Report k)) w holds.counted same_count
+      (λ i ne. refl) debt_kept debt_aside)
     where
       same_count : (w.at u).head.find_count + debt (end g w u j) (facing j) ≡ (w.at u).head.find_count + debt (here' j) there'
       same_count = ap (λ z. (w.at u).head.find_count + z) (debt_up (end g w u j) (facing j) up ∙ sym (debt_up (here' j) there' up))

@@ -17,7 +17,13 @@ mark_is Basic = inr (λ e. cc)
 mark_is Rejected = inr (λ e. cc)
 
 pub same_keys : (k l : Key) → (k ≡ l) ⊎ (k ≢ l)
-same_keys k l = ⊎_elim (λ a. ⊎_elim (λ b. ⊎_elim (λ c. inl (λ i. record { weight = a i; a = b i; b = c i })) (λ ne. inr (λ e. ne (ap (λ (x : Key). x.b) e))) (cases_eq k.b l.b)) (λ ne. inr (λ e. ne (ap (λ (x : Key). x.a) e))) (cases_eq k.a l.a)) (λ ne. inr (λ e. ne (ap (λ (x : Key). x.weight) e))) (cases_eq k.weight l.weight)
+same_keys k l =
+    ⊎_elim (λ a. ⊎_elim (λ b.
+    ⊎_elim (λ c. inl (λ i. record { weight = a i; a = b i; b = c i })) (λ ne. inr (λ e. ne (ap (λ (x : Key). x.b) e))) (cases_eq k.b l.b))
+    (λ ne. inr (λ e. ne (ap (λ (x : Key). x.a) e)))
+    (cases_eq k.a l.a))
+    (λ ne. inr (λ e. ne (ap (λ (x : Key). x.weight) e)))
+    (cases_eq k.weight l.weight)
 
 pub key_is : (o : Option Key) (k : Key) → (o ≡ Some k) ⊎ (o ≢ Some k)
 key_is None k = inr (λ e. cc)
@@ -33,7 +39,12 @@ pub data Joint (e f : TreeEnd) : Type 0 where
 pub joint : (e f : TreeEnd) → Joins e f → Ups e ⊎ Ups f → Joint e f
 joint e f j ups =
     ⊎_elim
-    (λ a. ⊎_elim (λ b. ⊎_elim (λ n. On_core (record { both = record { joins = j; up = a; up_beyond = b }; named = n })) (λ n. On_moved (record { both = record { joins = j; up = a; up_beyond = b }; unnamed = n })) (key_is e.coming_name e.key)) (λ b. Down_here (record { joins = j; up = a; down = b })) (probe_is f.up f.port))
+    (λ a. ⊎_elim (λ b. ⊎_elim
+    (λ n. On_core (record { both = record { joins = j; up = a; up_beyond = b }; named = n }))
+    (λ n. On_moved (record { both = record { joins = j; up = a; up_beyond = b }; unnamed = n }))
+    (key_is e.coming_name e.key))
+    (λ b. Down_here (record { joins = j; up = a; down = b }))
+    (probe_is f.up f.port))
     (λ a. Down_there (record { joins = record { here = j.there; there = j.here }; up = ⊎_elim (λ x. absurd (a x)) (λ x. x) ups; down = a }))
     (probe_is e.up e.port)
 
@@ -48,9 +59,13 @@ chain_rises N coming coming_name t l (Reject ∷ ms) c = absurd c
 chain_rises N coming coming_name t l (Report k ∷ ms) c = absurd c
 chain_rises N coming coming_name t l (ChangeRoot ∷ ms) c = absurd c
 
-pub chain_top : (N : Key → Type 0) (coming : ℕ) (coming_name : Option Key) (t l : ℕ) (ms : List Message) → t ≤ l → Chain N coming coming_name t l ms → ms ≡ []
+pub chain_top : (N : Key → Type 0) (coming : ℕ) (coming_name : Option Key) (t l : ℕ) (ms : List Message) →
+    t ≤ l →
+    Chain N coming coming_name t l ms →
+    ms ≡ []
 chain_top N coming coming_name t l [] le c = refl
-chain_top N coming coming_name t l (Initiate k f s ∷ ms) le c = let z = chain_rises N coming coming_name t k ms c.5 in absurd (omega (arith, z, c.0, le))
+chain_top N coming coming_name t l (Initiate k f s ∷ ms) le c =
+    let z = chain_rises N coming coming_name t k ms c.5 in absurd (omega (arith, z, c.0, le))
 chain_top N coming coming_name t l (Connect k ∷ ms) le c = absurd c
 chain_top N coming coming_name t l (Test k f ∷ ms) le c = absurd c
 chain_top N coming coming_name t l (Accept ∷ ms) le c = absurd c
@@ -58,7 +73,10 @@ chain_top N coming coming_name t l (Reject ∷ ms) le c = absurd c
 chain_top N coming coming_name t l (Report k ∷ ms) le c = absurd c
 chain_top N coming coming_name t l (ChangeRoot ∷ ms) le c = absurd c
 
-pub no_report : (N : Key → Type 0) (coming : ℕ) (coming_name : Option Key) (t l : ℕ) (k : Option Key) (ms xs : List Message) → xs ≡ Report k ∷ ms → Chain N coming coming_name t l xs → ⊥
+pub no_report : (N : Key → Type 0) (coming : ℕ) (coming_name : Option Key) (t l : ℕ) (k : Option Key) (ms xs : List Message) →
+    xs ≡ Report k ∷ ms →
+    Chain N coming coming_name t l xs →
+    ⊥
 no_report N coming coming_name t l k ms xs e c = subst (Chain N coming coming_name t l) e c
 
 pub no_plain : (l v : ℕ) (n : Key) (a b : Stage) (k : Option Key) (ms : List Message) → asked l b ++ called v n a ≡ Report k ∷ ms → ⊥
@@ -70,7 +88,12 @@ no_plain l v n Asking Begun k ms e = cc
 no_plain l v n Called Begun k ms e = cc
 no_plain l v n Begun Begun k ms e = cc
 
-begun : (e : TreeEnd) (v : ℕ) (n : Key) (a b : Stage) (k r : Option Key) (ms : List Message) → AtStage e a → b ≡ Begun → Served b a → called v n a ++ Report r ∷ [] ≡ Report k ∷ ms → e.level ≡ e.coming
+begun : (e : TreeEnd) (v : ℕ) (n : Key) (a b : Stage) (k r : Option Key) (ms : List Message) →
+    AtStage e a →
+    b ≡ Begun →
+    Served b a →
+    called v n a ++ Report r ∷ [] ≡ Report k ∷ ms →
+    e.level ≡ e.coming
 begun e v n Asking Asking k r ms at s served q = absurd (let z = s in cc)
 begun e v n Asking Called k r ms at s served q = absurd (let z = s in cc)
 begun e v n Asking Begun k r ms at s served q = absurd served
@@ -82,9 +105,18 @@ pub record Heard (e f : TreeEnd) (k : Option Key) : Type 0 where
   pub tree : e.tree ≡ Report k ∷ []
   pub reported : Reported f k
 
-module _ {N : ℕ → Key → Type 0} (e f : TreeEnd) (he : TreeFits N e f) (hf : TreeFits N f e) (ups : Joins e f → Ups e ⊎ Ups f) (k : Option Key) (ms : List Message) (waits : e.tree ≡ Report k ∷ ms) where
+module _ {N : ℕ → Key → Type 0} (e f : TreeEnd) (he : TreeFits N e f) (hf : TreeFits N f e) (ups : Joins e f → Ups e ⊎ Ups f)
+    (k : Option Key) (ms : List Message) (waits : e.tree ≡ Report k ∷ ms) where
   pub joined : Joins e f
-  joined = ⊎_elim (λ a. ⊎_elim (λ b. record { here = a; there = b }) (λ b. absurd (let z = (he.out_connect (record { here = a; there = b })).none in cc)) (mark_is f.mark)) (λ a. ⊎_elim (λ b. absurd (let z = (hf.out_connect (record { here = b; there = a })).one in cc)) (λ b. absurd (let z = he.silent a b in cc)) (mark_is f.mark)) (mark_is e.mark)
+  joined =
+      ⊎_elim (λ a. ⊎_elim (λ b. record { here = a; there = b })
+      (λ b. absurd (let z = (he.out_connect (record { here = a; there = b })).none in cc))
+      (mark_is f.mark))
+      (λ a. ⊎_elim
+      (λ b. absurd (let z = (hf.out_connect (record { here = b; there = a })).one in cc))
+      (λ b. absurd (let z = he.silent a b in cc))
+      (mark_is f.mark))
+      (mark_is e.mark)
 
   pub heard_first : e.in_branch ≢ Some e.port → Heard e f k
   heard_first away = go (joint e f joined (ups joined))
@@ -101,7 +133,9 @@ module _ {N : ℕ → Key → Type 0} (e f : TreeEnd) (he : TreeFits N e f) (hf 
 
       core : (c : Core e f) → (z : CoreFits e f) → CoreQueue e f z.here z.there → Heard e f k
       core c z (Plain q) = absurd (no_plain _ _ _ z.here z.there k ms (sym q ∙ waits))
-      core c z (With_report r q s p b) = absurd (away ((he.core_ends joined c.named).at_top (begun e e.coming e.key z.here z.there k r ms z.at_here s z.served_beyond (sym q ∙ waits))))
+      core c z (With_report r q s p b) =
+          absurd
+          (away ((he.core_ends joined c.named).at_top (begun e e.coming e.key z.here z.there k r ms z.at_here s z.served_beyond (sym q ∙ waits))))
 
       moved : MovedFits e f → Heard e f k
       moved (To_here m) = absurd (let z = m.queue in cc)

@@ -16,7 +16,9 @@ pub search_trees : (e f : TreeEnd) (t s : List Message) → SearchFits e f → S
 search_trees e f t s h = record {
   rejected_inside = h.rejected_inside;
   find_leads = λ k x l m. let z = h.find_leads k x l m in record { key = z.key; apart = z.apart; higher = z.higher };
-  find_reported = λ k x l j. let z = h.find_reported k x l (record { here = j.here; there = j.there }) in record { phase = z.phase; in_branch = z.in_branch; level = z.level; key = z.key };
+  find_reported = λ k x l j.
+      let z = h.find_reported k x l (record { here = j.here; there = j.there }) in
+      record { phase = z.phase; in_branch = z.in_branch; level = z.level; key = z.key };
 }
 
 -- e is the parent's end: its queue is emptied
@@ -65,7 +67,11 @@ debt_one e f h o = rw (not_at e.is.up e.port h, o) refl
 pub debt_up : (e f : End) → e.is.up ≡ Some e.port → ◌≡◌ {A = ℕ} (debt e f) 0
 debt_up e f h = rw (at_it e.is.up e.port h) refl
 
-pub debt_none : (e f : End) → has_report e.seen.tree ≡ false → has_call f.seen.tree ≡ false → is_find f.is.head.phase ≡ false → ◌≡◌ {A = ℕ} (debt e f) 0
+pub debt_none : (e f : End) →
+    has_report e.seen.tree ≡ false →
+    has_call f.seen.tree ≡ false →
+    is_find f.is.head.phase ≡ false →
+    ◌≡◌ {A = ℕ} (debt e f) 0
 debt_none e f a b c = go (is_at e.is.up e.port)
   where
     go : (x : Bool) → ◌≡◌ {A = ℕ} (cond (not x && owes e f) 1 0) 0

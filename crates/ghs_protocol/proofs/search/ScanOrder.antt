@@ -24,7 +24,10 @@ module _ (g : Network) (u : ℕ) (lo : 1 ≤ u) (hi : u ≤ g.count) (x : Member
 
   -- and u as well
   pub scans_after : AllScanBut g w u → ScansInOrder g u x → AllScan g (acts g u x own ss w)
-  scans_after h here v is = ⊎_elim (λ (e : v ≡ u). subst (λ y. ScansInOrder g y (put w.at u x y)) (sym e) (subst (ScansInOrder g u) (sym (put_same w.at u x)) here)) (λ ne. scans_but h v is ne) (cases_eq v u)
+  scans_after h here v is =
+      ⊎_elim
+      (λ (e : v ≡ u). subst (λ y. ScansInOrder g y (put w.at u x y)) (sym e) (subst (ScansInOrder g u) (sym (put_same w.at u x)) here))
+      (λ ne. scans_but h v is ne) (cases_eq v u)
 
 -- who doesn't search, or has no Basic port left and probes none, tests in order
 pub rests_scan : (g : Network) (u : ℕ) (x : Member) → x.head.phase ≢ Find → ScansInOrder g u x
@@ -34,7 +37,13 @@ pub exhausted_scan : (g : Network) (u : ℕ) (x : Member) → x.head.probe ≡ N
 exhausted_scan g u x none left = record { probing = λ p q e o b. absurd (left q b); done = λ q e o b. absurd (left q b) }
 
 -- a Test goes out to the least Basic port
-pub probing_scan : (g : Network) → IsOrdered g → (u : ℕ) (x : Member) (p : ℕ) → At g u p → x.head.probe ≡ Some p → ((q : ℕ) → q < p → x.mark q ≢ Basic) → ((q : ℕ) → x.mark q ≡ Basic → At g u q) → ScansInOrder g u x
+pub probing_scan : (g : Network) →
+    IsOrdered g →
+    (u : ℕ) (x : Member) (p : ℕ) → At g u p →
+    x.head.probe ≡ Some p →
+    ((q : ℕ) → q < p → x.mark q ≢ Basic) →
+    ((q : ℕ) → x.mark q ≡ Basic → At g u q) →
+    ScansInOrder g u x
 probing_scan g ordered u x p at probe least within = record {
   probing = λ r q e o b. subst (λ y. key_lt (port_at g u q).key (port_at g u y).key ≡ false) (same_Some p r (sym probe ∙ o)) (order q b);
   done = λ q e o b. absurd (let z = sym probe ∙ o in cc);
@@ -52,7 +61,16 @@ probing_scan g ordered u x p at probe least within = record {
 pub opening_floors : (g : Network) → Floors g (scene (opening g) opening_ghost) (λ v. None)
 opening_floors g = record {
   nodes = λ v is. record { asleep = λ e. refl; search = λ e. refl };
-  links = λ v p at. record { none_below = λ o. refl; falls = λ c. refl; covered = λ e c. absurd (let z : Sleeping ≡ Find = e in cc); report = λ k c. absurd (none v p c.joins.here); core = λ c. absurd (none v p c.both.joins.here); out = λ o. absurd (none v p o.here); moved = λ m. absurd (none v p m.both.joins.here); best = λ k e. absurd (let z : None ≡ Some (p, k) = e in cc) };
+  links = λ v p at. record {
+    none_below = λ o. refl;
+    falls = λ c. refl;
+    covered = λ e c. absurd (let z : Sleeping ≡ Find = e in cc);
+    report = λ k c. absurd (none v p c.joins.here);
+    core = λ c. absurd (none v p c.both.joins.here);
+    out = λ o. absurd (none v p o.here);
+    moved = λ m. absurd (none v p m.both.joins.here);
+    best = λ k e. absurd (let z : None ≡ Some (p, k) = e in cc);
+  };
   in_tree = λ v p at m. absurd (none v p m);
   halted = λ v t p is h. absurd (let z : false ≡ true = h in cc);
 }

@@ -10,12 +10,13 @@ use Rattle.ghs_protocol.specs.Network.{Network, port_at, At, far, far_port, IsWi
 use Rattle.ghs_protocol.specs.Net.{put}
 use Rattle.ghs_protocol.proofs.lemmas.Updates.{put_same, put_other}
 use Rattle.ghs_protocol.proofs.clauses.Scene.{Seen, Member, Scene, End, tree_end, test_end, end, forest, acts}
+use Rattle.ghs_protocol.proofs.clauses.Changes.{left_tests, left_rejects, seen_beyond, rejected, marked, rules_out, took_reject}
 use Rattle.ghs_protocol.proofs.clauses.Nodes.{NodeFits}
 use Rattle.ghs_protocol.proofs.clauses.Whole.{LinkFits, Invariant, NamesOf}
 use Rattle.ghs_protocol.proofs.clauses.Wiring.{IsKeyed}
 use Rattle.ghs_protocol.proofs.acts.OneLink.{sends_none, sends_one, at_near, at_far, onto, sums_one, kept_one}
-use Rattle.ghs_protocol.proofs.tests.Links.{rejected, not_some, tests_aside, tests_aside', accept_here, accept_there, reject_here, reject_there, reject_frag, cross_frag, cross_here, cross_there, rejected_facts, rejected_here, rejected_there, scan_here, scan_there}
-use Rattle.ghs_protocol.proofs.acts.Situations.{probing_finds, tops_alike, named_apart, one_fragment, tree_rejected, tree_rejected', search_rejected, search_rejected', node_turned, marked, branch_marked, within_marked}
+use Rattle.ghs_protocol.proofs.tests.Links.{not_some, tests_aside, tests_aside', accept_here, accept_there, reject_here, reject_there, reject_frag, cross_frag, cross_here, cross_there, rejected_facts, rejected_here, rejected_there, scan_here, scan_there}
+use Rattle.ghs_protocol.proofs.acts.Situations.{probing_finds, tops_alike, named_apart, one_fragment, tree_rejected, tree_rejected', search_rejected, search_rejected', node_turned, branch_marked, within_marked}
 
 module _ (g : Network) (wired : IsWired g) (u : ℕ) (u_is : InNetwork g u) (j : ℕ) (at : At g u j) (w : Scene) (holds : Invariant g w) where
   abbrev pub beyond' : End
@@ -33,26 +34,59 @@ module _ (g : Network) (wired : IsWired g) (u : ℕ) (u_is : InNetwork g u) (j :
   link' : LinkFits (NamesOf g w) beyond' (end g w u j)
   link' = at_far g wired w (LinkFits (NamesOf g w)) holds.links u j at
 
-  same_ghosts : (w.at (far g u j)).fragment ≡ (w.at u).fragment → ((w.at (far g u j)).coming ≡ (w.at u).coming) × ((w.at (far g u j)).coming_name ≡ (w.at u).coming_name)
+  same_ghosts :
+      (w.at (far g u j)).fragment ≡ (w.at u).fragment →
+      ((w.at (far g u j)).coming ≡ (w.at u).coming) × ((w.at (far g u j)).coming_name ≡ (w.at u).coming_name)
   same_ghosts e = holds.trees.by_fragment (far g u j) u e
 
   -- a Test of another name is accepted
-  pub accept_sends : (l : ℕ) (n : Key) (ts : List (ℕ × Key)) → (w.seen u j).tests ≡ (l, n) ∷ ts → l ≤ (w.at u).head.level → (w.at u).head.name ≢ Some n → Invariant g (acts g u (w.at u) (put (w.seen u) j (record (w.seen u j) { tests = ts })) ((j, Accept) ∷ []) w)
+  pub accept_sends : (l : ℕ) (n : Key) (ts : List (ℕ × Key)) →
+      (w.seen u j).tests ≡ (l, n) ∷ ts →
+      l ≤ (w.at u).head.level →
+      (w.at u).head.name ≢ Some n →
+      Invariant g (acts g u (w.at u) (left_tests w u j ts) ((j, Accept) ∷ []) w)
   accept_sends l n ts waits le other =
       kept_one g wired u u_is (w.at u) j at (record (w.seen u j) { tests = ts }) (Accept ∷ []) ((j, Accept) ∷ []) (sends_one j Accept) w
-      (record { alike = record { fragment = refl; coming = refl; coming_name = refl; up = refl; branch = λ p. refl }; found = λ e. e; mine = λ e. e; theirs = λ e. e })
+      (record {
+        alike = record { fragment = refl; coming = refl; coming_name = refl; up = refl; branch = λ p. refl };
+        found = λ e. e;
+        mine = λ e. e;
+        theirs = λ e. e;
+      })
       holds here_fits
-      (record { tree = link.tree; search = link.search; tests = accept_here (test_end (end g w u j)) (test_end beyond') l n ts waits link.tests link'.tests other apart le })
-      (record { tree = link'.tree; search = link'.search; tests = accept_there (test_end (end g w u j)) (test_end beyond') l n ts waits link.tests link'.tests other apart le })
+      (record {
+        tree = link.tree;
+        search = link.search;
+        tests = accept_here (test_end (end g w u j)) (test_end beyond') l n ts waits link.tests link'.tests other apart le;
+      })
+      (record {
+        tree = link'.tree;
+        search = link'.search;
+        tests = accept_there (test_end (end g w u j)) (test_end beyond') l n ts waits link.tests link'.tests other apart le;
+      })
       (λ i at' ne a b. a) (λ i at' ne a b. b) (λ e. e) refl
-      (sums_one g wired u u_is (w.at u) j at (record (w.seen u j) { tests = ts }) (Accept ∷ []) ((j, Accept) ∷ []) (sends_one j Accept) w holds.counted refl (λ i ne. refl) refl (λ i ne. refl))
+      (sums_one g wired u u_is (w.at u) j at (record (w.seen u j) { tests = ts }) (Accept ∷ []) ((j, Accept) ∷ []) (sends_one j Accept) w
+      holds.counted refl (λ i ne. refl) refl (λ i ne. refl))
     where
-      apart : (w.at (far g u j)).head.probe ≡ Some (far_port g u j) → l ≡ (w.at (far g u j)).head.level → (w.at (far g u j)).head.name ≡ Some n → (w.at (far g u j)).fragment ≢ (w.at u).fragment
-      apart p e name = named_apart (w.at u) (w.at (far g u j)) l n here_fits.lag far_fits.lag same_ghosts le e (far_fits.searching (probing_finds far_fits p)).level name other
+      apart :
+          (w.at (far g u j)).head.probe ≡ Some (far_port g u j) →
+          l ≡ (w.at (far g u j)).head.level →
+          (w.at (far g u j)).head.name ≡ Some n →
+          (w.at (far g u j)).fragment ≢ (w.at u).fragment
+      apart p e name =
+          named_apart (w.at u) (w.at (far g u j)) l n here_fits.lag far_fits.lag same_ghosts le e
+          (far_fits.searching (probing_finds far_fits p)).level name other
 
   -- a name is of one fragment, at the two ends
-  pub one_name : (n : Key) → IsKeyed g → (w.at u).head.name ≡ Some n → (w.at (far g u j)).head.name ≡ Some n → (w.at u).fragment ≡ (w.at (far g u j)).fragment
-  one_name n keyed e f = let t = wired.there u j at in one_fragment g (forest w) _ _ n keyed holds.trees.joined_within (holds.named u n u_is e) (holds.named (far g u j) n (record { some = t.some; node = t.node }) f)
+  pub one_name : (n : Key) →
+      IsKeyed g →
+      (w.at u).head.name ≡ Some n →
+      (w.at (far g u j)).head.name ≡ Some n →
+      (w.at u).fragment ≡ (w.at (far g u j)).fragment
+  one_name n keyed e f =
+      let t = wired.there u j at in
+      one_fragment g (forest w) _ _ n keyed holds.trees.joined_within (holds.named u n u_is e)
+      (holds.named (far g u j) n (record { some = t.some; node = t.node }) f)
 
   -- at a link but j's, a mark of u's is as it was
   aside : (x : Member) (i : ℕ) → i ≢ j → x.mark ≡ marked (w.at u).mark j → (P : Mark → Type 0) → P ((w.at u).mark i) → P (x.mark i)
@@ -62,16 +96,34 @@ module _ (g : Network) (wired : IsWired g) (u : ℕ) (u_is : InNetwork g u) (j :
   ahead P h = subst P (sym (put_same (w.at u).mark j (rejected ((w.at u).mark j)))) h
 
   -- a Test of one's own name comes from one's own fragment
-  pub reject_inside : (l : ℕ) (n : Key) (ts : List (ℕ × Key)) → IsKeyed g → (w.seen u j).tests ≡ (l, n) ∷ ts → (w.at u).head.name ≡ Some n → (w.at u).head.probe ≢ Some j → (w.at u).fragment ≡ (w.at (far g u j)).fragment
-  reject_inside l n ts keyed waits name free = reject_frag (test_end (end g w u j)) (test_end beyond') l n ts waits link.tests link'.tests free (λ p e. one_name n keyed name e)
+  pub reject_inside : (l : ℕ) (n : Key) (ts : List (ℕ × Key)) →
+      IsKeyed g →
+      (w.seen u j).tests ≡ (l, n) ∷ ts →
+      (w.at u).head.name ≡ Some n →
+      (w.at u).head.probe ≢ Some j →
+      (w.at u).fragment ≡ (w.at (far g u j)).fragment
+  reject_inside l n ts keyed waits name free =
+      reject_frag (test_end (end g w u j)) (test_end beyond') l n ts waits link.tests link'.tests free (λ p e. one_name n keyed name e)
 
   -- a Test of one's own name is rejected
-  pub reject_sends : (l : ℕ) (n : Key) (ts : List (ℕ × Key)) → IsKeyed g → (w.at u).head.phase ≢ Sleeping → (w.seen u j).tests ≡ (l, n) ∷ ts → (w.at u).head.name ≡ Some n → (w.at u).head.probe ≢ Some j → Invariant g (acts g u (record (w.at u) { mark = marked (w.at u).mark j }) (put (w.seen u) j (record (w.seen u j) { tests = ts })) ((j, Reject) ∷ []) w)
+  pub reject_sends : (l : ℕ) (n : Key) (ts : List (ℕ × Key)) →
+      IsKeyed g →
+      (w.at u).head.phase ≢ Sleeping →
+      (w.seen u j).tests ≡ (l, n) ∷ ts →
+      (w.at u).head.name ≡ Some n →
+      (w.at u).head.probe ≢ Some j →
+      Invariant g (acts g u (rules_out (w.at u) j) (left_tests w u j ts) ((j, Reject) ∷ []) w)
   reject_sends l n ts keyed awake waits name free =
       kept_one g wired u u_is x j at q (Reject ∷ []) ((j, Reject) ∷ []) (sends_one j Reject) w
-      (record { alike = record { fragment = refl; coming = refl; coming_name = refl; up = refl; branch = branch_marked (w.at u).mark j }; found = λ e. e; mine = λ e. e; theirs = λ e. e })
+      (record {
+        alike = record { fragment = refl; coming = refl; coming_name = refl; up = refl; branch = branch_marked (w.at u).mark j };
+        found = λ e. e;
+        mine = λ e. e;
+        theirs = λ e. e;
+      })
       holds
-      (node_turned (length (g.ports u)) (w.at u) (marked (w.at u).mark j) _ _ _ here_fits awake (branch_marked (w.at u).mark j) (within_marked (w.at u).mark j _ at.port here_fits.own_ports.mark) here_fits.own_ports.probe here_fits.idle here_fits.best_port)
+      (node_turned (length (g.ports u)) (w.at u) (marked (w.at u).mark j) _ _ _ here_fits awake (branch_marked (w.at u).mark j)
+      (within_marked (w.at u).mark j _ at.port here_fits.own_ports.mark) here_fits.own_ports.probe here_fits.idle here_fits.best_port)
       (ahead (λ z. LinkFits (NamesOf g w) (record {
         port =
             j;
@@ -102,21 +154,33 @@ module _ (g : Network) (wired : IsWired g) (u : ℕ) (u_is : InNetwork g u) (j :
         tests = reject_there (test_end (end g w u j)) (test_end
             beyond') l n ts waits link.tests link'.tests free same;
       }))
-      (λ i at' ne a b. aside x i ne refl (λ z. LinkFits (NamesOf g w) (record { port = i; key = (port_at g u i).key; mark = z; is = x; seen = w.seen u i }) (onto g wired u u_is x j at q [] [] (sends_none j) w i)) (record { tree = a.tree; search = a.search; tests = a.tests }))
-      (λ i at' ne a b. aside x i ne refl (λ z. LinkFits (NamesOf g w) (onto g wired u u_is x j at q [] [] (sends_none j) w i) (record { port = i; key = (port_at g u i).key; mark = z; is = x; seen = w.seen u i })) (record { tree = b.tree; search = b.search; tests = b.tests }))
+      (λ i at' ne a b.
+      aside x i ne refl (λ z.
+      LinkFits (NamesOf g w)
+      (record { port = i; key = (port_at g u i).key; mark = z; is = x; seen = w.seen u i })
+      (onto g wired u u_is x j at q [] [] (sends_none j) w i))
+      (record { tree = a.tree; search = a.search; tests = a.tests }))
+      (λ i at' ne a b.
+      aside x i ne refl (λ z.
+      LinkFits (NamesOf g w) (onto g wired u u_is x j at q [] [] (sends_none j) w i)
+      (record { port = i; key = (port_at g u i).key; mark = z; is = x; seen = w.seen u i }))
+      (record { tree = b.tree; search = b.search; tests = b.tests }))
       (λ e. e) refl
       (sums_one g wired u u_is x j at q (Reject ∷ []) ((j, Reject) ∷ []) (sends_one j Reject) w holds.counted refl (λ i ne. refl) refl (λ i ne. refl))
     where
       x : Member
-      x = record (w.at u) { mark = marked (w.at u).mark j }
+      x = rules_out (w.at u) j
 
       q : Seen
       q = record (w.seen u j) { tests = ts }
 
       there' : End
-      there' = record beyond' { seen = record (w.seen (far g u j) (far_port g u j)) { rejects = suc (w.seen (far g u j) (far_port g u j)).rejects } }
+      there' = record beyond' { seen = record (seen_beyond g w u j) { rejects = suc (seen_beyond g w u j).rejects } }
 
-      same : (w.at (far g u j)).head.probe ≡ Some (far_port g u j) → (w.at (far g u j)).head.name ≡ Some n → (w.at u).fragment ≡ (w.at (far g u j)).fragment
+      same :
+          (w.at (far g u j)).head.probe ≡ Some (far_port g u j) →
+          (w.at (far g u j)).head.name ≡ Some n →
+          (w.at u).fragment ≡ (w.at (far g u j)).fragment
       same p e = one_name n keyed name e
 
       inside : (w.at u).fragment ≡ (w.at (far g u j)).fragment
@@ -126,19 +190,44 @@ module _ (g : Network) (wired : IsWired g) (u : ℕ) (u_is : InNetwork g u) (j :
   elsewhere i ne own = λ z. ne (sym (same_Some j i (sym own ∙ z)))
 
   -- so does one that crosses one's own Test
-  pub cross_inside : (l : ℕ) (n : Key) (ts : List (ℕ × Key)) → IsKeyed g → (w.seen u j).tests ≡ (l, n) ∷ ts → (w.at u).head.name ≡ Some n → (w.at u).head.probe ≡ Some j → (w.at u).fragment ≡ (w.at (far g u j)).fragment
-  cross_inside l n ts keyed waits name own = cross_frag (test_end (end g w u j)) (test_end beyond') l n ts waits link.tests link'.tests own (λ p e. one_name n keyed name e) alike
+  pub cross_inside : (l : ℕ) (n : Key) (ts : List (ℕ × Key)) →
+      IsKeyed g →
+      (w.seen u j).tests ≡ (l, n) ∷ ts →
+      (w.at u).head.name ≡ Some n →
+      (w.at u).head.probe ≡ Some j →
+      (w.at u).fragment ≡ (w.at (far g u j)).fragment
+  cross_inside l n ts keyed waits name own =
+      cross_frag (test_end (end g w u j)) (test_end beyond') l n ts waits link.tests link'.tests own (λ p e. one_name n keyed name e) alike
     where
-      alike : (w.at (far g u j)).head.probe ≡ Some (far_port g u j) → (w.at u).fragment ≡ (w.at (far g u j)).fragment → ((w.at u).head.level ≡ (w.at (far g u j)).head.level) × ((w.at u).head.name ≡ (w.at (far g u j)).head.name)
-      alike p e = let t = same_ghosts (sym e) in tops_alike (w.at u) (w.at (far g u j)) here_fits.lag far_fits.lag (sym t.0) (sym t.1) (here_fits.searching (probing_finds here_fits own)).level (far_fits.searching (probing_finds far_fits p)).level
+      alike :
+          (w.at (far g u j)).head.probe ≡ Some (far_port g u j) →
+          (w.at u).fragment ≡ (w.at (far g u j)).fragment →
+          ((w.at u).head.level ≡ (w.at (far g u j)).head.level) × ((w.at u).head.name ≡ (w.at (far g u j)).head.name)
+      alike p e =
+          let t = same_ghosts (sym e) in
+          tops_alike (w.at u) (w.at (far g u j)) here_fits.lag far_fits.lag (sym t.0) (sym t.1)
+          (here_fits.searching (probing_finds here_fits own)).level (far_fits.searching (probing_finds far_fits p)).level
 
   -- a Test of one's own name that crosses one's own Test
-  pub crosses : (l : ℕ) (n : Key) (ts : List (ℕ × Key)) → IsKeyed g → (w.seen u j).tests ≡ (l, n) ∷ ts → (w.at u).head.name ≡ Some n → (w.at u).head.probe ≡ Some j → Invariant g (acts g u (record (w.at u) { mark = marked (w.at u).mark j; head = record (w.at u).head { probe = None } }) (put (w.seen u) j (record (w.seen u j) { tests = ts })) [] w)
+  pub crosses : (l : ℕ) (n : Key) (ts : List (ℕ × Key)) →
+      IsKeyed g →
+      (w.seen u j).tests ≡ (l, n) ∷ ts →
+      (w.at u).head.name ≡ Some n →
+      (w.at u).head.probe ≡ Some j →
+      Invariant g (acts g u (took_reject (w.at u) j) (left_tests w u j ts) [] w)
   crosses l n ts keyed waits name own =
       kept_one g wired u u_is x j at q [] [] (sends_none j) w
-      (record { alike = record { fragment = refl; coming = refl; coming_name = refl; up = refl; branch = branch_marked (w.at u).mark j }; found = λ e. e; mine = λ e. e; theirs = λ e. e })
+      (record {
+        alike = record { fragment = refl; coming = refl; coming_name = refl; up = refl; branch = branch_marked (w.at u).mark j };
+        found = λ e. e;
+        mine = λ e. e;
+        theirs = λ e. e;
+      })
       holds
-      (node_turned (length (g.ports u)) (w.at u) (marked (w.at u).mark j) None _ _ here_fits (λ z. cc (finds, z)) (branch_marked (w.at u).mark j) (within_marked (w.at u).mark j _ at.port here_fits.own_ports.mark) (λ p z. absurd (not_some None p refl z)) (λ z. (refl, (here_fits.idle z).1)) here_fits.best_port)
+      (node_turned (length (g.ports u)) (w.at u) (marked (w.at u).mark j) None _ _ here_fits (λ z. cc (finds, z))
+      (branch_marked (w.at u).mark j) (within_marked (w.at u).mark j _ at.port here_fits.own_ports.mark)
+      (λ p z. absurd (not_some None p refl z)) (λ z. (refl, (here_fits.idle z).1))
+      here_fits.best_port)
       (ahead (λ z. LinkFits (NamesOf g w) (record {
         port =
             j;
@@ -202,7 +291,7 @@ module _ (g : Network) (wired : IsWired g) (u : ℕ) (u_is : InNetwork g u) (j :
       (sums_one g wired u u_is x j at q [] [] (sends_none j) w holds.counted refl (λ i ne. refl) refl (λ i ne. refl))
     where
       x : Member
-      x = record (w.at u) { mark = marked (w.at u).mark j; head = record (w.at u).head { probe = None } }
+      x = took_reject (w.at u) j
 
       q : Seen
       q = record (w.seen u j) { tests = ts }
@@ -210,22 +299,42 @@ module _ (g : Network) (wired : IsWired g) (u : ℕ) (u_is : InNetwork g u) (j :
       finds : (w.at u).head.phase ≡ Find
       finds = probing_finds here_fits own
 
-      same : (w.at (far g u j)).head.probe ≡ Some (far_port g u j) → (w.at (far g u j)).head.name ≡ Some n → (w.at u).fragment ≡ (w.at (far g u j)).fragment
+      same :
+          (w.at (far g u j)).head.probe ≡ Some (far_port g u j) →
+          (w.at (far g u j)).head.name ≡ Some n →
+          (w.at u).fragment ≡ (w.at (far g u j)).fragment
       same p e = one_name n keyed name e
 
-      alike : (w.at (far g u j)).head.probe ≡ Some (far_port g u j) → (w.at u).fragment ≡ (w.at (far g u j)).fragment → ((w.at u).head.level ≡ (w.at (far g u j)).head.level) × ((w.at u).head.name ≡ (w.at (far g u j)).head.name)
-      alike p e = let t = same_ghosts (sym e) in tops_alike (w.at u) (w.at (far g u j)) here_fits.lag far_fits.lag (sym t.0) (sym t.1) (here_fits.searching finds).level (far_fits.searching (probing_finds far_fits p)).level
+      alike :
+          (w.at (far g u j)).head.probe ≡ Some (far_port g u j) →
+          (w.at u).fragment ≡ (w.at (far g u j)).fragment →
+          ((w.at u).head.level ≡ (w.at (far g u j)).head.level) × ((w.at u).head.name ≡ (w.at (far g u j)).head.name)
+      alike p e =
+          let t = same_ghosts (sym e) in
+          tops_alike (w.at u) (w.at (far g u j)) here_fits.lag far_fits.lag (sym t.0) (sym t.1) (here_fits.searching finds).level
+          (far_fits.searching (probing_finds far_fits p)).level
 
       inside : (w.at u).fragment ≡ (w.at (far g u j)).fragment
       inside = cross_frag (test_end (end g w u j)) (test_end beyond') l n ts waits link.tests link'.tests own same alike
 
   -- a Reject is heard
-  pub hears_reject : (r : ℕ) → (w.seen u j).rejects ≡ suc r → (w.at u).head.probe ≡ Some j → Invariant g (acts g u (record (w.at u) { mark = marked (w.at u).mark j; head = record (w.at u).head { probe = None } }) (put (w.seen u) j (record (w.seen u j) { rejects = r })) [] w)
+  pub hears_reject : (r : ℕ) →
+      (w.seen u j).rejects ≡ suc r →
+      (w.at u).head.probe ≡ Some j →
+      Invariant g (acts g u (took_reject (w.at u) j) (left_rejects w u j r) [] w)
   hears_reject r waits own =
       kept_one g wired u u_is x j at q [] [] (sends_none j) w
-      (record { alike = record { fragment = refl; coming = refl; coming_name = refl; up = refl; branch = branch_marked (w.at u).mark j }; found = λ e. e; mine = λ e. e; theirs = λ e. e })
+      (record {
+        alike = record { fragment = refl; coming = refl; coming_name = refl; up = refl; branch = branch_marked (w.at u).mark j };
+        found = λ e. e;
+        mine = λ e. e;
+        theirs = λ e. e;
+      })
       holds
-      (node_turned (length (g.ports u)) (w.at u) (marked (w.at u).mark j) None _ _ here_fits (λ z. cc (finds, z)) (branch_marked (w.at u).mark j) (within_marked (w.at u).mark j _ at.port here_fits.own_ports.mark) (λ p z. absurd (not_some None p refl z)) (λ z. (refl, (here_fits.idle z).1)) here_fits.best_port)
+      (node_turned (length (g.ports u)) (w.at u) (marked (w.at u).mark j) None _ _ here_fits (λ z. cc (finds, z))
+      (branch_marked (w.at u).mark j) (within_marked (w.at u).mark j _ at.port here_fits.own_ports.mark)
+      (λ p z. absurd (not_some None p refl z)) (λ z. (refl, (here_fits.idle z).1))
+      here_fits.best_port)
       (ahead (λ z. LinkFits (NamesOf g w) (record {
         port =
             j;
@@ -289,7 +398,7 @@ module _ (g : Network) (wired : IsWired g) (u : ℕ) (u_is : InNetwork g u) (j :
       (sums_one g wired u u_is x j at q [] [] (sends_none j) w holds.counted refl (λ i ne. refl) refl (λ i ne. refl))
     where
       x : Member
-      x = record (w.at u) { mark = marked (w.at u).mark j; head = record (w.at u).head { probe = None } }
+      x = took_reject (w.at u) j
 
       q : Seen
       q = record (w.seen u j) { rejects = r }
@@ -301,19 +410,57 @@ module _ (g : Network) (wired : IsWired g) (u : ℕ) (u_is : InNetwork g u) (j :
       inside = sym (rejected_facts (test_end (end g w u j)) (test_end beyond') own link.tests link'.tests r waits).0
 
   -- the next Test goes out, where a Basic port is left
-  pub scans : (n : Key) → (w.at u).head.name ≡ Some n → (w.at u).head.phase ≡ Find → (w.at u).head.probe ≡ None → (w.at u).mark j ≡ Basic → Invariant g (acts g u (record (w.at u) { head = record (w.at u).head { probe = Some j } }) (put (w.seen u) j (w.seen u j)) ((j, Test (w.at u).head.level n) ∷ []) w)
+  pub scans : (n : Key) →
+      (w.at u).head.name ≡ Some n →
+      (w.at u).head.phase ≡ Find →
+      (w.at u).head.probe ≡ None →
+      (w.at u).mark j ≡ Basic →
+      Invariant g (acts g u (record (w.at u) { head = record (w.at u).head { probe = Some j } }) (put (w.seen u) j (w.seen u j))
+      ((j, Test (w.at u).head.level n) ∷ []) w)
   scans n name finds free basic =
       kept_one g wired u u_is x j at (w.seen u j) (Test (w.at u).head.level n ∷ []) ((j, Test (w.at u).head.level n) ∷ [])
       (sends_one j (Test (w.at u).head.level n)) w
-      (record { alike = record { fragment = refl; coming = refl; coming_name = refl; up = refl; branch = λ p. refl }; found = λ e. e; mine = λ e. e; theirs = λ e. e })
+      (record {
+        alike = record { fragment = refl; coming = refl; coming_name = refl; up = refl; branch = λ p. refl };
+        found = λ e. e;
+        mine = λ e. e;
+        theirs = λ e. e;
+      })
       holds
-      (node_turned (length (g.ports u)) (w.at u) (w.at u).mark (Some j) _ _ here_fits (λ z. cc (finds, z)) (λ p. refl) here_fits.own_ports.mark (λ p z. subst (λ y. y < length (g.ports u)) (same_Some j p z) at.port) (λ z. absurd (z finds)) here_fits.best_port)
-      (record { tree = link.tree; search = link.search; tests = scan_here (test_end (end g w u j)) (test_end beyond') n name free basic link.tests link'.tests })
-      (record { tree = link'.tree; search = link'.search; tests = scan_there (test_end (end g w u j)) (test_end beyond') n name free basic link.tests link'.tests })
-      (λ i at' ne a b. record { tree = a.tree; search = a.search; tests = tests_aside (test_end (end g w u i)) (test_end (onto g wired u u_is x j at (w.seen u j) [] [] (sends_none j) w i)) (Some j) _ _ (not_some _ i free) (λ z. ne (sym (same_Some j i z))) (le_refl _) a.tests b.tests })
-      (λ i at' ne a b. record { tree = b.tree; search = b.search; tests = tests_aside' (test_end (end g w u i)) (test_end (onto g wired u u_is x j at (w.seen u j) [] [] (sends_none j) w i)) (Some j) _ (w.at u).head.name (not_some _ i free) (λ z. ne (sym (same_Some j i z))) (le_refl _) a.tests b.tests })
+      (node_turned (length (g.ports u)) (w.at u) (w.at u).mark (Some j) _ _ here_fits (λ z. cc (finds, z)) (λ p. refl) here_fits.own_ports.mark
+      (λ p z. subst (λ y. y < length (g.ports u)) (same_Some j p z) at.port)
+      (λ z. absurd (z finds)) here_fits.best_port)
+      (record {
+        tree = link.tree;
+        search = link.search;
+        tests = scan_here (test_end (end g w u j)) (test_end beyond') n name free basic link.tests link'.tests;
+      })
+      (record {
+        tree = link'.tree;
+        search = link'.search;
+        tests = scan_there (test_end (end g w u j)) (test_end beyond') n name free basic link.tests link'.tests;
+      })
+      (λ i at' ne a b. record {
+        tree = a.tree;
+        search = a.search;
+        tests =
+            tests_aside (test_end (end g w u i))
+            (test_end (onto g wired u u_is x j at (w.seen u j) [] [] (sends_none j) w i)) (Some j) _ _ (not_some _ i free)
+            (λ z. ne (sym (same_Some j i z))) (le_refl _)
+            a.tests b.tests;
+      })
+      (λ i at' ne a b. record {
+        tree = b.tree;
+        search = b.search;
+        tests =
+            tests_aside' (test_end (end g w u i))
+            (test_end (onto g wired u u_is x j at (w.seen u j) [] [] (sends_none j) w i)) (Some j) _ (w.at u).head.name (not_some _ i free)
+            (λ z. ne (sym (same_Some j i z))) (le_refl _)
+            a.tests b.tests;
+      })
       (λ e. e) refl
-      (sums_one g wired u u_is x j at (w.seen u j) (Test (w.at u).head.level n ∷ []) ((j, Test (w.at u).head.level n) ∷ []) (sends_one j (Test (w.at u).head.level n)) w holds.counted refl (λ i ne. refl) refl (λ i ne. refl))
+      (sums_one g wired u u_is x j at (w.seen u j) (Test (w.at u).head.level n ∷ []) ((j, Test (w.at u).head.level n) ∷ [])
+      (sends_one j (Test (w.at u).head.level n)) w holds.counted refl (λ i ne. refl) refl (λ i ne. refl))
     where
       x : Member
       x = record (w.at u) { head = record (w.at u).head { probe = Some j } }

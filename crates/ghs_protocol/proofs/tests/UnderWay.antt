@@ -4,7 +4,7 @@ use Rattle.std.proofs.lemmas.Option.{same_Some}
 use Rattle.ghs_graph.specs.declared.key.Key.{Key}
 use Rattle.ghs_node.specs.declared.mark.Mark.{Mark}
 use Rattle.ghs_node.specs.declared.mark.Mark.TheVariants.{Basic, Branch}
-use Rattle.ghs_node.specs.Words.{Best, is_branch, better, below, best_key, Outgoing}
+use Rattle.ghs_node.specs.Words.{Best, is_branch, below, best_key, Outgoing}
 use Rattle.ghs_node.specs.declared.message.Phase.{Phase}
 use Rattle.ghs_node.specs.declared.message.Phase.TheVariants.{Find, Found}
 use Rattle.ghs_node.specs.declared.message.Message.{Message}
@@ -12,6 +12,7 @@ use Rattle.ghs_node.specs.declared.message.Message.TheVariants.{Connect, Initiat
 use Rattle.ghs_protocol.specs.Network.{Network, port_at, At, far, far_port, IsWired, InNetwork}
 use Rattle.ghs_protocol.specs.Net.{put}
 use Rattle.ghs_protocol.proofs.clauses.Scene.{Seen, adds, Member, Scene, End, TreeEnd, tree_end, end, acts, far_end}
+use Rattle.ghs_protocol.proofs.clauses.Changes.{left_tree, left_tests, left_accepts, left_rejects, seen_beyond, marked, rules_out, took_reject, took_accept, took_report, with_halt, halts_alone}
 use Rattle.ghs_protocol.proofs.clauses.Whole.{LinkFits, Invariant, NamesOf}
 use Rattle.ghs_protocol.proofs.clauses.Tests.{AllFrom}
 use Rattle.ghs_protocol.proofs.clauses.TreeMessages.{Stage, AtStage, Asking, Called, Begun}
@@ -23,7 +24,7 @@ use Rattle.ghs_protocol.proofs.tests.Steps.{one_name}
 use Rattle.ghs_protocol.proofs.clauses.Wiring.{IsKeyed}
 use Rattle.ghs_protocol.proofs.acts.OneLink.{SendsOn, sends_none, sends_one, by_port_at, at_near, at_far}
 use Rattle.ghs_protocol.proofs.rows.Link.{link_fits, link_fits', link_leads}
-use Rattle.ghs_protocol.proofs.acts.Situations.{marked, branch_marked, probing_finds, is_find'}
+use Rattle.ghs_protocol.proofs.acts.Situations.{branch_marked, probing_finds, is_find'}
 use Rattle.ghs_protocol.proofs.search.FirstReport.{Heard, heard_first}
 use Rattle.ghs_protocol.proofs.union.CoreAnswered.{Asked, asked_on}
 use Rattle.ghs_protocol.proofs.rest.Halt.{Back, Old, Half, back, owed_finds}
@@ -31,7 +32,8 @@ use Rattle.ghs_protocol.proofs.search.Close.{has_report_append}
 use Rattle.ghs_protocol.proofs.tests.Links.{probe_is}
 
 -- One link is touched: a fact of all links.
-module _ (g : Network) (wired : IsWired g) (u : ℕ) (u_is : InNetwork g u) (x : Member) (j : ℕ) (at : At g u j) (q : Seen) (ms : List Message) (ss : Outgoing) (on : SendsOn j ms ss) (w : Scene) where
+module _ (g : Network) (wired : IsWired g) (u : ℕ) (u_is : InNetwork g u) (x : Member) (j : ℕ) (at : At g u j) (q : Seen)
+    (ms : List Message) (ss : Outgoing) (on : SendsOn j ms ss) (w : Scene) where
   abbrev pub still : ℕ → End
   still i = record { port = i; key = (port_at g u i).key; mark = x.mark i; is = x; seen = w.seen u i }
 
@@ -39,7 +41,7 @@ module _ (g : Network) (wired : IsWired g) (u : ℕ) (u_is : InNetwork g u) (x :
   here = record { port = j; key = (port_at g u j).key; mark = x.mark j; is = x; seen = q }
 
   abbrev pub there : End
-  there = record { port = far_port g u j; key = (port_at g u j).key; mark = (w.at (far g u j)).mark (far_port g u j); is = w.at (far g u j); seen = adds (w.seen (far g u j) (far_port g u j)) ms }
+  there = record (far_end g w u j) { seen = adds (seen_beyond g w u j) ms }
 
   abbrev after : Scene
   after = acts g u x (put (w.seen u) j q) ss w
@@ -55,7 +57,9 @@ module _ (g : Network) (wired : IsWired g) (u : ℕ) (u_is : InNetwork g u) (x :
 
   -- the four readings of a fact that the act leaves to show
   abbrev pub Ends : (End → End → Type 0) → Type 0
-  Ends P = P here there × P there here × ((i : ℕ) → At g u i → i ≢ j → P (still i) (far_end g w u i)) × ((i : ℕ) → At g u i → i ≢ j → P (far_end g w u i) (still i))
+  Ends P =
+      P here there × P there here × ((i : ℕ) → At g u i → i ≢ j → P (still i) (far_end g w u i)) ×
+      ((i : ℕ) → At g u i → i ≢ j → P (far_end g w u i) (still i))
 
   pub touches_lives : Lives g w → Ends ProbeAsks → Ends ChildBrought → Ends CoreHeard → Lives g (acts g u x (put (w.seen u) j q) ss w)
   touches_lives lives a b c = record {
@@ -109,7 +113,8 @@ brought_despite (Reject ∷ xs) l k = brought_despite xs l k
 brought_despite (Report r ∷ xs) l k = brought_despite xs l k
 brought_despite (ChangeRoot ∷ xs) l k = brought_despite xs l k
 
-module _ (g : Network) (wired : IsWired g) (u : ℕ) (u_is : InNetwork g u) (j : ℕ) (at : At g u j) (w : Scene) (holds : Invariant g w) (lives : Lives g w) where
+module _ (g : Network) (wired : IsWired g) (u : ℕ) (u_is : InNetwork g u) (j : ℕ) (at : At g u j) (w : Scene) (holds : Invariant g w)
+    (lives : Lives g w) where
   pub near_asks : (i : ℕ) → At g u i → ProbeAsks (end g w u i) (far_end g w u i)
   near_asks i at' = at_near g wired w ProbeAsks lives.asks u i at'
 
@@ -142,7 +147,10 @@ module _ (g : Network) (wired : IsWired g) (u : ℕ) (u_is : InNetwork g u) (j :
   far_heard_marked i at' c = far_heard i at' (c.0, was_branch (w.at u).mark j i c.1, c.2, c.3, c.4)
 
   -- a Test that comes in is the far end's own, unless u's name is its
-  own_test : (l : ℕ) (n : Key) (ts : List (ℕ × Key)) → (w.seen u j).tests ≡ (l, n) ∷ ts → (w.at u).head.name ≢ Some n → (w.at (far g u j)).head.probe ≡ Some (far_port g u j)
+  own_test : (l : ℕ) (n : Key) (ts : List (ℕ × Key)) →
+      (w.seen u j).tests ≡ (l, n) ∷ ts →
+      (w.at u).head.name ≢ Some n →
+      (w.at (far g u j)).head.probe ≡ Some (far_port g u j)
   own_test l n ts waits other =
       ⊎_elim (λ e. e)
       (λ ne.
@@ -153,36 +161,57 @@ module _ (g : Network) (wired : IsWired g) (u : ℕ) (u_is : InNetwork g u) (j :
       (probe_is (w.at (far g u j)).head.probe (far_port g u j))
 
   -- a Test is accepted
-  pub accept_sent_lives : (l : ℕ) (n : Key) (ts : List (ℕ × Key)) → (w.seen u j).tests ≡ (l, n) ∷ ts → (w.at u).head.name ≢ Some n → Lives g (acts g u (w.at u) (put (w.seen u) j (record (w.seen u j) { tests = ts })) ((j, Accept) ∷ []) w)
+  pub accept_sent_lives : (l : ℕ) (n : Key) (ts : List (ℕ × Key)) →
+      (w.seen u j).tests ≡ (l, n) ∷ ts →
+      (w.at u).head.name ≢ Some n →
+      Lives g (acts g u (w.at u) (left_tests w u j ts) ((j, Accept) ∷ []) w)
   accept_sent_lives l n ts waits other =
       touches_lives g wired u u_is (w.at u) j at (record (w.seen u j) { tests = ts }) (Accept ∷ []) ((j, Accept) ∷ []) (sends_one j Accept) w lives
       ((λ own. go (near_asks j at own)), (λ own. Accept_here (omega arith)), (λ i at' ne. near_asks i at'), (λ i at' ne. far_asks i at'))
       (near_brought j at, far_brought j at, (λ i at' ne. near_brought i at'), (λ i at' ne. far_brought i at'))
       (near_heard j at, far_heard j at, (λ i at' ne. near_heard i at'), (λ i at' ne. far_heard i at'))
     where
-      go : Answering (w.seen (far g u j) (far_port g u j)).tests (w.seen u j).accepts (w.seen u j).rejects (w.seen u j).tests (w.at (far g u j)).head.probe (far_port g u j) → Answering (w.seen (far g u j) (far_port g u j)).tests (w.seen u j).accepts (w.seen u j).rejects ts (w.at (far g u j)).head.probe (far_port g u j)
+      go :
+          Answering (seen_beyond g w u j).tests (w.seen u j).accepts (w.seen u j).rejects (w.seen u j).tests (w.at (far g u j)).head.probe
+          (far_port g u j) →
+          Answering (seen_beyond g w u j).tests (w.seen u j).accepts (w.seen u j).rejects ts (w.at (far g u j)).head.probe (far_port g u j)
       go (Test_there h) = Test_there h
       go (Accept_here h) = Accept_here h
       go (Reject_here h) = Reject_here h
       go (Crossed_here h ne) = absurd (ne (own_test l n ts waits other))
 
   -- a Test is rejected
-  pub reject_sent_lives : (ts : List (ℕ × Key)) → (w.at u).head.probe ≢ Some j → Lives g (acts g u (record (w.at u) { mark = marked (w.at u).mark j }) (put (w.seen u) j (record (w.seen u j) { tests = ts })) ((j, Reject) ∷ []) w)
+  pub reject_sent_lives : (ts : List (ℕ × Key)) →
+      (w.at u).head.probe ≢ Some j →
+      Lives g (acts g u (rules_out (w.at u) j) (left_tests w u j ts) ((j, Reject) ∷ []) w)
   reject_sent_lives ts free =
-      touches_lives g wired u u_is (record (w.at u) { mark = marked (w.at u).mark j }) j at (record (w.seen u j) { tests = ts }) (Reject ∷ []) ((j, Reject) ∷ []) (sends_one j Reject) w lives
+      touches_lives g wired u u_is (rules_out (w.at u) j) j at (record (w.seen u j) { tests = ts }) (Reject ∷ []) ((j, Reject) ∷ [])
+      (sends_one j Reject) w lives
       ((λ own. absurd (free own)), (λ own. Reject_here (omega arith)), (λ i at' ne. near_asks i at'), (λ i at' ne. far_asks i at'))
       (near_brought_marked j at, far_brought_marked j at, (λ i at' ne. near_brought_marked i at'), (λ i at' ne. far_brought_marked i at'))
       (near_heard_marked j at, far_heard_marked j at, (λ i at' ne. near_heard_marked i at'), (λ i at' ne. far_heard_marked i at'))
 
   -- u drops its probe
-  far_dropped : (i : ℕ) → At g u i → (w.at (far g u i)).head.probe ≡ Some (far_port g u i) → Answering (w.seen u i).tests (w.seen (far g u i) (far_port g u i)).accepts (w.seen (far g u i) (far_port g u i)).rejects (w.seen (far g u i) (far_port g u i)).tests None i
+  far_dropped : (i : ℕ) →
+      At g u i →
+      (w.at (far g u i)).head.probe ≡ Some (far_port g u i) →
+      Answering (w.seen u i).tests (seen_beyond g w u i).accepts (seen_beyond g w u i).rejects (seen_beyond g w u i).tests None i
   far_dropped i at' own = dropped _ _ _ _ (w.at u).head.probe i (far_asks i at' own)
 
   -- Tests cross
-  pub cross_lives : (l : ℕ) (n : Key) (ts : List (ℕ × Key)) → IsKeyed g → (w.seen u j).tests ≡ (l, n) ∷ ts → (w.at u).head.name ≡ Some n → (w.at u).head.probe ≡ Some j → Lives g (acts g u (record (w.at u) { mark = marked (w.at u).mark j; head = record (w.at u).head { probe = None } }) (put (w.seen u) j (record (w.seen u j) { tests = ts })) [] w)
+  pub cross_lives : (l : ℕ) (n : Key) (ts : List (ℕ × Key)) →
+      IsKeyed g →
+      (w.seen u j).tests ≡ (l, n) ∷ ts →
+      (w.at u).head.name ≡ Some n →
+      (w.at u).head.probe ≡ Some j →
+      Lives g (acts g u (took_reject (w.at u) j) (left_tests w u j ts) [] w)
   cross_lives l n ts keyed waits name own =
-      touches_lives g wired u u_is (record (w.at u) { mark = marked (w.at u).mark j; head = record (w.at u).head { probe = None } }) j at (record (w.seen u j) { tests = ts }) [] [] (sends_none j) w lives
-      ((λ z. absurd (unprobed j z)), (λ theirs. go theirs (near_asks j at own)), (λ i at' ne z. absurd (unprobed i z)), (λ i at' ne. far_dropped i at'))
+      touches_lives g wired u u_is (took_reject (w.at u) j) j at (record (w.seen u j) { tests = ts }) [] [] (sends_none j) w lives (
+        (λ z. absurd (unprobed j z)),
+        (λ theirs. go theirs (near_asks j at own)),
+        (λ i at' ne z. absurd (unprobed i z)),
+        (λ i at' ne. far_dropped i at'),
+      )
       (near_brought_marked j at, far_brought_marked j at, (λ i at' ne. near_brought_marked i at'), (λ i at' ne. far_brought_marked i at'))
       (near_heard_marked j at, far_heard_marked j at, (λ i at' ne. near_heard_marked i at'), (λ i at' ne. far_heard_marked i at'))
     where
@@ -192,100 +221,174 @@ module _ (g : Network) (wired : IsWired g) (u : ℕ) (u_is : InNetwork g u) (j :
       -- the far end's Test has my name, so it is of my fragment
       same : (w.at (far g u j)).head.probe ≡ Some (far_port g u j) → (w.at (far g u j)).fragment ≡ (w.at u).fragment
       same theirs =
-          let a : AllFrom (w.at (far g u j)).head.level (w.at (far g u j)).head.name ((l, n) ∷ ts) = subst (AllFrom (w.at (far g u j)).head.level (w.at (far g u j)).head.name) waits ((link_fits' g wired w holds u j at).tests.probing theirs).from in
+          let a : AllFrom (w.at (far g u j)).head.level (w.at (far g u j)).head.name ((l, n) ∷ ts) =
+          subst (AllFrom (w.at (far g u j)).head.level (w.at (far g u j)).head.name) waits
+          ((link_fits' g wired w holds u j at).tests.probing theirs).from in
           sym (one_name g wired u u_is j at w holds n keyed name a.1)
 
-      go : (w.at (far g u j)).head.probe ≡ Some (far_port g u j) → Answering (w.seen (far g u j) (far_port g u j)).tests (w.seen u j).accepts (w.seen u j).rejects (w.seen u j).tests (w.at (far g u j)).head.probe (far_port g u j) → Answering ts (w.seen (far g u j) (far_port g u j)).accepts (w.seen (far g u j) (far_port g u j)).rejects (w.seen (far g u j) (far_port g u j)).tests None j
+      go :
+          (w.at (far g u j)).head.probe ≡ Some (far_port g u j) →
+          Answering (seen_beyond g w u j).tests (w.seen u j).accepts (w.seen u j).rejects (w.seen u j).tests (w.at (far g u j)).head.probe
+          (far_port g u j) →
+          Answering ts (seen_beyond g w u j).accepts (seen_beyond g w u j).rejects (seen_beyond g w u j).tests None j
       go theirs (Test_there h) = Crossed_here h (λ z. cc)
       go theirs (Accept_here h) = absurd (((mine.tests.probing own).accepted h).0 (same theirs))
       go theirs (Reject_here h) = absurd (((mine.tests.probing own).rejected h).2 theirs)
       go theirs (Crossed_here h ne) = absurd (ne theirs)
 
   -- a Reject is heard
-  pub reject_lives : (r : ℕ) → Lives g (acts g u (record (w.at u) { mark = marked (w.at u).mark j; head = record (w.at u).head { probe = None } }) (put (w.seen u) j (record (w.seen u j) { rejects = r })) [] w)
+  pub reject_lives : (r : ℕ) → Lives g (acts g u (took_reject (w.at u) j) (left_rejects w u j r) [] w)
   reject_lives r =
-      touches_lives g wired u u_is (record (w.at u) { mark = marked (w.at u).mark j; head = record (w.at u).head { probe = None } }) j at (record (w.seen u j) { rejects = r }) [] [] (sends_none j) w lives
+      touches_lives g wired u u_is (took_reject (w.at u) j) j at (record (w.seen u j) { rejects = r }) [] [] (sends_none j) w lives
       ((λ z. absurd (unprobed j z)), far_dropped j at, (λ i at' ne z. absurd (unprobed i z)), (λ i at' ne. far_dropped i at'))
       (near_brought_marked j at, far_brought_marked j at, (λ i at' ne. near_brought_marked i at'), (λ i at' ne. far_brought_marked i at'))
       (near_heard_marked j at, far_heard_marked j at, (λ i at' ne. near_heard_marked i at'), (λ i at' ne. far_heard_marked i at'))
 
   -- the next Test goes out
-  pub scan_lives : (l : ℕ) (n : Key) → (w.at u).head.probe ≡ None → (w.at u).mark j ≡ Basic → Lives g (acts g u (record (w.at u) { head = record (w.at u).head { probe = Some j } }) (put (w.seen u) j (w.seen u j)) ((j, Test l n) ∷ []) w)
+  pub scan_lives : (l : ℕ) (n : Key) →
+      (w.at u).head.probe ≡ None →
+      (w.at u).mark j ≡ Basic →
+      Lives g
+      (acts g u (record (w.at u) { head = record (w.at u).head { probe = Some j } }) (put (w.seen u) j (w.seen u j)) ((j, Test l n) ∷ []) w)
   scan_lives l n none basic =
-      touches_lives g wired u u_is (record (w.at u) { head = record (w.at u).head { probe = Some j } }) j at (w.seen u j) (Test l n ∷ []) ((j, Test l n) ∷ []) (sends_one j (Test l n)) w lives
-      ((λ own. Test_there (let z = length-append (w.seen (far g u j) (far_port g u j)).tests ((l, n) ∷ []) in omega (arith, z))), (λ theirs. here (far_asks j at theirs)), (λ i at' ne own. absurd (ne (sym (same_Some j i own)))), (λ i at' ne theirs. beside i ne (far_asks i at' theirs)))
+      touches_lives g wired u u_is (record (w.at u) { head = record (w.at u).head { probe = Some j } }) j at (w.seen u j) (Test l n ∷ [])
+      ((j, Test l n) ∷ []) (sends_one j (Test l n)) w lives (
+        (λ own. Test_there (let z = length-append (seen_beyond g w u j).tests ((l, n) ∷ []) in omega (arith, z))),
+        (λ theirs. here (far_asks j at theirs)),
+        (λ i at' ne own. absurd (ne (sym (same_Some j i own)))),
+        (λ i at' ne theirs. beside i ne (far_asks i at' theirs)),
+      )
       (near_brought j at, far_brought j at, (λ i at' ne. near_brought i at'), (λ i at' ne. far_brought i at'))
       (near_heard j at, far_heard j at, (λ i at' ne. near_heard i at'), (λ i at' ne. far_heard i at'))
     where
       -- no Test of u's was on its way, as the port is Basic
-      here : Answering (w.seen u j).tests (w.seen (far g u j) (far_port g u j)).accepts (w.seen (far g u j) (far_port g u j)).rejects (w.seen (far g u j) (far_port g u j)).tests (w.at u).head.probe j → Answering (w.seen u j).tests (w.seen (far g u j) (far_port g u j)).accepts (w.seen (far g u j) (far_port g u j)).rejects ((w.seen (far g u j) (far_port g u j)).tests ++ (l, n) ∷ []) (Some j) j
+      here :
+          Answering (w.seen u j).tests (seen_beyond g w u j).accepts (seen_beyond g w u j).rejects (seen_beyond g w u j).tests (w.at u).head.probe
+          j →
+          Answering (w.seen u j).tests (seen_beyond g w u j).accepts (seen_beyond g w u j).rejects ((seen_beyond g w u j).tests ++ (l, n) ∷ [])
+          (Some j) j
       here (Test_there h) = Test_there h
       here (Accept_here h) = Accept_here h
       here (Reject_here h) = Reject_here h
       here (Crossed_here h ne) = absurd ((((link_fits g wired w holds u j at).tests.not_probing ne).crossed h).mark basic)
 
-      beside : (i : ℕ) → i ≢ j → Answering (w.seen u i).tests (w.seen (far g u i) (far_port g u i)).accepts (w.seen (far g u i) (far_port g u i)).rejects (w.seen (far g u i) (far_port g u i)).tests (w.at u).head.probe i → Answering (w.seen u i).tests (w.seen (far g u i) (far_port g u i)).accepts (w.seen (far g u i) (far_port g u i)).rejects (w.seen (far g u i) (far_port g u i)).tests (Some j) i
+      beside : (i : ℕ) →
+          i ≢ j →
+          Answering (w.seen u i).tests (seen_beyond g w u i).accepts (seen_beyond g w u i).rejects (seen_beyond g w u i).tests (w.at u).head.probe
+          i →
+          Answering (w.seen u i).tests (seen_beyond g w u i).accepts (seen_beyond g w u i).rejects (seen_beyond g w u i).tests (Some j) i
       beside i ne (Test_there h) = Test_there h
       beside i ne (Accept_here h) = Accept_here h
       beside i ne (Reject_here h) = Reject_here h
       beside i ne (Crossed_here h z) = Crossed_here h (λ y. ne (sym (same_Some j i y)))
 
   -- while u searches, no end of a core has heard it
-  hears_nothing : (w.at u).head.phase ≡ Find → (i : ℕ) → At g u i → IsCore (far_end g w u i) (end g w u i) → (w.at (far g u i)).head.level ≡ (w.at (far g u i)).coming → (w.at (far g u i)).head.phase ≡ Found → has_report (w.seen u i).tree ≡ false → ⊥
+  hears_nothing :
+      (w.at u).head.phase ≡ Find →
+      (i : ℕ) → At g u i →
+      IsCore (far_end g w u i) (end g w u i) →
+      (w.at (far g u i)).head.level ≡ (w.at (far g u i)).coming →
+      (w.at (far g u i)).head.phase ≡ Found →
+      has_report (w.seen u i).tree ≡ false →
+      ⊥
   hears_nothing finds i at' c top done none = let z = (far_heard i at' c top done none).done in cc (z, finds)
 
   -- an Accept is heard
-  pub accept_lives : (a : ℕ) → (w.at u).head.probe ≡ Some j → Lives g (acts g u (record (w.at u) { head = record (w.at u).head { probe = None; best = better (w.at u).head.best j (Some (port_at g u j).key) } }) (put (w.seen u) j (record (w.seen u j) { accepts = a })) [] w)
+  pub accept_lives : (a : ℕ) →
+      (w.at u).head.probe ≡ Some j →
+      Lives g (acts g u (took_accept (w.at u) j (port_at g u j).key) (left_accepts w u j a) [] w)
   accept_lives a own =
-      touches_lives g wired u u_is (record (w.at u) { head = record (w.at u).head { probe = None; best = better (w.at u).head.best j (Some (port_at g u j).key) } }) j at (record (w.seen u j) { accepts = a }) [] [] (sends_none j) w lives
+      touches_lives g wired u u_is (took_accept (w.at u) j (port_at g u j).key) j at (record (w.seen u j) { accepts = a }) [] []
+      (sends_none j) w lives
       ((λ z. absurd (unprobed j z)), far_dropped j at, (λ i at' ne z. absurd (unprobed i z)), (λ i at' ne. far_dropped i at'))
-      (near_brought j at, far_brought j at, (λ i at' ne. near_brought i at'), (λ i at' ne. far_brought i at'))
-      ((λ c t f n. absurd (let z : (w.at u).head.phase ≡ Found = f in cc (z, finds))), (λ c t f n. absurd (hears_nothing finds j at c t f n)), (λ i at' ne c t f n. absurd (let z : (w.at u).head.phase ≡ Found = f in cc (z, finds))), (λ i at' ne c t f n. absurd (hears_nothing finds i at' c t f n)))
+      (near_brought j at, far_brought j at, (λ i at' ne. near_brought i at'), (λ i at' ne. far_brought i at')) (
+        (λ c t f n. absurd (let z : (w.at u).head.phase ≡ Found = f in cc (z, finds))),
+        (λ c t f n. absurd (hears_nothing finds j at c t f n)),
+        (λ i at' ne c t f n. absurd (let z : (w.at u).head.phase ≡ Found = f in cc (z, finds))),
+        (λ i at' ne c t f n. absurd (hears_nothing finds i at' c t f n)),
+      )
     where
       finds : (w.at u).head.phase ≡ Find
       finds = probing_finds (holds.nodes u u_is) own
 
   -- a child's Report is heard
-  pub report_lives : (k : Option Key) (ms : List Message) (c : ℕ) → (w.seen u j).tree ≡ Report k ∷ ms → (w.at u).head.in_branch ≢ Some j → (w.at u).head.find_count ≡ suc c → Lives g (acts g u (record (w.at u) { head = record (w.at u).head { find_count = c; best = better (w.at u).head.best j k } }) (put (w.seen u) j (record (w.seen u j) { tree = [] })) [] w)
+  pub report_lives : (k : Option Key) (ms : List Message) (c : ℕ) →
+      (w.seen u j).tree ≡ Report k ∷ ms →
+      (w.at u).head.in_branch ≢ Some j →
+      (w.at u).head.find_count ≡ suc c →
+      Lives g (acts g u (took_report (w.at u) j k c) (left_tree w u j []) [] w)
   report_lives k ms c waits away count =
-      touches_lives g wired u u_is (record (w.at u) { head = record (w.at u).head { find_count = c; best = better (w.at u).head.best j k } }) j at (record (w.seen u j) { tree = [] }) [] [] (sends_none j) w lives
+      touches_lives g wired u u_is (took_report (w.at u) j k c) j at (record (w.seen u j) { tree = [] }) [] [] (sends_none j) w lives
       (near_asks j at, far_asks j at, (λ i at' ne. near_asks i at'), (λ i at' ne. far_asks i at'))
-      ((λ z. absurd (heard.child.down z.2)), far_brought j at, (λ i at' ne. near_brought i at'), (λ i at' ne. far_brought i at'))
-      ((λ z. absurd (heard.child.down z.2)), (λ z. absurd (heard.child.down z.3)), (λ i at' ne z t f n. absurd (let y : (w.at u).head.phase ≡ Found = f in cc (y, finds))), (λ i at' ne z t f n. absurd (hears_nothing finds i at' z t f n)))
+      ((λ z. absurd (heard.child.down z.2)), far_brought j at, (λ i at' ne. near_brought i at'), (λ i at' ne. far_brought i at')) (
+        (λ z. absurd (heard.child.down z.2)),
+        (λ z. absurd (heard.child.down z.3)),
+        (λ i at' ne z t f n. absurd (let y : (w.at u).head.phase ≡ Found = f in cc (y, finds))),
+        (λ i at' ne z t f n. absurd (hears_nothing finds i at' z t f n)),
+      )
     where
       finds : (w.at u).head.phase ≡ Find
       finds = ⊎_elim (λ h. h) (λ ne. absurd (let z = ((holds.nodes u u_is).idle ne).1 in omega (arith, z, count))) (is_find' (w.at u).head.phase)
 
       heard : Heard (tree_end (end g w u j)) (tree_end (far_end g w u j)) k
-      heard = heard_first (tree_end (end g w u j)) (tree_end (far_end g w u j)) (link_fits g wired w holds u j at).tree (link_fits' g wired w holds u j at).tree (link_leads g wired w holds u j at) k ms waits away
+      heard =
+          heard_first (tree_end (end g w u j)) (tree_end (far_end g w u j)) (link_fits g wired w holds u j at).tree
+          (link_fits' g wired w holds u j at).tree (link_leads g wired w holds u j at) k ms waits away
 
   -- a Connect over the core is answered
-  pub serve_lives : (l : ℕ) (ms : List Message) → (w.seen u j).tree ≡ Connect l ∷ ms → (w.at u).mark j ≢ Basic → (m : ℕ) (k : Key) → Lives g (acts g u (w.at u) (put (w.seen u) j (record (w.seen u j) { tree = ms })) ((j, Initiate m k Find) ∷ []) w)
+  pub serve_lives : (l : ℕ) (ms : List Message) →
+      (w.seen u j).tree ≡ Connect l ∷ ms →
+      (w.at u).mark j ≢ Basic →
+      (m : ℕ) (k : Key) → Lives g (acts g u (w.at u) (left_tree w u j ms) ((j, Initiate m k Find) ∷ []) w)
   serve_lives l ms waits marked_so m k =
-      touches_lives g wired u u_is (w.at u) j at (record (w.seen u j) { tree = ms }) (Initiate m k Find ∷ []) ((j, Initiate m k Find) ∷ []) (sends_one j (Initiate m k Find)) w lives
-      (near_asks j at, far_asks j at, (λ i at' ne. near_asks i at'), (λ i at' ne. far_asks i at'))
-      ((λ z. absurd (z.3 asked.core.both.up_beyond)), (λ z. absurd (z.3 asked.core.both.up)), (λ i at' ne. near_brought i at'), (λ i at' ne. far_brought i at'))
-      ((λ z t f n. near_heard j at z t f (sym (call_unreported (w.seen (far g u j) (far_port g u j)).tree m k Find) ∙ n)), (λ z t f n. far_heard j at z t f (ap has_report waits ∙ n)), (λ i at' ne. near_heard i at'), (λ i at' ne. far_heard i at'))
+      touches_lives g wired u u_is (w.at u) j at (record (w.seen u j) { tree = ms }) (Initiate m k Find ∷ []) ((j, Initiate m k Find) ∷ [])
+      (sends_one j (Initiate m k Find)) w lives
+      (near_asks j at, far_asks j at, (λ i at' ne. near_asks i at'), (λ i at' ne. far_asks i at')) (
+        (λ z. absurd (z.3 asked.core.both.up_beyond)),
+        (λ z. absurd (z.3 asked.core.both.up)),
+        (λ i at' ne. near_brought i at'),
+        (λ i at' ne. far_brought i at'),
+      ) (
+        (λ z t f n. near_heard j at z t f (sym (call_unreported (seen_beyond g w u j).tree m k Find) ∙ n)),
+        (λ z t f n. far_heard j at z t f (ap has_report waits ∙ n)),
+        (λ i at' ne. near_heard i at'),
+        (λ i at' ne. far_heard i at'),
+      )
     where
       asked : Asked (tree_end (end g w u j)) (tree_end (far_end g w u j)) l ms
-      asked = asked_on (tree_end (end g w u j)) (tree_end (far_end g w u j)) (link_fits g wired w holds u j at).tree (link_fits' g wired w holds u j at).tree (link_leads g wired w holds u j at) l ms waits marked_so
+      asked =
+          asked_on (tree_end (end g w u j)) (tree_end (far_end g w u j)) (link_fits g wired w holds u j at).tree
+          (link_fits' g wired w holds u j at).tree (link_leads g wired w holds u j at) l ms waits marked_so
 
   -- a Report of the core's other half, or an old one, is heard at rest; with b the node halts
-  pub end_lives : (k : Option Key) (ms : List Message) → (w.seen u j).tree ≡ Report k ∷ ms → (w.at u).head.phase ≡ Found → (b : Bool) → (b ≡ (w.at u).head.halted) ⊎ (b ≡ true) → below (best_key (w.at u).head.best) k ≡ false → (k ≡ None → (w.at u).head.best ≡ None → b ≡ true) →
-      Lives g (acts g u (record (w.at u) { head = record (w.at u).head { halted = b } }) (put (w.seen u) j (record (w.seen u j) { tree = ms })) [] w)
+  pub end_lives : (k : Option Key) (ms : List Message) →
+      (w.seen u j).tree ≡ Report k ∷ ms →
+      (w.at u).head.phase ≡ Found →
+      (b : Bool) → (b ≡ (w.at u).head.halted) ⊎ (b ≡ true) →
+      below (best_key (w.at u).head.best) k ≡ false →
+      (k ≡ None → (w.at u).head.best ≡ None → b ≡ true) →
+      Lives g (acts g u (with_halt (w.at u) b) (left_tree w u j ms) [] w)
   end_lives k ms waits rests b why less halts =
-      touches_lives g wired u u_is (record (w.at u) { head = record (w.at u).head { halted = b } }) j at (record (w.seen u j) { tree = ms }) [] [] (sends_none j) w lives
-      (near_asks j at, far_asks j at, (λ i at' ne. near_asks i at'), (λ i at' ne. far_asks i at'))
-      ((λ c. ap (brought_to (w.at u).head.level) (sym waits) ∙ near_brought j at c), far_brought j at, (λ i at' ne. near_brought i at'), (λ i at' ne. far_brought i at'))
+      touches_lives g wired u u_is (with_halt (w.at u) b) j at (record (w.seen u j) { tree = ms }) [] [] (sends_none j) w lives
+      (near_asks j at, far_asks j at, (λ i at' ne. near_asks i at'), (λ i at' ne. far_asks i at')) (
+        (λ c. ap (brought_to (w.at u).head.level) (sym waits) ∙ near_brought j at c),
+        far_brought j at,
+        (λ i at' ne. near_brought i at'),
+        (λ i at' ne. far_brought i at'),
+      )
       (near_heard j at, (λ c t f n. from_back c came), (λ i at' ne. near_heard i at'), (λ i at' ne c t f n. more (far_heard i at' c t f n)))
     where
       mine : (w.at u).up ≢ Some j → ⊥
       mine ne = let z = owed_finds g wired u u_is j at w holds ne (rw waits refl) in cc (z, rests)
 
       came : Back (NamesOf g w (w.at u).fragment) (tree_end (end g w u j)) (tree_end (far_end g w u j)) k ms
-      came = back (tree_end (end g w u j)) (tree_end (far_end g w u j)) (link_fits g wired w holds u j at).tree (link_fits' g wired w holds u j at).tree (link_leads g wired w holds u j at) k ms waits mine
+      came =
+          back (tree_end (end g w u j)) (tree_end (far_end g w u j)) (link_fits g wired w holds u j at).tree
+          (link_fits' g wired w holds u j at).tree (link_leads g wired w holds u j at) k ms waits mine
 
-      more : {o : Best} → HeardBy (w.at u).head.level (w.at u).coming (w.at u).head.phase (w.at u).head.best o (w.at u).head.halted → HeardBy (w.at u).head.level (w.at u).coming (w.at u).head.phase (w.at u).head.best o b
+      more : {o : Best} →
+          HeardBy (w.at u).head.level (w.at u).coming (w.at u).head.phase (w.at u).head.best o (w.at u).head.halted →
+          HeardBy (w.at u).head.level (w.at u).coming (w.at u).head.phase (w.at u).head.best o b
       more h = record { top = h.top; done = h.done; key = h.key; halts = λ x y. ⊎_elim (λ e. e ∙ h.halts x y) (λ e. e) why }
 
       begun : (e : TreeEnd) (s : Stage) → s ≡ Begun → AtStage e s → e.level ≡ e.coming
@@ -293,7 +396,10 @@ module _ (g : Network) (wired : IsWired g) (u : ℕ) (u_is : InNetwork g u) (j :
       begun e Asking i a = cc
       begun e Called i a = cc
 
-      from_back : IsCore (far_end g w u j) (end g w u j) → Back (NamesOf g w (w.at u).fragment) (tree_end (end g w u j)) (tree_end (far_end g w u j)) k ms → HeardBy (w.at u).head.level (w.at u).coming (w.at u).head.phase (w.at u).head.best (w.at (far g u j)).head.best b
+      from_back :
+          IsCore (far_end g w u j) (end g w u j) →
+          Back (NamesOf g w (w.at u).fragment) (tree_end (end g w u j)) (tree_end (far_end g w u j)) k ms →
+          HeardBy (w.at u).head.level (w.at u).coming (w.at u).head.phase (w.at u).head.best (w.at (far g u j)).head.best b
       from_back c (Old h x y) = absurd (h.down c.2)
       from_back c (Half z s x y n f q) = record {
         top = begun (tree_end (end g w u j)) s.here x s.at_here;
@@ -303,27 +409,47 @@ module _ (g : Network) (wired : IsWired g) (u : ℕ) (u_is : InNetwork g u) (j :
       }
 
   -- a node that has heard all reports makes its own
-  pub closes_lives : (w.at u).head.phase ≡ Find → (w.at u).head.in_branch ≡ Some j → (k : Option Key) → Lives g (acts g u (record (w.at u) { head = record (w.at u).head { phase = Found } }) (put (w.seen u) j (w.seen u j)) ((j, Report k) ∷ []) w)
+  pub closes_lives :
+      (w.at u).head.phase ≡ Find →
+      (w.at u).head.in_branch ≡ Some j →
+      (k : Option Key) → Lives g
+      (acts g u (record (w.at u) { head = record (w.at u).head { phase = Found } }) (put (w.seen u) j (w.seen u j)) ((j, Report k) ∷ []) w)
   closes_lives finds way k =
-      touches_lives g wired u u_is (record (w.at u) { head = record (w.at u).head { phase = Found } }) j at (w.seen u j) (Report k ∷ []) ((j, Report k) ∷ []) (sends_one j (Report k)) w lives
-      (near_asks j at, far_asks j at, (λ i at' ne. near_asks i at'), (λ i at' ne. far_asks i at'))
-      (near_brought j at, (λ c. brought_despite (w.seen (far g u j) (far_port g u j)).tree (w.at (far g u j)).head.level k ∙ far_brought j at c), (λ i at' ne. near_brought i at'), (λ i at' ne. far_brought i at'))
-      ((λ c t f n. absurd (let z = has_report_append (w.seen (far g u j) (far_port g u j)).tree k in cc (z, n))), (λ c t f n. absurd (hears_nothing finds j at c t f n)), (λ i at' ne c t f n. absurd (ne (sym (same_Some j i (sym up ∙ c.2))))), (λ i at' ne c t f n. absurd (hears_nothing finds i at' c t f n)))
+      touches_lives g wired u u_is (record (w.at u) { head = record (w.at u).head { phase = Found } }) j at (w.seen u j) (Report k ∷ [])
+      ((j, Report k) ∷ []) (sends_one j (Report k)) w lives
+      (near_asks j at, far_asks j at, (λ i at' ne. near_asks i at'), (λ i at' ne. far_asks i at')) (
+        near_brought j at,
+        (λ c. brought_despite (seen_beyond g w u j).tree (w.at (far g u j)).head.level k ∙ far_brought j at c),
+        (λ i at' ne. near_brought i at'),
+        (λ i at' ne. far_brought i at'),
+      ) (
+        (λ c t f n. absurd (let z = has_report_append (seen_beyond g w u j).tree k in cc (z, n))),
+        (λ c t f n. absurd (hears_nothing finds j at c t f n)),
+        (λ i at' ne c t f n. absurd (ne (sym (same_Some j i (sym up ∙ c.2))))),
+        (λ i at' ne c t f n. absurd (hears_nothing finds i at' c t f n)),
+      )
     where
       up : (w.at u).up ≡ Some j
       up = let s = (holds.nodes u u_is).searching finds in s.up ∙ sym s.in_branch ∙ way
 
 -- a node without ports wakes and halts
-module _ (g : Network) (wired : IsWired g) (u : ℕ) (u_is : InNetwork g u) (w : Scene) (lives : Lives g w) (lone : ◌≡◌ {A = ℕ} (length (g.ports u)) 0) where
+module _ (g : Network) (wired : IsWired g) (u : ℕ) (u_is : InNetwork g u) (w : Scene) (lives : Lives g w)
+    (lone : ◌≡◌ {A = ℕ} (length (g.ports u)) 0) where
   no_port : (i : ℕ) → At g u i → ⊥
   no_port i at = omega (arith, at.port, lone)
 
   abbrev x : Member
-  x = record (w.at u) { head = record (w.at u).head { phase = Found; halted = true } }
+  x = halts_alone (w.at u)
 
-  pub lone_lives : Lives g (acts g u (record (w.at u) { head = record (w.at u).head { phase = Found; halted = true } }) (w.seen u) [] w)
+  pub lone_lives : Lives g (acts g u (halts_alone (w.at u)) (w.seen u) [] w)
   lone_lives = record {
-    asks = acts_keeps g wired u u_is.some u_is.node x (w.seen u) [] w ProbeAsks lives.asks (λ i at. absurd (no_port i at)) (λ i at. absurd (no_port i at));
-    brought = acts_keeps g wired u u_is.some u_is.node x (w.seen u) [] w ChildBrought lives.brought (λ i at. absurd (no_port i at)) (λ i at. absurd (no_port i at));
-    heard = acts_keeps g wired u u_is.some u_is.node x (w.seen u) [] w CoreHeard lives.heard (λ i at. absurd (no_port i at)) (λ i at. absurd (no_port i at));
+    asks =
+        acts_keeps g wired u u_is.some u_is.node x (w.seen u) [] w ProbeAsks lives.asks (λ i at. absurd (no_port i at))
+        (λ i at. absurd (no_port i at));
+    brought =
+        acts_keeps g wired u u_is.some u_is.node x (w.seen u) [] w ChildBrought lives.brought (λ i at. absurd (no_port i at))
+        (λ i at. absurd (no_port i at));
+    heard =
+        acts_keeps g wired u u_is.some u_is.node x (w.seen u) [] w CoreHeard lives.heard (λ i at. absurd (no_port i at))
+        (λ i at. absurd (no_port i at));
   }

@@ -13,6 +13,7 @@ use Rattle.ghs_node.specs.declared.message.Message.TheVariants.{Connect, Initiat
 use Rattle.ghs_protocol.specs.Network.{Network, port_at, At, far, far_port, InNetwork}
 use Rattle.ghs_protocol.specs.Net.{put}
 use Rattle.ghs_protocol.proofs.clauses.Scene.{Seen, adds, Member, Scene, End, end, tree_end, test_end, forest, acts, far_end}
+use Rattle.ghs_protocol.proofs.clauses.Changes.{left_tree, seen_beyond, took_child}
 use Rattle.ghs_protocol.proofs.clauses.Links.{Joins}
 use Rattle.ghs_protocol.proofs.clauses.Nodes.{NodeFits}
 use Rattle.ghs_protocol.proofs.clauses.Fragments.{IsJoinedIn, Names, Root, Goes_out, Both_ways, OneRoot, Reach, At_root, By_step, RootsReached, JoinedLinksLead, HasMany}
@@ -47,20 +48,25 @@ where_is g u j t p = ⊎_elim (λ e. ⊎_elim (λ h. On_it e h) (λ ne. across (
         (λ ne. Off_it (record { here = off; there = λ z. ne z.0 })) (cases_eq (far g t p) u)
 
 -- lifting one fragment is joining it to another, whose nodes have their level and name
-same_member : (c a l : ℕ) (n : Option Key) (m : Member) → (m.fragment ≡ a → (m.coming ≡ l) × (m.coming_name ≡ n)) → rise (λ x. x == c) a l n m ≡ joining c a l n m
+same_member : (c a l : ℕ) (n : Option Key) (m : Member) →
+    (m.fragment ≡ a → (m.coming ≡ l) × (m.coming_name ≡ n)) →
+    rise (λ x. x == c) a l n m ≡ joining c a l n m
 same_member c a l n m there = go (m.fragment == c) (m.fragment == a) refl
   where
     go : (x y : Bool) → (m.fragment == a) ≡ y → cond x (raised a l n m) m ≡ cond (x || y) (raised a l n m) m
     go true y e = refl
     go false false e = refl
-    go false true e = let z = there (eqb-true m.fragment a e) in λ i. record m { fragment = eqb-true m.fragment a e i; coming = z.0 i; coming_name = z.1 i }
+    go false true e =
+        let z = there (eqb-true m.fragment a e) in λ i. record m { fragment = eqb-true m.fragment a e i; coming = z.0 i; coming_name = z.1 i }
 
 some_key : (o : Option Key) → o ≢ None → (k : Key) × (o ≡ Some k)
 some_key None ne = absurd (ne refl)
 some_key (Some k) ne = (k, refl)
 
-module _ (g : Network) (ground : Ground g) (u : ℕ) (u_is : InNetwork g u) (w : Scene) (holds : Invariant g w) (j : ℕ) (at : At g u j) (ms : List Message) (l : ℕ)
-    (k : Key) (waits : (w.seen u j).tree ≡ Connect l ∷ ms) (lower : l < (w.at u).head.level) (name : (w.at u).head.name ≡ Some k) (awake : (w.at u).head.phase ≢ Sleeping) where
+module _ (g : Network) (ground : Ground g) (u : ℕ) (u_is : InNetwork g u) (w : Scene) (holds : Invariant g w) (j : ℕ) (at : At g u j)
+    (ms : List Message) (l : ℕ)
+    (k : Key) (waits : (w.seen u j).tree ≡ Connect l ∷ ms) (lower : l < (w.at u).head.level) (name : (w.at u).head.name ≡ Some k)
+    (awake : (w.at u).head.phase ≢ Sleeping) where
   is : InNetwork g u
   is = u_is
 
@@ -95,7 +101,9 @@ module _ (g : Network) (ground : Ground g) (u : ℕ) (u_is : InNetwork g u) (w :
 
   -- the way to u's root is another port
   pub way_not : (w.at u).up ≢ Some j
-  way_not e = let z = fits.points awake (omega (arith, at.port)) in came.mark (subst (λ y. (w.at u).mark y ≡ Branch) (same_Some z.port j (sym z.up ∙ e)) z.mark)
+  way_not e =
+      let z = fits.points awake (omega (arith, at.port)) in
+      came.mark (subst (λ y. (w.at u).mark y ≡ Branch) (same_Some z.port j (sym z.up ∙ e)) z.mark)
 
   back_mark : (w.at (far g (far g u j) (far_port g u j))).mark (far_port g (far g u j) (far_port g u j)) ≢ Branch
   back_mark e = came.mark (subst₂ (λ p q. (w.at p).mark q ≡ Branch) (ground.wired.back u j at) (ground.wired.back_port u j at) e)
@@ -113,7 +121,7 @@ module _ (g : Network) (ground : Ground g) (u : ℕ) (u_is : InNetwork g u) (w :
   head' = record (w.at u).head { find_count = find_more (w.at u).head.phase (w.at u).head.find_count }
 
   abbrev pub takes : Member
-  takes = record (w.at u) { head = record (w.at u).head { find_count = find_more (w.at u).head.phase (w.at u).head.find_count }; mark = put (w.at u).mark j Branch }
+  takes = took_child (w.at u) j
 
   abbrev pub rest : Seen
   rest = record (w.seen u j) { tree = ms }
@@ -123,17 +131,40 @@ module _ (g : Network) (ground : Ground g) (u : ℕ) (u_is : InNetwork g u) (w :
 
   abbrev pub grown : Scene
   grown =
-      acts g u (record (w.at u) { head = record (w.at u).head { find_count = find_more (w.at u).head.phase (w.at u).head.find_count }; mark = put (w.at u).mark j Branch })
-      (put (w.seen u) j (record (w.seen u j) { tree = ms })) ((j, Initiate (w.at u).head.level k (w.at u).head.phase) ∷ []) w
+      acts g u (took_child (w.at u) j)
+      (left_tree w u j ms) ((j, Initiate (w.at u).head.level k (w.at u).head.phase) ∷ []) w
 
   more : Branches (w.at u) takes j
-  more = record { fragment = refl; coming = refl; coming_name = refl; mark = put_same (w.at u).mark j Branch; marks = λ p ne. put_other (w.at u).mark j p Branch ne }
+  more = record {
+    fragment = refl;
+    coming = refl;
+    coming_name = refl;
+    mark = put_same (w.at u).mark j Branch;
+    marks = λ p ne. put_other (w.at u).mark j p Branch ne;
+  }
 
   node : NodeFits (length (g.ports u)) takes
   node = record {
-    own_ports = record { probe = fits.own_ports.probe; in_branch = fits.own_ports.in_branch; mark = λ p ne. ⊎_elim (λ (e : p ≡ j). subst (λ y. y < length (g.ports u)) (sym e) at.port) (λ no. fits.own_ports.mark p (λ z. ne (put_other (w.at u).mark j p Branch no ∙ z))) (cases_eq p j) };
+    own_ports = record {
+      probe = fits.own_ports.probe;
+      in_branch = fits.own_ports.in_branch;
+      mark = λ p ne. ⊎_elim (λ (e : p ≡ j). subst (λ y. y < length (g.ports u)) (sym e) at.port)
+          (λ no. fits.own_ports.mark p (λ z. ne (put_other (w.at u).mark j p Branch no ∙ z)))
+          (cases_eq p j);
+    };
     untouched = λ e. absurd (awake e);
-    points = λ e lt. let z = fits.points e lt in record { port = z.port; up = z.up; within = z.within; mark = ⊎_elim (λ (h : z.port ≡ j). ap (put (w.at u).mark j Branch) h ∙ put_same (w.at u).mark j Branch) (λ ne. put_other (w.at u).mark j z.port Branch ne ∙ z.mark) (cases_eq z.port j) };
+    points = λ e lt.
+        let z = fits.points e lt in
+        record {
+          port = z.port;
+          up = z.up;
+          within = z.within;
+          mark =
+              ⊎_elim
+              (λ (h : z.port ≡ j). ap (put (w.at u).mark j Branch) h ∙ put_same (w.at u).mark j Branch)
+              (λ ne. put_other (w.at u).mark j z.port Branch ne ∙ z.mark)
+              (cases_eq z.port j);
+        };
     idle = λ ne. let z = fits.idle ne in (z.0, more_none (w.at u).head.phase (w.at u).head.find_count ne ∙ z.1);
     searching = λ e. let z = fits.searching e in record { level = z.level; port = z.port; in_branch = z.in_branch; up = z.up };
     naming = record { level = fits.naming.level; in_branch = fits.naming.in_branch; name = fits.naming.name };
@@ -142,41 +173,76 @@ module _ (g : Network) (ground : Ground g) (u : ℕ) (u_is : InNetwork g u) (w :
   }
 
   -- the links but this one
-  near_is : (i : ℕ) → i ≢ j → near' g ground.wired u u_is takes (put (w.seen u) j rest) sends w i ≡ record { port = i; key = (port_at g u i).key; mark = (w.at u).mark i; is = takes; seen = w.seen u i }
-  near_is i ne = λ z. record { port = i; key = (port_at g u i).key; mark = put_other (w.at u).mark j i Branch ne z; is = takes; seen = put_other (w.seen u) j i rest ne z }
+  near_is : (i : ℕ) →
+      i ≢ j →
+      near' g ground.wired u u_is takes (put (w.seen u) j rest) sends w i ≡
+      record { port = i; key = (port_at g u i).key; mark = (w.at u).mark i; is = takes; seen = w.seen u i }
+  near_is i ne = λ z. record {
+    port = i;
+    key = (port_at g u i).key;
+    mark = put_other (w.at u).mark j i Branch ne z;
+    is = takes;
+    seen = put_other (w.seen u) j i rest ne z;
+  }
 
   far_is : (i : ℕ) → i ≢ j → far' g ground.wired u u_is takes (put (w.seen u) j rest) sends w i ≡ far_end g w u i
-  far_is i ne = λ z. record { port = far_port g u i; key = (port_at g u i).key; mark = (w.at (far g u i)).mark (far_port g u i); is = w.at (far g u i); seen = adds (w.seen (far g u i) (far_port g u i)) ((sends_one j (Initiate (w.at u).head.level k (w.at u).head.phase)).none i ne z) }
+  far_is i ne = λ z. record (far_end g w u i) {
+    seen = adds (seen_beyond g w u i) ((sends_one j (Initiate (w.at u).head.level k (w.at u).head.phase)).none i ne z);
+  }
 
-  near : (i : ℕ) → At g u i → i ≢ j → LinkFits (NamesOf g w) (near' g ground.wired u u_is takes (put (w.seen u) j rest) sends w i) (far' g ground.wired u u_is takes (put (w.seen u) j rest) sends w i)
-  near i a ne = let h = at_near g ground.wired w (LinkFits (NamesOf g w)) holds.links u i a in subst₂ (LinkFits (NamesOf g w)) (sym (near_is i ne)) (sym (far_is i ne)) (record { tree = h.tree; search = h.search; tests = h.tests })
+  near : (i : ℕ) →
+      At g u i →
+      i ≢ j →
+      LinkFits (NamesOf g w) (near' g ground.wired u u_is takes (put (w.seen u) j rest) sends w i)
+      (far' g ground.wired u u_is takes (put (w.seen u) j rest) sends w i)
+  near i a ne =
+      let h = at_near g ground.wired w (LinkFits (NamesOf g w)) holds.links u i a in
+      subst₂ (LinkFits (NamesOf g w)) (sym (near_is i ne)) (sym (far_is i ne)) (record { tree = h.tree; search = h.search; tests = h.tests })
 
-  away : (i : ℕ) → At g u i → i ≢ j → LinkFits (NamesOf g w) (far' g ground.wired u u_is takes (put (w.seen u) j rest) sends w i) (near' g ground.wired u u_is takes (put (w.seen u) j rest) sends w i)
-  away i a ne = let h = at_far g ground.wired w (LinkFits (NamesOf g w)) holds.links u i a in subst₂ (LinkFits (NamesOf g w)) (sym (far_is i ne)) (sym (near_is i ne)) (record { tree = h.tree; search = h.search; tests = h.tests })
+  away : (i : ℕ) →
+      At g u i →
+      i ≢ j →
+      LinkFits (NamesOf g w) (far' g ground.wired u u_is takes (put (w.seen u) j rest) sends w i)
+      (near' g ground.wired u u_is takes (put (w.seen u) j rest) sends w i)
+  away i a ne =
+      let h = at_far g ground.wired w (LinkFits (NamesOf g w)) holds.links u i a in
+      subst₂ (LinkFits (NamesOf g w)) (sym (far_is i ne)) (sym (near_is i ne)) (record { tree = h.tree; search = h.search; tests = h.tests })
 
   -- find_count
   abbrev here_now : End
   here_now = record { port = j; key = (port_at g u j).key; mark = put (w.at u).mark j Branch j; is = takes; seen = rest }
 
   abbrev there_now : End
-  there_now = record { port = far_port g u j; key = (port_at g u j).key; mark = (w.at (far g u j)).mark (far_port g u j); is = w.at (far g u j); seen = record (w.seen (far g u j) (far_port g u j)) { tree = (w.seen (far g u j) (far_port g u j)).tree ++ Initiate (w.at u).head.level k (w.at u).head.phase ∷ [] } }
+  there_now = record (far_end g w u j) {
+    seen = record (seen_beyond g w u j) { tree = (seen_beyond g w u j).tree ++ Initiate (w.at u).head.level k (w.at u).head.phase ∷ [] };
+  }
 
   no_debt : ◌≡◌ {A = ℕ} (debt (end g w u j) (far_end g w u j)) 0
-  no_debt = debt_none (end g w u j) (far_end g w u j) (ap has_report waits ∙ ap has_report came.rest) (ap has_call came.under.none) (ap is_find found_far)
+  no_debt =
+      debt_none (end g w u j) (far_end g w u j) (ap has_report waits ∙ ap has_report came.rest) (ap has_call came.under.none)
+      (ap is_find found_far)
 
   a_debt : (w.at u).head.phase ≡ Find → ◌≡◌ {A = ℕ} (debt here_now there_now) 1
-  a_debt e = debt_one here_now there_now way_not (by_call (has_report ms) _ _ (subst₂ (λ t s. has_call (t ++ Initiate (w.at u).head.level k s ∷ []) ≡ true) (sym came.under.none) (sym e) refl))
+  a_debt e =
+      debt_one here_now there_now way_not (by_call (has_report ms) _ _
+      (subst₂ (λ t s. has_call (t ++ Initiate (w.at u).head.level k s ∷ []) ≡ true) (sym came.under.none) (sym e) refl))
 
   still_none : (w.at u).head.phase ≢ Find → ◌≡◌ {A = ℕ} (debt here_now there_now) 0
   still_none ne =
       debt_none here_now there_now (ap has_report came.rest)
-      (subst (λ t. has_call (t ++ Initiate (w.at u).head.level k (w.at u).head.phase ∷ []) ≡ false) (sym came.under.none) (call_only (w.at u).head.level k (w.at u).head.phase ne))
+      (subst
+      (λ t. has_call (t ++ Initiate (w.at u).head.level k (w.at u).head.phase ∷ []) ≡ false)
+      (sym came.under.none) (call_only (w.at u).head.level k (w.at u).head.phase ne))
       (ap is_find found_far)
 
   counted : DebtsCounted g grown
   counted =
-      sums_one g ground.wired u u_is takes j at rest (Initiate (w.at u).head.level k (w.at u).head.phase ∷ []) sends (sends_one j (Initiate (w.at u).head.level k (w.at u).head.phase)) w
-      holds.counted (count_more (w.at u).head.phase (w.at u).head.find_count (debt (end g w u j) (far_end g w u j)) (debt here_now there_now) awake no_debt a_debt still_none) (λ i ne. refl)
+      sums_one g ground.wired u u_is takes j at rest (Initiate (w.at u).head.level k (w.at u).head.phase ∷ []) sends
+      (sends_one j (Initiate (w.at u).head.level k (w.at u).head.phase)) w
+      holds.counted
+      (count_more (w.at u).head.phase (w.at u).head.find_count (debt (end g w u j) (far_end g w u j)) (debt here_now there_now) awake no_debt
+      a_debt still_none)
+      (λ i ne. refl)
       (debt_up there_now here_now came.under.up ∙ sym (debt_up (far_end g w u j) (end g w u j) came.under.up)) (λ i ne. refl)
 
   -- members, ways and queues
@@ -220,12 +286,22 @@ module _ (g : Network) (ground : Ground g) (u : ℕ) (u_is : InNetwork g u) (w :
       go (Off_it off) = ⊎_elim (λ x. inl (up_is t ∙ x)) (λ x. inr (up_is _ ∙ x)) (holds.trees.joined_lead t p a (joined_old t p off l'))
 
   -- a Connect elsewhere is one still
-  out_still : (t p : ℕ) → At g t p → ((far g t p ≡ u) × (far_port g t p ≡ j) → ⊥) → is_branch ((w.at t).mark p) ≡ true → is_branch ((w.at (far g t p)).mark (far_port g t p)) ≡ false → Root g (forest grown) t p
+  out_still : (t p : ℕ) →
+      At g t p →
+      ((far g t p ≡ u) × (far_port g t p ≡ j) → ⊥) →
+      is_branch ((w.at t).mark p) ≡ true →
+      is_branch ((w.at (far g t p)).mark (far_port g t p)) ≡ false →
+      Root g (forest grown) t p
   out_still t p a off x y =
-      Goes_out (ap is_branch (mark_off t p (λ z. let c = came.mark in let q = branch_mark _ x in c (subst₂ (λ s r. (w.at s).mark r ≡ Branch) z.0 z.1 q))) ∙ x)
+      Goes_out (ap is_branch
+      (mark_off t p (λ z. let c = came.mark in let q = branch_mark _ x in c (subst₂ (λ s r. (w.at s).mark r ≡ Branch) z.0 z.1 q))) ∙ x)
       (ap is_branch (mark_off _ _ off) ∙ y)
 
-  both_still : (t p : ℕ) → IsJoinedIn g (forest w) t p → (w.at t).up ≡ Some p → (w.at (far g t p)).up ≡ Some (far_port g t p) → Root g (forest grown) t p
+  both_still : (t p : ℕ) →
+      IsJoinedIn g (forest w) t p →
+      (w.at t).up ≡ Some p →
+      (w.at (far g t p)).up ≡ Some (far_port g t p) →
+      Root g (forest grown) t p
   both_still t p l' x y = Both_ways (joined_new t p l') (up_is t ∙ x) (up_is _ ∙ y)
 
   -- the far end's Connect is no root of another fragment
@@ -235,7 +311,8 @@ module _ (g : Network) (ground : Ground g) (u : ℕ) (u_is : InNetwork g u) (w :
   carried_else : {t : ℕ} → Reach g (forest w) t → (w.at t).fragment ≢ (w.at (far g u j)).fragment → Reach g (forest grown) t
   carried_else {t} (At_root p a way (Goes_out x y)) ne = At_root p a (up_is t ∙ way) (out_still t p a (not_ours t p a ne) x y)
   carried_else {t} (At_root p a way (Both_ways l' x y)) ne = At_root p a (up_is t ∙ way) (both_still t p l' x y)
-  carried_else {t} (By_step p a way l' r) ne = By_step p a (up_is t ∙ way) (joined_new t p l') (carried_else r (λ e. ne (holds.trees.joined_within t p a l' ∙ e)))
+  carried_else {t} (By_step p a way l' r) ne =
+      By_step p a (up_is t ∙ way) (joined_new t p l') (carried_else r (λ e. ne (holds.trees.joined_within t p a l' ∙ e)))
 
   reach_u : Reach g (forest grown) u
   reach_u = let z = fits.points awake (omega (arith, at.port)) in carried_else (holds.trees.reached u z.port is z.up) came.under.apart
@@ -245,7 +322,12 @@ module _ (g : Network) (ground : Ground g) (u : ℕ) (u_is : InNetwork g u) (w :
     where
       go : Where g u j t p → Reach g (forest grown) t
       go (On_it e h) = subst (Reach g (forest grown)) (sym e) reach_u
-      go (Across e h) = let z = across t p a e h in By_step p a (up_is t ∙ way) (record { here = subst₂ (λ s r. (forest grown).branch s r ≡ true) z.0 z.1 bridge.there; there = subst₂ (λ s r. (forest grown).branch s r ≡ true) (sym e) (sym h) bridge.here }) (subst (Reach g (forest grown)) (sym e) reach_u)
+      go (Across e h) =
+          let z = across t p a e h in
+          By_step p a (up_is t ∙ way) (record {
+            here = subst₂ (λ s r. (forest grown).branch s r ≡ true) z.0 z.1 bridge.there;
+            there = subst₂ (λ s r. (forest grown).branch s r ≡ true) (sym e) (sym h) bridge.here;
+          }) (subst (Reach g (forest grown)) (sym e) reach_u)
       go (Off_it off) = At_root p a (up_is t ∙ way) (out_still t p a off.there x y)
   carried {t} (At_root p a way (Both_ways l' x y)) = At_root p a (up_is t ∙ way) (both_still t p l' x y)
   carried {t} (By_step p a way l' r) = By_step p a (up_is t ∙ way) (joined_new t p l') (carried r)
@@ -255,10 +337,17 @@ module _ (g : Network) (ground : Ground g) (u : ℕ) (u_is : InNetwork g u) (w :
 
   -- what waits off this link
   seen_off : (t p : ℕ) → At g t p → Off g u j t p → grown.seen t p ≡ w.seen t p
-  seen_off t p a off = ⊎_elim mine (λ ne. ⊎_elim theirs (λ ne'. other_seen g ground.wired u u_is.some u_is.node takes (put (w.seen u) j rest) sends w t p a ne ne') (cases_eq (far g t p) u)) (cases_eq t u)
+  seen_off t p a off =
+      ⊎_elim mine (λ ne. ⊎_elim theirs
+      (λ ne'. other_seen g ground.wired u u_is.some u_is.node takes (put (w.seen u) j rest) sends w t p a ne ne')
+      (cases_eq (far g t p) u))
+      (cases_eq t u)
     where
       mine : t ≡ u → grown.seen t p ≡ w.seen t p
-      mine e = subst (λ y. grown.seen y p ≡ w.seen y p) (sym e) (here_seen g ground.wired u u_is.some u_is.node takes (put (w.seen u) j rest) sends w p ∙ put_other (w.seen u) j p rest (λ h. off.here (e, h)))
+      mine e =
+          subst (λ y. grown.seen y p ≡ w.seen y p) (sym e)
+          (here_seen g ground.wired u u_is.some u_is.node takes (put (w.seen u) j rest) sends w p ∙
+          put_other (w.seen u) j p rest (λ h. off.here (e, h)))
 
       theirs : far g t p ≡ u → grown.seen t p ≡ w.seen t p
       theirs e =
@@ -266,13 +355,17 @@ module _ (g : Network) (ground : Ground g) (u : ℕ) (u_is : InNetwork g u) (w :
           let a' : At g u i = subst (λ y. At g y i) e (ground.wired.there t p a) in
           let z : far g u i ≡ t = ap (λ y. far g y i) (sym e) ∙ ground.wired.back t p a in
           let z' : far_port g u i ≡ p = ap (λ y. far_port g y i) (sym e) ∙ ground.wired.back_port t p a in
-          subst₂ (λ x y. grown.seen x y ≡ w.seen x y) z z' (far_seen g ground.wired u u_is.some u_is.node takes (put (w.seen u) j rest) sends w i a' ∙ ap (adds (w.seen (far g u i) (far_port g u i))) ((sends_one j (Initiate (w.at u).head.level k (w.at u).head.phase)).none i (λ h. off.there (e, h))))
+          subst₂ (λ x y. grown.seen x y ≡ w.seen x y) z z'
+          (far_seen g ground.wired u u_is.some u_is.node takes (put (w.seen u) j rest) sends w i a' ∙
+          ap (adds (seen_beyond g w u i)) ((sends_one j (Initiate (w.at u).head.level k (w.at u).head.phase)).none i (λ h. off.there (e, h))))
 
   seen_here : grown.seen u j ≡ rest
   seen_here = here_seen g ground.wired u u_is.some u_is.node takes (put (w.seen u) j rest) sends w j ∙ put_same (w.seen u) j rest
 
-  seen_there : grown.seen (far g u j) (far_port g u j) ≡ there_now.seen
-  seen_there = far_seen g ground.wired u u_is.some u_is.node takes (put (w.seen u) j rest) sends w j at ∙ ap (adds (w.seen (far g u j) (far_port g u j))) ((sends_one j (Initiate (w.at u).head.level k (w.at u).head.phase)).only)
+  seen_there : seen_beyond g grown u j ≡ there_now.seen
+  seen_there =
+      far_seen g ground.wired u u_is.some u_is.node takes (put (w.seen u) j rest) sends w j at ∙
+      ap (adds (seen_beyond g w u j)) ((sends_one j (Initiate (w.at u).head.level k (w.at u).head.phase)).only)
 
   -- a root off this link is an old root of another fragment
   pub record Lies (t p : ℕ) : Type 0 where
@@ -281,7 +374,15 @@ module _ (g : Network) (ground : Ground g) (u : ℕ) (u_is : InNetwork g u) (w :
     pub other : (w.at t).fragment ≢ (w.at (far g u j)).fragment
 
   lies_off : (t p : ℕ) → At g t p → Off g u j t p → Root g (forest grown) t p → Lies t p
-  lies_off t p a off r = record { off = off; root = old r; other = λ same. ⊎_elim (λ z. off.there (ap₂ (far g) (sym z.0) (sym z.1) ∙ ground.wired.back u j at, ap₂ (far_port g) (sym z.0) (sym z.1) ∙ ground.wired.back_port u j at)) (λ z. off.here (sym z.0 ∙ ground.wired.back u j at, sym z.1 ∙ ground.wired.back_port u j at)) (holds.trees.one_root (far g u j) (far_port g u j) t p at' a root_far (old r) (sym same)) }
+  lies_off t p a off r = record {
+    off = off;
+    root = old r;
+    other = λ same. ⊎_elim (λ z.
+        off.there
+        (ap₂ (far g) (sym z.0) (sym z.1) ∙ ground.wired.back u j at, ap₂ (far_port g) (sym z.0) (sym z.1) ∙ ground.wired.back_port u j at))
+        (λ z. off.here (sym z.0 ∙ ground.wired.back u j at, sym z.1 ∙ ground.wired.back_port u j at))
+        (holds.trees.one_root (far g u j) (far_port g u j) t p at' a root_far (old r) (sym same));
+  }
     where
       old : Root g (forest grown) t p → Root g (forest w) t p
       old (Goes_out x y) = Goes_out (sym (ap is_branch (mark_off t p off.here)) ∙ x) (sym (ap is_branch (mark_off _ _ off.there)) ∙ y)
@@ -343,20 +444,30 @@ module _ (g : Network) (ground : Ground g) (u : ℕ) (u_is : InNetwork g u) (w :
     which = λ x e. inr (eqb-true x _ e);
     far_lifts = far_in (far g u j) refl;
     kept = λ e. (refl, refl);
-    low = λ t it e. let a = coming_is t in let b = (holds.trees.by_fragment t (far g u j) (in_far t e)).0 in let c = coming_is u in let d = coming_low in omega (arith, a, b, c, d);
+    low = λ t it e.
+        let a = coming_is t in
+        let b = (holds.trees.by_fragment t (far g u j) (in_far t e)).0 in let c = coming_is u in let d = coming_low in omega (arith, a, b, c, d);
     found = λ t it e. phase_is t ∙ quiet_far.found t it (in_far t e);
     uncalled = λ t p a off e. ap (λ (q : Seen). has_call q.tree) (seen_off t p a off) ∙ quiet_far.uncalled t p a (in_far t e);
     unrooted = λ t p a off e r. (lies_off t p a off r).other (in_far t e);
     name = named.0;
     is_name = name_is u ∙ named.1;
-    name_in = subst (λ x. Names g (forest grown) x named.0) (sym (fragment_is u)) (names_grow g ground.wired u u_is j at w holds takes (put (w.seen u) j rest) sends more _ _ (name_in named.0 named.1));
-    other = λ t p a off e l' same. came.under.apart (one_fragment g (forest w) (w.at u).fragment (w.at t).fragment (port_at g t p).key ground.keyed holds.trees.joined_within (name_in _ (sym (name_is u) ∙ same)) (record { node = t; port = p; at = a; joined = joined_old t p off l'; fragment = refl; key = refl }) ∙ in_far t e);
+    name_in =
+        subst (λ x. Names g (forest grown) x named.0) (sym (fragment_is u))
+        (names_grow g ground.wired u u_is j at w holds takes (put (w.seen u) j rest) sends more _ _ (name_in named.0 named.1));
+    other = λ t p a off e l' same.
+        came.under.apart
+        (one_fragment g (forest w) (w.at u).fragment (w.at t).fragment (port_at g t p).key ground.keyed holds.trees.joined_within
+        (name_in _ (sym (name_is u) ∙ same))
+        (record { node = t; port = p; at = a; joined = joined_old t p off l'; fragment = refl; key = refl }) ∙ in_far t e);
   }
 
   abbrev pub joint : Scene
   joint = risen lifts (grown.at u).fragment (grown.at u).coming (grown.at u).coming_name grown
 
-  lifted : (t : ℕ) → (w.at t).fragment ≡ (w.at (far g u j)).fragment → joint.at t ≡ raised (grown.at u).fragment (grown.at u).coming (grown.at u).coming_name (grown.at t)
+  lifted : (t : ℕ) →
+      (w.at t).fragment ≡ (w.at (far g u j)).fragment →
+      joint.at t ≡ raised (grown.at u).fragment (grown.at u).coming (grown.at u).coming_name (grown.at t)
   lifted t e = rise_in lifts (grown.at u).fragment (grown.at u).coming (grown.at u).coming_name (grown.at t) (far_in t e)
 
   unlifted : (t : ℕ) → (w.at t).fragment ≢ (w.at (far g u j)).fragment → joint.at t ≡ grown.at t
@@ -366,7 +477,9 @@ module _ (g : Network) (ground : Ground g) (u : ℕ) (u_is : InNetwork g u) (w :
   joint_mark t p = rise_keeps (λ (m : Member). m.mark p) lifts (grown.at u).fragment (grown.at u).coming (grown.at u).coming_name (grown.at t) refl
 
   joint_phase : (t : ℕ) → (joint.at t).head.phase ≡ (w.at t).head.phase
-  joint_phase t = rise_keeps (λ (m : Member). m.head.phase) lifts (grown.at u).fragment (grown.at u).coming (grown.at u).coming_name (grown.at t) refl ∙ phase_is t
+  joint_phase t =
+      rise_keeps (λ (m : Member). m.head.phase) lifts (grown.at u).fragment (grown.at u).coming (grown.at u).coming_name (grown.at t) refl ∙
+      phase_is t
 
   joint_up : (t : ℕ) → (joint.at t).up ≡ (w.at t).up
   joint_up t = rise_keeps (λ (m : Member). m.up) lifts (grown.at u).fragment (grown.at u).coming (grown.at u).coming_name (grown.at t) refl ∙ up_is t
@@ -388,12 +501,17 @@ module _ (g : Network) (ground : Ground g) (u : ℕ) (u_is : InNetwork g u) (w :
   lies_joint t p a r = lies t p a (root_from g ground.wired grown u j lifts (grown.at u).coming (grown.at u).coming_name joinable t p r)
 
   one_root : OneRoot g (forest joint)
-  one_root t p s q a b r r' same = let x = lies_joint t p a r in let y = lies_joint s q b r' in holds.trees.one_root t p s q a b x.root y.root (sym (fragment_else t x.other) ∙ same ∙ fragment_else s y.other)
+  one_root t p s q a b r r' same =
+      let x = lies_joint t p a r in
+      let y = lies_joint s q b r' in
+      holds.trees.one_root t p s q a b x.root y.root (sym (fragment_else t x.other) ∙ same ∙ fragment_else s y.other)
 
   -- fragments at rest stay so
   who : (s t : ℕ) → (w.at t).fragment ≢ (w.at (far g u j)).fragment → (joint.at s).fragment ≡ (joint.at t).fragment →
       ((w.at s).fragment ≡ (w.at t).fragment) ⊎ (((w.at s).fragment ≡ (w.at (far g u j)).fragment) × ((w.at u).fragment ≡ (w.at t).fragment))
-  who s t ne e = ⊎_elim (λ h. inr (h, sym (fragment_far s h) ∙ e ∙ fragment_else t ne)) (λ h. inl (sym (fragment_else s h) ∙ e ∙ fragment_else t ne)) (cases_eq (w.at s).fragment (w.at (far g u j)).fragment)
+  who s t ne e =
+      ⊎_elim (λ h. inr (h, sym (fragment_far s h) ∙ e ∙ fragment_else t ne)) (λ h. inl (sym (fragment_else s h) ∙ e ∙ fragment_else t ne))
+      (cases_eq (w.at s).fragment (w.at (far g u j)).fragment)
 
   quiet_joint : (t : ℕ) → (w.at t).fragment ≢ (w.at (far g u j)).fragment → Quiet g w (w.at t).fragment → Quiet g joint (joint.at t).fragment
   quiet_joint t ne q = record {
@@ -402,23 +520,44 @@ module _ (g : Network) (ground : Ground g) (u : ℕ) (u_is : InNetwork g u) (w :
   }
     where
       go : (s p : ℕ) → At g s p → (joint.at s).fragment ≡ (joint.at t).fragment → Where g u j s p → has_call (grown.seen s p).tree ≡ false
-      go s p a e (On_it x y) = subst₂ (λ c d. has_call (grown.seen c d).tree ≡ false) (sym x) (sym y) (ap (λ (z : Seen). has_call z.tree) seen_here ∙ ap has_call came.rest)
+      go s p a e (On_it x y) =
+          subst₂ (λ c d. has_call (grown.seen c d).tree ≡ false) (sym x) (sym y)
+          (ap (λ (z : Seen). has_call z.tree) seen_here ∙ ap has_call came.rest)
       go s p a e (Across x y) =
           let z = across s p a x y in
-          let mine : (w.at u).fragment ≡ (w.at t).fragment = ⊎_elim (λ h. absurd (ne (sym h ∙ ap (λ c. (w.at c).fragment) (sym z.0)))) (λ h. h.1) (who s t ne e) in
+          let mine : (w.at u).fragment ≡ (w.at t).fragment =
+          ⊎_elim (λ h. absurd (ne (sym h ∙ ap (λ c. (w.at c).fragment) (sym z.0)))) (λ h. h.1) (who s t ne e) in
           let calm : (w.at u).head.phase ≡ Found = q.found u is mine in
-          subst₂ (λ c d. has_call (grown.seen c d).tree ≡ false) z.0 z.1 (ap (λ (y : Seen). has_call y.tree) seen_there ∙ subst (λ y. has_call (y ++ Initiate (w.at u).head.level k (w.at u).head.phase ∷ []) ≡ false) (sym came.under.none) (call_only (w.at u).head.level k (w.at u).head.phase (λ y. cc (y, calm))))
-      go s p a e (Off_it off) = ap (λ (y : Seen). has_call y.tree) (seen_off s p a off) ∙ ⊎_elim (λ h. q.uncalled s p a h) (λ h. quiet_far.uncalled s p a h.0) (who s t ne e)
+          subst₂ (λ c d. has_call (grown.seen c d).tree ≡ false) z.0 z.1
+          (ap (λ (y : Seen). has_call y.tree) seen_there ∙
+          subst
+          (λ y. has_call (y ++ Initiate (w.at u).head.level k (w.at u).head.phase ∷ []) ≡ false)
+          (sym came.under.none)
+          (call_only (w.at u).head.level k (w.at u).head.phase (λ y. cc (y, calm))))
+      go s p a e (Off_it off) =
+          ap (λ (y : Seen). has_call y.tree) (seen_off s p a off) ∙
+          ⊎_elim (λ h. q.uncalled s p a h) (λ h. quiet_far.uncalled s p a h.0) (who s t ne e)
 
   rests : Resting g joint
   rests = record {
     out = λ t p a o.
         let x = lies_joint t p a (Goes_out (ap is_branch o.here) (not_branch _ o.there)) in
-        quiet_joint t x.other (holds.resting.out t p a (record { here = sym (joint_mark t p ∙ mark_off t p x.off.here) ∙ o.here; there = λ z. o.there (joint_mark _ _ ∙ mark_off _ _ x.off.there ∙ z) }));
+        quiet_joint t x.other (holds.resting.out t p a (record {
+          here = sym (joint_mark t p ∙ mark_off t p x.off.here) ∙ o.here;
+          there = λ z. o.there (joint_mark _ _ ∙ mark_off _ _ x.off.there ∙ z);
+        }));
     moved = λ t p a m.
-        let x = lies_joint t p a (Both_ways (record { here = ap is_branch m.both.joins.here; there = ap is_branch m.both.joins.there }) m.both.up m.both.up_beyond) in
+        let x = lies_joint t p a
+        (Both_ways (record { here = ap is_branch m.both.joins.here; there = ap is_branch m.both.joins.there }) m.both.up m.both.up_beyond) in
         quiet_joint t x.other (holds.resting.moved t p a (record {
-          both = record { joins = record { here = sym (joint_mark t p ∙ mark_off t p x.off.here) ∙ m.both.joins.here; there = sym (joint_mark _ _ ∙ mark_off _ _ x.off.there) ∙ m.both.joins.there }; up = sym (joint_up t) ∙ m.both.up; up_beyond = sym (joint_up _) ∙ m.both.up_beyond };
+          both = record {
+            joins = record {
+              here = sym (joint_mark t p ∙ mark_off t p x.off.here) ∙ m.both.joins.here;
+              there = sym (joint_mark _ _ ∙ mark_off _ _ x.off.there) ∙ m.both.joins.there;
+            };
+            up = sym (joint_up t) ∙ m.both.up;
+            up_beyond = sym (joint_up _) ∙ m.both.up_beyond;
+          };
           unnamed = λ z. m.unnamed (ap (λ (y : Member). y.coming_name) (unlifted t x.other) ∙ name_is t ∙ z);
         }));
   }
@@ -428,27 +567,54 @@ module _ (g : Network) (ground : Ground g) (u : ℕ) (u_is : InNetwork g u) (w :
   member_here = unlifted u came.under.apart ∙ put_same w.at u takes
 
   member_there : joint.at (far g u j) ≡ raised (w.at u).fragment (w.at u).coming (w.at u).coming_name (w.at (far g u j))
-  member_there = lifted (far g u j) refl ∙ (λ i. raised (fragment_is u i) (coming_is u i) (name_is u i) (put_other w.at u (far g u j) takes (ground.wired.apart u j at) i))
+  member_there =
+      lifted (far g u j) refl ∙
+      (λ i. raised (fragment_is u i) (coming_is u i) (name_is u i) (put_other w.at u (far g u j) takes (ground.wired.apart u j at) i))
 
   abbrev parent : End
   parent = record { port = j; key = (port_at g u j).key; mark = Branch; is = takes; seen = rest }
 
   abbrev child : End
-  child = record { port = far_port g u j; key = (port_at g u j).key; mark = (w.at (far g u j)).mark (far_port g u j); is = raised (w.at u).fragment (w.at u).coming (w.at u).coming_name (w.at (far g u j)); seen = there_now.seen }
+  child = record {
+    port = far_port g u j;
+    key = (port_at g u j).key;
+    mark = (w.at (far g u j)).mark (far_port g u j);
+    is = raised (w.at u).fragment (w.at u).coming (w.at u).coming_name (w.at (far g u j));
+    seen = there_now.seen;
+  }
 
   end_here : end g joint u j ≡ parent
-  end_here = λ i. record { port = j; key = (port_at g u j).key; mark = (ap (λ (m : Member). m.mark j) member_here ∙ put_same (w.at u).mark j Branch) i; is = member_here i; seen = seen_here i }
+  end_here = λ i. record {
+    port = j;
+    key = (port_at g u j).key;
+    mark = (ap (λ (m : Member). m.mark j) member_here ∙ put_same (w.at u).mark j Branch) i;
+    is = member_here i;
+    seen = seen_here i;
+  }
 
   end_there : end g joint (far g u j) (far_port g u j) ≡ child
-  end_there = λ i. record { port = far_port g u j; key = ground.wired.same_key u j at i; mark = (member_there i).mark (far_port g u j); is = member_there i; seen = seen_there i }
+  end_there = λ i. record {
+    port = far_port g u j;
+    key = ground.wired.same_key u j at i;
+    mark = (member_there i).mark (far_port g u j);
+    is = member_there i;
+    seen = seen_there i;
+  }
 
   names : NamesOf g joint (w.at u).fragment k
   names =
       subst (λ x. NamesOf g joint x k) (fragment_is u)
-      (names_here g ground.wired grown u j lifts (grown.at u).coming (grown.at u).coming_name joinable k (subst (λ x. Names g (forest grown) x k) (sym (fragment_is u)) (names_grow g ground.wired u u_is j at w holds takes (put (w.seen u) j rest) sends more _ k (holds.named u k is name))))
+      (names_here g ground.wired grown u j lifts (grown.at u).coming (grown.at u).coming_name joinable k
+      (subst (λ x. Names g (forest grown) x k) (sym (fragment_is u))
+      (names_grow g ground.wired u u_is j at w holds takes (put (w.seen u) j rest) sends more _ k (holds.named u k is name))))
 
   unnamed : (w.at u).coming_name ≢ Some (port_at g u j).key
-  unnamed e = let n = name_in _ e in ⊎_elim (λ z. came.mark (branch_mark _ (subst₂ (λ s q. is_branch ((w.at s).mark q) ≡ true) z.0 z.1 n.joined.here))) (λ z. came.mark (branch_mark _ (subst₂ (λ s q. is_branch ((w.at s).mark q) ≡ true) z.0 z.1 n.joined.there))) (ground.keyed n.node n.port u j n.at at n.key)
+  unnamed e =
+      let n = name_in _ e in
+      ⊎_elim
+      (λ z. came.mark (branch_mark _ (subst₂ (λ s q. is_branch ((w.at s).mark q) ≡ true) z.0 z.1 n.joined.here)))
+      (λ z. came.mark (branch_mark _ (subst₂ (λ s q. is_branch ((w.at s).mark q) ≡ true) z.0 z.1 n.joined.there)))
+      (ground.keyed n.node n.port u j n.at at n.key)
 
   idle : (w.at (far g u j)).head.probe ≡ None
   idle = ((holds.nodes (far g u j) is').idle (λ e. cc (e, found_far))).0
@@ -462,10 +628,12 @@ module _ (g : Network) (ground : Ground g) (u : ℕ) (u_is : InNetwork g u) (w :
   down : LinkFits (NamesOf g joint) parent child
   down = record {
     tree =
-        tree_takes (NamesOf g joint) (tree_end (end g w u j)) (tree_end (far_end g w u j)) k ms came.rest came.mark came.mark' came.under below fits.lag.level way_not awake at_search names
+        tree_takes (NamesOf g joint) (tree_end (end g w u j)) (tree_end (far_end g w u j)) k ms came.rest came.mark came.mark' came.under below
+        fits.lag.level way_not awake at_search names
         named_top unnamed refl;
     search =
-        search_takes (NamesOf g joint) (tree_end (end g w u j)) (tree_end (far_end g w u j)) k ms came.rest came.mark came.mark' came.under below fits.lag.level way_not awake at_search names
+        search_takes (NamesOf g joint) (tree_end (end g w u j)) (tree_end (far_end g w u j)) k ms came.rest came.mark came.mark' came.under
+        below fits.lag.level way_not awake at_search names
         named_top unnamed refl link.search;
     tests = tests_take (test_end (end g w u j)) (test_end (far_end g w u j)) (λ z. came.under.apart (sym z)) below idle link.tests;
   }
@@ -473,25 +641,39 @@ module _ (g : Network) (ground : Ground g) (u : ℕ) (u_is : InNetwork g u) (w :
   up : LinkFits (NamesOf g joint) child parent
   up = record {
     tree =
-        tree_takes' (NamesOf g joint) (tree_end (end g w u j)) (tree_end (far_end g w u j)) k ms came.rest came.mark came.mark' came.under below fits.lag.level way_not awake at_search names
+        tree_takes' (NamesOf g joint) (tree_end (end g w u j)) (tree_end (far_end g w u j)) k ms came.rest came.mark came.mark' came.under below
+        fits.lag.level way_not awake at_search names
         named_top unnamed refl;
     search =
-        search_takes' (NamesOf g joint) (tree_end (end g w u j)) (tree_end (far_end g w u j)) k ms came.rest came.mark came.mark' came.under below fits.lag.level way_not awake at_search names
+        search_takes' (NamesOf g joint) (tree_end (end g w u j)) (tree_end (far_end g w u j)) k ms came.rest came.mark came.mark' came.under
+        below fits.lag.level way_not awake at_search names
         named_top unnamed refl;
     tests = tests_take' (test_end (end g w u j)) (test_end (far_end g w u j)) (λ z. came.under.apart (sym z)) below idle link'.tests;
   }
 
   -- u's own fragment has its level and name already
   is_absorbed : joint ≡ absorb g u j grown
-  is_absorbed = λ i. record { at = fun_ext (λ t. same_member (grown.at (far g u j)).fragment (grown.at u).fragment (grown.at u).coming (grown.at u).coming_name (grown.at t) (joinable.by_fragment t u)) i; seen = grown.seen }
+  is_absorbed = λ i. record {
+    at =
+        fun_ext (λ t.
+        same_member (grown.at (far g u j)).fragment (grown.at u).fragment (grown.at u).coming (grown.at u).coming_name (grown.at t)
+        (joinable.by_fragment t u))
+        i;
+    seen = grown.seen;
+  }
 
   pub absorbs : Invariant g (absorb g u j grown)
   absorbs =
       subst (Invariant g) is_absorbed
-      (unites g ground.wired grown u j lifts (grown.at u).coming (grown.at u).coming_name joinable many one_root rests (subst₂ (LinkFits (NamesOf g joint)) (sym end_here) (sym end_there) down) (subst₂ (LinkFits (NamesOf g joint)) (sym end_there) (sym end_here) up))
+      (unites g ground.wired grown u j lifts (grown.at u).coming (grown.at u).coming_name joinable many one_root rests
+      (subst₂ (LinkFits (NamesOf g joint)) (sym end_here) (sym end_there) down)
+      (subst₂ (LinkFits (NamesOf g joint)) (sym end_there) (sym end_here) up))
 
 -- a step: a fragment of a lower level, whose Connect has come in, is absorbed
-pub absorbs_in : (g : Network) (ground : Ground g) (u : ℕ) (u_is : InNetwork g u) (w : Scene) (holds : Invariant g w) (j : ℕ) (at : At g u j) (ms : List Message) (l : ℕ) (k : Key) →
+pub absorbs_in :
+    (g : Network) (ground : Ground g) (u : ℕ) (u_is : InNetwork g u) (w : Scene) (holds : Invariant g w) (j : ℕ) (at : At g u j)
+    (ms : List Message) (l : ℕ) (k : Key) →
     (w.seen u j).tree ≡ Connect l ∷ ms → l < (w.at u).head.level → (w.at u).head.name ≡ Some k → (w.at u).head.phase ≢ Sleeping →
-    Invariant g (absorb g u j (acts g u (record (w.at u) { head = record (w.at u).head { find_count = find_more (w.at u).head.phase (w.at u).head.find_count }; mark = put (w.at u).mark j Branch }) (put (w.seen u) j (record (w.seen u j) { tree = ms })) ((j, Initiate (w.at u).head.level k (w.at u).head.phase) ∷ []) w))
+    Invariant g
+    (absorb g u j (acts g u (took_child (w.at u) j) (left_tree w u j ms) ((j, Initiate (w.at u).head.level k (w.at u).head.phase) ∷ []) w))
 absorbs_in g ground u u_is w holds j at ms l k waits lower name awake = absorbs g ground u u_is w holds j at ms l k waits lower name awake

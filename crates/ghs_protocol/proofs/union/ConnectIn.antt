@@ -32,10 +32,17 @@ no_half v n Begun r l ms q = cc
 same_connect : (k l : ℕ) (xs ms : List Message) → Connect k ∷ xs ≡ Connect l ∷ ms → k ≡ l
 same_connect k l xs ms e = cc
 
-module _ {N : ℕ → Key → Type 0} (e f : TreeEnd) (he : TreeFits N e f) (hf : TreeFits N f e) (ups : Joins e f → Ups e ⊎ Ups f) (same : Joins e f → f.coming ≡ e.coming) (l : ℕ)
+module _ {N : ℕ → Key → Type 0} (e f : TreeEnd) (he : TreeFits N e f) (hf : TreeFits N f e) (ups : Joins e f → Ups e ⊎ Ups f)
+    (same : Joins e f → f.coming ≡ e.coming) (l : ℕ)
     (ms : List Message) (waits : e.tree ≡ Connect l ∷ ms) (lower : l < e.level) where
   -- in a core both ends would be of the Connect's level
-  not_core : (a b : Stage) → AtStage e a → AtStage f b → Served a b → f.coming ≡ e.coming → asked f.level b ++ called e.coming e.key a ≡ Connect l ∷ ms → ⊥
+  not_core : (a b : Stage) →
+      AtStage e a →
+      AtStage f b →
+      Served a b →
+      f.coming ≡ e.coming →
+      asked f.level b ++ called e.coming e.key a ≡ Connect l ∷ ms →
+      ⊥
   not_core Asking Asking x y s c q = let z = same_connect f.level l _ ms q in omega (arith, x, y, c, z, lower)
   not_core Called Asking x y s c q = let z = same_connect f.level l _ ms q in omega (arith, x, y, c, z, lower)
   not_core Begun Asking x y s c q = s
@@ -74,7 +81,9 @@ module _ {N : ℕ → Key → Type 0} (e f : TreeEnd) (he : TreeFits N e f) (hf 
   pub came_in : Came e f l ms
   came_in =
       ⊎_elim
-      (λ a. ⊎_elim (λ b. absurd (not_joined (record { here = a; there = b }))) (λ b. absurd (let z : Connect l ∷ ms ≡ [] = sym waits ∙ (he.out_connect (record { here = a; there = b })).none in cc)) (mark_is f.mark))
+      (λ a. ⊎_elim (λ b. absurd (not_joined (record { here = a; there = b })))
+      (λ b. absurd (let z : Connect l ∷ ms ≡ [] = sym waits ∙ (he.out_connect (record { here = a; there = b })).none in cc))
+      (mark_is f.mark))
       (λ a. ⊎_elim (λ b. came a b) (λ b. absurd (let z : Connect l ∷ ms ≡ [] = sym waits ∙ he.silent a b in cc)) (mark_is f.mark)) (mark_is e.mark)
     where
       came : e.mark ≢ Branch → f.mark ≡ Branch → Came e f l ms
@@ -90,8 +99,10 @@ takes_in e t = record e { mark = Branch; tree = t }
 abbrev pub taken_in : TreeEnd → TreeEnd → Message → TreeEnd
 taken_in f e m = record f { fragment = e.fragment; coming = e.coming; coming_name = e.coming_name; tree = f.tree ++ m ∷ [] }
 
-module _ (M : ℕ → Key → Type 0) (e f : TreeEnd) (k : Key) (t : List Message) (rest : t ≡ []) (mark : e.mark ≢ Branch) (mark' : f.mark ≡ Branch) (under : ConnectUnderWay f e)
-    (lower : f.level < e.level) (lag : e.level ≤ e.coming) (away : e.up ≢ Some e.port) (awake : e.phase ≢ Sleeping) (search : e.phase ≡ Find → e.level ≡ e.coming) (names : M e.fragment k)
+module _ (M : ℕ → Key → Type 0) (e f : TreeEnd) (k : Key) (t : List Message) (rest : t ≡ []) (mark : e.mark ≢ Branch)
+    (mark' : f.mark ≡ Branch) (under : ConnectUnderWay f e)
+    (lower : f.level < e.level) (lag : e.level ≤ e.coming) (away : e.up ≢ Some e.port) (awake : e.phase ≢ Sleeping)
+    (search : e.phase ≡ Find → e.level ≡ e.coming) (names : M e.fragment k)
     (name : e.level ≡ e.coming → e.coming_name ≡ Some k) (unnamed : e.coming_name ≢ Some e.key) (same_key : f.key ≡ e.key) where
   pub tree_takes : TreeFits M (takes_in e t) (taken_in f e (Initiate e.level k e.phase))
   tree_takes = record {
@@ -105,7 +116,10 @@ module _ (M : ℕ → Key → Type 0) (e f : TreeEnd) (k : Key) (t : List Messag
   }
 
   falls : Chain (M e.fragment) e.coming e.coming_name e.level f.level (f.tree ++ Initiate e.level k e.phase ∷ [])
-  falls = subst (λ y. Chain (M e.fragment) e.coming e.coming_name e.level f.level (y ++ Initiate e.level k e.phase ∷ [])) (sym under.none) (lower, names, name, awake, search, omega arith)
+  falls =
+      subst
+      (λ y. Chain (M e.fragment) e.coming e.coming_name e.level f.level (y ++ Initiate e.level k e.phase ∷ []))
+      (sym under.none) (lower, names, name, awake, search, omega arith)
 
   pub tree_takes' : TreeFits M (taken_in f e (Initiate e.level k e.phase)) (takes_in e t)
   tree_takes' = record {
@@ -135,18 +149,34 @@ module _ (M : ℕ → Key → Type 0) (e f : TreeEnd) (k : Key) (t : List Messag
 module _ (e f : TestEnd) (apart : f.fragment ≢ e.fragment) (lower : f.level < e.level) (idle : f.probe ≡ None) where
   pub tests_take : TestsFit e f → TestsFit (record e { mark = Branch }) (record f { fragment = e.fragment })
   tests_take h = record {
-    probing = λ p. let z = h.probing p in record { one = z.one; from = z.from; accepted = λ c. absurd (let y = (z.accepted c).1 in omega (arith, y, lower)); rejected = λ c. absurd (apart (z.rejected c).0) };
-    not_probing = λ p. let z = h.not_probing p in record { accepts = z.accepts; rejects = z.rejects; one = z.one; crossed = λ c. absurd (let y = (z.crossed c).probe in cc (y, idle)) };
+    probing = λ p.
+        let z = h.probing p in
+        record {
+          one = z.one;
+          from = z.from;
+          accepted = λ c. absurd (let y = (z.accepted c).1 in omega (arith, y, lower));
+          rejected = λ c. absurd (apart (z.rejected c).0);
+        };
+    not_probing = λ p.
+        let z = h.not_probing p in
+        record { accepts = z.accepts; rejects = z.rejects; one = z.one; crossed = λ c. absurd (let y = (z.crossed c).probe in cc (y, idle)) };
   }
 
   pub tests_take' : TestsFit f e → TestsFit (record f { fragment = e.fragment }) (record e { mark = Branch })
   tests_take' h = record {
     probing = λ p. absurd (cc (p, idle));
-    not_probing = λ p. let z = h.not_probing p in record { accepts = z.accepts; rejects = z.rejects; one = z.one; crossed = λ c. absurd (apart (sym (z.crossed c).same)) };
+    not_probing = λ p.
+        let z = h.not_probing p in
+        record { accepts = z.accepts; rejects = z.rejects; one = z.one; crossed = λ c. absurd (apart (sym (z.crossed c).same)) };
   }
 
 -- find_count goes up with the debt
-pub count_more : (s : Phase) (c d d' : ℕ) → s ≢ Sleeping → ◌≡◌ {A = ℕ} d 0 → (s ≡ Find → ◌≡◌ {A = ℕ} d' 1) → (s ≢ Find → ◌≡◌ {A = ℕ} d' 0) → find_more s c + d ≡ c + d'
+pub count_more : (s : Phase) (c d d' : ℕ) →
+    s ≢ Sleeping →
+    ◌≡◌ {A = ℕ} d 0 →
+    (s ≡ Find → ◌≡◌ {A = ℕ} d' 1) →
+    (s ≢ Find → ◌≡◌ {A = ℕ} d' 0) →
+    find_more s c + d ≡ c + d'
 count_more Find c d d' awake z one none = let y = one refl in omega (arith, z, y)
 count_more Found c d d' awake z one none = let y = none (λ e. cc) in omega (arith, z, y)
 count_more Sleeping c d d' awake z one none = absurd (awake refl)

@@ -11,6 +11,7 @@ use Rattle.ghs_node.specs.declared.message.Message.TheVariants.{Connect, Initiat
 use Rattle.ghs_protocol.specs.Network.{Network, port_at, At, far, far_port, IsWired, InNetwork}
 use Rattle.ghs_protocol.specs.Net.{put}
 use Rattle.ghs_protocol.proofs.clauses.Scene.{Member, Scene, End, TreeEnd, tree_end, end, forest, acts, adds, far_end}
+use Rattle.ghs_protocol.proofs.clauses.Changes.{left_tree, seen_beyond}
 use Rattle.ghs_protocol.proofs.clauses.Nodes.{NodeFits}
 use Rattle.ghs_protocol.proofs.clauses.TreeMessages.{TreeFits, Chain, Upward, Nothing_up, Report_up, Downward, Initiates, Old_report, CoreFits, CoreQueue, Plain, With_report, Core, Moved, MovedFits, To_here, To_there, Stage, Asking, Called, Begun, AtStage, Served, asked, called}
 use Rattle.ghs_protocol.proofs.clauses.Whole.{LinkFits, Invariant, NamesOf}
@@ -23,7 +24,10 @@ use Rattle.ghs_protocol.proofs.acts.OneLink.{sends_one, at_near, at_far, sums_on
 use Rattle.ghs_protocol.proofs.search.ReportGone.{search_trees, debt_up}
 use Rattle.ghs_protocol.proofs.search.FirstReport.{Joint, joint, Down_here, Down_there, On_core, On_moved, mark_is}
 
-pub no_connect : (N : Key → Type 0) (coming : ℕ) (coming_name : Option Key) (t l k : ℕ) (ms xs : List Message) → xs ≡ Connect k ∷ ms → Chain N coming coming_name t l xs → ⊥
+pub no_connect : (N : Key → Type 0) (coming : ℕ) (coming_name : Option Key) (t l k : ℕ) (ms xs : List Message) →
+    xs ≡ Connect k ∷ ms →
+    Chain N coming coming_name t l xs →
+    ⊥
 no_connect N coming coming_name t l k ms xs e c = subst (Chain N coming coming_name t l) e c
 
 pub record Asked (e f : TreeEnd) (l : ℕ) (ms : List Message) : Type 0 where
@@ -34,13 +38,27 @@ pub record Asked (e f : TreeEnd) (l : ℕ) (ms : List Message) : Type 0 where
   pub below : suc e.level ≡ e.coming
   pub queue : f.tree ≡ asked e.level stages.here
 
-module _ {N : ℕ → Key → Type 0} (e f : TreeEnd) (he : TreeFits N e f) (hf : TreeFits N f e) (ups : Joins e f → Ups e ⊎ Ups f) (l : ℕ) (ms : List Message) (waits : e.tree ≡ Connect l ∷ ms) (marked : e.mark ≢ Basic) where
+module _ {N : ℕ → Key → Type 0} (e f : TreeEnd) (he : TreeFits N e f) (hf : TreeFits N f e) (ups : Joins e f → Ups e ⊎ Ups f) (l : ℕ)
+    (ms : List Message) (waits : e.tree ≡ Connect l ∷ ms) (marked : e.mark ≢ Basic) where
   joins_on : Joins e f
-  joins_on = ⊎_elim (λ a. ⊎_elim (λ b. record { here = a; there = b }) (λ b. absurd (let z = (he.out_connect (record { here = a; there = b })).none in cc)) (mark_is f.mark)) (λ a. ⊎_elim (λ b. absurd (marked (hf.out_connect (record { here = b; there = a })).mark)) (λ b. absurd (let z = he.silent a b in cc)) (mark_is f.mark)) (mark_is e.mark)
+  joins_on =
+      ⊎_elim (λ a. ⊎_elim (λ b. record { here = a; there = b })
+      (λ b. absurd (let z = (he.out_connect (record { here = a; there = b })).none in cc))
+      (mark_is f.mark))
+      (λ a. ⊎_elim
+      (λ b. absurd (marked (hf.out_connect (record { here = b; there = a })).mark))
+      (λ b. absurd (let z = he.silent a b in cc))
+      (mark_is f.mark))
+      (mark_is e.mark)
 
-  stage_of : (a b : Stage) → AtStage e a → Served a b → e.tree ≡ asked f.level b ++ called e.coming e.key a → (b ≡ Asking) × (ms ≡ called e.coming e.key a) × (suc e.level ≡ e.coming) × (a ≢ Begun)
+  stage_of : (a b : Stage) →
+      AtStage e a →
+      Served a b →
+      e.tree ≡ asked f.level b ++ called e.coming e.key a →
+      (b ≡ Asking) × (ms ≡ called e.coming e.key a) × (suc e.level ≡ e.coming) × (a ≢ Begun)
   stage_of Asking Asking at s q = (refl, (let z : Connect l ∷ ms ≡ Connect f.level ∷ [] = sym waits ∙ q in cc), at, (λ z. cc))
-  stage_of Called Asking at s q = (refl, (let z : Connect l ∷ ms ≡ Connect f.level ∷ Initiate e.coming e.key Find ∷ [] = sym waits ∙ q in cc), at, (λ z. cc))
+  stage_of Called Asking at s q =
+      (refl, (let z : Connect l ∷ ms ≡ Connect f.level ∷ Initiate e.coming e.key Find ∷ [] = sym waits ∙ q in cc), at, (λ z. cc))
   stage_of Begun Asking at s q = absurd s
   stage_of Asking Called at s q = absurd (let z : Connect l ∷ ms ≡ [] = sym waits ∙ q in cc)
   stage_of Called Called at s q = absurd (let z : Connect l ∷ ms ≡ Initiate e.coming e.key Find ∷ [] = sym waits ∙ q in cc)
@@ -68,7 +86,9 @@ module _ {N : ℕ → Key → Type 0} (e f : TreeEnd) (he : TreeFits N e f) (hf 
       far_queue a b s ne (With_report r q t p x) = absurd (ne t)
 
       core : (c : Core e f) → (z : CoreFits e f) → CoreQueue e f z.here z.there → Asked e f l ms
-      core c z (Plain q) = let t = stage_of z.here z.there z.at_here z.served q in record { core = c; stages = z; there = t.0; rest = t.1; below = t.2; queue = far_queue z.here z.there t.0 t.3 z.queue_beyond }
+      core c z (Plain q) =
+          let t = stage_of z.here z.there z.at_here z.served q in
+          record { core = c; stages = z; there = t.0; rest = t.1; below = t.2; queue = far_queue z.here z.there t.0 t.3 z.queue_beyond }
       core c z (With_report r q s p b) = absurd (no_half z.here r q)
 
       down : Downward (N e.fragment) e f → Asked e f l ms
@@ -90,7 +110,8 @@ module _ {N : ℕ → Key → Type 0} (e f : TreeEnd) (he : TreeFits N e f) (hf 
       go (On_moved c) = moved (he.moved_root c)
 
 -- the two ends afterwards
-module _ (e f : TreeEnd) (l : ℕ) (ms : List Message) (a : Asked e f l ms) (vls : f.coming ≡ e.coming) (keys : f.key ≡ e.key) (vns : f.coming_name ≡ e.coming_name) where
+module _ (e f : TreeEnd) (l : ℕ) (ms : List Message) (a : Asked e f l ms) (vls : f.coming ≡ e.coming) (keys : f.key ≡ e.key)
+    (vns : f.coming_name ≡ e.coming_name) where
   abbrev pub answered_to : TreeEnd
   answered_to = record f { tree = f.tree ++ Initiate (e.level + 1) e.key Find ∷ [] }
 
@@ -118,11 +139,24 @@ module _ (e f : TreeEnd) (l : ℕ) (ms : List Message) (a : Asked e f l ms) (vls
     served = not_begun z.here z.at_here;
     served_beyond = tt;
     queue = Plain a.rest;
-    queue_beyond = Plain (ap₂ (λ x y. x ++ Initiate y e.key Find ∷ []) a.queue (let b = a.below in omega (arith, b, vls)) ∙ ap (λ y. asked e.level z.here ++ Initiate f.coming y Find ∷ []) (sym keys));
+    queue_beyond =
+        Plain (ap₂ (λ x y. x ++ Initiate y e.key Find ∷ []) a.queue (let b = a.below in omega (arith, b, vls)) ∙
+        ap (λ y. asked e.level z.here ++ Initiate f.coming y Find ∷ []) (sym keys));
   }
 
   core_after' : CoreFits answered_to (record e { tree = ms })
-  core_after' = let z = core_after in record { here = z.there; there = z.here; at_here = z.at_there; at_there = z.at_here; served = z.served_beyond; served_beyond = z.served; queue = z.queue_beyond; queue_beyond = z.queue }
+  core_after' =
+      let z = core_after in
+      record {
+        here = z.there;
+        there = z.here;
+        at_here = z.at_there;
+        at_there = z.at_here;
+        served = z.served_beyond;
+        served_beyond = z.served;
+        queue = z.queue_beyond;
+        queue_beyond = z.queue;
+      }
 
   pub serve_here : {N : ℕ → Key → Type 0} → TreeFits N e f → TreeFits N (record e { tree = ms }) answered_to
   serve_here t = let c = a.core in record {
@@ -151,7 +185,8 @@ not_branch' Basic h = refl
 not_branch' Branch h = absurd (h refl)
 not_branch' Rejected h = refl
 
-module _ (g : Network) (wired : IsWired g) (u : ℕ) (u_is : InNetwork g u) (j : ℕ) (at : At g u j) (w : Scene) (holds : Invariant g w) (l : ℕ) (ms : List Message) (waits : (w.seen u j).tree ≡ Connect l ∷ ms) (marked : (w.at u).mark j ≢ Basic) where
+module _ (g : Network) (wired : IsWired g) (u : ℕ) (u_is : InNetwork g u) (j : ℕ) (at : At g u j) (w : Scene) (holds : Invariant g w)
+    (l : ℕ) (ms : List Message) (waits : (w.seen u j).tree ≡ Connect l ∷ ms) (marked : (w.at u).mark j ≢ Basic) where
   fits : NodeFits (length (g.ports u)) (w.at u)
   fits = holds.nodes u u_is
 
@@ -162,7 +197,10 @@ module _ (g : Network) (wired : IsWired g) (u : ℕ) (u_is : InNetwork g u) (j :
   link' = at_far g wired w (LinkFits (NamesOf g w)) holds.links u j at
 
   serving : Asked (tree_end (end g w u j)) (tree_end (far_end g w u j)) l ms
-  serving = asked_on (tree_end (end g w u j)) (tree_end (far_end g w u j)) link.tree link'.tree (λ h. holds.trees.joined_lead u j at (record { here = ap is_branch h.here; there = ap is_branch h.there })) l ms waits marked
+  serving =
+      asked_on (tree_end (end g w u j)) (tree_end (far_end g w u j)) link.tree link'.tree
+      (λ h. holds.trees.joined_lead u j at (record { here = ap is_branch h.here; there = ap is_branch h.there }))
+      l ms waits marked
 
   joined' : IsJoinedIn g (forest w) u j
   joined' = let b = serving.core.both.joins in record { here = ap is_branch b.here; there = ap is_branch b.there }
@@ -180,47 +218,92 @@ module _ (g : Network) (wired : IsWired g) (u : ℕ) (u_is : InNetwork g u) (j :
   here_is = record { port = j; key = (port_at g u j).key; mark = (w.at u).mark j; is = w.at u; seen = record (w.seen u j) { tree = ms } }
 
   there_is : End
-  there_is = record { port = far_port g u j; key = (port_at g u j).key; mark = (w.at (far g u j)).mark (far_port g u j); is = w.at (far g u j); seen = record (w.seen (far g u j) (far_port g u j)) { tree = (w.seen (far g u j) (far_port g u j)).tree ++ Initiate ((w.at u).head.level + 1) (port_at g u j).key Find ∷ [] } }
+  there_is = record (far_end g w u j) {
+    seen =
+        record (seen_beyond g w u j) { tree = (seen_beyond g w u j).tree ++ Initiate ((w.at u).head.level + 1) (port_at g u j).key Find ∷ [] };
+  }
 
   answer : Message
   answer = Initiate ((w.at u).head.level + 1) (port_at g u j).key Find
 
   abbrev pub served_beyond : Scene
-  served_beyond = acts g u (w.at u) (put (w.seen u) j (record (w.seen u j) { tree = ms })) ((j, Initiate ((w.at u).head.level + 1) (port_at g u j).key Find) ∷ []) w
+  served_beyond = acts g u (w.at u) (left_tree w u j ms) ((j, Initiate ((w.at u).head.level + 1) (port_at g u j).key Find) ∷ []) w
 
   -- another fragment's rest
   quiet_else : (a : ℕ) → (w.at u).fragment ≢ a → Quiet g w a → Quiet g served_beyond a
   quiet_else a ne z =
-      quiet_after g wired u u_is (w.at u) (put (w.seen u) j (record (w.seen u j) { tree = ms }))
+      quiet_after g wired u u_is (w.at u) (left_tree w u j ms)
       ((j, Initiate ((w.at u).head.level + 1) (port_at g u j).key Find) ∷ []) w a z (λ e. absurd (ne e)) (λ i at' e. absurd (ne e))
-      (λ i at' e. ⊎_elim (λ (h : i ≡ j). absurd (ne (one_frag ∙ ap (λ y. (w.at (far g u y)).fragment) (sym h) ∙ e))) (λ no. subst (λ t. has_call (adds (w.seen (far g u i) (far_port g u i)) t).tree ≡ false) (sym ((sends_one j (Initiate ((w.at u).head.level + 1) (port_at g u j).key Find)).none i no)) (z.uncalled _ _ (wired.there u i at') e)) (cases_eq i j))
+      (λ i at' e. ⊎_elim
+      (λ (h : i ≡ j). absurd (ne (one_frag ∙ ap (λ y. (w.at (far g u y)).fragment) (sym h) ∙ e)))
+      (λ no.
+      subst (λ t. has_call (adds (seen_beyond g w u i) t).tree ≡ false)
+      (sym ((sends_one j (Initiate ((w.at u).head.level + 1) (port_at g u j).key Find)).none i no)) (z.uncalled _ _ (wired.there u i at') e))
+      (cases_eq i j))
 
   -- the nodes are as before
   as_before : (v : ℕ) → served_beyond.at v ≡ w.at v
-  as_before v = ⊎_elim (λ (e : v ≡ u). subst (λ y. put w.at u (w.at u) y ≡ w.at y) (sym e) (put_same w.at u (w.at u))) (λ ne. put_other w.at u v (w.at u) ne) (cases_eq v u)
+  as_before v =
+      ⊎_elim
+      (λ (e : v ≡ u). subst (λ y. put w.at u (w.at u) y ≡ w.at y) (sym e) (put_same w.at u (w.at u)))
+      (λ ne. put_other w.at u v (w.at u) ne) (cases_eq v u)
 
   -- this fragment has no root but the core
-  no_out : (v p : ℕ) → At g v p → (w.at v).fragment ≡ (w.at u).fragment → Out (tree_end (end g w v p)) (tree_end (end g w (far g v p) (far_port g v p))) → ⊥
-  no_out v p at' same o = o.there (branch_mark _ (⊎_elim (λ h. subst₂ (λ y z. is_branch ((w.at (far g y z)).mark (far_port g y z)) ≡ true) (sym h.0) (sym h.1) joined'.there) (λ h. subst₂ (λ y z. is_branch ((w.at y).mark z) ≡ true) (sym h.0) (sym h.1) joined'.here) (holds.trees.one_root v p u j at' at (Goes_out (ap is_branch o.here) (not_branch' _ o.there)) root same)))
+  no_out : (v p : ℕ) →
+      At g v p →
+      (w.at v).fragment ≡ (w.at u).fragment →
+      Out (tree_end (end g w v p)) (tree_end (end g w (far g v p) (far_port g v p))) →
+      ⊥
+  no_out v p at' same o =
+      o.there (branch_mark _ (⊎_elim
+      (λ h. subst₂ (λ y z. is_branch ((w.at (far g y z)).mark (far_port g y z)) ≡ true) (sym h.0) (sym h.1) joined'.there)
+      (λ h. subst₂ (λ y z. is_branch ((w.at y).mark z) ≡ true) (sym h.0) (sym h.1) joined'.here)
+      (holds.trees.one_root v p u j at' at (Goes_out (ap is_branch o.here) (not_branch' _ o.there)) root same)))
 
-  no_moved : (v p : ℕ) → At g v p → (w.at v).fragment ≡ (w.at u).fragment → Moved (tree_end (end g w v p)) (tree_end (end g w (far g v p) (far_port g v p))) → ⊥
+  no_moved : (v p : ℕ) →
+      At g v p →
+      (w.at v).fragment ≡ (w.at u).fragment →
+      Moved (tree_end (end g w v p)) (tree_end (end g w (far g v p) (far_port g v p))) →
+      ⊥
   no_moved v p at' same m =
       m.unnamed
-      (⊎_elim (λ h. subst₂ (λ y z. (w.at y).coming_name ≡ Some (port_at g y z).key) (sym h.0) (sym h.1) serving.core.named) (λ h. (holds.trees.by_fragment v u same).1 ∙ serving.core.named ∙ ap Some (sym (sym (wired.same_key v p at') ∙ ap₂ (λ y z. (port_at g y z).key) h.0 h.1))) (holds.trees.one_root v p u j at' at (Both_ways (record { here = ap is_branch m.both.joins.here; there = ap is_branch m.both.joins.there }) m.both.up m.both.up_beyond) root same))
+      (⊎_elim
+      (λ h. subst₂ (λ y z. (w.at y).coming_name ≡ Some (port_at g y z).key) (sym h.0) (sym h.1) serving.core.named)
+      (λ h.
+      (holds.trees.by_fragment v u same).1 ∙ serving.core.named ∙
+      ap Some (sym (sym (wired.same_key v p at') ∙ ap₂ (λ y z. (port_at g y z).key) h.0 h.1)))
+      (holds.trees.one_root v p u j at' at
+      (Both_ways (record { here = ap is_branch m.both.joins.here; there = ap is_branch m.both.joins.there }) m.both.up m.both.up_beyond) root
+      same))
 
   rests : Resting g served_beyond
   rests = record {
     out =
-        λ v p at' o. let o' : Out (tree_end (end g w v p)) (tree_end (end g w (far g v p) (far_port g v p))) = record
-        { here = sym (ap (λ (m : Member). m.mark p) (as_before v)) ∙ o.here; there = λ e. o.there (ap (λ (m : Member). m.mark (far_port g v p)) (as_before (far g v p)) ∙ e) }
+        λ v p at' o. let o' : Out (tree_end (end g w v p)) (tree_end (end g w (far g v p) (far_port g v p))) = record {
+          here = sym (ap (λ (m : Member). m.mark p) (as_before v)) ∙ o.here;
+          there = λ e. o.there (ap (λ (m : Member). m.mark (far_port g v p)) (as_before (far g v p)) ∙ e);
+        }
         in ⊎_elim (λ e. absurd (no_out v p at' e o'))
-        (λ ne. subst (λ (m : Member). Quiet g served_beyond m.fragment) (sym (as_before v)) (quiet_else (w.at v).fragment (λ z. ne (sym z)) (holds.resting.out v p at' o')))
+        (λ ne.
+        subst (λ (m : Member). Quiet g served_beyond m.fragment) (sym (as_before v))
+        (quiet_else (w.at v).fragment (λ z. ne (sym z)) (holds.resting.out v p at' o')))
         (cases_eq (w.at v).fragment (w.at u).fragment);
     moved =
-        λ v p at' m. let m' : Moved (tree_end (end g w v p)) (tree_end (end g w (far g v p) (far_port g v p))) = record
-        { both = record { joins = record { here = sym (ap (λ (m : Member). m.mark p) (as_before v)) ∙ m.both.joins.here; there = sym (ap (λ (m : Member). m.mark (far_port g v p)) (as_before (far g v p))) ∙ m.both.joins.there }; up = sym (ap (λ (m : Member). m.up) (as_before v)) ∙ m.both.up; up_beyond = sym (ap (λ (m : Member). m.up) (as_before (far g v p))) ∙ m.both.up_beyond }; unnamed = λ e. m.unnamed (ap (λ (m : Member). m.coming_name) (as_before v) ∙ e) }
+        λ v p at' m. let m' : Moved (tree_end (end g w v p)) (tree_end (end g w (far g v p) (far_port g v p))) = record {
+          both = record {
+            joins = record {
+              here = sym (ap (λ (m : Member). m.mark p) (as_before v)) ∙ m.both.joins.here;
+              there = sym (ap (λ (m : Member). m.mark (far_port g v p)) (as_before (far g v p))) ∙ m.both.joins.there;
+            };
+            up = sym (ap (λ (m : Member). m.up) (as_before v)) ∙ m.both.up;
+            up_beyond = sym (ap (λ (m : Member). m.up) (as_before (far g v p))) ∙ m.both.up_beyond;
+          };
+          unnamed = λ e. m.unnamed (ap (λ (m : Member). m.coming_name) (as_before v) ∙ e);
+        }
         in ⊎_elim (λ e. absurd (no_moved v p at' e m'))
-        (λ ne. subst (λ (m : Member). Quiet g served_beyond m.fragment) (sym (as_before v)) (quiet_else (w.at v).fragment (λ z. ne (sym z)) (holds.resting.moved v p at' m')))
+        (λ ne.
+        subst (λ (m : Member). Quiet g served_beyond m.fragment) (sym (as_before v))
+        (quiet_else (w.at v).fragment (λ z. ne (sym z)) (holds.resting.moved v p at' m')))
         (cases_eq (w.at v).fragment (w.at u).fragment);
   }
 
@@ -230,11 +313,24 @@ module _ (g : Network) (wired : IsWired g) (u : ℕ) (u_is : InNetwork g u) (j :
   serves =
       kept_at g wired u u_is (w.at u) j at (record (w.seen u j) { tree = ms }) (answer ∷ []) ((j, answer) ∷ []) (sends_one j answer) w
       (record { fragment = refl; coming = refl; coming_name = refl; up = refl; branch = λ p. refl }) rests holds fits
-      (record { tree = serve_here (tree_end (end g w u j)) (tree_end (far_end g w u j)) l ms serving ghosts.0 refl ghosts.1 link.tree; search = search_trees (tree_end (end g w u j)) (tree_end (far_end g w u j)) ms (tree_end there_is).tree link.search; tests = record { probing = link.tests.probing; not_probing = link.tests.not_probing } })
-      (record { tree = serve_there (tree_end (end g w u j)) (tree_end (far_end g w u j)) l ms serving ghosts.0 refl ghosts.1 link'.tree; search = search_trees (tree_end (far_end g w u j)) (tree_end (end g w u j)) (tree_end there_is).tree ms link'.search; tests = record { probing = link'.tests.probing; not_probing = link'.tests.not_probing } })
+      (record {
+        tree = serve_here (tree_end (end g w u j)) (tree_end (far_end g w u j)) l ms serving ghosts.0 refl ghosts.1 link.tree;
+        search = search_trees (tree_end (end g w u j)) (tree_end (far_end g w u j)) ms (tree_end there_is).tree link.search;
+        tests = record { probing = link.tests.probing; not_probing = link.tests.not_probing };
+      })
+      (record {
+        tree = serve_there (tree_end (end g w u j)) (tree_end (far_end g w u j)) l ms serving ghosts.0 refl ghosts.1 link'.tree;
+        search = search_trees (tree_end (far_end g w u j)) (tree_end (end g w u j)) (tree_end there_is).tree ms link'.search;
+        tests = record { probing = link'.tests.probing; not_probing = link'.tests.not_probing };
+      })
       (λ i at' ne h h'. record { tree = h.tree; search = h.search; tests = h.tests })
       (λ i at' ne h h'. record { tree = h'.tree; search = h'.search; tests = h'.tests }) (λ e. e) refl
-      (sums_one g wired u u_is (w.at u) j at (record (w.seen u j) { tree = ms }) (answer ∷ []) ((j, answer) ∷ []) (sends_one j answer) w holds.counted count (λ i ne. refl) (debt_up there_is here_is serving.core.both.up_beyond ∙ sym (debt_up (far_end g w u j) (end g w u j) serving.core.both.up_beyond)) (λ i ne. refl))
+      (sums_one g wired u u_is (w.at u) j at (record (w.seen u j) { tree = ms }) (answer ∷ []) ((j, answer) ∷ []) (sends_one j answer) w
+      holds.counted count (λ i ne. refl)
+      (debt_up there_is here_is serving.core.both.up_beyond ∙ sym (debt_up (far_end g w u j) (end g w u j) serving.core.both.up_beyond))
+      (λ i ne. refl))
     where
       count : (w.at u).head.find_count + debt (end g w u j) (far_end g w u j) ≡ (w.at u).head.find_count + debt here_is there_is
-      count = ap (λ z. (w.at u).head.find_count + z) (debt_up (end g w u j) (far_end g w u j) serving.core.both.up ∙ sym (debt_up here_is there_is serving.core.both.up))
+      count =
+          ap (λ z. (w.at u).head.find_count + z)
+          (debt_up (end g w u j) (far_end g w u j) serving.core.both.up ∙ sym (debt_up here_is there_is serving.core.both.up))

@@ -12,6 +12,7 @@ use Rattle.ghs_node.specs.Words.{Outgoing, is_branch}
 use Rattle.ghs_protocol.specs.Network.{Network, port_at, At, far, far_port, IsWired, InNetwork}
 use Rattle.ghs_protocol.specs.Net.{put}
 use Rattle.ghs_protocol.proofs.clauses.Scene.{Seen, adds, Member, Scene, End, TestEnd, end, tree_end, test_end, forest, acts, far_end}
+use Rattle.ghs_protocol.proofs.clauses.Changes.{seen_beyond}
 use Rattle.ghs_protocol.proofs.clauses.Nodes.{NodeFits}
 use Rattle.ghs_protocol.proofs.clauses.Links.{Out}
 use Rattle.ghs_protocol.proofs.clauses.TreeMessages.{ConnectUnderWay, Moved}
@@ -49,15 +50,30 @@ pub record Meets (g : Network) (wired : IsWired g) (u : ℕ) (u_is : InNetwork g
   pub unmarked : (w.at u).mark b ≢ Branch
   pub marked : (w.at (far g u b)).mark (far_port g u b) ≡ Branch
   pub own_same : own b ≡ w.seen u b
-  pub near : (i : ℕ) → At g u i → i ≢ b → LinkFits (NamesOf g w) (near' g wired u u_is (meeting (w.at u) h b) own ((b, Connect h.level) ∷ []) w i) (far' g wired u u_is (meeting (w.at u) h b) own ((b, Connect h.level) ∷ []) w i)
-  pub away : (i : ℕ) → At g u i → i ≢ b → LinkFits (NamesOf g w) (far' g wired u u_is (meeting (w.at u) h b) own ((b, Connect h.level) ∷ []) w i) (near' g wired u u_is (meeting (w.at u) h b) own ((b, Connect h.level) ∷ []) w i)
+  pub near : (i : ℕ) →
+      At g u i →
+      i ≢ b →
+      LinkFits (NamesOf g w)
+      (near' g wired u u_is (meeting (w.at u) h b) own ((b, Connect h.level) ∷ []) w i)
+      (far' g wired u u_is (meeting (w.at u) h b) own ((b, Connect h.level) ∷ []) w i)
+  pub away : (i : ℕ) →
+      At g u i →
+      i ≢ b →
+      LinkFits (NamesOf g w)
+      (far' g wired u u_is (meeting (w.at u) h b) own ((b, Connect h.level) ∷ []) w i)
+      (near' g wired u u_is (meeting (w.at u) h b) own ((b, Connect h.level) ∷ []) w i)
   pub quiet : Quiet g (acts g u (meeting (w.at u) h b) own ((b, Connect h.level) ∷ []) w) (w.at u).fragment
   -- the fragment's old root, if there is one, is a joined link at u; and the joined links of u are their far ends' ways
-  pub old : (t p : ℕ) → At g t p → Root g (forest w) t p → (w.at t).fragment ≡ (w.at u).fragment → IsJoinedIn g (forest w) t p × ((t ≡ u) ⊎ (far g t p ≡ u))
+  pub old : (t p : ℕ) →
+      At g t p →
+      Root g (forest w) t p →
+      (w.at t).fragment ≡ (w.at u).fragment →
+      IsJoinedIn g (forest w) t p × ((t ≡ u) ⊎ (far g t p ≡ u))
   pub led : (i : ℕ) → At g u i → IsJoinedIn g (forest w) u i → (w.at (far g u i)).up ≡ Some (far_port g u i)
   pub counted : DebtsCounted g (acts g u (meeting (w.at u) h b) own ((b, Connect h.level) ∷ []) w)
 
-module _ (g : Network) (ground : Ground g) (u : ℕ) (u_is : InNetwork g u) (b : ℕ) (at : At g u b) (w : Scene) (holds : Invariant g w) (h : Head) (own : ℕ → Seen) (owed : Meets g ground.wired u u_is b w h own) where
+module _ (g : Network) (ground : Ground g) (u : ℕ) (u_is : InNetwork g u) (b : ℕ) (at : At g u b) (w : Scene) (holds : Invariant g w)
+    (h : Head) (own : ℕ → Seen) (owed : Meets g ground.wired u u_is b w h own) where
   abbrev pub sends : Outgoing
   sends = (b, Connect h.level) ∷ []
 
@@ -65,7 +81,13 @@ module _ (g : Network) (ground : Ground g) (u : ℕ) (u_is : InNetwork g u) (b :
   sent = acts g u (meeting (w.at u) h b) own ((b, Connect h.level) ∷ []) w
 
   more : Branches (w.at u) (meeting (w.at u) h b) b
-  more = record { fragment = refl; coming = refl; coming_name = refl; mark = put_same (w.at u).mark b Branch; marks = λ p ne. put_other (w.at u).mark b p Branch ne }
+  more = record {
+    fragment = refl;
+    coming = refl;
+    coming_name = refl;
+    mark = put_same (w.at u).mark b Branch;
+    marks = λ p ne. put_other (w.at u).mark b p Branch ne;
+  }
 
   is_here : sent.at u ≡ meeting (w.at u) h b
   is_here = at_here g ground.wired u u_is b at w holds (meeting (w.at u) h b) own sends more
@@ -135,11 +157,16 @@ module _ (g : Network) (ground : Ground g) (u : ℕ) (u_is : InNetwork g u) (b :
   quiet_y = holds.resting.out (far g u b) (far_port g u b) at_y (record { here = owed.marked; there = unmarked_back })
 
   calls_same : (q : Seen) (i : ℕ) → has_call (adds q (sent_on sends i)).tree ≡ has_call q.tree
-  calls_same q i = elim (b == i) as (λ c. has_call (adds q (cond c (Connect h.level ∷ []) [])).tree ≡ has_call q.tree) [ true ↦ has_call_connect q.tree h.level | false ↦ refl ]
+  calls_same q i =
+      elim (b == i) as
+      (λ c. has_call (adds q (cond c (Connect h.level ∷ []) [])).tree ≡ has_call q.tree)
+      [ true ↦ has_call_connect q.tree h.level | false ↦ refl ]
 
   -- fragments but u's stay at rest
   quiet_else : (a : ℕ) → (w.at u).fragment ≢ a → Quiet g w a → Quiet g sent a
-  quiet_else a ne q = quiet_after g ground.wired u u_is (meeting (w.at u) h b) own sends w a q (λ e. absurd (ne e)) (λ i at' e. absurd (ne e)) (λ i at' e. calls_same (w.seen (far g u i) (far_port g u i)) i ∙ q.uncalled _ _ (ground.wired.there u i at') e)
+  quiet_else a ne q =
+      quiet_after g ground.wired u u_is (meeting (w.at u) h b) own sends w a q (λ e. absurd (ne e)) (λ i at' e. absurd (ne e))
+      (λ i at' e. calls_same (seen_beyond g w u i) i ∙ q.uncalled _ _ (ground.wired.there u i at') e)
 
   quiet_y' : Quiet g sent (w.at (far g u b)).fragment
   quiet_y' = quiet_else _ apart quiet_y
@@ -149,7 +176,12 @@ module _ (g : Network) (ground : Ground g) (u : ℕ) (u_is : InNetwork g u) (b :
     Old_root : Root g (forest w) t p → (w.at t).fragment ≢ (w.at u).fragment → (w.at t).fragment ≢ (w.at (far g u b)).fragment → Elsewhere t p
 
   not_of_y : (t p : ℕ) → At g t p → Off g u b t p → Root g (forest w) t p → (w.at t).fragment ≢ (w.at (far g u b)).fragment
-  not_of_y t p at' off r same = ⊎_elim (λ z. off.there (ap₂ (far g) (sym z.0) (sym z.1) ∙ ground.wired.back u b at, ap₂ (far_port g) (sym z.0) (sym z.1) ∙ ground.wired.back_port u b at)) (λ z. off.here (sym z.0 ∙ ground.wired.back u b at, sym z.1 ∙ ground.wired.back_port u b at)) (holds.trees.one_root (far g u b) (far_port g u b) t p at_y at' root_y r (sym same))
+  not_of_y t p at' off r same =
+      ⊎_elim (λ z.
+      off.there
+      (ap₂ (far g) (sym z.0) (sym z.1) ∙ ground.wired.back u b at, ap₂ (far_port g) (sym z.0) (sym z.1) ∙ ground.wired.back_port u b at))
+      (λ z. off.here (sym z.0 ∙ ground.wired.back u b at, sym z.1 ∙ ground.wired.back_port u b at))
+      (holds.trees.one_root (far g u b) (far_port g u b) t p at_y at' root_y r (sym same))
 
   up_here : (sent.at u).up ≡ Some b
   up_here = ap (λ (m : Member). m.up) is_here
@@ -184,18 +216,39 @@ module _ (g : Network) (ground : Ground g) (u : ℕ) (u_is : InNetwork g u) (b :
   reach_u = At_root b at up_here (Both_ways bridge up_here up_far)
 
   reach_y : Reach g (forest sent) (far g u b)
-  reach_y = By_step (far_port g u b) at_y up_far (record { here = bridge.there; there = subst₂ (λ p q. (forest sent).branch p q ≡ true) (sym (ground.wired.back u b at)) (sym (ground.wired.back_port u b at)) bridge.here }) (subst (Reach g (forest sent)) (sym (ground.wired.back u b at)) reach_u)
+  reach_y =
+      By_step (far_port g u b) at_y up_far (record {
+        here = bridge.there;
+        there =
+            subst₂ (λ p q. (forest sent).branch p q ≡ true) (sym (ground.wired.back u b at)) (sym (ground.wired.back_port u b at)) bridge.here;
+      })
+      (subst (Reach g (forest sent)) (sym (ground.wired.back u b at)) reach_u)
 
   carried : {t : ℕ} → Reach g (forest w) t → Reach g (forest sent) t
   carried {t} (At_root p at' way (Goes_out c d)) =
       ⊎_elim (λ e. subst (Reach g (forest sent)) (sym e) reach_u)
-      (λ ne. ⊎_elim (λ e. subst (Reach g (forest sent)) (sym e) reach_y) (λ ne'. At_root p at' (up_else t ne ∙ way) (Goes_out (ap is_branch (mark_is_else t p (λ z. ne z.0)) ∙ c) (ap is_branch (mark_is_else _ _ (λ z. ne' (sym (ground.wired.back t p at') ∙ ap₂ (far g) z.0 z.1))) ∙ d))) (cases_eq t (far g u b)))
+      (λ ne. ⊎_elim (λ e. subst (Reach g (forest sent)) (sym e) reach_y)
+      (λ ne'.
+      At_root p at' (up_else t ne ∙ way) (Goes_out (ap is_branch (mark_is_else t p (λ z. ne z.0)) ∙ c)
+      (ap is_branch (mark_is_else _ _ (λ z. ne' (sym (ground.wired.back t p at') ∙ ap₂ (far g) z.0 z.1))) ∙ d)))
+      (cases_eq t (far g u b)))
       (cases_eq t u)
-  carried {t} (At_root p at' way (Both_ways j c d)) = ⊎_elim (λ e. subst (Reach g (forest sent)) (sym e) reach_u) (λ ne. ⊎_elim (λ e. By_step p at' (up_else t ne ∙ way) (joined_new t p j) (subst (Reach g (forest sent)) (sym e) reach_u)) (λ ne'. At_root p at' (up_else t ne ∙ way) (Both_ways (joined_new t p j) (up_else t ne ∙ c) (up_else _ ne' ∙ d))) (cases_eq (far g t p) u)) (cases_eq t u)
-  carried {t} (By_step p at' way j r) = ⊎_elim (λ e. subst (Reach g (forest sent)) (sym e) reach_u) (λ ne. By_step p at' (up_else t ne ∙ way) (joined_new t p j) (carried r)) (cases_eq t u)
+  carried {t} (At_root p at' way (Both_ways j c d)) =
+      ⊎_elim (λ e. subst (Reach g (forest sent)) (sym e) reach_u)
+      (λ ne. ⊎_elim
+      (λ e. By_step p at' (up_else t ne ∙ way) (joined_new t p j) (subst (Reach g (forest sent)) (sym e) reach_u))
+      (λ ne'. At_root p at' (up_else t ne ∙ way) (Both_ways (joined_new t p j) (up_else t ne ∙ c) (up_else _ ne' ∙ d)))
+      (cases_eq (far g t p) u))
+      (cases_eq t u)
+  carried {t} (By_step p at' way j r) =
+      ⊎_elim (λ e. subst (Reach g (forest sent)) (sym e) reach_u)
+      (λ ne. By_step p at' (up_else t ne ∙ way) (joined_new t p j) (carried r))
+      (cases_eq t u)
 
   reached : RootsReached g (forest sent)
-  reached t p is e = ⊎_elim (λ z. subst (Reach g (forest sent)) (sym z) reach_u) (λ ne. carried (holds.trees.reached t p is (sym (up_else t ne) ∙ e))) (cases_eq t u)
+  reached t p is e =
+      ⊎_elim (λ z. subst (Reach g (forest sent)) (sym z) reach_u) (λ ne. carried (holds.trees.reached t p is (sym (up_else t ne) ∙ e)))
+      (cases_eq t u)
 
   joined_lead : JoinedLinksLead g (forest sent)
   joined_lead t p at' j = ⊎_elim here not_here (cases_eq t u)
@@ -204,23 +257,41 @@ module _ (g : Network) (ground : Ground g) (u : ℕ) (u_is : InNetwork g u) (b :
       here e =
           ⊎_elim
           (λ z. inl (subst₂ (λ s q. (sent.at s).up ≡ Some q) (sym e) (sym z) up_here))
-          (λ ne. inr (up_else _ (λ z. ground.wired.apart t p at' (z ∙ sym e)) ∙ subst (λ s. (w.at (far g s p)).up ≡ Some (far_port g s p)) (sym e) (owed.led p (subst (λ s. At g s p) e at') (subst (λ s. IsJoinedIn g (forest w) s p) e (joined_old t p (record { here = λ z. ne z.1; there = λ z. ground.wired.apart t p at' (z.0 ∙ sym e) }) j)))))
+          (λ ne.
+          inr (up_else _ (λ z. ground.wired.apart t p at' (z ∙ sym e)) ∙
+          subst (λ s. (w.at (far g s p)).up ≡ Some (far_port g s p)) (sym e)
+          (owed.led p (subst (λ s. At g s p) e at') (subst (λ s. IsJoinedIn g (forest w) s p) e
+          (joined_old t p (record { here = λ z. ne z.1; there = λ z. ground.wired.apart t p at' (z.0 ∙ sym e) }) j)))))
           (cases_eq p b)
 
       there : t ≢ u → far g t p ≡ u → ((sent.at t).up ≡ Some p) ⊎ ((sent.at (far g t p)).up ≡ Some (far_port g t p))
       there ne e =
           ⊎_elim
           (λ z. inr (subst₂ (λ s q. (sent.at s).up ≡ Some q) (sym e) (sym z) up_here))
-          (λ nb. inl (up_else t ne ∙ subst₂ (λ s q. (w.at s).up ≡ Some q) (ap (λ s. far g s (far_port g t p)) (sym e) ∙ ground.wired.back t p at') (ap (λ s. far_port g s (far_port g t p)) (sym e) ∙ ground.wired.back_port t p at') (owed.led (far_port g t p) (subst (λ s. At g s (far_port g t p)) e (ground.wired.there t p at')) (turned ne nb e))))
+          (λ nb.
+          inl (up_else t ne ∙
+          subst₂ (λ s q. (w.at s).up ≡ Some q)
+          (ap (λ s. far g s (far_port g t p)) (sym e) ∙ ground.wired.back t p at')
+          (ap (λ s. far_port g s (far_port g t p)) (sym e) ∙ ground.wired.back_port t p at')
+          (owed.led (far_port g t p) (subst (λ s. At g s (far_port g t p)) e (ground.wired.there t p at')) (turned ne nb e))))
           (cases_eq (far_port g t p) b)
         where
           turned : t ≢ u → far_port g t p ≢ b → far g t p ≡ u → IsJoinedIn g (forest w) u (far_port g t p)
           turned ne nb e =
-              let z = joined_old t p (record { here = λ q. ne q.0; there = λ q. nb q.1 }) j in record
-              { here = subst (λ s. (forest w).branch s (far_port g t p) ≡ true) e z.there; there = subst (λ s. (forest w).branch (far g s (far_port g t p)) (far_port g s (far_port g t p)) ≡ true) e (subst₂ (λ s q. (forest w).branch s q ≡ true) (sym (ground.wired.back t p at')) (sym (ground.wired.back_port t p at')) z.here) }
+              let z = joined_old t p (record { here = λ q. ne q.0; there = λ q. nb q.1 }) j in record {
+                here = subst (λ s. (forest w).branch s (far_port g t p) ≡ true) e z.there;
+                there =
+                    subst
+                    (λ s. (forest w).branch (far g s (far_port g t p)) (far_port g s (far_port g t p)) ≡ true)
+                    e
+                    (subst₂ (λ s q. (forest w).branch s q ≡ true) (sym (ground.wired.back t p at')) (sym (ground.wired.back_port t p at')) z.here);
+              }
 
       not_here : t ≢ u → ((sent.at t).up ≡ Some p) ⊎ ((sent.at (far g t p)).up ≡ Some (far_port g t p))
-      not_here ne = ⊎_elim (there ne) (λ ne'. ⊎_elim (λ z. inl (up_else t ne ∙ z)) (λ z. inr (up_else _ ne' ∙ z)) (holds.trees.joined_lead t p at' (joined_old t p (record { here = λ q. ne q.0; there = λ q. ne' q.0 }) j))) (cases_eq (far g t p) u)
+      not_here ne =
+          ⊎_elim (there ne) (λ ne'. ⊎_elim (λ z. inl (up_else t ne ∙ z)) (λ z. inr (up_else _ ne' ∙ z))
+          (holds.trees.joined_lead t p at' (joined_old t p (record { here = λ q. ne q.0; there = λ q. ne' q.0 }) j)))
+          (cases_eq (far g t p) u)
 
   -- the two fragments are lifted
   lifts : ℕ → Bool
@@ -248,7 +319,9 @@ module _ (g : Network) (ground : Ground g) (u : ℕ) (u_is : InNetwork g u) (b :
   of_two : (t : ℕ) → lifts (sent.at t).fragment ≡ true → ((w.at t).fragment ≡ (w.at (far g u b)).fragment) ⊎ ((w.at t).fragment ≡ (w.at u).fragment)
   of_two t e = ⊎_elim (λ z. inl (sym (fragment_is t) ∙ z ∙ fragment_is _)) (λ z. inr (sym (fragment_is t) ∙ z ∙ fragment_is u)) (which _ e)
 
-  lifts_two : (t : ℕ) → ((w.at t).fragment ≡ (w.at (far g u b)).fragment) ⊎ ((w.at t).fragment ≡ (w.at u).fragment) → lifts (sent.at t).fragment ≡ true
+  lifts_two : (t : ℕ) →
+      ((w.at t).fragment ≡ (w.at (far g u b)).fragment) ⊎ ((w.at t).fragment ≡ (w.at u).fragment) →
+      lifts (sent.at t).fragment ≡ true
   lifts_two t (inl z) = ap lifts (fragment_is t ∙ z ∙ sym (fragment_is _)) ∙ lifts_y
   lifts_two t (inr z) = ap lifts (fragment_is t ∙ z ∙ sym (fragment_is u)) ∙ lifts_u
 
@@ -260,10 +333,17 @@ module _ (g : Network) (ground : Ground g) (u : ℕ) (u_is : InNetwork g u) (b :
       go false e = e
 
   coming_two : (t : ℕ) → lifts (sent.at t).fragment ≡ true → (sent.at t).coming ≡ h.level
-  coming_two t e = coming_is t ∙ ⊎_elim (λ z. (holds.trees.by_fragment t (far g u b) z).0 ∙ coming_y) (λ z. (holds.trees.by_fragment t u z).0 ∙ sym owed.top) (of_two t e)
+  coming_two t e =
+      coming_is t ∙
+      ⊎_elim (λ z. (holds.trees.by_fragment t (far g u b) z).0 ∙ coming_y) (λ z. (holds.trees.by_fragment t u z).0 ∙ sym owed.top)
+      (of_two t e)
 
   quiet_two : (k : ℕ) → lifts k ≡ true → Quiet g sent k
-  quiet_two k e = ⊎_elim (λ z. subst (Quiet g sent) (sym (fragment_is (far g u b)) ∙ sym z) quiet_y') (λ z. subst (Quiet g sent) (sym (fragment_is u) ∙ sym z) owed.quiet) (which k e)
+  quiet_two k e =
+      ⊎_elim
+      (λ z. subst (Quiet g sent) (sym (fragment_is (far g u b)) ∙ sym z) quiet_y')
+      (λ z. subst (Quiet g sent) (sym (fragment_is u) ∙ sym z) owed.quiet)
+      (which k e)
 
   joinable : Joinable g sent u b lifts high (Some (port_at g u b).key)
   joinable = record {
@@ -292,7 +372,10 @@ module _ (g : Network) (ground : Ground g) (u : ℕ) (u_is : InNetwork g u) (b :
     name = (port_at g u b).key;
     is_name = refl;
     name_in = record { node = u; port = b; at = at; joined = bridge; fragment = refl; key = refl };
-    other = λ t p at' off e j same. ⊎_elim (λ z. off.here (sym z.0, sym z.1)) (λ z. off.there (ap₂ (far g) (sym z.0) (sym z.1) ∙ ground.wired.back u b at, ap₂ (far_port g) (sym z.0) (sym z.1) ∙ ground.wired.back_port u b at)) (ground.keyed u b t p at at' (one_key same));
+    other = λ t p at' off e j same. ⊎_elim (λ z. off.here (sym z.0, sym z.1)) (λ z.
+        off.there
+        (ap₂ (far g) (sym z.0) (sym z.1) ∙ ground.wired.back u b at, ap₂ (far_port g) (sym z.0) (sym z.1) ∙ ground.wired.back_port u b at))
+        (ground.keyed u b t p at at' (one_key same));
   }
     where
       gone : (t : ℕ) → {p : ℕ} → Elsewhere t p → ((w.at t).fragment ≡ (w.at (far g u b)).fragment) ⊎ ((w.at t).fragment ≡ (w.at u).fragment) → ⊥
@@ -317,7 +400,13 @@ module _ (g : Network) (ground : Ground g) (u : ℕ) (u_is : InNetwork g u) (b :
   many =
       subst
       (λ k. HasMany (λ t. InNetwork g t × ((met.at t).fragment ≡ (sent.at u).fragment)) (2 ^ (suc k))) (sym level_u)
-      (many_as _ (λ t z. ⊎_elim (λ s. (s.0, fragment_two t (lifts_two t (inr s.1)))) (λ s. (s.0, fragment_two t (lifts_two t (inl s.1)))) z) (doubled h.level (λ t p q. apart (sym p.1 ∙ q.1)) (subst (λ k. HasMany (λ t. InNetwork g t × ((w.at t).fragment ≡ (w.at u).fragment)) (2 ^ k)) (sym owed.top) (holds.trees.sizes u u_in)) (subst (λ k. HasMany (λ t. InNetwork g t × ((w.at t).fragment ≡ (w.at (far g u b)).fragment)) (2 ^ k)) coming_y (holds.trees.sizes (far g u b) y_in))))
+      (many_as _
+      (λ t z. ⊎_elim (λ s. (s.0, fragment_two t (lifts_two t (inr s.1)))) (λ s. (s.0, fragment_two t (lifts_two t (inl s.1)))) z)
+      (doubled h.level (λ t p q. apart (sym p.1 ∙ q.1))
+      (subst (λ k. HasMany (λ t. InNetwork g t × ((w.at t).fragment ≡ (w.at u).fragment)) (2 ^ k)) (sym owed.top) (holds.trees.sizes u u_in))
+      (subst
+      (λ k. HasMany (λ t. InNetwork g t × ((w.at t).fragment ≡ (w.at (far g u b)).fragment)) (2 ^ k))
+      coming_y (holds.trees.sizes (far g u b) y_in))))
 
   -- where a root lies
   data Lies (t p : ℕ) : Type 0 where
@@ -342,7 +431,9 @@ module _ (g : Network) (ground : Ground g) (u : ℕ) (u_is : InNetwork g u) (b :
   on_link t (inr e) = fragment_two t (ap (λ s. lifts (sent.at s).fragment) e ∙ lifts_y)
 
   off_two : (t : ℕ) → lifts (sent.at t).fragment ≡ false → (met.at t).fragment ≢ (sent.at u).fragment
-  off_two t e z = let y : (sent.at t).fragment ≡ (sent.at u).fragment = sym (ap (λ (m : Member). m.fragment) (fragment_other t e)) ∙ z in let q = ap lifts y in let r = lifts_u in cc (e, q, r)
+  off_two t e z =
+      let y : (sent.at t).fragment ≡ (sent.at u).fragment = sym (ap (λ (m : Member). m.fragment) (fragment_other t e)) ∙ z in
+      let q = ap lifts y in let r = lifts_u in cc (e, q, r)
 
   at_far_is : (t p : ℕ) → At g t p → far g t p ≡ u → far_port g t p ≡ b → (t ≡ far g u b) × (p ≡ far_port g u b)
   at_far_is t p at' e k = (sym (ground.wired.back t p at') ∙ ap₂ (far g) e k, sym (ground.wired.back_port t p at') ∙ ap₂ (far_port g) e k)
@@ -377,7 +468,9 @@ module _ (g : Network) (ground : Ground g) (u : ℕ) (u_is : InNetwork g u) (b :
       rest : Quiet g sent (sent.at t).fragment
       rest = subst (Quiet g sent) (sym (fragment_is t)) (quiet_else _ ne q)
 
-      back : (s : ℕ) → (met.at s).fragment ≡ (sent.at t).fragment → (lifts (sent.at s).fragment ≡ false) × ((sent.at s).fragment ≡ (sent.at t).fragment)
+      back : (s : ℕ) →
+          (met.at s).fragment ≡ (sent.at t).fragment →
+          (lifts (sent.at s).fragment ≡ false) × ((sent.at s).fragment ≡ (sent.at t).fragment)
       back s e = go (lifts (sent.at s).fragment) refl
         where
           go : (d : Bool) → lifts (sent.at s).fragment ≡ d → (lifts (sent.at s).fragment ≡ false) × ((sent.at s).fragment ≡ (sent.at t).fragment)
@@ -387,7 +480,10 @@ module _ (g : Network) (ground : Ground g) (u : ℕ) (u_is : InNetwork g u) (b :
   -- a member off the new link is as it was, but for marks and ways at u
   mark_met : (t p : ℕ) → (met.at t).mark p ≡ (sent.at t).mark p
   unfolding lifts
-  mark_met t p = elim (lifts (sent.at t).fragment) as (λ c. (cond c (raised (sent.at u).fragment high (Some (port_at g u b).key) (sent.at t)) (sent.at t)).mark p ≡ (sent.at t).mark p) [ true ↦ refl | false ↦ refl ]
+  mark_met t p =
+      elim (lifts (sent.at t).fragment) as
+      (λ c. (cond c (raised (sent.at u).fragment high (Some (port_at g u b).key) (sent.at t)) (sent.at t)).mark p ≡ (sent.at t).mark p)
+      [ true ↦ refl | false ↦ refl ]
 
   named_far : (met.at (far g u b)).coming_name ≡ Some (port_at g u b).key
   unfolding lifts
@@ -406,7 +502,9 @@ module _ (g : Network) (ground : Ground g) (u : ℕ) (u_is : InNetwork g u) (b :
   old_mark t p off = mark_met t p ∙ mark_is_else t p off
 
   old_up : (t : ℕ) → lifts (sent.at t).fragment ≡ false → (met.at t).up ≡ (w.at t).up
-  old_up t c = ap (λ (k : Member). k.up) (fragment_other t c) ∙ up_else t (λ e. let z = lifts_u in let q = ap (λ s. lifts (sent.at s).fragment) e in cc (c, z, q))
+  old_up t c =
+      ap (λ (k : Member). k.up) (fragment_other t c) ∙
+      up_else t (λ e. let z = lifts_u in let q = ap (λ s. lifts (sent.at s).fragment) e in cc (c, z, q))
 
   rests : Resting g met
   rests = record {
@@ -414,17 +512,45 @@ module _ (g : Network) (ground : Ground g) (u : ℕ) (u_is : InNetwork g u) (b :
     moved = λ t p at' m. moved t p at' m (place g ground.wired sent u b lifts high (Some (port_at g u b).key) joinable t p);
   }
     where
-      out : (t p : ℕ) → At g t p → Out (tree_end (end g met t p)) (tree_end (end g met (far g t p) (far_port g t p))) → Place g ground.wired sent u b lifts high (Some (port_at g u b).key) joinable t p → Quiet g met (met.at t).fragment
-      out t p at' o (On_it e k) = absurd (o.there (mark_met _ _ ∙ ap₂ (λ s q. (sent.at (far g s q)).mark (far_port g s q)) e k ∙ mark_is_else _ _ (λ z. not_u z.0) ∙ owed.marked))
-      out t p at' o (Across e k) = absurd (o.there (mark_met _ _ ∙ ap₂ (λ s q. (sent.at s).mark q) e k ∙ mark_here g ground.wired u u_is b at w holds (meeting (w.at u) h b) own sends more))
-      out t p at' o (Off_it off) = quiet_met t (calm_off t p off (lies t p at' (Goes_out (ap is_branch o.here) (not_branch _ o.there)))) (holds.resting.out t p at' (record { here = sym (old_mark t p off.here) ∙ o.here; there = λ z. o.there (old_mark _ _ off.there ∙ z) }))
+      out : (t p : ℕ) →
+          At g t p →
+          Out (tree_end (end g met t p)) (tree_end (end g met (far g t p) (far_port g t p))) →
+          Place g ground.wired sent u b lifts high (Some (port_at g u b).key) joinable t p →
+          Quiet g met (met.at t).fragment
+      out t p at' o (On_it e k) =
+          absurd
+          (o.there (mark_met _ _ ∙ ap₂ (λ s q. (sent.at (far g s q)).mark (far_port g s q)) e k ∙ mark_is_else _ _ (λ z. not_u z.0) ∙ owed.marked))
+      out t p at' o (Across e k) =
+          absurd (o.there
+          (mark_met _ _ ∙ ap₂ (λ s q. (sent.at s).mark q) e k ∙ mark_here g ground.wired u u_is b at w holds (meeting (w.at u) h b) own sends more))
+      out t p at' o (Off_it off) =
+          quiet_met t
+          (calm_off t p off (lies t p at' (Goes_out (ap is_branch o.here) (not_branch _ o.there))))
+          (holds.resting.out t p at' (record { here = sym (old_mark t p off.here) ∙ o.here; there = λ z. o.there (old_mark _ _ off.there ∙ z) }))
 
-      moved : (t p : ℕ) → At g t p → Moved (tree_end (end g met t p)) (tree_end (end g met (far g t p) (far_port g t p))) → Place g ground.wired sent u b lifts high (Some (port_at g u b).key) joinable t p → Quiet g met (met.at t).fragment
-      moved t p at' m (On_it e k) = absurd (m.unnamed (ap (λ s. (met.at s).coming_name) e ∙ named_here ∙ ap₂ (λ s q. Some (port_at g s q).key) (sym e) (sym k)))
-      moved t p at' m (Across e k) = let z = at_far_is t p at' e k in absurd (m.unnamed (ap (λ s. (met.at s).coming_name) z.0 ∙ named_far ∙ ap Some (sym (ground.wired.same_key u b at)) ∙ ap₂ (λ s q. Some (port_at g s q).key) (sym z.0) (sym z.1)))
+      moved : (t p : ℕ) →
+          At g t p →
+          Moved (tree_end (end g met t p)) (tree_end (end g met (far g t p) (far_port g t p))) →
+          Place g ground.wired sent u b lifts high (Some (port_at g u b).key) joinable t p →
+          Quiet g met (met.at t).fragment
+      moved t p at' m (On_it e k) =
+          absurd (m.unnamed (ap (λ s. (met.at s).coming_name) e ∙ named_here ∙ ap₂ (λ s q. Some (port_at g s q).key) (sym e) (sym k)))
+      moved t p at' m (Across e k) =
+          let z = at_far_is t p at' e k in
+          absurd (m.unnamed (ap (λ s. (met.at s).coming_name) z.0 ∙ named_far ∙ ap Some (sym (ground.wired.same_key u b at)) ∙
+          ap₂ (λ s q. Some (port_at g s q).key) (sym z.0) (sym z.1)))
       moved t p at' m (Off_it off) =
           quiet_met t calm
-          (holds.resting.moved t p at' (record { both = record { joins = record { here = mine; there = theirs }; up = sym (old_up t calm) ∙ m.both.up; up_beyond = sym (old_up _ calm') ∙ m.both.up_beyond }; unnamed = λ z. m.unnamed (ap (λ (k : Member). k.coming_name) (fragment_other t calm) ∙ name_was g ground.wired u u_is b at w holds (meeting (w.at u) h b) own sends more t ∙ z) }))
+          (holds.resting.moved t p at' (record {
+            both = record {
+              joins = record { here = mine; there = theirs };
+              up = sym (old_up t calm) ∙ m.both.up;
+              up_beyond = sym (old_up _ calm') ∙ m.both.up_beyond;
+            };
+            unnamed = λ z.
+                m.unnamed (ap (λ (k : Member). k.coming_name) (fragment_other t calm) ∙
+                name_was g ground.wired u u_is b at w holds (meeting (w.at u) h b) own sends more t ∙ z);
+          }))
         where
           mine : (w.at t).mark p ≡ Branch
           mine = sym (old_mark t p off.here) ∙ m.both.joins.here
@@ -433,25 +559,46 @@ module _ (g : Network) (ground : Ground g) (u : ℕ) (u_is : InNetwork g u) (b :
           theirs = sym (old_mark _ _ off.there) ∙ m.both.joins.there
 
           calm : lifts (sent.at t).fragment ≡ false
-          calm = calm_off t p off (lies t p at' (Both_ways (record { here = ap is_branch m.both.joins.here; there = ap is_branch m.both.joins.there }) m.both.up m.both.up_beyond))
+          calm =
+              calm_off t p off (lies t p at'
+              (Both_ways (record { here = ap is_branch m.both.joins.here; there = ap is_branch m.both.joins.there }) m.both.up m.both.up_beyond))
 
           calm' : lifts (sent.at (far g t p)).fragment ≡ false
-          calm' = ap lifts (fragment_is (far g t p) ∙ sym (holds.trees.joined_within t p at' (record { here = ap is_branch mine; there = ap is_branch theirs })) ∙ sym (fragment_is t)) ∙ calm
+          calm' =
+              ap lifts
+              (fragment_is (far g t p) ∙ sym (holds.trees.joined_within t p at' (record { here = ap is_branch mine; there = ap is_branch theirs })) ∙
+              sym (fragment_is t)) ∙ calm
 
   -- the two ends of the new core
   abbrev pub core_here : End
-  core_here = record { port = b; key = (port_at g u b).key; mark = Branch; is = raised (sent.at u).fragment high (Some (port_at g u b).key) (meeting (w.at u) h b); seen = w.seen u b }
+  core_here = record {
+    port = b;
+    key = (port_at g u b).key;
+    mark = Branch;
+    is = raised (sent.at u).fragment high (Some (port_at g u b).key) (meeting (w.at u) h b);
+    seen = w.seen u b;
+  }
 
   abbrev pub core_there : End
-  core_there = record { port = far_port g u b; key = (port_at g u b).key; mark = Branch; is = raised (sent.at u).fragment high (Some (port_at g u b).key) (w.at (far g u b)); seen = record (w.seen (far g u b) (far_port g u b)) { tree = (w.seen (far g u b) (far_port g u b)).tree ++ Connect h.level ∷ [] } }
+  core_there = record {
+    port = far_port g u b;
+    key = (port_at g u b).key;
+    mark = Branch;
+    is = raised (sent.at u).fragment high (Some (port_at g u b).key) (w.at (far g u b));
+    seen = record (seen_beyond g w u b) { tree = (seen_beyond g w u b).tree ++ Connect h.level ∷ [] };
+  }
 
   member_here : met.at u ≡ raised (sent.at u).fragment high (Some (port_at g u b).key) (meeting (w.at u) h b)
   unfolding lifts
-  member_here = rise_in lifts (sent.at u).fragment high (Some (port_at g u b).key) (sent.at u) lifts_u ∙ ap (raised (sent.at u).fragment high (Some (port_at g u b).key)) is_here
+  member_here =
+      rise_in lifts (sent.at u).fragment high (Some (port_at g u b).key) (sent.at u) lifts_u ∙
+      ap (raised (sent.at u).fragment high (Some (port_at g u b).key)) is_here
 
   member_there : met.at (far g u b) ≡ raised (sent.at u).fragment high (Some (port_at g u b).key) (w.at (far g u b))
   unfolding lifts
-  member_there = rise_in lifts (sent.at u).fragment high (Some (port_at g u b).key) (sent.at (far g u b)) lifts_y ∙ ap (raised (sent.at u).fragment high (Some (port_at g u b).key)) (is_else _ not_u)
+  member_there =
+      rise_in lifts (sent.at u).fragment high (Some (port_at g u b).key) (sent.at (far g u b)) lifts_y ∙
+      ap (raised (sent.at u).fragment high (Some (port_at g u b).key)) (is_else _ not_u)
 
   seen_here : met.seen u b ≡ w.seen u b
   seen_here = here_seen g ground.wired u u_is.some u_is.node (meeting (w.at u) h b) own sends w b ∙ owed.own_same
@@ -459,14 +606,28 @@ module _ (g : Network) (ground : Ground g) (u : ℕ) (u_is : InNetwork g u) (b :
   one_sent : sent_on sends b ≡ Connect h.level ∷ []
   one_sent = rw (eq-eqb b b refl) refl
 
-  seen_there : met.seen (far g u b) (far_port g u b) ≡ record (w.seen (far g u b) (far_port g u b)) { tree = (w.seen (far g u b) (far_port g u b)).tree ++ Connect h.level ∷ [] }
-  seen_there = far_seen g ground.wired u u_is.some u_is.node (meeting (w.at u) h b) own sends w b at ∙ ap (λ (xs : List Message). adds (w.seen (far g u b) (far_port g u b)) xs) one_sent
+  seen_there : seen_beyond g met u b ≡ record (seen_beyond g w u b) { tree = (seen_beyond g w u b).tree ++ Connect h.level ∷ [] }
+  seen_there =
+      far_seen g ground.wired u u_is.some u_is.node (meeting (w.at u) h b) own sends w b at ∙
+      ap (λ (xs : List Message). adds (seen_beyond g w u b) xs) one_sent
 
   end_here : end g met u b ≡ core_here
-  end_here = λ i. record { port = b; key = (port_at g u b).key; mark = (ap (λ (m : Member). m.mark b) member_here ∙ put_same (w.at u).mark b Branch) i; is = member_here i; seen = seen_here i }
+  end_here = λ i. record {
+    port = b;
+    key = (port_at g u b).key;
+    mark = (ap (λ (m : Member). m.mark b) member_here ∙ put_same (w.at u).mark b Branch) i;
+    is = member_here i;
+    seen = seen_here i;
+  }
 
   end_there : end g met (far g u b) (far_port g u b) ≡ core_there
-  end_there = λ i. record { port = far_port g u b; key = ground.wired.same_key u b at i; mark = (ap (λ (m : Member). m.mark (far_port g u b)) member_there ∙ owed.marked) i; is = member_there i; seen = seen_there i }
+  end_there = λ i. record {
+    port = far_port g u b;
+    key = ground.wired.same_key u b at i;
+    mark = (ap (λ (m : Member). m.mark (far_port g u b)) member_there ∙ owed.marked) i;
+    is = member_there i;
+    seen = seen_there i;
+  }
 
   idle_y : (w.at (far g u b)).head.probe ≡ None
   idle_y = ((holds.nodes (far g u b) y_in).idle (λ z. let q = quiet_y.found (far g u b) y_in refl in cc (z, q))).0
@@ -474,29 +635,72 @@ module _ (g : Network) (ground : Ground g) (u : ℕ) (u_is : InNetwork g u) (b :
   abbrev pub was_here : TestEnd
   was_here = record (test_end (end g w u b)) { mark = Branch; probe = None }
 
-  head_tests : was_here ≡ record { port = b; mark = Branch; fragment = (w.at u).fragment; level = h.level; name = h.name; probe = h.probe; tests = (w.seen u b).tests; accepts = (w.seen u b).accepts; rejects = (w.seen u b).rejects }
-  head_tests = λ i. record { port = b; mark = Branch; fragment = (w.at u).fragment; level = sym owed.same_level i; name = sym owed.name i; probe = sym owed.probe' i; tests = (w.seen u b).tests; accepts = (w.seen u b).accepts; rejects = (w.seen u b).rejects }
+  head_tests :
+      was_here ≡
+      record {
+        port = b;
+        mark = Branch;
+        fragment = (w.at u).fragment;
+        level = h.level;
+        name = h.name;
+        probe = h.probe;
+        tests = (w.seen u b).tests;
+        accepts = (w.seen u b).accepts;
+        rejects = (w.seen u b).rejects;
+      }
+  head_tests = λ i. record {
+    port = b;
+    mark = Branch;
+    fragment = (w.at u).fragment;
+    level = sym owed.same_level i;
+    name = sym owed.name i;
+    probe = sym owed.probe' i;
+    tests = (w.seen u b).tests;
+    accepts = (w.seen u b).accepts;
+    rejects = (w.seen u b).rejects;
+  }
 
   mark_tests : test_end (far_end g w u b) ≡ record (test_end (far_end g w u b)) { mark = Branch }
-  mark_tests = λ i. record { port = far_port g u b; mark = owed.marked i; fragment = (w.at (far g u b)).fragment; level = (w.at (far g u b)).head.level; name = (w.at (far g u b)).head.name; probe = (w.at (far g u b)).head.probe; tests = (test_end (far_end g w u b)).tests; accepts = (test_end (far_end g w u b)).accepts; rejects = (test_end (far_end g w u b)).rejects }
+  mark_tests = λ i. record {
+    port = far_port g u b;
+    mark = owed.marked i;
+    fragment = (w.at (far g u b)).fragment;
+    level = (w.at (far g u b)).head.level;
+    name = (w.at (far g u b)).head.name;
+    probe = (w.at (far g u b)).head.probe;
+    tests = (test_end (far_end g w u b)).tests;
+    accepts = (test_end (far_end g w u b)).accepts;
+    rejects = (test_end (far_end g w u b)).rejects;
+  }
 
   up_level : suc h.level ≡ high
   up_level = ap suc (sym level_u)
 
   core_near : LinkFits (NamesOf g met) core_here core_there
   core_near = record {
-    tree = new_core (tree_end core_here) (tree_end core_there) refl refl refl up_y up_level (ap suc level_y ∙ up_level) refl came.one (ap (λ z. z ++ Connect h.level ∷ []) came.none);
+    tree =
+        new_core (tree_end core_here) (tree_end core_there) refl refl refl up_y up_level (ap suc level_y ∙ up_level) refl came.one
+        (ap (λ z. z ++ Connect h.level ∷ []) came.none);
     search = new_search (tree_end core_here) (tree_end core_there) refl up_level;
-    tests = tests_lifted (sent.at u).fragment high (Some (port_at g u b).key) _ _ owed.probe' idle_y (subst₂ TestsFit head_tests mark_tests (tests_branch (test_end (end g w u b)) (test_end (far_end g w u b)) Branch owed.probe link.tests));
+    tests =
+        tests_lifted (sent.at u).fragment high (Some (port_at g u b).key) _ _ owed.probe' idle_y
+        (subst₂ TestsFit head_tests mark_tests (tests_branch (test_end (end g w u b)) (test_end (far_end g w u b)) Branch owed.probe link.tests));
   }
 
   core_away : LinkFits (NamesOf g met) core_there core_here
   core_away = record {
-    tree = new_core (tree_end core_there) (tree_end core_here) refl refl up_y refl (ap suc level_y ∙ up_level) up_level refl (ap (λ z. z ++ Connect h.level ∷ []) came.none) came.one;
+    tree =
+        new_core (tree_end core_there) (tree_end core_here) refl refl up_y refl (ap suc level_y ∙ up_level) up_level refl
+        (ap (λ z. z ++ Connect h.level ∷ []) came.none) came.one;
     search = new_search (tree_end core_there) (tree_end core_here) refl (ap suc level_y ∙ up_level);
-    tests = tests_lifted (sent.at u).fragment high (Some (port_at g u b).key) _ _ idle_y owed.probe' (subst₂ TestsFit mark_tests head_tests (tests_branch' (test_end (end g w u b)) (test_end (far_end g w u b)) owed.probe link'.tests));
+    tests =
+        tests_lifted (sent.at u).fragment high (Some (port_at g u b).key) _ _ idle_y owed.probe'
+        (subst₂ TestsFit mark_tests head_tests (tests_branch' (test_end (end g w u b)) (test_end (far_end g w u b)) owed.probe link'.tests));
   }
 
   pub meets : Invariant g (meet g u b (acts g u (meeting (w.at u) h b) own ((b, Connect h.level) ∷ []) w))
   unfolding lifts
-  meets = unites g ground.wired sent u b lifts high (Some (port_at g u b).key) joinable many one_root rests (subst₂ (LinkFits (NamesOf g met)) (sym end_here) (sym end_there) core_near) (subst₂ (LinkFits (NamesOf g met)) (sym end_there) (sym end_here) core_away)
+  meets =
+      unites g ground.wired sent u b lifts high (Some (port_at g u b).key) joinable many one_root rests
+      (subst₂ (LinkFits (NamesOf g met)) (sym end_here) (sym end_there) core_near)
+      (subst₂ (LinkFits (NamesOf g met)) (sym end_there) (sym end_here) core_away)

@@ -8,6 +8,7 @@ use Rattle.ghs_node.specs.declared.message.Message.TheVariants.{Connect}
 use Rattle.ghs_protocol.specs.Network.{Network, port_at, At, far, far_port, InNetwork}
 use Rattle.ghs_protocol.specs.Net.{put}
 use Rattle.ghs_protocol.proofs.clauses.Scene.{Scene, End, tree_end, end, acts, far_end}
+use Rattle.ghs_protocol.proofs.clauses.Changes.{left_tree, seen_beyond, sent_out}
 use Rattle.ghs_protocol.proofs.clauses.TreeMessages.{ConnectUnderWay}
 use Rattle.ghs_protocol.proofs.clauses.Whole.{Invariant}
 use Rattle.ghs_protocol.proofs.clauses.Wiring.{Ground}
@@ -21,8 +22,10 @@ use Rattle.ghs_protocol.proofs.root.Inward.{at_best, best_apart, leads_to, old_r
 use Rattle.ghs_protocol.proofs.root.Outward.{out_link', leads_out}
 use Rattle.ghs_protocol.proofs.union.Met.{Meets, meets}
 
-module _ (g : Network) (ground : Ground g) (u : ℕ) (u_is : InNetwork g u) (j : ℕ) (at : At g u j) (w : Scene) (holds : Invariant g w) (ms : List Message)
-    (root : AtRoot g w u j ms) (b : ℕ) (k : Key) (best : (w.at u).head.best ≡ Some (b, k)) (mark : (w.at u).mark b ≢ Branch) (mark' : (w.at (far g u b)).mark (far_port g u b) ≡ Branch) where
+module _ (g : Network) (ground : Ground g) (u : ℕ) (u_is : InNetwork g u) (j : ℕ) (at : At g u j) (w : Scene) (holds : Invariant g w)
+    (ms : List Message)
+    (root : AtRoot g w u j ms) (b : ℕ) (k : Key) (best : (w.at u).head.best ≡ Some (b, k)) (mark : (w.at u).mark b ≢ Branch)
+    (mark' : (w.at (far g u b)).mark (far_port g u b) ≡ Branch) where
   atb : At g u b
   atb = at_best g ground.wired u u_is j at w holds ms root b k best
 
@@ -39,15 +42,18 @@ module _ (g : Network) (ground : Ground g) (u : ℕ) (u_is : InNetwork g u) (j :
   came = (out_link' g ground.wired u u_is j at w holds ms root b k best mark).tree.out_connect (record { here = mark'; there = mark })
 
   abbrev sender : End
-  sender = record { port = b; key = (port_at g u b).key; mark = put (w.at u).mark b Branch b; is = record (w.at u) { up = Some b; mark = put (w.at u).mark b Branch }; seen = w.seen u b }
+  sender = record { port = b; key = (port_at g u b).key; mark = put (w.at u).mark b Branch b; is = sent_out (w.at u) b; seen = w.seen u b }
 
   abbrev receiver : End
-  receiver = record { port = far_port g u b; key = (port_at g u b).key; mark = (w.at (far g u b)).mark (far_port g u b); is = w.at (far g u b); seen = record (w.seen (far g u b) (far_port g u b)) { tree = (w.seen (far g u b) (far_port g u b)).tree ++ Connect (w.at u).head.level ∷ [] } }
+  receiver = record (far_end g w u b) {
+    seen = record (seen_beyond g w u b) { tree = (seen_beyond g w u b).tree ++ Connect (w.at u).head.level ∷ [] };
+  }
 
-  owed : Meets g ground.wired u u_is b w (w.at u).head (put (w.seen u) j (record (w.seen u j) { tree = ms }))
+  owed : Meets g ground.wired u u_is b w (w.at u).head (left_tree w u j ms)
   owed = record {
     node =
-        node g ground.wired u u_is j at w holds ms root b atb apart (put (w.at u).mark b Branch) (put_same (w.at u).mark b Branch) (λ i ne. put_other (w.at u).mark b i Branch ne)
+        node g ground.wired u u_is j at w holds ms root b atb apart (put (w.at u).mark b Branch) (put_same (w.at u).mark b Branch)
+        (λ i ne. put_other (w.at u).mark b i Branch ne)
         (Connect (w.at u).head.level) (λ q n. call_append (Connect (w.at u).head.level) refl q.tree ∙ n);
     found = found;
     name = refl;
@@ -60,26 +66,33 @@ module _ (g : Network) (ground : Ground g) (u : ℕ) (u_is : InNetwork g u) (j :
     marked = mark';
     own_same = put_other (w.seen u) j b (record (w.seen u j) { tree = ms }) apart;
     near =
-        near_aside g ground.wired u u_is j at w holds ms root b atb apart (put (w.at u).mark b Branch) (put_same (w.at u).mark b Branch) (λ i ne. put_other (w.at u).mark b i Branch ne)
+        near_aside g ground.wired u u_is j at w holds ms root b atb apart (put (w.at u).mark b Branch) (put_same (w.at u).mark b Branch)
+        (λ i ne. put_other (w.at u).mark b i Branch ne)
         (Connect (w.at u).head.level) (λ q n. call_append (Connect (w.at u).head.level) refl q.tree ∙ n);
     away =
-        far_aside g ground.wired u u_is j at w holds ms root b atb apart (put (w.at u).mark b Branch) (put_same (w.at u).mark b Branch) (λ i ne. put_other (w.at u).mark b i Branch ne)
+        far_aside g ground.wired u u_is j at w holds ms root b atb apart (put (w.at u).mark b Branch) (put_same (w.at u).mark b Branch)
+        (λ i ne. put_other (w.at u).mark b i Branch ne)
         (Connect (w.at u).head.level) (λ q n. call_append (Connect (w.at u).head.level) refl q.tree ∙ n);
     quiet =
-        quiet_still g ground.wired u u_is j at w holds ms root b atb apart (put (w.at u).mark b Branch) (put_same (w.at u).mark b Branch) (λ i ne. put_other (w.at u).mark b i Branch ne)
+        quiet_still g ground.wired u u_is j at w holds ms root b atb apart (put (w.at u).mark b Branch) (put_same (w.at u).mark b Branch)
+        (λ i ne. put_other (w.at u).mark b i Branch ne)
         (Connect (w.at u).head.level) (λ q n. call_append (Connect (w.at u).head.level) refl q.tree ∙ n) (w.at u).fragment root.quiet;
     old = old_roots g ground.wired u u_is j at w holds ms root b k best;
     led = leads_to g ground.wired u u_is j at w holds ms root b k best;
     counted =
-        counts g ground.wired u u_is j at w holds ms root b atb apart (put (w.at u).mark b Branch) (put_same (w.at u).mark b Branch) (λ i ne. put_other (w.at u).mark b i Branch ne)
+        counts g ground.wired u u_is j at w holds ms root b atb apart (put (w.at u).mark b Branch) (put_same (w.at u).mark b Branch)
+        (λ i ne. put_other (w.at u).mark b i Branch ne)
         (Connect (w.at u).head.level) (λ q n. call_append (Connect (w.at u).head.level) refl q.tree ∙ n)
         (debt_up receiver sender came.up ∙ sym (debt_up (far_end g w u b) (end g w u b) came.up));
   }
 
 -- a step: the root goes out and meets the far end
-pub connects_meeting : (g : Network) (ground : Ground g) (u : ℕ) (u_is : InNetwork g u) (w : Scene) (holds : Invariant g w) (j : ℕ) (at : At g u j) (ms : List Message) (b : ℕ) (k : Key) →
+pub connects_meeting :
+    (g : Network) (ground : Ground g) (u : ℕ) (u_is : InNetwork g u) (w : Scene) (holds : Invariant g w) (j : ℕ) (at : At g u j)
+    (ms : List Message) (b : ℕ) (k : Key) →
     SendsRoot w u j ms → (w.at u).head.best ≡ Some (b, k) → (w.at u).mark b ≢ Branch → (w.at (far g u b)).mark (far_port g u b) ≡ Branch →
-    Invariant g (meet g u b (acts g u (record (w.at u) { up = Some b; mark = put (w.at u).mark b Branch }) (put (w.seen u) j (record (w.seen u j) { tree = ms })) ((b, Connect (w.at u).head.level) ∷ []) w))
+    Invariant g (meet g u b (acts g u (sent_out (w.at u) b) (left_tree w u j ms) ((b, Connect (w.at u).head.level) ∷ []) w))
 connects_meeting g ground u u_is w holds j at ms b k calls best mark mark' =
     let root = at_root g ground.wired u u_is j at w holds ms calls in
-    meets g ground u u_is b (atb g ground u u_is j at w holds ms root b k best mark mark') w holds (w.at u).head (put (w.seen u) j (record (w.seen u j) { tree = ms })) (owed g ground u u_is j at w holds ms root b k best mark mark')
+    meets g ground u u_is b (atb g ground u u_is j at w holds ms root b k best mark mark') w holds (w.at u).head (left_tree w u j ms)
+    (owed g ground u u_is j at w holds ms root b k best mark mark')

@@ -8,6 +8,7 @@ use Rattle.ghs_node.specs.Words.{is_branch, is_find, is_at}
 use Rattle.ghs_protocol.specs.Network.{Network, port_at, At, far, far_port, IsWired, InNetwork}
 use Rattle.ghs_protocol.specs.Marks.{Leads, Here, Over}
 use Rattle.ghs_protocol.proofs.clauses.Scene.{Member, Scene, end, tree_end, test_end, forest}
+use Rattle.ghs_protocol.proofs.clauses.Changes.{seen_beyond}
 use Rattle.ghs_protocol.proofs.clauses.Nodes.{NodeFits}
 use Rattle.ghs_protocol.proofs.clauses.Links.{Joins, Out, Mutual}
 use Rattle.ghs_protocol.proofs.clauses.Fragments.{IsJoinedIn, Names, NamesWithin, LargeFragments, FragmentsJoined, JoinedWithin, JoinedLinksLead, Root, Goes_out, Both_ways, OneRoot, Reach, At_root, By_step, RootsReached, GhostsByFragment, HasMany}
@@ -36,7 +37,9 @@ pub rise_out : (lifts : ℕ → Bool) (a l : ℕ) (n : Option Key) (m : Member) 
 rise_out lifts a l n m e = rw e refl
 
 -- a field that rising leaves
-pub rise_keeps : {A : Type 0} (k : Member → A) (lifts : ℕ → Bool) (a l : ℕ) (n : Option Key) (m : Member) → k (raised a l n m) ≡ k m → k (rise lifts a l n m) ≡ k m
+pub rise_keeps : {A : Type 0} (k : Member → A) (lifts : ℕ → Bool) (a l : ℕ) (n : Option Key) (m : Member) →
+    k (raised a l n m) ≡ k m →
+    k (rise lifts a l n m) ≡ k m
 rise_keeps k lifts a l n m e = elim (lifts m.fragment) as (λ b. k (cond b (raised a l n m) m) ≡ k m) [ true ↦ e | false ↦ refl ]
 
 -- the link at port p of t is another one than that at port b of v
@@ -75,7 +78,8 @@ pub record Joinable (g : Network) (w : Scene) (v b : ℕ) (lifts : ℕ → Bool)
   pub name_in : Names g (forest w) (w.at v).fragment name
   pub other : (t p : ℕ) → At g t p → Off g v b t p → lifts (w.at t).fragment ≡ true → IsJoinedIn g (forest w) t p → n ≢ Some (port_at g t p).key
 
-module _ (g : Network) (wired : IsWired g) (w : Scene) (v b : ℕ) (lifts : ℕ → Bool) (l : ℕ) (n : Option Key) (known : Joinable g w v b lifts l n) where
+module _ (g : Network) (wired : IsWired g) (w : Scene) (v b : ℕ) (lifts : ℕ → Bool) (l : ℕ) (n : Option Key)
+    (known : Joinable g w v b lifts l n) where
   abbrev pub united : Scene
   united = risen lifts (w.at v).fragment l n w
 
@@ -84,7 +88,10 @@ module _ (g : Network) (wired : IsWired g) (w : Scene) (v b : ℕ) (lifts : ℕ 
 
   fragment_is : (t : ℕ) → (united.at t).fragment ≡ new (w.at t).fragment
   unfolding new
-  fragment_is t = elim (lifts (w.at t).fragment) as (λ x. (cond x (raised (w.at v).fragment l n (w.at t)) (w.at t)).fragment ≡ cond x (w.at v).fragment (w.at t).fragment) [ true ↦ refl | false ↦ refl ]
+  fragment_is t =
+      elim (lifts (w.at t).fragment) as
+      (λ x. (cond x (raised (w.at v).fragment l n (w.at t)) (w.at t)).fragment ≡ cond x (w.at v).fragment (w.at t).fragment)
+      [ true ↦ refl | false ↦ refl ]
 
   head_is : (t : ℕ) → (united.at t).head ≡ (w.at t).head
   head_is t = rise_keeps (λ (m : Member). m.head) lifts (w.at v).fragment l n (w.at t) refl
@@ -119,7 +126,14 @@ module _ (g : Network) (wired : IsWired g) (w : Scene) (v b : ℕ) (lifts : ℕ 
   leads_to (Over {v = s} p at j r) = Over p at (joined_to s p j) (leads_to r)
 
   names_to : (k : ℕ) (x : Key) → Names g (forest w) k x → Names g (forest united) (new k) x
-  names_to k x z = record { node = z.node; port = z.port; at = z.at; joined = joined_to _ _ z.joined; fragment = fragment_is z.node ∙ ap new z.fragment; key = z.key }
+  names_to k x z = record {
+    node = z.node;
+    port = z.port;
+    at = z.at;
+    joined = joined_to _ _ z.joined;
+    fragment = fragment_is z.node ∙ ap new z.fragment;
+    key = z.key;
+  }
 
   new_in : (k : ℕ) → lifts k ≡ true → new k ≡ (w.at v).fragment
   unfolding new
@@ -145,32 +159,66 @@ module _ (g : Network) (wired : IsWired g) (w : Scene) (v b : ℕ) (lifts : ℕ 
   there : (t : ℕ) → (united.at t).fragment ≡ (w.at v).fragment → ((united.at t).coming ≡ l) × ((united.at t).coming_name ≡ n)
   there t e =
       ⊎_elim
-      (λ x. (ap (λ (m : Member). m.coming) (rise_in lifts (w.at v).fragment l n (w.at t) x), ap (λ (m : Member). m.coming_name) (rise_in lifts (w.at v).fragment l n (w.at t) x)))
-      (λ x. let same : (w.at t).fragment ≡ (w.at v).fragment = sym (new_out _ x) ∙ sym (fragment_is t) ∙ e in let k = known.kept (sym (ap lifts same) ∙ x) in let z = known.by_fragment t v same in (ap (λ (m : Member). m.coming) (rise_out lifts (w.at v).fragment l n (w.at t) x) ∙ z.0 ∙ sym k.0, ap (λ (m : Member). m.coming_name) (rise_out lifts (w.at v).fragment l n (w.at t) x) ∙ z.1 ∙ sym k.1))
+      (λ x. (
+        ap (λ (m : Member). m.coming) (rise_in lifts (w.at v).fragment l n (w.at t) x),
+        ap (λ (m : Member). m.coming_name) (rise_in lifts (w.at v).fragment l n (w.at t) x),
+      ))
+      (λ x.
+      let same : (w.at t).fragment ≡ (w.at v).fragment = sym (new_out _ x) ∙ sym (fragment_is t) ∙ e in
+      let k = known.kept (sym (ap lifts same) ∙ x) in
+      let z = known.by_fragment t v same in (
+        ap (λ (m : Member). m.coming) (rise_out lifts (w.at v).fragment l n (w.at t) x) ∙ z.0 ∙ sym k.0,
+        ap (λ (m : Member). m.coming_name) (rise_out lifts (w.at v).fragment l n (w.at t) x) ∙ z.1 ∙ sym k.1,
+      ))
       (cases_Bool (lifts (w.at t).fragment))
 
   -- any other node is as it was
   other_is : (t : ℕ) → ((united.at t).fragment ≢ (w.at v).fragment) → (lifts (w.at t).fragment ≡ false) × (united.at t ≡ w.at t)
-  other_is t ne = ⊎_elim (λ x. absurd (ne (fragment_is t ∙ new_in _ x))) (λ x. (x, rise_out lifts (w.at v).fragment l n (w.at t) x)) (cases_Bool (lifts (w.at t).fragment))
+  other_is t ne =
+      ⊎_elim (λ x. absurd (ne (fragment_is t ∙ new_in _ x))) (λ x. (x, rise_out lifts (w.at v).fragment l n (w.at t) x))
+      (cases_Bool (lifts (w.at t).fragment))
 
   by_fragment' : GhostsByFragment g (forest united)
   by_fragment' s t e =
       ⊎_elim
       (λ x. let y = there s x in let z = there t (sym e ∙ x) in (y.0 ∙ sym z.0, y.1 ∙ sym z.1))
-      (λ ne. let y = other_is s ne in let z = other_is t (λ q. ne (e ∙ q)) in let k = known.by_fragment s t (sym (ap (λ (m : Member). m.fragment) y.1) ∙ e ∙ ap (λ (m : Member). m.fragment) z.1) in (ap (λ (m : Member). m.coming) y.1 ∙ k.0 ∙ sym (ap (λ (m : Member). m.coming) z.1), ap (λ (m : Member). m.coming_name) y.1 ∙ k.1 ∙ sym (ap (λ (m : Member). m.coming_name) z.1)))
+      (λ ne.
+      let y = other_is s ne in
+      let z = other_is t (λ q. ne (e ∙ q)) in
+      let k = known.by_fragment s t (sym (ap (λ (m : Member). m.fragment) y.1) ∙ e ∙ ap (λ (m : Member). m.fragment) z.1) in (
+        ap (λ (m : Member). m.coming) y.1 ∙ k.0 ∙ sym (ap (λ (m : Member). m.coming) z.1),
+        ap (λ (m : Member). m.coming_name) y.1 ∙ k.1 ∙ sym (ap (λ (m : Member). m.coming_name) z.1),
+      ))
       (cases_eq (united.at s).fragment (w.at v).fragment)
 
   above : 1 ≤ l
-  above = let t = wired.there v b known.at in let z = known.low (far g v b) (record { some = t.some; node = t.node }) known.far_lifts in omega (arith, z)
+  above =
+      let t = wired.there v b known.at in
+      let z = known.low (far g v b) (record { some = t.some; node = t.node }) known.far_lifts in omega (arith, z)
 
   names_within' : NamesWithin g (forest united)
   names_within' = record {
-    none = λ t is e. ⊎_elim (λ x. absurd (let y = (there t x).1 in let z = known.is_name in none_some (sym e ∙ y ∙ z))) (λ ne. let y = (other_is t ne).1 in ap (λ (m : Member). m.coming) y ∙ known.names_within.none t is (sym (ap (λ (m : Member). m.coming_name) y) ∙ e)) (cases_eq (united.at t).fragment (w.at v).fragment);
-    at_zero = λ t is e. ⊎_elim (λ x. absurd (let y = (there t x).0 in let z = above in omega (arith, y, z, e))) (λ ne. let y = (other_is t ne).1 in ap (λ (m : Member). m.coming_name) y ∙ known.names_within.at_zero t is (sym (ap (λ (m : Member). m.coming) y) ∙ e)) (cases_eq (united.at t).fragment (w.at v).fragment);
+    none = λ t is e. ⊎_elim
+        (λ x. absurd (let y = (there t x).1 in let z = known.is_name in none_some (sym e ∙ y ∙ z)))
+        (λ ne.
+        let y = (other_is t ne).1 in
+        ap (λ (m : Member). m.coming) y ∙ known.names_within.none t is (sym (ap (λ (m : Member). m.coming_name) y) ∙ e))
+        (cases_eq (united.at t).fragment (w.at v).fragment);
+    at_zero = λ t is e. ⊎_elim
+        (λ x. absurd (let y = (there t x).0 in let z = above in omega (arith, y, z, e)))
+        (λ ne.
+        let y = (other_is t ne).1 in
+        ap (λ (m : Member). m.coming_name) y ∙ known.names_within.at_zero t is (sym (ap (λ (m : Member). m.coming) y) ∙ e))
+        (cases_eq (united.at t).fragment (w.at v).fragment);
     inside =
         λ t k is e. ⊎_elim
-        (λ x. subst (λ y. Names g (forest united) y k) (sym x) (names_here k (subst (λ y. Names g (forest w) (w.at v).fragment y) (same_name known.name k (sym known.is_name ∙ sym (there t x).1 ∙ e)) known.name_in)))
-        (λ ne. let y = other_is t ne in subst (λ z. Names g (forest united) z k) (sym (ap (λ (m : Member). m.fragment) y.1)) (names_out _ y.0 k (known.names_within.inside t k is (sym (ap (λ (m : Member). m.coming_name) y.1) ∙ e))))
+        (λ x.
+        subst (λ y. Names g (forest united) y k) (sym x) (names_here k
+        (subst (λ y. Names g (forest w) (w.at v).fragment y) (same_name known.name k (sym known.is_name ∙ sym (there t x).1 ∙ e)) known.name_in)))
+        (λ ne.
+        let y = other_is t ne in
+        subst (λ z. Names g (forest united) z k) (sym (ap (λ (m : Member). m.fragment) y.1))
+        (names_out _ y.0 k (known.names_within.inside t k is (sym (ap (λ (m : Member). m.coming_name) y.1) ∙ e))))
         (cases_eq (united.at t).fragment (w.at v).fragment);
   }
     where
@@ -183,14 +231,25 @@ module _ (g : Network) (wired : IsWired g) (w : Scene) (v b : ℕ) (lifts : ℕ 
   sizes' : HasMany (λ t. InNetwork g t × ((united.at t).fragment ≡ (w.at v).fragment)) (2 ^ l) → LargeFragments g (forest united)
   sizes' many t is = ⊎_elim here away (cases_eq (united.at t).fragment (w.at v).fragment)
     where
-      here : (united.at t).fragment ≡ (w.at v).fragment → HasMany (λ s. InNetwork g s × ((united.at s).fragment ≡ (united.at t).fragment)) (2 ^ (united.at t).coming)
+      here :
+          (united.at t).fragment ≡ (w.at v).fragment →
+          HasMany (λ s. InNetwork g s × ((united.at s).fragment ≡ (united.at t).fragment)) (2 ^ (united.at t).coming)
       here e = subst₂ (λ x y. HasMany (λ s. InNetwork g s × ((united.at s).fragment ≡ x)) (2 ^ y)) (sym e) (sym (there t e).0) many
 
-      away : (united.at t).fragment ≢ (w.at v).fragment → HasMany (λ s. InNetwork g s × ((united.at s).fragment ≡ (united.at t).fragment)) (2 ^ (united.at t).coming)
+      away :
+          (united.at t).fragment ≢ (w.at v).fragment →
+          HasMany (λ s. InNetwork g s × ((united.at s).fragment ≡ (united.at t).fragment)) (2 ^ (united.at t).coming)
       away ne =
           let y = other_is t ne in
           let old = known.sizes t is in
-          subst (λ z. HasMany (λ s. InNetwork g s × ((united.at s).fragment ≡ (united.at t).fragment)) (2 ^ z)) (sym (ap (λ (m : Member). m.coming) y.1)) (record { some = old.some; apart = old.apart; each = λ s i. let e = old.each s i in (e.0, fragment_is s ∙ ap new e.1 ∙ sym (fragment_is t)); many = old.many })
+          subst
+          (λ z. HasMany (λ s. InNetwork g s × ((united.at s).fragment ≡ (united.at t).fragment)) (2 ^ z))
+          (sym (ap (λ (m : Member). m.coming) y.1)) (record {
+            some = old.some;
+            apart = old.apart;
+            each = λ s i. let e = old.each s i in (e.0, fragment_is s ∙ ap new e.1 ∙ sym (fragment_is t));
+            many = old.many;
+          })
 
   -- a link is the new one, from this end or the other, or off it
   pub data Place (t p : ℕ) : Type 0 where
@@ -202,7 +261,11 @@ module _ (g : Network) (wired : IsWired g) (w : Scene) (v b : ℕ) (lifts : ℕ 
   place t p = ⊎_elim (λ e. ⊎_elim (λ h. On_it e h) (λ ne. away (λ z. ne z.1)) (cases_eq p b)) (λ ne. away (λ z. ne z.0)) (cases_eq t v)
     where
       away : ((t ≡ v) × (p ≡ b) → ⊥) → Place t p
-      away off = ⊎_elim (λ e. ⊎_elim (λ h. Across e h) (λ ne. Off_it (record { here = off; there = λ z. ne z.1 })) (cases_eq (far_port g t p) b)) (λ ne. Off_it (record { here = off; there = λ z. ne z.0 })) (cases_eq (far g t p) v)
+      away off =
+          ⊎_elim
+          (λ e. ⊎_elim (λ h. Across e h) (λ ne. Off_it (record { here = off; there = λ z. ne z.1 })) (cases_eq (far_port g t p) b))
+          (λ ne. Off_it (record { here = off; there = λ z. ne z.0 }))
+          (cases_eq (far g t p) v)
 
   fragment_here : (united.at v).fragment ≡ (w.at v).fragment
   fragment_here = fragment_is v ∙ new_here
@@ -215,7 +278,9 @@ module _ (g : Network) (wired : IsWired g) (w : Scene) (v b : ℕ) (lifts : ℕ 
     where
       go : Place t p → (united.at t).fragment ≡ (united.at (far g t p)).fragment
       go (On_it e h) = subst₂ (λ x y. (united.at x).fragment ≡ (united.at (far g x y)).fragment) (sym e) (sym h) (fragment_here ∙ sym fragment_far)
-      go (Across e h) = let back : t ≡ far g v b = sym (wired.back t p at) ∙ ap₂ (far g) e h in ap (λ y. (united.at y).fragment) back ∙ fragment_far ∙ sym fragment_here ∙ ap (λ y. (united.at y).fragment) (sym e)
+      go (Across e h) =
+          let back : t ≡ far g v b = sym (wired.back t p at) ∙ ap₂ (far g) e h in
+          ap (λ y. (united.at y).fragment) back ∙ fragment_far ∙ sym fragment_here ∙ ap (λ y. (united.at y).fragment) (sym e)
       go (Off_it off) = fragment_is t ∙ ap (λ k. new k) (known.within t p at off (joined_from t p j)) ∙ sym (fragment_is (far g t p))
 
   -- v and y = its far end are joined, both ways
@@ -223,12 +288,20 @@ module _ (g : Network) (wired : IsWired g) (w : Scene) (v b : ℕ) (lifts : ℕ 
   over = Over b known.at (joined_to v b known.bridge) Here
 
   back_over : Leads g (IsJoinedIn g (forest united)) (far g v b) v
-  back_over = subst (λ y. Leads g (IsJoinedIn g (forest united)) (far g v b) y) (wired.back v b known.at) (Over (far_port g v b) (wired.there v b known.at) (record { here = z.there; there = subst₂ (λ x y. (forest united).branch x y ≡ true) (sym (wired.back v b known.at)) (sym (wired.back_port v b known.at)) z.here }) Here)
+  back_over =
+      subst (λ y. Leads g (IsJoinedIn g (forest united)) (far g v b) y) (wired.back v b known.at)
+      (Over (far_port g v b) (wired.there v b known.at) (record {
+        here = z.there;
+        there = subst₂ (λ x y. (forest united).branch x y ≡ true) (sym (wired.back v b known.at)) (sym (wired.back_port v b known.at)) z.here;
+      }) Here)
     where
       z : IsJoinedIn g (forest united) v b
       z = joined_to v b known.bridge
 
-  on : {s t r : ℕ} → Leads g (IsJoinedIn g (forest united)) s t → Leads g (IsJoinedIn g (forest united)) t r → Leads g (IsJoinedIn g (forest united)) s r
+  on : {s t r : ℕ} →
+      Leads g (IsJoinedIn g (forest united)) s t →
+      Leads g (IsJoinedIn g (forest united)) t r →
+      Leads g (IsJoinedIn g (forest united)) s r
   on Here k = k
   on (Over p at s j) k = Over p at s (on j k)
 
@@ -239,17 +312,29 @@ module _ (g : Network) (wired : IsWired g) (w : Scene) (v b : ℕ) (lifts : ℕ 
   far_in = let t = wired.there v b known.at in record { some = t.some; node = t.node }
 
   -- a node of the united fragment was in one of the two
-  part : (t : ℕ) → (united.at t).fragment ≡ (w.at v).fragment → ((w.at t).fragment ≡ (w.at v).fragment) ⊎ ((w.at t).fragment ≡ (w.at (far g v b)).fragment)
+  part : (t : ℕ) →
+      (united.at t).fragment ≡ (w.at v).fragment →
+      ((w.at t).fragment ≡ (w.at v).fragment) ⊎ ((w.at t).fragment ≡ (w.at (far g v b)).fragment)
   part t e = ⊎_elim (λ x. known.which _ x) (λ x. inl (sym (new_out _ x) ∙ sym (fragment_is t) ∙ e)) (cases_Bool (lifts (w.at t).fragment))
 
   connected' : FragmentsJoined g (forest united)
-  connected' s t is it e = ⊎_elim (λ x. both (part s x) (part t (sym e ∙ x))) (λ ne. let y = (other_is s ne).1 in let z = (other_is t (λ q. ne (e ∙ q))).1 in leads_to (known.connected s t is it (sym (ap (λ (m : Member). m.fragment) y) ∙ e ∙ ap (λ (m : Member). m.fragment) z))) (cases_eq (united.at s).fragment (w.at v).fragment)
+  connected' s t is it e =
+      ⊎_elim (λ x. both (part s x) (part t (sym e ∙ x)))
+      (λ ne.
+      let y = (other_is s ne).1 in
+      let z = (other_is t (λ q. ne (e ∙ q))).1 in
+      leads_to (known.connected s t is it (sym (ap (λ (m : Member). m.fragment) y) ∙ e ∙ ap (λ (m : Member). m.fragment) z)))
+      (cases_eq (united.at s).fragment (w.at v).fragment)
     where
-      both : ((w.at s).fragment ≡ (w.at v).fragment) ⊎ ((w.at s).fragment ≡ (w.at (far g v b)).fragment) → ((w.at t).fragment ≡ (w.at v).fragment) ⊎ ((w.at t).fragment ≡ (w.at (far g v b)).fragment) → Leads g (IsJoinedIn g (forest united)) s t
+      both :
+          ((w.at s).fragment ≡ (w.at v).fragment) ⊎ ((w.at s).fragment ≡ (w.at (far g v b)).fragment) →
+          ((w.at t).fragment ≡ (w.at v).fragment) ⊎ ((w.at t).fragment ≡ (w.at (far g v b)).fragment) →
+          Leads g (IsJoinedIn g (forest united)) s t
       both (inl x) (inl y) = leads_to (known.connected s t is it (x ∙ sym y))
       both (inr x) (inr y) = leads_to (known.connected s t is it (x ∙ sym y))
       both (inl x) (inr y) = on (leads_to (known.connected s v is here_in x)) (on over (leads_to (known.connected (far g v b) t far_in it (sym y))))
-      both (inr x) (inl y) = on (leads_to (known.connected s (far g v b) is far_in x)) (on back_over (leads_to (known.connected v t here_in it (sym y))))
+      both (inr x) (inl y) =
+          on (leads_to (known.connected s (far g v b) is far_in x)) (on back_over (leads_to (known.connected v t here_in it (sym y))))
 
   joined_lead' : JoinedLinksLead g (forest united)
   joined_lead' t p at j = ⊎_elim (λ x. inl (up_is t ∙ x)) (λ x. inr (up_is _ ∙ x)) (known.joined_lead t p at (joined_from t p j))
@@ -264,27 +349,49 @@ module _ (g : Network) (wired : IsWired g) (w : Scene) (v b : ℕ) (lifts : ℕ 
       slept = ap (λ (h : Head). h.phase) (sym (head_is t)) ∙ asleep
 
       calm : lifts (w.at t).fragment ≡ false → s ≡ t
-      calm x = ⊎_elim (λ y. absurd (let z : (w.at t).fragment ≡ (w.at v).fragment = kept x ∙ sym same ∙ fragment_is s ∙ new_in _ y in known.awake (subst (λ q. (w.at q).head.phase ≡ Sleeping) (sym (known.alone t v it here_in slept (sym z))) slept))) (λ y. known.alone t s it is slept (sym (new_out _ y) ∙ sym (fragment_is s) ∙ same ∙ fragment_is t ∙ new_out _ x)) (cases_Bool (lifts (w.at s).fragment))
+      calm x =
+          ⊎_elim (λ y.
+          absurd (let z : (w.at t).fragment ≡ (w.at v).fragment = kept x ∙ sym same ∙ fragment_is s ∙ new_in _ y in
+          known.awake (subst (λ q. (w.at q).head.phase ≡ Sleeping) (sym (known.alone t v it here_in slept (sym z))) slept)))
+          (λ y. known.alone t s it is slept (sym (new_out _ y) ∙ sym (fragment_is s) ∙ same ∙ fragment_is t ∙ new_out _ x))
+          (cases_Bool (lifts (w.at s).fragment))
         where
           kept : lifts (w.at t).fragment ≡ false → (w.at t).fragment ≡ (united.at t).fragment
           kept x = sym (new_out _ x) ∙ sym (fragment_is t)
 
   named' : Named g united
-  named' t k it e = subst (λ y. Names g (forest united) y k) (sym (fragment_is t)) (names_to _ k (known.named t k it (ap (λ (h : Head). h.name) (sym (head_is t)) ∙ e)))
+  named' t k it e =
+      subst (λ y. Names g (forest united) y k) (sym (fragment_is t))
+      (names_to _ k (known.named t k it (ap (λ (h : Head). h.name) (sym (head_is t)) ∙ e)))
 
   -- debts don't read fragments
   debt_same : (t p s q : ℕ) → debt (end g united t p) (end g united s q) ≡ debt (end g w t p) (end g w s q)
-  debt_same t p s q = ap₂ (λ o h. cond (not (is_at o p) && (has_report (w.seen t p).tree || (has_call (w.seen s q).tree || (is_find (of_head h).phase && is_at (of_head h).in_branch q)))) 1 0) (up_is t) (head_is s)
+  debt_same t p s q =
+      ap₂ (λ o h.
+      cond (not (is_at o p) &&
+      (has_report (w.seen t p).tree || (has_call (w.seen s q).tree || (is_find (of_head h).phase && is_at (of_head h).in_branch q))))
+      1 0)
+      (up_is t) (head_is s)
     where
       of_head : Head → Head
       of_head h = h
 
   counted' : DebtsCounted g united
-  counted' t it = ap (λ (h : Head). h.find_count) (head_is t) ∙ known.counted t it ∙ sum_same (length (g.ports t)) _ _ (λ p lt. sym (debt_same t p (far g t p) (far_port g t p)))
+  counted' t it =
+      ap (λ (h : Head). h.find_count) (head_is t) ∙ known.counted t it ∙
+      sum_same (length (g.ports t)) _ _ (λ p lt. sym (debt_same t p (far g t p) (far_port g t p)))
 
   -- who is lifted waits for no Report
-  unowed : (t p : ℕ) → At g t p → (w.at t).head.phase ≡ Found → (w.at t).up ≢ Some p → owes (end g w t p) (end g w (far g t p) (far_port g t p)) ≡ false
-  unowed t p at rests ne = ⊎_elim (λ x. absurd (let z = debt_one (end g w t p) (end g w (far g t p) (far_port g t p)) ne x in omega (arith, z, term, count, none))) (λ x. x) (cases_Bool (owes (end g w t p) (end g w (far g t p) (far_port g t p))))
+  unowed : (t p : ℕ) →
+      At g t p →
+      (w.at t).head.phase ≡ Found →
+      (w.at t).up ≢ Some p →
+      owes (end g w t p) (end g w (far g t p) (far_port g t p)) ≡ false
+  unowed t p at rests ne =
+      ⊎_elim
+      (λ x. absurd (let z = debt_one (end g w t p) (end g w (far g t p) (far_port g t p)) ne x in omega (arith, z, term, count, none)))
+      (λ x. x)
+      (cases_Bool (owes (end g w t p) (end g w (far g t p) (far_port g t p))))
     where
       is : InNetwork g t
       is = record { some = at.some; node = at.node }
@@ -308,7 +415,11 @@ module _ (g : Network) (wired : IsWired g) (w : Scene) (v b : ℕ) (lifts : ℕ 
   root_both : (t p : ℕ) → Mutual (tree_end (end g w t p)) (tree_end (end g w (far g t p) (far_port g t p))) → Root g (forest w) t p
   root_both t p m = Both_ways (record { here = ap is_branch m.joins.here; there = ap is_branch m.joins.there }) m.up m.up_beyond
 
-  lifts_at : (t p : ℕ) → At g t p → Off g v b t p → lifts (w.at t).fragment ≡ true → Lifts (w.at v).fragment l n (tree_end (end g w t p)) (tree_end (end g w (far g t p) (far_port g t p)))
+  lifts_at : (t p : ℕ) →
+      At g t p →
+      Off g v b t p →
+      lifts (w.at t).fragment ≡ true →
+      Lifts (w.at v).fragment l n (tree_end (end g w t p)) (tree_end (end g w (far g t p) (far_port g t p)))
   lifts_at t p at off x = record {
     low = let y = (known.nodes t is).lag.level in let z = known.low t is x in omega (arith, y, z);
     found = known.found t is x;
@@ -330,7 +441,15 @@ module _ (g : Network) (wired : IsWired g) (w : Scene) (v b : ℕ) (lifts : ℕ 
 
   -- the link, its ends as these members
   ends_as : (t p : ℕ) → Member → Member → Type 0
-  ends_as t p m k = LinkFits (NamesOf g united) (record { port = p; key = (port_at g t p).key; mark = m.mark p; is = m; seen = w.seen t p }) (record { port = far_port g t p; key = (port_at g (far g t p) (far_port g t p)).key; mark = k.mark (far_port g t p); is = k; seen = w.seen (far g t p) (far_port g t p) })
+  ends_as t p m k =
+      LinkFits (NamesOf g united)
+      (record { port = p; key = (port_at g t p).key; mark = m.mark p; is = m; seen = w.seen t p }) (record {
+        port = far_port g t p;
+        key = (port_at g (far g t p) (far_port g t p)).key;
+        mark = k.mark (far_port g t p);
+        is = k;
+        seen = seen_beyond g w t p;
+      })
 
   -- the links off the new one
   off_link : (t p : ℕ) → At g t p → Off g v b t p → LinkFits (NamesOf g united) (end g united t p) (end g united (far g t p) (far_port g t p))
@@ -352,8 +471,13 @@ module _ (g : Network) (wired : IsWired g) (w : Scene) (v b : ℕ) (lifts : ℕ 
       mine : lifts (w.at t).fragment ≡ true → Lifts (w.at v).fragment l n (tree_end (end g w t p)) (tree_end (end g w (far g t p) (far_port g t p)))
       mine x = lifts_at t p at off x
 
-      theirs : lifts (w.at (far g t p)).fragment ≡ true → Lifts (w.at v).fragment l n (tree_end (end g w (far g t p) (far_port g t p))) (tree_end (end g w t p))
-      theirs x = subst (Lifts (w.at v).fragment l n (tree_end (end g w (far g t p) (far_port g t p)))) far_is (lifts_at _ _ (wired.there t p at) (off_far t p at off) x)
+      theirs :
+          lifts (w.at (far g t p)).fragment ≡ true →
+          Lifts (w.at v).fragment l n (tree_end (end g w (far g t p) (far_port g t p))) (tree_end (end g w t p))
+      theirs x =
+          subst
+          (Lifts (w.at v).fragment l n (tree_end (end g w (far g t p) (far_port g t p)))) far_is
+          (lifts_at _ _ (wired.there t p at) (off_far t p at off) x)
 
       unequal : {x y : ℕ} → lifts x ≡ true → lifts y ≡ false → x ≢ y
       unequal x y e = let z = ap lifts e in cc (x, y, z)
@@ -364,24 +488,52 @@ module _ (g : Network) (wired : IsWired g) (w : Scene) (v b : ℕ) (lifts : ℕ 
       stays : lifts (w.at t).fragment ≡ false → (w.at t).fragment ≡ (w.at v).fragment → (w.at t).coming ≡ l
       stays x same = (known.by_fragment t v same).0 ∙ sym (known.kept (sym (ap lifts same) ∙ x)).0
 
-      go : (lifts (w.at t).fragment ≡ true) ⊎ (lifts (w.at t).fragment ≡ false) → (lifts (w.at (far g t p)).fragment ≡ true) ⊎ (lifts (w.at (far g t p)).fragment ≡ false) → LinkFits (NamesOf g united) (end g united t p) (end g united (far g t p) (far_port g t p))
+      go :
+          (lifts (w.at t).fragment ≡ true) ⊎ (lifts (w.at t).fragment ≡ false) →
+          (lifts (w.at (far g t p)).fragment ≡ true) ⊎ (lifts (w.at (far g t p)).fragment ≡ false) →
+          LinkFits (NamesOf g united) (end g united t p) (end g united (far g t p) (far_port g t p))
       go (inl x) (inl y) = subst₂ (ends_as t p) (sym (rise_in lifts (w.at v).fragment l n (w.at t) x)) (sym (rise_in lifts (w.at v).fragment l n (w.at (far g t p)) y)) (record {
-        tree = tree_lifted (w.at v).fragment l n (NamesOf g w) (NamesOf g united) (tree_end (end g w t p)) (tree_end (end g w (far g t p) (far_port g t p))) (mine x) (theirs y) (λ z. known.other t p at off x (joined z)) (names_in _ x) h.tree;
-        search = search_lifted (w.at v).fragment l n (tree_end (end g w t p)) (record (tree_end (end g w (far g t p) (far_port g t p))) { fragment = (w.at v).fragment; coming = l; coming_name = n }) (mine x).low (λ z. refl);
-        tests = tests_lifted (w.at v).fragment l n (test_end (end g w t p)) (test_end (end g w (far g t p) (far_port g t p))) (idle t is x) (idle _ is' y) h.tests;
+        tree =
+            tree_lifted (w.at v).fragment l n (NamesOf g w) (NamesOf g united) (tree_end (end g w t p))
+            (tree_end (end g w (far g t p) (far_port g t p))) (mine x) (theirs y) (λ z. known.other t p at off x (joined z)) (names_in _ x) h.tree;
+        search =
+            search_lifted (w.at v).fragment l n (tree_end (end g w t p))
+            (record (tree_end (end g w (far g t p) (far_port g t p))) { fragment = (w.at v).fragment; coming = l; coming_name = n }) (mine x).low
+            (λ z. refl);
+        tests =
+            tests_lifted (w.at v).fragment l n (test_end (end g w t p)) (test_end (end g w (far g t p) (far_port g t p))) (idle t is x)
+            (idle _ is' y) h.tests;
       })
       go (inl x) (inr y) = subst₂ (ends_as t p) (sym (rise_in lifts (w.at v).fragment l n (w.at t) x)) (sym (rise_out lifts (w.at v).fragment l n (w.at (far g t p)) y)) (record {
-        tree = tree_lifted_here (w.at v).fragment l n (NamesOf g w) (NamesOf g united) (tree_end (end g w t p)) (tree_end (end g w (far g t p) (far_port g t p))) (mine x) (λ z. unequal x y (known.within t p at off (joined z))) h.tree;
-        search = search_lifted (w.at v).fragment l n (tree_end (end g w t p)) (tree_end (end g w (far g t p) (far_port g t p))) (mine x).low (λ z. absurd (unequal x y (h.search.rejected_inside z)));
-        tests = tests_lifted_here (w.at v).fragment l n (test_end (end g w t p)) (test_end (end g w (far g t p) (far_port g t p))) (idle t is x) (λ z. unequal x y (sym z)) h.tests;
+        tree =
+            tree_lifted_here (w.at v).fragment l n (NamesOf g w) (NamesOf g united) (tree_end (end g w t p))
+            (tree_end (end g w (far g t p) (far_port g t p))) (mine x) (λ z. unequal x y (known.within t p at off (joined z))) h.tree;
+        search =
+            search_lifted (w.at v).fragment l n (tree_end (end g w t p)) (tree_end (end g w (far g t p) (far_port g t p))) (mine x).low
+            (λ z. absurd (unequal x y (h.search.rejected_inside z)));
+        tests =
+            tests_lifted_here (w.at v).fragment l n (test_end (end g w t p)) (test_end (end g w (far g t p) (far_port g t p))) (idle t is x)
+            (λ z. unequal x y (sym z)) h.tests;
       })
       go (inr x) (inl y) = subst₂ (ends_as t p) (sym (rise_out lifts (w.at v).fragment l n (w.at t) x)) (sym (rise_in lifts (w.at v).fragment l n (w.at (far g t p)) y)) (record {
-        tree = tree_lifted_there (w.at v).fragment l n (NamesOf g w) (NamesOf g united) (tree_end (end g w t p)) (tree_end (end g w (far g t p) (far_port g t p))) (theirs y).low (stays x) (λ z. unequal y x (sym (known.within t p at off (joined z)))) h.tree;
-        search = search_lifted_there (w.at v).fragment l n (tree_end (end g w t p)) (tree_end (end g w (far g t p) (far_port g t p))) (theirs y).low (stays x) (λ z. unequal y x (sym (known.within t p at off (joined z)))) (λ z. unequal y x (sym (h.search.rejected_inside z))) h.search;
-        tests = tests_lifted_there (w.at v).fragment l n (test_end (end g w t p)) (test_end (end g w (far g t p) (far_port g t p))) (idle _ is' y) (λ z. unequal y x z) (λ z le same. let s = ((known.nodes t is).searching (probing_finds (known.nodes t is) z)).level in let c = stays x (sym same) in let q = (theirs y).low in omega (arith, s, c, q, le)) h.tests;
+        tree =
+            tree_lifted_there (w.at v).fragment l n (NamesOf g w) (NamesOf g united) (tree_end (end g w t p))
+            (tree_end (end g w (far g t p) (far_port g t p))) (theirs y).low (stays x) (λ z. unequal y x (sym (known.within t p at off (joined z))))
+            h.tree;
+        search =
+            search_lifted_there (w.at v).fragment l n (tree_end (end g w t p)) (tree_end (end g w (far g t p) (far_port g t p))) (theirs y).low
+            (stays x) (λ z. unequal y x (sym (known.within t p at off (joined z)))) (λ z. unequal y x (sym (h.search.rejected_inside z))) h.search;
+        tests =
+            tests_lifted_there (w.at v).fragment l n (test_end (end g w t p)) (test_end (end g w (far g t p) (far_port g t p))) (idle _ is' y)
+            (λ z. unequal y x z) (λ z le same.
+            let s = ((known.nodes t is).searching (probing_finds (known.nodes t is) z)).level in
+            let c = stays x (sym same) in let q = (theirs y).low in omega (arith, s, c, q, le))
+            h.tests;
       })
       go (inr x) (inr y) = subst₂ (ends_as t p) (sym (rise_out lifts (w.at v).fragment l n (w.at t) x)) (sym (rise_out lifts (w.at v).fragment l n (w.at (far g t p)) y)) (record {
-        tree = tree_named (NamesOf g w) (NamesOf g united) (tree_end (end g w t p)) (tree_end (end g w (far g t p) (far_port g t p))) (names_out _ x) h.tree;
+        tree =
+            tree_named (NamesOf g w) (NamesOf g united) (tree_end (end g w t p)) (tree_end (end g w (far g t p) (far_port g t p))) (names_out _ x)
+            h.tree;
         search = h.search;
         tests = h.tests;
       })
@@ -399,13 +551,33 @@ module _ (g : Network) (wired : IsWired g) (w : Scene) (v b : ℕ) (lifts : ℕ 
   }
 
   nodes' : (t : ℕ) → InNetwork g t → NodeFits (length (g.ports t)) (united.at t)
-  nodes' t is = ⊎_elim (λ x. subst (NodeFits (length (g.ports t))) (sym (rise_in lifts (w.at v).fragment l n (w.at t) x)) (raised_fits _ (w.at t) (known.found t is x) (known.low t is x) (known.nodes t is))) (λ x. subst (NodeFits (length (g.ports t))) (sym (rise_out lifts (w.at v).fragment l n (w.at t) x)) (known.nodes t is)) (cases_Bool (lifts (w.at t).fragment))
+  nodes' t is =
+      ⊎_elim (λ x.
+      subst (NodeFits (length (g.ports t))) (sym (rise_in lifts (w.at v).fragment l n (w.at t) x))
+      (raised_fits _ (w.at t) (known.found t is x) (known.low t is x) (known.nodes t is)))
+      (λ x. subst (NodeFits (length (g.ports t))) (sym (rise_out lifts (w.at v).fragment l n (w.at t) x)) (known.nodes t is))
+      (cases_Bool (lifts (w.at t).fragment))
 
   -- all together
-  pub unites : HasMany (λ t. InNetwork g t × ((united.at t).fragment ≡ (w.at v).fragment)) (2 ^ l) → OneRoot g (forest united) → Resting g united → LinkFits (NamesOf g united) (end g united v b) (end g united (far g v b) (far_port g v b)) → LinkFits (NamesOf g united) (end g united (far g v b) (far_port g v b)) (end g united v b) → Invariant g united
+  pub unites :
+      HasMany (λ t. InNetwork g t × ((united.at t).fragment ≡ (w.at v).fragment)) (2 ^ l) →
+      OneRoot g (forest united) →
+      Resting g united →
+      LinkFits (NamesOf g united) (end g united v b) (end g united (far g v b) (far_port g v b)) →
+      LinkFits (NamesOf g united) (end g united (far g v b) (far_port g v b)) (end g united v b) →
+      Invariant g united
   unites many one rest near away = record {
     nodes = nodes';
-    trees = record { by_fragment = by_fragment'; names_within = names_within'; sizes = sizes' many; joined_within = joined_within'; connected = connected'; joined_lead = joined_lead'; one_root = one; reached = reached' };
+    trees = record {
+      by_fragment = by_fragment';
+      names_within = names_within';
+      sizes = sizes' many;
+      joined_within = joined_within';
+      connected = connected';
+      joined_lead = joined_lead';
+      one_root = one;
+      reached = reached';
+    };
     links = λ t p at. go t p at (place t p);
     alone = alone';
     named = named';
@@ -414,9 +586,13 @@ module _ (g : Network) (wired : IsWired g) (w : Scene) (v b : ℕ) (lifts : ℕ 
   }
     where
       go : (t p : ℕ) → At g t p → Place t p → LinkFits (NamesOf g united) (end g united t p) (end g united (far g t p) (far_port g t p))
-      go t p at (On_it e h) = subst₂ (λ x y. LinkFits (NamesOf g united) (end g united x y) (end g united (far g x y) (far_port g x y))) (sym e) (sym h) near
+      go t p at (On_it e h) =
+          subst₂ (λ x y. LinkFits (NamesOf g united) (end g united x y) (end g united (far g x y) (far_port g x y))) (sym e) (sym h) near
       go t p at (Across e h) =
           let back : far g v b ≡ t = sym (ap₂ (far g) e h) ∙ wired.back t p at in
           let back' : far_port g v b ≡ p = sym (ap₂ (far_port g) e h) ∙ wired.back_port t p at in
-          subst₂ (λ x y. LinkFits (NamesOf g united) (end g united x y) (end g united (far g t p) (far_port g t p))) back back' (subst₂ (λ x y. LinkFits (NamesOf g united) (end g united (far g v b) (far_port g v b)) (end g united x y)) (sym e) (sym h) away)
+          subst₂
+          (λ x y. LinkFits (NamesOf g united) (end g united x y) (end g united (far g t p) (far_port g t p)))
+          back back'
+          (subst₂ (λ x y. LinkFits (NamesOf g united) (end g united (far g v b) (far_port g v b)) (end g united x y)) (sym e) (sym h) away)
       go t p at (Off_it off) = off_link t p at off

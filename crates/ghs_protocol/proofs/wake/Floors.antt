@@ -9,6 +9,7 @@ use Rattle.ghs_node.specs.declared.message.Message.TheVariants.{Connect, ChangeR
 use Rattle.ghs_protocol.specs.Network.{Network, port_at, At, far, far_port, InNetwork}
 use Rattle.ghs_protocol.specs.Net.{put}
 use Rattle.ghs_protocol.proofs.clauses.Scene.{Seen, add, adds, Member, Scene, End, tree_end, end, acts, far_end}
+use Rattle.ghs_protocol.proofs.clauses.Changes.{seen_beyond, awakened}
 use Rattle.ghs_protocol.proofs.clauses.TreeMessages.{ConnectUnderWay}
 use Rattle.ghs_protocol.proofs.clauses.Nodes.{Untouched}
 use Rattle.ghs_protocol.proofs.clauses.Wiring.{Ground}
@@ -26,15 +27,16 @@ use Rattle.ghs_protocol.proofs.search.CloseFloors.{FloorsOff, nodes_after, links
 use Rattle.ghs_protocol.proofs.union.Floors.{floors_met}
 use Rattle.ghs_graph.proofs.lemmas.Keys.{lt_asymmetric, lt_irreflexive}
 
-module _ (g : Network) (ground : Ground g) (u : ℕ) (u_is : InNetwork g u) (w : Scene) (holds : Invariant g w) (at : At g u 0) (sleeps : (w.at u).head.phase ≡ Sleeping) (floor : ℕ → Floor) (floors : Floors g w floor) where
+module _ (g : Network) (ground : Ground g) (u : ℕ) (u_is : InNetwork g u) (w : Scene) (holds : Invariant g w) (at : At g u 0)
+    (sleeps : (w.at u).head.phase ≡ Sleeping) (floor : ℕ → Floor) (floors : Floors g w floor) where
   abbrev x : Member
-  x = record (w.at u) { head = record (w.at u).head { level = 0; phase = Found; find_count = 0 }; mark = put (w.at u).mark 0 Branch; up = Some 0 }
+  x = awakened (w.at u)
 
   abbrev ss : Outgoing
   ss = (0, Connect 0) ∷ []
 
   abbrev pub woken : Scene
-  woken = acts g u (record (w.at u) { head = record (w.at u).head { level = 0; phase = Found; find_count = 0 }; mark = put (w.at u).mark 0 Branch; up = Some 0 }) (w.seen u) ((0, Connect 0) ∷ []) w
+  woken = acts g u (awakened (w.at u)) (w.seen u) ((0, Connect 0) ∷ []) w
 
   abbrev pub least : Floor
   least = Some (Some (port_at g u 0).key)
@@ -60,7 +62,10 @@ module _ (g : Network) (ground : Ground g) (u : ℕ) (u_is : InNetwork g u) (w :
   tree : IsTreeLink g u 0
   tree =
       cut_link g (λ t. (w.at t).fragment) (w.at u).fragment u 0 apart
-      (λ t q at' same out. let e = alone t (record { some = at'.some; node = at'.node }) same in subst (λ y. key_lt (port_at g y q).key (port_at g u 0).key ≡ false) (sym e) (not_less q (subst (λ y. At g y q) e at'))) refl
+      (λ t q at' same out.
+      let e = alone t (record { some = at'.some; node = at'.node }) same in
+      subst (λ y. key_lt (port_at g y q).key (port_at g u 0).key ≡ false) (sym e) (not_less q (subst (λ y. At g y q) e at')))
+      refl
     where
       not_less : (q : ℕ) → At g u q → key_lt (port_at g u q).key (port_at g u 0).key ≡ false
       not_less zero at' = lt_irreflexive (port_at g u 0).key
@@ -97,13 +102,15 @@ module _ (g : Network) (ground : Ground g) (u : ℕ) (u_is : InNetwork g u) (w :
   }
 
   abbrev there : End
-  there = record { port = far_port g u 0; key = (port_at g u 0).key; mark = (w.at (far g u 0)).mark (far_port g u 0); is = w.at (far g u 0); seen = add (w.seen (far g u 0) (far_port g u 0)) (Connect 0) }
+  there = record (far_end g w u 0) { seen = add (seen_beyond g w u 0) (Connect 0) }
 
   node_floor : NodeFloor x least
   node_floor = record { asleep = λ e. absurd (let z : Found ≡ Sleeping = e in cc); search = λ e. absurd (let z : Found ≡ Find = e in cc) }
 
   trees : BranchesInTree g woken
-  trees = in_tree_after g ground.wired u u_is x (w.seen u) ss w floor floors least (λ p at' m. ⊎_elim (λ e. subst (IsTreeLink g u) (sym e) tree) (λ ne. absurd (plain p ne m)) (cases_eq p 0))
+  trees =
+      in_tree_after g ground.wired u u_is x (w.seen u) ss w floor floors least
+      (λ p at' m. ⊎_elim (λ e. subst (IsTreeLink g u) (sym e) tree) (λ ne. absurd (plain p ne m)) (cases_eq p 0))
 
   halts : HaltedIsWhole g woken
   halts = halted_after g ground.wired u u_is x (w.seen u) ss w floor floors least refl refl
@@ -144,8 +151,12 @@ module _ (g : Network) (ground : Ground g) (u : ℕ) (u_is : InNetwork g u) (w :
           nodes = nodes_after g ground.wired u u_is x (put (w.seen u) 0 (w.seen u 0)) ss w floor floors least node_floor;
           links =
               links_after g ground.wired u u_is x (put (w.seen u) 0 (w.seen u 0)) ss w floor floors least
-              (by_port_at g ground.wired u u_is x 0 at (w.seen u 0) (Connect 0 ∷ []) ss (sends_one 0 (Connect 0)) w (λ i e f. FloorsAt e f least (floor (far g u i))) near_out near_other)
-              (by_port_at g ground.wired u u_is x 0 at (w.seen u 0) (Connect 0 ∷ []) ss (sends_one 0 (Connect 0)) w (λ i e f. FloorsAt f e (floor (far g u i)) least) far_out far_other);
+              (by_port_at g ground.wired u u_is x 0 at (w.seen u 0) (Connect 0 ∷ []) ss (sends_one 0 (Connect 0)) w
+              (λ i e f. FloorsAt e f least (floor (far g u i)))
+              near_out near_other)
+              (by_port_at g ground.wired u u_is x 0 at (w.seen u 0) (Connect 0 ∷ []) ss (sends_one 0 (Connect 0)) w
+              (λ i e f. FloorsAt f e (floor (far g u i)) least)
+              far_out far_other);
           in_tree = trees;
           halted = halts;
         })
@@ -161,8 +172,12 @@ module _ (g : Network) (ground : Ground g) (u : ℕ) (u_is : InNetwork g u) (w :
           nodes = nodes_after g ground.wired u u_is x (put (w.seen u) 0 (w.seen u 0)) ss w floor floors least node_floor;
           links =
               links_after_off g ground.wired u u_is x (put (w.seen u) 0 (w.seen u 0)) ss w floor floors least 0
-              (by_port_at g ground.wired u u_is x 0 at (w.seen u 0) (Connect 0 ∷ []) ss (sends_one 0 (Connect 0)) w (λ i e f. i ≢ 0 → FloorsAt e f least (floor (far g u i))) (λ ne. absurd (ne refl)) (λ i at' ne no. near_other i at' ne))
-              (by_port_at g ground.wired u u_is x 0 at (w.seen u 0) (Connect 0 ∷ []) ss (sends_one 0 (Connect 0)) w (λ i e f. i ≢ 0 → FloorsAt f e (floor (far g u i)) least) (λ ne. absurd (ne refl)) (λ i at' ne no. far_other i at' ne));
+              (by_port_at g ground.wired u u_is x 0 at (w.seen u 0) (Connect 0 ∷ []) ss (sends_one 0 (Connect 0)) w
+              (λ i e f. i ≢ 0 → FloorsAt e f least (floor (far g u i)))
+              (λ ne. absurd (ne refl)) (λ i at' ne no. near_other i at' ne))
+              (by_port_at g ground.wired u u_is x 0 at (w.seen u 0) (Connect 0 ∷ []) ss (sends_one 0 (Connect 0)) w
+              (λ i e f. i ≢ 0 → FloorsAt f e (floor (far g u i)) least)
+              (λ ne. absurd (ne refl)) (λ i at' ne no. far_other i at' ne));
           in_tree = trees;
           halted = halts;
         })
@@ -179,7 +194,10 @@ module _ (g : Network) (ground : Ground g) (u : ℕ) (u_is : InNetwork g u) (w :
     level_is : (t : ℕ) → (woken.at t).head.level ≡ (w.at t).head.level
     level_is t = put_alike (λ (m : Member). m.head.level) w.at u x (sym fresh.level) t
 
-    low : (t : ℕ) → InNetwork g t → ((woken.at t).fragment ≡ (woken.at (far g u 0)).fragment) ⊎ ((woken.at t).fragment ≡ (woken.at u).fragment) → (woken.at t).head.level < suc (woken.at u).head.level
+    low : (t : ℕ) →
+        InNetwork g t →
+        ((woken.at t).fragment ≡ (woken.at (far g u 0)).fragment) ⊎ ((woken.at t).fragment ≡ (woken.at u).fragment) →
+        (woken.at t).head.level < suc (woken.at u).head.level
     low t it i =
         let a = level_is t in
         let c = level_is u in
@@ -189,14 +207,18 @@ module _ (g : Network) (ground : Ground g) (u : ℕ) (u_is : InNetwork g u) (w :
         let o = fresh.level in
         let q = fresh.coming in
         ⊎_elim
-        (λ s. let z = (holds.trees.by_fragment t (far g u 0) (sym (fragment_is t) ∙ s ∙ fragment_is (far g u 0))).0 in omega (arith, a, c, d, f, h, z, o))
+        (λ s.
+        let z = (holds.trees.by_fragment t (far g u 0) (sym (fragment_is t) ∙ s ∙ fragment_is (far g u 0))).0 in
+        omega (arith, a, c, d, f, h, z, o))
         (λ s. let z = (holds.trees.by_fragment t u (sym (fragment_is t) ∙ s ∙ fragment_is u)).0 in omega (arith, a, c, d, z, o, q)) i
 
     own_seen : woken.seen u 0 ≡ w.seen u 0
     own_seen = here_seen g ground.wired u u_is.some u_is.node x (w.seen u) ss w 0
 
-    their_seen : (woken.seen (far g u 0) (far_port g u 0)).tree ≡ (w.seen (far g u 0) (far_port g u 0)).tree ++ Connect 0 ∷ []
-    their_seen = ap (λ (q : Seen). q.tree) (far_seen g ground.wired u u_is.some u_is.node x (w.seen u) ss w 0 at) ∙ ap (λ s. (adds (w.seen (far g u 0) (far_port g u 0)) s).tree) ((sends_one 0 (Connect 0)).only)
+    their_seen : (seen_beyond g woken u 0).tree ≡ (seen_beyond g w u 0).tree ++ Connect 0 ∷ []
+    their_seen =
+        ap (λ (q : Seen). q.tree) (far_seen g ground.wired u u_is.some u_is.node x (w.seen u) ss w 0 at) ∙
+        ap (λ s. (adds (seen_beyond g w u 0) s).tree) ((sends_one 0 (Connect 0)).only)
 
     pub wakes_meeting_floors : Floors g (meet g u 0 woken) (put floor u least)
     wakes_meeting_floors =
@@ -204,6 +226,9 @@ module _ (g : Network) (ground : Ground g) (u : ℕ) (u_is : InNetwork g u) (w :
         (λ e. apart (sym (fragment_is (far g u 0)) ∙ e ∙ fragment_is u)) off.links low
         (ap (λ (m : Member). m.mark 0) here_is ∙ put_same (w.at u).mark 0 Branch) (ap (λ (m : Member). m.mark (far_port g u 0)) far_is ∙ met)
         (ap (λ (m : Member). m.up) here_is) (ap (λ (m : Member). m.up) far_is ∙ came.up)
-        (λ e. let z = came.one in let y = ap (λ (q : Seen). q.tree) own_seen in let s : Connect (w.at (far g u 0)).head.level ∷ [] ≡ ChangeRoot ∷ [] = sym z ∙ sym y ∙ e in cc)
+        (λ e.
+        let z = came.one in
+        let y = ap (λ (q : Seen). q.tree) own_seen in
+        let s : Connect (w.at (far g u 0)).head.level ∷ [] ≡ ChangeRoot ∷ [] = sym z ∙ sym y ∙ e in cc)
         (λ e. let z = came.none in let s : [] ++ Connect 0 ∷ [] ≡ ChangeRoot ∷ [] = ap (λ q. q ++ Connect 0 ∷ []) (sym z) ∙ sym their_seen ∙ e in cc)
         (wakes_meeting g ground.wired u u_is w holds at sleeps ground met)

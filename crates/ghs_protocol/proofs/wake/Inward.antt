@@ -8,9 +8,9 @@ use Rattle.ghs_node.specs.declared.message.Phase.TheVariants.{Sleeping, Find, Fo
 use Rattle.ghs_node.specs.declared.message.Message.TheVariants.{Connect}
 use Rattle.ghs_node.specs.Words.{Outgoing, is_branch, is_at}
 use Rattle.ghs_protocol.specs.Network.{Network, port_at, At, far, far_port, IsWired, InNetwork}
-use Rattle.ghs_protocol.specs.Net.{put}
 use Rattle.ghs_protocol.specs.Ledger.{sum_below}
 use Rattle.ghs_protocol.proofs.clauses.Scene.{Seen, adds, Member, Scene, End, TreeEnd, end, tree_end, test_end, forest, acts, far_end}
+use Rattle.ghs_protocol.proofs.clauses.Changes.{seen_beyond, awakened}
 use Rattle.ghs_protocol.proofs.clauses.Nodes.{NodeFits, Untouched}
 use Rattle.ghs_protocol.proofs.clauses.TreeMessages.{TreeFits}
 use Rattle.ghs_protocol.proofs.clauses.Search.{SearchFits}
@@ -48,7 +48,17 @@ module _ (e f : TreeEnd) (o : Option ℕ) (low : ◌≡◌ {A = ℕ} e.level 0) 
 
   pub tree_woke' : {N : ℕ → Key → Type 0} → TreeFits N f e → TreeFits N f (woke e o)
   tree_woke' t = record {
-    out_connect = λ z. let y = t.out_connect (record { here = z.here; there = z.there }) in record { mark = y.mark; up = y.up; apart = y.apart; level = y.level; higher = let q = y.higher in omega (arith, q, low); one = y.one; none = y.none };
+    out_connect = λ z.
+        let y = t.out_connect (record { here = z.here; there = z.there }) in
+        record {
+          mark = y.mark;
+          up = y.up;
+          apart = y.apart;
+          level = y.level;
+          higher = let q = y.higher in omega (arith, q, low);
+          one = y.one;
+          none = y.none;
+        };
     silent = t.silent;
     core_ends = λ j. absurd (plain j.there);
     upward = λ c. absurd (plain c.joins.there);
@@ -58,25 +68,31 @@ module _ (e f : TreeEnd) (o : Option ℕ) (low : ◌≡◌ {A = ℕ} e.level 0) 
   }
 
   pub search_woke : SearchFits e f → e.best ≡ None → SearchFits (woke e o) f
-  search_woke h none = record { rejected_inside = h.rejected_inside; find_leads = λ k z. absurd (cc (none, z)); find_reported = λ k z. absurd (cc (none, z)) }
+  search_woke h none =
+      record { rejected_inside = h.rejected_inside; find_leads = λ k z. absurd (cc (none, z)); find_reported = λ k z. absurd (cc (none, z)) }
 
   pub search_woke' : SearchFits f e → SearchFits f (woke e o)
   search_woke' h = record {
     rejected_inside = h.rejected_inside;
-    find_leads = λ k x y m. let z = h.find_leads k x y m in record { key = z.key; apart = z.apart; higher = let q = z.higher in omega (arith, q, low) };
+    find_leads =
+        λ k x y m. let z = h.find_leads k x y m in record { key = z.key; apart = z.apart; higher = let q = z.higher in omega (arith, q, low) };
     find_reported = λ k x y j. absurd (plain j.there);
   }
 
   -- nobody is called over a link that isn't joined
   pub uncalled : {N : ℕ → Key → Type 0} → TreeFits N e f → TreeFits N f e → has_call e.tree ≡ false
-  uncalled t t' = ⊎_elim (λ z. ap has_call (t'.out_connect (record { here = z; there = plain })).one) (λ z. ap has_call (t.silent plain z)) (mark_is f.mark)
+  uncalled t t' =
+      ⊎_elim
+      (λ z. ap has_call (t'.out_connect (record { here = z; there = plain })).one)
+      (λ z. ap has_call (t.silent plain z)) (mark_is f.mark)
 
-module _ (g : Network) (wired : IsWired g) (u : ℕ) (u_is : InNetwork g u) (w : Scene) (holds : Invariant g w) (at : At g u 0) (sleeps : (w.at u).head.phase ≡ Sleeping) where
+module _ (g : Network) (wired : IsWired g) (u : ℕ) (u_is : InNetwork g u) (w : Scene) (holds : Invariant g w) (at : At g u 0)
+    (sleeps : (w.at u).head.phase ≡ Sleeping) where
   abbrev pub woken_head : Head
   woken_head = record (w.at u).head { level = 0; phase = Found; find_count = 0 }
 
   abbrev pub waker : Member
-  waker = record (w.at u) { head = record (w.at u).head { level = 0; phase = Found; find_count = 0 }; mark = put (w.at u).mark 0 Branch; up = Some 0 }
+  waker = awakened (w.at u)
 
   abbrev pub sends : Outgoing
   sends = (0, Connect 0) ∷ []
@@ -107,7 +123,7 @@ module _ (g : Network) (wired : IsWired g) (u : ℕ) (u_is : InNetwork g u) (w :
   near_is i ne = λ k. record { port = i; key = (port_at g u i).key; mark = put_other (w.at u).mark 0 i Branch ne k; is = waker; seen = w.seen u i }
 
   far_is : (i : ℕ) → i ≢ 0 → far' g wired u u_is waker (w.seen u) sends w i ≡ far_end g w u i
-  far_is i ne = λ k. record { port = far_port g u i; key = (port_at g u i).key; mark = (w.at (far g u i)).mark (far_port g u i); is = w.at (far g u i); seen = adds (w.seen (far g u i) (far_port g u i)) ((sends_one 0 (Connect 0)).none i ne k) }
+  far_is i ne = λ k. record (far_end g w u i) { seen = adds (seen_beyond g w u i) ((sends_one 0 (Connect 0)).none i ne k) }
 
   pub quits : (i : ℕ) → (w.at u).head.probe ≢ Some i
   quits i = not_some (w.at u).head.probe i fresh.probe
@@ -119,25 +135,41 @@ module _ (g : Network) (wired : IsWired g) (u : ℕ) (u_is : InNetwork g u) (w :
   still_fits i at' = record {
     tree = tree_woke (tree_end (end g w u i)) (tree_end (far_end g w u i)) (Some 0) fresh.level (fresh.marks i) (link i at').tree;
     search = search_woke (tree_end (end g w u i)) (tree_end (far_end g w u i)) (Some 0) fresh.level (fresh.marks i) (link i at').search fresh.best;
-    tests = tests_aside (test_end (end g w u i)) (test_end (far_end g w u i)) (w.at u).head.probe 0 (w.at u).head.name (quits i) (quits i) low (link i at').tests (link' i at').tests;
+    tests =
+        tests_aside (test_end (end g w u i)) (test_end (far_end g w u i)) (w.at u).head.probe 0 (w.at u).head.name (quits i) (quits i) low
+        (link i at').tests (link' i at').tests;
   }
 
   still_fits' : (i : ℕ) → At g u i → LinkFits (NamesOf g w) (far_end g w u i) (still i)
   still_fits' i at' = record {
     tree = tree_woke' (tree_end (end g w u i)) (tree_end (far_end g w u i)) (Some 0) fresh.level (fresh.marks i) (link' i at').tree;
     search = search_woke' (tree_end (end g w u i)) (tree_end (far_end g w u i)) (Some 0) fresh.level (fresh.marks i) (link' i at').search;
-    tests = tests_aside' (test_end (end g w u i)) (test_end (far_end g w u i)) (w.at u).head.probe 0 (w.at u).head.name (quits i) (quits i) low (link i at').tests (link' i at').tests;
+    tests =
+        tests_aside' (test_end (end g w u i)) (test_end (far_end g w u i)) (w.at u).head.probe 0 (w.at u).head.name (quits i) (quits i) low
+        (link i at').tests (link' i at').tests;
   }
 
-  pub near_fits : (i : ℕ) → At g u i → i ≢ 0 → LinkFits (NamesOf g w) (near' g wired u u_is waker (w.seen u) sends w i) (far' g wired u u_is waker (w.seen u) sends w i)
+  pub near_fits : (i : ℕ) →
+      At g u i →
+      i ≢ 0 →
+      LinkFits (NamesOf g w) (near' g wired u u_is waker (w.seen u) sends w i) (far' g wired u u_is waker (w.seen u) sends w i)
   near_fits i at' ne = subst₂ (LinkFits (NamesOf g w)) (sym (near_is i ne)) (sym (far_is i ne)) (still_fits i at')
 
-  pub far_fits : (i : ℕ) → At g u i → i ≢ 0 → LinkFits (NamesOf g w) (far' g wired u u_is waker (w.seen u) sends w i) (near' g wired u u_is waker (w.seen u) sends w i)
+  pub far_fits : (i : ℕ) →
+      At g u i →
+      i ≢ 0 →
+      LinkFits (NamesOf g w) (far' g wired u u_is waker (w.seen u) sends w i) (near' g wired u u_is waker (w.seen u) sends w i)
   far_fits i at' ne = subst₂ (LinkFits (NamesOf g w)) (sym (far_is i ne)) (sym (near_is i ne)) (still_fits' i at')
 
   pub node : NodeFits (length (g.ports u)) waker
   node = record {
-    own_ports = record { probe = fits.own_ports.probe; in_branch = fits.own_ports.in_branch; mark = λ p ne. ⊎_elim (λ (e : p ≡ 0). subst (λ y. y < length (g.ports u)) (sym e) at.port) (λ no. fits.own_ports.mark p (λ z. ne (put_other (w.at u).mark 0 p Branch no ∙ z))) (cases_eq p 0) };
+    own_ports = record {
+      probe = fits.own_ports.probe;
+      in_branch = fits.own_ports.in_branch;
+      mark = λ p ne. ⊎_elim (λ (e : p ≡ 0). subst (λ y. y < length (g.ports u)) (sym e) at.port)
+          (λ no. fits.own_ports.mark p (λ z. ne (put_other (w.at u).mark 0 p Branch no ∙ z)))
+          (cases_eq p 0);
+    };
     untouched = λ e. absurd (let z : Found ≡ Sleeping = e in cc);
     points = λ e lt. record { port = 0; up = refl; within = at.port; mark = put_same (w.at u).mark 0 Branch };
     idle = λ e. (fresh.probe, refl);
@@ -149,13 +181,27 @@ module _ (g : Network) (wired : IsWired g) (u : ℕ) (u_is : InNetwork g u) (w :
 
   -- nobody owes it a Report
   unowed : (i : ℕ) → At g u i → owes (end g w u i) (far_end g w u i) ≡ false
-  unowed i at' = ⊎_elim (λ z. absurd (let one = debt_one (end g w u i) (far_end g w u i) (λ y. let q = fresh.up in cc (q, y)) z in let n = fresh.find_count in omega (arith, one, term, all, n))) (λ z. z) (cases_Bool (owes (end g w u i) (far_end g w u i)))
+  unowed i at' =
+      ⊎_elim (λ z.
+      absurd (let one = debt_one (end g w u i) (far_end g w u i) (λ y. let q = fresh.up in cc (q, y)) z in
+      let n = fresh.find_count in omega (arith, one, term, all, n)))
+      (λ z. z) (cases_Bool (owes (end g w u i) (far_end g w u i)))
     where
       f : ℕ → ℕ
       f i = debt (end g w u i) (far_end g w u i)
 
       all : (w.at u).head.find_count ≡ sum_below (length (g.ports u)) f
-      all = holds.counted u is ∙ sum_same (length (g.ports u)) _ _ (λ i lt. let at'' : At g u i = record { some = u_is.some; node = u_is.node; port = lt } in ap (debt (end g w u i)) (λ k. record { port = far_port g u i; key = wired.same_key u i at'' k; mark = (w.at (far g u i)).mark (far_port g u i); is = w.at (far g u i); seen = w.seen (far g u i) (far_port g u i) }))
+      all =
+          holds.counted u is ∙
+          sum_same (length (g.ports u)) _ _ (λ i lt.
+          let at'' : At g u i = record { some = u_is.some; node = u_is.node; port = lt } in
+          ap (debt (end g w u i)) (λ k. record {
+            port = far_port g u i;
+            key = wired.same_key u i at'' k;
+            mark = (w.at (far g u i)).mark (far_port g u i);
+            is = w.at (far g u i);
+            seen = seen_beyond g w u i;
+          }))
 
       term : f i ≤ sum_below (length (g.ports u)) f
       term = term_le (length (g.ports u)) i f at'.port
@@ -165,20 +211,34 @@ module _ (g : Network) (wired : IsWired g) (u : ℕ) (u_is : InNetwork g u) (w :
   zeros (suc n) f h = let a = zeros n f (λ i lt. h i (omega arith)) in let b = h n (omega arith) in omega (arith, a, b)
 
   pub counted : DebtsCounted g sent
-  counted = sums_after g wired u u_is waker (w.seen u) sends w holds.counted (zeros (length (g.ports u)) _ (λ i lt. mine i (record { some = u_is.some; node = u_is.node; port = lt }))) theirs
+  counted =
+      sums_after g wired u u_is waker (w.seen u) sends w holds.counted
+      (zeros (length (g.ports u)) _ (λ i lt. mine i (record { some = u_is.some; node = u_is.node; port = lt }))) theirs
     where
-      mine : (i : ℕ) → At g u i → ◌≡◌ {A = ℕ} (debt (near' g wired u u_is waker (w.seen u) sends w i) (far' g wired u u_is waker (w.seen u) sends w i)) 0
-      mine i at' = ⊎_elim (λ (e : i ≡ 0). debt_up (near' g wired u u_is waker (w.seen u) sends w i) (far' g wired u u_is waker (w.seen u) sends w i) (ap Some (sym e))) (λ ne. ap₂ debt (near_is i ne) (far_is i ne) ∙ rw (unowed i at') (none (is_at (Some 0) i))) (cases_eq i 0)
+      mine : (i : ℕ) →
+          At g u i →
+          ◌≡◌ {A = ℕ} (debt (near' g wired u u_is waker (w.seen u) sends w i) (far' g wired u u_is waker (w.seen u) sends w i)) 0
+      mine i at' =
+          ⊎_elim (λ (e : i ≡ 0).
+          debt_up (near' g wired u u_is waker (w.seen u) sends w i) (far' g wired u u_is waker (w.seen u) sends w i) (ap Some (sym e)))
+          (λ ne. ap₂ debt (near_is i ne) (far_is i ne) ∙ rw (unowed i at') (none (is_at (Some 0) i)))
+          (cases_eq i 0)
         where
           none : (c : Bool) → ◌≡◌ {A = ℕ} (cond (not c && false) 1 0) 0
           none true = refl
           none false = refl
 
-      theirs : (i : ℕ) → At g u i → debt (far' g wired u u_is waker (w.seen u) sends w i) (near' g wired u u_is waker (w.seen u) sends w i) ≡ debt (far_end g w u i) (end g w u i)
+      theirs : (i : ℕ) →
+          At g u i →
+          debt (far' g wired u u_is waker (w.seen u) sends w i) (near' g wired u u_is waker (w.seen u) sends w i) ≡
+          debt (far_end g w u i) (end g w u i)
       theirs i at' = go (0 == i)
         where
-          go : (c : Bool) → debt (record (far_end g w u i) { seen = adds (w.seen (far g u i) (far_port g u i)) (cond c (Connect 0 ∷ []) []) }) (near' g wired u u_is waker (w.seen u) sends w i) ≡ debt (far_end g w u i) (end g w u i)
-          go true = rw (report_append (Connect 0) refl (w.seen (far g u i) (far_port g u i)).tree, sleeps) refl
+          go : (c : Bool) →
+              debt
+              (record (far_end g w u i) { seen = adds (seen_beyond g w u i) (cond c (Connect 0 ∷ []) []) })
+              (near' g wired u u_is waker (w.seen u) sends w i) ≡ debt (far_end g w u i) (end g w u i)
+          go true = rw (report_append (Connect 0) refl (seen_beyond g w u i).tree, sleeps) refl
           go false = rw sleeps refl
 
   pub unbranched : (p : ℕ) → is_branch ((w.at u).mark p) ≡ true → ⊥
@@ -186,16 +246,23 @@ module _ (g : Network) (wired : IsWired g) (u : ℕ) (u_is : InNetwork g u) (w :
 
   -- it is alone
   lonely : (t : ℕ) → InNetwork g t → (sent.at t).fragment ≡ (w.at u).fragment → t ≡ u
-  lonely t it e = ⊎_elim (λ z. z) (λ ne. holds.alone u t is it sleeps (ap (λ (m : Member). m.fragment) (sym (put_other w.at u t waker ne)) ∙ e)) (cases_eq t u)
+  lonely t it e =
+      ⊎_elim (λ z. z)
+      (λ ne. holds.alone u t is it sleeps (ap (λ (m : Member). m.fragment) (sym (put_other w.at u t waker ne)) ∙ e))
+      (cases_eq t u)
 
   pub quiet : Quiet g sent (w.at u).fragment
   quiet = record {
     found = λ t it e. subst (λ y. (sent.at y).head.phase ≡ Found) (sym (lonely t it e)) (ap (λ (m : Member). m.head.phase) (put_same w.at u waker));
-    uncalled = λ t p at' e. let z = lonely t (record { some = at'.some; node = at'.node }) e in subst (λ y. has_call (sent.seen y p).tree ≡ false) (sym z) (calm p (subst (λ y. At g y p) z at'));
+    uncalled = λ t p at' e.
+        let z = lonely t (record { some = at'.some; node = at'.node }) e in
+        subst (λ y. has_call (sent.seen y p).tree ≡ false) (sym z) (calm p (subst (λ y. At g y p) z at'));
   }
     where
       calm : (p : ℕ) → At g u p → has_call (sent.seen u p).tree ≡ false
-      calm p at' = ap (λ (s : Seen). has_call s.tree) (here_seen g wired u u_is.some u_is.node waker (w.seen u) sends w p) ∙ uncalled (tree_end (end g w u p)) (tree_end (far_end g w u p)) (Some 0) fresh.level (fresh.marks p) (link p at').tree (link' p at').tree
+      calm p at' =
+          ap (λ (s : Seen). has_call s.tree) (here_seen g wired u u_is.some u_is.node waker (w.seen u) sends w p) ∙
+          uncalled (tree_end (end g w u p)) (tree_end (far_end g w u p)) (Some 0) fresh.level (fresh.marks p) (link p at').tree (link' p at').tree
 
   pub no_root : (t p : ℕ) → At g t p → Root g (forest w) t p → (w.at t).fragment ≡ (w.at u).fragment → ⊥
   no_root t p at' r e = go (subst (λ y. Root g (forest w) y p) (holds.alone u t is (record { some = at'.some; node = at'.node }) sleeps e) r)
@@ -205,7 +272,10 @@ module _ (g : Network) (wired : IsWired g) (u : ℕ) (u_is : InNetwork g u) (w :
       go (Both_ways j h k) = unbranched p j.here
 
   -- over its least link a Connect has come in
-  pub wakes_meeting : Ground g → (w.at (far g u 0)).mark (far_port g u 0) ≡ Branch → Invariant g (meet g u 0 (acts g u (record (w.at u) { head = record (w.at u).head { level = 0; phase = Found; find_count = 0 }; mark = put (w.at u).mark 0 Branch; up = Some 0 }) (w.seen u) ((0, Connect 0) ∷ []) w))
+  pub wakes_meeting :
+      Ground g →
+      (w.at (far g u 0)).mark (far_port g u 0) ≡ Branch →
+      Invariant g (meet g u 0 (acts g u (awakened (w.at u)) (w.seen u) ((0, Connect 0) ∷ []) w))
   wakes_meeting ground came = meets g ground u u_is 0 at w holds woken_head (w.seen u) (record {
     node = node;
     found = refl;

@@ -52,8 +52,25 @@ module _ (g : Network) where
   node : (v : ℕ) → NodeFits (length (g.ports v)) (w.at v)
   unfolding w
   node v = record {
-    own_ports = record { probe = λ p e. cc; in_branch = λ p e. cc; mark = λ p ne. ⊎_elim (λ h. h) (λ h. absurd (ne (get_or_past (replicate (length (g.ports v)) Basic) p Rejected (rw (length-replicate (length (g.ports v)) Basic) h)))) (cases_lt p (length (g.ports v))) };
-    untouched = λ e. record { level = refl; name = refl; in_branch = refl; best = refl; probe = refl; find_count = refl; halted = refl; marks = λ p. none v p; up = refl; coming = refl };
+    own_ports = record {
+      probe = λ p e. cc;
+      in_branch = λ p e. cc;
+      mark = λ p ne. ⊎_elim (λ h. h)
+          (λ h. absurd (ne (get_or_past (replicate (length (g.ports v)) Basic) p Rejected (rw (length-replicate (length (g.ports v)) Basic) h))))
+          (cases_lt p (length (g.ports v)));
+    };
+    untouched = λ e. record {
+      level = refl;
+      name = refl;
+      in_branch = refl;
+      best = refl;
+      probe = refl;
+      find_count = refl;
+      halted = refl;
+      marks = λ p. none v p;
+      up = refl;
+      coming = refl;
+    };
     points = λ e. absurd (e refl);
     idle = λ e. (refl, refl);
     searching = λ e. cc;
@@ -65,9 +82,24 @@ module _ (g : Network) where
   link : (v p : ℕ) → At g v p → LinkFits (NamesOf g w) (end g w v p) (end g w (far g v p) (far_port g v p))
   unfolding w
   link v p at = record {
-    tree = record { out_connect = λ o. absurd (none v p o.here); silent = λ a b. refl; core_ends = λ j. absurd (none v p j.here); upward = λ c. absurd (none v p c.joins.here); downward = λ c. absurd (none v p c.joins.here); core_queues = λ c. absurd (none v p c.both.joins.here); moved_root = λ c. absurd (none v p c.both.joins.here) };
-    search = record { rejected_inside = λ e. absurd (basic_inside (length (g.ports v)) p at.port e); find_leads = λ k e. cc; find_reported = λ k e. cc };
-    tests = record { probing = λ e. cc; not_probing = λ e. record { accepts = refl; rejects = refl; one = omega arith; crossed = λ c. absurd (omega (arith, c)) } };
+    tree = record {
+      out_connect = λ o. absurd (none v p o.here);
+      silent = λ a b. refl;
+      core_ends = λ j. absurd (none v p j.here);
+      upward = λ c. absurd (none v p c.joins.here);
+      downward = λ c. absurd (none v p c.joins.here);
+      core_queues = λ c. absurd (none v p c.both.joins.here);
+      moved_root = λ c. absurd (none v p c.both.joins.here);
+    };
+    search = record {
+      rejected_inside = λ e. absurd (basic_inside (length (g.ports v)) p at.port e);
+      find_leads = λ k e. cc;
+      find_reported = λ k e. cc;
+    };
+    tests = record {
+      probing = λ e. cc;
+      not_probing = λ e. record { accepts = refl; rejects = refl; one = omega arith; crossed = λ c. absurd (omega (arith, c)) };
+    };
   }
 
   pub opening_holds : Invariant g (scene (opening g) opening_ghost)

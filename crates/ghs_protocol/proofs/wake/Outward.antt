@@ -8,8 +8,8 @@ use Rattle.ghs_node.specs.declared.message.Phase.TheVariants.{Sleeping, Found}
 use Rattle.ghs_node.specs.declared.message.Message.TheVariants.{Connect}
 use Rattle.ghs_node.specs.Words.{is_branch}
 use Rattle.ghs_protocol.specs.Network.{Network, port_at, At, far, far_port, IsWired, InNetwork}
-use Rattle.ghs_protocol.specs.Net.{put}
 use Rattle.ghs_protocol.proofs.clauses.Scene.{Seen, adds, Member, Scene, End, TreeEnd, end, tree_end, test_end, forest, acts, far_end}
+use Rattle.ghs_protocol.proofs.clauses.Changes.{seen_beyond, awakened}
 use Rattle.ghs_protocol.proofs.clauses.Nodes.{Untouched}
 use Rattle.ghs_protocol.proofs.clauses.TreeMessages.{Moved}
 use Rattle.ghs_protocol.proofs.clauses.Search.{LeadsOut, SearchFits}
@@ -28,7 +28,8 @@ use Rattle.ghs_protocol.proofs.root.Outward.{tree_connects, tree_connects', sear
 use Rattle.ghs_protocol.proofs.union.NewBranch.{Branches, link_named, fragment_was, coming_was, name_was, mark_else, mark_here, branch_grows, names_grow, alone_grown, named_grown, nodes_grown}
 use Rattle.ghs_protocol.proofs.wake.Inward.{waker, sent, is, fresh, link, link', near_fits, far_fits, node, counted, unbranched, no_root, quiet, quits, low, woke, tree_woke, tree_woke', search_woke, search_woke'}
 
-module _ (g : Network) (wired : IsWired g) (u : ℕ) (u_is : InNetwork g u) (w : Scene) (holds : Invariant g w) (at : At g u 0) (sleeps : (w.at u).head.phase ≡ Sleeping) (apart : (w.at (far g u 0)).mark (far_port g u 0) ≢ Branch) where
+module _ (g : Network) (wired : IsWired g) (u : ℕ) (u_is : InNetwork g u) (w : Scene) (holds : Invariant g w) (at : At g u 0)
+    (sleeps : (w.at u).head.phase ≡ Sleeping) (apart : (w.at (far g u 0)).mark (far_port g u 0) ≢ Branch) where
   abbrev awake : Member
   awake = waker g wired u u_is w holds at sleeps
 
@@ -39,7 +40,13 @@ module _ (g : Network) (wired : IsWired g) (u : ℕ) (u_is : InNetwork g u) (w :
   new = fresh g wired u u_is w holds at sleeps
 
   more : Branches (w.at u) (waker g wired u u_is w holds at sleeps) 0
-  more = record { fragment = refl; coming = refl; coming_name = refl; mark = put_same (w.at u).mark 0 Branch; marks = λ p ne. put_other (w.at u).mark 0 p Branch ne }
+  more = record {
+    fragment = refl;
+    coming = refl;
+    coming_name = refl;
+    mark = put_same (w.at u).mark 0 Branch;
+    marks = λ p ne. put_other (w.at u).mark 0 p Branch ne;
+  }
 
   mark_was : (t p : ℕ) → ((t ≡ u) × (p ≡ 0) → ⊥) → ((then).at t).mark p ≡ (w.at t).mark p
   mark_was t p off = mark_else g wired u u_is 0 at w holds awake (w.seen u) ((0, Connect 0) ∷ []) more t p off
@@ -59,7 +66,9 @@ module _ (g : Network) (wired : IsWired g) (u : ℕ) (u_is : InNetwork g u) (w :
 
   -- the far end of a link, where that is u's port 0
   back_false : (t p : ℕ) → At g t p → far g t p ≡ u → far_port g t p ≡ 0 → is_branch ((w.at t).mark p) ≡ false
-  back_false t p at' e h = subst₂ (λ y z. is_branch ((w.at y).mark z) ≡ false) (ap₂ (far g) (sym e) (sym h) ∙ wired.back t p at') (ap₂ (far_port g) (sym e) (sym h) ∙ wired.back_port t p at') (not_branch _ apart)
+  back_false t p at' e h =
+      subst₂ (λ y z. is_branch ((w.at y).mark z) ≡ false) (ap₂ (far g) (sym e) (sym h) ∙ wired.back t p at')
+      (ap₂ (far_port g) (sym e) (sym h) ∙ wired.back_port t p at') (not_branch _ apart)
 
   on_it : (t p : ℕ) → t ≡ u → p ≡ 0 → is_branch (((then).at (far g t p)).mark (far_port g t p)) ≡ false
   on_it t p e h = subst₂ (λ y z. is_branch (((then).at (far g y z)).mark (far_port g y z)) ≡ false) (sym e) (sym h) far_false
@@ -84,9 +93,15 @@ module _ (g : Network) (wired : IsWired g) (u : ℕ) (u_is : InNetwork g u) (w :
   turns = record {
     at = at;
     keeps = λ t p at' j. record { here = grows t p j.here; there = grows _ _ j.there };
-    only = λ t p at' j. let off = not_on t p j.there in let here : is_branch ((w.at t).mark p) ≡ true = sym (ap is_branch (mark_was t p off)) ∙ j.here in record { here = here; there = sym (ap is_branch (mark_was _ _ (not_back t p at' here))) ∙ j.there };
+    only = λ t p at' j.
+        let off = not_on t p j.there in
+        let here : is_branch ((w.at t).mark p) ≡ true = sym (ap is_branch (mark_was t p off)) ∙ j.here in
+        record { here = here; there = sym (ap is_branch (mark_was _ _ (not_back t p at' here))) ∙ j.there };
     out_keeps = λ t p at' h k. (grows t p h, ap is_branch (mark_was _ _ (not_back t p at' h)) ∙ k);
-    out_only = λ t p at' h k. ⊎_elim (λ e. ⊎_elim (λ z. inl (e, z)) (λ ne. inr (sym (ap is_branch (mark_was t p (λ z. ne z.1))) ∙ h, shrinks _ _ k)) (cases_eq p 0)) (λ ne. inr (sym (ap is_branch (mark_was t p (λ z. ne z.0))) ∙ h, shrinks _ _ k)) (cases_eq t u);
+    out_only = λ t p at' h k. ⊎_elim
+        (λ e. ⊎_elim (λ z. inl (e, z)) (λ ne. inr (sym (ap is_branch (mark_was t p (λ z. ne z.1))) ∙ h, shrinks _ _ k)) (cases_eq p 0))
+        (λ ne. inr (sym (ap is_branch (mark_was t p (λ z. ne z.0))) ∙ h, shrinks _ _ k))
+        (cases_eq t u);
     led = λ p at' j. absurd (unbranched g wired u u_is w holds at sleeps p j.here);
     old = λ t p at' r e. absurd (no_root g wired u u_is w holds at sleeps t p at' r e);
     root = Goes_out here_true far_false;
@@ -97,8 +112,13 @@ module _ (g : Network) (wired : IsWired g) (u : ℕ) (u_is : InNetwork g u) (w :
 
   forest_is : forest (then) ≡ turning (forest w) u 0 (λ t p. is_branch (((then).at t).mark p))
   forest_is =
-      λ i. record
-      { branch = λ t p. is_branch (((then).at t).mark p); fragment = fun_ext fragments i; coming = fun_ext (λ t. coming_was g wired u u_is 0 at w holds awake (w.seen u) ((0, Connect 0) ∷ []) more t) i; coming_name = fun_ext (λ t. name_was g wired u u_is 0 at w holds awake (w.seen u) ((0, Connect 0) ∷ []) more t) i; up = fun_ext (put_field (λ (m : Member). m.up) w.at u awake) i }
+      λ i. record {
+        branch = λ t p. is_branch (((then).at t).mark p);
+        fragment = fun_ext fragments i;
+        coming = fun_ext (λ t. coming_was g wired u u_is 0 at w holds awake (w.seen u) ((0, Connect 0) ∷ []) more t) i;
+        coming_name = fun_ext (λ t. name_was g wired u u_is 0 at w holds awake (w.seen u) ((0, Connect 0) ∷ []) more t) i;
+        up = fun_ext (put_field (λ (m : Member). m.up) w.at u awake) i;
+      }
 
   trees : ForestFits g (forest (then))
   trees = subst (ForestFits g) (sym forest_is) (forest_turn g wired (forest w) u 0 (λ t p. is_branch (((then).at t).mark p)) turns holds.trees)
@@ -111,10 +131,12 @@ module _ (g : Network) (wired : IsWired g) (u : ℕ) (u_is : InNetwork g u) (w :
   sender = record { port = 0; key = (port_at g u 0).key; mark = Branch; is = awake; seen = w.seen u 0 }
 
   abbrev pub receiver : End
-  receiver = record (far_end g w u 0) { seen = record (w.seen (far g u 0) (far_port g u 0)) { tree = (w.seen (far g u 0) (far_port g u 0)).tree ++ Connect 0 ∷ [] } }
+  receiver = record (far_end g w u 0) { seen = record (seen_beyond g w u 0) { tree = (seen_beyond g w u 0).tree ++ Connect 0 ∷ [] } }
 
   alone : (w.at (far g u 0)).fragment ≢ (w.at u).fragment
-  alone same = let t = wired.there u 0 at in not_u (holds.alone u (far g u 0) (is g wired u u_is w holds at sleeps) (record { some = t.some; node = t.node }) sleeps same)
+  alone same =
+      let t = wired.there u 0 at in
+      not_u (holds.alone u (far g u 0) (is g wired u u_is w holds at sleeps) (record { some = t.some; node = t.node }) sleeps same)
 
   out : LeadsOut (woke (tree_end (end g w u 0)) (Some 0)) (tree_end (far_end g w u 0)) (port_at g u 0).key
   out = record { key = refl; apart = alone; higher = omega arith }
@@ -138,15 +160,27 @@ module _ (g : Network) (wired : IsWired g) (u : ℕ) (u_is : InNetwork g u) (w :
         (new.marks 0) apart out (sym new.coming) searches searches'
         (tree_woke (tree_end (end g w u 0)) (tree_end (far_end g w u 0)) (Some 0) new.level (new.marks 0) fit.tree)
         (tree_woke' (tree_end (end g w u 0)) (tree_end (far_end g w u 0)) (Some 0) new.level (new.marks 0) fit'.tree);
-    search = search_connects (woke (tree_end (end g w u 0)) (Some 0)) (tree_end (far_end g w u 0)) (port_at g u 0).key (new.marks 0) apart out (sym new.coming) searches searches';
-    tests = tests_branch _ _ (tests_aside (test_end (end g w u 0)) (test_end (far_end g w u 0)) (w.at u).head.probe 0 (w.at u).head.name (quits g wired u u_is w holds at sleeps 0) (quits g wired u u_is w holds at sleeps 0) (low g wired u u_is w holds at sleeps) fit.tests fit'.tests);
+    search =
+        search_connects (woke (tree_end (end g w u 0)) (Some 0)) (tree_end (far_end g w u 0)) (port_at g u 0).key (new.marks 0) apart out
+        (sym new.coming) searches searches';
+    tests =
+        tests_branch _ _ (tests_aside (test_end (end g w u 0)) (test_end (far_end g w u 0)) (w.at u).head.probe 0 (w.at u).head.name
+        (quits g wired u u_is w holds at sleeps 0) (quits g wired u u_is w holds at sleeps 0) (low g wired u u_is w holds at sleeps) fit.tests
+        fit'.tests);
   }
 
   connect_fits' : LinkFits (NamesOf g w) receiver sender
   connect_fits' = record {
-    tree = tree_connects' (woke (tree_end (end g w u 0)) (Some 0)) (tree_end (far_end g w u 0)) (port_at g u 0).key (new.marks 0) apart out (sym new.coming) searches searches';
-    search = search_connects' (woke (tree_end (end g w u 0)) (Some 0)) (tree_end (far_end g w u 0)) (port_at g u 0).key (new.marks 0) apart out (sym new.coming) searches searches';
-    tests = tests_branch' _ _ (tests_aside' (test_end (end g w u 0)) (test_end (far_end g w u 0)) (w.at u).head.probe 0 (w.at u).head.name (quits g wired u u_is w holds at sleeps 0) (quits g wired u u_is w holds at sleeps 0) (low g wired u u_is w holds at sleeps) fit.tests fit'.tests);
+    tree =
+        tree_connects' (woke (tree_end (end g w u 0)) (Some 0)) (tree_end (far_end g w u 0)) (port_at g u 0).key (new.marks 0) apart out
+        (sym new.coming) searches searches';
+    search =
+        search_connects' (woke (tree_end (end g w u 0)) (Some 0)) (tree_end (far_end g w u 0)) (port_at g u 0).key (new.marks 0) apart out
+        (sym new.coming) searches searches';
+    tests =
+        tests_branch' _ _ (tests_aside' (test_end (end g w u 0)) (test_end (far_end g w u 0)) (w.at u).head.probe 0 (w.at u).head.name
+        (quits g wired u u_is w holds at sleeps 0) (quits g wired u u_is w holds at sleeps 0) (low g wired u u_is w holds at sleeps) fit.tests
+        fit'.tests);
   }
 
   sender_is : near' g wired u u_is awake (w.seen u) ((0, Connect 0) ∷ []) w 0 ≡ sender
@@ -155,52 +189,105 @@ module _ (g : Network) (wired : IsWired g) (u : ℕ) (u_is : InNetwork g u) (w :
   named : (a : ℕ) (k : Key) → NamesOf g w a k → NamesOf g (then) a k
   named a k z = names_grow g wired u u_is 0 at w holds awake (w.seen u) ((0, Connect 0) ∷ []) more a k z
 
-  near : (i : ℕ) → At g u i → LinkFits (NamesOf g w) (near' g wired u u_is awake (w.seen u) ((0, Connect 0) ∷ []) w i) (far' g wired u u_is awake (w.seen u) ((0, Connect 0) ∷ []) w i)
-  near i at' = ⊎_elim (λ (z : i ≡ 0). subst (λ y. LinkFits (NamesOf g w) (near' g wired u u_is awake (w.seen u) ((0, Connect 0) ∷ []) w y) (far' g wired u u_is awake (w.seen u) ((0, Connect 0) ∷ []) w y)) (sym z) (subst (λ y. LinkFits (NamesOf g w) y receiver) (sym sender_is) connect_fits)) (λ ne. near_fits g wired u u_is w holds at sleeps i at' ne) (cases_eq i 0)
+  near : (i : ℕ) →
+      At g u i →
+      LinkFits (NamesOf g w) (near' g wired u u_is awake (w.seen u) ((0, Connect 0) ∷ []) w i)
+      (far' g wired u u_is awake (w.seen u) ((0, Connect 0) ∷ []) w i)
+  near i at' =
+      ⊎_elim (λ (z : i ≡ 0).
+      subst (λ y.
+      LinkFits (NamesOf g w) (near' g wired u u_is awake (w.seen u) ((0, Connect 0) ∷ []) w y)
+      (far' g wired u u_is awake (w.seen u) ((0, Connect 0) ∷ []) w y))
+      (sym z)
+      (subst (λ y. LinkFits (NamesOf g w) y receiver) (sym sender_is) connect_fits))
+      (λ ne. near_fits g wired u u_is w holds at sleeps i at' ne)
+      (cases_eq i 0)
 
-  away : (i : ℕ) → At g u i → LinkFits (NamesOf g w) (far' g wired u u_is awake (w.seen u) ((0, Connect 0) ∷ []) w i) (near' g wired u u_is awake (w.seen u) ((0, Connect 0) ∷ []) w i)
-  away i at' = ⊎_elim (λ (z : i ≡ 0). subst (λ y. LinkFits (NamesOf g w) (far' g wired u u_is awake (w.seen u) ((0, Connect 0) ∷ []) w y) (near' g wired u u_is awake (w.seen u) ((0, Connect 0) ∷ []) w y)) (sym z) (subst (λ y. LinkFits (NamesOf g w) receiver y) (sym sender_is) connect_fits')) (λ ne. far_fits g wired u u_is w holds at sleeps i at' ne) (cases_eq i 0)
+  away : (i : ℕ) →
+      At g u i →
+      LinkFits (NamesOf g w) (far' g wired u u_is awake (w.seen u) ((0, Connect 0) ∷ []) w i)
+      (near' g wired u u_is awake (w.seen u) ((0, Connect 0) ∷ []) w i)
+  away i at' =
+      ⊎_elim (λ (z : i ≡ 0).
+      subst (λ y.
+      LinkFits (NamesOf g w) (far' g wired u u_is awake (w.seen u) ((0, Connect 0) ∷ []) w y)
+      (near' g wired u u_is awake (w.seen u) ((0, Connect 0) ∷ []) w y))
+      (sym z)
+      (subst (λ y. LinkFits (NamesOf g w) receiver y) (sym sender_is) connect_fits'))
+      (λ ne. far_fits g wired u u_is w holds at sleeps i at' ne)
+      (cases_eq i 0)
 
   links : (t p : ℕ) → At g t p → LinkFits (NamesOf g (then)) (end g (then) t p) (end g (then) (far g t p) (far_port g t p))
-  links = acts_keeps g wired u u_is.some u_is.node awake (w.seen u) ((0, Connect 0) ∷ []) w (LinkFits (NamesOf g (then))) (λ t p at'. link_named (NamesOf g w) (NamesOf g (then)) _ _ (λ k z. named _ k z) (holds.links t p at')) (λ i at'. link_named (NamesOf g w) (NamesOf g (then)) _ _ (λ k z. named _ k z) (near i at')) (λ i at'. link_named (NamesOf g w) (NamesOf g (then)) _ _ (λ k z. named _ k z) (away i at'))
+  links =
+      acts_keeps g wired u u_is.some u_is.node awake (w.seen u) ((0, Connect 0) ∷ []) w (LinkFits (NamesOf g (then)))
+      (λ t p at'. link_named (NamesOf g w) (NamesOf g (then)) _ _ (λ k z. named _ k z) (holds.links t p at'))
+      (λ i at'. link_named (NamesOf g w) (NamesOf g (then)) _ _ (λ k z. named _ k z) (near i at'))
+      (λ i at'. link_named (NamesOf g w) (NamesOf g (then)) _ _ (λ k z. named _ k z) (away i at'))
 
   -- fragments at rest
   quiet_else : (t : ℕ) → InNetwork g t → t ≢ u → Quiet g w (w.at t).fragment → Quiet g (then) ((then).at t).fragment
-  quiet_else t it ne q = subst (Quiet g (then)) (sym (fragments t)) (quiet_after g wired u u_is awake (w.seen u) ((0, Connect 0) ∷ []) w (w.at t).fragment q (λ z. absurd (other z)) (λ i at' z. absurd (other z)) (λ i at' z. calls (w.seen (far g u i) (far_port g u i)) i ∙ q.uncalled _ _ (wired.there u i at') z))
+  quiet_else t it ne q =
+      subst (Quiet g (then)) (sym (fragments t))
+      (quiet_after g wired u u_is awake (w.seen u) ((0, Connect 0) ∷ []) w (w.at t).fragment q (λ z. absurd (other z))
+      (λ i at' z. absurd (other z))
+      (λ i at' z. calls (seen_beyond g w u i) i ∙ q.uncalled _ _ (wired.there u i at') z))
     where
       other : (w.at u).fragment ≢ (w.at t).fragment
       other z = ne (holds.alone u t (is g wired u u_is w holds at sleeps) it sleeps (sym z))
 
       calls : (s : Seen) (i : ℕ) → has_call (adds s (sent_on ((0, Connect 0) ∷ []) i)).tree ≡ has_call s.tree
-      calls s i = elim (0 == i) as (λ c. has_call (adds s (Rattle.std.proofs.Common.cond c (Connect 0 ∷ []) [])).tree ≡ has_call s.tree) [ true ↦ call_append (Connect 0) refl s.tree | false ↦ refl ]
+      calls s i =
+          elim (0 == i) as
+          (λ c. has_call (adds s (Rattle.std.proofs.Common.cond c (Connect 0 ∷ []) [])).tree ≡ has_call s.tree)
+          [ true ↦ call_append (Connect 0) refl s.tree | false ↦ refl ]
 
   up_else : (t : ℕ) → t ≢ u → ((then).at t).up ≡ (w.at t).up
   up_else t ne = ap (λ (m : Member). m.up) (put_other w.at u t awake ne)
 
   resting : Resting g (then)
   resting = record {
-    out = λ t p at' o. ⊎_elim (λ z. rest_here t z) (λ ne. quiet_else t (record { some = at'.some; node = at'.node }) ne (holds.resting.out t p at' (record { here = sym (mark_was t p (λ z. ne z.0)) ∙ o.here; there = λ z. o.there (branch_mark _ (grows _ _ (ap is_branch z))) }))) (cases_eq t u);
+    out = λ t p at' o. ⊎_elim (λ z. rest_here t z) (λ ne.
+        quiet_else t (record { some = at'.some; node = at'.node }) ne
+        (holds.resting.out t p at'
+        (record { here = sym (mark_was t p (λ z. ne z.0)) ∙ o.here; there = λ z. o.there (branch_mark _ (grows _ _ (ap is_branch z))) })))
+        (cases_eq t u);
     moved = λ t p at' m. moved t p at' m;
   }
     where
       rest_here : (t : ℕ) → t ≡ u → Quiet g (then) ((then).at t).fragment
-      rest_here t z = subst (λ y. Quiet g (then) ((then).at y).fragment) (sym z) (subst (Quiet g (then)) (sym (fragments u)) (quiet g wired u u_is w holds at sleeps))
+      rest_here t z =
+          subst (λ y. Quiet g (then) ((then).at y).fragment) (sym z)
+          (subst (Quiet g (then)) (sym (fragments u)) (quiet g wired u u_is w holds at sleeps))
 
-      moved : (t p : ℕ) → At g t p → Moved (tree_end (end g (then) t p)) (tree_end (end g (then) (far g t p) (far_port g t p))) → Quiet g (then) ((then).at t).fragment
+      moved : (t p : ℕ) →
+          At g t p →
+          Moved (tree_end (end g (then) t p)) (tree_end (end g (then) (far g t p) (far_port g t p))) →
+          Quiet g (then) ((then).at t).fragment
       moved t p at' m =
           quiet_else t (record { some = at'.some; node = at'.node }) here
-          (holds.resting.moved t p at' (record { both = record { joins = record { here = branch_mark _ old.here; there = branch_mark _ old.there }; up = sym (up_else t here) ∙ m.both.up; up_beyond = sym (up_else _ there) ∙ m.both.up_beyond }; unnamed = λ z. m.unnamed (name_was g wired u u_is 0 at w holds awake (w.seen u) ((0, Connect 0) ∷ []) more t ∙ z) }))
+          (holds.resting.moved t p at' (record {
+            both = record {
+              joins = record { here = branch_mark _ old.here; there = branch_mark _ old.there };
+              up = sym (up_else t here) ∙ m.both.up;
+              up_beyond = sym (up_else _ there) ∙ m.both.up_beyond;
+            };
+            unnamed = λ z. m.unnamed (name_was g wired u u_is 0 at w holds awake (w.seen u) ((0, Connect 0) ∷ []) more t ∙ z);
+          }))
         where
           old : IsJoinedIn g (forest w) t p
-          old = let z = turns.only t p at' (record { here = ap is_branch m.both.joins.here; there = ap is_branch m.both.joins.there }) in record { here = z.here; there = z.there }
+          old =
+              let z = turns.only t p at' (record { here = ap is_branch m.both.joins.here; there = ap is_branch m.both.joins.there }) in
+              record { here = z.here; there = z.there }
 
           here : t ≢ u
           here z = unbranched g wired u u_is w holds at sleeps p (subst (λ y. is_branch ((w.at y).mark p) ≡ true) z old.here)
 
           there : far g t p ≢ u
-          there z = unbranched g wired u u_is w holds at sleeps (far_port g t p) (subst (λ y. is_branch ((w.at y).mark (far_port g t p)) ≡ true) z old.there)
+          there z =
+              unbranched g wired u u_is w holds at sleeps (far_port g t p)
+              (subst (λ y. is_branch ((w.at y).mark (far_port g t p)) ≡ true) z old.there)
 
-  pub wakes_out : Invariant g (acts g u (record (w.at u) { head = record (w.at u).head { level = 0; phase = Found; find_count = 0 }; mark = put (w.at u).mark 0 Branch; up = Some 0 }) (w.seen u) ((0, Connect 0) ∷ []) w)
+  pub wakes_out : Invariant g (acts g u (awakened (w.at u)) (w.seen u) ((0, Connect 0) ∷ []) w)
   wakes_out = record {
     nodes = nodes_grown g wired u u_is 0 at w holds awake (w.seen u) ((0, Connect 0) ∷ []) more (node g wired u u_is w holds at sleeps);
     trees = trees;

@@ -2,11 +2,12 @@
 use Rattle.std.proofs.Common.{◌≡◌, ◌≢◌, ℕ, suc, ◌<◌, Some, [], ◌∷◌, refl, sym, ◌∙◌, subst, ⊎_elim, ◌⊎◌, arith, inl}
 use Rattle.ghs_node.specs.declared.mark.Mark.TheVariants.{Branch}
 use Rattle.ghs_node.specs.Words.{Outgoing}
-use Rattle.ghs_node.specs.declared.message.Phase.TheVariants.{Sleeping, Found}
+use Rattle.ghs_node.specs.declared.message.Phase.TheVariants.{Sleeping}
 use Rattle.ghs_node.specs.declared.message.Message.TheVariants.{Connect}
 use Rattle.ghs_protocol.specs.Network.{Network, port_at, At, far, far_port, IsWired, InNetwork}
 use Rattle.ghs_protocol.specs.Net.{put}
 use Rattle.ghs_protocol.proofs.clauses.Scene.{Member, Scene, tree_end, end, acts, far_end}
+use Rattle.ghs_protocol.proofs.clauses.Changes.{awakened}
 use Rattle.ghs_protocol.proofs.clauses.TreeMessages.{ConnectUnderWay}
 use Rattle.ghs_protocol.proofs.clauses.Nodes.{Untouched}
 use Rattle.ghs_protocol.proofs.clauses.Wiring.{Ground}
@@ -21,15 +22,16 @@ use Rattle.ghs_protocol.proofs.wake.Inward.{wakes_meeting}
 use Rattle.ghs_protocol.proofs.tests.UnderWay.{touches_lives, near_asks, far_asks}
 use Rattle.ghs_protocol.proofs.union.UnderWay.{no_name, united_lives}
 
-module _ (g : Network) (wired : IsWired g) (u : ℕ) (u_is : InNetwork g u) (w : Scene) (holds : Invariant g w) (lives : Lives g w) (at : At g u 0) (sleeps : (w.at u).head.phase ≡ Sleeping) where
+module _ (g : Network) (wired : IsWired g) (u : ℕ) (u_is : InNetwork g u) (w : Scene) (holds : Invariant g w) (lives : Lives g w)
+    (at : At g u 0) (sleeps : (w.at u).head.phase ≡ Sleeping) where
   abbrev x : Member
-  x = record (w.at u) { head = record (w.at u).head { level = 0; phase = Found; find_count = 0 }; mark = put (w.at u).mark 0 Branch; up = Some 0 }
+  x = awakened (w.at u)
 
   abbrev ss : Outgoing
   ss = (0, Connect 0) ∷ []
 
   abbrev woken : Scene
-  woken = acts g u (record (w.at u) { head = record (w.at u).head { level = 0; phase = Found; find_count = 0 }; mark = put (w.at u).mark 0 Branch; up = Some 0 }) (w.seen u) ((0, Connect 0) ∷ []) w
+  woken = acts g u (awakened (w.at u)) (w.seen u) ((0, Connect 0) ∷ []) w
 
   is : InNetwork g u
   is = u_is
@@ -42,17 +44,26 @@ module _ (g : Network) (wired : IsWired g) (u : ℕ) (u_is : InNetwork g u) (w :
 
   -- no node is a child over the link, and it hasn't the coming name
   woken_lives :
-      ((w.at (far g u 0)).mark (far_port g u 0) ≡ Branch → (w.at (far g u 0)).up ≡ Some (far_port g u 0)) → ((w.at (far g u 0)).mark (far_port g u 0) ≡ Branch → (w.at u).coming_name ≢ Some (port_at g u 0).key) →
+      ((w.at (far g u 0)).mark (far_port g u 0) ≡ Branch → (w.at (far g u 0)).up ≡ Some (far_port g u 0)) →
+      ((w.at (far g u 0)).mark (far_port g u 0) ≡ Branch → (w.at u).coming_name ≢ Some (port_at g u 0).key) →
       ((w.at (far g u 0)).mark (far_port g u 0) ≡ Branch → (w.at (far g u 0)).coming_name ≢ Some (port_at g u 0).key) → Lives g woken
   woken_lives unchild unnamed unnamed' =
       subst (λ q. Lives g (acts g u x q ss w)) (put_again (w.seen u) 0)
-      (touches_lives g wired u u_is x 0 at (w.seen u 0) (Connect 0 ∷ []) ss (sends_one 0 (Connect 0)) w lives
-      (near_asks g wired u u_is 0 at w holds lives 0 at, far_asks g wired u u_is 0 at w holds lives 0 at, (λ i at' ne. near_asks g wired u u_is 0 at w holds lives i at'), (λ i at' ne. far_asks g wired u u_is 0 at w holds lives i at'))
-      ((λ c. absurd (c.3 (unchild c.1))), (λ c. absurd (c.3 refl)), (λ i at' ne c. absurd (plain i ne c.0)), (λ i at' ne c. absurd (plain i ne c.1)))
-      ((λ c. absurd (unnamed c.1 c.4)), (λ c. absurd (unnamed' c.0 c.4)), (λ i at' ne c. absurd (plain i ne c.0)), (λ i at' ne c. absurd (plain i ne c.1))))
+      (touches_lives g wired u u_is x 0 at (w.seen u 0) (Connect 0 ∷ []) ss (sends_one 0 (Connect 0)) w lives (
+        near_asks g wired u u_is 0 at w holds lives 0 at,
+        far_asks g wired u u_is 0 at w holds lives 0 at,
+        (λ i at' ne. near_asks g wired u u_is 0 at w holds lives i at'),
+        (λ i at' ne. far_asks g wired u u_is 0 at w holds lives i at'),
+      )
+      ((λ c. absurd (c.3 (unchild c.1))), (λ c. absurd (c.3 refl)), (λ i at' ne c. absurd (plain i ne c.0)), (λ i at' ne c. absurd (plain i ne c.1))) (
+        (λ c. absurd (unnamed c.1 c.4)),
+        (λ c. absurd (unnamed' c.0 c.4)),
+        (λ i at' ne c. absurd (plain i ne c.0)),
+        (λ i at' ne c. absurd (plain i ne c.1)),
+      ))
 
   -- nobody has connected over the link
-  pub wakes_out_lives : (w.at (far g u 0)).mark (far_port g u 0) ≢ Branch → Lives g (acts g u (record (w.at u) { head = record (w.at u).head { level = 0; phase = Found; find_count = 0 }; mark = put (w.at u).mark 0 Branch; up = Some 0 }) (w.seen u) ((0, Connect 0) ∷ []) w)
+  pub wakes_out_lives : (w.at (far g u 0)).mark (far_port g u 0) ≢ Branch → Lives g (acts g u (awakened (w.at u)) (w.seen u) ((0, Connect 0) ∷ []) w)
   wakes_out_lives free = woken_lives (λ e. absurd (free e)) (λ e. absurd (free e)) (λ e. absurd (free e))
 
   -- the far end's Connect has come in
@@ -66,7 +77,10 @@ module _ (g : Network) (wired : IsWired g) (u : ℕ) (u_is : InNetwork g u) (w :
     level_is : (t : ℕ) → (woken.at t).head.level ≡ (w.at t).head.level
     level_is t = put_alike (λ (m : Member). m.head.level) w.at u x (sym fresh.level) t
 
-    low : (t : ℕ) → InNetwork g t → ((woken.at t).fragment ≡ (woken.at (far g u 0)).fragment) ⊎ ((woken.at t).fragment ≡ (woken.at u).fragment) → (woken.at t).head.level < suc (woken.at u).head.level
+    low : (t : ℕ) →
+        InNetwork g t →
+        ((woken.at t).fragment ≡ (woken.at (far g u 0)).fragment) ⊎ ((woken.at t).fragment ≡ (woken.at u).fragment) →
+        (woken.at t).head.level < suc (woken.at u).head.level
     low t it i =
         let a = level_is t in
         let c = level_is u in
@@ -76,13 +90,19 @@ module _ (g : Network) (wired : IsWired g) (u : ℕ) (u_is : InNetwork g u) (w :
         let o = fresh.level in
         let q = fresh.coming in
         ⊎_elim
-        (λ s. let z = (holds.trees.by_fragment t (far g u 0) (sym (fragment_is t) ∙ s ∙ fragment_is (far g u 0))).0 in omega (arith, a, c, d, f, h, z, o))
+        (λ s.
+        let z = (holds.trees.by_fragment t (far g u 0) (sym (fragment_is t) ∙ s ∙ fragment_is (far g u 0))).0 in
+        omega (arith, a, c, d, f, h, z, o))
         (λ s. let z = (holds.trees.by_fragment t u (sym (fragment_is t) ∙ s ∙ fragment_is u)).0 in omega (arith, a, c, d, z, o, q)) i
 
     woken_met : Lives g woken
     woken_met =
         woken_lives (λ e. came.up) (λ e. no_name g ground.keyed w holds u 0 at (fresh.marks 0) u is)
-        (λ e. no_name g ground.keyed w holds u 0 at (fresh.marks 0) (far g u 0) (let z = wired.there u 0 at in record { some = z.some; node = z.node }))
+        (λ e.
+        no_name g ground.keyed w holds u 0 at (fresh.marks 0) (far g u 0)
+        (let z = wired.there u 0 at in record { some = z.some; node = z.node }))
 
-    pub wakes_meeting_lives : Lives g (meet g u 0 (acts g u (record (w.at u) { head = record (w.at u).head { level = 0; phase = Found; find_count = 0 }; mark = put (w.at u).mark 0 Branch; up = Some 0 }) (w.seen u) ((0, Connect 0) ∷ []) w))
-    wakes_meeting_lives = united_lives g woken woken_met (woken.at (far g u 0)).fragment (woken.at u).fragment (suc (woken.at u).head.level) (Some (port_at g u 0).key) (λ t it i. inl (low t it i)) (wakes_meeting g wired u u_is w holds at sleeps ground met)
+    pub wakes_meeting_lives : Lives g (meet g u 0 (acts g u (awakened (w.at u)) (w.seen u) ((0, Connect 0) ∷ []) w))
+    wakes_meeting_lives =
+        united_lives g woken woken_met (woken.at (far g u 0)).fragment (woken.at u).fragment (suc (woken.at u).head.level)
+        (Some (port_at g u 0).key) (λ t it i. inl (low t it i)) (wakes_meeting g wired u u_is w holds at sleeps ground met)
