@@ -3,6 +3,7 @@ mod Firsts
 mod Going
 mod Keeping
 mod Listing
+mod Ranks
 mod Reacting
 mod Staying
 mod Waiting

@@ -1,6 +1,6 @@
 -- The events of a network in order, and those that may be checked out.
 use Rattle.std.specs.Prelude.{ℕ, zero, suc, ◌+◌, ◌-◌, Option, Bool, ◌&&◌, not, List, [], ◌∷◌, ◌++◌, length, filter}
-use Rattle.std.specs.List.{list_any, find}
+use Rattle.std.specs.List.{list_any, find, range_with_len}
 use Rattle.ghs_protocol.specs.declared.event.Event.{Event}
 use Rattle.ghs_protocol.specs.declared.event.Event.TheVariants.{Wake, Take}
 use Rattle.ghs_protocol.specs.Network.{Network}
@@ -50,3 +50,7 @@ next_of s v from = find (is_ready s) (in_turn (network s.net) v from)
 -- one of node v's events may be checked out: it is at home, and one of its events may happen
 abbrev pub has_ready : WorldState → ℕ → Bool
 has_ready s v = not (is_out s.outs v) && list_any (may_happen s) (node_events (network s.net) v)
+
+-- the first node from one on, else from node 1 on, one of whose events may be checked out
+unfoldable pub next_node_of : WorldState → ℕ → Option ℕ
+next_node_of s from = find (has_ready s) (range_with_len from (s.net.graph.nodes + 1 - from) ++ range_with_len 1 s.net.graph.nodes)

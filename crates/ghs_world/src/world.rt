@@ -1,8 +1,8 @@
 //! The world.
 ghost use Rattle.std.specs.Prelude.{◌≡◌, ◌↔◌, ◌≤◌, ◌+◌, ◌-◌, ◌^◌, [], length, filter, IfOk, IfErr, OnOk, OnErr, IsTrue, Some, true};
-ghost use Rattle.std.specs.List.{list_any, find};
+ghost use Rattle.std.specs.List.{list_any, find, range_with_len};
 ghost use Rattle.ghs_node.specs.Rows.{Row};
-ghost use Rattle.ghs_world.specs.Ready.{node_events, has_ready, is_ready, next_of, takes};
+ghost use Rattle.ghs_world.specs.Ready.{node_events, has_ready, is_ready, next_of, next_node_of, takes};
 ghost use Rattle.ghs_world.specs.Steps.{Commits, Makes, LeavesOthers, AreReadyOf, HasAllRoused, RefusesStep, IsSameWorld, HasEach, touched};
 ghost use Rattle.ghs_graph.specs.Graph.{IsGraph};
 ghost use Rattle.ghs_graph.specs.Ports.{ports_of};
@@ -209,6 +209,29 @@ impl World {
         for port in low..self.net.graph().ports(v).len() as u32 {
             if self.net.lawful(Event::Take(v, port)) {
                 return Some(Event::Take(v, port));
+            }
+        }
+        None
+    }
+
+    /// The first node from `from` on, else from node 1 on, one of whose events may be checked out, turns and memory
+    /// aside. There is no node 0, and none above the nodes of the graph.
+    pub fn next_node(&self, from: u32) -> Option<u32>
+        ensures { result ≡ next_node_of self.now from }
+    {
+        match self.first_node(from) {
+            Some(v) => Some(v),
+            None => self.first_node(1),
+        }
+    }
+
+    // The first node from a number on one of whose events may be checked out.
+    fn first_node(&self, low: u32) -> Option<u32>
+        ensures { result ≡ find (has_ready self.now) (range_with_len low (self.now.net.graph.nodes + 1 - low)) }
+    {
+        for v in low..self.graph().nodes() + 1 {
+            if self.has_ready(v) {
+                return Some(v);
             }
         }
         None
