@@ -28,10 +28,6 @@ left_rejects w u j r = put (w.seen u) j (record (w.seen u j) { rejects = r })
 abbrev pub seen_beyond : Network → Scene → ℕ → ℕ → Seen
 seen_beyond g w v p = w.seen (far g v p) (far_port g v p)
 
--- the end at port p of v, where v is m and q is read there
-abbrev pub end_with : Network → ℕ → ℕ → Member → Seen → End
-end_with g v p m q = record { port = p; key = (port_at g v p).key; mark = m.mark p; is = m; seen = q }
-
 -- a Basic mark turns Rejected
 abbrev pub rejected : Mark → Mark
 rejected Basic = Rejected

@@ -3,6 +3,7 @@ use Rattle.std.specs.Prelude.{◌⊎◌, ◌≡◌, ◌≢◌, ℕ, ◌^◌, ◌
 use Rattle.ghs_graph.specs.declared.key.Key.{Key}
 use Rattle.ghs_protocol.specs.Network.{Network, port_at, far, far_port, At, InNetwork}
 use Rattle.ghs_protocol.specs.Marks.{Leads}
+use Rattle.ghs_protocol.specs.Interleavings.{HaveAtLeast}
 use Rattle.ghs_protocol.proofs.clauses.Scene.{Forest}
 
 -- the link at port p of v is Branch at both ends
@@ -25,26 +26,9 @@ pub record NamesWithin (g : Network) (s : Forest) : Type 0 where
   pub at_zero : (v : ℕ) → InNetwork g v → ◌≡◌ {A = ℕ} (s.coming v) 0 → s.coming_name v ≡ None
   pub inside : (v : ℕ) → (k : Key) → InNetwork g v → s.coming_name v ≡ Some k → Names g s (s.fragment v) k
 
--- x stands in the list
-pub data IsIn : ℕ → List ℕ → Type 0 where
-  First : {x : ℕ} {xs : List ℕ} → IsIn x (x ∷ xs)
-  Later : {x y : ℕ} {xs : List ℕ} → IsIn x xs → IsIn x (y ∷ xs)
-
--- a list without repeats
-pub data Apart : List ℕ → Type 0 where
-  None_apart : Apart []
-  One_more : {x : ℕ} {xs : List ℕ} → ((y : ℕ) → IsIn y xs → x ≢ y) → Apart xs → Apart (x ∷ xs)
-
--- at least n numbers have P
-pub record HasMany (P : ℕ → Type 0) (n : ℕ) : Type 0 where
-  pub some : List ℕ
-  pub apart : Apart some
-  pub each : (x : ℕ) → IsIn x some → P x
-  pub many : n ≤ length some
-
 -- a fragment of coming level L has at least 2^L nodes
 abbrev pub LargeFragments : Network → Forest → Type 0
-LargeFragments g s = (v : ℕ) → InNetwork g v → HasMany (λ u. InNetwork g u × (s.fragment u ≡ s.fragment v)) (2 ^ s.coming v)
+LargeFragments g s = (v : ℕ) → InNetwork g v → HaveAtLeast (2 ^ s.coming v) (λ u. InNetwork g u × (s.fragment u ≡ s.fragment v))
 
 -- a joined link lies inside one fragment
 abbrev pub JoinedWithin : Network → Forest → Type 0

@@ -16,11 +16,12 @@ use Rattle.ghs_protocol.specs.Network.{Network, At, IsWired, port_at, far, far_p
 use Rattle.ghs_protocol.specs.Net.{Net}
 use Rattle.ghs_protocol.specs.Nodes.{IsNodeOf}
 use Rattle.ghs_protocol.specs.Ledger.{sum_below}
+use Rattle.ghs_protocol.specs.Interleavings.{HaveAtLeast}
+use Rattle.ghs_protocol.proofs.acts.Many.{few_nodes}
 use Rattle.ghs_protocol.proofs.clauses.Scene.{End, end, tree_end, see, scene, Ghost, far_end}
 use Rattle.ghs_protocol.proofs.clauses.Changes.{marked}
 use Rattle.ghs_protocol.proofs.clauses.Links.{Joins, Ups}
 use Rattle.ghs_protocol.proofs.clauses.Nodes.{NodeFits, Searching}
-use Rattle.ghs_protocol.proofs.clauses.Fragments.{IsIn, First, Later, Apart, One_more, HasMany}
 use Rattle.ghs_protocol.proofs.clauses.Rest.{owes, debt}
 use Rattle.ghs_protocol.proofs.clauses.Whole.{Invariant, LinkFits, NamesOf}
 use Rattle.ghs_protocol.proofs.lemmas.Nodes.{ports_many}
@@ -33,61 +34,6 @@ use Rattle.ghs_protocol.proofs.union.CoreAnswered.{asked_on}
 use Rattle.ghs_protocol.proofs.root.AtRoot.{root_sent}
 use Rattle.ghs_protocol.proofs.search.Called.{Calls, calls}
 use Rattle.ghs_protocol.proofs.rows.Read.{is_tree, tree_first, accept_first, reject_first}
-
--- different numbers from 1 to n are at most n
-
-abbrev drop_one : ℕ → List ℕ → List ℕ
-drop_one n [] = []
-drop_one n (x ∷ xs) = if x == n then xs else (x ∷ drop_one n xs)
-
-in_later : (y x : ℕ) (xs zs : List ℕ) → (IsIn y zs → IsIn y xs) → IsIn y (x ∷ zs) → IsIn y (x ∷ xs)
-in_later y x xs zs f First = First
-in_later y x xs zs f (Later k) = Later (f k)
-
-drop_in : (n y : ℕ) (xs : List ℕ) → IsIn y (drop_one n xs) → IsIn y xs
-drop_in n y [] i = i
-drop_in n y (x ∷ xs) i = go (drop_in n y xs) (x == n) i
-  where
-    go : (IsIn y (drop_one n xs) → IsIn y xs) → (b : Bool) → IsIn y (if b then xs else (x ∷ drop_one n xs)) → IsIn y (x ∷ xs)
-    go f true k = Later k
-    go f false k = in_later y x xs (drop_one n xs) f k
-
-drop_apart : (n : ℕ) (xs : List ℕ) → Apart xs → Apart (drop_one n xs)
-drop_apart n [] a = a
-drop_apart n (x ∷ xs) (One_more ne a) = go (drop_apart n xs a) (x == n)
-  where
-    go : Apart (drop_one n xs) → (b : Bool) → Apart (if b then xs else (x ∷ drop_one n xs))
-    go r true = a
-    go r false = One_more (λ y i. ne y (drop_in n y xs i)) r
-
-not_later : (n y x : ℕ) (zs : List ℕ) → x ≢ n → (IsIn y zs → y ≢ n) → IsIn y (x ∷ zs) → y ≢ n
-not_later n y x zs ne f First = λ z. ne z
-not_later n y x zs ne f (Later k) = λ z. f k z
-
-drop_gone : (n y : ℕ) (xs : List ℕ) → Apart xs → IsIn y (drop_one n xs) → y ≢ n
-drop_gone n y [] a i = elim i [ ]
-drop_gone n y (x ∷ xs) (One_more ne a) i = go (drop_gone n y xs a) (x == n) refl i
-  where
-    go : (IsIn y (drop_one n xs) → y ≢ n) → (b : Bool) → (x == n) ≡ b → IsIn y (if b then xs else (x ∷ drop_one n xs)) → y ≢ n
-    go f true e k = λ z. ne y k (eqb-true x n e ∙ sym z)
-    go f false e k = not_later n y x (drop_one n xs) (eqb-false x n e) f k
-
-drop_length : (n : ℕ) (xs : List ℕ) → length xs ≤ suc (length (drop_one n xs))
-drop_length n [] = omega arith
-drop_length n (x ∷ xs) = go (drop_length n xs) (x == n)
-  where
-    go : length xs ≤ suc (length (drop_one n xs)) → (b : Bool) → suc (length xs) ≤ suc (length (if b then xs else (x ∷ drop_one n xs)))
-    go h true = omega arith
-    go h false = omega arith
-
-pub few_apart : (n : ℕ) (xs : List ℕ) → Apart xs → ((x : ℕ) → IsIn x xs → (1 ≤ x) × (x ≤ n)) → length xs ≤ n
-few_apart zero [] a b = omega arith
-few_apart zero (x ∷ xs) a b = absurd (let z = b x First in omega (arith, z.0, z.1))
-few_apart (suc n) xs a b =
-    let rest = few_apart n (drop_one (suc n) xs) (drop_apart (suc n) xs a)
-    (λ x i. let z = b x (drop_in (suc n) x xs i) in let ne = drop_gone (suc n) x xs a i in (z.0, omega (arith, z.1, ne))) in
-    let one = drop_length (suc n) xs in
-    omega (arith, rest, one)
 
 forwards_few : (q : ℕ) (ms : List Mark) (j : ℕ) (m : Message) → length (on_branches_from q ms j m) ≤ length ms
 forwards_few q [] j m = omega arith
@@ -244,16 +190,13 @@ module _ (g : Network) (wired : IsWired g) (few : g.count ≤ 1048576) (v p : �
 
   -- a fragment's coming level is one that a network of so few nodes can have
   coming_most : gh.coming (gh.fragment v) ≤ 20
-  coming_most =
-      ⊎_elim
-      (λ big.
-      absurd (let many = h.many in
-      let all = few_apart g.count h.some h.apart (λ x i. let z = (h.each x i).0 in (z.some, z.node)) in
-      let power : 2 ^ 21 ≤ 2 ^ gh.coming (gh.fragment v) = pow_mono big in omega (arith, many, all, power, few)))
-      (λ small. omega (arith, small)) (cases_lt 20 (gh.coming (gh.fragment v)))
+  coming_most = ⊎_elim (λ big. absurd (too_many big)) (λ small. omega (arith, small)) (cases_lt 20 (gh.coming (gh.fragment v)))
     where
-      h : HasMany (λ u. InNetwork g u × (gh.fragment u ≡ gh.fragment v)) (2 ^ gh.coming (gh.fragment v))
-      h = holds.trees.sizes v inside
+      too_many : 20 < gh.coming (gh.fragment v) → ⊥
+      too_many big =
+          let many : 2 ^ gh.coming (gh.fragment v) ≤ g.count = few_nodes g _ (λ x z. z.0) (holds.trees.sizes v inside) in
+          let power : 2 ^ 21 ≤ 2 ^ gh.coming (gh.fragment v) = pow_mono big in
+          omega (arith, many, power, few)
 
   -- a Report over another link than the way to the core is owed
   unowed : (k : Option Key) (ms : List Message) →

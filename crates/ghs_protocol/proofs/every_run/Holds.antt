@@ -23,8 +23,9 @@ use Rattle.ghs_protocol.specs.Run.{run, IsAfter}
 use Rattle.ghs_protocol.specs.Marks.{Leads, Here, Over, InOneFragment}
 use Rattle.ghs_protocol.specs.Interleavings.{HaveAtLeast, Asks, To_wake, To_take}
 use Rattle.ghs_protocol.specs.Nodes.{HasFewPorts, IsWellFormed}
+use Rattle.ghs_protocol.proofs.acts.Many.{many_as, no_more}
 use Rattle.ghs_protocol.proofs.clauses.Scene.{forest, scene}
-use Rattle.ghs_protocol.proofs.clauses.Fragments.{IsJoinedIn, IsIn, First, Later, Apart, One_more, HasMany}
+use Rattle.ghs_protocol.proofs.clauses.Fragments.{IsJoinedIn}
 use Rattle.ghs_protocol.proofs.clauses.Wiring.{Ground}
 use Rattle.ghs_protocol.proofs.clauses.Whole.{HasInvariant}
 use Rattle.ghs_protocol.proofs.lemmas.Events.{at_of}
@@ -64,15 +65,6 @@ module _ (g : Network) (ground : Ground g) where
       (λ x f i. spares g ground.wired x (without_floors i))
       es w w' h.formed h.sound r
 
--- many in one way, and in the other
-all_in : (P : ℕ → Type 0) (xs : List ℕ) → ((x : ℕ) → IsIn x xs → P x) → All P xs
-all_in P [] h = λ k d lt. absurd (omega arith)
-all_in P (x ∷ xs) h = All-cons P x xs (h x First) (all_in P xs (λ y i. h y (Later i)))
-
-all_apart : (xs : List ℕ) → Apart xs → AllPairs (λ x y. x ≢ y) xs
-all_apart [] a = λ i j d lt lt'. absurd (omega arith)
-all_apart (x ∷ xs) (One_more ne a) = AllPairs-cons (λ x y. x ≢ y) x xs (all_in (λ y. x ≢ y) xs ne) (all_apart xs a)
-
 module _ (g : Network) (wired : IsWired g) (w : Net) (h : Holds g w) where
   -- joined in the forest, and by marks
   leads_so : (v u : ℕ) → Leads g (IsJoinedIn g (forest (scene w h.sound.ghost))) v u → InOneFragment g w v u
@@ -80,20 +72,13 @@ module _ (g : Network) (wired : IsWired g) (w : Net) (h : Holds g w) where
   leads_so v u (Over p at j l) = Over p at (branch_mark _ j.here, branch_mark _ j.there) (leads_so _ u l)
 
   pub large : (v : ℕ) → 1 ≤ v → v ≤ g.count → HaveAtLeast (2 ^ (w.node v).head.level) (λ u. (1 ≤ u) × (u ≤ g.count) × InOneFragment g w v u)
-  large v lo hi = record {
-    list = m.some;
-    once = all_apart m.some m.apart;
-    each =
-        all_in (λ u. (1 ≤ u) × (u ≤ g.count) × InOneFragment g w v u) m.some
-        (λ x i. let e = m.each x i in (e.0.some, e.0.node, leads_so v x (h.sound.holds.first.trees.connected v x is e.0 (sym e.1))));
-    many = let z = pow_mono (h.sound.holds.first.nodes v is).lag.level in let y = m.many in omega (arith, z, y);
-  }
+  large v lo hi =
+      no_more (2 ^ (w.node v).head.level) _ (pow_mono (h.sound.holds.first.nodes v is).lag.level)
+      (many_as _ (λ u e. (e.0.some, e.0.node, leads_so v u (h.sound.holds.first.trees.connected v u is e.0 (sym e.1))))
+      (h.sound.holds.first.trees.sizes v is))
     where
       is : InNetwork g v
       is = record { some = lo; node = hi }
-
-      m : HasMany (λ u. InNetwork g u × (h.sound.ghost.fragment u ≡ h.sound.ghost.fragment v)) (2 ^ h.sound.ghost.coming (h.sound.ghost.fragment v))
-      m = h.sound.holds.first.trees.sizes v is
 
   pub rejected_inside : (v p : ℕ) → At g v p → mark_at (w.node v) p ≡ Rejected → InOneFragment g w v (far g v p)
   rejected_inside v p at r =

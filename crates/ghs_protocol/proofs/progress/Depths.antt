@@ -2,10 +2,13 @@
 use Rattle.std.proofs.Common.{◌≡◌, ◌≢◌, ℕ, zero, suc, ◌+◌, ◌≤◌, Some, List, [], ◌∷◌, length, true, false, refl, sym, ◌∙◌, ap, subst, ⊎_elim, arith}
 use Rattle.std.proofs.lemmas.Option.{same_Some}
 use Rattle.ghs_protocol.specs.Network.{Network, At, far, far_port, InNetwork}
+use Rattle.std.specs.List.{All, AllPairs}
+use Rattle.std.proofs.lemmas.List.Elements.{All-nil, All-cons, All-weaker}
+use Rattle.std.proofs.lemmas.List.Kept.{AllPairs-cons}
 use Rattle.ghs_protocol.proofs.clauses.Scene.{Forest}
-use Rattle.ghs_protocol.proofs.clauses.Fragments.{IsJoinedIn, Root, Goes_out, Both_ways, Reach, At_root, By_step, IsIn, First, Later, Apart, None_apart, One_more}
+use Rattle.ghs_protocol.proofs.clauses.Fragments.{IsJoinedIn, Root, Goes_out, Both_ways, Reach, At_root, By_step}
 use Rattle.ghs_protocol.proofs.tests.Links.{probe_is}
-use Rattle.ghs_protocol.proofs.every_run.Foreseen.{few_apart}
+use Rattle.ghs_protocol.proofs.acts.Many.{few_apart, one_apart, Differ}
 
 -- v is so many steps away from its root link
 pub data Depth (g : Network) (s : Forest) : ℕ → ℕ → Type 0 where
@@ -49,53 +52,49 @@ module _ (g : Network) (s : Forest) where
       ⊎_elim (λ h. (zero, At_the_root p at up (Both_ways j up h))) (λ ne. let d = depth_of r in (suc d.0, Below p at up j ne d.1))
       (probe_is (s.up (far g v p)) (far_port g v p))
 
+  -- a node no deeper than n
+  abbrev pub NoDeeper : ℕ → ℕ → Type 0
+  NoDeeper n x = InNetwork g x × ((k : ℕ) × Depth g s x k × (k ≤ n))
+
   -- the nodes on the way to the root
   pub record Way (v n : ℕ) : Type 0 where
     pub nodes : List ℕ
-    pub apart : Apart nodes
-    pub each : (x : ℕ) → IsIn x nodes → InNetwork g x × ((k : ℕ) × Depth g s x k × (k ≤ n))
+    pub once : AllPairs Differ nodes
+    pub each : All (NoDeeper n) nodes
     pub long : length nodes ≡ suc n
 
   further : {v n : ℕ} (p : ℕ) → At g v p → Depth g s v (suc n) → Way (far g v p) n → Way v (suc n)
   further {v} {n} p at mine rest = record {
     nodes = v ∷ rest.nodes;
-    apart = One_more other rest.apart;
-    each = each_of;
+    once = AllPairs-cons Differ v rest.nodes (All-weaker (NoDeeper n) (Differ v) other rest.nodes rest.each) rest.once;
+    each =
+        All-cons (NoDeeper (suc n)) v rest.nodes (record { some = at.some; node = at.node }, (suc n, mine, omega arith))
+        (All-weaker (NoDeeper n) (NoDeeper (suc n)) (λ x z. (z.0, let t = z.1 in (t.0, t.1, let le = t.2 in omega (arith, le)))) rest.nodes rest.each);
     long = ap suc rest.long;
   }
     where
-      other : (y : ℕ) → IsIn y rest.nodes → v ≢ y
-      other y i same =
-          let z = (rest.each y i).1 in
+      other : (y : ℕ) → NoDeeper n y → v ≢ y
+      other y on_way same =
+          let z = on_way.1 in
           let k = depth_is mine (subst (λ x. Depth g s x z.0) (sym same) z.1) in absurd (let le = z.2 in omega (arith, k, le))
-
-      each_of : (x : ℕ) → IsIn x (v ∷ rest.nodes) → InNetwork g x × ((k : ℕ) × Depth g s x k × (k ≤ suc n))
-      each_of _ First = (record { some = at.some; node = at.node }, (suc n, mine, omega arith))
-      each_of x (Later i) = let z = rest.each x i in let t = z.1 in (z.0, (t.0, t.1, let le = t.2 in omega (arith, le)))
 
   alone : {v : ℕ} (p : ℕ) → At g v p → Depth g s v 0 → Way v 0
   alone {v} p at d = record {
     nodes = v ∷ [];
-    apart = One_more (λ y i. none_in y i) None_apart;
-    each = λ x i. one x i;
+    once = one_apart v;
+    each = All-cons (NoDeeper 0) v [] (record { some = at.some; node = at.node }, (0, d, omega arith)) (All-nil (NoDeeper 0));
     long = refl;
   }
-    where
-      none_in : (y : ℕ) → IsIn y [] → v ≢ y
-      none_in y i = elim i [ ]
-
-      one : (x : ℕ) → IsIn x (v ∷ []) → InNetwork g x × ((k : ℕ) × Depth g s x k × (k ≤ 0))
-      one _ First = (record { some = at.some; node = at.node }, (0, d, omega arith))
-      one x (Later i) = elim i [ ]
 
   pub way : {v n : ℕ} → Depth g s v n → Way v n
   way (At_the_root p at up r) = alone p at (At_the_root p at up r)
   way (Below p at up j d e) = further p at (Below p at up j d e) (way e)
 
   pub bounded : {v n : ℕ} → Depth g s v n → suc n ≤ g.count
-  bounded {v} {n} d =
-      let y = way d in
-      let z = few_apart g.count y.nodes y.apart (λ x i. let q = (y.each x i).0 in (q.some, q.node)) in let l = y.long in omega (arith, z, l)
+  bounded {v} {n} d = let y = way d in let l = y.long in let z = few_apart g.count y.nodes y.once (within y) in omega (arith, z, l)
+    where
+      within : (y : Way v n) → All (λ x. (1 ≤ x) × (x ≤ g.count)) y.nodes
+      within y = All-weaker (NoDeeper n) (λ x. (1 ≤ x) × (x ≤ g.count)) (λ x z. (z.0.some, z.0.node)) y.nodes y.each
 
   -- from the leaves to the root
   module _ (Q : ℕ → Type 0) (step : (v : ℕ) → ((z : ℕ) → IsChild g s z v → Q z) → Q v) where

@@ -12,11 +12,12 @@ use Rattle.ghs_node.specs.declared.message.Message.{Message}
 use Rattle.ghs_node.specs.declared.message.Message.TheVariants.{Connect, Initiate}
 use Rattle.ghs_protocol.specs.Network.{Network, port_at, At, far, far_port, InNetwork}
 use Rattle.ghs_protocol.specs.Net.{put}
+use Rattle.ghs_protocol.specs.Interleavings.{HaveAtLeast}
 use Rattle.ghs_protocol.proofs.clauses.Scene.{Seen, adds, Member, Scene, End, end, tree_end, test_end, forest, acts, far_end}
 use Rattle.ghs_protocol.proofs.clauses.Changes.{left_tree, seen_beyond, took_child}
 use Rattle.ghs_protocol.proofs.clauses.Links.{Joins}
 use Rattle.ghs_protocol.proofs.clauses.Nodes.{NodeFits}
-use Rattle.ghs_protocol.proofs.clauses.Fragments.{IsJoinedIn, Names, Root, Goes_out, Both_ways, OneRoot, Reach, At_root, By_step, RootsReached, JoinedLinksLead, HasMany}
+use Rattle.ghs_protocol.proofs.clauses.Fragments.{IsJoinedIn, Names, Root, Goes_out, Both_ways, OneRoot, Reach, At_root, By_step, RootsReached, JoinedLinksLead}
 use Rattle.ghs_protocol.proofs.clauses.Rest.{Quiet, Resting, DebtsCounted, debt, has_call, has_report}
 use Rattle.ghs_protocol.proofs.clauses.Whole.{Invariant, NamesOf, LinkFits}
 use Rattle.ghs_protocol.proofs.clauses.Wiring.{Ground}
@@ -491,9 +492,9 @@ module _ (g : Network) (ground : Ground g) (u : ℕ) (u_is : InNetwork g u) (w :
   fragment_else t ne = ap (λ (m : Member). m.fragment) (unlifted t ne) ∙ fragment_is t
 
   -- enough nodes
-  many : HasMany (λ t. InNetwork g t × ((joint.at t).fragment ≡ (grown.at u).fragment)) (2 ^ (grown.at u).coming)
+  many : HaveAtLeast (2 ^ (grown.at u).coming) (λ t. InNetwork g t × ((joint.at t).fragment ≡ (grown.at u).fragment))
   many =
-      subst (λ x. HasMany (λ t. InNetwork g t × ((joint.at t).fragment ≡ (grown.at u).fragment)) (2 ^ x)) (sym (coming_is u))
+      subst (λ x. HaveAtLeast (2 ^ x) (λ t. InNetwork g t × ((joint.at t).fragment ≡ (grown.at u).fragment))) (sym (coming_is u))
       (many_as _ (λ t z. (z.0, fragment_else t (λ e. came.under.apart (sym z.1 ∙ e)) ∙ z.1 ∙ sym (fragment_is u))) (holds.trees.sizes u is))
 
   -- roots

@@ -11,13 +11,14 @@ use Rattle.ghs_node.specs.declared.message.Message.TheVariants.{Connect}
 use Rattle.ghs_node.specs.Words.{Outgoing, is_branch}
 use Rattle.ghs_protocol.specs.Network.{Network, port_at, At, far, far_port, IsWired, InNetwork}
 use Rattle.ghs_protocol.specs.Net.{put}
+use Rattle.ghs_protocol.specs.Interleavings.{HaveAtLeast}
 use Rattle.ghs_protocol.proofs.clauses.Scene.{Seen, adds, Member, Scene, End, TestEnd, end, tree_end, test_end, forest, acts, far_end}
 use Rattle.ghs_protocol.proofs.clauses.Changes.{seen_beyond}
 use Rattle.ghs_protocol.proofs.clauses.Nodes.{NodeFits}
 use Rattle.ghs_protocol.proofs.clauses.Links.{Out}
 use Rattle.ghs_protocol.proofs.clauses.TreeMessages.{ConnectUnderWay, Moved}
 use Rattle.ghs_protocol.proofs.clauses.Tests.{TestsFit}
-use Rattle.ghs_protocol.proofs.clauses.Fragments.{IsJoinedIn, Root, Goes_out, Both_ways, OneRoot, Reach, At_root, By_step, RootsReached, JoinedLinksLead, HasMany}
+use Rattle.ghs_protocol.proofs.clauses.Fragments.{IsJoinedIn, Root, Goes_out, Both_ways, OneRoot, Reach, At_root, By_step, RootsReached, JoinedLinksLead}
 use Rattle.ghs_protocol.proofs.clauses.Rest.{Quiet, Resting, has_call, DebtsCounted}
 use Rattle.ghs_protocol.proofs.clauses.Whole.{Invariant, NamesOf, LinkFits}
 use Rattle.ghs_protocol.proofs.clauses.Wiring.{Ground}
@@ -396,16 +397,16 @@ module _ (g : Network) (ground : Ground g) (u : ℕ) (u_is : InNetwork g u) (b :
   fragment_other t e = rw e refl
 
   -- enough nodes
-  many : HasMany (λ t. InNetwork g t × ((met.at t).fragment ≡ (sent.at u).fragment)) (2 ^ (suc (sent.at u).head.level))
+  many : HaveAtLeast (2 ^ (suc (sent.at u).head.level)) (λ t. InNetwork g t × ((met.at t).fragment ≡ (sent.at u).fragment))
   many =
       subst
-      (λ k. HasMany (λ t. InNetwork g t × ((met.at t).fragment ≡ (sent.at u).fragment)) (2 ^ (suc k))) (sym level_u)
+      (λ k. HaveAtLeast (2 ^ (suc k)) (λ t. InNetwork g t × ((met.at t).fragment ≡ (sent.at u).fragment))) (sym level_u)
       (many_as _
       (λ t z. ⊎_elim (λ s. (s.0, fragment_two t (lifts_two t (inr s.1)))) (λ s. (s.0, fragment_two t (lifts_two t (inl s.1)))) z)
       (doubled h.level (λ t p q. apart (sym p.1 ∙ q.1))
-      (subst (λ k. HasMany (λ t. InNetwork g t × ((w.at t).fragment ≡ (w.at u).fragment)) (2 ^ k)) (sym owed.top) (holds.trees.sizes u u_in))
+      (subst (λ k. HaveAtLeast (2 ^ k) (λ t. InNetwork g t × ((w.at t).fragment ≡ (w.at u).fragment))) (sym owed.top) (holds.trees.sizes u u_in))
       (subst
-      (λ k. HasMany (λ t. InNetwork g t × ((w.at t).fragment ≡ (w.at (far g u b)).fragment)) (2 ^ k))
+      (λ k. HaveAtLeast (2 ^ k) (λ t. InNetwork g t × ((w.at t).fragment ≡ (w.at (far g u b)).fragment)))
       coming_y (holds.trees.sizes (far g u b) y_in))))
 
   -- where a root lies

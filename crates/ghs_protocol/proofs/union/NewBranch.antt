@@ -7,9 +7,11 @@ use Rattle.ghs_node.specs.declared.message.Phase.TheVariants.{Sleeping}
 use Rattle.ghs_node.specs.Words.{Outgoing, is_branch}
 use Rattle.ghs_protocol.specs.Network.{Network, At, far, far_port, IsWired, InNetwork}
 use Rattle.ghs_protocol.specs.Marks.{Leads, Here, Over}
+use Rattle.ghs_protocol.specs.Interleavings.{HaveAtLeast}
+use Rattle.ghs_protocol.proofs.acts.Many.{many_as}
 use Rattle.ghs_protocol.proofs.clauses.Scene.{Seen, Member, Scene, End, end, tree_end, forest, acts}
 use Rattle.ghs_protocol.proofs.clauses.Nodes.{NodeFits}
-use Rattle.ghs_protocol.proofs.clauses.Fragments.{IsJoinedIn, Names, NamesWithin, LargeFragments, FragmentsJoined, GhostsByFragment, HasMany}
+use Rattle.ghs_protocol.proofs.clauses.Fragments.{IsJoinedIn, Names, NamesWithin, LargeFragments, FragmentsJoined, GhostsByFragment}
 use Rattle.ghs_protocol.proofs.clauses.Rest.{Alone, Named}
 use Rattle.ghs_protocol.proofs.clauses.Whole.{Invariant, NamesOf, LinkFits}
 use Rattle.ghs_protocol.proofs.lemmas.Updates.{put_same, put_other}
@@ -112,15 +114,10 @@ module _ (g : Network) (wired : IsWired g) (u : ℕ) (u_is : InNetwork g u) (b :
 
   pub sizes_grown : LargeFragments g (forest grown)
   sizes_grown t is =
-      let old = holds.trees.sizes t is in
       subst
-      (λ k. HasMany (λ s. InNetwork g s × ((grown.at s).fragment ≡ (grown.at t).fragment)) (2 ^ k))
-      (sym (coming_was t)) (record {
-        some = old.some;
-        apart = old.apart;
-        each = λ s i. let e = old.each s i in (e.0, fragment_was s ∙ e.1 ∙ sym (fragment_was t));
-        many = old.many;
-      })
+      (λ k. HaveAtLeast (2 ^ k) (λ s. InNetwork g s × ((grown.at s).fragment ≡ (grown.at t).fragment)))
+      (sym (coming_was t))
+      (many_as _ (λ s e. (e.0, fragment_was s ∙ e.1 ∙ sym (fragment_was t))) (holds.trees.sizes t is))
 
   pub within_grown : (t p : ℕ) → At g t p → Off g u b t p → IsJoinedIn g (forest grown) t p → (grown.at t).fragment ≡ (grown.at (far g t p)).fragment
   within_grown t p at' off j = fragment_was t ∙ holds.trees.joined_within t p at' (joined_was t p off j) ∙ sym (fragment_was (far g t p))

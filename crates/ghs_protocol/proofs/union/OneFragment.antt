@@ -7,11 +7,13 @@ use Rattle.ghs_node.specs.declared.head.Head.{Head}
 use Rattle.ghs_node.specs.Words.{is_branch, is_find, is_at}
 use Rattle.ghs_protocol.specs.Network.{Network, port_at, At, far, far_port, IsWired, InNetwork}
 use Rattle.ghs_protocol.specs.Marks.{Leads, Here, Over}
+use Rattle.ghs_protocol.specs.Interleavings.{HaveAtLeast}
+use Rattle.ghs_protocol.proofs.acts.Many.{many_as}
 use Rattle.ghs_protocol.proofs.clauses.Scene.{Member, Scene, end, tree_end, test_end, forest}
 use Rattle.ghs_protocol.proofs.clauses.Changes.{seen_beyond}
 use Rattle.ghs_protocol.proofs.clauses.Nodes.{NodeFits}
 use Rattle.ghs_protocol.proofs.clauses.Links.{Joins, Out, Mutual}
-use Rattle.ghs_protocol.proofs.clauses.Fragments.{IsJoinedIn, Names, NamesWithin, LargeFragments, FragmentsJoined, JoinedWithin, JoinedLinksLead, Root, Goes_out, Both_ways, OneRoot, Reach, At_root, By_step, RootsReached, GhostsByFragment, HasMany}
+use Rattle.ghs_protocol.proofs.clauses.Fragments.{IsJoinedIn, Names, NamesWithin, LargeFragments, FragmentsJoined, JoinedWithin, JoinedLinksLead, Root, Goes_out, Both_ways, OneRoot, Reach, At_root, By_step, RootsReached, GhostsByFragment}
 use Rattle.ghs_protocol.proofs.clauses.Rest.{Alone, Named, Resting, has_call, has_report, owes, debt, debts, DebtsCounted}
 use Rattle.ghs_protocol.proofs.clauses.Whole.{Invariant, NamesOf, LinkFits}
 use Rattle.ghs_protocol.proofs.lemmas.Sums.{sum_same, term_le}
@@ -228,28 +230,22 @@ module _ (g : Network) (wired : IsWired g) (w : Scene) (v b : ℕ) (lifts : ℕ 
       same_name : (x y : Key) → Some x ≡ Some y → x ≡ y
       same_name x y e = cc
 
-  sizes' : HasMany (λ t. InNetwork g t × ((united.at t).fragment ≡ (w.at v).fragment)) (2 ^ l) → LargeFragments g (forest united)
+  sizes' : HaveAtLeast (2 ^ l) (λ t. InNetwork g t × ((united.at t).fragment ≡ (w.at v).fragment)) → LargeFragments g (forest united)
   sizes' many t is = ⊎_elim here away (cases_eq (united.at t).fragment (w.at v).fragment)
     where
       here :
           (united.at t).fragment ≡ (w.at v).fragment →
-          HasMany (λ s. InNetwork g s × ((united.at s).fragment ≡ (united.at t).fragment)) (2 ^ (united.at t).coming)
-      here e = subst₂ (λ x y. HasMany (λ s. InNetwork g s × ((united.at s).fragment ≡ x)) (2 ^ y)) (sym e) (sym (there t e).0) many
+          HaveAtLeast (2 ^ (united.at t).coming) (λ s. InNetwork g s × ((united.at s).fragment ≡ (united.at t).fragment))
+      here e = subst₂ (λ x y. HaveAtLeast (2 ^ y) (λ s. InNetwork g s × ((united.at s).fragment ≡ x))) (sym e) (sym (there t e).0) many
 
       away :
           (united.at t).fragment ≢ (w.at v).fragment →
-          HasMany (λ s. InNetwork g s × ((united.at s).fragment ≡ (united.at t).fragment)) (2 ^ (united.at t).coming)
+          HaveAtLeast (2 ^ (united.at t).coming) (λ s. InNetwork g s × ((united.at s).fragment ≡ (united.at t).fragment))
       away ne =
-          let y = other_is t ne in
-          let old = known.sizes t is in
           subst
-          (λ z. HasMany (λ s. InNetwork g s × ((united.at s).fragment ≡ (united.at t).fragment)) (2 ^ z))
-          (sym (ap (λ (m : Member). m.coming) y.1)) (record {
-            some = old.some;
-            apart = old.apart;
-            each = λ s i. let e = old.each s i in (e.0, fragment_is s ∙ ap new e.1 ∙ sym (fragment_is t));
-            many = old.many;
-          })
+          (λ z. HaveAtLeast (2 ^ z) (λ s. InNetwork g s × ((united.at s).fragment ≡ (united.at t).fragment)))
+          (sym (ap (λ (m : Member). m.coming) (other_is t ne).1))
+          (many_as _ (λ s e. (e.0, fragment_is s ∙ ap new e.1 ∙ sym (fragment_is t))) (known.sizes t is))
 
   -- a link is the new one, from this end or the other, or off it
   pub data Place (t p : ℕ) : Type 0 where
@@ -560,7 +556,7 @@ module _ (g : Network) (wired : IsWired g) (w : Scene) (v b : ℕ) (lifts : ℕ 
 
   -- all together
   pub unites :
-      HasMany (λ t. InNetwork g t × ((united.at t).fragment ≡ (w.at v).fragment)) (2 ^ l) →
+      HaveAtLeast (2 ^ l) (λ t. InNetwork g t × ((united.at t).fragment ≡ (w.at v).fragment)) →
       OneRoot g (forest united) →
       Resting g united →
       LinkFits (NamesOf g united) (end g united v b) (end g united (far g v b) (far_port g v b)) →

@@ -8,7 +8,10 @@ use Rattle.ghs_node.specs.Words.{is_branch}
 use Rattle.ghs_protocol.specs.Network.{Network, At, far, far_port, InNetwork}
 use Rattle.ghs_protocol.specs.Net.{opening}
 use Rattle.ghs_protocol.specs.Marks.{Leads, Here}
-use Rattle.ghs_protocol.proofs.clauses.Fragments.{IsIn, First, Later, One_more, None_apart, IsJoinedIn, Goes_out, Both_ways, Root}
+use Rattle.std.specs.List.{All}
+use Rattle.std.proofs.lemmas.List.Elements.{All-nil, All-cons}
+use Rattle.ghs_protocol.proofs.acts.Many.{one_apart}
+use Rattle.ghs_protocol.proofs.clauses.Fragments.{IsJoinedIn, Goes_out, Both_ways, Root}
 use Rattle.ghs_protocol.specs.Ledger.{sum_below}
 use Rattle.ghs_protocol.proofs.clauses.Scene.{Scene, scene, end, forest}
 use Rattle.ghs_protocol.proofs.clauses.Nodes.{NodeFits}
@@ -32,10 +35,6 @@ not_branch Rejected h = λ e. cc
 zeros : (n : ℕ) → ◌≡◌ {A = ℕ} 0 (sum_below n (λ i. 0))
 zeros zero = refl
 zeros (suc n) = let z = zeros n in omega (arith, z)
-
-nowhere : (xs : List ℕ) (y : ℕ) → xs ≡ [] → IsIn y xs → ⊥
-nowhere xs y e First = cc
-nowhere xs y e (Later i) = cc
 
 module _ (g : Network) where
   w : Scene
@@ -109,7 +108,7 @@ module _ (g : Network) where
     trees = record {
       by_fragment = λ u v e. (refl, refl);
       names_within = record { none = λ v is e. refl; at_zero = λ v is e. refl; inside = λ v k is e. cc };
-      sizes = λ v is. record { some = v ∷ []; apart = One_more (λ y i. lonely y i) None_apart; each = λ x i. only v x i is; many = omega arith };
+      sizes = λ v is. record { list = v ∷ []; once = one_apart v; each = only v is; many = omega arith };
       joined_within = λ v p at j. absurd (not_branch _ (none v p) j.here);
       connected = λ u v iu iv e. subst (Joined' u) e Here;
       joined_lead = λ v p at j. absurd (not_branch _ (none v p) j.here);
@@ -126,9 +125,5 @@ module _ (g : Network) where
       Joined' : ℕ → ℕ → Type 0
       Joined' = Leads g (IsJoinedIn g (forest w))
 
-      lonely : {v : ℕ} (y : ℕ) → IsIn y [] → v ≢ y
-      lonely y i = absurd (nowhere [] y refl i)
-
-      only : (v x : ℕ) → IsIn x (v ∷ []) → InNetwork g v → InNetwork g x × (x ≡ v)
-      only v x First is = (is, refl)
-      only v x (Later i) is = absurd (nowhere [] x refl i)
+      only : (v : ℕ) → InNetwork g v → All (λ x. InNetwork g x × (x ≡ v)) (v ∷ [])
+      only v is = All-cons (λ x. InNetwork g x × (x ≡ v)) v [] (is, refl) (All-nil (λ x. InNetwork g x × (x ≡ v)))
