@@ -10,11 +10,12 @@ use Rattle.ghs_node.proofs.lemmas.{row_ported}
 use Rattle.ghs_links.specs.Links.{LinksState, IsFor, GoOut, HasRoomFor, KeepsLists, room_at, total_of}
 use Rattle.ghs_links.proofs.lemmas.Ports.{same_for}
 use Rattle.ghs_protocol.specs.declared.event.Event.{Event}
-use Rattle.ghs_protocol.specs.Network.{network_of, At, IsWired}
+use Rattle.ghs_protocol.specs.Network.{network_of, At}
+use Rattle.ghs_protocol.proofs.lemmas.Wired.{IsWired}
 use Rattle.ghs_protocol.specs.Net.{Net, is_lawful, happens}
 use Rattle.ghs_protocol.specs.Run.{IsAfter, net_after}
 use Rattle.ghs_protocol.specs.Ledger.{in_all}
-use Rattle.ghs_protocol.specs.Nodes.{IsNodeOf, IsWellFormed}
+use Rattle.ghs_protocol.specs.Nodes.{IsNodeOf}
 use Rattle.ghs_protocol.specs.Steps.{reacted, Happens}
 use Rattle.ghs_protocol.proofs.lemmas.Events.{happens_so}
 use Rattle.ghs_protocol.proofs.lemmas.Graphs.{graph_wired, graph_few}
@@ -22,7 +23,7 @@ use Rattle.ghs_protocol.proofs.lemmas.Lasting.{event_lasts}
 use Rattle.ghs_protocol.proofs.lemmas.Nodes.{ports_many}
 use Rattle.ghs_protocol.proofs.lemmas.Runs.{after_is_net, after_more, net_after_more}
 use Rattle.ghs_protocol.proofs.lemmas.Sends.{node_here, node_there}
-use Rattle.ghs_protocol.proofs.lemmas.WellFormed.{after_formed}
+use Rattle.ghs_protocol.proofs.lemmas.WellFormed.{IsWellFormed, after_formed}
 use Rattle.ghs_core.specs.declared.counts.Counts.{Counts}
 use Rattle.ghs_core.specs.NetState.{NetState, event_node, work_at, halted_in, IsLawful, IsAnswer}
 use Rattle.ghs_core.specs.Dispatch.{arriving, Arrives, CountsSends, Disposes, WaitsAt}

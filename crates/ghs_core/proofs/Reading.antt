@@ -10,7 +10,6 @@ use Rattle.ghs_protocol.specs.declared.event.Event.TheVariants.{Take}
 use Rattle.ghs_protocol.specs.Network.{Network, network_of, At}
 use Rattle.ghs_protocol.specs.Net.{Net, opening, is_lawful}
 use Rattle.ghs_protocol.specs.Run.{IsAfter, net_after}
-use Rattle.ghs_protocol.specs.Nodes.{IsWellFormed}
 use Rattle.ghs_protocol.specs.Ledger.{in_all}
 use Rattle.ghs_protocol.proofs.lemmas.Sums.{sum_same}
 use Rattle.ghs_protocol.proofs.lemmas.Balance.{after_balanced, balanced_in_all}
@@ -18,7 +17,7 @@ use Rattle.ghs_protocol.proofs.lemmas.Events.{at_of}
 use Rattle.ghs_protocol.proofs.lemmas.Graphs.{graph_wired, graph_few}
 use Rattle.ghs_protocol.proofs.lemmas.Nodes.{ports_many}
 use Rattle.ghs_protocol.proofs.lemmas.Runs.{after_is_net, net_after_is}
-use Rattle.ghs_protocol.proofs.lemmas.WellFormed.{after_formed}
+use Rattle.ghs_protocol.proofs.lemmas.WellFormed.{IsWellFormed, after_formed}
 use Rattle.ghs_core.specs.declared.counts.Counts.{Counts}
 use Rattle.ghs_core.specs.Ledger.{IsLedger}
 use Rattle.ghs_core.specs.declared.halts.Halts.{Halts}

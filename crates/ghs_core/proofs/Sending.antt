@@ -11,7 +11,8 @@ use Rattle.ghs_node.specs.Words.{Outgoing}
 use Rattle.ghs_links.specs.Queue.{QueueState, pushed}
 use Rattle.ghs_links.specs.Links.{LinksState, HasQueue, IsPort, IsFor, SamePorts, GoOut, HasRoomFor, Changes, state_at, queue_at, room_at, port_of, far_end, destination_of}
 use Rattle.ghs_links.proofs.lemmas.Ports.{same_then, same_alike, same_for, same_destination, far_queue}
-use Rattle.ghs_protocol.specs.Network.{Network, At, IsWired, network_of, far}
+use Rattle.ghs_protocol.specs.Network.{Network, At, network_of, far}
+use Rattle.ghs_protocol.proofs.lemmas.Wired.{IsWired}
 use Rattle.ghs_protocol.proofs.lemmas.Graphs.{graph_wired}
 use Rattle.ghs_protocol.proofs.lemmas.Updates.{one_place}
 use Rattle.ghs_protocol.proofs.lemmas.Wires.{far_apart}

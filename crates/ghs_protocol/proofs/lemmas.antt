@@ -12,6 +12,7 @@ pub mod Sends
 pub mod Sums
 pub mod Updates
 pub mod WellFormed
+pub mod Wired
 pub mod Wires
 pub mod Queues
 pub mod Steps

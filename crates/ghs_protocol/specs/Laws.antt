@@ -16,7 +16,7 @@ use Rattle.ghs_protocol.specs.Ledger.{IsBalanced, in_all, IsBalancedInAll, takes
 use Rattle.ghs_protocol.specs.Nodes.{IsNodeOf}
 use Rattle.ghs_protocol.specs.Steps.{Happens, Steps}
 use Rattle.ghs_protocol.specs.Connects.{ConnectsFit}
-use Rattle.ghs_protocol.specs.Lasting.{Halts}
+use Rattle.ghs_protocol.specs.Halting.{Halts}
 
 -- w is the net after a run of the graph
 pub record IsNetOf (g : Shape) (w : Net) : Type 0 where

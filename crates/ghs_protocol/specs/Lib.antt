@@ -6,7 +6,7 @@ pub mod Marks
 pub mod Ledger
 pub mod Steps
 pub mod Nodes
-pub mod Lasting
+pub mod Halting
 pub mod Laws
 pub mod Payments
 pub mod Interleavings

@@ -1,5 +1,5 @@
 -- What the machine sees of a graph: nodes 1 to count, each with its ports in key order.
-use Rattle.std.specs.Prelude.{◌≡◌, ◌≢◌, ℕ, ◌<◌, ◌≤◌, List, length, slice_index_or}
+use Rattle.std.specs.Prelude.{ℕ, ◌<◌, ◌≤◌, List, length, slice_index_or}
 use Rattle.ghs_graph.specs.declared.port.Port.{Port}
 use Rattle.ghs_graph.specs.Graph.{Shape}
 use Rattle.ghs_graph.specs.Ports.{ports_of, no_port}
@@ -32,11 +32,3 @@ pub record At (g : Network) (v p : ℕ) : Type 0 where
   pub some : 1 ≤ v
   pub node : v ≤ g.count
   pub port : p < length (g.ports v)
-
--- what every graph's network keeps: links lead to other nodes and back again, and have one key
-pub record IsWired (g : Network) : Type 0 where
-  pub there : (v p : ℕ) → At g v p → At g (far g v p) (far_port g v p)
-  pub apart : (v p : ℕ) → At g v p → far g v p ≢ v
-  pub back : (v p : ℕ) → At g v p → far g (far g v p) (far_port g v p) ≡ v
-  pub back_port : (v p : ℕ) → At g v p → far_port g (far g v p) (far_port g v p) ≡ p
-  pub same_key : (v p : ℕ) → At g v p → (port_at g (far g v p) (far_port g v p)).key ≡ (port_at g v p).key

@@ -14,7 +14,7 @@ use Rattle.ghs_protocol.specs.Net.{Net, event_node, is_lawful, is_lawful_under}
 use Rattle.ghs_protocol.specs.Run.{run, MayWake}
 use Rattle.ghs_protocol.specs.Marks.{HasEnded, HasHalted, Leads}
 use Rattle.ghs_protocol.specs.Steps.{Happens}
-use Rattle.ghs_protocol.specs.Lasting.{Reacts}
+use Rattle.ghs_protocol.specs.Halting.{Reacts}
 use Rattle.ghs_protocol.specs.Laws.{IsNetOf}
 use Rattle.ghs_protocol.specs.Living.{AnyLink, Waits}
 

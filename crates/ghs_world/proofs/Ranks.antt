@@ -10,7 +10,7 @@ use Rattle.ghs_protocol.specs.declared.event.Event.{Event}
 use Rattle.ghs_protocol.specs.declared.event.Event.TheVariants.{Wake, Take}
 use Rattle.ghs_graph.specs.Graph.{Shape, IsGraph}
 use Rattle.ghs_protocol.specs.Network.{Network, network_of}
-use Rattle.ghs_protocol.specs.Nodes.{HasFewPorts}
+use Rattle.ghs_protocol.proofs.lemmas.WellFormed.{HasFewPorts}
 use Rattle.ghs_protocol.proofs.lemmas.Graphs.{graph_few}
 use Rattle.ghs_world.specs.WorldState.{WorldState}
 use Rattle.ghs_world.specs.Ready.{events_at, events_to, all_events, has_ready, next_node_of}

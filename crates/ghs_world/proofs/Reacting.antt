@@ -19,13 +19,12 @@ use Rattle.ghs_node.specs.Reaction.{reaction, HasPort}
 use Rattle.ghs_world.specs.Tickets.{HasRule}
 use Rattle.ghs_protocol.specs.declared.event.Event.{Event}
 use Rattle.ghs_protocol.specs.declared.event.Event.TheVariants.{Wake, Take}
-use Rattle.ghs_protocol.specs.Nodes.{IsWellFormed}
 use Rattle.ghs_protocol.specs.Run.{IsRun}
 use Rattle.ghs_protocol.proofs.lemmas.Events.{at_of}
 use Rattle.ghs_protocol.proofs.lemmas.Graphs.{graph_wired, graph_few}
 use Rattle.ghs_protocol.proofs.lemmas.Nodes.{ports_many}
 use Rattle.ghs_protocol.proofs.lemmas.Runs.{after_is_net}
-use Rattle.ghs_protocol.proofs.lemmas.WellFormed.{after_formed}
+use Rattle.ghs_protocol.proofs.lemmas.WellFormed.{IsWellFormed, after_formed}
 use Rattle.ghs_core.specs.NetState.{NetState, event_node, work_at, delivery, IsLawful, network, net_of}
 
 delivered : (n : NodeState) (p : ℕ) (q : List Message) → p < degree n → HasPort n (delivery p q)

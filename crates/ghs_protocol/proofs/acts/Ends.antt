@@ -1,7 +1,8 @@
 -- What an act leaves at the two ends of each link.
 use Rattle.std.proofs.Common.{◌≡◌, ◌≢◌, ℕ, ◌≤◌, refl, sym, ◌∙◌, ap, subst, subst₂}
 use Rattle.ghs_node.specs.Words.{Outgoing}
-use Rattle.ghs_protocol.specs.Network.{Network, port_at, At, far, far_port, IsWired}
+use Rattle.ghs_protocol.specs.Network.{Network, port_at, At, far, far_port}
+use Rattle.ghs_protocol.proofs.lemmas.Wired.{IsWired}
 use Rattle.ghs_protocol.specs.Net.{put}
 use Rattle.ghs_protocol.specs.Steps.{sent_on}
 use Rattle.ghs_protocol.proofs.lemmas.Pushes.{pushed, unpushed}

@@ -7,7 +7,8 @@ use Rattle.ghs_node.specs.declared.mark.Mark.{Mark}
 use Rattle.ghs_node.specs.declared.mark.Mark.TheVariants.{Branch, Basic, Rejected}
 use Rattle.ghs_node.specs.Words.{is_branch, Outgoing}
 use Rattle.ghs_node.specs.declared.message.Phase.TheVariants.{Sleeping, Found}
-use Rattle.ghs_protocol.specs.Network.{Network, port_at, At, far, far_port, IsWired, InNetwork}
+use Rattle.ghs_protocol.specs.Network.{Network, port_at, At, far, far_port, InNetwork}
+use Rattle.ghs_protocol.proofs.lemmas.Wired.{IsWired}
 use Rattle.ghs_protocol.specs.Net.{put}
 use Rattle.ghs_protocol.specs.Steps.{sent_on}
 use Rattle.ghs_protocol.proofs.lemmas.Updates.{put_same, put_other, put_alike}

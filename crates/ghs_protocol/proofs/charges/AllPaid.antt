@@ -23,7 +23,7 @@ use Rattle.ghs_protocol.specs.Network.{Network, network_of, At, InNetwork}
 use Rattle.ghs_protocol.specs.Net.{Net, opening, event_node, happens, one_if_consumed}
 use Rattle.ghs_protocol.specs.Run.{IsAfter}
 use Rattle.ghs_protocol.specs.Ledger.{sum_below, sum_over_nodes, sum_over_ports, of_kind, IsBalanced}
-use Rattle.ghs_protocol.specs.Nodes.{HasFewPorts, IsNodeOf, IsWellFormed}
+use Rattle.ghs_protocol.specs.Nodes.{IsNodeOf}
 use Rattle.ghs_protocol.specs.Steps.{Happens, Took, Woke, reacted}
 use Rattle.ghs_protocol.specs.Payments.{AllIsPaid, accepts, added_up, calls, failed, no_accept_first, paid_by, paid_by_levels, paid_by_ports, port_pays, reports, risen, roots, testing, tests_out, then_count}
 use Rattle.ghs_protocol.proofs.clauses.Scene.{Ghost, scene}
@@ -39,7 +39,7 @@ use Rattle.ghs_protocol.proofs.lemmas.Sends.{consumed_now, messages, node_here, 
 use Rattle.ghs_protocol.proofs.lemmas.Steps.{event_by_steps}
 use Rattle.ghs_protocol.proofs.lemmas.Sums.{ports_none, ports_one, sum_none, sum_one, sum_same}
 use Rattle.ghs_protocol.proofs.lemmas.Woken.{asleep_or_not, awake_row, step_node}
-use Rattle.ghs_protocol.proofs.lemmas.WellFormed.{event_row, opening_formed}
+use Rattle.ghs_protocol.proofs.lemmas.WellFormed.{HasFewPorts, IsWellFormed, event_row, opening_formed}
 use Rattle.ghs_protocol.proofs.charges.Acts.{all_calls, kinds_append, nodes_one}
 use Rattle.ghs_protocol.proofs.charges.Runs.{by_memory, charged, opening_has, stepped}
 use Rattle.ghs_protocol.proofs.charges.Rows.{closes_probe, search_free}

@@ -2,7 +2,8 @@
 use Rattle.std.proofs.Common.{◌≡◌, ℕ, zero, suc, ◌+◌, ◌*◌, ◌≤◌, length, sym, arith, suc-mul, zero-mul}
 use Rattle.ghs_graph.specs.Bound.{IsFloorLog2}
 use Rattle.ghs_graph.specs.Graph.{Shape}
-use Rattle.ghs_protocol.specs.Network.{Network, network_of, IsWired, InNetwork}
+use Rattle.ghs_protocol.specs.Network.{Network, network_of, InNetwork}
+use Rattle.ghs_protocol.proofs.lemmas.Wired.{IsWired}
 use Rattle.ghs_protocol.specs.Net.{Net}
 use Rattle.ghs_protocol.specs.Ledger.{sum_below, of_kind, IsBalanced, in_all, sum_over_nodes}
 use Rattle.ghs_protocol.specs.Laws.{IsNetOf}

@@ -8,11 +8,11 @@ use Rattle.ghs_node.specs.declared.head.Head.{Head}
 use Rattle.ghs_node.specs.declared.message.Phase.{Phase}
 use Rattle.ghs_node.specs.declared.message.Phase.TheVariants.{Sleeping, Find, Found}
 use Rattle.ghs_protocol.specs.declared.event.Event.{Event}
-use Rattle.ghs_protocol.specs.Network.{Network, network_of, IsWired, InNetwork}
+use Rattle.ghs_protocol.specs.Network.{Network, network_of, InNetwork}
+use Rattle.ghs_protocol.proofs.lemmas.Wired.{IsWired}
 use Rattle.ghs_protocol.specs.Net.{Net, opening, event_node, happens}
 use Rattle.ghs_protocol.specs.Run.{run, IsAfter}
 use Rattle.ghs_protocol.specs.Ledger.{sum_below, of_kind}
-use Rattle.ghs_protocol.specs.Nodes.{HasFewPorts, IsWellFormed}
 use Rattle.ghs_protocol.specs.Steps.{Happens}
 use Rattle.ghs_protocol.specs.Payments.{calls_at, added_up, LevelPays, risen, then_count, paid_by, roots, reports, calls, accepts, testing}
 use Rattle.ghs_protocol.specs.Interleavings.{LevelsPayOnce}
@@ -25,7 +25,7 @@ use Rattle.ghs_protocol.proofs.lemmas.Graphs.{graph_few}
 use Rattle.ghs_protocol.proofs.lemmas.Runs.{both_some}
 use Rattle.ghs_protocol.proofs.lemmas.Steps.{step_formed}
 use Rattle.ghs_protocol.proofs.lemmas.Woken.{StepBy, StepsBy, One_by, Two_by, event_steps_by}
-use Rattle.ghs_protocol.proofs.lemmas.WellFormed.{event_formed, opening_formed}
+use Rattle.ghs_protocol.proofs.lemmas.WellFormed.{HasFewPorts, IsWellFormed, event_formed, opening_formed}
 use Rattle.ghs_protocol.proofs.charges.Acts.{busy_most, busy_some, busy_top, charges_keep, finding_most, moved_most}
 use Rattle.ghs_protocol.proofs.charges.Runs.{Stepped, opening_has, stepped}
 use Rattle.ghs_protocol.proofs.charges.Waiting.{accepts_one, calls_one, level_most}

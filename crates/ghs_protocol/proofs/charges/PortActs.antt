@@ -8,7 +8,8 @@ use Rattle.ghs_node.specs.declared.message.Message.{Message}
 use Rattle.ghs_node.specs.declared.message.Message.TheVariants.{Test}
 use Rattle.ghs_node.specs.Words.{Outgoing, is_at}
 use Rattle.ghs_node.specs.Reaction.{Ending, Probing, Reporting, Waiting, last_sends, probe_after, name_of}
-use Rattle.ghs_protocol.specs.Network.{Network, At, far, far_port, IsWired, InNetwork}
+use Rattle.ghs_protocol.specs.Network.{Network, At, far, far_port, InNetwork}
+use Rattle.ghs_protocol.proofs.lemmas.Wired.{IsWired}
 use Rattle.ghs_protocol.specs.Net.{put}
 use Rattle.ghs_protocol.specs.Steps.{sent_on}
 use Rattle.ghs_protocol.proofs.clauses.Scene.{Seen, adds, Member, Scene, acts}

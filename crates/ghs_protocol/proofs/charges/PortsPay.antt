@@ -23,7 +23,7 @@ use Rattle.ghs_protocol.specs.Network.{Network, network_of, At}
 use Rattle.ghs_protocol.specs.Net.{Net, opening}
 use Rattle.ghs_protocol.specs.Run.{IsAfter}
 use Rattle.ghs_protocol.specs.Ledger.{of_kind}
-use Rattle.ghs_protocol.specs.Nodes.{HasFewPorts, IsNodeOf, IsWellFormed}
+use Rattle.ghs_protocol.specs.Nodes.{IsNodeOf}
 use Rattle.ghs_protocol.specs.Steps.{Happens, Took, taken}
 use Rattle.ghs_protocol.specs.Payments.{added_up, failed, no_accept_first, port_pays}
 use Rattle.ghs_protocol.proofs.clauses.Scene.{Ghost, scene}
@@ -36,7 +36,7 @@ use Rattle.ghs_protocol.proofs.lemmas.Graphs.{graph_few}
 use Rattle.ghs_protocol.proofs.lemmas.Sends.{messages}
 use Rattle.ghs_protocol.proofs.lemmas.Steps.{step_formed}
 use Rattle.ghs_protocol.proofs.lemmas.Woken.{One_by, StepBy, StepsBy, Two_by, asleep_or_not, awake_row, event_steps_by}
-use Rattle.ghs_protocol.proofs.lemmas.WellFormed.{event_row, opening_formed}
+use Rattle.ghs_protocol.proofs.lemmas.WellFormed.{HasFewPorts, IsWellFormed, event_row, opening_formed}
 use Rattle.ghs_protocol.proofs.charges.Acts.{all_calls, charges_keep, kinds_append}
 use Rattle.ghs_protocol.proofs.charges.Runs.{Stepped, by_memory, opening_has, stepped}
 use Rattle.ghs_protocol.proofs.charges.Due.{paid_not, paid_once}

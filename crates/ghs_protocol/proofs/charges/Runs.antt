@@ -8,10 +8,12 @@ use Rattle.ghs_node.specs.declared.delta.Delta.{Delta}
 use Rattle.ghs_node.specs.NodeState.{NodeState, mark_at, degree, with_mark}
 use Rattle.ghs_node.specs.Reaction.{at_wake, wakes, wakes_alone}
 use Rattle.ghs_protocol.specs.declared.event.Event.{Event}
-use Rattle.ghs_protocol.specs.Network.{At, IsWired, Network}
+use Rattle.ghs_protocol.specs.Network.{At, Network}
+use Rattle.ghs_protocol.proofs.lemmas.Wired.{IsWired}
 use Rattle.ghs_protocol.specs.Net.{Net, opening, put}
 use Rattle.ghs_protocol.specs.Run.{IsAfter}
-use Rattle.ghs_protocol.specs.Nodes.{AreNodes, HasFewPorts, IsNodeOf}
+use Rattle.ghs_protocol.specs.Nodes.{IsNodeOf}
+use Rattle.ghs_protocol.proofs.lemmas.WellFormed.{AreNodes, HasFewPorts}
 use Rattle.ghs_protocol.specs.Steps.{Step, Takes_one, Wakes_up, reacted, taken, waking}
 use Rattle.ghs_protocol.proofs.clauses.Scene.{Ghost, Scene, see, scene}
 use Rattle.ghs_protocol.proofs.clauses.Nodes.{Untouched}

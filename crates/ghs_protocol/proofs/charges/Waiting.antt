@@ -6,7 +6,8 @@ use Rattle.ghs_graph.specs.Bound.{IsFloorLog2}
 use Rattle.ghs_node.specs.declared.message.Message.{Message}
 use Rattle.ghs_node.specs.declared.message.Message.TheVariants.{Connect, Initiate, Test, Accept, Reject, Report, ChangeRoot}
 use Rattle.ghs_node.specs.Words.{is_branch}
-use Rattle.ghs_protocol.specs.Network.{Network, At, IsWired, far, InNetwork}
+use Rattle.ghs_protocol.specs.Network.{Network, At, far, InNetwork}
+use Rattle.ghs_protocol.proofs.lemmas.Wired.{IsWired}
 use Rattle.ghs_protocol.specs.Net.{Net}
 use Rattle.ghs_protocol.specs.Ledger.{sum_below, of_kind}
 use Rattle.ghs_protocol.specs.Payments.{calls_at, testing}

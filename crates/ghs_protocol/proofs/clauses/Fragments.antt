@@ -1,5 +1,5 @@
 -- Clauses of fragments, of the links that join them, and of their roots.
-use Rattle.std.specs.Prelude.{◌⊎◌, ◌≡◌, ◌≢◌, ℕ, ◌^◌, ◌≤◌, true, false, Some, None, List, [], ◌∷◌, length}
+use Rattle.std.specs.Prelude.{◌⊎◌, ◌≡◌, ℕ, ◌^◌, true, false, Some, None}
 use Rattle.ghs_graph.specs.declared.key.Key.{Key}
 use Rattle.ghs_protocol.specs.Network.{Network, port_at, far, far_port, At, InNetwork}
 use Rattle.ghs_protocol.specs.Marks.{Leads}

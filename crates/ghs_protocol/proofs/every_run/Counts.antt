@@ -16,10 +16,10 @@ use Rattle.ghs_node.specs.declared.work.Work.TheVariants.{Wake}
 use Rattle.ghs_node.specs.Kind.{kind_of, place_of}
 use Rattle.ghs_node.proofs.lemmas.{reaction_inverts}
 use Rattle.ghs_protocol.specs.declared.event.Event.{Event}
-use Rattle.ghs_protocol.specs.Network.{Network, IsWired}
+use Rattle.ghs_protocol.specs.Network.{Network}
+use Rattle.ghs_protocol.proofs.lemmas.Wired.{IsWired}
 use Rattle.ghs_protocol.specs.Net.{Net, happens, take_first, one_if_consumed, one_if_requeued}
 use Rattle.ghs_protocol.specs.Run.{run}
-use Rattle.ghs_protocol.specs.Nodes.{IsWellFormed}
 use Rattle.ghs_protocol.specs.Ledger.{in_all, of_kind, takes_in}
 use Rattle.ghs_protocol.specs.Steps.{reacted, taken, Happens, Woke, Took}
 use Rattle.ghs_protocol.proofs.lemmas.Sends.{messages, sent_now, consumed_now, requeued_now}
@@ -28,7 +28,7 @@ use Rattle.ghs_protocol.proofs.lemmas.Balance.{kinds_in_all}
 use Rattle.ghs_protocol.proofs.lemmas.Effects.{taken_consumed, taken_requeued}
 use Rattle.ghs_protocol.proofs.lemmas.Events.{happening}
 use Rattle.ghs_protocol.proofs.lemmas.Runs.{both_some}
-use Rattle.ghs_protocol.proofs.lemmas.WellFormed.{event_row, event_formed}
+use Rattle.ghs_protocol.proofs.lemmas.WellFormed.{IsWellFormed, event_row, event_formed}
 use Rattle.ghs_node.specs.Words.{on_branches_from}
 use Rattle.ghs_node.specs.NodeState.{NodeState, key_at, degree}
 use Rattle.ghs_node.specs.Reaction.{Ending, Probing, Reporting, Waiting, last_sends, no_probe, searching, passed_on, answered, heard}

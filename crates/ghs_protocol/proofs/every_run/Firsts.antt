@@ -4,13 +4,12 @@ use Rattle.ghs_graph.specs.Graph.{Shape}
 use Rattle.ghs_protocol.specs.Network.{network_of}
 use Rattle.ghs_protocol.specs.Net.{Net, opening}
 use Rattle.ghs_protocol.specs.Run.{run}
-use Rattle.ghs_protocol.specs.Nodes.{IsWellFormed}
 use Rattle.ghs_protocol.specs.Laws.{IsNetOf, IsLater, BranchMarksStay, MarkedPortsStay, NodesStayAwake, LevelsStay, HaltsStay, HaltedByReaction, NodesAreNodes, MessagesHaveLevels, NothingElsewhere, KindsBalance, LedgerBalances, TakesAreCounted, SendsAreBounded, EventsHappenSo, SleepersWakeFirst, FragmentsAreJoined}
 use Rattle.ghs_protocol.proofs.lemmas.Graphs.{graph_wired, graph_few}
 use Rattle.ghs_protocol.proofs.lemmas.Events.{happening, happens_so}
 use Rattle.ghs_protocol.proofs.lemmas.Runs.{run_joins}
 use Rattle.ghs_protocol.proofs.lemmas.Woken.{event_steps}
-use Rattle.ghs_protocol.proofs.lemmas.WellFormed.{opening_formed, after_formed}
+use Rattle.ghs_protocol.proofs.lemmas.WellFormed.{IsWellFormed, opening_formed, after_formed}
 use Rattle.ghs_protocol.proofs.every_run.Counts.{run_counts, run_sends}
 use Rattle.ghs_protocol.proofs.lemmas.Lasting.{AllLast, run_lasts}
 use Rattle.ghs_protocol.proofs.every_run.Halts.{after_halted}

@@ -1,6 +1,6 @@
 -- No lawful event is without a rule.
-use Rattle.std.proofs.Common.{◌≡◌, ◌≢◌, ℕ, zero, suc, ◌+◌, ◌^◌, ◌<◌, ◌≤◌, Bool, true, false, not, ◌&&◌, ◌==◌, Option, Some, List, [], ◌∷◌, length, refl, sym, ◌∙◌, ap, subst, arith, ⊎_elim, ◌⊎◌, if◌then◌else◌, eqb-true, pow_mono}
-use Rattle.std.proofs.lemmas.Bool.{cases_eq, cases_lt, eqb-false}
+use Rattle.std.proofs.Common.{◌≡◌, ◌≢◌, ℕ, zero, suc, ◌+◌, ◌^◌, ◌<◌, ◌≤◌, true, false, not, ◌&&◌, ◌==◌, Option, Some, List, [], ◌∷◌, length, refl, sym, ◌∙◌, ap, subst, arith, ⊎_elim, ◌⊎◌, if◌then◌else◌, pow_mono}
+use Rattle.std.proofs.lemmas.Bool.{cases_eq, cases_lt}
 use Rattle.ghs_graph.specs.declared.key.Key.{Key}
 use Rattle.ghs_node.specs.declared.mark.Mark.{Mark}
 use Rattle.ghs_node.specs.declared.mark.Mark.TheVariants.{Basic, Branch, Rejected}
@@ -12,11 +12,11 @@ use Rattle.ghs_node.specs.declared.work.Work.TheVariants.{Deliver}
 use Rattle.ghs_node.specs.Words.{is_branch, is_at, on_branches, on_branches_from, find_more}
 use Rattle.ghs_node.specs.NodeState.{degree}
 use Rattle.ghs_node.specs.NoRule.{NoRule, IsForAwake, An_initiate, An_accept, A_reject, A_report, A_change_root, Still_asleep, Initiate_too_low, Initiate_to_sleep, Accept_untested, Reject_untested, Report_unowed, Root_without_best, Merge_above_levels, Absorbs_too_many, Searches_too_many}
-use Rattle.ghs_protocol.specs.Network.{Network, At, IsWired, port_at, far, far_port, InNetwork}
+use Rattle.ghs_protocol.specs.Network.{Network, At, port_at, far, far_port, InNetwork}
+use Rattle.ghs_protocol.proofs.lemmas.Wired.{IsWired}
 use Rattle.ghs_protocol.specs.Net.{Net}
 use Rattle.ghs_protocol.specs.Nodes.{IsNodeOf}
 use Rattle.ghs_protocol.specs.Ledger.{sum_below}
-use Rattle.ghs_protocol.specs.Interleavings.{HaveAtLeast}
 use Rattle.ghs_protocol.proofs.acts.Many.{few_nodes}
 use Rattle.ghs_protocol.proofs.clauses.Scene.{End, end, tree_end, see, scene, Ghost, far_end}
 use Rattle.ghs_protocol.proofs.clauses.Changes.{marked}

@@ -10,17 +10,17 @@ use Rattle.ghs_node.specs.Reaction.{reaction}
 use Rattle.ghs_node.proofs.lemmas.{reaction_inverts, row_halts}
 use Rattle.ghs_protocol.specs.declared.event.Event.{Event}
 use Rattle.ghs_protocol.specs.declared.event.Event.TheVariants as events
-use Rattle.ghs_protocol.specs.Network.{Network, IsWired}
+use Rattle.ghs_protocol.specs.Network.{Network}
+use Rattle.ghs_protocol.proofs.lemmas.Wired.{IsWired}
 use Rattle.ghs_protocol.specs.Net.{Net, opening, happens, take_first}
 use Rattle.ghs_protocol.specs.Run.{run, and_then, IsAfter}
 use Rattle.ghs_protocol.specs.Marks.{HasHalted}
-use Rattle.ghs_protocol.specs.Nodes.{HasFewPorts, IsWellFormed}
 use Rattle.ghs_protocol.specs.Steps.{reacted, Happens, Woke, Took}
-use Rattle.ghs_protocol.specs.Lasting.{Reacts, By_waking, By_taking, Halts, Now, Later}
+use Rattle.ghs_protocol.specs.Halting.{Reacts, By_waking, By_taking, Halts, Now, Later}
 use Rattle.ghs_protocol.proofs.lemmas.Events.{happening}
 use Rattle.ghs_protocol.proofs.lemmas.Runs.{both_some}
 use Rattle.ghs_protocol.proofs.lemmas.Sends.{node_here, node_there}
-use Rattle.ghs_protocol.proofs.lemmas.WellFormed.{event_row, event_formed, opening_formed}
+use Rattle.ghs_protocol.proofs.lemmas.WellFormed.{HasFewPorts, IsWellFormed, event_row, event_formed, opening_formed}
 use Rattle.ghs_protocol.proofs.lemmas.Lasting.{run_lasts}
 
 or_true : (a b : Bool) → (a || b) ≡ true → (a ≡ true) ⊎ (b ≡ true)

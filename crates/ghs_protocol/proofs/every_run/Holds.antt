@@ -1,9 +1,6 @@
 -- Every net of a run has the invariant, and what follows from it.
-use Rattle.std.proofs.Common.{◌≡◌, ◌≢◌, ℕ, ◌^◌, ◌≤◌, true, Option, Some, None, List, [], ◌∷◌, refl, sym, arith, pow_mono}
+use Rattle.std.proofs.Common.{◌≡◌, ℕ, ◌^◌, ◌≤◌, true, Option, Some, None, List, [], ◌∷◌, refl, sym, pow_mono}
 use Rattle.std.proofs.lemmas.Bool.{and_parts}
-use Rattle.std.proofs.lemmas.List.Elements.{All-cons}
-use Rattle.std.proofs.lemmas.List.Kept.{AllPairs-cons}
-use Rattle.std.specs.List.{All, AllPairs}
 use Rattle.std.specs.Prelude.{IsSome}
 use Rattle.ghs_node.specs.declared.mark.Mark.TheVariants.{Rejected}
 use Rattle.ghs_node.specs.declared.message.Message.{Message}
@@ -17,19 +14,19 @@ use Rattle.ghs_node.specs.Words.{is_sleeping}
 use Rattle.ghs_node.proofs.lemmas.{sleeping_is, reaction_ruleless}
 use Rattle.ghs_protocol.specs.declared.event.Event.{Event}
 use Rattle.ghs_protocol.specs.declared.event.Event.TheVariants as events
-use Rattle.ghs_protocol.specs.Network.{Network, At, IsWired, far, InNetwork}
+use Rattle.ghs_protocol.specs.Network.{Network, At, far, InNetwork}
+use Rattle.ghs_protocol.proofs.lemmas.Wired.{IsWired}
 use Rattle.ghs_protocol.specs.Net.{Net, is_lawful, effect, takes_from, after_take, is_waiting, is_node}
 use Rattle.ghs_protocol.specs.Run.{run, IsAfter}
 use Rattle.ghs_protocol.specs.Marks.{Leads, Here, Over, InOneFragment}
 use Rattle.ghs_protocol.specs.Interleavings.{HaveAtLeast, Asks, To_wake, To_take}
-use Rattle.ghs_protocol.specs.Nodes.{HasFewPorts, IsWellFormed}
 use Rattle.ghs_protocol.proofs.acts.Many.{many_as, no_more}
 use Rattle.ghs_protocol.proofs.clauses.Scene.{forest, scene}
 use Rattle.ghs_protocol.proofs.clauses.Fragments.{IsJoinedIn}
 use Rattle.ghs_protocol.proofs.clauses.Wiring.{Ground}
 use Rattle.ghs_protocol.proofs.clauses.Whole.{HasInvariant}
 use Rattle.ghs_protocol.proofs.lemmas.Events.{at_of}
-use Rattle.ghs_protocol.proofs.lemmas.WellFormed.{after_formed}
+use Rattle.ghs_protocol.proofs.lemmas.WellFormed.{HasFewPorts, IsWellFormed, after_formed}
 use Rattle.ghs_protocol.proofs.acts.SameForest.{branch_mark}
 use Rattle.ghs_protocol.proofs.rows.Rows.{step_keeps}
 use Rattle.ghs_protocol.proofs.every_run.Sound.{after_sound}

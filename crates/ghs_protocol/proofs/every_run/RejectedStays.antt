@@ -9,10 +9,11 @@ use Rattle.ghs_node.specs.Rows.{AwakeRow}
 use Rattle.ghs_node.specs.Laws.{MarkChange, Stays, To_branch, To_rejected}
 use Rattle.ghs_node.proofs.lemmas.{awake_marks, mark_set}
 use Rattle.ghs_protocol.specs.declared.event.Event.{Event}
-use Rattle.ghs_protocol.specs.Network.{Network, At, IsWired}
+use Rattle.ghs_protocol.specs.Network.{Network, At}
+use Rattle.ghs_protocol.proofs.lemmas.Wired.{IsWired}
 use Rattle.ghs_protocol.specs.Net.{Net, take_first}
 use Rattle.ghs_protocol.specs.Run.{run}
-use Rattle.ghs_protocol.specs.Nodes.{IsWellFormed}
+use Rattle.ghs_protocol.proofs.lemmas.WellFormed.{IsWellFormed}
 use Rattle.ghs_protocol.specs.Steps.{waking, Step, Wakes_up, Takes_one}
 use Rattle.ghs_protocol.proofs.lemmas.Nodes.{AllNodes, ports_many, node_by_node}
 use Rattle.ghs_protocol.proofs.lemmas.Woken.{asleep_basic}

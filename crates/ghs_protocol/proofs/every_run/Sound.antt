@@ -11,7 +11,7 @@ use Rattle.ghs_protocol.specs.Network.{Network, network_of, port_at, At, InNetwo
 use Rattle.ghs_protocol.specs.Net.{Net, opening}
 use Rattle.ghs_protocol.specs.Run.{IsAfter}
 use Rattle.ghs_protocol.specs.Marks.{IsBranchLink, IsJoinedLink, HasHalted}
-use Rattle.ghs_protocol.specs.Nodes.{HasFewPorts}
+use Rattle.ghs_protocol.proofs.lemmas.WellFormed.{HasFewPorts}
 use Rattle.ghs_protocol.specs.Laws.{IsNetOf}
 use Rattle.ghs_protocol.specs.Interleavings.{BranchLinksInTree, RejectedLinksAside, HaltIsExact, EndIsTree}
 use Rattle.ghs_protocol.proofs.clauses.Scene.{scene, forest}

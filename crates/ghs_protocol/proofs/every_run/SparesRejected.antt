@@ -11,7 +11,8 @@ use Rattle.ghs_node.specs.Words.{below, best_key}
 use Rattle.ghs_node.specs.NodeState.{NodeState, mark_at}
 use Rattle.ghs_node.specs.Reaction.{root_mark, reject_at}
 use Rattle.ghs_node.specs.Rows.{AwakeRow, Connect_absorbed, Test_rejected, Tests_cross, Reject_heard, Report_moves_root, Root_moves}
-use Rattle.ghs_protocol.specs.Network.{Network, At, IsWired}
+use Rattle.ghs_protocol.specs.Network.{Network, At}
+use Rattle.ghs_protocol.proofs.lemmas.Wired.{IsWired}
 use Rattle.ghs_protocol.specs.Net.{Net}
 use Rattle.ghs_protocol.proofs.clauses.Scene.{end, tree_end, see, scene, Ghost, far_end}
 use Rattle.ghs_protocol.proofs.clauses.Changes.{rejected}

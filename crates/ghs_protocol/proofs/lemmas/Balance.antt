@@ -10,18 +10,18 @@ use Rattle.ghs_node.specs.Kind.{kind_of, place_of}
 use Rattle.ghs_node.specs.Words.{Outgoing}
 use Rattle.ghs_node.proofs.lemmas.{reaction_inverts}
 use Rattle.ghs_protocol.specs.declared.event.Event.{Event}
-use Rattle.ghs_protocol.specs.Network.{Network, far, far_port, At, IsWired}
+use Rattle.ghs_protocol.specs.Network.{Network, far, far_port, At}
+use Rattle.ghs_protocol.proofs.lemmas.Wired.{IsWired}
 use Rattle.ghs_protocol.specs.Net.{Net, opening, put_at, send, send_all, change, take_first, left_of, one_if_consumed}
 use Rattle.ghs_protocol.specs.Run.{run, IsAfter}
 use Rattle.ghs_protocol.specs.Ledger.{sum_below, sum_over_ports, of_kind, waiting_of, waiting, IsBalanced, in_all, IsBalancedInAll}
-use Rattle.ghs_protocol.specs.Nodes.{HasFewPorts, IsWellFormed}
 use Rattle.ghs_protocol.specs.Steps.{Happens, Woke, Took}
 use Rattle.ghs_protocol.proofs.lemmas.Updates.{put_at_same, put_at_miss}
 use Rattle.ghs_protocol.proofs.lemmas.Sends.{put_count}
 use Rattle.ghs_protocol.proofs.lemmas.Sums.{sum_same, sum_add, ports_one, ports_none, ports_same, ports_add}
 use Rattle.ghs_protocol.proofs.lemmas.Queues.{all_first, all_rest}
 use Rattle.ghs_protocol.proofs.lemmas.Runs.{run_keeps}
-use Rattle.ghs_protocol.proofs.lemmas.WellFormed.{sends_arrive, event_row, event_formed, opening_formed}
+use Rattle.ghs_protocol.proofs.lemmas.WellFormed.{HasFewPorts, IsWellFormed, sends_arrive, event_row, event_formed, opening_formed}
 
 pub of_kind_append : (k : ℕ) (a b : List Message) → of_kind k (a ++ b) ≡ of_kind k a + of_kind k b
 of_kind_append k [] b = omega arith

@@ -13,8 +13,9 @@ use Rattle.ghs_graph.specs.Ports.{port_number, far_end, port_on, ports_of, HasPo
 use Rattle.ghs_graph.specs.Laws.{HasTwoPorts}
 use Rattle.ghs_graph.proofs.lemmas.Ports.{length-ports_of, degree-le-length, ports_end_elsewhere, ports_lead_back, ports_rise, OnLink, on_link, far_end_a, far_end_b, end_cases, among_at, links_have_two_ports}
 use Rattle.ghs_graph.proofs.lemmas.Degrees.{degrees_are_twice}
-use Rattle.ghs_protocol.specs.Network.{network_of, port_at, far, far_port, At, IsWired}
-use Rattle.ghs_protocol.specs.Nodes.{HasFewPorts}
+use Rattle.ghs_protocol.specs.Network.{network_of, port_at, far, far_port, At}
+use Rattle.ghs_protocol.proofs.lemmas.Wired.{IsWired}
+use Rattle.ghs_protocol.proofs.lemmas.WellFormed.{HasFewPorts}
 use Rattle.ghs_protocol.specs.Ledger.{sum_below}
 
 -- a sum over the nodes, in ghs_graph's way to say it

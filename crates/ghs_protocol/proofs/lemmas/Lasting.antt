@@ -1,7 +1,8 @@
 -- Between any two moments of a run, nodes lose no level, no wakefulness, no halt and no mark.
-use Rattle.std.proofs.Common.{◌≡◌, ℕ, ⊎_elim, Bool, true, ◌||◌, List, refl, sym, ◌∙◌, arith, Option, Some, le_refl, get_or}
+use Rattle.std.proofs.Common.{◌≡◌, ◌≢◌, ℕ, ◌≤◌, ⊎_elim, Bool, true, ◌||◌, List, refl, sym, ◌∙◌, arith, Option, Some, le_refl, get_or}
 use Rattle.ghs_node.specs.declared.mark.Mark.{Mark}
 use Rattle.ghs_node.specs.declared.mark.Mark.TheVariants.{Basic, Branch, Rejected}
+use Rattle.ghs_node.specs.declared.message.Phase.TheVariants.{Sleeping}
 use Rattle.ghs_node.specs.declared.delta.Delta.{Delta}
 use Rattle.ghs_node.specs.declared.work.Work.{Work}
 use Rattle.ghs_node.specs.declared.work.Work.TheVariants.{Wake, Deliver}
@@ -11,15 +12,22 @@ use Rattle.ghs_node.specs.Rows.{Row}
 use Rattle.ghs_node.specs.Laws.{MarkChange, Stays, To_branch, To_rejected}
 use Rattle.ghs_node.proofs.lemmas.{reaction_inverts, row_marks, mark_set, branch_stays, row_level, row_awake, row_halts}
 use Rattle.ghs_protocol.specs.declared.event.Event.{Event}
-use Rattle.ghs_protocol.specs.Network.{Network, IsWired}
+use Rattle.ghs_protocol.specs.Network.{Network}
+use Rattle.ghs_protocol.proofs.lemmas.Wired.{IsWired}
 use Rattle.ghs_protocol.specs.Net.{Net, take_first}
 use Rattle.ghs_protocol.specs.Run.{run}
-use Rattle.ghs_protocol.specs.Nodes.{IsWellFormed}
 use Rattle.ghs_protocol.specs.Steps.{Happens, Woke, Took}
-use Rattle.ghs_protocol.specs.Lasting.{Lasts}
 use Rattle.ghs_protocol.proofs.lemmas.Nodes.{node_by_node}
 use Rattle.ghs_protocol.proofs.lemmas.Runs.{run_relates}
-use Rattle.ghs_protocol.proofs.lemmas.WellFormed.{event_row, event_formed}
+use Rattle.ghs_protocol.proofs.lemmas.WellFormed.{IsWellFormed, event_row, event_formed}
+
+-- what a node doesn't lose: its level, that it is awake, that it has halted, its Branch marks, and that a port is marked at all.
+pub record Lasts (n n' : NodeState) : Type 0 where
+  pub level : n.head.level ≤ n'.head.level
+  pub awake : n.head.phase ≢ Sleeping → n'.head.phase ≢ Sleeping
+  pub halted : n.head.halted ≡ true → n'.head.halted ≡ true
+  pub branch : (p : ℕ) → mark_at n p ≡ Branch → mark_at n' p ≡ Branch
+  pub marked : (p : ℕ) → mark_at n p ≢ Basic → mark_at n' p ≢ Basic
 
 -- a mark that is Basic was so before
 pub basic_before : (n : NodeState) (o : Option (ℕ × Mark)) (q : ℕ) →

@@ -5,15 +5,15 @@ use Rattle.ghs_node.specs.Rows.{Awake}
 use Rattle.ghs_node.proofs.lemmas.{row_computes}
 use Rattle.ghs_protocol.specs.declared.event.Event.{Event}
 use Rattle.ghs_protocol.specs.declared.event.Event.TheVariants as events
-use Rattle.ghs_protocol.specs.Network.{Network, IsWired}
+use Rattle.ghs_protocol.specs.Network.{Network}
+use Rattle.ghs_protocol.proofs.lemmas.Wired.{IsWired}
 use Rattle.ghs_protocol.specs.Net.{Net, opening}
 use Rattle.ghs_protocol.specs.Run.{run, IsAfter}
-use Rattle.ghs_protocol.specs.Nodes.{HasFewPorts, IsWellFormed}
 use Rattle.ghs_protocol.specs.Steps.{waking, Happens, Woke, Took, Step, Wakes_up, Takes_one, Steps, One, Two}
 use Rattle.ghs_protocol.proofs.lemmas.Nodes.{ports_many}
 use Rattle.ghs_protocol.proofs.lemmas.Runs.{run_keeps, run_relates}
 use Rattle.ghs_protocol.proofs.lemmas.Woken.{event_steps}
-use Rattle.ghs_protocol.proofs.lemmas.WellFormed.{event_formed, opening_formed}
+use Rattle.ghs_protocol.proofs.lemmas.WellFormed.{HasFewPorts, IsWellFormed, event_formed, opening_formed}
 
 module _ (g : Network) where
   -- a step is an event that happens

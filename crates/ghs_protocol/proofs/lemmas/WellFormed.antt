@@ -1,5 +1,5 @@
 -- In every net of a run the nodes are nodes, levels are levels, and nothing waits where no port is.
-use Rattle.std.proofs.Common.{◌≡◌, ℕ, zero, suc, ◌≤◌, List, length, replicate, refl, sym, ◌∙◌, subst, arith, Some}
+use Rattle.std.proofs.Common.{◌≡◌, ℕ, zero, suc, ◌≤◌, List, length, replicate, refl, sym, ◌∙◌, subst, arith, Some, []}
 use Rattle.std.specs.List.{All}
 use Rattle.std.proofs.lemmas.List.{length-map, length-replicate}
 use Rattle.std.proofs.lemmas.List.Elements.{All-nil, All-cons}
@@ -16,14 +16,29 @@ use Rattle.ghs_node.specs.Rows.{Row}
 use Rattle.ghs_node.specs.Laws.{HasLevel, WorkHasLevel}
 use Rattle.ghs_node.proofs.lemmas.{reaction_inverts, row_kept, row_ported, row_leveled}
 use Rattle.ghs_protocol.specs.declared.event.Event.{Event}
-use Rattle.ghs_protocol.specs.Network.{Network, far, far_port, At, IsWired}
+use Rattle.ghs_protocol.specs.Network.{Network, far, far_port, At}
+use Rattle.ghs_protocol.proofs.lemmas.Wired.{IsWired}
 use Rattle.ghs_protocol.specs.Net.{Net, opening, change, take_first}
 use Rattle.ghs_protocol.specs.Run.{run, IsAfter}
-use Rattle.ghs_protocol.specs.Nodes.{IsNodeOf, HasFewPorts, IsWellFormed}
+use Rattle.ghs_protocol.specs.Nodes.{IsNodeOf}
 use Rattle.ghs_protocol.specs.Steps.{Happens, Woke, Took}
 use Rattle.ghs_protocol.proofs.lemmas.Nodes.{ports_many, node_kept}
 use Rattle.ghs_protocol.proofs.lemmas.Runs.{run_keeps}
 use Rattle.ghs_protocol.proofs.lemmas.Queues.{all_first, taken_all, sent_all, taken_elsewhere, sent_elsewhere}
+
+-- all nodes are the network's
+abbrev pub AreNodes : Network → Net → Type 0
+AreNodes g w = (v : ℕ) → IsNodeOf g v (w.node v)
+
+-- no node has more ports than a node may have
+abbrev pub HasFewPorts : Network → Type 0
+HasFewPorts g = (v : ℕ) → length (g.ports v) ≤ 8388608
+
+-- The nodes are nodes, the levels in the messages that wait are levels, and where no port is nothing waits.
+pub record IsWellFormed (g : Network) (w : Net) : Type 0 where
+  pub nodes : AreNodes g w
+  pub levels : (v p : ℕ) → All HasLevel (w.queue v p)
+  pub elsewhere : (v p : ℕ) → (At g v p → ⊥) → w.queue v p ≡ []
 
 replicate_all : (k : ℕ) → All (λ (m : Mark). m ≡ Basic) (replicate k Basic)
 replicate_all zero = All-nil (λ (m : Mark). m ≡ Basic)

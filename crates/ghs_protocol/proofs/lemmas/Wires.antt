@@ -3,7 +3,8 @@ use Rattle.std.proofs.Common.{◌≡◌, ◌≢◌, ℕ, ◌<◌, ◌≤◌, len
 use Rattle.std.proofs.lemmas.Bool.{cases_lt}
 use Rattle.std.proofs.lemmas.List.{get_or_past}
 use Rattle.ghs_graph.specs.declared.port.Port.{Port}
-use Rattle.ghs_protocol.specs.Network.{Network, far, far_port, At, IsWired, InNetwork}
+use Rattle.ghs_protocol.specs.Network.{Network, far, far_port, At, InNetwork}
+use Rattle.ghs_protocol.proofs.lemmas.Wired.{IsWired}
 use Rattle.ghs_graph.specs.Ports.{no_port}
 
 -- a node with a port is a node

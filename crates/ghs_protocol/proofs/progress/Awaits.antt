@@ -11,11 +11,12 @@ use Rattle.ghs_node.specs.Words.{is_zero, is_missing, find_more, Outgoing}
 use Rattle.ghs_node.specs.NodeState.{NodeState, degree, with_mark}
 use Rattle.ghs_node.specs.Reaction.{after, at_wake, ends, Ending}
 use Rattle.ghs_node.specs.Rows.{AwakeRow, Closes, Reports, Waits, Settles, Probes, Exhausts, Connect_absorbed, Connect_waits, Connect_merges, Initiate_rests, Initiate_searches, Test_waits, Test_accepted, Test_rejected, Tests_cross, Accept_heard, Reject_heard, Report_heard, Report_waits, Report_moves_root, Report_halts, Report_passes, Root_moves}
-use Rattle.ghs_protocol.specs.Network.{Network, IsWired}
+use Rattle.ghs_protocol.specs.Network.{Network}
+use Rattle.ghs_protocol.proofs.lemmas.Wired.{IsWired}
 use Rattle.ghs_protocol.specs.Net.{Net}
 use Rattle.ghs_protocol.specs.Run.{IsAfter}
 use Rattle.ghs_protocol.specs.Steps.{waking}
-use Rattle.ghs_protocol.specs.Nodes.{HasFewPorts}
+use Rattle.ghs_protocol.proofs.lemmas.WellFormed.{HasFewPorts}
 use Rattle.ghs_protocol.proofs.lemmas.Nodes.{NodeKept, node_step}
 use Rattle.ghs_protocol.proofs.lemmas.Steps.{run_by_steps}
 

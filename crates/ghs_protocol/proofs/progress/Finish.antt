@@ -22,12 +22,12 @@ use Rattle.ghs_node.specs.Words.{is_sleeping}
 use Rattle.ghs_protocol.specs.declared.event.Event.{Event}
 use Rattle.ghs_protocol.specs.declared.event.Event.TheVariants.{Take}
 use Rattle.ghs_protocol.specs.declared.event.Event.TheVariants as events
-use Rattle.ghs_protocol.specs.Network.{Network, network_of, port_at, At, far, IsWired, InNetwork}
+use Rattle.ghs_protocol.specs.Network.{Network, network_of, port_at, At, far, InNetwork}
+use Rattle.ghs_protocol.proofs.lemmas.Wired.{IsWired}
 use Rattle.ghs_protocol.specs.Net.{Net, opening, happens, is_lawful, effect, one_if_requeued}
 use Rattle.ghs_protocol.specs.Run.{and_then, run}
 use Rattle.ghs_protocol.specs.Ledger.{sum_below, in_all}
 use Rattle.ghs_protocol.specs.Marks.{HasHalted, Leads, Here, Over}
-use Rattle.ghs_protocol.specs.Nodes.{IsWellFormed}
 use Rattle.ghs_protocol.specs.Steps.{Happens, Woke, Took, taken, reacted}
 use Rattle.ghs_protocol.specs.Laws.{IsNetOf}
 use Rattle.ghs_protocol.specs.Living.{Waits, Unended, GoesOn, IsTake, AnyLink, Finish, EveryRunCanEnd, SilentNetsHaveEnded, SilentNetsAreExact, RunsAreShort}
@@ -42,7 +42,7 @@ use Rattle.ghs_protocol.proofs.every_run.Firsts.{ledger_balances}
 use Rattle.ghs_protocol.proofs.every_run.Interleavings.{events_have_rules}
 use Rattle.ghs_protocol.proofs.lemmas.Sums.{sum_most, sum_few}
 use Rattle.ghs_protocol.proofs.lemmas.Woken.{awake_row}
-use Rattle.ghs_protocol.proofs.lemmas.WellFormed.{after_formed, opening_formed, event_formed, event_row}
+use Rattle.ghs_protocol.proofs.lemmas.WellFormed.{IsWellFormed, after_formed, opening_formed, event_formed, event_row}
 use Rattle.ghs_protocol.proofs.progress.Requeues.{fate_is, turned, turns, turn_happens}
 use Rattle.ghs_protocol.proofs.every_run.Trees.{join_leads, leads_join}
 use Rattle.ghs_protocol.proofs.every_run.Sound.{halt_is_exact}

@@ -25,7 +25,7 @@ use Rattle.ghs_protocol.specs.Run.{run, MayWake}
 use Rattle.ghs_protocol.specs.Ledger.{in_all}
 use Rattle.ghs_protocol.specs.Marks.{HasHalted, HasEnded, Leads}
 use Rattle.ghs_protocol.specs.Steps.{Happens, Woke, Took, taken, reacted, waking}
-use Rattle.ghs_protocol.specs.Lasting.{Reacts, By_waking, By_taking}
+use Rattle.ghs_protocol.specs.Halting.{Reacts, By_waking, By_taking}
 use Rattle.ghs_protocol.specs.Laws.{IsNetOf}
 use Rattle.ghs_protocol.specs.Living.{AnyLink, Waits, GoesOn, Finish, IsTake}
 use Rattle.ghs_protocol.specs.Schedules.{OthersLeaveAlone, NothingIsReady, AllMayWake, StillnessIsEnd, EveryRunCanEndWhole, IsPatientIn, A_wake, Moves_on, Uncovers, IsPatient, And_then, PatientRunsAreShort, PatienceGoesOn, RealEventsAreFew}

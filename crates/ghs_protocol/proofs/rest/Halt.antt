@@ -5,7 +5,8 @@ use Rattle.ghs_node.specs.Words.{is_branch, best_key}
 use Rattle.ghs_node.specs.declared.message.Phase.TheVariants.{Find, Found}
 use Rattle.ghs_node.specs.declared.message.Message.{Message}
 use Rattle.ghs_node.specs.declared.message.Message.TheVariants.{Report}
-use Rattle.ghs_protocol.specs.Network.{Network, port_at, At, far, far_port, IsWired, InNetwork}
+use Rattle.ghs_protocol.specs.Network.{Network, port_at, At, far, far_port, InNetwork}
+use Rattle.ghs_protocol.proofs.lemmas.Wired.{IsWired}
 use Rattle.ghs_protocol.specs.Ledger.{sum_below}
 use Rattle.ghs_protocol.proofs.lemmas.Sums.{sum_same, term_le}
 use Rattle.ghs_protocol.proofs.clauses.Scene.{Member, Scene, End, TreeEnd, tree_end, end, acts, far_end}

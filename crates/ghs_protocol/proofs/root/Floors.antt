@@ -9,7 +9,8 @@ use Rattle.ghs_node.specs.Words.{is_branch, best_key}
 use Rattle.ghs_node.specs.declared.message.Phase.TheVariants.{Find, Found}
 use Rattle.ghs_node.specs.declared.message.Message.{Message}
 use Rattle.ghs_node.specs.declared.message.Message.TheVariants.{Connect, ChangeRoot}
-use Rattle.ghs_protocol.specs.Network.{Network, port_at, At, far, far_port, IsWired, InNetwork}
+use Rattle.ghs_protocol.specs.Network.{Network, port_at, At, far, far_port, InNetwork}
+use Rattle.ghs_protocol.proofs.lemmas.Wired.{IsWired}
 use Rattle.ghs_protocol.specs.Net.{put}
 use Rattle.ghs_protocol.proofs.clauses.Scene.{Seen, add, adds, Member, Scene, End, tree_end, end, acts, far_end}
 use Rattle.ghs_protocol.proofs.clauses.Changes.{left_tree, seen_beyond, pointing, sent_out}
@@ -307,9 +308,6 @@ module _ (g : Network) (wired : IsWired g) (u : ℕ) (u_is : InNetwork g u) (w :
 
     l : ℕ
     l = (w.at u).head.level
-
-    μ : ℕ → Mark
-    μ = put (w.at u).mark b Branch
 
     near_out :
         FloorsAt

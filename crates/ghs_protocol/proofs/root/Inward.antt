@@ -6,7 +6,8 @@ use Rattle.ghs_node.specs.Words.{is_branch}
 use Rattle.ghs_node.specs.declared.mark.Mark.TheVariants.{Branch}
 use Rattle.ghs_node.specs.declared.message.Message.{Message}
 use Rattle.ghs_node.specs.declared.message.Message.TheVariants.{ChangeRoot}
-use Rattle.ghs_protocol.specs.Network.{Network, port_at, At, far, far_port, IsWired, InNetwork}
+use Rattle.ghs_protocol.specs.Network.{Network, port_at, At, far, far_port, InNetwork}
+use Rattle.ghs_protocol.proofs.lemmas.Wired.{IsWired}
 use Rattle.ghs_protocol.specs.Net.{put}
 use Rattle.ghs_protocol.proofs.clauses.Scene.{Member, Scene, End, TreeEnd, tree_end, end, forest, acts, far_end}
 use Rattle.ghs_protocol.proofs.clauses.Changes.{left_tree, seen_beyond, pointing}
@@ -203,9 +204,6 @@ module _ (g : Network) (wired : IsWired g) (u : ℕ) (u_is : InNetwork g u) (j :
       unnamed = λ n. not_core ((best_link.tree.core_ends joins n).at_top root.top);
       unnamed' = λ n. not_core ((best_link.tree.core_ends joins (sym ghosts.1 ∙ n)).at_top root.top);
     }
-
-    goes' : Member
-    goes' = pointing (w.at u) b
 
     marks_kept : (v p : ℕ) → is_branch ((put w.at u (pointing (w.at u) b) v).mark p) ≡ is_branch ((w.at v).mark p)
     marks_kept v p = put_alike (λ (m : Member). is_branch (m.mark p)) w.at u (pointing (w.at u) b) refl v

@@ -6,7 +6,8 @@ use Rattle.ghs_node.specs.declared.message.Phase.TheVariants.{Find}
 use Rattle.ghs_node.specs.declared.message.Message.TheVariants.{Report}
 use Rattle.ghs_node.specs.Words.{best_key}
 use Rattle.ghs_node.specs.Reaction.{Ending, Probing, Reporting, Waiting, phase_after, probe_after, last_sends, name_of, core_port}
-use Rattle.ghs_protocol.specs.Network.{Network, At, IsWired, InNetwork}
+use Rattle.ghs_protocol.specs.Network.{Network, At, InNetwork}
+use Rattle.ghs_protocol.proofs.lemmas.Wired.{IsWired}
 use Rattle.ghs_protocol.specs.Net.{put}
 use Rattle.ghs_protocol.proofs.clauses.Scene.{Seen, Member, Scene, acts}
 use Rattle.ghs_protocol.proofs.clauses.Nodes.{NodeFits, Searching}

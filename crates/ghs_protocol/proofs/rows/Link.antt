@@ -1,7 +1,8 @@
 -- A message that is taken for good: what is known of its link, and the way from the act of the scene to the net after the row.
 use Rattle.std.proofs.Common.{ℕ, length, ap, ◌⊎◌}
 use Rattle.ghs_node.specs.Words.{is_branch}
-use Rattle.ghs_protocol.specs.Network.{Network, At, IsWired}
+use Rattle.ghs_protocol.specs.Network.{Network, At}
+use Rattle.ghs_protocol.proofs.lemmas.Wired.{IsWired}
 use Rattle.ghs_protocol.proofs.clauses.Scene.{Scene, end, tree_end, far_end}
 use Rattle.ghs_protocol.proofs.clauses.Links.{Joins, Ups}
 use Rattle.ghs_protocol.proofs.clauses.Nodes.{NodeFits}

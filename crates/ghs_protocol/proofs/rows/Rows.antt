@@ -32,7 +32,8 @@ use Rattle.ghs_protocol.proofs.clauses.Scene.{Ghost, Member, Seen, Scene, acts, 
 use Rattle.ghs_protocol.proofs.clauses.Changes.{marked}
 use Rattle.ghs_protocol.specs.Net.{Net, put}
 use Rattle.ghs_protocol.specs.Network.{At, Network, far, far_port, port_at, InNetwork}
-use Rattle.ghs_protocol.specs.Nodes.{AreNodes, IsNodeOf}
+use Rattle.ghs_protocol.specs.Nodes.{IsNodeOf}
+use Rattle.ghs_protocol.proofs.lemmas.WellFormed.{AreNodes}
 use Rattle.ghs_protocol.specs.Steps.{Step, Takes_one, Wakes_up, reacted, taken, waking}
 use Rattle.std.proofs.Common.{List, None, Option, Some, [], ap, ap₂, arith, false, get_or, inl, inr, length, refl, subst, suc, sym, true, ℕ, ⊎_elim, ◌++◌, ◌+◌, ◌<◌, ◌∙◌, ◌∷◌, ◌≡◌, ◌≢◌, ◌≤◌}
 use Rattle.ghs_protocol.proofs.lemmas.Wires.{at_in}

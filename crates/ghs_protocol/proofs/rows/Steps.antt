@@ -8,7 +8,8 @@ use Rattle.ghs_node.specs.declared.message.Phase.TheVariants.{Sleeping, Find, Fo
 use Rattle.ghs_node.specs.declared.message.Message.{Message}
 use Rattle.ghs_node.specs.declared.message.Message.TheVariants.{Connect, Initiate, Accept, Reject, Report, ChangeRoot}
 use Rattle.ghs_node.specs.Words.{below, best_key, on_branches}
-use Rattle.ghs_protocol.specs.Network.{Network, port_at, At, far, far_port, IsWired, InNetwork}
+use Rattle.ghs_protocol.specs.Network.{Network, port_at, At, far, far_port, InNetwork}
+use Rattle.ghs_protocol.proofs.lemmas.Wired.{IsWired}
 use Rattle.ghs_protocol.specs.Net.{put}
 use Rattle.ghs_protocol.proofs.clauses.Scene.{Member, Scene, acts}
 use Rattle.ghs_protocol.proofs.clauses.Changes.{left_tree, left_tests, left_accepts, left_rejects, rejected, marked, rules_out, took_reject, took_accept, took_report, took_initiate, took_rest, with_halt, halts_alone, pointing, sent_out, took_child, awakened}

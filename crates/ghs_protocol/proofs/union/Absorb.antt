@@ -4,8 +4,7 @@ use Rattle.std.proofs.Math.Path.{fun_ext}
 use Rattle.std.proofs.lemmas.Bool.{cases_eq}
 use Rattle.std.proofs.lemmas.Option.{same_Some}
 use Rattle.ghs_graph.specs.declared.key.Key.{Key}
-use Rattle.ghs_node.specs.Words.{is_branch, is_find, find_more, Outgoing}
-use Rattle.ghs_node.specs.declared.head.Head.{Head}
+use Rattle.ghs_node.specs.Words.{is_branch, is_find, Outgoing}
 use Rattle.ghs_node.specs.declared.mark.Mark.TheVariants.{Branch}
 use Rattle.ghs_node.specs.declared.message.Phase.TheVariants.{Sleeping, Find, Found}
 use Rattle.ghs_node.specs.declared.message.Message.{Message}
@@ -117,9 +116,6 @@ module _ (g : Network) (ground : Ground g) (u : ℕ) (u_is : InNetwork g u) (w :
 
   pub found_far : (w.at (far g u j)).head.phase ≡ Found
   found_far = quiet_far.found (far g u j) is' refl
-
-  abbrev pub head' : Head
-  head' = record (w.at u).head { find_count = find_more (w.at u).head.phase (w.at u).head.find_count }
 
   abbrev pub takes : Member
   takes = took_child (w.at u) j

@@ -9,7 +9,8 @@ use Rattle.ghs_node.specs.declared.message.Phase.TheVariants.{Found}
 use Rattle.ghs_node.specs.declared.message.Message.{Message}
 use Rattle.ghs_node.specs.declared.message.Message.TheVariants.{Connect}
 use Rattle.ghs_node.specs.Words.{Outgoing, is_branch}
-use Rattle.ghs_protocol.specs.Network.{Network, port_at, At, far, far_port, IsWired, InNetwork}
+use Rattle.ghs_protocol.specs.Network.{Network, port_at, At, far, far_port, InNetwork}
+use Rattle.ghs_protocol.proofs.lemmas.Wired.{IsWired}
 use Rattle.ghs_protocol.specs.Net.{put}
 use Rattle.ghs_protocol.specs.Interleavings.{HaveAtLeast}
 use Rattle.ghs_protocol.proofs.clauses.Scene.{Seen, adds, Member, Scene, End, TestEnd, end, tree_end, test_end, forest, acts, far_end}

@@ -1,7 +1,8 @@
 -- A node without ports wakes and halts.
 use Rattle.std.proofs.Common.{◌≡◌, ◌≢◌, ℕ, [], refl, sym, ◌∙◌, ap, subst, length, arith}
 use Rattle.ghs_node.specs.declared.message.Phase.TheVariants.{Sleeping, Find, Found}
-use Rattle.ghs_protocol.specs.Network.{Network, At, far_port, IsWired, InNetwork}
+use Rattle.ghs_protocol.specs.Network.{Network, At, far_port, InNetwork}
+use Rattle.ghs_protocol.proofs.lemmas.Wired.{IsWired}
 use Rattle.ghs_protocol.proofs.lemmas.Updates.{put_other}
 use Rattle.ghs_protocol.proofs.lemmas.Sums.{sum_same}
 use Rattle.ghs_protocol.proofs.clauses.Scene.{Member, Scene, acts}

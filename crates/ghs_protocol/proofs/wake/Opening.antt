@@ -1,5 +1,5 @@
 -- The opening net satisfies the invariant.
-use Rattle.std.proofs.Common.{◌≡◌, ◌≢◌, ℕ, zero, suc, ◌<◌, true, List, [], ◌∷◌, refl, subst, ⊎_elim, length, arith, replicate, get_or}
+use Rattle.std.proofs.Common.{◌≡◌, ◌≢◌, ℕ, zero, suc, ◌<◌, true, [], ◌∷◌, refl, subst, ⊎_elim, length, arith, replicate, get_or}
 use Rattle.std.proofs.lemmas.Bool.{cases_lt}
 use Rattle.std.proofs.lemmas.List.{get_or_past, length-replicate}
 use Rattle.ghs_node.specs.declared.mark.Mark.{Mark}

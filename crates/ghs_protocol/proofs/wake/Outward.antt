@@ -7,7 +7,8 @@ use Rattle.ghs_node.specs.declared.mark.Mark.TheVariants.{Branch}
 use Rattle.ghs_node.specs.declared.message.Phase.TheVariants.{Sleeping, Found}
 use Rattle.ghs_node.specs.declared.message.Message.TheVariants.{Connect}
 use Rattle.ghs_node.specs.Words.{is_branch}
-use Rattle.ghs_protocol.specs.Network.{Network, port_at, At, far, far_port, IsWired, InNetwork}
+use Rattle.ghs_protocol.specs.Network.{Network, port_at, At, far, far_port, InNetwork}
+use Rattle.ghs_protocol.proofs.lemmas.Wired.{IsWired}
 use Rattle.ghs_protocol.proofs.clauses.Scene.{Seen, adds, Member, Scene, End, TreeEnd, end, tree_end, test_end, forest, acts, far_end}
 use Rattle.ghs_protocol.proofs.clauses.Changes.{seen_beyond, awakened}
 use Rattle.ghs_protocol.proofs.clauses.Nodes.{Untouched}

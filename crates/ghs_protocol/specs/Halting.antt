@@ -1,24 +1,13 @@
--- What lasts from one moment of a run to any later one.
-use Rattle.std.specs.Prelude.{◌≡◌, ◌≢◌, ℕ, ◌≤◌, true, List, ◌∷◌, Some}
+-- The reactions that the events of a run bring about, and the one that halts a node.
+use Rattle.std.specs.Prelude.{◌≡◌, ℕ, true, List, ◌∷◌, Some}
 use Rattle.ghs_node.specs.declared.message.Message.{Message}
-use Rattle.ghs_node.specs.declared.mark.Mark.TheVariants.{Basic, Branch}
-use Rattle.ghs_node.specs.declared.message.Phase.TheVariants.{Sleeping}
 use Rattle.ghs_node.specs.declared.delta.Delta.{Delta}
 use Rattle.ghs_node.specs.declared.work.Work.TheVariants.{Wake, Deliver}
-use Rattle.ghs_node.specs.NodeState.{NodeState, mark_at}
 use Rattle.ghs_node.specs.Reaction.{reaction}
 use Rattle.ghs_protocol.specs.declared.event.Event.{Event}
 use Rattle.ghs_protocol.specs.declared.event.Event.TheVariants as events
 use Rattle.ghs_protocol.specs.Network.{Network}
 use Rattle.ghs_protocol.specs.Net.{Net, happens}
-
--- What a node doesn't lose: its level, that it is awake, that it has halted, its Branch marks, and that a port is marked at all.
-pub record Lasts (n n' : NodeState) : Type 0 where
-  pub level : n.head.level ≤ n'.head.level
-  pub awake : n.head.phase ≢ Sleeping → n'.head.phase ≢ Sleeping
-  pub halted : n.head.halted ≡ true → n'.head.halted ≡ true
-  pub branch : (p : ℕ) → mark_at n p ≡ Branch → mark_at n' p ≡ Branch
-  pub marked : (p : ℕ) → mark_at n p ≢ Basic → mark_at n' p ≢ Basic
 
 -- the reaction of node v that an event brings about
 pub data Reacts (w : Net) : Event → ℕ → Delta → Type 0 where
