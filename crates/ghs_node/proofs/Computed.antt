@@ -28,7 +28,7 @@ ends_alike : (h : Head) (m : Option (ℕ × Mark)) (s : Outgoing) {e f : Ending}
     → ◌≡◌ {A = Option Delta} (Some (ends h m s e)) (Some (ends h m s f))
 ends_alike h m s q = ap (λ (e : Ending). Some (ends h m s e)) q
 
-passes_computes : (n : NodeState) (w : Option Key) (o : Best) → below (best_key o) w ≡ false → (w ≡ None → o ≢ None)
+pub passes_computes : (n : NodeState) (w : Option Key) (o : Best) → below (best_key o) w ≡ false → (w ≡ None → o ≢ None)
     → (below w None || below (best_key o) None) ≡ true
 passes_computes n None None b s = absurd (s refl refl)
 passes_computes n None (Some k) b s = refl

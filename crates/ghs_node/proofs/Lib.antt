@@ -8,6 +8,7 @@ mod MarkChanges
 mod LeastBasic
 mod Kept
 mod Outgoing
+mod RowNames
 mod Whole
 mod Equal
 mod Branches

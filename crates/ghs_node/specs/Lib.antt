@@ -5,5 +5,6 @@ pub mod Reaction
 pub mod Rows
 pub mod NoRule
 pub mod Laws
+pub mod RowName
 pub mod Draft
 pub mod LeastBasic

@@ -19,6 +19,7 @@ mod path_tests;
 mod procedures;
 pub mod react;
 mod responses;
+pub mod row_name;
 #[cfg(test)]
 mod row_tests;
 pub mod sends;

@@ -6,6 +6,7 @@ use crate::level::Level;
 use crate::mark::Mark;
 use crate::message::{Message, Phase};
 use crate::react::react;
+use crate::row_name::{RowName, row_of};
 use crate::work::Work;
 use std::alloc::Global;
 use std::process::Abort;
@@ -93,6 +94,43 @@ enum Name {
     RootMovesOutOverTheLink,
     ReportHalts,
     ReportPasses,
+}
+
+/// The table's name of a row.
+fn name_of(name: Name) -> RowName {
+    match name {
+        Name::Wakes => RowName::Wakes,
+        Name::WakesAlone => RowName::WakesAlone,
+        Name::WokenMerges => RowName::WokenMerges,
+        Name::WokenConnectWaits => RowName::WokenConnectWaits,
+        Name::WokenTestWaits => RowName::WokenTestWaits,
+        Name::WokenAccepts => RowName::WokenAccepts,
+        Name::ConnectAbsorbedInSearch | Name::ConnectAbsorbedAtRest => RowName::ConnectAbsorbed,
+        Name::ConnectWaits => RowName::ConnectWaits,
+        Name::ConnectMerges => RowName::ConnectMerges,
+        Name::InitiateRests => RowName::InitiateRests,
+        Name::InitiateSearchesAndTests
+        | Name::InitiateSearchesAndWaitsForAReport
+        | Name::InitiateSearchesAndReports => RowName::InitiateSearches,
+        Name::TestWaits => RowName::TestWaits,
+        Name::TestAccepted => RowName::TestAccepted,
+        Name::TestRejectedOnABasicPort | Name::TestRejectedOnABranch => RowName::TestRejected,
+        Name::TestsCrossAndTheNodeReports | Name::TestsCrossAndTheNodeTestsOn => {
+            RowName::TestsCross
+        }
+        Name::AcceptHeard => RowName::AcceptHeard,
+        Name::RejectHeardAndTheNodeReports | Name::RejectHeardAndTheNodeTestsOn => {
+            RowName::RejectHeard
+        }
+        Name::ReportHeardWhileATestIsOut | Name::ReportHeardTheLast => RowName::ReportHeard,
+        Name::ReportWaits => RowName::ReportWaits,
+        Name::ReportMovesRootAlongABranch | Name::ReportMovesRootOutOverTheLink => {
+            RowName::ReportMovesRoot
+        }
+        Name::RootMovesAlongABranch | Name::RootMovesOutOverTheLink => RowName::RootMoves,
+        Name::ReportHalts => RowName::ReportHalts,
+        Name::ReportPasses => RowName::ReportPasses,
+    }
 }
 
 /// One row of the table: a node that has done some works, one more work, and what comes of it.
@@ -486,6 +524,8 @@ fn assert_row(rt: &impl Abort, alloc: Global, row: &Row) {
     let reply = react(alloc, &node, row.work);
     assert!(rt; reply.is_ok(), "{:?}", row.name);
     let delta = reply.expect(rt, "a reaction");
+    let found = row_of(&node, row.work);
+    assert_eq!(rt; found, name_of(row.name));
     assert_eq!(rt; delta.fate, row.fate, "{:?}", row.name);
     assert_eq!(rt; delta.mark, row.mark, "{:?}", row.name);
     assert_sent(rt, &delta, row);
