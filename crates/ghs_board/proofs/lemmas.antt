@@ -1,0 +1,2 @@
+-- What proofs about boards above this crate may use.
+pub mod Pairs

@@ -1,0 +1,99 @@
+// The rule of the queue, and what each step tells the pass that makes it.
+use crate::hand::Hand;
+use crossbeam_queue::protocol::{Join, Lesson, Outcome, Protocol, Split};
+
+// What was put is what was taken and what is left, over all passes.
+pub struct Fair;
+
+impl Protocol<u32, Hand> for Fair {
+    ghost use Rattle.ghs_queue.specs.Bags.{IsReady, opener};
+
+    ghost holds = { IsReady };
+
+    ghost first = { opener 0 };
+}
+
+pub struct Puts;
+
+impl Outcome<u32, Hand> for Puts {
+    ghost use Rattle.ghs_queue.specs.Bags.{PutOne};
+
+    ghost then = { PutOne };
+}
+
+impl Lesson<u32, Hand> for Puts {
+    ghost use Rattle.ghs_queue.specs.Bags.{Known};
+
+    ghost fact = { Known };
+}
+
+pub struct Takes;
+
+impl Outcome<u32, Hand> for Takes {
+    ghost use Rattle.ghs_queue.specs.Bags.{TakenOne};
+
+    ghost then = { TakenOne };
+}
+
+impl Lesson<u32, Hand> for Takes {
+    ghost use Rattle.ghs_queue.specs.Bags.{Known};
+
+    ghost fact = { Known };
+}
+
+// One share moves to a new pass, or the shares and bags of two passes are added up.
+pub struct Cut;
+
+impl Split<Hand> for Cut {
+    ghost use Rattle.std.specs.Prelude.{◌-◌, []};
+    ghost use Rattle.ghs_queue.specs.Bags.{hand};
+
+    ghost left = { λ v. hand v.all (v.shares - 1) v.put v.taken };
+
+    ghost right = { λ v. hand v.all 1 [] [] };
+}
+
+impl Join<Hand> for Cut {
+    ghost use Rattle.std.specs.Prelude.{◌+◌, ◌++◌};
+    ghost use Rattle.ghs_queue.specs.Bags.{hand, nobody};
+
+    ghost both = { λ v w. hand v.all (v.shares + w.shares) (v.put ++ w.put) (v.taken ++ w.taken) };
+
+    ghost spent = { nobody };
+}
+
+// A queue's rule begins at a constant, and its number of shares comes with `open`. So the first pass counts the number up
+// in its own view, binary digit by digit, by splits whose second pass knows nothing and is let go.
+pub struct Twice;
+
+impl Split<Hand> for Twice {
+    ghost use Rattle.std.specs.Prelude.{◌*◌};
+    ghost use Rattle.ghs_queue.specs.Bags.{opener, nobody};
+
+    ghost left = { λ v. opener (2 * v.all) };
+
+    ghost right = { λ v. nobody };
+}
+
+pub struct TwiceAndOne;
+
+impl Split<Hand> for TwiceAndOne {
+    ghost use Rattle.std.specs.Prelude.{◌*◌, ◌+◌};
+    ghost use Rattle.ghs_queue.specs.Bags.{opener, nobody};
+
+    ghost left = { λ v. opener (2 * v.all + 1) };
+
+    ghost right = { λ v. nobody };
+}
+
+// The first pass holds all shares.
+pub struct Begin;
+
+impl Split<Hand> for Begin {
+    ghost use Rattle.std.specs.Prelude.{[]};
+    ghost use Rattle.ghs_queue.specs.Bags.{hand, nobody};
+
+    ghost left = { λ v. hand v.all v.all [] [] };
+
+    ghost right = { λ v. nobody };
+}
