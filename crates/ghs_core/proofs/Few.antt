@@ -17,7 +17,9 @@ branches_few : (p : ℕ) (ms : List Mark) (j : ℕ) (m : Message) → length (on
 branches_few p [] j m = omega arith
 branches_few p (Branch ∷ ms) j m =
     let rest = branches_few (suc p) ms j m in
-    elim (p == j) as (λ b. length (cond b (on_branches_from (suc p) ms j m) ((p, m) ∷ on_branches_from (suc p) ms j m)) ≤ suc (length ms)) [ true ↦ omega (arith, rest) | false ↦ omega (arith, rest) ]
+    elim (p == j) as
+    (λ b. length (cond b (on_branches_from (suc p) ms j m) ((p, m) ∷ on_branches_from (suc p) ms j m)) ≤ suc (length ms))
+    [ true ↦ omega (arith, rest) | false ↦ omega (arith, rest) ]
 branches_few p (_ ∷ ms) j m = let rest = branches_few (suc p) ms j m in omega (arith, rest)
 
 last_few : (h : Head) (e : Ending) → length (last_sends h e) ≤ 1

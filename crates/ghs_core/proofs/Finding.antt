@@ -21,10 +21,14 @@ pub record Found (g : Shape) (nodes : List NodeState) (e : Ends) (i : ℕ) (port
   pub next : AreDegrees g.nodes (take i g.keys) ports
   pub links : found ≡ filter (is_wanted e g.keys nodes) (take i g.keys)
 
-pub nothing_found : (g : Shape) (nodes : List NodeState) (e : Ends) (ports : List ℕ) (found : List Key) → ports ≡ replicate (g.nodes + 1) 0 → found ≡ [] → Found g nodes e 0 ports found
+pub nothing_found : (g : Shape) (nodes : List NodeState) (e : Ends) (ports : List ℕ) (found : List Key) →
+    ports ≡ replicate (g.nodes + 1) 0 →
+    found ≡ [] →
+    Found g nodes e 0 ports found
 nothing_found g nodes e ports found p f = record { next = none_counted g.nodes ports p; links = f }
 
-module _ (g : Shape) (nodes : List NodeState) (have : HavePorts g nodes) (e : Ends) (i : ℕ) (ports : List ℕ) (found : List Key) (f : Found g nodes e i ports found) (lt : i < length g.keys) where
+module _ (g : Shape) (nodes : List NodeState) (have : HavePorts g nodes) (e : Ends) (i : ℕ) (ports : List ℕ) (found : List Key)
+    (f : Found g nodes e i ports found) (lt : i < length g.keys) where
   abbrev key : Key
   key = get_or g.keys i no_key
 
@@ -54,18 +58,23 @@ module _ (g : Shape) (nodes : List NodeState) (have : HavePorts g nodes) (e : En
       node_is = node ∙ get_or_default nodes (v - 1) n no_node (let c = have.count in omega (arith, c))
 
       pub port_has : ends_at v (get_or g.keys i no_key) ≡ true → x < degree n
-      port_has ends = let fits = port_fits ends in let many : degree n ≡ length (ports_of g.keys v) = ap degree node_is ∙ have.ports v lo hi in omega (arith, fits, many)
+      port_has ends =
+          let fits = port_fits ends in
+          let many : degree n ≡ length (ports_of g.keys v) = ap degree node_is ∙ have.ports v lo hi in omega (arith, fits, many)
 
       pub branch_is : is_branch (mark_at n x) ≡ has_branch g.keys nodes v (get_or g.keys i no_key)
       branch_is = rw (port_is, node_is) refl
 
   -- the count at one end leaves that at the other
-  pub other_end : (m y : ℕ) → y ≡ get_or (set ports (get_or g.keys i no_key).a m) (get_or g.keys i no_key).b y → y ≡ get_or ports (get_or g.keys i no_key).b y
+  pub other_end : (m y : ℕ) →
+      y ≡ get_or (set ports (get_or g.keys i no_key).a m) (get_or g.keys i no_key).b y →
+      y ≡ get_or ports (get_or g.keys i no_key).b y
   other_end m y is = is ∙ get_or-set_other ports key.a key.b m y (λ z. let r = among in absurd (omega (arith, r.1, z)))
 
   -- one link more
   pub found_more : (x y : ℕ) (wanted : Bool) (more : List Key) → x ≡ get_or ports (get_or g.keys i no_key).a x →
-      y ≡ get_or (set ports (get_or g.keys i no_key).a (x + 1)) (get_or g.keys i no_key).b y → wanted ≡ is_wanted e g.keys nodes (get_or g.keys i no_key) →
+      y ≡ get_or (set ports (get_or g.keys i no_key).a (x + 1)) (get_or g.keys i no_key).b y →
+      wanted ≡ is_wanted e g.keys nodes (get_or g.keys i no_key) →
       more ≡ found ++ cond wanted (get_or g.keys i no_key ∷ []) [] →
       Found g nodes e (i + 1) (set (set ports (get_or g.keys i no_key).a (x + 1)) (get_or g.keys i no_key).b (y + 1)) more
   found_more x y wanted more a b w m = record {
@@ -80,7 +89,9 @@ module _ (g : Shape) (nodes : List NodeState) (have : HavePorts g nodes) (e : En
       at_a = a ∙ get_or_default ports key.a x 0 (let r = among in omega (arith, wide, r.1, r.2))
 
       at_b : y ≡ get_or ports key.b 0
-      at_b = b ∙ get_or_default (set ports key.a (x + 1)) key.b y 0 (let r = among in omega (arith, wide, r.2, length-set ports key.a (x + 1))) ∙ get_or-set_other ports key.a key.b (x + 1) 0 (λ z. let r = among in absurd (omega (arith, r.1, z)))
+      at_b =
+          b ∙ get_or_default (set ports key.a (x + 1)) key.b y 0 (let r = among in omega (arith, wide, r.2, length-set ports key.a (x + 1))) ∙
+          get_or-set_other ports key.a key.b (x + 1) 0 (λ z. let r = among in absurd (omega (arith, r.1, z)))
 
 -- a link ends at its ends
 pub ends_a : (k : Key) → ends_at k.a k ≡ true

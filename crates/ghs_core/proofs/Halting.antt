@@ -18,11 +18,15 @@ use Rattle.ghs_core.specs.Halts.{IsLeast, HasOne, AreHalts, is_running, AreHalts
 
 count_all : (p : ℕ → Bool) (xs : List ℕ) → ((x : ℕ) → Contains xs x → p x ≡ true) → count_by p xs ≡ length xs
 count_all p [] h = refl
-count_all p (x ∷ xs) h = sum_by-cons (λ y. cond (p y) 1 0) x xs ∙ rw (h x (first_in x xs)) (let rest = count_all p xs (λ y c. h y (later_in x y xs c)) in omega (arith, rest))
+count_all p (x ∷ xs) h =
+    sum_by-cons (λ y. cond (p y) 1 0) x xs ∙
+    rw (h x (first_in x xs)) (let rest = count_all p xs (λ y c. h y (later_in x y xs c)) in omega (arith, rest))
 
 count_none : (p : ℕ → Bool) (xs : List ℕ) → ((x : ℕ) → Contains xs x → p x ≡ false) → count_by p xs ≡ 0
 count_none p [] h = refl
-count_none p (x ∷ xs) h = sum_by-cons (λ y. cond (p y) 1 0) x xs ∙ rw (h x (first_in x xs)) (let rest = count_none p xs (λ y c. h y (later_in x y xs c)) in omega (arith, rest))
+count_none p (x ∷ xs) h =
+    sum_by-cons (λ y. cond (p y) 1 0) x xs ∙
+    rw (h x (first_in x xs)) (let rest = count_none p xs (λ y c. h y (later_in x y xs c)) in omega (arith, rest))
 
 -- where one passes, the count isn't 0
 count_some : (p : ℕ → Bool) (xs : List ℕ) (r : ℕ) → Contains xs r → p r ≡ true → 0 < count_by p xs
@@ -47,7 +51,13 @@ rises_tail : (x : ℕ) (xs : List ℕ) → AllPairs (λ u v. u < v) (x ∷ xs) �
 rises_tail x xs rising = λ i j d lt within. rising (suc i) (suc j) d (omega arith) (omega arith)
 
 -- one that passed passes no more
-count_fewer : (p q : ℕ → Bool) (xs : List ℕ) (r : ℕ) → AllPairs (λ u v. u < v) xs → Contains xs r → p r ≡ true → q r ≡ false → ((x : ℕ) → x ≢ r → p x ≡ q x) → count_by q xs + 1 ≡ count_by p xs
+count_fewer : (p q : ℕ → Bool) (xs : List ℕ) (r : ℕ) →
+    AllPairs (λ u v. u < v) xs →
+    Contains xs r →
+    p r ≡ true →
+    q r ≡ false →
+    ((x : ℕ) → x ≢ r → p x ≡ q x) →
+    count_by q xs + 1 ≡ count_by p xs
 count_fewer p q [] r rising c e f same = absurd (nothing_in r c)
 count_fewer p q (x ∷ xs) r rising c e f same =
     let was = sum_by-cons (λ y. cond (p y) 1 0) x xs in
@@ -68,20 +78,32 @@ count_fewer p q (x ∷ xs) r rising c e f same =
 -- Nodes that have halted.
 
 -- no node has
-pub none_are : (g : Shape) → IsGraph g → (h : Halts) → h.least ≡ None → h.ended.items ≡ replicate (g.nodes + 1) false → HasComponents g h.running → AreHalts g none_halted h
+pub none_are : (g : Shape) →
+    IsGraph g →
+    (h : Halts) → h.least ≡ None →
+    h.ended.items ≡ replicate (g.nodes + 1) false →
+    HasComponents g h.running →
+    AreHalts g none_halted h
 none_are g graph h least ended running = record {
   graph = graph;
   least = rw least (λ v lo hi e. absurd cc);
   places = rw ended (length-replicate (g.nodes + 1) false);
   ended = λ r lo hi root. (λ e. let d : false ≡ true = sym (down r hi) ∙ e in absurd cc, λ one. let e = one.4 in absurd cc);
-  running = record { count = h.running; components = running; number = count_all (is_running h.ended.items) running.leasts (λ r c. rw (down r (running.has r c).1) refl) ∙ running.number };
+  running = record {
+    count = h.running;
+    components = running;
+    number = count_all (is_running h.ended.items) running.leasts (λ r c. rw (down r (running.has r c).1) refl) ∙ running.number;
+  };
 }
   where
     down : (r : ℕ) → r ≤ g.nodes → get_or h.ended.items r true ≡ false
     down r le = rw ended (get_or-replicate (g.nodes + 1) r false true (omega arith))
 
 -- the same nodes have halted
-pub are_like : (g : Shape) (halted other : ℕ → Bool) (h : Halts) → ((v : ℕ) → 1 ≤ v → v ≤ g.nodes → halted v ≡ other v) → AreHalts g halted h → AreHalts g other h
+pub are_like : (g : Shape) (halted other : ℕ → Bool) (h : Halts) →
+    ((v : ℕ) → 1 ≤ v → v ≤ g.nodes → halted v ≡ other v) →
+    AreHalts g halted h →
+    AreHalts g other h
 are_like g halted other h same are = record {
   graph = are.graph;
   least = least h.least are.least;
@@ -110,7 +132,11 @@ also_elsewhere : (halted : ℕ → Bool) (v u : ℕ) → u ≢ v → also halted
 also_elsewhere halted v u ne = grind (arith, nat_tests)
 
 -- v has halted as b says, and of the others none has that hadn't
-pub with_node_is : (halted new : ℕ → Bool) (v : ℕ) (b : Bool) → new v ≡ b → ((u : ℕ) → u ≢ v → new u ≡ halted u) → (halted v ≡ true → new v ≡ true) → (u : ℕ) → with_node halted v b u ≡ new u
+pub with_node_is : (halted new : ℕ → Bool) (v : ℕ) (b : Bool) →
+    new v ≡ b →
+    ((u : ℕ) → u ≢ v → new u ≡ halted u) →
+    (halted v ≡ true → new v ≡ true) →
+    (u : ℕ) → with_node halted v b u ≡ new u
 with_node_is halted new v true here there stays u = ⊎_elim
     (λ (z : u ≡ v). rw z (also_there halted v ∙ sym here))
     (λ ne. also_elsewhere halted v u ne ∙ sym (there u ne))
@@ -122,7 +148,8 @@ with_node_is halted new v false here there stays u = ⊎_elim
 
 -- the least one, where v has halted as well
 least_also : (halted : ℕ → Bool) (n v : ℕ) → 1 ≤ v → v ≤ n → (o : Option ℕ) → IsLeast halted n o → IsLeast (also halted v) n (Some (lesser o v))
-least_also halted n v lo hi None none = (lo, hi, also_there halted v, λ u low lt e. none u low (omega arith) (also_other halted v u (λ z. absurd (omega (arith, z))) e))
+least_also halted n v lo hi None none =
+    (lo, hi, also_there halted v, λ u low lt e. none u low (omega arith) (also_other halted v u (λ z. absurd (omega (arith, z))) e))
 least_also halted n v lo hi (Some t) is = ⊎_elim first second (cases_lt t v)
   where
     first : t < v → IsLeast (also halted v) n (Some (min t v))
@@ -174,7 +201,10 @@ module _ (g : Shape) (graph : IsGraph g) (v r : ℕ) (lo : 1 ≤ v) (hi : v ≤ 
   one_here halted = (v, lo, hi, joined_back root.joined, also_there halted v)
 
   -- the first one of its component
-  pub first_halts : (halted : ℕ → Bool) (h k : Halts) → AreHalts g halted h → get_or h.ended.items r true ≡ false → k.least ≡ Some (lesser h.least v) →
+  pub first_halts : (halted : ℕ → Bool) (h k : Halts) →
+      AreHalts g halted h →
+      get_or h.ended.items r true ≡ false →
+      k.least ≡ Some (lesser h.least v) →
       k.ended.items ≡ set h.ended.items r true → k.running + 1 ≡ h.running → AreHalts g (also halted v) k
   first_halts halted h k are down least ended running = record {
     graph = are.graph;
@@ -192,7 +222,9 @@ module _ (g : Shape) (graph : IsGraph g) (v r : ℕ) (lo : 1 ≤ v) (hi : v ≤ 
       components = are.running.components;
       number =
           let all = are.running.components in
-          let fewer = count_fewer (is_running h.ended.items) (is_running k.ended.items) all.leasts r all.rising (all.all r root_low root_high root_own) (rw down refl) (rw (ended, get_or-set_same h.ended.items r true true within) refl) (λ s ne. ap not (sym (other s ne))) in
+          let fewer =
+          count_fewer (is_running h.ended.items) (is_running k.ended.items) all.leasts r all.rising (all.all r root_low root_high root_own)
+          (rw down refl) (rw (ended, get_or-set_same h.ended.items r true true within) refl) (λ s ne. ap not (sym (other s ne))) in
           let n = are.running.number in
           omega (arith, fewer, n, running);
     };
@@ -205,7 +237,11 @@ module _ (g : Shape) (graph : IsGraph g) (v r : ℕ) (lo : 1 ≤ v) (hi : v ≤ 
       other s ne = rw ended (get_or-set_other h.ended.items r s true true ne)
 
   -- one more of a component that had one
-  pub more_halts : (halted : ℕ → Bool) (h k : Halts) → AreHalts g halted h → get_or h.ended.items r true ≡ true → k.least ≡ Some (lesser h.least v) → k.ended ≡ h.ended →
+  pub more_halts : (halted : ℕ → Bool) (h k : Halts) →
+      AreHalts g halted h →
+      get_or h.ended.items r true ≡ true →
+      k.least ≡ Some (lesser h.least v) →
+      k.ended ≡ h.ended →
       k.running ≡ h.running → AreHalts g (also halted v) k
   more_halts halted h k are up least ended running = record {
     graph = are.graph;
@@ -241,10 +277,15 @@ none_running g halted h are = (all_have, none_left)
     none_left : ((v : ℕ) → 1 ≤ v → v ≤ g.nodes → HasOne g halted v) → h.running ≡ 0
     none_left each =
         let all = are.running.components in
-        sym are.running.number ∙ count_none (is_running h.ended.items) all.leasts (λ r c. let is = all.has r c in rw ((are.ended r is.0 is.1 is.2).1 (each r is.0 is.1)) refl)
+        sym are.running.number ∙
+        count_none (is_running h.ended.items) all.leasts
+        (λ r c. let is = all.has r c in rw ((are.ended r is.0 is.1 is.2).1 (each r is.0 is.1)) refl)
 
 -- and so where none is counted
-pub each_has : (g : Shape) (halted : ℕ → Bool) (h : Halts) → AreHalts g halted h → (r : Bool) → r ≡ (h.running == 0) → IsTrue r ↔ ((v : ℕ) → 1 ≤ v → v ≤ g.nodes → HasOne g halted v)
+pub each_has : (g : Shape) (halted : ℕ → Bool) (h : Halts) →
+    AreHalts g halted h →
+    (r : Bool) → r ≡ (h.running == 0) →
+    IsTrue r ↔ ((v : ℕ) → 1 ≤ v → v ≤ g.nodes → HasOne g halted v)
 each_has g halted h are r is =
     let none = none_running g halted h are in
     (λ t. none.0 (eqb-true h.running 0 (sym is ∙ t)), λ each. is ∙ eq-eqb h.running 0 (none.1 each))

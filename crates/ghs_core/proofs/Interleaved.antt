@@ -36,11 +36,20 @@ use Rattle.ghs_core.proofs.Reading.{lawful_port}
 pub net_of_run : (g : Shape) (es : List Event) → IsGraph g → IsRun (network_of g) es → IsNetOf g (net_after g es)
 net_of_run g es graph run = record { graph = graph; events = es; run = after_is_net g es run }
 
-pub large_fragment : (g : Shape) (es : List Event) → IsGraph g → IsRun (network_of g) es → (v level : ℕ) → 1 ≤ v → v ≤ g.nodes → level ≡ ((net_after g es).node v).head.level →
+pub large_fragment : (g : Shape) (es : List Event) →
+    IsGraph g →
+    IsRun (network_of g) es →
+    (v level : ℕ) → 1 ≤ v →
+    v ≤ g.nodes →
+    level ≡ ((net_after g es).node v).head.level →
     HaveAtLeast (2 ^ level) (IsInFragment (network_of g) (net_after g es) v)
 large_fragment g es graph run v level low high e = rw e (fragments_are_large g (net_after g es) (net_of_run g es graph run) v low high)
 
-pub inside_fragment : (g : Shape) (es : List Event) → IsGraph g → IsRun (network_of g) es → (v p : ℕ) → At (network_of g) v p → mark_at ((net_after g es).node v) p ≡ Rejected →
+pub inside_fragment : (g : Shape) (es : List Event) →
+    IsGraph g →
+    IsRun (network_of g) es →
+    (v p : ℕ) → At (network_of g) v p →
+    mark_at ((net_after g es).node v) p ≡ Rejected →
     InOneFragment (network_of g) (net_after g es) v (far (network_of g) v p)
 inside_fragment g es graph run v p at marked = rejected_links_inside g (net_after g es) (net_of_run g es graph run) v p at marked
 
@@ -52,22 +61,44 @@ asked g w (Take v p) l = go (w.queue v p) refl (and_parts _ _ l).1 where
   go [] e b = absurd cc
   go (m ∷ ms) e b = To_take v p m ms (lawful_port g w v p l) e
 
-pub work_has_rule : (g : Shape) (es : List Event) → IsGraph g → IsRun (network_of g) es → (e : Event) (k : Work) → is_lawful (network_of g) (net_after g es) e ≡ true → k ≡ work_at (net_after g es) e →
+pub work_has_rule : (g : Shape) (es : List Event) →
+    IsGraph g →
+    IsRun (network_of g) es →
+    (e : Event) (k : Work) → is_lawful (network_of g) (net_after g es) e ≡ true →
+    k ≡ work_at (net_after g es) e →
     IsSome (reaction ((net_after g es).node (event_node e)) k)
-work_has_rule g es graph run e k lawful is = rw is (work_has_reaction g (net_after g es) (net_of_run g es graph run) (event_node e) (work_at (net_after g es) e) (asked (network_of g) (net_after g es) e lawful))
+work_has_rule g es graph run e k lawful is =
+    rw is (work_has_reaction g (net_after g es) (net_of_run g es graph run) (event_node e) (work_at (net_after g es) e)
+    (asked (network_of g) (net_after g es) e lawful))
 
-pub branch_tree : (g : Shape) (es : List Event) → IsGraph g → IsRun (network_of g) es → (v p : ℕ) → At (network_of g) v p → mark_at ((net_after g es).node v) p ≡ Branch →
+pub branch_tree : (g : Shape) (es : List Event) →
+    IsGraph g →
+    IsRun (network_of g) es →
+    (v p : ℕ) → At (network_of g) v p →
+    mark_at ((net_after g es).node v) p ≡ Branch →
     InTree g.keys (port_at (network_of g) v p).key
-branch_tree g es graph run v p at m = branch_links_in_tree g (net_after g es) (net_of_run g es graph run) (port_at (network_of g) v p).key (v, p, at, refl, m)
+branch_tree g es graph run v p at m =
+    branch_links_in_tree g (net_after g es) (net_of_run g es graph run) (port_at (network_of g) v p).key (v, p, at, refl, m)
 
 pub rejected_tree : (g : Shape) (es : List Event) → IsGraph g → IsRun (network_of g) es → (v p : ℕ) → At (network_of g) v p →
     mark_at ((net_after g es).node v) p ≡ Rejected → InTree g.keys (port_at (network_of g) v p).key → ⊥
-rejected_tree g es graph run v p at m = rejected_links_aside g (net_after g es) (net_of_run g es graph run) (port_at (network_of g) v p).key (v, p, at, refl, m)
+rejected_tree g es graph run v p at m =
+    rejected_links_aside g (net_after g es) (net_of_run g es graph run) (port_at (network_of g) v p).key (v, p, at, refl, m)
 
-pub branches_tree : (g : Shape) (es : List Event) → IsGraph g → IsRun (network_of g) es → (k : Key) → IsBranchLink (network_of g) (net_after g es) k → InTree g.keys k
+pub branches_tree : (g : Shape) (es : List Event) →
+    IsGraph g →
+    IsRun (network_of g) es →
+    (k : Key) → IsBranchLink (network_of g) (net_after g es) k →
+    InTree g.keys k
 branches_tree g es graph run k b = branch_links_in_tree g (net_after g es) (net_of_run g es graph run) k b
 
-pub exact_halt : (g : Shape) (es : List Event) → IsGraph g → IsRun (network_of g) es → (v : ℕ) → 1 ≤ v → v ≤ g.nodes → HasHalted (net_after g es) v → IsExactAt g (net_after g es) v
+pub exact_halt : (g : Shape) (es : List Event) →
+    IsGraph g →
+    IsRun (network_of g) es →
+    (v : ℕ) → 1 ≤ v →
+    v ≤ g.nodes →
+    HasHalted (net_after g es) v →
+    IsExactAt g (net_after g es) v
 exact_halt g es graph run v lo hi h = halt_is_exact g (net_after g es) (net_of_run g es graph run) v lo hi h
 
 -- of the keys in an answer
@@ -81,12 +112,17 @@ pub all_of_tree : (g : Shape) (es : List Event) → IsGraph g → IsRun (network
     IfOk r (λ x. AreBranches (network_of g) (net_after g es) (items x)) →
     IfOk r (λ x. HasEnded g (net_after g es) → IsTree g.keys (items x))
 all_of_tree g es graph run (Ok x) items h = λ ended.
-    let is : (k : Key) → IsBranchLink (network_of g) (net_after g es) k ↔ InTree g.keys k = λ k. (end_is_tree g (net_after g es) (net_of_run g es graph run) ended k).0 in
+    let is : (k : Key) → IsBranchLink (network_of g) (net_after g es) k ↔ InTree g.keys k =
+    λ k. (end_is_tree g (net_after g es) (net_of_run g es graph run) ended k).0 in
     record { rising = h.rising; has = λ k i. (is k).0 ((h.all k).0 i); all = λ k tree. (h.all k).1 ((is k).1 tree) }
 all_of_tree g es graph run (Err e) items h = tt
 
 -- where the least halted node is named
-pub exact_where : (g : Shape) (es : List Event) → IsGraph g → IsRun (network_of g) es → (o : Option ℕ) → IsLeastHalted (network_of g) (net_after g es) o → IsExactWhere g (net_after g es) o
+pub exact_where : (g : Shape) (es : List Event) →
+    IsGraph g →
+    IsRun (network_of g) es →
+    (o : Option ℕ) → IsLeastHalted (network_of g) (net_after g es) o →
+    IsExactWhere g (net_after g es) o
 exact_where g es graph run None h = tt
 exact_where g es graph run (Some v) h = exact_halt g es graph run v h.0 h.1 h.2
 
@@ -95,7 +131,11 @@ pub exact_end : (g : Shape) (es : List Event) → IsGraph g → IsRun (network_o
 exact_end g es graph run ended = end_is_tree g (net_after g es) (net_of_run g es graph run) ended
 
 -- what a ledger counts as sent
-pub within_bound : (g : Shape) (es : List Event) → IsGraph g → IsRun (network_of g) es → (l : Ledger) → IsLedger (network_of g) (net_after g es) l → IsWithinBound g l
+pub within_bound : (g : Shape) (es : List Event) →
+    IsGraph g →
+    IsRun (network_of g) es →
+    (l : Ledger) → IsLedger (network_of g) (net_after g es) l →
+    IsWithinBound g l
 within_bound g es graph run l told =
     let same : in_all (λ k. get_or l.sent k 0) ≡ in_all (net_after g es).sent = sum_same 7 _ _ told.sent in
     record {

@@ -37,18 +37,22 @@ use Rattle.ghs_core.proofs.Totals.{Disposed, disposed, disposed_room, disposed_r
 use Rattle.ghs_core.proofs.Halting.{are_like, with_node_is}
 
 -- the events of a run so far, and the reaction of one more
-pub record Plays (g : Shape) (es : List Event) (nodes : List NodeState) (links : LinksState) (counts : Counts) (halts : Halts) (e : Event) (d : Delta) : Type 0 where
+pub record Plays (g : Shape) (es : List Event) (nodes : List NodeState) (links : LinksState) (counts : Counts) (halts : Halts)
+    (e : Event) (d : Delta) : Type 0 where
   pub kept : IsKept g es nodes links counts halts
   pub lawful : is_lawful (network_of g) (net_after g es) e ≡ true
   pub answer : reaction ((net_after g es).node (event_node e)) (work_at (net_after g es) e) ≡ Some d
 
 -- the same, of what contracts see
-pub plays_of : {g : Shape} {es : List Event} {nodes : List NodeState} {links : LinksState} {counts : Counts} {halts : Halts} {spare : ℕ} {s : NetState} {e : Event} {d : Delta} →
+pub plays_of :
+    {g : Shape} {es : List Event} {nodes : List NodeState} {links : LinksState} {counts : Counts} {halts : Halts} {spare : ℕ} {s : NetState}
+    {e : Event} {d : Delta} →
     IsKept g es nodes links counts halts → record { graph = g; trace = es; links = links; spare = spare } ≡ s → IsLawful s e → IsAnswer s e d →
     Plays g es nodes links counts halts e d
 plays_of kept view lawful answer = record { kept = kept; lawful = rw (← view) at lawful; answer = rw (← view) at answer }
 
-module _ {g : Shape} {es : List Event} {nodes : List NodeState} {links : LinksState} {counts : Counts} {halts : Halts} {e : Event} {d : Delta} (plays : Plays g es nodes links counts halts e d) where
+module _ {g : Shape} {es : List Event} {nodes : List NodeState} {links : LinksState} {counts : Counts} {halts : Halts} {e : Event}
+    {d : Delta} (plays : Plays g es nodes links counts halts e d) where
   wired : IsWired (network_of g)
   wired = graph_wired g plays.kept.graph
 
@@ -90,7 +94,9 @@ module _ {g : Shape} {es : List Event} {nodes : List NodeState} {links : LinksSt
   waits = waits_at g (net_after g es) nodes links counts plays.kept.queues plays.kept.shows stages.stage
 
   pub go_out : GoOut links (event_node e) d.sends
-  go_out i x lt = let a = row_ported _ _ d is_node.node row i x lt in (plays.kept.queues.queues (event_node e) _).1 (record { some = low; node = high; port = omega (arith, a, ports_many is_node) })
+  go_out i x lt =
+      let a = row_ported _ _ d is_node.node row i x lt in
+      (plays.kept.queues.queues (event_node e) _).1 (record { some = low; node = high; port = omega (arith, a, ports_many is_node) })
 
   -- the node has its queues
   pub queues_there : event_node e < length links.queues
@@ -111,7 +117,8 @@ module _ {g : Shape} {es : List Event} {nodes : List NodeState} {links : LinksSt
     out_still i x lt = (so_far.ports.queues (event_node e) _).0 (go_out i x lt)
 
     pub room_still : HasRoomFor (event_node e) d.sends links → HasRoomFor (event_node e) d.sends l
-    room_still room = disposed_room g (net_after g es) nodes links counts plays.kept.queues plays.kept.shows l c (event_node e) d.sends stages.stage s room
+    room_still room =
+        disposed_room g (net_after g es) nodes links counts plays.kept.queues plays.kept.shows l c (event_node e) d.sends stages.stage s room
 
     pub total_below : length es < 2 ^ 40 → total_of l + length d.sends < 2 ^ 64
     total_below lt = total_fits (length es) links l counts c (length d.sends) lt few plays.kept.fit so_far
@@ -130,9 +137,15 @@ module _ {g : Shape} {es : List Event} {nodes : List NodeState} {links : LinksSt
       is_next : net_after g (es ++ e ∷ []) ≡ next
       is_next = net_after_more g es e (net_after g es) next run happened
 
-      halts_next : (k : Halts) → ((halted : ℕ → Bool) → AreHalts g halted halts → AreHalts g (with_node halted (event_node e) d.head.halted) k) → AreHalts g (halted_in next) k
+      halts_next : (k : Halts) →
+          ((halted : ℕ → Bool) → AreHalts g halted halts → AreHalts g (with_node halted (event_node e) d.head.halted) k) →
+          AreHalts g (halted_in next) k
       halts_next k noted = are_like g _ (halted_in next) k
-          (λ u _ _. with_node_is (halted_in (net_after g es)) (halted_in next) (event_node e) d.head.halted here (λ u ne. ap (λ (n : NodeState). n.head.halted) (there u ne)) (λ h. (event_lasts (network_of g) wired (net_after g es) next e formed happened (event_node e)).halted h) u)
+          (λ u _ _.
+          with_node_is (halted_in (net_after g es)) (halted_in next) (event_node e) d.head.halted here
+          (λ u ne. ap (λ (n : NodeState). n.head.halted) (there u ne))
+          (λ h. (event_lasts (network_of g) wired (net_after g es) next e formed happened (event_node e)).halted h)
+          u)
           (noted (halted_in (net_after g es)) plays.kept.halted)
         where
           here : halted_in next (event_node e) ≡ d.head.halted
@@ -141,29 +154,41 @@ module _ {g : Shape} {es : List Event} {nodes : List NodeState} {links : LinksSt
           there : (u : ℕ) → u ≢ event_node e → next.node u ≡ (net_after g es).node u
           there u ne = node_there (network_of g) (event_node e) d stages.before u ne ∙ ap (λ (f : ℕ → NodeState). f u) (stage_nodes stages.stage)
 
-      pub played : (k : Halts) → ((halted : ℕ → Bool) → AreHalts g halted halts → AreHalts g (with_node halted (event_node e) d.head.halted) k) → (x n : NodeState) →
+      pub played : (k : Halts) →
+          ((halted : ℕ → Bool) → AreHalts g halted halts → AreHalts g (with_node halted (event_node e) d.head.halted) k) →
+          (x n : NodeState) →
           x ≡ get_or nodes (event_node e - 1) x → n ≡ after x d →
           IsKept g (es ++ e ∷ []) (set nodes (event_node e - 1) n) l' (record { sent = sent; consumed = c.consumed; requeued = c.requeued }) k
       played k noted x n is now = record {
         graph = plays.kept.graph;
         run = (next, after_more (network_of g) es e (net_after g es) next run happened);
         queues = same_for g l l' a.ports disposed_for;
-        shows = rw is_next (reacted_shows g plays.kept.graph (event_node e) low high d stages.before nodes n l l' c sent (now ∙ ap (λ (y : NodeState). after y d) (found x is ∙ sym (ap (λ (f : ℕ → NodeState). f (event_node e)) (stage_nodes stages.stage)))) (stage_shows g (net_after g es) nodes links counts plays.kept.queues plays.kept.shows l c stages.stage s) a told);
-        fit = rw (length-append es (e ∷ [])) (fit_more (length es) links l l' counts c sent g (event_node e) d.sends few plays.kept.fit so_far a told);
+        shows =
+            rw is_next (reacted_shows g plays.kept.graph (event_node e) low high d stages.before nodes n l l' c sent
+            (now ∙ ap (λ (y : NodeState). after y d) (found x is ∙ sym (ap (λ (f : ℕ → NodeState). f (event_node e)) (stage_nodes stages.stage))))
+            (stage_shows g (net_after g es) nodes links counts plays.kept.queues plays.kept.shows l c stages.stage s) a told);
+        fit =
+            rw (length-append es (e ∷ [])) (fit_more (length es) links l l' counts c sent g (event_node e) d.sends few plays.kept.fit so_far a told);
         halted = rw is_next (halts_next k noted);
       }
 
-      pub played_rooms : (u r : ℕ) → At (network_of g) u r → room_at links u r ≤ room_at l' u r + length (arriving (network_of g) (event_node e) d.sends u r)
+      pub played_rooms : (u r : ℕ) →
+          At (network_of g) u r →
+          room_at links u r ≤ room_at l' u r + length (arriving (network_of g) (event_node e) d.sends u r)
       played_rooms u r at =
-          let first = disposed_rooms g (net_after g es) nodes links counts plays.kept.queues plays.kept.shows l c stages.stage s u r ((plays.kept.queues.queues u r).1 (record { some = at.some; node = at.node; port = at.port })) in
+          let first = disposed_rooms g (net_after g es) nodes links counts plays.kept.queues plays.kept.shows l c stages.stage s u r
+          ((plays.kept.queues.queues u r).1 (record { some = at.some; node = at.node; port = at.port })) in
           let then = a.rooms u r at in
           omega (arith, first, then)
 
   pub played_event : happens (network_of g) (net_after g es) e ≡ Some (net_after g (es ++ e ∷ []))
-  played_event = happens_so (stage_happens stages.stage) ∙ ap (λ (x : Net). Some x) (sym (net_after_more g es e (net_after g es) _ run (stage_happens stages.stage)))
+  played_event =
+      happens_so (stage_happens stages.stage) ∙
+      ap (λ (x : Net). Some x) (sym (net_after_more g es e (net_after g es) _ run (stage_happens stages.stage)))
 
 -- a reserve
-pub reserved : (g : Shape) (es : List Event) (nodes : List NodeState) (links l : LinksState) (counts : Counts) (halts : Halts) → IsKept g es nodes links counts halts →
+pub reserved : (g : Shape) (es : List Event) (nodes : List NodeState) (links l : LinksState) (counts : Counts) (halts : Halts) →
+    IsKept g es nodes links counts halts →
     KeepsLists links l → IsKept g es nodes l counts halts
 reserved g es nodes links l counts halts kept same = record {
   graph = kept.graph;
@@ -177,6 +202,13 @@ reserved g es nodes links l counts halts kept same = record {
     consumed = shows.consumed;
     requeued = shows.requeued;
   };
-  fit = let fit = kept.fit in record { sent = fit.sent; consumed = fit.consumed; requeued = fit.requeued; waiting = ap (λ n. n + in_all (λ k. get_or counts.consumed k 0)) same.total ∙ fit.waiting };
+  fit =
+      let fit = kept.fit in
+      record {
+        sent = fit.sent;
+        consumed = fit.consumed;
+        requeued = fit.requeued;
+        waiting = ap (λ n. n + in_all (λ k. get_or counts.consumed k 0)) same.total ∙ fit.waiting;
+      };
   halted = kept.halted;
 }

@@ -24,7 +24,8 @@ use Rattle.ghs_core.specs.declared.halts.Halts.{Halts}
 use Rattle.ghs_core.specs.Halts.{AreHalts, none_halted}
 use Rattle.ghs_core.specs.Kept.{IsKept, AreAsleep, no_node}
 
-module _ {g : Shape} {es : List Event} {nodes : List NodeState} {links : LinksState} {counts : Counts} {halts : Halts} (kept : IsKept g es nodes links counts halts) where
+module _ {g : Shape} {es : List Event} {nodes : List NodeState} {links : LinksState} {counts : Counts} {halts : Halts}
+    (kept : IsKept g es nodes links counts halts) where
   pub run : IsAfter (network_of g) es (net_after g es)
   run = after_is_net g es kept.run
 
@@ -51,7 +52,8 @@ module _ {g : Shape} {es : List Event} {nodes : List NodeState} {links : LinksSt
 
   -- the ledger
   pub told : (queued : ℕ) → queued ≡ total_of links →
-      IsLedger (network_of g) (net_after g es) (record { sent = counts.sent; consumed = counts.consumed; requeued = counts.requeued; queued = queued; out = 0 })
+      IsLedger (network_of g) (net_after g es)
+      (record { sent = counts.sent; consumed = counts.consumed; requeued = counts.requeued; queued = queued; out = 0 })
   told queued q =
       let balanced = after_balanced (network_of g) (graph_wired g kept.graph) (graph_few g kept.graph) es (net_after g es) run in
       let all = balanced_in_all (network_of g) (net_after g es) balanced in
@@ -72,8 +74,15 @@ pub lawful_port : (g : Network) (w : Net) (v p : ℕ) → is_lawful g w (Take v 
 lawful_port g w v p l = let b = and_parts _ _ l in at_of g v p b.0
 
 -- the fields of an opening net
-pub opened : (g : Shape) (nodes : List NodeState) (links : LinksState) (counts : Counts) (halts : Halts) → AreAsleep g nodes → IsFor g links → AllEmpty links →
-    total_of links ≡ 0 → ((k : ℕ) → get_or counts.sent k 0 ≡ 0) → ((k : ℕ) → get_or counts.consumed k 0 ≡ 0) → counts.requeued ≡ 0 → AreHalts g none_halted halts →
+pub opened : (g : Shape) (nodes : List NodeState) (links : LinksState) (counts : Counts) (halts : Halts) →
+    AreAsleep g nodes →
+    IsFor g links →
+    AllEmpty links →
+    total_of links ≡ 0 →
+    ((k : ℕ) → get_or counts.sent k 0 ≡ 0) →
+    ((k : ℕ) → get_or counts.consumed k 0 ≡ 0) →
+    counts.requeued ≡ 0 →
+    AreHalts g none_halted halts →
     IsKept g [] nodes links counts halts
 opened g nodes links counts halts asleep for empty total sent consumed requeued none = record {
   graph = asleep.graph;

@@ -47,7 +47,11 @@ module _ (g : Shape) (v : ℕ) where
     ports = same_then old l l' a.ports c.ports;
     queue = queue;
     rooms = rooms;
-    total = let t = c.total in let e = a.total in let n : length (queue_at l to_node to_port ++ m ∷ []) ≡ length (queue_at l to_node to_port) + 1 = length-append _ _ in omega (arith, t, e, n, length-append ss ((i, m) ∷ []));
+    total =
+        let t = c.total in
+        let e = a.total in
+        let n : length (queue_at l to_node to_port ++ m ∷ []) ≡ length (queue_at l to_node to_port) + 1 = length-append _ _ in
+        omega (arith, t, e, n, length-append ss ((i, m) ∷ []));
   }
     where
       to_node : ℕ
@@ -65,14 +69,20 @@ module _ (g : Shape) (v : ℕ) where
       queue : (u r : ℕ) → At (network_of g) u r → queue_at l' u r ≡ queue_at old u r ++ arriving (network_of g) v (ss ++ (i, m) ∷ []) u r
       queue u r at = rw (arriving_push (network_of g) v ss (i, m) u r) (⊎_elim same other (one_place to_node to_port u r))
         where
-          same : (u ≡ to_node) × (r ≡ to_port) → queue_at l' u r ≡ queue_at old u r ++ (arriving (network_of g) v ss u r ++ arriving (network_of g) v ((i, m) ∷ []) u r)
+          same :
+              (u ≡ to_node) × (r ≡ to_port) →
+              queue_at l' u r ≡ queue_at old u r ++ (arriving (network_of g) v ss u r ++ arriving (network_of g) v ((i, m) ∷ []) u r)
           same e =
               let there : At (network_of g) to_node to_port = wired.there v i (at_port lt) in
               let one : arriving (network_of g) v ((i, m) ∷ []) to_node to_port ≡ m ∷ [] = one_arrives (network_of g) v wired (i, m) (at_port lt) in
               let now : queue_at l' to_node to_port ≡ queue_at l to_node to_port ++ m ∷ [] = ap (λ (q : QueueState). q.list) c.here in
-              rw (e.0, e.1) (now ∙ rw (a.queue to_node to_port there, one) (append_assoc (queue_at old to_node to_port) (arriving (network_of g) v ss to_node to_port) (m ∷ [])))
+              rw (e.0, e.1) (now ∙
+              rw (a.queue to_node to_port there, one)
+              (append_assoc (queue_at old to_node to_port) (arriving (network_of g) v ss to_node to_port) (m ∷ [])))
 
-          other : ((u ≡ to_node) × (r ≡ to_port) → ⊥) → queue_at l' u r ≡ queue_at old u r ++ (arriving (network_of g) v ss u r ++ arriving (network_of g) v ((i, m) ∷ []) u r)
+          other :
+              ((u ≡ to_node) × (r ≡ to_port) → ⊥) →
+              queue_at l' u r ≡ queue_at old u r ++ (arriving (network_of g) v ss u r ++ arriving (network_of g) v ((i, m) ∷ []) u r)
           other ne =
               let had : HasQueue l u r = (a.ports.queues u r).0 ((for.queues u r).1 (port_at at)) in
               let none : arriving (network_of g) v ((i, m) ∷ []) u r ≡ [] = one_misses (network_of g) v wired (i, m) u r (at_port lt) at ne in
@@ -81,10 +91,14 @@ module _ (g : Shape) (v : ℕ) where
       rooms : (u r : ℕ) → At (network_of g) u r → room_at old u r ≤ room_at l' u r + length (arriving (network_of g) v (ss ++ (i, m) ∷ []) u r)
       rooms u r at =
           let before = a.rooms u r at in
-          let more : length (arriving (network_of g) v (ss ++ (i, m) ∷ []) u r) ≡ length (arriving (network_of g) v ss u r) + length (arriving (network_of g) v ((i, m) ∷ []) u r) = ap length (arriving_push (network_of g) v ss (i, m) u r) ∙ length-append _ _ in
+          let more :
+          length (arriving (network_of g) v (ss ++ (i, m) ∷ []) u r) ≡
+          length (arriving (network_of g) v ss u r) + length (arriving (network_of g) v ((i, m) ∷ []) u r) =
+          ap length (arriving_push (network_of g) v ss (i, m) u r) ∙ length-append _ _ in
           ⊎_elim
           (λ (e : (u ≡ to_node) × (r ≡ to_port)).
-          let one : length (arriving (network_of g) v ((i, m) ∷ []) u r) ≡ 1 = rw (e.0, e.1) (ap length (one_arrives (network_of g) v wired (i, m) (at_port lt))) in
+          let one : length (arriving (network_of g) v ((i, m) ∷ []) u r) ≡ 1 =
+          rw (e.0, e.1) (ap length (one_arrives (network_of g) v wired (i, m) (at_port lt))) in
           let now : room_at l' u r ≡ room_at l u r - 1 = rw (e.0, e.1) (ap (λ (q : QueueState). q.room) c.here) in
           omega (arith, before, more, one, now))
           (λ ne.
@@ -103,24 +117,37 @@ module _ (g : Shape) (v : ℕ) where
       let led : destination_of l' v p ≡ far_end g v p = leads_to g l l' for c.ports v p at in
       rw led (⊎_elim (here at) (elsewhere at) (cases_eq p s.0))
     where
-      had : (p : ℕ) → count_by (λ (x : ℕ × Message). x.0 == p) (drop i ss) ≡ cond (s.0 == p) 1 0 + count_by (λ (x : ℕ × Message). x.0 == p) (drop (i + 1) ss)
+      had : (p : ℕ) →
+          count_by (λ (x : ℕ × Message). x.0 == p) (drop i ss) ≡ cond (s.0 == p) 1 0 + count_by (λ (x : ℕ × Message). x.0 == p) (drop (i + 1) ss)
       had p = sum_by-drop_more (λ (x : ℕ × Message). cond (x.0 == p) 1 0) ss i d more ∙ rw is refl
 
-      room_for : (p : ℕ) → IsPort g v p → count_by (λ (x : ℕ × Message). x.0 == p) (drop i ss) ≤ room_at l (port_of g v p).far (port_of g v p).far_port
+      room_for : (p : ℕ) →
+          IsPort g v p →
+          count_by (λ (x : ℕ × Message). x.0 == p) (drop i ss) ≤ room_at l (port_of g v p).far (port_of g v p).far_port
       room_for p at = rw (for.leads v p at) at (room p ((for.queues v p).1 at))
 
-      here : {p : ℕ} → IsPort g v p → p ≡ s.0 → count_by (λ (x : ℕ × Message). x.0 == p) (drop (i + 1) ss) ≤ room_at l' (port_of g v p).far (port_of g v p).far_port
+      here : {p : ℕ} →
+          IsPort g v p →
+          p ≡ s.0 →
+          count_by (λ (x : ℕ × Message). x.0 == p) (drop (i + 1) ss) ≤ room_at l' (port_of g v p).far (port_of g v p).far_port
       here {p} at e =
-          let mine : count_by (λ (x : ℕ × Message). x.0 == s.0) (drop i ss) ≡ 1 + count_by (λ (x : ℕ × Message). x.0 == s.0) (drop (i + 1) ss) = had s.0 ∙ rw (eq-eqb s.0 s.0 refl) refl in
-          let left : room_at l' (port_of g v s.0).far (port_of g v s.0).far_port ≡ room_at l (port_of g v s.0).far (port_of g v s.0).far_port - 1 = ap (λ (q : QueueState). q.room) c.here in
+          let mine : count_by (λ (x : ℕ × Message). x.0 == s.0) (drop i ss) ≡ 1 + count_by (λ (x : ℕ × Message). x.0 == s.0) (drop (i + 1) ss) =
+          had s.0 ∙ rw (eq-eqb s.0 s.0 refl) refl in
+          let left : room_at l' (port_of g v s.0).far (port_of g v s.0).far_port ≡ room_at l (port_of g v s.0).far (port_of g v s.0).far_port - 1 =
+          ap (λ (q : QueueState). q.room) c.here in
           let r = room_for s.0 port in
           rw e (omega (arith, mine, left, r))
 
-      elsewhere : {p : ℕ} → IsPort g v p → p ≢ s.0 → count_by (λ (x : ℕ × Message). x.0 == p) (drop (i + 1) ss) ≤ room_at l' (port_of g v p).far (port_of g v p).far_port
+      elsewhere : {p : ℕ} →
+          IsPort g v p →
+          p ≢ s.0 →
+          count_by (λ (x : ℕ × Message). x.0 == p) (drop (i + 1) ss) ≤ room_at l' (port_of g v p).far (port_of g v p).far_port
       elsewhere {p} at ne =
-          let ours : count_by (λ (x : ℕ × Message). x.0 == p) (drop i ss) ≡ count_by (λ (x : ℕ × Message). x.0 == p) (drop (i + 1) ss) = had p ∙ rw (ne_eqb s.0 p (λ z. ne (sym z))) (omega arith) in
+          let ours : count_by (λ (x : ℕ × Message). x.0 == p) (drop i ss) ≡ count_by (λ (x : ℕ × Message). x.0 == p) (drop (i + 1) ss) =
+          had p ∙ rw (ne_eqb s.0 p (λ z. ne (sym z))) (omega arith) in
           let apart = far_apart (network_of g) (graph_wired g for.graph) v p s.0 (at_port at) (λ z. ne (sym z)) in
-          let same : room_at l' (port_of g v p).far (port_of g v p).far_port ≡ room_at l (port_of g v p).far (port_of g v p).far_port = ap (λ (q : QueueState). q.room) (c.elsewhere _ _ (far_queue g l for v p at.port) apart) in
+          let same : room_at l' (port_of g v p).far (port_of g v p).far_port ≡ room_at l (port_of g v p).far (port_of g v p).far_port =
+          ap (λ (q : QueueState). q.room) (c.elsewhere _ _ (far_queue g l for v p at.port) apart) in
           let r = room_for p at in
           omega (arith, ours, same, r)
 
@@ -146,7 +173,8 @@ counts_more ss x os s k w e lt c j below = ⊎_elim hit miss (cases_eq j k)
 
     hit : j ≡ k → get_or (set s k (get_or s k 0 + 1)) j 0 ≡ get_or os j 0 + of_kind j (messages_of (ss ++ x ∷ []))
     hit z =
-        let now : get_or (set s k (get_or s k 0 + 1)) j 0 ≡ get_or s j 0 + 1 = rw z (get_or-set_same s k (get_or s k 0 + 1) 0 (omega (arith, w, lt))) in
+        let now : get_or (set s k (get_or s k 0 + 1)) j 0 ≡ get_or s j 0 + 1 =
+        rw z (get_or-set_same s k (get_or s k 0 + 1) 0 (omega (arith, w, lt))) in
         let add : ◌≡◌ {A = ℕ} (cond (place_of (kind_of x.1) == j) 1 0) 1 = rw (eq-eqb (place_of (kind_of x.1)) j (sym (z ∙ e))) refl in
         omega (arith, now, add, one, had)
 
@@ -157,8 +185,14 @@ counts_more ss x os s k w e lt c j below = ⊎_elim hit miss (cases_eq j k)
         omega (arith, now, add, one, had)
 
 -- the port that a message goes out on
-pub port_out : (old l : LinksState) (v : ℕ) (ss : Outgoing) (i : ℕ) (x : ℕ × Message) → GoOut old v ss → SamePorts old l → i < length ss → x ≡ get_or ss i x → HasQueue l v x.0
-port_out old l v ss i x out same lt is = (same.queues v x.0).0 (let P : ℕ × Message → Type 0 = λ y. HasQueue old v y.0 in subst P (sym is) (out i x lt))
+pub port_out : (old l : LinksState) (v : ℕ) (ss : Outgoing) (i : ℕ) (x : ℕ × Message) →
+    GoOut old v ss →
+    SamePorts old l →
+    i < length ss →
+    x ≡ get_or ss i x →
+    HasQueue l v x.0
+port_out old l v ss i x out same lt is =
+    (same.queues v x.0).0 (let P : ℕ × Message → Type 0 = λ y. HasQueue old v y.0 in subst P (sym is) (out i x lt))
 
 -- no kind has more messages than there are
 pub kind_few : (k : ℕ) (ss : Outgoing) → of_kind k (messages_of ss) ≤ length ss
@@ -179,11 +213,16 @@ none_sent g v ss l s room = record {
 }
   where
     none : (u r : ℕ) → queue_at l u r ++ arriving (network_of g) v [] u r ≡ queue_at l u r
-    none u r = elim (far (network_of g) u r == v) as (λ b. queue_at l u r ++ cond b [] [] ≡ queue_at l u r) [ true ↦ append-nil _ | false ↦ append-nil _ ]
+    none u r =
+        elim (far (network_of g) u r == v) as (λ b. queue_at l u r ++ cond b [] [] ≡ queue_at l u r)
+        [ true ↦ append-nil _ | false ↦ append-nil _ ]
 
-pub one_sent : (g : Shape) (v : ℕ) (ss : Outgoing) (i : ℕ) (d x : ℕ × Message) (old l l' : LinksState) (os s : List ℕ) (k : ℕ) → IsFor g old → GoOut old v ss →
+pub one_sent : (g : Shape) (v : ℕ) (ss : Outgoing) (i : ℕ) (d x : ℕ × Message) (old l l' : LinksState) (os s : List ℕ) (k : ℕ) →
+    IsFor g old →
+    GoOut old v ss →
     length os ≡ 7 → i < length ss → x ≡ get_or ss i d → k ≡ place_of (kind_of x.1) → k < 7 → Sent g v ss i old l os s →
-    Changes l l' (destination_of l v x.0).0 (destination_of l v x.0).1 (pushed (state_at l (destination_of l v x.0).0 (destination_of l v x.0).1) x.1) →
+    Changes l l' (destination_of l v x.0).0 (destination_of l v x.0).1
+    (pushed (state_at l (destination_of l v x.0).0 (destination_of l v x.0).1) x.1) →
     Sent g v ss (i + 1) old l' os (set s k (get_or s k 0 + 1))
 one_sent g v ss i d x old l l' os s k for out seven more is e lt h c = record {
   arrives = rw (take_more ss i d more, sym is) (arrives_more g v old l l' (take i ss) x.0 x.1 for port h.arrives there);
@@ -196,4 +235,6 @@ one_sent g v ss i d x old l l' os s k for out seven more is e lt h c = record {
     port = (for.queues v x.0).0 (let P : ℕ × Message → Type 0 = λ y. HasQueue old v y.0 in subst P (sym is) (out i d more))
 
     there : Changes l l' (port_of g v x.0).far (port_of g v x.0).far_port (pushed (state_at l (port_of g v x.0).far (port_of g v x.0).far_port) x.1)
-    there = let P : ℕ × ℕ → Type 0 = λ t. Changes l l' t.0 t.1 (pushed (state_at l t.0 t.1) x.1) in subst P (leads_to g old l for h.arrives.ports v x.0 port) c
+    there =
+        let P : ℕ × ℕ → Type 0 = λ t. Changes l l' t.0 t.1 (pushed (state_at l t.0 t.1) x.1) in
+        subst P (leads_to g old l for h.arrives.ports v x.0 port) c

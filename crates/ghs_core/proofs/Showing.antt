@@ -23,14 +23,16 @@ use Rattle.ghs_core.specs.Kept.{Shows, no_node}
 use Rattle.ghs_core.proofs.Arriving.{machine_arrives}
 use Rattle.ghs_core.proofs.Stages.{Stage, Wakes, Takes}
 
-module _ (g : Shape) (w : Net) (nodes : List NodeState) (links : LinksState) (counts : Counts) (for : IsFor g links) (shows : Shows (network_of g) w nodes links counts) where
+module _ (g : Shape) (w : Net) (nodes : List NodeState) (links : LinksState) (counts : Counts) (for : IsFor g links)
+    (shows : Shows (network_of g) w nodes links counts) where
   has_queue : (v p : ℕ) → At (network_of g) v p → HasQueue links v p
   has_queue v p at = (for.queues v p).1 (record { some = at.some; node = at.node; port = at.port })
 
   -- where a message is taken one waits
   pub waits_at : {e : Event} {d : Delta} {x : Net} → Stage (network_of g) w e d x → WaitsAt e links
   waits_at (Wakes v d lo hi s r) = tt
-  waits_at (Takes v p m ms d at q r) = (has_queue v p at, let e : length (queue_at links v p) ≡ length (m ∷ ms) = ap length (shows.queue v p at ∙ q) in omega (arith, e))
+  waits_at (Takes v p m ms d at q r) =
+      (has_queue v p at, let e : length (queue_at links v p) ≡ length (m ∷ ms) = ap length (shows.queue v p at ∙ q) in omega (arith, e))
 
   -- once a message has met its fate
   met_shows : (f : Fate) (v p : ℕ) (m : Message) (ms : List Message) (l : LinksState) (c : Counts) → At (network_of g) v p → Met f v p m ms links l →
@@ -40,7 +42,9 @@ module _ (g : Shape) (w : Net) (nodes : List NodeState) (links : LinksState) (co
     node = shows.node;
     queue = λ u r there. ⊎_elim
         (λ (z : (u ≡ v) × (r ≡ p)). sym (put_at_hit w.queue v p u r (left_of f m ms) z.0 z.1 ∙ sym (rw (z.0, z.1) met.here)))
-        (λ apart. met.elsewhere u r (has_queue u r there) apart ∙ shows.queue u r there ∙ sym (put_at_miss w.queue v p u r (left_of f m ms) apart)) (one_place v p u r);
+        (λ apart.
+        met.elsewhere u r (has_queue u r there) apart ∙ shows.queue u r there ∙ sym (put_at_miss w.queue v p u r (left_of f m ms) apart))
+        (one_place v p u r);
     sent = λ k lt. ap (λ (xs : List ℕ). get_or xs k 0) told.sent ∙ shows.sent k lt;
     consumed = λ k lt.
         let had = shows.consumed k lt in
@@ -50,7 +54,10 @@ module _ (g : Shape) (w : Net) (nodes : List NodeState) (links : LinksState) (co
     requeued = let had = shows.requeued in let more = told.requeued in omega (arith, had, more);
   }
 
-  pub stage_shows : {e : Event} {d : Delta} {x : Net} (l : LinksState) (c : Counts) → Stage (network_of g) w e d x → Disposes e d.fate links l counts c → Shows (network_of g) x nodes l c
+  pub stage_shows : {e : Event} {d : Delta} {x : Net} (l : LinksState) (c : Counts) →
+      Stage (network_of g) w e d x →
+      Disposes e d.fate links l counts c →
+      Shows (network_of g) x nodes l c
   stage_shows l c (Wakes v d lo hi s r) z = rw (z.0, z.1) shows
   stage_shows l c (Takes v p m ms d at q r) z = let one = z m ms (shows.queue v p at ∙ q) in met_shows d.fate v p m ms l c at one.0 one.1
 
@@ -58,13 +65,19 @@ module _ (g : Shape) (w : Net) (nodes : List NodeState) (links : LinksState) (co
 pub reacted_shows : (g : Shape) → IsGraph g → (v : ℕ) → 1 ≤ v → v ≤ g.nodes →
     (d : Delta) (w : Net) (nodes : List NodeState) (n : NodeState) (l l' : LinksState) (c : Counts) (sent : List ℕ) → n ≡ after (w.node v) d →
     Shows (network_of g) w nodes l c → Arrives g v d.sends l l' → CountsSends d.sends c.sent sent →
-    Shows (network_of g) (reacted (network_of g) v d w) (set nodes (v - 1) n) l' (record { sent = sent; consumed = c.consumed; requeued = c.requeued })
+    Shows (network_of g) (reacted (network_of g) v d w) (set nodes (v - 1) n) l'
+    (record { sent = sent; consumed = c.consumed; requeued = c.requeued })
 reacted_shows g ok v lo hi d w nodes n l l' c sent now shows arrives told = record {
   count = length-set nodes (v - 1) n ∙ shows.count;
   node = λ u low high. ⊎_elim
-      (λ (e : u ≡ v). rw e (get_or-set_same nodes (v - 1) n no_node (let many = shows.count in omega (arith, many)) ∙ now ∙ sym (node_here net v d w)))
-      (λ ne. get_or-set_other nodes (v - 1) (u - 1) n no_node (λ z. ne (omega (arith, z))) ∙ shows.node u low high ∙ sym (node_there net v d w u ne)) (cases_eq u v);
-  queue = λ u r at. arrives.queue u r at ∙ ap (λ q. q ++ arriving net v d.sends u r) (shows.queue u r at) ∙ sym (machine_arrives net v (graph_wired g ok) d.sends (change v d w) u r lo hi at);
+      (λ (e : u ≡ v).
+      rw e (get_or-set_same nodes (v - 1) n no_node (let many = shows.count in omega (arith, many)) ∙ now ∙ sym (node_here net v d w)))
+      (λ ne.
+      get_or-set_other nodes (v - 1) (u - 1) n no_node (λ z. ne (omega (arith, z))) ∙ shows.node u low high ∙ sym (node_there net v d w u ne))
+      (cases_eq u v);
+  queue = λ u r at.
+      arrives.queue u r at ∙ ap (λ q. q ++ arriving net v d.sends u r) (shows.queue u r at) ∙
+      sym (machine_arrives net v (graph_wired g ok) d.sends (change v d w) u r lo hi at);
   sent = λ k lt. told k lt ∙ ap (λ i. i + of_kind k (messages_of d.sends)) (shows.sent k lt) ∙ sym (sent_now net v d w k);
   consumed = λ k lt. shows.consumed k lt ∙ ap (λ (f : ℕ → ℕ). f k) (sym (consumed_now net v d w));
   requeued = shows.requeued ∙ sym (requeued_now net v d w);

@@ -24,7 +24,9 @@ use Rattle.ghs_protocol.specs.Marks.{IsBranchLink, IsJoined, IsJoinedLink}
 pub filtered : {X : Type 0} (p : X → Bool) (xs : List X) (x : X) → Contains xs x → p x ≡ true → Contains (filter p xs) x
 filtered p [] x h t = absurd (nothing_in x h)
 filtered p (y ∷ ys) x h t = ⊎_elim
-    (λ rest. let there = filtered p ys x rest t in ⊎_elim (λ (e : p y ≡ true). rw e (later_in y x (filter p ys) there)) (λ e. rw e there) (cases_Bool (p y)))
+    (λ rest.
+    let there = filtered p ys x rest t in
+    ⊎_elim (λ (e : p y ≡ true). rw e (later_in y x (filter p ys) there)) (λ e. rw e there) (cases_Bool (p y)))
     (λ (e : y ≡ x). rw (e, t) (first_in x (filter p ys)))
     (in_cases y x ys h)
 
@@ -51,7 +53,9 @@ module _ (g : Shape) (ok : IsGraph g) (k : Key) (in_graph : Contains g.keys k) w
   two = links_have_two_ports g ok k in_graph
 
   pub among : (1 ≤ k.a) × (k.a < k.b) × (k.b ≤ g.nodes)
-  among = let i = in_graph.0 in let e : get_or g.keys i no_key ≡ k = get_or_default g.keys i no_key k in_graph.1 ∙ in_graph.2 in rw e at (ok.among i no_key in_graph.1)
+  among =
+      let i = in_graph.0 in
+      let e : get_or g.keys i no_key ≡ k = get_or_default g.keys i no_key k in_graph.1 ∙ in_graph.2 in rw e at (ok.among i no_key in_graph.1)
 
   abbrev pa : ℕ
   pa = port_number g.keys k.a k
@@ -68,10 +72,17 @@ module _ (g : Shape) (ok : IsGraph g) (k : Key) (in_graph : Contains g.keys k) w
 
   pub side_a : Side k.a pa k.b pb
   side_a =
-      let is : port_at net k.a pa ≡ port_on g.keys k.a k = get_or_from_slice_get (ports_of g.keys k.a) (port_number g.keys k.a k) (port_on g.keys k.a k) no_port two.at_a in
+      let is : port_at net k.a pa ≡ port_on g.keys k.a k =
+      get_or_from_slice_get (ports_of g.keys k.a) (port_number g.keys k.a k) (port_on g.keys k.a k) no_port two.at_a in
       let other : far_end k.a k ≡ k.b = rw (eq-eqb k.a k.a refl) refl in
       record {
-        at = let r = among in record { some = r.0; node = omega (arith, r.1, r.2); port = slice_get_within (ports_of g.keys k.a) (port_number g.keys k.a k) (port_on g.keys k.a k) two.at_a };
+        at =
+            let r = among in
+            record {
+              some = r.0;
+              node = omega (arith, r.1, r.2);
+              port = slice_get_within (ports_of g.keys k.a) (port_number g.keys k.a k) (port_on g.keys k.a k) two.at_a;
+            };
         key = ap (λ (x : Port). x.key) is;
         far = ap (λ (x : Port). x.far) is ∙ other;
         far_port = ap (λ (x : Port). x.far_port) is ∙ ap (λ (v : ℕ). port_number g.keys v k) other;
@@ -79,10 +90,17 @@ module _ (g : Shape) (ok : IsGraph g) (k : Key) (in_graph : Contains g.keys k) w
 
   pub side_b : Side k.b pb k.a pa
   side_b =
-      let is : port_at net k.b pb ≡ port_on g.keys k.b k = get_or_from_slice_get (ports_of g.keys k.b) (port_number g.keys k.b k) (port_on g.keys k.b k) no_port two.at_b in
+      let is : port_at net k.b pb ≡ port_on g.keys k.b k =
+      get_or_from_slice_get (ports_of g.keys k.b) (port_number g.keys k.b k) (port_on g.keys k.b k) no_port two.at_b in
       let other : far_end k.b k ≡ k.a = let r = among in rw (ne_eqb k.a k.b (λ z. absurd (omega (arith, r.1, z)))) refl in
       record {
-        at = let r = among in record { some = omega (arith, r.0, r.1); node = r.2; port = slice_get_within (ports_of g.keys k.b) (port_number g.keys k.b k) (port_on g.keys k.b k) two.at_b };
+        at =
+            let r = among in
+            record {
+              some = omega (arith, r.0, r.1);
+              node = r.2;
+              port = slice_get_within (ports_of g.keys k.b) (port_number g.keys k.b k) (port_on g.keys k.b k) two.at_b;
+            };
         key = ap (λ (x : Port). x.key) is;
         far = ap (λ (x : Port). x.far) is ∙ other;
         far_port = ap (λ (x : Port). x.far_port) is ∙ ap (λ (v : ℕ). port_number g.keys v k) other;
@@ -108,4 +126,5 @@ module _ (g : Shape) (ok : IsGraph g) (k : Key) (in_graph : Contains g.keys k) w
     pub joined_to : IsJoinedLink net w k → (mark_at (w.node k.a) pa ≡ Branch) × (mark_at (w.node k.b) pb ≡ Branch)
     joined_to l = ⊎_elim
         (λ (e : (l.0 ≡ k.a) × (l.1 ≡ pa)). let j : IsJoined net w k.a pa = rw (e.0, e.1) at l.4 in (j.0, rw (side_a.far, side_a.far_port) at j.1))
-        (λ (e : (l.0 ≡ k.b) × (l.1 ≡ pb)). let j : IsJoined net w k.b pb = rw (e.0, e.1) at l.4 in (rw (side_b.far, side_b.far_port) at j.1, j.0)) (one_side l.0 l.1 l.2 l.3)
+        (λ (e : (l.0 ≡ k.b) × (l.1 ≡ pb)). let j : IsJoined net w k.b pb = rw (e.0, e.1) at l.4 in (rw (side_b.far, side_b.far_port) at j.1, j.0))
+        (one_side l.0 l.1 l.2 l.3)

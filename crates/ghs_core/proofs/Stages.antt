@@ -21,8 +21,16 @@ use Rattle.ghs_core.specs.NetState.{event_node, work_at, delivery}
 
 -- the event brings the reaction d about, and x is the net before the node reacts
 pub data Stage (g : Network) (w : Net) : Event → Delta → Net → Type 0 where
-  Wakes : (v : ℕ) (d : Delta) → 1 ≤ v → v ≤ g.count → (w.node v).head.phase ≡ Sleeping → reaction (w.node v) works.Wake ≡ Some d → Stage g w (Wake v) d w
-  Takes : (v p : ℕ) (m : Message) (ms : List Message) (d : Delta) → At g v p → w.queue v p ≡ m ∷ ms → reaction (w.node v) (works.Deliver p m) ≡ Some d →
+  Wakes : (v : ℕ) (d : Delta) →
+      1 ≤ v →
+      v ≤ g.count →
+      (w.node v).head.phase ≡ Sleeping →
+      reaction (w.node v) works.Wake ≡ Some d →
+      Stage g w (Wake v) d w
+  Takes : (v p : ℕ) (m : Message) (ms : List Message) (d : Delta) →
+      At g v p →
+      w.queue v p ≡ m ∷ ms →
+      reaction (w.node v) (works.Deliver p m) ≡ Some d →
       Stage g w (Take v p) d (take_first d.fate v p m ms w)
 
 pub record Staged (g : Network) (w : Net) (e : Event) (d : Delta) : Type 0 where
@@ -30,7 +38,12 @@ pub record Staged (g : Network) (w : Net) (e : Event) (d : Delta) : Type 0 where
   pub stage : Stage g w e d before
 
 module _ (g : Network) (w : Net) where
-  takes : (v p : ℕ) (d : Delta) → At g v p → (q : List Message) → w.queue v p ≡ q → is_waiting q ≡ true → reaction (w.node v) (delivery p q) ≡ Some d → Staged g w (Take v p) d
+  takes : (v p : ℕ) (d : Delta) →
+      At g v p →
+      (q : List Message) → w.queue v p ≡ q →
+      is_waiting q ≡ true →
+      reaction (w.node v) (delivery p q) ≡ Some d →
+      Staged g w (Take v p) d
   takes v p d at [] e waits r = cc
   takes v p d at (m ∷ ms) e waits r = record { before = take_first d.fate v p m ms w; stage = Takes v p m ms d at e r }
 
@@ -59,7 +72,10 @@ module _ {g : Network} {w : Net} where
   stage_nodes (Wakes v d lo hi s r) = refl
   stage_nodes (Takes v p m ms d at q r) = refl
 
-  pub stage_reaction : {e : Event} {d : Delta} {x : Net} → Stage g w e d x → IsNodeOf g (event_node e) (w.node (event_node e)) → IsReaction (w.node (event_node e)) d
+  pub stage_reaction : {e : Event} {d : Delta} {x : Net} →
+      Stage g w e d x →
+      IsNodeOf g (event_node e) (w.node (event_node e)) →
+      IsReaction (w.node (event_node e)) d
   stage_reaction (Wakes v d lo hi s r) n = record { work = works.Wake; port = tt; is = r }
   stage_reaction (Takes v p m ms d at q r) n = record { work = works.Deliver p m; port = let lt = at.port in omega (arith, lt, ports_many n); is = r }
 

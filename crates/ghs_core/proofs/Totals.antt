@@ -26,7 +26,8 @@ use Rattle.ghs_core.proofs.Stages.{Stage, Wakes, Takes}
 -- one count is part of all
 pub one_of_all : (n k : ℕ) (f : ℕ → ℕ) → k < n → f k ≤ sum_below n f
 one_of_all zero k f lt = absurd (omega arith)
-one_of_all (suc n) k f lt = ⊎_elim (λ (e : k ≡ n). rw e (omega arith)) (λ ne. let rest = one_of_all n k f (omega (arith, ne)) in omega (arith, rest)) (cases_eq k n)
+one_of_all (suc n) k f lt =
+    ⊎_elim (λ (e : k ≡ n). rw e (omega arith)) (λ ne. let rest = one_of_all n k f (omega (arith, ne)) in omega (arith, rest)) (cases_eq k n)
 
 -- counts that rise by h kind by kind rise by its sum
 rise : (f f' h : ℕ → ℕ) → ((k : ℕ) → k < 7 → f' k ≡ f k + h k) → in_all f' ≡ in_all f + in_all h
@@ -34,7 +35,8 @@ rise f f' h e = sum_same 7 f' (λ k. f k + h k) e ∙ sum_add 7 f h
 
 -- the fate of one message
 fate_counts : (f : Fate) (m : Message) → in_all (λ k. cond (place_of (kind_of m) == k) (one_if_consumed f) 0) ≡ one_if_consumed f
-fate_counts Consumed m = sum_same 7 (λ k. cond (place_of (kind_of m) == k) 1 0) (λ k. of_kind k (m ∷ [])) (λ k lt. omega arith) ∙ kinds_in_all (m ∷ [])
+fate_counts Consumed m =
+    sum_same 7 (λ k. cond (place_of (kind_of m) == k) 1 0) (λ k. of_kind k (m ∷ [])) (λ k lt. omega arith) ∙ kinds_in_all (m ∷ [])
 fate_counts Requeued m = sum_none 7 (λ k. cond (place_of (kind_of m) == k) 0 0) (λ k lt. none (place_of (kind_of m) == k))
   where
     none : (b : Bool) → ◌≡◌ {A = ℕ} (cond b 0 0) 0
@@ -54,13 +56,21 @@ pub record Disposed (links l : LinksState) (counts c : Counts) : Type 0 where
   pub requeued : c.requeued ≤ counts.requeued + 1
   pub ports : SamePorts links l
 
-module _ (g : Shape) (w : Net) (nodes : List NodeState) (links : LinksState) (counts : Counts) (for : IsFor g links) (shows : Shows (network_of g) w nodes links counts) where
-  pub disposed : {e : Event} {d : Delta} {x : Net} (l : LinksState) (c : Counts) → Stage (network_of g) w e d x → Disposes e d.fate links l counts c → Disposed links l counts c
-  disposed l c (Wakes v d lo hi s r) z = rw (z.0, z.1) (record { sent = refl; balance = refl; fewer = omega arith; consumed = omega arith; requeued = omega arith; ports = same_alike links })
+module _ (g : Shape) (w : Net) (nodes : List NodeState) (links : LinksState) (counts : Counts) (for : IsFor g links)
+    (shows : Shows (network_of g) w nodes links counts) where
+  pub disposed : {e : Event} {d : Delta} {x : Net} (l : LinksState) (c : Counts) →
+      Stage (network_of g) w e d x →
+      Disposes e d.fate links l counts c →
+      Disposed links l counts c
+  disposed l c (Wakes v d lo hi s r) z =
+      rw (z.0, z.1)
+      (record { sent = refl; balance = refl; fewer = omega arith; consumed = omega arith; requeued = omega arith; ports = same_alike links })
   disposed l c (Takes v p m ms d at q r) z =
       let one = z m ms (shows.queue v p at ∙ q) in
       let t = one.0.total in
-      let all = rise (λ k. get_or counts.consumed k 0) (λ k. get_or c.consumed k 0) (λ k. cond (place_of (kind_of m) == k) (one_if_consumed d.fate) 0) one.1.consumed in
+      let all =
+      rise (λ k. get_or counts.consumed k 0) (λ k. get_or c.consumed k 0) (λ k. cond (place_of (kind_of m) == k) (one_if_consumed d.fate) 0)
+      one.1.consumed in
       let kind = fate_counts d.fate m in
       let fate = one_fate d.fate in
       let again = one.1.requeued in
@@ -86,7 +96,10 @@ module _ (g : Shape) (w : Net) (nodes : List NodeState) (links : LinksState) (co
       let more = one.0.rooms _ _ (far_queue g links for u i port.port) in
       rw (same_destination links l one.0.ports u i, led) (omega (arith, more, enough))
 
-  pub disposed_rooms : {e : Event} {d : Delta} {x : Net} (l : LinksState) (c : Counts) → Stage (network_of g) w e d x → Disposes e d.fate links l counts c → (u r : ℕ) →
+  pub disposed_rooms : {e : Event} {d : Delta} {x : Net} (l : LinksState) (c : Counts) →
+      Stage (network_of g) w e d x →
+      Disposes e d.fate links l counts c →
+      (u r : ℕ) →
       HasQueue links u r → room_at links u r ≤ room_at l u r
   disposed_rooms l c (Wakes v d lo hi s r) z = λ u r has. rw z.0 (omega arith)
   disposed_rooms l c (Takes v p m ms d at q r) z = (z m ms (shows.queue v p at ∙ q)).0.rooms
@@ -96,7 +109,8 @@ pub fit_more : (n : ℕ) (links l l' : LinksState) (counts c : Counts) (sent : L
     CountsFit n links counts → Disposed links l counts c → Arrives g v ss l l' → CountsSends ss c.sent sent →
     CountsFit (n + 1) l' (record { sent = sent; consumed = c.consumed; requeued = c.requeued })
 fit_more n links l l' counts c sent g v ss few fit s a told =
-    let all : in_all (λ k. get_or sent k 0) ≡ in_all (λ k. get_or c.sent k 0) + in_all (λ k. of_kind k (messages_of ss)) = rise (λ k. get_or c.sent k 0) (λ k. get_or sent k 0) (λ k. of_kind k (messages_of ss)) told in
+    let all : in_all (λ k. get_or sent k 0) ≡ in_all (λ k. get_or c.sent k 0) + in_all (λ k. of_kind k (messages_of ss)) =
+    rise (λ k. get_or c.sent k 0) (λ k. get_or sent k 0) (λ k. of_kind k (messages_of ss)) told in
     let kinds : in_all (λ k. of_kind k (messages_of ss)) ≡ length ss = kinds_in_all (messages_of ss) ∙ length-map ss (λ (x : ℕ × Message). x.1) in
     let same : in_all (λ k. get_or c.sent k 0) ≡ in_all (λ k. get_or counts.sent k 0) = ap (λ (xs : List ℕ). in_all (λ k. get_or xs k 0)) s.sent in
     let total = a.total in
@@ -108,21 +122,36 @@ fit_more n links l l' counts c sent g v ss few fit s a told =
     }
 
 -- there is room for the counts of one event more
-pub total_fits : (n : ℕ) (links l : LinksState) (counts c : Counts) (k : ℕ) → n < 2 ^ 40 → k ≤ 8388610 → CountsFit n links counts → Disposed links l counts c → total_of l + k < 2 ^ 64
+pub total_fits : (n : ℕ) (links l : LinksState) (counts c : Counts) (k : ℕ) →
+    n < 2 ^ 40 →
+    k ≤ 8388610 →
+    CountsFit n links counts →
+    Disposed links l counts c →
+    total_of l + k < 2 ^ 64
 total_fits n links l counts c k lt few fit s =
     let a = fit.sent in
     let b = fit.waiting in
     let t = s.fewer in
     omega (arith, a, b, t)
 
-pub sent_fits : (n : ℕ) (links l : LinksState) (counts c : Counts) (k i : ℕ) → n < 2 ^ 40 → k ≤ 8388610 → CountsFit n links counts → Disposed links l counts c → i < 7 → get_or c.sent i 0 + k < 2 ^ 64
+pub sent_fits : (n : ℕ) (links l : LinksState) (counts c : Counts) (k i : ℕ) →
+    n < 2 ^ 40 →
+    k ≤ 8388610 →
+    CountsFit n links counts →
+    Disposed links l counts c →
+    i < 7 →
+    get_or c.sent i 0 + k < 2 ^ 64
 sent_fits n links l counts c k i lt few fit s below =
     let one = one_of_all 7 i (λ j. get_or c.sent j 0) below in
     let same : in_all (λ j. get_or c.sent j 0) ≡ in_all (λ j. get_or counts.sent j 0) = ap (λ (xs : List ℕ). in_all (λ j. get_or xs j 0)) s.sent in
     let a = fit.sent in
     omega (arith, one, same, a)
 
-pub consumed_fits : (n : ℕ) (links : LinksState) (counts : Counts) (i : ℕ) → n < 2 ^ 40 → CountsFit n links counts → i < 7 → get_or counts.consumed i 0 < 2 ^ 64 - 1
+pub consumed_fits : (n : ℕ) (links : LinksState) (counts : Counts) (i : ℕ) →
+    n < 2 ^ 40 →
+    CountsFit n links counts →
+    i < 7 →
+    get_or counts.consumed i 0 < 2 ^ 64 - 1
 consumed_fits n links counts i lt fit below =
     let one = one_of_all 7 i (λ j. get_or counts.consumed j 0) below in
     let a = fit.consumed in

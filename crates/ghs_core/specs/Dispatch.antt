@@ -43,7 +43,9 @@ pub record Met (f : Fate) (v p : ℕ) (m : Message) (ms : List Message) (old new
 -- and it is counted as consumed or as requeued
 pub record CountsFate (f : Fate) (m : Message) (old new : Counts) : Type 0 where
   pub sent : new.sent ≡ old.sent
-  pub consumed : (k : ℕ) → k < 7 → slice_index new.consumed k ≡ slice_index old.consumed k + (if place_of (kind_of m) == k then one_if_consumed f else 0)
+  pub consumed : (k : ℕ) →
+      k < 7 →
+      slice_index new.consumed k ≡ slice_index old.consumed k + (if place_of (kind_of m) == k then one_if_consumed f else 0)
   pub requeued : new.requeued ≡ old.requeued + one_if_requeued f
 
 -- a message waits where the event takes one

@@ -55,7 +55,9 @@ pub record HasRoomToPlay (s : NetState) (e : Event) (d : Delta) : Type 0 where
 -- no room is let go of: the event takes one place in the trace, and each message that comes in one in its queue
 pub record KeepsRoom (old new : NetState) (e : Event) (d : Delta) : Type 0 where
   pub trace : old.spare ≤ new.spare + 1
-  pub queues : (u r : ℕ) → At (network old) u r → room_at old.links u r ≤ room_at new.links u r + length (arriving (network old) (event_node e) d.sends u r)
+  pub queues : (u r : ℕ) →
+      At (network old) u r →
+      room_at old.links u r ≤ room_at new.links u r + length (arriving (network old) (event_node e) d.sends u r)
 
 -- the same net, and nowhere less room
 pub record IsSameNet (old new : NetState) : Type 0 where

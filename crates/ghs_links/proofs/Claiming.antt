@@ -19,16 +19,28 @@ pub record Claimed (far : List ℕ) (ss : Outgoing) (i : ℕ) (old qs : List Que
 abbrev one_if_on : ℕ → ℕ × Message → ℕ
 one_if_on k s = cond (s.0 == k) 1 0
 
-count_more : (k : ℕ) (ss : Outgoing) (i : ℕ) (s : ℕ × Message) → i < length ss → s ≡ get_or ss i s → count_on k (take (i + 1) ss) ≡ count_on k (take i ss) + one_if_on k s
-count_more k ss i s lt is = ap (λ (xs : Outgoing). count_on k xs) (take_more ss i s lt) ∙ sum_by-append (one_if_on k) (take i ss) (get_or ss i s ∷ []) ∙ (let one : one_if_on k (get_or ss i s) ≡ one_if_on k s = ap (one_if_on k) (sym is) in omega (arith, one))
+count_more : (k : ℕ) (ss : Outgoing) (i : ℕ) (s : ℕ × Message) →
+    i < length ss →
+    s ≡ get_or ss i s →
+    count_on k (take (i + 1) ss) ≡ count_on k (take i ss) + one_if_on k s
+count_more k ss i s lt is =
+    ap (λ (xs : Outgoing). count_on k xs) (take_more ss i s lt) ∙ sum_by-append (one_if_on k) (take i ss) (get_or ss i s ∷ []) ∙
+    (let one : one_if_on k (get_or ss i s) ≡ one_if_on k s = ap (one_if_on k) (sym is) in omega (arith, one))
 
-count_here : (ss : Outgoing) (i : ℕ) (s : ℕ × Message) → i < length ss → s ≡ get_or ss i s → count_on s.0 (take (i + 1) ss) ≡ count_on s.0 (take i ss) + 1
+count_here : (ss : Outgoing) (i : ℕ) (s : ℕ × Message) →
+    i < length ss →
+    s ≡ get_or ss i s →
+    count_on s.0 (take (i + 1) ss) ≡ count_on s.0 (take i ss) + 1
 count_here ss i s lt is =
     let more = count_more s.0 ss i s lt is in
     let one : one_if_on s.0 s ≡ 1 = rw (eq-eqb s.0 s.0 (λ j. s.0)) (λ j. 1) in
     omega (arith, more, one)
 
-count_elsewhere : (k : ℕ) (ss : Outgoing) (i : ℕ) (s : ℕ × Message) → i < length ss → s ≡ get_or ss i s → k ≢ s.0 → count_on k (take (i + 1) ss) ≡ count_on k (take i ss)
+count_elsewhere : (k : ℕ) (ss : Outgoing) (i : ℕ) (s : ℕ × Message) →
+    i < length ss →
+    s ≡ get_or ss i s →
+    k ≢ s.0 →
+    count_on k (take (i + 1) ss) ≡ count_on k (take i ss)
 count_elsewhere k ss i s lt is ne =
     let more = count_more k ss i s lt is in
     let none : one_if_on k s ≡ 0 = rw (ne_eqb s.0 k (λ z. ne (sym z))) (λ j. 0) in
@@ -36,7 +48,8 @@ count_elsewhere k ss i s lt is ne =
 
 -- one message more has its room
 module _ (far : List ℕ) (ss : Outgoing) (i : ℕ) (old qs : List QueueState) (claims : List ℕ) (s : ℕ × Message) (x r : QueueState)
-    (claimed : Claimed far ss i old qs claims) (lt : i < length ss) (is : s ≡ get_or ss i s) (port : s.0 < length far) (wide : length far ≤ length claims)
+    (claimed : Claimed far ss i old qs claims) (lt : i < length ss) (is : s ≡ get_or ss i s) (port : s.0 < length far)
+    (wide : length far ≤ length claims)
     (inside : get_or far s.0 0 < length qs) where
   abbrev place : ℕ
   place = get_or far s.0 0
@@ -44,7 +57,10 @@ module _ (far : List ℕ) (ss : Outgoing) (i : ℕ) (old qs : List QueueState) (
   at_place : get_or qs place x ≡ get_or qs place no_queue
   at_place = get_or_default qs place x no_queue inside
 
-  pub claimed_more : r.list ≡ (get_or qs (get_or far s.0 0) x).list → (get_or qs (get_or far s.0 0) x).room ≤ r.room → get_or claims s.0 0 + 1 ≤ r.room →
+  pub claimed_more :
+      r.list ≡ (get_or qs (get_or far s.0 0) x).list →
+      (get_or qs (get_or far s.0 0) x).room ≤ r.room →
+      get_or claims s.0 0 + 1 ≤ r.room →
       Claimed far ss (i + 1) old (set qs (get_or far s.0 0) r) (set claims s.0 (get_or claims s.0 0 + 1))
   claimed_more list more enough = record { kept = kept; counts = counts; room = room }
     where
@@ -65,14 +81,17 @@ module _ (far : List ℕ) (ss : Outgoing) (i : ℕ) (old qs : List QueueState) (
 
       counts : (k : ℕ) → get_or (set claims s.0 (get_or claims s.0 0 + 1)) k 0 ≡ count_on k (take (i + 1) ss)
       counts k = ⊎_elim
-          (λ (z : k ≡ s.0). rw z (get_or-set_same claims s.0 (get_or claims s.0 0 + 1) 0 (omega (arith, port, wide)) ∙ (let had = claimed.counts s.0 in let one = count_here ss i s lt is in omega (arith, had, one))))
+          (λ (z : k ≡ s.0).
+          rw z (get_or-set_same claims s.0 (get_or claims s.0 0 + 1) 0 (omega (arith, port, wide)) ∙
+          (let had = claimed.counts s.0 in let one = count_here ss i s lt is in omega (arith, had, one))))
           (λ ne. get_or-set_other claims s.0 k (get_or claims s.0 0 + 1) 0 ne ∙ claimed.counts k ∙ sym (count_elsewhere k ss i s lt is ne))
           (cases_eq k s.0)
 
       room : HasRoomAt far (take (i + 1) ss) (set qs place r)
       room p below = ⊎_elim
           (λ (z : p ≡ s.0).
-          let now : (get_or (set qs place r) place no_queue).room ≡ r.room = ap (λ (q : QueueState). q.room) (get_or-set_same qs place r no_queue inside) in
+          let now : (get_or (set qs place r) place no_queue).room ≡ r.room =
+          ap (λ (q : QueueState). q.room) (get_or-set_same qs place r no_queue inside) in
           let had = claimed.counts s.0 in
           let one = count_here ss i s lt is in
           rw z (omega (arith, now, had, one, enough)))
@@ -80,8 +99,14 @@ module _ (far : List ℕ) (ss : Outgoing) (i : ℕ) (old qs : List QueueState) (
           let had = claimed.room p below in
           let same = count_elsewhere p ss i s lt is ne in
           let kept : (get_or qs (get_or far p 0) no_queue).room ≤ (get_or (set qs place r) (get_or far p 0) no_queue).room = ⊎_elim
-          (λ (e : get_or far p 0 ≡ place). let now : (get_or (set qs place r) place no_queue).room ≡ r.room = ap (λ (q : QueueState). q.room) (get_or-set_same qs place r no_queue inside) in rw e (omega (arith, now, room_was, more)))
-          (λ apart. let now : (get_or (set qs place r) (get_or far p 0) no_queue).room ≡ (get_or qs (get_or far p 0) no_queue).room = ap (λ (q : QueueState). q.room) (get_or-set_other qs place (get_or far p 0) r no_queue apart) in omega (arith, now))
+          (λ (e : get_or far p 0 ≡ place).
+          let now : (get_or (set qs place r) place no_queue).room ≡ r.room =
+          ap (λ (q : QueueState). q.room) (get_or-set_same qs place r no_queue inside) in
+          rw e (omega (arith, now, room_was, more)))
+          (λ apart.
+          let now : (get_or (set qs place r) (get_or far p 0) no_queue).room ≡ (get_or qs (get_or far p 0) no_queue).room =
+          ap (λ (q : QueueState). q.room) (get_or-set_other qs place (get_or far p 0) r no_queue apart) in
+          omega (arith, now))
           (cases_eq (get_or far p 0) place) in
           omega (arith, had, same, kept))
           (cases_eq p s.0)
@@ -107,7 +132,11 @@ module _ (far : List ℕ) (ss : Outgoing) (i : ℕ) (old qs : List QueueState) (
       omega (arith, here, few, count, kept, room, r, full)
 
 -- the port of the message at hand, and the place of its far end
-pub its_port : (far : List ℕ) (ss : Outgoing) (i : ℕ) (s : ℕ × Message) → All (λ x. x.0 < length far) ss → i < length ss → s ≡ get_or ss i s → s.0 < length far
+pub its_port : (far : List ℕ) (ss : Outgoing) (i : ℕ) (s : ℕ × Message) →
+    All (λ x. x.0 < length far) ss →
+    i < length ss →
+    s ≡ get_or ss i s →
+    s.0 < length far
 its_port far ss i s all lt is = let P : ℕ × Message → Type 0 = λ x. x.0 < length far in subst P (sym is) (all i s lt)
 
 pub its_place : (far : List ℕ) (qs : List QueueState) (p n : ℕ) → All (λ i. i < n) far → p < length far → n ≡ length qs → get_or far p 0 < length qs

@@ -26,12 +26,17 @@ same_total (q ∷ qs) (r ∷ rs) e same =
     sum_by-cons (λ (x : QueueState). length x.list) r rs ∙ omega (arith, rest, first) ∙ sym (sum_by-cons (λ (x : QueueState). length x.list) q qs)
 
 -- the lists are as they were, and nowhere is less room
-pub lists_kept : (l : Laid) (rs : List QueueState) → AreInOrder l → length rs ≡ length l.queues → KeepsEach l.queues rs → KeepsLists (seen l) (seen (record l { queues = rs }))
+pub lists_kept : (l : Laid) (rs : List QueueState) →
+    AreInOrder l →
+    length rs ≡ length l.queues →
+    KeepsEach l.queues rs →
+    KeepsLists (seen l) (seen (record l { queues = rs }))
 lists_kept l rs order e k = record {
   ports = same_ports l rs e order;
   lists = λ v p h.
       let at = has_place l order v p h in
-      ap (λ (q : QueueState). q.list) (state_is (record l { queues = rs }) after v p (record { node = at.node; port = at.port })) ∙ (k (start_of l v + p)).0 ∙ sym (ap (λ (q : QueueState). q.list) (state_is l order v p at));
+      ap (λ (q : QueueState). q.list) (state_is (record l { queues = rs }) after v p (record { node = at.node; port = at.port })) ∙
+      (k (start_of l v + p)).0 ∙ sym (ap (λ (q : QueueState). q.list) (state_is l order v p at));
   rooms = λ v p h.
       let at = has_place l order v p h in
       let now = ap (λ (q : QueueState). q.room) (state_is (record l { queues = rs }) after v p (record { node = at.node; port = at.port })) in
@@ -44,7 +49,10 @@ lists_kept l rs order e k = record {
     after : AreInOrder (record l { queues = rs })
     after = still_in_order l rs e order
 
-pub still_kept : (l : Laid) (rs : List QueueState) (claims cs : List ℕ) (total : ℕ) → IsKept l claims total → length rs ≡ length l.queues → KeepsEach l.queues rs →
+pub still_kept : (l : Laid) (rs : List QueueState) (claims cs : List ℕ) (total : ℕ) →
+    IsKept l claims total →
+    length rs ≡ length l.queues →
+    KeepsEach l.queues rs →
     length cs ≡ length claims → ((k : ℕ) → get_or cs k 0 ≡ 0) → IsKept (record l { queues = rs }) cs total
 still_kept l rs claims cs total kept e k wide none = record {
   order = still_in_order l rs e kept.order;
@@ -59,7 +67,9 @@ module _ (l : Laid) (order : AreInOrder l) (v : ℕ) (node : v < length (seen l)
   node_inside = let n = seen_count l order in omega (arith, n, node)
 
   pub in_part : (p : ℕ) → HasQueue (seen l) v p → p < length (part_of l.starts l.far v)
-  in_part p h = let at = has_place l order v p h in let port = at.port in let w = part_length l order l.far v order.wide node_inside in omega (arith, port, w)
+  in_part p h =
+      let at = has_place l order v p h in
+      let port = at.port in let w = part_length l order l.far v order.wide node_inside in omega (arith, port, w)
 
   pub of_part : (p : ℕ) → p < length (part_of l.starts l.far v) → HasPlace l v p
   of_part p lt = let w = part_length l order l.far v order.wide node_inside in record { node = node_inside; port = omega (arith, lt, w) }
@@ -80,15 +90,21 @@ module _ (l : Laid) (order : AreInOrder l) (v : ℕ) (node : v < length (seen l)
 
   -- room there is room at the destinations
   far_room : (rs : List QueueState) → length rs ≡ length l.queues → (p : ℕ) → HasPlace l v p →
-      (state_at (seen (record l { queues = rs })) (destination_of (seen l) v p).0 (destination_of (seen l) v p).1).room ≡ (get_or rs (get_or (part_of l.starts l.far v) p 0) no_queue).room
+      (state_at (seen (record l { queues = rs })) (destination_of (seen l) v p).0 (destination_of (seen l) v p).1).room ≡
+      (get_or rs (get_or (part_of l.starts l.far v) p 0) no_queue).room
   far_room rs e p at =
       let after = still_in_order l rs e order in
       let i = get_or l.far (start_of l v + p) 0 in
       let there = place_of_port l order i (order.far (start_of l v + p) (place_within l order v p at)) in
-      let state = state_is (record l { queues = rs }) after (port_at l.starts i).0 (port_at l.starts i).1 (record { node = there.0.node; port = there.0.port }) in
-      rw (destination_is l order v p at, part_at l order l.far v p 0 at.port) (ap (λ (q : QueueState). q.room) state ∙ ap (λ (k : ℕ). (get_or rs k no_queue).room) there.1)
+      let state = state_is (record l { queues = rs }) after (port_at l.starts i).0 (port_at l.starts i).1
+      (record { node = there.0.node; port = there.0.port }) in
+      rw (destination_is l order v p at, part_at l order l.far v p 0 at.port)
+      (ap (λ (q : QueueState). q.room) state ∙ ap (λ (k : ℕ). (get_or rs k no_queue).room) there.1)
 
-  pub room_there : (ss : Outgoing) (rs : List QueueState) → length rs ≡ length l.queues → HasRoomAt (part_of l.starts l.far v) ss rs → HasRoomFor v ss (seen (record l { queues = rs }))
+  pub room_there : (ss : Outgoing) (rs : List QueueState) →
+      length rs ≡ length l.queues →
+      HasRoomAt (part_of l.starts l.far v) ss rs →
+      HasRoomFor v ss (seen (record l { queues = rs }))
   room_there ss rs e room p h =
       let after = still_in_order l rs e order in
       let at = has_place (record l { queues = rs }) after v p h in

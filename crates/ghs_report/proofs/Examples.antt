@@ -9,7 +9,9 @@ abbrev line : List ℕ → List ℕ
 line text = text ++ 10 ∷ []
 
 -- a triangle with weights 1, 2, 3
-triangle-tree : tree_text (record { weight = 1; a = 1; b = 2 } ∷ record { weight = 2; a = 2; b = 3 } ∷ []) ≡ line (codes "t 1 2 1") ++ line (codes "t 2 3 2") ++ line (codes "w 3")
+triangle-tree :
+    tree_text (record { weight = 1; a = 1; b = 2 } ∷ record { weight = 2; a = 2; b = 3 } ∷ []) ≡
+    line (codes "t 1 2 1") ++ line (codes "t 2 3 2") ++ line (codes "w 3")
 unfolding tree_text digits
 triangle-tree = refl
 

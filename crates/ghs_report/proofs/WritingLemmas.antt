@@ -11,13 +11,19 @@ take-front w n bytes =
     ∙ (ap (λ t. take w (take (w + n) bytes) ++ t) (sym (drop-take w n bytes)) ∙ take-append-drop w (take (w + n) bytes))
 
 -- the next write takes the next part
-pub appends_more : (old mid new : Option (List ℕ)) (bytes : List ℕ) (w n : ℕ) → Appends old mid (take w bytes) → Appends mid new (take n (take (length bytes - w) (drop w bytes))) → Appends old new (take (w + n) bytes)
+pub appends_more : (old mid new : Option (List ℕ)) (bytes : List ℕ) (w n : ℕ) →
+    Appends old mid (take w bytes) →
+    Appends mid new (take n (take (length bytes - w) (drop w bytes))) →
+    Appends old new (take (w + n) bytes)
 appends_more None mid new bytes w n a b = tt
 appends_more (Some xs) None new bytes w n a b = absurd a
 appends_more (Some xs) (Some ys) None bytes w n a b = absurd b
 appends_more (Some xs) (Some ys) (Some zs) bytes w n a b =
     let rest : take (length bytes - w) (drop w bytes) ≡ drop w bytes = take_all _ _ (omega (arith, length-drop w bytes)) in
-    b ∙ (ap (λ t. ys ++ take n t) rest ∙ (ap (λ t. t ++ take n (drop w bytes)) a ∙ (append_assoc xs (take w bytes) (take n (drop w bytes)) ∙ ap (λ t. xs ++ t) (take-front w n bytes))))
+    b ∙
+    (ap (λ t. ys ++ take n t) rest ∙
+    (ap (λ t. t ++ take n (drop w bytes)) a ∙
+    (append_assoc xs (take w bytes) (take n (drop w bytes)) ∙ ap (λ t. xs ++ t) (take-front w n bytes))))
 
 -- what was taken of the rest is within it
 pub within_rest : (bytes : List ℕ) (w n : ℕ) → w ≤ length bytes → n ≤ length (take (length bytes - w) (drop w bytes)) → w + n ≤ length bytes

@@ -81,7 +81,10 @@ abbrev FirstBelow : List Line → ℕ → Option TraceFault → Type 0
 FirstBelow ls k None = (j : ℕ) → j < k → fault_at ls j ≡ None
 FirstBelow ls k (Some g) = (n : ℕ) × (f : LineFault) × IsFirstFault ls n f × (g ≡ of_line f n)
 
-one_more : (ls : List Line) (k : ℕ) (a : Option TraceFault) (o : Option LineFault) → FirstBelow ls k a → fault_at ls k ≡ o → FirstBelow ls (suc k) (option_or a (option_map (λ f. of_line f (suc k)) o))
+one_more : (ls : List Line) (k : ℕ) (a : Option TraceFault) (o : Option LineFault) →
+    FirstBelow ls k a →
+    fault_at ls k ≡ o →
+    FirstBelow ls (suc k) (option_or a (option_map (λ f. of_line f (suc k)) o))
 one_more ls k None None h e = λ j l. ⊎_elim (λ low. h j low) (λ high. let same : j ≡ k = omega arith in ap (fault_at ls) same ∙ e) (cases_lt j k)
 one_more ls k None (Some f) h e =
     let at : suc k - 1 ≡ k = omega arith in
@@ -99,7 +102,8 @@ LinesAre ls (Err fault) = HaveFault ls fault
 
 counted : (ls : List Line) (said : ℕ) (b : Bool) → AreSound ls → head_in ls ≡ Some said → b ≡ (said == length (events_in ls))
     → LinesAre ls (cond b (Ok (events_in ls)) (Err (trace.Count said (length (events_in ls)))))
-counted ls said true sound head e = record { sound = sound; head = head ∙ ap (λ n. Some n) (eqb-true said (length (events_in ls)) (sym e)); all = refl }
+counted ls said true sound head e =
+    record { sound = sound; head = head ∙ ap (λ n. Some n) (eqb-true said (length (events_in ls)) (sym e)); all = refl }
 counted ls said false sound head e = record { sound = sound; head = head; counted = refl; other = eqb-false said (length (events_in ls)) (sym e) }
 
 found_sound : (ls : List Line) (head : Option ℕ) → AreSound ls → head_in ls ≡ head → LinesAre ls (sound_lines ls head)

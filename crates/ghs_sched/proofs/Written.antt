@@ -26,7 +26,8 @@ line_of (event.Take v port) = Take (Some v) (Some port)
 event_text-line : (e : Event) (rest : List ℕ) → event_text e ++ rest ≡ line_text e ++ 10 ∷ rest
 event_text-line (event.Wake v) rest = ap (λ (xs : List ℕ). codes "wake " ++ xs) (append_assoc (decimal v) (10 ∷ []) rest)
 event_text-line (event.Take v port) rest = ap (λ (xs : List ℕ). codes "take " ++ xs)
-    (append_assoc ((decimal v ++ 32 ∷ []) ++ decimal port) (10 ∷ []) rest ∙ ap (λ (xs : List ℕ). xs ++ 10 ∷ rest) (append_assoc (decimal v) (32 ∷ []) (decimal port)))
+    (append_assoc ((decimal v ++ 32 ∷ []) ++ decimal port) (10 ∷ []) rest ∙
+    ap (λ (xs : List ℕ). xs ++ 10 ∷ rest) (append_assoc (decimal v) (32 ∷ []) (decimal port)))
 
 no_feed : (e : Event) → IsNarrow e → has_no_feed (line_text e) ≡ true
 no_feed (event.Wake v) h = has_no_feed-word (codes "wake") (32 ∷ decimal v) refl (has_no_feed-last (decimal v) (decimal_plain v (omega arith)))
@@ -39,13 +40,15 @@ no_feed (event.Take v port) h =
 meaning-line : (e : Event) → IsNarrow e → meaning (line_text e) ≡ line_of e
 meaning-line (event.Wake v) h =
     let small : v < 2 ^ 64 = omega arith in
-    ap meaning_of (fields_of-word (codes "wake") (decimal v) (omega arith) refl ∙ ap (λ fs. codes "wake" ∷ fs) (fields_of-last (decimal v) (decimal_nonempty v small) (decimal_plain v small)))
+    ap meaning_of (fields_of-word (codes "wake") (decimal v) (omega arith) refl ∙
+    ap (λ fs. codes "wake" ∷ fs) (fields_of-last (decimal v) (decimal_nonempty v small) (decimal_plain v small)))
     ∙ ap Wake (number_of-decimal v small 4294967295 h)
 meaning-line (event.Take v port) h =
     let small_node : v < 2 ^ 64 = (let a = h.0 in omega arith) in
     let small_port : port < 2 ^ 64 = (let a = h.1 in omega arith) in
     let last = fields_of-last (decimal port) (decimal_nonempty port small_port) (decimal_plain port small_port) in
-    let both = fields_of-word (decimal v) (decimal port) (decimal_nonempty v small_node) (decimal_plain v small_node) ∙ ap (λ fs. decimal v ∷ fs) last in
+    let both =
+    fields_of-word (decimal v) (decimal port) (decimal_nonempty v small_node) (decimal_plain v small_node) ∙ ap (λ fs. decimal v ∷ fs) last in
     ap meaning_of (fields_of-word (codes "take") (decimal v ++ 32 ∷ decimal port) (omega arith) refl ∙ ap (λ fs. codes "take" ∷ fs) both)
     ∙ ap₂ Take (number_of-decimal v small_node 4294967295 h.0) (number_of-decimal port small_port 4294967295 h.1)
 
@@ -62,9 +65,11 @@ meanings-head : (n : ℕ) (rest : List ℕ) → n ≤ 1099511627776 → meanings
 meanings-head n rest within =
     let small : n < 2 ^ 64 = omega arith in
     let plain = decimal_plain n small in
-    let fields = fields_of-word (codes "trace") (decimal n) (omega arith) refl ∙ ap (λ fs. codes "trace" ∷ fs) (fields_of-last (decimal n) (decimal_nonempty n small) plain) in
+    let fields = fields_of-word (codes "trace") (decimal n) (omega arith) refl ∙
+    ap (λ fs. codes "trace" ∷ fs) (fields_of-last (decimal n) (decimal_nonempty n small) plain) in
     ap meanings (ap (λ (xs : List ℕ). codes "trace " ++ xs) (append_assoc (decimal n) (10 ∷ []) rest))
-    ∙ ap (map meaning) (lines_of-line (codes "trace" ++ 32 ∷ decimal n) rest (has_no_feed-word (codes "trace") (32 ∷ decimal n) refl (has_no_feed-last (decimal n) plain)))
+    ∙ ap (map meaning) (lines_of-line (codes "trace" ++ 32 ∷ decimal n) rest
+    (has_no_feed-word (codes "trace") (32 ∷ decimal n) refl (has_no_feed-last (decimal n) plain)))
     ∙ ap (λ l. l ∷ meanings rest) (ap meaning_of fields ∙ ap Head (number_of-decimal n small 1099511627776 within))
 
 events_in-lines : (es : List Event) → events_in (map line_of es) ≡ es
@@ -86,7 +91,8 @@ sound_all said es (suc k) l = sound_events said es k (omega arith)
 has_events : (es : List Event) → All IsNarrow es → length es ≤ 1099511627776 → HasEvents (trace_text es) es
 has_events es narrow few =
     let lines = meanings-head (length es) (flat_map event_text es) few ∙ ap (λ xs. Head (Some (length es)) ∷ xs) (meanings-events es narrow) in
-    let trace : IsTrace (Head (Some (length es)) ∷ map line_of es) es = record { sound = sound_all (length es) es; head = refl; all = sym (events_in-lines es) } in
+    let trace : IsTrace (Head (Some (length es)) ∷ map line_of es) es =
+    record { sound = sound_all (length es) es; head = refl; all = sym (events_in-lines es) } in
     rw lines trace
 
 pub reads_back : (es : List Event) → ReadsBack es

@@ -80,20 +80,30 @@ module _ (s : WorldState) (n : ℕ) (e : Event) (d : Delta) (net : NetState) (do
 
   pub world_after : IsWorld (after_commit s n net)
   world_after = record {
-    wakes = same_wakers (All-append (MayWake (wakers s)) s.net.trace (e ∷ []) done.world.wakes (All-cons (MayWake (wakers s)) e [] ((lawful_under (wakers s) (network s.net) (home s) e).0 (out_happens s n e done.world done.out)).0 (All-nil (MayWake (wakers s)))));
-    lawful = all_same (may_happen s) (may_happen (after_commit s n net)) (event_node e) still (without n s.outs) done.free (all_without (may_happen s) n s.outs done.world.lawful);
-    turns = let l = length_without n e s.outs done.out in let t = done.world.turns in let more = ap length done.trace ∙ length-append s.net.trace (e ∷ []) in omega arith;
+    wakes =
+        same_wakers (All-append (MayWake (wakers s)) s.net.trace (e ∷ []) done.world.wakes
+        (All-cons (MayWake (wakers s)) e []
+        ((lawful_under (wakers s) (network s.net) (home s) e).0 (out_happens s n e done.world done.out)).0 (All-nil (MayWake (wakers s)))));
+    lawful =
+        all_same (may_happen s) (may_happen (after_commit s n net)) (event_node e) still (without n s.outs) done.free
+        (all_without (may_happen s) n s.outs done.world.lawful);
+    turns =
+        let l = length_without n e s.outs done.out in
+        let t = done.world.turns in let more = ap length done.trace ∙ length-append s.net.trace (e ∷ []) in omega arith;
     few = done.world.few;
   }
 
   pub others_stay : LeavesOthers s n (after_commit s n net)
   others_stay t ne out =
       let there : event_out (without n s.outs) t.number ≡ Some t.event = event_same n t.number s.outs ne ∙ out.event in
-      let apart : event_node t.event ≢ event_node e = (λ z. both_ways _ done.free (sym (ap (is_out (without n s.outs)) z) ∙ is_there t.number t.event (without n s.outs) there)) in
+      let apart : event_node t.event ≢ event_node e =
+      (λ z. both_ways _ done.free (sym (ap (is_out (without n s.outs)) z) ∙ is_there t.number t.event (without n s.outs) there)) in
       record {
         event = there;
         node = out.node ∙ sym (after.node (event_node t.event) apart);
-        work = out.work ∙ sym (same_work (network s.net) (home s) (net_of net) e d t.event after apart (out_lawful s t.number t.event done.world out.event));
+        work =
+            out.work ∙
+            sym (same_work (network s.net) (home s) (net_of net) e d t.event after apart (out_lawful s t.number t.event done.world out.event));
       }
 
   -- at a node that the event doesn't touch, nothing changes
@@ -104,9 +114,14 @@ module _ (s : WorldState) (n : ℕ) (e : Event) (d : Delta) (net : NetState) (do
       (out_same n e s.outs done.out u away)
       (ap (λ (g : Shape). list_any (may_happen (after_commit s n net)) (node_events (network_of g) u)) done.graph
       ∙ any_same (may_happen (after_commit s n net)) (may_happen s) u (length ((network s.net).ports u))
-      (λ f here. may_now f ∙ same_lawful (network s.net) (wakers s) (home s) (net_of net) e d f after (λ h. none (subst (λ x. Contains (touched (network s.net) (event_node e) d.sends) x) here h))))
+      (λ f here.
+      may_now f ∙
+      same_lawful (network s.net) (wakers s) (home s) (net_of net) e d f after
+      (λ h. none (subst (λ x. Contains (touched (network s.net) (event_node e) d.sends) x) here h))))
 
-  pub all_roused : (us : List ℕ) → AreReadyOf (after_commit s n net) (touched (network s.net) (event_node e) d.sends) us → HasAllRoused s (after_commit s n net) us
+  pub all_roused : (us : List ℕ) →
+      AreReadyOf (after_commit s n net) (touched (network s.net) (event_node e) d.sends) us →
+      HasAllRoused s (after_commit s n net) us
   all_roused us kept u now before = ⊎_elim
       (λ there. (kept.all u).1 (there, now))
       (λ none. absurd (both_ways _ before (sym (untouched u none) ∙ now)))
@@ -140,16 +155,23 @@ module _ (s : WorldState) (e : Event) (d : Delta) (net : NetState) (passes : Pas
   same_now f = rw passes.graph
 
   lasts : (f : Event) → event_node f ≢ event_node e → may_happen s f ≡ true → may_happen (after_event s net) f ≡ true
-  lasts f ne h = same_now f ∙ still_lawful (network s.net) (wakers s) (home s) (net_of net) e d f (beside (network s.net) (home s) (net_of net) e d passes.event passes.answer) ne h
+  lasts f ne h =
+      same_now f ∙
+      still_lawful (network s.net) (wakers s) (home s) (net_of net) e d f
+      (beside (network s.net) (home s) (net_of net) e d passes.event passes.answer) ne h
 
   may_wake_still : All (MayWake (wakers s)) (s.net.trace ++ e ∷ []) → All (MayWake (wakers (after_event s net))) net.trace
   may_wake_still h = rw (passes.graph, passes.trace) h
 
   pub world_made : IsWorld (after_event s net)
   world_made = record {
-    wakes = may_wake_still (All-append (MayWake (wakers s)) s.net.trace (e ∷ []) passes.world.wakes (All-cons (MayWake (wakers s)) e [] ((lawful_under (wakers s) (network s.net) (home s) e).0 parts.1).0 (All-nil (MayWake (wakers s)))));
+    wakes =
+        may_wake_still (All-append (MayWake (wakers s)) s.net.trace (e ∷ []) passes.world.wakes
+        (All-cons (MayWake (wakers s)) e [] ((lawful_under (wakers s) (network s.net) (home s) e).0 parts.1).0 (All-nil (MayWake (wakers s)))));
     lawful = all_same (may_happen s) (may_happen (after_event s net)) (event_node e) lasts s.outs parts.0 passes.world.lawful;
-    turns = let t : length s.net.trace + length s.outs < s.turns = ltb-true _ _ (and_parts _ _ passes.turn).0 in let more = ap length passes.trace ∙ length-append s.net.trace (e ∷ []) in omega arith;
+    turns =
+        let t : length s.net.trace + length s.outs < s.turns = ltb-true _ _ (and_parts _ _ passes.turn).0 in
+        let more = ap length passes.trace ∙ length-append s.net.trace (e ∷ []) in omega arith;
     few = passes.world.few;
   }
 

@@ -71,8 +71,14 @@ out_more (p ∷ os) o v = rw (out_more os o v) (assoc (event_node p.1 == v) (is_
 apart_more : (os : Outs) (o : ℕ × Event) → AreApart os → is_out os (event_node o.1) ≡ false → AreApart (os ++ o ∷ [])
 apart_more [] o a h = (refl, tt)
 apart_more (p ∷ os) o a h =
-    let b = or_none _ _ h in
-    (rw (out_more os o (event_node p.1), a.0, ne_eqb (event_node o.1) (event_node p.1) (λ z. same_false (event_node p.1) (event_node o.1) (sym z) b.0)), apart_more os o a.1 b.1)
+    let b = or_none _ _ h in (
+      rw (
+        out_more os o (event_node p.1),
+        a.0,
+        ne_eqb (event_node o.1) (event_node p.1) (λ z. same_false (event_node p.1) (event_node o.1) (sym z) b.0),
+      ),
+      apart_more os o a.1 b.1,
+    )
   where
     or_none : (x y : Bool) → (x || y) ≡ false → (x ≡ false) × (y ≡ false)
     or_none true y e = cc
@@ -98,15 +104,26 @@ messages_few [] = omega arith
 messages_few (o ∷ os) = let rest = messages_few os in let one = message_few o.1 in omega arith
 
 -- one event more is out
-pub added : (os : Outs) (last : ℕ) (busy : List Bool) (taken : ℕ) (e : Event) → AreKept os last busy taken → 1 ≤ event_node e → event_node e ≤ length busy → is_out os (event_node e) ≡ false → AreKept (os ++ (last + 1, e) ∷ []) (last + 1) (set busy (event_node e - 1) true) (taken + message_of e)
+pub added : (os : Outs) (last : ℕ) (busy : List Bool) (taken : ℕ) (e : Event) →
+    AreKept os last busy taken →
+    1 ≤ event_node e →
+    event_node e ≤ length busy →
+    is_out os (event_node e) ≡ false →
+    AreKept (os ++ (last + 1, e) ∷ []) (last + 1) (set busy (event_node e - 1) true) (taken + message_of e)
 added os last busy taken e kept lo hi home = record {
   rise = rise_more 0 os last e kept.rise;
   apart = apart_more os (last + 1, e) kept.apart home;
   nodes = rw (length-set busy (event_node e - 1) true) (nodes_more (length busy) os (last + 1, e) kept.nodes lo hi);
   marked = λ v low high. rw (out_more os (last + 1, e) v) (⊎_elim
-      (λ (z : event_node e ≡ v). rw (← z, get_or-set_same busy (event_node e - 1) true false (omega arith), eq-eqb (event_node e) (event_node e) refl, home))
+      (λ (z : event_node e ≡ v).
+      rw (← z, get_or-set_same busy (event_node e - 1) true false (omega arith), eq-eqb (event_node e) (event_node e) refl, home))
       (λ ne. let l = length-set busy (event_node e - 1) true in
-      rw (get_or-set_other busy (event_node e - 1) (v - 1) true false (λ z. ne (omega arith)), ne_eqb (event_node e) v ne, kept.marked v low (omega arith)) (sym (or_false (is_out os v))))
+      rw (
+        get_or-set_other busy (event_node e - 1) (v - 1) true false (λ z. ne (omega arith)),
+        ne_eqb (event_node e) v ne,
+        kept.marked v low (omega arith),
+      )
+      (sym (or_false (is_out os v))))
       (cases_eq (event_node e) v));
   counted = let c = kept.counted in let m = messages_more os (last + 1, e) in omega arith;
 }
@@ -116,9 +133,14 @@ added os last busy taken e kept lo hi home = record {
     or_false false = refl
 
 -- where an event is out under a number, it is the first or stands behind
-there : {P : Type 0} (n : ℕ) (e : Event) (o : ℕ × Event) (os : Outs) → event_out (o ∷ os) n ≡ Some e → (o.0 ≡ n → o.1 ≡ e → P) → (o.0 ≢ n → event_out os n ≡ Some e → P) → P
+there : {P : Type 0} (n : ℕ) (e : Event) (o : ℕ × Event) (os : Outs) →
+    event_out (o ∷ os) n ≡ Some e →
+    (o.0 ≡ n → o.1 ≡ e → P) →
+    (o.0 ≢ n → event_out os n ≡ Some e → P) →
+    P
 there n e o os h first behind = ⊎_elim
-    (λ (z : o.0 ≡ n). let s : Some o.1 ≡ Some e = sym (ap (λ b. cond b (Some o.1) (event_out os n)) (eq-eqb o.0 n z)) ∙ h in first z (same_Some o.1 e s))
+    (λ (z : o.0 ≡ n).
+    let s : Some o.1 ≡ Some e = sym (ap (λ b. cond b (Some o.1) (event_out os n)) (eq-eqb o.0 n z)) ∙ h in first z (same_Some o.1 e s))
     (λ ne. behind ne (sym (ap (λ b. cond b (Some o.1) (event_out os n)) (ne_eqb o.0 n ne)) ∙ h))
     (cases_eq o.0 n)
 
@@ -143,7 +165,12 @@ module _ (n : ℕ) (e : Event) where
   out_home [] a h = refl
   out_home (o ∷ os) a h = there n e o os h
       (λ z t. rw (eq-eqb o.0 n z, ← t) a.0)
-      (λ ne t. rw (ne_eqb o.0 n ne, ne_eqb (event_node o.1) (event_node e) (λ x. both_ways _ (ap (is_out os) (sym x) ∙ a.0) (is_there os t)), out_home os a.1 t))
+      (λ ne t.
+      rw (
+        ne_eqb o.0 n ne,
+        ne_eqb (event_node o.1) (event_node e) (λ x. both_ways _ (ap (is_out os) (sym x) ∙ a.0) (is_there os t)),
+        out_home os a.1 t,
+      ))
 
   out_less : (os : Outs) → event_out os n ≡ Some e → AreApart os → (v : ℕ) → is_out os v ≡ false → is_out (without n os) v ≡ false
   out_less os h a v none = ⊎_elim
@@ -169,7 +196,10 @@ module _ (n : ℕ) (e : Event) where
       (λ ne t. rw (ne_eqb o.0 n ne) (let rest = messages_less os t in omega arith))
 
   -- the event is out no more
-  pub come_back : (os : Outs) (last : ℕ) (busy : List Bool) (taken : ℕ) → AreKept os last busy taken → event_out os n ≡ Some e → AreKept (without n os) last (set busy (event_node e - 1) false) (taken - message_of e)
+  pub come_back : (os : Outs) (last : ℕ) (busy : List Bool) (taken : ℕ) →
+      AreKept os last busy taken →
+      event_out os n ≡ Some e →
+      AreKept (without n os) last (set busy (event_node e - 1) false) (taken - message_of e)
   come_back os last busy taken kept h =
       let at = node_there (length busy) os kept.nodes h in
       let l = length-set busy (event_node e - 1) false in
@@ -178,8 +208,14 @@ module _ (n : ℕ) (e : Event) where
         apart = apart_without os h kept.apart;
         nodes = rw l (nodes_without (length busy) os kept.nodes);
         marked = λ v low high. ⊎_elim
-            (λ (z : event_node e ≡ v). rw (← z, get_or-set_same busy (event_node e - 1) false false (let hi = at.1 in let lo = at.0 in omega arith)) (sym (out_home os kept.apart h)))
-            (λ ne. rw (get_or-set_other busy (event_node e - 1) (v - 1) false false (λ z. ne (let lo = at.0 in omega arith)), kept.marked v low (omega arith)) (sym (out_same os h v ne)))
+            (λ (z : event_node e ≡ v).
+            rw
+            (← z, get_or-set_same busy (event_node e - 1) false false (let hi = at.1 in let lo = at.0 in omega arith))
+            (sym (out_home os kept.apart h)))
+            (λ ne.
+            rw
+            (get_or-set_other busy (event_node e - 1) (v - 1) false false (λ z. ne (let lo = at.0 in omega arith)), kept.marked v low (omega arith))
+            (sym (out_same os h v ne)))
             (cases_eq (event_node e) v);
         counted = let c = kept.counted in let m = messages_less os h in omega arith;
       }
@@ -194,7 +230,9 @@ pub record AreLeft (os : Outs) (busy : List Bool) (many : ℕ) : Type 0 where
 pub left_first : (os : Outs) (busy : List Bool) (many last taken : ℕ) → AreKept os last busy taken → many ≡ length busy → AreLeft os busy many
 left_first os busy many last taken kept e = rw e (record { many_still = refl; apart = kept.apart; nodes = kept.nodes; marked = kept.marked })
 
-pub left_less : (o : ℕ × Event) (os : Outs) (busy : List Bool) (many : ℕ) → AreLeft (o ∷ os) busy many → AreLeft os (set busy (event_node o.1 - 1) false) many
+pub left_less : (o : ℕ × Event) (os : Outs) (busy : List Bool) (many : ℕ) →
+    AreLeft (o ∷ os) busy many →
+    AreLeft os (set busy (event_node o.1 - 1) false) many
 left_less o os busy many left =
     let l = length-set busy (event_node o.1 - 1) false in
     let m = left.many_still in
@@ -207,12 +245,19 @@ left_less o os busy many left =
       marked = λ v low high. ⊎_elim
           (λ (z : event_node o.1 ≡ v). rw (← z, get_or-set_same busy (event_node o.1 - 1) false false (omega arith)) (sym left.apart.0))
           (λ ne. let h = left.marked v low high in
-          get_or-set_other busy (event_node o.1 - 1) (v - 1) false false (λ z. ne (omega arith)) ∙ h ∙ ap (λ b. b || is_out os v) (ne_eqb (event_node o.1) v ne))
+          get_or-set_other busy (event_node o.1 - 1) (v - 1) false false (λ z. ne (omega arith)) ∙ h ∙
+          ap (λ b. b || is_out os v) (ne_eqb (event_node o.1) v ne))
           (cases_eq (event_node o.1) v);
     }
 
 pub left_none : (busy : List Bool) (many last : ℕ) → AreLeft [] busy many → AreKept [] last busy 0
-left_none busy many last left = record { rise = omega arith; apart = tt; nodes = tt; marked = λ v low high. left.marked v low (let m = left.many_still in omega arith); counted = refl }
+left_none busy many last left = record {
+  rise = omega arith;
+  apart = tt;
+  nodes = tt;
+  marked = λ v low high. left.marked v low (let m = left.many_still in omega arith);
+  counted = refl;
+}
 
 module _ (p : Event → Bool) where
   pub all_more : (os : Outs) (o : ℕ × Event) → AllOut p os → p o.1 ≡ true → AllOut p (os ++ o ∷ [])
@@ -230,7 +275,11 @@ module _ (p : Event → Bool) where
   all_at n e (o ∷ os) a h = there n e o os h (λ z t. ap p (sym t) ∙ a.0) (λ ne t. all_at n e os a.1 t)
 
   -- what passes one test passes another, for events of other nodes than v
-  pub all_same : (q : Event → Bool) (v : ℕ) → ((f : Event) → event_node f ≢ v → p f ≡ true → q f ≡ true) → (os : Outs) → is_out os v ≡ false → AllOut p os → AllOut q os
+  pub all_same : (q : Event → Bool) (v : ℕ) →
+      ((f : Event) → event_node f ≢ v → p f ≡ true → q f ≡ true) →
+      (os : Outs) → is_out os v ≡ false →
+      AllOut p os →
+      AllOut q os
   all_same q v still [] none a = tt
   all_same q v still (o ∷ os) none a =
       let b = or_parts _ _ none in
@@ -244,7 +293,8 @@ length_without n e (o ∷ os) h = there n e o os h
 
 -- a number is passed over
 pub passed : (os : Outs) (last : ℕ) (busy : List Bool) (taken : ℕ) → AreKept os last busy taken → AreKept os (last + 1) busy taken
-passed os last busy taken kept = record { rise = rise_higher 0 os last kept.rise; apart = kept.apart; nodes = kept.nodes; marked = kept.marked; counted = kept.counted }
+passed os last busy taken kept =
+    record { rise = rise_higher 0 os last kept.rise; apart = kept.apart; nodes = kept.nodes; marked = kept.marked; counted = kept.counted }
   where
     rise_higher : (low : ℕ) (os : Outs) (high : ℕ) → RiseTo low os high → RiseTo low os (high + 1)
     rise_higher low [] high r = omega arith

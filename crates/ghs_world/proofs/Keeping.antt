@@ -21,7 +21,8 @@ pub record IsFree (s : WorldState) (e : Event) : Type 0 where
   pub happens : may_happen s e ≡ true
   pub turn : has_turn s ≡ true
 
-through : (a b m t : Bool) → cond (not a) (Some NoSuch) (cond b (Some Busy) (cond (not m) (Some Nothing) (cond (not t) (Some TurnLimit) None))) ≡ None →
+through : (a b m t : Bool) →
+    cond (not a) (Some NoSuch) (cond b (Some Busy) (cond (not m) (Some Nothing) (cond (not t) (Some TurnLimit) None))) ≡ None →
     (a ≡ true) × (b ≡ false) × (m ≡ true) × (t ≡ true)
 through true true m t h = cc
 through true false true true h = (refl, refl, refl, refl)

@@ -35,7 +35,10 @@ to_front g n (suc m) le = ⊎_elim
     (λ (ge : suc m ≤ n). (let e : n ≡ suc m = omega arith in rw e ([], sym (append-nil _))))
     (cases_lt n (suc m))
 
-all_front : (g : Network) (n d : ℕ) → n < g.count → d ≤ length (g.ports (suc n)) → (r : List Event) × (all_events g ≡ (events_to g n ++ events_at (suc n) d) ++ r)
+all_front : (g : Network) (n d : ℕ) →
+    n < g.count →
+    d ≤ length (g.ports (suc n)) →
+    (r : List Event) × (all_events g ≡ (events_to g n ++ events_at (suc n) d) ++ r)
 all_front g n d lt le =
     let nodes = to_front g (suc n) g.count (omega arith) in
     let ports = at_front (suc n) d (length (g.ports (suc n))) le in (
@@ -54,10 +57,17 @@ module _ (p : Event → Bool) where
   one_more pre e h = filter-append p pre (e ∷ []) ∙ rw h refl
 
   -- an event that passes has as many before it as pass before it
-  ranked : (all pre : List Event) (e : Event) (r : List Event) → all ≡ (pre ++ e ∷ []) ++ r → p e ≡ true → slice_get (filter p all) (length (filter p pre)) ≡ Some e
+  ranked : (all pre : List Event) (e : Event) (r : List Event) →
+      all ≡ (pre ++ e ∷ []) ++ r →
+      p e ≡ true →
+      slice_get (filter p all) (length (filter p pre)) ≡ Some e
   ranked all pre e r same h = rw (same, filter-append p (pre ++ e ∷ []) r, one_more pre e h) (get_at (filter p pre) e (filter p r))
 
-  pub wake_ranked : (g : Network) (v : ℕ) → 1 ≤ v → v ≤ g.count → p (Wake v) ≡ true → slice_get (filter p (all_events g)) (length (filter p (events_to g (v - 1)))) ≡ Some (Wake v)
+  pub wake_ranked : (g : Network) (v : ℕ) →
+      1 ≤ v →
+      v ≤ g.count →
+      p (Wake v) ≡ true →
+      slice_get (filter p (all_events g)) (length (filter p (events_to g (v - 1)))) ≡ Some (Wake v)
   wake_ranked g zero lo hi h = absurd (omega arith)
   wake_ranked g (suc n) lo hi h =
       let down : suc n - 1 ≡ n = omega arith in
@@ -100,16 +110,21 @@ module _ (s : WorldState) (from : ℕ) where
   unfolding next_node_of
   found_next v e = find-append (has_ready s) (range_with_len from (s.net.graph.nodes + 1 - from)) (range_with_len 1 s.net.graph.nodes) ∙ rw e refl
 
-  pub else_next : find (has_ready s) (range_with_len from (s.net.graph.nodes + 1 - from)) ≡ None → next_node_of s from ≡ find (has_ready s) (range_with_len 1 (s.net.graph.nodes + 1 - 1))
+  pub else_next :
+      find (has_ready s) (range_with_len from (s.net.graph.nodes + 1 - from)) ≡ None →
+      next_node_of s from ≡ find (has_ready s) (range_with_len 1 (s.net.graph.nodes + 1 - 1))
   unfolding next_node_of
-  else_next e = (let n : s.net.graph.nodes + 1 - 1 ≡ s.net.graph.nodes = omega arith in rw n (find-append (has_ready s) (range_with_len from (s.net.graph.nodes + 1 - from)) (range_with_len 1 s.net.graph.nodes) ∙ rw e refl))
+  else_next e =
+      (let n : s.net.graph.nodes + 1 - 1 ≡ s.net.graph.nodes = omega arith in
+      rw n (find-append (has_ready s) (range_with_len from (s.net.graph.nodes + 1 - from)) (range_with_len 1 s.net.graph.nodes) ∙ rw e refl))
 
 -- the first number that passes
 module _ (p : ℕ → Bool) where
   pub first_found : (a n v : ℕ) → a ≤ v → v < a + n → ((u : ℕ) → a ≤ u → u < v → p u ≡ false) → p v ≡ true → find p (range_with_len a n) ≡ Some v
   first_found a zero v le lt none here = absurd (omega arith)
   first_found a (suc n) v le lt none here = ⊎_elim
-      (λ (above : a < v). rw (none a (omega arith) above) (first_found (a + 1) n v (omega arith) (omega arith) (λ u lo hi. none u (omega arith) hi) here))
+      (λ (above : a < v).
+      rw (none a (omega arith) above) (first_found (a + 1) n v (omega arith) (omega arith) (λ u lo hi. none u (omega arith) hi) here))
       (λ (same : v ≤ a). let e : v ≡ a = omega arith in rw e (rw (rw e at here) refl))
       (cases_lt a v)
 

@@ -31,21 +31,39 @@ delivered : (n : NodeState) (p : ℕ) (q : List Message) → p < degree n → Ha
 delivered n p [] lt = tt
 delivered n p (m ∷ ms) lt = lt
 
-pub work_port : (s : NetState) (e : Event) → IsGraph s.graph → IsRun (network s) s.trace → IsLawful s e → HasPort ((net_of s).node (event_node e)) (work_at (net_of s) e)
+pub work_port : (s : NetState) (e : Event) →
+    IsGraph s.graph →
+    IsRun (network s) s.trace →
+    IsLawful s e →
+    HasPort ((net_of s).node (event_node e)) (work_at (net_of s) e)
 work_port s (Wake v) graph run h = tt
 work_port s (Take v p) graph run h =
     let at = at_of (network s) v p (and_parts _ _ h).0 in
-    let formed : IsWellFormed (network s) (net_of s) = after_formed (network s) (graph_wired s.graph graph) (graph_few s.graph graph) s.trace (net_of s) (after_is_net s.graph s.trace run) in
+    let formed : IsWellFormed (network s) (net_of s) =
+    after_formed (network s) (graph_wired s.graph graph) (graph_few s.graph graph) s.trace (net_of s) (after_is_net s.graph s.trace run) in
     let many = ports_many (formed.nodes v) in
     let lt = at.port in
     delivered ((net_of s).node v) p ((net_of s).queue v p) (omega arith)
 
 -- and with the reaction that the net tells of, its node has a rule for it
-pub has_rule : (s : NetState) (e : Event) (k : Work) → IsGraph s.graph → IsRun (network s) s.trace → IsLawful s e → k ≡ work_at (net_of s) e → IsSome (reaction ((net_of s).node (event_node e)) k) → HasRule ((net_of s).node (event_node e)) k
+pub has_rule : (s : NetState) (e : Event) (k : Work) →
+    IsGraph s.graph →
+    IsRun (network s) s.trace →
+    IsLawful s e →
+    k ≡ work_at (net_of s) e →
+    IsSome (reaction ((net_of s).node (event_node e)) k) →
+    HasRule ((net_of s).node (event_node e)) k
 has_rule s e k graph run lawful same rule = record { port = rw same (work_port s e graph run lawful); rule = rule }
 
 -- where there is a rule, want of memory is the one fault
-pub only_memory : ListHasNoRow → (n : NodeState) (k : Work) (r : Result Delta NodeFault) (f : NodeFault) → HasRule n k → r ≡ Err f → (IsErrOf r NoPort ↔ (HasPort n k → ⊥)) → (IsErrOf r Unforeseen ↔ (HasPort n k × NoRule n k)) → f ≡ Memory
+pub only_memory :
+    ListHasNoRow →
+    (n : NodeState) (k : Work) (r : Result Delta NodeFault) (f : NodeFault) →
+    HasRule n k →
+    r ≡ Err f →
+    (IsErrOf r NoPort ↔ (HasPort n k → ⊥)) →
+    (IsErrOf r Unforeseen ↔ (HasPort n k × NoRule n k)) →
+    f ≡ Memory
 only_memory apart n k r NoPort has e port rule = absurd (port.0 e has.port)
 only_memory apart n k r Unforeseen has e port rule = absurd (unlisted (reaction n k) refl has.rule (rule.0 e).1)
   where
@@ -55,12 +73,17 @@ only_memory apart n k r Unforeseen has e port rule = absurd (unlisted (reaction 
 only_memory apart n k r Memory has e port rule = refl
 
 -- what a reaction sends goes out on ports of its node
-pub sends_out : (s : NetState) (e : Event) (d : Delta) → IsGraph s.graph → IsRun (network s) s.trace → Row ((net_of s).node (event_node e)) (work_at (net_of s) e) d →
+pub sends_out : (s : NetState) (e : Event) (d : Delta) →
+    IsGraph s.graph →
+    IsRun (network s) s.trace →
+    Row ((net_of s).node (event_node e)) (work_at (net_of s) e) d →
     All (λ (m : ℕ × Message). m.0 < length (ports_of s.graph.keys (event_node e))) d.sends
 sends_out s e d graph run row =
-    let formed : IsWellFormed (network s) (net_of s) = after_formed (network s) (graph_wired s.graph graph) (graph_few s.graph graph) s.trace (net_of s) (after_is_net s.graph s.trace run) in
+    let formed : IsWellFormed (network s) (net_of s) =
+    after_formed (network s) (graph_wired s.graph graph) (graph_few s.graph graph) s.trace (net_of s) (after_is_net s.graph s.trace run) in
     let node = formed.nodes (event_node e) in
-    subst (λ k. All (λ (m : ℕ × Message). m.0 < k) d.sends) (ports_many node) (row_ported ((net_of s).node (event_node e)) (work_at (net_of s) e) d node.node row)
+    subst (λ k. All (λ (m : ℕ × Message). m.0 < k) d.sends) (ports_many node)
+    (row_ported ((net_of s).node (event_node e)) (work_at (net_of s) e) d node.node row)
 
 -- the row is the node's answer
 pub answers : (n : NodeState) (k : Work) (d : Delta) → HasRule n k → Row n k d → reaction n k ≡ Some d

@@ -44,7 +44,12 @@ module _ (g : Network) where
       let b = or_parts _ _ h in
       (waits_still f v p o.1 (λ z. both_ways _ b.0 (eq-eqb (event_node o.1) v z)) w.0, all_still f v p os b.1 w.1)
 
-  one_more : (f : ℕ → ℕ → ℕ) (e : Event) (os : Outs) → ((h : ℕ → ℕ → ℕ) → AllWait g h os → messages_out os ≤ sum_over_ports g h) → is_out os (event_node e) ≡ false → Waits g f e → AllWait g f os → message_of e + messages_out os ≤ sum_over_ports g f
+  one_more : (f : ℕ → ℕ → ℕ) (e : Event) (os : Outs) →
+      ((h : ℕ → ℕ → ℕ) → AllWait g h os → messages_out os ≤ sum_over_ports g h) →
+      is_out os (event_node e) ≡ false →
+      Waits g f e →
+      AllWait g f os →
+      message_of e + messages_out os ≤ sum_over_ports g f
   one_more f (Wake v) os rest none w all = let r = rest f all in omega arith
   one_more f (Take v p) os rest none w all =
       let fewer = rest (none_at v p f) (all_still f v p os none all) in

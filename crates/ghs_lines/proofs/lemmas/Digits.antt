@@ -18,7 +18,11 @@ all_ascii_digits-other (x ∷ f) zero l other = and_left _ _ other
 all_ascii_digits-other (x ∷ f) (suc i) l other = and_right _ _ (all_ascii_digits-other f i (omega arith) other)
 
 -- one more digit
-pub all_ascii_digits-take : (f : List ℕ) (i : ℕ) → i < length f → all_ascii_digits (take i f) ≡ true → is_ascii_digit (slice_index f i) ≡ true → all_ascii_digits (take (suc i) f) ≡ true
+pub all_ascii_digits-take : (f : List ℕ) (i : ℕ) →
+    i < length f →
+    all_ascii_digits (take i f) ≡ true →
+    is_ascii_digit (slice_index f i) ≡ true →
+    all_ascii_digits (take (suc i) f) ≡ true
 all_ascii_digits-take [] i l so digit = absurd (omega arith)
 all_ascii_digits-take (x ∷ f) zero l so digit = and_from _ _ digit refl
 all_ascii_digits-take (x ∷ f) (suc i) l so digit =
@@ -39,7 +43,11 @@ number_of-large most v f i e l =
     sym (cond-false (is_nonempty f && all_ascii_digits f && nat_le (digits_value 10 f) most) (Some (digits_value 10 f)) None
     (and_right _ _ (lt-leb (digits_value 10 f) most above)))
 
-pub number_of-digits : (most : ℕ) (f : List ℕ) → 0 < length f → all_ascii_digits f ≡ true → digits_value 10 f ≤ most → Some (digits_value 10 f) ≡ number_of most f
+pub number_of-digits : (most : ℕ) (f : List ℕ) →
+    0 < length f →
+    all_ascii_digits f ≡ true →
+    digits_value 10 f ≤ most →
+    Some (digits_value 10 f) ≡ number_of most f
 number_of-digits most [] pos digits l = absurd (omega arith)
 number_of-digits most (x ∷ f) pos digits l =
     sym (cond-true (all_ascii_digits (x ∷ f) && nat_le (digits_value 10 (x ∷ f)) most) _ _ (and_from _ _ digits (le-leb _ _ l)))
@@ -48,7 +56,11 @@ in_range : (c : ℕ) → is_ascii_digit c ≡ true → IsInRange 48 57 c
 in_range c digit = let parts = and_parts (nat_le 48 c) (nat_le c 57) digit in (leb-true 48 c parts.0, leb-true c 57 parts.1)
 
 -- what one more digit makes of the value
-pub digits_value-more : (f : List ℕ) (i v : ℕ) → i < length f → v ≡ digits_value 10 (take i f) → is_ascii_digit (slice_index f i) ≡ true → v * 10 + (slice_index f i - 48) ≡ digits_value 10 (take (i + 1) f)
+pub digits_value-more : (f : List ℕ) (i v : ℕ) →
+    i < length f →
+    v ≡ digits_value 10 (take i f) →
+    is_ascii_digit (slice_index f i) ≡ true →
+    v * 10 + (slice_index f i - 48) ≡ digits_value 10 (take (i + 1) f)
 digits_value-more f i v l e digit =
     let d : digit_value (slice_index f i) + 48 ≡ slice_index f i = digit_value_digit (slice_index f i) (in_range _ digit) in
     let more : digits_value 10 (take (i + 1) f) ≡ digits_value 10 (take i f) * 10 + digit_value (slice_index f i) = digits_value_more 10 f i l in

@@ -72,11 +72,17 @@ digit_plain : (b : ℕ) → is_ascii_digit b ≡ true → is_plain b ≡ true
 digit_plain b h =
     let parts = and_parts (nat_le 48 b) (nat_le b 57) h in
     let low : 48 ≤ b = leb-true 48 b parts.0 in
-    rw (ne_eqb b 32 (λ z. absurd (omega arith)), ne_eqb b 9 (λ z. absurd (omega arith)), ne_eqb b 13 (λ z. absurd (omega arith)), ne_eqb b 10 (λ z. absurd (omega arith)))
+    rw (
+      ne_eqb b 32 (λ z. absurd (omega arith)),
+      ne_eqb b 9 (λ z. absurd (omega arith)),
+      ne_eqb b 13 (λ z. absurd (omega arith)),
+      ne_eqb b 10 (λ z. absurd (omega arith)),
+    )
 
 pub digits_plain : (bs : List ℕ) → all_ascii_digits bs ≡ true → all_plain bs ≡ true
 digits_plain [] h = refl
-digits_plain (b ∷ bs) h = let parts = and_parts (is_ascii_digit b) (all_ascii_digits bs) h in and_from _ _ (digit_plain b parts.0) (digits_plain bs parts.1)
+digits_plain (b ∷ bs) h =
+    let parts = and_parts (is_ascii_digit b) (all_ascii_digits bs) h in and_from _ _ (digit_plain b parts.0) (digits_plain bs parts.1)
 
 numerals : IsNumeralModel (λ ds. all_ascii_digits ds ≡ true) (digits_value 10)
 numerals = numerals_by_value _ tells_all_ascii_digits

@@ -44,5 +44,8 @@ far_port_is g graph v i lt =
     record { some = ends.0; node = ends.1; port = slice_get_within _ _ _ back }
 
 -- and has a queue for what goes out on it
-pub far_queue : (g : Shape) (l : LinksState) → IsFor g l → (v i : ℕ) → i < length (ports_of g.keys v) → HasQueue l (port_of g v i).far (port_of g v i).far_port
+pub far_queue : (g : Shape) (l : LinksState) →
+    IsFor g l →
+    (v i : ℕ) → i < length (ports_of g.keys v) →
+    HasQueue l (port_of g v i).far (port_of g v i).far_port
 far_queue g l for v i lt = (for.queues (port_of g v i).far (port_of g v i).far_port).1 (far_port_is g for.graph v i lt)

@@ -10,13 +10,16 @@ loop-port-init c = λ g for. none_sent g c.args.v c.args.sends.now c.args.links.
 pub send-requires-clause-port : goal.send-requires-clause-port
 send-requires-clause-port c =
     let so_far = c.loop-port.invariant c.requires.queues.0 c.requires.queues.1 in
-    port_out c.args.links.now c.loop-port.links c.args.v c.args.sends.now c.loop-port.port-index c.loop-port-item.result c.requires.ports so_far.arrives.ports c.loop-port-test.true c.loop-port-item.is
+    port_out c.args.links.now c.loop-port.links c.args.v c.args.sends.now c.loop-port.port-index c.loop-port-item.result c.requires.ports
+    so_far.arrives.ports c.loop-port-test.true c.loop-port-item.is
 
 pub send-requires-clause-room : goal.send-requires-clause-room
 send-requires-clause-room c =
     let x = c.loop-port-item.result in
     let so_far = c.loop-port.invariant c.requires.queues.0 c.requires.queues.1 in
-    let port = port_out c.args.links.now c.loop-port.links c.args.v c.args.sends.now c.loop-port.port-index x c.requires.ports so_far.arrives.ports c.loop-port-test.true c.loop-port-item.is in
+    let port =
+    port_out c.args.links.now c.loop-port.links c.args.v c.args.sends.now c.loop-port.port-index x c.requires.ports so_far.arrives.ports
+    c.loop-port-test.true c.loop-port-item.is in
     room_for_next c.args.v c.loop-port.links c.args.sends.now c.loop-port.port-index x x c.loop-port-test.true c.loop-port-item.is port so_far.room
 
 pub send-requires-clause-total : goal.send-requires-clause-total
@@ -37,4 +40,6 @@ overflow_add-sent c =
 pub loop-port-preserved : goal.loop-port-preserved
 loop-port-preserved c = λ g for.
     let x = c.loop-port-item.result in
-    one_sent g c.args.v c.args.sends.now c.loop-port.port-index x x c.args.links.now c.loop-port.links _ c.args.sent.now c.loop-port.sent c.place.result for c.requires.ports (omega arith) c.loop-port-test.true c.loop-port-item.is (c.place.ensures.place ∙ ap place_of c.kind.ensures) c.place.ensures.bound (c.loop-port.invariant g for) c.send.ensures
+    one_sent g c.args.v c.args.sends.now c.loop-port.port-index x x c.args.links.now c.loop-port.links _ c.args.sent.now c.loop-port.sent
+    c.place.result for c.requires.ports (omega arith) c.loop-port-test.true c.loop-port-item.is
+    (c.place.ensures.place ∙ ap place_of c.kind.ensures) c.place.ensures.bound (c.loop-port.invariant g for) c.send.ensures

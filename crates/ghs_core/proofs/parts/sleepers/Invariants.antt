@@ -5,4 +5,6 @@ use Rattle.ghs_core.specs.Kept.{no_node}
 use Rattle.ghs_core.proofs.parts.sleepers.Given as goal
 
 abbrev pub invariant-loop-i : goal.invariant-loop-i
-invariant-loop-i l = (length l.nodes.items ≡ l.i) × ((k : ℕ) → k < l.i → slice_index_or l.nodes.items k no_node ≡ sleeper (k + 1) (ports_of l.graph.keys (k + 1)))
+invariant-loop-i l =
+    (length l.nodes.items ≡ l.i) ×
+    ((k : ℕ) → k < l.i → slice_index_or l.nodes.items k no_node ≡ sleeper (k + 1) (ports_of l.graph.keys (k + 1)))

@@ -16,14 +16,24 @@ returns-then-is_empty-clause-none c =
     ∙ ap fields_of (sym c.split_at.ensures.back) ∙ empty c.split_at.result.1.now (eqb-true _ 0 (sym c.is_empty.ensures ∙ c.if-is_empty.true))
 
 -- what begins with no blank has its first blank further on
-positive : (n : ℕ) (xs : List ℕ) → (length xs == 0) ≡ false → (n < length xs → is_blank (slice_index xs n) ≡ true) → ((n ≡ 0) → 0 < length xs → is_blank (slice_index xs 0) ≡ false) → 0 < n
+positive : (n : ℕ) (xs : List ℕ) →
+    (length xs == 0) ≡ false →
+    (n < length xs → is_blank (slice_index xs n) ≡ true) →
+    ((n ≡ 0) → 0 < length xs → is_blank (slice_index xs 0) ≡ false) →
+    0 < n
 positive zero [] none found first = absurd (false≢true (sym none))
 positive zero (x ∷ xs) none found first = absurd (false≢true (sym (first refl (omega arith)) ∙ found (omega arith)))
 positive (suc n) xs none found first = omega arith
 
 -- what is left behind the blanks begins with none
-start_of : (i : ℕ) (line xs : List ℕ) → xs ≡ drop i line → length xs + i ≡ length line → (i < length line → is_blank (slice_index line i) ≡ false) → 0 < length xs → is_blank (slice_index xs 0) ≡ false
-start_of i line xs e len found pos = ap is_blank (ap (λ ys. slice_index ys 0) e ∙ get_or-drop i line 0 0 ∙ ap (slice_index line) (add-zero i)) ∙ found (omega arith)
+start_of : (i : ℕ) (line xs : List ℕ) →
+    xs ≡ drop i line →
+    length xs + i ≡ length line →
+    (i < length line → is_blank (slice_index line i) ≡ false) →
+    0 < length xs →
+    is_blank (slice_index xs 0) ≡ false
+start_of i line xs e len found pos =
+    ap is_blank (ap (λ ys. slice_index ys 0) e ∙ get_or-drop i line 0 0 ∙ ap (slice_index line) (add-zero i)) ∙ found (omega arith)
 
 pub returns-clause-some : goal.returns-clause-some
 returns-clause-some c =
@@ -31,6 +41,8 @@ returns-clause-some c =
     ∙ ap fields_of (sym c.split_at.ensures.back)
     ∙ fields_of-run c.field_end.result c.split_at.result.1.now
     (positive c.field_end.result c.split_at.result.1.now (sym c.is_empty.ensures ∙ c.if-is_empty.false) c.field_end.ensures.found
-    (λ z p. start_of c.field_start.result c.args.line.now c.split_at.result.1.now c.split_at.ensures.back c.split_at.ensures.back_len c.field_start.ensures.found p))
+    (λ z p.
+    start_of c.field_start.result c.args.line.now c.split_at.result.1.now c.split_at.ensures.back c.split_at.ensures.back_len
+    c.field_start.ensures.found p))
     c.field_end.ensures.within c.field_end.ensures.before c.field_end.ensures.found
     ∙ cc (c.split_at-2.ensures.front, c.split_at-2.ensures.back)

@@ -19,7 +19,11 @@ positive [] none = absurd (false≢true (sym none))
 positive (x ∷ xs) none = omega arith
 
 -- a text cut at its end
-last : (text line rest : List ℕ) → lines_of text ≡ text ∷ [] → line ≡ take (length text) text → rest ≡ drop (length text) text → lines_of text ≡ line ∷ lines_of rest
+last : (text line rest : List ℕ) →
+    lines_of text ≡ text ∷ [] →
+    line ≡ take (length text) text →
+    rest ≡ drop (length text) text →
+    lines_of text ≡ line ∷ lines_of rest
 last text line rest e f b =
     let all : line ≡ text = f ∙ take_all (length text) text (omega arith) in
     let none : rest ≡ [] = b ∙ drop_all (length text) text (omega arith) in
@@ -29,5 +33,6 @@ pub returns-in-None-clause-some : goal.returns-in-None-clause-some
 returns-in-None-clause-some c =
     let h = c.in-None.ensures in
     last c.args.text.now _ _
-    (lines_of-last c.args.text.now (positive c.args.text.now (sym c.is_empty.ensures ∙ c.if-is_empty.false)) (λ k l e. h k (omega arith) l (eq-eqb _ _ e)))
+    (lines_of-last c.args.text.now
+    (positive c.args.text.now (sym c.is_empty.ensures ∙ c.if-is_empty.false)) (λ k l e. h k (omega arith) l (eq-eqb _ _ e)))
     c.split_at-in-None.ensures.front c.split_at-in-None.ensures.back

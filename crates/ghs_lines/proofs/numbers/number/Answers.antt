@@ -4,12 +4,14 @@ use Rattle.ghs_lines.proofs.numbers.number.Goals as goal
 
 pub returns-then-not-is_ascii_digit : goal.returns-then-not-is_ascii_digit
 returns-then-not-is_ascii_digit c =
-    number_of-other c.args.most c.args.field.now c.loop-byte.byte-index c.loop-byte-test.true (sym c.is_ascii_digit.ensures.value ∙ c.if-not-is_ascii_digit.true)
+    number_of-other c.args.most c.args.field.now c.loop-byte.byte-index c.loop-byte-test.true
+    (sym c.is_ascii_digit.ensures.value ∙ c.if-not-is_ascii_digit.true)
 
 pub returns-then-value-most : goal.returns-then-value-most
 returns-then-value-most c =
     number_of-large c.args.most _ c.args.field.now (c.loop-byte.byte-index + 1)
-    (digits_value-more c.args.field.now c.loop-byte.byte-index c.loop-byte.value c.loop-byte-test.true c.loop-byte.invariant.value (sym c.is_ascii_digit.ensures.value ∙ c.if-not-is_ascii_digit.false))
+    (digits_value-more c.args.field.now c.loop-byte.byte-index c.loop-byte.value c.loop-byte-test.true c.loop-byte.invariant.value
+    (sym c.is_ascii_digit.ensures.value ∙ c.if-not-is_ascii_digit.false))
     (omega arith)
 
 pub loop-byte-preserved : goal.loop-byte-preserved

@@ -12,4 +12,5 @@ returns c =
     let all : take c.loop-key.key-index c.args.tree.now ≡ c.args.tree.now = take_all _ _ (omega arith) in
     let lines = c.loop-key.invariant.lines ∙ ap (flat_map link_line) all in
     let total = c.loop-key.invariant.total ∙ ap total_weight all in
-    c.in_ok-put_total.ensures ∙ (ap (λ t. t ++ total_line c.loop-key.total) lines ∙ ap (λ n. flat_map link_line c.args.tree.now ++ total_line n) total)
+    c.in_ok-put_total.ensures ∙
+    (ap (λ t. t ++ total_line c.loop-key.total) lines ∙ ap (λ n. flat_map link_line c.args.tree.now ++ total_line n) total)

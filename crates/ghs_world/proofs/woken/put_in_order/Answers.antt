@@ -16,7 +16,9 @@ returns c =
     record {
       rising = subst IsStrictlyIncreasing (sym e) (IsStrictlyIncreasing-dedup sorted c.sort_unstable.ensures.sorted);
       all = λ u. (
-        λ h. Contains-permutation sorted given u (IsPermutation-sym given sorted p) (Contains-from_dedup nat_eq sorted u (subst (λ (xs : List ℕ). Contains xs u) e h)),
+        λ h.
+            Contains-permutation sorted given u (IsPermutation-sym given sorted p)
+            (Contains-from_dedup nat_eq sorted u (subst (λ (xs : List ℕ). Contains xs u) e h)),
         λ h. subst (λ (xs : List ℕ). Contains xs u) (sym e) (Contains-dedup_nat sorted u (Contains-permutation given sorted u p h)),
       );
     }

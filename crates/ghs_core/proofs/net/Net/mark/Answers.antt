@@ -12,18 +12,24 @@ returns-clause-inside c =
     let k = c.self.invariant in
     let at = rw (← c.self.view_is) at c.requires in
     let node = node_found k c.args.v c.index.result.now at.some at.node c.index.ensures in
-    λ rejected. rw (← c.self.view_is) (inside_fragment _ _ k.graph k.run c.args.v c.args.port at (sym (c.mark.ensures ∙ ap (λ n. mark_at n c.args.port) node) ∙ rejected))
+    λ rejected.
+    rw (← c.self.view_is)
+    (inside_fragment _ _ k.graph k.run c.args.v c.args.port at (sym (c.mark.ensures ∙ ap (λ n. mark_at n c.args.port) node) ∙ rejected))
 
 pub returns-clause-tree : goal.returns-clause-tree
 returns-clause-tree c =
     let k = c.self.invariant in
     let at = rw (← c.self.view_is) at c.requires in
     let node = node_found k c.args.v c.index.result.now at.some at.node c.index.ensures in
-    λ marked. rw (← c.self.view_is) (branch_tree _ _ k.graph k.run c.args.v c.args.port at (sym (c.mark.ensures ∙ ap (λ n. mark_at n c.args.port) node) ∙ marked))
+    λ marked.
+    rw (← c.self.view_is)
+    (branch_tree _ _ k.graph k.run c.args.v c.args.port at (sym (c.mark.ensures ∙ ap (λ n. mark_at n c.args.port) node) ∙ marked))
 
 pub returns-clause-aside : goal.returns-clause-aside
 returns-clause-aside c =
     let k = c.self.invariant in
     let at = rw (← c.self.view_is) at c.requires in
     let node = node_found k c.args.v c.index.result.now at.some at.node c.index.ensures in
-    λ rejected. rw (← c.self.view_is) (rejected_tree _ _ k.graph k.run c.args.v c.args.port at (sym (c.mark.ensures ∙ ap (λ n. mark_at n c.args.port) node) ∙ rejected))
+    λ rejected.
+    rw (← c.self.view_is)
+    (rejected_tree _ _ k.graph k.run c.args.v c.args.port at (sym (c.mark.ensures ∙ ap (λ n. mark_at n c.args.port) node) ∙ rejected))

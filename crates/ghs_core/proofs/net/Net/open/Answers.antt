@@ -6,7 +6,10 @@ use Rattle.ghs_core.proofs.Reading.{opened}
 use Rattle.ghs_core.proofs.net.Net.open.Goals as goal
 
 pub invariant_of-result : goal.invariant_of-result
-invariant_of-result c = rw c.new.ensures.items (opened _ _ _ _ _ c.in-Ok.ensures.nodes c.in-Ok.ensures.queues c.in-Ok.ensures.empty c.in-Ok.ensures.total c.none.ensures.sent c.none.ensures.consumed c.none.ensures.requeued c.in-Ok.ensures.halts)
+invariant_of-result c =
+    rw c.new.ensures.items
+    (opened _ _ _ _ _ c.in-Ok.ensures.nodes c.in-Ok.ensures.queues c.in-Ok.ensures.empty c.in-Ok.ensures.total c.none.ensures.sent
+    c.none.ensures.consumed c.none.ensures.requeued c.in-Ok.ensures.halts)
 
 pub returns-in-Ok-clause-net : goal.returns-in-Ok-clause-net
 returns-in-Ok-clause-net c = rw c.new.ensures.items (net_after_is c.args.graph [] (opening (network_of c.args.graph)) refl)

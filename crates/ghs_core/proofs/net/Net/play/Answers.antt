@@ -25,7 +25,8 @@ send_all-requires-clause-ports c =
 pub send_all-requires-clause-room : goal.send_all-requires-clause-room
 send_all-requires-clause-room c =
     let plays = plays_of c.self.invariant c.self.view_is c.requires.lawful c.requires.answer in
-    rw (c.as_slice.ensures, c.node_of-v.ensures) (room_still plays c.dispose.new.links c.dispose.new.counts c.dispose.ensures (rw (← c.self.view_is) at c.requires.room.sends))
+    rw (c.as_slice.ensures, c.node_of-v.ensures)
+    (room_still plays c.dispose.new.links c.dispose.new.counts c.dispose.ensures (rw (← c.self.view_is) at c.requires.room.sends))
 
 pub send_all-requires-clause-total : goal.send_all-requires-clause-total
 send_all-requires-clause-total c =
@@ -40,10 +41,14 @@ send_all-requires-clause-fits c =
 pub invariant_of-self : goal.invariant_of-self
 invariant_of-self c =
     let plays = plays_of c.self.invariant c.self.view_is c.requires.lawful c.requires.answer in
-    let arrives = rw (c.node_of-v.ensures, c.as_slice.ensures) at (c.send_all.ensures.arrives c.self.inside.graph (disposed_for plays c.dispose.new.links c.dispose.new.counts c.dispose.ensures)) in
+    let arrives = rw (c.node_of-v.ensures, c.as_slice.ensures) at
+    (c.send_all.ensures.arrives c.self.inside.graph (disposed_for plays c.dispose.new.links c.dispose.new.counts c.dispose.ensures)) in
     let noted = rw c.node_of-v.ensures at c.note.ensures in
     let told = rw c.as_slice.ensures at c.send_all.ensures.counts in
-    rw (c.push_reserved.ensures.items, c.node_of-v.ensures) (played plays c.dispose.new.links c.dispose.new.counts c.dispose.ensures c.send_all.new.links c.send_all.new.sent arrives told c.note.new.self noted c.index_mut-node.result.now c.apply.new.self (rw c.node_of-v.ensures at c.index_mut-node.ensures.value) c.apply.ensures)
+    rw (c.push_reserved.ensures.items, c.node_of-v.ensures)
+    (played plays c.dispose.new.links c.dispose.new.counts c.dispose.ensures c.send_all.new.links c.send_all.new.sent arrives told
+    c.note.new.self noted c.index_mut-node.result.now c.apply.new.self (rw c.node_of-v.ensures at c.index_mut-node.ensures.value)
+    c.apply.ensures)
 
 pub returns-clause-event : goal.returns-clause-event
 returns-clause-event c =
@@ -56,6 +61,11 @@ note-requires-clause-halts c = (_, c.self.invariant.halted)
 pub returns-clause-room : goal.returns-clause-room
 returns-clause-room c =
     let plays = plays_of c.self.invariant c.self.view_is c.requires.lawful c.requires.answer in
-    let arrives = rw (c.node_of-v.ensures, c.as_slice.ensures) at (c.send_all.ensures.arrives c.self.inside.graph (disposed_for plays c.dispose.new.links c.dispose.new.counts c.dispose.ensures)) in
+    let arrives = rw (c.node_of-v.ensures, c.as_slice.ensures) at
+    (c.send_all.ensures.arrives c.self.inside.graph (disposed_for plays c.dispose.new.links c.dispose.new.counts c.dispose.ensures)) in
     let told = rw c.as_slice.ensures at c.send_all.ensures.counts in
-    rw (← c.self.view_is) (record { trace = omega (arith, c.push_reserved.ensures.capacity); queues = played_rooms plays c.dispose.new.links c.dispose.new.counts c.dispose.ensures c.send_all.new.links c.send_all.new.sent arrives told })
+    rw (← c.self.view_is) (record {
+      trace = omega (arith, c.push_reserved.ensures.capacity);
+      queues =
+          played_rooms plays c.dispose.new.links c.dispose.new.counts c.dispose.ensures c.send_all.new.links c.send_all.new.sent arrives told;
+    })

@@ -21,5 +21,6 @@ index-requires-2 c =
 
 pub returns : goal.returns
 returns c =
-    let state = state_found _ c.self.invariant.order c.args.v c.args.port _ _ (rw (← c.self.view_is) at c.requires) c.index.ensures c.index-2.ensures in
+    let state =
+    state_found _ c.self.invariant.order c.args.v c.args.port _ _ (rw (← c.self.view_is) at c.requires) c.index.ensures c.index-2.ensures in
     c.front.ensures ∙ ap (λ (q : QueueState). slice_get q.list 0) state ∙ rw c.self.view_is refl

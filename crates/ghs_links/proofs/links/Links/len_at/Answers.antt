@@ -20,5 +20,6 @@ index-requires-2 c =
 
 pub returns : goal.returns
 returns c =
-    let state = state_found _ c.self.invariant.order c.args.v c.args.port _ _ (rw (← c.self.view_is) at c.requires) c.index.ensures c.index-2.ensures in
+    let state =
+    state_found _ c.self.invariant.order c.args.v c.args.port _ _ (rw (← c.self.view_is) at c.requires) c.index.ensures c.index-2.ensures in
     c.len.ensures ∙ ap (λ (q : QueueState). length q.list) state ∙ rw c.self.view_is refl

@@ -20,7 +20,9 @@ index_mut-requires c =
 
 pub push-requires : goal.push-requires
 push-requires c =
-    rw (state_found _ c.self.invariant.order c.args.v c.args.port _ _ (rw (← c.self.view_is) at c.requires.port) c.index.ensures c.index_mut.ensures.value) (rw (← c.self.view_is) at c.requires.room)
+    rw (state_found _ c.self.invariant.order c.args.v c.args.port _ _ (rw (← c.self.view_is) at c.requires.port) c.index.ensures
+    c.index_mut.ensures.value)
+    (rw (← c.self.view_is) at c.requires.room)
 
 pub overflow_add-self : goal.overflow_add-self
 overflow_add-self c =
@@ -35,4 +37,7 @@ invariant_of-self c =
     kept_with _ _ _ _ _ _ _ c.self.invariant s c.index_mut.ensures.value (omega (arith, more))
 
 pub returns : goal.returns
-returns c = rw (← c.self.view_is) (changed_by _ c.self.invariant.order c.args.v c.args.port _ (λ q. pushed q c.args.message) _ _ (rw (← c.self.view_is) at c.requires.port) c.index.ensures c.index_mut.ensures.value c.push.ensures)
+returns c =
+    rw (← c.self.view_is)
+    (changed_by _ c.self.invariant.order c.args.v c.args.port _ (λ q. pushed q c.args.message) _ _ (rw (← c.self.view_is) at c.requires.port)
+    c.index.ensures c.index_mut.ensures.value c.push.ensures)

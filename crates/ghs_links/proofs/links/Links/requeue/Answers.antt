@@ -19,4 +19,7 @@ index_mut-requires c =
     omega (arith, s)
 
 pub returns : goal.returns
-returns c = rw (← c.self.view_is) (changed_by _ c.self.invariant.order c.args.v c.args.port _ requeued _ _ (rw (← c.self.view_is) at c.requires.port) c.index.ensures c.index_mut.ensures.value c.requeue.ensures)
+returns c =
+    rw (← c.self.view_is)
+    (changed_by _ c.self.invariant.order c.args.v c.args.port _ requeued _ _ (rw (← c.self.view_is) at c.requires.port) c.index.ensures
+    c.index_mut.ensures.value c.requeue.ensures)

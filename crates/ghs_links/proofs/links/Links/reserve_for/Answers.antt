@@ -21,15 +21,21 @@ part-far-requires-clause-within c =
 
 pub make_room-requires-clause-ports : goal.make_room-requires-clause-ports
 make_room-requires-clause-ports c =
-    rw (c.part-far.ensures, c.deref.ensures.value, c.deref-2.ensures.value) (ports_in_part _ c.self.invariant.order c.args.v (rw (← c.self.view_is) at c.requires.node) c.args.sends.now (rw (← c.self.view_is) at c.requires.ports))
+    rw (c.part-far.ensures, c.deref.ensures.value, c.deref-2.ensures.value)
+    (ports_in_part _ c.self.invariant.order c.args.v (rw (← c.self.view_is) at c.requires.node) c.args.sends.now
+    (rw (← c.self.view_is) at c.requires.ports))
 
 pub make_room-requires-clause-wide : goal.make_room-requires-clause-wide
 make_room-requires-clause-wide c =
-    rw (c.part-far.ensures, c.deref.ensures.value, c.deref-2.ensures.value, c.deref_mut-2.ensures.value) (part_few _ c.self.invariant.order c.args.v (rw (← c.self.view_is) at c.requires.node) _ _ c.self.invariant)
+    rw
+    (c.part-far.ensures, c.deref.ensures.value, c.deref-2.ensures.value, c.deref_mut-2.ensures.value)
+    (part_few _ c.self.invariant.order c.args.v (rw (← c.self.view_is) at c.requires.node) _ _ c.self.invariant)
 
 pub make_room-requires-clause-among : goal.make_room-requires-clause-among
 make_room-requires-clause-among c =
-    rw (c.part-far.ensures, c.deref.ensures.value, c.deref-2.ensures.value, c.deref_mut.ensures.value) (part_among _ c.self.invariant.order c.args.v (rw (← c.self.view_is) at c.requires.node))
+    rw
+    (c.part-far.ensures, c.deref.ensures.value, c.deref-2.ensures.value, c.deref_mut.ensures.value)
+    (part_among _ c.self.invariant.order c.args.v (rw (← c.self.view_is) at c.requires.node))
 
 pub invariant_of-self : goal.invariant_of-self
 invariant_of-self c =
@@ -57,10 +63,13 @@ returns-clause-room c =
     let q : length c.make_room.new.queues ≡ length queues.items = c.make_room.auto.queues ∙ ap length c.deref_mut.ensures.value in
     let room = rw (c.part-far.ensures, c.deref.ensures.value, c.deref-2.ensures.value) at c.make_room.ensures.room in
     rw (written_over queues.len c.make_room.new.queues queues.items (omega arith) q)
-    (on_ok_weaker c.make_room.result (room_there _ c.self.invariant.order c.args.v (rw (← c.self.view_is) at c.requires.node) c.args.sends.now _ q) room)
+    (on_ok_weaker c.make_room.result
+    (room_there _ c.self.invariant.order c.args.v (rw (← c.self.view_is) at c.requires.node) c.args.sends.now _ q) room)
 
 pub returns-clause-full : goal.returns-clause-full
 returns-clause-full c =
     let full = rw (c.part-far.ensures, c.deref.ensures.value, c.deref-2.ensures.value, c.deref_mut.ensures.value) at c.make_room.ensures.full in
     rw (← c.self.view_is)
-    (on_err_weaker c.make_room.result (λ none room. none (room_here _ c.self.invariant.order c.args.v (rw (← c.self.view_is) at c.requires.node) c.args.sends.now room)) full)
+    (on_err_weaker c.make_room.result
+    (λ none room. none (room_here _ c.self.invariant.order c.args.v (rw (← c.self.view_is) at c.requires.node) c.args.sends.now room))
+    full)

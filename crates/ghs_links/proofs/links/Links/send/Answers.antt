@@ -21,12 +21,15 @@ index-to-requires c =
 
 pub index_mut-requires : goal.index_mut-requires
 index_mut-requires c =
-    let s = far_found _ c.self.invariant.order c.args.v c.args.port _ _ (rw (← c.self.view_is) at c.requires.port) c.index.ensures c.index-to.ensures in
+    let s = far_found _ c.self.invariant.order c.args.v c.args.port _ _ (rw (← c.self.view_is) at c.requires.port) c.index.ensures
+    c.index-to.ensures in
     omega (arith, s)
 
 pub push-requires : goal.push-requires
 push-requires c =
-    rw (far_state _ c.self.invariant.order c.args.v c.args.port _ _ (rw (← c.self.view_is) at c.requires.port) c.index.ensures c.index-to.ensures _ c.index_mut.ensures.value) (rw (← c.self.view_is) at c.requires.room)
+    rw (far_state _ c.self.invariant.order c.args.v c.args.port _ _ (rw (← c.self.view_is) at c.requires.port) c.index.ensures
+    c.index-to.ensures _ c.index_mut.ensures.value)
+    (rw (← c.self.view_is) at c.requires.room)
 
 pub overflow_add-self : goal.overflow_add-self
 overflow_add-self c =
@@ -36,10 +39,13 @@ overflow_add-self c =
 
 pub invariant_of-self : goal.invariant_of-self
 invariant_of-self c =
-    let s = far_found _ c.self.invariant.order c.args.v c.args.port _ _ (rw (← c.self.view_is) at c.requires.port) c.index.ensures c.index-to.ensures in
+    let s = far_found _ c.self.invariant.order c.args.v c.args.port _ _ (rw (← c.self.view_is) at c.requires.port) c.index.ensures
+    c.index-to.ensures in
     let more = pushed_length _ _ _ c.push.ensures in
     kept_with _ _ _ _ _ _ _ c.self.invariant s c.index_mut.ensures.value (omega (arith, more))
 
 pub returns : goal.returns
 returns c =
-    rw (← c.self.view_is) (far_changed _ c.self.invariant.order c.args.v c.args.port _ _ (rw (← c.self.view_is) at c.requires.port) c.index.ensures c.index-to.ensures (λ q. pushed q c.args.message) _ _ c.index_mut.ensures.value c.push.ensures)
+    rw (← c.self.view_is)
+    (far_changed _ c.self.invariant.order c.args.v c.args.port _ _ (rw (← c.self.view_is) at c.requires.port) c.index.ensures
+    c.index-to.ensures (λ q. pushed q c.args.message) _ _ c.index_mut.ensures.value c.push.ensures)

@@ -35,8 +35,12 @@ invariant_of-self c =
 
 pub returns-clause-first : goal.returns-clause-first
 returns-clause-first c =
-    let state = state_found _ c.self.invariant.order c.args.v c.args.port _ _ (rw (← c.self.view_is) at c.requires.port) c.index.ensures c.index_mut.ensures.value in
+    let state = state_found _ c.self.invariant.order c.args.v c.args.port _ _ (rw (← c.self.view_is) at c.requires.port) c.index.ensures
+    c.index_mut.ensures.value in
     c.take_front-first.ensures.first ∙ ap (λ (q : QueueState). slice_get q.list 0) state ∙ rw c.self.view_is refl
 
 pub returns-clause-left : goal.returns-clause-left
-returns-clause-left c = rw (← c.self.view_is) (changed_by _ c.self.invariant.order c.args.v c.args.port _ taken _ _ (rw (← c.self.view_is) at c.requires.port) c.index.ensures c.index_mut.ensures.value c.take_front-first.ensures.left)
+returns-clause-left c =
+    rw (← c.self.view_is)
+    (changed_by _ c.self.invariant.order c.args.v c.args.port _ taken _ _ (rw (← c.self.view_is) at c.requires.port) c.index.ensures
+    c.index_mut.ensures.value c.take_front-first.ensures.left)

@@ -10,7 +10,8 @@ use Rattle.ghs_world.proofs.Commits.{Done, after_commit, world_after, others_sta
 use Rattle.ghs_world.proofs.world.World.carry_out.Goals as goal
 
 pub play-requires-clause-lawful : goal.play-requires-clause-lawful
-play-requires-clause-lawful c = out_lawful (the_view c.self.inside) c.args.out c.args.event c.self.invariant.0 (rw (← c.self.view_is) at c.requires.out)
+play-requires-clause-lawful c =
+    out_lawful (the_view c.self.inside) c.args.out c.args.event c.self.invariant.0 (rw (← c.self.view_is) at c.requires.out)
 
 done : (c : goal.After-remove) → Done (the_view c.self.inside) c.args.out c.args.event c.args.delta.now c.play.new.self
 done c = record {
@@ -24,7 +25,8 @@ done c = record {
 }
 
 pub invariant_of-self : goal.invariant_of-self
-invariant_of-self c = rw c.remove.ensures.out (world_after _ _ _ _ _ (done c), c.self.invariant.1 ∙ ap (λ (g : Shape). g.nodes) (sym c.play.ensures.graph))
+invariant_of-self c =
+    rw c.remove.ensures.out (world_after _ _ _ _ _ (done c), c.self.invariant.1 ∙ ap (λ (g : Shape). g.nodes) (sym c.play.ensures.graph))
 
 -- the same, once the nodes are found
 found : (c : goal.After-ready_of) → Done (the_view c.self.inside) c.args.out c.args.event c.args.delta.now c.play.new.self
@@ -38,10 +40,17 @@ found c = record {
   event = c.play.ensures.event;
 }
 
-new_world : (c : goal.After-ready_of) → the_view (record { net = c.play.new.self; wake = c.self.inside.wake; turns = c.self.inside.turns; outs = c.remove.new.self }) ≡ after_commit (the_view c.self.inside) c.args.out c.play.new.self
-new_world c = ap (λ (o : OutsState). record { net = c.play.new.self; wake = c.self.inside.wake; turns = c.self.inside.turns; outs = o.list; last = o.last }) c.remove.ensures.out
+new_world : (c : goal.After-ready_of) →
+    the_view (record { net = c.play.new.self; wake = c.self.inside.wake; turns = c.self.inside.turns; outs = c.remove.new.self }) ≡
+    after_commit (the_view c.self.inside) c.args.out c.play.new.self
+new_world c =
+    ap (λ (o : OutsState).
+    record { net = c.play.new.self; wake = c.self.inside.wake; turns = c.self.inside.turns; outs = o.list; last = o.last })
+    c.remove.ensures.out
 
-kept : (c : goal.After-ready_of) → AreReadyOf (after_commit (the_view c.self.inside) c.args.out c.play.new.self) (touched (network c.self.inside.net) (event_node c.args.event) c.args.delta.now.sends) c.ready_of.result
+kept : (c : goal.After-ready_of) →
+    AreReadyOf (after_commit (the_view c.self.inside) c.args.out c.play.new.self)
+    (touched (network c.self.inside.net) (event_node c.args.event) c.args.delta.now.sends) c.ready_of.result
 kept c = rw (c.ready_of.ensures, new_world c) (ready_kept _ _ _ (rw (← c.self.view_is) at c.requires.touched))
 
 pub returns-clause-others : goal.returns-clause-others
@@ -51,4 +60,7 @@ pub returns-clause-woken : goal.returns-clause-woken
 returns-clause-woken c = rw (← c.self.view_is, new_world c) (kept c)
 
 pub returns-clause-roused : goal.returns-clause-roused
-returns-clause-roused c = rw (← c.self.view_is) (subst (λ (w : WorldState). HasAllRoused (the_view c.self.inside) w c.ready_of.result) (sym (new_world c)) (all_roused _ _ _ _ _ (found c) c.ready_of.result (kept c)))
+returns-clause-roused c =
+    rw (← c.self.view_is) (subst
+    (λ (w : WorldState). HasAllRoused (the_view c.self.inside) w c.ready_of.result)
+    (sym (new_world c)) (all_roused _ _ _ _ _ (found c) c.ready_of.result (kept c)))

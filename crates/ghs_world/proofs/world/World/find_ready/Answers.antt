@@ -14,7 +14,8 @@ returns-then-before-k-clause-found c =
     let many = c.nodes-v-end.ensures.nodes ∙ ap (λ (g : Shape). g.nodes) c.graph-graph.ensures in
     let below = c.loop-v-test.true in
     subst (λ n. slice_get (ready_events c.args.self.now) n ≡ Some (Wake c.loop-v.v)) (sym c.loop-v.invariant.1 ∙ c.if-before-k.true)
-    (wake_ranked (is_ready c.args.self.now) (network c.args.self.now.net) c.loop-v.v (omega arith) (omega arith) (sym c.is_ready.ensures ∙ c.if-is_ready.true))
+    (wake_ranked (is_ready c.args.self.now) (network c.args.self.now.net) c.loop-v.v (omega arith) (omega arith)
+    (sym c.is_ready.ensures ∙ c.if-is_ready.true))
 
 pub overflow_cast-port-end : goal.overflow_cast-port-end
 overflow_cast-port-end c = let few = graph_few c.graph-graph.result.now c.nodes-v-end.ensures.graph c.loop-v.v in rw c.ports.ensures (omega arith)
@@ -25,5 +26,8 @@ returns-then-before-k-2-clause-found c =
     let below = c.loop-v-test.true in
     let ports = ap length (c.ports.ensures ∙ ap (λ (g : Shape). ports_of g.keys c.loop-v.v) c.graph-graph.ensures) in
     let port = c.loop-port-test.true in
-    subst (λ n. slice_get (ready_events c.args.self.now) n ≡ Some (Take c.loop-v.v c.loop-port.port)) (sym c.loop-port.invariant.1 ∙ c.if-before-k-2.true)
-    (take_ranked (is_ready c.args.self.now) (network c.args.self.now.net) c.loop-v.v c.loop-port.port (omega arith) (omega arith) (omega arith) (sym c.is_ready-in-loop-port.ensures ∙ c.if-is_ready-2.true))
+    subst
+    (λ n. slice_get (ready_events c.args.self.now) n ≡ Some (Take c.loop-v.v c.loop-port.port))
+    (sym c.loop-port.invariant.1 ∙ c.if-before-k-2.true)
+    (take_ranked (is_ready c.args.self.now) (network c.args.self.now.net) c.loop-v.v c.loop-port.port (omega arith) (omega arith)
+    (omega arith) (sym c.is_ready-in-loop-port.ensures ∙ c.if-is_ready-2.true))

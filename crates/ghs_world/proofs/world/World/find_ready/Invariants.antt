@@ -7,4 +7,5 @@ abbrev pub invariant-loop-v : goal.invariant-loop-v
 invariant-loop-v l = (l.before ≤ l.k) × (l.before ≡ length (filter (is_ready l.self) (events_to (network l.self.net) (l.v - 1))))
 
 abbrev pub invariant-loop-port : goal.invariant-loop-port
-invariant-loop-port l = (l.before ≤ l.k) × (l.before ≡ length (filter (is_ready l.self) (events_to (network l.self.net) (l.v - 1) ++ events_at l.v l.port)))
+invariant-loop-port l =
+    (l.before ≤ l.k) × (l.before ≡ length (filter (is_ready l.self) (events_to (network l.self.net) (l.v - 1) ++ events_at l.v l.port)))

@@ -15,4 +15,5 @@ pub returns : goal.returns
 returns c =
     let many = c.nodes-v-end.ensures.nodes ∙ ap (λ (g : Shape). g.nodes) c.graph.ensures in
     let end = c.loop-v-test.false in
-    sym (none_found (has_ready c.args.self.now) c.args.low (c.args.self.now.net.graph.nodes + 1 - c.args.low) (λ u lo hi. c.loop-v.invariant.1 u lo (omega arith)))
+    sym (none_found (has_ready c.args.self.now) c.args.low (c.args.self.now.net.graph.nodes + 1 - c.args.low)
+    (λ u lo hi. c.loop-v.invariant.1 u lo (omega arith)))

@@ -9,7 +9,9 @@ use Rattle.ghs_world.proofs.Listing.{any_wake, any_take}
 use Rattle.ghs_world.proofs.world.World.has_lawful.Goals as goal
 
 pub returns-then-may_happen : goal.returns-then-may_happen
-returns-then-may_happen c = sym (any_wake (may_happen c.args.self.now) c.args.v (length ((network c.args.self.now.net).ports c.args.v)) (sym c.may_happen.ensures ∙ c.if-may_happen.true))
+returns-then-may_happen c =
+    sym (any_wake (may_happen c.args.self.now) c.args.v (length ((network c.args.self.now.net).ports c.args.v))
+    (sym c.may_happen.ensures ∙ c.if-may_happen.true))
 
 pub overflow_cast-port-end : goal.overflow_cast-port-end
 overflow_cast-port-end c =
@@ -20,4 +22,6 @@ pub returns-then-lawful : goal.returns-then-lawful
 returns-then-lawful c =
     let many = ap length (c.ports.ensures ∙ ap (λ (g : Shape). ports_of g.keys c.args.v) c.graph.ensures) in
     let below = c.loop-port-test.true in
-    rw (← c.self.view_is) (sym (any_take (may_happen (the_view c.self.inside)) c.args.v c.loop-port.port (length ((network c.self.inside.net).ports c.args.v)) (omega arith) (sym c.lawful.ensures ∙ c.if-lawful.true)))
+    rw (← c.self.view_is)
+    (sym (any_take (may_happen (the_view c.self.inside)) c.args.v c.loop-port.port (length ((network c.self.inside.net).ports c.args.v))
+    (omega arith) (sym c.lawful.ensures ∙ c.if-lawful.true)))

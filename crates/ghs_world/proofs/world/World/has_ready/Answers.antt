@@ -8,4 +8,5 @@ use Rattle.ghs_world.proofs.world.World.has_ready.Goals as goal
 
 pub returns-then-not-has_node : goal.returns-then-not-has_node
 returns-then-not-has_node c =
-    rw (← c.self.view_is) (sym (none_ready (the_view c.self.inside) c.args.v (sym (ap (λ (g : Shape). is_node (network_of g) c.args.v) c.graph.ensures) ∙ sym c.has_node.ensures ∙ c.if-not-has_node.true)))
+    rw (← c.self.view_is) (sym (none_ready (the_view c.self.inside) c.args.v
+    (sym (ap (λ (g : Shape). is_node (network_of g) c.args.v) c.graph.ensures) ∙ sym c.has_node.ensures ∙ c.if-not-has_node.true)))

@@ -9,14 +9,16 @@ use Rattle.ghs_world.proofs.world.World.ledger.Goals as goal
 
 pub overflow_sub-result : goal.overflow_sub-result
 overflow_sub-result c =
-    let few = out_waits (network c.self.inside.net) (wakers (the_view c.self.inside)) (net_of c.self.inside.net) c.self.inside.outs.list c.messages-out.ensures.apart c.self.invariant.0.lawful in
+    let few = out_waits (network c.self.inside.net) (wakers (the_view c.self.inside)) (net_of c.self.inside.net) c.self.inside.outs.list
+    c.messages-out.ensures.apart c.self.invariant.0.lawful in
     let q = c.ledger-home.ensures.counts.queued in
     let o = c.messages-out.ensures.messages in
     omega arith
 
 pub returns-clause-counts : goal.returns-clause-counts
 returns-clause-counts c =
-    let few = out_waits (network c.self.inside.net) (wakers (the_view c.self.inside)) (net_of c.self.inside.net) c.self.inside.outs.list c.messages-out.ensures.apart c.self.invariant.0.lawful in
+    let few = out_waits (network c.self.inside.net) (wakers (the_view c.self.inside)) (net_of c.self.inside.net) c.self.inside.outs.list
+    c.messages-out.ensures.apart c.self.invariant.0.lawful in
     let l = c.ledger-home.ensures.counts in
     let q = l.queued in
     let o = c.messages-out.ensures.messages in

@@ -13,4 +13,5 @@ overflow_cast-port-end c = let few = graph_few c.graph-graph.result.now c.nodes-
 pub loop-v-preserved : goal.loop-v-preserved
 loop-v-preserved c =
     let many : c.loop-port.port ≡ length c.ports.result.now = omega arith in
-    listed_node (is_ready c.args.self.now) (network c.args.self.now.net) c.loop-v.v c.loop-port.port c.loop-port.events.items (omega arith) (many ∙ ap length (c.ports.ensures ∙ ap (λ (g : Shape). ports_of g.keys c.loop-v.v) c.graph-graph.ensures)) c.loop-port.invariant
+    listed_node (is_ready c.args.self.now) (network c.args.self.now.net) c.loop-v.v c.loop-port.port c.loop-port.events.items (omega arith)
+    (many ∙ ap length (c.ports.ensures ∙ ap (λ (g : Shape). ports_of g.keys c.loop-v.v) c.graph-graph.ensures)) c.loop-port.invariant

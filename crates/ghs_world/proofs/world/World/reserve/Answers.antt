@@ -5,4 +5,7 @@ use Rattle.ghs_world.proofs.Keeping.{world_same}
 use Rattle.ghs_world.proofs.world.World.reserve.Goals as goal
 
 pub invariant_of-self : goal.invariant_of-self
-invariant_of-self c = (world_same (the_view c.self.inside) c.reserve.new.self c.self.invariant.0 c.reserve.ensures.net, c.self.invariant.1 ∙ ap (λ (g : Shape). g.nodes) (sym c.reserve.ensures.net.graph))
+invariant_of-self c = (
+  world_same (the_view c.self.inside) c.reserve.new.self c.self.invariant.0 c.reserve.ensures.net,
+  c.self.invariant.1 ∙ ap (λ (g : Shape). g.nodes) (sym c.reserve.ensures.net.graph),
+)
