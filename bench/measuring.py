@@ -1,0 +1,72 @@
+"""What the comparisons share: programs built from their sources, generated graphs, and measured runs."""
+import filecmp
+import os
+import shutil
+import subprocess
+import sys
+
+HERE = os.path.dirname(os.path.abspath(__file__))
+TOP = os.path.dirname(HERE)
+OUT = os.path.join(HERE, "out")
+GHS = os.path.join(TOP, "crates", "ghs", "out", "ghs")
+
+
+def build_ghs():
+    """Has the script build the program where it isn't built yet."""
+    subprocess.run([os.path.join(TOP, "ghs"), "--help"], stdout=subprocess.DEVNULL, check=True)
+
+
+def build(name, *flags):
+    os.makedirs(OUT, exist_ok=True)
+    program = os.path.join(OUT, name)
+    source = os.path.join(HERE, name + ".cpp")
+    sources = [source, os.path.join(HERE, "plain.h")]
+    if not os.path.exists(program) or os.path.getmtime(program) < max(map(os.path.getmtime, sources)):
+        compiler = shutil.which("clang++") or "g++"
+        subprocess.run([compiler, "-O2", "-std=c++17", *flags, "-o", program, source], check=True)
+    return program
+
+
+def road(nodes, links, order):
+    """The path of a generated road-like graph."""
+    path = os.path.join(OUT, f"road-{nodes}-{links}-{order}.gr")
+    with open(path, "wb") as file:
+        subprocess.run([build("road"), str(nodes), str(links), order], stdout=file, check=True)
+    return path
+
+
+def run(words, output, environment=None):
+    """Processor seconds and peak MiB of one run."""
+    with open(output, "wb") as file:
+        process = subprocess.Popen(words, stdout=file, env={**os.environ, **(environment or {})})
+        _, status, usage = os.wait4(process.pid, 0)
+    process.returncode = os.waitstatus_to_exitcode(status)
+    if process.returncode != 0:
+        sys.exit(f"{words[0]}: exit status {process.returncode}")
+    return usage.ru_utime + usage.ru_stime, usage.ru_maxrss / 1024
+
+
+def measure(programs, path, runs):
+    """The best of so many runs of each program, which take turns and have to print the same."""
+    best = {}
+    printed = {label: os.path.join(OUT, "printed." + label) for label in programs}
+    for _ in range(runs):
+        for label, words in programs.items():
+            measured = run(words + [path], printed[label])
+            best[label] = tuple(map(min, measured, best.get(label, measured)))
+    first, *others = printed.values()
+    for other in others:
+        if not filecmp.cmp(first, other, shallow=False):
+            sys.exit(f"{path}: {first} and {other} differ")
+    return best
+
+
+def heading():
+    print(f"{'graph':48} {'program':8} {'seconds':>8} {'MiB':>6} {'time':>6} {'memory':>7}")
+
+
+def print_rows(graph, best):
+    """A line for each program; ratios are to the first one."""
+    base = next(iter(best.values()))
+    for label, (seconds, memory) in best.items():
+        print(f"{graph:48} {label:8} {seconds:8.3f} {memory:6.0f} {seconds / base[0]:6.2f} {memory / base[1]:7.2f}", flush=True)
