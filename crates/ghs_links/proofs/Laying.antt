@@ -2,14 +2,16 @@
 use Rattle.std.proofs.Common.{◌≡◌, ℕ, zero, suc, ◌+◌, ◌-◌, ◌<◌, ◌≤◌, List, [], ◌∷◌, ◌++◌, length, get_or, replicate, refl, sym, ◌∙◌, ap, ⊎_elim, arith, length-append}
 use Rattle.std.proofs.lemmas.Bool.{cases_lt, cases_eq}
 use Rattle.std.proofs.lemmas.List.{get_or_default, get_or_push, get_or_append_left, get_or-replicate, get_or_past, length-replicate}
-use Rattle.std.proofs.lemmas.List.Sums.{sum_by-cons}
+use Rattle.std.proofs.lemmas.List.FromFn.{length-range_with_len, get_or-range_with_len}
+use Rattle.std.proofs.lemmas.List.Sums.{sum_by-cons, sum_by_more, sum_by_more_le, sum_by-take-le}
 use Rattle.std.specs.List.{sum_by}
-use Rattle.ghs_graph.specs.Graph.{Shape, IsGraph}
+use Rattle.ghs_graph.specs.Graph.{Shape, IsGraph, nodes_of}
 use Rattle.ghs_graph.specs.Ports.{ports_of}
+use Rattle.ghs_graph.proofs.lemmas.Degrees.{degrees_are_twice}
 use Rattle.ghs_links.specs.Queue.{QueueState, no_queue}
 use Rattle.ghs_links.specs.Links.{IsPort, IsFor, AllEmpty, port_of, total_of}
 use Rattle.ghs_links.specs.Kept.{Laid, AreBlocks, AreInOrder, HasPlace, EachEmpty, IsKept, LeadFar, AreParts, port_at, seen}
-use Rattle.ghs_links.proofs.lemmas.Ports.{ports_few, far_port_is}
+use Rattle.ghs_links.proofs.lemmas.Ports.{far_port_is}
 use Rattle.ghs_links.proofs.Places.{place_within, place_of_port, port_of_place, places_apart, has_place, place_has, state_is, destination_is, total_is, seen_count}
 
 -- no node yet
@@ -21,7 +23,7 @@ no_blocks g = record {
   next = λ v a b. absurd (omega arith);
   rising = rising;
   most = λ v a b. absurd (omega arith);
-  few = omega arith;
+  all = refl;
 }
   where
     zero_at : (v : ℕ) → v < 2 → ◌≡◌ {A = ℕ} (get_or (0 ∷ 0 ∷ []) v 0) 0
@@ -32,21 +34,46 @@ no_blocks g = record {
     rising : (u v : ℕ) → u ≤ v → v < 2 → get_or {A = ℕ} (0 ∷ 0 ∷ []) u 0 ≤ get_or {A = ℕ} (0 ∷ 0 ∷ []) v 0
     rising u v le lt = omega (arith, zero_at u (omega arith), zero_at v lt)
 
+node_there : (g : Shape) (n : ℕ) → n < g.nodes → n < length (nodes_of g)
+node_there g n lt = omega (arith, length-range_with_len 1 g.nodes)
+
+node_at_place : (g : Shape) (n : ℕ) → n < g.nodes → get_or (nodes_of g) n 0 ≡ n + 1
+node_at_place g n lt = omega (arith, get_or-range_with_len 1 g.nodes n 0 lt)
+
+-- all ports together are few
+pub blocks_few : (g : Shape) → IsGraph g → (n : ℕ) (starts : List ℕ) (widest : ℕ) → AreBlocks g n starts widest → get_or starts (n + 1) 0 ≤ 16777216
+blocks_few g k n starts widest b =
+    let z = b.all in
+    let links = k.links in
+    omega (arith, z, links, sum_by-take-le (λ v. length (ports_of g.keys v)) (nodes_of g) n, degrees_are_twice g k)
+
+-- and so with the next node's
+pub next_few : (g : Shape) → IsGraph g → (n : ℕ) (starts : List ℕ) (widest : ℕ) → AreBlocks g n starts widest → n < g.nodes →
+    get_or starts (n + 1) 0 + length (ports_of g.keys (n + 1)) ≤ 16777216
+next_few g k n starts widest b lt =
+    let z = b.all in
+    let links = k.links in
+    let here = ap (λ v. length (ports_of g.keys v)) (node_at_place g n lt) in
+    omega (arith, z, links, here, sum_by_more_le (λ v. length (ports_of g.keys v)) (nodes_of g) n 0 (node_there g n lt), degrees_are_twice g k)
+
 -- one node more
-pub blocks_more : (g : Shape) → IsGraph g → (n : ℕ) (starts : List ℕ) (widest end d m : ℕ) → AreBlocks g n starts widest → widest ≤ m → d ≤ m →
+pub blocks_more : (g : Shape) → IsGraph g → (n : ℕ) (starts : List ℕ) (widest end d m : ℕ) → n < g.nodes → AreBlocks g n starts widest → widest ≤ m → d ≤ m →
     end ≡ get_or starts (n + 1) 0 + d → d ≡ length (ports_of g.keys (n + 1)) → AreBlocks g (n + 1) (starts ++ end ∷ []) m
-blocks_more g k n starts widest end d m b x y e f = record {
+blocks_more g k n starts widest end d m lt b x y e f = record {
   count = omega (arith, length-append starts (end ∷ []), count);
   first = old 0 (omega (arith, count)) ∙ b.first;
   second = old 1 (omega (arith, count)) ∙ b.second;
   next = λ v lo hi. ⊎_elim (λ (lt : v < n + 1). rw (old v (omega (arith, count)), old (v + 1) (omega (arith, count))) (b.next v lo (omega arith))) (λ (le : n + 1 ≤ v). let z : v ≡ n + 1 = omega arith in rw z last_next) (cases_lt v (n + 1));
   rising = λ u v le lt. ⊎_elim (λ (l : v < n + 2). rw (old u (omega (arith, count)), old v (omega (arith, count))) (b.rising u v le (omega (arith, count)))) (λ (l : n + 2 ≤ v). let z : v ≡ n + 2 = omega (arith, length-append starts (end ∷ []), count) in rw z (up u (omega arith))) (cases_lt v (n + 2));
   most = λ v lo hi. ⊎_elim (λ (lt : v < n + 1). let o = b.most v lo (omega arith) in omega (arith, o, x)) (λ (le : n + 1 ≤ v). let z : v ≡ n + 1 = omega arith in rw z (omega (arith, f, y))) (cases_lt v (n + 1));
-  few = let p = ports_few g k (n + 1) in rw last (omega (arith, p, e, f, b.few));
+  all = let z = b.all in rw last (omega (arith, e, f, z, sum_by_more (λ v. length (ports_of g.keys v)) (nodes_of g) n 0 (node_there g n lt), here_ports));
 }
   where
     count : length starts ≡ n + 2
     count = b.count
+
+    here_ports : length (ports_of g.keys (get_or (nodes_of g) n 0)) ≡ length (ports_of g.keys (n + 1))
+    here_ports = ap (λ v. length (ports_of g.keys v)) (node_at_place g n lt)
 
     old : (v : ℕ) → v < length starts → get_or (starts ++ end ∷ []) v 0 ≡ get_or starts v 0
     old v lt = get_or_append_left starts (end ∷ []) 0 v lt
@@ -63,12 +90,12 @@ blocks_more g k n starts widest end d m b x y e f = record {
         (λ (ge : n + 2 ≤ u). let z : u ≡ n + 2 = omega arith in rw z (omega arith)) (cases_lt u (n + 2))
 
 -- the same, with what the loop keeps
-pub blocks_step : (g : Shape) → IsGraph g → (n : ℕ) (starts ss : List ℕ) (widest end d m : ℕ) → AreBlocks g n starts widest × (end ≡ get_or starts (n + 1) 0) →
+pub blocks_step : (g : Shape) → IsGraph g → (n : ℕ) (starts ss : List ℕ) (widest end d m : ℕ) → n < g.nodes → AreBlocks g n starts widest × (end ≡ get_or starts (n + 1) 0) →
     widest ≤ m → d ≤ m → d ≡ length (ports_of g.keys (n + 1)) → ss ≡ starts ++ (end + d) ∷ [] → AreBlocks g (n + 1) ss m × (end + d ≡ get_or ss (n + 1 + 1) 0)
-blocks_step g k n starts ss widest end d m b x y f e =
+blocks_step g k n starts ss widest end d m lt b x y f e =
     let count = b.0.count in
     rw e (
-      blocks_more g k n starts widest (end + d) d m b.0 x y (ap (λ (i : ℕ). i + d) b.1) f,
+      blocks_more g k n starts widest (end + d) d m lt b.0 x y (ap (λ (i : ℕ). i + d) b.1) f,
       sym (get_or_push starts (end + d) 0 (n + 1 + 1) (omega (arith, count))),
     )
 
@@ -195,6 +222,20 @@ next_port g i j lt port = record { some = omega arith; node = omega arith; port 
 
 pub far_inside : (g : Shape) → IsGraph g → (starts : List ℕ) → AreParts g starts → (v p : ℕ) → p < length (ports_of g.keys v) → (port_of g v p).far < length starts
 far_inside g graph starts parts v p lt = let there = far_port_is g graph v p lt in let node = there.node in let count = parts.1.count in omega (arith, node, count)
+
+-- the place of a far end is few
+pub far_few : (g : Shape) → IsGraph g → (starts : List ℕ) → AreParts g starts → (v p : ℕ) → p < length (ports_of g.keys v) →
+    get_or starts (port_of g v p).far 0 + (port_of g v p).far_port ≤ 16777216
+far_few g graph starts parts v p lt =
+    let b = parts.1 in
+    let there = far_port_is g graph v p lt in
+    let some = there.some in
+    let node = there.node in
+    let port = there.port in
+    let count = b.count in
+    let next = b.next (port_of g v p).far some node in
+    let up = b.rising ((port_of g v p).far + 1) (g.nodes + 1) (omega arith) (omega (arith, count)) in
+    omega (arith, port, next, up, blocks_few g graph g.nodes starts parts.0 b)
 
 pub far_step : (g : Shape) → IsGraph g → (starts : List ℕ) → AreParts g starts → (far fs : List ℕ) (i j x : ℕ) → i < g.nodes → j < length (ports_of g.keys (i + 1)) →
     LeadFar g starts far × (length far ≡ get_or starts (i + 1) 0 + j) → x ≡ get_or starts (port_of g (i + 1) j).far 0 + (port_of g (i + 1) j).far_port →

@@ -1,7 +1,7 @@
 -- How all queues are laid out, and what their fields keep.
-use Rattle.std.specs.Prelude.{◌≡◌, ℕ, ◌+◌, ◌-◌, ◌*◌, ◌<◌, ◌≤◌, ◌==◌, nat_le, List, [], length, map, count_by, slice_index, slice_index_or}
+use Rattle.std.specs.Prelude.{◌≡◌, ℕ, ◌+◌, ◌-◌, ◌*◌, ◌<◌, ◌≤◌, ◌==◌, nat_le, List, [], length, map, take, count_by, slice_index, slice_index_or}
 use Rattle.std.specs.List.{range_with_len, slice_range, sum_by}
-use Rattle.ghs_graph.specs.Graph.{Shape}
+use Rattle.ghs_graph.specs.Graph.{Shape, nodes_of}
 use Rattle.ghs_graph.specs.Ports.{ports_of}
 use Rattle.ghs_node.specs.Words.{Outgoing}
 use Rattle.ghs_links.specs.Queue.{QueueState, no_queue}
@@ -75,7 +75,7 @@ KeepsEach old new = (i : ℕ) → ((slice_index_or new i no_queue).list ≡ (sli
 abbrev pub HasRoomAt : List ℕ → Outgoing → List QueueState → Type 0
 HasRoomAt far ss qs = (p : ℕ) → p < length far → count_on p ss ≤ (slice_index_or qs (slice_index far p) no_queue).room
 
--- where the queues of the nodes up to n begin, and the greatest number of ports
+-- where the queues of the nodes up to n begin, one for each port, and the greatest number of ports
 pub record AreBlocks (g : Shape) (n : ℕ) (starts : List ℕ) (widest : ℕ) : Type 0 where
   pub count : length starts ≡ n + 2
   pub first : slice_index starts 0 ≡ 0
@@ -83,7 +83,7 @@ pub record AreBlocks (g : Shape) (n : ℕ) (starts : List ℕ) (widest : ℕ) : 
   pub next : (v : ℕ) → 1 ≤ v → v ≤ n → slice_index starts (v + 1) ≡ slice_index starts v + length (ports_of g.keys v)
   pub rising : (u v : ℕ) → u ≤ v → v < length starts → slice_index starts u ≤ slice_index starts v
   pub most : (v : ℕ) → 1 ≤ v → v ≤ n → length (ports_of g.keys v) ≤ widest
-  pub few : slice_index starts (n + 1) ≤ n * 8388608
+  pub all : slice_index starts (n + 1) ≡ sum_by (λ v. length (ports_of g.keys v)) (take n (nodes_of g))
 
 -- the parts of all nodes of a graph
 abbrev pub AreParts : Shape → List ℕ → Type 0

@@ -10,7 +10,7 @@ use std::alloc::AllocError;
 
 /// Makes room at the far ends of a node's ports, which have these places, for what goes out on them.
 pub fn make_room(
-    far: &[usize],
+    far: &[u32],
     queues: &mut [Queue],
     claims: &mut [usize],
     sends: &[(u32, Message)],
@@ -31,7 +31,7 @@ pub fn make_room(
 
 // The claims say afterwards, for each port, how many messages have been seen to go out on it.
 fn claim(
-    far: &[usize],
+    far: &[u32],
     queues: &mut [Queue],
     claims: &mut [usize],
     sends: &[(u32, Message)],
@@ -48,7 +48,7 @@ fn claim(
     for (port, _) in sends {
         let at = *port as usize;
         claims[at] += 1;
-        queues[far[at]].reserve(claims[at])?;
+        queues[far[at] as usize].reserve(claims[at])?;
     }
     Ok(())
 }

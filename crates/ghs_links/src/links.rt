@@ -16,10 +16,10 @@ use std::marker::Model;
 #[derive(Debug, Drop)]
 pub struct Links {
     // Where the queues of each number begin; 0 is no node.
-    starts: Vec<usize>,
+    starts: Vec<u32>,
     queues: Vec<Queue>,
     // For each queue the place of the one at the far end of its link.
-    far: Vec<usize>,
+    far: Vec<u32>,
     // For each port of a node, how much room the reserve at hand has asked for at its far end.
     claims: Vec<usize>,
     total: u64,
@@ -44,7 +44,7 @@ impl Links {
         ensures total { IfOk result (λ l. total_of l ≡ 0) }
     {
         let Blocks { starts, widest } = lay_blocks(alloc, graph)?;
-        let queues = empty_queues(alloc, starts[starts.len() - 1])?;
+        let queues = empty_queues(alloc, starts[starts.len() - 1] as usize)?;
         let far = far_places(alloc, graph, &starts)?;
         let claims = vec![in alloc; 0usize; widest]?;
         Ok(Links {
@@ -76,8 +76,8 @@ impl Links {
         requires total { total_of self.old < 2 ^ 64 - 1 }
         ensures { let to = destination_of self.old v port in Changes self.old self.new to.0 to.1 (pushed (state_at self.old to.0 to.1) message) }
     {
-        let to = self.far[self.starts[v as usize] + port as usize];
-        self.queues[to].push(message);
+        let to = self.far[self.starts[v as usize] as usize + port as usize];
+        self.queues[to as usize].push(message);
         self.total += 1;
     }
 
@@ -88,7 +88,7 @@ impl Links {
         requires total { total_of self.old < 2 ^ 64 - 1 }
         ensures { Changes self.old self.new v port (pushed (state_at self.old v port) message) }
     {
-        let at = self.starts[v as usize] + port as usize;
+        let at = self.starts[v as usize] as usize + port as usize;
         self.queues[at].push(message);
         self.total += 1;
     }
@@ -99,7 +99,7 @@ impl Links {
         ensures first { result ≡ slice_get (queue_at self.old v port) 0 }
         ensures left { Changes self.old self.new v port (taken (state_at self.old v port)) }
     {
-        let at = self.starts[v as usize] + port as usize;
+        let at = self.starts[v as usize] as usize + port as usize;
         let first = self.queues[at].take_front();
         self.total -= count(&first);
         first
@@ -110,7 +110,7 @@ impl Links {
         requires port { HasQueue self.old v port }
         ensures { Changes self.old self.new v port (requeued (state_at self.old v port)) }
     {
-        let at = self.starts[v as usize] + port as usize;
+        let at = self.starts[v as usize] as usize + port as usize;
         self.queues[at].requeue();
     }
 
@@ -119,7 +119,7 @@ impl Links {
         requires { HasQueue self.now v port }
         ensures { result ≡ slice_get (queue_at self.now v port) 0 }
     {
-        self.queues[self.starts[v as usize] + port as usize].front()
+        self.queues[self.starts[v as usize] as usize + port as usize].front()
     }
 
     /// How many messages wait at a port.
@@ -127,7 +127,7 @@ impl Links {
         requires { HasQueue self.now v port }
         ensures { result ≡ length (queue_at self.now v port) }
     {
-        self.queues[self.starts[v as usize] + port as usize].len()
+        self.queues[self.starts[v as usize] as usize + port as usize].len()
     }
 
     /// How many messages wait at all ports.

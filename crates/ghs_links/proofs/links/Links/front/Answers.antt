@@ -9,11 +9,6 @@ index-requires c =
     let s = stands _ c.self.invariant.order c.args.v c.args.port (rw (← c.self.view_is) at c.requires) in
     omega (arith, s)
 
-pub overflow_add-index : goal.overflow_add-index
-overflow_add-index c =
-    let s = stands_at _ c.self.invariant.order c.args.v c.args.port _ (rw (← c.self.view_is) at c.requires) c.index.ensures in
-    omega (arith, s)
-
 pub index-requires-2 : goal.index-requires-2
 index-requires-2 c =
     let s = stands_at _ c.self.invariant.order c.args.v c.args.port _ (rw (← c.self.view_is) at c.requires) c.index.ensures in

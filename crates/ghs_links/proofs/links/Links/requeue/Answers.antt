@@ -8,11 +8,6 @@ index-requires c =
     let s = stands _ c.self.invariant.order c.args.v c.args.port (rw (← c.self.view_is) at c.requires.port) in
     omega (arith, s)
 
-pub overflow_add-at : goal.overflow_add-at
-overflow_add-at c =
-    let s = stands_at _ c.self.invariant.order c.args.v c.args.port _ (rw (← c.self.view_is) at c.requires.port) c.index.ensures in
-    omega (arith, s)
-
 pub index_mut-requires : goal.index_mut-requires
 index_mut-requires c =
     let s = stands_at _ c.self.invariant.order c.args.v c.args.port _ (rw (← c.self.view_is) at c.requires.port) c.index.ensures in

@@ -8,11 +8,6 @@ index-requires c =
     let s = stands _ c.self.invariant.order c.args.v c.args.port (rw (← c.self.view_is) at c.requires.port) in
     omega (arith, s)
 
-pub overflow_add-index : goal.overflow_add-index
-overflow_add-index c =
-    let s = stands_at _ c.self.invariant.order c.args.v c.args.port _ (rw (← c.self.view_is) at c.requires.port) c.index.ensures in
-    omega (arith, s)
-
 pub index-to-requires : goal.index-to-requires
 index-to-requires c =
     let s = stands_at _ c.self.invariant.order c.args.v c.args.port _ (rw (← c.self.view_is) at c.requires.port) c.index.ensures in
