@@ -1,1 +1,2 @@
+-- To be believed: contracts cite what stands here, and what it is made of.
 pub mod Status

@@ -1,3 +1,4 @@
+-- Serves the proofs: nothing here has to be believed.
 mod Commands
 mod Said
 mod Serves

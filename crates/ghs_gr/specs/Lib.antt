@@ -1,3 +1,4 @@
+-- To be believed: contracts cite what stands here, and what it is made of.
 pub mod Arc
 pub mod Device
 pub mod Fault

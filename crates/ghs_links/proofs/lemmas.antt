@@ -1,1 +1,2 @@
+-- What proofs about queues above this crate may use.
 pub mod Ports

@@ -1,3 +1,4 @@
+-- To be believed: contracts cite what stands here, and what it is made of.
 pub mod NetText
 pub mod TreeText
 pub mod Writing

@@ -1,3 +1,4 @@
+-- Serves the proofs: nothing here has to be believed.
 pub mod Picking
 pub mod Readings
 pub mod Replaying
