@@ -1,6 +1,7 @@
 -- Two fragments become one: Connects meet, or one is absorbed.
 pub mod NewBranch
 pub mod NewCore
+pub mod Lower
 pub mod OneFragment
 pub mod Risen
 pub mod Floors

@@ -37,6 +37,7 @@ use Rattle.ghs_protocol.proofs.union.MetByRoot.{connects_meeting}
 use Rattle.ghs_protocol.proofs.union.Floors.{floors_met}
 use Rattle.ghs_protocol.proofs.acts.Floors.{near_fits, far_fits, RootFloors, root_floors, best_in_tree}
 use Rattle.ghs_protocol.proofs.search.CloseFloors.{FloorsOff, nodes_after, links_after, links_after_off, in_tree_after, halted_after}
+use Rattle.ghs_protocol.proofs.union.Lower.{SameParts, same_parts, below_new}
 
 module _ (g : Network) (wired : IsWired g) (u : ℕ) (u_is : InNetwork g u) (j : ℕ) (at : At g u j) (w : Scene) (holds : Invariant g w)
     (ms : List Message) (root : AtRoot g w u j ms)
@@ -367,28 +368,8 @@ module _ (g : Network) (wired : IsWired g) (u : ℕ) (u_is : InNetwork g u) (w :
     far_is : mid.at (far g u b) ≡ w.at (far g u b)
     far_is = else_is (far g u b) (wired.apart u b atb)
 
-    level_is : (t : ℕ) → (mid.at t).head.level ≡ (w.at t).head.level
-    level_is t = put_alike (λ (m : Member). m.head.level) w.at u (sent_out (w.at u) b) refl t
-
-    fragment_is : (t : ℕ) → (mid.at t).fragment ≡ (w.at t).fragment
-    fragment_is t = put_alike (λ (m : Member). m.fragment) w.at u (sent_out (w.at u) b) refl t
-
-    low : (t : ℕ) →
-        InNetwork g t →
-        ((mid.at t).fragment ≡ (mid.at (far g u b)).fragment) ⊎ ((mid.at t).fragment ≡ (mid.at u).fragment) →
-        (mid.at t).head.level < suc (mid.at u).head.level
-    low t it i =
-        let a = level_is t in
-        let c = level_is u in
-        let d = (holds.nodes t it).lag.level in
-        let e = root.top in
-        let f = came.level in
-        let h = came.higher in
-        ⊎_elim
-        (λ s.
-        let z = (holds.trees.by_fragment t (far g u b) (sym (fragment_is t) ∙ s ∙ fragment_is (far g u b))).0 in
-        omega (arith, a, c, d, e, f, h, z))
-        (λ s. let z = (holds.trees.by_fragment t u (sym (fragment_is t) ∙ s ∙ fragment_is u)).0 in omega (arith, a, c, d, e, z)) i
+    same : SameParts w mid
+    same = same_parts g u (sent_out (w.at u) b) (left_tree w u j ms) ((b, Connect (w.at u).head.level) ∷ []) w refl refl refl refl
 
     off : FloorsOff g mid floor u b
     off =
@@ -411,7 +392,7 @@ module _ (g : Network) (wired : IsWired g) (u : ℕ) (u_is : InNetwork g u) (w :
     pub meets_floors : Floors g (meet g u b (acts g u (sent_out (w.at u) b) (left_tree w u j ms) ((b, Connect (w.at u).head.level) ∷ []) w)) floor
     meets_floors =
         floors_met g wired mid floor off.nodes off.in_tree off.halted u b atb
-        (λ e. leads.apart (sym (fragment_is (far g u b)) ∙ e ∙ fragment_is u)) off.links low
+        (λ e. leads.apart (sym (same.fragment (far g u b)) ∙ e ∙ same.fragment u)) off.links (below_new g w mid holds same u b came root.top)
         (ap (λ (m : Member). m.mark b) here_is ∙ put_same (w.at u).mark b Branch) (ap (λ (m : Member). m.mark (far_port g u b)) far_is ∙ mark')
         (ap (λ (m : Member). m.up) here_is) (ap (λ (m : Member). m.up) far_is ∙ came.up)
         (λ e.

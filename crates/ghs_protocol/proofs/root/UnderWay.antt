@@ -31,6 +31,7 @@ use Rattle.ghs_protocol.proofs.rows.Link.{link_fits, link_fits'}
 use Rattle.ghs_protocol.proofs.union.MetByRoot.{connects_meeting}
 use Rattle.ghs_protocol.proofs.tests.UnderWay.{near_asks, far_asks, far_brought}
 use Rattle.ghs_protocol.proofs.union.UnderWay.{no_name, united_lives}
+use Rattle.ghs_protocol.proofs.union.Lower.{SameParts, same_parts, below_new}
 
 -- what the root's other end has before it leaves its level
 left_brought : (f : TreeEnd) → Left f → brought_to f.level f.tree ≡ f.level
@@ -180,28 +181,8 @@ module _ (g : Network) (wired : IsWired g) (u : ℕ) (u_is : InNetwork g u) (w :
         came : ConnectUnderWay (tree_end (far_end g w u b)) (tree_end (end g w u b))
         came = link'.tree.out_connect (record { here = mark'; there = mark })
 
-        level_is : (t : ℕ) → (mid.at t).head.level ≡ (w.at t).head.level
-        level_is t = put_alike (λ (m : Member). m.head.level) w.at u (sent_out (w.at u) b) refl t
-
-        fragment_is : (t : ℕ) → (mid.at t).fragment ≡ (w.at t).fragment
-        fragment_is t = put_alike (λ (m : Member). m.fragment) w.at u (sent_out (w.at u) b) refl t
-
-        low : (t : ℕ) →
-            InNetwork g t →
-            ((mid.at t).fragment ≡ (mid.at (far g u b)).fragment) ⊎ ((mid.at t).fragment ≡ (mid.at u).fragment) →
-            (mid.at t).head.level < suc (mid.at u).head.level
-        low t it i =
-            let a = level_is t in
-            let c = level_is u in
-            let d = (holds.nodes t it).lag.level in
-            let e = root.top in
-            let f = came.level in
-            let h = came.higher in
-            ⊎_elim
-            (λ s.
-            let z = (holds.trees.by_fragment t (far g u b) (sym (fragment_is t) ∙ s ∙ fragment_is (far g u b))).0 in
-            omega (arith, a, c, d, e, f, h, z))
-            (λ s. let z = (holds.trees.by_fragment t u (sym (fragment_is t) ∙ s ∙ fragment_is u)).0 in omega (arith, a, c, d, e, z)) i
+        same : SameParts w mid
+        same = same_parts g u (sent_out (w.at u) b) (left_tree w u j ms) ((b, Connect (w.at u).head.level) ∷ []) w refl refl refl refl
 
         met : Lives g mid
         met =
@@ -214,5 +195,5 @@ module _ (g : Network) (wired : IsWired g) (u : ℕ) (u_is : InNetwork g u) (w :
         pub meets_lives : Lives g (meet g u b (acts g u (sent_out (w.at u) b) (left_tree w u j ms) ((b, Connect (w.at u).head.level) ∷ []) w))
         meets_lives =
             united_lives g mid met (mid.at (far g u b)).fragment (mid.at u).fragment (suc (mid.at u).head.level) (Some (port_at g u b).key)
-            (λ t it i. inl (low t it i))
+            (λ t it i. inl (below_new g w mid holds same u b came root.top t it i))
             (connects_meeting g ground u u_is w holds j at ms b k calls best mark mark')

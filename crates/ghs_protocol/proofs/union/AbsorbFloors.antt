@@ -35,6 +35,7 @@ use Rattle.ghs_protocol.proofs.rows.Link.{link_fits, link_fits', link_leads}
 use Rattle.ghs_protocol.proofs.acts.Floors.{near_fits, far_fits}
 use Rattle.ghs_protocol.proofs.search.CloseFloors.{FloorsOff, nodes_after, links_after_off, in_tree_after, halted_after}
 use Rattle.ghs_protocol.proofs.union.Floors.{Joining, Joined_in, Left_out, joining_is, joining_as, floors_united}
+use Rattle.ghs_protocol.proofs.union.Lower.{SameParts, same_parts, below_coming}
 
 -- a link is one of the tree from both ends
 pub tree_link_back : (g : Network) → IsWired g → (v p : ℕ) → At g v p → IsTreeLink g (far g v p) (far_port g v p) → IsTreeLink g v p
@@ -129,41 +130,11 @@ module _ (g : Network) (ground : Ground g) (u : ℕ) (u_is : InNetwork g u) (w :
   far_is : grown.at (far g u j) ≡ w.at (far g u j)
   far_is = put_other w.at u (far g u j) x (ground.wired.apart u j at)
 
-  fragment_is : (t : ℕ) → (grown.at t).fragment ≡ (w.at t).fragment
-  fragment_is t = put_alike (λ (m : Member). m.fragment) w.at u x refl t
-
-  coming_is : (t : ℕ) → (grown.at t).coming ≡ (w.at t).coming
-  coming_is t = put_alike (λ (m : Member). m.coming) w.at u x refl t
-
-  name_is : (t : ℕ) → (grown.at t).coming_name ≡ (w.at t).coming_name
-  name_is t = put_alike (λ (m : Member). m.coming_name) w.at u x refl t
-
-  level_is : (t : ℕ) → (grown.at t).head.level ≡ (w.at t).head.level
-  level_is t = put_alike (λ (m : Member). m.head.level) w.at u x refl t
+  same : SameParts w grown
+  same = same_parts g u x (left_tree w u j ms) ((j, call) ∷ []) w refl refl refl refl
 
   up_is : (t : ℕ) → (grown.at t).up ≡ (w.at t).up
   up_is t = put_alike (λ (m : Member). m.up) w.at u x refl t
-
-  low : (t : ℕ) →
-      InNetwork g t →
-      ((grown.at t).fragment ≡ (grown.at (far g u j)).fragment) ⊎ ((grown.at t).fragment ≡ (grown.at u).fragment) →
-      ((grown.at t).head.level < (grown.at u).coming) ⊎
-      (((grown.at t).coming ≡ (grown.at u).coming) × ((grown.at t).coming_name ≡ (grown.at u).coming_name))
-  low t it i =
-      ⊎_elim
-      (λ s. inl
-      (let z = (holds.trees.by_fragment t (far g u j) (sym (fragment_is t) ∙ s ∙ fragment_is (far g u j))).0 in
-      let a = level_is t in
-      let c = coming_is u in
-      let d = (holds.nodes t it).lag.level in
-      let e = (holds.nodes u u_is).lag.level in
-      let f = its.under.level in
-      let h = lower_far in
-      omega (arith, z, a, c, d, e, f, h)))
-      (λ s.
-      let z = holds.trees.by_fragment t u (sym (fragment_is t) ∙ s ∙ fragment_is u) in
-      inr (coming_is t ∙ z.0 ∙ sym (coming_is u), name_is t ∙ z.1 ∙ sym (name_is u)))
-      i
 
   after : Invariant g joint
   after = absorbs_in g ground u u_is w holds j at ms l k waits less name awake
@@ -218,7 +189,7 @@ module _ (g : Network) (ground : Ground g) (u : ℕ) (u_is : InNetwork g u) (w :
   coming_at t i = go (joining_is far_part near_part (grown.at u).coming (grown.at u).coming_name (grown.at t))
     where
       go : Joining far_part near_part (grown.at u).coming (grown.at u).coming_name (grown.at t) → (joint.at t).coming ≡ (w.at u).coming
-      go (Joined_in j x y z) = y ∙ coming_is u
+      go (Joined_in j x y z) = y ∙ same.coming u
       go (Left_out ne ne' s) = absurd (⊎_elim ne ne' i)
 
   up_here : (joint.at u).up ≢ Some j
@@ -233,7 +204,7 @@ module _ (g : Network) (ground : Ground g) (u : ℕ) (u_is : InNetwork g u) (w :
   }
 
   level_at : (t : ℕ) → (joint.at t).head.level ≡ (w.at t).head.level
-  level_at t = keeps (λ m. m.head.level) (λ m a b n. refl) t ∙ level_is t
+  level_at t = keeps (λ m. m.head.level) (λ m a b n. refl) t ∙ same.level t
 
   near_new : FloorsAt (end g joint u j) (end g joint (far g u j) (far_port g u j)) (floor u) (floor (far g u j))
   near_new = record {
@@ -298,5 +269,5 @@ module _ (g : Network) (ground : Ground g) (u : ℕ) (u_is : InNetwork g u) (w :
       floor
   absorbs_floors =
       floors_united g ground.wired grown floor off.nodes off.in_tree off.halted u j at
-      (λ e. its.under.apart (sym (fragment_is u) ∙ sym e ∙ fragment_is (far g u j)))
-      off.links (grown.at u).coming (grown.at u).coming_name low still near_new away_new
+      (λ e. its.under.apart (sym (same.fragment u) ∙ sym e ∙ same.fragment (far g u j)))
+      off.links (grown.at u).coming (grown.at u).coming_name (below_coming g w grown holds same u j its.under u_is lower_far) still near_new away_new

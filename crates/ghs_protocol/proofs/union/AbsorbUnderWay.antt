@@ -21,6 +21,7 @@ use Rattle.ghs_protocol.proofs.union.ConnectIn.{Came}
 use Rattle.ghs_protocol.proofs.union.Absorb.{absorbs_in, came, below, way_not}
 use Rattle.ghs_protocol.proofs.tests.UnderWay.{touches_lives, near_asks, far_asks, near_brought, far_brought, near_heard, far_heard, brought_by_call}
 use Rattle.ghs_protocol.proofs.union.UnderWay.{united_lives}
+use Rattle.ghs_protocol.proofs.union.Lower.{SameParts, same_parts, below_coming}
 
 module _ (g : Network) (ground : Ground g) (u : ℕ) (u_is : InNetwork g u) (w : Scene) (holds : Invariant g w) (lives : Lives g w)
     (j : ℕ) (at : At g u j) (ms : List Message) (l : ℕ) (k : Key) (waits : (w.seen u j).tree ≡ Connect l ∷ ms)
@@ -69,17 +70,8 @@ module _ (g : Network) (ground : Ground g) (u : ℕ) (u_is : InNetwork g u) (w :
         (λ i at' ne c. far_heard g ground.wired u u_is j at w holds lives i at' (c.0, was i ne c.1, c.2, c.3, c.4)),
       )
 
-  fragment_is : (t : ℕ) → (grown.at t).fragment ≡ (w.at t).fragment
-  fragment_is t = put_alike (λ (m : Member). m.fragment) w.at u x refl t
-
-  coming_is : (t : ℕ) → (grown.at t).coming ≡ (w.at t).coming
-  coming_is t = put_alike (λ (m : Member). m.coming) w.at u x refl t
-
-  name_is : (t : ℕ) → (grown.at t).coming_name ≡ (w.at t).coming_name
-  name_is t = put_alike (λ (m : Member). m.coming_name) w.at u x refl t
-
-  level_is : (t : ℕ) → (grown.at t).head.level ≡ (w.at t).head.level
-  level_is t = put_alike (λ (m : Member). m.head.level) w.at u x refl t
+  same : SameParts w grown
+  same = same_parts g u x (left_tree w u j ms) ((j, call) ∷ []) w refl refl refl refl
 
   up_is : (t : ℕ) → (grown.at t).up ≡ (w.at t).up
   up_is t = put_alike (λ (m : Member). m.up) w.at u x refl t
@@ -98,14 +90,14 @@ module _ (g : Network) (ground : Ground g) (u : ℕ) (u_is : InNetwork g u) (w :
       IsCore (end g grown t p) (end g grown (far g t p) (far_port g t p)) →
       (grown.at (far g t p)).coming ≡ (grown.at t).coming
   core_alike t p at' c =
-      coming_is (far g t p) ∙
+      same.coming (far g t p) ∙
       (holds.trees.by_fragment (far g t p) t (sym (holds.trees.joined_within t p at' (record {
         here = ap is_branch (branch_was t p (λ z. no_way (subst₂ (λ a b. (w.at a).up ≡ Some b) z.0 z.1 (sym (up_is t) ∙ c.2))) c.0);
         there =
             ap is_branch
             (branch_was (far g t p) (far_port g t p) (λ z. no_way (subst₂ (λ a b. (w.at a).up ≡ Some b) z.0 z.1 (sym (up_is (far g t p)) ∙ c.3))) c.1);
       })))).0 ∙
-      sym (coming_is t)
+      sym (same.coming t)
 
   low : (t : ℕ) → InNetwork g t → ((grown.at t).fragment ≡ (grown.at (far g u j)).fragment) ⊎ ((grown.at t).fragment ≡ (grown.at u).fragment) →
       ((grown.at t).head.level < (grown.at u).coming) ⊎
@@ -113,21 +105,7 @@ module _ (g : Network) (ground : Ground g) (u : ℕ) (u_is : InNetwork g u) (w :
       ((p : ℕ) → At g t p →
       IsCore (end g grown t p) (end g grown (far g t p) (far_port g t p)) →
       (grown.at (far g t p)).coming ≡ (grown.at t).coming))
-  low t it i =
-      ⊎_elim
-      (λ s. inl
-      (let z = (holds.trees.by_fragment t (far g u j) (sym (fragment_is t) ∙ s ∙ fragment_is (far g u j))).0 in
-      let a = level_is t in
-      let c = coming_is u in
-      let d = (holds.nodes t it).lag.level in
-      let e = (holds.nodes u u_is).lag.level in
-      let f = its.under.level in
-      let h = lower_far in
-      omega (arith, z, a, c, d, e, f, h)))
-      (λ s.
-      let z = holds.trees.by_fragment t u (sym (fragment_is t) ∙ s ∙ fragment_is u) in
-      inr (coming_is t ∙ z.0 ∙ sym (coming_is u), name_is t ∙ z.1 ∙ sym (name_is u), core_alike t))
-      i
+  low t it i = ⊎_elim inl (λ z. inr (z.0, z.1, core_alike t)) (below_coming g w grown holds same u j its.under u_is lower_far t it i)
 
   pub absorbs_lives :
       Lives g

@@ -26,6 +26,7 @@ use Rattle.ghs_protocol.proofs.acts.Floors.{far_fits, lower_self, below_lower, c
 use Rattle.ghs_protocol.proofs.search.CloseFloors.{FloorsOff, nodes_after, links_after, links_after_off, in_tree_after, halted_after}
 use Rattle.ghs_protocol.proofs.union.Floors.{floors_met}
 use Rattle.ghs_graph.proofs.lemmas.Keys.{lt_asymmetric, lt_irreflexive}
+use Rattle.ghs_protocol.proofs.union.Lower.{SameParts, same_parts, below_new}
 
 module _ (g : Network) (ground : Ground g) (u : ℕ) (u_is : InNetwork g u) (w : Scene) (holds : Invariant g w) (at : At g u 0)
     (sleeps : (w.at u).head.phase ≡ Sleeping) (floor : ℕ → Floor) (floors : Floors g w floor) where
@@ -188,29 +189,8 @@ module _ (g : Network) (ground : Ground g) (u : ℕ) (u_is : InNetwork g u) (w :
     far_is : woken.at (far g u 0) ≡ w.at (far g u 0)
     far_is = put_other w.at u (far g u 0) x (ground.wired.apart u 0 at)
 
-    fragment_is : (t : ℕ) → (woken.at t).fragment ≡ (w.at t).fragment
-    fragment_is t = put_alike (λ (m : Member). m.fragment) w.at u x refl t
-
-    level_is : (t : ℕ) → (woken.at t).head.level ≡ (w.at t).head.level
-    level_is t = put_alike (λ (m : Member). m.head.level) w.at u x (sym fresh.level) t
-
-    low : (t : ℕ) →
-        InNetwork g t →
-        ((woken.at t).fragment ≡ (woken.at (far g u 0)).fragment) ⊎ ((woken.at t).fragment ≡ (woken.at u).fragment) →
-        (woken.at t).head.level < suc (woken.at u).head.level
-    low t it i =
-        let a = level_is t in
-        let c = level_is u in
-        let d = (holds.nodes t it).lag.level in
-        let f = came.level in
-        let h = came.higher in
-        let o = fresh.level in
-        let q = fresh.coming in
-        ⊎_elim
-        (λ s.
-        let z = (holds.trees.by_fragment t (far g u 0) (sym (fragment_is t) ∙ s ∙ fragment_is (far g u 0))).0 in
-        omega (arith, a, c, d, f, h, z, o))
-        (λ s. let z = (holds.trees.by_fragment t u (sym (fragment_is t) ∙ s ∙ fragment_is u)).0 in omega (arith, a, c, d, z, o, q)) i
+    same : SameParts w woken
+    same = same_parts g u x (w.seen u) ss w refl refl refl (sym fresh.level)
 
     own_seen : woken.seen u 0 ≡ w.seen u 0
     own_seen = here_seen g ground.wired u u_is.some u_is.node x (w.seen u) ss w 0
@@ -223,7 +203,8 @@ module _ (g : Network) (ground : Ground g) (u : ℕ) (u_is : InNetwork g u) (w :
     pub wakes_meeting_floors : Floors g (meet g u 0 woken) (put floor u least)
     wakes_meeting_floors =
         floors_met g ground.wired woken (put floor u least) off.nodes off.in_tree off.halted u 0 at
-        (λ e. apart (sym (fragment_is (far g u 0)) ∙ e ∙ fragment_is u)) off.links low
+        (λ e. apart (sym (same.fragment (far g u 0)) ∙ e ∙ same.fragment u)) off.links
+        (below_new g w woken holds same u 0 came (fresh.level ∙ sym fresh.coming))
         (ap (λ (m : Member). m.mark 0) here_is ∙ put_same (w.at u).mark 0 Branch) (ap (λ (m : Member). m.mark (far_port g u 0)) far_is ∙ met)
         (ap (λ (m : Member). m.up) here_is) (ap (λ (m : Member). m.up) far_is ∙ came.up)
         (λ e.

@@ -22,6 +22,7 @@ use Rattle.ghs_protocol.proofs.rows.Link.{link_fits'}
 use Rattle.ghs_protocol.proofs.wake.Inward.{wakes_meeting}
 use Rattle.ghs_protocol.proofs.tests.UnderWay.{touches_lives, near_asks, far_asks}
 use Rattle.ghs_protocol.proofs.union.UnderWay.{no_name, united_lives}
+use Rattle.ghs_protocol.proofs.union.Lower.{SameParts, same_parts, below_new}
 
 module _ (g : Network) (wired : IsWired g) (u : ℕ) (u_is : InNetwork g u) (w : Scene) (holds : Invariant g w) (lives : Lives g w)
     (at : At g u 0) (sleeps : (w.at u).head.phase ≡ Sleeping) where
@@ -72,29 +73,8 @@ module _ (g : Network) (wired : IsWired g) (u : ℕ) (u_is : InNetwork g u) (w :
     came : ConnectUnderWay (tree_end (far_end g w u 0)) (tree_end (end g w u 0))
     came = (link_fits' g wired w holds u 0 at).tree.out_connect (record { here = met; there = fresh.marks 0 })
 
-    fragment_is : (t : ℕ) → (woken.at t).fragment ≡ (w.at t).fragment
-    fragment_is t = put_alike (λ (m : Member). m.fragment) w.at u x refl t
-
-    level_is : (t : ℕ) → (woken.at t).head.level ≡ (w.at t).head.level
-    level_is t = put_alike (λ (m : Member). m.head.level) w.at u x (sym fresh.level) t
-
-    low : (t : ℕ) →
-        InNetwork g t →
-        ((woken.at t).fragment ≡ (woken.at (far g u 0)).fragment) ⊎ ((woken.at t).fragment ≡ (woken.at u).fragment) →
-        (woken.at t).head.level < suc (woken.at u).head.level
-    low t it i =
-        let a = level_is t in
-        let c = level_is u in
-        let d = (holds.nodes t it).lag.level in
-        let f = came.level in
-        let h = came.higher in
-        let o = fresh.level in
-        let q = fresh.coming in
-        ⊎_elim
-        (λ s.
-        let z = (holds.trees.by_fragment t (far g u 0) (sym (fragment_is t) ∙ s ∙ fragment_is (far g u 0))).0 in
-        omega (arith, a, c, d, f, h, z, o))
-        (λ s. let z = (holds.trees.by_fragment t u (sym (fragment_is t) ∙ s ∙ fragment_is u)).0 in omega (arith, a, c, d, z, o, q)) i
+    same : SameParts w woken
+    same = same_parts g u x (w.seen u) ss w refl refl refl (sym fresh.level)
 
     woken_met : Lives g woken
     woken_met =
@@ -106,4 +86,4 @@ module _ (g : Network) (wired : IsWired g) (u : ℕ) (u_is : InNetwork g u) (w :
     pub wakes_meeting_lives : Lives g (meet g u 0 (acts g u (awakened (w.at u)) (w.seen u) ((0, Connect 0) ∷ []) w))
     wakes_meeting_lives =
         united_lives g woken woken_met (woken.at (far g u 0)).fragment (woken.at u).fragment (suc (woken.at u).head.level)
-        (Some (port_at g u 0).key) (λ t it i. inl (low t it i)) (wakes_meeting g wired u u_is w holds at sleeps ground met)
+        (Some (port_at g u 0).key) (λ t it i. inl (below_new g w woken holds same u 0 came (fresh.level ∙ sym fresh.coming) t it i)) (wakes_meeting g wired u u_is w holds at sleeps ground met)
