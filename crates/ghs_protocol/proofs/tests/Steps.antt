@@ -10,9 +10,10 @@ use Rattle.ghs_protocol.specs.Network.{Network, port_at, At, far, far_port, InNe
 use Rattle.ghs_protocol.proofs.lemmas.Wired.{IsWired}
 use Rattle.ghs_protocol.specs.Net.{put}
 use Rattle.ghs_protocol.proofs.lemmas.Updates.{put_same, put_other}
-use Rattle.ghs_protocol.proofs.clauses.Scene.{Seen, Member, Scene, End, tree_end, test_end, end, forest, acts}
+use Rattle.ghs_protocol.proofs.clauses.Scene.{Seen, Member, Scene, End, tree_end, test_end, end, forest, acts, far_end}
 use Rattle.ghs_protocol.proofs.clauses.Changes.{left_tests, left_rejects, seen_beyond, rejected, marked, rules_out, took_reject}
 use Rattle.ghs_protocol.proofs.clauses.Nodes.{NodeFits}
+use Rattle.ghs_protocol.proofs.clauses.Tests.{TestsFit}
 use Rattle.ghs_protocol.proofs.clauses.Whole.{LinkFits, Invariant, NamesOf}
 use Rattle.ghs_protocol.proofs.clauses.Wiring.{IsKeyed}
 use Rattle.ghs_protocol.proofs.acts.OneLink.{sends_none, sends_one, at_near, at_far, onto, sums_one, kept_one}
@@ -89,6 +90,10 @@ module _ (g : Network) (wired : IsWired g) (u : ℕ) (u_is : InNetwork g u) (j :
       one_fragment g (forest w) _ _ n keyed holds.trees.joined_within (holds.named u n u_is e)
       (holds.named (far g u j) n (record { some = t.some; node = t.node }) f)
 
+  -- an end of u, turned into x, with this mark
+  abbrev marked_end : Member → Seen → ℕ → Mark → End
+  marked_end x q i z = record { port = i; key = (port_at g u i).key; mark = z; is = x; seen = q }
+
   -- at a link but j's, a mark of u's is as it was
   aside : (x : Member) (i : ℕ) → i ≢ j → x.mark ≡ marked (w.at u).mark j → (P : Mark → Type 0) → P ((w.at u).mark i) → P (x.mark i)
   aside x i ne e P h = subst P (sym (ap (λ (f : ℕ → Mark). f i) e ∙ put_other (w.at u).mark j i (rejected ((w.at u).mark j)) ne)) h
@@ -125,46 +130,21 @@ module _ (g : Network) (wired : IsWired g) (u : ℕ) (u_is : InNetwork g u) (j :
       holds
       (node_turned (length (g.ports u)) (w.at u) (marked (w.at u).mark j) _ _ _ here_fits awake (branch_marked (w.at u).mark j)
       (within_marked (w.at u).mark j _ at.port here_fits.own_ports.mark) here_fits.own_ports.probe here_fits.idle here_fits.best_port)
-      (ahead (λ z. LinkFits (NamesOf g w) (record {
-        port =
-            j;
-        key = (port_at g u j).key;
-        mark = z;
-        is = x;
-        seen = q;
-      }) there') (record {
-        tree = tree_rejected (tree_end
-            (end g w u j)) (tree_end beyond') inside ((w.at u).mark j) link.tree;
-        search = search_rejected (tree_end
-            (end g w u j)) (tree_end beyond') inside ((w.at u).mark j) link.search;
-        tests = reject_here (test_end (end g w u j)) (test_end
-            beyond') l n ts waits link.tests link'.tests free same;
+      (ahead (λ z. LinkFits (NamesOf g w) (marked_end x q j z) there') (record {
+        tree = tree_rejected (tree_end (end g w u j)) (tree_end beyond') inside ((w.at u).mark j) link.tree;
+        search = search_rejected (tree_end (end g w u j)) (tree_end beyond') inside ((w.at u).mark j) link.search;
+        tests = reject_here (test_end (end g w u j)) (test_end beyond') l n ts waits link.tests link'.tests free same;
       }))
-      (ahead (λ z. LinkFits (NamesOf g w) there' (record {
-        port =
-            j;
-        key = (port_at g u j).key;
-        mark = z;
-        is = x;
-        seen = q;
-      })) (record {
-        tree = tree_rejected' (tree_end (end g w u j)) (tree_end
-            beyond') inside ((w.at u).mark j) link'.tree;
-        search = search_rejected' (tree_end (end g w u j)) (tree_end
-            beyond') inside ((w.at u).mark j) link'.search;
-        tests = reject_there (test_end (end g w u j)) (test_end
-            beyond') l n ts waits link.tests link'.tests free same;
+      (ahead (λ z. LinkFits (NamesOf g w) there' (marked_end x q j z)) (record {
+        tree = tree_rejected' (tree_end (end g w u j)) (tree_end beyond') inside ((w.at u).mark j) link'.tree;
+        search = search_rejected' (tree_end (end g w u j)) (tree_end beyond') inside ((w.at u).mark j) link'.search;
+        tests = reject_there (test_end (end g w u j)) (test_end beyond') l n ts waits link.tests link'.tests free same;
       }))
       (λ i at' ne a b.
-      aside x i ne refl (λ z.
-      LinkFits (NamesOf g w)
-      (record { port = i; key = (port_at g u i).key; mark = z; is = x; seen = w.seen u i })
-      (onto g wired u u_is x j at q [] [] (sends_none j) w i))
+      aside x i ne refl (λ z. LinkFits (NamesOf g w) (marked_end x (w.seen u i) i z) (far_end g w u i))
       (record { tree = a.tree; search = a.search; tests = a.tests }))
       (λ i at' ne a b.
-      aside x i ne refl (λ z.
-      LinkFits (NamesOf g w) (onto g wired u u_is x j at q [] [] (sends_none j) w i)
-      (record { port = i; key = (port_at g u i).key; mark = z; is = x; seen = w.seen u i }))
+      aside x i ne refl (λ z. LinkFits (NamesOf g w) (far_end g w u i) (marked_end x (w.seen u i) i z))
       (record { tree = b.tree; search = b.search; tests = b.tests }))
       (λ e. e) refl
       (sums_one g wired u u_is x j at q (Reject ∷ []) ((j, Reject) ∷ []) (sends_one j Reject) w holds.counted refl (λ i ne. refl) refl (λ i ne. refl))
@@ -190,6 +170,16 @@ module _ (g : Network) (wired : IsWired g) (u : ℕ) (u_is : InNetwork g u) (j :
   elsewhere : (i : ℕ) → i ≢ j → (w.at u).head.probe ≡ Some j → (w.at u).head.probe ≢ Some i
   elsewhere i ne own = λ z. ne (sym (same_Some j i (sym own ∙ z)))
 
+  -- where both ends probe the link, they are at their fragment's level and have its name
+  tops : (w.at u).head.probe ≡ Some j →
+      (w.at (far g u j)).head.probe ≡ Some (far_port g u j) →
+      (w.at u).fragment ≡ (w.at (far g u j)).fragment →
+      ((w.at u).head.level ≡ (w.at (far g u j)).head.level) × ((w.at u).head.name ≡ (w.at (far g u j)).head.name)
+  tops own p e =
+      let t = same_ghosts (sym e) in
+      tops_alike (w.at u) (w.at (far g u j)) here_fits.lag far_fits.lag (sym t.0) (sym t.1)
+      (here_fits.searching (probing_finds here_fits own)).level (far_fits.searching (probing_finds far_fits p)).level
+
   -- so does one that crosses one's own Test
   pub cross_inside : (l : ℕ) (n : Key) (ts : List (ℕ × Key)) →
       IsKeyed g →
@@ -198,16 +188,68 @@ module _ (g : Network) (wired : IsWired g) (u : ℕ) (u_is : InNetwork g u) (j :
       (w.at u).head.probe ≡ Some j →
       (w.at u).fragment ≡ (w.at (far g u j)).fragment
   cross_inside l n ts keyed waits name own =
-      cross_frag (test_end (end g w u j)) (test_end beyond') l n ts waits link.tests link'.tests own (λ p e. one_name n keyed name e) alike
+      cross_frag (test_end (end g w u j)) (test_end beyond') l n ts waits link.tests link'.tests own (λ p e. one_name n keyed name e) (tops own)
+
+  -- what u's probe has brought says that the far end lies inside: the mark turns Rejected, and the probe is dropped
+  probe_rejected : (ts : List (ℕ × Key)) (r : ℕ) →
+      (w.at u).head.probe ≡ Some j →
+      (w.at u).fragment ≡ (w.at (far g u j)).fragment →
+      TestsFit (test_end (marked_end (took_reject (w.at u) j) (record (w.seen u j) { tests = ts; rejects = r }) j (rejected ((w.at u).mark j))))
+      (test_end beyond') →
+      TestsFit (test_end beyond')
+      (test_end (marked_end (took_reject (w.at u) j) (record (w.seen u j) { tests = ts; rejects = r }) j (rejected ((w.at u).mark j)))) →
+      Invariant g (acts g u (took_reject (w.at u) j) (put (w.seen u) j (record (w.seen u j) { tests = ts; rejects = r })) [] w)
+  probe_rejected ts r own inside tests_here tests_there =
+      kept_one g wired u u_is x j at q [] [] (sends_none j) w
+      (record {
+        alike = record { fragment = refl; coming = refl; coming_name = refl; up = refl; branch = branch_marked (w.at u).mark j };
+        found = λ e. e;
+        mine = λ e. e;
+        theirs = λ e. e;
+      })
+      holds
+      (node_turned (length (g.ports u)) (w.at u) (marked (w.at u).mark j) None _ _ here_fits (λ z. cc (finds, z))
+      (branch_marked (w.at u).mark j) (within_marked (w.at u).mark j _ at.port here_fits.own_ports.mark)
+      (λ p z. absurd (not_some None p refl z)) (λ z. (refl, (here_fits.idle z).1))
+      here_fits.best_port)
+      (ahead (λ z. LinkFits (NamesOf g w) (marked_end x q j z) beyond') (record {
+        tree = tree_rejected (tree_end (end g w u j)) (tree_end beyond') inside ((w.at u).mark j) link.tree;
+        search = search_rejected (tree_end (end g w u j)) (tree_end beyond') inside ((w.at u).mark j) link.search;
+        tests = tests_here;
+      }))
+      (ahead (λ z. LinkFits (NamesOf g w) beyond' (marked_end x q j z)) (record {
+        tree = tree_rejected' (tree_end (end g w u j)) (tree_end beyond') inside ((w.at u).mark j) link'.tree;
+        search = search_rejected' (tree_end (end g w u j)) (tree_end beyond') inside ((w.at u).mark j) link'.search;
+        tests = tests_there;
+      }))
+      (λ i at' ne a b.
+      aside x i ne refl (λ z. LinkFits (NamesOf g w) (marked_end x (w.seen u i) i z) (far_end g w u i)) (record {
+        tree = a.tree;
+        search = a.search;
+        tests =
+            tests_aside (test_end (end g w u i)) (test_end (far_end g w u i)) None _ _ (elsewhere i ne own) (not_some None i refl) (le_refl _)
+            a.tests b.tests;
+      }))
+      (λ i at' ne a b.
+      aside x i ne refl (λ z. LinkFits (NamesOf g w) (far_end g w u i) (marked_end x (w.seen u i) i z)) (record {
+        tree = b.tree;
+        search = b.search;
+        tests =
+            tests_aside' (test_end (end g w u i)) (test_end (far_end g w u i)) None _ (w.at u).head.name (elsewhere i ne own)
+            (not_some None i refl) (le_refl _)
+            a.tests b.tests;
+      }))
+      (λ e. e) refl
+      (sums_one g wired u u_is x j at q [] [] (sends_none j) w holds.counted refl (λ i ne. refl) refl (λ i ne. refl))
     where
-      alike :
-          (w.at (far g u j)).head.probe ≡ Some (far_port g u j) →
-          (w.at u).fragment ≡ (w.at (far g u j)).fragment →
-          ((w.at u).head.level ≡ (w.at (far g u j)).head.level) × ((w.at u).head.name ≡ (w.at (far g u j)).head.name)
-      alike p e =
-          let t = same_ghosts (sym e) in
-          tops_alike (w.at u) (w.at (far g u j)) here_fits.lag far_fits.lag (sym t.0) (sym t.1)
-          (here_fits.searching (probing_finds here_fits own)).level (far_fits.searching (probing_finds far_fits p)).level
+      x : Member
+      x = took_reject (w.at u) j
+
+      q : Seen
+      q = record (w.seen u j) { tests = ts; rejects = r }
+
+      finds : (w.at u).head.phase ≡ Find
+      finds = probing_finds here_fits own
 
   -- a Test of one's own name that crosses one's own Test
   pub crosses : (l : ℕ) (n : Key) (ts : List (ℕ × Key)) →
@@ -217,106 +259,9 @@ module _ (g : Network) (wired : IsWired g) (u : ℕ) (u_is : InNetwork g u) (j :
       (w.at u).head.probe ≡ Some j →
       Invariant g (acts g u (took_reject (w.at u) j) (left_tests w u j ts) [] w)
   crosses l n ts keyed waits name own =
-      kept_one g wired u u_is x j at q [] [] (sends_none j) w
-      (record {
-        alike = record { fragment = refl; coming = refl; coming_name = refl; up = refl; branch = branch_marked (w.at u).mark j };
-        found = λ e. e;
-        mine = λ e. e;
-        theirs = λ e. e;
-      })
-      holds
-      (node_turned (length (g.ports u)) (w.at u) (marked (w.at u).mark j) None _ _ here_fits (λ z. cc (finds, z))
-      (branch_marked (w.at u).mark j) (within_marked (w.at u).mark j _ at.port here_fits.own_ports.mark)
-      (λ p z. absurd (not_some None p refl z)) (λ z. (refl, (here_fits.idle z).1))
-      here_fits.best_port)
-      (ahead (λ z. LinkFits (NamesOf g w) (record {
-        port =
-            j;
-        key = (port_at g u j).key;
-        mark = z;
-        is = x;
-        seen = q;
-      }) beyond') (record {
-        tree = tree_rejected (tree_end
-            (end g w u j)) (tree_end beyond') inside ((w.at u).mark j) link.tree;
-        search = search_rejected (tree_end
-            (end g w u j)) (tree_end beyond') inside ((w.at u).mark j) link.search;
-        tests = cross_here (test_end (end g w u j)) (test_end
-            beyond') l n ts waits link.tests link'.tests own same alike;
-      }))
-      (ahead (λ z. LinkFits (NamesOf g w) beyond' (record {
-        port =
-            j;
-        key = (port_at g u j).key;
-        mark = z;
-        is = x;
-        seen = q;
-      })) (record {
-        tree = tree_rejected' (tree_end (end g w u j)) (tree_end
-            beyond') inside ((w.at u).mark j) link'.tree;
-        search = search_rejected' (tree_end (end g w u j)) (tree_end
-            beyond') inside ((w.at u).mark j) link'.search;
-        tests = cross_there (test_end (end g w u j)) (test_end
-            beyond') l n ts waits link.tests link'.tests own same alike;
-      }))
-      (λ i at' ne a b. aside x i ne refl (λ z. LinkFits (NamesOf g w) (record {
-        port =
-            i;
-        key = (port_at g u i).key;
-        mark = z;
-        is = x;
-        seen = w.seen u i;
-      }) (onto g wired u u_is x j at q [] [] (sends_none
-      j) w i)) (record {
-        tree = a.tree;
-        search = a.search;
-        tests = tests_aside (test_end (end g w u i)) (test_end
-            (onto g wired u u_is x j at q [] [] (sends_none j) w i)) None _ _ (elsewhere i ne own) (not_some None i refl) (le_refl
-            _) a.tests b.tests;
-      }))
-      (λ i at' ne a b. aside x i ne refl (λ z. LinkFits (NamesOf g w) (onto g wired u u_is x j at q [] [] (sends_none j) w i) (record {
-        port =
-            i;
-        key = (port_at g u i).key;
-        mark = z;
-        is = x;
-        seen = w.seen u i;
-      })) (record {
-        tree = b.tree;
-        search = b.search;
-        tests = tests_aside' (test_end (end g w u i)) (test_end
-            (onto g wired u u_is x j at q [] [] (sends_none j) w i)) None _ (w.at u).head.name (elsewhere i ne own) (not_some None i
-            refl) (le_refl _) a.tests b.tests;
-      }))
-      (λ e. e) refl
-      (sums_one g wired u u_is x j at q [] [] (sends_none j) w holds.counted refl (λ i ne. refl) refl (λ i ne. refl))
-    where
-      x : Member
-      x = took_reject (w.at u) j
-
-      q : Seen
-      q = record (w.seen u j) { tests = ts }
-
-      finds : (w.at u).head.phase ≡ Find
-      finds = probing_finds here_fits own
-
-      same :
-          (w.at (far g u j)).head.probe ≡ Some (far_port g u j) →
-          (w.at (far g u j)).head.name ≡ Some n →
-          (w.at u).fragment ≡ (w.at (far g u j)).fragment
-      same p e = one_name n keyed name e
-
-      alike :
-          (w.at (far g u j)).head.probe ≡ Some (far_port g u j) →
-          (w.at u).fragment ≡ (w.at (far g u j)).fragment →
-          ((w.at u).head.level ≡ (w.at (far g u j)).head.level) × ((w.at u).head.name ≡ (w.at (far g u j)).head.name)
-      alike p e =
-          let t = same_ghosts (sym e) in
-          tops_alike (w.at u) (w.at (far g u j)) here_fits.lag far_fits.lag (sym t.0) (sym t.1) (here_fits.searching finds).level
-          (far_fits.searching (probing_finds far_fits p)).level
-
-      inside : (w.at u).fragment ≡ (w.at (far g u j)).fragment
-      inside = cross_frag (test_end (end g w u j)) (test_end beyond') l n ts waits link.tests link'.tests own same alike
+      probe_rejected ts (w.seen u j).rejects own (cross_inside l n ts keyed waits name own)
+      (cross_here (test_end (end g w u j)) (test_end beyond') l n ts waits link.tests link'.tests own (λ p e. one_name n keyed name e) (tops own))
+      (cross_there (test_end (end g w u j)) (test_end beyond') l n ts waits link.tests link'.tests own (λ p e. one_name n keyed name e) (tops own))
 
   -- a Reject is heard
   pub hears_reject : (r : ℕ) →
@@ -324,91 +269,10 @@ module _ (g : Network) (wired : IsWired g) (u : ℕ) (u_is : InNetwork g u) (j :
       (w.at u).head.probe ≡ Some j →
       Invariant g (acts g u (took_reject (w.at u) j) (left_rejects w u j r) [] w)
   hears_reject r waits own =
-      kept_one g wired u u_is x j at q [] [] (sends_none j) w
-      (record {
-        alike = record { fragment = refl; coming = refl; coming_name = refl; up = refl; branch = branch_marked (w.at u).mark j };
-        found = λ e. e;
-        mine = λ e. e;
-        theirs = λ e. e;
-      })
-      holds
-      (node_turned (length (g.ports u)) (w.at u) (marked (w.at u).mark j) None _ _ here_fits (λ z. cc (finds, z))
-      (branch_marked (w.at u).mark j) (within_marked (w.at u).mark j _ at.port here_fits.own_ports.mark)
-      (λ p z. absurd (not_some None p refl z)) (λ z. (refl, (here_fits.idle z).1))
-      here_fits.best_port)
-      (ahead (λ z. LinkFits (NamesOf g w) (record {
-        port =
-            j;
-        key = (port_at g u j).key;
-        mark = z;
-        is = x;
-        seen = q;
-      }) beyond') (record {
-        tree = tree_rejected (tree_end
-            (end g w u j)) (tree_end beyond') inside ((w.at u).mark j) link.tree;
-        search = search_rejected (tree_end
-            (end g w u j)) (tree_end beyond') inside ((w.at u).mark j) link.search;
-        tests = rejected_here (test_end (end g w u j)) (test_end
-            beyond') own link.tests link'.tests r waits;
-      }))
-      (ahead (λ z. LinkFits (NamesOf g w) beyond' (record {
-        port =
-            j;
-        key = (port_at g u j).key;
-        mark = z;
-        is = x;
-        seen = q;
-      })) (record {
-        tree = tree_rejected' (tree_end (end g w u j)) (tree_end
-            beyond') inside ((w.at u).mark j) link'.tree;
-        search = search_rejected' (tree_end (end g w u j)) (tree_end
-            beyond') inside ((w.at u).mark j) link'.search;
-        tests = rejected_there (test_end (end g w u j)) (test_end
-            beyond') own link.tests link'.tests r waits;
-      }))
-      (λ i at' ne a b. aside x i ne refl (λ z. LinkFits (NamesOf g w) (record {
-        port =
-            i;
-        key = (port_at g u i).key;
-        mark = z;
-        is = x;
-        seen = w.seen u i;
-      }) (onto g wired u u_is x j at q [] [] (sends_none
-      j) w i)) (record {
-        tree = a.tree;
-        search = a.search;
-        tests = tests_aside (test_end (end g w u i)) (test_end
-            (onto g wired u u_is x j at q [] [] (sends_none j) w i)) None _ _ (elsewhere i ne own) (not_some None i refl) (le_refl
-            _) a.tests b.tests;
-      }))
-      (λ i at' ne a b. aside x i ne refl (λ z. LinkFits (NamesOf g w) (onto g wired u u_is x j at q [] [] (sends_none j) w i) (record {
-        port =
-            i;
-        key = (port_at g u i).key;
-        mark = z;
-        is = x;
-        seen = w.seen u i;
-      })) (record {
-        tree = b.tree;
-        search = b.search;
-        tests = tests_aside' (test_end (end g w u i)) (test_end
-            (onto g wired u u_is x j at q [] [] (sends_none j) w i)) None _ (w.at u).head.name (elsewhere i ne own) (not_some None i
-            refl) (le_refl _) a.tests b.tests;
-      }))
-      (λ e. e) refl
-      (sums_one g wired u u_is x j at q [] [] (sends_none j) w holds.counted refl (λ i ne. refl) refl (λ i ne. refl))
-    where
-      x : Member
-      x = took_reject (w.at u) j
-
-      q : Seen
-      q = record (w.seen u j) { rejects = r }
-
-      finds : (w.at u).head.phase ≡ Find
-      finds = probing_finds here_fits own
-
-      inside : (w.at u).fragment ≡ (w.at (far g u j)).fragment
-      inside = sym (rejected_facts (test_end (end g w u j)) (test_end beyond') own link.tests link'.tests r waits).0
+      probe_rejected (w.seen u j).tests r own
+      (sym (rejected_facts (test_end (end g w u j)) (test_end beyond') own link.tests link'.tests r waits).0)
+      (rejected_here (test_end (end g w u j)) (test_end beyond') own link.tests link'.tests r waits)
+      (rejected_there (test_end (end g w u j)) (test_end beyond') own link.tests link'.tests r waits)
 
   -- the next Test goes out, where a Basic port is left
   pub scans : (n : Key) →
