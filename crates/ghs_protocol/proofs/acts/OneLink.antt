@@ -32,6 +32,21 @@ pub sends_one : (j : ℕ) (m : Message) → SendsOn j (m ∷ []) ((j, m) ∷ [])
 sends_one j m = record { only = rw (eq-eqb j j refl) refl; none = λ i ne. rw (ne_eqb j i (λ e. ne (sym e))) refl }
 
 -- a fact of all links, at the two ends of u's
+-- a node's find_count is what its neighbours owe it
+pub debts_here : (g : Network) → IsWired g → (w : Scene) → DebtsCounted g w → (u : ℕ) → InNetwork g u →
+    (w.at u).head.find_count ≡ sum_below (length (g.ports u)) (λ i. debt (end g w u i) (far_end g w u i))
+debts_here g wired w counted u is =
+    counted u is ∙ sum_same (length (g.ports u)) _ _ (λ i lt. ap (debt (end g w u i)) (far_is_end i (record { some = is.some; node = is.node; port = lt })))
+  where
+    far_is_end : (i : ℕ) → At g u i → end g w (far g u i) (far_port g u i) ≡ far_end g w u i
+    far_is_end i at = λ k. record {
+      port = far_port g u i;
+      key = wired.same_key u i at k;
+      mark = (w.at (far g u i)).mark (far_port g u i);
+      is = w.at (far g u i);
+      seen = seen_beyond g w u i;
+    }
+
 module _ (g : Network) (wired : IsWired g) (w : Scene) (P : End → End → Type 0)
     (all : (v p : ℕ) → At g v p → P (end g w v p) (end g w (far g v p) (far_port g v p))) (u i : ℕ) (at : At g u i) where
   far_is : end g w (far g u i) (far_port g u i) ≡ far_end g w u i
@@ -152,20 +167,25 @@ module _ (g : Network) (wired : IsWired g) (u : ℕ) (u_is : InNetwork g u) (x :
       hj = ap₂ debt near_here far_there
 
       old : (w.at u).head.find_count ≡ sum_below (length (g.ports u)) f
-      old =
-          counted u u_is ∙
-          sum_same (length (g.ports u)) _ _ (λ i lt.
-          let at' : At g u i = record { some = u_is.some; node = u_is.node; port = lt } in
-          ap (debt (end g w u i)) (λ k. record {
-            port = far_port g u i;
-            key = wired.same_key u i at' k;
-            mark = (w.at (far g u i)).mark (far_port g u i);
-            is = w.at (far g u i);
-            seen = seen_beyond g w u i;
-          }))
+      old = debts_here g wired w counted u u_is
 
       total : x.head.find_count ≡ sum_below (length (g.ports u)) h
       total = omega (arith, one, hj, old, count)
+
+  -- the clauses of the links that aren't touched, from each end
+  abbrev pub AsideNear : Type 0
+  AsideNear =
+      (i : ℕ) → At g u i → i ≢ j →
+      LinkFits (NamesOf g w) (end g w u i) (onto i) →
+      LinkFits (NamesOf g w) (onto i) (end g w u i) →
+      LinkFits (NamesOf g w) (still i) (onto i)
+
+  abbrev pub AsideFar : Type 0
+  AsideFar =
+      (i : ℕ) → At g u i → i ≢ j →
+      LinkFits (NamesOf g w) (end g w u i) (onto i) →
+      LinkFits (NamesOf g w) (onto i) (end g w u i) →
+      LinkFits (NamesOf g w) (onto i) (still i)
 
   -- all together, where what rests is seen to otherwise
   pub kept_at :
@@ -175,16 +195,8 @@ module _ (g : Network) (wired : IsWired g) (u : ℕ) (u_is : InNetwork g u) (x :
       NodeFits (length (g.ports u)) x →
       LinkFits (NamesOf g w) here there →
       LinkFits (NamesOf g w) there here →
-      ((i : ℕ) → At g u i →
-      i ≢ j →
-      LinkFits (NamesOf g w) (end g w u i) (onto i) →
-      LinkFits (NamesOf g w) (onto i) (end g w u i) →
-      LinkFits (NamesOf g w) (still i) (onto i)) →
-      ((i : ℕ) → At g u i →
-      i ≢ j →
-      LinkFits (NamesOf g w) (end g w u i) (onto i) →
-      LinkFits (NamesOf g w) (onto i) (end g w u i) →
-      LinkFits (NamesOf g w) (onto i) (still i)) →
+      AsideNear →
+      AsideFar →
       (x.head.phase ≡ Sleeping → (w.at u).head.phase ≡ Sleeping) →
       x.head.name ≡ (w.at u).head.name →
       DebtsCounted g then →
@@ -264,30 +276,10 @@ module _ (g : Network) (wired : IsWired g) (u : ℕ) (u_is : InNetwork g u) (x :
         NodeFits (length (g.ports u)) x →
         LinkFits (NamesOf g w) here there →
         LinkFits (NamesOf g w) there here →
-        ((i : ℕ) → At g u i →
-        i ≢ j →
-        LinkFits (NamesOf g w) (end g w u i) (onto i) →
-        LinkFits (NamesOf g w) (onto i) (end g w u i) →
-        LinkFits (NamesOf g w) (still i) (onto i)) →
-        ((i : ℕ) → At g u i →
-        i ≢ j →
-        LinkFits (NamesOf g w) (end g w u i) (onto i) →
-        LinkFits (NamesOf g w) (onto i) (end g w u i) →
-        LinkFits (NamesOf g w) (onto i) (still i)) →
+        AsideNear →
+        AsideFar →
         (x.head.phase ≡ Sleeping → (w.at u).head.phase ≡ Sleeping) →
         x.head.name ≡ (w.at u).head.name →
         DebtsCounted g then →
         Invariant g then
-    unfolding own
-    kept_one holds node hit hit' miss miss' awake name counted =
-        kept_after g wired u u_is x own ss w holds calm.alike node
-        (by_port (LinkFits (NamesOf g w)) hit (λ i at' ne. miss i at' ne (was_near i at') (was_far i at')))
-        (by_port' (LinkFits (NamesOf g w)) hit' (λ i at' ne. miss' i at' ne (was_near i at') (was_far i at'))) awake
-        (λ k e. subst (λ a. Names g (forest w) a k) (sym calm.alike.fragment) (holds.named u k u_is (sym name ∙ e)))
-        (resting_calm holds.resting) counted
-      where
-        was_near : (i : ℕ) → At g u i → LinkFits (NamesOf g w) (end g w u i) (onto i)
-        was_near i at' = at_near g wired w (LinkFits (NamesOf g w)) holds.links u i at'
-
-        was_far : (i : ℕ) → At g u i → LinkFits (NamesOf g w) (onto i) (end g w u i)
-        was_far i at' = at_far g wired w (LinkFits (NamesOf g w)) holds.links u i at'
+    kept_one holds = kept_at calm.alike (resting_calm holds.resting) holds

@@ -20,7 +20,7 @@ use Rattle.ghs_protocol.specs.Living.{Unended}
 use Rattle.ghs_protocol.proofs.clauses.UnderWay.{Living}
 use Rattle.ghs_protocol.proofs.tests.Links.{probe_is}
 use Rattle.ghs_protocol.proofs.acts.Situations.{is_find'}
-use Rattle.ghs_protocol.proofs.progress.Scenes.{tree_waits, test_waits, AllOf, AllTests, SeenWaits, not_stuck}
+use Rattle.ghs_protocol.proofs.progress.Scenes.{ConnectsLeast, tree_waits, test_waits, AllOf, AllTests, SeenWaits, not_stuck}
 
 -- a message waits
 abbrev pub node_waits : NodeState → ℕ → Message → Type 0
@@ -171,15 +171,7 @@ module _ (g : Network) (w : Net) (S : ℕ → Bool) where
 module _ (g : Network) (ground : Ground g) (w : Net) (gh : Ghost) (holds : Invariant g (scene w gh)) (lives : Living g (scene w gh))
     (S : ℕ → Bool) (going : Unended g w S) where
   -- a message that doesn't wait, if the Connects under way go over least links
-  pub goes_on :
-      ((a j : ℕ) → At g a j →
-      ((scene w gh).at a).mark j ≡ Branch →
-      is_branch (((scene w gh).at (far g a j)).mark (far_port g a j)) ≡ false →
-      (u q : ℕ) → At g u q →
-      gh.fragment u ≡ gh.fragment a →
-      gh.fragment (far g u q) ≢ gh.fragment a →
-      key_lt (port_at g u q).key (port_at g a j).key ≡ false) →
-      Found_one g w S
+  pub goes_on : ConnectsLeast g (scene w gh) → Found_one g w S
   goes_on least =
       ⊎_elim (λ h. h)
       (λ all.

@@ -16,7 +16,7 @@ use Rattle.ghs_protocol.proofs.clauses.Whole.{Invariant}
 use Rattle.ghs_protocol.specs.Living.{Waits, Unended, GoesOn}
 use Rattle.ghs_protocol.proofs.clauses.UnderWay.{Living}
 use Rattle.ghs_protocol.specs.Living as living
-use Rattle.ghs_protocol.proofs.progress.Scenes.{AllOf}
+use Rattle.ghs_protocol.proofs.progress.Scenes.{ConnectsLeast, AllOf}
 use Rattle.ghs_protocol.proofs.progress.Found.{node_waits, Found_one, goes_on}
 use Rattle.ghs_protocol.proofs.progress.OneWaits.{few}
 
@@ -41,15 +41,7 @@ all_so n p (x ∷ xs) h = All-cons (Waits n p) x xs (so n p x h.0) (all_so n p x
 module _ (g : Network) (ground : Ground g) (w : Net) (gh : Ghost) (holds : Invariant g (scene w gh)) (lives : Living g (scene w gh))
     (S : ℕ → Bool) (going : Unended g w S) where
   -- behind one message that waits at most, one that doesn't
-  pub progress :
-      ((a j : ℕ) → At g a j →
-      ((scene w gh).at a).mark j ≡ Branch →
-      is_branch (((scene w gh).at (far g a j)).mark (far_port g a j)) ≡ false →
-      (u q : ℕ) → At g u q →
-      gh.fragment u ≡ gh.fragment a →
-      gh.fragment (far g u q) ≢ gh.fragment a →
-      key_lt (port_at g u q).key (port_at g a j).key ≡ false) →
-      GoesOn g w S
+  pub progress : ConnectsLeast g (scene w gh) → GoesOn g w S
   progress least = go (goes_on g ground w gh holds lives S going least)
     where
       go : Found_one g w S → GoesOn g w S

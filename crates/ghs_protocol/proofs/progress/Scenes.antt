@@ -122,6 +122,17 @@ above : (m : Member) (l : ℕ) (n : Option Key) (ts : List (ℕ × Key)) →
 above m l n [] le a b = absurd (omega (arith, le))
 above m l n (t ∷ ts) le a b = let z : (m.head.phase ≢ Sleeping) × (m.head.level < t.0) = b.0 in (z.0, subst (λ x. m.head.level < x) a.0 z.1)
 
+-- a Connect under way goes over the least link that leaves its fragment
+abbrev pub ConnectsLeast : Network → Scene → Type 0
+ConnectsLeast g w =
+    (a j : ℕ) → At g a j →
+    (w.at a).mark j ≡ Branch →
+    is_branch ((w.at (far g a j)).mark (far_port g a j)) ≡ false →
+    (u q : ℕ) → At g u q →
+    (w.at u).fragment ≡ (w.at a).fragment →
+    (w.at (far g u q)).fragment ≢ (w.at a).fragment →
+    key_lt (port_at g u q).key (port_at g a j).key ≡ false
+
 module _ (g : Network) (ground : Ground g) (w : Scene) (holds : Invariant g w) (lives : Living g w)
     (S : ℕ → Bool) (closed : (v p : ℕ) → At g v p → S v ≡ true → S (far g v p) ≡ true)
     (stuck : (v p : ℕ) → At g v p → S v ≡ true → SeenWaits (w.at v) p (w.seen v p))
@@ -475,92 +486,82 @@ module _ (g : Network) (ground : Ground g) (w : Scene) (holds : Invariant g w) (
               Outward (record { node = z.node; port = z.port; at = z.at; member = z.member; same = z.same; here = branch_mark _ x; away = y })
           go (Both_ways x y t) = by_core z.node z.port z.member z.same (record { at = z.at; joined = x; up = y; up_beyond = t })
 
-  -- The Connect under way goes over the least link that leaves the fragment.
-  module _
-      (least : (a j : ℕ) →
-      At g a j →
-      (w.at a).mark j ≡ Branch →
-      is_branch ((w.at (far g a j)).mark (far_port g a j)) ≡ false →
-      (u q : ℕ) → At g u q →
-      (w.at u).fragment ≡ (w.at a).fragment →
-      (w.at (far g u q)).fragment ≢ (w.at a).fragment →
-      key_lt (port_at g u q).key (port_at g a j).key ≡ false)
-    where
-      module _ (l : ℕ) (low : (x : ℕ) → x < l → At_level x → ⊥) where
-        abbrev P : Key → Type 0
-        P k =
-            (a j : ℕ) → At g a j →
-            S a ≡ true →
-            (w.at a).coming ≡ l →
-            (w.at a).mark j ≡ Branch →
-            is_branch ((w.at (far g a j)).mark (far_port g a j)) ≡ false →
-            (port_at g a j).key ≡ k →
-            ⊥
+  module _ (least : ConnectsLeast g w) where
+    module _ (l : ℕ) (low : (x : ℕ) → x < l → At_level x → ⊥) where
+      abbrev P : Key → Type 0
+      P k =
+          (a j : ℕ) → At g a j →
+          S a ≡ true →
+          (w.at a).coming ≡ l →
+          (w.at a).mark j ≡ Branch →
+          is_branch ((w.at (far g a j)).mark (far_port g a j)) ≡ false →
+          (port_at g a j).key ≡ k →
+          ⊥
 
-        out_step : (k : Key) → ((j : Key) → key_lt j k ≡ true → P j) → P k
-        out_step k r a j at m c here away e = go (next y is' m' awake)
-          where
-            y : ℕ
-            y = far g a j
+      out_step : (k : Key) → ((j : Key) → key_lt j k ≡ true → P j) → P k
+      out_step k r a j at m c here away e = go (next y is' m' awake)
+        where
+          y : ℕ
+          y = far g a j
 
-            at' : At g (far g a j) (far_port g a j)
-            at' = ground.wired.there a j at
+          at' : At g (far g a j) (far_port g a j)
+          at' = ground.wired.there a j at
 
-            is' : InNetwork g (far g a j)
-            is' = record { some = at'.some; node = at'.node }
+          is' : InNetwork g (far g a j)
+          is' = record { some = at'.some; node = at'.node }
 
-            m' : S (far g a j) ≡ true
-            m' = closed a j at m
+          m' : S (far g a j) ≡ true
+          m' = closed a j at m
 
-            under : ConnectUnderWay (tree_end (end g w a j)) (tree_end (end g w (far g a j) (far_port g a j)))
-            under = connect a j at here away
+          under : ConnectUnderWay (tree_end (end g w a j)) (tree_end (end g w (far g a j) (far_port g a j)))
+          under = connect a j at here away
 
-            waits : tree_waits (w.at (far g a j)) (far_port g a j) (Connect (w.at a).head.level)
-            waits = connect_waits a j at m here away
+          waits : tree_waits (w.at (far g a j)) (far_port g a j) (Connect (w.at a).head.level)
+          waits = connect_waits a j at m here away
 
-            awake : (w.at (far g a j)).head.phase ≢ Sleeping
-            awake = waits.0
+          awake : (w.at (far g a j)).head.phase ≢ Sleeping
+          awake = waits.0
 
-            comes : (w.at (far g a j)).coming ≡ l
-            comes =
-                let t = top (far g a j) is' m' awake in let x = waits.1 in let h = under.higher in let v = under.level in omega (arith, t, x, h, v, c)
+          comes : (w.at (far g a j)).coming ≡ l
+          comes =
+              let t = top (far g a j) is' m' awake in let x = waits.1 in let h = under.higher in let v = under.level in omega (arith, t, x, h, v, c)
 
-            go : Next (far g a j) → ⊥
-            go (Lower x lt z) = low x (omega (arith, lt, comes)) z
-            go (Outward o) =
-                ⊎_elim (λ h.
-                r (port_at g o.node o.port).key (subst (λ z. key_lt (port_at g o.node o.port).key z ≡ true) e h) o.node o.port o.at o.member
-                (alike o.node (far g a j) o.same ∙ comes) o.here o.away refl)
-                (λ h. same h) (cases_Bool _)
-              where
-                not_less : key_lt (port_at g a j).key (port_at g o.node o.port).key ≡ false
-                not_less =
-                    subst (λ z. key_lt z (port_at g o.node o.port).key ≡ false) (ground.wired.same_key a j at)
-                    (least o.node o.port o.at o.here o.away (far g a j) (far_port g a j) at' (sym o.same)
-                    (λ h. under.apart (sym o.same ∙ sym h ∙ ap (λ z. (w.at z).fragment) (ground.wired.back a j at))))
+          go : Next (far g a j) → ⊥
+          go (Lower x lt z) = low x (omega (arith, lt, comes)) z
+          go (Outward o) =
+              ⊎_elim (λ h.
+              r (port_at g o.node o.port).key (subst (λ z. key_lt (port_at g o.node o.port).key z ≡ true) e h) o.node o.port o.at o.member
+              (alike o.node (far g a j) o.same ∙ comes) o.here o.away refl)
+              (λ h. same h) (cases_Bool _)
+            where
+              not_less : key_lt (port_at g a j).key (port_at g o.node o.port).key ≡ false
+              not_less =
+                  subst (λ z. key_lt z (port_at g o.node o.port).key ≡ false) (ground.wired.same_key a j at)
+                  (least o.node o.port o.at o.here o.away (far g a j) (far_port g a j) at' (sym o.same)
+                  (λ h. under.apart (sym o.same ∙ sym h ∙ ap (λ z. (w.at z).fragment) (ground.wired.back a j at))))
 
-                same : key_lt (port_at g o.node o.port).key (port_at g a j).key ≡ false → ⊥
-                same h =
-                    ⊎_elim (λ t. under.apart (sym o.same ∙ ap (λ z. (w.at z).fragment) (sym t.0)))
-                    (λ t.
-                    let b : (w.at (far g a j)).mark (far_port g a j) ≡ Branch = subst₂ (λ z q. (w.at z).mark q ≡ Branch) (sym t.0) (sym t.1) o.here in
-                    let x : Basic ≡ Branch = sym waits.2 ∙ b in cc)
-                    (ground.keyed a j o.node o.port at o.at (same_lt _ _ not_less h))
+              same : key_lt (port_at g o.node o.port).key (port_at g a j).key ≡ false → ⊥
+              same h =
+                  ⊎_elim (λ t. under.apart (sym o.same ∙ ap (λ z. (w.at z).fragment) (sym t.0)))
+                  (λ t.
+                  let b : (w.at (far g a j)).mark (far_port g a j) ≡ Branch = subst₂ (λ z q. (w.at z).mark q ≡ Branch) (sym t.0) (sym t.1) o.here in
+                  let x : Basic ≡ Branch = sym waits.2 ∙ b in cc)
+                  (ground.keyed a j o.node o.port at o.at (same_lt _ _ not_less h))
 
-        none_at : At_level l → ⊥
-        none_at z = go (next z.node z.is z.member z.awake)
-          where
-            go : Next z.node → ⊥
-            go (Lower x lt y) = low x (let c = z.comes in omega (arith, lt, c)) y
-            go (Outward o) =
-                key_descent P out_step (port_at g o.node o.port).key o.node o.port o.at o.member (alike o.node z.node o.same ∙ z.comes) o.here o.away
-                refl
+      none_at : At_level l → ⊥
+      none_at z = go (next z.node z.is z.member z.awake)
+        where
+          go : Next z.node → ⊥
+          go (Lower x lt y) = low x (let c = z.comes in omega (arith, lt, c)) y
+          go (Outward o) =
+              key_descent P out_step (port_at g o.node o.port).key o.node o.port o.at o.member (alike o.node z.node o.same ∙ z.comes) o.here o.away
+              refl
 
-      below_level : (n l : ℕ) → l < n → At_level l → ⊥
-      below_level zero l lt z = omega (arith, lt)
-      below_level (suc n) l lt z = none_at l (λ x le y. below_level n x (omega (arith, le, lt)) y) z
+    below_level : (n l : ℕ) → l < n → At_level l → ⊥
+    below_level zero l lt z = omega (arith, lt)
+    below_level (suc n) l lt z = none_at l (λ x le y. below_level n x (omega (arith, le, lt)) y) z
 
-      -- no net is stuck
-      pub not_stuck : (v : ℕ) → InNetwork g v → S v ≡ true → (w.at v).head.phase ≢ Sleeping → ⊥
-      not_stuck v is m awake =
-          below_level (suc (w.at v).coming) (w.at v).coming (omega arith) (record { node = v; is = is; member = m; awake = awake; comes = refl })
+    -- no net is stuck
+    pub not_stuck : (v : ℕ) → InNetwork g v → S v ≡ true → (w.at v).head.phase ≢ Sleeping → ⊥
+    not_stuck v is m awake =
+        below_level (suc (w.at v).coming) (w.at v).coming (omega arith) (record { node = v; is = is; member = m; awake = awake; comes = refl })

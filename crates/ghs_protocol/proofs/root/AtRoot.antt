@@ -17,7 +17,7 @@ use Rattle.ghs_protocol.proofs.clauses.Rest.{Quiet}
 use Rattle.ghs_protocol.proofs.clauses.Whole.{LinkFits, Invariant, NamesOf}
 use Rattle.ghs_protocol.proofs.clauses.Uniting.{SendsRoot, By_report, By_root}
 use Rattle.ghs_protocol.proofs.acts.OneLink.{at_near, at_far}
-use Rattle.ghs_protocol.proofs.search.FirstReport.{Joint, joint, Down_here, Down_there, On_core, On_moved, mark_is}
+use Rattle.ghs_protocol.proofs.search.FirstReport.{joined_by, Joint, joint, Down_here, Down_there, On_core, On_moved, mark_is}
 use Rattle.ghs_protocol.proofs.rest.Halt.{Back, Old, Half, back, owed_finds}
 use Rattle.ghs_protocol.proofs.rest.AtRest.{core_rests}
 
@@ -62,15 +62,7 @@ pub record Sent (e f : TreeEnd) (ms : List Message) : Type 0 where
 module _ {N : ℕ → Key → Type 0} (e f : TreeEnd) (he : TreeFits N e f) (hf : TreeFits N f e) (ups : Joins e f → Ups e ⊎ Ups f)
     (ms : List Message) (waits : e.tree ≡ ChangeRoot ∷ ms) where
   joined_root : Joins e f
-  joined_root =
-      ⊎_elim (λ a. ⊎_elim (λ b. record { here = a; there = b })
-      (λ b. absurd (let z = (he.out_connect (record { here = a; there = b })).none in cc))
-      (mark_is f.mark))
-      (λ a. ⊎_elim
-      (λ b. absurd (let z = (hf.out_connect (record { here = b; there = a })).one in cc))
-      (λ b. absurd (let z = he.silent a b in cc))
-      (mark_is f.mark))
-      (mark_is e.mark)
+  joined_root = joined_by e f he hf (λ z. cc) (λ l' z. cc)
 
   pub root_sent : Sent e f ms
   root_sent = go (joint e f joined_root (ups joined_root))

@@ -10,7 +10,7 @@ use Rattle.ghs_protocol.proofs.clauses.Scene.{TreeEnd}
 use Rattle.ghs_protocol.proofs.clauses.Links.{Joins, Ups, Child}
 use Rattle.ghs_protocol.proofs.clauses.TreeMessages.{Upward, Nothing_up, Report_up, Chain, Falls, Downward, Initiates, Old_report, Stage, Asking, Called, Begun, AtStage, Served, called, CoreQueue, Plain, With_report, Core, CoreFits, MovedFits, To_here, To_there, TreeFits}
 use Rattle.ghs_protocol.proofs.clauses.Search.{SearchFits}
-use Rattle.ghs_protocol.proofs.search.FirstReport.{Joint, joint, Down_here, Down_there, On_core, On_moved, mark_is, chain_rises}
+use Rattle.ghs_protocol.proofs.search.FirstReport.{joined_by, Joint, joint, Down_here, Down_there, On_core, On_moved, mark_is, chain_rises}
 
 -- a chain, and one Initiate more
 pub chain_more : (N : Key → Type 0) (top : ℕ) (name : Option Key) (t l k : ℕ) (f : Key) (s : Phase) (xs : List Message) →
@@ -57,15 +57,7 @@ module _ {N : ℕ → Key → Type 0} (e f : TreeEnd) (he : TreeFits N e f) (hf 
     (own : Joins e f → N e.fragment e.key) (lags : Joins e f → f.level ≤ e.coming) (l : ℕ) (n : Key) (s : Phase) (ms : List Message)
     (waits : e.tree ≡ Initiate l n s ∷ ms) where
   joins_call : Joins e f
-  joins_call =
-      ⊎_elim (λ a. ⊎_elim (λ b. record { here = a; there = b })
-      (λ b. absurd (let z = (he.out_connect (record { here = a; there = b })).none in cc))
-      (mark_is f.mark))
-      (λ a. ⊎_elim
-      (λ b. absurd (let z = (hf.out_connect (record { here = b; there = a })).one in cc))
-      (λ b. absurd (let z = he.silent a b in cc))
-      (mark_is f.mark))
-      (mark_is e.mark)
+  joins_call = joined_by e f he hf (λ z. cc) (λ l' z. cc)
 
   down : (c : Child e f) → Downward (N e.fragment) e f → Calls (N e.fragment) e f l n s ms
   down c (Initiates x) = record {

@@ -100,6 +100,22 @@ begun e v n Asking Begun k r ms at s served q = absurd served
 begun e v n Called b k r ms at s served q = absurd (let z = q in cc)
 begun e v n Begun b k r ms at s served q = at
 
+-- where a message waits that no lone Connect is, the link is joined
+pub joined_by : {N : ℕ → Key → Type 0} (e f : TreeEnd) →
+    TreeFits N e f →
+    TreeFits N f e →
+    e.tree ≢ [] →
+    ((l : ℕ) → e.tree ≢ Connect l ∷ []) →
+    Joins e f
+joined_by e f he hf some other = ⊎_elim here not_here (mark_is e.mark)
+  where
+    here : e.mark ≡ Branch → Joins e f
+    here a = ⊎_elim (λ b. record { here = a; there = b }) (λ b. absurd (some (he.out_connect (record { here = a; there = b })).none)) (mark_is f.mark)
+
+    not_here : e.mark ≢ Branch → Joins e f
+    not_here a =
+        ⊎_elim (λ b. absurd (other f.level (hf.out_connect (record { here = b; there = a })).one)) (λ b. absurd (some (he.silent a b))) (mark_is f.mark)
+
 pub record Heard (e f : TreeEnd) (k : Option Key) : Type 0 where
   pub child : Child f e
   pub tree : e.tree ≡ Report k ∷ []
@@ -108,15 +124,7 @@ pub record Heard (e f : TreeEnd) (k : Option Key) : Type 0 where
 module _ {N : ℕ → Key → Type 0} (e f : TreeEnd) (he : TreeFits N e f) (hf : TreeFits N f e) (ups : Joins e f → Ups e ⊎ Ups f)
     (k : Option Key) (ms : List Message) (waits : e.tree ≡ Report k ∷ ms) where
   pub joined : Joins e f
-  joined =
-      ⊎_elim (λ a. ⊎_elim (λ b. record { here = a; there = b })
-      (λ b. absurd (let z = (he.out_connect (record { here = a; there = b })).none in cc))
-      (mark_is f.mark))
-      (λ a. ⊎_elim
-      (λ b. absurd (let z = (hf.out_connect (record { here = b; there = a })).one in cc))
-      (λ b. absurd (let z = he.silent a b in cc))
-      (mark_is f.mark))
-      (mark_is e.mark)
+  joined = joined_by e f he hf (λ z. cc) (λ l' z. cc)
 
   pub heard_first : e.in_branch ≢ Some e.port → Heard e f k
   heard_first away = go (joint e f joined (ups joined))

@@ -26,7 +26,7 @@ use Rattle.ghs_protocol.specs.Steps.{sent_on}
 use Rattle.ghs_protocol.proofs.lemmas.Updates.{put_same, put_other}
 use Rattle.ghs_protocol.proofs.lemmas.Sums.{sum_same, term_le}
 use Rattle.ghs_protocol.proofs.acts.SameForest.{Alike, near', far', quiet_after, forest_after, sums_after, kept_after, not_branch}
-use Rattle.ghs_protocol.proofs.acts.OneLink.{at_near, at_far}
+use Rattle.ghs_protocol.proofs.acts.OneLink.{debts_here, at_near, at_far}
 use Rattle.ghs_protocol.proofs.tests.Links.{tests_aside, tests_aside', not_some}
 use Rattle.ghs_protocol.proofs.rest.StaysAtRest.{rests_alike}
 use Rattle.ghs_protocol.proofs.search.ReportGone.{debt_up, debt_one}
@@ -260,17 +260,7 @@ module _ (g : Network) (wired : IsWired g) (u : ℕ) (u_is : InNetwork g u) (j :
       f i = debt (end g w u i) (far_end g w u i)
 
       all : (w.at u).head.find_count ≡ sum_below (length (g.ports u)) f
-      all =
-          holds.counted u here ∙
-          sum_same (length (g.ports u)) _ _ (λ i lt.
-          let at'' : At g u i = record { some = u_is.some; node = u_is.node; port = lt } in
-          ap (debt (end g w u i)) (λ k. record {
-            port = far_port g u i;
-            key = wired.same_key u i at'' k;
-            mark = (w.at (far g u i)).mark (far_port g u i);
-            is = w.at (far g u i);
-            seen = seen_beyond g w u i;
-          }))
+      all = debts_here g wired w holds.counted u here
 
   value : ℕ → ℕ
   value i = cond (is_find s) (one_on xs 0 j i) 0
