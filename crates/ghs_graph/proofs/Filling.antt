@@ -188,7 +188,9 @@ one_filled n ks ss from m i qs old mid new among rising placed lt f wa wb = reco
     at_end v u at e more place right j low high le jl = ⊎_elim
         (λ (l : j < degree (take i ks) v). older v j low high le l)
         (λ ge.
-        let here : j ≡ at = (let c : degree (take (i + 1) ks) v ≡ degree (take (i + 1) ks) u = ap (λ x. degree (take (i + 1) ks) x) e in let d : degree (take i ks) v ≡ degree (take i ks) u = ap (λ x. degree (take i ks) x) e in omega arith) in
+        let after : degree (take (i + 1) ks) v ≡ degree (take (i + 1) ks) u = ap (λ x. degree (take (i + 1) ks) x) e in
+        let before : degree (take i ks) v ≡ degree (take i ks) u = ap (λ x. degree (take i ks) x) e in
+        let here : j ≡ at = omega arith in
         rw (here, e) (right (rw (← e) low) (rw (← e) high)))
         (cases_lt j (degree (take i ks) v))
 

@@ -10,7 +10,12 @@ use Rattle.std.proofs.lemmas.List.Sums.{sum_by-set, get_or-le-sum_by, sum_by-con
 use Rattle.ghs_node.specs.declared.message.Message.{Message}
 use Rattle.ghs_links.specs.Queue.{QueueState, no_queue, pushed, taken, without_first, counted, requeued, rotated}
 use Rattle.ghs_links.specs.Links.{HasQueue, SamePorts, Changes, state_at, queues_of, destination_of, total_of}
-use Rattle.ghs_links.specs.Kept.{Laid, AreInOrder, IsKept, HasPlace, start_of, part_of, node_at, port_at, seen, waiting_in}
+use Rattle.ghs_links.specs.Kept.{Laid, AreInOrder, IsKept, start_of, part_of, node_at, port_at, seen, waiting_in}
+
+-- the queue of port p of node v has its place
+pub record HasPlace (l : Laid) (v p : ℕ) : Type 0 where
+  pub node : v + 1 < length l.starts
+  pub port : start_of l v + p < start_of l (v + 1)
 
 -- In a rising list as many numbers are at most i as stand before the first greater one.
 

@@ -7,9 +7,9 @@ use Rattle.std.proofs.Math.Seq.{take-append_seam}
 use Rattle.ghs_node.specs.Words.{Outgoing}
 use Rattle.ghs_links.specs.Queue.{QueueState, no_queue}
 use Rattle.ghs_links.specs.Links.{HasQueue, KeepsLists, GoOut, HasRoomFor, state_at, destination_of}
-use Rattle.ghs_links.specs.Kept.{Laid, AreInOrder, IsKept, HasPlace, KeepsEach, HasRoomAt, start_of, part_of, port_at, seen}
+use Rattle.ghs_links.specs.Kept.{Laid, AreInOrder, IsKept, KeepsEach, HasRoomAt, start_of, part_of, port_at, seen}
 use Rattle.ghs_links.proofs.lemmas.Ports.{same_destination}
-use Rattle.ghs_links.proofs.Places.{place_within, has_place, place_has, place_of_port, state_is, destination_is, total_is, seen_count, part_length, part_at, same_ports, still_in_order}
+use Rattle.ghs_links.proofs.Places.{HasPlace, place_within, has_place, place_has, place_of_port, state_is, destination_is, total_is, seen_count, part_length, part_at, same_ports, still_in_order}
 
 -- a list that was written over whole
 pub written_over : {X : Type 0} (n : ℕ) (ws xs : List X) → n ≡ length xs → length ws ≡ length xs → take n (ws ++ drop (length ws) xs) ≡ ws

@@ -35,11 +35,6 @@ seen l = record {
   destinations = map (λ v. map (port_at l.starts) (part_of l.starts l.far v)) (range_with_len 0 (length l.starts - 1));
 }
 
--- the queue of port p of node v has its place
-pub record HasPlace (l : Laid) (v p : ℕ) : Type 0 where
-  pub node : v + 1 < length l.starts
-  pub port : start_of l v + p < start_of l (v + 1)
-
 -- the parts of the nodes in order, from the first place to the last; and each queue's far end is another place
 pub record AreInOrder (l : Laid) : Type 0 where
   pub some : 0 < length l.starts

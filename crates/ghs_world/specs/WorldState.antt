@@ -16,7 +16,8 @@ use Rattle.ghs_world.specs.Wakes.{may_wake}
 use Rattle.ghs_world.specs.Tickets.{TicketState}
 use Rattle.ghs_world.specs.Outs.{Outs, event_out, without, is_out, AllOut}
 
--- the net at home, in which all that is out stands where it was; which nodes wake by themselves; how many commits there may be; the events that are out, under the numbers of their tickets; and the last number that was given
+-- the net at home, in which all that is out stands where it was; which nodes wake by themselves; how many commits there may be;
+-- the events that are out, under the numbers of their tickets; and the last number that was given
 pub record WorldState : Type 0 where
   pub net : NetState
   pub wake : WakeSet

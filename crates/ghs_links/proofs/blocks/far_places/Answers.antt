@@ -5,7 +5,8 @@ use Rattle.ghs_links.proofs.blocks.far_places.Goals as goal
 pub bounds-starts-port : goal.bounds-starts-port
 bounds-starts-port c =
     let lt = rw c.ports-port-items.ensures at c.loop-port-test.true in
-    rw c.ports-port-items.ensures (far_inside c.args.graph.now c.nodes-nodes.ensures.graph c.args.starts.now c.requires (c.loop-i.i + 1) c.loop-port.port-index lt)
+    rw c.ports-port-items.ensures
+    (far_inside c.args.graph.now c.nodes-nodes.ensures.graph c.args.starts.now c.requires (c.loop-i.i + 1) c.loop-port.port-index lt)
 
 pub overflow_add-starts : goal.overflow_add-starts
 overflow_add-starts c =
@@ -16,4 +17,6 @@ overflow_add-starts c =
 pub loop-port-preserved : goal.loop-port-preserved
 loop-port-preserved c =
     let lt = rw c.ports-port-items.ensures at c.loop-port-test.true in
-    far_step c.args.graph.now c.nodes-nodes.ensures.graph c.args.starts.now c.requires c.loop-port.far.items _ c.loop-i.i c.loop-port.port-index _ (omega (arith, c.nodes-nodes.ensures.nodes)) lt c.loop-port.invariant (rw c.ports-port-items.ensures refl) c.in_ok-push.ensures.items
+    far_step c.args.graph.now c.nodes-nodes.ensures.graph c.args.starts.now c.requires c.loop-port.far.items _ c.loop-i.i
+    c.loop-port.port-index _ (omega (arith, c.nodes-nodes.ensures.nodes)) lt c.loop-port.invariant (rw c.ports-port-items.ensures refl)
+    c.in_ok-push.ensures.items

@@ -20,7 +20,10 @@ overflow_add-end c =
     omega (arith, few, e, c.loop-i.invariant.1)
 
 pub loop-i-preserved : goal.loop-i-preserved
-loop-i-preserved c = blocks_step _ c.nodes-nodes.ensures.graph c.loop-i.i c.loop-i.starts.items _ c.loop-i.widest c.loop-i.end _ _ (omega (arith, c.nodes-nodes.ensures.nodes)) c.loop-i.invariant (rw c.max-widest.ensures (grind (arith, common_steps))) (rw c.max-widest.ensures (grind (arith, common_steps))) (ap length c.ports-degree.ensures) c.in_ok-push-3.ensures.items
+loop-i-preserved c =
+    blocks_step _ c.nodes-nodes.ensures.graph c.loop-i.i c.loop-i.starts.items _ c.loop-i.widest c.loop-i.end _ _
+    (omega (arith, c.nodes-nodes.ensures.nodes)) c.loop-i.invariant (rw c.max-widest.ensures (grind (arith, common_steps)))
+    (rw c.max-widest.ensures (grind (arith, common_steps))) (ap length c.ports-degree.ensures) c.in_ok-push-3.ensures.items
 
 pub returns-clause-blocks : goal.returns-clause-blocks
 returns-clause-blocks c =
