@@ -18,7 +18,8 @@ use Rattle.ghs_protocol.specs.Halting.{Reacts}
 use Rattle.ghs_protocol.specs.Laws.{IsNetOf}
 use Rattle.ghs_protocol.specs.Living.{AnyLink, Waits}
 
--- Node v is as it was, and what waited there waits still, in its order and before whatever has come since; its events may happen as before, with the same reactions.
+-- Node v is as it was, and what waited there waits still, in its order and before whatever has come since; its events may happen
+-- as before, with the same reactions.
 pub record LeftAlone (g : Network) (v : ℕ) (w w' : Net) : Type 0 where
   pub node : w'.node v ≡ w.node v
   pub queue : (p : ℕ) → (came : List Message) × (w'.queue v p ≡ w.queue v p ++ came)

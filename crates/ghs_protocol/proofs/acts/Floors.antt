@@ -209,7 +209,8 @@ module _ (g : Network) (wired : IsWired g) (w : Scene) (holds : Invariant g w) (
             (w.at (far g t q)).fragment ≢ (w.at u).fragment →
             key_lt (port_at g t q).key (port_at g u b).key ≡ false
         least t q at' same away =
-            let z = leads_above u j at (record { here = ap is_branch root.joins.here; there = ap is_branch root.joins.there }) root.up root.up_beyond (Some (Some (port_at g u b).key))
+            let joined : IsJoinedIn g (forest w) u j = record { here = ap is_branch root.joins.here; there = ap is_branch root.joins.there } in
+            let z = leads_above u j at joined root.up root.up_beyond (Some (Some (port_at g u b).key))
             (subst (λ x. lower (Some (Some (port_at g u b).key)) x ≡ true) (sym is_floor) (lower_self (Some (Some (port_at g u b).key))))
             (subst (λ x. lower x (floor (far g u j)) ≡ true) is_floor floors_here.theirs) (λ e. cc (e, found)) t q at' same away in
             not_above (port_at g u b).key (port_at g t q).key z

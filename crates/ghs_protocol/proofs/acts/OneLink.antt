@@ -36,7 +36,8 @@ sends_one j m = record { only = rw (eq-eqb j j refl) refl; none = λ i ne. rw (n
 pub debts_here : (g : Network) → IsWired g → (w : Scene) → DebtsCounted g w → (u : ℕ) → InNetwork g u →
     (w.at u).head.find_count ≡ sum_below (length (g.ports u)) (λ i. debt (end g w u i) (far_end g w u i))
 debts_here g wired w counted u is =
-    counted u is ∙ sum_same (length (g.ports u)) _ _ (λ i lt. ap (debt (end g w u i)) (far_is_end i (record { some = is.some; node = is.node; port = lt })))
+    counted u is ∙
+    sum_same (length (g.ports u)) _ _ (λ i lt. ap (debt (end g w u i)) (far_is_end i (record { some = is.some; node = is.node; port = lt })))
   where
     far_is_end : (i : ℕ) → At g u i → end g w (far g u i) (far_port g u i) ≡ far_end g w u i
     far_is_end i at = λ k. record {

@@ -56,7 +56,8 @@ module _ (g : Network) (wired : IsWired g) where
           k;
     }
 
-    -- A fact of both sides of each link, which may name the link's place, holds after an act if it holds then at the links of the node that acts, seen from either side.
+    -- A fact of both sides of each link, which may name the link's place, holds after an act if it holds then at the links of the
+    -- node that acts, seen from either side.
     pub acts_at : (P : ℕ → ℕ → Side X Q → Side X Q → Type 0) →
         ((v p : ℕ) → At g v p → v ≢ u → far g v p ≢ u → P v p (side w v p) (side w (far g v p) (far_port g v p))) →
         ((i : ℕ) → At g u i → P u i (near_side i) (across_side i)) →

@@ -1,4 +1,5 @@
--- Clauses of the least links that lead out of a fragment: of each node is remembered a floor, below which no key leads out at the node or further from the root.
+-- Clauses of the least links that lead out of a fragment: of each node is remembered a floor, below which no key leads out at the
+-- node or further from the root.
 use Rattle.std.specs.Prelude.{◌||◌, ◌&&◌, ◌≡◌, ◌≢◌, ℕ, Bool, true, false, not, Option, Some, None, [], ◌∷◌}
 use Rattle.ghs_graph.specs.declared.key.Key.{Key}
 use Rattle.ghs_graph.specs.Key.{key_lt}

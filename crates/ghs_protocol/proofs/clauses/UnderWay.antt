@@ -1,4 +1,5 @@
--- What is always under way: a probe's Test or the answer, the Initiates that bring a child to its parent's level, the Report of a core end that is done.
+-- What is always under way: a probe's Test or the answer, the Initiates that bring a child to its parent's level, the Report of a
+-- core end that is done.
 -- Each clause names only what it reads, part by part, so that it stays the same fact when anything else changes.
 use Rattle.std.specs.Prelude.{◌≡◌, ◌≢◌, ℕ, ◌≤◌, Bool, true, false, ◌&&◌, Option, Some, None, List, [], ◌∷◌, length}
 use Rattle.ghs_graph.specs.declared.key.Key.{Key}

@@ -12,7 +12,8 @@ use Rattle.ghs_protocol.specs.Run.{net_after}
 abbrev key : ℕ → ℕ → ℕ → Key
 key w a b = record { weight = w; a = a; b = b }
 
--- what is compared: how many Connects, Initiates, Tests, Accepts, Rejects, Reports and ChangeRoots were sent; and of each node whether it has halted, and its marks
+-- what is compared: how many Connects, Initiates, Tests, Accepts, Rejects, Reports and ChangeRoots were sent; and of each node
+-- whether it has halted, and its marks
 record Seen : Type 0 where
   sent : List ℕ
   halted : List Bool

@@ -54,7 +54,8 @@ greatest (suc (suc j)) le =
 bound : IsBound 2 2 14
 bound = record { levels = 1; log2 = record { at_most = omega arith; greatest = greatest }; bound = refl }
 
--- what is counted for node 1 in these events: its level 0 pays for a Connect, its level 1 for an Initiate and a Report, and port 1 for a Test that failed
+-- what is counted for node 1 in these events: its level 0 pays for a Connect, its level 1 for an Initiate and a Report, and port 1
+-- for a Test that failed
 counted :
     paid_by roots (network_of g) 1 0 events (opening (network_of g)) ∷ paid_by roots (network_of g) 1 1 events (opening (network_of g)) ∷
     paid_by calls (network_of g) 1 1 events (opening (network_of g)) ∷ paid_by reports (network_of g) 1 1 events (opening (network_of g)) ∷

@@ -34,7 +34,8 @@ use Rattle.ghs_protocol.proofs.acts.Grounds.{graph_ground}
 not_less : (j k : Key) → lower (Some (Some j)) (Some (Some k)) ≡ true → key_lt k j ≡ false
 not_less j k h = grind (arith, nat_tests)
 
--- A Connect under way goes over the least link that leaves its fragment: its sender's floor is that link's key, and no floor of the fragment is below it.
+-- A Connect under way goes over the least link that leaves its fragment: its sender's floor is that link's key, and no floor of the
+-- fragment is below it.
 module _ (g : Network) (wired : IsWired g) (w : Scene) (holds : Invariant g w) (floor : ℕ → Floor) (floors : Floors g w floor) (a j : ℕ)
     (at : At g a j) (mark : (w.at a).mark j ≡ Branch) (free : is_branch ((w.at (far g a j)).mark (far_port g a j)) ≡ false) where
   is_floor : floor a ≡ Some (Some (port_at g a j).key)

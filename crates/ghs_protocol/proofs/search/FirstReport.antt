@@ -114,7 +114,8 @@ joined_by e f he hf some other = ⊎_elim here not_here (mark_is e.mark)
 
     not_here : e.mark ≢ Branch → Joins e f
     not_here a =
-        ⊎_elim (λ b. absurd (other f.level (hf.out_connect (record { here = b; there = a })).one)) (λ b. absurd (some (he.silent a b))) (mark_is f.mark)
+        ⊎_elim (λ b. absurd (other f.level (hf.out_connect (record { here = b; there = a })).one)) (λ b. absurd (some (he.silent a b)))
+        (mark_is f.mark)
 
 pub record Heard (e f : TreeEnd) (k : Option Key) : Type 0 where
   pub child : Child f e

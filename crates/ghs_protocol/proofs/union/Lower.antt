@@ -31,7 +31,9 @@ same_parts g u x own ss w fragment coming name level = record {
 module _ (g : Network) (w w' : Scene) (holds : Invariant g w) (same : SameParts w w') (u b : ℕ)
     (came : ConnectUnderWay (tree_end (far_end g w u b)) (tree_end (end g w u b))) where
   -- of one fragment afterwards, so before
-  coming_alike : (t v : ℕ) → (w'.at t).fragment ≡ (w'.at v).fragment → ((w.at t).coming ≡ (w.at v).coming) × ((w.at t).coming_name ≡ (w.at v).coming_name)
+  coming_alike : (t v : ℕ) →
+      (w'.at t).fragment ≡ (w'.at v).fragment →
+      ((w.at t).coming ≡ (w.at v).coming) × ((w.at t).coming_name ≡ (w.at v).coming_name)
   coming_alike t v e = holds.trees.by_fragment t v (sym (same.fragment t) ∙ e ∙ same.fragment v)
 
   -- Connects meet: the new level is above all of both fragments

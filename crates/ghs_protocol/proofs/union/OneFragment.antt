@@ -485,11 +485,17 @@ module _ (g : Network) (wired : IsWired g) (w : Scene) (v b : ℕ) (lifts : ℕ 
       stays : lifts (w.at t).fragment ≡ false → (w.at t).fragment ≡ (w.at v).fragment → (w.at t).coming ≡ l
       stays x same = (known.by_fragment t v same).0 ∙ sym (known.kept (sym (ap lifts same) ∙ x)).0
 
+      as_raised : (s : ℕ) → lifts (w.at s).fragment ≡ true → raised (w.at v).fragment l n (w.at s) ≡ rise lifts (w.at v).fragment l n (w.at s)
+      as_raised s x = sym (rise_in lifts (w.at v).fragment l n (w.at s) x)
+
+      as_left : (s : ℕ) → lifts (w.at s).fragment ≡ false → w.at s ≡ rise lifts (w.at v).fragment l n (w.at s)
+      as_left s x = sym (rise_out lifts (w.at v).fragment l n (w.at s) x)
+
       go :
           (lifts (w.at t).fragment ≡ true) ⊎ (lifts (w.at t).fragment ≡ false) →
           (lifts (w.at (far g t p)).fragment ≡ true) ⊎ (lifts (w.at (far g t p)).fragment ≡ false) →
           LinkFits (NamesOf g united) (end g united t p) (end g united (far g t p) (far_port g t p))
-      go (inl x) (inl y) = subst₂ (ends_as t p) (sym (rise_in lifts (w.at v).fragment l n (w.at t) x)) (sym (rise_in lifts (w.at v).fragment l n (w.at (far g t p)) y)) (record {
+      go (inl x) (inl y) = subst₂ (ends_as t p) (as_raised t x) (as_raised (far g t p) y) (record {
         tree =
             tree_lifted (w.at v).fragment l n (NamesOf g w) (NamesOf g united) (tree_end (end g w t p))
             (tree_end (end g w (far g t p) (far_port g t p))) (mine x) (theirs y) (λ z. known.other t p at off x (joined z)) (names_in _ x) h.tree;
@@ -501,7 +507,7 @@ module _ (g : Network) (wired : IsWired g) (w : Scene) (v b : ℕ) (lifts : ℕ 
             tests_lifted (w.at v).fragment l n (test_end (end g w t p)) (test_end (end g w (far g t p) (far_port g t p))) (idle t is x)
             (idle _ is' y) h.tests;
       })
-      go (inl x) (inr y) = subst₂ (ends_as t p) (sym (rise_in lifts (w.at v).fragment l n (w.at t) x)) (sym (rise_out lifts (w.at v).fragment l n (w.at (far g t p)) y)) (record {
+      go (inl x) (inr y) = subst₂ (ends_as t p) (as_raised t x) (as_left (far g t p) y) (record {
         tree =
             tree_lifted_here (w.at v).fragment l n (NamesOf g w) (NamesOf g united) (tree_end (end g w t p))
             (tree_end (end g w (far g t p) (far_port g t p))) (mine x) (λ z. unequal x y (known.within t p at off (joined z))) h.tree;
@@ -512,7 +518,7 @@ module _ (g : Network) (wired : IsWired g) (w : Scene) (v b : ℕ) (lifts : ℕ 
             tests_lifted_here (w.at v).fragment l n (test_end (end g w t p)) (test_end (end g w (far g t p) (far_port g t p))) (idle t is x)
             (λ z. unequal x y (sym z)) h.tests;
       })
-      go (inr x) (inl y) = subst₂ (ends_as t p) (sym (rise_out lifts (w.at v).fragment l n (w.at t) x)) (sym (rise_in lifts (w.at v).fragment l n (w.at (far g t p)) y)) (record {
+      go (inr x) (inl y) = subst₂ (ends_as t p) (as_left t x) (as_raised (far g t p) y) (record {
         tree =
             tree_lifted_there (w.at v).fragment l n (NamesOf g w) (NamesOf g united) (tree_end (end g w t p))
             (tree_end (end g w (far g t p) (far_port g t p))) (theirs y).low (stays x) (λ z. unequal y x (sym (known.within t p at off (joined z))))
@@ -527,7 +533,7 @@ module _ (g : Network) (wired : IsWired g) (w : Scene) (v b : ℕ) (lifts : ℕ 
             let c = stays x (sym same) in let q = (theirs y).low in omega (arith, s, c, q, le))
             h.tests;
       })
-      go (inr x) (inr y) = subst₂ (ends_as t p) (sym (rise_out lifts (w.at v).fragment l n (w.at t) x)) (sym (rise_out lifts (w.at v).fragment l n (w.at (far g t p)) y)) (record {
+      go (inr x) (inr y) = subst₂ (ends_as t p) (as_left t x) (as_left (far g t p) y) (record {
         tree =
             tree_named (NamesOf g w) (NamesOf g united) (tree_end (end g w t p)) (tree_end (end g w (far g t p) (far_port g t p))) (names_out _ x)
             h.tree;

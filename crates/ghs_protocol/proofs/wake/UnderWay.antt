@@ -56,8 +56,12 @@ module _ (g : Network) (wired : IsWired g) (u : ℕ) (u_is : InNetwork g u) (w :
         far_asks g wired u u_is 0 at w holds lives 0 at,
         (λ i at' ne. near_asks g wired u u_is 0 at w holds lives i at'),
         (λ i at' ne. far_asks g wired u u_is 0 at w holds lives i at'),
-      )
-      ((λ c. absurd (c.3 (unchild c.1))), (λ c. absurd (c.3 refl)), (λ i at' ne c. absurd (plain i ne c.0)), (λ i at' ne c. absurd (plain i ne c.1))) (
+      ) (
+        (λ c. absurd (c.3 (unchild c.1))),
+        (λ c. absurd (c.3 refl)),
+        (λ i at' ne c. absurd (plain i ne c.0)),
+        (λ i at' ne c. absurd (plain i ne c.1)),
+      ) (
         (λ c. absurd (unnamed c.1 c.4)),
         (λ c. absurd (unnamed' c.0 c.4)),
         (λ i at' ne c. absurd (plain i ne c.0)),
@@ -86,4 +90,6 @@ module _ (g : Network) (wired : IsWired g) (u : ℕ) (u_is : InNetwork g u) (w :
     pub wakes_meeting_lives : Lives g (meet g u 0 (acts g u (awakened (w.at u)) (w.seen u) ((0, Connect 0) ∷ []) w))
     wakes_meeting_lives =
         united_lives g woken woken_met (woken.at (far g u 0)).fragment (woken.at u).fragment (suc (woken.at u).head.level)
-        (Some (port_at g u 0).key) (λ t it i. inl (below_new g w woken holds same u 0 came (fresh.level ∙ sym fresh.coming) t it i)) (wakes_meeting g wired u u_is w holds at sleeps ground met)
+        (Some (port_at g u 0).key)
+        (λ t it i. inl (below_new g w woken holds same u 0 came (fresh.level ∙ sym fresh.coming) t it i))
+        (wakes_meeting g wired u u_is w holds at sleeps ground met)
