@@ -1,16 +1,17 @@
 -- What a world keeps.
-use Rattle.std.proofs.Common.{◌≡◌, ◌≢◌, ℕ, ◌+◌, ◌<◌, ◌≤◌, Bool, true, false, ◌&&◌, not, cond, List, [], ◌∷◌, ◌++◌, length, Option, Some, None, refl, sym, ◌∙◌, ap, subst, arith, length-append, ltb-true}
-use Rattle.std.specs.List.{All}
+use Rattle.std.proofs.Common.{◌≡◌, ℕ, ◌+◌, ◌<◌, ◌≤◌, Bool, true, false, not, cond, [], ◌∷◌, length, Some, None, refl, arith, length-append, ltb-true, zero-le, ◌^◌}
 use Rattle.std.proofs.lemmas.Bool.{and_parts}
+use Rattle.std.proofs.lemmas.List.Elements.{All-nil}
+use Rattle.ghs_protocol.specs.Run.{MayWake}
 use Rattle.ghs_protocol.specs.declared.event.Event.{Event}
 use Rattle.ghs_protocol.specs.declared.event.Event.TheVariants.{Wake, Take}
-use Rattle.ghs_protocol.specs.Network.{Network, network_of}
-use Rattle.ghs_protocol.specs.Net.{Net, is_lawful, is_lawful_under}
+use Rattle.ghs_protocol.specs.Network.{Network}
+use Rattle.ghs_protocol.specs.Net.{Net, is_lawful}
 use Rattle.ghs_protocol.proofs.lemmas.Events.{node_of, at_of}
 use Rattle.ghs_protocol.proofs.lemmas.Runs.{lawful_under}
 use Rattle.ghs_core.specs.NetState.{NetState, network, net_of, event_node, IsLawful, IsSameNet}
 use Rattle.ghs_world.specs.declared.fault.OutFault.TheVariants.{NoSuch, Busy, Nothing, TurnLimit}
-use Rattle.ghs_world.specs.Outs.{Outs, event_out, without, is_out, AllOut}
+use Rattle.ghs_world.specs.Outs.{event_out, without, is_out}
 use Rattle.ghs_world.specs.WorldState.{WorldState, IsWorld, home, wakers, may_happen, has_place, has_turn, refusal, gone_out}
 use Rattle.ghs_world.proofs.Going.{all_more, all_without, all_at, length_without}
 
@@ -86,4 +87,13 @@ world_same s net world same = record {
   lawful = rw (same.graph, same.trace) world.lawful;
   turns = rw same.trace world.turns;
   few = world.few;
+}
+
+-- nothing has happened yet, and nothing is out
+pub world_first : (s : WorldState) → s.net.trace ≡ [] → s.outs ≡ [] → s.turns ≤ 2 ^ 40 → IsWorld s
+world_first s trace outs few = record {
+  wakes = rw trace (All-nil (MayWake (wakers s)));
+  lawful = rw outs tt;
+  turns = rw (trace, outs) zero-le;
+  few = few;
 }

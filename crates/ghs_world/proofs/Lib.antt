@@ -1,10 +1,11 @@
 -- Serves the proofs: nothing here has to be believed.
+mod Changing
 mod Commits
 mod Firsts
 mod Going
 mod Keeping
 mod Listing
-mod Ranks
+mod Nodes
 mod Reacting
 mod Staying
 mod Waiting

@@ -25,7 +25,7 @@ use Rattle.ghs_protocol.proofs.lemmas.Graphs.{graph_wired, graph_few}
 use Rattle.ghs_protocol.proofs.lemmas.Nodes.{ports_many}
 use Rattle.ghs_protocol.proofs.lemmas.Runs.{after_is_net}
 use Rattle.ghs_protocol.proofs.lemmas.WellFormed.{IsWellFormed, after_formed}
-use Rattle.ghs_core.specs.NetState.{NetState, event_node, work_at, delivery, IsLawful, network, net_of}
+use Rattle.ghs_core.specs.NetState.{NetState, event_node, work_at, delivery, IsLawful, IsAnswer, network, net_of}
 
 delivered : (n : NodeState) (p : ℕ) (q : List Message) → p < degree n → HasPort n (delivery p q)
 delivered n p [] lt = tt
@@ -88,3 +88,7 @@ sends_out s e d graph run row =
 -- the row is the node's answer
 pub answers : (n : NodeState) (k : Work) (d : Delta) → HasRule n k → Row n k d → reaction n k ≡ Some d
 answers n k d has row = row_computes n k d row
+
+pub answer_sends : (s : NetState) (e : Event) (d : Delta) → IsGraph s.graph → IsRun (network s) s.trace → IsLawful s e → IsAnswer s e d →
+    All (λ (m : ℕ × Message). m.0 < length (ports_of s.graph.keys (event_node e))) d.sends
+answer_sends s e d graph run lawful answer = sends_out s e d graph run (reaction_inverts ((net_of s).node (event_node e)) (work_at (net_of s) e) d (work_port s e graph run lawful) answer)

@@ -6,3 +6,4 @@ pub mod WorldState
 pub mod WorldLedger
 pub mod Ready
 pub mod Steps
+pub mod Upkeep

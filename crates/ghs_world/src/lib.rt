@@ -6,6 +6,7 @@ pub mod laws;
 mod outs;
 pub mod ready;
 pub mod ticket;
+mod upkeep;
 pub mod wake_set;
 pub mod woken;
 pub mod world;

@@ -1,5 +1,5 @@
 //! The events that may be checked out.
-ghost use Rattle.std.specs.Prelude.{◌≡◌, ◌<◌, ◌≤◌, ◌++◌, ◌∷◌, [], Some, length, slice_get, if◌then◌else◌, IfOk, IfErr};
+ghost use Rattle.std.specs.Prelude.{◌≡◌, ◌<◌, ◌++◌, ◌∷◌, [], Some, length, slice_get, if◌then◌else◌, IfOk};
 ghost use Rattle.ghs_world.specs.Ready.{ready_events};
 
 use crate::world::World;
@@ -24,56 +24,23 @@ impl World {
         Ok(events)
     }
 
-    /// How many events may be checked out where nothing is out, turns and memory aside.
+    /// How many events may be checked out where nothing is out, turns and memory aside. O(1).
     pub fn ready_count(&self) -> usize
         requires { self.now.outs ≡ [] }
         ensures { result ≡ length (ready_events self.now) }
     {
-        let _ = self.graph().nodes();
-        match self.find_ready(usize::MAX) {
-            Err(count) => count,
-            Ok(_) => unreachable!(),
-        }
+        self.marked_count() as usize
     }
 
     /// Of the events that may be checked out where nothing is out (by node, Wake before ports, ports rising) the one at
-    /// place `k`, counted from 0.
+    /// place `k`, counted from 0. O(log N).
     pub fn ready_at(&self, k: usize) -> Event
         requires home { self.now.outs ≡ [] }
         requires within { k < length (ready_events self.now) }
         ensures { slice_get (ready_events self.now) k ≡ Some result }
     {
-        match self.find_ready(k) {
-            Ok(event) => event,
-            Err(_) => unreachable!(),
-        }
-    }
-
-    // Of the events that may be checked out the one at place `k`; or how many there are, which is no more than `k`.
-    fn find_ready(&self, k: usize) -> Result<Event, usize>
-        ensures found { IfOk result (λ e. slice_get (ready_events self.now) k ≡ Some e) }
-        ensures count { IfErr result (λ n. n ≡ length (ready_events self.now)) }
-        ensures few { IfErr result (λ n. n ≤ k) }
-    {
-        let graph = self.graph();
-        let mut before = 0;
-        for v in 1..graph.nodes() + 1 {
-            if self.is_ready(Event::Wake(v)) {
-                if before == k {
-                    return Ok(Event::Wake(v));
-                }
-                before += 1;
-            }
-            for port in 0..graph.ports(v).len() as u32 {
-                if self.is_ready(Event::Take(v, port)) {
-                    if before == k {
-                        return Ok(Event::Take(v, port));
-                    }
-                    before += 1;
-                }
-            }
-        }
-        Err(before)
+        let _ = self.marked_count();
+        self.marked_at(k as u32)
     }
 }
 

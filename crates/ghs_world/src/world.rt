@@ -1,8 +1,8 @@
 //! The world.
-ghost use Rattle.std.specs.Prelude.{◌≡◌, ◌↔◌, ◌≤◌, ◌+◌, ◌-◌, ◌^◌, [], length, filter, IfOk, IfErr, OnOk, OnErr, IsTrue, Some, true};
-ghost use Rattle.std.specs.List.{list_any, find, range_with_len};
+ghost use Rattle.std.specs.Prelude.{◌≡◌, ◌↔◌, ◌≤◌, ◌+◌, ◌-◌, ◌^◌, [], ◌<◌, length, filter, slice_get, IfOk, IfErr, OnOk, OnErr, IsTrue, Some, true};
+ghost use Rattle.std.specs.List.{find, range_with_len};
 ghost use Rattle.ghs_node.specs.Rows.{Row};
-ghost use Rattle.ghs_world.specs.Ready.{node_events, has_ready, is_ready, next_of, next_node_of, takes};
+ghost use Rattle.ghs_world.specs.Ready.{all_events, has_lawful, has_ready, is_ready, next_of, next_node_of, takes};
 ghost use Rattle.ghs_world.specs.Steps.{Commits, Makes, LeavesOthers, AreReadyOf, HasAllRoused, RefusesStep, IsSameWorld, HasEach, touched};
 ghost use Rattle.ghs_graph.specs.Graph.{IsGraph};
 ghost use Rattle.ghs_graph.specs.Ports.{ports_of};
@@ -22,6 +22,7 @@ ghost use Rattle.ghs_world.specs.WorldState.{home, wakers, has_place, may_happen
 use crate::fault::{BackFault, CommitFault, OutFault};
 use crate::outs::{Outs, node_of};
 use crate::ticket::{Step, Ticket};
+use crate::upkeep::{mark_changed, may_happen, open_index};
 use crate::wake_set::WakeSet;
 use crate::woken::{Committed, Woken, touched};
 use ghs_core::event::Event;
@@ -29,6 +30,7 @@ use ghs_core::ledger::Ledger;
 use ghs_core::net::Net;
 use ghs_graph::graph::Graph;
 use ghs_graph::key::Key;
+use ghs_index::index::Index;
 use ghs_node::delta::Delta;
 use ghs_node::fault::NodeFault;
 use ghs_node::laws::law_list_has_no_row;
@@ -44,17 +46,22 @@ pub struct World {
     wake: WakeSet,
     turns: u64,
     outs: Outs,
+    // The events that are lawful in the home view, under the wake set. What is out is marked as before.
+    index: Index,
 }
 
 impl Model for World {
     ghost use Rattle.std.specs.Prelude.{◌≡◌};
+    ghost use Rattle.ghs_core.specs.NetState.{network};
+    ghost use Rattle.ghs_index.specs.Index.{IsIndexOf};
+    ghost use Rattle.ghs_world.specs.Upkeep.{lawful_in};
     ghost use Rattle.ghs_world.specs.WorldState.{WorldState, IsWorld};
 
     ghost Value = { WorldState };
 
     ghost view = { λ w. record { net = w.net; wake = w.wake; turns = w.turns; outs = w.outs.list; last = w.outs.last } };
 
-    ghost invariant = { λ w. IsWorld (record { net = w.net; wake = w.wake; turns = w.turns; outs = w.outs.list; last = w.outs.last }) × (w.outs.nodes ≡ w.net.graph.nodes) };
+    ghost invariant = { λ w. IsWorld (record { net = w.net; wake = w.wake; turns = w.turns; outs = w.outs.list; last = w.outs.last }) × (w.outs.nodes ≡ w.net.graph.nodes) × IsIndexOf (network w.net) (lawful_in w.net w.wake) w.index };
 }
 
 impl World {
@@ -81,12 +88,17 @@ impl World {
             Ok(outs) => outs,
             Err(error) => return Err((graph, error)),
         };
+        let index = match open_index(alloc, &graph, wake) {
+            Ok(index) => index,
+            Err(error) => return Err((graph, error)),
+        };
         let net = Net::open(alloc, graph)?;
         Ok(World {
             net,
             wake,
             turns,
             outs,
+            index,
         })
     }
 
@@ -150,7 +162,10 @@ impl World {
         requires room { HasRoomToPlay self.old.net event answer.now }
         ensures { Makes self.old event self.new }
     {
+        let _ = self.net.trace();
         self.net.play(event, answer);
+        let sends = answer.sends.as_slice();
+        mark_changed(&mut self.index, &self.net, self.wake, event, sends);
         self.outs.pass_number();
     }
 
@@ -205,17 +220,12 @@ impl World {
         requires high { v ≤ self.now.net.graph.nodes }
         ensures { result ≡ find (may_happen self.now) (takes v low (length (ports_of self.now.net.graph.keys v) - low)) }
     {
-        let _ = self.net.trace();
-        for port in low..self.net.graph().ports(v).len() as u32 {
-            if self.net.lawful(Event::Take(v, port)) {
-                return Some(Event::Take(v, port));
-            }
-        }
-        None
+        self.index.first_take(self.net.graph(), v, low)
     }
 
     /// The first node from `from` on, else from node 1 on, one of whose events may be checked out, turns and memory
-    /// aside. There is no node 0, and none above the nodes of the graph.
+    /// aside. There is no node 0, and none above the nodes of the graph. It passes over the nodes that are out one by
+    /// one, and takes O(log N) for each.
     pub fn next_node(&self, from: u32) -> Option<u32>
         ensures { result ≡ next_node_of self.now from }
     {
@@ -229,12 +239,29 @@ impl World {
     fn first_node(&self, low: u32) -> Option<u32>
         ensures { result ≡ find (has_ready self.now) (range_with_len low (self.now.net.graph.nodes + 1 - low)) }
     {
-        for v in low..self.graph().nodes() + 1 {
-            if self.has_ready(v) {
-                return Some(v);
+        let graph = self.net.graph();
+        let mut from = low.max(1);
+        while from <= graph.nodes() {
+            match self.lawful_from(from) {
+                Some(v) => {
+                    if !self.outs.has_node(v) {
+                        return Some(v);
+                    }
+                    from = v + 1;
+                }
+                None => return None,
             }
         }
         None
+    }
+
+    // The first node from a number on one of whose events is lawful in the home view, under the wake set.
+    fn lawful_from(&self, low: u32) -> Option<u32>
+        requires low { 1 ≤ low }
+        requires high { low ≤ self.now.net.graph.nodes }
+        ensures { result ≡ find (has_lawful self.now) (range_with_len low (self.now.net.graph.nodes + 1 - low)) }
+    {
+        self.index.node_from(self.net.graph(), low)
     }
 
     /// Whether an event that names a node or port of the graph may be checked out, turns and memory aside.
@@ -255,22 +282,30 @@ impl World {
         !self.outs.has_node(v) && self.has_lawful(v)
     }
 
+    // How many events are lawful in the home view, under the wake set.
+    pub(crate) fn marked_count(&self) -> u32
+        ensures { result ≡ length (filter (may_happen self.now) (all_events (network self.now.net))) }
+    {
+        let _ = &self.net;
+        self.index.count()
+    }
+
+    // Of these the one at place `k`, counted from 0.
+    pub(crate) fn marked_at(&self, k: u32) -> Event
+        requires { k < length (filter (may_happen self.now) (all_events (network self.now.net))) }
+        ensures { slice_get (filter (may_happen self.now) (all_events (network self.now.net))) k ≡ Some result }
+    {
+        let _ = self.index.count();
+        self.index.kth(self.net.graph(), k)
+    }
+
     // Whether one of a node's events is lawful in the home view, under the wake set.
     fn has_lawful(&self, v: u32) -> bool
         requires low { 1 ≤ v }
         requires high { v ≤ self.now.net.graph.nodes }
-        ensures { result ≡ list_any (may_happen self.now) (node_events (network self.now.net) v) }
+        ensures { result ≡ has_lawful self.now v }
     {
-        let _ = self.net.trace();
-        if self.may_happen(Event::Wake(v)) {
-            return true;
-        }
-        for port in 0..self.net.graph().ports(v).len() as u32 {
-            if self.net.lawful(Event::Take(v, port)) {
-                return true;
-            }
-        }
-        false
+        self.index.has_any(self.net.graph(), v)
     }
 
     // Whether an event is lawful in the home view, under the wake set.
@@ -278,10 +313,7 @@ impl World {
         requires { has_place (network self.now.net) event ≡ true }
         ensures { result ≡ may_happen self.now event }
     {
-        match event {
-            Event::Wake(v) => self.wake.has(self.net.graph(), v) && self.net.lawful(event),
-            Event::Take(..) => self.net.lawful(event),
-        }
+        may_happen(&self.net, self.wake, event)
     }
 
     /// Whether there are turns and a number for one ticket more.
@@ -356,7 +388,10 @@ impl World {
         ensures woken { AreReadyOf self.new (touched (network self.old.net) (event_node event) delta.now.sends) result }
         ensures roused { HasAllRoused self.old self.new result }
     {
+        let _ = self.net.trace();
         self.net.play(event, delta);
+        let sends = delta.sends.as_slice();
+        mark_changed(&mut self.index, &self.net, self.wake, event, sends);
         self.outs.remove(out, event);
         self.ready_of(nodes)
     }

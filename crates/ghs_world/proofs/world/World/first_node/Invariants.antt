@@ -1,6 +1,9 @@
-use Rattle.std.proofs.Common.{◌≡◌, ◌≤◌, ◌<◌, ℕ, false}
-use Rattle.ghs_world.specs.Ready.{has_ready}
+use Rattle.std.proofs.Common.{◌+◌, ◌-◌}
+use Rattle.ghs_world.proofs.Nodes.{IsPast}
 use Rattle.ghs_world.proofs.world.World.first_node.Given as goal
 
-abbrev pub invariant-loop-v : goal.invariant-loop-v
-invariant-loop-v l = (l.low ≤ l.v) × ((u : ℕ) → l.low ≤ u → u < l.v → has_ready l.self u ≡ false)
+abbrev pub invariant-loop-from : goal.invariant-loop-from
+invariant-loop-from l = IsPast l.self l.low l.from
+
+abbrev pub decreases-loop-from : goal.decreases-loop-from
+decreases-loop-from l = l.self.net.graph.nodes + 1 - l.from

@@ -1,11 +1,27 @@
-use Rattle.std.proofs.Common.{◌≡◌, ◌∙◌, sym, ap}
+use Rattle.std.proofs.Common.{◌∙◌, sym, ap}
 use Rattle.ghs_graph.specs.Graph.{Shape}
 use Rattle.ghs_world.specs.contracts.world.World.{the_view}
-use Rattle.ghs_world.proofs.Commits.{Passes, ready_lawful, world_made}
+use Rattle.ghs_world.proofs.Commits.{ready_lawful, world_made}
+use Rattle.ghs_world.proofs.Reacting.{answer_sends}
+use Rattle.ghs_world.proofs.Changing.{index_but, lawful_place}
 use Rattle.ghs_world.proofs.world.World.happen.Goals as goal
 
 pub play-requires-clause-lawful : goal.play-requires-clause-lawful
 play-requires-clause-lawful c = ready_lawful (the_view c.self.inside) c.args.event (rw (← c.self.view_is) at c.requires.ready)
+
+pub mark_changed-requires-clause-place : goal.mark_changed-requires-clause-place
+mark_changed-requires-clause-place c =
+    rw c.play.ensures.graph (lawful_place c.self.inside.net c.args.event (ready_lawful (the_view c.self.inside) c.args.event (rw (← c.self.view_is) at c.requires.ready)))
+
+pub mark_changed-requires-clause-ports : goal.mark_changed-requires-clause-ports
+mark_changed-requires-clause-ports c =
+    rw (c.play.ensures.graph, c.as_slice-sends.ensures) (answer_sends c.self.inside.net c.args.event c.args.answer.now c.trace.ensures.graph c.trace.ensures.run
+    (ready_lawful (the_view c.self.inside) c.args.event (rw (← c.self.view_is) at c.requires.ready)) (rw (← c.self.view_is) at c.requires.answer))
+
+pub mark_changed-requires-clause-index : goal.mark_changed-requires-clause-index
+mark_changed-requires-clause-index c =
+    rw c.as_slice-sends.ensures (index_but c.self.inside.net c.play.new.self c.self.inside.wake c.args.event c.args.answer.now c.self.inside.index c.self.invariant.2
+    c.play.ensures.graph c.play.ensures.event (rw (← c.self.view_is) at c.requires.answer))
 
 pub invariant_of-self : goal.invariant_of-self
 invariant_of-self c = rw c.pass_number.ensures (
@@ -19,4 +35,5 @@ invariant_of-self c = rw c.pass_number.ensures (
     event = c.play.ensures.event;
   }),
   c.self.invariant.1 ∙ ap (λ (g : Shape). g.nodes) (sym c.play.ensures.graph),
+  c.mark_changed.ensures,
 )

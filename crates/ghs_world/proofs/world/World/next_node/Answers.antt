@@ -1,5 +1,5 @@
 use Rattle.std.proofs.Common.{◌∙◌, sym}
-use Rattle.ghs_world.proofs.Ranks.{found_next, else_next}
+use Rattle.ghs_world.proofs.Nodes.{found_next, else_next}
 use Rattle.ghs_world.proofs.world.World.next_node.Goals as goal
 
 pub returns-in-Some : goal.returns-in-Some

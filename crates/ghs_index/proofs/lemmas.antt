@@ -1,0 +1,4 @@
+-- What proofs about the index above this crate may use.
+pub mod Lists
+pub mod Places
+pub mod Marks

@@ -1,0 +1,32 @@
+-- An index of a network's events: some of them are marked.
+use Rattle.std.specs.Prelude.{◌≡◌, ℕ, suc, ◌+◌, ◌≤◌, Bool, List, length, map, slice_index}
+use Rattle.std.specs.List.{Contains}
+use Rattle.ghs_protocol.specs.declared.event.Event.{Event}
+use Rattle.ghs_protocol.specs.Network.{Network}
+use Rattle.ghs_flags.specs.Flags.{at}
+use Rattle.ghs_index.specs.Places.{events_to, all_events, place, HasPlace}
+
+-- where the events of each node begin among all events, and which events are marked
+pub record IndexState : Type 0 where
+  pub bases : List ℕ
+  pub marks : List Bool
+
+-- Of the nodes 1 to n the places of their first events, and behind them how many events they have. The number 0 is no node.
+pub record AreBases (g : Network) (n : ℕ) (bases : List ℕ) : Type 0 where
+  pub count : length bases ≡ n + 2
+  pub base : (m : ℕ) → m ≤ n → slice_index bases (suc m) ≡ length (events_to g m)
+
+-- the index has a mark for each event of the network
+pub record IsFor (g : Network) (x : IndexState) : Type 0 where
+  pub bases : AreBases g g.count x.bases
+  pub many : length x.marks ≡ length (all_events g)
+
+-- the marked events are those that pass
+pub record IsIndexOf (g : Network) (p : Event → Bool) (x : IndexState) : Type 0 where
+  pub bases : AreBases g g.count x.bases
+  pub marks : x.marks ≡ map p (all_events g)
+
+-- the same, but perhaps for some events
+pub record IsIndexBut (g : Network) (p : Event → Bool) (some : List Event) (x : IndexState) : Type 0 where
+  pub index : IsFor g x
+  pub marks : (e : Event) → HasPlace g e → (Contains some e → ⊥) → at x.marks (place g e) ≡ p e

@@ -1,0 +1,38 @@
+-- Where the events of a network stand among all of them.
+use Rattle.std.specs.Prelude.{ℕ, zero, suc, ◌+◌, ◌-◌, ◌≤◌, List, [], ◌∷◌, ◌++◌, length}
+use Rattle.ghs_protocol.specs.declared.event.Event.{Event}
+use Rattle.ghs_protocol.specs.declared.event.Event.TheVariants.{Wake, Take}
+use Rattle.ghs_protocol.specs.Network.{Network, At}
+
+-- the events of node v at its first d ports: Wake, then the ports rising
+abbrev pub events_at : ℕ → ℕ → List Event
+events_at v zero = Wake v ∷ []
+events_at v (suc d) = events_at v d ++ Take v d ∷ []
+
+-- the events of node v
+abbrev pub node_events : Network → ℕ → List Event
+node_events g v = events_at v (length (g.ports v))
+
+-- the events of the nodes 1 to n
+abbrev pub events_to : Network → ℕ → List Event
+events_to g zero = []
+events_to g (suc n) = events_to g n ++ node_events g (suc n)
+
+-- every event that names a node or port of the network: by node, Wake before ports, ports rising
+abbrev pub all_events : Network → List Event
+all_events g = events_to g g.count
+
+-- the Takes of node v at n ports, from one port on
+abbrev pub takes : ℕ → ℕ → ℕ → List Event
+takes v low zero = []
+takes v low (suc n) = takes v low n ++ Take v (low + n) ∷ []
+
+-- the event names a node or port of the network
+abbrev pub HasPlace : Network → Event → Type 0
+HasPlace g (Wake v) = (1 ≤ v) × (v ≤ g.count)
+HasPlace g (Take v p) = At g v p
+
+-- its place among all events, counted from 0
+abbrev pub place : Network → Event → ℕ
+place g (Wake v) = length (events_to g (v - 1))
+place g (Take v p) = length (events_to g (v - 1)) + suc p
