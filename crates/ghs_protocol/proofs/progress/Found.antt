@@ -2,16 +2,14 @@
 use Rattle.std.proofs.Common.{◌≡◌, ◌≢◌, ℕ, zero, suc, ◌<◌, ◌≤◌, Bool, true, false, Some, List, [], ◌∷◌, ◌++◌, length, refl, sym, ◌∙◌, ap, subst, ⊎_elim, ◌⊎◌, inl, inr, arith}
 use Rattle.std.proofs.lemmas.Bool.{cases_lt, cases_Bool}
 use Rattle.ghs_graph.specs.declared.key.Key.{Key}
-use Rattle.ghs_graph.specs.Key.{key_lt}
 use Rattle.ghs_node.specs.declared.mark.Mark.{Mark}
 use Rattle.ghs_node.specs.declared.mark.Mark.TheVariants.{Basic, Branch, Rejected}
 use Rattle.ghs_node.specs.declared.message.Phase.{Phase}
 use Rattle.ghs_node.specs.declared.message.Phase.TheVariants.{Sleeping, Find, Found}
 use Rattle.ghs_node.specs.declared.message.Message.{Message}
 use Rattle.ghs_node.specs.declared.message.Message.TheVariants.{Connect, Initiate, Test, Accept, Reject, Report, ChangeRoot}
-use Rattle.ghs_node.specs.Words.{is_branch}
 use Rattle.ghs_node.specs.NodeState.{NodeState, mark_at}
-use Rattle.ghs_protocol.specs.Network.{Network, port_at, At, far, far_port, InNetwork}
+use Rattle.ghs_protocol.specs.Network.{Network, At, InNetwork}
 use Rattle.ghs_protocol.specs.Net.{Net}
 use Rattle.ghs_protocol.proofs.clauses.Scene.{Member, Seen, Ghost, scene, add, adds, see, unseen}
 use Rattle.ghs_protocol.proofs.clauses.Wiring.{Ground}

@@ -1,14 +1,11 @@
 -- From the clauses of one net to its message that doesn't wait.
-use Rattle.std.proofs.Common.{◌≡◌, ◌≢◌, ℕ, Bool, false, List, [], ◌∷◌, arith}
+use Rattle.std.proofs.Common.{ℕ, Bool, List, [], ◌∷◌, arith}
 use Rattle.std.specs.List.{All}
 use Rattle.std.proofs.lemmas.List.Elements.{All-cons}
-use Rattle.ghs_graph.specs.Key.{key_lt}
-use Rattle.ghs_node.specs.declared.mark.Mark.TheVariants.{Branch}
 use Rattle.ghs_node.specs.declared.message.Message.{Message}
 use Rattle.ghs_node.specs.declared.message.Message.TheVariants.{Connect, Initiate, Test, Accept, Reject, Report, ChangeRoot}
 use Rattle.ghs_node.specs.NodeState.{NodeState}
-use Rattle.ghs_node.specs.Words.{is_branch}
-use Rattle.ghs_protocol.specs.Network.{Network, At, port_at, far, far_port}
+use Rattle.ghs_protocol.specs.Network.{Network}
 use Rattle.ghs_protocol.specs.Net.{Net}
 use Rattle.ghs_protocol.proofs.clauses.Scene.{Ghost, scene}
 use Rattle.ghs_protocol.proofs.clauses.Wiring.{Ground}

@@ -1,5 +1,5 @@
 -- Where the root is sent on: what stands at the root link, its fragment being at rest.
-use Rattle.std.proofs.Common.{◌≡◌, ◌≢◌, ℕ, true, Option, Some, None, List, [], ◌∷◌, ◌++◌, refl, sym, ◌∙◌, ap, ap₂, subst, subst₂, ⊎_elim, ◌⊎◌, arith}
+use Rattle.std.proofs.Common.{◌≡◌, ◌≢◌, ℕ, true, Option, Some, None, List, [], ◌∷◌, ◌++◌, refl, sym, ◌∙◌, ap, ap₂, subst, subst₂, ◌⊎◌, arith}
 use Rattle.std.proofs.lemmas.Bool.Decides.{nat_tests}
 use Rattle.ghs_graph.specs.declared.key.Key.{Key}
 use Rattle.ghs_graph.specs.Key.{key_lt}
@@ -17,7 +17,7 @@ use Rattle.ghs_protocol.proofs.clauses.Rest.{Quiet}
 use Rattle.ghs_protocol.proofs.clauses.Whole.{LinkFits, Invariant, NamesOf}
 use Rattle.ghs_protocol.proofs.clauses.Uniting.{SendsRoot, By_report, By_root}
 use Rattle.ghs_protocol.proofs.acts.OneLink.{at_near, at_far}
-use Rattle.ghs_protocol.proofs.search.FirstReport.{joined_by, Joint, joint, Down_here, Down_there, On_core, On_moved, mark_is}
+use Rattle.ghs_protocol.proofs.search.FirstReport.{joined_by, Joint, joint, Down_here, Down_there, On_core, On_moved}
 use Rattle.ghs_protocol.proofs.rest.Halt.{Back, Old, Half, back, owed_finds}
 use Rattle.ghs_protocol.proofs.rest.AtRest.{core_rests}
 

@@ -1,5 +1,5 @@
 -- An Initiate that stands first: where it comes from, and what its link and the others owe once it has been heard.
-use Rattle.std.proofs.Common.{◌≡◌, ◌≢◌, ℕ, suc, ◌<◌, ◌≤◌, Option, Some, None, List, [], ◌∷◌, ◌++◌, refl, sym, ◌∙◌, ap, subst, ⊎_elim, ◌⊎◌, arith}
+use Rattle.std.proofs.Common.{◌≡◌, ◌≢◌, ℕ, suc, ◌<◌, ◌≤◌, Option, Some, None, List, [], ◌∷◌, ◌++◌, refl, sym, ◌∙◌, ap, subst, ◌⊎◌, arith}
 use Rattle.ghs_graph.specs.declared.key.Key.{Key}
 use Rattle.ghs_node.specs.declared.mark.Mark.TheVariants.{Branch}
 use Rattle.ghs_node.specs.declared.message.Phase.{Phase}
@@ -10,7 +10,7 @@ use Rattle.ghs_protocol.proofs.clauses.Scene.{TreeEnd}
 use Rattle.ghs_protocol.proofs.clauses.Links.{Joins, Ups, Child}
 use Rattle.ghs_protocol.proofs.clauses.TreeMessages.{Upward, Nothing_up, Report_up, Chain, Falls, Downward, Initiates, Old_report, Stage, Asking, Called, Begun, AtStage, Served, called, CoreQueue, Plain, With_report, Core, CoreFits, MovedFits, To_here, To_there, TreeFits}
 use Rattle.ghs_protocol.proofs.clauses.Search.{SearchFits}
-use Rattle.ghs_protocol.proofs.search.FirstReport.{joined_by, Joint, joint, Down_here, Down_there, On_core, On_moved, mark_is, chain_rises}
+use Rattle.ghs_protocol.proofs.search.FirstReport.{joined_by, Joint, joint, Down_here, Down_there, On_core, On_moved, chain_rises}
 
 -- a chain, and one Initiate more
 pub chain_more : (N : Key → Type 0) (top : ℕ) (name : Option Key) (t l k : ℕ) (f : Key) (s : Phase) (xs : List Message) →

@@ -1,5 +1,5 @@
 -- A sleeping node wakes: its floor is its least link, over which its Connect goes out.
-use Rattle.std.proofs.Common.{◌≡◌, ◌≢◌, ℕ, zero, suc, ◌<◌, false, Some, [], ◌∷◌, ◌++◌, refl, sym, ◌∙◌, ap, subst, ⊎_elim, ◌⊎◌, arith}
+use Rattle.std.proofs.Common.{◌≡◌, ◌≢◌, ℕ, zero, suc, false, Some, [], ◌∷◌, ◌++◌, refl, sym, ◌∙◌, ap, subst, ⊎_elim, arith}
 use Rattle.std.proofs.lemmas.Bool.{cases_eq}
 use Rattle.ghs_graph.specs.Key.{key_lt}
 use Rattle.ghs_node.specs.declared.mark.Mark.TheVariants.{Branch}
@@ -16,7 +16,7 @@ use Rattle.ghs_protocol.proofs.clauses.Wiring.{Ground}
 use Rattle.ghs_protocol.proofs.clauses.Uniting.{meet}
 use Rattle.ghs_protocol.proofs.clauses.Whole.{Invariant}
 use Rattle.ghs_protocol.proofs.clauses.Floors.{Floor, FloorsAt, NodeFloor, IsTreeLink, BranchesInTree, HaltedIsWhole, Floors}
-use Rattle.ghs_protocol.proofs.lemmas.Updates.{put_same, put_other, put_alike}
+use Rattle.ghs_protocol.proofs.lemmas.Updates.{put_same, put_other}
 use Rattle.ghs_protocol.proofs.acts.Ends.{here_seen, far_seen}
 use Rattle.ghs_protocol.proofs.acts.OneLink.{by_port_at, sends_one}
 use Rattle.ghs_protocol.proofs.acts.Reactions.{put_again}

@@ -21,7 +21,7 @@ use Rattle.ghs_protocol.proofs.clauses.Whole.{Invariant, NamesOf, LinkFits}
 use Rattle.ghs_protocol.proofs.clauses.Wiring.{Ground}
 use Rattle.ghs_protocol.proofs.clauses.Uniting.{meet}
 use Rattle.ghs_protocol.proofs.lemmas.Updates.{put_same, put_other}
-use Rattle.ghs_protocol.proofs.lemmas.Sums.{sum_same, term_le}
+use Rattle.ghs_protocol.proofs.lemmas.Sums.{term_le}
 use Rattle.ghs_protocol.proofs.acts.Ends.{here_seen}
 use Rattle.ghs_protocol.proofs.acts.SameForest.{near', far', sums_after, branch_mark}
 use Rattle.ghs_protocol.proofs.acts.OneLink.{debts_here, at_near, at_far, sends_one}

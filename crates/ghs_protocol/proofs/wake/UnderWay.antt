@@ -1,5 +1,5 @@
 -- A sleeping node wakes: what is always under way.
-use Rattle.std.proofs.Common.{◌≡◌, ◌≢◌, ℕ, suc, ◌<◌, Some, [], ◌∷◌, refl, sym, ◌∙◌, subst, ⊎_elim, ◌⊎◌, arith, inl}
+use Rattle.std.proofs.Common.{◌≡◌, ◌≢◌, ℕ, suc, Some, [], ◌∷◌, refl, sym, ◌∙◌, subst, inl}
 use Rattle.ghs_node.specs.declared.mark.Mark.TheVariants.{Branch}
 use Rattle.ghs_node.specs.Words.{Outgoing}
 use Rattle.ghs_node.specs.declared.message.Phase.TheVariants.{Sleeping}
@@ -15,7 +15,7 @@ use Rattle.ghs_protocol.proofs.clauses.Wiring.{Ground}
 use Rattle.ghs_protocol.proofs.clauses.Uniting.{meet}
 use Rattle.ghs_protocol.proofs.clauses.Whole.{Invariant}
 use Rattle.ghs_protocol.proofs.clauses.UnderWay.{Lives}
-use Rattle.ghs_protocol.proofs.lemmas.Updates.{put_other, put_alike}
+use Rattle.ghs_protocol.proofs.lemmas.Updates.{put_other}
 use Rattle.ghs_protocol.proofs.acts.OneLink.{sends_one}
 use Rattle.ghs_protocol.proofs.acts.Reactions.{put_again}
 use Rattle.ghs_protocol.proofs.rows.Link.{link_fits'}
