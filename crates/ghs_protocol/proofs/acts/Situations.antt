@@ -11,7 +11,7 @@ use Rattle.ghs_protocol.specs.Network.{Network}
 use Rattle.ghs_protocol.proofs.clauses.Scene.{Member, TreeEnd, Forest}
 use Rattle.ghs_protocol.proofs.clauses.Changes.{rejected, marked}
 use Rattle.ghs_protocol.proofs.clauses.Nodes.{NodeFits, LevelLags}
-use Rattle.ghs_protocol.proofs.clauses.TreeMessages.{TreeFits}
+use Rattle.ghs_protocol.proofs.clauses.TreeMessages.{TreeFits, CoreFits}
 use Rattle.ghs_protocol.proofs.clauses.Search.{SearchFits}
 use Rattle.ghs_protocol.proofs.clauses.Fragments.{Names, JoinedWithin}
 use Rattle.ghs_protocol.proofs.clauses.Wiring.{IsKeyed}
@@ -61,6 +61,19 @@ one_fragment g s a b k keyed joined_within x y =
     ⊎_elim (λ h. sym x.fragment ∙ ap s.fragment h.0 ∙ y.fragment)
     (λ h. sym x.fragment ∙ joined_within _ _ x.at x.joined ∙ ap s.fragment h.0 ∙ y.fragment)
     (keyed _ _ _ _ x.at y.at (x.key ∙ sym y.key))
+
+-- a core link seen from its other end
+pub core_from_there : (e f : TreeEnd) → CoreFits e f → CoreFits f e
+core_from_there e f z = record {
+  here = z.there;
+  there = z.here;
+  at_here = z.at_there;
+  at_there = z.at_here;
+  served = z.served_beyond;
+  served_beyond = z.served;
+  queue = z.queue_beyond;
+  queue_beyond = z.queue;
+}
 
 abbrev pub marked_as : TreeEnd → Mark → TreeEnd
 marked_as e m = record e { mark = m }

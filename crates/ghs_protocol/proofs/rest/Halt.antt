@@ -19,7 +19,7 @@ use Rattle.ghs_protocol.proofs.clauses.Rest.{debt, owes, has_call}
 use Rattle.ghs_protocol.proofs.acts.OneLink.{sends_none, at_near, at_far, sums_one, kept_one}
 use Rattle.ghs_protocol.proofs.search.ReportGone.{search_trees, debt_one, debt_up}
 use Rattle.ghs_protocol.proofs.search.FirstReport.{Joint, joint, Down_here, Down_there, On_core, On_moved, no_report, no_plain, joined}
-use Rattle.ghs_protocol.proofs.acts.Situations.{is_find'}
+use Rattle.ghs_protocol.proofs.acts.Situations.{is_find', core_from_there}
 
 -- the Report is an old one, or that of the other half of the core
 pub data Back (N : Key → Type 0) (e f : TreeEnd) (k : Option Key) (ms : List Message) : Type 0 where
@@ -94,18 +94,6 @@ module _ (e f : TreeEnd) (k : Option Key) (ms : List Message) where
     queue_beyond = other_queue z.queue_beyond;
   }
 
-  swapped : CoreFits (record e { tree = ms }) f → f.coming ≡ e.coming → f.key ≡ e.key → CoreFits f (record e { tree = ms })
-  swapped z v n = record {
-    here = z.there;
-    there = z.here;
-    at_here = z.at_there;
-    at_there = z.at_here;
-    served = z.served_beyond;
-    served_beyond = z.served;
-    queue = z.queue_beyond;
-    queue_beyond = z.queue;
-  }
-
   pub tree_taken : {N : ℕ → Key → Type 0} → Back (N e.fragment) e f k ms → TreeFits N e f → TreeFits N (record e { tree = ms }) f
   tree_taken (Old c h x) t = record {
     out_connect = λ o. absurd (o.there c.joins.there);
@@ -148,7 +136,7 @@ module _ (e f : TreeEnd) (k : Option Key) (ms : List Message) where
     core_ends = λ j s. let z = t.core_ends (record { here = j.here; there = j.there }) s in record { at_top = z.at_top; below = z.below };
     upward = λ y. absurd (y.down c.both.up);
     downward = λ y. absurd (y.down c.both.up);
-    core_queues = λ y. swapped (core_taken z a b n) vls keys;
+    core_queues = λ y. core_from_there (record e { tree = ms }) f (core_taken z a b n);
     moved_root = λ y. absurd (y.unnamed (vns ∙ c.named ∙ ap Some (sym keys)));
   }
 

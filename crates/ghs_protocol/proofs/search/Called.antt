@@ -11,6 +11,7 @@ use Rattle.ghs_protocol.proofs.clauses.Links.{Joins, Ups, Child}
 use Rattle.ghs_protocol.proofs.clauses.TreeMessages.{Upward, Nothing_up, Report_up, Chain, Falls, Downward, Initiates, Old_report, Stage, Asking, Called, Begun, AtStage, Served, called, CoreQueue, Plain, With_report, Core, CoreFits, MovedFits, To_here, To_there, TreeFits}
 use Rattle.ghs_protocol.proofs.clauses.Search.{SearchFits}
 use Rattle.ghs_protocol.proofs.search.FirstReport.{joined_by, Joint, joint, Down_here, Down_there, On_core, On_moved, chain_rises}
+use Rattle.ghs_protocol.proofs.acts.Situations.{core_from_there}
 
 -- a chain, and one Initiate more
 pub chain_more : (N : Key → Type 0) (top : ℕ) (name : Option Key) (t l k : ℕ) (f : Key) (s : Phase) (xs : List Message) →
@@ -192,18 +193,7 @@ module _ (N : ℕ → Key → Type 0) (e f : TreeEnd) (l : ℕ) (n : Key) (s : P
   }
 
   told_core' : Way (N e.fragment) e f l n s ms → Core e f → CoreFits f (told e l s (Some e.port) ms)
-  told_core' w k =
-      let z = told_core w k in
-      record {
-        here = z.there;
-        there = z.here;
-        at_here = z.at_there;
-        at_there = z.at_here;
-        served = z.served_beyond;
-        served_beyond = z.served;
-        queue = z.queue_beyond;
-        queue_beyond = z.queue;
-      }
+  told_core' w k = core_from_there (told e l s (Some e.port) ms) f (told_core w k)
 
   unmoved : Way (N e.fragment) e f l n s ms → Ups f → e.coming_name ≢ Some e.key → ⊥
   unmoved (From_parent d x q) u ne = d.down u

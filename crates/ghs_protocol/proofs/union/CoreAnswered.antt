@@ -24,6 +24,7 @@ use Rattle.ghs_protocol.proofs.lemmas.Updates.{put_same, put_other}
 use Rattle.ghs_protocol.proofs.acts.OneLink.{sends_one, at_near, at_far, sums_one, kept_at}
 use Rattle.ghs_protocol.proofs.search.ReportGone.{search_trees, debt_up}
 use Rattle.ghs_protocol.proofs.search.FirstReport.{Joint, joint, Down_here, Down_there, On_core, On_moved, mark_is}
+use Rattle.ghs_protocol.proofs.acts.Situations.{core_from_there}
 
 pub no_connect : (N : Key → Type 0) (coming : ℕ) (coming_name : Option Key) (t l k : ℕ) (ms xs : List Message) →
     xs ≡ Connect k ∷ ms →
@@ -146,18 +147,7 @@ module _ (e f : TreeEnd) (l : ℕ) (ms : List Message) (a : Asked e f l ms) (vls
   }
 
   core_after' : CoreFits answered_to (record e { tree = ms })
-  core_after' =
-      let z = core_after in
-      record {
-        here = z.there;
-        there = z.here;
-        at_here = z.at_there;
-        at_there = z.at_here;
-        served = z.served_beyond;
-        served_beyond = z.served;
-        queue = z.queue_beyond;
-        queue_beyond = z.queue;
-      }
+  core_after' = core_from_there (record e { tree = ms }) answered_to core_after
 
   pub serve_here : {N : ℕ → Key → Type 0} → TreeFits N e f → TreeFits N (record e { tree = ms }) answered_to
   serve_here t = let c = a.core in record {
