@@ -1,5 +1,5 @@
 -- Branch links and fragments, as they are found.
-use Rattle.std.proofs.Common.{◌≡◌, ℕ, ◌+◌, ◌<◌, ◌≤◌, inl, inr, Bool, true, false, ◌||◌, List, length, refl, sym, ◌∙◌, ap, ⊎_elim, arith, Result, IfOk}
+use Rattle.std.proofs.Common.{◌≡◌, ℕ, ◌+◌, ◌<◌, ◌≤◌, inl, inr, Bool, true, false, ◌||◌, List, length, get_or, refl, sym, ◌∙◌, ap, ⊎_elim, arith, Result, IfOk}
 use Rattle.std.specs.List.{Contains, filter}
 use Rattle.std.proofs.lemmas.Bool.{and_parts, or_cases}
 use Rattle.std.proofs.lemmas.List.{get_or_default}
@@ -30,7 +30,7 @@ use Rattle.ghs_core.specs.declared.counts.Counts.{Counts}
 use Rattle.ghs_core.specs.declared.marked.Ends.TheVariants.{One, Both}
 use Rattle.ghs_core.specs.declared.halts.Halts.{Halts}
 use Rattle.ghs_core.specs.Kept.{IsKept}
-use Rattle.ghs_core.specs.Marked.{is_wanted, has_branch, HavePorts, AreBranches, IsFragment, AreAlike}
+use Rattle.ghs_core.specs.Marked.{is_wanted, has_branch, HavePorts, AreBranches, IsFragment, HaveLabel, TellFragments}
 use Rattle.ghs_core.proofs.Reading.{formed}
 use Rattle.ghs_core.proofs.Sides.{filtered, unfiltered, branch_so, among, branch_from, branch_to, joined_from, joined_to}
 
@@ -103,26 +103,34 @@ module _ {g : Shape} {es : List Event} {nodes : List NodeState} {links : LinksSt
   pub joined_among : AreAmong g.nodes (filter (is_wanted Both g.keys nodes) g.keys)
   joined_among = All-filter (is_wanted Both g.keys nodes) (λ k. (1 ≤ k.a) × (k.a < k.b) × (k.b ≤ g.nodes)) g.keys kept.graph.among
 
-  -- the numbers alike in the classes of the joined links are a fragment
-  pub fragment_is : (ls us : List ℕ) (v : ℕ) → 1 ≤ v → v ≤ g.nodes → length ls ≡ g.nodes + 1 → AreTold ls (filter (is_wanted Both g.keys nodes) g.keys) →
-      AreAlike ls (g.nodes + 1) v us → IsFragment net w v us
-  fragment_is ls us v lo hi count told alike = record { rising = alike.rising; all = λ u. (there u, back u) }
+  -- the classes of the joined links tell the fragments
+  pub classes_tell : (ls : List ℕ) → length ls ≡ g.nodes + 1 → AreTold ls (filter (is_wanted Both g.keys nodes) g.keys) → TellFragments net w ls
+  classes_tell ls count told = record {
+    count = count;
+    told = λ v u vl vh ul uh.
+        let v_in : v < length ls = omega (arith, count, vh) in
+        let u_in : u < length ls = omega (arith, count, uh) in
+        let joined = fragments_joined g kept.graph w v u in (
+          λ t. joined.1 (joined_within joined_there (told.joined v u v_in u_in t)),
+          λ f. told.together v u v_in u_in (joined_within joined_back (joined.0 f)),
+        );
+  }
+
+  -- the numbers with the label of a node are its fragment
+  pub fragment_is : (ls us : List ℕ) (v : ℕ) → 1 ≤ v → v ≤ g.nodes → TellFragments net w ls → HaveLabel ls (g.nodes + 1) (get_or ls v 0) us → IsFragment net w v us
+  fragment_is ls us v lo hi tell alike = record { rising = alike.rising; all = λ u. (there u, back u) }
     where
       there : (u : ℕ) → Contains us u → (1 ≤ u) × (u ≤ g.nodes) × InOneFragment net w v u
-      there u h =
-          let a = alike.has u h in (
-            a.0,
-            omega (arith, a.1),
-            (fragments_joined g kept.graph w v u).1 (joined_within joined_there (told.joined v u (omega (arith, count, hi)) (omega (arith, count, a.1)) a.2)),
-          )
+      there u h = let a = alike.has u h in let high : u ≤ g.nodes = omega (arith, a.1) in (a.0, high, (tell.told v u lo hi a.0 high).0 (sym a.2))
 
       back : (u : ℕ) → (1 ≤ u) × (u ≤ g.nodes) × InOneFragment net w v u → Contains us u
-      back u h = alike.all u h.0 (omega (arith, h.1)) (told.together v u (omega (arith, count, hi)) (omega (arith, count, h.1)) (joined_within joined_back ((fragments_joined g kept.graph w v u).0 h.2)))
+      back u h = alike.all u h.0 (omega (arith, h.1)) (sym ((tell.told v u lo hi h.0 h.1).1 h.2))
 
   -- the same of what calls answer
   pub branches_told : {X E : Type 0} (f : X → List Key) (r : Result X E) → IfOk r (λ x. f x ≡ filter (is_wanted One g.keys nodes) g.keys) → IfOk r (λ x. AreBranches net w (f x))
   branches_told f r h = IfOk-weaker r (λ x. f x ≡ filter (is_wanted One g.keys nodes) g.keys) (λ x. AreBranches net w (f x)) (λ x e. rw e branches_are) h
 
-  pub fragment_told : {X E : Type 0} (f : X → List ℕ) (r : Result X E) (ls : List ℕ) (n v : ℕ) → 1 ≤ v → v ≤ g.nodes → n ≡ g.nodes → length ls ≡ g.nodes + 1 →
-      AreTold ls (filter (is_wanted Both g.keys nodes) g.keys) → IfOk r (λ x. AreAlike ls (n + 1) v (f x)) → IfOk r (λ x. IsFragment net w v (f x))
-  fragment_told f r ls n v lo hi e count told h = IfOk-weaker r (λ x. AreAlike ls (n + 1) v (f x)) (λ x. IsFragment net w v (f x)) (λ x a. fragment_is ls (f x) v lo hi count told (rw e at a)) h
+  pub fragment_told : {X E : Type 0} (f : X → List ℕ) (r : Result X E) (ls : List ℕ) (n v : ℕ) → 1 ≤ v → v ≤ g.nodes → n ≡ g.nodes → TellFragments net w ls →
+      IfOk r (λ x. HaveLabel ls (n + 1) (get_or ls v 0) (f x)) → IfOk r (λ x. IsFragment net w v (f x))
+  fragment_told f r ls n v lo hi e tell h =
+      IfOk-weaker r (λ x. HaveLabel ls (n + 1) (get_or ls v 0) (f x)) (λ x. IsFragment net w v (f x)) (λ x a. fragment_is ls (f x) v lo hi tell (rw e at a)) h

@@ -13,4 +13,7 @@ pub mod Finding
 pub mod Sides
 pub mod Fragments
 pub mod Alike
+pub mod Counting
 pub mod Interleaved
+pub mod Enough
+pub mod CensusRows

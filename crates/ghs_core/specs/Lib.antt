@@ -5,3 +5,4 @@ pub mod Dispatch
 pub mod Kept
 pub mod Ledger
 pub mod Marked
+pub mod Census

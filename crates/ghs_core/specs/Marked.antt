@@ -1,5 +1,5 @@
 -- Links that are marked Branch at one end, or at both.
-use Rattle.std.specs.Prelude.{Option, Some, None, ◌≡◌, ℕ, ◌-◌, ◌≤◌, ◌<◌, Bool, ◌&&◌, ◌||◌, ◌↔◌, List, length, slice_index_or}
+use Rattle.std.specs.Prelude.{Option, Some, None, ◌≡◌, ℕ, ◌+◌, ◌-◌, ◌≤◌, ◌<◌, Bool, ◌&&◌, ◌||◌, ◌↔◌, List, length, slice_index, slice_index_or}
 use Rattle.std.specs.List.{Contains}
 use Rattle.std.specs.List.Sorted.{IsStrictlyIncreasing}
 use Rattle.ghs_graph.specs.declared.key.Key.{Key}
@@ -50,11 +50,16 @@ pub record IsFragment (g : Network) (w : Net) (v : ℕ) (us : List ℕ) : Type 0
   pub rising : IsStrictlyIncreasing us
   pub all : (u : ℕ) → Contains us u ↔ IsInFragment g w v u
 
--- of the numbers from 1 to one limit those that have the label of v, rising
-pub record AreAlike (ls : List ℕ) (limit v : ℕ) (us : List ℕ) : Type 0 where
+-- nodes have the same label exactly where they lie in one fragment
+pub record TellFragments (g : Network) (w : Net) (ls : List ℕ) : Type 0 where
+  pub count : length ls ≡ g.count + 1
+  pub told : (v u : ℕ) → 1 ≤ v → v ≤ g.count → 1 ≤ u → u ≤ g.count → (AreTogether ls v u ↔ InOneFragment g w v u)
+
+-- of the numbers from 1 to below a limit those that have this label, rising
+pub record HaveLabel (ls : List ℕ) (limit label : ℕ) (us : List ℕ) : Type 0 where
   pub rising : IsStrictlyIncreasing us
-  pub has : (u : ℕ) → Contains us u → (1 ≤ u) × (u < limit) × AreTogether ls v u
-  pub all : (u : ℕ) → 1 ≤ u → u < limit → AreTogether ls v u → Contains us u
+  pub has : (u : ℕ) → Contains us u → (1 ≤ u) × (u < limit) × (slice_index ls u ≡ label)
+  pub all : (u : ℕ) → 1 ≤ u → u < limit → slice_index ls u ≡ label → Contains us u
 
 -- each key is that of a link of the minimum spanning tree
 abbrev pub AreInTree : List Key → List Key → Type 0

@@ -1,6 +1,7 @@
 //! The net of one thread: all nodes and all queues, and the list of what has happened.
 #![tactic(auto)]
 
+pub mod census;
 mod counts;
 mod dispatch;
 mod halts;

@@ -1,7 +1,7 @@
 //! Links that are marked Branch.
-ghost use Rattle.std.specs.Prelude.{◌≡◌, ◌+◌, ◌≤◌, ◌++◌, ◌∷◌, [], length, filter, if◌then◌else◌, IfOk};
+ghost use Rattle.std.specs.Prelude.{◌≡◌, ◌+◌, ◌≤◌, ◌++◌, ◌∷◌, [], length, slice_index, filter, if◌then◌else◌, IfOk};
 ghost use Rattle.ghs_node.specs.Words.{is_branch};
-ghost use Rattle.ghs_core.specs.Marked.{are_wanted, is_wanted, HavePorts, AreAlike};
+ghost use Rattle.ghs_core.specs.Marked.{are_wanted, is_wanted, HavePorts, HaveLabel};
 
 use ghs_graph::classes::Classes;
 use ghs_graph::graph::Graph;
@@ -53,7 +53,7 @@ pub fn numbers_alike(
     requires classes { length classes.now ≡ count + 1 }
     requires few { count ≤ 1048576 }
     requires high { v ≤ count }
-    ensures { IfOk result (λ us. AreAlike classes.now (count + 1) v us.items) }
+    ensures { IfOk result (λ us. HaveLabel classes.now (count + 1) (slice_index classes.now v) us.items) }
 {
     let mut numbers = Vec::new(alloc);
     for u in 1..count + 1 {

@@ -12,14 +12,17 @@ ghost use Rattle.ghs_protocol.specs.Net.{opening, is_lawful, is_node, is_port, h
 ghost use Rattle.ghs_protocol.specs.Run.{IsRun};
 ghost use Rattle.ghs_core.specs.NetState.{network, net_of, work_at, IsLawful, IsAnswer, HasRoomToPlay, KeepsRoom, IsSameNet, IsLeastHalted, IsSameRun, event_node};
 ghost use Rattle.ghs_core.specs.Ledger.{IsLedger, IsWithinBound};
-ghost use Rattle.ghs_core.specs.Marked.{AreBranches, AreInTree, IsExactWhere, IsExact, IsFragment, IsInFragment};
+ghost use Rattle.ghs_core.specs.Marked.{AreBranches, AreInTree, IsExactWhere, IsExact, IsFragment, IsInFragment, TellFragments};
+ghost use Rattle.ghs_core.specs.Census.{IsCensus, AreLarge};
 
+use crate::census::{FragmentRow, count_classes};
 use crate::counts::Counts;
 use crate::dispatch::{dispose, send_all};
 use crate::halts::Halts;
 use crate::ledger::Ledger;
 use crate::marked::{Ends, branch_links, numbers_alike};
 use crate::parts::open_parts;
+use ghs_graph::classes::Classes;
 use ghs_graph::graph::Graph;
 use ghs_graph::key::Key;
 use ghs_graph::spanning::span;
@@ -207,9 +210,28 @@ impl Net {
         requires high { v ≤ self.now.graph.nodes }
         ensures { IfOk result (λ us. IsFragment (network self.now) (net_of self.now) v us.items) }
     {
+        let classes = self.fragment_classes(alloc)?;
+        numbers_alike(alloc, &classes, self.graph.nodes(), v)
+    }
+
+    /// Each fragment once, in the order of their least nodes: its least node, the greatest level of its nodes, and how many
+    /// they are. One of level L has at least 2^L nodes.
+    pub fn census(&self, alloc: Global) -> Result<Vec<FragmentRow>, AllocError>
+        ensures census { IfOk result (λ rows. IsCensus (network self.now) (net_of self.now) rows.items) }
+        ensures large { IfOk result (λ rows. AreLarge rows.items) }
+    {
+        let classes = self.fragment_classes(alloc)?;
+        let firsts = classes.firsts(alloc)?;
+        count_classes(alloc, &firsts.numbers, &self.nodes)
+    }
+
+    // The nodes in classes, one for each fragment.
+    fn fragment_classes(&self, alloc: Global) -> Result<Classes, AllocError>
+        ensures { IfOk result (λ c. TellFragments (network self.now) (net_of self.now) c) }
+    {
         let joined = branch_links(alloc, &self.graph, &self.nodes, Ends::Both)?;
         let spanning = span(alloc, self.graph.nodes(), &joined)?;
-        numbers_alike(alloc, &spanning.classes, self.graph.nodes(), v)
+        Ok(spanning.classes)
     }
 
     /// Whether both are nets of one graph on which the same events were played, whatever room they have.

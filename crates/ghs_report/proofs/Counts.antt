@@ -1,5 +1,5 @@
 -- Counts of messages that are the same for each of the seven kinds.
-use Rattle.std.proofs.Common.{◌≡◌, ℕ, ◌<◌, ◌∙◌, ap, arith, refl, sym}
+use Rattle.std.proofs.Common.{◌≡◌, ℕ, ◌<◌, arith, refl}
 use Rattle.ghs_graph.specs.Bound.{IsBound}
 use Rattle.ghs_protocol.specs.Ledger.{in_all}
 use Rattle.ghs_report.specs.NetText.{messages_line}

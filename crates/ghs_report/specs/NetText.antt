@@ -1,5 +1,5 @@
 -- The text of a finished net.
-use Rattle.std.specs.Prelude.{◌≡◌, ℕ, List, [], ◌∷◌, ◌++◌, codes, decimal, length}
+use Rattle.std.specs.Prelude.{◌≡◌, ℕ, ◌≤◌, List, [], ◌∷◌, ◌++◌, codes, decimal, length}
 use Rattle.ghs_graph.specs.declared.key.Key.{Key}
 use Rattle.ghs_graph.specs.Bound.{IsBound}
 use Rattle.ghs_graph.specs.Graph.{Shape}
@@ -30,11 +30,12 @@ messages_line sent =
 abbrev pub sends_line : ℕ → ℕ → List ℕ
 sends_line sent bound = named (codes "s ") sent ++ named (codes " ") bound ++ 10 ∷ []
 
--- The Branch links, which are the minimum spanning forest, and their total weight; the messages sent, and their bound.
+-- The Branch links, which are the minimum spanning forest, and their total weight; the messages sent, and the bound that they keep to.
 pub record IsNetText (g : Shape) (w : Net) (text : List ℕ) : Type 0 where
   pub branches : List Key
   pub all : AreBranches (network_of g) w branches
   pub forest : IsTree g.keys branches
   pub bound : ℕ
   pub is_bound : IsBound g.nodes (length g.keys) bound
+  pub within : in_all w.sent ≤ bound
   pub printed : text ≡ tree_text branches ++ messages_line w.sent ++ sends_line (in_all w.sent) bound

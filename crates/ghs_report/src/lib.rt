@@ -2,5 +2,6 @@
 #![tactic(auto)]
 
 pub mod net_text;
+pub mod run_text;
 pub mod tree_text;
 pub mod write_out;

@@ -12,6 +12,7 @@ ghost use Rattle.ghs_protocol.specs.Net.{opening, is_node, is_lawful_under};
 ghost use Rattle.ghs_protocol.specs.Run.{IsRunUnder};
 ghost use Rattle.ghs_protocol.specs.Marks.{HasEnded};
 ghost use Rattle.ghs_core.specs.NetState.{network, net_of, event_node, work_at, IsLawful, IsAnswer, HasRoomToPlay, IsLeastHalted};
+ghost use Rattle.ghs_core.specs.Census.{IsCensus, AreLarge};
 ghost use Rattle.ghs_core.specs.Ledger.{IsWithinBound};
 ghost use Rattle.ghs_core.specs.Marked.{AreBranches, AreInTree, IsExact, IsExactWhere};
 ghost use Rattle.ghs_world.specs.Outs.{event_out, without};
@@ -25,6 +26,7 @@ use crate::ticket::{Step, Ticket};
 use crate::upkeep::{mark_changed, may_happen, open_index};
 use crate::wake_set::WakeSet;
 use crate::woken::{Committed, Woken, touched};
+use ghs_core::census::FragmentRow;
 use ghs_core::event::Event;
 use ghs_core::ledger::Ledger;
 use ghs_core::net::Net;
@@ -528,6 +530,15 @@ impl World {
         ensures forest { IfOk result (λ ks. HasEnded self.now.net.graph (home self.now) → IsTree self.now.net.graph.keys ks.items) }
     {
         self.net.branches(alloc)
+    }
+
+    /// Each fragment of the home view once, in the order of their least nodes: its least node, the greatest level of its
+    /// nodes, and how many they are. One of level L has at least 2^L nodes.
+    pub fn census(&self, alloc: Global) -> Result<Vec<FragmentRow>, AllocError>
+        ensures census { IfOk result (λ rows. IsCensus (network self.now.net) (home self.now) rows.items) }
+        ensures large { IfOk result (λ rows. AreLarge rows.items) }
+    {
+        self.net.census(alloc)
     }
 
     /// The graph, when the world is done with.

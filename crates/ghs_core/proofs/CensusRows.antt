@@ -1,0 +1,164 @@
+-- The rows of the classes are a census.
+use Rattle.std.proofs.Common.{◌≡◌, ℕ, ◌<◌, ◌≤◌, ◌^◌, List, length, get_or, Result, IfOk, refl, sym, ◌∙◌, ap, ⊎_elim, arith, ltb-true}
+use Rattle.std.specs.List.{Contains, filter}
+use Rattle.std.proofs.lemmas.Bool.{cases_lt, cases_order, lt-ltb}
+use Rattle.std.proofs.lemmas.List.{get_or_default}
+use Rattle.std.proofs.lemmas.List.Elements.{All-contains, Contains-get_or}
+use Rattle.std.proofs.lemmas.List.Kept.{AllPairs-filter}
+use Rattle.std.proofs.lemmas.Result.{IfOk-weaker}
+use Rattle.ghs_graph.specs.Graph.{Shape}
+use Rattle.ghs_graph.specs.Classes.{IsFirst, AreFirsts}
+use Rattle.ghs_graph.proofs.lemmas.Members.{in_filter, filter_has}
+use Rattle.ghs_node.specs.NodeState.{NodeState}
+use Rattle.ghs_links.specs.Links.{LinksState}
+use Rattle.ghs_protocol.specs.declared.event.Event.{Event}
+use Rattle.ghs_protocol.specs.Network.{Network, network_of}
+use Rattle.ghs_protocol.specs.Net.{Net}
+use Rattle.ghs_protocol.specs.Run.{net_after}
+use Rattle.ghs_protocol.specs.Marks.{InOneFragment}
+use Rattle.ghs_protocol.proofs.lemmas.Fragments.{leads_on}
+use Rattle.ghs_core.specs.declared.census.FragmentRow.{FragmentRow}
+use Rattle.ghs_core.specs.declared.counts.Counts.{Counts}
+use Rattle.ghs_core.specs.declared.halts.Halts.{Halts}
+use Rattle.ghs_core.specs.Kept.{IsKept}
+use Rattle.ghs_core.specs.Marked.{TellFragments, IsInFragment}
+use Rattle.ghs_core.specs.Census.{IsRow, IsCensus, AreLarge, CountsClass, AreCounted, HaveFirsts, has_nodes, level_in, no_row}
+use Rattle.ghs_core.proofs.Enough.{no_more}
+use Rattle.ghs_core.proofs.Interleaved.{large_fragment}
+
+first_is_one : (ls : List ℕ) (label r s : ℕ) → IsFirst ls label r → IsFirst ls label s → r ≡ s
+first_is_one ls label r s a b = ⊎_elim
+    (λ e. e)
+    (λ o. ⊎_elim (λ lt. absurd (b.before r a.low lt a.labelled)) (λ lt. absurd (a.before s b.low lt b.labelled)) o)
+    (cases_order r s)
+
+module _ {g : Shape} {es : List Event} {nodes : List NodeState} {links : LinksState} {counts : Counts} {halts : Halts} (kept : IsKept g es nodes links counts halts) where
+  abbrev net : Network
+  net = network_of g
+
+  abbrev w : Net
+  w = net_after g es
+
+  -- a fragment of level L is that of a node of level L
+  pub large_row : (row : FragmentRow) → IsRow net w row → 2 ^ row.level ≤ row.nodes
+  large_row row r =
+      let top = r.level.has in
+      let here = (r.fragment.all top.0).0 top.1 in
+      let many = large_fragment g es kept.graph kept.run top.0 row.level here.0 here.1 (sym top.2) in
+      let within : (x : ℕ) → Contains many.list x → Contains r.nodes x =
+      λ x c. let z = All-contains (IsInFragment net w top.0) many.list x many.each c in (r.fragment.all x).1 (z.0, z.1, leads_on net here.2 z.2) in
+      let few = no_more many.list r.nodes many.once within in
+      let enough = many.many in
+      let all = r.number in
+      omega (arith, few, enough, all)
+
+  module _ (ls firsts : List ℕ) (tell : TellFragments net w ls) (f : AreFirsts ls firsts) where
+    in_graph : (v : ℕ) → v < length firsts → v ≤ g.nodes
+    in_graph v lt = let a = f.places in let b = tell.count in omega (arith, a, b, lt)
+
+    placed : (v : ℕ) → v ≤ g.nodes → v < length firsts
+    placed v hi = let a = f.places in let b = tell.count in omega (arith, a, b, hi)
+
+    first : (v : ℕ) → 1 ≤ v → v ≤ g.nodes → IsFirst ls (get_or ls v 0) (get_or firsts v 0)
+    first v lo hi = f.each v lo (let b = tell.count in omega (arith, b, hi))
+
+    first_low : (v : ℕ) → 1 ≤ v → v ≤ g.nodes → get_or firsts v 0 ≤ v
+    first_low v lo hi = ⊎_elim (λ lt. absurd ((first v lo hi).before v lo lt refl)) (λ le. le) (cases_lt v (get_or firsts v 0))
+
+    pub have_firsts : HaveFirsts firsts nodes
+    have_firsts = record {
+      places = let a = f.places in let b = tell.count in let c = kept.shows.count in omega (arith, a, b, c);
+      few = let c = kept.shows.count in let few = kept.graph.nodes in omega (arith, c, few);
+      within = λ v lo hi. let c = kept.shows.count in let low = first_low v lo (omega (arith, c, hi)) in omega (arith, low, hi);
+    }
+
+    level_is : (v : ℕ) → 1 ≤ v → v ≤ g.nodes → level_in nodes v ≡ (w.node v).head.level
+    level_is v lo hi = ap (λ (n : NodeState). n.head.level) (kept.shows.node v lo hi)
+
+    -- a class with a member is a fragment
+    module _ (k : ℕ) (row : FragmentRow) (c : CountsClass firsts (level_in nodes) (length firsts) k row) where
+      member : (u : ℕ) → Contains c.members u → (1 ≤ u) × (u ≤ g.nodes) × IsFirst ls (get_or ls u 0) k
+      member u i = let a = c.are.has u i in let hi = in_graph u a.1 in (a.0, hi, rw a.2 at (first u a.0 hi))
+
+      module _ (x : ℕ) (some : Contains c.members x) where
+        k_low : 1 ≤ k
+        k_low = (member x some).2.low
+
+        k_in : k ≤ g.nodes
+        k_in = let m = member x some in let a = (c.are.has x some).2 in let low = first_low x m.0 m.1 in omega (arith, m.1, low, a)
+
+        own : IsFirst ls (get_or ls k 0) k
+        own = let m = (member x some).2 in rw m.labelled m
+
+        there : (u : ℕ) → Contains c.members u → (1 ≤ u) × (u ≤ g.nodes) × InOneFragment net w k u
+        there u i = let m = member u i in (m.0, m.1, (tell.told k u k_low k_in m.0 m.1).0 m.2.labelled)
+
+        back : (u : ℕ) → (1 ≤ u) × (u ≤ g.nodes) × InOneFragment net w k u → Contains c.members u
+        back u h =
+            let together = (tell.told k u k_low k_in h.0 h.1).1 h.2 in
+            c.are.all u h.0 (placed u h.1) (first_is_one ls (get_or ls u 0) (get_or firsts u 0) k (first u h.0 h.1) (rw together at own))
+
+        greatest : (u : ℕ) × Contains c.members u × ((w.node u).head.level ≡ row.level)
+        greatest = ⊎_elim
+            (λ (more : 0 < row.level). let h = c.has more in let m = member h.0 h.1 in (h.0, h.1, sym (level_is h.0 m.0 m.1) ∙ h.2))
+            (λ (none : row.level ≤ 0).
+            let m = member x some in
+            let most = c.most x some in
+            let is = level_is x m.0 m.1 in
+            (x, some, omega (arith, none, most, is)))
+            (cases_lt 0 row.level)
+
+        pub is_row : IsRow net w row
+        is_row = record {
+          nodes = c.members;
+          fragment = rw c.least (record { rising = c.are.rising; all = λ u. (there u, back u) });
+          least = λ u i. let m = member u i in ⊎_elim (λ (lt : u < k). absurd (m.2.before u m.0 lt refl)) (λ (le : k ≤ u). rw c.least le) (cases_lt u k);
+          level = record { has = greatest; most = λ u i. let m = member u i in rw (level_is u m.0 m.1) at (c.most u i) };
+          number = c.nodes;
+        }
+
+    module _ (rows : List FragmentRow) (a : AreCounted firsts (level_in nodes) rows) where
+      -- each place has a class
+      class_at : (i : ℕ) (d : FragmentRow) → i < length a.places → CountsClass firsts (level_in nodes) (length firsts) i (get_or a.places i d)
+      class_at i d lt = let p = a.counted.places in rw (get_or_default a.places i d no_row lt) (a.counted.each i (omega (arith, p, lt)))
+
+      row_at : (r : FragmentRow) → Contains (filter has_nodes a.places) r → IsRow net w r
+      row_at r h =
+          let k = in_filter has_nodes a.places r h in
+          let i = k.0.0 in
+          let c : CountsClass firsts (level_in nodes) (length firsts) i r = rw k.0.2 at (class_at i r k.0.1) in
+          let many = c.nodes in
+          let some : 0 < r.nodes = ltb-true 0 r.nodes k.1 in
+          is_row i r c (get_or c.members 0 0) (Contains-get_or c.members 0 0 (omega (arith, many, some)))
+
+      all_in : (v : ℕ) → 1 ≤ v → v ≤ g.nodes → (r : FragmentRow) × Contains (filter has_nodes a.places) r × InOneFragment net w r.least v
+      all_in v lo hi =
+          let k = get_or firsts v 0 in
+          let low = first_low v lo hi in
+          let is = first v lo hi in
+          let inside : k < length a.places = let p = a.counted.places in let q = placed v hi in omega (arith, p, q, low) in
+          let c = class_at k no_row inside in
+          let member = c.are.all v lo (placed v hi) refl in
+          let some : 0 < (get_or a.places k no_row).nodes = let lt = member.1 in let many = c.nodes in omega (arith, lt, many) in (
+            get_or a.places k no_row,
+            filter_has has_nodes a.places (get_or a.places k no_row) (Contains-get_or a.places k no_row inside) (lt-ltb 0 _ some),
+            rw c.least ((tell.told k v is.low (omega (arith, low, hi)) lo hi).0 is.labelled),
+          )
+
+      rising : (i j : ℕ) (d : FragmentRow) → i < j → j < length a.places → (get_or a.places i d).least < (get_or a.places j d).least
+      rising i j d lt jl = let p = (class_at i d (omega (arith, lt, jl))).least in let q = (class_at j d jl).least in omega (arith, p, q, lt)
+
+      pub is_census : IsCensus net w rows
+      is_census = rw a.kept (record {
+        rising = AllPairs-filter (λ r s. r.least < s.least) has_nodes a.places rising;
+        each = λ i d lt. row_at (get_or (filter has_nodes a.places) i d) (Contains-get_or (filter has_nodes a.places) i d lt);
+        all = all_in;
+      })
+
+    pub census_told : {X E : Type 0} (items : X → List FragmentRow) (r : Result X E) → IfOk r (λ x. AreCounted firsts (level_in nodes) (items x)) →
+        IfOk r (λ x. IsCensus net w (items x))
+    census_told items r h = IfOk-weaker r (λ x. AreCounted firsts (level_in nodes) (items x)) (λ x. IsCensus net w (items x)) (λ x a. is_census (items x) a) h
+
+  -- its rows are large
+  pub large_told : {X E : Type 0} (items : X → List FragmentRow) (r : Result X E) → IfOk r (λ x. IsCensus net w (items x)) → IfOk r (λ x. AreLarge (items x))
+  large_told items r h = IfOk-weaker r (λ x. IsCensus net w (items x)) (λ x. AreLarge (items x)) (λ x c. λ k d lt. large_row (get_or (items x) k d) (c.each k d lt)) h

@@ -1,0 +1,22 @@
+use Rattle.std.proofs.Common.{◌+◌, ◌∙◌, ap, ℕ}
+use Rattle.ghs_core.proofs.Fragments.{have_ports, joined_rising, joined_among, classes_tell}
+use Rattle.ghs_core.proofs.net.Net.fragment_classes.Goals as goal
+
+pub branch_links-requires : goal.branch_links-requires
+branch_links-requires c = rw c.deref.ensures.value (have_ports c.self.invariant)
+
+pub span-requires-clause-rising : goal.span-requires-clause-rising
+span-requires-clause-rising c =
+    let joined = c.deref-2.ensures.value ∙ rw c.deref.ensures.value at c.in_ok-joined.ensures in
+    rw joined (joined_rising c.self.invariant)
+
+pub span-requires-clause-among : goal.span-requires-clause-among
+span-requires-clause-among c =
+    let joined = c.deref-2.ensures.value ∙ rw c.deref.ensures.value at c.in_ok-joined.ensures in
+    rw (joined, c.nodes.ensures.nodes) (joined_among c.self.invariant)
+
+pub returns : goal.returns
+returns c =
+    let joined = c.deref-2.ensures.value ∙ rw c.deref.ensures.value at c.in_ok-joined.ensures in
+    let told = rw joined at c.in_ok-spanning.ensures.told in
+    rw (← c.self.view_is) (classes_tell c.self.invariant c.in_ok-spanning.spanning.classes (c.in_ok-spanning.ensures.count ∙ ap (λ (n : ℕ). n + 1) c.nodes.ensures.nodes) told)
