@@ -1,11 +1,13 @@
 -- What a schedule picks is one list.
-use Rattle.std.proofs.Common.{◌≡◌, ◌+◌, ◌%◌, ◌<◌, ◌≤◌, ◌∙◌, ℕ, Bool, List, [], ◌∷◌, ◌++◌, length, take, Some, slice_get, refl, sym, ap, ap₂, arith, ⊎_elim, take_all, length-append}
+use Rattle.std.proofs.Common.{◌≡◌, ◌%◌, ◌<◌, ◌≤◌, ◌∙◌, ℕ, Bool, List, [], ◌∷◌, ◌++◌, length, take, slice_get, refl, sym, ap, ap₂, subst, arith, ⊎_elim, take_all, length-append}
 use Rattle.std.proofs.lemmas.Bool.{cases_lt}
 use Rattle.std.proofs.lemmas.List.{take-append-le}
 use Rattle.std.proofs.lemmas.Option.{same_Some}
 use Rattle.ghs_graph.specs.Graph.{Shape}
 use Rattle.ghs_protocol.specs.declared.event.Event.{Event}
-use Rattle.ghs_sched.specs.Picks.{Begun, IsPick, IsPicked, Picked, PicksAgree, PicksAreOne, lawful_events}
+use Rattle.ghs_protocol.specs.Marks.{HasEnded}
+use Rattle.ghs_protocol.specs.Run.{net_after}
+use Rattle.ghs_sched.specs.Picks.{Begun, IsPick, IsPicked, IsSeededRun, Picked, PicksAreOne, SeededRunIsOne, lawful_events}
 use Rattle.ghs_sched.specs.Schedule.{next_of, word_of}
 
 module _ (may : ℕ → Bool) (g : Shape) (turns : ℕ) (trace : List Event) (words : List ℕ) where
@@ -38,8 +40,37 @@ module _ (may : ℕ → Bool) (g : Shape) (turns : ℕ) (trace : List Event) (wo
       (λ (ge : length (fs ++ f ∷ []) ≤ length es). take_all (length es) (fs ++ f ∷ []) (omega arith) ∙ sym (one_run p (Picked fs t f q going few pick) (omega arith)).0)
       (cases_lt (length es) (length (fs ++ f ∷ [])))
 
+  -- behind a run that is over nothing is picked
+  none_behind : {es fs : List Event} {s t : List ℕ} →
+      IsSeededRun may g turns trace words es s →
+      IsPicked may g turns trace words fs t →
+      length fs ≤ length es
+  none_behind p Begun = longer p.picked
+  none_behind {es} p (Picked fs t f q going few pick) = ⊎_elim
+      (λ (lt : length fs < length es). let m = length-append fs (f ∷ []) in omega arith)
+      (λ (ge : length es ≤ length fs).
+      let le = none_behind p q in
+      let same = (one_run p.picked q (omega arith)).0 in
+      absurd (⊎_elim
+      (λ ended. going (subst (λ xs. HasEnded g (net_after g xs)) same ended))
+      (λ o. ⊎_elim
+      (λ full. let e = ap length same in omega arith)
+      (λ none. let some = pick.0 in let e = ap length (sym (ap (lawful_events may g) same) ∙ none) in omega arith) o)
+      p.over))
+      (cases_lt (length fs) (length es))
+
 pub picks_are_one : PicksAreOne
 picks_are_one may g turns trace words es fs s t p q = record {
   begins = λ le. begins_with may g turns trace words p q le;
   state = λ e. (one_run may g turns trace words p q e).1;
+}
+
+pub seeded_run_is_one : SeededRunIsOne
+seeded_run_is_one may g turns trace words es s p = record {
+  begins = λ fs t q. begins_with may g turns trace words q p.picked (none_behind may g turns trace words p q);
+  one =
+      λ fs t q.
+      let low = none_behind may g turns trace words p q.picked in
+      let high = none_behind may g turns trace words q p.picked in
+      one_run may g turns trace words q.picked p.picked (omega arith);
 }

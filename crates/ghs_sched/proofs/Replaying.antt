@@ -1,40 +1,43 @@
 -- Runs done again: the first event that isn't lawful, and that a run has none.
-use Rattle.std.proofs.Common.{◌≡◌, ◌+◌, ◌-◌, ◌<◌, ◌≤◌, ◌∙◌, ℕ, zero, suc, Bool, true, false, ◌&&◌, List, [], ◌∷◌, ◌++◌, length, take, drop, get_or, Option, Some, None, slice_get, refl, sym, ap, subst, arith, length-take-le}
-use Rattle.std.specs.List.{All}
-use Rattle.std.specs.Prelude.{nat_lt}
+use Rattle.std.proofs.Common.{◌≡◌, ◌+◌, ◌-◌, ◌<◌, ◌∙◌, ℕ, zero, suc, Bool, true, false, ◌&&◌, not, List, [], ◌∷◌, ◌++◌, length, take, drop, get_or, Some, slice_get, sym, ap, subst, arith, length-take-le}
 use Rattle.std.proofs.Math.Seq.{split_at}
-use Rattle.std.proofs.lemmas.Bool.{and_from, false≢true, lt-ltb}
+use Rattle.std.proofs.lemmas.Bool.{false≢true}
 use Rattle.std.proofs.lemmas.Option.{same_Some, slice_get-get_or}
 use Rattle.ghs_graph.specs.Graph.{Shape}
 use Rattle.ghs_protocol.specs.declared.event.Event.{Event}
 use Rattle.ghs_protocol.specs.Network.{Network, network_of}
 use Rattle.ghs_protocol.specs.Net.{Net, effect, happens, is_lawful, is_lawful_under, opening}
-use Rattle.ghs_protocol.specs.Run.{IsAfter, IsRun, IsRunUnder, MayWake, net_after, run}
+use Rattle.ghs_protocol.specs.Run.{IsRunUnder, MayWake, net_after, run}
 use Rattle.ghs_protocol.proofs.lemmas.Events.{if_some}
 use Rattle.ghs_protocol.proofs.lemmas.Runs.{both_some, lawful_under, net_after_is, run_splits}
-use Rattle.ghs_core.specs.NetState.{network, net_of}
+use Rattle.ghs_core.specs.NetState.{event_node, network}
 use Rattle.ghs_world.specs.declared.wake_set.WakeSet.{WakeSet}
+use Rattle.ghs_world.specs.Outs.{is_out}
+use Rattle.ghs_world.specs.Ready.{is_ready}
 use Rattle.ghs_world.specs.Wakes.{may_wake}
-use Rattle.ghs_world.specs.WorldState.{WorldState, has_turn, may_happen, wakers}
-use Rattle.ghs_sched.specs.Doing.{HasNotMoved}
+use Rattle.ghs_world.specs.WorldState.{WorldState, may_happen, wakers}
 use Rattle.ghs_sched.specs.Replays.{HasReplayed, IsFirstUnlawful}
 
--- the first event that a world refuses is the first that isn't lawful
-pub first_unlawful : (g : Shape) (wake : WakeSet) (es : List Event) (i k : ℕ) (s t : WorldState) (d : Event) → HasReplayed g wake (take i es) s → i < length es → may_happen s (get_or es i d) ≡ false →
-    HasNotMoved s t → IsRunUnder (wakers t) (network t.net) t.net.trace → k ≡ length t.net.trace → IsFirstUnlawful g wake es (k + 1)
-first_unlawful g wake es i k s t d done lt refused still is_run same =
+-- the first event that isn't ready is the first that isn't lawful
+pub first_unlawful : (g : Shape) (wake : WakeSet) (es : List Event) (i k : ℕ) (s : WorldState) (d : Event) →
+    HasReplayed g wake (take i es) s →
+    i < length es →
+    is_ready s (get_or es i d) ≡ false →
+    IsRunUnder (wakers s) (network s.net) s.net.trace →
+    k ≡ length s.net.trace →
+    IsFirstUnlawful g wake es (k + 1)
+first_unlawful g wake es i k s d done lt refused is_run same =
     let many : length (take i es) ≡ i = length-take-le i es (omega arith) in
-    let trace : t.net.trace ≡ take i es = still.net.trace ∙ done.trace in
-    let graph : t.net.graph ≡ g = still.net.graph ∙ done.graph in
-    let set : t.wake ≡ wake = still.wake ∙ done.wake_set in
-    let is : k ≡ i = same ∙ ap length trace ∙ many in
+    let is : k ≡ i = same ∙ ap length done.trace ∙ many in
     let back : i + 1 - 1 ≡ i = omega arith in
+    let none : is_out s.outs (event_node (get_or es i d)) ≡ false = ap (λ os. is_out os (event_node (get_or es i d))) done.outs in
+    let unlawful : may_happen s (get_or es i d) ≡ false = sym (ap (λ b. not b && may_happen s (get_or es i d)) none) ∙ refused in
     rw is (record {
       counted = omega arith;
       event = get_or es i d;
       here = rw back (slice_get-get_or es i d lt);
-      before = rw (back, ← trace, ← set, ← graph) is_run;
-      unlawful = rw (back, ← done.trace, ← done.wake_set, ← done.graph) refused;
+      before = rw (back, ← done.trace, ← done.wake_set, ← done.graph) is_run;
+      unlawful = rw (back, ← done.trace, ← done.wake_set, ← done.graph) unlawful;
     })
 
 -- what happens is lawful

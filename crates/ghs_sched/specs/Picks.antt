@@ -1,5 +1,5 @@
 -- Runs whose events a schedule picks.
-use Rattle.std.specs.Prelude.{◌≡◌, ℕ, ◌%◌, ◌<◌, ◌≤◌, Bool, Some, List, [], ◌∷◌, ◌++◌, filter, length, slice_get, take}
+use Rattle.std.specs.Prelude.{◌≡◌, ℕ, ◌%◌, ◌<◌, ◌≤◌, ◌⊎◌, Bool, Some, List, [], ◌∷◌, ◌++◌, filter, length, slice_get, take}
 use Rattle.ghs_graph.specs.Graph.{Shape}
 use Rattle.ghs_protocol.specs.declared.event.Event.{Event}
 use Rattle.ghs_protocol.specs.Marks.{HasEnded}
@@ -24,6 +24,15 @@ pub data IsPicked (may : ℕ → Bool) (g : Shape) (turns : ℕ) (trace : List E
       (HasEnded g (net_after g es) → ⊥) → length es < turns → IsPick (lawful_events may g es) s e →
       IsPicked may g turns trace words (es ++ e ∷ []) (next_of s)
 
+-- nothing more is picked: the run has ended, no turn is left, or no event is lawful
+abbrev pub IsOver : (ℕ → Bool) → Shape → ℕ → List Event → Type 0
+IsOver may g turns es = HasEnded g (net_after g es) ⊎ (turns ≤ length es) ⊎ (lawful_events may g es ≡ [])
+
+-- the seeded run from a trace on: all that the schedule picks
+pub record IsSeededRun (may : ℕ → Bool) (g : Shape) (turns : ℕ) (trace : List Event) (words : List ℕ) (es : List Event) (s : List ℕ) : Type 0 where
+  pub picked : IsPicked may g turns trace words es s
+  pub over : IsOver may g turns es
+
 -- of two lists that a schedule has picked from one trace on the longer begins with the other; where they have one length, the schedule's states are the same too
 pub record PicksAgree (es fs : List Event) (s t : List ℕ) : Type 0 where
   pub begins : length es ≤ length fs → take (length es) fs ≡ es
@@ -33,3 +42,13 @@ abbrev pub PicksAreOne : Type 0
 PicksAreOne =
     (may : ℕ → Bool) (g : Shape) (turns : ℕ) (trace : List Event) (words : List ℕ) (es fs : List Event) (s t : List ℕ) →
     IsPicked may g turns trace words es s → IsPicked may g turns trace words fs t → PicksAgree es fs s t
+
+-- whatever the schedule has picked is the beginning of the seeded run, and there is one such run
+pub record IsTheRun (may : ℕ → Bool) (g : Shape) (turns : ℕ) (trace : List Event) (words : List ℕ) (es : List Event) (s : List ℕ) : Type 0 where
+  pub begins : (fs : List Event) (t : List ℕ) → IsPicked may g turns trace words fs t → take (length fs) es ≡ fs
+  pub one : (fs : List Event) (t : List ℕ) → IsSeededRun may g turns trace words fs t → (fs ≡ es) × (t ≡ s)
+
+abbrev pub SeededRunIsOne : Type 0
+SeededRunIsOne =
+    (may : ℕ → Bool) (g : Shape) (turns : ℕ) (trace : List Event) (words : List ℕ) (es : List Event) (s : List ℕ) →
+    IsSeededRun may g turns trace words es s → IsTheRun may g turns trace words es s

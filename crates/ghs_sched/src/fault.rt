@@ -1,4 +1,4 @@
-//! Why a text gives no trace, and why events can't be done again.
+//! Why a text gives no trace, why events can't be done again, and why a run stops.
 ghost use Rattle.ghs_sched.specs.Reading.{of_line};
 ghost use Rattle.ghs_sched.specs.declared.fault.TraceFault.TheVariants.{Memory};
 ghost use Rattle.std.specs.Prelude.{◌≡◌};
@@ -57,6 +57,22 @@ pub enum ReplayFault {
     /// Never answered: each lawful event has a rule.
     #[error("event {0} met a state that has no rule")]
     Unforeseen(u64),
+    #[error("out of memory")]
+    Memory,
+}
+
+/// Why a run stops before its end.
+#[derive(Clone, Copy, Debug, Drop, PartialEq, Eq, Error)]
+pub enum RunFault {
+    /// The commits have come to the turns, or no ticket number is left.
+    #[error("turn limit reached")]
+    TurnLimit,
+    /// Never answered: while a run goes on, an event is ready.
+    #[error("no event is ready and the run has not ended")]
+    Stalled,
+    /// Never answered: each lawful event has a rule.
+    #[error("a message met a state that has no rule")]
+    Unforeseen,
     #[error("out of memory")]
     Memory,
 }

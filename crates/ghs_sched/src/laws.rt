@@ -1,6 +1,6 @@
 //! Laws of the definitions, which cost nothing to call.
 ghost use Rattle.ghs_sched.specs.Laws.{IsOneReading, ReadsBack};
-ghost use Rattle.ghs_sched.specs.Picks.{PicksAreOne};
+ghost use Rattle.ghs_sched.specs.Picks.{PicksAreOne, SeededRunIsOne};
 ghost use Rattle.ghs_protocol.specs.declared.event.Event.{Event};
 ghost use Rattle.std.specs.Prelude.{List, ℕ};
 
@@ -17,4 +17,9 @@ pub fn law_one_reading()
 /// What a schedule picks is one list: of two lists of events that it picks from one trace on, one begins with the other.
 pub fn law_picks()
     ensures { PicksAreOne }
+{}
+
+/// A schedule has one seeded run from a trace on, and whatever it has picked is the beginning of it.
+pub fn law_seeded_run()
+    ensures { SeededRunIsOne }
 {}

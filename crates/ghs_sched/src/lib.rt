@@ -1,12 +1,12 @@
 //! Runs: the text of a trace, written and read, schedules, and runs done again.
 #![tactic(auto)]
 
-mod doing;
 pub mod fault;
 pub mod laws;
 mod line;
 mod reading;
 pub mod replay;
+pub mod run;
 pub mod schedule;
 #[cfg(test)]
 mod tests;

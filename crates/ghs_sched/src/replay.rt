@@ -3,10 +3,10 @@ ghost use Rattle.ghs_protocol.specs.Network.{network_of};
 ghost use Rattle.ghs_protocol.specs.Run.{IsRunUnder};
 ghost use Rattle.ghs_sched.specs.Replays.{CantReplay, HasReplayed};
 ghost use Rattle.ghs_sched.specs.declared.fault.ReplayFault.TheVariants.{Memory};
+ghost use Rattle.ghs_world.specs.Ready.{is_ready};
 ghost use Rattle.ghs_world.specs.Wakes.{may_wake};
 ghost use Rattle.std.specs.Prelude.{IfErr, IfOk, length, ◌≡◌, ◌≤◌};
 
-use crate::doing::{DoFault, do_event};
 use crate::fault::ReplayFault;
 use crate::trace::EVENT_LIMIT;
 use ghs_graph::graph::Graph;
@@ -34,16 +34,20 @@ pub fn replay(
         Err((graph, _)) => return Err((graph, ReplayFault::Memory)),
     };
     for event in events {
-        match do_event(alloc, &mut world, *event) {
-            Ok(()) => {}
-            Err(DoFault::NotLawful) => {
-                let place = world.trace().len() as u64 + 1;
-                return Err((world.into_graph(), ReplayFault::NotLawful(place)));
-            }
-            // There are as many turns as there may be events.
-            Err(DoFault::TurnLimit) => unreachable!(),
-            Err(DoFault::Memory) => return Err((world.into_graph(), ReplayFault::Memory)),
+        if !is_ready(&world, *event) {
+            let place = world.trace().len() as u64 + 1;
+            return Err((world.into_graph(), ReplayFault::NotLawful(place)));
+        }
+        if world.make(alloc, *event).is_err() {
+            return Err((world.into_graph(), ReplayFault::Memory));
         }
     }
     Ok(world)
+}
+
+/// Whether an event may be checked out, turns and memory aside.
+fn is_ready(world: &World, event: Event) -> bool
+    ensures { result ≡ is_ready world.now event }
+{
+    world.has_place(event) && world.is_ready(event)
 }

@@ -1,10 +1,11 @@
 //! Schedules: which of the events that may happen comes next.
 ghost use Rattle.ghs_sched.specs.Schedule.{next_of, seeded, word_of};
-ghost use Rattle.std.specs.Prelude.{◌%◌, ◌<◌, ◌≡◌, ◌≤◌};
+ghost use Rattle.std.specs.Prelude.{IfOk, ◌%◌, ◌<◌, ◌≡◌, ◌≤◌};
 
 use rand_core::SeedableRng;
 use rand_core::utils::NextWord;
 use rand_xoshiro::Xoshiro256PlusPlus;
+use std::alloc::AllocError;
 use std::marker::Model;
 
 /// A source of picks that a seed fixes: the words of Xoshiro256++. Not for secrets.
@@ -29,6 +30,15 @@ impl Schedule {
         Schedule {
             words: Xoshiro256PlusPlus::seed_from_u64(seed),
         }
+    }
+
+    /// An equal schedule.
+    pub fn copy(&self) -> Result<Schedule, AllocError>
+        ensures { IfOk result (λ s. s ≡ self.now) }
+    {
+        Ok(Schedule {
+            words: self.words.clone()?,
+        })
     }
 
     /// A place in a list of this length, which is 1 at least: the next word, modulo the length.

@@ -8,4 +8,5 @@ mod Listing
 mod Nodes
 mod Reacting
 mod Staying
+mod Still
 mod Waiting

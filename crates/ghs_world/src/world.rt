@@ -2,7 +2,7 @@
 ghost use Rattle.std.specs.Prelude.{◌≡◌, ◌↔◌, ◌≤◌, ◌+◌, ◌-◌, ◌^◌, [], ◌<◌, length, filter, slice_get, IfOk, IfErr, OnOk, OnErr, IsTrue, Some, true};
 ghost use Rattle.std.specs.List.{find, range_with_len};
 ghost use Rattle.ghs_node.specs.Rows.{Row};
-ghost use Rattle.ghs_world.specs.Ready.{all_events, has_lawful, has_ready, is_ready, next_of, next_node_of, takes};
+ghost use Rattle.ghs_world.specs.Ready.{all_events, has_lawful, has_ready, is_ready, next_of, next_node_of, ready_events, takes};
 ghost use Rattle.ghs_world.specs.Steps.{Commits, Makes, LeavesOthers, AreReadyOf, HasAllRoused, RefusesStep, IsSameWorld, HasEach, touched};
 ghost use Rattle.ghs_graph.specs.Graph.{IsGraph};
 ghost use Rattle.ghs_graph.specs.Ports.{ports_of};
@@ -38,6 +38,7 @@ use ghs_node::fault::NodeFault;
 use ghs_node::laws::law_list_has_no_row;
 use ghs_node::react::react;
 use ghs_node::work::Work;
+use ghs_protocol::interleavings::law_stillness;
 use std::alloc::{AllocError, Global};
 use std::marker::Model;
 
@@ -129,7 +130,7 @@ impl World {
     fn refusal(&self, event: Event) -> Option<OutFault>
         ensures { result ≡ refusal self.now event }
     {
-        if !has_place(self.net.graph(), event) {
+        if !self.has_place(event) {
             Some(OutFault::NoSuch)
         } else if self.outs.has_node(node_of(event)) {
             Some(OutFault::Busy)
@@ -264,6 +265,17 @@ impl World {
         ensures { result ≡ find (has_lawful self.now) (range_with_len low (self.now.net.graph.nodes + 1 - low)) }
     {
         self.index.node_from(self.net.graph(), low)
+    }
+
+    /// Whether the graph has the event's node and port.
+    pub fn has_place(&self, event: Event) -> bool
+        ensures { result ≡ has_place (network self.now.net) event }
+    {
+        let graph = self.net.graph();
+        match event {
+            Event::Wake(v) => has_node(graph, v),
+            Event::Take(v, port) => has_node(graph, v) && (port as usize) < graph.ports(v).len(),
+        }
     }
 
     /// Whether an event that names a node or port of the graph may be checked out, turns and memory aside.
@@ -500,11 +512,14 @@ impl World {
     }
 
     /// Whether the run has ended: each component has a core node that has halted. Then the Branch links are the minimum
-    /// spanning forest's, each of them Branch at both ends.
+    /// spanning forest's, each of them Branch at both ends. Where nothing is out and nothing is ready, it has.
     pub fn ended(&self) -> bool
         ensures ended { IsTrue result ↔ HasEnded self.now.net.graph (home self.now) }
         ensures forest { IsTrue result → IsExact self.now.net.graph (home self.now) }
+        ensures still { self.now.outs ≡ [] → ready_events self.now ≡ [] → IsTrue result }
     {
+        let _ = self.net.trace();
+        law_stillness();
         self.net.ended()
     }
 
@@ -546,16 +561,6 @@ impl World {
         ensures { result ≡ self.net.graph }
     {
         self.net.into_graph()
-    }
-}
-
-// Whether the graph has the event's node and port.
-fn has_place(graph: &Graph, event: Event) -> bool
-    ensures { result ≡ has_place (network_of graph.now) event }
-{
-    match event {
-        Event::Wake(v) => has_node(graph, v),
-        Event::Take(v, port) => has_node(graph, v) && (port as usize) < graph.ports(v).len(),
     }
 }
 

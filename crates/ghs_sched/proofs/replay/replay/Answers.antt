@@ -1,12 +1,11 @@
-use Rattle.std.proofs.Common.{ap, length}
+use Rattle.std.proofs.Common.{ap, length, sym, ◌∙◌}
 use Rattle.ghs_sched.proofs.Replaying.{first_unlawful, never_unlawful}
 use Rattle.ghs_sched.proofs.replay.replay.Goals as goal
 
-pub returns-in-Err-NotLawful-clause-fault : goal.returns-in-Err-NotLawful-clause-fault
-returns-in-Err-NotLawful-clause-fault c =
-    let ensured = c.in-Err-NotLawful.ensures in
-    first_unlawful c.args.graph c.args.wake c.args.events.now c.loop-event.event-index (length c.trace.result.now) c.loop-event.world c.do_event.new.world _
-    c.loop-event.invariant c.loop-event-test.true (rw c.in-Err-NotLawful.field-0-is at ensured.fault) ensured.err c.trace.ensures.run (ap length c.trace.ensures.trace)
+pub returns-then-not-is_ready-clause-fault : goal.returns-then-not-is_ready-clause-fault
+returns-then-not-is_ready-clause-fault c =
+    first_unlawful c.args.graph c.args.wake c.args.events.now c.loop-event.event-index (length c.trace.result.now) c.loop-event.world _
+    c.loop-event.invariant c.loop-event-test.true (sym c.is_ready.ensures ∙ c.if-not-is_ready.true) c.trace.ensures.run (ap length c.trace.ensures.trace)
 
-pub returns-in-Err-NotLawful-clause-run : goal.returns-in-Err-NotLawful-clause-run
-returns-in-Err-NotLawful-clause-run c = λ is_run. absurd (never_unlawful c.args.graph c.args.wake c.args.events.now _ is_run (returns-in-Err-NotLawful-clause-fault c))
+pub returns-then-not-is_ready-clause-run : goal.returns-then-not-is_ready-clause-run
+returns-then-not-is_ready-clause-run c = λ is_run. absurd (never_unlawful c.args.graph c.args.wake c.args.events.now _ is_run (returns-then-not-is_ready-clause-fault c))

@@ -1,0 +1,9 @@
+use Rattle.std.proofs.Common.{◌-◌, length}
+use Rattle.ghs_sched.specs.Runs.{HasRun}
+use Rattle.ghs_sched.proofs.run.run_seeded.Given as goal
+
+abbrev pub invariant-events : goal.invariant-events
+invariant-events l = HasRun l.fn.world l.world l.fn.schedule l.schedule
+
+abbrev pub decreases-events : goal.decreases-events
+decreases-events l = l.world.turns - length l.world.net.trace

@@ -1,0 +1,46 @@
+-- Seeded runs: what they leave of a world and a schedule, and how they end.
+use Rattle.std.specs.Prelude.{◌≡◌, ℕ, ◌+◌, ◌≤◌, ◌⊎◌, Some, List, [], length}
+use Rattle.ghs_protocol.specs.declared.event.Event.{Event}
+use Rattle.ghs_protocol.specs.Marks.{HasEnded}
+use Rattle.ghs_core.specs.NetState.{IsLeastHalted, network}
+use Rattle.ghs_world.specs.Ready.{ready_events}
+use Rattle.ghs_world.specs.Steps.{Makes}
+use Rattle.ghs_world.specs.WorldState.{WorldState, home, wakers}
+use Rattle.ghs_sched.specs.Picks.{IsPick, IsPicked, IsSeededRun}
+use Rattle.ghs_sched.specs.Schedule.{next_of}
+use Rattle.ghs_sched.specs.declared.fault.RunFault.{RunFault}
+use Rattle.ghs_sched.specs.declared.fault.RunFault.TheVariants.{TurnLimit, Stalled, Unforeseen, Memory}
+use Rattle.ghs_sched.specs.declared.run.RunEnd.{RunEnd}
+use Rattle.ghs_sched.specs.declared.run.RunEnd.TheVariants.{Halted}
+
+-- A world has run on by a schedule: graph, wake set and turns stay, nothing is out, each event has used one ticket
+-- number, and the schedule has picked what the trace has grown by, and no more.
+pub record HasRun (old new : WorldState) (words after : List ℕ) : Type 0 where
+  pub graph : new.net.graph ≡ old.net.graph
+  pub wake : new.wake ≡ old.wake
+  pub turns : new.turns ≡ old.turns
+  pub outs : new.outs ≡ []
+  pub numbers : new.last + length old.net.trace ≡ old.last + length new.net.trace
+  pub picked : IsPicked (wakers old) old.net.graph old.turns old.net.trace words new.net.trace after
+
+-- the trace is the whole seeded run
+abbrev pub IsWhole : WorldState → WorldState → List ℕ → List ℕ → Type 0
+IsWhole old new words after = IsSeededRun (wakers old) old.net.graph old.turns old.net.trace words new.net.trace after
+
+-- the run has ended, and this is the least node that has halted
+abbrev pub IsEnd : WorldState → RunEnd → Type 0
+IsEnd s (Halted v) = HasEnded s.net.graph (home s) × IsLeastHalted (network s.net) (home s) (Some v)
+
+-- why a run stops before its end: no turn is left, or no ticket number; or memory is wanting. An event is always ready, and has a rule.
+abbrev pub EndsFor : WorldState → RunFault → Type 0
+EndsFor s TurnLimit = (length s.net.trace ≡ s.turns) ⊎ (18446744073709551615 ≤ s.last)
+EndsFor s Stalled = ⊥
+EndsFor s Unforeseen = ⊥
+EndsFor s Memory = Unit {0}
+
+-- the next word has picked one of the events that were ready, and it has happened
+pub record HasMadeNext (old new : WorldState) (words after : List ℕ) : Type 0 where
+  pub event : Event
+  pub pick : IsPick (ready_events old) words event
+  pub made : Makes old event new
+  pub rest : after ≡ next_of words
