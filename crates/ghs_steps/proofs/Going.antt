@@ -1,0 +1,42 @@
+-- What goes out while the events of a run are gone over.
+use Rattle.std.proofs.Common.{◌≡◌, ℕ, ◌+◌, ◌<◌, List, [], ◌∷◌, ◌++◌, length, get_or, take, drop, Option, sym, ◌∙◌, ap}
+use Rattle.std.specs.List.{flat_map}
+use Rattle.std.proofs.lemmas.List.{take_more}
+use Rattle.ghs_graph.specs.Graph.{Shape}
+use Rattle.ghs_protocol.specs.declared.event.Event.{Event}
+use Rattle.ghs_protocol.specs.Network.{network_of}
+use Rattle.ghs_protocol.specs.Run.{IsRun}
+use Rattle.ghs_core.specs.NetState.{NetState, IsLawful}
+use Rattle.ghs_steps.specs.declared.choice.Choice.{Choice}
+use Rattle.ghs_steps.specs.declared.write.WriteFault.{WriteFault}
+use Rattle.ghs_steps.specs.Step.{chosen, steps_behind}
+use Rattle.ghs_steps.specs.StepLine.{shown, step_line, steps_text}
+use Rattle.ghs_steps.specs.Written.{IsFront, IsOut}
+use Rattle.ghs_steps.proofs.Sent.{front_longer, out_more}
+use Rattle.ghs_steps.proofs.Stepping.{lawful_here, text_front, text_more}
+
+pub lawful_net : (s : NetState) (g : Shape) (es : List Event) (i : ℕ) (d : Event) → s.graph ≡ g → s.trace ≡ take i es →
+    IsRun (network_of g) es → i < length es →
+    IsLawful s (get_or es i d)
+lawful_net s g es i d graph trace is_run lt = rw (graph, trace) (lawful_here g es i d is_run lt)
+
+pub trace_more : (s new : NetState) (es : List Event) (i : ℕ) (d : Event) → s.trace ≡ take i es → i < length es →
+    new.trace ≡ s.trace ++ get_or es i d ∷ [] →
+    new.trace ≡ take (i + 1) es
+trace_more s new es i d trace lt more = more ∙ (ap (λ (fs : List Event). fs ++ get_or es i d ∷ []) trace ∙ sym (take_more es i d lt))
+
+pub out_shown : (old now : Option (List ℕ)) (g : Shape) (c : Choice) (es : List Event) (i gone : ℕ) (d : Event) (s : NetState) (rest rest' : List ℕ) →
+    s.graph ≡ g → s.trace ≡ take i es → i < length es → IsOut old now (steps_text g (take i es) c) gone rest →
+    rest' ≡ rest ++ shown s.graph s.trace (get_or es i d) c →
+    IsOut old now (steps_text g (take (i + 1) es) c) gone rest'
+out_shown old now g c es i gone d s rest rest' graph trace lt out more =
+    rw (text_more g c es i d lt, more, graph, trace)
+    (out_more old now (steps_text g (take i es) c) rest (shown g (take i es) (get_or es i d) c) gone out)
+
+pub front_of_all : (old now : Option (List ℕ)) (g : Shape) (c : Choice) (es : List Event) (i : ℕ) (f : WriteFault) →
+    IsFront old now (steps_text g (take i es) c) f →
+    IsFront old now (steps_text g es c) f
+front_of_all old now g c es i f front =
+    rw (text_front g c es i)
+    (front_longer old now (steps_text g (take i es) c)
+    (flat_map (step_line g) (chosen c (steps_behind g (take i es) (drop i es)))) f front)

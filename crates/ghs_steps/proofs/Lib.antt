@@ -1,0 +1,4 @@
+mod Changed
+mod Going
+mod Sent
+mod Stepping

@@ -1,0 +1,19 @@
+-- Why the steps of a trace aren't shown, or not to their end.
+use Rattle.std.specs.Prelude.{◌≡◌, ℕ, Option, List}
+use Rattle.ghs_graph.specs.Graph.{Shape}
+use Rattle.ghs_protocol.specs.declared.event.Event.{Event}
+use Rattle.ghs_protocol.specs.Network.{network_of}
+use Rattle.ghs_protocol.specs.Run.{IsRunUnder}
+use Rattle.ghs_world.specs.declared.wake_set.WakeSet.{WakeSet}
+use Rattle.ghs_world.specs.Wakes.{may_wake}
+use Rattle.ghs_sched.specs.Replays.{IsFirstUnlawful}
+use Rattle.ghs_steps.specs.declared.show.StepsFault.{StepsFault}
+use Rattle.ghs_steps.specs.declared.show.StepsFault.TheVariants.{NotLawful, Memory, Write}
+use Rattle.ghs_steps.specs.declared.write.WriteFault.TheVariants as writes
+use Rattle.ghs_steps.specs.Written.{IsFront}
+
+-- an event isn't lawful, and nothing has gone out; or a front of the text has
+abbrev pub CantShow : Shape → WakeSet → List Event → List ℕ → Option (List ℕ) → Option (List ℕ) → StepsFault → Type 0
+CantShow g wake es text old new (NotLawful k) = IsFirstUnlawful g wake es k × (new ≡ old)
+CantShow g wake es text old new Memory = IsFront old new text writes.Memory
+CantShow g wake es text old new (Write k) = IsRunUnder (may_wake g wake) (network_of g) es × IsFront old new text (writes.Write k)

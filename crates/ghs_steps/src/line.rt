@@ -1,0 +1,330 @@
+//! A step as a line of text.
+ghost use Rattle.std.specs.Prelude.{◌≡◌, ◌++◌, ◌≤◌, decimal, IfOk};
+ghost use Rattle.std.specs.List.{flat_map};
+ghost use Rattle.ghs_protocol.specs.Net.{event_node};
+ghost use Rattle.ghs_protocol.specs.Network.{network_of, far};
+ghost use Rattle.ghs_steps.specs.StepLine.{behind_semicolon, best_text, change_name, change_text, change_value, fate_word, field, joined, key_or_dash, line_of, message_text, place_fields, port_or_dash, send_text, work_fields};
+
+use crate::change::Change;
+use crate::moment::{Moment, node_of};
+use crate::words::{mark_word, phase_word, put_key, row_word};
+use ghs_core::event::Event;
+use ghs_graph::graph::Graph;
+use ghs_graph::key::Key;
+use ghs_lines::numbers::put_number;
+use ghs_node::delta::{Delta, Fate};
+use ghs_node::message::Message;
+use ghs_node::row_name::RowName;
+use ghs_node::work::Work;
+use std::alloc::AllocError;
+
+/// Appends the line of a step: ten fields, one blank between them, and a line feed. The event's node is one of the graph's.
+pub fn step_line(
+    text: &mut Vec<u8>,
+    graph: &Graph,
+    moment: &Moment,
+    changes: &[Change],
+    delta: &Delta,
+) -> Result<(), AllocError>
+    requires low { 1 ≤ event_node moment.now.event }
+    requires high { event_node moment.now.event ≤ graph.now.nodes }
+    ensures { IfOk result (λ _. text.new.items ≡ text.old.items ++ line_of graph.now moment.now changes.now delta.now) }
+{
+    put_number_field(text, moment.number)?;
+    put_place(text, graph, moment.event)?;
+    put_work(text, &moment.work, moment.row, delta.fate)?;
+    put_changes(text, changes)?;
+    put_sends(text, graph, node_of(moment.event), delta.sends.as_slice())?;
+    put_number(text, moment.total)?;
+    text.extend_from_slice(b"\n")
+}
+
+// A number and a blank.
+#[tactic(auto, unfolding(crate::specs::StepLine::field))]
+fn put_number_field(text: &mut Vec<u8>, number: u64) -> Result<(), AllocError>
+    ensures { IfOk result (λ _. text.new.items ≡ text.old.items ++ field (decimal number)) }
+{
+    put_number(text, u128::from(number))?;
+    text.extend_from_slice(b" ")
+}
+
+// A word and a blank.
+#[tactic(auto, unfolding(crate::specs::StepLine::field))]
+fn put_word_field(text: &mut Vec<u8>, word: &[u8]) -> Result<(), AllocError>
+    ensures { IfOk result (λ _. text.new.items ≡ text.old.items ++ field word.now) }
+{
+    text.extend_from_slice(word)?;
+    text.extend_from_slice(b" ")
+}
+
+// The fields of an event's node, port and far end.
+#[tactic(auto, unfolding(crate::specs::StepLine::place_fields))]
+fn put_place(text: &mut Vec<u8>, graph: &Graph, event: Event) -> Result<(), AllocError>
+    requires low { 1 ≤ event_node event }
+    requires high { event_node event ≤ graph.now.nodes }
+    ensures { IfOk result (λ _. text.new.items ≡ text.old.items ++ place_fields graph.now event) }
+{
+    match event {
+        Event::Wake(v) => {
+            put_number_field(text, u64::from(v))?;
+            put_word_field(text, b"-")?;
+            put_word_field(text, b"-")
+        }
+        Event::Take(v, port) => {
+            put_number_field(text, u64::from(v))?;
+            put_number_field(text, u64::from(port))?;
+            put_number_field(text, u64::from(far_end(graph, v, port)))
+        }
+    }
+}
+
+// The node at the other end of a port.
+fn far_end(graph: &Graph, v: u32, port: u32) -> u32
+    requires low { 1 ≤ v }
+    requires high { v ≤ graph.now.nodes }
+    ensures { result ≡ far (network_of graph.now) v port }
+{
+    match graph.ports(v).get(port as usize) {
+        Some(port) => port.far,
+        None => 0,
+    }
+}
+
+// The fields of the work, the row and the message's fate.
+#[tactic(auto, unfolding(crate::specs::StepLine::work_fields))]
+fn put_work(text: &mut Vec<u8>, work: &Work, row: RowName, fate: Fate) -> Result<(), AllocError>
+    ensures { IfOk result (λ _. text.new.items ≡ text.old.items ++ work_fields work.now row fate) }
+{
+    match work {
+        Work::Wake => {
+            put_word_field(text, b"wake")?;
+            put_word_field(text, row_word(row))?;
+            put_word_field(text, b"-")
+        }
+        Work::Deliver { port: _, message } => {
+            put_message_field(text, message)?;
+            put_word_field(text, row_word(row))?;
+            put_word_field(text, fate_word(fate))
+        }
+    }
+}
+
+fn fate_word(fate: Fate) -> &'static [u8]
+    ensures { result.now ≡ fate_word fate }
+{
+    match fate {
+        Fate::Consumed => b"done",
+        Fate::Requeued => b"waits",
+    }
+}
+
+// A message and a blank.
+#[tactic(auto, unfolding(crate::specs::StepLine::field))]
+fn put_message_field(text: &mut Vec<u8>, message: &Message) -> Result<(), AllocError>
+    ensures { IfOk result (λ _. text.new.items ≡ text.old.items ++ field (message_text message.now)) }
+{
+    put_message(text, message)?;
+    text.extend_from_slice(b" ")
+}
+
+// The field of what differs at the node.
+#[tactic(auto, unfolding(crate::specs::StepLine::field, crate::specs::StepLine::joined))]
+fn put_changes(text: &mut Vec<u8>, changes: &[Change]) -> Result<(), AllocError>
+    ensures { IfOk result (λ _. text.new.items ≡ text.old.items ++ field (joined change_text changes.now)) }
+{
+    match changes.split_first() {
+        Some((first, others)) => {
+            put_change(text, first)?;
+            put_other_changes(text, others)?;
+        }
+        None => text.extend_from_slice(b"-")?,
+    }
+    text.extend_from_slice(b" ")
+}
+
+// Each behind a semicolon.
+#[tactic(auto, unfolding(crate::specs::StepLine::behind_semicolon))]
+fn put_other_changes(text: &mut Vec<u8>, changes: &[Change]) -> Result<(), AllocError>
+    ensures { IfOk result (λ _. text.new.items ≡ text.old.items ++ flat_map (behind_semicolon change_text) changes.now) }
+{
+    for change in changes {
+        text.extend_from_slice(b";")?;
+        put_change(text, change)?;
+    }
+    Ok(())
+}
+
+// The field of what the event's node sends.
+#[tactic(auto, unfolding(crate::specs::StepLine::field, crate::specs::StepLine::joined))]
+fn put_sends(
+    text: &mut Vec<u8>,
+    graph: &Graph,
+    v: u32,
+    sends: &[(u32, Message)],
+) -> Result<(), AllocError>
+    requires low { 1 ≤ v }
+    requires high { v ≤ graph.now.nodes }
+    ensures { IfOk result (λ _. text.new.items ≡ text.old.items ++ field (joined (send_text graph.now v) sends.now)) }
+{
+    match sends.split_first() {
+        Some((first, others)) => {
+            put_send(text, graph, v, first)?;
+            put_other_sends(text, graph, v, others)?;
+        }
+        None => text.extend_from_slice(b"-")?,
+    }
+    text.extend_from_slice(b" ")
+}
+
+// Each behind a semicolon.
+#[tactic(auto, unfolding(crate::specs::StepLine::behind_semicolon))]
+fn put_other_sends(
+    text: &mut Vec<u8>,
+    graph: &Graph,
+    v: u32,
+    sends: &[(u32, Message)],
+) -> Result<(), AllocError>
+    requires low { 1 ≤ v }
+    requires high { v ≤ graph.now.nodes }
+    ensures { IfOk result (λ _. text.new.items ≡ text.old.items ++ flat_map (behind_semicolon (send_text graph.now v)) sends.now) }
+{
+    for send in sends {
+        text.extend_from_slice(b";")?;
+        put_send(text, graph, v, send)?;
+    }
+    Ok(())
+}
+
+// One message that goes out.
+#[tactic(auto, unfolding(crate::specs::StepLine::send_text))]
+fn put_send(
+    text: &mut Vec<u8>,
+    graph: &Graph,
+    v: u32,
+    send: &(u32, Message),
+) -> Result<(), AllocError>
+    requires low { 1 ≤ v }
+    requires high { v ≤ graph.now.nodes }
+    ensures { IfOk result (λ _. text.new.items ≡ text.old.items ++ send_text graph.now v send.now) }
+{
+    put_number(text, u128::from(send.0))?;
+    text.extend_from_slice(b">")?;
+    put_number(text, u128::from(far_end(graph, v, send.0)))?;
+    text.extend_from_slice(b":")?;
+    put_message(text, &send.1)
+}
+
+// One variable or mark, with its new value.
+#[tactic(auto, unfolding(crate::specs::StepLine::change_text))]
+fn put_change(text: &mut Vec<u8>, change: &Change) -> Result<(), AllocError>
+    ensures { IfOk result (λ _. text.new.items ≡ text.old.items ++ change_text change.now) }
+{
+    put_change_name(text, change)?;
+    text.extend_from_slice(b"=")?;
+    put_change_value(text, change)
+}
+
+fn put_change_name(text: &mut Vec<u8>, change: &Change) -> Result<(), AllocError>
+    ensures { IfOk result (λ _. text.new.items ≡ text.old.items ++ change_name change.now) }
+{
+    match change {
+        Change::Mark(port, _) => {
+            text.extend_from_slice(b"mark.")?;
+            put_number(text, u128::from(*port))
+        }
+        Change::Level(_) => text.extend_from_slice(b"level"),
+        Change::Name(_) => text.extend_from_slice(b"name"),
+        Change::Phase(_) => text.extend_from_slice(b"phase"),
+        Change::FindCount(_) => text.extend_from_slice(b"find_count"),
+        Change::InBranch(_) => text.extend_from_slice(b"in_branch"),
+        Change::Best(_) => text.extend_from_slice(b"best"),
+        Change::Probe(_) => text.extend_from_slice(b"probe"),
+        Change::Halted => text.extend_from_slice(b"halted"),
+    }
+}
+
+fn put_change_value(text: &mut Vec<u8>, change: &Change) -> Result<(), AllocError>
+    ensures { IfOk result (λ _. text.new.items ≡ text.old.items ++ change_value change.now) }
+{
+    match change {
+        Change::Mark(_, mark) => text.extend_from_slice(mark_word(*mark)),
+        Change::Level(level) => put_number(text, u128::from(level.get())),
+        Change::Name(name) => put_key_or_dash(text, *name),
+        Change::Phase(phase) => text.extend_from_slice(phase_word(*phase)),
+        Change::FindCount(count) => put_number(text, u128::from(*count)),
+        Change::InBranch(port) => put_port_or_dash(text, *port),
+        Change::Best(best) => put_best(text, *best),
+        Change::Probe(port) => put_port_or_dash(text, *port),
+        Change::Halted => text.extend_from_slice(b"yes"),
+    }
+}
+
+// A message with what it carries.
+#[tactic(auto, unfolding(crate::specs::StepLine::message_text))]
+fn put_message(text: &mut Vec<u8>, message: &Message) -> Result<(), AllocError>
+    ensures { IfOk result (λ _. text.new.items ≡ text.old.items ++ message_text message.now) }
+{
+    match message {
+        Message::Connect(level) => {
+            text.extend_from_slice(b"connect(")?;
+            put_number(text, u128::from(level.get()))?;
+            text.extend_from_slice(b")")
+        }
+        Message::Initiate(level, name, phase) => {
+            text.extend_from_slice(b"initiate(")?;
+            put_number(text, u128::from(level.get()))?;
+            text.extend_from_slice(b",")?;
+            put_key(text, *name)?;
+            text.extend_from_slice(b",")?;
+            text.extend_from_slice(phase_word(*phase))?;
+            text.extend_from_slice(b")")
+        }
+        Message::Test(level, name) => {
+            text.extend_from_slice(b"test(")?;
+            put_number(text, u128::from(level.get()))?;
+            text.extend_from_slice(b",")?;
+            put_key(text, *name)?;
+            text.extend_from_slice(b")")
+        }
+        Message::Accept => text.extend_from_slice(b"accept"),
+        Message::Reject => text.extend_from_slice(b"reject"),
+        Message::Report(key) => {
+            text.extend_from_slice(b"report(")?;
+            put_key_or_dash(text, *key)?;
+            text.extend_from_slice(b")")
+        }
+        Message::ChangeRoot => text.extend_from_slice(b"changeroot"),
+    }
+}
+
+fn put_key_or_dash(text: &mut Vec<u8>, key: Option<Key>) -> Result<(), AllocError>
+    ensures { IfOk result (λ _. text.new.items ≡ text.old.items ++ key_or_dash key) }
+{
+    match key {
+        Some(key) => put_key(text, key),
+        None => text.extend_from_slice(b"-"),
+    }
+}
+
+fn put_port_or_dash(text: &mut Vec<u8>, port: Option<u32>) -> Result<(), AllocError>
+    ensures { IfOk result (λ _. text.new.items ≡ text.old.items ++ port_or_dash port) }
+{
+    match port {
+        Some(port) => put_number(text, u128::from(port)),
+        None => text.extend_from_slice(b"-"),
+    }
+}
+
+// The port of the best link, and its key.
+fn put_best(text: &mut Vec<u8>, best: Option<(u32, Key)>) -> Result<(), AllocError>
+    ensures { IfOk result (λ _. text.new.items ≡ text.old.items ++ best_text best) }
+{
+    match best {
+        Some((port, key)) => {
+            put_number(text, u128::from(port))?;
+            text.extend_from_slice(b"@")?;
+            put_key(text, key)
+        }
+        None => text.extend_from_slice(b"-"),
+    }
+}

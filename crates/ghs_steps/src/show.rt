@@ -1,0 +1,62 @@
+//! The steps of a stored run, judged and written out.
+ghost use Rattle.std.specs.Prelude.{◌≡◌, ◌≤◌, false, length, IfErr, OnOk};
+ghost use Rattle.std.specs.Io.KnownBytes.{Appends};
+ghost use Rattle.ghs_protocol.specs.Network.{network_of};
+ghost use Rattle.ghs_protocol.specs.Run.{IsRunUnder};
+ghost use Rattle.ghs_sched.specs.declared.trace.TheConstants.{EVENT_LIMIT};
+ghost use Rattle.ghs_world.specs.Wakes.{may_wake};
+ghost use Rattle.ghs_steps.specs.Shown.{CantShow};
+ghost use Rattle.ghs_steps.specs.StepLine.{steps_text};
+
+use crate::choice::Choice;
+use crate::write::{WriteFault, write_run};
+use ghs_core::event::Event;
+use ghs_gr::device::Sink;
+use ghs_graph::graph::Graph;
+use ghs_sched::fault::ReplayFault;
+use ghs_sched::replay::replay;
+use ghs_world::wake_set::WakeSet;
+use std::alloc::Global;
+use thiserror::Error;
+
+/// Why the steps of a stored run aren't written, or not to their end. Events are counted from 1.
+#[derive(Clone, Copy, Debug, Drop, PartialEq, Eq, Error)]
+pub enum StepsFault {
+    /// The first event that isn't lawful where it stands.
+    #[error("trace event {0} is not lawful")]
+    NotLawful(u64),
+    #[error("out of memory")]
+    Memory,
+    #[error("output failed after {written} bytes")]
+    Write { written: u128 },
+}
+
+/// Writes a line for each chosen event of a stored run, in order. The run is played twice: whether each event is lawful
+/// is judged before the first byte goes out. A run that hasn't ended is shown too.
+pub fn write_steps<W: Sink>(
+    alloc: Global,
+    graph: Graph,
+    wake: WakeSet,
+    events: &[Event],
+    choice: &Choice,
+    writer: &mut W,
+) -> Result<(), StepsFault>
+    requires few { length events.now ≤ EVENT_LIMIT }
+    requires sound { W.has_failed writer.old ≡ false }
+    ensures run { OnOk result (IsRunUnder (may_wake graph wake) (network_of graph) events.now) }
+    ensures ok { OnOk result (Appends (W.held writer.old) (W.held writer.new) (steps_text graph events.now choice.now)) }
+    ensures err { IfErr result (λ fault. CantShow graph wake events.now (steps_text graph events.now choice.now) (W.held writer.old) (W.held writer.new) fault) }
+{
+    let world = match replay(alloc, graph, wake, events) {
+        Ok(world) => world,
+        Err((_, ReplayFault::NotLawful(event))) => return Err(StepsFault::NotLawful(event)),
+        Err((_, _)) => return Err(StepsFault::Memory),
+    };
+    // Read for its clause: the events are a run.
+    let _ = world.trace();
+    match write_run(alloc, world.into_graph(), events, choice, writer) {
+        Ok(()) => Ok(()),
+        Err(WriteFault::Memory) => Err(StepsFault::Memory),
+        Err(WriteFault::Write { written }) => Err(StepsFault::Write { written }),
+    }
+}

@@ -1,0 +1,220 @@
+//! The steps of a whole run, written out.
+ghost use Rattle.std.specs.Prelude.{◌≡◌, ℕ, ◌+◌, ◌≤◌, ◌<◌, ◌^◌, ◌++◌, ◌∷◌, [], List, Option, false, true, length, slice_index, IfErr, IfOk, OnOk, MatchResult};
+ghost use Rattle.std.specs.Io.KnownBytes.{Appends};
+ghost use Rattle.ghs_protocol.specs.Ledger.{in_all};
+ghost use Rattle.ghs_protocol.specs.Net.{event_node};
+ghost use Rattle.ghs_protocol.specs.Network.{network_of};
+ghost use Rattle.ghs_protocol.specs.Run.{IsRun};
+ghost use Rattle.ghs_core.specs.NetState.{net_of, work_at, IsAnswer, IsLawful};
+ghost use Rattle.ghs_node.specs.Reaction.{IsReaction};
+ghost use Rattle.ghs_node.specs.Rows.{Row};
+ghost use Rattle.ghs_steps.specs.Step.{step};
+ghost use Rattle.ghs_steps.specs.StepLine.{shown, step_line, steps_text};
+ghost use Rattle.ghs_steps.specs.Written.{IsFront, IsOut};
+
+use crate::change::changes;
+use crate::choice::Choice;
+use crate::line::step_line;
+use crate::moment::{Moment, node_of};
+use ghs_core::event::Event;
+use ghs_core::net::Net;
+use ghs_gr::device::Sink;
+use ghs_graph::graph::Graph;
+use ghs_node::delta::Delta;
+use ghs_node::react::react;
+use ghs_node::row_name::row_of;
+use ghs_report::write_out::write_out;
+use std::alloc::{AllocError, Global};
+use thiserror::Error;
+
+/// How many bytes are gathered before they go out.
+pub const PORTION: usize = 65_536;
+
+/// Why the steps of a run aren't written to their end.
+#[derive(Clone, Copy, Debug, Drop, PartialEq, Eq, Error)]
+pub enum WriteFault {
+    #[error("out of memory")]
+    Memory,
+    #[error("output failed after {written} bytes")]
+    Write { written: u128 },
+}
+
+impl From<AllocError> for WriteFault {
+    ghost use Rattle.ghs_steps.specs.declared.write.WriteFault.{WriteFault};
+
+    ghost from_gives = { λ _ e. e ≡ WriteFault.Memory };
+
+    fn from(_error: AllocError) -> WriteFault {
+        WriteFault::Memory
+    }
+}
+
+/// Writes a line for each chosen event of a run, in order. The lines go out by portions, so the memory that it takes
+/// doesn't grow with the text. At a fault what is out is a front of the text.
+pub fn write_run<W: Sink>(
+    alloc: Global,
+    graph: Graph,
+    events: &[Event],
+    choice: &Choice,
+    writer: &mut W,
+) -> Result<(), WriteFault>
+    requires run { IsRun (network_of graph) events.now }
+    requires few { length events.now ≤ 2 ^ 40 }
+    requires sound { W.has_failed writer.old ≡ false }
+    ensures ok { OnOk result (Appends (W.held writer.old) (W.held writer.new) (steps_text graph events.now choice.now)) }
+    ensures err { IfErr result (λ fault. IsFront (W.held writer.old) (W.held writer.new) (steps_text graph events.now choice.now) fault) }
+{
+    let mut net = match Net::open(alloc, graph) {
+        Ok(net) => net,
+        Err(_) => return Err(WriteFault::Memory),
+    };
+    let mut text = Vec::new(alloc);
+    let mut gone = 0;
+    for event in events {
+        match show(alloc, &mut net, *event, choice, &mut text) {
+            Ok(()) => {}
+            Err(_) => return Err(WriteFault::Memory),
+        }
+        gone = match send_portion(writer, &mut text, gone) {
+            Ok(now) => now,
+            Err(fault) => return Err(fault),
+        };
+    }
+    match send_off(writer, &mut text, gone) {
+        Ok(_) => Ok(()),
+        Err(fault) => Err(fault),
+    }
+}
+
+// The event happens, and its line is appended if it is chosen.
+fn show(
+    alloc: Global,
+    net: &mut Net,
+    event: Event,
+    choice: &Choice,
+    text: &mut Vec<u8>,
+) -> Result<(), AllocError>
+    requires lawful { IsLawful net.old event }
+    requires few { length net.old.trace < 2 ^ 40 }
+    ensures graph { OnOk result (net.new.graph ≡ net.old.graph) }
+    ensures trace { OnOk result (net.new.trace ≡ net.old.trace ++ event ∷ []) }
+    ensures text { OnOk result (text.new.items ≡ text.old.items ++ shown net.old.graph net.old.trace event choice.now) }
+{
+    let delta = answer(alloc, net, event)?;
+    if choice.has(net.events() + 1, node_of(event)) {
+        put_step(alloc, net, event, &delta, text)?;
+    } else {
+        play(net, event, &delta)?;
+    }
+    Ok(())
+}
+
+// What the event's node does. A lawful event has a rule, so memory alone can be wanting.
+fn answer(alloc: Global, net: &Net, event: Event) -> Result<Delta, AllocError>
+    requires { IsLawful net.now event }
+    ensures answer { IfOk result (λ d. IsAnswer net.now event d) }
+    ensures row { IfOk result (λ d. Row ((net_of net.now).node (event_node event)) (work_at (net_of net.now) event) d) }
+    ensures applicable { IfOk result (λ d. IsReaction ((net_of net.now).node (event_node event)) d) }
+{
+    let work = net.work(event);
+    match react(alloc, net.node(node_of(event)), work) {
+        Ok(delta) => Ok(delta),
+        Err(_) => Err(AllocError),
+    }
+}
+
+// The event happens, and its line is appended.
+fn put_step(
+    alloc: Global,
+    net: &mut Net,
+    event: Event,
+    delta: &Delta,
+    text: &mut Vec<u8>,
+) -> Result<(), AllocError>
+    requires lawful { IsLawful net.old event }
+    requires few { length net.old.trace < 2 ^ 40 }
+    requires answer { IsAnswer net.old event delta.now }
+    requires row { Row ((net_of net.old).node (event_node event)) (work_at (net_of net.old) event) delta.now }
+    requires applicable { IsReaction ((net_of net.old).node (event_node event)) delta.now }
+    ensures graph { OnOk result (net.new.graph ≡ net.old.graph) }
+    ensures trace { OnOk result (net.new.trace ≡ net.old.trace ++ event ∷ []) }
+    ensures text { OnOk result (text.new.items ≡ text.old.items ++ step_line net.old.graph (step net.old.graph net.old.trace event)) }
+{
+    let number = net.events() + 1;
+    let row = row_of(net.node(node_of(event)), net.work(event));
+    let work = net.work(event);
+    let changes = changes(alloc, net.node(node_of(event)), delta)?;
+    play(net, event, delta)?;
+    let moment = Moment::of(number, event, work, row, total(net));
+    step_line(text, net.graph(), &moment, &changes, delta)?;
+    Ok(())
+}
+
+// The event happens.
+fn play(net: &mut Net, event: Event, delta: &Delta) -> Result<(), AllocError>
+    requires lawful { IsLawful net.old event }
+    requires answer { IsAnswer net.old event delta.now }
+    requires few { length net.old.trace < 2 ^ 40 }
+    ensures graph { OnOk result (net.new.graph ≡ net.old.graph) }
+    ensures trace { OnOk result (net.new.trace ≡ net.old.trace ++ event ∷ []) }
+{
+    net.reserve(event, delta)?;
+    net.play(event, delta);
+    Ok(())
+}
+
+// How many messages were sent for the first time.
+fn total(net: &Net) -> u128
+    ensures { result ≡ in_all (net_of net.now).sent }
+{
+    in_total(&net.ledger().sent)
+}
+
+fn in_total(sent: &[u64; 7]) -> u128
+    ensures { result ≡ in_all (λ k. slice_index sent.now k) }
+{
+    u128::from(sent[0])
+        + u128::from(sent[1])
+        + u128::from(sent[2])
+        + u128::from(sent[3])
+        + u128::from(sent[4])
+        + u128::from(sent[5])
+        + u128::from(sent[6])
+}
+
+// What waits goes out, once it is a portion. Answers how many bytes are out by then.
+fn send_portion<W: Sink>(writer: &mut W, text: &mut Vec<u8>, gone: u128) -> Result<u128, WriteFault>
+    requires sound { W.has_failed writer.old ≡ false }
+    requires few { gone + 2 ^ 64 < 2 ^ 128 }
+    ensures out { IfOk result (λ now. (old : Option (List ℕ)) (all : List ℕ) → IsOut old (W.held writer.old) all gone text.old.items → IsOut old (W.held writer.new) all now text.new.items) }
+    ensures more { IfOk result (λ now. now ≤ gone + 2 ^ 64) }
+    ensures sound { OnOk result (W.has_failed writer.new ≡ false) }
+    ensures front { IfErr result (λ fault. (old : Option (List ℕ)) (all : List ℕ) → IsOut old (W.held writer.old) all gone text.old.items → IsFront old (W.held writer.new) all fault) }
+{
+    if text.len() < PORTION {
+        return Ok(gone);
+    }
+    send_off(writer, text, gone)
+}
+
+// What waits goes out.
+fn send_off<W: Sink>(writer: &mut W, text: &mut Vec<u8>, gone: u128) -> Result<u128, WriteFault>
+    requires sound { W.has_failed writer.old ≡ false }
+    requires few { gone + 2 ^ 64 < 2 ^ 128 }
+    ensures out { IfOk result (λ now. (old : Option (List ℕ)) (all : List ℕ) → IsOut old (W.held writer.old) all gone text.old.items → IsOut old (W.held writer.new) all now text.new.items) }
+    ensures empty { OnOk result (text.new.items ≡ []) }
+    ensures more { IfOk result (λ now. now ≤ gone + 2 ^ 64) }
+    ensures sound { OnOk result (W.has_failed writer.new ≡ false) }
+    ensures front { IfErr result (λ fault. (old : Option (List ℕ)) (all : List ℕ) → IsOut old (W.held writer.old) all gone text.old.items → IsFront old (W.held writer.new) all fault) }
+{
+    match write_out(writer, text.as_slice()) {
+        Ok(()) => {
+            let now = gone + text.len() as u128;
+            text.clear();
+            Ok(now)
+        }
+        Err(partial) => Err(WriteFault::Write {
+            written: gone + partial.written as u128,
+        }),
+    }
+}
