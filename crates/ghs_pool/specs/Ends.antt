@@ -1,0 +1,31 @@
+-- How a run of workers ends.
+use Rattle.std.specs.Prelude.{◌≡◌, false, Result, Ok, Err, Some, []}
+use Rattle.ghs_protocol.specs.Marks.{HasEnded}
+use Rattle.ghs_core.specs.NetState.{network, IsLeastHalted}
+use Rattle.ghs_world.specs.WorldState.{WorldState, home, has_turn}
+use Rattle.ghs_world.specs.Ready.{ready_events}
+use Rattle.ghs_pool.specs.declared.end.RunEnd.{RunEnd}
+use Rattle.ghs_pool.specs.declared.end.RunEnd.TheVariants.{Halted}
+use Rattle.ghs_pool.specs.declared.end.PoolFault.{PoolFault}
+use Rattle.ghs_pool.specs.declared.end.PoolFault.TheVariants.{TurnLimit, Stalled, Unforeseen, Memory, Strange, NoThread}
+
+-- the run of the world has ended
+abbrev pub IsAtEnd : WorldState → Type 0
+IsAtEnd s = HasEnded s.net.graph (home s)
+
+abbrev pub IsNotAtEnd : WorldState → Type 0
+IsNotAtEnd s = IsAtEnd s → ⊥
+
+-- where each fault may come, of a world with nothing out: no turn or no number is left; no event may be checked out
+abbrev pub FaultFits : WorldState → PoolFault → Type 0
+FaultFits s TurnLimit = IsNotAtEnd s × (has_turn s ≡ false)
+FaultFits s Stalled = IsNotAtEnd s × (ready_events s ≡ [])
+FaultFits s Unforeseen = ⊥
+FaultFits s Memory = IsNotAtEnd s
+FaultFits s Strange = IsNotAtEnd s
+FaultFits s NoThread = Unit {0}
+
+-- halted is the least of the nodes that have, of a run that has ended
+abbrev pub EndFits : WorldState → Result RunEnd PoolFault → Type 0
+EndFits s (Ok (Halted v)) = IsAtEnd s × IsLeastHalted (network s.net) (home s) (Some v)
+EndFits s (Err f) = FaultFits s f

@@ -1,0 +1,31 @@
+//! How a run of workers ends.
+use thiserror::Error;
+
+/// How a run ends that has ended.
+#[derive(Clone, Copy, Debug, Drop, PartialEq, Eq)]
+pub enum RunEnd {
+    /// Each component has a core node that has halted; the least of all nodes that have.
+    Halted(u32),
+}
+
+/// Why a run of workers hasn't ended, or what stands in the way.
+#[derive(Clone, Copy, Debug, Drop, PartialEq, Eq, Error)]
+pub enum PoolFault {
+    /// The commits have come to the turns, or no ticket number is left.
+    #[error("turn limit reached")]
+    TurnLimit,
+    /// No event may be checked out.
+    #[error("stalled")]
+    Stalled,
+    /// Never answered: each lawful event has a rule.
+    #[error("met a state that has no rule")]
+    Unforeseen,
+    #[error("out of memory")]
+    Memory,
+    /// The workers stopped, and none of the faults before was met.
+    #[error("the workers stopped without a reason")]
+    Strange,
+    /// A thread couldn't be started.
+    #[error("could not start a thread")]
+    NoThread,
+}

@@ -1,0 +1,11 @@
+//! Workers round one locked world: threads that each check an event out, perform it outside the lock and commit it, fed
+//! by a queue of ready nodes; and a board on which each commit is published.
+#![tactic(auto)]
+
+pub mod desk;
+pub mod end;
+mod floor;
+pub mod gate;
+mod pace;
+pub mod shop;
+pub mod workers;

@@ -1,0 +1,95 @@
+//! The world that workers share, with the publisher that tells of it.
+ghost use Rattle.std.specs.Prelude.{◌≡◌, ◌≤◌, ◌^◌, IfOk, IfErr};
+ghost use Rattle.ghs_graph.specs.Graph.{IsGraph};
+ghost use Rattle.ghs_protocol.specs.Run.{IsRun};
+ghost use Rattle.ghs_core.specs.NetState.{network};
+ghost use Rattle.ghs_board.specs.Progress.{StartsWith};
+ghost use Rattle.ghs_pool.specs.Shop.{IsPairOf, IsTold};
+
+use ghs_board::board::{Board, Publisher, Reader};
+use ghs_board::progress::Progress;
+use ghs_world::world::World;
+use std::alloc::{AllocError, Global};
+use std::marker::Model;
+
+/// A world, and the publisher whose last pair is that world's. It is what lies under the lock.
+#[derive(Drop)]
+pub struct Shop {
+    pub(crate) world: World,
+    pub(crate) publisher: Publisher,
+}
+
+impl Model for Shop {
+    ghost use Rattle.ghs_pool.specs.Shop.{ShopState, IsTold};
+
+    ghost Value = { ShopState };
+
+    ghost view = { λ s. record { world = s.world; told = s.publisher } };
+
+    ghost invariant = { λ s. IsTold s.world s.publisher };
+}
+
+/// The pair of a world: how many commits there are, at most 2^40, and whether its run has ended.
+pub(crate) fn pair_of(world: &World) -> Progress
+    ensures pair { IsPairOf world.now.net result }
+    ensures few { result.commits ≤ 2 ^ 40 }
+    ensures graph { IsGraph world.now.net.graph }
+    ensures run { IsRun (network world.now.net) world.now.net.trace }
+{
+    let _ = world.turns();
+    let net = world.net();
+    let _ = net.trace();
+    Progress {
+        commits: net.events(),
+        halted: world.ended(),
+    }
+}
+
+impl Shop {
+    /// A world and the publisher that tells of it. Both come back exactly where the last pair published isn't the
+    /// world's.
+    pub fn open(world: World, publisher: Publisher) -> Result<Shop, (World, Publisher)>
+        ensures ok { IfOk result (λ s. (s.world ≡ world) × (s.told ≡ publisher)) }
+        ensures told { IfOk result (λ _. IsTold world publisher) }
+        ensures err { IfErr result (λ e. (e.0 ≡ world) × (e.1 ≡ publisher)) }
+        ensures untold { IfErr result (λ _. IsTold world publisher → ⊥) }
+    {
+        let last = publisher.last();
+        let Progress { commits, halted } = pair_of(&world);
+        if last.commits == commits {
+            if last.halted == halted {
+                return Ok(Shop { world, publisher });
+            }
+            return Err((world, publisher));
+        }
+        Err((world, publisher))
+    }
+
+    /// What a reader of the publisher's board finds while the shop is lent: exactly the world's pair. It had seen none
+    /// beyond it. Never refused.
+    pub fn tell(
+        &mut self,
+        alloc: Global,
+        board: &Board,
+        reader: &mut Reader,
+    ) -> Result<Progress, AllocError>
+        requires reader { reader.old.table ≡ board.now }
+        requires board { self.old.told.table ≡ board.now }
+        ensures pair { IfOk result (λ p. IsPairOf self.old.world.net p) }
+        ensures same { self.new ≡ self.old }
+        ensures seen { StartsWith self.old.told.list reader.old.seen }
+        ensures reader { (reader.new.table ≡ reader.old.table) × (reader.new.seen ≡ self.old.told.list) }
+    {
+        board.read_beside(alloc, reader, &mut self.publisher)
+    }
+
+    /// The world and its publisher, when the shop is done with.
+    pub fn close(self) -> (World, Publisher)
+        ensures world { result.0 ≡ self.world }
+        ensures publisher { result.1 ≡ self.told }
+        ensures told { IsTold result.0 result.1 }
+    {
+        let Shop { world, publisher } = self;
+        (world, publisher)
+    }
+}

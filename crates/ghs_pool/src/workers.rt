@@ -1,0 +1,300 @@
+//! Threads that serve one world.
+ghost use Rattle.std.specs.Prelude.{◌≡◌, ◌≤◌, ◌+◌, [], Some, length, IfOk};
+ghost use Rattle.ghs_core.specs.NetState.{network, IsLeastHalted};
+ghost use Rattle.ghs_world.specs.WorldState.{home};
+ghost use Rattle.ghs_board.specs.Progress.{StartsWith};
+ghost use Rattle.ghs_pool.specs.Shop.{IsTold};
+ghost use Rattle.ghs_pool.specs.Follows.{Follows, GoesOn};
+ghost use Rattle.ghs_pool.specs.Ends.{EndFits, IsAtEnd};
+
+use crate::end::{PoolFault, RunEnd};
+use crate::floor::{Floor, Next, Start};
+use crate::gate::Gate;
+use crate::pace::Pace;
+use crate::shop::{Shop, pair_of};
+use ghs_board::board::{Board, Publisher};
+use ghs_queue::queue::{ReadyPass, ReadyQueue};
+use ghs_world::ticket::Ticket;
+use ghs_world::world::World;
+use std::alloc::{AllocError, Global};
+use std::marker::Brand;
+use std::sync::{Mutex, Wait};
+use std::thread;
+use std::thread::Threads;
+
+/// Runs a world on by so many threads, 1 to 64, until its run has ended. All that is out is recalled first. The world
+/// comes back with nothing out, after the commits so far: on the same graph, under the same wake set and turns, its trace
+/// beginning with the given one.
+///
+/// The ends in their order: NoThread where a thread couldn't be started; Halted where the run has ended; TurnLimit,
+/// Stalled; and then what was met, Memory, or nothing that has a name.
+pub fn run_workers<G: Gate + Sync, R: Threads + Wait + Sync>(
+    rt: &R,
+    alloc: Global,
+    mut world: World,
+    workers: u32,
+    gate: &G,
+) -> (World, Result<RunEnd, PoolFault>)
+    requires workers { (1 ≤ workers) × (workers ≤ 64) }
+    ensures out { result.0.outs ≡ [] }
+    ensures follows { Follows result.0 world }
+    ensures end { EndFits result.0 result.1 }
+{
+    world.recall_all();
+    let first = pair_of(&world);
+    let Ok((_board, publisher, _reader)) = Board::open(alloc, first) else {
+        let end = end_of(&world, true, true);
+        return (world, end);
+    };
+    let (world, _publisher, end) = run_watched(rt, alloc, world, workers, gate, publisher);
+    (world, end)
+}
+
+/// The same, and each commit is published: the publisher's last pair is the given world's, and then that of the world
+/// that comes back. Readers of its board may read meanwhile.
+pub fn run_watched<G: Gate + Sync, R: Threads + Wait + Sync>(
+    rt: &R,
+    alloc: Global,
+    mut world: World,
+    workers: u32,
+    gate: &G,
+    publisher: Publisher,
+) -> (World, Publisher, Result<RunEnd, PoolFault>)
+    requires workers { (1 ≤ workers) × (workers ≤ 64) }
+    requires told { IsTold world publisher }
+    ensures out { result.0.outs ≡ [] }
+    ensures follows { Follows result.0 world }
+    ensures told { IsTold result.0 result.1 }
+    ensures board { (result.1.table ≡ publisher.table) × StartsWith result.1.list publisher.list }
+    ensures end { EndFits result.0 result.2 }
+{
+    world.recall_all();
+    let nodes = world.graph().nodes();
+    let Ok((queue, pass, ports)) = prepare(alloc, nodes, workers) else {
+        let end = end_of(&world, true, true);
+        return (world, publisher, end);
+    };
+    let Ok(shop) = Shop::open(world, publisher) else {
+        unreachable!()
+    };
+    run_from::<Brand, G, R>(rt, alloc, shop, ports, gate, &queue, pass)
+}
+
+// A queue with room for each node and a share for each worker, its pass, and port 0 for each node.
+fn prepare(
+    alloc: Global,
+    nodes: u32,
+    workers: u32,
+) -> Result<(ReadyQueue, ReadyPass, Vec<u32>), AllocError>
+    requires { 1 ≤ workers }
+    ensures pass { IfOk result (λ r. r.1.name ≡ r.0.name) }
+    ensures ports { IfOk result (λ r. length r.2.items ≡ nodes) }
+{
+    let (queue, pass) = ReadyQueue::open(alloc, nodes.max(1), workers)?;
+    let ports = vec![in alloc; 0; nodes as usize]?;
+    Ok((queue, pass, ports))
+}
+
+// Runs on from the shop that `J` names.
+fn run_from<J: Start + Send + Sync, G: Gate + Sync, R: Threads + Wait + Sync>(
+    rt: &R,
+    alloc: Global,
+    shop: Shop,
+    ports: Vec<u32>,
+    gate: &G,
+    queue: &ReadyQueue,
+    pass: ReadyPass,
+) -> (World, Publisher, Result<RunEnd, PoolFault>)
+    requires goes_on { GoesOn shop J.first }
+    requires ports { length ports.items ≡ shop.world.net.graph.nodes }
+    requires pass { pass.name ≡ queue.now.name }
+    ensures out { result.0.outs ≡ [] }
+    ensures follows { Follows result.0 J.first.world }
+    ensures told { IsTold result.0 result.1 }
+    ensures board { (result.1.table ≡ J.first.told.table) × StartsWith result.1.list J.first.told.list }
+    ensures end { EndFits result.0 result.2 }
+{
+    let floor = Mutex::new(Floor::<J>::new(shop, ports));
+    let started = serve_all(rt, alloc, &floor, gate, queue, pass);
+    let (shop, memory) = floor.into_inner().close();
+    let (mut world, publisher) = shop.close();
+    world.recall_all();
+    let end = end_of(&world, started, memory);
+    (world, publisher, end)
+}
+
+// A thread for each share of the pass serves until the run is over. Whether each was started; all have ended.
+fn serve_all<J: Start + Send + Sync, G: Gate + Sync, R: Threads + Wait + Sync>(
+    rt: &R,
+    alloc: Global,
+    floor: &Mutex<Floor<J>>,
+    gate: &G,
+    queue: &ReadyQueue,
+    pass: ReadyPass,
+) -> bool
+    requires { pass.name ≡ queue.now.name }
+{
+    thread::scope(
+        thread::scope_env(),
+        rt,
+        move |scope| -> bool
+            requires { pass.name ≡ queue.now.name }
+        {
+            let mut rest = pass;
+            let shares = rest.shares();
+            for started in 1..shares {
+                let Ok(mine) = queue.split(alloc, &mut rest) else {
+                    floor.lock(rt).stop();
+                    return false;
+                };
+                let worker = move ||
+                    requires { mine.name ≡ queue.now.name }
+                { work(rt, alloc, floor, gate, queue, mine) };
+                if scope.spawn(worker).is_err() {
+                    floor.lock(rt).stop();
+                    return false;
+                }
+            }
+            let worker = move ||
+                requires { rest.name ≡ queue.now.name }
+            { work(rt, alloc, floor, gate, queue, rest) };
+            if scope.spawn(worker).is_err() {
+                floor.lock(rt).stop();
+                return false;
+            }
+            true
+        },
+    )
+}
+
+// Serves nodes until the run is over.
+fn work<J: Start, G: Gate, R: Wait>(
+    rt: &R,
+    alloc: Global,
+    floor: &Mutex<Floor<J>>,
+    gate: &G,
+    queue: &ReadyQueue,
+    mut pass: ReadyPass,
+)
+    requires { pass.name ≡ queue.now.name }
+{
+    let mut pace = Pace::new();
+    for _ in rt.forever() {
+        match next(rt, alloc, floor, queue, &mut pass, &mut pace) {
+            Next::Serve(ticket) => serve(rt, alloc, floor, gate, queue, &mut pass, ticket),
+            Next::Nothing => {}
+            Next::Wait => thread::yield_now(),
+            Next::End => return,
+        }
+    }
+    unreachable!()
+}
+
+// What a worker does next: it serves the node whose number it takes; where there is none, or a look is due, it looks over
+// all nodes.
+fn next<J: Start, R: Wait>(
+    rt: &R,
+    alloc: Global,
+    floor: &Mutex<Floor<J>>,
+    queue: &ReadyQueue,
+    pass: &mut ReadyPass,
+    pace: &mut Pace,
+) -> Next
+    requires { pass.old.name ≡ queue.now.name }
+    ensures { pass.new.name ≡ pass.old.name }
+{
+    if pace.is_due() {
+        pace.look();
+        return floor.lock(rt).look(alloc);
+    }
+    match queue.take(rt, pass) {
+        Some(v) => {
+            pace.take();
+            floor.lock(rt).serve(alloc, v)
+        }
+        None => {
+            if pace.rests() {
+                return Next::Wait;
+            }
+            pace.look();
+            floor.lock(rt).look(alloc)
+        }
+    }
+}
+
+// Performs a ticket outside the lock and commits it, and puts the nodes that it wakes into the queue. A number for which
+// there is no room is left out: a look will find its node.
+fn serve<J: Start, G: Gate, R: Wait>(
+    rt: &R,
+    alloc: Global,
+    floor: &Mutex<Floor<J>>,
+    gate: &G,
+    queue: &ReadyQueue,
+    pass: &mut ReadyPass,
+    ticket: Ticket,
+)
+    requires { pass.old.name ≡ queue.now.name }
+    ensures { pass.new.name ≡ pass.old.name }
+{
+    let number = ticket.number();
+    let v = ticket.node().number();
+    let performed = ticket.perform(alloc);
+    gate.between(number);
+    match performed {
+        Ok(step) => {
+            let woken = floor.lock(rt).commit(alloc, step);
+            if let Some(woken) = woken {
+                put_each(rt, queue, pass, woken.as_slice());
+            }
+        }
+        Err((ticket, _)) => {
+            floor.lock(rt).give_back(ticket);
+            put_each(rt, queue, pass, &[v]);
+        }
+    }
+}
+
+// Puts numbers into the queue, as long as there is room.
+fn put_each<R: Wait>(rt: &R, queue: &ReadyQueue, pass: &mut ReadyPass, nodes: &[u32])
+    requires { pass.old.name ≡ queue.now.name }
+    ensures { pass.new.name ≡ pass.old.name }
+{
+    for v in nodes {
+        let _ = queue.put(rt, pass, *v);
+    }
+}
+
+// What the world says of the end, and else what was met.
+fn end_of(world: &World, started: bool, memory: bool) -> Result<RunEnd, PoolFault>
+    requires { world.now.outs ≡ [] }
+    ensures { EndFits world.now result }
+{
+    if !started {
+        return Err(PoolFault::NoThread);
+    }
+    if world.ended() {
+        return Ok(RunEnd::Halted(least_halted(world)));
+    }
+    if !world.has_turn() {
+        return Err(PoolFault::TurnLimit);
+    }
+    if world.ready_count() == 0 {
+        return Err(PoolFault::Stalled);
+    }
+    if memory {
+        return Err(PoolFault::Memory);
+    }
+    Err(PoolFault::Strange)
+}
+
+// The least node that has halted, of a run that has ended.
+fn least_halted(world: &World) -> u32
+    requires { IsAtEnd world.now }
+    ensures { IsLeastHalted (network world.now.net) (home world.now) (Some result) }
+{
+    let _ = world.net().trace();
+    match world.core_halted() {
+        Some(v) => v,
+        None => unreachable!(),
+    }
+}
