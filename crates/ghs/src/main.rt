@@ -3,7 +3,7 @@
 
 ghost use Rattle.ghs.specs.Status.{IsStatusOf};
 ghost use Rattle.ghs_cli.specs.Fault.{status_of};
-ghost use Rattle.ghs_cli.specs.Job.{kinds_of};
+ghost use Rattle.ghs_cli.specs.Job.{IsWithinLimits, kinds_of};
 ghost use Rattle.std.specs.Prelude.{◌≡◌, MatchResult, false, map, string_bytes};
 
 use ghs_cli::fault::ServeFault;
@@ -53,7 +53,9 @@ fn answer<R: Runtime + AllocGlobal>(rt: &R, alloc: Global, words: &[String]) -> 
 }
 
 /// Opens the files and does the job, the trace's before the graph's. A file that can't be opened can't be read.
-fn work<R: Runtime + AllocGlobal>(rt: &R, alloc: Global, job: &Job) -> Result<(), ServeFault> {
+fn work<R: Runtime + AllocGlobal>(rt: &R, alloc: Global, job: &Job) -> Result<(), ServeFault>
+    requires { IsWithinLimits job.now.task }
+{
     match &job.trace {
         Some(path) => match File::open(rt, path.as_str()) {
             Ok(file) => work_after(rt, alloc, job, &mut Device::of(file)),
@@ -70,7 +72,8 @@ fn work_after<R: Runtime + AllocGlobal, T: Source>(
     job: &Job,
     trace: &mut T,
 ) -> Result<(), ServeFault>
-    requires { T.has_failed trace.old ≡ false }
+    requires limits { IsWithinLimits job.now.task }
+    requires trace { T.has_failed trace.old ≡ false }
 {
     match &job.graph {
         Some(path) => match File::open(rt, path.as_str()) {
@@ -89,6 +92,7 @@ fn work_on<R: Runtime + AllocGlobal, S: Source, T: Source>(
     graph: &mut S,
     trace: &mut T,
 ) -> Result<(), ServeFault>
+    requires limits { IsWithinLimits job.now.task }
     requires graph { S.has_failed graph.old ≡ false }
     requires trace { T.has_failed trace.old ≡ false }
 {

@@ -6,7 +6,7 @@ use Rattle.clap.specs.declared.error.Error.{Error}
 use Rattle.clap.specs.declared.error.kind.ErrorKind.TheVariants as kind
 use Rattle.ghs_cli.specs.declared.job.JobFault.{JobFault}
 use Rattle.ghs_cli.specs.declared.job.JobFault.TheVariants as fault
-use Rattle.ghs_cli.specs.Job.{IsRefused, IsSaid, IsSaidOf, Used, choice_kinds, has_choice}
+use Rattle.ghs_cli.specs.Job.{IsRefused, IsSaid, IsSaidOf, Used, option_kinds, has_values}
 
 -- an error has a kind that the words have, so what is said of it is said of them
 pub said_of : (kinds : Kinds) (e : Error) (f : JobFault) → HasKind kinds e → IsSaid (kind_of e) f → (kind_of e ≡ kind.OutOfMemory → f ≡ fault.Memory) → IsSaidOf kinds f
@@ -26,8 +26,8 @@ said_first (k ∷ ks) next f said = said
 pub said_next : (kinds next : Kinds) (f : JobFault) → kinds ≡ [] → IsSaidOf next f → IsSaidOf (or_else kinds next) f
 said_next kinds next f none said = rw none said
 
--- a refusal is said of a choice that there isn't
-pub said_of_choice : (command : Used) (f : JobFault) → has_choice command ≡ false → IsRefused f → IsSaidOf (choice_kinds command) f
-said_of_choice command (fault.Help text) lacks is = absurd is
-said_of_choice command (fault.Refused text) lacks is = rw lacks (kind.InvalidValue, inl refl, (λ e. cc))
-said_of_choice command fault.Memory lacks is = tt
+-- a refusal is said of a value that an option may not have
+pub said_of_values : (command : Used) (f : JobFault) → has_values command ≡ false → IsRefused f → IsSaidOf (option_kinds command) f
+said_of_values command (fault.Help text) lacks is = absurd is
+said_of_values command (fault.Refused text) lacks is = rw lacks (kind.InvalidValue, inl refl, (λ e. cc))
+said_of_values command fault.Memory lacks is = tt

@@ -1,5 +1,5 @@
 -- What serving comes to, put together from its parts.
-use Rattle.std.proofs.Common.{◌≡◌, ℕ, ◌<◌, false, List, Option, Some, None, inr, length, map, refl, subst}
+use Rattle.std.proofs.Common.{◌≡◌, ◌∙◌, ℕ, ◌<◌, Bool, true, false, List, Option, Some, None, inr, length, map, refl, subst, sym}
 use Rattle.std.specs.Prelude.{IfErr, IfOk, IfSome, OnOk, Result, Ok, Err}
 use Rattle.ghs_gr.specs.Judgement.{TextIs}
 use Rattle.ghs_gr.specs.RawGraph.{RawShape}
@@ -16,13 +16,15 @@ use Rattle.ghs_world.specs.declared.wake_set.WakeSet.{WakeSet}
 use Rattle.ghs_world.specs.Wakes.{may_wake}
 use Rattle.ghs_cli.specs.declared.fault.ServeFault.{ServeFault}
 use Rattle.ghs_cli.specs.declared.fault.ServeFault.TheVariants as serve
+use Rattle.ghs_cli.specs.declared.job.Show.TheVariants.{Summary, Events}
 use Rattle.ghs_cli.specs.declared.job.Task.{Task}
 use Rattle.ghs_cli.specs.declared.job.Task.TheVariants as task
-use Rattle.ghs_cli.specs.Serving.{GoesOn, IfStored, IsCause, IsPrinted, IsReplayCause, IsReplayed, IsRunCause, IsTraceText, Serves, is_write, shape_of}
+use Rattle.ghs_cli.specs.Serving.{GoesOn, IfStored, IsCause, IsOutput, IsPrinted, IsPrintedAtLimit, IsReplayCause, IsReplayed, IsRunCause, IsTraceText, IsTried, Serves, is_late, shape_of}
 
 -- what follows for each stored text follows where the task reads one
 pub if_stored : (job : Task) (stored : Option (List ℕ)) (P Q : List ℕ → Type 0) → ((bytes : List ℕ) → P bytes → Q bytes) → IfStored job stored P → IfStored job stored Q
 if_stored task.Tree stored P Q f all = λ bytes. f bytes (all bytes)
+if_stored (task.Run seed workers wake turns show) stored P Q f all = λ bytes. f bytes (all bytes)
 if_stored (task.Replay wake) None P Q f all = tt
 if_stored (task.Replay wake) (Some bytes) P Q f all = f bytes all
 
@@ -30,8 +32,8 @@ pub if_some : (o : Option (List ℕ)) (P Q : List ℕ → Type 0) → ((bytes : 
 if_some None P Q f all = tt
 if_some (Some bytes) P Q f all = f bytes all
 
--- a fault that is no failed write is served by its cause
-pub serves_cause : (job : Task) (stored input : List ℕ) (old new : Option (List ℕ)) (fault : ServeFault) → is_write fault ≡ false → IsCause job stored input fault → Serves job stored input old new (Err fault)
+-- a fault behind which no write was tried is served by its cause
+pub serves_cause : (job : Task) (stored input : List ℕ) (old new : Option (List ℕ)) (fault : ServeFault) → is_late job fault ≡ false → IsCause job stored input fault → Serves job stored input old new (Err fault)
 serves_cause job stored input old new (serve.BadLine line) early cause = cause
 serves_cause job stored input old new (serve.ArcBeforeProblem line) early cause = cause
 serves_cause job stored input old new (serve.SecondProblem line) early cause = cause
@@ -44,6 +46,8 @@ serves_cause job stored input old new (serve.TraceBadLine line) early cause = ca
 serves_cause job stored input old new (serve.TraceNumber line) early cause = cause
 serves_cause job stored input old new (serve.TraceCount said found) early cause = cause
 serves_cause job stored input old new (serve.NotLawful k) early cause = cause
+serves_cause job stored input old new serve.TurnLimit early cause = (cause, λ shows. absurd (let bad : true ≡ false = sym shows ∙ early in cc))
+serves_cause job stored input old new serve.Stalled early cause = cause
 serves_cause job stored input old new serve.NotEnded early cause = cause
 serves_cause job stored input old new serve.Memory early cause = cause
 serves_cause job stored input old new serve.Read early cause = cause
@@ -67,6 +71,8 @@ is_replayed wake own raw g done events text graph trace wakes run ended printed 
 
 -- a world whose run goes on gives its fault
 pub goes_on : (wake own : WakeSet) (raw : RawShape) (g : Shape) (done events : List Event) (fault : ServeFault) → g ≡ shape_of raw → done ≡ events → own ≡ wake → IsRunUnder (may_wake g own) (network_of g) done → GoesOn g (net_after g done) fault → IsRunCause wake raw events fault
+goes_on wake own raw g done events serve.TurnLimit graph trace wakes run goes = absurd goes
+goes_on wake own raw g done events serve.Stalled graph trace wakes run goes = absurd goes
 goes_on wake own raw g done events serve.NotEnded graph trace wakes run goes = (
   subst (λ (s : Shape). IsRunUnder (may_wake s wake) (network_of s) events) graph (subst (λ (es : List Event). IsRunUnder (may_wake g wake) (network_of g) es) trace (subst (λ (w : WakeSet). IsRunUnder (may_wake g w) (network_of g) done) wakes run)),
   subst (λ (s : Shape). HasEnded s (net_after s events) → ⊥) graph (subst (λ (es : List Event). HasEnded g (net_after g es) → ⊥) trace goes),
@@ -103,14 +109,44 @@ same_shape g raw nodes keys =
     subst (λ (ks : List Key). g ≡ record { nodes = raw.nodes; keys = ks }) keys (subst (λ (n : ℕ). g ≡ record { nodes = n; keys = g.keys }) nodes refl)
 
 -- a result that is a fault is served by its cause
-pub serves_fault : (job : Task) (stored input : List ℕ) (old new : Option (List ℕ)) (r : Result (Unit {0}) ServeFault) (fault : ServeFault) → r ≡ Err fault → is_write fault ≡ false → IsCause job stored input fault → Serves job stored input old new r
+pub serves_fault : (job : Task) (stored input : List ℕ) (old new : Option (List ℕ)) (r : Result (Unit {0}) ServeFault) (fault : ServeFault) → r ≡ Err fault → is_late job fault ≡ false → IsCause job stored input fault → Serves job stored input old new r
 serves_fault job stored input old new r fault is early cause = rw is (serves_cause job stored input old new fault early cause)
 
+-- what goes out is what the task prints, or what it prints at the turn limit
+pub printed_of : (job : Task) (stored input output : List ℕ) → IsOutput job false stored input output → IsPrinted job stored input output
+printed_of task.Tree stored input output out = out.1
+printed_of (task.Run seed workers wake turns show) stored input output out = out
+printed_of (task.Replay wake) stored input output out = out.1
+
+pub printed_at_limit : (job : Task) (stored input output : List ℕ) → IsOutput job true stored input output → IsPrintedAtLimit job input output
+printed_at_limit task.Tree stored input output out = absurd (let bad : true ≡ false = out.0 in cc)
+printed_at_limit (task.Run seed workers wake turns show) stored input output out = out
+printed_at_limit (task.Replay wake) stored input output out = absurd (let bad : true ≡ false = out.0 in cc)
+
+tried_of : (job : Task) (at_limit : Bool) (stored input output : List ℕ) → IsOutput job at_limit stored input output → IsTried job stored input output
+tried_of task.Tree at_limit stored input output out = out.1
+tried_of (task.Run seed workers wake turns show) at_limit stored input output out = (at_limit, out)
+tried_of (task.Replay wake) at_limit stored input output out = out.1
+
+-- only the seed's run of a graph stops at a turn limit
+pub limit_cause : (job : Task) (stored input output : List ℕ) → IsPrintedAtLimit job input output → IsCause job stored input serve.TurnLimit
+limit_cause task.Tree stored input output out = absurd out
+limit_cause (task.Run seed workers wake turns Events) stored input output out = inr (out.0, out.1, (out.2.0, out.2.1))
+limit_cause (task.Run seed workers wake turns Summary) stored input output out = absurd out.2
+limit_cause (task.Replay wake) stored input output out = absurd out
+
 -- a write that failed served the first bytes
-pub serves_part : (job : Task) (stored input bytes output : List ℕ) (old new : Option (List ℕ)) (r : Result (Unit {0}) ServeFault) (written : ℕ) → bytes ≡ output → r ≡ Err (serve.Write written) → written < length bytes → HasWritten old new bytes written → IsPrinted job stored input output → Serves job stored input old new r
-serves_part job stored input bytes output old new r written same is less has printed =
-    rw is (output, printed, subst (λ (b : List ℕ). written < length b) same less, subst (λ (b : List ℕ). HasWritten old new b written) same has)
+pub serves_part : (job : Task) (at_limit : Bool) (stored input bytes output : List ℕ) (old new : Option (List ℕ)) (r : Result (Unit {0}) ServeFault) (written : ℕ) → bytes ≡ output → r ≡ Err (serve.Write written) → written < length bytes → HasWritten old new bytes written → IsOutput job at_limit stored input output → Serves job stored input old new r
+serves_part job at_limit stored input bytes output old new r written same is less has out =
+    rw is (output, tried_of job at_limit stored input output out, subst (λ (b : List ℕ). written < length b) same less, subst (λ (b : List ℕ). HasWritten old new b written) same has)
 
 -- a write that succeeded served all
-pub serves_all : (job : Task) (stored input bytes output : List ℕ) (old new : Option (List ℕ)) → bytes ≡ output → HasWritten old new bytes (length bytes) → IsPrinted job stored input output → Serves job stored input old new (Ok tt)
-serves_all job stored input bytes output old new same has printed = (output, printed, subst (λ (b : List ℕ). HasWritten old new b (length b)) same has)
+pub serves_all : (job : Task) (stored input bytes output : List ℕ) (old new : Option (List ℕ)) → bytes ≡ output → HasWritten old new bytes (length bytes) → IsOutput job false stored input output → Serves job stored input old new (Ok tt)
+serves_all job stored input bytes output old new same has out =
+    (output, printed_of job stored input output out, subst (λ (b : List ℕ). HasWritten old new b (length b)) same has)
+
+-- and behind it the turns may be used
+pub serves_limit : (job : Task) (stored input bytes output : List ℕ) (old new : Option (List ℕ)) → bytes ≡ output → HasWritten old new bytes (length bytes) → IsOutput job true stored input output → Serves job stored input old new (Err serve.TurnLimit)
+serves_limit job stored input bytes output old new same has out =
+    let printed = printed_at_limit job stored input output out in
+    (limit_cause job stored input output printed, λ shows. (output, printed, subst (λ (b : List ℕ). HasWritten old new b (length b)) same has))

@@ -14,6 +14,22 @@ trace_rule = record (new_rule (codes "TRACE")) { required = true }
 abbrev pub option_rule : Text → Text → Rule
 option_rule name default = record (new_rule name) { long = Some name; defaults = default ∷ [] }
 
+-- `--seed`: which schedule picks the events
+abbrev pub seed_rule : Rule
+seed_rule = option_rule (codes "seed") (codes "1")
+
+-- `--workers`: how many threads take part
+abbrev pub workers_rule : Rule
+workers_rule = option_rule (codes "workers") (codes "0")
+
+-- `--turns`: how many events there may be
+abbrev pub turns_rule : Rule
+turns_rule = option_rule (codes "turns") (codes "1099511627776")
+
+-- `--print`: what of a run is printed
+abbrev pub print_rule : Rule
+print_rule = option_rule (codes "print") (codes "report")
+
 -- `--wake`: which nodes wake by themselves
 abbrev pub wake_rule : Rule
 wake_rule = option_rule (codes "wake") (codes "all")
@@ -22,6 +38,11 @@ wake_rule = option_rule (codes "wake") (codes "all")
 abbrev pub tree_command : App
 tree_command = with_rule (new_app (codes "tree")) file_rule
 
+-- `run [FILE] [--seed S] [--workers 0] [--wake all|first] [--turns T] [--print report|trace]`
+abbrev pub run_command : App
+run_command =
+    with_rule (with_rule (with_rule (with_rule (with_rule (with_rule (new_app (codes "run")) file_rule) seed_rule) workers_rule) wake_rule) turns_rule) print_rule
+
 -- `replay TRACE [FILE] [--wake all|first]`
 abbrev pub replay_command : App
 replay_command = with_rule (with_rule (with_rule (new_app (codes "replay")) trace_rule) file_rule) wake_rule
@@ -29,5 +50,5 @@ replay_command = with_rule (with_rule (with_rule (new_app (codes "replay")) trac
 -- the program's command line: its name and one of its commands
 unfoldable pub program : App
 program =
-    let a = with_subcommand (with_subcommand (new_app (codes "ghs")) tree_command.top) replay_command.top in
+    let a = with_subcommand (with_subcommand (with_subcommand (new_app (codes "ghs")) tree_command.top) run_command.top) replay_command.top in
     record a { top = record a.top { subcommand_required = true } }

@@ -1,17 +1,23 @@
 -- Command lines: what the words of the program ask for, and what is said of others.
-use Rattle.std.specs.Prelude.{◌≡◌, ◌≢◌, ◌↔◌, Bool, true, codes, List, [], ◌∷◌, Option, Some, None, if◌then◌else◌}
-use Rattle.std.specs.Str.{bytes_eq}
+use Rattle.std.specs.Prelude.{◌≡◌, ◌≢◌, ◌↔◌, ℕ, ◌≤◌, Bool, true, ◌&&◌, nat_le, cond, codes, List, [], ◌∷◌, Option, Some, None, is_some, unwrap_or, if◌then◌else◌}
+use Rattle.std.specs.Str.{all_ascii_digits, bytes_eq}
+use Rattle.std.specs.Str.Parse.{digits_value}
 use Rattle.std.specs.List.{list_any}
 use Rattle.std.specs.Option.{option_and_then, option_map}
 use Rattle.clap.specs.Kinds.{Kinds, IsAmong, or_else}
 use Rattle.clap.specs.Words.{Row, Text, fault_of, first_of, subcommand_of}
 use Rattle.clap.specs.declared.error.kind.ErrorKind.{ErrorKind}
 use Rattle.clap.specs.declared.error.kind.ErrorKind.TheVariants as kind
+use Rattle.ghs_lines.specs.Fields.{is_nonempty}
+use Rattle.ghs_sched.specs.declared.trace.TheConstants.{EVENT_LIMIT}
 use Rattle.ghs_world.specs.declared.wake_set.WakeSet.{WakeSet}
 use Rattle.ghs_world.specs.declared.wake_set.WakeSet.TheVariants.{First}
 use Rattle.ghs_cli.specs.Grammar.{program}
 use Rattle.ghs_cli.specs.declared.job.JobFault.{JobFault}
 use Rattle.ghs_cli.specs.declared.job.JobFault.TheVariants as fault
+use Rattle.ghs_cli.specs.declared.job.Show.{Show}
+use Rattle.ghs_cli.specs.declared.job.Show.TheVariants.{Events}
+use Rattle.ghs_cli.specs.declared.job.TheConstants.{MOST_WORKERS}
 use Rattle.ghs_cli.specs.declared.job.Task.{Task}
 use Rattle.ghs_cli.specs.declared.job.Task.TheVariants as task
 
@@ -35,31 +41,72 @@ name_in command = option_map (λ p. p.0) command
 abbrev pub value_in : Text → Used → Option Text
 value_in id command = option_and_then (λ p. first_of id p.1) command
 
--- the wake set that `--wake` names; a choice has only two values, or the words are refused
+-- the wake set that `--wake` names; a choice has one of two values, or the words are refused
 abbrev pub IsWake : Used → WakeSet → Type 0
 IsWake command wake = (wake ≡ First) ↔ (value_in (codes "wake") command ≡ Some (codes "first"))
 
+-- what of a run is printed, as `--print` says
+abbrev pub IsShow : Used → Show → Type 0
+IsShow command show = (show ≡ Events) ↔ (value_in (codes "print") command ≡ Some (codes "trace"))
+
+-- the number that a value is: digits alone, of a value in this range
+abbrev pub number_in : ℕ → ℕ → Text → Option ℕ
+number_in low high text =
+    let n = digits_value 10 text in
+    cond (is_nonempty text && all_ascii_digits text && nat_le low n && nat_le n high) (Some n) None
+
+-- the number that an option of the command has; it has one in its range, or the words are refused
+abbrev pub number_at : Text → ℕ → ℕ → Used → ℕ
+number_at id low high command = unwrap_or (option_and_then (number_in low high) (value_in id command)) low
+
+abbrev pub seed_in : Used → ℕ
+seed_in = number_at (codes "seed") 0 18446744073709551615
+
+abbrev pub workers_in : Used → ℕ
+workers_in = number_at (codes "workers") 0 MOST_WORKERS
+
+abbrev pub turns_in : Used → ℕ
+turns_in = number_at (codes "turns") 1 EVENT_LIMIT
+
 -- the task that a command asks for
 abbrev pub IsTask : Used → Task → Type 0
-IsTask command task.Tree = name_in command ≢ Some (codes "replay")
+IsTask command task.Tree = (name_in command ≢ Some (codes "run")) × (name_in command ≢ Some (codes "replay"))
+IsTask command (task.Run seed workers wake turns show) =
+    (name_in command ≡ Some (codes "run")) × (seed ≡ seed_in command) × (workers ≡ workers_in command) × IsWake command wake × (turns ≡ turns_in command) × IsShow command show
 IsTask command (task.Replay wake) = (name_in command ≡ Some (codes "replay")) × IsWake command wake
+
+-- a task's numbers are within their limits
+abbrev pub IsWithinLimits : Task → Type 0
+IsWithinLimits task.Tree = Unit {0}
+IsWithinLimits (task.Run seed workers wake turns show) = (workers ≤ MOST_WORKERS) × (1 ≤ turns) × (turns ≤ EVENT_LIMIT)
+IsWithinLimits (task.Replay wake) = Unit {0}
 
 -- a value that isn't given, or one of these
 abbrev pub is_among : List Text → Option Text → Bool
 is_among choices None = true
 is_among choices (Some text) = list_any (λ choice. bytes_eq text choice) choices
 
--- the choice of the command is one that there is
-abbrev pub has_choice : Used → Bool
-has_choice command = is_among (codes "all" ∷ codes "first" ∷ []) (value_in (codes "wake") command)
+-- a value that isn't given, or a number in this range
+abbrev pub is_number : ℕ → ℕ → Option Text → Bool
+is_number low high None = true
+is_number low high (Some text) = is_some (number_in low high text)
 
--- what is wrong with the choice of a command
-abbrev pub choice_kinds : Used → Kinds
-choice_kinds command = if has_choice command then [] else kind.InvalidValue ∷ []
+-- each option of the command has a value that it may have
+abbrev pub has_values : Used → Bool
+has_values command =
+    is_among (codes "all" ∷ codes "first" ∷ []) (value_in (codes "wake") command)
+    && is_among (codes "report" ∷ codes "trace" ∷ []) (value_in (codes "print") command)
+    && is_number 0 18446744073709551615 (value_in (codes "seed") command)
+    && is_number 0 MOST_WORKERS (value_in (codes "workers") command)
+    && is_number 1 EVENT_LIMIT (value_in (codes "turns") command)
+
+-- what is wrong with the values of a command's options
+abbrev pub option_kinds : Used → Kinds
+option_kinds command = if has_values command then [] else kind.InvalidValue ∷ []
 
 -- why the words are no command line of the program; nothing where they are one
 abbrev pub kinds_of : List Text → Kinds
-kinds_of words = or_else (fault_of program (with_name words)) (choice_kinds (command_in words))
+kinds_of words = or_else (fault_of program (with_name words)) (option_kinds (command_in words))
 
 -- help is for those who ask for it, a refusal for every other fault of the words; memory may always be wanting
 abbrev pub IsSaidOf : Kinds → JobFault → Type 0

@@ -36,6 +36,11 @@ pub enum ServeFault {
     TraceCount { said: u64, found: u64 },
     #[error("trace event {0} is not lawful")]
     NotLawful(u64),
+    #[error("turn limit reached")]
+    TurnLimit,
+    /// Never answered: while a run goes on, an event is ready.
+    #[error("no event is ready and the run has not ended")]
+    Stalled,
     #[error("the run has not ended")]
     NotEnded,
     #[error("out of memory")]
@@ -55,6 +60,8 @@ impl ServeFault {
         ensures { result ≡ status_of self.now }
     {
         match self {
+            ServeFault::TurnLimit => 3,
+            ServeFault::Stalled => 3,
             ServeFault::NotEnded => 3,
             ServeFault::Memory => 4,
             ServeFault::Read => 5,

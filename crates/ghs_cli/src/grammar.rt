@@ -1,8 +1,8 @@
 //! The words that the program takes.
 ghost use Rattle.clap.specs.Words.{app_of, rule_of};
 ghost use Rattle.clap.specs.declared.builder.command.Command.TheViews.{out-Command};
-ghost use Rattle.ghs_cli.specs.Grammar.{file_rule, option_rule, program, replay_command, tree_command};
-ghost use Rattle.std.specs.Prelude.{◌≡◌, IfOk, codes, false};
+ghost use Rattle.ghs_cli.specs.Grammar.{file_rule, option_rule, print_rule, program, replay_command, run_command, seed_rule, tree_command, turns_rule, wake_rule, workers_rule};
+ghost use Rattle.std.specs.Prelude.{◌≡◌, IfOk, false};
 
 use clap::{Arg, Command};
 use std::alloc::{AllocError, Global};
@@ -17,6 +17,7 @@ pub fn program<'a>(alloc: Global) -> Result<Command<'a>, AllocError>
             .about("Minimum spanning trees of networks")
             .subcommand_required(true)
             .subcommand(tree(alloc)?)?
+            .subcommand(run(alloc)?)?
             .subcommand(replay(alloc)?)?,
     )
 }
@@ -30,6 +31,23 @@ fn tree<'a>(alloc: Global) -> Result<Command<'a>, AllocError>
         Command::new(alloc, "tree")
             .about("Prints the minimum spanning forest of a graph")
             .arg(file(alloc))?,
+    )
+}
+
+// `ghs run`.
+fn run<'a>(alloc: Global) -> Result<Command<'a>, AllocError>
+    ensures local { IfOk result (λ command. (out-Command command).has_globals ≡ false) }
+    ensures app { IfOk result (λ command. app_of command ≡ run_command) }
+{
+    Ok(
+        Command::new(alloc, "run")
+            .about("Runs the network of a graph, event by event, by the schedule of a seed")
+            .arg(file(alloc))?
+            .arg(seed(alloc))?
+            .arg(workers(alloc))?
+            .arg(wake(alloc))?
+            .arg(turns(alloc))?
+            .arg(print(alloc))?,
     )
 }
 
@@ -58,10 +76,46 @@ fn file<'a>(alloc: Global) -> Arg<'a>
     Arg::new(alloc, "FILE").help("The graph, in the .gr format; standard input where none is named")
 }
 
+// Which schedule picks the events.
+fn seed<'a>(alloc: Global) -> Arg<'a>
+    ensures local { result.global ≡ false }
+    ensures rule { rule_of result ≡ seed_rule }
+{
+    option(alloc, "seed", "1").help("The number that picks the order of the events")
+}
+
+// How many threads take part.
+fn workers<'a>(alloc: Global) -> Arg<'a>
+    ensures local { result.global ≡ false }
+    ensures rule { rule_of result ≡ workers_rule }
+{
+    option(alloc, "workers", "0").help(
+        "How many threads take part; so far 0, the run without threads",
+    )
+}
+
+// How many events there may be.
+fn turns<'a>(alloc: Global) -> Arg<'a>
+    ensures local { result.global ≡ false }
+    ensures rule { rule_of result ≡ turns_rule }
+{
+    option(alloc, "turns", "1099511627776").help("How many events there may be, 1 to 1099511627776")
+}
+
+// What of a run is printed.
+fn print<'a>(alloc: Global) -> Arg<'a>
+    ensures local { result.global ≡ false }
+    ensures rule { rule_of result ≡ print_rule }
+{
+    option(alloc, "print", "report").help(
+        "What is printed: report, the tree and the counts, or trace, the events",
+    )
+}
+
 // Which nodes wake by themselves.
 fn wake<'a>(alloc: Global) -> Arg<'a>
     ensures local { result.global ≡ false }
-    ensures rule { rule_of result ≡ option_rule (codes "wake") (codes "all") }
+    ensures rule { rule_of result ≡ wake_rule }
 {
     option(alloc, "wake", "all").help(
         "Which nodes wake by themselves: all, or the first of each component",

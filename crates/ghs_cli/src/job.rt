@@ -1,24 +1,47 @@
 //! Command lines.
 ghost use Rattle.ghs_cli.specs.declared.job.JobFault.TheVariants.{Memory};
 ghost use Rattle.ghs_cli.specs.Grammar.{program};
-ghost use Rattle.ghs_cli.specs.Job.{choice_kinds, command_in, is_among, kinds_of, name_in, value_in, with_name, IsRefused, IsSaid, IsSaidOf, IsTask, IsWake};
+ghost use Rattle.ghs_cli.specs.Job.{command_in, has_values, is_among, is_number, kinds_of, name_in, number_at, number_in, option_kinds, value_in, with_name, IsRefused, IsSaid, IsSaidOf, IsShow, IsTask, IsWake, IsWithinLimits};
 ghost use Rattle.clap.specs.Words.{kind_of, subcommand_rows_of};
 ghost use Rattle.std.specs.Option.{option_map};
-ghost use Rattle.std.specs.Prelude.{◌≡◌, ◌↔◌, ◌∷◌, [], IfErr, IfOk, OnErr, OnOk, Some, codes, map, string_bytes, true};
+ghost use Rattle.std.specs.Prelude.{◌≡◌, ◌≤◌, ◌↔◌, ◌∷◌, [], IfErr, IfOk, IfSome, OnErr, OnOk, Some, codes, false, map, string_bytes, true};
 
 use crate::grammar::program;
 use clap::error::ErrorKind;
 use clap::{ArgMatches, Error};
+use ghs_sched::trace::EVENT_LIMIT;
 use ghs_world::wake_set::WakeSet;
 use std::alloc::{AllocError, Global};
+
+/// How many threads may take part in a run: none yet, so each is the run without threads.
+pub const MOST_WORKERS: u32 = 0;
+
+/// What of a run is printed.
+#[derive(Clone, Copy, Debug, PartialEq, Eq)]
+pub enum Show {
+    /// Where it has ended, the text of the net that it leaves.
+    Summary,
+    /// Its events.
+    Events,
+}
 
 /// What is to be done.
 #[derive(Clone, Copy, Debug, PartialEq, Eq)]
 pub enum Task {
     /// Print the minimum spanning forest.
     Tree,
+    /// Run a network by the schedule of a seed. There may be 1 to 2^40 events, `turns` of them.
+    Run {
+        seed: u64,
+        workers: u32,
+        wake: WakeSet,
+        turns: u64,
+        show: Show,
+    },
     /// Play a stored run again.
-    Replay { wake: WakeSet },
+    Replay {
+        wake: WakeSet,
+    },
 }
 
 /// What a command line asks for: the file of the graph (standard input where there is none), the file of a
@@ -49,12 +72,13 @@ impl From<AllocError> for JobFault {
     }
 }
 
-/// The job of a command line: the words after the program's name. The words are taken as `clap` takes them, and a
-/// choice has to be one that there is.
+/// The job of a command line: the words after the program's name. The words are taken as `clap` takes them; a choice
+/// has to be one that there is, and a number has to be digits of a value in its range.
 pub fn read_job(alloc: Global, words: &[String]) -> Result<Job, JobFault>
     ensures task { IfOk result (λ job. IsTask (command_in (map string_bytes words.now)) job.task) }
     ensures trace { IfOk result (λ job. option_map string_bytes job.trace ≡ value_in (codes "TRACE") (command_in (map string_bytes words.now))) }
     ensures graph { IfOk result (λ job. option_map string_bytes job.graph ≡ value_in (codes "FILE") (command_in (map string_bytes words.now))) }
+    ensures limits { IfOk result (λ job. IsWithinLimits job.task) }
     ensures taken { OnOk result (kinds_of (map string_bytes words.now) ≡ []) }
     ensures fault { IfErr result (IsSaidOf (kinds_of (map string_bytes words.now))) }
 {
@@ -82,12 +106,13 @@ fn job_of<'a>(alloc: Global, matches: &ArgMatches<'a>) -> Result<Job, JobFault>
     ensures task { IfOk result (λ job. IsTask (subcommand_rows_of matches.now) job.task) }
     ensures trace { IfOk result (λ job. option_map string_bytes job.trace ≡ value_in (codes "TRACE") (subcommand_rows_of matches.now)) }
     ensures graph { IfOk result (λ job. option_map string_bytes job.graph ≡ value_in (codes "FILE") (subcommand_rows_of matches.now)) }
-    ensures taken { OnOk result (choice_kinds (subcommand_rows_of matches.now) ≡ []) }
-    ensures fault { IfErr result (IsSaidOf (choice_kinds (subcommand_rows_of matches.now))) }
+    ensures limits { IfOk result (λ job. IsWithinLimits job.task) }
+    ensures taken { OnOk result (option_kinds (subcommand_rows_of matches.now) ≡ []) }
+    ensures fault { IfErr result (IsSaidOf (option_kinds (subcommand_rows_of matches.now))) }
 {
-    let wake = value_of(matches, "wake");
-    if !is_among(wake, "all", "first") {
-        return Err(unknown_choice(alloc, "wake", wake, "all, first"));
+    match check_options(alloc, matches) {
+        Ok(()) => {}
+        Err(fault) => return Err(fault),
     }
     Ok(Job {
         graph: owned(alloc, value_of(matches, "FILE"))?,
@@ -96,11 +121,73 @@ fn job_of<'a>(alloc: Global, matches: &ArgMatches<'a>) -> Result<Job, JobFault>
     })
 }
 
+/// Whether each option has a value that it may have; what is said of the first that hasn't.
+fn check_options<'a>(alloc: Global, matches: &ArgMatches<'a>) -> Result<(), JobFault>
+    ensures ok { OnOk result (has_values (subcommand_rows_of matches.now) ≡ true) }
+    ensures err { OnErr result (has_values (subcommand_rows_of matches.now) ≡ false) }
+    ensures fault { IfErr result IsRefused }
+{
+    check_choice(alloc, matches, "wake", "all", "first")?;
+    check_choice(alloc, matches, "print", "report", "trace")?;
+    check_number(alloc, matches, "seed", 0, u64::MAX)?;
+    check_number(alloc, matches, "workers", 0, MOST_WORKERS as u64)?;
+    check_number(alloc, matches, "turns", 1, EVENT_LIMIT)
+}
+
+/// Whether an option has one of two values.
+fn check_choice<'a>(
+    alloc: Global,
+    matches: &ArgMatches<'a>,
+    id: &str,
+    one: &str,
+    other: &str,
+) -> Result<(), JobFault>
+    ensures ok { OnOk result (is_among (one.now ∷ other.now ∷ []) (value_in id.now (subcommand_rows_of matches.now)) ≡ true) }
+    ensures err { OnErr result (is_among (one.now ∷ other.now ∷ []) (value_in id.now (subcommand_rows_of matches.now)) ≡ false) }
+    ensures fault { IfErr result IsRefused }
+{
+    let value = value_of(matches, id);
+    if is_among(value, one, other) {
+        Ok(())
+    } else {
+        Err(unknown_choice(alloc, id, value, one, other))
+    }
+}
+
+/// Whether an option has a number in a range.
+fn check_number<'a>(
+    alloc: Global,
+    matches: &ArgMatches<'a>,
+    id: &str,
+    low: u64,
+    high: u64,
+) -> Result<(), JobFault>
+    ensures ok { OnOk result (is_number low high (value_in id.now (subcommand_rows_of matches.now)) ≡ true) }
+    ensures err { OnErr result (is_number low high (value_in id.now (subcommand_rows_of matches.now)) ≡ false) }
+    ensures fault { IfErr result IsRefused }
+{
+    let value = value_of(matches, id);
+    if is_number(value, low, high) {
+        Ok(())
+    } else {
+        Err(no_number(alloc, id, value, low, high))
+    }
+}
+
 /// The task of a command.
 fn task_of<'a>(matches: &ArgMatches<'a>) -> Task
-    ensures { IsTask (subcommand_rows_of matches.now) result }
+    ensures task { IsTask (subcommand_rows_of matches.now) result }
+    ensures limits { IsWithinLimits result }
 {
-    if matches.subcommand_name() == Some("replay") {
+    if matches.subcommand_name() == Some("run") {
+        Task::Run {
+            seed: number_of(matches, "seed", 0, u64::MAX),
+            workers: number_of(matches, "workers", 0, MOST_WORKERS as u64) as u32,
+            wake: wake_of(matches),
+            turns: number_of(matches, "turns", 1, EVENT_LIMIT),
+            show: show_of(matches),
+        }
+    } else if matches.subcommand_name() == Some("replay") {
         Task::Replay {
             wake: wake_of(matches),
         }
@@ -117,6 +204,33 @@ fn wake_of<'a>(matches: &ArgMatches<'a>) -> WakeSet
         WakeSet::First
     } else {
         WakeSet::All
+    }
+}
+
+/// What of a run is printed.
+fn show_of<'a>(matches: &ArgMatches<'a>) -> Show
+    ensures { IsShow (subcommand_rows_of matches.now) result }
+{
+    if is_text(value_of(matches, "print"), "trace") {
+        Show::Events
+    } else {
+        Show::Summary
+    }
+}
+
+/// The number that an option has, and its least where it has none.
+fn number_of<'a>(matches: &ArgMatches<'a>, id: &str, low: u64, high: u64) -> u64
+    requires { low ≤ high }
+    ensures number { result ≡ number_at id.now low high (subcommand_rows_of matches.now) }
+    ensures low { low ≤ result }
+    ensures high { result ≤ high }
+{
+    let Some(value) = value_of(matches, id) else {
+        return low;
+    };
+    match number_in(value, low, high) {
+        Some(number) => number,
+        None => low,
     }
 }
 
@@ -150,6 +264,31 @@ fn is_among(value: Option<&str>, one: &str, other: &str) -> bool
     }
 }
 
+/// Whether there is no value, or a number in this range.
+fn is_number(value: Option<&str>, low: u64, high: u64) -> bool
+    ensures { result ≡ is_number low high (option_map (λ t. t.now) value.entry) }
+{
+    match value {
+        Some(value) => number_in(value, low, high).is_some(),
+        None => true,
+    }
+}
+
+/// The number that a value is: digits alone, of a value in this range.
+fn number_in(value: &str, low: u64, high: u64) -> Option<u64>
+    ensures number { result ≡ number_in low high value.now }
+    ensures range { IfSome result (λ n. (low ≤ n) × (n ≤ high)) }
+{
+    let Ok(number) = value.parse::<u64>() else {
+        return None;
+    };
+    // `parse` takes a plus.
+    if value.as_bytes()[0] == b'+' || number < low || high < number {
+        return None;
+    }
+    Some(number)
+}
+
 /// The text, as one that lasts.
 fn owned(alloc: Global, text: Option<&str>) -> Result<Option<String>, AllocError>
     ensures { IfOk result (λ owned. option_map string_bytes owned ≡ option_map (λ t. t.now) text.entry) }
@@ -161,12 +300,25 @@ fn owned(alloc: Global, text: Option<&str>) -> Result<Option<String>, AllocError
 }
 
 /// What is said of a choice that there isn't, in `clap`'s words.
-fn unknown_choice(alloc: Global, id: &str, value: Option<&str>, choices: &str) -> JobFault
+fn unknown_choice(alloc: Global, id: &str, value: Option<&str>, one: &str, other: &str) -> JobFault
     ensures { IsRefused result }
 {
     let value = value.unwrap_or("");
     match format!(in alloc;
-        "error: invalid value '{value}' for '--{id} <{id}>'\n  [possible values: {choices}]\n\nFor more information, try '--help'.\n"
+        "error: invalid value '{value}' for '--{id} <{id}>'\n  [possible values: {one}, {other}]\n\nFor more information, try '--help'.\n"
+    ) {
+        Ok(text) => JobFault::Refused(text),
+        Err(_) => JobFault::Memory,
+    }
+}
+
+/// What is said of a value that is no number in its range, in `clap`'s words.
+fn no_number(alloc: Global, id: &str, value: Option<&str>, low: u64, high: u64) -> JobFault
+    ensures { IsRefused result }
+{
+    let value = value.unwrap_or("");
+    match format!(in alloc;
+        "error: invalid value '{value}' for '--{id} <{id}>': not a number in {low}..={high}\n\nFor more information, try '--help'.\n"
     ) {
         Ok(text) => JobFault::Refused(text),
         Err(_) => JobFault::Memory,

@@ -1,12 +1,14 @@
 //! Devices in memory, whole and failing, and what the program does over them.
 ghost use Rattle.std.specs.Io.KnownBytes.{ReadConsumes, WriteAppends};
 ghost use Rattle.std.specs.Io.{ReadsAtMost, WritesAtMost};
-ghost use Rattle.std.specs.Prelude.{None, false, ◌≡◌};
+ghost use Rattle.ghs_cli.specs.Job.{IsWithinLimits};
+ghost use Rattle.std.specs.Prelude.{None, false, ◌≡◌, ◌≤◌};
 
 use ghs_cli::fault::ServeFault;
-use ghs_cli::job::{Job, Task};
+use ghs_cli::job::{Job, Show, Task};
 use ghs_cli::serve::serve;
-use ghs_gr::device::{Device, Source};
+use ghs_gr::device::{Device, Sink, Source};
+use ghs_sched::trace::EVENT_LIMIT;
 use ghs_world::wake_set::WakeSet;
 use std::alloc::Global;
 use std::io;
@@ -54,7 +56,9 @@ impl Write for Narrow {
 }
 
 /// A tree of the graph on standard input.
-pub fn tree_job() -> Job {
+pub fn tree_job() -> Job
+    ensures { IsWithinLimits result.task }
+{
     Job {
         graph: None,
         trace: None,
@@ -101,4 +105,52 @@ pub fn replay_from<T: Source>(
     let mut out = Device::of(&mut written);
     let result = serve(alloc, &job, &mut graph, trace, &mut out);
     (result, written)
+}
+
+/// What `ghs run` answers and writes, of this graph.
+pub fn run_of(
+    alloc: Global,
+    seed: u64,
+    wake: WakeSet,
+    turns: u64,
+    show: Show,
+    input: &[u8],
+) -> (Result<(), ServeFault>, Vec<u8>)
+    requires some { 1 ≤ turns }
+    requires few { turns ≤ EVENT_LIMIT }
+{
+    let mut written = Vec::new(alloc);
+    let mut out = Device::of(&mut written);
+    let result = run_into(alloc, seed, wake, turns, show, input, &mut out);
+    (result, written)
+}
+
+/// The same to a device.
+pub fn run_into<W: Sink>(
+    alloc: Global,
+    seed: u64,
+    wake: WakeSet,
+    turns: u64,
+    show: Show,
+    input: &[u8],
+    out: &mut W,
+) -> Result<(), ServeFault>
+    requires some { 1 ≤ turns }
+    requires few { turns ≤ EVENT_LIMIT }
+    requires out { W.has_failed out.old ≡ false }
+{
+    let job = Job {
+        graph: None,
+        trace: None,
+        task: Task::Run {
+            seed,
+            workers: 0,
+            wake,
+            turns,
+            show,
+        },
+    };
+    let mut graph = Device::of(input);
+    let mut trace = Device::of(b"".as_slice());
+    serve(alloc, &job, &mut graph, &mut trace, out)
 }

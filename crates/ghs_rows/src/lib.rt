@@ -12,6 +12,8 @@ mod queues;
 #[cfg(test)]
 mod replays;
 #[cfg(test)]
+mod run_texts;
+#[cfg(test)]
 mod texts;
 #[cfg(test)]
 mod traces;

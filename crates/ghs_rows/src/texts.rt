@@ -7,9 +7,9 @@ use std::alloc::Global;
 use std::process::Abort;
 
 /// A graph, the number of its nodes, and the text of each of its runs.
-type Row = (&'static str, u32, &'static str);
+pub type Row = (&'static str, u32, &'static str);
 
-const ROWS: [Row; 10] = [
+pub const ROWS: [Row; 10] = [
     (
         "p sp 1 0",
         1,

@@ -19,6 +19,8 @@ fn jobs(rt: HostRuntime) -> Result<(), Fail> {
         ("tree", None),
         ("tree map.gr", Some("map.gr")),
         ("tree -", Some("-")),
+        ("run", None),
+        ("run --seed 007 map.gr --turns 3", Some("map.gr")),
     ] {
         match job_of(rt.alloc(), line)? {
             Ok(job) => {
@@ -40,8 +42,13 @@ fn refusals(rt: HostRuntime) -> Result<(), Fail> {
     for line in [
         "",
         "run --workers 65",
+        "run --workers 1",
         "run --turns 0",
-        "run",
+        "run --turns 1099511627777",
+        "run --seed +5",
+        "run --seed x",
+        "run --wake some",
+        "run --print all",
         "replay",
         "replay --wake none run.trace",
         "tree a b",
@@ -91,6 +98,12 @@ fn texts_of_other_faults(rt: HostRuntime) -> Result<(), Fail> {
             1,
         ),
         (ServeFault::TooLong, "input too long", 1),
+        (ServeFault::TurnLimit, "turn limit reached", 3),
+        (
+            ServeFault::Stalled,
+            "no event is ready and the run has not ended",
+            3,
+        ),
         (ServeFault::Memory, "out of memory", 4),
         (ServeFault::Read, "input could not be read", 5),
         (

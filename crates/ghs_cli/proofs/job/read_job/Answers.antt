@@ -5,7 +5,7 @@ use Rattle.clap.specs.Kinds.{Kinds, HasKind, or_else}
 use Rattle.clap.specs.Words.{Text, fault_of, is_simple, is_simple_and_free, subcommand_of, subcommand_rows_of}
 use Rattle.clap.proofs.OnLiterals.{clap_on_literals}
 use Rattle.ghs_cli.specs.Grammar.{program}
-use Rattle.ghs_cli.specs.Job.{IsSaidOf, IsTask, Used, choice_kinds, command_in, kinds_of, value_in, with_name}
+use Rattle.ghs_cli.specs.Job.{IsSaidOf, IsTask, Used, option_kinds, command_in, kinds_of, value_in, with_name}
 use Rattle.ghs_cli.proofs.Said.{said_of, said_first}
 use Rattle.ghs_cli.proofs.job.read_job.Goals as goal
 
@@ -18,9 +18,9 @@ is_free-program : is_simple_and_free program ≡ true
 unfolding program clap_on_literals
 is_free-program = refl
 
--- where `clap` finds no fault, what is wrong is wrong with the choices
-choices_alone : (words : List Text) (command : Used) → command ≡ command_in words → fault_of program (with_name words) ≡ [] → choice_kinds command ≡ kinds_of words
-choices_alone words command is none = ap choice_kinds is ∙ sym (ap (λ k. or_else k (choice_kinds (command_in words))) none)
+-- where `clap` finds no fault, what is wrong is wrong with the values of options
+values_alone : (words : List Text) (command : Used) → command ≡ command_in words → fault_of program (with_name words) ≡ [] → option_kinds command ≡ kinds_of words
+values_alone words command is none = ap option_kinds is ∙ sym (ap (λ k. or_else k (option_kinds (command_in words))) none)
 
 -- the command that was read is the one that the words name
 command_is : (c : goal.After-drop-line-in-Ok) → subcommand_rows_of c.in-Ok.matches ≡ command_in (map string_bytes c.args.words.now)
@@ -47,10 +47,10 @@ pub returns-in-Ok-clause-graph : goal.returns-in-Ok-clause-graph
 returns-in-Ok-clause-graph c = subst (λ (u : Used). IfOk c.job_of.result (λ job. option_map string_bytes job.graph ≡ value_in (codes "FILE") u)) (command_is c) c.job_of.ensures.graph
 
 pub returns-in-Ok-clause-taken : goal.returns-in-Ok-clause-taken
-returns-in-Ok-clause-taken c = subst (λ (k : Kinds). OnOk c.job_of.result (k ≡ [])) (choices_alone _ _ (command_is c) (no_fault c)) c.job_of.ensures.taken
+returns-in-Ok-clause-taken c = subst (λ (k : Kinds). OnOk c.job_of.result (k ≡ [])) (values_alone _ _ (command_is c) (no_fault c)) c.job_of.ensures.taken
 
 pub returns-in-Ok-clause-fault : goal.returns-in-Ok-clause-fault
-returns-in-Ok-clause-fault c = subst (λ (k : Kinds). IfErr c.job_of.result (IsSaidOf k)) (choices_alone _ _ (command_is c) (no_fault c)) c.job_of.ensures.fault
+returns-in-Ok-clause-fault c = subst (λ (k : Kinds). IfErr c.job_of.result (IsSaidOf k)) (values_alone _ _ (command_is c) (no_fault c)) c.job_of.ensures.fault
 
 pub returns-clause-fault : goal.returns-clause-fault
 returns-clause-fault c =
