@@ -14,6 +14,8 @@ mod replays;
 #[cfg(test)]
 mod run_texts;
 #[cfg(test)]
+mod runs;
+#[cfg(test)]
 mod texts;
 #[cfg(test)]
 mod traces;

@@ -16,10 +16,10 @@ const SINGLE: &str = "p sp 1 0";
 
 const PATH: &str = "p sp 3 2\na 1 2 5\na 2 3 7";
 
-const MOST_TURNS: u64 = 1 << 40;
+pub const MOST_TURNS: u64 = 1 << 40;
 
 /// The opening world of the graph of a text.
-fn world_of(rt: &impl Abort, alloc: Global, text: &str, wake: WakeSet, turns: u64) -> World {
+pub fn world_of(rt: &impl Abort, alloc: Global, text: &str, wake: WakeSet, turns: u64) -> World {
     assert!(rt; turns >= 1 && turns <= MOST_TURNS);
     let raw = judge(alloc, text.as_bytes()).ok().expect(rt, "a graph");
     let graph = Graph::build(alloc, raw).ok().expect(rt, "ports");
