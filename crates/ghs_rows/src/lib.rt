@@ -2,6 +2,8 @@
 #![tactic(auto)]
 
 #[cfg(test)]
+mod commits;
+#[cfg(test)]
 mod devices;
 #[cfg(test)]
 mod graphs;
@@ -15,6 +17,8 @@ mod replays;
 mod run_texts;
 #[cfg(test)]
 mod runs;
+#[cfg(test)]
+mod strangers;
 #[cfg(test)]
 mod texts;
 #[cfg(test)]

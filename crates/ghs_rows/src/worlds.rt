@@ -3,7 +3,7 @@ use ghs_core::event::Event;
 use ghs_gr::judgement::judge;
 use ghs_graph::graph::Graph;
 use ghs_graph::key::Key;
-use ghs_report::net_text::net_text;
+use ghs_report::run_text::run_text;
 use ghs_world::fault::OutFault;
 use ghs_world::ticket::{Step, Ticket};
 use ghs_world::wake_set::WakeSet;
@@ -29,12 +29,12 @@ pub fn world_of(rt: &impl Abort, alloc: Global, text: &str, wake: WakeSet, turns
 }
 
 /// The opening world of three nodes in a row, in which all may wake.
-fn path(rt: &impl Abort, alloc: Global) -> World {
+pub fn path(rt: &impl Abort, alloc: Global) -> World {
     world_of(rt, alloc, PATH, WakeSet::All, MOST_TURNS)
 }
 
 /// Checks out an event, which isn't refused.
-fn check_out(rt: &impl Abort, alloc: Global, world: &mut World, event: Event) -> Ticket {
+pub fn check_out(rt: &impl Abort, alloc: Global, world: &mut World, event: Event) -> Ticket {
     world.check_out(alloc, event).ok().expect(rt, "a ticket")
 }
 
@@ -44,30 +44,30 @@ fn refusal_of(alloc: Global, world: &mut World, event: Event) -> Option<OutFault
 }
 
 /// Checks out an event, and its node reacts.
-fn step_of(rt: &impl Abort, alloc: Global, world: &mut World, event: Event) -> Step {
+pub fn step_of(rt: &impl Abort, alloc: Global, world: &mut World, event: Event) -> Step {
     let ticket = check_out(rt, alloc, world, event);
     ticket.perform(alloc).ok().expect(rt, "a reaction")
 }
 
 /// Commits a step that isn't refused.
-fn commit(rt: &impl Abort, alloc: Global, world: &mut World, step: Step) -> Committed {
+pub fn commit(rt: &impl Abort, alloc: Global, world: &mut World, step: Step) -> Committed {
     world.commit(alloc, step).ok().expect(rt, "a commit")
 }
 
 /// Checks out events, and performs and commits each.
-fn do_all(rt: &impl Abort, alloc: Global, world: &mut World, events: &[Event]) {
+pub fn do_all(rt: &impl Abort, alloc: Global, world: &mut World, events: &[Event]) {
     for event in events {
         let step = step_of(rt, alloc, world, *event);
         let _ = commit(rt, alloc, world, step);
     }
 }
 
-fn branches_of(rt: &impl Abort, alloc: Global, world: &World) -> Vec<Key> {
+pub fn branches_of(rt: &impl Abort, alloc: Global, world: &World) -> Vec<Key> {
     world.branches(alloc).expect(rt, "memory")
 }
 
-fn text_of(rt: &impl Abort, alloc: Global, world: &World) -> Vec<u8> {
-    net_text(alloc, world.net()).ok().expect(rt, "a text")
+pub fn text_of(rt: &impl Abort, alloc: Global, world: &World) -> Vec<u8> {
+    run_text(alloc, world).ok().expect(rt, "a text")
 }
 
 // A node without links halts when it wakes.
