@@ -35,10 +35,23 @@ def road(nodes, links, order):
     return path
 
 
-def run(words, output, environment=None):
+def write_graph(name, nodes, arcs):
+    """The path of a graph of these arcs, each given by its ends and its weight."""
+    path = os.path.join(OUT, name + ".gr")
+    with open(path, "w") as file:
+        file.write(f"p sp {nodes} {len(arcs)}\n")
+        file.writelines(f"a {u} {v} {weight}\n" for u, v, weight in arcs)
+    return path
+
+
+def same_bytes(first, second):
+    return filecmp.cmp(first, second, shallow=False)
+
+
+def run(words, output):
     """Processor seconds and peak MiB of one run."""
     with open(output, "wb") as file:
-        process = subprocess.Popen(words, stdout=file, env={**os.environ, **(environment or {})})
+        process = subprocess.Popen(words, stdout=file)
         _, status, usage = os.wait4(process.pid, 0)
     process.returncode = os.waitstatus_to_exitcode(status)
     if process.returncode != 0:
@@ -56,7 +69,7 @@ def measure(programs, path, runs):
             best[label] = tuple(map(min, measured, best.get(label, measured)))
     first, *others = printed.values()
     for other in others:
-        if not filecmp.cmp(first, other, shallow=False):
+        if not same_bytes(first, other):
             sys.exit(f"{path}: {first} and {other} differ")
     return best
 
