@@ -26,7 +26,7 @@ returns-in-Err-TurnLimit-clause-output c =
     let opened = c.in-Ok-open.ensures in
     let answer = c.in-Err-TurnLimit.ensures in
     let stopped = is_stopped c.args.seed c.args.turns c.args.wake c.args.raw c.in-Ok-open.world c.run_seeded.new.world c.seeded-schedule.result c.run_seeded.new.schedule c.run_seeded.result c.in-Err-TurnLimit.field-0
-        c.seeded-schedule.ensures graph opened.trace opened.wake opened.turns opened.last c.requires.few c.run_seeded.ensures.run c.in-Err-TurnLimit.is c.in-Err-TurnLimit.field-0-is c.run_seeded.ensures.limit answer.fault answer.going in
+    c.seeded-schedule.ensures graph opened.trace opened.wake opened.turns opened.last c.requires.few c.run_seeded.ensures.run c.in-Err-TurnLimit.is c.in-Err-TurnLimit.field-0-is c.run_seeded.ensures.limit answer.fault answer.going in
     ran_to_limit c.stopped.result (λ o. o.at_limit) (λ o. o.text.items) c.args.seed c.args.turns c.args.wake c.args.show c.args.raw c.run_seeded.new.world.net.trace stopped
     c.stopped.ensures.text c.stopped.ensures.limit c.stopped.ensures.events
 
@@ -36,7 +36,7 @@ returns-in-Err-TurnLimit-clause-fault c =
     let opened = c.in-Ok-open.ensures in
     let answer = c.in-Err-TurnLimit.ensures in
     let stopped = is_stopped c.args.seed c.args.turns c.args.wake c.args.raw c.in-Ok-open.world c.run_seeded.new.world c.seeded-schedule.result c.run_seeded.new.schedule c.run_seeded.result c.in-Err-TurnLimit.field-0
-        c.seeded-schedule.ensures graph opened.trace opened.wake opened.turns opened.last c.requires.few c.run_seeded.ensures.run c.in-Err-TurnLimit.is c.in-Err-TurnLimit.field-0-is c.run_seeded.ensures.limit answer.fault answer.going in
+    c.seeded-schedule.ensures graph opened.trace opened.wake opened.turns opened.last c.requires.few c.run_seeded.ensures.run c.in-Err-TurnLimit.is c.in-Err-TurnLimit.field-0-is c.run_seeded.ensures.limit answer.fault answer.going in
     stops_run c.stopped.result c.args.seed c.args.turns c.args.wake c.args.show c.args.raw c.run_seeded.new.world.net.trace stopped c.stopped.ensures.err
 
 pub returns-in-Err-TurnLimit-clause-limit : goal.returns-in-Err-TurnLimit-clause-limit
