@@ -8,4 +8,6 @@ mod floor;
 pub mod gate;
 mod pace;
 pub mod shop;
+#[cfg(test)]
+mod tests;
 pub mod workers;
