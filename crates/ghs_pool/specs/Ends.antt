@@ -1,11 +1,10 @@
 -- How a run of workers ends.
-use Rattle.std.specs.Prelude.{◌≡◌, false, Result, Ok, Err, Some, []}
+use Rattle.std.specs.Prelude.{◌≡◌, false, Result, Ok, Err, []}
 use Rattle.ghs_protocol.specs.Marks.{HasEnded}
-use Rattle.ghs_core.specs.NetState.{network, IsLeastHalted}
 use Rattle.ghs_world.specs.WorldState.{WorldState, home, has_turn}
 use Rattle.ghs_world.specs.Ready.{ready_events}
-use Rattle.ghs_pool.specs.declared.end.RunEnd.{RunEnd}
-use Rattle.ghs_pool.specs.declared.end.RunEnd.TheVariants.{Halted}
+use Rattle.ghs_sched.specs.declared.run.RunEnd.{RunEnd}
+use Rattle.ghs_sched.specs.Runs.{IsEnd}
 use Rattle.ghs_pool.specs.declared.end.PoolFault.{PoolFault}
 use Rattle.ghs_pool.specs.declared.end.PoolFault.TheVariants.{TurnLimit, Stalled, Unforeseen, Memory, Strange, NoThread}
 
@@ -25,7 +24,6 @@ FaultFits s Memory = IsNotAtEnd s
 FaultFits s Strange = IsNotAtEnd s
 FaultFits s NoThread = Unit {0}
 
--- halted is the least of the nodes that have, of a run that has ended
 abbrev pub EndFits : WorldState → Result RunEnd PoolFault → Type 0
-EndFits s (Ok (Halted v)) = IsAtEnd s × IsLeastHalted (network s.net) (home s) (Some v)
+EndFits s (Ok e) = IsEnd s e
 EndFits s (Err f) = FaultFits s f

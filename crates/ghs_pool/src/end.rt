@@ -1,12 +1,5 @@
-//! How a run of workers ends.
+//! Why a run of workers stops before its end.
 use thiserror::Error;
-
-/// How a run ends that has ended.
-#[derive(Clone, Copy, Debug, Drop, PartialEq, Eq)]
-pub enum RunEnd {
-    /// Each component has a core node that has halted; the least of all nodes that have.
-    Halted(u32),
-}
 
 /// Why a run of workers hasn't ended, or what stands in the way.
 #[derive(Clone, Copy, Debug, Drop, PartialEq, Eq, Error)]

@@ -3,7 +3,7 @@ ghost use Rattle.std.specs.Prelude.{◌≡◌, ◌≤◌};
 ghost use Rattle.ghs_pool.specs.Shop.{IsTold};
 
 use crate::desk::Desk;
-use crate::end::{PoolFault, RunEnd};
+use crate::end::PoolFault;
 use crate::gate::{Gate, OpenGate};
 use crate::shop::Shop;
 use crate::workers::{run_watched, run_workers};
@@ -13,6 +13,7 @@ use ghs_gr::judgement::judge;
 use ghs_graph::graph::Graph;
 use ghs_protocol::event::Event;
 use ghs_report::net_text::net_text;
+use ghs_sched::run::RunEnd;
 use ghs_world::wake_set::WakeSet;
 use ghs_world::world::World;
 use std::alloc::Global;

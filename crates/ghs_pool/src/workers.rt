@@ -7,13 +7,14 @@ ghost use Rattle.ghs_pool.specs.Shop.{IsTold};
 ghost use Rattle.ghs_pool.specs.Follows.{Follows, GoesOn};
 ghost use Rattle.ghs_pool.specs.Ends.{EndFits, IsAtEnd};
 
-use crate::end::{PoolFault, RunEnd};
+use crate::end::PoolFault;
 use crate::floor::{Floor, Next, Start};
 use crate::gate::Gate;
 use crate::pace::Pace;
 use crate::shop::{Shop, pair_of};
 use ghs_board::board::{Board, Publisher};
 use ghs_queue::queue::{ReadyPass, ReadyQueue};
+use ghs_sched::run::RunEnd;
 use ghs_world::ticket::Ticket;
 use ghs_world::world::World;
 use std::alloc::{AllocError, Global};
