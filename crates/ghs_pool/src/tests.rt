@@ -207,15 +207,42 @@ const NONE_YET: Progress = Progress {
     halted: false,
 };
 
+// Holds ticket 3 until a reader has seen a pair of a run under way, and notes that it came. Of two workers' tickets one of
+// the first two is committed before the third goes out.
+#[derive(Drop)]
+struct Meet {
+    seen: AtomicU64,
+    noted: AtomicU64,
+}
+
+impl Gate for Meet {
+    fn between(&self, ticket: u64) {
+        if ticket == 3 {
+            for _ in 0..10_000_000u64 {
+                if self.seen.load(Ordering::SeqCst) == 1 {
+                    self.noted.store(1, Ordering::SeqCst);
+                    break;
+                }
+                thread::yield_now();
+            }
+        }
+    }
+}
+
 // Reads until the run has ended.
-fn watch(board: &Board, mut reader: Reader) -> Reader
+fn watch(board: &Board, mut reader: Reader, gate: &Meet) -> Reader
     requires { reader.table ≡ board.now }
     ensures { result.table ≡ board.now }
 {
-    for _ in 0..100_000_000u64 {
-        if board.read(&mut reader).halted {
+    for _ in 0..10_000_000u64 {
+        let pair = board.read(&mut reader);
+        if pair.halted {
             break;
         }
+        if pair.commits > 0 {
+            gate.seen.store(1, Ordering::SeqCst);
+        }
+        thread::yield_now();
     }
     reader
 }
@@ -242,7 +269,7 @@ fn a_shop_tells_of_each_commit(rt: HostRuntime) {
     assert!(rt; Shop::open(world, publisher).is_err());
 }
 
-// Two threads read while two workers run, each until the end; then each reads the world's pair.
+// Two threads read while two workers run, each until the end: one finds a pair on the way, and then each the world's.
 fn run_beside_readers<R: Threads + Wait + Sync + Abort>(rt: &R, alloc: Global) {
     let (board, publisher, mut first) = Board::open(alloc, NONE_YET).expect(rt, "a board");
     let second = board.split(alloc, &mut first).expect(rt, "a reader");
@@ -251,7 +278,11 @@ fn run_beside_readers<R: Threads + Wait + Sync + Abort>(rt: &R, alloc: Global) {
         panic!(rt; "an opening pair");
     };
     let (world, publisher) = shop.close();
-    let lent = &board;
+    let meet = Meet {
+        seen: AtomicU64::new(0),
+        noted: AtomicU64::new(0),
+    };
+    let (lent, gate) = (&board, &meet);
     let readers = move || -> (Reader, Reader)
         requires { (first.table ≡ lent.now) × (second.table ≡ lent.now) }
         ensures { (result.0.table ≡ lent.entry.now) × (result.1.table ≡ lent.entry.now) }
@@ -261,21 +292,22 @@ fn run_beside_readers<R: Threads + Wait + Sync + Abort>(rt: &R, alloc: Global) {
             move || -> Reader
                 requires { first.table ≡ lent.now }
                 ensures { result.table ≡ lent.entry.now }
-            { watch(lent, first) },
+            { watch(lent, first, gate) },
             move || -> Reader
                 requires { second.table ≡ lent.now }
                 ensures { result.table ≡ lent.entry.now }
-            { watch(lent, second) },
+            { watch(lent, second, gate) },
         )
     };
     let ((world, publisher, end), (mut first, mut second)) = thread::join(
         rt,
         move || -> (World, Publisher, Result<RunEnd, PoolFault>)
             requires { IsTold world publisher }
-        { run_watched(rt, alloc, world, 2, &OpenGate, publisher) },
+        { run_watched(rt, alloc, world, 2, gate, publisher) },
         readers,
     );
     assert!(rt; end.is_ok());
+    assert_eq!(rt; meet.noted.load(Ordering::SeqCst), 1);
     let last = publisher.last();
     assert!(rt; last.halted && last.commits == world.trace().len() as u64);
     assert_eq!(rt; board.read(&mut first), last);
@@ -283,6 +315,6 @@ fn run_beside_readers<R: Threads + Wait + Sync + Abort>(rt: &R, alloc: Global) {
 }
 
 #[test]
-fn readers_see_the_end(rt: HostRuntime) {
+fn readers_see_the_run_and_its_end(rt: HostRuntime) {
     run_beside_readers(&rt, rt.alloc());
 }
