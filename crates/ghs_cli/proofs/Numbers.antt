@@ -53,7 +53,9 @@ record IsDigits (low high : ℕ) (text : List ℕ) : Type 0 where
 not_plus : (x : ℕ) → IsInRange 48 57 x → x ≡ 43 → ⊥
 not_plus x within is = omega (arith, within.0, is)
 
-digits_of : (low high : ℕ) (text : List ℕ) → AllFour (is_nonempty text) (all_ascii_digits text) (nat_le low (digits_value 10 text)) (nat_le (digits_value 10 text) high) → IsDigits low high text
+digits_of : (low high : ℕ) (text : List ℕ) →
+    AllFour (is_nonempty text) (all_ascii_digits text) (nat_le low (digits_value 10 text)) (nat_le (digits_value 10 text) high) →
+    IsDigits low high text
 digits_of low high [] all = absurd (let bad : false ≡ true = all.first in cc)
 digits_of low high (x ∷ xs) all =
     let first : IsInRange 48 57 x = (tells_all_ascii_digits.parts x xs all.second).0 in
@@ -70,14 +72,23 @@ no_number : (low high : ℕ) (text : List ℕ) → (IsDigits low high text → �
 no_number low high text refuted = none_where _ (digits_value 10 text) (λ e. refuted (digits_of low high text (all_four _ _ _ _ e)))
 
 -- what `parse` refuses is no number
-pub number_refused : (low high : ℕ) (text : List ℕ) → high < 2 ^ 64 → ((IsNumeral 10 (without_leading_plus text) × (digits_value 10 (without_leading_plus text) < 2 ^ 64)) → ⊥) → None ≡ number_in low high text
+pub number_refused : (low high : ℕ) (text : List ℕ) →
+    high < 2 ^ 64 →
+    ((IsNumeral 10 (without_leading_plus text) × (digits_value 10 (without_leading_plus text) < 2 ^ 64)) → ⊥) →
+    None ≡ number_in low high text
 number_refused low high text fits refused = no_number low high text (λ d. refused (
   subst (λ t. IsNumeral 10 t) (sym d.plain) d.numeral,
   subst (λ t. digits_value 10 t < 2 ^ 64) (sym d.plain) (omega (arith, d.most, fits)),
 ))
 
 -- what `parse` takes, where it doesn't begin with a plus, is a number of its range
-pub number_taken : (low high : ℕ) (text : List ℕ) (n : ℕ) → IsNumeral 10 (without_leading_plus text) → n ≡ digits_value 10 (without_leading_plus text) → (slice_index text 0 ≡ 43 → ⊥) → low ≤ n → n ≤ high → Some n ≡ number_in low high text
+pub number_taken : (low high : ℕ) (text : List ℕ) (n : ℕ) →
+    IsNumeral 10 (without_leading_plus text) →
+    n ≡ digits_value 10 (without_leading_plus text) →
+    (slice_index text 0 ≡ 43 → ⊥) →
+    low ≤ n →
+    n ≤ high →
+    Some n ≡ number_in low high text
 number_taken low high text n numeral is no_plus least most =
     let plain : without_leading_plus text ≡ text = without_leading_plus_none text no_plus in
     let own : IsNumeral 10 text = subst (λ t. IsNumeral 10 t) plain numeral in

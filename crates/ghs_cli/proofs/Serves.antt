@@ -22,7 +22,10 @@ use Rattle.ghs_cli.specs.declared.job.Task.TheVariants as task
 use Rattle.ghs_cli.specs.Serving.{GoesOn, IfStored, IsCause, IsOutput, IsPrinted, IsPrintedAtLimit, IsReplayCause, IsReplayed, IsRunCause, IsTraceText, IsTried, Serves, is_late, shape_of}
 
 -- what follows for each stored text follows where the task reads one
-pub if_stored : (job : Task) (stored : Option (List ℕ)) (P Q : List ℕ → Type 0) → ((bytes : List ℕ) → P bytes → Q bytes) → IfStored job stored P → IfStored job stored Q
+pub if_stored : (job : Task) (stored : Option (List ℕ)) (P Q : List ℕ → Type 0) →
+    ((bytes : List ℕ) → P bytes → Q bytes) →
+    IfStored job stored P →
+    IfStored job stored Q
 if_stored task.Tree stored P Q f all = λ bytes. f bytes (all bytes)
 if_stored (task.Run seed workers wake turns show) stored P Q f all = λ bytes. f bytes (all bytes)
 if_stored (task.Replay wake) None P Q f all = tt
@@ -33,7 +36,10 @@ if_some None P Q f all = tt
 if_some (Some bytes) P Q f all = f bytes all
 
 -- a fault behind which no write was tried is served by its cause
-pub serves_cause : (job : Task) (stored input : List ℕ) (old new : Option (List ℕ)) (fault : ServeFault) → is_late job fault ≡ false → IsCause job stored input fault → Serves job stored input old new (Err fault)
+pub serves_cause : (job : Task) (stored input : List ℕ) (old new : Option (List ℕ)) (fault : ServeFault) →
+    is_late job fault ≡ false →
+    IsCause job stored input fault →
+    Serves job stored input old new (Err fault)
 serves_cause job stored input old new (serve.BadLine line) early cause = cause
 serves_cause job stored input old new (serve.ArcBeforeProblem line) early cause = cause
 serves_cause job stored input old new (serve.SecondProblem line) early cause = cause
@@ -55,14 +61,26 @@ serves_cause job stored input old new (serve.Write written) early cause = cc
 serves_cause job stored input old new serve.Unforeseen early cause = cause
 
 -- a graph and a trace that give a fault together
-pub faults_together : {A : Type 0} (r : Result A ServeFault) (wake : WakeSet) (graph : RawShape) (events : List Event) (stored input : Option (List ℕ)) → IfErr r (IsRunCause wake graph events) → IfSome stored (λ s. IsTraceText s events) → IfSome input (λ i. TextIs i (Ok graph)) → IfErr r (λ fault. IfSome stored (λ s. IfSome input (λ i. IsReplayCause wake s i fault)))
+pub faults_together : {A : Type 0} (r : Result A ServeFault) (wake : WakeSet) (graph : RawShape) (events : List Event)
+    (stored input : Option (List ℕ)) →
+    IfErr r (IsRunCause wake graph events) →
+    IfSome stored (λ s. IsTraceText s events) →
+    IfSome input (λ i. TextIs i (Ok graph)) →
+    IfErr r (λ fault. IfSome stored (λ s. IfSome input (λ i. IsReplayCause wake s i fault)))
 faults_together (Ok x) wake graph events stored input cause trace text = tt
 faults_together (Err fault) wake graph events None input cause trace text = tt
 faults_together (Err fault) wake graph events (Some s) None cause trace text = tt
 faults_together (Err fault) wake graph events (Some s) (Some i) cause trace text = inr (inr (record { events = events; trace = trace; graph = graph; text = text; cause = cause }))
 
 -- a world that stands at the end of events has their text
-pub is_replayed : (wake own : WakeSet) (raw : RawShape) (g : Shape) (done events : List Event) (text : List ℕ) → g ≡ shape_of raw → done ≡ events → own ≡ wake → IsRunUnder (may_wake g own) (network_of g) done → HasEnded g (net_after g done) → IsNetText g (net_after g done) text → IsReplayed wake raw events text
+pub is_replayed : (wake own : WakeSet) (raw : RawShape) (g : Shape) (done events : List Event) (text : List ℕ) →
+    g ≡ shape_of raw →
+    done ≡ events →
+    own ≡ wake →
+    IsRunUnder (may_wake g own) (network_of g) done →
+    HasEnded g (net_after g done) →
+    IsNetText g (net_after g done) text →
+    IsReplayed wake raw events text
 is_replayed wake own raw g done events text graph trace wakes run ended printed = record {
   run = subst (λ (s : Shape). IsRunUnder (may_wake s wake) (network_of s) events) graph (subst (λ (es : List Event). IsRunUnder (may_wake g wake) (network_of g) es) trace (subst (λ (w : WakeSet). IsRunUnder (may_wake g w) (network_of g) done) wakes run));
   ended = subst (λ (s : Shape). HasEnded s (net_after s events)) graph (subst (λ (es : List Event). HasEnded g (net_after g es)) trace ended);
@@ -70,7 +88,13 @@ is_replayed wake own raw g done events text graph trace wakes run ended printed 
 }
 
 -- a world whose run goes on gives its fault
-pub goes_on : (wake own : WakeSet) (raw : RawShape) (g : Shape) (done events : List Event) (fault : ServeFault) → g ≡ shape_of raw → done ≡ events → own ≡ wake → IsRunUnder (may_wake g own) (network_of g) done → GoesOn g (net_after g done) fault → IsRunCause wake raw events fault
+pub goes_on : (wake own : WakeSet) (raw : RawShape) (g : Shape) (done events : List Event) (fault : ServeFault) →
+    g ≡ shape_of raw →
+    done ≡ events →
+    own ≡ wake →
+    IsRunUnder (may_wake g own) (network_of g) done →
+    GoesOn g (net_after g done) fault →
+    IsRunCause wake raw events fault
 goes_on wake own raw g done events serve.TurnLimit graph trace wakes run goes = absurd goes
 goes_on wake own raw g done events serve.Stalled graph trace wakes run goes = absurd goes
 goes_on wake own raw g done events serve.NotEnded graph trace wakes run goes = (
@@ -109,7 +133,11 @@ same_shape g raw nodes keys =
     subst (λ (ks : List Key). g ≡ record { nodes = raw.nodes; keys = ks }) keys (subst (λ (n : ℕ). g ≡ record { nodes = n; keys = g.keys }) nodes refl)
 
 -- a result that is a fault is served by its cause
-pub serves_fault : (job : Task) (stored input : List ℕ) (old new : Option (List ℕ)) (r : Result (Unit {0}) ServeFault) (fault : ServeFault) → r ≡ Err fault → is_late job fault ≡ false → IsCause job stored input fault → Serves job stored input old new r
+pub serves_fault : (job : Task) (stored input : List ℕ) (old new : Option (List ℕ)) (r : Result (Unit {0}) ServeFault) (fault : ServeFault) →
+    r ≡ Err fault →
+    is_late job fault ≡ false →
+    IsCause job stored input fault →
+    Serves job stored input old new r
 serves_fault job stored input old new r fault is early cause = rw is (serves_cause job stored input old new fault early cause)
 
 -- what goes out is what the task prints, or what it prints at the turn limit
@@ -136,17 +164,32 @@ limit_cause (task.Run seed workers wake turns Summary) stored input output out =
 limit_cause (task.Replay wake) stored input output out = absurd out
 
 -- a write that failed served the first bytes
-pub serves_part : (job : Task) (at_limit : Bool) (stored input bytes output : List ℕ) (old new : Option (List ℕ)) (r : Result (Unit {0}) ServeFault) (written : ℕ) → bytes ≡ output → r ≡ Err (serve.Write written) → written < length bytes → HasWritten old new bytes written → IsOutput job at_limit stored input output → Serves job stored input old new r
+pub serves_part : (job : Task) (at_limit : Bool) (stored input bytes output : List ℕ) (old new : Option (List ℕ))
+    (r : Result (Unit {0}) ServeFault) (written : ℕ) →
+    bytes ≡ output →
+    r ≡ Err (serve.Write written) →
+    written < length bytes →
+    HasWritten old new bytes written →
+    IsOutput job at_limit stored input output →
+    Serves job stored input old new r
 serves_part job at_limit stored input bytes output old new r written same is less has out =
     rw is (output, tried_of job at_limit stored input output out, subst (λ (b : List ℕ). written < length b) same less, subst (λ (b : List ℕ). HasWritten old new b written) same has)
 
 -- a write that succeeded served all
-pub serves_all : (job : Task) (stored input bytes output : List ℕ) (old new : Option (List ℕ)) → bytes ≡ output → HasWritten old new bytes (length bytes) → IsOutput job false stored input output → Serves job stored input old new (Ok tt)
+pub serves_all : (job : Task) (stored input bytes output : List ℕ) (old new : Option (List ℕ)) →
+    bytes ≡ output →
+    HasWritten old new bytes (length bytes) →
+    IsOutput job false stored input output →
+    Serves job stored input old new (Ok tt)
 serves_all job stored input bytes output old new same has out =
     (output, printed_of job stored input output out, subst (λ (b : List ℕ). HasWritten old new b (length b)) same has)
 
 -- and behind it the turns may be used
-pub serves_limit : (job : Task) (stored input bytes output : List ℕ) (old new : Option (List ℕ)) → bytes ≡ output → HasWritten old new bytes (length bytes) → IsOutput job true stored input output → Serves job stored input old new (Err serve.TurnLimit)
+pub serves_limit : (job : Task) (stored input bytes output : List ℕ) (old new : Option (List ℕ)) →
+    bytes ≡ output →
+    HasWritten old new bytes (length bytes) →
+    IsOutput job true stored input output →
+    Serves job stored input old new (Err serve.TurnLimit)
 serves_limit job stored input bytes output old new same has out =
     let printed = printed_at_limit job stored input output out in
     (limit_cause job stored input output printed, λ shows. (output, printed, subst (λ (b : List ℕ). HasWritten old new b (length b)) same has))
