@@ -20,7 +20,8 @@ use ghs_gr::text::read_text;
 use ghs_graph::graph::Graph;
 use ghs_graph::tree::tree_of;
 use ghs_protocol::event::Event;
-use ghs_report::net_text::{ReportFault, net_text};
+use ghs_report::net_text::ReportFault;
+use ghs_report::run_text::run_text;
 use ghs_report::tree_text::tree_text;
 use ghs_report::write_out::write_out;
 use ghs_sched::fault::RunFault;
@@ -184,8 +185,9 @@ fn shown(alloc: Global, world: &World, show: Show) -> Result<Vec<u8>, ServeFault
     ensures text { IfOk result (λ text. IsShown show world.now.net.graph world.now.net.trace text.items) }
     ensures err { IfErr result (λ fault. fault ≡ ServeFault.Memory) }
 {
+    let _ = world.net();
     match show {
-        Show::Summary => match net_text(alloc, world.net()) {
+        Show::Summary => match run_text(alloc, world) {
             Ok(text) => Ok(text),
             Err(ReportFault::NotEnded) => unreachable!(),
             Err(ReportFault::Memory) => Err(ServeFault::Memory),
@@ -269,8 +271,8 @@ fn finished(alloc: Global, world: &World) -> Result<Vec<u8>, ServeFault>
     ensures fault { IfErr result (λ fault. GoesOn world.now.net.graph (home world.now) fault) }
     ensures run { IsRunUnder (wakers world.now) (network world.now.net) world.now.net.trace }
 {
-    let net = world.net();
-    match net_text(alloc, net) {
+    let _ = world.net();
+    match run_text(alloc, world) {
         Ok(text) => Ok(text),
         Err(ReportFault::NotEnded) => Err(ServeFault::NotEnded),
         Err(ReportFault::Memory) => Err(ServeFault::Memory),

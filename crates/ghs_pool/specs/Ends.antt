@@ -1,8 +1,7 @@
 -- How a run of workers ends.
-use Rattle.std.specs.Prelude.{◌≡◌, false, Result, Ok, Err, []}
+use Rattle.std.specs.Prelude.{◌≡◌, false, Result, Ok, Err}
 use Rattle.ghs_protocol.specs.Marks.{HasEnded}
 use Rattle.ghs_world.specs.WorldState.{WorldState, home, has_turn}
-use Rattle.ghs_world.specs.Ready.{ready_events}
 use Rattle.ghs_sched.specs.declared.run.RunEnd.{RunEnd}
 use Rattle.ghs_sched.specs.Runs.{IsEnd}
 use Rattle.ghs_pool.specs.declared.end.PoolFault.{PoolFault}
@@ -15,10 +14,10 @@ IsAtEnd s = HasEnded s.net.graph (home s)
 abbrev pub IsNotAtEnd : WorldState → Type 0
 IsNotAtEnd s = IsAtEnd s → ⊥
 
--- where each fault may come, of a world with nothing out: no turn or no number is left; no event may be checked out
+-- where each fault may come, of a world with nothing out; while a run goes on an event is always ready, and has a rule
 abbrev pub FaultFits : WorldState → PoolFault → Type 0
 FaultFits s TurnLimit = IsNotAtEnd s × (has_turn s ≡ false)
-FaultFits s Stalled = IsNotAtEnd s × (ready_events s ≡ [])
+FaultFits s Stalled = ⊥
 FaultFits s Unforeseen = ⊥
 FaultFits s Memory = IsNotAtEnd s
 FaultFits s Strange = IsNotAtEnd s

@@ -7,11 +7,11 @@ pub enum PoolFault {
     /// The commits have come to the turns, or no ticket number is left.
     #[error("turn limit reached")]
     TurnLimit,
-    /// No event may be checked out.
-    #[error("stalled")]
+    /// Never answered: while a run goes on, an event is ready.
+    #[error("no event is ready and the run has not ended")]
     Stalled,
     /// Never answered: each lawful event has a rule.
-    #[error("met a state that has no rule")]
+    #[error("a message met a state that has no rule")]
     Unforeseen,
     #[error("out of memory")]
     Memory,

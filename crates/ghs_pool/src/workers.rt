@@ -27,8 +27,8 @@ use std::thread::Threads;
 /// comes back with nothing out, after the commits so far: on the same graph, under the same wake set and turns, its trace
 /// beginning with the given one.
 ///
-/// The ends in their order: NoThread where a thread couldn't be started; Halted where the run has ended; TurnLimit,
-/// Stalled; and then what was met, Memory, or nothing that has a name.
+/// The ends in their order: NoThread where a thread couldn't be started, be it for want of memory; Halted where the run
+/// has ended; TurnLimit; and then Memory, or nothing that has a name.
 pub fn run_workers<G: Gate + Sync, R: Threads + Wait + Sync>(
     rt: &R,
     alloc: Global,
@@ -278,9 +278,6 @@ fn end_of(world: &World, started: bool, memory: bool) -> Result<RunEnd, PoolFaul
     }
     if !world.has_turn() {
         return Err(PoolFault::TurnLimit);
-    }
-    if world.ready_count() == 0 {
-        return Err(PoolFault::Stalled);
     }
     if memory {
         return Err(PoolFault::Memory);
