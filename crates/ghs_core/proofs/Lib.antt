@@ -1,4 +1,4 @@
--- Serves the proofs: nothing here has to be believed.
+-- Serves the proofs: nothing here has to be believed. lemmas is what proofs above this crate may use.
 pub mod Arriving
 pub mod Sending
 pub mod Few
@@ -17,3 +17,4 @@ pub mod Counting
 pub mod Interleaved
 pub mod Enough
 pub mod CensusRows
+pub mod lemmas

@@ -6,3 +6,4 @@ pub mod Kept
 pub mod Ledger
 pub mod Marked
 pub mod Census
+pub mod Waits

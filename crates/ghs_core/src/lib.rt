@@ -9,5 +9,6 @@ pub mod ledger;
 mod marked;
 pub mod net;
 mod parts;
+pub mod waits;
 
 pub use ghs_protocol::event;

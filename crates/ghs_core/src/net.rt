@@ -1,5 +1,5 @@
 //! The net of one thread.
-ghost use Rattle.std.specs.Prelude.{◌≡◌, ℕ, ◌+◌, ◌*◌, ◌≤◌, ◌<◌, ◌^◌, [], ◌∷◌, ◌++◌, length, IfOk, IfErr, OnOk, OnErr, IsSome, Some, IsTrue, ◌↔◌};
+ghost use Rattle.std.specs.Prelude.{◌≡◌, ℕ, ◌+◌, ◌*◌, ◌≤◌, ◌<◌, ◌^◌, [], ◌∷◌, ◌++◌, length, IfOk, IfErr, OnOk, OnErr, IsSome, Some, IsTrue, ◌↔◌, slice_get};
 ghost use Rattle.ghs_graph.specs.Graph.{IsGraph};
 ghost use Rattle.ghs_node.specs.Words.{is_sleeping};
 ghost use Rattle.ghs_node.specs.NodeState.{mark_at};
@@ -30,7 +30,7 @@ use ghs_links::links::Links;
 use ghs_node::delta::Delta;
 use ghs_node::head::Head;
 use ghs_node::mark::Mark;
-use ghs_node::message::Phase;
+use ghs_node::message::{Message, Phase};
 use ghs_node::node::Node;
 use ghs_node::work::Work;
 use ghs_protocol::event::Event;
@@ -98,6 +98,22 @@ impl Net {
         ensures rule { IsSome (reaction ((net_of self.now).node (event_node event)) result) }
     {
         self.work_of(event)
+    }
+
+    /// The first message that waits at a port.
+    pub fn front(&self, v: u32, port: u32) -> Option<Message>
+        requires { At (network self.now) v port }
+        ensures { result ≡ slice_get ((net_of self.now).queue v port) 0 }
+    {
+        self.links.front(v, port)
+    }
+
+    /// How many messages wait at a port.
+    pub fn waiting_at(&self, v: u32, port: u32) -> u64
+        requires { At (network self.now) v port }
+        ensures { result ≡ length ((net_of self.now).queue v port) }
+    {
+        self.links.len_at(v, port)
     }
 
     /// A node.

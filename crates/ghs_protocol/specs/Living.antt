@@ -65,6 +65,14 @@ SilenceIsEnd =
 abbrev pub NoRunIsStuck : Type 0
 NoRunIsStuck = (g : Shape) (w : Net) → IsNetOf g w → (S : ℕ → Bool) → Unended (network_of g) w S → GoesOn (network_of g) w S
 
+-- the first two messages of a queue don't both wait
+abbrev pub OneWaits : Type 0
+OneWaits =
+    (g : Shape) (w : Net) → IsNetOf g w →
+    (v p : ℕ) → At (network_of g) v p →
+    (m n : Message) (ms : List Message) → w.queue v p ≡ m ∷ n ∷ ms →
+    Waits (w.node v) p m → Waits (w.node v) p n → ⊥
+
 -- the event takes a message
 abbrev pub IsTake : Event → Type 0
 IsTake (Wake v) = ⊥

@@ -89,6 +89,12 @@ PatienceGoesOn =
     ((e : Event) × (x : Net) × Happens (network_of g) w e x × IsPatientIn (network_of g) w e) ⊎
     ((v : ℕ) → 1 ≤ v → v ≤ g.nodes → (w.node v).head.phase ≢ Sleeping → (u : ℕ) × Leads (network_of g) AnyLink v u × HasHalted w u)
 
+-- there is one under the wake set, or the run has ended
+abbrev pub PatienceLasts : Type 0
+PatienceLasts =
+    (g : Shape) (may : ℕ → Bool) (w : Net) → IsNetOf g w → AllMayWake may g →
+    ((e : Event) × (x : Net) × Happens (network_of g) w e x × MayWake may e × IsPatientIn (network_of g) w e) ⊎ HasEnded g w
+
 -- of whatever events a run is made, those that put nothing back are at most as many as the bound on messages and the nodes together
 abbrev pub RealEventsAreFew : Type 0
 RealEventsAreFew =

@@ -1,7 +1,7 @@
 //! What holds in every run of every graph, however its events interleave. Each law is a function that does nothing.
 ghost use Rattle.ghs_protocol.specs.Interleavings.{FragmentsAreLarge, RejectedLinksInside, RejectedMarksStay, EventsHaveRules, WorkHasReaction, BranchLinksInTree, RejectedLinksAside, HaltIsExact, EndIsTree, SendsWithinBound, SendsWithinSharpBound, LevelsPayOnce, PortsPayOnce, SendsArePaid};
-ghost use Rattle.ghs_protocol.specs.Living.{NodesAwait, RequeuesAreWaits, WaitingTakesTurn, SilenceIsEnd, NoRunIsStuck, EveryRunCanEnd, SilentNetsHaveEnded, SilentNetsAreExact, RunsAreShort, FairRunsEnd};
-ghost use Rattle.ghs_protocol.specs.Schedules.{OthersLeaveAlone, StillnessIsEnd, EveryRunCanEndWhole, PatientRunsAreShort, PatienceGoesOn, RealEventsAreFew};
+ghost use Rattle.ghs_protocol.specs.Living.{NodesAwait, RequeuesAreWaits, WaitingTakesTurn, SilenceIsEnd, NoRunIsStuck, OneWaits, EveryRunCanEnd, SilentNetsHaveEnded, SilentNetsAreExact, RunsAreShort, FairRunsEnd};
+ghost use Rattle.ghs_protocol.specs.Schedules.{OthersLeaveAlone, StillnessIsEnd, EveryRunCanEndWhole, PatientRunsAreShort, PatienceGoesOn, PatienceLasts, RealEventsAreFew};
 
 /// The fragment of a node of level L has at least 2^L nodes.
 pub fn law_fragment_sizes()
@@ -61,6 +61,11 @@ pub fn law_silence()
 /// In such a set where none has halted a message can be taken that isn't put back, behind one that is at most.
 pub fn law_progress()
     ensures { NoRunIsStuck }
+{}
+
+/// Of the first two messages of a queue one at least isn't put back.
+pub fn law_one_waits()
+    ensures { OneWaits }
 {}
 
 /// A node that is awake puts a message back just where it waits.
@@ -151,4 +156,9 @@ pub fn law_patience()
 /// There is such an event until each woken component has ended.
 pub fn law_patience_goes_on()
     ensures { PatienceGoesOn }
+{}
+
+/// There is such an event under the wake set until the run has ended.
+pub fn law_patience_lasts()
+    ensures { PatienceLasts }
 {}

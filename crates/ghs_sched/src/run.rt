@@ -65,8 +65,8 @@ fn make_next(alloc: Global, world: &mut World, schedule: &mut Schedule) -> Resul
     Ok(())
 }
 
-/// The end of a run that has ended.
-fn end_of(world: &World) -> RunEnd
+/// The end of a run that has ended: the least node that has halted.
+pub fn end_of(world: &World) -> RunEnd
     requires { HasEnded world.now.net.graph (home world.now) }
     ensures { IsEnd world.now result }
 {

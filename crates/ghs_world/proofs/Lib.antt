@@ -1,4 +1,4 @@
--- Serves the proofs: nothing here has to be believed.
+-- Serves the proofs: nothing here has to be believed. lemmas is what proofs above this crate may use.
 mod Changing
 mod Commits
 mod Firsts
@@ -10,3 +10,4 @@ mod Reacting
 mod Staying
 mod Still
 mod Waiting
+pub mod lemmas

@@ -152,8 +152,19 @@ impl World {
         ensures err { OnErr result (IsSameWorld self.old self.new) }
     {
         let delta = self.answer(alloc, event)?;
-        self.reserve(event, &delta)?;
-        self.happen(event, &delta);
+        self.make_answered(event, &delta)
+    }
+
+    /// The same for an event whose node's reaction is at hand (`answer`).
+    pub fn make_answered(&mut self, event: Event, answer: &Delta) -> Result<(), AllocError>
+        requires ready { is_ready self.old event ≡ true }
+        requires turn { has_turn self.old ≡ true }
+        requires answer { IsAnswer self.old.net event answer.now }
+        ensures made { OnOk result (Makes self.old event self.new) }
+        ensures err { OnErr result (IsSameWorld self.old self.new) }
+    {
+        self.reserve(event, answer)?;
+        self.happen(event, answer);
         Ok(())
     }
 
@@ -182,8 +193,8 @@ impl World {
         self.net.reserve(event, delta)
     }
 
-    // The reaction of an event's node; want of memory is the one fault.
-    fn answer(&self, alloc: Global, event: Event) -> Result<Delta, AllocError>
+    /// The reaction of the node of an event that may happen; want of memory is the one fault.
+    pub fn answer(&self, alloc: Global, event: Event) -> Result<Delta, AllocError>
         requires { IsLawful self.now.net event }
         ensures { IfOk result (λ d. IsAnswer self.now.net event d) }
     {

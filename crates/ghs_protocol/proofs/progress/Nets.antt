@@ -26,7 +26,7 @@ so n p ChangeRoot h = elim h [ ]
 so n p Accept h = elim h [ ]
 so n p Reject h = elim h [ ]
 
-back : (n : NodeState) (p : ℕ) (x : Message) → Waits n p x → node_waits n p x
+pub back : (n : NodeState) (p : ℕ) (x : Message) → Waits n p x → node_waits n p x
 back n p _ (living.Connect_waits a b c) = (a, b, c)
 back n p _ (living.Report_waits a b) = (a, b)
 back n p _ (living.Test_waits a b) = (a, b)

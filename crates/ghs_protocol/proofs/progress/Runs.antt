@@ -13,7 +13,7 @@ use Rattle.ghs_protocol.proofs.lemmas.Wired.{IsWired}
 use Rattle.ghs_protocol.specs.Net.{Net}
 use Rattle.ghs_protocol.specs.Nodes.{IsNodeOf}
 use Rattle.ghs_protocol.specs.Laws.{IsNetOf}
-use Rattle.ghs_protocol.specs.Living.{SilenceIsEnd, NoRunIsStuck}
+use Rattle.ghs_protocol.specs.Living.{SilenceIsEnd, NoRunIsStuck, OneWaits}
 use Rattle.ghs_protocol.proofs.clauses.UnderWay.{Living}
 use Rattle.ghs_protocol.proofs.clauses.Scene.{Scene, scene, forest}
 use Rattle.ghs_protocol.proofs.clauses.Nodes.{IsUp}
@@ -28,7 +28,8 @@ use Rattle.ghs_protocol.proofs.acts.SameForest.{branch_mark, mark_branch}
 use Rattle.ghs_protocol.proofs.tests.Links.{probe_is}
 use Rattle.ghs_protocol.proofs.acts.Floors.{near_fits, lower_on, lower_self}
 use Rattle.ghs_protocol.proofs.every_run.Sound.{sound}
-use Rattle.ghs_protocol.proofs.progress.Nets.{progress}
+use Rattle.ghs_protocol.proofs.progress.Nets.{back, progress}
+use Rattle.ghs_protocol.proofs.progress.OneWaits.{two_wait}
 use Rattle.ghs_protocol.proofs.acts.Grounds.{graph_ground}
 
 not_less : (j k : Key) → lower (Some (Some j)) (Some (Some k)) ≡ true → key_lt k j ≡ false
@@ -136,3 +137,8 @@ silence_is_end g w n S u =
     some : (bs : List Message) (m : Message) (cs : List Message) → bs ++ m ∷ cs ≡ [] → ⊥
     some [] m cs e = cc
     some (b ∷ bs) m cs e = cc
+
+pub one_waits : OneWaits
+one_waits g w n v p at m k ms q a b =
+    let s = sound g w n in
+    two_wait (network_of g) (graph_wired g n.graph) v p at w s.ghost s.holds.first m k ms q (back (w.node v) p m a) (back (w.node v) p k b)

@@ -28,7 +28,7 @@ use Rattle.ghs_protocol.specs.Steps.{Happens, Woke, Took, taken, reacted, waking
 use Rattle.ghs_protocol.specs.Halting.{Reacts, By_waking, By_taking}
 use Rattle.ghs_protocol.specs.Laws.{IsNetOf}
 use Rattle.ghs_protocol.specs.Living.{AnyLink, Waits, GoesOn, Finish, IsTake}
-use Rattle.ghs_protocol.specs.Schedules.{OthersLeaveAlone, NothingIsReady, AllMayWake, StillnessIsEnd, EveryRunCanEndWhole, IsPatientIn, A_wake, Moves_on, Uncovers, IsPatient, And_then, PatientRunsAreShort, PatienceGoesOn, RealEventsAreFew}
+use Rattle.ghs_protocol.specs.Schedules.{OthersLeaveAlone, NothingIsReady, AllMayWake, StillnessIsEnd, EveryRunCanEndWhole, IsPatientIn, A_wake, Moves_on, Uncovers, IsPatient, And_then, PatientRunsAreShort, PatienceGoesOn, PatienceLasts, RealEventsAreFew}
 use Rattle.ghs_protocol.proofs.lemmas.Effects.{taken_there}
 use Rattle.ghs_protocol.proofs.lemmas.Events.{happening, happens_so, is_node_of, is_port_of, taken_at}
 use Rattle.ghs_protocol.proofs.lemmas.Graphs.{graph_wired, is_key}
@@ -271,13 +271,14 @@ module _ (g : Shape) (ok : IsGraph g) (w : Net) (n : IsNetOf g w) where
       before zero lo = absurd (omega (arith, lo))
       before (suc i) lo = (i, refl)
 
+  -- a Take that is a patient choice
   abbrev Choice : Type 0
-  Choice = (e : Event) × (x : Net) × Happens (network_of g) w e x × IsPatientIn (network_of g) w e
+  Choice = (v : ℕ) × (p : ℕ) × (x : Net) × Happens (network_of g) w (events.Take v p) x × IsPatientIn (network_of g) w (events.Take v p)
 
   moves : Moving → Choice
   moves z =
       let t = can_take g ok w n z.node z.port z.at z.message z.behind z.queue in
-      (events.Take z.node z.port, t.0, t.1, Moves_on z.node z.port z.message z.behind z.queue z.moves)
+      (z.node, z.port, t.0, t.1, Moves_on z.node z.port z.message z.behind z.queue z.moves)
 
   choice : (S : ℕ → Bool) → GoesOn (network_of g) w S → Choice
   choice S z = ⊎_elim moves (λ all. go z.before z.queue z.few all) anywhere
@@ -286,13 +287,15 @@ module _ (g : Shape) (ok : IsGraph g) (w : Net) (n : IsNetOf g w) where
       go [] q few all = absurd (z.goes (all z.node z.port z.at z.message z.behind q))
       go (m ∷ []) q few all =
           let t = can_take g ok w n z.node z.port z.at m (z.message ∷ z.behind) q in
-          (events.Take z.node z.port, t.0, t.1, Uncovers z.node z.port m z.message z.behind q z.goes all)
+          (z.node, z.port, t.0, t.1, Uncovers z.node z.port m z.message z.behind q z.goes all)
       go (m ∷ (k ∷ ks)) q few all = absurd (omega (arith, few))
 
 pub patience_goes_on : PatienceGoesOn
 patience_goes_on g w n =
     ⊎_elim
-    (λ z. inl (choice g n.graph w n (component g n.graph z.0) (no_run_is_stuck g w n (component g n.graph z.0) z.1)))
+    (λ z.
+    let c = choice g n.graph w n (component g n.graph z.0) (no_run_is_stuck g w n (component g n.graph z.0) z.1) in
+    inl (events.Take c.0 c.1, c.2, c.3, c.4))
     (λ all. inr (λ v lo hi up. all v (record { some = lo; node = hi }) up))
     (going g n.graph w)
 
@@ -365,6 +368,48 @@ woken_is_awake : (g : Network) (w : Net) (v : ℕ) (x : Net) → Happens g w (ev
 woken_is_awake g w _ _ (Woke v d lo hi s r) =
     subst (λ (y : NodeState). y.head.phase ≢ Sleeping) (sym (node_here g v d w))
     (row_awake (w.node v) Wake d (reaction_inverts (w.node v) Wake d tt r))
+
+-- one who may wake sleeps, or none does
+module _ (g : Shape) (may : ℕ → Bool) (w : Net) where
+  abbrev Sleeper : Type 0
+  Sleeper = (v : ℕ) × (1 ≤ v) × (v ≤ g.nodes) × (may v ≡ true) × ((w.node v).head.phase ≡ Sleeping)
+
+  sleeper_to : (k : ℕ) → k ≤ g.nodes → Sleeper ⊎ ((v : ℕ) → 1 ≤ v → v ≤ k → may v ≡ true → (w.node v).head.phase ≢ Sleeping)
+  sleeper_to zero le = inr (λ v lo hi can. absurd (omega (arith, lo, hi)))
+  sleeper_to (suc k) le = ⊎_elim inl next (sleeper_to k (omega (arith, le)))
+    where
+      next : ((v : ℕ) → 1 ≤ v → v ≤ k → may v ≡ true → (w.node v).head.phase ≢ Sleeping) →
+          Sleeper ⊎ ((v : ℕ) → 1 ≤ v → v ≤ suc k → may v ≡ true → (w.node v).head.phase ≢ Sleeping)
+      next rest =
+          ⊎_elim
+          (λ can. ⊎_elim (λ s. inl (suc k, omega arith, le, can, s)) (λ up. inr (more (λ c. up))) (asleep_or_not (w.node (suc k)).head.phase))
+          (λ no. inr (more (λ c. absurd (both_ways (may (suc k)) no c))))
+          (cases_Bool (may (suc k)))
+        where
+          more : (may (suc k) ≡ true → (w.node (suc k)).head.phase ≢ Sleeping) → (v : ℕ) → 1 ≤ v → v ≤ suc k → may v ≡ true → (w.node v).head.phase ≢ Sleeping
+          more last v lo hi can = ⊎_elim
+              (λ (e : v ≡ suc k). subst (λ u. (w.node u).head.phase ≢ Sleeping) (sym e) (last (subst (λ u. may u ≡ true) e can)))
+              (λ ne. rest v lo (omega (arith, hi, ne)) can)
+              (cases_eq v (suc k))
+
+-- a patient choice under the wake set
+abbrev NextOf : Shape → (ℕ → Bool) → Net → Type 0
+NextOf g may w = (e : Event) × (x : Net) × Happens (network_of g) w e x × MayWake may e × IsPatientIn (network_of g) w e
+
+pub patience_lasts : PatienceLasts
+patience_lasts g may w n all = ⊎_elim wakes awake (sleeper_to g may w g.nodes (omega arith))
+  where
+    wakes : Sleeper g may w → NextOf g may w ⊎ HasEnded g w
+    wakes z = let t = can_wake (network_of g) w z.0 z.1 z.2 z.4 in inl (events.Wake z.0, t.0, t.1, z.3, A_wake z.0)
+
+    awake : ((v : ℕ) → 1 ≤ v → v ≤ g.nodes → may v ≡ true → (w.node v).head.phase ≢ Sleeping) → NextOf g may w ⊎ HasEnded g w
+    awake up = ⊎_elim
+        (λ z.
+        let c = choice g n.graph w n (component g n.graph z.0) (no_run_is_stuck g w n (component g n.graph z.0) z.1) in
+        inl (events.Take c.0 c.1, c.2, c.3, tt, c.4))
+        (λ ends. inr (has_ended g n.graph may w all
+        (λ v lo hi can. end_for g n.graph w v lo hi (ends v (record { some = lo; node = hi }) (up v lo hi can)))))
+        (going g n.graph w)
 
 -- all who may wake, up to k, are awake after wakes of theirs
 record Woken (may : ℕ → Bool) (g : Shape) (w : Net) (k : ℕ) : Type 0 where

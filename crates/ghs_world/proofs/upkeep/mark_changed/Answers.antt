@@ -8,7 +8,7 @@ use Rattle.ghs_core.specs.NetState.{network, event_node}
 use Rattle.ghs_index.specs.Index.{IsIndexBut}
 use Rattle.ghs_index.proofs.lemmas.Marks.{of_but}
 use Rattle.ghs_world.specs.Upkeep.{lawful_in}
-use Rattle.ghs_world.proofs.Changing.{next_arrival, far_place, node_place}
+use Rattle.ghs_world.proofs.lemmas.Leaving.{next_arrival, far_place, node_place}
 use Rattle.ghs_world.proofs.upkeep.mark_changed.Goals as goal
 
 pub mark-requires-2-clause-index : goal.mark-requires-2-clause-index

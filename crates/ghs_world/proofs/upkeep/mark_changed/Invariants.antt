@@ -2,7 +2,7 @@ use Rattle.std.proofs.Common.{drop}
 use Rattle.ghs_core.specs.NetState.{network, event_node}
 use Rattle.ghs_index.specs.Index.{IsIndexBut}
 use Rattle.ghs_world.specs.Upkeep.{lawful_in}
-use Rattle.ghs_world.proofs.Changing.{arrivals}
+use Rattle.ghs_world.proofs.lemmas.Leaving.{arrivals}
 use Rattle.ghs_world.proofs.upkeep.mark_changed.Given as goal
 
 abbrev pub invariant-loop-port : goal.invariant-loop-port

@@ -5,7 +5,8 @@ use Rattle.ghs_protocol.specs.Network.{network_of}
 use Rattle.ghs_index.specs.Index.{IsIndexBut}
 use Rattle.ghs_index.proofs.lemmas.Marks.{of_but}
 use Rattle.ghs_world.specs.Upkeep.{lawful_first}
-use Rattle.ghs_world.proofs.Changing.{wakes, none_but_wakes, first_wake, one_wake_less, marked_one}
+use Rattle.ghs_world.proofs.Changing.{wakes, none_but_wakes, first_wake, one_wake_less}
+use Rattle.ghs_world.proofs.lemmas.Leaving.{marked_one}
 use Rattle.ghs_world.proofs.upkeep.open_index.Goals as goal
 
 pub loop-v-init : goal.loop-v-init

@@ -1,5 +1,4 @@
 use Rattle.std.proofs.Common.{◌≡◌, ◌∙◌, ap, Err}
-use Rattle.ghs_node.specs.declared.fault.NodeFault.{NodeFault}
 use Rattle.ghs_node.specs.declared.fault.NodeFault.TheVariants.{NoPort, Unforeseen, Memory}
 use Rattle.ghs_world.specs.Tickets.{HasRule}
 use Rattle.ghs_world.proofs.Reacting.{has_rule, only_memory}

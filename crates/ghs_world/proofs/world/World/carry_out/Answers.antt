@@ -7,7 +7,8 @@ use Rattle.ghs_world.specs.Steps.{AreReadyOf, HasAllRoused, touched}
 use Rattle.ghs_world.specs.contracts.world.World.{the_view}
 use Rattle.ghs_world.proofs.Keeping.{out_lawful}
 use Rattle.ghs_world.proofs.Reacting.{answer_sends}
-use Rattle.ghs_world.proofs.Changing.{index_but, lawful_place}
+use Rattle.ghs_world.proofs.Changing.{index_but}
+use Rattle.ghs_world.proofs.lemmas.Leaving.{lawful_place}
 use Rattle.ghs_world.proofs.Commits.{Done, after_commit, world_after, others_stay, ready_kept, all_roused}
 use Rattle.ghs_world.proofs.world.World.carry_out.Goals as goal
 

@@ -3,7 +3,8 @@ use Rattle.ghs_graph.specs.Graph.{Shape}
 use Rattle.ghs_world.specs.contracts.world.World.{the_view}
 use Rattle.ghs_world.proofs.Commits.{ready_lawful, world_made}
 use Rattle.ghs_world.proofs.Reacting.{answer_sends}
-use Rattle.ghs_world.proofs.Changing.{index_but, lawful_place}
+use Rattle.ghs_world.proofs.Changing.{index_but}
+use Rattle.ghs_world.proofs.lemmas.Leaving.{lawful_place}
 use Rattle.ghs_world.proofs.world.World.happen.Goals as goal
 
 pub play-requires-clause-lawful : goal.play-requires-clause-lawful

@@ -1,5 +1,0 @@
-use Rattle.ghs_world.proofs.Commits.{ready_lawful, ready_still, turn_still, answer_still}
-use Rattle.ghs_world.proofs.world.World.make.Goals as goal
-
-pub happen-requires-clause-ready : goal.happen-requires-clause-ready
-happen-requires-clause-ready c = ready_still c.args.self.now c.reserve.new.self c.args.event c.reserve.ensures.same c.requires.ready

@@ -1,0 +1,2 @@
+-- What proofs about nets above this crate may use.
+pub mod Waiting

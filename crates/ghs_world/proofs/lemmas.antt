@@ -1,0 +1,4 @@
+-- What proofs about worlds above this crate may use.
+pub mod Leaving
+pub mod Listed
+pub mod Waking
