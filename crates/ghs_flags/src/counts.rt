@@ -7,7 +7,7 @@ use std::alloc::{AllocError, Global};
 use std::marker::Model;
 
 /// How many counts of one height the next height adds up.
-const WIDTH: usize = 32;
+const WIDTH: usize = 16;
 
 /// A list of counts.
 #[derive(Debug, Drop)]

@@ -1,8 +1,8 @@
 //! Rows of flags whose raised ones are quickly found.
 //!
 //! A flag takes a bit, and a sixteenth of a bit for what counts it. To find a flag by its rank, or the first from a
-//! place on, and to count those before a place takes 4 passes over at most 32 counts each (the last over one count for
-//! 16 million flags), and one over at most 9 words; to change a flag takes 6 writes.
+//! place on, and to count those before a place takes 4 passes over at most 16 counts each (the last over one count for
+//! 2 million flags), and one over at most 9 words; to change a flag takes 6 writes.
 ghost use Rattle.std.specs.Prelude.{◌≡◌, ◌*◌, ◌<◌, ◌≤◌, false, length, take, replicate, slice_set, IfOk};
 ghost use Rattle.ghs_flags.specs.Flags.{IsKth, IsFirstFrom, at, count};
 

@@ -2,7 +2,7 @@
 use Rattle.std.specs.Prelude.{ℕ, zero, suc, ◌+◌, ◌-◌, ◌≤◌, List, [], ◌∷◌, ◌++◌, length}
 use Rattle.ghs_protocol.specs.declared.event.Event.{Event}
 use Rattle.ghs_protocol.specs.declared.event.Event.TheVariants.{Wake, Take}
-use Rattle.ghs_protocol.specs.Network.{Network, At}
+use Rattle.ghs_protocol.specs.Network.{Network, At, far, far_port}
 
 -- the events of node v at its first d ports: Wake, then the ports rising
 abbrev pub events_at : ℕ → ℕ → List Event
@@ -36,3 +36,7 @@ HasPlace g (Take v p) = At g v p
 abbrev pub place : Network → Event → ℕ
 place g (Wake v) = length (events_to g (v - 1))
 place g (Take v p) = length (events_to g (v - 1)) + suc p
+
+-- the Take at the far end of a port
+abbrev pub far_take : Network → ℕ → ℕ → Event
+far_take g v p = Take (far g v p) (far_port g v p)

@@ -1,14 +1,14 @@
 //! The index.
-ghost use Rattle.std.specs.Prelude.{◌≡◌, ℕ, Bool, ◌+◌, ◌-◌, ◌<◌, ◌≤◌, false, length, filter, slice_get, slice_set, Some, IfOk};
+ghost use Rattle.std.specs.Prelude.{◌≡◌, ℕ, Bool, ◌+◌, ◌-◌, ◌<◌, ◌≤◌, false, true, length, filter, slice_get, slice_set, Some, IfOk};
 ghost use Rattle.std.specs.List.{find, list_any, range_with_len};
 ghost use Rattle.ghs_graph.specs.Ports.{ports_of};
 ghost use Rattle.ghs_protocol.specs.declared.event.Event.{Event as Happening};
-ghost use Rattle.ghs_protocol.specs.Network.{Network, network_of};
+ghost use Rattle.ghs_protocol.specs.Network.{At, Network, network_of};
 ghost use Rattle.ghs_flags.specs.Flags.{count};
-ghost use Rattle.ghs_index.specs.Places.{all_events, node_events, takes, place, HasPlace};
+ghost use Rattle.ghs_index.specs.Places.{all_events, far_take, node_events, takes, place, HasPlace};
 ghost use Rattle.ghs_index.specs.Index.{IsFor, IsIndexOf};
 
-use crate::bases::{base_of, event_at, lay_bases, node_at, place_of, span_of};
+use crate::bases::{base_of, event_at, lay_bases, lay_guesses, node_at, place_of, span_of};
 use ghs_flags::flags::Flags;
 use ghs_graph::graph::Graph;
 use ghs_protocol::event::Event;
@@ -16,11 +16,13 @@ use std::alloc::{AllocError, Global};
 use std::marker::Model;
 
 /// Of the events that name a node or port of a graph some are marked. They stand by node, Wake before ports, ports
-/// rising. The index takes 4 bytes a node, and a bit and a sixteenth an event.
+/// rising. The index takes 4 bytes a node, and a bit and nine sixteenths an event.
 #[derive(Debug, Drop)]
 pub struct Index {
     // The place of the first event of each node, and behind them how many events there are; 0 is no node.
     bases: Vec<u32>,
+    // Where a search among the bases begins.
+    guesses: Vec<u32>,
     marks: Flags,
 }
 
@@ -39,8 +41,13 @@ impl Index {
     {
         let bases = lay_bases(alloc, graph)?;
         let events = bases[bases.len() - 1] as usize;
+        let guesses = lay_guesses(alloc, &bases, graph)?;
         let marks = Flags::lowered(alloc, events)?;
-        Ok(Index { bases, marks })
+        Ok(Index {
+            bases,
+            guesses,
+            marks,
+        })
     }
 
     /// Marks an event of the index's graph, or takes its mark away. O(1), and takes no memory.
@@ -51,6 +58,17 @@ impl Index {
     {
         let at = place_of(&self.bases, graph, event);
         self.marks.set(at, marked);
+    }
+
+    /// Marks the Take at the far end of a port. O(1), and takes no memory.
+    pub fn mark_far_take(&mut self, graph: &Graph, v: u32, port: u32)
+        requires index { IsFor (network_of graph.now) self.old }
+        requires port { At (network_of graph.now) v port }
+        ensures { self.new ≡ record self.old { marks = slice_set self.old.marks (place (network_of graph.now) (far_take (network_of graph.now) v port)) true } }
+    {
+        let _ = graph.nodes();
+        let end = &graph.ports(v)[port as usize];
+        self.set(graph, Event::Take(end.far, end.far_port), true);
     }
 
     /// How many events are marked. O(1).
@@ -67,7 +85,7 @@ impl Index {
         requires within { k < count self.now.marks }
         ensures { (p : Happening → Bool) → IsIndexOf (network_of graph.now) p self.now → slice_get (filter p (all_events (network_of graph.now))) k ≡ Some result }
     {
-        event_at(&self.bases, graph, self.marks.kth(k))
+        event_at(&self.bases, &self.guesses, graph, self.marks.kth(k))
     }
 
     /// Whether an event of a node is marked. O(1).
@@ -111,7 +129,7 @@ impl Index {
         let _ = graph.nodes();
         let base = base_of(&self.bases, graph, low);
         match self.marks.first_from(base) {
-            Some(at) => Some(node_at(&self.bases, at) as u32),
+            Some(at) => Some(node_at(&self.bases, &self.guesses, at) as u32),
             None => None,
         }
     }

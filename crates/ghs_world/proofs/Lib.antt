@@ -1,4 +1,5 @@
 -- Serves the proofs: nothing here has to be believed. lemmas is what proofs above this crate may use.
+mod Arriving
 mod Changing
 mod Commits
 mod Firsts

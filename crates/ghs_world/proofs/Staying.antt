@@ -1,5 +1,5 @@
 -- What an event leaves as it is at other nodes than its own.
-use Rattle.std.proofs.Common.{◌≡◌, ◌≢◌, ℕ, Bool, true, ◌&&◌, Option, Some, List, [], ◌∷◌, ◌++◌, append_assoc, map, refl, sym, ◌∙◌, ap, subst, ⊎_elim}
+use Rattle.std.proofs.Common.{◌≡◌, ◌≢◌, ℕ, Bool, true, ◌&&◌, Some, List, [], ◌∷◌, ◌++◌, append_assoc, map, refl, sym, ◌∙◌, ap, subst, ⊎_elim}
 use Rattle.std.specs.List.{Contains}
 use Rattle.std.proofs.lemmas.Bool.{and_parts, and_from}
 use Rattle.std.proofs.lemmas.Option.{same_Some}
@@ -13,7 +13,7 @@ use Rattle.ghs_node.specs.Reaction.{reaction}
 use Rattle.ghs_protocol.specs.declared.event.Event.{Event}
 use Rattle.ghs_protocol.specs.declared.event.Event.TheVariants.{Wake, Take}
 use Rattle.ghs_protocol.specs.Network.{Network, far, far_port}
-use Rattle.ghs_protocol.specs.Net.{Net, put_at, send, send_all, change, take_first, left_of, is_node, is_port, is_waiting, is_lawful, is_lawful_under, happens}
+use Rattle.ghs_protocol.specs.Net.{Net, send, send_all, change, take_first, left_of, is_node, is_port, is_waiting, is_lawful, is_lawful_under, happens}
 use Rattle.ghs_protocol.specs.Steps.{Happens, Woke, Took}
 use Rattle.ghs_protocol.proofs.lemmas.Effects.{taken_there}
 use Rattle.ghs_protocol.proofs.lemmas.Events.{happening}
@@ -27,7 +27,7 @@ abbrev pub Begins : List Message → List Message → Type 0
 Begins q q' = (r : List Message) × (q' ≡ q ++ r)
 
 module _ (g : Network) (v : ℕ) where
-  one_grows : (s : ℕ × Message) (w : Net) (u p : ℕ) → Begins (w.queue u p) ((send g v w s).queue u p)
+  pub one_grows : (s : ℕ × Message) (w : Net) (u p : ℕ) → Begins (w.queue u p) ((send g v w s).queue u p)
   one_grows s w u p = ⊎_elim
       (λ z. (
         s.1 ∷ [],
@@ -38,7 +38,7 @@ module _ (g : Network) (v : ℕ) where
       (one_place (far g v s.0) (far_port g v s.0) u p)
 
   -- queues only grow while messages are sent
-  grows : (ss : Outgoing) (w : Net) (u p : ℕ) → Begins (w.queue u p) ((send_all g v ss w).queue u p)
+  pub grows : (ss : Outgoing) (w : Net) (u p : ℕ) → Begins (w.queue u p) ((send_all g v ss w).queue u p)
   grows [] w u p = ([], sym (append-nil _))
   grows (s ∷ ss) w u p =
       let one = one_grows s w u p in
@@ -101,7 +101,7 @@ module _ (g : Network) where
       Beside g w w' e d
   beside w w' e d h answer = happens_beside w w' e d (happening g w w' e h) answer
 
-waits_still : (q q' : List Message) → Begins q q' → is_waiting q ≡ true → is_waiting q' ≡ true
+pub waits_still : (q q' : List Message) → Begins q q' → is_waiting q ≡ true → is_waiting q' ≡ true
 waits_still [] q' b e = cc
 waits_still (m ∷ q) q' b e = ap is_waiting b.1
 

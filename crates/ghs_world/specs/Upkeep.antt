@@ -1,12 +1,13 @@
 -- Which events a commit may have changed.
-use Rattle.std.specs.Prelude.{ℕ, Bool, List, ◌∷◌, map}
+use Rattle.std.specs.Prelude.{◌≡◌, ℕ, Bool, true, List, ◌∷◌, map}
+use Rattle.std.specs.List.{All}
 use Rattle.ghs_graph.specs.Graph.{Shape}
 use Rattle.ghs_node.specs.declared.message.Message.{Message}
 use Rattle.ghs_node.specs.Words.{Outgoing}
 use Rattle.ghs_protocol.specs.declared.event.Event.{Event}
 use Rattle.ghs_protocol.specs.declared.event.Event.TheVariants.{Wake, Take}
 use Rattle.ghs_protocol.specs.Network.{Network, network_of, far, far_port}
-use Rattle.ghs_protocol.specs.Net.{opening, is_lawful_under}
+use Rattle.ghs_protocol.specs.Net.{Net, opening, is_lawful_under, is_waiting}
 use Rattle.ghs_core.specs.NetState.{NetState, network, net_of, event_node}
 use Rattle.ghs_world.specs.declared.wake_set.WakeSet.{WakeSet}
 use Rattle.ghs_world.specs.Wakes.{may_wake}
@@ -22,3 +23,7 @@ lawful_first g wake e = is_lawful_under (may_wake g wake) (network_of g) (openin
 -- the wake of its node, the event itself, and the Takes at the far ends of what its node sends
 abbrev pub changed : Network → Event → Outgoing → List Event
 changed g e ss = Wake (event_node e) ∷ e ∷ map (λ (s : ℕ × Message). Take (far g (event_node e) s.0) (far_port g (event_node e) s.0)) ss
+
+-- at the far end of each port on which something was sent a message waits
+abbrev pub HaveArrived : Network → Net → ℕ → Outgoing → Type 0
+HaveArrived g w v ss = All (λ (s : ℕ × Message). is_waiting (w.queue (far g v s.0) (far_port g v s.0)) ≡ true) ss

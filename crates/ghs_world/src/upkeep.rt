@@ -5,10 +5,10 @@ ghost use Rattle.ghs_graph.specs.Ports.{ports_of};
 ghost use Rattle.ghs_node.specs.declared.message.Message.{Message as Letter};
 ghost use Rattle.ghs_protocol.specs.declared.event.Event.{Event as Happening};
 ghost use Rattle.ghs_protocol.specs.Network.{network_of};
-ghost use Rattle.ghs_core.specs.NetState.{network, event_node};
+ghost use Rattle.ghs_core.specs.NetState.{network, net_of, event_node};
 ghost use Rattle.ghs_index.specs.Index.{IsFor, IsIndexOf, IsIndexBut};
 ghost use Rattle.ghs_world.specs.WorldState.{has_place};
-ghost use Rattle.ghs_world.specs.Upkeep.{lawful_in, lawful_first, changed};
+ghost use Rattle.ghs_world.specs.Upkeep.{HaveArrived, lawful_in, lawful_first, changed};
 
 use crate::outs::node_of;
 use crate::wake_set::WakeSet;
@@ -52,6 +52,7 @@ pub fn mark_changed(
 )
     requires place { has_place (network net.now) event ≡ true }
     requires ports { All (λ (s : ℕ × Letter). s.0 < length (ports_of net.now.graph.keys (event_node event))) sends.now }
+    requires arrived { HaveArrived (network net.now) (net_of net.now) (event_node event) sends.now }
     requires index { IsIndexBut (network net.now) (lawful_in net.now wake) (changed (network net.now) event sends.now) index.old }
     ensures { IsIndexOf (network net.now) (lawful_in net.now wake) index.new }
 {
@@ -59,10 +60,9 @@ pub fn mark_changed(
     let v = node_of(event);
     mark(index, net, wake, Event::Wake(v));
     mark(index, net, wake, event);
-    let ports = net.graph().ports(v);
     for (port, _) in sends {
-        let end = &ports[*port as usize];
-        mark(index, net, wake, Event::Take(end.far, end.far_port));
+        // What was sent waits there, so neither the node nor the queue is looked at.
+        index.mark_far_take(net.graph(), v, *port);
     }
 }
 

@@ -7,6 +7,7 @@ use Rattle.ghs_world.specs.Steps.{AreReadyOf, HasAllRoused, touched}
 use Rattle.ghs_world.specs.contracts.world.World.{the_view}
 use Rattle.ghs_world.proofs.Keeping.{out_lawful}
 use Rattle.ghs_world.proofs.Reacting.{answer_sends}
+use Rattle.ghs_world.proofs.Arriving.{arrived_in}
 use Rattle.ghs_world.proofs.Changing.{index_but}
 use Rattle.ghs_world.proofs.lemmas.Leaving.{lawful_place}
 use Rattle.ghs_world.proofs.Commits.{Done, after_commit, world_after, others_stay, ready_kept, all_roused}
@@ -23,6 +24,11 @@ pub mark_changed-requires-clause-ports : goal.mark_changed-requires-clause-ports
 mark_changed-requires-clause-ports c =
     rw (c.play.ensures.graph, c.as_slice-sends.ensures) (answer_sends c.self.inside.net c.args.event c.args.delta.now c.trace.ensures.graph c.trace.ensures.run
     (out_lawful (the_view c.self.inside) c.args.out c.args.event c.self.invariant.0 (rw (← c.self.view_is) at c.requires.out)) (rw (← c.self.view_is) at c.requires.answer))
+
+pub mark_changed-requires-clause-arrived : goal.mark_changed-requires-clause-arrived
+mark_changed-requires-clause-arrived c =
+    rw c.as_slice-sends.ensures (arrived_in c.self.inside.net c.play.new.self c.args.event c.args.delta.now
+    c.play.ensures.graph c.play.ensures.event (rw (← c.self.view_is) at c.requires.answer))
 
 pub mark_changed-requires-clause-index : goal.mark_changed-requires-clause-index
 mark_changed-requires-clause-index c =

@@ -1,5 +1,5 @@
 use Rattle.std.proofs.Common.{◌-◌, ◌<◌, ◌≤◌, length, slice_index}
-use Rattle.ghs_index.proofs.bases.node_at.Given as goal
+use Rattle.ghs_index.proofs.bases.node_between.Given as goal
 
 abbrev pub invariant-loop-high : goal.invariant-loop-high
 invariant-loop-high l = record {
