@@ -1,0 +1,9 @@
+use Rattle.std.proofs.Common.{◌≡◌, ◌≤◌, ◌*◌, take}
+use Rattle.ghs_graph.specs.Links.{total_weight}
+use Rattle.ghs_sweep.proofs.figures.total_weight.Given as goal
+
+abbrev pub invariant-loop-link : goal.invariant-loop-link
+invariant-loop-link l = record {
+  total : l.total ≡ total_weight (take l.link-index l.links);
+  small : l.total ≤ l.link-index * 4294967295;
+}

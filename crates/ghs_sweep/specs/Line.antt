@@ -1,0 +1,40 @@
+-- A run's figures as a line.
+use Rattle.std.specs.Prelude.{ℕ, Bool, true, false, List, ◌++◌, codes, decimal, slice_index}
+use Rattle.ghs_world.specs.declared.wake_set.WakeSet.{WakeSet}
+use Rattle.ghs_world.specs.declared.wake_set.WakeSet.TheVariants.{All, First}
+use Rattle.ghs_sweep.specs.declared.figures.Figures.{Figures}
+
+-- a comma and a number
+unfoldable pub field : ℕ → List ℕ
+field n = codes "," ++ decimal n
+
+abbrev pub wake_word : WakeSet → List ℕ
+wake_word All = codes ",all"
+wake_word First = codes ",first"
+
+abbrev pub end_word : Bool → List ℕ
+end_word true = codes ",halted\n"
+end_word false = codes ",turns\n"
+
+unfoldable pub size_fields : Figures → List ℕ
+size_fields f = field f.nodes ++ field f.links ++ field f.events
+
+unfoldable pub messages_fields : Figures → List ℕ
+messages_fields f =
+    field f.sent
+    ++ field (slice_index f.kinds 0)
+    ++ field (slice_index f.kinds 1)
+    ++ field (slice_index f.kinds 2)
+    ++ field (slice_index f.kinds 3)
+    ++ field (slice_index f.kinds 4)
+    ++ field (slice_index f.kinds 5)
+    ++ field (slice_index f.kinds 6)
+
+unfoldable pub outcome_fields : Figures → List ℕ
+outcome_fields f =
+    field f.requeued ++ field f.queued ++ field f.bound ++ field f.level ++ field f.fragments ++ field f.weight
+
+-- seed, wake set, figures, and how the run ended
+unfoldable pub line_text : ℕ → WakeSet → Figures → List ℕ
+line_text seed wake f =
+    decimal seed ++ wake_word wake ++ size_fields f ++ messages_fields f ++ outcome_fields f ++ end_word f.ended

@@ -1,0 +1,91 @@
+//! How a run stands, in numbers.
+ghost use Rattle.ghs_graph.specs.Links.{total_weight};
+ghost use Rattle.ghs_protocol.specs.Ledger.{in_all};
+ghost use Rattle.ghs_sweep.specs.Figures.{AreFigures, greatest_level};
+ghost use Rattle.std.specs.Prelude.{◌≡◌, ◌<◌, ◌^◌, slice_index, IfOk};
+
+use ghs_core::census::FragmentRow;
+use ghs_core::net::Net;
+use ghs_graph::bounds::bound;
+use ghs_graph::key::Key;
+use std::alloc::{AllocError, Global};
+
+/// How a run stands, in numbers.
+#[derive(Clone, Copy, Debug, PartialEq, Eq)]
+pub struct Figures {
+    pub nodes: u32,
+    pub links: u64,
+    pub events: u64,
+    /// How many messages were sent, of all kinds together.
+    pub sent: u64,
+    /// How many of each kind, in the order of kinds.
+    pub kinds: [u64; 7],
+    /// How often a message was put back to the end of its queue.
+    pub requeued: u64,
+    /// How many messages wait in queues.
+    pub queued: u64,
+    /// The bound on the messages sent.
+    pub bound: u64,
+    /// The greatest level of a node, 0 to 20.
+    pub level: u8,
+    pub fragments: u64,
+    /// The weight of the Branch links together.
+    pub weight: u128,
+    /// Whether the run has ended.
+    pub ended: bool,
+}
+
+/// The figures of a net. Refusal: want of memory.
+pub fn figures_of(alloc: Global, net: &Net) -> Result<Figures, AllocError>
+    ensures { IfOk result (λ f. AreFigures net.now.graph net.now.trace f) }
+{
+    let graph = net.graph();
+    let most = bound(graph.nodes(), graph.links());
+    let ledger = net.ledger();
+    let census = net.census(alloc)?;
+    let branches = net.branches(alloc)?;
+    Ok(Figures {
+        nodes: graph.nodes(),
+        links: graph.links(),
+        events: net.events(),
+        sent: in_total(&ledger.sent),
+        kinds: ledger.sent,
+        requeued: ledger.requeued,
+        queued: ledger.queued,
+        bound: most,
+        level: greatest_level(&census),
+        fragments: census.len() as u64,
+        weight: total_weight(&branches),
+        ended: net.ended(),
+    })
+}
+
+// The counts of all kinds together.
+fn in_total(sent: &[u64; 7]) -> u64
+    requires { in_all (λ k. slice_index sent.now k) < 2 ^ 64 }
+    ensures { result ≡ in_all (λ k. slice_index sent.now k) }
+{
+    sent[0] + sent[1] + sent[2] + sent[3] + sent[4] + sent[5] + sent[6]
+}
+
+// The greatest level of the rows, 0 where there are none.
+fn greatest_level(census: &[FragmentRow]) -> u8
+    ensures { result ≡ greatest_level census.now }
+{
+    let mut level: u8 = 0;
+    for row in census {
+        level = level.max(row.level);
+    }
+    level
+}
+
+// The weights of links, added up.
+fn total_weight(links: &[Key]) -> u128
+    ensures { result ≡ total_weight links.now }
+{
+    let mut total: u128 = 0;
+    for link in links {
+        total += u128::from(link.weight);
+    }
+    total
+}
