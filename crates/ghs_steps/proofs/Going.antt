@@ -12,7 +12,7 @@ use Rattle.ghs_steps.specs.declared.write.WriteFault.{WriteFault}
 use Rattle.ghs_steps.specs.Step.{chosen, steps_behind}
 use Rattle.ghs_steps.specs.StepLine.{shown, step_line, steps_text}
 use Rattle.ghs_steps.specs.Written.{IsFront, IsOut}
-use Rattle.ghs_steps.proofs.Sent.{front_longer, out_more}
+use Rattle.ghs_steps.proofs.Gone.{front_longer, out_more}
 use Rattle.ghs_steps.proofs.Stepping.{lawful_here, text_front, text_more}
 
 pub lawful_net : (s : NetState) (g : Shape) (es : List Event) (i : ℕ) (d : Event) → s.graph ≡ g → s.trace ≡ take i es →
@@ -39,4 +39,4 @@ pub front_of_all : (old now : Option (List ℕ)) (g : Shape) (c : Choice) (es : 
 front_of_all old now g c es i f front =
     rw (text_front g c es i)
     (front_longer old now (steps_text g (take i es) c)
-    (flat_map (step_line g) (chosen c (steps_behind g (take i es) (drop i es)))) f front)
+    (flat_map step_line (chosen c (steps_behind g (take i es) (drop i es)))) f front)

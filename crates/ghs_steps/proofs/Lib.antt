@@ -1,4 +1,6 @@
+mod Applied
 mod Changed
 mod Going
-mod Sent
+mod Gone
 mod Stepping
+mod Suffice

@@ -1,5 +1,5 @@
 -- The steps of a trace, one after another.
-use Rattle.std.proofs.Common.{◌≡◌, ℕ, suc, ◌+◌, ◌<◌, ◌≤◌, true, Some, List, [], ◌∷◌, ◌++◌, length, get_or, take, drop, filter, refl, sym, ◌∙◌, ap, subst, append_assoc, append-nil}
+use Rattle.std.proofs.Common.{◌≡◌, ℕ, suc, ◌+◌, ◌<◌, ◌≤◌, true, Option, Some, map, List, [], ◌∷◌, ◌++◌, length, get_or, take, drop, filter, refl, sym, ◌∙◌, ap, subst, append_assoc, append-nil}
 use Rattle.std.specs.List.{flat_map}
 use Rattle.std.proofs.Math.Seq.{split_at}
 use Rattle.std.proofs.lemmas.Bool.{and_parts}
@@ -14,6 +14,7 @@ use Rattle.ghs_node.specs.NodeState.{NodeState}
 use Rattle.ghs_node.specs.Reaction.{reaction}
 use Rattle.ghs_node.specs.RowName.{row_name}
 use Rattle.ghs_steps.specs.declared.change.Change.{Change}
+use Rattle.ghs_steps.specs.declared.sent.Sent.{Sent}
 use Rattle.ghs_protocol.specs.declared.event.Event.{Event}
 use Rattle.ghs_protocol.specs.declared.event.Event.TheVariants.{Wake, Take}
 use Rattle.ghs_protocol.specs.Network.{network_of}
@@ -26,7 +27,8 @@ use Rattle.ghs_core.specs.NetState.{NetState, IsLawful, network, net_of, work_at
 use Rattle.ghs_steps.specs.declared.choice.Choice.{Choice}
 use Rattle.ghs_steps.specs.Changes.{changes}
 use Rattle.ghs_steps.specs.Choice.{is_chosen}
-use Rattle.ghs_steps.specs.Step.{Step, chosen, step, steps, steps_behind}
+use Rattle.ghs_steps.specs.Step.{chosen, step, steps, steps_behind}
+use Rattle.ghs_steps.specs.Told.{Told, event_far, sent_by}
 use Rattle.ghs_steps.specs.StepLine.{line_of, shown, step_line, steps_text}
 
 steps_append : (g : Shape) (done es fs : List Event) → steps_behind g done (es ++ fs) ≡ steps_behind g done es ++ steps_behind g (done ++ es) fs
@@ -37,12 +39,12 @@ steps_append g done (e ∷ es) fs =
     ∙ ap (λ (d : List Event). steps_behind g (done ++ e ∷ []) es ++ steps_behind g d fs) (append_assoc done (e ∷ []) es))
 
 text_append : (g : Shape) (c : Choice) (es fs : List Event) →
-    steps_text g (es ++ fs) c ≡ steps_text g es c ++ flat_map (step_line g) (chosen c (steps_behind g es fs))
+    steps_text g (es ++ fs) c ≡ steps_text g es c ++ flat_map step_line (chosen c (steps_behind g es fs))
 text_append g c es fs =
-    let p = λ (s : Step). is_chosen c s.moment.number (event_node s.moment.event) in
-    ap (λ ss. flat_map (step_line g) (filter p ss)) (steps_append g [] es fs)
-    ∙ (ap (flat_map (step_line g)) (filter-append p (steps g es) (steps_behind g es fs))
-    ∙ flat_map-append (step_line g) (filter p (steps g es)) (filter p (steps_behind g es fs)))
+    let p = λ (t : Told). is_chosen c t.moment.number (event_node t.moment.event) in
+    ap (λ ss. flat_map step_line (filter p ss)) (steps_append g [] es fs)
+    ∙ (ap (flat_map step_line) (filter-append p (steps g es) (steps_behind g es fs))
+    ∙ flat_map-append step_line (filter p (steps g es)) (filter p (steps_behind g es fs)))
 
 -- one event more
 pub text_more : (g : Shape) (c : Choice) (es : List Event) (i : ℕ) (d : Event) → i < length es →
@@ -51,7 +53,7 @@ text_more g c es i d lt = ap (λ (fs : List Event). steps_text g fs c) (take_mor
 
 -- the text of the first events is a front of the text
 pub text_front : (g : Shape) (c : Choice) (es : List Event) (i : ℕ) →
-    steps_text g es c ≡ steps_text g (take i es) c ++ flat_map (step_line g) (chosen c (steps_behind g (take i es) (drop i es)))
+    steps_text g es c ≡ steps_text g (take i es) c ++ flat_map step_line (chosen c (steps_behind g (take i es) (drop i es)))
 text_front g c es i = ap (λ (fs : List Event). steps_text g fs c) (sym (take-append-drop i es)) ∙ text_append g c (take i es) (drop i es)
 
 -- each event of a run is lawful where it stands
@@ -74,16 +76,12 @@ node_there s (Wake v) h = node_of (network s) v (and_parts _ _ h).0
 node_there s (Take v p) h = let at = at_of (network s) v p (and_parts _ _ h).0 in (at.some, at.node)
 
 -- the line of a step, from what is at hand
-pub line_is : (g : Shape) (done : List Event) (e : Event) (d : Delta) →
-    reaction ((net_after g done).node (event_node e)) (work_at (net_after g done) e) ≡ Some d →
-    line_of g (step g done e).moment (changes ((net_after g done).node (event_node e)) d) d ≡ step_line g (step g done e)
+pub put_is : (g : Shape) (done : List Event) (e : Event) (d : Delta) (new : NetState) (n : NodeState) (number total : ℕ) (far : Option ℕ) (k : Work) (r : RowName)
+    (cs : List Change) (ss : List Sent) → n ≡ (net_after g done).node (event_node e) →
+    reaction ((net_after g done).node (event_node e)) (work_at (net_after g done) e) ≡ Some d → new.graph ≡ g → new.trace ≡ done ++ e ∷ [] →
+    number ≡ length done + 1 → total ≡ in_all (net_of new).sent → far ≡ event_far g e → k ≡ work_at (net_after g done) e →
+    r ≡ row_name n (work_at (net_after g done) e) → cs ≡ changes n d → ss ≡ map (sent_by g (event_node e)) d.sends →
+    line_of (record { number = number; event = e; far = far; work = k; row = r; fate = d.fate; total = total }) cs ss ≡ step_line (step g done e)
 unfolding step_line
-line_is g done e d h = rw h refl
-
-pub put_is : (g : Shape) (done : List Event) (e : Event) (d : Delta) (new : NetState) (graph : Shape) (n : NodeState) (number total : ℕ) (k : Work) (r : RowName) (cs : List Change) →
-    n ≡ (net_after g done).node (event_node e) → reaction ((net_after g done).node (event_node e)) (work_at (net_after g done) e) ≡ Some d →
-    new.graph ≡ g → new.trace ≡ done ++ e ∷ [] → graph ≡ g → number ≡ length done + 1 → total ≡ in_all (net_of new).sent →
-    k ≡ work_at (net_after g done) e → r ≡ row_name n (work_at (net_after g done) e) → cs ≡ changes n d →
-    line_of graph (record { number = number; event = e; work = k; row = r; total = total }) cs d ≡ step_line g (step g done e)
-put_is g done e d new graph n number total k r cs is_n h same_g trace is_graph is_number is_total is_k is_r is_cs =
-    rw (is_r, is_cs, is_number, is_total, is_k, is_n, is_graph, trace, same_g) (line_is g done e d h)
+put_is g done e d new n number total far k r cs ss is_n h same_g trace is_number is_total is_far is_k is_r is_cs is_ss =
+    rw (is_ss, is_r, is_cs, is_number, is_total, is_far, is_k, is_n, trace, same_g, h) refl

@@ -1,7 +1,9 @@
 pub mod Choice
 pub mod Words
 pub mod Changes
+pub mod Told
 pub mod Step
+pub mod Deltas
 pub mod StepLine
 pub mod Written
 pub mod Shown

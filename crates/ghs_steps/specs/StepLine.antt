@@ -7,21 +7,19 @@ use Rattle.ghs_node.specs.declared.message.Message.{Message}
 use Rattle.ghs_node.specs.declared.message.Message.TheVariants.{Connect, Initiate, Test, Accept, Reject, Report, ChangeRoot}
 use Rattle.ghs_node.specs.declared.delta.Fate.{Fate}
 use Rattle.ghs_node.specs.declared.delta.Fate.TheVariants.{Consumed, Requeued}
-use Rattle.ghs_node.specs.declared.delta.Delta.{Delta}
 use Rattle.ghs_node.specs.declared.row_name.RowName.{RowName}
 use Rattle.ghs_node.specs.declared.work.Work.{Work}
 use Rattle.ghs_node.specs.declared.work.Work.TheVariants.{Wake, Deliver}
 use Rattle.ghs_node.specs.Words.{Best}
 use Rattle.ghs_protocol.specs.declared.event.Event.{Event}
-use Rattle.ghs_protocol.specs.declared.event.Event.TheVariants as events
 use Rattle.ghs_protocol.specs.Net.{event_node}
-use Rattle.ghs_protocol.specs.Network.{network_of, far}
 use Rattle.ghs_steps.specs.declared.change.Change.{Change}
 use Rattle.ghs_steps.specs.declared.change.Change.TheVariants as change
 use Rattle.ghs_steps.specs.declared.choice.Choice.{Choice}
 use Rattle.ghs_steps.specs.declared.moment.Moment.{Moment}
-use Rattle.ghs_steps.specs.Changes.{changes}
-use Rattle.ghs_steps.specs.Step.{Step, step, steps, chosen}
+use Rattle.ghs_steps.specs.declared.sent.Sent.{Sent}
+use Rattle.ghs_steps.specs.Step.{step, steps, chosen}
+use Rattle.ghs_steps.specs.Told.{Told, event_port}
 use Rattle.ghs_steps.specs.Words.{key_text, phase_word, mark_word, row_word}
 
 -- where there is no value
@@ -36,9 +34,9 @@ abbrev pub key_or_dash : Option Key → List ℕ
 key_or_dash None = dash
 key_or_dash (Some k) = key_text k
 
-abbrev pub port_or_dash : Option ℕ → List ℕ
-port_or_dash None = dash
-port_or_dash (Some p) = decimal p
+abbrev pub number_or_dash : Option ℕ → List ℕ
+number_or_dash None = dash
+number_or_dash (Some p) = decimal p
 
 -- `PORT@KEY`: the key isn't always that of the port, since it may have been reported
 abbrev pub best_text : Best → List ℕ
@@ -71,18 +69,18 @@ change_value (change.Level l) = decimal l
 change_value (change.Name f) = key_or_dash f
 change_value (change.Phase s) = phase_word s
 change_value (change.FindCount c) = decimal c
-change_value (change.InBranch p) = port_or_dash p
+change_value (change.InBranch p) = number_or_dash p
 change_value (change.Best b) = best_text b
-change_value (change.Probe p) = port_or_dash p
+change_value (change.Probe p) = number_or_dash p
 change_value change.Halted = codes "yes"
 
 -- a mark or a variable, and its new value
 unfoldable pub change_text : Change → List ℕ
 change_text c = change_name c ++ codes "=" ++ change_value c
 
--- `PORT>FAR:MESSAGE`, sent by node v
-unfoldable pub send_text : Shape → ℕ → ℕ × Message → List ℕ
-send_text g v s = decimal s.0 ++ codes ">" ++ decimal (far (network_of g) v s.0) ++ codes ":" ++ message_text s.1
+-- `PORT>FAR:MESSAGE`
+unfoldable pub send_text : Sent → List ℕ
+send_text s = decimal s.port ++ codes ">" ++ decimal s.to ++ codes ":" ++ message_text s.message
 
 unfoldable pub behind_semicolon : {A : Type 0} → (A → List ℕ) → A → List ℕ
 behind_semicolon part x = codes ";" ++ part x
@@ -93,9 +91,8 @@ joined part [] = dash
 joined part (x ∷ xs) = part x ++ flat_map (behind_semicolon part) xs
 
 -- whose event it is, the port of the message taken, and the node at the other end of it
-unfoldable pub place_fields : Shape → Event → List ℕ
-place_fields g (events.Wake v) = field (decimal v) ++ field dash ++ field dash
-place_fields g (events.Take v p) = field (decimal v) ++ field (decimal p) ++ field (decimal (far (network_of g) v p))
+unfoldable pub place_fields : Event → Option ℕ → List ℕ
+place_fields e far = field (decimal (event_node e)) ++ field (number_or_dash (event_port e)) ++ field (number_or_dash far)
 
 abbrev pub fate_word : Fate → List ℕ
 fate_word Consumed = codes "done"
@@ -107,23 +104,23 @@ work_fields Wake r f = field (codes "wake") ++ field (row_word r) ++ field dash
 work_fields (Deliver p m) r f = field (message_text m) ++ field (row_word r) ++ field (fate_word f)
 
 -- NUMBER NODE PORT FAR WORK ROW FATE CHANGES SENDS TOTAL
-abbrev pub line_of : Shape → Moment → List Change → Delta → List ℕ
-line_of g m cs d =
+abbrev pub line_of : Moment → List Change → List Sent → List ℕ
+line_of m cs ss =
     field (decimal m.number)
-    ++ place_fields g m.event
-    ++ work_fields m.work m.row d.fate
+    ++ place_fields m.event m.far
+    ++ work_fields m.work m.row m.fate
     ++ field (joined change_text cs)
-    ++ field (joined (send_text g (event_node m.event)) d.sends)
+    ++ field (joined send_text ss)
     ++ decimal m.total
     ++ 10 ∷ []
 
-unfoldable pub step_line : Shape → Step → List ℕ
-step_line g s = line_of g s.moment (changes s.before s.delta) s.delta
+unfoldable pub step_line : Told → List ℕ
+step_line t = line_of t.moment t.changes t.sends
 
 -- the lines of the steps of a trace that are chosen
 abbrev pub steps_text : Shape → List Event → Choice → List ℕ
-steps_text g es c = flat_map (step_line g) (chosen c (steps g es))
+steps_text g es c = flat_map step_line (chosen c (steps g es))
 
 -- the line of one event after others, if it is chosen
 abbrev pub shown : Shape → List Event → Event → Choice → List ℕ
-shown g done e c = flat_map (step_line g) (chosen c (step g done e ∷ []))
+shown g done e c = flat_map step_line (chosen c (step g done e ∷ []))

@@ -3,8 +3,10 @@
 
 pub mod change;
 pub mod choice;
+pub mod laws;
 pub mod line;
 pub mod moment;
+pub mod sent;
 pub mod show;
 #[cfg(test)]
 mod tests;

@@ -1,40 +1,35 @@
 //! A step as a line of text.
-ghost use Rattle.std.specs.Prelude.{◌≡◌, ◌++◌, ◌≤◌, decimal, IfOk};
+ghost use Rattle.std.specs.Prelude.{◌≡◌, ◌++◌, decimal, IfOk};
 ghost use Rattle.std.specs.List.{flat_map};
-ghost use Rattle.ghs_protocol.specs.Net.{event_node};
-ghost use Rattle.ghs_protocol.specs.Network.{network_of, far};
-ghost use Rattle.ghs_steps.specs.StepLine.{behind_semicolon, best_text, change_name, change_text, change_value, fate_word, field, joined, key_or_dash, line_of, message_text, place_fields, port_or_dash, send_text, work_fields};
+ghost use Rattle.ghs_steps.specs.StepLine.{behind_semicolon, best_text, change_name, change_text, change_value, fate_word, field, joined, key_or_dash, line_of, message_text, number_or_dash, place_fields, send_text, work_fields};
 
 use crate::change::Change;
-use crate::moment::{Moment, node_of};
+use crate::moment::{Moment, node_of, port_of};
+use crate::sent::Sent;
 use crate::words::{mark_word, phase_word, put_key, row_word};
 use ghs_core::event::Event;
-use ghs_graph::graph::Graph;
 use ghs_graph::key::Key;
 use ghs_lines::numbers::put_number;
-use ghs_node::delta::{Delta, Fate};
+use ghs_node::delta::Fate;
 use ghs_node::message::Message;
 use ghs_node::row_name::RowName;
 use ghs_node::work::Work;
 use std::alloc::AllocError;
 
-/// Appends the line of a step: ten fields, one blank between them, and a line feed. The event's node is one of the graph's.
+/// Appends the line of a step: ten fields, one blank between them, and a line feed.
 pub fn step_line(
     text: &mut Vec<u8>,
-    graph: &Graph,
     moment: &Moment,
     changes: &[Change],
-    delta: &Delta,
+    sends: &[Sent],
 ) -> Result<(), AllocError>
-    requires low { 1 ≤ event_node moment.now.event }
-    requires high { event_node moment.now.event ≤ graph.now.nodes }
-    ensures { IfOk result (λ _. text.new.items ≡ text.old.items ++ line_of graph.now moment.now changes.now delta.now) }
+    ensures { IfOk result (λ _. text.new.items ≡ text.old.items ++ line_of moment.now changes.now sends.now) }
 {
     put_number_field(text, moment.number)?;
-    put_place(text, graph, moment.event)?;
-    put_work(text, &moment.work, moment.row, delta.fate)?;
+    put_place(text, moment.event, moment.far)?;
+    put_work(text, &moment.work, moment.row, moment.fate)?;
     put_changes(text, changes)?;
-    put_sends(text, graph, node_of(moment.event), delta.sends.as_slice())?;
+    put_sends(text, sends)?;
     put_number(text, moment.total)?;
     text.extend_from_slice(b"\n")
 }
@@ -59,35 +54,21 @@ fn put_word_field(text: &mut Vec<u8>, word: &[u8]) -> Result<(), AllocError>
 
 // The fields of an event's node, port and far end.
 #[tactic(auto, unfolding(crate::specs::StepLine::place_fields))]
-fn put_place(text: &mut Vec<u8>, graph: &Graph, event: Event) -> Result<(), AllocError>
-    requires low { 1 ≤ event_node event }
-    requires high { event_node event ≤ graph.now.nodes }
-    ensures { IfOk result (λ _. text.new.items ≡ text.old.items ++ place_fields graph.now event) }
+fn put_place(text: &mut Vec<u8>, event: Event, far: Option<u32>) -> Result<(), AllocError>
+    ensures { IfOk result (λ _. text.new.items ≡ text.old.items ++ place_fields event far) }
 {
-    match event {
-        Event::Wake(v) => {
-            put_number_field(text, u64::from(v))?;
-            put_word_field(text, b"-")?;
-            put_word_field(text, b"-")
-        }
-        Event::Take(v, port) => {
-            put_number_field(text, u64::from(v))?;
-            put_number_field(text, u64::from(port))?;
-            put_number_field(text, u64::from(far_end(graph, v, port)))
-        }
-    }
+    put_number_field(text, u64::from(node_of(event)))?;
+    put_optional_field(text, port_of(event))?;
+    put_optional_field(text, far)
 }
 
-// The node at the other end of a port.
-fn far_end(graph: &Graph, v: u32, port: u32) -> u32
-    requires low { 1 ≤ v }
-    requires high { v ≤ graph.now.nodes }
-    ensures { result ≡ far (network_of graph.now) v port }
+// A number or a dash, and a blank.
+#[tactic(auto, unfolding(crate::specs::StepLine::field))]
+fn put_optional_field(text: &mut Vec<u8>, number: Option<u32>) -> Result<(), AllocError>
+    ensures { IfOk result (λ _. text.new.items ≡ text.old.items ++ field (number_or_dash number)) }
 {
-    match graph.ports(v).get(port as usize) {
-        Some(port) => port.far,
-        None => 0,
-    }
+    put_number_or_dash(text, number)?;
+    text.extend_from_slice(b" ")
 }
 
 // The fields of the work, the row and the message's fate.
@@ -109,7 +90,7 @@ fn put_work(text: &mut Vec<u8>, work: &Work, row: RowName, fate: Fate) -> Result
     }
 }
 
-fn fate_word(fate: Fate) -> &'static [u8]
+pub(crate) fn fate_word(fate: Fate) -> &'static [u8]
     ensures { result.now ≡ fate_word fate }
 {
     match fate {
@@ -156,20 +137,13 @@ fn put_other_changes(text: &mut Vec<u8>, changes: &[Change]) -> Result<(), Alloc
 
 // The field of what the event's node sends.
 #[tactic(auto, unfolding(crate::specs::StepLine::field, crate::specs::StepLine::joined))]
-fn put_sends(
-    text: &mut Vec<u8>,
-    graph: &Graph,
-    v: u32,
-    sends: &[(u32, Message)],
-) -> Result<(), AllocError>
-    requires low { 1 ≤ v }
-    requires high { v ≤ graph.now.nodes }
-    ensures { IfOk result (λ _. text.new.items ≡ text.old.items ++ field (joined (send_text graph.now v) sends.now)) }
+fn put_sends(text: &mut Vec<u8>, sends: &[Sent]) -> Result<(), AllocError>
+    ensures { IfOk result (λ _. text.new.items ≡ text.old.items ++ field (joined send_text sends.now)) }
 {
     match sends.split_first() {
         Some((first, others)) => {
-            put_send(text, graph, v, first)?;
-            put_other_sends(text, graph, v, others)?;
+            put_send(text, first)?;
+            put_other_sends(text, others)?;
         }
         None => text.extend_from_slice(b"-")?,
     }
@@ -178,40 +152,26 @@ fn put_sends(
 
 // Each behind a semicolon.
 #[tactic(auto, unfolding(crate::specs::StepLine::behind_semicolon))]
-fn put_other_sends(
-    text: &mut Vec<u8>,
-    graph: &Graph,
-    v: u32,
-    sends: &[(u32, Message)],
-) -> Result<(), AllocError>
-    requires low { 1 ≤ v }
-    requires high { v ≤ graph.now.nodes }
-    ensures { IfOk result (λ _. text.new.items ≡ text.old.items ++ flat_map (behind_semicolon (send_text graph.now v)) sends.now) }
+fn put_other_sends(text: &mut Vec<u8>, sends: &[Sent]) -> Result<(), AllocError>
+    ensures { IfOk result (λ _. text.new.items ≡ text.old.items ++ flat_map (behind_semicolon send_text) sends.now) }
 {
     for send in sends {
         text.extend_from_slice(b";")?;
-        put_send(text, graph, v, send)?;
+        put_send(text, send)?;
     }
     Ok(())
 }
 
 // One message that goes out.
 #[tactic(auto, unfolding(crate::specs::StepLine::send_text))]
-fn put_send(
-    text: &mut Vec<u8>,
-    graph: &Graph,
-    v: u32,
-    send: &(u32, Message),
-) -> Result<(), AllocError>
-    requires low { 1 ≤ v }
-    requires high { v ≤ graph.now.nodes }
-    ensures { IfOk result (λ _. text.new.items ≡ text.old.items ++ send_text graph.now v send.now) }
+fn put_send(text: &mut Vec<u8>, send: &Sent) -> Result<(), AllocError>
+    ensures { IfOk result (λ _. text.new.items ≡ text.old.items ++ send_text send.now) }
 {
-    put_number(text, u128::from(send.0))?;
+    put_number(text, u128::from(send.port))?;
     text.extend_from_slice(b">")?;
-    put_number(text, u128::from(far_end(graph, v, send.0)))?;
+    put_number(text, u128::from(send.to))?;
     text.extend_from_slice(b":")?;
-    put_message(text, &send.1)
+    put_message(text, &send.message)
 }
 
 // One variable or mark, with its new value.
@@ -252,9 +212,9 @@ fn put_change_value(text: &mut Vec<u8>, change: &Change) -> Result<(), AllocErro
         Change::Name(name) => put_key_or_dash(text, *name),
         Change::Phase(phase) => text.extend_from_slice(phase_word(*phase)),
         Change::FindCount(count) => put_number(text, u128::from(*count)),
-        Change::InBranch(port) => put_port_or_dash(text, *port),
+        Change::InBranch(port) => put_number_or_dash(text, *port),
         Change::Best(best) => put_best(text, *best),
-        Change::Probe(port) => put_port_or_dash(text, *port),
+        Change::Probe(port) => put_number_or_dash(text, *port),
         Change::Halted => text.extend_from_slice(b"yes"),
     }
 }
@@ -306,11 +266,11 @@ fn put_key_or_dash(text: &mut Vec<u8>, key: Option<Key>) -> Result<(), AllocErro
     }
 }
 
-fn put_port_or_dash(text: &mut Vec<u8>, port: Option<u32>) -> Result<(), AllocError>
-    ensures { IfOk result (λ _. text.new.items ≡ text.old.items ++ port_or_dash port) }
+fn put_number_or_dash(text: &mut Vec<u8>, number: Option<u32>) -> Result<(), AllocError>
+    ensures { IfOk result (λ _. text.new.items ≡ text.old.items ++ number_or_dash number) }
 {
-    match port {
-        Some(port) => put_number(text, u128::from(port)),
+    match number {
+        Some(number) => put_number(text, u128::from(number)),
         None => text.extend_from_slice(b"-"),
     }
 }

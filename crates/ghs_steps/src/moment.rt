@@ -1,35 +1,29 @@
 //! When and how an event happens.
 ghost use Rattle.std.specs.Prelude.{◌≡◌};
 ghost use Rattle.ghs_protocol.specs.Net.{event_node};
+ghost use Rattle.ghs_steps.specs.Told.{event_port};
 
 use ghs_core::event::Event;
+use ghs_node::delta::Fate;
 use ghs_node::row_name::RowName;
 use ghs_node::work::Work;
 
-/// An event of a run: its number, counted from 1, the work that it brings to its node, the row by which the node
-/// reacts, and how many messages were sent for the first time by then, this event's among them.
+/// An event of a run, and what a line says of it beside its changes and sends.
 #[derive(Clone, Copy, Debug, PartialEq, Eq)]
 pub struct Moment {
+    /// The event's number, counted from 1.
     pub number: u64,
     pub event: Event,
+    /// The node at the other end of the port at which the message came in; none for a wake.
+    pub far: Option<u32>,
+    /// What the event brings to its node.
     pub work: Work,
+    /// The row of the table by which the node reacts.
     pub row: RowName,
+    /// What becomes of the message.
+    pub fate: Fate,
+    /// How many messages were sent for the first time by then, this event's among them.
     pub total: u128,
-}
-
-impl Moment {
-    /// An event with its number, work and row, and the total after it.
-    pub fn of(number: u64, event: Event, work: Work, row: RowName, total: u128) -> Moment
-        ensures { result ≡ record { number = number; event = event; work = work; row = row; total = total } }
-    {
-        Moment {
-            number,
-            event,
-            work,
-            row,
-            total,
-        }
-    }
 }
 
 /// The node at which an event happens.
@@ -39,5 +33,15 @@ pub fn node_of(event: Event) -> u32
     match event {
         Event::Wake(v) => v,
         Event::Take(v, _) => v,
+    }
+}
+
+/// The port from which an event takes a message; none for a wake.
+pub fn port_of(event: Event) -> Option<u32>
+    ensures { result ≡ event_port event }
+{
+    match event {
+        Event::Wake(_) => None,
+        Event::Take(_, port) => Some(port),
     }
 }

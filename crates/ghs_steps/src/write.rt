@@ -15,7 +15,8 @@ ghost use Rattle.ghs_steps.specs.Written.{IsFront, IsOut};
 use crate::change::changes;
 use crate::choice::Choice;
 use crate::line::step_line;
-use crate::moment::{Moment, node_of};
+use crate::moment::{Moment, node_of, port_of};
+use crate::sent::{far_end, sent_by};
 use ghs_core::event::Event;
 use ghs_core::net::Net;
 use ghs_gr::device::Sink;
@@ -138,15 +139,25 @@ fn put_step(
     requires applicable { IsReaction ((net_of net.old).node (event_node event)) delta.now }
     ensures graph { OnOk result (net.new.graph ≡ net.old.graph) }
     ensures trace { OnOk result (net.new.trace ≡ net.old.trace ++ event ∷ []) }
-    ensures text { OnOk result (text.new.items ≡ text.old.items ++ step_line net.old.graph (step net.old.graph net.old.trace event)) }
+    ensures text { OnOk result (text.new.items ≡ text.old.items ++ step_line (step net.old.graph net.old.trace event)) }
 {
     let number = net.events() + 1;
     let row = row_of(net.node(node_of(event)), net.work(event));
     let work = net.work(event);
     let changes = changes(alloc, net.node(node_of(event)), delta)?;
+    let sends = sent_by(alloc, net.graph(), node_of(event), delta.sends.as_slice())?;
+    let far = far_end(net.graph(), event);
     play(net, event, delta)?;
-    let moment = Moment::of(number, event, work, row, total(net));
-    step_line(text, net.graph(), &moment, &changes, delta)?;
+    let moment = Moment {
+        number,
+        event,
+        far,
+        work,
+        row,
+        fate: delta.fate,
+        total: total(net),
+    };
+    step_line(text, &moment, &changes, &sends)?;
     Ok(())
 }
 

@@ -4,4 +4,4 @@ use Rattle.ghs_steps.specs.StepLine.{behind_semicolon, send_text}
 use Rattle.ghs_steps.proofs.line.put_other_sends.Given as goal
 
 abbrev pub invariant-loop-send : goal.invariant-loop-send
-invariant-loop-send l = l.text.items ≡ l.fn.text.items ++ flat_map (behind_semicolon (send_text l.graph l.v)) (take l.send-index l.sends)
+invariant-loop-send l = l.text.items ≡ l.fn.text.items ++ flat_map (behind_semicolon send_text) (take l.send-index l.sends)

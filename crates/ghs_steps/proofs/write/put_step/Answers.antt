@@ -6,13 +6,15 @@ use Rattle.ghs_steps.proofs.write.put_step.Goals as goal
 
 pub returns-clause-text : goal.returns-clause-text
 returns-clause-text c =
-    let node = c.node.ensures ∙ ap (net_of c.args.net.now).node c.node_of.ensures in
-    let node_again = c.node-2.ensures ∙ ap (net_of c.args.net.now).node c.node_of-2.ensures in
+    let s = c.args.net.now in
+    let node = c.node.ensures ∙ ap (net_of s).node c.node_of.ensures in
+    let node_again = c.node-2.ensures ∙ ap (net_of s).node c.node_of-2.ensures in
     let row = rw (c.work.ensures.work, node) at c.row_of-row.ensures.tested in
     let list = rw node_again at (c.deref.ensures.value ∙ c.in_ok-changes.ensures) in
+    let sends = rw (c.graph.ensures, c.node_of-3.ensures, c.as_slice.ensures) at (c.deref-2.ensures.value ∙ c.in_ok-sends.ensures) in
+    let far = rw c.graph-2.ensures at c.far_end-far.ensures in
     c.in_ok-step_line.ensures
     ∙ ap (λ t. c.args.text.now.items ++ t)
-    (rw c.of-moment.ensures
-    (put_is c.args.net.now.graph c.args.net.now.trace c.args.event c.args.delta.now c.play.new.net _ ((net_of c.args.net.now).node (event_node c.args.event)) _ _ _ _ _
-    refl c.requires.answer c.in_ok-play.ensures.graph c.in_ok-play.ensures.trace (c.graph.ensures ∙ c.in_ok-play.ensures.graph)
-    (ap (λ n. n + 1) c.events-number.ensures) c.total.ensures c.work-work.ensures.work row list))
+    (put_is s.graph s.trace c.args.event c.args.delta.now c.play.new.net ((net_of s).node (event_node c.args.event)) _ _ _ _ _ _ _
+    refl c.requires.answer c.in_ok-play.ensures.graph c.in_ok-play.ensures.trace (ap (λ n. n + 1) c.events-number.ensures) c.total.ensures
+    far c.work-work.ensures.work row list sends)

@@ -1,5 +1,5 @@
 use Rattle.std.proofs.Common.{rules, ◌≡◌, length}
-use Rattle.ghs_steps.proofs.Sent.{out_failed, out_sent}
+use Rattle.ghs_steps.proofs.Gone.{out_failed, out_sent}
 use Rattle.ghs_steps.proofs.write.send_off.Goals as goal
 
 pub returns-in-Ok-clause-out : goal.returns-in-Ok-clause-out
