@@ -1,0 +1,7 @@
+//! Patient runs: of the events that may happen one that moves the run on comes next, and so every run ends.
+#![tactic(auto)]
+
+mod choices;
+pub mod run;
+#[cfg(test)]
+mod tests;
