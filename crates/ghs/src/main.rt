@@ -15,6 +15,8 @@ use std::alloc::Global;
 use std::fs::File;
 use std::process::ExitCode;
 use std::rt::Runtime;
+use std::sync::Wait;
+use std::thread::Threads;
 use std::{env, io};
 
 /// The exit status of a command line that is refused.
@@ -25,7 +27,7 @@ fn main(rt: HostRuntime) -> ExitCode {
 }
 
 /// Does what the command line says, and gives the exit status.
-fn run<R: Runtime + AllocGlobal>(rt: &R, alloc: Global) -> u8 {
+fn run<R: Runtime + AllocGlobal + Threads + Wait + Sync>(rt: &R, alloc: Global) -> u8 {
     match words_of(rt, alloc) {
         Ok(words) => answer(rt, alloc, &words),
         Err(error) => match error.kind() {
@@ -41,7 +43,11 @@ fn words_of<R: Runtime + AllocGlobal>(rt: &R, alloc: Global) -> io::Result<Vec<S
 }
 
 /// Does what the words after the program's name say, and gives the exit status.
-fn answer<R: Runtime + AllocGlobal>(rt: &R, alloc: Global, words: &[String]) -> u8
+fn answer<R: Runtime + AllocGlobal + Threads + Wait + Sync>(
+    rt: &R,
+    alloc: Global,
+    words: &[String],
+) -> u8
     ensures { IsStatusOf (kinds_of (map string_bytes words.now)) result }
 {
     match read_job(alloc, words) {
@@ -53,7 +59,11 @@ fn answer<R: Runtime + AllocGlobal>(rt: &R, alloc: Global, words: &[String]) -> 
 }
 
 /// Opens the files and does the job, the trace's before the graph's. A file that can't be opened can't be read.
-fn work<R: Runtime + AllocGlobal>(rt: &R, alloc: Global, job: &Job) -> Result<(), ServeFault>
+fn work<R: Runtime + AllocGlobal + Threads + Wait + Sync>(
+    rt: &R,
+    alloc: Global,
+    job: &Job,
+) -> Result<(), ServeFault>
     requires { IsWithinLimits job.now.task }
 {
     match &job.trace {
@@ -66,7 +76,7 @@ fn work<R: Runtime + AllocGlobal>(rt: &R, alloc: Global, job: &Job) -> Result<()
 }
 
 /// Opens the graph's file and does the job with this trace.
-fn work_after<R: Runtime + AllocGlobal, T: Source>(
+fn work_after<R: Runtime + AllocGlobal + Threads + Wait + Sync, T: Source>(
     rt: &R,
     alloc: Global,
     job: &Job,
@@ -85,7 +95,7 @@ fn work_after<R: Runtime + AllocGlobal, T: Source>(
 }
 
 /// Does the job on this graph with this trace, and prints.
-fn work_on<R: Runtime + AllocGlobal, S: Source, T: Source>(
+fn work_on<R: Runtime + AllocGlobal + Threads + Wait + Sync, S: Source, T: Source>(
     rt: &R,
     alloc: Global,
     job: &Job,
@@ -97,7 +107,7 @@ fn work_on<R: Runtime + AllocGlobal, S: Source, T: Source>(
     requires trace { T.has_failed trace.old ≡ false }
 {
     let mut out = Device::of(io::writer(rt));
-    serve(alloc, job, graph, trace, &mut out)
+    serve(rt, alloc, job, graph, trace, &mut out)
 }
 
 /// Prints help that was asked for.

@@ -16,7 +16,6 @@ use Rattle.ghs_world.specs.declared.wake_set.WakeSet.{WakeSet}
 use Rattle.ghs_world.specs.Wakes.{may_wake}
 use Rattle.ghs_cli.specs.declared.fault.ServeFault.{ServeFault}
 use Rattle.ghs_cli.specs.declared.fault.ServeFault.TheVariants as serve
-use Rattle.ghs_cli.specs.declared.job.Show.TheVariants.{Summary, Events}
 use Rattle.ghs_cli.specs.declared.job.Task.{Task}
 use Rattle.ghs_cli.specs.declared.job.Task.TheVariants as task
 use Rattle.ghs_cli.specs.Serving.{GoesOn, IfStored, IsCause, IsOutput, IsPrinted, IsPrintedAtLimit, IsReplayCause, IsReplayed, IsRunCause, IsTraceText, IsTried, Serves, is_late, shape_of}
@@ -27,7 +26,7 @@ pub if_stored : (job : Task) (stored : Option (List ℕ)) (P Q : List ℕ → Ty
     IfStored job stored P →
     IfStored job stored Q
 if_stored task.Tree stored P Q f all = λ bytes. f bytes (all bytes)
-if_stored (task.Run seed workers wake turns show) stored P Q f all = λ bytes. f bytes (all bytes)
+if_stored (task.Run o) stored P Q f all = λ bytes. f bytes (all bytes)
 if_stored (task.Replay wake) None P Q f all = tt
 if_stored (task.Replay wake) (Some bytes) P Q f all = f bytes all
 
@@ -56,6 +55,8 @@ serves_cause job stored input old new serve.TurnLimit early cause = (cause, λ s
 serves_cause job stored input old new serve.Stalled early cause = cause
 serves_cause job stored input old new serve.NotEnded early cause = cause
 serves_cause job stored input old new serve.Memory early cause = cause
+serves_cause job stored input old new serve.NoThread early cause = cause
+serves_cause job stored input old new serve.Strange early cause = cause
 serves_cause job stored input old new serve.Read early cause = cause
 serves_cause job stored input old new (serve.Write written) early cause = cc
 serves_cause job stored input old new serve.Unforeseen early cause = cause
@@ -102,6 +103,8 @@ goes_on wake own raw g done events serve.NotEnded graph trace wakes run goes = (
   subst (λ (s : Shape). HasEnded s (net_after s events) → ⊥) graph (subst (λ (es : List Event). HasEnded g (net_after g es) → ⊥) trace goes),
 )
 goes_on wake own raw g done events serve.Memory graph trace wakes run goes = tt
+goes_on wake own raw g done events serve.NoThread graph trace wakes run goes = absurd goes
+goes_on wake own raw g done events serve.Strange graph trace wakes run goes = absurd goes
 goes_on wake own raw g done events (serve.BadLine line) graph trace wakes run goes = absurd goes
 goes_on wake own raw g done events (serve.ArcBeforeProblem line) graph trace wakes run goes = absurd goes
 goes_on wake own raw g done events (serve.SecondProblem line) graph trace wakes run goes = absurd goes
@@ -143,24 +146,23 @@ serves_fault job stored input old new r fault is early cause = rw is (serves_cau
 -- what goes out is what the task prints, or what it prints at the turn limit
 pub printed_of : (job : Task) (stored input output : List ℕ) → IsOutput job false stored input output → IsPrinted job stored input output
 printed_of task.Tree stored input output out = out.1
-printed_of (task.Run seed workers wake turns show) stored input output out = out
+printed_of (task.Run o) stored input output out = out
 printed_of (task.Replay wake) stored input output out = out.1
 
 pub printed_at_limit : (job : Task) (stored input output : List ℕ) → IsOutput job true stored input output → IsPrintedAtLimit job input output
 printed_at_limit task.Tree stored input output out = absurd (let bad : true ≡ false = out.0 in cc)
-printed_at_limit (task.Run seed workers wake turns show) stored input output out = out
+printed_at_limit (task.Run o) stored input output out = out
 printed_at_limit (task.Replay wake) stored input output out = absurd (let bad : true ≡ false = out.0 in cc)
 
 tried_of : (job : Task) (at_limit : Bool) (stored input output : List ℕ) → IsOutput job at_limit stored input output → IsTried job stored input output
 tried_of task.Tree at_limit stored input output out = out.1
-tried_of (task.Run seed workers wake turns show) at_limit stored input output out = (at_limit, out)
+tried_of (task.Run o) at_limit stored input output out = (at_limit, out)
 tried_of (task.Replay wake) at_limit stored input output out = out.1
 
--- only the seed's run of a graph stops at a turn limit
+-- only a run of a graph stops at a turn limit
 pub limit_cause : (job : Task) (stored input output : List ℕ) → IsPrintedAtLimit job input output → IsCause job stored input serve.TurnLimit
 limit_cause task.Tree stored input output out = absurd out
-limit_cause (task.Run seed workers wake turns Events) stored input output out = inr (out.0, out.1, (out.2.0, out.2.1))
-limit_cause (task.Run seed workers wake turns Summary) stored input output out = absurd out.2
+limit_cause (task.Run o) stored input output out = inr (out.0, out.1, (out.2.events, out.2.stopped))
 limit_cause (task.Replay wake) stored input output out = absurd out
 
 -- a write that failed served the first bytes

@@ -41,7 +41,7 @@ of_replay (replay.NotLawful k) = serve.NotLawful k
 of_replay (replay.Unforeseen k) = serve.Unforeseen
 of_replay replay.Memory = serve.Memory
 
--- the exit status: 1 for input that is refused, 3 for a run that hasn't ended, 4 for want of memory, 5 for a read or a write that failed, 6 for a state without a rule
+-- the exit status: 1 for input that is refused, 3 for a run that hasn't ended, 4 for want of memory or of a thread, 5 for a read or a write that failed, 6 for a state without a rule or workers that stop without a reason
 abbrev pub status_of : ServeFault → ℕ
 status_of (serve.BadLine line) = 1
 status_of (serve.ArcBeforeProblem line) = 1
@@ -59,6 +59,8 @@ status_of serve.TurnLimit = 3
 status_of serve.Stalled = 3
 status_of serve.NotEnded = 3
 status_of serve.Memory = 4
+status_of serve.NoThread = 4
 status_of serve.Read = 5
 status_of (serve.Write written) = 5
+status_of serve.Strange = 6
 status_of serve.Unforeseen = 6

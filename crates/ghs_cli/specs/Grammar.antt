@@ -1,5 +1,6 @@
 -- The words that the program takes.
 use Rattle.std.specs.Prelude.{codes, [], ◌∷◌, Some, true}
+use Rattle.clap.specs.declared.builder.action.ArgAction.TheVariants.{SetTrue}
 use Rattle.clap.specs.Words.{App, Rule, Text, new_app, new_rule, with_rule, with_subcommand}
 
 -- FILE: the graph
@@ -30,6 +31,10 @@ turns_rule = option_rule (codes "turns") (codes "1099511627776")
 abbrev pub print_rule : Rule
 print_rule = option_rule (codes "print") (codes "report")
 
+-- `--progress`: whether it is told how far the run has come
+abbrev pub progress_rule : Rule
+progress_rule = record (new_rule (codes "progress")) { long = Some (codes "progress"); action = Some SetTrue }
+
 -- `--wake`: which nodes wake by themselves
 abbrev pub wake_rule : Rule
 wake_rule = option_rule (codes "wake") (codes "all")
@@ -38,10 +43,12 @@ wake_rule = option_rule (codes "wake") (codes "all")
 abbrev pub tree_command : App
 tree_command = with_rule (new_app (codes "tree")) file_rule
 
--- `run [FILE] [--seed S] [--workers 0] [--wake all|first] [--turns T] [--print report|trace]`
+-- `run [FILE] [--seed S] [--workers W] [--wake all|first] [--turns T] [--print report|trace] [--progress]`
 abbrev pub run_command : App
 run_command =
-    with_rule (with_rule (with_rule (with_rule (with_rule (with_rule (new_app (codes "run")) file_rule) seed_rule) workers_rule) wake_rule) turns_rule) print_rule
+    let named = with_rule (new_app (codes "run")) file_rule in
+    let numbered = with_rule (with_rule named seed_rule) workers_rule in
+    with_rule (with_rule (with_rule (with_rule numbered wake_rule) turns_rule) print_rule) progress_rule
 
 -- `replay TRACE [FILE] [--wake all|first]`
 abbrev pub replay_command : App

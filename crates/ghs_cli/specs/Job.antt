@@ -15,6 +15,7 @@ use Rattle.ghs_world.specs.declared.wake_set.WakeSet.TheVariants.{First}
 use Rattle.ghs_cli.specs.Grammar.{program}
 use Rattle.ghs_cli.specs.declared.job.JobFault.{JobFault}
 use Rattle.ghs_cli.specs.declared.job.JobFault.TheVariants as fault
+use Rattle.ghs_cli.specs.declared.job.RunOptions.{RunOptions}
 use Rattle.ghs_cli.specs.declared.job.Show.{Show}
 use Rattle.ghs_cli.specs.declared.job.Show.TheVariants.{Events}
 use Rattle.ghs_cli.specs.declared.job.TheConstants.{MOST_WORKERS}
@@ -49,6 +50,10 @@ IsWake command wake = (wake ≡ First) ↔ (value_in (codes "wake") command ≡ 
 abbrev pub IsShow : Used → Show → Type 0
 IsShow command show = (show ≡ Events) ↔ (value_in (codes "print") command ≡ Some (codes "trace"))
 
+-- whether it is told how far the run has come, as `--progress` says, which has no value of its own
+abbrev pub IsToldOf : Used → Bool → Type 0
+IsToldOf command progress = (progress ≡ true) ↔ (value_in (codes "progress") command ≡ Some (codes "true"))
+
 -- the number that a value is: digits alone, of a value in this range
 abbrev pub number_in : ℕ → ℕ → Text → Option ℕ
 number_in low high text =
@@ -68,17 +73,31 @@ workers_in = number_at (codes "workers") 0 MOST_WORKERS
 abbrev pub turns_in : Used → ℕ
 turns_in = number_at (codes "turns") 1 EVENT_LIMIT
 
+-- how a command asks for a network to be run
+pub record AreOptions (command : Used) (o : RunOptions) : Type 0 where
+  pub seed : o.seed ≡ seed_in command
+  pub workers : o.workers ≡ workers_in command
+  pub wake : IsWake command o.wake
+  pub turns : o.turns ≡ turns_in command
+  pub show : IsShow command o.show
+  pub progress : IsToldOf command o.progress
+
 -- the task that a command asks for
 abbrev pub IsTask : Used → Task → Type 0
 IsTask command task.Tree = (name_in command ≢ Some (codes "run")) × (name_in command ≢ Some (codes "replay"))
-IsTask command (task.Run seed workers wake turns show) =
-    (name_in command ≡ Some (codes "run")) × (seed ≡ seed_in command) × (workers ≡ workers_in command) × IsWake command wake × (turns ≡ turns_in command) × IsShow command show
+IsTask command (task.Run options) = (name_in command ≡ Some (codes "run")) × AreOptions command options
 IsTask command (task.Replay wake) = (name_in command ≡ Some (codes "replay")) × IsWake command wake
 
--- a task's numbers are within their limits
+-- numbers are within their limits
+pub record AreWithinLimits (o : RunOptions) : Type 0 where
+  pub workers : o.workers ≤ MOST_WORKERS
+  pub some : 1 ≤ o.turns
+  pub few : o.turns ≤ EVENT_LIMIT
+
+-- a task's numbers are
 abbrev pub IsWithinLimits : Task → Type 0
 IsWithinLimits task.Tree = Unit {0}
-IsWithinLimits (task.Run seed workers wake turns show) = (workers ≤ MOST_WORKERS) × (1 ≤ turns) × (turns ≤ EVENT_LIMIT)
+IsWithinLimits (task.Run options) = AreWithinLimits options
 IsWithinLimits (task.Replay wake) = Unit {0}
 
 -- a value that isn't given, or one of these

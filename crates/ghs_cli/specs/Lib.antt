@@ -2,4 +2,5 @@
 pub mod Fault
 pub mod Grammar
 pub mod Job
+pub mod Running
 pub mod Serving

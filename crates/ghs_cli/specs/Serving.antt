@@ -1,5 +1,5 @@
 -- What the program's work comes to.
-use Rattle.std.specs.Prelude.{◌≡◌, ◌⊎◌, ℕ, ◌<◌, Bool, true, false, ◌&&◌, ◌||◌, List, [], length, map, Option, Result, Ok, Err, IfSome}
+use Rattle.std.specs.Prelude.{◌≡◌, ◌⊎◌, ℕ, ◌<◌, ◌≤◌, Bool, true, false, ◌&&◌, ◌||◌, List, [], length, map, Option, Result, Ok, Err, IfSome}
 use Rattle.ghs_gr.specs.RawGraph.{RawShape}
 use Rattle.ghs_gr.specs.Judgement.{TextIs}
 use Rattle.ghs_gr.specs.Text.{IsTooLong}
@@ -26,6 +26,7 @@ use Rattle.ghs_world.specs.declared.wake_set.WakeSet.{WakeSet}
 use Rattle.ghs_world.specs.Wakes.{may_wake}
 use Rattle.ghs_cli.specs.declared.fault.ServeFault.{ServeFault}
 use Rattle.ghs_cli.specs.declared.fault.ServeFault.TheVariants as serve
+use Rattle.ghs_cli.specs.declared.job.RunOptions.{RunOptions}
 use Rattle.ghs_cli.specs.declared.job.Show.{Show}
 use Rattle.ghs_cli.specs.declared.job.Show.TheVariants.{Summary, Events}
 use Rattle.ghs_cli.specs.declared.job.Task.{Task}
@@ -70,53 +71,64 @@ pub record IsReplayText (wake : WakeSet) (stored input output : List ℕ) : Type
   pub replayed : IsReplayed wake graph events output
 
 -- the events of the seed's run of a graph: all that its schedule picks, from the opening on
-pub record IsSeeded (seed : ℕ) (wake : WakeSet) (turns : ℕ) (graph : RawShape) (events : List Event) : Type 0 where
+pub record IsSeeded (seed : ℕ) (wake : WakeSet) (turns : ℕ) (g : Shape) (events : List Event) : Type 0 where
   pub words : List ℕ
-  pub run : IsSeededRun (may_wake (shape_of graph) wake) (shape_of graph) turns [] (seeded seed) events words
+  pub run : IsSeededRun (may_wake g wake) g turns [] (seeded seed) events words
+
+-- events that are a run of a graph as its options ask: under the wake set, within the turns; without threads it is the seed's
+pub record IsRunBy (o : RunOptions) (g : Shape) (events : List Event) : Type 0 where
+  pub run : IsRunUnder (may_wake g o.wake) (network_of g) events
+  pub within : length events ≤ o.turns
+  pub seeded : o.workers ≡ 0 → IsSeeded o.seed o.wake o.turns g events
+
+-- such a run that has ended
+pub record IsWholeRun (o : RunOptions) (g : Shape) (events : List Event) : Type 0 where
+  pub by : IsRunBy o g events
+  pub ended : HasEnded g (net_after g events)
+
+-- and one that has used its turns and hasn't ended
+pub record IsStopped (o : RunOptions) (g : Shape) (events : List Event) : Type 0 where
+  pub by : IsRunBy o g events
+  pub used : length events ≡ o.turns
+  pub goes_on : HasEnded g (net_after g events) → ⊥
 
 -- what is shown of a run that has ended: the text of its net, or its events
 abbrev pub IsShown : Show → Shape → List Event → List ℕ → Type 0
 IsShown Summary g events output = IsNetText g (net_after g events) output
 IsShown Events g events output = output ≡ trace_text events
 
--- the seed's run of the graph ends, and the output shows it
-pub record IsRun (seed : ℕ) (wake : WakeSet) (turns : ℕ) (show : Show) (graph : RawShape) (output : List ℕ) : Type 0 where
+-- a run of the graph ends, and the output shows it
+pub record IsRun (o : RunOptions) (g : Shape) (output : List ℕ) : Type 0 where
   pub events : List Event
-  pub seeded : IsSeeded seed wake turns graph events
-  pub ended : HasEnded (shape_of graph) (net_at graph events)
-  pub printed : IsShown show (shape_of graph) events output
+  pub whole : IsWholeRun o g events
+  pub printed : IsShown o.show g events output
 
--- the seed's run of the graph has used its turns and hasn't ended
-pub record IsStopped (seed : ℕ) (wake : WakeSet) (turns : ℕ) (graph : RawShape) (events : List Event) : Type 0 where
-  pub seeded : IsSeeded seed wake turns graph events
-  pub used : length events ≡ turns
-  pub goes_on : HasEnded (shape_of graph) (net_at graph events) → ⊥
+-- a run of the graph has used its turns, and the output has its events, which are asked for
+pub record IsStoppedText (o : RunOptions) (g : Shape) (output : List ℕ) : Type 0 where
+  pub events : List Event
+  pub stopped : IsStopped o g events
+  pub asked : o.show ≡ Events
+  pub printed : output ≡ trace_text events
 
--- the seed's run of the graph has used its turns, and the output has its events
-abbrev pub IsStoppedText : ℕ → WakeSet → ℕ → RawShape → List ℕ → Type 0
-IsStoppedText seed wake turns graph output = (events : List Event) × IsStopped seed wake turns graph events × (output ≡ trace_text events)
+-- what goes out of a run of a graph, where it ends, and where its turns are used (true)
+abbrev pub IsRan : RunOptions → Shape → Bool → List ℕ → Type 0
+IsRan o g false output = IsRun o g output
+IsRan o g true output = IsStoppedText o g output
 
--- what goes out of the seed's run of a graph, where it ends, and where its turns are used (true): then its events, if they are asked for
-abbrev pub IsRan : ℕ → WakeSet → ℕ → RawShape → Bool → Show → List ℕ → Type 0
-IsRan seed wake turns graph false show output = IsRun seed wake turns show graph output
-IsRan seed wake turns graph true Events output = IsStoppedText seed wake turns graph output
-IsRan seed wake turns graph true Summary output = ⊥
-
--- the input is the text of a graph, and this goes out of the seed's run of it
-abbrev pub IsRunOutput : ℕ → WakeSet → ℕ → Show → Bool → List ℕ → List ℕ → Type 0
-IsRunOutput seed wake turns show at_limit input output =
-    (graph : RawShape) × TextIs input (Ok graph) × IsRan seed wake turns graph at_limit show output
+-- the input is the text of a graph, and this goes out of a run of it
+abbrev pub IsRunOutput : RunOptions → Bool → List ℕ → List ℕ → Type 0
+IsRunOutput o at_limit input output = (graph : RawShape) × TextIs input (Ok graph) × IsRan o (shape_of graph) at_limit output
 
 -- what a task prints
 abbrev pub IsPrinted : Task → List ℕ → List ℕ → List ℕ → Type 0
 IsPrinted task.Tree stored input output = IsTreeText input output
-IsPrinted (task.Run seed workers wake turns show) stored input output = IsRunOutput seed wake turns show false input output
+IsPrinted (task.Run o) stored input output = IsRunOutput o false input output
 IsPrinted (task.Replay wake) stored input output = IsReplayText wake stored input output
 
 -- what a task prints before it answers that its turns are used
 abbrev pub IsPrintedAtLimit : Task → List ℕ → List ℕ → Type 0
 IsPrintedAtLimit task.Tree input output = ⊥
-IsPrintedAtLimit (task.Run seed workers wake turns show) input output = IsRunOutput seed wake turns show true input output
+IsPrintedAtLimit (task.Run o) input output = IsRunOutput o true input output
 IsPrintedAtLimit (task.Replay wake) input output = ⊥
 
 -- what is stored gives this fault; it may be too long, and the reader and memory may fail for any
@@ -169,40 +181,44 @@ abbrev pub IsReplayCause : WakeSet → List ℕ → List ℕ → ServeFault → 
 IsReplayCause wake stored input fault =
     IsTraceCause stored fault ⊎ (((events : List Event) × IsTraceText stored events × IsGraphCause input fault) ⊎ GiveFault wake stored input fault)
 
--- why the seed's run of a graph doesn't end well: its turns are used; an event is always ready, and each has a rule
-abbrev pub StopsRun : ℕ → WakeSet → ℕ → RawShape → ServeFault → Type 0
-StopsRun seed wake turns graph serve.TurnLimit = (events : List Event) × IsStopped seed wake turns graph events
-StopsRun seed wake turns graph serve.Memory = Unit {0}
-StopsRun seed wake turns graph _ = ⊥
+-- why a run of a graph doesn't end well: its turns are used, or threads fail; an event is always ready, and each has a rule
+abbrev pub StopsRun : RunOptions → Shape → ServeFault → Type 0
+StopsRun o g serve.TurnLimit = (events : List Event) × IsStopped o g events
+StopsRun o g serve.Memory = Unit {0}
+StopsRun o g serve.NoThread = 1 ≤ o.workers
+StopsRun o g serve.Strange = 1 ≤ o.workers
+StopsRun o g _ = ⊥
 
 -- why a run doesn't end well: the graph, or the run of it
-abbrev pub IsSeededCause : ℕ → WakeSet → ℕ → List ℕ → ServeFault → Type 0
-IsSeededCause seed wake turns input fault =
-    IsGraphCause input fault ⊎ ((graph : RawShape) × TextIs input (Ok graph) × StopsRun seed wake turns graph fault)
+abbrev pub IsRunningCause : RunOptions → List ℕ → ServeFault → Type 0
+IsRunningCause o input fault = IsGraphCause input fault ⊎ ((graph : RawShape) × TextIs input (Ok graph) × StopsRun o (shape_of graph) fault)
 
 -- why a task doesn't end well
 abbrev pub IsCause : Task → List ℕ → List ℕ → ServeFault → Type 0
 IsCause task.Tree stored input fault = IsGraphCause input fault
-IsCause (task.Run seed workers wake turns show) stored input fault = IsSeededCause seed wake turns input fault
+IsCause (task.Run o) stored input fault = IsRunningCause o input fault
 IsCause (task.Replay wake) stored input fault = IsReplayCause wake stored input fault
 
 -- what goes out for a task, and whether the answer behind it is that its turns are used
 abbrev pub IsOutput : Task → Bool → List ℕ → List ℕ → List ℕ → Type 0
 IsOutput task.Tree at_limit stored input output = (at_limit ≡ false) × IsTreeText input output
-IsOutput (task.Run seed workers wake turns show) at_limit stored input output = IsRunOutput seed wake turns show at_limit input output
+IsOutput (task.Run o) at_limit stored input output = IsRunOutput o at_limit input output
 IsOutput (task.Replay wake) at_limit stored input output = (at_limit ≡ false) × IsReplayText wake stored input output
 
 -- what may have gone out in part
 abbrev pub IsTried : Task → List ℕ → List ℕ → List ℕ → Type 0
 IsTried task.Tree stored input output = IsTreeText input output
-IsTried (task.Run seed workers wake turns show) stored input output = (at_limit : Bool) × IsRunOutput seed wake turns show at_limit input output
+IsTried (task.Run o) stored input output = (at_limit : Bool) × IsRunOutput o at_limit input output
 IsTried (task.Replay wake) stored input output = IsReplayText wake stored input output
 
 -- whether the events of a run are asked for
+abbrev pub is_events : Show → Bool
+is_events Events = true
+is_events Summary = false
+
 abbrev pub shows_events : Task → Bool
 shows_events task.Tree = false
-shows_events (task.Run seed workers wake turns Events) = true
-shows_events (task.Run seed workers wake turns Summary) = false
+shows_events (task.Run o) = is_events o.show
 shows_events (task.Replay wake) = false
 
 -- where the events of a run are asked for, they have gone out before the answer that its turns are used
@@ -220,7 +236,7 @@ Serves job stored input old new (Err fault) = IsCause job stored input fault
 -- what is stored, where the task reads it; other tasks read nothing
 abbrev pub IfStored : Task → Option (List ℕ) → (List ℕ → Type 0) → Type 0
 IfStored task.Tree stored P = (bytes : List ℕ) → P bytes
-IfStored (task.Run seed workers wake turns show) stored P = (bytes : List ℕ) → P bytes
+IfStored (task.Run o) stored P = (bytes : List ℕ) → P bytes
 IfStored (task.Replay wake) stored P = IfSome stored P
 
 abbrev pub is_write : ServeFault → Bool
@@ -248,5 +264,5 @@ IsUnwritten job old new (Err fault) = is_late job fault ≡ false → new ≡ ol
 -- only a replay touches the trace
 abbrev pub IsUnread : {T : Type 0} → Task → T → T → Type 0
 IsUnread task.Tree old new = new ≡ old
-IsUnread (task.Run seed workers wake turns show) old new = new ≡ old
+IsUnread (task.Run o) old new = new ≡ old
 IsUnread (task.Replay wake) old new = Unit {0}

@@ -45,17 +45,23 @@ pub enum ServeFault {
     NotEnded,
     #[error("out of memory")]
     Memory,
+    #[error("a thread could not be started")]
+    NoThread,
     #[error("input could not be read")]
     Read,
     #[error("output failed after {written} bytes")]
     Write { written: usize },
+    /// The workers stopped, and the world says nothing of why.
+    #[error("the world is not the one that was given")]
+    Strange,
+    /// Never answered: each lawful event has a rule.
     #[error("a message met a state that has no rule")]
     Unforeseen,
 }
 
 impl ServeFault {
-    /// The program's exit status: 1 where the input is refused, 3 where a run hasn't ended, 4 for want of memory, 5 where
-    /// a read or a write failed, 6 for a state that has no rule.
+    /// The program's exit status: 1 where the input is refused, 3 where a run hasn't ended, 4 for want of memory or of a
+    /// thread, 5 where a read or a write failed, 6 for workers that stop without a reason and a state that has no rule.
     pub fn status(&self) -> u8
         ensures { result ≡ status_of self.now }
     {
@@ -64,8 +70,10 @@ impl ServeFault {
             ServeFault::Stalled => 3,
             ServeFault::NotEnded => 3,
             ServeFault::Memory => 4,
+            ServeFault::NoThread => 4,
             ServeFault::Read => 5,
             ServeFault::Write { written: _ } => 5,
+            ServeFault::Strange => 6,
             ServeFault::Unforeseen => 6,
             _ => 1,
         }

@@ -1,10 +1,10 @@
 //! The words that the program takes.
 ghost use Rattle.clap.specs.Words.{app_of, rule_of};
 ghost use Rattle.clap.specs.declared.builder.command.Command.TheViews.{out-Command};
-ghost use Rattle.ghs_cli.specs.Grammar.{file_rule, option_rule, print_rule, program, replay_command, run_command, seed_rule, tree_command, turns_rule, wake_rule, workers_rule};
+ghost use Rattle.ghs_cli.specs.Grammar.{file_rule, option_rule, print_rule, program, progress_rule, replay_command, run_command, seed_rule, tree_command, turns_rule, wake_rule, workers_rule};
 ghost use Rattle.std.specs.Prelude.{◌≡◌, IfOk, false};
 
-use clap::{Arg, Command};
+use clap::{Arg, ArgAction, Command};
 use std::alloc::{AllocError, Global};
 
 /// The program's commands, with their help.
@@ -41,13 +41,16 @@ fn run<'a>(alloc: Global) -> Result<Command<'a>, AllocError>
 {
     Ok(
         Command::new(alloc, "run")
-            .about("Runs the network of a graph, event by event, by the schedule of a seed")
+            .about(
+                "Runs the network of a graph, event by event, by the schedule of a seed or by threads",
+            )
             .arg(file(alloc))?
             .arg(seed(alloc))?
             .arg(workers(alloc))?
             .arg(wake(alloc))?
             .arg(turns(alloc))?
-            .arg(print(alloc))?,
+            .arg(print(alloc))?
+            .arg(progress(alloc))?,
     )
 }
 
@@ -90,7 +93,7 @@ fn workers<'a>(alloc: Global) -> Arg<'a>
     ensures rule { rule_of result ≡ workers_rule }
 {
     option(alloc, "workers", "0").help(
-        "How many threads take part; so far 0, the run without threads",
+        "How many threads take part, 0 to 64; with 0 the seed's schedule picks the events",
     )
 }
 
@@ -110,6 +113,17 @@ fn print<'a>(alloc: Global) -> Arg<'a>
     option(alloc, "print", "report").help(
         "What is printed: report, the tree and the counts, or trace, the events",
     )
+}
+
+// Whether it is told how far the run has come.
+fn progress<'a>(alloc: Global) -> Arg<'a>
+    ensures local { result.global ≡ false }
+    ensures rule { rule_of result ≡ progress_rule }
+{
+    Arg::new(alloc, "progress")
+        .long("progress")
+        .action(ArgAction::SetTrue)
+        .help("Tells standard error how far the run has come")
 }
 
 // Which nodes wake by themselves.

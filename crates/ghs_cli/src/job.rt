@@ -1,7 +1,7 @@
 //! Command lines.
 ghost use Rattle.ghs_cli.specs.declared.job.JobFault.TheVariants.{Memory};
 ghost use Rattle.ghs_cli.specs.Grammar.{program};
-ghost use Rattle.ghs_cli.specs.Job.{command_in, has_values, is_among, is_number, kinds_of, name_in, number_at, number_in, option_kinds, value_in, with_name, IsRefused, IsSaid, IsSaidOf, IsShow, IsTask, IsWake, IsWithinLimits};
+ghost use Rattle.ghs_cli.specs.Job.{AreOptions, AreWithinLimits, command_in, has_values, is_among, is_number, kinds_of, name_in, number_at, number_in, option_kinds, value_in, with_name, IsRefused, IsSaid, IsSaidOf, IsShow, IsTask, IsWake, IsWithinLimits};
 ghost use Rattle.clap.specs.Words.{kind_of, subcommand_rows_of};
 ghost use Rattle.std.specs.Option.{option_map};
 ghost use Rattle.std.specs.Prelude.{◌≡◌, ◌≤◌, ◌↔◌, ◌∷◌, [], IfErr, IfOk, IfSome, OnErr, OnOk, Some, codes, false, map, string_bytes, true};
@@ -13,8 +13,8 @@ use ghs_sched::trace::EVENT_LIMIT;
 use ghs_world::wake_set::WakeSet;
 use std::alloc::{AllocError, Global};
 
-/// How many threads may take part in a run: none yet, so each is the run without threads.
-pub const MOST_WORKERS: u32 = 0;
+/// How many threads may take part in a run.
+pub const MOST_WORKERS: u32 = 64;
 
 /// What of a run is printed.
 #[derive(Clone, Copy, Debug, PartialEq, Eq)]
@@ -25,23 +25,32 @@ pub enum Show {
     Events,
 }
 
+/// How a network is run.
+#[derive(Clone, Copy, Debug, PartialEq, Eq)]
+pub struct RunOptions {
+    /// Whose schedule picks the events, where no threads take part.
+    pub seed: u64,
+    /// How many threads take part, 0 to 64; with 0 a schedule picks the events.
+    pub workers: u32,
+    /// Which nodes wake by themselves.
+    pub wake: WakeSet,
+    /// How many events there may be, 1 to 2^40.
+    pub turns: u64,
+    /// What is printed.
+    pub show: Show,
+    /// Whether standard error is told how far the run has come.
+    pub progress: bool,
+}
+
 /// What is to be done.
 #[derive(Clone, Copy, Debug, PartialEq, Eq)]
 pub enum Task {
     /// Print the minimum spanning forest.
     Tree,
-    /// Run a network by the schedule of a seed. There may be 1 to 2^40 events, `turns` of them.
-    Run {
-        seed: u64,
-        workers: u32,
-        wake: WakeSet,
-        turns: u64,
-        show: Show,
-    },
+    /// Run a network.
+    Run(RunOptions),
     /// Play a stored run again.
-    Replay {
-        wake: WakeSet,
-    },
+    Replay { wake: WakeSet },
 }
 
 /// What a command line asks for: the file of the graph (standard input where there is none), the file of a
@@ -180,19 +189,28 @@ fn task_of<'a>(matches: &ArgMatches<'a>) -> Task
     ensures limits { IsWithinLimits result }
 {
     if matches.subcommand_name() == Some("run") {
-        Task::Run {
-            seed: number_of(matches, "seed", 0, u64::MAX),
-            workers: number_of(matches, "workers", 0, MOST_WORKERS as u64) as u32,
-            wake: wake_of(matches),
-            turns: number_of(matches, "turns", 1, EVENT_LIMIT),
-            show: show_of(matches),
-        }
+        Task::Run(options_of(matches))
     } else if matches.subcommand_name() == Some("replay") {
         Task::Replay {
             wake: wake_of(matches),
         }
     } else {
         Task::Tree
+    }
+}
+
+/// How a network is to be run.
+fn options_of<'a>(matches: &ArgMatches<'a>) -> RunOptions
+    ensures options { AreOptions (subcommand_rows_of matches.now) result }
+    ensures limits { AreWithinLimits result }
+{
+    RunOptions {
+        seed: number_of(matches, "seed", 0, u64::MAX),
+        workers: number_of(matches, "workers", 0, MOST_WORKERS as u64) as u32,
+        wake: wake_of(matches),
+        turns: number_of(matches, "turns", 1, EVENT_LIMIT),
+        show: show_of(matches),
+        progress: is_text(value_of(matches, "progress"), "true"),
     }
 }
 

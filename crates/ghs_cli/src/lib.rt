@@ -4,4 +4,8 @@
 pub mod fault;
 mod grammar;
 pub mod job;
+mod output;
+mod progress;
+mod replaying;
+mod running;
 pub mod serve;

@@ -16,9 +16,9 @@ pub enum PoolFault {
     #[error("out of memory")]
     Memory,
     /// The workers stopped, and none of the faults before was met.
-    #[error("the workers stopped without a reason")]
+    #[error("the world is not the one that was given")]
     Strange,
     /// A thread couldn't be started.
-    #[error("could not start a thread")]
+    #[error("a thread could not be started")]
     NoThread,
 }

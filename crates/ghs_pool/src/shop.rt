@@ -30,7 +30,7 @@ impl Model for Shop {
 }
 
 /// The pair of a world: how many commits there are, at most 2^40, and whether its run has ended.
-pub(crate) fn pair_of(world: &World) -> Progress
+pub fn pair_of(world: &World) -> Progress
     ensures pair { IsPairOf world.now.net result }
     ensures few { result.commits ≤ 2 ^ 40 }
     ensures graph { IsGraph world.now.net.graph }

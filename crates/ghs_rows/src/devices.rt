@@ -1,11 +1,11 @@
 //! Devices in memory, whole and failing, and what the program does over them.
 ghost use Rattle.std.specs.Io.KnownBytes.{ReadConsumes, WriteAppends};
 ghost use Rattle.std.specs.Io.{ReadsAtMost, WritesAtMost};
-ghost use Rattle.ghs_cli.specs.Job.{IsWithinLimits};
-ghost use Rattle.std.specs.Prelude.{None, false, ◌≡◌, ◌≤◌};
+ghost use Rattle.ghs_cli.specs.Job.{AreWithinLimits, IsWithinLimits};
+ghost use Rattle.std.specs.Prelude.{None, false, ◌≡◌};
 
 use ghs_cli::fault::ServeFault;
-use ghs_cli::job::{Job, Show, Task};
+use ghs_cli::job::{Job, RunOptions, Show, Task};
 use ghs_cli::serve::serve;
 use ghs_gr::device::{Device, Sink, Source};
 use ghs_sched::trace::EVENT_LIMIT;
@@ -13,6 +13,8 @@ use ghs_world::wake_set::WakeSet;
 use std::alloc::Global;
 use std::io;
 use std::io::{Read, Write};
+use std::sync::Wait;
+use std::thread::Threads;
 
 /// A reader that gives these bytes and then fails.
 #[derive(Drop)]
@@ -55,6 +57,16 @@ impl Write for Narrow {
     }
 }
 
+/// How a network is run where no option is given.
+pub const PLAIN: RunOptions = RunOptions {
+    seed: 1,
+    workers: 0,
+    wake: WakeSet::All,
+    turns: EVENT_LIMIT,
+    show: Show::Summary,
+    progress: false,
+};
+
 /// A tree of the graph on standard input.
 pub fn tree_job() -> Job
     ensures { IsWithinLimits result.task }
@@ -67,27 +79,33 @@ pub fn tree_job() -> Job
 }
 
 /// What `ghs tree` answers and writes, of this input.
-pub fn tree_of(alloc: Global, input: &[u8]) -> (Result<(), ServeFault>, Vec<u8>) {
+pub fn tree_of<R: Threads + Wait + Eprint + Sync>(
+    rt: &R,
+    alloc: Global,
+    input: &[u8],
+) -> (Result<(), ServeFault>, Vec<u8>) {
     let mut graph = Device::of(input);
     let mut trace = Device::of(b"".as_slice());
     let mut written = Vec::new(alloc);
     let mut out = Device::of(&mut written);
-    let result = serve(alloc, &tree_job(), &mut graph, &mut trace, &mut out);
+    let result = serve(rt, alloc, &tree_job(), &mut graph, &mut trace, &mut out);
     (result, written)
 }
 
 /// What `ghs replay` answers and writes, of this stored run and this graph.
-pub fn replay_of(
+pub fn replay_of<R: Threads + Wait + Eprint + Sync>(
+    rt: &R,
     alloc: Global,
     wake: WakeSet,
     stored: &[u8],
     input: &[u8],
 ) -> (Result<(), ServeFault>, Vec<u8>) {
-    replay_from(alloc, wake, &mut Device::of(stored), input)
+    replay_from(rt, alloc, wake, &mut Device::of(stored), input)
 }
 
 /// The same of a run that a device gives.
-pub fn replay_from<T: Source>(
+pub fn replay_from<T: Source, R: Threads + Wait + Eprint + Sync>(
+    rt: &R,
     alloc: Global,
     wake: WakeSet,
     trace: &mut T,
@@ -103,54 +121,42 @@ pub fn replay_from<T: Source>(
     let mut graph = Device::of(input);
     let mut written = Vec::new(alloc);
     let mut out = Device::of(&mut written);
-    let result = serve(alloc, &job, &mut graph, trace, &mut out);
+    let result = serve(rt, alloc, &job, &mut graph, trace, &mut out);
     (result, written)
 }
 
 /// What `ghs run` answers and writes, of this graph.
-pub fn run_of(
+pub fn run_of<R: Threads + Wait + Eprint + Sync>(
+    rt: &R,
     alloc: Global,
-    seed: u64,
-    wake: WakeSet,
-    turns: u64,
-    show: Show,
+    options: RunOptions,
     input: &[u8],
 ) -> (Result<(), ServeFault>, Vec<u8>)
-    requires some { 1 ≤ turns }
-    requires few { turns ≤ EVENT_LIMIT }
+    requires { AreWithinLimits options }
 {
     let mut written = Vec::new(alloc);
     let mut out = Device::of(&mut written);
-    let result = run_into(alloc, seed, wake, turns, show, input, &mut out);
+    let result = run_into(rt, alloc, options, input, &mut out);
     (result, written)
 }
 
 /// The same to a device.
-pub fn run_into<W: Sink>(
+pub fn run_into<W: Sink, R: Threads + Wait + Eprint + Sync>(
+    rt: &R,
     alloc: Global,
-    seed: u64,
-    wake: WakeSet,
-    turns: u64,
-    show: Show,
+    options: RunOptions,
     input: &[u8],
     out: &mut W,
 ) -> Result<(), ServeFault>
-    requires some { 1 ≤ turns }
-    requires few { turns ≤ EVENT_LIMIT }
+    requires limits { AreWithinLimits options }
     requires out { W.has_failed out.old ≡ false }
 {
     let job = Job {
         graph: None,
         trace: None,
-        task: Task::Run {
-            seed,
-            workers: 0,
-            wake,
-            turns,
-            show,
-        },
+        task: Task::Run(options),
     };
     let mut graph = Device::of(input);
     let mut trace = Device::of(b"".as_slice());
-    serve(alloc, &job, &mut graph, &mut trace, out)
+    serve(rt, alloc, &job, &mut graph, &mut trace, out)
 }

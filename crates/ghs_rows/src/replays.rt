@@ -43,7 +43,13 @@ fn stored_runs(rt: HostRuntime) {
         ),
     ];
     for (wake, stored, graph, text) in rows {
-        let (result, written) = replay_of(rt.alloc(), wake, stored.as_bytes(), graph.as_bytes());
+        let (result, written) = replay_of(
+            &rt,
+            rt.alloc(),
+            wake,
+            stored.as_bytes(),
+            graph.as_bytes(),
+        );
         assert_eq!(rt; result, Ok(()), "of {stored:?}");
         assert_eq!(rt; written.as_slice(), text.as_bytes(), "of {stored:?}");
     }
@@ -120,7 +126,13 @@ fn refused_runs(rt: HostRuntime) {
         ),
     ];
     for (wake, stored, graph, fault, status) in rows {
-        let (result, written) = replay_of(rt.alloc(), wake, stored.as_bytes(), graph.as_bytes());
+        let (result, written) = replay_of(
+            &rt,
+            rt.alloc(),
+            wake,
+            stored.as_bytes(),
+            graph.as_bytes(),
+        );
         assert_eq!(rt; result, Err(fault), "of {stored:?}");
         assert_eq!(rt; fault.status(), status, "of {stored:?}");
         assert!(rt; written.is_empty(), "of {stored:?}");
@@ -134,7 +146,7 @@ fn a_trace_that_fails(rt: HostRuntime) {
         let mut trace = Device::of(Broken {
             bytes: bytes.as_bytes(),
         });
-        let (result, written) = replay_from(rt.alloc(), WakeSet::All, &mut trace, b"p max 1");
+        let (result, written) = replay_from(&rt, rt.alloc(), WakeSet::All, &mut trace, b"p max 1");
         assert_eq!(rt; result, Err(ServeFault::Read), "after {bytes:?}");
         assert!(rt; written.is_empty(), "after {bytes:?}");
     }

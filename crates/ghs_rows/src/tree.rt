@@ -42,7 +42,7 @@ fn trees(rt: HostRuntime) -> Result<(), Fail> {
         ("p sp 5 2\na 1 2 5\na 3 4 6", "t 1 2 5\nt 3 4 6\nw 11\n"),
     ];
     for (input, output) in rows {
-        let (result, written) = tree_of(rt.alloc(), input.as_bytes());
+        let (result, written) = tree_of(&rt, rt.alloc(), input.as_bytes());
         assert_eq!(rt; result, Ok(()), "of {input:?}");
         assert_eq!(rt; written.as_slice(), output.as_bytes(), "of {input:?}");
     }
@@ -69,7 +69,7 @@ fn parallel_arcs(rt: HostRuntime) -> Result<(), Fail> {
     for (input, links, output) in rows {
         let graph = judge(rt.alloc(), input.as_bytes())?;
         assert_eq!(rt; graph.keys().len(), links, "of {input:?}");
-        let (result, written) = tree_of(rt.alloc(), input.as_bytes());
+        let (result, written) = tree_of(&rt, rt.alloc(), input.as_bytes());
         assert_eq!(rt; result, Ok(()), "of {input:?}");
         assert_eq!(rt; written.as_slice(), output.as_bytes(), "of {input:?}");
     }
@@ -105,7 +105,7 @@ fn faults(rt: HostRuntime) -> Result<(), Fail> {
         ("p sp 2 8388609", ServeFault::Number(1)),
     ];
     for (input, fault) in rows {
-        let (result, written) = tree_of(rt.alloc(), input.as_bytes());
+        let (result, written) = tree_of(&rt, rt.alloc(), input.as_bytes());
         assert_eq!(rt; result, Err(fault), "of {input:?}");
         assert_eq!(rt; fault.status(), 1, "of {input:?}");
         assert!(rt; written.is_empty(), "of {input:?}");
@@ -128,10 +128,10 @@ fn prefixes(rt: HostRuntime) -> Result<(), Fail> {
     let text = TRIANGLE.as_bytes();
     assert_eq!(rt; text.len(), 33);
     for (length, fault) in rows {
-        let (result, _) = tree_of(rt.alloc(), text.get(..length).unwrap_or(text));
+        let (result, _) = tree_of(&rt, rt.alloc(), text.get(..length).unwrap_or(text));
         assert_eq!(rt; result, Err(fault), "of {length} bytes");
     }
-    let (result, written) = tree_of(rt.alloc(), text.get(..32).unwrap_or(text));
+    let (result, written) = tree_of(&rt, rt.alloc(), text.get(..32).unwrap_or(text));
     assert_eq!(rt; result, Ok(()));
     assert_eq!(rt; written.as_slice(), b"t 1 2 1\nt 2 3 2\nw 3\n".as_slice());
     Ok(())
@@ -145,7 +145,14 @@ fn a_reader_that_fails(rt: HostRuntime) {
     let mut trace = Device::of(b"".as_slice());
     let mut written = Vec::new(rt.alloc());
     let mut out = Device::of(&mut written);
-    let result = serve(rt.alloc(), &tree_job(), &mut graph, &mut trace, &mut out);
+    let result = serve(
+        &rt,
+        rt.alloc(),
+        &tree_job(),
+        &mut graph,
+        &mut trace,
+        &mut out,
+    );
     assert_eq!(rt; result, Err(ServeFault::Read));
     assert_eq!(rt; ServeFault::Read.status(), 5);
     assert!(rt; written.is_empty());
@@ -160,7 +167,14 @@ fn a_writer_that_fails(rt: HostRuntime) {
         room: 4,
     };
     let mut out = Device::of(&mut narrow);
-    let result = serve(rt.alloc(), &tree_job(), &mut graph, &mut trace, &mut out);
+    let result = serve(
+        &rt,
+        rt.alloc(),
+        &tree_job(),
+        &mut graph,
+        &mut trace,
+        &mut out,
+    );
     let fault = ServeFault::Write { written: 4 };
     assert_eq!(rt; result, Err(fault));
     assert_eq!(rt; fault.status(), 5);

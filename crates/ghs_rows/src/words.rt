@@ -21,6 +21,7 @@ fn jobs(rt: HostRuntime) -> Result<(), Fail> {
         ("tree -", Some("-")),
         ("run", None),
         ("run --seed 007 map.gr --turns 3", Some("map.gr")),
+        ("run --workers 64 --progress map.gr", Some("map.gr")),
     ] {
         match job_of(rt.alloc(), line)? {
             Ok(job) => {
@@ -42,7 +43,8 @@ fn refusals(rt: HostRuntime) -> Result<(), Fail> {
     for line in [
         "",
         "run --workers 65",
-        "run --workers 1",
+        "run --workers +2",
+        "run --progress=true",
         "run --turns 0",
         "run --turns 1099511627777",
         "run --seed +5",
@@ -105,11 +107,17 @@ fn texts_of_other_faults(rt: HostRuntime) -> Result<(), Fail> {
             3,
         ),
         (ServeFault::Memory, "out of memory", 4),
+        (ServeFault::NoThread, "a thread could not be started", 4),
         (ServeFault::Read, "input could not be read", 5),
         (
             ServeFault::Write { written: 4 },
             "output failed after 4 bytes",
             5,
+        ),
+        (
+            ServeFault::Strange,
+            "the world is not the one that was given",
+            6,
         ),
     ];
     for (fault, text, status) in rows {

@@ -5,7 +5,7 @@ use Rattle.ghs_report.specs.NetText.{IsNetText}
 use Rattle.ghs_world.specs.WorldState.{WorldState}
 use Rattle.ghs_cli.specs.Serving.{GoesOn, IsReplayed, IsRunCause, shape_of}
 use Rattle.ghs_cli.proofs.Serves.{goes_on, if_err, if_ok, is_replayed, same_shape}
-use Rattle.ghs_cli.proofs.serve.replayed.Goals as goal
+use Rattle.ghs_cli.proofs.replaying.replayed.Goals as goal
 
 pub returns-in-Ok-replay-clause-text : goal.returns-in-Ok-replay-clause-text
 returns-in-Ok-replay-clause-text c =

@@ -3,7 +3,7 @@ use Rattle.std.specs.Prelude.{IfErr}
 use Rattle.ghs_protocol.specs.declared.event.Event.{Event}
 use Rattle.ghs_cli.specs.Serving.{IsRunCause}
 use Rattle.ghs_cli.proofs.Serves.{faults_together}
-use Rattle.ghs_cli.proofs.serve.replay_text_of.Goals as goal
+use Rattle.ghs_cli.proofs.replaying.replay_text_of.Goals as goal
 
 pub returns-clause-fault : goal.returns-clause-fault
 returns-clause-fault g c =
