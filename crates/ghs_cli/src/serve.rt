@@ -22,8 +22,8 @@ use std::thread::Threads;
 /// its first byte goes out. Of several faults the first in the order of work counts: reading the trace, judging it,
 /// reading the graph, judging it, the run or the replay, the writing; want of memory comes where it is met. Only a replay
 /// touches the trace. Threads run a network where the job names workers, and where it asks for progress lines on standard
-/// error tell of it; one that can't be written is passed over. Where the events of a run are asked for, they go out before the answer that its turns are used, and
-/// a write that fails then is answered in its place.
+/// error tell of it; one that can't be written is passed over. Where the events of a run are asked for, they go out before
+/// the answer that its turns are used, and a write that fails then is answered in its place.
 pub fn serve<R: Source, T: Source, W: Sink, H: Threads + Wait + Eprint + Sync>(
     rt: &H,
     alloc: Global,
