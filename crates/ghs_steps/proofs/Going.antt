@@ -10,7 +10,8 @@ use Rattle.ghs_core.specs.NetState.{NetState, IsLawful}
 use Rattle.ghs_steps.specs.declared.choice.Choice.{Choice}
 use Rattle.ghs_steps.specs.declared.write.WriteFault.{WriteFault}
 use Rattle.ghs_steps.specs.Step.{chosen, steps_behind}
-use Rattle.ghs_steps.specs.StepLine.{shown, step_line, steps_text}
+use Rattle.ghs_steps.specs.declared.form.Form.{Form}
+use Rattle.ghs_steps.specs.Lines.{line_in, lines, shown}
 use Rattle.ghs_steps.specs.Written.{IsFront, IsOut}
 use Rattle.ghs_steps.proofs.Gone.{front_longer, out_more}
 use Rattle.ghs_steps.proofs.Stepping.{lawful_here, text_front, text_more}
@@ -25,18 +26,18 @@ pub trace_more : (s new : NetState) (es : List Event) (i : ℕ) (d : Event) → 
     new.trace ≡ take (i + 1) es
 trace_more s new es i d trace lt more = more ∙ (ap (λ (fs : List Event). fs ++ get_or es i d ∷ []) trace ∙ sym (take_more es i d lt))
 
-pub out_shown : (old now : Option (List ℕ)) (g : Shape) (c : Choice) (es : List Event) (i gone : ℕ) (d : Event) (s : NetState) (rest rest' : List ℕ) →
-    s.graph ≡ g → s.trace ≡ take i es → i < length es → IsOut old now (steps_text g (take i es) c) gone rest →
-    rest' ≡ rest ++ shown s.graph s.trace (get_or es i d) c →
-    IsOut old now (steps_text g (take (i + 1) es) c) gone rest'
-out_shown old now g c es i gone d s rest rest' graph trace lt out more =
-    rw (text_more g c es i d lt, more, graph, trace)
-    (out_more old now (steps_text g (take i es) c) rest (shown g (take i es) (get_or es i d) c) gone out)
+pub out_shown : (old now : Option (List ℕ)) (form : Form) (g : Shape) (c : Choice) (es : List Event) (i gone : ℕ) (d : Event) (s : NetState) (rest rest' : List ℕ) →
+    s.graph ≡ g → s.trace ≡ take i es → i < length es → IsOut old now (lines form g (take i es) c) gone rest →
+    rest' ≡ rest ++ shown form s.graph s.trace (get_or es i d) c →
+    IsOut old now (lines form g (take (i + 1) es) c) gone rest'
+out_shown old now form g c es i gone d s rest rest' graph trace lt out more =
+    rw (text_more form g c es i d lt, more, graph, trace)
+    (out_more old now (lines form g (take i es) c) rest (shown form g (take i es) (get_or es i d) c) gone out)
 
-pub front_of_all : (old now : Option (List ℕ)) (g : Shape) (c : Choice) (es : List Event) (i : ℕ) (f : WriteFault) →
-    IsFront old now (steps_text g (take i es) c) f →
-    IsFront old now (steps_text g es c) f
-front_of_all old now g c es i f front =
-    rw (text_front g c es i)
-    (front_longer old now (steps_text g (take i es) c)
-    (flat_map step_line (chosen c (steps_behind g (take i es) (drop i es)))) f front)
+pub front_of_all : (old now : Option (List ℕ)) (form : Form) (g : Shape) (c : Choice) (es : List Event) (i : ℕ) (f : WriteFault) →
+    IsFront old now (lines form g (take i es) c) f →
+    IsFront old now (lines form g es c) f
+front_of_all old now form g c es i f front =
+    rw (text_front form g c es i)
+    (front_longer old now (lines form g (take i es) c)
+    (flat_map (line_in form) (chosen c (steps_behind g (take i es) (drop i es)))) f front)

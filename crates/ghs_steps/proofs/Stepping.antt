@@ -29,7 +29,8 @@ use Rattle.ghs_steps.specs.Changes.{changes}
 use Rattle.ghs_steps.specs.Choice.{is_chosen}
 use Rattle.ghs_steps.specs.Step.{chosen, step, steps, steps_behind}
 use Rattle.ghs_steps.specs.Told.{Told, event_far, sent_by}
-use Rattle.ghs_steps.specs.StepLine.{line_of, shown, step_line, steps_text}
+use Rattle.ghs_steps.specs.declared.form.Form.{Form}
+use Rattle.ghs_steps.specs.Lines.{line_in, lines, shown}
 
 steps_append : (g : Shape) (done es fs : List Event) → steps_behind g done (es ++ fs) ≡ steps_behind g done es ++ steps_behind g (done ++ es) fs
 steps_append g done [] fs = ap (λ (d : List Event). steps_behind g d fs) (sym (append-nil done))
@@ -38,23 +39,23 @@ steps_append g done (e ∷ es) fs =
     (steps_append g (done ++ e ∷ []) es fs
     ∙ ap (λ (d : List Event). steps_behind g (done ++ e ∷ []) es ++ steps_behind g d fs) (append_assoc done (e ∷ []) es))
 
-text_append : (g : Shape) (c : Choice) (es fs : List Event) →
-    steps_text g (es ++ fs) c ≡ steps_text g es c ++ flat_map step_line (chosen c (steps_behind g es fs))
-text_append g c es fs =
+text_append : (f : Form) (g : Shape) (c : Choice) (es fs : List Event) →
+    lines f g (es ++ fs) c ≡ lines f g es c ++ flat_map (line_in f) (chosen c (steps_behind g es fs))
+text_append f g c es fs =
     let p = λ (t : Told). is_chosen c t.moment.number (event_node t.moment.event) in
-    ap (λ ss. flat_map step_line (filter p ss)) (steps_append g [] es fs)
-    ∙ (ap (flat_map step_line) (filter-append p (steps g es) (steps_behind g es fs))
-    ∙ flat_map-append step_line (filter p (steps g es)) (filter p (steps_behind g es fs)))
+    ap (λ ss. flat_map (line_in f) (filter p ss)) (steps_append g [] es fs)
+    ∙ (ap (flat_map (line_in f)) (filter-append p (steps g es) (steps_behind g es fs))
+    ∙ flat_map-append (line_in f) (filter p (steps g es)) (filter p (steps_behind g es fs)))
 
 -- one event more
-pub text_more : (g : Shape) (c : Choice) (es : List Event) (i : ℕ) (d : Event) → i < length es →
-    steps_text g (take (i + 1) es) c ≡ steps_text g (take i es) c ++ shown g (take i es) (get_or es i d) c
-text_more g c es i d lt = ap (λ (fs : List Event). steps_text g fs c) (take_more es i d lt) ∙ text_append g c (take i es) (get_or es i d ∷ [])
+pub text_more : (f : Form) (g : Shape) (c : Choice) (es : List Event) (i : ℕ) (d : Event) → i < length es →
+    lines f g (take (i + 1) es) c ≡ lines f g (take i es) c ++ shown f g (take i es) (get_or es i d) c
+text_more f g c es i d lt = ap (λ (fs : List Event). lines f g fs c) (take_more es i d lt) ∙ text_append f g c (take i es) (get_or es i d ∷ [])
 
 -- the text of the first events is a front of the text
-pub text_front : (g : Shape) (c : Choice) (es : List Event) (i : ℕ) →
-    steps_text g es c ≡ steps_text g (take i es) c ++ flat_map step_line (chosen c (steps_behind g (take i es) (drop i es)))
-text_front g c es i = ap (λ (fs : List Event). steps_text g fs c) (sym (take-append-drop i es)) ∙ text_append g c (take i es) (drop i es)
+pub text_front : (f : Form) (g : Shape) (c : Choice) (es : List Event) (i : ℕ) →
+    lines f g es c ≡ lines f g (take i es) c ++ flat_map (line_in f) (chosen c (steps_behind g (take i es) (drop i es)))
+text_front f g c es i = ap (λ (fs : List Event). lines f g fs c) (sym (take-append-drop i es)) ∙ text_append f g c (take i es) (drop i es)
 
 -- each event of a run is lawful where it stands
 pub lawful_here : (g : Shape) (es : List Event) (i : ℕ) (d : Event) → IsRun (network_of g) es → i < length es →
@@ -76,12 +77,15 @@ node_there s (Wake v) h = node_of (network s) v (and_parts _ _ h).0
 node_there s (Take v p) h = let at = at_of (network s) v p (and_parts _ _ h).0 in (at.some, at.node)
 
 -- the line of a step, from what is at hand
-pub put_is : (g : Shape) (done : List Event) (e : Event) (d : Delta) (new : NetState) (n : NodeState) (number total : ℕ) (far : Option ℕ) (k : Work) (r : RowName)
-    (cs : List Change) (ss : List Sent) → n ≡ (net_after g done).node (event_node e) →
+pub put_is : (f : Form) (g : Shape) (done : List Event) (e : Event) (d : Delta) (new : NetState) (n : NodeState) (number total : ℕ) (far : Option ℕ) (k : Work)
+    (r : RowName) (cs : List Change) (ss : List Sent) → n ≡ (net_after g done).node (event_node e) →
     reaction ((net_after g done).node (event_node e)) (work_at (net_after g done) e) ≡ Some d → new.graph ≡ g → new.trace ≡ done ++ e ∷ [] →
     number ≡ length done + 1 → total ≡ in_all (net_of new).sent → far ≡ event_far g e → k ≡ work_at (net_after g done) e →
     r ≡ row_name n (work_at (net_after g done) e) → cs ≡ changes n d → ss ≡ map (sent_by g (event_node e)) d.sends →
-    line_of (record { number = number; event = e; far = far; work = k; row = r; fate = d.fate; total = total }) cs ss ≡ step_line (step g done e)
-unfolding step_line
-put_is g done e d new n number total far k r cs ss is_n h same_g trace is_number is_total is_far is_k is_r is_cs is_ss =
+    line_in f (record {
+      moment = record { number = number; event = e; far = far; work = k; row = r; fate = d.fate; total = total };
+      changes = cs;
+      sends = ss;
+    }) ≡ line_in f (step g done e)
+put_is f g done e d new n number total far k r cs ss is_n h same_g trace is_number is_total is_far is_k is_r is_cs is_ss =
     rw (is_ss, is_r, is_cs, is_number, is_total, is_far, is_k, is_n, trace, same_g, h) refl

@@ -5,5 +5,7 @@ pub mod Told
 pub mod Step
 pub mod Deltas
 pub mod StepLine
+pub mod Json
+pub mod Lines
 pub mod Written
 pub mod Shown

@@ -2,7 +2,6 @@
 use Rattle.std.specs.Prelude.{ℕ, Option, Some, None, List, [], ◌∷◌, ◌++◌, codes, decimal}
 use Rattle.std.specs.List.{flat_map}
 use Rattle.ghs_graph.specs.declared.key.Key.{Key}
-use Rattle.ghs_graph.specs.Graph.{Shape}
 use Rattle.ghs_node.specs.declared.message.Message.{Message}
 use Rattle.ghs_node.specs.declared.message.Message.TheVariants.{Connect, Initiate, Test, Accept, Reject, Report, ChangeRoot}
 use Rattle.ghs_node.specs.declared.delta.Fate.{Fate}
@@ -15,10 +14,8 @@ use Rattle.ghs_protocol.specs.declared.event.Event.{Event}
 use Rattle.ghs_protocol.specs.Net.{event_node}
 use Rattle.ghs_steps.specs.declared.change.Change.{Change}
 use Rattle.ghs_steps.specs.declared.change.Change.TheVariants as change
-use Rattle.ghs_steps.specs.declared.choice.Choice.{Choice}
 use Rattle.ghs_steps.specs.declared.moment.Moment.{Moment}
 use Rattle.ghs_steps.specs.declared.sent.Sent.{Sent}
-use Rattle.ghs_steps.specs.Step.{step, steps, chosen}
 use Rattle.ghs_steps.specs.Told.{Told, event_port}
 use Rattle.ghs_steps.specs.Words.{key_text, phase_word, mark_word, row_word}
 
@@ -116,11 +113,3 @@ line_of m cs ss =
 
 unfoldable pub step_line : Told → List ℕ
 step_line t = line_of t.moment t.changes t.sends
-
--- the lines of the steps of a trace that are chosen
-abbrev pub steps_text : Shape → List Event → Choice → List ℕ
-steps_text g es c = flat_map step_line (chosen c (steps g es))
-
--- the line of one event after others, if it is chosen
-abbrev pub shown : Shape → List Event → Event → Choice → List ℕ
-shown g done e c = flat_map step_line (chosen c (step g done e ∷ []))

@@ -3,6 +3,8 @@
 
 pub mod change;
 pub mod choice;
+pub mod form;
+pub mod json;
 pub mod laws;
 pub mod line;
 pub mod moment;

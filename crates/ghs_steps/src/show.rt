@@ -6,9 +6,10 @@ ghost use Rattle.ghs_protocol.specs.Run.{IsRunUnder};
 ghost use Rattle.ghs_sched.specs.declared.trace.TheConstants.{EVENT_LIMIT};
 ghost use Rattle.ghs_world.specs.Wakes.{may_wake};
 ghost use Rattle.ghs_steps.specs.Shown.{CantShow};
-ghost use Rattle.ghs_steps.specs.StepLine.{steps_text};
+ghost use Rattle.ghs_steps.specs.Lines.{lines};
 
 use crate::choice::Choice;
+use crate::form::Form;
 use crate::write::{WriteFault, write_run};
 use ghs_core::event::Event;
 use ghs_gr::device::Sink;
@@ -31,8 +32,38 @@ pub enum StepsFault {
     Write { written: u128 },
 }
 
-/// Writes a line for each chosen event of a stored run, in order. The run is played twice: whether each event is lawful
-/// is judged before the first byte goes out. A run that hasn't ended is shown too.
+/// Writes a line for each chosen event of a stored run, in order, in the form that is asked for. The run is played twice:
+/// whether each event is lawful is judged before the first byte goes out. A run that hasn't ended is shown too.
+pub fn write_steps_in<W: Sink>(
+    alloc: Global,
+    graph: Graph,
+    wake: WakeSet,
+    events: &[Event],
+    choice: &Choice,
+    form: Form,
+    writer: &mut W,
+) -> Result<(), StepsFault>
+    requires few { length events.now ≤ EVENT_LIMIT }
+    requires sound { W.has_failed writer.old ≡ false }
+    ensures run { OnOk result (IsRunUnder (may_wake graph wake) (network_of graph) events.now) }
+    ensures ok { OnOk result (Appends (W.held writer.old) (W.held writer.new) (lines form graph events.now choice.now)) }
+    ensures err { IfErr result (λ fault. CantShow graph wake events.now (lines form graph events.now choice.now) (W.held writer.old) (W.held writer.new) fault) }
+{
+    let world = match replay(alloc, graph, wake, events) {
+        Ok(world) => world,
+        Err((_, ReplayFault::NotLawful(event))) => return Err(StepsFault::NotLawful(event)),
+        Err((_, _)) => return Err(StepsFault::Memory),
+    };
+    // Read for its clause: the events are a run.
+    let _ = world.trace();
+    match write_run(alloc, world.into_graph(), events, choice, form, writer) {
+        Ok(()) => Ok(()),
+        Err(WriteFault::Memory) => Err(StepsFault::Memory),
+        Err(WriteFault::Write { written }) => Err(StepsFault::Write { written }),
+    }
+}
+
+/// Writes the lines of a stored run as text.
 pub fn write_steps<W: Sink>(
     alloc: Global,
     graph: Graph,
@@ -44,19 +75,8 @@ pub fn write_steps<W: Sink>(
     requires few { length events.now ≤ EVENT_LIMIT }
     requires sound { W.has_failed writer.old ≡ false }
     ensures run { OnOk result (IsRunUnder (may_wake graph wake) (network_of graph) events.now) }
-    ensures ok { OnOk result (Appends (W.held writer.old) (W.held writer.new) (steps_text graph events.now choice.now)) }
-    ensures err { IfErr result (λ fault. CantShow graph wake events.now (steps_text graph events.now choice.now) (W.held writer.old) (W.held writer.new) fault) }
+    ensures ok { OnOk result (Appends (W.held writer.old) (W.held writer.new) (lines Form.Text graph events.now choice.now)) }
+    ensures err { IfErr result (λ fault. CantShow graph wake events.now (lines Form.Text graph events.now choice.now) (W.held writer.old) (W.held writer.new) fault) }
 {
-    let world = match replay(alloc, graph, wake, events) {
-        Ok(world) => world,
-        Err((_, ReplayFault::NotLawful(event))) => return Err(StepsFault::NotLawful(event)),
-        Err((_, _)) => return Err(StepsFault::Memory),
-    };
-    // Read for its clause: the events are a run.
-    let _ = world.trace();
-    match write_run(alloc, world.into_graph(), events, choice, writer) {
-        Ok(()) => Ok(()),
-        Err(WriteFault::Memory) => Err(StepsFault::Memory),
-        Err(WriteFault::Write { written }) => Err(StepsFault::Write { written }),
-    }
+    write_steps_in(alloc, graph, wake, events, choice, Form::Text, writer)
 }

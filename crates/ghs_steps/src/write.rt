@@ -9,14 +9,16 @@ ghost use Rattle.ghs_core.specs.NetState.{net_of, work_at, IsAnswer, IsLawful};
 ghost use Rattle.ghs_node.specs.Reaction.{IsReaction};
 ghost use Rattle.ghs_node.specs.Rows.{Row};
 ghost use Rattle.ghs_steps.specs.Step.{step};
-ghost use Rattle.ghs_steps.specs.StepLine.{shown, step_line, steps_text};
+ghost use Rattle.ghs_steps.specs.Lines.{line_in, lines, shown};
 ghost use Rattle.ghs_steps.specs.Written.{IsFront, IsOut};
 
-use crate::change::changes;
+use crate::change::{Change, changes};
 use crate::choice::Choice;
+use crate::form::Form;
+use crate::json::step_json;
 use crate::line::step_line;
 use crate::moment::{Moment, node_of, port_of};
-use crate::sent::{far_end, sent_by};
+use crate::sent::{Sent, far_end, sent_by};
 use ghs_core::event::Event;
 use ghs_core::net::Net;
 use ghs_gr::device::Sink;
@@ -50,20 +52,21 @@ impl From<AllocError> for WriteFault {
     }
 }
 
-/// Writes a line for each chosen event of a run, in order. The lines go out by portions, so the memory that it takes
-/// doesn't grow with the text. At a fault what is out is a front of the text.
+/// Writes a line for each chosen event of a run, in order, in the form that is asked for. The lines go out by portions,
+/// so the memory that it takes doesn't grow with the text. At a fault what is out is a front of the text.
 pub fn write_run<W: Sink>(
     alloc: Global,
     graph: Graph,
     events: &[Event],
     choice: &Choice,
+    form: Form,
     writer: &mut W,
 ) -> Result<(), WriteFault>
     requires run { IsRun (network_of graph) events.now }
     requires few { length events.now ≤ 2 ^ 40 }
     requires sound { W.has_failed writer.old ≡ false }
-    ensures ok { OnOk result (Appends (W.held writer.old) (W.held writer.new) (steps_text graph events.now choice.now)) }
-    ensures err { IfErr result (λ fault. IsFront (W.held writer.old) (W.held writer.new) (steps_text graph events.now choice.now) fault) }
+    ensures ok { OnOk result (Appends (W.held writer.old) (W.held writer.new) (lines form graph events.now choice.now)) }
+    ensures err { IfErr result (λ fault. IsFront (W.held writer.old) (W.held writer.new) (lines form graph events.now choice.now) fault) }
 {
     let mut net = match Net::open(alloc, graph) {
         Ok(net) => net,
@@ -72,7 +75,7 @@ pub fn write_run<W: Sink>(
     let mut text = Vec::new(alloc);
     let mut gone = 0;
     for event in events {
-        match show(alloc, &mut net, *event, choice, &mut text) {
+        match show(alloc, &mut net, *event, choice, form, &mut text) {
             Ok(()) => {}
             Err(_) => return Err(WriteFault::Memory),
         }
@@ -93,17 +96,18 @@ fn show(
     net: &mut Net,
     event: Event,
     choice: &Choice,
+    form: Form,
     text: &mut Vec<u8>,
 ) -> Result<(), AllocError>
     requires lawful { IsLawful net.old event }
     requires few { length net.old.trace < 2 ^ 40 }
     ensures graph { OnOk result (net.new.graph ≡ net.old.graph) }
     ensures trace { OnOk result (net.new.trace ≡ net.old.trace ++ event ∷ []) }
-    ensures text { OnOk result (text.new.items ≡ text.old.items ++ shown net.old.graph net.old.trace event choice.now) }
+    ensures text { OnOk result (text.new.items ≡ text.old.items ++ shown form net.old.graph net.old.trace event choice.now) }
 {
     let delta = answer(alloc, net, event)?;
     if choice.has(net.events() + 1, node_of(event)) {
-        put_step(alloc, net, event, &delta, text)?;
+        put_step(alloc, net, event, &delta, form, text)?;
     } else {
         play(net, event, &delta)?;
     }
@@ -130,6 +134,7 @@ fn put_step(
     net: &mut Net,
     event: Event,
     delta: &Delta,
+    form: Form,
     text: &mut Vec<u8>,
 ) -> Result<(), AllocError>
     requires lawful { IsLawful net.old event }
@@ -139,7 +144,7 @@ fn put_step(
     requires applicable { IsReaction ((net_of net.old).node (event_node event)) delta.now }
     ensures graph { OnOk result (net.new.graph ≡ net.old.graph) }
     ensures trace { OnOk result (net.new.trace ≡ net.old.trace ++ event ∷ []) }
-    ensures text { OnOk result (text.new.items ≡ text.old.items ++ step_line (step net.old.graph net.old.trace event)) }
+    ensures text { OnOk result (text.new.items ≡ text.old.items ++ line_in form (step net.old.graph net.old.trace event)) }
 {
     let number = net.events() + 1;
     let row = row_of(net.node(node_of(event)), net.work(event));
@@ -157,8 +162,25 @@ fn put_step(
         fate: delta.fate,
         total: total(net),
     };
-    step_line(text, &moment, &changes, &sends)?;
+    put_line(text, form, &moment, &changes, &sends)?;
     Ok(())
+}
+
+// The line of a step, in the form that is asked for.
+#[tactic(auto, unfolding(crate::specs::StepLine::step_line, crate::specs::Json::step_json))]
+fn put_line(
+    text: &mut Vec<u8>,
+    form: Form,
+    moment: &Moment,
+    changes: &[Change],
+    sends: &[Sent],
+) -> Result<(), AllocError>
+    ensures { IfOk result (λ _. text.new.items ≡ text.old.items ++ line_in form (record { moment = moment.now; changes = changes.now; sends = sends.now })) }
+{
+    match form {
+        Form::Text => step_line(text, moment, changes, sends),
+        Form::Json => step_json(text, moment, changes, sends),
+    }
 }
 
 // The event happens.

@@ -13,8 +13,8 @@ returns-clause-text c =
     let list = rw node_again at (c.deref.ensures.value ∙ c.in_ok-changes.ensures) in
     let sends = rw (c.graph.ensures, c.node_of-3.ensures, c.as_slice.ensures) at (c.deref-2.ensures.value ∙ c.in_ok-sends.ensures) in
     let far = rw c.graph-2.ensures at c.far_end-far.ensures in
-    c.in_ok-step_line.ensures
+    c.in_ok-put_line.ensures
     ∙ ap (λ t. c.args.text.now.items ++ t)
-    (put_is s.graph s.trace c.args.event c.args.delta.now c.play.new.net ((net_of s).node (event_node c.args.event)) _ _ _ _ _ _ _
+    (put_is c.args.form s.graph s.trace c.args.event c.args.delta.now c.play.new.net ((net_of s).node (event_node c.args.event)) _ _ _ _ _ _ _
     refl c.requires.answer c.in_ok-play.ensures.graph c.in_ok-play.ensures.trace (ap (λ n. n + 1) c.events-number.ensures) c.total.ensures
     far c.work-work.ensures.work row list sends)
