@@ -8,6 +8,7 @@ pub mod Totals
 pub mod Halting
 pub mod Events
 pub mod Playing
+pub mod PuttingBack
 pub mod Reading
 pub mod Finding
 pub mod Sides

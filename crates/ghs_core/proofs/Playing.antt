@@ -1,5 +1,6 @@
 -- What a net keeps when an event is played.
-use Rattle.std.proofs.Common.{◌≡◌, ◌≢◌, ℕ, ◌+◌, ◌-◌, ◌<◌, ◌≤◌, ◌^◌, true, Bool, List, [], ◌∷◌, ◌++◌, length, get_or, set, Some, subst, sym, ◌∙◌, ap, arith, length-append}
+use Rattle.std.proofs.Common.{◌≡◌, ◌≢◌, ℕ, ◌+◌, ◌-◌, ◌<◌, ◌≤◌, ◌^◌, true, Bool, List, [], ◌∷◌, ◌++◌, length, get_or, set, Some, subst, sym, ◌∙◌, ap, ⊎_elim, arith, length-append}
+use Rattle.std.proofs.lemmas.Bool.{cases_eq}
 use Rattle.std.proofs.lemmas.List.{get_or_default}
 use Rattle.ghs_graph.specs.Graph.{Shape}
 use Rattle.ghs_node.specs.declared.delta.Delta.{Delta}
@@ -137,6 +138,12 @@ module _ {g : Shape} {es : List Event} {nodes : List NodeState} {links : LinksSt
       is_next : net_after g (es ++ e ∷ []) ≡ next
       is_next = net_after_more g es e (net_after g es) next run happened
 
+      here : halted_in next (event_node e) ≡ d.head.halted
+      here = ap (λ (n : NodeState). n.head.halted) (node_here (network_of g) (event_node e) d stages.before)
+
+      there : (u : ℕ) → u ≢ event_node e → next.node u ≡ (net_after g es).node u
+      there u ne = node_there (network_of g) (event_node e) d stages.before u ne ∙ ap (λ (f : ℕ → NodeState). f u) (stage_nodes stages.stage)
+
       halts_next : (k : Halts) →
           ((halted : ℕ → Bool) → AreHalts g halted halts → AreHalts g (with_node halted (event_node e) d.head.halted) k) →
           AreHalts g (halted_in next) k
@@ -147,19 +154,21 @@ module _ {g : Shape} {es : List Event} {nodes : List NodeState} {links : LinksSt
           (λ h. (event_lasts (network_of g) wired (net_after g es) next e formed happened (event_node e)).halted h)
           u)
           (noted (halted_in (net_after g es)) plays.kept.halted)
-        where
-          here : halted_in next (event_node e) ≡ d.head.halted
-          here = ap (λ (n : NodeState). n.head.halted) (node_here (network_of g) (event_node e) d stages.before)
 
-          there : (u : ℕ) → u ≢ event_node e → next.node u ≡ (net_after g es).node u
-          there u ne = node_there (network_of g) (event_node e) d stages.before u ne ∙ ap (λ (f : ℕ → NodeState). f u) (stage_nodes stages.stage)
+      -- where the node has halted as before, so have all
+      halts_still : halted_in (net_after g es) (event_node e) ≡ d.head.halted → AreHalts g (halted_in next) halts
+      halts_still same = are_like g (halted_in (net_after g es)) (halted_in next) halts
+          (λ u _ _. ⊎_elim
+          (λ (z : u ≡ event_node e). rw z (same ∙ sym here))
+          (λ ne. sym (ap (λ (n : NodeState). n.head.halted) (there u ne)))
+          (cases_eq u (event_node e)))
+          plays.kept.halted
 
-      pub played : (k : Halts) →
-          ((halted : ℕ → Bool) → AreHalts g halted halts → AreHalts g (with_node halted (event_node e) d.head.halted) k) →
+      kept_next : (k : Halts) → AreHalts g (halted_in next) k →
           (x n : NodeState) →
           x ≡ get_or nodes (event_node e - 1) x → n ≡ after x d →
           IsKept g (es ++ e ∷ []) (set nodes (event_node e - 1) n) l' (record { sent = sent; consumed = c.consumed; requeued = c.requeued }) k
-      played k noted x n is now = record {
+      kept_next k are x n is now = record {
         graph = plays.kept.graph;
         run = (next, after_more (network_of g) es e (net_after g es) next run happened);
         queues = same_for g l l' a.ports disposed_for;
@@ -169,8 +178,22 @@ module _ {g : Shape} {es : List Event} {nodes : List NodeState} {links : LinksSt
             (stage_shows g (net_after g es) nodes links counts plays.kept.queues plays.kept.shows l c stages.stage s) a told);
         fit =
             rw (length-append es (e ∷ [])) (fit_more (length es) links l l' counts c sent g (event_node e) d.sends few plays.kept.fit so_far a told);
-        halted = rw is_next (halts_next k noted);
+        halted = rw is_next are;
       }
+
+      pub played : (k : Halts) →
+          ((halted : ℕ → Bool) → AreHalts g halted halts → AreHalts g (with_node halted (event_node e) d.head.halted) k) →
+          (x n : NodeState) →
+          x ≡ get_or nodes (event_node e - 1) x → n ≡ after x d →
+          IsKept g (es ++ e ∷ []) (set nodes (event_node e - 1) n) l' (record { sent = sent; consumed = c.consumed; requeued = c.requeued }) k
+      played k noted x n is now = kept_next k (halts_next k noted) x n is now
+
+      -- where the node stays as it was, nothing of the nodes has to be written
+      pub played_still : (x : NodeState) → x ≡ get_or nodes (event_node e - 1) x → x ≡ after x d →
+          IsKept g (es ++ e ∷ []) (set nodes (event_node e - 1) x) l' (record { sent = sent; consumed = c.consumed; requeued = c.requeued }) halts
+      played_still x is now = kept_next halts
+          (halts_still (ap (λ (n : NodeState). n.head.halted) (sym (found x is)) ∙ ap (λ (n : NodeState). n.head.halted) now))
+          x x is now
 
       pub played_rooms : (u r : ℕ) →
           At (network_of g) u r →

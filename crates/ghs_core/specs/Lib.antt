@@ -7,3 +7,4 @@ pub mod Ledger
 pub mod Marked
 pub mod Census
 pub mod Waits
+pub mod PutBack

@@ -14,6 +14,9 @@ ghost use Rattle.ghs_core.specs.NetState.{network, net_of, work_at, IsLawful, Is
 ghost use Rattle.ghs_core.specs.Ledger.{IsLedger, IsWithinBound};
 ghost use Rattle.ghs_core.specs.Marked.{AreBranches, AreInTree, IsExactWhere, IsExact, IsFragment, IsInFragment, TellFragments};
 ghost use Rattle.ghs_core.specs.Census.{IsCensus, AreLarge};
+ghost use Rattle.ghs_core.specs.PutBack.{IsPutBack};
+ghost use Rattle.ghs_node.specs.declared.message.Message.{Message as Letter};
+ghost use Rattle.ghs_protocol.specs.Living.{Waits};
 
 use crate::census::{FragmentRow, count_classes};
 use crate::counts::Counts;
@@ -22,12 +25,13 @@ use crate::halts::Halts;
 use crate::ledger::Ledger;
 use crate::marked::{Ends, branch_links, numbers_alike};
 use crate::parts::open_parts;
+use crate::waits::waits;
 use ghs_graph::classes::Classes;
 use ghs_graph::graph::Graph;
 use ghs_graph::key::Key;
 use ghs_graph::spanning::span;
 use ghs_links::links::Links;
-use ghs_node::delta::Delta;
+use ghs_node::delta::{Delta, Fate};
 use ghs_node::head::Head;
 use ghs_node::mark::Mark;
 use ghs_node::message::{Message, Phase};
@@ -114,6 +118,18 @@ impl Net {
         ensures { result ≡ length ((net_of self.now).queue v port) }
     {
         self.links.len_at(v, port)
+    }
+
+    /// Whether the node of a Take that may happen would only put back the message that it takes. O(1).
+    pub fn waits_at(&self, v: u32, port: u32) -> bool
+        requires { IsLawful self.now (Event.Take v port) }
+        ensures waits { (m : Letter) → slice_get ((net_of self.now).queue v port) 0 ≡ Some m → IsTrue result ↔ Waits ((net_of self.now).node v) port m }
+        ensures back { IsTrue result → IsPutBack self.now v port }
+    {
+        match self.links.front(v, port) {
+            Some(message) => waits(&self.nodes[v as usize - 1], port, &message),
+            None => false,
+        }
     }
 
     /// A node.
@@ -331,6 +347,23 @@ impl Net {
         );
         self.halts.note(&self.graph, v, delta.head.halted);
         self.trace.push_reserved(event);
+    }
+
+    /// Plays a Take whose node only puts the message back: the message goes to the end of its queue, and that is counted.
+    /// Neither the node nor any other queue is touched. A refusal leaves the net as it was.
+    pub fn put_back(&mut self, v: u32, port: u32) -> Result<(), AllocError>
+        requires lawful { IsLawful self.old (Event.Take v port) }
+        requires back { IsPutBack self.old v port }
+        requires few { length self.old.trace < 2 ^ 40 }
+        ensures graph { OnOk result (self.new.graph ≡ self.old.graph) }
+        ensures trace { OnOk result (self.new.trace ≡ self.old.trace ++ Event.Take v port ∷ []) }
+        ensures event { OnOk result (happens (network self.old) (net_of self.old) (Event.Take v port) ≡ Some (net_of self.new)) }
+        ensures err { OnErr result (IsSameNet self.old self.new) }
+    {
+        let take = Event::Take(v, port);
+        self.trace.push(take)?;
+        dispose(&mut self.links, &mut self.counts, take, Fate::Requeued);
+        Ok(())
     }
 }
 

@@ -18,3 +18,4 @@ pub mod Queues
 pub mod Steps
 pub mod Woken
 pub mod Laws
+pub mod Waiting

@@ -7,6 +7,7 @@ mod Going
 mod Keeping
 mod Listing
 mod Nodes
+mod PuttingBack
 mod Reacting
 mod Staying
 mod Still

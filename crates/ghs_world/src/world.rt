@@ -2,6 +2,8 @@
 ghost use Rattle.std.specs.Prelude.{◌≡◌, ◌↔◌, ◌≤◌, ◌+◌, ◌-◌, ◌^◌, [], ◌<◌, length, filter, slice_get, IfOk, IfErr, OnOk, OnErr, IsTrue, Some, true};
 ghost use Rattle.std.specs.List.{find, range_with_len};
 ghost use Rattle.ghs_node.specs.Rows.{Row};
+ghost use Rattle.ghs_node.specs.declared.message.Message.{Message as Letter};
+ghost use Rattle.ghs_protocol.specs.Living.{Waits};
 ghost use Rattle.ghs_world.specs.Ready.{all_events, has_lawful, has_ready, is_ready, next_of, next_node_of, ready_events, takes};
 ghost use Rattle.ghs_world.specs.Steps.{Commits, Makes, LeavesOthers, AreReadyOf, HasAllRoused, RefusesStep, IsSameWorld, HasEach, touched};
 ghost use Rattle.ghs_graph.specs.Graph.{IsGraph};
@@ -13,6 +15,7 @@ ghost use Rattle.ghs_protocol.specs.Run.{IsRunUnder};
 ghost use Rattle.ghs_protocol.specs.Marks.{HasEnded};
 ghost use Rattle.ghs_core.specs.NetState.{network, net_of, event_node, work_at, IsLawful, IsAnswer, HasRoomToPlay, IsLeastHalted};
 ghost use Rattle.ghs_core.specs.Census.{IsCensus, AreLarge};
+ghost use Rattle.ghs_core.specs.PutBack.{IsPutBack};
 ghost use Rattle.ghs_core.specs.Ledger.{IsWithinBound};
 ghost use Rattle.ghs_core.specs.Marked.{AreBranches, AreInTree, IsExact, IsExactWhere};
 ghost use Rattle.ghs_world.specs.Outs.{event_out, without};
@@ -38,7 +41,7 @@ use ghs_node::fault::NodeFault;
 use ghs_node::laws::law_list_has_no_row;
 use ghs_node::react::react;
 use ghs_node::work::Work;
-use ghs_protocol::interleavings::law_stillness;
+use ghs_protocol::interleavings::{law_stillness, law_turns};
 use std::alloc::{AllocError, Global};
 use std::marker::Model;
 
@@ -151,8 +154,29 @@ impl World {
         ensures made { OnOk result (Makes self.old event self.new) }
         ensures err { OnErr result (IsSameWorld self.old self.new) }
     {
+        if let Event::Take(v, port) = event {
+            if self.net.waits_at(v, port) {
+                return self.put_back(v, port);
+            }
+        }
         let delta = self.answer(alloc, event)?;
         self.make_answered(event, &delta)
+    }
+
+    // The Take of a message that its node only puts back happens, under the next number. Neither a node nor the index is
+    // touched: a message still waits there, and nothing else has changed.
+    fn put_back(&mut self, v: u32, port: u32) -> Result<(), AllocError>
+        requires ready { is_ready self.old (Event.Take v port) ≡ true }
+        requires turn { has_turn self.old ≡ true }
+        requires waits { (m : Letter) → slice_get ((home self.old).queue v port) 0 ≡ Some m → Waits ((home self.old).node v) port m }
+        requires back { IsPutBack self.old.net v port }
+        ensures made { OnOk result (Makes self.old (Event.Take v port) self.new) }
+        ensures err { OnErr result (IsSameWorld self.old self.new) }
+    {
+        law_turns();
+        let _ = self.net.trace();
+        self.net.put_back(v, port)?;
+        Ok(self.outs.pass_number())
     }
 
     /// The same for an event whose node's reaction is at hand (`answer`).

@@ -8,11 +8,11 @@ use Rattle.ghs_node.specs.declared.delta.Fate.TheVariants.{Consumed, Requeued}
 use Rattle.ghs_node.specs.declared.delta.Delta.{Delta}
 use Rattle.ghs_node.specs.declared.work.Work.TheVariants.{Deliver}
 use Rattle.ghs_node.specs.Reaction.{reaction, requeues}
-use Rattle.ghs_node.specs.Rows.{AwakeRow, Awake}
+use Rattle.ghs_node.specs.Rows.{AwakeRow}
 use Rattle.ghs_node.specs.Rows as rows
 use Rattle.ghs_node.specs.Kind.{kind_of, place_of}
 use Rattle.ghs_node.specs.NodeState.{NodeState, degree}
-use Rattle.ghs_node.proofs.lemmas.{row_computes, reaction_inverts}
+use Rattle.ghs_node.proofs.lemmas.{reaction_inverts}
 use Rattle.ghs_protocol.specs.declared.event.Event.TheVariants as events
 use Rattle.ghs_protocol.specs.Network.{Network, network_of, At}
 use Rattle.ghs_protocol.specs.Net.{Net}
@@ -25,6 +25,7 @@ use Rattle.ghs_protocol.proofs.lemmas.Graphs.{graph_wired, graph_few}
 use Rattle.ghs_protocol.proofs.lemmas.WellFormed.{after_formed}
 use Rattle.ghs_protocol.proofs.lemmas.Events.{happens_so}
 use Rattle.ghs_protocol.proofs.lemmas.Updates.{put_same, put_other, put_at_same, put_at_miss}
+use Rattle.ghs_protocol.proofs.lemmas.Waiting.{waits_reaction}
 use Rattle.ghs_protocol.proofs.lemmas.Woken.{awake_row}
 
 pub fate_is : (n : NodeState) (j : ℕ) (m : Message) (d : Delta) → n.head.phase ≢ Sleeping → AwakeRow n j m d → (d.fate ≡ Consumed) ⊎ Waits n j m
@@ -45,20 +46,6 @@ fate_is n j m _ up (rows.Report_moves_root b k x y z t) = inl refl
 fate_is n j m _ up (rows.Report_halts x y z) = inl refl
 fate_is n j m _ up (rows.Report_passes x y z t) = inl refl
 fate_is n j m _ up (rows.Root_moves b k x) = inl refl
-
-waits_row : (n : NodeState) (j : ℕ) (m : Message) → Waits n j m → AwakeRow n j m (requeues n.head)
-waits_row n j _ (living.Connect_waits up le b) = rows.Connect_waits le b
-waits_row n j _ (living.Test_waits up lt) = rows.Test_waits lt
-waits_row n j _ (living.Report_waits way f) = rows.Report_waits way f
-
-pub waits_awake : (n : NodeState) (j : ℕ) (m : Message) → Waits n j m → n.head.phase ≢ Sleeping
-waits_awake n j _ (living.Connect_waits up le b) = up
-waits_awake n j _ (living.Test_waits up lt) = up
-waits_awake n j _ (living.Report_waits way f) = λ e. cc (e, f)
-
--- the reaction to a message that waits
-pub waits_reaction : (n : NodeState) (p : ℕ) (m : Message) → p < degree n → Waits n p m → reaction n (Deliver p m) ≡ Some (requeues n.head)
-waits_reaction n p m lt h = row_computes n (Deliver p m) (requeues n.head) (Awake (waits_awake n p m h) lt (waits_row n p m h))
 
 pub requeues_are_waits : RequeuesAreWaits
 requeues_are_waits n p m d lt up r = (

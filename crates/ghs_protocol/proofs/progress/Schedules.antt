@@ -38,7 +38,8 @@ use Rattle.ghs_protocol.proofs.lemmas.Runs.{both_some, run_joins, run_keeps, run
 use Rattle.ghs_protocol.proofs.lemmas.Sends.{node_here, node_there}
 use Rattle.ghs_protocol.proofs.lemmas.Updates.{one_place, put_at_hit, put_at_miss, put_at_node}
 use Rattle.ghs_protocol.proofs.lemmas.Woken.{asleep_or_not}
-use Rattle.ghs_protocol.proofs.progress.Requeues.{requeues_are_waits, turned_by, waits_awake}
+use Rattle.ghs_protocol.proofs.lemmas.Waiting.{waits_awake}
+use Rattle.ghs_protocol.proofs.progress.Requeues.{requeues_are_waits, turned_by}
 use Rattle.ghs_protocol.proofs.charges.Bound.{sends_within}
 use Rattle.ghs_protocol.proofs.every_run.Trees.{leads_join}
 use Rattle.ghs_protocol.proofs.progress.Runs.{no_run_is_stuck}

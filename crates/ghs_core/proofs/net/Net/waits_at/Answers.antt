@@ -1,0 +1,22 @@
+use Rattle.std.proofs.Common.{sym, ◌∙◌}
+use Rattle.ghs_protocol.specs.Run.{net_after}
+use Rattle.ghs_core.proofs.PuttingBack.{back_here}
+use Rattle.ghs_core.proofs.Reading.{lawful_port, port_below, port_queue}
+use Rattle.ghs_core.proofs.net.Net.waits_at.Goals as goal
+
+pub front-requires : goal.front-requires
+front-requires c =
+    port_queue c.self.invariant c.args.v c.args.port
+    (lawful_port _ (net_after c.self.inside.graph c.self.inside.trace.items) c.args.v c.args.port (rw (← c.self.view_is) at c.requires))
+
+pub waits-requires : goal.waits-requires
+waits-requires c =
+    port_below c.self.invariant c.args.v c.args.port c.index.result.now
+    (lawful_port _ (net_after c.self.inside.graph c.self.inside.trace.items) c.args.v c.args.port (rw (← c.self.view_is) at c.requires))
+    c.index.ensures
+
+pub returns-in-Some-clause-back : goal.returns-in-Some-clause-back
+returns-in-Some-clause-back c = λ up.
+    back_here c.self.invariant c.self.view_is c.args.v c.args.port c.index.result.now
+    (lawful_port _ (net_after c.self.inside.graph c.self.inside.trace.items) c.args.v c.args.port (rw (← c.self.view_is) at c.requires))
+    c.index.ensures c.in-Some.message (sym c.in-Some.is ∙ c.front.ensures) (c.waits.ensures.law.0 up)
