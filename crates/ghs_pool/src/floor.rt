@@ -1,16 +1,24 @@
 // What lies under the lock.
-ghost use Rattle.std.specs.Prelude.{◌≡◌, ◌≤◌, length, IfSome};
-ghost use Rattle.ghs_world.specs.Ready.{next_of};
+ghost use Rattle.std.specs.Prelude.{◌≡◌, length};
 ghost use Rattle.ghs_pool.specs.Follows.{GoesOn};
 
 use crate::desk::Desk;
+use crate::hand::{Hand, MOST};
 use crate::shop::Shop;
 use ghs_protocol::event::Event;
+use ghs_queue::queue::{ReadyPass, ReadyQueue};
 use ghs_world::fault::{CommitFault, OutFault};
 use ghs_world::ticket::{Step, Ticket};
 use ghs_world::woken::Woken;
 use std::alloc::Global;
 use std::marker::{Brand, Model, PhantomData};
+use std::sync::Wait;
+
+// How many ports at most a worker passes over at a node for one number taken, so that a node of many ports holds nobody up.
+const PORTS: usize = 8;
+
+// How many nodes at most a look passes over.
+const NODES: usize = 16;
 
 // Where a run of workers began. Each run picks it, so that the lock's type names it: what a lock held at its last use is
 // known by its type alone.
@@ -30,8 +38,10 @@ impl Start for Brand {
 #[derive(Drop)]
 pub struct Floor<J: Start> {
     shop: Shop,
-    // Of each node the port behind the one that was served last.
+    // Of each node the port behind the one that was served or passed over last.
     ports: Vec<u32>,
+    // How many workers there are.
+    workers: u32,
     // The node that the last look found.
     found: u32,
     // Whether the workers are to end.
@@ -56,18 +66,31 @@ impl<J: Start> Model for Floor<J> {
 // What a worker does next.
 #[derive(Drop)]
 pub enum Next {
-    // It performs this ticket.
-    Serve(Ticket),
-    // It takes the next number.
-    Nothing,
+    // It performs the tickets in its hand.
+    Serve,
+    // It comes again at once.
+    Again,
     // It waits for what is out.
     Wait,
     // It ends.
     End,
 }
 
+// What a node's number was good for.
+#[derive(Drop)]
+enum Found {
+    // An event went out.
+    Event,
+    // The node has no event that is worth it: its number is let go.
+    Nothing,
+    // So far none was found, and the search goes on when the node's number comes again.
+    More,
+    // No event can go out.
+    NoTurn,
+}
+
 impl<J: Start> Floor<J> {
-    pub fn new(shop: Shop, ports: Vec<u32>) -> Floor<J>
+    pub fn new(shop: Shop, ports: Vec<u32>, workers: u32) -> Floor<J>
         requires goes_on { GoesOn shop J.first }
         requires ports { length ports.items ≡ shop.world.net.graph.nodes }
         ensures { result ≡ shop }
@@ -75,6 +98,7 @@ impl<J: Start> Floor<J> {
         Floor {
             shop,
             ports,
+            workers,
             found: 0,
             stopped: false,
             memory: false,
@@ -98,40 +122,89 @@ impl<J: Start> Floor<J> {
         self.stopped = true;
     }
 
-    // One event of a node goes out, if it has one.
-    pub fn serve(&mut self, alloc: Global, v: u32) -> Next
-        ensures net { self.new.world.net ≡ self.old.world.net }
-        ensures told { self.new.told ≡ self.old.told }
+    // The workers are to end, since memory is wanting.
+    pub fn want_memory(&mut self)
+        ensures { self.new ≡ self.old }
     {
-        if self.is_over() {
-            return Next::End;
-        }
-        match self.next_event(v) {
-            Some(event) => self.send_out(alloc, event),
-            None => Next::Nothing,
-        }
+        self.memory = true;
+        self.stopped = true;
     }
 
-    // Looks over all nodes, from behind the one that the last look found, for one that has an event. With none, and
-    // nothing out, the workers are to end.
-    pub fn look(&mut self, alloc: Global) -> Next
+    // A ticket comes back for want of memory, and the workers are to end.
+    pub fn give_back(&mut self, ticket: Ticket)
         ensures net { self.new.world.net ≡ self.old.world.net }
         ensures told { self.new.told ≡ self.old.told }
     {
+        let _ = self.shop.give_back(ticket);
+        self.want_memory();
+    }
+
+    // A worker's visit: the steps in its hand happen, and what it serves next goes out. With nothing to serve in the queue
+    // it looks over all nodes, and else when a look is due.
+    pub fn visit<R: Wait>(
+        &mut self,
+        rt: &R,
+        alloc: Global,
+        queue: &ReadyQueue,
+        pass: &mut ReadyPass,
+        hand: &mut Hand,
+    ) -> Next
+        requires { pass.old.name ≡ queue.now.name }
+        ensures { pass.new.name ≡ pass.old.name }
+    {
+        self.commit_all(rt, alloc, queue, pass, hand);
         if self.is_over() {
             return Next::End;
         }
-        match self.shop.next_node(self.found.saturating_add(1)) {
-            Some(v) => {
-                self.found = v;
-                self.serve(alloc, v)
+        self.fill(rt, alloc, queue, pass, hand);
+        if hand.tickets() == 0 || hand.pace.is_due() {
+            hand.pace.look();
+            self.look(alloc, hand);
+        }
+        self.next(hand)
+    }
+
+    // What a worker does whose hand is as full as it gets.
+    fn next(&mut self, hand: &Hand) -> Next
+        ensures { self.new ≡ self.old }
+    {
+        if hand.tickets() > 0 {
+            return Next::Serve;
+        }
+        if self.is_over() {
+            return Next::End;
+        }
+        if self.shop.out_count() > 0 {
+            return Next::Wait;
+        }
+        Next::Again
+    }
+
+    // The steps of a hand happen, and are published; the numbers of the nodes that they wake go into the queue. A number
+    // for which there is no room is left out: a look will find its node.
+    fn commit_all<R: Wait>(
+        &mut self,
+        rt: &R,
+        alloc: Global,
+        queue: &ReadyQueue,
+        pass: &mut ReadyPass,
+        hand: &mut Hand,
+    )
+        requires { pass.old.name ≡ queue.now.name }
+        ensures { pass.new.name ≡ pass.old.name }
+    {
+        for _ in 0..MOST {
+            let Some(step) = hand.next_step() else {
+                return;
+            };
+            if let Some(woken) = self.commit(alloc, step) {
+                put_each(rt, queue, pass, woken.as_slice());
             }
-            None => self.rest(),
         }
     }
 
     // A step's event happens, and is published; the nodes that it wakes. After a refusal the workers are to end.
-    pub fn commit(&mut self, alloc: Global, step: Step) -> Option<Woken>
+    fn commit(&mut self, alloc: Global, step: Step) -> Option<Woken>
         ensures { GoesOn self.new self.old }
     {
         match self.shop.commit(alloc, step) {
@@ -144,49 +217,104 @@ impl<J: Start> Floor<J> {
         }
     }
 
-    // A ticket comes back for want of memory, and the workers are to end.
-    pub fn give_back(&mut self, ticket: Ticket)
-        ensures net { self.new.world.net ≡ self.old.world.net }
-        ensures told { self.new.told ≡ self.old.told }
+    // Nodes of the queue go out: of the numbers that wait half a worker's part, so that others find some too.
+    fn fill<R: Wait>(
+        &mut self,
+        rt: &R,
+        alloc: Global,
+        queue: &ReadyQueue,
+        pass: &mut ReadyPass,
+        hand: &mut Hand,
+    )
+        requires { pass.old.name ≡ queue.now.name }
+        ensures { pass.new.name ≡ pass.old.name }
     {
-        let _ = self.shop.give_back(ticket);
-        self.memory = true;
-        self.stopped = true;
+        let waiting = queue.len(rt, pass);
+        let part = (waiting / 2 / self.workers.max(1) as usize).clamp(1, MOST);
+        for _ in 0..waiting.min(MOST) {
+            let Some(v) = queue.take(rt, pass) else {
+                return;
+            };
+            hand.pace.take();
+            match self.serve(alloc, v, hand) {
+                Found::Event | Found::Nothing => {}
+                Found::More => put_each(rt, queue, pass, &[v]),
+                Found::NoTurn => return,
+            }
+            if hand.tickets() >= part {
+                return;
+            }
+        }
+    }
+
+    // Looks over the nodes, from behind the one that the last look found, for one that has an event that is worth it. Where
+    // no node has an event at all, and nothing is out, the workers are to end.
+    fn look(&mut self, alloc: Global, hand: &mut Hand) {
+        for _ in 0..NODES {
+            let Some(v) = self.shop.next_node(self.found.saturating_add(1)) else {
+                self.stopped = self.stopped || self.shop.out_count() == 0;
+                return;
+            };
+            self.found = v;
+            match self.serve(alloc, v, hand) {
+                Found::Event | Found::NoTurn => return,
+                Found::Nothing | Found::More => {}
+            }
+        }
     }
 
     fn is_over(&self) -> bool {
         self.stopped || self.shop.ended()
     }
 
-    // The next event of a node, behind the port that was served last.
-    fn next_event(&self, v: u32) -> Option<Event> {
+    // An event of a node goes out, if it has one that is worth it.
+    //
+    // A node has none whose messages all wait, each alone in its queue. Its number can be let go: nothing changes for the
+    // node before it makes an event itself or a message comes to it, and after either its number is put.
+    fn serve(&mut self, alloc: Global, v: u32, hand: &mut Hand) -> Found {
         if v == 0 || v as usize > self.ports.len() {
-            return None;
+            return Found::Nothing;
         }
-        self.shop.next_event(v, self.ports[v as usize - 1])
+        let mut first = None;
+        for _ in 0..PORTS {
+            let Some(event) = self.shop.next_event(v, self.ports[v as usize - 1]) else {
+                return Found::Nothing;
+            };
+            if first == Some(event) {
+                return Found::Nothing;
+            }
+            if self.shop.is_worth_it(event) {
+                return self.send_out(alloc, event, hand);
+            }
+            first = first.or(Some(event));
+            self.turn(event);
+        }
+        Found::More
     }
 
     // An event goes out, and its port has had its turn.
-    fn send_out(&mut self, alloc: Global, event: Event) -> Next
-        ensures net { self.new.world.net ≡ self.old.world.net }
-        ensures told { self.new.told ≡ self.old.told }
-    {
+    fn send_out(&mut self, alloc: Global, event: Event, hand: &mut Hand) -> Found {
         match self.shop.check_out(alloc, event) {
             Ok(ticket) => {
                 self.turn(event);
-                Next::Serve(ticket)
+                if let Err(ticket) = hand.add_ticket(ticket) {
+                    self.give_back(ticket);
+                }
+                Found::Event
             }
-            Err(OutFault::TurnLimit) => self.rest(),
+            Err(OutFault::TurnLimit) => {
+                self.stopped = self.stopped || self.shop.out_count() == 0;
+                Found::NoTurn
+            }
             Err(OutFault::Memory) => {
-                self.memory = true;
-                self.stopped = true;
-                Next::End
+                self.want_memory();
+                Found::NoTurn
             }
-            Err(OutFault::NoSuch | OutFault::Busy | OutFault::Nothing) => Next::Nothing,
+            Err(OutFault::NoSuch | OutFault::Busy | OutFault::Nothing) => Found::Nothing,
         }
     }
 
-    // The next look at an event's node begins behind the event's port.
+    // The next search at an event's node begins behind the event's port.
     fn turn(&mut self, event: Event)
         ensures { self.new ≡ self.old }
     {
@@ -196,15 +324,14 @@ impl<J: Start> Floor<J> {
             }
         }
     }
+}
 
-    // There is nothing to do: a wait for what is out, and else the end.
-    fn rest(&mut self) -> Next
-        ensures { self.new ≡ self.old }
-    {
-        if self.shop.out_count() > 0 {
-            return Next::Wait;
-        }
-        self.stopped = true;
-        Next::End
+// Puts numbers into the queue, as long as there is room.
+fn put_each<R: Wait>(rt: &R, queue: &ReadyQueue, pass: &mut ReadyPass, nodes: &[u32])
+    requires { pass.old.name ≡ queue.now.name }
+    ensures { pass.new.name ≡ pass.old.name }
+{
+    for v in nodes {
+        let _ = queue.put(rt, pass, *v);
     }
 }

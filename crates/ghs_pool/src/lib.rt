@@ -6,6 +6,8 @@ pub mod desk;
 pub mod end;
 mod floor;
 pub mod gate;
+mod hand;
+mod moves;
 mod pace;
 pub mod shop;
 #[cfg(test)]

@@ -6,8 +6,10 @@ ghost use Rattle.ghs_core.specs.NetState.{network};
 ghost use Rattle.ghs_board.specs.Progress.{StartsWith};
 ghost use Rattle.ghs_pool.specs.Shop.{IsPairOf, IsTold};
 
+use crate::moves::is_worth_it;
 use ghs_board::board::{Board, Publisher, Reader};
 use ghs_board::progress::Progress;
+use ghs_protocol::event::Event;
 use ghs_world::world::World;
 use std::alloc::{AllocError, Global};
 use std::marker::Model;
@@ -81,6 +83,11 @@ impl Shop {
         ensures reader { (reader.new.table ≡ reader.old.table) × (reader.new.seen ≡ self.old.told.list) }
     {
         board.read_beside(alloc, reader, &mut self.publisher)
+    }
+
+    // Whether an event of the world is worth a ticket.
+    pub(crate) fn is_worth_it(&self, event: Event) -> bool {
+        is_worth_it(&self.world, event)
     }
 
     /// The world and its publisher, when the shop is done with.

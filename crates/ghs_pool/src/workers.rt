@@ -10,18 +10,19 @@ ghost use Rattle.ghs_pool.specs.Ends.{EndFits, IsAtEnd};
 use crate::end::PoolFault;
 use crate::floor::{Floor, Next, Start};
 use crate::gate::Gate;
+use crate::hand::{Hand, MOST};
 use crate::pace::Pace;
 use crate::shop::{Shop, pair_of};
 use ghs_board::board::{Board, Publisher};
 use ghs_queue::queue::{ReadyPass, ReadyQueue};
 use ghs_sched::run::RunEnd;
-use ghs_world::ticket::Ticket;
 use ghs_world::world::World;
 use std::alloc::{AllocError, Global};
 use std::marker::Brand;
 use std::sync::{Mutex, Wait};
 use std::thread;
-use std::thread::Threads;
+use std::thread::{Parker, Threads};
+use std::time::Duration;
 
 /// Runs a world on by so many threads, 1 to 64, until its run has ended. All that is out is recalled first. The world
 /// comes back with nothing out, after the commits so far: on the same graph, under the same wake set and turns, its trace
@@ -115,7 +116,7 @@ fn run_from<J: Start + Send + Sync, G: Gate + Sync, R: Threads + Wait + Sync>(
     ensures board { (result.1.table ≡ J.first.told.table) × StartsWith result.1.list J.first.told.list }
     ensures end { EndFits result.0 result.2 }
 {
-    let floor = Mutex::new(Floor::<J>::new(shop, ports));
+    let floor = Mutex::new(Floor::<J>::new(shop, ports, pass.shares()));
     let started = serve_all(rt, alloc, &floor, gate, queue, pass);
     let (shop, memory) = floor.into_inner().close();
     let (mut world, publisher) = shop.close();
@@ -144,21 +145,29 @@ fn serve_all<J: Start + Send + Sync, G: Gate + Sync, R: Threads + Wait + Sync>(
             let mut rest = pass;
             let shares = rest.shares();
             for started in 1..shares {
+                let Ok(hand) = Hand::new(alloc) else {
+                    floor.lock(rt).stop();
+                    return false;
+                };
                 let Ok(mine) = queue.split(alloc, &mut rest) else {
                     floor.lock(rt).stop();
                     return false;
                 };
                 let worker = move ||
                     requires { mine.name ≡ queue.now.name }
-                { work(rt, alloc, floor, gate, queue, mine) };
+                { work(rt, alloc, floor, gate, queue, mine, hand) };
                 if scope.spawn(worker).is_err() {
                     floor.lock(rt).stop();
                     return false;
                 }
             }
+            let Ok(hand) = Hand::new(alloc) else {
+                floor.lock(rt).stop();
+                return false;
+            };
             let worker = move ||
                 requires { rest.name ≡ queue.now.name }
-            { work(rt, alloc, floor, gate, queue, rest) };
+            { work(rt, alloc, floor, gate, queue, rest, hand) };
             if scope.spawn(worker).is_err() {
                 floor.lock(rt).stop();
                 return false;
@@ -168,7 +177,7 @@ fn serve_all<J: Start + Send + Sync, G: Gate + Sync, R: Threads + Wait + Sync>(
     )
 }
 
-// Serves nodes until the run is over.
+// Serves nodes until the run is over: visits to the lock, and between them what needs none.
 fn work<J: Start, G: Gate, R: Wait>(
     rt: &R,
     alloc: Global,
@@ -176,92 +185,72 @@ fn work<J: Start, G: Gate, R: Wait>(
     gate: &G,
     queue: &ReadyQueue,
     mut pass: ReadyPass,
+    mut hand: Hand,
 )
     requires { pass.name ≡ queue.now.name }
 {
-    let mut pace = Pace::new();
+    let sleeper = Parker::new();
     for _ in rt.forever() {
-        match next(rt, alloc, floor, queue, &mut pass, &mut pace) {
-            Next::Serve(ticket) => serve(rt, alloc, floor, gate, queue, &mut pass, ticket),
-            Next::Nothing => {}
-            Next::Wait => thread::yield_now(),
+        let next = floor.lock(rt).visit(rt, alloc, queue, &mut pass, &mut hand);
+        match next {
+            Next::Serve => {
+                hand.pace.serve();
+                perform(rt, alloc, floor, gate, &mut hand);
+            }
+            Next::Again => {}
+            Next::Wait => rest(rt, queue, &mut pass, &mut hand.pace, &sleeper),
             Next::End => return,
         }
     }
     unreachable!()
 }
 
-// What a worker does next: it serves the node whose number it takes; where there is none, or a look is due, it looks over
-// all nodes.
-fn next<J: Start, R: Wait>(
-    rt: &R,
-    alloc: Global,
-    floor: &Mutex<Floor<J>>,
-    queue: &ReadyQueue,
-    pass: &mut ReadyPass,
-    pace: &mut Pace,
-) -> Next
-    requires { pass.old.name ≡ queue.now.name }
-    ensures { pass.new.name ≡ pass.old.name }
-{
-    if pace.is_due() {
-        pace.look();
-        return floor.lock(rt).look(alloc);
-    }
-    match queue.take(rt, pass) {
-        Some(v) => {
-            pace.take();
-            floor.lock(rt).serve(alloc, v)
-        }
-        None => {
-            if pace.rests() {
-                return Next::Wait;
-            }
-            pace.look();
-            floor.lock(rt).look(alloc)
-        }
-    }
-}
-
-// Performs a ticket outside the lock and commits it, and puts the nodes that it wakes into the queue. A number for which
-// there is no room is left out: a look will find its node.
-fn serve<J: Start, G: Gate, R: Wait>(
+// Performs the tickets in a hand, outside the lock.
+fn perform<J: Start, G: Gate, R: Wait>(
     rt: &R,
     alloc: Global,
     floor: &Mutex<Floor<J>>,
     gate: &G,
-    queue: &ReadyQueue,
-    pass: &mut ReadyPass,
-    ticket: Ticket,
-)
-    requires { pass.old.name ≡ queue.now.name }
-    ensures { pass.new.name ≡ pass.old.name }
-{
-    let number = ticket.number();
-    let v = ticket.node().number();
-    let performed = ticket.perform(alloc);
-    gate.between(number);
-    match performed {
-        Ok(step) => {
-            let woken = floor.lock(rt).commit(alloc, step);
-            if let Some(woken) = woken {
-                put_each(rt, queue, pass, woken.as_slice());
+    hand: &mut Hand,
+) {
+    for _ in 0..MOST {
+        let Some(ticket) = hand.next_ticket() else {
+            return;
+        };
+        let number = ticket.number();
+        let performed = ticket.perform(alloc);
+        gate.between(number);
+        match performed {
+            Ok(step) => {
+                if hand.add_step(step).is_err() {
+                    floor.lock(rt).want_memory();
+                }
             }
-        }
-        Err((ticket, _)) => {
-            floor.lock(rt).give_back(ticket);
-            put_each(rt, queue, pass, &[v]);
+            Err((ticket, _)) => floor.lock(rt).give_back(ticket),
         }
     }
 }
 
-// Puts numbers into the queue, as long as there is room.
-fn put_each<R: Wait>(rt: &R, queue: &ReadyQueue, pass: &mut ReadyPass, nodes: &[u32])
+// Rests, holding nothing, until the rest is over; a short one ends where a number waits.
+fn rest<R: Wait>(
+    rt: &R,
+    queue: &ReadyQueue,
+    pass: &mut ReadyPass,
+    pace: &mut Pace,
+    sleeper: &Parker,
+)
     requires { pass.old.name ≡ queue.now.name }
     ensures { pass.new.name ≡ pass.old.name }
 {
-    for v in nodes {
-        let _ = queue.put(rt, pass, *v);
+    pace.rest();
+    for _ in 0..pace.turns() {
+        if queue.len(rt, pass) > 0 {
+            return;
+        }
+        thread::yield_now();
+    }
+    if pace.sleep() > 0 {
+        sleeper.park_timeout(rt, Duration::from_micros(pace.sleep() as u64));
     }
 }
 

@@ -161,6 +161,17 @@ impl ReadyQueue {
         Some(number)
     }
 
+    /// How many numbers wait, at one moment of the call; a pass with all shares sees that in its own bags. The pass is one
+    /// of this queue.
+    pub fn len<R: Wait>(&self, rt: &R, pass: &mut ReadyPass) -> usize
+        requires { pass.old.name ≡ self.now.name }
+        ensures pass { pass.new ≡ pass.old }
+        ensures few { result ≤ self.now.capacity }
+        ensures all { pass.old.shares ≡ self.now.name.all → length pass.old.put ≡ length pass.old.taken + result }
+    {
+        self.inner.len_as::<Takes, R>(rt, &mut pass.pass)
+    }
+
     /// What is left, the first first, for the pass with all shares; it is a pass of this queue. The room is taken before
     /// the first number is. A refusal hands queue and pass back.
     pub fn close<R: Wait>(
@@ -177,20 +188,11 @@ impl ReadyQueue {
         if pass.shares != self.all {
             return Err((self, pass, CloseFault::PassMissing));
         }
-        let left = self.left(rt, &mut pass);
+        let left = self.len(rt, &mut pass);
         let Ok(rest) = Vec::with_capacity(alloc, left) else {
             return Err((self, pass, CloseFault::Memory));
         };
         Ok(self.drain(rt, pass, rest))
-    }
-
-    // How many numbers are left, told to the pass with all shares.
-    fn left<R: Wait>(&self, rt: &R, pass: &mut ReadyPass) -> usize
-        requires { (pass.old.name ≡ self.now.name) × (pass.old.shares ≡ self.now.name.all) }
-        ensures same { pass.new ≡ pass.old }
-        ensures left { length pass.old.put ≡ length pass.old.taken + result }
-    {
-        self.inner.len_as::<Takes, R>(rt, &mut pass.pass)
     }
 
     // The pass with all shares takes all that is left, for which there is room.

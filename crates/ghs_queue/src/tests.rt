@@ -19,7 +19,8 @@ fn a_queue_of_two(rt: HostRuntime) -> Result<(), Fail> {
     assert_eq!(rt; queue.take(&rt, &mut pass), Some(3));
     assert_eq!(rt; queue.take(&rt, &mut pass), None);
     assert_eq!(rt; queue.put(&rt, &mut pass, 5), Ok(()));
-    let other = queue.split(alloc, &mut pass)?;
+    let mut other = queue.split(alloc, &mut pass)?;
+    assert_eq!(rt; queue.len(&rt, &mut other), 1);
     let Err((queue, mut pass, fault)) = queue.close(&rt, alloc, pass) else {
         panic!(rt; "a share was missing")
     };
