@@ -1,10 +1,11 @@
 #!/usr/bin/env python3
 """The steps of a stored run, played by a program that shares nothing with `ghs`: what its texts are compared with.
 
-    page/independent.py GRAPH TRACE [--json] [--from A] [--to B] [--node V]
+    page/independent.py GRAPH TRACE [--json | --page] [--from A] [--to B] [--node V]
 
 It plays the events of a trace by the node's procedures as docs/PROTOCOL.md states them, and writes what each of them
-changed, as `ghs steps` does (docs/FORMATS.md). Parallel links, loops and graphs in pieces are taken.
+changed: its steps as text or as JSON Lines, or the data of its page (docs/FORMATS.md). Parallel links, loops and graphs
+in pieces are taken.
 """
 import argparse
 import json
@@ -61,13 +62,11 @@ class Net:
     def __init__(self, n, keys):
         self.n, self.keys = n, keys
         self.ports = [[] for _ in range(n + 1)]       # (key, far, far_port)
-        self.links = []
         for k in keys:
             _, a, b = k
             pa, pb = len(self.ports[a]), len(self.ports[b])
             self.ports[a].append((k, b, pb))
             self.ports[b].append((k, a, pa))
-            self.links.append((k, a, pa, b, pb))
         self.nodes = [None] + [Node(len(self.ports[v])) for v in range(1, n + 1)]
         self.queues = {}
         self.sent = dict.fromkeys(KINDS, 0)
@@ -301,35 +300,16 @@ def ledger_json(net):
             'requeued': net.requeued, 'queued': sum(map(len, net.queues.values()))}
 
 
-def node_json(net, v):
-    marks, x = net.nodes[v].shot()
-    return {'node': v, 'marks': marks, **{k: value_json(k, y) for k, y in x.items()}}
-
-
-def queue_lines(net):
-    return [line({'queue': v, 'port': p, 'holds': [message_json(m) for m in q]})
-            for (v, p), q in sorted(net.queues.items()) if q]
-
-
-def json_lines(net, events, a, b, node=None):
+def page_lines(net, events, first, last):
+    """The data of a page: the network, the steps from the opening on, the counts behind the last."""
     yield line({'ghs': 'steps', 'version': 1, 'nodes': net.n, 'links': len(net.keys), 'bound': net.bound,
-                'events': len(events), 'from': a, 'to': b})
-    for k, x, px, y, py in net.links:
-        yield line({'link': key_text(k), 'weight': k[0], 'a': x, 'a_port': px, 'b': y, 'b_port': py})
-    for e in events[:a - 1]:
-        net.play(e)
-    # where the steps don't begin with the first event: what stands before them
-    if a > 1:
-        for v in range(1, net.n + 1):
-            if net.nodes[v].phase != 'sleeping':
-                yield line(node_json(net, v))
-        yield from queue_lines(net)
-        yield line({'ledger': a - 1, **ledger_json(net)})
-    for e in events[a - 1:b]:
-        s = net.play(e)
-        if node is None or s['node'] == node:
-            yield line(step_json(s))
-    yield line({'ledger': b, **ledger_json(net)})
+                'events': len(events), 'from': first, 'to': last})
+    for key in net.keys:
+        weight, a, b = key
+        yield line({'link': key_text(key), 'weight': weight, 'a': a, 'b': b})
+    for event in events[:last]:
+        yield line(step_json(net.play(event)))
+    yield line({'ledger': last, **ledger_json(net)})
 
 
 def parse(words):
@@ -337,6 +317,7 @@ def parse(words):
     parser.add_argument('graph')
     parser.add_argument('trace')
     parser.add_argument('--json', action='store_true')
+    parser.add_argument('--page', action='store_true')
     parser.add_argument('--from', type=int, default=1, dest='first')
     parser.add_argument('--to', type=int, dest='last')
     parser.add_argument('--node', type=int)
@@ -348,13 +329,13 @@ def main():
     net = Net(*read_gr(open(asked.graph).read()))
     events = read_trace(open(asked.trace).read())
     last = len(events) if asked.last is None else min(asked.last, len(events))
-    if asked.json:
-        sys.stdout.writelines(json_lines(net, events, asked.first, last, asked.node))
+    if asked.page:
+        sys.stdout.writelines(page_lines(net, events, asked.first, last))
         return
     for event in events[:last]:
         step = net.play(event)
         if step['number'] >= asked.first and asked.node in (None, step['node']):
-            print(text_line(step))
+            sys.stdout.write(line(step_json(step)) if asked.json else text_line(step) + '\n')
 
 
 if __name__ == '__main__':

@@ -182,8 +182,8 @@ const KEYS = [['left, right', 'one event back or on'], ['space', 'play, stop'], 
   ['+ - 0', 'larger, smaller, whole network; the mouse drags and its wheel zooms'], ['k', 'weights of links'], ['g', 'legend'], ['?', 'this list']];
 
 // ---- the data
-let G, steps = [], links = [], nodes = [], ledger0 = null, ledgerEnd = null, fault = '';
-const linkOf = new Map(), queues = new Map();
+let G, steps = [], links = [], nodes = [], ledgerEnd = null;
+const queues = new Map();
 const queue = (v, p) => { const k = v * 8388608 + p; let q = queues.get(k); if (!q) queues.set(k, q = { v, p, list: [] }); return q.list; };
 const zero = () => ({ sent: KINDS.map(() => 0), consumed: KINDS.map(() => 0), requeued: 0, queued: 0 });
 let ledger = zero();
@@ -193,27 +193,25 @@ function read(text) {
     const o = JSON.parse(line);
     if ('step' in o) steps.push(o);
     else if ('link' in o) {
-      linkOf.set(o.link, links.length);
+      // links come in key order, and so do the ports of a node
       const i = links.push(o) - 1;
-      nodes[o.a].ports[o.a_port] = { link: i, far: o.b };
-      nodes[o.b].ports[o.b_port] = { link: i, far: o.a };
-      nodes[o.a].marks[o.a_port] = nodes[o.b].marks[o.b_port] = 'basic';
-    } else if ('node' in o) { const n = nodes[o.node]; n.marks = o.marks; for (const x of VARS) n[x] = o[x]; }
-    else if ('queue' in o) for (const m of o.holds) queue(o.queue, o.port).push(message(m, 0, nodes[o.queue].ports[o.port].far, o.queue, o.port));
-    else if ('ledger' in o) { if (steps.length || o.ledger >= G.from) ledgerEnd = o; else ledger0 = o; }
+      o.a_port = nodes[o.a].ports.push({ link: i, far: o.b }) - 1;
+      o.b_port = nodes[o.b].ports.push({ link: i, far: o.a }) - 1;
+      nodes[o.a].marks.push('basic');
+      nodes[o.b].marks.push('basic');
+    } else if ('ledger' in o) ledgerEnd = o;
     else if ('ghs' in o) {
       G = o;
       for (let v = 1; v <= o.nodes; v++) nodes[v] = { v, ports: [], marks: [], level: 0, name: null, phase: 'sleeping', find_count: 0, in_branch: null, best: null, probe: null, halted: false };
     }
   }
-  if (ledger0) ledger = { sent: [...ledger0.sent], consumed: [...ledger0.consumed], requeued: ledger0.requeued, queued: ledger0.queued };
 }
 const message = (m, born, from, to, at) => ({ kind: m.kind, level: m.level, key: m.key, phase: m.phase, born, from, to, at, takes: [], done: 0 });
 
 // ---- one step on, one step back. Every value is one that the step carries; what it replaces is kept.
 let at, undo = [];
 function on() {
-  const i = at - G.from + 1, s = steps[i], n = nodes[s.node], u = undo[i] = { set: {}, sent: undo[i] ? undo[i].sent : s.send.map(x => message(x, s.step, s.node, x.to, x.at)) };
+  const i = at, s = steps[i], n = nodes[s.node], u = undo[i] = { set: {}, sent: undo[i] ? undo[i].sent : s.send.map(x => message(x, s.step, s.node, x.to, x.at)) };
   if (s.port !== null) {
     const q = queue(s.node, s.port), m = u.taken = q.shift();
     if (!m || m.kind !== s.kind || m.level !== s.level || m.key !== s.key) throw Error('event ' + s.step + ' takes a message that is not first in its queue');
@@ -226,7 +224,7 @@ function on() {
 }
 function off() {
   at--;
-  const s = steps[at - G.from + 1], n = nodes[s.node], u = undo[at - G.from + 1];
+  const s = steps[at], n = nodes[s.node], u = undo[at];
   for (const m of u.sent.slice().reverse()) { queue(m.to, m.at).pop(); ledger.sent[KINDS.indexOf(m.kind)]--; ledger.queued--; }
   for (const x in u.set) n[x] = u.set[x];
   if (s.mark) n.marks[s.mark[0]] = u.mark;
@@ -236,9 +234,9 @@ function off() {
     q.unshift(u.taken);
   }
 }
-function goto(k) { k = Math.max(G.from - 1, Math.min(G.to, k)); while (at < k) on(); while (at > k) off(); }
-const stepNow = () => steps[at - G.from];
-const undoNow = () => undo[at - G.from];
+function goto(k) { k = Math.max(0, Math.min(G.to, k)); while (at < k) on(); while (at > k) off(); }
+const stepNow = () => steps[at - 1];
+const undoNow = () => undo[at - 1];
 
 // ---- what the page adds: components of joined links, and curves over the whole run
 const joined = l => nodes[l.a].marks[l.a_port] === 'branch' && nodes[l.b].marks[l.b_port] === 'branch';
@@ -268,12 +266,12 @@ function survey() {
   const join = l => { const a = f(l.a), b = f(l.b); if (a !== b) { merges.push([l.a, l.b]); f = classes(G.nodes, merges); count--; } };
   const merges = [];
   const see = name => { if (name && !hue.has(name)) hue.set(name, Math.round(hue.size * 137.508 + 205) % 360); };
-  for (const n of nodes) if (n) see(n.name);
   links.filter(joined).forEach(join);
   curve.push([count, ledger.sent.reduce((a, b) => a + b)]);
   for (const s of steps) {
     on();
     const u = undoNow(), i = s.step;
+    if (s.port !== null && nodes[s.node].ports[s.port].far !== s.far) throw Error('event ' + i + ' comes from node ' + s.far + ', to which its port does not lead');
     if (u.taken) { u.taken.takes.push(i); if (s.fate !== 'waits') u.taken.done = i; }
     before[i] = [lastAt[s.node], u.taken && u.taken.born];
     lastAt[s.node] = i;
@@ -498,7 +496,7 @@ function drawTime() {
   const box = $('time').getBoundingClientRect(), W = box.width - 4, left = G.nodes > 99 ? 96 : 78, gap = 34, room = Math.max(6, Math.floor((W - left - 30) / gap));
   const past = pastOf(at), after = only ? futureOf(at) : null;
   const keep = i => steps[i].step === at || (!($('skip').checked && idle(steps[i])) && (!only || past.has(steps[i].step) || after.has(steps[i].step)));
-  let lo = at - G.from, hi = lo + 1, list = lo >= 0 ? [lo] : [];
+  let lo = at - 1, hi = lo + 1, list = lo >= 0 ? [lo] : [];
   lo--;
   while (list.length < room && (lo >= 0 || hi < steps.length)) {
     if (hi < steps.length && (list.length % 3 === 2 || lo < 0)) { if (keep(hi)) list.push(hi); hi++; } else { if (keep(lo)) list.unshift(lo); lo--; }
@@ -549,7 +547,7 @@ const pinned = () => pin;
 function panel(c) {
   const s = stepNow(), u = s && undoNow();
   $('count').textContent = 'Event ' + at + ' of ' + G.events;
-  if (!s) $('say').innerHTML = '<p class="say">' + (G.from === 1 ? 'All nodes sleep, all marks are Basic, and nothing is on its way.' : 'The run as it stands after event ' + at + '.') + '</p>';
+  if (!s) $('say').innerHTML = '<p class="say">' + 'All nodes sleep, all marks are Basic, and nothing is on its way.' + '</p>';
   else {
     let h = '<p class="say">Node <b>' + s.node + '</b> ' + (s.port === null ? 'wakes by itself.' : 'takes <b>' + words(s) + '</b> from node <b>' + s.far + '</b> at port ' + s.port + '.') + '</p>';
     h += '<p><span class="row">' + s.row + '</span>. ' + (ROWS[s.row] || '') + '</p>';
@@ -593,15 +591,15 @@ function strip() {
   strip.ticksOf = -1;
 }
 function cursor() {
-  const x = strip.x(at - G.from + 1);
+  const x = strip.x(at);
   $('cursor').setAttribute('x1', x); $('cursor').setAttribute('x2', x);
-  const [f, sent] = curve[at - G.from + 1], end = curve[curve.length - 1];
+  const [f, sent] = curve[at], end = curve[curve.length - 1];
   $('cap1').textContent = 'fragments ' + f + ' (from ' + curve[0][0] + ' to ' + end[0] + ')';
   $('cap2').textContent = 'first sends ' + sent + ' (to ' + end[1] + '; bound, the line above: ' + G.bound + ')';
   const v = pin || (stepNow() ? stepNow().node : 0);
   if (strip.ticksOf !== v) {
     strip.ticksOf = v;
-    $('ticks').innerHTML = '<path class="tickline" d="' + steps.filter(s => s.node === v && !idle(s)).map(s => 'M' + strip.x(s.step - G.from + 1).toFixed(1) + ' 79v5').join('') + '"/>';
+    $('ticks').innerHTML = '<path class="tickline" d="' + steps.filter(s => s.node === v && !idle(s)).map(s => 'M' + strip.x(s.step).toFixed(1) + ' 79v5').join('') + '"/>';
   }
   $('seek').value = at;
   $('seek').setAttribute('aria-valuetext', 'event ' + at + ' of ' + G.events);
@@ -625,13 +623,13 @@ function show() {
 function move(k) { goto(k); show(); }
 function one(d) {
   let k = at + d;
-  if ($('skip').checked) while (k > G.from - 1 && k < G.to && idle(steps[k - G.from])) k += d;
+  if ($('skip').checked) while (k > 0 && k < G.to && idle(steps[k - 1])) k += d;
   move(k);
 }
 function halt() { clearInterval(timer); timer = 0; $('play').textContent = 'Play'; $('say').setAttribute('aria-live', 'polite'); }
 function play() {
   if (timer) return halt();
-  if (at >= G.to) goto(G.from - 1);
+  if (at >= G.to) goto(0);
   $('play').textContent = 'Stop';
   $('say').setAttribute('aria-live', 'off');
   timer = setInterval(() => { if (at >= G.to) halt(); else one(1); }, +$('speed').value);
@@ -640,17 +638,17 @@ const GOALS = [['node', 'events of the node'], ['frag', 'fragments merging'], ['
 function fits(s, goal) {
   switch (goal) {
     case 'node': return s.node === (pin || (stepNow() ? stepNow().node : 1)) && !($('skip').checked && idle(s));
-    case 'frag': return curve[s.step - G.from + 1][0] < curve[s.step - G.from][0];
+    case 'frag': return curve[s.step][0] < curve[s.step - 1][0];
     case 'level': return 'level' in s.set;
     case 'waits': return s.fate === 'waits';
-    case 'wake': return s.set.phase !== undefined && undo[s.step - G.from].set.phase === 'sleeping';
+    case 'wake': return s.set.phase !== undefined && undo[s.step - 1].set.phase === 'sleeping';
     case 'halted': return s.set.halted === true;
     default: return s.kind === goal && !($('skip').checked && idle(s));
   }
 }
 function jump(d) {
   const goal = $('goal').value;
-  for (let k = at + d; k >= G.from && k <= G.to; k += d) if (fits(steps[k - G.from], goal)) return move(k);
+  for (let k = at + d; k >= 1 && k <= G.to; k += d) if (fits(steps[k - 1], goal)) return move(k);
 }
 function setPin(v) { pin = v >= 1 && v <= G.nodes ? v : 0; show(); }
 function setTab(x) {
@@ -672,7 +670,7 @@ function scale(f, x, y) { zoom.x = x - (x - zoom.x) * f; zoom.y = y - (y - zoom.
 function mid(f) { const b = $('stage').getBoundingClientRect(); scale(f, b.width / 2, b.height / 2); }
 const ACTS = {
   ArrowRight: () => one(1), ArrowLeft: () => one(-1), ArrowDown: () => jump(1), ArrowUp: () => jump(-1), PageDown: () => move(at + 10), PageUp: () => move(at - 10),
-  Home: () => move(G.from - 1), End: () => move(G.to), ' ': play, n: () => setPin(pin ? 0 : stepNow() ? stepNow().node : 1), Escape: () => setPin(0),
+  Home: () => move(0), End: () => move(G.to), ' ': play, n: () => setPin(pin ? 0 : stepNow() ? stepNow().node : 1), Escape: () => setPin(0),
   '[': () => setPin(Math.max(1, (pin || (stepNow() ? stepNow().node : 1)) - 1)), ']': () => setPin(Math.min(G.nodes, (pin || (stepNow() ? stepNow().node : 0)) + 1)),
   x: () => { only = !only; setTab('time'); }, f: () => { follow = !follow; $('follow').setAttribute('aria-pressed', follow); zoom = { k: follow ? 2.2 : 1, x: 0, y: 0 }; show(); },
   w: () => { $('skip').checked = !$('skip').checked; show(); }, t: () => setTab(tab === 'net' ? 'time' : 'net'), c: setCircle,
@@ -682,12 +680,12 @@ const ACTS = {
 };
 function start() {
   read($('steps').textContent);
-  at = G.from - 1;
+  at = 0;
   survey();
   goto(G.from - 1);
   document.title = 'ghs: ' + G.nodes + ' nodes, ' + G.events + ' events';
-  $('what').textContent = G.nodes + ' nodes, ' + G.links + ' links, ' + (G.from === 1 && G.to === G.events ? G.events + ' events' : 'events ' + G.from + ' to ' + G.to + ' of ' + G.events);
-  $('seek').min = G.from - 1; $('seek').max = G.to;
+  $('what').textContent = G.nodes + ' nodes, ' + G.links + ' links, ' + (G.to < G.events ? 'the first ' + G.to + ' of ' : '') + G.events + ' events';
+  $('seek').min = 0; $('seek').max = G.to;
   $('pick').max = G.nodes;
   $('goal').innerHTML = GOALS.map(([k, t]) => '<option value="' + k + '">' + t + '</option>').join('');
   $('keys').innerHTML = '<table>' + KEYS.map(([k, t]) => '<tr>' + td(k) + td(t) + '</tr>').join('') + '</table><form method="dialog"><button>close</button></form>';
@@ -705,7 +703,7 @@ function start() {
   $('pick').onchange = () => setPin(+$('pick').value);
   $('nodes').onclick = e => { const g = e.target.closest('.node'); if (g) setPin(pin === +g.dataset.v ? 0 : +g.dataset.v); };
   $('lanes').onclick = e => { if (e.target.dataset.k) move(+e.target.dataset.k); };
-  const seekTo = e => { const b = $('strip').getBoundingClientRect(); move(G.from - 1 + Math.round((e.clientX - b.left - 8) / (b.width - 16) * (curve.length - 1))); };
+  const seekTo = e => { const b = $('strip').getBoundingClientRect(); move(Math.round((e.clientX - b.left - 8) / (b.width - 16) * (curve.length - 1))); };
   $('strip').onpointerdown = e => { $('strip').setPointerCapture(e.pointerId); seekTo(e); };
   $('strip').onpointermove = e => { if (e.buttons) seekTo(e); };
   $('net').onwheel = e => { e.preventDefault(); const b = $('stage').getBoundingClientRect(); scale(Math.exp(-e.deltaY / 400), e.clientX - b.left, e.clientY - b.top); };

@@ -1,5 +1,5 @@
 -- What goes out while the events of a run are gone over.
-use Rattle.std.proofs.Common.{◌≡◌, ℕ, ◌+◌, ◌<◌, List, [], ◌∷◌, ◌++◌, length, get_or, take, drop, Option, sym, ◌∙◌, ap}
+use Rattle.std.proofs.Common.{◌≡◌, ℕ, ◌+◌, ◌<◌, List, [], ◌∷◌, ◌++◌, length, get_or, take, drop, Option, sym, ◌∙◌, ap, ap₂, append_assoc}
 use Rattle.std.specs.List.{flat_map}
 use Rattle.std.proofs.lemmas.List.{take_more}
 use Rattle.ghs_graph.specs.Graph.{Shape}
@@ -9,12 +9,12 @@ use Rattle.ghs_protocol.specs.Run.{IsRun}
 use Rattle.ghs_core.specs.NetState.{NetState, IsLawful}
 use Rattle.ghs_steps.specs.declared.choice.Choice.{Choice}
 use Rattle.ghs_steps.specs.declared.write.WriteFault.{WriteFault}
-use Rattle.ghs_steps.specs.Step.{chosen, steps_behind}
+use Rattle.ghs_steps.specs.Step.{chosen, step, steps, steps_behind}
 use Rattle.ghs_steps.specs.declared.form.Form.{Form}
 use Rattle.ghs_steps.specs.Lines.{line_in, lines, shown}
 use Rattle.ghs_steps.specs.Written.{IsFront, IsOut}
 use Rattle.ghs_steps.proofs.Gone.{front_longer, out_more}
-use Rattle.ghs_steps.proofs.Stepping.{lawful_here, text_front, text_more}
+use Rattle.ghs_steps.proofs.Stepping.{lawful_here, steps_more, text_front, text_more}
 
 pub lawful_net : (s : NetState) (g : Shape) (es : List Event) (i : ℕ) (d : Event) → s.graph ≡ g → s.trace ≡ take i es →
     IsRun (network_of g) es → i < length es →
@@ -41,3 +41,14 @@ front_of_all old now form g c es i f front =
     rw (text_front form g c es i)
     (front_longer old now (lines form g (take i es) c)
     (flat_map (line_in form) (chosen c (steps_behind g (take i es) (drop i es)))) f front)
+
+-- what one step appends
+pub lines_put : (f : Form) (s : NetState) (g : Shape) (es : List Event) (i : ℕ) (d : Event) (old rest rest' : List ℕ) →
+    s.graph ≡ g → s.trace ≡ take i es → i < length es → rest ≡ old ++ flat_map (line_in f) (steps g (take i es)) →
+    rest' ≡ rest ++ line_in f (step s.graph s.trace (get_or es i d)) →
+    rest' ≡ old ++ flat_map (line_in f) (steps g (take (i + 1) es))
+lines_put f s g es i d old rest rest' graph trace lt so_far more =
+    more
+    ∙ (ap₂ (λ (t : List ℕ) (l : List ℕ). t ++ l) so_far (ap₂ (λ (h : Shape) (fs : List Event). line_in f (step h fs (get_or es i d))) graph trace)
+    ∙ (append_assoc old (flat_map (line_in f) (steps g (take i es))) (line_in f (step g (take i es) (get_or es i d)))
+    ∙ ap (λ t. old ++ t) (sym (steps_more f g es i d lt))))

@@ -52,6 +52,16 @@ pub text_more : (f : Form) (g : Shape) (c : Choice) (es : List Event) (i : ℕ) 
     lines f g (take (i + 1) es) c ≡ lines f g (take i es) c ++ shown f g (take i es) (get_or es i d) c
 text_more f g c es i d lt = ap (λ (fs : List Event). lines f g fs c) (take_more es i d lt) ∙ text_append f g c (take i es) (get_or es i d ∷ [])
 
+-- one step more
+pub steps_more : (f : Form) (g : Shape) (es : List Event) (i : ℕ) (d : Event) → i < length es →
+    flat_map (line_in f) (steps g (take (i + 1) es)) ≡ flat_map (line_in f) (steps g (take i es)) ++ line_in f (step g (take i es) (get_or es i d))
+steps_more f g es i d lt =
+    let e = get_or es i d in
+    ap (λ (fs : List Event). flat_map (line_in f) (steps g fs)) (take_more es i d lt)
+    ∙ (ap (flat_map (line_in f)) (steps_append g [] (take i es) (e ∷ []))
+    ∙ (flat_map-append (line_in f) (steps g (take i es)) (step g (take i es) e ∷ [])
+    ∙ ap (λ t. flat_map (line_in f) (steps g (take i es)) ++ t) (append-nil (line_in f (step g (take i es) e)))))
+
 -- the text of the first events is a front of the text
 pub text_front : (f : Form) (g : Shape) (c : Choice) (es : List Event) (i : ℕ) →
     lines f g es c ≡ lines f g (take i es) c ++ flat_map (line_in f) (chosen c (steps_behind g (take i es) (drop i es)))

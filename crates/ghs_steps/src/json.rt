@@ -258,8 +258,9 @@ fn put_name(text: &mut Vec<u8>, lead: &[u8], name: &[u8]) -> Result<(), AllocErr
     text.extend_from_slice(b"\":")
 }
 
+/// Appends a member of an object whose value is a number: what stands before it, its name, and the number.
 #[tactic(auto, unfolding(crate::specs::Json::member))]
-pub(crate) fn put_number_member(
+pub fn put_number_member(
     text: &mut Vec<u8>,
     lead: &[u8],
     name: &[u8],
@@ -271,8 +272,9 @@ pub(crate) fn put_number_member(
     put_number(text, number)
 }
 
+/// Appends a member whose value is a word. The word has no quote and no backslash.
 #[tactic(auto, unfolding(crate::specs::Json::member))]
-pub(crate) fn put_word_member(
+pub fn put_word_member(
     text: &mut Vec<u8>,
     lead: &[u8],
     name: &[u8],
@@ -284,17 +286,18 @@ pub(crate) fn put_word_member(
     put_quoted(text, word)
 }
 
+/// Appends a member whose value is a link's key.
 #[tactic(auto, unfolding(crate::specs::Json::member))]
-pub(crate) fn put_key_member(
+pub fn put_key_member(
     text: &mut Vec<u8>,
     lead: &[u8],
     name: &[u8],
-    key: Key,
+    link: Key,
 ) -> Result<(), AllocError>
-    ensures { IfOk result (λ _. text.new.items ≡ text.old.items ++ member lead.now name.now (quoted (key_text key))) }
+    ensures { IfOk result (λ _. text.new.items ≡ text.old.items ++ member lead.now name.now (quoted (key_text link))) }
 {
     put_name(text, lead, name)?;
-    put_quoted_key(text, key)
+    put_quoted_key(text, link)
 }
 
 #[tactic(auto, unfolding(crate::specs::Json::member))]
@@ -372,15 +375,15 @@ fn put_number_or_null(text: &mut Vec<u8>, number: Option<u32>) -> Result<(), All
     }
 }
 
-// A port and a word.
+// A port and its mark.
 #[tactic(auto, unfolding(crate::specs::Json::pair))]
-fn put_pair(text: &mut Vec<u8>, port: u32, word: &[u8]) -> Result<(), AllocError>
-    ensures { IfOk result (λ _. text.new.items ≡ text.old.items ++ pair port word.now) }
+fn put_pair(text: &mut Vec<u8>, port: u32, mark: &[u8]) -> Result<(), AllocError>
+    ensures { IfOk result (λ _. text.new.items ≡ text.old.items ++ pair port mark.now) }
 {
     text.extend_from_slice(b"[")?;
     put_number(text, u128::from(port))?;
     text.extend_from_slice(b",")?;
-    put_quoted(text, word)?;
+    put_quoted(text, mark)?;
     text.extend_from_slice(b"]")
 }
 

@@ -1,6 +1,7 @@
 //! The steps of a whole run, written out.
 ghost use Rattle.std.specs.Prelude.{◌≡◌, ℕ, ◌+◌, ◌≤◌, ◌<◌, ◌^◌, ◌++◌, ◌∷◌, [], List, Option, false, true, length, slice_index, IfErr, IfOk, OnOk, MatchResult};
 ghost use Rattle.std.specs.Io.KnownBytes.{Appends};
+ghost use Rattle.std.specs.List.{flat_map};
 ghost use Rattle.ghs_protocol.specs.Ledger.{in_all};
 ghost use Rattle.ghs_protocol.specs.Net.{event_node};
 ghost use Rattle.ghs_protocol.specs.Network.{network_of};
@@ -8,7 +9,7 @@ ghost use Rattle.ghs_protocol.specs.Run.{IsRun};
 ghost use Rattle.ghs_core.specs.NetState.{net_of, work_at, IsAnswer, IsLawful};
 ghost use Rattle.ghs_node.specs.Reaction.{IsReaction};
 ghost use Rattle.ghs_node.specs.Rows.{Row};
-ghost use Rattle.ghs_steps.specs.Step.{step};
+ghost use Rattle.ghs_steps.specs.Step.{step, steps};
 ghost use Rattle.ghs_steps.specs.Lines.{line_in, lines, shown};
 ghost use Rattle.ghs_steps.specs.Written.{IsFront, IsOut};
 
@@ -88,6 +89,32 @@ pub fn write_run<W: Sink>(
         Ok(_) => Ok(()),
         Err(fault) => Err(fault),
     }
+}
+
+/// Plays a run from the opening on and appends the line of each of its events, in the form that is asked for. Answers the
+/// net that it leaves. Refusal: want of memory.
+pub fn put_lines(
+    alloc: Global,
+    graph: Graph,
+    events: &[Event],
+    form: Form,
+    text: &mut Vec<u8>,
+) -> Result<Net, AllocError>
+    requires run { IsRun (network_of graph) events.now }
+    requires few { length events.now ≤ 2 ^ 40 }
+    ensures graph { IfOk result (λ net. net.graph ≡ graph) }
+    ensures trace { IfOk result (λ net. net.trace ≡ events.now) }
+    ensures text { OnOk result (text.new.items ≡ text.old.items ++ flat_map (line_in form) (steps graph events.now)) }
+{
+    let mut net = match Net::open(alloc, graph) {
+        Ok(net) => net,
+        Err((_, error)) => return Err(error),
+    };
+    for event in events {
+        let delta = answer(alloc, &net, *event)?;
+        put_step(alloc, &mut net, *event, &delta, form, text)?;
+    }
+    Ok(net)
 }
 
 // The event happens, and its line is appended if it is chosen.

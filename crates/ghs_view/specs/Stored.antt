@@ -1,0 +1,18 @@
+-- Why a stored run has no page.
+use Rattle.std.specs.Prelude.{ℕ, List}
+use Rattle.ghs_graph.specs.Graph.{Shape}
+use Rattle.ghs_protocol.specs.declared.event.Event.{Event}
+use Rattle.ghs_protocol.specs.Network.{network_of}
+use Rattle.ghs_protocol.specs.Run.{IsRunUnder}
+use Rattle.ghs_sched.specs.Replays.{IsFirstUnlawful}
+use Rattle.ghs_world.specs.declared.wake_set.WakeSet.{WakeSet}
+use Rattle.ghs_world.specs.Wakes.{may_wake}
+use Rattle.ghs_view.specs.declared.stored.StoredFault.{StoredFault}
+use Rattle.ghs_view.specs.declared.stored.StoredFault.TheVariants.{Memory, NotLawful, TooLarge}
+use Rattle.ghs_view.specs.RunPage.{IsTooLarge}
+
+-- the first event that can't happen where it stands; a run that a page can't take; want of memory may come anywhere
+abbrev pub HasNoPage : Shape → WakeSet → List Event → ℕ → StoredFault → Type 0
+HasNoPage g wake es to (NotLawful k) = IsFirstUnlawful g wake es k
+HasNoPage g wake es to TooLarge = IsRunUnder (may_wake g wake) (network_of g) es × IsTooLarge g es to
+HasNoPage g wake es to Memory = Unit {0}

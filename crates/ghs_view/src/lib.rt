@@ -1,0 +1,8 @@
+//! A run as one page: the page's constant text round what the run is and does.
+#![tactic(auto)]
+
+pub mod data;
+pub mod page;
+pub mod stored;
+#[cfg(test)]
+mod tests;

@@ -1,0 +1,67 @@
+//! The page of a run.
+ghost use Rattle.std.specs.Prelude.{◌≡◌, ◌≤◌, ◌^◌, ◌↔◌, IfOk, IsErrOf, length};
+ghost use Rattle.ghs_protocol.specs.Network.{network_of};
+ghost use Rattle.ghs_protocol.specs.Run.{IsRun};
+ghost use Rattle.ghs_view.specs.Data.{events_to};
+ghost use Rattle.ghs_view.specs.RunPage.{IsRunPage, IsTooLarge};
+ghost use Rattle.ghs_view.specs.declared.page.PageFault.TheVariants.{Memory, TooLarge};
+
+use crate::data::data_of;
+use ghs_core::event::Event;
+use ghs_graph::bounds::bound;
+use ghs_graph::graph::Graph;
+use ghs_page::page::page;
+use std::alloc::{AllocError, Global};
+
+/// The most nodes that a page shows.
+pub const PAGE_NODES: u32 = 2_000;
+
+/// The most events that a page shows.
+pub const PAGE_EVENTS: usize = 100_000;
+
+/// Why a run has no page.
+#[derive(Clone, Copy, Debug, Drop, PartialEq, Eq)]
+pub enum PageFault {
+    /// The network has more than `PAGE_NODES` nodes, or more than `PAGE_EVENTS` events are to be shown.
+    TooLarge,
+    /// Memory ran out.
+    Memory,
+}
+
+impl From<AllocError> for PageFault {
+    ghost from_gives = { λ _ e. e ≡ Memory };
+
+    fn from(_error: AllocError) -> PageFault {
+        PageFault::Memory
+    }
+}
+
+/// The page of a run: its steps from the opening on to the event `to`, or to the last where there are fewer. It opens
+/// before the event `from`. Events are counted from 1. Refusals: the page is too large; want of memory.
+pub fn run_page(
+    alloc: Global,
+    graph: Graph,
+    events: &[Event],
+    from: u64,
+    to: u64,
+) -> Result<Vec<u8>, PageFault>
+    requires run { IsRun (network_of graph) events.now }
+    requires few { length events.now ≤ 2 ^ 40 }
+    ensures page { IfOk result (λ text. IsRunPage graph events.now from to text.items) }
+    ensures large { IsErrOf result TooLarge ↔ IsTooLarge graph events.now to }
+{
+    let shown = first_events(events, to);
+    if graph.nodes() > PAGE_NODES || shown.len() > PAGE_EVENTS {
+        return Err(PageFault::TooLarge);
+    }
+    let most = bound(graph.nodes(), graph.links());
+    let data = data_of(alloc, graph, most, shown, events.len() as u64, from)?;
+    Ok(page(alloc, &data)?)
+}
+
+// The events up to a number.
+fn first_events(events: &[Event], to: u64) -> &[Event]
+    ensures { result.now ≡ events_to to events.now }
+{
+    &events[..to.min(events.len() as u64) as usize]
+}

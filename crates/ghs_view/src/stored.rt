@@ -1,0 +1,57 @@
+//! The page of a stored run, which is judged first.
+ghost use Rattle.ghs_protocol.specs.Network.{network_of};
+ghost use Rattle.ghs_protocol.specs.Run.{IsRunUnder};
+ghost use Rattle.ghs_sched.specs.declared.trace.TheConstants.{EVENT_LIMIT};
+ghost use Rattle.ghs_view.specs.RunPage.{IsRunPage};
+ghost use Rattle.ghs_view.specs.Stored.{HasNoPage};
+ghost use Rattle.ghs_world.specs.Wakes.{may_wake};
+ghost use Rattle.std.specs.Prelude.{◌≡◌, ◌≤◌, IfErr, IfOk, OnOk, length};
+
+use crate::page::{PageFault, run_page};
+use ghs_core::event::Event;
+use ghs_graph::graph::Graph;
+use ghs_sched::fault::ReplayFault;
+use ghs_sched::replay::replay;
+use ghs_world::wake_set::WakeSet;
+use std::alloc::Global;
+
+/// Why a stored run has no page. Events are counted from 1.
+#[derive(Clone, Copy, Debug, Drop, PartialEq, Eq)]
+pub enum StoredFault {
+    /// The first event that isn't lawful where it stands.
+    NotLawful(u64),
+    /// The network has too many nodes, or too many events are to be shown.
+    TooLarge,
+    /// Memory ran out.
+    Memory,
+}
+
+/// The page of a stored run, from the opening on to the event `to`; it opens before the event `from`. A run that hasn't
+/// ended is shown too. Refusals, in this order: an event isn't lawful; the page is too large; want of memory comes where
+/// it is met.
+pub fn stored_page(
+    alloc: Global,
+    graph: Graph,
+    wake: WakeSet,
+    events: &[Event],
+    from: u64,
+    to: u64,
+) -> Result<Vec<u8>, StoredFault>
+    requires few { length events.now ≤ EVENT_LIMIT }
+    ensures run { OnOk result (IsRunUnder (may_wake graph wake) (network_of graph) events.now) }
+    ensures page { IfOk result (λ text. IsRunPage graph events.now from to text.items) }
+    ensures fault { IfErr result (λ fault. HasNoPage graph wake events.now to fault) }
+{
+    let world = match replay(alloc, graph, wake, events) {
+        Ok(world) => world,
+        Err((_, ReplayFault::NotLawful(event))) => return Err(StoredFault::NotLawful(event)),
+        Err((_, _)) => return Err(StoredFault::Memory),
+    };
+    // Read for its clause: the events are a run.
+    let _ = world.trace();
+    match run_page(alloc, world.into_graph(), events, from, to) {
+        Ok(text) => Ok(text),
+        Err(PageFault::TooLarge) => Err(StoredFault::TooLarge),
+        Err(PageFault::Memory) => Err(StoredFault::Memory),
+    }
+}
