@@ -1,14 +1,15 @@
 #!/usr/bin/env python3
 """The steps of a stored run, played by a program that shares nothing with `ghs`: what its texts are compared with.
 
-    page/independent.py GRAPH TRACE [--json | --page] [--from A] [--to B] [--node V]
+    page/independent.py GRAPH TRACE [--json | --page | --html] [--from A] [--to B] [--node V]
 
 It plays the events of a trace by the node's procedures as docs/PROTOCOL.md states them, and writes what each of them
-changed: its steps as text or as JSON Lines, or the data of its page (docs/FORMATS.md). Parallel links, loops and graphs
-in pieces are taken.
+changed: its steps as text or as JSON Lines, the data of its page, or the page (docs/FORMATS.md). Parallel links, loops
+and graphs in pieces are taken.
 """
 import argparse
 import json
+import os
 import sys
 from collections import deque
 
@@ -318,6 +319,7 @@ def parse(words):
     parser.add_argument('trace')
     parser.add_argument('--json', action='store_true')
     parser.add_argument('--page', action='store_true')
+    parser.add_argument('--html', action='store_true')
     parser.add_argument('--from', type=int, default=1, dest='first')
     parser.add_argument('--to', type=int, dest='last')
     parser.add_argument('--node', type=int)
@@ -329,8 +331,10 @@ def main():
     net = Net(*read_gr(open(asked.graph).read()))
     events = read_trace(open(asked.trace).read())
     last = len(events) if asked.last is None else min(asked.last, len(events))
-    if asked.page:
-        sys.stdout.writelines(page_lines(net, events, asked.first, last))
+    if asked.page or asked.html:
+        data = ''.join(page_lines(net, events, asked.first, last))
+        template = os.path.join(os.path.dirname(os.path.abspath(__file__)), 'template.html')
+        sys.stdout.write(open(template).read().replace('@DATA@', data) if asked.html else data)
         return
     for event in events[:last]:
         step = net.play(event)
