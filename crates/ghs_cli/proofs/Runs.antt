@@ -23,12 +23,14 @@ use Rattle.ghs_world.specs.declared.wake_set.WakeSet.{WakeSet}
 use Rattle.ghs_world.specs.Wakes.{may_wake}
 use Rattle.ghs_world.specs.WorldState.{WorldState, home, wakers}
 use Rattle.ghs_cli.specs.declared.fault.ServeFault.{ServeFault}
+use Rattle.ghs_cli.specs.declared.job.Picking.{Picking}
+use Rattle.ghs_cli.specs.declared.job.Picking.TheVariants.{Seeded, Patient}
 use Rattle.ghs_cli.specs.declared.job.RunOptions.{RunOptions}
 use Rattle.ghs_cli.specs.declared.job.Show.TheVariants.{Events}
 use Rattle.ghs_cli.specs.declared.job.Task.{Task}
 use Rattle.ghs_cli.specs.declared.job.Task.TheVariants as task
 use Rattle.ghs_cli.specs.Running.{IsOpened}
-use Rattle.ghs_cli.specs.Serving.{IfStored, IsCause, IsRan, IsRunBy, IsRunOutput, IsRunningCause, IsSeeded, IsStopped, IsWholeRun, StopsRun, shape_of}
+use Rattle.ghs_cli.specs.Serving.{IfStored, IsCause, IsRan, IsRunBy, IsRunOutput, IsPickedBy, IsRunningCause, IsSeeded, IsStopped, IsWholeRun, StopsRun, shape_of}
 
 -- a world opened and run on by the schedule of a seed has the events of the seed's run
 pub is_seeded : (o : RunOptions) (old new : WorldState) (after : List ℕ) →
@@ -51,20 +53,27 @@ pub is_run_by : (o : RunOptions) (new : WorldState) (limit : ℕ) →
     IsRunUnder (wakers new) (network_of new.net.graph) new.net.trace →
     limit ≡ new.turns →
     length new.net.trace + length new.outs ≤ limit →
-    (o.workers ≡ 0 → IsSeeded o.seed o.wake o.turns new.net.graph new.net.trace) →
+    (o.workers ≡ 0 → IsPickedBy o.picking o new.net.graph new.net.trace) →
     IsRunBy o new.net.graph new.net.trace
-is_run_by o new limit wake turns run is fits by_seed = record {
+is_run_by o new limit wake turns run is fits picked = record {
   run = subst (λ (w : WakeSet). IsRunUnder (may_wake new.net.graph w) (network_of new.net.graph) new.net.trace) wake run;
   within = omega (arith, fits, turns, is);
-  seeded = by_seed;
+  picked = picked;
 }
 
 -- a run that has come to an end has ended
 pub ended_by : (s : WorldState) (e : RunEnd) → IsEnd s e → HasEnded s.net.graph (home s)
 ended_by s (Halted v) is = is.0
 
+picked_of_seed : (o : RunOptions) (new : WorldState) →
+    o.picking ≡ Seeded →
+    IsSeeded o.seed o.wake o.turns new.net.graph new.net.trace →
+    IsPickedBy o.picking o new.net.graph new.net.trace
+picked_of_seed o new by_seed is = subst (λ (p : Picking). IsPickedBy p o new.net.graph new.net.trace) (sym by_seed) is
+
 -- the seed's run has ended
 pub whole_seeded : (o : RunOptions) (old new : WorldState) (words after : List ℕ) (limit : ℕ) (e : RunEnd) →
+    o.picking ≡ Seeded →
     words ≡ seeded o.seed →
     IsOpened o old →
     HasRun old new words after →
@@ -74,14 +83,15 @@ pub whole_seeded : (o : RunOptions) (old new : WorldState) (words after : List �
     IsWhole old new words after →
     IsEnd new e →
     IsWholeRun o new.net.graph new.net.trace
-whole_seeded o old new words after limit e begun opened has run is fits whole end = record {
+whole_seeded o old new words after limit e by_seed begun opened has run is fits whole end = record {
   by = is_run_by o new limit (has.wake ∙ opened.wake) (has.turns ∙ opened.turns) run is fits
-      (λ no. is_seeded o old new after opened has.graph (subst (λ (s : List ℕ). IsWhole old new s after) begun whole));
+      (λ no. picked_of_seed o new by_seed (is_seeded o old new after opened has.graph (subst (λ (s : List ℕ). IsWhole old new s after) begun whole)));
   ended = ended_by new e end;
 }
 
 -- the seed's run has used its turns
 pub stopped_seeded : (o : RunOptions) (old new : WorldState) (words after : List ℕ) (limit : ℕ) (r : Result RunEnd RunFault) (fault : RunFault) →
+    o.picking ≡ Seeded →
     words ≡ seeded o.seed →
     IsOpened o old →
     HasRun old new words after →
@@ -95,7 +105,7 @@ pub stopped_seeded : (o : RunOptions) (old new : WorldState) (words after : List
     IfErr r (EndsFor new) →
     OnErr r (HasEnded new.net.graph (home new) → ⊥) →
     IsStopped o new.net.graph new.net.trace
-stopped_seeded o old new words after limit r fault begun opened has run is fits few answer at_limit whole ends goes =
+stopped_seeded o old new words after limit r fault by_seed begun opened has run is fits few answer at_limit whole ends goes =
     let none : length old.net.trace ≡ 0 = ap (λ (es : List Event). length es) opened.trace in
     let numbers = has.numbers in
     let first = opened.last in
@@ -104,9 +114,11 @@ stopped_seeded o old new words after limit r fault begun opened has run is fits 
     let all : IsWhole old new (seeded o.seed) after = subst (λ (s : List ℕ). IsWhole old new s after) begun (whole is_limit small) in
     let used : EndsFor new TurnLimit = subst (λ (x : Result RunEnd RunFault). IfErr x (EndsFor new)) is_limit ends in
     record {
-      by = is_run_by o new limit (has.wake ∙ opened.wake) (has.turns ∙ opened.turns) run is fits (λ no. is_seeded o old new after opened has.graph all);
+      by = is_run_by o new limit (has.wake ∙ opened.wake) (has.turns ∙ opened.turns) run is fits
+          (λ no. picked_of_seed o new by_seed (is_seeded o old new after opened has.graph all));
       used = ⊎_elim (λ (e : length new.net.trace ≡ new.turns). e ∙ has.turns ∙ opened.turns) (λ large. absurd (omega (arith, large, small))) used;
       goes_on = subst (λ (x : Result RunEnd RunFault). OnErr x (HasEnded new.net.graph (home new) → ⊥)) is_limit goes;
+      few = λ no patient. absurd (let bad : Seeded ≡ Patient = sym by_seed ∙ patient in cc);
     }
 
 -- a run of workers is as the options ask
@@ -151,6 +163,7 @@ stopped_threads o new limit events some wake turns run is fits count least goes 
       by = by_threads o new limit some wake turns run is fits;
       used = omega (arith, least, fits, count, is, turns);
       goes_on = goes;
+      few = λ no. absurd (omega (arith, some, no));
     }
 
 -- what goes out of one that has used its turns

@@ -19,6 +19,10 @@ option_rule name default = record (new_rule name) { long = Some name; defaults =
 abbrev pub seed_rule : Rule
 seed_rule = option_rule (codes "seed") (codes "1")
 
+-- `--schedule`: among which events it picks them
+abbrev pub schedule_rule : Rule
+schedule_rule = option_rule (codes "schedule") (codes "seeded")
+
 -- `--workers`: how many threads take part
 abbrev pub workers_rule : Rule
 workers_rule = option_rule (codes "workers") (codes "0")
@@ -43,11 +47,11 @@ wake_rule = option_rule (codes "wake") (codes "all")
 abbrev pub tree_command : App
 tree_command = with_rule (new_app (codes "tree")) file_rule
 
--- `run [FILE] [--seed S] [--workers W] [--wake all|first] [--turns T] [--print report|trace] [--progress]`
+-- `run [FILE] [--seed S] [--schedule seeded|patient] [--workers W] [--wake all|first] [--turns T] [--print report|trace] [--progress]`
 abbrev pub run_command : App
 run_command =
     let named = with_rule (new_app (codes "run")) file_rule in
-    let numbered = with_rule (with_rule named seed_rule) workers_rule in
+    let numbered = with_rule (with_rule (with_rule named seed_rule) schedule_rule) workers_rule in
     with_rule (with_rule (with_rule (with_rule numbered wake_rule) turns_rule) print_rule) progress_rule
 
 -- `replay TRACE [FILE] [--wake all|first]`

@@ -15,6 +15,8 @@ use Rattle.ghs_world.specs.declared.wake_set.WakeSet.TheVariants.{First}
 use Rattle.ghs_cli.specs.Grammar.{program}
 use Rattle.ghs_cli.specs.declared.job.JobFault.{JobFault}
 use Rattle.ghs_cli.specs.declared.job.JobFault.TheVariants as fault
+use Rattle.ghs_cli.specs.declared.job.Picking.{Picking}
+use Rattle.ghs_cli.specs.declared.job.Picking.TheVariants.{Patient}
 use Rattle.ghs_cli.specs.declared.job.RunOptions.{RunOptions}
 use Rattle.ghs_cli.specs.declared.job.Show.{Show}
 use Rattle.ghs_cli.specs.declared.job.Show.TheVariants.{Events}
@@ -50,6 +52,10 @@ IsWake command wake = (wake ≡ First) ↔ (value_in (codes "wake") command ≡ 
 abbrev pub IsShow : Used → Show → Type 0
 IsShow command show = (show ≡ Events) ↔ (value_in (codes "print") command ≡ Some (codes "trace"))
 
+-- among which events a schedule picks, as `--schedule` says
+abbrev pub IsPicking : Used → Picking → Type 0
+IsPicking command picking = (picking ≡ Patient) ↔ (value_in (codes "schedule") command ≡ Some (codes "patient"))
+
 -- whether it is told how far the run has come, as `--progress` says, which has no value of its own
 abbrev pub IsToldOf : Used → Bool → Type 0
 IsToldOf command progress = (progress ≡ true) ↔ (value_in (codes "progress") command ≡ Some (codes "true"))
@@ -76,6 +82,7 @@ turns_in = number_at (codes "turns") 1 EVENT_LIMIT
 -- how a command asks for a network to be run
 pub record AreOptions (command : Used) (o : RunOptions) : Type 0 where
   pub seed : o.seed ≡ seed_in command
+  pub picking : IsPicking command o.picking
   pub workers : o.workers ≡ workers_in command
   pub wake : IsWake command o.wake
   pub turns : o.turns ≡ turns_in command
@@ -115,6 +122,7 @@ abbrev pub has_values : Used → Bool
 has_values command =
     is_among (codes "all" ∷ codes "first" ∷ []) (value_in (codes "wake") command)
     && is_among (codes "report" ∷ codes "trace" ∷ []) (value_in (codes "print") command)
+    && is_among (codes "seeded" ∷ codes "patient" ∷ []) (value_in (codes "schedule") command)
     && is_number 0 18446744073709551615 (value_in (codes "seed") command)
     && is_number 0 MOST_WORKERS (value_in (codes "workers") command)
     && is_number 1 EVENT_LIMIT (value_in (codes "turns") command)

@@ -1,6 +1,8 @@
 -- To be believed: contracts cite what stands here, and what it is made of.
+pub mod Ending
 pub mod Fault
 pub mod Grammar
 pub mod Job
+pub mod Patience
 pub mod Running
 pub mod Serving

@@ -26,11 +26,14 @@ use Rattle.ghs_world.specs.declared.wake_set.WakeSet.{WakeSet}
 use Rattle.ghs_world.specs.Wakes.{may_wake}
 use Rattle.ghs_cli.specs.declared.fault.ServeFault.{ServeFault}
 use Rattle.ghs_cli.specs.declared.fault.ServeFault.TheVariants as serve
+use Rattle.ghs_cli.specs.declared.job.Picking.{Picking}
+use Rattle.ghs_cli.specs.declared.job.Picking.TheVariants.{Seeded, Patient}
 use Rattle.ghs_cli.specs.declared.job.RunOptions.{RunOptions}
 use Rattle.ghs_cli.specs.declared.job.Show.{Show}
 use Rattle.ghs_cli.specs.declared.job.Show.TheVariants.{Summary, Events}
 use Rattle.ghs_cli.specs.declared.job.Task.{Task}
 use Rattle.ghs_cli.specs.declared.job.Task.TheVariants as task
+use Rattle.ghs_cli.specs.Patience.{HasTurnsFor, IsPatient}
 
 -- the keys of a graph's links
 abbrev pub keys_of : RawShape → List Key
@@ -75,22 +78,28 @@ pub record IsSeeded (seed : ℕ) (wake : WakeSet) (turns : ℕ) (g : Shape) (eve
   pub words : List ℕ
   pub run : IsSeededRun (may_wake g wake) g turns [] (seeded seed) events words
 
--- events that are a run of a graph as its options ask: under the wake set, within the turns; without threads it is the seed's
+-- the events that a seed's schedule picks of a graph, among all that may happen or patiently
+abbrev pub IsPickedBy : Picking → RunOptions → Shape → List Event → Type 0
+IsPickedBy Seeded o g events = IsSeeded o.seed o.wake o.turns g events
+IsPickedBy Patient o g events = IsPatient o.seed o.wake o.turns g events
+
+-- events that are a run of a graph as its options ask: under the wake set, within the turns; without threads the seed's schedule picks them
 pub record IsRunBy (o : RunOptions) (g : Shape) (events : List Event) : Type 0 where
   pub run : IsRunUnder (may_wake g o.wake) (network_of g) events
   pub within : length events ≤ o.turns
-  pub seeded : o.workers ≡ 0 → IsSeeded o.seed o.wake o.turns g events
+  pub picked : o.workers ≡ 0 → IsPickedBy o.picking o g events
 
 -- such a run that has ended
 pub record IsWholeRun (o : RunOptions) (g : Shape) (events : List Event) : Type 0 where
   pub by : IsRunBy o g events
   pub ended : HasEnded g (net_after g events)
 
--- and one that has used its turns and hasn't ended
+-- and one that has used its turns and hasn't ended; a patient one ends where it has turns for its events
 pub record IsStopped (o : RunOptions) (g : Shape) (events : List Event) : Type 0 where
   pub by : IsRunBy o g events
   pub used : length events ≡ o.turns
   pub goes_on : HasEnded g (net_after g events) → ⊥
+  pub few : o.workers ≡ 0 → o.picking ≡ Patient → HasTurnsFor g o.turns → ⊥
 
 -- what is shown of a run that has ended: the text of its net, or its events
 abbrev pub IsShown : Show → Shape → List Event → List ℕ → Type 0

@@ -1,7 +1,7 @@
 //! The words that the program takes.
 ghost use Rattle.clap.specs.Words.{app_of, rule_of};
 ghost use Rattle.clap.specs.declared.builder.command.Command.TheViews.{out-Command};
-ghost use Rattle.ghs_cli.specs.Grammar.{file_rule, option_rule, print_rule, program, progress_rule, replay_command, run_command, seed_rule, tree_command, turns_rule, wake_rule, workers_rule};
+ghost use Rattle.ghs_cli.specs.Grammar.{file_rule, option_rule, print_rule, program, progress_rule, replay_command, run_command, schedule_rule, seed_rule, tree_command, turns_rule, wake_rule, workers_rule};
 ghost use Rattle.std.specs.Prelude.{◌≡◌, IfOk, false};
 
 use clap::{Arg, ArgAction, Command};
@@ -46,6 +46,7 @@ fn run<'a>(alloc: Global) -> Result<Command<'a>, AllocError>
             )
             .arg(file(alloc))?
             .arg(seed(alloc))?
+            .arg(schedule(alloc))?
             .arg(workers(alloc))?
             .arg(wake(alloc))?
             .arg(turns(alloc))?
@@ -85,6 +86,16 @@ fn seed<'a>(alloc: Global) -> Arg<'a>
     ensures rule { rule_of result ≡ seed_rule }
 {
     option(alloc, "seed", "1").help("The number that picks the order of the events")
+}
+
+// Among which events it picks them.
+fn schedule<'a>(alloc: Global) -> Arg<'a>
+    ensures local { result.global ≡ false }
+    ensures rule { rule_of result ≡ schedule_rule }
+{
+    option(alloc, "schedule", "seeded").help(
+        "Which events the seed picks among: seeded, all that may happen, or patient, those that move the run on",
+    )
 }
 
 // How many threads take part.

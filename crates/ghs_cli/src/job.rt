@@ -1,7 +1,7 @@
 //! Command lines.
 ghost use Rattle.ghs_cli.specs.declared.job.JobFault.TheVariants.{Memory};
 ghost use Rattle.ghs_cli.specs.Grammar.{program};
-ghost use Rattle.ghs_cli.specs.Job.{AreOptions, AreWithinLimits, command_in, has_values, is_among, is_number, kinds_of, name_in, number_at, number_in, option_kinds, value_in, with_name, IsRefused, IsSaid, IsSaidOf, IsShow, IsTask, IsWake, IsWithinLimits};
+ghost use Rattle.ghs_cli.specs.Job.{AreOptions, AreWithinLimits, command_in, has_values, is_among, is_number, kinds_of, name_in, number_at, number_in, option_kinds, value_in, with_name, IsPicking, IsRefused, IsSaid, IsSaidOf, IsShow, IsTask, IsWake, IsWithinLimits};
 ghost use Rattle.clap.specs.Words.{kind_of, subcommand_rows_of};
 ghost use Rattle.std.specs.Option.{option_map};
 ghost use Rattle.std.specs.Prelude.{◌≡◌, ◌≤◌, ◌↔◌, ◌∷◌, [], IfErr, IfOk, IfSome, OnErr, OnOk, Some, codes, false, map, string_bytes, true};
@@ -25,11 +25,22 @@ pub enum Show {
     Events,
 }
 
+/// Among which events a schedule picks the next one.
+#[derive(Clone, Copy, Debug, PartialEq, Eq)]
+pub enum Picking {
+    /// Among all that may happen.
+    Seeded,
+    /// Among those that move the run on, and so every run ends; where there is none, among those that uncover one.
+    Patient,
+}
+
 /// How a network is run.
 #[derive(Clone, Copy, Debug, PartialEq, Eq)]
 pub struct RunOptions {
     /// Whose schedule picks the events, where no threads take part.
     pub seed: u64,
+    /// Among which events it picks them.
+    pub picking: Picking,
     /// How many threads take part, 0 to 64; with 0 a schedule picks the events.
     pub workers: u32,
     /// Which nodes wake by themselves.
@@ -138,6 +149,7 @@ fn check_options<'a>(alloc: Global, matches: &ArgMatches<'a>) -> Result<(), JobF
 {
     check_choice(alloc, matches, "wake", "all", "first")?;
     check_choice(alloc, matches, "print", "report", "trace")?;
+    check_choice(alloc, matches, "schedule", "seeded", "patient")?;
     check_number(alloc, matches, "seed", 0, u64::MAX)?;
     check_number(alloc, matches, "workers", 0, MOST_WORKERS as u64)?;
     check_number(alloc, matches, "turns", 1, EVENT_LIMIT)
@@ -206,6 +218,7 @@ fn options_of<'a>(matches: &ArgMatches<'a>) -> RunOptions
 {
     RunOptions {
         seed: number_of(matches, "seed", 0, u64::MAX),
+        picking: picking_of(matches),
         workers: number_of(matches, "workers", 0, MOST_WORKERS as u64) as u32,
         wake: wake_of(matches),
         turns: number_of(matches, "turns", 1, EVENT_LIMIT),
@@ -222,6 +235,17 @@ fn wake_of<'a>(matches: &ArgMatches<'a>) -> WakeSet
         WakeSet::First
     } else {
         WakeSet::All
+    }
+}
+
+/// Among which events a schedule picks.
+fn picking_of<'a>(matches: &ArgMatches<'a>) -> Picking
+    ensures { IsPicking (subcommand_rows_of matches.now) result }
+{
+    if is_text(value_of(matches, "schedule"), "patient") {
+        Picking::Patient
+    } else {
+        Picking::Seeded
     }
 }
 

@@ -1,4 +1,5 @@
 //! The work that a job asks for.
+ghost use Rattle.ghs_cli.specs.Ending.{IsPatientTask};
 ghost use Rattle.ghs_cli.specs.Job.{IsWithinLimits};
 ghost use Rattle.ghs_cli.specs.Serving.{IfStored, IsCause, IsGraphCause, IsOutput, IsTreeText, IsUnread, IsUnwritten, IsWrite, Serves, is_late, is_write, shows_events};
 ghost use Rattle.ghs_cli.specs.declared.fault.ServeFault.{ServeFault};
@@ -11,6 +12,7 @@ use crate::replaying::replay_text_of;
 use crate::running::run_output_of;
 use ghs_gr::device::{Sink, Source};
 use ghs_gr::judgement::read_gr;
+use ghs_gr::laws::law_one_judgement;
 use ghs_graph::tree::tree_of;
 use ghs_report::tree_text::tree_text;
 use ghs_report::write_out::write_out;
@@ -23,7 +25,8 @@ use std::thread::Threads;
 /// reading the graph, judging it, the run or the replay, the writing; want of memory comes where it is met. Only a replay
 /// touches the trace. Threads run a network where the job names workers, and where it asks for progress lines on standard
 /// error tell of it; one that can't be written is passed over. Where the events of a run are asked for, they go out before
-/// the answer that its turns are used, and a write that fails then is answered in its place.
+/// the answer that its turns are used, and a write that fails then is answered in its place. A patient run without threads
+/// that has turns for 2(B + N) events, B the bound and N the nodes, is never answered by its turns.
 pub fn serve<R: Source, T: Source, W: Sink, H: Threads + Wait + Eprint + Sync>(
     rt: &H,
     alloc: Global,
@@ -39,9 +42,11 @@ pub fn serve<R: Source, T: Source, W: Sink, H: Threads + Wait + Eprint + Sync>(
     ensures serves { IfStored job.now.task (T.left trace.old) (λ stored. IfSome (R.left graph.old) (λ input. Serves job.now.task stored input (W.held out.old) (W.held out.new) result)) }
     ensures read { IsErrOf result ServeFault.Read ↔ ((R.has_failed graph.new ≡ true) ⊎ (T.has_failed trace.new ≡ true)) }
     ensures write { IsWrite result ↔ (W.has_failed out.new ≡ true) }
+    ensures ends { IfSome (R.left graph.old) (λ input. IsPatientTask job.now.task input → IsErrOf result ServeFault.TurnLimit → ⊥) }
     ensures unwritten { IsUnwritten job.now.task out.old out.new result }
     ensures trace { IsUnread job.now.task trace.old trace.new }
 {
+    law_one_judgement();
     let output = output_of(rt, alloc, &job.task, graph, trace)?;
     write_out(out, &output.text)?;
     if output.at_limit {

@@ -5,7 +5,7 @@ ghost use Rattle.ghs_cli.specs.Job.{AreWithinLimits, IsWithinLimits};
 ghost use Rattle.std.specs.Prelude.{None, false, ◌≡◌};
 
 use ghs_cli::fault::ServeFault;
-use ghs_cli::job::{Job, RunOptions, Show, Task};
+use ghs_cli::job::{Job, Picking, RunOptions, Show, Task};
 use ghs_cli::serve::serve;
 use ghs_gr::device::{Device, Sink, Source};
 use ghs_sched::trace::EVENT_LIMIT;
@@ -60,6 +60,7 @@ impl Write for Narrow {
 /// How a network is run where no option is given.
 pub const PLAIN: RunOptions = RunOptions {
     seed: 1,
+    picking: Picking::Seeded,
     workers: 0,
     wake: WakeSet::All,
     turns: EVENT_LIMIT,

@@ -2,8 +2,9 @@
 use crate::devices::{Narrow, PLAIN, run_into, run_of, tree_of};
 use crate::texts::ROWS;
 use ghs_cli::fault::ServeFault;
-use ghs_cli::job::{MOST_WORKERS, RunOptions, Show};
+use ghs_cli::job::{MOST_WORKERS, Picking, RunOptions, Show};
 use ghs_gr::device::Device;
+use ghs_sched::trace::EVENT_LIMIT;
 use ghs_world::wake_set::WakeSet;
 
 const PATH: &str = "p sp 3 2\na 1 2 5\na 2 3 7";
@@ -82,6 +83,54 @@ fn runs_of_any_length(rt: HostRuntime) {
             "by {workers}"
         );
     }
+}
+
+/// Twice the sum of the bound and the nodes, of each of `ROWS`, found by hand.
+const MOST_EVENTS: [u64; 10] = [2, 28, 44, 48, 48, 100, 126, 44, 32, 96];
+
+/// A patient run ends within so many events, with the tree, and so within so many turns.
+#[test]
+fn patient_runs_end(rt: HostRuntime) {
+    for place in 0..10usize {
+        let (graph, _, row) = ROWS[place];
+        let turns = MOST_EVENTS[place];
+        assert!(rt; 1 <= turns && turns <= EVENT_LIMIT);
+        for wake in [WakeSet::All, WakeSet::First] {
+            for seed in 1..21u64 {
+                let options = RunOptions {
+                    seed,
+                    picking: Picking::Patient,
+                    wake,
+                    turns,
+                    ..PLAIN
+                };
+                let (result, text) = run_of(&rt, rt.alloc(), options, graph.as_bytes());
+                assert_eq!(rt; result, Ok(()), "of {graph:?} by {seed}");
+                assert_eq!(rt; text.as_slice(), row.as_bytes(), "of {graph:?} by {seed}");
+                let options = RunOptions {
+                    show: Show::Events,
+                    ..options
+                };
+                let (result, text) = run_of(&rt, rt.alloc(), options, graph.as_bytes());
+                assert_eq!(rt; result, Ok(()), "of {graph:?} by {seed}");
+                let lines = text.iter().filter(|byte| **byte == b'\n').count();
+                assert!(rt; lines as u64 <= turns + 1, "of {graph:?} by {seed}");
+            }
+        }
+    }
+}
+
+/// With fewer turns a patient run is stopped like any other.
+#[test]
+fn patient_runs_are_stopped(rt: HostRuntime) {
+    let options = RunOptions {
+        picking: Picking::Patient,
+        turns: 3,
+        ..PLAIN
+    };
+    let (result, text) = run_of(&rt, rt.alloc(), options, PATH.as_bytes());
+    assert_eq!(rt; result, Err(ServeFault::TurnLimit));
+    assert!(rt; text.is_empty());
 }
 
 /// One worker serves from the ready queue: so these are its events.

@@ -22,6 +22,7 @@ fn jobs(rt: HostRuntime) -> Result<(), Fail> {
         ("run", None),
         ("run --seed 007 map.gr --turns 3", Some("map.gr")),
         ("run --workers 64 --progress map.gr", Some("map.gr")),
+        ("run --schedule patient map.gr", Some("map.gr")),
     ] {
         match job_of(rt.alloc(), line)? {
             Ok(job) => {
@@ -51,6 +52,7 @@ fn refusals(rt: HostRuntime) -> Result<(), Fail> {
         "run --seed x",
         "run --wake some",
         "run --print all",
+        "run --schedule fair",
         "replay",
         "replay --wake none run.trace",
         "tree a b",

@@ -1,0 +1,81 @@
+-- A patient run with turns for its events doesn't stop at its turns.
+use Rattle.std.proofs.Common.{◌≡◌, ◌∙◌, ℕ, true, List, [], Option, Some, None, ⊎_elim, subst, sym}
+use Rattle.std.specs.Prelude.{IfSome, IsErrOf, Result, Ok, Err}
+use Rattle.ghs_gr.specs.Judgement.{IsOneThing, TextIs}
+use Rattle.ghs_gr.specs.RawGraph.{RawShape}
+use Rattle.ghs_cli.specs.declared.fault.ServeFault.{ServeFault}
+use Rattle.ghs_cli.specs.declared.fault.ServeFault.TheVariants as serve
+use Rattle.ghs_cli.specs.declared.job.Picking.TheVariants.{Patient}
+use Rattle.ghs_cli.specs.declared.job.RunOptions.{RunOptions}
+use Rattle.ghs_cli.specs.declared.job.Task.{Task}
+use Rattle.ghs_cli.specs.declared.job.Task.TheVariants as task
+use Rattle.ghs_cli.specs.Ending.{IsPatientTask}
+use Rattle.ghs_cli.specs.Patience.{HasTurnsFor}
+use Rattle.ghs_cli.specs.Serving.{IfStored, IsCause, IsGraphCause, IsOutput, IsRunningCause, StopsRun, shape_of}
+use Rattle.ghs_cli.proofs.Serves.{if_stored, if_some, limit_cause, printed_at_limit}
+
+-- options whose run stops at its turns, of the one graph whose text the input is
+run_goes_on : (o : RunOptions) (input : List ℕ) → IsOneThing input → IsRunningCause o input serve.TurnLimit → IsPatientTask (task.Run o) input → ⊥
+run_goes_on o input one cause is =
+    ⊎_elim (λ (bad : IsGraphCause input serve.TurnLimit). bad)
+    (λ (stops : (graph : RawShape) × TextIs input (Ok graph) × StopsRun o (shape_of graph) serve.TurnLimit).
+    let same : o ≡ is.options = let run = is.run in cc in
+    let graph : is.graph ≡ stops.0 = let both : Ok is.graph ≡ Ok stops.0 = one.one (Ok is.graph) (Ok stops.0) is.text stops.1 in cc in
+    let turns : HasTurnsFor (shape_of stops.0) o.turns =
+    subst (λ (g : RawShape). HasTurnsFor (shape_of g) o.turns) graph (subst (λ (p : RunOptions). HasTurnsFor (shape_of is.graph) p.turns) (sym same) is.turns) in
+    stops.2.1.few (subst (λ (p : RunOptions). p.workers ≡ 0) (sym same) is.alone) (subst (λ (p : RunOptions). p.picking ≡ Patient) (sym same) is.patient) turns)
+    cause
+
+-- a task that stops at its turns is no patient one
+task_goes_on : (job : Task) (stored input : List ℕ) → IsOneThing input → IsCause job stored input serve.TurnLimit → IsPatientTask job input → ⊥
+task_goes_on task.Tree stored input one cause is = absurd cause
+task_goes_on (task.Run o) stored input one cause is = run_goes_on o input one cause is
+task_goes_on (task.Replay wake) stored input one cause is = absurd (let run = is.run in cc)
+
+-- whatever is stored, and where the input is known
+pub never_stops : (job : Task) (stored input : Option (List ℕ)) →
+    ((text : List ℕ) → IsOneThing text) →
+    IfStored job stored (λ s. IfSome input (λ i. IsCause job s i serve.TurnLimit)) →
+    IfSome input (λ i. IsPatientTask job i → ⊥)
+never_stops job stored None one cause = tt
+never_stops task.Tree stored (Some i) one cause = λ is. task_goes_on task.Tree [] i (one i) (cause []) is
+never_stops (task.Run o) stored (Some i) one cause = λ is. task_goes_on (task.Run o) [] i (one i) (cause []) is
+never_stops (task.Replay wake) stored (Some i) one cause = λ is. absurd (let run = is.run in cc)
+
+-- nor is one whose output is that of the turn limit
+pub never_at_limit : (job : Task) (stored input : Option (List ℕ)) (output : List ℕ) →
+    ((text : List ℕ) → IsOneThing text) →
+    IfStored job stored (λ s. IfSome input (λ i. IsOutput job true s i output)) →
+    IfSome input (λ i. IsPatientTask job i → ⊥)
+never_at_limit job stored input output one out =
+    never_stops job stored input one
+    (if_stored job stored (λ s. IfSome input (λ i. IsOutput job true s i output)) (λ s. IfSome input (λ i. IsCause job s i serve.TurnLimit))
+    (λ s. if_some input (λ i. IsOutput job true s i output) (λ i. IsCause job s i serve.TurnLimit)
+    (λ i at_limit. limit_cause job s i output (printed_at_limit job s i output at_limit)))
+    out)
+
+-- so a result by such a cause is no turn limit for a patient task,
+pub ends_by : (job : Task) (stored input : Option (List ℕ)) (r : Result (Unit {0}) ServeFault) (fault : ServeFault) →
+    ((text : List ℕ) → IsOneThing text) →
+    r ≡ Err fault →
+    IfStored job stored (λ s. IfSome input (λ i. IsCause job s i fault)) →
+    IfSome input (λ i. IsPatientTask job i → IsErrOf r serve.TurnLimit → ⊥)
+ends_by job stored None r fault one is cause = tt
+ends_by job stored (Some i) r fault one is cause = λ patient limit.
+    let same : fault ≡ serve.TurnLimit = let both : Err fault ≡ Err serve.TurnLimit = sym is ∙ limit in cc in
+    never_stops job stored (Some i) one (subst (λ (f : ServeFault). IfStored job stored (λ s. IfSome (Some i) (λ k. IsCause job s k f))) same cause) patient
+
+-- nor one behind output,
+pub ends_behind : (job : Task) (stored input : Option (List ℕ)) (output : List ℕ) (r : Result (Unit {0}) ServeFault) →
+    ((text : List ℕ) → IsOneThing text) →
+    IfStored job stored (λ s. IfSome input (λ i. IsOutput job true s i output)) →
+    IfSome input (λ i. IsPatientTask job i → IsErrOf r serve.TurnLimit → ⊥)
+ends_behind job stored input output r one out =
+    if_some input (λ i. IsPatientTask job i → ⊥) (λ i. IsPatientTask job i → IsErrOf r serve.TurnLimit → ⊥) (λ i never is limit. never is) (never_at_limit job stored input output one out)
+
+-- nor any other
+pub ends_else : (job : Task) (input : Option (List ℕ)) (r : Result (Unit {0}) ServeFault) →
+    (IsErrOf r serve.TurnLimit → ⊥) →
+    IfSome input (λ i. IsPatientTask job i → IsErrOf r serve.TurnLimit → ⊥)
+ends_else job None r other = tt
+ends_else job (Some i) r other = λ is limit. other limit
