@@ -31,6 +31,7 @@ task_goes_on : (job : Task) (stored input : List ℕ) → IsOneThing input → I
 task_goes_on task.Tree stored input one cause is = absurd cause
 task_goes_on (task.Run o) stored input one cause is = run_goes_on o input one cause is
 task_goes_on (task.Replay wake) stored input one cause is = absurd (let run = is.run in cc)
+task_goes_on (task.Sweep o) stored input one cause is = absurd cause
 
 -- whatever is stored, and where the input is known
 pub never_stops : (job : Task) (stored input : Option (List ℕ)) →
@@ -41,6 +42,7 @@ never_stops job stored None one cause = tt
 never_stops task.Tree stored (Some i) one cause = λ is. task_goes_on task.Tree [] i (one i) (cause []) is
 never_stops (task.Run o) stored (Some i) one cause = λ is. task_goes_on (task.Run o) [] i (one i) (cause []) is
 never_stops (task.Replay wake) stored (Some i) one cause = λ is. absurd (let run = is.run in cc)
+never_stops (task.Sweep o) stored (Some i) one cause = λ is. task_goes_on (task.Sweep o) [] i (one i) (cause []) is
 
 -- nor is one whose output is that of the turn limit
 pub never_at_limit : (job : Task) (stored input : Option (List ℕ)) (output : List ℕ) →

@@ -8,7 +8,7 @@ use Rattle.std.specs.Prelude.{slice_index, length}
 use Rattle.std.proofs.lemmas.Bool.{leb-true, le-leb}
 use Rattle.std.proofs.lemmas.Str.Parse.{numerals_by_value, tells_all_ascii_digits, without_leading_plus_none}
 use Rattle.ghs_lines.specs.Fields.{is_nonempty}
-use Rattle.ghs_cli.specs.Job.{number_in}
+use Rattle.ghs_cli.specs.Values.{number_in}
 
 none_where : (b : Bool) (v : ℕ) → (b ≡ true → ⊥) → None ≡ cond b (Some v) None
 none_where true v f = absurd (f refl)

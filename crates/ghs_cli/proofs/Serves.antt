@@ -27,6 +27,7 @@ pub if_stored : (job : Task) (stored : Option (List ℕ)) (P Q : List ℕ → Ty
     IfStored job stored Q
 if_stored task.Tree stored P Q f all = λ bytes. f bytes (all bytes)
 if_stored (task.Run o) stored P Q f all = λ bytes. f bytes (all bytes)
+if_stored (task.Sweep o) stored P Q f all = λ bytes. f bytes (all bytes)
 if_stored (task.Replay wake) None P Q f all = tt
 if_stored (task.Replay wake) (Some bytes) P Q f all = f bytes all
 
@@ -148,22 +149,26 @@ pub printed_of : (job : Task) (stored input output : List ℕ) → IsOutput job 
 printed_of task.Tree stored input output out = out.1
 printed_of (task.Run o) stored input output out = out
 printed_of (task.Replay wake) stored input output out = out.1
+printed_of (task.Sweep o) stored input output out = out.1
 
 pub printed_at_limit : (job : Task) (stored input output : List ℕ) → IsOutput job true stored input output → IsPrintedAtLimit job input output
 printed_at_limit task.Tree stored input output out = absurd (let bad : true ≡ false = out.0 in cc)
 printed_at_limit (task.Run o) stored input output out = out
 printed_at_limit (task.Replay wake) stored input output out = absurd (let bad : true ≡ false = out.0 in cc)
+printed_at_limit (task.Sweep o) stored input output out = absurd (let bad : true ≡ false = out.0 in cc)
 
 tried_of : (job : Task) (at_limit : Bool) (stored input output : List ℕ) → IsOutput job at_limit stored input output → IsTried job stored input output
 tried_of task.Tree at_limit stored input output out = out.1
 tried_of (task.Run o) at_limit stored input output out = (at_limit, out)
 tried_of (task.Replay wake) at_limit stored input output out = out.1
+tried_of (task.Sweep o) at_limit stored input output out = out.1
 
 -- only a run of a graph stops at a turn limit
 pub limit_cause : (job : Task) (stored input output : List ℕ) → IsPrintedAtLimit job input output → IsCause job stored input serve.TurnLimit
 limit_cause task.Tree stored input output out = absurd out
 limit_cause (task.Run o) stored input output out = inr (out.0, out.1, (out.2.events, out.2.stopped))
 limit_cause (task.Replay wake) stored input output out = absurd out
+limit_cause (task.Sweep o) stored input output out = absurd out
 
 -- a write that failed served the first bytes
 pub serves_part : (job : Task) (at_limit : Bool) (stored input bytes output : List ℕ) (old new : Option (List ℕ))

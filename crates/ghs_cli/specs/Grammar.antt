@@ -19,6 +19,10 @@ option_rule name default = record (new_rule name) { long = Some name; defaults =
 abbrev pub seed_rule : Rule
 seed_rule = option_rule (codes "seed") (codes "1")
 
+-- `--seeds`: whose schedules pick the runs of a sweep
+abbrev pub seeds_rule : Rule
+seeds_rule = record (new_rule (codes "seeds")) { long = Some (codes "seeds"); required = true }
+
 -- `--schedule`: among which events it picks them
 abbrev pub schedule_rule : Rule
 schedule_rule = option_rule (codes "schedule") (codes "seeded")
@@ -58,8 +62,15 @@ run_command =
 abbrev pub replay_command : App
 replay_command = with_rule (with_rule (with_rule (new_app (codes "replay")) trace_rule) file_rule) wake_rule
 
+-- `sweep [FILE] --seeds FIRST..LAST [--workers W] [--wake all|first] [--turns T]`
+abbrev pub sweep_command : App
+sweep_command =
+    let named = with_rule (with_rule (new_app (codes "sweep")) file_rule) seeds_rule in
+    with_rule (with_rule (with_rule named workers_rule) wake_rule) turns_rule
+
 -- the program's command line: its name and one of its commands
 unfoldable pub program : App
 program =
-    let a = with_subcommand (with_subcommand (with_subcommand (new_app (codes "ghs")) tree_command.top) run_command.top) replay_command.top in
+    let networks = with_subcommand (with_subcommand (new_app (codes "ghs")) tree_command.top) run_command.top in
+    let a = with_subcommand (with_subcommand networks replay_command.top) sweep_command.top in
     record a { top = record a.top { subcommand_required = true } }

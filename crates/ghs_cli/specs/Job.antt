@@ -1,14 +1,10 @@
 -- Command lines: what the words of the program ask for, and what is said of others.
-use Rattle.std.specs.Prelude.{◌≡◌, ◌≢◌, ◌↔◌, ℕ, ◌≤◌, Bool, true, ◌&&◌, nat_le, cond, codes, List, [], ◌∷◌, Option, Some, None, is_some, unwrap_or, if◌then◌else◌}
-use Rattle.std.specs.Str.{all_ascii_digits, bytes_eq}
-use Rattle.std.specs.Str.Parse.{digits_value}
-use Rattle.std.specs.List.{list_any}
+use Rattle.std.specs.Prelude.{◌≡◌, ◌≢◌, ◌↔◌, ℕ, ◌≤◌, Bool, true, ◌&&◌, codes, List, [], ◌∷◌, Option, Some, None, unwrap_or, if◌then◌else◌}
 use Rattle.std.specs.Option.{option_and_then, option_map}
 use Rattle.clap.specs.Kinds.{Kinds, IsAmong, or_else}
 use Rattle.clap.specs.Words.{Row, Text, fault_of, first_of, subcommand_of}
 use Rattle.clap.specs.declared.error.kind.ErrorKind.{ErrorKind}
 use Rattle.clap.specs.declared.error.kind.ErrorKind.TheVariants as kind
-use Rattle.ghs_lines.specs.Fields.{is_nonempty}
 use Rattle.ghs_sched.specs.declared.trace.TheConstants.{EVENT_LIMIT}
 use Rattle.ghs_world.specs.declared.wake_set.WakeSet.{WakeSet}
 use Rattle.ghs_world.specs.declared.wake_set.WakeSet.TheVariants.{First}
@@ -20,9 +16,12 @@ use Rattle.ghs_cli.specs.declared.job.Picking.TheVariants.{Patient}
 use Rattle.ghs_cli.specs.declared.job.RunOptions.{RunOptions}
 use Rattle.ghs_cli.specs.declared.job.Show.{Show}
 use Rattle.ghs_cli.specs.declared.job.Show.TheVariants.{Events}
+use Rattle.ghs_cli.specs.declared.job.SweepOptions.{SweepOptions}
 use Rattle.ghs_cli.specs.declared.job.TheConstants.{MOST_WORKERS}
 use Rattle.ghs_cli.specs.declared.job.Task.{Task}
 use Rattle.ghs_cli.specs.declared.job.Task.TheVariants as task
+use Rattle.ghs_cli.specs.declared.values.Seeds.{Seeds}
+use Rattle.ghs_cli.specs.Values.{AreSeeds, is_among, is_number, is_range, number_in, seeds_of}
 
 -- the words of a command line, with the program's name before them
 abbrev pub with_name : List Text → List Text
@@ -60,12 +59,6 @@ IsPicking command picking = (picking ≡ Patient) ↔ (value_in (codes "schedule
 abbrev pub IsToldOf : Used → Bool → Type 0
 IsToldOf command progress = (progress ≡ true) ↔ (value_in (codes "progress") command ≡ Some (codes "true"))
 
--- the number that a value is: digits alone, of a value in this range
-abbrev pub number_in : ℕ → ℕ → Text → Option ℕ
-number_in low high text =
-    let n = digits_value 10 text in
-    cond (is_nonempty text && all_ascii_digits text && nat_le low n && nat_le n high) (Some n) None
-
 -- the number that an option of the command has; it has one in its range, or the words are refused
 abbrev pub number_at : Text → ℕ → ℕ → Used → ℕ
 number_at id low high command = unwrap_or (option_and_then (number_in low high) (value_in id command)) low
@@ -79,6 +72,10 @@ workers_in = number_at (codes "workers") 0 MOST_WORKERS
 abbrev pub turns_in : Used → ℕ
 turns_in = number_at (codes "turns") 1 EVENT_LIMIT
 
+-- the seeds that `--seeds` names; a sweep has some, or the words are refused
+abbrev pub seeds_at : Used → Seeds
+seeds_at command = unwrap_or (option_and_then seeds_of (value_in (codes "seeds") command)) (record { first = 0; last = 0 })
+
 -- how a command asks for a network to be run
 pub record AreOptions (command : Used) (o : RunOptions) : Type 0 where
   pub seed : o.seed ≡ seed_in command
@@ -89,14 +86,34 @@ pub record AreOptions (command : Used) (o : RunOptions) : Type 0 where
   pub show : IsShow command o.show
   pub progress : IsToldOf command o.progress
 
+-- which runs a command asks to be swept
+pub record AreSweepOptions (command : Used) (o : SweepOptions) : Type 0 where
+  pub seeds : o.seeds ≡ seeds_at command
+  pub workers : o.workers ≡ workers_in command
+  pub wake : IsWake command o.wake
+  pub turns : o.turns ≡ turns_in command
+
+-- it has another name than these
+pub record IsNoOther (command : Used) : Type 0 where
+  pub run : name_in command ≢ Some (codes "run")
+  pub replay : name_in command ≢ Some (codes "replay")
+  pub sweep : name_in command ≢ Some (codes "sweep")
+
 -- the task that a command asks for
 abbrev pub IsTask : Used → Task → Type 0
-IsTask command task.Tree = (name_in command ≢ Some (codes "run")) × (name_in command ≢ Some (codes "replay"))
+IsTask command task.Tree = IsNoOther command
 IsTask command (task.Run options) = (name_in command ≡ Some (codes "run")) × AreOptions command options
 IsTask command (task.Replay wake) = (name_in command ≡ Some (codes "replay")) × IsWake command wake
+IsTask command (task.Sweep options) = (name_in command ≡ Some (codes "sweep")) × AreSweepOptions command options
 
 -- numbers are within their limits
 pub record AreWithinLimits (o : RunOptions) : Type 0 where
+  pub workers : o.workers ≤ MOST_WORKERS
+  pub some : 1 ≤ o.turns
+  pub few : o.turns ≤ EVENT_LIMIT
+
+pub record AreSweepLimits (o : SweepOptions) : Type 0 where
+  pub seeds : AreSeeds o.seeds
   pub workers : o.workers ≤ MOST_WORKERS
   pub some : 1 ≤ o.turns
   pub few : o.turns ≤ EVENT_LIMIT
@@ -106,16 +123,7 @@ abbrev pub IsWithinLimits : Task → Type 0
 IsWithinLimits task.Tree = Unit {0}
 IsWithinLimits (task.Run options) = AreWithinLimits options
 IsWithinLimits (task.Replay wake) = Unit {0}
-
--- a value that isn't given, or one of these
-abbrev pub is_among : List Text → Option Text → Bool
-is_among choices None = true
-is_among choices (Some text) = list_any (λ choice. bytes_eq text choice) choices
-
--- a value that isn't given, or a number in this range
-abbrev pub is_number : ℕ → ℕ → Option Text → Bool
-is_number low high None = true
-is_number low high (Some text) = is_some (number_in low high text)
+IsWithinLimits (task.Sweep options) = AreSweepLimits options
 
 -- each option of the command has a value that it may have
 abbrev pub has_values : Used → Bool
@@ -126,6 +134,7 @@ has_values command =
     && is_number 0 18446744073709551615 (value_in (codes "seed") command)
     && is_number 0 MOST_WORKERS (value_in (codes "workers") command)
     && is_number 1 EVENT_LIMIT (value_in (codes "turns") command)
+    && is_range (value_in (codes "seeds") command)
 
 -- what is wrong with the values of a command's options
 abbrev pub option_kinds : Used → Kinds

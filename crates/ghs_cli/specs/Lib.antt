@@ -6,3 +6,5 @@ pub mod Job
 pub mod Patience
 pub mod Running
 pub mod Serving
+pub mod Sweeping
+pub mod Values

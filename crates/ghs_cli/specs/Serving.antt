@@ -31,9 +31,11 @@ use Rattle.ghs_cli.specs.declared.job.Picking.TheVariants.{Seeded, Patient}
 use Rattle.ghs_cli.specs.declared.job.RunOptions.{RunOptions}
 use Rattle.ghs_cli.specs.declared.job.Show.{Show}
 use Rattle.ghs_cli.specs.declared.job.Show.TheVariants.{Summary, Events}
+use Rattle.ghs_cli.specs.declared.job.SweepOptions.{SweepOptions}
 use Rattle.ghs_cli.specs.declared.job.Task.{Task}
 use Rattle.ghs_cli.specs.declared.job.Task.TheVariants as task
 use Rattle.ghs_cli.specs.Patience.{HasTurnsFor, IsPatient}
+use Rattle.ghs_cli.specs.Sweeping.{IsSwept}
 
 -- the keys of a graph's links
 abbrev pub keys_of : RawShape → List Key
@@ -128,17 +130,23 @@ IsRan o g true output = IsStoppedText o g output
 abbrev pub IsRunOutput : RunOptions → Bool → List ℕ → List ℕ → Type 0
 IsRunOutput o at_limit input output = (graph : RawShape) × TextIs input (Ok graph) × IsRan o (shape_of graph) at_limit output
 
+-- the input is the text of a graph, and the output that of a sweep of it
+abbrev pub IsSweepOutput : SweepOptions → List ℕ → List ℕ → Type 0
+IsSweepOutput o input output = (graph : RawShape) × TextIs input (Ok graph) × IsSwept o (shape_of graph) output
+
 -- what a task prints
 abbrev pub IsPrinted : Task → List ℕ → List ℕ → List ℕ → Type 0
 IsPrinted task.Tree stored input output = IsTreeText input output
 IsPrinted (task.Run o) stored input output = IsRunOutput o false input output
 IsPrinted (task.Replay wake) stored input output = IsReplayText wake stored input output
+IsPrinted (task.Sweep o) stored input output = IsSweepOutput o input output
 
 -- what a task prints before it answers that its turns are used
 abbrev pub IsPrintedAtLimit : Task → List ℕ → List ℕ → Type 0
 IsPrintedAtLimit task.Tree input output = ⊥
 IsPrintedAtLimit (task.Run o) input output = IsRunOutput o true input output
 IsPrintedAtLimit (task.Replay wake) input output = ⊥
+IsPrintedAtLimit (task.Sweep o) input output = ⊥
 
 -- what is stored gives this fault; it may be too long, and the reader and memory may fail for any
 abbrev pub IsTraceCause : List ℕ → ServeFault → Type 0
@@ -207,18 +215,21 @@ abbrev pub IsCause : Task → List ℕ → List ℕ → ServeFault → Type 0
 IsCause task.Tree stored input fault = IsGraphCause input fault
 IsCause (task.Run o) stored input fault = IsRunningCause o input fault
 IsCause (task.Replay wake) stored input fault = IsReplayCause wake stored input fault
+IsCause (task.Sweep o) stored input fault = IsGraphCause input fault
 
 -- what goes out for a task, and whether the answer behind it is that its turns are used
 abbrev pub IsOutput : Task → Bool → List ℕ → List ℕ → List ℕ → Type 0
 IsOutput task.Tree at_limit stored input output = (at_limit ≡ false) × IsTreeText input output
 IsOutput (task.Run o) at_limit stored input output = IsRunOutput o at_limit input output
 IsOutput (task.Replay wake) at_limit stored input output = (at_limit ≡ false) × IsReplayText wake stored input output
+IsOutput (task.Sweep o) at_limit stored input output = (at_limit ≡ false) × IsSweepOutput o input output
 
 -- what may have gone out in part
 abbrev pub IsTried : Task → List ℕ → List ℕ → List ℕ → Type 0
 IsTried task.Tree stored input output = IsTreeText input output
 IsTried (task.Run o) stored input output = (at_limit : Bool) × IsRunOutput o at_limit input output
 IsTried (task.Replay wake) stored input output = IsReplayText wake stored input output
+IsTried (task.Sweep o) stored input output = IsSweepOutput o input output
 
 -- whether the events of a run are asked for
 abbrev pub is_events : Show → Bool
@@ -229,6 +240,7 @@ abbrev pub shows_events : Task → Bool
 shows_events task.Tree = false
 shows_events (task.Run o) = is_events o.show
 shows_events (task.Replay wake) = false
+shows_events (task.Sweep o) = false
 
 -- where the events of a run are asked for, they have gone out before the answer that its turns are used
 abbrev pub HasShown : Task → List ℕ → Option (List ℕ) → Option (List ℕ) → Type 0
@@ -247,6 +259,7 @@ abbrev pub IfStored : Task → Option (List ℕ) → (List ℕ → Type 0) → T
 IfStored task.Tree stored P = (bytes : List ℕ) → P bytes
 IfStored (task.Run o) stored P = (bytes : List ℕ) → P bytes
 IfStored (task.Replay wake) stored P = IfSome stored P
+IfStored (task.Sweep o) stored P = (bytes : List ℕ) → P bytes
 
 abbrev pub is_write : ServeFault → Bool
 is_write (serve.Write written) = true
@@ -275,3 +288,4 @@ abbrev pub IsUnread : {T : Type 0} → Task → T → T → Type 0
 IsUnread task.Tree old new = new ≡ old
 IsUnread (task.Run o) old new = new ≡ old
 IsUnread (task.Replay wake) old new = Unit {0}
+IsUnread (task.Sweep o) old new = new ≡ old

@@ -1,7 +1,7 @@
 //! The words that the program takes.
 ghost use Rattle.clap.specs.Words.{app_of, rule_of};
 ghost use Rattle.clap.specs.declared.builder.command.Command.TheViews.{out-Command};
-ghost use Rattle.ghs_cli.specs.Grammar.{file_rule, option_rule, print_rule, program, progress_rule, replay_command, run_command, schedule_rule, seed_rule, tree_command, turns_rule, wake_rule, workers_rule};
+ghost use Rattle.ghs_cli.specs.Grammar.{file_rule, option_rule, print_rule, program, progress_rule, replay_command, run_command, schedule_rule, seed_rule, seeds_rule, sweep_command, tree_command, turns_rule, wake_rule, workers_rule};
 ghost use Rattle.std.specs.Prelude.{◌≡◌, IfOk, false};
 
 use clap::{Arg, ArgAction, Command};
@@ -18,7 +18,8 @@ pub fn program<'a>(alloc: Global) -> Result<Command<'a>, AllocError>
             .subcommand_required(true)
             .subcommand(tree(alloc)?)?
             .subcommand(run(alloc)?)?
-            .subcommand(replay(alloc)?)?,
+            .subcommand(replay(alloc)?)?
+            .subcommand(sweep(alloc)?)?,
     )
 }
 
@@ -72,6 +73,24 @@ fn replay<'a>(alloc: Global) -> Result<Command<'a>, AllocError>
     )
 }
 
+// `ghs sweep`.
+fn sweep<'a>(alloc: Global) -> Result<Command<'a>, AllocError>
+    ensures local { IfOk result (λ command. (out-Command command).has_globals ≡ false) }
+    ensures app { IfOk result (λ command. app_of command ≡ sweep_command) }
+{
+    Ok(
+        Command::new(alloc, "sweep")
+            .about(
+                "Runs the network of a graph by the schedules of many seeds, and prints a line of figures for each",
+            )
+            .arg(file(alloc))?
+            .arg(seeds(alloc))?
+            .arg(sharers(alloc))?
+            .arg(wake(alloc))?
+            .arg(turns(alloc))?,
+    )
+}
+
 // The graph's file.
 fn file<'a>(alloc: Global) -> Arg<'a>
     ensures local { result.global ≡ false }
@@ -86,6 +105,26 @@ fn seed<'a>(alloc: Global) -> Arg<'a>
     ensures rule { rule_of result ≡ seed_rule }
 {
     option(alloc, "seed", "1").help("The number that picks the order of the events")
+}
+
+// Whose schedules pick the runs of a sweep.
+fn seeds<'a>(alloc: Global) -> Arg<'a>
+    ensures local { result.global ≡ false }
+    ensures rule { rule_of result ≡ seeds_rule }
+{
+    Arg::new(alloc, "seeds").long("seeds").required(true).help(
+        "The seeds, FIRST..LAST, both included, 1000000 of them at most",
+    )
+}
+
+// How many threads share the runs of a sweep.
+fn sharers<'a>(alloc: Global) -> Arg<'a>
+    ensures local { result.global ≡ false }
+    ensures rule { rule_of result ≡ workers_rule }
+{
+    option(alloc, "workers", "0").help(
+        "How many threads share the runs, 0 to 64; 0 is one, and the text is the same for each",
+    )
 }
 
 // Among which events it picks them.

@@ -1,12 +1,17 @@
 //! Command lines.
 ghost use Rattle.ghs_cli.specs.declared.job.JobFault.TheVariants.{Memory};
 ghost use Rattle.ghs_cli.specs.Grammar.{program};
-ghost use Rattle.ghs_cli.specs.Job.{AreOptions, AreWithinLimits, command_in, has_values, is_among, is_number, kinds_of, name_in, number_at, number_in, option_kinds, value_in, with_name, IsPicking, IsRefused, IsSaid, IsSaidOf, IsShow, IsTask, IsWake, IsWithinLimits};
+ghost use Rattle.ghs_cli.specs.Job.{AreOptions, AreSweepLimits, AreSweepOptions, AreWithinLimits, command_in, has_values, kinds_of, name_in, number_at, option_kinds, seeds_at, value_in, with_name, IsPicking, IsRefused, IsSaid, IsSaidOf, IsShow, IsTask, IsWake, IsWithinLimits};
+ghost use Rattle.ghs_cli.specs.Values.{AreSeeds, is_among, is_number, is_range};
 ghost use Rattle.clap.specs.Words.{kind_of, subcommand_rows_of};
 ghost use Rattle.std.specs.Option.{option_map};
 ghost use Rattle.std.specs.Prelude.{◌≡◌, ◌≤◌, ◌↔◌, ◌∷◌, [], IfErr, IfOk, IfSome, OnErr, OnOk, Some, codes, false, map, string_bytes, true};
 
 use crate::grammar::program;
+use crate::values::{
+    Seeds, is_among, is_number, is_range, is_text, no_number, no_seeds, number_in, owned, seeds_in,
+    unknown_choice,
+};
 use clap::error::ErrorKind;
 use clap::{ArgMatches, Error};
 use ghs_sched::trace::EVENT_LIMIT;
@@ -53,6 +58,19 @@ pub struct RunOptions {
     pub progress: bool,
 }
 
+/// Which runs of a network are swept.
+#[derive(Clone, Copy, Debug, PartialEq, Eq)]
+pub struct SweepOptions {
+    /// Whose schedules pick the runs, a million at most.
+    pub seeds: Seeds,
+    /// How many threads share the runs, 0 to 64; 0 is one.
+    pub workers: u32,
+    /// Which nodes wake by themselves.
+    pub wake: WakeSet,
+    /// How many events each run may have, 1 to 2^40.
+    pub turns: u64,
+}
+
 /// What is to be done.
 #[derive(Clone, Copy, Debug, PartialEq, Eq)]
 pub enum Task {
@@ -62,6 +80,8 @@ pub enum Task {
     Run(RunOptions),
     /// Play a stored run again.
     Replay { wake: WakeSet },
+    /// Print the figures of many seeds' runs.
+    Sweep(SweepOptions),
 }
 
 /// What a command line asks for: the file of the graph (standard input where there is none), the file of a
@@ -152,7 +172,8 @@ fn check_options<'a>(alloc: Global, matches: &ArgMatches<'a>) -> Result<(), JobF
     check_choice(alloc, matches, "schedule", "seeded", "patient")?;
     check_number(alloc, matches, "seed", 0, u64::MAX)?;
     check_number(alloc, matches, "workers", 0, MOST_WORKERS as u64)?;
-    check_number(alloc, matches, "turns", 1, EVENT_LIMIT)
+    check_number(alloc, matches, "turns", 1, EVENT_LIMIT)?;
+    check_seeds(alloc, matches)
 }
 
 /// Whether an option has one of two values.
@@ -195,6 +216,20 @@ fn check_number<'a>(
     }
 }
 
+/// Whether the seeds of a sweep are some.
+fn check_seeds<'a>(alloc: Global, matches: &ArgMatches<'a>) -> Result<(), JobFault>
+    ensures ok { OnOk result (is_range (value_in (codes "seeds") (subcommand_rows_of matches.now)) ≡ true) }
+    ensures err { OnErr result (is_range (value_in (codes "seeds") (subcommand_rows_of matches.now)) ≡ false) }
+    ensures fault { IfErr result IsRefused }
+{
+    let value = value_of(matches, "seeds");
+    if is_range(value) {
+        Ok(())
+    } else {
+        Err(no_seeds(alloc, "seeds", value))
+    }
+}
+
 /// The task of a command.
 fn task_of<'a>(matches: &ArgMatches<'a>) -> Task
     ensures task { IsTask (subcommand_rows_of matches.now) result }
@@ -206,6 +241,8 @@ fn task_of<'a>(matches: &ArgMatches<'a>) -> Task
         Task::Replay {
             wake: wake_of(matches),
         }
+    } else if matches.subcommand_name() == Some("sweep") {
+        Task::Sweep(sweep_of(matches))
     } else {
         Task::Tree
     }
@@ -224,6 +261,34 @@ fn options_of<'a>(matches: &ArgMatches<'a>) -> RunOptions
         turns: number_of(matches, "turns", 1, EVENT_LIMIT),
         show: show_of(matches),
         progress: is_text(value_of(matches, "progress"), "true"),
+    }
+}
+
+/// Which runs are to be swept.
+fn sweep_of<'a>(matches: &ArgMatches<'a>) -> SweepOptions
+    ensures options { AreSweepOptions (subcommand_rows_of matches.now) result }
+    ensures limits { AreSweepLimits result }
+{
+    SweepOptions {
+        seeds: seeds_of(matches),
+        workers: number_of(matches, "workers", 0, MOST_WORKERS as u64) as u32,
+        wake: wake_of(matches),
+        turns: number_of(matches, "turns", 1, EVENT_LIMIT),
+    }
+}
+
+/// The seeds of a sweep; each has some.
+fn seeds_of<'a>(matches: &ArgMatches<'a>) -> Seeds
+    ensures seeds { result ≡ seeds_at (subcommand_rows_of matches.now) }
+    ensures limits { AreSeeds result }
+{
+    let none = Seeds { first: 0, last: 0 };
+    let Some(value) = value_of(matches, "seeds") else {
+        return none;
+    };
+    match seeds_in(value) {
+        Some(seeds) => seeds,
+        None => none,
     }
 }
 
@@ -283,87 +348,6 @@ fn value_of<'a>(matches: &ArgMatches<'a>, id: &str) -> Option<&'a str>
     match matches.subcommand() {
         Some((_, command)) => command.get_str(id),
         None => None,
-    }
-}
-
-/// Whether this is the value.
-fn is_text(value: Option<&str>, text: &str) -> bool
-    ensures { (result ≡ true) ↔ (option_map (λ t. t.now) value.entry ≡ Some text.now) }
-{
-    match value {
-        Some(value) => value == text,
-        None => false,
-    }
-}
-
-/// Whether there is no value, or one of these two.
-fn is_among(value: Option<&str>, one: &str, other: &str) -> bool
-    ensures { result ≡ is_among (one.now ∷ other.now ∷ []) (option_map (λ t. t.now) value.entry) }
-{
-    match value {
-        Some(value) => value == one || value == other,
-        None => true,
-    }
-}
-
-/// Whether there is no value, or a number in this range.
-fn is_number(value: Option<&str>, low: u64, high: u64) -> bool
-    ensures { result ≡ is_number low high (option_map (λ t. t.now) value.entry) }
-{
-    match value {
-        Some(value) => number_in(value, low, high).is_some(),
-        None => true,
-    }
-}
-
-/// The number that a value is: digits alone, of a value in this range.
-fn number_in(value: &str, low: u64, high: u64) -> Option<u64>
-    ensures number { result ≡ number_in low high value.now }
-    ensures range { IfSome result (λ n. (low ≤ n) × (n ≤ high)) }
-{
-    let Ok(number) = value.parse::<u64>() else {
-        return None;
-    };
-    // `parse` takes a plus.
-    if value.as_bytes()[0] == b'+' || number < low || high < number {
-        return None;
-    }
-    Some(number)
-}
-
-/// The text, as one that lasts.
-fn owned(alloc: Global, text: Option<&str>) -> Result<Option<String>, AllocError>
-    ensures { IfOk result (λ owned. option_map string_bytes owned ≡ option_map (λ t. t.now) text.entry) }
-{
-    match text {
-        Some(text) => Ok(Some(String::from_str(alloc, text)?)),
-        None => Ok(None),
-    }
-}
-
-/// What is said of a choice that there isn't, in `clap`'s words.
-fn unknown_choice(alloc: Global, id: &str, value: Option<&str>, one: &str, other: &str) -> JobFault
-    ensures { IsRefused result }
-{
-    let value = value.unwrap_or("");
-    match format!(in alloc;
-        "error: invalid value '{value}' for '--{id} <{id}>'\n  [possible values: {one}, {other}]\n\nFor more information, try '--help'.\n"
-    ) {
-        Ok(text) => JobFault::Refused(text),
-        Err(_) => JobFault::Memory,
-    }
-}
-
-/// What is said of a value that is no number in its range, in `clap`'s words.
-fn no_number(alloc: Global, id: &str, value: Option<&str>, low: u64, high: u64) -> JobFault
-    ensures { IsRefused result }
-{
-    let value = value.unwrap_or("");
-    match format!(in alloc;
-        "error: invalid value '{value}' for '--{id} <{id}>': not a number in {low}..={high}\n\nFor more information, try '--help'.\n"
-    ) {
-        Ok(text) => JobFault::Refused(text),
-        Err(_) => JobFault::Memory,
     }
 }
 

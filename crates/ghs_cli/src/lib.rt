@@ -9,3 +9,5 @@ mod progress;
 mod replaying;
 mod running;
 pub mod serve;
+mod sweeping;
+pub mod values;

@@ -10,6 +10,7 @@ use crate::job::{Job, Task};
 use crate::output::Output;
 use crate::replaying::replay_text_of;
 use crate::running::run_output_of;
+use crate::sweeping::sweep_text_of;
 use ghs_gr::device::{Sink, Source};
 use ghs_gr::judgement::read_gr;
 use ghs_gr::laws::law_one_judgement;
@@ -77,6 +78,7 @@ fn output_of<R: Source, T: Source, H: Threads + Wait + Eprint + Sync>(
         Task::Tree => Ok(Output::whole(tree_text_of(alloc, graph)?)),
         Task::Run(options) => run_output_of(rt, alloc, options, graph),
         Task::Replay { wake } => Ok(Output::whole(replay_text_of(alloc, *wake, graph, trace)?)),
+        Task::Sweep(options) => Ok(Output::whole(sweep_text_of(rt, alloc, options, graph)?)),
     }
 }
 

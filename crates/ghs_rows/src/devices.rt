@@ -1,11 +1,11 @@
 //! Devices in memory, whole and failing, and what the program does over them.
 ghost use Rattle.std.specs.Io.KnownBytes.{ReadConsumes, WriteAppends};
 ghost use Rattle.std.specs.Io.{ReadsAtMost, WritesAtMost};
-ghost use Rattle.ghs_cli.specs.Job.{AreWithinLimits, IsWithinLimits};
+ghost use Rattle.ghs_cli.specs.Job.{AreSweepLimits, AreWithinLimits, IsWithinLimits};
 ghost use Rattle.std.specs.Prelude.{None, false, ◌≡◌};
 
 use ghs_cli::fault::ServeFault;
-use ghs_cli::job::{Job, Picking, RunOptions, Show, Task};
+use ghs_cli::job::{Job, Picking, RunOptions, Show, SweepOptions, Task};
 use ghs_cli::serve::serve;
 use ghs_gr::device::{Device, Sink, Source};
 use ghs_sched::trace::EVENT_LIMIT;
@@ -156,6 +156,27 @@ pub fn run_into<W: Sink, R: Threads + Wait + Eprint + Sync>(
         graph: None,
         trace: None,
         task: Task::Run(options),
+    };
+    let mut graph = Device::of(input);
+    let mut trace = Device::of(b"".as_slice());
+    serve(rt, alloc, &job, &mut graph, &mut trace, out)
+}
+
+/// What `ghs sweep` answers of this graph, and writes to a device.
+pub fn sweep_into<W: Sink, R: Threads + Wait + Eprint + Sync>(
+    rt: &R,
+    alloc: Global,
+    options: SweepOptions,
+    input: &[u8],
+    out: &mut W,
+) -> Result<(), ServeFault>
+    requires limits { AreSweepLimits options }
+    requires out { W.has_failed out.old ≡ false }
+{
+    let job = Job {
+        graph: None,
+        trace: None,
+        task: Task::Sweep(options),
     };
     let mut graph = Device::of(input);
     let mut trace = Device::of(b"".as_slice());

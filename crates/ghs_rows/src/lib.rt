@@ -20,6 +20,8 @@ mod runs;
 #[cfg(test)]
 mod strangers;
 #[cfg(test)]
+mod sweeps;
+#[cfg(test)]
 mod texts;
 #[cfg(test)]
 mod traces;

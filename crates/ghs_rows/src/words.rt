@@ -23,6 +23,8 @@ fn jobs(rt: HostRuntime) -> Result<(), Fail> {
         ("run --seed 007 map.gr --turns 3", Some("map.gr")),
         ("run --workers 64 --progress map.gr", Some("map.gr")),
         ("run --schedule patient map.gr", Some("map.gr")),
+        ("sweep --seeds 1..1000000 --workers 4", None),
+        ("sweep map.gr --seeds 007..7 --turns 3", Some("map.gr")),
     ] {
         match job_of(rt.alloc(), line)? {
             Ok(job) => {
@@ -53,6 +55,16 @@ fn refusals(rt: HostRuntime) -> Result<(), Fail> {
         "run --wake some",
         "run --print all",
         "run --schedule fair",
+        "sweep",
+        "sweep --seeds 4..1",
+        "sweep --seeds 4",
+        "sweep --seeds 1...4",
+        "sweep --seeds 1.4",
+        "sweep --seeds ..4",
+        "sweep --seeds 1..",
+        "sweep --seeds 1..+4",
+        "sweep --seeds 0..1000000",
+        "sweep --seeds 1..4 --workers 65",
         "replay",
         "replay --wake none run.trace",
         "tree a b",

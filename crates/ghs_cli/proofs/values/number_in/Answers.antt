@@ -1,7 +1,7 @@
 use Rattle.std.proofs.Common.{◌≡◌, List, ℕ, subst}
 use Rattle.std.specs.Prelude.{slice_index}
 use Rattle.ghs_cli.proofs.Numbers.{number_refused, number_taken}
-use Rattle.ghs_cli.proofs.job.number_in.Goals as goal
+use Rattle.ghs_cli.proofs.values.number_in.Goals as goal
 
 pub returns-in_default-clause-number : goal.returns-in_default-clause-number
 returns-in_default-clause-number c = number_refused c.args.low c.args.high c.args.value.now c.ranges.high.fits c.in_default.ensures.value.0
