@@ -350,7 +350,8 @@ impl Net {
     }
 
     /// Plays a Take whose node only puts the message back: the message goes to the end of its queue, and that is counted.
-    /// Neither the node nor any other queue is touched. A refusal leaves the net as it was.
+    /// Neither the node nor any other queue is touched. It is refused only where the trace had no room for it, and leaves
+    /// the net as it was.
     pub fn put_back(&mut self, v: u32, port: u32) -> Result<(), AllocError>
         requires lawful { IsLawful self.old (Event.Take v port) }
         requires back { IsPutBack self.old v port }
@@ -359,6 +360,7 @@ impl Net {
         ensures trace { OnOk result (self.new.trace ≡ self.old.trace ++ Event.Take v port ∷ []) }
         ensures event { OnOk result (happens (network self.old) (net_of self.old) (Event.Take v port) ≡ Some (net_of self.new)) }
         ensures err { OnErr result (IsSameNet self.old self.new) }
+        ensures full { OnErr result (self.old.spare ≡ 0) }
     {
         let take = Event::Take(v, port);
         self.trace.push(take)?;

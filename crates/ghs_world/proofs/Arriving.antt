@@ -25,11 +25,11 @@ use Rattle.ghs_world.specs.Upkeep.{HaveArrived, lawful_in}
 use Rattle.ghs_world.proofs.lemmas.Leaving.{arrivals, far_place, marked_one, next_arrival, node_place, place_there}
 use Rattle.ghs_world.proofs.Staying.{grows, waits_still}
 
-module _ (g : Network) (v : ℕ) where
-  last_waits : (q : List Message) (m : Message) → is_waiting (q ++ m ∷ []) ≡ true
-  last_waits [] m = refl
-  last_waits (n ∷ q) m = refl
+pub last_waits : (q : List Message) (m : Message) → is_waiting (q ++ m ∷ []) ≡ true
+last_waits [] m = refl
+last_waits (n ∷ q) m = refl
 
+module _ (g : Network) (v : ℕ) where
   one_waits : (s : ℕ × Message) (w : Net) → is_waiting ((send g v w s).queue (far g v s.0) (far_port g v s.0)) ≡ true
   one_waits s w = ap is_waiting (put_at_hit w.queue (far g v s.0) (far_port g v s.0) (far g v s.0) (far_port g v s.0) _ refl refl) ∙ last_waits _ s.1
 

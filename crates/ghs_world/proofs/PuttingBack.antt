@@ -1,5 +1,5 @@
 -- A message that is only put back changes nothing of what may happen.
-use Rattle.std.proofs.Common.{◌≡◌, ℕ, Bool, true, ◌&&◌, List, [], ◌∷◌, ◌++◌, map, Some, refl, sym, ◌∙◌, ap, subst, ⊎_elim}
+use Rattle.std.proofs.Common.{◌≡◌, ℕ, Bool, true, ◌&&◌, List, [], ◌∷◌, ◌++◌, Some, refl, sym, ◌∙◌, ap, subst, ⊎_elim}
 use Rattle.std.specs.List.{slice_get}
 use Rattle.std.proofs.lemmas.Bool.{and_parts}
 use Rattle.ghs_graph.specs.Graph.{Shape, IsGraph}
@@ -18,21 +18,18 @@ use Rattle.ghs_protocol.proofs.lemmas.Runs.{after_is_net}
 use Rattle.ghs_protocol.proofs.lemmas.Updates.{one_place}
 use Rattle.ghs_core.specs.NetState.{NetState, network, net_of, IsLawful}
 use Rattle.ghs_index.specs.Index.{IndexState, IsIndexOf}
-use Rattle.ghs_index.specs.Places.{all_events}
+use Rattle.ghs_index.proofs.lemmas.Marks.{but_of, of_but}
 use Rattle.ghs_world.specs.declared.wake_set.WakeSet.{WakeSet}
 use Rattle.ghs_world.specs.Upkeep.{lawful_in}
 use Rattle.ghs_world.specs.Wakes.{may_wake}
+use Rattle.ghs_world.proofs.Arriving.{last_waits}
 
 module _ (g : Network) (may : ℕ → Bool) (w w' : Net) (v p : ℕ) (m : Message) (ms : List Message) (waits : w.queue v p ≡ m ∷ ms)
     (turned : Turned w v p m ms w') where
-  still_waiting : (ms : List Message) → is_waiting (ms ++ m ∷ []) ≡ true
-  still_waiting [] = refl
-  still_waiting (x ∷ xs) = refl
-
   -- each queue has a message where it had one
   same_waiting : (u q : ℕ) → is_waiting (w'.queue u q) ≡ is_waiting (w.queue u q)
   same_waiting u q = ⊎_elim
-      (λ (z : (u ≡ v) × (q ≡ p)). rw (z.0, z.1, turned.queue, waits) (still_waiting ms))
+      (λ (z : (u ≡ v) × (q ≡ p)). rw (z.0, z.1, turned.queue, waits) (last_waits ms m))
       (λ apart. ap is_waiting (turned.queues u q apart))
       (one_place v p u q)
 
@@ -48,11 +45,10 @@ pub index_turned : (old new : NetState) (wake : WakeSet) (x : IndexState) →
     IsIndexOf (network new) (lawful_in new wake) x
 index_turned old new wake x of graph same = subst
     (λ (g : Shape). IsIndexOf (network_of g) (is_lawful_under (may_wake g wake) (network_of g) (net_of new)) x) (sym graph)
-    (record { bases = of.bases; marks = of.marks ∙ sym (alike (all_events (network old))) })
+    (of_but (network old) still x (but_of (network old) (lawful_in old wake) still [] x of (λ e has none. same e)))
   where
-    alike : (es : List Event) → map (is_lawful_under (may_wake old.graph wake) (network old) (net_of new)) es ≡ map (lawful_in old wake) es
-    alike [] = refl
-    alike (e ∷ es) = rw (same e, alike es) refl
+    still : Event → Bool
+    still = is_lawful_under (may_wake old.graph wake) (network old) (net_of new)
 
 -- the index after a message was put back
 pub index_back : (old new : NetState) (wake : WakeSet) (x : IndexState) (v p : ℕ) →
