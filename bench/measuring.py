@@ -29,9 +29,10 @@ def build(name, *flags):
 
 def road(nodes, links, order):
     """The path of a generated road-like graph."""
+    program = build("road")
     path = os.path.join(OUT, f"road-{nodes}-{links}-{order}.gr")
     with open(path, "wb") as file:
-        subprocess.run([build("road"), str(nodes), str(links), order], stdout=file, check=True)
+        subprocess.run([program, str(nodes), str(links), order], stdout=file, check=True)
     return path
 
 

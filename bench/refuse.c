@@ -1,6 +1,7 @@
 /* Stands between a program and the allocator, as LD_PRELOAD, and refuses one allocation: of all requests of new memory and
  * of more memory, from the start of the program on, the one whose number is in the environment as REFUSE, counted from 1.
- * It then makes the file whose name is there as REFUSED.
+ * It then makes the file whose name is there as REFUSED. A request of 2^62 bytes and k more is a word from the program
+ * itself: it is refused, and so is the k-th request after it; with k = 0 none is.
  */
 #define _GNU_SOURCE
 #include <errno.h>
@@ -22,8 +23,15 @@ __attribute__((constructor)) static void begin(void)
     atomic_store(&left, word ? atol(word) : 0);
 }
 
-static int is_refused(void)
+static const size_t WORD = (size_t)1 << 62;
+
+static int is_refused(size_t size)
 {
+    if (size >= WORD && size - WORD < WORD) {
+        atomic_store(&left, (long)(size - WORD));
+        errno = ENOMEM;
+        return 1;
+    }
     if (atomic_fetch_sub(&left, 1) != 1)
         return 0;
     const char *name = getenv("REFUSED");
@@ -36,10 +44,10 @@ static int is_refused(void)
 
 void *malloc(size_t size)
 {
-    return is_refused() ? NULL : __libc_malloc(size);
+    return is_refused(size) ? NULL : __libc_malloc(size);
 }
 
 void *realloc(void *old, size_t size)
 {
-    return is_refused() ? NULL : __libc_realloc(old, size);
+    return is_refused(size) ? NULL : __libc_realloc(old, size);
 }

@@ -3,14 +3,14 @@
 
 ghost use Rattle.ghs.specs.Status.{IsStatusOf};
 ghost use Rattle.ghs_cli.specs.Fault.{status_of};
-ghost use Rattle.ghs_cli.specs.Job.{IsWithinLimits, kinds_of};
+ghost use Rattle.ghs_words.specs.Job.{IsWithinLimits, kinds_of};
 ghost use Rattle.std.specs.Prelude.{◌≡◌, MatchResult, false, map, string_bytes};
 
 use ghs_cli::fault::ServeFault;
-use ghs_cli::job::{Job, JobFault, read_job};
 use ghs_cli::serve::serve;
 use ghs_gr::device::{Device, Source};
 use ghs_report::write_out::write_out;
+use ghs_words::job::{Job, JobFault, read_job};
 use std::alloc::Global;
 use std::fs::File;
 use std::process::ExitCode;

@@ -3,14 +3,16 @@ use Rattle.std.proofs.Common.{◌≡◌, ◌∙◌, ℕ, true, List, [], Option,
 use Rattle.std.specs.Prelude.{IfSome, IsErrOf, Result, Ok, Err}
 use Rattle.ghs_gr.specs.Judgement.{IsOneThing, TextIs}
 use Rattle.ghs_gr.specs.RawGraph.{RawShape}
+use Rattle.ghs_patient.specs.declared.picking.Picking.{Picking}
+use Rattle.ghs_patient.specs.declared.picking.Picking.TheVariants.{Patient}
+use Rattle.ghs_patient.specs.Picking.{HasTurnsFor, IsPatient, IsPickedBy}
 use Rattle.ghs_cli.specs.declared.fault.ServeFault.{ServeFault}
 use Rattle.ghs_cli.specs.declared.fault.ServeFault.TheVariants as serve
-use Rattle.ghs_cli.specs.declared.job.Picking.TheVariants.{Patient}
-use Rattle.ghs_cli.specs.declared.job.RunOptions.{RunOptions}
-use Rattle.ghs_cli.specs.declared.job.Task.{Task}
-use Rattle.ghs_cli.specs.declared.job.Task.TheVariants as task
+use Rattle.ghs_words.specs.declared.job.RunOptions.{RunOptions}
+use Rattle.ghs_words.specs.declared.job.StepsOptions.{StepsOptions}
+use Rattle.ghs_words.specs.declared.job.Task.{Task}
+use Rattle.ghs_words.specs.declared.job.Task.TheVariants as task
 use Rattle.ghs_cli.specs.Ending.{IsPatientTask}
-use Rattle.ghs_cli.specs.Patience.{HasTurnsFor}
 use Rattle.ghs_cli.specs.Serving.{IfStored, IsCause, IsGraphCause, IsOutput, IsRunningCause, StopsRun, shape_of}
 use Rattle.ghs_cli.proofs.Serves.{if_stored, if_some, limit_cause, printed_at_limit}
 
@@ -23,7 +25,12 @@ run_goes_on o input one cause is =
     let graph : is.graph ≡ stops.0 = let both : Ok is.graph ≡ Ok stops.0 = one.one (Ok is.graph) (Ok stops.0) is.text stops.1 in cc in
     let turns : HasTurnsFor (shape_of stops.0) o.turns =
     subst (λ (g : RawShape). HasTurnsFor (shape_of g) o.turns) graph (subst (λ (p : RunOptions). HasTurnsFor (shape_of is.graph) p.turns) (sym same) is.turns) in
-    stops.2.1.few (subst (λ (p : RunOptions). p.workers ≡ 0) (sym same) is.alone) (subst (λ (p : RunOptions). p.picking ≡ Patient) (sym same) is.patient) turns)
+    let alone : o.workers ≡ 0 = subst (λ (p : RunOptions). p.workers ≡ 0) (sym same) is.alone in
+    let patient : o.picking ≡ Patient = subst (λ (p : RunOptions). p.picking ≡ Patient) (sym same) is.patient in
+    let stopped = stops.2.1 in
+    let run : IsPatient o.seed o.wake o.turns (shape_of stops.0) stops.2.0 =
+    subst (λ (p : Picking). IsPickedBy p o.seed o.wake o.turns (shape_of stops.0) stops.2.0) patient (stopped.by.picked alone) in
+    stopped.goes_on (run.ends turns))
     cause
 
 -- a task that stops at its turns is no patient one
@@ -31,7 +38,10 @@ task_goes_on : (job : Task) (stored input : List ℕ) → IsOneThing input → I
 task_goes_on task.Tree stored input one cause is = absurd cause
 task_goes_on (task.Run o) stored input one cause is = run_goes_on o input one cause is
 task_goes_on (task.Replay wake) stored input one cause is = absurd (let run = is.run in cc)
+task_goes_on (task.Steps o) stored input one cause is = absurd (let run = is.run in cc)
 task_goes_on (task.Sweep o) stored input one cause is = absurd cause
+task_goes_on (task.View o) stored input one cause is = absurd (let run = is.run in cc)
+task_goes_on (task.StoredView o) stored input one cause is = absurd (let run = is.run in cc)
 
 -- whatever is stored, and where the input is known
 pub never_stops : (job : Task) (stored input : Option (List ℕ)) →
@@ -42,7 +52,10 @@ never_stops job stored None one cause = tt
 never_stops task.Tree stored (Some i) one cause = λ is. task_goes_on task.Tree [] i (one i) (cause []) is
 never_stops (task.Run o) stored (Some i) one cause = λ is. task_goes_on (task.Run o) [] i (one i) (cause []) is
 never_stops (task.Replay wake) stored (Some i) one cause = λ is. absurd (let run = is.run in cc)
+never_stops (task.Steps o) stored (Some i) one cause = λ is. absurd (let run = is.run in cc)
 never_stops (task.Sweep o) stored (Some i) one cause = λ is. task_goes_on (task.Sweep o) [] i (one i) (cause []) is
+never_stops (task.View o) stored (Some i) one cause = λ is. task_goes_on (task.View o) [] i (one i) (cause []) is
+never_stops (task.StoredView o) stored (Some i) one cause = λ is. absurd (let run = is.run in cc)
 
 -- nor is one whose output is that of the turn limit
 pub never_at_limit : (job : Task) (stored input : Option (List ℕ)) (output : List ℕ) →
@@ -81,3 +94,10 @@ pub ends_else : (job : Task) (input : Option (List ℕ)) (r : Result (Unit {0}) 
     IfSome input (λ i. IsPatientTask job i → IsErrOf r serve.TurnLimit → ⊥)
 ends_else job None r other = tt
 ends_else job (Some i) r other = λ is limit. other limit
+
+-- steps are no run
+pub ends_of_steps : (job : Task) (o : StepsOptions) (input : Option (List ℕ)) (r : Result (Unit {0}) ServeFault) →
+    job ≡ task.Steps o →
+    IfSome input (λ i. IsPatientTask job i → IsErrOf r serve.TurnLimit → ⊥)
+ends_of_steps job o None r is = tt
+ends_of_steps job o (Some i) r is = λ patient limit. absurd (let both : task.Steps o ≡ task.Run patient.options = sym is ∙ patient.run in cc)

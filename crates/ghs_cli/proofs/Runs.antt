@@ -8,43 +8,26 @@ use Rattle.ghs_protocol.specs.declared.event.Event.{Event}
 use Rattle.ghs_protocol.specs.Marks.{HasEnded}
 use Rattle.ghs_protocol.specs.Network.{network_of}
 use Rattle.ghs_protocol.specs.Run.{IsRunUnder}
+use Rattle.ghs_patient.specs.Picking.{IsPickedBy, StopsFor}
 use Rattle.ghs_pool.specs.Ends.{EndFits}
 use Rattle.ghs_pool.specs.declared.end.PoolFault.{PoolFault}
 use Rattle.ghs_pool.specs.declared.end.PoolFault.TheVariants as pool
-use Rattle.ghs_sched.specs.Picks.{IsSeededRun}
-use Rattle.ghs_sched.specs.Runs.{EndsFor, HasRun, IsEnd, IsWhole}
+use Rattle.ghs_sched.specs.Runs.{IsEnd}
 use Rattle.ghs_sched.specs.Text.{trace_text}
 use Rattle.ghs_sched.specs.declared.fault.RunFault.{RunFault}
 use Rattle.ghs_sched.specs.declared.fault.RunFault.TheVariants.{TurnLimit}
 use Rattle.ghs_sched.specs.declared.run.RunEnd.{RunEnd}
 use Rattle.ghs_sched.specs.declared.run.RunEnd.TheVariants.{Halted}
-use Rattle.ghs_sched.specs.Schedule.{seeded}
 use Rattle.ghs_world.specs.declared.wake_set.WakeSet.{WakeSet}
 use Rattle.ghs_world.specs.Wakes.{may_wake}
 use Rattle.ghs_world.specs.WorldState.{WorldState, home, wakers}
 use Rattle.ghs_cli.specs.declared.fault.ServeFault.{ServeFault}
-use Rattle.ghs_cli.specs.declared.job.Picking.{Picking}
-use Rattle.ghs_cli.specs.declared.job.Picking.TheVariants.{Seeded, Patient}
-use Rattle.ghs_cli.specs.declared.job.RunOptions.{RunOptions}
-use Rattle.ghs_cli.specs.declared.job.Show.TheVariants.{Events}
-use Rattle.ghs_cli.specs.declared.job.Task.{Task}
-use Rattle.ghs_cli.specs.declared.job.Task.TheVariants as task
+use Rattle.ghs_words.specs.declared.job.RunOptions.{RunOptions}
+use Rattle.ghs_words.specs.declared.job.Show.TheVariants.{Events}
+use Rattle.ghs_words.specs.declared.job.Task.{Task}
+use Rattle.ghs_words.specs.declared.job.Task.TheVariants as task
 use Rattle.ghs_cli.specs.Running.{IsOpened}
-use Rattle.ghs_cli.specs.Serving.{IfStored, IsCause, IsRan, IsRunBy, IsRunOutput, IsPickedBy, IsRunningCause, IsSeeded, IsStopped, IsWholeRun, StopsRun, shape_of}
-
--- a world opened and run on by the schedule of a seed has the events of the seed's run
-pub is_seeded : (o : RunOptions) (old new : WorldState) (after : List ℕ) →
-    IsOpened o old →
-    new.net.graph ≡ old.net.graph →
-    IsWhole old new (seeded o.seed) after →
-    IsSeeded o.seed o.wake o.turns new.net.graph new.net.trace
-is_seeded o old new after opened graph whole = record {
-  words = after;
-  run = subst (λ (s : Shape). IsSeededRun (may_wake s o.wake) s o.turns [] (seeded o.seed) new.net.trace after) (sym graph)
-      (subst (λ (w : WakeSet). IsSeededRun (may_wake old.net.graph w) old.net.graph o.turns [] (seeded o.seed) new.net.trace after) opened.wake
-      (subst (λ (t : ℕ). IsSeededRun (wakers old) old.net.graph t [] (seeded o.seed) new.net.trace after) opened.turns
-      (subst (λ (es : List Event). IsSeededRun (wakers old) old.net.graph old.turns es (seeded o.seed) new.net.trace after) opened.trace whole)));
-}
+use Rattle.ghs_cli.specs.Serving.{IfStored, IsCause, IsRan, IsRunBy, IsRunOutput, IsRunningCause, IsStopped, IsWholeRun, StopsRun, shape_of}
 
 -- what a world holds of its run, as the options ask
 pub is_run_by : (o : RunOptions) (new : WorldState) (limit : ℕ) →
@@ -53,7 +36,7 @@ pub is_run_by : (o : RunOptions) (new : WorldState) (limit : ℕ) →
     IsRunUnder (wakers new) (network_of new.net.graph) new.net.trace →
     limit ≡ new.turns →
     length new.net.trace + length new.outs ≤ limit →
-    (o.workers ≡ 0 → IsPickedBy o.picking o new.net.graph new.net.trace) →
+    (o.workers ≡ 0 → IsPickedBy o.picking o.seed o.wake o.turns new.net.graph new.net.trace) →
     IsRunBy o new.net.graph new.net.trace
 is_run_by o new limit wake turns run is fits picked = record {
   run = subst (λ (w : WakeSet). IsRunUnder (may_wake new.net.graph w) (network_of new.net.graph) new.net.trace) wake run;
@@ -65,60 +48,65 @@ is_run_by o new limit wake turns run is fits picked = record {
 pub ended_by : (s : WorldState) (e : RunEnd) → IsEnd s e → HasEnded s.net.graph (home s)
 ended_by s (Halted v) is = is.0
 
-picked_of_seed : (o : RunOptions) (new : WorldState) →
-    o.picking ≡ Seeded →
-    IsSeeded o.seed o.wake o.turns new.net.graph new.net.trace →
-    IsPickedBy o.picking o new.net.graph new.net.trace
-picked_of_seed o new by_seed is = subst (λ (p : Picking). IsPickedBy p o new.net.graph new.net.trace) (sym by_seed) is
+-- a world opened and run on by the schedule of a seed has the events that it picks
+picked_by : (o : RunOptions) (old new : WorldState) →
+    IsOpened o old →
+    new.net.graph ≡ old.net.graph →
+    IsPickedBy o.picking o.seed old.wake old.turns old.net.graph new.net.trace →
+    IsPickedBy o.picking o.seed o.wake o.turns new.net.graph new.net.trace
+picked_by o old new opened graph picked =
+    subst (λ (s : Shape). IsPickedBy o.picking o.seed o.wake o.turns s new.net.trace) (sym graph)
+    (subst (λ (w : WakeSet). IsPickedBy o.picking o.seed w o.turns old.net.graph new.net.trace) opened.wake
+    (subst (λ (t : ℕ). IsPickedBy o.picking o.seed old.wake t old.net.graph new.net.trace) opened.turns picked))
+
+by_schedule : (o : RunOptions) (old new : WorldState) (limit : ℕ) →
+    IsOpened o old →
+    new.net.graph ≡ old.net.graph →
+    new.wake ≡ old.wake →
+    new.turns ≡ old.turns →
+    IsRunUnder (wakers new) (network_of new.net.graph) new.net.trace →
+    limit ≡ new.turns →
+    length new.net.trace + length new.outs ≤ limit →
+    IsPickedBy o.picking o.seed old.wake old.turns old.net.graph new.net.trace →
+    IsRunBy o new.net.graph new.net.trace
+by_schedule o old new limit opened graph wake turns run is fits picked =
+    is_run_by o new limit (wake ∙ opened.wake) (turns ∙ opened.turns) run is fits (λ no. picked_by o old new opened graph picked)
 
 -- the seed's run has ended
-pub whole_seeded : (o : RunOptions) (old new : WorldState) (words after : List ℕ) (limit : ℕ) (e : RunEnd) →
-    o.picking ≡ Seeded →
-    words ≡ seeded o.seed →
+pub whole_by_schedule : (o : RunOptions) (old new : WorldState) (limit : ℕ) (e : RunEnd) →
     IsOpened o old →
-    HasRun old new words after →
+    new.net.graph ≡ old.net.graph →
+    new.wake ≡ old.wake →
+    new.turns ≡ old.turns →
     IsRunUnder (wakers new) (network_of new.net.graph) new.net.trace →
     limit ≡ new.turns →
     length new.net.trace + length new.outs ≤ limit →
-    IsWhole old new words after →
+    IsPickedBy o.picking o.seed old.wake old.turns old.net.graph new.net.trace →
     IsEnd new e →
     IsWholeRun o new.net.graph new.net.trace
-whole_seeded o old new words after limit e by_seed begun opened has run is fits whole end = record {
-  by = is_run_by o new limit (has.wake ∙ opened.wake) (has.turns ∙ opened.turns) run is fits
-      (λ no. picked_of_seed o new by_seed (is_seeded o old new after opened has.graph (subst (λ (s : List ℕ). IsWhole old new s after) begun whole)));
-  ended = ended_by new e end;
-}
+whole_by_schedule o old new limit e opened graph wake turns run is fits picked end =
+    record { by = by_schedule o old new limit opened graph wake turns run is fits picked; ended = ended_by new e end }
 
 -- the seed's run has used its turns
-pub stopped_seeded : (o : RunOptions) (old new : WorldState) (words after : List ℕ) (limit : ℕ) (r : Result RunEnd RunFault) (fault : RunFault) →
-    o.picking ≡ Seeded →
-    words ≡ seeded o.seed →
+pub stopped_by_schedule : (o : RunOptions) (old new : WorldState) (limit : ℕ) (r : Result RunEnd RunFault) →
     IsOpened o old →
-    HasRun old new words after →
+    new.net.graph ≡ old.net.graph →
+    new.wake ≡ old.wake →
+    new.turns ≡ old.turns →
     IsRunUnder (wakers new) (network_of new.net.graph) new.net.trace →
     limit ≡ new.turns →
     length new.net.trace + length new.outs ≤ limit →
-    limit ≤ 2 ^ 40 →
-    r ≡ Err fault →
-    fault ≡ TurnLimit →
-    (r ≡ Err TurnLimit → new.last < 2 ^ 64 - 1 → IsWhole old new words after) →
-    IfErr r (EndsFor new) →
+    (r ≡ Err TurnLimit → IsPickedBy o.picking o.seed old.wake old.turns old.net.graph new.net.trace) →
+    IfErr r (λ f. StopsFor new f) →
     OnErr r (HasEnded new.net.graph (home new) → ⊥) →
+    r ≡ Err TurnLimit →
     IsStopped o new.net.graph new.net.trace
-stopped_seeded o old new words after limit r fault by_seed begun opened has run is fits few answer at_limit whole ends goes =
-    let none : length old.net.trace ≡ 0 = ap (λ (es : List Event). length es) opened.trace in
-    let numbers = has.numbers in
-    let first = opened.last in
-    let small : new.last < 2 ^ 64 - 1 = omega (arith, numbers, none, first, fits, few) in
-    let is_limit : r ≡ Err TurnLimit = answer ∙ ap Err at_limit in
-    let all : IsWhole old new (seeded o.seed) after = subst (λ (s : List ℕ). IsWhole old new s after) begun (whole is_limit small) in
-    let used : EndsFor new TurnLimit = subst (λ (x : Result RunEnd RunFault). IfErr x (EndsFor new)) is_limit ends in
+stopped_by_schedule o old new limit r opened graph wake turns run is fits picked stops goes at_limit =
+    let used : StopsFor new TurnLimit = subst (λ (x : Result RunEnd RunFault). IfErr x (λ f. StopsFor new f)) at_limit stops in
     record {
-      by = is_run_by o new limit (has.wake ∙ opened.wake) (has.turns ∙ opened.turns) run is fits
-          (λ no. picked_of_seed o new by_seed (is_seeded o old new after opened has.graph all));
-      used = ⊎_elim (λ (e : length new.net.trace ≡ new.turns). e ∙ has.turns ∙ opened.turns) (λ large. absurd (omega (arith, large, small))) used;
-      goes_on = subst (λ (x : Result RunEnd RunFault). OnErr x (HasEnded new.net.graph (home new) → ⊥)) is_limit goes;
-      few = λ no patient. absurd (let bad : Seeded ≡ Patient = sym by_seed ∙ patient in cc);
+      by = by_schedule o old new limit opened graph wake turns run is fits (picked at_limit);
+      used = used ∙ turns ∙ opened.turns;
+      goes_on = subst (λ (x : Result RunEnd RunFault). OnErr x (HasEnded new.net.graph (home new) → ⊥)) at_limit goes;
     }
 
 -- a run of workers is as the options ask
@@ -163,7 +151,6 @@ stopped_threads o new limit events some wake turns run is fits count least goes 
       by = by_threads o new limit some wake turns run is fits;
       used = omega (arith, least, fits, count, is, turns);
       goes_on = goes;
-      few = λ no. absurd (omega (arith, some, no));
     }
 
 -- what goes out of one that has used its turns

@@ -16,9 +16,9 @@ use Rattle.ghs_world.specs.declared.wake_set.WakeSet.{WakeSet}
 use Rattle.ghs_world.specs.Wakes.{may_wake}
 use Rattle.ghs_cli.specs.declared.fault.ServeFault.{ServeFault}
 use Rattle.ghs_cli.specs.declared.fault.ServeFault.TheVariants as serve
-use Rattle.ghs_cli.specs.declared.job.Task.{Task}
-use Rattle.ghs_cli.specs.declared.job.Task.TheVariants as task
-use Rattle.ghs_cli.specs.Serving.{GoesOn, IfStored, IsCause, IsOutput, IsPrinted, IsPrintedAtLimit, IsReplayCause, IsReplayed, IsRunCause, IsTraceText, IsTried, Serves, is_late, shape_of}
+use Rattle.ghs_words.specs.declared.job.Task.{Task}
+use Rattle.ghs_words.specs.declared.job.Task.TheVariants as task
+use Rattle.ghs_cli.specs.Serving.{GoesOn, HasBegun, IfStored, IsCause, IsOutput, IsPrinted, IsPrintedAtLimit, IsReplayCause, IsReplayed, IsRunCause, IsTraceText, IsTried, Serves, is_late, shape_of}
 
 -- what follows for each stored text follows where the task reads one
 pub if_stored : (job : Task) (stored : Option (List ℕ)) (P Q : List ℕ → Type 0) →
@@ -28,12 +28,27 @@ pub if_stored : (job : Task) (stored : Option (List ℕ)) (P Q : List ℕ → Ty
 if_stored task.Tree stored P Q f all = λ bytes. f bytes (all bytes)
 if_stored (task.Run o) stored P Q f all = λ bytes. f bytes (all bytes)
 if_stored (task.Sweep o) stored P Q f all = λ bytes. f bytes (all bytes)
+if_stored (task.View o) stored P Q f all = λ bytes. f bytes (all bytes)
+if_stored (task.StoredView o) None P Q f all = tt
+if_stored (task.StoredView o) (Some bytes) P Q f all = f bytes all
 if_stored (task.Replay wake) None P Q f all = tt
+if_stored (task.Steps o) None P Q f all = tt
+if_stored (task.Steps o) (Some bytes) P Q f all = f bytes all
 if_stored (task.Replay wake) (Some bytes) P Q f all = f bytes all
 
 pub if_some : (o : Option (List ℕ)) (P Q : List ℕ → Type 0) → ((bytes : List ℕ) → P bytes → Q bytes) → IfSome o P → IfSome o Q
 if_some None P Q f all = tt
 if_some (Some bytes) P Q f all = f bytes all
+
+-- where memory can't be wanting behind output, none has gone out
+begun : (job : Task) (stored input : List ℕ) (old new : Option (List ℕ)) → is_late job serve.Memory ≡ false → HasBegun job stored input old new
+begun task.Tree stored input old new early = tt
+begun (task.Run o) stored input old new early = tt
+begun (task.Replay wake) stored input old new early = tt
+begun (task.Steps o) stored input old new early = absurd (let bad : true ≡ false = early in cc)
+begun (task.Sweep o) stored input old new early = tt
+begun (task.View o) stored input old new early = tt
+begun (task.StoredView o) stored input old new early = tt
 
 -- a fault behind which no write was tried is served by its cause
 pub serves_cause : (job : Task) (stored input : List ℕ) (old new : Option (List ℕ)) (fault : ServeFault) →
@@ -52,10 +67,11 @@ serves_cause job stored input old new (serve.TraceBadLine line) early cause = ca
 serves_cause job stored input old new (serve.TraceNumber line) early cause = cause
 serves_cause job stored input old new (serve.TraceCount said found) early cause = cause
 serves_cause job stored input old new (serve.NotLawful k) early cause = cause
+serves_cause job stored input old new serve.PageTooLarge early cause = cause
 serves_cause job stored input old new serve.TurnLimit early cause = (cause, λ shows. absurd (let bad : true ≡ false = sym shows ∙ early in cc))
 serves_cause job stored input old new serve.Stalled early cause = cause
 serves_cause job stored input old new serve.NotEnded early cause = cause
-serves_cause job stored input old new serve.Memory early cause = cause
+serves_cause job stored input old new serve.Memory early cause = (cause, begun job stored input old new early)
 serves_cause job stored input old new serve.NoThread early cause = cause
 serves_cause job stored input old new serve.Strange early cause = cause
 serves_cause job stored input old new serve.Read early cause = cause
@@ -97,6 +113,7 @@ pub goes_on : (wake own : WakeSet) (raw : RawShape) (g : Shape) (done events : L
     IsRunUnder (may_wake g own) (network_of g) done →
     GoesOn g (net_after g done) fault →
     IsRunCause wake raw events fault
+goes_on wake own raw g done events serve.PageTooLarge graph trace wakes run goes = absurd goes
 goes_on wake own raw g done events serve.TurnLimit graph trace wakes run goes = absurd goes
 goes_on wake own raw g done events serve.Stalled graph trace wakes run goes = absurd goes
 goes_on wake own raw g done events serve.NotEnded graph trace wakes run goes = (
@@ -149,26 +166,38 @@ pub printed_of : (job : Task) (stored input output : List ℕ) → IsOutput job 
 printed_of task.Tree stored input output out = out.1
 printed_of (task.Run o) stored input output out = out
 printed_of (task.Replay wake) stored input output out = out.1
+printed_of (task.Steps o) stored input output out = absurd out
 printed_of (task.Sweep o) stored input output out = out.1
+printed_of (task.View o) stored input output out = out.1
+printed_of (task.StoredView o) stored input output out = out.1
 
 pub printed_at_limit : (job : Task) (stored input output : List ℕ) → IsOutput job true stored input output → IsPrintedAtLimit job input output
 printed_at_limit task.Tree stored input output out = absurd (let bad : true ≡ false = out.0 in cc)
 printed_at_limit (task.Run o) stored input output out = out
 printed_at_limit (task.Replay wake) stored input output out = absurd (let bad : true ≡ false = out.0 in cc)
+printed_at_limit (task.Steps o) stored input output out = absurd out
 printed_at_limit (task.Sweep o) stored input output out = absurd (let bad : true ≡ false = out.0 in cc)
+printed_at_limit (task.View o) stored input output out = absurd (let bad : true ≡ false = out.0 in cc)
+printed_at_limit (task.StoredView o) stored input output out = absurd (let bad : true ≡ false = out.0 in cc)
 
 tried_of : (job : Task) (at_limit : Bool) (stored input output : List ℕ) → IsOutput job at_limit stored input output → IsTried job stored input output
 tried_of task.Tree at_limit stored input output out = out.1
 tried_of (task.Run o) at_limit stored input output out = (at_limit, out)
 tried_of (task.Replay wake) at_limit stored input output out = out.1
+tried_of (task.Steps o) at_limit stored input output out = absurd out
 tried_of (task.Sweep o) at_limit stored input output out = out.1
+tried_of (task.View o) at_limit stored input output out = out.1
+tried_of (task.StoredView o) at_limit stored input output out = out.1
 
 -- only a run of a graph stops at a turn limit
 pub limit_cause : (job : Task) (stored input output : List ℕ) → IsPrintedAtLimit job input output → IsCause job stored input serve.TurnLimit
 limit_cause task.Tree stored input output out = absurd out
 limit_cause (task.Run o) stored input output out = inr (out.0, out.1, (out.2.events, out.2.stopped))
 limit_cause (task.Replay wake) stored input output out = absurd out
+limit_cause (task.Steps o) stored input output out = absurd out
 limit_cause (task.Sweep o) stored input output out = absurd out
+limit_cause (task.View o) stored input output out = absurd out
+limit_cause (task.StoredView o) stored input output out = absurd out
 
 -- a write that failed served the first bytes
 pub serves_part : (job : Task) (at_limit : Bool) (stored input bytes output : List ℕ) (old new : Option (List ℕ))

@@ -2,11 +2,11 @@
 use Rattle.std.specs.Prelude.{◌≡◌, ℕ, List, Ok}
 use Rattle.ghs_gr.specs.Judgement.{TextIs}
 use Rattle.ghs_gr.specs.RawGraph.{RawShape}
-use Rattle.ghs_cli.specs.declared.job.Picking.TheVariants.{Patient}
-use Rattle.ghs_cli.specs.declared.job.RunOptions.{RunOptions}
-use Rattle.ghs_cli.specs.declared.job.Task.{Task}
-use Rattle.ghs_cli.specs.declared.job.Task.TheVariants as task
-use Rattle.ghs_cli.specs.Patience.{HasTurnsFor}
+use Rattle.ghs_patient.specs.declared.picking.Picking.TheVariants.{Patient}
+use Rattle.ghs_patient.specs.Picking.{HasTurnsFor}
+use Rattle.ghs_words.specs.declared.job.RunOptions.{RunOptions}
+use Rattle.ghs_words.specs.declared.job.Task.{Task}
+use Rattle.ghs_words.specs.declared.job.Task.TheVariants as task
 use Rattle.ghs_cli.specs.Serving.{shape_of}
 
 -- the task runs the graph whose text the input is, patiently and without threads, and has turns for all the events that such a run may have

@@ -8,6 +8,8 @@ use Rattle.ghs_sched.specs.declared.fault.ReplayFault.{ReplayFault}
 use Rattle.ghs_sched.specs.declared.fault.ReplayFault.TheVariants as replay
 use Rattle.ghs_sched.specs.declared.fault.TraceFault.{TraceFault}
 use Rattle.ghs_sched.specs.declared.fault.TraceFault.TheVariants as trace
+use Rattle.ghs_steps.specs.declared.show.StepsFault.{StepsFault}
+use Rattle.ghs_steps.specs.declared.show.StepsFault.TheVariants as steps
 use Rattle.ghs_cli.specs.declared.fault.ServeFault.{ServeFault}
 use Rattle.ghs_cli.specs.declared.fault.ServeFault.TheVariants as serve
 
@@ -41,6 +43,12 @@ of_replay (replay.NotLawful k) = serve.NotLawful k
 of_replay (replay.Unforeseen k) = serve.Unforeseen
 of_replay replay.Memory = serve.Memory
 
+-- and of the steps of a stored run
+abbrev pub of_steps : StepsFault → ServeFault
+of_steps (steps.NotLawful k) = serve.NotLawful k
+of_steps steps.Memory = serve.Memory
+of_steps (steps.Write written) = serve.Write written
+
 -- the exit status: 1 for input that is refused, 3 for a run that hasn't ended, 4 for want of memory or of a thread, 5 for a read or a write that failed, 6 for a state without a rule or workers that stop without a reason
 abbrev pub status_of : ServeFault → ℕ
 status_of (serve.BadLine line) = 1
@@ -55,6 +63,7 @@ status_of (serve.TraceBadLine line) = 1
 status_of (serve.TraceNumber line) = 1
 status_of (serve.TraceCount said found) = 1
 status_of (serve.NotLawful k) = 1
+status_of serve.PageTooLarge = 1
 status_of serve.TurnLimit = 3
 status_of serve.Stalled = 3
 status_of serve.NotEnded = 3

@@ -1,10 +1,7 @@
 -- To be believed: contracts cite what stands here, and what it is made of.
 pub mod Ending
 pub mod Fault
-pub mod Grammar
-pub mod Job
-pub mod Patience
 pub mod Running
 pub mod Serving
 pub mod Sweeping
-pub mod Values
+pub mod Viewing

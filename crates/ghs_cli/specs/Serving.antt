@@ -8,6 +8,7 @@ use Rattle.ghs_graph.specs.declared.key.Key.{Key}
 use Rattle.ghs_graph.specs.Graph.{Shape}
 use Rattle.ghs_graph.specs.Key.{key_of}
 use Rattle.ghs_graph.specs.Links.{IsTree}
+use Rattle.ghs_patient.specs.Picking.{IsPickedBy}
 use Rattle.ghs_protocol.specs.declared.event.Event.{Event}
 use Rattle.ghs_protocol.specs.Marks.{HasEnded}
 use Rattle.ghs_protocol.specs.Net.{Net}
@@ -16,26 +17,26 @@ use Rattle.ghs_protocol.specs.Run.{IsRunUnder, net_after}
 use Rattle.ghs_report.specs.NetText.{IsNetText}
 use Rattle.ghs_report.specs.TreeText.{tree_text}
 use Rattle.ghs_report.specs.Writing.{HasWritten}
-use Rattle.ghs_sched.specs.Picks.{IsSeededRun}
 use Rattle.ghs_sched.specs.Reading.{HasEvents, HasFault}
 use Rattle.ghs_sched.specs.Replays.{IsFirstUnlawful}
-use Rattle.ghs_sched.specs.Schedule.{seeded}
 use Rattle.ghs_sched.specs.Text.{trace_text}
 use Rattle.ghs_sched.specs.declared.fault.TraceFault.TheVariants as trace
+use Rattle.ghs_steps.specs.Lines.{lines}
 use Rattle.ghs_world.specs.declared.wake_set.WakeSet.{WakeSet}
 use Rattle.ghs_world.specs.Wakes.{may_wake}
 use Rattle.ghs_cli.specs.declared.fault.ServeFault.{ServeFault}
 use Rattle.ghs_cli.specs.declared.fault.ServeFault.TheVariants as serve
-use Rattle.ghs_cli.specs.declared.job.Picking.{Picking}
-use Rattle.ghs_cli.specs.declared.job.Picking.TheVariants.{Seeded, Patient}
-use Rattle.ghs_cli.specs.declared.job.RunOptions.{RunOptions}
-use Rattle.ghs_cli.specs.declared.job.Show.{Show}
-use Rattle.ghs_cli.specs.declared.job.Show.TheVariants.{Summary, Events}
-use Rattle.ghs_cli.specs.declared.job.SweepOptions.{SweepOptions}
-use Rattle.ghs_cli.specs.declared.job.Task.{Task}
-use Rattle.ghs_cli.specs.declared.job.Task.TheVariants as task
-use Rattle.ghs_cli.specs.Patience.{HasTurnsFor, IsPatient}
+use Rattle.ghs_words.specs.declared.job.RunOptions.{RunOptions}
+use Rattle.ghs_words.specs.declared.job.Show.{Show}
+use Rattle.ghs_words.specs.declared.job.Show.TheVariants.{Summary, Events}
+use Rattle.ghs_words.specs.declared.job.StepsOptions.{StepsOptions}
+use Rattle.ghs_words.specs.declared.job.StoredViewOptions.{StoredViewOptions}
+use Rattle.ghs_words.specs.declared.job.SweepOptions.{SweepOptions}
+use Rattle.ghs_words.specs.declared.job.Task.{Task}
+use Rattle.ghs_words.specs.declared.job.Task.TheVariants as task
+use Rattle.ghs_words.specs.declared.job.ViewOptions.{ViewOptions}
 use Rattle.ghs_cli.specs.Sweeping.{IsSwept}
+use Rattle.ghs_cli.specs.Viewing.{HasNoStoredView, HasNoView, IsStoredView, IsView}
 
 -- the keys of a graph's links
 abbrev pub keys_of : RawShape → List Key
@@ -75,33 +76,22 @@ pub record IsReplayText (wake : WakeSet) (stored input output : List ℕ) : Type
   pub trace : IsTraceText stored events
   pub replayed : IsReplayed wake graph events output
 
--- the events of the seed's run of a graph: all that its schedule picks, from the opening on
-pub record IsSeeded (seed : ℕ) (wake : WakeSet) (turns : ℕ) (g : Shape) (events : List Event) : Type 0 where
-  pub words : List ℕ
-  pub run : IsSeededRun (may_wake g wake) g turns [] (seeded seed) events words
-
--- the events that a seed's schedule picks of a graph, among all that may happen or patiently
-abbrev pub IsPickedBy : Picking → RunOptions → Shape → List Event → Type 0
-IsPickedBy Seeded o g events = IsSeeded o.seed o.wake o.turns g events
-IsPickedBy Patient o g events = IsPatient o.seed o.wake o.turns g events
-
 -- events that are a run of a graph as its options ask: under the wake set, within the turns; without threads the seed's schedule picks them
 pub record IsRunBy (o : RunOptions) (g : Shape) (events : List Event) : Type 0 where
   pub run : IsRunUnder (may_wake g o.wake) (network_of g) events
   pub within : length events ≤ o.turns
-  pub picked : o.workers ≡ 0 → IsPickedBy o.picking o g events
+  pub picked : o.workers ≡ 0 → IsPickedBy o.picking o.seed o.wake o.turns g events
 
 -- such a run that has ended
 pub record IsWholeRun (o : RunOptions) (g : Shape) (events : List Event) : Type 0 where
   pub by : IsRunBy o g events
   pub ended : HasEnded g (net_after g events)
 
--- and one that has used its turns and hasn't ended; a patient one ends where it has turns for its events
+-- and one that has used its turns and hasn't ended
 pub record IsStopped (o : RunOptions) (g : Shape) (events : List Event) : Type 0 where
   pub by : IsRunBy o g events
   pub used : length events ≡ o.turns
   pub goes_on : HasEnded g (net_after g events) → ⊥
-  pub few : o.workers ≡ 0 → o.picking ≡ Patient → HasTurnsFor g o.turns → ⊥
 
 -- what is shown of a run that has ended: the text of its net, or its events
 abbrev pub IsShown : Show → Shape → List Event → List ℕ → Type 0
@@ -130,23 +120,50 @@ IsRan o g true output = IsStoppedText o g output
 abbrev pub IsRunOutput : RunOptions → Bool → List ℕ → List ℕ → Type 0
 IsRunOutput o at_limit input output = (graph : RawShape) × TextIs input (Ok graph) × IsRan o (shape_of graph) at_limit output
 
+-- the input is the text of a graph, what is stored that of a run of it, and the output the lines of the steps that are chosen of it
+pub record IsStepsText (o : StepsOptions) (stored input output : List ℕ) : Type 0 where
+  pub graph : RawShape
+  pub text : TextIs input (Ok graph)
+  pub events : List Event
+  pub trace : IsTraceText stored events
+  pub run : IsRunUnder (may_wake (shape_of graph) o.wake) (network_of (shape_of graph)) events
+  pub printed : output ≡ lines o.form (shape_of graph) events o.choice
+
 -- the input is the text of a graph, and the output that of a sweep of it
 abbrev pub IsSweepOutput : SweepOptions → List ℕ → List ℕ → Type 0
 IsSweepOutput o input output = (graph : RawShape) × TextIs input (Ok graph) × IsSwept o (shape_of graph) output
+
+-- the input is the text of a graph, and the output the page of a run of it
+abbrev pub IsViewOutput : ViewOptions → List ℕ → List ℕ → Type 0
+IsViewOutput o input output = (graph : RawShape) × TextIs input (Ok graph) × IsView o (shape_of graph) output
+
+-- the input is the text of a graph, what is stored that of a run of it, and the output its page
+pub record IsStoredViewOutput (o : StoredViewOptions) (stored input output : List ℕ) : Type 0 where
+  pub graph : RawShape
+  pub text : TextIs input (Ok graph)
+  pub events : List Event
+  pub trace : IsTraceText stored events
+  pub view : IsStoredView o (shape_of graph) events output
 
 -- what a task prints
 abbrev pub IsPrinted : Task → List ℕ → List ℕ → List ℕ → Type 0
 IsPrinted task.Tree stored input output = IsTreeText input output
 IsPrinted (task.Run o) stored input output = IsRunOutput o false input output
 IsPrinted (task.Replay wake) stored input output = IsReplayText wake stored input output
+IsPrinted (task.Steps o) stored input output = IsStepsText o stored input output
 IsPrinted (task.Sweep o) stored input output = IsSweepOutput o input output
+IsPrinted (task.View o) stored input output = IsViewOutput o input output
+IsPrinted (task.StoredView o) stored input output = IsStoredViewOutput o stored input output
 
 -- what a task prints before it answers that its turns are used
 abbrev pub IsPrintedAtLimit : Task → List ℕ → List ℕ → Type 0
 IsPrintedAtLimit task.Tree input output = ⊥
 IsPrintedAtLimit (task.Run o) input output = IsRunOutput o true input output
 IsPrintedAtLimit (task.Replay wake) input output = ⊥
+IsPrintedAtLimit (task.Steps o) input output = ⊥
 IsPrintedAtLimit (task.Sweep o) input output = ⊥
+IsPrintedAtLimit (task.View o) input output = ⊥
+IsPrintedAtLimit (task.StoredView o) input output = ⊥
 
 -- what is stored gives this fault; it may be too long, and the reader and memory may fail for any
 abbrev pub IsTraceCause : List ℕ → ServeFault → Type 0
@@ -198,6 +215,10 @@ abbrev pub IsReplayCause : WakeSet → List ℕ → List ℕ → ServeFault → 
 IsReplayCause wake stored input fault =
     IsTraceCause stored fault ⊎ (((events : List Event) × IsTraceText stored events × IsGraphCause input fault) ⊎ GiveFault wake stored input fault)
 
+-- why the steps of a stored run aren't printed: as for a replay, but that the run needn't have ended
+abbrev pub IsStepsCause : WakeSet → List ℕ → List ℕ → ServeFault → Type 0
+IsStepsCause wake stored input fault = (fault ≡ serve.NotEnded → ⊥) × IsReplayCause wake stored input fault
+
 -- why a run of a graph doesn't end well: its turns are used, or threads fail; an event is always ready, and each has a rule
 abbrev pub StopsRun : RunOptions → Shape → ServeFault → Type 0
 StopsRun o g serve.TurnLimit = (events : List Event) × IsStopped o g events
@@ -210,26 +231,52 @@ StopsRun o g _ = ⊥
 abbrev pub IsRunningCause : RunOptions → List ℕ → ServeFault → Type 0
 IsRunningCause o input fault = IsGraphCause input fault ⊎ ((graph : RawShape) × TextIs input (Ok graph) × StopsRun o (shape_of graph) fault)
 
+-- why the page of a run isn't printed: the graph, or the run of it
+abbrev pub IsViewCause : ViewOptions → List ℕ → ServeFault → Type 0
+IsViewCause o input fault = IsGraphCause input fault ⊎ ((graph : RawShape) × TextIs input (Ok graph) × HasNoView o (shape_of graph) fault)
+
+-- a trace is stored and the input is the text of a graph, and they have no page
+pub record HaveNoPage (o : StoredViewOptions) (stored input : List ℕ) (fault : ServeFault) : Type 0 where
+  pub events : List Event
+  pub trace : IsTraceText stored events
+  pub graph : RawShape
+  pub text : TextIs input (Ok graph)
+  pub cause : HasNoStoredView o (shape_of graph) events fault
+
+-- why the page of a stored run isn't printed: the trace, which is read first, the graph, or the run
+abbrev pub IsStoredViewCause : StoredViewOptions → List ℕ → List ℕ → ServeFault → Type 0
+IsStoredViewCause o stored input fault =
+    IsTraceCause stored fault ⊎ (((events : List Event) × IsTraceText stored events × IsGraphCause input fault) ⊎ HaveNoPage o stored input fault)
+
 -- why a task doesn't end well
 abbrev pub IsCause : Task → List ℕ → List ℕ → ServeFault → Type 0
 IsCause task.Tree stored input fault = IsGraphCause input fault
 IsCause (task.Run o) stored input fault = IsRunningCause o input fault
 IsCause (task.Replay wake) stored input fault = IsReplayCause wake stored input fault
+IsCause (task.Steps o) stored input fault = IsStepsCause o.wake stored input fault
 IsCause (task.Sweep o) stored input fault = IsGraphCause input fault
+IsCause (task.View o) stored input fault = IsViewCause o input fault
+IsCause (task.StoredView o) stored input fault = IsStoredViewCause o stored input fault
 
--- what goes out for a task, and whether the answer behind it is that its turns are used
+-- what goes out whole for a task, and whether the answer behind it is that its turns are used; steps go out by portions
 abbrev pub IsOutput : Task → Bool → List ℕ → List ℕ → List ℕ → Type 0
 IsOutput task.Tree at_limit stored input output = (at_limit ≡ false) × IsTreeText input output
 IsOutput (task.Run o) at_limit stored input output = IsRunOutput o at_limit input output
 IsOutput (task.Replay wake) at_limit stored input output = (at_limit ≡ false) × IsReplayText wake stored input output
+IsOutput (task.Steps o) at_limit stored input output = ⊥
 IsOutput (task.Sweep o) at_limit stored input output = (at_limit ≡ false) × IsSweepOutput o input output
+IsOutput (task.View o) at_limit stored input output = (at_limit ≡ false) × IsViewOutput o input output
+IsOutput (task.StoredView o) at_limit stored input output = (at_limit ≡ false) × IsStoredViewOutput o stored input output
 
 -- what may have gone out in part
 abbrev pub IsTried : Task → List ℕ → List ℕ → List ℕ → Type 0
 IsTried task.Tree stored input output = IsTreeText input output
 IsTried (task.Run o) stored input output = (at_limit : Bool) × IsRunOutput o at_limit input output
 IsTried (task.Replay wake) stored input output = IsReplayText wake stored input output
+IsTried (task.Steps o) stored input output = IsStepsText o stored input output
 IsTried (task.Sweep o) stored input output = IsSweepOutput o input output
+IsTried (task.View o) stored input output = IsViewOutput o input output
+IsTried (task.StoredView o) stored input output = IsStoredViewOutput o stored input output
 
 -- whether the events of a run are asked for
 abbrev pub is_events : Show → Bool
@@ -240,18 +287,27 @@ abbrev pub shows_events : Task → Bool
 shows_events task.Tree = false
 shows_events (task.Run o) = is_events o.show
 shows_events (task.Replay wake) = false
+shows_events (task.Steps o) = false
 shows_events (task.Sweep o) = false
+shows_events (task.View o) = false
+shows_events (task.StoredView o) = false
 
 -- where the events of a run are asked for, they have gone out before the answer that its turns are used
 abbrev pub HasShown : Task → List ℕ → Option (List ℕ) → Option (List ℕ) → Type 0
 HasShown job input old new =
     shows_events job ≡ true → (output : List ℕ) × IsPrintedAtLimit job input output × HasWritten old new output (length output)
 
+-- a task that prints by portions may have printed the first bytes before memory was wanting
+abbrev pub HasBegun : Task → List ℕ → List ℕ → Option (List ℕ) → Option (List ℕ) → Type 0
+HasBegun (task.Steps o) stored input old new = (new ≡ old) ⊎ ((output : List ℕ) × IsStepsText o stored input output × ((k : ℕ) × (k ≤ length output) × HasWritten old new output k))
+HasBegun _ stored input old new = Unit {0}
+
 -- what has gone out: all of what the task prints, or only its first bytes, where a write failed
 abbrev pub Serves : Task → List ℕ → List ℕ → Option (List ℕ) → Option (List ℕ) → Result (Unit {0}) ServeFault → Type 0
 Serves job stored input old new (Ok u) = (output : List ℕ) × IsPrinted job stored input output × HasWritten old new output (length output)
 Serves job stored input old new (Err (serve.Write written)) = (output : List ℕ) × IsTried job stored input output × (written < length output) × HasWritten old new output written
 Serves job stored input old new (Err serve.TurnLimit) = IsCause job stored input serve.TurnLimit × HasShown job input old new
+Serves job stored input old new (Err serve.Memory) = IsCause job stored input serve.Memory × HasBegun job stored input old new
 Serves job stored input old new (Err fault) = IsCause job stored input fault
 
 -- what is stored, where the task reads it; other tasks read nothing
@@ -259,7 +315,10 @@ abbrev pub IfStored : Task → Option (List ℕ) → (List ℕ → Type 0) → T
 IfStored task.Tree stored P = (bytes : List ℕ) → P bytes
 IfStored (task.Run o) stored P = (bytes : List ℕ) → P bytes
 IfStored (task.Replay wake) stored P = IfSome stored P
+IfStored (task.Steps o) stored P = IfSome stored P
 IfStored (task.Sweep o) stored P = (bytes : List ℕ) → P bytes
+IfStored (task.View o) stored P = (bytes : List ℕ) → P bytes
+IfStored (task.StoredView o) stored P = IfSome stored P
 
 abbrev pub is_write : ServeFault → Bool
 is_write (serve.Write written) = true
@@ -274,18 +333,35 @@ abbrev pub is_limit : ServeFault → Bool
 is_limit serve.TurnLimit = true
 is_limit _ = false
 
+abbrev pub is_memory : ServeFault → Bool
+is_memory serve.Memory = true
+is_memory _ = false
+
+-- the task prints by portions
+abbrev pub by_portions : Task → Bool
+by_portions task.Tree = false
+by_portions (task.Run o) = false
+by_portions (task.Replay wake) = false
+by_portions (task.Steps o) = true
+by_portions (task.Sweep o) = false
+by_portions (task.View o) = false
+by_portions (task.StoredView o) = false
+
 -- a fault that may come behind output
 abbrev pub is_late : Task → ServeFault → Bool
-is_late job fault = is_write fault || (is_limit fault && shows_events job)
+is_late job fault = is_write fault || (is_memory fault && by_portions job) || (is_limit fault && shows_events job)
 
 -- where no write was tried, the writer is as it was
 abbrev pub IsUnwritten : {W : Type 0} → Task → W → W → Result (Unit {0}) ServeFault → Type 0
 IsUnwritten job old new (Ok u) = Unit {0}
 IsUnwritten job old new (Err fault) = is_late job fault ≡ false → new ≡ old
 
--- only a replay touches the trace
+-- only a task that reads a stored run touches the trace
 abbrev pub IsUnread : {T : Type 0} → Task → T → T → Type 0
 IsUnread task.Tree old new = new ≡ old
 IsUnread (task.Run o) old new = new ≡ old
 IsUnread (task.Replay wake) old new = Unit {0}
+IsUnread (task.Steps o) old new = Unit {0}
 IsUnread (task.Sweep o) old new = new ≡ old
+IsUnread (task.View o) old new = new ≡ old
+IsUnread (task.StoredView o) old new = Unit {0}

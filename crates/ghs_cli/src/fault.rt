@@ -1,11 +1,12 @@
 //! Why the program gives no answer.
-ghost use Rattle.ghs_cli.specs.Fault.{of_gr, of_replay, of_text, of_trace, status_of};
+ghost use Rattle.ghs_cli.specs.Fault.{of_gr, of_replay, of_steps, of_text, of_trace, status_of};
 ghost use Rattle.std.specs.Prelude.{◌≡◌};
 
 use ghs_gr::fault::GrFault;
 use ghs_gr::text::TextFault;
 use ghs_report::write_out::Partial;
 use ghs_sched::fault::{ReplayFault, TraceFault};
+use ghs_steps::show::StepsFault;
 use std::alloc::AllocError;
 use thiserror::Error;
 
@@ -36,6 +37,8 @@ pub enum ServeFault {
     TraceCount { said: u64, found: u64 },
     #[error("trace event {0} is not lawful")]
     NotLawful(u64),
+    #[error("page too large: at most 2000 nodes and 100000 events; --to shortens it, --from only opens it later")]
+    PageTooLarge,
     #[error("turn limit reached")]
     TurnLimit,
     /// Never answered: while a run goes on, an event is ready.
@@ -50,7 +53,7 @@ pub enum ServeFault {
     #[error("input could not be read")]
     Read,
     #[error("output failed after {written} bytes")]
-    Write { written: usize },
+    Write { written: u128 },
     /// The workers stopped, and the world says nothing of why.
     #[error("the world is not the one that was given")]
     Strange,
@@ -136,6 +139,18 @@ impl From<ReplayFault> for ServeFault {
     }
 }
 
+impl From<StepsFault> for ServeFault {
+    ghost from_gives = { λ x e. e ≡ of_steps x };
+
+    fn from(fault: StepsFault) -> ServeFault {
+        match fault {
+            StepsFault::NotLawful(event) => ServeFault::NotLawful(event),
+            StepsFault::Memory => ServeFault::Memory,
+            StepsFault::Write { written } => ServeFault::Write { written },
+        }
+    }
+}
+
 impl From<AllocError> for ServeFault {
     ghost use Rattle.ghs_cli.specs.declared.fault.ServeFault.{ServeFault};
 
@@ -153,7 +168,7 @@ impl From<Partial> for ServeFault {
 
     fn from(partial: Partial) -> ServeFault {
         ServeFault::Write {
-            written: partial.written,
+            written: partial.written as u128,
         }
     }
 }

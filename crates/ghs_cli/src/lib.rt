@@ -1,13 +1,12 @@
-//! The program's engine: command lines, the work they ask for, and its faults.
+//! The program's engine: the work that command lines ask for, and its faults.
 #![tactic(auto)]
 
 pub mod fault;
-mod grammar;
-pub mod job;
 mod output;
 mod progress;
 mod replaying;
 mod running;
 pub mod serve;
+mod stepping;
 mod sweeping;
-pub mod values;
+mod viewing;

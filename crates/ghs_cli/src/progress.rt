@@ -1,4 +1,4 @@
-//! How far a run has come, told on standard error while it runs and when it is over.
+//! How far a run or a sweep has come, told on standard error while it goes on; of a run also when it is over.
 ghost use Rattle.ghs_pool.specs.Ends.{EndFits};
 ghost use Rattle.ghs_pool.specs.Follows.{Follows};
 ghost use Rattle.ghs_pool.specs.Shop.{IsTold};
@@ -121,4 +121,9 @@ pub(crate) fn tell_end<R: Eprint>(rt: &R, end: Progress) {
     let Progress { commits, halted } = end;
     let word = if halted { "halted" } else { "open" };
     let _ = eprintln!(rt; "at {commits} {word}");
+}
+
+/// Writes how many of the seeds of a sweep have been run.
+pub(crate) fn tell_seeds<R: Eprint>(rt: &R, done: u64, count: u64) {
+    let _ = eprintln!(rt; "{done} of {count} seeds");
 }

@@ -43,7 +43,7 @@ pub(crate) fn replay_text_of<R: Source, T: Source>(
 }
 
 /// The events whose text the device gives.
-fn events_of<T: Source>(alloc: Global, trace: &mut T) -> Result<Vec<Event>, ServeFault>
+pub(crate) fn events_of<T: Source>(alloc: Global, trace: &mut T) -> Result<Vec<Event>, ServeFault>
     requires { T.has_failed trace.old ≡ false }
     ensures events { IfOk result (λ events. IfSome (T.left trace.old) (λ stored. IsTraceText stored events.items)) }
     ensures few { IfOk result (λ events. length events.items ≤ EVENT_LIMIT) }

@@ -3,23 +3,21 @@ ghost use Rattle.ghs_protocol.specs.Marks.{HasEnded};
 ghost use Rattle.ghs_pool.specs.Ends.{EndFits};
 ghost use Rattle.ghs_pool.specs.Follows.{Follows};
 ghost use Rattle.ghs_world.specs.WorldState.{home};
-ghost use Rattle.ghs_cli.specs.Job.{AreWithinLimits};
+ghost use Rattle.ghs_words.specs.Job.{AreWithinLimits};
 ghost use Rattle.ghs_cli.specs.Running.{IsOpened, Stops};
 ghost use Rattle.ghs_cli.specs.Serving.{IsRan, IsRunOutput, IsRunningCause, IsShown, IsStopped, IsWholeRun, StopsRun, is_write, shape_of};
-ghost use Rattle.ghs_cli.specs.declared.job.Picking.{Picking};
-ghost use Rattle.ghs_cli.specs.declared.job.Show.TheVariants.{Events, Summary};
+ghost use Rattle.ghs_words.specs.declared.job.Show.TheVariants.{Events, Summary};
 ghost use Rattle.ghs_cli.specs.declared.fault.ServeFault.{ServeFault};
 ghost use Rattle.std.specs.Prelude.{◌≡◌, ◌≤◌, ◌↔◌, false, true, IfSome, IsErrOf, OnOk, IfErr, IfOk};
 
 use crate::fault::ServeFault;
-use crate::job::{Picking, RunOptions, Show};
 use crate::output::Output;
 use crate::progress::{run_told, tell_end};
 use ghs_gr::device::Source;
 use ghs_gr::judgement::read_gr;
 use ghs_gr::raw_graph::RawGraph;
 use ghs_graph::graph::Graph;
-use ghs_patient::run::run_patient;
+use ghs_patient::picking::run_by_seed;
 use ghs_pool::end::PoolFault;
 use ghs_pool::gate::OpenGate;
 use ghs_pool::shop::pair_of;
@@ -27,9 +25,9 @@ use ghs_pool::workers::run_workers;
 use ghs_report::net_text::ReportFault;
 use ghs_report::run_text::run_text;
 use ghs_sched::fault::RunFault;
-use ghs_sched::run::{RunEnd, run_seeded};
-use ghs_sched::schedule::Schedule;
+use ghs_sched::run::RunEnd;
 use ghs_sched::trace::write_trace;
+use ghs_words::job::{RunOptions, Show};
 use ghs_world::world::World;
 use std::alloc::Global;
 use std::sync::Wait;
@@ -124,52 +122,17 @@ fn run_on<R: Threads + Wait + Eprint + Sync>(
 }
 
 /// Runs a world by the schedule of a seed.
-fn by_schedule(alloc: Global, options: &RunOptions, world: World) -> (World, Result<RunEnd, Stop>)
-    requires opened { IsOpened options.now world }
-    requires limits { AreWithinLimits options.now }
+fn by_schedule(
+    alloc: Global,
+    options: &RunOptions,
+    mut world: World,
+) -> (World, Result<RunEnd, Stop>)
+    requires { IsOpened options.now world }
     ensures graph { result.0.net.graph ≡ world.net.graph }
     ensures whole { OnOk result.1 (IsWholeRun options.now result.0.net.graph result.0.net.trace) }
     ensures stops { IfErr result.1 (Stops options.now result.0) }
 {
-    match options.picking {
-        Picking::Seeded => by_seed(alloc, options, world),
-        Picking::Patient => patiently(alloc, options, world),
-    }
-}
-
-/// Runs a world by a schedule that picks among all events that may happen.
-fn by_seed(alloc: Global, options: &RunOptions, mut world: World) -> (World, Result<RunEnd, Stop>)
-    requires opened { IsOpened options.now world }
-    requires limits { AreWithinLimits options.now }
-    requires picking { options.now.picking ≡ Picking.Seeded }
-    ensures graph { result.0.net.graph ≡ world.net.graph }
-    ensures whole { OnOk result.1 (IsWholeRun options.now result.0.net.graph result.0.net.trace) }
-    ensures stops { IfErr result.1 (Stops options.now result.0) }
-{
-    let mut schedule = Schedule::seeded(options.seed);
-    let end = run_seeded(alloc, &mut world, &mut schedule);
-    let _ = world.net();
-    let _ = world.turns();
-    match end {
-        Ok(end) => (world, Ok(end)),
-        Err(RunFault::TurnLimit) => (world, Err(Stop::TurnLimit)),
-        Err(RunFault::Stalled) => unreachable!(),
-        Err(RunFault::Unforeseen) => unreachable!(),
-        Err(RunFault::Memory) => (world, Err(Stop::Memory)),
-    }
-}
-
-/// Runs a world by a schedule that picks among the events that move the run on.
-fn patiently(alloc: Global, options: &RunOptions, mut world: World) -> (World, Result<RunEnd, Stop>)
-    requires opened { IsOpened options.now world }
-    requires limits { AreWithinLimits options.now }
-    requires picking { options.now.picking ≡ Picking.Patient }
-    ensures graph { result.0.net.graph ≡ world.net.graph }
-    ensures whole { OnOk result.1 (IsWholeRun options.now result.0.net.graph result.0.net.trace) }
-    ensures stops { IfErr result.1 (Stops options.now result.0) }
-{
-    let mut schedule = Schedule::seeded(options.seed);
-    let end = run_patient(alloc, &mut world, &mut schedule);
+    let end = run_by_seed(alloc, &mut world, options.picking, options.seed);
     let _ = world.net();
     let _ = world.turns();
     match end {

@@ -1,33 +1,37 @@
 //! The work that a job asks for.
 ghost use Rattle.ghs_cli.specs.Ending.{IsPatientTask};
-ghost use Rattle.ghs_cli.specs.Job.{IsWithinLimits};
-ghost use Rattle.ghs_cli.specs.Serving.{IfStored, IsCause, IsGraphCause, IsOutput, IsTreeText, IsUnread, IsUnwritten, IsWrite, Serves, is_late, is_write, shows_events};
+ghost use Rattle.ghs_words.specs.Job.{IsWithinLimits};
+ghost use Rattle.ghs_cli.specs.Serving.{IfStored, IsCause, IsGraphCause, IsOutput, IsTreeText, IsUnread, IsUnwritten, IsWrite, Serves, by_portions, is_late, is_write, shows_events};
 ghost use Rattle.ghs_cli.specs.declared.fault.ServeFault.{ServeFault};
 ghost use Rattle.std.specs.Prelude.{◌≡◌, ◌⊎◌, ◌↔◌, false, true, IfSome, IsErrOf, IfErr, IfOk};
 
 use crate::fault::ServeFault;
-use crate::job::{Job, Task};
 use crate::output::Output;
 use crate::replaying::replay_text_of;
 use crate::running::run_output_of;
+use crate::stepping::write_steps_of;
 use crate::sweeping::sweep_text_of;
+use crate::viewing::{stored_view_of, view_text_of};
 use ghs_gr::device::{Sink, Source};
 use ghs_gr::judgement::read_gr;
 use ghs_gr::laws::law_one_judgement;
 use ghs_graph::tree::tree_of;
 use ghs_report::tree_text::tree_text;
 use ghs_report::write_out::write_out;
+use ghs_words::job::{Job, Task};
 use std::alloc::Global;
 use std::sync::Wait;
 use std::thread::Threads;
 
 /// Does what the job asks for: reads what it needs, and writes what is to be printed. The output is made whole before
-/// its first byte goes out. Of several faults the first in the order of work counts: reading the trace, judging it,
-/// reading the graph, judging it, the run or the replay, the writing; want of memory comes where it is met. Only a replay
-/// touches the trace. Threads run a network where the job names workers, and where it asks for progress lines on standard
-/// error tell of it; one that can't be written is passed over. Where the events of a run are asked for, they go out before
-/// the answer that its turns are used, and a write that fails then is answered in its place. A patient run without threads
-/// that has turns for 2(B + N) events, B the bound and N the nodes, is never answered by its turns.
+/// its first byte goes out, but for steps: their lines go out by portions, once trace, graph and run are judged, so that
+/// want of memory may be said behind a front of them. Of several faults the first in the order of work counts: reading
+/// the trace, judging it, reading the graph, judging it, the run or the replay, the writing; want of memory comes where
+/// it is met. Only replays, steps and pages of stored runs touch the trace. Threads run a network where the job names
+/// workers, and where it asks for progress lines on standard error tell of it; one that can't be written is passed over.
+/// Where the events of a run are asked for, they go out before the answer that its turns are used, and a write that fails
+/// then is answered in its place. A patient run without threads that has turns for 2(B + N) events, B the bound and N the
+/// nodes, is never answered by its turns.
 pub fn serve<R: Source, T: Source, W: Sink, H: Threads + Wait + Eprint + Sync>(
     rt: &H,
     alloc: Global,
@@ -36,6 +40,38 @@ pub fn serve<R: Source, T: Source, W: Sink, H: Threads + Wait + Eprint + Sync>(
     trace: &mut T,
     out: &mut W,
 ) -> Result<(), ServeFault>
+    requires limits { IsWithinLimits job.now.task }
+    requires graph { R.has_failed graph.old ≡ false }
+    requires trace { T.has_failed trace.old ≡ false }
+    requires out { W.has_failed out.old ≡ false }
+    ensures serves { IfStored job.now.task (T.left trace.old) (λ stored. IfSome (R.left graph.old) (λ input. Serves job.now.task stored input (W.held out.old) (W.held out.new) result)) }
+    ensures read { IsErrOf result ServeFault.Read ↔ ((R.has_failed graph.new ≡ true) ⊎ (T.has_failed trace.new ≡ true)) }
+    ensures write { IsWrite result ↔ (W.has_failed out.new ≡ true) }
+    ensures ends { IfSome (R.left graph.old) (λ input. IsPatientTask job.now.task input → IsErrOf result ServeFault.TurnLimit → ⊥) }
+    ensures unwritten { IsUnwritten job.now.task out.old out.new result }
+    ensures trace { IsUnread job.now.task trace.old trace.new }
+{
+    match &job.task {
+        Task::Steps(options) => write_steps_of(alloc, options, graph, trace, out),
+        Task::Tree => print(rt, alloc, job, graph, trace, out),
+        Task::Run(_) => print(rt, alloc, job, graph, trace, out),
+        Task::Replay { wake: _ } => print(rt, alloc, job, graph, trace, out),
+        Task::Sweep(_) => print(rt, alloc, job, graph, trace, out),
+        Task::View(_) => print(rt, alloc, job, graph, trace, out),
+        Task::StoredView(_) => print(rt, alloc, job, graph, trace, out),
+    }
+}
+
+/// Does what a job asks for whose output goes out whole.
+fn print<R: Source, T: Source, W: Sink, H: Threads + Wait + Eprint + Sync>(
+    rt: &H,
+    alloc: Global,
+    job: &Job,
+    graph: &mut R,
+    trace: &mut T,
+    out: &mut W,
+) -> Result<(), ServeFault>
+    requires whole { by_portions job.now.task ≡ false }
     requires limits { IsWithinLimits job.now.task }
     requires graph { R.has_failed graph.old ≡ false }
     requires trace { T.has_failed trace.old ≡ false }
@@ -64,6 +100,7 @@ fn output_of<R: Source, T: Source, H: Threads + Wait + Eprint + Sync>(
     graph: &mut R,
     trace: &mut T,
 ) -> Result<Output, ServeFault>
+    requires whole { by_portions task.now ≡ false }
     requires limits { IsWithinLimits task.now }
     requires graph { R.has_failed graph.old ≡ false }
     requires trace { T.has_failed trace.old ≡ false }
@@ -78,7 +115,12 @@ fn output_of<R: Source, T: Source, H: Threads + Wait + Eprint + Sync>(
         Task::Tree => Ok(Output::whole(tree_text_of(alloc, graph)?)),
         Task::Run(options) => run_output_of(rt, alloc, options, graph),
         Task::Replay { wake } => Ok(Output::whole(replay_text_of(alloc, *wake, graph, trace)?)),
+        Task::Steps(_) => unreachable!(),
         Task::Sweep(options) => Ok(Output::whole(sweep_text_of(rt, alloc, options, graph)?)),
+        Task::View(options) => Ok(Output::whole(view_text_of(alloc, options, graph)?)),
+        Task::StoredView(options) => {
+            Ok(Output::whole(stored_view_of(alloc, options, graph, trace)?))
+        }
     }
 }
 

@@ -1,23 +1,33 @@
-//! Sweeps: the figures of many seeds' runs.
-ghost use Rattle.ghs_cli.specs.Job.{AreSweepLimits};
+//! Sweeps: the figures of many seeds' runs, or what they come to.
+ghost use Rattle.ghs_words.specs.Job.{AreSweepLimits};
 ghost use Rattle.ghs_cli.specs.Serving.{IsGraphCause, IsSweepOutput, is_write, shape_of};
-ghost use Rattle.ghs_cli.specs.Sweeping.{IsSwept};
+ghost use Rattle.ghs_cli.specs.Sweeping.{IsSheetText, IsSwept, count_of, setup_of};
+ghost use Rattle.ghs_sweep.specs.Figures.{HasSmallWeight};
+ghost use Rattle.ghs_sweep.specs.Sweep.{AreRuns};
 ghost use Rattle.ghs_cli.specs.declared.fault.ServeFault.{ServeFault};
-ghost use Rattle.std.specs.Prelude.{◌≡◌, ◌↔◌, false, true, IfErr, IfOk, IfSome, IsErrOf};
+ghost use Rattle.std.specs.Prelude.{◌≡◌, ◌≤◌, ◌↔◌, All, false, length, true, IfErr, IfOk, IfSome, IsErrOf};
 
 use crate::fault::ServeFault;
-use crate::job::SweepOptions;
-use crate::values::Seeds;
+use crate::progress::tell_seeds;
 use ghs_gr::device::Source;
 use ghs_gr::judgement::read_gr;
 use ghs_gr::raw_graph::RawGraph;
 use ghs_graph::graph::Graph;
-use ghs_sweep::sweep::sweep;
-use std::alloc::Global;
+use ghs_sweep::figures::Figures;
+use ghs_sweep::line::runs_text;
+use ghs_sweep::runs::run_on;
+use ghs_sweep::seeded::Setup;
+use ghs_sweep::summary::summary_text;
+use ghs_words::job::{Sheet, SweepOptions};
+use ghs_words::values::Seeds;
+use std::alloc::{AllocError, Global};
 use std::thread::Threads;
 
+/// How many events the runs of one thread have in a batch, more or less: about a second's.
+const BATCH: u64 = 4_000_000;
+
 /// The text of a sweep of the graph that the device gives.
-pub(crate) fn sweep_text_of<S: Source, R: Threads + Sync>(
+pub(crate) fn sweep_text_of<S: Source, R: Threads + Sync + Eprint>(
     rt: &R,
     alloc: Global,
     options: &SweepOptions,
@@ -35,7 +45,7 @@ pub(crate) fn sweep_text_of<S: Source, R: Threads + Sync>(
 }
 
 /// The text of a sweep of a graph.
-fn swept<R: Threads + Sync>(
+fn swept<R: Threads + Sync + Eprint>(
     rt: &R,
     alloc: Global,
     options: &SweepOptions,
@@ -48,17 +58,74 @@ fn swept<R: Threads + Sync>(
     let Ok(graph) = Graph::build(alloc, raw) else {
         return Err(ServeFault::Memory);
     };
+    let runs = runs_of(rt, alloc, &graph, options)?;
+    Ok(sheet_of(alloc, options, &runs)?)
+}
+
+/// What is printed of the runs of a sweep.
+fn sheet_of(alloc: Global, options: &SweepOptions, runs: &[Figures]) -> Result<Vec<u8>, AllocError>
+    requires limits { AreSweepLimits options.now }
+    requires all { length runs.now ≡ count_of options.now }
+    requires small { All HasSmallWeight runs.now }
+    ensures { IfOk result (λ text. IsSheetText options.now.sheet (setup_of options.now) options.now.seeds.first runs.now text.items) }
+{
+    let Seeds { first, last } = options.seeds;
+    prove!(first <= last);
+    match options.sheet {
+        Sheet::Runs => runs_text(alloc, setup_of(options), first, runs),
+        Sheet::Summary => summary_text(alloc, runs),
+    }
+}
+
+/// The figures of the runs of a sweep, batch by batch. Where that is asked for, standard error is told after each batch
+/// but the last how many of the seeds have been run.
+fn runs_of<R: Threads + Sync + Eprint>(
+    rt: &R,
+    alloc: Global,
+    graph: &Graph,
+    options: &SweepOptions,
+) -> Result<Vec<Figures>, AllocError>
+    requires { AreSweepLimits options.now }
+    ensures runs { IfOk result (λ runs. AreRuns graph.now (setup_of options.now) options.now.seeds.first runs.items) }
+    ensures all { IfOk result (λ runs. length runs.items ≡ count_of options.now) }
+{
     let Seeds { first, last } = options.seeds;
     let count = last - first + 1;
     let threads = options.workers.max(1);
-    Ok(sweep(
-        rt,
-        alloc,
-        &graph,
-        options.wake,
-        options.turns,
-        first,
-        count,
-        threads,
-    )?)
+    let setup = setup_of(options);
+    let mut runs = Vec::new(alloc);
+    let mut left = count;
+    while left > 0 {
+        let batch = batch_of(&runs, threads).min(left);
+        run_on(rt, alloc, graph, setup, first, &mut runs, batch, threads)?;
+        left -= batch;
+        if options.progress && left > 0 {
+            tell_seeds(rt, count - left, count);
+        }
+    }
+    Ok(runs)
+}
+
+/// How many seeds the next batch has: for each thread as many as make some `BATCH` events, by what the last run took, and
+/// one at least.
+fn batch_of(runs: &[Figures], threads: u32) -> u64
+    requires { (1 ≤ threads) × (threads ≤ 64) }
+    ensures { 1 ≤ result }
+{
+    let each = match runs.last() {
+        Some(run) => BATCH / run.events.max(1),
+        None => 1,
+    };
+    each.max(1) * u64::from(threads)
+}
+
+/// What the runs of a sweep have in common.
+fn setup_of(options: &SweepOptions) -> Setup
+    ensures { result ≡ setup_of options.now }
+{
+    Setup {
+        picking: options.picking,
+        wake: options.wake,
+        turns: options.turns,
+    }
 }

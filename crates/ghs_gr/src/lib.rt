@@ -14,6 +14,4 @@ mod problem;
 pub mod raw_graph;
 mod reading;
 pub mod steps;
-#[cfg(test)]
-mod tests;
 pub mod text;

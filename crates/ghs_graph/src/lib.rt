@@ -10,7 +10,5 @@ pub mod laws;
 mod layout;
 pub mod port;
 pub mod spanning;
-#[cfg(test)]
-mod tests;
 pub mod tree;
 mod triples;

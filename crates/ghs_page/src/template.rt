@@ -409,7 +409,12 @@ function build() {
     el('circle', { class: 'ring', r: r + 4 }, g);
     el('circle', { class: 'body', r }, g);
     el('text', { 'font-size': Math.max(6, Math.min(18, r * (v > 99 ? .8 : 1))), 'font-weight': 'bold' }, g).textContent = v;
-    n.lev = el('text', { class: 'lev', x: r * .75 + 2, y: -r * .95 - 2, 'font-size': Math.max(6, Math.min(14, r * .8)) }, g);
+    // the level stands in the corner that lies freest of links, where the upper right one isn't free
+    const away = n.ports.map(({ link: i }) => { const [a, b] = curveAt(i, links[i].a === v ? .2 : .8); return Math.atan2(b - y, a - x); });
+    const gap = ([a, b]) => Math.min(9, ...away.map(t => Math.abs(Math.atan2(Math.sin(t - Math.atan2(b, a)), Math.cos(t - Math.atan2(b, a))))));
+    const corner = [[1, -1], [-1, -1], [1, 1], [-1, 1]].reduce((p, q) => gap(p) > .7 || gap(q) <= gap(p) ? p : q);
+    n.corner = corner;
+    n.lev = el('text', { class: 'lev', x: corner[0] * (r * .75 + 2), y: corner[1] * (r * .95 + 2), 'font-size': Math.max(6, Math.min(14, r * .8)), style: corner[0] < 0 ? 'text-anchor:end' : '' }, g);
     el('title', {}, g).textContent = 'node ' + v;
     n.g = g;
   }
@@ -419,14 +424,15 @@ const tag = (cls, x, y, text, size) => { const w = text.length * size * .58 + si
 // messages on their way: pills that point to their receiver; the first of the queue stands nearest to it
 function pills(i, to, list) {
   const l = links[i], back = l.b === to, L = Math.hypot(pos[l.a][0] - pos[l.b][0], pos[l.a][1] - pos[l.b][1]) || 1;
-  const h = big ? 11 : Math.max(5, radius * .58), wide = list.map(([m]) => big ? short(m).length * 8.6 + 18 : h * 2.3), full = wide.reduce((x, y) => x + y, 0);
+  const h = big ? 11 : Math.max(5, radius * .58), span = t => big ? t.length * 8.6 + 18 : h * 2.3, sum = list => list.reduce((x, t) => x + span(t), 0);
+  const whole = list.map(([m]) => short(m)), text = big && sum(whole) > L - radius * 2 - 14 ? list.map(([m]) => LETTER[m.kind] + (m.level ?? '')) : whole, wide = text.map(span), full = sum(text);
   const squeeze = Math.min(1, Math.max(.2, (L * .8 - radius * 2) / full));
   let off = radius + (big ? 9 : 5), html = '';
   list.forEach(([m, cls], k) => {
     const w = wide[k], d = (off + w / 2) / L, t = back ? 1 - d : d, p = curveAt(i, t), q = curveAt(i, back ? t + .02 : t - .02);
     off += w * squeeze + 1;
     const a = Math.atan2(q[1] - p[1], q[0] - p[0]), deg = a * 180 / Math.PI, flip = Math.abs(a) > Math.PI / 2 + .01 ? deg + 180 : deg, side = h + (big ? 4 : 2);
-    html = '<g class="msg ' + cls + '" transform="translate(' + (p[0] - Math.sin(a) * side).toFixed(1) + ' ' + (p[1] + Math.cos(a) * side).toFixed(1) + ')"><path transform="rotate(' + deg.toFixed(1) + ')" d="M' + (-w / 2).toFixed(1) + ' ' + -h + 'H' + (w / 2 - h * .7).toFixed(1) + 'L' + (w / 2).toFixed(1) + ' 0L' + (w / 2 - h * .7).toFixed(1) + ' ' + h + 'H' + (-w / 2).toFixed(1) + 'Z"/><text font-size="' + (big ? 15 : Math.max(6, h * 1.45)).toFixed(1) + '" transform="rotate(' + (big ? flip : 0).toFixed(1) + ')">' + short(m) + '</text></g>' + html;
+    html = '<g class="msg ' + cls + '" transform="translate(' + (p[0] - Math.sin(a) * side).toFixed(1) + ' ' + (p[1] + Math.cos(a) * side).toFixed(1) + ')"><path transform="rotate(' + deg.toFixed(1) + ')" d="M' + (-w / 2).toFixed(1) + ' ' + -h + 'H' + (w / 2 - h * .7).toFixed(1) + 'L' + (w / 2).toFixed(1) + ' 0L' + (w / 2 - h * .7).toFixed(1) + ' ' + h + 'H' + (-w / 2).toFixed(1) + 'Z"/><text font-size="' + (big ? 15 : Math.max(6, h * 1.45)).toFixed(1) + '" transform="rotate(' + (big ? flip : 0).toFixed(1) + ')">' + text[k] + '</text></g>' + html;
   });
   return html;
 }
@@ -452,6 +458,7 @@ function drawNet(c) {
     put(n.halo, 'style', '--h:' + (hue.get(f.name) ?? 0) + (f.name ? '' : ';--hs:0%'));
     const t = n.phase === 'sleeping' || radius * zoom.k < 7 ? '' : (big ? 'L' : '') + n.level;
     if (n.lev.textContent !== t) n.lev.textContent = t;
+    put(n.lev, 'transform', n.halted ? 'translate(' + n.corner[0] * 6 + ' ' + n.corner[1] * 5 + ')' : '');
   }
   // weights, and level and name at each core
   let html = '';
@@ -460,7 +467,10 @@ function drawNet(c) {
     const f = names.get(l.link), [x, y] = drawn[i].mid;
     if (weights ?? big) html += tag('weight', x, y, String(l.weight), Math.min(size, 13));
     if (f && joined(l) && radius * zoom.k >= 7) {
-      const dx = pos[l.b][0] - pos[l.a][0], dy = pos[l.b][1] - pos[l.a][1], d = Math.hypot(dx, dy) || 1, o = big ? 40 : 0, w = dx > 0 || !dx && dy < 0 ? 1 : -1;
+      const dx = pos[l.b][0] - pos[l.a][0], dy = pos[l.b][1] - pos[l.a][1], d = Math.hypot(dx, dy) || 1;
+      // small letters beside the messages, where these go one way only
+      const to = (v, p) => queue(v, p).length || s && s.node === v && s.port === p && s.fate === 'done', ways = (to(l.b, l.b_port) ? 1 : 0) - (to(l.a, l.a_port) ? 1 : 0);
+      const o = big ? 36 + 30 * Math.abs(dy) / d : ways ? size * 1.1 : 0, w = !big && ways || (dx > 0 || !dx && dy < 0 ? 1 : -1);
       html += tag('frag', x + dy / d * o * w, y - dx / d * o * w, big ? 'level ' + f.level : 'L' + f.level, size);
     }
   });

@@ -1,7 +1,8 @@
 -- Serves the proofs: nothing here has to be believed.
+mod BySeed
 mod Growing
 mod Marking
-mod Picking
+mod Picks
 mod Ports
 mod Running
 mod Stirring

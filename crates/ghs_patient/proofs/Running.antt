@@ -21,7 +21,7 @@ use Rattle.ghs_sched.specs.Picks.{IsPick}
 use Rattle.ghs_patient.specs.Patience.{patient_events}
 use Rattle.ghs_patient.specs.Runs.{Begun, HasMadeNext, HasRun, HasTurns, IsShort, Picked}
 use Rattle.ghs_patient.proofs.Growing.{HasGrown, grown_more, grown_not, short, shorter}
-use Rattle.ghs_patient.proofs.Picking.{pick_is_patient}
+use Rattle.ghs_patient.proofs.Picks.{pick_is_patient}
 
 -- it begins with nothing out
 pub run_begins : (s t : WorldState) (words : List ℕ) → t ≡ record s { outs = [] } → HasRun s t words words

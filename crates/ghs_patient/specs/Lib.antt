@@ -1,4 +1,5 @@
 -- To be believed: contracts cite what stands here, and what it is made of.
 pub mod Choices
 pub mod Patience
+pub mod Picking
 pub mod Runs

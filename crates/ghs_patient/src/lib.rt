@@ -2,6 +2,7 @@
 #![tactic(auto)]
 
 mod choices;
+pub mod picking;
 pub mod run;
 #[cfg(test)]
 mod tests;

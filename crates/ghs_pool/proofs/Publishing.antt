@@ -15,7 +15,7 @@ use Rattle.ghs_board.specs.Progress.{pair, last_of, NoLess, StartsWith}
 use Rattle.ghs_board.specs.Board.{Published}
 use Rattle.ghs_board.proofs.lemmas.Pairs.{last_or_push, starts_refl, starts_more}
 use Rattle.ghs_world.specs.WorldState.{WorldState, home}
-use Rattle.ghs_world.specs.Steps.{Commits, IsSameWorld}
+use Rattle.ghs_world.specs.Steps.{Commits, Makes, IsSameWorld}
 use Rattle.ghs_pool.specs.Shop.{ShopState, IsPairOf, IsTold, Publishes}
 use Rattle.ghs_pool.specs.Follows.{Follows, GoesOn}
 
@@ -84,26 +84,26 @@ told_still (Err f) old new ok told same o e h = subst (λ (s : WorldState). IsTo
 pub told_again : (old new : WorldState) (told : Published) → IsSameWorld old new → IsTold old told → IsTold new told
 told_again old new told s h = pair_as old.net new.net (last_of told.list) s.net.graph s.net.trace h
 
--- after a commit neither part of the pair is less
-pub rises : (old new : WorldState) (n : ℕ) (e : Event) (p q : Progress) → Commits old n e new → IsGraph old.net.graph →
-    IsRun (network old.net) old.net.trace → IsRun (network new.net) new.net.trace → IsPairOf old.net p → IsPairOf new.net q → NoLess p q
-rises old new n e p q c graph was now a b =
-    let g = old.net.graph in
-    let w = net_of old.net in
-    let w' = net_of new.net in
-    let after : IsAfter (network_of g) (old.net.trace ++ e ∷ []) w' =
-    subst (λ (y : Shape × List Event). IsAfter (network_of y.0) y.1 w') (λ i. (c.graph i, c.trace i)) (after_is_net new.net.graph new.net.trace now) in
+-- after an event more neither part of the pair is less
+pub rises : (old new : NetState) (e : Event) (p q : Progress) → new.graph ≡ old.graph → new.trace ≡ old.trace ++ e ∷ [] → IsGraph old.graph →
+    IsRun (network old) old.trace → IsRun (network new) new.trace → IsPairOf old p → IsPairOf new q → NoLess p q
+rises old new e p q same longer graph was now a b =
+    let g = old.graph in
+    let w = net_of old in
+    let w' = net_of new in
+    let after : IsAfter (network_of g) (old.trace ++ e ∷ []) w' =
+    subst (λ (y : Shape × List Event). IsAfter (network_of y.0) y.1 w') (λ i. (same i, longer i)) (after_is_net new.graph new.trace now) in
     let later : IsLater g w w' = record {
       graph = graph;
-      events = old.net.trace;
+      events = old.trace;
       further = e ∷ [];
-      run = after_is_net g old.net.trace was;
+      run = after_is_net g old.trace was;
       later = after;
     } in
     let goes : HasEnded g w → HasEnded g w' = λ h v lo hi. let o = h v lo hi in (o.0, o.1, o.2, o.3, halts_stay g w w' later o.0 o.4) in
-    let long : length new.net.trace ≡ length (old.net.trace ++ e ∷ []) = ap (λ (l : List Event). length l) c.trace in record {
-      commits = omega (arith, a.commits, b.commits, long, length-append old.net.trace (e ∷ []));
-      halted = λ h. b.ended.1 (subst (λ (x : Shape). HasEnded x w') (sym c.graph) (goes (a.ended.0 h)));
+    let long : length new.trace ≡ length (old.trace ++ e ∷ []) = ap (λ (l : List Event). length l) longer in record {
+      commits = omega (arith, a.commits, b.commits, long, length-append old.trace (e ∷ []));
+      halted = λ h. b.ended.1 (subst (λ (x : Shape). HasEnded x w') (sym same) (goes (a.ended.0 h)));
     }
 
 -- what is published last is the pair
@@ -140,6 +140,14 @@ goes_on a b c p q = record {
 pub goes_commit : (old new : ShopState) (n : ℕ) (e : Event) → Commits old.world n e new.world → Publishes old.told new.told new.world → GoesOn new old
 goes_commit old new n e c p = record {
   world = record { graph = c.graph; wake = c.wake; turns = c.turns; further = e ∷ []; trace = c.trace };
+  table = p.table;
+  list = (p.pair ∷ [], p.list);
+}
+
+-- so does an event that is made at once
+pub goes_made : (old new : ShopState) (e : Event) → Makes old.world e new.world → Publishes old.told new.told new.world → GoesOn new old
+goes_made old new e m p = record {
+  world = record { graph = m.graph; wake = m.wake; turns = m.turns; further = e ∷ []; trace = m.trace };
   table = p.table;
   list = (p.pair ∷ [], p.list);
 }

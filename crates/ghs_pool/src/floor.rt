@@ -1,16 +1,18 @@
 // What lies under the lock.
-ghost use Rattle.std.specs.Prelude.{◌≡◌, length};
+ghost use Rattle.std.specs.Prelude.{◌≡◌, ◌≤◌, length};
 ghost use Rattle.ghs_pool.specs.Follows.{GoesOn};
 
 use crate::desk::Desk;
 use crate::hand::{Hand, MOST};
+use crate::pace::crowd_of;
 use crate::shop::Shop;
+use ghs_node::message::Message;
 use ghs_protocol::event::Event;
 use ghs_queue::queue::{ReadyPass, ReadyQueue};
 use ghs_world::fault::{CommitFault, OutFault};
 use ghs_world::ticket::{Step, Ticket};
 use ghs_world::woken::Woken;
-use std::alloc::Global;
+use std::alloc::{AllocError, Global};
 use std::marker::{Brand, Model, PhantomData};
 use std::sync::Wait;
 
@@ -72,6 +74,8 @@ pub enum Next {
     Again,
     // It waits for what is out.
     Wait,
+    // It stays away, since others are at the lock.
+    Leave,
     // It ends.
     End,
 }
@@ -81,6 +85,8 @@ pub enum Next {
 enum Found {
     // An event went out.
     Event,
+    // An event was made.
+    Made,
     // The node has no event that is worth it: its number is let go.
     Nothing,
     // So far none was found, and the search goes on when the node's number comes again.
@@ -140,7 +146,8 @@ impl<J: Start> Floor<J> {
     }
 
     // A worker's visit: the steps in its hand happen, and what it serves next goes out. With nothing to serve in the queue
-    // it looks over all nodes, and else when a look is due.
+    // it looks over all nodes, and else when a look is due. A worker that had to wait for the lock, or is one too many, goes
+    // where something is out: then others are at work.
     pub fn visit<R: Wait>(
         &mut self,
         rt: &R,
@@ -148,6 +155,7 @@ impl<J: Start> Floor<J> {
         queue: &ReadyQueue,
         pass: &mut ReadyPass,
         hand: &mut Hand,
+        waited: bool,
     ) -> Next
         requires { pass.old.name ≡ queue.now.name }
         ensures { pass.new.name ≡ pass.old.name }
@@ -156,16 +164,20 @@ impl<J: Start> Floor<J> {
         if self.is_over() {
             return Next::End;
         }
-        self.fill(rt, alloc, queue, pass, hand);
-        if hand.tickets() == 0 || hand.pace.is_due() {
-            hand.pace.look();
-            self.look(alloc, hand);
+        let spare = hand.pace.is_spare(queue.len(rt, pass));
+        if (waited || spare) && self.shop.out_count() > 0 {
+            return Next::Leave;
         }
-        self.next(hand)
+        let made = self.fill(rt, alloc, queue, pass, hand);
+        if (hand.tickets() == 0 && !made) || hand.pace.is_due() {
+            hand.pace.look();
+            self.look(rt, alloc, queue, pass, hand);
+        }
+        self.next(hand, made)
     }
 
-    // What a worker does whose hand is as full as it gets.
-    fn next(&mut self, hand: &Hand) -> Next
+    // What a worker does whose hand is as full as it gets, after a visit that made events at once or none.
+    fn next(&mut self, hand: &Hand, made: bool) -> Next
         ensures { self.new ≡ self.old }
     {
         if hand.tickets() > 0 {
@@ -174,7 +186,7 @@ impl<J: Start> Floor<J> {
         if self.is_over() {
             return Next::End;
         }
-        if self.shop.out_count() > 0 {
+        if !made && self.shop.out_count() > 0 {
             return Next::Wait;
         }
         Next::Again
@@ -217,8 +229,51 @@ impl<J: Start> Floor<J> {
         }
     }
 
-    // Nodes of the queue go out: of the numbers that wait half a worker's part, so that others find some too.
+    // Nodes of the queue go out: of the numbers that wait half a worker's part, so that others find some too. Whether
+    // events were made at once meanwhile.
     fn fill<R: Wait>(
+        &mut self,
+        rt: &R,
+        alloc: Global,
+        queue: &ReadyQueue,
+        pass: &mut ReadyPass,
+        hand: &mut Hand,
+    ) -> bool
+        requires { pass.old.name ≡ queue.now.name }
+        ensures { pass.new.name ≡ pass.old.name }
+    {
+        let waiting = queue.len(rt, pass);
+        let part = (waiting / 2 / self.sharers(waiting)).clamp(1, MOST);
+        let mut made = false;
+        for _ in 0..waiting.min(MOST) {
+            let Some(v) = queue.take(rt, pass) else {
+                return made;
+            };
+            hand.pace.take();
+            match self.serve(rt, alloc, queue, pass, v, hand) {
+                Found::Event | Found::Nothing => {}
+                Found::Made => made = true,
+                Found::More => put_each(rt, queue, pass, &[v]),
+                Found::NoTurn => return made,
+            }
+            if hand.tickets() >= part {
+                return made;
+            }
+        }
+        made
+    }
+
+    // How many workers share so many numbers that wait: those that aren't spare, at least one.
+    fn sharers(&self, waiting: usize) -> usize
+        ensures { 1 ≤ result }
+    {
+        let crowd = crowd_of(self.ports.len(), 1).max(1);
+        (waiting / crowd).min(self.workers as usize).max(1)
+    }
+
+    // Looks over the nodes, from behind the one that the last look found, for one that has an event that is worth it. Where
+    // no node has an event at all, and nothing is out, the workers are to end.
+    fn look<R: Wait>(
         &mut self,
         rt: &R,
         alloc: Global,
@@ -229,35 +284,14 @@ impl<J: Start> Floor<J> {
         requires { pass.old.name ≡ queue.now.name }
         ensures { pass.new.name ≡ pass.old.name }
     {
-        let waiting = queue.len(rt, pass);
-        let part = (waiting / 2 / self.workers.max(1) as usize).clamp(1, MOST);
-        for _ in 0..waiting.min(MOST) {
-            let Some(v) = queue.take(rt, pass) else {
-                return;
-            };
-            hand.pace.take();
-            match self.serve(alloc, v, hand) {
-                Found::Event | Found::Nothing => {}
-                Found::More => put_each(rt, queue, pass, &[v]),
-                Found::NoTurn => return,
-            }
-            if hand.tickets() >= part {
-                return;
-            }
-        }
-    }
-
-    // Looks over the nodes, from behind the one that the last look found, for one that has an event that is worth it. Where
-    // no node has an event at all, and nothing is out, the workers are to end.
-    fn look(&mut self, alloc: Global, hand: &mut Hand) {
         for _ in 0..NODES {
             let Some(v) = self.shop.next_node(self.found.saturating_add(1)) else {
                 self.stopped = self.stopped || self.shop.out_count() == 0;
                 return;
             };
             self.found = v;
-            match self.serve(alloc, v, hand) {
-                Found::Event | Found::NoTurn => return,
+            match self.serve(rt, alloc, queue, pass, v, hand) {
+                Found::Event | Found::Made | Found::NoTurn => return,
                 Found::Nothing | Found::More => {}
             }
         }
@@ -267,11 +301,22 @@ impl<J: Start> Floor<J> {
         self.stopped || self.shop.ended()
     }
 
-    // An event of a node goes out, if it has one that is worth it.
+    // An event of a node goes out or is made at once, if the node has one that is worth it.
     //
     // A node has none whose messages all wait, each alone in its queue. Its number can be let go: nothing changes for the
     // node before it makes an event itself or a message comes to it, and after either its number is put.
-    fn serve(&mut self, alloc: Global, v: u32, hand: &mut Hand) -> Found {
+    fn serve<R: Wait>(
+        &mut self,
+        rt: &R,
+        alloc: Global,
+        queue: &ReadyQueue,
+        pass: &mut ReadyPass,
+        v: u32,
+        hand: &mut Hand,
+    ) -> Found
+        requires { pass.old.name ≡ queue.now.name }
+        ensures { pass.new.name ≡ pass.old.name }
+    {
         if v == 0 || v as usize > self.ports.len() {
             return Found::Nothing;
         }
@@ -284,7 +329,12 @@ impl<J: Start> Floor<J> {
                 return Found::Nothing;
             }
             if self.shop.is_worth_it(event) {
-                return self.send_out(alloc, event, hand);
+                self.turn(event);
+                return if self.shop.has_many_ports(v) {
+                    self.make(rt, alloc, queue, pass, event)
+                } else {
+                    self.send_out(alloc, event, hand)
+                };
             }
             first = first.or(Some(event));
             self.turn(event);
@@ -292,20 +342,76 @@ impl<J: Start> Floor<J> {
         Found::More
     }
 
-    // An event goes out, and its port has had its turn.
+    // An event is made at once, and the numbers of its node and of the nodes that it sends to go into the queue.
+    fn make<R: Wait>(
+        &mut self,
+        rt: &R,
+        alloc: Global,
+        queue: &ReadyQueue,
+        pass: &mut ReadyPass,
+        event: Event,
+    ) -> Found
+        requires { pass.old.name ≡ queue.now.name }
+        ensures { pass.new.name ≡ pass.old.name }
+    {
+        if !self.shop.is_ready(event) {
+            return Found::Nothing;
+        }
+        if !self.shop.has_turn() {
+            return self.want_turns();
+        }
+        match self.shop.make(alloc, event) {
+            Ok(delta) => {
+                self.put_touched(rt, queue, pass, event, delta.sends.as_slice());
+                Found::Made
+            }
+            Err(AllocError) => {
+                self.want_memory();
+                Found::NoTurn
+            }
+        }
+    }
+
+    // Puts the numbers of an event's node and of the nodes to which it sent into the queue.
+    fn put_touched<R: Wait>(
+        &self,
+        rt: &R,
+        queue: &ReadyQueue,
+        pass: &mut ReadyPass,
+        event: Event,
+        sends: &[(u32, Message)],
+    )
+        requires { pass.old.name ≡ queue.now.name }
+        ensures { pass.new.name ≡ pass.old.name }
+    {
+        let (Event::Wake(v) | Event::Take(v, _)) = event;
+        put_each(rt, queue, pass, &[v]);
+        let ports = self.shop.ports(v);
+        for (port, _) in sends {
+            if let Some(port) = ports.get(*port as usize) {
+                put_each(rt, queue, pass, &[port.far]);
+            }
+        }
+    }
+
+    // No event can go out before one comes back; where nothing is out the workers are to end.
+    fn want_turns(&mut self) -> Found
+        ensures { self.new ≡ self.old }
+    {
+        self.stopped = self.stopped || self.shop.out_count() == 0;
+        Found::NoTurn
+    }
+
+    // An event goes out.
     fn send_out(&mut self, alloc: Global, event: Event, hand: &mut Hand) -> Found {
         match self.shop.check_out(alloc, event) {
             Ok(ticket) => {
-                self.turn(event);
                 if let Err(ticket) = hand.add_ticket(ticket) {
                     self.give_back(ticket);
                 }
                 Found::Event
             }
-            Err(OutFault::TurnLimit) => {
-                self.stopped = self.stopped || self.shop.out_count() == 0;
-                Found::NoTurn
-            }
+            Err(OutFault::TurnLimit) => self.want_turns(),
             Err(OutFault::Memory) => {
                 self.want_memory();
                 Found::NoTurn

@@ -16,17 +16,22 @@ pub struct Hand {
 }
 
 impl Hand {
-    pub fn new(alloc: Global) -> Result<Hand, AllocError> {
+    pub fn new(alloc: Global, crowd: usize) -> Result<Hand, AllocError> {
         Ok(Hand {
             tickets: Vec::with_capacity(alloc, MOST)?,
             steps: Vec::with_capacity(alloc, MOST)?,
-            pace: Pace::new(),
+            pace: Pace::new(crowd),
         })
     }
 
     // How many tickets are out and not performed.
     pub fn tickets(&self) -> usize {
         self.tickets.len()
+    }
+
+    // Whether there are steps that haven't happened.
+    pub fn has_steps(&self) -> bool {
+        !self.steps.is_empty()
     }
 
     // Tickets are performed the last first, and their steps happen the last first: in the order in which they went out.

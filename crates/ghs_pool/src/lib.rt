@@ -10,6 +10,4 @@ mod hand;
 mod moves;
 mod pace;
 pub mod shop;
-#[cfg(test)]
-mod tests;
 pub mod workers;

@@ -1,14 +1,19 @@
 //! The world that workers share, with the publisher that tells of it.
-ghost use Rattle.std.specs.Prelude.{◌≡◌, ◌≤◌, ◌^◌, IfOk, IfErr};
+ghost use Rattle.std.specs.Prelude.{◌≡◌, ◌≤◌, ◌^◌, true, IfOk, IfErr, IsTrue, OnOk, OnErr};
 ghost use Rattle.ghs_graph.specs.Graph.{IsGraph};
 ghost use Rattle.ghs_protocol.specs.Run.{IsRun};
-ghost use Rattle.ghs_core.specs.NetState.{network};
+ghost use Rattle.ghs_core.specs.NetState.{network, IsAnswer};
 ghost use Rattle.ghs_board.specs.Progress.{StartsWith};
-ghost use Rattle.ghs_pool.specs.Shop.{IsPairOf, IsTold};
+ghost use Rattle.ghs_world.specs.Ready.{is_ready};
+ghost use Rattle.ghs_world.specs.Steps.{Makes, IsSameWorld};
+ghost use Rattle.ghs_world.specs.WorldState.{has_turn};
+ghost use Rattle.ghs_pool.specs.Shop.{IsPairOf, IsTold, Publishes};
 
-use crate::moves::is_worth_it;
+use crate::moves::{has_many_ports, is_worth_it};
 use ghs_board::board::{Board, Publisher, Reader};
 use ghs_board::progress::Progress;
+use ghs_graph::port::Port;
+use ghs_node::delta::Delta;
 use ghs_protocol::event::Event;
 use ghs_world::world::World;
 use std::alloc::{AllocError, Global};
@@ -88,6 +93,57 @@ impl Shop {
     // Whether an event of the world is worth a ticket.
     pub(crate) fn is_worth_it(&self, event: Event) -> bool {
         is_worth_it(&self.world, event)
+    }
+
+    // Whether a node has so many ports that no ticket should carry it.
+    pub(crate) fn has_many_ports(&self, v: u32) -> bool {
+        has_many_ports(&self.world, v)
+    }
+
+    // The ports of a node; of what is no node none.
+    pub(crate) fn ports(&self, v: u32) -> &[Port] {
+        if self.world.has_place(Event::Wake(v)) {
+            self.world.graph().ports(v)
+        } else {
+            &[]
+        }
+    }
+
+    // Whether an event may be made now, turns and memory aside.
+    pub(crate) fn is_ready(&self, event: Event) -> bool
+        ensures { IsTrue result → is_ready self.now.world event ≡ true }
+    {
+        self.world.has_place(event) && self.world.is_ready(event)
+    }
+
+    // Whether there are turns and a number for one event more.
+    pub(crate) fn has_turn(&self) -> bool
+        ensures { result ≡ has_turn self.now.world }
+    {
+        self.world.has_turn()
+    }
+
+    // An event happens at once, without a ticket, and then the new pair is published. What its node did comes back. At a
+    // refusal, for want of memory, nothing is.
+    pub(crate) fn make(&mut self, alloc: Global, event: Event) -> Result<Delta, AllocError>
+        requires ready { is_ready self.old.world event ≡ true }
+        requires turn { has_turn self.old.world ≡ true }
+        ensures made { OnOk result (Makes self.old.world event self.new.world) }
+        ensures answer { IfOk result (λ d. IsAnswer self.old.world.net event d) }
+        ensures published { OnOk result (Publishes self.old.told self.new.told self.new.world) }
+        ensures err { OnErr result (IsSameWorld self.old.world self.new.world) }
+        ensures unpublished { OnErr result (self.new.told ≡ self.old.told) }
+    {
+        let _ = pair_of(&self.world);
+        let answer = self.world.answer(alloc, event)?;
+        match self.world.make_answered(event, &answer) {
+            Ok(()) => {
+                let pair = pair_of(&self.world);
+                self.publisher.publish(pair.commits, pair.halted);
+                Ok(answer)
+            }
+            Err(error) => Err(error),
+        }
     }
 
     /// The world and its publisher, when the shop is done with.

@@ -11,7 +11,7 @@ use crate::end::PoolFault;
 use crate::floor::{Floor, Next, Start};
 use crate::gate::Gate;
 use crate::hand::{Hand, MOST};
-use crate::pace::Pace;
+use crate::pace::{Pace, crowd_of};
 use crate::shop::{Shop, pair_of};
 use ghs_board::board::{Board, Publisher};
 use ghs_queue::queue::{ReadyPass, ReadyQueue};
@@ -116,8 +116,9 @@ fn run_from<J: Start + Send + Sync, G: Gate + Sync, R: Threads + Wait + Sync>(
     ensures board { (result.1.table ≡ J.first.told.table) × StartsWith result.1.list J.first.told.list }
     ensures end { EndFits result.0 result.2 }
 {
+    let nodes = ports.len();
     let floor = Mutex::new(Floor::<J>::new(shop, ports, pass.shares()));
-    let started = serve_all(rt, alloc, &floor, gate, queue, pass);
+    let started = serve_all(rt, alloc, &floor, gate, queue, pass, nodes);
     let (shop, memory) = floor.into_inner().close();
     let (mut world, publisher) = shop.close();
     world.recall_all();
@@ -133,6 +134,7 @@ fn serve_all<J: Start + Send + Sync, G: Gate + Sync, R: Threads + Wait + Sync>(
     gate: &G,
     queue: &ReadyQueue,
     pass: ReadyPass,
+    nodes: usize,
 ) -> bool
     requires { pass.name ≡ queue.now.name }
 {
@@ -144,8 +146,8 @@ fn serve_all<J: Start + Send + Sync, G: Gate + Sync, R: Threads + Wait + Sync>(
         {
             let mut rest = pass;
             let shares = rest.shares();
-            for started in 1..shares {
-                let Ok(hand) = Hand::new(alloc) else {
+            for rank in 1..shares {
+                let Ok(hand) = Hand::new(alloc, crowd_of(nodes, rank)) else {
                     floor.lock(rt).stop();
                     return false;
                 };
@@ -161,7 +163,7 @@ fn serve_all<J: Start + Send + Sync, G: Gate + Sync, R: Threads + Wait + Sync>(
                     return false;
                 }
             }
-            let Ok(hand) = Hand::new(alloc) else {
+            let Ok(hand) = Hand::new(alloc, crowd_of(nodes, 0)) else {
                 floor.lock(rt).stop();
                 return false;
             };
@@ -191,18 +193,39 @@ fn work<J: Start, G: Gate, R: Wait>(
 {
     let sleeper = Parker::new();
     for _ in rt.forever() {
-        let next = floor.lock(rt).visit(rt, alloc, queue, &mut pass, &mut hand);
-        match next {
+        match come(rt, alloc, floor, queue, &mut pass, &mut hand) {
             Next::Serve => {
                 hand.pace.serve();
                 perform(rt, alloc, floor, gate, &mut hand);
             }
             Next::Again => {}
             Next::Wait => rest(rt, queue, &mut pass, &mut hand.pace, &sleeper),
+            Next::Leave => sleep(rt, &sleeper, hand.pace.leave()),
             Next::End => return,
         }
     }
     unreachable!()
+}
+
+// A visit to the lock. Where another worker has it, one that has nothing to commit goes at once.
+fn come<J: Start, R: Wait>(
+    rt: &R,
+    alloc: Global,
+    floor: &Mutex<Floor<J>>,
+    queue: &ReadyQueue,
+    pass: &mut ReadyPass,
+    hand: &mut Hand,
+) -> Next
+    requires { pass.old.name ≡ queue.now.name }
+    ensures { pass.new.name ≡ pass.old.name }
+{
+    if let Some(mut floor) = floor.try_lock() {
+        return floor.visit(rt, alloc, queue, pass, hand, false);
+    }
+    if !hand.has_steps() {
+        return Next::Leave;
+    }
+    floor.lock(rt).visit(rt, alloc, queue, pass, hand, true)
 }
 
 // Performs the tickets in a hand, outside the lock.
@@ -250,8 +273,13 @@ fn rest<R: Wait>(
         thread::yield_now();
     }
     if pace.sleep() > 0 {
-        sleeper.park_timeout(rt, Duration::from_micros(pace.sleep() as u64));
+        sleep(rt, sleeper, pace.sleep());
     }
+}
+
+// Sleeps so many microseconds.
+fn sleep<R: Wait>(rt: &R, sleeper: &Parker, micros: u32) {
+    sleeper.park_timeout(rt, Duration::from_micros(micros as u64));
 }
 
 // What the world says of the end, and else what was met.

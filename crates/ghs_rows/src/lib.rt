@@ -1,10 +1,8 @@
-//! Worked examples that cross crates, as tests over devices in memory.
+//! Worked examples of nets, worlds, runs and traces, as tests over devices in memory.
 #![tactic(auto)]
 
 #[cfg(test)]
 mod commits;
-#[cfg(test)]
-mod devices;
 #[cfg(test)]
 mod graphs;
 #[cfg(test)]
@@ -12,22 +10,13 @@ mod nets;
 #[cfg(test)]
 mod queues;
 #[cfg(test)]
-mod replays;
-#[cfg(test)]
-mod run_texts;
-#[cfg(test)]
 mod runs;
 #[cfg(test)]
 mod strangers;
-#[cfg(test)]
-mod sweeps;
+pub mod table;
 #[cfg(test)]
 mod texts;
 #[cfg(test)]
 mod traces;
-#[cfg(test)]
-mod tree;
-#[cfg(test)]
-mod words;
 #[cfg(test)]
 mod worlds;

@@ -1,5 +1,5 @@
 //! Runs whose events a schedule picks.
-use crate::texts::ROWS;
+use crate::table::ROWS;
 use crate::worlds::{MOST_TURNS, world_of};
 use ghs_core::event::Event;
 use ghs_report::net_text::net_text;

@@ -1,5 +1,5 @@
 -- Why the steps of a trace aren't shown, or not to their end.
-use Rattle.std.specs.Prelude.{◌≡◌, ℕ, Option, List}
+use Rattle.std.specs.Prelude.{◌≡◌, ◌⊎◌, ℕ, Bool, false, true, Option, List}
 use Rattle.ghs_graph.specs.Graph.{Shape}
 use Rattle.ghs_protocol.specs.declared.event.Event.{Event}
 use Rattle.ghs_protocol.specs.Network.{network_of}
@@ -12,8 +12,18 @@ use Rattle.ghs_steps.specs.declared.show.StepsFault.TheVariants.{NotLawful, Memo
 use Rattle.ghs_steps.specs.declared.write.WriteFault.TheVariants as writes
 use Rattle.ghs_steps.specs.Written.{IsFront}
 
--- an event isn't lawful, and nothing has gone out; or a front of the text has
+-- an event isn't lawful, and nothing has gone out; or the events are a run, and a front of its lines has; where memory is wanting, one of nothing or that front
 abbrev pub CantShow : Shape → WakeSet → List Event → List ℕ → Option (List ℕ) → Option (List ℕ) → StepsFault → Type 0
 CantShow g wake es text old new (NotLawful k) = IsFirstUnlawful g wake es k × (new ≡ old)
-CantShow g wake es text old new Memory = IsFront old new text writes.Memory
+CantShow g wake es text old new Memory = (new ≡ old) ⊎ (IsRunUnder (may_wake g wake) (network_of g) es × IsFront old new text writes.Memory)
 CantShow g wake es text old new (Write k) = IsRunUnder (may_wake g wake) (network_of g) es × IsFront old new text (writes.Write k)
+
+-- the run is at fault
+abbrev pub is_unlawful : StepsFault → Bool
+is_unlawful (NotLawful k) = true
+is_unlawful _ = false
+
+-- the writer failed, or took no byte
+abbrev pub is_write : StepsFault → Bool
+is_write (Write k) = true
+is_write _ = false

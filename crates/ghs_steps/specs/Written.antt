@@ -1,5 +1,5 @@
 -- What of a text has gone out.
-use Rattle.std.specs.Prelude.{◌≡◌, ℕ, ◌≤◌, ◌<◌, Option, List, ◌++◌, length}
+use Rattle.std.specs.Prelude.{◌≡◌, ℕ, ◌≤◌, ◌<◌, Bool, false, true, Option, List, ◌++◌, length}
 use Rattle.std.specs.Io.KnownBytes.{Appends}
 use Rattle.ghs_report.specs.Writing.{HasWritten}
 use Rattle.ghs_steps.specs.declared.write.WriteFault.{WriteFault}
@@ -16,3 +16,8 @@ pub record IsOut (old now : Option (List ℕ)) (text : List ℕ) (gone : ℕ) (w
 abbrev pub IsFront : Option (List ℕ) → Option (List ℕ) → List ℕ → WriteFault → Type 0
 IsFront old new text Memory = (k : ℕ) × (k ≤ length text) × HasWritten old new text k
 IsFront old new text (Write k) = (k < length text) × HasWritten old new text k
+
+-- the writer failed, or took no byte
+abbrev pub is_write : WriteFault → Bool
+is_write Memory = false
+is_write (Write k) = true

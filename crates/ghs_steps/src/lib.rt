@@ -10,7 +10,5 @@ pub mod line;
 pub mod moment;
 pub mod sent;
 pub mod show;
-#[cfg(test)]
-mod tests;
 mod words;
 pub mod write;

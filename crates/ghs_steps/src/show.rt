@@ -1,11 +1,11 @@
 //! The steps of a stored run, judged and written out.
-ghost use Rattle.std.specs.Prelude.{◌≡◌, ◌≤◌, false, length, IfErr, OnOk};
+ghost use Rattle.std.specs.Prelude.{◌≡◌, ◌≤◌, false, length, true, IfErr, MatchResult, OnOk};
 ghost use Rattle.std.specs.Io.KnownBytes.{Appends};
 ghost use Rattle.ghs_protocol.specs.Network.{network_of};
 ghost use Rattle.ghs_protocol.specs.Run.{IsRunUnder};
 ghost use Rattle.ghs_sched.specs.declared.trace.TheConstants.{EVENT_LIMIT};
 ghost use Rattle.ghs_world.specs.Wakes.{may_wake};
-ghost use Rattle.ghs_steps.specs.Shown.{CantShow};
+ghost use Rattle.ghs_steps.specs.Shown.{CantShow, is_unlawful, is_write};
 ghost use Rattle.ghs_steps.specs.Lines.{lines};
 
 use crate::choice::Choice;
@@ -33,8 +33,9 @@ pub enum StepsFault {
 }
 
 /// Writes a line for each chosen event of a stored run, in order, in the form that is asked for. The run is played twice:
-/// whether each event is lawful is judged before the first byte goes out. A run that hasn't ended is shown too.
-pub fn write_steps_in<W: Sink>(
+/// whether each event is lawful is judged before the first byte goes out. A run that hasn't ended is shown too. Want of
+/// memory, and a write that fails, may come behind a front of the lines.
+pub fn write_steps<W: Sink>(
     alloc: Global,
     graph: Graph,
     wake: WakeSet,
@@ -48,6 +49,8 @@ pub fn write_steps_in<W: Sink>(
     ensures run { OnOk result (IsRunUnder (may_wake graph wake) (network_of graph) events.now) }
     ensures ok { OnOk result (Appends (W.held writer.old) (W.held writer.new) (lines form graph events.now choice.now)) }
     ensures err { IfErr result (λ fault. CantShow graph wake events.now (lines form graph events.now choice.now) (W.held writer.old) (W.held writer.new) fault) }
+    ensures unlawful { IfErr result (λ fault. is_unlawful fault ≡ true → writer.new ≡ writer.old) }
+    ensures failed { MatchResult result (λ _. W.has_failed writer.new ≡ false) (λ fault. W.has_failed writer.new ≡ is_write fault) }
 {
     let world = match replay(alloc, graph, wake, events) {
         Ok(world) => world,
@@ -61,22 +64,4 @@ pub fn write_steps_in<W: Sink>(
         Err(WriteFault::Memory) => Err(StepsFault::Memory),
         Err(WriteFault::Write { written }) => Err(StepsFault::Write { written }),
     }
-}
-
-/// Writes the lines of a stored run as text.
-pub fn write_steps<W: Sink>(
-    alloc: Global,
-    graph: Graph,
-    wake: WakeSet,
-    events: &[Event],
-    choice: &Choice,
-    writer: &mut W,
-) -> Result<(), StepsFault>
-    requires few { length events.now ≤ EVENT_LIMIT }
-    requires sound { W.has_failed writer.old ≡ false }
-    ensures run { OnOk result (IsRunUnder (may_wake graph wake) (network_of graph) events.now) }
-    ensures ok { OnOk result (Appends (W.held writer.old) (W.held writer.new) (lines Form.Text graph events.now choice.now)) }
-    ensures err { IfErr result (λ fault. CantShow graph wake events.now (lines Form.Text graph events.now choice.now) (W.held writer.old) (W.held writer.new) fault) }
-{
-    write_steps_in(alloc, graph, wake, events, choice, Form::Text, writer)
 }

@@ -11,7 +11,7 @@ ghost use Rattle.ghs_node.specs.Reaction.{IsReaction};
 ghost use Rattle.ghs_node.specs.Rows.{Row};
 ghost use Rattle.ghs_steps.specs.Step.{step, steps};
 ghost use Rattle.ghs_steps.specs.Lines.{line_in, lines, shown};
-ghost use Rattle.ghs_steps.specs.Written.{IsFront, IsOut};
+ghost use Rattle.ghs_steps.specs.Written.{IsFront, IsOut, is_write};
 
 use crate::change::{Change, changes};
 use crate::choice::Choice;
@@ -68,6 +68,7 @@ pub fn write_run<W: Sink>(
     requires sound { W.has_failed writer.old ≡ false }
     ensures ok { OnOk result (Appends (W.held writer.old) (W.held writer.new) (lines form graph events.now choice.now)) }
     ensures err { IfErr result (λ fault. IsFront (W.held writer.old) (W.held writer.new) (lines form graph events.now choice.now) fault) }
+    ensures failed { MatchResult result (λ _. W.has_failed writer.new ≡ false) (λ fault. W.has_failed writer.new ≡ is_write fault) }
 {
     let mut net = match Net::open(alloc, graph) {
         Ok(net) => net,
@@ -250,6 +251,7 @@ fn send_portion<W: Sink>(writer: &mut W, text: &mut Vec<u8>, gone: u128) -> Resu
     ensures more { IfOk result (λ now. now ≤ gone + 2 ^ 64) }
     ensures sound { OnOk result (W.has_failed writer.new ≡ false) }
     ensures front { IfErr result (λ fault. (old : Option (List ℕ)) (all : List ℕ) → IsOut old (W.held writer.old) all gone text.old.items → IsFront old (W.held writer.new) all fault) }
+    ensures failed { IfErr result (λ fault. W.has_failed writer.new ≡ is_write fault) }
 {
     if text.len() < PORTION {
         return Ok(gone);
@@ -266,6 +268,7 @@ fn send_off<W: Sink>(writer: &mut W, text: &mut Vec<u8>, gone: u128) -> Result<u
     ensures more { IfOk result (λ now. now ≤ gone + 2 ^ 64) }
     ensures sound { OnOk result (W.has_failed writer.new ≡ false) }
     ensures front { IfErr result (λ fault. (old : Option (List ℕ)) (all : List ℕ) → IsOut old (W.held writer.old) all gone text.old.items → IsFront old (W.held writer.new) all fault) }
+    ensures failed { IfErr result (λ fault. W.has_failed writer.new ≡ is_write fault) }
 {
     match write_out(writer, text.as_slice()) {
         Ok(()) => {

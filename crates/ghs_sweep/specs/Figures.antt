@@ -1,5 +1,5 @@
 -- The figures of a run.
-use Rattle.std.specs.Prelude.{◌≡◌, ℕ, ◌<◌, ◌≤◌, ◌↔◌, true, max, List, length, slice_index}
+use Rattle.std.specs.Prelude.{◌≡◌, ℕ, ◌<◌, ◌≤◌, ◌^◌, ◌↔◌, true, max, List, length, slice_index}
 use Rattle.std.specs.List.{fold}
 use Rattle.ghs_graph.specs.declared.key.Key.{Key}
 use Rattle.ghs_graph.specs.Bound.{IsBound}
@@ -20,6 +20,10 @@ use Rattle.ghs_sweep.specs.declared.figures.Figures.{Figures}
 abbrev pub greatest_level : List FragmentRow → ℕ
 greatest_level rows = fold (λ most row. max most row.level) 0 rows
 
+-- a weight that leaves room for the sum of many
+abbrev pub HasSmallWeight : Figures → Type 0
+HasSmallWeight f = f.weight < 2 ^ 96
+
 -- the messages: how many were sent, of all kinds and of each, were requeued, and wait
 pub record AreMessages (g : Shape) (w : Net) (f : Figures) : Type 0 where
   pub sent : f.sent ≡ in_all w.sent
@@ -38,6 +42,7 @@ pub record AreLinksAndFragments (g : Shape) (w : Net) (f : Figures) : Type 0 whe
   pub branches : List Key
   pub all : AreBranches (network_of g) w branches
   pub weight : f.weight ≡ total_weight branches
+  pub small : HasSmallWeight f
 
 -- the figures of the net after some events
 pub record AreFigures (g : Shape) (es : List Event) (f : Figures) : Type 0 where

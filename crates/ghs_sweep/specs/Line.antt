@@ -1,12 +1,20 @@
--- A run's figures as a line.
-use Rattle.std.specs.Prelude.{ℕ, Bool, true, false, List, ◌++◌, codes, decimal, slice_index}
+-- Runs' figures as lines.
+use Rattle.std.specs.Prelude.{ℕ, ◌+◌, Bool, true, false, List, [], ◌∷◌, ◌++◌, codes, decimal, slice_index}
 use Rattle.ghs_world.specs.declared.wake_set.WakeSet.{WakeSet}
 use Rattle.ghs_world.specs.declared.wake_set.WakeSet.TheVariants.{All, First}
+use Rattle.ghs_patient.specs.declared.picking.Picking.{Picking}
+use Rattle.ghs_patient.specs.declared.picking.Picking.TheVariants.{Seeded, Patient}
+use Rattle.ghs_sweep.specs.declared.line.TheConstants.{HEAD_LINE}
+use Rattle.ghs_sweep.specs.declared.seeded.Setup.{Setup}
 use Rattle.ghs_sweep.specs.declared.figures.Figures.{Figures}
 
 -- a comma and a number
 unfoldable pub field : ℕ → List ℕ
 field n = codes "," ++ decimal n
+
+abbrev pub picking_word : Picking → List ℕ
+picking_word Seeded = codes ",seeded"
+picking_word Patient = codes ",patient"
 
 abbrev pub wake_word : WakeSet → List ℕ
 wake_word All = codes ",all"
@@ -34,7 +42,16 @@ unfoldable pub outcome_fields : Figures → List ℕ
 outcome_fields f =
     field f.requeued ++ field f.queued ++ field f.bound ++ field f.level ++ field f.fragments ++ field f.weight
 
--- seed, wake set, figures, and how the run ended
-unfoldable pub line_text : ℕ → WakeSet → Figures → List ℕ
-line_text seed wake f =
-    decimal seed ++ wake_word wake ++ size_fields f ++ messages_fields f ++ outcome_fields f ++ end_word f.ended
+-- seed, schedule, wake set, figures, and how the run ended
+unfoldable pub line_text : ℕ → Setup → Figures → List ℕ
+line_text seed setup f =
+    decimal seed ++ picking_word setup.picking ++ wake_word setup.wake ++ size_fields f ++ messages_fields f ++ outcome_fields f ++ end_word f.ended
+
+-- the lines of runs whose seeds rise from the first on
+abbrev pub run_lines : Setup → ℕ → List Figures → List ℕ
+run_lines setup first [] = []
+run_lines setup first (f ∷ fs) = line_text first setup f ++ run_lines setup (first + 1) fs
+
+-- the head line, and the lines behind it
+abbrev pub runs_text : Setup → ℕ → List Figures → List ℕ
+runs_text setup first runs = HEAD_LINE.now ++ run_lines setup first runs

@@ -81,7 +81,8 @@ fn greatest_level(census: &[FragmentRow]) -> u8
 
 // The weights of links, added up.
 fn total_weight(links: &[Key]) -> u128
-    ensures { result ≡ total_weight links.now }
+    ensures total { result ≡ total_weight links.now }
+    ensures small { result < 2 ^ 96 }
 {
     let mut total: u128 = 0;
     for link in links {

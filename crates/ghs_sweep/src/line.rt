@@ -1,28 +1,48 @@
-//! The line of a run's figures.
-ghost use Rattle.ghs_sweep.specs.Line.{end_word, field, line_text, messages_fields, outcome_fields, size_fields, wake_word};
-ghost use Rattle.std.specs.Prelude.{◌≡◌, ◌++◌, IfOk};
+//! Runs' figures as lines.
+ghost use Rattle.ghs_sweep.specs.Line.{end_word, field, line_text, messages_fields, outcome_fields, picking_word, runs_text, size_fields, wake_word};
+ghost use Rattle.std.specs.Prelude.{◌≡◌, ◌+◌, ◌++◌, ◌≤◌, ◌^◌, IfOk, length};
 
 use crate::figures::Figures;
+use crate::seeded::Setup;
 use ghs_lines::numbers::put_number;
+use ghs_patient::picking::Picking;
 use ghs_world::wake_set::WakeSet;
 use std::alloc::{AllocError, Global};
 
 /// The names of a line's fields, as a line.
 pub const HEAD_LINE: &[u8] =
-    b"seed,wake,nodes,links,events,sent,connect,initiate,test,accept,reject,report,changeroot,requeued,queued,bound,level,fragments,weight,end\n";
+    b"seed,schedule,wake,nodes,links,events,sent,connect,initiate,test,accept,reject,report,changeroot,requeued,queued,bound,level,fragments,weight,end\n";
 
-/// Puts the line of a seed's run behind a text: the seed, the wake set, the figures, and how it ended.
+/// The lines of runs whose seeds rise from the first on, behind a head line. Refusal: want of memory.
+pub fn runs_text(
+    alloc: Global,
+    setup: Setup,
+    first: u64,
+    runs: &[Figures],
+) -> Result<Vec<u8>, AllocError>
+    requires { first + length runs.now ≤ 2 ^ 64 }
+    ensures { IfOk result (λ text. text.items ≡ runs_text setup first runs.now) }
+{
+    let mut text = Vec::from_slice(alloc, HEAD_LINE)?;
+    for (place, run) in runs.iter().enumerate() {
+        put_line(&mut text, first + place as u64, setup, run)?;
+    }
+    Ok(text)
+}
+
+/// Puts the line of a seed's run behind a text: the seed, the schedule, the wake set, the figures, and how it ended.
 #[tactic(auto, unfolding(crate::specs::Line::line_text))]
 pub fn put_line(
     text: &mut Vec<u8>,
     seed: u64,
-    wake: WakeSet,
+    setup: Setup,
     figures: &Figures,
 ) -> Result<(), AllocError>
-    ensures { IfOk result (λ _. text.new.items ≡ text.old.items ++ line_text seed wake figures.now) }
+    ensures { IfOk result (λ _. text.new.items ≡ text.old.items ++ line_text seed setup figures.now) }
 {
     put_number(text, u128::from(seed))?;
-    text.extend_from_slice(wake_word(wake))?;
+    text.extend_from_slice(picking_word(setup.picking))?;
+    text.extend_from_slice(wake_word(setup.wake))?;
     put_size(text, figures)?;
     put_messages(text, figures)?;
     put_outcome(text, figures)?;
@@ -73,12 +93,21 @@ fn put_outcome(text: &mut Vec<u8>, figures: &Figures) -> Result<(), AllocError>
 
 // A comma and a number.
 #[tactic(auto, unfolding(crate::specs::Line::field))]
-fn put_field(text: &mut Vec<u8>, number: u128) -> Result<(), AllocError>
+pub(crate) fn put_field(text: &mut Vec<u8>, number: u128) -> Result<(), AllocError>
     ensures { IfOk result (λ _. text.new.items ≡ text.old.items ++ field number) }
 {
     text.extend_from_slice(b",")?;
     put_number(text, number)?;
     Ok(())
+}
+
+fn picking_word(picking: Picking) -> &'static [u8]
+    ensures { result.now ≡ picking_word picking }
+{
+    match picking {
+        Picking::Seeded => b",seeded",
+        Picking::Patient => b",patient",
+    }
 }
 
 fn wake_word(wake: WakeSet) -> &'static [u8]

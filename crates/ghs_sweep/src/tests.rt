@@ -1,10 +1,18 @@
 //! Sweeps of a road-like network of 30 nodes, beside the figures of another program.
-use crate::sweep::sweep;
+ghost use Rattle.ghs_sweep.specs.Sweep.{HasTurns};
+ghost use Rattle.std.specs.Prelude.{◌+◌, ◌≤◌, ◌^◌};
+
+use crate::line::runs_text;
+use crate::runs::runs_by;
+use crate::seeded::Setup;
+use crate::summary::summary_text;
 use ghs_gr::judgement::judge;
 use ghs_graph::graph::Graph;
+use ghs_patient::picking::Picking;
 use ghs_world::wake_set::WakeSet;
 use std::alloc::Global;
 use std::test::Fail;
+use std::thread::Threads;
 
 const ROAD: &str = "\
 c road 30 7\n\
@@ -81,32 +89,102 @@ a 28 29 827\n\
 a 29 28 827";
 
 const FOUR_SEEDS: &str = "\
-seed,wake,nodes,links,events,sent,connect,initiate,test,accept,reject,report,changeroot,requeued,queued,bound,level,fragments,weight,end\n\
-1,all,30,35,510,241,38,60,46,20,16,60,1,248,1,670,2,1,19508,halted\n\
-2,all,30,35,514,245,38,60,48,20,18,60,1,246,1,670,2,1,19508,halted\n\
-3,all,30,35,531,241,38,60,46,20,16,60,1,268,1,670,2,1,19508,halted\n\
-4,all,30,35,593,245,38,60,48,20,18,60,1,326,1,670,2,1,19508,halted\n";
+seed,schedule,wake,nodes,links,events,sent,connect,initiate,test,accept,reject,report,changeroot,requeued,queued,bound,level,fragments,weight,end\n\
+1,seeded,all,30,35,510,241,38,60,46,20,16,60,1,248,1,670,2,1,19508,halted\n\
+2,seeded,all,30,35,514,245,38,60,48,20,18,60,1,246,1,670,2,1,19508,halted\n\
+3,seeded,all,30,35,531,241,38,60,46,20,16,60,1,268,1,670,2,1,19508,halted\n\
+4,seeded,all,30,35,593,245,38,60,48,20,18,60,1,326,1,670,2,1,19508,halted\n";
+
+const FOUR_PATIENTLY: &str = "\
+seed,schedule,wake,nodes,links,events,sent,connect,initiate,test,accept,reject,report,changeroot,requeued,queued,bound,level,fragments,weight,end\n\
+1,patient,all,30,35,285,243,38,60,47,20,17,60,1,18,1,670,2,1,19508,halted\n\
+2,patient,all,30,35,283,241,38,60,46,20,16,60,1,19,1,670,2,1,19508,halted\n\
+3,patient,all,30,35,286,243,38,60,48,20,16,60,1,20,1,670,2,1,19508,halted\n\
+4,patient,all,30,35,284,241,38,60,46,20,16,60,1,22,1,670,2,1,19508,halted\n";
+
+// Worked from these lines by a script of its own, each percentile by counting.
+const SUMMARY_OF_FOUR: &str = "\
+measure,runs,min,p25,p50,p75,p95,max,sum\n\
+events,4,510,510,514,531,593,593,2148\n\
+sent,4,241,241,241,245,245,245,972\n\
+connect,4,38,38,38,38,38,38,152\n\
+initiate,4,60,60,60,60,60,60,240\n\
+test,4,46,46,46,48,48,48,188\n\
+accept,4,20,20,20,20,20,20,80\n\
+reject,4,16,16,16,18,18,18,68\n\
+report,4,60,60,60,60,60,60,240\n\
+changeroot,4,1,1,1,1,1,1,4\n\
+requeued,4,246,246,248,268,326,326,1088\n\
+queued,4,1,1,1,1,1,1,4\n\
+bound,4,670,670,670,670,670,670,2680\n\
+level,4,2,2,2,2,2,2,8\n\
+fragments,4,1,1,1,1,1,1,4\n\
+weight,4,19508,19508,19508,19508,19508,19508,78032\n\
+halted,4,1,1,1,1,1,1,4\n";
+
+const SUMMARY_PATIENTLY: &str = "\
+measure,runs,min,p25,p50,p75,p95,max,sum\n\
+events,4,283,283,284,285,286,286,1138\n\
+sent,4,241,241,241,243,243,243,968\n\
+connect,4,38,38,38,38,38,38,152\n\
+initiate,4,60,60,60,60,60,60,240\n\
+test,4,46,46,46,47,48,48,187\n\
+accept,4,20,20,20,20,20,20,80\n\
+reject,4,16,16,16,16,17,17,65\n\
+report,4,60,60,60,60,60,60,240\n\
+changeroot,4,1,1,1,1,1,1,4\n\
+requeued,4,18,18,19,20,22,22,79\n\
+queued,4,1,1,1,1,1,1,4\n\
+bound,4,670,670,670,670,670,670,2680\n\
+level,4,2,2,2,2,2,2,8\n\
+fragments,4,1,1,1,1,1,1,4\n\
+weight,4,19508,19508,19508,19508,19508,19508,78032\n\
+halted,4,1,1,1,1,1,1,4\n";
 
 fn graph_of(alloc: Global, text: &str) -> Result<Graph, Fail> {
     let raw = judge(alloc, text.as_bytes()).ok().ok_or("no graph")?;
     Ok(Graph::build(alloc, raw).ok().ok_or("refused")?)
 }
 
+// The lines of the runs of so many seeds from the first on, and their summary.
+fn texts_of<R: Threads + Sync>(
+    rt: &R,
+    alloc: Global,
+    graph: &Graph,
+    setup: Setup,
+    first: u64,
+    count: u64,
+    threads: u32,
+) -> Result<(Vec<u8>, Vec<u8>), Fail>
+    requires turns { HasTurns setup }
+    requires some { 1 ≤ count }
+    requires few { count ≤ 2 ^ 32 }
+    requires seeds { first + count ≤ 2 ^ 64 }
+    requires threads { 1 ≤ threads }
+{
+    let runs = runs_by(rt, alloc, graph, setup, first, count, threads)?;
+    let lines = runs_text(alloc, setup, first, &runs)?;
+    let summary = summary_text(alloc, &runs)?;
+    Ok((lines, summary))
+}
+
 #[test]
 fn four_seeds_by_any_number_of_threads(rt: HostRuntime) -> Result<(), Fail> {
     let graph = graph_of(rt.alloc(), ROAD)?;
-    for threads in 1..6 {
-        let text = sweep(
-            &rt,
-            rt.alloc(),
-            &graph,
-            WakeSet::All,
-            1 << 40,
-            1,
-            4,
-            threads,
-        )?;
-        assert_eq!(rt; text.as_slice(), FOUR_SEEDS.as_bytes());
+    for (picking, four, all) in [
+        (Picking::Seeded, FOUR_SEEDS, SUMMARY_OF_FOUR),
+        (Picking::Patient, FOUR_PATIENTLY, SUMMARY_PATIENTLY),
+    ] {
+        let setup = Setup {
+            picking,
+            wake: WakeSet::All,
+            turns: 1 << 40,
+        };
+        for threads in [1, 2, 3, 5] {
+            let (lines, summary) = texts_of(&rt, rt.alloc(), &graph, setup, 1, 4, threads)?;
+            assert_eq!(rt; lines.as_slice(), four.as_bytes());
+            assert_eq!(rt; summary.as_slice(), all.as_bytes());
+        }
     }
     Ok(())
 }
@@ -114,8 +192,15 @@ fn four_seeds_by_any_number_of_threads(rt: HostRuntime) -> Result<(), Fail> {
 #[test]
 fn a_run_that_is_stopped_has_its_line(rt: HostRuntime) -> Result<(), Fail> {
     let graph = graph_of(rt.alloc(), "p sp 3 2\na 1 2 5\na 2 3 7")?;
-    let text = sweep(&rt, rt.alloc(), &graph, WakeSet::First, 1, u64::MAX, 1, 2)?;
-    let lines: &[u8] = b"18446744073709551615,first,3,2,1,1,1,0,0,0,0,0,0,0,1,19,0,3,5,turns\n";
-    assert!(rt; text.ends_with(lines));
+    let setup = Setup {
+        picking: Picking::Seeded,
+        wake: WakeSet::First,
+        turns: 1,
+    };
+    let (lines, summary) = texts_of(&rt, rt.alloc(), &graph, setup, u64::MAX, 1, 2)?;
+    let line: &[u8] =
+        b"18446744073709551615,seeded,first,3,2,1,1,1,0,0,0,0,0,0,0,1,19,0,3,5,turns\n";
+    assert!(rt; lines.ends_with(line));
+    assert!(rt; summary.ends_with(b"weight,1,5,5,5,5,5,5,5\nhalted,1,0,0,0,0,0,0,0\n"));
     Ok(())
 }

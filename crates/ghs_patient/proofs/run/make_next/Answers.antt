@@ -5,7 +5,7 @@ use Rattle.ghs_protocol.specs.Laws.{IsNetOf}
 use Rattle.ghs_graph.specs.Graph.{IsGraph}
 use Rattle.ghs_world.specs.WorldState.{home, wakers}
 use Rattle.ghs_world.proofs.lemmas.Waking.{each_is_woken}
-use Rattle.ghs_patient.proofs.Picking.{is_net, pickable, seconds_go, some_patient}
+use Rattle.ghs_patient.proofs.Picks.{is_net, pickable, seconds_go, some_patient}
 use Rattle.ghs_patient.proofs.Ports.{marks_own, sends_out}
 use Rattle.ghs_patient.proofs.Stirring.{keeps}
 use Rattle.ghs_patient.proofs.run.make_next.Goals as goal

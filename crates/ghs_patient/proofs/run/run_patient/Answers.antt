@@ -2,7 +2,7 @@ use Rattle.std.proofs.Common.{◌∙◌, subst, sym}
 use Rattle.ghs_protocol.specs.Laws.{IsNetOf}
 use Rattle.ghs_core.specs.NetState.{NetState, net_of}
 use Rattle.ghs_world.specs.WorldState.{home}
-use Rattle.ghs_patient.proofs.Picking.{is_net}
+use Rattle.ghs_patient.proofs.Picks.{is_net}
 use Rattle.ghs_patient.proofs.Running.{grown_begins, grown_stays, grown_too, is_short, not_so, run_begins, run_more, run_stays, same_end, turns_left}
 use Rattle.ghs_patient.proofs.run.run_patient.Goals as goal
 

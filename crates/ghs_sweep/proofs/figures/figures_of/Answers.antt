@@ -42,6 +42,7 @@ returns c =
         branches = c.in_ok-branches.branches.items;
         all = c.in_ok-branches.ensures.links;
         weight = search rules;
+        small = c.total_weight.ensures.small;
       };
       ended = c.ended.ensures.ended;
     }

@@ -5,7 +5,7 @@ pub publish-requires-clause-rising : goal.publish-requires-clause-rising
 publish-requires-clause-rising c =
     let before = c.pair_of.ensures in
     let now = c.pair_of-pair.ensures in
-    rises _ _ _ _ _ _ c.in-Ok.ensures.commits before.graph before.run now.run c.self.invariant now.pair
+    rises _ _ _ _ _ c.in-Ok.ensures.commits.graph c.in-Ok.ensures.commits.trace before.graph before.run now.run c.self.invariant now.pair
 
 pub invariant_of-self : goal.invariant_of-self
 invariant_of-self c = told_next _ _ _ _ c.publish.ensures.list c.pair_of-pair.ensures.pair

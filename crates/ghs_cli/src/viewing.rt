@@ -1,0 +1,121 @@
+//! Pages of runs: of the run that a seed picks, and of a stored one.
+ghost use Rattle.ghs_words.specs.Job.{AreViewLimits};
+ghost use Rattle.ghs_cli.specs.Serving.{IsStoredViewCause, IsStoredViewOutput, IsViewCause, IsViewOutput, is_write, shape_of};
+ghost use Rattle.ghs_cli.specs.Viewing.{HasNoStoredView, HasNoView, IsStoredView, IsView};
+ghost use Rattle.ghs_cli.specs.declared.fault.ServeFault.{ServeFault};
+ghost use Rattle.ghs_patient.specs.Picking.{IsPickedBy};
+ghost use Rattle.ghs_view.specs.RunPage.{IsRunPage, IsTooLarge};
+ghost use Rattle.std.specs.Prelude.{◌≡◌, ◌≤◌, ◌⊎◌, ◌↔◌, false, length, true, IfSome, IsErrOf, IfErr, IfOk};
+
+use crate::fault::ServeFault;
+use crate::replaying::events_of;
+use ghs_gr::device::Source;
+use ghs_gr::judgement::read_gr;
+use ghs_gr::raw_graph::RawGraph;
+use ghs_graph::graph::Graph;
+use ghs_patient::picking::run_by_seed;
+use ghs_protocol::event::Event;
+use ghs_sched::fault::RunFault;
+use ghs_sched::trace::EVENT_LIMIT;
+use ghs_view::page::{PageFault, run_page};
+use ghs_view::stored::{StoredFault, stored_page};
+use ghs_words::job::{StoredViewOptions, ViewOptions};
+use ghs_world::world::World;
+use std::alloc::Global;
+
+/// The page of the run that a seed picks of the graph that the device gives.
+pub(crate) fn view_text_of<S: Source>(
+    alloc: Global,
+    options: &ViewOptions,
+    graph: &mut S,
+) -> Result<Vec<u8>, ServeFault>
+    requires limits { AreViewLimits options.now }
+    requires graph { S.has_failed graph.old ≡ false }
+    ensures text { IfOk result (λ text. IfSome (S.left graph.old) (λ input. IsViewOutput options.now input text.items)) }
+    ensures fault { IfErr result (λ fault. IfSome (S.left graph.old) (λ input. IsViewCause options.now input fault)) }
+    ensures early { IfErr result (λ fault. is_write fault ≡ false) }
+    ensures read { IsErrOf result ServeFault.Read ↔ (S.has_failed graph.new ≡ true) }
+{
+    let raw = read_gr(alloc, graph)?;
+    viewed(alloc, options, raw)
+}
+
+/// The page of the run that a seed picks of a graph.
+fn viewed(alloc: Global, options: &ViewOptions, raw: RawGraph) -> Result<Vec<u8>, ServeFault>
+    requires { AreViewLimits options.now }
+    ensures text { IfOk result (λ text. IsView options.now (shape_of raw) text.items) }
+    ensures fault { IfErr result (λ fault. HasNoView options.now (shape_of raw) fault) }
+{
+    let Ok(graph) = Graph::build(alloc, raw) else {
+        return Err(ServeFault::Memory);
+    };
+    let mut world = match World::open(alloc, graph, options.wake, options.turns) {
+        Ok(world) => world,
+        Err(_) => return Err(ServeFault::Memory),
+    };
+    match run_by_seed(alloc, &mut world, options.picking, options.seed) {
+        Ok(_) => page_of(alloc, options, &world),
+        Err(RunFault::TurnLimit) => page_of(alloc, options, &world),
+        Err(RunFault::Stalled) => unreachable!(),
+        Err(RunFault::Unforeseen) => unreachable!(),
+        Err(RunFault::Memory) => Err(ServeFault::Memory),
+    }
+}
+
+/// The page of a world.
+fn page_of(alloc: Global, options: &ViewOptions, world: &World) -> Result<Vec<u8>, ServeFault>
+    requires { IsPickedBy options.now.picking options.now.seed options.now.wake options.now.turns world.now.net.graph world.now.net.trace }
+    ensures text { IfOk result (λ text. IsView options.now world.now.net.graph text.items) }
+    ensures fault { IfErr result (λ fault. HasNoView options.now world.now.net.graph fault) }
+{
+    // Read for their clauses: the events are a run, and no more than 2^40.
+    let _ = world.net();
+    let _ = world.turns();
+    let graph = world.graph().copy(alloc)?;
+    match run_page(alloc, graph, world.trace(), options.from, options.to) {
+        Ok(text) => Ok(text),
+        Err(PageFault::TooLarge) => Err(ServeFault::PageTooLarge),
+        Err(PageFault::Memory) => Err(ServeFault::Memory),
+    }
+}
+
+/// The page of a stored run of the graph that a device gives. The trace is judged first, then the graph.
+pub(crate) fn stored_view_of<R: Source, T: Source>(
+    alloc: Global,
+    options: &StoredViewOptions,
+    graph: &mut R,
+    trace: &mut T,
+) -> Result<Vec<u8>, ServeFault>
+    requires graph { R.has_failed graph.old ≡ false }
+    requires trace { T.has_failed trace.old ≡ false }
+    ensures text { IfOk result (λ text. IfSome (T.left trace.old) (λ stored. IfSome (R.left graph.old) (λ input. IsStoredViewOutput options.now stored input text.items))) }
+    ensures fault { IfErr result (λ fault. IfSome (T.left trace.old) (λ stored. IfSome (R.left graph.old) (λ input. IsStoredViewCause options.now stored input fault))) }
+    ensures early { IfErr result (λ fault. is_write fault ≡ false) }
+    ensures read { IsErrOf result ServeFault.Read ↔ ((R.has_failed graph.new ≡ true) ⊎ (T.has_failed trace.new ≡ true)) }
+{
+    let events = events_of(alloc, trace)?;
+    let raw = read_gr(alloc, graph)?;
+    stored_viewed(alloc, options, raw, &events)
+}
+
+/// The page of events, once they are known to be a run of a graph.
+fn stored_viewed(
+    alloc: Global,
+    options: &StoredViewOptions,
+    raw: RawGraph,
+    events: &[Event],
+) -> Result<Vec<u8>, ServeFault>
+    requires { length events.now ≤ EVENT_LIMIT }
+    ensures text { IfOk result (λ text. IsStoredView options.now (shape_of raw) events.now text.items) }
+    ensures fault { IfErr result (λ fault. HasNoStoredView options.now (shape_of raw) events.now fault) }
+{
+    let Ok(graph) = Graph::build(alloc, raw) else {
+        return Err(ServeFault::Memory);
+    };
+    match stored_page(alloc, graph, options.wake, events, options.from, options.to) {
+        Ok(text) => Ok(text),
+        Err(StoredFault::NotLawful(event)) => Err(ServeFault::NotLawful(event)),
+        Err(StoredFault::TooLarge) => Err(ServeFault::PageTooLarge),
+        Err(StoredFault::Memory) => Err(ServeFault::Memory),
+    }
+}

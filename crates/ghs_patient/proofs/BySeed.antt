@@ -1,0 +1,163 @@
+-- What a run of a world from its opening on comes to.
+use Rattle.std.proofs.Common.{◌≡◌, ℕ, Bool, ◌+◌, ◌*◌, ◌-◌, ◌≤◌, ◌<◌, ◌^◌, ◌⊎◌, ⊎_elim, inl, inr, List, [], ◌∷◌, ◌++◌, ap, arith, length, refl, subst, sym}
+use Rattle.std.specs.Prelude.{IfErr, IfOk, OnErr, OnOk, Result, Ok, Err}
+use Rattle.std.proofs.lemmas.List.{length_push}
+use Rattle.ghs_graph.specs.Bound.{IsBound}
+use Rattle.ghs_graph.specs.Graph.{Shape}
+use Rattle.ghs_protocol.specs.declared.event.Event.{Event}
+use Rattle.ghs_protocol.specs.Marks.{HasEnded}
+use Rattle.ghs_protocol.specs.Run.{net_after}
+use Rattle.ghs_sched.specs.Picks as picks
+use Rattle.ghs_sched.specs.Picks.{IsPicked, IsSeededRun}
+use Rattle.ghs_sched.specs.Runs as sched
+use Rattle.ghs_sched.specs.Runs.{EndsFor, IsEnd, IsWhole}
+use Rattle.ghs_sched.specs.Schedule.{seeded}
+use Rattle.ghs_sched.specs.declared.fault.RunFault.{RunFault}
+use Rattle.ghs_sched.specs.declared.fault.RunFault.TheVariants.{TurnLimit, Stalled, Unforeseen, Memory}
+use Rattle.ghs_sched.specs.declared.run.RunEnd.{RunEnd}
+use Rattle.ghs_sched.specs.declared.run.RunEnd.TheVariants.{Halted}
+use Rattle.ghs_world.specs.WorldState.{WorldState, home, wakers}
+use Rattle.ghs_patient.specs.Picking.{HasTurnsFor, IsPatient, IsSeeded, StopsFor}
+use Rattle.ghs_patient.specs.Runs as patient
+use Rattle.ghs_patient.specs.Runs.{HasTurns, IsPatientlyPicked, IsShort}
+
+-- what a schedule picks stays within the turns
+few_seeded : (may : ℕ → Bool) (g : Shape) (turns : ℕ) (trace : List Event) (words : List ℕ) (es : List Event) (s : List ℕ) →
+    IsPicked may g turns trace words es s →
+    length trace ≤ turns →
+    length es ≤ turns
+few_seeded may g turns trace words _ _ picks.Begun few = few
+few_seeded may g turns trace words _ _ (picks.Picked es s e before goes less pick) few =
+    let more : length (es ++ e ∷ []) ≡ length es + 1 = length_push es e in omega (arith, more, less)
+
+few_patient : (may : ℕ → Bool) (g : Shape) (turns : ℕ) (trace : List Event) (words : List ℕ) (es : List Event) (s : List ℕ) →
+    IsPatientlyPicked may g turns trace words es s →
+    length trace ≤ turns →
+    length es ≤ turns
+few_patient may g turns trace words _ _ patient.Begun few = few
+few_patient may g turns trace words _ _ (patient.Picked es s e before goes less pick) few =
+    let more : length (es ++ e ∷ []) ≡ length es + 1 = length_push es e in omega (arith, more, less)
+
+-- a world from its opening on: as many numbers are used as there are events, and a number is left
+pub record HasGoneOn (old new : WorldState) : Type 0 where
+  pub none : old.net.trace ≡ []
+  pub graph : new.net.graph ≡ old.net.graph
+  pub turns : new.turns ≡ old.turns
+  pub numbers : new.last < 2 ^ 64 - 1
+
+pub gone_seeded : (old new : WorldState) (words after : List ℕ) (limit : ℕ) →
+    old.net.trace ≡ [] →
+    old.last ≡ 0 →
+    limit ≡ old.turns →
+    limit ≤ 2 ^ 40 →
+    sched.HasRun old new words after →
+    HasGoneOn old new
+gone_seeded old new words after limit none first is few ran =
+    let nothing : length old.net.trace ≡ 0 = ap length none in
+    let numbers = ran.numbers in
+    let most : length new.net.trace ≤ old.turns = few_seeded _ _ _ _ _ _ _ ran.picked (omega (arith, nothing)) in
+    record { none = none; graph = ran.graph; turns = ran.turns; numbers = omega (arith, numbers, nothing, first, most, is, few) }
+
+pub gone_patient : (old new : WorldState) (words after : List ℕ) (limit : ℕ) →
+    old.net.trace ≡ [] →
+    old.last ≡ 0 →
+    limit ≡ old.turns →
+    limit ≤ 2 ^ 40 →
+    patient.HasRun old new words after →
+    HasGoneOn old new
+gone_patient old new words after limit none first is few ran =
+    let nothing : length old.net.trace ≡ 0 = ap length none in
+    let numbers = ran.numbers in
+    let most : length new.net.trace ≤ old.turns = few_patient _ _ _ _ _ _ _ ran.picked (omega (arith, nothing)) in
+    record { none = none; graph = ran.graph; turns = ran.turns; numbers = omega (arith, numbers, nothing, first, most, is, few) }
+
+-- with a number left, it is the turns that are used
+pub stops_for : (old new : WorldState) (r : Result RunEnd RunFault) → HasGoneOn old new → IfErr r (λ f. EndsFor new f) → IfErr r (λ f. StopsFor new f)
+stops_for old new (Ok e) gone ends = tt
+stops_for old new (Err TurnLimit) gone ends =
+    let small = gone.numbers in ⊎_elim (λ (used : length new.net.trace ≡ new.turns). used) (λ large. absurd (omega (arith, large, small))) ends
+stops_for old new (Err Stalled) gone ends = ends
+stops_for old new (Err Unforeseen) gone ends = ends
+stops_for old new (Err Memory) gone ends = tt
+
+-- the whole seeded run from the opening on is the seed's
+pub is_seeded : (seed : ℕ) (old new : WorldState) (words after : List ℕ) →
+    words ≡ seeded seed →
+    HasGoneOn old new →
+    IsWhole old new words after →
+    IsSeeded seed old.wake old.turns old.net.graph new.net.trace
+is_seeded seed old new words after begun gone whole = record {
+  words = after;
+  run = subst (λ (es : List Event). IsSeededRun (wakers old) old.net.graph old.turns es (seeded seed) new.net.trace after) gone.none
+      (subst (λ (s : List ℕ). IsSeededRun (wakers old) old.net.graph old.turns old.net.trace s new.net.trace after) begun whole);
+}
+
+pub on_ok_seeded : (seed : ℕ) (old new : WorldState) (words after : List ℕ) (r : Result RunEnd RunFault) →
+    words ≡ seeded seed →
+    HasGoneOn old new →
+    OnOk r (IsWhole old new words after) →
+    OnOk r (IsSeeded seed old.wake old.turns old.net.graph new.net.trace)
+on_ok_seeded seed old new words after (Ok e) begun gone whole = is_seeded seed old new words after begun gone whole
+on_ok_seeded seed old new words after (Err f) begun gone whole = tt
+
+-- a patient run that is over is the seed's
+is_patient : (seed : ℕ) (old new : WorldState) (words after : List ℕ) →
+    words ≡ seeded seed →
+    HasGoneOn old new →
+    patient.HasRun old new words after →
+    IsShort old new →
+    HasEnded old.net.graph (net_after old.net.graph new.net.trace) ⊎ (old.turns ≤ length new.net.trace) →
+    (HasTurnsFor old.net.graph old.turns → HasEnded old.net.graph (net_after old.net.graph new.net.trace)) →
+    IsPatient seed old.wake old.turns old.net.graph new.net.trace
+is_patient seed old new words after begun gone ran short over ends = record {
+  words = after;
+  picked = subst (λ (es : List Event). IsPatientlyPicked (wakers old) old.net.graph old.turns es (seeded seed) new.net.trace after) gone.none
+      (subst (λ (s : List ℕ). IsPatientlyPicked (wakers old) old.net.graph old.turns old.net.trace s new.net.trace after) begun ran.picked);
+  over = over;
+  short = λ b is.
+      let nothing : length old.net.trace ≡ 0 = ap length gone.none in
+      let most : length new.net.trace ≤ length old.net.trace + 2 * (b + old.net.graph.nodes) = short b is in
+      omega (arith, most, nothing);
+  ends = ends;
+}
+
+has_ended : (g : Shape) (new : WorldState) (e : RunEnd) → new.net.graph ≡ g → IsEnd new e → HasEnded g (net_after g new.net.trace)
+has_ended g new (Halted v) same end = subst (λ (s : Shape). HasEnded s (net_after s new.net.trace)) same end.0
+
+pub on_ok_patient : (seed : ℕ) (old new : WorldState) (words after : List ℕ) (r : Result RunEnd RunFault) →
+    words ≡ seeded seed →
+    HasGoneOn old new →
+    patient.HasRun old new words after →
+    IsShort old new →
+    IfOk r (λ e. IsEnd new e) →
+    OnOk r (IsPatient seed old.wake old.turns old.net.graph new.net.trace)
+on_ok_patient seed old new words after (Ok e) begun gone ran short end =
+    let ended = has_ended old.net.graph new e gone.graph end in is_patient seed old new words after begun gone ran short (inl ended) (λ _. ended)
+on_ok_patient seed old new words after (Err f) begun gone ran short end = tt
+
+-- turns for all its events are enough for the world
+has_turns : (old new : WorldState) (limit : ℕ) → HasGoneOn old new → old.last ≡ 0 → limit ≡ old.turns → limit ≤ 2 ^ 40 → HasTurnsFor old.net.graph old.turns → HasTurns old
+has_turns old new limit gone first is few has = record {
+  bound = has.bound;
+  is = has.is;
+  turns = let nothing : length old.net.trace ≡ 0 = ap length gone.none in let enough = has.enough in omega (arith, nothing, enough);
+  numbers = let enough = has.enough in omega (arith, enough, few, is, first);
+}
+
+pub at_limit_patient : (seed : ℕ) (old new : WorldState) (words after : List ℕ) (limit : ℕ) (r : Result RunEnd RunFault) →
+    words ≡ seeded seed →
+    HasGoneOn old new →
+    old.last ≡ 0 →
+    limit ≡ old.turns →
+    limit ≤ 2 ^ 40 →
+    patient.HasRun old new words after →
+    IsShort old new →
+    IfErr r (λ f. EndsFor new f) →
+    (HasTurns old → r ≡ Err TurnLimit → ⊥) →
+    r ≡ Err TurnLimit →
+    IsPatient seed old.wake old.turns old.net.graph new.net.trace
+at_limit_patient seed old new words after limit r begun gone first is few ran short ends surely at_limit =
+    let used : StopsFor new TurnLimit = subst (λ (x : Result RunEnd RunFault). IfErr x (λ f. StopsFor new f)) at_limit (stops_for old new r gone ends) in
+    let turns = gone.turns in
+    is_patient seed old new words after begun gone ran short (inr (omega (arith, used, turns)))
+    (λ has. absurd (surely (has_turns old new limit gone first is few has) at_limit))

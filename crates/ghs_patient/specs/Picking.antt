@@ -1,0 +1,49 @@
+-- Runs of a graph by the schedule of a seed, which picks among all events that may happen or patiently.
+use Rattle.std.specs.Prelude.{◌≡◌, ℕ, ◌+◌, ◌*◌, ◌≤◌, ◌⊎◌, List, [], length}
+use Rattle.ghs_graph.specs.Bound.{IsBound}
+use Rattle.ghs_graph.specs.Graph.{Shape}
+use Rattle.ghs_protocol.specs.declared.event.Event.{Event}
+use Rattle.ghs_protocol.specs.Marks.{HasEnded}
+use Rattle.ghs_protocol.specs.Run.{net_after}
+use Rattle.ghs_sched.specs.Picks.{IsSeededRun}
+use Rattle.ghs_sched.specs.Schedule.{seeded}
+use Rattle.ghs_sched.specs.declared.fault.RunFault.{RunFault}
+use Rattle.ghs_sched.specs.declared.fault.RunFault.TheVariants.{TurnLimit, Stalled, Unforeseen, Memory}
+use Rattle.ghs_world.specs.declared.wake_set.WakeSet.{WakeSet}
+use Rattle.ghs_world.specs.Wakes.{may_wake}
+use Rattle.ghs_world.specs.WorldState.{WorldState}
+use Rattle.ghs_patient.specs.declared.picking.Picking.{Picking}
+use Rattle.ghs_patient.specs.declared.picking.Picking.TheVariants.{Seeded, Patient}
+use Rattle.ghs_patient.specs.Runs.{IsPatientlyPicked}
+
+-- the events of the seed's run of a graph: all that its schedule picks, from the opening on
+pub record IsSeeded (seed : ℕ) (wake : WakeSet) (turns : ℕ) (g : Shape) (events : List Event) : Type 0 where
+  pub words : List ℕ
+  pub run : IsSeededRun (may_wake g wake) g turns [] (seeded seed) events words
+
+-- there are turns for twice as many events as the bound on messages and the nodes together
+pub record HasTurnsFor (g : Shape) (turns : ℕ) : Type 0 where
+  pub bound : ℕ
+  pub is : IsBound g.nodes (length g.keys) bound
+  pub enough : 2 * (bound + g.nodes) ≤ turns
+
+-- The events of the seed's patient run of a graph: all that its schedule patiently picks, from the opening on to the end or to the last turn. They are so
+-- many at most, and with turns for so many they lead to the end.
+pub record IsPatient (seed : ℕ) (wake : WakeSet) (turns : ℕ) (g : Shape) (events : List Event) : Type 0 where
+  pub words : List ℕ
+  pub picked : IsPatientlyPicked (may_wake g wake) g turns [] (seeded seed) events words
+  pub over : HasEnded g (net_after g events) ⊎ (turns ≤ length events)
+  pub short : (b : ℕ) → IsBound g.nodes (length g.keys) b → length events ≤ 2 * (b + g.nodes)
+  pub ends : HasTurnsFor g turns → HasEnded g (net_after g events)
+
+-- the events of the run that a seed's schedule picks of a graph, among all that may happen or patiently
+abbrev pub IsPickedBy : Picking → ℕ → WakeSet → ℕ → Shape → List Event → Type 0
+IsPickedBy Seeded seed wake turns g events = IsSeeded seed wake turns g events
+IsPickedBy Patient seed wake turns g events = IsPatient seed wake turns g events
+
+-- why a run from the opening on stops before its end: its turns are used, or memory is wanting; an event is always ready, and has a rule
+abbrev pub StopsFor : WorldState → RunFault → Type 0
+StopsFor s TurnLimit = length s.net.trace ≡ s.turns
+StopsFor s Stalled = ⊥
+StopsFor s Unforeseen = ⊥
+StopsFor s Memory = Unit {0}

@@ -1,0 +1,52 @@
+//! Runs by the schedule of a seed, among whichever events it picks.
+ghost use Rattle.ghs_patient.specs.Picking.{IsPickedBy, StopsFor};
+ghost use Rattle.ghs_protocol.specs.Marks.{HasEnded};
+ghost use Rattle.ghs_sched.specs.Runs.{IsEnd};
+ghost use Rattle.ghs_world.specs.WorldState.{home};
+ghost use Rattle.std.specs.Prelude.{IfErr, IfOk, OnErr, OnOk, [], ◌≡◌};
+
+use crate::run::run_patient;
+use ghs_sched::fault::RunFault;
+use ghs_sched::run::{RunEnd, run_seeded};
+use ghs_sched::schedule::Schedule;
+use ghs_world::world::World;
+use std::alloc::Global;
+
+/// Among which events a schedule picks the next one.
+#[derive(Clone, Copy, Debug, PartialEq, Eq)]
+pub enum Picking {
+    /// Among all that may happen.
+    Seeded,
+    /// Among those that move the run on, and so every run ends; where there is none, among those that uncover one.
+    Patient,
+}
+
+/// Runs a world from its opening on, by the schedule of a seed, until the run has ended or its turns are used. Of the faults
+/// TurnLimit comes where the commits have come to the turns, and else Memory. A patient run that has turns for 2(B + N)
+/// events, B the bound on messages and N the nodes, ends, or memory is wanting. At every end nothing is out, and the world
+/// stands after the events so far.
+pub fn run_by_seed(
+    alloc: Global,
+    world: &mut World,
+    picking: Picking,
+    seed: u64,
+) -> Result<RunEnd, RunFault>
+    requires trace { world.old.net.trace ≡ [] }
+    requires numbers { world.old.last ≡ 0 }
+    ensures graph { world.new.net.graph ≡ world.old.net.graph }
+    ensures wake { world.new.wake ≡ world.old.wake }
+    ensures turns { world.new.turns ≡ world.old.turns }
+    ensures outs { world.new.outs ≡ [] }
+    ensures whole { OnOk result (IsPickedBy picking seed world.old.wake world.old.turns world.old.net.graph world.new.net.trace) }
+    ensures limit { result ≡ Err RunFault.TurnLimit → IsPickedBy picking seed world.old.wake world.old.turns world.old.net.graph world.new.net.trace }
+    ensures halted { IfOk result (λ e. IsEnd world.new e) }
+    ensures going { OnErr result (HasEnded world.new.net.graph (home world.new) → ⊥) }
+    ensures fault { IfErr result (λ f. StopsFor world.new f) }
+{
+    let mut schedule = Schedule::seeded(seed);
+    let _ = world.turns();
+    match picking {
+        Picking::Seeded => run_seeded(alloc, world, &mut schedule),
+        Picking::Patient => run_patient(alloc, world, &mut schedule),
+    }
+}

@@ -1,5 +1,0 @@
-use Rattle.std.proofs.Common.{rules}
-use Rattle.ghs_pool.proofs.tests.run_beside_readers.Goals as goal
-
-pub join-world-requires-after_bounds : goal.join-world-requires-after_bounds
-join-world-requires-after_bounds g c κs within = ((c.close-world.ensures.told, search), ((search rules, search rules), search))

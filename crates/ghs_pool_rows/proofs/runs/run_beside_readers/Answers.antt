@@ -1,0 +1,5 @@
+use Rattle.std.proofs.Common.{rules}
+use Rattle.ghs_pool_rows.proofs.runs.run_beside_readers.Goals as goal
+
+pub join-world-requires-after_bounds : goal.join-world-requires-after_bounds
+join-world-requires-after_bounds g c κs within = ((c.close-world.ensures.told, search), ((search rules, search rules), search))

@@ -1,0 +1,5 @@
+//! Worked examples of runs of workers.
+#![tactic(auto)]
+
+#[cfg(test)]
+mod runs;

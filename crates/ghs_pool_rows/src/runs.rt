@@ -1,0 +1,374 @@
+//! Runs of workers, with ample memory. Their texts were found by hand.
+ghost use Rattle.std.specs.Prelude.{◌≡◌, ◌≤◌};
+ghost use Rattle.ghs_pool.specs.Shop.{IsTold};
+
+use ghs_board::board::{Board, Publisher, Reader};
+use ghs_board::progress::Progress;
+use ghs_gr::judgement::judge;
+use ghs_graph::graph::Graph;
+use ghs_lines::numbers::put_number;
+use ghs_pool::desk::Desk;
+use ghs_pool::end::PoolFault;
+use ghs_pool::gate::{Gate, OpenGate};
+use ghs_pool::shop::Shop;
+use ghs_pool::workers::{run_watched, run_workers};
+use ghs_protocol::event::Event;
+use ghs_report::net_text::net_text;
+use ghs_sched::run::RunEnd;
+use ghs_world::wake_set::WakeSet;
+use ghs_world::world::World;
+use std::alloc::{AllocError, Global};
+use std::process::Abort;
+use std::sync::Wait;
+use std::sync::atomic::{AtomicU64, Ordering};
+use std::test::*;
+use std::thread;
+use std::thread::Threads;
+
+const MOST_TURNS: u64 = 1 << 40;
+
+/// A graph, and the text of its run however it goes.
+#[derive(Clone, Copy, Drop)]
+struct Row {
+    graph: &'static str,
+    text: &'static str,
+}
+
+const SINGLE: Row = Row {
+    graph: "p sp 1 0",
+    text: "w 0\nm connect=0 initiate=0 test=0 accept=0 reject=0 report=0 changeroot=0\ns 0 0\n",
+};
+
+const PAIR: Row = Row {
+    graph: "p sp 2 2\na 1 2 5\na 2 1 5",
+    text: "t 1 2 5\nw 5\nm connect=2 initiate=2 test=0 accept=0 reject=0 report=2 changeroot=0\ns 6 12\n",
+};
+
+const PATH: Row = Row {
+    graph: "p sp 3 2\na 1 2 5\na 2 3 7",
+    text: "t 1 2 5\nt 2 3 7\nw 12\nm connect=3 initiate=3 test=1 accept=0 reject=1 report=3 changeroot=0\ns 11 19\n",
+};
+
+const TRIANGLE: Row = Row {
+    graph: "p sp 3 3\na 1 2 1\na 2 3 2\na 1 3 3",
+    text: "t 1 2 1\nt 2 3 2\nw 3\nm connect=3 initiate=3 test=3 accept=0 reject=1 report=3 changeroot=0\ns 13 21\n",
+};
+
+const EQUAL_WEIGHTS: Row = Row {
+    graph: "p sp 3 3\na 1 2 4\na 2 3 4\na 1 3 4",
+    text: "t 1 2 4\nt 1 3 4\nw 8\nm connect=3 initiate=3 test=3 accept=0 reject=1 report=3 changeroot=0\ns 13 21\n",
+};
+
+const TWO_PAIRS: Row = Row {
+    graph: "p sp 4 3\na 1 2 1\na 3 4 2\na 2 3 3",
+    text: "t 1 2 1\nt 3 4 2\nt 2 3 3\nw 6\nm connect=6 initiate=8 test=2 accept=2 reject=0 report=8 changeroot=0\ns 26 46\n",
+};
+
+const FIVE: Row = Row {
+    graph: "p sp 5 4\na 1 2 1\na 2 3 2\na 4 5 3\na 3 4 4",
+    text: "t 1 2 1\nt 2 3 2\nt 4 5 3\nt 3 4 4\nw 10\nm connect=7 initiate=10 test=3 accept=2 reject=1 report=10 changeroot=1\ns 34 58\n",
+};
+
+const IN_PIECES: Row = Row {
+    graph: "p sp 4 2\na 1 2 5\na 3 4 6",
+    text: "t 1 2 5\nt 3 4 6\nw 11\nm connect=4 initiate=4 test=0 accept=0 reject=0 report=4 changeroot=0\ns 12 44\n",
+};
+
+/// The opening world of the graph of a text.
+fn world_of(rt: &impl Abort, alloc: Global, text: &str, wake: WakeSet, turns: u64) -> World {
+    assert!(rt; turns >= 1 && turns <= MOST_TURNS);
+    let raw = judge(alloc, text.as_bytes()).ok().expect(rt, "a graph");
+    let graph = Graph::build(alloc, raw).ok().expect(rt, "ports");
+    World::open(alloc, graph, wake, turns)
+        .ok()
+        .expect(rt, "a world")
+}
+
+/// Whatever wakes, and with any number of workers, the run ends with the text.
+fn ends<R: Threads + Wait + Sync + Abort>(rt: &R, alloc: Global, row: &Row, wake: WakeSet) {
+    for workers in [1u32, 2, 8] {
+        assert!(rt; workers >= 1 && workers <= 64);
+        let world = world_of(rt, alloc, row.graph, wake, MOST_TURNS);
+        let (world, end) = run_workers(rt, alloc, world, workers, &OpenGate);
+        assert!(rt; end.is_ok());
+        let text = net_text(alloc, world.net()).ok().expect(rt, "a text");
+        assert_eq!(rt; text.as_slice(), row.text.as_bytes());
+    }
+}
+
+#[test]
+fn every_run_has_its_text(rt: HostRuntime) {
+    let rows = [
+        SINGLE,
+        PAIR,
+        PATH,
+        TRIANGLE,
+        EQUAL_WEIGHTS,
+        TWO_PAIRS,
+        FIVE,
+        IN_PIECES,
+    ];
+    for row in rows.iter() {
+        ends(&rt, rt.alloc(), row, WakeSet::All);
+        ends(&rt, rt.alloc(), row, WakeSet::First);
+    }
+}
+
+// A body that only looks over the nodes would take at node 1 before it takes at node 2 again.
+#[test]
+fn one_worker_serves_from_the_queue(rt: HostRuntime) {
+    let world = world_of(&rt, rt.alloc(), PAIR.graph, WakeSet::All, MOST_TURNS);
+    let (world, end) = run_workers(&rt, rt.alloc(), world, 1, &OpenGate);
+    assert_eq!(rt; end, Ok(RunEnd::Halted(1)));
+    let events = [
+        Event::Wake(1),
+        Event::Wake(2),
+        Event::Take(1, 0),
+        Event::Take(2, 0),
+        Event::Take(2, 0),
+        Event::Take(1, 0),
+        Event::Take(1, 0),
+    ];
+    assert!(rt; world.trace() == events.as_slice());
+}
+
+// Does events, and leaves one more out.
+fn begin(rt: &impl Abort, alloc: Global, world: &mut World) {
+    for v in [2, 4] {
+        let ticket = world.check_out(alloc, Event::Wake(v)).ok();
+        let step = ticket.expect(rt, "a ticket").perform(alloc).ok();
+        assert!(rt; world.commit(alloc, step.expect(rt, "a step")).is_ok());
+    }
+    assert!(rt; world.check_out(alloc, Event::Wake(1)).is_ok());
+}
+
+#[test]
+fn a_run_goes_on_from_its_world(rt: HostRuntime) {
+    let alloc = rt.alloc();
+    for workers in [1u32, 2, 8] {
+        assert!(rt; workers >= 1 && workers <= 64);
+        let mut world = world_of(&rt, alloc, FIVE.graph, WakeSet::All, MOST_TURNS);
+        begin(&rt, alloc, &mut world);
+        let (world, end) = run_workers(&rt, alloc, world, workers, &OpenGate);
+        assert!(rt; end.is_ok());
+        let first = [Event::Wake(2), Event::Wake(4)];
+        assert!(rt; world.trace().starts_with(first.as_slice()));
+        assert_eq!(rt; world.out_count(), 0);
+    }
+}
+
+#[test]
+fn turns_end_a_run(rt: HostRuntime) {
+    for workers in [1u32, 2, 8] {
+        assert!(rt; workers >= 1 && workers <= 64);
+        let world = world_of(&rt, rt.alloc(), PATH.graph, WakeSet::All, 3);
+        let (world, end) = run_workers(&rt, rt.alloc(), world, workers, &OpenGate);
+        assert_eq!(rt; end, Err(PoolFault::TurnLimit));
+        assert_eq!(rt; world.trace().len(), 3);
+    }
+}
+
+// Holds ticket 1 until ticket 2 is out, and notes that it came.
+#[derive(Drop)]
+struct Hold {
+    second: AtomicU64,
+    noted: AtomicU64,
+}
+
+impl Gate for Hold {
+    fn between(&self, ticket: u64) {
+        if ticket == 2 {
+            self.second.store(1, Ordering::SeqCst);
+        }
+        if ticket == 1 {
+            for _ in 0..100_000_000u64 {
+                if self.second.load(Ordering::SeqCst) == 1 {
+                    self.noted.store(1, Ordering::SeqCst);
+                    break;
+                }
+            }
+        }
+    }
+}
+
+#[test]
+fn two_nodes_are_out_at_once(rt: HostRuntime) {
+    let gate = Hold {
+        second: AtomicU64::new(0),
+        noted: AtomicU64::new(0),
+    };
+    let world = world_of(&rt, rt.alloc(), PAIR.graph, WakeSet::All, MOST_TURNS);
+    let (_, end) = run_workers(&rt, rt.alloc(), world, 2, &gate);
+    assert_eq!(rt; end, Ok(RunEnd::Halted(1)));
+    assert_eq!(rt; gate.noted.load(Ordering::SeqCst), 1);
+}
+
+// Counts the tickets that were performed.
+#[derive(Drop)]
+struct Count {
+    tickets: AtomicU64,
+}
+
+impl Gate for Count {
+    fn between(&self, _ticket: u64) {
+        self.tickets.fetch_add(1, Ordering::SeqCst);
+    }
+}
+
+// A star of node 1 and of leaves from node 2 on, each link as heavy as its leaf's number.
+fn star(alloc: Global, nodes: u32) -> Result<Vec<u8>, AllocError> {
+    let mut text = Vec::from_slice(alloc, b"p sp ")?;
+    put_number(&mut text, nodes as u128)?;
+    text.push(b' ')?;
+    put_number(&mut text, nodes.saturating_sub(1) as u128)?;
+    for leaf in 2..=nodes {
+        text.extend_from_slice(b"\na 1 ")?;
+        put_number(&mut text, leaf as u128)?;
+        text.push(b' ')?;
+        put_number(&mut text, leaf as u128)?;
+    }
+    Ok(text)
+}
+
+// The events of a node of more than 1,024 ports are made at once: no ticket carries it.
+#[test]
+fn a_hub_acts_without_tickets(rt: HostRuntime) {
+    let alloc = rt.alloc();
+    let text = star(alloc, 1_101).expect(&rt, "a text");
+    let text = std::str::from_utf8(&text).expect(&rt, "plain letters");
+    for workers in [1u32, 2, 8] {
+        assert!(rt; workers >= 1 && workers <= 64);
+        let gate = Count {
+            tickets: AtomicU64::new(0),
+        };
+        let world = world_of(&rt, alloc, text, WakeSet::All, MOST_TURNS);
+        let (world, end) = run_workers(&rt, alloc, world, workers, &gate);
+        assert_eq!(rt; end, Ok(RunEnd::Halted(1)));
+        let branches = world.branches(alloc).expect(&rt, "links");
+        assert_eq!(rt; branches.len(), 1_100);
+        let is_of_hub = |event: &&Event| matches!(event, Event::Wake(1) | Event::Take(1, _));
+        let at_hub = world.trace().iter().filter(is_of_hub).count();
+        let tickets = gate.tickets.load(Ordering::SeqCst);
+        assert_eq!(rt;
+            tickets.saturating_add(at_hub as u64),
+            world.trace().len() as u64
+        );
+    }
+}
+
+const NONE_YET: Progress = Progress {
+    commits: 0,
+    halted: false,
+};
+
+// Holds ticket 3 until a reader has seen a pair of a run under way, and notes that it came. Of two workers' tickets one of
+// the first two is committed before the third goes out.
+#[derive(Drop)]
+struct Meet {
+    seen: AtomicU64,
+    noted: AtomicU64,
+}
+
+impl Gate for Meet {
+    fn between(&self, ticket: u64) {
+        if ticket == 3 {
+            for _ in 0..10_000_000u64 {
+                if self.seen.load(Ordering::SeqCst) == 1 {
+                    self.noted.store(1, Ordering::SeqCst);
+                    break;
+                }
+                thread::yield_now();
+            }
+        }
+    }
+}
+
+// Reads until the run has ended.
+fn watch(board: &Board, mut reader: Reader, gate: &Meet) -> Reader
+    requires { reader.table ≡ board.now }
+    ensures { result.table ≡ board.now }
+{
+    for _ in 0..10_000_000u64 {
+        let pair = board.read(&mut reader);
+        if pair.halted {
+            break;
+        }
+        if pair.commits > 0 {
+            gate.seen.store(1, Ordering::SeqCst);
+        }
+        thread::yield_now();
+    }
+    reader
+}
+
+#[test]
+fn a_shop_tells_of_each_commit(rt: HostRuntime) {
+    let alloc = rt.alloc();
+    let (_board, publisher, _reader) = Board::open(alloc, NONE_YET).expect(&rt, "a board");
+    let mut world = world_of(&rt, alloc, PAIR.graph, WakeSet::All, MOST_TURNS);
+    let step = world.check_out(alloc, Event::Wake(1)).ok();
+    let step = step.expect(&rt, "a ticket").perform(alloc).ok();
+    let mut shop = Shop::open(world, publisher).ok().expect(&rt, "a shop");
+    assert!(rt; shop.commit(alloc, step.expect(&rt, "a step")).is_ok());
+    assert!(rt; !shop.ended() && shop.out_count() == 0);
+    let (world, publisher) = shop.close();
+    assert_eq!(rt;
+        publisher.last(),
+        Progress {
+            commits: 1,
+            halted: false
+        }
+    );
+    let (_board, publisher, _reader) = Board::open(alloc, NONE_YET).expect(&rt, "a board");
+    assert!(rt; Shop::open(world, publisher).is_err());
+}
+
+// Two threads read while two workers run, each until the end: one finds a pair on the way, and then each the world's.
+fn run_beside_readers<R: Threads + Wait + Sync + Abort>(rt: &R, alloc: Global) {
+    let (board, publisher, mut first) = Board::open(alloc, NONE_YET).expect(rt, "a board");
+    let second = board.split(alloc, &mut first).expect(rt, "a reader");
+    let world = world_of(rt, alloc, FIVE.graph, WakeSet::All, MOST_TURNS);
+    let Ok(shop) = Shop::open(world, publisher) else {
+        panic!(rt; "an opening pair");
+    };
+    let (world, publisher) = shop.close();
+    let meet = Meet {
+        seen: AtomicU64::new(0),
+        noted: AtomicU64::new(0),
+    };
+    let (lent, gate) = (&board, &meet);
+    let readers = move || -> (Reader, Reader)
+        requires { (first.table ≡ lent.now) × (second.table ≡ lent.now) }
+        ensures { (result.0.table ≡ lent.entry.now) × (result.1.table ≡ lent.entry.now) }
+    {
+        thread::join(
+            rt,
+            move || -> Reader
+                requires { first.table ≡ lent.now }
+                ensures { result.table ≡ lent.entry.now }
+            { watch(lent, first, gate) },
+            move || -> Reader
+                requires { second.table ≡ lent.now }
+                ensures { result.table ≡ lent.entry.now }
+            { watch(lent, second, gate) },
+        )
+    };
+    let ((world, publisher, end), (mut first, mut second)) = thread::join(
+        rt,
+        move || -> (World, Publisher, Result<RunEnd, PoolFault>)
+            requires { IsTold world publisher }
+        { run_watched(rt, alloc, world, 2, gate, publisher) },
+        readers,
+    );
+    assert!(rt; end.is_ok());
+    assert_eq!(rt; meet.noted.load(Ordering::SeqCst), 1);
+    let last = publisher.last();
+    assert!(rt; last.halted && last.commits == world.trace().len() as u64);
+    assert_eq!(rt; board.read(&mut first), last);
+    assert_eq!(rt; board.read(&mut second), last);
+}
+
+#[test]
+fn readers_see_the_run_and_its_end(rt: HostRuntime) {
+    run_beside_readers(&rt, rt.alloc());
+}

@@ -1,0 +1,159 @@
+//! Graph texts, graphs and what is laid out for them.
+use crate::refusing::{Turn, assert_some, order, refuse_each, turn_of};
+use ghs_flags::flags::Flags;
+use ghs_gr::device::Device;
+use ghs_gr::fault::GrFault;
+use ghs_gr::judgement::{judge, read_gr};
+use ghs_gr::raw_graph::RawGraph;
+use ghs_gr::text::{TextFault, read_text};
+use ghs_graph::classes::Classes;
+use ghs_graph::graph::Graph;
+use ghs_graph::graph_fault::GraphFault;
+use ghs_graph::spanning::span_raw;
+use ghs_graph::tree::{tree_of, tree_slow};
+use ghs_index::index::Index;
+use ghs_links::links::Links;
+use std::alloc::Global;
+use std::process::Abort;
+use std::test::Fail;
+
+/// Five nodes in a row.
+pub const FIVE: &str = "p sp 5 4\na 1 2 1\na 2 3 2\na 4 5 3\na 3 4 4";
+
+/// The keys of its links: weight, smaller end, larger end.
+const KEYS: [(u32, u32, u32); 4] = [(1, 1, 2), (2, 2, 3), (3, 4, 5), (4, 3, 4)];
+
+/// The graph of the five nodes as its text gives it.
+fn raw_five(rt: &impl Abort, alloc: Global) -> RawGraph {
+    judge(alloc, FIVE.as_bytes()).ok().expect(rt, "a graph")
+}
+
+fn is_raw_five(raw: &RawGraph) -> bool {
+    raw.nodes() == 5 && raw.keys() == KEYS.as_slice()
+}
+
+/// The graph of the five nodes.
+pub fn five(rt: &impl Abort, alloc: Global) -> Graph {
+    Graph::build(alloc, raw_five(rt, alloc))
+        .ok()
+        .expect(rt, "ports")
+}
+
+/// Whether this is the graph of the five nodes.
+pub fn is_five(rt: &impl Abort, alloc: Global, graph: &Graph) -> bool {
+    graph.same(&five(rt, alloc))
+}
+
+/// Bytes that were taken from the reader are gone; read again, the text is whole.
+fn read_bytes(rt: &impl Abort, alloc: Global, k: usize) -> Turn {
+    let mut rest = FIVE.as_bytes();
+    order(alloc, k);
+    let answer = read_text(alloc, &mut Device::of(&mut rest));
+    let turn = turn_of(alloc, k, &answer);
+    match answer {
+        Ok(text) => assert!(rt; text.as_slice() == FIVE.as_bytes()),
+        Err(fault) => assert!(rt; fault == TextFault::Memory && FIVE.as_bytes().ends_with(rest)),
+    }
+    turn
+}
+
+fn read_graph(rt: &impl Abort, alloc: Global, k: usize) -> Turn {
+    let mut rest = FIVE.as_bytes();
+    order(alloc, k);
+    let answer = read_gr(alloc, &mut Device::of(&mut rest));
+    let turn = turn_of(alloc, k, &answer);
+    match answer {
+        Ok(raw) => assert!(rt; is_raw_five(&raw)),
+        Err(fault) => assert!(rt; fault == GrFault::Memory && FIVE.as_bytes().ends_with(rest)),
+    }
+    turn
+}
+
+/// What was given comes back, and is built then.
+fn build(rt: &impl Abort, alloc: Global, k: usize) -> Turn {
+    let raw = raw_five(rt, alloc);
+    order(alloc, k);
+    let answer = Graph::build(alloc, raw);
+    let turn = turn_of(alloc, k, &answer);
+    match answer {
+        Ok(graph) => assert!(rt; is_five(rt, alloc, &graph)),
+        Err((raw, GraphFault::Memory)) => {
+            assert!(rt; is_raw_five(&raw));
+            assert!(rt; Graph::build(alloc, raw).is_ok());
+        }
+    }
+    turn
+}
+
+/// What is made of texts and graphs, and leaves them as they were.
+#[derive(Clone, Copy)]
+enum Made {
+    Raw,
+    Copy,
+    Spanning,
+    Tree,
+    SlowTree,
+    Classes,
+    Firsts,
+    Flags,
+    Links,
+    Index,
+}
+
+fn make(rt: &impl Abort, alloc: Global, made: Made, k: usize) -> Turn {
+    let raw = raw_five(rt, alloc);
+    let graph = five(rt, alloc);
+    let classes = Classes::fresh(alloc, 6).expect(rt, "memory");
+    order(alloc, k);
+    let turn = match made {
+        Made::Raw => turn_of(alloc, k, &judge(alloc, FIVE.as_bytes())),
+        Made::Copy => turn_of(alloc, k, &graph.copy(alloc)),
+        Made::Spanning => turn_of(alloc, k, &span_raw(alloc, &raw)),
+        Made::Tree => turn_of(alloc, k, &tree_of(alloc, &raw)),
+        Made::SlowTree => turn_of(alloc, k, &tree_slow(alloc, &graph)),
+        Made::Classes => turn_of(alloc, k, &Classes::fresh(alloc, 6)),
+        Made::Firsts => turn_of(alloc, k, &classes.firsts(alloc)),
+        Made::Flags => turn_of(alloc, k, &Flags::lowered(alloc, 1000)),
+        Made::Links => turn_of(alloc, k, &Links::new(alloc, &graph)),
+        Made::Index => turn_of(alloc, k, &Index::none(alloc, &graph)),
+    };
+    assert!(rt; is_raw_five(&raw) && is_five(rt, alloc, &graph));
+    turn
+}
+
+#[test]
+fn graphs(host: HostRuntime) -> Result<(), Fail> {
+    let (rt, alloc) = (&host, host.alloc());
+    let count = refuse_each(rt, alloc, |k| read_bytes(rt, alloc, k));
+    assert_some(rt, alloc, count);
+    println!(host; "refused read_text {} {}", count.refused, count.spared)?;
+    let count = refuse_each(rt, alloc, |k| read_graph(rt, alloc, k));
+    assert_some(rt, alloc, count);
+    println!(host; "refused read_gr {} {}", count.refused, count.spared)?;
+    let count = refuse_each(rt, alloc, |k| build(rt, alloc, k));
+    assert_some(rt, alloc, count);
+    println!(host; "refused Graph::build {} {}", count.refused, count.spared)?;
+    Ok(())
+}
+
+#[test]
+fn what_is_made_of_graphs(host: HostRuntime) -> Result<(), Fail> {
+    let (rt, alloc) = (&host, host.alloc());
+    for (name, made) in [
+        ("judge", Made::Raw),
+        ("Graph::copy", Made::Copy),
+        ("span_raw", Made::Spanning),
+        ("tree_of", Made::Tree),
+        ("tree_slow", Made::SlowTree),
+        ("Classes::fresh", Made::Classes),
+        ("Classes::firsts", Made::Firsts),
+        ("Flags::lowered", Made::Flags),
+        ("Links::new", Made::Links),
+        ("Index::none", Made::Index),
+    ] {
+        let count = refuse_each(rt, alloc, |k| make(rt, alloc, made, k));
+        assert_some(rt, alloc, count);
+        println!(host; "refused {name} {} {}", count.refused, count.spared)?;
+    }
+    Ok(())
+}

@@ -1,0 +1,15 @@
+//! Each allocation of each call refused in turn, and what stands then. Tests alone.
+#![tactic(auto)]
+
+#[cfg(test)]
+mod graphs;
+#[cfg(test)]
+mod nets;
+#[cfg(test)]
+mod refusing;
+#[cfg(test)]
+mod runs;
+#[cfg(test)]
+mod shared;
+#[cfg(test)]
+mod worlds;

@@ -1,0 +1,5 @@
+//! Worked examples of step texts.
+#![tactic(auto)]
+
+#[cfg(test)]
+mod steps;

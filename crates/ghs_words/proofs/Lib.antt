@@ -1,0 +1,5 @@
+-- Serves the proofs: nothing here has to be believed.
+mod Commands
+mod Numbers
+mod Said
+mod WordExamples

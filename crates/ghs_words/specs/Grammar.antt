@@ -1,0 +1,114 @@
+-- The words that the program takes.
+use Rattle.std.specs.Prelude.{codes, [], ◌∷◌, Some, true}
+use Rattle.clap.specs.declared.builder.action.ArgAction.TheVariants.{SetTrue}
+use Rattle.clap.specs.Words.{App, Rule, Text, new_app, new_rule, with_rule, with_subcommand}
+
+-- FILE: the graph
+abbrev pub file_rule : Rule
+file_rule = new_rule (codes "FILE")
+
+-- TRACE: the stored run
+abbrev pub trace_rule : Rule
+trace_rule = record (new_rule (codes "TRACE")) { required = true }
+
+-- `--NAME VALUE`, and the value where it isn't given
+abbrev pub option_rule : Text → Text → Rule
+option_rule name default = record (new_rule name) { long = Some name; defaults = default ∷ [] }
+
+-- `--seed`: which schedule picks the events
+abbrev pub seed_rule : Rule
+seed_rule = option_rule (codes "seed") (codes "1")
+
+-- `--seeds`: whose schedules pick the runs of a sweep
+abbrev pub seeds_rule : Rule
+seeds_rule = record (new_rule (codes "seeds")) { long = Some (codes "seeds"); required = true }
+
+-- `--schedule`: among which events it picks them
+abbrev pub schedule_rule : Rule
+schedule_rule = option_rule (codes "schedule") (codes "seeded")
+
+-- `--workers`: how many threads take part
+abbrev pub workers_rule : Rule
+workers_rule = option_rule (codes "workers") (codes "0")
+
+-- `--turns`: how many events there may be
+abbrev pub turns_rule : Rule
+turns_rule = option_rule (codes "turns") (codes "1099511627776")
+
+-- `--print`: what of a run is printed
+abbrev pub print_rule : Rule
+print_rule = option_rule (codes "print") (codes "report")
+
+-- `--print` of a sweep, whose values are others: what of it is printed
+abbrev pub sheet_rule : Rule
+sheet_rule = record (new_rule (codes "sheet")) { long = Some (codes "print"); defaults = codes "runs" ∷ [] }
+
+-- `--from`, `--to`: the numbers of the first and of the last event that are shown
+abbrev pub from_rule : Rule
+from_rule = option_rule (codes "from") (codes "1")
+
+abbrev pub to_rule : Rule
+to_rule = option_rule (codes "to") (codes "1099511627776")
+
+-- `--node`: whose events are shown
+abbrev pub node_rule : Rule
+node_rule = record (new_rule (codes "node")) { long = Some (codes "node") }
+
+-- `--json`: whether the lines are JSON
+abbrev pub json_rule : Rule
+json_rule = record (new_rule (codes "json")) { long = Some (codes "json"); action = Some SetTrue }
+
+-- `--trace`: the stored run, where one is shown
+abbrev pub stored_rule : Rule
+stored_rule = record (new_rule (codes "TRACE")) { long = Some (codes "trace") }
+
+-- `--progress`: whether it is told how far the run has come
+abbrev pub progress_rule : Rule
+progress_rule = record (new_rule (codes "progress")) { long = Some (codes "progress"); action = Some SetTrue }
+
+-- `--wake`: which nodes wake by themselves
+abbrev pub wake_rule : Rule
+wake_rule = option_rule (codes "wake") (codes "all")
+
+-- `tree [FILE]`
+abbrev pub tree_command : App
+tree_command = with_rule (new_app (codes "tree")) file_rule
+
+-- `run [FILE] [--seed S] [--schedule seeded|patient] [--workers W] [--wake all|first] [--turns T] [--print report|trace] [--progress]`
+abbrev pub run_command : App
+run_command =
+    let named = with_rule (new_app (codes "run")) file_rule in
+    let numbered = with_rule (with_rule (with_rule named seed_rule) schedule_rule) workers_rule in
+    with_rule (with_rule (with_rule (with_rule numbered wake_rule) turns_rule) print_rule) progress_rule
+
+-- `replay TRACE [FILE] [--wake all|first]`
+abbrev pub replay_command : App
+replay_command = with_rule (with_rule (with_rule (new_app (codes "replay")) trace_rule) file_rule) wake_rule
+
+-- `steps TRACE [FILE] [--wake all|first] [--from A] [--to B] [--node V] [--json]`
+abbrev pub steps_command : App
+steps_command =
+    let stored = with_rule (with_rule (with_rule (new_app (codes "steps")) trace_rule) file_rule) wake_rule in
+    with_rule (with_rule (with_rule (with_rule stored from_rule) to_rule) node_rule) json_rule
+
+-- `sweep [FILE] --seeds FIRST..LAST [--schedule seeded|patient] [--workers W] [--wake all|first] [--turns T] [--print runs|summary] [--progress]`
+abbrev pub sweep_command : App
+sweep_command =
+    let named = with_rule (with_rule (new_app (codes "sweep")) file_rule) seeds_rule in
+    let picked = with_rule (with_rule (with_rule (with_rule named schedule_rule) workers_rule) wake_rule) turns_rule in
+    with_rule (with_rule picked sheet_rule) progress_rule
+
+-- `view [FILE] [--seed S] [--schedule seeded|patient] [--wake all|first] [--turns T] [--trace TRACE] [--from A] [--to B]`
+abbrev pub view_command : App
+view_command =
+    let named = with_rule (new_app (codes "view")) file_rule in
+    let picked = with_rule (with_rule (with_rule (with_rule named seed_rule) schedule_rule) wake_rule) turns_rule in
+    with_rule (with_rule (with_rule picked stored_rule) from_rule) to_rule
+
+-- the program's command line: its name and one of its commands
+unfoldable pub program : App
+program =
+    let networks = with_subcommand (with_subcommand (new_app (codes "ghs")) tree_command.top) run_command.top in
+    let stored = with_subcommand (with_subcommand networks replay_command.top) steps_command.top in
+    let a = with_subcommand (with_subcommand stored sweep_command.top) view_command.top in
+    record a { top = record a.top { subcommand_required = true } }

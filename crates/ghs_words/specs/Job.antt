@@ -1,0 +1,230 @@
+-- Command lines: what the words of the program ask for, and what is said of others.
+use Rattle.std.specs.Prelude.{◌≡◌, ◌≢◌, ◌↔◌, ℕ, ◌≤◌, Bool, true, ◌&&◌, codes, List, [], ◌∷◌, Option, Some, None, unwrap_or, if◌then◌else◌}
+use Rattle.std.specs.Option.{option_and_then, option_map}
+use Rattle.clap.specs.Kinds.{Kinds, IsAmong, or_else}
+use Rattle.clap.specs.Words.{Row, Text, fault_of, first_of, subcommand_of}
+use Rattle.clap.specs.declared.error.kind.ErrorKind.{ErrorKind}
+use Rattle.clap.specs.declared.error.kind.ErrorKind.TheVariants as kind
+use Rattle.ghs_patient.specs.declared.picking.Picking.{Picking}
+use Rattle.ghs_patient.specs.declared.picking.Picking.TheVariants.{Patient}
+use Rattle.ghs_sched.specs.declared.trace.TheConstants.{EVENT_LIMIT}
+use Rattle.ghs_world.specs.declared.wake_set.WakeSet.{WakeSet}
+use Rattle.ghs_world.specs.declared.wake_set.WakeSet.TheVariants.{First}
+use Rattle.ghs_words.specs.Grammar.{program}
+use Rattle.ghs_words.specs.declared.job.JobFault.{JobFault}
+use Rattle.ghs_words.specs.declared.job.JobFault.TheVariants as fault
+use Rattle.ghs_steps.specs.declared.form.Form.{Form}
+use Rattle.ghs_steps.specs.declared.form.Form.TheVariants.{Json}
+use Rattle.ghs_words.specs.declared.job.RunOptions.{RunOptions}
+use Rattle.ghs_words.specs.declared.job.Sheet.{Sheet}
+use Rattle.ghs_words.specs.declared.job.Sheet.TheVariants.{Summary}
+use Rattle.ghs_words.specs.declared.job.Show.{Show}
+use Rattle.ghs_words.specs.declared.job.Show.TheVariants.{Events}
+use Rattle.ghs_words.specs.declared.job.StepsOptions.{StepsOptions}
+use Rattle.ghs_words.specs.declared.job.StoredViewOptions.{StoredViewOptions}
+use Rattle.ghs_words.specs.declared.job.SweepOptions.{SweepOptions}
+use Rattle.ghs_words.specs.declared.job.TheConstants.{MOST_WORKERS}
+use Rattle.ghs_words.specs.declared.job.Task.{Task}
+use Rattle.ghs_words.specs.declared.job.Task.TheVariants as task
+use Rattle.ghs_words.specs.declared.job.ViewOptions.{ViewOptions}
+use Rattle.ghs_words.specs.declared.values.Seeds.{Seeds}
+use Rattle.ghs_words.specs.Values.{AreSeeds, is_among, is_number, is_range, number_in, seeds_of}
+
+-- the words of a command line, with the program's name before them
+abbrev pub with_name : List Text → List Text
+with_name words = codes "ghs" ∷ words
+
+-- a command, and what was read for it
+abbrev pub Used : Type 0
+Used = Option (Text × List Row)
+
+-- the command that the words name
+abbrev pub command_in : List Text → Used
+command_in words = subcommand_of program (with_name words)
+
+-- its name
+abbrev pub name_in : Used → Option Text
+name_in command = option_map (λ p. p.0) command
+
+-- the value that one of its arguments has
+abbrev pub value_in : Text → Used → Option Text
+value_in id command = option_and_then (λ p. first_of id p.1) command
+
+-- the wake set that `--wake` names; a choice has one of two values, or the words are refused
+abbrev pub IsWake : Used → WakeSet → Type 0
+IsWake command wake = (wake ≡ First) ↔ (value_in (codes "wake") command ≡ Some (codes "first"))
+
+-- what of a run is printed, as `--print` says
+abbrev pub IsShow : Used → Show → Type 0
+IsShow command show = (show ≡ Events) ↔ (value_in (codes "print") command ≡ Some (codes "trace"))
+
+-- what of a sweep is printed, as its `--print` says
+abbrev pub IsSheet : Used → Sheet → Type 0
+IsSheet command sheet = (sheet ≡ Summary) ↔ (value_in (codes "sheet") command ≡ Some (codes "summary"))
+
+-- among which events a schedule picks, as `--schedule` says
+abbrev pub IsPicking : Used → Picking → Type 0
+IsPicking command picking = (picking ≡ Patient) ↔ (value_in (codes "schedule") command ≡ Some (codes "patient"))
+
+-- whether it is told how far the run has come, as `--progress` says, which has no value of its own
+abbrev pub IsToldOf : Used → Bool → Type 0
+IsToldOf command progress = (progress ≡ true) ↔ (value_in (codes "progress") command ≡ Some (codes "true"))
+
+-- the form of the lines, as `--json` says, which has no value of its own
+abbrev pub IsForm : Used → Form → Type 0
+IsForm command form = (form ≡ Json) ↔ (value_in (codes "json") command ≡ Some (codes "true"))
+
+-- the number that an option of the command has; it has one in its range, or the words are refused
+abbrev pub number_at : Text → ℕ → ℕ → Used → ℕ
+number_at id low high command = unwrap_or (option_and_then (number_in low high) (value_in id command)) low
+
+abbrev pub seed_in : Used → ℕ
+seed_in = number_at (codes "seed") 0 18446744073709551615
+
+abbrev pub workers_in : Used → ℕ
+workers_in = number_at (codes "workers") 0 MOST_WORKERS
+
+abbrev pub turns_in : Used → ℕ
+turns_in = number_at (codes "turns") 1 EVENT_LIMIT
+
+-- the first and the last event that are shown
+abbrev pub from_in : Used → ℕ
+from_in = number_at (codes "from") 1 EVENT_LIMIT
+
+abbrev pub to_in : Used → ℕ
+to_in = number_at (codes "to") 1 EVENT_LIMIT
+
+-- the node that `--node` names
+abbrev pub node_in : Used → Option ℕ
+node_in command = option_and_then (number_in 1 4294967295) (value_in (codes "node") command)
+
+-- the seeds that `--seeds` names; a sweep has some, or the words are refused
+abbrev pub seeds_at : Used → Seeds
+seeds_at command = unwrap_or (option_and_then seeds_of (value_in (codes "seeds") command)) (record { first = 0; last = 0 })
+
+-- how a command asks for a network to be run
+pub record AreOptions (command : Used) (o : RunOptions) : Type 0 where
+  pub seed : o.seed ≡ seed_in command
+  pub picking : IsPicking command o.picking
+  pub workers : o.workers ≡ workers_in command
+  pub wake : IsWake command o.wake
+  pub turns : o.turns ≡ turns_in command
+  pub show : IsShow command o.show
+  pub progress : IsToldOf command o.progress
+
+-- which runs a command asks to be swept
+pub record AreSweepOptions (command : Used) (o : SweepOptions) : Type 0 where
+  pub seeds : o.seeds ≡ seeds_at command
+  pub picking : IsPicking command o.picking
+  pub workers : o.workers ≡ workers_in command
+  pub wake : IsWake command o.wake
+  pub turns : o.turns ≡ turns_in command
+  pub sheet : IsSheet command o.sheet
+  pub progress : IsToldOf command o.progress
+
+-- which steps a command asks to be shown
+pub record AreStepsOptions (command : Used) (o : StepsOptions) : Type 0 where
+  pub wake : IsWake command o.wake
+  pub from : o.choice.from ≡ from_in command
+  pub to : o.choice.to ≡ to_in command
+  pub node : o.choice.node ≡ node_in command
+  pub form : IsForm command o.form
+
+-- which page a command asks for: of the run that a seed picks, or of a stored one
+pub record AreViewOptions (command : Used) (o : ViewOptions) : Type 0 where
+  pub seed : o.seed ≡ seed_in command
+  pub picking : IsPicking command o.picking
+  pub wake : IsWake command o.wake
+  pub turns : o.turns ≡ turns_in command
+  pub from : o.from ≡ from_in command
+  pub to : o.to ≡ to_in command
+
+pub record AreStoredViewOptions (command : Used) (o : StoredViewOptions) : Type 0 where
+  pub wake : IsWake command o.wake
+  pub from : o.from ≡ from_in command
+  pub to : o.to ≡ to_in command
+
+-- it has another name than these
+pub record IsNoOther (command : Used) : Type 0 where
+  pub run : name_in command ≢ Some (codes "run")
+  pub replay : name_in command ≢ Some (codes "replay")
+  pub steps : name_in command ≢ Some (codes "steps")
+  pub sweep : name_in command ≢ Some (codes "sweep")
+  pub view : name_in command ≢ Some (codes "view")
+
+-- the task that a command asks for
+abbrev pub IsTask : Used → Task → Type 0
+IsTask command task.Tree = IsNoOther command
+IsTask command (task.Run options) = (name_in command ≡ Some (codes "run")) × AreOptions command options
+IsTask command (task.Replay wake) = (name_in command ≡ Some (codes "replay")) × IsWake command wake
+IsTask command (task.Steps options) = (name_in command ≡ Some (codes "steps")) × AreStepsOptions command options
+IsTask command (task.Sweep options) = (name_in command ≡ Some (codes "sweep")) × AreSweepOptions command options
+IsTask command (task.View options) = (name_in command ≡ Some (codes "view")) × (value_in (codes "TRACE") command ≡ None) × AreViewOptions command options
+IsTask command (task.StoredView options) = (name_in command ≡ Some (codes "view")) × (value_in (codes "TRACE") command ≢ None) × AreStoredViewOptions command options
+
+-- numbers are within their limits
+pub record AreWithinLimits (o : RunOptions) : Type 0 where
+  pub workers : o.workers ≤ MOST_WORKERS
+  pub some : 1 ≤ o.turns
+  pub few : o.turns ≤ EVENT_LIMIT
+
+pub record AreSweepLimits (o : SweepOptions) : Type 0 where
+  pub seeds : AreSeeds o.seeds
+  pub workers : o.workers ≤ MOST_WORKERS
+  pub some : 1 ≤ o.turns
+  pub few : o.turns ≤ EVENT_LIMIT
+
+pub record AreViewLimits (o : ViewOptions) : Type 0 where
+  pub some : 1 ≤ o.turns
+  pub few : o.turns ≤ EVENT_LIMIT
+
+-- a task's numbers are
+abbrev pub IsWithinLimits : Task → Type 0
+IsWithinLimits task.Tree = Unit {0}
+IsWithinLimits (task.Run options) = AreWithinLimits options
+IsWithinLimits (task.Replay wake) = Unit {0}
+IsWithinLimits (task.Steps options) = Unit {0}
+IsWithinLimits (task.Sweep options) = AreSweepLimits options
+IsWithinLimits (task.View options) = AreViewLimits options
+IsWithinLimits (task.StoredView options) = Unit {0}
+
+-- each option of the command has a value that it may have
+abbrev pub has_values : Used → Bool
+has_values command =
+    is_among (codes "all" ∷ codes "first" ∷ []) (value_in (codes "wake") command)
+    && is_among (codes "report" ∷ codes "trace" ∷ []) (value_in (codes "print") command)
+    && is_among (codes "runs" ∷ codes "summary" ∷ []) (value_in (codes "sheet") command)
+    && is_among (codes "seeded" ∷ codes "patient" ∷ []) (value_in (codes "schedule") command)
+    && is_number 0 18446744073709551615 (value_in (codes "seed") command)
+    && is_number 0 MOST_WORKERS (value_in (codes "workers") command)
+    && is_number 1 EVENT_LIMIT (value_in (codes "turns") command)
+    && is_number 1 EVENT_LIMIT (value_in (codes "from") command)
+    && is_number 1 EVENT_LIMIT (value_in (codes "to") command)
+    && is_number 1 4294967295 (value_in (codes "node") command)
+    && is_range (value_in (codes "seeds") command)
+
+-- what is wrong with the values of a command's options
+abbrev pub option_kinds : Used → Kinds
+option_kinds command = if has_values command then [] else kind.InvalidValue ∷ []
+
+-- why the words are no command line of the program; nothing where they are one
+abbrev pub kinds_of : List Text → Kinds
+kinds_of words = or_else (fault_of program (with_name words)) (option_kinds (command_in words))
+
+-- help is for those who ask for it, a refusal for every other fault of the words; memory may always be wanting
+abbrev pub IsSaidOf : Kinds → JobFault → Type 0
+IsSaidOf kinds (fault.Help text) = IsAmong kind.DisplayHelp kinds
+IsSaidOf kinds (fault.Refused text) = (k : ErrorKind) × IsAmong k kinds × (k ≢ kind.DisplayHelp)
+IsSaidOf kinds fault.Memory = Unit {0}
+
+-- what is said of a fault of this kind
+abbrev pub IsSaid : ErrorKind → JobFault → Type 0
+IsSaid k (fault.Help text) = k ≡ kind.DisplayHelp
+IsSaid k (fault.Refused text) = (k ≢ kind.DisplayHelp) × (k ≢ kind.OutOfMemory)
+IsSaid k fault.Memory = Unit {0}
+
+-- a refusal, or want of memory
+abbrev pub IsRefused : JobFault → Type 0
+IsRefused (fault.Help text) = ⊥
+IsRefused (fault.Refused text) = Unit {0}
+IsRefused fault.Memory = Unit {0}

@@ -1,0 +1,315 @@
+//! The words that the program takes.
+ghost use Rattle.clap.specs.Words.{app_of, rule_of};
+ghost use Rattle.clap.specs.declared.builder.command.Command.TheViews.{out-Command};
+ghost use Rattle.ghs_words.specs.Grammar.{file_rule, from_rule, json_rule, node_rule, option_rule, print_rule, program, progress_rule, replay_command, run_command, schedule_rule, seed_rule, seeds_rule, sheet_rule, steps_command, sweep_command, to_rule, trace_rule, tree_command, turns_rule, wake_rule, workers_rule, stored_rule, view_command};
+ghost use Rattle.std.specs.Prelude.{◌≡◌, IfOk, false};
+
+use clap::{Arg, ArgAction, Command};
+use std::alloc::{AllocError, Global};
+
+/// The program's commands, with their help.
+#[tactic(auto, unfolding(crate::specs::Grammar::program))]
+pub fn program<'a>(alloc: Global) -> Result<Command<'a>, AllocError>
+    ensures { IfOk result (λ command. app_of command ≡ program) }
+{
+    Ok(
+        Command::new(alloc, "ghs")
+            .about("Minimum spanning trees of networks")
+            .subcommand_required(true)
+            .subcommand(tree(alloc)?)?
+            .subcommand(run(alloc)?)?
+            .subcommand(replay(alloc)?)?
+            .subcommand(steps(alloc)?)?
+            .subcommand(sweep(alloc)?)?
+            .subcommand(view(alloc)?)?,
+    )
+}
+
+// `ghs tree`.
+fn tree<'a>(alloc: Global) -> Result<Command<'a>, AllocError>
+    ensures local { IfOk result (λ command. (out-Command command).has_globals ≡ false) }
+    ensures app { IfOk result (λ command. app_of command ≡ tree_command) }
+{
+    Ok(
+        Command::new(alloc, "tree")
+            .about("Prints the minimum spanning forest of a graph")
+            .arg(file(alloc))?,
+    )
+}
+
+// `ghs run`.
+fn run<'a>(alloc: Global) -> Result<Command<'a>, AllocError>
+    ensures local { IfOk result (λ command. (out-Command command).has_globals ≡ false) }
+    ensures app { IfOk result (λ command. app_of command ≡ run_command) }
+{
+    Ok(
+        Command::new(alloc, "run")
+            .about(
+                "Runs the network of a graph, event by event, by the schedule of a seed or by threads",
+            )
+            .arg(file(alloc))?
+            .arg(seed(alloc))?
+            .arg(schedule(alloc))?
+            .arg(workers(alloc))?
+            .arg(wake(alloc))?
+            .arg(turns(alloc))?
+            .arg(print(alloc))?
+            .arg(progress(alloc))?,
+    )
+}
+
+// `ghs replay`.
+fn replay<'a>(alloc: Global) -> Result<Command<'a>, AllocError>
+    ensures local { IfOk result (λ command. (out-Command command).has_globals ≡ false) }
+    ensures app { IfOk result (λ command. app_of command ≡ replay_command) }
+{
+    Ok(
+        Command::new(alloc, "replay")
+            .about("Plays a stored run again, event by event")
+            .arg(trace(alloc))?
+            .arg(file(alloc))?
+            .arg(wake(alloc))?,
+    )
+}
+
+// `ghs steps`.
+fn steps<'a>(alloc: Global) -> Result<Command<'a>, AllocError>
+    ensures local { IfOk result (λ command. (out-Command command).has_globals ≡ false) }
+    ensures app { IfOk result (λ command. app_of command ≡ steps_command) }
+{
+    Ok(
+        Command::new(alloc, "steps")
+            .about("Prints what each event of a stored run does, an event a line")
+            .arg(trace(alloc))?
+            .arg(file(alloc))?
+            .arg(wake(alloc))?
+            .arg(from(alloc))?
+            .arg(to(alloc))?
+            .arg(node(alloc))?
+            .arg(json(alloc))?,
+    )
+}
+
+// `ghs sweep`.
+fn sweep<'a>(alloc: Global) -> Result<Command<'a>, AllocError>
+    ensures local { IfOk result (λ command. (out-Command command).has_globals ≡ false) }
+    ensures app { IfOk result (λ command. app_of command ≡ sweep_command) }
+{
+    Ok(
+        Command::new(alloc, "sweep")
+            .about(
+                "Runs the network of a graph by the schedules of many seeds, and prints a line of figures for each, or what they come to",
+            )
+            .arg(file(alloc))?
+            .arg(seeds(alloc))?
+            .arg(schedule(alloc))?
+            .arg(sharers(alloc))?
+            .arg(wake(alloc))?
+            .arg(turns(alloc))?
+            .arg(sheet(alloc))?
+            .arg(seeds_told(alloc))?,
+    )
+}
+
+// `ghs view`.
+fn view<'a>(alloc: Global) -> Result<Command<'a>, AllocError>
+    ensures local { IfOk result (λ command. (out-Command command).has_globals ≡ false) }
+    ensures app { IfOk result (λ command. app_of command ≡ view_command) }
+{
+    Ok(
+        Command::new(alloc, "view")
+            .about("Prints a run as one page for a browser, to step through")
+            .arg(file(alloc))?
+            .arg(seed(alloc))?
+            .arg(schedule(alloc))?
+            .arg(wake(alloc))?
+            .arg(turns(alloc))?
+            .arg(stored(alloc))?
+            .arg(from(alloc))?
+            .arg(to(alloc))?,
+    )
+}
+
+// The stored run's file.
+fn trace<'a>(alloc: Global) -> Arg<'a>
+    ensures local { result.global ≡ false }
+    ensures rule { rule_of result ≡ trace_rule }
+{
+    Arg::new(alloc, "TRACE")
+        .help("The stored run: the text of its events")
+        .required(true)
+}
+
+// The number of the first event that is shown.
+fn from<'a>(alloc: Global) -> Arg<'a>
+    ensures local { result.global ≡ false }
+    ensures rule { rule_of result ≡ from_rule }
+{
+    option(alloc, "from", "1").help("The number of the first event that is shown, counted from 1")
+}
+
+// The number of the last.
+fn to<'a>(alloc: Global) -> Arg<'a>
+    ensures local { result.global ≡ false }
+    ensures rule { rule_of result ≡ to_rule }
+{
+    option(alloc, "to", "1099511627776").help("The number of the last event that is shown")
+}
+
+// Whose events are shown.
+fn node<'a>(alloc: Global) -> Arg<'a>
+    ensures local { result.global ≡ false }
+    ensures rule { rule_of result ≡ node_rule }
+{
+    Arg::new(alloc, "node").long("node").help(
+        "The node whose events are shown; all nodes' where none is named",
+    )
+}
+
+// Whether the lines are JSON.
+fn json<'a>(alloc: Global) -> Arg<'a>
+    ensures local { result.global ≡ false }
+    ensures rule { rule_of result ≡ json_rule }
+{
+    Arg::new(alloc, "json")
+        .long("json")
+        .action(ArgAction::SetTrue)
+        .help("Prints the lines as JSON")
+}
+
+// The graph's file.
+fn file<'a>(alloc: Global) -> Arg<'a>
+    ensures local { result.global ≡ false }
+    ensures rule { rule_of result ≡ file_rule }
+{
+    Arg::new(alloc, "FILE").help("The graph, in the .gr format; standard input where none is named")
+}
+
+// Which schedule picks the events.
+fn seed<'a>(alloc: Global) -> Arg<'a>
+    ensures local { result.global ≡ false }
+    ensures rule { rule_of result ≡ seed_rule }
+{
+    option(alloc, "seed", "1").help("The number that picks the order of the events")
+}
+
+// Whose schedules pick the runs of a sweep.
+fn seeds<'a>(alloc: Global) -> Arg<'a>
+    ensures local { result.global ≡ false }
+    ensures rule { rule_of result ≡ seeds_rule }
+{
+    Arg::new(alloc, "seeds").long("seeds").required(true).help(
+        "The seeds, FIRST..LAST, both included, 1000000 of them at most",
+    )
+}
+
+// How many threads share the runs of a sweep.
+fn sharers<'a>(alloc: Global) -> Arg<'a>
+    ensures local { result.global ≡ false }
+    ensures rule { rule_of result ≡ workers_rule }
+{
+    option(alloc, "workers", "0").help(
+        "How many threads share the runs, 0 to 64; 0 is one, and the text is the same for each",
+    )
+}
+
+// Among which events it picks them.
+fn schedule<'a>(alloc: Global) -> Arg<'a>
+    ensures local { result.global ≡ false }
+    ensures rule { rule_of result ≡ schedule_rule }
+{
+    option(alloc, "schedule", "seeded").help(
+        "Which events the seed picks among: seeded, all that may happen, or patient, those that move the run on",
+    )
+}
+
+// How many threads take part.
+fn workers<'a>(alloc: Global) -> Arg<'a>
+    ensures local { result.global ≡ false }
+    ensures rule { rule_of result ≡ workers_rule }
+{
+    option(alloc, "workers", "0").help(
+        "How many threads take part, 0 to 64; with 0 the seed's schedule picks the events",
+    )
+}
+
+// How many events there may be.
+fn turns<'a>(alloc: Global) -> Arg<'a>
+    ensures local { result.global ≡ false }
+    ensures rule { rule_of result ≡ turns_rule }
+{
+    option(alloc, "turns", "1099511627776").help("How many events there may be, 1 to 1099511627776")
+}
+
+// What of a run is printed.
+fn print<'a>(alloc: Global) -> Arg<'a>
+    ensures local { result.global ≡ false }
+    ensures rule { rule_of result ≡ print_rule }
+{
+    option(alloc, "print", "report").help(
+        "What is printed: report, the tree and the counts, or trace, the events",
+    )
+}
+
+// What of a sweep is printed.
+fn sheet<'a>(alloc: Global) -> Arg<'a>
+    ensures local { result.global ≡ false }
+    ensures rule { rule_of result ≡ sheet_rule }
+{
+    Arg::new(alloc, "sheet")
+        .long("print")
+        .default_value("runs")
+        .help(
+            "What is printed: runs, a line of figures for each, or summary, their range, percentiles and sums",
+        )
+}
+
+// The file of a stored run, where one is shown.
+fn stored<'a>(alloc: Global) -> Arg<'a>
+    ensures local { result.global ≡ false }
+    ensures rule { rule_of result ≡ stored_rule }
+{
+    Arg::new(alloc, "TRACE").long("trace").help(
+        "The stored run that is shown, the text of its events; without it the seed's",
+    )
+}
+
+// Whether it is told how far the run has come.
+fn progress<'a>(alloc: Global) -> Arg<'a>
+    ensures local { result.global ≡ false }
+    ensures rule { rule_of result ≡ progress_rule }
+{
+    Arg::new(alloc, "progress")
+        .long("progress")
+        .action(ArgAction::SetTrue)
+        .help("Tells standard error how far the run has come")
+}
+
+// Whether it is told how many of the seeds have been run.
+fn seeds_told<'a>(alloc: Global) -> Arg<'a>
+    ensures local { result.global ≡ false }
+    ensures rule { rule_of result ≡ progress_rule }
+{
+    Arg::new(alloc, "progress")
+        .long("progress")
+        .action(ArgAction::SetTrue)
+        .help("Tells standard error how many of the seeds have been run")
+}
+
+// Which nodes wake by themselves.
+fn wake<'a>(alloc: Global) -> Arg<'a>
+    ensures local { result.global ≡ false }
+    ensures rule { rule_of result ≡ wake_rule }
+{
+    option(alloc, "wake", "all").help(
+        "Which nodes wake by themselves: all, or the first of each component",
+    )
+}
+
+// An option, and its value where it isn't given.
+fn option<'a>(alloc: Global, name: &'a str, default: &'a str) -> Arg<'a>
+    ensures local { result.global ≡ false }
+    ensures rule { rule_of result ≡ option_rule name.entry.now default.entry.now }
+{
+    Arg::new(alloc, name).long(name).default_value(default)
+}

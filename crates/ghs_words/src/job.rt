@@ -1,0 +1,521 @@
+//! Command lines.
+ghost use Rattle.ghs_words.specs.declared.job.JobFault.TheVariants.{Memory};
+ghost use Rattle.ghs_words.specs.Grammar.{program};
+ghost use Rattle.ghs_words.specs.Job.{AreOptions, AreStepsOptions, AreSweepLimits, AreSweepOptions, AreWithinLimits, command_in, has_values, kinds_of, name_in, node_in, number_at, option_kinds, seeds_at, value_in, with_name, IsForm, IsPicking, IsRefused, IsSaid, IsSaidOf, IsSheet, IsShow, IsTask, IsWake, IsWithinLimits, AreStoredViewOptions, AreViewLimits, AreViewOptions};
+ghost use Rattle.ghs_words.specs.Values.{AreSeeds, is_among, is_number, is_range};
+ghost use Rattle.clap.specs.Words.{kind_of, subcommand_rows_of};
+ghost use Rattle.std.specs.Option.{option_map};
+ghost use Rattle.std.specs.Prelude.{◌≡◌, ◌≤◌, ◌↔◌, ◌∷◌, [], IfErr, IfOk, IfSome, OnErr, OnOk, Some, codes, false, map, string_bytes, true};
+
+use crate::grammar::program;
+use crate::values::{
+    Seeds, is_among, is_number, is_range, is_text, no_number, no_seeds, number_in, owned, seeds_in,
+    unknown_choice,
+};
+use clap::error::ErrorKind;
+use clap::{ArgMatches, Error};
+use ghs_patient::picking::Picking;
+use ghs_sched::trace::EVENT_LIMIT;
+use ghs_steps::choice::Choice;
+use ghs_steps::form::Form;
+use ghs_world::wake_set::WakeSet;
+use std::alloc::{AllocError, Global};
+
+/// How many threads may take part in a run.
+pub const MOST_WORKERS: u32 = 64;
+
+/// What of a run is printed.
+#[derive(Clone, Copy, Debug, PartialEq, Eq)]
+pub enum Show {
+    /// Where it has ended, the text of the net that it leaves.
+    Summary,
+    /// Its events.
+    Events,
+}
+
+/// How a network is run.
+#[derive(Clone, Copy, Debug, PartialEq, Eq)]
+pub struct RunOptions {
+    /// Whose schedule picks the events, where no threads take part.
+    pub seed: u64,
+    /// Among which events it picks them.
+    pub picking: Picking,
+    /// How many threads take part, 0 to 64; with 0 a schedule picks the events.
+    pub workers: u32,
+    /// Which nodes wake by themselves.
+    pub wake: WakeSet,
+    /// How many events there may be, 1 to 2^40.
+    pub turns: u64,
+    /// What is printed.
+    pub show: Show,
+    /// Whether standard error is told how far the run has come.
+    pub progress: bool,
+}
+
+/// What of a sweep is printed.
+#[derive(Clone, Copy, Debug, PartialEq, Eq)]
+pub enum Sheet {
+    /// The figures of each run.
+    Runs,
+    /// What the figures of all come to.
+    Summary,
+}
+
+/// Which runs of a network are swept.
+#[derive(Clone, Copy, Debug, PartialEq, Eq)]
+pub struct SweepOptions {
+    /// Whose schedules pick the runs, a million at most.
+    pub seeds: Seeds,
+    /// Among which events they pick them.
+    pub picking: Picking,
+    /// How many threads share the runs, 0 to 64; 0 is one.
+    pub workers: u32,
+    /// Which nodes wake by themselves.
+    pub wake: WakeSet,
+    /// How many events each run may have, 1 to 2^40.
+    pub turns: u64,
+    /// What is printed.
+    pub sheet: Sheet,
+    /// Whether standard error is told how many of the seeds have been run.
+    pub progress: bool,
+}
+
+/// Which steps of a stored run are shown.
+#[derive(Clone, Copy, Debug, PartialEq, Eq)]
+pub struct StepsOptions {
+    /// Which nodes wake by themselves.
+    pub wake: WakeSet,
+    /// Which events are shown.
+    pub choice: Choice,
+    /// As which lines.
+    pub form: Form,
+}
+
+/// Which page is made of the run that a seed picks.
+#[derive(Clone, Copy, Debug, PartialEq, Eq)]
+pub struct ViewOptions {
+    /// Whose schedule picks the events.
+    pub seed: u64,
+    /// Among which events it picks them.
+    pub picking: Picking,
+    /// Which nodes wake by themselves.
+    pub wake: WakeSet,
+    /// How many events there may be, 1 to 2^40.
+    pub turns: u64,
+    /// Before which event the page opens, 1 to 2^40.
+    pub from: u64,
+    /// With which event it ends, 1 to 2^40, or with the last where there are fewer.
+    pub to: u64,
+}
+
+/// Which page is made of a stored run.
+#[derive(Clone, Copy, Debug, PartialEq, Eq)]
+pub struct StoredViewOptions {
+    /// Which nodes wake by themselves.
+    pub wake: WakeSet,
+    /// Before which event the page opens, 1 to 2^40.
+    pub from: u64,
+    /// With which event it ends, 1 to 2^40, or with the last where there are fewer.
+    pub to: u64,
+}
+
+/// What is to be done.
+#[derive(Clone, Copy, Debug, PartialEq, Eq)]
+pub enum Task {
+    /// Print the minimum spanning forest.
+    Tree,
+    /// Run a network.
+    Run(RunOptions),
+    /// Play a stored run again.
+    Replay { wake: WakeSet },
+    /// Print what each event of a stored run does.
+    Steps(StepsOptions),
+    /// Print the figures of many seeds' runs.
+    Sweep(SweepOptions),
+    /// Print the page of the run that a seed picks.
+    View(ViewOptions),
+    /// Print the page of a stored run.
+    StoredView(StoredViewOptions),
+}
+
+/// What a command line asks for: the file of the graph (standard input where there is none), the file of a
+/// stored trace, and the task.
+#[derive(Debug, Drop)]
+pub struct Job {
+    pub graph: Option<String>,
+    pub trace: Option<String>,
+    pub task: Task,
+}
+
+/// Why a command line gives no job.
+#[derive(Debug, Drop)]
+pub enum JobFault {
+    /// Help was asked for: its text.
+    Help(String),
+    /// The words aren't a command line of this program: what is to be said of them.
+    Refused(String),
+    /// Memory ran out.
+    Memory,
+}
+
+impl From<AllocError> for JobFault {
+    ghost from_gives = { λ _ e. e ≡ Memory };
+
+    fn from(_error: AllocError) -> JobFault {
+        JobFault::Memory
+    }
+}
+
+/// The job of a command line: the words after the program's name. The words are taken as `clap` takes them; a choice
+/// has to be one that there is, and a number has to be digits of a value in its range.
+pub fn read_job(alloc: Global, words: &[String]) -> Result<Job, JobFault>
+    ensures task { IfOk result (λ job. IsTask (command_in (map string_bytes words.now)) job.task) }
+    ensures trace { IfOk result (λ job. option_map string_bytes job.trace ≡ value_in (codes "TRACE") (command_in (map string_bytes words.now))) }
+    ensures graph { IfOk result (λ job. option_map string_bytes job.graph ≡ value_in (codes "FILE") (command_in (map string_bytes words.now))) }
+    ensures limits { IfOk result (λ job. IsWithinLimits job.task) }
+    ensures taken { OnOk result (kinds_of (map string_bytes words.now) ≡ []) }
+    ensures fault { IfErr result (IsSaidOf (kinds_of (map string_bytes words.now))) }
+{
+    let line = line_of(alloc, words)?;
+    match program(alloc)?.try_get_matches_from(&line) {
+        Ok(matches) => job_of(alloc, &matches),
+        Err(error) => Err(fault_of(alloc, &error)),
+    }
+}
+
+/// The words with the program's name before them, by which usage lines begin.
+fn line_of<'a>(alloc: Global, words: &'a [String]) -> Result<Vec<&'a str>, AllocError>
+    ensures { IfOk result (λ line. map (λ t. t.now) line.items ≡ with_name (map string_bytes words.entry.now)) }
+{
+    let mut line = Vec::new(alloc);
+    line.push("ghs")?;
+    for word in words {
+        line.push(word.as_str())?;
+    }
+    Ok(line)
+}
+
+/// The job of words that `clap` takes.
+fn job_of<'a>(alloc: Global, matches: &ArgMatches<'a>) -> Result<Job, JobFault>
+    ensures task { IfOk result (λ job. IsTask (subcommand_rows_of matches.now) job.task) }
+    ensures trace { IfOk result (λ job. option_map string_bytes job.trace ≡ value_in (codes "TRACE") (subcommand_rows_of matches.now)) }
+    ensures graph { IfOk result (λ job. option_map string_bytes job.graph ≡ value_in (codes "FILE") (subcommand_rows_of matches.now)) }
+    ensures limits { IfOk result (λ job. IsWithinLimits job.task) }
+    ensures taken { OnOk result (option_kinds (subcommand_rows_of matches.now) ≡ []) }
+    ensures fault { IfErr result (IsSaidOf (option_kinds (subcommand_rows_of matches.now))) }
+{
+    match check_options(alloc, matches) {
+        Ok(()) => {}
+        Err(fault) => return Err(fault),
+    }
+    Ok(Job {
+        graph: owned(alloc, value_of(matches, "FILE"))?,
+        trace: owned(alloc, value_of(matches, "TRACE"))?,
+        task: task_of(matches),
+    })
+}
+
+/// Whether each option has a value that it may have; what is said of the first that hasn't.
+fn check_options<'a>(alloc: Global, matches: &ArgMatches<'a>) -> Result<(), JobFault>
+    ensures ok { OnOk result (has_values (subcommand_rows_of matches.now) ≡ true) }
+    ensures err { OnErr result (has_values (subcommand_rows_of matches.now) ≡ false) }
+    ensures fault { IfErr result IsRefused }
+{
+    check_choice(alloc, matches, "wake", "wake", "all", "first")?;
+    check_choice(alloc, matches, "print", "print", "report", "trace")?;
+    check_choice(alloc, matches, "sheet", "print", "runs", "summary")?;
+    check_choice(alloc, matches, "schedule", "schedule", "seeded", "patient")?;
+    check_number(alloc, matches, "seed", 0, u64::MAX)?;
+    check_number(alloc, matches, "workers", 0, MOST_WORKERS as u64)?;
+    check_number(alloc, matches, "turns", 1, EVENT_LIMIT)?;
+    check_number(alloc, matches, "from", 1, EVENT_LIMIT)?;
+    check_number(alloc, matches, "to", 1, EVENT_LIMIT)?;
+    check_number(alloc, matches, "node", 1, u32::MAX as u64)?;
+    check_seeds(alloc, matches)
+}
+
+/// Whether an option has one of two values; it goes by its name on the command line where it hasn't.
+fn check_choice<'a>(
+    alloc: Global,
+    matches: &ArgMatches<'a>,
+    id: &str,
+    name: &str,
+    one: &str,
+    other: &str,
+) -> Result<(), JobFault>
+    ensures ok { OnOk result (is_among (one.now ∷ other.now ∷ []) (value_in id.now (subcommand_rows_of matches.now)) ≡ true) }
+    ensures err { OnErr result (is_among (one.now ∷ other.now ∷ []) (value_in id.now (subcommand_rows_of matches.now)) ≡ false) }
+    ensures fault { IfErr result IsRefused }
+{
+    let value = value_of(matches, id);
+    if is_among(value, one, other) {
+        Ok(())
+    } else {
+        Err(unknown_choice(alloc, name, value, one, other))
+    }
+}
+
+/// Whether an option has a number in a range.
+fn check_number<'a>(
+    alloc: Global,
+    matches: &ArgMatches<'a>,
+    id: &str,
+    low: u64,
+    high: u64,
+) -> Result<(), JobFault>
+    ensures ok { OnOk result (is_number low high (value_in id.now (subcommand_rows_of matches.now)) ≡ true) }
+    ensures err { OnErr result (is_number low high (value_in id.now (subcommand_rows_of matches.now)) ≡ false) }
+    ensures fault { IfErr result IsRefused }
+{
+    let value = value_of(matches, id);
+    if is_number(value, low, high) {
+        Ok(())
+    } else {
+        Err(no_number(alloc, id, value, low, high))
+    }
+}
+
+/// Whether the seeds of a sweep are some.
+fn check_seeds<'a>(alloc: Global, matches: &ArgMatches<'a>) -> Result<(), JobFault>
+    ensures ok { OnOk result (is_range (value_in (codes "seeds") (subcommand_rows_of matches.now)) ≡ true) }
+    ensures err { OnErr result (is_range (value_in (codes "seeds") (subcommand_rows_of matches.now)) ≡ false) }
+    ensures fault { IfErr result IsRefused }
+{
+    let value = value_of(matches, "seeds");
+    if is_range(value) {
+        Ok(())
+    } else {
+        Err(no_seeds(alloc, "seeds", value))
+    }
+}
+
+/// The task of a command.
+fn task_of<'a>(matches: &ArgMatches<'a>) -> Task
+    ensures task { IsTask (subcommand_rows_of matches.now) result }
+    ensures limits { IsWithinLimits result }
+{
+    if matches.subcommand_name() == Some("run") {
+        Task::Run(options_of(matches))
+    } else if matches.subcommand_name() == Some("replay") {
+        Task::Replay {
+            wake: wake_of(matches),
+        }
+    } else if matches.subcommand_name() == Some("steps") {
+        Task::Steps(steps_of(matches))
+    } else if matches.subcommand_name() == Some("sweep") {
+        Task::Sweep(sweep_of(matches))
+    } else if matches.subcommand_name() == Some("view") {
+        shown_by(matches)
+    } else {
+        Task::Tree
+    }
+}
+
+/// How a network is to be run.
+fn options_of<'a>(matches: &ArgMatches<'a>) -> RunOptions
+    ensures options { AreOptions (subcommand_rows_of matches.now) result }
+    ensures limits { AreWithinLimits result }
+{
+    RunOptions {
+        seed: number_of(matches, "seed", 0, u64::MAX),
+        picking: picking_of(matches),
+        workers: number_of(matches, "workers", 0, MOST_WORKERS as u64) as u32,
+        wake: wake_of(matches),
+        turns: number_of(matches, "turns", 1, EVENT_LIMIT),
+        show: show_of(matches),
+        progress: is_text(value_of(matches, "progress"), "true"),
+    }
+}
+
+/// Which steps are to be shown.
+fn steps_of<'a>(matches: &ArgMatches<'a>) -> StepsOptions
+    ensures { AreStepsOptions (subcommand_rows_of matches.now) result }
+{
+    StepsOptions {
+        wake: wake_of(matches),
+        choice: Choice {
+            from: number_of(matches, "from", 1, EVENT_LIMIT),
+            to: number_of(matches, "to", 1, EVENT_LIMIT),
+            node: node_of(matches),
+        },
+        form: form_of(matches),
+    }
+}
+
+/// The one node whose events are to be shown; none where all nodes' are.
+fn node_of<'a>(matches: &ArgMatches<'a>) -> Option<u32>
+    ensures { result ≡ node_in (subcommand_rows_of matches.now) }
+{
+    let Some(value) = value_of(matches, "node") else {
+        return None;
+    };
+    match number_in(value, 1, u32::MAX as u64) {
+        Some(node) => Some(node as u32),
+        None => None,
+    }
+}
+
+/// As which lines the steps are to be shown.
+fn form_of<'a>(matches: &ArgMatches<'a>) -> Form
+    ensures { IsForm (subcommand_rows_of matches.now) result }
+{
+    if is_text(value_of(matches, "json"), "true") {
+        Form::Json
+    } else {
+        Form::Text
+    }
+}
+
+/// Which runs are to be swept.
+fn sweep_of<'a>(matches: &ArgMatches<'a>) -> SweepOptions
+    ensures options { AreSweepOptions (subcommand_rows_of matches.now) result }
+    ensures limits { AreSweepLimits result }
+{
+    SweepOptions {
+        seeds: seeds_of(matches),
+        picking: picking_of(matches),
+        workers: number_of(matches, "workers", 0, MOST_WORKERS as u64) as u32,
+        wake: wake_of(matches),
+        turns: number_of(matches, "turns", 1, EVENT_LIMIT),
+        sheet: sheet_of(matches),
+        progress: is_text(value_of(matches, "progress"), "true"),
+    }
+}
+
+/// Which page is to be made: that of a stored run where one is named, and else that of a seed's.
+fn shown_by<'a>(matches: &ArgMatches<'a>) -> Task
+    requires { name_in (subcommand_rows_of matches.now) ≡ Some (codes "view") }
+    ensures task { IsTask (subcommand_rows_of matches.now) result }
+    ensures limits { IsWithinLimits result }
+{
+    match value_of(matches, "TRACE") {
+        Some(_) => Task::StoredView(stored_view_of(matches)),
+        None => Task::View(view_of(matches)),
+    }
+}
+
+/// Which page is to be made of the run that a seed picks.
+fn view_of<'a>(matches: &ArgMatches<'a>) -> ViewOptions
+    ensures options { AreViewOptions (subcommand_rows_of matches.now) result }
+    ensures limits { AreViewLimits result }
+{
+    ViewOptions {
+        seed: number_of(matches, "seed", 0, u64::MAX),
+        picking: picking_of(matches),
+        wake: wake_of(matches),
+        turns: number_of(matches, "turns", 1, EVENT_LIMIT),
+        from: number_of(matches, "from", 1, EVENT_LIMIT),
+        to: number_of(matches, "to", 1, EVENT_LIMIT),
+    }
+}
+
+/// Which page is to be made of a stored run.
+fn stored_view_of<'a>(matches: &ArgMatches<'a>) -> StoredViewOptions
+    ensures { AreStoredViewOptions (subcommand_rows_of matches.now) result }
+{
+    StoredViewOptions {
+        wake: wake_of(matches),
+        from: number_of(matches, "from", 1, EVENT_LIMIT),
+        to: number_of(matches, "to", 1, EVENT_LIMIT),
+    }
+}
+
+/// The seeds of a sweep; each has some.
+fn seeds_of<'a>(matches: &ArgMatches<'a>) -> Seeds
+    ensures seeds { result ≡ seeds_at (subcommand_rows_of matches.now) }
+    ensures limits { AreSeeds result }
+{
+    let none = Seeds { first: 0, last: 0 };
+    let Some(value) = value_of(matches, "seeds") else {
+        return none;
+    };
+    match seeds_in(value) {
+        Some(seeds) => seeds,
+        None => none,
+    }
+}
+
+/// Which nodes wake by themselves.
+fn wake_of<'a>(matches: &ArgMatches<'a>) -> WakeSet
+    ensures { IsWake (subcommand_rows_of matches.now) result }
+{
+    if is_text(value_of(matches, "wake"), "first") {
+        WakeSet::First
+    } else {
+        WakeSet::All
+    }
+}
+
+/// Among which events a schedule picks.
+fn picking_of<'a>(matches: &ArgMatches<'a>) -> Picking
+    ensures { IsPicking (subcommand_rows_of matches.now) result }
+{
+    if is_text(value_of(matches, "schedule"), "patient") {
+        Picking::Patient
+    } else {
+        Picking::Seeded
+    }
+}
+
+/// What of a run is printed.
+fn show_of<'a>(matches: &ArgMatches<'a>) -> Show
+    ensures { IsShow (subcommand_rows_of matches.now) result }
+{
+    if is_text(value_of(matches, "print"), "trace") {
+        Show::Events
+    } else {
+        Show::Summary
+    }
+}
+
+/// What of a sweep is printed.
+fn sheet_of<'a>(matches: &ArgMatches<'a>) -> Sheet
+    ensures { IsSheet (subcommand_rows_of matches.now) result }
+{
+    if is_text(value_of(matches, "sheet"), "summary") {
+        Sheet::Summary
+    } else {
+        Sheet::Runs
+    }
+}
+
+/// The number that an option has, and its least where it has none.
+fn number_of<'a>(matches: &ArgMatches<'a>, id: &str, low: u64, high: u64) -> u64
+    requires { low ≤ high }
+    ensures number { result ≡ number_at id.now low high (subcommand_rows_of matches.now) }
+    ensures low { low ≤ result }
+    ensures high { result ≤ high }
+{
+    let Some(value) = value_of(matches, id) else {
+        return low;
+    };
+    match number_in(value, low, high) {
+        Some(number) => number,
+        None => low,
+    }
+}
+
+/// The value that an argument of the command has.
+fn value_of<'a>(matches: &ArgMatches<'a>, id: &str) -> Option<&'a str>
+    ensures { option_map (λ t. t.now) result ≡ value_in id.now (subcommand_rows_of matches.now) }
+{
+    match matches.subcommand() {
+        Some((_, command)) => command.get_str(id),
+        None => None,
+    }
+}
+
+/// What is said of words that give no job.
+fn fault_of(alloc: Global, error: &Error) -> JobFault
+    ensures said { IsSaid (kind_of error.now) result }
+    ensures memory { kind_of error.now ≡ ErrorKind.OutOfMemory → result ≡ Memory }
+{
+    match error.to_string(alloc) {
+        Ok(text) => match error.kind() {
+            ErrorKind::DisplayHelp => JobFault::Help(text),
+            ErrorKind::OutOfMemory => JobFault::Memory,
+            _ => JobFault::Refused(text),
+        },
+        Err(_) => JobFault::Memory,
+    }
+}

@@ -1,0 +1,6 @@
+//! Command lines: the words that the program takes, and what they ask for.
+#![tactic(auto)]
+
+mod grammar;
+pub mod job;
+pub mod values;
