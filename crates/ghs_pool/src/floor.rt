@@ -168,10 +168,12 @@ impl<J: Start> Floor<J> {
         if (waited || spare) && self.shop.out_count() > 0 {
             return Next::Leave;
         }
-        let made = self.fill(rt, alloc, queue, pass, hand);
+        let mut made = self.fill(rt, alloc, queue, pass, hand);
         if (hand.tickets() == 0 && !made) || hand.pace.is_due() {
             hand.pace.look();
-            self.look(rt, alloc, queue, pass, hand);
+            if self.look(rt, alloc, queue, pass, hand) {
+                made = true;
+            }
         }
         self.next(hand, made)
     }
@@ -272,7 +274,7 @@ impl<J: Start> Floor<J> {
     }
 
     // Looks over the nodes, from behind the one that the last look found, for one that has an event that is worth it. Where
-    // no node has an event at all, and nothing is out, the workers are to end.
+    // no node has an event at all, and nothing is out, the workers are to end. Whether an event was made at once.
     fn look<R: Wait>(
         &mut self,
         rt: &R,
@@ -280,21 +282,23 @@ impl<J: Start> Floor<J> {
         queue: &ReadyQueue,
         pass: &mut ReadyPass,
         hand: &mut Hand,
-    )
+    ) -> bool
         requires { pass.old.name ≡ queue.now.name }
         ensures { pass.new.name ≡ pass.old.name }
     {
         for _ in 0..NODES {
             let Some(v) = self.shop.next_node(self.found.saturating_add(1)) else {
                 self.stopped = self.stopped || self.shop.out_count() == 0;
-                return;
+                return false;
             };
             self.found = v;
             match self.serve(rt, alloc, queue, pass, v, hand) {
-                Found::Event | Found::Made | Found::NoTurn => return,
+                Found::Made => return true,
+                Found::Event | Found::NoTurn => return false,
                 Found::Nothing | Found::More => {}
             }
         }
+        false
     }
 
     fn is_over(&self) -> bool {

@@ -2,6 +2,7 @@
 //! by a queue of ready nodes; and a board on which each commit is published.
 #![tactic(auto)]
 
+mod bell;
 pub mod desk;
 pub mod end;
 mod floor;

@@ -1,12 +1,12 @@
 //! The world that workers share, with the publisher that tells of it.
-ghost use Rattle.std.specs.Prelude.{◌≡◌, ◌≤◌, ◌^◌, true, IfOk, IfErr, IsTrue, OnOk, OnErr};
+ghost use Rattle.std.specs.Prelude.{◌≡◌, ◌≤◌, ◌^◌, ◌&&◌, true, IfOk, IfErr, OnOk, OnErr};
 ghost use Rattle.ghs_graph.specs.Graph.{IsGraph};
 ghost use Rattle.ghs_protocol.specs.Run.{IsRun};
 ghost use Rattle.ghs_core.specs.NetState.{network, IsAnswer};
 ghost use Rattle.ghs_board.specs.Progress.{StartsWith};
 ghost use Rattle.ghs_world.specs.Ready.{is_ready};
 ghost use Rattle.ghs_world.specs.Steps.{Makes, IsSameWorld};
-ghost use Rattle.ghs_world.specs.WorldState.{has_turn};
+ghost use Rattle.ghs_world.specs.WorldState.{has_turn, has_place};
 ghost use Rattle.ghs_pool.specs.Shop.{IsPairOf, IsTold, Publishes};
 
 use crate::moves::{has_many_ports, is_worth_it};
@@ -109,9 +109,9 @@ impl Shop {
         }
     }
 
-    // Whether an event may be made now, turns and memory aside.
+    // Whether an event names a node and port of the world's graph and may be made now, turns and memory aside.
     pub(crate) fn is_ready(&self, event: Event) -> bool
-        ensures { IsTrue result → is_ready self.now.world event ≡ true }
+        ensures { result ≡ has_place (network self.now.world.net) event && is_ready self.now.world event }
     {
         self.world.has_place(event) && self.world.is_ready(event)
     }

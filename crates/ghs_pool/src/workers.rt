@@ -7,6 +7,7 @@ ghost use Rattle.ghs_pool.specs.Shop.{IsTold};
 ghost use Rattle.ghs_pool.specs.Follows.{Follows, GoesOn};
 ghost use Rattle.ghs_pool.specs.Ends.{EndFits, IsAtEnd};
 
+use crate::bell::Bell;
 use crate::end::PoolFault;
 use crate::floor::{Floor, Next, Start};
 use crate::gate::Gate;
@@ -21,8 +22,7 @@ use std::alloc::{AllocError, Global};
 use std::marker::Brand;
 use std::sync::{Mutex, Wait};
 use std::thread;
-use std::thread::{Parker, Threads};
-use std::time::Duration;
+use std::thread::Threads;
 
 /// Runs a world on by so many threads, 1 to 64, until its run has ended. All that is out is recalled first. The world
 /// comes back with nothing out, after the commits so far: on the same graph, under the same wake set and turns, its trace
@@ -118,7 +118,8 @@ fn run_from<J: Start + Send + Sync, G: Gate + Sync, R: Threads + Wait + Sync>(
 {
     let nodes = ports.len();
     let floor = Mutex::new(Floor::<J>::new(shop, ports, pass.shares()));
-    let started = serve_all(rt, alloc, &floor, gate, queue, pass, nodes);
+    let bell = Bell::new();
+    let started = serve_all(rt, alloc, &floor, &bell, gate, queue, pass, nodes);
     let (shop, memory) = floor.into_inner().close();
     let (mut world, publisher) = shop.close();
     world.recall_all();
@@ -131,6 +132,7 @@ fn serve_all<J: Start + Send + Sync, G: Gate + Sync, R: Threads + Wait + Sync>(
     rt: &R,
     alloc: Global,
     floor: &Mutex<Floor<J>>,
+    bell: &Bell,
     gate: &G,
     queue: &ReadyQueue,
     pass: ReadyPass,
@@ -157,7 +159,7 @@ fn serve_all<J: Start + Send + Sync, G: Gate + Sync, R: Threads + Wait + Sync>(
                 };
                 let worker = move ||
                     requires { mine.name ≡ queue.now.name }
-                { work(rt, alloc, floor, gate, queue, mine, hand) };
+                { work(rt, alloc, floor, bell, gate, queue, mine, hand) };
                 if scope.spawn(worker).is_err() {
                     floor.lock(rt).stop();
                     return false;
@@ -169,7 +171,7 @@ fn serve_all<J: Start + Send + Sync, G: Gate + Sync, R: Threads + Wait + Sync>(
             };
             let worker = move ||
                 requires { rest.name ≡ queue.now.name }
-            { work(rt, alloc, floor, gate, queue, rest, hand) };
+            { work(rt, alloc, floor, bell, gate, queue, rest, hand) };
             if scope.spawn(worker).is_err() {
                 floor.lock(rt).stop();
                 return false;
@@ -184,6 +186,7 @@ fn work<J: Start, G: Gate, R: Wait>(
     rt: &R,
     alloc: Global,
     floor: &Mutex<Floor<J>>,
+    bell: &Bell,
     gate: &G,
     queue: &ReadyQueue,
     mut pass: ReadyPass,
@@ -191,7 +194,6 @@ fn work<J: Start, G: Gate, R: Wait>(
 )
     requires { pass.name ≡ queue.now.name }
 {
-    let sleeper = Parker::new();
     for _ in rt.forever() {
         match come(rt, alloc, floor, queue, &mut pass, &mut hand) {
             Next::Serve => {
@@ -199,9 +201,9 @@ fn work<J: Start, G: Gate, R: Wait>(
                 perform(rt, alloc, floor, gate, &mut hand);
             }
             Next::Again => {}
-            Next::Wait => rest(rt, queue, &mut pass, &mut hand.pace, &sleeper),
-            Next::Leave => sleep(rt, &sleeper, hand.pace.leave()),
-            Next::End => return,
+            Next::Wait => rest(rt, bell, queue, &mut pass, &mut hand.pace),
+            Next::Leave => bell.sleep(rt, hand.pace.leave()),
+            Next::End => return bell.ring(),
         }
     }
     unreachable!()
@@ -255,13 +257,7 @@ fn perform<J: Start, G: Gate, R: Wait>(
 }
 
 // Rests, holding nothing, until the rest is over; a short one ends where a number waits.
-fn rest<R: Wait>(
-    rt: &R,
-    queue: &ReadyQueue,
-    pass: &mut ReadyPass,
-    pace: &mut Pace,
-    sleeper: &Parker,
-)
+fn rest<R: Wait>(rt: &R, bell: &Bell, queue: &ReadyQueue, pass: &mut ReadyPass, pace: &mut Pace)
     requires { pass.old.name ≡ queue.now.name }
     ensures { pass.new.name ≡ pass.old.name }
 {
@@ -273,13 +269,8 @@ fn rest<R: Wait>(
         thread::yield_now();
     }
     if pace.sleep() > 0 {
-        sleep(rt, sleeper, pace.sleep());
+        bell.sleep(rt, pace.sleep());
     }
-}
-
-// Sleeps so many microseconds.
-fn sleep<R: Wait>(rt: &R, sleeper: &Parker, micros: u32) {
-    sleeper.park_timeout(rt, Duration::from_micros(micros as u64));
 }
 
 // What the world says of the end, and else what was met.
