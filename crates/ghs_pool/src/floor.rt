@@ -4,7 +4,7 @@ ghost use Rattle.ghs_pool.specs.Follows.{GoesOn};
 
 use crate::desk::Desk;
 use crate::hand::{Hand, MOST};
-use crate::pace::crowd_of;
+use crate::pace::sharers;
 use crate::shop::Shop;
 use ghs_node::message::Message;
 use ghs_protocol::event::Event;
@@ -146,8 +146,7 @@ impl<J: Start> Floor<J> {
     }
 
     // A worker's visit: the steps in its hand happen, and what it serves next goes out. With nothing to serve in the queue
-    // it looks over all nodes, and else when a look is due. A worker that had to wait for the lock, or is one too many, goes
-    // where something is out: then others are at work.
+    // it looks over all nodes, and else when a look is due; or it leaves the lock to others.
     pub fn visit<R: Wait>(
         &mut self,
         rt: &R,
@@ -164,8 +163,8 @@ impl<J: Start> Floor<J> {
         if self.is_over() {
             return Next::End;
         }
-        let spare = hand.pace.is_spare(queue.len(rt, pass));
-        if (waited || spare) && self.shop.out_count() > 0 {
+        let is_out = self.shop.out_count() > 0;
+        if hand.pace.leaves(waited, queue.len(rt, pass), is_out) {
             return Next::Leave;
         }
         let mut made = self.fill(rt, alloc, queue, pass, hand);
@@ -245,7 +244,8 @@ impl<J: Start> Floor<J> {
         ensures { pass.new.name ≡ pass.old.name }
     {
         let waiting = queue.len(rt, pass);
-        let part = (waiting / 2 / self.sharers(waiting)).clamp(1, MOST);
+        let sharers = sharers(self.ports.len(), self.workers as usize, waiting);
+        let part = (waiting / 2 / sharers).clamp(1, MOST);
         let mut made = false;
         for _ in 0..waiting.min(MOST) {
             let Some(v) = queue.take(rt, pass) else {
@@ -263,14 +263,6 @@ impl<J: Start> Floor<J> {
             }
         }
         made
-    }
-
-    // How many workers share so many numbers that wait: those that aren't spare, at least one.
-    fn sharers(&self, waiting: usize) -> usize
-        ensures { 1 ≤ result }
-    {
-        let crowd = crowd_of(self.ports.len(), 1).max(1);
-        (waiting / crowd).min(self.workers as usize).max(1)
     }
 
     // Looks over the nodes, from behind the one that the last look found, for one that has an event that is worth it. Where

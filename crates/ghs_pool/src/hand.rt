@@ -1,5 +1,5 @@
 // What a worker keeps by itself.
-use crate::pace::Pace;
+use crate::pace::{Pace, Place};
 use ghs_world::ticket::{Step, Ticket};
 use std::alloc::{AllocError, Global};
 
@@ -16,11 +16,11 @@ pub struct Hand {
 }
 
 impl Hand {
-    pub fn new(alloc: Global, crowd: usize) -> Result<Hand, AllocError> {
+    pub fn new(alloc: Global, place: Place) -> Result<Hand, AllocError> {
         Ok(Hand {
             tickets: Vec::with_capacity(alloc, MOST)?,
             steps: Vec::with_capacity(alloc, MOST)?,
-            pace: Pace::new(crowd),
+            pace: Pace::new(place),
         })
     }
 

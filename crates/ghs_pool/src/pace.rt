@@ -1,4 +1,5 @@
-// When a worker looks over all nodes, how long it rests, and how long it stays away.
+// When a worker looks over all nodes, how long it rests, and when and how long it stays away.
+ghost use Rattle.std.specs.Prelude.{◌≤◌};
 
 // A worker that has taken so many numbers since its last look looks again: the queue alone might not come to a node whose
 // number found no room.
@@ -10,26 +11,53 @@ const TURNS: u32 = 32;
 // The longest rest, in microseconds.
 const LONGEST: u32 = 1024;
 
-// A worker that found the lock taken stays away so long, at least and at most, in microseconds: a lock that goes from
+// A worker that left the lock to others stays away so long, at least and at most, in microseconds: a lock that goes from
 // thread to thread at each visit, and the world with it, takes longer than what is done under it.
 const NEAR: u32 = 64;
 
 const FAR: u32 = 131_072;
 
-// A worker behind the first stays away too while fewer than so many numbers wait for each worker before it: where few nodes
+// A guest leaves the lock to others too while fewer than so many numbers wait for each worker before it: where few nodes
 // have something to do, what all workers write would go from processor to processor at each event.
 const CROWD: usize = 32;
 
-// In a network of fewer nodes that keeps nobody away, so that several threads take part in a short run.
+// A network of fewer nodes has no host, so that several threads take part in a short run.
 const SMALL: usize = 1024;
 
-// How many numbers have to wait for the worker of this rank to come; the first has rank 0.
-pub fn crowd_of(nodes: usize, rank: u32) -> usize {
-    if nodes < SMALL {
-        0
-    } else {
-        CROWD.saturating_mul(rank as usize)
+// What a worker is to the others.
+#[derive(Clone, Copy, Debug)]
+pub enum Place {
+    // In a large network the first worker stays: it waits for the lock, and never leaves it to others.
+    Host,
+    // Each other worker there comes while so many numbers wait, and leaves where it had to wait for the lock.
+    Guest(usize),
+    // In a small network each worker leaves where it had to wait for the lock, while something is out.
+    Peer,
+}
+
+impl Place {
+    // The place of a worker of this rank; the first has rank 0.
+    pub fn of(nodes: usize, rank: u32) -> Place {
+        if nodes < SMALL {
+            Place::Peer
+        } else if rank == 0 {
+            Place::Host
+        } else {
+            Place::Guest(CROWD.saturating_mul(rank as usize))
+        }
     }
+}
+
+// How many of so many workers have enough to do where so many numbers wait, at least one.
+pub fn sharers(nodes: usize, workers: usize, waiting: usize) -> usize
+    ensures { 1 ≤ result }
+{
+    let enough = if nodes < SMALL {
+        waiting
+    } else {
+        waiting / CROWD
+    };
+    enough.min(workers).max(1)
 }
 
 #[derive(Clone, Copy, Debug)]
@@ -40,23 +68,32 @@ pub struct Pace {
     pause: u32,
     // How long the worker stays away the next time.
     away: u32,
-    // How many numbers have to wait for the worker to come.
-    crowd: usize,
+    place: Place,
 }
 
 impl Pace {
-    pub fn new(crowd: usize) -> Pace {
+    pub fn new(place: Place) -> Pace {
         Pace {
             taken: 0,
             pause: 0,
             away: NEAR,
-            crowd,
+            place,
         }
     }
 
-    // Whether the worker is one too many for so many numbers that wait. After the longest time away it comes all the same.
-    pub fn is_spare(&self, waiting: usize) -> bool {
-        waiting < self.crowd && self.away < FAR
+    // Whether the worker is one that waits for the lock, though it has nothing to commit.
+    pub fn stays(&self) -> bool {
+        matches!(self.place, Place::Host)
+    }
+
+    // Whether the worker leaves the lock to others, where it waited for it or not and so many numbers wait. After the
+    // longest time away a guest is one too many no more.
+    pub fn leaves(&self, waited: bool, waiting: usize, is_out: bool) -> bool {
+        match self.place {
+            Place::Host => false,
+            Place::Guest(crowd) => waited || (waiting < crowd && self.away < FAR),
+            Place::Peer => waited && is_out,
+        }
     }
 
     // A number was taken.

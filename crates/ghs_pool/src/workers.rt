@@ -12,7 +12,7 @@ use crate::end::PoolFault;
 use crate::floor::{Floor, Next, Start};
 use crate::gate::Gate;
 use crate::hand::{Hand, MOST};
-use crate::pace::{Pace, crowd_of};
+use crate::pace::{Pace, Place};
 use crate::shop::{Shop, pair_of};
 use ghs_board::board::{Board, Publisher};
 use ghs_queue::queue::{ReadyPass, ReadyQueue};
@@ -149,7 +149,7 @@ fn serve_all<J: Start + Send + Sync, G: Gate + Sync, R: Threads + Wait + Sync>(
             let mut rest = pass;
             let shares = rest.shares();
             for rank in 1..shares {
-                let Ok(hand) = Hand::new(alloc, crowd_of(nodes, rank)) else {
+                let Ok(hand) = Hand::new(alloc, Place::of(nodes, rank)) else {
                     floor.lock(rt).stop();
                     return false;
                 };
@@ -165,7 +165,7 @@ fn serve_all<J: Start + Send + Sync, G: Gate + Sync, R: Threads + Wait + Sync>(
                     return false;
                 }
             }
-            let Ok(hand) = Hand::new(alloc, crowd_of(nodes, 0)) else {
+            let Ok(hand) = Hand::new(alloc, Place::of(nodes, 0)) else {
                 floor.lock(rt).stop();
                 return false;
             };
@@ -209,7 +209,7 @@ fn work<J: Start, G: Gate, R: Wait>(
     unreachable!()
 }
 
-// A visit to the lock. Where another worker has it, one that has nothing to commit goes at once.
+// A visit to the lock. Where another worker has it, one that has nothing to commit and doesn't stay goes at once.
 fn come<J: Start, R: Wait>(
     rt: &R,
     alloc: Global,
@@ -224,7 +224,7 @@ fn come<J: Start, R: Wait>(
     if let Some(mut floor) = floor.try_lock() {
         return floor.visit(rt, alloc, queue, pass, hand, false);
     }
-    if !hand.has_steps() {
+    if !hand.has_steps() && !hand.pace.stays() {
         return Next::Leave;
     }
     floor.lock(rt).visit(rt, alloc, queue, pass, hand, true)
