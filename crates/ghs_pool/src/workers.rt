@@ -209,7 +209,8 @@ fn work<J: Start, G: Gate, R: Wait>(
     unreachable!()
 }
 
-// A visit to the lock. Where another worker has it, one that has nothing to commit and doesn't stay goes at once.
+// A visit to the lock. A worker that has nothing to commit leaves it alone where it is one too many, and, unless it stays,
+// where another has it.
 fn come<J: Start, R: Wait>(
     rt: &R,
     alloc: Global,
@@ -221,10 +222,14 @@ fn come<J: Start, R: Wait>(
     requires { pass.old.name ≡ queue.now.name }
     ensures { pass.new.name ≡ pass.old.name }
 {
+    let is_idle = !hand.has_steps();
+    if is_idle && hand.pace.leaves(false, queue.len(rt, pass), true) {
+        return Next::Leave;
+    }
     if let Some(mut floor) = floor.try_lock() {
         return floor.visit(rt, alloc, queue, pass, hand, false);
     }
-    if !hand.has_steps() && !hand.pace.stays() {
+    if is_idle && !hand.pace.stays() {
         return Next::Leave;
     }
     floor.lock(rt).visit(rt, alloc, queue, pass, hand, true)
