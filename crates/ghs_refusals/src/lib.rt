@@ -6,10 +6,16 @@ mod graphs;
 #[cfg(test)]
 mod nets;
 #[cfg(test)]
+mod programs;
+#[cfg(test)]
 mod refusing;
 #[cfg(test)]
 mod runs;
 #[cfg(test)]
 mod shared;
+#[cfg(test)]
+mod shows;
+#[cfg(test)]
+mod texts;
 #[cfg(test)]
 mod worlds;

@@ -108,9 +108,18 @@ fn done_again(rt: &impl Abort, alloc: Global, events: &[Event], k: usize) -> Tur
     turn
 }
 
+/// To copy a schedule takes no memory.
+fn copy_none(rt: &impl Abort, alloc: Global) {
+    let schedule = Schedule::seeded(7);
+    order(alloc, 1);
+    assert!(rt; schedule.copy().is_ok());
+    order(alloc, 0);
+}
+
 #[test]
 fn runs(host: HostRuntime) -> Result<(), Fail> {
     let (rt, alloc) = (&host, host.alloc());
+    copy_none(rt, alloc);
     let events = events_of_run(rt, alloc);
     let count = refuse_each(rt, alloc, |k| seeded(rt, alloc, &events, k));
     assert_some(rt, alloc, count);

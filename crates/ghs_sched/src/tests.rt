@@ -5,6 +5,7 @@ use crate::trace::{read_trace, write_trace};
 use ghs_protocol::event::Event;
 use std::alloc::Global;
 use std::process::Abort;
+use std::test::Fail;
 
 /// The trace of a run of two nodes with one link.
 const PAIR: &str = "trace 7\nwake 1\nwake 2\ntake 1 0\ntake 2 0\ntake 1 0\ntake 2 0\ntake 1 0\n";
@@ -92,17 +93,36 @@ fn names_the_first_fault(rt: HostRuntime) {
     }
 }
 
+/// Seeds, and the first places that their schedules pick among a thousand.
+const PICKS: [(u64, [usize; 5]); 3] = [
+    (0, [503, 255, 180, 330, 874]),
+    (1, [387, 965, 744, 470, 780]),
+    (u64::MAX, [986, 512, 435, 187, 841]),
+];
+
 #[test]
 fn picks_are_the_words_of_the_seed(rt: HostRuntime) {
-    let rows = [
-        (0, [503, 255, 180, 330, 874]),
-        (1, [387, 965, 744, 470, 780]),
-        (u64::MAX, [986, 512, 435, 187, 841]),
-    ];
-    for (seed, places) in rows {
+    for (seed, places) in PICKS {
         let mut schedule = Schedule::seeded(seed);
         for place in places {
             assert_eq!(rt; schedule.pick(1000), place);
         }
     }
+}
+
+/// A copy goes on from where the schedule stands, and leaves it there.
+#[test]
+fn copies_pick_alike(rt: HostRuntime) -> Result<(), Fail> {
+    for (seed, places) in PICKS {
+        let mut schedule = Schedule::seeded(seed);
+        assert_eq!(rt; schedule.pick(1000), places[0]);
+        let mut copy = schedule.copy()?;
+        for turn in 1..5usize {
+            assert_eq!(rt; copy.pick(1000), places[turn]);
+        }
+        for turn in 1..5usize {
+            assert_eq!(rt; schedule.pick(1000), places[turn]);
+        }
+    }
+    Ok(())
 }

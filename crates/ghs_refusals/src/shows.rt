@@ -1,0 +1,205 @@
+//! Sweeps and pages, and what they are made of.
+ghost use Rattle.ghs_sweep.specs.Figures.{HasSmallWeight};
+ghost use Rattle.ghs_sweep.specs.Sweep.{AreRuns, HasTurns};
+ghost use Rattle.std.specs.Prelude.{◌≡◌, ◌≤◌, ◌^◌, All, IfOk, length};
+
+use crate::graphs::{five, is_five};
+use crate::refusing::{Turn, assert_some, order, refuse_each, turn_of};
+use crate::worlds::{assert_stands, events_of_run, world_after};
+use ghs_core::event::Event;
+use ghs_graph::graph::Graph;
+use ghs_patient::picking::Picking;
+use ghs_sched::trace::EVENT_LIMIT;
+use ghs_sweep::figures::{Figures, figures_of};
+use ghs_sweep::line::{put_line, runs_text};
+use ghs_sweep::runs::run_on;
+use ghs_sweep::seeded::{Setup, figures_of_seed};
+use ghs_sweep::summary::summary_text;
+use ghs_view::stored::{StoredFault, stored_page};
+use ghs_world::wake_set::WakeSet;
+use std::alloc::{AllocError, Global};
+use std::process::Abort;
+use std::test::Fail;
+use std::thread::Threads;
+
+const SETUP: Setup = Setup {
+    picking: Picking::Patient,
+    wake: WakeSet::All,
+    turns: EVENT_LIMIT,
+};
+
+/// The page of a run, which takes the graph.
+fn show_page(rt: &impl Abort, alloc: Global, events: &[Event], k: usize) -> Turn {
+    assert!(rt; events.len() as u64 <= EVENT_LIMIT);
+    let (graph, same) = (five(rt, alloc), five(rt, alloc));
+    let whole = stored_page(alloc, same, WakeSet::All, events, 1, 99).ok();
+    let whole = whole.expect(rt, "a page");
+    order(alloc, k);
+    let answer = stored_page(alloc, graph, WakeSet::All, events, 1, 99);
+    let turn = turn_of(alloc, k, &answer);
+    match answer {
+        Ok(text) => assert!(rt; text == whole),
+        Err(fault) => assert!(rt; fault == StoredFault::Memory),
+    }
+    turn
+}
+
+/// The figures of a world's net; the world stands.
+fn take_figures(rt: &impl Abort, alloc: Global, events: &[Event], k: usize) -> Turn {
+    let world = world_after(rt, alloc, events);
+    let whole = figures_of(alloc, world.net()).expect(rt, "figures");
+    order(alloc, k);
+    let answer = figures_of(alloc, world.net());
+    let turn = turn_of(alloc, k, &answer);
+    if let Ok(figures) = answer {
+        assert!(rt; figures == whole);
+    }
+    assert_stands(rt, alloc, &world, &world_after(rt, alloc, events));
+    turn
+}
+
+/// The figures of one seed's run.
+fn figures_by(rt: &impl Abort, alloc: Global, graph: &Graph, seed: u64) -> Figures {
+    figures_of_seed(alloc, graph, SETUP, seed).expect(rt, "figures")
+}
+
+fn take_seed_figures(rt: &impl Abort, alloc: Global, k: usize) -> Turn {
+    let graph = five(rt, alloc);
+    order(alloc, k);
+    let answer = figures_of_seed(alloc, &graph, SETUP, 7);
+    let turn = turn_of(alloc, k, &answer);
+    if let Ok(figures) = answer {
+        assert!(rt; figures == figures_by(rt, alloc, &graph, 7));
+    }
+    assert!(rt; is_five(rt, alloc, &graph));
+    turn
+}
+
+/// The figures of the runs of so many seeds, from 1 on.
+fn first_runs<R: Threads + Sync>(
+    rt: &R,
+    alloc: Global,
+    graph: &Graph,
+    setup: Setup,
+    count: u64,
+) -> Result<Vec<Figures>, AllocError>
+    requires turns { HasTurns setup }
+    requires count { (1 ≤ count) × (count ≤ 9) }
+    ensures runs { IfOk result (λ runs. AreRuns graph.now setup 1 runs.items) }
+    ensures count { IfOk result (λ runs. length runs.items ≡ count) }
+    ensures small { IfOk result (λ runs. All HasSmallWeight runs.items) }
+{
+    let mut runs = Vec::new(alloc);
+    run_on(rt, alloc, graph, setup, 1, &mut runs, count, 1)?;
+    Ok(runs)
+}
+
+/// Three runs behind the first one; refused, that one stands, and has its text.
+fn sweep_on<R: Threads + Sync + Abort>(rt: &R, alloc: Global, threads: u32, k: usize) -> Turn {
+    assert!(rt; threads >= 1);
+    let graph = five(rt, alloc);
+    let four = [
+        figures_by(rt, alloc, &graph, 1),
+        figures_by(rt, alloc, &graph, 2),
+        figures_by(rt, alloc, &graph, 3),
+        figures_by(rt, alloc, &graph, 4),
+    ];
+    let mut runs = first_runs(rt, alloc, &graph, SETUP, 1).expect(rt, "a run");
+    order(alloc, k);
+    let answer = run_on(rt, alloc, &graph, SETUP, 1, &mut runs, 3, threads);
+    let turn = turn_of(alloc, k, &answer);
+    let stand = if turn == Turn::Refused { 1 } else { 4 };
+    assert!(rt; runs.len() == stand && runs.as_slice() == &four[..stand]);
+    assert!(rt; runs_text(alloc, SETUP, 1, &runs).is_ok());
+    assert!(rt; is_five(rt, alloc, &graph));
+    turn
+}
+
+/// The text of runs, or their summary.
+#[derive(Clone, Copy)]
+enum Sheet {
+    Lines,
+    Summary,
+}
+
+fn sheet_of(alloc: Global, sheet: Sheet, runs: &[Figures]) -> Result<Vec<u8>, AllocError>
+    requires some { 1 ≤ length runs.now }
+    requires few { length runs.now ≤ 2 ^ 32 }
+    requires small { All HasSmallWeight runs.now }
+{
+    match sheet {
+        Sheet::Lines => runs_text(alloc, SETUP, 1, runs),
+        Sheet::Summary => summary_text(alloc, runs),
+    }
+}
+
+/// What is printed of two runs is what is printed where nothing is refused.
+fn print_sheet<R: Threads + Sync + Abort>(rt: &R, alloc: Global, sheet: Sheet, k: usize) -> Turn {
+    let graph = five(rt, alloc);
+    let runs = first_runs(rt, alloc, &graph, SETUP, 2).expect(rt, "runs");
+    let whole = sheet_of(alloc, sheet, &runs).expect(rt, "a text");
+    order(alloc, k);
+    let answer = sheet_of(alloc, sheet, &runs);
+    let turn = turn_of(alloc, k, &answer);
+    if let Ok(text) = answer {
+        assert!(rt; text == whole);
+    }
+    turn
+}
+
+/// A run's line behind what there is.
+fn put_figures(rt: &impl Abort, alloc: Global, k: usize) -> Turn {
+    let figures = figures_by(rt, alloc, &five(rt, alloc), 7);
+    let mut text = Vec::from_slice(alloc, b"head\n").expect(rt, "memory");
+    order(alloc, k);
+    let answer = put_line(&mut text, 7, SETUP, &figures);
+    let turn = turn_of(alloc, k, &answer);
+    assert!(rt;
+        text.starts_with(b"head\n") && text.ends_with(b",halted\n") == (turn != Turn::Refused)
+    );
+    turn
+}
+
+#[test]
+fn pages_and_figures(host: HostRuntime) -> Result<(), Fail> {
+    let (rt, alloc) = (&host, host.alloc());
+    let events = events_of_run(rt, alloc);
+    let count = refuse_each(rt, alloc, |k| show_page(rt, alloc, &events, k));
+    assert_some(rt, alloc, count);
+    println!(host; "refused stored_page {} {}", count.refused, count.spared)?;
+    let count = refuse_each(rt, alloc, |k| take_figures(rt, alloc, &events, k));
+    assert_some(rt, alloc, count);
+    println!(host; "refused figures_of {} {}", count.refused, count.spared)?;
+    let count = refuse_each(rt, alloc, |k| take_seed_figures(rt, alloc, k));
+    assert_some(rt, alloc, count);
+    println!(host;
+        "refused figures_of_seed {} {}",
+        count.refused, count.spared
+    )?;
+    let count = refuse_each(rt, alloc, |k| put_figures(rt, alloc, k));
+    assert_some(rt, alloc, count);
+    println!(host; "refused put_line {} {}", count.refused, count.spared)?;
+    Ok(())
+}
+
+#[test]
+fn sweeps(host: HostRuntime) -> Result<(), Fail> {
+    let (rt, alloc) = (&host, host.alloc());
+    for threads in [1u32, 2] {
+        let count = refuse_each(rt, alloc, |k| sweep_on(rt, alloc, threads, k));
+        assert_some(rt, alloc, count);
+        println!(host;
+            "refused run_on({threads}) {} {}",
+            count.refused, count.spared
+        )?;
+    }
+    for (name, sheet) in [
+        ("runs_text", Sheet::Lines),
+        ("summary_text", Sheet::Summary),
+    ] {
+        let count = refuse_each(rt, alloc, |k| print_sheet(rt, alloc, sheet, k));
+        assert_some(rt, alloc, count);
+        println!(host; "refused {name} {} {}", count.refused, count.spared)?;
+    }
+    Ok(())
+}

@@ -1,0 +1,176 @@
+//! Texts: of numbers, trees, traces and steps.
+ghost use Rattle.ghs_sched.specs.declared.trace.TheConstants.{EVENT_LIMIT};
+ghost use Rattle.std.specs.Prelude.{◌≤◌, length};
+
+use crate::graphs::five;
+use crate::refusing::{Turn, assert_some, order, refuse_each, turn_of};
+use crate::worlds::events_of_run;
+use ghs_core::event::Event;
+use ghs_gr::device::Device;
+use ghs_graph::key::Key;
+use ghs_lines::numbers::put_number;
+use ghs_node::level::Level;
+use ghs_node::message::Message;
+use ghs_node::sends::Sends;
+use ghs_page::page::page;
+use ghs_report::tree_text::tree_text;
+use ghs_sched::fault::TraceFault;
+use ghs_sched::trace::{EVENT_LIMIT, read_trace, write_trace};
+use ghs_steps::choice::Choice;
+use ghs_steps::form::Form;
+use ghs_steps::show::{StepsFault, write_steps};
+use ghs_world::wake_set::WakeSet;
+use std::alloc::{AllocError, Global};
+use std::process::Abort;
+use std::test::Fail;
+
+const LINK: Key = Key {
+    weight: 5,
+    a: 1,
+    b: 2,
+};
+
+const ALL: Choice = Choice {
+    from: 1,
+    to: u64::MAX,
+    node: None,
+};
+
+/// The text of a tree, of a run, and of the page round a text.
+#[derive(Clone, Copy)]
+enum Made {
+    Tree,
+    Trace,
+    Page,
+}
+
+fn text_of(alloc: Global, events: &[Event], made: Made) -> Result<Vec<u8>, AllocError>
+    requires { length events.now ≤ EVENT_LIMIT }
+{
+    match made {
+        Made::Tree => tree_text(alloc, &[LINK; 3]),
+        Made::Trace => write_trace(alloc, events),
+        Made::Page => page(alloc, b"{}\n"),
+    }
+}
+
+/// A text that is made is the one that is made where nothing is refused.
+fn make(rt: &impl Abort, alloc: Global, events: &[Event], made: Made, k: usize) -> Turn {
+    assert!(rt; events.len() as u64 <= EVENT_LIMIT);
+    let whole = text_of(alloc, events, made).expect(rt, "a text");
+    order(alloc, k);
+    let answer = text_of(alloc, events, made);
+    let turn = turn_of(alloc, k, &answer);
+    if let Ok(text) = answer {
+        assert!(rt; text == whole);
+    }
+    turn
+}
+
+/// The events of a run's text.
+fn read(rt: &impl Abort, alloc: Global, events: &[Event], k: usize) -> Turn {
+    assert!(rt; events.len() as u64 <= EVENT_LIMIT);
+    let text = write_trace(alloc, events).expect(rt, "a text");
+    order(alloc, k);
+    let answer = read_trace(alloc, &text);
+    let turn = turn_of(alloc, k, &answer);
+    match answer {
+        Ok(found) => assert!(rt; found.as_slice() == events),
+        Err(fault) => assert!(rt; fault == TraceFault::Memory),
+    }
+    turn
+}
+
+/// How the writing of a run's steps goes with the k-th allocation refused, and what is written.
+fn write(
+    rt: &impl Abort,
+    alloc: Global,
+    events: &[Event],
+    form: Form,
+    k: usize,
+) -> (Turn, Vec<u8>) {
+    assert!(rt; events.len() as u64 <= EVENT_LIMIT);
+    let graph = five(rt, alloc);
+    let mut held = Vec::with_capacity(alloc, 1 << 16).expect(rt, "memory");
+    let mut out = Device::of(&mut held);
+    order(alloc, k);
+    let answer = write_steps(alloc, graph, WakeSet::All, events, &ALL, form, &mut out);
+    let turn = turn_of(alloc, k, &answer);
+    if let Err(fault) = answer {
+        assert!(rt; fault == StepsFault::Memory);
+    }
+    (turn, held)
+}
+
+/// The lines of a short run go out as one portion, once they are whole: refused, nothing is written.
+fn write_lines(rt: &impl Abort, alloc: Global, events: &[Event], form: Form, k: usize) -> Turn {
+    let (turn, text) = write(rt, alloc, events, form, k);
+    let (_, whole) = write(rt, alloc, events, form, 0);
+    match turn {
+        Turn::Refused => assert!(rt; text.is_empty()),
+        _ => assert!(rt; text == whole && text.ends_with(b"\n")),
+    }
+    turn
+}
+
+/// A number's digits behind what there is; refused, nothing was added.
+fn put_digits(rt: &impl Abort, alloc: Global, k: usize) -> Turn {
+    let mut text = Vec::from_slice(alloc, b"w ").expect(rt, "memory");
+    order(alloc, k);
+    let answer = put_number(&mut text, u128::MAX);
+    let turn = turn_of(alloc, k, &answer);
+    let there = if turn == Turn::Refused { 2 } else { 41 };
+    assert!(rt; text.len() == there && text.starts_with(b"w "));
+    turn
+}
+
+/// One message more; refused, there is none more.
+fn push(rt: &impl Abort, alloc: Global, k: usize) -> Turn {
+    let message = Message::Connect(Level::of(0).expect(rt, "a level"));
+    let mut sends = Sends::none(alloc);
+    order(alloc, k);
+    let answer = sends.push(0, message);
+    let turn = turn_of(alloc, k, &answer);
+    assert!(rt; sends.as_slice().is_empty() == (turn == Turn::Refused));
+    turn
+}
+
+#[test]
+fn texts(host: HostRuntime) -> Result<(), Fail> {
+    let (rt, alloc) = (&host, host.alloc());
+    let events = events_of_run(rt, alloc);
+    for (name, made) in [
+        ("tree_text", Made::Tree),
+        ("write_trace", Made::Trace),
+        ("page", Made::Page),
+    ] {
+        let count = refuse_each(rt, alloc, |k| make(rt, alloc, &events, made, k));
+        assert_some(rt, alloc, count);
+        println!(host; "refused {name} {} {}", count.refused, count.spared)?;
+    }
+    let count = refuse_each(rt, alloc, |k| read(rt, alloc, &events, k));
+    assert_some(rt, alloc, count);
+    println!(host; "refused read_trace {} {}", count.refused, count.spared)?;
+    Ok(())
+}
+
+#[test]
+fn parts_of_texts(host: HostRuntime) -> Result<(), Fail> {
+    let (rt, alloc) = (&host, host.alloc());
+    let events = events_of_run(rt, alloc);
+    for (name, form) in [
+        ("write_steps", Form::Text),
+        ("write_steps(JSON)", Form::Json),
+    ] {
+        let count = refuse_each(rt, alloc, |k| write_lines(rt, alloc, &events, form, k));
+        assert_some(rt, alloc, count);
+        println!(host; "refused {name} {} {}", count.refused, count.spared)?;
+    }
+    let count = refuse_each(rt, alloc, |k| put_digits(rt, alloc, k));
+    assert_some(rt, alloc, count);
+    println!(host; "refused put_number {} {}", count.refused, count.spared)?;
+    let count = refuse_each(rt, alloc, |k| push(rt, alloc, k));
+    assert_some(rt, alloc, count);
+    println!(host; "refused Sends::push {} {}", count.refused, count.spared)?;
+    Ok(())
+}
