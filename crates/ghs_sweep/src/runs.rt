@@ -1,6 +1,6 @@
 //! The runs of many seeds, side by side.
 ghost use Rattle.ghs_sweep.specs.Sweep.{AreRuns, HasTurns};
-ghost use Rattle.std.specs.Prelude.{◌≡◌, ◌+◌, ◌-◌, ◌<◌, ◌≤◌, ◌^◌, IfOk, length};
+ghost use Rattle.std.specs.Prelude.{◌≡◌, ◌+◌, ◌-◌, ◌<◌, ◌≤◌, ◌^◌, IfOk, OnErr, length};
 ghost use Rattle.std.specs.Thread.{IsSync};
 
 use crate::figures::Figures;
@@ -10,8 +10,8 @@ use std::alloc::{AllocError, Global};
 use std::thread::{Threads, join};
 
 /// Goes on with the runs of seeds that rise from the first on: puts the figures of the next ones, so many and one at
-/// least, behind those that there are. The runs go side by side on so many threads, 1 at least; the figures are the same for every number of
-/// threads. Refusal: want of memory.
+/// least, behind those that there are. The runs go side by side on so many threads, 1 at least; the figures are the same
+/// for every number of threads. Refusal: want of memory; then those that there are stay.
 pub fn run_on<R: Threads + Sync>(
     rt: &R,
     alloc: Global,
@@ -29,6 +29,7 @@ pub fn run_on<R: Threads + Sync>(
     requires threads { 1 ≤ threads }
     ensures runs { IfOk result (λ _. AreRuns graph.now setup first runs.new.items) }
     ensures count { IfOk result (λ _. length runs.new.items ≡ length runs.old.items + count) }
+    ensures err { OnErr result (runs.new.items ≡ runs.old.items) }
 {
     let next = first + runs.len() as u64;
     let mut more = runs_by(rt, alloc, graph, setup, next, count, threads)?;
