@@ -13,7 +13,7 @@ use std::test::Fail;
 use std::thread::Threads;
 
 /// How many texts of each kind are damaged.
-const TRIALS: u32 = 10_000;
+const TRIALS: u32 = 100_000;
 
 /// Graphs that are accepted.
 const GRAPHS: [&str; 8] = [
