@@ -5,5 +5,3 @@
 pub mod board;
 pub mod progress;
 mod rule;
-#[cfg(test)]
-mod tests;

@@ -4,6 +4,4 @@
 mod counts;
 pub mod flags;
 mod row;
-#[cfg(test)]
-mod tests;
 mod word;

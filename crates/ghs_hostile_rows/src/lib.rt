@@ -5,3 +5,5 @@
 mod damage;
 #[cfg(test)]
 mod failing;
+#[cfg(test)]
+mod faults;

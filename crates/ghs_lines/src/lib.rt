@@ -4,5 +4,3 @@
 pub mod fields;
 pub mod lines;
 pub mod numbers;
-#[cfg(test)]
-mod tests;

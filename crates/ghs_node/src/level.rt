@@ -29,6 +29,20 @@ impl Level {
     /// The level of a fragment of one node.
     pub const ZERO: Level = Level { level: 0 };
 
+    /// The level of two fragments of level 0 that have merged.
+    pub const ONE: Level = Level { level: 1 };
+
+    /// The level of two fragments of level 1 that have merged.
+    pub const TWO: Level = Level { level: 2 };
+
+    /// The highest level from which a merge leads to another.
+    pub const NEXT_TO_TOP: Level = Level {
+        level: TOP_LEVEL - 1,
+    };
+
+    /// The highest level.
+    pub const TOP: Level = Level { level: TOP_LEVEL };
+
     /// The level of this number, if there is one.
     pub fn of(level: u8) -> Option<Level>
         ensures within { IsSome result ↔ (level ≤ TOP_LEVEL) }
@@ -48,17 +62,4 @@ impl Level {
     {
         self.level
     }
-}
-
-#[cfg(test)]
-impl Level {
-    pub(crate) const ONE: Level = Level { level: 1 };
-
-    pub(crate) const TWO: Level = Level { level: 2 };
-
-    pub(crate) const NEXT_TO_TOP: Level = Level {
-        level: TOP_LEVEL - 1,
-    };
-
-    pub(crate) const TOP: Level = Level { level: TOP_LEVEL };
 }

@@ -4,8 +4,6 @@
 pub mod delta;
 mod draft;
 pub mod fault;
-#[cfg(test)]
-mod fixtures;
 pub mod head;
 pub mod kind;
 pub mod laws;
@@ -14,13 +12,9 @@ pub mod mark;
 mod marks;
 pub mod message;
 pub mod node;
-#[cfg(test)]
-mod path_tests;
 mod procedures;
 pub mod react;
 mod responses;
 pub mod row_name;
-#[cfg(test)]
-mod row_tests;
 pub mod sends;
 pub mod work;

@@ -3,5 +3,3 @@
 
 pub mod page;
 pub mod template;
-#[cfg(test)]
-mod tests;

@@ -4,5 +4,3 @@
 mod choices;
 pub mod picking;
 pub mod run;
-#[cfg(test)]
-mod tests;

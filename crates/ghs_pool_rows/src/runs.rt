@@ -1,4 +1,4 @@
-//! Runs of workers, with ample memory. Their texts were found by hand.
+//! Runs of workers, with ample memory.
 ghost use Rattle.std.specs.Prelude.{◌≡◌, ◌≤◌};
 ghost use Rattle.ghs_pool.specs.Shop.{IsTold};
 
@@ -13,7 +13,6 @@ use ghs_pool::gate::{Gate, OpenGate};
 use ghs_pool::shop::Shop;
 use ghs_pool::workers::{run_watched, run_workers};
 use ghs_protocol::event::Event;
-use ghs_report::net_text::net_text;
 use ghs_sched::run::RunEnd;
 use ghs_world::wake_set::WakeSet;
 use ghs_world::world::World;
@@ -27,52 +26,9 @@ use std::thread::Threads;
 
 const MOST_TURNS: u64 = 1 << 40;
 
-/// A graph, and the text of its run however it goes.
-#[derive(Clone, Copy, Drop)]
-struct Row {
-    graph: &'static str,
-    text: &'static str,
-}
+const PAIR: &str = "p sp 2 2\na 1 2 5\na 2 1 5";
 
-const SINGLE: Row = Row {
-    graph: "p sp 1 0",
-    text: "w 0\nm connect=0 initiate=0 test=0 accept=0 reject=0 report=0 changeroot=0\ns 0 0\n",
-};
-
-const PAIR: Row = Row {
-    graph: "p sp 2 2\na 1 2 5\na 2 1 5",
-    text: "t 1 2 5\nw 5\nm connect=2 initiate=2 test=0 accept=0 reject=0 report=2 changeroot=0\ns 6 12\n",
-};
-
-const PATH: Row = Row {
-    graph: "p sp 3 2\na 1 2 5\na 2 3 7",
-    text: "t 1 2 5\nt 2 3 7\nw 12\nm connect=3 initiate=3 test=1 accept=0 reject=1 report=3 changeroot=0\ns 11 19\n",
-};
-
-const TRIANGLE: Row = Row {
-    graph: "p sp 3 3\na 1 2 1\na 2 3 2\na 1 3 3",
-    text: "t 1 2 1\nt 2 3 2\nw 3\nm connect=3 initiate=3 test=3 accept=0 reject=1 report=3 changeroot=0\ns 13 21\n",
-};
-
-const EQUAL_WEIGHTS: Row = Row {
-    graph: "p sp 3 3\na 1 2 4\na 2 3 4\na 1 3 4",
-    text: "t 1 2 4\nt 1 3 4\nw 8\nm connect=3 initiate=3 test=3 accept=0 reject=1 report=3 changeroot=0\ns 13 21\n",
-};
-
-const TWO_PAIRS: Row = Row {
-    graph: "p sp 4 3\na 1 2 1\na 3 4 2\na 2 3 3",
-    text: "t 1 2 1\nt 3 4 2\nt 2 3 3\nw 6\nm connect=6 initiate=8 test=2 accept=2 reject=0 report=8 changeroot=0\ns 26 46\n",
-};
-
-const FIVE: Row = Row {
-    graph: "p sp 5 4\na 1 2 1\na 2 3 2\na 4 5 3\na 3 4 4",
-    text: "t 1 2 1\nt 2 3 2\nt 4 5 3\nt 3 4 4\nw 10\nm connect=7 initiate=10 test=3 accept=2 reject=1 report=10 changeroot=1\ns 34 58\n",
-};
-
-const IN_PIECES: Row = Row {
-    graph: "p sp 4 2\na 1 2 5\na 3 4 6",
-    text: "t 1 2 5\nt 3 4 6\nw 11\nm connect=4 initiate=4 test=0 accept=0 reject=0 report=4 changeroot=0\ns 12 44\n",
-};
+const FIVE: &str = "p sp 5 4\na 1 2 1\na 2 3 2\na 4 5 3\na 3 4 4";
 
 /// The opening world of the graph of a text.
 fn world_of(rt: &impl Abort, alloc: Global, text: &str, wake: WakeSet, turns: u64) -> World {
@@ -82,54 +38,6 @@ fn world_of(rt: &impl Abort, alloc: Global, text: &str, wake: WakeSet, turns: u6
     World::open(alloc, graph, wake, turns)
         .ok()
         .expect(rt, "a world")
-}
-
-/// Whatever wakes, and with any number of workers, the run ends with the text.
-fn ends<R: Threads + Wait + Sync + Abort>(rt: &R, alloc: Global, row: &Row, wake: WakeSet) {
-    for workers in [1u32, 2, 8] {
-        assert!(rt; workers >= 1 && workers <= 64);
-        let world = world_of(rt, alloc, row.graph, wake, MOST_TURNS);
-        let (world, end) = run_workers(rt, alloc, world, workers, &OpenGate);
-        assert!(rt; end.is_ok());
-        let text = net_text(alloc, world.net()).ok().expect(rt, "a text");
-        assert_eq!(rt; text.as_slice(), row.text.as_bytes());
-    }
-}
-
-#[test]
-fn every_run_has_its_text(rt: HostRuntime) {
-    let rows = [
-        SINGLE,
-        PAIR,
-        PATH,
-        TRIANGLE,
-        EQUAL_WEIGHTS,
-        TWO_PAIRS,
-        FIVE,
-        IN_PIECES,
-    ];
-    for row in rows.iter() {
-        ends(&rt, rt.alloc(), row, WakeSet::All);
-        ends(&rt, rt.alloc(), row, WakeSet::First);
-    }
-}
-
-// A body that only looks over the nodes would take at node 1 before it takes at node 2 again.
-#[test]
-fn one_worker_serves_from_the_queue(rt: HostRuntime) {
-    let world = world_of(&rt, rt.alloc(), PAIR.graph, WakeSet::All, MOST_TURNS);
-    let (world, end) = run_workers(&rt, rt.alloc(), world, 1, &OpenGate);
-    assert_eq!(rt; end, Ok(RunEnd::Halted(1)));
-    let events = [
-        Event::Wake(1),
-        Event::Wake(2),
-        Event::Take(1, 0),
-        Event::Take(2, 0),
-        Event::Take(2, 0),
-        Event::Take(1, 0),
-        Event::Take(1, 0),
-    ];
-    assert!(rt; world.trace() == events.as_slice());
 }
 
 // Does events, and leaves one more out.
@@ -147,24 +55,13 @@ fn a_run_goes_on_from_its_world(rt: HostRuntime) {
     let alloc = rt.alloc();
     for workers in [1u32, 2, 8] {
         assert!(rt; workers >= 1 && workers <= 64);
-        let mut world = world_of(&rt, alloc, FIVE.graph, WakeSet::All, MOST_TURNS);
+        let mut world = world_of(&rt, alloc, FIVE, WakeSet::All, MOST_TURNS);
         begin(&rt, alloc, &mut world);
         let (world, end) = run_workers(&rt, alloc, world, workers, &OpenGate);
         assert!(rt; end.is_ok());
         let first = [Event::Wake(2), Event::Wake(4)];
         assert!(rt; world.trace().starts_with(first.as_slice()));
         assert_eq!(rt; world.out_count(), 0);
-    }
-}
-
-#[test]
-fn turns_end_a_run(rt: HostRuntime) {
-    for workers in [1u32, 2, 8] {
-        assert!(rt; workers >= 1 && workers <= 64);
-        let world = world_of(&rt, rt.alloc(), PATH.graph, WakeSet::All, 3);
-        let (world, end) = run_workers(&rt, rt.alloc(), world, workers, &OpenGate);
-        assert_eq!(rt; end, Err(PoolFault::TurnLimit));
-        assert_eq!(rt; world.trace().len(), 3);
     }
 }
 
@@ -197,7 +94,7 @@ fn two_nodes_are_out_at_once(rt: HostRuntime) {
         second: AtomicU64::new(0),
         noted: AtomicU64::new(0),
     };
-    let world = world_of(&rt, rt.alloc(), PAIR.graph, WakeSet::All, MOST_TURNS);
+    let world = world_of(&rt, rt.alloc(), PAIR, WakeSet::All, MOST_TURNS);
     let (_, end) = run_workers(&rt, rt.alloc(), world, 2, &gate);
     assert!(rt; end.is_ok());
     assert_eq!(rt; gate.noted.load(Ordering::SeqCst), 1);
@@ -305,7 +202,7 @@ fn watch(board: &Board, mut reader: Reader, gate: &Meet) -> Reader
 fn a_shop_tells_of_each_commit(rt: HostRuntime) {
     let alloc = rt.alloc();
     let (_board, publisher, _reader) = Board::open(alloc, NONE_YET).expect(&rt, "a board");
-    let mut world = world_of(&rt, alloc, PAIR.graph, WakeSet::All, MOST_TURNS);
+    let mut world = world_of(&rt, alloc, PAIR, WakeSet::All, MOST_TURNS);
     let step = world.check_out(alloc, Event::Wake(1)).ok();
     let step = step.expect(&rt, "a ticket").perform(alloc).ok();
     let mut shop = Shop::open(world, publisher).ok().expect(&rt, "a shop");
@@ -327,7 +224,7 @@ fn a_shop_tells_of_each_commit(rt: HostRuntime) {
 fn run_beside_readers<R: Threads + Wait + Sync + Abort>(rt: &R, alloc: Global) {
     let (board, publisher, mut first) = Board::open(alloc, NONE_YET).expect(rt, "a board");
     let second = board.split(alloc, &mut first).expect(rt, "a reader");
-    let world = world_of(rt, alloc, FIVE.graph, WakeSet::All, MOST_TURNS);
+    let world = world_of(rt, alloc, FIVE, WakeSet::All, MOST_TURNS);
     let Ok(shop) = Shop::open(world, publisher) else {
         panic!(rt; "an opening pair");
     };

@@ -13,3 +13,5 @@ pub mod charges
 pub mod progress
 pub mod every_run
 pub mod examples
+pub mod merging
+pub mod one_core

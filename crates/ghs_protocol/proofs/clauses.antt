@@ -15,3 +15,4 @@ pub mod Scene
 pub mod Changes
 pub mod UnderWay
 pub mod Acts
+pub mod Growing

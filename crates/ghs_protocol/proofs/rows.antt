@@ -4,5 +4,6 @@ pub mod Requeue
 pub mod Read
 pub mod Link
 pub mod Ending
+pub mod Tried
 pub mod Steps
 pub mod Rows

@@ -13,3 +13,4 @@ pub mod ConnectIn
 pub mod Absorb
 pub mod AbsorbFloors
 pub mod AbsorbUnderWay
+pub mod LeastLinks

@@ -13,3 +13,5 @@ pub mod Interleavings
 pub mod Connects
 pub mod Living
 pub mod Schedules
+pub mod Merging
+pub mod Cores

@@ -5,5 +5,3 @@
 mod hand;
 pub mod queue;
 mod rule;
-#[cfg(test)]
-mod tests;

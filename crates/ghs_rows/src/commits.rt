@@ -74,30 +74,46 @@ fn two_nodes_by_tickets(rt: HostRuntime) {
     );
 }
 
+/// The link of nodes 1 and 2 in the path.
+const SHORT: Key = Key {
+    weight: 5,
+    a: 1,
+    b: 2,
+};
+
+/// The link of nodes 2 and 3 in the path.
+const LONG: Key = Key {
+    weight: 7,
+    a: 2,
+    b: 3,
+};
+
+fn assert_branches(rt: &impl Abort, alloc: Global, world: &World, links: &[Key]) {
+    assert_eq!(rt; branches_of(rt, alloc, world).as_slice(), links);
+}
+
+/// Three nodes in a row, all of which have woken.
+fn awake(rt: &impl Abort, alloc: Global) -> World {
+    let mut world = path(rt, alloc);
+    let wakes = [Event::Wake(1), Event::Wake(2), Event::Wake(3)];
+    do_all(rt, alloc, &mut world, &wakes);
+    world
+}
+
+#[test]
+fn nodes_wake(rt: HostRuntime) {
+    let alloc = rt.alloc();
+    let mut world = path(&rt, alloc);
+    do_all(&rt, alloc, &mut world, &[Event::Wake(1)]);
+    assert_branches(&rt, alloc, &world, &[SHORT]);
+    do_all(&rt, alloc, &mut world, &[Event::Wake(2), Event::Wake(3)]);
+    assert_branches(&rt, alloc, &world, &[SHORT, LONG]);
+}
+
 #[test]
 fn three_nodes_awake(rt: HostRuntime) {
     let alloc = rt.alloc();
-    let short = Key {
-        weight: 5,
-        a: 1,
-        b: 2,
-    };
-    let long = Key {
-        weight: 7,
-        a: 2,
-        b: 3,
-    };
-    let mut world = path(&rt, alloc);
-    do_all(&rt, alloc, &mut world, &[Event::Wake(1)]);
-    assert_eq!(rt;
-        branches_of(&rt, alloc, &world).as_slice(),
-        [short].as_slice()
-    );
-    do_all(&rt, alloc, &mut world, &[Event::Wake(2), Event::Wake(3)]);
-    assert_eq!(rt;
-        branches_of(&rt, alloc, &world).as_slice(),
-        [short, long].as_slice()
-    );
+    let world = awake(&rt, alloc);
     let rows = [row(1, 0, 2), row(3, 0, 1)];
     assert_eq!(rt; census_of(&rt, alloc, &world).as_slice(), rows.as_slice());
     assert!(rt; world.net().graph().nodes() == 3);
@@ -109,9 +125,7 @@ fn three_nodes_awake(rt: HostRuntime) {
 #[test]
 fn one_out_while_another_acts(rt: HostRuntime) {
     let alloc = rt.alloc();
-    let mut world = path(&rt, alloc);
-    let wakes = [Event::Wake(1), Event::Wake(2), Event::Wake(3)];
-    do_all(&rt, alloc, &mut world, &wakes);
+    let mut world = awake(&rt, alloc);
     let step = step_of(&rt, alloc, &mut world, Event::Take(2, 1));
     let mut ledger = Ledger {
         sent: [3, 0, 0, 0, 0, 0, 0],

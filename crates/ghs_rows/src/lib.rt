@@ -1,4 +1,4 @@
-//! Worked examples of nets, worlds, runs and traces, as tests over devices in memory.
+//! Worked examples of nets and worlds, as tests.
 #![tactic(auto)]
 
 #[cfg(test)]
@@ -13,10 +13,7 @@ mod queues;
 mod runs;
 #[cfg(test)]
 mod strangers;
-pub mod table;
 #[cfg(test)]
 mod texts;
-#[cfg(test)]
-mod traces;
 #[cfg(test)]
 mod worlds;

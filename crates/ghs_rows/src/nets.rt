@@ -50,7 +50,7 @@ pub fn play(rt: &impl Abort, alloc: Global, net: &mut Net, event: Event) {
     net.play(event, &delta);
 }
 
-pub fn is_lawful(net: &Net, event: Event) -> bool {
+fn is_lawful(net: &Net, event: Event) -> bool {
     net.lawful(event)
 }
 
@@ -58,7 +58,7 @@ fn halted_in(net: &Net) -> Option<u32> {
     net.core_halted()
 }
 
-pub fn has_ended(net: &Net) -> bool {
+fn has_ended(net: &Net) -> bool {
     net.ended()
 }
 
@@ -360,13 +360,30 @@ fn same_runs(rt: HostRuntime) {
     assert!(rt; !left.same(&right));
     play(&rt, alloc, &mut right, Event::Wake(3));
     assert!(rt; !left.same(&right));
-    let other = left.into_graph();
-    assert!(rt; other.same(right.graph()));
-    let again = Net::open(alloc, other).ok().expect(&rt, "memory");
+}
+
+/// The net that another one's graph opens with.
+fn opened_again(rt: &impl Abort, alloc: Global, net: Net) -> Net {
+    Net::open(alloc, net.into_graph()).ok().expect(rt, "memory")
+}
+
+#[test]
+fn a_graph_opens_again(rt: HostRuntime) {
+    let alloc = rt.alloc();
+    let mut net = net_of(&rt, alloc, PATH);
+    play(&rt, alloc, &mut net, Event::Wake(2));
+    let again = opened_again(&rt, alloc, net);
     assert!(rt; !again.same(&net_of(&rt, alloc, PAIR)));
     assert!(rt; again.same(&net_of(&rt, alloc, PATH)));
-    let node = again.lift(alloc, 1).expect(&rt, "memory");
-    assert!(rt; node.same(again.node(1)));
+}
+
+#[test]
+fn a_node_lifted(rt: HostRuntime) {
+    let alloc = rt.alloc();
+    let net = net_of(&rt, alloc, PATH);
+    assert!(rt; net.graph().nodes() == 3);
+    let node = net.lift(alloc, 1).expect(&rt, "memory");
+    assert!(rt; node.same(net.node(1)));
 }
 
 /// What changes when an event is played: messages consumed, and messages put back.

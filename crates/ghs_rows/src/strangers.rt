@@ -6,6 +6,7 @@ use ghs_world::ticket::{Step, Ticket};
 use ghs_world::wake_set::WakeSet;
 use ghs_world::world::World;
 use std::alloc::Global;
+use std::process::Abort;
 
 /// The number of a step that isn't committed, and why it isn't.
 fn refused_step(alloc: Global, world: &mut World, step: Step) -> Option<(u64, CommitFault)> {
@@ -23,45 +24,58 @@ fn refused_ticket(world: &mut World, ticket: Ticket) -> Option<(u64, BackFault)>
     }
 }
 
+/// Checks out an event, under this number, and never commits it.
+fn hold(rt: &impl Abort, alloc: Global, world: &mut World, event: Event, number: u64) {
+    let ticket = check_out(rt, alloc, world, event);
+    assert_eq!(rt; ticket.number(), number);
+}
+
+/// Nothing is committed, and one ticket is out.
+fn assert_one_is_out(rt: &impl Abort, world: &World) {
+    assert!(rt; world.trace().is_empty());
+    assert_eq!(rt; world.out_count(), 1);
+}
+
+/// A number is given out, and its ticket taken back.
+fn use_a_number(rt: &impl Abort, alloc: Global, world: &mut World, event: Event) {
+    let ticket = check_out(rt, alloc, world, event);
+    assert_eq!(rt; refused_ticket(world, ticket), None);
+}
+
 #[test]
 fn a_step_that_was_called_back(rt: HostRuntime) {
     let alloc = rt.alloc();
     let mut world = path(&rt, alloc);
     let step = step_of(&rt, alloc, &mut world, Event::Wake(1));
-    assert_eq!(rt; step.number(), 1);
     world.recall_all();
-    let ticket = check_out(&rt, alloc, &mut world, Event::Wake(1));
-    assert_eq!(rt; ticket.number(), 2);
-    assert_eq!(rt;
-        refused_step(alloc, &mut world, step),
-        Some((1, CommitFault::UnknownTicket))
-    );
-    assert!(rt; world.trace().is_empty());
-    assert_eq!(rt; world.out_count(), 1);
-    assert_eq!(rt; refused_ticket(&mut world, ticket), None);
-    assert_eq!(rt; world.out_count(), 0);
+    hold(&rt, alloc, &mut world, Event::Wake(1), 2);
+    let refused = refused_step(alloc, &mut world, step);
+    assert_eq!(rt; refused, Some((1, CommitFault::UnknownTicket)));
+    assert_one_is_out(&rt, &world);
 }
 
 #[test]
-fn another_event_under_the_number(rt: HostRuntime) {
+fn another_event_under_the_number_of_a_ticket(rt: HostRuntime) {
     let alloc = rt.alloc();
     let mut world = path(&rt, alloc);
-    let held = check_out(&rt, alloc, &mut world, Event::Wake(1));
     let mut other = path(&rt, alloc);
+    hold(&rt, alloc, &mut world, Event::Wake(1), 1);
     let ticket = check_out(&rt, alloc, &mut other, Event::Wake(2));
-    assert!(rt; held.number() == 1 && ticket.number() == 1);
-    assert_eq!(rt;
-        refused_ticket(&mut world, ticket),
-        Some((1, BackFault::Altered))
-    );
-    let mut third = path(&rt, alloc);
-    let step = step_of(&rt, alloc, &mut third, Event::Wake(2));
-    assert_eq!(rt;
-        refused_step(alloc, &mut world, step),
-        Some((1, CommitFault::Altered))
-    );
-    assert!(rt; world.trace().is_empty());
-    assert_eq!(rt; world.out_count(), 1);
+    let refused = refused_ticket(&mut world, ticket);
+    assert_eq!(rt; refused, Some((1, BackFault::Altered)));
+    assert_one_is_out(&rt, &world);
+}
+
+#[test]
+fn another_event_under_the_number_of_a_step(rt: HostRuntime) {
+    let alloc = rt.alloc();
+    let mut world = path(&rt, alloc);
+    let mut other = path(&rt, alloc);
+    hold(&rt, alloc, &mut world, Event::Wake(1), 1);
+    let step = step_of(&rt, alloc, &mut other, Event::Wake(2));
+    let refused = refused_step(alloc, &mut world, step);
+    assert_eq!(rt; refused, Some((1, CommitFault::Altered)));
+    assert_one_is_out(&rt, &world);
 }
 
 // A step with equal number, event, node and work is the same step, whichever world it is of.
@@ -73,13 +87,10 @@ fn twins(rt: HostRuntime) {
     let own = step_of(&rt, alloc, &mut world, Event::Wake(1));
     let other = step_of(&rt, alloc, &mut twin, Event::Wake(1));
     let _ = commit(&rt, alloc, &mut world, other);
+    let refused = refused_step(alloc, &mut world, own);
+    assert_eq!(rt; refused, Some((1, CommitFault::UnknownTicket)));
     assert!(rt; world.trace() == [Event::Wake(1)].as_slice());
-    assert_eq!(rt;
-        refused_step(alloc, &mut world, own),
-        Some((1, CommitFault::UnknownTicket))
-    );
-    assert!(rt; twin.trace().is_empty());
-    assert_eq!(rt; twin.out_count(), 1);
+    assert_one_is_out(&rt, &twin);
 }
 
 // The event, its number and its message are equal, but node 1 is awake in one world and asleep in the other.
@@ -90,15 +101,11 @@ fn twins_that_went_apart(rt: HostRuntime) {
     let mut twin = path(&rt, alloc);
     do_all(&rt, alloc, &mut world, &[Event::Wake(2)]);
     do_all(&rt, alloc, &mut twin, &[Event::Wake(2), Event::Wake(1)]);
-    let ticket = check_out(&rt, alloc, &mut world, Event::Wake(3));
-    assert_eq!(rt; refused_ticket(&mut world, ticket), None);
-    let held = check_out(&rt, alloc, &mut world, Event::Take(1, 0));
+    use_a_number(&rt, alloc, &mut world, Event::Wake(3));
+    hold(&rt, alloc, &mut world, Event::Take(1, 0), 3);
     let step = step_of(&rt, alloc, &mut twin, Event::Take(1, 0));
-    assert!(rt; held.number() == 3 && step.number() == 3);
-    assert_eq!(rt;
-        refused_step(alloc, &mut world, step),
-        Some((3, CommitFault::Altered))
-    );
+    let refused = refused_step(alloc, &mut world, step);
+    assert_eq!(rt; refused, Some((3, CommitFault::Altered)));
     assert!(rt; world.trace() == [Event::Wake(2)].as_slice());
 }
 
@@ -106,12 +113,10 @@ fn twins_that_went_apart(rt: HostRuntime) {
 fn a_world_of_another_weight(rt: HostRuntime) {
     let alloc = rt.alloc();
     let mut world = path(&rt, alloc);
-    let _held = check_out(&rt, alloc, &mut world, Event::Wake(1));
+    hold(&rt, alloc, &mut world, Event::Wake(1), 1);
     let text = "p sp 3 2\na 1 2 6\na 2 3 7";
     let mut other = world_of(&rt, alloc, text, WakeSet::All, MOST_TURNS);
     let step = step_of(&rt, alloc, &mut other, Event::Wake(1));
-    assert_eq!(rt;
-        refused_step(alloc, &mut world, step),
-        Some((1, CommitFault::Altered))
-    );
+    let refused = refused_step(alloc, &mut world, step);
+    assert_eq!(rt; refused, Some((1, CommitFault::Altered)));
 }

@@ -12,8 +12,6 @@ use ghs_world::world::World;
 use std::alloc::Global;
 use std::process::Abort;
 
-const SINGLE: &str = "p sp 1 0";
-
 const PATH: &str = "p sp 3 2\na 1 2 5\na 2 3 7";
 
 pub const MOST_TURNS: u64 = 1 << 40;
@@ -70,77 +68,67 @@ pub fn text_of(rt: &impl Abort, alloc: Global, world: &World) -> Vec<u8> {
     run_text(alloc, world).ok().expect(rt, "a text")
 }
 
-// A node without links halts when it wakes.
-#[test]
-fn a_lone_node(rt: HostRuntime) {
-    let alloc = rt.alloc();
-    for wake in [WakeSet::All, WakeSet::First] {
-        let mut world = world_of(&rt, alloc, SINGLE, wake, 1);
-        assert!(rt; !world.ended());
-        let step = step_of(&rt, alloc, &mut world, Event::Wake(1));
-        assert!(rt; step.number() == 1 && step.event() == Event::Wake(1));
-        let committed = commit(&rt, alloc, &mut world, step);
-        assert!(rt; committed.halted);
-        assert_eq!(rt; committed.woken.as_slice().len(), 0);
-        assert!(rt; world.ended());
-        assert_eq!(rt; world.core_halted(), Some(1));
-        let text =
-            "w 0\nm connect=0 initiate=0 test=0 accept=0 reject=0 report=0 changeroot=0\ns 0 0\n";
-        assert_eq!(rt; text_of(&rt, alloc, &world).as_slice(), text.as_bytes());
-    }
-}
-
 #[test]
 fn refused_events(rt: HostRuntime) {
     let alloc = rt.alloc();
-    let mut world = world_of(&rt, alloc, PATH, WakeSet::All, 1);
-    assert_eq!(rt;
-        refusal_of(alloc, &mut world, Event::Wake(4)),
-        Some(OutFault::NoSuch)
-    );
-    assert_eq!(rt;
-        refusal_of(alloc, &mut world, Event::Take(2, 0)),
-        Some(OutFault::Nothing)
-    );
-    let ticket = check_out(&rt, alloc, &mut world, Event::Wake(1));
-    assert_eq!(rt; ticket.number(), 1);
-    assert_eq!(rt;
-        refusal_of(alloc, &mut world, Event::Wake(1)),
-        Some(OutFault::Busy)
-    );
-    assert_eq!(rt;
-        refusal_of(alloc, &mut world, Event::Wake(2)),
-        Some(OutFault::TurnLimit)
-    );
-    assert_eq!(rt; world.out_count(), 1);
-    assert!(rt; world.give_back(ticket).is_ok());
-    let ticket = check_out(&rt, alloc, &mut world, Event::Wake(2));
-    assert_eq!(rt; ticket.number(), 2);
-    assert!(rt; ticket.event() == Event::Wake(2));
+    let mut world = path(&rt, alloc);
+    let fault = refusal_of(alloc, &mut world, Event::Wake(4));
+    assert_eq!(rt; fault, Some(OutFault::NoSuch));
+    let fault = refusal_of(alloc, &mut world, Event::Take(2, 0));
+    assert_eq!(rt; fault, Some(OutFault::Nothing));
 }
+
+// With one turn left one node may be out; its number is used up when it is taken back, and the turn is there again.
+#[test]
+fn one_turn(rt: HostRuntime) {
+    let alloc = rt.alloc();
+    let mut world = world_of(&rt, alloc, PATH, WakeSet::All, 1);
+    let ticket = check_out(&rt, alloc, &mut world, Event::Wake(1));
+    let fault = refusal_of(alloc, &mut world, Event::Wake(1));
+    assert_eq!(rt; fault, Some(OutFault::Busy));
+    let fault = refusal_of(alloc, &mut world, Event::Wake(2));
+    assert_eq!(rt; fault, Some(OutFault::TurnLimit));
+    assert!(rt; world.give_back(ticket).is_ok());
+    assert_eq!(rt; number_of(&rt, alloc, &mut world, Event::Wake(2)), 2);
+}
+
+/// The number under which an event is checked out.
+fn number_of(rt: &impl Abort, alloc: Global, world: &mut World, event: Event) -> u64 {
+    let ticket = check_out(rt, alloc, world, event);
+    assert!(rt; ticket.event() == event);
+    ticket.number()
+}
+
+/// Two pairs and a fifth node, of which nodes 1, 3 and 5 may wake.
+const PIECES: &str = "p sp 5 2\na 1 2 5\na 3 4 6";
 
 #[test]
 fn who_wakes_first(rt: HostRuntime) {
     let alloc = rt.alloc();
-    let text = "p sp 5 2\na 1 2 5\na 3 4 6";
-    let mut world = world_of(&rt, alloc, text, WakeSet::First, MOST_TURNS);
+    let mut world = world_of(&rt, alloc, PIECES, WakeSet::First, MOST_TURNS);
     for v in [2, 4] {
-        assert_eq!(rt;
-            refusal_of(alloc, &mut world, Event::Wake(v)),
-            Some(OutFault::Nothing)
-        );
+        let fault = refusal_of(alloc, &mut world, Event::Wake(v));
+        assert_eq!(rt; fault, Some(OutFault::Nothing));
     }
     for v in [1, 3, 5] {
-        assert_eq!(rt; refusal_of(alloc, &mut world, Event::Wake(v)), None);
+        let fault = refusal_of(alloc, &mut world, Event::Wake(v));
+        assert_eq!(rt; fault, None);
     }
     assert_eq!(rt; world.out_count(), 3);
+}
+
+#[test]
+fn all_are_called_back(rt: HostRuntime) {
+    let alloc = rt.alloc();
+    let mut world = world_of(&rt, alloc, PIECES, WakeSet::First, MOST_TURNS);
+    for v in [1, 3, 5] {
+        let fault = refusal_of(alloc, &mut world, Event::Wake(v));
+        assert_eq!(rt; fault, None);
+    }
     world.recall_all();
     assert_eq!(rt; world.out_count(), 0);
-    let ticket = check_out(&rt, alloc, &mut world, Event::Wake(1));
-    assert_eq!(rt; ticket.number(), 4);
-    let none: [Key; 0] = [];
-    let branches = world.branches(alloc).expect(&rt, "memory");
-    assert_eq!(rt; branches.as_slice(), none.as_slice());
+    assert_eq!(rt; number_of(&rt, alloc, &mut world, Event::Wake(1)), 4);
+    assert!(rt; branches_of(&rt, alloc, &world).is_empty());
 }
 
 fn ready_in(rt: &impl Abort, alloc: Global, world: &World) -> Vec<Event> {
@@ -148,11 +136,18 @@ fn ready_in(rt: &impl Abort, alloc: Global, world: &World) -> Vec<Event> {
 }
 
 #[test]
+fn nodes_are_ready_to_wake(rt: HostRuntime) {
+    let alloc = rt.alloc();
+    let world = path(&rt, alloc);
+    let wakes = [Event::Wake(1), Event::Wake(2), Event::Wake(3)];
+    assert!(rt; ready_in(&rt, alloc, &world).as_slice() == wakes.as_slice());
+}
+
+#[test]
 fn ready_events(rt: HostRuntime) {
     let alloc = rt.alloc();
     let mut world = path(&rt, alloc);
     let wakes = [Event::Wake(1), Event::Wake(2), Event::Wake(3)];
-    assert!(rt; ready_in(&rt, alloc, &world).as_slice() == wakes.as_slice());
     do_all(&rt, alloc, &mut world, wakes.as_slice());
     let takes = [Event::Take(1, 0), Event::Take(2, 0), Event::Take(2, 1)];
     assert!(rt; ready_in(&rt, alloc, &world).as_slice() == takes.as_slice());

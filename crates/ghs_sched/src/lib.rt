@@ -8,6 +8,4 @@ mod reading;
 pub mod replay;
 pub mod run;
 pub mod schedule;
-#[cfg(test)]
-mod tests;
 pub mod trace;

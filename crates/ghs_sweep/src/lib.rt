@@ -7,5 +7,3 @@ pub mod measure;
 pub mod runs;
 pub mod seeded;
 pub mod summary;
-#[cfg(test)]
-mod tests;

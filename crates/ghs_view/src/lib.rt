@@ -4,5 +4,3 @@
 pub mod data;
 pub mod page;
 pub mod stored;
-#[cfg(test)]
-mod tests;

@@ -52,6 +52,9 @@ below_lower (Some i) (Some j) h = grind (arith, nat_tests)
 below_lower (Some i) None h = refl
 below_lower None b h = cc
 
+pub not_above : (x y : Key) → lower (Some (Some x)) (Some (Some y)) ≡ true → key_lt y x ≡ false
+not_above x y h = grind (arith, nat_tests)
+
 -- A cut: where no link that leads out of a fragment has a smaller key, the link isn't spare.
 module _ (g : Network) (part : ℕ → ℕ) (a : ℕ) (v p : ℕ) (apart : part (far g v p) ≢ a)
     (least : (t q : ℕ) → At g t q → part t ≡ a → part (far g t q) ≢ a → key_lt (port_at g t q).key (port_at g v p).key ≡ false) where
@@ -185,35 +188,30 @@ module _ (g : Network) (wired : IsWired g) (w : Scene) (holds : Invariant g w) (
     root_floors (By_report k q b p l) = by_report k q l
     root_floors (By_root q) = by_root q
 
-    -- the best link of the root, where it leads out, is one of the tree
-    pub best_in_tree :
-        SendsRoot w u j ms →
-        (b : ℕ) (k : Key) → At g u b →
-        (w.at u).head.best ≡ Some (b, k) →
-        (w.at u).mark b ≢ Branch →
-        IsTreeLink g u b
-    best_in_tree calls b k atb best mark = cut_link g (λ t. (w.at t).fragment) (w.at u).fragment u b out.apart least refl
-      where
-        out : LeadsOut (tree_end (end g w u b)) (tree_end (far_end g w u b)) k
-        out = (link_fits g wired w holds u b atb).search.find_leads k best root.top mark
+    -- the best link of the root, where it leads out, is the least that does
+    module _ (calls : SendsRoot w u j ms) (b : ℕ) (k : Key) (atb : At g u b) (best : (w.at u).head.best ≡ Some (b, k))
+        (mark : (w.at u).mark b ≢ Branch) where
+      out : LeadsOut (tree_end (end g w u b)) (tree_end (far_end g w u b)) k
+      out = (link_fits g wired w holds u b atb).search.find_leads k best root.top mark
 
-        floors_here : RootFloors
-        floors_here = root_floors calls
+      floors_here : RootFloors
+      floors_here = root_floors calls
 
-        is_floor : floor u ≡ Some (Some (port_at g u b).key)
-        is_floor = floors_here.mine ∙ ap (λ o. Some (best_key o)) best ∙ ap (λ x. Some (Some x)) out.key
+      is_floor : floor u ≡ Some (Some (port_at g u b).key)
+      is_floor = floors_here.mine ∙ ap (λ o. Some (best_key o)) best ∙ ap (λ x. Some (Some x)) out.key
 
-        least : (t q : ℕ) →
-            At g t q →
-            (w.at t).fragment ≡ (w.at u).fragment →
-            (w.at (far g t q)).fragment ≢ (w.at u).fragment →
-            key_lt (port_at g t q).key (port_at g u b).key ≡ false
-        least t q at' same away =
-            let joined : IsJoinedIn g (forest w) u j = record { here = ap is_branch root.joins.here; there = ap is_branch root.joins.there } in
-            let z = leads_above u j at joined root.up root.up_beyond (Some (Some (port_at g u b).key))
-            (subst (λ x. lower (Some (Some (port_at g u b).key)) x ≡ true) (sym is_floor) (lower_self (Some (Some (port_at g u b).key))))
-            (subst (λ x. lower x (floor (far g u j)) ≡ true) is_floor floors_here.theirs) (λ e. cc (e, found)) t q at' same away in
-            not_above (port_at g u b).key (port_at g t q).key z
-          where
-            not_above : (x y : Key) → lower (Some (Some x)) (Some (Some y)) ≡ true → key_lt y x ≡ false
-            not_above x y h = grind (arith, nat_tests)
+      pub best_least : (t q : ℕ) →
+          At g t q →
+          (w.at t).fragment ≡ (w.at u).fragment →
+          (w.at (far g t q)).fragment ≢ (w.at u).fragment →
+          key_lt (port_at g t q).key (port_at g u b).key ≡ false
+      best_least t q at' same away =
+          let joined : IsJoinedIn g (forest w) u j = record { here = ap is_branch root.joins.here; there = ap is_branch root.joins.there } in
+          let z = leads_above u j at joined root.up root.up_beyond (Some (Some (port_at g u b).key))
+          (subst (λ x. lower (Some (Some (port_at g u b).key)) x ≡ true) (sym is_floor) (lower_self (Some (Some (port_at g u b).key))))
+          (subst (λ x. lower x (floor (far g u j)) ≡ true) is_floor floors_here.theirs) (λ e. cc (e, found)) t q at' same away in
+          not_above (port_at g u b).key (port_at g t q).key z
+
+      -- so it is one of the tree
+      pub best_in_tree : IsTreeLink g u b
+      best_in_tree = cut_link g (λ t. (w.at t).fragment) (w.at u).fragment u b out.apart best_least refl

@@ -20,6 +20,7 @@ use Rattle.ghs_protocol.proofs.clauses.Nodes.{Untouched}
 use Rattle.ghs_protocol.proofs.clauses.Wiring.{Ground}
 use Rattle.ghs_protocol.proofs.clauses.Whole.{opening_ghost}
 use Rattle.ghs_protocol.proofs.clauses.Floors.{Sound}
+use Rattle.ghs_protocol.proofs.clauses.Growing.{Kept}
 use Rattle.ghs_protocol.proofs.clauses.Charges.{Acted, Charges, HasCharges, Pays, Rises, SoundWith}
 use Rattle.ghs_protocol.proofs.lemmas.Nodes.{ports_many}
 use Rattle.ghs_protocol.proofs.lemmas.Sends.{messages, consumed_now, node_here, node_there, sent_now}
@@ -100,6 +101,10 @@ module _ (g : Network) (wired : IsWired g) (k : ℕ) (log : IsFloorLog2 g.count 
 
 module _ (g : Network) (ground : Ground g) (k : ℕ) (log : IsFloorLog2 g.count k) where
   -- what is known of a net, by its memory
+  -- without what it has grown from
+  with_memory : {w : Net} {t : ℕ} {gh : Ghost} {up : ℕ → Option ℕ} → Kept g t gh up w → SoundWith g up w
+  with_memory s = record { ghost = s.ghost; holds = s.holds; ups = s.ups }
+
   pub by_memory : {w : Net} {up : ℕ → Option ℕ} (s : SoundWith g up w) → Charges g k up w → Charges g k s.ghost.up w
   by_memory {w} s c = subst (λ u. Charges g k u w) (sym s.ups) c
 
@@ -116,7 +121,7 @@ module _ (g : Network) (ground : Ground g) (k : ℕ) (log : IsFloorLog2 g.count 
     some = lo;
     within = hi;
     up = put h.sound.ghost.up v (up_waking (w.node v).marks (h.sound.ghost.up v));
-    sound = wake_keeps g ground v (record { some = lo; node = hi }) w (nodes v) h.sound.ghost h.sound.holds sleeps;
+    sound = with_memory (wake_keeps g ground v (record { some = lo; node = hi }) w (nodes v) h.sound.ghost h.sound.holds sleeps);
     acted =
         subst
         (λ u. Acted g k v u (put h.sound.ghost.up v (up_waking (w.node v).marks (h.sound.ghost.up v))) w (reacted g v (waking (w.node v)) w))
@@ -127,7 +132,7 @@ module _ (g : Network) (ground : Ground g) (k : ℕ) (log : IsFloorLog2 g.count 
     some = at.some;
     within = at.node;
     up = ups_after row h.sound.ghost.up v;
-    sound = row_keeps g ground v p at w (nodes v) h.sound.ghost h.sound.holds m ms d q up row;
+    sound = with_memory (row_keeps g ground v p at w (nodes v) h.sound.ghost h.sound.holds m ms d q up row);
     acted = subst (λ u. Acted g k v u (ups_after row h.sound.ghost.up v) w (taken g v p m ms d w)) h.sound.ups
         (row_acts g ground k log v p at w (nodes v) h.sound.ghost h.sound.holds (by_memory h.sound h.charges) ms m d q row);
   }

@@ -118,12 +118,21 @@ AllScanBut g w v = (u : ℕ) → InNetwork g u → u ≢ v → ScansInOrder g u 
 abbrev pub AllScan : Network → Scene → Type 0
 AllScan g w = (u : ℕ) → InNetwork g u → ScansInOrder g u (w.at u)
 
+-- no Basic port's key is below the node's floor, and who has no best link has its way to the core for its way to the root
+pub record Tried (g : Network) (v : ℕ) (m : Member) (a : Floor) : Type 0 where
+  pub untried : (q : ℕ) → m.mark q ≡ Basic → lower a (Some (Some (port_at g v q).key)) ≡ true
+  pub way : m.head.best ≡ None → m.head.in_branch ≢ None → m.up ≡ m.head.in_branch
+
+abbrev pub AllTried : Network → Scene → (ℕ → Floor) → Type 0
+AllTried g w floor = (u : ℕ) → InNetwork g u → Tried g u (w.at u) (floor u)
+
 -- the invariant, with floors, with tests in order, and with what is always under way
 pub record Sound (g : Network) (w : Scene) : Type 0 where
   pub first : Invariant g w
   pub floor : ℕ → Floor
   pub floors : Floors g w floor
   pub scans : AllScan g w
+  pub tried : AllTried g w floor
   pub lives : Lives g w
 
 -- the same while node u has yet to test its next port
@@ -132,6 +141,7 @@ pub record Nearly (g : Network) (w : Scene) (u : ℕ) : Type 0 where
   pub floor : ℕ → Floor
   pub floors : Floors g w floor
   pub scans : AllScanBut g w u
+  pub tried : AllTried g w floor
   pub lives : Lives g w
 
 -- some memory makes all this hold

@@ -1,5 +1,5 @@
 -- Every net of a run has floors; and what that says of its marks.
-use Rattle.std.proofs.Common.{◌≡◌, ℕ, ◌≤◌, ◌<◌, None, List, arith, sym, ◌∙◌, ap, subst, ⊎_elim}
+use Rattle.std.proofs.Common.{◌≡◌, ℕ, ◌≤◌, ◌<◌, None, List, arith, refl, sym, ◌∙◌, ap, subst, ⊎_elim}
 use Rattle.ghs_graph.specs.declared.key.Key.{Key}
 use Rattle.ghs_graph.specs.Graph.{Shape}
 use Rattle.ghs_graph.specs.Links.{Joined, Same, Over as Along, links, InTree}
@@ -30,7 +30,7 @@ use Rattle.ghs_protocol.proofs.rows.Rows.{step_keeps}
 use Rattle.ghs_protocol.proofs.acts.Grounds.{graph_ground}
 
 pub opening_sound : (g : Network) → Sound g (scene (opening g) opening_ghost)
-opening_sound g = record { first = opening_holds g; floor = λ v. None; floors = opening_floors g; scans = opening_scans g; lives = opening_lives g }
+opening_sound g = record { first = opening_holds g; floor = λ v. None; floors = opening_floors g; scans = opening_scans g; tried = λ v is. record { untried = λ q b. refl; way = λ e ne. absurd (ne refl) }; lives = opening_lives g }
 
 pub after_sound : (g : Network) → Ground g → HasFewPorts g → (es : List Event) (w : Net) → IsAfter g es w → HasSound g w
 after_sound g ground few es w h =

@@ -49,7 +49,7 @@ module _ (s : Shape) (ok : IsGraph s) where
   pub key_there : (k : Key) → (h : Contains s.keys k) → (port_at g k.a (port_number s.keys k.a k)).key ≡ k
   key_there k h = ap (λ p. p.key) (is_port k h)
 
-  far_there : (k : Key) → (h : Contains s.keys k) → far g k.a (port_number s.keys k.a k) ≡ k.b
+  pub far_there : (k : Key) → (h : Contains s.keys k) → far g k.a (port_number s.keys k.a k) ≡ k.b
   far_there k h = ap (λ p. p.far) (is_port k h) ∙ far_end_a k
 
   -- a way over links is a way over their ports

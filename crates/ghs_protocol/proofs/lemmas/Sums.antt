@@ -1,5 +1,5 @@
 -- Sums over places and over ports.
-use Rattle.std.proofs.Common.{◌≡◌, ◌≢◌, ℕ, zero, suc, ◌+◌, ◌<◌, ◌≤◌, length, refl, sym, ⊎_elim, arith}
+use Rattle.std.proofs.Common.{◌≡◌, ◌≢◌, ℕ, zero, suc, ◌+◌, ◌<◌, ◌≤◌, length, refl, sym, subst, ⊎_elim, arith}
 use Rattle.std.proofs.lemmas.Bool.{cases_eq}
 use Rattle.ghs_protocol.specs.Network.{Network, At}
 use Rattle.ghs_protocol.specs.Ledger.{sum_below, sum_over_ports}
@@ -77,3 +77,16 @@ module _ (g : Network) where
 pub sum_few : (n : ℕ) (f : ℕ → ℕ) → ((i : ℕ) → f i ≤ 1) → sum_below n f ≤ n
 sum_few zero f e = omega arith
 sum_few (suc n) f e = let a = sum_few n f e in let b = e n in omega (arith, a, b)
+
+-- a sum of which no term is more, and one is less
+pub sum_less : (n j : ℕ) (f h : ℕ → ℕ) → j < n → ((i : ℕ) → i < n → f i ≤ h i) → suc (f j) ≤ h j → suc (sum_below n f) ≤ sum_below n h
+sum_less zero j f h lt e s = absurd (omega arith)
+sum_less (suc n) j f h lt e s = ⊎_elim here (before (λ l. sum_less n j f h l (λ i k. e i (omega arith)) s)) (cases_eq j n)
+  where
+    here : j ≡ n → suc (sum_below n f + f n) ≤ sum_below n h + h n
+    here x =
+        let rest = sum_most n f h (λ i l. e i (omega arith)) in
+        let last : suc (f n) ≤ h n = subst (λ y. suc (f y) ≤ h y) x s in omega (arith, rest, last)
+
+    before : (j < n → suc (sum_below n f) ≤ sum_below n h) → j ≢ n → suc (sum_below n f + f n) ≤ sum_below n h + h n
+    before ih ne = let rest = ih (omega arith) in let last = e n (omega arith) in omega (arith, rest, last)

@@ -158,7 +158,7 @@ module _ (g : Network) (wired : IsWired g) (w : Scene) (holds : Invariant g w) (
               ⊎_elim (λ there. reported here there) (λ away. absurd (no_out v q at same here away))
               (bool_is (is_branch ((w.at (far g v q)).mark (far_port g v q))))
 
-  tip : (x v : ℕ) → Reach g (forest w) v → Q x v
+  pub tip : (x v : ℕ) → Reach g (forest w) v → Q x v
   tip x v r' = upwards g (forest w) (Q x) (step x) v r'
 
   -- the two halves of a core don't report one key

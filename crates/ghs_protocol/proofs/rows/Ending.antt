@@ -1,5 +1,5 @@
 -- How a reaction of the search ends, with floors and tests in order.
-use Rattle.std.proofs.Common.{◌≡◌, ◌≢◌, ℕ, zero, suc, ◌<◌, true, Some, None, List, [], ◌∷◌, ◌++◌, length, lt-ltb, refl, sym, ◌∙◌, ap, subst, get_or, arith, ⊎_elim}
+use Rattle.std.proofs.Common.{◌≡◌, ◌≢◌, ℕ, zero, suc, ◌<◌, true, false, Option, Some, None, List, [], ◌∷◌, ◌++◌, length, lt-ltb, refl, sym, ◌∙◌, ap, subst, get_or, arith, ⊎_elim}
 use Rattle.std.specs.List.{position_or_len}
 use Rattle.std.proofs.lemmas.Bool.{cases_eq}
 use Rattle.std.proofs.lemmas.List.Quantifiers.{position-Some}
@@ -7,16 +7,18 @@ use Rattle.ghs_node.specs.declared.mark.Mark.{Mark}
 use Rattle.ghs_node.specs.declared.mark.Mark.TheVariants.{Basic, Branch, Rejected}
 use Rattle.ghs_node.specs.declared.message.Phase.TheVariants.{Find}
 use Rattle.ghs_node.specs.declared.message.Message.TheVariants.{Report}
-use Rattle.ghs_node.specs.Words.{Outgoing, is_basic, best_key, least_basic}
+use Rattle.ghs_node.specs.Words.{Outgoing, is_basic, below, best_key, least_basic}
 use Rattle.ghs_node.specs.Reaction.{Ending, Probing, Reporting, Waiting, last_sends, name_of, core_port}
 use Rattle.ghs_node.specs.Rows.{Closes, Reports, Waits, Settles, Probes, Exhausts}
 use Rattle.ghs_node.proofs.lemmas.{basic_is}
 use Rattle.ghs_protocol.proofs.clauses.Wiring.{Ground}
-use Rattle.ghs_protocol.specs.Network.{Network, At, InNetwork}
+use Rattle.ghs_protocol.specs.Network.{Network, port_at, At, InNetwork}
 use Rattle.ghs_protocol.specs.Net.{put}
 use Rattle.ghs_protocol.proofs.clauses.Scene.{Seen, Member, Scene, acts}
 use Rattle.ghs_protocol.proofs.clauses.Nodes.{NodeFits, Searching}
-use Rattle.ghs_protocol.proofs.clauses.Floors.{Floors, ScansInOrder, Sound, Nearly}
+use Rattle.ghs_protocol.proofs.clauses.Floors.{Floors, ScansInOrder, Sound, Nearly, lower}
+use Rattle.ghs_protocol.proofs.rows.Tried.{tried_same, tried_put, tried_fewer}
+use Rattle.ghs_graph.specs.declared.key.Key.{Key}
 use Rattle.ghs_protocol.proofs.clauses.UnderWay.{Lives}
 use Rattle.ghs_protocol.proofs.lemmas.Updates.{put_same}
 use Rattle.ghs_protocol.proofs.tests.UnderWay.{scan_lives, closes_lives}
@@ -66,6 +68,9 @@ settles_so g v m ms _ is none (Probes p least) =
 settles_so g v m ms e is none (Exhausts least c) =
     closes_so g v m e (exhausted_scan g v m none (λ q b. least_none ms least q (ap (λ (f : ℕ → Mark). f q) is ∙ b))) c
 
+not_lower : (k a : Option Key) → below k a ≡ false → lower (Some a) (Some k) ≡ true
+not_lower k a e = rw e refl
+
 module _ (g : Network) (ground : Ground g) (v : ℕ) (v_is : InNetwork g v) where
   is : InNetwork g v
   is = v_is
@@ -87,6 +92,9 @@ module _ (g : Network) (ground : Ground g) (v : ℕ) (v_is : InNetwork g v) wher
         scans_after g v v_is.some v_is.node (ended (w.at v) (Probing p)) (w.seen v) (last_sends (w.at v).head (Probing p)) w n.scans
         (probing_scan g ground.ordered v (ended (w.at v) (Probing p)) p at refl least
         (λ q b. record { some = v_is.some; node = v_is.node; port = fits.own_ports.mark q (λ z. cc (z, b)) }));
+    tried =
+        tried_same g v (ended (w.at v) (Probing p)) w.at n.floor n.tried
+        (tried_fewer g v (w.at v) (ended (w.at v) (Probing p)) (n.floor v) (λ q b. b) (λ e. e) refl refl (n.tried v is));
     lives =
         subst
         (λ (q : ℕ → Seen). Lives g (acts g v (ended (w.at v) (Probing p)) q (last_sends (w.at v).head (Probing p)) w))
@@ -116,6 +124,9 @@ module _ (g : Network) (ground : Ground g) (v : ℕ) (v_is : InNetwork g v) wher
     scans =
         scans_after g v v_is.some v_is.node (ended (w.at v) Reporting) (w.seen v) (last_sends (w.at v).head Reporting) w n.scans
         (rests_scan g v (ended (w.at v) Reporting) (λ e. cc));
+    tried =
+        tried_put g v (ended (w.at v) Reporting) w.at n.floor (Some (best_key (w.at v).head.best)) n.tried
+        (record { untried = λ q b. not_lower (Some (port_at g v q).key) (best_key (w.at v).head.best) (scan.done q finds none b); way = (n.tried v is).way });
     lives =
         subst (λ (q : ℕ → Seen). Lives g (acts g v (ended (w.at v) Reporting) q (last_sends (w.at v).head Reporting) w)) (put_again (w.seen v) s.port)
         (subst (λ b.
@@ -143,6 +154,7 @@ module _ (g : Network) (ground : Ground g) (v : ℕ) (v_is : InNetwork g v) wher
         floor = n.floor;
         floors = n.floors;
         scans = λ u iu. ⊎_elim (λ (e : u ≡ v). subst (λ y. ScansInOrder g y (w.at y)) (sym e) scan) (λ ne. n.scans u iu ne) (cases_eq u v);
+        tried = n.tried;
         lives = n.lives;
       })
 

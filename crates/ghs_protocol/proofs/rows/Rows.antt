@@ -23,7 +23,11 @@ use Rattle.ghs_protocol.proofs.rows.Ending.{EndsSo, closes_so, ends_after_so, se
 use Rattle.ghs_protocol.proofs.rows.Steps.{absorb_sound, accept_nearly, accept_scanned, accept_sound, cross_nearly, end_sound, lone_sound, meet_sound, out_sound, pass_sound, reject_nearly, reject_sound, report_nearly, report_scanned, rest_sound, search_nearly, serve_sound, wake_meeting_sound, wake_out_sound}
 use Rattle.ghs_protocol.proofs.acts.Reactions.{grouped_scene, regrouped, round_scene, taken_acts, taken_up, wake_acts, with_up}
 use Rattle.ghs_protocol.proofs.lemmas.Nodes.{ports_many}
-use Rattle.ghs_protocol.proofs.clauses.Charges.{SoundWith}
+use Rattle.ghs_protocol.proofs.clauses.Growing.{As_it_was, Grouped, Grows, Kept, LeastPort, Meets, Takes_in}
+use Rattle.ghs_protocol.proofs.lemmas.Updates.{put_same}
+use Rattle.ghs_protocol.proofs.union.Absorb.{came}
+use Rattle.ghs_protocol.proofs.union.ConnectIn.{Came}
+use Rattle.ghs_protocol.proofs.union.LeastLinks.{came_least, grouped, root_least, root_levels, root_top, wake_least, wake_levels}
 use Rattle.ghs_protocol.proofs.clauses.Floors.{HasSound, Nearly, ScansInOrder, Sound}
 use Rattle.ghs_protocol.proofs.clauses.Nodes.{NodeFits}
 use Rattle.ghs_protocol.proofs.clauses.Uniting.{By_report, By_root, MarksAre, SendsRoot, absorb, meet}
@@ -44,6 +48,16 @@ ups_after (Report_moves_root b k way found best less) up v = put up v (Some b)
 ups_after (Root_moves b k best) up v = put up v (Some b)
 ups_after _ up v = up
 
+-- how many fragments a row takes in
+abbrev pub takes_in : {n : NodeState} {p : ℕ} {m : Message} {d : Delta} → AwakeRow n p m d → ℕ
+takes_in (Connect_absorbed lt few) = 1
+takes_in _ = 0
+
+-- and a step
+abbrev pub step_takes : {g : Network} {w w' : Net} → Step g w w' → ℕ
+step_takes (Wakes_up v lo hi sleeps) = 0
+step_takes (Takes_one v p m ms d at q up row) = takes_in row
+
 -- and after a wake: over port 0, if there is one
 abbrev pub up_waking : List Mark → Option ℕ → Option ℕ
 up_waking [] o = o
@@ -51,29 +65,50 @@ up_waking (m ∷ ms) o = Some 0
 
 -- a scene in which the clauses hold, as a net with some memory
 module _ (g : Network) (v : ℕ) where
-  absorbed_sound : (p : ℕ) (w : Net) (gh : Ghost) → Sound g (absorb g v p (scene w gh)) → SoundWith g gh.up w
-  absorbed_sound p w gh h =
+  absorbed_sound :
+      (p : ℕ) (w : Net) (gh : Ghost) → At g v p → LeastPort g gh.fragment (far g v p) (far_port g v p) →
+      gh.coming (gh.fragment (far g v p)) < gh.coming (gh.fragment v) → Sound g (absorb g v p (scene w gh)) → Kept g 1 gh gh.up w
+  absorbed_sound p w gh at least lt h =
       record {
         ghost = regrouped (gh.fragment (far g v p)) (gh.fragment v) (gh.coming (gh.fragment v)) (gh.coming_name (gh.fragment v)) gh;
         ups = refl;
         holds = subst (Sound g) (sym (grouped_scene _ _ _ _ w gh)) h;
+        steps = 1;
+        grows =
+            Takes_in v p at least lt
+            (grouped (gh.fragment (far g v p)) (gh.fragment v) (gh.coming (gh.fragment v)) (gh.coming_name (gh.fragment v)) gh gh.up);
       }
 
-  met_sound : (p : ℕ) (w : Net) (gh : Ghost) → Sound g (meet g v p (scene w gh)) → SoundWith g gh.up w
-  met_sound p w gh h =
+  met_sound :
+      (p : ℕ) (w : Net) (gh : Ghost) (o : ℕ → Option ℕ) → LeastPort g gh.fragment v p → LeastPort g gh.fragment (far g v p) (far_port g v p) →
+      gh.coming (gh.fragment v) ≡ gh.coming (gh.fragment (far g v p)) → (w.node v).head.level ≡ gh.coming (gh.fragment v) →
+      Sound g (meet g v p (scene w (record gh { up = o }))) → Kept g 0 gh o w
+  met_sound p w gh o here there levels top h =
       record {
-        ghost = regrouped (gh.fragment (far g v p)) (gh.fragment v) (suc (w.node v).head.level) (Some (port_at g v p).key) gh;
+        ghost =
+            regrouped (gh.fragment (far g v p)) (gh.fragment v) (suc (w.node v).head.level) (Some (port_at g v p).key) (record gh { up = o });
         ups = refl;
-        holds = subst (Sound g) (sym (grouped_scene _ _ _ _ w gh)) h;
+        holds = subst (Sound g) (sym (grouped_scene _ _ _ _ w (record gh { up = o }))) h;
+        steps = 1;
+        grows =
+            Meets v p here there levels
+            (subst
+            (λ l.
+            Grouped gh
+            (regrouped (gh.fragment (far g v p)) (gh.fragment v) (suc (w.node v).head.level) (Some (port_at g v p).key) (record gh { up = o }))
+            (gh.fragment (far g v p)) (gh.fragment v) (suc l) (Some (port_at g v p).key))
+            top (grouped (gh.fragment (far g v p)) (gh.fragment v) (suc (w.node v).head.level) (Some (port_at g v p).key) gh o));
       }
 
   taken_sound :
       (w : Net) (gh : Ghost) (p : ℕ) (m : Message) (ms : List Message) (d : Delta) (x : Member) → d.fate ≡ Consumed → reacts g v w gh d ≡ x →
-      Sound g (acts g v x (put (λ i. see (w.queue v i)) p (see ms)) d.sends (scene w gh)) → SoundWith g gh.up (taken g v p m ms d w)
+      Sound g (acts g v x (put (λ i. see (w.queue v i)) p (see ms)) d.sends (scene w gh)) → Kept g 0 gh gh.up (taken g v p m ms d w)
   taken_sound w gh p m ms d x e is h =
       record {
         ghost = gh;
         ups = refl;
+        steps = 0;
+        grows = As_it_was refl refl refl;
         holds =
             subst (Sound g) (sym (taken_acts g v w gh p m ms d e))
             (subst (λ (y : Member). Sound g (acts g v y (put (λ i. see (w.queue v i)) p (see ms)) d.sends (scene w gh))) (sym is) h);
@@ -87,7 +122,7 @@ module _ (g : Network) (v p : ℕ) (w : Net) (gh : Ghost) (ms : List Message) wh
       (m : Message) → is_tree m ≡ true → w.queue v p ≡ m ∷ ms → (d : Delta) (x : Member) → d.fate ≡ Consumed → reacts g v w gh d ≡ x →
       ((see (w.queue v p)).tree ≡ m ∷ (see ms).tree →
       Sound g (acts g v x (left (record (see (w.queue v p)) { tree = (see ms).tree })) d.sends (scene w gh))) →
-      SoundWith g gh.up (taken g v p m ms d w)
+      Kept g 0 gh gh.up (taken g v p m ms d w)
   tree_taken m tree waits d x once is act =
       taken_sound g v w gh p m ms d x once is
       (subst (λ (q : Seen). Sound g (acts g v x (left q) d.sends (scene w gh))) (tree_left (w.queue v p) ms m tree waits)
@@ -96,7 +131,7 @@ module _ (g : Network) (v p : ℕ) (w : Net) (gh : Ghost) (ms : List Message) wh
   search_taken :
       Ground g → 1 ≤ v → v ≤ g.count → (m : Message) (q : Seen) → q ≡ see ms → (x : Member) (mark : Option (ℕ × Mark)) (ss : Outgoing) (e : Ending) →
       reacts g v w gh (ends x.head mark ss e) ≡ ended x e → x.head.phase ≡ Find → EndsSo g v x e → Nearly g (acts g v x (left q) ss (scene w gh)) v →
-      SoundWith g gh.up (taken g v p m ms (ends x.head mark ss e) w)
+      Kept g 0 gh gh.up (taken g v p m ms (ends x.head mark ss e) w)
   search_taken ground lo hi m q rest x mark ss e is finds by act =
       taken_sound g v w gh p m ms (ends x.head mark ss e) (ended x e) refl is
       (ends_after_so g ground v (record { some = lo; node = hi }) x (left (see ms)) ss (scene w gh)
@@ -104,8 +139,8 @@ module _ (g : Network) (v p : ℕ) (w : Net) (gh : Ghost) (ms : List Message) wh
 
 -- a message that goes round: the scene stays
 module _ (g : Network) (ground : Ground g) (v p : ℕ) (at : At g v p) (w : Net) (gh : Ghost) (sound : Sound g (scene w gh)) (ms : List Message) where
-  goes_round : (m : Message) → see (ms ++ m ∷ []) ≡ see (w.queue v p) → SoundWith g gh.up (taken g v p m ms (requeues (w.node v).head) w)
-  goes_round m e = record { ghost = gh; ups = refl; holds = subst (Sound g) (sym (round_scene g v w gh p m ms e)) sound }
+  goes_round : (m : Message) → see (ms ++ m ∷ []) ≡ see (w.queue v p) → Kept g 0 gh gh.up (taken g v p m ms (requeues (w.node v).head) w)
+  goes_round m e = record { ghost = gh; ups = refl; steps = 0; grows = As_it_was refl refl refl; holds = subst (Sound g) (sym (round_scene g v w gh p m ms e)) sound }
 
   pub connect_again : (l : ℕ) → w.queue v p ≡ Connect l ∷ ms → ((scene w gh).at v).mark p ≡ Basic → see (ms ++ Connect l ∷ []) ≡ see (w.queue v p)
   connect_again l waits basic =
@@ -116,7 +151,7 @@ module _ (g : Network) (ground : Ground g) (v p : ℕ) (at : At g v p) (w : Net)
   row_connect_waits : (l : ℕ) →
       w.queue v p ≡ Connect l ∷ ms →
       ((scene w gh).at v).mark p ≡ Basic →
-      SoundWith g gh.up (taken g v p (Connect l) ms (requeues (w.node v).head) w)
+      Kept g 0 gh gh.up (taken g v p (Connect l) ms (requeues (w.node v).head) w)
   row_connect_waits l waits basic = goes_round (Connect l) (connect_again l waits basic)
 
   pub report_again :
@@ -133,7 +168,7 @@ module _ (g : Network) (ground : Ground g) (v p : ℕ) (at : At g v p) (w : Net)
 
   row_report_waits :
       (k : Option Key) → w.queue v p ≡ Report k ∷ ms → (w.node v).head.in_branch ≡ Some p → (w.node v).head.phase ≡ Find →
-      SoundWith g gh.up (taken g v p (Report k) ms (requeues (w.node v).head) w)
+      Kept g 0 gh gh.up (taken g v p (Report k) ms (requeues (w.node v).head) w)
   row_report_waits k waits way finds = goes_round (Report k) (report_again k waits way finds)
 
   pub test_again : (l : ℕ) (n : Key) → w.queue v p ≡ Test l n ∷ ms → see (ms ++ Test l n ∷ []) ≡ see (w.queue v p)
@@ -142,7 +177,7 @@ module _ (g : Network) (ground : Ground g) (v p : ℕ) (at : At g v p) (w : Net)
       (link_fits' g ground.wired (scene w gh) sound.first v p at).tests (l, n) (see ms).tests (test_first (w.queue v p) ms l n waits)) ∙
       sym (ap see waits))
 
-  row_test_waits : (l : ℕ) (n : Key) → w.queue v p ≡ Test l n ∷ ms → SoundWith g gh.up (taken g v p (Test l n) ms (requeues (w.node v).head) w)
+  row_test_waits : (l : ℕ) (n : Key) → w.queue v p ≡ Test l n ∷ ms → Kept g 0 gh gh.up (taken g v p (Test l n) ms (requeues (w.node v).head) w)
   row_test_waits l n waits = goes_round (Test l n) (test_again l n waits)
 
 -- a message that is taken for good
@@ -161,7 +196,7 @@ module _ (g : Network) (ground : Ground g) (v p : ℕ) (at : At g v p) (w : Net)
       (l : ℕ) (n : Key) → w.queue v p ≡ Test l n ∷ ms → (d : Delta) (x : Member) → d.fate ≡ Consumed → reacts g v w gh d ≡ x →
       ((see (w.queue v p)).tests ≡ (l, n) ∷ (see ms).tests →
       Sound g (acts g v x (left g v p w gh ms (record (see (w.queue v p)) { tests = (see ms).tests })) d.sends (scene w gh))) →
-      SoundWith g gh.up (taken g v p (Test l n) ms d w)
+      Kept g 0 gh gh.up (taken g v p (Test l n) ms d w)
   test_taken l n waits d x once is act =
       taken_sound g v w gh p (Test l n) ms d x once is
       (subst
@@ -170,7 +205,7 @@ module _ (g : Network) (ground : Ground g) (v p : ℕ) (at : At g v p) (w : Net)
 
   row_test_accepted :
       (l : ℕ) (n : Key) → w.queue v p ≡ Test l n ∷ ms → l ≤ (w.node v).head.level → is_name (w.node v).head.name n ≡ false →
-      SoundWith g gh.up (taken g v p (Test l n) ms (does (w.node v).head None ((p, Accept) ∷ [])) w)
+      Kept g 0 gh gh.up (taken g v p (Test l n) ms (does (w.node v).head None ((p, Accept) ∷ [])) w)
   row_test_accepted l n waits le other =
       test_taken l n waits (does (w.node v).head None ((p, Accept) ∷ [])) ((scene w gh).at v) refl refl
       (λ first.
@@ -186,7 +221,7 @@ module _ (g : Network) (ground : Ground g) (v p : ℕ) (at : At g v p) (w : Net)
   row_test_rejected :
       (l : ℕ) (n : Key) → (w.node v).head.phase ≢ Sleeping → w.queue v p ≡ Test l n ∷ ms → is_name (w.node v).head.name n ≡ true →
       (w.node v).head.probe ≢ Some p →
-      SoundWith g gh.up (taken g v p (Test l n) ms (does (w.node v).head (reject_at (w.node v) p) ((p, Reject) ∷ [])) w)
+      Kept g 0 gh gh.up (taken g v p (Test l n) ms (does (w.node v).head (reject_at (w.node v) p) ((p, Reject) ∷ [])) w)
   row_test_rejected l n awake waits name free =
       test_taken l n waits (does (w.node v).head (reject_at (w.node v) p) ((p, Reject) ∷ [])) (rejecting (w.node v).head) refl
       (rejects _ ((p, Reject) ∷ []))
@@ -201,7 +236,7 @@ module _ (g : Network) (ground : Ground g) (v p : ℕ) (at : At g v p) (w : Net)
       (m : Message) (q : Seen) (e : Ending) → q ≡ see ms → (w.node v).head.phase ≡ Find →
       Nearly g (acts g v (rejecting unprobed) (left g v p w gh ms q) [] (scene w gh)) v →
       Settles (with_mark (w.node v).marks (reject_at (w.node v) p)) unprobed e →
-      SoundWith g gh.up (taken g v p m ms (ends unprobed (reject_at (w.node v) p) [] e) w)
+      Kept g 0 gh gh.up (taken g v p m ms (ends unprobed (reject_at (w.node v) p) [] e) w)
   goes_on m q e rest finds act s =
       search_taken g v p w gh ms ground at.some at.node m q rest (rejecting unprobed) (reject_at (w.node v) p) [] e
       (λ i. ended (rejects unprobed [] i) e) finds (settles_so g v (rejecting unprobed) _ e (reject_marks (w.node v) p in_marks) refl s) act
@@ -209,7 +244,7 @@ module _ (g : Network) (ground : Ground g) (v p : ℕ) (at : At g v p) (w : Net)
   row_tests_cross :
       (l : ℕ) (n : Key) (e : Ending) → w.queue v p ≡ Test l n ∷ ms → is_name (w.node v).head.name n ≡ true → (w.node v).head.probe ≡ Some p →
       Settles (with_mark (w.node v).marks (reject_at (w.node v) p)) (no_probe (w.node v).head) e →
-      SoundWith g gh.up (taken g v p (Test l n) ms (ends (no_probe (w.node v).head) (reject_at (w.node v) p) [] e) w)
+      Kept g 0 gh gh.up (taken g v p (Test l n) ms (ends (no_probe (w.node v).head) (reject_at (w.node v) p) [] e) w)
   row_tests_cross l n e waits name own s =
       goes_on (Test l n) _ e (test_left (w.queue v p) ms l n waits) (probes_find own)
       (cross_nearly g ground.wired v (at_in at) p at (scene w gh) sound l n (see ms).tests ground.keyed (test_first (w.queue v p) ms l n waits)
@@ -219,7 +254,7 @@ module _ (g : Network) (ground : Ground g) (v p : ℕ) (at : At g v p) (w : Net)
   row_reject_heard :
       (e : Ending) → w.queue v p ≡ Reject ∷ ms → (w.node v).head.probe ≡ Some p →
       Settles (with_mark (w.node v).marks (reject_at (w.node v) p)) (no_probe (w.node v).head) e →
-      SoundWith g gh.up (taken g v p Reject ms (ends (no_probe (w.node v).head) (reject_at (w.node v) p) [] e) w)
+      Kept g 0 gh gh.up (taken g v p Reject ms (ends (no_probe (w.node v).head) (reject_at (w.node v) p) [] e) w)
   row_reject_heard e waits own s =
       goes_on Reject _ e (reject_left (w.queue v p) ms waits) (probes_find own)
       (reject_nearly g ground.wired v (at_in at) p at (scene w gh) sound (see ms).rejects (reject_first (w.queue v p) ms waits) own) s
@@ -233,7 +268,7 @@ module _ (g : Network) (ground : Ground g) (v p : ℕ) (at : At g v p) (w : Net)
 
   row_accept_heard :
       (e : Ending) → w.queue v p ≡ Accept ∷ ms → (w.node v).head.probe ≡ Some p → Closes (answered (w.node v).head p (Some (key_at (w.node v) p))) e →
-      SoundWith g gh.up (taken g v p Accept ms (ends (answered (w.node v).head p (Some (key_at (w.node v) p))) None [] e) w)
+      Kept g 0 gh gh.up (taken g v p Accept ms (ends (answered (w.node v).head p (Some (key_at (w.node v) p))) None [] e) w)
   row_accept_heard e waits own c =
       search_taken g v p w gh ms ground at.some at.node Accept accepted (accept_left (w.queue v p) ms waits) (accepting (key_at (w.node v) p)) None
       [] e refl (probes_find own)
@@ -262,7 +297,7 @@ module _ (g : Network) (ground : Ground g) (v p : ℕ) (at : At g v p) (w : Net)
   row_connect_merges : (l : ℕ) →
       w.queue v p ≡ Connect l ∷ ms →
       mark_at (w.node v) p ≢ Basic →
-      SoundWith g gh.up (taken g v p (Connect l) ms (merges (w.node v) p) w)
+      Kept g 0 gh gh.up (taken g v p (Connect l) ms (merges (w.node v) p) w)
   row_connect_merges l waits marked =
       tree_taken g v p w gh ms (Connect l) refl waits (merges (w.node v) p) ((scene w gh).at v) refl refl
       (λ first.
@@ -274,14 +309,14 @@ module _ (g : Network) (ground : Ground g) (v p : ℕ) (at : At g v p) (w : Net)
 
   row_initiate_rests : (l : ℕ) (f : Key) →
       w.queue v p ≡ Initiate l f Found ∷ ms →
-      SoundWith g gh.up (taken g v p (Initiate l f Found) ms (rests (w.node v) p l f) w)
+      Kept g 0 gh gh.up (taken g v p (Initiate l f Found) ms (rests (w.node v) p l f) w)
   row_initiate_rests l f waits =
       tree_taken g v p w gh ms (Initiate l f Found) refl waits (rests (w.node v) p l f) (with_head (rests (w.node v) p l f).head) refl refl
       (rest_sound g ground.wired v (at_in at) (scene w gh) sound p at (see ms).tree l f (w.node v).marks marks)
 
   row_initiate_searches :
       (l : ℕ) (f : Key) (e : Ending) → w.queue v p ≡ Initiate l f Find ∷ ms → Settles (w.node v).marks (no_probe (searching (w.node v) p l f)) e →
-      SoundWith g gh.up (taken g v p (Initiate l f Find) ms (ends (no_probe (searching (w.node v) p l f)) None (passed_on (w.node v) p l f Find) e) w)
+      Kept g 0 gh gh.up (taken g v p (Initiate l f Find) ms (ends (no_probe (searching (w.node v) p l f)) None (passed_on (w.node v) p l f Find) e) w)
   row_initiate_searches l f e waits s =
       search_taken g v p w gh ms ground at.some at.node (Initiate l f Find) _ (tree_left (w.queue v p) ms (Initiate l f Find) refl waits) x None
       (passed_on (w.node v) p l f Find) e refl refl (settles_so g v x (w.node v).marks e refl refl s)
@@ -293,7 +328,7 @@ module _ (g : Network) (ground : Ground g) (v p : ℕ) (at : At g v p) (w : Net)
 
   row_report_heard :
       (k : Option Key) (c : ℕ) (e : Ending) → w.queue v p ≡ Report k ∷ ms → (w.node v).head.in_branch ≢ Some p → (w.node v).head.find_count ≡ suc c →
-      Closes (heard (w.node v).head c p k) e → SoundWith g gh.up (taken g v p (Report k) ms (ends (heard (w.node v).head c p k) None [] e) w)
+      Closes (heard (w.node v).head c p k) e → Kept g 0 gh gh.up (taken g v p (Report k) ms (ends (heard (w.node v).head c p k) None [] e) w)
   row_report_heard k c e waits away count s =
       search_taken g v p w gh ms ground at.some at.node (Report k) _ (all_left (w.queue v p) ms (Report k) refl waits none) x None [] e refl finds
       (closes_so g v x e (report_scanned g ground.wired v (at_in at) p at (scene w gh) sound k (see ms).tree c first away count) s)
@@ -326,7 +361,7 @@ module _ (g : Network) (ground : Ground g) (v p : ℕ) (at : At g v p) (w : Net)
       (w.node v).head.phase ≡ Found →
       k ≡ None →
       (w.node v).head.best ≡ None →
-      SoundWith g gh.up (taken g v p (Report k) ms (stops (w.node v).head) w)
+      Kept g 0 gh gh.up (taken g v p (Report k) ms (stops (w.node v).head) w)
   row_report_halts k waits found none best =
       tree_taken g v p w gh ms (Report k) refl waits (stops (w.node v).head) (with_head (stops (w.node v).head).head) refl refl
       (λ first.
@@ -338,7 +373,7 @@ module _ (g : Network) (ground : Ground g) (v p : ℕ) (at : At g v p) (w : Net)
       (w.node v).head.phase ≡ Found →
       below (best_key (w.node v).head.best) k ≡ false →
       (k ≡ None → (w.node v).head.best ≢ None) →
-      SoundWith g gh.up (taken g v p (Report k) ms (does (w.node v).head None []) w)
+      Kept g 0 gh gh.up (taken g v p (Report k) ms (does (w.node v).head None []) w)
   row_report_passes k waits found less some =
       tree_taken g v p w gh ms (Report k) refl waits (does (w.node v).head None []) ((scene w gh).at v) refl refl
       (λ first.
@@ -372,11 +407,20 @@ module _ (g : Network) (ground : Ground g) (v p : ℕ) (at : At g v p) (w : Net)
 
   row_connect_absorbed :
       (l : ℕ) → w.queue v p ≡ Connect l ∷ ms → l < (w.node v).head.level → (w.node v).head.phase ≢ Sleeping →
-      SoundWith g gh.up (taken g v p (Connect l) ms (absorbs (w.node v) p) w)
-  row_connect_absorbed l waits lower awake = absorbed_sound g v p absorbed gh (subst (λ (z : Scene). Sound g (absorb g v p z)) (sym same) step)
+      Kept g 1 gh gh.up (taken g v p (Connect l) ms (absorbs (w.node v) p) w)
+  row_connect_absorbed l waits lower awake =
+      absorbed_sound g v p absorbed gh at
+      (came_least g ground.wired (scene w gh) sound.first sound.floor sound.floors v p at its.mark its.mark')
+      (let a = its.under.level in let b = its.level in let c = here_fits.lag.level in omega (arith, a, b, c, lower))
+      (subst (λ (z : Scene). Sound g (absorb g v p z)) (sym same) step)
     where
       first : (see (w.queue v p)).tree ≡ Connect l ∷ (see ms).tree
       first = tree_first (w.queue v p) ms (Connect l) refl waits
+
+      its : Came (tree_end (end g (scene w gh) v p)) (tree_end (far_end g (scene w gh) v p)) l (see ms).tree
+      its =
+          came g ground v (at_in at) (scene w gh) sound.first p at (see ms).tree l (name_of (w.node v).head) first lower
+          (named (omega (arith, lower))) awake
 
       absorbed : Net
       absorbed = taken g v p (Connect l) ms (absorbs (w.node v) p) w
@@ -430,7 +474,7 @@ module _ (g : Network) (ground : Ground g) (v p : ℕ) (at : At g v p) (w : Net)
     -- a Connect goes out, and meets another or not
     connects :
         (n : Mark) → mark_at (w.node v) b ≡ n → n ≢ Branch → root_mark n b ≡ Some (b, Branch) →
-        root_message n (w.node v).head.level ≡ Connect (w.node v).head.level → SoundWith g (put gh.up v (Some b)) moved_net
+        root_message n (w.node v).head.level ≡ Connect (w.node v).head.level → Kept g 0 gh (put gh.up v (Some b)) moved_net
     connects n e ne mark message = ⊎_elim meets goes_out (mark_is (((scene w gh).at (far g v b)).mark (far_port g v b)))
       where
         free : mark_at (w.node v) b ≢ Branch
@@ -443,22 +487,30 @@ module _ (g : Network) (ground : Ground g) (v p : ℕ) (at : At g v p) (w : Net)
             moved (Some (b, Branch)) (Connect (w.node v).head.level) (put ((scene w gh).at v).mark b Branch) (ap (λ z. root_mark z b) e ∙ mark)
             (ap (λ z. root_message z (w.node v).head.level) e ∙ message) (branched b best_at)
 
-        meets : ((scene w gh).at (far g v b)).mark (far_port g v b) ≡ Branch → SoundWith g (put gh.up v (Some b)) moved_net
+        meets : ((scene w gh).at (far g v b)).mark (far_port g v b) ≡ Branch → Kept g 0 gh (put gh.up v (Some b)) moved_net
         meets met =
-            met_sound g v b moved_net (with_up gh v (Some b))
+            met_sound g v b moved_net gh (put gh.up v (Some b))
+            (root_least g ground.wired (scene w gh) sound.first sound.floor sound.floors v (at_in at) p at (see ms).tree b k calls best free)
+            (came_least g ground.wired (scene w gh) sound.first sound.floor sound.floors v b best_at free met)
+            (root_levels g ground.wired (scene w gh) sound.first sound.floor sound.floors v (at_in at) p at (see ms).tree b k calls best free met)
+            (ap (λ (z : Scene). (z.at v).head.level) same ∙
+            ap (λ (z : Member). z.head.level) (put_same (scene w gh).at v (moved_member (put ((scene w gh).at v).mark b Branch))) ∙
+            root_top g ground.wired (scene w gh) sound.first sound.floor sound.floors v (at_in at) p at (see ms).tree b k calls best free)
             (subst (λ (z : Scene). Sound g (meet g v b z)) (sym same)
             (meet_sound g ground.wired v (at_in at) (scene w gh) sound p at (see ms).tree b k calls best ground free met))
 
-        goes_out : ((scene w gh).at (far g v b)).mark (far_port g v b) ≢ Branch → SoundWith g (put gh.up v (Some b)) moved_net
+        goes_out : ((scene w gh).at (far g v b)).mark (far_port g v b) ≢ Branch → Kept g 0 gh (put gh.up v (Some b)) moved_net
         goes_out apart =
             record {
               ghost = with_up gh v (Some b);
               ups = refl;
+              steps = 0;
+              grows = As_it_was refl refl refl;
               holds =
                   subst (Sound g) (sym same) (out_sound g ground.wired v (at_in at) (scene w gh) sound p at (see ms).tree b k calls best free apart);
             }
 
-    moves : SoundWith g (put gh.up v (Some b)) moved_net
+    moves : Kept g 0 gh (put gh.up v (Some b)) moved_net
     moves = go (mark_at (w.node v) b) refl
       where
         same :
@@ -466,13 +518,15 @@ module _ (g : Network) (ground : Ground g) (v p : ℕ) (at : At g v p) (w : Net)
             scene moved_net (with_up gh v (Some b)) ≡ acts g v (moved_member ((scene w gh).at v).mark) popped ((b, ChangeRoot) ∷ []) (scene w gh)
         same e = moved None ChangeRoot ((scene w gh).at v).mark (ap (λ z. root_mark z b) e) (ap (λ z. root_message z (w.node v).head.level) e) refl
 
-        go : (n : Mark) → mark_at (w.node v) b ≡ n → SoundWith g (put gh.up v (Some b)) moved_net
+        go : (n : Mark) → mark_at (w.node v) b ≡ n → Kept g 0 gh (put gh.up v (Some b)) moved_net
         go Basic e = connects Basic e (λ z. cc) refl refl
         go Rejected e = connects Rejected e (λ z. cc) refl refl
         go Branch e =
             record {
               ghost = with_up gh v (Some b);
               ups = refl;
+              steps = 0;
+              grows = As_it_was refl refl refl;
               holds = subst (Sound g) (sym (same e)) (pass_sound g ground.wired v (at_in at) (scene w gh) sound p at (see ms).tree b k calls best e);
             }
 
@@ -480,7 +534,7 @@ module _ (g : Network) (ground : Ground g) (v p : ℕ) (at : At g v p) (w : Net)
       (r : Option Key) (b : ℕ) (k : Key) → w.queue v p ≡ Report r ∷ ms → (w.node v).head.in_branch ≡ Some p → (w.node v).head.phase ≡ Found →
       (w.node v).head.best ≡ Some (b, k) →
       below (Some k) r ≡ true →
-      SoundWith g (put gh.up v (Some b)) (taken g v p (Report r) ms (moves_root (w.node v) b) w)
+      Kept g 0 gh (put gh.up v (Some b)) (taken g v p (Report r) ms (moves_root (w.node v) b) w)
   row_report_moves_root r b k waits way found best less =
       moves (Report r) b k
       (By_report r (tree_first (w.queue v p) ms (Report r) refl waits) way found (ap (λ o. below (best_key o) r) best ∙ less))
@@ -489,14 +543,14 @@ module _ (g : Network) (ground : Ground g) (v p : ℕ) (at : At g v p) (w : Net)
   row_root_moves : (b : ℕ) (k : Key) →
       w.queue v p ≡ ChangeRoot ∷ ms →
       (w.node v).head.best ≡ Some (b, k) →
-      SoundWith g (put gh.up v (Some b)) (taken g v p ChangeRoot ms (moves_root (w.node v) b) w)
+      Kept g 0 gh (put gh.up v (Some b)) (taken g v p ChangeRoot ms (moves_root (w.node v) b) w)
   row_root_moves b k waits best =
       moves ChangeRoot b k (By_root (tree_first (w.queue v p) ms ChangeRoot refl waits)) (seen (w.queue v p) ms ChangeRoot refl waits) best
 
 -- a wake
 module _ (g : Network) (ground : Ground g) (v : ℕ) (v_is : InNetwork g v) (w : Net) (is : IsNodeOf g v (w.node v)) (gh : Ghost)
     (sound : Sound g (scene w gh)) (sleeps : (w.node v).head.phase ≡ Sleeping) where
-  wakes_over : At g v 0 → SoundWith g (put gh.up v (Some 0)) (reacted g v (wakes (w.node v)) w)
+  wakes_over : At g v 0 → Kept g 0 gh (put gh.up v (Some 0)) (reacted g v (wakes (w.node v)) w)
   wakes_over at = ⊎_elim meets goes_out (mark_is (((scene w gh).at (far g v 0)).mark (far_port g v 0)))
     where
       woken_net : Net
@@ -518,26 +572,35 @@ module _ (g : Network) (ground : Ground g) (v : ℕ) (v_is : InNetwork g v) (w :
           (λ i.
           acts g v (record x { mark = set_marks (w.node v).marks 0 Branch in_moving i }) ((scene w gh).seen v) ((0, Connect 0) ∷ []) (scene w gh))
 
-      meets : ((scene w gh).at (far g v 0)).mark (far_port g v 0) ≡ Branch → SoundWith g (put gh.up v (Some 0)) woken_net
+      meets : ((scene w gh).at (far g v 0)).mark (far_port g v 0) ≡ Branch → Kept g 0 gh (put gh.up v (Some 0)) woken_net
       meets met =
-          met_sound g v 0 woken_net (with_up gh v (Some 0))
+          met_sound g v 0 woken_net gh (put gh.up v (Some 0)) (wake_least g ground (scene w gh) sound.first sound.floor sound.floors v v_is at sleeps)
+          (came_least g ground.wired (scene w gh) sound.first sound.floor sound.floors v 0 at
+          (((sound.first.nodes v v_is).untouched sleeps).marks 0) met)
+          (wake_levels g ground (scene w gh) sound.first sound.floor sound.floors v v_is at sleeps met)
+          (ap (λ (z : Scene). (z.at v).head.level) same ∙ ap (λ (z : Member). z.head.level) (put_same (scene w gh).at v x) ∙
+          sym ((sound.first.nodes v v_is).untouched sleeps).coming)
           (subst (λ (z : Scene). Sound g (meet g v 0 z)) (sym same) (wake_meeting_sound g ground v v_is (scene w gh) sound sleeps at met))
 
-      goes_out : ((scene w gh).at (far g v 0)).mark (far_port g v 0) ≢ Branch → SoundWith g (put gh.up v (Some 0)) woken_net
+      goes_out : ((scene w gh).at (far g v 0)).mark (far_port g v 0) ≢ Branch → Kept g 0 gh (put gh.up v (Some 0)) woken_net
       goes_out apart = record {
         ghost = with_up gh v (Some 0);
         ups = refl;
+        steps = 0;
+        grows = As_it_was refl refl refl;
         holds = subst (Sound g) (sym same) (wake_out_sound g ground v v_is (scene w gh) sound sleeps at apart);
       }
 
-  pub wake_keeps : SoundWith g (put gh.up v (up_waking (w.node v).marks (gh.up v))) (reacted g v (waking (w.node v)) w)
+  pub wake_keeps : Kept g 0 gh (put gh.up v (up_waking (w.node v).marks (gh.up v))) (reacted g v (waking (w.node v)) w)
   wake_keeps = go (w.node v).marks refl
     where
-      go : (ks : List Mark) → (w.node v).marks ≡ ks → SoundWith g (put gh.up v (up_waking ks (gh.up v))) (reacted g v (at_wake (w.node v) ks) w)
+      go : (ks : List Mark) → (w.node v).marks ≡ ks → Kept g 0 gh (put gh.up v (up_waking ks (gh.up v))) (reacted g v (at_wake (w.node v) ks) w)
       go [] e =
           record {
             ghost = with_up gh v (gh.up v);
             ups = refl;
+            steps = 0;
+            grows = As_it_was refl refl refl;
             holds =
                 subst (Sound g) (sym (wake_acts g v w gh (gh.up v) (wakes_alone (w.node v))))
                 (lone_sound g ground v v_is (scene w gh) sound sleeps (sym (ports_many is) ∙ ap length e));
@@ -550,7 +613,7 @@ module _ (g : Network) (ground : Ground g) where
   pub row_keeps :
       (v p : ℕ) → At g v p → (w : Net) → IsNodeOf g v (w.node v) → (gh : Ghost) → Sound g (scene w gh) →
       (m : Message) (ms : List Message) (d : Delta) → w.queue v p ≡ m ∷ ms → (w.node v).head.phase ≢ Sleeping → (row : AwakeRow (w.node v) p m d) →
-      SoundWith g (ups_after row gh.up v) (taken g v p m ms d w)
+      Kept g (takes_in row) gh (ups_after row gh.up v) (taken g v p m ms d w)
   row_keeps v p at w is gh holds m ms d q up (Connect_absorbed {l = l} lt few) = row_connect_absorbed g ground v p at w is gh holds ms l q lt up
   row_keeps v p at w is gh holds m ms d q up (Connect_waits {l = l} le basic) = row_connect_waits g ground v p at w gh holds ms l q basic
   row_keeps v p at w is gh holds m ms d q up (Connect_merges {l = l} le marked low) = row_connect_merges g ground v p at w is gh holds ms l q marked
@@ -575,9 +638,19 @@ module _ (g : Network) (ground : Ground g) where
   row_keeps v p at w is gh holds m ms d q up (Report_passes {w = k} way found b s) = row_report_passes g ground v p at w is gh holds ms k q found b s
   row_keeps v p at w is gh holds m ms d q up (Root_moves b k best) = row_root_moves g ground v p at w is gh holds ms b k q best
 
+  -- what a step leaves, and how the memory has grown
+  pub record Stepped (took : ℕ) (w' : Net) (before : Ghost) : Type 0 where
+    pub ghost : Ghost
+    pub holds : Sound g (scene w' ghost)
+    pub steps : ℕ
+    pub grows : Grows g before ghost took steps
+
+  pub step_grows : (w w' : Net) → AreNodes g w → (gh : Ghost) → Sound g (scene w gh) → (t : Step g w w') → Stepped (step_takes t) w' gh
+  step_grows w _ nodes gh h (Wakes_up v lo hi sleeps) =
+      let s = wake_keeps g ground v (record { some = lo; node = hi }) w (nodes v) gh h sleeps in
+      record { ghost = s.ghost; holds = s.holds; steps = s.steps; grows = s.grows }
+  step_grows w _ nodes gh h (Takes_one v p m ms d at q up row) =
+      let s = row_keeps v p at w (nodes v) gh h m ms d q up row in record { ghost = s.ghost; holds = s.holds; steps = s.steps; grows = s.grows }
+
   pub step_keeps : (w w' : Net) → AreNodes g w → HasSound g w → Step g w w' → HasSound g w'
-  step_keeps w _ nodes h (Wakes_up v lo hi sleeps) =
-      let s = wake_keeps g ground v (record { some = lo; node = hi }) w (nodes v) h.ghost h.holds sleeps in
-      record { ghost = s.ghost; holds = s.holds }
-  step_keeps w _ nodes h (Takes_one v p m ms d at q up row) =
-      let s = row_keeps v p at w (nodes v) h.ghost h.holds m ms d q up row in record { ghost = s.ghost; holds = s.holds }
+  step_keeps w w' nodes h t = let s = step_grows w w' nodes h.ghost h.holds t in record { ghost = s.ghost; holds = s.holds }

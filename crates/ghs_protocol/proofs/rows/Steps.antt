@@ -15,7 +15,8 @@ use Rattle.ghs_protocol.proofs.clauses.Scene.{Member, Scene, acts}
 use Rattle.ghs_protocol.proofs.clauses.Changes.{left_tree, left_tests, left_accepts, left_rejects, rejected, marked, rules_out, took_reject, took_accept, took_report, took_initiate, took_rest, with_halt, halts_alone, pointing, sent_out, took_child, awakened}
 use Rattle.ghs_protocol.proofs.clauses.Wiring.{IsKeyed, Ground}
 use Rattle.ghs_protocol.proofs.clauses.Uniting.{MarksAre, SendsRoot, relabel, meet, absorb}
-use Rattle.ghs_protocol.proofs.clauses.Floors.{ScansInOrder, AllScan, Sound, Nearly}
+use Rattle.ghs_protocol.proofs.clauses.Floors.{ScansInOrder, AllScan, Sound, Nearly, Tried}
+use Rattle.ghs_protocol.proofs.rows.Tried.{tried_same, tried_put, tried_relabel, tried_fewer, better_none, tried_woken}
 use Rattle.ghs_protocol.proofs.lemmas.Updates.{put_same, put_other}
 use Rattle.ghs_protocol.proofs.tests.Links.{not_basic}
 use Rattle.ghs_protocol.proofs.acts.Situations.{probing_finds}
@@ -23,7 +24,7 @@ use Rattle.ghs_protocol.proofs.tests.Steps.{accept_sends, reject_sends, crosses,
 use Rattle.ghs_protocol.proofs.search.Answers.{hears_accept, hears_report}
 use Rattle.ghs_protocol.proofs.rest.Halt.{report_ends}
 use Rattle.ghs_protocol.proofs.union.CoreAnswered.{serves}
-use Rattle.ghs_protocol.proofs.search.Initiate.{initiates_rest, initiates_search, idle}
+use Rattle.ghs_protocol.proofs.search.Initiate.{initiates_rest, initiates_search, idle, call}
 use Rattle.ghs_protocol.proofs.root.AtRoot.{at_root}
 use Rattle.ghs_protocol.proofs.root.Inward.{passes_root}
 use Rattle.ghs_protocol.proofs.root.Outward.{connects_out}
@@ -110,6 +111,7 @@ module _ (g : Network) (wired : IsWired g) (u : ℕ) (u_is : InNetwork g u) (j :
     floor = s.floor;
     floors = accept_sent_floors g wired u u_is j at w s.first s.floor s.floors ts;
     scans = now g u (w.at u) w.at s.scans (s.scans u here);
+    tried = tried_same g u (w.at u) w.at s.floor s.tried (s.tried u here);
     lives = accept_sent_lives g wired u u_is j at w s.first s.lives l n ts waits other;
   }
 
@@ -127,6 +129,8 @@ module _ (g : Network) (wired : IsWired g) (u : ℕ) (u_is : InNetwork g u) (j :
     scans =
         now g u (rules_out (w.at u) j) w.at s.scans
         (fewer g u (w.at u) (rules_out (w.at u) j) refl refl refl (basic_was (w.at u).mark j) (s.scans u here));
+    tried = tried_same g u (rules_out (w.at u) j) w.at s.floor s.tried
+        (tried_fewer g u (w.at u) (rules_out (w.at u) j) (s.floor u) (basic_was (w.at u).mark j) (λ e. e) refl refl (s.tried u here));
     lives = reject_sent_lives g wired u u_is j at w s.first s.lives ts free;
   }
 
@@ -141,6 +145,8 @@ module _ (g : Network) (wired : IsWired g) (u : ℕ) (u_is : InNetwork g u) (j :
     floor = s.floor;
     floors = cross_floors g wired u u_is j at w s.first s.floor s.floors ts;
     scans = now_but g u (took_reject (w.at u) j) w.at s.scans;
+    tried = tried_same g u (took_reject (w.at u) j) w.at s.floor s.tried
+        (tried_fewer g u (w.at u) (took_reject (w.at u) j) (s.floor u) (basic_was (w.at u).mark j) (λ e. e) refl refl (s.tried u here));
     lives = cross_lives g wired u u_is j at w s.first s.lives l n ts keyed waits name own;
   }
 
@@ -153,6 +159,8 @@ module _ (g : Network) (wired : IsWired g) (u : ℕ) (u_is : InNetwork g u) (j :
     floor = s.floor;
     floors = reject_floors g wired u u_is j at w s.first s.floor s.floors r;
     scans = now_but g u (took_reject (w.at u) j) w.at s.scans;
+    tried = tried_same g u (took_reject (w.at u) j) w.at s.floor s.tried
+        (tried_fewer g u (w.at u) (took_reject (w.at u) j) (s.floor u) (basic_was (w.at u).mark j) (λ e. e) refl refl (s.tried u here));
     lives = reject_lives g wired u u_is j at w s.first s.lives r;
   }
 
@@ -165,6 +173,8 @@ module _ (g : Network) (wired : IsWired g) (u : ℕ) (u_is : InNetwork g u) (j :
     floor = s.floor;
     floors = accept_floors g wired u u_is j at w s.first a waits own s.floor s.floors;
     scans = now_but g u (took_accept (w.at u) j (port_at g u j).key) w.at s.scans;
+    tried = tried_same g u (took_accept (w.at u) j (port_at g u j).key) w.at s.floor s.tried
+        (tried_fewer g u (w.at u) (took_accept (w.at u) j (port_at g u j).key) (s.floor u) (λ q b. b) (λ e. better_none (w.at u).head.best j (Some (port_at g u j).key) e) refl refl (s.tried u here));
     lives = accept_lives g wired u u_is j at w s.first s.lives a own;
   }
 
@@ -189,6 +199,8 @@ module _ (g : Network) (wired : IsWired g) (u : ℕ) (u_is : InNetwork g u) (j :
     floor = s.floor;
     floors = report_floors g wired u u_is j at w s.first k ms c waits away count s.floor s.floors;
     scans = now_but g u (took_report (w.at u) j k c) w.at s.scans;
+    tried = tried_same g u (took_report (w.at u) j k c) w.at s.floor s.tried
+        (tried_fewer g u (w.at u) (took_report (w.at u) j k c) (s.floor u) (λ q b. b) (λ e. better_none (w.at u).head.best j k e) refl refl (s.tried u here));
     lives = report_lives g wired u u_is j at w s.first s.lives k ms c waits away count;
   }
 
@@ -211,6 +223,7 @@ module _ (g : Network) (wired : IsWired g) (u : ℕ) (u_is : InNetwork g u) (j :
     floor = s.floor;
     floors = serve_floors g wired u u_is j at w s.first s.floor s.floors l ms waits m ((w.at u).head.level + 1) (port_at g u j).key;
     scans = now g u (w.at u) w.at s.scans (s.scans u here);
+    tried = tried_same g u (w.at u) w.at s.floor s.tried (s.tried u here);
     lives = serve_lives g wired u u_is j at w s.first s.lives l ms waits m ((w.at u).head.level + 1) (port_at g u j).key;
   }
 
@@ -226,6 +239,8 @@ module _ (g : Network) (wired : IsWired g) (u : ℕ) (u_is : InNetwork g u) (j :
     floor = s.floor;
     floors = ends_floors g wired u u_is j at w s.first k ms waits rests s.floor s.floors b why;
     scans = now g u (with_halt (w.at u) b) w.at s.scans (rests_scan g u (with_halt (w.at u) b) (λ e. cc (e, rests)));
+    tried = tried_same g u (with_halt (w.at u) b) w.at s.floor s.tried
+        (tried_fewer g u (w.at u) (with_halt (w.at u) b) (s.floor u) (λ q b. b) (λ e. e) refl refl (s.tried u here));
     lives =
         end_lives g wired u u_is j at w s.first s.lives k ms waits rests b (⊎_elim (λ e. inl e) (λ z. inr (halts z.0 z.1)) why) less halts;
   }
@@ -247,6 +262,12 @@ module _ (g : Network) (wired : IsWired g) (u : ℕ) (u_is : InNetwork g u) (w :
         (idle g wired u u_is j at w s.first l n Found ms xs marks waits None refl 0 (λ e. refl)).0 (w.at u).head.find_count (λ e. e) s.floor
         s.floors (s.floor u) (λ ne. refl) (λ e. absurd (let z : Found ≡ Find = e in cc));
     scans = now g u (took_rest (w.at u) l n j) w.at s.scans (rests_scan g u (took_rest (w.at u) l n j) (λ e. let z : Found ≡ Find = e in cc));
+    tried =
+        tried_put g u (took_rest (w.at u) l n j) w.at s.floor (s.floor u) s.tried
+        (record {
+          untried = (s.tried u this).untried;
+          way = λ e ne. (call g wired u u_is j at w s.first l n Found ms xs marks waits None refl 0 (λ e. refl)).up;
+        });
     lives =
         initiates_lives g wired u u_is j at w s.first s.lives l n Found ms xs marks waits (w.at u).head.probe
         (idle g wired u u_is j at w s.first l n Found ms xs marks waits None refl 0 (λ e. refl)).0 (w.at u).head.find_count (λ e. e);
@@ -269,6 +290,15 @@ module _ (g : Network) (wired : IsWired g) (u : ℕ) (u_is : InNetwork g u) (w :
     scans =
         now_but g u
         (took_initiate (w.at u) l n Find j None ((w.at u).head.find_count + length (on_branches xs j (Initiate l n Find)))) w.at s.scans;
+    tried =
+        tried_put g u
+        (took_initiate (w.at u) l n Find j None ((w.at u).head.find_count + length (on_branches xs j (Initiate l n Find)))) w.at s.floor None s.tried
+        (record {
+          untried = λ q b. refl;
+          way = λ e ne.
+              (call g wired u u_is j at w s.first l n Find ms xs marks waits None refl
+              ((w.at u).head.find_count + length (on_branches xs j (Initiate l n Find))) (λ e. rw e (zero-add _))).up;
+        });
     lives =
         initiates_lives g wired u u_is j at w s.first s.lives l n Find ms xs marks waits None refl
         ((w.at u).head.find_count + length (on_branches xs j (Initiate l n Find))) (λ e. rw e (zero-add _));
@@ -279,12 +309,18 @@ module _ (g : Network) (wired : IsWired g) (u : ℕ) (u_is : InNetwork g u) (w :
     rested : (w.at u).head.phase ≡ Found
     rested = let r = at_root g wired u u_is j at w s.first ms calls in r.quiet.found u this refl
 
+    no_best : (w.at u).head.best ≡ None → ⊥
+    no_best e = cc (e, best)
+
     pub pass_sound : (w.at u).mark b ≡ Branch → Sound g (acts g u (pointing (w.at u) b) (left_tree w u j ms) ((b, ChangeRoot) ∷ []) w)
     pass_sound m = record {
       first = passes_root g wired u u_is w s.first j at ms b k calls best m;
       floor = s.floor;
       floors = passes_floors g wired u u_is w s.first j at ms b k calls best s.floor s.floors m;
       scans = now g u (pointing (w.at u) b) w.at s.scans (rests_scan g u (pointing (w.at u) b) (λ e. cc (e, rested)));
+      tried =
+          tried_same g u (pointing (w.at u) b) w.at s.floor s.tried
+          (record { untried = (s.tried u this).untried; way = λ e ne. absurd (no_best e) });
       lives = passes_lives g wired u u_is w s.first s.lives j at ms b k calls best m;
     }
 
@@ -297,6 +333,9 @@ module _ (g : Network) (wired : IsWired g) (u : ℕ) (u_is : InNetwork g u) (w :
       floor = s.floor;
       floors = connects_floors g wired u u_is w s.first j at ms b k calls best s.floor s.floors m m';
       scans = now g u (sent_out (w.at u) b) w.at s.scans (rests_scan g u (sent_out (w.at u) b) (λ e. cc (e, rested)));
+      tried =
+          tried_same g u (sent_out (w.at u) b) w.at s.floor s.tried
+          (record { untried = λ q z. (s.tried u this).untried q (basic_still (w.at u).mark b q z); way = λ e ne. absurd (no_best e) });
       lives = connects_lives g wired u u_is w s.first s.lives j at ms b k calls best m m';
     }
 
@@ -313,6 +352,11 @@ module _ (g : Network) (wired : IsWired g) (u : ℕ) (u_is : InNetwork g u) (w :
           scans_relabel g _ _ _ _
           (acts g u (sent_out (w.at u) b) (left_tree w u j ms) ((b, Connect (w.at u).head.level) ∷ []) w)
           (now g u (sent_out (w.at u) b) w.at s.scans (rests_scan g u (sent_out (w.at u) b) (λ e. cc (e, rested))));
+      tried =
+          tried_relabel g _ _ _ _
+          (acts g u (sent_out (w.at u) b) (left_tree w u j ms) ((b, Connect (w.at u).head.level) ∷ []) w) s.floor
+          (tried_same g u (sent_out (w.at u) b) w.at s.floor s.tried
+          (record { untried = λ q z. (s.tried u this).untried q (basic_still (w.at u).mark b q z); way = λ e ne. absurd (no_best e) }));
       lives = meets_lives g wired u u_is w s.first s.lives j at ms b k calls best m ground m';
     }
 
@@ -332,6 +376,11 @@ module _ (g : Network) (wired : IsWired g) (u : ℕ) (u_is : InNetwork g u) (w :
         (acts g u (took_child (w.at u) j) (left_tree w u j ms) ((j, Initiate (w.at u).head.level k (w.at u).head.phase) ∷ []) w)
         (now g u (took_child (w.at u) j) w.at s.scans
         (fewer g u (w.at u) (took_child (w.at u) j) refl refl refl (basic_still (w.at u).mark j) (s.scans u this)));
+    tried =
+        tried_relabel g _ _ _ _
+        (acts g u (took_child (w.at u) j) (left_tree w u j ms) ((j, Initiate (w.at u).head.level k (w.at u).head.phase) ∷ []) w) s.floor
+        (tried_same g u (took_child (w.at u) j) w.at s.floor s.tried
+        (tried_fewer g u (w.at u) (took_child (w.at u) j) (s.floor u) (basic_still (w.at u).mark j) (λ e. e) refl refl (s.tried u this)));
     lives = absorbs_lives g ground u u_is w s.first s.lives j at ms l k waits less name awake;
   }
 
@@ -343,6 +392,11 @@ module _ (g : Network) (ground : Ground g) (u : ℕ) (u_is : InNetwork g u) (w :
   awoken : (v : ℕ) → InNetwork g v → ScansInOrder g v (put w.at u waker v)
   awoken = now g u waker w.at s.scans (rests_scan g u waker (λ e. let z : Found ≡ Find = e in cc))
 
+  woken_tried : (v : ℕ) → InNetwork g v → Tried g v (put w.at u (awakened (w.at u)) v) (put s.floor u (Some (Some (port_at g u 0).key)) v)
+  woken_tried =
+      tried_put g u (awakened (w.at u)) w.at s.floor (Some (Some (port_at g u 0).key)) s.tried
+      (tried_woken g ground u u_is (w.at u) (s.first.nodes u u_is) ((s.first.nodes u u_is).untouched sleeps))
+
   pub wake_out_sound : (at : At g u 0) →
       (w.at (far g u 0)).mark (far_port g u 0) ≢ Branch →
       Sound g (acts g u (awakened (w.at u)) (w.seen u) ((0, Connect 0) ∷ []) w)
@@ -351,6 +405,7 @@ module _ (g : Network) (ground : Ground g) (u : ℕ) (u_is : InNetwork g u) (w :
     floor = put s.floor u (Some (Some (port_at g u 0).key));
     floors = wakes_out_floors g ground u u_is w s.first at sleeps s.floor s.floors m;
     scans = awoken;
+    tried = woken_tried;
     lives = wakes_out_lives g ground.wired u u_is w s.first s.lives at sleeps m;
   }
 
@@ -362,6 +417,8 @@ module _ (g : Network) (ground : Ground g) (u : ℕ) (u_is : InNetwork g u) (w :
     floor = put s.floor u (Some (Some (port_at g u 0).key));
     floors = wakes_meeting_floors g ground u u_is w s.first at sleeps s.floor s.floors m;
     scans = scans_relabel g _ _ _ _ (acts g u (awakened (w.at u)) (w.seen u) ((0, Connect 0) ∷ []) w) awoken;
+    tried =
+        tried_relabel g _ _ _ _ (acts g u (awakened (w.at u)) (w.seen u) ((0, Connect 0) ∷ []) w) (put s.floor u (Some (Some (port_at g u 0).key))) woken_tried;
     lives = wakes_meeting_lives g ground.wired u u_is w s.first s.lives at sleeps ground m;
   }
 
@@ -371,5 +428,8 @@ module _ (g : Network) (ground : Ground g) (u : ℕ) (u_is : InNetwork g u) (w :
     floor = s.floor;
     floors = lone_floors g ground.wired u u_is w s.first none sleeps s.floor s.floors;
     scans = now g u (halts_alone (w.at u)) w.at s.scans (rests_scan g u (halts_alone (w.at u)) (λ e. let z : Found ≡ Find = e in cc));
+    tried =
+        tried_same g u (halts_alone (w.at u)) w.at s.floor s.tried
+        (tried_fewer g u (w.at u) (halts_alone (w.at u)) (s.floor u) (λ q b. b) (λ e. e) refl refl (s.tried u u_is));
     lives = lone_lives g ground.wired u u_is w s.lives none;
   }

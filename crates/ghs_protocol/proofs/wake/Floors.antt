@@ -57,20 +57,25 @@ module _ (g : Network) (ground : Ground g) (u : ℕ) (u_is : InNetwork g u) (w :
   far_in : (i : ℕ) → At g u i → InNetwork g (far g u i)
   far_in i at' = let z = ground.wired.there u i at' in record { some = z.some; node = z.node }
 
-  apart : (w.at (far g u 0)).fragment ≢ (w.at u).fragment
+  pub apart : (w.at (far g u 0)).fragment ≢ (w.at u).fragment
   apart e = ground.wired.apart u 0 at (alone (far g u 0) (far_in 0 at) e)
 
-  tree : IsTreeLink g u 0
-  tree =
-      cut_link g (λ t. (w.at t).fragment) (w.at u).fragment u 0 apart
-      (λ t q at' same out.
+  -- no port's key is less than that of port 0
+  pub first_least : (t q : ℕ) →
+      At g t q →
+      (w.at t).fragment ≡ (w.at u).fragment →
+      (w.at (far g t q)).fragment ≢ (w.at u).fragment →
+      key_lt (port_at g t q).key (port_at g u 0).key ≡ false
+  first_least t q at' same out =
       let e = alone t (record { some = at'.some; node = at'.node }) same in
-      subst (λ y. key_lt (port_at g y q).key (port_at g u 0).key ≡ false) (sym e) (not_less q (subst (λ y. At g y q) e at')))
-      refl
+      subst (λ y. key_lt (port_at g y q).key (port_at g u 0).key ≡ false) (sym e) (not_less q (subst (λ y. At g y q) e at'))
     where
       not_less : (q : ℕ) → At g u q → key_lt (port_at g u q).key (port_at g u 0).key ≡ false
       not_less zero at' = lt_irreflexive (port_at g u 0).key
       not_less (suc q) at' = lt_asymmetric (port_at g u 0).key (port_at g u (suc q)).key (ground.ordered u 0 (suc q) (omega arith) at')
+
+  tree : IsTreeLink g u 0
+  tree = cut_link g (λ t. (w.at t).fragment) (w.at u).fragment u 0 apart first_least refl
 
   abbrev still : ℕ → End
   still i = record { port = i; key = (port_at g u i).key; mark = put (w.at u).mark 0 Branch i; is = x; seen = w.seen u i }

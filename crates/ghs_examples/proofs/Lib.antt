@@ -1,0 +1,1 @@
+-- Serves the proofs: nothing here has to be believed.

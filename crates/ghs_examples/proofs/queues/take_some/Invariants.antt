@@ -1,0 +1,5 @@
+use Rattle.std.proofs.Common.{◌≡◌}
+use Rattle.ghs_examples.proofs.queues.take_some.Given as goal
+
+abbrev pub invariant-loop : goal.invariant-loop
+invariant-loop g l = (l.pass.name ≡ l.initial.pass.name) × (l.pass.shares ≡ l.initial.pass.shares)

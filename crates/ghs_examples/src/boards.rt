@@ -1,0 +1,108 @@
+//! Boards on one thread, and with readers on threads of their own.
+ghost use Rattle.std.specs.Prelude.{◌≡◌, false};
+
+use ghs_board::board::{Board, Publisher, Reader};
+use ghs_board::progress::Progress;
+use std::test::*;
+use std::thread;
+
+fn at(commits: u64) -> Progress
+    ensures { (result.commits ≡ commits) × (result.halted ≡ false) }
+{
+    Progress {
+        commits,
+        halted: false,
+    }
+}
+
+const NINE_AND_ENDED: Progress = Progress {
+    commits: 9,
+    halted: true,
+};
+
+#[test]
+fn a_read_loads_what_was_published_last(rt: HostRuntime) -> Result<(), Fail> {
+    let alloc = rt.alloc();
+    let (board, mut publisher, mut reader) = Board::open(alloc, at(0))?;
+    assert_eq!(rt; board.read(&mut reader), at(0));
+    publisher.publish(7, false);
+    assert_eq!(rt;
+        board.read_beside(alloc, &mut reader, &mut publisher)?,
+        at(7)
+    );
+    let mut second = board.split(alloc, &mut reader)?;
+    publisher.publish(9, true);
+    assert_eq!(rt; board.read(&mut second), NINE_AND_ENDED);
+    assert_eq!(rt;
+        board.read_beside(alloc, &mut reader, &mut publisher)?,
+        NINE_AND_ENDED
+    );
+    assert_eq!(rt; publisher.last(), NINE_AND_ENDED);
+    Ok(())
+}
+
+#[test]
+fn readers_are_split_and_joined(rt: HostRuntime) -> Result<(), Fail> {
+    let alloc = rt.alloc();
+    let (board, mut publisher, mut reader) = Board::open(alloc, at(3))?;
+    let mut second = board.split(alloc, &mut reader)?;
+    publisher.publish(4, false);
+    assert_eq!(rt; board.read(&mut second), at(4));
+    board.join(&mut reader, second);
+    assert_eq!(rt; board.read(&mut reader), at(4));
+    publisher.publish(9, true);
+    assert_eq!(rt; board.read(&mut reader), NINE_AND_ENDED);
+    Ok(())
+}
+
+// Reads until a read says that the run has ended. Whether no part fell, and the last commits are these.
+fn rises_to(board: &Board, reader: &mut Reader, commits: u64) -> bool
+    requires { reader.old.table ≡ board.now }
+{
+    let mut last = at(0);
+    for _ in 0..u64::MAX {
+        let found = board.read(reader);
+        if found.commits < last.commits || (last.halted && !found.halted) {
+            return false;
+        }
+        last = found;
+        if last.halted {
+            break;
+        }
+    }
+    last.commits == commits
+}
+
+// Publishes 1 commit, 2, up to 1,000, with which the run ends.
+fn raise(publisher: &mut Publisher) {
+    for commits in 1..1001u64 {
+        let last = publisher.last();
+        if last.commits <= commits && !last.halted {
+            publisher.publish(commits, commits == 1000);
+        }
+    }
+}
+
+#[test]
+fn two_readers_beside_a_publisher(rt: HostRuntime) -> Result<(), Fail> {
+    let alloc = rt.alloc();
+    let (board, mut publisher, mut reader) = Board::open(alloc, at(0))?;
+    let mut second = board.split(alloc, &mut reader)?;
+    let board = &board;
+    let readers = || -> (bool, bool)
+        requires { (reader.table ≡ board.now) × (second.table ≡ board.now) }
+    {
+        thread::join(
+            &rt,
+            || -> bool
+                requires { reader.table ≡ board.now }
+            { rises_to(board, &mut reader, 1000) },
+            || -> bool
+                requires { second.table ≡ board.now }
+            { rises_to(board, &mut second, 1000) },
+        )
+    };
+    let (rises, ()) = thread::join(&rt, readers, move || raise(&mut publisher));
+    assert_eq!(rt; rises, (true, true));
+    Ok(())
+}
