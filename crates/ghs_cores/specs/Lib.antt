@@ -1,0 +1,4 @@
+pub mod Components
+pub mod Fragments
+pub mod Halting
+pub mod Text

@@ -1,0 +1,7 @@
+//! The cores of a graph's components: by merging fragments over the links in key order, and as a run has left them.
+#![tactic(auto)]
+pub mod component;
+pub mod ended;
+pub mod fragments;
+pub mod merging;
+pub mod text;
