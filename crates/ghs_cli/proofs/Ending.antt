@@ -35,7 +35,7 @@ run_goes_on o input one cause is =
 
 -- a task that stops at its turns is no patient one
 task_goes_on : (job : Task) (stored input : List ℕ) → IsOneThing input → IsCause job stored input serve.TurnLimit → IsPatientTask job input → ⊥
-task_goes_on task.Tree stored input one cause is = absurd cause
+task_goes_on (task.Tree core) stored input one cause is = absurd cause
 task_goes_on (task.Run o) stored input one cause is = run_goes_on o input one cause is
 task_goes_on (task.Replay wake) stored input one cause is = absurd (let run = is.run in cc)
 task_goes_on (task.Steps o) stored input one cause is = absurd (let run = is.run in cc)
@@ -49,7 +49,7 @@ pub never_stops : (job : Task) (stored input : Option (List ℕ)) →
     IfStored job stored (λ s. IfSome input (λ i. IsCause job s i serve.TurnLimit)) →
     IfSome input (λ i. IsPatientTask job i → ⊥)
 never_stops job stored None one cause = tt
-never_stops task.Tree stored (Some i) one cause = λ is. task_goes_on task.Tree [] i (one i) (cause []) is
+never_stops (task.Tree core) stored (Some i) one cause = λ is. task_goes_on (task.Tree core) [] i (one i) (cause []) is
 never_stops (task.Run o) stored (Some i) one cause = λ is. task_goes_on (task.Run o) [] i (one i) (cause []) is
 never_stops (task.Replay wake) stored (Some i) one cause = λ is. absurd (let run = is.run in cc)
 never_stops (task.Steps o) stored (Some i) one cause = λ is. absurd (let run = is.run in cc)

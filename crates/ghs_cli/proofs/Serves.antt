@@ -25,7 +25,7 @@ pub if_stored : (job : Task) (stored : Option (List ℕ)) (P Q : List ℕ → Ty
     ((bytes : List ℕ) → P bytes → Q bytes) →
     IfStored job stored P →
     IfStored job stored Q
-if_stored task.Tree stored P Q f all = λ bytes. f bytes (all bytes)
+if_stored (task.Tree core) stored P Q f all = λ bytes. f bytes (all bytes)
 if_stored (task.Run o) stored P Q f all = λ bytes. f bytes (all bytes)
 if_stored (task.Sweep o) stored P Q f all = λ bytes. f bytes (all bytes)
 if_stored (task.View o) stored P Q f all = λ bytes. f bytes (all bytes)
@@ -42,7 +42,7 @@ if_some (Some bytes) P Q f all = f bytes all
 
 -- where memory can't be wanting behind output, none has gone out
 begun : (job : Task) (stored input : List ℕ) (old new : Option (List ℕ)) → is_late job serve.Memory ≡ false → HasBegun job stored input old new
-begun task.Tree stored input old new early = tt
+begun (task.Tree core) stored input old new early = tt
 begun (task.Run o) stored input old new early = tt
 begun (task.Replay wake) stored input old new early = tt
 begun (task.Steps o) stored input old new early = absurd (let bad : true ≡ false = early in cc)
@@ -163,7 +163,7 @@ serves_fault job stored input old new r fault is early cause = rw is (serves_cau
 
 -- what goes out is what the task prints, or what it prints at the turn limit
 pub printed_of : (job : Task) (stored input output : List ℕ) → IsOutput job false stored input output → IsPrinted job stored input output
-printed_of task.Tree stored input output out = out.1
+printed_of (task.Tree core) stored input output out = out.1
 printed_of (task.Run o) stored input output out = out
 printed_of (task.Replay wake) stored input output out = out.1
 printed_of (task.Steps o) stored input output out = absurd out
@@ -172,7 +172,7 @@ printed_of (task.View o) stored input output out = out.1
 printed_of (task.StoredView o) stored input output out = out.1
 
 pub printed_at_limit : (job : Task) (stored input output : List ℕ) → IsOutput job true stored input output → IsPrintedAtLimit job input output
-printed_at_limit task.Tree stored input output out = absurd (let bad : true ≡ false = out.0 in cc)
+printed_at_limit (task.Tree core) stored input output out = absurd (let bad : true ≡ false = out.0 in cc)
 printed_at_limit (task.Run o) stored input output out = out
 printed_at_limit (task.Replay wake) stored input output out = absurd (let bad : true ≡ false = out.0 in cc)
 printed_at_limit (task.Steps o) stored input output out = absurd out
@@ -181,7 +181,7 @@ printed_at_limit (task.View o) stored input output out = absurd (let bad : true 
 printed_at_limit (task.StoredView o) stored input output out = absurd (let bad : true ≡ false = out.0 in cc)
 
 tried_of : (job : Task) (at_limit : Bool) (stored input output : List ℕ) → IsOutput job at_limit stored input output → IsTried job stored input output
-tried_of task.Tree at_limit stored input output out = out.1
+tried_of (task.Tree core) at_limit stored input output out = out.1
 tried_of (task.Run o) at_limit stored input output out = (at_limit, out)
 tried_of (task.Replay wake) at_limit stored input output out = out.1
 tried_of (task.Steps o) at_limit stored input output out = absurd out
@@ -191,7 +191,7 @@ tried_of (task.StoredView o) at_limit stored input output out = out.1
 
 -- only a run of a graph stops at a turn limit
 pub limit_cause : (job : Task) (stored input output : List ℕ) → IsPrintedAtLimit job input output → IsCause job stored input serve.TurnLimit
-limit_cause task.Tree stored input output out = absurd out
+limit_cause (task.Tree core) stored input output out = absurd out
 limit_cause (task.Run o) stored input output out = inr (out.0, out.1, (out.2.events, out.2.stopped))
 limit_cause (task.Replay wake) stored input output out = absurd out
 limit_cause (task.Steps o) stored input output out = absurd out

@@ -8,6 +8,9 @@ use Rattle.ghs_graph.specs.declared.key.Key.{Key}
 use Rattle.ghs_graph.specs.Graph.{Shape}
 use Rattle.ghs_graph.specs.Key.{key_of}
 use Rattle.ghs_graph.specs.Links.{IsTree}
+use Rattle.ghs_cores.specs.declared.component.Component.{Component}
+use Rattle.ghs_cores.specs.Components.{HasEndedIn, IsOfGraph}
+use Rattle.ghs_cores.specs.Text.{HaveLines}
 use Rattle.ghs_patient.specs.Picking.{IsPickedBy}
 use Rattle.ghs_protocol.specs.declared.event.Event.{Event}
 use Rattle.ghs_protocol.specs.Marks.{HasEnded}
@@ -46,13 +49,18 @@ keys_of g = map key_of g.keys
 abbrev pub shape_of : RawShape → Shape
 shape_of g = record { nodes = g.nodes; keys = keys_of g }
 
--- the input is the text of a graph, and the output that of its minimum spanning forest
-pub record IsTreeText (input output : List ℕ) : Type 0 where
+-- behind a text the lines of all components with their cores, where they are asked for
+abbrev pub HaveCores : Bool → Shape → (Component → Type 0) → List ℕ → List ℕ → Type 0
+HaveCores true g holds old new = HaveLines g holds old new
+HaveCores false g holds old new = new ≡ old
+
+-- the input is the text of a graph, and the output that of its minimum spanning forest, with the cores to which merging it leads, where they are asked for
+pub record IsTreeText (core : Bool) (input output : List ℕ) : Type 0 where
   pub graph : RawShape
   pub text : TextIs input (Ok graph)
   pub tree : List Key
   pub least : IsTree (keys_of graph) tree
-  pub printed : output ≡ tree_text tree
+  pub printed : HaveCores core (shape_of graph) (IsOfGraph (shape_of graph)) (tree_text tree) output
 
 -- what is stored is the text of these events
 abbrev pub IsTraceText : List ℕ → List Event → Type 0
@@ -93,16 +101,17 @@ pub record IsStopped (o : RunOptions) (g : Shape) (events : List Event) : Type 0
   pub used : length events ≡ o.turns
   pub goes_on : HasEnded g (net_after g events) → ⊥
 
--- what is shown of a run that has ended: the text of its net, or its events
-abbrev pub IsShown : Show → Shape → List Event → List ℕ → Type 0
-IsShown Summary g events output = IsNetText g (net_after g events) output
-IsShown Events g events output = output ≡ trace_text events
+-- what is shown of a run that has ended: the text of its net, with the cores with which it ended, where they are asked for, or its events
+abbrev pub IsShown : Show → Bool → Shape → List Event → List ℕ → Type 0
+IsShown Summary core g events output =
+    (text : List ℕ) × IsNetText g (net_after g events) text × HaveCores core g (HasEndedIn g (net_after g events)) text output
+IsShown Events core g events output = output ≡ trace_text events
 
 -- a run of the graph ends, and the output shows it
 pub record IsRun (o : RunOptions) (g : Shape) (output : List ℕ) : Type 0 where
   pub events : List Event
   pub whole : IsWholeRun o g events
-  pub printed : IsShown o.show g events output
+  pub printed : IsShown o.show o.core g events output
 
 -- a run of the graph has used its turns, and the output has its events, which are asked for
 pub record IsStoppedText (o : RunOptions) (g : Shape) (output : List ℕ) : Type 0 where
@@ -147,7 +156,7 @@ pub record IsStoredViewOutput (o : StoredViewOptions) (stored input output : Lis
 
 -- what a task prints
 abbrev pub IsPrinted : Task → List ℕ → List ℕ → List ℕ → Type 0
-IsPrinted task.Tree stored input output = IsTreeText input output
+IsPrinted (task.Tree core) stored input output = IsTreeText core input output
 IsPrinted (task.Run o) stored input output = IsRunOutput o false input output
 IsPrinted (task.Replay wake) stored input output = IsReplayText wake stored input output
 IsPrinted (task.Steps o) stored input output = IsStepsText o stored input output
@@ -157,7 +166,7 @@ IsPrinted (task.StoredView o) stored input output = IsStoredViewOutput o stored 
 
 -- what a task prints before it answers that its turns are used
 abbrev pub IsPrintedAtLimit : Task → List ℕ → List ℕ → Type 0
-IsPrintedAtLimit task.Tree input output = ⊥
+IsPrintedAtLimit (task.Tree core) input output = ⊥
 IsPrintedAtLimit (task.Run o) input output = IsRunOutput o true input output
 IsPrintedAtLimit (task.Replay wake) input output = ⊥
 IsPrintedAtLimit (task.Steps o) input output = ⊥
@@ -250,7 +259,7 @@ IsStoredViewCause o stored input fault =
 
 -- why a task doesn't end well
 abbrev pub IsCause : Task → List ℕ → List ℕ → ServeFault → Type 0
-IsCause task.Tree stored input fault = IsGraphCause input fault
+IsCause (task.Tree core) stored input fault = IsGraphCause input fault
 IsCause (task.Run o) stored input fault = IsRunningCause o input fault
 IsCause (task.Replay wake) stored input fault = IsReplayCause wake stored input fault
 IsCause (task.Steps o) stored input fault = IsStepsCause o.wake stored input fault
@@ -260,7 +269,7 @@ IsCause (task.StoredView o) stored input fault = IsStoredViewCause o stored inpu
 
 -- what goes out whole for a task, and whether the answer behind it is that its turns are used; steps go out by portions
 abbrev pub IsOutput : Task → Bool → List ℕ → List ℕ → List ℕ → Type 0
-IsOutput task.Tree at_limit stored input output = (at_limit ≡ false) × IsTreeText input output
+IsOutput (task.Tree core) at_limit stored input output = (at_limit ≡ false) × IsTreeText core input output
 IsOutput (task.Run o) at_limit stored input output = IsRunOutput o at_limit input output
 IsOutput (task.Replay wake) at_limit stored input output = (at_limit ≡ false) × IsReplayText wake stored input output
 IsOutput (task.Steps o) at_limit stored input output = ⊥
@@ -270,7 +279,7 @@ IsOutput (task.StoredView o) at_limit stored input output = (at_limit ≡ false)
 
 -- what may have gone out in part
 abbrev pub IsTried : Task → List ℕ → List ℕ → List ℕ → Type 0
-IsTried task.Tree stored input output = IsTreeText input output
+IsTried (task.Tree core) stored input output = IsTreeText core input output
 IsTried (task.Run o) stored input output = (at_limit : Bool) × IsRunOutput o at_limit input output
 IsTried (task.Replay wake) stored input output = IsReplayText wake stored input output
 IsTried (task.Steps o) stored input output = IsStepsText o stored input output
@@ -284,7 +293,7 @@ is_events Events = true
 is_events Summary = false
 
 abbrev pub shows_events : Task → Bool
-shows_events task.Tree = false
+shows_events (task.Tree core) = false
 shows_events (task.Run o) = is_events o.show
 shows_events (task.Replay wake) = false
 shows_events (task.Steps o) = false
@@ -312,7 +321,7 @@ Serves job stored input old new (Err fault) = IsCause job stored input fault
 
 -- what is stored, where the task reads it; other tasks read nothing
 abbrev pub IfStored : Task → Option (List ℕ) → (List ℕ → Type 0) → Type 0
-IfStored task.Tree stored P = (bytes : List ℕ) → P bytes
+IfStored (task.Tree core) stored P = (bytes : List ℕ) → P bytes
 IfStored (task.Run o) stored P = (bytes : List ℕ) → P bytes
 IfStored (task.Replay wake) stored P = IfSome stored P
 IfStored (task.Steps o) stored P = IfSome stored P
@@ -339,7 +348,7 @@ is_memory _ = false
 
 -- the task prints by portions
 abbrev pub by_portions : Task → Bool
-by_portions task.Tree = false
+by_portions (task.Tree core) = false
 by_portions (task.Run o) = false
 by_portions (task.Replay wake) = false
 by_portions (task.Steps o) = true
@@ -358,7 +367,7 @@ IsUnwritten job old new (Err fault) = is_late job fault ≡ false → new ≡ ol
 
 -- only a task that reads a stored run touches the trace
 abbrev pub IsUnread : {T : Type 0} → Task → T → T → Type 0
-IsUnread task.Tree old new = new ≡ old
+IsUnread (task.Tree core) old new = new ≡ old
 IsUnread (task.Run o) old new = new ≡ old
 IsUnread (task.Replay wake) old new = Unit {0}
 IsUnread (task.Steps o) old new = Unit {0}

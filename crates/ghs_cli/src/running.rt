@@ -13,6 +13,7 @@ ghost use Rattle.std.specs.Prelude.{◌≡◌, ◌≤◌, ◌↔◌, false, true
 use crate::fault::ServeFault;
 use crate::output::Output;
 use crate::progress::{run_told, tell_end};
+use ghs_cores::text::put_ended_cores;
 use ghs_gr::device::Source;
 use ghs_gr::judgement::read_gr;
 use ghs_gr::raw_graph::RawGraph;
@@ -259,25 +260,38 @@ fn ended(alloc: Global, options: &RunOptions, world: &World) -> Result<Output, S
     ensures limit { IfOk result (λ o. o.at_limit ≡ false) }
     ensures err { IfErr result (λ fault. fault ≡ ServeFault.Memory) }
 {
-    let text = shown(alloc, world, options.show)?;
+    let text = shown(alloc, world, options)?;
     Ok(Output::whole(text))
 }
 
 /// What is shown of a world whose run has ended.
-fn shown(alloc: Global, world: &World, show: Show) -> Result<Vec<u8>, ServeFault>
+fn shown(alloc: Global, world: &World, options: &RunOptions) -> Result<Vec<u8>, ServeFault>
     requires { HasEnded world.now.net.graph (home world.now) }
-    ensures text { IfOk result (λ text. IsShown show world.now.net.graph world.now.net.trace text.items) }
+    ensures text { IfOk result (λ text. IsShown options.now.show options.now.core world.now.net.graph world.now.net.trace text.items) }
     ensures err { IfErr result (λ fault. fault ≡ ServeFault.Memory) }
 {
-    let _ = world.net();
-    match show {
-        Show::Summary => match run_text(alloc, world) {
-            Ok(text) => Ok(text),
-            Err(ReportFault::NotEnded) => unreachable!(),
-            Err(ReportFault::Memory) => Err(ServeFault::Memory),
-        },
+    match options.show {
+        Show::Summary => reported(alloc, world, options.core),
         Show::Events => Ok(write_trace(alloc, world.trace())?),
     }
+}
+
+/// The report of a run that has ended, with its cores where they are asked for.
+fn reported(alloc: Global, world: &World, core: bool) -> Result<Vec<u8>, ServeFault>
+    requires { HasEnded world.now.net.graph (home world.now) }
+    ensures text { IfOk result (λ text. IsShown Summary core world.now.net.graph world.now.net.trace text.items) }
+    ensures err { IfErr result (λ fault. fault ≡ ServeFault.Memory) }
+{
+    let net = world.net();
+    let mut text = match run_text(alloc, world) {
+        Ok(text) => text,
+        Err(ReportFault::NotEnded) => unreachable!(),
+        Err(ReportFault::Memory) => return Err(ServeFault::Memory),
+    };
+    if core {
+        put_ended_cores(alloc, &mut text, net)?;
+    }
+    Ok(text)
 }
 
 /// What goes out of a world whose run has used its turns: its events, where they are asked for.

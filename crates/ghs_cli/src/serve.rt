@@ -12,9 +12,11 @@ use crate::running::run_output_of;
 use crate::stepping::write_steps_of;
 use crate::sweeping::sweep_text_of;
 use crate::viewing::{stored_view_of, view_text_of};
+use ghs_cores::text::put_graph_cores;
 use ghs_gr::device::{Sink, Source};
 use ghs_gr::judgement::read_gr;
 use ghs_gr::laws::law_one_judgement;
+use ghs_graph::graph::Graph;
 use ghs_graph::tree::tree_of;
 use ghs_report::tree_text::tree_text;
 use ghs_report::write_out::write_out;
@@ -53,7 +55,7 @@ pub fn serve<R: Source, T: Source, W: Sink, H: Threads + Wait + Eprint + Sync>(
 {
     match &job.task {
         Task::Steps(options) => write_steps_of(alloc, options, graph, trace, out),
-        Task::Tree => print(rt, alloc, job, graph, trace, out),
+        Task::Tree { core: _ } => print(rt, alloc, job, graph, trace, out),
         Task::Run(_) => print(rt, alloc, job, graph, trace, out),
         Task::Replay { wake: _ } => print(rt, alloc, job, graph, trace, out),
         Task::Sweep(_) => print(rt, alloc, job, graph, trace, out),
@@ -112,7 +114,7 @@ fn output_of<R: Source, T: Source, H: Threads + Wait + Eprint + Sync>(
     ensures trace { IsUnread task.now trace.old trace.new }
 {
     match task {
-        Task::Tree => Ok(Output::whole(tree_text_of(alloc, graph)?)),
+        Task::Tree { core } => Ok(Output::whole(tree_text_of(alloc, *core, graph)?)),
         Task::Run(options) => run_output_of(rt, alloc, options, graph),
         Task::Replay { wake } => Ok(Output::whole(replay_text_of(alloc, *wake, graph, trace)?)),
         Task::Steps(_) => unreachable!(),
@@ -124,15 +126,27 @@ fn output_of<R: Source, T: Source, H: Threads + Wait + Eprint + Sync>(
     }
 }
 
-/// The text of the minimum spanning forest of the graph that the device gives.
-fn tree_text_of<R: Source>(alloc: Global, graph: &mut R) -> Result<Vec<u8>, ServeFault>
+/// The text of the minimum spanning forest of the graph that the device gives, with the cores of its components where they
+/// are asked for.
+fn tree_text_of<R: Source>(
+    alloc: Global,
+    core: bool,
+    graph: &mut R,
+) -> Result<Vec<u8>, ServeFault>
     requires { R.has_failed graph.old ≡ false }
-    ensures text { IfOk result (λ text. IfSome (R.left graph.old) (λ input. IsTreeText input text.items)) }
+    ensures text { IfOk result (λ text. IfSome (R.left graph.old) (λ input. IsTreeText core input text.items)) }
     ensures fault { IfErr result (λ fault. IfSome (R.left graph.old) (λ input. IsGraphCause input fault)) }
     ensures early { IfErr result (λ fault. is_write fault ≡ false) }
     ensures read { IsErrOf result ServeFault.Read ↔ (R.has_failed graph.new ≡ true) }
 {
     let raw = read_gr(alloc, graph)?;
     let tree = tree_of(alloc, &raw)?;
-    Ok(tree_text(alloc, &tree)?)
+    let mut text = tree_text(alloc, &tree)?;
+    if core {
+        let Ok(graph) = Graph::build(alloc, raw) else {
+            return Err(ServeFault::Memory);
+        };
+        put_graph_cores(alloc, &mut text, &graph)?;
+    }
+    Ok(text)
 }

@@ -1,8 +1,10 @@
 -- The text of components.
-use Rattle.std.specs.Prelude.{ℕ, Option, Some, None, List, [], ◌∷◌, ◌++◌, codes, decimal}
+use Rattle.std.specs.Prelude.{◌≡◌, ℕ, Option, Some, None, List, [], ◌∷◌, ◌++◌, codes, decimal}
 use Rattle.std.specs.List.{flat_map}
 use Rattle.ghs_graph.specs.declared.key.Key.{Key}
+use Rattle.ghs_graph.specs.Graph.{Shape}
 use Rattle.ghs_cores.specs.declared.component.Component.{Component}
+use Rattle.ghs_cores.specs.Components.{AreAll}
 
 -- `c A B W LEVEL`: the core's smaller end, larger end and weight; `c V 0` of a node without links
 abbrev pub core_line : ℕ → ℕ → Option Key → List ℕ
@@ -16,3 +18,7 @@ line_of c = core_line c.root c.level c.link
 -- a line for each component, in the list's order
 abbrev pub cores_text : List Component → List ℕ
 cores_text cs = flat_map line_of cs
+
+-- behind a text the lines of all components, of each of which this holds
+abbrev pub HaveLines : Shape → (Component → Type 0) → List ℕ → List ℕ → Type 0
+HaveLines g holds old new = (cs : List Component) × AreAll g holds cs × (new ≡ old ++ cores_text cs)

@@ -66,20 +66,24 @@ stored_rule = record (new_rule (codes "TRACE")) { long = Some (codes "trace") }
 abbrev pub progress_rule : Rule
 progress_rule = record (new_rule (codes "progress")) { long = Some (codes "progress"); action = Some SetTrue }
 
+-- `--core`: whether the core of each component is printed too
+abbrev pub core_rule : Rule
+core_rule = record (new_rule (codes "core")) { long = Some (codes "core"); action = Some SetTrue }
+
 -- `--wake`: which nodes wake by themselves
 abbrev pub wake_rule : Rule
 wake_rule = option_rule (codes "wake") (codes "all")
 
--- `tree [FILE]`
+-- `tree [FILE] [--core]`
 abbrev pub tree_command : App
-tree_command = with_rule (new_app (codes "tree")) file_rule
+tree_command = with_rule (with_rule (new_app (codes "tree")) file_rule) core_rule
 
--- `run [FILE] [--seed S] [--schedule seeded|patient] [--workers W] [--wake all|first] [--turns T] [--print report|trace] [--progress]`
+-- `run [FILE] [--seed S] [--schedule seeded|patient] [--workers W] [--wake all|first] [--turns T] [--print report|trace] [--core] [--progress]`
 abbrev pub run_command : App
 run_command =
     let named = with_rule (new_app (codes "run")) file_rule in
     let numbered = with_rule (with_rule (with_rule named seed_rule) schedule_rule) workers_rule in
-    with_rule (with_rule (with_rule (with_rule numbered wake_rule) turns_rule) print_rule) progress_rule
+    with_rule (with_rule (with_rule (with_rule (with_rule numbered wake_rule) turns_rule) print_rule) core_rule) progress_rule
 
 -- `replay TRACE [FILE] [--wake all|first]`
 abbrev pub replay_command : App

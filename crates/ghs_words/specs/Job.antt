@@ -70,6 +70,10 @@ IsPicking command picking = (picking ≡ Patient) ↔ (value_in (codes "schedule
 abbrev pub IsToldOf : Used → Bool → Type 0
 IsToldOf command progress = (progress ≡ true) ↔ (value_in (codes "progress") command ≡ Some (codes "true"))
 
+-- whether the core of each component is printed too, as `--core` says, which has no value of its own
+abbrev pub IsCoreOf : Used → Bool → Type 0
+IsCoreOf command core = (core ≡ true) ↔ (value_in (codes "core") command ≡ Some (codes "true"))
+
 -- the form of the lines, as `--json` says, which has no value of its own
 abbrev pub IsForm : Used → Form → Type 0
 IsForm command form = (form ≡ Json) ↔ (value_in (codes "json") command ≡ Some (codes "true"))
@@ -110,6 +114,7 @@ pub record AreOptions (command : Used) (o : RunOptions) : Type 0 where
   pub wake : IsWake command o.wake
   pub turns : o.turns ≡ turns_in command
   pub show : IsShow command o.show
+  pub core : IsCoreOf command o.core
   pub progress : IsToldOf command o.progress
 
 -- which runs a command asks to be swept
@@ -154,7 +159,7 @@ pub record IsNoOther (command : Used) : Type 0 where
 
 -- the task that a command asks for
 abbrev pub IsTask : Used → Task → Type 0
-IsTask command task.Tree = IsNoOther command
+IsTask command (task.Tree core) = IsNoOther command × IsCoreOf command core
 IsTask command (task.Run options) = (name_in command ≡ Some (codes "run")) × AreOptions command options
 IsTask command (task.Replay wake) = (name_in command ≡ Some (codes "replay")) × IsWake command wake
 IsTask command (task.Steps options) = (name_in command ≡ Some (codes "steps")) × AreStepsOptions command options
@@ -180,7 +185,7 @@ pub record AreViewLimits (o : ViewOptions) : Type 0 where
 
 -- a task's numbers are
 abbrev pub IsWithinLimits : Task → Type 0
-IsWithinLimits task.Tree = Unit {0}
+IsWithinLimits (task.Tree core) = Unit {0}
 IsWithinLimits (task.Run options) = AreWithinLimits options
 IsWithinLimits (task.Replay wake) = Unit {0}
 IsWithinLimits (task.Steps options) = Unit {0}

@@ -1,7 +1,7 @@
 //! The words that the program takes.
 ghost use Rattle.clap.specs.Words.{app_of, rule_of};
 ghost use Rattle.clap.specs.declared.builder.command.Command.TheViews.{out-Command};
-ghost use Rattle.ghs_words.specs.Grammar.{file_rule, from_rule, json_rule, node_rule, option_rule, print_rule, program, progress_rule, replay_command, run_command, schedule_rule, seed_rule, seeds_rule, sheet_rule, steps_command, sweep_command, to_rule, trace_rule, tree_command, turns_rule, wake_rule, workers_rule, stored_rule, view_command};
+ghost use Rattle.ghs_words.specs.Grammar.{core_rule, file_rule, from_rule, json_rule, node_rule, option_rule, print_rule, program, progress_rule, replay_command, run_command, schedule_rule, seed_rule, seeds_rule, sheet_rule, steps_command, sweep_command, to_rule, trace_rule, tree_command, turns_rule, wake_rule, workers_rule, stored_rule, view_command};
 ghost use Rattle.std.specs.Prelude.{◌≡◌, IfOk, false};
 
 use clap::{Arg, ArgAction, Command};
@@ -33,7 +33,8 @@ fn tree<'a>(alloc: Global) -> Result<Command<'a>, AllocError>
     Ok(
         Command::new(alloc, "tree")
             .about("Prints the minimum spanning forest of a graph")
-            .arg(file(alloc))?,
+            .arg(file(alloc))?
+            .arg(core(alloc))?,
     )
 }
 
@@ -54,6 +55,7 @@ fn run<'a>(alloc: Global) -> Result<Command<'a>, AllocError>
             .arg(wake(alloc))?
             .arg(turns(alloc))?
             .arg(print(alloc))?
+            .arg(core(alloc))?
             .arg(progress(alloc))?,
     )
 }
@@ -272,6 +274,17 @@ fn stored<'a>(alloc: Global) -> Arg<'a>
     Arg::new(alloc, "TRACE").long("trace").help(
         "The stored run that is shown, the text of its events; without it the seed's",
     )
+}
+
+// Whether the core of each component is printed too.
+fn core<'a>(alloc: Global) -> Arg<'a>
+    ensures local { result.global ≡ false }
+    ensures rule { rule_of result ≡ core_rule }
+{
+    Arg::new(alloc, "core")
+        .long("core")
+        .action(ArgAction::SetTrue)
+        .help("Prints behind the tree, or the report of a run, each component's core and its level")
 }
 
 // Whether it is told how far the run has come.

@@ -48,6 +48,8 @@ pub struct RunOptions {
     pub turns: u64,
     /// What is printed.
     pub show: Show,
+    /// Whether a report has each component's core, with which the run has ended.
+    pub core: bool,
     /// Whether standard error is told how far the run has come.
     pub progress: bool,
 }
@@ -122,8 +124,8 @@ pub struct StoredViewOptions {
 /// What is to be done.
 #[derive(Clone, Copy, Debug, PartialEq, Eq)]
 pub enum Task {
-    /// Print the minimum spanning forest.
-    Tree,
+    /// Print the minimum spanning forest, and each component's core where that is asked for.
+    Tree { core: bool },
     /// Run a network.
     Run(RunOptions),
     /// Play a stored run again.
@@ -307,7 +309,9 @@ fn task_of<'a>(matches: &ArgMatches<'a>) -> Task
     } else if matches.subcommand_name() == Some("view") {
         shown_by(matches)
     } else {
-        Task::Tree
+        Task::Tree {
+            core: is_text(value_of(matches, "core"), "true"),
+        }
     }
 }
 
@@ -323,6 +327,7 @@ fn options_of<'a>(matches: &ArgMatches<'a>) -> RunOptions
         wake: wake_of(matches),
         turns: number_of(matches, "turns", 1, EVENT_LIMIT),
         show: show_of(matches),
+        core: is_text(value_of(matches, "core"), "true"),
         progress: is_text(value_of(matches, "progress"), "true"),
     }
 }
