@@ -28,14 +28,18 @@ main { position: relative; min-width: 0; min-height: 0; overflow: hidden; }
 main > svg { position: absolute; inset: 0; width: 100%; height: 100%; display: block; }
 #time { overflow: auto; position: absolute; inset: 0 0 2.9rem 0; }
 [hidden] { display: none !important; }
-aside { overflow-y: auto; border-left: 1px solid var(--line); padding: .4rem .8rem .8rem; scrollbar-gutter: stable; }
-aside h2 { font-size: 1em; margin: .7rem 0 .15rem; }
+aside { display: flex; flex-direction: column; min-height: 0; border-left: 1px solid var(--line); padding: .4rem .3rem .3rem .8rem; }
+aside > div { overflow-y: auto; scrollbar-gutter: stable; flex: none; }
+aside > #live { flex: none; }
+aside h2 { font-size: 1em; margin: .35rem 0 .1rem; }
+aside #say { flex: 0 1 auto; min-height: 7em; }
+aside #vars { flex: 1 1 9em; min-height: 9em; }
+aside #census { flex: 0 4 auto; min-height: 6.5em; }
 aside p { margin: .15rem 0; }
 table { border-collapse: collapse; width: 100%; font-variant-numeric: tabular-nums; font-size: .92em; }
 th, td { text-align: left; padding: 0 .4em 0 0; font-weight: normal; vertical-align: top; white-space: nowrap; }
 th { color: var(--dim); }
 td.n, th.n { text-align: right; padding-right: .5em; }
-#say { min-height: 10.5em; }
 tr.new td, td.new { font-weight: bold; }
 td.new::after, tr.new td:nth-child(4)::after { content: " \25C0"; color: var(--act); }
 .old { color: var(--dim); font-weight: normal; }
@@ -50,7 +54,9 @@ footer { display: grid; grid-template-columns: minmax(0, 1fr); }
 footer div { display: flex; gap: .4rem .5rem; align-items: center; flex-wrap: wrap; }
 #strip { width: 100%; height: 84px; display: block; cursor: pointer; touch-action: none; }
 #seek { width: 100%; margin: 0; accent-color: var(--act); padding: 0; height: 1.1rem; }
-#count { font-weight: bold; font-variant-numeric: tabular-nums; min-width: 9.5em; }
+#count { font-weight: bold; font-variant-numeric: tabular-nums; }
+#speed { max-width: 8.5em; }
+#goal { max-width: 12em; }
 svg text { fill: var(--ink); font-family: inherit; }
 .half { fill: none; stroke: var(--faint); stroke-width: 1.4; }
 .tiny .half, .tiny .cross { stroke-width: .8; }
@@ -121,7 +127,26 @@ circle.halo.bx { fill: var(--line); }
 dialog { color: var(--ink); background: var(--paper); border: 2px solid var(--ink); max-width: 46rem; }
 dialog td:first-child { font-weight: bold; padding-right: 1.2em; }
 dialog td { white-space: normal; }
-@media (max-width: 900px) { body { grid-template: auto minmax(0, 1fr) minmax(0, 14rem) auto / minmax(0, 1fr); } header, footer { grid-column: 1; } aside { border-left: 0; border-top: 1px solid var(--line); } }
+@media (min-width: 1500px) { body { grid-template-columns: minmax(0, 1fr) 29rem; } }
+@media (max-height: 820px) { :root { --num: 15px; } aside { font-size: 13.5px; line-height: 1.25; } #strip { height: 60px; } }
+@media (max-width: 900px) { body { grid-template: auto minmax(0, 1fr) minmax(0, 14rem) auto / minmax(0, 1fr); } header, footer, .bad { grid-column: 1; } aside { display: block; overflow-y: auto; border-left: 0; border-top: 1px solid var(--line); } }
+@media (max-width: 500px) { :root { --num: 14px; } header, footer { padding: .2rem .4rem; gap: .25rem; } footer div { gap: .25rem; } button { min-width: 2em; padding: .1em .35em; } #what, .legend, .wordy { display: none; } #strip { height: 44px; } body { grid-template-rows: auto minmax(0, 1fr) minmax(0, 12rem) auto; } #goal { max-width: 9em; } }
+.sr { position: absolute; width: 1px; height: 1px; overflow: hidden; clip-path: inset(50%); }
+#net { touch-action: none; }
+.node:focus { outline: none; }
+.node:focus-visible .body { stroke: var(--act); stroke-width: 5; }
+.ask button { margin: .1rem .2rem .1rem 0; }
+@media print {
+  @page { size: landscape; margin: 8mm; }
+  * { print-color-adjust: exact; -webkit-print-color-adjust: exact; }
+  :root { --num: 12px; }
+  html, body { height: 178mm; width: 100%; overflow: hidden; }
+  body { grid-template: auto minmax(0, 1fr) auto / minmax(0, 1fr) 88mm; }
+  header, footer { grid-column: 1 / 3; }
+  aside { display: flex; font-size: 11px; line-height: 1.2; border-left: 1px solid var(--line); border-top: 0; }
+  header button, footer button, footer label, #seek, #hint, dialog { display: none !important; }
+  #strip { height: 60px; }
+}
 </style>
 <style id="looks"></style>
 </head>
@@ -130,27 +155,28 @@ dialog td { white-space: normal; }
 <b>ghs</b><span id="what"></span><span class="gap"></span>
 <span role="tablist"><button role="tab" id="tabnet" aria-selected="true" title="t">Network</button>
 <button role="tab" id="tabtime" aria-selected="false" title="t">Space and time</button></span>
-<button id="only" title="x" aria-pressed="false" hidden>causes only</button><button id="follow" title="f" aria-pressed="false">follow</button><button id="layout" title="c">circle</button><button id="theme" title="d">dark</button><button id="help" title="?">?</button>
+<button id="only" title="x" aria-pressed="false" hidden>causes only</button><button id="follow" title="f" aria-pressed="false">follow</button><button id="layout" title="c">circle</button><button id="save" title="p: the picture as a file (SVG)">picture</button><button id="theme" title="d">dark</button><button id="help" title="?">?</button>
 </header>
 <main id="stage">
-<svg id="net" role="img" aria-label="The network"><defs id="defs"></defs><g id="view"><g id="halos"></g><g id="weights"></g><g id="links"></g><g id="cores"></g><g id="ways"></g><g id="tags"></g><g id="nodes"></g><g id="msgs"></g><g id="marks"></g></g></svg>
+<svg id="net" role="group" aria-label="The network"><defs id="defs"></defs><g id="view"><g id="halos"></g><g id="weights"></g><g id="links"></g><g id="cores"></g><g id="ways"></g><g id="tags"></g><g id="nodes"></g><g id="msgs"></g><g id="marks"></g></g></svg>
 <div id="time" hidden><svg id="lanes" role="img" aria-label="Space-time diagram"></svg></div>
 <div class="legend" id="legend"></div>
 <div id="hint" hidden></div>
 </main>
 <aside>
-<div aria-live="polite" id="say"></div>
-<h2><label>Node <input id="pick" type="number" min="1" style="width:6em" title="a number pins that node; empty: the event's node"></label> <span id="pinned" class="old"></span></h2>
+<div class="sr" aria-live="polite" id="live"></div><div id="say"></div>
+<h2><label>Node <input id="pick" type="number" min="1" style="width:6em" title="/: search for a node, which pins it; empty: the event's node"></label> <span id="pinned" class="old"></span></h2>
 <div id="vars"></div>
 <h2>Messages</h2><div id="ledger"></div>
 <h2>Fragments</h2><div id="census"></div>
 </aside>
 <footer>
-<div><span id="count"></span>
+<div><label>Event <input id="goto" type="number" min="0" style="width:5.5em" title="e: to an event's number"></label> <span id="count"></span>
 <button id="first" title="Home" aria-label="to the start">|&lt;</button><button id="back" title="left arrow" aria-label="one event back">&lt;</button>
 <button id="play" title="space" aria-label="play">Play</button><button id="next" title="right arrow" aria-label="one event on">&gt;</button><button id="last" title="End" aria-label="to the end">&gt;|</button>
-<label>speed <select id="speed"><option value="1500">slow</option><option value="600" selected>middle</option><option value="150">fast</option><option value="16">rush</option></select></label>
+<label>speed <select id="speed"><option value="1500">slow</option><option value="600" selected>middle</option><option value="150">fast</option><option value="16">rush</option><option value="minute">a run in a minute</option></select></label> <span id="pace"></span>
 <label><input type="checkbox" id="skip"> pass over waits</label>
+<label><input type="checkbox" id="ask"> ask first</label>
 <label>jump to <select id="goal"></select></label>
 <button id="jumpback" title="up arrow" aria-label="jump back">&lt;&lt;</button><button id="jump" title="down arrow" aria-label="jump on">&gt;&gt;</button></div>
 <svg id="strip" aria-hidden="true"></svg>
@@ -167,7 +193,7 @@ pub const TAIL: &[u8] = br##"</script>
 const $ = id => document.getElementById(id);
 const KINDS = ['connect', 'initiate', 'test', 'accept', 'reject', 'report', 'changeroot'];
 const NAMES = { connect: 'Connect', initiate: 'Initiate', test: 'Test', accept: 'Accept', reject: 'Reject', report: 'Report', changeroot: 'ChangeRoot' };
-const PAIRS = [['level', 'phase'], ['name'], ['find_count', 'in_branch'], ['best'], ['probe', 'halted']];
+const GROUPS = [['level', 'phase', 'halted'], ['find_count', 'in_branch', 'probe'], ['name', 'best']];
 const LETTER = { connect: 'C', initiate: 'I', test: 'T', accept: 'A', reject: 'X', report: 'R', changeroot: 'G' };
 const VARS = ['level', 'name', 'phase', 'find_count', 'in_branch', 'best', 'probe', 'halted'];
 const ROWS = {
@@ -197,9 +223,9 @@ const ROWS = {
 };
 const KEYS = [['left, right', 'one event back or on'], ['space', 'play, stop'], ['up, down', 'to the previous or next event of the sort chosen under "jump to"'],
   ['Page up, Page down', 'ten events'], ['Home, End', 'start, end'], ['n', 'pins the event\'s node, or lets it go'], ['[ and ]', 'pins the node before or after'],
-  ['w', 'passes over events that only wait'], ['t', 'network, or space and time'], ['c', 'laid out by forces, or as a circle in the order of numbers'], ['d', 'dark, light'],
+  ['e', 'to an event\'s number'], ['/', 'search for a node'], ['q', 'asks before it shows what the next event does'], ['w', 'passes over events that only wait'], ['t', 'network, or space and time'], ['c', 'laid out by forces, or as a circle in the order of numbers'], ['d', 'dark, light'],
   ['x', 'space and time: only what acted on the event or what it acts on'], ['f', 'follows the event\'s node, larger'],
-  ['+ - 0', 'larger, smaller, whole network; the mouse drags and its wheel zooms'], ['k', 'weights of links'], ['g', 'legend'], ['?', 'this list']];
+  ['+ - 0', 'larger, smaller, whole network; the mouse drags and its wheel zooms'], ['k', 'weights of links'], ['p', 'the picture as a file (SVG)'], ['g', 'legend'], ['?', 'this list']];
 
 // ---- the data
 let G, steps = [], links = [], nodes = [], ledgerEnd = null;
@@ -566,7 +592,7 @@ function shape() {
   const k = shaped = zoom.k, N = G.nodes;
   for (let v = 1; v <= N; v++) pos[v] = [base.P[v][0] * k, base.P[v][1] * k];
   radius = k < 1 ? base.r * k : Math.max(base.r, Math.min(FULL, base.r * k * .8));
-  big = base.len * k > 150 && N * Math.min(1, 1 / (k * k)) <= 40 && radius >= FULL * .8;
+  big = base.len * k > 150 && N * Math.min(1, 1 / (k * k)) <= 40 && radius >= FULL * .8 && nodes.every(n => !n || n.ports.length <= 8);
   const r = radius, style = $('net').style;
   style.setProperty('--thick', Math.max(Math.min(2, r * .5), Math.min(5, r * .32)));
   style.setProperty('--thin', Math.max(.7, Math.min(1.8, r * .11)));
@@ -629,7 +655,9 @@ function pills(i, to, port, list) {
   const h = big ? 11 : radius < LEGIBLE ? Math.max(1.5, radius * .5) : Math.max(5, radius * .58), span = t => big ? t.length * 8.6 + 18 : h * 2.3, sum = list => list.reduce((x, t) => x + span(t), 0);
   const whole = list.map(([m]) => short(m)), text = big && sum(whole) > L - radius * 2 - 14 ? list.map(([m]) => LETTER[m.kind] + (m.level ?? '')) : whole, wide = text.map(span), full = sum(text);
   const squeeze = Math.min(1, Math.max(.2, (L * .8 - radius * 2) / full));
-  let off = radius + (big ? 9 : radius < LEGIBLE ? 2 : 5), html = '';
+  // round a node of many links they stand on a wider circle
+  const round = nodes[to].ports.length * (2 * h + 3) / 6.3 - h;
+  let off = Math.max(radius + (big ? 9 : radius < LEGIBLE ? 2 : 5), Math.min(round, L * .55)), html = '';
   list.forEach(([m, cls], k) => {
     const w = wide[k];
     let x, y, a;
@@ -781,28 +809,58 @@ const words = m => NAMES[m.kind] + (m.kind === 'report' ? '(' + (m.key ?? 'infin
 const value = (x, y) => y === null || y === undefined ? '-' : x === 'best' ? y[0] + ': ' + y[1] : x === 'phase' ? cap(y) : x === 'halted' ? (y ? 'yes' : 'no') : String(y);
 const idle = s => s.fate === 'waits' && !s.mark && !s.send.length;
 const td = (x, c) => '<td' + (c ? ' class="' + c + '"' : '') + '>' + x + '</td>';
+const opens = s => 'Node <b>' + s.node + '</b> ' + (s.port === null ? 'wakes by itself.' : 'takes <b>' + words(s) + '</b> from node <b>' + s.far + '</b> at port ' + s.port + '.');
+// what is read out: the event in one line
+function live(s) {
+  const a = asking ? steps[at] : s, text = !a ? 'The start' : 'Event ' + a.step + ': node ' + a.node + (a.port === null ? ' wakes by itself' : ' takes ' + words(a) + ' from node ' + a.far) + (asking ? '. What happens?' : '. ' + a.row + (a.fate ? ', ' + FATE[a.fate] : '') + '.');
+  if ($('live').textContent !== text) $('live').textContent = text;
+}
+// ask first: the next event, and neither its row nor what it does; then what was guessed beside what is so
+const FATE = { done: 'consumed', waits: 'put back' }, MARKS = ['none', 'branch', 'rejected'];
+let asking = false, guess = null;
+const markOf = s => s.mark ? s.mark[1] : 'none';
+const choice = (part, value, text) => '<button data-part="' + part + '" data-value="' + value + '" aria-pressed="' + (guess[part] === value) + '">' + text + '</button>';
+function question(s) {
+  return '<div class="ask"><p class="say">Event ' + s.step + ': ' + opens(s) + '</p>' + (s.fate ? '<p>Is the message consumed, or put back? ' + Object.keys(FATE).map(x => choice('fate', x, FATE[x])).join('') + '</p>' : '')
+    + '<p>Which mark does a port of the node get? ' + MARKS.map(x => choice('mark', x, x === 'none' ? 'no change' : cap(x))).join('') + '</p><p><button data-part="show">Show it</button> (right arrow)</p></div>';
+}
+function verdict(s) {
+  if (!guess || guess.step !== s.step) return '';
+  const told = [];
+  if (guess.fate && s.fate) told.push(FATE[guess.fate] + (guess.fate === s.fate ? ': right' : ': no, ' + FATE[s.fate]));
+  if (guess.mark) told.push('mark ' + guess.mark + (guess.mark === markOf(s) ? ': right' : ': no, ' + markOf(s)));
+  return told.length ? '<p class="verdict">Your guess, ' + told.join('; ') + '.</p>' : '';
+}
+function choose(e) {
+  const d = e.target.dataset;
+  if (d.part === 'show') one(1);
+  else if (d.part) { guess[d.part] = d.value; show(); }
+}
 let pin = 0;
 const pinned = () => pin;
 function panel(c) {
   const s = stepNow(), u = s && undoNow();
-  $('count').textContent = 'Event ' + at + ' of ' + G.events;
-  if (!s) $('say').innerHTML = '<p class="say">' + 'All nodes sleep, all marks are Basic, and nothing is on its way.' + '</p>';
+  $('count').textContent = 'of ' + G.events;
+  if (document.activeElement !== $('goto')) $('goto').value = at;
+  live(s);
+  if (asking) $('say').innerHTML = question(steps[at]);
+  else if (!s) $('say').innerHTML = '<p class="say">' + 'All nodes sleep, all marks are Basic, and nothing is on its way.' + '</p>';
   else {
-    let h = '<p class="say">Node <b>' + s.node + '</b> ' + (s.port === null ? 'wakes by itself.' : 'takes <b>' + words(s) + '</b> from node <b>' + s.far + '</b> at port ' + s.port + '.') + '</p>';
-    h += '<p><span class="row">' + s.row + '</span>. ' + (ROWS[s.row] || '') + '</p>';
+    let h = verdict(s) + '<p class="say">' + opens(s) + '</p>';
+    h += '<p><span class="row">' + s.row + '</span>. ' + (ROWS[s.row] || '') + (s.fate === 'waits' ? ' <b class="why">' + reasonOf(u.taken) + '.</b>' : '') + '</p>';
     const ch = [];
     if (s.mark) ch.push('port ' + s.mark[0] + ': <span class="old">' + cap(u.mark) + '</span> &rarr; <b>' + cap(s.mark[1]) + '</b>');
     for (const x in s.set) ch.push(x + ': <span class="old">' + value(x, u.set[x]) + '</span> &rarr; <b>' + value(x, s.set[x]) + '</b>');
-    h += '<p>' + (ch.length ? ch.join('; ') + '.' : 'Nothing changes at the node.') + '</p>';
+    if (!idle(s)) h += '<p>' + (ch.length ? ch.join('; ') + '.' : 'Nothing changes at the node.') + '</p>';
     h += s.send.map((x, i) => '<p>Sends <b>' + words(x) + '</b> to node ' + x.to + ' on port ' + x.port + '.</p>').join('');
-    if (s.fate === 'waits') h += '<p>The message goes to the end of its queue' + (queue(s.node, s.port).length > 1 ? ', behind ' + (queue(s.node, s.port).length - 1) + ' more' : '') + '. It was sent by event ' + u.taken.born + ', and ' + backsOf(u.taken) + '.</p><p class="why">' + reasonOf(u.taken) + '.</p>';
+    if (s.fate === 'waits') h += '<p>The message goes to the end of its queue' + (queue(s.node, s.port).length > 1 ? ', behind ' + (queue(s.node, s.port).length - 1) + ' more' : '') + '. It was sent by event ' + u.taken.born + ', and ' + backsOf(u.taken) + '.</p>';
     $('say').innerHTML = h;
   }
   const v = pin || (s ? s.node : 1), n = nodes[v], mine = s && s.node === v;
   $('pinned').textContent = pin ? 'pinned (n lets go)' : 'the event\'s';
   if (document.activeElement !== $('pick')) $('pick').value = v;
-  const cell = (x, _, row) => '<th>' + x + '</th><td' + (row.length === 1 ? ' colspan="3"' : '') + (mine && x in s.set ? ' class="new"' : '') + '>' + value(x, n[x]) + '</td>';
-  let h = '<table>' + PAIRS.map(row => '<tr>' + row.map(cell).join('') + '</tr>').join('') + '</table>';
+  const cell = (x, _, row) => '<th>' + x + '</th><td' + (row.length === 2 && x === 'best' ? ' colspan="3"' : '') + (mine && x in s.set ? ' class="new"' : '') + '>' + value(x, n[x]) + '</td>';
+  let h = '<table>' + GROUPS.map(row => '<tr>' + row.map(cell).join('') + '</tr>').join('') + '</table>';
   h += '<table><tr><th class="n">port</th><th>to</th><th>key</th><th>mark</th><th>waiting</th></tr>';
   n.ports.forEach((p, j) => {
     const q = queue(v, j).map(m => '<span class="pill' + (m.backs ? ' back' : '') + '">' + LETTER[m.kind] + '</span>').join(' ');
@@ -811,15 +869,13 @@ function panel(c) {
   h += '</table>';
   n.ports.forEach((_, j) => { for (const m of queue(v, j)) if (m.backs) h += '<p class="waiter">' + storyOf(m) + '</p>'; });
   $('vars').innerHTML = h;
-  const total = ledger.sent.reduce((a, b) => a + b), max = G.bound;
+  const total = ledger.sent.reduce((a, b) => a + b), max = G.bound, back = [...queues.values()].reduce((x, q) => x + q.list.filter(m => m.backs).length, 0);
   h = '<div class="bar" role="img" aria-label="' + total + ' of ' + max + '"><i style="width:' + (max ? 100 * total / max : 0) + '%"></i></div><p>first sends <b>' + total + '</b>, bound ' + max + '</p><table class="wide"><tr><th></th>' + KINDS.map(k => '<th class="n" title="' + NAMES[k] + '"><span class="pill">' + LETTER[k] + '</span></th>').join('') + '</tr>';
   for (const x of ['sent', 'consumed']) h += '<tr><th>' + x + '</th>' + ledger[x].map(y => td(y, 'n')).join('') + '</tr>';
-  $('ledger').innerHTML = h + '</table><p>in queues <b>' + ledger.queued + '</b>, waited (requeued) <b>' + ledger.requeued + '</b> times</p>';
+  $('ledger').innerHTML = h + '</table><p>in queues <b>' + ledger.queued + '</b>, of these put back <b>' + back + '</b>; requeued <b>' + ledger.requeued + '</b></p>';
   const fr = [...c.all.values()].sort((a, b) => b.nodes - a.nodes || a.least - b.least), many = fr.filter(f => f.nodes > 1);
   const tree = links.filter(branchy), halts = nodes.filter(x => x && x.halted).map(x => x.v);
-  const back = [...queues.values()].reduce((x, q) => x + q.list.filter(m => m.backs).length, 0);
-  $('ledger').lastChild.append('; ' + back + ' of those in queues were put back');
-  h = '<p><b>' + fr.length + '</b> of ' + G.nodes + ' at the start; Branch links ' + tree.length + ', weight ' + tree.reduce((a, l) => a + l.weight, 0) + (halts.length ? '; <b>halted: ' + halts.slice(0, 9).join(', ') + '</b>' : '') + '</p>';
+    h = '<p><b>' + fr.length + '</b> of ' + G.nodes + ' at the start; Branch links ' + tree.length + ', weight ' + tree.reduce((a, l) => a + l.weight, 0) + (halts.length ? '; <b>halted: ' + halts.slice(0, 9).join(', ') + '</b>' : '') + '</p>';
   h += '<table><tr><th class="n">level</th><th class="n">nodes</th><th class="n">least</th><th>name (core)</th></tr>' + many.slice(0, 12).map(f => '<tr>' + td(f.level, 'n') + td(f.nodes, 'n') + td(f.least, 'n') + td('<svg class="sw s' + (look.get(f.name) ?? 'x') + '"><rect width="100%" height="100%"' + (f.name ? '' : ' fill="none"') + '/></svg>' + (f.name ?? '-')) + '</tr>').join('') + '</table>';
   h += '<p>' + (many.length > 12 ? (many.length - 12) + ' more, ' : '') + (fr.length - many.length) + ' single nodes</p>';
   $('census').innerHTML = h;
@@ -855,39 +911,70 @@ const LEGEND = () => {
 
 // what a message at the pointer is, and why it waits
 function tip(e) {
-  const g = e.target.closest('.msg');
-  if (!g) return;
-  const [v, p, k] = g.dataset.q.split(' ').map(Number), m = k < 0 ? undoNow().taken : queue(v, p)[k], t = $('hint'), b = $('stage').getBoundingClientRect();
-  t.textContent = k < 0 ? words(m) + ' from node ' + m.from + ' to node ' + m.to + ', sent by event ' + m.born + ', consumed by event ' + at + '.' : storyOf(m);
+  const g = e.target.closest('.msg, .node'), t = $('hint'), b = $('stage').getBoundingClientRect();
+  if (!g || e.buttons && e.pointerType === 'mouse') return;
+  const [v, p, k] = (g.dataset.q || '0').split(' ').map(Number), m = v && (k < 0 ? undoNow().taken : queue(v, p)[k]);
+  t.textContent = !v ? cap(stateOf(+g.dataset.v)) : k < 0 ? words(m) + ' from node ' + m.from + ' to node ' + m.to + ', sent by event ' + m.born + ', consumed by event ' + at + '.' : storyOf(m);
   t.hidden = false;
   t.style.left = Math.max(0, Math.min(b.width - t.offsetWidth, e.clientX - b.left + 14)) + 'px';
   t.style.top = Math.max(0, Math.min(b.height - t.offsetHeight, e.clientY - b.top + 14)) + 'px';
 }
 
 // ---- moving about
-let timer = 0, tab = 'net', follow = false, asking = false;
+let timer = 0, tab = 'net', follow = false;
 function show() {
+  clearTimeout(scale.later);
   $('hint').hidden = true;
   const c = census();
   if (tab === 'net') drawNet(c); else drawTime();
   panel(c);
   cursor();
   clearTimeout(show.later);
-  show.later = setTimeout(() => { try { history.replaceState(null, '', '#' + at); } catch { } }, 300);
+  show.later = setTimeout(() => { try { history.replaceState(null, '', address()); } catch { } }, 300);
 }
-function move(k) { goto(k); show(); }
+// the address holds the event, the pinned node, the tab and, but for the whole network, zoom and middle
+function address() {
+  const whole = zoom.k === 1 && !zoom.x && !zoom.y, part = (x, size) => ((size / 2 - x) / zoom.k / size).toFixed(4);
+  return '#' + at + (pin ? ',n' + pin : '') + (tab === 'time' ? ',time' : '') + (whole || !base ? '' : ',k' + zoom.k.toFixed(3) + ',x' + part(zoom.x, base.W) + ',y' + part(zoom.y, base.H));
+}
+function goAddress() {
+  const found = /^#(\d+)((?:,[-a-z0-9.]+)*)$/.exec(location.hash);
+  if (!found || location.hash === address()) return;
+  const parts = found[2].split(','), number = letter => { const x = parts.find(p => new RegExp('^' + letter + '-?[0-9.]+$').test(p)); return x === undefined ? undefined : +x.slice(1); };
+  goto(+found[1]);
+  asking = false;
+  pin = Math.min(G.nodes, number('n') || 0);
+  const k = Math.min(100, Math.max(.05, number('k') ?? 1));
+  zoom = { k, x: base.W / 2 - (number('x') ?? .5) * k * base.W, y: base.H / 2 - (number('y') ?? .5) * k * base.H };
+  setTab(parts.includes('time') ? 'time' : 'net');
+}
+function move(k) { asking = false; goto(k); show(); }
 function one(d) {
   let k = at + d;
   if ($('skip').checked) while (k > 0 && k < G.to && idle(steps[k - 1])) k += d;
+  if ($('ask').checked && d > 0 && !asking && k <= G.to) {
+    goto(k - 1);
+    asking = true;
+    guess = { step: k };
+    return show();
+  }
   move(k);
 }
-function halt() { clearInterval(timer); timer = 0; $('play').textContent = 'Play'; $('say').setAttribute('aria-live', 'polite'); }
+function halt() { clearInterval(timer); timer = 0; $('play').textContent = 'Play'; $('live').setAttribute('aria-live', 'polite'); $('pace').textContent = ''; }
+// the whole run in a minute: the clock says which event is due; what is stepped over is said
+const minute = (start, from) => () => {
+  const due = Math.min(G.to, from + Math.floor((performance.now() - start) / 60000 * G.to)), over = due - at;
+  if (at >= G.to) return halt();
+  if (!over) return;
+  $('pace').textContent = over > 1 ? '1 event in ' + over + ' is shown' : '';
+  move(due);
+};
 function play() {
   if (timer) return halt();
   if (at >= G.to) goto(0);
   $('play').textContent = 'Stop';
-  $('say').setAttribute('aria-live', 'off');
-  timer = setInterval(() => { if (at >= G.to) halt(); else one(1); }, +$('speed').value);
+  $('live').setAttribute('aria-live', 'off');
+  timer = $('speed').value === 'minute' ? setInterval(minute(performance.now(), at), 40) : setInterval(() => { if (at >= G.to) halt(); else one(1); }, +$('speed').value);
 }
 const GOALS = [['node', 'events of the node'], ['frag', 'fragments merging'], ['level', 'a level rising'], ['waits', 'messages that wait'], ['wake', 'nodes waking'], ['halted', 'a halt'], ...KINDS.map(k => [k, NAMES[k]])];
 function fits(s, goal) {
@@ -905,7 +992,35 @@ function jump(d) {
   const goal = $('goal').value;
   for (let k = at + d; k >= 1 && k <= G.to; k += d) if (fits(steps[k - 1], goal)) return move(k);
 }
-function setPin(v) { pin = v >= 1 && v <= G.nodes ? v : 0; show(); }
+function setPin(v) {
+  pin = v >= 1 && v <= G.nodes ? v : 0;
+  if (document.activeElement.matches('.node') && pin) nodes[pin].g.focus();
+  show();
+}
+// a node that was searched for is brought into sight
+function search(v) {
+  setPin(v);
+  if (!pin || tab !== 'net') return;
+  const x = pos[pin][0] + zoom.x, y = pos[pin][1] + zoom.y;
+  if (x < 30 || y < 30 || x > base.W - 30 || y > base.H - 60) { zoom.x += base.W / 2 - x; zoom.y += base.H / 2 - y; show(); }
+}
+// what is shown, as a picture by itself
+function picture() {
+  const svg = $(tab === 'net' ? 'net' : 'lanes').cloneNode(true), box = tab === 'net' ? [base.W, base.H] : [+$('lanes').getAttribute('width'), +$('lanes').getAttribute('height')], style = el('style', {});
+  style.textContent = [...document.querySelectorAll('style')].map(x => x.textContent).join('\n');
+  svg.prepend(style, el('rect', { width: box[0], height: box[1], style: 'fill:var(--paper)' }));
+  svg.setAttribute('width', box[0]); svg.setAttribute('height', box[1]);
+  svg.setAttribute('font-family', 'system-ui, sans-serif');
+  svg.classList.toggle('dark', document.documentElement.classList.contains('dark'));
+  return new XMLSerializer().serializeToString(svg);
+}
+function save() {
+  const a = document.createElement('a');
+  a.href = URL.createObjectURL(new Blob([picture()], { type: 'image/svg+xml' }));
+  a.download = 'ghs-' + at + '.svg';
+  a.click();
+  setTimeout(() => URL.revokeObjectURL(a.href), 1000);
+}
 function setTab(x) {
   tab = x;
   $('only').hidden = x === 'net';
@@ -930,9 +1045,32 @@ const ACTS = {
   x: () => { only = !only; setTab('time'); }, f: () => { follow = !follow; $('follow').setAttribute('aria-pressed', follow); zoom = { k: follow ? Math.max(1.6, 16 / base.r) : 1, x: 0, y: 0 }; show(); },
   w: () => { $('skip').checked = !$('skip').checked; show(); }, t: () => setTab(tab === 'net' ? 'time' : 'net'), c: setCircle,
   d: () => setTheme(!document.documentElement.classList.contains('dark')), '+': () => mid(1.25), '-': () => mid(.8), 0: () => { if (follow) ACTS.f(); zoom = { k: 1, x: 0, y: 0 }; show(); },
+  e: () => $('goto').select(), '/': () => $('pick').select(), q: () => { $('ask').checked = !$('ask').checked; asking = false; show(); }, p: save,
   k: () => { weights = !(weights ?? roomy); placeWeights(); },
   g: () => { $('legend').hidden = !$('legend').hidden; relay(); }, '?': () => $('keys').open ? $('keys').close() : $('keys').showModal(),
 };
+// one pointer drags, two pinch
+function fingers() {
+  const down = new Map();
+  $('net').addEventListener('pointerdown', e => { down.set(e.pointerId, [e.clientX, e.clientY]); fingers.from = [e.clientX, e.clientY]; fingers.moved = false; });
+  addEventListener('pointermove', e => {
+    const old = down.get(e.pointerId), now = [e.clientX, e.clientY];
+    if (!old) return;
+    if (Math.hypot(now[0] - fingers.from[0], now[1] - fingers.from[1]) > 4 || down.size > 1) fingers.moved = true;
+    if (!fingers.moved) return;
+    if (down.size === 1) { zoom.x += now[0] - old[0]; zoom.y += now[1] - old[1]; }
+    else {
+      const other = [...down].find(([id]) => id !== e.pointerId)[1], b = $('stage').getBoundingClientRect(), far = p => Math.hypot(p[0] - other[0], p[1] - other[1]) || 1;
+      zoom.x += (now[0] - old[0]) / 2; zoom.y += (now[1] - old[1]) / 2;
+      scale(far(now) / far(old), (now[0] + other[0]) / 2 - b.left, (now[1] + other[1]) / 2 - b.top);
+    }
+    down.set(e.pointerId, now);
+    moveView();
+    clearTimeout(scale.later);
+    scale.later = setTimeout(show, 90);
+  });
+  for (const end of ['pointerup', 'pointercancel']) addEventListener(end, e => down.delete(e.pointerId));
+}
 function start() {
   read($('steps').textContent);
   at = 0;
@@ -948,25 +1086,36 @@ function start() {
   only = G.nodes > 12;
   paintLooks();
   build();
-  const h = /^#(\d+)$/.exec(location.hash);
-  if (h) goto(+h[1]);
   relay();
+  goAddress();
   $('first').onclick = ACTS.Home; $('last').onclick = ACTS.End; $('back').onclick = ACTS.ArrowLeft; $('next').onclick = ACTS.ArrowRight; $('play').onclick = play;
   $('jump').onclick = ACTS.ArrowDown; $('jumpback').onclick = ACTS.ArrowUp; $('layout').onclick = setCircle; $('theme').onclick = ACTS.d; $('help').onclick = ACTS['?']; $('only').onclick = ACTS.x; $('follow').onclick = ACTS.f;
   $('tabnet').onclick = () => setTab('net'); $('tabtime').onclick = () => setTab('time');
   $('seek').oninput = () => move(+$('seek').value);
   $('speed').onchange = () => { if (timer) { halt(); play(); } };
   $('skip').onchange = show;
-  $('pick').onchange = () => setPin(+$('pick').value);
-  $('nodes').onclick = e => { const g = e.target.closest('.node'); if (g) setPin(pin === +g.dataset.v ? 0 : +g.dataset.v); };
-  $('msgs').onpointerover = $('msgs').onpointerdown = e => tip(e);
-  $('msgs').onpointerout = e => { if (e.pointerType === 'mouse') $('hint').hidden = true; };
+  $('goto').max = G.to;
+  // Enter takes the number, changed or not, and gives the keys back to the page
+  for (const [box, go] of [[$('pick'), search], [$('goto'), move]]) {
+    box.onchange = () => go(+box.value);
+    box.onkeydown = e => { if (e.key === 'Enter') go(+box.value); if (e.key === 'Enter' || e.key === 'Escape') box.blur(); };
+  }
+  $('ask').onchange = () => { asking = false; show(); };
+  $('say').onclick = choose;
+  $('save').onclick = save;
+  $('nodes').onclick = e => { const g = e.target.closest('.node'); if (g && !fingers.moved) setPin(pin === +g.dataset.v ? 0 : +g.dataset.v); };
+  $('msgs').onpointerover = $('msgs').onpointerdown = $('nodes').onpointerover = tip;
+  $('msgs').onpointerout = $('nodes').onpointerout = e => { if (e.pointerType === 'mouse') $('hint').hidden = true; };
   $('lanes').onclick = e => { if (e.target.dataset.k) move(+e.target.dataset.k); };
   const seekTo = e => { const b = $('strip').getBoundingClientRect(); move(Math.round((e.clientX - b.left - 8) / (b.width - 16) * (curve.length - 1))); };
   $('strip').onpointerdown = e => { $('strip').setPointerCapture(e.pointerId); seekTo(e); };
   $('strip').onpointermove = e => { if (e.buttons) seekTo(e); };
   $('net').onwheel = e => { e.preventDefault(); const b = $('stage').getBoundingClientRect(); scale(Math.exp(-e.deltaY / 400), e.clientX - b.left, e.clientY - b.top); };
-  $('net').onpointermove = e => { if (e.buttons && !e.target.closest('.node')) { zoom.x += e.movementX; zoom.y += e.movementY; moveView(); } };
+  fingers();
+  const isDark = () => document.documentElement.classList.contains('dark');
+  let wasDark = false;
+  addEventListener('beforeprint', () => { wasDark = isDark(); setTheme(false); });
+  addEventListener('afterprint', () => setTheme(wasDark));
   addEventListener('resize', relay);
   // after a click the keys are the page's again
   let mouse = false;
@@ -976,11 +1125,12 @@ function start() {
   addEventListener('click', e => { if (!e.target.matches('select')) free(e); });
   addEventListener('change', free);
   $('keys').onclose = () => document.activeElement.blur();
-  addEventListener('hashchange', () => { const m = /^#(\d+)$/.exec(location.hash); if (m && +m[1] !== at) move(+m[1]); });
+  addEventListener('hashchange', goAddress);
   addEventListener('keydown', e => {
     if (e.ctrlKey || e.altKey || e.metaKey || e.target.matches('select, input[type=number]')) return;
     if (e.key === ' ' && e.target.matches('button, input[type=checkbox]')) return;
     if ($('keys').open && e.key !== '?') return;
+    if ((e.key === ' ' || e.key === 'Enter') && e.target.matches('.node')) { e.preventDefault(); const v = +e.target.dataset.v; return setPin(pin === v ? 0 : v); }
     const f = ACTS[e.key];
     if (f) { e.preventDefault(); f(); }
   });
