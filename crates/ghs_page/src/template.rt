@@ -146,6 +146,7 @@ dialog td { white-space: normal; }
   aside { display: flex; font-size: 11px; line-height: 1.2; border-left: 1px solid var(--line); border-top: 0; }
   header button, footer button, footer label, #seek, #hint, dialog { display: none !important; }
   #strip { height: 60px; }
+  #count::before { content: attr(data-at); }
 }
 </style>
 <style id="looks"></style>
@@ -193,7 +194,7 @@ pub const TAIL: &[u8] = br##"</script>
 const $ = id => document.getElementById(id);
 const KINDS = ['connect', 'initiate', 'test', 'accept', 'reject', 'report', 'changeroot'];
 const NAMES = { connect: 'Connect', initiate: 'Initiate', test: 'Test', accept: 'Accept', reject: 'Reject', report: 'Report', changeroot: 'ChangeRoot' };
-const GROUPS = [['level', 'phase', 'halted'], ['find_count', 'in_branch', 'probe'], ['name', 'best']];
+const GROUPS = [['level', 'phase', 'halted'], ['find_count', 'in_branch', 'probe'], ['name'], ['best']];
 const LETTER = { connect: 'C', initiate: 'I', test: 'T', accept: 'A', reject: 'X', report: 'R', changeroot: 'G' };
 const VARS = ['level', 'name', 'phase', 'find_count', 'in_branch', 'best', 'probe', 'halted'];
 const ROWS = {
@@ -444,7 +445,7 @@ function placeMany(list, far) {
   region.forEach(k => weight[k]++);
   // begun by classical scaling over the pivots
   const mean = D.map(d => d.reduce((a, x) => a + x * x, 0) / n), row = Float64Array.from({ length: n }, (_, i) => D.reduce((s, d) => s + d[i] * d[i], 0) / K), all = mean.reduce((a, b) => a + b) / K;
-  const C = D.map((d, k) => d.map((x, i) => (row[i] + mean[k] - all - x * x) / 2)), M = C.map(a => C.map(b => a.reduce((s, x, i) => s + x * b[i], 0))), axes = [];
+  const C = D.map((d, k) => d.map((x, i) => (row[i] + mean[k] - all - x * x) / 2)), M = C.map(a => C.map(b => { let s = 0; for (let i = 0; i < n; i++) s += a[i] * b[i]; return s; })), axes = [];
   for (let a = 0; a < 2; a++) {
     let v = Float64Array.from({ length: K }, (_, i) => Math.sin(1 + i * (a ? 2.3 : 1.3)) + .01 * i);
     for (let t = 0; t < 60; t++) {
@@ -463,12 +464,16 @@ function placeMany(list, far) {
   for (let i = 0; i < n; i++) { X[i] = X[i] * up / low + .05 * Math.sin(i * 7 + 1); Y[i] = Y[i] * up / low + .05 * Math.cos(i * 5 + 2); }
   // two links away counts too, where that's few
   const next = near.map((list, i) => list.length > 6 ? [] : [...new Set(list.flatMap(j => near[j].length > 6 ? [] : near[j]))].filter(j => j !== i && !list.includes(j)));
-  for (let t = 0; t < 80; t++) for (let i = 0; i < n; i++) {
+  // what each node is held to, in one row: other node, distance, weight
+  const ties = near.map((list, i) => [...list.map(j => [j, 1, 1]), ...next[i].map(j => [j, 2, .25]), ...pivots.map((p, k) => [p, D[k][i], weight[k] * .5 / (D[k][i] * D[k][i])]).filter(t => t[1] > 2)]);
+  const ends = ties.map(t => Int32Array.from(t, x => x[0])), far1 = ties.map(t => Float64Array.from(t, x => x[1])), pulls = ties.map(t => Float64Array.from(t, x => x[2]));
+  for (let t = 0; t < 60; t++) for (let i = 0; i < n; i++) {
     let x = 0, y = 0, s = 0;
-    const pull = (j, d, w) => { const dx = X[i] - X[j], dy = Y[i] - Y[j], e = d / (Math.sqrt(dx * dx + dy * dy) || 1e-9); x += w * (X[j] + dx * e); y += w * (Y[j] + dy * e); s += w; };
-    for (const j of near[i]) pull(j, 1, 1);
-    for (const j of next[i]) pull(j, 2, .25);
-    for (let k = 0; k < K; k++) if (D[k][i] > 2) pull(pivots[k], D[k][i], weight[k] * .5 / (D[k][i] * D[k][i]));
+    const xi = X[i], yi = Y[i], end = ends[i], d = far1[i], w = pulls[i];
+    for (let k = 0; k < end.length; k++) {
+      const xj = X[end[k]], yj = Y[end[k]], dx = xi - xj, dy = yi - yj, e = d[k] / (Math.sqrt(dx * dx + dy * dy) || 1e-9);
+      x += w[k] * (xj + dx * e); y += w[k] * (yj + dy * e); s += w[k];
+    }
     X[i] = x / s; Y[i] = y / s;
   }
   return Array.from(X, (x, i) => [x, Y[i]]);
@@ -841,6 +846,7 @@ const pinned = () => pin;
 function panel(c) {
   const s = stepNow(), u = s && undoNow();
   $('count').textContent = 'of ' + G.events;
+  $('count').dataset.at = 'Event ' + at + ' ';
   if (document.activeElement !== $('goto')) $('goto').value = at;
   live(s);
   if (asking) $('say').innerHTML = question(steps[at]);
@@ -859,7 +865,7 @@ function panel(c) {
   const v = pin || (s ? s.node : 1), n = nodes[v], mine = s && s.node === v;
   $('pinned').textContent = pin ? 'pinned (n lets go)' : 'the event\'s';
   if (document.activeElement !== $('pick')) $('pick').value = v;
-  const cell = (x, _, row) => '<th>' + x + '</th><td' + (row.length === 2 && x === 'best' ? ' colspan="3"' : '') + (mine && x in s.set ? ' class="new"' : '') + '>' + value(x, n[x]) + '</td>';
+  const cell = (x, _, row) => '<th>' + x + '</th><td' + (row.length === 1 ? ' colspan="5"' : '') + (mine && x in s.set ? ' class="new"' : '') + '>' + value(x, n[x]) + '</td>';
   let h = '<table>' + GROUPS.map(row => '<tr>' + row.map(cell).join('') + '</tr>').join('') + '</table>';
   h += '<table><tr><th class="n">port</th><th>to</th><th>key</th><th>mark</th><th>waiting</th></tr>';
   n.ports.forEach((p, j) => {
@@ -881,12 +887,20 @@ function panel(c) {
   $('census').innerHTML = h;
 }
 function strip() {
-  const W = $('strip').getBoundingClientRect().width || 800, n = curve.length, x = i => 8 + (W - 16) * (n > 1 ? i / (n - 1) : 0), N = G.nodes, B = Math.max(G.bound, 1);
-  const path = (f, top, high) => { let d = '', last = ''; const stepBy = Math.max(1, n / (W * 2)); for (let k = 0; k < n; k += stepBy) { const i = Math.min(n - 1, Math.floor(k)), y = (top + high * (1 - f(i))).toFixed(1); d += (d ? 'H' + x(i).toFixed(1) + (y !== last ? 'V' + y : '') : 'M' + x(i) + ' ' + y); last = y; } return d + 'H' + x(n - 1).toFixed(1) + 'V' + (top + high * (1 - f(n - 1))).toFixed(1); };
-  let h = '<path class="plot" d="' + path(i => N > 1 ? (curve[i][0] - 1) / (N - 1) : 0, 5, 32) + '"/><path class="plot b" d="' + path(i => curve[i][1] / B, 44, 32) + '"/><line class="lane" x1="8" x2="' + (W - 8) + '" y1="44" y2="44"/>';
-  h += '<text id="cap1" font-size="14" x="' + (W - 12) + '" y="18" text-anchor="end"></text><text id="cap2" font-size="14" x="14" y="59"></text><g id="ticks"></g><line id="cursor" class="nowline" y1="0" y2="84" style="stroke-width:2.5;stroke-dasharray:none"/>';
+  const box = $('strip').getBoundingClientRect(), W = box.width || 800, H = box.height || 84, n = curve.length, x = i => 8 + (W - 16) * (n > 1 ? i / (n - 1) : 0), N = G.nodes, B = Math.max(G.bound, 1), half = H * .5;
+  // one point a half pixel is enough
+  const path = (f, top, high) => {
+    let d = '', last = '';
+    const stepBy = Math.max(1, n / (W * 2)), y = i => (top + high * (1 - f(i))).toFixed(1);
+    for (let k = 0; k < n; k += stepBy) { const i = Math.min(n - 1, Math.floor(k)); d += (d ? 'H' + x(i).toFixed(1) + (y(i) !== last ? 'V' + y(i) : '') : 'M' + x(i) + ' ' + y(i)); last = y(i); }
+    return d + 'H' + x(n - 1).toFixed(1) + 'V' + y(n - 1);
+  };
+  let h = '<path class="plot" d="' + path(i => N > 1 ? (curve[i][0] - 1) / (N - 1) : 0, 4, half - 8) + '"/><path class="plot b" d="' + path(i => curve[i][1] / B, half + 2, half - 10) + '"/><line class="lane" x1="8" x2="' + (W - 8) + '" y1="' + (half + 2) + '" y2="' + (half + 2) + '"/>';
+  h += '<text id="cap1" font-size="14" x="' + (W - 12) + '" y="18" text-anchor="end"></text><text id="cap2" font-size="14" x="14" y="' + (half + 16) + '"></text><g id="ticks"></g><line id="cursor" class="nowline" y1="0" y2="' + H + '" style="stroke-width:2.5;stroke-dasharray:none"/>';
   $('strip').innerHTML = h;
+  $('strip').setAttribute('viewBox', '0 0 ' + W + ' ' + H);
   strip.x = x;
+  strip.low = H - 5;
   strip.ticksOf = -1;
 }
 function cursor() {
@@ -898,7 +912,7 @@ function cursor() {
   const v = pin || (stepNow() ? stepNow().node : 0);
   if (strip.ticksOf !== v) {
     strip.ticksOf = v;
-    $('ticks').innerHTML = '<path class="tickline" d="' + steps.filter(s => s.node === v && !idle(s)).map(s => 'M' + strip.x(s.step).toFixed(1) + ' 79v5').join('') + '"/>';
+    $('ticks').innerHTML = '<path class="tickline" d="' + steps.filter(s => s.node === v && !idle(s)).map(s => 'M' + strip.x(s.step).toFixed(1) + ' ' + strip.low + 'v5').join('') + '"/>';
   }
   $('seek').value = at;
   $('seek').setAttribute('aria-valuetext', 'event ' + at + ' of ' + G.events);
@@ -1033,7 +1047,15 @@ function setTab(x) {
   if (x === 'net') $('legend').innerHTML = LEGEND();
   show();
 }
-function relay() { if (tab === 'net') $('legend').innerHTML = LEGEND(); layout(); shape(); strip(); show(); }
+// sizes are read before anything is written, so that the browser measures once
+function relay() {
+  if (tab === 'net') $('legend').innerHTML = LEGEND();
+  layout();
+  strip();
+  if (!nodes[1].g) build();
+  shape();
+  show();
+}
 const setCircle = () => { circle = !circle; $('layout').textContent = circle ? 'forces' : 'circle'; relay(); };
 const setTheme = dark => { document.documentElement.classList.toggle('dark', dark); $('theme').textContent = dark ? 'light' : 'dark'; };
 function scale(f, x, y) { zoom.x = x - (x - zoom.x) * f; zoom.y = y - (y - zoom.y) * f; zoom.k *= f; moveView(); clearTimeout(scale.later); scale.later = setTimeout(show, G.nodes > MANY ? 90 : 0); }
@@ -1085,7 +1107,6 @@ function start() {
   setTheme(matchMedia('(prefers-color-scheme: dark)').matches);
   only = G.nodes > 12;
   paintLooks();
-  build();
   relay();
   goAddress();
   $('first').onclick = ACTS.Home; $('last').onclick = ACTS.End; $('back').onclick = ACTS.ArrowLeft; $('next').onclick = ACTS.ArrowRight; $('play').onclick = play;
