@@ -8,10 +8,11 @@ pub const HEAD: &[u8] = br##"<!doctype html>
 <meta name="viewport" content="width=device-width">
 <title>ghs: a run, step by step</title>
 <style>
-:root { --paper: #fff; --ink: #111; --dim: #555; --faint: #8a8a8a; --line: #c8c8c8; --panel: #f3f3f1; --act: #c2185b; --on-act: #fff;
-  --fs: 75%; --fl: 80%; --hs: 80%; --hl: 90%; --num: 17px; }
+:root { --paper: #fff; --ink: #111; --dim: #555; --faint: #8a8a8a; --line: #c8c8c8; --panel: #f3f3f1; --act: #c2185b; --on-act: #fff; --num: 17px;
+  --c0: hsl(190 85% 62%); --c1: hsl(60 85% 80%); --c2: hsl(340 85% 62%); --c3: hsl(210 85% 56%); --c4: hsl(60 85% 50%); --c5: hsl(30 60% 50%); }
 :root.dark { --paper: #121417; --ink: #f2f2f2; --dim: #b4b4b4; --faint: #8c8c8c; --line: #42464d; --panel: #1c1f24; --act: #ff7eb6; --on-act: #111;
-  --fs: 45%; --fl: 29%; --hs: 40%; --hl: 19%; }
+  --c0: hsl(200 60% 35%); --c1: hsl(10 85% 40%); --c2: hsl(240 85% 50%); --c3: hsl(20 35% 20%); --c4: hsl(260 60% 55%); --c5: hsl(240 85% 20%); }
+:root { --b0: color-mix(in srgb, var(--c0) 50%, var(--paper)); --b1: color-mix(in srgb, var(--c1) 50%, var(--paper)); --b2: color-mix(in srgb, var(--c2) 50%, var(--paper)); --b3: color-mix(in srgb, var(--c3) 50%, var(--paper)); --b4: color-mix(in srgb, var(--c4) 50%, var(--paper)); --b5: color-mix(in srgb, var(--c5) 50%, var(--paper)); }
 * { box-sizing: border-box; }
 html, body { height: 100%; margin: 0; }
 body { display: grid; grid-template: auto minmax(0, 1fr) auto / minmax(0, 1fr) 24.5rem; font: var(--num)/1.35 system-ui, "Segoe UI", "DejaVu Sans", sans-serif;
@@ -27,14 +28,18 @@ main { position: relative; min-width: 0; min-height: 0; overflow: hidden; }
 main > svg { position: absolute; inset: 0; width: 100%; height: 100%; display: block; }
 #time { overflow: auto; position: absolute; inset: 0 0 2.9rem 0; }
 [hidden] { display: none !important; }
-aside { overflow-y: auto; border-left: 1px solid var(--line); padding: .4rem .8rem .8rem; scrollbar-gutter: stable; }
-aside h2 { font-size: 1em; margin: .7rem 0 .15rem; }
+aside { display: flex; flex-direction: column; min-height: 0; border-left: 1px solid var(--line); padding: .4rem .3rem .3rem .8rem; }
+aside > div { overflow-y: auto; scrollbar-gutter: stable; flex: none; }
+aside > #live { flex: none; }
+aside h2 { font-size: 1em; margin: .35rem 0 .1rem; }
+aside #say { flex: 0 1 auto; min-height: 7em; }
+aside #vars { flex: 1 1 9em; min-height: 9em; }
+aside #census { flex: 0 4 auto; min-height: 6.5em; }
 aside p { margin: .15rem 0; }
 table { border-collapse: collapse; width: 100%; font-variant-numeric: tabular-nums; font-size: .92em; }
 th, td { text-align: left; padding: 0 .4em 0 0; font-weight: normal; vertical-align: top; white-space: nowrap; }
 th { color: var(--dim); }
 td.n, th.n { text-align: right; padding-right: .5em; }
-#say { min-height: 10.5em; }
 tr.new td, td.new { font-weight: bold; }
 td.new::after, tr.new td:nth-child(4)::after { content: " \25C0"; color: var(--act); }
 .old { color: var(--dim); font-weight: normal; }
@@ -49,17 +54,28 @@ footer { display: grid; grid-template-columns: minmax(0, 1fr); }
 footer div { display: flex; gap: .4rem .5rem; align-items: center; flex-wrap: wrap; }
 #strip { width: 100%; height: 84px; display: block; cursor: pointer; touch-action: none; }
 #seek { width: 100%; margin: 0; accent-color: var(--act); padding: 0; height: 1.1rem; }
-#count { font-weight: bold; font-variant-numeric: tabular-nums; min-width: 9.5em; }
+#count { font-weight: bold; font-variant-numeric: tabular-nums; }
+#speed { max-width: 8.5em; }
+#goal { max-width: 12em; }
 svg text { fill: var(--ink); font-family: inherit; }
 .half { fill: none; stroke: var(--faint); stroke-width: 1.4; }
+.tiny .half, .tiny .cross { stroke-width: .8; }
+.tiny .body { stroke-width: .9; }
+.tiny .node text, .tiny .stop { display: none; }
+.tiny .ring { stroke-width: .8 !important; }
 .half.branch { stroke: var(--ink); stroke-width: var(--thick, 5); }
 .half.rejected { stroke-dasharray: 5 5; }
 .cross { fill: none; stroke: var(--ink); stroke-width: 1.8; }
 .core { fill: none; stroke: var(--paper); stroke-width: var(--thin, 1.8); }
-.halo { fill: none; stroke: hsl(var(--h) var(--hs) var(--hl)); stroke-linecap: round; }
-circle.halo { stroke: none; fill: hsl(var(--h) var(--hs) var(--hl)); }
+.halo { fill: none; stroke-linecap: round; stroke-width: var(--band, 12px); }
+path.halo.bx { stroke: var(--line); }
+circle.halo { stroke: none; }
+circle.halo.bx { fill: var(--line); }
+.look path, .look circle { stroke: var(--paper); stroke-width: 2; fill: none; }
+.look circle { fill: var(--paper); stroke: none; }
+.sw { width: 1.5em; height: 1em; vertical-align: -.15em; margin-right: .3em; }
+.sw rect { stroke: var(--ink); stroke-width: 1.5; }
 .body { fill: var(--paper); stroke: var(--ink); stroke-width: 1.8; }
-.named .body { fill: hsl(var(--h) var(--fs) var(--fl)); }
 .sleeping .body { stroke-dasharray: 3 3; stroke: var(--faint); }
 .sleeping text { fill: var(--dim); }
 .ring { fill: none; stroke: none; }
@@ -68,22 +84,30 @@ circle.halo { stroke: none; fill: hsl(var(--h) var(--hs) var(--hl)); }
 .halted .stop { stroke: var(--ink); stroke-width: 3.5; }
 .at .body { stroke: var(--act); stroke-width: 5.5; stroke-dasharray: none; }
 .at .ring { stroke-width: 2.5; }
-.pinned .pin { stroke: var(--ink); stroke-dasharray: 2 4; stroke-width: 2; }
-.pin { fill: none; stroke: none; }
+.pinmark path, .pinmark circle { fill: none; stroke: var(--ink); stroke-width: 3; }
+.pinmark .under { stroke: var(--paper); stroke-width: 7; }
+.eye { fill: none; stroke: var(--act); stroke-width: 4; }
+#marks { pointer-events: none; }
 .node { cursor: pointer; }
 .node text, .msg text, .tag text { text-anchor: middle; dominant-baseline: central; pointer-events: none; }
 .node .lev { font-weight: bold; text-anchor: start; paint-order: stroke; stroke: var(--paper); stroke-width: 3px; }
 .tag rect { fill: var(--paper); opacity: .86; }
 .tag.frag rect { fill: var(--ink); opacity: 1; }
 .tag.frag text { fill: var(--paper); font-weight: bold; }
-.tag.weight text { fill: var(--dim); }
+#weights text { fill: var(--dim); text-anchor: middle; dominant-baseline: central; }
 .msg path { fill: var(--ink); stroke: var(--paper); stroke-width: 1; }
 .msg text { fill: var(--paper); font-weight: bold; }
 .msg.fresh path { stroke: var(--act); stroke-width: 3; }
 .msg.taken path { fill: var(--act); stroke: none; }
 .msg.taken text { fill: var(--on-act); }
-.msg.again path { fill: var(--paper); stroke: var(--act); stroke-width: 2.5; }
-.msg.again text { fill: var(--ink); }
+.msg.back path { fill: var(--paper); stroke: var(--ink); stroke-width: 2; stroke-dasharray: 4 2; }
+.tiny .msg path { stroke-width: .6; }
+.msg.back text { fill: var(--ink); }
+.msg.again path { stroke: var(--act); stroke-width: 2.5; stroke-dasharray: none; }
+.msg.asked path { fill: var(--act); }
+.msg.asked text { fill: var(--on-act); }
+.pill.back { background: var(--paper); color: var(--ink); outline: 1.5px dashed var(--ink); outline-offset: -1.5px; }
+#hint { position: absolute; max-width: 22rem; padding: .3rem .6rem; background: var(--paper); border: 2px solid var(--ink); pointer-events: none; font-size: .9em; }
 .way { fill: none; stroke: var(--act); stroke-width: 2.5; stroke-dasharray: 2 5; stroke-linecap: round; }
 .legend { position: absolute; left: .5rem; bottom: .4rem; font-size: .78em; color: var(--dim); background: var(--paper); opacity: .93; padding: .15rem .4rem; pointer-events: none; }
 .legend svg { vertical-align: middle; margin-right: .2em; }
@@ -103,34 +127,57 @@ circle.halo { stroke: none; fill: hsl(var(--h) var(--hs) var(--hl)); }
 dialog { color: var(--ink); background: var(--paper); border: 2px solid var(--ink); max-width: 46rem; }
 dialog td:first-child { font-weight: bold; padding-right: 1.2em; }
 dialog td { white-space: normal; }
-@media (max-width: 900px) { body { grid-template: auto minmax(0, 1fr) minmax(0, 14rem) auto / minmax(0, 1fr); } header, footer { grid-column: 1; } aside { border-left: 0; border-top: 1px solid var(--line); } }
+@media (min-width: 1500px) { body { grid-template-columns: minmax(0, 1fr) 29rem; } }
+@media (max-height: 820px) { :root { --num: 15px; } aside { font-size: 13.5px; line-height: 1.25; } #strip { height: 60px; } }
+@media (max-width: 900px) { body { grid-template: auto minmax(0, 1fr) minmax(0, 14rem) auto / minmax(0, 1fr); } header, footer, .bad { grid-column: 1; } aside { display: block; overflow-y: auto; border-left: 0; border-top: 1px solid var(--line); } }
+@media (max-width: 500px) { :root { --num: 14px; } header, footer { padding: .2rem .4rem; gap: .25rem; } footer div { gap: .25rem; } button { min-width: 2em; padding: .1em .35em; } #what, .legend, .wordy { display: none; } #strip { height: 44px; } body { grid-template-rows: auto minmax(0, 1fr) minmax(0, 12rem) auto; } #goal { max-width: 9em; } }
+.sr { position: absolute; width: 1px; height: 1px; overflow: hidden; clip-path: inset(50%); }
+#net { touch-action: none; }
+.node:focus { outline: none; }
+.node:focus-visible .body { stroke: var(--act); stroke-width: 5; }
+.ask button { margin: .1rem .2rem .1rem 0; }
+@media print {
+  @page { size: landscape; margin: 8mm; }
+  * { print-color-adjust: exact; -webkit-print-color-adjust: exact; }
+  :root { --num: 12px; }
+  html, body { height: 178mm; width: 100%; overflow: hidden; }
+  body { grid-template: auto minmax(0, 1fr) auto / minmax(0, 1fr) 88mm; }
+  header, footer { grid-column: 1 / 3; }
+  aside { display: flex; font-size: 11px; line-height: 1.2; border-left: 1px solid var(--line); border-top: 0; }
+  header button, footer button, footer label, #seek, #hint, dialog { display: none !important; }
+  #strip { height: 60px; }
+  #count::before { content: attr(data-at); }
+}
 </style>
+<style id="looks"></style>
 </head>
 <body>
 <header>
 <b>ghs</b><span id="what"></span><span class="gap"></span>
 <span role="tablist"><button role="tab" id="tabnet" aria-selected="true" title="t">Network</button>
 <button role="tab" id="tabtime" aria-selected="false" title="t">Space and time</button></span>
-<button id="only" title="x" aria-pressed="false" hidden>causes only</button><button id="follow" title="f" aria-pressed="false">follow</button><button id="layout" title="c">circle</button><button id="theme" title="d">dark</button><button id="help" title="?">?</button>
+<button id="only" title="x" aria-pressed="false" hidden>causes only</button><button id="follow" title="f" aria-pressed="false">follow</button><button id="layout" title="c">circle</button><button id="save" title="p: the picture as a file (SVG)">picture</button><button id="theme" title="d">dark</button><button id="help" title="?">?</button>
 </header>
 <main id="stage">
-<svg id="net" role="img" aria-label="The network"><g id="view"><g id="halos"></g><g id="links"></g><g id="cores"></g><g id="ways"></g><g id="tags"></g><g id="nodes"></g><g id="msgs"></g></g></svg>
+<svg id="net" role="group" aria-label="The network"><defs id="defs"></defs><g id="view"><g id="halos"></g><g id="weights"></g><g id="links"></g><g id="cores"></g><g id="ways"></g><g id="tags"></g><g id="nodes"></g><g id="msgs"></g><g id="marks"></g></g></svg>
 <div id="time" hidden><svg id="lanes" role="img" aria-label="Space-time diagram"></svg></div>
 <div class="legend" id="legend"></div>
+<div id="hint" hidden></div>
 </main>
 <aside>
-<div aria-live="polite" id="say"></div>
-<h2><label>Node <input id="pick" type="number" min="1" style="width:6em" title="a number pins that node; empty: the event's node"></label> <span id="pinned" class="old"></span></h2>
+<div class="sr" aria-live="polite" id="live"></div><div id="say"></div>
+<h2><label>Node <input id="pick" type="number" min="1" style="width:6em" title="/: search for a node, which pins it; empty: the event's node"></label> <span id="pinned" class="old"></span></h2>
 <div id="vars"></div>
 <h2>Messages</h2><div id="ledger"></div>
 <h2>Fragments</h2><div id="census"></div>
 </aside>
 <footer>
-<div><span id="count"></span>
+<div><label>Event <input id="goto" type="number" min="0" style="width:5.5em" title="e: to an event's number"></label> <span id="count"></span>
 <button id="first" title="Home" aria-label="to the start">|&lt;</button><button id="back" title="left arrow" aria-label="one event back">&lt;</button>
 <button id="play" title="space" aria-label="play">Play</button><button id="next" title="right arrow" aria-label="one event on">&gt;</button><button id="last" title="End" aria-label="to the end">&gt;|</button>
-<label>speed <select id="speed"><option value="1500">slow</option><option value="600" selected>middle</option><option value="150">fast</option><option value="16">rush</option></select></label>
+<label>speed <select id="speed"><option value="1500">slow</option><option value="600" selected>middle</option><option value="150">fast</option><option value="16">rush</option><option value="minute">a run in a minute</option></select></label> <span id="pace"></span>
 <label><input type="checkbox" id="skip"> pass over waits</label>
+<label><input type="checkbox" id="ask"> ask first</label>
 <label>jump to <select id="goal"></select></label>
 <button id="jumpback" title="up arrow" aria-label="jump back">&lt;&lt;</button><button id="jump" title="down arrow" aria-label="jump on">&gt;&gt;</button></div>
 <svg id="strip" aria-hidden="true"></svg>
@@ -147,7 +194,7 @@ pub const TAIL: &[u8] = br##"</script>
 const $ = id => document.getElementById(id);
 const KINDS = ['connect', 'initiate', 'test', 'accept', 'reject', 'report', 'changeroot'];
 const NAMES = { connect: 'Connect', initiate: 'Initiate', test: 'Test', accept: 'Accept', reject: 'Reject', report: 'Report', changeroot: 'ChangeRoot' };
-const PAIRS = [['level', 'phase'], ['name'], ['find_count', 'in_branch'], ['best'], ['probe', 'halted']];
+const GROUPS = [['level', 'phase', 'halted'], ['find_count', 'in_branch', 'probe'], ['name'], ['best']];
 const LETTER = { connect: 'C', initiate: 'I', test: 'T', accept: 'A', reject: 'X', report: 'R', changeroot: 'G' };
 const VARS = ['level', 'name', 'phase', 'find_count', 'in_branch', 'best', 'probe', 'halted'];
 const ROWS = {
@@ -177,9 +224,9 @@ const ROWS = {
 };
 const KEYS = [['left, right', 'one event back or on'], ['space', 'play, stop'], ['up, down', 'to the previous or next event of the sort chosen under "jump to"'],
   ['Page up, Page down', 'ten events'], ['Home, End', 'start, end'], ['n', 'pins the event\'s node, or lets it go'], ['[ and ]', 'pins the node before or after'],
-  ['w', 'passes over events that only wait'], ['t', 'network, or space and time'], ['c', 'laid out by forces, or as a circle in the order of numbers'], ['d', 'dark, light'],
+  ['e', 'to an event\'s number'], ['/', 'search for a node'], ['q', 'asks before it shows what the next event does'], ['w', 'passes over events that only wait'], ['t', 'network, or space and time'], ['c', 'laid out by forces, or as a circle in the order of numbers'], ['d', 'dark, light'],
   ['x', 'space and time: only what acted on the event or what it acts on'], ['f', 'follows the event\'s node, larger'],
-  ['+ - 0', 'larger, smaller, whole network; the mouse drags and its wheel zooms'], ['k', 'weights of links'], ['g', 'legend'], ['?', 'this list']];
+  ['+ - 0', 'larger, smaller, whole network; the mouse drags and its wheel zooms'], ['k', 'weights of links'], ['p', 'the picture as a file (SVG)'], ['g', 'legend'], ['?', 'this list']];
 
 // ---- the data
 let G, steps = [], links = [], nodes = [], ledgerEnd = null;
@@ -206,20 +253,21 @@ function read(text) {
     }
   }
 }
-const message = (m, born, from, to, at) => ({ kind: m.kind, level: m.level, key: m.key, phase: m.phase, born, from, to, at, takes: [], done: 0 });
+const message = (m, born, from, to, at) => ({ kind: m.kind, level: m.level, key: m.key, phase: m.phase, born, from, to, at, takes: [], backs: 0, done: 0 });
 
 // ---- one step on, one step back. Every value is one that the step carries; what it replaces is kept.
 let at, undo = [];
 function on() {
-  const i = at, s = steps[i], n = nodes[s.node], u = undo[i] = { set: {}, sent: undo[i] ? undo[i].sent : s.send.map(x => message(x, s.step, s.node, x.to, x.at)) };
+  const i = at, s = steps[i], n = nodes[s.node], u = undo[i] = { set: {}, sent: undo[i] ? undo[i].sent : s.send.map(x => message(x, s.step, s.node, x.to, x.at)), then: undo[i] && undo[i].then };
   if (s.port !== null) {
     const q = queue(s.node, s.port), m = u.taken = q.shift();
     if (!m || m.kind !== s.kind || m.level !== s.level || m.key !== s.key) throw Error('event ' + s.step + ' takes a message that is not first in its queue');
-    if (s.fate === 'waits') { q.push(m); ledger.requeued++; } else { ledger.consumed[KINDS.indexOf(m.kind)]++; ledger.queued--; }
+    if (s.fate === 'waits') { q.push(m); m.backs++; ledger.requeued++; } else { ledger.consumed[KINDS.indexOf(m.kind)]++; ledger.queued--; }
   }
   if (s.mark) { u.mark = n.marks[s.mark[0]]; n.marks[s.mark[0]] = s.mark[1]; }
   for (const x in s.set) { u.set[x] = n[x]; n[x] = s.set[x]; }
   for (const m of u.sent) { queue(m.to, m.at).push(m); ledger.sent[KINDS.indexOf(m.kind)]++; ledger.queued++; }
+  if (s.fate === 'waits' && !u.then) u.then = { level: n.level, phase: n.phase, mark: n.marks[s.port], find_count: n.find_count, probe: n.probe };
   at++;
 }
 function off() {
@@ -230,13 +278,27 @@ function off() {
   if (s.mark) n.marks[s.mark[0]] = u.mark;
   if (s.port !== null) {
     const q = queue(s.node, s.port);
-    if (s.fate === 'waits') { q.pop(); ledger.requeued--; } else { ledger.consumed[KINDS.indexOf(u.taken.kind)]--; ledger.queued++; }
+    if (s.fate === 'waits') { q.pop().backs--; ledger.requeued--; } else { ledger.consumed[KINDS.indexOf(u.taken.kind)]--; ledger.queued++; }
     q.unshift(u.taken);
   }
 }
 function goto(k) { k = Math.max(0, Math.min(G.to, k)); while (at < k) on(); while (at > k) off(); }
 const stepNow = () => steps[at - 1];
 const undoNow = () => undo[at - 1];
+
+// ---- why a message waits: the reason that its last step gives, with the numbers of message and node at that event
+const REASON = {
+  Connect_waits: (m, n) => 'Connect of level ' + m.level + ' at a node of level ' + n.level + ', whose mark of the link is ' + cap(n.mark),
+  Test_waits: (m, n) => 'Test of level ' + m.level + ' at a node of level ' + n.level,
+  Report_waits: (m, n) => 'Report from the other end of the core at a node in ' + cap(n.phase) + ', with find_count ' + n.find_count + ' and probe ' + (n.probe ?? '-'),
+};
+REASON.Woken_connect_waits = REASON.Connect_waits;
+REASON.Woken_test_waits = REASON.Test_waits;
+const lastBack = m => m.takes[m.backs - 1];
+const reasonOf = m => { const k = lastBack(m) - 1, row = steps[k].row; return REASON[row] ? REASON[row](m, undo[k].then) : row; };
+const listed = list => (list.length > 6 ? (list.length - 6) + ' before and ' : '') + list.slice(-6).join(', ');
+const backsOf = m => 'put back by event' + (m.backs > 1 ? 's ' : ' ') + listed(m.takes.slice(0, m.backs));
+const storyOf = m => words(m) + ' from node ' + m.from + ' to node ' + m.to + ', sent by event ' + m.born + (m.backs ? '; ' + backsOf(m) + ': ' + reasonOf(m) : '') + '.';
 
 // ---- what the page adds: components of joined links, and curves over the whole run
 const joined = l => nodes[l.a].marks[l.a_port] === 'branch' && nodes[l.b].marks[l.b_port] === 'branch';
@@ -258,31 +320,75 @@ function census() {
   }
   return { top, all };
 }
-let curve = [], hue = new Map(), before = [];
+let curve = [], look = new Map(), before = [];
 function survey() {
-  // once through the run: number of fragments, first sends, order of the names, who came before
-  let f = classes(G.nodes, []), count = G.nodes;
-  const lastAt = [];
-  const join = l => { const a = f(l.a), b = f(l.b); if (a !== b) { merges.push([l.a, l.b]); f = classes(G.nodes, merges); count--; } };
-  const merges = [];
-  const see = name => { if (name && !hue.has(name)) hue.set(name, Math.round(hue.size * 137.508 + 205) % 360); };
-  links.filter(joined).forEach(join);
-  curve.push([count, ledger.sent.reduce((a, b) => a + b)]);
+  // once through the run: number of fragments, first sends, which names stand beside one another, who came before
+  let count = G.nodes;
+  const lastAt = [], root = nodes.map((_, v) => v), members = nodes.map((_, v) => [v]), band = [], clashes = new Map();
+  const clash = (x, y) => { if (x && y && x !== y) for (const [a, b] of [[x, y], [y, x]]) { if (!clashes.has(a)) clashes.set(a, new Set()); clashes.get(a).add(b); } };
+  const join = l => {
+    let a = root[l.a], b = root[l.b];
+    if (a === b) return;
+    if (members[a].length < members[b].length) [a, b] = [b, a];
+    for (const v of members[b]) { root[v] = a; members[a].push(v); }
+    count--;
+    bands(a, members[b]);
+  };
+  // the name of a fragment is the one that census finds; where it's new, or for nodes that are, it's held to what lies beside
+  const bands = (r, fresh) => {
+    let level = 0, name = null, last = 0;
+    for (const v of members[r]) { const n = nodes[v]; if (n.name && (n.level > level || n.level === level && v > last)) { level = n.level; name = n.name; last = v; } }
+    for (const v of band[r] === name ? fresh : members[r]) {
+      clash(name, nodes[v].name);
+      for (const p of nodes[v].ports) if (root[p.far] !== r) clash(name, band[root[p.far]]);
+    }
+    band[r] = name;
+  };
+  curve.push([count, 0]);
   for (const s of steps) {
     on();
-    const u = undoNow(), i = s.step;
-    if (s.port !== null && nodes[s.node].ports[s.port].far !== s.far) throw Error('event ' + i + ' comes from node ' + s.far + ', to which its port does not lead');
+    const u = undoNow(), i = s.step, n = nodes[s.node];
+    if (s.port !== null && n.ports[s.port].far !== s.far) throw Error('event ' + i + ' comes from node ' + s.far + ', to which its port does not lead');
     if (u.taken) { u.taken.takes.push(i); if (s.fate !== 'waits') u.taken.done = i; }
     before[i] = [lastAt[s.node], u.taken && u.taken.born];
     lastAt[s.node] = i;
-    see(s.set.name);
-    if (s.mark && s.mark[1] === 'branch') { const l = links[nodes[s.node].ports[s.mark[0]].link]; if (joined(l)) join(l); }
+    if (s.set.name) { if (!look.has(s.set.name)) look.set(s.set.name, 0); for (const p of n.ports) clash(n.name, nodes[p.far].name); }
+    if (s.mark && s.mark[1] === 'branch') { const l = links[n.ports[s.mark[0]].link]; if (joined(l)) join(l); }
+    if (s.set.name || s.set.level) bands(root[s.node], [s.node]);
     curve.push([count, s.total]);
     if (s.total !== ledger.sent.reduce((a, b) => a + b)) throw Error('event ' + i + ' counts ' + s.total + ' first sends');
   }
+  looks(clashes);
   if (ledgerEnd) for (const x of ['requeued', 'queued', 'sent', 'consumed'])
     if (JSON.stringify(ledgerEnd[x]) !== JSON.stringify(ledger[x])) throw Error('the last ledger does not fit the steps: ' + x);
   if (at !== G.to) throw Error('the steps end at event ' + at + ', not ' + G.to);
+}
+// a look is a colour and a pattern; no two names that ever stand beside one another have the same, as long as there are enough
+const COLOURS = 6, PATTERNS = 4, LOOKS = COLOURS * PATTERNS;
+function looks(clashes) {
+  const order = [...look.keys()].map((name, i) => [name, i, (clashes.get(name) || new Set()).size]).sort((a, b) => b[2] - a[2] || a[1] - b[1]), given = new Map();
+  for (const [name, i] of order) {
+    const used = new Array(LOOKS).fill(0);
+    for (const other of clashes.get(name) || []) if (given.has(other)) used[given.get(other)]++;
+    let best = -1;
+    for (let t = 0; t < LOOKS; t++) { const x = t - t % COLOURS + (t + i) % COLOURS; if (best < 0 || used[x] < used[best]) best = x; }
+    given.set(name, best);
+  }
+  look = given;
+}
+const PATTERN = ['', '<path d="M0 2H7"/>', '<circle cx="3.5" cy="3.5" r="1.5"/>', '<path d="M0 3.5H7M3.5 0V7"/>'];
+function paintLooks() {
+  let defs = '', css = '';
+  for (let i = 0; i < LOOKS; i++) {
+    const c = i % COLOURS, p = Math.floor(i / COLOURS);
+    for (const [kind, colour] of [['s', '--c' + c], ['b', '--b' + c]]) {
+      const fill = p ? 'url(#' + kind + 'p' + i + ')' : 'var(' + colour + ')';
+      if (p) defs += '<pattern id="' + kind + 'p' + i + '" class="look" patternUnits="userSpaceOnUse" width="7" height="7" patternTransform="rotate(' + (p === 1 ? 45 : 0) + ')"><rect width="7" height="7" style="fill:var(' + colour + ')"/>' + PATTERN[p] + '</pattern>';
+      css += kind === 's' ? '.s' + i + ' .body, .sw.s' + i + ' rect { fill: ' + fill + '; }\n' : 'path.halo.b' + i + ' { stroke: ' + fill + '; }\ncircle.halo.b' + i + ' { fill: ' + fill + '; }\n';
+    }
+  }
+  $('defs').innerHTML = defs;
+  $('looks').textContent = css;
 }
 
 // ---- where the nodes stand: stress majorization over distances in links, begun by classical scaling; no chance in it
@@ -320,8 +426,61 @@ function place(list, far) {
       }
       P[i] = [x / s, y / s];
     }
-  // the long axis lies flat, the least node to the left and above
-  const cx = P.reduce((a, p) => a + p[0], 0) / n, cy = P.reduce((a, p) => a + p[1], 0) / n;
+  return P;
+}
+// many nodes: distances to some pivots alone, then stress over these and the neighbours
+const PIVOTS = 50, MANY = 300;
+function placeMany(list, far) {
+  const n = list.length, idx = new Map(list.map((v, i) => [v, i])), near = list.map(v => [...new Set(far(v).map(w => idx.get(w)))]);
+  const K = Math.min(PIVOTS, n), D = [], pivots = [], least = new Float64Array(n).fill(1e9), region = new Int32Array(n), weight = new Float64Array(K);
+  for (let k = 0, p = 0; k < K; k++) {
+    const d = new Float64Array(n).fill(-1), q = [p];
+    d[p] = 0;
+    for (let h = 0; h < q.length; h++) for (const j of near[q[h]]) if (d[j] < 0) { d[j] = d[q[h]] + 1; q.push(j); }
+    for (let i = 0; i < n; i++) if (d[i] < least[i]) { least[i] = d[i]; region[i] = k; }
+    D.push(d); pivots.push(p);
+    // the next pivot is the node farthest from all of them
+    p = least.reduce((far, x, i) => x > least[far] ? i : far, 0);
+  }
+  region.forEach(k => weight[k]++);
+  // begun by classical scaling over the pivots
+  const mean = D.map(d => d.reduce((a, x) => a + x * x, 0) / n), row = Float64Array.from({ length: n }, (_, i) => D.reduce((s, d) => s + d[i] * d[i], 0) / K), all = mean.reduce((a, b) => a + b) / K;
+  const C = D.map((d, k) => d.map((x, i) => (row[i] + mean[k] - all - x * x) / 2)), M = C.map(a => C.map(b => { let s = 0; for (let i = 0; i < n; i++) s += a[i] * b[i]; return s; })), axes = [];
+  for (let a = 0; a < 2; a++) {
+    let v = Float64Array.from({ length: K }, (_, i) => Math.sin(1 + i * (a ? 2.3 : 1.3)) + .01 * i);
+    for (let t = 0; t < 60; t++) {
+      const w = Float64Array.from(M, r => r.reduce((s, x, i) => s + x * v[i], 0));
+      for (const u of axes) { const s = u.reduce((s, x, i) => s + x * w[i], 0); u.forEach((x, i) => { w[i] -= s * x; }); }
+      const norm = Math.hypot(...w) || 1;
+      v = w.map(x => x / norm);
+    }
+    axes.push(v);
+  }
+  const X = new Float64Array(n), Y = new Float64Array(n);
+  for (let i = 0; i < n; i++) for (let k = 0; k < K; k++) { X[i] += C[k][i] * axes[0][k]; Y[i] += C[k][i] * axes[1][k]; }
+  // to the size at which the pivots' distances fit best
+  let up = 0, low = 1e-9;
+  for (let k = 0; k < K; k++) for (let i = 0; i < n; i++) { const e = Math.hypot(X[i] - X[pivots[k]], Y[i] - Y[pivots[k]]); up += D[k][i] * e; low += e * e; }
+  for (let i = 0; i < n; i++) { X[i] = X[i] * up / low + .05 * Math.sin(i * 7 + 1); Y[i] = Y[i] * up / low + .05 * Math.cos(i * 5 + 2); }
+  // two links away counts too, where that's few
+  const next = near.map((list, i) => list.length > 6 ? [] : [...new Set(list.flatMap(j => near[j].length > 6 ? [] : near[j]))].filter(j => j !== i && !list.includes(j)));
+  // what each node is held to, in one row: other node, distance, weight
+  const ties = near.map((list, i) => [...list.map(j => [j, 1, 1]), ...next[i].map(j => [j, 2, .25]), ...pivots.map((p, k) => [p, D[k][i], weight[k] * .5 / (D[k][i] * D[k][i])]).filter(t => t[1] > 2)]);
+  const ends = ties.map(t => Int32Array.from(t, x => x[0])), far1 = ties.map(t => Float64Array.from(t, x => x[1])), pulls = ties.map(t => Float64Array.from(t, x => x[2]));
+  for (let t = 0; t < 60; t++) for (let i = 0; i < n; i++) {
+    let x = 0, y = 0, s = 0;
+    const xi = X[i], yi = Y[i], end = ends[i], d = far1[i], w = pulls[i];
+    for (let k = 0; k < end.length; k++) {
+      const xj = X[end[k]], yj = Y[end[k]], dx = xi - xj, dy = yi - yj, e = d[k] / (Math.sqrt(dx * dx + dy * dy) || 1e-9);
+      x += w[k] * (xj + dx * e); y += w[k] * (yj + dy * e); s += w[k];
+    }
+    X[i] = x / s; Y[i] = y / s;
+  }
+  return Array.from(X, (x, i) => [x, Y[i]]);
+}
+// the long axis lies flat, the least node to the left and above
+function flat(P) {
+  const n = P.length, cx = P.reduce((a, p) => a + p[0], 0) / n, cy = P.reduce((a, p) => a + p[1], 0) / n;
   let xx = 0, xy = 0, yy = 0;
   for (const p of P) { p[0] -= cx; p[1] -= cy; xx += p[0] * p[0]; xy += p[0] * p[1]; yy += p[1] * p[1]; }
   const turn = .5 * Math.atan2(2 * xy, xx - yy), c = Math.cos(turn), s = Math.sin(turn);
@@ -329,165 +488,268 @@ function place(list, far) {
   const fx = R[0][0] > 0 ? -1 : 1, fy = R[0][1] > 0 ? -1 : 1;
   return R.map(([x, y]) => [x * fx, y * fy]);
 }
-let unit = null, circle = false, pos = [], radius = 12, big = true, weights = null;
+// pushes apart what is nearer than `least`; a grid of cells says who may be
+function apart(P, least) {
+  const N = P.length - 1, cell = x => Math.floor(x / least);
+  for (let t = 0; t < 40; t++) {
+    const cells = new Map(), key = (x, y) => x * 100003 + y;
+    let moved = false;
+    for (let v = 1; v <= N; v++) { const k = key(cell(P[v][0]), cell(P[v][1])); cells.has(k) ? cells.get(k).push(v) : cells.set(k, [v]); }
+    for (let a = 1; a <= N; a++) {
+      const cx = cell(P[a][0]), cy = cell(P[a][1]);
+      for (let i = -1; i < 2; i++) for (let j = -1; j < 2; j++) for (const b of cells.get(key(cx + i, cy + j)) || []) {
+        const dx = P[b][0] - P[a][0], dy = P[b][1] - P[a][1], d = Math.hypot(dx, dy);
+        if (b <= a || d >= least) continue;
+        const f = (least - d) / 2 / (d || 1), ux = d ? dx * f : least / 2, uy = dy * f;
+        P[a] = [P[a][0] - ux, P[a][1] - uy]; P[b] = [P[b][0] + ux, P[b][1] + uy];
+        moved = true;
+      }
+    }
+    if (!moved) break;
+  }
+}
+let unit = null, circle = false, base = null, pos = [], radius = 12, big = true, weights = null, roomy = false, shaped = 1;
+function piecesOf() {
+  const N = G.nodes, far = v => nodes[v].ports.map(p => p.far), top = classes(N, links.map(l => [l.a, l.b])), groups = new Map();
+  for (let v = 1; v <= N; v++) { const t = top(v); groups.has(t) ? groups.get(t).push(v) : groups.set(t, [v]); }
+  return [...groups.values()].sort((a, b) => b.length - a.length || a[0] - b[0]).map(list => ({ list, P: flat(list.length > MANY ? placeMany(list, far) : place(list, far)) }));
+}
+// pieces on shelves; a window that is higher than wide has them upright
+function shelves(W, H) {
+  const upright = H > W * 1.15, raw = [];
+  const boxes = unit.map(({ list, P }) => {
+    const Q = upright ? P.map(([x, y]) => [y, x]) : P, xs = Q.map(p => p[0]), ys = Q.map(p => p[1]), x0 = Math.min(...xs), y0 = Math.min(...ys);
+    return { list, Q: Q.map(p => [p[0] - x0, p[1] - y0]), w: Math.max(...xs) - x0 + 1.1, h: Math.max(...ys) - y0 + 1.1 };
+  });
+  const area = boxes.reduce((a, u) => a + u.w * u.h, 0), shelf = Math.max(Math.sqrt(area * W / H) * 1.05, ...boxes.map(u => u.w));
+  let x = 0, y = 0, h = 0;
+  for (const u of boxes) {
+    if (x && x + u.w > shelf) { x = 0; y += h; h = 0; }
+    u.list.forEach((v, i) => { raw[v] = [x + u.Q[i][0], y + u.Q[i][1]]; });
+    x += u.w; h = Math.max(h, u.h);
+  }
+  return raw;
+}
 function layout() {
   const box = $('stage').getBoundingClientRect(), W = Math.max(box.width, 200), H = Math.max(box.height, 150), N = G.nodes;
   let raw = [];
-  if (circle || N > 1500) {
-    for (let v = 1; v <= N; v++) { const a = 2 * Math.PI * (v - 1) / N - Math.PI / 2; raw[v] = N > 1 ? [Math.cos(a) * W / H * .8, Math.sin(a)] : [0, 0]; }
-  } else {
-    if (!unit) {
-      const far = v => nodes[v].ports.map(p => p.far), top = classes(N, links.map(l => [l.a, l.b])), groups = new Map();
-      for (let v = 1; v <= N; v++) { const t = top(v); groups.has(t) ? groups.get(t).push(v) : groups.set(t, [v]); }
-      unit = [...groups.values()].sort((a, b) => b.length - a.length || a[0] - b[0]).map(list => {
-        const P = place(list, far), xs = P.map(p => p[0]), ys = P.map(p => p[1]), x0 = Math.min(...xs), y0 = Math.min(...ys);
-        return { list, P: P.map(p => [p[0] - x0, p[1] - y0]), w: Math.max(...xs) - x0 + 1.1, h: Math.max(...ys) - y0 + 1.1 };
-      });
-    }
-    // pieces on shelves
-    const area = unit.reduce((a, u) => a + u.w * u.h, 0), shelf = Math.max(Math.sqrt(area * W / H) * 1.05, ...unit.map(u => u.w));
-    let x = 0, y = 0, h = 0;
-    for (const u of unit) {
-      if (x && x + u.w > shelf) { x = 0; y += h; h = 0; }
-      u.list.forEach((v, i) => { raw[v] = [x + u.P[i][0], y + u.P[i][1]]; });
-      x += u.w; h = Math.max(h, u.h);
-    }
-  }
+  if (circle) for (let v = 1; v <= N; v++) { const a = 2 * Math.PI * (v - 1) / N - Math.PI / 2; raw[v] = N > 1 ? [Math.cos(a) * W / H * .8, Math.sin(a)] : [0, 0]; }
+  else { unit = unit || piecesOf(); raw = shelves(W, H); }
   let x0 = 1e9, x1 = -1e9, y0 = 1e9, y1 = -1e9;
   for (let v = 1; v <= N; v++) { const [x, y] = raw[v]; x0 = Math.min(x0, x); x1 = Math.max(x1, x); y0 = Math.min(y0, y); y1 = Math.max(y1, y); }
-  const pad = N < 40 ? 60 : 30, low = $('legend').hidden ? 0 : $('legend').offsetHeight;
-  const ky = Math.min((H - 2 * pad - low) / (y1 - y0 || 1e-9), (W - 2 * pad) / (x1 - x0 || 1e-9), 320), kx = Math.min((W - 2 * pad) / (x1 - x0 || 1e-9), ky * 1.7, 320);
-  for (let v = 1; v <= N; v++) pos[v] = [(raw[v][0] - (x0 + x1) / 2) * kx + W / 2, (raw[v][1] - (y0 + y1) / 2) * ky + (H - low) / 2];
-  radius = Math.max(4, Math.min(24, Math.sqrt(W * H / N) * .2));
-  const least = radius * 2.9;
-  if (!circle && N <= 1500) for (let t = 0; t < 40; t++) for (let a = 1; a <= N; a++) for (let b = a + 1; b <= N; b++) {
-    const dx = pos[b][0] - pos[a][0], dy = pos[b][1] - pos[a][1], d = Math.hypot(dx, dy);
-    if (d >= least) continue;
-    const f = (least - d) / 2 / (d || 1), ux = d ? dx * f : least / 2, uy = dy * f;
-    pos[a] = [pos[a][0] - ux, pos[a][1] - uy]; pos[b] = [pos[b][0] + ux, pos[b][1] + uy];
-  }
-  for (let v = 1; v <= N; v++) pos[v] = [Math.max(radius + 10, Math.min(W - radius - 12, pos[v][0])), Math.max(radius + 12, Math.min(H - low - radius - 8, pos[v][1]))];
-  const lens = links.map(l => Math.hypot(pos[l.a][0] - pos[l.b][0], pos[l.a][1] - pos[l.b][1])).sort((a, b) => a - b);
-  const len = lens.length ? lens[lens.length >> 2] : 100;
-  radius = Math.min(radius, Math.max(5, len * .24));
-  big = len > 150 && N <= 40;
-  $('net').style.setProperty('--thick', Math.max(2, Math.min(5, radius * .32)));
-  $('net').style.setProperty('--thin', Math.max(.7, Math.min(1.8, radius * .11)));
-  zoom = { k: 1, x: 0, y: 0 };
+  const pad = N < 40 ? Math.min(60, W * .1) : 30, low = $('legend').hidden ? 0 : $('legend').offsetHeight;
+  const fx = (W - 2 * pad) / (x1 - x0 || 1e-9), fy = (H - 2 * pad - low) / (y1 - y0 || 1e-9), ky = Math.min(fy, fx * 1.7, 320), kx = Math.min(fx, ky * 1.7, 320);
+  const P = [];
+  for (let v = 1; v <= N; v++) P[v] = [(raw[v][0] - (x0 + x1) / 2) * kx + W / 2, (raw[v][1] - (y0 + y1) / 2) * ky + (H - low) / 2];
+  let r = Math.max(2.5, Math.min(24, Math.sqrt(W * H / N) * .2));
+  if (!circle) apart(P, r * 2.9);
+  for (let v = 1; v <= N; v++) P[v] = [Math.max(r + 10, Math.min(W - r - 12, P[v][0])), Math.max(r + 12, Math.min(H - low - r - 8, P[v][1]))];
+  const lens = links.map(l => Math.hypot(P[l.a][0] - P[l.b][0], P[l.a][1] - P[l.b][1])).sort((a, b) => a - b), len = lens.length ? lens[lens.length >> 2] : 100;
+  r = Math.min(r, Math.max(N > MANY ? 2.5 : 5, len * .24));
+  // what stood in the middle stays there
+  if (base) { zoom.x = W / 2 + (zoom.x - base.W / 2) * W / base.W; zoom.y = H / 2 + (zoom.y - base.H / 2) * H / base.H; }
+  base = { P, r, W, H, len };
+  $('net').setAttribute('viewBox', '0 0 ' + W + ' ' + H);
 }
 
 // ---- the network. A link is a curve; parallel links are bent apart.
 const el = (name, attrs, parent) => { const e = document.createElementNS('http://www.w3.org/2000/svg', name); for (const a in attrs) e.setAttribute(a, attrs[a]); if (parent) parent.append(e); return e; };
-let zoom, drawn = [], bend = [];
+const put = (e, name, value) => { if (e.getAttribute(name) !== value) e.setAttribute(name, value); };
+const f1 = x => x.map(y => y.toFixed(1)).join(' ');
+let zoom = { k: 1, x: 0, y: 0 }, drawn = [], bend = [], grid = null;
 const mix = (p, q, t) => [p[0] + (q[0] - p[0]) * t, p[1] + (q[1] - p[1]) * t];
 const ctrl = i => {
   const l = links[i], p = pos[l.a], q = pos[l.b], d = Math.hypot(q[0] - p[0], q[1] - p[1]) || 1, m = mix(p, q, .5), b = bend[i] * Math.min(d * .35, radius * 2.6);
   return [m[0] - (q[1] - p[1]) / d * b * 2, m[1] + (q[0] - p[0]) / d * b * 2];
 };
 const curveAt = (i, t) => { const l = links[i], c = ctrl(i); return mix(mix(pos[l.a], c, t), mix(c, pos[l.b], t), t); };
+// the elements, once; what few links have is made when it is first shown
 function build() {
   const same = new Map();
   links.forEach((l, i) => { const k = l.a + '-' + l.b; same.has(k) ? same.get(k).push(i) : same.set(k, [i]); });
   for (const list of same.values()) list.forEach((i, j) => { bend[i] = j - (list.length - 1) / 2; });
-  for (const id of ['halos', 'links', 'cores', 'tags', 'nodes', 'ways', 'msgs']) $(id).textContent = '';
-  const f = x => x.map(y => y.toFixed(1)).join(' ');
   drawn = links.map((l, i) => {
-    const p = pos[l.a], q = pos[l.b], c = ctrl(i), m = curveAt(i, .5), whole = 'M' + f(p) + 'Q' + f(c) + ' ' + f(q);
     const g = el('g', {}, $('links'));
     el('title', {}, g).textContent = 'link ' + l.link + ': port ' + l.a_port + ' of node ' + l.a + ', port ' + l.b_port + ' of node ' + l.b;
-    const cross = (v, t) => { const [x, y] = curveAt(i, v === l.a ? t : 1 - t), r = Math.max(3, radius * .3); return 'M' + f([x - r, y - r]) + 'l' + f([2 * r, 2 * r]) + 'm0 ' + (-2 * r).toFixed(1) + 'l' + f([-2 * r, 2 * r]); };
-    return { halo: el('path', { class: 'halo', d: whole, 'stroke-width': (radius * 1.5).toFixed(1) }, $('halos')),
-      a: el('path', { class: 'half', d: 'M' + f(p) + 'Q' + f(mix(p, c, .5)) + ' ' + f(m) }, g), b: el('path', { class: 'half', d: 'M' + f(m) + 'Q' + f(mix(c, q, .5)) + ' ' + f(q) }, g),
-      xa: el('path', { class: 'cross', d: cross(l.a, .4) }, g), xb: el('path', { class: 'cross', d: cross(l.b, .4) }, g),
-      core: el('path', { class: 'core', d: whole }, $('cores')), mid: m };
+    return { i, g, a: el('path', {}, g), b: el('path', {}, g) };
   });
   for (let v = 1; v <= G.nodes; v++) {
-    const [x, y] = pos[v], n = nodes[v], g = el('g', { class: 'node', 'data-v': v, transform: 'translate(' + f([x, y]) + ')' }, $('nodes')), r = radius;
-    n.halo = el('circle', { class: 'halo', r: r + Math.min(8, r * .45 + 1), cx: x.toFixed(1), cy: y.toFixed(1) }, $('halos'));
-    el('circle', { class: 'pin', r: r + 9 }, g);
-    el('rect', { class: 'stop', x: -r - 4, y: -r - 4, width: 2 * r + 8, height: 2 * r + 8 }, g);
-    el('circle', { class: 'ring', r: r + 4 }, g);
-    el('circle', { class: 'body', r }, g);
-    el('text', { 'font-size': Math.max(6, Math.min(18, r * (v > 99 ? .8 : 1))), 'font-weight': 'bold' }, g).textContent = v;
-    // the level stands in the corner that lies freest of links, where the upper right one isn't free
-    const away = n.ports.map(({ link: i }) => { const [a, b] = curveAt(i, links[i].a === v ? .2 : .8); return Math.atan2(b - y, a - x); });
-    const gap = ([a, b]) => Math.min(9, ...away.map(t => Math.abs(Math.atan2(Math.sin(t - Math.atan2(b, a)), Math.cos(t - Math.atan2(b, a))))));
-    const corner = [[1, -1], [-1, -1], [1, 1], [-1, 1]].reduce((p, q) => gap(p) > .7 || gap(q) <= gap(p) ? p : q);
-    n.corner = corner;
-    n.lev = el('text', { class: 'lev', x: corner[0] * (r * .75 + 2), y: corner[1] * (r * .95 + 2), 'font-size': Math.max(6, Math.min(14, r * .8)), style: corner[0] < 0 ? 'text-anchor:end' : '' }, g);
-    el('title', {}, g).textContent = 'node ' + v;
-    n.g = g;
+    const n = nodes[v], g = n.g = el('g', { class: 'node', 'data-v': v, role: 'button', tabindex: -1 }, $('nodes'));
+    n.halo = el('circle', { class: 'halo' }, $('halos'));
+    n.stop = el('rect', { class: 'stop' }, g);
+    n.ring = el('circle', { class: 'ring' }, g);
+    n.body = el('circle', { class: 'body' }, g);
+    n.text = el('text', { 'font-weight': 'bold' }, g);
+    n.text.textContent = v;
+    n.lev = el('text', { class: 'lev' }, g);
   }
 }
-const put = (e, name, value) => { if (e.getAttribute(name) !== value) e.setAttribute(name, value); };
+const crossAt = (i, v) => { const [x, y] = curveAt(i, v === links[i].a ? .4 : .6), r = Math.max(radius < 8 ? 1.5 : 3, radius * .3); return 'M' + f1([x - r, y - r]) + 'l' + f1([2 * r, 2 * r]) + 'm0 ' + (-2 * r).toFixed(1) + 'l' + f1([-2 * r, 2 * r]); };
+const EXTRA = { halo: ['halo', 'halos', d => d.whole], core: ['core', 'cores', d => d.whole], xa: ['cross', 'links', d => crossAt(d.i, links[d.i].a)], xb: ['cross', 'links', d => crossAt(d.i, links[d.i].b)] };
+function extra(d, name, shown, cls) {
+  if (!d[name]) { if (!shown) return; d[name] = el('path', { class: EXTRA[name][0], d: EXTRA[name][2](d) }, $(EXTRA[name][1])); }
+  put(d[name], 'visibility', shown ? 'visible' : 'hidden');
+  if (cls) put(d[name], 'class', cls);
+}
+// where and how large all is at the zoom of now: nodes move apart, circles and letters keep their size once they can be read
+const FULL = 20, LEGIBLE = 8;
+function shape() {
+  const k = shaped = zoom.k, N = G.nodes;
+  for (let v = 1; v <= N; v++) pos[v] = [base.P[v][0] * k, base.P[v][1] * k];
+  radius = k < 1 ? base.r * k : Math.max(base.r, Math.min(FULL, base.r * k * .8));
+  big = base.len * k > 150 && N * Math.min(1, 1 / (k * k)) <= 40 && radius >= FULL * .8 && nodes.every(n => !n || n.ports.length <= 8);
+  const r = radius, style = $('net').style;
+  style.setProperty('--thick', Math.max(Math.min(2, r * .5), Math.min(5, r * .32)));
+  style.setProperty('--thin', Math.max(.7, Math.min(1.8, r * .11)));
+  style.setProperty('--band', (r * 1.5).toFixed(1));
+  $('net').classList.toggle('tiny', r < LEGIBLE);
+  grid = new Map();
+  for (let v = 1; v <= N; v++) { const c = cellOf(pos[v][0]) * 100003 + cellOf(pos[v][1]); grid.has(c) ? grid.get(c).push(v) : grid.set(c, [v]); }
+  for (const d of drawn) {
+    const l = links[d.i], p = pos[l.a], q = pos[l.b], c = ctrl(d.i), m = d.mid = curveAt(d.i, .5);
+    d.whole = 'M' + f1(p) + 'Q' + f1(c) + ' ' + f1(q);
+    put(d.a, 'd', 'M' + f1(p) + 'Q' + f1(mix(p, c, .5)) + ' ' + f1(m));
+    put(d.b, 'd', 'M' + f1(m) + 'Q' + f1(mix(c, q, .5)) + ' ' + f1(q));
+    for (const name in EXTRA) if (d[name]) put(d[name], 'd', EXTRA[name][2](d));
+  }
+  for (let v = 1; v <= N; v++) shapeNode(v, r);
+  placeWeights();
+  for (const q of queues.values()) q.sig = null;
+}
+const set = (e, attrs) => { for (const a in attrs) put(e, a, String(attrs[a])); };
+function shapeNode(v, r) {
+  const [x, y] = pos[v], n = nodes[v];
+  set(n.g, { transform: 'translate(' + f1([x, y]) + ')' });
+  set(n.halo, { r: r + Math.min(8, r * .45 + 1), cx: x.toFixed(1), cy: y.toFixed(1) });
+  set(n.body, { r });
+  set(n.ring, { r: r + (r < LEGIBLE ? 1.5 : 4) });
+  set(n.stop, { x: -r - 4, y: -r - 4, width: 2 * r + 8, height: 2 * r + 8 });
+  if (r < LEGIBLE) return;
+  set(n.text, { 'font-size': Math.min(18, r * (v > 999 ? .68 : v > 99 ? .8 : 1)) });
+  // the level stands in the corner that lies freest of links, where the upper right one isn't free
+  const away = n.ports.map(({ link: i }) => { const [a, b] = curveAt(i, links[i].a === v ? .2 : .8); return Math.atan2(b - y, a - x); });
+  const gap = ([a, b]) => Math.min(9, ...away.map(t => Math.abs(Math.atan2(Math.sin(t - Math.atan2(b, a)), Math.cos(t - Math.atan2(b, a))))));
+  const corner = n.corner = [[1, -1], [-1, -1], [1, 1], [-1, 1]].reduce((p, q) => gap(p) > .7 || gap(q) <= gap(p) ? p : q);
+  set(n.lev, { x: corner[0] * (r * .75 + 2), y: corner[1] * (r * .95 + 2), 'font-size': Math.max(6, Math.min(14, r * .8)), style: corner[0] < 0 ? 'text-anchor:end' : '' });
+}
+// weights stand beside their links, and under all links; by themselves only where they fit
+function placeWeights() {
+  const size = Math.max(8, Math.min(13, radius * .85)), asked = weights === true;
+  const fits = links.map(l => Math.hypot(pos[l.a][0] - pos[l.b][0], pos[l.a][1] - pos[l.b][1]) > 2 * radius + String(l.weight).length * size * .6 + 6);
+  roomy = radius >= LEGIBLE && links.length <= 90 * Math.max(1, zoom.k * zoom.k) && fits.filter(x => x).length >= links.length * .8;
+  $('weights').innerHTML = !(weights ?? roomy) ? '' : links.map((l, i) => {
+    if (!asked && !fits[i]) return '';
+    const [x, y] = drawn[i].mid, p = pos[l.a], q = pos[l.b], turned = p[0] > q[0] || p[0] === q[0] && p[1] < q[1], a = Math.atan2(turned ? p[1] - q[1] : q[1] - p[1], turned ? p[0] - q[0] : q[0] - p[0]), o = size * .62 + 3;
+    return '<text font-size="' + size.toFixed(1) + '" transform="translate(' + f1([x + Math.sin(a) * o, y - Math.cos(a) * o]) + ') rotate(' + (a * 180 / Math.PI).toFixed(1) + ')">' + l.weight + '</text>';
+  }).join('');
+}
 const tag = (cls, x, y, text, size) => { const w = text.length * size * .58 + size * .6; return '<g class="tag ' + cls + '" transform="translate(' + x.toFixed(1) + ' ' + y.toFixed(1) + ')"><rect rx="4" x="' + (-w / 2).toFixed(1) + '" y="' + (-size * .65) + '" width="' + w.toFixed(1) + '" height="' + size * 1.3 + '"/><text font-size="' + size + '">' + text + '</text></g>'; };
+const cellOf = x => Math.floor(x / 64);
+// whether a pill would lie over a node
+function covers(x, y, a, w, h) {
+  for (const t of [h - w / 2, 0, w / 2 - h]) {
+    const px = x + Math.cos(a) * t, py = y + Math.sin(a) * t;
+    for (let i = -1; i < 2; i++) for (let j = -1; j < 2; j++)
+      for (const v of grid.get((cellOf(px) + i) * 100003 + cellOf(py) + j) || []) if (Math.hypot(pos[v][0] - px, pos[v][1] - py) < radius + h * 1.15) return true;
+  }
+  return false;
+}
 // messages on their way: pills that point to their receiver; the first of the queue stands nearest to it
-function pills(i, to, list) {
+function pills(i, to, port, list) {
   const l = links[i], back = l.b === to, L = Math.hypot(pos[l.a][0] - pos[l.b][0], pos[l.a][1] - pos[l.b][1]) || 1;
-  const h = big ? 11 : Math.max(5, radius * .58), span = t => big ? t.length * 8.6 + 18 : h * 2.3, sum = list => list.reduce((x, t) => x + span(t), 0);
+  const h = big ? 11 : radius < LEGIBLE ? Math.max(1.5, radius * .5) : Math.max(5, radius * .58), span = t => big ? t.length * 8.6 + 18 : h * 2.3, sum = list => list.reduce((x, t) => x + span(t), 0);
   const whole = list.map(([m]) => short(m)), text = big && sum(whole) > L - radius * 2 - 14 ? list.map(([m]) => LETTER[m.kind] + (m.level ?? '')) : whole, wide = text.map(span), full = sum(text);
   const squeeze = Math.min(1, Math.max(.2, (L * .8 - radius * 2) / full));
-  let off = radius + (big ? 9 : 5), html = '';
+  // round a node of many links they stand on a wider circle
+  const round = nodes[to].ports.length * (2 * h + 3) / 6.3 - h;
+  let off = Math.max(radius + (big ? 9 : radius < LEGIBLE ? 2 : 5), Math.min(round, L * .55)), html = '';
   list.forEach(([m, cls], k) => {
-    const w = wide[k], d = (off + w / 2) / L, t = back ? 1 - d : d, p = curveAt(i, t), q = curveAt(i, back ? t + .02 : t - .02);
+    const w = wide[k];
+    let x, y, a;
+    const at = (off, turn) => {
+      const d = (off + w / 2) / L, t = back ? 1 - d : d, p = curveAt(i, t), q = curveAt(i, back ? t + .02 : t - .02), side = (h + (big ? 4 : 2)) * turn;
+      a = Math.atan2(q[1] - p[1], q[0] - p[0]);
+      x = p[0] - Math.sin(a) * side; y = p[1] + Math.cos(a) * side;
+    };
+    at(off, 1);
+    if (radius >= LEGIBLE && covers(x, y, a, w, h)) {
+      // farther back on its link, else on the other side
+      let free = false;
+      for (const turn of [1, -1]) for (let o = off; !free && o + w / 2 < L - radius; o += h) { at(o, turn); free = !covers(x, y, a, w, h); if (free && turn > 0) off = o; }
+      if (!free) at(off, 1);
+    }
     off += w * squeeze + 1;
-    const a = Math.atan2(q[1] - p[1], q[0] - p[0]), deg = a * 180 / Math.PI, flip = Math.abs(a) > Math.PI / 2 + .01 ? deg + 180 : deg, side = h + (big ? 4 : 2);
-    html = '<g class="msg ' + cls + '" transform="translate(' + (p[0] - Math.sin(a) * side).toFixed(1) + ' ' + (p[1] + Math.cos(a) * side).toFixed(1) + ')"><path transform="rotate(' + deg.toFixed(1) + ')" d="M' + (-w / 2).toFixed(1) + ' ' + -h + 'H' + (w / 2 - h * .7).toFixed(1) + 'L' + (w / 2).toFixed(1) + ' 0L' + (w / 2 - h * .7).toFixed(1) + ' ' + h + 'H' + (-w / 2).toFixed(1) + 'Z"/><text font-size="' + (big ? 15 : Math.max(6, h * 1.45)).toFixed(1) + '" transform="rotate(' + (big ? flip : 0).toFixed(1) + ')">' + text[k] + '</text></g>' + html;
+    const deg = a * 180 / Math.PI, flip = Math.abs(a) > Math.PI / 2 + .01 ? deg + 180 : deg;
+    html = '<g class="msg ' + cls + '" data-q="' + to + ' ' + port + ' ' + (k - (list[0][1] === 'taken' ? 1 : 0)) + '" transform="translate(' + f1([x, y]) + ')"><path transform="rotate(' + deg.toFixed(1) + ')" d="M' + (-w / 2).toFixed(1) + ' ' + (-h).toFixed(1) + 'H' + (w / 2 - h * .7).toFixed(1) + 'L' + (w / 2).toFixed(1) + ' 0L' + (w / 2 - h * .7).toFixed(1) + ' ' + h.toFixed(1) + 'H' + (-w / 2).toFixed(1) + 'Z"/>' + (radius < LEGIBLE ? '' : '<text font-size="' + (big ? 15 : Math.max(6, h * 1.45)).toFixed(1) + '" transform="rotate(' + (big ? flip : 0).toFixed(1) + ')">' + text[k] + '</text>') + '</g>' + html;
   });
   return html;
 }
 const short = m => big ? (m.kind === 'changeroot' ? 'Root' : m.kind === 'initiate' ? 'Init' : NAMES[m.kind]) + (m.level !== undefined ? ' ' + m.level : m.kind === 'report' ? (m.key ? ' ' + m.key.split(':')[0] : ' inf') : '') : LETTER[m.kind];
+const bandOf = f => f.name ? 'b' + (look.get(f.name) ?? 0) : 'bx';
+const stateOf = v => { const n = nodes[v]; return 'node ' + v + ': level ' + n.level + ', name ' + (n.name ?? '-') + ', ' + cap(n.phase) + (n.halted ? ', halted' : '') + (pin === v ? ', pinned' : ''); };
 function drawNet(c) {
-  const s = stepNow(), u = s && undoNow(), pin = pinned();
-  const frag = v => c.all.get(c.top(v));
-  links.forEach((l, i) => {
-    const d = drawn[i], j = joined(l), f = frag(l.a);
-    put(d.halo, 'visibility', j ? 'visible' : 'hidden');
-    if (j) put(d.halo, 'style', '--h:' + (hue.get(f.name) ?? 0) + (f.name ? '' : ';--hs:0%'));
-    put(d.a, 'class', 'half ' + nodes[l.a].marks[l.a_port]);
-    put(d.b, 'class', 'half ' + nodes[l.b].marks[l.b_port]);
-    put(d.xa, 'visibility', nodes[l.a].marks[l.a_port] === 'rejected' ? 'visible' : 'hidden');
-    put(d.xb, 'visibility', nodes[l.b].marks[l.b_port] === 'rejected' ? 'visible' : 'hidden');
-    put(d.core, 'visibility', j && f.name === l.link ? 'visible' : 'hidden');
-  });
-  for (let v = 1; v <= G.nodes; v++) {
-    const n = nodes[v], f = frag(v);
-    put(n.g, 'class', 'node ' + n.phase + (n.name ? ' named' : '') + (n.halted ? ' halted' : '') + (s && s.node === v ? ' at' : '') + (pin === v ? ' pinned' : ''));
-    put(n.g, 'style', '--h:' + (hue.get(n.name) ?? 0));
-    put(n.halo, 'visibility', f.nodes > 1 ? 'visible' : 'hidden');
-    put(n.halo, 'style', '--h:' + (hue.get(f.name) ?? 0) + (f.name ? '' : ';--hs:0%'));
-    const t = n.phase === 'sleeping' || radius * zoom.k < 7 ? '' : (big ? 'L' : '') + n.level;
-    if (n.lev.textContent !== t) n.lev.textContent = t;
-    put(n.lev, 'transform', n.halted ? 'translate(' + n.corner[0] * 6 + ' ' + n.corner[1] * 5 + ')' : '');
-  }
-  // weights, and level and name at each core
+  if (shaped !== zoom.k) shape();
+  const s = stepNow(), frag = v => c.all.get(c.top(v)), names = new Map([...c.all.values()].filter(f => f.name).map(f => [f.name, f]));
+  const size = big ? 15 : Math.max(8, Math.min(13, radius * .85)), focus = pin || (s ? s.node : 1);
   let html = '';
-  const names = new Map([...c.all.values()].filter(f => f.name).map(f => [f.name, f])), size = big ? 15 : Math.max(8, Math.min(13, radius * .85));
   links.forEach((l, i) => {
-    const f = names.get(l.link), [x, y] = drawn[i].mid;
-    if (weights ?? big) html += tag('weight', x, y, String(l.weight), Math.min(size, 13));
-    if (f && joined(l) && radius * zoom.k >= 7) {
-      const dx = pos[l.b][0] - pos[l.a][0], dy = pos[l.b][1] - pos[l.a][1], d = Math.hypot(dx, dy) || 1;
-      // small letters beside the messages, where these go one way only
-      const to = (v, p) => queue(v, p).length || s && s.node === v && s.port === p && s.fate === 'done', ways = (to(l.b, l.b_port) ? 1 : 0) - (to(l.a, l.a_port) ? 1 : 0);
-      const o = big ? 36 + 30 * Math.abs(dy) / d : ways ? size * 1.1 : 0, w = !big && ways || (dx > 0 || !dx && dy < 0 ? 1 : -1);
-      html += tag('frag', x + dy / d * o * w, y - dx / d * o * w, big ? 'level ' + f.level : 'L' + f.level, size);
+    const d = drawn[i], j = joined(l), f = frag(l.a), a = nodes[l.a].marks[l.a_port], b = nodes[l.b].marks[l.b_port], core = j && f.name === l.link, sig = a + b + core + (j ? bandOf(f) : '');
+    if (d.sig !== sig) {
+      d.sig = sig;
+      put(d.a, 'class', 'half ' + a);
+      put(d.b, 'class', 'half ' + b);
+      extra(d, 'halo', j, 'halo ' + bandOf(f));
+      extra(d, 'core', core);
+      extra(d, 'xa', a === 'rejected');
+      extra(d, 'xb', b === 'rejected');
     }
+    if (j && names.get(l.link) && radius >= LEGIBLE) html += coreTag(l, i, s, names.get(l.link), size);
   });
   $('tags').innerHTML = html;
-  // messages
-  html = '';
-  let way = '';
-  for (const { v, p, list } of queues.values()) {
-    const taken = s && s.node === v && s.port === p && s.fate === 'done' ? [[s, 'taken']] : [];
-    if (list.length || taken.length) html += pills(nodes[v].ports[p].link, v, taken.concat(list.map(m => [m, u && u.sent.includes(m) ? 'fresh' : u && s.fate === 'waits' && u.taken === m ? 'again' : ''])));
+  for (let v = 1; v <= G.nodes; v++) {
+    const n = nodes[v], f = frag(v);
+    put(n.g, 'class', 'node ' + n.phase + (n.name ? ' named s' + (look.get(n.name) ?? 0) : '') + (n.halted ? ' halted' : '') + (s && s.node === v ? ' at' : '') + (pin === v ? ' pinned' : ''));
+    put(n.g, 'aria-label', stateOf(v));
+    put(n.g, 'tabindex', v === focus ? '0' : '-1');
+    put(n.halo, 'class', 'halo ' + bandOf(f));
+    put(n.halo, 'visibility', f.nodes > 1 ? 'visible' : 'hidden');
+    const t = n.phase === 'sleeping' || radius < LEGIBLE ? '' : (big ? 'L' : '') + n.level;
+    if (n.lev.textContent !== t) n.lev.textContent = t;
+    if (t) put(n.lev, 'transform', n.halted ? 'translate(' + n.corner[0] * 6 + ' ' + n.corner[1] * 5 + ')' : '');
   }
-  $('msgs').innerHTML = html;
-  if (s && s.port !== null) { const i = nodes[s.node].ports[s.port].link; way = '<path class="way" d="' + drawn[i].halo.getAttribute('d') + '"/>'; }
-  $('ways').innerHTML = way;
-  if (follow) { const b = $('stage').getBoundingClientRect(), p = pos[pin || (s ? s.node : 1)]; zoom.x = b.width / 2 - p[0] * zoom.k; zoom.y = b.height / 2 - p[1] * zoom.k; }
-  $('view').setAttribute('transform', 'translate(' + zoom.x + ' ' + zoom.y + ') scale(' + zoom.k + ')');
+  drawMessages(s, s && undoNow());
+  const next = asking ? steps[at] : s;
+  $('ways').innerHTML = next && next.port !== null ? '<path class="way" d="' + drawn[nodes[next.node].ports[next.port].link].whole + '"/>' : '';
+  $('marks').innerHTML = (s && radius < LEGIBLE ? '<circle class="eye" r="8" cx="' + pos[s.node][0] + '" cy="' + pos[s.node][1] + '"/>' : '') + (pin ? pinMark(pin) : '');
+  if (follow) { zoom.x = base.W / 2 - pos[focus][0]; zoom.y = base.H / 2 - pos[focus][1]; }
+  moveView();
 }
+// a ring with four rays, and the number where the circle has no room for it
+function pinMark(v) {
+  const r = Math.max(radius + 9, 13), [x, y] = pos[v], d = [[1, 0], [-1, 0], [0, 1], [0, -1]].map(([a, b]) => 'M' + f1([a * r, b * r]) + 'l' + f1([a * 14, b * 14])).join('');
+  return '<g class="pinmark" transform="translate(' + f1([x, y]) + ')"><path class="under" d="' + d + '"/><circle class="under" r="' + r + '"/><path d="' + d + '"/><circle r="' + r + '"/>' + (radius < LEGIBLE ? tag('frag', 0, -r - 26, 'node ' + v, 15) : '') + '</g>';
+}
+function coreTag(l, i, s, f, size) {
+  const [x, y] = drawn[i].mid, dx = pos[l.b][0] - pos[l.a][0], dy = pos[l.b][1] - pos[l.a][1], d = Math.hypot(dx, dy) || 1;
+  // small letters beside the messages, where these go one way only
+  const to = (v, p) => queue(v, p).length || s && s.node === v && s.port === p && s.fate === 'done', ways = (to(l.b, l.b_port) ? 1 : 0) - (to(l.a, l.a_port) ? 1 : 0);
+  const o = big ? 36 + 30 * Math.abs(dy) / d : ways ? size * 1.1 : 0, w = !big && ways || (dx > 0 || !dx && dy < 0 ? 1 : -1);
+  return tag('frag', x + dy / d * o * w, y - dx / d * o * w, big ? 'level ' + f.level : 'L' + f.level, size);
+}
+// a queue is drawn anew only where it looks different
+function drawMessages(s, u) {
+  const asked = asking ? steps[at] : null;
+  for (const q of queues.values()) {
+    const taken = !asking && s && s.node === q.v && s.port === q.p && s.fate === 'done' ? [[s, 'taken']] : [];
+    const all = taken.concat(q.list.map((m, k) => [m, asked && asked.node === q.v && asked.port === q.p && !k ? 'asked' : u && u.sent.includes(m) ? 'fresh' : u && s.fate === 'waits' && u.taken === m ? 'again back' : m.backs ? 'back' : '']));
+    const sig = all.map(([m, c]) => (m.born ?? m.step) + c).join(' ');
+    if (q.sig === sig) continue;
+    q.sig = sig;
+    if (!q.g) { if (!sig) continue; q.g = el('g', {}, $('msgs')); }
+    q.g.innerHTML = all.length ? pills(nodes[q.v].ports[q.p].link, q.v, q.p, all) : '';
+  }
+}
+function moveView() { $('view').setAttribute('transform', 'translate(' + f1([zoom.x, zoom.y]) + ')' + (zoom.k === shaped ? '' : ' scale(' + zoom.k / shaped + ')')); }
 
 // ---- space and time: a lane a node, an arrow a message; what could have acted on the event at hand is filled
 function pastOf(k) {
@@ -552,52 +814,93 @@ const words = m => NAMES[m.kind] + (m.kind === 'report' ? '(' + (m.key ?? 'infin
 const value = (x, y) => y === null || y === undefined ? '-' : x === 'best' ? y[0] + ': ' + y[1] : x === 'phase' ? cap(y) : x === 'halted' ? (y ? 'yes' : 'no') : String(y);
 const idle = s => s.fate === 'waits' && !s.mark && !s.send.length;
 const td = (x, c) => '<td' + (c ? ' class="' + c + '"' : '') + '>' + x + '</td>';
+const opens = s => 'Node <b>' + s.node + '</b> ' + (s.port === null ? 'wakes by itself.' : 'takes <b>' + words(s) + '</b> from node <b>' + s.far + '</b> at port ' + s.port + '.');
+// what is read out: the event in one line
+function live(s) {
+  const a = asking ? steps[at] : s, text = !a ? 'The start' : 'Event ' + a.step + ': node ' + a.node + (a.port === null ? ' wakes by itself' : ' takes ' + words(a) + ' from node ' + a.far) + (asking ? '. What happens?' : '. ' + a.row + (a.fate ? ', ' + FATE[a.fate] : '') + '.');
+  if ($('live').textContent !== text) $('live').textContent = text;
+}
+// ask first: the next event, and neither its row nor what it does; then what was guessed beside what is so
+const FATE = { done: 'consumed', waits: 'put back' }, MARKS = ['none', 'branch', 'rejected'];
+let asking = false, guess = null;
+const markOf = s => s.mark ? s.mark[1] : 'none';
+const choice = (part, value, text) => '<button data-part="' + part + '" data-value="' + value + '" aria-pressed="' + (guess[part] === value) + '">' + text + '</button>';
+function question(s) {
+  return '<div class="ask"><p class="say">Event ' + s.step + ': ' + opens(s) + '</p>' + (s.fate ? '<p>Is the message consumed, or put back? ' + Object.keys(FATE).map(x => choice('fate', x, FATE[x])).join('') + '</p>' : '')
+    + '<p>Which mark does a port of the node get? ' + MARKS.map(x => choice('mark', x, x === 'none' ? 'no change' : cap(x))).join('') + '</p><p><button data-part="show">Show it</button> (right arrow)</p></div>';
+}
+function verdict(s) {
+  if (!guess || guess.step !== s.step) return '';
+  const told = [];
+  if (guess.fate && s.fate) told.push(FATE[guess.fate] + (guess.fate === s.fate ? ': right' : ': no, ' + FATE[s.fate]));
+  if (guess.mark) told.push('mark ' + guess.mark + (guess.mark === markOf(s) ? ': right' : ': no, ' + markOf(s)));
+  return told.length ? '<p class="verdict">Your guess, ' + told.join('; ') + '.</p>' : '';
+}
+function choose(e) {
+  const d = e.target.dataset;
+  if (d.part === 'show') one(1);
+  else if (d.part) { guess[d.part] = d.value; show(); }
+}
 let pin = 0;
 const pinned = () => pin;
 function panel(c) {
   const s = stepNow(), u = s && undoNow();
-  $('count').textContent = 'Event ' + at + ' of ' + G.events;
-  if (!s) $('say').innerHTML = '<p class="say">' + 'All nodes sleep, all marks are Basic, and nothing is on its way.' + '</p>';
+  $('count').textContent = 'of ' + G.events;
+  $('count').dataset.at = 'Event ' + at + ' ';
+  if (document.activeElement !== $('goto')) $('goto').value = at;
+  live(s);
+  if (asking) $('say').innerHTML = question(steps[at]);
+  else if (!s) $('say').innerHTML = '<p class="say">' + 'All nodes sleep, all marks are Basic, and nothing is on its way.' + '</p>';
   else {
-    let h = '<p class="say">Node <b>' + s.node + '</b> ' + (s.port === null ? 'wakes by itself.' : 'takes <b>' + words(s) + '</b> from node <b>' + s.far + '</b> at port ' + s.port + '.') + '</p>';
-    h += '<p><span class="row">' + s.row + '</span>. ' + (ROWS[s.row] || '') + '</p>';
+    let h = verdict(s) + '<p class="say">' + opens(s) + '</p>';
+    h += '<p><span class="row">' + s.row + '</span>. ' + (ROWS[s.row] || '') + (s.fate === 'waits' ? ' <b class="why">' + reasonOf(u.taken) + '.</b>' : '') + '</p>';
     const ch = [];
     if (s.mark) ch.push('port ' + s.mark[0] + ': <span class="old">' + cap(u.mark) + '</span> &rarr; <b>' + cap(s.mark[1]) + '</b>');
     for (const x in s.set) ch.push(x + ': <span class="old">' + value(x, u.set[x]) + '</span> &rarr; <b>' + value(x, s.set[x]) + '</b>');
-    h += '<p>' + (ch.length ? ch.join('; ') + '.' : 'Nothing changes at the node.') + '</p>';
+    if (!idle(s)) h += '<p>' + (ch.length ? ch.join('; ') + '.' : 'Nothing changes at the node.') + '</p>';
     h += s.send.map((x, i) => '<p>Sends <b>' + words(x) + '</b> to node ' + x.to + ' on port ' + x.port + '.</p>').join('');
-    if (s.fate === 'waits') h += '<p>The message goes to the end of its queue' + (queue(s.node, s.port).length > 1 ? ', behind ' + (queue(s.node, s.port).length - 1) + ' more' : '') + '. It was sent by event ' + (u.taken.born || '(earlier)') + '.</p>';
+    if (s.fate === 'waits') h += '<p>The message goes to the end of its queue' + (queue(s.node, s.port).length > 1 ? ', behind ' + (queue(s.node, s.port).length - 1) + ' more' : '') + '. It was sent by event ' + u.taken.born + ', and ' + backsOf(u.taken) + '.</p>';
     $('say').innerHTML = h;
   }
   const v = pin || (s ? s.node : 1), n = nodes[v], mine = s && s.node === v;
   $('pinned').textContent = pin ? 'pinned (n lets go)' : 'the event\'s';
   if (document.activeElement !== $('pick')) $('pick').value = v;
-  const cell = (x, _, row) => '<th>' + x + '</th><td' + (row.length === 1 ? ' colspan="3"' : '') + (mine && x in s.set ? ' class="new"' : '') + '>' + value(x, n[x]) + '</td>';
-  let h = '<table>' + PAIRS.map(row => '<tr>' + row.map(cell).join('') + '</tr>').join('') + '</table>';
+  const cell = (x, _, row) => '<th>' + x + '</th><td' + (row.length === 1 ? ' colspan="5"' : '') + (mine && x in s.set ? ' class="new"' : '') + '>' + value(x, n[x]) + '</td>';
+  let h = '<table>' + GROUPS.map(row => '<tr>' + row.map(cell).join('') + '</tr>').join('') + '</table>';
   h += '<table><tr><th class="n">port</th><th>to</th><th>key</th><th>mark</th><th>waiting</th></tr>';
   n.ports.forEach((p, j) => {
-    const q = queue(v, j).map(m => LETTER[m.kind]).join(' ');
+    const q = queue(v, j).map(m => '<span class="pill' + (m.backs ? ' back' : '') + '">' + LETTER[m.kind] + '</span>').join(' ');
     if (n.ports.length <= 12 || n.marks[j] !== 'basic' || q || j === n.probe) h += '<tr' + (mine && s.mark && s.mark[0] === j ? ' class="new"' : '') + '>' + td(j, 'n') + td(p.far) + td(links[p.link].link) + td(cap(n.marks[j])) + td(q) + '</tr>';
   });
-  $('vars').innerHTML = h + '</table>';
-  const total = ledger.sent.reduce((a, b) => a + b), max = G.bound;
+  h += '</table>';
+  n.ports.forEach((_, j) => { for (const m of queue(v, j)) if (m.backs) h += '<p class="waiter">' + storyOf(m) + '</p>'; });
+  $('vars').innerHTML = h;
+  const total = ledger.sent.reduce((a, b) => a + b), max = G.bound, back = [...queues.values()].reduce((x, q) => x + q.list.filter(m => m.backs).length, 0);
   h = '<div class="bar" role="img" aria-label="' + total + ' of ' + max + '"><i style="width:' + (max ? 100 * total / max : 0) + '%"></i></div><p>first sends <b>' + total + '</b>, bound ' + max + '</p><table class="wide"><tr><th></th>' + KINDS.map(k => '<th class="n" title="' + NAMES[k] + '"><span class="pill">' + LETTER[k] + '</span></th>').join('') + '</tr>';
   for (const x of ['sent', 'consumed']) h += '<tr><th>' + x + '</th>' + ledger[x].map(y => td(y, 'n')).join('') + '</tr>';
-  $('ledger').innerHTML = h + '</table><p>in queues <b>' + ledger.queued + '</b>, waited (requeued) <b>' + ledger.requeued + '</b> times</p>';
+  $('ledger').innerHTML = h + '</table><p>in queues <b>' + ledger.queued + '</b>, of these put back <b>' + back + '</b>; requeued <b>' + ledger.requeued + '</b></p>';
   const fr = [...c.all.values()].sort((a, b) => b.nodes - a.nodes || a.least - b.least), many = fr.filter(f => f.nodes > 1);
   const tree = links.filter(branchy), halts = nodes.filter(x => x && x.halted).map(x => x.v);
-  h = '<p><b>' + fr.length + '</b> of ' + G.nodes + ' at the start; Branch links ' + tree.length + ', weight ' + tree.reduce((a, l) => a + l.weight, 0) + (halts.length ? '; <b>halted: ' + halts.slice(0, 9).join(', ') + '</b>' : '') + '</p>';
-  h += '<table><tr><th class="n">level</th><th class="n">nodes</th><th class="n">least</th><th>name (core)</th></tr>' + many.slice(0, 12).map(f => '<tr>' + td(f.level, 'n') + td(f.nodes, 'n') + td(f.least, 'n') + td(f.name ?? '-') + '</tr>').join('') + '</table>';
+    h = '<p><b>' + fr.length + '</b> of ' + G.nodes + ' at the start; Branch links ' + tree.length + ', weight ' + tree.reduce((a, l) => a + l.weight, 0) + (halts.length ? '; <b>halted: ' + halts.slice(0, 9).join(', ') + '</b>' : '') + '</p>';
+  h += '<table><tr><th class="n">level</th><th class="n">nodes</th><th class="n">least</th><th>name (core)</th></tr>' + many.slice(0, 12).map(f => '<tr>' + td(f.level, 'n') + td(f.nodes, 'n') + td(f.least, 'n') + td('<svg class="sw s' + (look.get(f.name) ?? 'x') + '"><rect width="100%" height="100%"' + (f.name ? '' : ' fill="none"') + '/></svg>' + (f.name ?? '-')) + '</tr>').join('') + '</table>';
   h += '<p>' + (many.length > 12 ? (many.length - 12) + ' more, ' : '') + (fr.length - many.length) + ' single nodes</p>';
   $('census').innerHTML = h;
 }
 function strip() {
-  const W = $('strip').getBoundingClientRect().width || 800, n = curve.length, x = i => 8 + (W - 16) * (n > 1 ? i / (n - 1) : 0), N = G.nodes, B = Math.max(G.bound, 1);
-  const path = (f, top, high) => { let d = '', last = ''; const stepBy = Math.max(1, n / (W * 2)); for (let k = 0; k < n; k += stepBy) { const i = Math.min(n - 1, Math.floor(k)), y = (top + high * (1 - f(i))).toFixed(1); d += (d ? 'H' + x(i).toFixed(1) + (y !== last ? 'V' + y : '') : 'M' + x(i) + ' ' + y); last = y; } return d + 'H' + x(n - 1).toFixed(1) + 'V' + (top + high * (1 - f(n - 1))).toFixed(1); };
-  let h = '<path class="plot" d="' + path(i => N > 1 ? (curve[i][0] - 1) / (N - 1) : 0, 5, 32) + '"/><path class="plot b" d="' + path(i => curve[i][1] / B, 44, 32) + '"/><line class="lane" x1="8" x2="' + (W - 8) + '" y1="44" y2="44"/>';
-  h += '<text id="cap1" font-size="14" x="' + (W - 12) + '" y="18" text-anchor="end"></text><text id="cap2" font-size="14" x="14" y="59"></text><g id="ticks"></g><line id="cursor" class="nowline" y1="0" y2="84" style="stroke-width:2.5;stroke-dasharray:none"/>';
+  const box = $('strip').getBoundingClientRect(), W = box.width || 800, H = box.height || 84, n = curve.length, x = i => 8 + (W - 16) * (n > 1 ? i / (n - 1) : 0), N = G.nodes, B = Math.max(G.bound, 1), half = H * .5;
+  // one point a half pixel is enough
+  const path = (f, top, high) => {
+    let d = '', last = '';
+    const stepBy = Math.max(1, n / (W * 2)), y = i => (top + high * (1 - f(i))).toFixed(1);
+    for (let k = 0; k < n; k += stepBy) { const i = Math.min(n - 1, Math.floor(k)); d += (d ? 'H' + x(i).toFixed(1) + (y(i) !== last ? 'V' + y(i) : '') : 'M' + x(i) + ' ' + y(i)); last = y(i); }
+    return d + 'H' + x(n - 1).toFixed(1) + 'V' + y(n - 1);
+  };
+  let h = '<path class="plot" d="' + path(i => N > 1 ? (curve[i][0] - 1) / (N - 1) : 0, 4, half - 8) + '"/><path class="plot b" d="' + path(i => curve[i][1] / B, half + 2, half - 10) + '"/><line class="lane" x1="8" x2="' + (W - 8) + '" y1="' + (half + 2) + '" y2="' + (half + 2) + '"/>';
+  h += '<text id="cap1" font-size="14" x="' + (W - 12) + '" y="18" text-anchor="end"></text><text id="cap2" font-size="14" x="14" y="' + (half + 16) + '"></text><g id="ticks"></g><line id="cursor" class="nowline" y1="0" y2="' + H + '" style="stroke-width:2.5;stroke-dasharray:none"/>';
   $('strip').innerHTML = h;
+  $('strip').setAttribute('viewBox', '0 0 ' + W + ' ' + H);
   strip.x = x;
+  strip.low = H - 5;
   strip.ticksOf = -1;
 }
 function cursor() {
@@ -609,40 +912,83 @@ function cursor() {
   const v = pin || (stepNow() ? stepNow().node : 0);
   if (strip.ticksOf !== v) {
     strip.ticksOf = v;
-    $('ticks').innerHTML = '<path class="tickline" d="' + steps.filter(s => s.node === v && !idle(s)).map(s => 'M' + strip.x(s.step).toFixed(1) + ' 79v5').join('') + '"/>';
+    $('ticks').innerHTML = '<path class="tickline" d="' + steps.filter(s => s.node === v && !idle(s)).map(s => 'M' + strip.x(s.step).toFixed(1) + ' ' + strip.low + 'v5').join('') + '"/>';
   }
   $('seek').value = at;
   $('seek').setAttribute('aria-valuetext', 'event ' + at + ' of ' + G.events);
 }
 const LEGEND = () => {
-  const s = (w, body) => '<span><svg width="' + w + '" height="18" viewBox="0 0 ' + w + ' 18">' + body + '</svg>', c = (cls, more = '') => '<g class="' + cls + '" transform="translate(12 9)" style="--h:205"><circle class="ring" r="8"/><circle class="body" r="6"/>' + more + '</g>', l = cls => '<path class="' + cls + '" d="M2 9H30"/>';
+  const s = (w, body) => '<span><svg width="' + w + '" height="18" viewBox="0 0 ' + w + ' 18">' + body + '</svg>', c = (cls, more = '') => '<g class="' + cls + '" transform="translate(12 9)" ><circle class="ring" r="8"/><circle class="body" r="6"/>' + more + '</g>', l = cls => '<path class="' + cls + '" d="M2 9H30"/>';
   return s(24, c('sleeping')) + 'sleeps</span>' + s(24, c('found')) + 'Found</span>' + s(24, c('find')) + 'Find (in search)</span>' + s(24, c('found halted', '<rect class="stop" x="-8" y="-8" width="16" height="16"/>')) + 'halted</span>'
-    + s(32, l('half')) + 'Basic</span>' + s(32, '<path class="half" d="M2 9H30"/><path class="half branch" d="M2 9H16"/>') + 'Branch at one end</span>' + s(32, l('half branch')) + 'joined</span>' + s(32, l('half branch') + '<path class="core" d="M2 9H30"/>') + 'core</span>' + s(32, '<path class="half rejected" d="M2 9H30"/><path class="cross" d="M12 5l8 8m0 -8l-8 8"/>') + 'Rejected</span>' + '<span>' + KINDS.map(k => LETTER[k] + ' ' + NAMES[k]).join(', ') + '</span>';
+    + s(32, l('half')) + 'Basic</span>' + s(32, '<path class="half" d="M2 9H30"/><path class="half branch" d="M2 9H16"/>') + 'Branch at one end</span>' + s(32, l('half branch')) + 'joined</span>' + s(32, l('half branch') + '<path class="core" d="M2 9H30"/>') + 'core</span>' + s(32, '<path class="half rejected" d="M2 9H30"/><path class="cross" d="M12 5l8 8m0 -8l-8 8"/>') + 'Rejected</span>' + s(30, '<g class="msg back"><path d="M4 3H20L26 9L20 15H4Z"/></g>') + 'put back, waits</span><span>' + KINDS.map(k => LETTER[k] + ' ' + NAMES[k]).join(', ') + '</span>';
 };
+
+// what a message at the pointer is, and why it waits
+function tip(e) {
+  const g = e.target.closest('.msg, .node'), t = $('hint'), b = $('stage').getBoundingClientRect();
+  if (!g || e.buttons && e.pointerType === 'mouse') return;
+  const [v, p, k] = (g.dataset.q || '0').split(' ').map(Number), m = v && (k < 0 ? undoNow().taken : queue(v, p)[k]);
+  t.textContent = !v ? cap(stateOf(+g.dataset.v)) : k < 0 ? words(m) + ' from node ' + m.from + ' to node ' + m.to + ', sent by event ' + m.born + ', consumed by event ' + at + '.' : storyOf(m);
+  t.hidden = false;
+  t.style.left = Math.max(0, Math.min(b.width - t.offsetWidth, e.clientX - b.left + 14)) + 'px';
+  t.style.top = Math.max(0, Math.min(b.height - t.offsetHeight, e.clientY - b.top + 14)) + 'px';
+}
 
 // ---- moving about
 let timer = 0, tab = 'net', follow = false;
 function show() {
+  clearTimeout(scale.later);
+  $('hint').hidden = true;
   const c = census();
   if (tab === 'net') drawNet(c); else drawTime();
   panel(c);
   cursor();
   clearTimeout(show.later);
-  show.later = setTimeout(() => { try { history.replaceState(null, '', '#' + at); } catch { } }, 300);
+  show.later = setTimeout(() => { try { history.replaceState(null, '', address()); } catch { } }, 300);
 }
-function move(k) { goto(k); show(); }
+// the address holds the event, the pinned node, the tab and, but for the whole network, zoom and middle
+function address() {
+  const whole = zoom.k === 1 && !zoom.x && !zoom.y, part = (x, size) => ((size / 2 - x) / zoom.k / size).toFixed(4);
+  return '#' + at + (pin ? ',n' + pin : '') + (tab === 'time' ? ',time' : '') + (whole || !base ? '' : ',k' + zoom.k.toFixed(3) + ',x' + part(zoom.x, base.W) + ',y' + part(zoom.y, base.H));
+}
+function goAddress() {
+  const found = /^#(\d+)((?:,[-a-z0-9.]+)*)$/.exec(location.hash);
+  if (!found || location.hash === address()) return;
+  const parts = found[2].split(','), number = letter => { const x = parts.find(p => new RegExp('^' + letter + '-?[0-9.]+$').test(p)); return x === undefined ? undefined : +x.slice(1); };
+  goto(+found[1]);
+  asking = false;
+  pin = Math.min(G.nodes, number('n') || 0);
+  const k = Math.min(100, Math.max(.05, number('k') ?? 1));
+  zoom = { k, x: base.W / 2 - (number('x') ?? .5) * k * base.W, y: base.H / 2 - (number('y') ?? .5) * k * base.H };
+  setTab(parts.includes('time') ? 'time' : 'net');
+}
+function move(k) { asking = false; goto(k); show(); }
 function one(d) {
   let k = at + d;
   if ($('skip').checked) while (k > 0 && k < G.to && idle(steps[k - 1])) k += d;
+  if ($('ask').checked && d > 0 && !asking && k <= G.to) {
+    goto(k - 1);
+    asking = true;
+    guess = { step: k };
+    return show();
+  }
   move(k);
 }
-function halt() { clearInterval(timer); timer = 0; $('play').textContent = 'Play'; $('say').setAttribute('aria-live', 'polite'); }
+function halt() { clearInterval(timer); timer = 0; $('play').textContent = 'Play'; $('live').setAttribute('aria-live', 'polite'); $('pace').textContent = ''; }
+// the whole run in a minute: the clock says which event is due; what is stepped over is said
+const minute = (start, from) => () => {
+  const due = Math.min(G.to, from + Math.floor((performance.now() - start) / 60000 * G.to)), over = due - at;
+  if (at >= G.to) return halt();
+  if (!over) return;
+  $('pace').textContent = over > 1 ? '1 event in ' + over + ' is shown' : '';
+  move(due);
+};
 function play() {
   if (timer) return halt();
   if (at >= G.to) goto(0);
   $('play').textContent = 'Stop';
-  $('say').setAttribute('aria-live', 'off');
-  timer = setInterval(() => { if (at >= G.to) halt(); else one(1); }, +$('speed').value);
+  $('live').setAttribute('aria-live', 'off');
+  timer = $('speed').value === 'minute' ? setInterval(minute(performance.now(), at), 40) : setInterval(() => { if (at >= G.to) halt(); else one(1); }, +$('speed').value);
 }
 const GOALS = [['node', 'events of the node'], ['frag', 'fragments merging'], ['level', 'a level rising'], ['waits', 'messages that wait'], ['wake', 'nodes waking'], ['halted', 'a halt'], ...KINDS.map(k => [k, NAMES[k]])];
 function fits(s, goal) {
@@ -660,7 +1006,35 @@ function jump(d) {
   const goal = $('goal').value;
   for (let k = at + d; k >= 1 && k <= G.to; k += d) if (fits(steps[k - 1], goal)) return move(k);
 }
-function setPin(v) { pin = v >= 1 && v <= G.nodes ? v : 0; show(); }
+function setPin(v) {
+  pin = v >= 1 && v <= G.nodes ? v : 0;
+  if (document.activeElement.matches('.node') && pin) nodes[pin].g.focus();
+  show();
+}
+// a node that was searched for is brought into sight
+function search(v) {
+  setPin(v);
+  if (!pin || tab !== 'net') return;
+  const x = pos[pin][0] + zoom.x, y = pos[pin][1] + zoom.y;
+  if (x < 30 || y < 30 || x > base.W - 30 || y > base.H - 60) { zoom.x += base.W / 2 - x; zoom.y += base.H / 2 - y; show(); }
+}
+// what is shown, as a picture by itself
+function picture() {
+  const svg = $(tab === 'net' ? 'net' : 'lanes').cloneNode(true), box = tab === 'net' ? [base.W, base.H] : [+$('lanes').getAttribute('width'), +$('lanes').getAttribute('height')], style = el('style', {});
+  style.textContent = [...document.querySelectorAll('style')].map(x => x.textContent).join('\n');
+  svg.prepend(style, el('rect', { width: box[0], height: box[1], style: 'fill:var(--paper)' }));
+  svg.setAttribute('width', box[0]); svg.setAttribute('height', box[1]);
+  svg.setAttribute('font-family', 'system-ui, sans-serif');
+  svg.classList.toggle('dark', document.documentElement.classList.contains('dark'));
+  return new XMLSerializer().serializeToString(svg);
+}
+function save() {
+  const a = document.createElement('a');
+  a.href = URL.createObjectURL(new Blob([picture()], { type: 'image/svg+xml' }));
+  a.download = 'ghs-' + at + '.svg';
+  a.click();
+  setTimeout(() => URL.revokeObjectURL(a.href), 1000);
+}
 function setTab(x) {
   tab = x;
   $('only').hidden = x === 'net';
@@ -673,21 +1047,52 @@ function setTab(x) {
   if (x === 'net') $('legend').innerHTML = LEGEND();
   show();
 }
-function relay() { $('legend').innerHTML = LEGEND(); layout(); build(); strip(); show(); }
+// sizes are read before anything is written, so that the browser measures once
+function relay() {
+  if (tab === 'net') $('legend').innerHTML = LEGEND();
+  layout();
+  strip();
+  if (!nodes[1].g) build();
+  shape();
+  show();
+}
 const setCircle = () => { circle = !circle; $('layout').textContent = circle ? 'forces' : 'circle'; relay(); };
 const setTheme = dark => { document.documentElement.classList.toggle('dark', dark); $('theme').textContent = dark ? 'light' : 'dark'; };
-function scale(f, x, y) { zoom.x = x - (x - zoom.x) * f; zoom.y = y - (y - zoom.y) * f; zoom.k *= f; show(); }
+function scale(f, x, y) { zoom.x = x - (x - zoom.x) * f; zoom.y = y - (y - zoom.y) * f; zoom.k *= f; moveView(); clearTimeout(scale.later); scale.later = setTimeout(show, G.nodes > MANY ? 90 : 0); }
 function mid(f) { const b = $('stage').getBoundingClientRect(); scale(f, b.width / 2, b.height / 2); }
 const ACTS = {
   ArrowRight: () => one(1), ArrowLeft: () => one(-1), ArrowDown: () => jump(1), ArrowUp: () => jump(-1), PageDown: () => move(at + 10), PageUp: () => move(at - 10),
   Home: () => move(0), End: () => move(G.to), ' ': play, n: () => setPin(pin ? 0 : stepNow() ? stepNow().node : 1), Escape: () => setPin(0),
   '[': () => setPin(Math.max(1, (pin || (stepNow() ? stepNow().node : 1)) - 1)), ']': () => setPin(Math.min(G.nodes, (pin || (stepNow() ? stepNow().node : 0)) + 1)),
-  x: () => { only = !only; setTab('time'); }, f: () => { follow = !follow; $('follow').setAttribute('aria-pressed', follow); zoom = { k: follow ? 2.2 : 1, x: 0, y: 0 }; show(); },
+  x: () => { only = !only; setTab('time'); }, f: () => { follow = !follow; $('follow').setAttribute('aria-pressed', follow); zoom = { k: follow ? Math.max(1.6, 16 / base.r) : 1, x: 0, y: 0 }; show(); },
   w: () => { $('skip').checked = !$('skip').checked; show(); }, t: () => setTab(tab === 'net' ? 'time' : 'net'), c: setCircle,
   d: () => setTheme(!document.documentElement.classList.contains('dark')), '+': () => mid(1.25), '-': () => mid(.8), 0: () => { if (follow) ACTS.f(); zoom = { k: 1, x: 0, y: 0 }; show(); },
-  k: () => { weights = !(weights ?? big); show(); },
+  e: () => $('goto').select(), '/': () => $('pick').select(), q: () => { $('ask').checked = !$('ask').checked; asking = false; show(); }, p: save,
+  k: () => { weights = !(weights ?? roomy); placeWeights(); },
   g: () => { $('legend').hidden = !$('legend').hidden; relay(); }, '?': () => $('keys').open ? $('keys').close() : $('keys').showModal(),
 };
+// one pointer drags, two pinch
+function fingers() {
+  const down = new Map();
+  $('net').addEventListener('pointerdown', e => { down.set(e.pointerId, [e.clientX, e.clientY]); fingers.from = [e.clientX, e.clientY]; fingers.moved = false; });
+  addEventListener('pointermove', e => {
+    const old = down.get(e.pointerId), now = [e.clientX, e.clientY];
+    if (!old) return;
+    if (Math.hypot(now[0] - fingers.from[0], now[1] - fingers.from[1]) > 4 || down.size > 1) fingers.moved = true;
+    if (!fingers.moved) return;
+    if (down.size === 1) { zoom.x += now[0] - old[0]; zoom.y += now[1] - old[1]; }
+    else {
+      const other = [...down].find(([id]) => id !== e.pointerId)[1], b = $('stage').getBoundingClientRect(), far = p => Math.hypot(p[0] - other[0], p[1] - other[1]) || 1;
+      zoom.x += (now[0] - old[0]) / 2; zoom.y += (now[1] - old[1]) / 2;
+      scale(far(now) / far(old), (now[0] + other[0]) / 2 - b.left, (now[1] + other[1]) / 2 - b.top);
+    }
+    down.set(e.pointerId, now);
+    moveView();
+    clearTimeout(scale.later);
+    scale.later = setTimeout(show, 90);
+  });
+  for (const end of ['pointerup', 'pointercancel']) addEventListener(end, e => down.delete(e.pointerId));
+}
 function start() {
   read($('steps').textContent);
   at = 0;
@@ -701,23 +1106,37 @@ function start() {
   $('keys').innerHTML = '<table>' + KEYS.map(([k, t]) => '<tr>' + td(k) + td(t) + '</tr>').join('') + '</table><form method="dialog"><button>close</button></form>';
   setTheme(matchMedia('(prefers-color-scheme: dark)').matches);
   only = G.nodes > 12;
-  const h = /^#(\d+)$/.exec(location.hash);
-  if (h) goto(+h[1]);
+  paintLooks();
   relay();
+  goAddress();
   $('first').onclick = ACTS.Home; $('last').onclick = ACTS.End; $('back').onclick = ACTS.ArrowLeft; $('next').onclick = ACTS.ArrowRight; $('play').onclick = play;
   $('jump').onclick = ACTS.ArrowDown; $('jumpback').onclick = ACTS.ArrowUp; $('layout').onclick = setCircle; $('theme').onclick = ACTS.d; $('help').onclick = ACTS['?']; $('only').onclick = ACTS.x; $('follow').onclick = ACTS.f;
   $('tabnet').onclick = () => setTab('net'); $('tabtime').onclick = () => setTab('time');
   $('seek').oninput = () => move(+$('seek').value);
   $('speed').onchange = () => { if (timer) { halt(); play(); } };
   $('skip').onchange = show;
-  $('pick').onchange = () => setPin(+$('pick').value);
-  $('nodes').onclick = e => { const g = e.target.closest('.node'); if (g) setPin(pin === +g.dataset.v ? 0 : +g.dataset.v); };
+  $('goto').max = G.to;
+  // Enter takes the number, changed or not, and gives the keys back to the page
+  for (const [box, go] of [[$('pick'), search], [$('goto'), move]]) {
+    box.onchange = () => go(+box.value);
+    box.onkeydown = e => { if (e.key === 'Enter') go(+box.value); if (e.key === 'Enter' || e.key === 'Escape') box.blur(); };
+  }
+  $('ask').onchange = () => { asking = false; show(); };
+  $('say').onclick = choose;
+  $('save').onclick = save;
+  $('nodes').onclick = e => { const g = e.target.closest('.node'); if (g && !fingers.moved) setPin(pin === +g.dataset.v ? 0 : +g.dataset.v); };
+  $('msgs').onpointerover = $('msgs').onpointerdown = $('nodes').onpointerover = tip;
+  $('msgs').onpointerout = $('nodes').onpointerout = e => { if (e.pointerType === 'mouse') $('hint').hidden = true; };
   $('lanes').onclick = e => { if (e.target.dataset.k) move(+e.target.dataset.k); };
   const seekTo = e => { const b = $('strip').getBoundingClientRect(); move(Math.round((e.clientX - b.left - 8) / (b.width - 16) * (curve.length - 1))); };
   $('strip').onpointerdown = e => { $('strip').setPointerCapture(e.pointerId); seekTo(e); };
   $('strip').onpointermove = e => { if (e.buttons) seekTo(e); };
   $('net').onwheel = e => { e.preventDefault(); const b = $('stage').getBoundingClientRect(); scale(Math.exp(-e.deltaY / 400), e.clientX - b.left, e.clientY - b.top); };
-  $('net').onpointermove = e => { if (e.buttons && !e.target.closest('.node')) { zoom.x += e.movementX; zoom.y += e.movementY; $('view').setAttribute('transform', 'translate(' + zoom.x + ' ' + zoom.y + ') scale(' + zoom.k + ')'); } };
+  fingers();
+  const isDark = () => document.documentElement.classList.contains('dark');
+  let wasDark = false;
+  addEventListener('beforeprint', () => { wasDark = isDark(); setTheme(false); });
+  addEventListener('afterprint', () => setTheme(wasDark));
   addEventListener('resize', relay);
   // after a click the keys are the page's again
   let mouse = false;
@@ -727,11 +1146,12 @@ function start() {
   addEventListener('click', e => { if (!e.target.matches('select')) free(e); });
   addEventListener('change', free);
   $('keys').onclose = () => document.activeElement.blur();
-  addEventListener('hashchange', () => { const m = /^#(\d+)$/.exec(location.hash); if (m && +m[1] !== at) move(+m[1]); });
+  addEventListener('hashchange', goAddress);
   addEventListener('keydown', e => {
     if (e.ctrlKey || e.altKey || e.metaKey || e.target.matches('select, input[type=number]')) return;
     if (e.key === ' ' && e.target.matches('button, input[type=checkbox]')) return;
     if ($('keys').open && e.key !== '?') return;
+    if ((e.key === ' ' || e.key === 'Enter') && e.target.matches('.node')) { e.preventDefault(); const v = +e.target.dataset.v; return setPin(pin === v ? 0 : v); }
     const f = ACTS[e.key];
     if (f) { e.preventDefault(); f(); }
   });
