@@ -1,12 +1,11 @@
 //! Command lines and whole tasks, from bytes to bytes.
 ghost use Rattle.ghs_words.specs.Job.{IsWithinLimits};
 
-use crate::graphs::FIVE;
-use crate::refusing::{Turn, assert_some, order, refuse_each, turn_of};
-use crate::worlds::TEXT;
 use ghs_cli::fault::ServeFault;
 use ghs_cli::serve::serve;
 use ghs_gr::device::Device;
+use ghs_refusing::orders::{Turn, order, refuse, turn_of};
+use ghs_refusing::scenes::{FIVE, TEXT};
 use ghs_words::job::{Job, JobFault, read_job};
 use std::alloc::{AllocError, Global};
 use std::process::Abort;
@@ -93,12 +92,8 @@ fn command_lines(host: HostRuntime) -> Result<(), Fail> {
         "forest",
         "--help",
     ] {
-        let count = refuse_each(rt, alloc, |k| read(rt, alloc, line, k));
-        assert_some(rt, alloc, count);
-        println!(host;
-            "refused read_job({line}) {} {}",
-            count.refused, count.spared
-        )?;
+        let name = format!(in alloc; "read_job({line})")?;
+        refuse(rt, alloc, &name, |k| read(rt, alloc, line, k))?;
     }
     Ok(())
 }
@@ -136,9 +131,8 @@ fn refuse_tasks<R: Threads + Wait + Eprint + Sync + Abort + Print>(
     tasks: &[(&str, &str)],
 ) -> Result<(), Fail> {
     for (line, front) in tasks.iter() {
-        let count = refuse_each(rt, alloc, |k| refuse_task(rt, alloc, line, front, k));
-        assert_some(rt, alloc, count);
-        println!(rt; "refused serve({line}) {} {}", count.refused, count.spared)?;
+        let name = format!(in alloc; "serve({line})")?;
+        refuse(rt, alloc, &name, |k| refuse_task(rt, alloc, line, front, k))?;
     }
     Ok(())
 }

@@ -1,5 +1,4 @@
 //! Graph texts, graphs and what is laid out for them.
-use crate::refusing::{Turn, assert_some, order, refuse_each, turn_of};
 use ghs_flags::flags::Flags;
 use ghs_gr::device::Device;
 use ghs_gr::fault::GrFault;
@@ -13,14 +12,13 @@ use ghs_graph::spanning::span_raw;
 use ghs_graph::tree::{tree_of, tree_slow};
 use ghs_index::index::Index;
 use ghs_links::links::Links;
+use ghs_refusing::orders::{Turn, order, refuse, turn_of};
+use ghs_refusing::scenes::{FIVE, five, is_five};
 use std::alloc::Global;
 use std::process::Abort;
 use std::test::Fail;
 
-/// Five nodes in a row.
-pub const FIVE: &str = "p sp 5 4\na 1 2 1\na 2 3 2\na 4 5 3\na 3 4 4";
-
-/// The keys of its links: weight, smaller end, larger end.
+/// The keys of the five nodes' links: weight, smaller end, larger end.
 const KEYS: [(u32, u32, u32); 4] = [(1, 1, 2), (2, 2, 3), (3, 4, 5), (4, 3, 4)];
 
 /// The graph of the five nodes as its text gives it.
@@ -30,18 +28,6 @@ fn raw_five(rt: &impl Abort, alloc: Global) -> RawGraph {
 
 fn is_raw_five(raw: &RawGraph) -> bool {
     raw.nodes() == 5 && raw.keys() == KEYS.as_slice()
-}
-
-/// The graph of the five nodes.
-pub fn five(rt: &impl Abort, alloc: Global) -> Graph {
-    Graph::build(alloc, raw_five(rt, alloc))
-        .ok()
-        .expect(rt, "ports")
-}
-
-/// Whether this is the graph of the five nodes.
-pub fn is_five(rt: &impl Abort, alloc: Global, graph: &Graph) -> bool {
-    graph.same(&five(rt, alloc))
 }
 
 /// Bytes that were taken from the reader are gone; read again, the text is whole.
@@ -76,7 +62,7 @@ fn build(rt: &impl Abort, alloc: Global, k: usize) -> Turn {
     let answer = Graph::build(alloc, raw);
     let turn = turn_of(alloc, k, &answer);
     match answer {
-        Ok(graph) => assert!(rt; is_five(rt, alloc, &graph)),
+        Ok(graph) => assert!(rt; is_five(alloc, &graph)),
         Err((raw, GraphFault::Memory)) => {
             assert!(rt; is_raw_five(&raw));
             assert!(rt; Graph::build(alloc, raw).is_ok());
@@ -102,7 +88,7 @@ enum Made {
 
 fn make(rt: &impl Abort, alloc: Global, made: Made, k: usize) -> Turn {
     let raw = raw_five(rt, alloc);
-    let graph = five(rt, alloc);
+    let graph = five(alloc).expect(rt, "a graph");
     let classes = Classes::fresh(alloc, 6).expect(rt, "memory");
     order(alloc, k);
     let turn = match made {
@@ -117,23 +103,16 @@ fn make(rt: &impl Abort, alloc: Global, made: Made, k: usize) -> Turn {
         Made::Links => turn_of(alloc, k, &Links::new(alloc, &graph)),
         Made::Index => turn_of(alloc, k, &Index::none(alloc, &graph)),
     };
-    assert!(rt; is_raw_five(&raw) && is_five(rt, alloc, &graph));
+    assert!(rt; is_raw_five(&raw) && is_five(alloc, &graph));
     turn
 }
 
 #[test]
 fn graphs(host: HostRuntime) -> Result<(), Fail> {
     let (rt, alloc) = (&host, host.alloc());
-    let count = refuse_each(rt, alloc, |k| read_bytes(rt, alloc, k));
-    assert_some(rt, alloc, count);
-    println!(host; "refused read_text {} {}", count.refused, count.spared)?;
-    let count = refuse_each(rt, alloc, |k| read_graph(rt, alloc, k));
-    assert_some(rt, alloc, count);
-    println!(host; "refused read_gr {} {}", count.refused, count.spared)?;
-    let count = refuse_each(rt, alloc, |k| build(rt, alloc, k));
-    assert_some(rt, alloc, count);
-    println!(host; "refused Graph::build {} {}", count.refused, count.spared)?;
-    Ok(())
+    refuse(rt, alloc, "read_text", |k| read_bytes(rt, alloc, k))?;
+    refuse(rt, alloc, "read_gr", |k| read_graph(rt, alloc, k))?;
+    refuse(rt, alloc, "Graph::build", |k| build(rt, alloc, k))
 }
 
 #[test]
@@ -151,9 +130,7 @@ fn what_is_made_of_graphs(host: HostRuntime) -> Result<(), Fail> {
         ("Links::new", Made::Links),
         ("Index::none", Made::Index),
     ] {
-        let count = refuse_each(rt, alloc, |k| make(rt, alloc, made, k));
-        assert_some(rt, alloc, count);
-        println!(host; "refused {name} {} {}", count.refused, count.spared)?;
+        refuse(rt, alloc, name, |k| make(rt, alloc, made, k))?;
     }
     Ok(())
 }

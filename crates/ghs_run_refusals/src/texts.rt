@@ -2,9 +2,6 @@
 ghost use Rattle.ghs_sched.specs.declared.trace.TheConstants.{EVENT_LIMIT};
 ghost use Rattle.std.specs.Prelude.{◌≤◌, length};
 
-use crate::graphs::five;
-use crate::refusing::{Turn, assert_some, order, refuse_each, turn_of};
-use crate::worlds::events_of_run;
 use ghs_core::event::Event;
 use ghs_gr::device::Device;
 use ghs_graph::key::Key;
@@ -13,6 +10,8 @@ use ghs_node::level::Level;
 use ghs_node::message::Message;
 use ghs_node::sends::Sends;
 use ghs_page::page::page;
+use ghs_refusing::orders::{Turn, order, refuse, turn_of};
+use ghs_refusing::scenes::{events_of_run, five};
 use ghs_report::tree_text::tree_text;
 use ghs_sched::fault::TraceFault;
 use ghs_sched::trace::{EVENT_LIMIT, read_trace, write_trace};
@@ -90,7 +89,7 @@ fn write(
     k: usize,
 ) -> (Turn, Vec<u8>) {
     assert!(rt; events.len() as u64 <= EVENT_LIMIT);
-    let graph = five(rt, alloc);
+    let graph = five(alloc).expect(rt, "a graph");
     let mut held = Vec::with_capacity(alloc, 1 << 16).expect(rt, "memory");
     let mut out = Device::of(&mut held);
     order(alloc, k);
@@ -138,39 +137,32 @@ fn push(rt: &impl Abort, alloc: Global, k: usize) -> Turn {
 #[test]
 fn texts(host: HostRuntime) -> Result<(), Fail> {
     let (rt, alloc) = (&host, host.alloc());
-    let events = events_of_run(rt, alloc);
+    let events = events_of_run(alloc).expect(rt, "a run");
     for (name, made) in [
         ("tree_text", Made::Tree),
         ("write_trace", Made::Trace),
         ("page", Made::Page),
     ] {
-        let count = refuse_each(rt, alloc, |k| make(rt, alloc, &events, made, k));
-        assert_some(rt, alloc, count);
-        println!(host; "refused {name} {} {}", count.refused, count.spared)?;
+        refuse(rt, alloc, name, |k| make(rt, alloc, &events, made, k))?;
     }
-    let count = refuse_each(rt, alloc, |k| read(rt, alloc, &events, k));
-    assert_some(rt, alloc, count);
-    println!(host; "refused read_trace {} {}", count.refused, count.spared)?;
-    Ok(())
+    refuse(rt, alloc, "read_trace", |k| read(rt, alloc, &events, k))
 }
 
 #[test]
 fn parts_of_texts(host: HostRuntime) -> Result<(), Fail> {
     let (rt, alloc) = (&host, host.alloc());
-    let events = events_of_run(rt, alloc);
+    let events = events_of_run(alloc).expect(rt, "a run");
     for (name, form) in [
         ("write_steps", Form::Text),
         ("write_steps(JSON)", Form::Json),
     ] {
-        let count = refuse_each(rt, alloc, |k| write_lines(rt, alloc, &events, form, k));
-        assert_some(rt, alloc, count);
-        println!(host; "refused {name} {} {}", count.refused, count.spared)?;
+        refuse(
+            rt,
+            alloc,
+            name,
+            |k| write_lines(rt, alloc, &events, form, k),
+        )?;
     }
-    let count = refuse_each(rt, alloc, |k| put_digits(rt, alloc, k));
-    assert_some(rt, alloc, count);
-    println!(host; "refused put_number {} {}", count.refused, count.spared)?;
-    let count = refuse_each(rt, alloc, |k| push(rt, alloc, k));
-    assert_some(rt, alloc, count);
-    println!(host; "refused Sends::push {} {}", count.refused, count.spared)?;
-    Ok(())
+    refuse(rt, alloc, "put_number", |k| put_digits(rt, alloc, k))?;
+    refuse(rt, alloc, "Sends::push", |k| push(rt, alloc, k))
 }

@@ -3,12 +3,11 @@ ghost use Rattle.ghs_sweep.specs.Figures.{HasSmallWeight};
 ghost use Rattle.ghs_sweep.specs.Sweep.{AreRuns, HasTurns};
 ghost use Rattle.std.specs.Prelude.{◌≡◌, ◌≤◌, ◌^◌, All, IfOk, length};
 
-use crate::graphs::{five, is_five};
-use crate::refusing::{Turn, assert_some, order, refuse_each, turn_of};
-use crate::worlds::{assert_stands, events_of_run, world_after};
 use ghs_core::event::Event;
 use ghs_graph::graph::Graph;
 use ghs_patient::picking::Picking;
+use ghs_refusing::orders::{Turn, order, refuse, turn_of};
+use ghs_refusing::scenes::{events_of_run, five, is_five, stands, world_after};
 use ghs_sched::trace::EVENT_LIMIT;
 use ghs_sweep::figures::{Figures, figures_of};
 use ghs_sweep::line::{put_line, runs_text};
@@ -28,15 +27,24 @@ const SETUP: Setup = Setup {
     turns: EVENT_LIMIT,
 };
 
-/// The page of a run, which takes the graph.
-fn show_page(rt: &impl Abort, alloc: Global, events: &[Event], k: usize) -> Turn {
+/// The page of a run, which takes the graph, with the k-th allocation refused.
+fn page_of(
+    rt: &impl Abort,
+    alloc: Global,
+    events: &[Event],
+    k: usize,
+) -> (Turn, Result<Vec<u8>, StoredFault>) {
     assert!(rt; events.len() as u64 <= EVENT_LIMIT);
-    let (graph, same) = (five(rt, alloc), five(rt, alloc));
-    let whole = stored_page(alloc, same, WakeSet::All, events, 1, 99).ok();
-    let whole = whole.expect(rt, "a page");
+    let graph = five(alloc).expect(rt, "a graph");
     order(alloc, k);
     let answer = stored_page(alloc, graph, WakeSet::All, events, 1, 99);
-    let turn = turn_of(alloc, k, &answer);
+    (turn_of(alloc, k, &answer), answer)
+}
+
+/// The page is the one that is made where nothing is refused.
+fn show_page(rt: &impl Abort, alloc: Global, events: &[Event], k: usize) -> Turn {
+    let whole = page_of(rt, alloc, events, 0).1.ok().expect(rt, "a page");
+    let (turn, answer) = page_of(rt, alloc, events, k);
     match answer {
         Ok(text) => assert!(rt; text == whole),
         Err(fault) => assert!(rt; fault == StoredFault::Memory),
@@ -46,7 +54,7 @@ fn show_page(rt: &impl Abort, alloc: Global, events: &[Event], k: usize) -> Turn
 
 /// The figures of a world's net; the world stands.
 fn take_figures(rt: &impl Abort, alloc: Global, events: &[Event], k: usize) -> Turn {
-    let world = world_after(rt, alloc, events);
+    let world = world_after(alloc, events).expect(rt, "a run");
     let whole = figures_of(alloc, world.net()).expect(rt, "figures");
     order(alloc, k);
     let answer = figures_of(alloc, world.net());
@@ -54,7 +62,8 @@ fn take_figures(rt: &impl Abort, alloc: Global, events: &[Event], k: usize) -> T
     if let Ok(figures) = answer {
         assert!(rt; figures == whole);
     }
-    assert_stands(rt, alloc, &world, &world_after(rt, alloc, events));
+    let twin = world_after(alloc, events).expect(rt, "a run");
+    assert!(rt; stands(alloc, &world, &twin));
     turn
 }
 
@@ -64,14 +73,14 @@ fn figures_by(rt: &impl Abort, alloc: Global, graph: &Graph, seed: u64) -> Figur
 }
 
 fn take_seed_figures(rt: &impl Abort, alloc: Global, k: usize) -> Turn {
-    let graph = five(rt, alloc);
+    let graph = five(alloc).expect(rt, "a graph");
     order(alloc, k);
     let answer = figures_of_seed(alloc, &graph, SETUP, 7);
     let turn = turn_of(alloc, k, &answer);
     if let Ok(figures) = answer {
         assert!(rt; figures == figures_by(rt, alloc, &graph, 7));
     }
-    assert!(rt; is_five(rt, alloc, &graph));
+    assert!(rt; is_five(alloc, &graph));
     turn
 }
 
@@ -97,7 +106,7 @@ fn first_runs<R: Threads + Sync>(
 /// Three runs behind the first one; refused, that one stands, and has its text.
 fn sweep_on<R: Threads + Sync + Abort>(rt: &R, alloc: Global, threads: u32, k: usize) -> Turn {
     assert!(rt; threads >= 1);
-    let graph = five(rt, alloc);
+    let graph = five(alloc).expect(rt, "a graph");
     let four = [
         figures_by(rt, alloc, &graph, 1),
         figures_by(rt, alloc, &graph, 2),
@@ -111,7 +120,7 @@ fn sweep_on<R: Threads + Sync + Abort>(rt: &R, alloc: Global, threads: u32, k: u
     let stand = if turn == Turn::Refused { 1 } else { 4 };
     assert!(rt; runs.len() == stand && runs.as_slice() == &four[..stand]);
     assert!(rt; runs_text(alloc, SETUP, 1, &runs).is_ok());
-    assert!(rt; is_five(rt, alloc, &graph));
+    assert!(rt; is_five(alloc, &graph));
     turn
 }
 
@@ -135,7 +144,7 @@ fn sheet_of(alloc: Global, sheet: Sheet, runs: &[Figures]) -> Result<Vec<u8>, Al
 
 /// What is printed of two runs is what is printed where nothing is refused.
 fn print_sheet<R: Threads + Sync + Abort>(rt: &R, alloc: Global, sheet: Sheet, k: usize) -> Turn {
-    let graph = five(rt, alloc);
+    let graph = five(alloc).expect(rt, "a graph");
     let runs = first_runs(rt, alloc, &graph, SETUP, 2).expect(rt, "runs");
     let whole = sheet_of(alloc, sheet, &runs).expect(rt, "a text");
     order(alloc, k);
@@ -149,7 +158,8 @@ fn print_sheet<R: Threads + Sync + Abort>(rt: &R, alloc: Global, sheet: Sheet, k
 
 /// A run's line behind what there is.
 fn put_figures(rt: &impl Abort, alloc: Global, k: usize) -> Turn {
-    let figures = figures_by(rt, alloc, &five(rt, alloc), 7);
+    let graph = five(alloc).expect(rt, "a graph");
+    let figures = figures_by(rt, alloc, &graph, 7);
     let mut text = Vec::from_slice(alloc, b"head\n").expect(rt, "memory");
     order(alloc, k);
     let answer = put_line(&mut text, 7, SETUP, &figures);
@@ -163,43 +173,39 @@ fn put_figures(rt: &impl Abort, alloc: Global, k: usize) -> Turn {
 #[test]
 fn pages_and_figures(host: HostRuntime) -> Result<(), Fail> {
     let (rt, alloc) = (&host, host.alloc());
-    let events = events_of_run(rt, alloc);
-    let count = refuse_each(rt, alloc, |k| show_page(rt, alloc, &events, k));
-    assert_some(rt, alloc, count);
-    println!(host; "refused stored_page {} {}", count.refused, count.spared)?;
-    let count = refuse_each(rt, alloc, |k| take_figures(rt, alloc, &events, k));
-    assert_some(rt, alloc, count);
-    println!(host; "refused figures_of {} {}", count.refused, count.spared)?;
-    let count = refuse_each(rt, alloc, |k| take_seed_figures(rt, alloc, k));
-    assert_some(rt, alloc, count);
-    println!(host;
-        "refused figures_of_seed {} {}",
-        count.refused, count.spared
+    let events = events_of_run(alloc).expect(rt, "a run");
+    refuse(
+        rt,
+        alloc,
+        "stored_page",
+        |k| show_page(rt, alloc, &events, k),
     )?;
-    let count = refuse_each(rt, alloc, |k| put_figures(rt, alloc, k));
-    assert_some(rt, alloc, count);
-    println!(host; "refused put_line {} {}", count.refused, count.spared)?;
-    Ok(())
+    refuse(
+        rt,
+        alloc,
+        "figures_of",
+        |k| take_figures(rt, alloc, &events, k),
+    )?;
+    refuse(
+        rt,
+        alloc,
+        "figures_of_seed",
+        |k| take_seed_figures(rt, alloc, k),
+    )?;
+    refuse(rt, alloc, "put_line", |k| put_figures(rt, alloc, k))
 }
 
 #[test]
 fn sweeps(host: HostRuntime) -> Result<(), Fail> {
     let (rt, alloc) = (&host, host.alloc());
-    for threads in [1u32, 2] {
-        let count = refuse_each(rt, alloc, |k| sweep_on(rt, alloc, threads, k));
-        assert_some(rt, alloc, count);
-        println!(host;
-            "refused run_on({threads}) {} {}",
-            count.refused, count.spared
-        )?;
+    for (name, threads) in [("run_on(1)", 1u32), ("run_on(2)", 2)] {
+        refuse(rt, alloc, name, |k| sweep_on(rt, alloc, threads, k))?;
     }
     for (name, sheet) in [
         ("runs_text", Sheet::Lines),
         ("summary_text", Sheet::Summary),
     ] {
-        let count = refuse_each(rt, alloc, |k| print_sheet(rt, alloc, sheet, k));
-        assert_some(rt, alloc, count);
-        println!(host; "refused {name} {} {}", count.refused, count.spared)?;
+        refuse(rt, alloc, name, |k| print_sheet(rt, alloc, sheet, k))?;
     }
     Ok(())
 }

@@ -1,13 +1,12 @@
 //! Nodes and nets of one thread.
-use crate::graphs::{five, is_five};
-use crate::refusing::{Turn, assert_some, order, refuse_each, turn_of};
-use crate::worlds::events_of_run;
 use ghs_core::event::Event;
 use ghs_core::net::Net;
 use ghs_node::delta::Delta;
 use ghs_node::fault::NodeFault;
 use ghs_node::node::Node;
 use ghs_node::react::react;
+use ghs_refusing::orders::{NONE, Turn, order, refuse, refuse_each, tell, turn_of};
+use ghs_refusing::scenes::{are_same, events_of_run, five, is_five};
 use ghs_report::net_text::net_text;
 use std::alloc::Global;
 use std::process::Abort;
@@ -15,14 +14,14 @@ use std::test::Fail;
 
 /// The graph comes back, and opens then.
 fn open(rt: &impl Abort, alloc: Global, k: usize) -> Turn {
-    let graph = five(rt, alloc);
+    let graph = five(alloc).expect(rt, "a graph");
     order(alloc, k);
     let answer = Net::open(alloc, graph);
     let turn = turn_of(alloc, k, &answer);
     match answer {
-        Ok(net) => assert!(rt; is_five(rt, alloc, net.graph()) && net.trace().is_empty()),
+        Ok(net) => assert!(rt; is_five(alloc, net.graph()) && net.trace().is_empty()),
         Err((graph, _)) => {
-            assert!(rt; is_five(rt, alloc, &graph));
+            assert!(rt; is_five(alloc, &graph));
             assert!(rt; Net::open(alloc, graph).is_ok());
         }
     }
@@ -79,59 +78,39 @@ fn play(rt: &impl Abort, alloc: Global, net: &mut Net, event: Event, k: usize) -
 
 /// The net after these events.
 fn net_after(rt: &impl Abort, alloc: Global, events: &[Event]) -> Net {
-    let mut net = Net::open(alloc, five(rt, alloc)).ok().expect(rt, "a net");
+    let graph = five(alloc).expect(rt, "a graph");
+    let mut net = Net::open(alloc, graph).ok().expect(rt, "a net");
     for event in events {
         assert!(rt; play(rt, alloc, &mut net, *event, 0) != Turn::Refused);
     }
     net
 }
 
-/// Sees that two nets of the five nodes are the same: graph and trace, each node, and the ledger.
-pub fn assert_same(rt: &impl Abort, net: &Net, other: &Net) {
-    assert!(rt; net.same(other) && net.ledger() == other.ledger());
-    for v in 1..6 {
-        assert!(rt; v >= 1 && v <= net.graph().nodes() && v <= other.graph().nodes());
-        assert!(rt; net.node(v).same(other.node(v)));
-    }
-}
-
 /// One event after these, with the k-th allocation of its reaction refused.
-pub fn react_after(
-    rt: &impl Abort,
-    alloc: Global,
-    events: &[Event],
-    event: Event,
-    k: usize,
-) -> Turn {
+fn react_after(rt: &impl Abort, alloc: Global, events: &[Event], event: Event, k: usize) -> Turn {
     let net = net_after(rt, alloc, events);
     let (turn, _) = reaction(rt, alloc, &net, event, k);
-    assert_same(rt, &net, &net_after(rt, alloc, events));
+    assert!(rt; are_same(&net, &net_after(rt, alloc, events)));
     turn
 }
 
 /// One event after these, with the k-th allocation of the room for it refused; then it is played.
-pub fn play_after(
-    rt: &impl Abort,
-    alloc: Global,
-    events: &[Event],
-    event: Event,
-    k: usize,
-) -> Turn {
+fn play_after(rt: &impl Abort, alloc: Global, events: &[Event], event: Event, k: usize) -> Turn {
     let mut net = net_after(rt, alloc, events);
     let mut twin = net_after(rt, alloc, events);
     let turn = play(rt, alloc, &mut net, event, k);
     if turn == Turn::Refused {
-        assert_same(rt, &net, &twin);
+        assert!(rt; are_same(&net, &twin));
         assert!(rt; play(rt, alloc, &mut net, event, 0) != Turn::Refused);
     }
     assert!(rt; play(rt, alloc, &mut twin, event, 0) != Turn::Refused);
-    assert_same(rt, &net, &twin);
+    assert!(rt; are_same(&net, &twin));
     turn
 }
 
-/// What is told of a net, and leaves it as it was.
+/// What is asked of a net, and leaves it as it was.
 #[derive(Clone, Copy)]
-enum Told {
+enum Asked {
     Branches,
     Fragment,
     Census,
@@ -141,45 +120,73 @@ enum Told {
     Text,
 }
 
-fn tell(rt: &impl Abort, alloc: Global, events: &[Event], told: Told, k: usize) -> Turn {
+fn ask(rt: &impl Abort, alloc: Global, events: &[Event], asked: Asked, k: usize) -> Turn {
     let net = net_after(rt, alloc, events);
-    let graph = five(rt, alloc);
+    let graph = five(alloc).expect(rt, "a graph");
     assert!(rt; net.graph().nodes() >= 3 && graph.nodes() >= 3);
     let ports = graph.ports(3);
     assert!(rt; ports.len() <= 2);
     order(alloc, k);
-    let turn = match told {
-        Told::Branches => turn_of(alloc, k, &net.branches(alloc)),
-        Told::Fragment => turn_of(alloc, k, &net.fragment(alloc, 3)),
-        Told::Census => turn_of(alloc, k, &net.census(alloc)),
-        Told::Lift => turn_of(alloc, k, &net.lift(alloc, 3)),
-        Told::Copy => turn_of(alloc, k, &net.node(3).copy(alloc)),
-        Told::Asleep => turn_of(alloc, k, &Node::asleep(alloc, 3, ports)),
-        Told::Text => turn_of(alloc, k, &net_text(alloc, &net)),
+    let turn = match asked {
+        Asked::Branches => turn_of(alloc, k, &net.branches(alloc)),
+        Asked::Fragment => turn_of(alloc, k, &net.fragment(alloc, 3)),
+        Asked::Census => turn_of(alloc, k, &net.census(alloc)),
+        Asked::Lift => turn_of(alloc, k, &net.lift(alloc, 3)),
+        Asked::Copy => turn_of(alloc, k, &net.node(3).copy(alloc)),
+        Asked::Asleep => turn_of(alloc, k, &Node::asleep(alloc, 3, ports)),
+        Asked::Text => turn_of(alloc, k, &net_text(alloc, &net)),
     };
-    assert_same(rt, &net, &net_after(rt, alloc, events));
+    assert!(rt; are_same(&net, &net_after(rt, alloc, events)));
     turn
 }
 
 #[test]
 fn nets(host: HostRuntime) -> Result<(), Fail> {
     let (rt, alloc) = (&host, host.alloc());
-    let count = refuse_each(rt, alloc, |k| open(rt, alloc, k));
-    assert_some(rt, alloc, count);
-    println!(host; "refused Net::open {} {}", count.refused, count.spared)?;
-    let events = events_of_run(rt, alloc);
-    for (name, told) in [
-        ("Net::branches", Told::Branches),
-        ("Net::fragment", Told::Fragment),
-        ("Net::census", Told::Census),
-        ("Net::lift", Told::Lift),
-        ("Node::copy", Told::Copy),
-        ("Node::asleep", Told::Asleep),
-        ("net_text", Told::Text),
+    refuse(rt, alloc, "Net::open", |k| open(rt, alloc, k))?;
+    let events = events_of_run(alloc).expect(rt, "a run");
+    for (name, asked) in [
+        ("Net::branches", Asked::Branches),
+        ("Net::fragment", Asked::Fragment),
+        ("Net::census", Asked::Census),
+        ("Net::lift", Asked::Lift),
+        ("Node::copy", Asked::Copy),
+        ("Node::asleep", Asked::Asleep),
+        ("net_text", Asked::Text),
     ] {
-        let count = refuse_each(rt, alloc, |k| tell(rt, alloc, &events, told, k));
-        assert_some(rt, alloc, count);
-        println!(host; "refused {name} {} {}", count.refused, count.spared)?;
+        refuse(rt, alloc, name, |k| ask(rt, alloc, &events, asked, k))?;
     }
     Ok(())
+}
+
+#[test]
+fn reactions(host: HostRuntime) -> Result<(), Fail> {
+    let (rt, alloc) = (&host, host.alloc());
+    let events = events_of_run(alloc).expect(rt, "a run");
+    let mut count = NONE;
+    for (place, event) in events.iter().enumerate() {
+        let before = &events[..place];
+        refuse_each(
+            alloc,
+            &mut count,
+            |k| react_after(rt, alloc, before, *event, k),
+        )?;
+    }
+    tell(rt, alloc, "react", count)
+}
+
+#[test]
+fn plays(host: HostRuntime) -> Result<(), Fail> {
+    let (rt, alloc) = (&host, host.alloc());
+    let events = events_of_run(alloc).expect(rt, "a run");
+    let mut count = NONE;
+    for (place, event) in events.iter().enumerate() {
+        let before = &events[..place];
+        refuse_each(
+            alloc,
+            &mut count,
+            |k| play_after(rt, alloc, before, *event, k),
+        )?;
+    }
+    tell(rt, alloc, "Net::reserve", count)
 }

@@ -1,11 +1,9 @@
 //! Worlds of the five nodes, served ticket by ticket.
-use crate::graphs::{five, is_five};
-use crate::nets::{assert_same, play_after, react_after};
-use crate::refusing::{Count, Turn, assert_some, order, refuse_each, sum, turn_of};
 use ghs_core::event::Event;
 use ghs_node::fault::NodeFault;
+use ghs_refusing::orders::{NONE, Turn, order, refuse, refuse_each, tell, turn_of};
+use ghs_refusing::scenes::{events_of_run, five, has_ended, is_five, stands, world_after};
 use ghs_report::run_text::run_text;
-use ghs_sched::replay::replay;
 use ghs_sched::run::run_seeded;
 use ghs_sched::schedule::Schedule;
 use ghs_sched::trace::EVENT_LIMIT;
@@ -17,63 +15,20 @@ use std::alloc::Global;
 use std::process::Abort;
 use std::test::Fail;
 
-/// The text of every run of the five nodes.
-pub const TEXT: &str =
-    "t 1 2 1\nt 2 3 2\nt 4 5 3\nt 3 4 4\nw 10\nm connect=7 initiate=10 test=3 accept=2 reject=1 report=10 changeroot=1\ns 34 58\n";
-
-/// The opening world of the five nodes.
-pub fn opening(rt: &impl Abort, alloc: Global) -> World {
-    World::open(alloc, five(rt, alloc), WakeSet::All, EVENT_LIMIT)
-        .ok()
-        .expect(rt, "a world")
-}
-
 /// The graph comes back, and opens then.
 fn open(rt: &impl Abort, alloc: Global, k: usize) -> Turn {
-    let graph = five(rt, alloc);
+    let graph = five(alloc).expect(rt, "a graph");
     order(alloc, k);
     let answer = World::open(alloc, graph, WakeSet::All, EVENT_LIMIT);
     let turn = turn_of(alloc, k, &answer);
     match answer {
-        Ok(world) => assert!(rt; is_five(rt, alloc, world.graph()) && world.trace().is_empty()),
+        Ok(world) => assert!(rt; is_five(alloc, world.graph()) && world.trace().is_empty()),
         Err((graph, _)) => {
-            assert!(rt; is_five(rt, alloc, &graph));
+            assert!(rt; is_five(alloc, &graph));
             assert!(rt; World::open(alloc, graph, WakeSet::All, EVENT_LIMIT).is_ok());
         }
     }
     turn
-}
-
-/// The world after these events, from which nothing is out.
-pub fn world_after(rt: &impl Abort, alloc: Global, events: &[Event]) -> World {
-    assert!(rt; events.len() as u64 <= EVENT_LIMIT);
-    let world = replay(alloc, five(rt, alloc), WakeSet::All, events).ok();
-    world.expect(rt, "a run")
-}
-
-/// The events of one seed's run of the five nodes.
-pub fn events_of_run(rt: &impl Abort, alloc: Global) -> Vec<Event> {
-    let mut world = opening(rt, alloc);
-    assert!(rt; run_seeded(alloc, &mut world, &mut Schedule::seeded(7)).is_ok());
-    let mut events = Vec::new(alloc);
-    events.extend_from_slice(world.trace()).expect(rt, "memory");
-    events
-}
-
-/// Sees that a world's run of the five nodes has ended, with the one text that it can have.
-pub fn assert_ended(rt: &impl Abort, alloc: Global, world: &World) {
-    assert!(rt; world.ended() && world.out_count() == 0);
-    let text = run_text(alloc, world).ok().expect(rt, "a text");
-    assert!(rt; text.as_slice() == TEXT.as_bytes());
-}
-
-/// Sees that a world is as its twin: graph and trace, each node, the ledger, how many tickets are out, and what may happen.
-pub fn assert_stands(rt: &impl Abort, alloc: Global, world: &World, twin: &World) {
-    assert_same(rt, world.net(), twin.net());
-    assert!(rt; world.ledger() == twin.ledger() && world.out_count() == twin.out_count());
-    let (ready, there) = (world.ready(alloc), twin.ready(alloc));
-    let (ready, there) = (ready.expect(rt, "memory"), there.expect(rt, "memory"));
-    assert!(rt; ready.as_slice() == there.as_slice());
 }
 
 /// An event's ticket.
@@ -116,7 +71,7 @@ fn refuse_out(rt: &impl Abort, alloc: Global, place: &mut Place, k: usize) -> Tu
         Ok(ticket) => ticket,
         Err(fault) => {
             assert!(rt; fault == OutFault::Memory);
-            assert_stands(rt, alloc, &place.world, &place.twin);
+            assert!(rt; stands(alloc, &place.world, &place.twin));
             out(rt, alloc, &mut place.world, place.event)
         }
     };
@@ -138,7 +93,7 @@ fn refuse_perform(rt: &impl Abort, alloc: Global, place: &mut Place, k: usize) -
         Err((ticket, fault)) => {
             assert!(rt; fault == NodeFault::Memory);
             assert!(rt; ticket.number() == place.number && ticket.event() == place.event);
-            assert_stands(rt, alloc, &place.world, &place.twin);
+            assert!(rt; stands(alloc, &place.world, &place.twin));
             step_of(rt, alloc, ticket)
         }
     };
@@ -158,7 +113,7 @@ fn refuse_commit(rt: &impl Abort, alloc: Global, place: &mut Place, k: usize) ->
     if let Err((step, fault)) = answer {
         assert!(rt; fault == CommitFault::Memory);
         assert!(rt; step.number() == place.number && step.event() == place.event);
-        assert_stands(rt, alloc, &place.world, &place.twin);
+        assert!(rt; stands(alloc, &place.world, &place.twin));
         commit(rt, alloc, &mut place.world, step);
     }
     assert!(rt; place.twin.give_back(other).is_ok());
@@ -173,7 +128,7 @@ fn refuse_make(rt: &impl Abort, alloc: Global, place: &mut Place, k: usize) -> T
     let answer = place.world.make(alloc, place.event);
     let turn = turn_of(alloc, k, &answer);
     if answer.is_err() {
-        assert_stands(rt, alloc, &place.world, &place.twin);
+        assert!(rt; stands(alloc, &place.world, &place.twin));
         let step = step_of(rt, alloc, out(rt, alloc, &mut place.world, place.event));
         commit(rt, alloc, &mut place.world, step);
     }
@@ -187,8 +142,6 @@ enum Call {
     Perform,
     Commit,
     Make,
-    React,
-    Reserve,
 }
 
 /// One event after these, with the k-th allocation of a call for it refused; then it happens, and the run goes on to its end.
@@ -201,8 +154,8 @@ fn serve(
     k: usize,
 ) -> Turn {
     let mut place = Place {
-        world: world_after(rt, alloc, events),
-        twin: world_after(rt, alloc, events),
+        world: world_after(alloc, events).expect(rt, "a run"),
+        twin: world_after(alloc, events).expect(rt, "a run"),
         event,
         number: events.len() as u64 + 1,
     };
@@ -211,88 +164,74 @@ fn serve(
         Call::Perform => refuse_perform(rt, alloc, &mut place, k),
         Call::Commit => refuse_commit(rt, alloc, &mut place, k),
         Call::Make => refuse_make(rt, alloc, &mut place, k),
-        Call::React => return react_after(rt, alloc, events, event, k),
-        Call::Reserve => return play_after(rt, alloc, events, event, k),
     };
     let step = step_of(rt, alloc, out(rt, alloc, &mut place.twin, event));
     commit(rt, alloc, &mut place.twin, step);
-    assert_stands(rt, alloc, &place.world, &place.twin);
+    assert!(rt; stands(alloc, &place.world, &place.twin));
     assert!(rt; run_seeded(alloc, &mut place.world, &mut Schedule::seeded(3)).is_ok());
-    assert_ended(rt, alloc, &place.world);
+    assert!(rt; has_ended(alloc, &place.world));
     turn
-}
-
-/// A call for each event of the run.
-fn serve_each(rt: &impl Abort, alloc: Global, events: &[Event], call: Call) -> Count {
-    let mut count = Count {
-        refused: 0,
-        spared: 0,
-    };
-    for (place, event) in events.iter().enumerate() {
-        let before = &events[..place];
-        let more = refuse_each(rt, alloc, |k| serve(rt, alloc, before, *event, call, k));
-        count = sum(count, more);
-    }
-    assert_some(rt, alloc, count);
-    count
 }
 
 #[test]
 fn events(host: HostRuntime) -> Result<(), Fail> {
     let (rt, alloc) = (&host, host.alloc());
-    let events = events_of_run(rt, alloc);
+    let events = events_of_run(alloc).expect(rt, "a run");
     for (name, call) in [
         ("World::check_out", Call::CheckOut),
         ("Ticket::perform", Call::Perform),
         ("World::commit", Call::Commit),
         ("World::make", Call::Make),
-        ("react", Call::React),
-        ("Net::reserve", Call::Reserve),
     ] {
-        let count = serve_each(rt, alloc, &events, call);
-        println!(host; "refused {name} {} {}", count.refused, count.spared)?;
+        let mut count = NONE;
+        for (place, event) in events.iter().enumerate() {
+            let before = &events[..place];
+            refuse_each(
+                alloc,
+                &mut count,
+                |k| serve(rt, alloc, before, *event, call, k),
+            )?;
+        }
+        tell(rt, alloc, name, count)?;
     }
     Ok(())
 }
 
-/// What is told of a world, and leaves it as it was.
+/// What is asked of a world, and leaves it as it was.
 #[derive(Clone, Copy)]
-enum Told {
+enum Asked {
     Ready,
     Branches,
     Census,
     Text,
 }
 
-fn tell(rt: &impl Abort, alloc: Global, events: &[Event], told: Told, k: usize) -> Turn {
-    let world = world_after(rt, alloc, events);
+fn ask(rt: &impl Abort, alloc: Global, events: &[Event], asked: Asked, k: usize) -> Turn {
+    let world = world_after(alloc, events).expect(rt, "a run");
     order(alloc, k);
-    let turn = match told {
-        Told::Ready => turn_of(alloc, k, &world.ready(alloc)),
-        Told::Branches => turn_of(alloc, k, &world.branches(alloc)),
-        Told::Census => turn_of(alloc, k, &world.census(alloc)),
-        Told::Text => turn_of(alloc, k, &run_text(alloc, &world)),
+    let turn = match asked {
+        Asked::Ready => turn_of(alloc, k, &world.ready(alloc)),
+        Asked::Branches => turn_of(alloc, k, &world.branches(alloc)),
+        Asked::Census => turn_of(alloc, k, &world.census(alloc)),
+        Asked::Text => turn_of(alloc, k, &run_text(alloc, &world)),
     };
-    assert_stands(rt, alloc, &world, &world_after(rt, alloc, events));
+    let twin = world_after(alloc, events).expect(rt, "a run");
+    assert!(rt; stands(alloc, &world, &twin));
     turn
 }
 
 #[test]
 fn worlds(host: HostRuntime) -> Result<(), Fail> {
     let (rt, alloc) = (&host, host.alloc());
-    let count = refuse_each(rt, alloc, |k| open(rt, alloc, k));
-    assert_some(rt, alloc, count);
-    println!(host; "refused World::open {} {}", count.refused, count.spared)?;
-    let events = events_of_run(rt, alloc);
-    for (name, told) in [
-        ("World::ready", Told::Ready),
-        ("World::branches", Told::Branches),
-        ("World::census", Told::Census),
-        ("run_text", Told::Text),
+    refuse(rt, alloc, "World::open", |k| open(rt, alloc, k))?;
+    let events = events_of_run(alloc).expect(rt, "a run");
+    for (name, asked) in [
+        ("World::ready", Asked::Ready),
+        ("World::branches", Asked::Branches),
+        ("World::census", Asked::Census),
+        ("run_text", Asked::Text),
     ] {
-        let count = refuse_each(rt, alloc, |k| tell(rt, alloc, &events, told, k));
-        assert_some(rt, alloc, count);
-        println!(host; "refused {name} {} {}", count.refused, count.spared)?;
+        refuse(rt, alloc, name, |k| ask(rt, alloc, &events, asked, k))?;
     }
     Ok(())
 }

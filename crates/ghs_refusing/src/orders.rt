@@ -1,6 +1,6 @@
 //! Calls of which one allocation is refused.
 use std::alloc::Global;
-use std::process::Abort;
+use std::test::Fail;
 
 /// The most allocations that a call of these tests makes.
 const MOST: usize = 1 << 12;
@@ -60,38 +60,55 @@ pub struct Count {
     pub spared: usize,
 }
 
-/// Makes a call with its first allocation refused, with its second, and so on until there is no such allocation.
-pub fn refuse_each<F: FnMut(usize) -> Turn>(rt: &impl Abort, alloc: Global, mut call: F) -> Count
+pub const NONE: Count = Count {
+    refused: 0,
+    spared: 0,
+};
+
+/// Makes a call with its first allocation refused, with its second, and so on until there is no such allocation, and counts
+/// on. Under an allocator that takes no orders the call has to succeed at once.
+pub fn refuse_each<F: FnMut(usize) -> Turn>(
+    alloc: Global,
+    count: &mut Count,
+    mut call: F,
+) -> Result<(), Fail>
     requires { F.IsAlwaysCallable call }
 {
-    let mut count = Count {
-        refused: 0,
-        spared: 0,
-    };
     if !takes_orders(alloc) {
-        assert!(rt; call(1) == Turn::Spared);
-        return count;
+        return match call(1) {
+            Turn::Spared => Ok(()),
+            _ => Err(Fail::new("a call failed")),
+        };
     }
     for k in 1..MOST {
         match call(k) {
             Turn::Refused => count.refused = count.refused.saturating_add(1),
             Turn::Spared => count.spared = count.spared.saturating_add(1),
-            Turn::Whole => return count,
+            Turn::Whole => return Ok(()),
         }
     }
-    assert!(rt; false, "a call without end");
-    count
+    Err(Fail::new("a call without end"))
 }
 
-/// The sum of two counts.
-pub fn sum(count: Count, more: Count) -> Count {
-    Count {
-        refused: count.refused.saturating_add(more.refused),
-        spared: count.spared.saturating_add(more.spared),
+/// Prints how often a call was refused memory. Where the allocator takes orders, something has to have been.
+pub fn tell<R: Print>(rt: &R, alloc: Global, name: &str, count: Count) -> Result<(), Fail> {
+    if count.refused == 0 && takes_orders(alloc) {
+        return Err(Fail::new("nothing was refused"));
     }
+    println!(rt; "refused {name} {} {}", count.refused, count.spared)?;
+    Ok(())
 }
 
-/// Sees that something was refused, where the allocator takes orders.
-pub fn assert_some(rt: &impl Abort, alloc: Global, count: Count) {
-    assert!(rt; count.refused > 0 || !takes_orders(alloc));
+/// Makes a call with each of its allocations refused, and prints how often it was refused memory.
+pub fn refuse<R: Print, F: FnMut(usize) -> Turn>(
+    rt: &R,
+    alloc: Global,
+    name: &str,
+    call: F,
+) -> Result<(), Fail>
+    requires { F.IsAlwaysCallable call }
+{
+    let mut count = NONE;
+    refuse_each(alloc, &mut count, call)?;
+    tell(rt, alloc, name, count)
 }

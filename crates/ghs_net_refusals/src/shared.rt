@@ -1,8 +1,8 @@
 //! What threads share: boards and queues of numbers.
-use crate::refusing::{Turn, assert_some, order, refuse_each, turn_of};
 use ghs_board::board::Board;
 use ghs_board::progress::Progress;
 use ghs_queue::queue::{CloseFault, ReadyQueue};
+use ghs_refusing::orders::{Turn, order, refuse, turn_of};
 use std::alloc::Global;
 use std::process::Abort;
 use std::sync::Wait;
@@ -63,20 +63,7 @@ fn close<R: Wait + Abort>(rt: &R, alloc: Global, k: usize) -> Turn {
 fn shared(host: HostRuntime) -> Result<(), Fail> {
     let (rt, alloc) = (&host, host.alloc());
     take_none(rt, alloc);
-    let count = refuse_each(rt, alloc, |k| open_board(alloc, k));
-    assert_some(rt, alloc, count);
-    println!(host; "refused Board::open {} {}", count.refused, count.spared)?;
-    let count = refuse_each(rt, alloc, |k| open_queue(alloc, k));
-    assert_some(rt, alloc, count);
-    println!(host;
-        "refused ReadyQueue::open {} {}",
-        count.refused, count.spared
-    )?;
-    let count = refuse_each(rt, alloc, |k| close(rt, alloc, k));
-    assert_some(rt, alloc, count);
-    println!(host;
-        "refused ReadyQueue::close {} {}",
-        count.refused, count.spared
-    )?;
-    Ok(())
+    refuse(rt, alloc, "Board::open", |k| open_board(alloc, k))?;
+    refuse(rt, alloc, "ReadyQueue::open", |k| open_queue(alloc, k))?;
+    refuse(rt, alloc, "ReadyQueue::close", |k| close(rt, alloc, k))
 }

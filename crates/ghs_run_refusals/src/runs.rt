@@ -1,8 +1,4 @@
 //! Runs of the five nodes: seeded, patient, by workers, and done again.
-use crate::graphs::{five, is_five};
-use crate::nets::assert_same;
-use crate::refusing::{Turn, assert_some, order, refuse_each, turn_of};
-use crate::worlds::{assert_ended, events_of_run, opening, world_after};
 use ghs_board::board::Board;
 use ghs_board::progress::Progress;
 use ghs_core::event::Event;
@@ -12,6 +8,10 @@ use ghs_pool::end::PoolFault;
 use ghs_pool::gate::OpenGate;
 use ghs_pool::shop::Shop;
 use ghs_pool::workers::{run_watched, run_workers};
+use ghs_refusing::orders::{Turn, order, refuse, turn_of};
+use ghs_refusing::scenes::{
+    are_same, events_of_run, five, has_ended, is_five, opening, world_after,
+};
 use ghs_sched::fault::{ReplayFault, RunFault};
 use ghs_sched::replay::replay;
 use ghs_sched::run::run_seeded;
@@ -30,7 +30,7 @@ const FIRST: [Event; 2] = [Event::Wake(2), Event::Wake(4)];
 
 /// Two events have happened, and a third is out.
 fn begun(rt: &impl Abort, alloc: Global) -> World {
-    let mut world = world_after(rt, alloc, &FIRST);
+    let mut world = world_after(alloc, &FIRST).expect(rt, "a run");
     assert!(rt; world.check_out(alloc, Event::Wake(1)).is_ok());
     world
 }
@@ -38,24 +38,47 @@ fn begun(rt: &impl Abort, alloc: Global) -> World {
 /// Sees that nothing is out, and that the world is the one after its trace, which begins as it did.
 fn assert_sound(rt: &impl Abort, alloc: Global, world: &World, first: &[Event]) {
     assert!(rt; world.out_count() == 0 && world.trace().starts_with(first));
-    assert_same(rt, world.net(), world_after(rt, alloc, world.trace()).net());
+    let same = world_after(alloc, world.trace()).expect(rt, "a run");
+    assert!(rt; are_same(world.net(), same.net()));
+}
+
+/// Goes on by a schedule, with the k-th allocation refused.
+fn go_on(
+    alloc: Global,
+    world: &mut World,
+    schedule: &mut Schedule,
+    k: usize,
+) -> (Turn, Option<RunFault>) {
+    order(alloc, k);
+    let answer = run_seeded(alloc, world, schedule);
+    (turn_of(alloc, k, &answer), answer.err())
+}
+
+/// The same, patiently.
+fn go_on_patiently(
+    alloc: Global,
+    world: &mut World,
+    schedule: &mut Schedule,
+    k: usize,
+) -> (Turn, Option<RunFault>) {
+    order(alloc, k);
+    let answer = run_patient(alloc, world, schedule);
+    (turn_of(alloc, k, &answer), answer.err())
 }
 
 /// One seed's run, stopped for want of memory, goes on by the same schedule to the events that it has where nothing is
 /// refused.
 fn seeded(rt: &impl Abort, alloc: Global, events: &[Event], k: usize) -> Turn {
-    let mut world = opening(rt, alloc);
+    let mut world = opening(alloc).expect(rt, "a world");
     let mut schedule = Schedule::seeded(7);
-    order(alloc, k);
-    let answer = run_seeded(alloc, &mut world, &mut schedule);
-    let turn = turn_of(alloc, k, &answer);
+    let (turn, fault) = go_on(alloc, &mut world, &mut schedule, k);
     assert_sound(rt, alloc, &world, &[]);
-    if let Err(fault) = answer {
-        assert!(rt; fault == RunFault::Memory);
-        assert!(rt; run_seeded(alloc, &mut world, &mut schedule).is_ok());
+    if fault.is_some() {
+        assert!(rt; fault == Some(RunFault::Memory));
+        assert!(rt; go_on(alloc, &mut world, &mut schedule, 0).1.is_none());
     }
     assert!(rt; world.trace() == events);
-    assert_ended(rt, alloc, &world);
+    assert!(rt; has_ended(alloc, &world));
     turn
 }
 
@@ -63,45 +86,57 @@ fn seeded(rt: &impl Abort, alloc: Global, events: &[Event], k: usize) -> Turn {
 fn patient(rt: &impl Abort, alloc: Global, k: usize) -> Turn {
     let mut world = begun(rt, alloc);
     let mut schedule = Schedule::seeded(7);
-    order(alloc, k);
-    let answer = run_patient(alloc, &mut world, &mut schedule);
-    let turn = turn_of(alloc, k, &answer);
+    let (turn, fault) = go_on_patiently(alloc, &mut world, &mut schedule, k);
     assert_sound(rt, alloc, &world, &FIRST);
-    if let Err(fault) = answer {
-        assert!(rt; fault == RunFault::Memory);
-        assert!(rt; run_patient(alloc, &mut world, &mut schedule).is_ok());
+    if fault.is_some() {
+        assert!(rt; fault == Some(RunFault::Memory));
+        assert!(rt;
+            go_on_patiently(alloc, &mut world, &mut schedule, 0)
+                .1
+                .is_none()
+        );
     }
-    assert_ended(rt, alloc, &world);
+    assert!(rt; has_ended(alloc, &world));
     turn
 }
 
-/// The run that a seed picks of an opening.
-fn by_seed(rt: &impl Abort, alloc: Global, k: usize) -> Turn {
-    let world = World::open(alloc, five(rt, alloc), WakeSet::All, EVENT_LIMIT).ok();
+/// The run that a seed picks of an opening, with the k-th allocation refused.
+fn go_by_seed(rt: &impl Abort, alloc: Global, k: usize) -> (World, Turn, Option<RunFault>) {
+    let graph = five(alloc).expect(rt, "a graph");
+    let world = World::open(alloc, graph, WakeSet::All, EVENT_LIMIT).ok();
     let mut world = world.expect(rt, "a world");
     order(alloc, k);
     let answer = run_by_seed(alloc, &mut world, Picking::Patient, 7);
-    let turn = turn_of(alloc, k, &answer);
+    (world, turn_of(alloc, k, &answer), answer.err())
+}
+
+/// The same; stopped, it goes on.
+fn by_seed(rt: &impl Abort, alloc: Global, k: usize) -> Turn {
+    let (mut world, turn, fault) = go_by_seed(rt, alloc, k);
     assert_sound(rt, alloc, &world, &[]);
-    if let Err(fault) = answer {
-        assert!(rt; fault == RunFault::Memory);
-        assert!(rt; run_seeded(alloc, &mut world, &mut Schedule::seeded(7)).is_ok());
+    if fault.is_some() {
+        assert!(rt; fault == Some(RunFault::Memory));
+        assert!(rt;
+            go_on(alloc, &mut world, &mut Schedule::seeded(7), 0)
+                .1
+                .is_none()
+        );
     }
-    assert_ended(rt, alloc, &world);
+    assert!(rt; has_ended(alloc, &world));
     turn
 }
 
 /// The graph comes back, and the run is done again with it.
 fn done_again(rt: &impl Abort, alloc: Global, events: &[Event], k: usize) -> Turn {
     assert!(rt; events.len() as u64 <= EVENT_LIMIT);
-    let graph = five(rt, alloc);
+    let graph = five(alloc).expect(rt, "a graph");
     order(alloc, k);
     let answer = replay(alloc, graph, WakeSet::All, events);
     let turn = turn_of(alloc, k, &answer);
     match answer {
-        Ok(world) => assert_ended(rt, alloc, &world),
+        Ok(world) => assert!(rt; has_ended(alloc, &world)),
         Err((graph, fault)) => {
-            assert!(rt; fault == ReplayFault::Memory && is_five(rt, alloc, &graph));
+            assert!(rt; fault == ReplayFault::Memory && is_five(alloc, &graph));
             assert!(rt; replay(alloc, graph, WakeSet::All, events).is_ok());
         }
     }
@@ -120,42 +155,43 @@ fn copy_none(rt: &impl Abort, alloc: Global) {
 fn runs(host: HostRuntime) -> Result<(), Fail> {
     let (rt, alloc) = (&host, host.alloc());
     copy_none(rt, alloc);
-    let events = events_of_run(rt, alloc);
-    let count = refuse_each(rt, alloc, |k| seeded(rt, alloc, &events, k));
-    assert_some(rt, alloc, count);
-    println!(host; "refused run_seeded {} {}", count.refused, count.spared)?;
-    let count = refuse_each(rt, alloc, |k| patient(rt, alloc, k));
-    assert_some(rt, alloc, count);
-    println!(host; "refused run_patient {} {}", count.refused, count.spared)?;
-    let count = refuse_each(rt, alloc, |k| by_seed(rt, alloc, k));
-    assert_some(rt, alloc, count);
-    println!(host; "refused run_by_seed {} {}", count.refused, count.spared)?;
-    let count = refuse_each(rt, alloc, |k| done_again(rt, alloc, &events, k));
-    assert_some(rt, alloc, count);
-    println!(host; "refused replay {} {}", count.refused, count.spared)?;
-    Ok(())
+    let events = events_of_run(alloc).expect(rt, "a run");
+    refuse(rt, alloc, "run_seeded", |k| seeded(rt, alloc, &events, k))?;
+    refuse(rt, alloc, "run_patient", |k| patient(rt, alloc, k))?;
+    refuse(rt, alloc, "run_by_seed", |k| by_seed(rt, alloc, k))?;
+    refuse(rt, alloc, "replay", |k| done_again(rt, alloc, &events, k))
 }
 
-/// A run of so many workers; stopped, it goes on again.
-fn work<R: Threads + Wait + Sync + Abort>(rt: &R, alloc: Global, workers: u32, k: usize) -> Turn {
+/// A run of so many workers, with the k-th allocation refused.
+fn set_to_work<R: Threads + Wait + Sync + Abort>(
+    rt: &R,
+    alloc: Global,
+    world: World,
+    workers: u32,
+    k: usize,
+) -> (World, Turn, Option<PoolFault>) {
     assert!(rt; workers >= 1 && workers <= 64);
-    let world = begun(rt, alloc);
     order(alloc, k);
     let (world, answer) = run_workers(rt, alloc, world, workers, &OpenGate);
-    let turn = turn_of(alloc, k, &answer);
+    (world, turn_of(alloc, k, &answer), answer.err())
+}
+
+/// The same from what stands, with something out; stopped, it goes on again.
+fn work<R: Threads + Wait + Sync + Abort>(rt: &R, alloc: Global, workers: u32, k: usize) -> Turn {
+    let (world, turn, fault) = set_to_work(rt, alloc, begun(rt, alloc), workers, k);
     assert_sound(rt, alloc, &world, &FIRST);
-    if let Err(fault) = answer {
+    if let Some(fault) = fault {
         assert!(rt; fault == PoolFault::Memory || fault == PoolFault::NoThread);
     }
-    let (world, answer) = run_workers(rt, alloc, world, workers, &OpenGate);
-    assert!(rt; answer.is_ok());
-    assert_ended(rt, alloc, &world);
+    let (world, _, fault) = set_to_work(rt, alloc, world, workers, 0);
+    assert!(rt; fault.is_none());
+    assert!(rt; has_ended(alloc, &world));
     turn
 }
 
 /// The same, watched: the publisher comes back with the pair of the world that stands.
 fn work_watched<R: Threads + Wait + Sync + Abort>(rt: &R, alloc: Global, k: usize) -> Turn {
-    let world = world_after(rt, alloc, &FIRST);
+    let world = world_after(alloc, &FIRST).expect(rt, "a run");
     let two = Progress {
         commits: 2,
         halted: false,
@@ -173,23 +209,19 @@ fn work_watched<R: Threads + Wait + Sync + Abort>(rt: &R, alloc: Global, k: usiz
     assert!(rt; last.commits == world.trace().len() as u64 && last.halted == world.ended());
     let (world, _, answer) = run_watched(rt, alloc, world, 2, &OpenGate, publisher);
     assert!(rt; answer.is_ok());
-    assert_ended(rt, alloc, &world);
+    assert!(rt; has_ended(alloc, &world));
     turn
 }
 
 #[test]
 fn workers(host: HostRuntime) -> Result<(), Fail> {
     let (rt, alloc) = (&host, host.alloc());
-    for workers in [1u32, 2, 8] {
-        let count = refuse_each(rt, alloc, |k| work(rt, alloc, workers, k));
-        assert_some(rt, alloc, count);
-        println!(host;
-            "refused run_workers({workers}) {} {}",
-            count.refused, count.spared
-        )?;
+    for (name, workers) in [
+        ("run_workers(1)", 1u32),
+        ("run_workers(2)", 2),
+        ("run_workers(8)", 8),
+    ] {
+        refuse(rt, alloc, name, |k| work(rt, alloc, workers, k))?;
     }
-    let count = refuse_each(rt, alloc, |k| work_watched(rt, alloc, k));
-    assert_some(rt, alloc, count);
-    println!(host; "refused run_watched {} {}", count.refused, count.spared)?;
-    Ok(())
+    refuse(rt, alloc, "run_watched", |k| work_watched(rt, alloc, k))
 }

@@ -2,7 +2,7 @@ use Rattle.std.proofs.Common.{List, subst, sym}
 use Rattle.ghs_sweep.specs.declared.figures.Figures.{Figures}
 use Rattle.ghs_sweep.specs.Sweep.{AreRuns, NoRun}
 use Rattle.ghs_sweep.proofs.lemmas.Weights.{small_weights}
-use Rattle.ghs_refusals.proofs.shows.first_runs.Goals as goal
+use Rattle.ghs_show_refusals.proofs.shows.first_runs.Goals as goal
 
 pub run_on-requires-clause-before : goal.run_on-requires-clause-before
 run_on-requires-clause-before g c κs within =

@@ -1,0 +1,5 @@
+//! Each allocation of calls that show runs, as pages and as figures of many, refused in turn. Tests alone.
+#![tactic(auto)]
+
+#[cfg(test)]
+mod shows;
