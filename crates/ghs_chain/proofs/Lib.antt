@@ -2,3 +2,4 @@
 mod Following
 mod Bounding
 mod Placing
+mod Examples
