@@ -21,8 +21,8 @@ wake_word All = codes ",all"
 wake_word First = codes ",first"
 
 abbrev pub end_word : Bool → List ℕ
-end_word true = codes ",halted\n"
-end_word false = codes ",turns\n"
+end_word true = codes ",halted"
+end_word false = codes ",turns"
 
 unfoldable pub size_fields : Figures → List ℕ
 size_fields f = field f.nodes ++ field f.links ++ field f.events
@@ -42,10 +42,10 @@ unfoldable pub outcome_fields : Figures → List ℕ
 outcome_fields f =
     field f.requeued ++ field f.queued ++ field f.bound ++ field f.level ++ field f.fragments ++ field f.weight
 
--- seed, schedule, wake set, figures, and how the run ended
+-- seed, schedule, wake set, figures, how the run ended, and its chain
 unfoldable pub line_text : ℕ → Setup → Figures → List ℕ
 line_text seed setup f =
-    decimal seed ++ picking_word setup.picking ++ wake_word setup.wake ++ size_fields f ++ messages_fields f ++ outcome_fields f ++ end_word f.ended
+    decimal seed ++ picking_word setup.picking ++ wake_word setup.wake ++ size_fields f ++ messages_fields f ++ outcome_fields f ++ end_word f.ended ++ field f.chain ++ codes "\n"
 
 -- the lines of runs whose seeds rise from the first on
 abbrev pub run_lines : Setup → ℕ → List Figures → List ℕ

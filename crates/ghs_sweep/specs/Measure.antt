@@ -22,6 +22,7 @@ name_of measure.Level = codes "level"
 name_of measure.Fragments = codes "fragments"
 name_of measure.Weight = codes "weight"
 name_of measure.Halted = codes "halted"
+name_of measure.Chain = codes "chain"
 
 -- its value for a run: a run that has ended is halted once
 abbrev pub value_of : Measure → Figures → ℕ
@@ -41,6 +42,7 @@ value_of measure.Level run = run.level
 value_of measure.Fragments run = run.fragments
 value_of measure.Weight run = run.weight
 value_of measure.Halted run = if run.ended then 1 else 0
+value_of measure.Chain run = run.chain
 
 -- all of them, in the order of the columns of a sweep's lines
 abbrev pub measures : List Measure
@@ -61,4 +63,5 @@ measures =
     ∷ measure.Fragments
     ∷ measure.Weight
     ∷ measure.Halted
+    ∷ measure.Chain
     ∷ []

@@ -2,8 +2,9 @@
 ghost use Rattle.ghs_graph.specs.Links.{total_weight};
 ghost use Rattle.ghs_protocol.specs.Ledger.{in_all};
 ghost use Rattle.ghs_sweep.specs.Figures.{AreFigures, greatest_level};
-ghost use Rattle.std.specs.Prelude.{◌≡◌, ◌<◌, ◌^◌, slice_index, IfOk};
+ghost use Rattle.std.specs.Prelude.{◌≡◌, ◌<◌, ◌≤◌, ◌^◌, length, slice_index, IfOk};
 
+use ghs_chain::chain::longest_chain;
 use ghs_core::census::FragmentRow;
 use ghs_core::net::Net;
 use ghs_graph::bounds::bound;
@@ -33,10 +34,13 @@ pub struct Figures {
     pub weight: u128,
     /// Whether the run has ended.
     pub ended: bool,
+    /// How many messages the longest chain has, each sent because of the one before.
+    pub chain: u64,
 }
 
 /// The figures of a net. Refusal: want of memory.
 pub fn figures_of(alloc: Global, net: &Net) -> Result<Figures, AllocError>
+    requires { length net.now.trace ≤ 2 ^ 40 }
     ensures { IfOk result (λ f. AreFigures net.now.graph net.now.trace f) }
 {
     let graph = net.graph();
@@ -44,6 +48,7 @@ pub fn figures_of(alloc: Global, net: &Net) -> Result<Figures, AllocError>
     let ledger = net.ledger();
     let census = net.census(alloc)?;
     let branches = net.branches(alloc)?;
+    let chain = longest_chain(alloc, graph, net.trace())?;
     Ok(Figures {
         nodes: graph.nodes(),
         links: graph.links(),
@@ -57,6 +62,7 @@ pub fn figures_of(alloc: Global, net: &Net) -> Result<Figures, AllocError>
         fragments: census.len() as u64,
         weight: total_weight(&branches),
         ended: net.ended(),
+        chain,
     })
 }
 

@@ -11,7 +11,7 @@ use std::alloc::{AllocError, Global};
 
 /// The names of a line's fields, as a line.
 pub const HEAD_LINE: &[u8] =
-    b"seed,schedule,wake,nodes,links,events,sent,connect,initiate,test,accept,reject,report,changeroot,requeued,queued,bound,level,fragments,weight,end\n";
+    b"seed,schedule,wake,nodes,links,events,sent,connect,initiate,test,accept,reject,report,changeroot,requeued,queued,bound,level,fragments,weight,end,chain\n";
 
 /// The lines of runs whose seeds rise from the first on, behind a head line. Refusal: want of memory.
 pub fn runs_text(
@@ -30,7 +30,8 @@ pub fn runs_text(
     Ok(text)
 }
 
-/// Puts the line of a seed's run behind a text: the seed, the schedule, the wake set, the figures, and how it ended.
+/// Puts the line of a seed's run behind a text: the seed, the schedule, the wake set, the figures, how it ended, and its
+/// chain.
 #[tactic(auto, unfolding(crate::specs::Line::line_text))]
 pub fn put_line(
     text: &mut Vec<u8>,
@@ -47,6 +48,8 @@ pub fn put_line(
     put_messages(text, figures)?;
     put_outcome(text, figures)?;
     text.extend_from_slice(end_word(figures.ended))?;
+    put_field(text, u128::from(figures.chain))?;
+    text.extend_from_slice(b"\n")?;
     Ok(())
 }
 
@@ -122,5 +125,5 @@ fn wake_word(wake: WakeSet) -> &'static [u8]
 fn end_word(ended: bool) -> &'static [u8]
     ensures { result.now ≡ end_word ended }
 {
-    if ended { b",halted\n" } else { b",turns\n" }
+    if ended { b",halted" } else { b",turns" }
 }

@@ -5,8 +5,8 @@ ghost use Rattle.std.specs.Prelude.{◌≡◌, ◌<◌, ◌^◌};
 
 use crate::figures::Figures;
 
-/// What is measured of each run: the columns of its line behind the links. Of its last one, how the run ended, it is
-/// counted whether that is by itself.
+/// What is measured of each run: the columns of its line behind the links. Of how the run ended it is counted
+/// whether that is by itself.
 #[derive(Clone, Copy, Debug, PartialEq, Eq)]
 pub enum Measure {
     Events,
@@ -25,10 +25,11 @@ pub enum Measure {
     Fragments,
     Weight,
     Halted,
+    Chain,
 }
 
 /// All measures, in the order of the columns.
-pub const MEASURES: [Measure; 16] = [
+pub const MEASURES: [Measure; 17] = [
     Measure::Events,
     Measure::Sent,
     Measure::Connect,
@@ -45,6 +46,7 @@ pub const MEASURES: [Measure; 16] = [
     Measure::Fragments,
     Measure::Weight,
     Measure::Halted,
+    Measure::Chain,
 ];
 
 impl Measure {
@@ -69,6 +71,7 @@ impl Measure {
             Measure::Fragments => b"fragments",
             Measure::Weight => b"weight",
             Measure::Halted => b"halted",
+            Measure::Chain => b"chain",
         }
     }
 
@@ -94,6 +97,7 @@ impl Measure {
             Measure::Fragments => u128::from(run.fragments),
             Measure::Weight => run.weight,
             Measure::Halted => u128::from(run.ended),
+            Measure::Chain => u128::from(run.chain),
         }
     }
 }

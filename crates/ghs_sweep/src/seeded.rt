@@ -1,4 +1,5 @@
 //! The figures of a seed's run.
+ghost use Rattle.ghs_sweep.specs.Figures.{AreFigures};
 ghost use Rattle.ghs_sweep.specs.Sweep.{AreFiguresOf, HasTurns};
 ghost use Rattle.std.specs.Prelude.{IfOk};
 
@@ -37,8 +38,16 @@ pub fn figures_of_seed(
         Err((_, error)) => return Err(error),
     };
     match run_by_seed(alloc, &mut world, setup.picking, seed) {
-        Ok(_) => figures_of(alloc, world.net()),
-        Err(RunFault::TurnLimit) => figures_of(alloc, world.net()),
+        Ok(_) => figures_of_world(alloc, &world),
+        Err(RunFault::TurnLimit) => figures_of_world(alloc, &world),
         Err(_) => Err(AllocError),
     }
+}
+
+// The figures of a world's net, which has no more events than the world has turns.
+fn figures_of_world(alloc: Global, world: &World) -> Result<Figures, AllocError>
+    ensures { IfOk result (λ f. AreFigures world.now.net.graph world.now.net.trace f) }
+{
+    let _ = world.turns();
+    figures_of(alloc, world.net())
 }

@@ -1,6 +1,10 @@
-use Rattle.std.proofs.Common.{◌≡◌, ◌≤◌, ◌∙◌, arith, length, rules, slice_index}
+use Rattle.std.proofs.Common.{◌≡◌, ◌≤◌, ◌∙◌, List, ap, arith, length, rules, slice_index}
 use Rattle.ghs_core.specs.NetState.{net_of}
 use Rattle.ghs_graph.specs.Bound.{IsBound}
+use Rattle.ghs_chain.specs.Chains.{longest_chain}
+use Rattle.ghs_graph.specs.Graph.{Shape}
+use Rattle.ghs_protocol.specs.declared.event.Event.{Event}
+use Rattle.ghs_protocol.specs.Network.{network_of}
 use Rattle.ghs_protocol.specs.Ledger.{in_all}
 use Rattle.ghs_protocol.specs.Net.{Net}
 use Rattle.ghs_sweep.proofs.Summing.{all_alike}
@@ -45,4 +49,7 @@ returns c =
         small = c.total_weight.ensures.small;
       };
       ended = c.ended.ensures.ended;
+      chain =
+          c.in_ok-chain.ensures ∙ ap (λ (g : Shape). longest_chain (network_of g) c.trace.result.now) c.graph-graph.ensures
+          ∙ ap (λ (es : List Event). longest_chain (network_of c.args.net.now.graph) es) c.trace.ensures.trace;
     }

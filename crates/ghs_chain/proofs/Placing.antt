@@ -1,0 +1,180 @@
+-- What a change of a number or of a line makes of the chains.
+use Rattle.std.proofs.Common.{suc, ◌≡◌, ◌≢◌, ℕ, Bool, ◌+◌, ◌<◌, ◌≤◌, Some, None, List, [], ◌∷◌, ◌++◌, length, set, take, refl, sym, ◌∙◌, ap, ⊎_elim, slice_index, replicate, arith, get_or-set_same, get_or-set_other, length-set, add-one}
+use Rattle.std.specs.List.{slice_get, slice_index_or}
+use Rattle.std.proofs.Math.Path.{fun_ext}
+use Rattle.std.proofs.lemmas.Bool.{cases_eq, cases_lt}
+use Rattle.std.proofs.lemmas.List.{get_or-replicate, get_or_past, length-replicate, take_more}
+use Rattle.ghs_node.specs.declared.message.Message.{Message}
+use Rattle.ghs_node.specs.declared.delta.Fate.{Fate}
+use Rattle.ghs_node.specs.Words.{Outgoing}
+use Rattle.ghs_protocol.specs.Network.{Network, far, far_port}
+use Rattle.ghs_protocol.specs.Net.{put, put_at}
+use Rattle.ghs_protocol.proofs.lemmas.Updates.{put_same, put_other}
+use Rattle.ghs_chain.specs.Chains.{Chains, behind, heard, no_chains, sent, sent_on, taken, with_last}
+use Rattle.ghs_chain.specs.Kept.{ChangesLine, HasPlace, Kept, SamePlaces, line_at, row_of, seen, stepped}
+
+-- chains with these queues, and with these numbers
+abbrev pub with_queue : Chains → (ℕ → ℕ → List ℕ) → Chains
+with_queue c q = record { node = c.node; queue = q }
+
+abbrev pub with_both : (ℕ → ℕ) → (ℕ → ℕ → List ℕ) → Chains
+with_both n q = record { node = n; queue = q }
+
+-- the rows with one row changed at one port
+pub rows_placed : (rows : List (List (List ℕ))) (v p : ℕ) (row : List (List ℕ)) (line : List ℕ) → v < length rows →
+    ChangesLine (slice_index_or rows v []) row p line →
+    (λ (u q : ℕ). line_at (slice_index_or (set rows v row) u []) q) ≡ put_at (λ u q. line_at (slice_index_or rows u []) q) v p line
+rows_placed rows v p row line lt c = fun_ext (λ u. fun_ext (λ q. ⊎_elim (here u q) (there u q) (cases_eq u v)))
+  where
+    old : ℕ → ℕ → List ℕ
+    old u q = line_at (slice_index_or rows u []) q
+
+    here : (u q : ℕ) → u ≡ v → line_at (slice_index_or (set rows v row) u []) q ≡ put_at old v p line u q
+    here u q e =
+        rw e (ap (λ (r : List (List ℕ)). line_at r q) (get_or-set_same rows v row [] lt)
+        ∙ c.lines q ∙ sym (ap (λ (f : ℕ → List ℕ). f q) (put_same old v (put (old v) p line))))
+
+    there : (u q : ℕ) → u ≢ v → line_at (slice_index_or (set rows v row) u []) q ≡ put_at old v p line u q
+    there u q ne =
+        ap (λ (r : List (List ℕ)). line_at r q) (get_or-set_other rows v u row [] ne)
+        ∙ sym (ap (λ (f : ℕ → List ℕ). f q) (put_other old v u (put (old v) p line) ne))
+
+-- the numbers with one number changed
+pub numbers_placed : (numbers : List ℕ) (v n : ℕ) → v < length numbers →
+    (λ (u : ℕ). slice_index (set numbers v n) u) ≡ put (λ u. slice_index numbers u) v n
+numbers_placed numbers v n lt = fun_ext (λ u. ⊎_elim (here u) (there u) (cases_eq u v))
+  where
+    here : (u : ℕ) → u ≡ v → slice_index (set numbers v n) u ≡ put (λ w. slice_index numbers w) v n u
+    here u e = rw e (get_or-set_same numbers v n 0 lt ∙ sym (put_same (λ w. slice_index numbers w) v n))
+
+    there : (u : ℕ) → u ≢ v → slice_index (set numbers v n) u ≡ put (λ w. slice_index numbers w) v n u
+    there u ne = get_or-set_other numbers v u n 0 ne ∙ sym (put_other (λ w. slice_index numbers w) v u n ne)
+
+-- what is put where it stands changes nothing
+put_at_none : {A : Type 0} (f : ℕ → ℕ → A) (v p : ℕ) (x : A) → x ≡ f v p → put_at f v p x ≡ f
+put_at_none {A} f v p x e = fun_ext (λ u. fun_ext (λ q. ⊎_elim (here u q) (there u q) (cases_eq u v)))
+  where
+    here : (u q : ℕ) → u ≡ v → put_at f v p x u q ≡ f u q
+    here u q h =
+        rw h (ap (λ (g : ℕ → A). g q) (put_same f v (put (f v) p x))
+        ∙ ⊎_elim (λ (k : q ≡ p). rw k (put_same (f v) p x ∙ e)) (λ ne. put_other (f v) p q x ne) (cases_eq q p))
+
+    there : (u q : ℕ) → u ≢ v → put_at f v p x u q ≡ f u q
+    there u q ne = ap (λ (g : ℕ → A). g q) (put_other f v u (put (f v) p x) ne)
+
+-- no number was there
+pub none_taken : (k k' : Kept) (v p : ℕ) (asleep : Bool) (f : Fate) (row : List (List ℕ)) → v < length k.rows →
+    k'.numbers ≡ k.numbers → k'.rows ≡ set k.rows v row →
+    ChangesLine (row_of k v) row p (stepped f (line_at (row_of k v) p)) →
+    None ≡ slice_get (line_at (row_of k v) p) 0 →
+    seen k' ≡ taken v p asleep f ((seen k).queue v p) (seen k)
+unfolding seen
+none_taken k k' v p asleep f row lt numbers rows c none = go (line_at (row_of k v) p) refl c none
+  where
+    go : (line : List ℕ) → line_at (row_of k v) p ≡ line → ChangesLine (row_of k v) row p (stepped f line) → None ≡ slice_get line 0 →
+        seen k' ≡ taken v p asleep f line (seen k)
+    go [] e d n =
+        let queue = ap (λ (r : List (List (List ℕ))). (λ (u q : ℕ). line_at (slice_index_or r u []) q)) rows ∙ rows_placed k.rows v p row [] lt d
+        ∙ put_at_none (λ u q. line_at (row_of k u) q) v p [] (sym e) in
+        rw numbers (ap (with_queue (seen k)) queue)
+    go (t ∷ ts) e d n = cc
+
+-- one was
+pub one_taken : (k k' : Kept) (v p : ℕ) (asleep : Bool) (f : Fate) (row : List (List ℕ)) (t n : ℕ) → v < length k.rows → v < length k.numbers →
+    k'.numbers ≡ set k.numbers v n → n ≡ heard f asleep (slice_index k.numbers v) t → k'.rows ≡ set k.rows v row →
+    ChangesLine (row_of k v) row p (stepped f (line_at (row_of k v) p)) →
+    Some t ≡ slice_get (line_at (row_of k v) p) 0 →
+    seen k' ≡ taken v p asleep f ((seen k).queue v p) (seen k)
+unfolding seen
+one_taken k k' v p asleep f row t n lt lt' numbers value rows c some = go (line_at (row_of k v) p) c some
+  where
+    go : (line : List ℕ) → ChangesLine (row_of k v) row p (stepped f line) → Some t ≡ slice_get line 0 → seen k' ≡ taken v p asleep f line (seen k)
+    go [] d s = cc
+    go (x ∷ ts) d s =
+        let same : t ≡ x = cc in
+        let queue = ap (λ (r : List (List (List ℕ))). (λ (u q : ℕ). line_at (slice_index_or r u []) q)) rows ∙ rows_placed k.rows v p row (behind f x ts) lt d in
+        let node = ap (λ (l : List ℕ). (λ (u : ℕ). slice_index l u)) numbers ∙ numbers_placed k.numbers v n lt'
+        ∙ ap (λ (m : ℕ). put (λ u. slice_index k.numbers u) v m) (value ∙ ap (heard f asleep (slice_index k.numbers v)) same) in
+        ap (λ (m : ℕ → ℕ). with_both m (seen k').queue) node ∙ ap (with_both (put (seen k).node v (heard f asleep ((seen k).node v) x))) queue
+
+-- as many of everything
+pub same_placed : (k k' : Kept) (v : ℕ) (row : List (List ℕ)) → v < length k.rows → length k'.numbers ≡ length k.numbers → k'.rows ≡ set k.rows v row →
+    length row ≡ length (row_of k v) → SamePlaces k k'
+same_placed k k' v row lt numbers rows count = record {
+  numbers = numbers;
+  rows = ap length rows ∙ length-set k.rows v row;
+  ports = λ u. ap (λ (r : List (List (List ℕ))). length (slice_index_or r u [])) rows ∙ ⊎_elim (here u) (there u) (cases_eq u v);
+}
+  where
+    here : (u : ℕ) → u ≡ v → length (slice_index_or (set k.rows v row) u []) ≡ length (row_of k u)
+    here u e = rw e (ap length (get_or-set_same k.rows v row [] lt) ∙ count)
+
+    there : (u : ℕ) → u ≢ v → length (slice_index_or (set k.rows v row) u []) ≡ length (row_of k u)
+    there u ne = ap length (get_or-set_other k.rows v u row [] ne)
+
+pub same_then : (a b c : Kept) → SamePlaces a b → SamePlaces b c → SamePlaces a c
+same_then a b c s t = record {
+  numbers = t.numbers ∙ s.numbers;
+  rows = t.rows ∙ s.rows;
+  ports = λ v. t.ports v ∙ s.ports v;
+}
+
+pub same_alike : (a : Kept) → SamePlaces a a
+same_alike a = record { numbers = refl; rows = refl; ports = λ v. refl }
+
+pub place_kept : (a b : Kept) (v p : ℕ) → SamePlaces a b → HasPlace a v p → HasPlace b v p
+place_kept a b v p s h = record {
+  node = let x = h.node in let y = s.numbers in omega arith;
+  row = let x = h.row in let y = s.rows in omega arith;
+  port = let x = h.port in let y = s.ports v in omega arith;
+}
+
+-- sends touch no number of a node
+pub sent_node : (g : Network) (v : ℕ) (ss : Outgoing) (c : Chains) → (sent g v ss c).node ≡ c.node
+sent_node g v [] c = refl
+sent_node g v (s ∷ ss) c = sent_node g v ss (sent_on g v s.0 c)
+
+pub sent_last : (g : Network) (v : ℕ) (ss : Outgoing) (s : ℕ × Message) (c : Chains) → sent g v (ss ++ s ∷ []) c ≡ sent_on g v s.0 (sent g v ss c)
+sent_last g v [] s c = refl
+sent_last g v (x ∷ ss) s c = sent_last g v ss s (sent_on g v x.0 c)
+
+-- a message more waits
+pub one_pushed : (k k' : Kept) (v p n : ℕ) (row : List (List ℕ)) → v < length k.rows → k'.numbers ≡ k.numbers → k'.rows ≡ set k.rows v row →
+    ChangesLine (row_of k v) row p (line_at (row_of k v) p ++ n ∷ []) →
+    seen k' ≡ with_last v p n (seen k)
+unfolding seen
+one_pushed k k' v p n row lt numbers rows c =
+    let queue = ap (λ (r : List (List (List ℕ))). (λ (u q : ℕ). line_at (slice_index_or r u []) q)) rows
+    ∙ rows_placed k.rows v p row (line_at (row_of k v) p ++ n ∷ []) lt c in
+    rw numbers (ap (with_queue (seen k)) queue)
+
+-- one message more is out
+pub one_sent : (g : Network) (v i n : ℕ) (ss : Outgoing) (s : ℕ × Message) (old k k' : Kept) →
+    i < length ss →
+    seen k ≡ sent g v (take i ss) (seen old) →
+    n ≡ slice_index old.numbers v + 1 →
+    seen k' ≡ with_last (far g v (slice_index_or ss i s).0) (far_port g v (slice_index_or ss i s).0) n (seen k) →
+    seen k' ≡ sent g v (take (i + 1) ss) (seen old)
+unfolding seen
+one_sent g v i n ss s old k k' lt before value here =
+    let m = slice_index_or ss i s in
+    let number : n ≡ suc ((seen k).node v) =
+    value ∙ add-one (slice_index old.numbers v)
+    ∙ ap (λ (f : ℕ → ℕ). suc (f v)) (sym (sent_node g v (take i ss) (seen old)) ∙ ap (λ (x : Chains). x.node) (sym before)) in
+    here ∙ ap (λ (x : ℕ). with_last (far g v m.0) (far_port g v m.0) x (seen k)) number
+    ∙ ap (sent_on g v m.0) before ∙ sym (sent_last g v (take i ss) m (seen old))
+    ∙ ap (λ (l : Outgoing). sent g v l (seen old)) (sym (take_more ss i s lt))
+
+-- no number anywhere
+pub none_seen : (k : Kept) → ((v : ℕ) → slice_index k.numbers v ≡ 0) → ((v p : ℕ) → line_at (row_of k v) p ≡ []) → seen k ≡ no_chains
+unfolding seen
+none_seen k numbers lines =
+    let node : (λ (v : ℕ). slice_index k.numbers v) ≡ (λ (v : ℕ). 0) = fun_ext numbers in
+    let queue : (λ (v p : ℕ). line_at (row_of k v) p) ≡ (λ (v p : ℕ). []) = fun_ext (λ v. fun_ext (lines v)) in
+    ap (λ (m : ℕ → ℕ). with_both m (seen k).queue) node ∙ ap (with_both (λ v. 0)) queue
+
+-- so many zeros
+pub zeros : (n v : ℕ) (numbers : List ℕ) → numbers ≡ replicate n 0 → slice_index numbers v ≡ 0
+zeros n v numbers is =
+    rw is (⊎_elim (λ (lt : v < n). get_or-replicate n v 0 0 lt)
+    (λ (le : n ≤ v). get_or_past (replicate n 0) v 0 (let a : length {A = ℕ} (replicate n 0) ≡ n = length-replicate n 0 in omega arith)) (cases_lt v n))

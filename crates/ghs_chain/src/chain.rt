@@ -1,0 +1,121 @@
+//! The longest chain of messages of a run.
+ghost use Rattle.ghs_chain.specs.Chains.{longest_chain};
+ghost use Rattle.ghs_chain.specs.Kept.{AreChains};
+ghost use Rattle.ghs_core.specs.NetState.{event_node, IsLawful};
+ghost use Rattle.ghs_core.specs.PutBack.{IsPutBack};
+ghost use Rattle.ghs_node.specs.Words.{is_sleeping};
+ghost use Rattle.ghs_protocol.specs.Network.{network_of};
+ghost use Rattle.ghs_protocol.specs.Run.{IsRun};
+ghost use Rattle.std.specs.Prelude.{◌≡◌, ◌++◌, ◌<◌, ◌≤◌, ◌^◌, ◌∷◌, [], IfOk, length, OnOk};
+
+use crate::chains::Chains;
+use ghs_core::net::Net;
+use ghs_graph::graph::Graph;
+use ghs_node::delta::Fate;
+use ghs_node::message::Phase;
+use ghs_node::node::Node;
+use ghs_node::react::react;
+use ghs_protocol::event::Event;
+use std::alloc::{AllocError, Global};
+
+/// How many messages the longest chain of a run has, each sent because of the one before, and each heard: its node has
+/// consumed it, or was woken by it. The events are played once more, each and each message in constant time. Refusal: want
+/// of memory.
+pub fn longest_chain(alloc: Global, graph: &Graph, events: &[Event]) -> Result<u64, AllocError>
+    requires run { IsRun (network_of graph.now) events.now }
+    requires few { length events.now ≤ 2 ^ 40 }
+    ensures { IfOk result (λ n. n ≡ longest_chain (network_of graph.now) events.now) }
+{
+    let mut net = match Net::open(alloc, graph.copy(alloc)?) {
+        Ok(net) => net,
+        Err((_, error)) => return Err(error),
+    };
+    let mut chains = Chains::none(alloc, graph)?;
+    for event in events {
+        follow(alloc, &mut net, &mut chains, *event)?;
+    }
+    Ok(chains.longest())
+}
+
+// An event happens in a net, and the chains follow it. Refusal: want of memory; both are then of no use.
+fn follow(alloc: Global, net: &mut Net, chains: &mut Chains, event: Event) -> Result<(), AllocError>
+    requires lawful { IsLawful net.old event }
+    requires few { length net.old.trace < 2 ^ 40 }
+    requires chains { AreChains net.old chains.old }
+    ensures graph { OnOk result (net.new.graph ≡ net.old.graph) }
+    ensures trace { OnOk result (net.new.trace ≡ net.old.trace ++ event ∷ []) }
+    ensures chains { OnOk result (AreChains net.new chains.new) }
+{
+    if let Event::Take(v, port) = event {
+        if net.waits_at(v, port) {
+            return put_back(net, chains, v, port);
+        }
+    }
+    react_to(alloc, net, chains, event)
+}
+
+// The Take of a message that its node only puts back happens.
+fn put_back(net: &mut Net, chains: &mut Chains, v: u32, port: u32) -> Result<(), AllocError>
+    requires lawful { IsLawful net.old (Event.Take v port) }
+    requires back { IsPutBack net.old v port }
+    requires few { length net.old.trace < 2 ^ 40 }
+    requires chains { AreChains net.old chains.old }
+    ensures graph { OnOk result (net.new.graph ≡ net.old.graph) }
+    ensures trace { OnOk result (net.new.trace ≡ net.old.trace ++ Event.Take v port ∷ []) }
+    ensures chains { OnOk result (AreChains net.new chains.new) }
+{
+    let _ = net.trace();
+    let asleep = is_asleep(net.node(v));
+    net.put_back(v, port)?;
+    chains.hear(Event::Take(v, port), asleep, Fate::Requeued)?;
+    Ok(())
+}
+
+// An event happens to which its node reacts.
+fn react_to(
+    alloc: Global,
+    net: &mut Net,
+    chains: &mut Chains,
+    event: Event,
+) -> Result<(), AllocError>
+    requires lawful { IsLawful net.old event }
+    requires few { length net.old.trace < 2 ^ 40 }
+    requires chains { AreChains net.old chains.old }
+    ensures graph { OnOk result (net.new.graph ≡ net.old.graph) }
+    ensures trace { OnOk result (net.new.trace ≡ net.old.trace ++ event ∷ []) }
+    ensures chains { OnOk result (AreChains net.new chains.new) }
+{
+    let _ = net.trace();
+    let v = node_of(event);
+    let node = net.node(v);
+    let asleep = is_asleep(node);
+    let delta = match react(alloc, node, net.work(event)) {
+        Ok(delta) => delta,
+        Err(_) => return Err(AllocError),
+    };
+    net.reserve(event, &delta)?;
+    chains.hear(event, asleep, delta.fate)?;
+    chains.send(net.graph(), v, delta.sends.as_slice())?;
+    net.play(event, &delta);
+    Ok(())
+}
+
+// The node at which an event happens.
+fn node_of(event: Event) -> u32
+    ensures { result ≡ event_node event }
+{
+    match event {
+        Event::Wake(v) => v,
+        Event::Take(v, _) => v,
+    }
+}
+
+fn is_asleep(node: &Node) -> bool
+    ensures { result ≡ is_sleeping node.now.head.phase }
+{
+    match node.head().phase {
+        Phase::Sleeping => true,
+        Phase::Find => false,
+        Phase::Found => false,
+    }
+}

@@ -1,0 +1,7 @@
+//! Time: how long the longest chain of messages of a run is, each sent because of the one before.
+#![tactic(auto)]
+
+pub mod chain;
+mod chains;
+pub mod laws;
+mod row;
