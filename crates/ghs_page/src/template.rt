@@ -123,6 +123,7 @@ circle.halo.bx { fill: var(--line); }
 .nowline { stroke: var(--act); stroke-width: 1.5; stroke-dasharray: 3 4; }
 .plot { fill: none; stroke: var(--ink); stroke-width: 2; }
 .plot.b { stroke-dasharray: 5 3; }
+#strip text { paint-order: stroke; stroke: var(--panel); stroke-width: 4px; }
 .tickline { stroke: var(--dim); stroke-width: 1; }
 dialog { color: var(--ink); background: var(--paper); border: 2px solid var(--ink); max-width: 46rem; }
 dialog td:first-child { font-weight: bold; padding-right: 1.2em; }
@@ -130,7 +131,7 @@ dialog td { white-space: normal; }
 @media (min-width: 1500px) { body { grid-template-columns: minmax(0, 1fr) 29rem; } }
 @media (max-height: 820px) { :root { --num: 15px; } aside { font-size: 13.5px; line-height: 1.25; } #strip { height: 60px; } }
 @media (max-width: 900px) { body { grid-template: auto minmax(0, 1fr) minmax(0, 14rem) auto / minmax(0, 1fr); } header, footer, .bad { grid-column: 1; } aside { display: block; overflow-y: auto; border-left: 0; border-top: 1px solid var(--line); } }
-@media (max-width: 500px) { :root { --num: 14px; } header, footer { padding: .2rem .4rem; gap: .25rem; } footer div { gap: .25rem; } button { min-width: 2em; padding: .1em .35em; } #what, .legend, .wordy { display: none; } #strip { height: 44px; } body { grid-template-rows: auto minmax(0, 1fr) minmax(0, 12rem) auto; } #goal { max-width: 9em; } }
+@media (max-width: 500px) { :root { --num: 14px; } header, footer { padding: .2rem .4rem; gap: .25rem; } footer div { gap: .25rem; } button { min-width: 2em; padding: .1em .35em; } #what, .legend, .wordy { display: none; } #strip { height: 44px; } #strip text { font-size: 11px; } body { grid-template-rows: auto minmax(0, 1fr) minmax(0, 12rem) auto; } #goal { max-width: 9em; } }
 .sr { position: absolute; width: 1px; height: 1px; overflow: hidden; clip-path: inset(50%); }
 #net { touch-action: none; }
 .node:focus { outline: none; }
@@ -619,6 +620,7 @@ function shape() {
 const set = (e, attrs) => { for (const a in attrs) put(e, a, String(attrs[a])); };
 function shapeNode(v, r) {
   const [x, y] = pos[v], n = nodes[v];
+  n.sig = null;
   set(n.g, { transform: 'translate(' + f1([x, y]) + ')' });
   set(n.halo, { r: r + Math.min(8, r * .45 + 1), cx: x.toFixed(1), cy: y.toFixed(1) });
   set(n.body, { r });
@@ -707,7 +709,10 @@ function drawNet(c) {
   });
   $('tags').innerHTML = html;
   for (let v = 1; v <= G.nodes; v++) {
-    const n = nodes[v], f = frag(v);
+    const n = nodes[v], f = frag(v), mine = (s && s.node === v ? 1 : 0) + (pin === v ? 2 : 0) + (v === focus ? 4 : 0) + (n.halted ? 8 : 0) + (f.nodes > 1 ? 16 : 0), sig = n.phase + n.level + '/' + n.name + '/' + f.name + '/' + mine;
+    // what looks as before isn't touched
+    if (n.sig === sig) continue;
+    n.sig = sig;
     put(n.g, 'class', 'node ' + n.phase + (n.name ? ' named s' + (look.get(n.name) ?? 0) : '') + (n.halted ? ' halted' : '') + (s && s.node === v ? ' at' : '') + (pin === v ? ' pinned' : ''));
     put(n.g, 'aria-label', stateOf(v));
     put(n.g, 'tabindex', v === focus ? '0' : '-1');
