@@ -9,8 +9,7 @@ use Rattle.ghs_graph.specs.Key.{key_lt, no_key}
 use Rattle.ghs_graph.specs.Links.{IsRising}
 use Rattle.ghs_graph.proofs.lemmas.Keys.{lt_irreflexive, lt_asymmetric}
 use Rattle.ghs_protocol.specs.Merging.{Fragments, singles, united, Between, IsLeastOut, one_connect, Unites, Merge, Absorb, Merging, Done, Then}
-use Rattle.ghs_protocol.proofs.merging.United.{Either, either_cases, inside, outside, still_one, was_one, united_even}
-use Rattle.ghs_protocol.proofs.merging.OneEnd.{merging_on}
+use Rattle.ghs_protocol.proofs.lemmas.Merging.{Either, inside, merging_on, outside, still_one, united_even, was_one}
 use Rattle.ghs_cores.specs.Fragments.{AreTrees, AreMerged, HasUnited, First_absorbed, Second_absorbed, Merged, IsLeader}
 use Rattle.ghs_cores.proofs.Trees.{GoesUnder, trees_within, trees_under, now_child, now_other}
 

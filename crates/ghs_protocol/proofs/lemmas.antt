@@ -5,6 +5,7 @@ pub mod Events
 pub mod Fragments
 pub mod Graphs
 pub mod Lasting
+pub mod Merging
 pub mod Nodes
 pub mod Pushes
 pub mod Runs

@@ -16,6 +16,7 @@ use ghs_sweep::seeded::{Setup, figures_of_seed};
 use ghs_sweep::summary::summary_text;
 use ghs_view::stored::{StoredFault, stored_page};
 use ghs_world::wake_set::WakeSet;
+use ghs_world::world::World;
 use std::alloc::{AllocError, Global};
 use std::process::Abort;
 use std::test::Fail;
@@ -52,12 +53,18 @@ fn show_page(rt: &impl Abort, alloc: Global, events: &[Event], k: usize) -> Turn
     turn
 }
 
+/// The figures of a world's net, which has no more events than the world has turns.
+fn figures_in(alloc: Global, world: &World) -> Result<Figures, AllocError> {
+    let _ = world.turns();
+    figures_of(alloc, world.net())
+}
+
 /// The figures of a world's net; the world stands.
 fn take_figures(rt: &impl Abort, alloc: Global, events: &[Event], k: usize) -> Turn {
     let world = world_after(alloc, events).expect(rt, "a run");
-    let whole = figures_of(alloc, world.net()).expect(rt, "figures");
+    let whole = figures_in(alloc, &world).expect(rt, "figures");
     order(alloc, k);
-    let answer = figures_of(alloc, world.net());
+    let answer = figures_in(alloc, &world);
     let turn = turn_of(alloc, k, &answer);
     if let Ok(figures) = answer {
         assert!(rt; figures == whole);
