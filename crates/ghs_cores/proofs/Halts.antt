@@ -1,9 +1,9 @@
 -- Nodes that have halted, put down one after another.
-use Rattle.std.proofs.Common.{◌≡◌, ◌≢◌, ℕ, ◌<◌, ◌≤◌, ◌+◌, inl, inr, ◌⊎◌, ⊎_elim, List, length, get_or, set, refl, sym, ◌∙◌, ap, subst, arith, get_or-set_same, get_or-set_other, length-set}
+use Rattle.std.proofs.Common.{◌≡◌, ◌≢◌, ℕ, ◌<◌, ◌≤◌, ◌+◌, inr, ⊎_elim, List, length, get_or, set, sym, ◌∙◌, ap, subst, arith, get_or-set_same, get_or-set_other, length-set}
 use Rattle.std.proofs.lemmas.Bool.{cases_eq}
 use Rattle.ghs_graph.specs.Components.{IsRoot}
 use Rattle.ghs_graph.specs.Graph.{Shape}
-use Rattle.ghs_graph.specs.Links.{Joined, Same}
+use Rattle.ghs_graph.specs.Links.{Same}
 use Rattle.ghs_graph.proofs.lemmas.Components.{root_is_one}
 use Rattle.ghs_graph.proofs.lemmas.Joining.{joined_then, joined_back}
 use Rattle.ghs_protocol.specs.Marks.{HasHalted, HasEnded}

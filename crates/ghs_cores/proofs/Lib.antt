@@ -1,4 +1,5 @@
 -- Serves the proofs: nothing here has to be believed.
+mod Agreeing
 mod Halts
 mod Listing
 mod Singles

@@ -1,12 +1,11 @@
 -- Components put down one after another, by rising least node.
-use Rattle.std.proofs.Common.{◌≡◌, ◌≢◌, ℕ, ◌<◌, ◌≤◌, ◌+◌, ⊎_elim, List, [], ◌∷◌, ◌++◌, length, get_or, refl, sym, ◌∙◌, ap, subst, arith}
-use Rattle.std.specs.List.{All, AllPairs, Contains}
+use Rattle.std.proofs.Common.{◌≡◌, ◌≢◌, ℕ, ◌<◌, ◌≤◌, ◌+◌, ⊎_elim, List, [], ◌∷◌, ◌++◌, sym, ◌∙◌, subst, arith}
+use Rattle.std.specs.List.{All}
 use Rattle.std.proofs.lemmas.Bool.{cases_eq}
 use Rattle.std.proofs.lemmas.List.Quantifiers.{all_pairs_push}
 use Rattle.std.proofs.lemmas.List.Elements.{All-push, Contains-push, Contains-append_left}
 use Rattle.ghs_graph.specs.Components.{IsRoot}
 use Rattle.ghs_graph.specs.Graph.{Shape}
-use Rattle.ghs_graph.specs.Links.{Same}
 use Rattle.ghs_graph.proofs.lemmas.Components.{root_is_one}
 use Rattle.ghs_cores.specs.declared.component.Component.{Component}
 use Rattle.ghs_cores.specs.Components.{AreBelow}

@@ -1,5 +1,5 @@
 -- No links taken: each node is a fragment of its own.
-use Rattle.std.proofs.Common.{◌≡◌, ℕ, ◌<◌, inl, Option, None, List, [], length, get_or, refl, sym, ◌∙◌, arith}
+use Rattle.std.proofs.Common.{◌≡◌, ℕ, ◌<◌, inl, Option, None, List, [], length, get_or, refl, arith}
 use Rattle.ghs_graph.specs.declared.key.Key.{Key}
 use Rattle.ghs_protocol.specs.Merging.{singles, Done}
 use Rattle.ghs_cores.specs.Fragments.{AreMerged}

@@ -1,10 +1,10 @@
 -- A link that leads from one fragment to another unites them, whichever level is the higher.
-use Rattle.std.proofs.Common.{◌≡◌, ◌≢◌, ℕ, suc, ◌<◌, ◌≤◌, ◌+◌, inl, inr, ⊎_elim, Option, None, Some, List, length, get_or, set, refl, sym, ◌∙◌, ap, subst, arith, get_or-set_same, get_or-set_other, length-set}
+use Rattle.std.proofs.Common.{◌≡◌, ◌≢◌, ℕ, suc, ◌<◌, ◌+◌, inl, inr, Option, None, Some, List, length, get_or, set, refl, sym, ◌∙◌, ap, arith, get_or-set_same, get_or-set_other, length-set}
 use Rattle.ghs_graph.specs.declared.key.Key.{Key}
 use Rattle.ghs_graph.specs.Key.{no_key}
 use Rattle.ghs_graph.specs.Links.{IsRising}
-use Rattle.ghs_protocol.specs.Merging.{Fragments, united, Between, IsLeastOut, one_connect, Unites, Merge, Absorb}
-use Rattle.ghs_cores.specs.Fragments.{AreTrees, AreMerged, HasUnited, First_absorbed, Second_absorbed, Merged, IsLeader}
+use Rattle.ghs_protocol.specs.Merging.{Between, Merge, Absorb}
+use Rattle.ghs_cores.specs.Fragments.{AreMerged, HasUnited, First_absorbed, Second_absorbed, Merged, IsLeader}
 use Rattle.ghs_cores.proofs.Trees.{GoesUnder}
 use Rattle.ghs_cores.proofs.Uniting.{leader_one, least_out, merged_more}
 

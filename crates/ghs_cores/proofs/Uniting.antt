@@ -1,5 +1,5 @@
 -- One more link, in key order: what merging leads to.
-use Rattle.std.proofs.Common.{◌≡◌, ◌≢◌, ℕ, suc, ◌<◌, ◌≤◌, ◌+◌, min, inl, inr, ◌⊎◌, ⊎_elim, true, false, Option, None, Some, List, [], ◌∷◌, ◌++◌, length, get_or, set, refl, sym, ◌∙◌, ap, subst, arith, get_or-set_same, get_or-set_other, length-set}
+use Rattle.std.proofs.Common.{◌≡◌, ◌≢◌, ℕ, ◌<◌, ◌≤◌, ◌+◌, inl, inr, ⊎_elim, false, Option, None, List, [], ◌∷◌, ◌++◌, length, get_or, set, sym, ◌∙◌, ap, subst, arith, length-set}
 use Rattle.std.specs.List.{Contains}
 use Rattle.std.proofs.lemmas.Bool.{cases_eq, cases_lt}
 use Rattle.std.proofs.lemmas.List.{get_or_default}
@@ -8,9 +8,9 @@ use Rattle.ghs_graph.specs.declared.key.Key.{Key}
 use Rattle.ghs_graph.specs.Key.{key_lt, no_key}
 use Rattle.ghs_graph.specs.Links.{IsRising}
 use Rattle.ghs_graph.proofs.lemmas.Keys.{lt_irreflexive, lt_asymmetric}
-use Rattle.ghs_protocol.specs.Merging.{Fragments, singles, united, Between, IsLeastOut, one_connect, Unites, Merge, Absorb, Merging, Done, Then}
+use Rattle.ghs_protocol.specs.Merging.{singles, united, Between, IsLeastOut, one_connect, Unites, Done, Then}
 use Rattle.ghs_protocol.proofs.lemmas.Merging.{Either, inside, merging_on, outside, still_one, united_even, was_one}
-use Rattle.ghs_cores.specs.Fragments.{AreTrees, AreMerged, HasUnited, First_absorbed, Second_absorbed, Merged, IsLeader}
+use Rattle.ghs_cores.specs.Fragments.{AreMerged, IsLeader}
 use Rattle.ghs_cores.proofs.Trees.{GoesUnder, trees_within, trees_under, now_child, now_other}
 
 module _ (ks : List Key) (rising : IsRising ks) (t : ℕ) (more : t < length ks) (ps ls : List ℕ) (cs : List (Option Key)) (s : AreMerged ks t ps ls cs) where

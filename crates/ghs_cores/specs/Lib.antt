@@ -1,4 +1,5 @@
 pub mod Components
 pub mod Fragments
 pub mod Halting
+pub mod Laws
 pub mod Text

@@ -4,5 +4,6 @@
 pub mod component;
 pub mod ended;
 pub mod fragments;
+pub mod laws;
 pub mod merging;
 pub mod text;

@@ -1,4 +1,4 @@
-use Rattle.std.proofs.Common.{◌∙◌, ◌<◌, None, length, arith}
+use Rattle.std.proofs.Common.{◌∙◌, None, arith}
 use Rattle.std.proofs.lemmas.Grind.{get_or_default_zero}
 use Rattle.std.proofs.lemmas.List.{get_or_default}
 use Rattle.ghs_cores.proofs.Whole.{merges_to}

@@ -1,4 +1,4 @@
-use Rattle.std.proofs.Common.{◌≡◌, ◌∙◌, ◌≤◌, sym, subst, arith}
+use Rattle.std.proofs.Common.{◌≤◌, subst, arith}
 use Rattle.ghs_graph.specs.Components.{IsRoot}
 use Rattle.ghs_cores.specs.Components.{IsOfGraph}
 use Rattle.ghs_cores.proofs.Listing.{below_none, below_one}

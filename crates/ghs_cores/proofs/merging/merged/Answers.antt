@@ -1,4 +1,4 @@
-use Rattle.std.proofs.Common.{◌≡◌, ◌∙◌, ◌<◌, ◌+◌, length, get_or, sym, ap, arith}
+use Rattle.std.proofs.Common.{◌∙◌, ◌+◌, get_or, sym, ap}
 use Rattle.ghs_graph.specs.Key.{no_key}
 use Rattle.ghs_cores.proofs.merging.merged.Goals as goal
 

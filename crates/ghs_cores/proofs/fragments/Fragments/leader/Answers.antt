@@ -1,4 +1,4 @@
-use Rattle.std.proofs.Common.{◌≡◌, ◌∙◌, ◌<◌, ℕ, length, get_or, ap, sym, subst, arith}
+use Rattle.std.proofs.Common.{◌≡◌, ◌∙◌, ◌<◌, length, get_or, ap}
 use Rattle.std.proofs.lemmas.Grind.{get_or_default_zero}
 use Rattle.ghs_cores.proofs.fragments.Fragments.leader.Goals as goal
 

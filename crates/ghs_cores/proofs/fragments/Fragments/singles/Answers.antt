@@ -1,4 +1,4 @@
-use Rattle.std.proofs.Common.{◌≡◌, arith}
+use Rattle.std.proofs.Common.{arith}
 use Rattle.ghs_cores.proofs.Singles.{merged_none}
 use Rattle.ghs_cores.proofs.fragments.Fragments.singles.Goals as goal
 
