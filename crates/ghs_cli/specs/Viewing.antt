@@ -1,5 +1,5 @@
 -- Pages of runs of a graph.
-use Rattle.std.specs.Prelude.{◌≡◌, ℕ, List}
+use Rattle.std.specs.Prelude.{ℕ, List}
 use Rattle.ghs_graph.specs.Graph.{Shape}
 use Rattle.ghs_patient.specs.Picking.{IsPickedBy}
 use Rattle.ghs_protocol.specs.declared.event.Event.{Event}

@@ -128,11 +128,7 @@ fn output_of<R: Source, T: Source, H: Threads + Wait + Eprint + Sync>(
 
 /// The text of the minimum spanning forest of the graph that the device gives, with the cores of its components where they
 /// are asked for.
-fn tree_text_of<R: Source>(
-    alloc: Global,
-    core: bool,
-    graph: &mut R,
-) -> Result<Vec<u8>, ServeFault>
+fn tree_text_of<R: Source>(alloc: Global, core: bool, graph: &mut R) -> Result<Vec<u8>, ServeFault>
     requires { R.has_failed graph.old ≡ false }
     ensures text { IfOk result (λ text. IfSome (R.left graph.old) (λ input. IsTreeText core input text.items)) }
     ensures fault { IfErr result (λ fault. IfSome (R.left graph.old) (λ input. IsGraphCause input fault)) }
