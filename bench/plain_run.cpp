@@ -5,10 +5,15 @@
 //
 // An event has a place: each node its waking and then its ports, node by node. A place is 32 bytes, with the first message
 // that waits there; what waits behind it stands in a ring. A key is its number in key order, so a message takes 8 bytes
-// and a node 32. Which places have an event that may happen is a row of bits, counted by blocks, so that the event of a
-// number is found at once. The large arrays are laid on huge pages. Nothing is checked.
+// and a node 32; its level and its phase stand in a byte apart, so that a message that waits is told without the node. Which
+// places have an event that may happen is a row of bits, counted by blocks, so that the event of a number is found at once;
+// while messages are only put back the row stays as it is, and the places of the next events are looked up and fetched
+// early. The large arrays are laid on huge pages. Nothing is checked.
 #include "plain.h"
 #include <cstdlib>
+#ifdef __BMI2__
+#include <immintrin.h>
+#endif
 #include <string>
 #include <sys/mman.h>
 
@@ -53,6 +58,7 @@ class Flags {
 
   public:
     uint32_t raised = 0;
+    uint32_t changes = 0; // how often a flag was raised or lowered
 
     explicit Flags(size_t count) {
         bits = lay<uint64_t>((count >> 9) * 8 + 8);
@@ -65,6 +71,7 @@ class Flags {
     void add(uint32_t place, int by) {
         few[place >> 9] += by, some[place >> 13] += by, more[place >> 17] += by, most[place >> 21] += by;
         raised += by;
+        ++changes;
     }
 
     void raise(uint32_t place) {
@@ -90,7 +97,11 @@ class Flags {
         at <<= 3;
         for (uint32_t count; rank >= (count = __builtin_popcountll(bits[at])); ++at) rank -= count;
         uint64_t word = bits[at];
+#ifdef __BMI2__
+        word = _pdep_u64(uint64_t(1) << rank, word);
+#else
         for (; rank > 0; --rank) word &= word - 1;
+#endif
         return uint32_t(at << 6) | __builtin_ctzll(word);
     }
 };
@@ -111,7 +122,7 @@ struct Message {
 // What waits behind the first message of a place.
 struct Ring {
     uint32_t head, room;
-    Message at[1];
+    Message at[]; // room of them
 };
 
 struct Place {
@@ -127,18 +138,50 @@ struct alignas(32) Node {
     uint32_t first; // the place of port 0
     uint32_t name;
     uint32_t in_branch, best_port, best_key, probe, least;
-    uint32_t find_count : 24; // wraps above 2^24, as a node has 2^23 ports at most
-    uint32_t level : 5;
-    uint32_t phase : 2;
-    uint32_t halted : 1;
+    uint32_t find_count;
 };
 static_assert(sizeof(Message) == 8 && sizeof(Place) == 32 && sizeof(Node) == 32, "sizes");
+
+// The words of the next events, and while no flag changes the places that they pick.
+class Ahead {
+    static constexpr uint32_t MOST = 4;
+    Words words;
+    uint64_t word[MOST + 1];
+    uint32_t pick[MOST + 1], at = 0, known = 0, still = 0;
+
+  public:
+    explicit Ahead(uint64_t seed) : words(seed) {
+        for (uint64_t &it : word) it = words.next();
+    }
+
+    // The place that the next word picks.
+    uint32_t next(const Flags &ready) {
+        const uint32_t place = known > 0 ? pick[at] : ready.find(word[at] % ready.raised);
+        word[at] = words.next();
+        at = at == MOST ? 0 : at + 1;
+        if (known > 0) --known;
+        return place;
+    }
+
+    void forget() { known = still = 0; }
+
+    // After some events without a change, two more places are looked up and fetched.
+    void look(const Flags &ready, const Place *place) {
+        if (++still < 3) return;
+        for (uint32_t count = 0; count < 2 && known < MOST; ++count, ++known) {
+            const uint32_t k = (at + known) % (MOST + 1);
+            pick[k] = ready.find(word[k] % ready.raised);
+            __builtin_prefetch(&place[pick[k]]);
+        }
+    }
+};
 
 class Net {
     const Graph &graph;
     size_t places;
     Place *place;
     Node *nodes;
+    uint8_t *states; // of each node its level, and its phase above five bits
     Flags ready;
     uint64_t sent[7] = {};
     std::vector<uint32_t> root;
@@ -156,7 +199,7 @@ class Net {
         Ring *ring = p.rest;
         if (ring == nullptr || behind == ring->room) {
             const uint32_t room = ring == nullptr ? 4 : 2 * ring->room;
-            Ring *wider = static_cast<Ring *>(std::malloc(sizeof(Ring) + (room - 1) * sizeof(Message)));
+            Ring *wider = static_cast<Ring *>(std::malloc(sizeof(Ring) + room * sizeof(Message)));
             if (wider == nullptr) std::exit(4);
             wider->head = 0, wider->room = room;
             for (uint32_t k = 0; k < behind; ++k) wider->at[k] = ring->at[(ring->head + k) & (behind - 1)];
@@ -191,51 +234,54 @@ class Net {
         p.rest->at[(p.rest->head + p.waiting - 2) & (p.rest->room - 1)] = first;
     }
 
+    uint8_t level(uint32_t v) const { return states[v] & 31; }
+    Phase phase(uint32_t v) const { return Phase(states[v] >> 5); }
+    void set(uint32_t v, uint8_t level, Phase phase) { states[v] = level | phase << 5; }
+
     // One above the place of the last port: the next node's waking.
     static uint32_t end_of(const Node &n) { return (&n)[1].first - 1; }
 
     void halt(uint32_t v) {
-        nodes[v].halted = true;
         if (!ended[root[v]]) ended[root[v]] = true, --running;
     }
 
     void wake(uint32_t v) {
         Node &n = nodes[v];
-        n.phase = FOUND;
+        set(v, 0, FOUND);
         if (may_wake(v)) ready.lower(n.first - 1);
         if (n.first == end_of(n)) return halt(v);
         place[n.first].mark = BRANCH;
         send(n.first, {0, CONNECT, 0, SLEEPING});
     }
 
-    void report(Node &n) {
+    void report(Node &n, uint32_t v) {
         if (n.find_count != 0 || n.probe != NONE) return;
-        n.phase = FOUND;
+        set(v, level(v), FOUND);
         send(n.in_branch, {n.best_key, REPORT, 0, SLEEPING});
     }
 
-    void test(Node &n) {
+    void test(Node &n, uint32_t v) {
         const uint32_t end = end_of(n);
         while (n.least < end && place[n.least].mark != BASIC) ++n.least;
         if (n.least < end) {
             n.probe = n.least;
-            send(n.least, {n.name, TEST, uint8_t(n.level), SLEEPING});
+            send(n.least, {n.name, TEST, level(v), SLEEPING});
         } else {
             n.probe = NONE;
-            report(n);
+            report(n, v);
         }
     }
 
-    void change_root(Node &n) {
+    void change_root(Node &n, uint32_t v) {
         Place &p = place[n.best_port];
         if (p.mark == BRANCH) return send(n.best_port, {0, CHANGEROOT, 0, SLEEPING});
         p.mark = BRANCH;
-        send(n.best_port, {0, CONNECT, uint8_t(n.level), SLEEPING});
+        send(n.best_port, {0, CONNECT, level(v), SLEEPING});
     }
 
-    void hear(Node &n, uint32_t port, uint32_t key) {
+    void hear(Node &n, uint32_t v, uint32_t port, uint32_t key) {
         if (key < n.best_key) n.best_port = port, n.best_key = key;
-        report(n);
+        report(n, v);
     }
 
     // The first message that waits at a port is taken.
@@ -245,22 +291,23 @@ class Net {
         Node &n = nodes[v];
         switch (message.kind) {
         case CONNECT:
-            if (n.phase == SLEEPING) wake(v);
-            if (message.level < n.level) {
+            if (phase(v) == SLEEPING) wake(v);
+            if (message.level < level(v)) {
                 consume(at);
                 place[at].mark = BRANCH;
-                send(at, {n.name, INITIATE, uint8_t(n.level), Phase(n.phase)});
-                if (n.phase == FIND) ++n.find_count;
+                send(at, {n.name, INITIATE, level(v), phase(v)});
+                if (phase(v) == FIND) ++n.find_count;
             } else if (place[at].mark == BASIC) {
                 put_back(at);
             } else {
                 consume(at);
-                send(at, {place[at].key, INITIATE, uint8_t(n.level + 1), FIND});
+                send(at, {place[at].key, INITIATE, uint8_t(level(v) + 1), FIND});
             }
             return;
         case INITIATE: {
             consume(at);
-            n.level = message.level, n.name = message.key, n.phase = message.phase;
+            set(v, message.level, message.phase);
+            n.name = message.key;
             n.in_branch = at;
             n.best_port = NONE, n.best_key = NONE;
             const uint32_t end = end_of(n);
@@ -269,40 +316,40 @@ class Net {
                 send(port, message);
                 if (message.phase == FIND) ++n.find_count;
             }
-            if (message.phase == FIND) test(n);
+            if (message.phase == FIND) test(n, v);
             return;
         }
         case TEST:
-            if (n.phase == SLEEPING) wake(v);
-            if (message.level > n.level) return put_back(at);
+            if (phase(v) == SLEEPING) wake(v);
+            if (message.level > level(v)) return put_back(at);
             consume(at);
             if (message.key != n.name) return send(at, {0, ACCEPT, 0, SLEEPING});
             if (place[at].mark == BASIC) place[at].mark = REJECTED;
-            if (n.probe == at) test(n);
+            if (n.probe == at) test(n, v);
             else send(at, {0, REJECT, 0, SLEEPING});
             return;
         case ACCEPT:
             consume(at);
             n.probe = NONE;
-            return hear(n, at, place[at].key);
+            return hear(n, v, at, place[at].key);
         case REJECT:
             consume(at);
             if (place[at].mark == BASIC) place[at].mark = REJECTED;
-            return test(n);
+            return test(n, v);
         case REPORT:
             if (at != n.in_branch) {
                 consume(at);
                 --n.find_count;
-                return hear(n, at, message.key);
+                return hear(n, v, at, message.key);
             }
-            if (n.phase == FIND) return put_back(at);
+            if (phase(v) == FIND) return put_back(at);
             consume(at);
-            if (message.key > n.best_key) change_root(n);
+            if (message.key > n.best_key) change_root(n, v);
             else if (message.key == NONE && n.best_key == NONE) halt(v);
             return;
         case CHANGEROOT:
             consume(at);
-            return change_root(n);
+            return change_root(n, v);
         }
     }
 
@@ -325,7 +372,7 @@ class Net {
 
     Net(const Graph &graph, bool first)
         : graph(graph), places(graph.nodes + 2 * graph.keys.size()), place(lay<Place>(places)),
-          nodes(lay<Node>(graph.nodes + 2)), ready(places), first(first) {
+          nodes(lay<Node>(graph.nodes + 2)), states(lay<uint8_t>(graph.nodes + 2)), ready(places), first(first) {
         std::vector<uint32_t> next(graph.nodes + 2);
         for (const Key key : graph.keys) ++next[low_of(key) + 1], ++next[high_of(key) + 1];
         for (uint32_t v = 1; v <= graph.nodes + 1; ++v) {
@@ -348,13 +395,15 @@ class Net {
     }
 
     void run(uint64_t seed) {
-        Words words(seed);
+        Ahead ahead(seed);
         while (running > 0) {
-            const uint32_t at = ready.find(words.next() % ready.raised);
+            const uint32_t at = ahead.next(ready);
             if (trace != nullptr) trace->push_back(at);
-            const uint32_t v = place[at].node;
-            if (at < nodes[v].first) wake(v);
+            const uint32_t changes = ready.changes;
+            if (place[at].waiting == 0) wake(place[at].node); // nothing waits at a node's waking
             else deliver(at);
+            if (ready.changes != changes) ahead.forget();
+            else ahead.look(ready, place);
         }
     }
 
