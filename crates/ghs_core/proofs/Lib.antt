@@ -19,3 +19,4 @@ pub mod Interleaved
 pub mod Enough
 pub mod CensusRows
 pub mod lemmas
+mod OneEnd

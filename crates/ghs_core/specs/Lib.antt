@@ -8,3 +8,4 @@ pub mod Marked
 pub mod Census
 pub mod Waits
 pub mod PutBack
+pub mod OneEnd

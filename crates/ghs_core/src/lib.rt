@@ -8,6 +8,7 @@ mod halts;
 pub mod ledger;
 mod marked;
 pub mod net;
+pub mod one_end;
 mod parts;
 pub mod waits;
 

@@ -3,7 +3,7 @@
 
 pub mod component;
 pub mod ended;
-pub mod fragments;
+mod fragments;
 pub mod laws;
 pub mod merging;
 pub mod text;

@@ -11,4 +11,4 @@ pub mod SilentEnds
 pub mod Quiet
 pub mod SameWays
 pub mod OneNet
-pub mod SameConnects
+pub mod Ended

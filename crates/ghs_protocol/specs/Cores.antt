@@ -8,7 +8,7 @@ use Rattle.ghs_node.specs.declared.message.Phase.TheVariants.{Sleeping, Found}
 use Rattle.ghs_node.specs.NodeState.{mark_at}
 use Rattle.ghs_protocol.specs.Network.{Network, network_of, At, port_at}
 use Rattle.ghs_protocol.specs.Net.{Net}
-use Rattle.ghs_protocol.specs.Marks.{IsJoined, HasHalted}
+use Rattle.ghs_protocol.specs.Marks.{IsJoined, HasHalted, HasEnded}
 use Rattle.ghs_protocol.specs.Laws.{IsNetOf}
 use Rattle.ghs_protocol.specs.Merging.{Fragments, singles, one_connect, Merging, IsWhole, MergesAll}
 
@@ -78,16 +78,16 @@ QuietHalts = (g : Shape) (w : Net) (u : ℕ) → IsQuietAt g w u → (HasHalted 
 abbrev pub OneEnd : Type 0
 OneEnd = (g : Shape) (w w' : Net) (u : ℕ) → IsQuietAt g w u → IsQuietAt g w' u → w.node u ≡ w'.node u
 
--- nothing waits, and nobody sleeps
-pub record IsQuiet (g : Shape) (w : Net) : Type 0 where
-  pub net : IsNetOf g w
-  pub silent : (v p : ℕ) → At (network_of g) v p → w.queue v p ≡ []
-  pub awake : (u : ℕ) → 1 ≤ u → u ≤ g.nodes → (w.node u).head.phase ≢ Sleeping
+-- no node of a component has a higher level than one of it that has halted
+abbrev pub HaltedAreHighest : Type 0
+HaltedAreHighest =
+    (g : Shape) (w : Net) → IsNetOf g w → (v u : ℕ) → 1 ≤ v → v ≤ g.nodes → HasHalted w v → Joined (links g.keys) v u →
+    (w.node u).head.level ≤ (w.node v).head.level
 
--- then as many Connects have been sent as merging the graph takes
+-- once the run has ended, as many Connects have been sent as merging the graph takes
 abbrev pub ConnectsOfGraph : Type 0
-ConnectsOfGraph = (g : Shape) (w : Net) → IsQuiet g w → MergesAll g.keys one_connect (w.sent 0)
+ConnectsOfGraph = (g : Shape) (w : Net) → IsNetOf g w → HasEnded g w → MergesAll g.keys one_connect (w.sent 0)
 
--- so, whatever the orders of events and whoever wakes, as many in each run
+-- so, whatever the orders of events and whoever wakes, as many in each run that has ended
 abbrev pub ConnectsAgree : Type 0
-ConnectsAgree = (g : Shape) (w w' : Net) → IsQuiet g w → IsQuiet g w' → w.sent 0 ≡ w'.sent 0
+ConnectsAgree = (g : Shape) (w w' : Net) → IsNetOf g w → IsNetOf g w' → HasEnded g w → HasEnded g w' → w.sent 0 ≡ w'.sent 0

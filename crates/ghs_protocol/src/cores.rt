@@ -1,6 +1,6 @@
 //! What all orders have in common: fragments of the graph merge in any order to one end, and so do those of the net. Each law is a function that does nothing.
 ghost use Rattle.ghs_protocol.specs.Merging.{OrdersAgree, EndsAreWhole, MergingEnds};
-ghost use Rattle.ghs_protocol.specs.Cores.{HaltedAreCoreEnds, CoreIsOfGraph, OneCore, QuietNames, QuietNodes, QuietBranches, QuietHalts, OneEnd, ConnectsOfGraph, ConnectsAgree};
+ghost use Rattle.ghs_protocol.specs.Cores.{HaltedAreCoreEnds, CoreIsOfGraph, OneCore, QuietNames, QuietNodes, QuietBranches, QuietHalts, OneEnd, HaltedAreHighest, ConnectsOfGraph, ConnectsAgree};
 
 /// All orders of merging the graph end in one state, after as many steps, and as much is paid, whatever fragments pay for going out.
 pub fn law_orders_agree()
@@ -57,12 +57,18 @@ pub fn law_one_end()
     ensures { OneEnd }
 {}
 
-/// Where nothing waits and nobody sleeps, as many Connects have been sent as merging the graph alone takes: two for a merge, one for an absorb.
+/// No node of a component has a higher level than one of it that has halted.
+pub fn law_halted_highest()
+    ensures { HaltedAreHighest }
+{}
+
+/// Once a run has ended, as where nothing waits and nobody sleeps, as many Connects have been sent as merging the graph alone takes:
+/// two for a merge, one for an absorb.
 pub fn law_connects_of_graph()
     ensures { ConnectsOfGraph }
 {}
 
-/// In any two nets in which nothing waits and nobody sleeps as many Connects have been sent.
+/// In any two runs that have ended as many Connects have been sent.
 pub fn law_connects_agree()
     ensures { ConnectsAgree }
 {}

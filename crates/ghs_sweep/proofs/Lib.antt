@@ -6,3 +6,4 @@ pub mod Appending
 pub mod Lining
 pub mod Measuring
 mod SummaryExamples
+mod Fixed

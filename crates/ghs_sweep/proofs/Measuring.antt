@@ -6,9 +6,9 @@ use Rattle.ghs_sweep.specs.declared.figures.Figures.{Figures}
 use Rattle.ghs_sweep.specs.declared.measure.Measure.{Measure}
 use Rattle.ghs_sweep.specs.Summary.{AreMeasureLines, IsMeasureLine, NextMeasure}
 
--- four parts behind a text are one behind it
-pub four_behind : (o a b c d : List ℕ) → o ++ a ++ b ++ c ++ d ≡ o ++ (a ++ b ++ c ++ d)
-four_behind o a b c d = simp append_assoc refl
+-- five parts behind a text are one behind it
+pub five_behind : (o a b c d e : List ℕ) → o ++ a ++ b ++ c ++ d ++ e ≡ o ++ (a ++ b ++ c ++ d ++ e)
+five_behind o a b c d e = simp append_assoc refl
 
 -- where the lines of the first measures stand behind a text, and then that of the next, those of one more do
 pub one_measure_more : (runs : List Figures) (ms : List Measure) (i : ℕ) (m : Measure) (old text new : List ℕ) →

@@ -1,8 +1,13 @@
 -- What is measured of each run of a sweep.
-use Rattle.std.specs.Prelude.{ℕ, List, [], ◌∷◌, codes, slice_index, if◌then◌else◌}
+use Rattle.std.specs.Prelude.{◌≡◌, ℕ, Bool, true, false, List, [], ◌∷◌, codes, slice_index, if◌then◌else◌}
+use Rattle.ghs_graph.specs.Graph.{Shape, IsGraph}
+use Rattle.ghs_protocol.specs.declared.event.Event.{Event}
+use Rattle.ghs_protocol.specs.Network.{network_of}
+use Rattle.ghs_protocol.specs.Run.{IsRun}
 use Rattle.ghs_sweep.specs.declared.figures.Figures.{Figures}
 use Rattle.ghs_sweep.specs.declared.measure.Measure.{Measure}
 use Rattle.ghs_sweep.specs.declared.measure.Measure.TheVariants as measure
+use Rattle.ghs_sweep.specs.Figures.{AreFigures}
 
 -- its name
 abbrev pub name_of : Measure → List ℕ
@@ -65,3 +70,29 @@ measures =
     ∷ measure.Halted
     ∷ measure.Chain
     ∷ []
+
+-- it is the graph's: each run that has ended has it
+abbrev pub is_fixed : Measure → Bool
+is_fixed measure.Connect = true
+is_fixed measure.Bound = true
+is_fixed measure.Level = true
+is_fixed measure.Fragments = true
+is_fixed measure.Weight = true
+is_fixed measure.Events = false
+is_fixed measure.Sent = false
+is_fixed measure.Initiate = false
+is_fixed measure.Test = false
+is_fixed measure.Accept = false
+is_fixed measure.Reject = false
+is_fixed measure.Report = false
+is_fixed measure.Changeroot = false
+is_fixed measure.Requeued = false
+is_fixed measure.Queued = false
+is_fixed measure.Halted = false
+is_fixed measure.Chain = false
+
+-- whatever the order of events and whoever wakes: in two runs of a graph that have ended each measure that is fixed has one value
+abbrev pub FixedMeasuresAgree : Type 0
+FixedMeasuresAgree =
+    (g : Shape) (es fs : List Event) (f f' : Figures) (m : Measure) → IsGraph g → IsRun (network_of g) es → IsRun (network_of g) fs →
+    AreFigures g es f → AreFigures g fs f' → f.ended ≡ true → f'.ended ≡ true → is_fixed m ≡ true → value_of m f ≡ value_of m f'

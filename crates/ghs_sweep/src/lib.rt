@@ -2,6 +2,7 @@
 #![tactic(auto)]
 
 pub mod figures;
+pub mod laws;
 pub mod line;
 pub mod measure;
 pub mod runs;

@@ -1,6 +1,6 @@
 //! What is measured of each run of a sweep.
 ghost use Rattle.ghs_sweep.specs.Figures.{HasSmallWeight};
-ghost use Rattle.ghs_sweep.specs.Measure.{name_of, value_of};
+ghost use Rattle.ghs_sweep.specs.Measure.{is_fixed, name_of, value_of};
 ghost use Rattle.std.specs.Prelude.{◌≡◌, ◌<◌, ◌^◌};
 
 use crate::figures::Figures;
@@ -98,6 +98,31 @@ impl Measure {
             Measure::Weight => run.weight,
             Measure::Halted => u128::from(run.ended),
             Measure::Chain => u128::from(run.chain),
+        }
+    }
+
+    /// Whether it is the graph's, and the same in each run that has ended, by `law_fixed_measures`.
+    pub(crate) fn is_fixed(self) -> bool
+        ensures { result ≡ is_fixed self }
+    {
+        match self {
+            Measure::Connect
+            | Measure::Bound
+            | Measure::Level
+            | Measure::Fragments
+            | Measure::Weight => true,
+            Measure::Events
+            | Measure::Sent
+            | Measure::Initiate
+            | Measure::Test
+            | Measure::Accept
+            | Measure::Reject
+            | Measure::Report
+            | Measure::Changeroot
+            | Measure::Requeued
+            | Measure::Queued
+            | Measure::Halted
+            | Measure::Chain => false,
         }
     }
 }

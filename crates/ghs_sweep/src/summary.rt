@@ -12,7 +12,7 @@ use crate::measure::{MEASURES, Measure};
 use std::alloc::{AllocError, Global};
 
 /// The names of a summary's fields, as a line.
-pub const SUMMARY_HEAD: &[u8] = b"measure,runs,min,p25,p50,p75,p95,max,sum\n";
+pub const SUMMARY_HEAD: &[u8] = b"measure,runs,min,p25,p50,p75,p95,max,sum,fixed\n";
 
 /// The summary of runs: a head line, and then a line for each measure. There has to be a run, and 2^32 at most. Refusal:
 /// want of memory.
@@ -63,6 +63,7 @@ fn put_measure(
     text.extend_from_slice(measure.name())?;
     put_rising(text, &values)?;
     put_field(text, sum)?;
+    put_field(text, u128::from(measure.is_fixed()))?;
     text.extend_from_slice(b"\n")?;
     Ok(())
 }

@@ -1,7 +1,21 @@
 //! What holds of the words in which the world is described. Each law is a function that does nothing.
+ghost use Rattle.std.specs.Prelude.{◌≡◌};
+ghost use Rattle.ghs_core.specs.OneEnd.{HaveOneEnd};
 ghost use Rattle.ghs_world.specs.Wakes.{FirstAreRoots};
+ghost use Rattle.ghs_world.specs.WorldState.{home};
+
+use crate::world::World;
 
 /// In the set First are the nodes that are their own roots: the least of each component.
 pub fn law_first()
     ensures { FirstAreRoots }
 {}
+
+/// Two worlds of one graph, whoever wakes in each and whatever was committed: what is at home in both has one end, as
+/// `ghs_core::one_end::law_one_end` says it of two nets.
+pub fn law_one_end(left: &World, right: &World)
+    requires graph { right.now.net.graph ≡ left.now.net.graph }
+    ensures { HaveOneEnd left.now.net.graph (home left.now) (home right.now) }
+{
+    ghs_core::one_end::law_one_end(left.net(), right.net());
+}

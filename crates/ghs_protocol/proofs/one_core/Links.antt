@@ -6,9 +6,13 @@ use Rattle.ghs_graph.specs.Key.{key_lt}
 use Rattle.ghs_graph.specs.Graph.{Shape, IsGraph}
 use Rattle.ghs_graph.specs.Ports.{port_number}
 use Rattle.ghs_protocol.specs.Network.{Network, network_of, port_at, At, far, far_port}
+use Rattle.ghs_node.specs.NodeState.{mark_at}
+use Rattle.ghs_node.specs.declared.mark.Mark.TheVariants.{Branch}
+use Rattle.ghs_protocol.specs.Net.{Net}
+use Rattle.ghs_protocol.specs.Marks.{IsJoined, IsJoinedLink}
 use Rattle.ghs_protocol.specs.Merging.{Fragments, Between, IsLeastOut}
 use Rattle.ghs_protocol.proofs.clauses.Growing.{LeastPort}
-use Rattle.ghs_protocol.proofs.lemmas.Graphs.{graph_wired, is_key, port_ends}
+use Rattle.ghs_protocol.proofs.lemmas.Graphs.{graph_wired, graph_keyed, is_key, port_ends}
 use Rattle.ghs_protocol.proofs.every_run.Trees.{at_a, key_there, far_there}
 
 -- the port of node s over link j, which leads to t
@@ -42,6 +46,18 @@ module _ (s : Shape) (ok : IsGraph s) where
 
   pub between : (v p : ℕ) → At (network_of s) v p → Between (port_at (network_of s) v p).key v (far (network_of s) v p)
   between v p at = ⊎_elim (λ e. inl (sym e.0, sym e.1)) (λ e. inr (sym e.1, sym e.0)) (port_ends s ok v p at)
+
+  -- a joined link is joined at each of its ports
+  pub joined_at : (w : Net) (v p : ℕ) → At (network_of s) v p → IsJoinedLink (network_of s) w (port_at (network_of s) v p).key →
+      IsJoined (network_of s) w v p
+  joined_at w v p at (t, i, at', e, m) =
+      ⊎_elim (λ h. subst₂ (IsJoined (network_of s) w) h.0 h.1 m)
+      (λ h. subst₂ (IsJoined (network_of s) w) h.0 h.1 (
+        m.1,
+        subst₂ (λ a b. mark_at (w.node a) b ≡ Branch)
+            (sym ((graph_wired s ok).back t i at')) (sym ((graph_wired s ok).back_port t i at')) m.0,
+      ))
+      (graph_keyed s ok t i v p at' at e)
 
   -- the least link that leads out, in both ways to say it
   pub least_out : (frag : ℕ → ℕ) (m : Fragments) →

@@ -1,5 +1,5 @@
 -- Where nothing waits, each node of a component that woke stands where merging leads it.
-use Rattle.std.proofs.Common.{◌≡◌, ◌≢◌, ◌↔◌, ℕ, zero, suc, true, false, None, length, refl, sym, ◌∙◌, ap, subst, subst₂, ⊎_elim, arith}
+use Rattle.std.proofs.Common.{◌≡◌, ◌≢◌, ◌↔◌, ℕ, zero, suc, true, false, None, length, refl, sym, ◌∙◌, ap, subst, ⊎_elim, arith}
 use Rattle.ghs_graph.specs.declared.key.Key.{Key}
 use Rattle.ghs_graph.specs.Graph.{Shape, IsGraph}
 use Rattle.ghs_graph.specs.Links.{Joined, Same, Back, links, InTree}
@@ -10,7 +10,7 @@ use Rattle.ghs_node.specs.NodeState.{mark_at}
 use Rattle.ghs_protocol.specs.Network.{network_of, port_at, At, InNetwork}
 use Rattle.ghs_protocol.specs.Net.{Net}
 use Rattle.ghs_protocol.specs.Nodes.{IsNodeOf}
-use Rattle.ghs_protocol.specs.Marks.{HasHalted, IsJoined, Leads, Here, Over, IsJoinedLink}
+use Rattle.ghs_protocol.specs.Marks.{HasHalted, IsJoined, Leads, Here, Over}
 use Rattle.ghs_protocol.specs.Living.{AnyLink}
 use Rattle.ghs_protocol.specs.Merging.{IsWhole}
 use Rattle.ghs_protocol.specs.Cores.{IsCoreEnd, Ends_core, By_itself, MergesTo, IsQuietAt, QuietNames, QuietNodes, QuietBranches, QuietHalts}
@@ -20,12 +20,13 @@ use Rattle.ghs_protocol.proofs.clauses.Nodes.{NodeFits}
 use Rattle.ghs_protocol.proofs.clauses.UnderWay.{Living}
 use Rattle.ghs_protocol.proofs.lemmas.WellFormed.{after_formed}
 use Rattle.ghs_protocol.proofs.lemmas.Nodes.{ports_many}
-use Rattle.ghs_protocol.proofs.lemmas.Graphs.{graph_wired, graph_few, graph_keyed, is_key, port_ends}
+use Rattle.ghs_protocol.proofs.lemmas.Graphs.{graph_wired, graph_few, is_key, port_ends}
 use Rattle.ghs_protocol.proofs.acts.Grounds.{graph_ground}
 use Rattle.ghs_protocol.proofs.every_run.Trees.{leads_join}
 use Rattle.ghs_protocol.proofs.progress.Awaits.{Awaits, all_await}
 use Rattle.ghs_protocol.proofs.progress.Finish.{silent_nets_have_ended, silent_nets_are_exact, leads_inside}
 use Rattle.ghs_protocol.proofs.one_core.Halted.{IsCoreNode}
+use Rattle.ghs_protocol.proofs.one_core.Links.{joined_at}
 use Rattle.ghs_protocol.proofs.one_core.Runs.{Simulated, simulated, whole_of, is_core_end}
 use Rattle.ghs_protocol.proofs.one_core.Components.{joined_in, joined_whole}
 use Rattle.ghs_protocol.proofs.one_core.Silent.{top, found, core_is_root, core_halts, at_rest}
@@ -178,20 +179,10 @@ module _ (g : Shape) (w : Net) (u : ℕ) (q : IsQuietAt g w u) where
         (λ e. joined_then (subst (Joined (links g.keys) q.woken) e.0 q.way) (Back (port_at (network_of g) u p).key (is_key g q.net.graph u p at) Same))
         (port_ends g q.net.graph u p at)
 
-    from_tree : IsJoinedLink (network_of g) w (port_at (network_of g) u p).key → IsJoined (network_of g) w u p
-    from_tree (t, i, at', e, m) =
-        ⊎_elim (λ h. subst₂ (IsJoined (network_of g) w) h.0 h.1 m)
-        (λ h. subst₂ (IsJoined (network_of g) w) h.0 h.1 (
-          m.1,
-          subst₂ (λ a b. mark_at (w.node a) b ≡ Branch)
-              (sym ((graph_wired g q.net.graph).back t i at')) (sym ((graph_wired g q.net.graph).back_port t i at')) m.0,
-        ))
-        (graph_keyed g q.net.graph t i u p at' at e)
-
     -- a link of the tree is joined
     pub tree_joined : InTree g.keys (port_at (network_of g) u p).key → IsJoined (network_of g) w u p
     tree_joined tree =
-        from_tree
+        joined_at g q.net.graph w u p at
         ((silent_nets_are_exact g w q.net q.silent q.woken v_is q.awake (port_at (network_of g) u p).key (is_key g q.net.graph u p at) k_way).0 tree)
 
     pub branches : mark_at (w.node u) p ≡ Branch ↔ InTree g.keys (port_at (network_of g) u p).key

@@ -1,4 +1,4 @@
-use Rattle.ghs_protocol.proofs.one_core.SameConnects.{connects_agree}
+use Rattle.ghs_protocol.proofs.one_core.Ended.{connects_agree}
 use Rattle.ghs_protocol.proofs.cores.law_connects_agree.Goals as goal
 
 pub returns : goal.returns
