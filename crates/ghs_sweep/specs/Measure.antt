@@ -91,6 +91,10 @@ is_fixed measure.Queued = false
 is_fixed measure.Halted = false
 is_fixed measure.Chain = false
 
+-- 1 for what is fixed, and 0 for what may vary
+abbrev pub fixed_value : Measure → ℕ
+fixed_value m = if is_fixed m then 1 else 0
+
 -- whatever the order of events and whoever wakes: in two runs of a graph that have ended each measure that is fixed has one value
 abbrev pub FixedMeasuresAgree : Type 0
 FixedMeasuresAgree =

@@ -1,12 +1,12 @@
 -- What the figures of many runs come to.
-use Rattle.std.specs.Prelude.{◌≡◌, ℕ, ◌+◌, ◌-◌, ◌*◌, ◌/◌, List, [], ◌∷◌, ◌++◌, codes, length, map, slice_index, IsPermutation, if◌then◌else◌}
+use Rattle.std.specs.Prelude.{◌≡◌, ℕ, ◌+◌, ◌-◌, ◌*◌, ◌/◌, List, [], ◌∷◌, ◌++◌, codes, length, map, slice_index, IsPermutation}
 use Rattle.std.specs.List.{sum}
 use Rattle.std.specs.List.Sorted.{IsNonDecreasing}
 use Rattle.ghs_sweep.specs.declared.figures.Figures.{Figures}
 use Rattle.ghs_sweep.specs.declared.measure.Measure.{Measure}
 use Rattle.ghs_sweep.specs.declared.summary.TheConstants.{SUMMARY_HEAD}
 use Rattle.ghs_sweep.specs.Line.{field}
-use Rattle.ghs_sweep.specs.Measure.{is_fixed, measures, name_of, value_of}
+use Rattle.ghs_sweep.specs.Measure.{fixed_value, measures, name_of, value_of}
 
 -- the same numbers in rising order
 pub record IsRising (values rising : List ℕ) : Type 0 where
@@ -32,15 +32,11 @@ rising_fields rising =
     ++ field (percentile 95 rising)
     ++ field (slice_index rising (length rising - 1))
 
--- 1 where each run that has ended has the measure's value, by the graph alone
-abbrev pub fixed_field : Measure → List ℕ
-fixed_field m = field (if is_fixed m then 1 else 0)
-
 -- the line of a measure: its name, what its values for the runs come to in rising order, their sum, and whether it is the graph's
 pub record IsMeasureLine (runs : List Figures) (m : Measure) (line : List ℕ) : Type 0 where
   pub rising : List ℕ
   pub rises : IsRising (map (value_of m) runs) rising
-  pub text : line ≡ name_of m ++ rising_fields rising ++ field (sum (map (value_of m) runs)) ++ fixed_field m ++ codes "\n"
+  pub text : line ≡ name_of m ++ rising_fields rising ++ field (sum (map (value_of m) runs)) ++ field (fixed_value m) ++ codes "\n"
 
 -- the lines of some measures, one behind another
 pub data AreMeasureLines (runs : List Figures) : List Measure → List ℕ → Type 0 where

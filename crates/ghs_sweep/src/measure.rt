@@ -1,6 +1,6 @@
 //! What is measured of each run of a sweep.
 ghost use Rattle.ghs_sweep.specs.Figures.{HasSmallWeight};
-ghost use Rattle.ghs_sweep.specs.Measure.{is_fixed, name_of, value_of};
+ghost use Rattle.ghs_sweep.specs.Measure.{fixed_value, name_of, value_of};
 ghost use Rattle.std.specs.Prelude.{◌≡◌, ◌<◌, ◌^◌};
 
 use crate::figures::Figures;
@@ -101,16 +101,16 @@ impl Measure {
         }
     }
 
-    /// Whether it is the graph's, and the same in each run that has ended, by `law_fixed_measures`.
-    pub(crate) fn is_fixed(self) -> bool
-        ensures { result ≡ is_fixed self }
+    /// Whether it is the graph's, and the same in each run that has ended, by `law_fixed_measures`: 1 or 0.
+    pub(crate) fn fixed(self) -> u128
+        ensures { result ≡ fixed_value self }
     {
         match self {
             Measure::Connect
             | Measure::Bound
             | Measure::Level
             | Measure::Fragments
-            | Measure::Weight => true,
+            | Measure::Weight => 1,
             Measure::Events
             | Measure::Sent
             | Measure::Initiate
@@ -122,7 +122,7 @@ impl Measure {
             | Measure::Requeued
             | Measure::Queued
             | Measure::Halted
-            | Measure::Chain => false,
+            | Measure::Chain => 0,
         }
     }
 }

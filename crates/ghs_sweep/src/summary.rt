@@ -63,7 +63,7 @@ fn put_measure(
     text.extend_from_slice(measure.name())?;
     put_rising(text, &values)?;
     put_field(text, sum)?;
-    put_field(text, u128::from(measure.is_fixed()))?;
+    put_field(text, measure.fixed())?;
     text.extend_from_slice(b"\n")?;
     Ok(())
 }

@@ -1,9 +1,9 @@
-use Rattle.std.proofs.Common.{◌≡◌, ◌++◌, ◌∙◌, IsPermutation, List, ap, codes, map, refl, rules, subst, ℕ, if◌then◌else◌}
+use Rattle.std.proofs.Common.{◌≡◌, ◌++◌, ◌∙◌, IsPermutation, List, ap, codes, map, refl, rules, subst, ℕ}
 use Rattle.std.proofs.lemmas.List.Sorted.{IsNonDecreasingBy-from_sort}
 use Rattle.std.specs.List.{sum}
 use Rattle.ghs_sweep.specs.Line.{field}
-use Rattle.ghs_sweep.specs.Measure.{name_of, value_of}
-use Rattle.ghs_sweep.specs.Summary.{fixed_field, rising_fields}
+use Rattle.ghs_sweep.specs.Measure.{fixed_value, name_of, value_of}
+use Rattle.ghs_sweep.specs.Summary.{rising_fields}
 use Rattle.ghs_sweep.proofs.Measuring.{five_behind}
 use Rattle.ghs_sweep.proofs.summary.put_measure.Goals as goal
 
@@ -19,10 +19,10 @@ returns c =
     let sorted = c.deref-2.ensures.value in
     let three = c.in_ok-put_field.ensures in
     let four = c.in_ok-put_field-2.ensures in
-    let fixed : field c.from.result ≡ fixed_field c.args.measure = ap field (c.from.ensures ∙ ap (λ b. if b then 1 else 0) c.is_fixed.ensures) in
+    let fixed : field c.fixed.result ≡ field (fixed_value c.args.measure) = ap field c.fixed.ensures in
     let five = c.in_ok-extend_from_slice-2.ensures.items in
-    let parts : c.extend_from_slice-2.new.self.items ≡ c.args.text.now.items ++ name_of c.args.measure ++ rising_fields rising ++ field (sum values) ++ fixed_field c.args.measure ++ codes "\n" = cc in (
-      name_of c.args.measure ++ rising_fields rising ++ field (sum values) ++ fixed_field c.args.measure ++ codes "\n",
+    let parts : c.extend_from_slice-2.new.self.items ≡ c.args.text.now.items ++ name_of c.args.measure ++ rising_fields rising ++ field (sum values) ++ field (fixed_value c.args.measure) ++ codes "\n" = cc in (
+      name_of c.args.measure ++ rising_fields rising ++ field (sum values) ++ field (fixed_value c.args.measure) ++ codes "\n",
       record {
         rising = rising;
         rises = record {
@@ -31,5 +31,5 @@ returns c =
         };
         text = refl;
       },
-      parts ∙ five_behind c.args.text.now.items (name_of c.args.measure) (rising_fields rising) (field (sum values)) (fixed_field c.args.measure) (codes "\n"),
+      parts ∙ five_behind c.args.text.now.items (name_of c.args.measure) (rising_fields rising) (field (sum values)) (field (fixed_value c.args.measure)) (codes "\n"),
     )
