@@ -1,11 +1,19 @@
 -- The page of a run.
-use Rattle.std.specs.Prelude.{◌≡◌, ◌⊎◌, ℕ, ◌<◌, List, length}
+use Rattle.std.specs.Prelude.{◌≡◌, ◌⊎◌, ℕ, ◌<◌, List, length, min, take}
+use Rattle.ghs_data.specs.Data.{data_json}
 use Rattle.ghs_graph.specs.Bound.{IsBound}
 use Rattle.ghs_graph.specs.Graph.{Shape}
 use Rattle.ghs_page.specs.Page.{page_text}
 use Rattle.ghs_protocol.specs.declared.event.Event.{Event}
 use Rattle.ghs_view.specs.declared.page.TheConstants.{PAGE_EVENTS, PAGE_NODES}
-use Rattle.ghs_view.specs.Data.{events_to, run_json}
+
+-- the events up to a number, which count from 1
+abbrev pub events_to : ℕ → List Event → List Event
+events_to to es = take (min to (length es)) es
+
+-- the data of a run whose events are shown up to one
+abbrev pub run_json : Shape → List Event → ℕ → ℕ → ℕ → List ℕ
+run_json g es from to bound = data_json g bound (length es) from (events_to to es)
 
 -- the page's constant text round the events of a run up to one, and what they do; it opens before another
 pub record IsRunPage (g : Shape) (es : List Event) (from to : ℕ) (text : List ℕ) : Type 0 where

@@ -1,6 +1,5 @@
 //! A run as one page: the page's constant text round what the run is and does.
 #![tactic(auto)]
 
-pub mod data;
 pub mod page;
 pub mod stored;

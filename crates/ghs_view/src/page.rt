@@ -2,12 +2,11 @@
 ghost use Rattle.std.specs.Prelude.{◌≡◌, ◌≤◌, ◌^◌, ◌↔◌, IfOk, IsErrOf, length};
 ghost use Rattle.ghs_protocol.specs.Network.{network_of};
 ghost use Rattle.ghs_protocol.specs.Run.{IsRun};
-ghost use Rattle.ghs_view.specs.Data.{events_to};
-ghost use Rattle.ghs_view.specs.RunPage.{IsRunPage, IsTooLarge};
+ghost use Rattle.ghs_view.specs.RunPage.{IsRunPage, IsTooLarge, events_to};
 ghost use Rattle.ghs_view.specs.declared.page.PageFault.TheVariants.{Memory, TooLarge};
 
-use crate::data::data_of;
 use ghs_core::event::Event;
+use ghs_data::data::data_of;
 use ghs_graph::bounds::bound;
 use ghs_graph::graph::Graph;
 use ghs_page::page::page;

@@ -1,12 +1,11 @@
-//! The data of a page, as lines of JSON.
+//! The data of a run, as lines of JSON.
 ghost use Rattle.std.specs.Prelude.{◌≡◌, ◌++◌, ◌≤◌, ◌^◌, IfOk, codes, decimal, length, slice_index};
 ghost use Rattle.std.specs.List.{flat_map};
 ghost use Rattle.ghs_core.specs.NetState.{net_of, network};
 ghost use Rattle.ghs_protocol.specs.Network.{network_of};
-ghost use Rattle.ghs_protocol.specs.Run.{IsRun, net_after};
-ghost use Rattle.ghs_steps.specs.Json.{next, step_json};
-ghost use Rattle.ghs_steps.specs.Step.{steps};
-ghost use Rattle.ghs_view.specs.Data.{counted_json, counts_json, events_members, head_json, kinds_members, ledger_json, link_json, network_members};
+ghost use Rattle.ghs_protocol.specs.Run.{IsRun};
+ghost use Rattle.ghs_steps.specs.Json.{next};
+ghost use Rattle.ghs_data.specs.Data.{counted_json, counts_json, data_json, events_members, head_json, kinds_members, ledger_json, link_json, network_members};
 
 use ghs_core::event::Event;
 use ghs_core::ledger::Ledger;
@@ -20,8 +19,9 @@ use ghs_steps::write::put_lines;
 use std::alloc::{AllocError, Global};
 
 /// The network, its links, the steps of the events that are shown, and the counts behind them. `events` is how many the
-/// whole run has, `from` the event before which the page opens, and `bound` the bound on the network's messages.
-pub(crate) fn data_of(
+/// whole run has, `from` the event before which it opens, counted from 1, and `bound` the bound on the network's messages.
+/// Refusal: want of memory.
+pub fn data_of(
     alloc: Global,
     graph: Graph,
     bound: u64,
@@ -31,7 +31,7 @@ pub(crate) fn data_of(
 ) -> Result<Vec<u8>, AllocError>
     requires run { IsRun (network_of graph) shown.now }
     requires few { length shown.now ≤ 2 ^ 40 }
-    ensures { IfOk result (λ text. text.items ≡ head_json graph bound events from (length shown.now) ++ flat_map link_json graph.keys ++ flat_map step_json (steps graph shown.now) ++ ledger_json (network_of graph) (length shown.now) (net_after graph shown.now)) }
+    ensures { IfOk result (λ text. text.items ≡ data_json graph bound events from shown.now) }
 {
     let mut text = Vec::new(alloc);
     put_head(&mut text, &graph, bound, events, from, shown.len() as u64)?;
@@ -77,7 +77,7 @@ fn put_events(text: &mut Vec<u8>, events: u64, from: u64, to: u64) -> Result<(),
     put_count(text, b"to", to)
 }
 
-// A line for each link.
+/// A line for each link.
 fn put_links(text: &mut Vec<u8>, keys: &[Key]) -> Result<(), AllocError>
     ensures { IfOk result (λ _. text.new.items ≡ text.old.items ++ flat_map link_json keys.now) }
 {
@@ -98,7 +98,7 @@ fn put_link(text: &mut Vec<u8>, key: Key) -> Result<(), AllocError>
     text.extend_from_slice(b"}\n")
 }
 
-// The counts of a net, after its events.
+/// The counts of a net, after its events.
 fn put_ledger(text: &mut Vec<u8>, net: &Net) -> Result<(), AllocError>
     ensures { IfOk result (λ _. text.new.items ≡ text.old.items ++ ledger_json (network net.now) (length net.now.trace) (net_of net.now)) }
 {
@@ -128,7 +128,7 @@ fn put_kinds(text: &mut Vec<u8>, ledger: &Ledger) -> Result<(), AllocError>
     put_counts(text, &ledger.consumed)
 }
 
-// The counts of the seven kinds.
+/// The counts of the seven kinds.
 #[tactic(auto, unfolding(crate::specs::Data::counts_json))]
 fn put_counts(text: &mut Vec<u8>, counts: &[u64; 7]) -> Result<(), AllocError>
     ensures { IfOk result (λ _. text.new.items ≡ text.old.items ++ counts_json (λ k. slice_index counts.now k)) }
@@ -151,7 +151,7 @@ fn put_behind_comma(text: &mut Vec<u8>, count: u64) -> Result<(), AllocError>
     put_number(text, u128::from(count))
 }
 
-// A member that isn't the first.
+/// A member that isn't the first.
 fn put_count(text: &mut Vec<u8>, name: &[u8], count: u64) -> Result<(), AllocError>
     ensures { IfOk result (λ _. text.new.items ≡ text.old.items ++ next name.now (decimal count)) }
 {

@@ -1,7 +1,7 @@
 use Rattle.std.proofs.Common.{◌++◌, ◌∙◌, ap, slice_index}
 use Rattle.ghs_core.specs.NetState.{net_of}
-use Rattle.ghs_view.proofs.Counts.{same_counted}
-use Rattle.ghs_view.proofs.data.put_ledger.Goals as goal
+use Rattle.ghs_data.proofs.Counts.{same_counted}
+use Rattle.ghs_data.proofs.data.put_ledger.Goals as goal
 
 pub returns : goal.returns
 returns c =

@@ -1,5 +1,5 @@
--- The data of a page: the network, the steps of a run from its opening on, and the counts behind the last of them.
-use Rattle.std.specs.Prelude.{ℕ, List, ◌++◌, codes, decimal, length, min, take}
+-- The data of a run: the network, the steps from the opening on, and the counts behind the last of them.
+use Rattle.std.specs.Prelude.{ℕ, List, ◌++◌, codes, decimal, length}
 use Rattle.std.specs.List.{flat_map}
 use Rattle.ghs_graph.specs.declared.key.Key.{Key}
 use Rattle.ghs_graph.specs.Graph.{Shape}
@@ -21,7 +21,7 @@ network_members g bound =
     ++ next (codes "links") (decimal (length g.keys))
     ++ next (codes "bound") (decimal bound)
 
--- how many events the run has, before which one the page opens, and which is its last
+-- how many events the run has, before which one it opens, and how many are shown
 unfoldable pub events_members : ℕ → ℕ → ℕ → List ℕ
 events_members events from to = next (codes "events") (decimal events) ++ next (codes "from") (decimal from) ++ next (codes "to") (decimal to)
 
@@ -64,15 +64,11 @@ counted_json events sent consumed requeued queued =
 abbrev pub ledger_json : Network → ℕ → Net → List ℕ
 ledger_json n events w = counted_json events w.sent w.consumed w.requeued (waiting n w)
 
--- the events up to a number, which count from 1
-abbrev pub events_to : ℕ → List Event → List Event
-events_to to es = take (min to (length es)) es
-
--- the network, its links in key order, the steps of the events that are shown, and the counts behind them
-abbrev pub run_json : Shape → List Event → ℕ → ℕ → ℕ → List ℕ
-run_json g es from to bound =
-    let shown = events_to to es in
-    head_json g bound (length es) from (length shown)
+-- the network, its links in key order, the steps of the events that are shown, and the counts behind them; the run has
+-- so many events in all, and opens before one of them
+abbrev pub data_json : Shape → ℕ → ℕ → ℕ → List Event → List ℕ
+data_json g bound events from shown =
+    head_json g bound events from (length shown)
     ++ flat_map link_json g.keys
     ++ flat_map step_json (steps g shown)
     ++ ledger_json (network_of g) (length shown) (net_after g shown)
