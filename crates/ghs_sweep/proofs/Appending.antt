@@ -1,5 +1,5 @@
 -- Runs of seeds, one list behind another.
-use Rattle.std.proofs.Common.{◌≡◌, ℕ, zero, suc, ◌+◌, ◌-◌, ◌/◌, ◌<◌, ◌≤◌, ◌∷◌, List, [], ◌++◌, append-nil, append_assoc, arith, length, length-append, subst, sym, Vec, Global}
+use Rattle.std.proofs.Common.{◌≡◌, ℕ, zero, suc, ◌+◌, ◌/◌, ◌<◌, ◌≤◌, ◌∷◌, List, [], ◌++◌, append-nil, append_assoc, arith, length, length-append, subst, sym, Vec, Global}
 use Rattle.std.specs.Prelude.{Result, Ok, IfOk}
 use Rattle.std.specs.declared.alloc.AllocError.{AllocError}
 use Rattle.std.proofs.Math.Nat.{div-mul-le_self, le-mul_of_pos_right, mul-suc}

@@ -1,17 +1,17 @@
 -- Figures that are the graph's: two runs that have ended have the same.
-use Rattle.std.proofs.Common.{◌≡◌, ◌∙◌, ℕ, ◌<◌, ◌≤◌, ◌+◌, true, List, [], ◌∷◌, ap, arith, length, max, refl, subst, suc, sym, ⊎_elim}
+use Rattle.std.proofs.Common.{◌≡◌, ◌∙◌, ℕ, ◌<◌, ◌≤◌, true, List, [], ◌∷◌, ap, arith, length, max, subst, suc, sym, ⊎_elim}
 use Rattle.std.proofs.Math.Nat.{le-max_left, le-max_right, max-le}
 use Rattle.std.proofs.lemmas.List.Elements.{All-contains}
 use Rattle.std.specs.List.{AllPairs, Contains, fold}
 use Rattle.ghs_graph.specs.Graph.{Shape, IsGraph}
 use Rattle.ghs_graph.specs.declared.key.Key.{Key}
-use Rattle.ghs_graph.specs.Links.{links, Joined, total_weight}
+use Rattle.ghs_graph.specs.Links.{total_weight}
 use Rattle.ghs_graph.proofs.lemmas.Joining.{joined_back, joined_then, joined_within}
 use Rattle.ghs_graph.proofs.lemmas.Keys.{same_keys}
 use Rattle.ghs_graph.proofs.lemmas.Logs.{bound_is_one}
 use Rattle.ghs_graph.proofs.lemmas.Members.{first_in, in_cases, later_in, nothing_in}
 use Rattle.ghs_protocol.specs.Laws.{IsNetOf}
-use Rattle.ghs_protocol.specs.Marks.{HasEnded, Here, InOneFragment, IsJoinedLink, Over}
+use Rattle.ghs_protocol.specs.Marks.{HasEnded, Here, InOneFragment, Over}
 use Rattle.ghs_protocol.specs.Net.{Net}
 use Rattle.ghs_protocol.specs.Network.{network_of}
 use Rattle.ghs_protocol.specs.declared.event.Event.{Event}

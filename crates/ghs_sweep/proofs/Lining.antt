@@ -1,5 +1,5 @@
 -- Lines of runs, one behind another.
-use Rattle.std.proofs.Common.{◌≡◌, ℕ, ◌+◌, ◌<◌, ◌≤◌, ◌∷◌, ◌∙◌, List, [], ◌++◌, append-nil, append_assoc, ap, arith, length, subst, sym, take}
+use Rattle.std.proofs.Common.{◌≡◌, ℕ, ◌+◌, ◌<◌, ◌∷◌, ◌∙◌, List, [], ◌++◌, append-nil, append_assoc, ap, arith, length, sym, take}
 use Rattle.std.specs.List.{slice_index_or}
 use Rattle.std.proofs.lemmas.List.{length-take-le, take_more}
 use Rattle.ghs_sweep.specs.declared.figures.Figures.{Figures}

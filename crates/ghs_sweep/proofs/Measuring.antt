@@ -1,5 +1,5 @@
 -- Lines of measures, one behind another.
-use Rattle.std.proofs.Common.{◌≡◌, ◌++◌, ◌+◌, ◌<◌, ◌∙◌, ◌∷◌, [], List, ℕ, ap, append_assoc, length, refl, subst, sym, take}
+use Rattle.std.proofs.Common.{◌≡◌, ◌++◌, ◌+◌, ◌<◌, ◌∙◌, List, ℕ, ap, append_assoc, length, refl, subst, sym, take}
 use Rattle.std.specs.List.{slice_index_or}
 use Rattle.std.proofs.lemmas.List.{take_more}
 use Rattle.ghs_sweep.specs.declared.figures.Figures.{Figures}

@@ -1,5 +1,5 @@
 -- What a commit leaves.
-use Rattle.std.proofs.Common.{◌≡◌, ◌≢◌, ◌⊎◌, inl, inr, ⊎_elim, ℕ, ◌+◌, ◌<◌, ◌≤◌, Bool, true, false, ◌&&◌, not, List, [], ◌∷◌, ◌++◌, length, Option, Some, None, refl, sym, ◌∙◌, ap, ap₂, subst, arith, length-append, ltb-true}
+use Rattle.std.proofs.Common.{◌≡◌, ◌≢◌, ◌⊎◌, inl, inr, ⊎_elim, ℕ, ◌+◌, ◌<◌, Bool, true, false, ◌&&◌, not, List, [], ◌∷◌, ◌++◌, length, Some, sym, ◌∙◌, ap, ap₂, subst, arith, length-append, ltb-true}
 use Rattle.std.specs.List.{All, Contains, list_any, filter}
 use Rattle.std.proofs.lemmas.Bool.{both_ways, cases_eq, and_parts, not-true}
 use Rattle.std.proofs.lemmas.List.Kept.{IsStrictlyIncreasing-filter}
@@ -7,16 +7,15 @@ use Rattle.ghs_graph.proofs.lemmas.Members.{nothing_in, first_in, later_in, in_c
 use Rattle.std.proofs.lemmas.List.Elements.{All-nil, All-cons, All-append}
 use Rattle.ghs_graph.specs.Graph.{Shape}
 use Rattle.ghs_node.specs.declared.delta.Delta.{Delta}
-use Rattle.ghs_node.specs.Reaction.{reaction}
 use Rattle.ghs_node.specs.Rows.{Row}
 use Rattle.ghs_protocol.specs.declared.event.Event.{Event}
-use Rattle.ghs_protocol.specs.Network.{Network, network_of}
-use Rattle.ghs_protocol.specs.Net.{Net, is_lawful_under, happens}
+use Rattle.ghs_protocol.specs.Network.{network_of}
+use Rattle.ghs_protocol.specs.Net.{is_lawful_under, happens}
 use Rattle.ghs_protocol.specs.Run.{MayWake}
 use Rattle.ghs_protocol.proofs.lemmas.Runs.{lawful_under}
 use Rattle.ghs_core.specs.NetState.{NetState, network, net_of, event_node, IsAnswer, IsLawful}
 use Rattle.ghs_world.specs.Tickets.{TicketState, HasRule}
-use Rattle.ghs_world.specs.Outs.{Outs, event_out, without, is_out}
+use Rattle.ghs_world.specs.Outs.{event_out, without, is_out}
 use Rattle.ghs_world.specs.WorldState.{WorldState, IsWorld, IsOut, home, wakers, may_happen, has_turn}
 use Rattle.ghs_world.specs.Steps.{LeavesOthers, HasAllRoused, AreReadyOf, HasEach, IsSameWorld, touched}
 use Rattle.ghs_world.specs.Ready.{has_ready, is_ready, node_events}

@@ -1,6 +1,6 @@
 -- What is out waits in the home view.
-use Rattle.std.proofs.Common.{◌≡◌, ◌≢◌, ℕ, suc, zero, ◌+◌, ◌<◌, ◌≤◌, Bool, true, false, ◌&&◌, ◌==◌, ◌||◌, List, [], ◌∷◌, length, refl, sym, ◌∙◌, ap, ⊎_elim, arith, cond, ne_eqb, zero-le}
-use Rattle.std.proofs.lemmas.Bool.{and_parts, or_parts, both_ways, eq-eqb, cases_eq, cond-true, cond-false}
+use Rattle.std.proofs.Common.{◌≡◌, ◌≢◌, ℕ, ◌+◌, ◌≤◌, Bool, true, false, ◌==◌, List, [], ◌∷◌, length, refl, ⊎_elim, arith, cond, ne_eqb, zero-le}
+use Rattle.std.proofs.lemmas.Bool.{and_parts, or_parts, both_ways, eq-eqb, cases_eq}
 use Rattle.ghs_node.specs.declared.message.Message.{Message}
 use Rattle.ghs_protocol.specs.declared.event.Event.{Event}
 use Rattle.ghs_protocol.specs.declared.event.Event.TheVariants.{Wake, Take}

@@ -1,18 +1,16 @@
 -- Steps, and what a commit does.
-use Rattle.std.specs.Prelude.{◌≡◌, ℕ, true, false, ◌+◌, ◌↔◌, List, [], ◌∷◌, ◌++◌, length, map, Some}
+use Rattle.std.specs.Prelude.{◌≡◌, ℕ, true, false, ◌+◌, ◌↔◌, List, [], ◌∷◌, ◌++◌, map, Some}
 use Rattle.std.specs.List.{Contains}
 use Rattle.std.specs.List.Sorted.{IsStrictlyIncreasing}
 use Rattle.ghs_node.specs.declared.message.Message.{Message}
-use Rattle.ghs_node.specs.declared.delta.Delta.{Delta}
 use Rattle.ghs_node.specs.Words.{Outgoing}
-use Rattle.ghs_node.specs.Rows.{Row}
 use Rattle.ghs_protocol.specs.declared.event.Event.{Event}
 use Rattle.ghs_protocol.specs.Network.{Network, far}
 use Rattle.ghs_protocol.specs.Net.{happens}
-use Rattle.ghs_core.specs.NetState.{network, event_node, IsSameNet}
+use Rattle.ghs_core.specs.NetState.{network, IsSameNet}
 use Rattle.ghs_world.specs.declared.fault.CommitFault.{CommitFault}
 use Rattle.ghs_world.specs.declared.fault.CommitFault.TheVariants as commits
-use Rattle.ghs_world.specs.Tickets.{TicketState, StepState}
+use Rattle.ghs_world.specs.Tickets.{TicketState}
 use Rattle.ghs_world.specs.Outs.{without}
 use Rattle.ghs_world.specs.WorldState.{WorldState, home, IsUnknown, IsOut}
 use Rattle.ghs_world.specs.Ready.{has_ready}

@@ -1,5 +1,5 @@
 -- What tickets and steps are seen as.
-use Rattle.std.specs.Prelude.{◌≡◌, ℕ, IsSome}
+use Rattle.std.specs.Prelude.{ℕ, IsSome}
 use Rattle.ghs_node.specs.declared.delta.Delta.{Delta}
 use Rattle.ghs_node.specs.declared.work.Work.{Work}
 use Rattle.ghs_node.specs.NodeState.{NodeState}

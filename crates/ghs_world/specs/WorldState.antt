@@ -1,5 +1,5 @@
 -- What a world is seen as, and what its calls do.
-use Rattle.std.specs.Prelude.{◌≡◌, ℕ, ◌+◌, ◌≤◌, ◌^◌, Bool, true, ◌&&◌, not, nat_lt, Option, Some, None, List, [], ◌∷◌, ◌++◌, length, if◌then◌else◌}
+use Rattle.std.specs.Prelude.{◌≡◌, ℕ, ◌+◌, ◌≤◌, ◌^◌, Bool, ◌&&◌, not, nat_lt, Option, Some, None, [], ◌∷◌, ◌++◌, length, if◌then◌else◌}
 use Rattle.std.specs.List.{All as Each}
 use Rattle.ghs_protocol.specs.declared.event.Event.{Event}
 use Rattle.ghs_protocol.specs.declared.event.Event.TheVariants.{Wake, Take}
@@ -14,7 +14,7 @@ use Rattle.ghs_world.specs.declared.fault.BackFault.{BackFault}
 use Rattle.ghs_world.specs.declared.fault.BackFault.TheVariants as backs
 use Rattle.ghs_world.specs.Wakes.{may_wake}
 use Rattle.ghs_world.specs.Tickets.{TicketState}
-use Rattle.ghs_world.specs.Outs.{Outs, event_out, without, is_out, AllOut}
+use Rattle.ghs_world.specs.Outs.{Outs, event_out, is_out, AllOut}
 
 -- the net at home, in which all that is out stands where it was; which nodes wake by themselves; how many commits there may be;
 -- the events that are out, under the numbers of their tickets; and the last number that was given

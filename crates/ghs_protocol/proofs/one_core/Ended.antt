@@ -7,7 +7,7 @@ use Rattle.ghs_graph.specs.Links.{Joined, links}
 use Rattle.ghs_graph.proofs.lemmas.Joining.{joined_back}
 use Rattle.ghs_node.specs.NodeState.{mark_at}
 use Rattle.ghs_node.specs.declared.mark.Mark.TheVariants.{Branch}
-use Rattle.ghs_protocol.specs.Network.{network_of, At, InNetwork, far, far_port, port_at}
+use Rattle.ghs_protocol.specs.Network.{network_of, At, far, far_port, port_at}
 use Rattle.ghs_protocol.specs.Net.{Net}
 use Rattle.ghs_protocol.specs.Laws.{IsNetOf}
 use Rattle.ghs_protocol.specs.Marks.{HasEnded, HasHalted}

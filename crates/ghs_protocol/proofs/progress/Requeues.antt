@@ -1,5 +1,5 @@
 -- A message is put back just where it waits, and then nothing else changes.
-use Rattle.std.proofs.Common.{◌≡◌, ◌≢◌, ℕ, ◌<◌, ◌+◌, Some, List, [], ◌∷◌, ◌++◌, refl, sym, ◌∙◌, ap, subst, ⊎_elim, ◌⊎◌, inl, inr, arith}
+use Rattle.std.proofs.Common.{◌≡◌, ◌≢◌, ℕ, ◌+◌, List, [], ◌∷◌, ◌++◌, refl, sym, ◌∙◌, ap, subst, ⊎_elim, ◌⊎◌, inl, inr, arith}
 use Rattle.std.proofs.lemmas.Bool.{cases_eq}
 use Rattle.std.proofs.lemmas.Option.{same_Some}
 use Rattle.ghs_node.specs.declared.message.Phase.TheVariants.{Sleeping}
@@ -7,11 +7,11 @@ use Rattle.ghs_node.specs.declared.message.Message.{Message}
 use Rattle.ghs_node.specs.declared.delta.Fate.TheVariants.{Consumed, Requeued}
 use Rattle.ghs_node.specs.declared.delta.Delta.{Delta}
 use Rattle.ghs_node.specs.declared.work.Work.TheVariants.{Deliver}
-use Rattle.ghs_node.specs.Reaction.{reaction, requeues}
+use Rattle.ghs_node.specs.Reaction.{requeues}
 use Rattle.ghs_node.specs.Rows.{AwakeRow}
 use Rattle.ghs_node.specs.Rows as rows
 use Rattle.ghs_node.specs.Kind.{kind_of, place_of}
-use Rattle.ghs_node.specs.NodeState.{NodeState, degree}
+use Rattle.ghs_node.specs.NodeState.{NodeState}
 use Rattle.ghs_node.proofs.lemmas.{reaction_inverts}
 use Rattle.ghs_protocol.specs.declared.event.Event.TheVariants as events
 use Rattle.ghs_protocol.specs.Network.{Network, network_of, At}

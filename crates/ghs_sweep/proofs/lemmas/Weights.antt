@@ -1,5 +1,5 @@
 -- Weights of runs.
-use Rattle.std.proofs.Common.{[], List, ◌∷◌, ◌++◌, rules, ℕ}
+use Rattle.std.proofs.Common.{[], List, ◌∷◌, rules, ℕ}
 use Rattle.std.specs.List.{All}
 use Rattle.std.proofs.lemmas.List.Elements.{All-append}
 use Rattle.ghs_graph.specs.Graph.{Shape}

@@ -1,6 +1,3 @@
-use Rattle.std.proofs.Common.{◌≡◌, ◌∙◌, sym, ap}
-use Rattle.ghs_protocol.specs.declared.event.Event.{Event}
-use Rattle.ghs_core.specs.NetState.{IsAnswer}
 use Rattle.ghs_world.proofs.Commits.{step_answers}
 use Rattle.ghs_world.proofs.world.World.commit.Goals as goal
 

@@ -1,4 +1,3 @@
-use Rattle.std.proofs.Common.{◌≡◌}
 use Rattle.ghs_world.specs.contracts.world.World.{the_view}
 use Rattle.ghs_world.proofs.Keeping.{out_lawful, lawful_node}
 use Rattle.ghs_world.proofs.world.World.is_counterfoil.Goals as goal

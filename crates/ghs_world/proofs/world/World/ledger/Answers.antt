@@ -1,7 +1,5 @@
-use Rattle.std.proofs.Common.{◌≡◌, ◌+◌, ◌-◌, ◌≤◌, ◌∙◌, ap, sym, arith, length}
-use Rattle.ghs_protocol.specs.Ledger.{waiting}
+use Rattle.std.proofs.Common.{arith}
 use Rattle.ghs_core.specs.NetState.{network, net_of}
-use Rattle.ghs_world.specs.Outs.{messages_out}
 use Rattle.ghs_world.specs.WorldState.{wakers}
 use Rattle.ghs_world.specs.contracts.world.World.{the_view}
 use Rattle.ghs_world.proofs.Waiting.{out_waits}
