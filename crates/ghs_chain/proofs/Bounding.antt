@@ -46,7 +46,7 @@ more_within n q m r c a b w = record {
 }
 
 -- a line put at a place is among them
-put_below : (q : ℕ) (f : ℕ → ℕ → List ℕ) (v p : ℕ) (line : List ℕ) → ((u r : ℕ) → Below q (f u r)) → Below q line → (u r : ℕ) → Below q (put_at f v p line u r)
+pub put_below : (q : ℕ) (f : ℕ → ℕ → List ℕ) (v p : ℕ) (line : List ℕ) → ((u r : ℕ) → Below q (f u r)) → Below q line → (u r : ℕ) → Below q (put_at f v p line u r)
 put_below q f v p line all this u r = ⊎_elim
     (λ (e : (u ≡ v) × (r ≡ p)). let P : List ℕ → Type 0 = Below q in subst P (sym (put_at_hit f v p u r line e.0 e.1)) this)
     (λ ne. let P : List ℕ → Type 0 = Below q in subst P (sym (put_at_miss f v p u r line ne)) (all u r))
@@ -73,17 +73,17 @@ sends_within g v n (s ∷ ss) c w =
     sent_on_within g v s.0 (n + 1) (n + 1) c (let x = w.node v in omega (arith, x)) (more_within n n (n + 1) (n + 1) c (omega arith) (omega arith) w) in
     more_within (n + 1 + length ss) (n + 1 + length ss) _ _ _ (omega arith) (omega arith) (sends_within g v (n + 1) ss (sent_on g v s.0 c) one)
 
-heard_within : (f : Fate) (asleep : Bool) (n q m t : ℕ) → m ≤ n → t ≤ n → heard f asleep m t ≤ n
+pub heard_within : (f : Fate) (asleep : Bool) (n q m t : ℕ) → m ≤ n → t ≤ n → heard f asleep m t ≤ n
 heard_within Consumed asleep n q m t a b = omega (arith, a, b)
 heard_within Requeued true n q m t a b = omega (arith, a, b)
 heard_within Requeued false n q m t a b = a
 
-behind_below : (f : Fate) (q t : ℕ) (ts : List ℕ) → Below q (t ∷ ts) → Below q (behind f t ts)
+pub behind_below : (f : Fate) (q t : ℕ) (ts : List ℕ) → Below q (t ∷ ts) → Below q (behind f t ts)
 behind_below Consumed q t ts b = all_rest (λ x. x ≤ q) t ts b
 behind_below Requeued q t ts b =
     All-append (λ x. x ≤ q) ts (t ∷ []) (all_rest (λ x. x ≤ q) t ts b) (All-cons (λ x. x ≤ q) t [] (all_first (λ x. x ≤ q) t ts b) (All-nil (λ x. x ≤ q)))
 
-put_node : (n : ℕ) (f : ℕ → ℕ) (v m : ℕ) → ((u : ℕ) → f u ≤ n) → m ≤ n → (u : ℕ) → put f v m u ≤ n
+pub put_node : (n : ℕ) (f : ℕ → ℕ) (v m : ℕ) → ((u : ℕ) → f u ≤ n) → m ≤ n → (u : ℕ) → put f v m u ≤ n
 put_node n f v m all this u = ⊎_elim
     (λ (e : u ≡ v). rw e (let x = put_same f v m in omega (arith, x, this)))
     (λ ne. let x = put_other f v u m ne in let y = all u in omega (arith, x, y))
@@ -130,7 +130,7 @@ unfolding chains_of
 run_within g es = more_within (0 + length es) (0 + length es) _ _ _ (omega arith) (omega arith) (after_within g es (opening g) 0 no_chains none_within)
 
 -- the greatest of some numbers is within, where each is
-most_within : (n m : ℕ) (f : ℕ → ℕ) → ((v : ℕ) → f v ≤ m) → most_below n f ≤ m
+pub most_within : (n m : ℕ) (f : ℕ → ℕ) → ((v : ℕ) → f v ≤ m) → most_below n f ≤ m
 most_within zero m f all = omega arith
 most_within (suc n) m f all = let a = most_within n m f all in let b = all n in omega (arith, a, b)
 

@@ -1,5 +1,5 @@
 -- Serves the proofs: nothing here has to be believed.
-mod Following
-mod Bounding
-mod Placing
+pub mod Following
+pub mod Bounding
+pub mod Placing
 mod Examples

@@ -4,7 +4,7 @@ ghost use Rattle.ghs_chain.specs.Kept.{Fits, HasPlace, HasPlaceOf, SamePlaces, s
 ghost use Rattle.ghs_graph.specs.Ports.{ports_of};
 ghost use Rattle.ghs_protocol.specs.Network.{far, far_port, network_of};
 ghost use Rattle.std.specs.List.{All};
-ghost use Rattle.std.specs.Prelude.{◌≡◌, ◌+◌, ◌-◌, ◌<◌, ◌≤◌, ◌^◌, IfOk, length, OnOk, slice_index};
+ghost use Rattle.std.specs.Prelude.{◌≡◌, ◌+◌, ◌-◌, ◌<◌, ◌≤◌, ◌^◌, IfOk, length, OnOk, slice_get, slice_index};
 
 use crate::row::Row;
 use ghs_graph::graph::Graph;
@@ -44,6 +44,14 @@ impl Chains {
             rows.push(Row::new(alloc, graph.ports(i + 1).len())?)?;
         }
         Ok(Chains { numbers, rows })
+    }
+
+    /// The number of the message that waits at a place of a port's queue, counted from 0.
+    pub fn waiting(&self, v: u32, port: u32, place: usize) -> Option<u64>
+        requires { HasPlace self.now v port }
+        ensures { result ≡ slice_get ((seen self.now).queue v port) place }
+    {
+        self.rows[v as usize].get(port, place)
     }
 
     /// The node of an event, asleep or not, hears of the message that the event takes, if it takes one. Refusal: want of

@@ -2,6 +2,6 @@
 #![tactic(auto)]
 
 pub mod chain;
-mod chains;
+pub mod chains;
 pub mod laws;
 mod row;

@@ -39,6 +39,13 @@ impl Line {
         Ok(())
     }
 
+    /// The number at a place, counted from 0.
+    pub fn get(&self, place: usize) -> Option<u64>
+        ensures { result ≡ slice_get self.now place }
+    {
+        self.numbers.get(place).copied()
+    }
+
     /// Takes the first number out, or puts it behind the others.
     pub fn step(&mut self, fate: Fate) -> Result<Option<u64>, AllocError>
         ensures first { IfOk result (λ n. n ≡ slice_get self.old 0) }
@@ -88,6 +95,14 @@ impl Row {
         ensures { OnOk result (ChangesLine self.old self.new port (line_at self.old port ++ number ∷ [])) }
     {
         self.lines[port as usize].push(number)
+    }
+
+    /// The number at a place of a port's line, counted from 0.
+    pub fn get(&self, port: u32, place: usize) -> Option<u64>
+        requires { port < length self.now }
+        ensures { result ≡ slice_get (line_at self.now port) place }
+    {
+        self.lines[port as usize].get(place)
     }
 
     /// The first number of a port, which is taken out or put behind the others.

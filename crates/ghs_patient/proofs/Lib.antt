@@ -1,8 +1,8 @@
 -- Serves the proofs: nothing here has to be believed.
 mod BySeed
 mod Growing
-mod Marking
-mod Picks
-mod Ports
-mod Running
-mod Stirring
+pub mod Marking
+pub mod Picks
+pub mod Ports
+pub mod Running
+pub mod Stirring

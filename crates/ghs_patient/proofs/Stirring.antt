@@ -115,7 +115,7 @@ module _ (g : Network) (may : ℕ → Bool) (w w' : Net) (e : Event) (d : Delta)
       go _ _ r (Took v p m ms c at q z) =
           taken_here g v p m ms c w ∙ ap (after (w.node v)) (same_Some c d (sym z ∙ sym (ap (λ k. reaction (w.node v) (delivery p k)) q) ∙ r))
 
-  same_back : (f : Event) → (IsStirred g e (w.node (event_node e)).head d f → ⊥) → puts_back w' f ≡ puts_back w f
+  pub same_back : (f : Event) → (IsStirred g e (w.node (event_node e)).head d f → ⊥) → puts_back w' f ≡ puts_back w f
   same_back (Wake u) none = refl
   same_back (Take u q) none =
       ap (first_waits (w'.node u) q) (left.queue u q (λ k. none (inl k)))

@@ -158,8 +158,8 @@ fn moves_on(world: &World, event: Event) -> bool
     world.is_ready(event) && !puts_back(world.net(), event)
 }
 
-// Whether an event would only put its message back.
-fn puts_back(net: &Net, event: Event) -> bool
+/// Whether an event would only put its message back.
+pub fn puts_back(net: &Net, event: Event) -> bool
     requires { HasPlace (network net.now) event }
     ensures { result ≡ puts_back (net_of net.now) event }
 {
@@ -184,8 +184,8 @@ fn is_double(net: &Net, event: Event) -> bool
     }
 }
 
-// Whether the same messages wait by both heads, at ports whose marks are the same.
-fn are_alike(left: &Head, right: &Head) -> bool
+/// Whether the same messages wait by both heads, at ports whose marks are the same.
+pub fn are_alike(left: &Head, right: &Head) -> bool
     ensures { result ≡ are_alike left.now right.now }
 {
     is_same_phase(left.phase, right.phase)

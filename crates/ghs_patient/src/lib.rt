@@ -1,6 +1,6 @@
 //! Patient runs: of the events that may happen one that moves the run on comes next, and so every run ends.
 #![tactic(auto)]
 
-mod choices;
+pub mod choices;
 pub mod picking;
 pub mod run;

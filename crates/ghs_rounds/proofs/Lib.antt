@@ -1,0 +1,9 @@
+-- Serves the proofs: nothing here has to be believed.
+mod Hearing
+mod Keeping
+mod Lengths
+mod Marking
+mod Picked
+mod Running
+mod Sending
+mod Settling

@@ -1,0 +1,111 @@
+-- What a run by rounds keeps.
+use Rattle.std.proofs.Common.{◌≡◌, ℕ, suc, ◌+◌, ◌-◌, ◌<◌, ◌≤◌, Bool, true, List, [], ◌∷◌, ◌++◌, length, refl, sym, ◌∙◌, ap, subst, ⊎_elim, arith}
+use Rattle.std.proofs.lemmas.Bool.{and_parts, ltb-true}
+use Rattle.std.proofs.lemmas.List.{length_push}
+use Rattle.ghs_graph.specs.Graph.{Shape}
+use Rattle.ghs_protocol.specs.declared.event.Event.{Event}
+use Rattle.ghs_protocol.specs.Marks.{HasEnded}
+use Rattle.ghs_protocol.specs.Network.{network_of}
+use Rattle.ghs_protocol.specs.Run.{net_after}
+use Rattle.ghs_core.specs.NetState.{network}
+use Rattle.ghs_world.specs.declared.wake_set.WakeSet.{WakeSet}
+use Rattle.ghs_world.specs.Steps.{IsSameWorld, Makes}
+use Rattle.ghs_world.specs.Wakes.{may_wake}
+use Rattle.ghs_world.specs.WorldState.{WorldState, has_turn, home, wakers}
+use Rattle.ghs_sched.specs.Picks.{IsPick}
+use Rattle.ghs_chain.specs.Chains.{Chains}
+use Rattle.ghs_chain.specs.Kept.{AreChains}
+use Rattle.ghs_rounds.specs.Choices.{IsNextClock, RoundsState, events_of}
+use Rattle.ghs_rounds.specs.Clock.{ClockState}
+use Rattle.ghs_rounds.specs.Rounds.{events_in, round_events}
+use Rattle.ghs_rounds.specs.Runs.{Begun, HasMadeNext, HasRun, IsPickedByRounds, Over, Picked}
+
+-- it begins with nothing out
+pub run_begins : (s t : WorldState) (words : List ℕ) → s.net.trace ≡ [] → t ≡ record s { outs = [] } → HasRun s t words words 0
+run_begins s t words none e = rw e (record {
+  graph = refl;
+  wake = refl;
+  turns = refl;
+  outs = refl;
+  numbers = rw none (omega arith);
+  picked = rw none Begun;
+})
+
+module _ (old s : WorldState) (words used : List ℕ) (k : ClockState) (run : HasRun old s words used k.round) (chains : AreChains s.net k.kept) where
+  -- the events of the clock are those of the round
+  same_events : events_of s k ≡ events_in (wakers old) old.net.graph s.net.trace k.round
+  same_events =
+      ap (λ (c : Chains). round_events (wakers s) (network s.net) (home s) c k.round) chains.same
+      ∙ ap (λ (w : WakeSet). events_in (may_wake s.net.graph w) s.net.graph s.net.trace k.round) run.wake
+      ∙ ap (λ (g : Shape). events_in (may_wake g old.wake) g s.net.trace k.round) run.graph
+
+  module _ (going : HasEnded s.net.graph (home s) → ⊥) (turn : has_turn s ≡ true) where
+    going_still : HasEnded old.net.graph (net_after old.net.graph s.net.trace) → ⊥
+    going_still = subst (λ (g : Shape). HasEnded g (net_after g s.net.trace) → ⊥) run.graph going
+
+    few : length s.net.trace < old.turns
+    few =
+        let left : length s.net.trace + length s.outs < s.turns = ltb-true _ _ (and_parts _ _ turn).0 in
+        let t = run.turns in
+        omega (arith, left, t)
+
+    -- the next round, where it begins
+    pub run_settles : (next : ClockState) → IsNextClock s k next → HasRun old s words used next.round
+    run_settles next is = ⊎_elim
+        (λ (e : next ≡ k). rw e run)
+        (λ z. rw z.0 (record {
+          graph = run.graph;
+          wake = run.wake;
+          turns = run.turns;
+          outs = run.outs;
+          numbers = run.numbers;
+          picked = Over s.net.trace k.round used run.picked going_still few (sym same_events ∙ z.1);
+        }))
+        is
+
+    -- one event more
+    pub run_more : (new : WorldState) (after : List ℕ) (x : RoundsState) → x.clock ≡ k → HasMadeNext s new x used after → HasRun old new words after k.round
+    run_more new after x clock next =
+        let made = next.made in
+        let more : length (s.net.trace ++ next.event ∷ []) ≡ length s.net.trace + 1 = length_push s.net.trace next.event in
+        let numbers = run.numbers in
+        let last = made.last in
+        let pick : IsPick (events_of s k) used next.event = rw clock at next.pick in
+        record {
+          graph = made.graph ∙ run.graph;
+          wake = made.wake ∙ run.wake;
+          turns = made.turns ∙ run.turns;
+          outs = made.outs ∙ run.outs;
+          numbers = rw made.trace (omega (arith, numbers, last, more));
+          picked = rw (made.trace, next.rest) (Picked s.net.trace k.round used next.event run.picked going_still few (subst (λ es. IsPick es used next.event) same_events pick));
+        }
+
+-- a refusal of memory leaves the run as it was
+pub run_stays : (old s new : WorldState) (words used : List ℕ) (r : ℕ) → HasRun old s words used r → IsSameWorld s new → HasRun old new words used r
+run_stays old s new words used r run same = record {
+  graph = same.net.graph ∙ run.graph;
+  wake = same.wake ∙ run.wake;
+  turns = same.turns ∙ run.turns;
+  outs = same.outs ∙ run.outs;
+  numbers = rw (same.last, same.net.trace) run.numbers;
+  picked = rw same.net.trace run.picked;
+}
+
+-- The rounds are no more than the events.
+pub few_settled : (s : WorldState) (k next : ClockState) → IsNextClock s k next → next.round ≤ suc k.round
+few_settled s k next is = ⊎_elim (λ (e : next ≡ k). rw e (omega arith)) (λ z. rw z.0 (omega arith)) is
+
+pub few_more : (s new : WorldState) (k next : ClockState) (x : RoundsState) (used after : List ℕ) → IsNextClock s k next → k.round ≤ length s.net.trace →
+    HasMadeNext s new x used after → next.round ≤ length new.net.trace
+few_more s new k next x used after is few next_made =
+    let one = few_settled s k next is in
+    let more : length (s.net.trace ++ next_made.event ∷ []) ≡ length s.net.trace + 1 = length_push s.net.trace next_made.event in
+    rw next_made.made.trace (omega (arith, one, more, few))
+
+-- each event uses a turn
+pub smaller : (s new : WorldState) (x : RoundsState) (used after : List ℕ) → HasMadeNext s new x used after → has_turn s ≡ true →
+    new.turns - length new.net.trace < s.turns - length s.net.trace
+smaller s new x used after next turn =
+    let left : length s.net.trace + length s.outs < s.turns = ltb-true _ _ (and_parts _ _ turn).0 in
+    let more : length (s.net.trace ++ next.event ∷ []) ≡ length s.net.trace + 1 = length_push s.net.trace next.event in
+    rw (next.made.trace, next.made.turns) (omega (arith, left, more))

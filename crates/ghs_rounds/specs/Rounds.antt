@@ -1,0 +1,44 @@
+-- The events of a round.
+use Rattle.std.specs.Prelude.{ℕ, Bool, true, false, ◌&&◌, nat_le, Option, Some, None, List, filter}
+use Rattle.std.specs.List.{slice_get}
+use Rattle.ghs_graph.specs.Graph.{Shape}
+use Rattle.ghs_protocol.specs.declared.event.Event.{Event}
+use Rattle.ghs_protocol.specs.declared.event.Event.TheVariants.{Wake, Take}
+use Rattle.ghs_protocol.specs.Network.{Network, network_of}
+use Rattle.ghs_protocol.specs.Net.{Net}
+use Rattle.ghs_protocol.specs.Run.{net_after}
+use Rattle.ghs_world.specs.Ready.{all_events}
+use Rattle.ghs_chain.specs.Chains.{Chains, chains_of}
+use Rattle.ghs_patient.specs.Patience.{moves_on, or_else, puts_back}
+
+-- a message that ends a chain of so many, at round r: it was sent before
+abbrev pub is_by : ℕ → Option ℕ → Bool
+is_by r None = false
+is_by r (Some t) = nat_le t r
+
+-- the event takes no message, or one that was sent before round r
+abbrev pub is_due : Chains → ℕ → Event → Bool
+is_due c r (Wake v) = true
+is_due c r (Take v p) = is_by r (slice_get (c.queue v p) 0)
+
+-- behind the event's message stands one that was sent before round r
+abbrev pub has_due_second : Chains → ℕ → Event → Bool
+has_due_second c r (Wake v) = false
+has_due_second c r (Take v p) = is_by r (slice_get (c.queue v p) 1)
+
+-- the event is lawful under the wake set, moves the run on, and is due
+abbrev pub moves_due : (ℕ → Bool) → Network → Net → Chains → ℕ → Event → Bool
+moves_due may g w c r e = moves_on may g w e && is_due c r e
+
+-- the event only puts its message back, before one that is due
+abbrev pub hides_due : Net → Chains → ℕ → Event → Bool
+hides_due w c r e = puts_back w e && has_due_second c r e
+
+-- The events of round r: those that are due and move the run on; where there is none, those that put a message back before one that is due, which moves on
+-- then. So the round is over when each message that was sent before it was consumed, or waits, or stands behind one that was sent within it.
+abbrev pub round_events : (ℕ → Bool) → Network → Net → Chains → ℕ → List Event
+round_events may g w c r = or_else (filter (moves_due may g w c r) (all_events g)) (filter (hides_due w c r) (all_events g))
+
+-- the same, after the events of a run
+abbrev pub events_in : (ℕ → Bool) → Shape → List Event → ℕ → List Event
+events_in may g es r = round_events may (network_of g) (net_after g es) (chains_of (network_of g) es) r

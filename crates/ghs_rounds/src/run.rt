@@ -1,0 +1,54 @@
+//! Runs that go on by rounds, and so end.
+ghost use Rattle.ghs_protocol.specs.Marks.{HasEnded};
+ghost use Rattle.ghs_rounds.specs.Runs.{HasRun};
+ghost use Rattle.ghs_sched.specs.Runs.{EndsFor, IsEnd};
+ghost use Rattle.ghs_world.specs.WorldState.{home};
+ghost use Rattle.std.specs.Prelude.{IfErr, IfOk, OnErr, [], ◌≡◌};
+
+use crate::rounds::Rounds;
+use ghs_sched::fault::RunFault;
+use ghs_sched::run::{RunEnd, end_of};
+use ghs_sched::schedule::Schedule;
+use ghs_world::world::World;
+use std::alloc::Global;
+
+/// Runs a world from its opening on by rounds until the run has ended, and says in how many. All that is out is recalled
+/// first. In round 0 all nodes wake that may wake by themselves. In a later round each word of the schedule picks one of the
+/// messages that were sent before it and wouldn't only be put back; where there is none it picks one to be put back behind
+/// which stands such a message; and where there is none of these either the round is over. Of the faults TurnLimit comes
+/// where the commits have come to the turns or no ticket number is left, and else Memory. At every end nothing is out, and
+/// the world stands after the events so far.
+pub fn run_rounds(
+    alloc: Global,
+    world: &mut World,
+    schedule: &mut Schedule,
+) -> (u64, Result<RunEnd, RunFault>)
+    requires trace { world.old.net.trace ≡ [] }
+    ensures run { HasRun world.old world.new schedule.old schedule.new result.0 }
+    ensures halted { IfOk result.1 (λ e. IsEnd world.new e) }
+    ensures going { OnErr result.1 (HasEnded world.new.net.graph (home world.new) → ⊥) }
+    ensures fault { IfErr result.1 (λ f. EndsFor world.new f) }
+{
+    let _ = world.net().trace();
+    world.recall_all();
+    if world.ended() {
+        return (0, Ok(end_of(world)));
+    }
+    let mut rounds = match Rounds::of(alloc, world) {
+        Ok(rounds) => rounds,
+        Err(_) => return (0, Err(RunFault::Memory)),
+    };
+    'events: while !world.ended() {
+        let _ = world.turns();
+        if !world.has_turn() {
+            return (rounds.count(), Err(RunFault::TurnLimit));
+        }
+        rounds.settle(world);
+        let count = rounds.count();
+        match rounds.make_next(alloc, world, schedule) {
+            Ok(()) => {}
+            Err(_) => return (count, Err(RunFault::Memory)),
+        }
+    }
+    (rounds.count(), Ok(end_of(world)))
+}
