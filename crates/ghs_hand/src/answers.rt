@@ -1,0 +1,106 @@
+//! The texts that answer a page, handed over in the room that it gives.
+ghost use Rattle.ghs_hand.specs.Answers.{HasNoRun, IsHandedOver, IsRunAnswer, IsRunText, IsSeenAnswer, IsTextOn, IsToldOf, StopsShort};
+ghost use Rattle.ghs_hand.specs.Led.{LeadsNowhere};
+ghost use Rattle.ghs_hand.specs.Words.{fault_json};
+ghost use Rattle.ghs_hand.specs.declared.fault.HandFault.TheVariants.{Memory};
+ghost use Rattle.std.specs.Prelude.{◌≡◌, ◌⊎◌, IfErr, IfOk, MatchResult, length};
+
+use crate::fault::HandFault;
+use crate::going::go_on;
+use crate::led::led;
+use crate::seen::seen;
+use crate::words::fault_line;
+use ghs_sched::trace::write_trace;
+use ghs_world::wake_set::WakeSet;
+use ghs_world::world::World;
+use std::alloc::Global;
+
+/// The line of the fault that can't be told of for want of memory.
+const NO_MEMORY: &[u8] = b"{\"fault\":\"memory\",\"words\":\"out of memory\"}\n";
+
+/// What a page is told of the world to which a graph's text and a trace's text lead, or the fault for which they lead to none.
+/// The answer is how many bytes that has; where they fit into `out` they are its front, and else it is as it was.
+pub fn hand_seen(alloc: Global, wake: WakeSet, graph: &[u8], trace: &[u8], out: &mut [u8]) -> usize
+    ensures { IsHandedOver (IsSeenAnswer wake graph.now trace.now) result out.old out.new }
+{
+    hand_over(alloc, seen_of(alloc, wake, graph, trace), out)
+}
+
+/// The trace's text of the run that goes on from there by a seed until it has ended, patiently or among all events, or the
+/// fault for which there is none. The answer is how many bytes that has; where they fit into `out` they are its front, and else
+/// it is as it was.
+pub fn hand_run(
+    alloc: Global,
+    wake: WakeSet,
+    graph: &[u8],
+    trace: &[u8],
+    patient: bool,
+    seed: u64,
+    out: &mut [u8],
+) -> usize
+    ensures { IsHandedOver (IsRunAnswer wake graph.now trace.now patient seed) result out.old out.new }
+{
+    hand_over(alloc, run_of(alloc, wake, graph, trace, patient, seed), out)
+}
+
+/// What a page is told of the world to which two texts lead.
+fn seen_of(alloc: Global, wake: WakeSet, graph: &[u8], trace: &[u8]) -> Result<Vec<u8>, HandFault>
+    ensures text { IfOk result (λ text. IsToldOf wake graph.now trace.now text.items) }
+    ensures fault { IfErr result (λ fault. LeadsNowhere wake graph.now trace.now fault) }
+{
+    let world = led(alloc, wake, graph, trace)?;
+    Ok(seen(alloc, &world)?)
+}
+
+/// The text of the run that goes on from the world to which two texts lead.
+fn run_of(
+    alloc: Global,
+    wake: WakeSet,
+    graph: &[u8],
+    trace: &[u8],
+    patient: bool,
+    seed: u64,
+) -> Result<Vec<u8>, HandFault>
+    ensures text { IfOk result (λ text. IsRunText wake graph.now trace.now patient seed text.items) }
+    ensures fault { IfErr result (λ fault. HasNoRun wake graph.now trace.now patient seed fault) }
+{
+    match led(alloc, wake, graph, trace) {
+        Ok(world) => gone_on(alloc, world, patient, seed),
+        Err(fault) => Err(fault),
+    }
+}
+
+/// The text of the run that goes on from a world.
+fn gone_on(alloc: Global, mut world: World, patient: bool, seed: u64) -> Result<Vec<u8>, HandFault>
+    requires { world.last ≡ length world.net.trace }
+    ensures text { IfOk result (λ text. IsTextOn patient seed world text.items) }
+    ensures fault { IfErr result (λ fault. StopsShort patient seed world fault) }
+{
+    match go_on(alloc, &mut world, patient, seed) {
+        Ok(()) => Ok(write_trace(alloc, world.trace())?),
+        Err(fault) => Err(fault),
+    }
+}
+
+/// Hands a text over, or the line of a fault.
+fn hand_over(alloc: Global, answer: Result<Vec<u8>, HandFault>, out: &mut [u8]) -> usize
+    ensures { IsHandedOver (λ t. MatchResult answer (λ text. t ≡ text.items) (λ fault. t ≡ fault_json fault) ⊎ (t ≡ fault_json Memory)) result out.old out.new }
+{
+    match answer {
+        Ok(text) => give(&text, out),
+        Err(fault) => match fault_line(alloc, fault) {
+            Ok(text) => give(&text, out),
+            Err(_) => give(NO_MEMORY, out),
+        },
+    }
+}
+
+/// Puts a text to the front of the room, where it fits. Answers how many bytes it has.
+fn give(text: &[u8], out: &mut [u8]) -> usize
+    ensures { IsHandedOver (λ t. t ≡ text.now) result out.old out.new }
+{
+    if text.len() <= out.len() {
+        out[..text.len()].copy_from_slice(text);
+    }
+    text.len()
+}

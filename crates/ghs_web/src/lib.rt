@@ -1,0 +1,52 @@
+//! A run that a hand leads, for a page: the calls of `ghs_hand` as a static library exports them. A graph's text and a trace's
+//! text come in, and a text goes out. Nothing is kept between two calls, and no call asks for more than its types say.
+#![tactic(auto)]
+
+ghost use Rattle.ghs_hand.specs.Answers.{IsHandedOver, IsRunAnswer, IsSeenAnswer};
+ghost use Rattle.ghs_web.specs.Wakers.{wakers_of};
+ghost use Rattle.std.specs.Prelude.{◌≡◌};
+
+use ghs_hand::answers::{hand_run, hand_seen};
+use ghs_world::wake_set::WakeSet;
+use std::alloc::Global;
+
+/// What a page is told of the world to which a graph's text and a trace's text lead, or the fault for which they lead to none.
+/// By themselves wake all nodes, or the first of each piece. The answer is how many bytes that has; where they fit into `out`
+/// they are its front, and else it is as it was.
+#[unsafe(no_mangle)]
+pub extern "C" fn ghs_web_seen(
+    alloc: Global,
+    first: bool,
+    graph: &[u8],
+    trace: &[u8],
+    out: &mut [u8],
+) -> usize
+    ensures { IsHandedOver (IsSeenAnswer (wakers_of first) graph.now trace.now) result out.old out.new }
+{
+    hand_seen(alloc, wakers_of(first), graph, trace, out)
+}
+
+/// The trace's text of the run that goes on from there by a seed until it has ended, patiently or among all events, or the
+/// fault for which there is none. The answer is how many bytes that has; where they fit into `out` they are its front, and else
+/// it is as it was.
+#[unsafe(no_mangle)]
+pub extern "C" fn ghs_web_run(
+    alloc: Global,
+    first: bool,
+    graph: &[u8],
+    trace: &[u8],
+    patient: bool,
+    seed: u64,
+    out: &mut [u8],
+) -> usize
+    ensures { IsHandedOver (IsRunAnswer (wakers_of first) graph.now trace.now patient seed) result out.old out.new }
+{
+    hand_run(alloc, wakers_of(first), graph, trace, patient, seed, out)
+}
+
+/// Which nodes wake by themselves.
+fn wakers_of(first: bool) -> WakeSet
+    ensures { result ≡ wakers_of first }
+{
+    if first { WakeSet::First } else { WakeSet::All }
+}
