@@ -101,9 +101,10 @@ back_is s (Take v p) d ok run there t answer = go ((net_of s).queue v p) t answe
         (is_sleeping ((net_of s).node v).head.phase ≡ false) × (d ≡ requeues ((net_of s).node v).head)
     go [] b a = cc
     go (m ∷ ms) b a =
-        let so = waits_so ((net_of s).node v) p m b in
-        (awake_is ((net_of s).node v).head.phase (waits_awake ((net_of s).node v) p m so),
-        same_Some d (requeues ((net_of s).node v).head) (sym a ∙ waits_reaction ((net_of s).node v) p m (port_below s v p ok run there) so))
+        let so = waits_so ((net_of s).node v) p m b in (
+          awake_is ((net_of s).node v).head.phase (waits_awake ((net_of s).node v) p m so),
+          same_Some d (requeues ((net_of s).node v).head) (sym a ∙ waits_reaction ((net_of s).node v) p m (port_below s v p ok run there) so),
+        )
 
 -- What a pick of a world's words gives.
 pub record Pickable (s : WorldState) (k : ClockState) (e : Event) : Type 0 where

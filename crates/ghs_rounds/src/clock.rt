@@ -92,7 +92,13 @@ impl Clock {
 
     /// The node of an event, asleep or not, hears of what the event takes, and sends. Refusal: want of memory; the clock is
     /// then of no use.
-    pub fn follow(&mut self, graph: &Graph, event: Event, asleep: bool, delta: &Delta) -> Result<(), AllocError>
+    pub fn follow(
+        &mut self,
+        graph: &Graph,
+        event: Event,
+        asleep: bool,
+        delta: &Delta,
+    ) -> Result<(), AllocError>
         requires place { HasPlaceOf self.old.kept event }
         requires low { 1 ≤ event_node event }
         requires high { event_node event ≤ graph.now.nodes }
@@ -105,7 +111,8 @@ impl Clock {
         ensures chains { OnOk result (seen self.new.kept ≡ sent (network_of graph.now) (event_node event) delta.now.sends (hears event asleep delta.now.fate (seen self.old.kept))) }
     {
         self.chains.hear(event, asleep, delta.fate)?;
-        self.chains.send(graph, node_of(event), delta.sends.as_slice())?;
+        self.chains
+            .send(graph, node_of(event), delta.sends.as_slice())?;
         Ok(())
     }
 }

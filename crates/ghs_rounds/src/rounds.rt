@@ -148,7 +148,12 @@ impl Rounds {
 }
 
 // The Takes at the far ends of what node `v` sends are noted as those of messages sent within the round.
-fn note(fresh: &mut Vec<Event>, graph: &Graph, v: u32, sends: &[(u32, Message)]) -> Result<(), AllocError>
+fn note(
+    fresh: &mut Vec<Event>,
+    graph: &Graph,
+    v: u32,
+    sends: &[(u32, Message)],
+) -> Result<(), AllocError>
     requires low { 1 ≤ v }
     requires high { v ≤ graph.now.nodes }
     requires ports { All (λ (s : ℕ × Letter). s.0 < length (ports_of graph.now.keys v)) sends.now }

@@ -122,7 +122,7 @@ module _ (g : Shape) (w w' : Net) (n : IsNetOf g w) (n' : IsNetOf g w') (h : Has
       let is' = row_of' there.0 there.1 in
       let u = least_is g w' there.0 is' in
       let a = is.least there.0.least ((is.fragment.all there.0.least).1
-          (u.0, u.1, over g w' w n' n h' h r.least there.0.least (back g w' n' there.0.least r.least there.2))) in
+      (u.0, u.1, over g w' w n' n h' h r.least there.0.least (back g w' n' there.0.least r.least there.2))) in
       let b = is'.least r.least ((is'.fragment.all r.least).1 (v.0, v.1, there.2)) in
       (there.0, there.1, omega (arith, a, b))
 
@@ -193,8 +193,8 @@ module _ (g : Shape) (es fs : List Event) (f f' : Figures) (ok : IsGraph g) (run
   weights : f.weight ≡ f'.weight
   weights =
       let same = same_keys a.marks.branches b.marks.branches a.marks.all.rising b.marks.all.rising
-          (branches_there g (net_after g es) (net_after g fs) n n' (a.ended.0 e) (b.ended.0 e') a.marks.branches b.marks.branches a.marks.all b.marks.all)
-          (branches_there g (net_after g fs) (net_after g es) n' n (b.ended.0 e') (a.ended.0 e) b.marks.branches a.marks.branches b.marks.all a.marks.all) in
+      (branches_there g (net_after g es) (net_after g fs) n n' (a.ended.0 e) (b.ended.0 e') a.marks.branches b.marks.branches a.marks.all b.marks.all)
+      (branches_there g (net_after g fs) (net_after g es) n' n (b.ended.0 e') (a.ended.0 e) b.marks.branches a.marks.branches b.marks.all a.marks.all) in
       a.marks.weight ∙ ap total_weight same ∙ sym b.marks.weight
 
   agree : (m : Measure) → is_fixed m ≡ true → value_of m f ≡ value_of m f'
