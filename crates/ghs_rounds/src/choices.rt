@@ -88,7 +88,14 @@ impl Choices {
 
     /// Keeps up with an event that has happened, by the head of its node before it and what the node did. Takes O(1)
     /// for each message sent; where phase, level or in_branch of the node have changed, for each of its ports too.
-    pub fn follow(&mut self, world: &World, clock: &Clock, event: Event, before: &Head, delta: &Delta)
+    pub fn follow(
+        &mut self,
+        world: &World,
+        clock: &Clock,
+        event: Event,
+        before: &Head,
+        delta: &Delta,
+    )
         requires home { world.now.outs ≡ [] }
         requires fits { Fits world.now.net.graph clock.now.kept }
         requires place { HasPlace (network world.now.net) event }

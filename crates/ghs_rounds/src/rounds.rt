@@ -20,7 +20,7 @@ use ghs_graph::graph::Graph;
 use ghs_node::delta::Delta;
 use ghs_node::message::Message;
 use ghs_protocol::event::Event;
-use ghs_protocol::interleavings::{law_one_waits, law_patience_lasts};
+use ghs_protocol::interleavings::law_patience_lasts;
 use ghs_sched::schedule::Schedule;
 use ghs_world::world::World;
 use std::alloc::{AllocError, Global};
@@ -76,7 +76,6 @@ impl Rounds {
         requires few { self.old.clock.round < 2 ^ 64 - 1 }
         ensures { HasSettled world.now self.old self.new }
     {
-        law_one_waits();
         law_patience_lasts();
         let _ = world.net().trace();
         if !self.choices.are_none(world, &self.clock) {
@@ -148,7 +147,12 @@ impl Rounds {
 }
 
 // The Takes at the far ends of what node `v` sends are noted as those of messages sent within the round.
-fn note(fresh: &mut Vec<Event>, graph: &Graph, v: u32, sends: &[(u32, Message)]) -> Result<(), AllocError>
+fn note(
+    fresh: &mut Vec<Event>,
+    graph: &Graph,
+    v: u32,
+    sends: &[(u32, Message)],
+) -> Result<(), AllocError>
     requires low { 1 ≤ v }
     requires high { v ≤ graph.now.nodes }
     requires ports { All (λ (s : ℕ × Letter). s.0 < length (ports_of graph.now.keys v)) sends.now }

@@ -1,4 +1,4 @@
-use Rattle.std.proofs.Common.{◌≡◌, subst}
+use Rattle.std.proofs.Common.{subst}
 use Rattle.ghs_graph.specs.Graph.{IsGraph}
 use Rattle.ghs_protocol.specs.Run.{IsRun}
 use Rattle.ghs_node.specs.Words.{is_sleeping}
@@ -60,7 +60,7 @@ returns-clause-rounds c =
     let are = c.requires.rounds in
     let heard = rw (← c.self-2.view_is) at c.in_ok-hear.ensures in
     let timely : IsTimely (seen c.args.self.now.clock.kept) c.args.self.now.clock.round c.pick-event.result
-        (is_sleeping ((home c.args.world.now).node (event_node c.pick-event.result)).head.phase) c.in_ok-delta.delta.fate =
+    (is_sleeping ((home c.args.world.now).node (event_node c.pick-event.result)).head.phase) c.in_ok-delta.delta.fate =
     rw (← c.self.view_is) (z.timely graph is_run c.in_ok-delta.delta c.in_ok-delta.ensures) in
     next_are c.args.world.now c.make_answered.new.self c.pick-event.result c.in_ok-delta.delta _ _ are c.in_ok-make_answered.ensures.made c.in_ok-delta.ensures heard
     graph is_run z.low z.high (sends_out c.args.world.now.net graph is_run c.pick-event.result c.in_ok-delta.delta z.lawful c.in_ok-delta.ensures)
