@@ -1,5 +1,5 @@
 -- What the clock asks of an event before it hears of it.
-use Rattle.std.proofs.Common.{◌≡◌, ℕ, ◌-◌, ◌^◌, ◌<◌, Bool, List, [], ◌∷◌, length, refl, sym, subst, arith}
+use Rattle.std.proofs.Common.{ℕ, ◌-◌, ◌^◌, ◌<◌, Bool, List, [], ◌∷◌, length, refl, sym, subst, arith}
 use Rattle.std.specs.List.{All}
 use Rattle.std.proofs.lemmas.Bool.{and_parts}
 use Rattle.ghs_graph.specs.Graph.{IsGraph}
@@ -16,7 +16,7 @@ use Rattle.ghs_protocol.specs.Network.{far, far_port}
 use Rattle.ghs_protocol.specs.Run.{IsRun}
 use Rattle.ghs_protocol.proofs.lemmas.Events.{at_of}
 use Rattle.ghs_core.specs.NetState.{IsAnswer, IsLawful, NetState, delivery, event_node, net_of, network, work_at}
-use Rattle.ghs_chain.specs.Chains.{Chains, chains_of, hears}
+use Rattle.ghs_chain.specs.Chains.{Chains, hears}
 use Rattle.ghs_chain.specs.Kept.{AreChains, Fits, HasPlace, Kept, seen}
 use Rattle.ghs_chain.proofs.Bounding.{IsWithin, hears_within, run_within}
 use Rattle.ghs_chain.proofs.Following.{sends_to}

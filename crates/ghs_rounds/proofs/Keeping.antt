@@ -1,5 +1,5 @@
 -- What an event of a round leaves of the choices, and what it makes of the round.
-use Rattle.std.proofs.Common.{◌≡◌, ℕ, suc, ◌<◌, ◌≤◌, Bool, ◌&&◌, List, [], ◌∷◌, ◌++◌, length, refl, sym, ◌∙◌, ap, ap₂, subst, subst₂, ⊎_elim, inl, arith}
+use Rattle.std.proofs.Common.{◌≡◌, ℕ, suc, ◌<◌, ◌≤◌, Bool, ◌&&◌, List, length, refl, sym, ◌∙◌, ap, ap₂, subst, subst₂, ⊎_elim, inl}
 use Rattle.std.specs.List.{All, Contains, slice_get}
 use Rattle.std.proofs.lemmas.List.Elements.{Contains-append_left, Contains-append_right, Contains-append_cases}
 use Rattle.ghs_flags.specs.Flags.{at}
@@ -11,7 +11,7 @@ use Rattle.ghs_node.specs.declared.message.Message.{Message}
 use Rattle.ghs_node.specs.Words.{is_sleeping}
 use Rattle.ghs_protocol.specs.declared.event.Event.{Event}
 use Rattle.ghs_protocol.specs.declared.event.Event.TheVariants.{Wake, Take}
-use Rattle.ghs_protocol.specs.Net.{Net, event_node, happens}
+use Rattle.ghs_protocol.specs.Net.{event_node}
 use Rattle.ghs_protocol.specs.Network.{network_of}
 use Rattle.ghs_protocol.specs.Run.{IsRun}
 use Rattle.ghs_core.specs.NetState.{IsAnswer, network}
@@ -20,7 +20,7 @@ use Rattle.ghs_index.proofs.lemmas.Marks.{is_for, mark_is}
 use Rattle.ghs_world.specs.declared.wake_set.WakeSet.{WakeSet}
 use Rattle.ghs_world.specs.Steps.{Makes}
 use Rattle.ghs_world.specs.Wakes.{may_wake}
-use Rattle.ghs_world.specs.WorldState.{WorldState, home, wakers}
+use Rattle.ghs_world.specs.WorldState.{WorldState, home}
 use Rattle.ghs_chain.specs.Chains.{Chains, chains_of, reacted}
 use Rattle.ghs_chain.specs.Kept.{AreChains, Fits, seen}
 use Rattle.ghs_chain.proofs.Bounding.{IsWithin}
@@ -28,7 +28,6 @@ use Rattle.ghs_chain.proofs.Following.{chains_of_more, fits_kept}
 use Rattle.ghs_patient.specs.Choices.{IsStirred, far_takes}
 use Rattle.ghs_patient.proofs.Stirring.{same_back, same_moves}
 use Rattle.ghs_rounds.specs.Choices.{AreByRound, AreChoices, AreChoicesBut, AreFor, AreRounds, ChoicesState, HasHeard, IsPast, RoundsState, hides_in, moves_in}
-use Rattle.ghs_rounds.specs.Clock.{ClockState}
 use Rattle.ghs_rounds.specs.Rounds.{hides_due, is_by, is_due, has_due_second, moves_due}
 use Rattle.ghs_rounds.proofs.Marking.{far_places}
 use Rattle.ghs_rounds.proofs.Sending.{IsTimely, chains_leave, kept_below, reacted_timely}

@@ -1,7 +1,7 @@
 -- Marks of the choices, set one by one.
-use Rattle.std.proofs.Common.{◌≡◌, ◌≢◌, ℕ, zero, suc, ◌+◌, ◌<◌, ◌≤◌, Bool, true, false, Option, Some, None, List, [], ◌∷◌, length, set, refl, sym, ◌∙◌, ap, ap₂, subst, ⊎_elim, inl, inr, ◌⊎◌, arith, length-set, get_or-set_same, get_or-set_other}
+use Rattle.std.proofs.Common.{◌≡◌, ◌≢◌, ℕ, zero, suc, ◌+◌, ◌<◌, ◌≤◌, Bool, true, false, Option, Some, None, List, [], ◌∷◌, length, set, refl, sym, ◌∙◌, ap, ap₂, subst, ⊎_elim, arith, length-set, get_or-set_same, get_or-set_other}
 use Rattle.std.specs.List.{All, Contains, slice_get}
-use Rattle.std.proofs.lemmas.Bool.{cases_eq, cases_lt, both_ways}
+use Rattle.std.proofs.lemmas.Bool.{cases_eq, both_ways}
 use Rattle.std.proofs.lemmas.Option.{same_Some}
 use Rattle.ghs_graph.specs.Graph.{IsGraph}
 use Rattle.ghs_graph.specs.Ports.{ports_of}
@@ -18,9 +18,9 @@ use Rattle.ghs_protocol.proofs.lemmas.Graphs.{graph_wired}
 use Rattle.ghs_protocol.specs.Net.{event_node}
 use Rattle.ghs_core.specs.NetState.{network}
 use Rattle.ghs_flags.specs.Flags.{at}
-use Rattle.ghs_index.specs.Index.{IndexState, IsFor, IsIndexOf, IsIndexBut}
+use Rattle.ghs_index.specs.Index.{IndexState, IsFor}
 use Rattle.ghs_index.specs.Places.{HasPlace, all_events, place}
-use Rattle.ghs_index.proofs.lemmas.Marks.{is_for, of_but}
+use Rattle.ghs_index.proofs.lemmas.Marks.{of_but}
 use Rattle.ghs_index.proofs.lemmas.Places.{placed, place_within}
 use Rattle.ghs_world.specs.WorldState.{WorldState}
 use Rattle.ghs_patient.specs.Choices.{IsMarked, IsOwn, IsStirred, are_alike, far_takes}

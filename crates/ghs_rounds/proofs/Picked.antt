@@ -1,5 +1,5 @@
 -- What a pick of a round's events gives.
-use Rattle.std.proofs.Common.{◌≡◌, ℕ, ◌<◌, ◌≤◌, Bool, true, false, ◌&&◌, not, nat_eq, Some, List, [], ◌∷◌, length, filter, refl, sym, ◌∙◌, ap, subst, ⊎_elim, inl, inr, ◌⊎◌, arith}
+use Rattle.std.proofs.Common.{◌≡◌, ℕ, ◌≤◌, Bool, true, false, not, nat_eq, Some, List, [], ◌∷◌, length, filter, refl, sym, ◌∙◌, ap, subst, ⊎_elim, inl, inr, ◌⊎◌, arith}
 use Rattle.std.specs.List.{Contains}
 use Rattle.std.proofs.lemmas.Bool.{and_from, and_parts, eqb-true}
 use Rattle.std.proofs.lemmas.List.Elements.{Contains-get_or}
@@ -7,7 +7,6 @@ use Rattle.std.proofs.lemmas.Option.{get_or_from_slice_get, same_Some, slice_get
 use Rattle.ghs_graph.specs.Graph.{IsGraph}
 use Rattle.ghs_graph.proofs.lemmas.Members.{in_filter}
 use Rattle.ghs_node.specs.declared.delta.Delta.{Delta}
-use Rattle.ghs_node.specs.declared.delta.Fate.TheVariants.{Requeued}
 use Rattle.ghs_node.specs.declared.message.Message.{Message}
 use Rattle.ghs_node.specs.declared.message.Phase.{Phase}
 use Rattle.ghs_node.specs.declared.message.Phase.TheVariants.{Sleeping, Find, Found}
@@ -15,22 +14,20 @@ use Rattle.ghs_node.specs.Reaction.{reaction, requeues}
 use Rattle.ghs_node.specs.Words.{is_sleeping}
 use Rattle.ghs_protocol.specs.declared.event.Event.{Event}
 use Rattle.ghs_protocol.specs.declared.event.Event.TheVariants.{Wake, Take}
-use Rattle.ghs_protocol.specs.Network.{At, Network}
+use Rattle.ghs_protocol.specs.Network.{Network}
 use Rattle.ghs_protocol.specs.Net.{Net, event_node, is_lawful_under, is_port, is_waiting}
 use Rattle.ghs_protocol.specs.Run.{IsRun}
 use Rattle.ghs_protocol.proofs.lemmas.Events.{is_port_of}
 use Rattle.ghs_protocol.proofs.lemmas.Runs.{lawful_under}
 use Rattle.ghs_protocol.proofs.lemmas.Waiting.{waits_awake, waits_reaction}
 use Rattle.ghs_core.specs.NetState.{IsAnswer, IsLawful, NetState, delivery, net_of, network}
-use Rattle.ghs_core.specs.Waits.{waits}
 use Rattle.ghs_core.proofs.lemmas.Waiting.{waits_so}
-use Rattle.ghs_index.specs.Places.{HasPlace, all_events, place}
+use Rattle.ghs_index.specs.Places.{HasPlace, all_events}
 use Rattle.ghs_index.proofs.lemmas.Lists.{get_some}
 use Rattle.ghs_index.proofs.lemmas.Places.{only_place}
 use Rattle.ghs_world.specs.Outs.{Outs, is_out}
 use Rattle.ghs_world.specs.Ready.{is_ready}
 use Rattle.ghs_world.specs.WorldState.{WorldState, home, may_happen, wakers}
-use Rattle.ghs_world.proofs.lemmas.Leaving.{lawful_place, place_there}
 use Rattle.ghs_sched.specs.Picks.{IsPick}
 use Rattle.ghs_chain.specs.Chains.{Chains}
 use Rattle.ghs_chain.specs.Kept.{seen}

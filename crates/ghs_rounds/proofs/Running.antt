@@ -1,24 +1,24 @@
 -- What a run by rounds keeps.
-use Rattle.std.proofs.Common.{◌≡◌, ℕ, suc, ◌+◌, ◌-◌, ◌<◌, ◌≤◌, Bool, true, List, [], ◌∷◌, ◌++◌, length, refl, sym, ◌∙◌, ap, subst, ⊎_elim, arith}
+use Rattle.std.proofs.Common.{◌≡◌, ℕ, suc, ◌+◌, ◌-◌, ◌<◌, ◌≤◌, true, List, [], ◌∷◌, ◌++◌, length, refl, sym, ◌∙◌, ap, subst, ⊎_elim, arith}
 use Rattle.std.proofs.lemmas.Bool.{and_parts, ltb-true}
 use Rattle.std.proofs.lemmas.List.{length_push}
 use Rattle.ghs_graph.specs.Graph.{Shape}
-use Rattle.ghs_protocol.specs.declared.event.Event.{Event}
 use Rattle.ghs_protocol.specs.Marks.{HasEnded}
-use Rattle.ghs_protocol.specs.Network.{network_of}
+use Rattle.ghs_protocol.specs.Network.{Network}
 use Rattle.ghs_protocol.specs.Run.{net_after}
 use Rattle.ghs_core.specs.NetState.{network}
 use Rattle.ghs_world.specs.declared.wake_set.WakeSet.{WakeSet}
-use Rattle.ghs_world.specs.Steps.{IsSameWorld, Makes}
+use Rattle.ghs_world.specs.Steps.{IsSameWorld}
 use Rattle.ghs_world.specs.Wakes.{may_wake}
 use Rattle.ghs_world.specs.WorldState.{WorldState, has_turn, home, wakers}
 use Rattle.ghs_sched.specs.Picks.{IsPick}
-use Rattle.ghs_chain.specs.Chains.{Chains}
+use Rattle.ghs_chain.specs.Chains.{Chains, chains_of, longest_chain}
+use Rattle.ghs_chain.proofs.Bounding.{most_within}
 use Rattle.ghs_chain.specs.Kept.{AreChains}
-use Rattle.ghs_rounds.specs.Choices.{IsNextClock, RoundsState, events_of}
+use Rattle.ghs_rounds.specs.Choices.{AreRounds, IsNextClock, RoundsState, events_of}
 use Rattle.ghs_rounds.specs.Clock.{ClockState}
 use Rattle.ghs_rounds.specs.Rounds.{events_in, round_events}
-use Rattle.ghs_rounds.specs.Runs.{Begun, HasMadeNext, HasRun, IsPickedByRounds, Over, Picked}
+use Rattle.ghs_rounds.specs.Runs.{Begun, HasMadeNext, HasRun, Over, Picked}
 
 -- it begins with nothing out
 pub run_begins : (s t : WorldState) (words : List ℕ) → s.net.trace ≡ [] → t ≡ record s { outs = [] } → HasRun s t words words 0
@@ -109,3 +109,22 @@ smaller s new x used after next turn =
     let left : length s.net.trace + length s.outs < s.turns = ltb-true _ _ (and_parts _ _ turn).0 in
     let more : length (s.net.trace ++ next.event ∷ []) ≡ length s.net.trace + 1 = length_push s.net.trace next.event in
     rw (next.made.trace, next.made.turns) (omega (arith, left, more))
+
+-- The chain.
+
+-- of a world whose clock is right it is no longer than the round
+pub chain_by : (s : WorldState) (x : RoundsState) → AreRounds s x → longest_chain (network s.net) s.net.trace ≤ x.clock.round
+chain_by s x are =
+    most_within (suc (network s.net).count) x.clock.round (chains_of (network s.net) s.net.trace).node
+    (λ v. subst (λ (c : Chains). c.node v ≤ x.clock.round) are.chains.same (are.by_round.node v))
+
+pub chain_stays : (s new : WorldState) (x : RoundsState) → AreRounds s x → IsSameWorld s new → longest_chain (network new.net) new.net.trace ≤ x.clock.round
+chain_stays s new x are same = rw (same.net.graph, same.net.trace) (chain_by s x are)
+
+-- where nothing has happened there is none
+none_yet : (g : Network) → longest_chain g [] ≤ 0
+unfolding chains_of
+none_yet g = most_within (suc g.count) 0 (chains_of g []).node (λ v. omega arith)
+
+pub chain_begins : (s t : WorldState) → s.net.trace ≡ [] → t ≡ record s { outs = [] } → longest_chain (network t.net) t.net.trace ≤ 0
+chain_begins s t none e = rw (e, none) (none_yet (network s.net))

@@ -1,5 +1,5 @@
 -- The next round.
-use Rattle.std.proofs.Common.{◌≡◌, ℕ, suc, ◌<◌, ◌≤◌, Bool, true, false, ◌&&◌, not, Some, List, [], ◌∷◌, length, filter, refl, sym, ◌∙◌, ap, subst, ⊎_elim, inl, inr, ◌⊎◌, arith}
+use Rattle.std.proofs.Common.{◌≡◌, ℕ, suc, ◌<◌, ◌≤◌, Bool, true, ◌&&◌, not, Some, List, [], ◌∷◌, length, filter, refl, sym, ◌∙◌, ap, subst, ⊎_elim, inl, inr, ◌⊎◌, arith}
 use Rattle.std.specs.List.{All, Contains, slice_get}
 use Rattle.std.proofs.lemmas.Bool.{and_from, and_parts, cases_Bool, le-leb}
 use Rattle.ghs_graph.specs.Graph.{Shape, IsGraph}
@@ -7,25 +7,24 @@ use Rattle.ghs_graph.proofs.lemmas.Members.{filter_has, first_in, in_filter, not
 use Rattle.ghs_node.specs.declared.message.Message.{Message}
 use Rattle.ghs_protocol.specs.declared.event.Event.{Event}
 use Rattle.ghs_protocol.specs.declared.event.Event.TheVariants.{Wake, Take}
-use Rattle.ghs_protocol.specs.Laws.{IsNetOf}
 use Rattle.ghs_protocol.specs.Marks.{HasEnded}
 use Rattle.ghs_protocol.specs.Net.{Net, is_lawful_under, is_port, is_waiting, opening}
-use Rattle.ghs_protocol.specs.Network.{Network, network_of}
+use Rattle.ghs_protocol.specs.Network.{Network}
 use Rattle.ghs_protocol.specs.Run.{IsRun, run}
 use Rattle.ghs_protocol.specs.Schedules.{PatienceLasts}
 use Rattle.ghs_protocol.proofs.lemmas.Events.{is_port_of}
 use Rattle.ghs_protocol.proofs.lemmas.Queues.{all_first, all_rest}
 use Rattle.ghs_protocol.proofs.lemmas.Runs.{after_is_net}
-use Rattle.ghs_core.specs.NetState.{net_of, network}
-use Rattle.ghs_index.specs.Places.{HasPlace, all_events, place}
+use Rattle.ghs_core.specs.NetState.{network}
+use Rattle.ghs_index.specs.Places.{all_events}
 use Rattle.ghs_index.proofs.lemmas.Marks.{is_for, mark_is}
 use Rattle.ghs_world.specs.WorldState.{WorldState, home, wakers}
 use Rattle.ghs_world.proofs.lemmas.Waking.{each_is_woken}
 use Rattle.std.proofs.lemmas.List.Elements.{All-nil}
-use Rattle.ghs_chain.specs.Chains.{Chains, chains_of, no_chains}
+use Rattle.ghs_chain.specs.Chains.{Chains, no_chains}
 use Rattle.ghs_chain.specs.Kept.{Fits, seen}
 use Rattle.ghs_chain.proofs.Following.{none_are}
-use Rattle.ghs_patient.specs.Patience.{first_waits, moves_on, or_else, patient_events, puts_back, second_goes, uncovers}
+use Rattle.ghs_patient.specs.Patience.{moves_on, or_else, patient_events, puts_back, second_goes, uncovers}
 use Rattle.ghs_patient.proofs.Picks.{is_net, some_patient}
 use Rattle.ghs_rounds.specs.Choices.{AreChoices, AreChoicesBut, AreRounds, ChoicesState, HasSettled, IsPast, RoundsState, events_of, hides_in, marked_all, moves_in}
 use Rattle.ghs_rounds.specs.Clock.{ClockState}

@@ -1,6 +1,5 @@
 -- Runs by rounds: which events belong to which round, and what they leave of a world and a schedule.
-use Rattle.std.specs.Prelude.{◌≡◌, ℕ, suc, Bool, ◌+◌, ◌*◌, ◌<◌, ◌≤◌, List, [], ◌∷◌, ◌++◌, length}
-use Rattle.ghs_graph.specs.Bound.{IsBound}
+use Rattle.std.specs.Prelude.{◌≡◌, ℕ, suc, Bool, ◌+◌, ◌<◌, List, [], ◌∷◌, ◌++◌, length}
 use Rattle.ghs_graph.specs.Graph.{Shape}
 use Rattle.ghs_protocol.specs.declared.event.Event.{Event}
 use Rattle.ghs_protocol.specs.Marks.{HasEnded}
@@ -32,10 +31,6 @@ pub record HasRun (old new : WorldState) (words after : List ℕ) (rounds : ℕ)
   pub outs : new.outs ≡ []
   pub numbers : new.last ≡ old.last + length new.net.trace
   pub picked : IsPickedByRounds (wakers old) old.net.graph old.turns words new.net.trace rounds after
-
--- the trace has twice as many events as the bound on messages and the nodes together, at most
-abbrev pub IsShort : WorldState → Type 0
-IsShort new = (b : ℕ) → IsBound new.net.graph.nodes (length new.net.graph.keys) b → length new.net.trace ≤ 2 * (b + new.net.graph.nodes)
 
 -- the next word has picked one of the events of the round, and it has happened
 pub record HasMadeNext (old new : WorldState) (before : RoundsState) (words after : List ℕ) : Type 0 where

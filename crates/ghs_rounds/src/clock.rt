@@ -16,8 +16,7 @@ use ghs_protocol::event::Event;
 use std::alloc::{AllocError, Global};
 use std::marker::Model;
 
-/// The round, and for each message that waits how long the chain is that it ends: in a run by rounds that is one more than
-/// the round in which it was sent.
+/// The round, and for each message that waits how long the chain is that it ends: in that round it arrives.
 #[derive(Debug, Drop)]
 pub struct Clock {
     chains: Chains,
@@ -58,7 +57,7 @@ impl Clock {
         self.round += 1;
     }
 
-    /// Whether an event takes no message, or one that was sent before the round.
+    /// Whether an event takes no message, or one that has arrived by the round.
     pub fn is_due(&self, event: Event) -> bool
         requires { HasPlaceOf self.now.kept event }
         ensures { result ≡ is_due (seen self.now.kept) self.now.round event }
@@ -69,7 +68,7 @@ impl Clock {
         }
     }
 
-    /// Whether behind the event's message stands one that was sent before the round.
+    /// Whether behind the event's message stands one that has arrived by the round.
     pub fn has_due_second(&self, event: Event) -> bool
         requires { HasPlaceOf self.now.kept event }
         ensures { result ≡ has_due_second (seen self.now.kept) self.now.round event }

@@ -20,7 +20,7 @@ use ghs_graph::graph::Graph;
 use ghs_node::delta::Delta;
 use ghs_node::message::Message;
 use ghs_protocol::event::Event;
-use ghs_protocol::interleavings::{law_one_waits, law_patience_lasts};
+use ghs_protocol::interleavings::law_patience_lasts;
 use ghs_sched::schedule::Schedule;
 use ghs_world::world::World;
 use std::alloc::{AllocError, Global};
@@ -76,7 +76,6 @@ impl Rounds {
         requires few { self.old.clock.round < 2 ^ 64 - 1 }
         ensures { HasSettled world.now self.old self.new }
     {
-        law_one_waits();
         law_patience_lasts();
         let _ = world.net().trace();
         if !self.choices.are_none(world, &self.clock) {

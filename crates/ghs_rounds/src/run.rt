@@ -1,9 +1,11 @@
 //! Runs that go on by rounds, and so end.
+ghost use Rattle.ghs_chain.specs.Chains.{longest_chain};
+ghost use Rattle.ghs_core.specs.NetState.{network};
 ghost use Rattle.ghs_protocol.specs.Marks.{HasEnded};
 ghost use Rattle.ghs_rounds.specs.Runs.{HasRun};
 ghost use Rattle.ghs_sched.specs.Runs.{EndsFor, IsEnd};
 ghost use Rattle.ghs_world.specs.WorldState.{home};
-ghost use Rattle.std.specs.Prelude.{IfErr, IfOk, OnErr, [], ◌≡◌};
+ghost use Rattle.std.specs.Prelude.{IfErr, IfOk, OnErr, [], ◌≡◌, ◌≤◌};
 
 use crate::rounds::Rounds;
 use ghs_sched::fault::RunFault;
@@ -13,11 +15,12 @@ use ghs_world::world::World;
 use std::alloc::Global;
 
 /// Runs a world from its opening on by rounds until the run has ended, and says in how many. All that is out is recalled
-/// first. In round 0 all nodes wake that may wake by themselves. In a later round each word of the schedule picks one of the
-/// messages that were sent before it and wouldn't only be put back; where there is none it picks one to be put back behind
-/// which stands such a message; and where there is none of these either the round is over. Of the faults TurnLimit comes
-/// where the commits have come to the turns or no ticket number is left, and else Memory. At every end nothing is out, and
-/// the world stands after the events so far.
+/// first. In round 0 all nodes wake that may wake by themselves. A message that ends a chain of r messages arrives in round
+/// r. In a round each word of the schedule picks one of the messages that have arrived and wouldn't only be put back; where
+/// there is none it picks one to be put back behind which stands such a message; and where there is none of these either the
+/// next round begins. No chain is longer than there were rounds. Of the faults TurnLimit comes where the commits have come to
+/// the turns or no ticket number is left, and else Memory. At every end nothing is out, and the world stands after the events
+/// so far. O(1) an event and a message; where phase, level or in_branch of a node have changed, O(1) for each of its ports.
 pub fn run_rounds(
     alloc: Global,
     world: &mut World,
@@ -25,6 +28,7 @@ pub fn run_rounds(
 ) -> (u64, Result<RunEnd, RunFault>)
     requires trace { world.old.net.trace ≡ [] }
     ensures run { HasRun world.old world.new schedule.old schedule.new result.0 }
+    ensures chain { longest_chain (network world.new.net) world.new.net.trace ≤ result.0 }
     ensures halted { IfOk result.1 (λ e. IsEnd world.new e) }
     ensures going { OnErr result.1 (HasEnded world.new.net.graph (home world.new) → ⊥) }
     ensures fault { IfErr result.1 (λ f. EndsFor world.new f) }

@@ -1,7 +1,7 @@
-use Rattle.std.proofs.Common.{◌≡◌, ◌∙◌, refl, sym, arith}
+use Rattle.std.proofs.Common.{◌∙◌, refl, sym, arith}
 use Rattle.ghs_rounds.specs.Runs.{HasRun}
 use Rattle.ghs_patient.proofs.Running.{not_so, same_end}
-use Rattle.ghs_rounds.proofs.Running.{few_more, run_begins, run_more, run_settles, run_stays, smaller}
+use Rattle.ghs_rounds.proofs.Running.{chain_begins, chain_by, chain_stays, few_more, run_begins, run_more, run_settles, run_stays, smaller}
 use Rattle.ghs_rounds.proofs.run.run_rounds.Goals as goal
 
 pub returns-then-ended-clause-run : goal.returns-then-ended-clause-run
@@ -57,3 +57,19 @@ returns-in-Err-make_next-clause-going c =
 
 pub returns-clause-run : goal.returns-clause-run
 returns-clause-run c = rw c.count-2.ensures c.events.invariant.run
+
+pub returns-then-ended-clause-chain : goal.returns-then-ended-clause-chain
+returns-then-ended-clause-chain c = chain_begins c.args.world.now c.recall_all.new.self c.requires.trace c.recall_all.ensures
+
+pub returns-in-Err-clause-chain : goal.returns-in-Err-clause-chain
+returns-in-Err-clause-chain c = chain_begins c.args.world.now c.recall_all.new.self c.requires.trace c.recall_all.ensures
+
+pub returns-then-not-has_turn-clause-chain : goal.returns-then-not-has_turn-clause-chain
+returns-then-not-has_turn-clause-chain c = rw c.count.ensures (chain_by c.events.world c.events.rounds c.events.invariant.rounds)
+
+pub returns-in-Err-make_next-clause-chain : goal.returns-in-Err-make_next-clause-chain
+returns-in-Err-make_next-clause-chain c =
+    rw c.count-count.ensures (chain_stays c.events.world c.make_next.new.world c.settle.new.self c.settle.ensures.rounds c.in-Err-make_next.ensures.err)
+
+pub returns-clause-chain : goal.returns-clause-chain
+returns-clause-chain c = rw c.count-2.ensures (chain_by c.events.world c.events.rounds c.events.invariant.rounds)

@@ -1,4 +1,4 @@
-use Rattle.std.proofs.Common.{◌≡◌, subst}
+use Rattle.std.proofs.Common.{subst}
 use Rattle.ghs_graph.specs.Graph.{IsGraph}
 use Rattle.ghs_protocol.specs.Run.{IsRun}
 use Rattle.ghs_core.specs.NetState.{NetState, network}
