@@ -90,8 +90,7 @@ function load(graph, trace, k) {
   goto(k);
   only = same ? only : G.nodes > 12;
   say('');
-  if (same) { strip(); show(); } else { relay(); }
-  if (ended && at === G.to) say('The run has ended: the Branch links are the minimum spanning forest.');
+  if (same) { strip(); show(); } else relay();
   return true;
 }
 // what may come next at an event of the run
@@ -137,7 +136,10 @@ const wording = (key, o) => {
   const [v, p] = placeOf(key), m = p === undefined ? null : queue(v, p)[0];
   return 'Node ' + v + (m ? ' takes ' + words(m) + ' from node ' + m.from : ' wakes') + (o.waits ? ', and would only put it back' : '');
 };
+const END = 'The run has ended: the Branch links are the minimum spanning forest.';
 function offer() {
+  if (ended && at === G.to && !$('note').textContent) say(END);
+  else if (at < G.to && $('note').textContent === END) say('');
   offered = timer || asking ? new Map() : offersAt(at);
   if ($('moving').checked) offered = new Map([...offered].filter(([, o]) => !o.waits));
   if (!offered.has(pointed)) pointed = null;
@@ -393,8 +395,6 @@ async function begin() {
   if (fault) { wakeFirst = false; text = seenOf(EXAMPLES.triangle, 'trace 0\n'); }
   graphText = '';
   $('steps').textContent = text;
-  hands.keys = true;
-  Object.assign(ACTS, {});
   start();
   hands();
   $('keys').innerHTML = '<table>' + KEYS.map(([k, t]) => '<tr>' + td(k) + td(t) + '</tr>').join('') + '</table><form method="dialog"><button>close</button></form>';
