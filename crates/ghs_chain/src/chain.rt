@@ -1,19 +1,16 @@
 //! The longest chain of messages of a run.
 ghost use Rattle.ghs_chain.specs.Chains.{longest_chain};
 ghost use Rattle.ghs_chain.specs.Kept.{AreChains};
-ghost use Rattle.ghs_core.specs.NetState.{event_node, IsLawful};
+ghost use Rattle.ghs_core.specs.NetState.{IsLawful};
 ghost use Rattle.ghs_core.specs.PutBack.{IsPutBack};
-ghost use Rattle.ghs_node.specs.Words.{is_sleeping};
 ghost use Rattle.ghs_protocol.specs.Network.{network_of};
 ghost use Rattle.ghs_protocol.specs.Run.{IsRun};
 ghost use Rattle.std.specs.Prelude.{◌≡◌, ◌++◌, ◌<◌, ◌≤◌, ◌^◌, ◌∷◌, [], IfOk, length, OnOk};
 
 use crate::chains::Chains;
-use ghs_core::net::Net;
+use ghs_core::net::{Net, is_asleep, node_of};
 use ghs_graph::graph::Graph;
 use ghs_node::delta::Fate;
-use ghs_node::message::Phase;
-use ghs_node::node::Node;
 use ghs_node::react::react;
 use ghs_protocol::event::Event;
 use std::alloc::{AllocError, Global};
@@ -65,7 +62,7 @@ fn put_back(net: &mut Net, chains: &mut Chains, v: u32, port: u32) -> Result<(),
     ensures chains { OnOk result (AreChains net.new chains.new) }
 {
     let _ = net.trace();
-    let asleep = is_asleep(net.node(v));
+    let asleep = is_asleep(net.node(v).head());
     net.put_back(v, port)?;
     chains.hear(Event::Take(v, port), asleep, Fate::Requeued)?;
     Ok(())
@@ -88,7 +85,7 @@ fn react_to(
     let _ = net.trace();
     let v = node_of(event);
     let node = net.node(v);
-    let asleep = is_asleep(node);
+    let asleep = is_asleep(node.head());
     let delta = match react(alloc, node, net.work(event)) {
         Ok(delta) => delta,
         Err(_) => return Err(AllocError),
@@ -98,24 +95,4 @@ fn react_to(
     chains.send(net.graph(), v, delta.sends.as_slice())?;
     net.play(event, &delta);
     Ok(())
-}
-
-// The node at which an event happens.
-fn node_of(event: Event) -> u32
-    ensures { result ≡ event_node event }
-{
-    match event {
-        Event::Wake(v) => v,
-        Event::Take(v, _) => v,
-    }
-}
-
-fn is_asleep(node: &Node) -> bool
-    ensures { result ≡ is_sleeping node.now.head.phase }
-{
-    match node.head().phase {
-        Phase::Sleeping => true,
-        Phase::Find => false,
-        Phase::Found => false,
-    }
 }

@@ -369,8 +369,8 @@ impl Net {
     }
 }
 
-// The node at which an event happens.
-fn node_of(event: Event) -> u32
+/// The node at which an event happens.
+pub fn node_of(event: Event) -> u32
     ensures { result ≡ event_node event }
 {
     match event {
@@ -385,8 +385,8 @@ fn same_events(left: &[Event], right: &[Event]) -> bool
     left == right
 }
 
-// Whether a node with these variables is asleep.
-fn is_asleep(head: &Head) -> bool
+/// Whether a node with these variables is asleep.
+pub fn is_asleep(head: &Head) -> bool
     ensures { result ≡ is_sleeping head.now.phase }
 {
     match head.phase {

@@ -10,3 +10,4 @@ pub mod Layout
 pub mod Classes
 pub mod Spanning
 pub mod Bound
+pub mod Computing

@@ -16,7 +16,7 @@ ghost use Rattle.ghs_patient.specs.Patience.{puts_back};
 ghost use Rattle.ghs_patient.specs.Choices.{AreChoices, AreChoicesBut, AreFor, IsMarked, IsStirred, SecondsGo, are_alike, far_takes, has_second, is_double, marked, marked_all, marked_to, moves_in, patient_in, same_phase, same_place};
 
 use ghs_core::event::Event;
-use ghs_core::net::Net;
+use ghs_core::net::{Net, node_of};
 use ghs_core::waits::waits;
 use ghs_index::index::Index;
 use ghs_node::delta::Delta;
@@ -211,15 +211,5 @@ fn is_same_place(left: Option<u32>, right: Option<u32>) -> bool
         (None, None) => true,
         (Some(left), Some(right)) => right == left,
         _ => false,
-    }
-}
-
-/// The node at which an event happens.
-pub fn node_of(event: Event) -> u32
-    ensures { result ≡ event_node event }
-{
-    match event {
-        Event::Wake(v) => v,
-        Event::Take(v, _) => v,
     }
 }

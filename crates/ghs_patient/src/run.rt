@@ -8,7 +8,8 @@ ghost use Rattle.ghs_world.specs.Steps.{IsSameWorld};
 ghost use Rattle.ghs_world.specs.WorldState.{has_turn, home};
 ghost use Rattle.std.specs.Prelude.{IfErr, IfOk, OnErr, OnOk, [], true, ◌≡◌};
 
-use crate::choices::{Choices, node_of};
+use crate::choices::Choices;
+use ghs_core::net::node_of;
 use ghs_protocol::interleavings::{law_one_waits, law_patience, law_patience_lasts};
 use ghs_sched::fault::RunFault;
 use ghs_sched::run::{RunEnd, end_of};

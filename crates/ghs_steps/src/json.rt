@@ -6,10 +6,12 @@ ghost use Rattle.ghs_steps.specs.Words.{key_text};
 
 use crate::change::Change;
 use crate::line::fate_word;
-use crate::moment::{Moment, node_of, port_of};
+use crate::moment::{Moment, port_of};
 use crate::sent::Sent;
 use crate::words::{mark_word, phase_word, put_key, row_word};
+use ghs_core::net::node_of;
 use ghs_graph::key::Key;
+use ghs_core::net::node_of;
 use ghs_lines::numbers::put_number;
 use ghs_node::delta::Fate;
 use ghs_node::message::Message;

@@ -4,10 +4,11 @@ ghost use Rattle.std.specs.List.{flat_map};
 ghost use Rattle.ghs_steps.specs.StepLine.{behind_semicolon, best_text, change_name, change_text, change_value, fate_word, field, joined, key_or_dash, line_of, message_text, number_or_dash, place_fields, send_text, work_fields};
 
 use crate::change::Change;
-use crate::moment::{Moment, node_of, port_of};
+use crate::moment::{Moment, port_of};
 use crate::sent::Sent;
 use crate::words::{mark_word, phase_word, put_key, row_word};
 use ghs_core::event::Event;
+use ghs_core::net::node_of;
 use ghs_graph::key::Key;
 use ghs_lines::numbers::put_number;
 use ghs_node::delta::Fate;

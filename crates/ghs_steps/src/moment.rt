@@ -1,6 +1,5 @@
 //! When and how an event happens.
 ghost use Rattle.std.specs.Prelude.{◌≡◌};
-ghost use Rattle.ghs_protocol.specs.Net.{event_node};
 ghost use Rattle.ghs_steps.specs.Told.{event_port};
 
 use ghs_core::event::Event;
@@ -24,16 +23,6 @@ pub struct Moment {
     pub fate: Fate,
     /// How many messages were sent for the first time by then, this event's among them.
     pub total: u128,
-}
-
-/// The node at which an event happens.
-pub fn node_of(event: Event) -> u32
-    ensures { result ≡ event_node event }
-{
-    match event {
-        Event::Wake(v) => v,
-        Event::Take(v, _) => v,
-    }
 }
 
 /// The port from which an event takes a message; none for a wake.

@@ -71,7 +71,7 @@ out_more (p ∷ os) o v = rw (out_more os o v) (assoc (event_node p.1 == v) (is_
 apart_more : (os : Outs) (o : ℕ × Event) → AreApart os → is_out os (event_node o.1) ≡ false → AreApart (os ++ o ∷ [])
 apart_more [] o a h = (refl, tt)
 apart_more (p ∷ os) o a h =
-    let b = or_none _ _ h in (
+    let b = or_parts _ _ h in (
       rw (
         out_more os o (event_node p.1),
         a.0,
@@ -80,10 +80,6 @@ apart_more (p ∷ os) o a h =
       apart_more os o a.1 b.1,
     )
   where
-    or_none : (x y : Bool) → (x || y) ≡ false → (x ≡ false) × (y ≡ false)
-    or_none true y e = cc
-    or_none false y e = (refl, e)
-
     same_false : (x y : ℕ) → x ≡ y → (x == y) ≡ false → ⊥
     same_false x y e f = let t = eq-eqb x y e in cc
 

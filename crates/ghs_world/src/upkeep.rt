@@ -10,10 +10,9 @@ ghost use Rattle.ghs_index.specs.Index.{IsFor, IsIndexOf, IsIndexBut};
 ghost use Rattle.ghs_world.specs.WorldState.{has_place};
 ghost use Rattle.ghs_world.specs.Upkeep.{HaveArrived, lawful_in, lawful_first, changed};
 
-use crate::outs::node_of;
 use crate::wake_set::WakeSet;
 use ghs_core::event::Event;
-use ghs_core::net::Net;
+use ghs_core::net::{Net, node_of};
 use ghs_graph::graph::Graph;
 use ghs_index::index::Index;
 use ghs_node::message::Message;

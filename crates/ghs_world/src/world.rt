@@ -24,7 +24,7 @@ ghost use Rattle.ghs_world.specs.WorldLedger.{IsWorldLedger};
 ghost use Rattle.ghs_world.specs.WorldState.{home, wakers, has_place, may_happen, has_turn, refusal, Refuses, ticket_of, gone_out, IsOut, RefusesTicket};
 
 use crate::fault::{BackFault, CommitFault, OutFault};
-use crate::outs::{Outs, node_of};
+use crate::outs::Outs;
 use crate::ticket::{Step, Ticket};
 use crate::upkeep::{mark_changed, may_happen, open_index};
 use crate::wake_set::WakeSet;
@@ -32,7 +32,7 @@ use crate::woken::{Committed, Woken, touched};
 use ghs_core::census::FragmentRow;
 use ghs_core::event::Event;
 use ghs_core::ledger::Ledger;
-use ghs_core::net::Net;
+use ghs_core::net::{Net, node_of};
 use ghs_graph::graph::Graph;
 use ghs_graph::key::Key;
 use ghs_index::index::Index;

@@ -15,7 +15,8 @@ use Rattle.ghs_graph.specs.Laws.{NodesHaveRoots, RootsTell, ForestHasFewer}
 use Rattle.ghs_graph.proofs.lemmas.Members.{nothing_in, in_filter, filter_has}
 use Rattle.ghs_graph.proofs.Rising.{same_rising, length-without}
 use Rattle.ghs_graph.proofs.lemmas.Keys.{below_at, tree_is_same}
-use Rattle.ghs_graph.proofs.lemmas.Joining.{joined_nodes, joined_then, joined_back, joined_within, joined_through, joined_by_none, one_more, joins, joins_tells, decided}
+use Rattle.ghs_graph.proofs.lemmas.Joining.{joined_nodes, joined_then, joined_back, joined_within, joined_through, joined_by_none, one_more, joins_tells, decided}
+use Rattle.ghs_graph.specs.Computing.{joins}
 use Rattle.ghs_graph.proofs.lemmas.Trees.{tree_of_none, tree_takes, tree_leaves}
 use Rattle.ghs_graph.proofs.lemmas.Computing.{nodes_rise, node_in, in_nodes}
 

@@ -1,5 +1,5 @@
 -- The forest, roots and the number of components, computed in a plain slow way.
-use Rattle.std.proofs.Common.{◌≡◌, ℕ, zero, suc, ◌<◌, ◌≤◌, ◌+◌, ◌-◌, ⊎_elim, Bool, true, not, ◌&&◌, List, [], ◌∷◌, length, get_or, refl, sym, ◌∙◌, arith}
+use Rattle.std.proofs.Common.{◌≡◌, ℕ, ◌<◌, ◌≤◌, ◌+◌, ◌-◌, ⊎_elim, Bool, true, not, ◌&&◌, List, [], ◌∷◌, length, get_or, refl, sym, ◌∙◌, arith}
 use Rattle.std.specs.Bool.{Decides}
 use Rattle.std.specs.List.{AllPairs, Contains, filter, list_all, range_with_len}
 use Rattle.std.proofs.lemmas.Bool.{both_ways, cases_lt, and_parts, not-true, not_from_false, false_from_ne_true}
@@ -7,13 +7,14 @@ use Rattle.std.proofs.lemmas.Bool.Decides.{Decides-like, Decides-and, Decides-no
 use Rattle.std.proofs.lemmas.List.Kept.{AllPairs-cons, AllPairs-filter}
 use Rattle.std.proofs.lemmas.List.Sums.{AllPass-from_list_all}
 use Rattle.std.proofs.lemmas.List.FromFn.{length-range_with_len, get_or-range_with_len}
+use Rattle.ghs_graph.specs.Computing.{joins, none_below, is_root}
 use Rattle.ghs_graph.specs.declared.key.Key.{Key}
 use Rattle.ghs_graph.specs.Key.{key_lt}
 use Rattle.ghs_graph.specs.Links.{Joined, links, IsTree, IsRising}
 use Rattle.ghs_graph.specs.Graph.{Shape, nodes_of}
 use Rattle.ghs_graph.specs.Components.{IsRoot, HasComponents}
 use Rattle.ghs_graph.proofs.lemmas.Members.{in_filter, filter_has}
-use Rattle.ghs_graph.proofs.lemmas.Joining.{joined_within, joins, joins_tells}
+use Rattle.ghs_graph.proofs.lemmas.Joining.{joined_within, joins_tells}
 
 -- The forest.
 
@@ -61,14 +62,6 @@ tree_is ks r = record {
     below k = joins (smaller k) k.a k.b
 
 -- Roots.
-
-abbrev none_below : (ℕ → Bool) → ℕ → Bool
-none_below test zero = true
-none_below test (suc n) = not (test n) && none_below test n
-
--- r is joined with v, and no smaller number is
-abbrev pub is_root : List Key → ℕ → ℕ → Bool
-is_root ks v r = joins ks v r && none_below (joins ks v) r
 
 pub root_tells : (ks : List Key) (v r : ℕ) → Decides (is_root ks v r) (IsRoot ks v r)
 root_tells ks v r = Decides-like (is_root ks v r)

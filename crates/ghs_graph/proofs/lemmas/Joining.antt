@@ -1,10 +1,11 @@
 -- What sets of links join: ways put together, sets compared, and one more link.
-use Rattle.std.proofs.Common.{◌≡◌, ℕ, ◌<◌, ◌≤◌, ◌⊎◌, inl, inr, ⊎_elim, Bool, true, ◌==◌, ◌&&◌, ◌||◌, List, [], ◌∷◌, refl, subst, arith}
+use Rattle.std.proofs.Common.{◌≡◌, ℕ, ◌<◌, ◌≤◌, ◌⊎◌, inl, inr, ⊎_elim, Bool, true, ◌==◌, ◌&&◌, List, [], ◌∷◌, refl, subst, arith}
 use Rattle.std.specs.List.{Contains, filter}
 use Rattle.std.specs.Bool.{Decides}
 use Rattle.std.proofs.lemmas.Bool.{cases_Bool, both_ways}
 use Rattle.std.proofs.lemmas.List.Elements.{All-contains}
 use Rattle.std.proofs.lemmas.Bool.Decides.{Decides-like, Decides-eqb, Decides-or, Decides-and}
+use Rattle.ghs_graph.specs.Computing.{joins}
 use Rattle.ghs_graph.specs.declared.key.Key.{Key}
 use Rattle.ghs_graph.specs.Links.{Joined, Same, Over, Back, links, AreAmong}
 use Rattle.ghs_graph.proofs.lemmas.Members.{nothing_in, first_in, later_in, in_cases, in_filter, filter_has}
@@ -85,11 +86,6 @@ pub joined_by_none : {S : Key → Type 0} → ((k : Key) → S k → ⊥) → {u
 joined_by_none none Same = refl
 joined_by_none none (Over k s way) = absurd (none k s)
 joined_by_none none (Back k s way) = absurd (none k s)
-
--- a plain slow way to tell: without the first link, or over it
-abbrev pub joins : List Key → ℕ → ℕ → Bool
-joins [] u v = u == v
-joins (k ∷ ks) u v = joins ks u v || ((joins ks u k.a && joins ks k.b v) || (joins ks u k.b && joins ks k.a v))
 
 pub joins_tells : (ks : List Key) (u v : ℕ) → Decides (joins ks u v) (Joined (links ks) u v)
 joins_tells [] u v = Decides-like (u == v) (λ e. subst (λ x. Joined (links []) u x) e Same) (joined_by_none nothing_in) (Decides-eqb u v)

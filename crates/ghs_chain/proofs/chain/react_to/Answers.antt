@@ -2,6 +2,7 @@ use Rattle.std.proofs.Common.{◌≡◌, ◌∙◌, Some, ap, subst}
 use Rattle.ghs_node.specs.declared.work.Work.{Work}
 use Rattle.ghs_node.specs.Reaction.{reaction}
 use Rattle.ghs_node.specs.NodeState.{NodeState}
+use Rattle.ghs_node.specs.declared.head.Head.{Head}
 use Rattle.ghs_node.specs.Words.{is_sleeping}
 use Rattle.ghs_core.specs.NetState.{IsAnswer, event_node, net_of}
 use Rattle.ghs_chain.specs.Chains.{hears}
@@ -33,7 +34,7 @@ returns-clause-chains c =
     let s = c.args.net.now in
     let e = c.args.event in
     let same : c.node-node.result.now ≡ (net_of s).node (event_node e) = c.node-node.ensures ∙ ap (λ v. (net_of s).node v) c.node_of-v.ensures in
-    let asleep = c.is_asleep-asleep.ensures ∙ ap (λ (n : NodeState). is_sleeping n.head.phase) same in
+    let asleep = c.is_asleep-asleep.ensures ∙ ap (λ (h : Head). is_sleeping h.phase) c.head.ensures.head ∙ ap (λ (n : NodeState). is_sleeping n.head.phase) same in
     let heard : seen c.hear.new.self ≡ hears e (is_sleeping ((net_of s).node (event_node e)).head.phase) c.in-Ok.delta.fate (seen c.args.chains.now) =
     c.in_ok-hear.ensures.heard ∙ ap (λ b. hears e b c.in-Ok.delta.fate (seen c.args.chains.now)) asleep in
     let of_node = subst (λ (n : NodeState). reaction n c.work.result ≡ Some c.in-Ok.delta) same c.in-Ok.ensures.reaction in
