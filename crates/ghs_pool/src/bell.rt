@@ -1,4 +1,4 @@
-// What wakes workers that sleep when their run is over.
+// What wakes workers that sleep: one where there is work for it, all when their run is over.
 use std::sync::Wait;
 use std::sync::atomic::{AtomicU64, Ordering};
 use std::time::Duration;
@@ -24,6 +24,16 @@ impl Bell {
     pub fn ring(&self) {
         self.word.store(RUNG, Ordering::SeqCst);
         self.word.wake_all();
+    }
+
+    // Wakes one that sleeps, the one that has slept the longest.
+    pub fn call(&self) {
+        self.word.wake_one();
+    }
+
+    // Whether the run is over.
+    pub fn has_rung(&self) -> bool {
+        self.word.load(Ordering::SeqCst) == RUNG
     }
 
     // Sleeps so many microseconds, or until the run is over. It may end before.
