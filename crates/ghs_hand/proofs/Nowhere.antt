@@ -18,14 +18,16 @@ no_graph wake graph trace (NotLawful k) h = absurd h
 no_graph wake graph trace TurnLimit h = absurd h
 no_graph wake graph trace Memory h = tt
 
-pub no_events : (wake : WakeSet) (graph trace : List ℕ) (g : Shape) (f : HandFault) → IsTextOf graph g → HasNoEvents trace f → LeadsNowhere wake graph trace f
+pub no_events : (wake : WakeSet) (graph trace : List ℕ) (g : Shape) (f : HandFault) → IsTextOf graph g → HasNoEvents trace f →
+    LeadsNowhere wake graph trace f
 no_events wake graph trace g (Graph fault) is h = absurd h
 no_events wake graph trace g (Trace fault) is h = ((g, is), h)
 no_events wake graph trace g (NotLawful k) is h = absurd h
 no_events wake graph trace g TurnLimit is h = absurd h
 no_events wake graph trace g Memory is h = tt
 
-pub no_run : (wake : WakeSet) (graph trace : List ℕ) (g : Shape) (es : List Event) (f : ReplayFault) → IsTextOf graph g → HasEvents trace es → CantReplay g wake es f →
+pub no_run : (wake : WakeSet) (graph trace : List ℕ) (g : Shape) (es : List Event) (f : ReplayFault) →
+    IsTextOf graph g → HasEvents trace es → CantReplay g wake es f →
     LeadsNowhere wake graph trace (of_replay f)
 no_run wake graph trace g es (replays.NotLawful k) is has h = (g, es, is, has, h)
 no_run wake graph trace g es (replays.Unforeseen k) is has h = tt

@@ -27,7 +27,8 @@ place_of g w (Wake v) h = (and_parts (is_node g v) _ h).0
 place_of g w (Take v p) h = (and_parts (is_port g v p) _ h).0
 
 -- what has an effect leads on
-leads_on : (g : Network) (w : Net) (e : Event) → is_lawful g w e ≡ true → (o : Option Net) → effect g w e ≡ o → IsSome o → (x : Net) × (happens g w e ≡ Some x)
+leads_on : (g : Network) (w : Net) (e : Event) → is_lawful g w e ≡ true →
+    (o : Option Net) → effect g w e ≡ o → IsSome o → (x : Net) × (happens g w e ≡ Some x)
 leads_on g w e h None is some = cc
 leads_on g w e h (Some x) is some = (x, lawful_happens g w e h ∙ is)
 
@@ -35,15 +36,18 @@ module _ (rules : EventsHaveRules) (w : WorldState) (graph : IsGraph w.net.graph
   abbrev at_hand : IsRunUnder (wakers w) (network w.net) w.net.trace → IsAfter (network w.net) w.net.trace (home w)
   at_hand r = after_is_net w.net.graph w.net.trace r.0
 
-  next_is_run : IsRunUnder (wakers w) (network w.net) w.net.trace → Contains (ready_events w) e → IsRunUnder (wakers w) (network w.net) (w.net.trace ++ e ∷ [])
+  next_is_run : IsRunUnder (wakers w) (network w.net) w.net.trace → Contains (ready_events w) e →
+      IsRunUnder (wakers w) (network w.net) (w.net.trace ++ e ∷ [])
   next_is_run r has =
       let g = network w.net in
       let may = (in_filter (is_ready w) (all_events g) e has).1 in
       let lawful = (lawful_under (wakers w) g (home w) e).0 (and_parts (not (is_out w.outs (event_node e))) (may_happen w e) may).1 in
-      let on = leads_on g (home w) e lawful.1 (effect g (home w) e) refl (rules w.net.graph (home w) (record { graph = graph; events = w.net.trace; run = at_hand r }) e lawful.1) in
+      let on = leads_on g (home w) e lawful.1 (effect g (home w) e) refl
+      (rules w.net.graph (home w) (record { graph = graph; events = w.net.trace; run = at_hand r }) e lawful.1) in
       ((on.0, run_more g w.net.trace e (opening g) (home w) (at_hand r) ∙ on.1), All-push (MayWake (wakers w)) w.net.trace e r.1 lawful.0)
 
-  run_is_next : IsRunUnder (wakers w) (network w.net) w.net.trace → IsRunUnder (wakers w) (network w.net) (w.net.trace ++ e ∷ []) → Contains (ready_events w) e
+  run_is_next : IsRunUnder (wakers w) (network w.net) w.net.trace → IsRunUnder (wakers w) (network w.net) (w.net.trace ++ e ∷ []) →
+      Contains (ready_events w) e
   run_is_next r more =
       let g = network w.net in
       let happened : happens g (home w) e ≡ Some more.0.0 = sym (run_more g w.net.trace e (opening g) (home w) (at_hand r)) ∙ more.0.1 in

@@ -1,7 +1,8 @@
 -- The test of waiting, for a Take that may come next.
-use Rattle.std.proofs.Common.{◌≡◌, ℕ, Bool, true, false, not, Some, List, [], ◌∷◌, slice_get, refl, sym, subst}
+use Rattle.std.proofs.Common.{◌≡◌, ℕ, Bool, true, not, Some, List, [], ◌∷◌, slice_get, refl, sym, subst}
 use Rattle.std.specs.Prelude.{IsTrue, ◌↔◌}
 use Rattle.std.proofs.lemmas.Bool.{and_parts}
+use Rattle.std.proofs.lemmas.Bool.Decides.{same_from_decides}
 use Rattle.ghs_node.specs.declared.message.Message.{Message}
 use Rattle.ghs_node.specs.NodeState.{NodeState}
 use Rattle.ghs_protocol.specs.declared.event.Event.{Event}
@@ -16,17 +17,12 @@ use Rattle.ghs_world.specs.Outs.{is_out}
 use Rattle.ghs_world.specs.Ready.{is_ready}
 use Rattle.ghs_world.specs.WorldState.{WorldState, home, may_happen}
 
-same_test : (a b : Bool) → (a ≡ true → b ≡ true) → (b ≡ true → a ≡ true) → a ≡ b
-same_test true b f g = sym (f refl)
-same_test false true f g = g refl
-same_test false false f g = refl
-
 first_is : (n : NodeState) (p : ℕ) (q : List Message) (b : Bool) → is_waiting q ≡ true →
     ((m : Message) → slice_get q 0 ≡ Some m → IsTrue b ↔ Waits n p m) →
     b ≡ first_waits n p q
 first_is n p [] b some is = cc
 first_is n p (m ∷ ms) b some is =
-    same_test b (waits n p m) (λ t. waits_test n p m ((is m refl).0 t)) (λ t. (is m refl).1 (waits_so n p m t))
+    same_from_decides b (waits n p m) (is m refl) (λ t. waits_so n p m t, λ h. waits_test n p m h)
 
 -- what `waits_at` says of the first message is what is told of the event
 take_is : (w : WorldState) (v p : ℕ) (b : Bool) → is_ready w (Take v p) ≡ true →
