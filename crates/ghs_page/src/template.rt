@@ -254,12 +254,12 @@ function read(text) {
     }
   }
 }
-const message = (m, born, from, to, at) => ({ kind: m.kind, level: m.level, key: m.key, phase: m.phase, born, from, to, at, takes: [], backs: 0, done: 0 });
+const message = (m, born, from, to, at) => ({ kind: m.kind, level: m.level, key: m.key, phase: m.phase, born, from, to, at, takes: [], backs: 0, done: 0, number: 0 });
 
 // ---- one step on, one step back. Every value is one that the step carries; what it replaces is kept.
 let at, undo = [];
 function on() {
-  const i = at, s = steps[i], n = nodes[s.node], u = undo[i] = { set: {}, sent: undo[i] ? undo[i].sent : s.send.map(x => message(x, s.step, s.node, x.to, x.at)), then: undo[i] && undo[i].then };
+  const i = at, s = steps[i], n = nodes[s.node], u = undo[i] = { set: {}, number: undo[i] && undo[i].number, sent: undo[i] ? undo[i].sent : s.send.map(x => message(x, s.step, s.node, x.to, x.at)), then: undo[i] && undo[i].then };
   if (s.port !== null) {
     const q = queue(s.node, s.port), m = u.taken = q.shift();
     if (!m || m.kind !== s.kind || m.level !== s.level || m.key !== s.key) throw Error('event ' + s.step + ' takes a message that is not first in its queue');
@@ -299,7 +299,8 @@ const lastBack = m => m.takes[m.backs - 1];
 const reasonOf = m => { const k = lastBack(m) - 1, row = steps[k].row; return REASON[row] ? REASON[row](m, undo[k].then) : row; };
 const listed = list => (list.length > 6 ? (list.length - 6) + ' before and ' : '') + list.slice(-6).join(', ');
 const backsOf = m => 'put back by event' + (m.backs > 1 ? 's ' : ' ') + listed(m.takes.slice(0, m.backs));
-const storyOf = m => words(m) + ' from node ' + m.from + ' to node ' + m.to + ', sent by event ' + m.born + (m.backs ? '; ' + backsOf(m) + ': ' + reasonOf(m) : '') + '.';
+const bornOf = m => words(m) + ' from node ' + m.from + ' to node ' + m.to + ', sent by event ' + m.born + ', number ' + m.number + ' of its chain';
+const storyOf = m => bornOf(m) + (m.backs ? '; ' + backsOf(m) + ': ' + reasonOf(m) : '') + '.';
 
 // ---- what the page adds: components of joined links, and curves over the whole run
 const joined = l => nodes[l.a].marks[l.a_port] === 'branch' && nodes[l.b].marks[l.b_port] === 'branch';
@@ -345,18 +346,26 @@ function survey() {
     }
     band[r] = name;
   };
-  curve.push([count, 0]);
+  // chains: a message goes out with one more than its sender's number; who consumes it, or is woken by it, takes the greater
+  const number = nodes.map(() => 0);
+  let longest = 0;
+  curve.push([count, 0, 0]);
   for (const s of steps) {
+    const slept = nodes[s.node].phase === 'sleeping';
     on();
     const u = undoNow(), i = s.step, n = nodes[s.node];
     if (s.port !== null && n.ports[s.port].far !== s.far) throw Error('event ' + i + ' comes from node ' + s.far + ', to which its port does not lead');
     if (u.taken) { u.taken.takes.push(i); if (s.fate !== 'waits') u.taken.done = i; }
+    if (u.taken && (slept || s.fate !== 'waits')) number[s.node] = Math.max(number[s.node], u.taken.number);
+    u.number = number[s.node];
+    longest = Math.max(longest, u.number);
+    for (const m of u.sent) m.number = u.number + 1;
     before[i] = [lastAt[s.node], u.taken && u.taken.born];
     lastAt[s.node] = i;
     if (s.set.name) { if (!look.has(s.set.name)) look.set(s.set.name, 0); for (const p of n.ports) clash(n.name, nodes[p.far].name); }
     if (s.mark && s.mark[1] === 'branch') { const l = links[n.ports[s.mark[0]].link]; if (joined(l)) join(l); }
     if (s.set.name || s.set.level) bands(root[s.node], [s.node]);
-    curve.push([count, s.total]);
+    curve.push([count, s.total, longest]);
     if (s.total !== ledger.sent.reduce((a, b) => a + b)) throw Error('event ' + i + ' counts ' + s.total + ' first sends');
   }
   looks(clashes);
@@ -865,6 +874,7 @@ function panel(c) {
     if (!idle(s)) h += '<p>' + (ch.length ? ch.join('; ') + '.' : 'Nothing changes at the node.') + '</p>';
     h += s.send.map((x, i) => '<p>Sends <b>' + words(x) + '</b> to node ' + x.to + ' on port ' + x.port + '.</p>').join('');
     if (s.fate === 'waits') h += '<p>The message goes to the end of its queue' + (queue(s.node, s.port).length > 1 ? ', behind ' + (queue(s.node, s.port).length - 1) + ' more' : '') + '. It was sent by event ' + u.taken.born + ', and ' + backsOf(u.taken) + '.</p>';
+    h += '<p class="time">Chain: ' + (u.taken ? 'message number ' + u.taken.number + ', ' : '') + 'node number ' + u.number + '.</p>';
     $('say').innerHTML = h;
   }
   const v = pin || (s ? s.node : 1), n = nodes[v], mine = s && s.node === v;
@@ -883,7 +893,7 @@ function panel(c) {
   const total = ledger.sent.reduce((a, b) => a + b), max = G.bound, back = [...queues.values()].reduce((x, q) => x + q.list.filter(m => m.backs).length, 0);
   h = '<div class="bar" role="img" aria-label="' + total + ' of ' + max + '"><i style="width:' + (max ? 100 * total / max : 0) + '%"></i></div><p>first sends <b>' + total + '</b>, bound ' + max + '</p><table class="wide"><tr><th></th>' + KINDS.map(k => '<th class="n" title="' + NAMES[k] + '"><span class="pill">' + LETTER[k] + '</span></th>').join('') + '</tr>';
   for (const x of ['sent', 'consumed']) h += '<tr><th>' + x + '</th>' + ledger[x].map(y => td(y, 'n')).join('') + '</tr>';
-  $('ledger').innerHTML = h + '</table><p>in queues <b>' + ledger.queued + '</b>, of these put back <b>' + back + '</b>; requeued <b>' + ledger.requeued + '</b></p>';
+  $('ledger').innerHTML = h + '</table><p>in queues <b>' + ledger.queued + '</b>, of these put back <b>' + back + '</b>; requeued <b>' + ledger.requeued + '</b></p><p id="chain" title="A message goes out with one more than its sender\'s number; who consumes it, or is woken by it, takes the greater of the two.">longest chain of messages <b>' + curve[at][2] + '</b> (in the whole run ' + curve[curve.length - 1][2] + ')</p>';
   const fr = [...c.all.values()].sort((a, b) => b.nodes - a.nodes || a.least - b.least), many = fr.filter(f => f.nodes > 1);
   const tree = links.filter(branchy), halts = nodes.filter(x => x && x.halted).map(x => x.v);
     h = '<p><b>' + fr.length + '</b> of ' + G.nodes + ' at the start; Branch links ' + tree.length + ', weight ' + tree.reduce((a, l) => a + l.weight, 0) + (halts.length ? '; <b>halted: ' + halts.slice(0, 9).join(', ') + '</b>' : '') + '</p>';
@@ -933,7 +943,7 @@ function tip(e) {
   const g = e.target.closest('.msg, .node'), t = $('hint'), b = $('stage').getBoundingClientRect();
   if (!g || e.buttons && e.pointerType === 'mouse') return;
   const [v, p, k] = (g.dataset.q || '0').split(' ').map(Number), m = v && (k < 0 ? undoNow().taken : queue(v, p)[k]);
-  t.textContent = !v ? cap(stateOf(+g.dataset.v)) : k < 0 ? words(m) + ' from node ' + m.from + ' to node ' + m.to + ', sent by event ' + m.born + ', consumed by event ' + at + '.' : storyOf(m);
+  t.textContent = !v ? cap(stateOf(+g.dataset.v)) : k < 0 ? bornOf(m) + ', consumed by event ' + at + '.' : storyOf(m);
   t.hidden = false;
   t.style.left = Math.max(0, Math.min(b.width - t.offsetWidth, e.clientX - b.left + 14)) + 'px';
   t.style.top = Math.max(0, Math.min(b.height - t.offsetHeight, e.clientY - b.top + 14)) + 'px';
