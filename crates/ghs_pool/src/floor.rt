@@ -4,7 +4,7 @@ ghost use Rattle.ghs_pool.specs.Follows.{GoesOn};
 
 use crate::desk::Desk;
 use crate::hand::{Hand, MOST};
-use crate::pace::sharers;
+use crate::pace::{PAIR, crowd_of};
 use crate::shop::Shop;
 use ghs_node::message::Message;
 use ghs_protocol::event::Event;
@@ -18,6 +18,9 @@ use std::sync::Wait;
 
 // How many ports at most a worker passes over at a node for one number taken, so that a node of many ports holds nobody up.
 const PORTS: usize = 8;
+
+// So many nodes and more that are ready are many.
+const MANY: usize = 64;
 
 // How many nodes at most a look passes over.
 const NODES: usize = 16;
@@ -42,8 +45,11 @@ pub struct Floor<J: Start> {
     shop: Shop,
     // Of each node the port behind the one that was served or passed over last.
     ports: Vec<u32>,
-    // How many workers there are.
+    // Of each node whether its number waits in the queue.
+    waits: Vec<bool>,
+    // How many workers there are, and how many of them are at work: the others are away.
     workers: u32,
+    at_work: u32,
     // The node that the last look found.
     found: u32,
     // Whether the workers are to end.
@@ -96,7 +102,7 @@ enum Found {
 }
 
 impl<J: Start> Floor<J> {
-    pub fn new(shop: Shop, ports: Vec<u32>, workers: u32) -> Floor<J>
+    pub fn new(shop: Shop, ports: Vec<u32>, waits: Vec<bool>, workers: u32) -> Floor<J>
         requires goes_on { GoesOn shop J.first }
         requires ports { length ports.items ≡ shop.world.net.graph.nodes }
         ensures { result ≡ shop }
@@ -104,7 +110,9 @@ impl<J: Start> Floor<J> {
         Floor {
             shop,
             ports,
+            waits,
             workers,
+            at_work: workers,
             found: 0,
             stopped: false,
             memory: false,
@@ -145,8 +153,26 @@ impl<J: Start> Floor<J> {
         self.want_memory();
     }
 
+    // The numbers of all nodes that have an event go into the queue.
+    pub fn put_ready<R: Wait>(&mut self, rt: &R, queue: &ReadyQueue, pass: &mut ReadyPass)
+        requires { pass.old.name ≡ queue.now.name }
+        ensures { pass.new.name ≡ pass.old.name }
+    {
+        let mut from = 1u32;
+        for _ in 0..self.ports.len() {
+            let Some(v) = self.shop.next_node(from) else {
+                return;
+            };
+            if v < from {
+                return;
+            }
+            self.put(rt, queue, pass, v);
+            from = v.saturating_add(1);
+        }
+    }
+
     // A worker's visit: the steps in its hand happen, and what it serves next goes out. With nothing to serve in the queue
-    // it looks over all nodes, and else when a look is due; or it leaves the lock to others.
+    // it looks over all nodes, and else when a look is due; or it leaves the work to others.
     pub fn visit<R: Wait>(
         &mut self,
         rt: &R,
@@ -154,17 +180,33 @@ impl<J: Start> Floor<J> {
         queue: &ReadyQueue,
         pass: &mut ReadyPass,
         hand: &mut Hand,
-        waited: bool,
     ) -> Next
         requires { pass.old.name ≡ queue.now.name }
         ensures { pass.new.name ≡ pass.old.name }
     {
+        hand.is_crowded = self.is_crowded(rt, queue, pass);
         self.commit_all(rt, alloc, queue, pass, hand);
+        let next = self.go_on(rt, alloc, queue, pass, hand);
+        hand.seen = self.shop.events();
+        next
+    }
+
+    // What goes on behind the commits of a visit.
+    fn go_on<R: Wait>(
+        &mut self,
+        rt: &R,
+        alloc: Global,
+        queue: &ReadyQueue,
+        pass: &mut ReadyPass,
+        hand: &mut Hand,
+    ) -> Next
+        requires { pass.old.name ≡ queue.now.name }
+        ensures { pass.new.name ≡ pass.old.name }
+    {
         if self.is_over() {
             return Next::End;
         }
-        let is_out = self.shop.out_count() > 0;
-        if hand.pace.leaves(waited, queue.len(rt, pass), is_out) {
+        if self.gather(hand, queue.len(rt, pass)) {
             return Next::Leave;
         }
         let mut made = self.fill(rt, alloc, queue, pass, hand);
@@ -175,6 +217,39 @@ impl<J: Start> Floor<J> {
             }
         }
         self.next(hand, made)
+    }
+
+    // Whether many nodes are ready: their numbers wait, or they are out.
+    fn is_crowded<R: Wait>(&self, rt: &R, queue: &ReadyQueue, pass: &mut ReadyPass) -> bool
+        requires { pass.old.name ≡ queue.now.name }
+        ensures { pass.new.name ≡ pass.old.name }
+    {
+        self.shop
+            .out_count()
+            .saturating_add(queue.len(rt, pass) as u64)
+            >= MANY as u64
+    }
+
+    // A worker that was away is at work again, and one that has enough of it leaves, but for the last. Whether it leaves;
+    // and one more is called where too few are at work for the numbers that wait.
+    fn gather(&mut self, hand: &mut Hand, waiting: usize) -> bool
+        ensures { self.new ≡ self.old }
+    {
+        if hand.pace.come() {
+            self.at_work = self.at_work.saturating_add(1);
+        }
+        let crowd = crowd_of(self.ports.len());
+        // a look may have put one ticket more into a full hand than a visit performs
+        let leaves = hand.tickets() == 0
+            && self.at_work > 1
+            && hand.pace.has_enough(waiting, crowd, self.workers);
+        if leaves {
+            self.at_work = self.at_work.saturating_sub(1);
+            hand.pace.leave();
+        }
+        hand.calls = waiting >= crowd && self.at_work < self.workers.min(PAIR);
+        hand.takes_turns = waiting >= crowd && self.at_work > 1;
+        leaves
     }
 
     // What a worker does whose hand is as full as it gets, after a visit that made events at once or none.
@@ -206,12 +281,14 @@ impl<J: Start> Floor<J> {
         requires { pass.old.name ≡ queue.now.name }
         ensures { pass.new.name ≡ pass.old.name }
     {
+        let is_beside = self.shop.events() != hand.seen;
         for _ in 0..MOST {
             let Some(step) = hand.next_step() else {
                 return;
             };
             if let Some(woken) = self.commit(alloc, step) {
-                put_each(rt, queue, pass, woken.as_slice());
+                hand.count(is_beside);
+                self.put_each(rt, queue, pass, woken.as_slice());
             }
         }
     }
@@ -244,7 +321,7 @@ impl<J: Start> Floor<J> {
         ensures { pass.new.name ≡ pass.old.name }
     {
         let waiting = queue.len(rt, pass);
-        let sharers = sharers(self.ports.len(), self.workers as usize, waiting);
+        let sharers = self.at_work.clamp(1, PAIR) as usize;
         let part = (waiting / 2 / sharers).clamp(1, MOST);
         let mut made = false;
         for _ in 0..waiting.min(MOST) {
@@ -252,10 +329,11 @@ impl<J: Start> Floor<J> {
                 return made;
             };
             hand.pace.take();
+            self.took(v);
             match self.serve(rt, alloc, queue, pass, v, hand) {
                 Found::Event | Found::Nothing => {}
                 Found::Made => made = true,
-                Found::More => put_each(rt, queue, pass, &[v]),
+                Found::More => self.put(rt, queue, pass, v),
                 Found::NoTurn => return made,
             }
             if hand.tickets() >= part {
@@ -327,7 +405,7 @@ impl<J: Start> Floor<J> {
             if self.shop.is_worth_it(event) {
                 self.turn(event);
                 return if self.shop.has_many_ports(v) {
-                    self.make(rt, alloc, queue, pass, event)
+                    self.make(rt, alloc, queue, pass, event, hand)
                 } else {
                     self.send_out(alloc, event, hand)
                 };
@@ -346,6 +424,7 @@ impl<J: Start> Floor<J> {
         queue: &ReadyQueue,
         pass: &mut ReadyPass,
         event: Event,
+        hand: &mut Hand,
     ) -> Found
         requires { pass.old.name ≡ queue.now.name }
         ensures { pass.new.name ≡ pass.old.name }
@@ -358,6 +437,7 @@ impl<J: Start> Floor<J> {
         }
         match self.shop.make(alloc, event) {
             Ok(delta) => {
+                hand.count(false);
                 self.put_touched(rt, queue, pass, event, delta.sends.as_slice());
                 Found::Made
             }
@@ -370,7 +450,7 @@ impl<J: Start> Floor<J> {
 
     // Puts the numbers of an event's node and of the nodes to which it sent into the queue.
     fn put_touched<R: Wait>(
-        &self,
+        &mut self,
         rt: &R,
         queue: &ReadyQueue,
         pass: &mut ReadyPass,
@@ -381,11 +461,10 @@ impl<J: Start> Floor<J> {
         ensures { pass.new.name ≡ pass.old.name }
     {
         let (Event::Wake(v) | Event::Take(v, _)) = event;
-        put_each(rt, queue, pass, &[v]);
-        let ports = self.shop.ports(v);
+        self.put(rt, queue, pass, v);
         for (port, _) in sends {
-            if let Some(port) = ports.get(*port as usize) {
-                put_each(rt, queue, pass, &[port.far]);
+            if let Some(far) = self.shop.far_of(v, *port) {
+                self.put(rt, queue, pass, far);
             }
         }
     }
@@ -426,14 +505,37 @@ impl<J: Start> Floor<J> {
             }
         }
     }
-}
 
-// Puts numbers into the queue, as long as there is room.
-fn put_each<R: Wait>(rt: &R, queue: &ReadyQueue, pass: &mut ReadyPass, nodes: &[u32])
-    requires { pass.old.name ≡ queue.now.name }
-    ensures { pass.new.name ≡ pass.old.name }
-{
-    for v in nodes {
-        let _ = queue.put(rt, pass, *v);
+    // Puts numbers into the queue.
+    fn put_each<R: Wait>(&mut self, rt: &R, queue: &ReadyQueue, pass: &mut ReadyPass, nodes: &[u32])
+        requires { pass.old.name ≡ queue.now.name }
+        ensures { pass.new.name ≡ pass.old.name }
+    {
+        for v in nodes {
+            self.put(rt, queue, pass, *v);
+        }
+    }
+
+    // Puts a node's number into the queue, unless it waits there.
+    fn put<R: Wait>(&mut self, rt: &R, queue: &ReadyQueue, pass: &mut ReadyPass, v: u32)
+        requires { pass.old.name ≡ queue.now.name }
+        ensures shop { self.new ≡ self.old }
+        ensures pass { pass.new.name ≡ pass.old.name }
+    {
+        let Some(waits) = self.waits.get_mut((v as usize).wrapping_sub(1)) else {
+            return;
+        };
+        if !*waits {
+            *waits = queue.put(rt, pass, v).is_ok();
+        }
+    }
+
+    // A node's number was taken.
+    fn took(&mut self, v: u32)
+        ensures { self.new ≡ self.old }
+    {
+        if let Some(waits) = self.waits.get_mut((v as usize).wrapping_sub(1)) {
+            *waits = false;
+        }
     }
 }

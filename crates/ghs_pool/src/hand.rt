@@ -1,5 +1,6 @@
 // What a worker keeps by itself.
-use crate::pace::{Pace, Place};
+use crate::gate::Tally;
+use crate::pace::Pace;
 use ghs_world::ticket::{Step, Ticket};
 use std::alloc::{AllocError, Global};
 
@@ -13,14 +14,33 @@ pub struct Hand {
     tickets: Vec<Ticket>,
     steps: Vec<Step>,
     pub pace: Pace,
+    pub tally: Tally,
+    // Whether many nodes were ready when the last visit began.
+    pub is_crowded: bool,
+    // How many events had happened when the last visit ended.
+    pub seen: u64,
+    // Whether one worker more is to be called.
+    pub calls: bool,
+    // Whether the lock is left to another worker first.
+    pub takes_turns: bool,
 }
 
 impl Hand {
-    pub fn new(alloc: Global, place: Place) -> Result<Hand, AllocError> {
+    pub fn new(alloc: Global, worker: u32) -> Result<Hand, AllocError> {
         Ok(Hand {
             tickets: Vec::with_capacity(alloc, MOST)?,
             steps: Vec::with_capacity(alloc, MOST)?,
-            pace: Pace::new(place),
+            pace: Pace::new(),
+            tally: Tally {
+                worker,
+                commits: 0,
+                crowded: 0,
+                beside: 0,
+            },
+            is_crowded: false,
+            seen: 0,
+            calls: false,
+            takes_turns: false,
         })
     }
 
@@ -41,6 +61,18 @@ impl Hand {
 
     pub fn next_step(&mut self) -> Option<Step> {
         self.steps.pop()
+    }
+
+    // An event happened, with another worker's event since its check-out or none.
+    pub fn count(&mut self, is_beside: bool) {
+        self.pace.serve();
+        let tally = self.tally;
+        self.tally = Tally {
+            commits: tally.commits.saturating_add(1),
+            crowded: tally.crowded.saturating_add(self.is_crowded as u64),
+            beside: tally.beside.saturating_add(is_beside as u64),
+            ..tally
+        };
     }
 
     // One ticket more, or it comes back where there is no room.

@@ -1,5 +1,4 @@
-// When a worker looks over all nodes, how long it rests, and when and how long it stays away.
-ghost use Rattle.std.specs.Prelude.{◌≤◌};
+// When a worker looks over all nodes, how long it rests, and when and for how long it stays away.
 
 // A worker that has taken so many numbers since its last look looks again: the queue alone might not come to a node whose
 // number found no room.
@@ -11,53 +10,22 @@ const TURNS: u32 = 32;
 // The longest rest, in microseconds.
 const LONGEST: u32 = 1024;
 
-// A worker that left the lock to others stays away so long, at least and at most, in microseconds: a lock that goes from
-// thread to thread at each visit, and the world with it, takes longer than what is done under it.
-const NEAR: u32 = 64;
+// A worker stays away so long, in microseconds, where nobody calls it.
+pub const AWAY: u32 = 4096;
 
-const FAR: u32 = 131_072;
+// How many workers are at work at a time. The lock goes from one to the other while each performs what it has out; more
+// would only wait for it.
+pub const PAIR: u32 = 2;
 
-// A guest leaves the lock to others too while fewer than so many numbers wait for each worker before it: where few nodes
-// have something to do, what all workers write would go from processor to processor at each event.
+// A worker that has made so many events since it came makes room for the one that was away the longest.
+const STINT: u32 = 128;
+
+// Where fewer numbers wait one worker is enough: what several write would go from processor to processor at each event.
 const CROWD: usize = 32;
 
-// A network of fewer nodes has no host, so that several threads take part in a short run.
-const SMALL: usize = 1024;
-
-// What a worker is to the others.
-#[derive(Clone, Copy, Debug)]
-pub enum Place {
-    // In a large network the first worker stays: it waits for the lock, and never leaves it to others.
-    Host,
-    // Each other worker there comes while so many numbers wait, and leaves where it had to wait for the lock.
-    Guest(usize),
-    // In a small network each worker leaves where it had to wait for the lock, while something is out.
-    Peer,
-}
-
-impl Place {
-    // The place of a worker of this rank; the first has rank 0.
-    pub fn of(nodes: usize, rank: u32) -> Place {
-        if nodes < SMALL {
-            Place::Peer
-        } else if rank == 0 {
-            Place::Host
-        } else {
-            Place::Guest(CROWD.saturating_mul(rank as usize))
-        }
-    }
-}
-
-// How many of so many workers have enough to do where so many numbers wait, at least one.
-pub fn sharers(nodes: usize, workers: usize, waiting: usize) -> usize
-    ensures { 1 ≤ result }
-{
-    let enough = if nodes < SMALL {
-        waiting
-    } else {
-        waiting / CROWD
-    };
-    enough.min(workers).max(1)
+// From how many numbers on a second worker is worth it: few in a small network, so that several take part in a short run.
+pub fn crowd_of(nodes: usize) -> usize {
+    (nodes / CROWD).clamp(1, CROWD)
 }
 
 #[derive(Clone, Copy, Debug)]
@@ -66,34 +34,44 @@ pub struct Pace {
     taken: u32,
     // How long the last rest was; none since something was served.
     pause: u32,
-    // How long the worker stays away the next time.
-    away: u32,
-    place: Place,
+    // The events made since the worker came.
+    served: u32,
+    is_away: bool,
 }
 
 impl Pace {
-    pub fn new(place: Place) -> Pace {
+    // A worker begins at work.
+    pub fn new() -> Pace {
         Pace {
             taken: 0,
             pause: 0,
-            away: NEAR,
-            place,
+            served: 0,
+            is_away: false,
         }
     }
 
-    // Whether the worker is one that waits for the lock, though it has nothing to commit.
-    pub fn stays(&self) -> bool {
-        matches!(self.place, Place::Host)
+    pub fn is_away(&self) -> bool {
+        self.is_away
     }
 
-    // Whether the worker leaves the lock to others, where it waited for it or not and so many numbers wait. After the
-    // longest time away a guest is one too many no more.
-    pub fn leaves(&self, waited: bool, waiting: usize, is_out: bool) -> bool {
-        match self.place {
-            Place::Host => false,
-            Place::Guest(crowd) => waited || (waiting < crowd && self.away < FAR),
-            Place::Peer => waited && is_out,
-        }
+    // The worker comes to the lock; whether it was away.
+    pub fn come(&mut self) -> bool {
+        let was_away = self.is_away;
+        self.is_away = false;
+        was_away
+    }
+
+    // Whether the worker has enough of it where so many numbers wait and others are at work too.
+    pub fn has_enough(&self, waiting: usize, crowd: usize, workers: u32) -> bool {
+        waiting == 0
+            || (self.served > 0 && waiting < crowd)
+            || (self.served >= STINT && workers > PAIR)
+    }
+
+    // The worker leaves.
+    pub fn leave(&mut self) {
+        self.is_away = true;
+        self.served = 0;
     }
 
     // A number was taken.
@@ -111,17 +89,10 @@ impl Pace {
         self.taken = 0;
     }
 
-    // Something is served: the next rest is a short one, and the worker stays away a little less.
+    // An event happened: the next rest is a short one.
     pub fn serve(&mut self) {
         self.pause = 0;
-        self.away = (self.away - self.away / 64).max(NEAR);
-    }
-
-    // For how many microseconds the worker stays away; the next time it is twice as long.
-    pub fn leave(&mut self) -> u32 {
-        let away = self.away;
-        self.away = away.saturating_mul(2).min(FAR);
-        away
+        self.served = self.served.saturating_add(1);
     }
 
     // A rest begins, twice as long as the one before.

@@ -12,7 +12,6 @@ ghost use Rattle.ghs_pool.specs.Shop.{IsPairOf, IsTold, Publishes};
 use crate::moves::{has_many_ports, is_worth_it};
 use ghs_board::board::{Board, Publisher, Reader};
 use ghs_board::progress::Progress;
-use ghs_graph::port::Port;
 use ghs_node::delta::Delta;
 use ghs_protocol::event::Event;
 use ghs_world::world::World;
@@ -90,6 +89,19 @@ impl Shop {
         board.read_beside(alloc, reader, &mut self.publisher)
     }
 
+    /// The world, to be looked at: whatever a world says of itself can be asked while the shop is lent.
+    pub fn world(&self) -> &World
+        ensures world { result.now ≡ self.now.world }
+        ensures told { IsTold result.now self.now.told }
+    {
+        &self.world
+    }
+
+    // How many events there were.
+    pub(crate) fn events(&self) -> u64 {
+        self.world.net().events()
+    }
+
     // Whether an event of the world is worth a ticket.
     pub(crate) fn is_worth_it(&self, event: Event) -> bool {
         is_worth_it(&self.world, event)
@@ -100,13 +112,13 @@ impl Shop {
         has_many_ports(&self.world, v)
     }
 
-    // The ports of a node; of what is no node none.
-    pub(crate) fn ports(&self, v: u32) -> &[Port] {
-        if self.world.has_place(Event::Wake(v)) {
-            self.world.graph().ports(v)
-        } else {
-            &[]
+    // The node at the other end of a node's port; of what is no node or port none.
+    pub(crate) fn far_of(&self, v: u32, port: u32) -> Option<u32> {
+        if !self.world.has_place(Event::Wake(v)) {
+            return None;
         }
+        let port = self.world.graph().ports(v).get(port as usize)?;
+        Some(port.far)
     }
 
     // Whether an event names a node and port of the world's graph and may be made now, turns and memory aside.

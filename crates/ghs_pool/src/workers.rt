@@ -12,7 +12,7 @@ use crate::end::PoolFault;
 use crate::floor::{Floor, Next, Start};
 use crate::gate::Gate;
 use crate::hand::{Hand, MOST};
-use crate::pace::{Pace, Place};
+use crate::pace::{AWAY, Pace};
 use crate::shop::{Shop, pair_of};
 use ghs_board::board::{Board, Publisher};
 use ghs_queue::queue::{ReadyPass, ReadyQueue};
@@ -72,29 +72,31 @@ pub fn run_watched<G: Gate + Sync, R: Threads + Wait + Sync>(
 {
     world.recall_all();
     let nodes = world.graph().nodes();
-    let Ok((queue, pass, ports)) = prepare(alloc, nodes, workers) else {
+    let Ok((queue, pass, ports, waits)) = prepare(alloc, nodes, workers) else {
         let end = end_of(&world, true, true);
         return (world, publisher, end);
     };
     let Ok(shop) = Shop::open(world, publisher) else {
         unreachable!()
     };
-    run_from::<Brand, G, R>(rt, alloc, shop, ports, gate, &queue, pass)
+    run_from::<Brand, G, R>(rt, alloc, shop, ports, waits, gate, &queue, pass)
 }
 
-// A queue with room for each node and a share for each worker, its pass, and port 0 for each node.
+// A queue with room for each node and a share for each worker, its pass, and of each node port 0 and that its number
+// doesn't wait.
 fn prepare(
     alloc: Global,
     nodes: u32,
     workers: u32,
-) -> Result<(ReadyQueue, ReadyPass, Vec<u32>), AllocError>
+) -> Result<(ReadyQueue, ReadyPass, Vec<u32>, Vec<bool>), AllocError>
     requires { 1 ≤ workers }
     ensures pass { IfOk result (λ r. r.1.name ≡ r.0.name) }
     ensures ports { IfOk result (λ r. length r.2.items ≡ nodes) }
 {
     let (queue, pass) = ReadyQueue::open(alloc, nodes.max(1), workers)?;
     let ports = vec![in alloc; 0; nodes as usize]?;
-    Ok((queue, pass, ports))
+    let waits = vec![in alloc; false; nodes as usize]?;
+    Ok((queue, pass, ports, waits))
 }
 
 // Runs on from the shop that `J` names.
@@ -103,9 +105,10 @@ fn run_from<J: Start + Send + Sync, G: Gate + Sync, R: Threads + Wait + Sync>(
     alloc: Global,
     shop: Shop,
     ports: Vec<u32>,
+    waits: Vec<bool>,
     gate: &G,
     queue: &ReadyQueue,
-    pass: ReadyPass,
+    mut pass: ReadyPass,
 ) -> (World, Publisher, Result<RunEnd, PoolFault>)
     requires goes_on { GoesOn shop J.first }
     requires ports { length ports.items ≡ shop.world.net.graph.nodes }
@@ -116,10 +119,11 @@ fn run_from<J: Start + Send + Sync, G: Gate + Sync, R: Threads + Wait + Sync>(
     ensures board { (result.1.table ≡ J.first.told.table) × StartsWith result.1.list J.first.told.list }
     ensures end { EndFits result.0 result.2 }
 {
-    let nodes = ports.len();
-    let floor = Mutex::new(Floor::<J>::new(shop, ports, pass.shares()));
+    let mut floor = Floor::<J>::new(shop, ports, waits, pass.shares());
+    floor.put_ready(rt, queue, &mut pass);
+    let floor = Mutex::new(floor);
     let bell = Bell::new();
-    let started = serve_all(rt, alloc, &floor, &bell, gate, queue, pass, nodes);
+    let started = serve_all(rt, alloc, &floor, &bell, gate, queue, pass);
     let (shop, memory) = floor.into_inner().close();
     let (mut world, publisher) = shop.close();
     world.recall_all();
@@ -127,7 +131,7 @@ fn run_from<J: Start + Send + Sync, G: Gate + Sync, R: Threads + Wait + Sync>(
     (world, publisher, end)
 }
 
-// A thread for each share of the pass serves until the run is over. Whether each was started; all have ended.
+// A thread for each share of the pass serves until the run is over. Whether none was refused; all have ended.
 fn serve_all<J: Start + Send + Sync, G: Gate + Sync, R: Threads + Wait + Sync>(
     rt: &R,
     alloc: Global,
@@ -136,7 +140,6 @@ fn serve_all<J: Start + Send + Sync, G: Gate + Sync, R: Threads + Wait + Sync>(
     gate: &G,
     queue: &ReadyQueue,
     pass: ReadyPass,
-    nodes: usize,
 ) -> bool
     requires { pass.name ≡ queue.now.name }
 {
@@ -149,13 +152,13 @@ fn serve_all<J: Start + Send + Sync, G: Gate + Sync, R: Threads + Wait + Sync>(
             let mut rest = pass;
             let shares = rest.shares();
             for rank in 1..shares {
-                let Ok(hand) = Hand::new(alloc, Place::of(nodes, rank)) else {
-                    floor.lock(rt).stop();
-                    return false;
+                let Ok(hand) = Hand::new(alloc, rank) else {
+                    floor.lock(rt).want_memory();
+                    return true;
                 };
                 let Ok(mine) = queue.split(alloc, &mut rest) else {
-                    floor.lock(rt).stop();
-                    return false;
+                    floor.lock(rt).want_memory();
+                    return true;
                 };
                 let worker = move ||
                     requires { mine.name ≡ queue.now.name }
@@ -165,9 +168,9 @@ fn serve_all<J: Start + Send + Sync, G: Gate + Sync, R: Threads + Wait + Sync>(
                     return false;
                 }
             }
-            let Ok(hand) = Hand::new(alloc, Place::of(nodes, 0)) else {
-                floor.lock(rt).stop();
-                return false;
+            let Ok(hand) = Hand::new(alloc, shares) else {
+                floor.lock(rt).want_memory();
+                return true;
             };
             let worker = move ||
                 requires { rest.name ≡ queue.now.name }
@@ -195,26 +198,31 @@ fn work<J: Start, G: Gate, R: Wait>(
     requires { pass.name ≡ queue.now.name }
 {
     for _ in rt.forever() {
-        match come(rt, alloc, floor, queue, &mut pass, &mut hand) {
-            Next::Serve => {
-                hand.pace.serve();
-                perform(rt, alloc, floor, gate, &mut hand);
-            }
+        let next = come(rt, alloc, floor, bell, queue, &mut pass, &mut hand);
+        if hand.calls {
+            hand.calls = false;
+            bell.call();
+        }
+        match next {
+            Next::Serve => perform(rt, alloc, floor, gate, &mut hand),
             Next::Again => {}
             Next::Wait => rest(rt, bell, queue, &mut pass, &mut hand.pace),
-            Next::Leave => bell.sleep(rt, hand.pace.leave()),
-            Next::End => return bell.ring(),
+            Next::Leave => bell.sleep(rt, AWAY),
+            Next::End => {
+                gate.ended(hand.tally);
+                return bell.ring();
+            }
         }
     }
     unreachable!()
 }
 
-// A visit to the lock. A worker that has nothing to commit leaves it alone where it is one too many, and, unless it stays,
-// where another has it.
+// A visit to the lock. A worker that is away leaves it alone while no number waits and the run goes on.
 fn come<J: Start, R: Wait>(
     rt: &R,
     alloc: Global,
     floor: &Mutex<Floor<J>>,
+    bell: &Bell,
     queue: &ReadyQueue,
     pass: &mut ReadyPass,
     hand: &mut Hand,
@@ -222,17 +230,15 @@ fn come<J: Start, R: Wait>(
     requires { pass.old.name ≡ queue.now.name }
     ensures { pass.new.name ≡ pass.old.name }
 {
-    let is_idle = !hand.has_steps();
-    if is_idle && hand.pace.leaves(false, queue.len(rt, pass), true) {
+    if hand.pace.is_away() && queue.len(rt, pass) == 0 && !bell.has_rung() {
         return Next::Leave;
     }
-    if let Some(mut floor) = floor.try_lock() {
-        return floor.visit(rt, alloc, queue, pass, hand, false);
+    if hand.takes_turns {
+        bell.take_turns(hand.tally.worker);
     }
-    if is_idle && !hand.pace.stays() {
-        return Next::Leave;
-    }
-    floor.lock(rt).visit(rt, alloc, queue, pass, hand, true)
+    let mut floor = floor.lock(rt);
+    bell.visit(hand.tally.worker);
+    floor.visit(rt, alloc, queue, pass, hand)
 }
 
 // Performs the tickets in a hand, outside the lock.

@@ -9,7 +9,7 @@ use ghs_graph::graph::Graph;
 use ghs_lines::numbers::put_number;
 use ghs_pool::desk::Desk;
 use ghs_pool::end::PoolFault;
-use ghs_pool::gate::{Gate, OpenGate};
+use ghs_pool::gate::{Gate, OpenGate, Tally};
 use ghs_pool::shop::Shop;
 use ghs_pool::workers::{run_watched, run_workers};
 use ghs_protocol::event::Event;
@@ -65,50 +65,140 @@ fn a_run_goes_on_from_its_world(rt: HostRuntime) {
     }
 }
 
-// Holds ticket 1 until ticket 2 is out, and notes that it came.
+// Holds ticket 1 until ticket 2 is out and ticket 2 until ticket 1 is, and notes what came.
 #[derive(Drop)]
 struct Hold {
+    first: AtomicU64,
     second: AtomicU64,
     noted: AtomicU64,
 }
 
-impl Gate for Hold {
-    fn between(&self, ticket: u64) {
-        if ticket == 2 {
-            self.second.store(1, Ordering::SeqCst);
-        }
-        if ticket == 1 {
-            for _ in 0..100_000_000u64 {
-                if self.second.load(Ordering::SeqCst) == 1 {
-                    self.noted.store(1, Ordering::SeqCst);
-                    break;
-                }
+impl Hold {
+    // Notes that the other ticket came, once it has come.
+    fn await_other(&self, other: &AtomicU64) {
+        for _ in 0..10_000_000u64 {
+            if other.load(Ordering::SeqCst) == 1 {
+                self.noted.fetch_add(1, Ordering::SeqCst);
+                return;
             }
+            thread::yield_now();
         }
     }
+}
+
+impl Gate for Hold {
+    fn between(&self, ticket: u64) {
+        if ticket == 1 {
+            self.first.store(1, Ordering::SeqCst);
+            self.await_other(&self.second);
+        }
+        if ticket == 2 {
+            self.second.store(1, Ordering::SeqCst);
+            self.await_other(&self.first);
+        }
+    }
+
+    fn ended(&self, _tally: Tally) {}
 }
 
 #[test]
 fn two_nodes_are_out_at_once(rt: HostRuntime) {
     let gate = Hold {
+        first: AtomicU64::new(0),
         second: AtomicU64::new(0),
         noted: AtomicU64::new(0),
     };
     let world = world_of(&rt, rt.alloc(), PAIR, WakeSet::All, MOST_TURNS);
     let (_, end) = run_workers(&rt, rt.alloc(), world, 2, &gate);
     assert!(rt; end.is_ok());
-    assert_eq!(rt; gate.noted.load(Ordering::SeqCst), 1);
+    assert_eq!(rt; gate.noted.load(Ordering::SeqCst), 2);
 }
 
-// Counts the tickets that were performed.
+// Holds ticket 1 and then each hundredth, up to 500, until another worker comes with a ticket too. The thread that holds it
+// stands here, so whoever comes meanwhile is another.
+#[derive(Drop)]
+struct Meeting {
+    came: AtomicU64,
+    met: AtomicU64,
+}
+
+impl Gate for Meeting {
+    fn between(&self, ticket: u64) {
+        let before = self.came.fetch_add(1, Ordering::SeqCst);
+        if ticket > 500 || (ticket != 1 && ticket % 100 != 0) {
+            return;
+        }
+        for _ in 0..10_000_000u64 {
+            if self.came.load(Ordering::SeqCst) > before.saturating_add(1) {
+                self.met.fetch_add(1, Ordering::SeqCst);
+                return;
+            }
+            thread::yield_now();
+        }
+    }
+
+    fn ended(&self, _tally: Tally) {}
+}
+
+// A ring; its weights turn three times.
+fn ring(alloc: Global, nodes: u32) -> Result<Vec<u8>, AllocError> {
+    let mut text = Vec::from_slice(alloc, b"p sp ")?;
+    put_number(&mut text, nodes as u128)?;
+    text.push(b' ')?;
+    put_number(&mut text, nodes as u128)?;
+    for v in 1..=nodes {
+        text.extend_from_slice(b"\na ")?;
+        put_number(&mut text, v as u128)?;
+        text.push(b' ')?;
+        put_number(&mut text, if v < nodes { v as u128 + 1 } else { 1 })?;
+        text.push(b' ')?;
+        put_number(&mut text, v as u128 * 7919 % 30_000)?;
+    }
+    Ok(text)
+}
+
+// While a ticket up to the 500th is held, others can't have all of the 1,100 nodes out: so somebody else finds one.
+#[test]
+fn eight_workers_hold_two_tickets_at_once(rt: HostRuntime) {
+    let alloc = rt.alloc();
+    let text = ring(alloc, 1_100).expect(&rt, "a text");
+    let text = std::str::from_utf8(&text).expect(&rt, "plain letters");
+    let gate = Meeting {
+        came: AtomicU64::new(0),
+        met: AtomicU64::new(0),
+    };
+    let world = world_of(&rt, alloc, text, WakeSet::All, MOST_TURNS);
+    let (_, end) = run_workers(&rt, alloc, world, 8, &gate);
+    assert!(rt; end.is_ok());
+    assert_eq!(rt; gate.met.load(Ordering::SeqCst), 6);
+}
+
+// Counts the tickets that were performed, the events that the workers say they made, and those beside another's.
 #[derive(Drop)]
 struct Count {
     tickets: AtomicU64,
+    commits: AtomicU64,
+    beside: AtomicU64,
+}
+
+impl Count {
+    fn new() -> Count {
+        Count {
+            tickets: AtomicU64::new(0),
+            commits: AtomicU64::new(0),
+            beside: AtomicU64::new(0),
+        }
+    }
 }
 
 impl Gate for Count {
     fn between(&self, _ticket: u64) {
         self.tickets.fetch_add(1, Ordering::SeqCst);
+    }
+
+    fn ended(&self, tally: Tally) {
+        self.commits.fetch_add(tally.commits, Ordering::SeqCst);
+        self.beside.fetch_add(tally.beside, Ordering::SeqCst);
     }
 }
 
@@ -135,9 +225,7 @@ fn a_hub_acts_without_tickets(rt: HostRuntime) {
     let text = std::str::from_utf8(&text).expect(&rt, "plain letters");
     for workers in [1u32, 2, 8] {
         assert!(rt; workers >= 1 && workers <= 64);
-        let gate = Count {
-            tickets: AtomicU64::new(0),
-        };
+        let gate = Count::new();
         let world = world_of(&rt, alloc, text, WakeSet::All, MOST_TURNS);
         let (world, end) = run_workers(&rt, alloc, world, workers, &gate);
         assert!(rt; end.is_ok());
@@ -150,7 +238,39 @@ fn a_hub_acts_without_tickets(rt: HostRuntime) {
             tickets.saturating_add(at_hub as u64),
             world.trace().len() as u64
         );
+        assert_eq!(rt;
+            gate.commits.load(Ordering::SeqCst),
+            world.trace().len() as u64
+        );
+        assert!(rt; workers > 1 || gate.beside.load(Ordering::SeqCst) == 0);
     }
+}
+
+// The numbers of the nodes that have an event stand in the queue at first, and each commit puts those that it wakes and that
+// don't wait: nodes are served in that order, and of a node's ports the one behind the last that was served comes first.
+#[test]
+fn one_worker_serves_from_the_queue(rt: HostRuntime) {
+    let text = "p sp 3 2\na 1 2 5\na 2 3 7";
+    let world = world_of(&rt, rt.alloc(), text, WakeSet::All, MOST_TURNS);
+    let (world, end) = run_workers(&rt, rt.alloc(), world, 1, &OpenGate);
+    assert_eq!(rt; end, Ok(RunEnd::Halted(1)));
+    let events = [
+        Event::Wake(1),
+        Event::Wake(2),
+        Event::Wake(3),
+        Event::Take(1, 0),
+        Event::Take(2, 0),
+        Event::Take(1, 0),
+        Event::Take(2, 0),
+        Event::Take(2, 1),
+        Event::Take(3, 0),
+        Event::Take(3, 0),
+        Event::Take(2, 1),
+        Event::Take(3, 0),
+        Event::Take(2, 1),
+        Event::Take(1, 0),
+    ];
+    assert!(rt; world.trace() == events.as_slice());
 }
 
 const NONE_YET: Progress = Progress {
@@ -178,6 +298,8 @@ impl Gate for Meet {
             }
         }
     }
+
+    fn ended(&self, _tally: Tally) {}
 }
 
 // Reads until the run has ended.
