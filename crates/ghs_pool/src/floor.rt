@@ -239,12 +239,16 @@ impl<J: Start> Floor<J> {
             self.at_work = self.at_work.saturating_add(1);
         }
         let crowd = crowd_of(self.ports.len());
-        let leaves = self.at_work > 1 && hand.pace.has_enough(waiting, crowd, self.workers);
+        // a look may have put one ticket more into a full hand than a visit performs
+        let leaves = hand.tickets() == 0
+            && self.at_work > 1
+            && hand.pace.has_enough(waiting, crowd, self.workers);
         if leaves {
             self.at_work = self.at_work.saturating_sub(1);
             hand.pace.leave();
         }
         hand.calls = waiting >= crowd && self.at_work < self.workers.min(PAIR);
+        hand.takes_turns = waiting >= crowd && self.at_work > 1;
         leaves
     }
 

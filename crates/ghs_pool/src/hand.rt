@@ -21,6 +21,8 @@ pub struct Hand {
     pub seen: u64,
     // Whether one worker more is to be called.
     pub calls: bool,
+    // Whether the lock is left to another worker first.
+    pub takes_turns: bool,
 }
 
 impl Hand {
@@ -38,6 +40,7 @@ impl Hand {
             is_crowded: false,
             seen: 0,
             calls: false,
+            takes_turns: false,
         })
     }
 

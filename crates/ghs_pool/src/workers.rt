@@ -233,7 +233,12 @@ fn come<J: Start, R: Wait>(
     if hand.pace.is_away() && queue.len(rt, pass) == 0 && !bell.has_rung() {
         return Next::Leave;
     }
-    floor.lock(rt).visit(rt, alloc, queue, pass, hand)
+    if hand.takes_turns {
+        bell.take_turns(hand.tally.worker);
+    }
+    let mut floor = floor.lock(rt);
+    bell.visit(hand.tally.worker);
+    floor.visit(rt, alloc, queue, pass, hand)
 }
 
 // Performs the tickets in a hand, outside the lock.
