@@ -11,7 +11,6 @@ use crate::sent::Sent;
 use crate::words::{mark_word, phase_word, put_key, row_word};
 use ghs_core::net::node_of;
 use ghs_graph::key::Key;
-use ghs_core::net::node_of;
 use ghs_lines::numbers::put_number;
 use ghs_node::delta::Fate;
 use ghs_node::message::Message;
