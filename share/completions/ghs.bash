@@ -1,0 +1,46 @@
+# Completions of ghs for bash.
+_ghs() {
+    local word=${COMP_WORDS[COMP_CWORD]} before=${COMP_WORDS[COMP_CWORD - 1]}
+    COMPREPLY=()
+    if [ "$COMP_CWORD" -eq 1 ]; then
+        COMPREPLY=($(compgen -W 'tree run replay steps sweep view help -h --help' -- "$word"))
+        return
+    fi
+    case ${COMP_WORDS[1]},$before in
+        run,--seed) : && return ;;
+        run,--schedule) COMPREPLY=($(compgen -W 'seeded patient' -- "$word")) && return ;;
+        run,--workers) : && return ;;
+        run,--wake) COMPREPLY=($(compgen -W 'all first' -- "$word")) && return ;;
+        run,--turns) : && return ;;
+        run,--print) COMPREPLY=($(compgen -W 'report trace' -- "$word")) && return ;;
+        replay,--wake) COMPREPLY=($(compgen -W 'all first' -- "$word")) && return ;;
+        steps,--wake) COMPREPLY=($(compgen -W 'all first' -- "$word")) && return ;;
+        steps,--from) : && return ;;
+        steps,--to) : && return ;;
+        steps,--node) : && return ;;
+        sweep,--seeds) : && return ;;
+        sweep,--schedule) COMPREPLY=($(compgen -W 'seeded patient' -- "$word")) && return ;;
+        sweep,--workers) : && return ;;
+        sweep,--wake) COMPREPLY=($(compgen -W 'all first' -- "$word")) && return ;;
+        sweep,--turns) : && return ;;
+        sweep,--print) COMPREPLY=($(compgen -W 'runs summary' -- "$word")) && return ;;
+        view,--seed) : && return ;;
+        view,--schedule) COMPREPLY=($(compgen -W 'seeded patient' -- "$word")) && return ;;
+        view,--wake) COMPREPLY=($(compgen -W 'all first' -- "$word")) && return ;;
+        view,--turns) : && return ;;
+        view,--trace) COMPREPLY=($(compgen -f -- "$word")) && return ;;
+        view,--from) : && return ;;
+        view,--to) : && return ;;
+        help,*) COMPREPLY=($(compgen -W 'tree run replay steps sweep view help' -- "$word")) && return ;;
+    esac
+    case ${COMP_WORDS[1]} in
+        tree) [[ $word == -* ]] && COMPREPLY=($(compgen -W '--core -h --help' -- "$word")) ;;
+        run) [[ $word == -* ]] && COMPREPLY=($(compgen -W '--seed --schedule --workers --wake --turns --print --core --progress -h --help' -- "$word")) ;;
+        replay) [[ $word == -* ]] && COMPREPLY=($(compgen -W '--wake -h --help' -- "$word")) ;;
+        steps) [[ $word == -* ]] && COMPREPLY=($(compgen -W '--wake --from --to --node --json -h --help' -- "$word")) ;;
+        sweep) [[ $word == -* ]] && COMPREPLY=($(compgen -W '--seeds --schedule --workers --wake --turns --print --progress -h --help' -- "$word")) ;;
+        view) [[ $word == -* ]] && COMPREPLY=($(compgen -W '--seed --schedule --wake --turns --trace --from --to -h --help' -- "$word")) ;;
+    esac
+    [[ $word == -* ]] || COMPREPLY=($(compgen -f -- "$word"))
+}
+complete -o filenames -F _ghs ghs
