@@ -11,6 +11,7 @@ use ghs_cli::serve::serve;
 use ghs_gr::device::{Device, Source};
 use ghs_report::write_out::write_out;
 use ghs_words::job::{Job, JobFault, read_job};
+use ghs_words::values::is_dash;
 use std::alloc::Global;
 use std::fs::File;
 use std::process::ExitCode;
@@ -58,7 +59,8 @@ fn answer<R: Runtime + AllocGlobal + Threads + Wait + Sync>(
     }
 }
 
-/// Opens the files and does the job, the trace's before the graph's. A file that can't be opened can't be read.
+/// Opens the files and does the job, the trace's before the graph's; `-` is standard input. A file that can't be opened can't be
+/// read.
 fn work<R: Runtime + AllocGlobal + Threads + Wait + Sync>(
     rt: &R,
     alloc: Global,
@@ -67,6 +69,7 @@ fn work<R: Runtime + AllocGlobal + Threads + Wait + Sync>(
     requires { IsWithinLimits job.now.task }
 {
     match &job.trace {
+        Some(path) if is_dash(path) => work_after(rt, alloc, job, &mut Device::of(rt.reader())),
         Some(path) => match File::open(rt, path.as_str()) {
             Ok(file) => work_after(rt, alloc, job, &mut Device::of(file)),
             Err(_) => Err(ServeFault::Read),
@@ -86,11 +89,11 @@ fn work_after<R: Runtime + AllocGlobal + Threads + Wait + Sync, T: Source>(
     requires trace { T.has_failed trace.old ≡ false }
 {
     match &job.graph {
-        Some(path) => match File::open(rt, path.as_str()) {
+        Some(path) if !is_dash(path) => match File::open(rt, path.as_str()) {
             Ok(file) => work_on(rt, alloc, job, &mut Device::of(file), trace),
             Err(_) => Err(ServeFault::Read),
         },
-        None => work_on(rt, alloc, job, &mut Device::of(rt.reader()), trace),
+        _ => work_on(rt, alloc, job, &mut Device::of(rt.reader()), trace),
     }
 }
 

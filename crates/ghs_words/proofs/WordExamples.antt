@@ -25,6 +25,18 @@ dashes-named : value_in (codes "FILE") (command_in (codes "tree" ∷ codes "--" 
 unfolding program clap_on_literals
 dashes-named = refl
 
+dash-named : value_in (codes "FILE") (command_in (codes "tree" ∷ codes "-" ∷ [])) ≡ Some (codes "-")
+unfolding program clap_on_literals
+dash-named = refl
+
+one_input-taken : kinds_of (codes "replay" ∷ codes "-" ∷ codes "map.gr" ∷ []) ≡ []
+unfolding program clap_on_literals
+one_input-taken = refl
+
+two_inputs-refused : kinds_of (codes "replay" ∷ codes "-" ∷ []) ≡ kind.InvalidValue ∷ []
+unfolding program clap_on_literals
+two_inputs-refused = refl
+
 nothing-refused : kinds_of [] ≡ kind.MissingSubcommand ∷ []
 unfolding program clap_on_literals
 nothing-refused = refl
@@ -36,6 +48,10 @@ two_files-refused = refl
 help-asked : kinds_of (codes "--help" ∷ []) ≡ kind.DisplayHelp ∷ []
 unfolding program clap_on_literals
 help-asked = refl
+
+version-asked : kinds_of (codes "--version" ∷ []) ≡ kind.DisplayVersion ∷ []
+unfolding program clap_on_literals
+version-asked = refl
 
 wake-taken : kinds_of (codes "replay" ∷ codes "--wake" ∷ codes "first" ∷ codes "run.trace" ∷ []) ≡ []
 unfolding program clap_on_literals

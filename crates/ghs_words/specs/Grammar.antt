@@ -109,10 +109,10 @@ view_command =
     let picked = with_rule (with_rule (with_rule (with_rule named seed_rule) schedule_rule) wake_rule) turns_rule in
     with_rule (with_rule (with_rule picked stored_rule) from_rule) to_rule
 
--- the program's command line: its name and one of its commands
+-- the program's command line: its name and one of its commands, or a word that asks for its version
 unfoldable pub program : App
 program =
     let networks = with_subcommand (with_subcommand (new_app (codes "ghs")) tree_command.top) run_command.top in
     let stored = with_subcommand (with_subcommand networks replay_command.top) steps_command.top in
     let a = with_subcommand (with_subcommand stored sweep_command.top) view_command.top in
-    record a { top = record a.top { subcommand_required = true } }
+    record a { top = record a.top { has_version = true; subcommand_required = true } }

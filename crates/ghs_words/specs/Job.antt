@@ -1,5 +1,5 @@
 -- Command lines: what the words of the program ask for, and what is said of others.
-use Rattle.std.specs.Prelude.{◌≡◌, ◌≢◌, ◌↔◌, ℕ, ◌≤◌, Bool, true, ◌&&◌, codes, List, [], ◌∷◌, Option, Some, None, unwrap_or, if◌then◌else◌}
+use Rattle.std.specs.Prelude.{◌≡◌, ◌≢◌, ◌↔◌, ◌⊎◌, ℕ, ◌≤◌, Bool, true, ◌&&◌, codes, List, [], ◌∷◌, Option, Some, None, unwrap_or, if◌then◌else◌}
 use Rattle.std.specs.Option.{option_and_then, option_map}
 use Rattle.clap.specs.Kinds.{Kinds, IsAmong, or_else}
 use Rattle.clap.specs.Words.{Row, Text, fault_of, first_of, subcommand_of}
@@ -28,7 +28,7 @@ use Rattle.ghs_words.specs.declared.job.Task.{Task}
 use Rattle.ghs_words.specs.declared.job.Task.TheVariants as task
 use Rattle.ghs_words.specs.declared.job.ViewOptions.{ViewOptions}
 use Rattle.ghs_words.specs.declared.values.Seeds.{Seeds}
-use Rattle.ghs_words.specs.Values.{AreSeeds, is_among, is_number, is_range, number_in, seeds_of}
+use Rattle.ghs_words.specs.Values.{AreSeeds, are_apart, is_among, is_number, is_range, number_in, seeds_of}
 
 -- the words of a command line, with the program's name before them
 abbrev pub with_name : List Text → List Text
@@ -193,7 +193,7 @@ IsWithinLimits (task.Sweep options) = AreSweepLimits options
 IsWithinLimits (task.View options) = AreViewLimits options
 IsWithinLimits (task.StoredView options) = Unit {0}
 
--- each option of the command has a value that it may have
+-- each option of the command has a value that it may have, and standard input isn't read twice
 abbrev pub has_values : Used → Bool
 has_values command =
     is_among (codes "all" ∷ codes "first" ∷ []) (value_in (codes "wake") command)
@@ -207,6 +207,7 @@ has_values command =
     && is_number 1 EVENT_LIMIT (value_in (codes "to") command)
     && is_number 1 4294967295 (value_in (codes "node") command)
     && is_range (value_in (codes "seeds") command)
+    && are_apart (value_in (codes "TRACE") command) (value_in (codes "FILE") command)
 
 -- what is wrong with the values of a command's options
 abbrev pub option_kinds : Used → Kinds
@@ -216,16 +217,20 @@ option_kinds command = if has_values command then [] else kind.InvalidValue ∷ 
 abbrev pub kinds_of : List Text → Kinds
 kinds_of words = or_else (fault_of program (with_name words)) (option_kinds (command_in words))
 
--- help is for those who ask for it, a refusal for every other fault of the words; memory may always be wanting
+-- help or the version was asked for
+abbrev pub IsAsked : ErrorKind → Type 0
+IsAsked k = (k ≡ kind.DisplayHelp) ⊎ (k ≡ kind.DisplayVersion)
+
+-- what was asked for is for those who ask for it, a refusal for every other fault of the words; memory may always be wanting
 abbrev pub IsSaidOf : Kinds → JobFault → Type 0
-IsSaidOf kinds (fault.Help text) = IsAmong kind.DisplayHelp kinds
-IsSaidOf kinds (fault.Refused text) = (k : ErrorKind) × IsAmong k kinds × (k ≢ kind.DisplayHelp)
+IsSaidOf kinds (fault.Help text) = (k : ErrorKind) × IsAmong k kinds × IsAsked k
+IsSaidOf kinds (fault.Refused text) = (k : ErrorKind) × IsAmong k kinds × (IsAsked k → ⊥)
 IsSaidOf kinds fault.Memory = Unit {0}
 
 -- what is said of a fault of this kind
 abbrev pub IsSaid : ErrorKind → JobFault → Type 0
-IsSaid k (fault.Help text) = k ≡ kind.DisplayHelp
-IsSaid k (fault.Refused text) = (k ≢ kind.DisplayHelp) × (k ≢ kind.OutOfMemory)
+IsSaid k (fault.Help text) = IsAsked k
+IsSaid k (fault.Refused text) = (IsAsked k → ⊥) × (k ≢ kind.OutOfMemory)
 IsSaid k fault.Memory = Unit {0}
 
 -- a refusal, or want of memory

@@ -1,5 +1,5 @@
 -- The values of options.
-use Rattle.std.specs.Prelude.{ℕ, ◌+◌, ◌≤◌, ◌<◌, Bool, true, ◌&&◌, nat_le, cond, eqb, List, [], ◌∷◌, Option, Some, None, is_some}
+use Rattle.std.specs.Prelude.{ℕ, ◌+◌, ◌≤◌, ◌<◌, Bool, true, ◌&&◌, not, codes, nat_le, cond, eqb, List, [], ◌∷◌, Option, Some, None, is_some}
 use Rattle.std.specs.List.{after_first, before_first, list_any}
 use Rattle.std.specs.Str.{all_ascii_digits, bytes_eq}
 use Rattle.std.specs.Str.Parse.{digits_value}
@@ -18,6 +18,16 @@ number_in low high text =
 abbrev pub is_among : List Text → Option Text → Bool
 is_among choices None = true
 is_among choices (Some text) = list_any (λ choice. bytes_eq text choice) choices
+
+-- `-`, which names standard input
+abbrev pub is_dash : Text → Bool
+is_dash text = bytes_eq text (codes "-")
+
+-- two inputs of which one at most is standard input: the first is where it is `-`, the second also where it isn't given
+abbrev pub are_apart : Option Text → Option Text → Bool
+are_apart None other = true
+are_apart (Some text) None = not (is_dash text)
+are_apart (Some text) (Some other) = not (is_dash text && is_dash other)
 
 -- a value that isn't given, or a number in this range
 abbrev pub is_number : ℕ → ℕ → Option Text → Bool

@@ -7,6 +7,9 @@ ghost use Rattle.std.specs.Prelude.{◌≡◌, IfOk, false};
 use clap::{Arg, ArgAction, Command};
 use std::alloc::{AllocError, Global};
 
+/// The program's version, and by which kit its proofs hold.
+pub const VERSION: &str = "1.0.0, proved with rattle-kit-13f logic dac8208d650f15bf";
+
 /// The program's commands, with their help.
 #[tactic(auto, unfolding(crate::specs::Grammar::program))]
 pub fn program<'a>(alloc: Global) -> Result<Command<'a>, AllocError>
@@ -15,6 +18,7 @@ pub fn program<'a>(alloc: Global) -> Result<Command<'a>, AllocError>
     Ok(
         Command::new(alloc, "ghs")
             .about("Minimum spanning trees of networks")
+            .version(VERSION)
             .subcommand_required(true)
             .subcommand(tree(alloc)?)?
             .subcommand(run(alloc)?)?
@@ -138,7 +142,7 @@ fn trace<'a>(alloc: Global) -> Arg<'a>
     ensures rule { rule_of result ≡ trace_rule }
 {
     Arg::new(alloc, "TRACE")
-        .help("The stored run: the text of its events")
+        .help("The stored run: the text of its events; - is standard input")
         .required(true)
 }
 
@@ -184,7 +188,7 @@ fn file<'a>(alloc: Global) -> Arg<'a>
     ensures local { result.global ≡ false }
     ensures rule { rule_of result ≡ file_rule }
 {
-    Arg::new(alloc, "FILE").help("The graph, in the .gr format; standard input where none is named")
+    Arg::new(alloc, "FILE").help("The graph, in the .gr format; standard input where it is - or none is named")
 }
 
 // Which schedule picks the events.
@@ -272,7 +276,7 @@ fn stored<'a>(alloc: Global) -> Arg<'a>
     ensures rule { rule_of result ≡ stored_rule }
 {
     Arg::new(alloc, "TRACE").long("trace").help(
-        "The stored run that is shown, the text of its events; without it the seed's",
+        "The stored run that is shown, the text of its events, from standard input where it is -; without it the seed's",
     )
 }
 

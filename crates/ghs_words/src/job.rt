@@ -2,15 +2,15 @@
 ghost use Rattle.ghs_words.specs.declared.job.JobFault.TheVariants.{Memory};
 ghost use Rattle.ghs_words.specs.Grammar.{program};
 ghost use Rattle.ghs_words.specs.Job.{AreOptions, AreStepsOptions, AreSweepLimits, AreSweepOptions, AreWithinLimits, command_in, has_values, kinds_of, name_in, node_in, number_at, option_kinds, seeds_at, value_in, with_name, IsForm, IsPicking, IsRefused, IsSaid, IsSaidOf, IsSheet, IsShow, IsTask, IsWake, IsWithinLimits, AreStoredViewOptions, AreViewLimits, AreViewOptions};
-ghost use Rattle.ghs_words.specs.Values.{AreSeeds, is_among, is_number, is_range};
+ghost use Rattle.ghs_words.specs.Values.{AreSeeds, are_apart, is_among, is_number, is_range};
 ghost use Rattle.clap.specs.Words.{kind_of, subcommand_rows_of};
 ghost use Rattle.std.specs.Option.{option_map};
 ghost use Rattle.std.specs.Prelude.{◌≡◌, ◌≤◌, ◌↔◌, ◌∷◌, [], IfErr, IfOk, IfSome, OnErr, OnOk, Some, codes, false, map, string_bytes, true};
 
 use crate::grammar::program;
 use crate::values::{
-    Seeds, is_among, is_number, is_range, is_text, no_number, no_seeds, number_in, owned, seeds_in,
-    unknown_choice,
+    Seeds, are_apart, is_among, is_number, is_range, is_text, no_number, no_seeds, number_in, owned,
+    read_twice, seeds_in, unknown_choice,
 };
 use clap::error::ErrorKind;
 use clap::{ArgMatches, Error};
@@ -140,8 +140,8 @@ pub enum Task {
     StoredView(StoredViewOptions),
 }
 
-/// What a command line asks for: the file of the graph (standard input where there is none), the file of a
-/// stored trace, and the task.
+/// What a command line asks for: the file of the graph (standard input where there is none, or it is `-`), the file of a
+/// stored trace (standard input where it is `-`), and the task.
 #[derive(Debug, Drop)]
 pub struct Job {
     pub graph: Option<String>,
@@ -152,7 +152,7 @@ pub struct Job {
 /// Why a command line gives no job.
 #[derive(Debug, Drop)]
 pub enum JobFault {
-    /// Help was asked for: its text.
+    /// Help or the version was asked for: its text.
     Help(String),
     /// The words aren't a command line of this program: what is to be said of them.
     Refused(String),
@@ -217,7 +217,7 @@ fn job_of<'a>(alloc: Global, matches: &ArgMatches<'a>) -> Result<Job, JobFault>
     })
 }
 
-/// Whether each option has a value that it may have; what is said of the first that hasn't.
+/// Whether each option has a value that it may have, and standard input isn't read twice; what is said of the first that hasn't.
 fn check_options<'a>(alloc: Global, matches: &ArgMatches<'a>) -> Result<(), JobFault>
     ensures ok { OnOk result (has_values (subcommand_rows_of matches.now) ≡ true) }
     ensures err { OnErr result (has_values (subcommand_rows_of matches.now) ≡ false) }
@@ -233,7 +233,8 @@ fn check_options<'a>(alloc: Global, matches: &ArgMatches<'a>) -> Result<(), JobF
     check_number(alloc, matches, "from", 1, EVENT_LIMIT)?;
     check_number(alloc, matches, "to", 1, EVENT_LIMIT)?;
     check_number(alloc, matches, "node", 1, u32::MAX as u64)?;
-    check_seeds(alloc, matches)
+    check_seeds(alloc, matches)?;
+    check_inputs(alloc, matches)
 }
 
 /// Whether an option has one of two values; it goes by its name on the command line where it hasn't.
@@ -288,6 +289,19 @@ fn check_seeds<'a>(alloc: Global, matches: &ArgMatches<'a>) -> Result<(), JobFau
         Ok(())
     } else {
         Err(no_seeds(alloc, "seeds", value))
+    }
+}
+
+/// Whether standard input isn't to be both the stored run and the graph.
+fn check_inputs<'a>(alloc: Global, matches: &ArgMatches<'a>) -> Result<(), JobFault>
+    ensures ok { OnOk result (are_apart (value_in (codes "TRACE") (subcommand_rows_of matches.now)) (value_in (codes "FILE") (subcommand_rows_of matches.now)) ≡ true) }
+    ensures err { OnErr result (are_apart (value_in (codes "TRACE") (subcommand_rows_of matches.now)) (value_in (codes "FILE") (subcommand_rows_of matches.now)) ≡ false) }
+    ensures fault { IfErr result IsRefused }
+{
+    if are_apart(value_of(matches, "TRACE"), value_of(matches, "FILE")) {
+        Ok(())
+    } else {
+        Err(read_twice(alloc))
     }
 }
 
@@ -517,7 +531,7 @@ fn fault_of(alloc: Global, error: &Error) -> JobFault
 {
     match error.to_string(alloc) {
         Ok(text) => match error.kind() {
-            ErrorKind::DisplayHelp => JobFault::Help(text),
+            ErrorKind::DisplayHelp | ErrorKind::DisplayVersion => JobFault::Help(text),
             ErrorKind::OutOfMemory => JobFault::Memory,
             _ => JobFault::Refused(text),
         },

@@ -1,6 +1,6 @@
 //! The values of options, read and refused.
 ghost use Rattle.ghs_words.specs.Job.{IsRefused};
-ghost use Rattle.ghs_words.specs.Values.{AreSeeds, is_among, is_number, is_range, number_in, seeds_between, seeds_of};
+ghost use Rattle.ghs_words.specs.Values.{AreSeeds, are_apart, is_among, is_dash, is_number, is_range, number_in, seeds_between, seeds_of};
 ghost use Rattle.std.specs.Option.{option_map};
 ghost use Rattle.std.specs.Prelude.{◌≡◌, ◌≤◌, ◌↔◌, ◌∷◌, [], IfOk, IfSome, Some, string_bytes, true};
 
@@ -34,6 +34,24 @@ pub(crate) fn is_among(value: Option<&str>, one: &str, other: &str) -> bool
     match value {
         Some(value) => value == one || value == other,
         None => true,
+    }
+}
+
+/// Whether this is `-`, which names standard input.
+pub fn is_dash(path: &str) -> bool
+    ensures { result ≡ is_dash path.now }
+{
+    path == "-"
+}
+
+/// Whether standard input isn't both: the stored run is where it is `-`, the graph also where none is named.
+pub(crate) fn are_apart(trace: Option<&str>, graph: Option<&str>) -> bool
+    ensures { result ≡ are_apart (option_map (λ t. t.now) trace.entry) (option_map (λ t. t.now) graph.entry) }
+{
+    match (trace, graph) {
+        (None, _) => true,
+        (Some(trace), None) => !is_dash(trace),
+        (Some(trace), Some(graph)) => !(is_dash(trace) && is_dash(graph)),
     }
 }
 
@@ -146,6 +164,19 @@ pub(crate) fn no_number(
     let value = value.unwrap_or("");
     match format!(in alloc;
         "error: invalid value '{value}' for '--{id} <{id}>': not a number in {low}..={high}\n\nFor more information, try '--help'.\n"
+    ) {
+        Ok(text) => JobFault::Refused(text),
+        Err(_) => JobFault::Memory,
+    }
+}
+
+/// What is said where standard input is to be both the stored run and the graph.
+pub(crate) fn read_twice(alloc: Global) -> JobFault
+    ensures { IsRefused result }
+{
+    match String::from_str(
+        alloc,
+        "error: standard input can't be both the stored run and the graph\n\nFor more information, try '--help'.\n",
     ) {
         Ok(text) => JobFault::Refused(text),
         Err(_) => JobFault::Memory,

@@ -8,10 +8,13 @@ use Rattle.ghs_words.proofs.grammar.program.Goals as goal
 pub returns : goal.returns
 unfolding program
 returns c =
-    let bare : App = let a = new_app (codes "ghs") in record a { top = record a.top { subcommand_required = true } } in
+    let bare : App = let a = new_app (codes "ghs") in record a { top = record a.top { has_version = true; subcommand_required = true } } in
     let named : app_of c.about.result ≡ new_app (codes "ghs") = ap app_of_fields c.about.ensures ∙ c.new.ensures.app in
+    let told : App = let a = new_app (codes "ghs") in record a { top = record a.top { has_version = true } } in
+    let versioned : app_of c.version.result ≡ told =
+    ap app_of_fields c.version.ensures ∙ ap (λ (a : App). record a { top = record a.top { has_version = true } }) named in
     let required : app_of c.subcommand_required.result ≡ bare =
-    ap app_of_fields c.subcommand_required.ensures ∙ ap (λ (a : App). record a { top = record a.top { subcommand_required = true } }) named in
+    ap app_of_fields c.subcommand_required.ensures ∙ ap (λ (a : App). record a { top = record a.top { subcommand_required = true } }) versioned in
     let one : App = with_subcommand bare tree_command.top in
     let two : App = with_subcommand one run_command.top in
     let three : App = with_subcommand two replay_command.top in
