@@ -35,13 +35,13 @@ returns-in-Patient-clause-limit c =
 
 pub returns-in-Rounds-clause-rounds : goal.returns-in-Rounds-clause-rounds
 returns-in-Rounds-clause-rounds c =
-    let ran = c.run_rounds in
+    let ran = c.run_rounds-rounds in
     rw c.in-Rounds.is
     (ran.result.0, refl, is_in_rounds c.args.seed c.args.world.now ran.new.world c.seeded-schedule.result ran.new.schedule ran.result.0 c.seeded-schedule.ensures ran.ensures.run)
 
 pub returns-in-Rounds-clause-whole : goal.returns-in-Rounds-clause-whole
 returns-in-Rounds-clause-whole c =
-    let ran = c.run_rounds in
+    let ran = c.run_rounds-rounds in
     let gone : HasGoneOn c.args.world.now ran.new.world =
     gone_by_rounds c.args.world.now ran.new.world c.seeded-schedule.result ran.new.schedule c.turns.result ran.result.0 c.requires.trace c.requires.numbers c.turns.ensures.turns c.turns.ensures.few ran.ensures.run in
     rw c.in-Rounds.is
@@ -49,7 +49,7 @@ returns-in-Rounds-clause-whole c =
 
 pub returns-in-Rounds-clause-limit : goal.returns-in-Rounds-clause-limit
 returns-in-Rounds-clause-limit c =
-    let ran = c.run_rounds in
+    let ran = c.run_rounds-rounds in
     let gone : HasGoneOn c.args.world.now ran.new.world =
     gone_by_rounds c.args.world.now ran.new.world c.seeded-schedule.result ran.new.schedule c.turns.result ran.result.0 c.requires.trace c.requires.numbers c.turns.ensures.turns c.turns.ensures.few ran.ensures.run in
     rw c.in-Rounds.is
