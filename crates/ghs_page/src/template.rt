@@ -1,4 +1,4 @@
-//! The page's constant text. `page/pack` writes it here from `page/template.html`; change it there.
+//! The constant text of a page. `page/pack` writes it here from `page/template.html`; change it there.
 
 /// The page before its data.
 pub const HEAD: &[u8] = br##"<!doctype html>
