@@ -1,11 +1,13 @@
-use Rattle.std.proofs.Common.{codes, rules}
-use Rattle.clap.specs.Words.{App, new_app, with_rule}
+use Rattle.std.proofs.Common.{◌≡◌, ◌∙◌, ap, codes}
+use Rattle.clap.specs.Simple.{app_of_fields}
+use Rattle.clap.specs.Words.{App, app_of, new_app, with_rule}
 use Rattle.ghs_words.specs.Grammar.{file_rule, from_rule, pair_rule, schedule_rule, seed_rule, stored_rule, to_rule, turns_rule, wake_rule}
 use Rattle.ghs_words.proofs.Commands.{with_argument}
 use Rattle.ghs_words.proofs.grammar.view.Goals as goal
 
 pub returns-clause-app : goal.returns-clause-app
 returns-clause-app c =
+    let start : app_of c.about.result ≡ new_app (codes "view") = ap app_of_fields c.about.ensures ∙ c.new.ensures.app in
     let bare : App = new_app (codes "view") in
     let one : App = with_rule bare file_rule in
     let two : App = with_rule one seed_rule in
@@ -23,5 +25,5 @@ returns-clause-app c =
     (with_argument _ _ _ three schedule_rule c.in_ok-arg-4.ensures c.schedule.ensures.local
     (with_argument _ _ _ two pair_rule c.in_ok-arg-3.ensures c.pair.ensures.local
     (with_argument _ _ _ one seed_rule c.in_ok-arg-2.ensures c.seed.ensures.local
-    (with_argument _ _ _ bare file_rule c.in_ok-arg.ensures c.file.ensures.local (search rules) c.file.ensures.rule)
+    (with_argument _ _ _ bare file_rule c.in_ok-arg.ensures c.file.ensures.local start c.file.ensures.rule)
     c.seed.ensures.rule) c.pair.ensures.rule) c.schedule.ensures.rule) c.wake.ensures.rule) c.turns.ensures.rule) c.stored.ensures.rule) c.from.ensures.rule) c.to.ensures.rule
