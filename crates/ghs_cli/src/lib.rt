@@ -1,6 +1,7 @@
 //! The program's engine: the work that command lines ask for, and its faults.
 #![tactic(auto)]
 
+mod beside;
 pub mod fault;
 mod output;
 mod progress;

@@ -1,12 +1,13 @@
-//! Pages of runs: of the run that a seed picks, and of a stored one.
+//! Pages of runs: of the run that a seed picks, of the runs of two, and of a stored one.
 ghost use Rattle.ghs_words.specs.Job.{AreViewLimits};
 ghost use Rattle.ghs_cli.specs.Serving.{IsStoredViewCause, IsStoredViewOutput, IsViewCause, IsViewOutput, is_write, shape_of};
-ghost use Rattle.ghs_cli.specs.Viewing.{HasNoStoredView, HasNoView, IsStoredView, IsView};
+ghost use Rattle.ghs_cli.specs.Viewing.{HasNoSeedView, HasNoStoredView, HasNoView, IsSeedView, IsStoredView, IsView};
 ghost use Rattle.ghs_cli.specs.declared.fault.ServeFault.{ServeFault};
 ghost use Rattle.ghs_picking.specs.Picking.{IsPickedBy};
 ghost use Rattle.ghs_view.specs.RunPage.{IsRunPage, IsTooLarge};
 ghost use Rattle.std.specs.Prelude.{◌≡◌, ◌≤◌, ◌⊎◌, ◌↔◌, false, length, true, IfSome, IsErrOf, IfErr, IfOk};
 
+use crate::beside::pair_viewed;
 use crate::fault::ServeFault;
 use crate::replaying::events_of;
 use ghs_gr::device::Source;
@@ -23,7 +24,7 @@ use ghs_words::job::{StoredViewOptions, ViewOptions};
 use ghs_world::world::World;
 use std::alloc::Global;
 
-/// The page of the run that a seed picks of the graph that the device gives.
+/// The page of the run that a seed picks of the graph that the device gives, or of the runs of two.
 pub(crate) fn view_text_of<S: Source>(
     alloc: Global,
     options: &ViewOptions,
@@ -40,7 +41,7 @@ pub(crate) fn view_text_of<S: Source>(
     viewed(alloc, options, raw)
 }
 
-/// The page of the run that a seed picks of a graph.
+/// The page of the run that a seed picks of a graph, or of the runs of two.
 fn viewed(alloc: Global, options: &ViewOptions, raw: RawGraph) -> Result<Vec<u8>, ServeFault>
     requires { AreViewLimits options.now }
     ensures text { IfOk result (λ text. IsView options.now (shape_of raw) text.items) }
@@ -49,13 +50,34 @@ fn viewed(alloc: Global, options: &ViewOptions, raw: RawGraph) -> Result<Vec<u8>
     let Ok(graph) = Graph::build(alloc, raw) else {
         return Err(ServeFault::Memory);
     };
+    match options.beside {
+        None => {
+            let world = world_of(alloc, options, options.seed, graph)?;
+            page_of(alloc, options, &world)
+        }
+        Some(beside) => pair_viewed(alloc, options, beside, graph),
+    }
+}
+
+/// The world that a seed's run of a graph leaves, at its end or at its last turn.
+pub(crate) fn world_of(
+    alloc: Global,
+    options: &ViewOptions,
+    seed: u64,
+    graph: Graph,
+) -> Result<World, ServeFault>
+    requires { AreViewLimits options.now }
+    ensures graph { IfOk result (λ world. world.net.graph ≡ graph) }
+    ensures picked { IfOk result (λ world. IsPickedBy options.now.picking seed options.now.wake options.now.turns graph world.net.trace) }
+    ensures fault { IfErr result (λ fault. fault ≡ ServeFault.Memory) }
+{
     let mut world = match World::open(alloc, graph, options.wake, options.turns) {
         Ok(world) => world,
         Err(_) => return Err(ServeFault::Memory),
     };
-    match run_by_seed(alloc, &mut world, options.picking, options.seed) {
-        Ok(_) => page_of(alloc, options, &world),
-        Err(RunFault::TurnLimit) => page_of(alloc, options, &world),
+    match run_by_seed(alloc, &mut world, options.picking, seed) {
+        Ok(_) => Ok(world),
+        Err(RunFault::TurnLimit) => Ok(world),
         Err(RunFault::Stalled) => unreachable!(),
         Err(RunFault::Unforeseen) => unreachable!(),
         Err(RunFault::Memory) => Err(ServeFault::Memory),
@@ -65,8 +87,8 @@ fn viewed(alloc: Global, options: &ViewOptions, raw: RawGraph) -> Result<Vec<u8>
 /// The page of a world.
 fn page_of(alloc: Global, options: &ViewOptions, world: &World) -> Result<Vec<u8>, ServeFault>
     requires { IsPickedBy options.now.picking options.now.seed options.now.wake options.now.turns world.now.net.graph world.now.net.trace }
-    ensures text { IfOk result (λ text. IsView options.now world.now.net.graph text.items) }
-    ensures fault { IfErr result (λ fault. HasNoView options.now world.now.net.graph fault) }
+    ensures text { IfOk result (λ text. IsSeedView options.now world.now.net.graph text.items) }
+    ensures fault { IfErr result (λ fault. HasNoSeedView options.now world.now.net.graph fault) }
 {
     // Read for their clauses: the events are a run, and no more than 2^40.
     let _ = world.net();

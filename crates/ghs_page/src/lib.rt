@@ -1,5 +1,6 @@
-//! A run as one page, to be looked at in a browser: the page's constant text round the data of the run.
+//! Runs as pages, to be looked at in a browser: the pages' constant text round the data of a run, or of two.
 #![tactic(auto)]
 
 pub mod page;
+pub mod pair;
 pub mod template;

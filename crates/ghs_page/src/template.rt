@@ -1,4 +1,4 @@
-//! The page's constant text. `page/pack` writes it here from `page/template.html`; change it there.
+//! The constant text of a page. `page/pack` writes it here from `page/template.html`; change it there.
 
 /// The page before its data.
 pub const HEAD: &[u8] = br##"<!doctype html>
@@ -322,11 +322,11 @@ function census() {
   }
   return { top, all };
 }
-let curve = [], look = new Map(), before = [];
+let curve = [], look = new Map(), before = [], clashes = new Map();
 function survey() {
   // once through the run: number of fragments, first sends, which names stand beside one another, who came before
   let count = G.nodes;
-  const lastAt = [], root = nodes.map((_, v) => v), members = nodes.map((_, v) => [v]), band = [], clashes = new Map();
+  const lastAt = [], root = nodes.map((_, v) => v), members = nodes.map((_, v) => [v]), band = [];
   const clash = (x, y) => { if (x && y && x !== y) for (const [a, b] of [[x, y], [y, x]]) { if (!clashes.has(a)) clashes.set(a, new Set()); clashes.get(a).add(b); } };
   const join = l => {
     let a = root[l.a], b = root[l.b];

@@ -1,5 +1,6 @@
-//! A run as one page: the page's constant text round what the run is and does.
+//! A run as one page: the page's constant text round what the run is and does; and two runs of one network as a page.
 #![tactic(auto)]
 
 pub mod page;
+pub mod pair;
 pub mod stored;

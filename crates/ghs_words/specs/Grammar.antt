@@ -23,6 +23,10 @@ seed_rule = option_rule (codes "seed") (codes "1")
 abbrev pub seeds_rule : Rule
 seeds_rule = record (new_rule (codes "seeds")) { long = Some (codes "seeds"); required = true }
 
+-- `--seeds` of a view, which are two: whose runs are shown beside each other
+abbrev pub pair_rule : Rule
+pair_rule = record (new_rule (codes "pair")) { long = Some (codes "seeds") }
+
 -- `--schedule`: among which events it picks them
 abbrev pub schedule_rule : Rule
 schedule_rule = option_rule (codes "schedule") (codes "seeded")
@@ -102,11 +106,11 @@ sweep_command =
     let picked = with_rule (with_rule (with_rule (with_rule named schedule_rule) workers_rule) wake_rule) turns_rule in
     with_rule (with_rule picked sheet_rule) progress_rule
 
--- `view [FILE] [--seed S] [--schedule seeded|patient|rounds] [--wake all|first] [--turns T] [--trace TRACE] [--from A] [--to B]`
+-- `view [FILE] [--seed S] [--seeds FIRST,SECOND] [--schedule seeded|patient|rounds] [--wake all|first] [--turns T] [--trace TRACE] [--from A] [--to B]`
 abbrev pub view_command : App
 view_command =
-    let named = with_rule (new_app (codes "view")) file_rule in
-    let picked = with_rule (with_rule (with_rule (with_rule named seed_rule) schedule_rule) wake_rule) turns_rule in
+    let seeded = with_rule (with_rule (with_rule (new_app (codes "view")) file_rule) seed_rule) pair_rule in
+    let picked = with_rule (with_rule (with_rule seeded schedule_rule) wake_rule) turns_rule in
     with_rule (with_rule (with_rule picked stored_rule) from_rule) to_rule
 
 -- the program's command line: its name and one of its commands, or a word that asks for its version

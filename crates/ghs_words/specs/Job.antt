@@ -27,7 +27,9 @@ use Rattle.ghs_words.specs.declared.job.TheConstants.{MOST_WORKERS}
 use Rattle.ghs_words.specs.declared.job.Task.{Task}
 use Rattle.ghs_words.specs.declared.job.Task.TheVariants as task
 use Rattle.ghs_words.specs.declared.job.ViewOptions.{ViewOptions}
+use Rattle.ghs_words.specs.declared.two_seeds.TwoSeeds.{TwoSeeds}
 use Rattle.ghs_words.specs.declared.values.Seeds.{Seeds}
+use Rattle.ghs_words.specs.TwoSeeds.{are_two, two_seeds_of}
 use Rattle.ghs_words.specs.Values.{AreSeeds, are_apart, is_among, is_number, is_range, number_in, seeds_of}
 
 -- the words of a command line, with the program's name before them
@@ -108,6 +110,17 @@ node_in command = option_and_then (number_in 1 4294967295) (value_in (codes "nod
 abbrev pub seeds_at : Used → Seeds
 seeds_at command = unwrap_or (option_and_then seeds_of (value_in (codes "seeds") command)) (record { first = 0; last = 0 })
 
+-- the two seeds that `--seeds` of a view names, where it is given
+abbrev pub pair_in : Used → Option TwoSeeds
+pair_in command = option_and_then two_seeds_of (value_in (codes "pair") command)
+
+-- the first of them, or the one that `--seed` names; the second
+abbrev pub first_seed_in : Used → ℕ
+first_seed_in command = unwrap_or (option_map (λ s. s.first) (pair_in command)) (seed_in command)
+
+abbrev pub second_seed_in : Used → Option ℕ
+second_seed_in command = option_map (λ s. s.second) (pair_in command)
+
 -- how a command asks for a network to be run
 pub record AreOptions (command : Used) (o : RunOptions) : Type 0 where
   pub seed : o.seed ≡ seed_in command
@@ -137,9 +150,10 @@ pub record AreStepsOptions (command : Used) (o : StepsOptions) : Type 0 where
   pub node : o.choice.node ≡ node_in command
   pub form : IsForm command o.form
 
--- which page a command asks for: of the run that a seed picks, or of a stored one
+-- which page a command asks for: of the run that a seed picks, or of the runs of two, or of a stored one
 pub record AreViewOptions (command : Used) (o : ViewOptions) : Type 0 where
-  pub seed : o.seed ≡ seed_in command
+  pub seed : o.seed ≡ first_seed_in command
+  pub beside : o.beside ≡ second_seed_in command
   pub picking : IsPicking command o.picking
   pub wake : IsWake command o.wake
   pub turns : o.turns ≡ turns_in command
@@ -209,6 +223,7 @@ has_values command =
     && is_number 1 EVENT_LIMIT (value_in (codes "to") command)
     && is_number 1 4294967295 (value_in (codes "node") command)
     && is_range (value_in (codes "seeds") command)
+    && are_two (value_in (codes "pair") command)
     && are_apart (value_in (codes "TRACE") command) (value_in (codes "FILE") command)
 
 -- what is wrong with the values of a command's options

@@ -1,7 +1,7 @@
 //! The words that the program takes.
 ghost use Rattle.clap.specs.Words.{app_of, rule_of};
 ghost use Rattle.clap.specs.declared.builder.command.Command.TheViews.{out-Command};
-ghost use Rattle.ghs_words.specs.Grammar.{core_rule, file_rule, from_rule, json_rule, node_rule, option_rule, print_rule, program, progress_rule, replay_command, run_command, schedule_rule, seed_rule, seeds_rule, sheet_rule, steps_command, sweep_command, to_rule, trace_rule, tree_command, turns_rule, wake_rule, workers_rule, stored_rule, view_command};
+ghost use Rattle.ghs_words.specs.Grammar.{core_rule, file_rule, from_rule, json_rule, node_rule, option_rule, pair_rule, print_rule, program, progress_rule, replay_command, run_command, schedule_rule, seed_rule, seeds_rule, sheet_rule, steps_command, sweep_command, to_rule, trace_rule, tree_command, turns_rule, wake_rule, workers_rule, stored_rule, view_command};
 ghost use Rattle.std.specs.Prelude.{◌≡◌, IfOk, false};
 
 use clap::{Arg, ArgAction, Command};
@@ -124,9 +124,10 @@ fn view<'a>(alloc: Global) -> Result<Command<'a>, AllocError>
 {
     Ok(
         Command::new(alloc, "view")
-            .about("Prints a run as one page for a browser, to step through")
+            .about("Prints a run as one page for a browser, to step through, or two runs beside each other")
             .arg(file(alloc))?
             .arg(seed(alloc))?
+            .arg(pair(alloc))?
             .arg(schedule(alloc))?
             .arg(wake(alloc))?
             .arg(turns(alloc))?
@@ -206,6 +207,16 @@ fn seeds<'a>(alloc: Global) -> Arg<'a>
 {
     Arg::new(alloc, "seeds").long("seeds").required(true).help(
         "The seeds, FIRST..LAST, both included, 1000000 of them at most",
+    )
+}
+
+// Whose schedules pick the two runs of a page.
+fn pair<'a>(alloc: Global) -> Arg<'a>
+    ensures local { result.global ≡ false }
+    ensures rule { rule_of result ≡ pair_rule }
+{
+    Arg::new(alloc, "pair").long("seeds").help(
+        "Two seeds, FIRST,SECOND, whose runs are shown beside each other, in place of the one of --seed",
     )
 }
 

@@ -1,13 +1,15 @@
 //! Command lines.
 ghost use Rattle.ghs_words.specs.declared.job.JobFault.TheVariants.{Memory};
 ghost use Rattle.ghs_words.specs.Grammar.{program};
-ghost use Rattle.ghs_words.specs.Job.{AreOptions, AreStepsOptions, AreSweepLimits, AreSweepOptions, AreWithinLimits, command_in, has_values, kinds_of, name_in, node_in, number_at, option_kinds, seeds_at, value_in, with_name, IsForm, IsPicking, IsRefused, IsSaid, IsSaidOf, IsSheet, IsShow, IsTask, IsWake, IsWithinLimits, AreStoredViewOptions, AreViewLimits, AreViewOptions};
+ghost use Rattle.ghs_words.specs.Job.{AreOptions, AreStepsOptions, AreSweepLimits, AreSweepOptions, AreWithinLimits, command_in, has_values, first_seed_in, kinds_of, name_in, node_in, number_at, option_kinds, pair_in, second_seed_in, seeds_at, value_in, with_name, IsForm, IsPicking, IsRefused, IsSaid, IsSaidOf, IsSheet, IsShow, IsTask, IsWake, IsWithinLimits, AreStoredViewOptions, AreViewLimits, AreViewOptions};
 ghost use Rattle.ghs_words.specs.Values.{AreSeeds, are_apart, is_among, is_number, is_range};
+ghost use Rattle.ghs_words.specs.TwoSeeds.{are_two};
 ghost use Rattle.clap.specs.Words.{kind_of, subcommand_rows_of};
 ghost use Rattle.std.specs.Option.{option_map};
 ghost use Rattle.std.specs.Prelude.{◌≡◌, ◌≤◌, ◌↔◌, ◌∷◌, [], IfErr, IfOk, IfSome, OnErr, OnOk, Some, codes, false, map, string_bytes, true};
 
 use crate::grammar::program;
+use crate::two_seeds::{TwoSeeds, are_two, no_two_seeds, two_seeds_in};
 use crate::values::{
     Seeds, are_apart, is_among, is_number, is_range, is_text, no_number, no_seeds, number_in, owned,
     read_twice, seeds_in, unknown_choice,
@@ -95,11 +97,13 @@ pub struct StepsOptions {
     pub form: Form,
 }
 
-/// Which page is made of the run that a seed picks.
+/// Which page is made of the run that a seed picks, or of the runs of two.
 #[derive(Clone, Copy, Debug, PartialEq, Eq)]
 pub struct ViewOptions {
     /// Whose schedule picks the events.
     pub seed: u64,
+    /// Whose run is shown beside that, where two are.
+    pub beside: Option<u64>,
     /// Among which events it picks them.
     pub picking: Picking,
     /// Which nodes wake by themselves.
@@ -248,6 +252,7 @@ fn check_options<'a>(alloc: Global, matches: &ArgMatches<'a>) -> Result<(), JobF
     check_number(alloc, matches, "to", 1, EVENT_LIMIT)?;
     check_number(alloc, matches, "node", 1, u32::MAX as u64)?;
     check_seeds(alloc, matches)?;
+    check_two_seeds(alloc, matches)?;
     check_inputs(alloc, matches)
 }
 
@@ -302,6 +307,20 @@ fn check_seeds<'a>(alloc: Global, matches: &ArgMatches<'a>) -> Result<(), JobFau
         Ok(())
     } else {
         Err(no_seeds(alloc, "seeds", value))
+    }
+}
+
+/// Whether the seeds of a view are two.
+fn check_two_seeds<'a>(alloc: Global, matches: &ArgMatches<'a>) -> Result<(), JobFault>
+    ensures ok { OnOk result (are_two (value_in (codes "pair") (subcommand_rows_of matches.now)) ≡ true) }
+    ensures err { OnErr result (are_two (value_in (codes "pair") (subcommand_rows_of matches.now)) ≡ false) }
+    ensures fault { IfErr result IsRefused }
+{
+    let value = value_of(matches, "pair");
+    if are_two(value) {
+        Ok(())
+    } else {
+        Err(no_two_seeds(alloc, "seeds", value))
     }
 }
 
@@ -426,13 +445,14 @@ fn shown_by<'a>(matches: &ArgMatches<'a>) -> Task
     }
 }
 
-/// Which page is to be made of the run that a seed picks.
+/// Which page is to be made of the run that a seed picks, or of the runs of two.
 fn view_of<'a>(matches: &ArgMatches<'a>) -> ViewOptions
     ensures options { AreViewOptions (subcommand_rows_of matches.now) result }
     ensures limits { AreViewLimits result }
 {
     ViewOptions {
-        seed: number_of(matches, "seed", 0, u64::MAX),
+        seed: first_seed_of(matches),
+        beside: second_seed_of(matches),
         picking: picking_of(matches),
         wake: wake_of(matches),
         turns: number_of(matches, "turns", 1, EVENT_LIMIT),
@@ -449,6 +469,36 @@ fn stored_view_of<'a>(matches: &ArgMatches<'a>) -> StoredViewOptions
         wake: wake_of(matches),
         from: number_of(matches, "from", 1, EVENT_LIMIT),
         to: number_of(matches, "to", 1, EVENT_LIMIT),
+    }
+}
+
+/// Whose run is to be shown, or the first of two.
+fn first_seed_of<'a>(matches: &ArgMatches<'a>) -> u64
+    ensures { result ≡ first_seed_in (subcommand_rows_of matches.now) }
+{
+    match two_seeds_of(matches) {
+        Some(seeds) => seeds.first,
+        None => number_of(matches, "seed", 0, u64::MAX),
+    }
+}
+
+/// Whose run is to be shown beside it, where two are.
+fn second_seed_of<'a>(matches: &ArgMatches<'a>) -> Option<u64>
+    ensures { result ≡ second_seed_in (subcommand_rows_of matches.now) }
+{
+    match two_seeds_of(matches) {
+        Some(seeds) => Some(seeds.second),
+        None => None,
+    }
+}
+
+/// The two seeds of a view, where it has them.
+fn two_seeds_of<'a>(matches: &ArgMatches<'a>) -> Option<TwoSeeds>
+    ensures { result ≡ pair_in (subcommand_rows_of matches.now) }
+{
+    match value_of(matches, "pair") {
+        Some(value) => two_seeds_in(value),
+        None => None,
     }
 }
 

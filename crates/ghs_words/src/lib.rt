@@ -3,4 +3,5 @@
 
 mod grammar;
 pub mod job;
+pub mod two_seeds;
 pub mod values;

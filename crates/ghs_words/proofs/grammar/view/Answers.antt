@@ -1,25 +1,29 @@
-use Rattle.std.proofs.Common.{codes, rules}
-use Rattle.clap.specs.Words.{App, new_app, with_rule}
-use Rattle.ghs_words.specs.Grammar.{file_rule, from_rule, schedule_rule, seed_rule, stored_rule, to_rule, turns_rule, wake_rule}
+use Rattle.std.proofs.Common.{◌≡◌, ◌∙◌, ap, codes}
+use Rattle.clap.specs.Simple.{app_of_fields}
+use Rattle.clap.specs.Words.{App, app_of, new_app, with_rule}
+use Rattle.ghs_words.specs.Grammar.{file_rule, from_rule, pair_rule, schedule_rule, seed_rule, stored_rule, to_rule, turns_rule, wake_rule}
 use Rattle.ghs_words.proofs.Commands.{with_argument}
 use Rattle.ghs_words.proofs.grammar.view.Goals as goal
 
 pub returns-clause-app : goal.returns-clause-app
 returns-clause-app c =
+    let start : app_of c.about.result ≡ new_app (codes "view") = ap app_of_fields c.about.ensures ∙ c.new.ensures.app in
     let bare : App = new_app (codes "view") in
     let one : App = with_rule bare file_rule in
     let two : App = with_rule one seed_rule in
-    let three : App = with_rule two schedule_rule in
-    let four : App = with_rule three wake_rule in
-    let five : App = with_rule four turns_rule in
-    let six : App = with_rule five stored_rule in
-    let seven : App = with_rule six from_rule in
-    with_argument _ _ _ seven to_rule c.in_ok-arg-8.ensures c.to.ensures.local
-    (with_argument _ _ _ six from_rule c.in_ok-arg-7.ensures c.from.ensures.local
-    (with_argument _ _ _ five stored_rule c.in_ok-arg-6.ensures c.stored.ensures.local
-    (with_argument _ _ _ four turns_rule c.in_ok-arg-5.ensures c.turns.ensures.local
-    (with_argument _ _ _ three wake_rule c.in_ok-arg-4.ensures c.wake.ensures.local
-    (with_argument _ _ _ two schedule_rule c.in_ok-arg-3.ensures c.schedule.ensures.local
+    let three : App = with_rule two pair_rule in
+    let four : App = with_rule three schedule_rule in
+    let five : App = with_rule four wake_rule in
+    let six : App = with_rule five turns_rule in
+    let seven : App = with_rule six stored_rule in
+    let eight : App = with_rule seven from_rule in
+    with_argument _ _ _ eight to_rule c.in_ok-arg-9.ensures c.to.ensures.local
+    (with_argument _ _ _ seven from_rule c.in_ok-arg-8.ensures c.from.ensures.local
+    (with_argument _ _ _ six stored_rule c.in_ok-arg-7.ensures c.stored.ensures.local
+    (with_argument _ _ _ five turns_rule c.in_ok-arg-6.ensures c.turns.ensures.local
+    (with_argument _ _ _ four wake_rule c.in_ok-arg-5.ensures c.wake.ensures.local
+    (with_argument _ _ _ three schedule_rule c.in_ok-arg-4.ensures c.schedule.ensures.local
+    (with_argument _ _ _ two pair_rule c.in_ok-arg-3.ensures c.pair.ensures.local
     (with_argument _ _ _ one seed_rule c.in_ok-arg-2.ensures c.seed.ensures.local
-    (with_argument _ _ _ bare file_rule c.in_ok-arg.ensures c.file.ensures.local (search rules) c.file.ensures.rule)
-    c.seed.ensures.rule) c.schedule.ensures.rule) c.wake.ensures.rule) c.turns.ensures.rule) c.stored.ensures.rule) c.from.ensures.rule) c.to.ensures.rule
+    (with_argument _ _ _ bare file_rule c.in_ok-arg.ensures c.file.ensures.local start c.file.ensures.rule)
+    c.seed.ensures.rule) c.pair.ensures.rule) c.schedule.ensures.rule) c.wake.ensures.rule) c.turns.ensures.rule) c.stored.ensures.rule) c.from.ensures.rule) c.to.ensures.rule

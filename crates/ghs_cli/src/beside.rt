@@ -1,0 +1,58 @@
+//! Pages of two runs, beside each other.
+ghost use Rattle.ghs_words.specs.Job.{AreViewLimits};
+ghost use Rattle.ghs_cli.specs.Viewing.{HasNoPairView, IsPairView};
+ghost use Rattle.ghs_picking.specs.Picking.{IsPickedBy};
+ghost use Rattle.std.specs.Prelude.{◌≡◌, IfErr, IfOk};
+
+use crate::fault::ServeFault;
+use crate::viewing::world_of;
+use ghs_graph::graph::Graph;
+use ghs_view::page::PageFault;
+use ghs_view::pair::pair_page;
+use ghs_words::job::ViewOptions;
+use ghs_world::world::World;
+use std::alloc::Global;
+
+/// The page of the runs that two seeds pick of a graph: the options' and another.
+pub(crate) fn pair_viewed(
+    alloc: Global,
+    options: &ViewOptions,
+    beside: u64,
+    graph: Graph,
+) -> Result<Vec<u8>, ServeFault>
+    requires { AreViewLimits options.now }
+    ensures text { IfOk result (λ text. IsPairView options.now beside graph text.items) }
+    ensures fault { IfErr result (λ fault. HasNoPairView options.now beside graph fault) }
+{
+    let same = graph.copy(alloc)?;
+    let first = world_of(alloc, options, options.seed, graph)?;
+    let second = world_of(alloc, options, beside, same)?;
+    pair_page_of(alloc, options, beside, &first, &second)
+}
+
+/// The page of two worlds of one graph.
+fn pair_page_of(
+    alloc: Global,
+    options: &ViewOptions,
+    beside: u64,
+    first: &World,
+    second: &World,
+) -> Result<Vec<u8>, ServeFault>
+    requires graph { second.now.net.graph ≡ first.now.net.graph }
+    requires first { IsPickedBy options.now.picking options.now.seed options.now.wake options.now.turns first.now.net.graph first.now.net.trace }
+    requires second { IsPickedBy options.now.picking beside options.now.wake options.now.turns first.now.net.graph second.now.net.trace }
+    ensures text { IfOk result (λ text. IsPairView options.now beside first.now.net.graph text.items) }
+    ensures fault { IfErr result (λ fault. HasNoPairView options.now beside first.now.net.graph fault) }
+{
+    // Read for their clauses: the events are runs, and no more than 2^40 each.
+    let _ = first.net();
+    let _ = first.turns();
+    let _ = second.net();
+    let _ = second.turns();
+    let graph = first.graph().copy(alloc)?;
+    match pair_page(alloc, graph, first.trace(), second.trace(), options.from, options.to) {
+        Ok(text) => Ok(text),
+        Err(PageFault::TooLarge) => Err(ServeFault::PageTooLarge),
+        Err(PageFault::Memory) => Err(ServeFault::Memory),
+    }
+}

@@ -1,0 +1,44 @@
+//! The page of two runs.
+ghost use Rattle.std.specs.Prelude.{◌≡◌, ◌≤◌, ◌^◌, ◌↔◌, IfOk, IsErrOf, length};
+ghost use Rattle.ghs_protocol.specs.Network.{network_of};
+ghost use Rattle.ghs_protocol.specs.Run.{IsRun};
+ghost use Rattle.ghs_view.specs.PairPage.{IsPairPage, IsPairTooLarge};
+ghost use Rattle.ghs_view.specs.declared.page.PageFault.TheVariants.{TooLarge};
+
+use crate::page::{PAGE_EVENTS, PAGE_NODES, PageFault, first_events};
+use ghs_core::event::Event;
+use ghs_data::data::data_of;
+use ghs_graph::bounds::bound;
+use ghs_graph::graph::Graph;
+use ghs_page::page;
+use std::alloc::Global;
+
+/// The page of two runs of one network, beside each other: of each its steps from the opening on to the event `to`, or to its
+/// last where there are fewer. Both open before the event `from`. Events are counted from 1. Refusals: a page of one of the
+/// two would be too large; want of memory.
+pub fn pair_page(
+    alloc: Global,
+    graph: Graph,
+    first: &[Event],
+    second: &[Event],
+    from: u64,
+    to: u64,
+) -> Result<Vec<u8>, PageFault>
+    requires first { IsRun (network_of graph) first.now }
+    requires second { IsRun (network_of graph) second.now }
+    requires few { length first.now ≤ 2 ^ 40 }
+    requires few_beside { length second.now ≤ 2 ^ 40 }
+    ensures page { IfOk result (λ text. IsPairPage graph first.now second.now from to text.items) }
+    ensures large { IsErrOf result TooLarge ↔ IsPairTooLarge graph first.now second.now to }
+{
+    let shown = first_events(first, to);
+    let beside = first_events(second, to);
+    if graph.nodes() > PAGE_NODES || shown.len() > PAGE_EVENTS || beside.len() > PAGE_EVENTS {
+        return Err(PageFault::TooLarge);
+    }
+    let most = bound(graph.nodes(), graph.links());
+    let same = graph.copy(alloc)?;
+    let data = data_of(alloc, graph, most, shown, first.len() as u64, from)?;
+    let other = data_of(alloc, same, most, beside, second.len() as u64, from)?;
+    Ok(page::pair_page(alloc, &data, &other)?)
+}
