@@ -60,9 +60,10 @@ function fill(text, same) {
   ledger = zero();
   ledgerEnd = null;
   undo = []; curve = []; before = []; look = new Map(); at = 0;
-  for (const q of gone) { q.list.length = 0; q.sig = null; }
+  for (const q of gone) { q.list.length = 0; q.sig = null; changed.add(q); }
   if (!same) {
     queues.clear();
+    changed.clear();
     for (const id of ['halos', 'weights', 'links', 'cores', 'ways', 'tags', 'nodes', 'msgs', 'marks']) $(id).innerHTML = '';
     drawn = []; bend = []; unit = null; base = null; pos = []; pin = 0; zoom = { k: 1, x: 0, y: 0 };
   }
