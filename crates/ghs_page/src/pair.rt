@@ -110,8 +110,8 @@ const $ = id => document.getElementById(id);
 // how the page of one looks in a pane: the network, the strip, what is said of the event, and what a node knows
 const PANE = '<style>header, .legend, footer > div, #seek, aside h2, #ledger, #census { display: none !important; }'
   + 'body { grid-template: minmax(0, 1fr) auto 8.6em / minmax(0, 1fr) !important; } main { grid-row: 1; } footer { grid-row: 2; grid-column: 1; padding: 0 .3rem; } #strip { height: 56px; }'
-  + 'aside { grid-row: 3; display: grid !important; grid-template-columns: 1fr 1fr; gap: .6em; border: 0; border-top: 1px solid var(--line); padding: .1rem .3rem 0 .6rem; overflow: hidden !important; }'
-  + 'aside #say, aside #vars { min-height: 0; height: 8.4em; }'
+  + 'aside { grid-row: 3; display: grid !important; grid-template-columns: minmax(0, 5fr) minmax(0, 6fr); gap: .6em; border: 0; border-top: 1px solid var(--line); padding: .1rem .3rem 0 .6rem; overflow: hidden !important; }'
+  + 'aside #say, aside #vars { min-height: 0; height: 8.4em; } @media (max-width: 560px) { #vars { font-size: .85em; } }'
   + '.shown .legend { display: block !important; }'
   + '@media (max-width: 400px) { body { grid-template-rows: minmax(0, 1fr) auto 6.2em !important; } aside { grid-template-columns: 1fr; } aside #say { height: 6em; } #vars { display: none; } #strip { height: 40px; } }'
   + '@media print { html, body { height: 100% !important; } #strip { height: 40px; } }</style>';
@@ -192,15 +192,15 @@ function differing() {
 const tree = run => run.see("links.filter(branchy).map(l => l.link).join(' ')");
 function verdict(nodes) {
   const ends = runs.every(run => run.see('at === G.to')), whole = runs.every(run => run.see('G.to === G.events && nodes.some(n => n && n.halted)'));
-  const differ = nodes.length ? nodes.length + ' of ' + runs[0].see('G.nodes') + ' nodes are in another state' + (nodes.length <= 12 ? ': ' + nodes.join(', ') : '') : 'every node is in the same state';
+  const differ = nodes.length ? nodes.length + ' of ' + runs[0].see('G.nodes') + (nodes.length > 1 ? ' nodes are' : ' nodes is') + ' in another state' + (nodes.length <= 12 ? ': ' + nodes.join(', ') : '') : 'every node is in the same state';
   if (!ends) return differ + '.';
   const [a, b] = runs.map(tree), weight = runs[0].see('links.filter(branchy).reduce((x, l) => x + l.weight, 0)'), cores = [...new Set(runs[0].see("nodes.filter(n => n && n.halted && n.name).map(n => n.name + ' at level ' + n.level)"))];
   if (!whole || a !== b) return 'The last events that are shown' + (a === b ? ', and the same Branch links' : '') + ': ' + differ + '.';
-  return 'Both have ended, in one tree: ' + (a ? a.split(' ').length : 0) + ' links of weight ' + weight + (cores.length ? ', the core' + (cores.length > 1 ? 's ' : ' ') + cores.slice(0, 4).join(', ') + (cores.length > 4 ? ' ..' : '') : '') + '; ' + differ + '.';
+  return 'Both have ended, in one tree: ' + (a ? a.split(' ').length : 0) + ' links of weight ' + weight + (cores.length ? ', the core' + (cores.length > 1 ? 's ' : ' ') + cores.slice(0, 4).join(', ') + (cores.length > 4 ? ' ..' : '') : '') + '; ' + differ + (nodes.length && runs.some(run => run.see('ledger.queued')) ? ', as messages are still on their way' : '') + '.';
 }
 const KINDS = () => runs[0].see('KINDS.map(k => [LETTER[k], NAMES[k]])');
 function tell() {
-  const seen = runs.map(run => run.see('({ at, to: G.to, events: G.events, bound: G.bound, sent: ledger.sent, consumed: ledger.consumed, requeued: ledger.requeued, queued: ledger.queued, now: curve[at] })'));
+  const seen = runs.map(run => run.see('({ at, to: G.to, events: G.events, bound: G.bound, sent: ledger.sent, consumed: ledger.consumed, requeued: ledger.requeued, queued: ledger.queued, now: figures(at) })'));
   const sum = list => list.reduce((a, b) => a + b, 0), rows = seen.map(s => [s.at + ' of ' + s.events, ...s.sent, sum(s.sent), sum(s.consumed), s.queued, s.requeued, s.now[0], s.now[2]]);
   $('counts').innerHTML = rows.map((row, i) => '<tr><th>' + (i ? 'Second run' : 'First run') + '</th>' + row.map((x, k) => '<td' + (x !== rows[1 - i][k] && k ? ' class="other"' : '') + '>' + x + '</td>').join('')
     + '<td class="wide"><div class="bar" role="img" aria-label="' + row[8] + ' of ' + seen[i].bound + '"><i style="width:' + (seen[i].bound ? 100 * row[8] / seen[i].bound : 0) + '%"></i></div></td></tr>').join('');

@@ -194,6 +194,7 @@ pub const TAIL: &[u8] = br##"</script>
 'use strict';
 const $ = id => document.getElementById(id);
 const KINDS = ['connect', 'initiate', 'test', 'accept', 'reject', 'report', 'changeroot'];
+const KIND = Object.fromEntries(KINDS.map((k, i) => [k, i]));
 const NAMES = { connect: 'Connect', initiate: 'Initiate', test: 'Test', accept: 'Accept', reject: 'Reject', report: 'Report', changeroot: 'ChangeRoot' };
 const GROUPS = [['level', 'phase', 'halted'], ['find_count', 'in_branch', 'probe'], ['name'], ['best']];
 const LETTER = { connect: 'C', initiate: 'I', test: 'T', accept: 'A', reject: 'X', report: 'R', changeroot: 'G' };
@@ -232,13 +233,24 @@ const KEYS = [['left, right', 'one event back or on'], ['space', 'play, stop'], 
 // ---- the data
 let G, steps = [], links = [], nodes = [], ledgerEnd = null;
 const queues = new Map();
-const queue = (v, p) => { const k = v * 8388608 + p; let q = queues.get(k); if (!q) queues.set(k, q = { v, p, list: [] }); return q.list; };
-const zero = () => ({ sent: KINDS.map(() => 0), consumed: KINDS.map(() => 0), requeued: 0, queued: 0 });
+const queueAt = (v, p) => { const k = v * 8388608 + p; let q = queues.get(k); if (!q) queues.set(k, q = { v, p, list: [] }); return q; };
+const queue = (v, p) => queueAt(v, p).list;
+// the queues that may look otherwise than they were drawn
+let changed = new Set();
+// `back`: how many messages in queues were put back
+const zero = () => ({ sent: KINDS.map(() => 0), consumed: KINDS.map(() => 0), requeued: 0, queued: 0, back: 0 });
 let ledger = zero();
+const ASLEEP = { level: 0, name: null, phase: 'sleeping', find_count: 0, in_branch: null, best: null, probe: null, halted: false };
+// a link knows the marks of both its ends
+const CODE = { basic: 0, branch: 1, rejected: 2 };
+function setMark(n, port, mark) {
+  const l = links[n.ports[port].link];
+  n.marks[port] = mark;
+  l.halves = 3 * CODE[nodes[l.a].marks[l.a_port]] + CODE[nodes[l.b].marks[l.b_port]];
+}
 function read(text) {
-  for (const line of text.split('\n')) {
-    if (!line) continue;
-    const o = JSON.parse(line);
+  // all lines at once: a page may have a hundred thousand
+  for (const o of JSON.parse('[' + text.trim().replaceAll('\n', ',') + ']')) {
     if ('step' in o) steps.push(o);
     else if ('link' in o) {
       // links come in key order, and so do the ports of a node
@@ -247,10 +259,11 @@ function read(text) {
       o.b_port = nodes[o.b].ports.push({ link: i, far: o.a }) - 1;
       nodes[o.a].marks.push('basic');
       nodes[o.b].marks.push('basic');
+      o.halves = 0;
     } else if ('ledger' in o) ledgerEnd = o;
     else if ('ghs' in o) {
       G = o;
-      for (let v = 1; v <= o.nodes; v++) nodes[v] = { v, ports: [], marks: [], level: 0, name: null, phase: 'sleeping', find_count: 0, in_branch: null, best: null, probe: null, halted: false };
+      for (let v = 1; v <= o.nodes; v++) nodes[v] = { v, ports: [], marks: [], ...ASLEEP };
     }
   }
 }
@@ -258,32 +271,44 @@ const message = (m, born, from, to, at) => ({ kind: m.kind, level: m.level, key:
 
 // ---- one step on, one step back. Every value is one that the step carries; what it replaces is kept.
 let at, undo = [];
+const NONE = {}, NOTHING = [];
 function on() {
-  const i = at, s = steps[i], n = nodes[s.node], u = undo[i] = { set: {}, number: undo[i] && undo[i].number, sent: undo[i] ? undo[i].sent : s.send.map(x => message(x, s.step, s.node, x.to, x.at)), then: undo[i] && undo[i].then };
+  const s = steps[at], n = nodes[s.node], u = undo[at] = undo[at] || { set: NONE, sent: s.send.length ? s.send.map(x => message(x, s.step, s.node, x.to, x.at)) : NOTHING, taken: undefined, mark: undefined, number: 0, then: undefined };
   if (s.port !== null) {
-    const q = queue(s.node, s.port), m = u.taken = q.shift();
+    const q = queueAt(s.node, s.port), m = u.taken = q.list.shift();
     if (!m || m.kind !== s.kind || m.level !== s.level || m.key !== s.key) throw Error('event ' + s.step + ' takes a message that is not first in its queue');
-    if (s.fate === 'waits') { q.push(m); m.backs++; ledger.requeued++; } else { ledger.consumed[KINDS.indexOf(m.kind)]++; ledger.queued--; }
+    changed.add(q);
+    if (s.fate === 'waits') { q.list.push(m); if (!m.backs++) ledger.back++; ledger.requeued++; } else { ledger.consumed[KIND[m.kind]]++; ledger.queued--; if (m.backs) ledger.back--; }
   }
-  if (s.mark) { u.mark = n.marks[s.mark[0]]; n.marks[s.mark[0]] = s.mark[1]; }
-  for (const x in s.set) { u.set[x] = n[x]; n[x] = s.set[x]; }
-  for (const m of u.sent) { queue(m.to, m.at).push(m); ledger.sent[KINDS.indexOf(m.kind)]++; ledger.queued++; }
+  if (s.mark) { u.mark = n.marks[s.mark[0]]; setMark(n, ...s.mark); }
+  for (const x in s.set) { if (u.set === NONE) u.set = {}; u.set[x] = n[x]; n[x] = s.set[x]; }
+  for (const m of u.sent) { const q = queueAt(m.to, m.at); q.list.push(m); changed.add(q); ledger.sent[KIND[m.kind]]++; ledger.queued++; }
   if (s.fate === 'waits' && !u.then) u.then = { level: n.level, phase: n.phase, mark: n.marks[s.port], find_count: n.find_count, probe: n.probe };
   at++;
 }
 function off() {
   at--;
   const s = steps[at], n = nodes[s.node], u = undo[at];
-  for (const m of u.sent.slice().reverse()) { queue(m.to, m.at).pop(); ledger.sent[KINDS.indexOf(m.kind)]--; ledger.queued--; }
+  for (let k = u.sent.length; k--;) { const m = u.sent[k], q = queueAt(m.to, m.at); q.list.pop(); changed.add(q); ledger.sent[KIND[m.kind]]--; ledger.queued--; }
   for (const x in u.set) n[x] = u.set[x];
-  if (s.mark) n.marks[s.mark[0]] = u.mark;
+  if (s.mark) setMark(n, s.mark[0], u.mark);
   if (s.port !== null) {
-    const q = queue(s.node, s.port);
-    if (s.fate === 'waits') { q.pop().backs--; ledger.requeued--; } else { ledger.consumed[KINDS.indexOf(u.taken.kind)]--; ledger.queued++; }
-    q.unshift(u.taken);
+    const q = queueAt(s.node, s.port), m = u.taken;
+    if (s.fate === 'waits') { q.list.pop(); if (!--m.backs) ledger.back--; ledger.requeued--; } else { ledger.consumed[KIND[m.kind]]--; ledger.queued++; if (m.backs) ledger.back++; }
+    q.list.unshift(m);
+    changed.add(q);
   }
 }
-function goto(k) { k = Math.max(0, Math.min(G.to, k)); while (at < k) on(); while (at > k) off(); }
+// the opening at once, where that is nearer than all the steps back
+function rewind() {
+  for (const n of nodes) if (n) { Object.assign(n, ASLEEP); n.marks.fill('basic'); }
+  for (const l of links) l.halves = 0;
+  for (const q of queues.values()) { q.list.length = 0; changed.add(q); }
+  for (const u of undo) for (const m of u.sent) m.backs = 0;
+  ledger = zero();
+  at = 0;
+}
+function goto(k) { k = Math.max(0, Math.min(G.to, k)); if (at > 2 * k + 1000) rewind(); while (at < k) on(); while (at > k) off(); }
 const stepNow = () => steps[at - 1];
 const undoNow = () => undo[at - 1];
 
@@ -303,8 +328,8 @@ const bornOf = m => words(m) + ' from node ' + m.from + ' to node ' + m.to + ', 
 const storyOf = m => bornOf(m) + (m.backs ? '; ' + backsOf(m) + ': ' + reasonOf(m) : '') + '.';
 
 // ---- what the page adds: components of joined links, and curves over the whole run
-const joined = l => nodes[l.a].marks[l.a_port] === 'branch' && nodes[l.b].marks[l.b_port] === 'branch';
-const branchy = l => nodes[l.a].marks[l.a_port] === 'branch' || nodes[l.b].marks[l.b_port] === 'branch';
+const joined = l => l.halves === 4;
+const branchy = l => l.halves === 4 || l.halves % 3 === 1 || l.halves - l.halves % 3 === 3;
 function classes(n, pairs) {
   const up = Array.from({ length: n + 1 }, (_, i) => i);
   const top = x => { while (up[x] !== x) x = up[x] = up[up[x]]; return x; };
@@ -312,17 +337,21 @@ function classes(n, pairs) {
   return top;
 }
 function census() {
-  const top = classes(G.nodes, links.filter(joined).map(l => [l.a, l.b])), all = new Map();
+  const top = classes(G.nodes, links.filter(joined).map(l => [l.a, l.b])), all = new Map(), of = [];
   for (let v = 1; v <= G.nodes; v++) {
-    const t = top(v);
-    if (!all.has(t)) all.set(t, { least: t, level: 0, name: null, nodes: 0 });
-    const f = all.get(t), n = nodes[v];
+    const t = top(v), n = nodes[v];
+    let f = of[t];
+    if (!f) all.set(t, f = of[t] = { least: t, level: 0, name: null, nodes: 0 });
+    of[v] = f;
     f.nodes++;
     if (n.level >= f.level && n.name) { f.level = n.level; f.name = n.name; }
   }
-  return { top, all };
+  // each fragment by its least node, and that of each node
+  return { top, all, of };
 }
-let curve = [], look = new Map(), before = [], clashes = new Map();
+// three numbers for each event, two, and for each node the events in which it does something
+let curve = [], before = [], doings = [], look = new Map(), clashes = new Map();
+const figures = i => [curve[3 * i], curve[3 * i + 1], curve[3 * i + 2]];
 function survey() {
   // once through the run: number of fragments, first sends, which names stand beside one another, who came before
   let count = G.nodes;
@@ -348,8 +377,11 @@ function survey() {
   };
   // chains: a message goes out with one more than its sender's number; who consumes it, or is woken by it, takes the greater
   const number = nodes.map(() => 0);
-  let longest = 0;
-  curve.push([count, 0, 0]);
+  let longest = 0, sent = 0;
+  clashes = new Map();
+  doings = nodes.map(() => []);
+  curve.push(count, 0, 0);
+  before.push(0, 0);
   for (const s of steps) {
     const slept = nodes[s.node].phase === 'sleeping';
     on();
@@ -360,13 +392,15 @@ function survey() {
     u.number = number[s.node];
     longest = Math.max(longest, u.number);
     for (const m of u.sent) m.number = u.number + 1;
-    before[i] = [lastAt[s.node], u.taken && u.taken.born];
+    before.push(lastAt[s.node] || 0, u.taken ? u.taken.born : 0);
+    if (!idle(s)) doings[s.node].push(i);
     lastAt[s.node] = i;
     if (s.set.name) { if (!look.has(s.set.name)) look.set(s.set.name, 0); for (const p of n.ports) clash(n.name, nodes[p.far].name); }
     if (s.mark && s.mark[1] === 'branch') { const l = links[n.ports[s.mark[0]].link]; if (joined(l)) join(l); }
     if (s.set.name || s.set.level) bands(root[s.node], [s.node]);
-    curve.push([count, s.total, longest]);
-    if (s.total !== ledger.sent.reduce((a, b) => a + b)) throw Error('event ' + i + ' counts ' + s.total + ' first sends');
+    curve.push(count, s.total, longest);
+    sent += u.sent.length;
+    if (s.total !== sent) throw Error('event ' + i + ' counts ' + s.total + ' first sends');
   }
   looks(clashes);
   if (ledgerEnd) for (const x of ['requeued', 'queued', 'sent', 'consumed'])
@@ -472,15 +506,20 @@ function placeMany(list, far) {
   let up = 0, low = 1e-9;
   for (let k = 0; k < K; k++) for (let i = 0; i < n; i++) { const e = Math.hypot(X[i] - X[pivots[k]], Y[i] - Y[pivots[k]]); up += D[k][i] * e; low += e * e; }
   for (let i = 0; i < n; i++) { X[i] = X[i] * up / low + .05 * Math.sin(i * 7 + 1); Y[i] = Y[i] * up / low + .05 * Math.cos(i * 5 + 2); }
-  // two links away counts too, where that's few
-  const next = near.map((list, i) => list.length > 6 ? [] : [...new Set(list.flatMap(j => near[j].length > 6 ? [] : near[j]))].filter(j => j !== i && !list.includes(j)));
-  // what each node is held to, in one row: other node, distance, weight
-  const ties = near.map((list, i) => [...list.map(j => [j, 1, 1]), ...next[i].map(j => [j, 2, .25]), ...pivots.map((p, k) => [p, D[k][i], weight[k] * .5 / (D[k][i] * D[k][i])]).filter(t => t[1] > 2)]);
-  const ends = ties.map(t => Int32Array.from(t, x => x[0])), far1 = ties.map(t => Float64Array.from(t, x => x[1])), pulls = ties.map(t => Float64Array.from(t, x => x[2]));
+  // what each node is held to, in one row: other node, distance, weight; two links away counts too, where that's few
+  const first = new Int32Array(n + 1), seen = new Int32Array(n).fill(-1), end = [], d = [], w = [], tie = (j, far, pull) => { end.push(j); d.push(far); w.push(pull); };
+  for (let i = 0; i < n; i++) {
+    first[i] = end.length;
+    seen[i] = i;
+    for (const j of near[i]) { seen[j] = i; tie(j, 1, 1); }
+    if (near[i].length <= 6) for (const j of near[i]) if (near[j].length <= 6) for (const h of near[j]) if (seen[h] !== i) { seen[h] = i; tie(h, 2, .25); }
+    for (let k = 0; k < K; k++) if (D[k][i] > 2) tie(pivots[k], D[k][i], weight[k] * .5 / (D[k][i] * D[k][i]));
+  }
+  first[n] = end.length;
   for (let t = 0; t < 60; t++) for (let i = 0; i < n; i++) {
     let x = 0, y = 0, s = 0;
-    const xi = X[i], yi = Y[i], end = ends[i], d = far1[i], w = pulls[i];
-    for (let k = 0; k < end.length; k++) {
+    const xi = X[i], yi = Y[i];
+    for (let k = first[i]; k < first[i + 1]; k++) {
       const xj = X[end[k]], yj = Y[end[k]], dx = xi - xj, dy = yi - yj, e = d[k] / (Math.sqrt(dx * dx + dy * dy) || 1e-9);
       x += w[k] * (xj + dx * e); y += w[k] * (yj + dy * e); s += w[k];
     }
@@ -500,23 +539,26 @@ function flat(P) {
 }
 // pushes apart what is nearer than `least`; a grid of cells says who may be
 function apart(P, least) {
-  const N = P.length - 1, cell = x => Math.floor(x / least);
-  for (let t = 0; t < 40; t++) {
-    const cells = new Map(), key = (x, y) => x * 100003 + y;
-    let moved = false;
-    for (let v = 1; v <= N; v++) { const k = key(cell(P[v][0]), cell(P[v][1])); cells.has(k) ? cells.get(k).push(v) : cells.set(k, [v]); }
+  const N = P.length - 1, X = Float64Array.from(P, p => p ? p[0] : 0), Y = Float64Array.from(P, p => p ? p[1] : 0), next = new Int32Array(N + 1), cell = x => Math.floor(x / least);
+  for (let t = 0, moved = true; t < 40 && moved; t++) {
+    moved = false;
+    const x0 = cell(X.subarray(1).reduce((a, x) => Math.min(a, x))) - 1, y0 = cell(Y.subarray(1).reduce((a, y) => Math.min(a, y))) - 1;
+    const wide = cell(X.subarray(1).reduce((a, x) => Math.max(a, x))) - x0 + 2, high = cell(Y.subarray(1).reduce((a, y) => Math.max(a, y))) - y0 + 2, cells = new Int32Array(wide * high);
+    const inside = (x, most) => Math.max(1, Math.min(most - 2, x));
+    for (let v = N; v >= 1; v--) { const c = cell(X[v]) - x0 + wide * (cell(Y[v]) - y0); next[v] = cells[c]; cells[c] = v; }
     for (let a = 1; a <= N; a++) {
-      const cx = cell(P[a][0]), cy = cell(P[a][1]);
-      for (let i = -1; i < 2; i++) for (let j = -1; j < 2; j++) for (const b of cells.get(key(cx + i, cy + j)) || []) {
-        const dx = P[b][0] - P[a][0], dy = P[b][1] - P[a][1], d = Math.hypot(dx, dy);
-        if (b <= a || d >= least) continue;
+      const c = inside(cell(X[a]) - x0, wide) + wide * inside(cell(Y[a]) - y0, high);
+      for (let i = -1; i < 2; i++) for (let j = -1; j < 2; j++) for (let b = cells[c + i + wide * j]; b; b = next[b]) {
+        if (b <= a) continue;
+        const dx = X[b] - X[a], dy = Y[b] - Y[a], d = Math.hypot(dx, dy);
+        if (d >= least) continue;
         const f = (least - d) / 2 / (d || 1), ux = d ? dx * f : least / 2, uy = dy * f;
-        P[a] = [P[a][0] - ux, P[a][1] - uy]; P[b] = [P[b][0] + ux, P[b][1] + uy];
+        X[a] -= ux; Y[a] -= uy; X[b] += ux; Y[b] += uy;
         moved = true;
       }
     }
-    if (!moved) break;
   }
+  for (let v = 1; v <= N; v++) P[v] = [X[v], Y[v]];
 }
 let unit = null, circle = false, base = null, pos = [], radius = 12, big = true, weights = null, roomy = false, shaped = 1;
 function piecesOf() {
@@ -566,7 +608,7 @@ function layout() {
 const el = (name, attrs, parent) => { const e = document.createElementNS('http://www.w3.org/2000/svg', name); for (const a in attrs) e.setAttribute(a, attrs[a]); if (parent) parent.append(e); return e; };
 const put = (e, name, value) => { if (e.getAttribute(name) !== value) e.setAttribute(name, value); };
 const f1 = x => x.map(y => y.toFixed(1)).join(' ');
-let zoom = { k: 1, x: 0, y: 0 }, drawn = [], bend = [], grid = null;
+let zoom = { k: 1, x: 0, y: 0 }, drawn = [], bend = [], grid = null, tagged = null;
 const mix = (p, q, t) => [p[0] + (q[0] - p[0]) * t, p[1] + (q[1] - p[1]) * t];
 const ctrl = i => {
   const l = links[i], p = pos[l.a], q = pos[l.b], d = Math.hypot(q[0] - p[0], q[1] - p[1]) || 1, m = mix(p, q, .5), b = bend[i] * Math.min(d * .35, radius * 2.6);
@@ -583,16 +625,16 @@ function build() {
     el('title', {}, g).textContent = 'link ' + l.link + ': port ' + l.a_port + ' of node ' + l.a + ', port ' + l.b_port + ' of node ' + l.b;
     return { i, g, a: el('path', {}, g), b: el('path', {}, g) };
   });
+  const first = el('g', { class: 'node', role: 'button', tabindex: -1 }), halo = el('circle', { class: 'halo' });
+  for (const [name, cls] of [['rect', 'stop'], ['circle', 'ring'], ['circle', 'body'], ['text', ''], ['text', 'lev']]) el(name, cls ? { class: cls } : { 'font-weight': 'bold' }, first);
   for (let v = 1; v <= G.nodes; v++) {
-    const n = nodes[v], g = n.g = el('g', { class: 'node', 'data-v': v, role: 'button', tabindex: -1 }, $('nodes'));
-    n.halo = el('circle', { class: 'halo' }, $('halos'));
-    n.stop = el('rect', { class: 'stop' }, g);
-    n.ring = el('circle', { class: 'ring' }, g);
-    n.body = el('circle', { class: 'body' }, g);
-    n.text = el('text', { 'font-weight': 'bold' }, g);
-    n.text.textContent = v;
-    n.lev = el('text', { class: 'lev' }, g);
+    const n = nodes[v], g = n.g = first.cloneNode(true);
+    [n.stop, n.ring, n.body, n.text, n.lev] = g.children;
+    g.dataset.v = n.text.textContent = v;
+    $('nodes').append(g);
+    $('halos').append(n.halo = halo.cloneNode());
   }
+  tagged = null;
 }
 const crossAt = (i, v) => { const [x, y] = curveAt(i, v === links[i].a ? .4 : .6), r = Math.max(radius < 8 ? 1.5 : 3, radius * .3); return 'M' + f1([x - r, y - r]) + 'l' + f1([2 * r, 2 * r]) + 'm0 ' + (-2 * r).toFixed(1) + 'l' + f1([-2 * r, 2 * r]); };
 const EXTRA = { halo: ['halo', 'halos', d => d.whole], core: ['core', 'cores', d => d.whole], xa: ['cross', 'links', d => crossAt(d.i, links[d.i].a)], xb: ['cross', 'links', d => crossAt(d.i, links[d.i].b)] };
@@ -624,7 +666,7 @@ function shape() {
   }
   for (let v = 1; v <= N; v++) shapeNode(v, r);
   placeWeights();
-  for (const q of queues.values()) q.sig = null;
+  for (const q of queues.values()) { q.sig = null; changed.add(q); }
 }
 const set = (e, attrs) => { for (const a in attrs) put(e, a, String(attrs[a])); };
 function shapeNode(v, r) {
@@ -634,8 +676,8 @@ function shapeNode(v, r) {
   set(n.halo, { r: r + Math.min(8, r * .45 + 1), cx: x.toFixed(1), cy: y.toFixed(1) });
   set(n.body, { r });
   set(n.ring, { r: r + (r < LEGIBLE ? 1.5 : 4) });
-  set(n.stop, { x: -r - 4, y: -r - 4, width: 2 * r + 8, height: 2 * r + 8 });
   if (r < LEGIBLE) return;
+  set(n.stop, { x: -r - 4, y: -r - 4, width: 2 * r + 8, height: 2 * r + 8 });
   set(n.text, { 'font-size': Math.min(18, r * (v > 999 ? .68 : v > 99 ? .8 : 1)) });
   // the level stands in the corner that lies freest of links, where the upper right one isn't free
   const away = n.ports.map(({ link: i }) => { const [a, b] = curveAt(i, links[i].a === v ? .2 : .8); return Math.atan2(b - y, a - x); });
@@ -696,32 +738,33 @@ function pills(i, to, port, list) {
   return html;
 }
 const short = m => big ? (m.kind === 'changeroot' ? 'Root' : m.kind === 'initiate' ? 'Init' : NAMES[m.kind]) + (m.level !== undefined ? ' ' + m.level : m.kind === 'report' ? (m.key ? ' ' + m.key.split(':')[0] : ' inf') : '') : LETTER[m.kind];
-const bandOf = f => f.name ? 'b' + (look.get(f.name) ?? 0) : 'bx';
+const bandOf = f => f.band ??= f.name ? 'b' + (look.get(f.name) ?? 0) : 'bx';
 const stateOf = v => { const n = nodes[v]; return 'node ' + v + ': level ' + n.level + ', name ' + (n.name ?? '-') + ', ' + cap(n.phase) + (n.halted ? ', halted' : '') + (pin === v ? ', pinned' : ''); };
 function drawNet(c) {
   if (shaped !== zoom.k) shape();
-  const s = stepNow(), frag = v => c.all.get(c.top(v)), names = new Map([...c.all.values()].filter(f => f.name).map(f => [f.name, f]));
+  const s = stepNow(), frag = v => c.of[v], names = new Map([...c.all.values()].filter(f => f.name).map(f => [f.name, f]));
   const size = big ? 15 : Math.max(8, Math.min(13, radius * .85)), focus = pin || (s ? s.node : 1);
   let html = '';
   links.forEach((l, i) => {
-    const d = drawn[i], j = joined(l), f = frag(l.a), a = nodes[l.a].marks[l.a_port], b = nodes[l.b].marks[l.b_port], core = j && f.name === l.link, sig = a + b + core + (j ? bandOf(f) : '');
-    if (d.sig !== sig) {
-      d.sig = sig;
+    const d = drawn[i], j = joined(l), f = frag(l.a), isCore = j && f.name === l.link, band = j ? bandOf(f) : '';
+    // what looks as before isn't touched
+    if (!d.sig || d.halves !== l.halves || d.isCore !== isCore || d.band !== band) {
+      const a = nodes[l.a].marks[l.a_port], b = nodes[l.b].marks[l.b_port];
+      d.sig = 1; d.halves = l.halves; d.isCore = isCore; d.band = band;
       put(d.a, 'class', 'half ' + a);
       put(d.b, 'class', 'half ' + b);
       extra(d, 'halo', j, 'halo ' + bandOf(f));
-      extra(d, 'core', core);
+      extra(d, 'core', isCore);
       extra(d, 'xa', a === 'rejected');
       extra(d, 'xb', b === 'rejected');
     }
     if (j && names.get(l.link) && radius >= LEGIBLE) html += coreTag(l, i, s, names.get(l.link), size);
   });
-  $('tags').innerHTML = html;
+  if (tagged !== html) $('tags').innerHTML = tagged = html;
   for (let v = 1; v <= G.nodes; v++) {
-    const n = nodes[v], f = frag(v), mine = (s && s.node === v ? 1 : 0) + (pin === v ? 2 : 0) + (v === focus ? 4 : 0) + (n.halted ? 8 : 0) + (f.nodes > 1 ? 16 : 0), sig = n.phase + n.level + '/' + n.name + '/' + f.name + '/' + mine;
-    // what looks as before isn't touched
-    if (n.sig === sig) continue;
-    n.sig = sig;
+    const n = nodes[v], f = frag(v), mine = (s && s.node === v ? 1 : 0) + (pin === v ? 2 : 0) + (v === focus ? 4 : 0) + (n.halted ? 8 : 0) + (f.nodes > 1 ? 16 : 0), o = n.sig;
+    if (o && o.phase === n.phase && o.level === n.level && o.name === n.name && o.of === f.name && o.mine === mine) continue;
+    n.sig = { phase: n.phase, level: n.level, name: n.name, of: f.name, mine };
     put(n.g, 'class', 'node ' + n.phase + (n.name ? ' named s' + (look.get(n.name) ?? 0) : '') + (n.halted ? ' halted' : '') + (s && s.node === v ? ' at' : '') + (pin === v ? ' pinned' : ''));
     put(n.g, 'aria-label', stateOf(v));
     put(n.g, 'tabindex', v === focus ? '0' : '-1');
@@ -752,8 +795,12 @@ function coreTag(l, i, s, f, size) {
 }
 // a queue is drawn anew only where it looks different
 function drawMessages(s, u) {
-  const asked = asking ? steps[at] : null;
-  for (const q of queues.values()) {
+  const asked = asking ? steps[at] : null, now = new Set();
+  // those of this event look otherwise at the next one
+  for (const e of [s, asked]) if (e && e.port !== null) now.add(queueAt(e.node, e.port));
+  if (u) for (const m of u.sent) now.add(queueAt(m.to, m.at));
+  for (const q of now) changed.add(q);
+  for (const q of changed) {
     const taken = !asking && s && s.node === q.v && s.port === q.p && s.fate === 'done' ? [[s, 'taken']] : [];
     const all = taken.concat(q.list.map((m, k) => [m, asked && asked.node === q.v && asked.port === q.p && !k ? 'asked' : u && u.sent.includes(m) ? 'fresh' : u && s.fate === 'waits' && u.taken === m ? 'again back' : m.backs ? 'back' : '']));
     const sig = all.map(([m, c]) => (m.born ?? m.step) + c).join(' ');
@@ -762,18 +809,19 @@ function drawMessages(s, u) {
     if (!q.g) { if (!sig) continue; q.g = el('g', {}, $('msgs')); }
     q.g.innerHTML = all.length ? pills(nodes[q.v].ports[q.p].link, q.v, q.p, all) : '';
   }
+  changed = now;
 }
-function moveView() { $('view').setAttribute('transform', 'translate(' + f1([zoom.x, zoom.y]) + ')' + (zoom.k === shaped ? '' : ' scale(' + zoom.k / shaped + ')')); }
+function moveView() { put($('view'), 'transform', 'translate(' + f1([zoom.x, zoom.y]) + ')' + (zoom.k === shaped ? '' : ' scale(' + zoom.k / shaped + ')')); }
 
 // ---- space and time: a lane a node, an arrow a message; what could have acted on the event at hand is filled
 function pastOf(k) {
   const seen = new Set(), todo = [k];
-  while (todo.length) { const i = todo.pop(); for (const b of before[i] || []) if (b && !seen.has(b)) { seen.add(b); todo.push(b); } }
+  while (todo.length) { const i = todo.pop(); for (const b of [before[2 * i], before[2 * i + 1]]) if (b && !seen.has(b)) { seen.add(b); todo.push(b); } }
   return seen;
 }
 function futureOf(k) {
   const seen = new Set([k]);
-  for (let i = k + 1; i <= G.to; i++) if ((before[i] || []).some(b => b && seen.has(b))) seen.add(i);
+  for (let i = k + 1; i <= G.to; i++) if (seen.has(before[2 * i]) || seen.has(before[2 * i + 1])) seen.add(i);
   seen.delete(k);
   return seen;
 }
@@ -855,6 +903,8 @@ function choose(e) {
   if (d.part === 'show') one(1);
   else if (d.part) { guess[d.part] = d.value; show(); }
 }
+// a table that is as it was is left alone
+const tables = {}, table = (id, html) => { if (tables[id] !== html) $(id).innerHTML = tables[id] = html; };
 let pin = 0;
 const pinned = () => pin;
 function panel(c) {
@@ -889,20 +939,20 @@ function panel(c) {
   });
   h += '</table>';
   n.ports.forEach((_, j) => { for (const m of queue(v, j)) if (m.backs) h += '<p class="waiter">' + storyOf(m) + '</p>'; });
-  $('vars').innerHTML = h;
-  const total = ledger.sent.reduce((a, b) => a + b), max = G.bound, back = [...queues.values()].reduce((x, q) => x + q.list.filter(m => m.backs).length, 0);
+  table('vars', h);
+  const total = ledger.sent.reduce((a, b) => a + b), max = G.bound;
   h = '<div class="bar" role="img" aria-label="' + total + ' of ' + max + '"><i style="width:' + (max ? 100 * total / max : 0) + '%"></i></div><p>first sends <b>' + total + '</b>, bound ' + max + '</p><table class="wide"><tr><th></th>' + KINDS.map(k => '<th class="n" title="' + NAMES[k] + '"><span class="pill">' + LETTER[k] + '</span></th>').join('') + '</tr>';
   for (const x of ['sent', 'consumed']) h += '<tr><th>' + x + '</th>' + ledger[x].map(y => td(y, 'n')).join('') + '</tr>';
-  $('ledger').innerHTML = h + '</table><p>in queues <b>' + ledger.queued + '</b>, of these put back <b>' + back + '</b>; requeued <b>' + ledger.requeued + '</b></p><p id="chain" title="A message goes out with one more than its sender\'s number; who consumes it, or is woken by it, takes the greater of the two.">longest chain of messages <b>' + curve[at][2] + '</b> (in the whole run ' + curve[curve.length - 1][2] + ')</p>';
+  table('ledger', h + '</table><p>in queues <b>' + ledger.queued + '</b>, of these put back <b>' + ledger.back + '</b>; requeued <b>' + ledger.requeued + '</b></p><p id="chain" title="A message goes out with one more than its sender\'s number; who consumes it, or is woken by it, takes the greater of the two.">longest chain of messages <b>' + figures(at)[2] + '</b> (in the whole run ' + figures(G.to)[2] + ')</p>');
   const fr = [...c.all.values()].sort((a, b) => b.nodes - a.nodes || a.least - b.least), many = fr.filter(f => f.nodes > 1);
   const tree = links.filter(branchy), halts = nodes.filter(x => x && x.halted).map(x => x.v);
     h = '<p><b>' + fr.length + '</b> of ' + G.nodes + ' at the start; Branch links ' + tree.length + ', weight ' + tree.reduce((a, l) => a + l.weight, 0) + (halts.length ? '; <b>halted: ' + halts.slice(0, 9).join(', ') + '</b>' : '') + '</p>';
   h += '<table><tr><th class="n">level</th><th class="n">nodes</th><th class="n">least</th><th>name (core)</th></tr>' + many.slice(0, 12).map(f => '<tr>' + td(f.level, 'n') + td(f.nodes, 'n') + td(f.least, 'n') + td('<svg class="sw s' + (look.get(f.name) ?? 'x') + '"><rect width="100%" height="100%"' + (f.name ? '' : ' fill="none"') + '/></svg>' + (f.name ?? '-')) + '</tr>').join('') + '</table>';
   h += '<p>' + (many.length > 12 ? (many.length - 12) + ' more, ' : '') + (fr.length - many.length) + ' single nodes</p>';
-  $('census').innerHTML = h;
+  table('census', h);
 }
 function strip() {
-  const box = $('strip').getBoundingClientRect(), W = box.width || 800, H = box.height || 84, n = curve.length, x = i => 8 + (W - 16) * (n > 1 ? i / (n - 1) : 0), N = G.nodes, B = Math.max(G.bound, 1), half = H * .5;
+  const box = $('strip').getBoundingClientRect(), W = box.width || 800, H = box.height || 84, n = curve.length / 3, x = i => 8 + (W - 16) * (n > 1 ? i / (n - 1) : 0), N = G.nodes, B = Math.max(G.bound, 1), half = H * .5;
   // one point a half pixel is enough
   const path = (f, top, high) => {
     let d = '', last = '';
@@ -910,7 +960,7 @@ function strip() {
     for (let k = 0; k < n; k += stepBy) { const i = Math.min(n - 1, Math.floor(k)); d += (d ? 'H' + x(i).toFixed(1) + (y(i) !== last ? 'V' + y(i) : '') : 'M' + x(i) + ' ' + y(i)); last = y(i); }
     return d + 'H' + x(n - 1).toFixed(1) + 'V' + y(n - 1);
   };
-  let h = '<path class="plot" d="' + path(i => N > 1 ? (curve[i][0] - 1) / (N - 1) : 0, 4, half - 8) + '"/><path class="plot b" d="' + path(i => curve[i][1] / B, half + 2, half - 10) + '"/><line class="lane" x1="8" x2="' + (W - 8) + '" y1="' + (half + 2) + '" y2="' + (half + 2) + '"/>';
+  let h = '<path class="plot" d="' + path(i => N > 1 ? (curve[3 * i] - 1) / (N - 1) : 0, 4, half - 8) + '"/><path class="plot b" d="' + path(i => curve[3 * i + 1] / B, half + 2, half - 10) + '"/><line class="lane" x1="8" x2="' + (W - 8) + '" y1="' + (half + 2) + '" y2="' + (half + 2) + '"/>';
   h += '<text id="cap1" font-size="14" x="' + (W - 12) + '" y="18" text-anchor="end"></text><text id="cap2" font-size="14" x="14" y="' + (half + 16) + '"></text><g id="ticks"></g><line id="cursor" class="nowline" y1="0" y2="' + H + '" style="stroke-width:2.5;stroke-dasharray:none"/>';
   $('strip').innerHTML = h;
   $('strip').setAttribute('viewBox', '0 0 ' + W + ' ' + H);
@@ -921,13 +971,13 @@ function strip() {
 function cursor() {
   const x = strip.x(at);
   $('cursor').setAttribute('x1', x); $('cursor').setAttribute('x2', x);
-  const [f, sent] = curve[at], end = curve[curve.length - 1];
-  $('cap1').textContent = 'fragments ' + f + ' (from ' + curve[0][0] + ' to ' + end[0] + ')';
+  const [f, sent] = figures(at), end = figures(G.to);
+  $('cap1').textContent = 'fragments ' + f + ' (from ' + curve[0] + ' to ' + end[0] + ')';
   $('cap2').textContent = 'first sends ' + sent + ' (to ' + end[1] + '; bound, the line above: ' + G.bound + ')';
   const v = pin || (stepNow() ? stepNow().node : 0);
   if (strip.ticksOf !== v) {
     strip.ticksOf = v;
-    $('ticks').innerHTML = '<path class="tickline" d="' + steps.filter(s => s.node === v && !idle(s)).map(s => 'M' + strip.x(s.step).toFixed(1) + ' ' + strip.low + 'v5').join('') + '"/>';
+    $('ticks').innerHTML = '<path class="tickline" d="' + (doings[v] || []).map(i => 'M' + strip.x(i).toFixed(1) + ' ' + strip.low + 'v5').join('') + '"/>';
   }
   $('seek').value = at;
   $('seek').setAttribute('aria-valuetext', 'event ' + at + ' of ' + G.events);
@@ -1009,7 +1059,7 @@ const GOALS = [['node', 'events of the node'], ['frag', 'fragments merging'], ['
 function fits(s, goal) {
   switch (goal) {
     case 'node': return s.node === (pin || (stepNow() ? stepNow().node : 1)) && !($('skip').checked && idle(s));
-    case 'frag': return curve[s.step][0] < curve[s.step - 1][0];
+    case 'frag': return curve[3 * s.step] < curve[3 * s.step - 3];
     case 'level': return 'level' in s.set;
     case 'waits': return s.fate === 'waits';
     case 'wake': return s.set.phase !== undefined && undo[s.step - 1].set.phase === 'sleeping';
@@ -1143,7 +1193,7 @@ function start() {
   $('msgs').onpointerover = $('msgs').onpointerdown = $('nodes').onpointerover = tip;
   $('msgs').onpointerout = $('nodes').onpointerout = e => { if (e.pointerType === 'mouse') $('hint').hidden = true; };
   $('lanes').onclick = e => { if (e.target.dataset.k) move(+e.target.dataset.k); };
-  const seekTo = e => { const b = $('strip').getBoundingClientRect(); move(Math.round((e.clientX - b.left - 8) / (b.width - 16) * (curve.length - 1))); };
+  const seekTo = e => { const b = $('strip').getBoundingClientRect(); move(Math.round((e.clientX - b.left - 8) / (b.width - 16) * G.to)); };
   $('strip').onpointerdown = e => { $('strip').setPointerCapture(e.pointerId); seekTo(e); };
   $('strip').onpointermove = e => { if (e.buttons) seekTo(e); };
   $('net').onwheel = e => { e.preventDefault(); const b = $('stage').getBoundingClientRect(); scale(Math.exp(-e.deltaY / 400), e.clientX - b.left, e.clientY - b.top); };
