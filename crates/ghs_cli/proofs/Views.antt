@@ -3,14 +3,23 @@ use Rattle.std.proofs.Common.{◌≡◌, ℕ, Bool, false, List, Option, Some, N
 use Rattle.std.specs.Prelude.{IfErr, IfOk, IfSome, Result, Ok, Err}
 use Rattle.ghs_gr.specs.Judgement.{TextIs}
 use Rattle.ghs_gr.specs.RawGraph.{RawShape}
+use Rattle.ghs_graph.specs.Graph.{Shape}
 use Rattle.ghs_protocol.specs.declared.event.Event.{Event}
 use Rattle.ghs_cli.specs.declared.fault.ServeFault.{ServeFault}
+use Rattle.ghs_cli.specs.declared.fault.ServeFault.TheVariants as serve
 use Rattle.ghs_words.specs.declared.job.StoredViewOptions.{StoredViewOptions}
 use Rattle.ghs_words.specs.declared.job.Task.{Task}
 use Rattle.ghs_words.specs.declared.job.Task.TheVariants as task
 use Rattle.ghs_words.specs.declared.job.ViewOptions.{ViewOptions}
 use Rattle.ghs_cli.specs.Serving.{IfStored, IsCause, IsOutput, IsStoredViewCause, IsStoredViewOutput, IsTraceText, IsViewCause, IsViewOutput, shape_of}
-use Rattle.ghs_cli.specs.Viewing.{HasNoStoredView, HasNoView, IsStoredView, IsView}
+use Rattle.ghs_cli.specs.Viewing.{HasNoPairView, HasNoStoredView, HasNoView, IsStoredView, IsView}
+
+-- want of memory is why there is no page of two runs
+pub no_pair_for_memory : {A : Type 0} (r : Result A ServeFault) (fault : ServeFault) (o : ViewOptions) (beside : ℕ) (g : Shape) →
+    r ≡ Err fault →
+    fault ≡ serve.Memory →
+    IfErr r (HasNoPairView o beside g)
+no_pair_for_memory r fault o beside g is memory = rw (is, memory) tt
 
 -- the page of a graph's run is that of the input that is its text
 pub view_output : {A : Type 0} (r : Result A ServeFault) (text : A → List ℕ) (o : ViewOptions) (raw : RawShape) (input : Option (List ℕ)) →

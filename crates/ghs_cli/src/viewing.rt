@@ -50,13 +50,29 @@ fn viewed(alloc: Global, options: &ViewOptions, raw: RawGraph) -> Result<Vec<u8>
     let Ok(graph) = Graph::build(alloc, raw) else {
         return Err(ServeFault::Memory);
     };
+    one_or_two(alloc, options, graph)
+}
+
+/// The page of one run of a graph, or of two.
+fn one_or_two(alloc: Global, options: &ViewOptions, graph: Graph) -> Result<Vec<u8>, ServeFault>
+    requires { AreViewLimits options.now }
+    ensures text { IfOk result (λ text. IsView options.now graph text.items) }
+    ensures fault { IfErr result (λ fault. HasNoView options.now graph fault) }
+{
     match options.beside {
-        None => {
-            let world = world_of(alloc, options, options.seed, graph)?;
-            page_of(alloc, options, &world)
-        }
+        None => seed_viewed(alloc, options, graph),
         Some(beside) => pair_viewed(alloc, options, beside, graph),
     }
+}
+
+/// The page of the run that a seed picks of a graph.
+fn seed_viewed(alloc: Global, options: &ViewOptions, graph: Graph) -> Result<Vec<u8>, ServeFault>
+    requires { AreViewLimits options.now }
+    ensures text { IfOk result (λ text. IsSeedView options.now graph text.items) }
+    ensures fault { IfErr result (λ fault. HasNoSeedView options.now graph fault) }
+{
+    let world = world_of(alloc, options, options.seed, graph)?;
+    page_of(alloc, options, &world)
 }
 
 /// The world that a seed's run of a graph leaves, at its end or at its last turn.
