@@ -18,11 +18,13 @@ abbrev pub weights_words : Option Weights → List ℕ
 weights_words None = []
 weights_words (Some w) = codes " --weights " ++ weights_name w
 
+-- `KIND NODES --seed SEED`
+abbrev pub kind_words : Plan → List ℕ
+kind_words p = kind_name p.kind ++ codes " " ++ decimal p.nodes ++ codes " --seed " ++ decimal p.seed
+
 -- the words of the command that makes the network
 abbrev pub command_words : Network → List ℕ
-command_words n =
-    kind_name n.plan.kind ++ codes " " ++ decimal n.plan.nodes ++ codes " --seed " ++ decimal n.plan.seed
-    ++ links_words n.plan ++ weights_words n.weights
+command_words n = kind_words n.plan ++ links_words n.plan ++ weights_words n.weights
 
 -- `c ghs make KIND NODES --seed SEED ..`
 abbrev pub comment_line : Network → List ℕ

@@ -1,7 +1,7 @@
 //! Slow and busy networks: a path with blocks of nodes at its ends.
 ghost use Rattle.ghs_make.specs.Ends.{across as across_of, block_end as block_end_of, busy_ends, chain_end as chain_end_of, crosses as crosses_of, front as front_of, last_block as last_block_of, place as place_of};
 ghost use Rattle.ghs_make.specs.Plan.{IsPlan};
-ghost use Rattle.std.specs.Prelude.{IfOk, ◌++◌, ◌+◌, ◌<◌, ◌≡◌, ◌≤◌};
+ghost use Rattle.std.specs.Prelude.{IfOk, ◌++◌, ◌+◌, ◌<◌, ◌^◌, ◌≡◌, ◌≤◌};
 
 use crate::ends::put_if;
 use crate::kind::Kind;
@@ -74,11 +74,18 @@ pub fn front(plan: &Plan) -> u32
     ensures some { 2 ≤ result }
     ensures few { result ≤ plan.now.nodes + 1 }
 {
-    let blocks = match plan.kind {
-        Kind::Slow => plan.levels.saturating_sub(1),
-        _ => plan.levels,
-    };
-    plan.nodes + 2 - (1 << blocks)
+    match plan.kind {
+        Kind::Slow => plan.nodes + 2 - power(plan.levels.saturating_sub(1)),
+        _ => plan.nodes + 2 - power(plan.levels),
+    }
+}
+
+/// 2 to this power.
+fn power(exponent: u8) -> u32
+    requires { exponent < 32 }
+    ensures { result ≡ 2 ^ exponent }
+{
+    1 << exponent
 }
 
 /// A node's place behind the path.
@@ -97,5 +104,5 @@ fn last_block(plan: &Plan) -> u32
     ensures some { 1 ≤ result }
     ensures few { result ≤ plan.now.nodes }
 {
-    1 << plan.levels.saturating_sub(1)
+    power(plan.levels.saturating_sub(1))
 }

@@ -11,6 +11,7 @@ use crate::rows::{put_grid_ends, put_road_ends};
 use std::alloc::AllocError;
 
 /// Appends the smaller ends of the links at this node that lead to nodes with smaller numbers.
+#[tactic(auto, unfolding(crate::specs::Ends::smaller_ends))]
 pub fn put_smaller_ends(plan: &Plan, node: u32, ends: &mut Vec<u32>) -> Result<(), AllocError>
     requires plan { IsPlan plan.now }
     requires low { 2 ≤ node }

@@ -3,7 +3,7 @@ ghost use Rattle.ghs_make.specs.Ends.{links_among as links_among_of, part_start 
 ghost use Rattle.ghs_make.specs.Picks.{HasParts};
 ghost use Rattle.ghs_make.specs.Plan.{IsPlan};
 ghost use Rattle.ghs_gr.specs.declared.raw_graph.TheConstants.{NODE_LIMIT};
-ghost use Rattle.std.specs.Prelude.{IfOk, ◌++◌, ◌+◌, ◌<◌, ◌≡◌, ◌≤◌};
+ghost use Rattle.std.specs.Prelude.{IfOk, ◌++◌, ◌+◌, ◌<◌, ◌^◌, ◌≡◌, ◌≤◌};
 
 use crate::kind::Kind;
 use crate::plan::Plan;
@@ -43,7 +43,7 @@ struct Parting {
 
 /// The node that the seed picks of a part.
 fn pick(parting: &Parting, part: u64) -> u32
-    requires parts { HasParts parting.now part }
+    requires { HasParts parting.now part }
     ensures { result ≡ pick_of parting.now.seed parting.now.first parting.now.nodes parting.now.parts part }
 {
     let start = part_start(parting, part);
@@ -62,11 +62,13 @@ fn part_start(parting: &Parting, part: u64) -> u64
 }
 
 /// How many links the first so many nodes have.
+#[tactic(auto, unfolding(crate::specs::Ends::links_among))]
 fn links_among(plan: &Plan, node: u32) -> u64
     requires plan { IsPlan plan.now }
     requires low { 1 ≤ node }
     requires high { node ≤ plan.now.nodes }
-    ensures { result ≡ links_among_of plan.now node }
+    ensures links { result ≡ links_among_of plan.now node }
+    ensures few { result ≤ 2 ^ 63 }
 {
     let before = u64::from(node - 1);
     let links = u64::from(plan.links);

@@ -1,7 +1,7 @@
 //! The lines of a network's text.
 ghost use Rattle.ghs_make.specs.Network.{links_at};
 ghost use Rattle.ghs_make.specs.Plan.{IsPlan};
-ghost use Rattle.ghs_make.specs.Text.{arc_line, comment_line, head_of, links_words, problem_line, weights_words};
+ghost use Rattle.ghs_make.specs.Text.{arc_line, command_words, comment_line, head_of, kind_words, links_words, problem_line, weights_words};
 ghost use Rattle.std.specs.List.{flat_map};
 ghost use Rattle.std.specs.Prelude.{IfOk, length, ◌++◌, ◌+◌, ◌<◌, ◌^◌, ◌≡◌, ◌≤◌};
 
@@ -26,15 +26,27 @@ fn put_comment(network: &Network, text: &mut Vec<u8>) -> Result<(), AllocError>
     ensures { IfOk result (λ _. text.new.items ≡ text.old.items ++ comment_line network.now) }
 {
     text.extend_from_slice(b"c ghs make ")?;
-    text.extend_from_slice(network.plan.kind.name().as_bytes())?;
-    text.extend_from_slice(b" ")?;
-    put_number(text, u128::from(network.plan.nodes))?;
-    text.extend_from_slice(b" --seed ")?;
-    put_number(text, u128::from(network.plan.seed))?;
-    put_links_words(&network.plan, text)?;
-    put_weights_words(network.weights, text)?;
+    put_command(network, text)?;
     text.extend_from_slice(b"\n")?;
     Ok(())
+}
+
+fn put_command(network: &Network, text: &mut Vec<u8>) -> Result<(), AllocError>
+    ensures { IfOk result (λ _. text.new.items ≡ text.old.items ++ command_words network.now) }
+{
+    put_kind_words(&network.plan, text)?;
+    put_links_words(&network.plan, text)?;
+    put_weights_words(network.weights, text)
+}
+
+fn put_kind_words(plan: &Plan, text: &mut Vec<u8>) -> Result<(), AllocError>
+    ensures { IfOk result (λ _. text.new.items ≡ text.old.items ++ kind_words plan.now) }
+{
+    text.extend_from_slice(plan.kind.name().as_bytes())?;
+    text.extend_from_slice(b" ")?;
+    put_number(text, u128::from(plan.nodes))?;
+    text.extend_from_slice(b" --seed ")?;
+    put_number(text, u128::from(plan.seed))
 }
 
 fn put_links_words(plan: &Plan, text: &mut Vec<u8>) -> Result<(), AllocError>
@@ -82,10 +94,10 @@ pub fn put_links(
     requires numbers { number + length ends.now < 2 ^ 32 }
     ensures { IfOk result (λ _. text.new.items ≡ text.old.items ++ flat_map arc_line (links_at network.now number node ends.now)) }
 {
-    let mut number = number;
+    let mut next = number;
     for end in ends {
-        put_arc(*end, node, weight_of(network, number, *end, node), text)?;
-        number += 1;
+        put_arc(*end, node, weight_of(network, next, *end, node), text)?;
+        next += 1;
     }
     Ok(())
 }

@@ -26,6 +26,7 @@ pub fn word(seed: u64, stream: u64, number: u64) -> u64
 }
 
 /// The word of this number from a state of SplitMix64 on, counted from 0.
+#[tactic(auto, unfolding(crate::specs::Word::word_at))]
 fn word_at(state: u64, number: u64) -> u64
     ensures { result ≡ word_at_lem state number }
 {
