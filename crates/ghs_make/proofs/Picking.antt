@@ -18,7 +18,7 @@ div_step a b d k some le =
     let less : (a + b) / d < suc (a / d + k) = div_below (a + b) d (suc (a / d + k)) some below in
     omega (arith, less)
 
-div_mono : (a b d : ℕ) → 0 < d → a ≤ b → a / d ≤ b / d
+pub div_mono : (a b d : ℕ) → 0 < d → a ≤ b → a / d ≤ b / d
 div_mono a b d some le =
     le-div (a / d) b d some (let low : a / d * d ≤ a = div-mul-le_self a d in omega (arith, low, le))
 
