@@ -27,13 +27,13 @@ pub apart_append : {X : Type 0} (R : X → X → Type 0) (xs ys : List X) → Ap
 apart_append R [] ys p q r = q
 apart_append R (x ∷ xs) ys p q r = (each_append (R x) xs ys p.0 r.0, apart_append R xs ys p.1 q r.1)
 
+each_at : {X : Type 0} (P : X → Type 0) (xs : List X) (i : ℕ) (d : X) → i < length xs → Each P xs → P (get_or xs i d)
+each_at P [] i d lt p = absurd (omega arith)
+each_at P (x ∷ xs) zero d lt p = p.0
+each_at P (x ∷ xs) (suc i) d lt p = each_at P xs i d (omega arith) p.1
+
 pub all_each : {X : Type 0} (P : X → Type 0) (xs : List X) → Each P xs → All P xs
-all_each P [] p = λ i d lt. absurd (omega arith)
-all_each {X} P (x ∷ xs) p = λ i. here i
-  where
-    here : (i : ℕ) (d : X) → i < length (x ∷ xs) → P (get_or (x ∷ xs) i d)
-    here zero d lt = p.0
-    here (suc i) d lt = all_each P xs p.1 i d (omega arith)
+all_each P xs p = λ i d lt. each_at P xs i d lt p
 
 pub pairs_apart : {X : Type 0} (R : X → X → Type 0) (xs : List X) → Apart R xs → AllPairs R xs
 pairs_apart R [] p = λ i j d l below. absurd (omega arith)

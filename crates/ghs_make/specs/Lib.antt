@@ -1,6 +1,7 @@
 -- To be believed: contracts cite what stands here, and what it is made of.
 pub mod Ends
 pub mod Kind
+pub mod Laws
 pub mod Network
 pub mod Picks
 pub mod Plan
