@@ -81,14 +81,14 @@ links_at_more n number v (u ∷ us) (suc i) lt =
 pub lines_more : (n : Network) (number v : ℕ) (us old text : List ℕ) (i : ℕ) → i < length us
     → text ≡ old ++ flat_map arc_line (links_at n number v (take i us))
     → text ++ arc_line (weight_of n (number + i) (get_or us i 0) v, get_or us i 0, v)
-      ≡ old ++ flat_map arc_line (links_at n number v (take (i + 1) us))
+    ≡ old ++ flat_map arc_line (links_at n number v (take (i + 1) us))
 lines_more n number v us old text i lt so_far =
     let k : Triple = (weight_of n (number + i) (get_or us i 0) v, get_or us i 0, v) in
     let before = links_at n number v (take i us) in
     ap (λ t. t ++ arc_line k) so_far
     ∙ append_assoc old (flat_map arc_line before) (arc_line k)
     ∙ ap (λ t. old ++ t) (
-      ap (λ t. flat_map arc_line before ++ t) (sym (append-nil (arc_line k)))
-      ∙ sym (flat_map-append arc_line before (k ∷ []))
-      ∙ ap (flat_map arc_line) (sym (links_at_more n number v us i lt))
+    ap (λ t. flat_map arc_line before ++ t) (sym (append-nil (arc_line k)))
+    ∙ sym (flat_map-append arc_line before (k ∷ []))
+    ∙ ap (flat_map arc_line) (sym (links_at_more n number v us i lt))
     )

@@ -41,8 +41,7 @@ begins n k (suc m) le = ⊎_elim
     (λ below.
     let low : k ≤ m = omega (arith, below) in
     let inner = begins n k m low in
-    let one : suc m ≡ m + 1 = omega arith in
-    (
+    let one : suc m ≡ m + 1 = omega arith in (
       inner.0 ++ node_lines n m,
       ap (text_to n) one ∙ text_more n m ∙ ap (λ t. t ++ node_lines n m) inner.1 ∙ append_assoc (text_to n k) inner.0 (node_lines n m),
     ))

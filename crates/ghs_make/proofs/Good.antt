@@ -195,8 +195,7 @@ good_three p v h some low =
     let ab : Apart (λ x y. x ≢ y) (a ++ b) = apart_append (λ x y. x ≢ y) a b (apart_one _ _) (apart_one _ _) (apart_both a b (v - 2 * h) a_low b_high) in
     let abc : Apart (λ x y. x ≢ y) ((a ++ b) ++ c) =
     apart_append (λ x y. x ≢ y) (a ++ b) c ab (apart_one _ _)
-    (apart_both (a ++ b) c (v - h) (each_append (λ x. x < v - h) a b a_lower b_low) c_high) in
-    (
+    (apart_both (a ++ b) c (v - h) (each_append (λ x. x < v - h) a b a_lower b_low) c_high) in (
       each_append (IsAcross p v) (a ++ b) c
           (each_append (IsAcross p v) a b (known_is p v (v - 3 * h) a first) (known_is p v (v - 2 * h) b second))
           (known_is p v (v - h) c third),
