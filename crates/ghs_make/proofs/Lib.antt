@@ -10,5 +10,6 @@ pub mod Lines
 pub mod Linking
 pub mod Parts
 pub mod Picking
+pub mod Pieces
 pub mod Powers
 pub mod Weighing

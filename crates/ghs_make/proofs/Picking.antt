@@ -194,3 +194,12 @@ pub forest_all : (p : Plan) → IsPlan p → p.kind ≡ Forest → links_among p
 unfolding links_among
 forest_all p h is =
     ap (λ k. links_by k p p.nodes) is ∙ forest_whole p (subst (λ k. TakesLinks k p.nodes p.links) is h.links)
+
+-- a node of a forest has one link to a smaller node at most
+pub forest_few : (p : Plan) → IsPlan p → p.kind ≡ Forest → (u : ℕ) → links_among p (u + 2) ≤ links_among p (u + 1) + 1
+unfolding links_among
+forest_few p h is u =
+    let one : u + 1 ≡ suc u = omega arith in
+    let two : u + 2 ≡ suc (suc u) = omega arith in
+    let few : links_by Forest p (suc (suc u)) ≤ links_by Forest p (suc u) + 1 = (forest_steps p u (subst (λ k. TakesLinks k p.nodes p.links) is h.links)).within in
+    rw (one, two, is) few

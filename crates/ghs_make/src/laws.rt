@@ -1,5 +1,5 @@
 //! What holds of every network, as one fact a law.
-ghost use Rattle.ghs_make.specs.Laws.{CountsAreKept, LinksAreSimple, NetworksAreConnected, NetworksAreRead};
+ghost use Rattle.ghs_make.specs.Laws.{CountsAreKept, ForestsAreInPieces, LinksAreSimple, NetworksAreConnected, NetworksAreRead};
 
 use ghs_gr::laws::law_one_judgement;
 
@@ -23,4 +23,9 @@ pub fn law_connected()
 /// A network whose kind takes a number of links has so many.
 pub fn law_counted()
     ensures { CountsAreKept }
+{}
+
+/// A forest has as many pieces as it has nodes more than links.
+pub fn law_pieces()
+    ensures { ForestsAreInPieces }
 {}
