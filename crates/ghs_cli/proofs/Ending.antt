@@ -3,9 +3,9 @@ use Rattle.std.proofs.Common.{◌≡◌, ◌∙◌, ℕ, true, List, [], Option,
 use Rattle.std.specs.Prelude.{IfSome, IsErrOf, Result, Ok, Err}
 use Rattle.ghs_gr.specs.Judgement.{IsOneThing, TextIs}
 use Rattle.ghs_gr.specs.RawGraph.{RawShape}
-use Rattle.ghs_patient.specs.declared.picking.Picking.{Picking}
-use Rattle.ghs_patient.specs.declared.picking.Picking.TheVariants.{Patient}
-use Rattle.ghs_patient.specs.Picking.{HasTurnsFor, IsPatient, IsPickedBy}
+use Rattle.ghs_picking.specs.declared.picking.Picking.{Picking}
+use Rattle.ghs_picking.specs.declared.picking.Picking.TheVariants.{Patient}
+use Rattle.ghs_picking.specs.Picking.{HasTurnsFor, IsPatient, IsPickedBy}
 use Rattle.ghs_cli.specs.declared.fault.ServeFault.{ServeFault}
 use Rattle.ghs_cli.specs.declared.fault.ServeFault.TheVariants as serve
 use Rattle.ghs_words.specs.declared.job.RunOptions.{RunOptions}

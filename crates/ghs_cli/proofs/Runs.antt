@@ -8,7 +8,7 @@ use Rattle.ghs_protocol.specs.declared.event.Event.{Event}
 use Rattle.ghs_protocol.specs.Marks.{HasEnded}
 use Rattle.ghs_protocol.specs.Network.{network_of}
 use Rattle.ghs_protocol.specs.Run.{IsRunUnder}
-use Rattle.ghs_patient.specs.Picking.{IsPickedBy, StopsFor}
+use Rattle.ghs_picking.specs.Picking.{IsPickedBy, StopsFor}
 use Rattle.ghs_pool.specs.Ends.{EndFits}
 use Rattle.ghs_pool.specs.declared.end.PoolFault.{PoolFault}
 use Rattle.ghs_pool.specs.declared.end.PoolFault.TheVariants as pool

@@ -2,8 +2,8 @@
 use Rattle.std.specs.Prelude.{◌≡◌, ℕ, List, Ok}
 use Rattle.ghs_gr.specs.Judgement.{TextIs}
 use Rattle.ghs_gr.specs.RawGraph.{RawShape}
-use Rattle.ghs_patient.specs.declared.picking.Picking.TheVariants.{Patient}
-use Rattle.ghs_patient.specs.Picking.{HasTurnsFor}
+use Rattle.ghs_picking.specs.declared.picking.Picking.TheVariants.{Patient}
+use Rattle.ghs_picking.specs.Picking.{HasTurnsFor}
 use Rattle.ghs_words.specs.declared.job.RunOptions.{RunOptions}
 use Rattle.ghs_words.specs.declared.job.Task.{Task}
 use Rattle.ghs_words.specs.declared.job.Task.TheVariants as task

@@ -1,5 +1,5 @@
 -- What the program's work comes to.
-use Rattle.std.specs.Prelude.{◌≡◌, ◌⊎◌, ℕ, ◌<◌, ◌≤◌, Bool, true, false, ◌&&◌, ◌||◌, List, length, map, Option, Result, Ok, Err, IfSome}
+use Rattle.std.specs.Prelude.{◌≡◌, ◌⊎◌, ℕ, ◌<◌, ◌≤◌, Bool, true, false, ◌&&◌, ◌||◌, List, length, map, Option, None, Result, Ok, Err, IfSome}
 use Rattle.ghs_gr.specs.RawGraph.{RawShape}
 use Rattle.ghs_gr.specs.Judgement.{TextIs}
 use Rattle.ghs_gr.specs.Text.{IsTooLong}
@@ -11,7 +11,9 @@ use Rattle.ghs_graph.specs.Links.{IsTree}
 use Rattle.ghs_cores.specs.declared.component.Component.{Component}
 use Rattle.ghs_cores.specs.Components.{HasEndedIn, IsOfGraph}
 use Rattle.ghs_cores.specs.Text.{HaveLines}
-use Rattle.ghs_patient.specs.Picking.{IsPickedBy}
+use Rattle.ghs_chain.specs.Chains.{longest_chain}
+use Rattle.ghs_picking.specs.Picking.{AreRounds, IsPickedBy}
+use Rattle.ghs_picking.specs.Time.{time_text}
 use Rattle.ghs_protocol.specs.declared.event.Event.{Event}
 use Rattle.ghs_protocol.specs.Marks.{HasEnded}
 use Rattle.ghs_protocol.specs.Net.{Net}
@@ -31,7 +33,7 @@ use Rattle.ghs_cli.specs.declared.fault.ServeFault.{ServeFault}
 use Rattle.ghs_cli.specs.declared.fault.ServeFault.TheVariants as serve
 use Rattle.ghs_words.specs.declared.job.RunOptions.{RunOptions}
 use Rattle.ghs_words.specs.declared.job.Show.{Show}
-use Rattle.ghs_words.specs.declared.job.Show.TheVariants.{Summary, Events}
+use Rattle.ghs_words.specs.declared.job.Show.TheVariants.{Summary, Events, Time}
 use Rattle.ghs_words.specs.declared.job.StepsOptions.{StepsOptions}
 use Rattle.ghs_words.specs.declared.job.StoredViewOptions.{StoredViewOptions}
 use Rattle.ghs_words.specs.declared.job.SweepOptions.{SweepOptions}
@@ -101,17 +103,31 @@ pub record IsStopped (o : RunOptions) (g : Shape) (events : List Event) : Type 0
   pub used : length events ≡ o.turns
   pub goes_on : HasEnded g (net_after g events) → ⊥
 
--- what is shown of a run that has ended: the text of its net, with the cores with which it ended, where they are asked for, or its events
-abbrev pub IsShown : Show → Bool → Shape → List Event → List ℕ → Type 0
-IsShown Summary core g events output =
+-- the report of a run that has ended: the text of its net, with the cores with which it ended, where they are asked for
+abbrev pub IsReport : Bool → Shape → List Event → List ℕ → Type 0
+IsReport core g events output =
     (text : List ℕ) × IsNetText g (net_after g events) text × HaveCores core g (HasEndedIn g (net_after g events)) text output
-IsShown Events core g events output = output ≡ trace_text events
+
+-- in how many rounds the seed's schedule has picked a run, where it picks by rounds; threads go by none
+pub record AreItsRounds (o : RunOptions) (g : Shape) (events : List Event) (rounds : Option ℕ) : Type 0 where
+  pub by_schedule : o.workers ≡ 0 → AreRounds o.picking o.seed o.wake o.turns g events rounds
+  pub by_threads : 1 ≤ o.workers → rounds ≡ None
+
+-- the time of a run: its longest chain of messages, and its rounds
+abbrev pub IsTime : RunOptions → Shape → List Event → List ℕ → Type 0
+IsTime o g events output = (rounds : Option ℕ) × AreItsRounds o g events rounds × (output ≡ time_text (longest_chain (network_of g) events) rounds)
+
+-- what is shown of a run that has ended: its report, its events, or its time
+abbrev pub IsShown : Show → RunOptions → Shape → List Event → List ℕ → Type 0
+IsShown Summary o g events output = IsReport o.core g events output
+IsShown Events o g events output = output ≡ trace_text events
+IsShown Time o g events output = IsTime o g events output
 
 -- a run of the graph ends, and the output shows it
 pub record IsRun (o : RunOptions) (g : Shape) (output : List ℕ) : Type 0 where
   pub events : List Event
   pub whole : IsWholeRun o g events
-  pub printed : IsShown o.show o.core g events output
+  pub printed : IsShown o.show o g events output
 
 -- a run of the graph has used its turns, and the output has its events, which are asked for
 pub record IsStoppedText (o : RunOptions) (g : Shape) (output : List ℕ) : Type 0 where
@@ -291,6 +307,7 @@ IsTried (task.StoredView o) stored input output = IsStoredViewOutput o stored in
 abbrev pub is_events : Show → Bool
 is_events Events = true
 is_events Summary = false
+is_events Time = false
 
 abbrev pub shows_events : Task → Bool
 shows_events (task.Tree core) = false

@@ -1,7 +1,7 @@
 -- Pages of runs of a graph.
 use Rattle.std.specs.Prelude.{ℕ, List}
 use Rattle.ghs_graph.specs.Graph.{Shape}
-use Rattle.ghs_patient.specs.Picking.{IsPickedBy}
+use Rattle.ghs_picking.specs.Picking.{IsPickedBy}
 use Rattle.ghs_protocol.specs.declared.event.Event.{Event}
 use Rattle.ghs_protocol.specs.Network.{network_of}
 use Rattle.ghs_protocol.specs.Run.{IsRunUnder}

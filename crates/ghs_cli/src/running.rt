@@ -1,12 +1,15 @@
 //! Runs of a network: by the schedule of a seed, among all events or patiently, or by threads.
+ghost use Rattle.ghs_chain.specs.Chains.{longest_chain};
+ghost use Rattle.ghs_picking.specs.Time.{time_text};
 ghost use Rattle.ghs_protocol.specs.Marks.{HasEnded};
+ghost use Rattle.ghs_protocol.specs.Network.{network_of};
 ghost use Rattle.ghs_pool.specs.Ends.{EndFits};
 ghost use Rattle.ghs_pool.specs.Follows.{Follows};
 ghost use Rattle.ghs_world.specs.WorldState.{home};
 ghost use Rattle.ghs_words.specs.Job.{AreWithinLimits};
 ghost use Rattle.ghs_cli.specs.Running.{IsOpened, Stops};
-ghost use Rattle.ghs_cli.specs.Serving.{IsRan, IsRunOutput, IsRunningCause, IsShown, IsStopped, IsWholeRun, StopsRun, is_write, shape_of};
-ghost use Rattle.ghs_words.specs.declared.job.Show.TheVariants.{Events, Summary};
+ghost use Rattle.ghs_cli.specs.Serving.{AreItsRounds, IsRan, IsReport, IsRunOutput, IsRunningCause, IsShown, IsStopped, IsWholeRun, StopsRun, is_events, is_write, shape_of};
+ghost use Rattle.ghs_words.specs.declared.job.Show.TheVariants.{Events};
 ghost use Rattle.ghs_cli.specs.declared.fault.ServeFault.{ServeFault};
 ghost use Rattle.std.specs.Prelude.{◌≡◌, ◌≤◌, ◌↔◌, false, true, IfSome, IsErrOf, OnOk, IfErr, IfOk};
 
@@ -18,7 +21,8 @@ use ghs_gr::device::Source;
 use ghs_gr::judgement::read_gr;
 use ghs_gr::raw_graph::RawGraph;
 use ghs_graph::graph::Graph;
-use ghs_patient::picking::run_by_seed;
+use ghs_picking::picking::run_timed;
+use ghs_picking::time::time_text;
 use ghs_pool::end::PoolFault;
 use ghs_pool::gate::OpenGate;
 use ghs_pool::shop::pair_of;
@@ -60,7 +64,7 @@ pub(crate) fn run_output_of<S: Source, R: Threads + Wait + Eprint + Sync>(
     ensures limit { IfOk result (λ o. o.at_limit ≡ true → options.now.show ≡ Events) }
     ensures fault { IfErr result (λ fault. IfSome (S.left graph.old) (λ input. IsRunningCause options.now input fault)) }
     ensures early { IfErr result (λ fault. is_write fault ≡ false) }
-    ensures limited { IsErrOf result ServeFault.TurnLimit → options.now.show ≡ Summary }
+    ensures limited { IsErrOf result ServeFault.TurnLimit → is_events options.now.show ≡ false }
     ensures read { IsErrOf result ServeFault.Read ↔ (S.has_failed graph.new ≡ true) }
 {
     let raw = read_gr(alloc, graph)?;
@@ -78,12 +82,12 @@ fn ran<R: Threads + Wait + Eprint + Sync>(
     ensures output { IfOk result (λ o. IsRan options.now (shape_of raw) o.at_limit o.text.items) }
     ensures limit { IfOk result (λ o. o.at_limit ≡ true → options.now.show ≡ Events) }
     ensures fault { IfErr result (StopsRun options.now (shape_of raw)) }
-    ensures limited { IsErrOf result ServeFault.TurnLimit → options.now.show ≡ Summary }
+    ensures limited { IsErrOf result ServeFault.TurnLimit → is_events options.now.show ≡ false }
 {
     let world = opened(alloc, options, raw)?;
-    let (world, end) = run_on(rt, alloc, options, world);
+    let (world, rounds, end) = run_on(rt, alloc, options, world);
     tell(rt, options, &world);
-    printed(alloc, options, &world, end)
+    printed(alloc, options, &world, rounds, end)
 }
 
 /// The world of a graph before its run.
@@ -102,18 +106,19 @@ fn opened(alloc: Global, options: &RunOptions, raw: RawGraph) -> Result<World, S
     }
 }
 
-/// Runs a world on until its run has ended, or as far as it comes.
+/// Runs a world on until its run has ended, or as far as it comes, and says in how many rounds, where it goes by rounds.
 fn run_on<R: Threads + Wait + Eprint + Sync>(
     rt: &R,
     alloc: Global,
     options: &RunOptions,
     world: World,
-) -> (World, Result<RunEnd, Stop>)
+) -> (World, Option<u64>, Result<RunEnd, Stop>)
     requires limits { AreWithinLimits options.now }
     requires opened { IsOpened options.now world }
     ensures graph { result.0.net.graph ≡ world.net.graph }
-    ensures whole { OnOk result.1 (IsWholeRun options.now result.0.net.graph result.0.net.trace) }
-    ensures stops { IfErr result.1 (Stops options.now result.0) }
+    ensures rounds { AreItsRounds options.now result.0.net.graph result.0.net.trace result.1 }
+    ensures whole { OnOk result.2 (IsWholeRun options.now result.0.net.graph result.0.net.trace) }
+    ensures stops { IfErr result.2 (Stops options.now result.0) }
 {
     if options.workers == 0 {
         by_schedule(alloc, options, world)
@@ -122,45 +127,47 @@ fn run_on<R: Threads + Wait + Eprint + Sync>(
     }
 }
 
-/// Runs a world by the schedule of a seed.
+/// Runs a world by the schedule of a seed, and says in how many rounds, where it goes by rounds.
 fn by_schedule(
     alloc: Global,
     options: &RunOptions,
     mut world: World,
-) -> (World, Result<RunEnd, Stop>)
+) -> (World, Option<u64>, Result<RunEnd, Stop>)
     requires { IsOpened options.now world }
     ensures graph { result.0.net.graph ≡ world.net.graph }
-    ensures whole { OnOk result.1 (IsWholeRun options.now result.0.net.graph result.0.net.trace) }
-    ensures stops { IfErr result.1 (Stops options.now result.0) }
+    ensures rounds { AreItsRounds options.now result.0.net.graph result.0.net.trace result.1 }
+    ensures whole { OnOk result.2 (IsWholeRun options.now result.0.net.graph result.0.net.trace) }
+    ensures stops { IfErr result.2 (Stops options.now result.0) }
 {
-    let end = run_by_seed(alloc, &mut world, options.picking, options.seed);
+    let (rounds, end) = run_timed(alloc, &mut world, options.picking, options.seed);
     let _ = world.net();
     let _ = world.turns();
     match end {
-        Ok(end) => (world, Ok(end)),
-        Err(RunFault::TurnLimit) => (world, Err(Stop::TurnLimit)),
+        Ok(end) => (world, rounds, Ok(end)),
+        Err(RunFault::TurnLimit) => (world, rounds, Err(Stop::TurnLimit)),
         Err(RunFault::Stalled) => unreachable!(),
         Err(RunFault::Unforeseen) => unreachable!(),
-        Err(RunFault::Memory) => (world, Err(Stop::Memory)),
+        Err(RunFault::Memory) => (world, rounds, Err(Stop::Memory)),
     }
 }
 
-/// Runs a world by threads.
+/// Runs a world by threads, which go by no rounds.
 fn by_workers<R: Threads + Wait + Eprint + Sync>(
     rt: &R,
     alloc: Global,
     options: &RunOptions,
     world: World,
-) -> (World, Result<RunEnd, Stop>)
+) -> (World, Option<u64>, Result<RunEnd, Stop>)
     requires opened { IsOpened options.now world }
     requires workers { (1 ≤ options.now.workers) × (options.now.workers ≤ 64) }
     ensures graph { result.0.net.graph ≡ world.net.graph }
-    ensures whole { OnOk result.1 (IsWholeRun options.now result.0.net.graph result.0.net.trace) }
-    ensures stops { IfErr result.1 (Stops options.now result.0) }
+    ensures rounds { AreItsRounds options.now result.0.net.graph result.0.net.trace result.1 }
+    ensures whole { OnOk result.2 (IsWholeRun options.now result.0.net.graph result.0.net.trace) }
+    ensures stops { IfErr result.2 (Stops options.now result.0) }
 {
     let (world, end) = run_threads(rt, alloc, options, world);
     let end = end_of(options, &world, end);
-    (world, end)
+    (world, None, end)
 }
 
 /// Runs a world by threads, watched where progress is to be told.
@@ -235,17 +242,19 @@ fn printed(
     alloc: Global,
     options: &RunOptions,
     world: &World,
+    rounds: Option<u64>,
     end: Result<RunEnd, Stop>,
 ) -> Result<Output, ServeFault>
+    requires rounds { AreItsRounds options.now world.now.net.graph world.now.net.trace rounds }
     requires whole { OnOk end (IsWholeRun options.now world.now.net.graph world.now.net.trace) }
     requires stops { IfErr end (Stops options.now world.now) }
     ensures output { IfOk result (λ o. IsRan options.now world.now.net.graph o.at_limit o.text.items) }
     ensures limit { IfOk result (λ o. o.at_limit ≡ true → options.now.show ≡ Events) }
     ensures fault { IfErr result (StopsRun options.now world.now.net.graph) }
-    ensures limited { IsErrOf result ServeFault.TurnLimit → options.now.show ≡ Summary }
+    ensures limited { IsErrOf result ServeFault.TurnLimit → is_events options.now.show ≡ false }
 {
     match end {
-        Ok(_) => ended(alloc, options, world),
+        Ok(_) => ended(alloc, options, world, rounds),
         Err(Stop::TurnLimit) => stopped(alloc, options, world),
         Err(Stop::Memory) => Err(ServeFault::Memory),
         Err(Stop::NoThread) => Err(ServeFault::NoThread),
@@ -254,32 +263,56 @@ fn printed(
 }
 
 /// What goes out of a world whose run has ended.
-fn ended(alloc: Global, options: &RunOptions, world: &World) -> Result<Output, ServeFault>
-    requires { IsWholeRun options.now world.now.net.graph world.now.net.trace }
+fn ended(
+    alloc: Global,
+    options: &RunOptions,
+    world: &World,
+    rounds: Option<u64>,
+) -> Result<Output, ServeFault>
+    requires rounds { AreItsRounds options.now world.now.net.graph world.now.net.trace rounds }
+    requires whole { IsWholeRun options.now world.now.net.graph world.now.net.trace }
     ensures output { IfOk result (λ o. IsRan options.now world.now.net.graph o.at_limit o.text.items) }
     ensures limit { IfOk result (λ o. o.at_limit ≡ false) }
     ensures err { IfErr result (λ fault. fault ≡ ServeFault.Memory) }
 {
-    let text = shown(alloc, world, options)?;
+    let text = shown(alloc, world, options, rounds)?;
     Ok(Output::whole(text))
 }
 
 /// What is shown of a world whose run has ended.
-fn shown(alloc: Global, world: &World, options: &RunOptions) -> Result<Vec<u8>, ServeFault>
-    requires { HasEnded world.now.net.graph (home world.now) }
-    ensures text { IfOk result (λ text. IsShown options.now.show options.now.core world.now.net.graph world.now.net.trace text.items) }
+fn shown(
+    alloc: Global,
+    world: &World,
+    options: &RunOptions,
+    rounds: Option<u64>,
+) -> Result<Vec<u8>, ServeFault>
+    requires rounds { AreItsRounds options.now world.now.net.graph world.now.net.trace rounds }
+    requires ended { HasEnded world.now.net.graph (home world.now) }
+    ensures text { IfOk result (λ text. IsShown options.now.show options.now world.now.net.graph world.now.net.trace text.items) }
     ensures err { IfErr result (λ fault. fault ≡ ServeFault.Memory) }
 {
     match options.show {
         Show::Summary => reported(alloc, world, options.core),
         Show::Events => Ok(write_trace(alloc, world.trace())?),
+        Show::Time => timed(alloc, world, rounds),
     }
+}
+
+/// The time of a world's run.
+fn timed(alloc: Global, world: &World, rounds: Option<u64>) -> Result<Vec<u8>, ServeFault>
+    ensures text { IfOk result (λ text. text.items ≡ time_text (longest_chain (network_of world.now.net.graph) world.now.net.trace) rounds) }
+    ensures err { IfErr result (λ fault. fault ≡ ServeFault.Memory) }
+{
+    // Read for their clauses: the events are a run, and no more than 2^40.
+    let _ = world.net();
+    let _ = world.turns();
+    Ok(time_text(alloc, world.graph(), world.trace(), rounds)?)
 }
 
 /// The report of a run that has ended, with its cores where they are asked for.
 fn reported(alloc: Global, world: &World, core: bool) -> Result<Vec<u8>, ServeFault>
     requires { HasEnded world.now.net.graph (home world.now) }
-    ensures text { IfOk result (λ text. IsShown Summary core world.now.net.graph world.now.net.trace text.items) }
+    ensures text { IfOk result (λ text. IsReport core world.now.net.graph world.now.net.trace text.items) }
     ensures err { IfErr result (λ fault. fault ≡ ServeFault.Memory) }
 {
     let net = world.net();
@@ -300,10 +333,10 @@ fn stopped(alloc: Global, options: &RunOptions, world: &World) -> Result<Output,
     ensures output { IfOk result (λ o. IsRan options.now world.now.net.graph o.at_limit o.text.items) }
     ensures asked { OnOk result (options.now.show ≡ Events) }
     ensures fault { IfErr result (StopsRun options.now world.now.net.graph) }
-    ensures limited { IsErrOf result ServeFault.TurnLimit → options.now.show ≡ Summary }
+    ensures limited { IsErrOf result ServeFault.TurnLimit → is_events options.now.show ≡ false }
 {
     match options.show {
-        Show::Summary => Err(ServeFault::TurnLimit),
+        Show::Summary | Show::Time => Err(ServeFault::TurnLimit),
         Show::Events => Ok(Output {
             text: write_trace(alloc, world.trace())?,
             at_limit: true,

@@ -3,7 +3,7 @@ ghost use Rattle.ghs_words.specs.Job.{AreViewLimits};
 ghost use Rattle.ghs_cli.specs.Serving.{IsStoredViewCause, IsStoredViewOutput, IsViewCause, IsViewOutput, is_write, shape_of};
 ghost use Rattle.ghs_cli.specs.Viewing.{HasNoStoredView, HasNoView, IsStoredView, IsView};
 ghost use Rattle.ghs_cli.specs.declared.fault.ServeFault.{ServeFault};
-ghost use Rattle.ghs_patient.specs.Picking.{IsPickedBy};
+ghost use Rattle.ghs_picking.specs.Picking.{IsPickedBy};
 ghost use Rattle.ghs_view.specs.RunPage.{IsRunPage, IsTooLarge};
 ghost use Rattle.std.specs.Prelude.{◌≡◌, ◌≤◌, ◌⊎◌, ◌↔◌, false, length, true, IfSome, IsErrOf, IfErr, IfOk};
 
@@ -13,7 +13,7 @@ use ghs_gr::device::Source;
 use ghs_gr::judgement::read_gr;
 use ghs_gr::raw_graph::RawGraph;
 use ghs_graph::graph::Graph;
-use ghs_patient::picking::run_by_seed;
+use ghs_picking::picking::run_by_seed;
 use ghs_protocol::event::Event;
 use ghs_sched::fault::RunFault;
 use ghs_sched::trace::EVENT_LIMIT;

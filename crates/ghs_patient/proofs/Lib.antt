@@ -1,5 +1,4 @@
 -- Serves the proofs: nothing here has to be believed.
-mod BySeed
 mod Growing
 pub mod Marking
 pub mod Picks

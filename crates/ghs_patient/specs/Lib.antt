@@ -1,5 +1,4 @@
 -- To be believed: contracts cite what stands here, and what it is made of.
 pub mod Choices
 pub mod Patience
-pub mod Picking
 pub mod Runs

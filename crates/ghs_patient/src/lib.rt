@@ -2,5 +2,4 @@
 #![tactic(auto)]
 
 pub mod choices;
-pub mod picking;
 pub mod run;

@@ -2,8 +2,8 @@
 use ghs_board::board::Board;
 use ghs_board::progress::Progress;
 use ghs_core::event::Event;
-use ghs_patient::picking::{Picking, run_by_seed};
 use ghs_patient::run::run_patient;
+use ghs_picking::picking::{Picking, run_by_seed};
 use ghs_pool::end::PoolFault;
 use ghs_pool::gate::OpenGate;
 use ghs_pool::shop::Shop;

@@ -5,7 +5,7 @@ ghost use Rattle.std.specs.Prelude.{◌≡◌, ◌≤◌, ◌^◌, All, IfOk, le
 
 use ghs_core::event::Event;
 use ghs_graph::graph::Graph;
-use ghs_patient::picking::Picking;
+use ghs_picking::picking::Picking;
 use ghs_refusing::orders::{Turn, order, refuse, turn_of};
 use ghs_refusing::scenes::{events_of_run, five, is_five, stands, world_after};
 use ghs_sched::trace::EVENT_LIMIT;

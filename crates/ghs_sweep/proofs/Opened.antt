@@ -4,7 +4,7 @@ use Rattle.std.specs.Prelude.{Result, Ok, Err, IfOk}
 use Rattle.std.specs.declared.alloc.AllocError.{AllocError}
 use Rattle.ghs_core.specs.NetState.{NetState}
 use Rattle.ghs_graph.specs.Graph.{Shape}
-use Rattle.ghs_patient.specs.Picking.{IsPickedBy}
+use Rattle.ghs_picking.specs.Picking.{IsPickedBy}
 use Rattle.ghs_world.specs.declared.wake_set.WakeSet.{WakeSet}
 use Rattle.ghs_world.specs.WorldState.{WorldState}
 use Rattle.ghs_sweep.specs.declared.figures.Figures.{Figures}

@@ -2,8 +2,8 @@
 use Rattle.std.specs.Prelude.{ℕ, ◌+◌, Bool, true, false, List, [], ◌∷◌, ◌++◌, codes, decimal, slice_index}
 use Rattle.ghs_world.specs.declared.wake_set.WakeSet.{WakeSet}
 use Rattle.ghs_world.specs.declared.wake_set.WakeSet.TheVariants.{All, First}
-use Rattle.ghs_patient.specs.declared.picking.Picking.{Picking}
-use Rattle.ghs_patient.specs.declared.picking.Picking.TheVariants.{Seeded, Patient}
+use Rattle.ghs_picking.specs.declared.picking.Picking.{Picking}
+use Rattle.ghs_picking.specs.declared.picking.Picking.TheVariants.{Seeded, Patient, Rounds}
 use Rattle.ghs_sweep.specs.declared.line.TheConstants.{HEAD_LINE}
 use Rattle.ghs_sweep.specs.declared.seeded.Setup.{Setup}
 use Rattle.ghs_sweep.specs.declared.figures.Figures.{Figures}
@@ -15,6 +15,7 @@ field n = codes "," ++ decimal n
 abbrev pub picking_word : Picking → List ℕ
 picking_word Seeded = codes ",seeded"
 picking_word Patient = codes ",patient"
+picking_word Rounds = codes ",rounds"
 
 abbrev pub wake_word : WakeSet → List ℕ
 wake_word All = codes ",all"

@@ -2,7 +2,7 @@
 use Rattle.std.specs.Prelude.{ℕ, ◌+◌, ◌≤◌, ◌^◌, List, [], ◌∷◌, ◌++◌, length}
 use Rattle.ghs_graph.specs.Graph.{Shape}
 use Rattle.ghs_protocol.specs.declared.event.Event.{Event}
-use Rattle.ghs_patient.specs.Picking.{IsPickedBy}
+use Rattle.ghs_picking.specs.Picking.{IsPickedBy}
 use Rattle.ghs_sweep.specs.declared.figures.Figures.{Figures}
 use Rattle.ghs_sweep.specs.declared.seeded.Setup.{Setup}
 use Rattle.ghs_sweep.specs.Figures.{AreFigures}
@@ -12,7 +12,7 @@ pub record HasTurns (setup : Setup) : Type 0 where
   pub some : 1 ≤ setup.turns
   pub few : setup.turns ≤ 2 ^ 40
 
--- the figures of the seed's run: of all that its schedule picks, among all events or patiently, from the opening on
+-- the figures of the seed's run: of all that its schedule picks, among all events, patiently or by rounds, from the opening on
 pub record AreFiguresOf (g : Shape) (setup : Setup) (seed : ℕ) (f : Figures) : Type 0 where
   pub events : List Event
   pub run : IsPickedBy setup.picking seed setup.wake setup.turns g events

@@ -5,7 +5,7 @@ ghost use Rattle.std.specs.Prelude.{◌≡◌, ◌+◌, ◌++◌, ◌≤◌, ◌
 use crate::figures::Figures;
 use crate::seeded::Setup;
 use ghs_lines::numbers::put_number;
-use ghs_patient::picking::Picking;
+use ghs_picking::picking::Picking;
 use ghs_world::wake_set::WakeSet;
 use std::alloc::{AllocError, Global};
 
@@ -110,6 +110,7 @@ fn picking_word(picking: Picking) -> &'static [u8]
     match picking {
         Picking::Seeded => b",seeded",
         Picking::Patient => b",patient",
+        Picking::Rounds => b",rounds",
     }
 }
 

@@ -5,7 +5,7 @@ ghost use Rattle.std.specs.Prelude.{IfOk};
 
 use crate::figures::{Figures, figures_of};
 use ghs_graph::graph::Graph;
-use ghs_patient::picking::{Picking, run_by_seed};
+use ghs_picking::picking::{Picking, run_by_seed};
 use ghs_sched::fault::RunFault;
 use ghs_world::wake_set::WakeSet;
 use ghs_world::world::World;

@@ -1,4 +1,5 @@
 -- Serves the proofs: nothing here has to be believed.
+mod Choices
 mod Commands
 mod Numbers
 mod Said

@@ -78,7 +78,7 @@ wake_rule = option_rule (codes "wake") (codes "all")
 abbrev pub tree_command : App
 tree_command = with_rule (with_rule (new_app (codes "tree")) file_rule) core_rule
 
--- `run [FILE] [--seed S] [--schedule seeded|patient] [--workers W] [--wake all|first] [--turns T] [--print report|trace] [--core] [--progress]`
+-- `run [FILE] [--seed S] [--schedule seeded|patient|rounds] [--workers W] [--wake all|first] [--turns T] [--print report|trace|time] [--core] [--progress]`
 abbrev pub run_command : App
 run_command =
     let named = with_rule (new_app (codes "run")) file_rule in
@@ -95,14 +95,14 @@ steps_command =
     let stored = with_rule (with_rule (with_rule (new_app (codes "steps")) trace_rule) file_rule) wake_rule in
     with_rule (with_rule (with_rule (with_rule stored from_rule) to_rule) node_rule) json_rule
 
--- `sweep [FILE] --seeds FIRST..LAST [--schedule seeded|patient] [--workers W] [--wake all|first] [--turns T] [--print runs|summary] [--progress]`
+-- `sweep [FILE] --seeds FIRST..LAST [--schedule seeded|patient|rounds] [--workers W] [--wake all|first] [--turns T] [--print runs|summary] [--progress]`
 abbrev pub sweep_command : App
 sweep_command =
     let named = with_rule (with_rule (new_app (codes "sweep")) file_rule) seeds_rule in
     let picked = with_rule (with_rule (with_rule (with_rule named schedule_rule) workers_rule) wake_rule) turns_rule in
     with_rule (with_rule picked sheet_rule) progress_rule
 
--- `view [FILE] [--seed S] [--schedule seeded|patient] [--wake all|first] [--turns T] [--trace TRACE] [--from A] [--to B]`
+-- `view [FILE] [--seed S] [--schedule seeded|patient|rounds] [--wake all|first] [--turns T] [--trace TRACE] [--from A] [--to B]`
 abbrev pub view_command : App
 view_command =
     let named = with_rule (new_app (codes "view")) file_rule in

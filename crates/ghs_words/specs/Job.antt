@@ -5,8 +5,8 @@ use Rattle.clap.specs.Kinds.{Kinds, IsAmong, or_else}
 use Rattle.clap.specs.Words.{Row, Text, fault_of, first_of, subcommand_of}
 use Rattle.clap.specs.declared.error.kind.ErrorKind.{ErrorKind}
 use Rattle.clap.specs.declared.error.kind.ErrorKind.TheVariants as kind
-use Rattle.ghs_patient.specs.declared.picking.Picking.{Picking}
-use Rattle.ghs_patient.specs.declared.picking.Picking.TheVariants.{Patient}
+use Rattle.ghs_picking.specs.declared.picking.Picking.{Picking}
+use Rattle.ghs_picking.specs.declared.picking.Picking.TheVariants.{Patient, Rounds}
 use Rattle.ghs_sched.specs.declared.trace.TheConstants.{EVENT_LIMIT}
 use Rattle.ghs_world.specs.declared.wake_set.WakeSet.{WakeSet}
 use Rattle.ghs_world.specs.declared.wake_set.WakeSet.TheVariants.{First}
@@ -19,7 +19,7 @@ use Rattle.ghs_words.specs.declared.job.RunOptions.{RunOptions}
 use Rattle.ghs_words.specs.declared.job.Sheet.{Sheet}
 use Rattle.ghs_words.specs.declared.job.Sheet.TheVariants.{Summary}
 use Rattle.ghs_words.specs.declared.job.Show.{Show}
-use Rattle.ghs_words.specs.declared.job.Show.TheVariants.{Events}
+use Rattle.ghs_words.specs.declared.job.Show.TheVariants.{Events, Time}
 use Rattle.ghs_words.specs.declared.job.StepsOptions.{StepsOptions}
 use Rattle.ghs_words.specs.declared.job.StoredViewOptions.{StoredViewOptions}
 use Rattle.ghs_words.specs.declared.job.SweepOptions.{SweepOptions}
@@ -50,21 +50,23 @@ name_in command = option_map (λ p. p.0) command
 abbrev pub value_in : Text → Used → Option Text
 value_in id command = option_and_then (λ p. first_of id p.1) command
 
--- the wake set that `--wake` names; a choice has one of two values, or the words are refused
+-- the wake set that `--wake` names; a choice has one of its values, or the words are refused
 abbrev pub IsWake : Used → WakeSet → Type 0
 IsWake command wake = (wake ≡ First) ↔ (value_in (codes "wake") command ≡ Some (codes "first"))
 
 -- what of a run is printed, as `--print` says
-abbrev pub IsShow : Used → Show → Type 0
-IsShow command show = (show ≡ Events) ↔ (value_in (codes "print") command ≡ Some (codes "trace"))
+pub record IsShow (command : Used) (show : Show) : Type 0 where
+  pub events : (show ≡ Events) ↔ (value_in (codes "print") command ≡ Some (codes "trace"))
+  pub time : (show ≡ Time) ↔ (value_in (codes "print") command ≡ Some (codes "time"))
 
 -- what of a sweep is printed, as its `--print` says
 abbrev pub IsSheet : Used → Sheet → Type 0
 IsSheet command sheet = (sheet ≡ Summary) ↔ (value_in (codes "sheet") command ≡ Some (codes "summary"))
 
 -- among which events a schedule picks, as `--schedule` says
-abbrev pub IsPicking : Used → Picking → Type 0
-IsPicking command picking = (picking ≡ Patient) ↔ (value_in (codes "schedule") command ≡ Some (codes "patient"))
+pub record IsPicking (command : Used) (picking : Picking) : Type 0 where
+  pub patient : (picking ≡ Patient) ↔ (value_in (codes "schedule") command ≡ Some (codes "patient"))
+  pub rounds : (picking ≡ Rounds) ↔ (value_in (codes "schedule") command ≡ Some (codes "rounds"))
 
 -- whether it is told how far the run has come, as `--progress` says, which has no value of its own
 abbrev pub IsToldOf : Used → Bool → Type 0
@@ -197,9 +199,9 @@ IsWithinLimits (task.StoredView options) = Unit {0}
 abbrev pub has_values : Used → Bool
 has_values command =
     is_among (codes "all" ∷ codes "first" ∷ []) (value_in (codes "wake") command)
-    && is_among (codes "report" ∷ codes "trace" ∷ []) (value_in (codes "print") command)
+    && is_among (codes "report" ∷ codes "trace" ∷ codes "time" ∷ []) (value_in (codes "print") command)
     && is_among (codes "runs" ∷ codes "summary" ∷ []) (value_in (codes "sheet") command)
-    && is_among (codes "seeded" ∷ codes "patient" ∷ []) (value_in (codes "schedule") command)
+    && is_among (codes "seeded" ∷ codes "patient" ∷ codes "rounds" ∷ []) (value_in (codes "schedule") command)
     && is_number 0 18446744073709551615 (value_in (codes "seed") command)
     && is_number 0 MOST_WORKERS (value_in (codes "workers") command)
     && is_number 1 EVENT_LIMIT (value_in (codes "turns") command)

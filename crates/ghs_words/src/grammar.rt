@@ -221,7 +221,7 @@ fn schedule<'a>(alloc: Global) -> Arg<'a>
     ensures rule { rule_of result ≡ schedule_rule }
 {
     option(alloc, "schedule", "seeded").help(
-        "Which events the seed picks among: seeded, all that may happen, or patient, those that move the run on",
+        "Which events the seed picks among: seeded, all that may happen, patient, those that move the run on, or rounds, those of them whose message arrives in the round",
     )
 }
 
@@ -249,7 +249,7 @@ fn print<'a>(alloc: Global) -> Arg<'a>
     ensures rule { rule_of result ≡ print_rule }
 {
     option(alloc, "print", "report").help(
-        "What is printed: report, the tree and the counts, or trace, the events",
+        "What is printed: report, the tree and the counts, trace, the events, or time, the longest chain of messages and the rounds",
     )
 }
 

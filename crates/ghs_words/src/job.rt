@@ -14,7 +14,7 @@ use crate::values::{
 };
 use clap::error::ErrorKind;
 use clap::{ArgMatches, Error};
-use ghs_patient::picking::Picking;
+use ghs_picking::picking::Picking;
 use ghs_sched::trace::EVENT_LIMIT;
 use ghs_steps::choice::Choice;
 use ghs_steps::form::Form;
@@ -31,6 +31,8 @@ pub enum Show {
     Summary,
     /// Its events.
     Events,
+    /// Where it has ended, how long its longest chain of messages is, and in how many rounds it went.
+    Time,
 }
 
 /// How a network is run.
@@ -223,10 +225,22 @@ fn check_options<'a>(alloc: Global, matches: &ArgMatches<'a>) -> Result<(), JobF
     ensures err { OnErr result (has_values (subcommand_rows_of matches.now) ≡ false) }
     ensures fault { IfErr result IsRefused }
 {
-    check_choice(alloc, matches, "wake", "wake", "all", "first")?;
-    check_choice(alloc, matches, "print", "print", "report", "trace")?;
-    check_choice(alloc, matches, "sheet", "print", "runs", "summary")?;
-    check_choice(alloc, matches, "schedule", "schedule", "seeded", "patient")?;
+    check_choice(alloc, matches, "wake", "wake", &["all", "first"])?;
+    check_choice(
+        alloc,
+        matches,
+        "print",
+        "print",
+        &["report", "trace", "time"],
+    )?;
+    check_choice(alloc, matches, "sheet", "print", &["runs", "summary"])?;
+    check_choice(
+        alloc,
+        matches,
+        "schedule",
+        "schedule",
+        &["seeded", "patient", "rounds"],
+    )?;
     check_number(alloc, matches, "seed", 0, u64::MAX)?;
     check_number(alloc, matches, "workers", 0, MOST_WORKERS as u64)?;
     check_number(alloc, matches, "turns", 1, EVENT_LIMIT)?;
@@ -236,24 +250,23 @@ fn check_options<'a>(alloc: Global, matches: &ArgMatches<'a>) -> Result<(), JobF
     check_seeds(alloc, matches)
 }
 
-/// Whether an option has one of two values; it goes by its name on the command line where it hasn't.
+/// Whether an option has one of some values; it goes by its name on the command line where it hasn't.
 fn check_choice<'a>(
     alloc: Global,
     matches: &ArgMatches<'a>,
     id: &str,
     name: &str,
-    one: &str,
-    other: &str,
+    choices: &[&str],
 ) -> Result<(), JobFault>
-    ensures ok { OnOk result (is_among (one.now ∷ other.now ∷ []) (value_in id.now (subcommand_rows_of matches.now)) ≡ true) }
-    ensures err { OnErr result (is_among (one.now ∷ other.now ∷ []) (value_in id.now (subcommand_rows_of matches.now)) ≡ false) }
+    ensures ok { OnOk result (is_among (map (λ t. t.now) choices.now) (value_in id.now (subcommand_rows_of matches.now)) ≡ true) }
+    ensures err { OnErr result (is_among (map (λ t. t.now) choices.now) (value_in id.now (subcommand_rows_of matches.now)) ≡ false) }
     ensures fault { IfErr result IsRefused }
 {
     let value = value_of(matches, id);
-    if is_among(value, one, other) {
+    if is_among(value, choices) {
         Ok(())
     } else {
-        Err(unknown_choice(alloc, name, value, one, other))
+        Err(unknown_choice(alloc, name, value, choices))
     }
 }
 
@@ -457,6 +470,8 @@ fn picking_of<'a>(matches: &ArgMatches<'a>) -> Picking
 {
     if is_text(value_of(matches, "schedule"), "patient") {
         Picking::Patient
+    } else if is_text(value_of(matches, "schedule"), "rounds") {
+        Picking::Rounds
     } else {
         Picking::Seeded
     }
@@ -468,6 +483,8 @@ fn show_of<'a>(matches: &ArgMatches<'a>) -> Show
 {
     if is_text(value_of(matches, "print"), "trace") {
         Show::Events
+    } else if is_text(value_of(matches, "print"), "time") {
+        Show::Time
     } else {
         Show::Summary
     }

@@ -1,8 +1,10 @@
 //! The values of options, read and refused.
 ghost use Rattle.ghs_words.specs.Job.{IsRefused};
 ghost use Rattle.ghs_words.specs.Values.{AreSeeds, is_among, is_number, is_range, number_in, seeds_between, seeds_of};
+ghost use Rattle.std.specs.List.{list_any};
 ghost use Rattle.std.specs.Option.{option_map};
-ghost use Rattle.std.specs.Prelude.{◌≡◌, ◌≤◌, ◌↔◌, ◌∷◌, [], IfOk, IfSome, Some, string_bytes, true};
+ghost use Rattle.std.specs.Prelude.{◌≡◌, ◌≤◌, ◌↔◌, IfOk, IfSome, Some, map, string_bytes, true};
+ghost use Rattle.std.specs.Str.{bytes_eq};
 
 use crate::job::JobFault;
 use std::alloc::{AllocError, Global};
@@ -27,14 +29,26 @@ pub(crate) fn is_text(value: Option<&str>, text: &str) -> bool
     }
 }
 
-/// Whether there is no value, or one of these two.
-pub(crate) fn is_among(value: Option<&str>, one: &str, other: &str) -> bool
-    ensures { result ≡ is_among (one.now ∷ other.now ∷ []) (option_map (λ t. t.now) value.entry) }
+/// Whether there is no value, or one of these.
+pub(crate) fn is_among(value: Option<&str>, choices: &[&str]) -> bool
+    ensures { result ≡ is_among (map (λ t. t.now) choices.now) (option_map (λ t. t.now) value.entry) }
 {
     match value {
-        Some(value) => value == one || value == other,
+        Some(value) => is_one_of(value, choices),
         None => true,
     }
+}
+
+/// Whether a value is one of these.
+fn is_one_of(value: &str, choices: &[&str]) -> bool
+    ensures { result ≡ list_any (λ choice. bytes_eq value.now choice.now) choices.now }
+{
+    for choice in choices {
+        if value == *choice {
+            return true;
+        }
+    }
+    false
 }
 
 /// Whether there is no value, or a number in this range.
@@ -119,18 +133,32 @@ pub(crate) fn unknown_choice(
     alloc: Global,
     name: &str,
     value: Option<&str>,
-    one: &str,
-    other: &str,
+    choices: &[&str],
 ) -> JobFault
     ensures { IsRefused result }
 {
     let value = value.unwrap_or("");
+    let Ok(choices) = listed(alloc, choices) else {
+        return JobFault::Memory;
+    };
     match format!(in alloc;
-        "error: invalid value '{value}' for '--{name} <{name}>'\n  [possible values: {one}, {other}]\n\nFor more information, try '--help'.\n"
+        "error: invalid value '{value}' for '--{name} <{name}>'\n  [possible values: {choices}]\n\nFor more information, try '--help'.\n"
     ) {
         Ok(text) => JobFault::Refused(text),
         Err(_) => JobFault::Memory,
     }
+}
+
+/// Choices, one behind another.
+fn listed(alloc: Global, choices: &[&str]) -> Result<String, AllocError> {
+    let mut text = String::new(alloc);
+    for (place, choice) in choices.iter().enumerate() {
+        if place > 0 {
+            text.push_str(", ")?;
+        }
+        text.push_str(choice)?;
+    }
+    Ok(text)
 }
 
 /// What is said of a value that is no number in its range, in `clap`'s words.

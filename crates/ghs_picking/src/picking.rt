@@ -1,11 +1,12 @@
 //! Runs by the schedule of a seed, among whichever events it picks.
-ghost use Rattle.ghs_patient.specs.Picking.{IsPickedBy, StopsFor};
+ghost use Rattle.ghs_picking.specs.Picking.{AreRounds, IsPickedBy, StopsFor};
 ghost use Rattle.ghs_protocol.specs.Marks.{HasEnded};
 ghost use Rattle.ghs_sched.specs.Runs.{IsEnd};
 ghost use Rattle.ghs_world.specs.WorldState.{home};
 ghost use Rattle.std.specs.Prelude.{IfErr, IfOk, OnErr, OnOk, [], ◌≡◌};
 
-use crate::run::run_patient;
+use ghs_patient::run::run_patient;
+use ghs_rounds::run::run_rounds;
 use ghs_sched::fault::RunFault;
 use ghs_sched::run::{RunEnd, run_seeded};
 use ghs_sched::schedule::Schedule;
@@ -19,6 +20,8 @@ pub enum Picking {
     Seeded,
     /// Among those that move the run on, and so every run ends; where there is none, among those that uncover one.
     Patient,
+    /// Patiently among those of a round: each message takes one unit of time, and computing none.
+    Rounds,
 }
 
 /// Runs a world from its opening on, by the schedule of a seed, until the run has ended or its turns are used. Of the faults
@@ -43,10 +46,38 @@ pub fn run_by_seed(
     ensures going { OnErr result (HasEnded world.new.net.graph (home world.new) → ⊥) }
     ensures fault { IfErr result (λ f. StopsFor world.new f) }
 {
+    let (_, end) = run_timed(alloc, world, picking, seed);
+    end
+}
+
+/// The same, and in how many rounds the run went, where it goes by rounds.
+pub fn run_timed(
+    alloc: Global,
+    world: &mut World,
+    picking: Picking,
+    seed: u64,
+) -> (Option<u64>, Result<RunEnd, RunFault>)
+    requires trace { world.old.net.trace ≡ [] }
+    requires numbers { world.old.last ≡ 0 }
+    ensures graph { world.new.net.graph ≡ world.old.net.graph }
+    ensures wake { world.new.wake ≡ world.old.wake }
+    ensures turns { world.new.turns ≡ world.old.turns }
+    ensures outs { world.new.outs ≡ [] }
+    ensures rounds { AreRounds picking seed world.old.wake world.old.turns world.old.net.graph world.new.net.trace result.0 }
+    ensures whole { OnOk result.1 (IsPickedBy picking seed world.old.wake world.old.turns world.old.net.graph world.new.net.trace) }
+    ensures limit { result.1 ≡ Err RunFault.TurnLimit → IsPickedBy picking seed world.old.wake world.old.turns world.old.net.graph world.new.net.trace }
+    ensures halted { IfOk result.1 (λ e. IsEnd world.new e) }
+    ensures going { OnErr result.1 (HasEnded world.new.net.graph (home world.new) → ⊥) }
+    ensures fault { IfErr result.1 (λ f. StopsFor world.new f) }
+{
     let mut schedule = Schedule::seeded(seed);
     let _ = world.turns();
     match picking {
-        Picking::Seeded => run_seeded(alloc, world, &mut schedule),
-        Picking::Patient => run_patient(alloc, world, &mut schedule),
+        Picking::Seeded => (None, run_seeded(alloc, world, &mut schedule)),
+        Picking::Patient => (None, run_patient(alloc, world, &mut schedule)),
+        Picking::Rounds => {
+            let (rounds, end) = run_rounds(alloc, world, &mut schedule);
+            (Some(rounds), end)
+        }
     }
 }

@@ -1,9 +1,6 @@
-use Rattle.std.proofs.Common.{ap, subst, sym}
-use Rattle.std.specs.Prelude.{OnOk}
-use Rattle.ghs_patient.specs.declared.picking.Picking.{Picking}
-use Rattle.ghs_patient.specs.Picking.{IsPickedBy}
-use Rattle.ghs_patient.proofs.BySeed.{HasGoneOn, at_limit_patient, gone_patient, gone_seeded, is_seeded, on_ok_patient, on_ok_seeded}
-use Rattle.ghs_patient.proofs.picking.run_by_seed.Goals as goal
+use Rattle.std.proofs.Common.{refl}
+use Rattle.ghs_picking.proofs.BySeed.{HasGoneOn, at_limit_by_rounds, at_limit_patient, gone_by_rounds, gone_patient, gone_seeded, is_in_rounds, is_seeded, on_ok_by_rounds, on_ok_patient, on_ok_seeded}
+use Rattle.ghs_picking.proofs.picking.run_timed.Goals as goal
 
 pub returns-in-Seeded-clause-whole : goal.returns-in-Seeded-clause-whole
 returns-in-Seeded-clause-whole c =
@@ -35,3 +32,25 @@ returns-in-Patient-clause-limit c =
     rw c.in-Patient.is
     (λ limit. at_limit_patient c.args.seed c.args.world.now ran.new.world c.seeded-schedule.result ran.new.schedule c.turns.result ran.result c.seeded-schedule.ensures gone c.requires.numbers
     c.turns.ensures.turns c.turns.ensures.few ran.ensures.run ran.ensures.short ran.ensures.fault ran.ensures.ends limit)
+
+pub returns-in-Rounds-clause-rounds : goal.returns-in-Rounds-clause-rounds
+returns-in-Rounds-clause-rounds c =
+    let ran = c.run_rounds-rounds in
+    rw c.in-Rounds.is
+    (ran.result.0, refl, is_in_rounds c.args.seed c.args.world.now ran.new.world c.seeded-schedule.result ran.new.schedule ran.result.0 c.seeded-schedule.ensures ran.ensures.run)
+
+pub returns-in-Rounds-clause-whole : goal.returns-in-Rounds-clause-whole
+returns-in-Rounds-clause-whole c =
+    let ran = c.run_rounds-rounds in
+    let gone : HasGoneOn c.args.world.now ran.new.world =
+    gone_by_rounds c.args.world.now ran.new.world c.seeded-schedule.result ran.new.schedule c.turns.result ran.result.0 c.requires.trace c.requires.numbers c.turns.ensures.turns c.turns.ensures.few ran.ensures.run in
+    rw c.in-Rounds.is
+    (on_ok_by_rounds c.args.seed c.args.world.now ran.new.world c.seeded-schedule.result ran.new.schedule ran.result.0 ran.result.1 c.seeded-schedule.ensures gone ran.ensures.run ran.ensures.halted)
+
+pub returns-in-Rounds-clause-limit : goal.returns-in-Rounds-clause-limit
+returns-in-Rounds-clause-limit c =
+    let ran = c.run_rounds-rounds in
+    let gone : HasGoneOn c.args.world.now ran.new.world =
+    gone_by_rounds c.args.world.now ran.new.world c.seeded-schedule.result ran.new.schedule c.turns.result ran.result.0 c.requires.trace c.requires.numbers c.turns.ensures.turns c.turns.ensures.few ran.ensures.run in
+    rw c.in-Rounds.is
+    (λ limit. at_limit_by_rounds c.args.seed c.args.world.now ran.new.world c.seeded-schedule.result ran.new.schedule ran.result.0 ran.result.1 c.seeded-schedule.ensures gone ran.ensures.run ran.ensures.fault limit)

@@ -17,9 +17,11 @@ use Rattle.ghs_sched.specs.declared.fault.RunFault.TheVariants.{TurnLimit, Stall
 use Rattle.ghs_sched.specs.declared.run.RunEnd.{RunEnd}
 use Rattle.ghs_sched.specs.declared.run.RunEnd.TheVariants.{Halted}
 use Rattle.ghs_world.specs.WorldState.{WorldState, home, wakers}
-use Rattle.ghs_patient.specs.Picking.{HasTurnsFor, IsPatient, IsSeeded, StopsFor}
 use Rattle.ghs_patient.specs.Runs as patient
 use Rattle.ghs_patient.specs.Runs.{HasTurns, IsPatientlyPicked, IsShort}
+use Rattle.ghs_rounds.specs.Runs as by_rounds
+use Rattle.ghs_rounds.specs.Runs.{IsPickedByRounds}
+use Rattle.ghs_picking.specs.Picking.{HasTurnsFor, IsByRounds, IsInRounds, IsPatient, IsSeeded, StopsFor}
 
 -- what a schedule picks stays within the turns
 few_seeded : (may : ℕ → Bool) (g : Shape) (turns : ℕ) (trace : List Event) (words : List ℕ) (es : List Event) (s : List ℕ) →
@@ -37,6 +39,14 @@ few_patient : (may : ℕ → Bool) (g : Shape) (turns : ℕ) (trace : List Event
 few_patient may g turns trace words _ _ patient.Begun few = few
 few_patient may g turns trace words _ _ (patient.Picked es s e before goes less pick) few =
     let more : length (es ++ e ∷ []) ≡ length es + 1 = length_push es e in omega (arith, more, less)
+
+few_by_rounds : (may : ℕ → Bool) (g : Shape) (turns : ℕ) (words : List ℕ) (es : List Event) (r : ℕ) (s : List ℕ) →
+    IsPickedByRounds may g turns words es r s →
+    length es ≤ turns
+few_by_rounds may g turns words _ _ _ by_rounds.Begun = omega arith
+few_by_rounds may g turns words _ _ _ (by_rounds.Picked es r s e before goes less pick) =
+    let more : length (es ++ e ∷ []) ≡ length es + 1 = length_push es e in omega (arith, more, less)
+few_by_rounds may g turns words _ _ _ (by_rounds.Over es r s before goes less none) = omega (arith, less)
 
 -- a world from its opening on: as many numbers are used as there are events, and a number is left
 pub record HasGoneOn (old new : WorldState) : Type 0 where
@@ -70,6 +80,18 @@ gone_patient old new words after limit none first is few ran =
     let numbers = ran.numbers in
     let most : length new.net.trace ≤ old.turns = few_patient _ _ _ _ _ _ _ ran.picked (omega (arith, nothing)) in
     record { none = none; graph = ran.graph; turns = ran.turns; numbers = omega (arith, numbers, nothing, first, most, is, few) }
+
+pub gone_by_rounds : (old new : WorldState) (words after : List ℕ) (limit rounds : ℕ) →
+    old.net.trace ≡ [] →
+    old.last ≡ 0 →
+    limit ≡ old.turns →
+    limit ≤ 2 ^ 40 →
+    by_rounds.HasRun old new words after rounds →
+    HasGoneOn old new
+gone_by_rounds old new words after limit rounds none first is few ran =
+    let numbers = ran.numbers in
+    let most : length new.net.trace ≤ old.turns = few_by_rounds _ _ _ _ _ _ _ ran.picked in
+    record { none = none; graph = ran.graph; turns = ran.turns; numbers = omega (arith, numbers, first, most, is, few) }
 
 -- with a number left, it is the turns that are used
 pub stops_for : (old new : WorldState) (r : Result RunEnd RunFault) → HasGoneOn old new → IfErr r (λ f. EndsFor new f) → IfErr r (λ f. StopsFor new f)
@@ -161,3 +183,35 @@ at_limit_patient seed old new words after limit r begun gone first is few ran sh
     let turns = gone.turns in
     is_patient seed old new words after begun gone ran short (inr (omega (arith, used, turns)))
     (λ has. absurd (surely (has_turns old new limit gone first is few has) at_limit))
+
+-- a run by rounds goes in as many as its schedule says
+pub is_in_rounds : (seed : ℕ) (old new : WorldState) (words after : List ℕ) (rounds : ℕ) →
+    words ≡ seeded seed →
+    by_rounds.HasRun old new words after rounds →
+    IsInRounds seed old.wake old.turns old.net.graph new.net.trace rounds
+is_in_rounds seed old new words after rounds begun ran = record {
+  words = after;
+  picked = subst (λ (s : List ℕ). IsPickedByRounds (wakers old) old.net.graph old.turns s new.net.trace rounds after) begun ran.picked;
+}
+
+pub on_ok_by_rounds : (seed : ℕ) (old new : WorldState) (words after : List ℕ) (rounds : ℕ) (r : Result RunEnd RunFault) →
+    words ≡ seeded seed →
+    HasGoneOn old new →
+    by_rounds.HasRun old new words after rounds →
+    IfOk r (λ e. IsEnd new e) →
+    OnOk r (IsByRounds seed old.wake old.turns old.net.graph new.net.trace)
+on_ok_by_rounds seed old new words after rounds (Ok e) begun gone ran end =
+    record { rounds = rounds; picked = is_in_rounds seed old new words after rounds begun ran; over = inl (has_ended old.net.graph new e gone.graph end) }
+on_ok_by_rounds seed old new words after rounds (Err f) begun gone ran end = tt
+
+pub at_limit_by_rounds : (seed : ℕ) (old new : WorldState) (words after : List ℕ) (rounds : ℕ) (r : Result RunEnd RunFault) →
+    words ≡ seeded seed →
+    HasGoneOn old new →
+    by_rounds.HasRun old new words after rounds →
+    IfErr r (λ f. EndsFor new f) →
+    r ≡ Err TurnLimit →
+    IsByRounds seed old.wake old.turns old.net.graph new.net.trace
+at_limit_by_rounds seed old new words after rounds r begun gone ran ends at_limit =
+    let used : StopsFor new TurnLimit = subst (λ (x : Result RunEnd RunFault). IfErr x (λ f. StopsFor new f)) at_limit (stops_for old new r gone ends) in
+    let turns = gone.turns in
+    record { rounds = rounds; picked = is_in_rounds seed old new words after rounds begun ran; over = inr (omega (arith, used, turns)) }

@@ -1,5 +1,5 @@
--- Runs of a graph by the schedule of a seed, which picks among all events that may happen or patiently.
-use Rattle.std.specs.Prelude.{◌≡◌, ℕ, ◌+◌, ◌*◌, ◌≤◌, ◌⊎◌, List, [], length}
+-- Runs of a graph by the schedule of a seed, which picks among all events that may happen, patiently, or by rounds.
+use Rattle.std.specs.Prelude.{◌≡◌, ℕ, ◌+◌, ◌*◌, ◌≤◌, ◌⊎◌, List, [], length, Option, Some, None}
 use Rattle.ghs_graph.specs.Bound.{IsBound}
 use Rattle.ghs_graph.specs.Graph.{Shape}
 use Rattle.ghs_protocol.specs.declared.event.Event.{Event}
@@ -12,9 +12,10 @@ use Rattle.ghs_sched.specs.declared.fault.RunFault.TheVariants.{TurnLimit, Stall
 use Rattle.ghs_world.specs.declared.wake_set.WakeSet.{WakeSet}
 use Rattle.ghs_world.specs.Wakes.{may_wake}
 use Rattle.ghs_world.specs.WorldState.{WorldState}
-use Rattle.ghs_patient.specs.declared.picking.Picking.{Picking}
-use Rattle.ghs_patient.specs.declared.picking.Picking.TheVariants.{Seeded, Patient}
 use Rattle.ghs_patient.specs.Runs.{IsPatientlyPicked}
+use Rattle.ghs_rounds.specs.Runs.{IsPickedByRounds}
+use Rattle.ghs_picking.specs.declared.picking.Picking.{Picking}
+use Rattle.ghs_picking.specs.declared.picking.Picking.TheVariants.{Seeded, Patient, Rounds}
 
 -- the events of the seed's run of a graph: all that its schedule picks, from the opening on
 pub record IsSeeded (seed : ℕ) (wake : WakeSet) (turns : ℕ) (g : Shape) (events : List Event) : Type 0 where
@@ -36,10 +37,28 @@ pub record IsPatient (seed : ℕ) (wake : WakeSet) (turns : ℕ) (g : Shape) (ev
   pub short : (b : ℕ) → IsBound g.nodes (length g.keys) b → length events ≤ 2 * (b + g.nodes)
   pub ends : HasTurnsFor g turns → HasEnded g (net_after g events)
 
--- the events of the run that a seed's schedule picks of a graph, among all that may happen or patiently
+-- the events that the seed's schedule picks of a graph in so many rounds, from the opening on
+pub record IsInRounds (seed : ℕ) (wake : WakeSet) (turns : ℕ) (g : Shape) (events : List Event) (rounds : ℕ) : Type 0 where
+  pub words : List ℕ
+  pub picked : IsPickedByRounds (may_wake g wake) g turns (seeded seed) events rounds words
+
+-- the events of the seed's run of a graph by rounds: all that its schedule picks so, from the opening on to the end or to the last turn
+pub record IsByRounds (seed : ℕ) (wake : WakeSet) (turns : ℕ) (g : Shape) (events : List Event) : Type 0 where
+  pub rounds : ℕ
+  pub picked : IsInRounds seed wake turns g events rounds
+  pub over : HasEnded g (net_after g events) ⊎ (turns ≤ length events)
+
+-- the events of the run that a seed's schedule picks of a graph, among all that may happen, patiently or by rounds
 abbrev pub IsPickedBy : Picking → ℕ → WakeSet → ℕ → Shape → List Event → Type 0
 IsPickedBy Seeded seed wake turns g events = IsSeeded seed wake turns g events
 IsPickedBy Patient seed wake turns g events = IsPatient seed wake turns g events
+IsPickedBy Rounds seed wake turns g events = IsByRounds seed wake turns g events
+
+-- in how many rounds a schedule has picked events, where it picks by rounds
+abbrev pub AreRounds : Picking → ℕ → WakeSet → ℕ → Shape → List Event → Option ℕ → Type 0
+AreRounds Seeded seed wake turns g events rounds = rounds ≡ None
+AreRounds Patient seed wake turns g events rounds = rounds ≡ None
+AreRounds Rounds seed wake turns g events rounds = (r : ℕ) × (rounds ≡ Some r) × IsInRounds seed wake turns g events r
 
 -- why a run from the opening on stops before its end: its turns are used, or memory is wanting; an event is always ready, and has a rule
 abbrev pub StopsFor : WorldState → RunFault → Type 0
