@@ -241,15 +241,18 @@ in_pieces n h is =
       leasts = heads p k;
       rising = pairs_apart (λ a b. a < b) (heads p k) (apart_heads p k);
       has = λ v c.
-          let head = each_has (IsHeadTo p p.nodes) (heads p k) v each c in
-          (head.0, head.1, record {
-            joined = Same;
-            least = λ u way.
-                let same : head_of p v ≡ head_of p u = joined_heads p (map key_of (links_of n)) heads_one way in
-                let own = head_is p v head.2 in
-                let low = head_at_most p h.plan u u in
-                omega (arith, same, own, low);
-          });
+          let head = each_has (IsHeadTo p p.nodes) (heads p k) v each c in (
+            head.0,
+            head.1,
+            record {
+              joined = Same;
+              least = λ u way.
+                  let same : head_of p v ≡ head_of p u = joined_heads p (map key_of (links_of n)) heads_one way in
+                  let own = head_is p v head.2 in
+                  let low = head_at_most p h.plan u u in
+                  omega (arith, same, own, low);
+            },
+          );
       all = λ v low high root. all_heads p k v low (omega (arith, high, all)) (root_alone n h v low high root);
       number = omega (arith, long, counted, all);
     }

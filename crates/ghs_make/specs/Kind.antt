@@ -1,5 +1,6 @@
 -- Kinds of networks.
-use Rattle.std.specs.Prelude.{ℕ, Bool, true, false, codes, List}
+use Rattle.std.specs.Prelude.{ℕ, Bool, true, false, codes, cond, List, Option, Some, None}
+use Rattle.std.specs.Str.{bytes_eq}
 use Rattle.ghs_make.specs.declared.kind.Kind.{Kind}
 use Rattle.ghs_make.specs.declared.kind.Kind.TheVariants.{Path, Ring, Star, Grid, Complete, Tree, Random, Road, Forest, Slow, Busy}
 
@@ -15,6 +16,21 @@ kind_name Road = codes "road"
 kind_name Forest = codes "forest"
 kind_name Slow = codes "slow"
 kind_name Busy = codes "busy"
+
+-- the kind of a name
+abbrev pub kind_named : List ℕ → Option Kind
+kind_named name =
+    cond (bytes_eq name (codes "path")) (Some Path)
+    (cond (bytes_eq name (codes "ring")) (Some Ring)
+    (cond (bytes_eq name (codes "star")) (Some Star)
+    (cond (bytes_eq name (codes "grid")) (Some Grid)
+    (cond (bytes_eq name (codes "complete")) (Some Complete)
+    (cond (bytes_eq name (codes "tree")) (Some Tree)
+    (cond (bytes_eq name (codes "random")) (Some Random)
+    (cond (bytes_eq name (codes "road")) (Some Road)
+    (cond (bytes_eq name (codes "forest")) (Some Forest)
+    (cond (bytes_eq name (codes "slow")) (Some Slow)
+    (cond (bytes_eq name (codes "busy")) (Some Busy) None))))))))))
 
 -- the kind takes a number of links
 abbrev pub takes_links : Kind → Bool

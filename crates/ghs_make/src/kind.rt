@@ -1,5 +1,5 @@
 //! Kinds of networks.
-ghost use Rattle.ghs_make.specs.Kind.{kind_name, has_own_weights as has_own_weights_of, takes_links as takes_links_of};
+ghost use Rattle.ghs_make.specs.Kind.{kind_name, kind_named, has_own_weights as has_own_weights_of, takes_links as takes_links_of};
 ghost use Rattle.std.specs.Prelude.{◌≡◌};
 
 /// A kind of networks. Nodes are numbered from 1, and each link stands at its larger end.
@@ -47,6 +47,46 @@ impl Kind {
             Kind::Slow => "slow",
             Kind::Busy => "busy",
         }
+    }
+
+    /// The kind of this name.
+    pub fn named(name: &str) -> Option<Kind>
+        ensures { result ≡ kind_named name.now }
+    {
+        if name == "path" {
+            return Some(Kind::Path);
+        }
+        if name == "ring" {
+            return Some(Kind::Ring);
+        }
+        if name == "star" {
+            return Some(Kind::Star);
+        }
+        if name == "grid" {
+            return Some(Kind::Grid);
+        }
+        if name == "complete" {
+            return Some(Kind::Complete);
+        }
+        if name == "tree" {
+            return Some(Kind::Tree);
+        }
+        if name == "random" {
+            return Some(Kind::Random);
+        }
+        if name == "road" {
+            return Some(Kind::Road);
+        }
+        if name == "forest" {
+            return Some(Kind::Forest);
+        }
+        if name == "slow" {
+            return Some(Kind::Slow);
+        }
+        if name == "busy" {
+            return Some(Kind::Busy);
+        }
+        None
     }
 
     /// Whether it takes a number of links.

@@ -9,7 +9,7 @@ use ghs_gr::raw_graph::{ARC_LIMIT, NODE_LIMIT};
 use ghs_graph::bounds::floor_log2;
 
 /// What is asked for.
-#[derive(Clone, Copy, Debug, Drop)]
+#[derive(Clone, Copy, Debug, Drop, PartialEq, Eq)]
 pub struct Asked {
     pub kind: Kind,
     /// How many nodes: 1 to `NODE_LIMIT`.

@@ -1,5 +1,5 @@
 //! How links weigh.
-ghost use Rattle.ghs_make.specs.Weights.{weights_name};
+ghost use Rattle.ghs_make.specs.Weights.{weights_name, weights_named};
 ghost use Rattle.std.specs.Prelude.{◌≡◌};
 
 /// How links weigh, in the order of their lines.
@@ -26,5 +26,24 @@ impl Weights {
             Weights::Falling => "falling",
             Weights::Equal => "equal",
         }
+    }
+
+    /// Those of this name.
+    pub fn named(name: &str) -> Option<Weights>
+        ensures { result ≡ weights_named name.now }
+    {
+        if name == "random" {
+            return Some(Weights::Random);
+        }
+        if name == "rising" {
+            return Some(Weights::Rising);
+        }
+        if name == "falling" {
+            return Some(Weights::Falling);
+        }
+        if name == "equal" {
+            return Some(Weights::Equal);
+        }
+        None
     }
 }
