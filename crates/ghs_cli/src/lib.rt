@@ -2,6 +2,7 @@
 #![tactic(auto)]
 
 pub mod fault;
+mod making;
 mod output;
 mod progress;
 mod replaying;
