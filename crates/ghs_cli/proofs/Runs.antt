@@ -1,6 +1,6 @@
 -- What a run of a world comes to.
 use Rattle.std.proofs.Common.{◌≡◌, ◌∙◌, ℕ, ◌+◌, ◌-◌, ◌≤◌, ◌<◌, ◌^◌, ◌⊎◌, ⊎_elim, Bool, true, List, [], Option, Some, None, ap, arith, inr, length, subst, sym}
-use Rattle.std.specs.Prelude.{IfErr, IfOk, IfSome, OnErr, Result, Ok, Err}
+use Rattle.std.specs.Prelude.{IfErr, IfOk, IfSome, OnErr, OnOk, Result, Ok, Err}
 use Rattle.ghs_gr.specs.Judgement.{TextIs}
 use Rattle.ghs_gr.specs.RawGraph.{RawShape}
 use Rattle.ghs_graph.specs.Graph.{Shape}
@@ -8,7 +8,7 @@ use Rattle.ghs_protocol.specs.declared.event.Event.{Event}
 use Rattle.ghs_protocol.specs.Marks.{HasEnded}
 use Rattle.ghs_protocol.specs.Network.{network_of}
 use Rattle.ghs_protocol.specs.Run.{IsRunUnder}
-use Rattle.ghs_picking.specs.Picking.{IsPickedBy, StopsFor}
+use Rattle.ghs_picking.specs.Picking.{AreRounds, IsPickedBy, StopsFor}
 use Rattle.ghs_pool.specs.Ends.{EndFits}
 use Rattle.ghs_pool.specs.declared.end.PoolFault.{PoolFault}
 use Rattle.ghs_pool.specs.declared.end.PoolFault.TheVariants as pool
@@ -27,7 +27,7 @@ use Rattle.ghs_words.specs.declared.job.Show.TheVariants.{Events}
 use Rattle.ghs_words.specs.declared.job.Task.{Task}
 use Rattle.ghs_words.specs.declared.job.Task.TheVariants as task
 use Rattle.ghs_cli.specs.Running.{IsOpened}
-use Rattle.ghs_cli.specs.Serving.{IfStored, IsCause, IsRan, IsRunBy, IsRunOutput, IsRunningCause, IsStopped, IsWholeRun, StopsRun, shape_of}
+use Rattle.ghs_cli.specs.Serving.{AreItsRounds, IfStored, IsCause, IsRan, IsRunBy, IsRunOutput, IsRunningCause, IsStopped, IsWholeRun, StopsRun, shape_of}
 
 -- what a world holds of its run, as the options ask
 pub is_run_by : (o : RunOptions) (new : WorldState) (limit : ℕ) →
@@ -72,8 +72,23 @@ by_schedule : (o : RunOptions) (old new : WorldState) (limit : ℕ) →
 by_schedule o old new limit opened graph wake turns run is fits picked =
     is_run_by o new limit (wake ∙ opened.wake) (turns ∙ opened.turns) run is fits (λ no. picked_by o old new opened graph picked)
 
+-- its rounds are the run's; a schedule picks where no threads take part
+pub rounds_by_schedule : (o : RunOptions) (old new : WorldState) (rounds : Option ℕ) →
+    IsOpened o old →
+    o.workers ≡ 0 →
+    new.net.graph ≡ old.net.graph →
+    AreRounds o.picking o.seed old.wake old.turns old.net.graph new.net.trace rounds →
+    AreItsRounds o new.net.graph new.net.trace rounds
+rounds_by_schedule o old new rounds opened none graph are = record {
+  by_schedule = λ no.
+      subst (λ (s : Shape). AreRounds o.picking o.seed o.wake o.turns s new.net.trace rounds) (sym graph)
+      (subst (λ (w : WakeSet). AreRounds o.picking o.seed w o.turns old.net.graph new.net.trace rounds) opened.wake
+      (subst (λ (t : ℕ). AreRounds o.picking o.seed old.wake t old.net.graph new.net.trace rounds) opened.turns are));
+  by_threads = λ some. absurd (omega (arith, some, none));
+}
+
 -- the seed's run has ended
-pub whole_by_schedule : (o : RunOptions) (old new : WorldState) (limit : ℕ) (e : RunEnd) →
+pub whole_by_schedule : (o : RunOptions) (old new : WorldState) (limit : ℕ) (r : Result RunEnd RunFault) (e : RunEnd) →
     IsOpened o old →
     new.net.graph ≡ old.net.graph →
     new.wake ≡ old.wake →
@@ -81,11 +96,15 @@ pub whole_by_schedule : (o : RunOptions) (old new : WorldState) (limit : ℕ) (e
     IsRunUnder (wakers new) (network_of new.net.graph) new.net.trace →
     limit ≡ new.turns →
     length new.net.trace + length new.outs ≤ limit →
-    IsPickedBy o.picking o.seed old.wake old.turns old.net.graph new.net.trace →
-    IsEnd new e →
+    r ≡ Ok e →
+    OnOk r (IsPickedBy o.picking o.seed old.wake old.turns old.net.graph new.net.trace) →
+    IfOk r (λ e. IsEnd new e) →
     IsWholeRun o new.net.graph new.net.trace
-whole_by_schedule o old new limit e opened graph wake turns run is fits picked end =
-    record { by = by_schedule o old new limit opened graph wake turns run is fits picked; ended = ended_by new e end }
+whole_by_schedule o old new limit r e opened graph wake turns run is fits answer picked end = record {
+  by = by_schedule o old new limit opened graph wake turns run is fits
+      (subst (λ (x : Result RunEnd RunFault). OnOk x (IsPickedBy o.picking o.seed old.wake old.turns old.net.graph new.net.trace)) answer picked);
+  ended = ended_by new e (subst (λ (x : Result RunEnd RunFault). IfOk x (λ e. IsEnd new e)) answer end);
+}
 
 -- the seed's run has used its turns
 pub stopped_by_schedule : (o : RunOptions) (old new : WorldState) (limit : ℕ) (r : Result RunEnd RunFault) →

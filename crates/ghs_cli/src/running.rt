@@ -133,7 +133,8 @@ fn by_schedule(
     options: &RunOptions,
     mut world: World,
 ) -> (World, Option<u64>, Result<RunEnd, Stop>)
-    requires { IsOpened options.now world }
+    requires opened { IsOpened options.now world }
+    requires alone { options.now.workers ≡ 0 }
     ensures graph { result.0.net.graph ≡ world.net.graph }
     ensures rounds { AreItsRounds options.now result.0.net.graph result.0.net.trace result.1 }
     ensures whole { OnOk result.2 (IsWholeRun options.now result.0.net.graph result.0.net.trace) }
