@@ -109,13 +109,17 @@ view_command =
     let picked = with_rule (with_rule (with_rule (with_rule named seed_rule) schedule_rule) wake_rule) turns_rule in
     with_rule (with_rule (with_rule picked stored_rule) from_rule) to_rule
 
+-- a word that has to stand at its place
+abbrev pub place_rule : Text → Rule
+place_rule name = record (new_rule name) { required = true }
+
 -- KIND: the kind of a network
 abbrev pub kind_rule : Rule
-kind_rule = record (new_rule (codes "KIND")) { required = true }
+kind_rule = place_rule (codes "KIND")
 
 -- NODES: how many nodes it has
 abbrev pub nodes_rule : Rule
-nodes_rule = record (new_rule (codes "NODES")) { required = true }
+nodes_rule = place_rule (codes "NODES")
 
 -- `--links`: how many links it has
 abbrev pub links_rule : Rule

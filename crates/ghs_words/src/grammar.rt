@@ -1,7 +1,7 @@
 //! The words that the program takes.
 ghost use Rattle.clap.specs.Words.{app_of, rule_of};
 ghost use Rattle.clap.specs.declared.builder.command.Command.TheViews.{out-Command};
-ghost use Rattle.ghs_words.specs.Grammar.{core_rule, file_rule, from_rule, json_rule, kind_rule, links_rule, make_command, node_rule, nodes_rule, option_rule, print_rule, program, progress_rule, replay_command, run_command, schedule_rule, seed_rule, seeds_rule, sheet_rule, steps_command, sweep_command, to_rule, trace_rule, tree_command, turns_rule, wake_rule, weights_rule, workers_rule, stored_rule, view_command};
+ghost use Rattle.ghs_words.specs.Grammar.{core_rule, file_rule, from_rule, json_rule, kind_rule, links_rule, make_command, node_rule, nodes_rule, option_rule, place_rule, print_rule, program, progress_rule, replay_command, run_command, schedule_rule, seed_rule, seeds_rule, sheet_rule, steps_command, sweep_command, to_rule, trace_rule, tree_command, turns_rule, wake_rule, weights_rule, workers_rule, stored_rule, view_command};
 ghost use Rattle.std.specs.Prelude.{◌≡◌, IfOk, false};
 
 use clap::{Arg, ArgAction, Command};
@@ -154,11 +154,9 @@ fn kind<'a>(alloc: Global) -> Arg<'a>
     ensures local { result.global ≡ false }
     ensures rule { rule_of result ≡ kind_rule }
 {
-    Arg::new(alloc, "KIND")
-        .help(
-            "The kind: path, ring, star, grid, complete, tree, random, road, forest, slow or busy",
-        )
-        .required(true)
+    place(alloc, "KIND").help(
+        "The kind: path, ring, star, grid, complete, tree, random, road, forest, slow or busy",
+    )
 }
 
 // How many nodes it has.
@@ -166,9 +164,15 @@ fn nodes<'a>(alloc: Global) -> Arg<'a>
     ensures local { result.global ≡ false }
     ensures rule { rule_of result ≡ nodes_rule }
 {
-    Arg::new(alloc, "NODES")
-        .help("How many nodes it has, 1 to 1048576")
-        .required(true)
+    place(alloc, "NODES").help("How many nodes it has, 1 to 1048576")
+}
+
+// A word that has to stand at its place.
+fn place<'a>(alloc: Global, name: &'a str) -> Arg<'a>
+    ensures local { result.global ≡ false }
+    ensures rule { rule_of result ≡ place_rule name.entry.now }
+{
+    Arg::new(alloc, name).required(true)
 }
 
 // What picks its links and weights.
