@@ -2,9 +2,9 @@
 use Rattle.std.specs.Prelude.{◌≡◌, ◌≢◌, ◌⊎◌, ℕ, []}
 use Rattle.clap.specs.Kinds.{Kinds, IsAmong}
 use Rattle.clap.specs.declared.error.kind.ErrorKind.{ErrorKind}
-use Rattle.ghs_words.specs.Job.{IsAsked}
+use Rattle.ghs_words.specs.Job.{IsRequest}
 
 -- words end with status 2 only where they are refused, and with 0 only where they are taken or ask for help or the version
 pub record IsStatusOf (kinds : Kinds) (status : ℕ) : Type 0 where
-  pub refused : status ≡ 2 → (k : ErrorKind) × IsAmong k kinds × (IsAsked k → ⊥)
-  pub done : status ≡ 0 → (kinds ≡ []) ⊎ ((k : ErrorKind) × IsAmong k kinds × IsAsked k)
+  pub refused : status ≡ 2 → (k : ErrorKind) × IsAmong k kinds × (IsRequest k → ⊥)
+  pub done : status ≡ 0 → (kinds ≡ []) ⊎ ((k : ErrorKind) × IsAmong k kinds × IsRequest k)

@@ -8,6 +8,10 @@ use Rattle.ghs_sched.specs.declared.fault.ReplayFault.{ReplayFault}
 use Rattle.ghs_sched.specs.declared.fault.ReplayFault.TheVariants as replay
 use Rattle.ghs_sched.specs.declared.fault.TraceFault.{TraceFault}
 use Rattle.ghs_sched.specs.declared.fault.TraceFault.TheVariants as trace
+use Rattle.ghs_make.specs.declared.fault.MakeFault.{MakeFault}
+use Rattle.ghs_make.specs.declared.fault.MakeFault.TheVariants as make
+use Rattle.ghs_make.specs.declared.write.WriteFault.{WriteFault}
+use Rattle.ghs_make.specs.declared.write.WriteFault.TheVariants as write
 use Rattle.ghs_steps.specs.declared.show.StepsFault.{StepsFault}
 use Rattle.ghs_steps.specs.declared.show.StepsFault.TheVariants as steps
 use Rattle.ghs_cli.specs.declared.fault.ServeFault.{ServeFault}
@@ -49,6 +53,19 @@ of_steps (steps.NotLawful k) = serve.NotLawful k
 of_steps steps.Memory = serve.Memory
 of_steps (steps.Write written) = serve.Write written
 
+-- and of a network that is made, and of its text
+abbrev pub of_make : MakeFault → ServeFault
+of_make make.Nodes = serve.NodesOutside
+of_make make.LinksGiven = serve.LinksGiven
+of_make make.WeightsGiven = serve.WeightsGiven
+of_make (make.Links least most) = serve.LinksOutside least most
+of_make make.TooManyLinks = serve.TooManyLinks
+of_make make.Memory = serve.Memory
+
+abbrev pub of_unwritten : WriteFault → ServeFault
+of_unwritten write.Memory = serve.Memory
+of_unwritten (write.Write written) = serve.Write written
+
 -- the exit status: 1 for input that is refused, 3 for a run that hasn't ended, 4 for want of memory or of a thread, 5 for a read or a write that failed, 6 for a state without a rule or workers that stop without a reason
 abbrev pub status_of : ServeFault → ℕ
 status_of (serve.BadLine line) = 1
@@ -64,6 +81,11 @@ status_of (serve.TraceNumber line) = 1
 status_of (serve.TraceCount said found) = 1
 status_of (serve.NotLawful k) = 1
 status_of serve.PageTooLarge = 1
+status_of serve.NodesOutside = 1
+status_of serve.LinksGiven = 1
+status_of serve.WeightsGiven = 1
+status_of (serve.LinksOutside least most) = 1
+status_of serve.TooManyLinks = 1
 status_of serve.TurnLimit = 3
 status_of serve.Stalled = 3
 status_of serve.NotEnded = 3

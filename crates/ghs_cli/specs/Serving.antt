@@ -34,6 +34,11 @@ use Rattle.ghs_cli.specs.declared.fault.ServeFault.TheVariants as serve
 use Rattle.ghs_words.specs.declared.job.RunOptions.{RunOptions}
 use Rattle.ghs_words.specs.declared.job.Show.{Show}
 use Rattle.ghs_words.specs.declared.job.Show.TheVariants.{Summary, Events, Time}
+use Rattle.ghs_make.specs.Network.{IsNetwork, IsNetworkOf, IsRefusal}
+use Rattle.ghs_make.specs.Text.{text_of}
+use Rattle.ghs_make.specs.declared.fault.MakeFault.TheVariants as make
+use Rattle.ghs_make.specs.declared.network.Network.{Network}
+use Rattle.ghs_make.specs.declared.plan.Asked.{Asked}
 use Rattle.ghs_words.specs.declared.job.StepsOptions.{StepsOptions}
 use Rattle.ghs_words.specs.declared.job.StoredViewOptions.{StoredViewOptions}
 use Rattle.ghs_words.specs.declared.job.SweepOptions.{SweepOptions}
@@ -170,6 +175,13 @@ pub record IsStoredViewOutput (o : StoredViewOptions) (stored input output : Lis
   pub trace : IsTraceText stored events
   pub view : IsStoredView o (shape_of graph) events output
 
+-- the output is the text of the network that is asked for
+pub record IsMade (asked : Asked) (output : List ℕ) : Type 0 where
+  pub network : Network
+  pub sound : IsNetwork network
+  pub asked : IsNetworkOf asked network
+  pub printed : output ≡ text_of network
+
 -- what a task prints
 abbrev pub IsPrinted : Task → List ℕ → List ℕ → List ℕ → Type 0
 IsPrinted (task.Tree core) stored input output = IsTreeText core input output
@@ -179,6 +191,7 @@ IsPrinted (task.Steps o) stored input output = IsStepsText o stored input output
 IsPrinted (task.Sweep o) stored input output = IsSweepOutput o input output
 IsPrinted (task.View o) stored input output = IsViewOutput o input output
 IsPrinted (task.StoredView o) stored input output = IsStoredViewOutput o stored input output
+IsPrinted (task.Make asked) stored input output = IsMade asked output
 
 -- what a task prints before it answers that its turns are used
 abbrev pub IsPrintedAtLimit : Task → List ℕ → List ℕ → Type 0
@@ -189,6 +202,7 @@ IsPrintedAtLimit (task.Steps o) input output = ⊥
 IsPrintedAtLimit (task.Sweep o) input output = ⊥
 IsPrintedAtLimit (task.View o) input output = ⊥
 IsPrintedAtLimit (task.StoredView o) input output = ⊥
+IsPrintedAtLimit (task.Make asked) input output = ⊥
 
 -- what is stored gives this fault; it may be too long, and the reader and memory may fail for any
 abbrev pub IsTraceCause : List ℕ → ServeFault → Type 0
@@ -273,6 +287,16 @@ abbrev pub IsStoredViewCause : StoredViewOptions → List ℕ → List ℕ → S
 IsStoredViewCause o stored input fault =
     IsTraceCause stored fault ⊎ (((events : List Event) × IsTraceText stored events × IsGraphCause input fault) ⊎ HaveNoPage o stored input fault)
 
+-- why a network isn't made: what is asked for is refused, it has too many links, or memory is wanting
+abbrev pub IsMakeCause : Asked → ServeFault → Type 0
+IsMakeCause asked serve.NodesOutside = IsRefusal asked make.Nodes
+IsMakeCause asked serve.LinksGiven = IsRefusal asked make.LinksGiven
+IsMakeCause asked serve.WeightsGiven = IsRefusal asked make.WeightsGiven
+IsMakeCause asked (serve.LinksOutside least most) = IsRefusal asked (make.Links least most)
+IsMakeCause asked serve.TooManyLinks = IsRefusal asked make.TooManyLinks
+IsMakeCause asked serve.Memory = Unit {0}
+IsMakeCause asked _ = ⊥
+
 -- why a task doesn't end well
 abbrev pub IsCause : Task → List ℕ → List ℕ → ServeFault → Type 0
 IsCause (task.Tree core) stored input fault = IsGraphCause input fault
@@ -282,6 +306,7 @@ IsCause (task.Steps o) stored input fault = IsStepsCause o.wake stored input fau
 IsCause (task.Sweep o) stored input fault = IsGraphCause input fault
 IsCause (task.View o) stored input fault = IsViewCause o input fault
 IsCause (task.StoredView o) stored input fault = IsStoredViewCause o stored input fault
+IsCause (task.Make asked) stored input fault = IsMakeCause asked fault
 
 -- what goes out whole for a task, and whether the answer behind it is that its turns are used; steps go out by portions
 abbrev pub IsOutput : Task → Bool → List ℕ → List ℕ → List ℕ → Type 0
@@ -292,6 +317,7 @@ IsOutput (task.Steps o) at_limit stored input output = ⊥
 IsOutput (task.Sweep o) at_limit stored input output = (at_limit ≡ false) × IsSweepOutput o input output
 IsOutput (task.View o) at_limit stored input output = (at_limit ≡ false) × IsViewOutput o input output
 IsOutput (task.StoredView o) at_limit stored input output = (at_limit ≡ false) × IsStoredViewOutput o stored input output
+IsOutput (task.Make asked) at_limit stored input output = ⊥
 
 -- what may have gone out in part
 abbrev pub IsTried : Task → List ℕ → List ℕ → List ℕ → Type 0
@@ -302,6 +328,7 @@ IsTried (task.Steps o) stored input output = IsStepsText o stored input output
 IsTried (task.Sweep o) stored input output = IsSweepOutput o input output
 IsTried (task.View o) stored input output = IsViewOutput o input output
 IsTried (task.StoredView o) stored input output = IsStoredViewOutput o stored input output
+IsTried (task.Make asked) stored input output = IsMade asked output
 
 -- whether the events of a run are asked for
 abbrev pub is_events : Show → Bool
@@ -317,6 +344,7 @@ shows_events (task.Steps o) = false
 shows_events (task.Sweep o) = false
 shows_events (task.View o) = false
 shows_events (task.StoredView o) = false
+shows_events (task.Make asked) = false
 
 -- where the events of a run are asked for, they have gone out before the answer that its turns are used
 abbrev pub HasShown : Task → List ℕ → Option (List ℕ) → Option (List ℕ) → Type 0
@@ -326,6 +354,7 @@ HasShown job input old new =
 -- a task that prints by portions may have printed the first bytes before memory was wanting
 abbrev pub HasBegun : Task → List ℕ → List ℕ → Option (List ℕ) → Option (List ℕ) → Type 0
 HasBegun (task.Steps o) stored input old new = (new ≡ old) ⊎ ((output : List ℕ) × IsStepsText o stored input output × ((k : ℕ) × (k ≤ length output) × HasWritten old new output k))
+HasBegun (task.Make asked) stored input old new = (new ≡ old) ⊎ ((output : List ℕ) × IsMade asked output × ((k : ℕ) × (k ≤ length output) × HasWritten old new output k))
 HasBegun _ stored input old new = Unit {0}
 
 -- what has gone out: all of what the task prints, or only its first bytes, where a write failed
@@ -345,6 +374,7 @@ IfStored (task.Steps o) stored P = IfSome stored P
 IfStored (task.Sweep o) stored P = (bytes : List ℕ) → P bytes
 IfStored (task.View o) stored P = (bytes : List ℕ) → P bytes
 IfStored (task.StoredView o) stored P = IfSome stored P
+IfStored (task.Make asked) stored P = (bytes : List ℕ) → P bytes
 
 abbrev pub is_write : ServeFault → Bool
 is_write (serve.Write written) = true
@@ -372,6 +402,7 @@ by_portions (task.Steps o) = true
 by_portions (task.Sweep o) = false
 by_portions (task.View o) = false
 by_portions (task.StoredView o) = false
+by_portions (task.Make asked) = true
 
 -- a fault that may come behind output
 abbrev pub is_late : Task → ServeFault → Bool
@@ -391,3 +422,4 @@ IsUnread (task.Steps o) old new = Unit {0}
 IsUnread (task.Sweep o) old new = new ≡ old
 IsUnread (task.View o) old new = new ≡ old
 IsUnread (task.StoredView o) old new = Unit {0}
+IsUnread (task.Make asked) old new = new ≡ old

@@ -1,9 +1,11 @@
 //! Why the program gives no answer.
-ghost use Rattle.ghs_cli.specs.Fault.{of_gr, of_replay, of_steps, of_text, of_trace, status_of};
+ghost use Rattle.ghs_cli.specs.Fault.{of_gr, of_make, of_replay, of_steps, of_text, of_trace, of_unwritten, status_of};
 ghost use Rattle.std.specs.Prelude.{◌≡◌};
 
 use ghs_gr::fault::GrFault;
 use ghs_gr::text::TextFault;
+use ghs_make::fault::MakeFault;
+use ghs_make::write::WriteFault;
 use ghs_report::write_out::Partial;
 use ghs_sched::fault::{ReplayFault, TraceFault};
 use ghs_steps::show::StepsFault;
@@ -39,6 +41,16 @@ pub enum ServeFault {
     NotLawful(u64),
     #[error("page too large: at most 2000 nodes and 100000 events; --to shortens it, --from only opens it later")]
     PageTooLarge,
+    #[error("nodes: 1 to 1048576")]
+    NodesOutside,
+    #[error("this kind takes no number of links")]
+    LinksGiven,
+    #[error("this kind has weights of its own")]
+    WeightsGiven,
+    #[error("links: {least} to {most}")]
+    LinksOutside { least: u32, most: u32 },
+    #[error("more than 8388608 links")]
+    TooManyLinks,
     #[error("turn limit reached")]
     TurnLimit,
     /// Never answered: while a run goes on, an event is ready.
@@ -147,6 +159,32 @@ impl From<StepsFault> for ServeFault {
             StepsFault::NotLawful(event) => ServeFault::NotLawful(event),
             StepsFault::Memory => ServeFault::Memory,
             StepsFault::Write { written } => ServeFault::Write { written },
+        }
+    }
+}
+
+impl From<MakeFault> for ServeFault {
+    ghost from_gives = { λ x e. e ≡ of_make x };
+
+    fn from(fault: MakeFault) -> ServeFault {
+        match fault {
+            MakeFault::Nodes => ServeFault::NodesOutside,
+            MakeFault::LinksGiven => ServeFault::LinksGiven,
+            MakeFault::WeightsGiven => ServeFault::WeightsGiven,
+            MakeFault::Links { least, most } => ServeFault::LinksOutside { least, most },
+            MakeFault::TooManyLinks => ServeFault::TooManyLinks,
+            MakeFault::Memory => ServeFault::Memory,
+        }
+    }
+}
+
+impl From<WriteFault> for ServeFault {
+    ghost from_gives = { λ x e. e ≡ of_unwritten x };
+
+    fn from(fault: WriteFault) -> ServeFault {
+        match fault {
+            WriteFault::Memory => ServeFault::Memory,
+            WriteFault::Write { written } => ServeFault::Write { written },
         }
     }
 }

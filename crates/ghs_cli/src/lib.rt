@@ -3,6 +3,7 @@
 
 mod beside;
 pub mod fault;
+mod making;
 mod output;
 mod progress;
 mod replaying;

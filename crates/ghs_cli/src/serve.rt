@@ -6,6 +6,7 @@ ghost use Rattle.ghs_cli.specs.declared.fault.ServeFault.{ServeFault};
 ghost use Rattle.std.specs.Prelude.{◌≡◌, ◌⊎◌, ◌↔◌, false, true, IfSome, IsErrOf, IfErr, IfOk};
 
 use crate::fault::ServeFault;
+use crate::making::write_network_of;
 use crate::output::Output;
 use crate::replaying::replay_text_of;
 use crate::running::run_output_of;
@@ -26,8 +27,8 @@ use std::sync::Wait;
 use std::thread::Threads;
 
 /// Does what the job asks for: reads what it needs, and writes what is to be printed. The output is made whole before
-/// its first byte goes out, but for steps: their lines go out by portions, once trace, graph and run are judged, so that
-/// want of memory may be said behind a front of them. Of several faults the first in the order of work counts: reading
+/// its first byte goes out, but for steps and networks that are made: their lines go out by portions, once what they are of
+/// is judged, so that want of memory may be said behind a front of them. Of several faults the first in the order of work counts: reading
 /// the trace, judging it, reading the graph, judging it, the run or the replay, the writing; want of memory comes where
 /// it is met. Only replays, steps and pages of stored runs touch the trace. Threads run a network where the job names
 /// workers, and where it asks for progress lines on standard error tell of it; one that can't be written is passed over.
@@ -61,6 +62,7 @@ pub fn serve<R: Source, T: Source, W: Sink, H: Threads + Wait + Eprint + Sync>(
         Task::Sweep(_) => print(rt, alloc, job, graph, trace, out),
         Task::View(_) => print(rt, alloc, job, graph, trace, out),
         Task::StoredView(_) => print(rt, alloc, job, graph, trace, out),
+        Task::Make(asked) => write_network_of(alloc, asked, out),
     }
 }
 
@@ -118,6 +120,7 @@ fn output_of<R: Source, T: Source, H: Threads + Wait + Eprint + Sync>(
         Task::Run(options) => run_output_of(rt, alloc, options, graph),
         Task::Replay { wake } => Ok(Output::whole(replay_text_of(alloc, *wake, graph, trace)?)),
         Task::Steps(_) => unreachable!(),
+        Task::Make(_) => unreachable!(),
         Task::Sweep(options) => Ok(Output::whole(sweep_text_of(rt, alloc, options, graph)?)),
         Task::View(options) => Ok(Output::whole(view_text_of(alloc, options, graph)?)),
         Task::StoredView(options) => {

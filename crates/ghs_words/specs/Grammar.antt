@@ -113,10 +113,37 @@ view_command =
     let picked = with_rule (with_rule (with_rule seeded schedule_rule) wake_rule) turns_rule in
     with_rule (with_rule (with_rule picked stored_rule) from_rule) to_rule
 
+-- a word that has to stand at its place
+abbrev pub place_rule : Text → Rule
+place_rule name = record (new_rule name) { required = true }
+
+-- KIND: the kind of a network
+abbrev pub kind_rule : Rule
+kind_rule = place_rule (codes "KIND")
+
+-- NODES: how many nodes it has
+abbrev pub nodes_rule : Rule
+nodes_rule = place_rule (codes "NODES")
+
+-- `--links`: how many links it has
+abbrev pub links_rule : Rule
+links_rule = record (new_rule (codes "links")) { long = Some (codes "links") }
+
+-- `--weights`: how they weigh
+abbrev pub weights_rule : Rule
+weights_rule = record (new_rule (codes "weights")) { long = Some (codes "weights") }
+
+-- `make KIND NODES [--seed S] [--links M] [--weights random|rising|falling|equal]`
+abbrev pub make_command : App
+make_command =
+    let named = with_rule (with_rule (new_app (codes "make")) kind_rule) nodes_rule in
+    with_rule (with_rule (with_rule named seed_rule) links_rule) weights_rule
+
 -- the program's command line: its name and one of its commands, or a word that asks for its version
 unfoldable pub program : App
 program =
     let networks = with_subcommand (with_subcommand (new_app (codes "ghs")) tree_command.top) run_command.top in
     let stored = with_subcommand (with_subcommand networks replay_command.top) steps_command.top in
-    let a = with_subcommand (with_subcommand stored sweep_command.top) view_command.top in
+    let shown = with_subcommand (with_subcommand stored sweep_command.top) view_command.top in
+    let a = with_subcommand shown make_command.top in
     record a { top = record a.top { has_version = true; subcommand_required = true } }

@@ -5,6 +5,12 @@ use Rattle.clap.specs.Kinds.{Kinds, IsAmong, or_else}
 use Rattle.clap.specs.Words.{Row, Text, fault_of, first_of, subcommand_of}
 use Rattle.clap.specs.declared.error.kind.ErrorKind.{ErrorKind}
 use Rattle.clap.specs.declared.error.kind.ErrorKind.TheVariants as kind
+use Rattle.ghs_make.specs.Kind.{kind_named}
+use Rattle.ghs_make.specs.Weights.{weights_named}
+use Rattle.ghs_make.specs.declared.kind.Kind.{Kind}
+use Rattle.ghs_make.specs.declared.kind.Kind.TheVariants.{Path}
+use Rattle.ghs_make.specs.declared.plan.Asked.{Asked}
+use Rattle.ghs_make.specs.declared.weights.Weights.{Weights}
 use Rattle.ghs_picking.specs.declared.picking.Picking.{Picking}
 use Rattle.ghs_picking.specs.declared.picking.Picking.TheVariants.{Patient, Rounds}
 use Rattle.ghs_sched.specs.declared.trace.TheConstants.{EVENT_LIMIT}
@@ -23,14 +29,14 @@ use Rattle.ghs_words.specs.declared.job.Show.TheVariants.{Events, Time}
 use Rattle.ghs_words.specs.declared.job.StepsOptions.{StepsOptions}
 use Rattle.ghs_words.specs.declared.job.StoredViewOptions.{StoredViewOptions}
 use Rattle.ghs_words.specs.declared.job.SweepOptions.{SweepOptions}
-use Rattle.ghs_words.specs.declared.job.TheConstants.{MOST_WORKERS}
+use Rattle.ghs_words.specs.declared.job.TheConstants.{MOST_NODES, MOST_WORKERS}
 use Rattle.ghs_words.specs.declared.job.Task.{Task}
 use Rattle.ghs_words.specs.declared.job.Task.TheVariants as task
 use Rattle.ghs_words.specs.declared.job.ViewOptions.{ViewOptions}
 use Rattle.ghs_words.specs.declared.two_seeds.TwoSeeds.{TwoSeeds}
 use Rattle.ghs_words.specs.declared.values.Seeds.{Seeds}
 use Rattle.ghs_words.specs.TwoSeeds.{are_two, two_seeds_of}
-use Rattle.ghs_words.specs.Values.{AreSeeds, are_apart, is_among, is_number, is_range, number_in, seeds_of}
+use Rattle.ghs_words.specs.Values.{AreSeeds, are_apart, are_weights, is_among, is_kind, is_number, is_range, number_in, seeds_of}
 
 -- the words of a command line, with the program's name before them
 abbrev pub with_name : List Text → List Text
@@ -165,6 +171,25 @@ pub record AreStoredViewOptions (command : Used) (o : StoredViewOptions) : Type 
   pub from : o.from ≡ from_in command
   pub to : o.to ≡ to_in command
 
+-- the kind that KIND names; a network that is made has one, or the words are refused
+abbrev pub kind_in : Used → Kind
+kind_in command = unwrap_or (option_and_then kind_named (value_in (codes "KIND") command)) Path
+
+-- how many links `--links` asks for, and which weights `--weights` names
+abbrev pub links_in : Used → Option ℕ
+links_in command = option_and_then (number_in 0 4294967295) (value_in (codes "links") command)
+
+abbrev pub weights_in : Used → Option Weights
+weights_in command = option_and_then weights_named (value_in (codes "weights") command)
+
+-- which network a command asks to be made
+pub record IsAsked (command : Used) (asked : Asked) : Type 0 where
+  pub kind : asked.kind ≡ kind_in command
+  pub nodes : asked.nodes ≡ number_at (codes "NODES") 1 MOST_NODES command
+  pub seed : asked.seed ≡ seed_in command
+  pub links : asked.links ≡ links_in command
+  pub weights : asked.weights ≡ weights_in command
+
 -- it has another name than these
 pub record IsNoOther (command : Used) : Type 0 where
   pub run : name_in command ≢ Some (codes "run")
@@ -172,6 +197,7 @@ pub record IsNoOther (command : Used) : Type 0 where
   pub steps : name_in command ≢ Some (codes "steps")
   pub sweep : name_in command ≢ Some (codes "sweep")
   pub view : name_in command ≢ Some (codes "view")
+  pub make : name_in command ≢ Some (codes "make")
 
 -- the task that a command asks for
 abbrev pub IsTask : Used → Task → Type 0
@@ -182,6 +208,7 @@ IsTask command (task.Steps options) = (name_in command ≡ Some (codes "steps"))
 IsTask command (task.Sweep options) = (name_in command ≡ Some (codes "sweep")) × AreSweepOptions command options
 IsTask command (task.View options) = (name_in command ≡ Some (codes "view")) × (value_in (codes "TRACE") command ≡ None) × AreViewOptions command options
 IsTask command (task.StoredView options) = (name_in command ≡ Some (codes "view")) × (value_in (codes "TRACE") command ≢ None) × AreStoredViewOptions command options
+IsTask command (task.Make asked) = (name_in command ≡ Some (codes "make")) × IsAsked command asked
 
 -- numbers are within their limits
 pub record AreWithinLimits (o : RunOptions) : Type 0 where
@@ -208,6 +235,7 @@ IsWithinLimits (task.Steps options) = Unit {0}
 IsWithinLimits (task.Sweep options) = AreSweepLimits options
 IsWithinLimits (task.View options) = AreViewLimits options
 IsWithinLimits (task.StoredView options) = Unit {0}
+IsWithinLimits (task.Make asked) = Unit {0}
 
 -- each option of the command has a value that it may have, and standard input isn't read twice
 abbrev pub has_values : Used → Bool
@@ -222,6 +250,10 @@ has_values command =
     && is_number 1 EVENT_LIMIT (value_in (codes "from") command)
     && is_number 1 EVENT_LIMIT (value_in (codes "to") command)
     && is_number 1 4294967295 (value_in (codes "node") command)
+    && is_number 0 4294967295 (value_in (codes "links") command)
+    && is_number 1 MOST_NODES (value_in (codes "NODES") command)
+    && is_kind (value_in (codes "KIND") command)
+    && are_weights (value_in (codes "weights") command)
     && is_range (value_in (codes "seeds") command)
     && are_two (value_in (codes "pair") command)
     && are_apart (value_in (codes "TRACE") command) (value_in (codes "FILE") command)
@@ -235,19 +267,19 @@ abbrev pub kinds_of : List Text → Kinds
 kinds_of words = or_else (fault_of program (with_name words)) (option_kinds (command_in words))
 
 -- help or the version was asked for
-abbrev pub IsAsked : ErrorKind → Type 0
-IsAsked k = (k ≡ kind.DisplayHelp) ⊎ (k ≡ kind.DisplayVersion)
+abbrev pub IsRequest : ErrorKind → Type 0
+IsRequest k = (k ≡ kind.DisplayHelp) ⊎ (k ≡ kind.DisplayVersion)
 
 -- what was asked for is for those who ask for it, a refusal for every other fault of the words; memory may always be wanting
 abbrev pub IsSaidOf : Kinds → JobFault → Type 0
-IsSaidOf kinds (fault.Help text) = (k : ErrorKind) × IsAmong k kinds × IsAsked k
-IsSaidOf kinds (fault.Refused text) = (k : ErrorKind) × IsAmong k kinds × (IsAsked k → ⊥)
+IsSaidOf kinds (fault.Help text) = (k : ErrorKind) × IsAmong k kinds × IsRequest k
+IsSaidOf kinds (fault.Refused text) = (k : ErrorKind) × IsAmong k kinds × (IsRequest k → ⊥)
 IsSaidOf kinds fault.Memory = Unit {0}
 
 -- what is said of a fault of this kind
 abbrev pub IsSaid : ErrorKind → JobFault → Type 0
-IsSaid k (fault.Help text) = IsAsked k
-IsSaid k (fault.Refused text) = (IsAsked k → ⊥) × (k ≢ kind.OutOfMemory)
+IsSaid k (fault.Help text) = IsRequest k
+IsSaid k (fault.Refused text) = (IsRequest k → ⊥) × (k ≢ kind.OutOfMemory)
 IsSaid k fault.Memory = Unit {0}
 
 -- a refusal, or want of memory

@@ -5,6 +5,8 @@ use Rattle.std.specs.Str.{all_ascii_digits, bytes_eq}
 use Rattle.std.specs.Str.Parse.{digits_value}
 use Rattle.clap.specs.Words.{Text}
 use Rattle.ghs_lines.specs.Fields.{is_nonempty}
+use Rattle.ghs_make.specs.Kind.{kind_named}
+use Rattle.ghs_make.specs.Weights.{weights_named}
 use Rattle.ghs_words.specs.declared.values.Seeds.{Seeds}
 use Rattle.ghs_words.specs.declared.values.TheConstants.{MOST_SEEDS}
 
@@ -61,3 +63,13 @@ seeds_of text =
 abbrev pub is_range : Option Text → Bool
 is_range None = true
 is_range (Some text) = is_some (seeds_of text)
+
+-- a value that isn't given, or the name of a kind of networks
+abbrev pub is_kind : Option Text → Bool
+is_kind None = true
+is_kind (Some text) = is_some (kind_named text)
+
+-- a value that isn't given, or the name of weights
+abbrev pub are_weights : Option Text → Bool
+are_weights None = true
+are_weights (Some text) = is_some (weights_named text)

@@ -1,7 +1,7 @@
 //! The words that the program takes.
 ghost use Rattle.clap.specs.Words.{app_of, rule_of};
 ghost use Rattle.clap.specs.declared.builder.command.Command.TheViews.{out-Command};
-ghost use Rattle.ghs_words.specs.Grammar.{core_rule, file_rule, from_rule, json_rule, node_rule, option_rule, pair_rule, print_rule, program, progress_rule, replay_command, run_command, schedule_rule, seed_rule, seeds_rule, sheet_rule, steps_command, sweep_command, to_rule, trace_rule, tree_command, turns_rule, wake_rule, workers_rule, stored_rule, view_command};
+ghost use Rattle.ghs_words.specs.Grammar.{core_rule, file_rule, from_rule, json_rule, kind_rule, links_rule, make_command, node_rule, nodes_rule, option_rule, pair_rule, place_rule, print_rule, program, progress_rule, replay_command, run_command, schedule_rule, seed_rule, seeds_rule, sheet_rule, steps_command, sweep_command, to_rule, trace_rule, tree_command, turns_rule, wake_rule, weights_rule, workers_rule, stored_rule, view_command};
 ghost use Rattle.std.specs.Prelude.{◌≡◌, IfOk, false};
 
 use clap::{Arg, ArgAction, Command};
@@ -25,7 +25,8 @@ pub fn program<'a>(alloc: Global) -> Result<Command<'a>, AllocError>
             .subcommand(replay(alloc)?)?
             .subcommand(steps(alloc)?)?
             .subcommand(sweep(alloc)?)?
-            .subcommand(view(alloc)?)?,
+            .subcommand(view(alloc)?)?
+            .subcommand(make(alloc)?)?,
     )
 }
 
@@ -134,6 +135,76 @@ fn view<'a>(alloc: Global) -> Result<Command<'a>, AllocError>
             .arg(stored(alloc))?
             .arg(from(alloc))?
             .arg(to(alloc))?,
+    )
+}
+
+// `ghs make`.
+fn make<'a>(alloc: Global) -> Result<Command<'a>, AllocError>
+    ensures local { IfOk result (λ command. (out-Command command).has_globals ≡ false) }
+    ensures app { IfOk result (λ command. app_of command ≡ make_command) }
+{
+    Ok(
+        Command::new(alloc, "make")
+            .about("Makes a network of a kind by a seed, and prints it in the .gr format")
+            .arg(kind(alloc))?
+            .arg(nodes(alloc))?
+            .arg(maker(alloc))?
+            .arg(links(alloc))?
+            .arg(weights(alloc))?,
+    )
+}
+
+// The kind of the network.
+fn kind<'a>(alloc: Global) -> Arg<'a>
+    ensures local { result.global ≡ false }
+    ensures rule { rule_of result ≡ kind_rule }
+{
+    place(alloc, "KIND").help(
+        "The kind: path, ring, star, grid, complete, tree, random, road, forest, slow or busy",
+    )
+}
+
+// How many nodes it has.
+fn nodes<'a>(alloc: Global) -> Arg<'a>
+    ensures local { result.global ≡ false }
+    ensures rule { rule_of result ≡ nodes_rule }
+{
+    place(alloc, "NODES").help("How many nodes it has, 1 to 1048576")
+}
+
+// A word that has to stand at its place.
+fn place<'a>(alloc: Global, name: &'a str) -> Arg<'a>
+    ensures local { result.global ≡ false }
+    ensures rule { rule_of result ≡ place_rule name.entry.now }
+{
+    Arg::new(alloc, name).required(true)
+}
+
+// What picks its links and weights.
+fn maker<'a>(alloc: Global) -> Arg<'a>
+    ensures local { result.global ≡ false }
+    ensures rule { rule_of result ≡ seed_rule }
+{
+    option(alloc, "seed", "1").help("The number that picks links and weights")
+}
+
+// How many links it has.
+fn links<'a>(alloc: Global) -> Arg<'a>
+    ensures local { result.global ≡ false }
+    ensures rule { rule_of result ≡ links_rule }
+{
+    Arg::new(alloc, "links").long("links").help(
+        "How many links a random network or a forest has; without it two for each node, and in a forest three for four",
+    )
+}
+
+// How they weigh.
+fn weights<'a>(alloc: Global) -> Arg<'a>
+    ensures local { result.global ≡ false }
+    ensures rule { rule_of result ≡ weights_rule }
+{
+    Arg::new(alloc, "weights").long("weights").help(
+        "How links weigh: random, rising, falling or equal; without it random, but for slow and busy, which have weights of their own",
     )
 }
 

@@ -1,8 +1,8 @@
 //! Command lines.
 ghost use Rattle.ghs_words.specs.declared.job.JobFault.TheVariants.{Memory};
 ghost use Rattle.ghs_words.specs.Grammar.{program};
-ghost use Rattle.ghs_words.specs.Job.{AreOptions, AreStepsOptions, AreSweepLimits, AreSweepOptions, AreWithinLimits, command_in, has_values, first_seed_in, kinds_of, name_in, node_in, number_at, option_kinds, pair_in, second_seed_in, seeds_at, value_in, with_name, IsForm, IsPicking, IsRefused, IsSaid, IsSaidOf, IsSheet, IsShow, IsTask, IsWake, IsWithinLimits, AreStoredViewOptions, AreViewLimits, AreViewOptions};
-ghost use Rattle.ghs_words.specs.Values.{AreSeeds, are_apart, is_among, is_number, is_range};
+ghost use Rattle.ghs_words.specs.Job.{AreOptions, IsAsked, kind_in, links_in, weights_in, AreStepsOptions, AreSweepLimits, AreSweepOptions, AreWithinLimits, command_in, has_values, first_seed_in, kinds_of, name_in, node_in, number_at, option_kinds, pair_in, second_seed_in, seeds_at, value_in, with_name, IsForm, IsPicking, IsRefused, IsSaid, IsSaidOf, IsSheet, IsShow, IsTask, IsWake, IsWithinLimits, AreStoredViewOptions, AreViewLimits, AreViewOptions};
+ghost use Rattle.ghs_words.specs.Values.{AreSeeds, are_apart, are_weights, is_among, is_kind, is_number, is_range};
 ghost use Rattle.ghs_words.specs.TwoSeeds.{are_two};
 ghost use Rattle.clap.specs.Words.{kind_of, subcommand_rows_of};
 ghost use Rattle.std.specs.Option.{option_map};
@@ -11,17 +11,23 @@ ghost use Rattle.std.specs.Prelude.{◌≡◌, ◌≤◌, ◌↔◌, ◌∷◌, 
 use crate::grammar::program;
 use crate::two_seeds::{TwoSeeds, are_two, no_two_seeds, two_seeds_in};
 use crate::values::{
-    Seeds, are_apart, is_among, is_number, is_range, is_text, no_number, no_seeds, number_in, owned,
-    read_twice, seeds_in, unknown_choice,
+    Seeds, are_apart, are_weights, is_among, is_kind, is_number, is_range, is_text, no_kind, no_nodes,
+    no_number, no_seeds, number_in, owned, read_twice, seeds_in, unknown_choice,
 };
 use clap::error::ErrorKind;
 use clap::{ArgMatches, Error};
+use ghs_make::kind::Kind;
+use ghs_make::plan::Asked;
+use ghs_make::weights::Weights;
 use ghs_picking::picking::Picking;
 use ghs_sched::trace::EVENT_LIMIT;
 use ghs_steps::choice::Choice;
 use ghs_steps::form::Form;
 use ghs_world::wake_set::WakeSet;
 use std::alloc::{AllocError, Global};
+
+/// How many nodes a network may have that is made.
+pub const MOST_NODES: u32 = 1_048_576;
 
 /// How many threads may take part in a run.
 pub const MOST_WORKERS: u32 = 64;
@@ -144,6 +150,8 @@ pub enum Task {
     View(ViewOptions),
     /// Print the page of a stored run.
     StoredView(StoredViewOptions),
+    /// Make a network, and print it.
+    Make(Asked),
 }
 
 /// What a command line asks for: the file of the graph (standard input where there is none, or it is `-`), the file of a
@@ -251,6 +259,10 @@ fn check_options<'a>(alloc: Global, matches: &ArgMatches<'a>) -> Result<(), JobF
     check_number(alloc, matches, "from", 1, EVENT_LIMIT)?;
     check_number(alloc, matches, "to", 1, EVENT_LIMIT)?;
     check_number(alloc, matches, "node", 1, u32::MAX as u64)?;
+    check_number(alloc, matches, "links", 0, u32::MAX as u64)?;
+    check_nodes(alloc, matches)?;
+    check_kind(alloc, matches)?;
+    check_weights(alloc, matches)?;
     check_seeds(alloc, matches)?;
     check_two_seeds(alloc, matches)?;
     check_inputs(alloc, matches)
@@ -293,6 +305,49 @@ fn check_number<'a>(
         Ok(())
     } else {
         Err(no_number(alloc, id, value, low, high))
+    }
+}
+
+/// Whether a network that is made has a number of nodes.
+fn check_nodes<'a>(alloc: Global, matches: &ArgMatches<'a>) -> Result<(), JobFault>
+    ensures ok { OnOk result (is_number 1 MOST_NODES (value_in (codes "NODES") (subcommand_rows_of matches.now)) ≡ true) }
+    ensures err { OnErr result (is_number 1 MOST_NODES (value_in (codes "NODES") (subcommand_rows_of matches.now)) ≡ false) }
+    ensures fault { IfErr result IsRefused }
+{
+    let value = value_of(matches, "NODES");
+    if is_number(value, 1, MOST_NODES as u64) {
+        Ok(())
+    } else {
+        Err(no_nodes(alloc, value))
+    }
+}
+
+/// Whether a network that is made has a kind.
+fn check_kind<'a>(alloc: Global, matches: &ArgMatches<'a>) -> Result<(), JobFault>
+    ensures ok { OnOk result (is_kind (value_in (codes "KIND") (subcommand_rows_of matches.now)) ≡ true) }
+    ensures err { OnErr result (is_kind (value_in (codes "KIND") (subcommand_rows_of matches.now)) ≡ false) }
+    ensures fault { IfErr result IsRefused }
+{
+    let value = value_of(matches, "KIND");
+    if is_kind(value) {
+        Ok(())
+    } else {
+        Err(no_kind(alloc, value))
+    }
+}
+
+/// Whether the links of a network that is made weigh as there is a name for.
+fn check_weights<'a>(alloc: Global, matches: &ArgMatches<'a>) -> Result<(), JobFault>
+    ensures ok { OnOk result (are_weights (value_in (codes "weights") (subcommand_rows_of matches.now)) ≡ true) }
+    ensures err { OnErr result (are_weights (value_in (codes "weights") (subcommand_rows_of matches.now)) ≡ false) }
+    ensures fault { IfErr result IsRefused }
+{
+    let value = value_of(matches, "weights");
+    if are_weights(value) {
+        Ok(())
+    } else {
+        let choices = &["random", "rising", "falling", "equal"];
+        Err(unknown_choice(alloc, "weights", value, choices))
     }
 }
 
@@ -354,6 +409,8 @@ fn task_of<'a>(matches: &ArgMatches<'a>) -> Task
         Task::Sweep(sweep_of(matches))
     } else if matches.subcommand_name() == Some("view") {
         shown_by(matches)
+    } else if matches.subcommand_name() == Some("make") {
+        Task::Make(asked_of(matches))
     } else {
         Task::Tree {
             core: is_text(value_of(matches, "core"), "true"),
@@ -500,6 +557,55 @@ fn two_seeds_of<'a>(matches: &ArgMatches<'a>) -> Option<TwoSeeds>
         Some(value) => two_seeds_in(value),
         None => None,
     }
+}
+
+/// Which network is to be made.
+fn asked_of<'a>(matches: &ArgMatches<'a>) -> Asked
+    ensures { IsAsked (subcommand_rows_of matches.now) result }
+{
+    Asked {
+        kind: kind_of(matches),
+        nodes: number_of(matches, "NODES", 1, MOST_NODES as u64) as u32,
+        seed: number_of(matches, "seed", 0, u64::MAX),
+        links: links_of(matches),
+        weights: weights_of(matches),
+    }
+}
+
+/// Of which kind it is to be; each has one.
+fn kind_of<'a>(matches: &ArgMatches<'a>) -> Kind
+    ensures { result ≡ kind_in (subcommand_rows_of matches.now) }
+{
+    let Some(value) = value_of(matches, "KIND") else {
+        return Kind::Path;
+    };
+    match Kind::named(value) {
+        Some(kind) => kind,
+        None => Kind::Path,
+    }
+}
+
+/// How many links it is to have, where that is said.
+fn links_of<'a>(matches: &ArgMatches<'a>) -> Option<u32>
+    ensures { result ≡ links_in (subcommand_rows_of matches.now) }
+{
+    let Some(value) = value_of(matches, "links") else {
+        return None;
+    };
+    match number_in(value, 0, u32::MAX as u64) {
+        Some(links) => Some(links as u32),
+        None => None,
+    }
+}
+
+/// How its links are to weigh, where that is said.
+fn weights_of<'a>(matches: &ArgMatches<'a>) -> Option<Weights>
+    ensures { result ≡ weights_in (subcommand_rows_of matches.now) }
+{
+    let Some(value) = value_of(matches, "weights") else {
+        return None;
+    };
+    Weights::named(value)
 }
 
 /// The seeds of a sweep; each has some.

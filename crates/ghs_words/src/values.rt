@@ -1,12 +1,14 @@
 //! The values of options, read and refused.
 ghost use Rattle.ghs_words.specs.Job.{IsRefused};
-ghost use Rattle.ghs_words.specs.Values.{AreSeeds, are_apart, is_among, is_dash, is_number, is_range, number_in, seeds_between, seeds_of};
+ghost use Rattle.ghs_words.specs.Values.{AreSeeds, are_apart, are_weights, is_among, is_dash, is_kind, is_number, is_range, number_in, seeds_between, seeds_of};
 ghost use Rattle.std.specs.List.{list_any};
 ghost use Rattle.std.specs.Option.{option_map};
 ghost use Rattle.std.specs.Prelude.{◌≡◌, ◌≤◌, ◌↔◌, IfOk, IfSome, Some, map, string_bytes, true};
 ghost use Rattle.std.specs.Str.{bytes_eq};
 
-use crate::job::JobFault;
+use crate::job::{JobFault, MOST_NODES};
+use ghs_make::kind::Kind;
+use ghs_make::weights::Weights;
 use std::alloc::{AllocError, Global};
 
 /// How many seeds a sweep may have.
@@ -136,6 +138,26 @@ fn seeds_between(first: Option<u64>, last: Option<u64>) -> Option<Seeds>
     Some(Seeds { first, last })
 }
 
+/// Whether there is no value, or the name of a kind of networks.
+pub(crate) fn is_kind(value: Option<&str>) -> bool
+    ensures { result ≡ is_kind (option_map (λ t. t.now) value.entry) }
+{
+    match value {
+        Some(value) => Kind::named(value).is_some(),
+        None => true,
+    }
+}
+
+/// Whether there is no value, or the name of weights.
+pub(crate) fn are_weights(value: Option<&str>) -> bool
+    ensures { result ≡ are_weights (option_map (λ t. t.now) value.entry) }
+{
+    match value {
+        Some(value) => Weights::named(value).is_some(),
+        None => true,
+    }
+}
+
 /// The text, as one that lasts.
 pub(crate) fn owned(alloc: Global, text: Option<&str>) -> Result<Option<String>, AllocError>
     ensures { IfOk result (λ owned. option_map string_bytes owned ≡ option_map (λ t. t.now) text.entry) }
@@ -218,6 +240,32 @@ pub(crate) fn no_seeds(alloc: Global, id: &str, value: Option<&str>) -> JobFault
     let value = value.unwrap_or("");
     match format!(in alloc;
         "error: invalid value '{value}' for '--{id} <{id}>': not seeds FIRST..LAST, {MOST_SEEDS} of them at most\n\nFor more information, try '--help'.\n"
+    ) {
+        Ok(text) => JobFault::Refused(text),
+        Err(_) => JobFault::Memory,
+    }
+}
+
+/// What is said of a value that is no number of nodes, in `clap`'s words.
+pub(crate) fn no_nodes(alloc: Global, value: Option<&str>) -> JobFault
+    ensures { IsRefused result }
+{
+    let value = value.unwrap_or("");
+    match format!(in alloc;
+        "error: invalid value '{value}' for '<NODES>': not a number in 1..={MOST_NODES}\n\nFor more information, try '--help'.\n"
+    ) {
+        Ok(text) => JobFault::Refused(text),
+        Err(_) => JobFault::Memory,
+    }
+}
+
+/// What is said of a value that is no kind, in `clap`'s words.
+pub(crate) fn no_kind(alloc: Global, value: Option<&str>) -> JobFault
+    ensures { IsRefused result }
+{
+    let value = value.unwrap_or("");
+    match format!(in alloc;
+        "error: invalid value '{value}' for '<KIND>'\n  [possible values: path, ring, star, grid, complete, tree, random, road, forest, slow, busy]\n\nFor more information, try '--help'.\n"
     ) {
         Ok(text) => JobFault::Refused(text),
         Err(_) => JobFault::Memory,

@@ -1,7 +1,7 @@
 use Rattle.std.proofs.Common.{◌≡◌, ◌∙◌, ap, codes, true}
 use Rattle.clap.specs.Simple.{app_of_fields}
 use Rattle.clap.specs.Words.{App, app_of, new_app, with_subcommand}
-use Rattle.ghs_words.specs.Grammar.{program, replay_command, run_command, steps_command, sweep_command, tree_command, view_command}
+use Rattle.ghs_words.specs.Grammar.{make_command, program, replay_command, run_command, steps_command, sweep_command, tree_command, view_command}
 use Rattle.ghs_words.proofs.Commands.{with_command}
 use Rattle.ghs_words.proofs.grammar.program.Goals as goal
 
@@ -20,7 +20,9 @@ returns c =
     let three : App = with_subcommand two replay_command.top in
     let four : App = with_subcommand three steps_command.top in
     let five : App = with_subcommand four sweep_command.top in
-    with_command _ _ _ five view_command c.in_ok-subcommand-6.ensures c.in_ok-view.ensures.local
+    let six : App = with_subcommand five view_command.top in
+    with_command _ _ _ six make_command c.in_ok-subcommand-7.ensures c.in_ok-make.ensures.local
+    (with_command _ _ _ five view_command c.in_ok-subcommand-6.ensures c.in_ok-view.ensures.local
     (with_command _ _ _ four sweep_command c.in_ok-subcommand-5.ensures c.in_ok-sweep.ensures.local
     (with_command _ _ _ three steps_command c.in_ok-subcommand-4.ensures c.in_ok-steps.ensures.local
     (with_command _ _ _ two replay_command c.in_ok-subcommand-3.ensures c.in_ok-replay.ensures.local
@@ -30,4 +32,5 @@ returns c =
     c.in_ok-replay.ensures.app)
     c.in_ok-steps.ensures.app)
     c.in_ok-sweep.ensures.app)
-    c.in_ok-view.ensures.app
+    c.in_ok-view.ensures.app)
+    c.in_ok-make.ensures.app

@@ -1,0 +1,15 @@
+pub mod Counted
+pub mod Counts
+pub mod Each
+pub mod Going
+pub mod Gone
+pub mod Good
+pub mod Joining
+pub mod Judging
+pub mod Lines
+pub mod Linking
+pub mod Parts
+pub mod Picking
+pub mod Pieces
+pub mod Powers
+pub mod Weighing
