@@ -7,3 +7,6 @@ mod Picked
 mod Running
 mod Sending
 mod Settling
+mod Steps
+mod Timing
+mod Told
