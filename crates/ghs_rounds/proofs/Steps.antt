@@ -107,6 +107,20 @@ module _ (law : Promised) (may : ℕ → Bool) (g : Shape) (w : Net) (n : IsNetO
     stays : not (puts_back w e) ≡ true
     stays = (and_parts (is_lawful_under may (network_of g) w e) (not (puts_back w e)) on).1
 
+  not_so : (b : Bool) → not b ≡ true → b ≡ false
+  not_so true z = cc
+  not_so false z = refl
+
+  fate_is : (v p : ℕ) (d : Delta) (q : List Message) → At (network_of g) v p → is_waiting q ≡ true → not (first_waits (w.node v) p q) ≡ true →
+      reaction (w.node v) (delivery p q) ≡ Some d → (d.fate ≡ Consumed) ⊎ (is_sleeping (w.node v).head.phase ≡ true)
+  fate_is v p d [] at there goes_on answer = cc
+  fate_is v p d (m ∷ ms) at there goes_on answer = ⊎_elim
+      (λ s. inr (sleeping_is (w.node v).head.phase s))
+      (λ up. ⊎_elim inl
+      (λ back. absurd (goes v p m (not_so (waits (w.node v) p m) goes_on) ((law.requeues (w.node v) p m d (port_in g w n v p at) up answer).0 back)))
+      (fate_told d.fate))
+      (asleep_or_not (w.node v).head.phase)
+
   taken_is : (v p : ℕ) (d : Delta) (q : List Message) (ts : List ℕ) → At (network_of g) v p → is_waiting q ≡ true → not (first_waits (w.node v) p q) ≡ true →
       is_by r (slice_get ts 0) ≡ true → (c.node v ≡ r) ⊎ AreLate (w.node v) p r q ts → reaction (w.node v) (delivery p q) ≡ Some d →
       (taken v p (is_sleeping (w.node v).head.phase) d.fate ts c).node v ≡ r
@@ -115,19 +129,14 @@ module _ (law : Promised) (may : ℕ → Bool) (g : Shape) (w : Net) (n : IsNetO
   taken_is v p d (m ∷ ms) (t ∷ ts) at there goes_on by late answer =
       put_same c.node v _
       ∙ heard_is d.fate (is_sleeping (w.node v).head.phase) (c.node v) t r (timed.within.node v) (leb-true t r by)
-      (⊎_elim inl (λ l. inr (l.1 free)) late) fate
-    where
-      not_so : (b : Bool) → not b ≡ true → b ≡ false
-      not_so true z = cc
-      not_so false z = refl
+      (⊎_elim inl (λ l. inr (l.1 (goes v p m (not_so (waits (w.node v) p m) goes_on)))) late) (fate_is v p d (m ∷ ms) at there goes_on answer)
 
-      free : Waits (w.node v) p m → ⊥
-      free = goes v p m (not_so (waits (w.node v) p m) goes_on)
-
-      fate : (d.fate ≡ Consumed) ⊎ (is_sleeping (w.node v).head.phase ≡ true)
-      fate = ⊎_elim (λ s. inr (sleeping_is (w.node v).head.phase s))
-          (λ up. ⊎_elim inl (λ back. absurd (free ((law.requeues (w.node v) p m d (port_in g w n v p at) up answer).0 back))) (fate_told d.fate))
-          (asleep_or_not (w.node v).head.phase)
+  -- it is consumed, or wakes its node
+  pub moves_fate : (v p : ℕ) (d : Delta) → reaction (w.node v) (work_at w (Take v p)) ≡ Some d → moves_due may (network_of g) w c r (Take v p) ≡ true →
+      (d.fate ≡ Consumed) ⊎ (is_sleeping (w.node v).head.phase ≡ true)
+  moves_fate v p d answer moves =
+      let l = and_parts (is_port (network_of g) v p) (is_waiting (w.queue v p)) (lawful (Take v p) d answer moves) in
+      fate_is v p d (w.queue v p) (at_of (network_of g) v p l.0) l.1 (stays (Take v p) d answer moves) answer
 
   pub moves_give : (e : Event) (d : Delta) → reaction (w.node (event_node e)) (work_at w e) ≡ Some d → moves_due may (network_of g) w c r e ≡ true →
       (hears e (is_sleeping (w.node (event_node e)).head.phase) d.fate c).node (event_node e) ≡ r
@@ -288,6 +297,7 @@ module _ (law : Promised) (may : ℕ → Bool) (g : Shape) (w : Net) (n : IsNetO
     pub next : moves_due may (network_of g) x (reacted (network_of g) w (Take v p) d c) r (Take v p) ≡ true
     pub node : (a : ℕ) → x.node a ≡ w.node a
     pub number : (a : ℕ) → (reacted (network_of g) w (Take v p) d c).node a ≡ c.node a
+    pub requeued : x.requeued ≡ suc w.requeued
 
   pub back_turns : (v p : ℕ) → At (network_of g) v p → SameLengths w c → (d : Delta) (x : Net) → reaction (w.node v) (work_at w (Take v p)) ≡ Some d →
       Happens (network_of g) w (Take v p) x → hides_due w c r (Take v p) ≡ true → Turns v p d x
@@ -309,6 +319,7 @@ module _ (law : Promised) (may : ℕ → Bool) (g : Shape) (w : Net) (n : IsNetO
             next = next_moves v p at m k ks e waiting t u us f by same d x answer h;
             node = λ a. node_still v p at m k ks e waiting t u us f by same d x answer h a;
             number = λ a. number_still v p at m k ks e waiting t u us f by same d x answer h a;
+            requeued = (turned v p at m k ks e waiting t u us f by same d x answer h).requeued;
           }
 
   -- The next round, where this one is over.

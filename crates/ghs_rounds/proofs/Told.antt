@@ -54,7 +54,7 @@ most_grows zero f h le = omega arith
 most_grows (suc n) f h le = let a = most_grows n f h le in let b = le n in omega (arith, a, b)
 
 -- An event that happens has a reaction.
-answer_of : {g : Network} {w x : Net} {e : Event} → Happens g w e x → (d : Delta) × (reaction (w.node (event_node e)) (work_at w e) ≡ Some d)
+pub answer_of : {g : Network} {w x : Net} {e : Event} → Happens g w e x → (d : Delta) × (reaction (w.node (event_node e)) (work_at w e) ≡ Some d)
 answer_of (Woke v d lo hi s r) = (d, r)
 answer_of {w = w} (Took v p m ms d at q r) = (d, ap (λ (l : List Message). reaction (w.node v) (delivery p l)) q ∙ r)
 
@@ -72,7 +72,7 @@ chains_begin : (g : Network) → chains_of g [] ≡ no_chains
 unfolding chains_of
 chains_begin g = refl
 
-some_of : (es fs : List Event) (e : Event) → Contains es e → 0 < length (or_else es fs)
+pub some_of : (es fs : List Event) (e : Event) → Contains es e → 0 < length (or_else es fs)
 some_of [] fs e h = absurd (nothing_in e h)
 some_of (x ∷ es) fs e h = omega arith
 
@@ -85,51 +85,51 @@ pub record IsTold (may : ℕ → Bool) (g : Shape) (es : List Event) (r : ℕ) :
 
 module _ (law : Promised) (rules : EventsHaveRules) (lasts : PatienceLasts) (may : ℕ → Bool) (g : Shape) (ok : IsGraph g) (turns : ℕ) (words : List ℕ) where
   module _ (es : List Event) (r : ℕ) (told : IsTold may g es r) (going : HasEnded g (net_after g es) → ⊥) where
-    abbrev w : Net
+    abbrev pub w : Net
     w = net_after g es
 
-    abbrev c : Chains
+    abbrev pub c : Chains
     c = chains_of (network_of g) es
 
-    after : IsAfter (network_of g) es w
+    pub after : IsAfter (network_of g) es w
     after = after_is_net g es told.is_run
 
-    is_net : IsNetOf g w
+    pub is_net : IsNetOf g w
     is_net = record { graph = ok; events = es; run = after }
 
-    same : SameLengths w c
+    pub same : SameLengths w c
     same = same_lengths (network_of g) es w after
 
     -- an event of the round
     module _ (e : Event) (there : HasPlace (network_of g) e) (lawful : is_lawful (network_of g) w e ≡ true) where
-      effects : (x : Net) × (effect (network_of g) w e ≡ Some x)
+      pub effects : (x : Net) × (effect (network_of g) w e ≡ Some x)
       effects = some_there (effect (network_of g) w e) (rules g w is_net e lawful)
 
-      abbrev x : Net
+      abbrev pub x : Net
       x = effects.0
 
       happened : happens (network_of g) w e ≡ Some x
       happened = lawful_happens (network_of g) w e lawful ∙ effects.1
 
-      so : Happens (network_of g) w e x
+      pub so : Happens (network_of g) w e x
       so = happening (network_of g) w x e happened
 
-      abbrev d : Delta
+      abbrev pub d : Delta
       d = (answer_of so).0
 
-      answer : reaction (w.node (event_node e)) (work_at w e) ≡ Some d
+      pub answer : reaction (w.node (event_node e)) (work_at w e) ≡ Some d
       answer = (answer_of so).1
 
-      abbrev more : List Event
+      abbrev pub more : List Event
       more = es ++ e ∷ []
 
       run_more : IsAfter (network_of g) more x
       run_more = after_more (network_of g) es e w x after so
 
-      net_is : net_after g more ≡ x
+      pub net_is : net_after g more ≡ x
       net_is = net_after_is g more x run_more
 
-      chains_are : chains_of (network_of g) more ≡ reacted (network_of g) w e d c
+      pub chains_are : chains_of (network_of g) more ≡ reacted (network_of g) w e d c
       chains_are = chains_of_then (network_of g) es e w x d after happened answer
 
       same_after : SameLengths x (reacted (network_of g) w e d c)
@@ -180,8 +180,8 @@ module _ (law : Promised) (rules : EventsHaveRules) (lasts : PatienceLasts) (may
           behind = λ all. inr (
             longer e there lawful t.number (told.behind all),
             rw (net_is e there lawful, chains_are e there lawful)
-            (some_of _ _ e (filter_has (moves_due may (network_of g) (x e there lawful) (reacted (network_of g) w e (d e there lawful) c) r) (all_events (network_of g)) e
-            (listed (network_of g) e (is_port_of (network_of g) v p there)) t.next)),
+                (some_of _ _ e (filter_has (moves_due may (network_of g) (x e there lawful) (reacted (network_of g) w e (d e there lawful) c) r) (all_events (network_of g)) e
+                (listed (network_of g) e (is_port_of (network_of g) v p there)) t.next)),
           );
         }
       where
