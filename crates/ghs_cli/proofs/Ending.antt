@@ -1,11 +1,11 @@
--- A patient run with turns for its events doesn't stop at its turns.
-use Rattle.std.proofs.Common.{◌≡◌, ◌∙◌, ℕ, true, List, [], Option, Some, None, ⊎_elim, subst, sym}
+-- A patient run, or one by rounds, with turns for its events doesn't stop at its turns.
+use Rattle.std.proofs.Common.{◌≡◌, ◌∙◌, ◌⊎◌, ℕ, true, List, [], Option, Some, None, ⊎_elim, subst, sym}
 use Rattle.std.specs.Prelude.{IfSome, IsErrOf, Result, Ok, Err}
 use Rattle.ghs_gr.specs.Judgement.{IsOneThing, TextIs}
 use Rattle.ghs_gr.specs.RawGraph.{RawShape}
 use Rattle.ghs_picking.specs.declared.picking.Picking.{Picking}
-use Rattle.ghs_picking.specs.declared.picking.Picking.TheVariants.{Patient}
-use Rattle.ghs_picking.specs.Picking.{HasTurnsFor, IsPatient, IsPickedBy}
+use Rattle.ghs_picking.specs.declared.picking.Picking.TheVariants.{Patient, Rounds}
+use Rattle.ghs_picking.specs.Picking.{HasTurnsFor, IsByRounds, IsPatient, IsPickedBy}
 use Rattle.ghs_cli.specs.declared.fault.ServeFault.{ServeFault}
 use Rattle.ghs_cli.specs.declared.fault.ServeFault.TheVariants as serve
 use Rattle.ghs_words.specs.declared.job.RunOptions.{RunOptions}
@@ -26,11 +26,18 @@ run_goes_on o input one cause is =
     let turns : HasTurnsFor (shape_of stops.0) o.turns =
     subst (λ (g : RawShape). HasTurnsFor (shape_of g) o.turns) graph (subst (λ (p : RunOptions). HasTurnsFor (shape_of is.graph) p.turns) (sym same) is.turns) in
     let alone : o.workers ≡ 0 = subst (λ (p : RunOptions). p.workers ≡ 0) (sym same) is.alone in
-    let patient : o.picking ≡ Patient = subst (λ (p : RunOptions). p.picking ≡ Patient) (sym same) is.patient in
+    let picking : (o.picking ≡ Patient) ⊎ (o.picking ≡ Rounds) = subst (λ (p : RunOptions). (p.picking ≡ Patient) ⊎ (p.picking ≡ Rounds)) (sym same) is.patient in
     let stopped = stops.2.1 in
+    ⊎_elim
+    (λ (patient : o.picking ≡ Patient).
     let run : IsPatient o.seed o.wake o.turns (shape_of stops.0) stops.2.0 =
     subst (λ (p : Picking). IsPickedBy p o.seed o.wake o.turns (shape_of stops.0) stops.2.0) patient (stopped.by.picked alone) in
     stopped.goes_on (run.ends turns))
+    (λ (rounds : o.picking ≡ Rounds).
+    let run : IsByRounds o.seed o.wake o.turns (shape_of stops.0) stops.2.0 =
+    subst (λ (p : Picking). IsPickedBy p o.seed o.wake o.turns (shape_of stops.0) stops.2.0) rounds (stopped.by.picked alone) in
+    stopped.goes_on (run.ends turns))
+    picking)
     cause
 
 -- a task that stops at its turns is no patient one

@@ -33,8 +33,8 @@ use std::thread::Threads;
 /// it is met. Only replays, steps and pages of stored runs touch the trace. Threads run a network where the job names
 /// workers, and where it asks for progress lines on standard error tell of it; one that can't be written is passed over.
 /// Where the events of a run are asked for, they go out before the answer that its turns are used, and a write that fails
-/// then is answered in its place. A patient run without threads that has turns for 2(B + N) events, B the bound and N the
-/// nodes, is never answered by its turns.
+/// then is answered in its place. A patient run, or one by rounds, without threads that has turns for 2(B + N) events, B the
+/// bound and N the nodes, is never answered by its turns.
 pub fn serve<R: Source, T: Source, W: Sink, H: Threads + Wait + Eprint + Sync>(
     rt: &H,
     alloc: Global,

@@ -3,7 +3,7 @@ use Rattle.std.proofs.Common.{◌≡◌, ℕ, Bool, ◌+◌, ◌*◌, ◌-◌, �
 use Rattle.std.specs.Prelude.{IfErr, IfOk, OnErr, OnOk, Result, Ok, Err}
 use Rattle.std.proofs.lemmas.List.{length_push}
 use Rattle.ghs_graph.specs.Bound.{IsBound}
-use Rattle.ghs_graph.specs.Graph.{Shape}
+use Rattle.ghs_graph.specs.Graph.{IsGraph, Shape}
 use Rattle.ghs_protocol.specs.declared.event.Event.{Event}
 use Rattle.ghs_protocol.specs.Marks.{HasEnded}
 use Rattle.ghs_protocol.specs.Run.{net_after}
@@ -17,8 +17,10 @@ use Rattle.ghs_sched.specs.declared.fault.RunFault.TheVariants.{TurnLimit, Stall
 use Rattle.ghs_sched.specs.declared.run.RunEnd.{RunEnd}
 use Rattle.ghs_sched.specs.declared.run.RunEnd.TheVariants.{Halted}
 use Rattle.ghs_world.specs.WorldState.{WorldState, home, wakers}
+use Rattle.ghs_world.proofs.lemmas.Waking.{each_is_woken}
 use Rattle.ghs_patient.specs.Runs as patient
 use Rattle.ghs_patient.specs.Runs.{HasTurns, IsPatientlyPicked, IsShort}
+use Rattle.ghs_rounds.specs.Laws.{RoundsAreChains, RoundsAreFew, RunsByRoundsAreShort, RunsByRoundsEnd}
 use Rattle.ghs_rounds.specs.Runs as by_rounds
 use Rattle.ghs_rounds.specs.Runs.{IsPickedByRounds}
 use Rattle.ghs_picking.specs.Picking.{HasTurnsFor, IsByRounds, IsInRounds, IsPatient, IsSeeded, StopsFor}
@@ -184,34 +186,73 @@ at_limit_patient seed old new words after limit r begun gone first is few ran sh
     is_patient seed old new words after begun gone ran short (inr (omega (arith, used, turns)))
     (λ has. absurd (surely (has_turns old new limit gone first is few has) at_limit))
 
+-- What holds of every run by rounds.
+pub record Laws : Type 0 where
+  pub chains : RoundsAreChains
+  pub few : RoundsAreFew
+  pub short : RunsByRoundsAreShort
+  pub end : RunsByRoundsEnd
+
 -- a run by rounds goes in as many as its schedule says
-pub is_in_rounds : (seed : ℕ) (old new : WorldState) (words after : List ℕ) (rounds : ℕ) →
+pub is_in_rounds : (laws : Laws) (seed : ℕ) (old new : WorldState) (words after : List ℕ) (rounds : ℕ) →
+    IsGraph old.net.graph →
     words ≡ seeded seed →
     by_rounds.HasRun old new words after rounds →
     IsInRounds seed old.wake old.turns old.net.graph new.net.trace rounds
-is_in_rounds seed old new words after rounds begun ran = record {
-  words = after;
-  picked = subst (λ (s : List ℕ). IsPickedByRounds (wakers old) old.net.graph old.turns s new.net.trace rounds after) begun ran.picked;
+is_in_rounds laws seed old new words after rounds ok begun ran =
+    let g = old.net.graph in
+    let woken = each_is_woken g old.wake ok in
+    record {
+      words = after;
+      picked = subst (λ (s : List ℕ). IsPickedByRounds (wakers old) g old.turns s new.net.trace rounds after) begun ran.picked;
+      few = λ b is. laws.few (wakers old) g old.turns words new.net.trace rounds after ok woken b is ran.picked;
+      chain = λ ended. laws.chains (wakers old) g old.turns words new.net.trace rounds after ok ran.picked ended;
+    }
+
+-- one that is over is the seed's
+is_by_rounds : (laws : Laws) (seed : ℕ) (old new : WorldState) (words after : List ℕ) (rounds : ℕ) →
+    IsGraph old.net.graph →
+    words ≡ seeded seed →
+    by_rounds.HasRun old new words after rounds →
+    HasEnded old.net.graph (net_after old.net.graph new.net.trace) ⊎ (old.turns ≤ length new.net.trace) →
+    (HasTurnsFor old.net.graph old.turns → HasEnded old.net.graph (net_after old.net.graph new.net.trace)) →
+    IsByRounds seed old.wake old.turns old.net.graph new.net.trace
+is_by_rounds laws seed old new words after rounds ok begun ran over ends = record {
+  rounds = rounds;
+  picked = is_in_rounds laws seed old new words after rounds ok begun ran;
+  over = over;
+  short = λ b is. laws.short (wakers old) old.net.graph old.turns words new.net.trace rounds after ok b is ran.picked;
+  ends = ends;
 }
 
-pub on_ok_by_rounds : (seed : ℕ) (old new : WorldState) (words after : List ℕ) (rounds : ℕ) (r : Result RunEnd RunFault) →
+pub on_ok_by_rounds : (laws : Laws) (seed : ℕ) (old new : WorldState) (words after : List ℕ) (rounds : ℕ) (r : Result RunEnd RunFault) →
+    IsGraph old.net.graph →
     words ≡ seeded seed →
     HasGoneOn old new →
     by_rounds.HasRun old new words after rounds →
     IfOk r (λ e. IsEnd new e) →
     OnOk r (IsByRounds seed old.wake old.turns old.net.graph new.net.trace)
-on_ok_by_rounds seed old new words after rounds (Ok e) begun gone ran end =
-    record { rounds = rounds; picked = is_in_rounds seed old new words after rounds begun ran; over = inl (has_ended old.net.graph new e gone.graph end) }
-on_ok_by_rounds seed old new words after rounds (Err f) begun gone ran end = tt
+on_ok_by_rounds laws seed old new words after rounds (Ok e) ok begun gone ran end =
+    let ended = has_ended old.net.graph new e gone.graph end in is_by_rounds laws seed old new words after rounds ok begun ran (inl ended) (λ _. ended)
+on_ok_by_rounds laws seed old new words after rounds (Err f) ok begun gone ran end = tt
 
-pub at_limit_by_rounds : (seed : ℕ) (old new : WorldState) (words after : List ℕ) (rounds : ℕ) (r : Result RunEnd RunFault) →
+pub at_limit_by_rounds : (laws : Laws) (seed : ℕ) (old new : WorldState) (words after : List ℕ) (rounds : ℕ) (r : Result RunEnd RunFault) →
+    IsGraph old.net.graph →
     words ≡ seeded seed →
     HasGoneOn old new →
     by_rounds.HasRun old new words after rounds →
     IfErr r (λ f. EndsFor new f) →
+    OnErr r (HasEnded new.net.graph (home new) → ⊥) →
     r ≡ Err TurnLimit →
     IsByRounds seed old.wake old.turns old.net.graph new.net.trace
-at_limit_by_rounds seed old new words after rounds r begun gone ran ends at_limit =
+at_limit_by_rounds laws seed old new words after rounds r ok begun gone ran ends goes at_limit =
     let used : StopsFor new TurnLimit = subst (λ (x : Result RunEnd RunFault). IfErr x (λ f. StopsFor new f)) at_limit (stops_for old new r gone ends) in
+    let going : HasEnded old.net.graph (net_after old.net.graph new.net.trace) → ⊥ =
+    subst (λ (s : Shape). HasEnded s (net_after s new.net.trace) → ⊥) gone.graph
+    (subst (λ (x : Result RunEnd RunFault). OnErr x (HasEnded new.net.graph (home new) → ⊥)) at_limit goes) in
     let turns = gone.turns in
-    record { rounds = rounds; picked = is_in_rounds seed old new words after rounds begun ran; over = inr (omega (arith, used, turns)) }
+    is_by_rounds laws seed old new words after rounds ok begun ran (inr (omega (arith, used, turns)))
+    (λ has. absurd (
+      let less = laws.end (wakers old) old.net.graph old.turns words new.net.trace rounds after ok (each_is_woken old.net.graph old.wake ok) has.bound has.is ran.picked going in
+      let enough = has.enough in
+      omega (arith, less, enough, used, turns)))

@@ -4,6 +4,7 @@ use Rattle.ghs_graph.specs.Bound.{IsBound}
 use Rattle.ghs_graph.specs.Graph.{Shape}
 use Rattle.ghs_protocol.specs.declared.event.Event.{Event}
 use Rattle.ghs_protocol.specs.Marks.{HasEnded}
+use Rattle.ghs_protocol.specs.Network.{network_of}
 use Rattle.ghs_protocol.specs.Run.{net_after}
 use Rattle.ghs_sched.specs.Picks.{IsSeededRun}
 use Rattle.ghs_sched.specs.Schedule.{seeded}
@@ -12,6 +13,7 @@ use Rattle.ghs_sched.specs.declared.fault.RunFault.TheVariants.{TurnLimit, Stall
 use Rattle.ghs_world.specs.declared.wake_set.WakeSet.{WakeSet}
 use Rattle.ghs_world.specs.Wakes.{may_wake}
 use Rattle.ghs_world.specs.WorldState.{WorldState}
+use Rattle.ghs_chain.specs.Chains.{longest_chain}
 use Rattle.ghs_patient.specs.Runs.{IsPatientlyPicked}
 use Rattle.ghs_rounds.specs.Runs.{IsPickedByRounds}
 use Rattle.ghs_picking.specs.declared.picking.Picking.{Picking}
@@ -37,16 +39,22 @@ pub record IsPatient (seed : ℕ) (wake : WakeSet) (turns : ℕ) (g : Shape) (ev
   pub short : (b : ℕ) → IsBound g.nodes (length g.keys) b → length events ≤ 2 * (b + g.nodes)
   pub ends : HasTurnsFor g turns → HasEnded g (net_after g events)
 
--- the events that the seed's schedule picks of a graph in so many rounds, from the opening on
+-- The events that the seed's schedule picks of a graph in so many rounds, from the opening on. These are at most the bound on messages and the nodes
+-- together; and once the run has ended, its longest chain has just as many messages.
 pub record IsInRounds (seed : ℕ) (wake : WakeSet) (turns : ℕ) (g : Shape) (events : List Event) (rounds : ℕ) : Type 0 where
   pub words : List ℕ
   pub picked : IsPickedByRounds (may_wake g wake) g turns (seeded seed) events rounds words
+  pub few : (b : ℕ) → IsBound g.nodes (length g.keys) b → rounds ≤ b + g.nodes
+  pub chain : HasEnded g (net_after g events) → longest_chain (network_of g) events ≡ rounds
 
--- the events of the seed's run of a graph by rounds: all that its schedule picks so, from the opening on to the end or to the last turn
+-- The events of the seed's run of a graph by rounds: all that its schedule picks so, from the opening on to the end or to the last turn. They are at most
+-- as many as a patient run may have, and with turns for so many they lead to the end.
 pub record IsByRounds (seed : ℕ) (wake : WakeSet) (turns : ℕ) (g : Shape) (events : List Event) : Type 0 where
   pub rounds : ℕ
   pub picked : IsInRounds seed wake turns g events rounds
   pub over : HasEnded g (net_after g events) ⊎ (turns ≤ length events)
+  pub short : (b : ℕ) → IsBound g.nodes (length g.keys) b → length events ≤ 2 * (b + g.nodes)
+  pub ends : HasTurnsFor g turns → HasEnded g (net_after g events)
 
 -- the events of the run that a seed's schedule picks of a graph, among all that may happen, patiently or by rounds
 abbrev pub IsPickedBy : Picking → ℕ → WakeSet → ℕ → Shape → List Event → Type 0

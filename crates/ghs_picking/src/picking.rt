@@ -6,6 +6,9 @@ ghost use Rattle.ghs_world.specs.WorldState.{home};
 ghost use Rattle.std.specs.Prelude.{IfErr, IfOk, OnErr, OnOk, [], ◌≡◌};
 
 use ghs_patient::run::run_patient;
+use ghs_rounds::laws::{
+    law_rounds_are_chains, law_rounds_are_few, law_runs_by_rounds_are_short, law_runs_by_rounds_end,
+};
 use ghs_rounds::run::run_rounds;
 use ghs_sched::fault::RunFault;
 use ghs_sched::run::{RunEnd, run_seeded};
@@ -25,9 +28,9 @@ pub enum Picking {
 }
 
 /// Runs a world from its opening on, by the schedule of a seed, until the run has ended or its turns are used. Of the faults
-/// TurnLimit comes where the commits have come to the turns, and else Memory. A patient run that has turns for 2(B + N)
-/// events, B the bound on messages and N the nodes, ends, or memory is wanting. At every end nothing is out, and the world
-/// stands after the events so far.
+/// TurnLimit comes where the commits have come to the turns, and else Memory. A patient run, or one by rounds, that has turns
+/// for 2(B + N) events, B the bound on messages and N the nodes, ends, or memory is wanting. At every end nothing is out, and
+/// the world stands after the events so far.
 pub fn run_by_seed(
     alloc: Global,
     world: &mut World,
@@ -50,7 +53,8 @@ pub fn run_by_seed(
     end
 }
 
-/// The same, and in how many rounds the run went, where it goes by rounds.
+/// The same, and in how many rounds the run went, where it goes by rounds: B + N at most, and once it has ended as many as
+/// its longest chain has messages.
 pub fn run_timed(
     alloc: Global,
     world: &mut World,
@@ -70,8 +74,13 @@ pub fn run_timed(
     ensures going { OnErr result.1 (HasEnded world.new.net.graph (home world.new) → ⊥) }
     ensures fault { IfErr result.1 (λ f. StopsFor world.new f) }
 {
+    law_rounds_are_chains();
+    law_rounds_are_few();
+    law_runs_by_rounds_are_short();
+    law_runs_by_rounds_end();
     let mut schedule = Schedule::seeded(seed);
     let _ = world.turns();
+    let _ = world.net().trace();
     match picking {
         Picking::Seeded => (None, run_seeded(alloc, world, &mut schedule)),
         Picking::Patient => (None, run_patient(alloc, world, &mut schedule)),

@@ -7,3 +7,7 @@ mod Picked
 mod Running
 mod Sending
 mod Settling
+mod Short
+mod Steps
+mod Timing
+mod Told

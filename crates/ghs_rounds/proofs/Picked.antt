@@ -49,7 +49,7 @@ either : (es fs : List Event) (e : Event) → Contains (or_else es fs) e → Con
 either [] fs e h = inr h
 either (x ∷ es) fs e h = inl h
 
-picked_in : (es : List Event) (words : List ℕ) (e : Event) → IsPick es words e → Contains es e
+pub picked_in : (es : List Event) (words : List ℕ) (e : Event) → IsPick es words e → Contains es e
 picked_in es words e h =
     subst (λ x. Contains es x) (get_or_from_slice_get es _ e e h.1) (Contains-get_or es _ e (slice_get_within es _ e h.1))
 

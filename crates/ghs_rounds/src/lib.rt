@@ -3,5 +3,6 @@
 
 mod choices;
 mod clock;
+pub mod laws;
 mod rounds;
 pub mod run;

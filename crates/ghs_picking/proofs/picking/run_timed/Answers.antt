@@ -1,5 +1,7 @@
-use Rattle.std.proofs.Common.{refl}
-use Rattle.ghs_picking.proofs.BySeed.{HasGoneOn, at_limit_by_rounds, at_limit_patient, gone_by_rounds, gone_patient, gone_seeded, is_in_rounds, is_seeded, on_ok_by_rounds, on_ok_patient, on_ok_seeded}
+use Rattle.std.proofs.Common.{refl, subst}
+use Rattle.ghs_core.specs.NetState.{NetState}
+use Rattle.ghs_graph.specs.Graph.{IsGraph}
+use Rattle.ghs_picking.proofs.BySeed.{HasGoneOn, Laws, at_limit_by_rounds, at_limit_patient, gone_by_rounds, gone_patient, gone_seeded, is_in_rounds, is_seeded, on_ok_by_rounds, on_ok_patient, on_ok_seeded}
 use Rattle.ghs_picking.proofs.picking.run_timed.Goals as goal
 
 pub returns-in-Seeded-clause-whole : goal.returns-in-Seeded-clause-whole
@@ -33,11 +35,17 @@ returns-in-Patient-clause-limit c =
     (λ limit. at_limit_patient c.args.seed c.args.world.now ran.new.world c.seeded-schedule.result ran.new.schedule c.turns.result ran.result c.seeded-schedule.ensures gone c.requires.numbers
     c.turns.ensures.turns c.turns.ensures.few ran.ensures.run ran.ensures.short ran.ensures.fault ran.ensures.ends limit)
 
+laws_of : (c : goal.After-run_rounds-rounds) → Laws
+laws_of c = record { chains = c.law_rounds_are_chains.ensures; few = c.law_rounds_are_few.ensures; short = c.law_runs_by_rounds_are_short.ensures; end = c.law_runs_by_rounds_end.ensures }
+
+graph_of : (c : goal.After-run_rounds-rounds) → IsGraph c.args.world.now.net.graph
+graph_of c = subst (λ (n : NetState). IsGraph n.graph) c.net.ensures.net c.trace.ensures.graph
+
 pub returns-in-Rounds-clause-rounds : goal.returns-in-Rounds-clause-rounds
 returns-in-Rounds-clause-rounds c =
     let ran = c.run_rounds-rounds in
     rw c.in-Rounds.is
-    (ran.result.0, refl, is_in_rounds c.args.seed c.args.world.now ran.new.world c.seeded-schedule.result ran.new.schedule ran.result.0 c.seeded-schedule.ensures ran.ensures.run)
+    (ran.result.0, refl, is_in_rounds (laws_of c) c.args.seed c.args.world.now ran.new.world c.seeded-schedule.result ran.new.schedule ran.result.0 (graph_of c) c.seeded-schedule.ensures ran.ensures.run)
 
 pub returns-in-Rounds-clause-whole : goal.returns-in-Rounds-clause-whole
 returns-in-Rounds-clause-whole c =
@@ -45,7 +53,8 @@ returns-in-Rounds-clause-whole c =
     let gone : HasGoneOn c.args.world.now ran.new.world =
     gone_by_rounds c.args.world.now ran.new.world c.seeded-schedule.result ran.new.schedule c.turns.result ran.result.0 c.requires.trace c.requires.numbers c.turns.ensures.turns c.turns.ensures.few ran.ensures.run in
     rw c.in-Rounds.is
-    (on_ok_by_rounds c.args.seed c.args.world.now ran.new.world c.seeded-schedule.result ran.new.schedule ran.result.0 ran.result.1 c.seeded-schedule.ensures gone ran.ensures.run ran.ensures.halted)
+    (on_ok_by_rounds (laws_of c) c.args.seed c.args.world.now ran.new.world c.seeded-schedule.result ran.new.schedule ran.result.0 ran.result.1 (graph_of c) c.seeded-schedule.ensures gone
+    ran.ensures.run ran.ensures.halted)
 
 pub returns-in-Rounds-clause-limit : goal.returns-in-Rounds-clause-limit
 returns-in-Rounds-clause-limit c =
@@ -53,4 +62,5 @@ returns-in-Rounds-clause-limit c =
     let gone : HasGoneOn c.args.world.now ran.new.world =
     gone_by_rounds c.args.world.now ran.new.world c.seeded-schedule.result ran.new.schedule c.turns.result ran.result.0 c.requires.trace c.requires.numbers c.turns.ensures.turns c.turns.ensures.few ran.ensures.run in
     rw c.in-Rounds.is
-    (λ limit. at_limit_by_rounds c.args.seed c.args.world.now ran.new.world c.seeded-schedule.result ran.new.schedule ran.result.0 ran.result.1 c.seeded-schedule.ensures gone ran.ensures.run ran.ensures.fault limit)
+    (λ limit. at_limit_by_rounds (laws_of c) c.args.seed c.args.world.now ran.new.world c.seeded-schedule.result ran.new.schedule ran.result.0 ran.result.1 (graph_of c) c.seeded-schedule.ensures gone
+    ran.ensures.run ran.ensures.fault ran.ensures.going limit)
