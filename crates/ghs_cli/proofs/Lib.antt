@@ -1,6 +1,6 @@
 -- Serves the proofs: nothing here has to be believed.
 mod Ending
-mod Making
+mod MadeNetworks
 mod Runs
 mod Serves
 mod Stepped

@@ -1,5 +1,5 @@
 use Rattle.std.proofs.Common.{rules}
-use Rattle.ghs_cli.proofs.Making.{serves_made, serves_refused, serves_unmade}
+use Rattle.ghs_cli.proofs.MadeNetworks.{serves_made, serves_refused, serves_unmade}
 use Rattle.ghs_cli.proofs.making.write_network_of.Goals as goal
 
 pub returns-in_err-network-clause-serves : goal.returns-in_err-network-clause-serves

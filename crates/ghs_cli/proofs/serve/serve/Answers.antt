@@ -1,5 +1,5 @@
 use Rattle.ghs_cli.proofs.Ending.{ends_of_steps}
-use Rattle.ghs_cli.proofs.Making.{ends_make, serves_make, unread_make, unwritten_make}
+use Rattle.ghs_cli.proofs.MadeNetworks.{ends_make, serves_make, unread_make, unwritten_make}
 use Rattle.ghs_cli.proofs.Stepped.{serves_steps, unread_steps, unwritten_steps}
 use Rattle.ghs_cli.proofs.serve.serve.Goals as goal
 
