@@ -22,7 +22,7 @@ use Rattle.ghs_cli.specs.declared.fault.ServeFault.TheVariants as serve
 
 -- the text of the network is what is asked for
 made_of : (asked : Asked) (n : Network) → IsNetwork n → IsNetworkOf asked n → IsMade asked (text_of n)
-made_of asked n sound of = record { network = n; sound = sound; asked = of; printed = refl }
+made_of asked n sound of = record { network = n; sound = sound; fits = of; printed = refl }
 
 -- all of it has gone out
 pub serves_made : (asked : Asked) (n : Network) (old new : Option (List ℕ)) → IsNetwork n → IsNetworkOf asked n → Appends old new (text_of n)

@@ -179,7 +179,7 @@ pub record IsStoredViewOutput (o : StoredViewOptions) (stored input output : Lis
 pub record IsMade (asked : Asked) (output : List ℕ) : Type 0 where
   pub network : Network
   pub sound : IsNetwork network
-  pub asked : IsNetworkOf asked network
+  pub fits : IsNetworkOf asked network
   pub printed : output ≡ text_of network
 
 -- what a task prints
