@@ -61,7 +61,7 @@ svg text { fill: var(--ink); font-family: inherit; }
 .half { fill: none; stroke: var(--faint); stroke-width: 1.4; }
 .tiny .half, .tiny .cross { stroke-width: .8; }
 .tiny .body { stroke-width: .9; }
-.tiny .node text, .tiny .stop { display: none; }
+.tiny .node text, .tiny .node .stop { display: none; }
 .tiny .ring { stroke-width: .8 !important; }
 .half.branch { stroke: var(--ink); stroke-width: var(--thick, 5); }
 .half.rejected { stroke-dasharray: 5 5; }
@@ -78,10 +78,10 @@ circle.halo.bx { fill: var(--line); }
 .body { fill: var(--paper); stroke: var(--ink); stroke-width: 1.8; }
 .sleeping .body { stroke-dasharray: 3 3; stroke: var(--faint); }
 .sleeping text { fill: var(--dim); }
-.ring { fill: none; stroke: none; }
-.find .ring { stroke: var(--ink); stroke-width: 1.8; }
-.stop { fill: none; stroke: none; }
-.halted .stop { stroke: var(--ink); stroke-width: 3.5; }
+.ring { display: none; fill: none; stroke: none; }
+.find .ring { display: inline; stroke: var(--ink); stroke-width: 1.8; }
+.stop { display: none; fill: none; stroke: none; }
+.halted .stop { display: inline; stroke: var(--ink); stroke-width: 3.5; }
 .at .body { stroke: var(--act); stroke-width: 5.5; stroke-dasharray: none; }
 .at .ring { stroke-width: 2.5; }
 .pinmark path, .pinmark circle { fill: none; stroke: var(--ink); stroke-width: 3; }
