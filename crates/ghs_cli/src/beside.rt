@@ -50,7 +50,14 @@ fn pair_page_of(
     let _ = second.net();
     let _ = second.turns();
     let graph = first.graph().copy(alloc)?;
-    match pair_page(alloc, graph, first.trace(), second.trace(), options.from, options.to) {
+    match pair_page(
+        alloc,
+        graph,
+        first.trace(),
+        second.trace(),
+        options.from,
+        options.to,
+    ) {
         Ok(text) => Ok(text),
         Err(PageFault::TooLarge) => Err(ServeFault::PageTooLarge),
         Err(PageFault::Memory) => Err(ServeFault::Memory),

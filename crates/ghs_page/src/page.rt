@@ -20,7 +20,14 @@ pub fn pair_page(alloc: Global, first: &[u8], second: &[u8]) -> Result<Vec<u8>, 
     ensures { IfOk result (λ text. text.items ≡ pair_text first.now second.now) }
 {
     let mut text = joined(alloc, PAIR_HEAD, HEAD, TAIL)?;
-    put_both(&mut text, PAIR_BEFORE, first, PAIR_BETWEEN, second, PAIR_TAIL)?;
+    put_both(
+        &mut text,
+        PAIR_BEFORE,
+        first,
+        PAIR_BETWEEN,
+        second,
+        PAIR_TAIL,
+    )?;
     Ok(text)
 }
 

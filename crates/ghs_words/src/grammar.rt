@@ -125,7 +125,9 @@ fn view<'a>(alloc: Global) -> Result<Command<'a>, AllocError>
 {
     Ok(
         Command::new(alloc, "view")
-            .about("Prints a run as one page for a browser, to step through, or two runs beside each other")
+            .about(
+                "Prints a run as one page for a browser, to step through, or two runs beside each other",
+            )
             .arg(file(alloc))?
             .arg(seed(alloc))?
             .arg(pair(alloc))?

@@ -32,7 +32,10 @@ pub(crate) fn two_seeds_in(value: &str) -> Option<TwoSeeds>
     let Some((first, second)) = value.split_once(',') else {
         return None;
     };
-    both(number_in(first, 0, u64::MAX), number_in(second, 0, u64::MAX))
+    both(
+        number_in(first, 0, u64::MAX),
+        number_in(second, 0, u64::MAX),
+    )
 }
 
 /// Two numbers as seeds, where there are both.

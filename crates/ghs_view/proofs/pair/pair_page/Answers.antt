@@ -33,7 +33,9 @@ returns-clause-large c =
     let long = c.if-shown-gt-PAGE_EVENTS.false in
     let shown = ap length c.first_events-shown.ensures in
     let longer = c.if-beside-gt-PAGE_EVENTS.false in
-    let beside = ap length c.first_events-beside.ensures in
-    (λ e. search rules, λ large. absurd (⊎_elim
-    (λ first. ⊎_elim (λ m. omega (arith, m, many, nodes)) (λ m. omega (arith, m, long, shown)) first)
-    (λ second. ⊎_elim (λ m. omega (arith, m, many, nodes)) (λ m. omega (arith, m, longer, beside)) second) large))
+    let beside = ap length c.first_events-beside.ensures in (
+      λ e. search rules,
+      λ large. absurd (⊎_elim
+          (λ first. ⊎_elim (λ m. omega (arith, m, many, nodes)) (λ m. omega (arith, m, long, shown)) first)
+          (λ second. ⊎_elim (λ m. omega (arith, m, many, nodes)) (λ m. omega (arith, m, longer, beside)) second) large),
+    )
