@@ -253,6 +253,6 @@ at_limit_by_rounds laws seed old new words after rounds r ok begun gone ran ends
     let turns = gone.turns in
     is_by_rounds laws seed old new words after rounds ok begun ran (inr (omega (arith, used, turns)))
     (λ has. absurd (
-      let less = laws.end (wakers old) old.net.graph old.turns words new.net.trace rounds after ok (each_is_woken old.net.graph old.wake ok) has.bound has.is ran.picked going in
-      let enough = has.enough in
-      omega (arith, less, enough, used, turns)))
+    let less = laws.end (wakers old) old.net.graph old.turns words new.net.trace rounds after ok (each_is_woken old.net.graph old.wake ok) has.bound has.is ran.picked going in
+    let enough = has.enough in
+    omega (arith, less, enough, used, turns)))

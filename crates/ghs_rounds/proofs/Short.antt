@@ -249,8 +249,8 @@ module _ (law : Promised) (rules : EventsHaveRules) (lasts : PatienceLasts) (may
           few = inr (
             ⊎_elim (λ le. omega (arith, le, count)) (λ z. absurd (⊎_elim (λ y. first y hides) some_moves z.1)) so_far.few,
             inr (rw (net, chains) (some_in _ e
-            (filter_has (moves_due may (network_of g) x (reacted (network_of g) w e d c) r) (all_events (network_of g)) e
-            (listed (network_of g) e (is_port_of (network_of g) v p there)) t.next))),
+                (filter_has (moves_due may (network_of g) x (reacted (network_of g) w e d c) r) (all_events (network_of g)) e
+                (listed (network_of g) e (is_port_of (network_of g) v p there)) t.next))),
           );
         }
       where

@@ -262,7 +262,9 @@ fn file<'a>(alloc: Global) -> Arg<'a>
     ensures local { result.global ≡ false }
     ensures rule { rule_of result ≡ file_rule }
 {
-    Arg::new(alloc, "FILE").help("The graph, in the .gr format; standard input where it is - or none is named")
+    Arg::new(alloc, "FILE").help(
+        "The graph, in the .gr format; standard input where it is - or none is named",
+    )
 }
 
 // Which schedule picks the events.

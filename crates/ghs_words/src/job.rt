@@ -11,8 +11,8 @@ ghost use Rattle.std.specs.Prelude.{◌≡◌, ◌≤◌, ◌↔◌, ◌∷◌, 
 use crate::grammar::program;
 use crate::two_seeds::{TwoSeeds, are_two, no_two_seeds, two_seeds_in};
 use crate::values::{
-    Seeds, are_apart, are_weights, is_among, is_kind, is_number, is_range, is_text, no_kind, no_nodes,
-    no_number, no_seeds, number_in, owned, read_twice, seeds_in, unknown_choice,
+    Seeds, are_apart, are_weights, is_among, is_kind, is_number, is_range, is_text, no_kind,
+    no_nodes, no_number, no_seeds, number_in, owned, read_twice, seeds_in, unknown_choice,
 };
 use clap::error::ErrorKind;
 use clap::{ArgMatches, Error};
