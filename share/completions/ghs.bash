@@ -3,35 +3,39 @@ _ghs() {
     local word=${COMP_WORDS[COMP_CWORD]} before=${COMP_WORDS[COMP_CWORD - 1]}
     COMPREPLY=()
     if [ "$COMP_CWORD" -eq 1 ]; then
-        COMPREPLY=($(compgen -W 'tree run replay steps sweep view help -h --help' -- "$word"))
+        COMPREPLY=($(compgen -W 'tree run replay steps sweep view make help -h --help -V --version' -- "$word"))
         return
     fi
     case ${COMP_WORDS[1]},$before in
         run,--seed) : && return ;;
-        run,--schedule) COMPREPLY=($(compgen -W 'seeded patient' -- "$word")) && return ;;
+        run,--schedule) COMPREPLY=($(compgen -W 'seeded patient rounds' -- "$word")) && return ;;
         run,--workers) : && return ;;
         run,--wake) COMPREPLY=($(compgen -W 'all first' -- "$word")) && return ;;
         run,--turns) : && return ;;
-        run,--print) COMPREPLY=($(compgen -W 'report trace' -- "$word")) && return ;;
+        run,--print) COMPREPLY=($(compgen -W 'report trace time' -- "$word")) && return ;;
         replay,--wake) COMPREPLY=($(compgen -W 'all first' -- "$word")) && return ;;
         steps,--wake) COMPREPLY=($(compgen -W 'all first' -- "$word")) && return ;;
         steps,--from) : && return ;;
         steps,--to) : && return ;;
         steps,--node) : && return ;;
         sweep,--seeds) : && return ;;
-        sweep,--schedule) COMPREPLY=($(compgen -W 'seeded patient' -- "$word")) && return ;;
+        sweep,--schedule) COMPREPLY=($(compgen -W 'seeded patient rounds' -- "$word")) && return ;;
         sweep,--workers) : && return ;;
         sweep,--wake) COMPREPLY=($(compgen -W 'all first' -- "$word")) && return ;;
         sweep,--turns) : && return ;;
         sweep,--print) COMPREPLY=($(compgen -W 'runs summary' -- "$word")) && return ;;
         view,--seed) : && return ;;
-        view,--schedule) COMPREPLY=($(compgen -W 'seeded patient' -- "$word")) && return ;;
+        view,--seeds) : && return ;;
+        view,--schedule) COMPREPLY=($(compgen -W 'seeded patient rounds' -- "$word")) && return ;;
         view,--wake) COMPREPLY=($(compgen -W 'all first' -- "$word")) && return ;;
         view,--turns) : && return ;;
         view,--trace) COMPREPLY=($(compgen -f -- "$word")) && return ;;
         view,--from) : && return ;;
         view,--to) : && return ;;
-        help,*) COMPREPLY=($(compgen -W 'tree run replay steps sweep view help' -- "$word")) && return ;;
+        make,--seed) : && return ;;
+        make,--links) : && return ;;
+        make,--weights) COMPREPLY=($(compgen -W 'random rising falling equal' -- "$word")) && return ;;
+        help,*) COMPREPLY=($(compgen -W 'tree run replay steps sweep view make help' -- "$word")) && return ;;
     esac
     case ${COMP_WORDS[1]} in
         tree) [[ $word == -* ]] && COMPREPLY=($(compgen -W '--core -h --help' -- "$word")) ;;
@@ -39,7 +43,9 @@ _ghs() {
         replay) [[ $word == -* ]] && COMPREPLY=($(compgen -W '--wake -h --help' -- "$word")) ;;
         steps) [[ $word == -* ]] && COMPREPLY=($(compgen -W '--wake --from --to --node --json -h --help' -- "$word")) ;;
         sweep) [[ $word == -* ]] && COMPREPLY=($(compgen -W '--seeds --schedule --workers --wake --turns --print --progress -h --help' -- "$word")) ;;
-        view) [[ $word == -* ]] && COMPREPLY=($(compgen -W '--seed --schedule --wake --turns --trace --from --to -h --help' -- "$word")) ;;
+        view) [[ $word == -* ]] && COMPREPLY=($(compgen -W '--seed --seeds --schedule --wake --turns --trace --from --to -h --help' -- "$word")) ;;
+        make) [[ $word == -* ]] && COMPREPLY=($(compgen -W '--seed --links --weights -h --help' -- "$word"))
+            [[ $word == -* ]] || { [ "$COMP_CWORD" -eq 2 ] && COMPREPLY=($(compgen -W 'path ring star grid complete tree random road forest slow busy' -- "$word")); return; } ;;
     esac
     [[ $word == -* ]] || COMPREPLY=($(compgen -f -- "$word"))
 }
