@@ -4,7 +4,7 @@ use Rattle.ghs_cli.proofs.making.write_network_of.Goals as goal
 
 pub returns-in_err-network-clause-serves : goal.returns-in_err-network-clause-serves
 returns-in_err-network-clause-serves g c =
-    serves_refused c.args.asked.now (g.W.Sink.held c.args.out.now) c.from_residual-in_err-network.result c.in_err-network.field-0.0 (search rules)
+    serves_refused c.args.asked.now (g.W.Sink.held c.args.out.now) c.from_residual.result c.in_err-network.field-0.0 (search rules)
     c.in_err-network.ensures.refused
 
 pub returns-in_err-write_network-clause-serves : goal.returns-in_err-write_network-clause-serves
