@@ -325,11 +325,11 @@ function hundred() {
     const seed = found.length, trace = runOf(graph, 'trace 0\n', patient, seed), fault = faultOf(trace);
     if (fault) { $('figures').innerHTML = '<p>' + fault.words + '</p>'; return; }
     found.push(ledgerOf(seenOf(graph, trace)));
-    if (found.length < SEEDS) { if (seed % 5 === 0) $('figures').firstChild.textContent = 'Seed ' + seed + ' ..'; setTimeout(next, 0); } else figures(found, patient);
+    if (found.length < SEEDS) { if (seed % 5 === 0) $('figures').firstChild.textContent = 'Seed ' + seed + ' ..'; setTimeout(next, 0); } else printSeeds(found, patient);
   };
   setTimeout(next, 0);
 }
-function figures(found, patient) {
+function printSeeds(found, patient) {
   const row = ([name, of]) => {
     const all = found.map(of), low = Math.min(...all), high = Math.max(...all), sum = all.reduce((a, b) => a + b), open = x => '<button data-seed="' + all.indexOf(x) + '" title="opens the run of seed ' + all.indexOf(x) + '">' + x + '</button>';
     return '<tr><td>' + name + '</td><td class="n">' + open(low) + '</td><td class="n">' + (sum / all.length).toFixed(2) + '</td><td class="n">' + open(high) + '</td></tr>';
