@@ -69,7 +69,7 @@ function fill(text, same) {
   }
   read(text);
   if (same) {
-    for (const n of nodes) if (n) for (const part of ['g', 'halo', 'stop', 'ring', 'body', 'text', 'lev', 'corner']) n[part] = old[n.v][part];
+    for (const n of nodes) if (n) for (const part of ['g', 'halo', 'stop', 'ring', 'body', 'text', 'lev', 'corner', 'queues']) n[part] = old[n.v][part];
     for (const d of drawn) d.sig = null;
   }
   survey();
@@ -159,7 +159,11 @@ function offer() {
     c.toggle('next', can && key === next);
     c.toggle('pointed', can && pointed === key);
     const hit = g.querySelector('.hit');
-    if (can && !hit) g.append(el('circle', { class: 'hit', r: 13 }));
+    if (can && !hit) {
+      // in the middle between its tail and its tip
+      const [x, y, , , tipX, tipY, , , endX, endY] = g.firstChild.getAttribute('d').match(/-?[\d.]+/g).map(Number);
+      g.append(el('circle', { class: 'hit', r: 13, cx: (x + endX) / 4 + tipX / 2, cy: (y + endY) / 4 + tipY / 2 }));
+    }
     if (!can && hit) hit.remove();
   }
   list(next);

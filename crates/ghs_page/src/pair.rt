@@ -94,16 +94,16 @@ dialog td:first-child { font-weight: bold; padding-right: 1.2em; }
 
 /// Between that and the data of the first run.
 pub const PAIR_BEFORE: &[u8] = br##"</noframes>
-<script type="application/x-ndjson" id="steps0">
+<noembed id="steps0">
 "##;
 
 /// Between the data of the two.
-pub const PAIR_BETWEEN: &[u8] = br##"</script>
-<script type="application/x-ndjson" id="steps1">
+pub const PAIR_BETWEEN: &[u8] = br##"</noembed>
+<noembed id="steps1">
 "##;
 
 /// Behind the data of the second.
-pub const PAIR_TAIL: &[u8] = br##"</script>
+pub const PAIR_TAIL: &[u8] = br##"</noembed>
 <script>
 'use strict';
 const $ = id => document.getElementById(id);

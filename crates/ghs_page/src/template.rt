@@ -87,7 +87,7 @@ circle.halo.bx { fill: var(--line); }
 .pinmark path, .pinmark circle { fill: none; stroke: var(--ink); stroke-width: 3; }
 .pinmark .under { stroke: var(--paper); stroke-width: 7; }
 .eye { fill: none; stroke: var(--act); stroke-width: 4; }
-#marks { pointer-events: none; }
+#view #marks { pointer-events: none; }
 .node { cursor: pointer; }
 .node text, .msg text, .tag text { text-anchor: middle; dominant-baseline: central; pointer-events: none; }
 .node .lev { font-weight: bold; text-anchor: start; paint-order: stroke; stroke: var(--paper); stroke-width: 3px; }
@@ -133,7 +133,14 @@ dialog td { white-space: normal; }
 @media (max-width: 900px) { body { grid-template: auto minmax(0, 1fr) minmax(0, 14rem) auto / minmax(0, 1fr); } header, footer, .bad { grid-column: 1; } aside { display: block; overflow-y: auto; border-left: 0; border-top: 1px solid var(--line); } }
 @media (max-width: 500px) { :root { --num: 14px; } header, footer { padding: .2rem .4rem; gap: .25rem; } footer div { gap: .25rem; } button { min-width: 2em; padding: .1em .35em; } #what, .legend, .wordy { display: none; } #strip { height: 44px; } #strip text { font-size: 11px; } body { grid-template-rows: auto minmax(0, 1fr) minmax(0, 12rem) auto; } #goal { max-width: 9em; } }
 .sr { position: absolute; width: 1px; height: 1px; overflow: hidden; clip-path: inset(50%); }
-#net { touch-action: none; }
+#glass { position: absolute; inset: 0; }
+#glass, #net, #under { touch-action: none; }
+#net, #under { pointer-events: none; }
+#view, #lower { pointer-events: auto; }
+/* what an event seldom changes is painted by itself, and once; where links are too thin to be met, the glass takes all */
+#under, #plots { will-change: transform; }
+#under.tiny { touch-action: auto; }
+.tiny #lower { pointer-events: none; }
 .node:focus { outline: none; }
 .node:focus-visible .body { stroke: var(--act); stroke-width: 5; }
 .ask button { margin: .1rem .2rem .1rem 0; }
@@ -160,7 +167,8 @@ dialog td { white-space: normal; }
 <button id="only" title="x" aria-pressed="false" hidden>causes only</button><button id="follow" title="f" aria-pressed="false">follow</button><button id="layout" title="c">circle</button><button id="save" title="p: the picture as a file (SVG)">picture</button><button id="theme" title="d">dark</button><button id="help" title="?">?</button>
 </header>
 <main id="stage">
-<svg id="net" role="group" aria-label="The network"><defs id="defs"></defs><g id="view"><g id="halos"></g><g id="weights"></g><g id="links"></g><g id="cores"></g><g id="ways"></g><g id="tags"></g><g id="nodes"></g><g id="msgs"></g><g id="marks"></g></g></svg>
+<div id="glass"></div><svg id="under"><g id="lower"><g id="halos"></g><g id="weights"></g><g id="links"></g><g id="cores"></g></g></svg>
+<svg id="net" role="group" aria-label="The network"><defs id="defs"></defs><g id="view"><g id="ways"></g><g id="tags"></g><g id="nodes"></g><g id="msgs"></g><g id="marks"></g></g></svg>
 <div id="time" hidden><svg id="lanes" role="img" aria-label="Space-time diagram"></svg></div>
 <div class="legend" id="legend"></div>
 <div id="hint" hidden></div>
@@ -185,11 +193,12 @@ dialog td { white-space: normal; }
 <input type="range" id="seek" aria-label="event">
 </footer>
 <dialog id="keys"></dialog>
-<script type="application/x-ndjson" id="steps">
+<!-- plain text, in the element that browsers read fastest -->
+<noembed id="steps">
 "##;
 
 /// The page behind its data.
-pub const TAIL: &[u8] = br##"</script>
+pub const TAIL: &[u8] = br##"</noembed>
 <script>
 'use strict';
 const $ = id => document.getElementById(id);
@@ -233,7 +242,8 @@ const KEYS = [['left, right', 'one event back or on'], ['space', 'play, stop'], 
 // ---- the data
 let G, steps = [], links = [], nodes = [], ledgerEnd = null;
 const queues = new Map();
-const queueAt = (v, p) => { const k = v * 8388608 + p; let q = queues.get(k); if (!q) queues.set(k, q = { v, p, list: [] }); return q; };
+const queueAt = (v, p) => nodes[v].queues[p] ||= newQueue({ v, p, list: [] });
+const newQueue = q => { queues.set(q, q); return q; };
 const queue = (v, p) => queueAt(v, p).list;
 // the queues that may look otherwise than they were drawn
 let changed = new Set();
@@ -249,25 +259,30 @@ function setMark(n, port, mark) {
   l.halves = 3 * CODE[nodes[l.a].marks[l.a_port]] + CODE[nodes[l.b].marks[l.b_port]];
 }
 function read(text) {
-  // all lines at once: a page may have a hundred thousand
-  for (const o of JSON.parse('[' + text.trim().replaceAll('\n', ',') + ']')) {
-    if ('step' in o) steps.push(o);
-    else if ('link' in o) {
-      // links come in key order, and so do the ports of a node
-      const i = links.push(o) - 1;
-      o.a_port = nodes[o.a].ports.push({ link: i, far: o.b }) - 1;
-      o.b_port = nodes[o.b].ports.push({ link: i, far: o.a }) - 1;
-      nodes[o.a].marks.push('basic');
-      nodes[o.b].marks.push('basic');
-      o.halves = 0;
-    } else if ('ledger' in o) ledgerEnd = o;
-    else if ('ghs' in o) {
-      G = o;
-      for (let v = 1; v <= o.nodes; v++) nodes[v] = { v, ports: [], marks: [], ...ASLEEP };
-    }
+  // many lines at once: a page may have a hundred thousand
+  for (let from = 0, to; from < text.length; from = to + 1) {
+    to = text.indexOf('\n', from + 1e6);
+    if (to < 0) to = text.length;
+    for (const o of JSON.parse('[' + text.slice(from, to).trim().replaceAll('\n', ',') + ']')) readLine(o);
   }
 }
-const message = (m, born, from, to, at) => ({ kind: m.kind, level: m.level, key: m.key, phase: m.phase, born, from, to, at, takes: [], backs: 0, done: 0, number: 0 });
+function readLine(o) {
+  if ('step' in o) steps.push(o);
+  else if ('link' in o) {
+    // links come in key order, and so do the ports of a node
+    const i = links.push(o) - 1;
+    o.a_port = nodes[o.a].ports.push({ link: i, far: o.b }) - 1;
+    o.b_port = nodes[o.b].ports.push({ link: i, far: o.a }) - 1;
+    nodes[o.a].marks.push('basic');
+    nodes[o.b].marks.push('basic');
+    o.halves = 0;
+  } else if ('ledger' in o) ledgerEnd = o;
+  else if ('ghs' in o) {
+    G = o;
+    for (let v = 1; v <= o.nodes; v++) nodes[v] = { v, ports: [], marks: [], queues: [], ...ASLEEP };
+  }
+}
+const message = (m, born, from, to, at) => ({ kind: m.kind, level: m.level, key: m.key, phase: m.phase, born, from, to, at, takes: NOTHING, backs: 0, done: 0, number: 0 });
 
 // ---- one step on, one step back. Every value is one that the step carries; what it replaces is kept.
 let at, undo = [];
@@ -355,8 +370,8 @@ const figures = i => [curve[3 * i], curve[3 * i + 1], curve[3 * i + 2]];
 function survey() {
   // once through the run: number of fragments, first sends, which names stand beside one another, who came before
   let count = G.nodes;
-  const lastAt = [], root = nodes.map((_, v) => v), members = nodes.map((_, v) => [v]), band = [];
-  const clash = (x, y) => { if (x && y && x !== y) for (const [a, b] of [[x, y], [y, x]]) { if (!clashes.has(a)) clashes.set(a, new Set()); clashes.get(a).add(b); } };
+  const lastAt = [], root = nodes.map((_, v) => v), members = nodes.map((_, v) => [v]), band = [], head = [];
+  const clash = (x, y) => { if (x && y && x !== y && !clashes.get(x)?.has(y)) for (const [a, b] of [[x, y], [y, x]]) { if (!clashes.has(a)) clashes.set(a, new Set()); clashes.get(a).add(b); } };
   const join = l => {
     let a = root[l.a], b = root[l.b];
     if (a === b) return;
@@ -367,8 +382,8 @@ function survey() {
   };
   // the name of a fragment is the one that census finds; where it's new, or for nodes that are, it's held to what lies beside
   const bands = (r, fresh) => {
-    let level = 0, name = null, last = 0;
-    for (const v of members[r]) { const n = nodes[v]; if (n.name && (n.level > level || n.level === level && v > last)) { level = n.level; name = n.name; last = v; } }
+    for (const v of fresh) { const n = nodes[v], m = nodes[head[r]]; if (n.name && (!m || n.level > m.level || n.level === m.level && v > m.v)) head[r] = v; }
+    const name = head[r] ? nodes[head[r]].name : null;
     for (const v of band[r] === name ? fresh : members[r]) {
       clash(name, nodes[v].name);
       for (const p of nodes[v].ports) if (root[p.far] !== r) clash(name, band[root[p.far]]);
@@ -387,7 +402,7 @@ function survey() {
     on();
     const u = undoNow(), i = s.step, n = nodes[s.node];
     if (s.port !== null && n.ports[s.port].far !== s.far) throw Error('event ' + i + ' comes from node ' + s.far + ', to which its port does not lead');
-    if (u.taken) { u.taken.takes.push(i); if (s.fate !== 'waits') u.taken.done = i; }
+    if (u.taken) { if (u.taken.takes === NOTHING) u.taken.takes = [i]; else u.taken.takes.push(i); if (s.fate !== 'waits') u.taken.done = i; }
     if (u.taken && (slept || s.fate !== 'waits')) number[s.node] = Math.max(number[s.node], u.taken.number);
     u.number = number[s.node];
     longest = Math.max(longest, u.number);
@@ -397,7 +412,8 @@ function survey() {
     lastAt[s.node] = i;
     if (s.set.name) { if (!look.has(s.set.name)) look.set(s.set.name, 0); for (const p of n.ports) clash(n.name, nodes[p.far].name); }
     if (s.mark && s.mark[1] === 'branch') { const l = links[n.ports[s.mark[0]].link]; if (joined(l)) join(l); }
-    if (s.set.name || s.set.level) bands(root[s.node], [s.node]);
+    if (s.set.level < u.set.level) { const r = root[s.node]; head[r] = 0; bands(r, members[r]); }
+    else if (s.set.name || s.set.level) bands(root[s.node], [s.node]);
     curve.push(count, s.total, longest);
     sent += u.sent.length;
     if (s.total !== sent) throw Error('event ' + i + ' counts ' + s.total + ' first sends');
@@ -516,12 +532,13 @@ function placeMany(list, far) {
     for (let k = 0; k < K; k++) if (D[k][i] > 2) tie(pivots[k], D[k][i], weight[k] * .5 / (D[k][i] * D[k][i]));
   }
   first[n] = end.length;
+  const ends = Int32Array.from(end), far_ = Float64Array.from(d), pull = Float64Array.from(w);
   for (let t = 0; t < 60; t++) for (let i = 0; i < n; i++) {
     let x = 0, y = 0, s = 0;
     const xi = X[i], yi = Y[i];
     for (let k = first[i]; k < first[i + 1]; k++) {
-      const xj = X[end[k]], yj = Y[end[k]], dx = xi - xj, dy = yi - yj, e = d[k] / (Math.sqrt(dx * dx + dy * dy) || 1e-9);
-      x += w[k] * (xj + dx * e); y += w[k] * (yj + dy * e); s += w[k];
+      const xj = X[ends[k]], yj = Y[ends[k]], dx = xi - xj, dy = yi - yj, e = far_[k] / (Math.sqrt(dx * dx + dy * dy) || 1e-9);
+      x += pull[k] * (xj + dx * e); y += pull[k] * (yj + dy * e); s += pull[k];
     }
     X[i] = x / s; Y[i] = y / s;
   }
@@ -550,7 +567,7 @@ function apart(P, least) {
       const c = inside(cell(X[a]) - x0, wide) + wide * inside(cell(Y[a]) - y0, high);
       for (let i = -1; i < 2; i++) for (let j = -1; j < 2; j++) for (let b = cells[c + i + wide * j]; b; b = next[b]) {
         if (b <= a) continue;
-        const dx = X[b] - X[a], dy = Y[b] - Y[a], d = Math.hypot(dx, dy);
+        const dx = X[b] - X[a], dy = Y[b] - Y[a], d = Math.sqrt(dx * dx + dy * dy);
         if (d >= least) continue;
         const f = (least - d) / 2 / (d || 1), ux = d ? dx * f : least / 2, uy = dy * f;
         X[a] -= ux; Y[a] -= uy; X[b] += ux; Y[b] += uy;
@@ -601,13 +618,13 @@ function layout() {
   // what stood in the middle stays there
   if (base) { zoom.x = W / 2 + (zoom.x - base.W / 2) * W / base.W; zoom.y = H / 2 + (zoom.y - base.H / 2) * H / base.H; }
   base = { P, r, W, H, len };
-  $('net').setAttribute('viewBox', '0 0 ' + W + ' ' + H);
+  for (const e of SHEETS) e.setAttribute('viewBox', '0 0 ' + W + ' ' + H);
 }
 
 // ---- the network. A link is a curve; parallel links are bent apart.
 const el = (name, attrs, parent) => { const e = document.createElementNS('http://www.w3.org/2000/svg', name); for (const a in attrs) e.setAttribute(a, attrs[a]); if (parent) parent.append(e); return e; };
 const put = (e, name, value) => { if (e.getAttribute(name) !== value) e.setAttribute(name, value); };
-const f1 = x => x.map(y => y.toFixed(1)).join(' ');
+const f1 = p => p[0].toFixed(1) + ' ' + p[1].toFixed(1);
 let zoom = { k: 1, x: 0, y: 0 }, drawn = [], bend = [], grid = null, tagged = null;
 const mix = (p, q, t) => [p[0] + (q[0] - p[0]) * t, p[1] + (q[1] - p[1]) * t];
 const ctrl = i => {
@@ -615,6 +632,7 @@ const ctrl = i => {
   return [m[0] - (q[1] - p[1]) / d * b * 2, m[1] + (q[0] - p[0]) / d * b * 2];
 };
 const curveAt = (i, t) => { const l = links[i], c = ctrl(i); return mix(mix(pos[l.a], c, t), mix(c, pos[l.b], t), t); };
+const titled = g => { const l = links[g.i]; if (!g.querySelector('title')) el('title', {}, g).textContent = 'link ' + l.link + ': port ' + l.a_port + ' of node ' + l.a + ', port ' + l.b_port + ' of node ' + l.b; };
 // the elements, once; what few links have is made when it is first shown
 function build() {
   const same = new Map();
@@ -622,25 +640,31 @@ function build() {
   for (const list of same.values()) list.forEach((i, j) => { bend[i] = j - (list.length - 1) / 2; });
   drawn = links.map((l, i) => {
     const g = el('g', {}, $('links'));
-    el('title', {}, g).textContent = 'link ' + l.link + ': port ' + l.a_port + ' of node ' + l.a + ', port ' + l.b_port + ' of node ' + l.b;
-    return { i, g, a: el('path', {}, g), b: el('path', {}, g) };
+    g.i = i;
+    if (G.nodes <= MANY) titled(g);
+    return { i, g, a: el('path', {}, g) };
   });
   const first = el('g', { class: 'node', role: 'button', tabindex: -1 }), halo = el('circle', { class: 'halo' });
-  for (const [name, cls] of [['rect', 'stop'], ['circle', 'ring'], ['circle', 'body'], ['text', ''], ['text', 'lev']]) el(name, cls ? { class: cls } : { 'font-weight': 'bold' }, first);
+  el('circle', { class: 'body' }, first);
   for (let v = 1; v <= G.nodes; v++) {
     const n = nodes[v], g = n.g = first.cloneNode(true);
-    [n.stop, n.ring, n.body, n.text, n.lev] = g.children;
-    g.dataset.v = n.text.textContent = v;
+    n.body = g.firstChild;
+    g.dataset.v = v;
     $('nodes').append(g);
     $('halos').append(n.halo = halo.cloneNode());
   }
   tagged = null;
 }
 const crossAt = (i, v) => { const [x, y] = curveAt(i, v === links[i].a ? .4 : .6), r = Math.max(radius < 8 ? 1.5 : 3, radius * .3); return 'M' + f1([x - r, y - r]) + 'l' + f1([2 * r, 2 * r]) + 'm0 ' + (-2 * r).toFixed(1) + 'l' + f1([-2 * r, 2 * r]); };
-const EXTRA = { halo: ['halo', 'halos', d => d.whole], core: ['core', 'cores', d => d.whole], xa: ['cross', 'links', d => crossAt(d.i, links[d.i].a)], xb: ['cross', 'links', d => crossAt(d.i, links[d.i].b)] };
-function extra(d, name, shown, cls) {
-  if (!d[name]) { if (!shown) return; d[name] = el('path', { class: EXTRA[name][0], d: EXTRA[name][2](d) }, $(EXTRA[name][1])); }
-  put(d[name], 'visibility', shown ? 'visible' : 'hidden');
+// a link as a path: the whole, its first half, its second
+const wayOf = (i, half = 0) => {
+  const p = pos[links[i].a], q = pos[links[i].b], c = ctrl(i), m = half ? curveAt(i, .5) : p, [x, y, z] = half ? half < 2 ? [p, mix(p, c, .5), m] : [m, mix(c, q, .5), q] : [p, c, q];
+  return 'M' + f1(x) + (bend[i] ? 'Q' + f1(y) + ' ' : 'L') + f1(z);
+};
+const EXTRA = { b: ['', d => wayOf(d.i, 2)], halo: ['halos', d => wayOf(d.i)], core: ['cores', d => wayOf(d.i)], xa: ['links', d => crossAt(d.i, links[d.i].a)], xb: ['links', d => crossAt(d.i, links[d.i].b)] };
+function extra(d, name, cls) {
+  if (!d[name]) { if (!cls) return; d[name] = el('path', { d: EXTRA[name][1](d) }, $(EXTRA[name][0]) || d.g); }
+  put(d[name], 'visibility', cls ? 'visible' : 'hidden');
   if (cls) put(d[name], 'class', cls);
 }
 // where and how large all is at the zoom of now: nodes move apart, circles and letters keep their size once they can be read
@@ -650,40 +674,44 @@ function shape() {
   for (let v = 1; v <= N; v++) pos[v] = [base.P[v][0] * k, base.P[v][1] * k];
   radius = k < 1 ? base.r * k : Math.max(base.r, Math.min(FULL, base.r * k * .8));
   big = base.len * k > 150 && N * Math.min(1, 1 / (k * k)) <= 40 && radius >= FULL * .8 && nodes.every(n => !n || n.ports.length <= 8);
-  const r = radius, style = $('net').style;
-  style.setProperty('--thick', Math.max(Math.min(2, r * .5), Math.min(5, r * .32)));
-  style.setProperty('--thin', Math.max(.7, Math.min(1.8, r * .11)));
-  style.setProperty('--band', (r * 1.5).toFixed(1));
-  $('net').classList.toggle('tiny', r < LEGIBLE);
+  const r = radius, style = '--thick:' + Math.max(Math.min(2, r * .5), Math.min(5, r * .32)) + ';--thin:' + Math.max(.7, Math.min(1.8, r * .11)) + ';--band:' + (r * 1.5).toFixed(1);
+  for (const e of SHEETS) { e.setAttribute('style', style); e.classList.toggle('tiny', r < LEGIBLE); }
+  $('under').onwheel = r < LEGIBLE ? null : wheel;
   grid = new Map();
   for (let v = 1; v <= N; v++) { const c = cellOf(pos[v][0]) * 100003 + cellOf(pos[v][1]); grid.has(c) ? grid.get(c).push(v) : grid.set(c, [v]); }
   for (const d of drawn) {
-    const l = links[d.i], p = pos[l.a], q = pos[l.b], c = ctrl(d.i), m = d.mid = curveAt(d.i, .5);
-    d.whole = 'M' + f1(p) + 'Q' + f1(c) + ' ' + f1(q);
-    put(d.a, 'd', 'M' + f1(p) + 'Q' + f1(mix(p, c, .5)) + ' ' + f1(m));
-    put(d.b, 'd', 'M' + f1(m) + 'Q' + f1(mix(c, q, .5)) + ' ' + f1(q));
-    for (const name in EXTRA) if (d[name]) put(d[name], 'd', EXTRA[name][2](d));
+    d.a.setAttribute('d', wayOf(d.i, d.parted ? 1 : 0));
+    for (const name in EXTRA) if (d[name]) d[name].setAttribute('d', EXTRA[name][1](d));
   }
   for (let v = 1; v <= N; v++) shapeNode(v, r);
   placeWeights();
   for (const q of queues.values()) { q.sig = null; changed.add(q); }
 }
-const set = (e, attrs) => { for (const a in attrs) put(e, a, String(attrs[a])); };
+const set = (e, attrs) => { for (const a in attrs) e.setAttribute(a, attrs[a]); };
+// where a node stands in its group: among many nodes a transform costs too much, each is a layer of its own to a browser
+const centre = v => G.nodes > MANY ? pos[v].map(x => Math.round(x * 10) / 10) : [0, 0];
+const shapeRing = n => { const [cx, cy] = centre(n.v); set(n.ring, { r: radius + (radius < LEGIBLE ? 1.5 : 4), cx, cy }); };
 function shapeNode(v, r) {
-  const [x, y] = pos[v], n = nodes[v];
+  const [x, y] = centre(v), n = nodes[v], [cx, cy] = pos[v];
   n.sig = null;
-  set(n.g, { transform: 'translate(' + f1([x, y]) + ')' });
-  set(n.halo, { r: r + Math.min(8, r * .45 + 1), cx: x.toFixed(1), cy: y.toFixed(1) });
-  set(n.body, { r });
-  set(n.ring, { r: r + (r < LEGIBLE ? 1.5 : 4) });
+  if (G.nodes <= MANY) n.g.setAttribute('transform', 'translate(' + f1(pos[v]) + ')');
+  set(n.halo, { r: r + Math.min(8, r * .45 + 1), cx: cx.toFixed(1), cy: cy.toFixed(1) });
+  set(n.body, { r, cx: x, cy: y });
+  if (n.ring) shapeRing(n);
   if (r < LEGIBLE) return;
-  set(n.stop, { x: -r - 4, y: -r - 4, width: 2 * r + 8, height: 2 * r + 8 });
-  set(n.text, { 'font-size': Math.min(18, r * (v > 999 ? .68 : v > 99 ? .8 : 1)) });
+  if (!n.lev) {
+    n.g.prepend(n.stop = el('rect', { class: 'stop' }));
+    n.text = el('text', { 'font-weight': 'bold' }, n.g);
+    n.text.textContent = v;
+    n.lev = el('text', { class: 'lev' }, n.g);
+  }
+  set(n.stop, { x: x - r - 4, y: y - r - 4, width: 2 * r + 8, height: 2 * r + 8 });
+  set(n.text, { x, y, 'font-size': Math.min(18, r * (v > 999 ? .68 : v > 99 ? .8 : 1)) });
   // the level stands in the corner that lies freest of links, where the upper right one isn't free
-  const away = n.ports.map(({ link: i }) => { const [a, b] = curveAt(i, links[i].a === v ? .2 : .8); return Math.atan2(b - y, a - x); });
+  const away = n.ports.map(({ link: i }) => { const [a, b] = curveAt(i, links[i].a === v ? .2 : .8); return Math.atan2(b - cy, a - cx); });
   const gap = ([a, b]) => Math.min(9, ...away.map(t => Math.abs(Math.atan2(Math.sin(t - Math.atan2(b, a)), Math.cos(t - Math.atan2(b, a))))));
   const corner = n.corner = [[1, -1], [-1, -1], [1, 1], [-1, 1]].reduce((p, q) => gap(p) > .7 || gap(q) <= gap(p) ? p : q);
-  set(n.lev, { x: corner[0] * (r * .75 + 2), y: corner[1] * (r * .95 + 2), 'font-size': Math.max(6, Math.min(14, r * .8)), style: corner[0] < 0 ? 'text-anchor:end' : '' });
+  set(n.lev, { x: x + corner[0] * (r * .75 + 2), y: y + corner[1] * (r * .95 + 2), 'font-size': Math.max(6, Math.min(14, r * .8)), style: corner[0] < 0 ? 'text-anchor:end' : '' });
 }
 // weights stand beside their links, and under all links; by themselves only where they fit
 function placeWeights() {
@@ -692,11 +720,11 @@ function placeWeights() {
   roomy = radius >= LEGIBLE && links.length <= 90 * Math.max(1, zoom.k * zoom.k) && fits.filter(x => x).length >= links.length * .8;
   $('weights').innerHTML = !(weights ?? roomy) ? '' : links.map((l, i) => {
     if (!asked && !fits[i]) return '';
-    const [x, y] = drawn[i].mid, p = pos[l.a], q = pos[l.b], turned = p[0] > q[0] || p[0] === q[0] && p[1] < q[1], a = Math.atan2(turned ? p[1] - q[1] : q[1] - p[1], turned ? p[0] - q[0] : q[0] - p[0]), o = size * .62 + 3;
+    const [x, y] = curveAt(i, .5), p = pos[l.a], q = pos[l.b], turned = p[0] > q[0] || p[0] === q[0] && p[1] < q[1], a = Math.atan2(turned ? p[1] - q[1] : q[1] - p[1], turned ? p[0] - q[0] : q[0] - p[0]), o = size * .62 + 3;
     return '<text font-size="' + size.toFixed(1) + '" transform="translate(' + f1([x + Math.sin(a) * o, y - Math.cos(a) * o]) + ') rotate(' + (a * 180 / Math.PI).toFixed(1) + ')">' + l.weight + '</text>';
   }).join('');
 }
-const tag = (cls, x, y, text, size) => { const w = text.length * size * .58 + size * .6; return '<g class="tag ' + cls + '" transform="translate(' + x.toFixed(1) + ' ' + y.toFixed(1) + ')"><rect rx="4" x="' + (-w / 2).toFixed(1) + '" y="' + (-size * .65) + '" width="' + w.toFixed(1) + '" height="' + size * 1.3 + '"/><text font-size="' + size + '">' + text + '</text></g>'; };
+const tag = (cls, x, y, text, size) => { const w = text.length * size * .58 + size * .6; return '<g class="tag ' + cls + '"><rect rx="4" x="' + (x - w / 2).toFixed(1) + '" y="' + (y - size * .65).toFixed(1) + '" width="' + w.toFixed(1) + '" height="' + size * 1.3 + '"/><text x="' + x.toFixed(1) + '" y="' + y.toFixed(1) + '" font-size="' + size + '">' + text + '</text></g>'; };
 const cellOf = x => Math.floor(x / 64);
 // whether a pill would lie over a node
 function covers(x, y, a, w, h) {
@@ -733,7 +761,10 @@ function pills(i, to, port, list) {
     }
     off += w * squeeze + 1;
     const deg = a * 180 / Math.PI, flip = Math.abs(a) > Math.PI / 2 + .01 ? deg + 180 : deg;
-    html = '<g class="msg ' + cls + '" data-q="' + to + ' ' + port + ' ' + (k - (list[0][1] === 'taken' ? 1 : 0)) + '" transform="translate(' + f1([x, y]) + ')"><path transform="rotate(' + deg.toFixed(1) + ')" d="M' + (-w / 2).toFixed(1) + ' ' + (-h).toFixed(1) + 'H' + (w / 2 - h * .7).toFixed(1) + 'L' + (w / 2).toFixed(1) + ' 0L' + (w / 2 - h * .7).toFixed(1) + ' ' + h.toFixed(1) + 'H' + (-w / 2).toFixed(1) + 'Z"/>' + (radius < LEGIBLE ? '' : '<text font-size="' + (big ? 15 : Math.max(6, h * 1.45)).toFixed(1) + '" transform="rotate(' + (big ? flip : 0).toFixed(1) + ')">' + text[k] + '</text>') + '</g>' + html;
+    // among many nodes without transforms too
+    const far = G.nodes > MANY, c = Math.cos(a), s = Math.sin(a), at0 = f1([x, y]), corners = [[-w / 2, -h], [w / 2 - h * .7, -h], [w / 2, 0], [w / 2 - h * .7, h], [-w / 2, h]].map(([u, v]) => f1(far ? [x + c * u - s * v, y + s * u + c * v] : [u, v])).join('L');
+    html = '<g class="msg ' + cls + '" data-q="' + to + ' ' + port + ' ' + (k - (list[0][1] === 'taken' ? 1 : 0)) + (far ? '"><path' : '" transform="translate(' + at0 + ')"><path transform="rotate(' + deg.toFixed(1) + ')"') + ' d="M' + corners + 'Z"/>'
+      + (radius < LEGIBLE ? '' : '<text font-size="' + (big ? 15 : Math.max(6, h * 1.45)).toFixed(1) + (far ? '" x="' + x.toFixed(1) + '" y="' + y.toFixed(1) : '') + (big ? '" transform="rotate(' + flip.toFixed(1) + (far ? ' ' + at0 : '') + ')' : '') + '">' + text[k] + '</text>') + '</g>' + html;
   });
   return html;
 }
@@ -751,12 +782,15 @@ function drawNet(c) {
     if (!d.sig || d.halves !== l.halves || d.isCore !== isCore || d.band !== band) {
       const a = nodes[l.a].marks[l.a_port], b = nodes[l.b].marks[l.b_port];
       d.sig = 1; d.halves = l.halves; d.isCore = isCore; d.band = band;
+      // one line where its halves look alike; dashes begin at each end
+      const parted = a !== b || a === 'rejected';
+      if (d.parted !== parted) { d.parted = parted; put(d.a, 'd', wayOf(i, parted ? 1 : 0)); }
       put(d.a, 'class', 'half ' + a);
-      put(d.b, 'class', 'half ' + b);
-      extra(d, 'halo', j, 'halo ' + bandOf(f));
-      extra(d, 'core', isCore);
-      extra(d, 'xa', a === 'rejected');
-      extra(d, 'xb', b === 'rejected');
+      extra(d, 'b', parted && 'half ' + b);
+      extra(d, 'halo', j && 'halo ' + bandOf(f));
+      extra(d, 'core', isCore && 'core');
+      extra(d, 'xa', a === 'rejected' && 'cross');
+      extra(d, 'xb', b === 'rejected' && 'cross');
     }
     if (j && names.get(l.link) && radius >= LEGIBLE) html += coreTag(l, i, s, names.get(l.link), size);
   });
@@ -765,18 +799,20 @@ function drawNet(c) {
     const n = nodes[v], f = frag(v), mine = (s && s.node === v ? 1 : 0) + (pin === v ? 2 : 0) + (v === focus ? 4 : 0) + (n.halted ? 8 : 0) + (f.nodes > 1 ? 16 : 0), o = n.sig;
     if (o && o.phase === n.phase && o.level === n.level && o.name === n.name && o.of === f.name && o.mine === mine) continue;
     n.sig = { phase: n.phase, level: n.level, name: n.name, of: f.name, mine };
+    if (n.phase === 'find' && !n.ring) { n.body.before(n.ring = el('circle', { class: 'ring' })); shapeRing(n); }
     put(n.g, 'class', 'node ' + n.phase + (n.name ? ' named s' + (look.get(n.name) ?? 0) : '') + (n.halted ? ' halted' : '') + (s && s.node === v ? ' at' : '') + (pin === v ? ' pinned' : ''));
     put(n.g, 'aria-label', stateOf(v));
     put(n.g, 'tabindex', v === focus ? '0' : '-1');
     put(n.halo, 'class', 'halo ' + bandOf(f));
     put(n.halo, 'visibility', f.nodes > 1 ? 'visible' : 'hidden');
-    const t = n.phase === 'sleeping' || radius < LEGIBLE ? '' : (big ? 'L' : '') + n.level;
+    if (radius < LEGIBLE) continue;
+    const t = n.phase === 'sleeping' ? '' : (big ? 'L' : '') + n.level;
     if (n.lev.textContent !== t) n.lev.textContent = t;
     if (t) put(n.lev, 'transform', n.halted ? 'translate(' + n.corner[0] * 6 + ' ' + n.corner[1] * 5 + ')' : '');
   }
   drawMessages(s, s && undoNow());
   const next = asking ? steps[at] : s;
-  $('ways').innerHTML = next && next.port !== null ? '<path class="way" d="' + drawn[nodes[next.node].ports[next.port].link].whole + '"/>' : '';
+  $('ways').innerHTML = next && next.port !== null ? '<path class="way" d="' + wayOf(nodes[next.node].ports[next.port].link) + '"/>' : '';
   $('marks').innerHTML = (s && radius < LEGIBLE ? '<circle class="eye" r="8" cx="' + pos[s.node][0] + '" cy="' + pos[s.node][1] + '"/>' : '') + (pin ? pinMark(pin) : '');
   if (follow) { zoom.x = base.W / 2 - pos[focus][0]; zoom.y = base.H / 2 - pos[focus][1]; }
   moveView();
@@ -787,7 +823,7 @@ function pinMark(v) {
   return '<g class="pinmark" transform="translate(' + f1([x, y]) + ')"><path class="under" d="' + d + '"/><circle class="under" r="' + r + '"/><path d="' + d + '"/><circle r="' + r + '"/>' + (radius < LEGIBLE ? tag('frag', 0, -r - 26, 'node ' + v, 15) : '') + '</g>';
 }
 function coreTag(l, i, s, f, size) {
-  const [x, y] = drawn[i].mid, dx = pos[l.b][0] - pos[l.a][0], dy = pos[l.b][1] - pos[l.a][1], d = Math.hypot(dx, dy) || 1;
+  const [x, y] = curveAt(i, .5), dx = pos[l.b][0] - pos[l.a][0], dy = pos[l.b][1] - pos[l.a][1], d = Math.hypot(dx, dy) || 1;
   // small letters beside the messages, where these go one way only
   const to = (v, p) => queue(v, p).length || s && s.node === v && s.port === p && s.fate === 'done', ways = (to(l.b, l.b_port) ? 1 : 0) - (to(l.a, l.a_port) ? 1 : 0);
   const o = big ? 36 + 30 * Math.abs(dy) / d : ways ? size * 1.1 : 0, w = !big && ways || (dx > 0 || !dx && dy < 0 ? 1 : -1);
@@ -811,7 +847,8 @@ function drawMessages(s, u) {
   }
   changed = now;
 }
-function moveView() { put($('view'), 'transform', 'translate(' + f1([zoom.x, zoom.y]) + ')' + (zoom.k === shaped ? '' : ' scale(' + zoom.k / shaped + ')')); }
+const SHEETS = [$('under'), $('net')];
+function moveView() { for (const e of SHEETS) put(e.lastChild, 'transform', 'translate(' + f1([zoom.x, zoom.y]) + ')' + (zoom.k === shaped ? '' : ' scale(' + zoom.k / shaped + ')')); }
 
 // ---- space and time: a lane a node, an arrow a message; what could have acted on the event at hand is filled
 function pastOf(k) {
@@ -960,8 +997,7 @@ function strip() {
     for (let k = 0; k < n; k += stepBy) { const i = Math.min(n - 1, Math.floor(k)); d += (d ? 'H' + x(i).toFixed(1) + (y(i) !== last ? 'V' + y(i) : '') : 'M' + x(i) + ' ' + y(i)); last = y(i); }
     return d + 'H' + x(n - 1).toFixed(1) + 'V' + y(n - 1);
   };
-  let h = '<path class="plot" d="' + path(i => N > 1 ? (curve[3 * i] - 1) / (N - 1) : 0, 4, half - 8) + '"/><path class="plot b" d="' + path(i => curve[3 * i + 1] / B, half + 2, half - 10) + '"/><line class="lane" x1="8" x2="' + (W - 8) + '" y1="' + (half + 2) + '" y2="' + (half + 2) + '"/>';
-  h += '<text id="cap1" font-size="14" x="' + (W - 12) + '" y="18" text-anchor="end"></text><text id="cap2" font-size="14" x="14" y="' + (half + 16) + '"></text><g id="ticks"></g><line id="cursor" class="nowline" y1="0" y2="' + H + '" style="stroke-width:2.5;stroke-dasharray:none"/>';
+  let h = '<g id="plots"><path class="plot" d="' + path(i => N > 1 ? (curve[3 * i] - 1) / (N - 1) : 0, 4, half - 8) + '"/><path class="plot b" d="' + path(i => curve[3 * i + 1] / B, half + 2, half - 10) + '"/><line class="lane" x1="8" x2="' + (W - 8) + '" y1="' + (half + 2) + '" y2="' + (half + 2) + '"/></g><text id="cap1" font-size="14" x="' + (W - 12) + '" y="18" text-anchor="end"></text><text id="cap2" font-size="14" x="14" y="' + (half + 16) + '"></text><g id="ticks"></g><line id="cursor" class="nowline" y1="0" y2="' + H + '" style="stroke-width:2.5;stroke-dasharray:none"/>';
   $('strip').innerHTML = h;
   $('strip').setAttribute('viewBox', '0 0 ' + W + ' ' + H);
   strip.x = x;
@@ -1087,6 +1123,7 @@ function search(v) {
 function picture() {
   const svg = $(tab === 'net' ? 'net' : 'lanes').cloneNode(true), box = tab === 'net' ? [base.W, base.H] : [+$('lanes').getAttribute('width'), +$('lanes').getAttribute('height')], style = el('style', {});
   style.textContent = [...document.querySelectorAll('style')].map(x => x.textContent).join('\n');
+  if (tab === 'net') svg.lastChild.prepend(...$('lower').cloneNode(true).children);
   svg.prepend(style, el('rect', { width: box[0], height: box[1], style: 'fill:var(--paper)' }));
   svg.setAttribute('width', box[0]); svg.setAttribute('height', box[1]);
   svg.setAttribute('font-family', 'system-ui, sans-serif');
@@ -1105,7 +1142,7 @@ function setTab(x) {
   $('only').hidden = x === 'net';
   $('only').setAttribute('aria-pressed', only);
   $('follow').hidden = $('layout').hidden = x !== 'net';
-  $('net').toggleAttribute('hidden', x !== 'net');
+  for (const e of SHEETS) e.toggleAttribute('hidden', x !== 'net');
   $('time').hidden = x === 'net';
   $('tabnet').setAttribute('aria-selected', x === 'net');
   $('tabtime').setAttribute('aria-selected', x !== 'net');
@@ -1125,6 +1162,7 @@ const setCircle = () => { circle = !circle; $('layout').textContent = circle ? '
 const setTheme = dark => { document.documentElement.classList.toggle('dark', dark); $('theme').textContent = dark ? 'light' : 'dark'; };
 function scale(f, x, y) { zoom.x = x - (x - zoom.x) * f; zoom.y = y - (y - zoom.y) * f; zoom.k *= f; moveView(); clearTimeout(scale.later); scale.later = setTimeout(show, G.nodes > MANY ? 90 : 0); }
 function mid(f) { const b = $('stage').getBoundingClientRect(); scale(f, b.width / 2, b.height / 2); }
+const wheel = e => { e.preventDefault(); const b = $('stage').getBoundingClientRect(); scale(Math.exp(-e.deltaY / 400), e.clientX - b.left, e.clientY - b.top); };
 const ACTS = {
   ArrowRight: () => one(1), ArrowLeft: () => one(-1), ArrowDown: () => jump(1), ArrowUp: () => jump(-1), PageDown: () => move(at + 10), PageUp: () => move(at - 10),
   Home: () => move(0), End: () => move(G.to), ' ': play, n: () => setPin(pin ? 0 : stepNow() ? stepNow().node : 1), Escape: () => setPin(0),
@@ -1139,7 +1177,7 @@ const ACTS = {
 // one pointer drags, two pinch
 function fingers() {
   const down = new Map();
-  $('net').addEventListener('pointerdown', e => { down.set(e.pointerId, [e.clientX, e.clientY]); fingers.from = [e.clientX, e.clientY]; fingers.moved = false; });
+  $('stage').addEventListener('pointerdown', e => { if (tab !== 'net') return; down.set(e.pointerId, [e.clientX, e.clientY]); fingers.from = [e.clientX, e.clientY]; fingers.moved = false; });
   addEventListener('pointermove', e => {
     const old = down.get(e.pointerId), now = [e.clientX, e.clientY];
     if (!old) return;
@@ -1190,13 +1228,14 @@ function start() {
   $('say').onclick = choose;
   $('save').onclick = save;
   $('nodes').onclick = e => { const g = e.target.closest('.node'); if (g && !fingers.moved) setPin(pin === +g.dataset.v ? 0 : +g.dataset.v); };
+  $('links').onpointerover = e => { if (e.target.parentNode.i >= 0) titled(e.target.parentNode); };
   $('msgs').onpointerover = $('msgs').onpointerdown = $('nodes').onpointerover = tip;
   $('msgs').onpointerout = $('nodes').onpointerout = e => { if (e.pointerType === 'mouse') $('hint').hidden = true; };
   $('lanes').onclick = e => { if (e.target.dataset.k) move(+e.target.dataset.k); };
   const seekTo = e => { const b = $('strip').getBoundingClientRect(); move(Math.round((e.clientX - b.left - 8) / (b.width - 16) * G.to)); };
   $('strip').onpointerdown = e => { $('strip').setPointerCapture(e.pointerId); seekTo(e); };
   $('strip').onpointermove = e => { if (e.buttons) seekTo(e); };
-  $('net').onwheel = e => { e.preventDefault(); const b = $('stage').getBoundingClientRect(); scale(Math.exp(-e.deltaY / 400), e.clientX - b.left, e.clientY - b.top); };
+  $('glass').onwheel = $('net').onwheel = wheel;
   fingers();
   const isDark = () => document.documentElement.classList.contains('dark');
   let wasDark = false;
