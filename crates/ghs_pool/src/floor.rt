@@ -1,12 +1,11 @@
 // What lies under the lock.
-ghost use Rattle.std.specs.Prelude.{◌≡◌, ◌≤◌, length};
+ghost use Rattle.std.specs.Prelude.{◌≡◌, ◌≤◌, length, IfOk};
 ghost use Rattle.ghs_pool.specs.Follows.{GoesOn};
 
 use crate::desk::Desk;
 use crate::hand::{Hand, MOST};
 use crate::pace::{PAIR, crowd_of};
 use crate::shop::Shop;
-use ghs_node::message::Message;
 use ghs_protocol::event::Event;
 use ghs_queue::queue::{ReadyPass, ReadyQueue};
 use ghs_world::fault::{CommitFault, OutFault};
@@ -39,13 +38,37 @@ impl Start for Brand {
     ghost first = { no_shop };
 }
 
+// What the workers keep of each node.
+#[derive(Drop)]
+pub struct Notes {
+    // The port behind the one that was served or passed over last.
+    ports: Vec<u32>,
+    // How many events it has made at once since it went out last, where it has many ports.
+    made: Vec<u32>,
+    // Whether its number waits in the queue.
+    waits: Vec<bool>,
+}
+
+impl Notes {
+    // No port was served, nothing was made, and no number waits.
+    pub fn fresh(alloc: Global, nodes: u32) -> Result<Notes, AllocError>
+        ensures { IfOk result (λ n. length n.ports.items ≡ nodes) }
+    {
+        Ok(Notes {
+            ports: vec![in alloc; 0; nodes as usize]?,
+            made: vec![in alloc; 0; nodes as usize]?,
+            waits: vec![in alloc; false; nodes as usize]?,
+        })
+    }
+}
+
 // A shop that goes on from where its run began, and what the workers share beside it.
 #[derive(Drop)]
 pub struct Floor<J: Start> {
     shop: Shop,
-    // Of each node the port behind the one that was served or passed over last.
+    // What is kept of each node, as `Notes` has it.
     ports: Vec<u32>,
-    // Of each node whether its number waits in the queue.
+    made: Vec<u32>,
     waits: Vec<bool>,
     // How many workers there are, and how many of them are at work: the others are away.
     workers: u32,
@@ -102,14 +125,16 @@ enum Found {
 }
 
 impl<J: Start> Floor<J> {
-    pub fn new(shop: Shop, ports: Vec<u32>, waits: Vec<bool>, workers: u32) -> Floor<J>
+    pub fn new(shop: Shop, notes: Notes, workers: u32) -> Floor<J>
         requires goes_on { GoesOn shop J.first }
-        requires ports { length ports.items ≡ shop.world.net.graph.nodes }
+        requires ports { length notes.ports.items ≡ shop.world.net.graph.nodes }
         ensures { result ≡ shop }
     {
+        let Notes { ports, made, waits } = notes;
         Floor {
             shop,
             ports,
+            made,
             waits,
             workers,
             at_work: workers,
@@ -404,10 +429,10 @@ impl<J: Start> Floor<J> {
             }
             if self.shop.is_worth_it(event) {
                 self.turn(event);
-                return if self.shop.has_many_ports(v) {
-                    self.make(rt, alloc, queue, pass, event, hand)
-                } else {
+                return if self.goes_out(v) {
                     self.send_out(alloc, event, hand)
+                } else {
+                    self.make(rt, alloc, queue, pass, event, hand)
                 };
             }
             first = first.or(Some(event));
@@ -438,7 +463,10 @@ impl<J: Start> Floor<J> {
         match self.shop.make(alloc, event) {
             Ok(delta) => {
                 hand.count(false);
-                self.put_touched(rt, queue, pass, event, delta.sends.as_slice());
+                match self.shop.woken(alloc, event, delta.sends.as_slice()) {
+                    Ok(woken) => self.put_each(rt, queue, pass, woken.as_slice()),
+                    Err(AllocError) => self.want_memory(),
+                }
                 Found::Made
             }
             Err(AllocError) => {
@@ -448,25 +476,18 @@ impl<J: Start> Floor<J> {
         }
     }
 
-    // Puts the numbers of an event's node and of the nodes to which it sent into the queue.
-    fn put_touched<R: Wait>(
-        &mut self,
-        rt: &R,
-        queue: &ReadyQueue,
-        pass: &mut ReadyPass,
-        event: Event,
-        sends: &[(u32, Message)],
-    )
-        requires { pass.old.name ≡ queue.now.name }
-        ensures { pass.new.name ≡ pass.old.name }
+    // Whether a node's next event goes out on a ticket, and isn't made at once: of a node of few ports each does, and of one
+    // of many as many as pay for it.
+    fn goes_out(&mut self, v: u32) -> bool
+        ensures { self.new ≡ self.old }
     {
-        let (Event::Wake(v) | Event::Take(v, _)) = event;
-        self.put(rt, queue, pass, v);
-        for (port, _) in sends {
-            if let Some(far) = self.shop.far_of(v, *port) {
-                self.put(rt, queue, pass, far);
-            }
-        }
+        let owed = self.shop.made_for_a_ticket(v);
+        let Some(made) = self.made.get_mut((v as usize).wrapping_sub(1)) else {
+            return true;
+        };
+        let is_paid = *made >= owed;
+        *made = if is_paid { 0 } else { made.saturating_add(1) };
+        is_paid
     }
 
     // No event can go out before one comes back; where nothing is out the workers are to end.

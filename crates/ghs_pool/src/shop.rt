@@ -9,10 +9,11 @@ ghost use Rattle.ghs_world.specs.Steps.{Makes, IsSameWorld};
 ghost use Rattle.ghs_world.specs.WorldState.{has_turn, has_place};
 ghost use Rattle.ghs_pool.specs.Shop.{IsPairOf, IsTold, Publishes};
 
-use crate::moves::{has_many_ports, is_worth_it};
+use crate::moves::{is_worth_it, made_for_a_ticket};
 use ghs_board::board::{Board, Publisher, Reader};
 use ghs_board::progress::Progress;
 use ghs_node::delta::Delta;
+use ghs_node::message::Message;
 use ghs_protocol::event::Event;
 use ghs_world::world::World;
 use std::alloc::{AllocError, Global};
@@ -107,13 +108,38 @@ impl Shop {
         is_worth_it(&self.world, event)
     }
 
-    // Whether a node has so many ports that no ticket should carry it.
-    pub(crate) fn has_many_ports(&self, v: u32) -> bool {
-        has_many_ports(&self.world, v)
+    // How many events a node makes at once for each that goes out on a ticket.
+    pub(crate) fn made_for_a_ticket(&self, v: u32) -> u32 {
+        made_for_a_ticket(&self.world, v)
+    }
+
+    // Of an event's node and the nodes to which it sent those that have an event now: their numbers, rising, each once.
+    pub(crate) fn woken(
+        &self,
+        alloc: Global,
+        event: Event,
+        sends: &[(u32, Message)],
+    ) -> Result<Vec<u32>, AllocError> {
+        let (Event::Wake(v) | Event::Take(v, _)) = event;
+        let mut nodes = vec![in alloc; v; 1]?;
+        for (port, _) in sends {
+            if let Some(far) = self.far_of(v, *port) {
+                nodes.push(far)?;
+            }
+        }
+        nodes.sort_unstable();
+        nodes.dedup();
+        nodes.retain(|u| self.has_event(*u));
+        Ok(nodes)
+    }
+
+    // Whether a node has an event that may be made now.
+    fn has_event(&self, v: u32) -> bool {
+        self.world.has_place(Event::Wake(v)) && self.world.next_event(v, 0).is_some()
     }
 
     // The node at the other end of a node's port; of what is no node or port none.
-    pub(crate) fn far_of(&self, v: u32, port: u32) -> Option<u32> {
+    fn far_of(&self, v: u32, port: u32) -> Option<u32> {
         if !self.world.has_place(Event::Wake(v)) {
             return None;
         }

@@ -9,7 +9,7 @@ ghost use Rattle.ghs_pool.specs.Ends.{EndFits, IsAtEnd};
 
 use crate::bell::Bell;
 use crate::end::PoolFault;
-use crate::floor::{Floor, Next, Start};
+use crate::floor::{Floor, Next, Notes, Start};
 use crate::gate::Gate;
 use crate::hand::{Hand, MOST};
 use crate::pace::{AWAY, Pace};
@@ -72,31 +72,29 @@ pub fn run_watched<G: Gate + Sync, R: Threads + Wait + Sync>(
 {
     world.recall_all();
     let nodes = world.graph().nodes();
-    let Ok((queue, pass, ports, waits)) = prepare(alloc, nodes, workers) else {
+    let Ok((queue, pass, notes)) = prepare(alloc, nodes, workers) else {
         let end = end_of(&world, true, true);
         return (world, publisher, end);
     };
     let Ok(shop) = Shop::open(world, publisher) else {
         unreachable!()
     };
-    run_from::<Brand, G, R>(rt, alloc, shop, ports, waits, gate, &queue, pass)
+    run_from::<Brand, G, R>(rt, alloc, shop, notes, gate, &queue, pass)
 }
 
-// A queue with room for each node and a share for each worker, its pass, and of each node port 0 and that its number
-// doesn't wait.
+// A queue with room for each node and a share for each worker, its pass, and what is kept of each node.
 fn prepare(
     alloc: Global,
     nodes: u32,
     workers: u32,
-) -> Result<(ReadyQueue, ReadyPass, Vec<u32>, Vec<bool>), AllocError>
+) -> Result<(ReadyQueue, ReadyPass, Notes), AllocError>
     requires { 1 ≤ workers }
     ensures pass { IfOk result (λ r. r.1.name ≡ r.0.name) }
-    ensures ports { IfOk result (λ r. length r.2.items ≡ nodes) }
+    ensures notes { IfOk result (λ r. length r.2.ports.items ≡ nodes) }
 {
     let (queue, pass) = ReadyQueue::open(alloc, nodes.max(1), workers)?;
-    let ports = vec![in alloc; 0; nodes as usize]?;
-    let waits = vec![in alloc; false; nodes as usize]?;
-    Ok((queue, pass, ports, waits))
+    let notes = Notes::fresh(alloc, nodes)?;
+    Ok((queue, pass, notes))
 }
 
 // Runs on from the shop that `J` names.
@@ -104,14 +102,13 @@ fn run_from<J: Start + Send + Sync, G: Gate + Sync, R: Threads + Wait + Sync>(
     rt: &R,
     alloc: Global,
     shop: Shop,
-    ports: Vec<u32>,
-    waits: Vec<bool>,
+    notes: Notes,
     gate: &G,
     queue: &ReadyQueue,
     mut pass: ReadyPass,
 ) -> (World, Publisher, Result<RunEnd, PoolFault>)
     requires goes_on { GoesOn shop J.first }
-    requires ports { length ports.items ≡ shop.world.net.graph.nodes }
+    requires ports { length notes.ports.items ≡ shop.world.net.graph.nodes }
     requires pass { pass.name ≡ queue.now.name }
     ensures out { result.0.outs ≡ [] }
     ensures follows { Follows result.0 J.first.world }
@@ -119,7 +116,7 @@ fn run_from<J: Start + Send + Sync, G: Gate + Sync, R: Threads + Wait + Sync>(
     ensures board { (result.1.table ≡ J.first.told.table) × StartsWith result.1.list J.first.told.list }
     ensures end { EndFits result.0 result.2 }
 {
-    let mut floor = Floor::<J>::new(shop, ports, waits, pass.shares());
+    let mut floor = Floor::<J>::new(shop, notes, pass.shares());
     floor.put_ready(rt, queue, &mut pass);
     let floor = Mutex::new(floor);
     let bell = Bell::new();

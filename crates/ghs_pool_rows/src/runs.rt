@@ -217,33 +217,62 @@ fn star(alloc: Global, nodes: u32) -> Result<Vec<u8>, AllocError> {
     Ok(text)
 }
 
-// The events of a node of more than 1,024 ports are made at once: no ticket carries it.
+// The graph's run by so many workers, its events, the tickets, and how many events were those of node 1.
+fn count_tickets<R: Threads + Wait + Sync + Abort>(
+    rt: &R,
+    alloc: Global,
+    text: &[u8],
+    workers: u32,
+) -> (u64, u64, u64)
+    requires { (1 ≤ workers) × (workers ≤ 64) }
+{
+    let text = std::str::from_utf8(text).expect(rt, "plain letters");
+    let gate = Count::new();
+    let world = world_of(rt, alloc, text, WakeSet::All, MOST_TURNS);
+    let (world, end) = run_workers(rt, alloc, world, workers, &gate);
+    assert!(rt; end.is_ok());
+    let events = world.trace().len() as u64;
+    assert_eq!(rt; gate.commits.load(Ordering::SeqCst), events);
+    assert!(rt; workers > 1 || gate.beside.load(Ordering::SeqCst) == 0);
+    let is_of_first = |event: &&Event| matches!(event, Event::Wake(1) | Event::Take(1, _));
+    let of_first = world.trace().iter().filter(is_of_first).count() as u64;
+    (events, gate.tickets.load(Ordering::SeqCst), of_first)
+}
+
+// A node of 1,025 to 2,048 ports goes out on a ticket in every second of its events, and makes the others at once.
 #[test]
-fn a_hub_acts_without_tickets(rt: HostRuntime) {
+fn a_hub_goes_out_in_every_second_event(rt: HostRuntime) {
     let alloc = rt.alloc();
     let text = star(alloc, 1_101).expect(&rt, "a text");
-    let text = std::str::from_utf8(&text).expect(&rt, "plain letters");
     for workers in [1u32, 2, 8] {
         assert!(rt; workers >= 1 && workers <= 64);
-        let gate = Count::new();
-        let world = world_of(&rt, alloc, text, WakeSet::All, MOST_TURNS);
-        let (world, end) = run_workers(&rt, alloc, world, workers, &gate);
-        assert!(rt; end.is_ok());
-        let branches = world.branches(alloc).expect(&rt, "links");
-        assert_eq!(rt; branches.len(), 1_100);
-        let is_of_hub = |event: &&Event| matches!(event, Event::Wake(1) | Event::Take(1, _));
-        let at_hub = world.trace().iter().filter(is_of_hub).count();
-        let tickets = gate.tickets.load(Ordering::SeqCst);
-        assert_eq!(rt;
-            tickets.saturating_add(at_hub as u64),
-            world.trace().len() as u64
-        );
-        assert_eq!(rt;
-            gate.commits.load(Ordering::SeqCst),
-            world.trace().len() as u64
-        );
-        assert!(rt; workers > 1 || gate.beside.load(Ordering::SeqCst) == 0);
+        let (events, tickets, of_hub) = count_tickets(&rt, alloc, &text, workers);
+        assert!(rt; of_hub > 1_100 && of_hub <= events);
+        assert!(rt; tickets >= events.saturating_sub(of_hub.div_ceil(2)));
+        assert!(rt; workers > 1 || tickets == events.saturating_sub(of_hub.div_ceil(2)));
     }
+}
+
+// Two nodes with so many links, each as heavy as its place among them.
+fn parallel(alloc: Global, links: u32) -> Result<Vec<u8>, AllocError> {
+    let mut text = Vec::from_slice(alloc, b"p sp 2 ")?;
+    put_number(&mut text, links as u128)?;
+    for weight in 1..=links {
+        text.extend_from_slice(b"\na 1 2 ")?;
+        put_number(&mut text, weight as u128)?;
+    }
+    Ok(text)
+}
+
+// Two nodes of 1,025 ports, and nobody else: half of their events go out on tickets, which none did once.
+#[test]
+fn two_hubs_alone_go_out(rt: HostRuntime) {
+    let alloc = rt.alloc();
+    let text = parallel(alloc, 1_025).expect(&rt, "a text");
+    let (events, tickets, of_first) = count_tickets(&rt, alloc, &text, 1);
+    let of_second = events.saturating_sub(of_first);
+    assert!(rt; of_first >= 2 && of_second >= 2);
+    assert_eq!(rt; tickets, (of_first / 2).saturating_add(of_second / 2));
 }
 
 // The numbers of the nodes that have an event stand in the queue at first, and each commit puts those that it wakes and that
