@@ -2,4 +2,7 @@
 pub mod Following
 pub mod Bounding
 pub mod Placing
+pub mod Lengths
+pub mod Filling
+pub mod Swapping
 mod Examples
