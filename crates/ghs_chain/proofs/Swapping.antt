@@ -215,3 +215,130 @@ on_ports g wired w formed (Take v p) d l r x y lt = go (w.queue v p) (and_parts 
           node = at.node;
           port = let a = row_ported (w.node v) (Deliver p m) d (formed.nodes v).node row x y lt in let b = ports_many (formed.nodes v) in omega (arith, a, b);
         }
+
+-- What an event of another node leaves of an event: its node, and what is first in the queue from which it takes.
+module _ (g : Network) (wired : IsWired g) (w : Net) (e f : Event) (h : Delta) (ne : event_node e ≢ event_node f) (ff : IsFit g w.queue f h.sends)
+    (le : is_lawful g w e ≡ true) where
+  beside_node : (made g f h w).node (event_node e) ≡ w.node (event_node e)
+  beside_node = made_there g f h w (event_node e) ne
+
+  beside_queue : (a b : ℕ) → e ≡ Take a b → (c : List Message) × ((made g f h w).queue a b ≡ w.queue a b ++ c)
+  beside_queue a b is =
+      let c = first_stays g wired w.queue e f h.fate h.sends ne ff a b (lawful_at g w e le a b is) is in
+      (c.0, ap (λ (q : ℕ → ℕ → List Message). q a b) (made_queue g f h w ff.some) ∙ c.1)
+
+  -- of a list that isn't empty what is behind it changes nothing that is read of its first
+  first_same : {B : Type 0} (k : List Message → B) → ((m : Message) (ms c : List Message) → k ((m ∷ ms) ++ c) ≡ k (m ∷ ms)) →
+      (q q' c : List Message) → q ≢ [] → q' ≡ q ++ c → k q' ≡ k q
+  first_same k same [] q' c some grown = absurd (some refl)
+  first_same k same (m ∷ ms) q' c some grown = ap k grown ∙ same m ms c
+
+  beside_read : {B : Type 0} (k : List Message → B) → ((m : Message) (ms c : List Message) → k ((m ∷ ms) ++ c) ≡ k (m ∷ ms)) →
+      (a b : ℕ) → e ≡ Take a b → k ((made g f h w).queue a b) ≡ k (w.queue a b)
+  beside_read k same a b is =
+      let c = beside_queue a b is in
+      first_same k same (w.queue a b) ((made g f h w).queue a b) c.0 (lawful_there g w e le a b is) c.1
+
+module _ (g : Network) (wired : IsWired g) (w : Net) (f : Event) (h : Delta) (ff : IsFit g w.queue f h.sends) where
+  -- it has the same rule
+  beside_answer : (e : Event) → event_node e ≢ event_node f → is_lawful g w e ≡ true → answer (made g f h w) e ≡ answer w e
+  beside_answer (Wake v) ne le = ap (λ (n : NodeState). reaction n To_wake) (beside_node g wired w (Wake v) f h ne ff le)
+  beside_answer (Take v p) ne le =
+      ap (λ (n : NodeState). reaction n (delivery p ((made g f h w).queue v p))) (beside_node g wired w (Take v p) f h ne ff le)
+      ∙ ap (reaction (w.node v)) (beside_read g wired w (Take v p) f h ne ff le (delivery p) (λ m ms c. refl) v p refl)
+
+  -- it may still happen
+  beside_lawful : (e : Event) → event_node e ≢ event_node f → is_lawful g w e ≡ true → is_lawful g (made g f h w) e ≡ true
+  beside_lawful (Wake v) ne le = ap (λ (n : NodeState). is_node g v && is_sleeping n.head.phase) (beside_node g wired w (Wake v) f h ne ff le) ∙ le
+  beside_lawful (Take v p) ne le =
+      ap (λ (b : Bool). is_port g v p && b) (beside_read g wired w (Take v p) f h ne ff le is_waiting (λ m ms c. refl) v p refl) ∙ le
+
+  -- and it consumes or puts back the same
+  beside_eats : (e : Event) (x : Fate) (k : ℕ) → event_node e ≢ event_node f → is_lawful g w e ≡ true → eats e x (made g f h w).queue k ≡ eats e x w.queue k
+  beside_eats (Wake v) x k ne le = refl
+  beside_eats (Take v p) x k ne le = beside_read g wired w (Take v p) f h ne ff le (λ q. eaten x q k) (λ m ms c. refl) v p refl
+
+  beside_backs : (e : Event) (x : Fate) → event_node e ≢ event_node f → is_lawful g w e ≡ true → backs e x (made g f h w).queue ≡ backs e x w.queue
+  beside_backs (Wake v) x ne le = refl
+  beside_backs (Take v p) x ne le = beside_read g wired w (Take v p) f h ne ff le (back_of x) (λ m ms c. refl) v p refl
+
+  beside_there : (e : Event) → event_node e ≢ event_node f → is_lawful g w e ≡ true → IsThere (made g f h w).queue e
+  beside_there e ne le a b is none =
+      let c = beside_queue g wired w e f h ne ff le a b is in
+      lawful_there g w e le a b is (left_none (w.queue a b) c.0 (sym c.1 ∙ none))
+    where
+      left_none : (q c : List Message) → q ++ c ≡ [] → q ≡ []
+      left_none [] c z = refl
+      left_none (m ∷ q) c z = cc
+
+-- Two events of two nodes with what they do, in either order.
+module _ (g : Network) (wired : IsWired g) (w : Net) (e f : Event) (d h : Delta) (ne : event_node e ≢ event_node f)
+    (le : is_lawful g w e ≡ true) (lf : is_lawful g w f ≡ true) (ae : answer w e ≡ Some d) (af : answer w f ≡ Some h)
+    (fe : IsFit g w.queue e d.sends) (ff : IsFit g w.queue f h.sends)
+    (clear_e : StaysClear g e d.fate f h.sends) (clear_f : StaysClear g f h.fate e d.sends) where
+  en : event_node f ≢ event_node e
+  en z = ne (sym z)
+
+  nodes_swap : (v : ℕ) → (made g f h (made g e d w)).node v ≡ (made g e d (made g f h w)).node v
+  nodes_swap v = ⊎_elim at_e (λ away. ⊎_elim (at_f away) (nowhere away) (cases_eq v (event_node f))) (cases_eq v (event_node e))
+    where
+      at_e : v ≡ event_node e → (made g f h (made g e d w)).node v ≡ (made g e d (made g f h w)).node v
+      at_e is =
+          rw is (made_there g f h (made g e d w) (event_node e) ne ∙ made_here g e d w
+          ∙ sym (made_here g e d (made g f h w) ∙ ap (λ (n : NodeState). after n d) (made_there g f h w (event_node e) ne)))
+
+      at_f : v ≢ event_node e → v ≡ event_node f → (made g f h (made g e d w)).node v ≡ (made g e d (made g f h w)).node v
+      at_f away is =
+          rw is (made_here g f h (made g e d w) ∙ ap (λ (n : NodeState). after n h) (made_there g e d w (event_node f) en)
+          ∙ sym (made_there g e d (made g f h w) (event_node f) en ∙ made_here g f h w))
+
+      nowhere : v ≢ event_node e → v ≢ event_node f → (made g f h (made g e d w)).node v ≡ (made g e d (made g f h w)).node v
+      nowhere away off =
+          made_there g f h (made g e d w) v off ∙ made_there g e d w v away
+          ∙ sym (made_there g e d (made g f h w) v away ∙ made_there g f h w v off)
+
+  queues_swap : (a b : ℕ) → (made g f h (made g e d w)).queue a b ≡ (made g e d (made g f h w)).queue a b
+  queues_swap a b =
+      ap (λ (q : ℕ → ℕ → List Message). q a b)
+      (made_queue g f h (made g e d w) (beside_there g wired w e d fe f en lf) ∙ ap (acts g f h.fate h.sends) (made_queue g e d w fe.some))
+      ∙ acts_swap g wired w.queue e f d.fate h.fate d.sends h.sends ne fe ff clear_e clear_f a b
+      ∙ sym (ap (λ (q : ℕ → ℕ → List Message). q a b)
+      (made_queue g e d (made g f h w) (beside_there g wired w f h ff e ne le) ∙ ap (acts g e d.fate d.sends) (made_queue g f h w ff.some)))
+
+  sent_swap : (k : ℕ) → (made g f h (made g e d w)).sent k ≡ (made g e d (made g f h w)).sent k
+  sent_swap k =
+      let a = made_sent g f h (made g e d w) k in
+      let b = made_sent g e d w k in
+      let x = made_sent g e d (made g f h w) k in
+      let y = made_sent g f h w k in
+      omega (arith, a, b, x, y)
+
+  consumed_swap : (k : ℕ) → (made g f h (made g e d w)).consumed k ≡ (made g e d (made g f h w)).consumed k
+  consumed_swap k =
+      let a = made_consumed g f h (made g e d w) k in
+      let b = made_consumed g e d w k in
+      let c = beside_eats g wired w e d fe f h.fate k en lf in
+      let x = made_consumed g e d (made g f h w) k in
+      let y = made_consumed g f h w k in
+      let z = beside_eats g wired w f h ff e d.fate k ne le in
+      omega (arith, a, b, c, x, y, z)
+
+  requeued_swap : (made g f h (made g e d w)).requeued ≡ (made g e d (made g f h w)).requeued
+  requeued_swap =
+      let a = made_requeued g f h (made g e d w) in
+      let b = made_requeued g e d w in
+      let c = beside_backs g wired w e d fe f h.fate en lf in
+      let x = made_requeued g e d (made g f h w) in
+      let y = made_requeued g f h w in
+      let z = beside_backs g wired w f h ff e d.fate ne le in
+      omega (arith, a, b, c, x, y, z)
+
+  -- one net
+  nets_swap : made g f h (made g e d w) ≡ made g e d (made g f h w)
+  nets_swap = λ i. record {
+    node = fun_ext nodes_swap i;
+    queue = fun_ext (λ a. fun_ext (λ b. queues_swap a b)) i;
+    sent = fun_ext sent_swap i;
+    consumed = fun_ext consumed_swap i;
+    requeued = requeued_swap i;
+  }
