@@ -5,4 +5,5 @@ pub mod Placing
 pub mod Lengths
 pub mod Filling
 pub mod Swapping
+pub mod Carrying
 mod Examples

@@ -46,15 +46,15 @@ use Rattle.ghs_chain.proofs.Lengths.{SameLengths, same_lengths}
 
 -- The net after an event, by what its node does.
 
-abbrev disposed : ℕ → ℕ → Fate → List Message → Net → Net
+abbrev pub disposed : ℕ → ℕ → Fate → List Message → Net → Net
 disposed v p f [] w = w
 disposed v p f (m ∷ ms) w = take_first f v p m ms w
 
-abbrev dispose : Event → Fate → Net → Net
+abbrev pub dispose : Event → Fate → Net → Net
 dispose (Wake v) f w = w
 dispose (Take v p) f w = disposed v p f (w.queue v p) w
 
-abbrev made : Network → Event → Delta → Net → Net
+abbrev pub made : Network → Event → Delta → Net → Net
 made g e d w = steps.reacted g (event_node e) d (dispose e d.fate w)
 
 -- how many of a kind are consumed of what waits first, and whether it is put back
@@ -159,7 +159,7 @@ module _ (g : Network) (e : Event) (d : Delta) (w : Net) where
   made_requeued = requeued_sent g (event_node e) d.sends (change (event_node e) d (dispose e d.fate w)) ∙ dispose_requeued w d.fate e
 
 -- an event that may happen and has a rule happens
-happens_made : (g : Network) (w : Net) (e : Event) (d : Delta) → is_lawful g w e ≡ true → answer w e ≡ Some d → happens g w e ≡ Some (made g e d w)
+pub happens_made : (g : Network) (w : Net) (e : Event) (d : Delta) → is_lawful g w e ≡ true → answer w e ≡ Some d → happens g w e ≡ Some (made g e d w)
 happens_made g w (Wake v) d l r = lawful_happens g w (Wake v) l ∙ ap (after_wake g w v) r
 happens_made g w (Take v p) d l r = lawful_happens g w (Take v p) l ∙ go (w.queue v p) (and_parts _ _ l).1 r
   where
@@ -206,7 +206,7 @@ lawful_there g w e l a b is = some (w.queue a b) (and_parts _ _ (subst (λ (x : 
     some (m ∷ ms) h = λ k. cc
 
 -- its node sends on ports
-on_ports : (g : Network) → IsWired g → (w : Net) → IsWellFormed g w → (e : Event) (d : Delta) → is_lawful g w e ≡ true → answer w e ≡ Some d →
+pub on_ports : (g : Network) → IsWired g → (w : Net) → IsWellFormed g w → (e : Event) (d : Delta) → is_lawful g w e ≡ true → answer w e ≡ Some d →
     OnPorts g (event_node e) d.sends
 on_ports g wired w formed (Wake v) d l r x y lt =
     let n = node_of g v (and_parts _ _ l).0 in
