@@ -2,4 +2,8 @@
 pub mod Following
 pub mod Bounding
 pub mod Placing
+pub mod Lengths
+pub mod Filling
+pub mod Swapping
+pub mod Carrying
 mod Examples

@@ -51,7 +51,7 @@ numbers_placed numbers v n lt = fun_ext (λ u. ⊎_elim (here u) (there u) (case
     there u ne = get_or-set_other numbers v u n 0 ne ∙ sym (put_other (λ w. slice_index numbers w) v u n ne)
 
 -- what is put where it stands changes nothing
-put_at_none : {A : Type 0} (f : ℕ → ℕ → A) (v p : ℕ) (x : A) → x ≡ f v p → put_at f v p x ≡ f
+pub put_at_none : {A : Type 0} (f : ℕ → ℕ → A) (v p : ℕ) (x : A) → x ≡ f v p → put_at f v p x ≡ f
 put_at_none {A} f v p x e = fun_ext (λ u. fun_ext (λ q. ⊎_elim (here u q) (there u q) (cases_eq u v)))
   where
     here : (u q : ℕ) → u ≡ v → put_at f v p x u q ≡ f u q

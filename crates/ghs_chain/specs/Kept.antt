@@ -1,5 +1,5 @@
 -- How the chains are kept: a number for each node, and the numbers that wait at each of its ports.
-use Rattle.std.specs.Prelude.{◌≡◌, ℕ, ◌+◌, ◌<◌, ◌≤◌, List, [], ◌∷◌, length, slice_index, slice_index_or}
+use Rattle.std.specs.Prelude.{◌≡◌, ℕ, ◌+◌, ◌<◌, ◌≤◌, List, [], ◌∷◌, ◌++◌, length, slice_index, slice_index_or}
 use Rattle.ghs_graph.specs.Graph.{Shape}
 use Rattle.ghs_graph.specs.Ports.{ports_of}
 use Rattle.ghs_node.specs.declared.delta.Fate.{Fate}
@@ -62,3 +62,8 @@ pub record Fits (g : Shape) (k : Kept) : Type 0 where
 pub record AreChains (s : NetState) (k : Kept) : Type 0 where
   pub fits : Fits s.graph k
   pub same : seen k ≡ chains_of (network_of s.graph) s.trace
+
+-- those of its run once the event has happened
+pub record AreChainsThen (s : NetState) (e : Event) (k : Kept) : Type 0 where
+  pub fits : Fits s.graph k
+  pub same : seen k ≡ chains_of (network_of s.graph) (s.trace ++ e ∷ [])

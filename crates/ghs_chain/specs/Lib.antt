@@ -2,3 +2,4 @@
 pub mod Chains
 pub mod Kept
 pub mod Laws
+pub mod Swaps

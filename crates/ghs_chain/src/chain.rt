@@ -8,9 +8,8 @@ ghost use Rattle.ghs_protocol.specs.Run.{IsRun};
 ghost use Rattle.std.specs.Prelude.{◌≡◌, ◌++◌, ◌<◌, ◌≤◌, ◌^◌, ◌∷◌, [], IfOk, length, OnOk};
 
 use crate::chains::Chains;
-use ghs_core::net::{Net, is_asleep, node_of};
+use ghs_core::net::{Net, node_of};
 use ghs_graph::graph::Graph;
-use ghs_node::delta::Fate;
 use ghs_node::react::react;
 use ghs_protocol::event::Event;
 use std::alloc::{AllocError, Global};
@@ -61,10 +60,8 @@ fn put_back(net: &mut Net, chains: &mut Chains, v: u32, port: u32) -> Result<(),
     ensures trace { OnOk result (net.new.trace ≡ net.old.trace ++ Event.Take v port ∷ []) }
     ensures chains { OnOk result (AreChains net.new chains.new) }
 {
-    let _ = net.trace();
-    let asleep = is_asleep(net.node(v).head());
+    chains.follow_back(net, v, port)?;
     net.put_back(v, port)?;
-    chains.hear(Event::Take(v, port), asleep, Fate::Requeued)?;
     Ok(())
 }
 
@@ -83,16 +80,12 @@ fn react_to(
     ensures chains { OnOk result (AreChains net.new chains.new) }
 {
     let _ = net.trace();
-    let v = node_of(event);
-    let node = net.node(v);
-    let asleep = is_asleep(node.head());
-    let delta = match react(alloc, node, net.work(event)) {
+    let delta = match react(alloc, net.node(node_of(event)), net.work(event)) {
         Ok(delta) => delta,
         Err(_) => return Err(AllocError),
     };
+    chains.follow(net, event, &delta)?;
     net.reserve(event, &delta)?;
-    chains.hear(event, asleep, delta.fate)?;
-    chains.send(net.graph(), v, delta.sends.as_slice())?;
     net.play(event, &delta);
     Ok(())
 }

@@ -3,5 +3,6 @@
 
 pub mod chain;
 pub mod chains;
+pub mod follow;
 pub mod laws;
 mod row;

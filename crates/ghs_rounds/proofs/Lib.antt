@@ -1,7 +1,6 @@
 -- Serves the proofs: nothing here has to be believed.
 mod Hearing
 mod Keeping
-mod Lengths
 mod Marking
 mod Picked
 mod Running

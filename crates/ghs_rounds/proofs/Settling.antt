@@ -29,7 +29,7 @@ use Rattle.ghs_patient.proofs.Picks.{is_net, some_patient}
 use Rattle.ghs_rounds.specs.Choices.{AreChoices, AreChoicesBut, AreRounds, ChoicesState, HasSettled, IsPast, RoundsState, events_of, hides_in, marked_all, moves_in}
 use Rattle.ghs_rounds.specs.Clock.{ClockState}
 use Rattle.ghs_rounds.specs.Rounds.{has_due_second, hides_due, is_by, is_due, moves_due}
-use Rattle.ghs_rounds.proofs.Lengths.{SameLengths, same_lengths}
+use Rattle.ghs_chain.proofs.Lengths.{SameLengths, same_lengths}
 use Rattle.ghs_rounds.proofs.Marking.{all_right, right_all}
 use Rattle.ghs_rounds.proofs.Picked.{placed_of}
 

@@ -46,7 +46,7 @@ use Rattle.ghs_patient.specs.Patience.{first_waits, or_else, puts_back}
 use Rattle.ghs_patient.proofs.Picks.{some_patient}
 use Rattle.ghs_rounds.specs.Rounds.{events_in, hides_due, moves_due, round_events}
 use Rattle.ghs_rounds.specs.Runs.{Begun, IsPickedByRounds, Over, Picked}
-use Rattle.ghs_rounds.proofs.Lengths.{same_lengths}
+use Rattle.ghs_chain.proofs.Lengths.{same_lengths}
 use Rattle.ghs_rounds.proofs.Picked.{lawful_pick, picked, picked_in, placed_of}
 use Rattle.ghs_rounds.proofs.Settling.{some_now}
 use Rattle.ghs_rounds.proofs.Steps.{IsTimed, Promised, Turns, back_turns, moves_fate, port_in}

@@ -42,7 +42,7 @@ use Rattle.ghs_chain.specs.Chains.{Chains, hears, reacted, sent, taken}
 use Rattle.ghs_chain.proofs.Bounding.{IsWithin, more_within}
 use Rattle.ghs_patient.specs.Patience.{first_waits, moves_on, or_else, puts_back}
 use Rattle.ghs_rounds.specs.Rounds.{has_due_second, hides_due, is_by, is_due, moves_due, round_events}
-use Rattle.ghs_rounds.proofs.Lengths.{SameLengths}
+use Rattle.ghs_chain.proofs.Lengths.{SameLengths}
 use Rattle.ghs_rounds.proofs.Sending.{IsTimely, reacted_timely}
 use Rattle.ghs_rounds.proofs.Timing.{AreLate, HasCome, heard_is, hears_node, hears_queue, late_all, late_append, sent_come, sent_node}
 

@@ -35,7 +35,7 @@ use Rattle.ghs_patient.specs.Patience.{or_else}
 use Rattle.ghs_patient.proofs.Picks.{some_patient}
 use Rattle.ghs_rounds.specs.Rounds.{events_in, hides_due, moves_due, round_events}
 use Rattle.ghs_rounds.specs.Runs.{Begun, IsPickedByRounds, Over, Picked}
-use Rattle.ghs_rounds.proofs.Lengths.{SameLengths, same_lengths}
+use Rattle.ghs_chain.proofs.Lengths.{SameLengths, same_lengths}
 use Rattle.ghs_rounds.proofs.Picked.{lawful_pick, picked}
 use Rattle.ghs_rounds.proofs.Settling.{some_now}
 use Rattle.ghs_rounds.proofs.Steps.{IsTimed, Promised, Turns, back_turns, moves_give, timed_moves, timed_next}

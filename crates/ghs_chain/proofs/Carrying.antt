@@ -1,0 +1,101 @@
+-- Chains that follow an event before it happens.
+use Rattle.std.proofs.Common.{◌≡◌, ℕ, suc, ◌<◌, Bool, true, false, Some, List, [], ◌∷◌, ◌++◌, length, refl, sym, ◌∙◌, ap, ap₂, subst, arith, add-one}
+use Rattle.std.specs.List.{All}
+use Rattle.std.proofs.Math.Path.{fun_ext}
+use Rattle.ghs_graph.specs.Graph.{Shape, IsGraph}
+use Rattle.ghs_graph.specs.Ports.{ports_of}
+use Rattle.ghs_node.specs.declared.delta.Delta.{Delta}
+use Rattle.ghs_node.specs.declared.delta.Fate.TheVariants.{Requeued}
+use Rattle.ghs_node.specs.declared.message.Message.{Message}
+use Rattle.ghs_node.specs.Reaction.{requeues}
+use Rattle.ghs_node.specs.Words.{is_sleeping}
+use Rattle.ghs_protocol.specs.declared.event.Event.{Event}
+use Rattle.ghs_protocol.specs.declared.event.Event.TheVariants.{Take}
+use Rattle.ghs_protocol.specs.Net.{Net, event_node, happens, put}
+use Rattle.ghs_protocol.specs.Network.{far, far_port, network_of}
+use Rattle.ghs_protocol.specs.Run.{IsRun}
+use Rattle.ghs_protocol.proofs.lemmas.Graphs.{graph_few, graph_wired}
+use Rattle.ghs_protocol.proofs.lemmas.Runs.{after_is_net}
+use Rattle.ghs_protocol.proofs.lemmas.Updates.{put_other, put_same}
+use Rattle.ghs_protocol.proofs.lemmas.WellFormed.{after_formed}
+use Rattle.std.proofs.lemmas.Bool.{cases_eq}
+use Rattle.std.proofs.Common.{⊎_elim}
+use Rattle.ghs_core.specs.NetState.{IsAnswer, IsLawful, NetState, net_of, network}
+use Rattle.ghs_core.specs.PutBack.{IsPutBack}
+use Rattle.ghs_chain.specs.Chains.{Chains, chains_of, hears, longest_chain, most_below, reacted, sent, taken}
+use Rattle.ghs_chain.specs.Kept.{AreChains, AreChainsThen, Fits, HasPlace, Kept, SamePlaces, seen}
+use Rattle.ghs_chain.proofs.Filling.{OnPorts}
+use Rattle.ghs_chain.proofs.Following.{chains_of_more, fits_kept, place_at}
+use Rattle.ghs_chain.proofs.Lengths.{same_lengths}
+use Rattle.ghs_chain.proofs.Placing.{put_at_none, same_then}
+use Rattle.ghs_chain.proofs.Swapping.{happens_made, made, on_ports}
+
+module _ (s : NetState) (graph : IsGraph s.graph) (r : IsRun (network s) s.trace) (e : Event) (lawful : IsLawful s e) (d : Delta) (answer : IsAnswer s e d) where
+  goes_out : OnPorts (network s) (event_node e) d.sends
+  goes_out =
+      let wired = graph_wired s.graph graph in
+      on_ports (network s) wired (net_of s) (after_formed (network s) wired (graph_few s.graph graph) s.trace (net_of s) (after_is_net s.graph s.trace r)) e d lawful answer
+
+  -- what the event's node sends goes out on ports
+  pub out_on : All (λ (x : ℕ × Message). x.0 < length (ports_of s.graph.keys (event_node e))) d.sends
+  out_on i x lt = (goes_out i x lt).port
+
+  -- and arrives at ports
+  pub out_to : (k : Kept) → Fits s.graph k →
+      All (λ (x : ℕ × Message). HasPlace k (far (network s) (event_node e) x.0) (far_port (network s) (event_node e) x.0)) d.sends
+  out_to k f i x lt = place_at s.graph k _ _ f ((graph_wired s.graph graph).there (event_node e) _ (goes_out i x lt))
+
+  -- what the chains are once the event has happened
+  happened : chains_of (network s) (s.trace ++ e ∷ []) ≡ reacted (network s) (net_of s) e d (chains_of (network s) s.trace)
+  happened = chains_of_more s e d (made (network s) e d (net_of s)) r (happens_made (network s) (net_of s) e d lawful answer) answer
+
+  -- the chains have heard and sent
+  pub carried : (k k1 k' : Kept) → AreChains s k → SamePlaces k k1 →
+      seen k1 ≡ hears e (is_sleeping ((net_of s).node (event_node e)).head.phase) d.fate (seen k) → SamePlaces k1 k' →
+      seen k' ≡ sent (network s) (event_node e) d.sends (seen k1) → AreChainsThen s e k'
+  carried k k1 k' are p1 heard p2 out = record {
+    fits = fits_kept s.graph k k' (same_then k k1 k' p1 p2) are.fits;
+    same =
+        out ∙ ap (sent (network s) (event_node e) d.sends) (heard ∙ ap (hears e (is_sleeping ((net_of s).node (event_node e)).head.phase) d.fate) are.same)
+        ∙ sym happened;
+  }
+
+-- the only number of a queue is put behind itself
+turned_alone : (c : Chains) (v p : ℕ) (l : List ℕ) → c.queue v p ≡ l → length l ≡ 1 → taken v p false Requeued l c ≡ c
+turned_alone c v p [] q one = refl
+turned_alone c v p (t ∷ []) q one = λ i. record { node = nodes i; queue = put_at_none c.queue v p (t ∷ []) (sym q) i }
+  where
+    nodes : put c.node v (c.node v) ≡ c.node
+    nodes = fun_ext (λ u. ⊎_elim (λ (h : u ≡ v). rw h (put_same c.node v (c.node v))) (λ ne. put_other c.node v u (c.node v) ne) (cases_eq u v))
+turned_alone c v p (t ∷ x ∷ l) q one = absurd (let z : suc (suc (length l)) ≡ 1 = one in omega (arith, z))
+
+-- so nothing changes
+pub carried_alone : (s : NetState) (v p : ℕ) (k : Kept) → IsGraph s.graph → IsRun (network s) s.trace → IsLawful s (Take v p) → IsPutBack s v p →
+    is_sleeping ((net_of s).node v).head.phase ≡ false → length ((net_of s).queue v p) ≡ 1 → AreChains s k → AreChainsThen s (Take v p) k
+carried_alone s v p k graph r lawful back awake one are =
+    let g = network s in
+    let c = chains_of g s.trace in
+    let d : Delta = requeues ((net_of s).node v).head in
+    let lengths = (same_lengths g s.trace (net_of s) (after_is_net s.graph s.trace r)).queue v p in
+    let then : chains_of g (s.trace ++ Take v p ∷ []) ≡ c =
+    happened s graph r (Take v p) lawful d back ∙ ap (λ (b : Bool). taken v p b Requeued (c.queue v p) c) awake
+    ∙ turned_alone c v p (c.queue v p) refl (lengths ∙ one) in
+    record { fits = are.fits; same = are.same ∙ sym then }
+
+-- the event has happened
+pub then_are : (s s' : NetState) (e : Event) (k : Kept) → s'.graph ≡ s.graph → s'.trace ≡ s.trace ++ e ∷ [] → AreChainsThen s e k → AreChains s' k
+then_are s s' e k graph trace then = record {
+  fits = let P : Shape → Type 0 = λ (g : Shape). Fits g k in subst P (sym graph) then.fits;
+  same =
+      then.same ∙ ap (λ (es : List Event). chains_of (network s) es) (sym trace) ∙ ap (λ (g : Shape). chains_of (network_of g) s'.trace) (sym graph);
+}
+
+-- the greatest number of a node is the longest chain
+pub longest_are : (s : NetState) (k : Kept) (n : ℕ) → AreChains s k → n ≡ most_below (length k.numbers) (seen k).node → n ≡ longest_chain (network s) s.trace
+longest_are s k n are value =
+    let count : length k.numbers ≡ suc s.graph.nodes = are.fits.numbers ∙ add-one s.graph.nodes in
+    value ∙ ap₂ (λ (m : ℕ) (c : Chains). most_below m c.node) count are.same
+
+-- none are those of a net without events
+pub none_begin : (s : NetState) (k : Kept) → s.trace ≡ [] → Fits s.graph k → seen k ≡ chains_of (network s) [] → AreChains s k
+none_begin s k trace fits same = record { fits = fits; same = same ∙ ap (λ (es : List Event). chains_of (network s) es) (sym trace) }
