@@ -532,12 +532,12 @@ function placeMany(list, far) {
     for (let k = 0; k < K; k++) if (D[k][i] > 2) tie(pivots[k], D[k][i], weight[k] * .5 / (D[k][i] * D[k][i]));
   }
   first[n] = end.length;
-  const ends = Int32Array.from(end), far_ = Float64Array.from(d), pull = Float64Array.from(w);
+  const ends = Int32Array.from(end), wanted = Float64Array.from(d), pull = Float64Array.from(w);
   for (let t = 0; t < 60; t++) for (let i = 0; i < n; i++) {
     let x = 0, y = 0, s = 0;
     const xi = X[i], yi = Y[i];
     for (let k = first[i]; k < first[i + 1]; k++) {
-      const xj = X[ends[k]], yj = Y[ends[k]], dx = xi - xj, dy = yi - yj, e = far_[k] / (Math.sqrt(dx * dx + dy * dy) || 1e-9);
+      const xj = X[ends[k]], yj = Y[ends[k]], dx = xi - xj, dy = yi - yj, e = wanted[k] / (Math.sqrt(dx * dx + dy * dy) || 1e-9);
       x += pull[k] * (xj + dx * e); y += pull[k] * (yj + dy * e); s += pull[k];
     }
     X[i] = x / s; Y[i] = y / s;
@@ -762,9 +762,9 @@ function pills(i, to, port, list) {
     off += w * squeeze + 1;
     const deg = a * 180 / Math.PI, flip = Math.abs(a) > Math.PI / 2 + .01 ? deg + 180 : deg;
     // among many nodes without transforms too
-    const far = G.nodes > MANY, c = Math.cos(a), s = Math.sin(a), at0 = f1([x, y]), corners = [[-w / 2, -h], [w / 2 - h * .7, -h], [w / 2, 0], [w / 2 - h * .7, h], [-w / 2, h]].map(([u, v]) => f1(far ? [x + c * u - s * v, y + s * u + c * v] : [u, v])).join('L');
-    html = '<g class="msg ' + cls + '" data-q="' + to + ' ' + port + ' ' + (k - (list[0][1] === 'taken' ? 1 : 0)) + (far ? '"><path' : '" transform="translate(' + at0 + ')"><path transform="rotate(' + deg.toFixed(1) + ')"') + ' d="M' + corners + 'Z"/>'
-      + (radius < LEGIBLE ? '' : '<text font-size="' + (big ? 15 : Math.max(6, h * 1.45)).toFixed(1) + (far ? '" x="' + x.toFixed(1) + '" y="' + y.toFixed(1) : '') + (big ? '" transform="rotate(' + flip.toFixed(1) + (far ? ' ' + at0 : '') + ')' : '') + '">' + text[k] + '</text>') + '</g>' + html;
+    const many = G.nodes > MANY, c = Math.cos(a), s = Math.sin(a), at0 = f1([x, y]), corners = [[-w / 2, -h], [w / 2 - h * .7, -h], [w / 2, 0], [w / 2 - h * .7, h], [-w / 2, h]].map(([u, v]) => f1(many ? [x + c * u - s * v, y + s * u + c * v] : [u, v])).join('L');
+    html = '<g class="msg ' + cls + '" data-q="' + to + ' ' + port + ' ' + (k - (list[0][1] === 'taken' ? 1 : 0)) + (many ? '"><path' : '" transform="translate(' + at0 + ')"><path transform="rotate(' + deg.toFixed(1) + ')"') + ' d="M' + corners + 'Z"/>'
+      + (radius < LEGIBLE ? '' : '<text font-size="' + (big ? 15 : Math.max(6, h * 1.45)).toFixed(1) + (many ? '" x="' + x.toFixed(1) + '" y="' + y.toFixed(1) : '') + (big ? '" transform="rotate(' + flip.toFixed(1) + (many ? ' ' + at0 : '') + ')' : '') + '">' + text[k] + '</text>') + '</g>' + html;
   });
   return html;
 }

@@ -2,3 +2,4 @@
 pub mod PairPage
 pub mod RunPage
 pub mod Stored
+pub mod StoredPair

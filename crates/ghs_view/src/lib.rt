@@ -4,3 +4,4 @@
 pub mod page;
 pub mod pair;
 pub mod stored;
+pub mod stored_pair;
