@@ -1,4 +1,4 @@
-//! Graphs, and with which counts their runs end: the lines that `bench/explore --rows` prints, by an explorer of its own.
+//! Graphs, and with which counts their runs end: what `bench/explore --table` prints, by an explorer of its own.
 
 /// A graph's text, and the lines of its runs where all nodes wake by themselves, and where the first of each component does.
 pub struct Row {

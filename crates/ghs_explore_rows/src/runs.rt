@@ -77,7 +77,11 @@ fn lines_have_runs(rt: HostRuntime) -> Result<(), Fail> {
 fn limits_are_exact(rt: HostRuntime) -> Result<(), Fail> {
     for row in &ROWS {
         let graph = graph_of(rt.alloc(), row.graph)?;
-        let states = explored(rt.alloc(), row.graph, WakeSet::All)?.states() as u32;
+        let states = explored(rt.alloc(), row.graph, WakeSet::All)?.states();
+        if states < 1 || states > LIMIT as usize {
+            return Err(Fail::new("no number of states"));
+        }
+        let states = states as u32;
         let enough = explore(rt.alloc(), &graph, WakeSet::All, states);
         assert!(rt; enough.is_ok(), "of {}", row.name);
         if states > 1 {
