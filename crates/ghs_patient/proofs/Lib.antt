@@ -1,5 +1,5 @@
 -- Serves the proofs: nothing here has to be believed.
-mod Growing
+pub mod Growing
 pub mod Marking
 pub mod Picks
 pub mod Ports

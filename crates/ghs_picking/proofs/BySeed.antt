@@ -145,7 +145,7 @@ is_patient seed old new words after begun gone ran short over ends = record {
   ends = ends;
 }
 
-has_ended : (g : Shape) (new : WorldState) (e : RunEnd) → new.net.graph ≡ g → IsEnd new e → HasEnded g (net_after g new.net.trace)
+pub has_ended : (g : Shape) (new : WorldState) (e : RunEnd) → new.net.graph ≡ g → IsEnd new e → HasEnded g (net_after g new.net.trace)
 has_ended g new (Halted v) same end = subst (λ (s : Shape). HasEnded s (net_after s new.net.trace)) same end.0
 
 pub on_ok_patient : (seed : ℕ) (old new : WorldState) (words after : List ℕ) (r : Result RunEnd RunFault) →

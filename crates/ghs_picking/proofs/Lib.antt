@@ -1,2 +1,3 @@
 -- Serves the proofs: nothing here has to be believed.
 mod BySeed
+mod Happening

@@ -1,4 +1,6 @@
 //! How a run stands, in numbers.
+ghost use Rattle.ghs_chain.specs.Chains.{longest_chain};
+ghost use Rattle.ghs_core.specs.NetState.{network};
 ghost use Rattle.ghs_graph.specs.Links.{total_weight};
 ghost use Rattle.ghs_protocol.specs.Ledger.{in_all};
 ghost use Rattle.ghs_sweep.specs.Figures.{AreFigures, greatest_level};
@@ -38,9 +40,18 @@ pub struct Figures {
     pub chain: u64,
 }
 
-/// The figures of a net. Refusal: want of memory.
+/// The figures of a net. Its events are played once more for their longest chain. Refusal: want of memory.
 pub fn figures_of(alloc: Global, net: &Net) -> Result<Figures, AllocError>
     requires { length net.now.trace ≤ 2 ^ 40 }
+    ensures { IfOk result (λ f. AreFigures net.now.graph net.now.trace f) }
+{
+    let chain = longest_chain(alloc, net.graph(), net.trace())?;
+    figures_with(alloc, net, chain)
+}
+
+/// The same, where it is known how long the longest chain is.
+pub(crate) fn figures_with(alloc: Global, net: &Net, chain: u64) -> Result<Figures, AllocError>
+    requires { chain ≡ longest_chain (network net.now) net.now.trace }
     ensures { IfOk result (λ f. AreFigures net.now.graph net.now.trace f) }
 {
     let graph = net.graph();
@@ -48,7 +59,6 @@ pub fn figures_of(alloc: Global, net: &Net) -> Result<Figures, AllocError>
     let ledger = net.ledger();
     let census = net.census(alloc)?;
     let branches = net.branches(alloc)?;
-    let chain = longest_chain(alloc, graph, net.trace())?;
     Ok(Figures {
         nodes: graph.nodes(),
         links: graph.links(),

@@ -1,12 +1,11 @@
 //! The figures of a seed's run.
-ghost use Rattle.ghs_sweep.specs.Figures.{AreFigures};
 ghost use Rattle.ghs_sweep.specs.Sweep.{AreFiguresOf, HasTurns};
 ghost use Rattle.std.specs.Prelude.{IfOk};
 
-use crate::figures::{Figures, figures_of};
+use crate::figures::{Figures, figures_with};
 use ghs_graph::graph::Graph;
-use ghs_picking::picking::{Picking, run_by_seed};
-use ghs_sched::fault::RunFault;
+use ghs_picking::chained::run_chained;
+use ghs_picking::picking::Picking;
 use ghs_world::wake_set::WakeSet;
 use ghs_world::world::World;
 use std::alloc::{AllocError, Global};
@@ -37,17 +36,6 @@ pub fn figures_of_seed(
         Ok(world) => world,
         Err((_, error)) => return Err(error),
     };
-    match run_by_seed(alloc, &mut world, setup.picking, seed) {
-        Ok(_) => figures_of_world(alloc, &world),
-        Err(RunFault::TurnLimit) => figures_of_world(alloc, &world),
-        Err(_) => Err(AllocError),
-    }
-}
-
-// The figures of a world's net, which has no more events than the world has turns.
-fn figures_of_world(alloc: Global, world: &World) -> Result<Figures, AllocError>
-    ensures { IfOk result (λ f. AreFigures world.now.net.graph world.now.net.trace f) }
-{
-    let _ = world.turns();
-    figures_of(alloc, world.net())
+    let chain = run_chained(alloc, &mut world, setup.picking, seed)?;
+    figures_with(alloc, world.net(), chain)
 }

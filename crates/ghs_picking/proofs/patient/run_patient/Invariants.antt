@@ -1,0 +1,17 @@
+use Rattle.std.proofs.Common.{◌-◌, length}
+use Rattle.ghs_chain.specs.Kept.{AreChains}
+use Rattle.ghs_patient.specs.Choices.{AreChoices}
+use Rattle.ghs_patient.specs.Runs.{HasRun}
+use Rattle.ghs_patient.proofs.Growing.{HasGrown}
+use Rattle.ghs_picking.proofs.patient.run_patient.Given as goal
+
+abbrev pub invariant-events : goal.invariant-events
+invariant-events l = record {
+  run : HasRun l.fn.world l.world l.fn.schedule l.schedule;
+  grown : HasGrown l.fn.world.net.graph l.fn.world.net.trace l.world.net.trace;
+  choices : AreChoices l.world l.choices;
+  chains : AreChains l.world.net l.chains;
+}
+
+abbrev pub decreases-events : goal.decreases-events
+decreases-events l = l.world.turns - length l.world.net.trace

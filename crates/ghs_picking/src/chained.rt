@@ -1,0 +1,112 @@
+//! Runs by the schedule of a seed, with the length of their longest chain of messages: the chains are kept from event to
+//! event, so that nothing is played twice.
+ghost use Rattle.ghs_chain.specs.Chains.{longest_chain};
+ghost use Rattle.ghs_core.specs.NetState.{network};
+ghost use Rattle.ghs_picking.specs.Picking.{IsPatient, IsPickedBy, IsSeeded, IsByRounds};
+ghost use Rattle.std.specs.Prelude.{IfOk, OnOk, [], ◌≡◌};
+
+use crate::patient::run_patient;
+use crate::picking::{Picking, run_timed};
+use crate::seeded::run_seeded;
+use ghs_chain::chain::longest_chain;
+use ghs_chain::chains::Chains;
+use ghs_sched::fault::RunFault;
+use ghs_sched::schedule::Schedule;
+use ghs_world::world::World;
+use std::alloc::{AllocError, Global};
+
+/// Runs a world from its opening on as `run_by_seed` does, until the run has ended or its turns are used, and says how many
+/// messages its longest chain has. Refusal: want of memory. At every end nothing is out, and the world stands after the
+/// events so far.
+pub fn run_chained(
+    alloc: Global,
+    world: &mut World,
+    picking: Picking,
+    seed: u64,
+) -> Result<u64, AllocError>
+    requires trace { world.old.net.trace ≡ [] }
+    requires numbers { world.old.last ≡ 0 }
+    ensures graph { world.new.net.graph ≡ world.old.net.graph }
+    ensures wake { world.new.wake ≡ world.old.wake }
+    ensures turns { world.new.turns ≡ world.old.turns }
+    ensures outs { world.new.outs ≡ [] }
+    ensures run { OnOk result (IsPickedBy picking seed world.old.wake world.old.turns world.old.net.graph world.new.net.trace) }
+    ensures chain { IfOk result (λ n. n ≡ longest_chain (network world.new.net) world.new.net.trace) }
+{
+    match picking {
+        Picking::Seeded => seeded(alloc, world, seed),
+        Picking::Patient => patient(alloc, world, seed),
+        Picking::Rounds => by_rounds(alloc, world, seed),
+    }
+}
+
+// The run among all events.
+fn seeded(alloc: Global, world: &mut World, seed: u64) -> Result<u64, AllocError>
+    requires trace { world.old.net.trace ≡ [] }
+    requires numbers { world.old.last ≡ 0 }
+    ensures graph { world.new.net.graph ≡ world.old.net.graph }
+    ensures wake { world.new.wake ≡ world.old.wake }
+    ensures turns { world.new.turns ≡ world.old.turns }
+    ensures outs { world.new.outs ≡ [] }
+    ensures run { OnOk result (IsSeeded seed world.old.wake world.old.turns world.old.net.graph world.new.net.trace) }
+    ensures chain { IfOk result (λ n. n ≡ longest_chain (network world.new.net) world.new.net.trace) }
+{
+    let _ = world.turns();
+    world.recall_all();
+    let mut schedule = Schedule::seeded(seed);
+    let mut chains = Chains::none(alloc, world.graph())?;
+    match run_seeded(alloc, world, &mut schedule, &mut chains) {
+        Ok(_) => Ok(chains.longest()),
+        Err(RunFault::TurnLimit) => Ok(chains.longest()),
+        Err(_) => Err(AllocError),
+    }
+}
+
+// The patient run.
+fn patient(alloc: Global, world: &mut World, seed: u64) -> Result<u64, AllocError>
+    requires trace { world.old.net.trace ≡ [] }
+    requires numbers { world.old.last ≡ 0 }
+    ensures graph { world.new.net.graph ≡ world.old.net.graph }
+    ensures wake { world.new.wake ≡ world.old.wake }
+    ensures turns { world.new.turns ≡ world.old.turns }
+    ensures outs { world.new.outs ≡ [] }
+    ensures run { OnOk result (IsPatient seed world.old.wake world.old.turns world.old.net.graph world.new.net.trace) }
+    ensures chain { IfOk result (λ n. n ≡ longest_chain (network world.new.net) world.new.net.trace) }
+{
+    let _ = world.turns();
+    world.recall_all();
+    let mut schedule = Schedule::seeded(seed);
+    let mut chains = Chains::none(alloc, world.graph())?;
+    match run_patient(alloc, world, &mut schedule, &mut chains) {
+        Ok(_) => Ok(chains.longest()),
+        Err(RunFault::TurnLimit) => Ok(chains.longest()),
+        Err(_) => Err(AllocError),
+    }
+}
+
+// The run by rounds. Once it has ended, its longest chain has as many messages as there were rounds; where its turns were
+// used before, its events are played once more.
+fn by_rounds(alloc: Global, world: &mut World, seed: u64) -> Result<u64, AllocError>
+    requires trace { world.old.net.trace ≡ [] }
+    requires numbers { world.old.last ≡ 0 }
+    ensures graph { world.new.net.graph ≡ world.old.net.graph }
+    ensures wake { world.new.wake ≡ world.old.wake }
+    ensures turns { world.new.turns ≡ world.old.turns }
+    ensures outs { world.new.outs ≡ [] }
+    ensures run { OnOk result (IsByRounds seed world.old.wake world.old.turns world.old.net.graph world.new.net.trace) }
+    ensures chain { IfOk result (λ n. n ≡ longest_chain (network world.new.net) world.new.net.trace) }
+{
+    let (rounds, end) = run_timed(alloc, world, Picking::Rounds, seed);
+    match end {
+        Ok(_) => {
+            if let Some(rounds) = rounds {
+                return Ok(rounds);
+            }
+        }
+        Err(RunFault::TurnLimit) => {}
+        Err(_) => return Err(AllocError),
+    }
+    let _ = world.turns();
+    let net = world.net();
+    longest_chain(alloc, net.graph(), net.trace())
+}

@@ -1,0 +1,93 @@
+//! Patient runs whose chains are kept from event to event.
+ghost use Rattle.ghs_chain.specs.Kept.{AreChains};
+ghost use Rattle.ghs_core.specs.NetState.{network};
+ghost use Rattle.ghs_patient.specs.Choices.{AreChoices};
+ghost use Rattle.ghs_patient.specs.Runs.{HasMadeNext, HasRun, HasTurns, IsShort};
+ghost use Rattle.ghs_protocol.specs.Marks.{HasEnded};
+ghost use Rattle.ghs_sched.specs.Runs.{EndsFor, IsEnd};
+ghost use Rattle.ghs_world.specs.Steps.{IsSameWorld};
+ghost use Rattle.ghs_world.specs.WorldState.{has_turn, home};
+ghost use Rattle.std.specs.Prelude.{IfErr, IfOk, OnErr, OnOk, [], true, ◌≡◌};
+
+use ghs_chain::chains::Chains;
+use ghs_core::net::node_of;
+use ghs_patient::choices::Choices;
+use ghs_protocol::interleavings::{law_one_waits, law_patience, law_patience_lasts};
+use ghs_sched::fault::RunFault;
+use ghs_sched::run::{RunEnd, end_of};
+use ghs_sched::schedule::Schedule;
+use ghs_world::world::World;
+use std::alloc::{AllocError, Global};
+
+/// Runs a world on as `ghs_patient` does, and the chains follow. Where memory is wanting the chains are of no use.
+pub(crate) fn run_patient(
+    alloc: Global,
+    world: &mut World,
+    schedule: &mut Schedule,
+    chains: &mut Chains,
+) -> Result<RunEnd, RunFault>
+    requires chains { AreChains world.old.net chains.old }
+    ensures run { HasRun world.old world.new schedule.old schedule.new }
+    ensures short { IsShort world.old world.new }
+    ensures halted { IfOk result (λ e. IsEnd world.new e) }
+    ensures fault { IfErr result (λ f. EndsFor world.new f) }
+    ensures ends { HasTurns world.old → result ≡ Err RunFault.TurnLimit → ⊥ }
+    ensures chains { (result ≡ Err RunFault.Memory → ⊥) → AreChains world.new.net chains.new }
+{
+    law_patience();
+    law_patience_lasts();
+    let _ = world.net().trace();
+    world.recall_all();
+    if world.ended() {
+        return Ok(end_of(world));
+    }
+    let mut choices = match Choices::of(alloc, world) {
+        Ok(choices) => choices,
+        Err(_) => return Err(RunFault::Memory),
+    };
+    'events: while !world.ended() {
+        if !world.has_turn() {
+            let _ = world.turns();
+            return Err(RunFault::TurnLimit);
+        }
+        match make_next(alloc, world, &mut choices, schedule, chains) {
+            Ok(()) => {}
+            Err(_) => return Err(RunFault::Memory),
+        }
+    }
+    Ok(end_of(world))
+}
+
+// The next word picks an event, and it happens. A refusal leaves the world, the choices and the word.
+fn make_next(
+    alloc: Global,
+    world: &mut World,
+    choices: &mut Choices,
+    schedule: &mut Schedule,
+    chains: &mut Chains,
+) -> Result<(), AllocError>
+    requires home { world.old.outs ≡ [] }
+    requires going { HasEnded world.old.net.graph (home world.old) → ⊥ }
+    requires turn { has_turn world.old ≡ true }
+    requires choices { AreChoices world.old choices.old }
+    requires chains { AreChains world.old.net chains.old }
+    ensures ok { OnOk result (HasMadeNext world.old world.new schedule.old schedule.new) }
+    ensures choices { OnOk result (AreChoices world.new choices.new) }
+    ensures chains { OnOk result (AreChains world.new.net chains.new) }
+    ensures err { OnErr result (IsSameWorld world.old world.new) }
+    ensures word { OnErr result (schedule.new ≡ schedule.old) }
+{
+    law_one_waits();
+    law_patience_lasts();
+    let _ = world.net().trace();
+    let _ = world.turns();
+    let mut rest = schedule.copy()?;
+    let event = choices.pick(world, &mut rest);
+    let before = *world.net().node(node_of(event)).head();
+    let delta = world.answer(alloc, event)?;
+    chains.follow(world.net(), event, &delta)?;
+    world.make_answered(event, &delta)?;
+    choices.follow(world, event, &before, &delta);
+    *schedule = rest;
+    Ok(())
+}
