@@ -1,6 +1,7 @@
 -- Serves the proofs: nothing here has to be believed.
 mod Ending
 mod MadeNetworks
+mod Named
 mod Runs
 mod Serves
 mod Stepped
