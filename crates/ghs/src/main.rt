@@ -186,30 +186,35 @@ fn finish<R: Runtime>(rt: &R, result_of_work: Result<(), ServeFault>) -> u8
 fn tell<R: Runtime>(rt: &R, fault: &ServeFault) -> u8
     ensures { result ≡ status_of fault.now }
 {
-    let _ = eprintln!(rt; "ghs: {fault}");
-    fault.status()
+    tell_behind(rt, "", fault)
 }
 
-/// Says what went wrong with a file, which is named in one line, and gives the exit status.
+/// Says what went wrong with a file, which is named, and gives the exit status.
 fn tell_of<R: Runtime>(rt: &R, alloc: Global, name: &str, fault: &ServeFault) -> u8
     ensures { result ≡ status_of fault.now }
 {
-    match in_line(alloc, name) {
-        Ok(name) => {
-            let _ = eprintln!(rt; "ghs: {name}: {fault}");
-            fault.status()
-        }
+    match named(alloc, name) {
+        Ok(front) => tell_behind(rt, front.as_str(), fault),
         Err(_) => tell(rt, fault),
     }
 }
 
-/// A name as a part of a line: `?` stands for each control character.
-fn in_line(alloc: Global, name: &str) -> Result<String, AllocError> {
+/// Says what went wrong behind a front, in one line, and gives the exit status.
+fn tell_behind<R: Runtime>(rt: &R, front: &str, fault: &ServeFault) -> u8
+    ensures { result ≡ status_of fault.now }
+{
+    let _ = eprintln!(rt; "ghs: {front}{fault}");
+    fault.status()
+}
+
+/// A name as the front of a line: `?` stands for each control character.
+fn named(alloc: Global, name: &str) -> Result<String, AllocError> {
     let mut text = String::new(alloc);
     for letter in name.chars() {
         let shown = if letter.is_control() { '?' } else { letter };
         text.push(shown)?;
     }
+    text.push_str(": ")?;
     Ok(text)
 }
 
