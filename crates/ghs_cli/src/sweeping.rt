@@ -116,9 +116,10 @@ fn put_sheet(
     let Seeds { first, last } = options.seeds;
     prove!(first <= last);
     match options.sheet {
-        Sheet::Runs => put_runs(text, options.form, front, setup_of(options), first, runs),
-        Sheet::Summary => put_summary(alloc, text, options.form, front, runs),
+        Sheet::Runs => put_runs(text, options.form, front, setup_of(options), first, runs)?,
+        Sheet::Summary => put_summary(alloc, text, options.form, front, runs)?,
     }
+    Ok(())
 }
 
 /// The figures of the runs of a sweep, batch by batch. Where that is asked for, standard error is told after each batch

@@ -16,13 +16,16 @@ worded name word = member (codes ",") name (quoted word)
 unfoldable pub size_members : Figures → List ℕ
 size_members f = numbered (codes "nodes") f.nodes ++ numbered (codes "links") f.links ++ numbered (codes "events") f.events
 
-unfoldable pub messages_members : Figures → List ℕ
-messages_members f =
+unfoldable pub first_kinds : Figures → List ℕ
+first_kinds f =
     numbered (codes "sent") f.sent
     ++ numbered (codes "connect") (slice_index f.kinds 0)
     ++ numbered (codes "initiate") (slice_index f.kinds 1)
     ++ numbered (codes "test") (slice_index f.kinds 2)
-    ++ numbered (codes "accept") (slice_index f.kinds 3)
+
+unfoldable pub last_kinds : Figures → List ℕ
+last_kinds f =
+    numbered (codes "accept") (slice_index f.kinds 3)
     ++ numbered (codes "reject") (slice_index f.kinds 4)
     ++ numbered (codes "report") (slice_index f.kinds 5)
     ++ numbered (codes "changeroot") (slice_index f.kinds 6)
@@ -43,7 +46,8 @@ json_text seed setup f =
     ++ worded (codes "schedule") (picking_word setup.picking)
     ++ worded (codes "wake") (wake_word setup.wake)
     ++ size_members f
-    ++ messages_members f
+    ++ first_kinds f
+    ++ last_kinds f
     ++ outcome_members f
     ++ worded (codes "end") (end_word f.ended)
     ++ numbered (codes "chain") f.chain

@@ -39,14 +39,17 @@ rising_fields rising =
 unfoldable pub measure_fields : Measure → List ℕ → ℕ → List ℕ
 measure_fields m rising total = name_of m ++ rising_fields rising ++ field total ++ field (fixed_value m) ++ codes "\n"
 
--- what they come to, as members of an object
-unfoldable pub rising_members : List ℕ → List ℕ
-rising_members rising =
+-- what they come to, as members of an object: how many there are, the least, and two percentiles; two more, and the greatest
+unfoldable pub low_members : List ℕ → List ℕ
+low_members rising =
     numbered (codes "runs") (length rising)
     ++ numbered (codes "min") (slice_index rising 0)
     ++ numbered (codes "p25") (percentile 25 rising)
     ++ numbered (codes "p50") (percentile 50 rising)
-    ++ numbered (codes "p75") (percentile 75 rising)
+
+unfoldable pub high_members : List ℕ → List ℕ
+high_members rising =
+    numbered (codes "p75") (percentile 75 rising)
     ++ numbered (codes "p95") (percentile 95 rising)
     ++ numbered (codes "max") (slice_index rising (length rising - 1))
 
@@ -54,7 +57,8 @@ rising_members rising =
 unfoldable pub measure_members : Measure → List ℕ → ℕ → List ℕ
 measure_members m rising total =
     member [] (codes "measure") (quoted (name_of m))
-    ++ rising_members rising
+    ++ low_members rising
+    ++ high_members rising
     ++ numbered (codes "sum") total
     ++ numbered (codes "fixed") (fixed_value m)
     ++ codes "}\n"

@@ -1,5 +1,5 @@
 //! A run's figures as a line of JSON.
-ghost use Rattle.ghs_sweep.specs.JsonLine.{json_text, messages_members, numbered, outcome_members, size_members, worded};
+ghost use Rattle.ghs_sweep.specs.JsonLine.{first_kinds, json_text, last_kinds, numbered, outcome_members, size_members, worded};
 ghost use Rattle.std.specs.Prelude.{◌≡◌, ◌++◌, IfOk};
 
 use crate::figures::Figures;
@@ -22,7 +22,8 @@ pub(crate) fn put_json_line(
     put_worded(text, b"schedule", picking_word(setup.picking))?;
     put_worded(text, b"wake", wake_word(setup.wake))?;
     put_size(text, figures)?;
-    put_messages(text, figures)?;
+    put_first_kinds(text, figures)?;
+    put_last_kinds(text, figures)?;
     put_outcome(text, figures)?;
     put_worded(text, b"end", end_word(figures.ended))?;
     put_numbered(text, b"chain", u128::from(figures.chain))?;
@@ -39,15 +40,22 @@ fn put_size(text: &mut Vec<u8>, figures: &Figures) -> Result<(), AllocError>
     put_numbered(text, b"events", u128::from(figures.events))
 }
 
-// Messages, of all kinds and of each.
-#[tactic(auto, unfolding(crate::specs::JsonLine::messages_members))]
-fn put_messages(text: &mut Vec<u8>, figures: &Figures) -> Result<(), AllocError>
-    ensures { IfOk result (λ _. text.new.items ≡ text.old.items ++ messages_members figures.now) }
+// Messages, of all kinds together and of the first three.
+#[tactic(auto, unfolding(crate::specs::JsonLine::first_kinds))]
+fn put_first_kinds(text: &mut Vec<u8>, figures: &Figures) -> Result<(), AllocError>
+    ensures { IfOk result (λ _. text.new.items ≡ text.old.items ++ first_kinds figures.now) }
 {
     put_numbered(text, b"sent", u128::from(figures.sent))?;
     put_numbered(text, b"connect", u128::from(figures.kinds[0]))?;
     put_numbered(text, b"initiate", u128::from(figures.kinds[1]))?;
-    put_numbered(text, b"test", u128::from(figures.kinds[2]))?;
+    put_numbered(text, b"test", u128::from(figures.kinds[2]))
+}
+
+// Of the last four.
+#[tactic(auto, unfolding(crate::specs::JsonLine::last_kinds))]
+fn put_last_kinds(text: &mut Vec<u8>, figures: &Figures) -> Result<(), AllocError>
+    ensures { IfOk result (λ _. text.new.items ≡ text.old.items ++ last_kinds figures.now) }
+{
     put_numbered(text, b"accept", u128::from(figures.kinds[3]))?;
     put_numbered(text, b"reject", u128::from(figures.kinds[4]))?;
     put_numbered(text, b"report", u128::from(figures.kinds[5]))?;

@@ -1,7 +1,7 @@
 //! What the figures of many runs come to: a line for each measure.
 ghost use Rattle.ghs_sweep.specs.Figures.{HasSmallWeight};
 ghost use Rattle.ghs_sweep.specs.Measure.{value_of};
-ghost use Rattle.ghs_sweep.specs.Summary.{AreMeasureLines, AreSummaryLines, IsMeasureLine, measure_fields, measure_members, measure_text, percentile, rising_fields, rising_members};
+ghost use Rattle.ghs_sweep.specs.Summary.{AreMeasureLines, AreSummaryLines, IsMeasureLine, high_members, low_members, measure_fields, measure_members, measure_text, percentile, rising_fields};
 ghost use Rattle.std.specs.List.{sum};
 ghost use Rattle.std.specs.Prelude.{◌≡◌, ◌++◌, ◌<◌, ◌≤◌, ◌^◌, All, IfOk, List, ℕ, length, map};
 
@@ -125,7 +125,8 @@ fn put_measure_members(
     ensures { IfOk result (λ _. text.new.items ≡ text.old.items ++ measure_members measure rising.now sum) }
 {
     put_word_member(text, b"", b"measure", measure.name())?;
-    put_rising_members(text, rising)?;
+    put_low_members(text, rising)?;
+    put_high_members(text, rising)?;
     put_numbered(text, b"sum", sum)?;
     put_numbered(text, b"fixed", measure.fixed())?;
     text.extend_from_slice(b"}\n")
@@ -174,17 +175,26 @@ fn put_rising(text: &mut Vec<u8>, rising: &[u128]) -> Result<(), AllocError>
     Ok(())
 }
 
-// The same as members of an object.
-#[tactic(auto, unfolding(crate::specs::Summary::rising_members))]
-fn put_rising_members(text: &mut Vec<u8>, rising: &[u128]) -> Result<(), AllocError>
+// As members of an object: how many numbers there are, the least, and two percentiles.
+#[tactic(auto, unfolding(crate::specs::Summary::low_members))]
+fn put_low_members(text: &mut Vec<u8>, rising: &[u128]) -> Result<(), AllocError>
     requires some { 1 ≤ length rising.now }
     requires few { length rising.now ≤ 2 ^ 32 }
-    ensures { IfOk result (λ _. text.new.items ≡ text.old.items ++ rising_members rising.now) }
+    ensures { IfOk result (λ _. text.new.items ≡ text.old.items ++ low_members rising.now) }
 {
     put_numbered(text, b"runs", rising.len() as u128)?;
     put_numbered(text, b"min", rising[0])?;
     put_numbered(text, b"p25", percentile(rising, 25))?;
-    put_numbered(text, b"p50", percentile(rising, 50))?;
+    put_numbered(text, b"p50", percentile(rising, 50))
+}
+
+// Two more percentiles, and the greatest.
+#[tactic(auto, unfolding(crate::specs::Summary::high_members))]
+fn put_high_members(text: &mut Vec<u8>, rising: &[u128]) -> Result<(), AllocError>
+    requires some { 1 ≤ length rising.now }
+    requires few { length rising.now ≤ 2 ^ 32 }
+    ensures { IfOk result (λ _. text.new.items ≡ text.old.items ++ high_members rising.now) }
+{
     put_numbered(text, b"p75", percentile(rising, 75))?;
     put_numbered(text, b"p95", percentile(rising, 95))?;
     put_numbered(text, b"max", rising[rising.len() - 1])
