@@ -4,6 +4,7 @@ mod MadeNetworks
 mod Named
 mod Runs
 mod Serves
+mod Sheets
 mod Stepped
 mod Traces
 mod Views

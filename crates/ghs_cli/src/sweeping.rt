@@ -61,15 +61,22 @@ fn swept<R: Threads + Sync + Eprint>(
     let Ok(graph) = Graph::build(alloc, raw) else {
         return Err(ServeFault::Memory);
     };
+    Ok(swept_text(rt, alloc, options, &graph)?)
+}
+
+/// The text of the sweep of a graph.
+fn swept_text<R: Threads + Sync + Eprint>(
+    rt: &R,
+    alloc: Global,
+    options: &SweepOptions,
+    graph: &Graph,
+) -> Result<Vec<u8>, AllocError>
+    requires { AreSweepLimits options.now }
+    ensures { IfOk result (λ text. IsSwept options.now graph.now text.items) }
+{
     let mut text = Vec::from_slice(alloc, head_of(options.form, options.sheet))?;
-    put_swept(
-        rt,
-        alloc,
-        &mut text,
-        options,
-        bare_front(options.form),
-        &graph,
-    )?;
+    let front = bare_front(options.form);
+    put_swept(rt, alloc, &mut text, options, front, graph)?;
     Ok(text)
 }
 
@@ -116,10 +123,15 @@ fn put_sheet(
     let Seeds { first, last } = options.seeds;
     prove!(first <= last);
     match options.sheet {
-        Sheet::Runs => put_runs(text, options.form, front, setup_of(options), first, runs)?,
-        Sheet::Summary => put_summary(alloc, text, options.form, front, runs)?,
+        Sheet::Runs => {
+            put_runs(text, options.form, front, setup_of(options), first, runs)?;
+            Ok(())
+        }
+        Sheet::Summary => {
+            put_summary(alloc, text, options.form, front, runs)?;
+            Ok(())
+        }
     }
-    Ok(())
 }
 
 /// The figures of the runs of a sweep, batch by batch. Where that is asked for, standard error is told after each batch
