@@ -23,12 +23,11 @@ first_kinds f =
     ++ numbered (codes "initiate") (slice_index f.kinds 1)
     ++ numbered (codes "test") (slice_index f.kinds 2)
 
+unfoldable pub answers : Figures → List ℕ
+answers f = numbered (codes "accept") (slice_index f.kinds 3) ++ numbered (codes "reject") (slice_index f.kinds 4)
+
 unfoldable pub last_kinds : Figures → List ℕ
-last_kinds f =
-    numbered (codes "accept") (slice_index f.kinds 3)
-    ++ numbered (codes "reject") (slice_index f.kinds 4)
-    ++ numbered (codes "report") (slice_index f.kinds 5)
-    ++ numbered (codes "changeroot") (slice_index f.kinds 6)
+last_kinds f = numbered (codes "report") (slice_index f.kinds 5) ++ numbered (codes "changeroot") (slice_index f.kinds 6)
 
 unfoldable pub outcome_members : Figures → List ℕ
 outcome_members f =
@@ -47,6 +46,7 @@ json_text seed setup f =
     ++ worded (codes "wake") (wake_word setup.wake)
     ++ size_members f
     ++ first_kinds f
+    ++ answers f
     ++ last_kinds f
     ++ outcome_members f
     ++ worded (codes "end") (end_word f.ended)

@@ -1,5 +1,5 @@
 //! A run's figures as a line of JSON.
-ghost use Rattle.ghs_sweep.specs.JsonLine.{first_kinds, json_text, last_kinds, numbered, outcome_members, size_members, worded};
+ghost use Rattle.ghs_sweep.specs.JsonLine.{answers, first_kinds, json_text, last_kinds, numbered, outcome_members, size_members, worded};
 ghost use Rattle.std.specs.Prelude.{◌≡◌, ◌++◌, IfOk};
 
 use crate::figures::Figures;
@@ -23,6 +23,7 @@ pub(crate) fn put_json_line(
     put_worded(text, b"wake", wake_word(setup.wake))?;
     put_size(text, figures)?;
     put_first_kinds(text, figures)?;
+    put_answers(text, figures)?;
     put_last_kinds(text, figures)?;
     put_outcome(text, figures)?;
     put_worded(text, b"end", end_word(figures.ended))?;
@@ -51,13 +52,20 @@ fn put_first_kinds(text: &mut Vec<u8>, figures: &Figures) -> Result<(), AllocErr
     put_numbered(text, b"test", u128::from(figures.kinds[2]))
 }
 
-// Of the last four.
+// Answers to tests.
+#[tactic(auto, unfolding(crate::specs::JsonLine::answers))]
+fn put_answers(text: &mut Vec<u8>, figures: &Figures) -> Result<(), AllocError>
+    ensures { IfOk result (λ _. text.new.items ≡ text.old.items ++ answers figures.now) }
+{
+    put_numbered(text, b"accept", u128::from(figures.kinds[3]))?;
+    put_numbered(text, b"reject", u128::from(figures.kinds[4]))
+}
+
+// The last two kinds.
 #[tactic(auto, unfolding(crate::specs::JsonLine::last_kinds))]
 fn put_last_kinds(text: &mut Vec<u8>, figures: &Figures) -> Result<(), AllocError>
     ensures { IfOk result (λ _. text.new.items ≡ text.old.items ++ last_kinds figures.now) }
 {
-    put_numbered(text, b"accept", u128::from(figures.kinds[3]))?;
-    put_numbered(text, b"reject", u128::from(figures.kinds[4]))?;
     put_numbered(text, b"report", u128::from(figures.kinds[5]))?;
     put_numbered(text, b"changeroot", u128::from(figures.kinds[6]))
 }
