@@ -1,5 +1,5 @@
 -- Lines of networks, one's behind another's.
-use Rattle.std.proofs.Common.{◌≡◌, ◌++◌, ◌+◌, ◌<◌, ◌∙◌, List, ℕ, Option, Ok, Err, ap, append_assoc, length, subst, sym, take}
+use Rattle.std.proofs.Common.{◌≡◌, ◌++◌, ◌+◌, ◌<◌, ◌∙◌, List, ℕ, Option, Ok, Err, ap, append_assoc, length, refl, subst, sym, take}
 use Rattle.std.specs.Prelude.{Result}
 use Rattle.std.specs.List.{slice_index_or}
 use Rattle.std.proofs.lemmas.List.{take_more}
@@ -62,3 +62,9 @@ pub swept_part : (o : SweepOptions) (ns : List Network) (bytes output : List ℕ
     HasSwept o ns old new r
 swept_part o ns bytes output old new r written same is less has text =
     rw is (output, text, subst (λ (b : List ℕ). written < length b) same less, subst (λ (b : List ℕ). HasWritten old new b written) same has)
+
+-- where memory was wanting nothing was written
+pub swept_none : (o : SweepOptions) (ns : List Network) (old : Option (List ℕ)) (r : Result (Unit {0}) ServeFault) →
+    r ≡ Err serve.Memory →
+    HasSwept o ns old old r
+swept_none o ns old r is = rw is refl

@@ -7,7 +7,7 @@ ghost use Rattle.std.specs.Prelude.{◌≡◌, ◌++◌, ◌↔◌, List, ℕ, f
 
 use crate::fault::ServeFault;
 use crate::progress::tell_networks;
-use crate::sweeping::{head_of, put_swept};
+use crate::sweeping::{built, head_of, put_swept};
 use ghs_gr::device::{Sink, Source};
 use ghs_gr::judgement::read_gr;
 use ghs_graph::graph::Graph;
@@ -38,9 +38,7 @@ pub fn read_network<S: Source>(
     ensures read { IsErrOf result ServeFault.Read ↔ (S.has_failed source.new ≡ true) }
 {
     let raw = read_gr(alloc, source)?;
-    let Ok(graph) = Graph::build(alloc, raw) else {
-        return Err(ServeFault::Memory);
-    };
+    let graph = built(alloc, raw)?;
     let name = String::from_str(alloc, name)?;
     Ok(Network { name, graph })
 }
@@ -95,11 +93,16 @@ fn put_networks<H: Threads + Sync + Eprint>(
 {
     for (place, network) in networks.iter().enumerate() {
         put_network(rt, alloc, text, options, network)?;
-        if options.progress && place + 1 < networks.len() {
-            tell_networks(rt, place + 1, networks.len());
-        }
+        tell(rt, options, place + 1, networks.len());
     }
     Ok(())
+}
+
+/// Tells that so many of the networks have been swept, where that is asked for and there are more.
+fn tell<H: Eprint>(rt: &H, options: &SweepOptions, done: usize, count: usize) {
+    if options.progress && done < count {
+        tell_networks(rt, done, count);
+    }
 }
 
 /// The name of the column of names, and a comma; lines of JSON say it with each name.
@@ -124,5 +127,6 @@ fn put_network<H: Threads + Sync + Eprint>(
     ensures { IfOk result (λ _. (lines : List ℕ) × AreLinesOf options.now network.now lines × (text.new.items ≡ text.old.items ++ lines)) }
 {
     let front = front_of(alloc, options.form, network.name.as_str())?;
-    put_swept(rt, alloc, text, options, &front, &network.graph)
+    put_swept(rt, alloc, text, options, &front, &network.graph)?;
+    Ok(())
 }

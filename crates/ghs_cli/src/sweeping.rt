@@ -58,10 +58,19 @@ fn swept<R: Threads + Sync + Eprint>(
     ensures text { IfOk result (λ text. IsSwept options.now (shape_of raw) text.items) }
     ensures err { IfErr result (λ fault. fault ≡ ServeFault.Memory) }
 {
-    let Ok(graph) = Graph::build(alloc, raw) else {
-        return Err(ServeFault::Memory);
-    };
+    let graph = built(alloc, raw)?;
     Ok(swept_text(rt, alloc, options, &graph)?)
+}
+
+/// A graph, built of what was read.
+pub(crate) fn built(alloc: Global, raw: RawGraph) -> Result<Graph, ServeFault>
+    ensures graph { IfOk result (λ graph. graph ≡ shape_of raw) }
+    ensures err { IfErr result (λ fault. fault ≡ ServeFault.Memory) }
+{
+    match Graph::build(alloc, raw) {
+        Ok(graph) => Ok(graph),
+        Err(_) => Err(ServeFault::Memory),
+    }
 }
 
 /// The text of the sweep of a graph.
@@ -104,7 +113,8 @@ pub(crate) fn put_swept<R: Threads + Sync + Eprint>(
     ensures { IfOk result (λ _. (lines : List ℕ) × AreSweptLines options.now front.now graph.now lines × (text.new.items ≡ text.old.items ++ lines)) }
 {
     let runs = runs_of(rt, alloc, graph, options)?;
-    put_sheet(alloc, text, options, front, &runs)
+    put_sheet(alloc, text, options, front, &runs)?;
+    Ok(())
 }
 
 /// Puts what is printed of the runs of a sweep behind a text, each line behind the same front.

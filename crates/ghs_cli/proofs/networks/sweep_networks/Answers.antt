@@ -1,7 +1,10 @@
 use Rattle.std.proofs.Common.{◌≡◌, Err, rules}
 use Rattle.ghs_cli.specs.declared.fault.ServeFault.TheVariants as serve
-use Rattle.ghs_cli.proofs.Named.{swept_all, swept_part}
+use Rattle.ghs_cli.proofs.Named.{swept_all, swept_none, swept_part}
 use Rattle.ghs_cli.proofs.networks.sweep_networks.Goals as goal
+
+pub returns-in_err-text-clause-swept : goal.returns-in_err-text-clause-swept
+returns-in_err-text-clause-swept g c = swept_none c.args.options.now c.args.networks.now (g.W.Sink.held c.args.out.now) c.from_residual.result (search rules)
 
 pub returns-in_err-write_out-clause-swept : goal.returns-in_err-write_out-clause-swept
 returns-in_err-write_out-clause-swept g c =
