@@ -3,14 +3,14 @@ ghost use Rattle.ghs_words.specs.declared.job.JobFault.TheVariants.{Memory};
 ghost use Rattle.ghs_words.specs.Grammar.{program};
 ghost use Rattle.ghs_words.specs.Job.{AreNetworks, AreOptions, IsAsked, kind_in, links_in, weights_in, AreStepsOptions, AreSweepLimits, AreSweepOptions, AreWithinLimits, command_in, has_values, first_seed_in, kinds_of, name_in, node_in, number_at, option_kinds, pair_in, second_seed_in, seeds_at, value_in, with_name, IsForm, IsPicking, IsRefused, IsSaid, IsSaidOf, IsSheet, IsShow, IsTask, IsWake, IsWithinLimits, AreStoredViewOptions, AreViewLimits, AreViewOptions};
 ghost use Rattle.ghs_words.specs.Values.{AreSeeds, are_apart, are_weights, is_among, is_kind, is_number, is_range};
-ghost use Rattle.ghs_words.specs.Networks.{are_read_once, files_in};
+ghost use Rattle.ghs_words.specs.Networks.{are_read_once, values_in};
 ghost use Rattle.ghs_words.specs.TwoSeeds.{are_two};
 ghost use Rattle.clap.specs.Words.{kind_of, subcommand_rows_of};
 ghost use Rattle.std.specs.Option.{option_map};
 ghost use Rattle.std.specs.Prelude.{◌≡◌, ◌≤◌, ◌↔◌, ◌∷◌, [], IfErr, IfOk, IfSome, OnErr, OnOk, Some, codes, false, map, string_bytes, true};
 
 use crate::grammar::program;
-use crate::networks::{are_read_once, files_of, input_twice, named_of};
+use crate::networks::{are_read_once, input_twice, named_of, values_of};
 use crate::two_seeds::{TwoSeeds, are_two, no_two_seeds, two_seeds_in};
 use crate::values::{
     Seeds, are_apart, are_weights, is_among, is_kind, is_number, is_range, is_text, no_kind,
@@ -245,7 +245,7 @@ fn networks_of<'a>(alloc: Global, matches: &ArgMatches<'a>) -> Result<Vec<String
     ensures { IfOk result (λ names. AreNetworks (subcommand_rows_of matches.now) (map string_bytes names.items)) }
 {
     let asked = is_text(value_of(matches, "names"), "true");
-    named_of(alloc, asked, files_of(matches))
+    Ok(named_of(alloc, asked, values_of(matches, "FILE"))?)
 }
 
 /// Whether each option has a value that it may have, and standard input isn't read twice; what is said of the first that hasn't.
@@ -412,11 +412,11 @@ fn check_inputs<'a>(alloc: Global, matches: &ArgMatches<'a>) -> Result<(), JobFa
 
 /// Whether one of the graphs at most is to be standard input.
 fn check_files<'a>(alloc: Global, matches: &ArgMatches<'a>) -> Result<(), JobFault>
-    ensures ok { OnOk result (are_read_once (files_in (subcommand_rows_of matches.now)) ≡ true) }
-    ensures err { OnErr result (are_read_once (files_in (subcommand_rows_of matches.now)) ≡ false) }
+    ensures ok { OnOk result (are_read_once (values_in (codes "FILE") (subcommand_rows_of matches.now)) ≡ true) }
+    ensures err { OnErr result (are_read_once (values_in (codes "FILE") (subcommand_rows_of matches.now)) ≡ false) }
     ensures fault { IfErr result IsRefused }
 {
-    if are_read_once(files_of(matches)) {
+    if are_read_once(values_of(matches, "FILE")) {
         Ok(())
     } else {
         Err(input_twice(alloc))

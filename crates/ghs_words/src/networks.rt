@@ -1,30 +1,39 @@
 //! The networks of a sweep.
 ghost use Rattle.clap.specs.Words.{subcommand_rows_of};
 ghost use Rattle.ghs_words.specs.Job.{IsRefused};
-ghost use Rattle.ghs_words.specs.Networks.{are_read_once, files_in, named_of, or_input};
-ghost use Rattle.std.specs.Prelude.{◌≡◌, IfOk, map, string_bytes};
+ghost use Rattle.ghs_words.specs.Networks.{are_read_once, named_of, values_in};
+ghost use Rattle.ghs_words.specs.Values.{is_dash};
+ghost use Rattle.std.specs.Option.{option_map};
+ghost use Rattle.std.specs.Prelude.{◌≡◌, IfOk, count_by, map, string_bytes};
 
 use crate::job::JobFault;
 use crate::values::is_dash;
 use clap::ArgMatches;
 use std::alloc::{AllocError, Global};
 
-/// The files that a command names.
-pub(crate) fn files_of<'b, 'a>(matches: &'b ArgMatches<'a>) -> &'b [&'a str]
-    ensures { map (λ t. t.now) result.now ≡ files_in (subcommand_rows_of matches.now) }
+/// The values that an argument of the command has.
+pub(crate) fn values_of<'b, 'a>(matches: &'b ArgMatches<'a>, id: &str) -> Option<&'b [&'a str]>
+    ensures { option_map (λ s. map (λ t. t.now) s.now) result ≡ values_in id.now (subcommand_rows_of matches.now) }
 {
-    let Some((_, command)) = matches.subcommand() else {
-        return &[];
-    };
-    match command.get_raw("FILE") {
-        Some(files) => files,
-        None => &[],
+    match matches.subcommand() {
+        Some((_, command)) => command.get_raw(id),
+        None => None,
     }
 }
 
 /// Whether one of the files at most is standard input.
-pub(crate) fn are_read_once(files: &[&str]) -> bool
-    ensures { result ≡ are_read_once (map (λ t. t.now) files.now) }
+pub(crate) fn are_read_once(files: Option<&[&str]>) -> bool
+    ensures { result ≡ are_read_once (option_map (λ s. map (λ t. t.now) s.now) files.entry) }
+{
+    match files {
+        Some(files) => dashes_among(files) <= 1,
+        None => true,
+    }
+}
+
+/// How many of the files are standard input.
+fn dashes_among(files: &[&str]) -> usize
+    ensures { result ≡ count_by is_dash (map (λ t. t.now) files.now) }
 {
     let mut dashes = 0usize;
     for file in files {
@@ -32,32 +41,23 @@ pub(crate) fn are_read_once(files: &[&str]) -> bool
             dashes += 1;
         }
     }
-    dashes <= 1
+    dashes
 }
 
-/// The networks whose lines begin with names: all, where several are named or names are asked for, and else none.
+/// The networks whose lines begin with names: all, or standard input where no file is named, where names are asked for;
+/// without that none, but for several files.
 pub(crate) fn named_of(
     alloc: Global,
     asked: bool,
-    files: &[&str],
+    files: Option<&[&str]>,
 ) -> Result<Vec<String>, AllocError>
-    ensures { IfOk result (λ names. map string_bytes names.items ≡ named_of asked (map (λ t. t.now) files.now)) }
+    ensures { IfOk result (λ names. map string_bytes names.items ≡ named_of asked (option_map (λ s. map (λ t. t.now) s.now) files.entry)) }
 {
-    if asked || files.len() >= 2 {
-        or_input(alloc, files)
-    } else {
-        Ok(Vec::new(alloc))
+    match files {
+        Some(files) if asked || files.len() >= 2 => Ok(all_of(alloc, files)?),
+        None if asked => Ok(all_of(alloc, &["-"])?),
+        _ => Ok(Vec::new(alloc)),
     }
-}
-
-/// The files, or standard input where none is named.
-fn or_input(alloc: Global, files: &[&str]) -> Result<Vec<String>, AllocError>
-    ensures { IfOk result (λ names. map string_bytes names.items ≡ or_input (map (λ t. t.now) files.now)) }
-{
-    if files.is_empty() {
-        return all_of(alloc, &["-"]);
-    }
-    all_of(alloc, files)
 }
 
 /// Texts, as ones that last.
