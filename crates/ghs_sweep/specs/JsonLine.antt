@@ -38,17 +38,18 @@ outcome_members f =
     ++ numbered (codes "fragments") f.fragments
     ++ numbered (codes "weight") f.weight
 
--- what stands in the object behind its front: seed, schedule, wake set, figures, how the run ended, and its chain
+-- seed, schedule and wake set
+unfoldable pub head_members : ℕ → Setup → List ℕ
+head_members seed setup =
+    member [] (codes "seed") (decimal seed) ++ worded (codes "schedule") (picking_word setup.picking) ++ worded (codes "wake") (wake_word setup.wake)
+
+unfoldable pub messages_members : Figures → List ℕ
+messages_members f = first_kinds f ++ answers f ++ last_kinds f
+
+-- how the run ended, and its chain; and the object's end
+unfoldable pub end_members : Figures → List ℕ
+end_members f = worded (codes "end") (end_word f.ended) ++ numbered (codes "chain") f.chain ++ codes "}\n"
+
+-- what stands in the object behind its front
 unfoldable pub json_text : ℕ → Setup → Figures → List ℕ
-json_text seed setup f =
-    member [] (codes "seed") (decimal seed)
-    ++ worded (codes "schedule") (picking_word setup.picking)
-    ++ worded (codes "wake") (wake_word setup.wake)
-    ++ size_members f
-    ++ first_kinds f
-    ++ answers f
-    ++ last_kinds f
-    ++ outcome_members f
-    ++ worded (codes "end") (end_word f.ended)
-    ++ numbered (codes "chain") f.chain
-    ++ codes "}\n"
+json_text seed setup f = head_members seed setup ++ size_members f ++ messages_members f ++ outcome_members f ++ end_members f

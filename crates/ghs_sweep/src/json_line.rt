@@ -1,5 +1,5 @@
 //! A run's figures as a line of JSON.
-ghost use Rattle.ghs_sweep.specs.JsonLine.{answers, first_kinds, json_text, last_kinds, numbered, outcome_members, size_members, worded};
+ghost use Rattle.ghs_sweep.specs.JsonLine.{answers, end_members, first_kinds, head_members, json_text, last_kinds, messages_members, numbered, outcome_members, size_members, worded};
 ghost use Rattle.std.specs.Prelude.{◌≡◌, ◌++◌, IfOk};
 
 use crate::figures::Figures;
@@ -18,17 +18,41 @@ pub(crate) fn put_json_line(
 ) -> Result<(), AllocError>
     ensures { IfOk result (λ _. text.new.items ≡ text.old.items ++ json_text seed setup figures.now) }
 {
+    put_head(text, seed, setup)?;
+    put_size(text, figures)?;
+    put_messages(text, figures)?;
+    put_outcome(text, figures)?;
+    put_end(text, figures)
+}
+
+// Seed, schedule and wake set.
+#[tactic(auto, unfolding(crate::specs::JsonLine::head_members))]
+fn put_head(text: &mut Vec<u8>, seed: u64, setup: Setup) -> Result<(), AllocError>
+    ensures { IfOk result (λ _. text.new.items ≡ text.old.items ++ head_members seed setup) }
+{
     put_number_member(text, b"", b"seed", u128::from(seed))?;
     put_worded(text, b"schedule", picking_word(setup.picking))?;
-    put_worded(text, b"wake", wake_word(setup.wake))?;
-    put_size(text, figures)?;
-    put_first_kinds(text, figures)?;
-    put_answers(text, figures)?;
-    put_last_kinds(text, figures)?;
-    put_outcome(text, figures)?;
+    put_worded(text, b"wake", wake_word(setup.wake))
+}
+
+// How the run ended, and its chain; and the object's end.
+#[tactic(auto, unfolding(crate::specs::JsonLine::end_members))]
+fn put_end(text: &mut Vec<u8>, figures: &Figures) -> Result<(), AllocError>
+    ensures { IfOk result (λ _. text.new.items ≡ text.old.items ++ end_members figures.now) }
+{
     put_worded(text, b"end", end_word(figures.ended))?;
     put_numbered(text, b"chain", u128::from(figures.chain))?;
     text.extend_from_slice(b"}\n")
+}
+
+// Messages, of all kinds and of each.
+#[tactic(auto, unfolding(crate::specs::JsonLine::messages_members))]
+fn put_messages(text: &mut Vec<u8>, figures: &Figures) -> Result<(), AllocError>
+    ensures { IfOk result (λ _. text.new.items ≡ text.old.items ++ messages_members figures.now) }
+{
+    put_first_kinds(text, figures)?;
+    put_answers(text, figures)?;
+    put_last_kinds(text, figures)
 }
 
 // What doesn't change from seed to seed, and the events.
