@@ -107,12 +107,15 @@ steps_command =
     let stored = with_rule (with_rule (with_rule (new_app (codes "steps")) trace_rule) file_rule) wake_rule in
     with_rule (with_rule (with_rule (with_rule stored from_rule) to_rule) node_rule) json_rule
 
--- `sweep [FILE ..] --seeds FIRST..LAST [--schedule seeded|patient|rounds] [--workers W] [--wake all|first] [--turns T] [--print runs|summary] [--names] [--json] [--progress]`
-abbrev pub sweep_command : App
-sweep_command =
+-- `sweep [FILE ..] --seeds FIRST..LAST [--schedule seeded|patient|rounds] [--workers W] [--wake all|first] [--turns T]`, and how it is printed:
+-- `[--print runs|summary] [--names] [--json] [--progress]`
+abbrev pub swept_command : App
+swept_command =
     let named = with_rule (with_rule (new_app (codes "sweep")) files_rule) seeds_rule in
-    let picked = with_rule (with_rule (with_rule (with_rule named schedule_rule) workers_rule) wake_rule) turns_rule in
-    with_rule (with_rule (with_rule (with_rule picked sheet_rule) names_rule) json_rule) progress_rule
+    with_rule (with_rule (with_rule (with_rule named schedule_rule) workers_rule) wake_rule) turns_rule
+
+abbrev pub sweep_command : App
+sweep_command = with_rule (with_rule (with_rule (with_rule swept_command sheet_rule) names_rule) json_rule) progress_rule
 
 -- `view [FILE] [--seed S] [--seeds FIRST,SECOND] [--schedule seeded|patient|rounds] [--wake all|first] [--turns T] [--trace TRACE] [--from A] [--to B]`
 abbrev pub view_command : App
