@@ -8,3 +8,7 @@ use Rattle.ghs_words.specs.Job.{IsRequest}
 pub record IsStatusOf (kinds : Kinds) (status : ℕ) : Type 0 where
   pub refused : status ≡ 2 → (k : ErrorKind) × IsAmong k kinds × (IsRequest k → ⊥)
   pub done : status ≡ 0 → (kinds ≡ []) ⊎ ((k : ErrorKind) × IsAmong k kinds × IsRequest k)
+
+-- words that are taken never end with the status of those that are refused
+abbrev pub IsStatusOfWork : ℕ → Type 0
+IsStatusOfWork status = status ≢ 2

@@ -1,18 +1,19 @@
 //! The program `ghs`: it opens files and prints faults, and leaves the work to `ghs_cli`.
 #![tactic(auto)]
 
-ghost use Rattle.ghs.specs.Status.{IsStatusOf};
+ghost use Rattle.ghs.specs.Status.{IsStatusOf, IsStatusOfWork};
 ghost use Rattle.ghs_cli.specs.Fault.{status_of};
-ghost use Rattle.ghs_words.specs.Job.{IsWithinLimits, kinds_of};
+ghost use Rattle.ghs_words.specs.Job.{AreSweepLimits, IsWithinLimits, kinds_of};
 ghost use Rattle.std.specs.Prelude.{◌≡◌, MatchResult, false, map, string_bytes};
 
 use ghs_cli::fault::ServeFault;
+use ghs_cli::networks::{Network, read_network, sweep_networks};
 use ghs_cli::serve::serve;
 use ghs_gr::device::{Device, Source};
 use ghs_report::write_out::write_out;
-use ghs_words::job::{Job, JobFault, read_job};
+use ghs_words::job::{Job, JobFault, SweepOptions, Task, read_job};
 use ghs_words::values::is_dash;
-use std::alloc::Global;
+use std::alloc::{AllocError, Global};
 use std::fs::File;
 use std::process::ExitCode;
 use std::rt::Runtime;
@@ -52,10 +53,62 @@ fn answer<R: Runtime + AllocGlobal + Threads + Wait + Sync>(
     ensures { IsStatusOf (kinds_of (map string_bytes words.now)) result }
 {
     match read_job(alloc, words) {
-        Ok(job) => finish(rt, work(rt, alloc, &job)),
+        Ok(job) => fulfil(rt, alloc, &job),
         Err(JobFault::Help(text)) => finish(rt, help(rt, &text)),
         Err(JobFault::Refused(text)) => refuse(rt, &text),
         Err(JobFault::Memory) => tell(rt, &ServeFault::Memory),
+    }
+}
+
+/// Does the job, and gives the exit status. A sweep whose lines begin with names is one of networks.
+fn fulfil<R: Runtime + AllocGlobal + Threads + Wait + Sync>(rt: &R, alloc: Global, job: &Job) -> u8
+    requires { IsWithinLimits job.now.task }
+    ensures { IsStatusOfWork result }
+{
+    match &job.task {
+        Task::Sweep(options) if !job.networks.is_empty() => {
+            sweep(rt, alloc, options, &job.networks)
+        }
+        _ => finish(rt, work(rt, alloc, job)),
+    }
+}
+
+/// Reads the networks, sweeps them, and gives the exit status. The first that is refused is named, and nothing is run.
+fn sweep<R: Runtime + AllocGlobal + Threads + Sync>(
+    rt: &R,
+    alloc: Global,
+    options: &SweepOptions,
+    names: &[String],
+) -> u8
+    requires { AreSweepLimits options.now }
+    ensures { IsStatusOfWork result }
+{
+    let mut networks = Vec::new(alloc);
+    for name in names {
+        match network_of(rt, alloc, name.as_str()) {
+            Ok(network) => match networks.push(network) {
+                Ok(()) => {}
+                Err(_) => return tell(rt, &ServeFault::Memory),
+            },
+            Err(fault) => return tell_of(rt, alloc, name.as_str(), &fault),
+        }
+    }
+    let mut out = Device::of(io::writer(rt));
+    finish(rt, sweep_networks(rt, alloc, options, &networks, &mut out))
+}
+
+/// Opens a network's file and reads it; `-` is standard input. A file that can't be opened can't be read.
+fn network_of<R: Runtime + AllocGlobal>(
+    rt: &R,
+    alloc: Global,
+    name: &str,
+) -> Result<Network, ServeFault> {
+    if is_dash(name) {
+        return read_network(alloc, name, &mut Device::of(rt.reader()));
+    }
+    match File::open(rt, name) {
+        Ok(file) => read_network(alloc, name, &mut Device::of(file)),
+        Err(_) => Err(ServeFault::Read),
     }
 }
 
@@ -133,8 +186,36 @@ fn finish<R: Runtime>(rt: &R, result_of_work: Result<(), ServeFault>) -> u8
 fn tell<R: Runtime>(rt: &R, fault: &ServeFault) -> u8
     ensures { result ≡ status_of fault.now }
 {
-    let _ = eprintln!(rt; "ghs: {fault}");
+    tell_behind(rt, "", fault)
+}
+
+/// Says what went wrong with a file, which is named, and gives the exit status.
+fn tell_of<R: Runtime>(rt: &R, alloc: Global, name: &str, fault: &ServeFault) -> u8
+    ensures { result ≡ status_of fault.now }
+{
+    match named(alloc, name) {
+        Ok(front) => tell_behind(rt, front.as_str(), fault),
+        Err(_) => tell(rt, fault),
+    }
+}
+
+/// Says what went wrong behind a front, in one line, and gives the exit status.
+fn tell_behind<R: Runtime>(rt: &R, front: &str, fault: &ServeFault) -> u8
+    ensures { result ≡ status_of fault.now }
+{
+    let _ = eprintln!(rt; "ghs: {front}{fault}");
     fault.status()
+}
+
+/// A name as the front of a line: `?` stands for each control character.
+fn named(alloc: Global, name: &str) -> Result<String, AllocError> {
+    let mut text = String::new(alloc);
+    for letter in name.chars() {
+        let shown = if letter.is_control() { '?' } else { letter };
+        text.push(shown)?;
+    }
+    text.push_str(": ")?;
+    Ok(text)
 }
 
 /// Says why the command line is refused, and gives the exit status.

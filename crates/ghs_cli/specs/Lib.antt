@@ -1,6 +1,7 @@
 -- To be believed: contracts cite what stands here, and what it is made of.
 pub mod Ending
 pub mod Fault
+pub mod Networks
 pub mod Running
 pub mod Serving
 pub mod Sweeping

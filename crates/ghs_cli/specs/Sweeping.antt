@@ -1,10 +1,15 @@
 -- Sweeps of a graph.
-use Rattle.std.specs.Prelude.{◌≡◌, ℕ, ◌+◌, ◌-◌, List, length}
+use Rattle.std.specs.Prelude.{◌≡◌, ℕ, ◌+◌, ◌-◌, List, [], ◌++◌, length}
 use Rattle.ghs_graph.specs.Graph.{Shape}
+use Rattle.ghs_steps.specs.declared.form.Form.{Form}
+use Rattle.ghs_steps.specs.declared.form.Form.TheVariants.{Text, Json}
 use Rattle.ghs_sweep.specs.declared.figures.Figures.{Figures}
+use Rattle.ghs_sweep.specs.declared.line.TheConstants.{HEAD_LINE}
 use Rattle.ghs_sweep.specs.declared.seeded.Setup.{Setup}
-use Rattle.ghs_sweep.specs.Line.{runs_text}
-use Rattle.ghs_sweep.specs.Summary.{IsSummary}
+use Rattle.ghs_sweep.specs.declared.summary.TheConstants.{SUMMARY_HEAD}
+use Rattle.ghs_sweep.specs.Front.{bare_front}
+use Rattle.ghs_sweep.specs.Lines.{line_behind, run_lines}
+use Rattle.ghs_sweep.specs.Summary.{AreSummaryLines}
 use Rattle.ghs_sweep.specs.Sweep.{AreRuns}
 use Rattle.ghs_words.specs.declared.job.Sheet.{Sheet}
 use Rattle.ghs_words.specs.declared.job.Sheet.TheVariants.{Runs, Summary}
@@ -18,14 +23,26 @@ setup_of o = record { picking = o.picking; wake = o.wake; turns = o.turns }
 abbrev pub count_of : SweepOptions → ℕ
 count_of o = o.seeds.last - o.seeds.first + 1
 
--- what is printed of runs whose seeds rise from the first on: a line for each of them, or their summary
-abbrev pub IsSheetText : Sheet → Setup → ℕ → List Figures → List ℕ → Type 0
-IsSheetText Runs setup first runs text = text ≡ runs_text setup first runs
-IsSheetText Summary setup first runs text = IsSummary runs text
+-- the names of the columns; lines of JSON say them with each value
+abbrev pub head_of : Form → Sheet → List ℕ
+head_of Text Runs = HEAD_LINE.now
+head_of Text Summary = SUMMARY_HEAD.now
+head_of Json sheet = []
 
--- the text of the sweep that options ask for, printed of the runs of just its seeds
-pub record IsSwept (o : SweepOptions) (g : Shape) (text : List ℕ) : Type 0 where
+-- what is printed of runs whose seeds rise from the first on: a line for each of them, or their summary, each line behind a front
+abbrev pub AreSheetLines : Sheet → Form → List ℕ → Setup → ℕ → List Figures → List ℕ → Type 0
+AreSheetLines Runs form front setup first runs lines = lines ≡ run_lines (line_behind form front setup) first runs
+AreSheetLines Summary form front setup first runs lines = AreSummaryLines form front runs lines
+
+-- the lines of the sweep of a graph, printed of the runs of just its seeds, each behind a front
+pub record AreSweptLines (o : SweepOptions) (front : List ℕ) (g : Shape) (lines : List ℕ) : Type 0 where
   pub runs : List Figures
   pub are : AreRuns g (setup_of o) o.seeds.first runs
   pub all : length runs ≡ count_of o
-  pub printed : IsSheetText o.sheet (setup_of o) o.seeds.first runs text
+  pub printed : AreSheetLines o.sheet o.form front (setup_of o) o.seeds.first runs lines
+
+-- the text of the sweep that options ask for
+pub record IsSwept (o : SweepOptions) (g : Shape) (text : List ℕ) : Type 0 where
+  pub lines : List ℕ
+  pub are : AreSweptLines o (bare_front o.form) g lines
+  pub printed : text ≡ head_of o.form o.sheet ++ lines

@@ -4,6 +4,7 @@
 mod beside;
 pub mod fault;
 mod making;
+pub mod networks;
 mod output;
 mod progress;
 mod replaying;

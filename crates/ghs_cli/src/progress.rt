@@ -127,3 +127,8 @@ pub(crate) fn tell_end<R: Eprint>(rt: &R, end: Progress) {
 pub(crate) fn tell_seeds<R: Eprint>(rt: &R, done: u64, count: u64) {
     let _ = eprintln!(rt; "{done} of {count} seeds");
 }
+
+/// Writes how many of the networks of a sweep have been swept.
+pub(crate) fn tell_networks<R: Eprint>(rt: &R, done: usize, count: usize) {
+    let _ = eprintln!(rt; "{done} of {count} graphs");
+}

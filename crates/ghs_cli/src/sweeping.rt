@@ -1,11 +1,11 @@
 //! Sweeps: the figures of many seeds' runs, or what they come to.
 ghost use Rattle.ghs_words.specs.Job.{AreSweepLimits};
 ghost use Rattle.ghs_cli.specs.Serving.{IsGraphCause, IsSweepOutput, is_write, shape_of};
-ghost use Rattle.ghs_cli.specs.Sweeping.{IsSheetText, IsSwept, count_of, setup_of};
+ghost use Rattle.ghs_cli.specs.Sweeping.{AreSheetLines, AreSweptLines, IsSwept, count_of, head_of, setup_of};
 ghost use Rattle.ghs_sweep.specs.Figures.{HasSmallWeight};
 ghost use Rattle.ghs_sweep.specs.Sweep.{AreRuns};
 ghost use Rattle.ghs_cli.specs.declared.fault.ServeFault.{ServeFault};
-ghost use Rattle.std.specs.Prelude.{◌≡◌, ◌≤◌, ◌↔◌, All, false, length, true, IfErr, IfOk, IfSome, IsErrOf};
+ghost use Rattle.std.specs.Prelude.{◌≡◌, ◌≤◌, ◌++◌, ◌↔◌, All, List, ℕ, false, length, true, IfErr, IfOk, IfSome, IsErrOf};
 
 use crate::fault::ServeFault;
 use crate::progress::tell_seeds;
@@ -13,11 +13,14 @@ use ghs_gr::device::Source;
 use ghs_gr::judgement::read_gr;
 use ghs_gr::raw_graph::RawGraph;
 use ghs_graph::graph::Graph;
+use ghs_steps::form::Form;
 use ghs_sweep::figures::Figures;
-use ghs_sweep::line::runs_text;
+use ghs_sweep::front::bare_front;
+use ghs_sweep::line::HEAD_LINE;
+use ghs_sweep::lines::put_runs;
 use ghs_sweep::runs::run_on;
 use ghs_sweep::seeded::Setup;
-use ghs_sweep::summary::summary_text;
+use ghs_sweep::summary::{SUMMARY_HEAD, put_summary};
 use ghs_words::job::{Sheet, SweepOptions};
 use ghs_words::values::Seeds;
 use std::alloc::{AllocError, Global};
@@ -55,25 +58,89 @@ fn swept<R: Threads + Sync + Eprint>(
     ensures text { IfOk result (λ text. IsSwept options.now (shape_of raw) text.items) }
     ensures err { IfErr result (λ fault. fault ≡ ServeFault.Memory) }
 {
-    let Ok(graph) = Graph::build(alloc, raw) else {
-        return Err(ServeFault::Memory);
-    };
-    let runs = runs_of(rt, alloc, &graph, options)?;
-    Ok(sheet_of(alloc, options, &runs)?)
+    let graph = built(alloc, raw)?;
+    Ok(swept_text(rt, alloc, options, &graph)?)
 }
 
-/// What is printed of the runs of a sweep.
-fn sheet_of(alloc: Global, options: &SweepOptions, runs: &[Figures]) -> Result<Vec<u8>, AllocError>
+/// A graph, built of what was read.
+pub(crate) fn built(alloc: Global, raw: RawGraph) -> Result<Graph, ServeFault>
+    ensures graph { IfOk result (λ graph. graph ≡ shape_of raw) }
+    ensures err { IfErr result (λ fault. fault ≡ ServeFault.Memory) }
+{
+    match Graph::build(alloc, raw) {
+        Ok(graph) => Ok(graph),
+        Err(_) => Err(ServeFault::Memory),
+    }
+}
+
+/// The text of the sweep of a graph.
+fn swept_text<R: Threads + Sync + Eprint>(
+    rt: &R,
+    alloc: Global,
+    options: &SweepOptions,
+    graph: &Graph,
+) -> Result<Vec<u8>, AllocError>
+    requires { AreSweepLimits options.now }
+    ensures { IfOk result (λ text. IsSwept options.now graph.now text.items) }
+{
+    let mut text = Vec::from_slice(alloc, head_of(options.form, options.sheet))?;
+    let front = bare_front(options.form);
+    put_swept(rt, alloc, &mut text, options, front, graph)?;
+    Ok(text)
+}
+
+/// The names of the columns, as a line; lines of JSON say them with each value.
+pub(crate) fn head_of(form: Form, sheet: Sheet) -> &'static [u8]
+    ensures { result.now ≡ head_of form sheet }
+{
+    match (form, sheet) {
+        (Form::Text, Sheet::Runs) => HEAD_LINE,
+        (Form::Text, Sheet::Summary) => SUMMARY_HEAD,
+        (Form::Json, _) => b"",
+    }
+}
+
+/// Puts the lines of the sweep of a graph behind a text, each behind the same front. Refusal: want of memory.
+pub(crate) fn put_swept<R: Threads + Sync + Eprint>(
+    rt: &R,
+    alloc: Global,
+    text: &mut Vec<u8>,
+    options: &SweepOptions,
+    front: &[u8],
+    graph: &Graph,
+) -> Result<(), AllocError>
+    requires { AreSweepLimits options.now }
+    ensures { IfOk result (λ _. (lines : List ℕ) × AreSweptLines options.now front.now graph.now lines × (text.new.items ≡ text.old.items ++ lines)) }
+{
+    let runs = runs_of(rt, alloc, graph, options)?;
+    put_sheet(alloc, text, options, front, &runs)?;
+    Ok(())
+}
+
+/// Puts what is printed of the runs of a sweep behind a text, each line behind the same front.
+fn put_sheet(
+    alloc: Global,
+    text: &mut Vec<u8>,
+    options: &SweepOptions,
+    front: &[u8],
+    runs: &[Figures],
+) -> Result<(), AllocError>
     requires limits { AreSweepLimits options.now }
     requires all { length runs.now ≡ count_of options.now }
     requires small { All HasSmallWeight runs.now }
-    ensures { IfOk result (λ text. IsSheetText options.now.sheet (setup_of options.now) options.now.seeds.first runs.now text.items) }
+    ensures { IfOk result (λ _. (lines : List ℕ) × AreSheetLines options.now.sheet options.now.form front.now (setup_of options.now) options.now.seeds.first runs.now lines × (text.new.items ≡ text.old.items ++ lines)) }
 {
     let Seeds { first, last } = options.seeds;
     prove!(first <= last);
     match options.sheet {
-        Sheet::Runs => runs_text(alloc, setup_of(options), first, runs),
-        Sheet::Summary => summary_text(alloc, runs),
+        Sheet::Runs => {
+            put_runs(text, options.form, front, setup_of(options), first, runs)?;
+            Ok(())
+        }
+        Sheet::Summary => {
+            put_summary(alloc, text, options.form, front, runs)?;
+            Ok(())
+        }
     }
 }
 

@@ -9,11 +9,14 @@ use ghs_picking::picking::Picking;
 use ghs_refusing::orders::{Turn, order, refuse, turn_of};
 use ghs_refusing::scenes::{events_of_run, five, is_five, stands, world_after};
 use ghs_sched::trace::EVENT_LIMIT;
+use ghs_steps::form::Form;
 use ghs_sweep::figures::{Figures, figures_of};
-use ghs_sweep::line::{put_line, runs_text};
+use ghs_sweep::front::{bare_front, front_of};
+use ghs_sweep::line::put_line;
+use ghs_sweep::lines::put_runs;
 use ghs_sweep::runs::run_on;
 use ghs_sweep::seeded::{Setup, figures_of_seed};
-use ghs_sweep::summary::summary_text;
+use ghs_sweep::summary::put_summary;
 use ghs_view::stored::{StoredFault, stored_page};
 use ghs_world::wake_set::WakeSet;
 use ghs_world::world::World;
@@ -126,27 +129,34 @@ fn sweep_on<R: Threads + Sync + Abort>(rt: &R, alloc: Global, threads: u32, k: u
     let turn = turn_of(alloc, k, &answer);
     let stand = if turn == Turn::Refused { 1 } else { 4 };
     assert!(rt; runs.len() == stand && runs.as_slice() == &four[..stand]);
-    assert!(rt; runs_text(alloc, SETUP, 1, &runs).is_ok());
+    let mut text = Vec::new(alloc);
+    assert!(rt; put_runs(&mut text, Form::Text, b"", SETUP, 1, &runs).is_ok());
     assert!(rt; is_five(alloc, &graph));
     turn
 }
 
-/// The text of runs, or their summary.
+/// The lines of runs, or of their summary.
 #[derive(Clone, Copy)]
 enum Sheet {
-    Lines,
-    Summary,
+    Lines(Form),
+    Summary(Form),
 }
 
+/// What is printed of the runs of a network whose name needs quotes.
 fn sheet_of(alloc: Global, sheet: Sheet, runs: &[Figures]) -> Result<Vec<u8>, AllocError>
     requires some { 1 ≤ length runs.now }
     requires few { length runs.now ≤ 2 ^ 32 }
     requires small { All HasSmallWeight runs.now }
 {
+    let mut text = Vec::new(alloc);
     match sheet {
-        Sheet::Lines => runs_text(alloc, SETUP, 1, runs),
-        Sheet::Summary => summary_text(alloc, runs),
+        Sheet::Lines(form) => {
+            let front = front_of(alloc, form, "a \"five\", or so")?;
+            put_runs(&mut text, form, &front, SETUP, 1, runs)?;
+        }
+        Sheet::Summary(form) => put_summary(alloc, &mut text, form, bare_front(form), runs)?,
     }
+    Ok(text)
 }
 
 /// What is printed of two runs is what is printed where nothing is refused.
@@ -209,8 +219,10 @@ fn sweeps(host: HostRuntime) -> Result<(), Fail> {
         refuse(rt, alloc, name, |k| sweep_on(rt, alloc, threads, k))?;
     }
     for (name, sheet) in [
-        ("runs_text", Sheet::Lines),
-        ("summary_text", Sheet::Summary),
+        ("put_runs(text)", Sheet::Lines(Form::Text)),
+        ("put_runs(json)", Sheet::Lines(Form::Json)),
+        ("put_summary(text)", Sheet::Summary(Form::Text)),
+        ("put_summary(json)", Sheet::Summary(Form::Json)),
     ] {
         refuse(rt, alloc, name, |k| print_sheet(rt, alloc, sheet, k))?;
     }

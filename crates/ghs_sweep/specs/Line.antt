@@ -1,10 +1,9 @@
--- Runs' figures as lines.
-use Rattle.std.specs.Prelude.{ℕ, ◌+◌, Bool, true, false, List, [], ◌∷◌, ◌++◌, codes, decimal, slice_index}
+-- A run's figures as a line.
+use Rattle.std.specs.Prelude.{ℕ, Bool, true, false, List, ◌++◌, codes, decimal, slice_index}
 use Rattle.ghs_world.specs.declared.wake_set.WakeSet.{WakeSet}
 use Rattle.ghs_world.specs.declared.wake_set.WakeSet.TheVariants.{All, First}
 use Rattle.ghs_picking.specs.declared.picking.Picking.{Picking}
 use Rattle.ghs_picking.specs.declared.picking.Picking.TheVariants.{Seeded, Patient, Rounds}
-use Rattle.ghs_sweep.specs.declared.line.TheConstants.{HEAD_LINE}
 use Rattle.ghs_sweep.specs.declared.seeded.Setup.{Setup}
 use Rattle.ghs_sweep.specs.declared.figures.Figures.{Figures}
 
@@ -12,18 +11,22 @@ use Rattle.ghs_sweep.specs.declared.figures.Figures.{Figures}
 unfoldable pub field : ℕ → List ℕ
 field n = codes "," ++ decimal n
 
+-- a comma and a word
+unfoldable pub word_field : List ℕ → List ℕ
+word_field word = codes "," ++ word
+
 abbrev pub picking_word : Picking → List ℕ
-picking_word Seeded = codes ",seeded"
-picking_word Patient = codes ",patient"
-picking_word Rounds = codes ",rounds"
+picking_word Seeded = codes "seeded"
+picking_word Patient = codes "patient"
+picking_word Rounds = codes "rounds"
 
 abbrev pub wake_word : WakeSet → List ℕ
-wake_word All = codes ",all"
-wake_word First = codes ",first"
+wake_word All = codes "all"
+wake_word First = codes "first"
 
 abbrev pub end_word : Bool → List ℕ
-end_word true = codes ",halted"
-end_word false = codes ",turns"
+end_word true = codes "halted"
+end_word false = codes "turns"
 
 unfoldable pub size_fields : Figures → List ℕ
 size_fields f = field f.nodes ++ field f.links ++ field f.events
@@ -46,13 +49,12 @@ outcome_fields f =
 -- seed, schedule, wake set, figures, how the run ended, and its chain
 unfoldable pub line_text : ℕ → Setup → Figures → List ℕ
 line_text seed setup f =
-    decimal seed ++ picking_word setup.picking ++ wake_word setup.wake ++ size_fields f ++ messages_fields f ++ outcome_fields f ++ end_word f.ended ++ field f.chain ++ codes "\n"
-
--- the lines of runs whose seeds rise from the first on
-abbrev pub run_lines : Setup → ℕ → List Figures → List ℕ
-run_lines setup first [] = []
-run_lines setup first (f ∷ fs) = line_text first setup f ++ run_lines setup (first + 1) fs
-
--- the head line, and the lines behind it
-abbrev pub runs_text : Setup → ℕ → List Figures → List ℕ
-runs_text setup first runs = HEAD_LINE.now ++ run_lines setup first runs
+    decimal seed
+    ++ word_field (picking_word setup.picking)
+    ++ word_field (wake_word setup.wake)
+    ++ size_fields f
+    ++ messages_fields f
+    ++ outcome_fields f
+    ++ word_field (end_word f.ended)
+    ++ field f.chain
+    ++ codes "\n"

@@ -2,9 +2,12 @@
 use Rattle.std.specs.Prelude.{◌≡◌, ℕ, ◌+◌, ◌-◌, ◌*◌, ◌/◌, List, [], ◌∷◌, ◌++◌, codes, length, map, slice_index, IsPermutation}
 use Rattle.std.specs.List.{sum}
 use Rattle.std.specs.List.Sorted.{IsNonDecreasing}
+use Rattle.ghs_steps.specs.declared.form.Form.{Form}
+use Rattle.ghs_steps.specs.declared.form.Form.TheVariants.{Text, Json}
+use Rattle.ghs_steps.specs.Json.{member, quoted}
 use Rattle.ghs_sweep.specs.declared.figures.Figures.{Figures}
 use Rattle.ghs_sweep.specs.declared.measure.Measure.{Measure}
-use Rattle.ghs_sweep.specs.declared.summary.TheConstants.{SUMMARY_HEAD}
+use Rattle.ghs_sweep.specs.JsonLine.{numbered}
 use Rattle.ghs_sweep.specs.Line.{field}
 use Rattle.ghs_sweep.specs.Measure.{fixed_value, measures, name_of, value_of}
 
@@ -32,20 +35,50 @@ rising_fields rising =
     ++ field (percentile 95 rising)
     ++ field (slice_index rising (length rising - 1))
 
--- the line of a measure: its name, what its values for the runs come to in rising order, their sum, and whether it is the graph's
-pub record IsMeasureLine (runs : List Figures) (m : Measure) (line : List ℕ) : Type 0 where
+-- a measure as a line: its name, what its values come to in rising order, their sum, and whether it is the graph's
+unfoldable pub measure_fields : Measure → List ℕ → ℕ → List ℕ
+measure_fields m rising total = name_of m ++ rising_fields rising ++ field total ++ field (fixed_value m) ++ codes "\n"
+
+-- what they come to, as members of an object: how many there are, the least, and two percentiles; two more, and the greatest
+unfoldable pub low_members : List ℕ → List ℕ
+low_members rising =
+    numbered (codes "runs") (length rising)
+    ++ numbered (codes "min") (slice_index rising 0)
+    ++ numbered (codes "p25") (percentile 25 rising)
+    ++ numbered (codes "p50") (percentile 50 rising)
+
+unfoldable pub high_members : List ℕ → List ℕ
+high_members rising =
+    numbered (codes "p75") (percentile 75 rising)
+    ++ numbered (codes "p95") (percentile 95 rising)
+    ++ numbered (codes "max") (slice_index rising (length rising - 1))
+
+-- the same as a line of JSON
+unfoldable pub measure_members : Measure → List ℕ → ℕ → List ℕ
+measure_members m rising total =
+    member [] (codes "measure") (quoted (name_of m))
+    ++ low_members rising
+    ++ high_members rising
+    ++ numbered (codes "sum") total
+    ++ numbered (codes "fixed") (fixed_value m)
+    ++ codes "}\n"
+
+abbrev pub measure_text : Form → Measure → List ℕ → ℕ → List ℕ
+measure_text Text m rising total = measure_fields m rising total
+measure_text Json m rising total = measure_members m rising total
+
+-- the line of a measure behind a front, with what its values for the runs come to
+pub record IsMeasureLine (form : Form) (front : List ℕ) (runs : List Figures) (m : Measure) (line : List ℕ) : Type 0 where
   pub rising : List ℕ
   pub rises : IsRising (map (value_of m) runs) rising
-  pub text : line ≡ name_of m ++ rising_fields rising ++ field (sum (map (value_of m) runs)) ++ field (fixed_value m) ++ codes "\n"
+  pub text : line ≡ front ++ measure_text form m rising (sum (map (value_of m) runs))
 
--- the lines of some measures, one behind another
-pub data AreMeasureLines (runs : List Figures) : List Measure → List ℕ → Type 0 where
-  NoMeasure : AreMeasureLines runs [] []
-  NextMeasure : (ms : List Measure) (m : Measure) (text line : List ℕ) → AreMeasureLines runs ms text → IsMeasureLine runs m line →
-      AreMeasureLines runs (ms ++ m ∷ []) (text ++ line)
+-- the lines of some measures, one behind another, each behind the same front
+pub data AreMeasureLines (form : Form) (front : List ℕ) (runs : List Figures) : List Measure → List ℕ → Type 0 where
+  NoMeasure : AreMeasureLines form front runs [] []
+  NextMeasure : (ms : List Measure) (m : Measure) (text line : List ℕ) → AreMeasureLines form front runs ms text → IsMeasureLine form front runs m line →
+      AreMeasureLines form front runs (ms ++ m ∷ []) (text ++ line)
 
--- the head line, and a line for each measure
-pub record IsSummary (runs : List Figures) (text : List ℕ) : Type 0 where
-  pub lines : List ℕ
-  pub each : AreMeasureLines runs measures lines
-  pub printed : text ≡ SUMMARY_HEAD.now ++ lines
+-- the summary of runs: a line for each measure
+abbrev pub AreSummaryLines : Form → List ℕ → List Figures → List ℕ → Type 0
+AreSummaryLines form front runs lines = AreMeasureLines form front runs measures lines

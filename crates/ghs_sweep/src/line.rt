@@ -1,34 +1,17 @@
-//! Runs' figures as lines.
-ghost use Rattle.ghs_sweep.specs.Line.{end_word, field, line_text, messages_fields, outcome_fields, picking_word, runs_text, size_fields, wake_word};
-ghost use Rattle.std.specs.Prelude.{◌≡◌, ◌+◌, ◌++◌, ◌≤◌, ◌^◌, IfOk, length};
+//! A run's figures as a line of comma separated values.
+ghost use Rattle.ghs_sweep.specs.Line.{end_word, field, line_text, messages_fields, outcome_fields, picking_word, size_fields, wake_word, word_field};
+ghost use Rattle.std.specs.Prelude.{◌≡◌, ◌++◌, IfOk};
 
 use crate::figures::Figures;
 use crate::seeded::Setup;
 use ghs_lines::numbers::put_number;
 use ghs_picking::picking::Picking;
 use ghs_world::wake_set::WakeSet;
-use std::alloc::{AllocError, Global};
+use std::alloc::AllocError;
 
 /// The names of a line's fields, as a line.
 pub const HEAD_LINE: &[u8] =
     b"seed,schedule,wake,nodes,links,events,sent,connect,initiate,test,accept,reject,report,changeroot,requeued,queued,bound,level,fragments,weight,end,chain\n";
-
-/// The lines of runs whose seeds rise from the first on, behind a head line. Refusal: want of memory.
-pub fn runs_text(
-    alloc: Global,
-    setup: Setup,
-    first: u64,
-    runs: &[Figures],
-) -> Result<Vec<u8>, AllocError>
-    requires { first + length runs.now ≤ 2 ^ 64 }
-    ensures { IfOk result (λ text. text.items ≡ runs_text setup first runs.now) }
-{
-    let mut text = Vec::from_slice(alloc, HEAD_LINE)?;
-    for (place, run) in runs.iter().enumerate() {
-        put_line(&mut text, first + place as u64, setup, run)?;
-    }
-    Ok(text)
-}
 
 /// Puts the line of a seed's run behind a text: the seed, the schedule, the wake set, the figures, how it ended, and its
 /// chain.
@@ -42,12 +25,12 @@ pub fn put_line(
     ensures { IfOk result (λ _. text.new.items ≡ text.old.items ++ line_text seed setup figures.now) }
 {
     put_number(text, u128::from(seed))?;
-    text.extend_from_slice(picking_word(setup.picking))?;
-    text.extend_from_slice(wake_word(setup.wake))?;
+    put_word(text, picking_word(setup.picking))?;
+    put_word(text, wake_word(setup.wake))?;
     put_size(text, figures)?;
     put_messages(text, figures)?;
     put_outcome(text, figures)?;
-    text.extend_from_slice(end_word(figures.ended))?;
+    put_word(text, end_word(figures.ended))?;
     put_field(text, u128::from(figures.chain))?;
     text.extend_from_slice(b"\n")?;
     Ok(())
@@ -104,27 +87,37 @@ pub(crate) fn put_field(text: &mut Vec<u8>, number: u128) -> Result<(), AllocErr
     Ok(())
 }
 
-fn picking_word(picking: Picking) -> &'static [u8]
+// A comma and a word.
+#[tactic(auto, unfolding(crate::specs::Line::word_field))]
+fn put_word(text: &mut Vec<u8>, word: &[u8]) -> Result<(), AllocError>
+    ensures { IfOk result (λ _. text.new.items ≡ text.old.items ++ word_field word.now) }
+{
+    text.extend_from_slice(b",")?;
+    text.extend_from_slice(word)?;
+    Ok(())
+}
+
+pub(crate) fn picking_word(picking: Picking) -> &'static [u8]
     ensures { result.now ≡ picking_word picking }
 {
     match picking {
-        Picking::Seeded => b",seeded",
-        Picking::Patient => b",patient",
-        Picking::Rounds => b",rounds",
+        Picking::Seeded => b"seeded",
+        Picking::Patient => b"patient",
+        Picking::Rounds => b"rounds",
     }
 }
 
-fn wake_word(wake: WakeSet) -> &'static [u8]
+pub(crate) fn wake_word(wake: WakeSet) -> &'static [u8]
     ensures { result.now ≡ wake_word wake }
 {
     match wake {
-        WakeSet::All => b",all",
-        WakeSet::First => b",first",
+        WakeSet::All => b"all",
+        WakeSet::First => b"first",
     }
 }
 
-fn end_word(ended: bool) -> &'static [u8]
+pub(crate) fn end_word(ended: bool) -> &'static [u8]
     ensures { result.now ≡ end_word ended }
 {
-    if ended { b",halted" } else { b",turns" }
+    if ended { b"halted" } else { b"turns" }
 }

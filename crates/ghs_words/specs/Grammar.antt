@@ -1,11 +1,19 @@
 -- The words that the program takes.
 use Rattle.std.specs.Prelude.{codes, [], ◌∷◌, Some, true}
-use Rattle.clap.specs.declared.builder.action.ArgAction.TheVariants.{SetTrue}
+use Rattle.clap.specs.declared.builder.action.ArgAction.TheVariants.{Append, SetTrue}
 use Rattle.clap.specs.Words.{App, Rule, Text, new_app, new_rule, with_rule, with_subcommand}
 
 -- FILE: the graph
 abbrev pub file_rule : Rule
 file_rule = new_rule (codes "FILE")
+
+-- FILE ..: the graphs of a sweep
+abbrev pub files_rule : Rule
+files_rule = record (new_rule (codes "FILE")) { action = Some Append }
+
+-- `--names`: whether lines begin with their graph's name where one is swept
+abbrev pub names_rule : Rule
+names_rule = record (new_rule (codes "names")) { long = Some (codes "names"); action = Some SetTrue }
 
 -- TRACE: the stored run
 abbrev pub trace_rule : Rule
@@ -99,12 +107,15 @@ steps_command =
     let stored = with_rule (with_rule (with_rule (new_app (codes "steps")) trace_rule) file_rule) wake_rule in
     with_rule (with_rule (with_rule (with_rule stored from_rule) to_rule) node_rule) json_rule
 
--- `sweep [FILE] --seeds FIRST..LAST [--schedule seeded|patient|rounds] [--workers W] [--wake all|first] [--turns T] [--print runs|summary] [--progress]`
+-- `sweep [FILE ..] --seeds FIRST..LAST [--schedule seeded|patient|rounds] [--workers W] [--wake all|first] [--turns T]`, and how it is printed:
+-- `[--print runs|summary] [--names] [--json] [--progress]`
+abbrev pub swept_command : App
+swept_command =
+    let named = with_rule (with_rule (new_app (codes "sweep")) files_rule) seeds_rule in
+    with_rule (with_rule (with_rule (with_rule named schedule_rule) workers_rule) wake_rule) turns_rule
+
 abbrev pub sweep_command : App
-sweep_command =
-    let named = with_rule (with_rule (new_app (codes "sweep")) file_rule) seeds_rule in
-    let picked = with_rule (with_rule (with_rule (with_rule named schedule_rule) workers_rule) wake_rule) turns_rule in
-    with_rule (with_rule picked sheet_rule) progress_rule
+sweep_command = with_rule (with_rule (with_rule (with_rule swept_command sheet_rule) names_rule) json_rule) progress_rule
 
 -- `view [FILE] [--seed S] [--seeds FIRST,SECOND] [--schedule seeded|patient|rounds] [--wake all|first] [--turns T] [--trace TRACE] [--from A] [--to B]`
 abbrev pub view_command : App

@@ -35,6 +35,7 @@ use Rattle.ghs_words.specs.declared.job.Task.TheVariants as task
 use Rattle.ghs_words.specs.declared.job.ViewOptions.{ViewOptions}
 use Rattle.ghs_words.specs.declared.two_seeds.TwoSeeds.{TwoSeeds}
 use Rattle.ghs_words.specs.declared.values.Seeds.{Seeds}
+use Rattle.ghs_words.specs.Networks.{are_read_once, named_of, values_in}
 use Rattle.ghs_words.specs.TwoSeeds.{are_two, two_seeds_of}
 use Rattle.ghs_words.specs.Values.{AreSeeds, are_apart, are_weights, is_among, is_kind, is_number, is_range, number_in, seeds_of}
 
@@ -146,7 +147,14 @@ pub record AreSweepOptions (command : Used) (o : SweepOptions) : Type 0 where
   pub wake : IsWake command o.wake
   pub turns : o.turns ≡ turns_in command
   pub sheet : IsSheet command o.sheet
+  pub form : IsForm command o.form
   pub progress : IsToldOf command o.progress
+
+-- the networks of a sweep whose lines begin with names, as the files and `--names`, which has no value of its own, say
+pub record AreNetworks (command : Used) (names : List Text) : Type 0 where
+  pub asked : Bool
+  pub said : (asked ≡ true) ↔ (value_in (codes "names") command ≡ Some (codes "true"))
+  pub named : names ≡ named_of asked (values_in (codes "FILE") command)
 
 -- which steps a command asks to be shown
 pub record AreStepsOptions (command : Used) (o : StepsOptions) : Type 0 where
@@ -257,6 +265,7 @@ has_values command =
     && is_range (value_in (codes "seeds") command)
     && are_two (value_in (codes "pair") command)
     && are_apart (value_in (codes "TRACE") command) (value_in (codes "FILE") command)
+    && are_read_once (values_in (codes "FILE") command)
 
 -- what is wrong with the values of a command's options
 abbrev pub option_kinds : Used → Kinds

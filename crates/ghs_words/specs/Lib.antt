@@ -1,5 +1,6 @@
 -- To be believed: contracts cite what stands here, and what it is made of.
 pub mod Grammar
 pub mod Job
+pub mod Networks
 pub mod TwoSeeds
 pub mod Values

@@ -1,7 +1,7 @@
 //! The words that the program takes.
 ghost use Rattle.clap.specs.Words.{app_of, rule_of};
 ghost use Rattle.clap.specs.declared.builder.command.Command.TheViews.{out-Command};
-ghost use Rattle.ghs_words.specs.Grammar.{core_rule, file_rule, from_rule, json_rule, kind_rule, links_rule, make_command, node_rule, nodes_rule, option_rule, pair_rule, place_rule, print_rule, program, progress_rule, replay_command, run_command, schedule_rule, seed_rule, seeds_rule, sheet_rule, steps_command, sweep_command, to_rule, trace_rule, tree_command, turns_rule, wake_rule, weights_rule, workers_rule, stored_rule, view_command};
+ghost use Rattle.ghs_words.specs.Grammar.{core_rule, file_rule, files_rule, from_rule, json_rule, kind_rule, links_rule, make_command, names_rule, node_rule, nodes_rule, option_rule, pair_rule, place_rule, print_rule, program, progress_rule, replay_command, run_command, schedule_rule, seed_rule, seeds_rule, sheet_rule, steps_command, sweep_command, swept_command, to_rule, trace_rule, tree_command, turns_rule, wake_rule, weights_rule, workers_rule, stored_rule, view_command};
 ghost use Rattle.std.specs.Prelude.{◌≡◌, IfOk, false};
 
 use clap::{Arg, ArgAction, Command};
@@ -103,18 +103,30 @@ fn sweep<'a>(alloc: Global) -> Result<Command<'a>, AllocError>
     ensures app { IfOk result (λ command. app_of command ≡ sweep_command) }
 {
     Ok(
+        swept(alloc)?
+            .arg(sheet(alloc))?
+            .arg(names(alloc))?
+            .arg(json(alloc))?
+            .arg(seeds_told(alloc))?,
+    )
+}
+
+// The same without what says how it is printed.
+fn swept<'a>(alloc: Global) -> Result<Command<'a>, AllocError>
+    ensures local { IfOk result (λ command. (out-Command command).has_globals ≡ false) }
+    ensures app { IfOk result (λ command. app_of command ≡ swept_command) }
+{
+    Ok(
         Command::new(alloc, "sweep")
             .about(
-                "Runs the network of a graph by the schedules of many seeds, and prints a line of figures for each, or what they come to",
+                "Runs the networks of graphs by the schedules of many seeds, and prints a line of figures for each run, or what they come to",
             )
-            .arg(file(alloc))?
+            .arg(files(alloc))?
             .arg(seeds(alloc))?
             .arg(schedule(alloc))?
             .arg(sharers(alloc))?
             .arg(wake(alloc))?
-            .arg(turns(alloc))?
-            .arg(sheet(alloc))?
-            .arg(seeds_told(alloc))?,
+            .arg(turns(alloc))?,
     )
 }
 
@@ -265,6 +277,27 @@ fn file<'a>(alloc: Global) -> Arg<'a>
     Arg::new(alloc, "FILE").help(
         "The graph, in the .gr format; standard input where it is - or none is named",
     )
+}
+
+// The graphs' files.
+fn files<'a>(alloc: Global) -> Arg<'a>
+    ensures local { result.global ≡ false }
+    ensures rule { rule_of result ≡ files_rule }
+{
+    Arg::new(alloc, "FILE").action(ArgAction::Append).help(
+        "The graphs, in the .gr format; standard input where one is - or none is named",
+    )
+}
+
+// Whether lines begin with the name of their graph where one is swept.
+fn names<'a>(alloc: Global) -> Arg<'a>
+    ensures local { result.global ≡ false }
+    ensures rule { rule_of result ≡ names_rule }
+{
+    Arg::new(alloc, "names")
+        .long("names")
+        .action(ArgAction::SetTrue)
+        .help("Begins each line with the name of the graph's file, as where several are named")
 }
 
 // Which schedule picks the events.

@@ -1,14 +1,16 @@
 //! Command lines.
 ghost use Rattle.ghs_words.specs.declared.job.JobFault.TheVariants.{Memory};
 ghost use Rattle.ghs_words.specs.Grammar.{program};
-ghost use Rattle.ghs_words.specs.Job.{AreOptions, IsAsked, kind_in, links_in, weights_in, AreStepsOptions, AreSweepLimits, AreSweepOptions, AreWithinLimits, command_in, has_values, first_seed_in, kinds_of, name_in, node_in, number_at, option_kinds, pair_in, second_seed_in, seeds_at, value_in, with_name, IsForm, IsPicking, IsRefused, IsSaid, IsSaidOf, IsSheet, IsShow, IsTask, IsWake, IsWithinLimits, AreStoredViewOptions, AreViewLimits, AreViewOptions};
+ghost use Rattle.ghs_words.specs.Job.{AreNetworks, AreOptions, IsAsked, kind_in, links_in, weights_in, AreStepsOptions, AreSweepLimits, AreSweepOptions, AreWithinLimits, command_in, has_values, first_seed_in, kinds_of, name_in, node_in, number_at, option_kinds, pair_in, second_seed_in, seeds_at, value_in, with_name, IsForm, IsPicking, IsRefused, IsSaid, IsSaidOf, IsSheet, IsShow, IsTask, IsWake, IsWithinLimits, AreStoredViewOptions, AreViewLimits, AreViewOptions};
 ghost use Rattle.ghs_words.specs.Values.{AreSeeds, are_apart, are_weights, is_among, is_kind, is_number, is_range};
+ghost use Rattle.ghs_words.specs.Networks.{are_read_once, values_in};
 ghost use Rattle.ghs_words.specs.TwoSeeds.{are_two};
 ghost use Rattle.clap.specs.Words.{kind_of, subcommand_rows_of};
 ghost use Rattle.std.specs.Option.{option_map};
 ghost use Rattle.std.specs.Prelude.{◌≡◌, ◌≤◌, ◌↔◌, ◌∷◌, [], IfErr, IfOk, IfSome, OnErr, OnOk, Some, codes, false, map, string_bytes, true};
 
 use crate::grammar::program;
+use crate::networks::{are_read_once, input_twice, named_of, values_of};
 use crate::two_seeds::{TwoSeeds, are_two, no_two_seeds, two_seeds_in};
 use crate::values::{
     Seeds, are_apart, are_weights, is_among, is_kind, is_number, is_range, is_text, no_kind,
@@ -73,7 +75,7 @@ pub enum Sheet {
     Summary,
 }
 
-/// Which runs of a network are swept.
+/// Which runs of a network, or of each of several, are swept.
 #[derive(Clone, Copy, Debug, PartialEq, Eq)]
 pub struct SweepOptions {
     /// Whose schedules pick the runs, a million at most.
@@ -88,6 +90,8 @@ pub struct SweepOptions {
     pub turns: u64,
     /// What is printed.
     pub sheet: Sheet,
+    /// As which lines.
+    pub form: Form,
     /// Whether standard error is told how many of the seeds have been run.
     pub progress: bool,
 }
@@ -155,11 +159,13 @@ pub enum Task {
 }
 
 /// What a command line asks for: the file of the graph (standard input where there is none, or it is `-`), the file of a
-/// stored trace (standard input where it is `-`), and the task.
+/// stored trace (standard input where it is `-`), the files of the networks of a sweep whose lines begin with names (none
+/// where one network is swept without its name; one at most is `-`, standard input), and the task.
 #[derive(Debug, Drop)]
 pub struct Job {
     pub graph: Option<String>,
     pub trace: Option<String>,
+    pub networks: Vec<String>,
     pub task: Task,
 }
 
@@ -188,6 +194,7 @@ pub fn read_job(alloc: Global, words: &[String]) -> Result<Job, JobFault>
     ensures task { IfOk result (λ job. IsTask (command_in (map string_bytes words.now)) job.task) }
     ensures trace { IfOk result (λ job. option_map string_bytes job.trace ≡ value_in (codes "TRACE") (command_in (map string_bytes words.now))) }
     ensures graph { IfOk result (λ job. option_map string_bytes job.graph ≡ value_in (codes "FILE") (command_in (map string_bytes words.now))) }
+    ensures networks { IfOk result (λ job. AreNetworks (command_in (map string_bytes words.now)) (map string_bytes job.networks.items)) }
     ensures limits { IfOk result (λ job. IsWithinLimits job.task) }
     ensures taken { OnOk result (kinds_of (map string_bytes words.now) ≡ []) }
     ensures fault { IfErr result (IsSaidOf (kinds_of (map string_bytes words.now))) }
@@ -216,6 +223,7 @@ fn job_of<'a>(alloc: Global, matches: &ArgMatches<'a>) -> Result<Job, JobFault>
     ensures task { IfOk result (λ job. IsTask (subcommand_rows_of matches.now) job.task) }
     ensures trace { IfOk result (λ job. option_map string_bytes job.trace ≡ value_in (codes "TRACE") (subcommand_rows_of matches.now)) }
     ensures graph { IfOk result (λ job. option_map string_bytes job.graph ≡ value_in (codes "FILE") (subcommand_rows_of matches.now)) }
+    ensures networks { IfOk result (λ job. AreNetworks (subcommand_rows_of matches.now) (map string_bytes job.networks.items)) }
     ensures limits { IfOk result (λ job. IsWithinLimits job.task) }
     ensures taken { OnOk result (option_kinds (subcommand_rows_of matches.now) ≡ []) }
     ensures fault { IfErr result (IsSaidOf (option_kinds (subcommand_rows_of matches.now))) }
@@ -227,8 +235,17 @@ fn job_of<'a>(alloc: Global, matches: &ArgMatches<'a>) -> Result<Job, JobFault>
     Ok(Job {
         graph: owned(alloc, value_of(matches, "FILE"))?,
         trace: owned(alloc, value_of(matches, "TRACE"))?,
+        networks: networks_of(alloc, matches)?,
         task: task_of(matches),
     })
+}
+
+/// The networks of a sweep whose lines begin with names.
+fn networks_of<'a>(alloc: Global, matches: &ArgMatches<'a>) -> Result<Vec<String>, AllocError>
+    ensures { IfOk result (λ names. AreNetworks (subcommand_rows_of matches.now) (map string_bytes names.items)) }
+{
+    let asked = is_text(value_of(matches, "names"), "true");
+    Ok(named_of(alloc, asked, values_of(matches, "FILE"))?)
 }
 
 /// Whether each option has a value that it may have, and standard input isn't read twice; what is said of the first that hasn't.
@@ -265,7 +282,8 @@ fn check_options<'a>(alloc: Global, matches: &ArgMatches<'a>) -> Result<(), JobF
     check_weights(alloc, matches)?;
     check_seeds(alloc, matches)?;
     check_two_seeds(alloc, matches)?;
-    check_inputs(alloc, matches)
+    check_inputs(alloc, matches)?;
+    check_files(alloc, matches)
 }
 
 /// Whether an option has one of some values; it goes by its name on the command line where it hasn't.
@@ -392,6 +410,19 @@ fn check_inputs<'a>(alloc: Global, matches: &ArgMatches<'a>) -> Result<(), JobFa
     }
 }
 
+/// Whether one of the graphs at most is to be standard input.
+fn check_files<'a>(alloc: Global, matches: &ArgMatches<'a>) -> Result<(), JobFault>
+    ensures ok { OnOk result (are_read_once (values_in (codes "FILE") (subcommand_rows_of matches.now)) ≡ true) }
+    ensures err { OnErr result (are_read_once (values_in (codes "FILE") (subcommand_rows_of matches.now)) ≡ false) }
+    ensures fault { IfErr result IsRefused }
+{
+    if are_read_once(values_of(matches, "FILE")) {
+        Ok(())
+    } else {
+        Err(input_twice(alloc))
+    }
+}
+
 /// The task of a command.
 fn task_of<'a>(matches: &ArgMatches<'a>) -> Task
     ensures task { IsTask (subcommand_rows_of matches.now) result }
@@ -463,7 +494,7 @@ fn node_of<'a>(matches: &ArgMatches<'a>) -> Option<u32>
     }
 }
 
-/// As which lines the steps are to be shown.
+/// As which lines steps or figures are to be shown.
 fn form_of<'a>(matches: &ArgMatches<'a>) -> Form
     ensures { IsForm (subcommand_rows_of matches.now) result }
 {
@@ -486,6 +517,7 @@ fn sweep_of<'a>(matches: &ArgMatches<'a>) -> SweepOptions
         wake: wake_of(matches),
         turns: number_of(matches, "turns", 1, EVENT_LIMIT),
         sheet: sheet_of(matches),
+        form: form_of(matches),
         progress: is_text(value_of(matches, "progress"), "true"),
     }
 }

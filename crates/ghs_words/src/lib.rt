@@ -3,5 +3,6 @@
 
 mod grammar;
 pub mod job;
+mod networks;
 pub mod two_seeds;
 pub mod values;

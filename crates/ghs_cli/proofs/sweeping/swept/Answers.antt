@@ -1,10 +1,8 @@
-use Rattle.std.proofs.Common.{List, subst, sym}
-use Rattle.std.specs.List.{All}
-use Rattle.ghs_sweep.specs.declared.figures.Figures.{Figures}
-use Rattle.ghs_sweep.specs.Figures.{HasSmallWeight}
-use Rattle.ghs_sweep.proofs.lemmas.Weights.{small_weights}
+use Rattle.std.proofs.Common.{subst}
+use Rattle.ghs_graph.specs.Graph.{Shape}
+use Rattle.ghs_cli.specs.Sweeping.{IsSwept}
 use Rattle.ghs_cli.proofs.sweeping.swept.Goals as goal
 
-pub sheet_of-requires-clause-small : goal.sheet_of-requires-clause-small
-sheet_of-requires-clause-small g c =
-    subst (λ (l : List Figures). All HasSmallWeight l) (sym c.deref.ensures.value) (small_weights _ _ _ _ c.in_ok-runs.ensures.runs)
+pub returns-clause-text : goal.returns-clause-text
+returns-clause-text g c =
+    subst (λ (s : Shape). IsSwept c.args.options.now s c.in_ok-swept_text.field-0.items) c.in_ok-graph.ensures.graph c.in_ok-swept_text.ensures

@@ -1,28 +1,23 @@
-use Rattle.std.proofs.Common.{◌≡◌, ◌++◌, ◌∙◌, IsPermutation, List, ap, codes, map, refl, subst, ℕ}
+use Rattle.std.proofs.Common.{◌≡◌, ◌++◌, ◌∙◌, IsPermutation, List, ap, append_assoc, map, refl, subst, ℕ}
 use Rattle.std.proofs.lemmas.List.Sorted.{IsNonDecreasingBy-from_sort}
 use Rattle.std.specs.List.{sum}
-use Rattle.ghs_sweep.specs.Line.{field}
-use Rattle.ghs_sweep.specs.Measure.{fixed_value, name_of, value_of}
-use Rattle.ghs_sweep.specs.Summary.{rising_fields}
-use Rattle.ghs_sweep.proofs.Measuring.{five_behind}
+use Rattle.ghs_sweep.specs.Measure.{value_of}
+use Rattle.ghs_sweep.specs.Summary.{measure_text}
 use Rattle.ghs_sweep.proofs.summary.put_measure.Goals as goal
 
 pub returns : goal.returns
 returns c =
     let values = map (value_of c.args.measure) c.args.runs.now in
+    let front = c.args.front.now in
     let given : c.in_ok-values.values.items ≡ values = c.in_ok-values.ensures.values in
     let rising = c.sort_unstable.new.self.items in
     let total : c.sum_of-sum.result ≡ sum values = c.sum_of-sum.ensures ∙ ap sum (c.deref.ensures.value ∙ given) in
     let one = c.in_ok-extend_from_slice.ensures.items in
-    let name = c.name.ensures in
-    let two = c.in_ok-put_rising.ensures in
     let sorted = c.deref-2.ensures.value in
-    let three = c.in_ok-put_field.ensures in
-    let four = c.in_ok-put_field-2.ensures in
-    let fixed : field c.fixed.result ≡ field (fixed_value c.args.measure) = ap field c.fixed.ensures in
-    let five = c.in_ok-extend_from_slice-2.ensures.items in
-    let parts : c.extend_from_slice-2.new.self.items ≡ c.args.text.now.items ++ name_of c.args.measure ++ rising_fields rising ++ field (sum values) ++ field (fixed_value c.args.measure) ++ codes "\n" = cc in (
-      name_of c.args.measure ++ rising_fields rising ++ field (sum values) ++ field (fixed_value c.args.measure) ++ codes "\n",
+    let two = c.in_ok-put_measure_text.ensures in
+    let line = measure_text c.args.form c.args.measure rising (sum values) in
+    let parts : c.put_measure_text.new.text.items ≡ c.args.text.now.items ++ front ++ line = cc in (
+      front ++ line,
       record {
         rising = rising;
         rises = record {
@@ -31,5 +26,5 @@ returns c =
         };
         text = refl;
       },
-      parts ∙ five_behind c.args.text.now.items (name_of c.args.measure) (rising_fields rising) (field (sum values)) (field (fixed_value c.args.measure)) (codes "\n"),
+      parts ∙ append_assoc c.args.text.now.items front line,
     )

@@ -5,7 +5,7 @@ use Rattle.clap.specs.Kinds.{Kinds, HasKind, or_else}
 use Rattle.clap.specs.Words.{Text, fault_of, is_simple, is_simple_and_free, subcommand_of, subcommand_rows_of}
 use Rattle.clap.proofs.OnLiterals.{clap_on_literals}
 use Rattle.ghs_words.specs.Grammar.{program}
-use Rattle.ghs_words.specs.Job.{IsSaidOf, IsTask, Used, option_kinds, command_in, kinds_of, value_in, with_name}
+use Rattle.ghs_words.specs.Job.{AreNetworks, IsSaidOf, IsTask, Used, option_kinds, command_in, kinds_of, value_in, with_name}
 use Rattle.ghs_words.proofs.Said.{said_of, said_first}
 use Rattle.ghs_words.proofs.job.read_job.Goals as goal
 
@@ -45,6 +45,9 @@ returns-in-Ok-clause-trace c = subst (λ (u : Used). IfOk c.job_of.result (λ jo
 
 pub returns-in-Ok-clause-graph : goal.returns-in-Ok-clause-graph
 returns-in-Ok-clause-graph c = subst (λ (u : Used). IfOk c.job_of.result (λ job. option_map string_bytes job.graph ≡ value_in (codes "FILE") u)) (command_is c) c.job_of.ensures.graph
+
+pub returns-in-Ok-clause-networks : goal.returns-in-Ok-clause-networks
+returns-in-Ok-clause-networks c = subst (λ (u : Used). IfOk c.job_of.result (λ job. AreNetworks u (map string_bytes job.networks.items))) (command_is c) c.job_of.ensures.networks
 
 pub returns-in-Ok-clause-taken : goal.returns-in-Ok-clause-taken
 returns-in-Ok-clause-taken c = subst (λ (k : Kinds). OnOk c.job_of.result (k ≡ [])) (values_alone _ _ (command_is c) (no_fault c)) c.job_of.ensures.taken

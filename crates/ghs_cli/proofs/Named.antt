@@ -1,0 +1,70 @@
+-- Lines of networks, one's behind another's.
+use Rattle.std.proofs.Common.{◌≡◌, ◌++◌, ◌+◌, ◌<◌, ◌∙◌, List, ℕ, Option, Ok, Err, ap, append_assoc, length, refl, subst, sym, take}
+use Rattle.std.specs.Prelude.{Result}
+use Rattle.std.specs.List.{slice_index_or}
+use Rattle.std.proofs.lemmas.List.{take_more}
+use Rattle.ghs_words.specs.declared.job.SweepOptions.{SweepOptions}
+use Rattle.ghs_report.specs.Writing.{HasWritten}
+use Rattle.ghs_cli.specs.declared.fault.ServeFault.{ServeFault}
+use Rattle.ghs_cli.specs.declared.fault.ServeFault.TheVariants as serve
+use Rattle.ghs_cli.specs.declared.networks.Network.{Network}
+use Rattle.ghs_cli.specs.Networks.{AreLinesOf, AreLinesOfAll, HasSwept, IsNetworksText, NextNetwork, front_head}
+use Rattle.ghs_cli.specs.Sweeping.{AreSweptLines, head_of}
+
+-- where the lines of the first networks stand behind a text, and then those of the next, those of one more do
+pub one_network_more : (o : SweepOptions) (ns : List Network) (i : ℕ) (n : Network) (old text new : List ℕ) →
+    i < length ns →
+    (lines : List ℕ) × AreLinesOfAll o (take i ns) lines × (text ≡ old ++ lines) →
+    (lines : List ℕ) × AreLinesOf o (slice_index_or ns i n) lines × (new ≡ text ++ lines) →
+    (lines : List ℕ) × AreLinesOfAll o (take (i + 1) ns) lines × (new ≡ old ++ lines)
+one_network_more o ns i n old text new within (lines, before, first) (more, next, last) = (
+  lines ++ more,
+  subst (λ (l : List Network). AreLinesOfAll o l (lines ++ more)) (sym (take_more ns i n within))
+      (NextNetwork (take i ns) (slice_index_or ns i n) lines more before next),
+  last ∙ (ap (λ (t : List ℕ). t ++ more) first ∙ append_assoc old lines more),
+)
+
+-- the lines of a network, each behind a front that is its name's
+pub lines_behind : (o : SweepOptions) (n : Network) (front name old new : List ℕ) →
+    front ≡ name →
+    (lines : List ℕ) × AreSweptLines o front n.graph lines × (new ≡ old ++ lines) →
+    (lines : List ℕ) × AreSweptLines o name n.graph lines × (new ≡ old ++ lines)
+lines_behind o n front name old new is (lines, are, printed) = (lines, subst (λ (f : List ℕ). AreSweptLines o f n.graph lines) is are, printed)
+
+-- behind the head line the lines of networks are their text
+pub networks_behind : (o : SweepOptions) (ns : List Network) (first head old new : List ℕ) →
+    first ≡ front_head o.form →
+    head ≡ head_of o.form o.sheet →
+    old ≡ first ++ head →
+    (lines : List ℕ) × AreLinesOfAll o ns lines × (new ≡ old ++ lines) →
+    IsNetworksText o ns new
+networks_behind o ns first head old new is named put (lines, each, printed) = record {
+  lines = lines;
+  each = each;
+  printed = printed ∙ ap (λ (t : List ℕ). t ++ lines) (put ∙ (ap (λ (f : List ℕ). f ++ head) is ∙ ap (λ (h : List ℕ). front_head o.form ++ h) named));
+}
+
+-- a write that succeeded wrote all
+pub swept_all : (o : SweepOptions) (ns : List Network) (bytes output : List ℕ) (old new : Option (List ℕ)) →
+    bytes ≡ output →
+    HasWritten old new bytes (length bytes) →
+    IsNetworksText o ns output →
+    HasSwept o ns old new (Ok tt)
+swept_all o ns bytes output old new same has text = (output, text, subst (λ (b : List ℕ). HasWritten old new b (length b)) same has)
+
+-- and one that failed the first bytes
+pub swept_part : (o : SweepOptions) (ns : List Network) (bytes output : List ℕ) (old new : Option (List ℕ)) (r : Result (Unit {0}) ServeFault) (written : ℕ) →
+    bytes ≡ output →
+    r ≡ Err (serve.Write written) →
+    written < length bytes →
+    HasWritten old new bytes written →
+    IsNetworksText o ns output →
+    HasSwept o ns old new r
+swept_part o ns bytes output old new r written same is less has text =
+    rw is (output, text, subst (λ (b : List ℕ). written < length b) same less, subst (λ (b : List ℕ). HasWritten old new b written) same has)
+
+-- where memory was wanting nothing was written
+pub swept_none : (o : SweepOptions) (ns : List Network) (old : Option (List ℕ)) (r : Result (Unit {0}) ServeFault) →
+    r ≡ Err serve.Memory →
+    HasSwept o ns old old r
+swept_none o ns old r is = rw is refl

@@ -1,0 +1,48 @@
+-- Sweeps of networks, whose lines begin with names.
+use Rattle.std.specs.Prelude.{◌≡◌, ℕ, ◌<◌, List, [], ◌∷◌, ◌++◌, length, string_bytes, Option, Result, Ok, Err}
+use Rattle.ghs_gr.specs.Judgement.{TextIs}
+use Rattle.ghs_gr.specs.RawGraph.{RawShape}
+use Rattle.ghs_graph.specs.Graph.{Shape}
+use Rattle.ghs_report.specs.Writing.{HasWritten}
+use Rattle.ghs_steps.specs.declared.form.Form.{Form}
+use Rattle.ghs_steps.specs.declared.form.Form.TheVariants.{Text, Json}
+use Rattle.ghs_sweep.specs.declared.front.TheConstants.{FRONT_HEAD}
+use Rattle.ghs_sweep.specs.Front.{front_of}
+use Rattle.ghs_words.specs.declared.job.SweepOptions.{SweepOptions}
+use Rattle.ghs_cli.specs.declared.fault.ServeFault.{ServeFault}
+use Rattle.ghs_cli.specs.declared.fault.ServeFault.TheVariants as serve
+use Rattle.ghs_cli.specs.declared.networks.Network.{Network}
+use Rattle.ghs_cli.specs.Serving.{shape_of}
+use Rattle.ghs_cli.specs.Sweeping.{AreSweptLines, head_of}
+
+-- the input is the text of this graph
+abbrev pub IsTextOf : List ℕ → Shape → Type 0
+IsTextOf input g = (graph : RawShape) × TextIs input (Ok graph) × (g ≡ shape_of graph)
+
+-- the lines of a network begin with its name
+abbrev pub AreLinesOf : SweepOptions → Network → List ℕ → Type 0
+AreLinesOf o n lines = AreSweptLines o (front_of o.form (string_bytes n.name)) n.graph lines
+
+-- the lines of networks, one's behind another's
+pub data AreLinesOfAll (o : SweepOptions) : List Network → List ℕ → Type 0 where
+  NoNetwork : AreLinesOfAll o [] []
+  NextNetwork : (ns : List Network) (n : Network) (text lines : List ℕ) → AreLinesOfAll o ns text → AreLinesOf o n lines →
+      AreLinesOfAll o (ns ++ n ∷ []) (text ++ lines)
+
+-- the name of the column of names
+abbrev pub front_head : Form → List ℕ
+front_head Text = FRONT_HEAD.now
+front_head Json = []
+
+-- the text of a sweep of networks: one head line, and the lines of each
+pub record IsNetworksText (o : SweepOptions) (ns : List Network) (text : List ℕ) : Type 0 where
+  pub lines : List ℕ
+  pub each : AreLinesOfAll o ns lines
+  pub printed : text ≡ front_head o.form ++ head_of o.form o.sheet ++ lines
+
+-- what has gone out of a sweep of networks: all of its text, or only its first bytes, where a write failed; nothing where memory was wanting
+abbrev pub HasSwept : SweepOptions → List Network → Option (List ℕ) → Option (List ℕ) → Result (Unit {0}) ServeFault → Type 0
+HasSwept o ns old new (Ok u) = (output : List ℕ) × IsNetworksText o ns output × HasWritten old new output (length output)
+HasSwept o ns old new (Err (serve.Write written)) = (output : List ℕ) × IsNetworksText o ns output × (written < length output) × HasWritten old new output written
+HasSwept o ns old new (Err serve.Memory) = new ≡ old
+HasSwept o ns old new (Err fault) = ⊥

@@ -1,0 +1,132 @@
+//! Sweeps of several networks, whose lines begin with names.
+ghost use Rattle.ghs_words.specs.Job.{AreSweepLimits};
+ghost use Rattle.ghs_cli.specs.Networks.{AreLinesOf, AreLinesOfAll, HasSwept, IsNetworksText, IsTextOf, front_head};
+ghost use Rattle.ghs_cli.specs.Serving.{IsGraphCause, IsWrite};
+ghost use Rattle.ghs_cli.specs.declared.fault.ServeFault.{ServeFault};
+ghost use Rattle.std.specs.Prelude.{◌≡◌, ◌++◌, ◌↔◌, List, ℕ, false, string_bytes, true, IfErr, IfOk, IfSome, IsErrOf};
+
+use crate::fault::ServeFault;
+use crate::progress::tell_networks;
+use crate::sweeping::{built, head_of, put_swept};
+use ghs_gr::device::{Sink, Source};
+use ghs_gr::judgement::read_gr;
+use ghs_graph::graph::Graph;
+use ghs_report::write_out::write_out;
+use ghs_steps::form::Form;
+use ghs_sweep::front::{FRONT_HEAD, front_of};
+use ghs_words::job::SweepOptions;
+use std::alloc::{AllocError, Global};
+use std::thread::Threads;
+
+/// A network with its name, as its lines have it.
+#[derive(Drop)]
+pub struct Network {
+    pub name: String,
+    pub graph: Graph,
+}
+
+/// Reads the network of this name that a device gives. Faults: those of the graph's text, and want of memory.
+pub fn read_network<S: Source>(
+    alloc: Global,
+    name: &str,
+    source: &mut S,
+) -> Result<Network, ServeFault>
+    requires { S.has_failed source.old ≡ false }
+    ensures name { IfOk result (λ network. string_bytes network.name ≡ name.now) }
+    ensures graph { IfOk result (λ network. IfSome (S.left source.old) (λ input. IsTextOf input network.graph)) }
+    ensures fault { IfErr result (λ fault. IfSome (S.left source.old) (λ input. IsGraphCause input fault)) }
+    ensures read { IsErrOf result ServeFault.Read ↔ (S.has_failed source.new ≡ true) }
+{
+    let raw = read_gr(alloc, source)?;
+    let graph = built(alloc, raw)?;
+    let name = String::from_str(alloc, name)?;
+    Ok(Network { name, graph })
+}
+
+/// Sweeps networks, and writes the text: one head line, and the lines of each network behind its name, in the order of the
+/// networks. Threads share the runs of one network after another. The text is made whole before its first byte goes out,
+/// and it is the same for every number of threads. Faults: want of memory, and then a write that fails.
+pub fn sweep_networks<W: Sink, H: Threads + Sync + Eprint>(
+    rt: &H,
+    alloc: Global,
+    options: &SweepOptions,
+    networks: &[Network],
+    out: &mut W,
+) -> Result<(), ServeFault>
+    requires limits { AreSweepLimits options.now }
+    requires out { W.has_failed out.old ≡ false }
+    ensures swept { HasSwept options.now networks.now (W.held out.old) (W.held out.new) result }
+    ensures write { IsWrite result ↔ (W.has_failed out.new ≡ true) }
+{
+    let text = networks_text(rt, alloc, options, networks)?;
+    write_out(out, &text)?;
+    Ok(())
+}
+
+/// The text of a sweep of networks.
+fn networks_text<H: Threads + Sync + Eprint>(
+    rt: &H,
+    alloc: Global,
+    options: &SweepOptions,
+    networks: &[Network],
+) -> Result<Vec<u8>, AllocError>
+    requires { AreSweepLimits options.now }
+    ensures { IfOk result (λ text. IsNetworksText options.now networks.now text.items) }
+{
+    let mut text = Vec::from_slice(alloc, front_head(options.form))?;
+    text.extend_from_slice(head_of(options.form, options.sheet))?;
+    put_networks(rt, alloc, &mut text, options, networks)?;
+    Ok(text)
+}
+
+/// Puts the lines of networks behind a text. Where that is asked for, standard error is told after each network but the
+/// last how many have been swept.
+fn put_networks<H: Threads + Sync + Eprint>(
+    rt: &H,
+    alloc: Global,
+    text: &mut Vec<u8>,
+    options: &SweepOptions,
+    networks: &[Network],
+) -> Result<(), AllocError>
+    requires { AreSweepLimits options.now }
+    ensures { IfOk result (λ _. (lines : List ℕ) × AreLinesOfAll options.now networks.now lines × (text.new.items ≡ text.old.items ++ lines)) }
+{
+    for (place, network) in networks.iter().enumerate() {
+        put_network(rt, alloc, text, options, network)?;
+        tell(rt, options, place + 1, networks.len());
+    }
+    Ok(())
+}
+
+/// Tells that so many of the networks have been swept, where that is asked for and there are more.
+fn tell<H: Eprint>(rt: &H, options: &SweepOptions, done: usize, count: usize) {
+    if options.progress && done < count {
+        tell_networks(rt, done, count);
+    }
+}
+
+/// The name of the column of names, and a comma; lines of JSON say it with each name.
+fn front_head(form: Form) -> &'static [u8]
+    ensures { result.now ≡ front_head form }
+{
+    match form {
+        Form::Text => FRONT_HEAD,
+        Form::Json => b"",
+    }
+}
+
+/// Puts the lines of a network behind a text.
+fn put_network<H: Threads + Sync + Eprint>(
+    rt: &H,
+    alloc: Global,
+    text: &mut Vec<u8>,
+    options: &SweepOptions,
+    network: &Network,
+) -> Result<(), AllocError>
+    requires { AreSweepLimits options.now }
+    ensures { IfOk result (λ _. (lines : List ℕ) × AreLinesOf options.now network.now lines × (text.new.items ≡ text.old.items ++ lines)) }
+{
+    let front = front_of(alloc, options.form, network.name.as_str())?;
+    put_swept(rt, alloc, text, options, &front, &network.graph)?;
+    Ok(())
+}
