@@ -1,9 +1,10 @@
 -- Lines of networks, one's behind another's.
-use Rattle.std.proofs.Common.{◌≡◌, ◌++◌, ◌+◌, ◌<◌, ◌∙◌, List, ℕ, Option, Ok, Err, ap, append_assoc, length, refl, subst, sym, take}
+use Rattle.std.proofs.Common.{◌≡◌, ◌++◌, ◌+◌, ◌<◌, ◌∙◌, List, ℕ, Option, Ok, Err, ap, append_assoc, length, refl, string_bytes, subst, sym, take}
 use Rattle.std.specs.Prelude.{Result}
 use Rattle.std.specs.List.{slice_index_or}
 use Rattle.std.proofs.lemmas.List.{take_more}
 use Rattle.ghs_words.specs.declared.job.SweepOptions.{SweepOptions}
+use Rattle.ghs_sweep.specs.Front.{front_of}
 use Rattle.ghs_report.specs.Writing.{HasWritten}
 use Rattle.ghs_cli.specs.declared.fault.ServeFault.{ServeFault}
 use Rattle.ghs_cli.specs.declared.fault.ServeFault.TheVariants as serve
@@ -25,11 +26,12 @@ one_network_more o ns i n old text new within (lines, before, first) (more, next
 )
 
 -- the lines of a network, each behind a front that is its name's
-pub lines_behind : (o : SweepOptions) (n : Network) (front name old new : List ℕ) →
-    front ≡ name →
+pub lines_behind : (o : SweepOptions) (n : Network) (front old new : List ℕ) →
+    front ≡ front_of o.form (string_bytes n.name) →
     (lines : List ℕ) × AreSweptLines o front n.graph lines × (new ≡ old ++ lines) →
-    (lines : List ℕ) × AreSweptLines o name n.graph lines × (new ≡ old ++ lines)
-lines_behind o n front name old new is (lines, are, printed) = (lines, subst (λ (f : List ℕ). AreSweptLines o f n.graph lines) is are, printed)
+    (lines : List ℕ) × AreLinesOf o n lines × (new ≡ old ++ lines)
+lines_behind o n front old new is (lines, are, printed) =
+    (lines, record { swept = subst (λ (f : List ℕ). AreSweptLines o f n.graph lines) is are }, printed)
 
 -- behind the head line the lines of networks are their text
 pub networks_behind : (o : SweepOptions) (ns : List Network) (first head old new : List ℕ) →

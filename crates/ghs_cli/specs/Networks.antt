@@ -20,8 +20,8 @@ abbrev pub IsTextOf : List ℕ → Shape → Type 0
 IsTextOf input g = (graph : RawShape) × TextIs input (Ok graph) × (g ≡ shape_of graph)
 
 -- the lines of a network begin with its name
-abbrev pub AreLinesOf : SweepOptions → Network → List ℕ → Type 0
-AreLinesOf o n lines = AreSweptLines o (front_of o.form (string_bytes n.name)) n.graph lines
+pub record AreLinesOf (o : SweepOptions) (n : Network) (lines : List ℕ) : Type 0 where
+  pub swept : AreSweptLines o (front_of o.form (string_bytes n.name)) n.graph lines
 
 -- the lines of networks, one's behind another's
 pub data AreLinesOfAll (o : SweepOptions) : List Network → List ℕ → Type 0 where

@@ -130,18 +130,48 @@ fn put_sheet(
     requires small { All HasSmallWeight runs.now }
     ensures { IfOk result (λ _. (lines : List ℕ) × AreSheetLines options.now.sheet options.now.form front.now (setup_of options.now) options.now.seeds.first runs.now lines × (text.new.items ≡ text.old.items ++ lines)) }
 {
+    match options.sheet {
+        Sheet::Runs => put_lines(text, options, front, runs),
+        Sheet::Summary => put_measures(alloc, text, options, front, runs),
+    }
+}
+
+/// The lines of the runs.
+fn put_lines(
+    text: &mut Vec<u8>,
+    options: &SweepOptions,
+    front: &[u8],
+    runs: &[Figures],
+) -> Result<(), AllocError>
+    requires limits { AreSweepLimits options.now }
+    requires all { length runs.now ≡ count_of options.now }
+    requires sheet { options.now.sheet ≡ Sheet.Runs }
+    ensures { IfOk result (λ _. (lines : List ℕ) × AreSheetLines options.now.sheet options.now.form front.now (setup_of options.now) options.now.seeds.first runs.now lines × (text.new.items ≡ text.old.items ++ lines)) }
+{
     let Seeds { first, last } = options.seeds;
     prove!(first <= last);
-    match options.sheet {
-        Sheet::Runs => {
-            put_runs(text, options.form, front, setup_of(options), first, runs)?;
-            Ok(())
-        }
-        Sheet::Summary => {
-            put_summary(alloc, text, options.form, front, runs)?;
-            Ok(())
-        }
-    }
+    put_runs(text, options.form, front, setup_of(options), first, runs)?;
+    Ok(())
+}
+
+/// The lines of their summary.
+fn put_measures(
+    alloc: Global,
+    text: &mut Vec<u8>,
+    options: &SweepOptions,
+    front: &[u8],
+    runs: &[Figures],
+) -> Result<(), AllocError>
+    requires limits { AreSweepLimits options.now }
+    requires all { length runs.now ≡ count_of options.now }
+    requires small { All HasSmallWeight runs.now }
+    requires sheet { options.now.sheet ≡ Sheet.Summary }
+    ensures { IfOk result (λ _. (lines : List ℕ) × AreSheetLines options.now.sheet options.now.form front.now (setup_of options.now) options.now.seeds.first runs.now lines × (text.new.items ≡ text.old.items ++ lines)) }
+{
+    let Seeds { first, last } = options.seeds;
+    prove!(first <= last);
+    put_summary(alloc, text, options.form, front, runs)?;
+    Ok(())
 }
 
 /// The figures of the runs of a sweep, batch by batch. Where that is asked for, standard error is told after each batch
