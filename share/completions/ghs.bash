@@ -42,7 +42,7 @@ _ghs() {
         run) [[ $word == -* ]] && COMPREPLY=($(compgen -W '--seed --schedule --workers --wake --turns --print --core --progress -h --help' -- "$word")) ;;
         replay) [[ $word == -* ]] && COMPREPLY=($(compgen -W '--wake -h --help' -- "$word")) ;;
         steps) [[ $word == -* ]] && COMPREPLY=($(compgen -W '--wake --from --to --node --json -h --help' -- "$word")) ;;
-        sweep) [[ $word == -* ]] && COMPREPLY=($(compgen -W '--seeds --schedule --workers --wake --turns --print --progress -h --help' -- "$word")) ;;
+        sweep) [[ $word == -* ]] && COMPREPLY=($(compgen -W '--seeds --schedule --workers --wake --turns --print --names --json --progress -h --help' -- "$word")) ;;
         view) [[ $word == -* ]] && COMPREPLY=($(compgen -W '--seed --seeds --schedule --wake --turns --trace --from --to -h --help' -- "$word")) ;;
         make) [[ $word == -* ]] && COMPREPLY=($(compgen -W '--seed --links --weights -h --help' -- "$word"))
             [[ $word == -* ]] || { [ "$COMP_CWORD" -eq 2 ] && COMPREPLY=($(compgen -W 'path ring star grid complete tree random road forest slow busy' -- "$word")); return; } ;;
