@@ -214,9 +214,9 @@ const ledIn = hash => {
   const found = /^#(\d+)[^&]*&g=([^&]*)&e=([^&]*)(&first)?$/.exec(hash);
   try { return found && { at: +found[1], graph: decoded(found[2]), events: long_events(found[3]), first: !!found[4] }; } catch { return null; }
 };
-goAddress = function () {
-  if (!graphText || location.hash === address()) return;
-  const led = ledIn(location.hash), head = location.hash.split('&')[0];
+goAddress = function (hash = location.hash) {
+  if (!graphText || hash === address()) return;
+  const led = ledIn(hash), head = hash.split('&')[0];
   if (led && (led.graph !== graphText || led.first !== wakeFirst || short_events(led.events) !== short_events(eventsNow()))) {
     const was = wakeFirst;
     wakeFirst = led.first;
@@ -224,7 +224,7 @@ goAddress = function () {
     $('wakers').value = wakeFirst ? 'first' : '';
   }
   history.replaceState(null, '', head);
-  goAddressOf();
+  goAddressOf(head);
 };
 
 // ---- graphs and traces from elsewhere, and kept

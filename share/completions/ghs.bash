@@ -3,12 +3,12 @@ _ghs() {
     local word=${COMP_WORDS[COMP_CWORD]} before=${COMP_WORDS[COMP_CWORD - 1]}
     COMPREPLY=()
     if [ "$COMP_CWORD" -eq 1 ]; then
-        COMPREPLY=($(compgen -W 'tree run replay steps sweep view make help -h --help -V --version' -- "$word"))
+        COMPREPLY=($(compgen -W 'tree run replay steps sweep view make explore help -h --help -V --version' -- "$word"))
         return
     fi
     case ${COMP_WORDS[1]},$before in
         run,--seed) : && return ;;
-        run,--schedule) COMPREPLY=($(compgen -W 'seeded patient rounds' -- "$word")) && return ;;
+        run,--schedule) COMPREPLY=($(compgen -W 'seeded patient rounds waits lifo' -- "$word")) && return ;;
         run,--workers) : && return ;;
         run,--wake) COMPREPLY=($(compgen -W 'all first' -- "$word")) && return ;;
         run,--turns) : && return ;;
@@ -19,14 +19,15 @@ _ghs() {
         steps,--to) : && return ;;
         steps,--node) : && return ;;
         sweep,--seeds) : && return ;;
-        sweep,--schedule) COMPREPLY=($(compgen -W 'seeded patient rounds' -- "$word")) && return ;;
+        sweep,--schedule) COMPREPLY=($(compgen -W 'seeded patient rounds waits lifo' -- "$word")) && return ;;
         sweep,--workers) : && return ;;
         sweep,--wake) COMPREPLY=($(compgen -W 'all first' -- "$word")) && return ;;
         sweep,--turns) : && return ;;
-        sweep,--print) COMPREPLY=($(compgen -W 'runs summary' -- "$word")) && return ;;
+        sweep,--print) COMPREPLY=($(compgen -W 'runs summary chart' -- "$word")) && return ;;
+        sweep,--by) COMPREPLY=($(compgen -W 'node level rule' -- "$word")) && return ;;
         view,--seed) : && return ;;
         view,--seeds) : && return ;;
-        view,--schedule) COMPREPLY=($(compgen -W 'seeded patient rounds' -- "$word")) && return ;;
+        view,--schedule) COMPREPLY=($(compgen -W 'seeded patient rounds waits lifo' -- "$word")) && return ;;
         view,--wake) COMPREPLY=($(compgen -W 'all first' -- "$word")) && return ;;
         view,--turns) : && return ;;
         view,--trace) COMPREPLY=($(compgen -f -- "$word")) && return ;;
@@ -35,17 +36,22 @@ _ghs() {
         make,--seed) : && return ;;
         make,--links) : && return ;;
         make,--weights) COMPREPLY=($(compgen -W 'random rising falling equal' -- "$word")) && return ;;
-        help,*) COMPREPLY=($(compgen -W 'tree run replay steps sweep view make help' -- "$word")) && return ;;
+        explore,--wake) COMPREPLY=($(compgen -W 'all first' -- "$word")) && return ;;
+        explore,--limit) : && return ;;
+        explore,--print) COMPREPLY=($(compgen -W 'report trace' -- "$word")) && return ;;
+        explore,--end) : && return ;;
+        help,*) COMPREPLY=($(compgen -W 'tree run replay steps sweep view make explore help' -- "$word")) && return ;;
     esac
     case ${COMP_WORDS[1]} in
         tree) [[ $word == -* ]] && COMPREPLY=($(compgen -W '--core -h --help' -- "$word")) ;;
-        run) [[ $word == -* ]] && COMPREPLY=($(compgen -W '--seed --schedule --workers --wake --turns --print --core --progress -h --help' -- "$word")) ;;
+        run) [[ $word == -* ]] && COMPREPLY=($(compgen -W '--seed --schedule --workers --wake --turns --print --core --progress --tally -h --help' -- "$word")) ;;
         replay) [[ $word == -* ]] && COMPREPLY=($(compgen -W '--wake -h --help' -- "$word")) ;;
         steps) [[ $word == -* ]] && COMPREPLY=($(compgen -W '--wake --from --to --node --json -h --help' -- "$word")) ;;
-        sweep) [[ $word == -* ]] && COMPREPLY=($(compgen -W '--seeds --schedule --workers --wake --turns --print --names --json --progress -h --help' -- "$word")) ;;
+        sweep) [[ $word == -* ]] && COMPREPLY=($(compgen -W '--seeds --schedule --workers --wake --turns --print --by --names --json --progress -h --help' -- "$word")) ;;
         view) [[ $word == -* ]] && COMPREPLY=($(compgen -W '--seed --seeds --schedule --wake --turns --trace --from --to -h --help' -- "$word")) ;;
         make) [[ $word == -* ]] && COMPREPLY=($(compgen -W '--seed --links --weights -h --help' -- "$word"))
             [[ $word == -* ]] || { [ "$COMP_CWORD" -eq 2 ] && COMPREPLY=($(compgen -W 'path ring star grid complete tree random road forest slow busy' -- "$word")); return; } ;;
+        explore) [[ $word == -* ]] && COMPREPLY=($(compgen -W '--wake --limit --print --end --progress -h --help' -- "$word")) ;;
     esac
     [[ $word == -* ]] || COMPREPLY=($(compgen -f -- "$word"))
 }

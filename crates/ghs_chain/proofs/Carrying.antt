@@ -1,5 +1,5 @@
 -- Chains that follow an event before it happens.
-use Rattle.std.proofs.Common.{◌≡◌, ℕ, suc, ◌<◌, Bool, true, false, Some, List, [], ◌∷◌, ◌++◌, length, refl, sym, ◌∙◌, ap, ap₂, subst, arith, add-one}
+use Rattle.std.proofs.Common.{◌≡◌, ℕ, suc, ◌<◌, Bool, false, List, [], ◌∷◌, ◌++◌, length, refl, sym, ◌∙◌, ap, ap₂, subst, arith, add-one}
 use Rattle.std.specs.List.{All}
 use Rattle.std.proofs.Math.Path.{fun_ext}
 use Rattle.ghs_graph.specs.Graph.{Shape, IsGraph}
@@ -11,7 +11,7 @@ use Rattle.ghs_node.specs.Reaction.{requeues}
 use Rattle.ghs_node.specs.Words.{is_sleeping}
 use Rattle.ghs_protocol.specs.declared.event.Event.{Event}
 use Rattle.ghs_protocol.specs.declared.event.Event.TheVariants.{Take}
-use Rattle.ghs_protocol.specs.Net.{Net, event_node, happens, put}
+use Rattle.ghs_protocol.specs.Net.{event_node, put}
 use Rattle.ghs_protocol.specs.Network.{far, far_port, network_of}
 use Rattle.ghs_protocol.specs.Run.{IsRun}
 use Rattle.ghs_protocol.proofs.lemmas.Graphs.{graph_few, graph_wired}

@@ -4,6 +4,7 @@ pub mod Bounding
 pub mod Placing
 pub mod Lengths
 pub mod Filling
+pub mod Flat
 pub mod Swapping
 pub mod Carrying
 mod Examples

@@ -1,5 +1,5 @@
 -- What a change of a number or of a line makes of the chains.
-use Rattle.std.proofs.Common.{suc, ◌≡◌, ◌≢◌, ℕ, Bool, ◌+◌, ◌<◌, ◌≤◌, Some, None, List, [], ◌∷◌, ◌++◌, length, set, take, refl, sym, ◌∙◌, ap, ⊎_elim, slice_index, replicate, arith, get_or-set_same, get_or-set_other, length-set, add-one}
+use Rattle.std.proofs.Common.{suc, ◌≡◌, ◌≢◌, ℕ, Bool, ◌+◌, ◌<◌, ◌≤◌, Some, None, List, [], ◌∷◌, ◌++◌, length, set, take, refl, sym, ◌∙◌, ap, ⊎_elim, slice_index, replicate, arith, get_or-set_same, get_or-set_other, add-one}
 use Rattle.std.specs.List.{slice_get, slice_index_or}
 use Rattle.std.proofs.Math.Path.{fun_ext}
 use Rattle.std.proofs.lemmas.Bool.{cases_eq, cases_lt}
@@ -11,7 +11,7 @@ use Rattle.ghs_protocol.specs.Network.{Network, far, far_port}
 use Rattle.ghs_protocol.specs.Net.{put, put_at}
 use Rattle.ghs_protocol.proofs.lemmas.Updates.{put_same, put_other}
 use Rattle.ghs_chain.specs.Chains.{Chains, behind, heard, no_chains, sent, sent_on, taken, with_last}
-use Rattle.ghs_chain.specs.Kept.{ChangesLine, HasPlace, Kept, SamePlaces, line_at, row_of, seen, stepped}
+use Rattle.ghs_chain.specs.Kept.{ChangesLine, HasPlace, Kept, SamePlaces, line_at, line_of, row_of, seen, stepped}
 
 -- chains with these queues, and with these numbers
 abbrev pub with_queue : Chains → (ℕ → ℕ → List ℕ) → Chains
@@ -20,24 +20,10 @@ with_queue c q = record { node = c.node; queue = q }
 abbrev pub with_both : (ℕ → ℕ) → (ℕ → ℕ → List ℕ) → Chains
 with_both n q = record { node = n; queue = q }
 
--- the rows with one row changed at one port
-pub rows_placed : (rows : List (List (List ℕ))) (v p : ℕ) (row : List (List ℕ)) (line : List ℕ) → v < length rows →
-    ChangesLine (slice_index_or rows v []) row p line →
-    (λ (u q : ℕ). line_at (slice_index_or (set rows v row) u []) q) ≡ put_at (λ u q. line_at (slice_index_or rows u []) q) v p line
-rows_placed rows v p row line lt c = fun_ext (λ u. fun_ext (λ q. ⊎_elim (here u q) (there u q) (cases_eq u v)))
-  where
-    old : ℕ → ℕ → List ℕ
-    old u q = line_at (slice_index_or rows u []) q
-
-    here : (u q : ℕ) → u ≡ v → line_at (slice_index_or (set rows v row) u []) q ≡ put_at old v p line u q
-    here u q e =
-        rw e (ap (λ (r : List (List ℕ)). line_at r q) (get_or-set_same rows v row [] lt)
-        ∙ c.lines q ∙ sym (ap (λ (f : ℕ → List ℕ). f q) (put_same old v (put (old v) p line))))
-
-    there : (u q : ℕ) → u ≢ v → line_at (slice_index_or (set rows v row) u []) q ≡ put_at old v p line u q
-    there u q ne =
-        ap (λ (r : List (List ℕ)). line_at r q) (get_or-set_other rows v u row [] ne)
-        ∙ sym (ap (λ (f : ℕ → List ℕ). f q) (put_other old v u (put (old v) p line) ne))
+-- the queues with one changed
+pub rows_placed : (rows rows' : List (List (List ℕ))) (v p : ℕ) (line : List ℕ) → ChangesLine rows rows' v p line →
+    line_of rows' ≡ put_at (line_of rows) v p line
+rows_placed rows rows' v p line c = fun_ext (λ u. fun_ext (c.lines u))
 
 -- the numbers with one number changed
 pub numbers_placed : (numbers : List ℕ) (v n : ℕ) → v < length numbers →
@@ -63,54 +49,37 @@ put_at_none {A} f v p x e = fun_ext (λ u. fun_ext (λ q. ⊎_elim (here u q) (t
     there u q ne = ap (λ (g : ℕ → A). g q) (put_other f v u (put (f v) p x) ne)
 
 -- no number was there
-pub none_taken : (k k' : Kept) (v p : ℕ) (asleep : Bool) (f : Fate) (row : List (List ℕ)) → v < length k.rows →
-    k'.numbers ≡ k.numbers → k'.rows ≡ set k.rows v row →
-    ChangesLine (row_of k v) row p (stepped f (line_at (row_of k v) p)) →
-    None ≡ slice_get (line_at (row_of k v) p) 0 →
+pub none_taken : (k k' : Kept) (v p : ℕ) (asleep : Bool) (f : Fate) → k'.numbers ≡ k.numbers →
+    ChangesLine k.rows k'.rows v p (stepped f (line_of k.rows v p)) →
+    None ≡ slice_get (line_of k.rows v p) 0 →
     seen k' ≡ taken v p asleep f ((seen k).queue v p) (seen k)
 unfolding seen
-none_taken k k' v p asleep f row lt numbers rows c none = go (line_at (row_of k v) p) refl c none
+none_taken k k' v p asleep f numbers c none = go (line_of k.rows v p) refl c none
   where
-    go : (line : List ℕ) → line_at (row_of k v) p ≡ line → ChangesLine (row_of k v) row p (stepped f line) → None ≡ slice_get line 0 →
+    go : (line : List ℕ) → line_of k.rows v p ≡ line → ChangesLine k.rows k'.rows v p (stepped f line) → None ≡ slice_get line 0 →
         seen k' ≡ taken v p asleep f line (seen k)
     go [] e d n =
-        let queue = ap (λ (r : List (List (List ℕ))). (λ (u q : ℕ). line_at (slice_index_or r u []) q)) rows ∙ rows_placed k.rows v p row [] lt d
-        ∙ put_at_none (λ u q. line_at (row_of k u) q) v p [] (sym e) in
+        let queue = rows_placed k.rows k'.rows v p [] d ∙ put_at_none (line_of k.rows) v p [] (sym e) in
         rw numbers (ap (with_queue (seen k)) queue)
     go (t ∷ ts) e d n = cc
 
 -- one was
-pub one_taken : (k k' : Kept) (v p : ℕ) (asleep : Bool) (f : Fate) (row : List (List ℕ)) (t n : ℕ) → v < length k.rows → v < length k.numbers →
-    k'.numbers ≡ set k.numbers v n → n ≡ heard f asleep (slice_index k.numbers v) t → k'.rows ≡ set k.rows v row →
-    ChangesLine (row_of k v) row p (stepped f (line_at (row_of k v) p)) →
-    Some t ≡ slice_get (line_at (row_of k v) p) 0 →
+pub one_taken : (k k' : Kept) (v p : ℕ) (asleep : Bool) (f : Fate) (t n : ℕ) → v < length k.numbers →
+    k'.numbers ≡ set k.numbers v n → n ≡ heard f asleep (slice_index k.numbers v) t →
+    ChangesLine k.rows k'.rows v p (stepped f (line_of k.rows v p)) →
+    Some t ≡ slice_get (line_of k.rows v p) 0 →
     seen k' ≡ taken v p asleep f ((seen k).queue v p) (seen k)
 unfolding seen
-one_taken k k' v p asleep f row t n lt lt' numbers value rows c some = go (line_at (row_of k v) p) c some
+one_taken k k' v p asleep f t n lt numbers value c some = go (line_of k.rows v p) c some
   where
-    go : (line : List ℕ) → ChangesLine (row_of k v) row p (stepped f line) → Some t ≡ slice_get line 0 → seen k' ≡ taken v p asleep f line (seen k)
+    go : (line : List ℕ) → ChangesLine k.rows k'.rows v p (stepped f line) → Some t ≡ slice_get line 0 → seen k' ≡ taken v p asleep f line (seen k)
     go [] d s = cc
     go (x ∷ ts) d s =
         let same : t ≡ x = cc in
-        let queue = ap (λ (r : List (List (List ℕ))). (λ (u q : ℕ). line_at (slice_index_or r u []) q)) rows ∙ rows_placed k.rows v p row (behind f x ts) lt d in
-        let node = ap (λ (l : List ℕ). (λ (u : ℕ). slice_index l u)) numbers ∙ numbers_placed k.numbers v n lt'
+        let queue = rows_placed k.rows k'.rows v p (behind f x ts) d in
+        let node = ap (λ (l : List ℕ). (λ (u : ℕ). slice_index l u)) numbers ∙ numbers_placed k.numbers v n lt
         ∙ ap (λ (m : ℕ). put (λ u. slice_index k.numbers u) v m) (value ∙ ap (heard f asleep (slice_index k.numbers v)) same) in
         ap (λ (m : ℕ → ℕ). with_both m (seen k').queue) node ∙ ap (with_both (put (seen k).node v (heard f asleep ((seen k).node v) x))) queue
-
--- as many of everything
-pub same_placed : (k k' : Kept) (v : ℕ) (row : List (List ℕ)) → v < length k.rows → length k'.numbers ≡ length k.numbers → k'.rows ≡ set k.rows v row →
-    length row ≡ length (row_of k v) → SamePlaces k k'
-same_placed k k' v row lt numbers rows count = record {
-  numbers = numbers;
-  rows = ap length rows ∙ length-set k.rows v row;
-  ports = λ u. ap (λ (r : List (List (List ℕ))). length (slice_index_or r u [])) rows ∙ ⊎_elim (here u) (there u) (cases_eq u v);
-}
-  where
-    here : (u : ℕ) → u ≡ v → length (slice_index_or (set k.rows v row) u []) ≡ length (row_of k u)
-    here u e = rw e (ap length (get_or-set_same k.rows v row [] lt) ∙ count)
-
-    there : (u : ℕ) → u ≢ v → length (slice_index_or (set k.rows v row) u []) ≡ length (row_of k u)
-    there u ne = ap length (get_or-set_other k.rows v u row [] ne)
 
 pub same_then : (a b c : Kept) → SamePlaces a b → SamePlaces b c → SamePlaces a c
 same_then a b c s t = record {
@@ -139,13 +108,11 @@ sent_last g v [] s c = refl
 sent_last g v (x ∷ ss) s c = sent_last g v ss s (sent_on g v x.0 c)
 
 -- a message more waits
-pub one_pushed : (k k' : Kept) (v p n : ℕ) (row : List (List ℕ)) → v < length k.rows → k'.numbers ≡ k.numbers → k'.rows ≡ set k.rows v row →
-    ChangesLine (row_of k v) row p (line_at (row_of k v) p ++ n ∷ []) →
+pub one_pushed : (k k' : Kept) (v p n : ℕ) → k'.numbers ≡ k.numbers → ChangesLine k.rows k'.rows v p (line_of k.rows v p ++ n ∷ []) →
     seen k' ≡ with_last v p n (seen k)
 unfolding seen
-one_pushed k k' v p n row lt numbers rows c =
-    let queue = ap (λ (r : List (List (List ℕ))). (λ (u q : ℕ). line_at (slice_index_or r u []) q)) rows
-    ∙ rows_placed k.rows v p row (line_at (row_of k v) p ++ n ∷ []) lt c in
+one_pushed k k' v p n numbers c =
+    let queue = rows_placed k.rows k'.rows v p (line_of k.rows v p ++ n ∷ []) c in
     rw numbers (ap (with_queue (seen k)) queue)
 
 -- one message more is out

@@ -1,12 +1,11 @@
 -- Two events that have nothing to do with each other, in either order.
-use Rattle.std.proofs.Common.{◌≡◌, ◌≢◌, ℕ, suc, ◌+◌, ◌≤◌, ◌<◌, Bool, true, false, ◌&&◌, ◌==◌, ◌⊎◌, inl, inr, Option, Some, None, List, [], ◌∷◌, ◌++◌, length, map, refl, sym, ◌∙◌, ap, ap₂, subst, cond, ⊎_elim, append_assoc, arith}
-use Rattle.std.specs.List.{All, slice_index_or}
+use Rattle.std.proofs.Common.{◌≡◌, ◌≢◌, ℕ, suc, ◌+◌, Bool, true, false, ◌&&◌, ◌==◌, Option, Some, None, List, [], ◌∷◌, ◌++◌, length, refl, sym, ◌∙◌, ap, ap₂, subst, cond, ⊎_elim, arith}
+use Rattle.std.specs.List.{slice_index_or}
 use Rattle.std.specs.Prelude.{IsSome}
-use Rattle.std.proofs.lemmas.Bool.{and_parts, and_from, cases_eq}
+use Rattle.std.proofs.lemmas.Bool.{and_parts, cases_eq}
 use Rattle.std.proofs.lemmas.List.Elements.{All-nil, All-cons}
 use Rattle.std.proofs.lemmas.Option.{same_Some}
 use Rattle.std.proofs.Math.Path.{fun_ext}
-use Rattle.ghs_graph.specs.Graph.{Shape, IsGraph}
 use Rattle.ghs_node.specs.declared.delta.Delta.{Delta}
 use Rattle.ghs_node.specs.declared.delta.Fate.{Fate}
 use Rattle.ghs_node.specs.declared.delta.Fate.TheVariants.{Consumed, Requeued}
@@ -24,10 +23,10 @@ use Rattle.ghs_protocol.specs.Laws.{IsNetOf}
 use Rattle.ghs_protocol.specs.Ledger.{of_kind}
 use Rattle.ghs_protocol.specs.Net.{Net, change, effect, event_node, happens, is_lawful, is_node, is_port, is_waiting, left_of, one_if_consumed, one_if_requeued, opening, put, put_at, send, send_all, take_first, takes_from, after_take, after_wake}
 use Rattle.ghs_protocol.specs.Network.{Network, At, far, far_port, network_of}
-use Rattle.ghs_protocol.specs.Run.{IsAfter, IsRun, and_then, run}
+use Rattle.ghs_protocol.specs.Run.{and_then, run}
 use Rattle.ghs_protocol.specs.Steps as steps
 use Rattle.ghs_protocol.specs.Steps.{sent_on}
-use Rattle.ghs_protocol.proofs.lemmas.Events.{at_of, if_some, lawful_happens, node_of}
+use Rattle.ghs_protocol.proofs.lemmas.Events.{at_of, lawful_happens, node_of}
 use Rattle.ghs_protocol.proofs.lemmas.Graphs.{graph_few, graph_wired}
 use Rattle.ghs_protocol.proofs.lemmas.Laws.{events_have_rules}
 use Rattle.ghs_protocol.proofs.lemmas.Nodes.{ports_many}
@@ -38,9 +37,9 @@ use Rattle.ghs_protocol.proofs.lemmas.Updates.{put_other, put_same}
 use Rattle.ghs_protocol.proofs.lemmas.WellFormed.{IsWellFormed, after_formed, event_row}
 use Rattle.ghs_protocol.proofs.lemmas.Wired.{IsWired}
 use Rattle.ghs_core.specs.Dispatch.{arriving}
-use Rattle.ghs_core.specs.NetState.{delivery, work_at}
-use Rattle.ghs_chain.specs.Chains.{Chains, answered, behind, chains_after, chains_of, chains_then, heard, hears, if_then, longest_chain, most_below, no_chains, reacted, sent, sent_on as number_on, taken}
-use Rattle.ghs_chain.specs.Swaps.{AreAlike, AreApart, AreSwapped, No_swap, OrdersAreAlike, PutsBackAt, SendsTo, Swap_more, SwapsAreAlike, answer}
+use Rattle.ghs_core.specs.NetState.{delivery}
+use Rattle.ghs_chain.specs.Chains.{Chains, answered, behind, chains_after, chains_of, chains_then, heard, hears, if_then, most_below, no_chains, sent, sent_on as number_on, taken}
+use Rattle.ghs_chain.specs.Swaps.{AreAlike, AreApart, No_swap, OrdersAreAlike, PutsBackAt, SendsTo, Swap_more, SwapsAreAlike, answer}
 use Rattle.ghs_chain.proofs.Filling.{IsFit, OnPorts, StaysClear, acts, acts_swap, comes, fills, first_stays, on_port, taking, turned}
 use Rattle.ghs_chain.proofs.Lengths.{SameLengths, same_lengths}
 

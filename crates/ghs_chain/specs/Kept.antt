@@ -6,7 +6,7 @@ use Rattle.ghs_node.specs.declared.delta.Fate.{Fate}
 use Rattle.ghs_protocol.specs.declared.event.Event.{Event}
 use Rattle.ghs_protocol.specs.declared.event.Event.TheVariants.{Wake, Take}
 use Rattle.ghs_protocol.specs.Network.{network_of}
-use Rattle.ghs_protocol.specs.Net.{put}
+use Rattle.ghs_protocol.specs.Net.{put_at}
 use Rattle.ghs_core.specs.NetState.{NetState}
 use Rattle.ghs_chain.specs.Chains.{Chains, behind, chains_of}
 
@@ -25,10 +25,15 @@ line_at row p = slice_index_or row p []
 unfoldable pub seen : Kept → Chains
 seen k = record { node = λ v. slice_index k.numbers v; queue = λ v p. line_at (row_of k v) p }
 
--- the row with another line at a port
-pub record ChangesLine (old new : List (List ℕ)) (p : ℕ) (line : List ℕ) : Type 0 where
+-- what waits at port p of node v
+abbrev pub line_of : List (List (List ℕ)) → ℕ → ℕ → List ℕ
+line_of rows v p = line_at (slice_index_or rows v []) p
+
+-- the rows with another line at port p of node v
+pub record ChangesLine (old new : List (List (List ℕ))) (v p : ℕ) (line : List ℕ) : Type 0 where
   pub count : length new ≡ length old
-  pub lines : (q : ℕ) → line_at new q ≡ put (line_at old) p line q
+  pub ports : (u : ℕ) → length (slice_index_or new u []) ≡ length (slice_index_or old u [])
+  pub lines : (u q : ℕ) → line_of new u q ≡ put_at (line_of old) v p line u q
 
 -- the line once its first number was taken, or where there was none
 abbrev pub stepped : Fate → List ℕ → List ℕ

@@ -11,7 +11,7 @@ use Rattle.ghs_protocol.specs.Net.{Net, event_node, is_lawful, opening}
 use Rattle.ghs_protocol.specs.Run.{IsAfter, IsRun, run}
 use Rattle.ghs_core.specs.Dispatch.{arriving}
 use Rattle.ghs_core.specs.NetState.{work_at}
-use Rattle.ghs_chain.specs.Chains.{Chains, chains_of, longest_chain}
+use Rattle.ghs_chain.specs.Chains.{chains_of, longest_chain}
 
 -- what the event's node does, where there is a rule
 abbrev pub answer : Net → Event → Option Delta

@@ -6,7 +6,7 @@ ghost use Rattle.ghs_protocol.specs.Network.{far, far_port, network_of};
 ghost use Rattle.std.specs.List.{All};
 ghost use Rattle.std.specs.Prelude.{◌≡◌, ◌+◌, ◌-◌, ◌<◌, ◌≤◌, ◌^◌, IfOk, length, OnOk, slice_get, slice_index};
 
-use crate::row::Row;
+use crate::rows::Rows;
 use ghs_graph::graph::Graph;
 use ghs_node::delta::Fate;
 use ghs_node::message::Message;
@@ -17,9 +17,10 @@ use std::marker::Model;
 /// A number for each node, and one for each message that waits: how many messages have led to it, one because of another.
 #[derive(Debug, Drop)]
 pub struct Chains {
+    alloc: Global,
     // By the numbers of nodes; 0 is none.
     numbers: Vec<u64>,
-    rows: Vec<Row>,
+    rows: Rows,
 }
 
 impl Model for Chains {
@@ -27,7 +28,7 @@ impl Model for Chains {
 
     ghost Value = { Kept };
 
-    ghost view = { λ c. record { numbers = c.numbers.items; rows = c.rows.items } };
+    ghost view = { λ c. record { numbers = c.numbers.items; rows = c.rows } };
 }
 
 impl Chains {
@@ -38,12 +39,12 @@ impl Chains {
     {
         let nodes = graph.nodes();
         let numbers = vec![in alloc; 0u64; nodes as usize + 1]?;
-        let mut rows = Vec::with_capacity(alloc, nodes as usize + 1)?;
-        rows.push(Row::new(alloc, 0)?)?;
-        for i in 0..nodes {
-            rows.push(Row::new(alloc, graph.ports(i + 1).len())?)?;
-        }
-        Ok(Chains { numbers, rows })
+        let rows = Rows::none(alloc, graph)?;
+        Ok(Chains {
+            alloc,
+            numbers,
+            rows,
+        })
     }
 
     /// The number of the message that waits at a place of a port's queue, counted from 0.
@@ -51,7 +52,7 @@ impl Chains {
         requires { HasPlace self.now v port }
         ensures { result ≡ slice_get ((seen self.now).queue v port) place }
     {
-        self.rows[v as usize].get(port, place)
+        self.rows.get(v, port, place)
     }
 
     /// The node of an event, asleep or not, hears of the message that the event takes, if it takes one. Refusal: want of
@@ -74,7 +75,7 @@ impl Chains {
         ensures taken { OnOk result (seen self.new ≡ taken v port asleep fate ((seen self.old).queue v port) (seen self.old)) }
     {
         let at = v as usize;
-        if let Some(number) = self.rows[at].step(port, fate)? {
+        if let Some(number) = self.rows.step(v, port, fate)? {
             self.numbers[at] = heard(fate, asleep, self.numbers[at], number);
         }
         Ok(())
@@ -112,7 +113,7 @@ impl Chains {
         ensures numbers { OnOk result (self.new.numbers ≡ self.old.numbers) }
         ensures last { OnOk result (seen self.new ≡ with_last v port number (seen self.old)) }
     {
-        self.rows[v as usize].push(port, number)?;
+        self.rows.push(self.alloc, v, port, number)?;
         Ok(())
     }
 

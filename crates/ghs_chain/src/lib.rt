@@ -5,4 +5,5 @@ pub mod chain;
 pub mod chains;
 pub mod follow;
 pub mod laws;
-mod row;
+mod line;
+mod rows;

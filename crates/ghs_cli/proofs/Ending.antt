@@ -50,6 +50,7 @@ task_goes_on (task.Sweep o) stored input one cause is = absurd cause
 task_goes_on (task.View o) stored input one cause is = absurd (let run = is.run in cc)
 task_goes_on (task.StoredView o) stored input one cause is = absurd (let run = is.run in cc)
 task_goes_on (task.Make asked) stored input one cause is = absurd (let run = is.run in cc)
+task_goes_on (task.Explore o) stored input one cause is = absurd (let run = is.run in cc)
 
 -- whatever is stored, and where the input is known
 pub never_stops : (job : Task) (stored input : Option (List ℕ)) →
@@ -65,6 +66,7 @@ never_stops (task.Sweep o) stored (Some i) one cause = λ is. task_goes_on (task
 never_stops (task.View o) stored (Some i) one cause = λ is. task_goes_on (task.View o) [] i (one i) (cause []) is
 never_stops (task.StoredView o) stored (Some i) one cause = λ is. absurd (let run = is.run in cc)
 never_stops (task.Make asked) stored (Some i) one cause = λ is. absurd (let run = is.run in cc)
+never_stops (task.Explore o) stored (Some i) one cause = λ is. absurd (let run = is.run in cc)
 
 -- nor is one whose output is that of the turn limit
 pub never_at_limit : (job : Task) (stored input : Option (List ℕ)) (output : List ℕ) →

@@ -1,7 +1,10 @@
 -- Serves the proofs: nothing here has to be believed.
+mod Charted
 mod Ending
+mod Explorations
 mod MadeNetworks
 mod Named
+mod Parted
 mod Runs
 mod Serves
 mod Sheets

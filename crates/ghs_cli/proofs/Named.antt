@@ -9,8 +9,8 @@ use Rattle.ghs_report.specs.Writing.{HasWritten}
 use Rattle.ghs_cli.specs.declared.fault.ServeFault.{ServeFault}
 use Rattle.ghs_cli.specs.declared.fault.ServeFault.TheVariants as serve
 use Rattle.ghs_cli.specs.declared.networks.Network.{Network}
-use Rattle.ghs_cli.specs.Networks.{AreLinesOf, AreLinesOfAll, HasSwept, IsNetworksText, NextNetwork, front_head}
-use Rattle.ghs_cli.specs.Sweeping.{AreSweptLines, head_of}
+use Rattle.ghs_cli.specs.Networks.{AreLinesOf, AreLinesOfAll, HasSwept, IsNetworksText, IsSweepOf, NextNetwork, front_head}
+use Rattle.ghs_cli.specs.Sweeping.{AreLines, head_by}
 
 -- where the lines of the first networks stand behind a text, and then those of the next, those of one more do
 pub one_network_more : (o : SweepOptions) (ns : List Network) (i : ℕ) (n : Network) (old text new : List ℕ) →
@@ -29,15 +29,15 @@ one_network_more o ns i n old text new is within (lines, before, first) (more, n
 -- the lines of a network, each behind a front that is its name's
 pub lines_behind : (o : SweepOptions) (n : Network) (front old new : List ℕ) →
     front ≡ front_of o.form (string_bytes n.name) →
-    (lines : List ℕ) × AreSweptLines o front n.graph lines × (new ≡ old ++ lines) →
+    (lines : List ℕ) × AreLines o.by o front n.graph lines × (new ≡ old ++ lines) →
     (lines : List ℕ) × AreLinesOf o n lines × (new ≡ old ++ lines)
 lines_behind o n front old new is (lines, are, printed) =
-    (lines, record { swept = subst (λ (f : List ℕ). AreSweptLines o f n.graph lines) is are }, printed)
+    (lines, record { swept = subst (λ (f : List ℕ). AreLines o.by o f n.graph lines) is are }, printed)
 
 -- behind the head line the lines of networks are their text
 pub networks_behind : (o : SweepOptions) (ns : List Network) (first head old new : List ℕ) →
     first ≡ front_head o.form →
-    head ≡ head_of o.form o.sheet →
+    head ≡ head_by o.by o.form o.sheet →
     old ≡ first ++ head →
     (lines : List ℕ) × AreLinesOfAll o ns lines × (new ≡ old ++ lines) →
     IsNetworksText o ns new
@@ -51,7 +51,7 @@ networks_behind o ns first head old new is named put (lines, each, printed) = re
 pub swept_all : (o : SweepOptions) (ns : List Network) (bytes output : List ℕ) (old new : Option (List ℕ)) →
     bytes ≡ output →
     HasWritten old new bytes (length bytes) →
-    IsNetworksText o ns output →
+    IsSweepOf o.sheet o ns output →
     HasSwept o ns old new (Ok tt)
 swept_all o ns bytes output old new same has text = (output, text, subst (λ (b : List ℕ). HasWritten old new b (length b)) same has)
 
@@ -61,7 +61,7 @@ pub swept_part : (o : SweepOptions) (ns : List Network) (bytes output : List ℕ
     r ≡ Err (serve.Write written) →
     written < length bytes →
     HasWritten old new bytes written →
-    IsNetworksText o ns output →
+    IsSweepOf o.sheet o ns output →
     HasSwept o ns old new r
 swept_part o ns bytes output old new r written same is less has text =
     rw is (output, text, subst (λ (b : List ℕ). written < length b) same less, subst (λ (b : List ℕ). HasWritten old new b written) same has)

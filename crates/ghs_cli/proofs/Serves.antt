@@ -30,6 +30,7 @@ if_stored (task.Run o) stored P Q f all = λ bytes. f bytes (all bytes)
 if_stored (task.Sweep o) stored P Q f all = λ bytes. f bytes (all bytes)
 if_stored (task.View o) stored P Q f all = λ bytes. f bytes (all bytes)
 if_stored (task.Make asked) stored P Q f all = λ bytes. f bytes (all bytes)
+if_stored (task.Explore o) stored P Q f all = λ bytes. f bytes (all bytes)
 if_stored (task.StoredView o) None P Q f all = tt
 if_stored (task.StoredView o) (Some bytes) P Q f all = f bytes all
 if_stored (task.Replay wake) None P Q f all = tt
@@ -51,6 +52,7 @@ begun (task.Sweep o) stored input old new early = tt
 begun (task.View o) stored input old new early = tt
 begun (task.StoredView o) stored input old new early = tt
 begun (task.Make asked) stored input old new early = absurd (let bad : true ≡ false = early in cc)
+begun (task.Explore o) stored input old new early = tt
 
 -- a fault behind which no write was tried is served by its cause
 pub serves_cause : (job : Task) (stored input : List ℕ) (old new : Option (List ℕ)) (fault : ServeFault) →
@@ -75,6 +77,9 @@ serves_cause job stored input old new serve.LinksGiven early cause = cause
 serves_cause job stored input old new serve.WeightsGiven early cause = cause
 serves_cause job stored input old new (serve.LinksOutside least most) early cause = cause
 serves_cause job stored input old new serve.TooManyLinks early cause = cause
+serves_cause job stored input old new serve.TooLargeToExplore early cause = cause
+serves_cause job stored input old new (serve.NoSuchEnd ends) early cause = cause
+serves_cause job stored input old new (serve.StateLimit limit) early cause = cause
 serves_cause job stored input old new serve.TurnLimit early cause = (cause, λ shows. absurd (let bad : true ≡ false = sym shows ∙ early in cc))
 serves_cause job stored input old new serve.Stalled early cause = cause
 serves_cause job stored input old new serve.NotEnded early cause = cause
@@ -126,6 +131,9 @@ goes_on wake own raw g done events serve.LinksGiven graph trace wakes run goes =
 goes_on wake own raw g done events serve.WeightsGiven graph trace wakes run goes = absurd goes
 goes_on wake own raw g done events (serve.LinksOutside least most) graph trace wakes run goes = absurd goes
 goes_on wake own raw g done events serve.TooManyLinks graph trace wakes run goes = absurd goes
+goes_on wake own raw g done events serve.TooLargeToExplore graph trace wakes run goes = absurd goes
+goes_on wake own raw g done events (serve.NoSuchEnd ends) graph trace wakes run goes = absurd goes
+goes_on wake own raw g done events (serve.StateLimit limit) graph trace wakes run goes = absurd goes
 goes_on wake own raw g done events serve.TurnLimit graph trace wakes run goes = absurd goes
 goes_on wake own raw g done events serve.Stalled graph trace wakes run goes = absurd goes
 goes_on wake own raw g done events serve.NotEnded graph trace wakes run goes = (
@@ -183,6 +191,7 @@ printed_of (task.Sweep o) stored input output out = out.1
 printed_of (task.View o) stored input output out = out.1
 printed_of (task.StoredView o) stored input output out = out.1
 printed_of (task.Make asked) stored input output out = absurd out
+printed_of (task.Explore o) stored input output out = out.1
 
 pub printed_at_limit : (job : Task) (stored input output : List ℕ) → IsOutput job true stored input output → IsPrintedAtLimit job input output
 printed_at_limit (task.Tree core) stored input output out = absurd (let bad : true ≡ false = out.0 in cc)
@@ -193,6 +202,7 @@ printed_at_limit (task.Sweep o) stored input output out = absurd (let bad : true
 printed_at_limit (task.View o) stored input output out = absurd (let bad : true ≡ false = out.0 in cc)
 printed_at_limit (task.StoredView o) stored input output out = absurd (let bad : true ≡ false = out.0 in cc)
 printed_at_limit (task.Make asked) stored input output out = absurd out
+printed_at_limit (task.Explore o) stored input output out = absurd (let bad : true ≡ false = out.0 in cc)
 
 tried_of : (job : Task) (at_limit : Bool) (stored input output : List ℕ) → IsOutput job at_limit stored input output → IsTried job stored input output
 tried_of (task.Tree core) at_limit stored input output out = out.1
@@ -203,6 +213,7 @@ tried_of (task.Sweep o) at_limit stored input output out = out.1
 tried_of (task.View o) at_limit stored input output out = out.1
 tried_of (task.StoredView o) at_limit stored input output out = out.1
 tried_of (task.Make asked) at_limit stored input output out = absurd out
+tried_of (task.Explore o) at_limit stored input output out = out.1
 
 -- only a run of a graph stops at a turn limit
 pub limit_cause : (job : Task) (stored input output : List ℕ) → IsPrintedAtLimit job input output → IsCause job stored input serve.TurnLimit
@@ -214,6 +225,7 @@ limit_cause (task.Sweep o) stored input output out = absurd out
 limit_cause (task.View o) stored input output out = absurd out
 limit_cause (task.StoredView o) stored input output out = absurd out
 limit_cause (task.Make asked) stored input output out = absurd out
+limit_cause (task.Explore o) stored input output out = absurd out
 
 -- a write that failed served the first bytes
 pub serves_part : (job : Task) (at_limit : Bool) (stored input bytes output : List ℕ) (old new : Option (List ℕ))

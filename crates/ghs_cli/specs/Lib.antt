@@ -1,5 +1,7 @@
 -- To be believed: contracts cite what stands here, and what it is made of.
+pub mod Charts
 pub mod Ending
+pub mod Exploring
 pub mod Fault
 pub mod Networks
 pub mod Running

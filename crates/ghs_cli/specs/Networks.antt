@@ -1,19 +1,24 @@
--- Sweeps of networks, whose lines begin with names.
+-- Sweeps of networks, whose lines begin with names, or whose charts have a panel for each.
 use Rattle.std.specs.Prelude.{◌≡◌, ℕ, ◌<◌, List, [], ◌∷◌, ◌++◌, length, string_bytes, Option, Result, Ok, Err}
 use Rattle.ghs_gr.specs.Judgement.{TextIs}
 use Rattle.ghs_gr.specs.RawGraph.{RawShape}
 use Rattle.ghs_graph.specs.Graph.{Shape}
 use Rattle.ghs_report.specs.Writing.{HasWritten}
+use Rattle.ghs_chart.specs.Chart.{chart_head}
+use Rattle.ghs_chart.specs.declared.texts.TheConstants.{CHART_TAIL}
 use Rattle.ghs_steps.specs.declared.form.Form.{Form}
 use Rattle.ghs_steps.specs.declared.form.Form.TheVariants.{Text, Json}
 use Rattle.ghs_sweep.specs.declared.front.TheConstants.{FRONT_HEAD}
 use Rattle.ghs_sweep.specs.Front.{front_of}
+use Rattle.ghs_words.specs.declared.job.Sheet.{Sheet}
+use Rattle.ghs_words.specs.declared.job.Sheet.TheVariants.{Chart, Runs, Summary}
 use Rattle.ghs_words.specs.declared.job.SweepOptions.{SweepOptions}
 use Rattle.ghs_cli.specs.declared.fault.ServeFault.{ServeFault}
 use Rattle.ghs_cli.specs.declared.fault.ServeFault.TheVariants as serve
 use Rattle.ghs_cli.specs.declared.networks.Network.{Network}
+use Rattle.ghs_cli.specs.Charts.{IsPanel}
 use Rattle.ghs_cli.specs.Serving.{shape_of}
-use Rattle.ghs_cli.specs.Sweeping.{AreSweptLines, head_of}
+use Rattle.ghs_cli.specs.Sweeping.{AreLines, head_by}
 
 -- the input is the text of this graph
 abbrev pub IsTextOf : List ℕ → Shape → Type 0
@@ -21,7 +26,7 @@ IsTextOf input g = (graph : RawShape) × TextIs input (Ok graph) × (g ≡ shape
 
 -- the lines of a network begin with its name
 pub record AreLinesOf (o : SweepOptions) (n : Network) (lines : List ℕ) : Type 0 where
-  pub swept : AreSweptLines o (front_of o.form (string_bytes n.name)) n.graph lines
+  pub swept : AreLines o.by o (front_of o.form (string_bytes n.name)) n.graph lines
 
 -- the lines of networks, one's behind another's
 pub data AreLinesOfAll (o : SweepOptions) : List Network → List ℕ → Type 0 where
@@ -38,11 +43,30 @@ front_head Json = []
 pub record IsNetworksText (o : SweepOptions) (ns : List Network) (text : List ℕ) : Type 0 where
   pub lines : List ℕ
   pub each : AreLinesOfAll o ns lines
-  pub printed : text ≡ front_head o.form ++ head_of o.form o.sheet ++ lines
+  pub printed : text ≡ front_head o.form ++ head_by o.by o.form o.sheet ++ lines
+
+-- the panels of networks, one's below another's
+pub data ArePanels (o : SweepOptions) : List Network → List ℕ → Type 0 where
+  NoPanel : ArePanels o [] []
+  NextPanel : (ns : List Network) (n : Network) (text panel : List ℕ) → ArePanels o ns text → IsPanel o (length ns) (string_bytes n.name) n.graph panel →
+      ArePanels o (ns ++ n ∷ []) (text ++ panel)
+
+-- the chart of networks
+pub record IsChart (o : SweepOptions) (ns : List Network) (text : List ℕ) : Type 0 where
+  pub panels : List ℕ
+  pub each : ArePanels o ns panels
+  pub printed : text ≡ chart_head (length ns) ++ panels ++ CHART_TAIL.now
+
+-- what a sweep of networks prints
+abbrev pub IsSweepOf : Sheet → SweepOptions → List Network → List ℕ → Type 0
+IsSweepOf Runs o ns text = IsNetworksText o ns text
+IsSweepOf Summary o ns text = IsNetworksText o ns text
+IsSweepOf Chart o ns text = IsChart o ns text
 
 -- what has gone out of a sweep of networks: all of its text, or only its first bytes, where a write failed; nothing where memory was wanting
 abbrev pub HasSwept : SweepOptions → List Network → Option (List ℕ) → Option (List ℕ) → Result (Unit {0}) ServeFault → Type 0
-HasSwept o ns old new (Ok u) = (output : List ℕ) × IsNetworksText o ns output × HasWritten old new output (length output)
-HasSwept o ns old new (Err (serve.Write written)) = (output : List ℕ) × IsNetworksText o ns output × (written < length output) × HasWritten old new output written
+HasSwept o ns old new (Ok u) = (output : List ℕ) × IsSweepOf o.sheet o ns output × HasWritten old new output (length output)
+HasSwept o ns old new (Err (serve.Write written)) =
+    (output : List ℕ) × IsSweepOf o.sheet o ns output × (written < length output) × HasWritten old new output written
 HasSwept o ns old new (Err serve.Memory) = new ≡ old
 HasSwept o ns old new (Err fault) = ⊥

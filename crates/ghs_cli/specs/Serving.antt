@@ -39,13 +39,15 @@ use Rattle.ghs_make.specs.Text.{text_of}
 use Rattle.ghs_make.specs.declared.fault.MakeFault.TheVariants as make
 use Rattle.ghs_make.specs.declared.network.Network.{Network}
 use Rattle.ghs_make.specs.declared.plan.Asked.{Asked}
+use Rattle.ghs_words.specs.declared.exploring.ExploreOptions.{ExploreOptions}
 use Rattle.ghs_words.specs.declared.job.StepsOptions.{StepsOptions}
 use Rattle.ghs_words.specs.declared.job.StoredViewOptions.{StoredViewOptions}
 use Rattle.ghs_words.specs.declared.job.SweepOptions.{SweepOptions}
 use Rattle.ghs_words.specs.declared.job.Task.{Task}
 use Rattle.ghs_words.specs.declared.job.Task.TheVariants as task
 use Rattle.ghs_words.specs.declared.job.ViewOptions.{ViewOptions}
-use Rattle.ghs_cli.specs.Sweeping.{IsSwept}
+use Rattle.ghs_cli.specs.Exploring.{HasNoExploration, IsExplored}
+use Rattle.ghs_cli.specs.Charts.{IsSweepText}
 use Rattle.ghs_cli.specs.Viewing.{HasNoStoredView, HasNoView, IsStoredView, IsView}
 
 -- the keys of a graph's links
@@ -161,7 +163,7 @@ pub record IsStepsText (o : StepsOptions) (stored input output : List ℕ) : Typ
 
 -- the input is the text of a graph, and the output that of a sweep of it
 abbrev pub IsSweepOutput : SweepOptions → List ℕ → List ℕ → Type 0
-IsSweepOutput o input output = (graph : RawShape) × TextIs input (Ok graph) × IsSwept o (shape_of graph) output
+IsSweepOutput o input output = (graph : RawShape) × TextIs input (Ok graph) × IsSweepText o.sheet o (shape_of graph) output
 
 -- the input is the text of a graph, and the output the page of a run of it
 abbrev pub IsViewOutput : ViewOptions → List ℕ → List ℕ → Type 0
@@ -182,6 +184,10 @@ pub record IsMade (asked : Asked) (output : List ℕ) : Type 0 where
   pub fits : IsNetworkOf asked network
   pub printed : output ≡ text_of network
 
+-- the input is the text of a graph, and the output what its exploration has found
+abbrev pub IsExploreOutput : ExploreOptions → List ℕ → List ℕ → Type 0
+IsExploreOutput o input output = (graph : RawShape) × TextIs input (Ok graph) × IsExplored o (shape_of graph) output
+
 -- what a task prints
 abbrev pub IsPrinted : Task → List ℕ → List ℕ → List ℕ → Type 0
 IsPrinted (task.Tree core) stored input output = IsTreeText core input output
@@ -192,6 +198,7 @@ IsPrinted (task.Sweep o) stored input output = IsSweepOutput o input output
 IsPrinted (task.View o) stored input output = IsViewOutput o input output
 IsPrinted (task.StoredView o) stored input output = IsStoredViewOutput o stored input output
 IsPrinted (task.Make asked) stored input output = IsMade asked output
+IsPrinted (task.Explore o) stored input output = IsExploreOutput o input output
 
 -- what a task prints before it answers that its turns are used
 abbrev pub IsPrintedAtLimit : Task → List ℕ → List ℕ → Type 0
@@ -203,6 +210,7 @@ IsPrintedAtLimit (task.Sweep o) input output = ⊥
 IsPrintedAtLimit (task.View o) input output = ⊥
 IsPrintedAtLimit (task.StoredView o) input output = ⊥
 IsPrintedAtLimit (task.Make asked) input output = ⊥
+IsPrintedAtLimit (task.Explore o) input output = ⊥
 
 -- what is stored gives this fault; it may be too long, and the reader and memory may fail for any
 abbrev pub IsTraceCause : List ℕ → ServeFault → Type 0
@@ -297,6 +305,10 @@ IsMakeCause asked serve.TooManyLinks = IsRefusal asked make.TooManyLinks
 IsMakeCause asked serve.Memory = Unit {0}
 IsMakeCause asked _ = ⊥
 
+-- why an exploration prints nothing: the graph, or what is found of it
+abbrev pub IsExploreCause : ExploreOptions → List ℕ → ServeFault → Type 0
+IsExploreCause o input fault = IsGraphCause input fault ⊎ ((graph : RawShape) × TextIs input (Ok graph) × HasNoExploration o (shape_of graph) fault)
+
 -- why a task doesn't end well
 abbrev pub IsCause : Task → List ℕ → List ℕ → ServeFault → Type 0
 IsCause (task.Tree core) stored input fault = IsGraphCause input fault
@@ -307,6 +319,7 @@ IsCause (task.Sweep o) stored input fault = IsGraphCause input fault
 IsCause (task.View o) stored input fault = IsViewCause o input fault
 IsCause (task.StoredView o) stored input fault = IsStoredViewCause o stored input fault
 IsCause (task.Make asked) stored input fault = IsMakeCause asked fault
+IsCause (task.Explore o) stored input fault = IsExploreCause o input fault
 
 -- what goes out whole for a task, and whether the answer behind it is that its turns are used; steps go out by portions
 abbrev pub IsOutput : Task → Bool → List ℕ → List ℕ → List ℕ → Type 0
@@ -318,6 +331,7 @@ IsOutput (task.Sweep o) at_limit stored input output = (at_limit ≡ false) × I
 IsOutput (task.View o) at_limit stored input output = (at_limit ≡ false) × IsViewOutput o input output
 IsOutput (task.StoredView o) at_limit stored input output = (at_limit ≡ false) × IsStoredViewOutput o stored input output
 IsOutput (task.Make asked) at_limit stored input output = ⊥
+IsOutput (task.Explore o) at_limit stored input output = (at_limit ≡ false) × IsExploreOutput o input output
 
 -- what may have gone out in part
 abbrev pub IsTried : Task → List ℕ → List ℕ → List ℕ → Type 0
@@ -329,6 +343,7 @@ IsTried (task.Sweep o) stored input output = IsSweepOutput o input output
 IsTried (task.View o) stored input output = IsViewOutput o input output
 IsTried (task.StoredView o) stored input output = IsStoredViewOutput o stored input output
 IsTried (task.Make asked) stored input output = IsMade asked output
+IsTried (task.Explore o) stored input output = IsExploreOutput o input output
 
 -- whether the events of a run are asked for
 abbrev pub is_events : Show → Bool
@@ -345,6 +360,7 @@ shows_events (task.Sweep o) = false
 shows_events (task.View o) = false
 shows_events (task.StoredView o) = false
 shows_events (task.Make asked) = false
+shows_events (task.Explore o) = false
 
 -- where the events of a run are asked for, they have gone out before the answer that its turns are used
 abbrev pub HasShown : Task → List ℕ → Option (List ℕ) → Option (List ℕ) → Type 0
@@ -375,6 +391,7 @@ IfStored (task.Sweep o) stored P = (bytes : List ℕ) → P bytes
 IfStored (task.View o) stored P = (bytes : List ℕ) → P bytes
 IfStored (task.StoredView o) stored P = IfSome stored P
 IfStored (task.Make asked) stored P = (bytes : List ℕ) → P bytes
+IfStored (task.Explore o) stored P = (bytes : List ℕ) → P bytes
 
 abbrev pub is_write : ServeFault → Bool
 is_write (serve.Write written) = true
@@ -403,6 +420,7 @@ by_portions (task.Sweep o) = false
 by_portions (task.View o) = false
 by_portions (task.StoredView o) = false
 by_portions (task.Make asked) = true
+by_portions (task.Explore o) = false
 
 -- a fault that may come behind output
 abbrev pub is_late : Task → ServeFault → Bool
@@ -423,3 +441,4 @@ IsUnread (task.Sweep o) old new = new ≡ old
 IsUnread (task.View o) old new = new ≡ old
 IsUnread (task.StoredView o) old new = Unit {0}
 IsUnread (task.Make asked) old new = new ≡ old
+IsUnread (task.Explore o) old new = new ≡ old

@@ -1,6 +1,11 @@
 -- Sweeps of a graph.
-use Rattle.std.specs.Prelude.{◌≡◌, ℕ, ◌+◌, ◌-◌, List, [], ◌++◌, length}
+use Rattle.std.specs.Prelude.{◌≡◌, ℕ, ◌+◌, ◌-◌, List, [], ◌++◌, length, Option, Some, None}
 use Rattle.ghs_graph.specs.Graph.{Shape}
+use Rattle.ghs_protocol.specs.declared.event.Event.{Event}
+use Rattle.ghs_picking.specs.Picking.{IsPickedBy}
+use Rattle.ghs_parts.specs.declared.by.By.{By}
+use Rattle.ghs_parts.specs.Line.{head_line}
+use Rattle.ghs_parts.specs.Lines.{run_text}
 use Rattle.ghs_steps.specs.declared.form.Form.{Form}
 use Rattle.ghs_steps.specs.declared.form.Form.TheVariants.{Text, Json}
 use Rattle.ghs_sweep.specs.declared.figures.Figures.{Figures}
@@ -12,7 +17,7 @@ use Rattle.ghs_sweep.specs.Lines.{line_behind, run_lines}
 use Rattle.ghs_sweep.specs.Summary.{AreSummaryLines}
 use Rattle.ghs_sweep.specs.Sweep.{AreRuns}
 use Rattle.ghs_words.specs.declared.job.Sheet.{Sheet}
-use Rattle.ghs_words.specs.declared.job.Sheet.TheVariants.{Runs, Summary}
+use Rattle.ghs_words.specs.declared.job.Sheet.TheVariants.{Chart, Runs, Summary}
 use Rattle.ghs_words.specs.declared.job.SweepOptions.{SweepOptions}
 
 -- what its runs have in common
@@ -27,12 +32,15 @@ count_of o = o.seeds.last - o.seeds.first + 1
 abbrev pub head_of : Form → Sheet → List ℕ
 head_of Text Runs = HEAD_LINE.now
 head_of Text Summary = SUMMARY_HEAD.now
+head_of Text Chart = []
 head_of Json sheet = []
 
--- what is printed of runs whose seeds rise from the first on: a line for each of them, or their summary, each line behind a front
+-- what is printed of runs whose seeds rise from the first on: a line for each of them, or their summary, each line behind a front; a
+-- chart has no lines
 abbrev pub AreSheetLines : Sheet → Form → List ℕ → Setup → ℕ → List Figures → List ℕ → Type 0
 AreSheetLines Runs form front setup first runs lines = lines ≡ run_lines (line_behind form front setup) first runs
 AreSheetLines Summary form front setup first runs lines = AreSummaryLines form front runs lines
+AreSheetLines Chart form front setup first runs lines = lines ≡ []
 
 -- the lines of the sweep of a graph, printed of the runs of just its seeds, each behind a front
 pub record AreSweptLines (o : SweepOptions) (front : List ℕ) (g : Shape) (lines : List ℕ) : Type 0 where
@@ -41,8 +49,31 @@ pub record AreSweptLines (o : SweepOptions) (front : List ℕ) (g : Shape) (line
   pub all : length runs ≡ count_of o
   pub printed : AreSheetLines o.sheet o.form front (setup_of o) o.seeds.first runs lines
 
+-- a seed's run by parts: a line for each of them, each behind a front
+pub record IsPartedRun (o : SweepOptions) (by : By) (front : List ℕ) (g : Shape) (seed : ℕ) (lines : List ℕ) : Type 0 where
+  pub events : List Event
+  pub run : IsPickedBy o.picking seed o.wake o.turns g events
+  pub printed : lines ≡ run_text o.form front by seed g events
+
+-- the runs of so many seeds by parts, from the first on, one's lines behind another's
+pub data ArePartedRuns (o : SweepOptions) (by : By) (front : List ℕ) (g : Shape) (first : ℕ) : ℕ → List ℕ → Type 0 where
+  NoRun : ArePartedRuns o by front g first 0 []
+  NextRun : (n : ℕ) (text lines : List ℕ) → ArePartedRuns o by front g first n text → IsPartedRun o by front g (first + n) lines →
+      ArePartedRuns o by front g first (n + 1) (text ++ lines)
+
+-- the lines of the sweep of a graph: of its runs, or of their parts
+abbrev pub AreLines : Option By → SweepOptions → List ℕ → Shape → List ℕ → Type 0
+AreLines None o front g lines = AreSweptLines o front g lines
+AreLines (Some by) o front g lines = ArePartedRuns o by front g o.seeds.first (count_of o) lines
+
+-- the names of its columns
+abbrev pub head_by : Option By → Form → Sheet → List ℕ
+head_by None form sheet = head_of form sheet
+head_by (Some by) Text sheet = head_line by
+head_by (Some by) Json sheet = []
+
 -- the text of the sweep that options ask for
 pub record IsSwept (o : SweepOptions) (g : Shape) (text : List ℕ) : Type 0 where
   pub lines : List ℕ
-  pub are : AreSweptLines o (bare_front o.form) g lines
-  pub printed : text ≡ head_of o.form o.sheet ++ lines
+  pub are : AreLines o.by o (bare_front o.form) g lines
+  pub printed : text ≡ head_by o.by o.form o.sheet ++ lines

@@ -51,6 +51,12 @@ pub enum ServeFault {
     LinksOutside { least: u32, most: u32 },
     #[error("more than 8388608 links")]
     TooManyLinks,
+    #[error("too large to explore: at most 12 nodes and 20 links")]
+    TooLargeToExplore,
+    #[error("no such end: there are {ends}")]
+    NoSuchEnd { ends: u64 },
+    #[error("more than {limit} states")]
+    StateLimit { limit: u32 },
     #[error("turn limit reached")]
     TurnLimit,
     /// Never answered: while a run goes on, an event is ready.
@@ -75,13 +81,14 @@ pub enum ServeFault {
 }
 
 impl ServeFault {
-    /// The program's exit status: 1 where the input is refused, 3 where a run hasn't ended, 4 for want of memory or of a
+    /// The program's exit status: 1 where the input is refused, 3 where a run hasn't ended or there are more states than may be, 4 for want of memory or of a
     /// thread, 5 where a read or a write failed, 6 for workers that stop without a reason and a state that has no rule.
     pub fn status(&self) -> u8
         ensures { result ≡ status_of self.now }
     {
         match self {
             ServeFault::TurnLimit => 3,
+            ServeFault::StateLimit { limit: _ } => 3,
             ServeFault::Stalled => 3,
             ServeFault::NotEnded => 3,
             ServeFault::Memory => 4,

@@ -2,10 +2,13 @@
 #![tactic(auto)]
 
 mod beside;
+mod charting;
+mod exploring;
 pub mod fault;
 mod making;
 pub mod networks;
 mod output;
+mod parting;
 mod progress;
 mod replaying;
 mod running;

@@ -1,20 +1,21 @@
 //! Sweeps of several networks, whose lines begin with names.
 ghost use Rattle.ghs_words.specs.Job.{AreSweepLimits};
-ghost use Rattle.ghs_cli.specs.Networks.{AreLinesOf, AreLinesOfAll, HasSwept, IsNetworksText, IsTextOf, front_head};
+ghost use Rattle.ghs_cli.specs.Networks.{AreLinesOf, AreLinesOfAll, HasSwept, IsNetworksText, IsSweepOf, IsTextOf, front_head};
 ghost use Rattle.ghs_cli.specs.Serving.{IsGraphCause, IsWrite};
 ghost use Rattle.ghs_cli.specs.declared.fault.ServeFault.{ServeFault};
 ghost use Rattle.std.specs.Prelude.{◌≡◌, ◌++◌, ◌↔◌, List, ℕ, false, string_bytes, true, IfErr, IfOk, IfSome, IsErrOf};
 
+use crate::charting::chart_text;
 use crate::fault::ServeFault;
 use crate::progress::tell_networks;
-use crate::sweeping::{built, head_of, put_swept};
+use crate::sweeping::{built, head_by, put_lines_of};
 use ghs_gr::device::{Sink, Source};
 use ghs_gr::judgement::read_gr;
 use ghs_graph::graph::Graph;
 use ghs_report::write_out::write_out;
 use ghs_steps::form::Form;
 use ghs_sweep::front::{FRONT_HEAD, front_of};
-use ghs_words::job::SweepOptions;
+use ghs_words::job::{Sheet, SweepOptions};
 use std::alloc::{AllocError, Global};
 use std::thread::Threads;
 
@@ -58,9 +59,25 @@ pub fn sweep_networks<W: Sink, H: Threads + Sync + Eprint>(
     ensures swept { HasSwept options.now networks.now (W.held out.old) (W.held out.new) result }
     ensures write { IsWrite result ↔ (W.has_failed out.new ≡ true) }
 {
-    let text = networks_text(rt, alloc, options, networks)?;
+    let text = sweep_text(rt, alloc, options, networks)?;
     write_out(out, &text)?;
     Ok(())
+}
+
+/// What a sweep of networks prints: lines, or a chart.
+fn sweep_text<H: Threads + Sync + Eprint>(
+    rt: &H,
+    alloc: Global,
+    options: &SweepOptions,
+    networks: &[Network],
+) -> Result<Vec<u8>, AllocError>
+    requires { AreSweepLimits options.now }
+    ensures { IfOk result (λ text. IsSweepOf options.now.sheet options.now networks.now text.items) }
+{
+    match options.sheet {
+        Sheet::Runs | Sheet::Summary => networks_text(rt, alloc, options, networks),
+        Sheet::Chart => chart_text(rt, alloc, options, networks),
+    }
 }
 
 /// The text of a sweep of networks.
@@ -74,7 +91,7 @@ fn networks_text<H: Threads + Sync + Eprint>(
     ensures { IfOk result (λ text. IsNetworksText options.now networks.now text.items) }
 {
     let mut text = Vec::from_slice(alloc, front_head(options.form))?;
-    text.extend_from_slice(head_of(options.form, options.sheet))?;
+    text.extend_from_slice(head_by(options.by, options.form, options.sheet))?;
     put_networks(rt, alloc, &mut text, options, networks)?;
     Ok(text)
 }
@@ -99,7 +116,7 @@ fn put_networks<H: Threads + Sync + Eprint>(
 }
 
 /// Tells that so many of the networks have been swept, where that is asked for and there are more.
-fn tell<H: Eprint>(rt: &H, options: &SweepOptions, done: usize, count: usize) {
+pub(crate) fn tell<H: Eprint>(rt: &H, options: &SweepOptions, done: usize, count: usize) {
     if options.progress && done < count {
         tell_networks(rt, done, count);
     }
@@ -127,6 +144,6 @@ fn put_network<H: Threads + Sync + Eprint>(
     ensures { IfOk result (λ _. (lines : List ℕ) × AreLinesOf options.now network.now lines × (text.new.items ≡ text.old.items ++ lines)) }
 {
     let front = front_of(alloc, options.form, network.name.as_str())?;
-    put_swept(rt, alloc, text, options, &front, &network.graph)?;
+    put_lines_of(rt, alloc, text, options, &front, &network.graph)?;
     Ok(())
 }

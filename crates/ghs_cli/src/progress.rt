@@ -1,4 +1,4 @@
-//! How far a run or a sweep has come, told on standard error while it goes on; of a run also when it is over.
+//! How far a run, a sweep or a search has come, told on standard error while it goes on; of a run also when it is over.
 ghost use Rattle.ghs_pool.specs.Ends.{EndFits};
 ghost use Rattle.ghs_pool.specs.Follows.{Follows};
 ghost use Rattle.ghs_pool.specs.Shop.{IsTold};
@@ -6,8 +6,9 @@ ghost use Rattle.std.specs.Prelude.{◌≡◌, ◌≤◌, []};
 
 use ghs_board::board::{Board, Publisher, Reader};
 use ghs_board::progress::Progress;
+use ghs_explore::watch::Watch;
 use ghs_pool::end::PoolFault;
-use ghs_pool::gate::OpenGate;
+use ghs_pool::gate::{Gate, Tally};
 use ghs_pool::shop::pair_of;
 use ghs_pool::workers::{run_watched, run_workers};
 use ghs_sched::run::RunEnd;
@@ -58,11 +59,12 @@ impl Bell {
 
 /// Runs a world on by workers, as `run_workers` does, while an observer tells how far it has come. An observer that can't
 /// be started is left out.
-pub(crate) fn run_told<R: Threads + Wait + Eprint + Sync>(
+pub(crate) fn run_told<G: Gate + Sync, R: Threads + Wait + Eprint + Sync>(
     rt: &R,
     alloc: Global,
     world: World,
     workers: u32,
+    gate: &G,
 ) -> (World, Result<RunEnd, PoolFault>)
     requires workers { (1 ≤ workers) × (workers ≤ 64) }
     ensures out { result.0.outs ≡ [] }
@@ -70,7 +72,7 @@ pub(crate) fn run_told<R: Threads + Wait + Eprint + Sync>(
     ensures end { EndFits result.0 result.1 }
 {
     let Ok((board, publisher, reader)) = Board::open(alloc, pair_of(&world)) else {
-        return run_workers(rt, alloc, world, workers, &OpenGate);
+        return run_workers(rt, alloc, world, workers, gate);
     };
     let bell = Bell::new();
     let (board, bell) = (&board, &bell);
@@ -89,7 +91,7 @@ pub(crate) fn run_told<R: Threads + Wait + Eprint + Sync>(
                 requires { reader.table ≡ board.now }
             { observe(rt, board, reader, bell) };
             let _ = scope.spawn(observer);
-            let ran = run_watched(rt, alloc, world, workers, &OpenGate, publisher);
+            let ran = run_watched(rt, alloc, world, workers, gate, publisher);
             bell.ring();
             ran
         },
@@ -116,6 +118,39 @@ fn observe<R: Wait + Eprint>(rt: &R, board: &Board, mut reader: Reader, bell: &B
     unreachable!()
 }
 
+/// Tells at the end of each of the threads what it has done, where that is asked for.
+#[derive(Drop)]
+pub(crate) struct Tallying<'a, R: Eprint> {
+    rt: &'a R,
+    asked: bool,
+}
+
+impl<'a, R: Eprint> Tallying<'a, R> {
+    pub(crate) fn new(rt: &'a R, asked: bool) -> Tallying<'a, R> {
+        Tallying { rt, asked }
+    }
+}
+
+impl<'a, R: Eprint> Gate for Tallying<'a, R> {
+    fn between(&self, _ticket: u64) {}
+
+    /// A line that can't be written is passed over.
+    fn ended(&self, tally: Tally) {
+        if self.asked {
+            let Tally {
+                worker,
+                commits,
+                crowded,
+                beside,
+            } = tally;
+            let _ = eprintln!(
+                self.rt;
+                "worker {worker}: {commits} events, {crowded} crowded, {beside} beside another's"
+            );
+        }
+    }
+}
+
 /// Writes the line that follows a run: how many events there were, and whether it has ended.
 pub(crate) fn tell_end<R: Eprint>(rt: &R, end: Progress) {
     let Progress { commits, halted } = end;
@@ -131,4 +166,26 @@ pub(crate) fn tell_seeds<R: Eprint>(rt: &R, done: u64, count: u64) {
 /// Writes how many of the networks of a sweep have been swept.
 pub(crate) fn tell_networks<R: Eprint>(rt: &R, done: usize, count: usize) {
     let _ = eprintln!(rt; "{done} of {count} graphs");
+}
+
+/// Tells how far a search through states has come, where that is asked for.
+#[derive(Drop)]
+pub(crate) struct Teller<'a, R: Eprint> {
+    rt: &'a R,
+    asked: bool,
+}
+
+impl<'a, R: Eprint> Teller<'a, R> {
+    pub(crate) fn new(rt: &'a R, asked: bool) -> Teller<'a, R> {
+        Teller { rt, asked }
+    }
+}
+
+impl<'a, R: Eprint> Watch for Teller<'a, R> {
+    /// A line that can't be written is passed over.
+    fn seen(&self, met: usize, left: usize) {
+        if self.asked {
+            let _ = eprintln!(self.rt; "{met} states, {left} to do");
+        }
+    }
 }

@@ -15,7 +15,7 @@ ghost use Rattle.std.specs.Prelude.{◌≡◌, ◌≤◌, ◌↔◌, false, true
 
 use crate::fault::ServeFault;
 use crate::output::Output;
-use crate::progress::{run_told, tell_end};
+use crate::progress::{Tallying, run_told, tell_end};
 use ghs_cores::text::put_ended_cores;
 use ghs_gr::device::Source;
 use ghs_gr::judgement::read_gr;
@@ -24,7 +24,6 @@ use ghs_graph::graph::Graph;
 use ghs_picking::picking::run_timed;
 use ghs_picking::time::time_text;
 use ghs_pool::end::PoolFault;
-use ghs_pool::gate::OpenGate;
 use ghs_pool::shop::pair_of;
 use ghs_pool::workers::run_workers;
 use ghs_report::net_text::ReportFault;
@@ -171,7 +170,7 @@ fn by_workers<R: Threads + Wait + Eprint + Sync>(
     (world, None, end)
 }
 
-/// Runs a world by threads, watched where progress is to be told.
+/// Runs a world by threads, watched where progress is to be told; each tells at its end what it has done, where that is.
 fn run_threads<R: Threads + Wait + Eprint + Sync>(
     rt: &R,
     alloc: Global,
@@ -182,10 +181,11 @@ fn run_threads<R: Threads + Wait + Eprint + Sync>(
     ensures follows { Follows result.0 world }
     ensures end { EndFits result.0 result.1 }
 {
+    let gate = Tallying::new(rt, options.tally);
     if options.progress {
-        run_told(rt, alloc, world, options.workers)
+        run_told(rt, alloc, world, options.workers, &gate)
     } else {
-        run_workers(rt, alloc, world, options.workers, &OpenGate)
+        run_workers(rt, alloc, world, options.workers, &gate)
     }
 }
 

@@ -5,6 +5,7 @@ ghost use Rattle.ghs_cli.specs.Serving.{IfStored, IsCause, IsGraphCause, IsOutpu
 ghost use Rattle.ghs_cli.specs.declared.fault.ServeFault.{ServeFault};
 ghost use Rattle.std.specs.Prelude.{◌≡◌, ◌⊎◌, ◌↔◌, false, true, IfSome, IsErrOf, IfErr, IfOk};
 
+use crate::exploring::explored_text_of;
 use crate::fault::ServeFault;
 use crate::making::write_network_of;
 use crate::output::Output;
@@ -63,6 +64,7 @@ pub fn serve<R: Source, T: Source, W: Sink, H: Threads + Wait + Eprint + Sync>(
         Task::View(_) => print(rt, alloc, job, graph, trace, out),
         Task::StoredView(_) => print(rt, alloc, job, graph, trace, out),
         Task::Make(asked) => write_network_of(alloc, asked, out),
+        Task::Explore(_) => print(rt, alloc, job, graph, trace, out),
     }
 }
 
@@ -121,6 +123,9 @@ fn output_of<R: Source, T: Source, H: Threads + Wait + Eprint + Sync>(
         Task::Replay { wake } => Ok(Output::whole(replay_text_of(alloc, *wake, graph, trace)?)),
         Task::Steps(_) => unreachable!(),
         Task::Make(_) => unreachable!(),
+        Task::Explore(options) => {
+            Ok(Output::whole(explored_text_of(rt, alloc, options, graph)?))
+        }
         Task::Sweep(options) => Ok(Output::whole(sweep_text_of(rt, alloc, options, graph)?)),
         Task::View(options) => Ok(Output::whole(view_text_of(alloc, options, graph)?)),
         Task::StoredView(options) => {

@@ -1,18 +1,23 @@
 //! Sweeps: the figures of many seeds' runs, or what they come to.
 ghost use Rattle.ghs_words.specs.Job.{AreSweepLimits};
+ghost use Rattle.ghs_cli.specs.Charts.{IsSweepText};
 ghost use Rattle.ghs_cli.specs.Serving.{IsGraphCause, IsSweepOutput, is_write, shape_of};
-ghost use Rattle.ghs_cli.specs.Sweeping.{AreSheetLines, AreSweptLines, IsSwept, count_of, head_of, setup_of};
+ghost use Rattle.ghs_cli.specs.Sweeping.{AreLines, AreSheetLines, AreSweptLines, IsSwept, count_of, head_by, head_of, setup_of};
 ghost use Rattle.ghs_sweep.specs.Figures.{HasSmallWeight};
 ghost use Rattle.ghs_sweep.specs.Sweep.{AreRuns};
 ghost use Rattle.ghs_cli.specs.declared.fault.ServeFault.{ServeFault};
 ghost use Rattle.std.specs.Prelude.{◌≡◌, ◌≤◌, ◌++◌, ◌↔◌, All, List, ℕ, false, length, true, IfErr, IfOk, IfSome, IsErrOf};
 
+use crate::charting::nameless_chart;
 use crate::fault::ServeFault;
+use crate::parting::put_parted;
 use crate::progress::tell_seeds;
 use ghs_gr::device::Source;
 use ghs_gr::judgement::read_gr;
 use ghs_gr::raw_graph::RawGraph;
 use ghs_graph::graph::Graph;
+use ghs_parts::by::By;
+use ghs_parts::line::head_line;
 use ghs_steps::form::Form;
 use ghs_sweep::figures::Figures;
 use ghs_sweep::front::bare_front;
@@ -55,11 +60,27 @@ fn swept<R: Threads + Sync + Eprint>(
     raw: RawGraph,
 ) -> Result<Vec<u8>, ServeFault>
     requires { AreSweepLimits options.now }
-    ensures text { IfOk result (λ text. IsSwept options.now (shape_of raw) text.items) }
+    ensures text { IfOk result (λ text. IsSweepText options.now.sheet options.now (shape_of raw) text.items) }
     ensures err { IfErr result (λ fault. fault ≡ ServeFault.Memory) }
 {
     let graph = built(alloc, raw)?;
-    Ok(swept_text(rt, alloc, options, &graph)?)
+    Ok(sweep_text(rt, alloc, options, &graph)?)
+}
+
+/// What a sweep of a graph prints: lines, or a chart.
+fn sweep_text<R: Threads + Sync + Eprint>(
+    rt: &R,
+    alloc: Global,
+    options: &SweepOptions,
+    graph: &Graph,
+) -> Result<Vec<u8>, AllocError>
+    requires { AreSweepLimits options.now }
+    ensures { IfOk result (λ text. IsSweepText options.now.sheet options.now graph.now text.items) }
+{
+    match options.sheet {
+        Sheet::Runs | Sheet::Summary => swept_text(rt, alloc, options, graph),
+        Sheet::Chart => nameless_chart(rt, alloc, options, graph),
+    }
 }
 
 /// A graph, built of what was read.
@@ -83,25 +104,59 @@ fn swept_text<R: Threads + Sync + Eprint>(
     requires { AreSweepLimits options.now }
     ensures { IfOk result (λ text. IsSwept options.now graph.now text.items) }
 {
-    let mut text = Vec::from_slice(alloc, head_of(options.form, options.sheet))?;
+    let mut text = Vec::from_slice(alloc, head_by(options.by, options.form, options.sheet))?;
     let front = bare_front(options.form);
-    put_swept(rt, alloc, &mut text, options, front, graph)?;
+    put_lines_of(rt, alloc, &mut text, options, front, graph)?;
     Ok(text)
 }
 
+/// The names of the columns, as a line, of runs or of their parts.
+pub(crate) fn head_by(by: Option<By>, form: Form, sheet: Sheet) -> &'static [u8]
+    ensures { result.now ≡ head_by by form sheet }
+{
+    match (by, form) {
+        (None, _) => head_of(form, sheet),
+        (Some(by), Form::Text) => head_line(by),
+        (Some(_), Form::Json) => b"",
+    }
+}
+
+/// Puts the lines of the sweep of a graph behind a text, of its runs or of their parts, each behind the same front. Refusal:
+/// want of memory.
+pub(crate) fn put_lines_of<R: Threads + Sync + Eprint>(
+    rt: &R,
+    alloc: Global,
+    text: &mut Vec<u8>,
+    options: &SweepOptions,
+    front: &[u8],
+    graph: &Graph,
+) -> Result<(), AllocError>
+    requires { AreSweepLimits options.now }
+    ensures { IfOk result (λ _. (lines : List ℕ) × AreLines options.now.by options.now front.now graph.now lines × (text.new.items ≡ text.old.items ++ lines)) }
+{
+    match options.by {
+        None => {
+            put_swept(rt, alloc, text, options, front, graph)?;
+            Ok(())
+        }
+        Some(by) => put_parted(rt, alloc, text, options, by, front, graph),
+    }
+}
+
 /// The names of the columns, as a line; lines of JSON say them with each value.
-pub(crate) fn head_of(form: Form, sheet: Sheet) -> &'static [u8]
+fn head_of(form: Form, sheet: Sheet) -> &'static [u8]
     ensures { result.now ≡ head_of form sheet }
 {
     match (form, sheet) {
         (Form::Text, Sheet::Runs) => HEAD_LINE,
         (Form::Text, Sheet::Summary) => SUMMARY_HEAD,
+        (Form::Text, Sheet::Chart) => b"",
         (Form::Json, _) => b"",
     }
 }
 
-/// Puts the lines of the sweep of a graph behind a text, each behind the same front. Refusal: want of memory.
-pub(crate) fn put_swept<R: Threads + Sync + Eprint>(
+/// Puts the lines of the runs of a graph behind a text, each behind the same front. Refusal: want of memory.
+fn put_swept<R: Threads + Sync + Eprint>(
     rt: &R,
     alloc: Global,
     text: &mut Vec<u8>,
@@ -133,6 +188,7 @@ fn put_sheet(
     match options.sheet {
         Sheet::Runs => put_lines(text, options, front, runs),
         Sheet::Summary => put_measures(alloc, text, options, front, runs),
+        Sheet::Chart => Ok(()),
     }
 }
 
@@ -176,7 +232,7 @@ fn put_measures(
 
 /// The figures of the runs of a sweep, batch by batch. Where that is asked for, standard error is told after each batch
 /// but the last how many of the seeds have been run.
-fn runs_of<R: Threads + Sync + Eprint>(
+pub(crate) fn runs_of<R: Threads + Sync + Eprint>(
     rt: &R,
     alloc: Global,
     graph: &Graph,
@@ -217,7 +273,7 @@ fn batch_of(runs: &[Figures], threads: u32) -> u64
 }
 
 /// What the runs of a sweep have in common.
-fn setup_of(options: &SweepOptions) -> Setup
+pub(crate) fn setup_of(options: &SweepOptions) -> Setup
     ensures { result ≡ setup_of options.now }
 {
     Setup {

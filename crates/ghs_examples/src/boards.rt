@@ -3,6 +3,8 @@ ghost use Rattle.std.specs.Prelude.{◌≡◌, false};
 
 use ghs_board::board::{Board, Publisher, Reader};
 use ghs_board::progress::Progress;
+use std::alloc::Global;
+use std::process::Abort;
 use std::test::*;
 use std::thread;
 
@@ -20,24 +22,52 @@ const NINE_AND_ENDED: Progress = Progress {
     halted: true,
 };
 
+// A read finds this.
+fn reads(rt: &impl Abort, board: &Board, reader: &mut Reader, progress: Progress)
+    requires { reader.old.table ≡ board.now }
+    ensures { reader.new.table ≡ reader.old.table }
+{
+    assert_eq!(rt; board.read(reader), progress);
+}
+
+// A read beside the publisher finds this.
+fn reads_beside(
+    rt: &impl Abort,
+    alloc: Global,
+    board: &Board,
+    reader: &mut Reader,
+    publisher: &mut Publisher,
+    progress: Progress,
+)
+    requires reader { reader.old.table ≡ board.now }
+    requires publisher { publisher.old.table ≡ board.now }
+    ensures reader { reader.new.table ≡ reader.old.table }
+    ensures publisher { publisher.new ≡ publisher.old }
+{
+    let read = board.read_beside(alloc, reader, publisher);
+    let found = read.expect(rt, "a read");
+    assert_eq!(rt; found, progress);
+}
+
 #[test]
 fn a_read_loads_what_was_published_last(rt: HostRuntime) -> Result<(), Fail> {
     let alloc = rt.alloc();
     let (board, mut publisher, mut reader) = Board::open(alloc, at(0))?;
-    assert_eq!(rt; board.read(&mut reader), at(0));
+    reads(&rt, &board, &mut reader, at(0));
     publisher.publish(7, false);
-    assert_eq!(rt;
-        board.read_beside(alloc, &mut reader, &mut publisher)?,
-        at(7)
-    );
+    reads_beside(&rt, alloc, &board, &mut reader, &mut publisher, at(7));
     let mut second = board.split(alloc, &mut reader)?;
     publisher.publish(9, true);
-    assert_eq!(rt; board.read(&mut second), NINE_AND_ENDED);
-    assert_eq!(rt;
-        board.read_beside(alloc, &mut reader, &mut publisher)?,
-        NINE_AND_ENDED
+    reads(&rt, &board, &mut second, NINE_AND_ENDED);
+    reads_beside(
+        &rt,
+        alloc,
+        &board,
+        &mut reader,
+        &mut publisher,
+        NINE_AND_ENDED,
     );
-    assert_eq!(rt; publisher.last(), NINE_AND_ENDED);
+    assert!(rt; publisher.last() == NINE_AND_ENDED);
     Ok(())
 }
 
@@ -47,11 +77,11 @@ fn readers_are_split_and_joined(rt: HostRuntime) -> Result<(), Fail> {
     let (board, mut publisher, mut reader) = Board::open(alloc, at(3))?;
     let mut second = board.split(alloc, &mut reader)?;
     publisher.publish(4, false);
-    assert_eq!(rt; board.read(&mut second), at(4));
+    reads(&rt, &board, &mut second, at(4));
     board.join(&mut reader, second);
-    assert_eq!(rt; board.read(&mut reader), at(4));
+    reads(&rt, &board, &mut reader, at(4));
     publisher.publish(9, true);
-    assert_eq!(rt; board.read(&mut reader), NINE_AND_ENDED);
+    reads(&rt, &board, &mut reader, NINE_AND_ENDED);
     Ok(())
 }
 

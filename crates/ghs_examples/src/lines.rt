@@ -1,4 +1,6 @@
 //! Worked examples, with ample memory.
+ghost use Rattle.std.specs.Prelude.{◌<◌, ◌^◌};
+
 use ghs_lines::fields::{next_field, one_field, two_fields};
 use ghs_lines::lines::next_line;
 use ghs_lines::numbers::{number, put_number};
@@ -23,19 +25,41 @@ fn numbers_are_written(rt: HostRuntime) {
     );
 }
 
+fn is_bytes(rt: &impl Abort, found: &[u8], bytes: &[u8]) {
+    assert!(rt; found == bytes);
+}
+
+fn starts_with_line(rt: &impl Abort, text: &[u8], line: &[u8], rest: &[u8]) {
+    let (found, behind) = next_line(text).expect(rt, "a line");
+    is_bytes(rt, found, line);
+    is_bytes(rt, behind, rest);
+}
+
+fn has_one_field(rt: &impl Abort, line: &[u8], field: &[u8]) {
+    is_bytes(rt, one_field(line).expect(rt, "one field"), field);
+}
+
+fn has_two_fields(rt: &impl Abort, line: &[u8], first: &[u8], second: &[u8]) {
+    assert!(rt; one_field(line).is_none());
+    let (found, behind) = two_fields(line).expect(rt, "two fields");
+    is_bytes(rt, found, first);
+    is_bytes(rt, behind, second);
+}
+
+fn reads_as(rt: &impl Abort, field: &[u8], most: u64, want: Option<u64>)
+    requires { most < 2 ^ 60 }
+{
+    assert!(rt; number(field, most) == want);
+}
+
 #[test]
 fn a_text_in_pieces(rt: HostRuntime) {
-    let (line, rest) = next_line(b" a\t07\r\n\nb").expect(&rt, "a line");
-    assert_eq!(rt; line, b" a\t07\r".as_slice());
-    assert_eq!(rt; rest, b"\nb".as_slice());
-    assert!(rt; one_field(line).is_none() && next_field(b" \t\r").is_none());
-
-    let (first, second) = two_fields(line).expect(&rt, "two fields");
-    assert_eq!(rt; first, b"a".as_slice());
-    assert_eq!(rt; one_field(b" 7 ").expect(&rt, "one field"), b"7".as_slice());
-
-    assert_eq!(rt; number(second, 7), Some(7));
-    assert_eq!(rt; number(second, 6), None);
-    assert_eq!(rt; number(b"+7", 7), None);
-    assert_eq!(rt; number(b"", 7), None);
+    starts_with_line(&rt, b" a\t07\r\n\nb", b" a\t07\r", b"\nb");
+    has_two_fields(&rt, b" a\t07\r", b"a", b"07");
+    assert!(rt; next_field(b" \t\r").is_none());
+    has_one_field(&rt, b" 7 ", b"7");
+    reads_as(&rt, b"07", 7, Some(7));
+    reads_as(&rt, b"07", 6, None);
+    reads_as(&rt, b"+7", 7, None);
+    reads_as(&rt, b"", 7, None);
 }

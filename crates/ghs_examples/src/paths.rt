@@ -6,8 +6,11 @@ use ghs_node::kind::Kind;
 use ghs_node::level::Level;
 use ghs_node::mark::Mark;
 use ghs_node::message::{Message, Phase};
+use ghs_node::node::Node;
 use ghs_node::react::react;
 use ghs_node::work::Work;
+use std::alloc::Global;
+use std::process::Abort;
 
 const TOP: Message = Message::Initiate(Level::TOP, LEFT, Phase::Found);
 
@@ -37,7 +40,10 @@ fn answer_of(reply: &Result<Delta, NodeFault>) -> Answer {
     }
 }
 
-const RUN: [(Work, Answer, u32); 11] = [
+/// A piece of work, what the node does with it, and how many Reports it waits for then.
+type Turn = (Work, Answer, u32);
+
+const RUN: [Turn; 11] = [
     (
         Work::Wake,
         Does {
@@ -93,16 +99,29 @@ const RUN: [(Work, Answer, u32); 11] = [
     (at!(0, NO_LINK), Halts, 0),
 ];
 
+fn assert_answer(rt: &impl Abort, reply: &Result<Delta, NodeFault>, answer: Answer) {
+    assert_eq!(rt; answer_of(reply), answer);
+}
+
+fn assert_awaited(rt: &impl Abort, node: &Node, find_count: u32) {
+    assert_eq!(rt; node.head().find_count, find_count);
+}
+
+/// The node answers a piece of work like this, and does what it answers.
+fn take_turn(rt: &impl Abort, alloc: Global, node: &mut Node, work: Work, answer: Answer) {
+    let reply = react(alloc, node, work);
+    assert_answer(rt, &reply, answer);
+    if let Ok(delta) = reply {
+        node.apply(&delta);
+    }
+}
+
 #[test]
 fn a_whole_run(rt: HostRuntime) {
     let mut node = after(&rt, rt.alloc(), 2, &[]);
-    for (work, answer, find_count) in RUN {
-        let reply = react(rt.alloc(), &node, work);
-        assert_eq!(rt; answer_of(&reply), answer, "to {work:?}");
-        if let Ok(delta) = reply {
-            node.apply(&delta);
-        }
-        assert_eq!(rt; node.head().find_count, find_count, "after {work:?}");
+    for (work, answer, find_count) in &RUN {
+        take_turn(&rt, rt.alloc(), &mut node, *work, *answer);
+        assert_awaited(&rt, &node, *find_count);
     }
     assert!(rt; node.head().halted);
 }
@@ -175,18 +194,31 @@ const EDGES: [Edge; 7] = [
     },
 ];
 
+// The node waits for as many Reports as before.
+fn assert_edge(rt: &impl Abort, alloc: Global, edge: &Edge) {
+    let mut node = after(rt, alloc, 2, &edge.before);
+    let awaited = node.head().find_count;
+    take_turn(rt, alloc, &mut node, edge.work, edge.answer);
+    assert_eq!(rt; node.head().find_count, awaited, "{:?}", edge.name);
+}
+
 #[test]
 fn at_the_edges_of_the_rules(rt: HostRuntime) {
     for edge in &EDGES {
-        let mut node = after(&rt, rt.alloc(), 2, &edge.before);
-        let awaited = node.head().find_count;
-        let reply = react(rt.alloc(), &node, edge.work);
-        assert_eq!(rt; answer_of(&reply), edge.answer, "{:?}", edge.name);
-        if let Ok(delta) = reply {
-            node.apply(&delta);
-        }
-        assert_eq!(rt; node.head().find_count, awaited, "{:?}", edge.name);
+        assert_edge(&rt, rt.alloc(), edge);
     }
+}
+
+/// The middle node as it is at first.
+fn assert_untouched(rt: &impl Abort, node: &Node) {
+    assert!(rt; node.head().phase == Phase::Sleeping);
+    assert!(rt; node.number() == 2);
+    assert!(rt; node.degree() == 2);
+}
+
+fn wake(rt: &impl Abort, alloc: Global, node: &mut Node) {
+    let delta = react(alloc, node, Work::Wake).expect(rt, "a reaction");
+    node.apply(&delta);
 }
 
 #[test]
@@ -194,29 +226,32 @@ fn copies(rt: HostRuntime) {
     let node = after(&rt, rt.alloc(), 2, &[]);
     let mut copy = node.copy(rt.alloc()).expect(&rt, "memory for a copy");
     assert!(rt; copy.same(&node));
-    let delta = react(rt.alloc(), &copy, Work::Wake).expect(&rt, "a reaction");
-    copy.apply(&delta);
+    wake(&rt, rt.alloc(), &mut copy);
     assert!(rt; !copy.same(&node));
-    assert_eq!(rt; node.head().phase, Phase::Sleeping);
-    assert_eq!(rt; node.number(), 2);
-    assert_eq!(rt; node.degree(), 2);
+    assert_untouched(&rt, &node);
+}
+
+/// A message of each kind, by their places.
+const MESSAGES: [Message; 7] = [
+    JOIN,
+    SEARCH,
+    Message::Test(Level::ONE, LEFT),
+    Message::Accept,
+    Message::Reject,
+    NO_LINK,
+    Message::ChangeRoot,
+];
+
+fn assert_place(rt: &impl Abort, message: &Message, place: usize) {
+    assert_eq!(rt; message.kind().place(), place);
 }
 
 #[test]
 fn kinds(rt: HostRuntime) {
-    let messages = [
-        JOIN,
-        SEARCH,
-        Message::Test(Level::ONE, LEFT),
-        Message::Accept,
-        Message::Reject,
-        NO_LINK,
-        Message::ChangeRoot,
-    ];
-    for (place, message) in messages.iter().enumerate() {
-        assert_eq!(rt; message.kind().place(), place);
+    for (place, message) in MESSAGES.iter().enumerate() {
+        assert_place(&rt, message, place);
     }
-    assert_eq!(rt; Message::Accept.kind(), Kind::Accept);
+    assert!(rt; Message::Accept.kind() == Kind::Accept);
 }
 
 /// What takes this may go to another thread, and be looked at from there.

@@ -3,34 +3,90 @@ ghost use Rattle.std.specs.Prelude.{◌≡◌};
 
 use ghs_queue::queue::{CloseFault, Full, ReadyPass, ReadyQueue};
 use std::alloc::{AllocError, Global};
+use std::process::Abort;
 use std::sync::Wait;
 use std::test::*;
 use std::thread;
 use std::thread::Threads;
 
+// A number is put, or the queue is full.
+fn puts<R: Wait + Abort>(
+    rt: &R,
+    queue: &ReadyQueue,
+    pass: &mut ReadyPass,
+    number: u32,
+    put: Result<(), Full>,
+)
+    requires { pass.old.name ≡ queue.now.name }
+    ensures { (pass.new.name ≡ pass.old.name) × (pass.new.shares ≡ pass.old.shares) }
+{
+    let found = queue.put(rt, pass, number);
+    assert_eq!(rt; found, put);
+}
+
+// This number is taken, or none.
+fn takes<R: Wait + Abort>(rt: &R, queue: &ReadyQueue, pass: &mut ReadyPass, number: Option<u32>)
+    requires { pass.old.name ≡ queue.now.name }
+    ensures { (pass.new.name ≡ pass.old.name) × (pass.new.shares ≡ pass.old.shares) }
+{
+    let found = queue.take(rt, pass);
+    assert_eq!(rt; found, number);
+}
+
+// Two numbers fill the queue and leave it, one of them twice; then a third stands in it.
+fn fill_and_empty<R: Wait + Abort>(rt: &R, queue: &ReadyQueue, pass: &mut ReadyPass)
+    requires { pass.old.name ≡ queue.now.name }
+    ensures { (pass.new.name ≡ pass.old.name) × (pass.new.shares ≡ pass.old.shares) }
+{
+    puts(rt, queue, pass, 3, Ok(()));
+    puts(rt, queue, pass, 3, Ok(()));
+    puts(rt, queue, pass, 5, Err(Full(5)));
+    takes(rt, queue, pass, Some(3));
+    takes(rt, queue, pass, Some(3));
+    takes(rt, queue, pass, None);
+    puts(rt, queue, pass, 5, Ok(()));
+}
+
+fn assert_one_stands<R: Wait + Abort>(rt: &R, queue: &ReadyQueue, pass: &mut ReadyPass)
+    requires { pass.old.name ≡ queue.now.name }
+    ensures { pass.new ≡ pass.old }
+{
+    let found = queue.len(rt, pass);
+    assert!(rt; found == 1);
+}
+
+// The queue closes, and so many numbers stand in it.
+fn closes<R: Wait + Abort>(
+    rt: &R,
+    alloc: Global,
+    queue: ReadyQueue,
+    pass: ReadyPass,
+    count: usize,
+) -> Vec<u32>
+    requires { pass.name ≡ queue.name }
+{
+    let Ok(rest) = queue.close(rt, alloc, pass) else {
+        panic!(rt; "no share was missing")
+    };
+    assert!(rt; rest.len() == count);
+    rest
+}
+
 #[test]
 fn a_queue_of_two(rt: HostRuntime) -> Result<(), Fail> {
     let alloc = rt.alloc();
     let (queue, mut pass) = ReadyQueue::open(alloc, 2, 2)?;
-    assert_eq!(rt; queue.put(&rt, &mut pass, 3), Ok(()));
-    assert_eq!(rt; queue.put(&rt, &mut pass, 3), Ok(()));
-    assert_eq!(rt; queue.put(&rt, &mut pass, 5), Err(Full(5)));
-    assert_eq!(rt; queue.take(&rt, &mut pass), Some(3));
-    assert_eq!(rt; queue.take(&rt, &mut pass), Some(3));
-    assert_eq!(rt; queue.take(&rt, &mut pass), None);
-    assert_eq!(rt; queue.put(&rt, &mut pass, 5), Ok(()));
+    fill_and_empty(&rt, &queue, &mut pass);
     let mut other = queue.split(alloc, &mut pass)?;
-    assert_eq!(rt; queue.len(&rt, &mut other), 1);
+    assert_one_stands(&rt, &queue, &mut other);
     let Err((queue, mut pass, fault)) = queue.close(&rt, alloc, pass) else {
         panic!(rt; "a share was missing")
     };
-    assert_eq!(rt; fault, CloseFault::PassMissing);
+    assert!(rt; fault == CloseFault::PassMissing);
     queue.join(&mut pass, other);
-    assert_eq!(rt; pass.shares(), 2);
-    let Ok(rest) = queue.close(&rt, alloc, pass) else {
-        panic!(rt; "no share was missing")
-    };
-    assert_eq!(rt; rest.as_slice(), [5].as_slice());
+    assert!(rt; pass.shares() == 2);
+    let rest = closes(&rt, alloc, queue, pass, 1);
+    assert!(rt; rest.as_slice() == [5].as_slice());
     Ok(())
 }
 
@@ -141,6 +197,16 @@ fn exchange<R: Threads + Wait + Sync>(
     }
 }
 
+// The numbers are 1 to 2,000, in some order.
+fn are_all_once(rt: &impl Abort, mut all: Vec<u32>) -> Result<(), AllocError> {
+    all.sort()?;
+    assert!(rt; all.len() == 2000);
+    for (place, number) in all.iter().enumerate() {
+        assert_eq!(rt; *number as usize, place + 1);
+    }
+    Ok(())
+}
+
 #[test]
 fn each_number_passes_once(rt: HostRuntime) -> Result<(), Fail> {
     let alloc = rt.alloc();
@@ -150,17 +216,9 @@ fn each_number_passes_once(rt: HostRuntime) -> Result<(), Fail> {
     let fourth = queue.split(alloc, &mut pass)?;
     let (pass, taken) = exchange(&rt, alloc, &queue, (pass, second, third, fourth));
     let (mut all, two) = taken?;
-    let Ok(rest) = queue.close(&rt, alloc, pass) else {
-        panic!(rt; "no share was missing")
-    };
-    assert_eq!(rt; rest.len(), 5);
-    for number in two.iter().chain(rest.iter()) {
-        all.push(*number)?;
-    }
-    all.sort()?;
-    assert_eq!(rt; all.len(), 2000);
-    for (place, number) in all.iter().enumerate() {
-        assert_eq!(rt; *number as usize, place + 1);
-    }
+    let rest = closes(&rt, alloc, queue, pass, 5);
+    all.extend_from_slice(&two)?;
+    all.extend_from_slice(&rest)?;
+    are_all_once(&rt, all)?;
     Ok(())
 }

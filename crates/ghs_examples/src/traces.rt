@@ -5,7 +5,6 @@ use ghs_sched::schedule::Schedule;
 use ghs_sched::trace::{read_trace, write_trace};
 use std::alloc::Global;
 use std::process::Abort;
-use std::test::Fail;
 
 /// The trace of a run of two nodes with one link.
 const PAIR: &str = "trace 7\nwake 1\nwake 2\ntake 1 0\ntake 2 0\ntake 1 0\ntake 2 0\ntake 1 0\n";
@@ -32,17 +31,21 @@ fn writes(rt: &impl Abort, alloc: Global, events: &[Event], text: &str) {
     assert_eq!(rt; written.as_slice(), text.as_bytes());
 }
 
+/// The events have this text, which reads as them.
+fn goes_there_and_back(rt: &impl Abort, alloc: Global, events: &[Event], text: &str) {
+    writes(rt, alloc, events, text);
+    reads(rt, alloc, text, events);
+}
+
 #[test]
 fn traces_are_written_and_read(rt: HostRuntime) {
     let alloc = rt.alloc();
     writes(&rt, alloc, &[], "trace 0\n");
-    writes(&rt, alloc, &PAIR_EVENTS, PAIR);
-    reads(&rt, alloc, PAIR, &PAIR_EVENTS);
+    goes_there_and_back(&rt, alloc, &PAIR_EVENTS, PAIR);
 
     let greatest = [Event::Take(u32::MAX, u32::MAX), Event::Wake(0)];
     let text = "trace 2\ntake 4294967295 4294967295\nwake 0\n";
-    writes(&rt, alloc, &greatest, text);
-    reads(&rt, alloc, text, &greatest);
+    goes_there_and_back(&rt, alloc, &greatest, text);
 }
 
 #[test]
@@ -57,39 +60,44 @@ fn other_forms_are_read(rt: HostRuntime) {
     );
 }
 
+const FAULTS: [(&str, TraceFault); 17] = [
+    ("", TraceFault::BadLine(1)),
+    (" \r\n\t\n", TraceFault::BadLine(1)),
+    ("trace 1", TraceFault::Count { said: 1, found: 0 }),
+    ("trace x", TraceFault::Number(1)),
+    ("trace 1\ntake 1", TraceFault::BadLine(2)),
+    ("trace 2\nwake 1", TraceFault::Count { said: 2, found: 1 }),
+    (
+        "trace 1\nwake 1\ntake 1 0",
+        TraceFault::Count { said: 1, found: 2 },
+    ),
+    ("trace 1\ntrace 1", TraceFault::BadLine(2)),
+    ("wake 1", TraceFault::BadLine(1)),
+    ("wake x", TraceFault::BadLine(1)),
+    ("trace 1\nwake 4294967296", TraceFault::Number(2)),
+    ("trace 1\ntake 0 4294967296", TraceFault::Number(2)),
+    ("trace 1099511627777", TraceFault::Number(1)),
+    (
+        "trace 1099511627776",
+        TraceFault::Count {
+            said: 1_099_511_627_776,
+            found: 0,
+        },
+    ),
+    ("trace 1\nwake 1 2", TraceFault::BadLine(2)),
+    ("\ntrace\nwake x", TraceFault::BadLine(2)),
+    ("trace 9\nwake +1\nc", TraceFault::Number(2)),
+];
+
+fn assert_fault(rt: &impl Abort, alloc: Global, text: &str, fault: TraceFault) {
+    let found = read_trace(alloc, text.as_bytes()).err();
+    assert_eq!(rt; found, Some(fault), "{text}");
+}
+
 #[test]
 fn names_the_first_fault(rt: HostRuntime) {
-    let rows: [(&str, TraceFault); 17] = [
-        ("", TraceFault::BadLine(1)),
-        (" \r\n\t\n", TraceFault::BadLine(1)),
-        ("trace 1", TraceFault::Count { said: 1, found: 0 }),
-        ("trace x", TraceFault::Number(1)),
-        ("trace 1\ntake 1", TraceFault::BadLine(2)),
-        ("trace 2\nwake 1", TraceFault::Count { said: 2, found: 1 }),
-        (
-            "trace 1\nwake 1\ntake 1 0",
-            TraceFault::Count { said: 1, found: 2 },
-        ),
-        ("trace 1\ntrace 1", TraceFault::BadLine(2)),
-        ("wake 1", TraceFault::BadLine(1)),
-        ("wake x", TraceFault::BadLine(1)),
-        ("trace 1\nwake 4294967296", TraceFault::Number(2)),
-        ("trace 1\ntake 0 4294967296", TraceFault::Number(2)),
-        ("trace 1099511627777", TraceFault::Number(1)),
-        (
-            "trace 1099511627776",
-            TraceFault::Count {
-                said: 1_099_511_627_776,
-                found: 0,
-            },
-        ),
-        ("trace 1\nwake 1 2", TraceFault::BadLine(2)),
-        ("\ntrace\nwake x", TraceFault::BadLine(2)),
-        ("trace 9\nwake +1\nc", TraceFault::Number(2)),
-    ];
-    for (text, fault) in rows {
-        let found = read_trace(rt.alloc(), text.as_bytes()).err();
-        assert_eq!(rt; found, Some(fault), "{text}");
+    for (text, fault) in &FAULTS {
+        assert_fault(&rt, rt.alloc(), text, *fault);
     }
 }
 
@@ -100,29 +108,31 @@ const PICKS: [(u64, [usize; 5]); 3] = [
     (u64::MAX, [986, 512, 435, 187, 841]),
 ];
 
+fn picks(rt: &impl Abort, schedule: &mut Schedule, places: &[usize]) {
+    for place in places {
+        assert_eq!(rt; schedule.pick(1000), *place);
+    }
+}
+
 #[test]
 fn picks_are_the_words_of_the_seed(rt: HostRuntime) {
-    for (seed, places) in PICKS {
-        let mut schedule = Schedule::seeded(seed);
-        for place in places {
-            assert_eq!(rt; schedule.pick(1000), place);
-        }
+    for (seed, places) in &PICKS {
+        picks(&rt, &mut Schedule::seeded(*seed), places);
     }
 }
 
 /// A copy goes on from where the schedule stands, and leaves it there.
+fn copy_picks_alike(rt: &impl Abort, seed: u64, places: &[usize; 5]) {
+    let mut schedule = Schedule::seeded(seed);
+    picks(rt, &mut schedule, &places[..1]);
+    let mut copy = schedule.copy().expect(rt, "memory for a copy");
+    picks(rt, &mut copy, &places[1..]);
+    picks(rt, &mut schedule, &places[1..]);
+}
+
 #[test]
-fn copies_pick_alike(rt: HostRuntime) -> Result<(), Fail> {
-    for (seed, places) in PICKS {
-        let mut schedule = Schedule::seeded(seed);
-        assert_eq!(rt; schedule.pick(1000), places[0]);
-        let mut copy = schedule.copy()?;
-        for turn in 1..5usize {
-            assert_eq!(rt; copy.pick(1000), places[turn]);
-        }
-        for turn in 1..5usize {
-            assert_eq!(rt; schedule.pick(1000), places[turn]);
-        }
+fn copies_pick_alike(rt: HostRuntime) {
+    for (seed, places) in &PICKS {
+        copy_picks_alike(&rt, *seed, places);
     }
-    Ok(())
 }

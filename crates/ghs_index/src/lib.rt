@@ -3,3 +3,4 @@
 
 mod bases;
 pub mod index;
+pub mod places;

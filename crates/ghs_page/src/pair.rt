@@ -219,9 +219,10 @@ function tell() {
 }
 // the address holds the event of each, and the pinned node
 const address = () => '#' + runs.map(run => run.see('at')).join(',') + (runs[0].see('pin') ? ',n' + runs[0].see('pin') : '');
-function goAddress() {
-  const found = /^#(\d+),(\d+)(?:,n(\d+))?$/.exec(location.hash);
-  if (found && location.hash !== address()) act(runs, run => { run.see('pin = Math.min(G.nodes, ' + (found[3] || 0) + ')'); run.page.move(+found[run.i + 1]); });
+// where an address leads that was given; by now the page may have written its own in its place
+function goAddress(hash = location.hash) {
+  const found = /^#(\d+),(\d+)(?:,n(\d+))?$/.exec(hash);
+  if (found && hash !== address()) act(runs, run => { run.see('pin = Math.min(G.nodes, ' + (found[3] || 0) + ')'); run.page.move(+found[run.i + 1]); });
 }
 
 // ---- leading
@@ -284,7 +285,7 @@ async function start() {
   $('goal').onchange = $('speed').onchange = e => { e.target.blur(); if (timer) { halt(); play(); } };
   $('part').disabled = !parts;
   addEventListener('keydown', key);
-  addEventListener('hashchange', goAddress);
+  addEventListener('hashchange', e => goAddress(new URL(e.newURL).hash));
   setTheme(matchMedia('(prefers-color-scheme: dark)').matches);
   goAddress();
   document.body.dataset.ready = 'yes';

@@ -1052,9 +1052,10 @@ function address() {
   const whole = zoom.k === 1 && !zoom.x && !zoom.y, part = (x, size) => ((size / 2 - x) / zoom.k / size).toFixed(4);
   return '#' + at + (pin ? ',n' + pin : '') + (tab === 'time' ? ',time' : '') + (whole || !base ? '' : ',k' + zoom.k.toFixed(3) + ',x' + part(zoom.x, base.W) + ',y' + part(zoom.y, base.H));
 }
-function goAddress() {
-  const found = /^#(\d+)((?:,[-a-z0-9.]+)*)$/.exec(location.hash);
-  if (!found || location.hash === address()) return;
+// where an address leads that was given; by now the page may have written its own in its place
+function goAddress(hash = location.hash) {
+  const found = /^#(\d+)((?:,[-a-z0-9.]+)*)$/.exec(hash);
+  if (!found || hash === address()) return;
   const parts = found[2].split(','), number = letter => { const x = parts.find(p => new RegExp('^' + letter + '-?[0-9.]+$').test(p)); return x === undefined ? undefined : +x.slice(1); };
   goto(+found[1]);
   asking = false;
@@ -1250,7 +1251,7 @@ function start() {
   addEventListener('click', e => { if (!e.target.matches('select')) free(e); });
   addEventListener('change', free);
   $('keys').onclose = () => document.activeElement.blur();
-  addEventListener('hashchange', goAddress);
+  addEventListener('hashchange', e => goAddress(new URL(e.newURL).hash));
   addEventListener('keydown', e => {
     if (e.ctrlKey || e.altKey || e.metaKey || e.target.matches('select, input[type=number]')) return;
     if (e.key === ' ' && e.target.matches('button, input[type=checkbox]')) return;

@@ -1,8 +1,7 @@
 -- What a run of a world from its opening on comes to.
-use Rattle.std.proofs.Common.{◌≡◌, ℕ, Bool, ◌+◌, ◌*◌, ◌-◌, ◌≤◌, ◌<◌, ◌^◌, ◌⊎◌, ⊎_elim, inl, inr, List, [], ◌∷◌, ◌++◌, ap, arith, length, refl, subst, sym}
+use Rattle.std.proofs.Common.{◌≡◌, ℕ, Bool, ◌+◌, ◌*◌, ◌-◌, ◌≤◌, ◌<◌, ◌^◌, ◌⊎◌, ⊎_elim, inl, inr, List, [], ◌∷◌, ◌++◌, ap, arith, length, subst}
 use Rattle.std.specs.Prelude.{IfErr, IfOk, OnErr, OnOk, Result, Ok, Err}
 use Rattle.std.proofs.lemmas.List.{length_push}
-use Rattle.ghs_graph.specs.Bound.{IsBound}
 use Rattle.ghs_graph.specs.Graph.{IsGraph, Shape}
 use Rattle.ghs_protocol.specs.declared.event.Event.{Event}
 use Rattle.ghs_protocol.specs.Marks.{HasEnded}
@@ -23,7 +22,11 @@ use Rattle.ghs_patient.specs.Runs.{HasTurns, IsPatientlyPicked, IsShort}
 use Rattle.ghs_rounds.specs.Laws.{RoundsAreChains, RoundsAreFew, RunsByRoundsAreShort, RunsByRoundsEnd}
 use Rattle.ghs_rounds.specs.Runs as by_rounds
 use Rattle.ghs_rounds.specs.Runs.{IsPickedByRounds}
-use Rattle.ghs_picking.specs.Picking.{HasTurnsFor, IsByRounds, IsInRounds, IsPatient, IsSeeded, StopsFor}
+use Rattle.ghs_waits.specs.Runs as waits
+use Rattle.ghs_waits.specs.Runs.{IsPickedWaiting}
+use Rattle.ghs_lifo.specs.Runs as lifo
+use Rattle.ghs_lifo.specs.Runs.{IsPickedLast}
+use Rattle.ghs_picking.specs.Picking.{HasTurnsFor, IsByRounds, IsInRounds, IsLast, IsPatient, IsSeeded, IsWaiting, StopsFor}
 
 -- what a schedule picks stays within the turns
 few_seeded : (may : ℕ → Bool) (g : Shape) (turns : ℕ) (trace : List Event) (words : List ℕ) (es : List Event) (s : List ℕ) →
@@ -49,6 +52,24 @@ few_by_rounds may g turns words _ _ _ by_rounds.Begun = omega arith
 few_by_rounds may g turns words _ _ _ (by_rounds.Picked es r s e before goes less pick) =
     let more : length (es ++ e ∷ []) ≡ length es + 1 = length_push es e in omega (arith, more, less)
 few_by_rounds may g turns words _ _ _ (by_rounds.Over es r s before goes less none) = omega (arith, less)
+
+few_waiting : (may : ℕ → Bool) (g : Shape) (turns : ℕ) (trace : List Event) (words : List ℕ) (es : List Event) (s : List ℕ) →
+    IsPickedWaiting may g turns trace words es s →
+    length trace ≤ turns →
+    length es ≤ turns
+few_waiting may g turns trace words _ _ waits.Begun few = few
+few_waiting may g turns trace words _ _ (waits.Picked es s e before goes less pick) few =
+    let more : length (es ++ e ∷ []) ≡ length es + 1 = length_push es e in omega (arith, more, less)
+
+few_last : (may : ℕ → Bool) (g : Shape) (turns : ℕ) (trace : List Event) (words : List ℕ) (es : List Event) (s : List ℕ) →
+    IsPickedLast may g turns trace words es s →
+    length trace ≤ turns →
+    length es ≤ turns
+few_last may g turns trace words _ _ lifo.Begun few = few
+few_last may g turns trace words _ _ (lifo.Latest es s e before goes less latest) few =
+    let more : length (es ++ e ∷ []) ≡ length es + 1 = length_push es e in omega (arith, more, less)
+few_last may g turns trace words _ _ (lifo.Picked es s e before goes less none pick) few =
+    let more : length (es ++ e ∷ []) ≡ length es + 1 = length_push es e in omega (arith, more, less)
 
 -- a world from its opening on: as many numbers are used as there are events, and a number is left
 pub record HasGoneOn (old new : WorldState) : Type 0 where
@@ -94,6 +115,32 @@ gone_by_rounds old new words after limit rounds none first is few ran =
     let numbers = ran.numbers in
     let most : length new.net.trace ≤ old.turns = few_by_rounds _ _ _ _ _ _ _ ran.picked in
     record { none = none; graph = ran.graph; turns = ran.turns; numbers = omega (arith, numbers, first, most, is, few) }
+
+pub gone_waiting : (old new : WorldState) (words after : List ℕ) (limit : ℕ) →
+    old.net.trace ≡ [] →
+    old.last ≡ 0 →
+    limit ≡ old.turns →
+    limit ≤ 2 ^ 40 →
+    waits.HasRun old new words after →
+    HasGoneOn old new
+gone_waiting old new words after limit none first is few ran =
+    let nothing : length old.net.trace ≡ 0 = ap length none in
+    let numbers = ran.numbers in
+    let most : length new.net.trace ≤ old.turns = few_waiting _ _ _ _ _ _ _ ran.picked (omega (arith, nothing)) in
+    record { none = none; graph = ran.graph; turns = ran.turns; numbers = omega (arith, numbers, nothing, first, most, is, few) }
+
+pub gone_last : (old new : WorldState) (words after : List ℕ) (limit : ℕ) →
+    old.net.trace ≡ [] →
+    old.last ≡ 0 →
+    limit ≡ old.turns →
+    limit ≤ 2 ^ 40 →
+    lifo.HasRun old new words after →
+    HasGoneOn old new
+gone_last old new words after limit none first is few ran =
+    let nothing : length old.net.trace ≡ 0 = ap length none in
+    let numbers = ran.numbers in
+    let most : length new.net.trace ≤ old.turns = few_last _ _ _ _ _ _ _ ran.picked (omega (arith, nothing)) in
+    record { none = none; graph = ran.graph; turns = ran.turns; numbers = omega (arith, numbers, nothing, first, most, is, few) }
 
 -- with a number left, it is the turns that are used
 pub stops_for : (old new : WorldState) (r : Result RunEnd RunFault) → HasGoneOn old new → IfErr r (λ f. EndsFor new f) → IfErr r (λ f. StopsFor new f)
@@ -256,3 +303,88 @@ at_limit_by_rounds laws seed old new words after rounds r ok begun gone ran ends
     let less = laws.end (wakers old) old.net.graph old.turns words new.net.trace rounds after ok (each_is_woken old.net.graph old.wake ok) has.bound has.is ran.picked going in
     let enough = has.enough in
     omega (arith, less, enough, used, turns)))
+
+-- a run that prefers what waits, and is over, is the seed's
+is_waiting : (seed : ℕ) (old new : WorldState) (words after : List ℕ) →
+    words ≡ seeded seed →
+    HasGoneOn old new →
+    waits.HasRun old new words after →
+    HasEnded old.net.graph (net_after old.net.graph new.net.trace) ⊎ (old.turns ≤ length new.net.trace) →
+    IsWaiting seed old.wake old.turns old.net.graph new.net.trace
+is_waiting seed old new words after begun gone ran over = record {
+  words = after;
+  picked = subst (λ (es : List Event). IsPickedWaiting (wakers old) old.net.graph old.turns es (seeded seed) new.net.trace after) gone.none
+      (subst (λ (s : List ℕ). IsPickedWaiting (wakers old) old.net.graph old.turns old.net.trace s new.net.trace after) begun ran.picked);
+  over = over;
+}
+
+pub on_ok_waiting : (seed : ℕ) (old new : WorldState) (words after : List ℕ) (r : Result RunEnd RunFault) →
+    words ≡ seeded seed →
+    HasGoneOn old new →
+    waits.HasRun old new words after →
+    IfOk r (λ e. IsEnd new e) →
+    OnOk r (IsWaiting seed old.wake old.turns old.net.graph new.net.trace)
+on_ok_waiting seed old new words after (Ok e) begun gone ran end = is_waiting seed old new words after begun gone ran (inl (has_ended old.net.graph new e gone.graph end))
+on_ok_waiting seed old new words after (Err f) begun gone ran end = tt
+
+pub at_limit_waiting : (seed : ℕ) (old new : WorldState) (words after : List ℕ) (r : Result RunEnd RunFault) →
+    words ≡ seeded seed →
+    HasGoneOn old new →
+    waits.HasRun old new words after →
+    IfErr r (λ f. EndsFor new f) →
+    r ≡ Err TurnLimit →
+    IsWaiting seed old.wake old.turns old.net.graph new.net.trace
+at_limit_waiting seed old new words after r begun gone ran ends at_limit =
+    let used : StopsFor new TurnLimit = subst (λ (x : Result RunEnd RunFault). IfErr x (λ f. StopsFor new f)) at_limit (stops_for old new r gone ends) in
+    let turns = gone.turns in
+    is_waiting seed old new words after begun gone ran (inr (omega (arith, used, turns)))
+
+-- a run that takes first what was sent last, and is over, is the seed's
+is_last : (seed : ℕ) (old new : WorldState) (words after : List ℕ) →
+    words ≡ seeded seed →
+    HasGoneOn old new →
+    lifo.HasRun old new words after →
+    IsShort old new →
+    HasEnded old.net.graph (net_after old.net.graph new.net.trace) ⊎ (old.turns ≤ length new.net.trace) →
+    (HasTurnsFor old.net.graph old.turns → HasEnded old.net.graph (net_after old.net.graph new.net.trace)) →
+    IsLast seed old.wake old.turns old.net.graph new.net.trace
+is_last seed old new words after begun gone ran short over ends = record {
+  words = after;
+  picked = subst (λ (es : List Event). IsPickedLast (wakers old) old.net.graph old.turns es (seeded seed) new.net.trace after) gone.none
+      (subst (λ (s : List ℕ). IsPickedLast (wakers old) old.net.graph old.turns old.net.trace s new.net.trace after) begun ran.picked);
+  over = over;
+  short = λ b is.
+      let nothing : length old.net.trace ≡ 0 = ap length gone.none in
+      let most : length new.net.trace ≤ length old.net.trace + 2 * (b + old.net.graph.nodes) = short b is in
+      omega (arith, most, nothing);
+  ends = ends;
+}
+
+pub on_ok_last : (seed : ℕ) (old new : WorldState) (words after : List ℕ) (r : Result RunEnd RunFault) →
+    words ≡ seeded seed →
+    HasGoneOn old new →
+    lifo.HasRun old new words after →
+    IsShort old new →
+    IfOk r (λ e. IsEnd new e) →
+    OnOk r (IsLast seed old.wake old.turns old.net.graph new.net.trace)
+on_ok_last seed old new words after (Ok e) begun gone ran short end =
+    let ended = has_ended old.net.graph new e gone.graph end in is_last seed old new words after begun gone ran short (inl ended) (λ _. ended)
+on_ok_last seed old new words after (Err f) begun gone ran short end = tt
+
+pub at_limit_last : (seed : ℕ) (old new : WorldState) (words after : List ℕ) (limit : ℕ) (r : Result RunEnd RunFault) →
+    words ≡ seeded seed →
+    HasGoneOn old new →
+    old.last ≡ 0 →
+    limit ≡ old.turns →
+    limit ≤ 2 ^ 40 →
+    lifo.HasRun old new words after →
+    IsShort old new →
+    IfErr r (λ f. EndsFor new f) →
+    (HasTurns old → r ≡ Err TurnLimit → ⊥) →
+    r ≡ Err TurnLimit →
+    IsLast seed old.wake old.turns old.net.graph new.net.trace
+at_limit_last seed old new words after limit r begun gone first is few ran short ends surely at_limit =
+    let used : StopsFor new TurnLimit = subst (λ (x : Result RunEnd RunFault). IfErr x (λ f. StopsFor new f)) at_limit (stops_for old new r gone ends) in
+    let turns = gone.turns in
+    is_last seed old new words after begun gone ran short (inr (omega (arith, used, turns)))
+    (λ has. absurd (surely (has_turns old new limit gone first is few has) at_limit))

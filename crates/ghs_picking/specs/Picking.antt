@@ -1,4 +1,4 @@
--- Runs of a graph by the schedule of a seed, which picks among all events that may happen, patiently, or by rounds.
+-- Runs of a graph by the schedule of a seed, which picks among all events that may happen, patiently, by rounds, what waits, or what was sent last.
 use Rattle.std.specs.Prelude.{◌≡◌, ℕ, ◌+◌, ◌*◌, ◌≤◌, ◌⊎◌, List, [], length, Option, Some, None}
 use Rattle.ghs_graph.specs.Bound.{IsBound}
 use Rattle.ghs_graph.specs.Graph.{Shape}
@@ -16,8 +16,10 @@ use Rattle.ghs_world.specs.WorldState.{WorldState}
 use Rattle.ghs_chain.specs.Chains.{longest_chain}
 use Rattle.ghs_patient.specs.Runs.{IsPatientlyPicked}
 use Rattle.ghs_rounds.specs.Runs.{IsPickedByRounds}
+use Rattle.ghs_waits.specs.Runs.{IsPickedWaiting}
+use Rattle.ghs_lifo.specs.Runs.{IsPickedLast}
 use Rattle.ghs_picking.specs.declared.picking.Picking.{Picking}
-use Rattle.ghs_picking.specs.declared.picking.Picking.TheVariants.{Seeded, Patient, Rounds}
+use Rattle.ghs_picking.specs.declared.picking.Picking.TheVariants.{Seeded, Patient, Rounds, Waits, Lifo}
 
 -- the events of the seed's run of a graph: all that its schedule picks, from the opening on
 pub record IsSeeded (seed : ℕ) (wake : WakeSet) (turns : ℕ) (g : Shape) (events : List Event) : Type 0 where
@@ -56,16 +58,35 @@ pub record IsByRounds (seed : ℕ) (wake : WakeSet) (turns : ℕ) (g : Shape) (e
   pub short : (b : ℕ) → IsBound g.nodes (length g.keys) b → length events ≤ 2 * (b + g.nodes)
   pub ends : HasTurnsFor g turns → HasEnded g (net_after g events)
 
--- the events of the run that a seed's schedule picks of a graph, among all that may happen, patiently or by rounds
+-- The events of the seed's run of a graph that prefers what waits: all that its schedule picks so, from the opening on to the end or the last turn.
+pub record IsWaiting (seed : ℕ) (wake : WakeSet) (turns : ℕ) (g : Shape) (events : List Event) : Type 0 where
+  pub words : List ℕ
+  pub picked : IsPickedWaiting (may_wake g wake) g turns [] (seeded seed) events words
+  pub over : HasEnded g (net_after g events) ⊎ (turns ≤ length events)
+
+-- The events of the run of a graph that takes first what was sent last, from the opening on to the end or to the last turn; the seed's words pick where
+-- no message would be consumed. They are at most as many as a patient run may have, and with turns for so many they lead to the end.
+pub record IsLast (seed : ℕ) (wake : WakeSet) (turns : ℕ) (g : Shape) (events : List Event) : Type 0 where
+  pub words : List ℕ
+  pub picked : IsPickedLast (may_wake g wake) g turns [] (seeded seed) events words
+  pub over : HasEnded g (net_after g events) ⊎ (turns ≤ length events)
+  pub short : (b : ℕ) → IsBound g.nodes (length g.keys) b → length events ≤ 2 * (b + g.nodes)
+  pub ends : HasTurnsFor g turns → HasEnded g (net_after g events)
+
+-- the events of the run that a seed's schedule picks of a graph, among all that may happen, patiently, by rounds, what waits, or what was sent last
 abbrev pub IsPickedBy : Picking → ℕ → WakeSet → ℕ → Shape → List Event → Type 0
 IsPickedBy Seeded seed wake turns g events = IsSeeded seed wake turns g events
 IsPickedBy Patient seed wake turns g events = IsPatient seed wake turns g events
 IsPickedBy Rounds seed wake turns g events = IsByRounds seed wake turns g events
+IsPickedBy Waits seed wake turns g events = IsWaiting seed wake turns g events
+IsPickedBy Lifo seed wake turns g events = IsLast seed wake turns g events
 
 -- in how many rounds a schedule has picked events, where it picks by rounds
 abbrev pub AreRounds : Picking → ℕ → WakeSet → ℕ → Shape → List Event → Option ℕ → Type 0
 AreRounds Seeded seed wake turns g events rounds = rounds ≡ None
 AreRounds Patient seed wake turns g events rounds = rounds ≡ None
+AreRounds Waits seed wake turns g events rounds = rounds ≡ None
+AreRounds Lifo seed wake turns g events rounds = rounds ≡ None
 AreRounds Rounds seed wake turns g events rounds = (r : ℕ) × (rounds ≡ Some r) × IsInRounds seed wake turns g events r
 
 -- why a run from the opening on stops before its end: its turns are used, or memory is wanting; an event is always ready, and has a rule

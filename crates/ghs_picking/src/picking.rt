@@ -5,6 +5,7 @@ ghost use Rattle.ghs_sched.specs.Runs.{IsEnd};
 ghost use Rattle.ghs_world.specs.WorldState.{home};
 ghost use Rattle.std.specs.Prelude.{IfErr, IfOk, OnErr, OnOk, [], ◌≡◌};
 
+use ghs_lifo::run::run_lifo;
 use ghs_patient::run::run_patient;
 use ghs_rounds::laws::{
     law_rounds_are_chains, law_rounds_are_few, law_runs_by_rounds_are_short, law_runs_by_rounds_end,
@@ -13,6 +14,7 @@ use ghs_rounds::run::run_rounds;
 use ghs_sched::fault::RunFault;
 use ghs_sched::run::{RunEnd, run_seeded};
 use ghs_sched::schedule::Schedule;
+use ghs_waits::run::run_waiting;
 use ghs_world::world::World;
 use std::alloc::Global;
 
@@ -25,12 +27,17 @@ pub enum Picking {
     Patient,
     /// Patiently among those of a round: each message takes one unit of time, and computing none.
     Rounds,
+    /// Among those that only put their message back; where there is none, among all that may happen.
+    Waits,
+    /// Not among several: of the messages that would be consumed the one that was sent last comes first. Where there is none,
+    /// among the wakes, and else among those that uncover one; and so every run ends.
+    Lifo,
 }
 
 /// Runs a world from its opening on, by the schedule of a seed, until the run has ended or its turns are used. Of the faults
-/// TurnLimit comes where the commits have come to the turns, and else Memory. A patient run, or one by rounds, that has turns
-/// for 2(B + N) events, B the bound on messages and N the nodes, ends, or memory is wanting. At every end nothing is out, and
-/// the world stands after the events so far.
+/// TurnLimit comes where the commits have come to the turns, and else Memory. A patient run, one by rounds, or one that takes
+/// first what was sent last, that has turns for 2(B + N) events, B the bound on messages and N the nodes, ends, or memory is
+/// wanting; a run that prefers what waits needn't end. At every end nothing is out, and the world stands after the events so far.
 pub fn run_by_seed(
     alloc: Global,
     world: &mut World,
@@ -88,5 +95,7 @@ pub fn run_timed(
             let (rounds, end) = run_rounds(alloc, world, &mut schedule);
             (Some(rounds), end)
         }
+        Picking::Waits => (None, run_waiting(alloc, world, &mut schedule)),
+        Picking::Lifo => (None, run_lifo(alloc, world, &mut schedule)),
     }
 }

@@ -1,6 +1,6 @@
 //! Runs of worlds, step by step: what is counted, and the text at the end.
 use crate::worlds::{
-    MOST_TURNS, branches_of, check_out, commit, do_all, path, step_of, text_of, world_of,
+    MOST_TURNS, branches_of, commit, do_all, hold, let_go, path, step_of, text_of, world_of,
 };
 use ghs_core::census::FragmentRow;
 use ghs_core::event::Event;
@@ -34,44 +34,52 @@ fn fault_of(alloc: Global, world: &World) -> Option<ReportFault> {
     run_text(alloc, world).err()
 }
 
-fn ledger_of(world: &World) -> Ledger {
-    world.ledger()
+fn assert_ledger(rt: &impl Abort, world: &World, ledger: &Ledger) {
+    assert_eq!(rt; world.ledger(), *ledger);
 }
 
-fn row(least: u32, level: u8, nodes: u32) -> FragmentRow {
-    FragmentRow {
-        least,
-        level,
-        nodes,
-    }
+fn assert_census(rt: &impl Abort, alloc: Global, world: &World, rows: &[FragmentRow]) {
+    let census = world.census(alloc).expect(rt, "memory");
+    assert_eq!(rt; census.as_slice(), rows);
 }
 
-fn census_of(rt: &impl Abort, alloc: Global, world: &World) -> Vec<FragmentRow> {
-    world.census(alloc).expect(rt, "memory")
+fn assert_pair_text(rt: &impl Abort, alloc: Global, world: &World) {
+    let text = text_of(rt, alloc, world);
+    assert_eq!(rt; text.as_slice(), PAIR_TEXT.as_bytes());
 }
+
+/// Where a run goes on there is no text.
+fn assert_goes_on(rt: &impl Abort, alloc: Global, world: &World) {
+    let fault = fault_of(alloc, world);
+    assert_eq!(rt; fault, Some(ReportFault::NotEnded));
+}
+
+/// The last step of the two nodes, the seventh: node 1 halts.
+fn halt(rt: &impl Abort, alloc: Global, world: &mut World) {
+    let step = step_of(rt, alloc, world, LAST);
+    assert!(rt; step.number() == 7);
+    assert!(rt; commit(rt, alloc, world, step).halted);
+    assert!(rt; world.core_halted() == Some(1));
+}
+
+const PAIR_LEDGER: Ledger = Ledger {
+    sent: [2, 2, 0, 0, 0, 2, 0],
+    consumed: [2, 2, 0, 0, 0, 1, 0],
+    requeued: 0,
+    queued: 1,
+    out: 0,
+};
 
 #[test]
 fn two_nodes_by_tickets(rt: HostRuntime) {
     let alloc = rt.alloc();
     let mut world = world_of(&rt, alloc, PAIR, WakeSet::All, 7);
     do_all(&rt, alloc, &mut world, &PAIR_RUN);
-    assert_eq!(rt; fault_of(alloc, &world), Some(ReportFault::NotEnded));
-    let step = step_of(&rt, alloc, &mut world, LAST);
-    assert_eq!(rt; step.number(), 7);
-    assert!(rt; commit(&rt, alloc, &mut world, step).halted);
-    assert_eq!(rt; world.core_halted(), Some(1));
-    let ledger = Ledger {
-        sent: [2, 2, 0, 0, 0, 2, 0],
-        consumed: [2, 2, 0, 0, 0, 1, 0],
-        requeued: 0,
-        queued: 1,
-        out: 0,
-    };
-    assert_eq!(rt; ledger_of(&world), ledger);
-    assert_eq!(rt;
-        text_of(&rt, alloc, &world).as_slice(),
-        PAIR_TEXT.as_bytes()
-    );
+    assert_goes_on(&rt, alloc, &world);
+    halt(&rt, alloc, &mut world);
+    assert_ledger(&rt, &world, &PAIR_LEDGER);
+    assert_pair_text(&rt, alloc, &world);
+    let_go(world);
 }
 
 /// The link of nodes 1 and 2 in the path.
@@ -108,17 +116,66 @@ fn nodes_wake(rt: HostRuntime) {
     assert_branches(&rt, alloc, &world, &[SHORT]);
     do_all(&rt, alloc, &mut world, &[Event::Wake(2), Event::Wake(3)]);
     assert_branches(&rt, alloc, &world, &[SHORT, LONG]);
+    let_go(world);
+}
+
+/// The fragment of nodes 1 and 2, and node 3.
+const AWAKE: [FragmentRow; 2] = [
+    FragmentRow {
+        least: 1,
+        level: 0,
+        nodes: 2,
+    },
+    FragmentRow {
+        least: 3,
+        level: 0,
+        nodes: 1,
+    },
+];
+
+fn assert_fragment(rt: &impl Abort, alloc: Global, world: &World, v: u32, nodes: &[u32]) {
+    assert!(rt; v >= 1 && v <= world.net().graph().nodes());
+    let fragment = world.net().fragment(alloc, v).expect(rt, "memory");
+    assert_eq!(rt; fragment.as_slice(), nodes);
 }
 
 #[test]
 fn three_nodes_awake(rt: HostRuntime) {
     let alloc = rt.alloc();
     let world = awake(&rt, alloc);
-    let rows = [row(1, 0, 2), row(3, 0, 1)];
-    assert_eq!(rt; census_of(&rt, alloc, &world).as_slice(), rows.as_slice());
+    assert_census(&rt, alloc, &world, &AWAKE);
     assert!(rt; world.net().graph().nodes() == 3);
-    let fragment = world.net().fragment(alloc, 2).expect(&rt, "memory");
-    assert_eq!(rt; fragment.as_slice(), [1, 2].as_slice());
+    assert_fragment(&rt, alloc, &world, 2, &[1, 2]);
+    let_go(world);
+}
+
+/// Node 2 is out with a message; three Connects were sent.
+const ONE_OUT: Ledger = Ledger {
+    sent: [3, 0, 0, 0, 0, 0, 0],
+    consumed: [0; 7],
+    requeued: 0,
+    queued: 2,
+    out: 1,
+};
+
+/// Meanwhile node 1 has consumed a message and sent another one.
+const ANOTHER_ACTED: Ledger = Ledger {
+    sent: [3, 1, 0, 0, 0, 0, 0],
+    consumed: [1, 0, 0, 0, 0, 0, 0],
+    ..ONE_OUT
+};
+
+/// Node 2's message is put back.
+const PUT_BACK: Ledger = Ledger {
+    requeued: 1,
+    queued: 3,
+    out: 0,
+    ..ANOTHER_ACTED
+};
+
+/// What is committed behind so many events.
+fn assert_events(rt: &impl Abort, world: &World, from: usize, events: &[Event]) {
+    assert!(rt; world.trace().get(from..) == Some(events));
 }
 
 // While node 2 is out, node 1 acts; node 2's message waits, and is put back.
@@ -127,25 +184,13 @@ fn one_out_while_another_acts(rt: HostRuntime) {
     let alloc = rt.alloc();
     let mut world = awake(&rt, alloc);
     let step = step_of(&rt, alloc, &mut world, Event::Take(2, 1));
-    let mut ledger = Ledger {
-        sent: [3, 0, 0, 0, 0, 0, 0],
-        consumed: [0; 7],
-        requeued: 0,
-        queued: 2,
-        out: 1,
-    };
-    assert_eq!(rt; ledger_of(&world), ledger);
+    assert_ledger(&rt, &world, &ONE_OUT);
     do_all(&rt, alloc, &mut world, &[Event::Take(1, 0)]);
-    ledger.sent = [3, 1, 0, 0, 0, 0, 0];
-    ledger.consumed = [1, 0, 0, 0, 0, 0, 0];
-    assert_eq!(rt; ledger_of(&world), ledger);
+    assert_ledger(&rt, &world, &ANOTHER_ACTED);
     let _ = commit(&rt, alloc, &mut world, step);
-    ledger.requeued = 1;
-    ledger.queued = 3;
-    ledger.out = 0;
-    assert_eq!(rt; ledger_of(&world), ledger);
-    let ends = [Event::Take(1, 0), Event::Take(2, 1)];
-    assert!(rt; world.trace().get(3..) == Some(ends.as_slice()));
+    assert_ledger(&rt, &world, &PUT_BACK);
+    assert_events(&rt, &world, 3, &[Event::Take(1, 0), Event::Take(2, 1)]);
+    let_go(world);
 }
 
 /// A node's next event is made, if it has one.
@@ -168,28 +213,30 @@ fn run_in_turn(rt: &impl Abort, alloc: Global, world: &mut World, nodes: u32) {
     assert!(rt; world.ended());
 }
 
+/// A connected graph's nodes are one fragment at the end, of this level.
+fn ends_at_level(rt: &impl Abort, alloc: Global, text: &str, nodes: u32, level: u8) {
+    let mut world = world_of(rt, alloc, text, WakeSet::All, MOST_TURNS);
+    run_in_turn(rt, alloc, &mut world, nodes);
+    let least = 1;
+    let row = FragmentRow {
+        least,
+        level,
+        nodes,
+    };
+    assert_census(rt, alloc, &world, &[row]);
+    let_go(world);
+}
+
 // At the end each component is one fragment.
 #[test]
 fn fragments_at_the_end(rt: HostRuntime) {
     let alloc = rt.alloc();
-    let rows = [
-        ("p sp 3 3\na 1 2 1\na 2 3 2\na 1 3 3", 3, row(1, 1, 3)),
-        ("p sp 4 3\na 1 2 1\na 3 4 2\na 2 3 3", 4, row(1, 2, 4)),
-        (
-            "p sp 5 4\na 1 2 1\na 2 3 2\na 4 5 3\na 3 4 4",
-            5,
-            row(1, 2, 5),
-        ),
-    ];
-    for (text, nodes, row) in rows {
-        let mut world = world_of(&rt, alloc, text, WakeSet::All, MOST_TURNS);
-        run_in_turn(&rt, alloc, &mut world, nodes);
-        assert_eq!(rt;
-            census_of(&rt, alloc, &world).as_slice(),
-            [row].as_slice(),
-            "of {text:?}"
-        );
-    }
+    let triangle = "p sp 3 3\na 1 2 1\na 2 3 2\na 1 3 3";
+    ends_at_level(&rt, alloc, triangle, 3, 1);
+    let two_pairs = "p sp 4 3\na 1 2 1\na 3 4 2\na 2 3 3";
+    ends_at_level(&rt, alloc, two_pairs, 4, 2);
+    let five = "p sp 5 4\na 1 2 1\na 2 3 2\na 4 5 3\na 3 4 4";
+    ends_at_level(&rt, alloc, five, 5, 2);
 }
 
 /// Makes an event at once, without a ticket.
@@ -206,19 +253,20 @@ fn make(rt: &impl Abort, alloc: Global, world: &mut World, event: Event) {
     world.make(alloc, event).expect(rt, "memory");
 }
 
+fn make_all(rt: &impl Abort, alloc: Global, world: &mut World, events: &[Event]) {
+    for event in events {
+        make(rt, alloc, world, *event);
+    }
+}
+
 // The same run without tickets has the same text, and has used as many numbers.
 #[test]
 fn two_nodes_at_once(rt: HostRuntime) {
     let alloc = rt.alloc();
     let mut world = world_of(&rt, alloc, PAIR, WakeSet::All, 8);
-    for event in PAIR_RUN {
-        make(&rt, alloc, &mut world, event);
-    }
-    make(&rt, alloc, &mut world, LAST);
-    assert_eq!(rt;
-        text_of(&rt, alloc, &world).as_slice(),
-        PAIR_TEXT.as_bytes()
-    );
-    let ticket = check_out(&rt, alloc, &mut world, Event::Take(2, 0));
-    assert_eq!(rt; ticket.number(), 8);
+    make_all(&rt, alloc, &mut world, &PAIR_RUN);
+    make_all(&rt, alloc, &mut world, &[LAST]);
+    assert_pair_text(&rt, alloc, &world);
+    hold(&rt, alloc, &mut world, Event::Take(2, 0), 8);
+    let_go(world);
 }

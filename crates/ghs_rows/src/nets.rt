@@ -1,10 +1,15 @@
 //! Nets of one thread, played event by event.
+ghost use Rattle.std.specs.Prelude.{◌≡◌};
+ghost use Rattle.ghs_core.specs.NetState.{IsLawful, IsAnswer, event_node};
+
 use ghs_core::event::Event;
 use ghs_core::ledger::Ledger;
 use ghs_core::net::Net;
 use ghs_gr::judgement::judge;
 use ghs_graph::graph::Graph;
 use ghs_graph::key::Key;
+use ghs_node::delta::Delta;
+use ghs_node::node::Node;
 use ghs_node::react::react;
 use std::alloc::Global;
 use std::process::Abort;
@@ -34,36 +39,82 @@ pub fn net_of(rt: &impl Abort, alloc: Global, text: &str) -> Net {
     Net::open(alloc, graph).ok().expect(rt, "a net")
 }
 
+fn node_of(event: Event) -> u32
+    ensures { result ≡ event_node event }
+{
+    match event {
+        Event::Wake(v) => v,
+        Event::Take(v, _) => v,
+    }
+}
+
+/// What a node does with a lawful event.
+fn reaction_of(rt: &impl Abort, alloc: Global, net: &Net, event: Event) -> Delta
+    requires { IsLawful net.now event }
+    ensures { IsAnswer net.now event result }
+{
+    let v = node_of(event);
+    assert!(rt; v >= 1 && v <= net.graph().nodes());
+    let reply = react(alloc, net.node(v), net.work(event));
+    reply.ok().expect(rt, "a rule")
+}
+
 /// Plays an event, which has to be lawful.
 pub fn play(rt: &impl Abort, alloc: Global, net: &mut Net, event: Event) {
     assert!(rt; net.lawful(event));
     assert!(rt; net.events() < 1 << 40);
-    let v = match event {
-        Event::Wake(v) => v,
-        Event::Take(v, _) => v,
-    };
-    assert!(rt; v >= 1 && v <= net.graph().nodes());
-    let delta = react(alloc, net.node(v), net.work(event))
-        .ok()
-        .expect(rt, "a rule");
+    let delta = reaction_of(rt, alloc, net, event);
     net.reserve(event, &delta).expect(rt, "memory");
     net.play(event, &delta);
+}
+
+/// Plays events, all of which have to be lawful.
+pub fn play_all(rt: &impl Abort, alloc: Global, net: &mut Net, events: &[Event]) {
+    for event in events {
+        play(rt, alloc, net, *event);
+    }
+}
+
+/// The net of a text after some events.
+fn played(rt: &impl Abort, alloc: Global, text: &str, events: &[Event]) -> Net {
+    let mut net = net_of(rt, alloc, text);
+    play_all(rt, alloc, &mut net, events);
+    net
 }
 
 fn is_lawful(net: &Net, event: Event) -> bool {
     net.lawful(event)
 }
 
-fn halted_in(net: &Net) -> Option<u32> {
-    net.core_halted()
-}
-
 fn has_ended(net: &Net) -> bool {
     net.ended()
 }
 
-fn ledger_of(net: &Net) -> Ledger {
-    net.ledger()
+fn assert_lawful(rt: &impl Abort, net: &Net, event: Event) {
+    assert!(rt; net.lawful(event));
+}
+
+fn assert_unlawful(rt: &impl Abort, net: &Net, events: &[Event]) {
+    for event in events {
+        assert!(rt; !is_lawful(net, *event), "{event:?}");
+    }
+}
+
+fn assert_halted(rt: &impl Abort, net: &Net, halted: Option<u32>) {
+    assert_eq!(rt; net.core_halted(), halted);
+}
+
+fn assert_ended(rt: &impl Abort, net: &Net, ended: bool) {
+    assert_eq!(rt; net.ended(), ended);
+}
+
+fn assert_trace(rt: &impl Abort, net: &Net, events: &[Event]) {
+    assert!(rt; net.trace() == events);
+    assert!(rt; net.events() == events.len() as u64);
+}
+
+fn assert_ledger(rt: &impl Abort, net: &Net, ledger: &Ledger) {
+    assert_eq!(rt; net.ledger(), *ledger);
 }
 
 fn branches_of(rt: &impl Abort, alloc: Global, net: &Net) -> Vec<Key> {
@@ -75,6 +126,16 @@ fn fragment_of(rt: &impl Abort, alloc: Global, net: &Net, v: u32) -> (u8, Vec<u3
     assert!(rt; v >= 1 && v <= net.graph().nodes());
     let level = net.level(v);
     (level, net.fragment(alloc, v).expect(rt, "memory"))
+}
+
+fn assert_level(rt: &impl Abort, alloc: Global, net: &Net, v: u32, level: u8) {
+    let (found, _) = fragment_of(rt, alloc, net, v);
+    assert_eq!(rt; found, level);
+}
+
+fn assert_fragment(rt: &impl Abort, alloc: Global, net: &Net, v: u32, nodes: &[u32]) {
+    let (_, found) = fragment_of(rt, alloc, net, v);
+    assert_eq!(rt; found.as_slice(), nodes);
 }
 
 /// The greatest level of the nodes, once the fragment of each has as many nodes as its level asks.
@@ -98,12 +159,21 @@ fn sent_in(net: &Net) -> u64 {
     total
 }
 
+fn assert_sent(rt: &impl Abort, net: &Net, sent: [u64; 7]) {
+    assert_eq!(rt; net.ledger().sent, sent);
+}
+
+/// A link is this one: weight, smaller end, larger end.
+fn assert_link(rt: &impl Abort, link: &Key, (weight, a, b): (u32, u32, u32)) {
+    assert_eq!(rt; (link.weight, link.a, link.b), (weight, a, b));
+}
+
 /// The Branch links are these: weight, smaller end, larger end.
 fn assert_branches(rt: &impl Abort, alloc: Global, net: &Net, tree: &[(u32, u32, u32)]) {
     let links = branches_of(rt, alloc, net);
-    assert_eq!(rt; links.len(), tree.len());
-    for (link, (weight, a, b)) in links.iter().zip(tree) {
-        assert_eq!(rt; (link.weight, link.a, link.b), (*weight, *a, *b));
+    assert!(rt; links.len() == tree.len());
+    for (link, row) in links.iter().zip(tree) {
+        assert_link(rt, link, *row);
     }
 }
 
@@ -120,12 +190,17 @@ struct Example {
     tree: &'static [(u32, u32, u32)],
 }
 
+/// Fragments are as large as their levels ask, and no more messages were sent than a run sends.
+fn assert_within(rt: &impl Abort, alloc: Global, net: &Net, example: &Example) {
+    let _ = greatest_level(rt, alloc, net, example.nodes);
+    assert!(rt; sent_in(net) <= example.most);
+}
+
 /// Plays an event if it is lawful and the run goes on.
 fn try_to_play(rt: &impl Abort, alloc: Global, net: &mut Net, example: &Example, event: Event) {
     if !has_ended(net) && is_lawful(net, event) {
         play(rt, alloc, net, event);
-        let _ = greatest_level(rt, alloc, net, example.nodes);
-        assert!(rt; sent_in(net) <= example.most);
+        assert_within(rt, alloc, net, example);
     }
 }
 
@@ -142,172 +217,191 @@ fn run_in_order(rt: &impl Abort, alloc: Global, net: &mut Net, example: &Example
     assert!(rt; has_ended(net));
 }
 
+/// A run of the two nodes of the pair.
+const PAIR_RUN: [Event; 7] = [
+    Event::Wake(1),
+    Event::Wake(2),
+    Event::Take(1, 0),
+    Event::Take(2, 0),
+    Event::Take(1, 0),
+    Event::Take(2, 0),
+    Event::Take(1, 0),
+];
+
+const PAIR_LEDGER: Ledger = Ledger {
+    sent: [2, 2, 0, 0, 0, 2, 0],
+    consumed: [2, 2, 0, 0, 0, 1, 0],
+    requeued: 0,
+    queued: 1,
+    out: 0,
+};
+
+/// What can't come after the run: a node awake, no node, and no port.
+const NOT_AFTER_PAIR_RUN: [Event; 3] = [Event::Wake(1), Event::Wake(3), Event::Take(2, 1)];
+
 #[test]
 fn two_nodes(rt: HostRuntime) {
     let alloc = rt.alloc();
     let mut net = net_of(&rt, alloc, PAIR);
-    let events = [
-        Event::Wake(1),
-        Event::Wake(2),
-        Event::Take(1, 0),
-        Event::Take(2, 0),
-        Event::Take(1, 0),
-        Event::Take(2, 0),
-        Event::Take(1, 0),
-    ];
-    assert_eq!(rt; halted_in(&net), None);
-    for event in events {
-        play(&rt, alloc, &mut net, event);
-    }
-    assert_eq!(rt; halted_in(&net), Some(1));
-    assert!(rt; net.trace() == events.as_slice());
-    assert!(rt; net.events() == 7);
-    let ledger = Ledger {
-        sent: [2, 2, 0, 0, 0, 2, 0],
-        consumed: [2, 2, 0, 0, 0, 1, 0],
-        requeued: 0,
-        queued: 1,
-        out: 0,
-    };
-    assert_eq!(rt; ledger_of(&net), ledger);
-    assert!(rt; !is_lawful(&net, Event::Wake(1)));
-    assert!(rt; !is_lawful(&net, Event::Wake(3)));
-    assert!(rt; !is_lawful(&net, Event::Take(2, 1)));
+    assert_halted(&rt, &net, None);
+    play_all(&rt, alloc, &mut net, &PAIR_RUN);
+    assert_halted(&rt, &net, Some(1));
+    assert_trace(&rt, &net, &PAIR_RUN);
+    assert_ledger(&rt, &net, &PAIR_LEDGER);
+    assert_unlawful(&rt, &net, &NOT_AFTER_PAIR_RUN);
 }
+
+/// After all three nodes of the path have woken.
+const PATH_LEDGER: Ledger = Ledger {
+    sent: [3, 0, 0, 0, 0, 0, 0],
+    consumed: [0; 7],
+    requeued: 0,
+    queued: 3,
+    out: 0,
+};
 
 #[test]
 fn path(rt: HostRuntime) {
     let alloc = rt.alloc();
-    let short = Key {
-        weight: 5,
-        a: 1,
-        b: 2,
-    };
-    let long = Key {
-        weight: 7,
-        a: 2,
-        b: 3,
-    };
-    let mut net = net_of(&rt, alloc, PATH);
-    play(&rt, alloc, &mut net, Event::Wake(1));
-    assert_eq!(rt;
-        branches_of(&rt, alloc, &net).as_slice(),
-        [short].as_slice()
-    );
-    play(&rt, alloc, &mut net, Event::Wake(2));
-    play(&rt, alloc, &mut net, Event::Wake(3));
-    assert_eq!(rt; ledger_of(&net).sent, [3, 0, 0, 0, 0, 0, 0]);
-    assert_eq!(rt; ledger_of(&net).queued, 3);
-    assert_eq!(rt;
-        branches_of(&rt, alloc, &net).as_slice(),
-        [short, long].as_slice()
-    );
-    let (level, fragment) = fragment_of(&rt, alloc, &net, 2);
-    assert_eq!(rt; level, 0);
-    assert_eq!(rt; fragment.as_slice(), [1, 2].as_slice());
+    let mut net = played(&rt, alloc, PATH, &[Event::Wake(1)]);
+    assert_branches(&rt, alloc, &net, &[(5, 1, 2)]);
+    play_all(&rt, alloc, &mut net, &[Event::Wake(2), Event::Wake(3)]);
+    assert_ledger(&rt, &net, &PATH_LEDGER);
+    assert_branches(&rt, alloc, &net, &[(5, 1, 2), (7, 2, 3)]);
+    assert_level(&rt, alloc, &net, 2, 0);
+    assert_fragment(&rt, alloc, &net, 2, &[1, 2]);
+}
+
+const EXAMPLES: [Example; 8] = [
+    Example {
+        text: SINGLE,
+        nodes: 1,
+        level: 0,
+        most: 0,
+        tree: &[],
+    },
+    Example {
+        text: PAIR,
+        nodes: 2,
+        level: 1,
+        most: 8,
+        tree: &[(5, 1, 2)],
+    },
+    Example {
+        text: PATH,
+        nodes: 3,
+        level: 1,
+        most: 13,
+        tree: &[(5, 1, 2), (7, 2, 3)],
+    },
+    Example {
+        text: TRIANGLE,
+        nodes: 3,
+        level: 1,
+        most: 15,
+        tree: &[(1, 1, 2), (2, 2, 3)],
+    },
+    Example {
+        text: ALIKE,
+        nodes: 3,
+        level: 1,
+        most: 15,
+        tree: &[(4, 1, 2), (4, 1, 3)],
+    },
+    Example {
+        text: TWO_PAIRS,
+        nodes: 4,
+        level: 2,
+        most: 38,
+        tree: &[(1, 1, 2), (2, 3, 4), (3, 2, 3)],
+    },
+    Example {
+        text: FIVE,
+        nodes: 5,
+        level: 2,
+        most: 48,
+        tree: &[(1, 1, 2), (2, 2, 3), (3, 4, 5), (4, 3, 4)],
+    },
+    Example {
+        text: FORKED,
+        nodes: 5,
+        level: 2,
+        most: 48,
+        tree: &[(1, 1, 2), (2, 3, 4), (5, 2, 3), (9, 2, 5)],
+    },
+];
+
+/// A run that serves the nodes in turn ends in what is known.
+fn run_in_turn(rt: &impl Abort, alloc: Global, example: &Example) {
+    let mut net = net_of(rt, alloc, example.text);
+    run_in_order(rt, alloc, &mut net, example, &[1, 2, 3, 4, 5]);
+    assert_end(rt, alloc, &net, example);
+}
+
+/// The greatest level, the fragment of node 1 and the tree are those that are known.
+fn assert_end(rt: &impl Abort, alloc: Global, net: &Net, example: &Example) {
+    let greatest = greatest_level(rt, alloc, net, example.nodes);
+    assert!(rt; greatest == example.level);
+    let (_, fragment) = fragment_of(rt, alloc, net, 1);
+    assert!(rt; fragment.len() >= 1 && fragment.len() - 1 == example.tree.len());
+    assert_branches(rt, alloc, net, example.tree);
 }
 
 #[test]
 fn runs_in_turn(rt: HostRuntime) {
-    let alloc = rt.alloc();
-    let examples = [
-        Example {
-            text: SINGLE,
-            nodes: 1,
-            level: 0,
-            most: 0,
-            tree: &[],
-        },
-        Example {
-            text: PAIR,
-            nodes: 2,
-            level: 1,
-            most: 8,
-            tree: &[(5, 1, 2)],
-        },
-        Example {
-            text: PATH,
-            nodes: 3,
-            level: 1,
-            most: 13,
-            tree: &[(5, 1, 2), (7, 2, 3)],
-        },
-        Example {
-            text: TRIANGLE,
-            nodes: 3,
-            level: 1,
-            most: 15,
-            tree: &[(1, 1, 2), (2, 2, 3)],
-        },
-        Example {
-            text: ALIKE,
-            nodes: 3,
-            level: 1,
-            most: 15,
-            tree: &[(4, 1, 2), (4, 1, 3)],
-        },
-        Example {
-            text: TWO_PAIRS,
-            nodes: 4,
-            level: 2,
-            most: 38,
-            tree: &[(1, 1, 2), (2, 3, 4), (3, 2, 3)],
-        },
-        Example {
-            text: FIVE,
-            nodes: 5,
-            level: 2,
-            most: 48,
-            tree: &[(1, 1, 2), (2, 2, 3), (3, 4, 5), (4, 3, 4)],
-        },
-        Example {
-            text: FORKED,
-            nodes: 5,
-            level: 2,
-            most: 48,
-            tree: &[(1, 1, 2), (2, 3, 4), (5, 2, 3), (9, 2, 5)],
-        },
-    ];
-    for example in examples {
-        let mut net = net_of(&rt, alloc, example.text);
-        run_in_order(&rt, alloc, &mut net, &example, &[1, 2, 3, 4, 5]);
-        assert_eq!(rt;
-            greatest_level(&rt, alloc, &net, example.nodes),
-            example.level
-        );
-        let (_, fragment) = fragment_of(&rt, alloc, &net, 1);
-        assert_eq!(rt; fragment.len().checked_sub(1), Some(example.tree.len()));
-        assert_branches(&rt, alloc, &net, example.tree);
+    for example in &EXAMPLES {
+        run_in_turn(&rt, rt.alloc(), example);
     }
+}
+
+const PARALLEL: Example = Example {
+    text: "p sp 2 2\na 1 2 5\na 2 1 6",
+    nodes: 2,
+    level: 1,
+    most: 10,
+    tree: &[(5, 1, 2)],
+};
+
+fn run_parallel_links(rt: &impl Abort, alloc: Global, order: &[u32]) {
+    let mut net = net_of(rt, alloc, PARALLEL.text);
+    run_in_order(rt, alloc, &mut net, &PARALLEL, order);
+    assert_branches(rt, alloc, &net, PARALLEL.tree);
+    assert_sent(rt, &net, [2, 2, 2, 0, 0, 2, 0]);
 }
 
 // Of two parallel links the lighter one is the tree. Each node tests the other one, and neither Test is answered.
 #[test]
 fn parallel_links(rt: HostRuntime) {
     let alloc = rt.alloc();
-    let example = Example {
-        text: "p sp 2 2\na 1 2 5\na 2 1 6",
-        nodes: 2,
-        level: 1,
-        most: 10,
-        tree: &[(5, 1, 2)],
-    };
-    let orders = [
-        [1, 2].as_slice(),
-        [2, 1].as_slice(),
-        [1, 1, 1, 2].as_slice(),
-        [2, 2, 1].as_slice(),
-    ];
-    for order in orders {
-        let mut net = net_of(&rt, alloc, example.text);
-        run_in_order(&rt, alloc, &mut net, &example, order);
-        assert_branches(&rt, alloc, &net, example.tree);
-        assert_eq!(rt;
-            ledger_of(&net).sent,
-            [2, 2, 2, 0, 0, 2, 0],
-            "in order {order:?}"
-        );
-    }
+    run_parallel_links(&rt, alloc, &[1, 2]);
+    run_parallel_links(&rt, alloc, &[2, 1]);
+    run_parallel_links(&rt, alloc, &[1, 1, 1, 2]);
+    run_parallel_links(&rt, alloc, &[2, 2, 1]);
+}
+
+/// A run of the second pair of two.
+const SECOND_PAIR_RUN: [Event; 7] = [
+    Event::Wake(4),
+    Event::Wake(3),
+    Event::Take(4, 0),
+    Event::Take(3, 0),
+    Event::Take(4, 0),
+    Event::Take(3, 0),
+    Event::Take(4, 0),
+];
+
+/// Plays events, and the run has ended then, or goes on.
+fn go_on(rt: &impl Abort, alloc: Global, net: &mut Net, events: &[Event], ended: bool) {
+    play_all(rt, alloc, net, events);
+    assert_ended(rt, net, ended);
+}
+
+/// Of two pairs and a fifth node the first pair has ended: the other core node halts as well, which ends no further
+/// component, and the other components end.
+fn end_pieces(rt: &impl Abort, alloc: Global, net: &mut Net) {
+    go_on(rt, alloc, net, &[Event::Take(2, 0)], false);
+    go_on(rt, alloc, net, &SECOND_PAIR_RUN, false);
+    go_on(rt, alloc, net, &[Event::Wake(5)], true);
 }
 
 // A run has ended where each component has, and not before.
@@ -315,51 +409,25 @@ fn parallel_links(rt: HostRuntime) {
 fn pieces(rt: HostRuntime) {
     let alloc = rt.alloc();
     let mut net = net_of(&rt, alloc, "p sp 5 2\na 1 2 5\na 3 4 6");
-    let events = [
-        Event::Wake(1),
-        Event::Wake(2),
-        Event::Take(1, 0),
-        Event::Take(2, 0),
-        Event::Take(1, 0),
-        Event::Take(2, 0),
-        Event::Take(1, 0),
-    ];
-    for event in events {
-        play(&rt, alloc, &mut net, event);
-    }
-    assert_eq!(rt; halted_in(&net), Some(1));
-    assert!(rt; !has_ended(&net));
-    // The other core node halts as well, which ends no further component.
-    play(&rt, alloc, &mut net, Event::Take(2, 0));
-    assert!(rt; !has_ended(&net));
-    let events = [
-        Event::Wake(4),
-        Event::Wake(3),
-        Event::Take(4, 0),
-        Event::Take(3, 0),
-        Event::Take(4, 0),
-        Event::Take(3, 0),
-        Event::Take(4, 0),
-    ];
-    for event in events {
-        play(&rt, alloc, &mut net, event);
-    }
-    assert!(rt; !has_ended(&net));
-    play(&rt, alloc, &mut net, Event::Wake(5));
-    assert!(rt; has_ended(&net));
-    assert_eq!(rt; halted_in(&net), Some(1));
+    go_on(&rt, alloc, &mut net, &PAIR_RUN, false);
+    assert_halted(&rt, &net, Some(1));
+    end_pieces(&rt, alloc, &mut net);
+    assert_halted(&rt, &net, Some(1));
     assert_branches(&rt, alloc, &net, &[(5, 1, 2), (6, 3, 4)]);
+}
+
+fn assert_same(rt: &impl Abort, left: &Net, right: &Net, same: bool) {
+    assert!(rt; left.same(right) == same);
 }
 
 #[test]
 fn same_runs(rt: HostRuntime) {
     let alloc = rt.alloc();
-    let mut left = net_of(&rt, alloc, PATH);
+    let left = played(&rt, alloc, PATH, &[Event::Wake(2)]);
     let mut right = net_of(&rt, alloc, PATH);
-    play(&rt, alloc, &mut left, Event::Wake(2));
-    assert!(rt; !left.same(&right));
+    assert_same(&rt, &left, &right, false);
     play(&rt, alloc, &mut right, Event::Wake(3));
-    assert!(rt; !left.same(&right));
+    assert_same(&rt, &left, &right, false);
 }
 
 /// The net that another one's graph opens with.
@@ -367,23 +435,37 @@ fn opened_again(rt: &impl Abort, alloc: Global, net: Net) -> Net {
     Net::open(alloc, net.into_graph()).ok().expect(rt, "memory")
 }
 
+/// Whether the net is the opening net of a text.
+fn assert_opens(rt: &impl Abort, alloc: Global, net: &Net, text: &str, same: bool) {
+    let opening = net_of(rt, alloc, text);
+    assert_same(rt, net, &opening, same);
+}
+
 #[test]
 fn a_graph_opens_again(rt: HostRuntime) {
     let alloc = rt.alloc();
-    let mut net = net_of(&rt, alloc, PATH);
-    play(&rt, alloc, &mut net, Event::Wake(2));
+    let net = played(&rt, alloc, PATH, &[Event::Wake(2)]);
     let again = opened_again(&rt, alloc, net);
-    assert!(rt; !again.same(&net_of(&rt, alloc, PAIR)));
-    assert!(rt; again.same(&net_of(&rt, alloc, PATH)));
+    assert_opens(&rt, alloc, &again, PAIR, false);
+    assert_opens(&rt, alloc, &again, PATH, true);
+}
+
+/// A node that is lifted out is the net's.
+fn assert_lifted(rt: &impl Abort, alloc: Global, net: &Net, v: u32) {
+    assert!(rt; v >= 1 && v <= net.graph().nodes());
+    let node = net.lift(alloc, v).expect(rt, "memory");
+    assert_same_node(rt, &node, net.node(v));
+}
+
+fn assert_same_node(rt: &impl Abort, node: &Node, other: &Node) {
+    assert!(rt; node.same(other));
 }
 
 #[test]
 fn a_node_lifted(rt: HostRuntime) {
-    let alloc = rt.alloc();
-    let net = net_of(&rt, alloc, PATH);
+    let net = net_of(&rt, rt.alloc(), PATH);
     assert!(rt; net.graph().nodes() == 3);
-    let node = net.lift(alloc, 1).expect(&rt, "memory");
-    assert!(rt; node.same(net.node(1)));
+    assert_lifted(&rt, rt.alloc(), &net, 1);
 }
 
 /// What changes when an event is played: messages consumed, and messages put back.
@@ -397,59 +479,55 @@ fn fates_of(rt: &impl Abort, alloc: Global, net: &mut Net, event: Event) -> (boo
     )
 }
 
+/// The message that is taken is put back.
+fn assert_put_back(rt: &impl Abort, alloc: Global, net: &mut Net, event: Event) {
+    assert!(rt; fates_of(rt, alloc, net, event) == (false, true));
+}
+
+/// The message that is taken is consumed.
+fn assert_consumed(rt: &impl Abort, alloc: Global, net: &mut Net, event: Event) {
+    assert!(rt; fates_of(rt, alloc, net, event) == (true, false));
+}
+
+/// The message that is taken is put back, and two were sent until then.
+fn put_back_of_two(rt: &impl Abort, alloc: Global, net: &mut Net, event: Event) {
+    assert_put_back(rt, alloc, net, event);
+    assert!(rt; sent_in(net) == 2);
+}
+
 // A message that comes to a sleeping node is put back, and yet the run has moved on: the node is awake.
 #[test]
 fn a_message_put_back_at_a_sleeper(rt: HostRuntime) {
     let alloc = rt.alloc();
-    let mut net = net_of(&rt, alloc, "p sp 3 2\na 1 2 5\na 2 3 4");
-    play(&rt, alloc, &mut net, Event::Wake(1));
-    assert!(rt; is_lawful(&net, Event::Wake(2)));
-    assert_eq!(rt;
-        fates_of(&rt, alloc, &mut net, Event::Take(2, 1)),
-        (false, true)
-    );
-    assert!(rt; !is_lawful(&net, Event::Wake(2)));
-    assert_eq!(rt; sent_in(&net), 2);
-    assert_eq!(rt;
-        fates_of(&rt, alloc, &mut net, Event::Take(2, 1)),
-        (false, true)
-    );
-    assert_eq!(rt; sent_in(&net), 2);
+    let text = "p sp 3 2\na 1 2 5\na 2 3 4";
+    let mut net = played(&rt, alloc, text, &[Event::Wake(1)]);
+    assert_lawful(&rt, &net, Event::Wake(2));
+    put_back_of_two(&rt, alloc, &mut net, Event::Take(2, 1));
+    assert_unlawful(&rt, &net, &[Event::Wake(2)]);
+    put_back_of_two(&rt, alloc, &mut net, Event::Take(2, 1));
 }
+
+/// Until node 1 waits for node 3, which holds its Test and behind it the Initiate; node 2's Report waits at node 1.
+const UNTIL_ALL_WAIT: [Event; 7] = [
+    Event::Wake(1),
+    Event::Wake(3),
+    Event::Take(2, 0),
+    Event::Take(1, 0),
+    Event::Take(1, 0),
+    Event::Take(2, 0),
+    Event::Take(1, 1),
+];
 
 // All first messages wait; behind one of them stands the message that moves the run on.
 #[test]
 fn all_first_messages_wait(rt: HostRuntime) {
     let alloc = rt.alloc();
-    let mut net = net_of(&rt, alloc, "p sp 3 2\na 1 2 5\na 1 3 7");
-    let events = [
-        Event::Wake(1),
-        Event::Wake(3),
-        Event::Take(2, 0),
-        Event::Take(1, 0),
-        Event::Take(1, 0),
-        Event::Take(2, 0),
-        Event::Take(1, 1),
-    ];
-    for event in events {
-        play(&rt, alloc, &mut net, event);
-    }
-    // Node 1 waits for node 3, which holds its Test and behind it the Initiate; node 2's Report waits at node 1.
-    for (v, port) in [(1, 1), (2, 0)] {
-        assert!(rt; !is_lawful(&net, Event::Take(v, port)), "at {v}, {port}");
-    }
-    assert_eq!(rt;
-        fates_of(&rt, alloc, &mut net, Event::Take(1, 0)),
-        (false, true)
-    );
-    assert_eq!(rt;
-        fates_of(&rt, alloc, &mut net, Event::Take(3, 0)),
-        (false, true)
-    );
-    assert_eq!(rt;
-        fates_of(&rt, alloc, &mut net, Event::Take(3, 0)),
-        (true, false)
-    );
+    let text = "p sp 3 2\na 1 2 5\na 1 3 7";
+    let mut net = played(&rt, alloc, text, &UNTIL_ALL_WAIT);
+    assert_unlawful(&rt, &net, &[Event::Take(1, 1), Event::Take(2, 0)]);
+    assert_put_back(&rt, alloc, &mut net, Event::Take(1, 0));
+    assert_put_back(&rt, alloc, &mut net, Event::Take(3, 0));
+    assert_consumed(&rt, alloc, &mut net, Event::Take(3, 0));
 }
 
 #[test]

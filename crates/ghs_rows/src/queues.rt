@@ -70,36 +70,91 @@ fn look(rt: &impl Abort, links: &Links, graph: &Graph, v: u32, port: u32) -> (u6
     (links.len_at(v, port), links.front(v, port))
 }
 
-#[test]
-fn queues(rt: HostRuntime) -> Result<(), Fail> {
-    let alloc = rt.alloc();
-    let raw = judge(alloc, b"p sp 3 2\na 1 2 5\na 2 3 7")
-        .ok()
-        .ok_or("refused")?;
-    let graph = Graph::build(alloc, raw).ok().ok_or("refused")?;
-    let mut links = Links::new(alloc, &graph)?;
-    for (v, port) in [(1, 0), (2, 0), (2, 1), (3, 0)] {
-        assert_eq!(rt;
-            look(&rt, &links, &graph, v, port),
-            (0, None),
-            "at {v}, {port}"
-        );
-    }
-    let connect = Message::Connect(Level::of(0).ok_or("a level")?);
-    let name = Key {
+/// So many messages wait at a port, the first of which is this.
+fn sees(
+    rt: &impl Abort,
+    links: &Links,
+    graph: &Graph,
+    v: u32,
+    port: u32,
+    waiting: (u64, Option<Message>),
+)
+    requires { IsFor graph.now links.now }
+{
+    assert_eq!(rt; look(rt, links, graph, v, port), waiting, "at {v}, {port}");
+}
+
+/// No message waits at a port.
+fn sees_none(rt: &impl Abort, links: &Links, graph: &Graph, v: u32, port: u32)
+    requires { IsFor graph.now links.now }
+{
+    sees(rt, links, graph, v, port, (0, None));
+}
+
+/// The first message of a port is this, and is taken.
+fn takes(
+    rt: &impl Abort,
+    links: &mut Links,
+    graph: &Graph,
+    v: u32,
+    port: u32,
+    message: Option<Message>,
+)
+    requires { IsFor graph.now links.old }
+    ensures { IsFor graph.now links.new }
+{
+    let taken = take(rt, links, graph, v, port);
+    assert_eq!(rt; taken, message);
+}
+
+fn assert_total(rt: &impl Abort, links: &Links, total: u64) {
+    assert_eq!(rt; links.total(), total);
+}
+
+const CONNECT: Message = Message::Connect(Level::ZERO);
+
+const TEST: Message = Message::Test(
+    Level::ONE,
+    Key {
         weight: 5,
         a: 1,
         b: 2,
-    };
-    let test = Message::Test(Level::of(1).ok_or("a level")?, name);
-    send(&rt, &mut links, &graph, 2, 0, &connect);
-    push(&rt, &mut links, &graph, 2, 1, &test);
-    assert_eq!(rt; links.total(), 2);
-    requeue(&rt, &mut links, &graph, 1, 0);
-    assert_eq!(rt; look(&rt, &links, &graph, 1, 0), (1, Some(connect)));
-    assert_eq!(rt; take(&rt, &mut links, &graph, 1, 0), Some(connect));
-    assert_eq!(rt; look(&rt, &links, &graph, 1, 0), (0, None));
-    assert_eq!(rt; look(&rt, &links, &graph, 3, 0), (1, Some(test)));
-    assert_eq!(rt; links.total(), 1);
+    },
+);
+
+/// At first no port of the path has a message.
+fn starts_empty(rt: &impl Abort, links: &Links, graph: &Graph)
+    requires { IsFor graph.now links.now }
+{
+    for (v, port) in [(1, 0), (2, 0), (2, 1), (3, 0)] {
+        sees_none(rt, links, graph, v, port);
+    }
+}
+
+/// Two messages are sent, and one of them is taken.
+fn pass_messages(rt: &impl Abort, links: &mut Links, graph: &Graph)
+    requires { IsFor graph.now links.old }
+    ensures { IsFor graph.now links.new }
+{
+    send(rt, links, graph, 2, 0, &CONNECT);
+    push(rt, links, graph, 2, 1, &TEST);
+    assert_total(rt, links, 2);
+    requeue(rt, links, graph, 1, 0);
+    sees(rt, links, graph, 1, 0, (1, Some(CONNECT)));
+    takes(rt, links, graph, 1, 0, Some(CONNECT));
+}
+
+#[test]
+fn queues(rt: HostRuntime) -> Result<(), Fail> {
+    let alloc = rt.alloc();
+    let raw = judge(alloc, b"p sp 3 2\na 1 2 5\na 2 3 7").ok();
+    let graph = Graph::build(alloc, raw.ok_or("refused")?).ok();
+    let graph = graph.ok_or("refused")?;
+    let mut links = Links::new(alloc, &graph)?;
+    starts_empty(&rt, &links, &graph);
+    pass_messages(&rt, &mut links, &graph);
+    sees_none(&rt, &links, &graph, 1, 0);
+    sees(&rt, &links, &graph, 3, 0, (1, Some(TEST)));
+    assert_total(&rt, &links, 1);
     Ok(())
 }

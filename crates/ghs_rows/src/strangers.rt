@@ -1,5 +1,5 @@
 //! Steps and tickets that a world doesn't take: they are of another world, or were called back.
-use crate::worlds::{MOST_TURNS, check_out, commit, do_all, path, step_of, world_of};
+use crate::worlds::{MOST_TURNS, check_out, commit, do_all, hold, let_go, path, step_of, world_of};
 use ghs_core::event::Event;
 use ghs_world::fault::{BackFault, CommitFault};
 use ghs_world::ticket::{Step, Ticket};
@@ -24,10 +24,27 @@ fn refused_ticket(world: &mut World, ticket: Ticket) -> Option<(u64, BackFault)>
     }
 }
 
-/// Checks out an event, under this number, and never commits it.
-fn hold(rt: &impl Abort, alloc: Global, world: &mut World, event: Event, number: u64) {
-    let ticket = check_out(rt, alloc, world, event);
-    assert_eq!(rt; ticket.number(), number);
+/// A step isn't committed: its number, and why.
+fn assert_step_refused(
+    rt: &impl Abort,
+    alloc: Global,
+    world: &mut World,
+    step: Step,
+    why: (u64, CommitFault),
+) {
+    let refused = refused_step(alloc, world, step);
+    assert_eq!(rt; refused, Some(why));
+}
+
+/// A ticket isn't taken back: its number, and why.
+fn assert_ticket_refused(
+    rt: &impl Abort,
+    world: &mut World,
+    ticket: Ticket,
+    why: (u64, BackFault),
+) {
+    let refused = refused_ticket(world, ticket);
+    assert_eq!(rt; refused, Some(why));
 }
 
 /// Nothing is committed, and one ticket is out.
@@ -39,7 +56,22 @@ fn assert_one_is_out(rt: &impl Abort, world: &World) {
 /// A number is given out, and its ticket taken back.
 fn use_a_number(rt: &impl Abort, alloc: Global, world: &mut World, event: Event) {
     let ticket = check_out(rt, alloc, world, event);
-    assert_eq!(rt; refused_ticket(world, ticket), None);
+    let refused = refused_ticket(world, ticket);
+    assert!(rt; refused.is_none());
+}
+
+/// Nothing but one event is committed.
+fn assert_only(rt: &impl Abort, world: &World, event: Event) {
+    assert!(rt; world.trace() == [event].as_slice());
+}
+
+/// A step of another world of three nodes in a row, after some events.
+fn step_elsewhere(rt: &impl Abort, alloc: Global, events: &[Event], event: Event) -> Step {
+    let mut other = path(rt, alloc);
+    do_all(rt, alloc, &mut other, events);
+    let step = step_of(rt, alloc, &mut other, event);
+    let_go(other);
+    step
 }
 
 #[test]
@@ -49,33 +81,50 @@ fn a_step_that_was_called_back(rt: HostRuntime) {
     let step = step_of(&rt, alloc, &mut world, Event::Wake(1));
     world.recall_all();
     hold(&rt, alloc, &mut world, Event::Wake(1), 2);
-    let refused = refused_step(alloc, &mut world, step);
-    assert_eq!(rt; refused, Some((1, CommitFault::UnknownTicket)));
+    let why = (1, CommitFault::UnknownTicket);
+    assert_step_refused(&rt, alloc, &mut world, step, why);
     assert_one_is_out(&rt, &world);
+    let_go(world);
+}
+
+/// A ticket of another world of three nodes in a row.
+fn ticket_elsewhere(rt: &impl Abort, alloc: Global, event: Event) -> Ticket {
+    let mut other = path(rt, alloc);
+    let ticket = check_out(rt, alloc, &mut other, event);
+    let_go(other);
+    ticket
 }
 
 #[test]
 fn another_event_under_the_number_of_a_ticket(rt: HostRuntime) {
     let alloc = rt.alloc();
     let mut world = path(&rt, alloc);
-    let mut other = path(&rt, alloc);
     hold(&rt, alloc, &mut world, Event::Wake(1), 1);
-    let ticket = check_out(&rt, alloc, &mut other, Event::Wake(2));
-    let refused = refused_ticket(&mut world, ticket);
-    assert_eq!(rt; refused, Some((1, BackFault::Altered)));
+    let ticket = ticket_elsewhere(&rt, alloc, Event::Wake(2));
+    assert_ticket_refused(&rt, &mut world, ticket, (1, BackFault::Altered));
     assert_one_is_out(&rt, &world);
+    let_go(world);
 }
 
 #[test]
 fn another_event_under_the_number_of_a_step(rt: HostRuntime) {
     let alloc = rt.alloc();
     let mut world = path(&rt, alloc);
-    let mut other = path(&rt, alloc);
     hold(&rt, alloc, &mut world, Event::Wake(1), 1);
-    let step = step_of(&rt, alloc, &mut other, Event::Wake(2));
-    let refused = refused_step(alloc, &mut world, step);
-    assert_eq!(rt; refused, Some((1, CommitFault::Altered)));
+    let step = step_elsewhere(&rt, alloc, &[], Event::Wake(2));
+    let why = (1, CommitFault::Altered);
+    assert_step_refused(&rt, alloc, &mut world, step, why);
     assert_one_is_out(&rt, &world);
+    let_go(world);
+}
+
+/// A step of a twin world is committed, and the twin still holds its ticket.
+fn commit_of_a_twin(rt: &impl Abort, alloc: Global, world: &mut World, event: Event) {
+    let mut twin = path(rt, alloc);
+    let step = step_of(rt, alloc, &mut twin, event);
+    let _ = commit(rt, alloc, world, step);
+    assert_one_is_out(rt, &twin);
+    let_go(twin);
 }
 
 // A step with equal number, event, node and work is the same step, whichever world it is of.
@@ -83,14 +132,12 @@ fn another_event_under_the_number_of_a_step(rt: HostRuntime) {
 fn twins(rt: HostRuntime) {
     let alloc = rt.alloc();
     let mut world = path(&rt, alloc);
-    let mut twin = path(&rt, alloc);
     let own = step_of(&rt, alloc, &mut world, Event::Wake(1));
-    let other = step_of(&rt, alloc, &mut twin, Event::Wake(1));
-    let _ = commit(&rt, alloc, &mut world, other);
-    let refused = refused_step(alloc, &mut world, own);
-    assert_eq!(rt; refused, Some((1, CommitFault::UnknownTicket)));
-    assert!(rt; world.trace() == [Event::Wake(1)].as_slice());
-    assert_one_is_out(&rt, &twin);
+    commit_of_a_twin(&rt, alloc, &mut world, Event::Wake(1));
+    let why = (1, CommitFault::UnknownTicket);
+    assert_step_refused(&rt, alloc, &mut world, own, why);
+    assert_only(&rt, &world, Event::Wake(1));
+    let_go(world);
 }
 
 // The event, its number and its message are equal, but node 1 is awake in one world and asleep in the other.
@@ -98,15 +145,24 @@ fn twins(rt: HostRuntime) {
 fn twins_that_went_apart(rt: HostRuntime) {
     let alloc = rt.alloc();
     let mut world = path(&rt, alloc);
-    let mut twin = path(&rt, alloc);
     do_all(&rt, alloc, &mut world, &[Event::Wake(2)]);
-    do_all(&rt, alloc, &mut twin, &[Event::Wake(2), Event::Wake(1)]);
     use_a_number(&rt, alloc, &mut world, Event::Wake(3));
     hold(&rt, alloc, &mut world, Event::Take(1, 0), 3);
-    let step = step_of(&rt, alloc, &mut twin, Event::Take(1, 0));
-    let refused = refused_step(alloc, &mut world, step);
-    assert_eq!(rt; refused, Some((3, CommitFault::Altered)));
-    assert!(rt; world.trace() == [Event::Wake(2)].as_slice());
+    let events = [Event::Wake(2), Event::Wake(1)];
+    let step = step_elsewhere(&rt, alloc, &events, Event::Take(1, 0));
+    let why = (3, CommitFault::Altered);
+    assert_step_refused(&rt, alloc, &mut world, step, why);
+    assert_only(&rt, &world, Event::Wake(2));
+    let_go(world);
+}
+
+/// A step of a world in which a link of the path is heavier.
+fn step_of_another_weight(rt: &impl Abort, alloc: Global, event: Event) -> Step {
+    let text = "p sp 3 2\na 1 2 6\na 2 3 7";
+    let mut other = world_of(rt, alloc, text, WakeSet::All, MOST_TURNS);
+    let step = step_of(rt, alloc, &mut other, event);
+    let_go(other);
+    step
 }
 
 #[test]
@@ -114,9 +170,8 @@ fn a_world_of_another_weight(rt: HostRuntime) {
     let alloc = rt.alloc();
     let mut world = path(&rt, alloc);
     hold(&rt, alloc, &mut world, Event::Wake(1), 1);
-    let text = "p sp 3 2\na 1 2 6\na 2 3 7";
-    let mut other = world_of(&rt, alloc, text, WakeSet::All, MOST_TURNS);
-    let step = step_of(&rt, alloc, &mut other, Event::Wake(1));
-    let refused = refused_step(alloc, &mut world, step);
-    assert_eq!(rt; refused, Some((1, CommitFault::Altered)));
+    let step = step_of_another_weight(&rt, alloc, Event::Wake(1));
+    let why = (1, CommitFault::Altered);
+    assert_step_refused(&rt, alloc, &mut world, step, why);
+    let_go(world);
 }

@@ -26,6 +26,9 @@ pub fn world_of(rt: &impl Abort, alloc: Global, text: &str, wake: WakeSet, turns
         .expect(rt, "a world")
 }
 
+/// Lets go of a world here, so that its memory's way isn't in the proof of each test that has one.
+pub fn let_go(_world: World) {}
+
 /// The opening world of three nodes in a row, in which all may wake.
 pub fn path(rt: &impl Abort, alloc: Global) -> World {
     world_of(rt, alloc, PATH, WakeSet::All, MOST_TURNS)
@@ -68,14 +71,46 @@ pub fn text_of(rt: &impl Abort, alloc: Global, world: &World) -> Vec<u8> {
     run_text(alloc, world).ok().expect(rt, "a text")
 }
 
+/// An event isn't checked out, for this reason, or is.
+fn assert_refusal(
+    rt: &impl Abort,
+    alloc: Global,
+    world: &mut World,
+    event: Event,
+    fault: Option<OutFault>,
+) {
+    let found = refusal_of(alloc, world, event);
+    assert_eq!(rt; found, fault, "{event:?}");
+}
+
+fn assert_refused(
+    rt: &impl Abort,
+    alloc: Global,
+    world: &mut World,
+    event: Event,
+    fault: OutFault,
+) {
+    assert_refusal(rt, alloc, world, event, Some(fault));
+}
+
 #[test]
 fn refused_events(rt: HostRuntime) {
     let alloc = rt.alloc();
     let mut world = path(&rt, alloc);
-    let fault = refusal_of(alloc, &mut world, Event::Wake(4));
-    assert_eq!(rt; fault, Some(OutFault::NoSuch));
-    let fault = refusal_of(alloc, &mut world, Event::Take(2, 0));
-    assert_eq!(rt; fault, Some(OutFault::Nothing));
+    assert_refused(&rt, alloc, &mut world, Event::Wake(4), OutFault::NoSuch);
+    assert_refused(&rt, alloc, &mut world, Event::Take(2, 0), OutFault::Nothing);
+    let_go(world);
+}
+
+/// Checks out an event, under this number, and never commits it.
+pub fn hold(rt: &impl Abort, alloc: Global, world: &mut World, event: Event, number: u64) {
+    let ticket = check_out(rt, alloc, world, event);
+    assert!(rt; ticket.event() == event);
+    assert_eq!(rt; ticket.number(), number);
+}
+
+fn take_back(rt: &impl Abort, world: &mut World, ticket: Ticket) {
+    assert!(rt; world.give_back(ticket).is_ok());
 }
 
 // With one turn left one node may be out; its number is used up when it is taken back, and the turn is there again.
@@ -84,75 +119,82 @@ fn one_turn(rt: HostRuntime) {
     let alloc = rt.alloc();
     let mut world = world_of(&rt, alloc, PATH, WakeSet::All, 1);
     let ticket = check_out(&rt, alloc, &mut world, Event::Wake(1));
-    let fault = refusal_of(alloc, &mut world, Event::Wake(1));
-    assert_eq!(rt; fault, Some(OutFault::Busy));
-    let fault = refusal_of(alloc, &mut world, Event::Wake(2));
-    assert_eq!(rt; fault, Some(OutFault::TurnLimit));
-    assert!(rt; world.give_back(ticket).is_ok());
-    assert_eq!(rt; number_of(&rt, alloc, &mut world, Event::Wake(2)), 2);
-}
-
-/// The number under which an event is checked out.
-fn number_of(rt: &impl Abort, alloc: Global, world: &mut World, event: Event) -> u64 {
-    let ticket = check_out(rt, alloc, world, event);
-    assert!(rt; ticket.event() == event);
-    ticket.number()
+    assert_refused(&rt, alloc, &mut world, Event::Wake(1), OutFault::Busy);
+    assert_refused(&rt, alloc, &mut world, Event::Wake(2), OutFault::TurnLimit);
+    take_back(&rt, &mut world, ticket);
+    hold(&rt, alloc, &mut world, Event::Wake(2), 2);
+    let_go(world);
 }
 
 /// Two pairs and a fifth node, of which nodes 1, 3 and 5 may wake.
 const PIECES: &str = "p sp 5 2\na 1 2 5\na 3 4 6";
 
-#[test]
-fn who_wakes_first(rt: HostRuntime) {
-    let alloc = rt.alloc();
-    let mut world = world_of(&rt, alloc, PIECES, WakeSet::First, MOST_TURNS);
+/// The opening world of the pieces, of which those nodes go out.
+fn pieces_out(rt: &impl Abort, alloc: Global) -> World {
+    let mut world = world_of(rt, alloc, PIECES, WakeSet::First, MOST_TURNS);
     for v in [2, 4] {
-        let fault = refusal_of(alloc, &mut world, Event::Wake(v));
-        assert_eq!(rt; fault, Some(OutFault::Nothing));
+        assert_refused(rt, alloc, &mut world, Event::Wake(v), OutFault::Nothing);
     }
     for v in [1, 3, 5] {
-        let fault = refusal_of(alloc, &mut world, Event::Wake(v));
-        assert_eq!(rt; fault, None);
+        assert_refusal(rt, alloc, &mut world, Event::Wake(v), None);
     }
-    assert_eq!(rt; world.out_count(), 3);
+    world
+}
+
+fn assert_out(rt: &impl Abort, world: &World, count: u64) {
+    assert_eq!(rt; world.out_count(), count);
+}
+
+#[test]
+fn who_wakes_first(rt: HostRuntime) {
+    let world = pieces_out(&rt, rt.alloc());
+    assert_out(&rt, &world, 3);
+    let_go(world);
 }
 
 #[test]
 fn all_are_called_back(rt: HostRuntime) {
     let alloc = rt.alloc();
-    let mut world = world_of(&rt, alloc, PIECES, WakeSet::First, MOST_TURNS);
-    for v in [1, 3, 5] {
-        let fault = refusal_of(alloc, &mut world, Event::Wake(v));
-        assert_eq!(rt; fault, None);
-    }
+    let mut world = pieces_out(&rt, alloc);
     world.recall_all();
-    assert_eq!(rt; world.out_count(), 0);
-    assert_eq!(rt; number_of(&rt, alloc, &mut world, Event::Wake(1)), 4);
+    assert_out(&rt, &world, 0);
+    hold(&rt, alloc, &mut world, Event::Wake(1), 4);
     assert!(rt; branches_of(&rt, alloc, &world).is_empty());
+    let_go(world);
 }
 
-fn ready_in(rt: &impl Abort, alloc: Global, world: &World) -> Vec<Event> {
-    world.ready(alloc).expect(rt, "memory")
+fn assert_ready(rt: &impl Abort, alloc: Global, world: &World, events: &[Event]) {
+    let ready = world.ready(alloc).expect(rt, "memory");
+    assert!(rt; ready.as_slice() == events);
 }
+
+const WAKES: [Event; 3] = [Event::Wake(1), Event::Wake(2), Event::Wake(3)];
+
+const TAKES: [Event; 3] = [Event::Take(1, 0), Event::Take(2, 0), Event::Take(2, 1)];
 
 #[test]
 fn nodes_are_ready_to_wake(rt: HostRuntime) {
     let alloc = rt.alloc();
     let world = path(&rt, alloc);
-    let wakes = [Event::Wake(1), Event::Wake(2), Event::Wake(3)];
-    assert!(rt; ready_in(&rt, alloc, &world).as_slice() == wakes.as_slice());
+    assert_ready(&rt, alloc, &world, &WAKES);
+    let_go(world);
+}
+
+/// A node's next event, by the port that is looked at first.
+fn assert_next(rt: &impl Abort, world: &World, v: u32, from: u32, event: Option<Event>) {
+    assert!(rt; v >= 1 && v <= world.graph().nodes());
+    assert!(rt; world.next_event(v, from) == event);
 }
 
 #[test]
 fn ready_events(rt: HostRuntime) {
     let alloc = rt.alloc();
     let mut world = path(&rt, alloc);
-    let wakes = [Event::Wake(1), Event::Wake(2), Event::Wake(3)];
-    do_all(&rt, alloc, &mut world, wakes.as_slice());
-    let takes = [Event::Take(1, 0), Event::Take(2, 0), Event::Take(2, 1)];
-    assert!(rt; ready_in(&rt, alloc, &world).as_slice() == takes.as_slice());
+    do_all(&rt, alloc, &mut world, &WAKES);
+    assert_ready(&rt, alloc, &world, &TAKES);
     assert!(rt; world.graph().nodes() == 3);
-    assert!(rt; world.next_event(2, 1) == Some(Event::Take(2, 1)));
-    assert!(rt; world.next_event(2, 2) == Some(Event::Take(2, 0)));
-    assert!(rt; world.next_event(3, 0).is_none());
+    assert_next(&rt, &world, 2, 1, Some(Event::Take(2, 1)));
+    assert_next(&rt, &world, 2, 2, Some(Event::Take(2, 0)));
+    assert_next(&rt, &world, 3, 0, None);
+    let_go(world);
 }

@@ -10,5 +10,5 @@ pub mod line;
 pub mod moment;
 pub mod sent;
 pub mod show;
-mod words;
+pub mod words;
 pub mod write;

@@ -42,7 +42,7 @@ pub(crate) fn mark_word(mark: Mark) -> &'static [u8]
 }
 
 /// The name of a row, as the table of the protocol spells it.
-pub(crate) fn row_word(row: RowName) -> &'static [u8]
+pub fn row_word(row: RowName) -> &'static [u8]
     ensures { result.now ≡ row_word row }
 {
     match row {

@@ -3,7 +3,7 @@ use Rattle.std.specs.Prelude.{ℕ, Bool, true, false, List, ◌++◌, codes, dec
 use Rattle.ghs_world.specs.declared.wake_set.WakeSet.{WakeSet}
 use Rattle.ghs_world.specs.declared.wake_set.WakeSet.TheVariants.{All, First}
 use Rattle.ghs_picking.specs.declared.picking.Picking.{Picking}
-use Rattle.ghs_picking.specs.declared.picking.Picking.TheVariants.{Seeded, Patient, Rounds}
+use Rattle.ghs_picking.specs.declared.picking.Picking.TheVariants.{Seeded, Patient, Rounds, Waits, Lifo}
 use Rattle.ghs_sweep.specs.declared.seeded.Setup.{Setup}
 use Rattle.ghs_sweep.specs.declared.figures.Figures.{Figures}
 
@@ -19,6 +19,8 @@ abbrev pub picking_word : Picking → List ℕ
 picking_word Seeded = codes "seeded"
 picking_word Patient = codes "patient"
 picking_word Rounds = codes "rounds"
+picking_word Waits = codes "waits"
+picking_word Lifo = codes "lifo"
 
 abbrev pub wake_word : WakeSet → List ℕ
 wake_word All = codes "all"

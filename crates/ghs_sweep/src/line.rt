@@ -104,6 +104,8 @@ pub(crate) fn picking_word(picking: Picking) -> &'static [u8]
         Picking::Seeded => b"seeded",
         Picking::Patient => b"patient",
         Picking::Rounds => b"rounds",
+        Picking::Waits => b"waits",
+        Picking::Lifo => b"lifo",
     }
 }
 

@@ -83,8 +83,8 @@ pub(crate) fn runs_by<R: Threads + Sync>(
     Ok(runs)
 }
 
-// How many of the seeds one of the threads takes: its part, and one at least.
-fn share_of(count: u64, threads: u32) -> u64
+/// How many of the seeds one of the threads takes: its part, and one at least; fewer than all.
+pub fn share_of(count: u64, threads: u32) -> u64
     requires count { 2 ≤ count }
     requires threads { 2 ≤ threads }
     ensures { result < count }

@@ -1,7 +1,7 @@
 //! What the figures of many runs come to: a line for each measure.
 ghost use Rattle.ghs_sweep.specs.Figures.{HasSmallWeight};
 ghost use Rattle.ghs_sweep.specs.Measure.{value_of};
-ghost use Rattle.ghs_sweep.specs.Summary.{AreMeasureLines, AreSummaryLines, IsMeasureLine, high_members, low_members, measure_fields, measure_members, measure_text, percentile, rising_fields};
+ghost use Rattle.ghs_sweep.specs.Summary.{AreMeasureLines, AreSummaryLines, IsMeasureLine, IsRising, high_members, low_members, measure_fields, measure_members, measure_text, percentile, rising_fields};
 ghost use Rattle.std.specs.List.{sum};
 ghost use Rattle.std.specs.Prelude.{◌≡◌, ◌++◌, ◌<◌, ◌≤◌, ◌^◌, All, IfOk, List, ℕ, length, map};
 
@@ -130,6 +130,16 @@ fn put_measure_members(
     put_numbered(text, b"sum", sum)?;
     put_numbered(text, b"fixed", measure.fixed())?;
     text.extend_from_slice(b"}\n")
+}
+
+/// The values of a measure for runs, in rising order. Refusal: want of memory.
+pub fn rising_of(alloc: Global, measure: Measure, runs: &[Figures]) -> Result<Vec<u128>, AllocError>
+    requires { All HasSmallWeight runs.now }
+    ensures { IfOk result (λ rising. IsRising (map (value_of measure) runs.now) rising.items) }
+{
+    let mut values = values_of(alloc, measure, runs)?;
+    values.sort_unstable();
+    Ok(values)
 }
 
 // The values of a measure for runs.

@@ -78,6 +78,14 @@ stored_rule = record (new_rule (codes "TRACE")) { long = Some (codes "trace") }
 abbrev pub progress_rule : Rule
 progress_rule = record (new_rule (codes "progress")) { long = Some (codes "progress"); action = Some SetTrue }
 
+-- `--tally`: whether it is told what each of the threads has done
+abbrev pub tally_rule : Rule
+tally_rule = record (new_rule (codes "tally")) { long = Some (codes "tally"); action = Some SetTrue }
+
+-- `--by`: by which parts the messages of each run of a sweep are counted
+abbrev pub by_rule : Rule
+by_rule = record (new_rule (codes "by")) { long = Some (codes "by") }
+
 -- `--core`: whether the core of each component is printed too
 abbrev pub core_rule : Rule
 core_rule = record (new_rule (codes "core")) { long = Some (codes "core"); action = Some SetTrue }
@@ -90,12 +98,14 @@ wake_rule = option_rule (codes "wake") (codes "all")
 abbrev pub tree_command : App
 tree_command = with_rule (with_rule (new_app (codes "tree")) file_rule) core_rule
 
--- `run [FILE] [--seed S] [--schedule seeded|patient|rounds] [--workers W] [--wake all|first] [--turns T] [--print report|trace|time] [--core] [--progress]`
+-- `run [FILE] [--seed S] [--schedule seeded|patient|rounds|waits|lifo] [--workers W] [--wake all|first] [--turns T] [--print report|trace|time] [--core]
+-- [--progress] [--tally]`
 abbrev pub run_command : App
 run_command =
     let named = with_rule (new_app (codes "run")) file_rule in
     let numbered = with_rule (with_rule (with_rule named seed_rule) schedule_rule) workers_rule in
-    with_rule (with_rule (with_rule (with_rule (with_rule numbered wake_rule) turns_rule) print_rule) core_rule) progress_rule
+    let printed = with_rule (with_rule (with_rule (with_rule numbered wake_rule) turns_rule) print_rule) core_rule in
+    with_rule (with_rule printed progress_rule) tally_rule
 
 -- `replay TRACE [FILE] [--wake all|first]`
 abbrev pub replay_command : App
@@ -107,17 +117,20 @@ steps_command =
     let stored = with_rule (with_rule (with_rule (new_app (codes "steps")) trace_rule) file_rule) wake_rule in
     with_rule (with_rule (with_rule (with_rule stored from_rule) to_rule) node_rule) json_rule
 
--- `sweep [FILE ..] --seeds FIRST..LAST [--schedule seeded|patient|rounds] [--workers W] [--wake all|first] [--turns T]`, and how it is printed:
--- `[--print runs|summary] [--names] [--json] [--progress]`
+-- `sweep [FILE ..] --seeds FIRST..LAST [--schedule seeded|patient|rounds|waits|lifo] [--workers W] [--wake all|first] [--turns T]`, and how it is
+-- printed: `[--print runs|summary|chart] [--by node|level|rule] [--names] [--json] [--progress]`
 abbrev pub swept_command : App
 swept_command =
     let named = with_rule (with_rule (new_app (codes "sweep")) files_rule) seeds_rule in
     with_rule (with_rule (with_rule (with_rule named schedule_rule) workers_rule) wake_rule) turns_rule
 
 abbrev pub sweep_command : App
-sweep_command = with_rule (with_rule (with_rule (with_rule swept_command sheet_rule) names_rule) json_rule) progress_rule
+sweep_command =
+    let parted = with_rule (with_rule swept_command sheet_rule) by_rule in
+    with_rule (with_rule (with_rule parted names_rule) json_rule) progress_rule
 
--- `view [FILE] [--seed S] [--seeds FIRST,SECOND] [--schedule seeded|patient|rounds] [--wake all|first] [--turns T] [--trace TRACE] [--from A] [--to B]`
+-- `view [FILE] [--seed S] [--seeds FIRST,SECOND] [--schedule seeded|patient|rounds|waits|lifo] [--wake all|first] [--turns T] [--trace TRACE] [--from A]
+-- [--to B]`
 abbrev pub view_command : App
 view_command =
     let seeded = with_rule (with_rule (with_rule (new_app (codes "view")) file_rule) seed_rule) pair_rule in
@@ -150,11 +163,29 @@ make_command =
     let named = with_rule (with_rule (new_app (codes "make")) kind_rule) nodes_rule in
     with_rule (with_rule (with_rule named seed_rule) links_rule) weights_rule
 
+-- `--limit`: how many states there may be
+abbrev pub limit_rule : Rule
+limit_rule = option_rule (codes "limit") (codes "1000000")
+
+-- `--print` of an exploration, whose values are others: what of it is printed
+abbrev pub found_rule : Rule
+found_rule = record (new_rule (codes "found")) { long = Some (codes "print"); defaults = codes "report" ∷ [] }
+
+-- `--end`: the number of the end whose run is printed
+abbrev pub end_rule : Rule
+end_rule = option_rule (codes "end") (codes "1")
+
+-- `explore [FILE] [--wake all|first] [--limit STATES] [--print report|trace] [--end K] [--progress]`
+abbrev pub explore_command : App
+explore_command =
+    let named = with_rule (with_rule (new_app (codes "explore")) file_rule) wake_rule in
+    with_rule (with_rule (with_rule (with_rule named limit_rule) found_rule) end_rule) progress_rule
+
 -- the program's command line: its name and one of its commands, or a word that asks for its version
 unfoldable pub program : App
 program =
     let networks = with_subcommand (with_subcommand (new_app (codes "ghs")) tree_command.top) run_command.top in
     let stored = with_subcommand (with_subcommand networks replay_command.top) steps_command.top in
     let shown = with_subcommand (with_subcommand stored sweep_command.top) view_command.top in
-    let a = with_subcommand shown make_command.top in
+    let a = with_subcommand (with_subcommand shown make_command.top) explore_command.top in
     record a { top = record a.top { has_version = true; subcommand_required = true } }

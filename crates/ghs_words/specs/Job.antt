@@ -12,7 +12,7 @@ use Rattle.ghs_make.specs.declared.kind.Kind.TheVariants.{Path}
 use Rattle.ghs_make.specs.declared.plan.Asked.{Asked}
 use Rattle.ghs_make.specs.declared.weights.Weights.{Weights}
 use Rattle.ghs_picking.specs.declared.picking.Picking.{Picking}
-use Rattle.ghs_picking.specs.declared.picking.Picking.TheVariants.{Patient, Rounds}
+use Rattle.ghs_picking.specs.declared.picking.Picking.TheVariants.{Lifo, Patient, Rounds, Waits}
 use Rattle.ghs_sched.specs.declared.trace.TheConstants.{EVENT_LIMIT}
 use Rattle.ghs_world.specs.declared.wake_set.WakeSet.{WakeSet}
 use Rattle.ghs_world.specs.declared.wake_set.WakeSet.TheVariants.{First}
@@ -21,9 +21,13 @@ use Rattle.ghs_words.specs.declared.job.JobFault.{JobFault}
 use Rattle.ghs_words.specs.declared.job.JobFault.TheVariants as fault
 use Rattle.ghs_steps.specs.declared.form.Form.{Form}
 use Rattle.ghs_steps.specs.declared.form.Form.TheVariants.{Json}
+use Rattle.ghs_words.specs.declared.exploring.ExploreOptions.{ExploreOptions}
+use Rattle.ghs_words.specs.declared.exploring.Finding.{Finding}
+use Rattle.ghs_words.specs.declared.exploring.Finding.TheVariants.{Run}
+use Rattle.ghs_words.specs.declared.exploring.TheConstants.{MOST_STATES}
 use Rattle.ghs_words.specs.declared.job.RunOptions.{RunOptions}
 use Rattle.ghs_words.specs.declared.job.Sheet.{Sheet}
-use Rattle.ghs_words.specs.declared.job.Sheet.TheVariants.{Summary}
+use Rattle.ghs_words.specs.declared.job.Sheet.TheVariants.{Chart, Summary}
 use Rattle.ghs_words.specs.declared.job.Show.{Show}
 use Rattle.ghs_words.specs.declared.job.Show.TheVariants.{Events, Time}
 use Rattle.ghs_words.specs.declared.job.StepsOptions.{StepsOptions}
@@ -36,6 +40,8 @@ use Rattle.ghs_words.specs.declared.job.ViewOptions.{ViewOptions}
 use Rattle.ghs_words.specs.declared.two_seeds.TwoSeeds.{TwoSeeds}
 use Rattle.ghs_words.specs.declared.values.Seeds.{Seeds}
 use Rattle.ghs_words.specs.Networks.{are_read_once, named_of, values_in}
+use Rattle.ghs_parts.specs.declared.by.By.{By}
+use Rattle.ghs_words.specs.Parts.{by_named, go_together, is_part}
 use Rattle.ghs_words.specs.TwoSeeds.{are_two, two_seeds_of}
 use Rattle.ghs_words.specs.Values.{AreSeeds, are_apart, are_weights, is_among, is_kind, is_number, is_range, number_in, seeds_of}
 
@@ -69,17 +75,28 @@ pub record IsShow (command : Used) (show : Show) : Type 0 where
   pub time : (show ≡ Time) ↔ (value_in (codes "print") command ≡ Some (codes "time"))
 
 -- what of a sweep is printed, as its `--print` says
-abbrev pub IsSheet : Used → Sheet → Type 0
-IsSheet command sheet = (sheet ≡ Summary) ↔ (value_in (codes "sheet") command ≡ Some (codes "summary"))
+pub record IsSheet (command : Used) (sheet : Sheet) : Type 0 where
+  pub summary : (sheet ≡ Summary) ↔ (value_in (codes "sheet") command ≡ Some (codes "summary"))
+  pub chart : (sheet ≡ Chart) ↔ (value_in (codes "sheet") command ≡ Some (codes "chart"))
+
+-- by which parts messages are counted, as `--by` says; nothing where it isn't given
+abbrev pub by_in : Used → Option By
+by_in command = option_and_then by_named (value_in (codes "by") command)
 
 -- among which events a schedule picks, as `--schedule` says
 pub record IsPicking (command : Used) (picking : Picking) : Type 0 where
   pub patient : (picking ≡ Patient) ↔ (value_in (codes "schedule") command ≡ Some (codes "patient"))
   pub rounds : (picking ≡ Rounds) ↔ (value_in (codes "schedule") command ≡ Some (codes "rounds"))
+  pub waits : (picking ≡ Waits) ↔ (value_in (codes "schedule") command ≡ Some (codes "waits"))
+  pub lifo : (picking ≡ Lifo) ↔ (value_in (codes "schedule") command ≡ Some (codes "lifo"))
 
 -- whether it is told how far the run has come, as `--progress` says, which has no value of its own
 abbrev pub IsToldOf : Used → Bool → Type 0
 IsToldOf command progress = (progress ≡ true) ↔ (value_in (codes "progress") command ≡ Some (codes "true"))
+
+-- whether it is told at the end what each of the threads has done, as `--tally` says, which has no value of its own
+abbrev pub IsTallyOf : Used → Bool → Type 0
+IsTallyOf command tally = (tally ≡ true) ↔ (value_in (codes "tally") command ≡ Some (codes "true"))
 
 -- whether the core of each component is printed too, as `--core` says, which has no value of its own
 abbrev pub IsCoreOf : Used → Bool → Type 0
@@ -138,6 +155,7 @@ pub record AreOptions (command : Used) (o : RunOptions) : Type 0 where
   pub show : IsShow command o.show
   pub core : IsCoreOf command o.core
   pub progress : IsToldOf command o.progress
+  pub tally : IsTallyOf command o.tally
 
 -- which runs a command asks to be swept
 pub record AreSweepOptions (command : Used) (o : SweepOptions) : Type 0 where
@@ -147,6 +165,7 @@ pub record AreSweepOptions (command : Used) (o : SweepOptions) : Type 0 where
   pub wake : IsWake command o.wake
   pub turns : o.turns ≡ turns_in command
   pub sheet : IsSheet command o.sheet
+  pub by : o.by ≡ by_in command
   pub form : IsForm command o.form
   pub progress : IsToldOf command o.progress
 
@@ -198,6 +217,18 @@ pub record IsAsked (command : Used) (asked : Asked) : Type 0 where
   pub links : asked.links ≡ links_in command
   pub weights : asked.weights ≡ weights_in command
 
+-- what of an exploration is printed, as its `--print` says
+abbrev pub IsFinding : Used → Finding → Type 0
+IsFinding command finding = (finding ≡ Run) ↔ (value_in (codes "found") command ≡ Some (codes "trace"))
+
+-- which exploration a command asks for
+pub record AreExploreOptions (command : Used) (o : ExploreOptions) : Type 0 where
+  pub wake : IsWake command o.wake
+  pub limit : o.limit ≡ number_at (codes "limit") 1 MOST_STATES command
+  pub finding : IsFinding command o.finding
+  pub end : o.end ≡ number_at (codes "end") 1 4294967295 command
+  pub progress : IsToldOf command o.progress
+
 -- it has another name than these
 pub record IsNoOther (command : Used) : Type 0 where
   pub run : name_in command ≢ Some (codes "run")
@@ -206,6 +237,7 @@ pub record IsNoOther (command : Used) : Type 0 where
   pub sweep : name_in command ≢ Some (codes "sweep")
   pub view : name_in command ≢ Some (codes "view")
   pub make : name_in command ≢ Some (codes "make")
+  pub explore : name_in command ≢ Some (codes "explore")
 
 -- the task that a command asks for
 abbrev pub IsTask : Used → Task → Type 0
@@ -217,6 +249,7 @@ IsTask command (task.Sweep options) = (name_in command ≡ Some (codes "sweep"))
 IsTask command (task.View options) = (name_in command ≡ Some (codes "view")) × (value_in (codes "TRACE") command ≡ None) × AreViewOptions command options
 IsTask command (task.StoredView options) = (name_in command ≡ Some (codes "view")) × (value_in (codes "TRACE") command ≢ None) × AreStoredViewOptions command options
 IsTask command (task.Make asked) = (name_in command ≡ Some (codes "make")) × IsAsked command asked
+IsTask command (task.Explore options) = (name_in command ≡ Some (codes "explore")) × AreExploreOptions command options
 
 -- numbers are within their limits
 pub record AreWithinLimits (o : RunOptions) : Type 0 where
@@ -234,6 +267,10 @@ pub record AreViewLimits (o : ViewOptions) : Type 0 where
   pub some : 1 ≤ o.turns
   pub few : o.turns ≤ EVENT_LIMIT
 
+pub record AreExploreLimits (o : ExploreOptions) : Type 0 where
+  pub some : 1 ≤ o.limit
+  pub first : 1 ≤ o.end
+
 -- a task's numbers are
 abbrev pub IsWithinLimits : Task → Type 0
 IsWithinLimits (task.Tree core) = Unit {0}
@@ -244,14 +281,16 @@ IsWithinLimits (task.Sweep options) = AreSweepLimits options
 IsWithinLimits (task.View options) = AreViewLimits options
 IsWithinLimits (task.StoredView options) = Unit {0}
 IsWithinLimits (task.Make asked) = Unit {0}
+IsWithinLimits (task.Explore options) = AreExploreLimits options
 
 -- each option of the command has a value that it may have, and standard input isn't read twice
 abbrev pub has_values : Used → Bool
 has_values command =
     is_among (codes "all" ∷ codes "first" ∷ []) (value_in (codes "wake") command)
     && is_among (codes "report" ∷ codes "trace" ∷ codes "time" ∷ []) (value_in (codes "print") command)
-    && is_among (codes "runs" ∷ codes "summary" ∷ []) (value_in (codes "sheet") command)
-    && is_among (codes "seeded" ∷ codes "patient" ∷ codes "rounds" ∷ []) (value_in (codes "schedule") command)
+    && is_among (codes "runs" ∷ codes "summary" ∷ codes "chart" ∷ []) (value_in (codes "sheet") command)
+    && is_among (codes "report" ∷ codes "trace" ∷ []) (value_in (codes "found") command)
+    && is_among (codes "seeded" ∷ codes "patient" ∷ codes "rounds" ∷ codes "waits" ∷ codes "lifo" ∷ []) (value_in (codes "schedule") command)
     && is_number 0 18446744073709551615 (value_in (codes "seed") command)
     && is_number 0 MOST_WORKERS (value_in (codes "workers") command)
     && is_number 1 EVENT_LIMIT (value_in (codes "turns") command)
@@ -259,11 +298,15 @@ has_values command =
     && is_number 1 EVENT_LIMIT (value_in (codes "to") command)
     && is_number 1 4294967295 (value_in (codes "node") command)
     && is_number 0 4294967295 (value_in (codes "links") command)
+    && is_number 1 MOST_STATES (value_in (codes "limit") command)
+    && is_number 1 4294967295 (value_in (codes "end") command)
     && is_number 1 MOST_NODES (value_in (codes "NODES") command)
     && is_kind (value_in (codes "KIND") command)
     && are_weights (value_in (codes "weights") command)
     && is_range (value_in (codes "seeds") command)
     && are_two (value_in (codes "pair") command)
+    && is_part (value_in (codes "by") command)
+    && go_together (value_in (codes "sheet") command) (value_in (codes "by") command) (value_in (codes "json") command)
     && are_apart (value_in (codes "TRACE") command) (value_in (codes "FILE") command)
     && are_read_once (values_in (codes "FILE") command)
 

@@ -2,5 +2,6 @@
 pub mod Grammar
 pub mod Job
 pub mod Networks
+pub mod Parts
 pub mod TwoSeeds
 pub mod Values

@@ -1,14 +1,14 @@
 //! The words that the program takes.
 ghost use Rattle.clap.specs.Words.{app_of, rule_of};
 ghost use Rattle.clap.specs.declared.builder.command.Command.TheViews.{out-Command};
-ghost use Rattle.ghs_words.specs.Grammar.{core_rule, file_rule, files_rule, from_rule, json_rule, kind_rule, links_rule, make_command, names_rule, node_rule, nodes_rule, option_rule, pair_rule, place_rule, print_rule, program, progress_rule, replay_command, run_command, schedule_rule, seed_rule, seeds_rule, sheet_rule, steps_command, sweep_command, swept_command, to_rule, trace_rule, tree_command, turns_rule, wake_rule, weights_rule, workers_rule, stored_rule, view_command};
+ghost use Rattle.ghs_words.specs.Grammar.{by_rule, core_rule, end_rule, explore_command, file_rule, files_rule, found_rule, from_rule, json_rule, kind_rule, limit_rule, links_rule, make_command, names_rule, node_rule, nodes_rule, option_rule, pair_rule, place_rule, print_rule, program, progress_rule, replay_command, run_command, schedule_rule, seed_rule, seeds_rule, sheet_rule, steps_command, sweep_command, swept_command, tally_rule, to_rule, trace_rule, tree_command, turns_rule, wake_rule, weights_rule, workers_rule, stored_rule, view_command};
 ghost use Rattle.std.specs.Prelude.{◌≡◌, IfOk, false};
 
 use clap::{Arg, ArgAction, Command};
 use std::alloc::{AllocError, Global};
 
 /// The program's version, and by which kit its proofs hold.
-pub const VERSION: &str = "1.0.0, proved with rattle-kit-13b logic dac8208d650f15bf";
+pub const VERSION: &str = "1.0.0, proved with rattle-kit-13f logic dac8208d650f15bf";
 
 /// The program's commands, with their help.
 #[tactic(auto, unfolding(crate::specs::Grammar::program))]
@@ -26,7 +26,8 @@ pub fn program<'a>(alloc: Global) -> Result<Command<'a>, AllocError>
             .subcommand(steps(alloc)?)?
             .subcommand(sweep(alloc)?)?
             .subcommand(view(alloc)?)?
-            .subcommand(make(alloc)?)?,
+            .subcommand(make(alloc)?)?
+            .subcommand(explore(alloc)?)?,
     )
 }
 
@@ -61,7 +62,8 @@ fn run<'a>(alloc: Global) -> Result<Command<'a>, AllocError>
             .arg(turns(alloc))?
             .arg(print(alloc))?
             .arg(core(alloc))?
-            .arg(progress(alloc))?,
+            .arg(progress(alloc))?
+            .arg(tally(alloc))?,
     )
 }
 
@@ -105,6 +107,7 @@ fn sweep<'a>(alloc: Global) -> Result<Command<'a>, AllocError>
     Ok(
         swept(alloc)?
             .arg(sheet(alloc))?
+            .arg(by(alloc))?
             .arg(names(alloc))?
             .arg(json(alloc))?
             .arg(seeds_told(alloc))?,
@@ -166,6 +169,56 @@ fn make<'a>(alloc: Global) -> Result<Command<'a>, AllocError>
             .arg(links(alloc))?
             .arg(weights(alloc))?,
     )
+}
+
+// `ghs explore`.
+fn explore<'a>(alloc: Global) -> Result<Command<'a>, AllocError>
+    ensures local { IfOk result (λ command. (out-Command command).has_globals ≡ false) }
+    ensures app { IfOk result (λ command. app_of command ≡ explore_command) }
+{
+    Ok(
+        Command::new(alloc, "explore")
+            .about(
+                "Explores all runs of a small network, and prints with which counts of messages they end",
+            )
+            .arg(file(alloc))?
+            .arg(wake(alloc))?
+            .arg(limit(alloc))?
+            .arg(found(alloc))?
+            .arg(end(alloc))?
+            .arg(states_told(alloc))?,
+    )
+}
+
+// How many states there may be.
+fn limit<'a>(alloc: Global) -> Arg<'a>
+    ensures local { result.global ≡ false }
+    ensures rule { rule_of result ≡ limit_rule }
+{
+    option(alloc, "limit", "1000000").help(
+        "How many states the runs may lead to, 1 to 10000000; with more there is no answer",
+    )
+}
+
+// What of an exploration is printed.
+fn found<'a>(alloc: Global) -> Arg<'a>
+    ensures local { result.global ≡ false }
+    ensures rule { rule_of result ≡ found_rule }
+{
+    Arg::new(alloc, "found")
+        .long("print")
+        .default_value("report")
+        .help(
+            "What is printed: report, the counts with which runs end, or trace, the events of a run that ends with those of --end",
+        )
+}
+
+// Whose run is printed.
+fn end<'a>(alloc: Global) -> Arg<'a>
+    ensures local { result.global ≡ false }
+    ensures rule { rule_of result ≡ end_rule }
+{
+    option(alloc, "end", "1").help("The number of the line of the report whose run is printed")
 }
 
 // The kind of the network.
@@ -344,7 +397,7 @@ fn schedule<'a>(alloc: Global) -> Arg<'a>
     ensures rule { rule_of result ≡ schedule_rule }
 {
     option(alloc, "schedule", "seeded").help(
-        "Which events the seed picks among: seeded, all that may happen, patient, those that move the run on, or rounds, those of them whose message arrives in the round",
+        "Which events the seed picks among: seeded, all that may happen, patient, those that move the run on, rounds, those of them whose message arrives in the round, waits, those that only put a message back as long as there are any, so that such a run needn't end before its turns, or lifo, the one whose message was sent last",
     )
 }
 
@@ -385,8 +438,18 @@ fn sheet<'a>(alloc: Global) -> Arg<'a>
         .long("print")
         .default_value("runs")
         .help(
-            "What is printed: runs, a line of figures for each, or summary, their range, percentiles and sums",
+            "What is printed: runs, a line of figures for each, summary, their range, percentiles and sums, or chart, a picture of them as SVG",
         )
+}
+
+// By which parts the messages of each run of a sweep are counted.
+fn by<'a>(alloc: Global) -> Arg<'a>
+    ensures local { result.global ≡ false }
+    ensures rule { rule_of result ≡ by_rule }
+{
+    Arg::new(alloc, "by").long("by").help(
+        "Counts the messages of each run by node or level, or how often each rule applied, by rule, a line for each",
+    )
 }
 
 // The file of a stored run, where one is shown.
@@ -421,6 +484,17 @@ fn progress<'a>(alloc: Global) -> Arg<'a>
         .help("Tells standard error how far the run has come")
 }
 
+// Whether it is told what each of the threads has done.
+fn tally<'a>(alloc: Global) -> Arg<'a>
+    ensures local { result.global ≡ false }
+    ensures rule { rule_of result ≡ tally_rule }
+{
+    Arg::new(alloc, "tally")
+        .long("tally")
+        .action(ArgAction::SetTrue)
+        .help("Tells standard error at the end what each of the threads has done")
+}
+
 // Whether it is told how many of the seeds have been run.
 fn seeds_told<'a>(alloc: Global) -> Arg<'a>
     ensures local { result.global ≡ false }
@@ -430,6 +504,17 @@ fn seeds_told<'a>(alloc: Global) -> Arg<'a>
         .long("progress")
         .action(ArgAction::SetTrue)
         .help("Tells standard error how many of the seeds have been run")
+}
+
+// Whether it is told how many states have been met.
+fn states_told<'a>(alloc: Global) -> Arg<'a>
+    ensures local { result.global ≡ false }
+    ensures rule { rule_of result ≡ progress_rule }
+{
+    Arg::new(alloc, "progress")
+        .long("progress")
+        .action(ArgAction::SetTrue)
+        .help("Tells standard error how many states have been met")
 }
 
 // Which nodes wake by themselves.

@@ -1,16 +1,19 @@
 //! Command lines.
 ghost use Rattle.ghs_words.specs.declared.job.JobFault.TheVariants.{Memory};
 ghost use Rattle.ghs_words.specs.Grammar.{program};
-ghost use Rattle.ghs_words.specs.Job.{AreNetworks, AreOptions, IsAsked, kind_in, links_in, weights_in, AreStepsOptions, AreSweepLimits, AreSweepOptions, AreWithinLimits, command_in, has_values, first_seed_in, kinds_of, name_in, node_in, number_at, option_kinds, pair_in, second_seed_in, seeds_at, value_in, with_name, IsForm, IsPicking, IsRefused, IsSaid, IsSaidOf, IsSheet, IsShow, IsTask, IsWake, IsWithinLimits, AreStoredViewOptions, AreViewLimits, AreViewOptions};
+ghost use Rattle.ghs_words.specs.Job.{AreNetworks, AreOptions, IsAsked, kind_in, links_in, weights_in, AreStepsOptions, AreSweepLimits, AreSweepOptions, AreWithinLimits, by_in, command_in, has_values, first_seed_in, kinds_of, name_in, node_in, number_at, option_kinds, pair_in, second_seed_in, seeds_at, value_in, with_name, IsForm, IsPicking, IsRefused, IsSaid, IsSaidOf, IsSheet, IsShow, IsTask, IsWake, IsWithinLimits, AreStoredViewOptions, AreViewLimits, AreViewOptions};
 ghost use Rattle.ghs_words.specs.Values.{AreSeeds, are_apart, are_weights, is_among, is_kind, is_number, is_range};
 ghost use Rattle.ghs_words.specs.Networks.{are_read_once, values_in};
+ghost use Rattle.ghs_words.specs.Parts.{go_together, is_part};
 ghost use Rattle.ghs_words.specs.TwoSeeds.{are_two};
 ghost use Rattle.clap.specs.Words.{kind_of, subcommand_rows_of};
 ghost use Rattle.std.specs.Option.{option_map};
 ghost use Rattle.std.specs.Prelude.{◌≡◌, ◌≤◌, ◌↔◌, ◌∷◌, [], IfErr, IfOk, IfSome, OnErr, OnOk, Some, codes, false, map, string_bytes, true};
 
+use crate::exploring::{ExploreOptions, MOST_STATES, exploration_of};
 use crate::grammar::program;
 use crate::networks::{are_read_once, input_twice, named_of, values_of};
+use crate::parts::{by_named, go_together, is_part, no_such_sheet};
 use crate::two_seeds::{TwoSeeds, are_two, no_two_seeds, two_seeds_in};
 use crate::values::{
     Seeds, are_apart, are_weights, is_among, is_kind, is_number, is_range, is_text, no_kind,
@@ -21,6 +24,7 @@ use clap::{ArgMatches, Error};
 use ghs_make::kind::Kind;
 use ghs_make::plan::Asked;
 use ghs_make::weights::Weights;
+use ghs_parts::by::By;
 use ghs_picking::picking::Picking;
 use ghs_sched::trace::EVENT_LIMIT;
 use ghs_steps::choice::Choice;
@@ -64,6 +68,8 @@ pub struct RunOptions {
     pub core: bool,
     /// Whether standard error is told how far the run has come.
     pub progress: bool,
+    /// Whether it is told at the end what each of the threads has done.
+    pub tally: bool,
 }
 
 /// What of a sweep is printed.
@@ -73,6 +79,8 @@ pub enum Sheet {
     Runs,
     /// What the figures of all come to.
     Summary,
+    /// A picture of them.
+    Chart,
 }
 
 /// Which runs of a network, or of each of several, are swept.
@@ -90,6 +98,8 @@ pub struct SweepOptions {
     pub turns: u64,
     /// What is printed.
     pub sheet: Sheet,
+    /// By which parts the messages of each run are counted, where they are.
+    pub by: Option<By>,
     /// As which lines.
     pub form: Form,
     /// Whether standard error is told how many of the seeds have been run.
@@ -156,6 +166,8 @@ pub enum Task {
     StoredView(StoredViewOptions),
     /// Make a network, and print it.
     Make(Asked),
+    /// Print with which counts of messages all runs of a network end, or the events of one of them.
+    Explore(ExploreOptions),
 }
 
 /// What a command line asks for: the file of the graph (standard input where there is none, or it is `-`), the file of a
@@ -262,13 +274,20 @@ fn check_options<'a>(alloc: Global, matches: &ArgMatches<'a>) -> Result<(), JobF
         "print",
         &["report", "trace", "time"],
     )?;
-    check_choice(alloc, matches, "sheet", "print", &["runs", "summary"])?;
+    check_choice(
+        alloc,
+        matches,
+        "sheet",
+        "print",
+        &["runs", "summary", "chart"],
+    )?;
+    check_choice(alloc, matches, "found", "print", &["report", "trace"])?;
     check_choice(
         alloc,
         matches,
         "schedule",
         "schedule",
-        &["seeded", "patient", "rounds"],
+        &["seeded", "patient", "rounds", "waits", "lifo"],
     )?;
     check_number(alloc, matches, "seed", 0, u64::MAX)?;
     check_number(alloc, matches, "workers", 0, MOST_WORKERS as u64)?;
@@ -277,11 +296,15 @@ fn check_options<'a>(alloc: Global, matches: &ArgMatches<'a>) -> Result<(), JobF
     check_number(alloc, matches, "to", 1, EVENT_LIMIT)?;
     check_number(alloc, matches, "node", 1, u32::MAX as u64)?;
     check_number(alloc, matches, "links", 0, u32::MAX as u64)?;
+    check_number(alloc, matches, "limit", 1, MOST_STATES as u64)?;
+    check_number(alloc, matches, "end", 1, u32::MAX as u64)?;
     check_nodes(alloc, matches)?;
     check_kind(alloc, matches)?;
     check_weights(alloc, matches)?;
     check_seeds(alloc, matches)?;
     check_two_seeds(alloc, matches)?;
+    check_part(alloc, matches)?;
+    check_together(alloc, matches)?;
     check_inputs(alloc, matches)?;
     check_files(alloc, matches)
 }
@@ -397,6 +420,34 @@ fn check_two_seeds<'a>(alloc: Global, matches: &ArgMatches<'a>) -> Result<(), Jo
     }
 }
 
+/// Whether the messages of a sweep are counted by parts that there are.
+fn check_part<'a>(alloc: Global, matches: &ArgMatches<'a>) -> Result<(), JobFault>
+    ensures ok { OnOk result (is_part (value_in (codes "by") (subcommand_rows_of matches.now)) ≡ true) }
+    ensures err { OnErr result (is_part (value_in (codes "by") (subcommand_rows_of matches.now)) ≡ false) }
+    ensures fault { IfErr result IsRefused }
+{
+    let value = value_of(matches, "by");
+    if is_part(value) {
+        Ok(())
+    } else {
+        Err(unknown_choice(alloc, "by", value, &["node", "level", "rule"]))
+    }
+}
+
+/// Whether what a sweep prints goes together: parts are counted run by run, and a picture has no lines.
+fn check_together<'a>(alloc: Global, matches: &ArgMatches<'a>) -> Result<(), JobFault>
+    ensures ok { OnOk result (go_together (value_in (codes "sheet") (subcommand_rows_of matches.now)) (value_in (codes "by") (subcommand_rows_of matches.now)) (value_in (codes "json") (subcommand_rows_of matches.now)) ≡ true) }
+    ensures err { OnErr result (go_together (value_in (codes "sheet") (subcommand_rows_of matches.now)) (value_in (codes "by") (subcommand_rows_of matches.now)) (value_in (codes "json") (subcommand_rows_of matches.now)) ≡ false) }
+    ensures fault { IfErr result IsRefused }
+{
+    let sheet = value_of(matches, "sheet");
+    if go_together(sheet, value_of(matches, "by"), value_of(matches, "json")) {
+        Ok(())
+    } else {
+        Err(no_such_sheet(alloc, sheet))
+    }
+}
+
 /// Whether standard input isn't to be both the stored run and the graph.
 fn check_inputs<'a>(alloc: Global, matches: &ArgMatches<'a>) -> Result<(), JobFault>
     ensures ok { OnOk result (are_apart (value_in (codes "TRACE") (subcommand_rows_of matches.now)) (value_in (codes "FILE") (subcommand_rows_of matches.now)) ≡ true) }
@@ -442,6 +493,8 @@ fn task_of<'a>(matches: &ArgMatches<'a>) -> Task
         shown_by(matches)
     } else if matches.subcommand_name() == Some("make") {
         Task::Make(asked_of(matches))
+    } else if matches.subcommand_name() == Some("explore") {
+        Task::Explore(exploration_of(matches))
     } else {
         Task::Tree {
             core: is_text(value_of(matches, "core"), "true"),
@@ -463,6 +516,7 @@ fn options_of<'a>(matches: &ArgMatches<'a>) -> RunOptions
         show: show_of(matches),
         core: is_text(value_of(matches, "core"), "true"),
         progress: is_text(value_of(matches, "progress"), "true"),
+        tally: is_text(value_of(matches, "tally"), "true"),
     }
 }
 
@@ -517,6 +571,7 @@ fn sweep_of<'a>(matches: &ArgMatches<'a>) -> SweepOptions
         wake: wake_of(matches),
         turns: number_of(matches, "turns", 1, EVENT_LIMIT),
         sheet: sheet_of(matches),
+        by: by_of(matches),
         form: form_of(matches),
         progress: is_text(value_of(matches, "progress"), "true"),
     }
@@ -656,7 +711,7 @@ fn seeds_of<'a>(matches: &ArgMatches<'a>) -> Seeds
 }
 
 /// Which nodes wake by themselves.
-fn wake_of<'a>(matches: &ArgMatches<'a>) -> WakeSet
+pub(crate) fn wake_of<'a>(matches: &ArgMatches<'a>) -> WakeSet
     ensures { IsWake (subcommand_rows_of matches.now) result }
 {
     if is_text(value_of(matches, "wake"), "first") {
@@ -674,6 +729,10 @@ fn picking_of<'a>(matches: &ArgMatches<'a>) -> Picking
         Picking::Patient
     } else if is_text(value_of(matches, "schedule"), "rounds") {
         Picking::Rounds
+    } else if is_text(value_of(matches, "schedule"), "waits") {
+        Picking::Waits
+    } else if is_text(value_of(matches, "schedule"), "lifo") {
+        Picking::Lifo
     } else {
         Picking::Seeded
     }
@@ -698,13 +757,25 @@ fn sheet_of<'a>(matches: &ArgMatches<'a>) -> Sheet
 {
     if is_text(value_of(matches, "sheet"), "summary") {
         Sheet::Summary
+    } else if is_text(value_of(matches, "sheet"), "chart") {
+        Sheet::Chart
     } else {
         Sheet::Runs
     }
 }
 
+/// By which parts messages are counted, where they are.
+fn by_of<'a>(matches: &ArgMatches<'a>) -> Option<By>
+    ensures { result ≡ by_in (subcommand_rows_of matches.now) }
+{
+    match value_of(matches, "by") {
+        Some(value) => by_named(value),
+        None => None,
+    }
+}
+
 /// The number that an option has, and its least where it has none.
-fn number_of<'a>(matches: &ArgMatches<'a>, id: &str, low: u64, high: u64) -> u64
+pub(crate) fn number_of<'a>(matches: &ArgMatches<'a>, id: &str, low: u64, high: u64) -> u64
     requires { low ≤ high }
     ensures number { result ≡ number_at id.now low high (subcommand_rows_of matches.now) }
     ensures low { low ≤ result }
@@ -720,7 +791,7 @@ fn number_of<'a>(matches: &ArgMatches<'a>, id: &str, low: u64, high: u64) -> u64
 }
 
 /// The value that an argument of the command has.
-fn value_of<'a>(matches: &ArgMatches<'a>, id: &str) -> Option<&'a str>
+pub(crate) fn value_of<'a>(matches: &ArgMatches<'a>, id: &str) -> Option<&'a str>
     ensures { option_map (λ t. t.now) result ≡ value_in id.now (subcommand_rows_of matches.now) }
 {
     match matches.subcommand() {

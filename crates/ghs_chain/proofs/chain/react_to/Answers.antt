@@ -1,9 +1,5 @@
-use Rattle.std.proofs.Common.{◌≡◌, ◌∙◌, Some, ap, subst, List, ◌++◌, ◌∷◌, []}
-use Rattle.ghs_node.specs.declared.work.Work.{Work}
-use Rattle.ghs_node.specs.Reaction.{reaction}
-use Rattle.ghs_node.specs.NodeState.{NodeState}
+use Rattle.std.proofs.Common.{◌∙◌, ap, List, ◌++◌, ◌∷◌, []}
 use Rattle.ghs_protocol.specs.declared.event.Event.{Event}
-use Rattle.ghs_core.specs.NetState.{IsAnswer, event_node, net_of}
 use Rattle.ghs_chain.proofs.Carrying.{then_are}
 use Rattle.ghs_chain.proofs.chain.react_to.Goals as goal
 

@@ -7,4 +7,4 @@ pub returns : goal.returns
 returns g c =
     let is : c.deref.result.now ≡ front_of c.args.options.now.form (string_bytes c.args.network.now.name) = search rules in
     lines_behind c.args.options.now c.args.network.now c.deref.result.now
-    c.args.text.now.items c.put_swept.new.text.items is c.in_ok-put_swept.ensures
+    c.args.text.now.items c.put_lines_of.new.text.items is c.in_ok-put_lines_of.ensures

@@ -1,5 +1,3 @@
-use Rattle.std.proofs.Common.{ap}
-use Rattle.std.specs.Prelude.{Err}
 use Rattle.ghs_chain.proofs.Carrying.{longest_are}
 use Rattle.ghs_picking.proofs.Happening.{ended_well, opened_chains, patient_end, patient_limit, stopped_well}
 use Rattle.ghs_picking.proofs.chained.patient.Goals as goal

@@ -1,4 +1,4 @@
-use Rattle.std.proofs.Common.{◌≡◌, ◌∙◌, subst, sym, ap, List, ℕ}
+use Rattle.std.proofs.Common.{subst}
 use Rattle.ghs_core.specs.NetState.{NetState, net_of, network}
 use Rattle.ghs_protocol.specs.Run.{IsRun}
 use Rattle.ghs_protocol.specs.Laws.{IsNetOf}

@@ -4,7 +4,7 @@ use Rattle.ghs_core.specs.NetState.{NetState, net_of}
 use Rattle.ghs_chain.specs.Kept.{AreChains}
 use Rattle.ghs_world.specs.WorldState.{WorldState, home}
 use Rattle.ghs_patient.proofs.Picks.{is_net}
-use Rattle.ghs_patient.proofs.Running.{grown_begins, grown_stays, grown_too, is_short, not_so, run_begins, run_more, run_stays, same_end, turns_left}
+use Rattle.ghs_patient.proofs.Running.{grown_begins, grown_stays, grown_too, is_short, not_so, run_begins, run_more, run_stays, turns_left}
 use Rattle.ghs_picking.proofs.patient.run_patient.Goals as goal
 
 pub events-init : goal.events-init

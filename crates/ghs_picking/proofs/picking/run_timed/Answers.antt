@@ -1,7 +1,7 @@
 use Rattle.std.proofs.Common.{refl, subst}
 use Rattle.ghs_core.specs.NetState.{NetState}
 use Rattle.ghs_graph.specs.Graph.{IsGraph}
-use Rattle.ghs_picking.proofs.BySeed.{HasGoneOn, Laws, at_limit_by_rounds, at_limit_patient, gone_by_rounds, gone_patient, gone_seeded, is_in_rounds, is_seeded, on_ok_by_rounds, on_ok_patient, on_ok_seeded}
+use Rattle.ghs_picking.proofs.BySeed.{HasGoneOn, Laws, at_limit_by_rounds, at_limit_last, at_limit_patient, at_limit_waiting, gone_by_rounds, gone_last, gone_patient, gone_seeded, gone_waiting, is_in_rounds, is_seeded, on_ok_by_rounds, on_ok_last, on_ok_patient, on_ok_seeded, on_ok_waiting}
 use Rattle.ghs_picking.proofs.picking.run_timed.Goals as goal
 
 pub returns-in-Seeded-clause-whole : goal.returns-in-Seeded-clause-whole
@@ -64,3 +64,36 @@ returns-in-Rounds-clause-limit c =
     rw c.in-Rounds.is
     (λ limit. at_limit_by_rounds (laws_of c) c.args.seed c.args.world.now ran.new.world c.seeded-schedule.result ran.new.schedule ran.result.0 ran.result.1 (graph_of c) c.seeded-schedule.ensures gone
     ran.ensures.run ran.ensures.fault ran.ensures.going limit)
+
+pub returns-in-Waits-clause-whole : goal.returns-in-Waits-clause-whole
+returns-in-Waits-clause-whole c =
+    let ran = c.run_waiting in
+    let gone : HasGoneOn c.args.world.now ran.new.world =
+    gone_waiting c.args.world.now ran.new.world c.seeded-schedule.result ran.new.schedule c.turns.result c.requires.trace c.requires.numbers c.turns.ensures.turns c.turns.ensures.few ran.ensures.run in
+    rw c.in-Waits.is
+    (on_ok_waiting c.args.seed c.args.world.now ran.new.world c.seeded-schedule.result ran.new.schedule ran.result c.seeded-schedule.ensures gone ran.ensures.run ran.ensures.halted)
+
+pub returns-in-Waits-clause-limit : goal.returns-in-Waits-clause-limit
+returns-in-Waits-clause-limit c =
+    let ran = c.run_waiting in
+    let gone : HasGoneOn c.args.world.now ran.new.world =
+    gone_waiting c.args.world.now ran.new.world c.seeded-schedule.result ran.new.schedule c.turns.result c.requires.trace c.requires.numbers c.turns.ensures.turns c.turns.ensures.few ran.ensures.run in
+    rw c.in-Waits.is
+    (λ limit. at_limit_waiting c.args.seed c.args.world.now ran.new.world c.seeded-schedule.result ran.new.schedule ran.result c.seeded-schedule.ensures gone ran.ensures.run ran.ensures.fault limit)
+
+pub returns-in-Lifo-clause-whole : goal.returns-in-Lifo-clause-whole
+returns-in-Lifo-clause-whole c =
+    let ran = c.run_lifo in
+    let gone : HasGoneOn c.args.world.now ran.new.world =
+    gone_last c.args.world.now ran.new.world c.seeded-schedule.result ran.new.schedule c.turns.result c.requires.trace c.requires.numbers c.turns.ensures.turns c.turns.ensures.few ran.ensures.run in
+    rw c.in-Lifo.is
+    (on_ok_last c.args.seed c.args.world.now ran.new.world c.seeded-schedule.result ran.new.schedule ran.result c.seeded-schedule.ensures gone ran.ensures.run ran.ensures.short ran.ensures.halted)
+
+pub returns-in-Lifo-clause-limit : goal.returns-in-Lifo-clause-limit
+returns-in-Lifo-clause-limit c =
+    let ran = c.run_lifo in
+    let gone : HasGoneOn c.args.world.now ran.new.world =
+    gone_last c.args.world.now ran.new.world c.seeded-schedule.result ran.new.schedule c.turns.result c.requires.trace c.requires.numbers c.turns.ensures.turns c.turns.ensures.few ran.ensures.run in
+    rw c.in-Lifo.is
+    (λ limit. at_limit_last c.args.seed c.args.world.now ran.new.world c.seeded-schedule.result ran.new.schedule c.turns.result ran.result c.seeded-schedule.ensures gone c.requires.numbers
+    c.turns.ensures.turns c.turns.ensures.few ran.ensures.run ran.ensures.short ran.ensures.fault ran.ensures.ends limit)

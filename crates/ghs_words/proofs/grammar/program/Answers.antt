@@ -1,7 +1,7 @@
 use Rattle.std.proofs.Common.{◌≡◌, ◌∙◌, ap, codes, true}
 use Rattle.clap.specs.Simple.{app_of_fields}
 use Rattle.clap.specs.Words.{App, app_of, new_app, with_subcommand}
-use Rattle.ghs_words.specs.Grammar.{make_command, program, replay_command, run_command, steps_command, sweep_command, tree_command, view_command}
+use Rattle.ghs_words.specs.Grammar.{explore_command, make_command, program, replay_command, run_command, steps_command, sweep_command, tree_command, view_command}
 use Rattle.ghs_words.proofs.Commands.{with_command}
 use Rattle.ghs_words.proofs.grammar.program.Goals as goal
 
@@ -21,7 +21,9 @@ returns c =
     let four : App = with_subcommand three steps_command.top in
     let five : App = with_subcommand four sweep_command.top in
     let six : App = with_subcommand five view_command.top in
-    with_command _ _ _ six make_command c.in_ok-subcommand-7.ensures c.in_ok-make.ensures.local
+    let seven : App = with_subcommand six make_command.top in
+    with_command _ _ _ seven explore_command c.in_ok-subcommand-8.ensures c.in_ok-explore.ensures.local
+    (with_command _ _ _ six make_command c.in_ok-subcommand-7.ensures c.in_ok-make.ensures.local
     (with_command _ _ _ five view_command c.in_ok-subcommand-6.ensures c.in_ok-view.ensures.local
     (with_command _ _ _ four sweep_command c.in_ok-subcommand-5.ensures c.in_ok-sweep.ensures.local
     (with_command _ _ _ three steps_command c.in_ok-subcommand-4.ensures c.in_ok-steps.ensures.local
@@ -33,4 +35,5 @@ returns c =
     c.in_ok-steps.ensures.app)
     c.in_ok-sweep.ensures.app)
     c.in_ok-view.ensures.app)
-    c.in_ok-make.ensures.app
+    c.in_ok-make.ensures.app)
+    c.in_ok-explore.ensures.app

@@ -1,39 +1,28 @@
-use Rattle.std.proofs.Common.{◌≡◌, ◌<◌, ◌∙◌, ℕ, List, [], None, Some, ap, length, refl, slice_index, subst, sym}
+use Rattle.std.proofs.Common.{◌≡◌, ◌<◌, ◌∙◌, ℕ, None, Some, ap, length, refl, slice_index, sym}
 use Rattle.std.specs.List.{slice_get}
 use Rattle.std.proofs.lemmas.List.{get_or_default}
 use Rattle.ghs_chain.specs.Chains.{heard}
-use Rattle.ghs_chain.specs.Kept.{ChangesLine, Kept, line_at, row_of, stepped}
+use Rattle.ghs_chain.specs.Kept.{Kept, line_of}
 use Rattle.ghs_chain.proofs.Placing.{none_taken, one_taken}
 use Rattle.ghs_chain.proofs.chains.Chains.take.Goals as goal
 
 pub returns-in-Some-clause-taken : goal.returns-in-Some-clause-taken
 returns-in-Some-clause-taken c =
-    let k : Kept = record { numbers = c.self.inside.numbers.items; rows = c.self.inside.rows.items } in
+    let k : Kept = record { numbers = c.self.inside.numbers.items; rows = c.self.inside.rows } in
     let v = c.args.v in
     let p = c.args.port in
     let fate = c.args.fate in
-    let row_lt : v < length k.rows = rw (← c.self.view_is) at c.requires.row in
     let node_lt : v < length k.numbers = rw (← c.self.view_is) at c.requires.node in
-    let is : c.index_mut.result.now ≡ row_of k v = c.index_mut.ensures.value ∙ get_or_default k.rows v c.index_mut.result.now [] row_lt in
-    let changes : ChangesLine (row_of k v) c.step.new.self p (stepped fate (line_at (row_of k v) p)) =
-    subst (λ (r : List (List ℕ)). ChangesLine r c.step.new.self p (stepped fate (line_at r p))) is c.in_ok-number.ensures.left in
-    let some : Some c.in-Some.number ≡ slice_get (line_at (row_of k v) p) 0 =
-    sym c.in-Some.is ∙ c.in_ok-number.ensures.first ∙ ap (λ (r : List (List ℕ)). slice_get (line_at r p) 0) is in
+    let some : Some c.in-Some.number ≡ slice_get (line_of k.rows v p) 0 = sym c.in-Some.is ∙ c.in_ok-number.ensures.first in
     let value : c.heard.result ≡ heard fate c.args.asleep (slice_index k.numbers v) c.in-Some.number =
-    c.heard.ensures ∙ ap (λ (n : ℕ). heard fate c.args.asleep n c.in-Some.number) (c.index.ensures ∙ get_or_default k.numbers v c.index.result.now 0 node_lt) in
-    rw (← c.self.view_is)
-    (one_taken k _ v p c.args.asleep fate c.step.new.self c.in-Some.number c.heard.result row_lt node_lt refl value refl changes some)
+    c.heard.ensures ∙ ap (λ (n : ℕ). heard fate c.args.asleep n c.in-Some.number)
+    (c.index.ensures ∙ get_or_default k.numbers v c.index.result.now 0 node_lt) in
+    rw (← c.self.view_is) (one_taken k _ v p c.args.asleep fate c.in-Some.number c.heard.result node_lt refl value c.in_ok-number.ensures.left some)
 
 pub returns-in_default-clause-taken : goal.returns-in_default-clause-taken
 returns-in_default-clause-taken c =
-    let k : Kept = record { numbers = c.self.inside.numbers.items; rows = c.self.inside.rows.items } in
+    let k : Kept = record { numbers = c.self.inside.numbers.items; rows = c.self.inside.rows } in
     let v = c.args.v in
     let p = c.args.port in
-    let fate = c.args.fate in
-    let row_lt : v < length k.rows = rw (← c.self.view_is) at c.requires.row in
-    let is : c.index_mut.result.now ≡ row_of k v = c.index_mut.ensures.value ∙ get_or_default k.rows v c.index_mut.result.now [] row_lt in
-    let changes : ChangesLine (row_of k v) c.step.new.self p (stepped fate (line_at (row_of k v) p)) =
-    subst (λ (r : List (List ℕ)). ChangesLine r c.step.new.self p (stepped fate (line_at r p))) is c.in_ok-number.ensures.left in
-    let none : None ≡ slice_get (line_at (row_of k v) p) 0 =
-    sym c.in_default.is ∙ c.in_ok-number.ensures.first ∙ ap (λ (r : List (List ℕ)). slice_get (line_at r p) 0) is in
-    rw (← c.self.view_is) (none_taken k _ v p c.args.asleep fate c.step.new.self row_lt refl refl changes none)
+    let none : None ≡ slice_get (line_of k.rows v p) 0 = sym c.in_default.is ∙ c.in_ok-number.ensures.first in
+    rw (← c.self.view_is) (none_taken k _ v p c.args.asleep c.args.fate refl c.in_ok-number.ensures.left none)

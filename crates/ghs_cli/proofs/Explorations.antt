@@ -1,0 +1,105 @@
+-- What an exploration comes to.
+use Rattle.std.proofs.Common.{◌≡◌, ◌⊎◌, ℕ, suc, ◌+◌, ◌-◌, ◌<◌, ◌≤◌, List, None, Option, Some, Vec, Global, arith, length, ⊎_elim, inr, subst, sym}
+use Rattle.std.specs.Prelude.{IfErr, IfOk, IfSome, Result, Ok, Err, get_or, slice_get}
+use Rattle.std.proofs.lemmas.Option.{slice_get_cases}
+use Rattle.ghs_explore.specs.Ends.{AreEnds, EndsIn, RowsHaveRange}
+use Rattle.ghs_explore.specs.Explored.{Exploration}
+use Rattle.ghs_explore.specs.States.{HasStates}
+use Rattle.ghs_explore.specs.Text.{IsExploredText}
+use Rattle.ghs_explore.specs.declared.row.EndRow.{EndRow}
+use Rattle.ghs_gr.specs.Judgement.{TextIs}
+use Rattle.ghs_gr.specs.RawGraph.{RawShape}
+use Rattle.ghs_graph.specs.Graph.{IsGraph, Shape}
+use Rattle.ghs_protocol.specs.declared.event.Event.{Event}
+use Rattle.ghs_sched.specs.Text.{trace_text}
+use Rattle.ghs_world.specs.declared.wake_set.WakeSet.{WakeSet}
+use Rattle.ghs_words.specs.declared.exploring.ExploreOptions.{ExploreOptions}
+use Rattle.ghs_cli.specs.declared.fault.ServeFault.{ServeFault}
+use Rattle.ghs_cli.specs.Exploring.{AreEndsOf, HasNoExploration, IsExplored, IsRunOf}
+use Rattle.ghs_cli.specs.Serving.{IsExploreCause, IsExploreOutput, shape_of}
+
+-- what the runs of the options' wake set end with, printed
+are_ends : (o : ExploreOptions) (g : Shape) (wake : WakeSet) (rows : List EndRow) (states : ℕ) (text : List ℕ) →
+    wake ≡ o.wake →
+    states ≤ o.limit →
+    IsGraph g →
+    RowsHaveRange →
+    AreEnds g wake rows →
+    HasStates g wake states →
+    IsExploredText (record { graph = g; wake = wake; rows = rows; states = states }) text →
+    AreEndsOf o g text
+are_ends o g wake rows states text is few graph range ends reached printed = record {
+  rows = rows;
+  states = states;
+  ends = subst (λ (w : WakeSet). AreEnds g w rows) is ends;
+  range = range g o.wake rows graph (subst (λ (w : WakeSet). AreEnds g w rows) is ends);
+  reached = subst (λ (w : WakeSet). HasStates g w states) is reached;
+  few = few;
+  printed = subst (λ (w : WakeSet). IsExploredText (record { graph = g; wake = w; rows = rows; states = states }) text) is printed;
+}
+
+-- the same of what was explored
+pub ends_printed : {A E : Type 0} (r : Result A E) (text : A → List ℕ) (o : ExploreOptions) (g : Shape) (x : Exploration) →
+    x.graph ≡ g →
+    x.wake ≡ o.wake →
+    x.states ≤ o.limit →
+    IsGraph g →
+    RowsHaveRange →
+    AreEnds x.graph x.wake x.rows →
+    HasStates x.graph x.wake x.states →
+    IfOk r (λ y. IsExploredText x (text y)) →
+    IfOk r (λ y. AreEndsOf o g (text y))
+ends_printed (Err e) text o g x graph wake few is range ends reached printed = tt
+ends_printed (Ok y) text o g x graph wake few is range ends reached printed =
+    subst (λ (s : Shape). AreEndsOf o s (text y)) graph
+    (are_ends o x.graph x.wake x.rows x.states (text y) wake few (subst IsGraph (sym graph) is) range ends reached printed)
+
+-- an element at each place of a list
+there : {X : Type 0} (xs : List X) (i : ℕ) → i < length xs → (x : X) × (slice_get xs i ≡ Some x)
+there {X = X} xs i within =
+    ⊎_elim
+    (λ (found : (x : X) × (i < length xs) × (slice_get xs i ≡ Some x) × (get_or xs i x ≡ x)). (found.0, found.2))
+    (λ (past : (length xs ≤ i) × (slice_get xs i ≡ None)). absurd (let over : length xs ≤ i = past.0 in omega arith))
+    (slice_get_cases xs i).1
+
+-- the run of the row that is asked for, printed
+pub run_printed : (o : ExploreOptions) (g : Shape) (x : Exploration) (events : List Event) (text : List ℕ) →
+    x.graph ≡ g →
+    x.wake ≡ o.wake →
+    1 ≤ o.end →
+    o.end ≤ length x.rows →
+    AreEnds x.graph x.wake x.rows →
+    ((r : EndRow) → slice_get x.rows (o.end - 1) ≡ Some r → EndsIn x.graph x.wake r events) →
+    text ≡ trace_text events →
+    IsRunOf o g text
+run_printed o g x events text graph wake first few ends run printed =
+    let found = there x.rows (o.end - 1) (omega arith) in
+    subst (λ (s : Shape). IsRunOf o s text) graph (record {
+      rows = x.rows;
+      ends = subst (λ (w : WakeSet). AreEnds x.graph w x.rows) wake ends;
+      place = o.end - 1;
+      asked = omega arith;
+      row = found.0;
+      there = found.1;
+      events = events;
+      run = subst (λ (w : WakeSet). EndsIn x.graph w found.0 events) wake (run found.0 found.1);
+      printed = printed;
+    })
+
+-- what is found of a graph is found of the input that is its text
+pub explore_output : {A : Type 0} (r : Result A ServeFault) (text : A → List ℕ) (o : ExploreOptions) (raw : RawShape) (input : Option (List ℕ)) →
+    IfOk r (λ x. IsExplored o (shape_of raw) (text x)) →
+    IfSome input (λ i. TextIs i (Ok raw)) →
+    IfOk r (λ x. IfSome input (λ i. IsExploreOutput o i (text x)))
+explore_output (Ok x) text o raw None found is = tt
+explore_output (Ok x) text o raw (Some i) found is = (raw, is, found)
+explore_output (Err fault) text o raw input found is = tt
+
+-- and so is why nothing is
+pub explore_cause : {A : Type 0} (r : Result A ServeFault) (o : ExploreOptions) (raw : RawShape) (input : Option (List ℕ)) →
+    IfErr r (HasNoExploration o (shape_of raw)) →
+    IfSome input (λ i. TextIs i (Ok raw)) →
+    IfErr r (λ fault. IfSome input (λ i. IsExploreCause o i fault))
+explore_cause (Ok x) o raw input none is = tt
+explore_cause (Err fault) o raw None none is = tt
+explore_cause (Err fault) o raw (Some i) none is = inr (raw, is, none)

@@ -1,0 +1,125 @@
+//! Charts of sweeps.
+ghost use Rattle.ghs_words.specs.Job.{AreSweepLimits};
+ghost use Rattle.ghs_cli.specs.Charts.{IsCaption, IsNamelessChart, IsPanel, IsPanelOf};
+ghost use Rattle.ghs_cli.specs.Networks.{ArePanels, IsChart};
+ghost use Rattle.ghs_sweep.specs.Figures.{HasSmallWeight};
+ghost use Rattle.std.specs.Prelude.{◌≡◌, ◌≤◌, ◌^◌, ◌++◌, All, [], List, ℕ, length, string_bytes, IfOk};
+
+use crate::networks::{Network, tell};
+use crate::sweeping::runs_of;
+use ghs_chart::chart::put_chart_head;
+use ghs_chart::panel::{Caption, put_panel};
+use ghs_chart::texts::CHART_TAIL;
+use ghs_graph::bounds::bound;
+use ghs_graph::graph::Graph;
+use ghs_sweep::figures::Figures;
+use ghs_sweep::measure::Measure;
+use ghs_sweep::summary::rising_of;
+use ghs_words::job::SweepOptions;
+use std::alloc::{AllocError, Global};
+use std::thread::Threads;
+
+/// The chart of the sweep of one network, which has no name. Refusal: want of memory.
+pub(crate) fn nameless_chart<R: Threads + Sync + Eprint>(
+    rt: &R,
+    alloc: Global,
+    options: &SweepOptions,
+    graph: &Graph,
+) -> Result<Vec<u8>, AllocError>
+    requires { AreSweepLimits options.now }
+    ensures { IfOk result (λ text. IsNamelessChart options.now graph.now text.items) }
+{
+    let mut text = Vec::new(alloc);
+    put_chart_head(&mut text, 1)?;
+    put_network_panel(rt, alloc, &mut text, options, 0, b"", graph)?;
+    text.extend_from_slice(CHART_TAIL)?;
+    Ok(text)
+}
+
+/// The chart of the sweeps of networks. Refusal: want of memory.
+pub(crate) fn chart_text<R: Threads + Sync + Eprint>(
+    rt: &R,
+    alloc: Global,
+    options: &SweepOptions,
+    networks: &[Network],
+) -> Result<Vec<u8>, AllocError>
+    requires { AreSweepLimits options.now }
+    ensures { IfOk result (λ text. IsChart options.now networks.now text.items) }
+{
+    let mut text = Vec::new(alloc);
+    put_chart_head(&mut text, networks.len() as u64)?;
+    put_panels(rt, alloc, &mut text, options, networks)?;
+    text.extend_from_slice(CHART_TAIL)?;
+    Ok(text)
+}
+
+/// Puts the panels of networks behind a text. Where that is asked for, standard error is told after each network but the
+/// last how many have been swept.
+fn put_panels<R: Threads + Sync + Eprint>(
+    rt: &R,
+    alloc: Global,
+    text: &mut Vec<u8>,
+    options: &SweepOptions,
+    networks: &[Network],
+) -> Result<(), AllocError>
+    requires { AreSweepLimits options.now }
+    ensures { IfOk result (λ _. (panels : List ℕ) × ArePanels options.now networks.now panels × (text.new.items ≡ text.old.items ++ panels)) }
+{
+    for (place, network) in networks.iter().enumerate() {
+        let name = network.name.as_bytes();
+        put_network_panel(rt, alloc, text, options, place as u64, name, &network.graph)?;
+        tell(rt, options, place + 1, networks.len());
+    }
+    Ok(())
+}
+
+/// Puts the panel of a network behind a text.
+fn put_network_panel<R: Threads + Sync + Eprint>(
+    rt: &R,
+    alloc: Global,
+    text: &mut Vec<u8>,
+    options: &SweepOptions,
+    place: u64,
+    name: &[u8],
+    graph: &Graph,
+) -> Result<(), AllocError>
+    requires { AreSweepLimits options.now }
+    ensures { IfOk result (λ _. (panel : List ℕ) × IsPanel options.now place name.now graph.now panel × (text.new.items ≡ text.old.items ++ panel)) }
+{
+    let runs = runs_of(rt, alloc, graph, options)?;
+    put_runs_panel(alloc, text, place, name, graph, &runs)?;
+    Ok(())
+}
+
+/// Puts the panel of some runs of a network behind a text.
+fn put_runs_panel(
+    alloc: Global,
+    text: &mut Vec<u8>,
+    place: u64,
+    name: &[u8],
+    graph: &Graph,
+    runs: &[Figures],
+) -> Result<(), AllocError>
+    requires some { 1 ≤ length runs.now }
+    requires few { length runs.now ≤ 2 ^ 32 }
+    requires small { All HasSmallWeight runs.now }
+    ensures { IfOk result (λ _. (panel : List ℕ) × IsPanelOf place name.now graph.now runs.now panel × (text.new.items ≡ text.old.items ++ panel)) }
+{
+    let caption = caption_of(graph, runs.len() as u64);
+    let sent = rising_of(alloc, Measure::Sent, runs)?;
+    let requeued = rising_of(alloc, Measure::Requeued, runs)?;
+    let chains = rising_of(alloc, Measure::Chain, runs)?;
+    put_panel(text, place, name, caption, &sent, &requeued, &chains)
+}
+
+/// What is said of a network and so many runs.
+fn caption_of(graph: &Graph, runs: u64) -> Caption
+    ensures { IsCaption graph.now runs result }
+{
+    Caption {
+        nodes: graph.nodes(),
+        links: graph.links(),
+        runs,
+        bound: bound(graph.nodes(), graph.links()),
+    }
+}

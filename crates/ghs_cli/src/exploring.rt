@@ -1,0 +1,141 @@
+//! Explorations: with which counts of messages all runs of a small network end, and a run of each.
+ghost use Rattle.ghs_cli.specs.Exploring.{AreEndsOf, HasNoExploration, IsBehind, IsExplored, IsRunOf};
+ghost use Rattle.ghs_cli.specs.Serving.{IsExploreCause, IsExploreOutput, is_write, shape_of};
+ghost use Rattle.ghs_cli.specs.declared.fault.ServeFault.{ServeFault};
+ghost use Rattle.ghs_words.specs.Job.{AreExploreLimits};
+ghost use Rattle.ghs_words.specs.declared.exploring.Finding.{Finding};
+ghost use Rattle.std.specs.Prelude.{◌≡◌, ◌≤◌, ◌↔◌, false, true, IfErr, IfOk, IfSome, IsErrOf};
+
+use crate::fault::ServeFault;
+use crate::progress::Teller;
+use crate::sweeping::built;
+use ghs_explore::explore::explore_watched;
+use ghs_explore::explored::Explored;
+use ghs_explore::fault::ExploreFault;
+use ghs_explore::laws::law_range;
+use ghs_explore::text::explored_text;
+use ghs_gr::device::Source;
+use ghs_gr::judgement::read_gr;
+use ghs_gr::raw_graph::RawGraph;
+use ghs_graph::graph::Graph;
+use ghs_sched::trace::write_trace;
+use ghs_words::exploring::{ExploreOptions, Finding};
+use std::alloc::{AllocError, Global};
+
+/// What is found of all runs of the graph that the device gives.
+pub(crate) fn explored_text_of<S: Source, R: Eprint>(
+    rt: &R,
+    alloc: Global,
+    options: &ExploreOptions,
+    graph: &mut S,
+) -> Result<Vec<u8>, ServeFault>
+    requires limits { AreExploreLimits options.now }
+    requires graph { S.has_failed graph.old ≡ false }
+    ensures text { IfOk result (λ text. IfSome (S.left graph.old) (λ input. IsExploreOutput options.now input text.items)) }
+    ensures fault { IfErr result (λ fault. IfSome (S.left graph.old) (λ input. IsExploreCause options.now input fault)) }
+    ensures early { IfErr result (λ fault. is_write fault ≡ false) }
+    ensures read { IsErrOf result ServeFault.Read ↔ (S.has_failed graph.new ≡ true) }
+{
+    let raw = read_gr(alloc, graph)?;
+    explored(rt, alloc, options, raw)
+}
+
+/// What is found of all runs of a graph that was read.
+fn explored<R: Eprint>(
+    rt: &R,
+    alloc: Global,
+    options: &ExploreOptions,
+    raw: RawGraph,
+) -> Result<Vec<u8>, ServeFault>
+    requires { AreExploreLimits options.now }
+    ensures text { IfOk result (λ text. IsExplored options.now (shape_of raw) text.items) }
+    ensures fault { IfErr result (λ fault. HasNoExploration options.now (shape_of raw) fault) }
+{
+    let graph = built(alloc, raw)?;
+    found(rt, alloc, options, &graph)
+}
+
+/// What is found of all runs of a graph.
+fn found<R: Eprint>(
+    rt: &R,
+    alloc: Global,
+    options: &ExploreOptions,
+    graph: &Graph,
+) -> Result<Vec<u8>, ServeFault>
+    requires { AreExploreLimits options.now }
+    ensures text { IfOk result (λ text. IsExplored options.now graph.now text.items) }
+    ensures fault { IfErr result (λ fault. HasNoExploration options.now graph.now fault) }
+{
+    let teller = Teller::new(rt, options.progress);
+    match explore_watched(alloc, graph, options.wake, options.limit, &teller) {
+        Ok(explored) => found_text(alloc, options, graph, &explored),
+        Err(ExploreFault::TooLarge) => Err(ServeFault::TooLargeToExplore),
+        Err(ExploreFault::TooMany) => Err(ServeFault::StateLimit {
+            limit: options.limit,
+        }),
+        Err(ExploreFault::Memory) => Err(ServeFault::Memory),
+    }
+}
+
+/// What is printed of what was found.
+fn found_text(
+    alloc: Global,
+    options: &ExploreOptions,
+    graph: &Graph,
+    explored: &Explored,
+) -> Result<Vec<u8>, ServeFault>
+    requires limits { AreExploreLimits options.now }
+    requires graph { explored.now.graph ≡ graph.now }
+    requires wake { explored.now.wake ≡ options.now.wake }
+    requires few { explored.now.states ≤ options.now.limit }
+    ensures text { IfOk result (λ text. IsExplored options.now graph.now text.items) }
+    ensures fault { IfErr result (λ fault. HasNoExploration options.now graph.now fault) }
+{
+    match options.finding {
+        Finding::Ends => Ok(ends_text(alloc, options, graph, explored)?),
+        Finding::Run => trace_of_end(alloc, options, graph, explored),
+    }
+}
+
+/// With which counts of messages the runs end.
+fn ends_text(
+    alloc: Global,
+    options: &ExploreOptions,
+    graph: &Graph,
+    explored: &Explored,
+) -> Result<Vec<u8>, AllocError>
+    requires graph { explored.now.graph ≡ graph.now }
+    requires wake { explored.now.wake ≡ options.now.wake }
+    requires few { explored.now.states ≤ options.now.limit }
+    ensures { IfOk result (λ text. AreEndsOf options.now graph.now text.items) }
+{
+    // Called for their clauses: what the rows and the states are, and that the first and the last row have the least and the
+    // greatest sum.
+    law_range();
+    let _ = graph.nodes();
+    let _ = explored.rows();
+    let _ = explored.states();
+    explored_text(alloc, explored)
+}
+
+/// The events of a run that ends as the row says that is asked for.
+fn trace_of_end(
+    alloc: Global,
+    options: &ExploreOptions,
+    graph: &Graph,
+    explored: &Explored,
+) -> Result<Vec<u8>, ServeFault>
+    requires asked { options.now.finding ≡ Finding.Run }
+    requires limits { AreExploreLimits options.now }
+    requires graph { explored.now.graph ≡ graph.now }
+    requires wake { explored.now.wake ≡ options.now.wake }
+    ensures text { IfOk result (λ text. IsRunOf options.now graph.now text.items) }
+    ensures fault { IfErr result (λ fault. HasNoExploration options.now graph.now fault) }
+{
+    let ends = explored.rows().len();
+    if options.end as usize > ends {
+        return Err(ServeFault::NoSuchEnd { ends: ends as u64 });
+    }
+    let events = explored.run(alloc, options.end as usize - 1)?;
+    Ok(write_trace(alloc, &events)?)
+}

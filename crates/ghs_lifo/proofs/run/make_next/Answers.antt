@@ -1,0 +1,76 @@
+use Rattle.std.proofs.Common.{subst, List, ℕ}
+use Rattle.ghs_core.specs.NetState.{NetState, net_of, network}
+use Rattle.ghs_protocol.specs.Run.{IsRun}
+use Rattle.ghs_protocol.specs.Laws.{IsNetOf}
+use Rattle.ghs_graph.specs.Graph.{IsGraph}
+use Rattle.ghs_world.specs.WorldState.{home, wakers}
+use Rattle.ghs_world.proofs.lemmas.Waking.{each_is_woken}
+use Rattle.ghs_patient.proofs.Picks.{is_net, seconds_go, some_patient}
+use Rattle.ghs_patient.proofs.Ports.{marks_own, sends_out}
+use Rattle.ghs_lifo.specs.Runs.{IsNext}
+use Rattle.ghs_lifo.proofs.Running.{pickable}
+use Rattle.ghs_lifo.proofs.Stirring.{keeps}
+use Rattle.ghs_lifo.proofs.run.make_next.Goals as goal
+
+pub pick-event-requires-clause-seconds : goal.pick-event-requires-clause-seconds
+pick-event-requires-clause-seconds c =
+    seconds_go c.args.world.now.net.graph (wakers c.args.world.now) (home c.args.world.now) c.law_one_waits.ensures
+    (subst (λ (n : NetState). IsNetOf n.graph (net_of n)) c.net.ensures.net (is_net c.net.result.now c.trace.ensures.graph c.trace.ensures.run))
+
+pub pick-event-requires-clause-some : goal.pick-event-requires-clause-some
+pick-event-requires-clause-some c =
+    let graph : IsGraph c.args.world.now.net.graph = subst (λ (n : NetState). IsGraph n.graph) c.net.ensures.net c.trace.ensures.graph in
+    some_patient c.args.world.now.net.graph (wakers c.args.world.now) (home c.args.world.now) c.law_patience_lasts.ensures
+    (subst (λ (n : NetState). IsNetOf n.graph (net_of n)) c.net.ensures.net (is_net c.net.result.now c.trace.ensures.graph c.trace.ensures.run))
+    (each_is_woken c.args.world.now.net.graph c.args.world.now.wake graph) c.requires.going
+
+pub node-requires-clause-low : goal.node-requires-clause-low
+node-requires-clause-low c =
+    let z = pickable c.args.world.now c.in_ok-rest.rest c.pick-event.result c.pick-event.new.schedule c.requires.home c.pick-event.ensures in
+    rw c.node_of.ensures z.low
+
+pub node-requires-clause-high : goal.node-requires-clause-high
+node-requires-clause-high c =
+    let z = pickable c.args.world.now c.in_ok-rest.rest c.pick-event.result c.pick-event.new.schedule c.requires.home c.pick-event.ensures in
+    rw (c.node_of.ensures, c.net-2.ensures.net) z.high
+
+pub answer-requires : goal.answer-requires
+answer-requires c =
+    (pickable c.args.world.now c.in_ok-rest.rest c.pick-event.result c.pick-event.new.schedule c.requires.home c.pick-event.ensures).lawful
+
+pub make_answered-requires-clause-ready : goal.make_answered-requires-clause-ready
+make_answered-requires-clause-ready c =
+    (pickable c.args.world.now c.in_ok-rest.rest c.pick-event.result c.pick-event.new.schedule c.requires.home c.pick-event.ensures).ready
+
+pub follow-requires-clause-ports : goal.follow-requires-clause-ports
+follow-requires-clause-ports c =
+    let z = pickable c.args.world.now c.in_ok-rest.rest c.pick-event.result c.pick-event.new.schedule c.requires.home c.pick-event.ensures in
+    let made = c.in_ok-make_answered.ensures.made in
+    let graph : IsGraph c.args.world.now.net.graph = subst (λ (n : NetState). IsGraph n.graph) c.net.ensures.net c.trace.ensures.graph in
+    let is_run : IsRun (network c.args.world.now.net) c.args.world.now.net.trace = subst (λ (n : NetState). IsRun (network n) n.trace)
+    c.net.ensures.net c.trace.ensures.run in
+    rw made.graph (sends_out c.args.world.now.net graph is_run c.pick-event.result c.in_ok-delta.delta z.lawful c.in_ok-delta.ensures)
+
+pub follow-requires-clause-own : goal.follow-requires-clause-own
+follow-requires-clause-own c =
+    let z = pickable c.args.world.now c.in_ok-rest.rest c.pick-event.result c.pick-event.new.schedule c.requires.home c.pick-event.ensures in
+    let made = c.in_ok-make_answered.ensures.made in
+    let graph : IsGraph c.args.world.now.net.graph = subst (λ (n : NetState). IsGraph n.graph) c.net.ensures.net c.trace.ensures.graph in
+    let is_run : IsRun (network c.args.world.now.net) c.args.world.now.net.trace = subst (λ (n : NetState). IsRun (network n) n.trace)
+    c.net.ensures.net c.trace.ensures.run in
+    rw made.graph (marks_own c.args.world.now.net graph is_run c.pick-event.result c.in_ok-delta.delta z.lawful c.in_ok-delta.ensures)
+
+pub follow-requires-clause-latest : goal.follow-requires-clause-latest
+follow-requires-clause-latest c =
+    let is_run : IsRun (network c.args.world.now.net) c.args.world.now.net.trace = subst (λ (n : NetState). IsRun (network n) n.trace)
+    c.net.ensures.net c.trace.ensures.run in
+    rw (c.head.ensures.head, c.node.ensures, c.net-2.ensures.net, c.node_of.ensures)
+    (keeps c.args.world.now c.make_answered.new.self c.pick-event.result c.in_ok-delta.delta c.args.latest.now c.requires.latest
+    c.in_ok-make_answered.ensures.made c.in_ok-delta.ensures is_run)
+
+pub returns-clause-ok : goal.returns-clause-ok
+returns-clause-ok c = record {
+  event = c.pick-event.result;
+  next = subst (λ (w : List ℕ). IsNext c.args.world.now w c.pick-event.result c.pick-event.new.schedule) c.in_ok-rest.ensures c.pick-event.ensures;
+  made = c.in_ok-make_answered.ensures.made;
+}

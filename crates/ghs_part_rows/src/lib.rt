@@ -1,0 +1,5 @@
+//! Worked examples of figures by part.
+#![tactic(auto)]
+
+#[cfg(test)]
+mod parts;

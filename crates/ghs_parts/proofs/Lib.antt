@@ -1,0 +1,9 @@
+-- Serves the proofs: nothing here has to be believed.
+pub mod Counting
+pub mod AddingUp
+pub mod Reaching
+pub mod KindCounts
+pub mod Summing
+pub mod Tallying
+pub mod Lining
+mod Examples

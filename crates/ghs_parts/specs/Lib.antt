@@ -1,0 +1,9 @@
+-- To be believed: contracts cite what stands here, and what it is made of.
+pub mod Deeds
+pub mod JsonLine
+pub mod Laws
+pub mod Line
+pub mod Lines
+pub mod Parts
+pub mod Rule
+pub mod Tally

@@ -1,0 +1,75 @@
+//! The figures of parts as lines.
+ghost use Rattle.ghs_parts.specs.Lines.{line_behind, part_lines, run_text};
+ghost use Rattle.ghs_protocol.specs.Network.{network_of};
+ghost use Rattle.ghs_protocol.specs.Run.{IsRun};
+ghost use Rattle.std.specs.Prelude.{◌≡◌, ◌+◌, ◌++◌, ◌≤◌, ◌^◌, IfOk, length};
+
+use crate::by::{By, first_of};
+use crate::json_line::put_json_line;
+use crate::line::put_line;
+use crate::part::Part;
+use crate::parts::parts_of;
+use ghs_graph::graph::Graph;
+use ghs_protocol::event::Event;
+use ghs_steps::form::Form;
+use std::alloc::{AllocError, Global};
+
+/// Puts the lines of all parts of a seed's run behind a text, each behind the same front. The events are played once more.
+/// Refusal: want of memory.
+pub fn put_run(
+    alloc: Global,
+    text: &mut Vec<u8>,
+    form: Form,
+    front: &[u8],
+    by: By,
+    seed: u64,
+    graph: &Graph,
+    events: &[Event],
+) -> Result<(), AllocError>
+    requires run { IsRun (network_of graph.now) events.now }
+    requires few { length events.now ≤ 2 ^ 40 }
+    ensures { IfOk result (λ _. text.new.items ≡ text.old.items ++ run_text form front.now by seed graph.now events.now) }
+{
+    let parts = parts_of(alloc, graph, events, by)?;
+    put_parts(text, form, front, by, seed, first_of(by), &parts)
+}
+
+/// Puts the lines of parts of a seed's run, whose numbers rise from the first on, behind a text, each behind the same front:
+/// what the lines of a network begin with, and in JSON an object that it opens. All parts of a run are numbered from
+/// `first_of` on; a caller that writes by portions gives some of them.
+pub fn put_parts(
+    text: &mut Vec<u8>,
+    form: Form,
+    front: &[u8],
+    by: By,
+    seed: u64,
+    first: u64,
+    parts: &[Part],
+) -> Result<(), AllocError>
+    requires { first + length parts.now ≤ 2 ^ 64 }
+    ensures { IfOk result (λ _. text.new.items ≡ text.old.items ++ part_lines (line_behind form front.now by seed) first parts.now) }
+{
+    for (place, part) in parts.iter().enumerate() {
+        put_behind(text, form, front, by, seed, first + place as u64, part)?;
+    }
+    Ok(())
+}
+
+// A front, and the line of a part.
+fn put_behind(
+    text: &mut Vec<u8>,
+    form: Form,
+    front: &[u8],
+    by: By,
+    seed: u64,
+    number: u64,
+    part: &Part,
+) -> Result<(), AllocError>
+    ensures { IfOk result (λ _. text.new.items ≡ text.old.items ++ line_behind form front.now by seed number part.now) }
+{
+    text.extend_from_slice(front)?;
+    match form {
+        Form::Text => put_line(text, by, seed, number, part),
+        Form::Json => put_json_line(text, by, seed, number, part),
+    }
+}

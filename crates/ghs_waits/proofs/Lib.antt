@@ -1,0 +1,5 @@
+-- Serves the proofs: nothing here has to be believed.
+mod Marking
+mod Picks
+mod Running
+mod Stirring

@@ -1,0 +1,47 @@
+use Rattle.std.proofs.Common.{subst}
+use Rattle.ghs_core.specs.NetState.{NetState, network}
+use Rattle.ghs_protocol.specs.Run.{IsRun}
+use Rattle.ghs_graph.specs.Graph.{IsGraph}
+use Rattle.ghs_patient.proofs.Ports.{marks_own, sends_out}
+use Rattle.ghs_waits.proofs.Picks.{pickable}
+use Rattle.ghs_waits.proofs.Stirring.{keeps}
+use Rattle.ghs_waits.proofs.run.make_next.Goals as goal
+
+pub node-requires-clause-low : goal.node-requires-clause-low
+node-requires-clause-low c =
+    let z = pickable c.args.world.now c.in_ok-rest.rest c.pick-event.result c.requires.home c.pick-event.ensures.pick in
+    rw c.node_of.ensures z.low
+
+pub node-requires-clause-high : goal.node-requires-clause-high
+node-requires-clause-high c =
+    let z = pickable c.args.world.now c.in_ok-rest.rest c.pick-event.result c.requires.home c.pick-event.ensures.pick in
+    rw (c.node_of.ensures, c.net-2.ensures.net) z.high
+
+pub answer-requires : goal.answer-requires
+answer-requires c =
+    (pickable c.args.world.now c.in_ok-rest.rest c.pick-event.result c.requires.home c.pick-event.ensures.pick).lawful
+
+pub make_answered-requires-clause-ready : goal.make_answered-requires-clause-ready
+make_answered-requires-clause-ready c =
+    (pickable c.args.world.now c.in_ok-rest.rest c.pick-event.result c.requires.home c.pick-event.ensures.pick).ready
+
+pub follow-requires-clause-ports : goal.follow-requires-clause-ports
+follow-requires-clause-ports c =
+    let z = pickable c.args.world.now c.in_ok-rest.rest c.pick-event.result c.requires.home c.pick-event.ensures.pick in
+    let made = c.in_ok-make_answered.ensures.made in
+    let graph : IsGraph c.args.world.now.net.graph = subst (λ (n : NetState). IsGraph n.graph) c.net.ensures.net c.trace.ensures.graph in
+    let is_run : IsRun (network c.args.world.now.net) c.args.world.now.net.trace = subst (λ (n : NetState). IsRun (network n) n.trace) c.net.ensures.net c.trace.ensures.run in
+    rw made.graph (sends_out c.args.world.now.net graph is_run c.pick-event.result c.in_ok-delta.delta z.lawful c.in_ok-delta.ensures)
+
+pub follow-requires-clause-own : goal.follow-requires-clause-own
+follow-requires-clause-own c =
+    let z = pickable c.args.world.now c.in_ok-rest.rest c.pick-event.result c.requires.home c.pick-event.ensures.pick in
+    let made = c.in_ok-make_answered.ensures.made in
+    let graph : IsGraph c.args.world.now.net.graph = subst (λ (n : NetState). IsGraph n.graph) c.net.ensures.net c.trace.ensures.graph in
+    let is_run : IsRun (network c.args.world.now.net) c.args.world.now.net.trace = subst (λ (n : NetState). IsRun (network n) n.trace) c.net.ensures.net c.trace.ensures.run in
+    rw made.graph (marks_own c.args.world.now.net graph is_run c.pick-event.result c.in_ok-delta.delta z.lawful c.in_ok-delta.ensures)
+
+pub follow-requires-clause-marks : goal.follow-requires-clause-marks
+follow-requires-clause-marks c =
+    rw (c.head.ensures.head, c.node.ensures, c.net-2.ensures.net, c.node_of.ensures)
+    (keeps c.args.world.now c.make_answered.new.self c.pick-event.result c.in_ok-delta.delta c.args.waiting.now c.requires.marks c.in_ok-make_answered.ensures.made c.in_ok-delta.ensures)

@@ -1,0 +1,33 @@
+-- An index of the events of a world that only put their message back, kept from event to event.
+use Rattle.std.specs.Prelude.{◌≡◌, ℕ, List, [], ◌∷◌, slice_set, zero, suc}
+use Rattle.ghs_protocol.specs.declared.event.Event.{Event}
+use Rattle.ghs_protocol.specs.declared.event.Event.TheVariants.{Take}
+use Rattle.ghs_core.specs.NetState.{network}
+use Rattle.ghs_flags.specs.Flags.{at}
+use Rattle.ghs_index.specs.Index.{IndexState, IsFor, IsIndexOf}
+use Rattle.ghs_index.specs.Places.{HasPlace, place}
+use Rattle.ghs_world.specs.WorldState.{WorldState, home}
+use Rattle.ghs_patient.specs.Patience.{puts_back}
+
+-- its marks are those of a world
+abbrev pub AreMarks : WorldState → IndexState → Type 0
+AreMarks s x = IsIndexOf (network s.net) (puts_back (home s)) x
+
+-- they are those of the world, but perhaps for some events
+pub record AreMarksBut (s : WorldState) (wrong : Event → Type 0) (x : IndexState) : Type 0 where
+  pub for_all : IsFor (network s.net) x
+  pub marks : (e : Event) → HasPlace (network s.net) e → (wrong e → ⊥) → at x.marks (place (network s.net) e) ≡ puts_back (home s) e
+
+-- the index with the right mark of one event
+abbrev pub marked : WorldState → Event → IndexState → IndexState
+marked s e x = record x { marks = slice_set x.marks (place (network s.net) e) (puts_back (home s) e) }
+
+-- of the Takes at the first ports of a node
+abbrev pub marked_to : WorldState → ℕ → ℕ → IndexState → IndexState
+marked_to s v zero x = x
+marked_to s v (suc n) x = marked s (Take v n) (marked_to s v n x)
+
+-- of several events
+abbrev pub marked_all : WorldState → List Event → IndexState → IndexState
+marked_all s [] x = x
+marked_all s (e ∷ es) x = marked_all s es (marked s e x)
