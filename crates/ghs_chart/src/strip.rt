@@ -46,18 +46,8 @@ fn put_values(text: &mut Vec<u8>, rising: &[u128]) -> Result<(), AllocError>
     ensures { IfOk result (λ _. text.new.items ≡ text.old.items ++ values_text rising.now) }
 {
     put_around(text, VALUES, rising[0], b" ")?;
-    put_around(
-        text,
-        b"/ ",
-        rising[(rising.len() - 1) / 2],
-        b" ",
-    )?;
-    put_around(
-        text,
-        b"/ ",
-        rising[rising.len() - 1],
-        STRIP_END,
-    )
+    put_around(text, b"/ ", rising[(rising.len() - 1) / 2], b" ")?;
+    put_around(text, b"/ ", rising[rising.len() - 1], STRIP_END)
 }
 
 // A bar for each column into which a value falls.

@@ -44,7 +44,9 @@ pub const SCALE: &[u8] =
 
 /// The names of the strips.
 pub const SENT: &[u8] = b"sent";
+
 pub const PUT_BACK: &[u8] = b"put back";
+
 pub const CHAIN: &[u8] = b"longest chain";
 
 /// The end of a panel.

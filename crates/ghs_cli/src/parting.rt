@@ -62,9 +62,7 @@ fn parted<R: Threads + Sync + Eprint>(
     while left > 0 {
         let portion = (PORTION * u64::from(threads)).min(left);
         let next = first + (count - left);
-        let mut more = parted_by(
-            rt, alloc, options, by, front, graph, next, portion, threads,
-        )?;
+        let mut more = parted_by(rt, alloc, options, by, front, graph, next, portion, threads)?;
         lines.append(&mut more)?;
         left -= portion;
         tell(rt, options, left, count);

@@ -143,8 +143,7 @@ impl<'a, R: Eprint> Gate for Tallying<'a, R> {
                 crowded,
                 beside,
             } = tally;
-            let _ = eprintln!(
-                self.rt;
+            let _ = eprintln!(self.rt;
                 "worker {worker}: {commits} events, {crowded} crowded, {beside} beside another's"
             );
         }
