@@ -1,11 +1,12 @@
 -- A strip of a panel: into which parts of the bound the values of a figure fall.
 use Rattle.std.specs.Prelude.{ℕ, zero, suc, ◌+◌, ◌-◌, ◌*◌, ◌/◌, max, cond, eqb, nat_lt, codes, decimal, List, [], ◌++◌, filter, length, slice_index}
 use Rattle.ghs_chart.specs.Around.{around}
+use Rattle.ghs_chart.specs.declared.strip.TheConstants.{COLUMNS}
 use Rattle.ghs_chart.specs.declared.texts.TheConstants.{AXIS, STRIP, STRIP_END, STRIP_NAME, VALUES}
 
 -- the numbers below the bound stand in 150 columns, the bound and what is beyond in the last; where the bound is 0 all stand in the first
 abbrev pub column_of : ℕ → ℕ → ℕ
-column_of bound n = cond (nat_lt n bound) (n * 150 / bound) (cond (eqb bound 0) 0 149)
+column_of bound n = cond (nat_lt n bound) (n * COLUMNS / bound) (cond (eqb bound 0) 0 (COLUMNS - 1))
 
 -- how many values stand in a column
 abbrev pub count_in : ℕ → List ℕ → ℕ → ℕ
@@ -17,7 +18,7 @@ most_of zero bound values = 0
 most_of (suc n) bound values = max (most_of n bound values) (count_in bound values n)
 
 abbrev pub most_in : ℕ → List ℕ → ℕ
-most_in bound values = most_of 150 bound values
+most_in bound values = most_of COLUMNS bound values
 
 -- how high a bar is, 40 where it is the highest: rounded up, so that one value is seen
 abbrev pub height : ℕ → ℕ → ℕ
@@ -38,7 +39,7 @@ median rising = slice_index rising ((length rising - 1) / 2)
 
 -- the axis, and on it the bars
 unfoldable pub axis : ℕ → List ℕ → List ℕ
-axis bound rising = AXIS.now ++ bars 150 bound rising (most_in bound rising)
+axis bound rising = AXIS.now ++ bars COLUMNS bound rising (most_in bound rising)
 
 -- the least, the median and the greatest
 unfoldable pub values_text : List ℕ → List ℕ

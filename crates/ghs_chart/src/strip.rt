@@ -1,5 +1,6 @@
 //! A strip of a panel: into which parts of the bound the values of a figure fall.
 ghost use Rattle.ghs_chart.specs.Strip.{axis, bar, bars, column_of, count_in, most_in, strip_text, values_text};
+ghost use Rattle.ghs_chart.specs.declared.strip.TheConstants.{COLUMNS};
 ghost use Rattle.std.specs.Prelude.{◌≡◌, ◌++◌, ◌<◌, ◌≤◌, ◌^◌, IfOk, length};
 
 use crate::around::put_around;
@@ -53,7 +54,7 @@ fn put_values(text: &mut Vec<u8>, rising: &[u128]) -> Result<(), AllocError>
 // A bar for each column into which a value falls.
 fn put_bars(text: &mut Vec<u8>, bound: u64, values: &[u128]) -> Result<(), AllocError>
     requires few { length values.now ≤ 2 ^ 32 }
-    ensures { IfOk result (λ _. text.new.items ≡ text.old.items ++ bars 150 bound values.now (most_in bound values.now)) }
+    ensures { IfOk result (λ _. text.new.items ≡ text.old.items ++ bars COLUMNS bound values.now (most_in bound values.now)) }
 {
     let most = most_in(bound, values);
     for column in 0..COLUMNS {
@@ -65,7 +66,7 @@ fn put_bars(text: &mut Vec<u8>, bound: u64, values: &[u128]) -> Result<(), Alloc
 // The bar of a column into which so many values fall, where into another the most of all do.
 #[tactic(auto, unfolding(crate::specs::Strip::bar))]
 fn put_bar(text: &mut Vec<u8>, column: u32, count: u128, most: u128) -> Result<(), AllocError>
-    requires column { column < 150 }
+    requires column { column < COLUMNS }
     requires count { count ≤ 2 ^ 32 }
     requires most { most ≤ 2 ^ 32 }
     requires within { count ≤ most }
@@ -107,10 +108,10 @@ fn column_of(bound: u64, value: u128) -> u128
 {
     let bound = u128::from(bound);
     if value < bound {
-        value * 150 / bound
+        value * u128::from(COLUMNS) / bound
     } else if bound == 0 {
         0
     } else {
-        149
+        u128::from(COLUMNS - 1)
     }
 }

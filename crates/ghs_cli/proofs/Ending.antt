@@ -1,23 +1,37 @@
--- A patient run, or one by rounds, with turns for its events doesn't stop at its turns.
-use Rattle.std.proofs.Common.{◌≡◌, ◌∙◌, ◌⊎◌, ℕ, true, List, [], Option, Some, None, ⊎_elim, subst, sym}
+-- A patient run, one by rounds, or one of what was sent last, with turns for its events doesn't stop at its turns.
+use Rattle.std.proofs.Common.{◌≡◌, ◌∙◌, ℕ, true, List, [], Option, Some, None, ⊎_elim, subst, sym}
 use Rattle.std.specs.Prelude.{IfSome, IsErrOf, Result, Ok, Err}
 use Rattle.ghs_gr.specs.Judgement.{IsOneThing, TextIs}
 use Rattle.ghs_gr.specs.RawGraph.{RawShape}
 use Rattle.ghs_picking.specs.declared.picking.Picking.{Picking}
-use Rattle.ghs_picking.specs.declared.picking.Picking.TheVariants.{Patient, Rounds}
-use Rattle.ghs_picking.specs.Picking.{HasTurnsFor, IsByRounds, IsPatient, IsPickedBy}
+use Rattle.ghs_picking.specs.declared.picking.Picking.TheVariants.{Seeded, Patient, Rounds, Waits, Lifo}
+use Rattle.ghs_picking.specs.Picking.{HasTurnsFor, IsPickedBy}
+use Rattle.ghs_graph.specs.Graph.{Shape}
+use Rattle.ghs_protocol.specs.declared.event.Event.{Event}
+use Rattle.ghs_protocol.specs.Marks.{HasEnded}
+use Rattle.ghs_protocol.specs.Run.{net_after}
+use Rattle.ghs_world.specs.declared.wake_set.WakeSet.{WakeSet}
 use Rattle.ghs_cli.specs.declared.fault.ServeFault.{ServeFault}
 use Rattle.ghs_cli.specs.declared.fault.ServeFault.TheVariants as serve
 use Rattle.ghs_words.specs.declared.job.RunOptions.{RunOptions}
 use Rattle.ghs_words.specs.declared.job.StepsOptions.{StepsOptions}
 use Rattle.ghs_words.specs.declared.job.Task.{Task}
 use Rattle.ghs_words.specs.declared.job.Task.TheVariants as task
-use Rattle.ghs_cli.specs.Ending.{IsPatientTask}
+use Rattle.ghs_cli.specs.Ending.{IsBounded, IsBoundedTask}
 use Rattle.ghs_cli.specs.Serving.{IfStored, IsCause, IsGraphCause, IsOutput, IsRunningCause, StopsRun, shape_of}
 use Rattle.ghs_cli.proofs.Serves.{if_stored, if_some, limit_cause, printed_at_limit}
 
+-- a run by a bounded schedule, with turns for its events, has ended
+ended_by : (p : Picking) (seed : ℕ) (wake : WakeSet) (turns : ℕ) (g : Shape) (es : List Event) → IsBounded p →
+    IsPickedBy p seed wake turns g es → HasTurnsFor g turns → HasEnded g (net_after g es)
+ended_by Seeded seed wake turns g es bounded run enough = absurd bounded
+ended_by Patient seed wake turns g es bounded run enough = run.ends enough
+ended_by Rounds seed wake turns g es bounded run enough = run.ends enough
+ended_by Waits seed wake turns g es bounded run enough = absurd bounded
+ended_by Lifo seed wake turns g es bounded run enough = run.ends enough
+
 -- options whose run stops at its turns, of the one graph whose text the input is
-run_goes_on : (o : RunOptions) (input : List ℕ) → IsOneThing input → IsRunningCause o input serve.TurnLimit → IsPatientTask (task.Run o) input → ⊥
+run_goes_on : (o : RunOptions) (input : List ℕ) → IsOneThing input → IsRunningCause o input serve.TurnLimit → IsBoundedTask (task.Run o) input → ⊥
 run_goes_on o input one cause is =
     ⊎_elim (λ (bad : IsGraphCause input serve.TurnLimit). bad)
     (λ (stops : (graph : RawShape) × TextIs input (Ok graph) × StopsRun o (shape_of graph) serve.TurnLimit).
@@ -26,22 +40,13 @@ run_goes_on o input one cause is =
     let turns : HasTurnsFor (shape_of stops.0) o.turns =
     subst (λ (g : RawShape). HasTurnsFor (shape_of g) o.turns) graph (subst (λ (p : RunOptions). HasTurnsFor (shape_of is.graph) p.turns) (sym same) is.turns) in
     let alone : o.workers ≡ 0 = subst (λ (p : RunOptions). p.workers ≡ 0) (sym same) is.alone in
-    let picking : (o.picking ≡ Patient) ⊎ (o.picking ≡ Rounds) = subst (λ (p : RunOptions). (p.picking ≡ Patient) ⊎ (p.picking ≡ Rounds)) (sym same) is.patient in
+    let bounded : IsBounded o.picking = subst (λ (p : RunOptions). IsBounded p.picking) (sym same) is.bounded in
     let stopped = stops.2.1 in
-    ⊎_elim
-    (λ (patient : o.picking ≡ Patient).
-    let run : IsPatient o.seed o.wake o.turns (shape_of stops.0) stops.2.0 =
-    subst (λ (p : Picking). IsPickedBy p o.seed o.wake o.turns (shape_of stops.0) stops.2.0) patient (stopped.by.picked alone) in
-    stopped.goes_on (run.ends turns))
-    (λ (rounds : o.picking ≡ Rounds).
-    let run : IsByRounds o.seed o.wake o.turns (shape_of stops.0) stops.2.0 =
-    subst (λ (p : Picking). IsPickedBy p o.seed o.wake o.turns (shape_of stops.0) stops.2.0) rounds (stopped.by.picked alone) in
-    stopped.goes_on (run.ends turns))
-    picking)
+    stopped.goes_on (ended_by o.picking o.seed o.wake o.turns (shape_of stops.0) stops.2.0 bounded (stopped.by.picked alone) turns))
     cause
 
--- a task that stops at its turns is no patient one
-task_goes_on : (job : Task) (stored input : List ℕ) → IsOneThing input → IsCause job stored input serve.TurnLimit → IsPatientTask job input → ⊥
+-- a task that stops at its turns is no bounded one
+task_goes_on : (job : Task) (stored input : List ℕ) → IsOneThing input → IsCause job stored input serve.TurnLimit → IsBoundedTask job input → ⊥
 task_goes_on (task.Tree core) stored input one cause is = absurd cause
 task_goes_on (task.Run o) stored input one cause is = run_goes_on o input one cause is
 task_goes_on (task.Replay wake) stored input one cause is = absurd (let run = is.run in cc)
@@ -56,7 +61,7 @@ task_goes_on (task.Explore o) stored input one cause is = absurd (let run = is.r
 pub never_stops : (job : Task) (stored input : Option (List ℕ)) →
     ((text : List ℕ) → IsOneThing text) →
     IfStored job stored (λ s. IfSome input (λ i. IsCause job s i serve.TurnLimit)) →
-    IfSome input (λ i. IsPatientTask job i → ⊥)
+    IfSome input (λ i. IsBoundedTask job i → ⊥)
 never_stops job stored None one cause = tt
 never_stops (task.Tree core) stored (Some i) one cause = λ is. task_goes_on (task.Tree core) [] i (one i) (cause []) is
 never_stops (task.Run o) stored (Some i) one cause = λ is. task_goes_on (task.Run o) [] i (one i) (cause []) is
@@ -72,7 +77,7 @@ never_stops (task.Explore o) stored (Some i) one cause = λ is. absurd (let run 
 pub never_at_limit : (job : Task) (stored input : Option (List ℕ)) (output : List ℕ) →
     ((text : List ℕ) → IsOneThing text) →
     IfStored job stored (λ s. IfSome input (λ i. IsOutput job true s i output)) →
-    IfSome input (λ i. IsPatientTask job i → ⊥)
+    IfSome input (λ i. IsBoundedTask job i → ⊥)
 never_at_limit job stored input output one out =
     never_stops job stored input one
     (if_stored job stored (λ s. IfSome input (λ i. IsOutput job true s i output)) (λ s. IfSome input (λ i. IsCause job s i serve.TurnLimit))
@@ -80,35 +85,35 @@ never_at_limit job stored input output one out =
     (λ i at_limit. limit_cause job s i output (printed_at_limit job s i output at_limit)))
     out)
 
--- so a result by such a cause is no turn limit for a patient task,
+-- so a result by such a cause is no turn limit for a bounded task,
 pub ends_by : (job : Task) (stored input : Option (List ℕ)) (r : Result (Unit {0}) ServeFault) (fault : ServeFault) →
     ((text : List ℕ) → IsOneThing text) →
     r ≡ Err fault →
     IfStored job stored (λ s. IfSome input (λ i. IsCause job s i fault)) →
-    IfSome input (λ i. IsPatientTask job i → IsErrOf r serve.TurnLimit → ⊥)
+    IfSome input (λ i. IsBoundedTask job i → IsErrOf r serve.TurnLimit → ⊥)
 ends_by job stored None r fault one is cause = tt
-ends_by job stored (Some i) r fault one is cause = λ patient limit.
+ends_by job stored (Some i) r fault one is cause = λ bounded limit.
     let same : fault ≡ serve.TurnLimit = let both : Err fault ≡ Err serve.TurnLimit = sym is ∙ limit in cc in
-    never_stops job stored (Some i) one (subst (λ (f : ServeFault). IfStored job stored (λ s. IfSome (Some i) (λ k. IsCause job s k f))) same cause) patient
+    never_stops job stored (Some i) one (subst (λ (f : ServeFault). IfStored job stored (λ s. IfSome (Some i) (λ k. IsCause job s k f))) same cause) bounded
 
 -- nor one behind output,
 pub ends_behind : (job : Task) (stored input : Option (List ℕ)) (output : List ℕ) (r : Result (Unit {0}) ServeFault) →
     ((text : List ℕ) → IsOneThing text) →
     IfStored job stored (λ s. IfSome input (λ i. IsOutput job true s i output)) →
-    IfSome input (λ i. IsPatientTask job i → IsErrOf r serve.TurnLimit → ⊥)
+    IfSome input (λ i. IsBoundedTask job i → IsErrOf r serve.TurnLimit → ⊥)
 ends_behind job stored input output r one out =
-    if_some input (λ i. IsPatientTask job i → ⊥) (λ i. IsPatientTask job i → IsErrOf r serve.TurnLimit → ⊥) (λ i never is limit. never is) (never_at_limit job stored input output one out)
+    if_some input (λ i. IsBoundedTask job i → ⊥) (λ i. IsBoundedTask job i → IsErrOf r serve.TurnLimit → ⊥) (λ i never is limit. never is) (never_at_limit job stored input output one out)
 
 -- nor any other
 pub ends_else : (job : Task) (input : Option (List ℕ)) (r : Result (Unit {0}) ServeFault) →
     (IsErrOf r serve.TurnLimit → ⊥) →
-    IfSome input (λ i. IsPatientTask job i → IsErrOf r serve.TurnLimit → ⊥)
+    IfSome input (λ i. IsBoundedTask job i → IsErrOf r serve.TurnLimit → ⊥)
 ends_else job None r other = tt
 ends_else job (Some i) r other = λ is limit. other limit
 
 -- steps are no run
 pub ends_of_steps : (job : Task) (o : StepsOptions) (input : Option (List ℕ)) (r : Result (Unit {0}) ServeFault) →
     job ≡ task.Steps o →
-    IfSome input (λ i. IsPatientTask job i → IsErrOf r serve.TurnLimit → ⊥)
+    IfSome input (λ i. IsBoundedTask job i → IsErrOf r serve.TurnLimit → ⊥)
 ends_of_steps job o None r is = tt
-ends_of_steps job o (Some i) r is = λ patient limit. absurd (let both : task.Steps o ≡ task.Run patient.options = sym is ∙ patient.run in cc)
+ends_of_steps job o (Some i) r is = λ bounded limit. absurd (let both : task.Steps o ≡ task.Run bounded.options = sym is ∙ bounded.run in cc)

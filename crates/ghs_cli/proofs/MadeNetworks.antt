@@ -14,7 +14,7 @@ use Rattle.ghs_make.specs.declared.write.WriteFault.{WriteFault}
 use Rattle.ghs_make.specs.declared.write.WriteFault.TheVariants as write
 use Rattle.ghs_words.specs.declared.job.Task.{Task}
 use Rattle.ghs_words.specs.declared.job.Task.TheVariants as task
-use Rattle.ghs_cli.specs.Ending.{IsPatientTask}
+use Rattle.ghs_cli.specs.Ending.{IsBoundedTask}
 use Rattle.ghs_cli.specs.Fault.{of_make, of_unwritten}
 use Rattle.ghs_cli.specs.Serving.{IfStored, IsMade, IsMakeCause, IsUnread, IsUnwritten, Serves, is_late}
 use Rattle.ghs_cli.specs.declared.fault.ServeFault.{ServeFault}
@@ -68,7 +68,7 @@ serves_make job asked stored (Some i) old new r is all = rw is (λ s. all s i)
 
 pub ends_make : (job : Task) (asked : Asked) (input : Option (List ℕ)) (r : Result (Unit {0}) ServeFault) →
     job ≡ task.Make asked →
-    IfSome input (λ i. IsPatientTask job i → IsErrOf r serve.TurnLimit → ⊥)
+    IfSome input (λ i. IsBoundedTask job i → IsErrOf r serve.TurnLimit → ⊥)
 ends_make job asked None r is = tt
 ends_make job asked (Some i) r is = λ patient limit. absurd (let both : task.Make asked ≡ task.Run patient.options = sym is ∙ patient.run in cc)
 

@@ -1,5 +1,5 @@
 //! The work that a job asks for.
-ghost use Rattle.ghs_cli.specs.Ending.{IsPatientTask};
+ghost use Rattle.ghs_cli.specs.Ending.{IsBoundedTask};
 ghost use Rattle.ghs_words.specs.Job.{IsWithinLimits};
 ghost use Rattle.ghs_cli.specs.Serving.{IfStored, IsCause, IsGraphCause, IsOutput, IsTreeText, IsUnread, IsUnwritten, IsWrite, Serves, by_portions, is_late, is_write, shows_events};
 ghost use Rattle.ghs_cli.specs.declared.fault.ServeFault.{ServeFault};
@@ -34,8 +34,8 @@ use std::thread::Threads;
 /// it is met. Only replays, steps and pages of stored runs touch the trace. Threads run a network where the job names
 /// workers, and where it asks for progress lines on standard error tell of it; one that can't be written is passed over.
 /// Where the events of a run are asked for, they go out before the answer that its turns are used, and a write that fails
-/// then is answered in its place. A patient run, or one by rounds, without threads that has turns for 2(B + N) events, B the
-/// bound and N the nodes, is never answered by its turns.
+/// then is answered in its place. A patient run, one by rounds, or one of what was sent last, without threads, that has turns
+/// for 2(B + N) events, B the bound and N the nodes, is never answered by its turns.
 pub fn serve<R: Source, T: Source, W: Sink, H: Threads + Wait + Eprint + Sync>(
     rt: &H,
     alloc: Global,
@@ -51,7 +51,7 @@ pub fn serve<R: Source, T: Source, W: Sink, H: Threads + Wait + Eprint + Sync>(
     ensures serves { IfStored job.now.task (T.left trace.old) (λ stored. IfSome (R.left graph.old) (λ input. Serves job.now.task stored input (W.held out.old) (W.held out.new) result)) }
     ensures read { IsErrOf result ServeFault.Read ↔ ((R.has_failed graph.new ≡ true) ⊎ (T.has_failed trace.new ≡ true)) }
     ensures write { IsWrite result ↔ (W.has_failed out.new ≡ true) }
-    ensures ends { IfSome (R.left graph.old) (λ input. IsPatientTask job.now.task input → IsErrOf result ServeFault.TurnLimit → ⊥) }
+    ensures ends { IfSome (R.left graph.old) (λ input. IsBoundedTask job.now.task input → IsErrOf result ServeFault.TurnLimit → ⊥) }
     ensures unwritten { IsUnwritten job.now.task out.old out.new result }
     ensures trace { IsUnread job.now.task trace.old trace.new }
 {
@@ -85,7 +85,7 @@ fn print<R: Source, T: Source, W: Sink, H: Threads + Wait + Eprint + Sync>(
     ensures serves { IfStored job.now.task (T.left trace.old) (λ stored. IfSome (R.left graph.old) (λ input. Serves job.now.task stored input (W.held out.old) (W.held out.new) result)) }
     ensures read { IsErrOf result ServeFault.Read ↔ ((R.has_failed graph.new ≡ true) ⊎ (T.has_failed trace.new ≡ true)) }
     ensures write { IsWrite result ↔ (W.has_failed out.new ≡ true) }
-    ensures ends { IfSome (R.left graph.old) (λ input. IsPatientTask job.now.task input → IsErrOf result ServeFault.TurnLimit → ⊥) }
+    ensures ends { IfSome (R.left graph.old) (λ input. IsBoundedTask job.now.task input → IsErrOf result ServeFault.TurnLimit → ⊥) }
     ensures unwritten { IsUnwritten job.now.task out.old out.new result }
     ensures trace { IsUnread job.now.task trace.old trace.new }
 {

@@ -76,7 +76,8 @@ module _ (g : Network) (v : ℕ) where
   sends_of [] w n h = h
   sends_of (s ∷ ss) w n h = sends_of ss (send g v w s) (sent_on g v s.0 n) (send_of w n s h)
 
-take_of : (v p : ℕ) (m : Message) (ms : List Message) (d : Delta) (w : Net) (n : Newest) → w.queue v p ≡ m ∷ ms → AreOf w n → AreOf (take_first d.fate v p m ms w) n
+take_of : (v p : ℕ) (m : Message) (ms : List Message) (d : Delta) (w : Net) (n : Newest) → w.queue v p ≡ m ∷ ms → AreOf w n →
+    AreOf (take_first d.fate v p m ms w) n
 take_of v p m ms d w n is h = record { numbers = h.numbers; some = some }
   where
     some : (u q : ℕ) → is_waiting ((take_first d.fate v p m ms w).queue u q) ≡ true → 0 < n.last u q

@@ -128,7 +128,8 @@ module _ (s : WorldState) (newest : List ℕ) where
       ∙ ap (ranked_all s newest (far_takes (network s.net) (event_node e) d.sends)) first in
       rw (node, is) (record { low = own.0; high = own.1; left = left own })
     where
-      own_left : (f : Event) → (IsUnranked (network s.net) e before d f × (f ≢ e)) × (Contains (far_takes (network s.net) (event_node e) d.sends) f → ⊥) →
+      own_left : (f : Event) →
+          (IsUnranked (network s.net) e before d f × (f ≢ e)) × (Contains (far_takes (network s.net) (event_node e) d.sends) f → ⊥) →
           IsOwn (event_node e) before d f
       own_left (Wake u) w = w.0.0
       own_left (Take u q) w = ⊎_elim

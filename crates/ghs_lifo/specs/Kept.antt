@@ -16,8 +16,8 @@ use Rattle.ghs_patient.specs.Patience.{moves_on}
 use Rattle.ghs_lifo.specs.Newest.{Newest, sent}
 use Rattle.ghs_lifo.specs.Runs.{newest_in}
 
--- The numbers of messages: where the events of a network stand, how many messages were sent, and at the place of each Take the number of the last one that
--- was sent to its port.
+-- The numbers of messages: where the events of a network stand, how many messages were sent, and at the place of each Take the number of the last one
+-- that was sent to its port.
 pub record NumbersState : Type 0 where
   pub bases : List ℕ
   pub count : ℕ

@@ -15,9 +15,10 @@ use Rattle.ghs_patient.specs.Patience.{patient_events}
 use Rattle.ghs_lifo.specs.Latest.{IsLatest, NoTakeMoves}
 use Rattle.ghs_lifo.specs.Newest.{Newest, newest_of}
 
--- The events by which a trace has grown, and the schedule's state then. Each happened where the run hadn't ended and turns were left: the Take at the port to
--- which a message was sent last, of those whose first message would be consumed, with no word of the schedule; where there was none, what the next word
--- picked, a wake, or the Take of a message to be put back behind which stands one that would be consumed.
+-- The events by which a trace has grown, and the schedule's state then. Each happened where the run hadn't ended and turns were left:
+-- the Take at the port to which a message was sent last, of those whose first message would be consumed, with no word of the schedule;
+-- where there was none, what the next word picked, a wake, or the Take of a message to be put back behind which stands one that would
+-- be consumed.
 pub data IsPickedLast (may : ℕ → Bool) (g : Shape) (turns : ℕ) (trace : List Event) (words : List ℕ) : List Event → List ℕ → Type 0 where
   Begun : IsPickedLast may g turns trace words trace words
   Latest : (es : List Event) (s : List ℕ) (e : Event) → IsPickedLast may g turns trace words es s →
@@ -29,8 +30,8 @@ pub data IsPickedLast (may : ℕ → Bool) (g : Shape) (turns : ℕ) (trace : Li
       NoTakeMoves may (network_of g) (net_after g es) → IsPick (patient_events may (network_of g) (net_after g es)) s e →
       IsPickedLast may g turns trace words (es ++ e ∷ []) (next_of s)
 
--- A world has run on so: graph, wake set and turns stay, nothing is out, each event has used one ticket number, and its trace has grown by such events, by
--- these words of the schedule and no more.
+-- A world has run on so: graph, wake set and turns stay, nothing is out, each event has used one ticket number, and its trace has grown by such
+-- events, by these words of the schedule and no more.
 pub record HasRun (old new : WorldState) (words after : List ℕ) : Type 0 where
   pub graph : new.net.graph ≡ old.net.graph
   pub wake : new.wake ≡ old.wake

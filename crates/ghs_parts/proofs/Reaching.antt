@@ -38,8 +38,8 @@ deed_level : (g : Shape) (done : List Event) (e : Event) (y : Net) → IsAfter (
 deed_level g done e y after = ap (λ (x : Net). (x.node (event_node e)).head.level) (net_after_is g (done ++ e ∷ []) y after)
 
 -- a node has its level from a deed, or had it before
-one_level : (g : Shape) (done : List Event) (e : Event) (w y : Net) (v : ℕ) → IsAfter (network_of g) (done ++ e ∷ []) y → Happens (network_of g) w e y →
-    (y.node v).head.level ≤ max (w.node v).head.level (deed g done e).level
+one_level : (g : Shape) (done : List Event) (e : Event) (w y : Net) (v : ℕ) → IsAfter (network_of g) (done ++ e ∷ []) y →
+    Happens (network_of g) w e y → (y.node v).head.level ≤ max (w.node v).head.level (deed g done e).level
 one_level g done e w y v after happened = ⊎_elim here there (cases_eq v (event_node e))
   where
     here : v ≡ event_node e → (y.node v).head.level ≤ max (w.node v).head.level (deed g done e).level
@@ -50,7 +50,8 @@ one_level g done e w y v after happened = ⊎_elim here there (cases_eq v (event
 
     there : v ≢ event_node e → (y.node v).head.level ≤ max (w.node v).head.level (deed g done e).level
     there ne =
-        let same : (y.node v).head.level ≡ (w.node v).head.level = ap (λ (n : NodeState). n.head.level) (others_stay (network_of g) w y e v happened ne) in
+        let same : (y.node v).head.level ≡ (w.node v).head.level =
+        ap (λ (n : NodeState). n.head.level) (others_stay (network_of g) w y e v happened ne) in
         omega (arith, same)
 
 levels_up : (g : Shape) (done es : List Event) (w x : Net) (v : ℕ) → IsAfter (network_of g) done w → run (network_of g) es w ≡ Some x →

@@ -23,7 +23,8 @@ cond_le false x = omega arith
 
 -- no part has more than all
 pub part_le : (by : By) (p : ℕ) (number : Deed → ℕ) (ds : List Deed) → sum_in by p number ds ≤ sum_by number ds
-part_le by p number ds = sum_by-le-sum_by (λ (d : Deed). cond (part_of by d == p) (number d) 0) number ds (λ d. cond_le (part_of by d == p) (number d))
+part_le by p number ds =
+    sum_by-le-sum_by (λ (d : Deed). cond (part_of by d == p) (number d) 0) number ds (λ d. cond_le (part_of by d == p) (number d))
 
 -- a number that one place has
 hot : (n j x first : ℕ) → first ≤ j → j < first + n → sum_below n (λ i. cond (j == first + i) x 0) ≡ x

@@ -191,7 +191,8 @@ parts_listed by g es ps count are = ext_get_or no_part ps (parts_of by g es) sam
     all i lt =
         part_listed by (deeds g es) (first_of by + i) (get_or ps i no_part) (are i lt)
         ∙ sym
-        (get_or-map-range_with_len (sums_of by (deeds g es)) (first_of by) (count_of by g es) i (first_of by + i) no_part (omega (arith, lt, count)) refl)
+        (get_or-map-range_with_len (sums_of by (deeds g es)) (first_of by) (count_of by g es) i (first_of by + i) no_part
+        (omega (arith, lt, count)) refl)
 
 -- A part has room for an event more: it has no more events than the run,
 pub events_fit : (by : By) (g : Shape) (es : List Event) (parts : List Part) (level i : ℕ) → IsTally by g es parts level → i < length parts →

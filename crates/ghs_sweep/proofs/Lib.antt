@@ -5,5 +5,6 @@ pub mod Opened
 pub mod Appending
 pub mod Lining
 pub mod Measuring
+mod Naming
 mod SummaryExamples
 mod Fixed

@@ -104,7 +104,8 @@ module _ (s : WorldState) where
   pub all_right : (wrong : Event → Type 0) (c : IndexState) → AreMarksBut s wrong c →
       ((f : Event) → HasPlace (network s.net) f → wrong f → ⊥) →
       AreMarks s c
-  all_right wrong c h none = of_but (network s.net) (puts_back (home s)) c (record { index = h.for_all; marks = λ f there k. h.marks f there (none f there) })
+  all_right wrong c h none =
+      of_but (network s.net) (puts_back (home s)) c (record { index = h.for_all; marks = λ f there k. h.marks f there (none f there) })
 
   -- Events one node after another.
 
@@ -171,7 +172,8 @@ module _ (s : WorldState) where
       let wake = own_node e has in
       let is : three ≡ marked_all s (far_takes (network s.net) (event_node e) d.sends) (marked s e (marked s (Wake (event_node e)) c)) =
       third ∙ ap₂ (λ u ss. marked_all s (far_takes (network s.net) u ss) two) node out
-      ∙ ap (marked_all s (far_takes (network s.net) (event_node e) d.sends)) (second ∙ ap (marked s e) (first ∙ ap (λ u. marked s (Wake u) c) node)) in
+      ∙ ap (marked_all s (far_takes (network s.net) (event_node e) d.sends))
+      (second ∙ ap (marked s e) (first ∙ ap (λ u. marked s (Wake u) c) node)) in
       rw (node, is) (record { low = wake.0; high = wake.1; left = left wake })
     where
       own_node : (f : Event) → HasPlace (network s.net) f → (1 ≤ event_node f) × (event_node f ≤ s.net.graph.nodes)
@@ -179,12 +181,16 @@ module _ (s : WorldState) where
       own_node (Take u q) h = (h.some, h.node)
 
       left : (1 ≤ event_node e) × (event_node e ≤ s.net.graph.nodes) →
-          AreMarksBut s (IsOwn (event_node e) before d) (marked_all s (far_takes (network s.net) (event_node e) d.sends) (marked s e (marked s (Wake (event_node e)) c)))
+          AreMarksBut s (IsOwn (event_node e) before d)
+          (marked_all s (far_takes (network s.net) (event_node e) d.sends) (marked s e (marked s (Wake (event_node e)) c)))
       left wake =
           right_wider
-          (λ f. ((IsStirred (network s.net) e before d f × (f ≢ Wake (event_node e))) × (f ≢ e)) × (Contains (far_takes (network s.net) (event_node e) d.sends) f → ⊥))
-          (IsOwn (event_node e) before d) (marked_all s (far_takes (network s.net) (event_node e) d.sends) (marked s e (marked s (Wake (event_node e)) c)))
-          (right_all (λ f. (IsStirred (network s.net) e before d f × (f ≢ Wake (event_node e))) × (f ≢ e)) (far_takes (network s.net) (event_node e) d.sends)
+          (λ f. ((IsStirred (network s.net) e before d f × (f ≢ Wake (event_node e))) × (f ≢ e)) ×
+          (Contains (far_takes (network s.net) (event_node e) d.sends) f → ⊥))
+          (IsOwn (event_node e) before d) (marked_all s (far_takes (network s.net) (event_node e) d.sends)
+          (marked s e (marked s (Wake (event_node e)) c)))
+          (right_all (λ f. (IsStirred (network s.net) e before d f × (f ≢ Wake (event_node e))) × (f ≢ e))
+          (far_takes (network s.net) (event_node e) d.sends)
           (marked s e (marked s (Wake (event_node e)) c))
           (right_marked (λ f. IsStirred (network s.net) e before d f × (f ≢ Wake (event_node e))) e (marked s (Wake (event_node e)) c)
           (right_marked (IsStirred (network s.net) e before d) (Wake (event_node e)) c stirred wake) has)
@@ -210,9 +216,11 @@ module _ (s : WorldState) where
             w.1 (w.0.0, omega (arith, lt, many, same))
 
     -- the one that was marked
-    pub own_one : (m : ℕ × Mark) → are_alike before d.head ≡ true → d.mark ≡ Some m → HasPlace (network s.net) (Take v m.0) → AreMarks s (marked s (Take v m.0) c)
+    pub own_one : (m : ℕ × Mark) → are_alike before d.head ≡ true → d.mark ≡ Some m → HasPlace (network s.net) (Take v m.0) →
+        AreMarks s (marked s (Take v m.0) c)
     own_one m alike is there =
-        all_right (λ f. IsOwn v before d f × (f ≢ Take v m.0)) (marked s (Take v m.0) c) (right_marked (IsOwn v before d) (Take v m.0) c h.left there) none
+        all_right (λ f. IsOwn v before d f × (f ≢ Take v m.0)) (marked s (Take v m.0) c)
+        (right_marked (IsOwn v before d) (Take v m.0) c h.left there) none
       where
         none : (f : Event) → HasPlace (network s.net) f → IsOwn v before d f × (f ≢ Take v m.0) → ⊥
         none (Wake u) has w = w.0

@@ -9,7 +9,8 @@ events-init c = (run_begins c.args.world.now c.recall_all.new.self c.args.schedu
 pub events-preserved : goal.events-preserved
 events-preserved c = (
   run_more c.args.world.now c.events.world c.make_next.new.world c.args.schedule.now c.events.schedule c.make_next.new.schedule c.events.invariant.0
-      (not_so c.ended-in-events.result c.ended-in-events.ensures.ended c.events-test.true) (sym c.has_turn.ensures ∙ c.if-not-has_turn.false) c.in-Ok-make_next.ensures.ok,
+      (not_so c.ended-in-events.result c.ended-in-events.ensures.ended c.events-test.true) (sym c.has_turn.ensures ∙ c.if-not-has_turn.false)
+      c.in-Ok-make_next.ensures.ok,
   c.in-Ok-make_next.ensures.marks,
 )
 
@@ -23,4 +24,5 @@ pub returns-in-Err-make_next-clause-run : goal.returns-in-Err-make_next-clause-r
 returns-in-Err-make_next-clause-run c = rw c.in-Err-make_next.ensures.word (run_stays _ _ _ _ _ c.events.invariant.0 c.in-Err-make_next.ensures.err)
 
 pub returns-in-Err-make_next-clause-going : goal.returns-in-Err-make_next-clause-going
-returns-in-Err-make_next-clause-going c = λ h. (not_so c.ended-in-events.result c.ended-in-events.ensures.ended c.events-test.true) (same_end _ _ c.in-Err-make_next.ensures.err h)
+returns-in-Err-make_next-clause-going c =
+    λ h. (not_so c.ended-in-events.result c.ended-in-events.ensures.ended c.events-test.true) (same_end _ _ c.in-Err-make_next.ensures.err h)

@@ -7,11 +7,14 @@ use Rattle.ghs_waits.proofs.Marking.{all_nodes, none_yet, one_node}
 use Rattle.ghs_waits.proofs.waiting.Waiting.of.Goals as goal
 
 pub loop-v-init : goal.loop-v-init
-loop-v-init c = none_yet c.args.world.now _ (subst (λ (g : Shape). IsFor (network_of g) c.in_ok-none.field-0) c.graph-graph.ensures (is_for _ _ c.in_ok-none.field-0 c.in_ok-none.ensures))
+loop-v-init c =
+    none_yet c.args.world.now _ (subst (λ (g : Shape). IsFor (network_of g) c.in_ok-none.field-0) c.graph-graph.ensures
+    (is_for _ _ c.in_ok-none.field-0 c.in_ok-none.ensures))
 
 pub loop-v-preserved : goal.loop-v-preserved
 loop-v-preserved c =
-    let many : c.nodes-v-end.result ≡ c.args.world.now.net.graph.nodes = c.nodes-v-end.ensures.nodes ∙ ap (λ (g : Shape). g.nodes) c.graph-graph.ensures in
+    let many : c.nodes-v-end.result ≡ c.args.world.now.net.graph.nodes =
+    c.nodes-v-end.ensures.nodes ∙ ap (λ (g : Shape). g.nodes) c.graph-graph.ensures in
     let low : 1 ≤ c.loop-v.v = c.loop-v.auto.v in
     let below = c.loop-v-test.true in
     let high : c.loop-v.v ≤ c.args.world.now.net.graph.nodes = omega arith in
@@ -19,6 +22,7 @@ loop-v-preserved c =
 
 pub returns : goal.returns
 returns c =
-    let many : c.nodes-v-end.result ≡ c.args.world.now.net.graph.nodes = c.nodes-v-end.ensures.nodes ∙ ap (λ (g : Shape). g.nodes) c.graph-graph.ensures in
+    let many : c.nodes-v-end.result ≡ c.args.world.now.net.graph.nodes =
+    c.nodes-v-end.ensures.nodes ∙ ap (λ (g : Shape). g.nodes) c.graph-graph.ensures in
     let end = c.loop-v-test.false in
     all_nodes c.args.world.now c.loop-v.v c.loop-v.waiting (omega arith) c.loop-v.invariant

@@ -1,7 +1,0 @@
-use Rattle.std.proofs.Common.{◌≡◌, ◌++◌, take}
-use Rattle.std.specs.List.{flat_map}
-use Rattle.ghs_sweep.specs.Front.{doubled}
-use Rattle.ghs_sweep.proofs.front.put_doubled.Given as goal
-
-abbrev pub invariant-loop-byte : goal.invariant-loop-byte
-invariant-loop-byte l = l.text.items ≡ l.fn.text.items ++ flat_map doubled (take l.byte-index l.bytes)
