@@ -253,32 +253,25 @@ module _ (up now : List ℕ) (x at above : ℕ) (w : IsClimbing up now x at abov
 
 -- One root leads to another.
 
-relabelled : ℕ → ℕ → ℕ → ℕ
-relabelled from to x = cond (x == from) to x
+moved : ℕ → ℕ → ℕ → ℕ
+moved from to x = cond (x == from) to x
 
-relabelled_from : (from to x : ℕ) → x ≡ from → relabelled from to x ≡ to
-unfolding relabelled
-relabelled_from from to x e = rw (eq-eqb x from e) refl
+moved_from : (from to x : ℕ) → x ≡ from → moved from to x ≡ to
+unfolding moved
+moved_from from to x e = rw (eq-eqb x from e) refl
 
-relabelled_not : (from to x : ℕ) → x ≢ from → relabelled from to x ≡ x
-unfolding relabelled
-relabelled_not from to x ne = rw (ne_eqb x from ne) refl
-
-pub record IsHung (up new : List ℕ) (from to : ℕ) : Type 0 where
-  pub down : LeadDown new
-  pub moves : Moves (roots_of up) (roots_of new) from to
+moved_not : (from to x : ℕ) → x ≢ from → moved from to x ≡ x
+unfolding moved
+moved_not from to x ne = rw (ne_eqb x from ne) refl
 
 pub hung : (up : List ℕ) (from to : ℕ) → LeadDown up → from < length up → to < from → get_or up from 0 ≡ from → get_or up to 0 ≡ to
-    → IsHung up (set up from to) from to
+    → Moves (roots_of up) (roots_of (set up from to)) from to
 hung up from to h lt less ef et = record {
-  down = down;
-  moves = record {
-    same = length-roots_of (set up from to) ∙ length-set up from to ∙ sym (length-roots_of up);
-    moved = λ x xl e. let at = in_up x xl in root x at ∙ relabelled_from from to (root_of up x) (sym (root_at up x at) ∙ e);
-    stay = λ x xl ne.
-        let at = in_up x xl in
-        root x at ∙ relabelled_not from to (root_of up x) (λ e. ne (root_at up x at ∙ e)) ∙ sym (root_at up x at);
-  };
+  same = length-roots_of (set up from to) ∙ length-set up from to ∙ sym (length-roots_of up);
+  moved = λ x xl e. let at = in_up x xl in root x at ∙ moved_from from to (root_of up x) (sym (root_at up x at) ∙ e);
+  stay = λ x xl ne.
+      let at = in_up x xl in
+      root x at ∙ moved_not from to (root_of up x) (λ e. ne (root_at up x at ∙ e)) ∙ sym (root_at up x at);
 }
   where
     down : LeadDown (set up from to)
@@ -287,7 +280,7 @@ hung up from to h lt less ef et = record {
     in_up : (x : ℕ) → x < length (roots_of up) → x < length up
     in_up x xl = let e = length-roots_of up in omega (arith, xl, e)
 
-    kept : IsKept (set up from to) (λ x. relabelled from to (root_of up x))
+    kept : IsKept (set up from to) (λ x. moved from to (root_of up x))
     kept = record {
       ends = λ x xl e. ⊎_elim
           (λ (q : x ≡ from).
@@ -295,22 +288,22 @@ hung up from to h lt less ef et = record {
           absurd (omega (arith, r, less)))
           (λ other.
           let r : root_of up x ≡ x = root_ends up x (sym (get_or-set_other up from x to 0 other) ∙ e) in
-          ap (relabelled from to) r ∙ relabelled_not from to x other)
+          ap (moved from to) r ∙ moved_not from to x other)
           (cases_eq x from);
       steps = λ x xl. ⊎_elim
           (λ (q : x ≡ from).
           rw (q, get_or-set_same up from to 0 lt)
-          (relabelled_from from to (root_of up from) (root_ends up from ef)
-          ∙ sym (relabelled_not from to (root_of up to) (λ e. let t : root_of up to ≡ to = root_ends up to et in omega (arith, e, t, less)) ∙ root_ends up to et)))
-          (λ other. rw (get_or-set_other up from x to 0 other) (ap (relabelled from to) (root_steps up h x)))
+          (moved_from from to (root_of up from) (root_ends up from ef)
+          ∙ sym (moved_not from to (root_of up to) (λ e. let t : root_of up to ≡ to = root_ends up to et in omega (arith, e, t, less)) ∙ root_ends up to et)))
+          (λ other. rw (get_or-set_other up from x to 0 other) (ap (moved from to) (root_steps up h x)))
           (cases_eq x from);
     }
 
-    root : (x : ℕ) → x < length up → get_or (roots_of (set up from to)) x 0 ≡ relabelled from to (root_of up x)
+    root : (x : ℕ) → x < length up → get_or (roots_of (set up from to)) x 0 ≡ moved from to (root_of up x)
     root x at =
         let inside : x < length (set up from to) = let e = length-set up from to in omega (arith, at, e) in
         root_at (set up from to) x inside
-        ∙ sym (one_below (set up from to) down (λ y. relabelled from to (root_of up y)) kept (suc x) x (omega arith) inside)
+        ∙ sym (one_below (set up from to) down (λ y. moved from to (root_of up y)) kept (suc x) x (omega arith) inside)
 
 -- two numbers and their roots
 pub record AreTops (up rs : List ℕ) (u v of_u of_v : ℕ) : Type 0 where
@@ -318,8 +311,8 @@ pub record AreTops (up rs : List ℕ) (u v of_u of_v : ℕ) : Type 0 where
   pub down : LeadDown up
   pub u_in : u < length rs
   pub v_in : v < length rs
-  pub of_u : of_u ≡ get_or rs u 0
-  pub of_v : of_v ≡ get_or rs v 0
+  pub u_is : of_u ≡ get_or rs u 0
+  pub v_is : of_v ≡ get_or rs v 0
 
 module _ (up rs : List ℕ) (u v of_u of_v : ℕ) (w : AreTops up rs u v of_u of_v) where
   top : (x r : ℕ) → x < length rs → r ≡ get_or rs x 0 → IsTop up x r
@@ -329,10 +322,10 @@ module _ (up rs : List ℕ) (u v of_u of_v : ℕ) (w : AreTops up rs u v of_u of
       subst (IsTop up x) is (root_is up w.down x)
 
   u_top : IsTop up u of_u
-  u_top = top u of_u w.u_in w.of_u
+  u_top = top u of_u w.u_in w.u_is
 
   v_top : IsTop up v of_v
-  v_top = top v of_v w.v_in w.of_v
+  v_top = top v of_v w.v_in w.v_is
 
   pub max_inside : (hi : ℕ) → hi ≡ max of_u of_v → hi < length up
   max_inside hi e =
@@ -342,7 +335,7 @@ module _ (up rs : List ℕ) (u v of_u of_v : ℕ) (w : AreTops up rs u v of_u of
       let d = inside_up up rs w.view v w.v_in in
       omega (arith, a, b, c, d, e)
 
-  joined : (hi lo : ℕ) → hi ≡ max of_u of_v → lo ≡ min of_u of_v → of_u ≢ of_v → IsHung up (set up hi lo) hi lo
+  joined : (hi lo : ℕ) → hi ≡ max of_u of_v → lo ≡ min of_u of_v → of_u ≢ of_v → Moves (roots_of up) (roots_of (set up hi lo)) hi lo
   joined hi lo eh el ne = ⊎_elim
       (λ (lt : of_u < of_v).
       let h : hi ≡ of_v = omega (arith, eh, lt) in
@@ -354,11 +347,8 @@ module _ (up rs : List ℕ) (u v of_u of_v : ℕ) (w : AreTops up rs u v of_u of
       rw (h, l) (hung up of_u of_v w.down (rw h at (max_inside hi eh)) (omega (arith, le, ne)) u_top.own v_top.own))
       (cases_lt of_u of_v)
 
-  pub join_down : (hi lo : ℕ) → hi ≡ max of_u of_v → lo ≡ min of_u of_v → of_u ≢ of_v → LeadDown (set up hi lo)
-  join_down hi lo eh el ne = (joined hi lo eh el ne).down
-
   pub join_unites : (hi lo : ℕ) → hi ≡ max of_u of_v → lo ≡ min of_u of_v → of_u ≢ of_v → Unites rs (roots_of (set up hi lo)) u v
-  join_unites hi lo eh el ne = rw (← w.of_u, ← w.of_v, ← eh, ← el, ← w.view) (joined hi lo eh el ne).moves
+  join_unites hi lo eh el ne = rw (← w.u_is, ← w.v_is, ← eh, ← el, ← w.view) (joined hi lo eh el ne)
 
 -- Each number leads to its root at once.
 
