@@ -1,5 +1,5 @@
 -- The rows of the classes are a census.
-use Rattle.std.proofs.Common.{◌≡◌, ℕ, ◌<◌, ◌≤◌, ◌^◌, List, length, get_or, Result, IfOk, refl, sym, ◌∙◌, ap, ⊎_elim, arith, ltb-true}
+use Rattle.std.proofs.Common.{◌≡◌, ℕ, ◌<◌, ◌≤◌, ◌^◌, List, length, get_or, Result, IfOk, refl, sym, ◌∙◌, ap, subst, ⊎_elim, arith, ltb-true}
 use Rattle.std.specs.List.{Contains, filter}
 use Rattle.std.proofs.lemmas.Bool.{cases_lt, lt-ltb}
 use Rattle.std.proofs.lemmas.List.{get_or_default}

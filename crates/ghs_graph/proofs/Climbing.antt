@@ -292,9 +292,10 @@ hung up from to h lt less ef et = record {
           (cases_eq x from);
       steps = λ x xl. ⊎_elim
           (λ (q : x ≡ from).
+          let t : root_of up to ≡ to = root_ends up to et in
           rw (q, get_or-set_same up from to 0 lt)
           (moved_from from to (root_of up from) (root_ends up from ef)
-          ∙ sym (moved_not from to (root_of up to) (λ e. let t : root_of up to ≡ to = root_ends up to et in omega (arith, e, t, less)) ∙ root_ends up to et)))
+          ∙ sym (moved_not from to (root_of up to) (λ e. omega (arith, e, t, less)) ∙ t)))
           (λ other. rw (get_or-set_other up from x to 0 other) (ap (moved from to) (root_steps up h x)))
           (cases_eq x from);
     }

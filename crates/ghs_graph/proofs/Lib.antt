@@ -6,5 +6,5 @@ mod Blocks
 mod Filling
 mod Climbing
 mod Growing
-mod Roots
+mod Pieces
 mod Reading

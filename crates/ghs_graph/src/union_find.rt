@@ -5,10 +5,11 @@ ghost use Rattle.ghs_graph.specs.Classes.{AreLeast, IsFresh, LeadDown, Unites, r
 use std::alloc::{AllocError, Global};
 use std::marker::Model;
 
-/// Each number below a limit has a root, the least number of its class. A number leads to a lesser one of its class, and a
-/// root to itself. A call takes O(log N) steps on the average of many, and few in practice.
+/// The classes of the numbers below a limit. Each class has a root, which is its least number. Calls take O(log N) steps
+/// each on the average, and in practice few.
 #[derive(Debug, Drop)]
 pub struct Roots {
+    // A number leads to a lesser one of its class, and a root to itself.
     up: Vec<u32>,
 }
 
@@ -36,7 +37,7 @@ impl Roots {
         Ok(Roots { up })
     }
 
-    /// The root of a number. The way there is half as long afterwards.
+    /// The root of a number. The way there becomes shorter by it, and that is all that changes.
     pub fn root(&mut self, x: u32) -> u32
         requires { x < length self.old }
         ensures root { result ≡ slice_index self.old x }
@@ -45,7 +46,7 @@ impl Roots {
         climb(&mut self.up, x)
     }
 
-    /// Makes the classes of two numbers one, and says whether they were two.
+    /// Makes the classes of two numbers one, and says whether they were two. The lesser root stays.
     pub fn join(&mut self, u: u32, v: u32) -> bool
         requires u { u < length self.old }
         requires v { v < length self.old }
@@ -72,8 +73,8 @@ impl Roots {
     }
 }
 
-/// The root of a number. On the way each second number takes the place that it led to one step further, by which the
-/// roots stay what they are.
+/// The root of a number. It goes two steps at a time, and lets each number that it comes by lead two steps up from then on: to
+/// the same root.
 fn climb(up: &mut Vec<u32>, x: u32) -> u32
     requires down { LeadDown up.old.items }
     requires x { x < length up.old.items }
@@ -92,7 +93,7 @@ fn climb(up: &mut Vec<u32>, x: u32) -> u32
     at
 }
 
-/// Lets each number lead to its root at once. What it led to is less, and leads there already.
+/// Lets each number lead to its root at once. What it led to is less, so that leads there already.
 fn settle(up: &mut Vec<u32>)
     requires { LeadDown up.old.items }
     ensures { up.new.items ≡ roots_of up.old.items }

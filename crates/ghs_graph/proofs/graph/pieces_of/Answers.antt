@@ -1,6 +1,6 @@
 use Rattle.std.proofs.Common.{◌≤◌, length, arith}
 use Rattle.ghs_graph.specs.Graph.{Shape}
-use Rattle.ghs_graph.proofs.Roots.{forest_fits, pieces_are}
+use Rattle.ghs_graph.proofs.Pieces.{forest_fits, pieces_are}
 use Rattle.ghs_graph.proofs.graph.pieces_of.Goals as goal
 
 pub overflow_cast-count : goal.overflow_cast-count

@@ -1,4 +1,4 @@
-use Rattle.ghs_graph.proofs.Roots.{built}
+use Rattle.ghs_graph.proofs.Pieces.{built}
 use Rattle.ghs_graph.proofs.graph.Graph.of.Goals as goal
 
 pub invariant_of-result : goal.invariant_of-result

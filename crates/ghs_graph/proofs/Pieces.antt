@@ -1,34 +1,13 @@
--- Roots and pieces: what the roots that tell what links join, and the forest, say of a graph.
-use Rattle.std.proofs.Common.{◌≡◌, ℕ, ◌≤◌, ◌<◌, ◌+◌, ◌-◌, List, length, get_or, sym, arith}
+-- Pieces: what the length of the forest says of a graph.
+use Rattle.std.proofs.Common.{◌≡◌, ℕ, ◌≤◌, ◌-◌, List, length, arith}
 use Rattle.ghs_graph.specs.declared.key.Key.{Key}
 use Rattle.ghs_graph.specs.declared.port.Port.{Port}
-use Rattle.ghs_graph.specs.Links.{AreAmong, IsTree}
+use Rattle.ghs_graph.specs.Links.{IsTree}
 use Rattle.ghs_graph.specs.Graph.{Shape, IsGraph}
 use Rattle.ghs_graph.specs.Layout.{AreLaid}
 use Rattle.ghs_graph.specs.Built.{IsBuilt}
-use Rattle.ghs_graph.proofs.lemmas.Joining.{joined_nodes}
 use Rattle.ghs_graph.proofs.lemmas.Components.{forest_has_fewer}
-use Rattle.ghs_graph.specs.Classes.{AreLeast}
-use Rattle.ghs_graph.specs.Spanning.{AreTold}
-use Rattle.ghs_graph.specs.Components.{IsRoot, HasComponents, AreRoots}
-
--- the least number of a node's class is its root
-pub roots_are : (g : Shape) (rs : List ℕ) → AreAmong g.nodes g.keys → length rs ≡ g.nodes + 1 → AreTold rs g.keys → AreLeast rs → AreRoots g rs
-roots_are g rs among count told least = record { places = count; each = λ v low high. root v low high }
-  where
-    root : (v : ℕ) → 1 ≤ v → v ≤ g.nodes → IsRoot g.keys v (get_or rs v 0)
-    root v low high =
-        let v_in : v < length rs = omega (arith, count, high) in
-        let below = least.low v v_in in
-        record {
-          joined = told.joined v (get_or rs v 0) v_in (omega (arith, below, v_in)) (sym (least.own v v_in));
-          least = λ u way.
-              let in_graph : (1 ≤ u) × (u ≤ g.nodes) = joined_nodes g.nodes g.keys among low high way in
-              let u_in : u < length rs = let h = in_graph.1 in omega (arith, count, h) in
-              let same = told.together v u v_in u_in way in
-              let u_low = least.low u u_in in
-              omega (arith, same, u_low);
-        }
+use Rattle.ghs_graph.specs.Components.{HasComponents, AreRoots}
 
 -- by as many the links of the forest are fewer than the nodes
 pub forest_fits : (g : Shape) (tree : List Key) → IsGraph g → IsTree g.keys tree → length tree ≤ g.nodes
