@@ -1,21 +1,21 @@
--- Numbers with one label, one after another.
+-- Numbers with one root, one after another.
 use Rattle.std.proofs.Common.{◌≡◌, ℕ, ◌+◌, ◌<◌, ◌≤◌, List, [], ◌∷◌, ◌++◌, length, get_or, subst, ⊎_elim, arith, length-append}
 use Rattle.std.specs.List.{Contains}
 use Rattle.std.proofs.lemmas.Bool.{cases_lt}
 use Rattle.std.proofs.lemmas.List.{get_or_default, get_or_push, get_or_append_left}
 use Rattle.std.proofs.lemmas.List.Elements.{Contains-append_left, Contains-append_right, Contains-append_cases}
 use Rattle.ghs_graph.proofs.lemmas.Members.{nothing_in, first_in, in_cases}
-use Rattle.ghs_core.specs.Marked.{HaveLabel}
+use Rattle.ghs_core.specs.Marked.{HaveRoot}
 
-pub none_alike : (ls : List ℕ) (label : ℕ) (us : List ℕ) → us ≡ [] → HaveLabel ls 1 label us
+pub none_alike : (ls : List ℕ) (label : ℕ) (us : List ℕ) → us ≡ [] → HaveRoot ls 1 label us
 none_alike ls label us e = rw e (record {
   rising = λ k lt. absurd (omega (arith, lt));
   has = λ u h. absurd (nothing_in u h);
   all = λ u lo hi t. absurd (omega (arith, lo, hi));
 })
 
--- one number more: it has the label, or it hasn't
-pub alike_more : (ls : List ℕ) (u label : ℕ) (us : List ℕ) → 1 ≤ u → get_or ls u 0 ≡ label → HaveLabel ls u label us → HaveLabel ls (u + 1) label (us ++ u ∷ [])
+-- one number more: it has the root, or it hasn't
+pub alike_more : (ls : List ℕ) (u label : ℕ) (us : List ℕ) → 1 ≤ u → get_or ls u 0 ≡ label → HaveRoot ls u label us → HaveRoot ls (u + 1) label (us ++ u ∷ [])
 alike_more ls u label us some t a = record { rising = rising; has = has; all = all }
   where
     below : (k : ℕ) → k < length us → get_or us k 0 < u
@@ -39,7 +39,7 @@ alike_more ls u label us some t a = record { rising = rising; has = has; all = a
         (λ (l : u ≤ x). let e : u ≡ x = omega (arith, l, hi) in Contains-append_right us (u ∷ []) x (rw e (first_in x [])))
         (cases_lt x u)
 
-pub alike_less : (ls : List ℕ) (u label : ℕ) (us : List ℕ) → (get_or ls u 0 ≡ label → ⊥) → HaveLabel ls u label us → HaveLabel ls (u + 1) label us
+pub alike_less : (ls : List ℕ) (u label : ℕ) (us : List ℕ) → (get_or ls u 0 ≡ label → ⊥) → HaveRoot ls u label us → HaveRoot ls (u + 1) label us
 alike_less ls u label us other a = record {
   rising = a.rising;
   has = λ x h. let b = a.has x h in (b.0, omega (arith, b.1), b.2);

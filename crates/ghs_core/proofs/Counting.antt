@@ -10,13 +10,13 @@ use Rattle.ghs_core.specs.declared.census.FragmentRow.{FragmentRow}
 use Rattle.ghs_core.specs.Census.{CountsClass, CountClasses, with_one, no_row}
 use Rattle.ghs_core.proofs.Alike.{none_alike, alike_more, alike_less}
 
-module _ (firsts : List ℕ) (level : ℕ → ℕ) where
+module _ (roots : List ℕ) (level : ℕ → ℕ) where
   -- before any number
-  pub none_counted : (f : ℕ) → CountsClass firsts level 1 f (record { least = f; level = 0; nodes = 0 })
+  pub none_counted : (f : ℕ) → CountsClass roots level 1 f (record { least = f; level = 0; nodes = 0 })
   none_counted f = record {
     least = refl;
     members = [];
-    are = none_alike firsts f [] refl;
+    are = none_alike roots f [] refl;
     has = λ lt. absurd (omega (arith, lt));
     most = λ u h. absurd (nothing_in u h);
     nodes = refl;
@@ -24,11 +24,11 @@ module _ (firsts : List ℕ) (level : ℕ → ℕ) where
   }
 
   -- the next number is of the class
-  pub one_counted : (v f : ℕ) (row : FragmentRow) → 1 ≤ v → get_or firsts v 0 ≡ f → CountsClass firsts level v f row → CountsClass firsts level (v + 1) f (with_one row (level v))
+  pub one_counted : (v f : ℕ) (row : FragmentRow) → 1 ≤ v → get_or roots v 0 ≡ f → CountsClass roots level v f row → CountsClass roots level (v + 1) f (with_one row (level v))
   one_counted v f row low e c = record {
     least = c.least;
     members = c.members ++ v ∷ [];
-    are = alike_more firsts v f c.members low e c.are;
+    are = alike_more roots v f c.members low e c.are;
     has = has;
     most = most;
     nodes = length_push c.members v ∙ ap (λ n. n + 1) c.nodes;
@@ -51,11 +51,11 @@ module _ (firsts : List ℕ) (level : ℕ → ℕ) where
           (Contains-push_cases c.members v u h)
 
   -- the next number isn't
-  pub other_counted : (v f : ℕ) (row : FragmentRow) → (get_or firsts v 0 ≡ f → ⊥) → CountsClass firsts level v f row → CountsClass firsts level (v + 1) f row
+  pub other_counted : (v f : ℕ) (row : FragmentRow) → (get_or roots v 0 ≡ f → ⊥) → CountsClass roots level v f row → CountsClass roots level (v + 1) f row
   other_counted v f row ne c = record {
     least = c.least;
     members = c.members;
-    are = alike_less firsts v f c.members ne c.are;
+    are = alike_less roots v f c.members ne c.are;
     has = c.has;
     most = c.most;
     nodes = c.nodes;
@@ -63,8 +63,8 @@ module _ (firsts : List ℕ) (level : ℕ → ℕ) where
   }
 
   -- all rows
-  pub counted_more : (v f : ℕ) (row : FragmentRow) (rows : List FragmentRow) → 1 ≤ v → get_or firsts v 0 ≡ f → f < length firsts → row ≡ get_or rows f row →
-      CountClasses firsts level v rows → CountClasses firsts level (v + 1) (set rows f (with_one row (level v)))
+  pub counted_more : (v f : ℕ) (row : FragmentRow) (rows : List FragmentRow) → 1 ≤ v → get_or roots v 0 ≡ f → f < length roots → row ≡ get_or rows f row →
+      CountClasses roots level v rows → CountClasses roots level (v + 1) (set rows f (with_one row (level v)))
   counted_more v f row rows low e lt is c = record { places = length-set rows f _ ∙ c.places; each = each }
     where
       inside : f < length rows
@@ -73,7 +73,7 @@ module _ (firsts : List ℕ) (level : ℕ → ℕ) where
       there : row ≡ get_or rows f no_row
       there = is ∙ get_or_default rows f row no_row inside
 
-      each : (k : ℕ) → k < length firsts → CountsClass firsts level (v + 1) k (get_or (set rows f (with_one row (level v))) k no_row)
+      each : (k : ℕ) → k < length roots → CountsClass roots level (v + 1) k (get_or (set rows f (with_one row (level v))) k no_row)
       each k kl = ⊎_elim
           (λ (q : k ≡ f). rw (q, get_or-set_same rows f (with_one row (level v)) no_row inside) (one_counted v f row low e (rw (← there) at (c.each f lt))))
           (λ ne. rw (get_or-set_other rows f k (with_one row (level v)) no_row ne) (other_counted v k (get_or rows k no_row) (λ z. ne (sym z ∙ e)) (c.each k kl)))
@@ -93,5 +93,5 @@ blank_more n rows b = record {
       (cases_eq k n);
 }
 
-pub blank_counted : (firsts : List ℕ) (n : ℕ) (rows : List FragmentRow) → n ≡ length firsts → AreBlank n rows → (level : ℕ → ℕ) → CountClasses firsts level 1 rows
-blank_counted firsts n rows e b level = record { places = b.places ∙ e; each = λ f lt. rw (b.each f (omega (arith, e, lt))) (none_counted firsts level f) }
+pub blank_counted : (roots : List ℕ) (n : ℕ) (rows : List FragmentRow) → n ≡ length roots → AreBlank n rows → (level : ℕ → ℕ) → CountClasses roots level 1 rows
+blank_counted roots n rows e b level = record { places = b.places ∙ e; each = λ f lt. rw (b.each f (omega (arith, e, lt))) (none_counted roots level f) }

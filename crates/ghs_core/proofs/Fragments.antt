@@ -12,9 +12,10 @@ use Rattle.ghs_graph.specs.declared.port.Port.{Port}
 use Rattle.ghs_graph.specs.Graph.{Shape}
 use Rattle.ghs_graph.specs.Key.{key_lt, no_key}
 use Rattle.ghs_graph.specs.Links.{IsRising, AreAmong}
+use Rattle.ghs_graph.specs.Classes.{AreLeast}
 use Rattle.ghs_graph.specs.Spanning.{AreTold}
 use Rattle.ghs_graph.specs.Ports.{ports_of, port_number, no_port}
-use Rattle.ghs_graph.proofs.lemmas.Joining.{joined_within}
+use Rattle.ghs_graph.proofs.lemmas.Joining.{joined_nodes, joined_within}
 use Rattle.ghs_graph.proofs.lemmas.Ports.{OnLink, on_link}
 use Rattle.ghs_node.specs.declared.mark.Mark.TheVariants.{Branch}
 use Rattle.ghs_node.specs.NodeState.{NodeState, mark_at, degree}
@@ -30,7 +31,7 @@ use Rattle.ghs_core.specs.declared.counts.Counts.{Counts}
 use Rattle.ghs_core.specs.declared.marked.Ends.TheVariants.{One, Both}
 use Rattle.ghs_core.specs.declared.halts.Halts.{Halts}
 use Rattle.ghs_core.specs.Kept.{IsKept}
-use Rattle.ghs_core.specs.Marked.{is_wanted, has_branch, HavePorts, AreBranches, IsFragment, HaveLabel, TellFragments}
+use Rattle.ghs_core.specs.Marked.{is_wanted, has_branch, HavePorts, AreBranches, IsFragment, IsRootOf, HaveRoot, TellFragments}
 use Rattle.ghs_core.proofs.Reading.{formed}
 use Rattle.ghs_core.proofs.Sides.{filtered, unfiltered, branch_so, among, branch_from, branch_to, joined_from, joined_to}
 
@@ -103,10 +104,11 @@ module _ {g : Shape} {es : List Event} {nodes : List NodeState} {links : LinksSt
   pub joined_among : AreAmong g.nodes (filter (is_wanted Both g.keys nodes) g.keys)
   joined_among = All-filter (is_wanted Both g.keys nodes) (λ k. (1 ≤ k.a) × (k.a < k.b) × (k.b ≤ g.nodes)) g.keys kept.graph.among
 
-  -- the classes of the joined links tell the fragments
-  pub classes_tell : (ls : List ℕ) → length ls ≡ g.nodes + 1 → AreTold ls (filter (is_wanted Both g.keys nodes) g.keys) → TellFragments net w ls
-  classes_tell ls count told = record {
+  -- the roots over the joined links tell the fragments
+  pub roots_tell : (ls : List ℕ) → length ls ≡ g.nodes + 1 → AreTold ls (filter (is_wanted Both g.keys nodes) g.keys) → AreLeast ls → TellFragments net w ls
+  roots_tell ls count told least = record {
     count = count;
+    root = root;
     told = λ v u vl vh ul uh.
         let v_in : v < length ls = omega (arith, count, vh) in
         let u_in : u < length ls = omega (arith, count, uh) in
@@ -115,9 +117,17 @@ module _ {g : Shape} {es : List Event} {nodes : List NodeState} {links : LinksSt
           λ f. told.together v u v_in u_in (joined_within joined_back (joined.0 f)),
         );
   }
+    where
+      root : (v : ℕ) → 1 ≤ v → v ≤ g.nodes → IsRootOf ls v (get_or ls v 0)
+      root v lo hi =
+          let v_in : v < length ls = omega (arith, count, hi) in
+          let below = least.low v v_in in
+          let own = least.own v v_in in
+          let way = told.joined v (get_or ls v 0) v_in (omega (arith, below, v_in)) (sym own) in
+          record { is = refl; some = (joined_nodes g.nodes (filter (is_wanted Both g.keys nodes) g.keys) joined_among lo hi way).0; low = below; own = own }
 
-  -- the numbers with the label of a node are its fragment
-  pub fragment_is : (ls us : List ℕ) (v : ℕ) → 1 ≤ v → v ≤ g.nodes → TellFragments net w ls → HaveLabel ls (g.nodes + 1) (get_or ls v 0) us → IsFragment net w v us
+  -- the numbers with the root of a node are its fragment
+  pub fragment_is : (ls us : List ℕ) (v : ℕ) → 1 ≤ v → v ≤ g.nodes → TellFragments net w ls → HaveRoot ls (g.nodes + 1) (get_or ls v 0) us → IsFragment net w v us
   fragment_is ls us v lo hi tell alike = record { rising = alike.rising; all = λ u. (there u, back u) }
     where
       there : (u : ℕ) → Contains us u → (1 ≤ u) × (u ≤ g.nodes) × InOneFragment net w v u
@@ -131,6 +141,6 @@ module _ {g : Shape} {es : List Event} {nodes : List NodeState} {links : LinksSt
   branches_told f r h = IfOk-weaker r (λ x. f x ≡ filter (is_wanted One g.keys nodes) g.keys) (λ x. AreBranches net w (f x)) (λ x e. rw e branches_are) h
 
   pub fragment_told : {X E : Type 0} (f : X → List ℕ) (r : Result X E) (ls : List ℕ) (n v : ℕ) → 1 ≤ v → v ≤ g.nodes → n ≡ g.nodes → TellFragments net w ls →
-      IfOk r (λ x. HaveLabel ls (n + 1) (get_or ls v 0) (f x)) → IfOk r (λ x. IsFragment net w v (f x))
+      IfOk r (λ x. HaveRoot ls (n + 1) (get_or ls v 0) (f x)) → IfOk r (λ x. IsFragment net w v (f x))
   fragment_told f r ls n v lo hi e tell h =
-      IfOk-weaker r (λ x. HaveLabel ls (n + 1) (get_or ls v 0) (f x)) (λ x. IsFragment net w v (f x)) (λ x a. fragment_is ls (f x) v lo hi tell (rw e at a)) h
+      IfOk-weaker r (λ x. HaveRoot ls (n + 1) (get_or ls v 0) (f x)) (λ x. IsFragment net w v (f x)) (λ x a. fragment_is ls (f x) v lo hi tell (rw e at a)) h

@@ -6,7 +6,7 @@ use Rattle.ghs_protocol.specs.Network.{Network}
 use Rattle.ghs_protocol.specs.Net.{Net}
 use Rattle.ghs_protocol.specs.Marks.{InOneFragment}
 use Rattle.ghs_core.specs.declared.census.FragmentRow.{FragmentRow}
-use Rattle.ghs_core.specs.Marked.{IsFragment, HaveLabel, node_in}
+use Rattle.ghs_core.specs.Marked.{IsFragment, HaveRoot, node_in}
 
 -- one of some nodes has this level, and none of them has a greater one
 pub record IsGreatestLevel (w : Net) (us : List ℕ) (level : ℕ) : Type 0 where
@@ -31,7 +31,7 @@ pub record IsCensus (g : Network) (w : Net) (rows : List FragmentRow) : Type 0 w
 abbrev pub AreLarge : List FragmentRow → Type 0
 AreLarge rows = All (λ r. 2 ^ r.level ≤ r.nodes) rows
 
--- How it is found: each number has the first one of its class, and at the place of the first is the row of the class.
+-- How it is found: each number has a root, and at the root's place is the row of its class.
 
 abbrev pub level_in : List NodeState → ℕ → ℕ
 level_in nodes v = (node_in nodes v).head.level
@@ -44,32 +44,32 @@ with_one r level = record { least = r.least; level = max r.level level; nodes = 
 abbrev pub no_row : FragmentRow
 no_row = record { least = 0; level = 0; nodes = 0 }
 
--- the row of the numbers below a limit whose first is f
-pub record CountsClass (firsts : List ℕ) (level : ℕ → ℕ) (limit f : ℕ) (row : FragmentRow) : Type 0 where
-  pub least : row.least ≡ f
+-- the row of the numbers below a limit whose root is r
+pub record CountsClass (roots : List ℕ) (level : ℕ → ℕ) (limit r : ℕ) (row : FragmentRow) : Type 0 where
+  pub least : row.least ≡ r
   pub members : List ℕ
-  pub are : HaveLabel firsts limit f members
+  pub are : HaveRoot roots limit r members
   pub has : 0 < row.level → (u : ℕ) × Contains members u × (level u ≡ row.level)
   pub most : (u : ℕ) → Contains members u → level u ≤ row.level
   pub nodes : length members ≡ row.nodes
   pub few : row.nodes < limit
 
--- at each place is the row of the numbers below a limit whose first stands there
-pub record CountClasses (firsts : List ℕ) (level : ℕ → ℕ) (limit : ℕ) (rows : List FragmentRow) : Type 0 where
-  pub places : length rows ≡ length firsts
-  pub each : (f : ℕ) → f < length firsts → CountsClass firsts level limit f (slice_index_or rows f no_row)
+-- at each place is the row of the numbers below a limit whose root it is
+pub record CountClasses (roots : List ℕ) (level : ℕ → ℕ) (limit : ℕ) (rows : List FragmentRow) : Type 0 where
+  pub places : length rows ≡ length roots
+  pub each : (r : ℕ) → r < length roots → CountsClass roots level limit r (slice_index_or rows r no_row)
 
 abbrev pub has_nodes : FragmentRow → Bool
 has_nodes r = nat_lt 0 r.nodes
 
 -- the rows of all classes
-pub record AreCounted (firsts : List ℕ) (level : ℕ → ℕ) (rows : List FragmentRow) : Type 0 where
+pub record AreCounted (roots : List ℕ) (level : ℕ → ℕ) (rows : List FragmentRow) : Type 0 where
   pub places : List FragmentRow
-  pub counted : CountClasses firsts level (length firsts) places
+  pub counted : CountClasses roots level (length roots) places
   pub kept : rows ≡ filter has_nodes places
 
--- each node has a first one, which is a node
-pub record HaveFirsts (firsts : List ℕ) (nodes : List NodeState) : Type 0 where
-  pub places : length firsts ≡ length nodes + 1
+-- each node has a root, which is a node
+pub record HaveRoots (roots : List ℕ) (nodes : List NodeState) : Type 0 where
+  pub places : length roots ≡ length nodes + 1
   pub few : length nodes ≤ 1048576
-  pub within : (v : ℕ) → 1 ≤ v → v ≤ length nodes → slice_index firsts v ≤ length nodes
+  pub within : (v : ℕ) → 1 ≤ v → v ≤ length nodes → slice_index roots v ≤ length nodes

@@ -50,16 +50,24 @@ pub record IsFragment (g : Network) (w : Net) (v : ℕ) (us : List ℕ) : Type 0
   pub rising : IsStrictlyIncreasing us
   pub all : (u : ℕ) → Contains us u ↔ IsInFragment g w v u
 
--- nodes have the same label exactly where they lie in one fragment
-pub record TellFragments (g : Network) (w : Net) (ls : List ℕ) : Type 0 where
-  pub count : length ls ≡ g.count + 1
-  pub told : (v u : ℕ) → 1 ≤ v → v ≤ g.count → 1 ≤ u → u ≤ g.count → (AreTogether ls v u ↔ InOneFragment g w v u)
+-- r is the root of node v: a node no greater, and its own root
+pub record IsRootOf (rs : List ℕ) (v r : ℕ) : Type 0 where
+  pub is : slice_index rs v ≡ r
+  pub some : 1 ≤ r
+  pub low : r ≤ v
+  pub own : slice_index rs r ≡ r
 
--- of the numbers from 1 to below a limit those that have this label, rising
-pub record HaveLabel (ls : List ℕ) (limit label : ℕ) (us : List ℕ) : Type 0 where
+-- nodes have the same root exactly where they lie in one fragment
+pub record TellFragments (g : Network) (w : Net) (rs : List ℕ) : Type 0 where
+  pub count : length rs ≡ g.count + 1
+  pub told : (v u : ℕ) → 1 ≤ v → v ≤ g.count → 1 ≤ u → u ≤ g.count → (AreTogether rs v u ↔ InOneFragment g w v u)
+  pub root : (v : ℕ) → 1 ≤ v → v ≤ g.count → IsRootOf rs v (slice_index rs v)
+
+-- of the numbers from 1 to below a limit those that have this root, rising
+pub record HaveRoot (rs : List ℕ) (limit root : ℕ) (us : List ℕ) : Type 0 where
   pub rising : IsStrictlyIncreasing us
-  pub has : (u : ℕ) → Contains us u → (1 ≤ u) × (u < limit) × (slice_index ls u ≡ label)
-  pub all : (u : ℕ) → 1 ≤ u → u < limit → slice_index ls u ≡ label → Contains us u
+  pub has : (u : ℕ) → Contains us u → (1 ≤ u) × (u < limit) × (slice_index rs u ≡ root)
+  pub all : (u : ℕ) → 1 ≤ u → u < limit → slice_index rs u ≡ root → Contains us u
 
 -- each key is that of a link of the minimum spanning tree
 abbrev pub AreInTree : List Key → List Key → Type 0

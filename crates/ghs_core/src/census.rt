@@ -1,6 +1,6 @@
 //! The fragments of a net, counted.
 ghost use Rattle.std.specs.Prelude.{◌≡◌, ℕ, ◌+◌, ◌<◌, ◌^◌, filter, length, IfOk};
-ghost use Rattle.ghs_core.specs.Census.{AreCounted, CountClasses, HaveFirsts, has_nodes, level_in, with_one};
+ghost use Rattle.ghs_core.specs.Census.{AreCounted, CountClasses, HaveRoots, has_nodes, level_in, with_one};
 
 use ghs_node::node::Node;
 use std::alloc::{AllocError, Global};
@@ -27,31 +27,31 @@ impl FragmentRow {
     }
 }
 
-/// The rows of all classes of nodes, by the first node of each.
+/// The rows of all classes of nodes, by the root of each.
 pub fn count_classes(
     alloc: Global,
-    firsts: &[u32],
+    roots: &[u32],
     nodes: &[Node],
 ) -> Result<Vec<FragmentRow>, AllocError>
-    requires { HaveFirsts firsts.now nodes.now }
-    ensures { IfOk result (λ rows. AreCounted firsts.now (level_in nodes.now) rows.items) }
+    requires { HaveRoots roots.now nodes.now }
+    ensures { IfOk result (λ rows. AreCounted roots.now (level_in nodes.now) rows.items) }
 {
-    let mut rows = no_nodes(alloc, firsts)?;
-    for v in 1..firsts.len() {
-        let first = firsts[v] as usize;
-        rows[first].add(nodes[v - 1].head().level.get());
+    let mut rows = no_nodes(alloc, roots)?;
+    for v in 1..roots.len() {
+        let root = roots[v] as usize;
+        rows[root].add(nodes[v - 1].head().level.get());
     }
     keep_counted(&mut rows);
     Ok(rows)
 }
 
 // A row without nodes at each place.
-fn no_nodes(alloc: Global, firsts: &[u32]) -> Result<Vec<FragmentRow>, AllocError>
-    requires { length firsts.now < 2 ^ 32 }
-    ensures { IfOk result (λ rows. (level : ℕ → ℕ) → CountClasses firsts.now level 1 rows.items) }
+fn no_nodes(alloc: Global, roots: &[u32]) -> Result<Vec<FragmentRow>, AllocError>
+    requires { length roots.now < 2 ^ 32 }
+    ensures { IfOk result (λ rows. (level : ℕ → ℕ) → CountClasses roots.now level 1 rows.items) }
 {
-    let mut rows = Vec::with_capacity(alloc, firsts.len())?;
-    for least in 0..firsts.len() as u32 {
+    let mut rows = Vec::with_capacity(alloc, roots.len())?;
+    for least in 0..roots.len() as u32 {
         rows.push(FragmentRow {
             least,
             level: 0,

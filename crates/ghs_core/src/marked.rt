@@ -1,9 +1,8 @@
 //! Links that are marked Branch.
 ghost use Rattle.std.specs.Prelude.{◌≡◌, ◌+◌, ◌≤◌, ◌++◌, ◌∷◌, [], length, slice_index, filter, if◌then◌else◌, IfOk};
 ghost use Rattle.ghs_node.specs.Words.{is_branch};
-ghost use Rattle.ghs_core.specs.Marked.{are_wanted, is_wanted, HavePorts, HaveLabel};
+ghost use Rattle.ghs_core.specs.Marked.{are_wanted, is_wanted, HavePorts, HaveRoot};
 
-use ghs_graph::classes::Classes;
 use ghs_graph::graph::Graph;
 use ghs_graph::key::Key;
 use ghs_node::mark::Mark;
@@ -42,22 +41,22 @@ pub fn branch_links(
     Ok(links)
 }
 
-/// Of the numbers from 1 to `count` those in the class of `v`, rising.
+/// Of the numbers from 1 to `count` those that have the root of `v`, rising.
 #[tactic(auto, using(crate::proofs::Alike::none_alike, crate::proofs::Alike::alike_more, crate::proofs::Alike::alike_less))]
 pub fn numbers_alike(
     alloc: Global,
-    classes: &Classes,
+    roots: &[u32],
     count: u32,
     v: u32,
 ) -> Result<Vec<u32>, AllocError>
-    requires classes { length classes.now ≡ count + 1 }
+    requires roots { length roots.now ≡ count + 1 }
     requires few { count ≤ 1048576 }
     requires high { v ≤ count }
-    ensures { IfOk result (λ us. HaveLabel classes.now (count + 1) (slice_index classes.now v) us.items) }
+    ensures { IfOk result (λ us. HaveRoot roots.now (count + 1) (slice_index roots.now v) us.items) }
 {
     let mut numbers = Vec::new(alloc);
     for u in 1..count + 1 {
-        if classes.label(v) == classes.label(u) {
+        if roots[v as usize] == roots[u as usize] {
             numbers.push(u)?;
         }
     }

@@ -26,7 +26,6 @@ use crate::ledger::Ledger;
 use crate::marked::{Ends, branch_links, numbers_alike};
 use crate::parts::open_parts;
 use crate::waits::waits;
-use ghs_graph::classes::Classes;
 use ghs_graph::graph::Graph;
 use ghs_graph::key::Key;
 use ghs_graph::spanning::span;
@@ -242,8 +241,8 @@ impl Net {
         requires high { v ≤ self.now.graph.nodes }
         ensures { IfOk result (λ us. IsFragment (network self.now) (net_of self.now) v us.items) }
     {
-        let classes = self.fragment_classes(alloc)?;
-        numbers_alike(alloc, &classes, self.graph.nodes(), v)
+        let roots = self.fragment_roots(alloc)?;
+        numbers_alike(alloc, &roots, self.graph.nodes(), v)
     }
 
     /// Each fragment once, in the order of their least nodes: its least node, the greatest level of its nodes, and how many
@@ -252,18 +251,17 @@ impl Net {
         ensures census { IfOk result (λ rows. IsCensus (network self.now) (net_of self.now) rows.items) }
         ensures large { IfOk result (λ rows. AreLarge rows.items) }
     {
-        let classes = self.fragment_classes(alloc)?;
-        let firsts = classes.firsts(alloc)?;
-        count_classes(alloc, &firsts.numbers, &self.nodes)
+        let roots = self.fragment_roots(alloc)?;
+        count_classes(alloc, &roots, &self.nodes)
     }
 
-    // The nodes in classes, one for each fragment.
-    fn fragment_classes(&self, alloc: Global) -> Result<Classes, AllocError>
-        ensures { IfOk result (λ c. TellFragments (network self.now) (net_of self.now) c) }
+    // The root of each node, at the node's number: the least node of its fragment.
+    fn fragment_roots(&self, alloc: Global) -> Result<Vec<u32>, AllocError>
+        ensures { IfOk result (λ rs. TellFragments (network self.now) (net_of self.now) rs.items) }
     {
         let joined = branch_links(alloc, &self.graph, &self.nodes, Ends::Both)?;
         let spanning = span(alloc, self.graph.nodes(), &joined)?;
-        Ok(spanning.classes)
+        Ok(spanning.roots.settled())
     }
 
     /// Whether both are nets of one graph on which the same events were played, whatever room they have.

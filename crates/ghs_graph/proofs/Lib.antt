@@ -4,8 +4,7 @@ mod Examples
 mod Rising
 mod Blocks
 mod Filling
-mod Chains
-mod Firsts
+mod Climbing
 mod Growing
-mod Roots
+mod Pieces
 mod Reading

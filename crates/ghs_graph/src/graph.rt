@@ -3,7 +3,7 @@ ghost use Rattle.std.specs.Prelude.{◌≡◌, ◌↔◌, ◌≤◌, length, map
 ghost use Rattle.ghs_graph.specs.Key.{key_of};
 ghost use Rattle.ghs_graph.specs.Ports.{ports_of};
 ghost use Rattle.ghs_graph.specs.Graph.{IsGraph};
-ghost use Rattle.ghs_graph.specs.Components.{IsRoot, HasComponents};
+ghost use Rattle.ghs_graph.specs.Components.{AreRoots, IsRoot, HasComponents};
 
 use crate::graph_fault::GraphFault;
 use crate::key::Key;
@@ -39,7 +39,7 @@ impl Model for Graph {
 }
 
 impl Graph {
-    /// The graph with these nodes and keys. It takes O(N log N + E) steps.
+    /// The graph with these nodes and keys. It takes O((N + E) log N) steps.
     pub fn build(alloc: Global, raw: RawGraph) -> Result<Graph, (RawGraph, GraphFault)>
         ensures nodes { IfOk result (λ g. g.nodes ≡ raw.nodes) }
         ensures keys { IfOk result (λ g. g.keys ≡ map key_of raw.keys) }
@@ -57,14 +57,14 @@ impl Graph {
     {
         let nodes = raw.nodes();
         let keys = keys_of(alloc, raw)?;
-        let firsts = span(alloc, nodes, &keys)?.classes.firsts(alloc)?;
+        let pieces = pieces_of(alloc, nodes, &keys)?;
         let layout = lay(alloc, nodes, &keys)?;
         Ok(Graph {
             nodes,
             keys,
             layout,
-            roots: firsts.numbers,
-            components: firsts.classes,
+            roots: pieces.roots,
+            components: pieces.count,
         })
     }
 
@@ -139,4 +139,25 @@ impl Graph {
     {
         self.nodes == other.nodes && self.keys.as_slice() == other.keys.as_slice()
     }
+}
+
+/// What a graph falls into: the root of each node, at the node's number, and how many pieces there are.
+#[derive(Debug, Drop)]
+struct Pieces {
+    roots: Vec<u32>,
+    count: u32,
+}
+
+/// Each piece's links of the forest are one less than its nodes, so there are as many pieces as all of them are less.
+fn pieces_of(alloc: Global, nodes: u32, keys: &[Key]) -> Result<Pieces, AllocError>
+    requires { IsGraph (record { nodes = nodes; keys = keys.now }) }
+    ensures roots { IfOk result (λ p. AreRoots (record { nodes = nodes; keys = keys.now }) p.roots.items) }
+    ensures count { IfOk result (λ p. HasComponents (record { nodes = nodes; keys = keys.now }) p.count) }
+{
+    let spanning = span(alloc, nodes, keys)?;
+    let count = nodes - spanning.tree.len() as u32;
+    Ok(Pieces {
+        roots: spanning.roots.settled(),
+        count,
+    })
 }

@@ -2,7 +2,6 @@
 #![tactic(auto)]
 
 pub mod bounds;
-pub mod classes;
 pub mod graph;
 pub mod graph_fault;
 pub mod key;
@@ -12,3 +11,4 @@ pub mod port;
 pub mod spanning;
 pub mod tree;
 mod triples;
+pub mod union_find;

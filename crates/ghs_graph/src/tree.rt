@@ -1,4 +1,4 @@
-//! The minimum spanning forest, by relabelling of classes.
+//! The minimum spanning forest, by Kruskal's algorithm: the links in key order, each taken that joins two classes.
 ghost use Rattle.std.specs.Prelude.{map, IfOk};
 ghost use Rattle.ghs_graph.specs.Key.{key_of};
 ghost use Rattle.ghs_graph.specs.Links.{IsTree};
@@ -10,7 +10,7 @@ use ghs_gr::raw_graph::RawGraph;
 use std::alloc::{AllocError, Global};
 
 /// The links of the minimum spanning forest, in key order: a tree, where the graph is connected. It takes
-/// O(N log N + E) steps.
+/// O((N + E) log N) steps.
 pub fn tree_slow(alloc: Global, graph: &Graph) -> Result<Vec<Key>, AllocError>
     ensures { IfOk result (λ t. IsTree graph.now.keys t.items) }
 {

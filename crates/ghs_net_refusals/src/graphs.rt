@@ -5,11 +5,11 @@ use ghs_gr::fault::GrFault;
 use ghs_gr::judgement::{judge, read_gr};
 use ghs_gr::raw_graph::RawGraph;
 use ghs_gr::text::{TextFault, read_text};
-use ghs_graph::classes::Classes;
 use ghs_graph::graph::Graph;
 use ghs_graph::graph_fault::GraphFault;
 use ghs_graph::spanning::span_raw;
 use ghs_graph::tree::{tree_of, tree_slow};
+use ghs_graph::union_find::Roots;
 use ghs_index::index::Index;
 use ghs_links::links::Links;
 use ghs_refusing::orders::{Turn, order, refuse, turn_of};
@@ -79,8 +79,7 @@ enum Made {
     Spanning,
     Tree,
     SlowTree,
-    Classes,
-    Firsts,
+    Roots,
     Flags,
     Links,
     Index,
@@ -89,7 +88,6 @@ enum Made {
 fn make(rt: &impl Abort, alloc: Global, made: Made, k: usize) -> Turn {
     let raw = raw_five(rt, alloc);
     let graph = five(alloc).expect(rt, "a graph");
-    let classes = Classes::fresh(alloc, 6).expect(rt, "memory");
     order(alloc, k);
     let turn = match made {
         Made::Raw => turn_of(alloc, k, &judge(alloc, FIVE.as_bytes())),
@@ -97,8 +95,7 @@ fn make(rt: &impl Abort, alloc: Global, made: Made, k: usize) -> Turn {
         Made::Spanning => turn_of(alloc, k, &span_raw(alloc, &raw)),
         Made::Tree => turn_of(alloc, k, &tree_of(alloc, &raw)),
         Made::SlowTree => turn_of(alloc, k, &tree_slow(alloc, &graph)),
-        Made::Classes => turn_of(alloc, k, &Classes::fresh(alloc, 6)),
-        Made::Firsts => turn_of(alloc, k, &classes.firsts(alloc)),
+        Made::Roots => turn_of(alloc, k, &Roots::fresh(alloc, 6)),
         Made::Flags => turn_of(alloc, k, &Flags::lowered(alloc, 1000)),
         Made::Links => turn_of(alloc, k, &Links::new(alloc, &graph)),
         Made::Index => turn_of(alloc, k, &Index::none(alloc, &graph)),
@@ -124,8 +121,7 @@ fn what_is_made_of_graphs(host: HostRuntime) -> Result<(), Fail> {
         ("span_raw", Made::Spanning),
         ("tree_of", Made::Tree),
         ("tree_slow", Made::SlowTree),
-        ("Classes::fresh", Made::Classes),
-        ("Classes::firsts", Made::Firsts),
+        ("Roots::fresh", Made::Roots),
         ("Flags::lowered", Made::Flags),
         ("Links::new", Made::Links),
         ("Index::none", Made::Index),

@@ -4,5 +4,5 @@ use Rattle.ghs_core.proofs.census.no_nodes.Goals as goal
 
 pub returns : goal.returns
 returns c =
-    let last : c.loop-least.least ≡ length c.args.firsts.now = omega arith in
-    blank_counted c.args.firsts.now c.loop-least.least c.loop-least.rows.items last c.loop-least.invariant
+    let last : c.loop-least.least ≡ length c.args.roots.now = omega arith in
+    blank_counted c.args.roots.now c.loop-least.least c.loop-least.rows.items last c.loop-least.invariant

@@ -1,12 +1,14 @@
-use Rattle.std.proofs.Common.{◌≡◌, ◌+◌, sym, ◌∙◌, arith}
+use Rattle.std.proofs.Common.{◌≡◌, ◌+◌, sym, arith}
 use Rattle.ghs_core.proofs.Alike.{alike_more, alike_less}
 use Rattle.ghs_core.proofs.marked.numbers_alike.Goals as goal
-use Rattle.ghs_core.proofs.marked.numbers_alike.Goals.{then-label+in_ok-push, else-label}
+use Rattle.ghs_core.proofs.marked.numbers_alike.Goals.{then-roots-v+in_ok-push, else-roots-v}
 
 pub loop-u-preserved : goal.loop-u-preserved
-loop-u-preserved c = elim c.if-label.branch [
-  | then-label+in_ok-push w ↦ rw (w.numbers-is, w.in_ok-push.ensures.items) (alike_more c.args.classes.now c.loop-u.u _ c.loop-u.numbers.items c.loop-u.auto.u (sym c.label-in-loop-u.ensures ∙ sym w.if-label.true ∙ c.label.ensures) c.loop-u.invariant)
-  | else-label w ↦ rw w.numbers-is (alike_less c.args.classes.now c.loop-u.u _ c.loop-u.numbers.items (λ e. w.if-label.false (c.label.ensures ∙ sym e ∙ sym c.label-in-loop-u.ensures)) c.loop-u.invariant)
+loop-u-preserved c = elim c.if-roots-v.branch [
+  | then-roots-v+in_ok-push w ↦ rw (w.numbers-is, w.in_ok-push.ensures.items)
+      (alike_more c.args.roots.now c.loop-u.u _ c.loop-u.numbers.items c.loop-u.auto.u (sym w.if-roots-v.true) c.loop-u.invariant)
+  | else-roots-v w ↦ rw w.numbers-is
+      (alike_less c.args.roots.now c.loop-u.u _ c.loop-u.numbers.items (λ e. w.if-roots-v.false (sym e)) c.loop-u.invariant)
 ]
 
 pub returns : goal.returns

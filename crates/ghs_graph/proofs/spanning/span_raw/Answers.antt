@@ -15,7 +15,7 @@ loop-triple-preserved c =
     let long : i < length (map key_of ts) = omega (arith, length-map ts key_of, c.loop-triple-test.true) in
     let key : c.key_of.result ≡ get_or (map key_of ts) i no_key = c.key_of.ensures ∙ sym
     (get_or-map key_of ts i no_triple no_key c.loop-triple-test.true) in
-    spanned_more c.args.raw.now.nodes (map key_of ts) i c.key_of.result c.loop-triple.spanning.classes c.take.new.self.classes
+    spanned_more c.args.raw.now.nodes (map key_of ts) i c.key_of.result c.loop-triple.spanning.roots c.take.new.self.roots
     c.loop-triple.spanning.tree.items c.take.new.self.tree.items
     (rw c.keys-keys.ensures.keys (graph_of c.args.raw.now.nodes c.args.raw.now.keys c.keys-keys.ensures.graph).rising) long key
     (λ js. c.in_ok-take.ensures c.args.raw.now.nodes js) c.loop-triple.invariant
@@ -23,7 +23,7 @@ loop-triple-preserved c =
 pub returns : goal.returns
 returns c =
     let ts : List Triple = c.keys-keys.result.now in
-    subst (λ (ks : List Key). IsSpanned c.args.raw.now.nodes ks c.loop-triple.spanning.classes c.loop-triple.spanning.tree.items)
+    subst (λ (ks : List Key). IsSpanned c.args.raw.now.nodes ks c.loop-triple.spanning.roots c.loop-triple.spanning.tree.items)
     (take_all c.loop-triple.triple-index (map key_of ts) (omega (arith, length-map ts key_of, c.loop-triple-test.false))
     ∙ ap (map key_of) c.keys-keys.ensures.keys)
     c.loop-triple.invariant

@@ -1,6 +1,6 @@
-use Rattle.std.proofs.Common.{◌+◌, ◌∙◌, ap, ℕ}
-use Rattle.ghs_core.proofs.Fragments.{have_ports, joined_rising, joined_among, classes_tell}
-use Rattle.ghs_core.proofs.net.Net.fragment_classes.Goals as goal
+use Rattle.std.proofs.Common.{◌+◌, ◌∙◌, ap, length, ℕ, List}
+use Rattle.ghs_core.proofs.Fragments.{have_ports, joined_rising, joined_among, roots_tell}
+use Rattle.ghs_core.proofs.net.Net.fragment_roots.Goals as goal
 
 pub branch_links-requires : goal.branch_links-requires
 branch_links-requires c = rw c.deref.ensures.value (have_ports c.self.invariant)
@@ -19,4 +19,6 @@ pub returns : goal.returns
 returns c =
     let joined = c.deref-2.ensures.value ∙ rw c.deref.ensures.value at c.in_ok-joined.ensures in
     let told = rw joined at c.in_ok-spanning.ensures.told in
-    rw (← c.self.view_is) (classes_tell c.self.invariant c.in_ok-spanning.spanning.classes (c.in_ok-spanning.ensures.count ∙ ap (λ (n : ℕ). n + 1) c.nodes.ensures.nodes) told)
+    let count = ap (λ (rs : List ℕ). length rs) c.settled.ensures.roots ∙ c.in_ok-spanning.ensures.count ∙ ap (λ (n : ℕ). n + 1) c.nodes.ensures.nodes in
+    rw (← c.self.view_is)
+    (roots_tell c.self.invariant c.settled.result.items count (rw (← c.settled.ensures.roots) at told) (rw (← c.settled.ensures.roots) at c.settled.ensures.least))

@@ -1,5 +1,0 @@
-use Rattle.std.proofs.Common.{◌≡◌, ℕ, ◌<◌, length, get_or}
-use Rattle.ghs_graph.proofs.classes.Classes.fresh.Given as goal
-
-abbrev pub invariant-loop-x : goal.invariant-loop-x
-invariant-loop-x l = record { count : length l.labels.items ≡ l.x; alone : (v : ℕ) → v < l.x → get_or l.labels.items v 0 ≡ v }
