@@ -40,6 +40,14 @@ impl Model for Graph {
 
 impl Graph {
     /// The graph with these nodes and keys. It takes O((N + E) log N) steps.
+    ///
+    /// ```text
+    /// let raw = judge(alloc, b"p sp 3 2\na 1 2 7\na 3 2 1")?;
+    /// let graph = match Graph::build(alloc, raw) {
+    ///     Ok(graph) => graph,                       // graph.links() is 2
+    ///     Err((raw, fault)) => return Err(fault),   // want of memory; what was given comes back
+    /// };
+    /// ```
     pub fn build(alloc: Global, raw: RawGraph) -> Result<Graph, (RawGraph, GraphFault)>
         ensures nodes { IfOk result (λ g. g.nodes ≡ raw.nodes) }
         ensures keys { IfOk result (λ g. g.keys ≡ map key_of raw.keys) }

@@ -18,6 +18,12 @@ pub fn tree_slow(alloc: Global, graph: &Graph) -> Result<Vec<Key>, AllocError>
 }
 
 /// The same of the graph of a text, for a caller that wants no ports.
+///
+/// ```text
+/// let raw = judge(alloc, b"p sp 3 3\na 1 2 7\na 2 3 1\na 1 3 9")?;
+/// let tree = tree_of(alloc, &raw)?;
+/// // two links of the three: 2 and 3 of weight 1, and 1 and 2 of weight 7
+/// ```
 pub fn tree_of(alloc: Global, raw: &RawGraph) -> Result<Vec<Key>, AllocError>
     ensures { IfOk result (λ t. IsTree (map key_of raw.now.keys) t.items) }
 {

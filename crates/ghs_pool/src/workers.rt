@@ -30,6 +30,12 @@ use std::thread::Threads;
 ///
 /// The ends in their order: NoThread where a thread couldn't be started, be it for want of memory; Halted where the run
 /// has ended; TurnLimit; and then Memory, or nothing that has a name.
+///
+/// ```text
+/// let world = World::open(alloc, graph, WakeSet::All, 1 << 40)?;
+/// let (world, end) = run_workers(rt, alloc, world, 4, &OpenGate);
+/// // where end is Ok, world.ended(): its Branch links are the forest, whatever the threads came to first
+/// ```
 pub fn run_workers<G: Gate + Sync, R: Threads + Wait + Sync>(
     rt: &R,
     alloc: Global,

@@ -100,19 +100,24 @@ fn patient(rt: &impl Abort, alloc: Global, k: usize) -> Turn {
     turn
 }
 
-/// The run that a seed picks of an opening, with the k-th allocation refused.
-fn go_by_seed(rt: &impl Abort, alloc: Global, k: usize) -> (World, Turn, Option<RunFault>) {
+/// The run that a seed's schedule picks of an opening, with the k-th allocation refused.
+fn go_by_seed(
+    rt: &impl Abort,
+    alloc: Global,
+    picking: Picking,
+    k: usize,
+) -> (World, Turn, Option<RunFault>) {
     let graph = five(alloc).expect(rt, "a graph");
     let world = World::open(alloc, graph, WakeSet::All, EVENT_LIMIT).ok();
     let mut world = world.expect(rt, "a world");
     order(alloc, k);
-    let answer = run_by_seed(alloc, &mut world, Picking::Patient, 7);
+    let answer = run_by_seed(alloc, &mut world, picking, 7);
     (world, turn_of(alloc, k, &answer), answer.err())
 }
 
 /// The same; stopped, it goes on.
-fn by_seed(rt: &impl Abort, alloc: Global, k: usize) -> Turn {
-    let (mut world, turn, fault) = go_by_seed(rt, alloc, k);
+fn by_seed(rt: &impl Abort, alloc: Global, picking: Picking, k: usize) -> Turn {
+    let (mut world, turn, fault) = go_by_seed(rt, alloc, picking, k);
     assert_sound(rt, alloc, &world, &[]);
     if fault.is_some() {
         assert!(rt; fault == Some(RunFault::Memory));
@@ -158,8 +163,19 @@ fn runs(host: HostRuntime) -> Result<(), Fail> {
     let events = events_of_run(alloc).expect(rt, "a run");
     refuse(rt, alloc, "run_seeded", |k| seeded(rt, alloc, &events, k))?;
     refuse(rt, alloc, "run_patient", |k| patient(rt, alloc, k))?;
-    refuse(rt, alloc, "run_by_seed", |k| by_seed(rt, alloc, k))?;
     refuse(rt, alloc, "replay", |k| done_again(rt, alloc, &events, k))
+}
+
+#[test]
+fn runs_by_seed(host: HostRuntime) -> Result<(), Fail> {
+    let (rt, alloc) = (&host, host.alloc());
+    for (name, picking) in [
+        ("run_by_seed", Picking::Patient),
+        ("run_by_seed(lifo)", Picking::Lifo),
+    ] {
+        refuse(rt, alloc, name, |k| by_seed(rt, alloc, picking, k))?;
+    }
+    Ok(())
 }
 
 /// A run of so many workers, with the k-th allocation refused.

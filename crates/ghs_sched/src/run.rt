@@ -23,6 +23,12 @@ pub enum RunEnd {
 /// the events that are ready, and it happens. Of the faults TurnLimit comes where the commits have come to the turns or no
 /// ticket number is left, and else Memory; a word whose event was refused memory is picked by again. At every end nothing
 /// is out, and the world stands after the events so far.
+///
+/// ```text
+/// let mut world = World::open(alloc, graph, WakeSet::All, 1 << 40)?;
+/// let end = run_seeded(alloc, &mut world, &mut Schedule::seeded(7))?;
+/// // world.trace() are the events of the run of seed 7; ghs_report has its text, run_text(alloc, &world)
+/// ```
 pub fn run_seeded(
     alloc: Global,
     world: &mut World,

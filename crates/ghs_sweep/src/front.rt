@@ -32,7 +32,7 @@ pub fn bare_front(form: Form) -> &'static [u8]
     }
 }
 
-// A name as a field of comma separated values. What is written to memory fails for want of memory alone.
+/// A name as a field of comma separated values. What is written to memory fails for want of memory alone.
 fn field_of(alloc: Global, name: &str) -> Result<Vec<u8>, AllocError>
     ensures { IfOk result (λ field. field.items ≡ field_text default_writer name.now) }
 {
@@ -43,7 +43,7 @@ fn field_of(alloc: Global, name: &str) -> Result<Vec<u8>, AllocError>
     }
 }
 
-// An object that has been opened, with a name as its first member.
+/// An object that has been opened, with a name as its first member.
 fn opened_with(alloc: Global, name: &str) -> Result<Vec<u8>, AllocError>
     ensures { IfOk result (λ object. object.items ≡ opened_with name.now) }
 {

@@ -46,6 +46,13 @@ use std::alloc::{AllocError, Global};
 use std::marker::Model;
 
 /// A net from which nodes go out on tickets. The net is the home view: what is out stands in it where it was.
+///
+/// ```text
+/// let mut world = World::open(alloc, graph, WakeSet::All, 1 << 40)?;   // an Err hands the graph back
+/// let ticket = world.check_out(alloc, Event::Wake(2))?;                // node 2 is out, and wakes
+/// let step = ticket.perform(alloc)?;                                   // the world isn't needed for that
+/// world.commit(alloc, step)?;                                          // the event has happened
+/// ```
 #[derive(Debug, Drop)]
 pub struct World {
     net: Net,
