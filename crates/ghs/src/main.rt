@@ -1,10 +1,15 @@
 //! The program `ghs`: it opens files and prints faults, and leaves the work to `ghs_cli`.
 #![tactic(auto)]
 
-ghost use Rattle.ghs.specs.Status.{IsStatusOf, IsStatusOfWork};
+ghost use Rattle.ghs.specs.Status.{IsStatusOf, IsStatusOfWork, status_unread};
+ghost use Rattle.ghs_cli.specs.Ending.{IsPatientTask};
 ghost use Rattle.ghs_cli.specs.Fault.{status_of};
+ghost use Rattle.ghs_cli.specs.Serving.{IfStored, IsUnread, Serves, is_write};
+ghost use Rattle.ghs_cli.specs.declared.fault.ServeFault.{ServeFault};
 ghost use Rattle.ghs_words.specs.Job.{AreSweepLimits, IsWithinLimits, kinds_of};
-ghost use Rattle.std.specs.Prelude.{◌≡◌, MatchResult, false, map, string_bytes};
+ghost use Rattle.std.specs.IoError.{error_kind};
+ghost use Rattle.std.specs.Vec.Iter.{into_iter_items, into_iter_len};
+ghost use Rattle.std.specs.Prelude.{◌≡◌, ◌⊎◌, ◌↔◌, IfErr, IfOk, IfSome, IsErrOf, MatchResult, None, drop, false, length, map, string_bytes, true};
 
 use ghs_cli::fault::ServeFault;
 use ghs_cli::networks::{Network, read_network, sweep_networks};
@@ -14,6 +19,7 @@ use ghs_report::write_out::write_out;
 use ghs_words::job::{Job, JobFault, SweepOptions, Task, read_job};
 use ghs_words::values::is_dash;
 use std::alloc::{AllocError, Global};
+use std::env::Args;
 use std::fs::File;
 use std::process::ExitCode;
 use std::rt::Runtime;
@@ -25,23 +31,45 @@ use std::{env, io};
 const REFUSED: u8 = 2;
 
 fn main(rt: HostRuntime) -> ExitCode {
-    ExitCode::from(run(&rt, rt.alloc()))
+    let alloc = rt.alloc();
+    ExitCode::from(run(&rt, alloc, words_of(&rt, alloc)))
 }
 
-/// Does what the command line says, and gives the exit status.
-fn run<R: Runtime + AllocGlobal + Threads + Wait + Sync>(rt: &R, alloc: Global) -> u8 {
-    match words_of(rt, alloc) {
-        Ok(words) => answer(rt, alloc, &words),
-        Err(error) => match error.kind() {
-            io::ErrorKind::OutOfMemory => tell(rt, &ServeFault::Memory),
-            _ => refuse(rt, "ghs: the command line could not be read\n"),
-        },
+/// Does what the words after the program's name say, or says that they couldn't be read, and gives the exit status.
+fn run<R: Runtime + AllocGlobal + Threads + Wait + Sync>(
+    rt: &R,
+    alloc: Global,
+    words: io::Result<Vec<String>>,
+) -> u8
+    ensures { MatchResult words (λ read. IsStatusOf (kinds_of (map string_bytes read.items)) result) (λ error. result ≡ status_unread (error_kind error)) }
+{
+    match words {
+        Ok(read) => answer(rt, alloc, &read),
+        Err(error) => unread(rt, &error),
     }
 }
 
-/// The words after the program's name.
+/// The words after the program's name. What the system gives as words no contract says.
 fn words_of<R: Runtime + AllocGlobal>(rt: &R, alloc: Global) -> io::Result<Vec<String>> {
-    Ok(env::args(rt)?.skip(1).collect(alloc)?)
+    Ok(behind_first(alloc, env::args(rt)?)?)
+}
+
+/// All words but the first, empty ones among them, of an iterator that tells how many it has.
+fn behind_first(alloc: Global, mut words: Args) -> Result<Vec<String>, AllocError>
+    ensures { into_iter_len words ≡ length (into_iter_items words) → IfOk result (λ rest. rest.items ≡ drop 1 (into_iter_items words)) }
+{
+    let _ = words.next();
+    words.collect(alloc)
+}
+
+/// Says why the command line couldn't be read, and gives the exit status.
+fn unread<R: Runtime>(rt: &R, error: &io::Error) -> u8
+    ensures { result ≡ status_unread (error_kind error.now) }
+{
+    match error.kind() {
+        io::ErrorKind::OutOfMemory => tell(rt, &ServeFault::Memory),
+        _ => refuse(rt, "ghs: the command line could not be read\n"),
+    }
 }
 
 /// Does what the words after the program's name say, and gives the exit status.
@@ -102,7 +130,9 @@ fn network_of<R: Runtime + AllocGlobal>(
     rt: &R,
     alloc: Global,
     name: &str,
-) -> Result<Network, ServeFault> {
+) -> Result<Network, ServeFault>
+    ensures { IfOk result (λ network. string_bytes network.name ≡ name.now) }
+{
     if is_dash(name) {
         return read_network(alloc, name, &mut Device::of(rt.reader()));
     }
@@ -113,7 +143,7 @@ fn network_of<R: Runtime + AllocGlobal>(
 }
 
 /// Opens the files and does the job, the trace's before the graph's; `-` is standard input. A file that can't be opened can't be
-/// read.
+/// read. What a file holds no contract says, and so nothing is said of what comes of it.
 fn work<R: Runtime + AllocGlobal + Threads + Wait + Sync>(
     rt: &R,
     alloc: Global,
@@ -140,6 +170,8 @@ fn work_after<R: Runtime + AllocGlobal + Threads + Wait + Sync, T: Source>(
 ) -> Result<(), ServeFault>
     requires limits { IsWithinLimits job.now.task }
     requires trace { T.has_failed trace.old ≡ false }
+    ensures read { T.has_failed trace.new ≡ true → IsErrOf result ServeFault.Read }
+    ensures trace { IsUnread job.now.task trace.old trace.new }
 {
     match &job.graph {
         Some(path) if !is_dash(path) => match File::open(rt, path.as_str()) {
@@ -150,7 +182,8 @@ fn work_after<R: Runtime + AllocGlobal + Threads + Wait + Sync, T: Source>(
     }
 }
 
-/// Does the job on this graph with this trace, and prints.
+/// Does the job on this graph with this trace, and prints. What standard output holds no contract says, so of what is printed
+/// it is said that there is such a text.
 fn work_on<R: Runtime + AllocGlobal + Threads + Wait + Sync, S: Source, T: Source>(
     rt: &R,
     alloc: Global,
@@ -161,13 +194,19 @@ fn work_on<R: Runtime + AllocGlobal + Threads + Wait + Sync, S: Source, T: Sourc
     requires limits { IsWithinLimits job.now.task }
     requires graph { S.has_failed graph.old ≡ false }
     requires trace { T.has_failed trace.old ≡ false }
+    ensures serves { IfStored job.now.task (T.left trace.old) (λ stored. IfSome (S.left graph.old) (λ input. Serves job.now.task stored input None None result)) }
+    ensures read { IsErrOf result ServeFault.Read ↔ ((S.has_failed graph.new ≡ true) ⊎ (T.has_failed trace.new ≡ true)) }
+    ensures ends { IfSome (S.left graph.old) (λ input. IsPatientTask job.now.task input → IsErrOf result ServeFault.TurnLimit → ⊥) }
+    ensures trace { IsUnread job.now.task trace.old trace.new }
 {
     let mut out = Device::of(io::writer(rt));
     serve(rt, alloc, job, graph, trace, &mut out)
 }
 
-/// Prints help that was asked for.
-fn help<R: Runtime>(rt: &R, text: &str) -> Result<(), ServeFault> {
+/// Prints help that was asked for. Only a write that failed is a fault.
+fn help<R: Runtime>(rt: &R, text: &str) -> Result<(), ServeFault>
+    ensures { IfErr result (λ fault. is_write fault ≡ true) }
+{
     write_out(&mut Device::of(io::writer(rt)), text.as_bytes())?;
     Ok(())
 }

@@ -78,6 +78,9 @@ fn a_queue_of_two(rt: HostRuntime) -> Result<(), Fail> {
     let (queue, mut pass) = ReadyQueue::open(alloc, 2, 2)?;
     fill_and_empty(&rt, &queue, &mut pass);
     let mut other = queue.split(alloc, &mut pass)?;
+    // a pass with one of two shares is answered in the same way
+    takes(&rt, &queue, &mut other, Some(5));
+    fill_and_empty(&rt, &queue, &mut other);
     assert_one_stands(&rt, &queue, &mut other);
     let Err((queue, mut pass, fault)) = queue.close(&rt, alloc, pass) else {
         panic!(rt; "a share was missing")
@@ -138,6 +141,16 @@ fn take_some<R: Wait>(
         }
     }
     (pass, Ok(taken))
+}
+
+// A queue closes with a hundred thousand numbers in it.
+#[test]
+fn a_long_queue_closes(rt: HostRuntime) -> Result<(), Fail> {
+    let alloc = rt.alloc();
+    let (queue, pass) = ReadyQueue::open(alloc, 100_000, 1)?;
+    let pass = put_all(&rt, &queue, pass, 1, 100_001);
+    closes(&rt, alloc, queue, pass, 100_000);
+    Ok(())
 }
 
 // Two threads put 1 to 1,000 and 1,001 to 2,000, and two others take 900 and 1,095 of them.

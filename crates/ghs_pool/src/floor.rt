@@ -441,7 +441,7 @@ impl<J: Start> Floor<J> {
         Found::More
     }
 
-    // An event is made at once, and the numbers of its node and of the nodes that it sends to go into the queue.
+    // An event is made at once, and the numbers of the nodes that it has woken go into the queue, as behind a commit.
     fn make<R: Wait>(
         &mut self,
         rt: &R,

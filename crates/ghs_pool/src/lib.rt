@@ -1,5 +1,5 @@
-//! Workers round one locked world: threads that each check an event out, perform it outside the lock and commit it, fed
-//! by a queue of ready nodes; and a board on which each commit is published.
+//! Workers round one locked world: threads that check events out, perform them outside the lock and commit them, or make some
+//! of a node of many ports at once under the lock, fed by a queue of ready nodes; and a board on which each event is published.
 #![tactic(auto)]
 
 mod bell;

@@ -302,6 +302,28 @@ fn one_worker_serves_from_the_queue(rt: HostRuntime) {
     assert!(rt; world.trace() == events.as_slice());
 }
 
+// Where many numbers wait one worker serves 64 of them at a visit, in their order: so the run begins with the wakes of the
+// first nodes, and all nodes are awake before much else has happened. A look comes after each 256 numbers, and finds one event.
+#[test]
+fn one_worker_serves_all_numbers(rt: HostRuntime) {
+    let alloc = rt.alloc();
+    let text = ring(alloc, 1_100).expect(&rt, "a text");
+    let text = std::str::from_utf8(&text).expect(&rt, "plain letters");
+    let world = world_of(&rt, alloc, text, WakeSet::All, MOST_TURNS);
+    let (world, end) = run_workers(&rt, alloc, world, 1, &OpenGate);
+    assert!(rt; end.is_ok());
+    let mut woken = 0u32;
+    for (place, event) in world.trace().iter().take(1_110).enumerate() {
+        if let Event::Wake(v) = event {
+            woken = woken.saturating_add(1);
+            assert!(rt; place >= 192 || *v == woken);
+        } else {
+            assert!(rt; place >= 192);
+        }
+    }
+    assert_eq!(rt; woken, 1_100);
+}
+
 const NONE_YET: Progress = Progress {
     commits: 0,
     halted: false,
@@ -369,6 +391,22 @@ fn a_shop_tells_of_each_commit(rt: HostRuntime) {
     );
     let (_board, publisher, _reader) = Board::open(alloc, NONE_YET).expect(&rt, "a board");
     assert!(rt; Shop::open(world, publisher).is_err());
+}
+
+// A step of another world is refused: its event doesn't happen, and nothing is published.
+#[test]
+fn a_refused_commit_tells_nothing(rt: HostRuntime) {
+    let alloc = rt.alloc();
+    let mut twin = world_of(&rt, alloc, PAIR, WakeSet::All, MOST_TURNS);
+    let step = twin.check_out(alloc, Event::Wake(1)).ok();
+    let step = step.expect(&rt, "a ticket").perform(alloc).ok();
+    let (_board, publisher, _reader) = Board::open(alloc, NONE_YET).expect(&rt, "a board");
+    let world = world_of(&rt, alloc, PAIR, WakeSet::All, MOST_TURNS);
+    let mut shop = Shop::open(world, publisher).ok().expect(&rt, "a shop");
+    assert!(rt; shop.commit(alloc, step.expect(&rt, "a step")).is_err());
+    let (world, publisher) = shop.close();
+    assert!(rt; world.trace().is_empty());
+    assert_eq!(rt; publisher.last(), NONE_YET);
 }
 
 // Two threads read while two workers run, each until the end: one finds a pair on the way, and then each the world's.

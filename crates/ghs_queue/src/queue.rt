@@ -53,7 +53,7 @@ impl Model for ReadyPass {
     ghost invariant = { λ p. (p.pass.me.1 ≡ []) × (p.shares ≡ (known p.pass).shares) × (1 ≤ p.shares) × ((known p.pass).opening ≡ false) };
 }
 
-/// The number for which there was no room.
+/// The number that was handed back.
 #[derive(Clone, Copy, Debug, Drop, PartialEq, Eq)]
 pub struct Full(pub u32);
 
@@ -133,8 +133,8 @@ impl ReadyQueue {
         pass.shares += shares;
     }
 
-    /// Puts a number last, or hands it back where the queue is full; a pass with all shares sees that in its own bags.
-    /// The pass is one of this queue.
+    /// Puts a number last, or hands it back. The pass is one of this queue. Where it has all shares the number is handed back
+    /// only if the queue is full, as its own bags say; where it has fewer, no clause says why.
     pub fn put<R: Wait>(&self, rt: &R, pass: &mut ReadyPass, number: u32) -> Result<(), Full>
         requires { pass.old.name ≡ self.now.name }
         ensures ok { IfOk result (λ _. pass.new ≡ record pass.old { put = pass.old.put ++ number ∷ [] }) }
@@ -147,8 +147,8 @@ impl ReadyQueue {
         Err(Full(back))
     }
 
-    /// Takes the first number, or none where the queue is empty; a pass with all shares sees that in its own bags. The
-    /// pass is one of this queue.
+    /// Takes the first number, or none. The pass is one of this queue. Where it has all shares there is none only if the queue
+    /// is empty, as its own bags say; where it has fewer, no clause says why.
     pub fn take<R: Wait>(&self, rt: &R, pass: &mut ReadyPass) -> Option<u32>
         requires { pass.old.name ≡ self.now.name }
         ensures some { IfSome result (λ n. pass.new ≡ record pass.old { taken = pass.old.taken ++ n ∷ [] }) }
@@ -161,8 +161,8 @@ impl ReadyQueue {
         Some(number)
     }
 
-    /// How many numbers wait, at one moment of the call; a pass with all shares sees that in its own bags. The pass is one
-    /// of this queue.
+    /// How many numbers wait, at one moment of the call. The pass is one of this queue. Where it has all shares its own bags say
+    /// so many; where it has fewer, no clause says more than that they have room.
     pub fn len<R: Wait>(&self, rt: &R, pass: &mut ReadyPass) -> usize
         requires { pass.old.name ≡ self.now.name }
         ensures pass { pass.new ≡ pass.old }

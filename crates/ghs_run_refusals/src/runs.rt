@@ -22,6 +22,7 @@ use ghs_world::world::World;
 use std::alloc::Global;
 use std::process::Abort;
 use std::sync::Wait;
+use std::sync::atomic::{AtomicU64, Ordering};
 use std::test::Fail;
 use std::thread::Threads;
 
@@ -192,12 +193,22 @@ fn set_to_work<R: Threads + Wait + Sync + Abort>(
     (world, turn_of(alloc, k, &answer), answer.err())
 }
 
-/// The same from what stands, with something out; stopped, it goes on again.
-fn work<R: Threads + Wait + Sync + Abort>(rt: &R, alloc: Global, workers: u32, k: usize) -> Turn {
+/// The same from what stands, with something out; stopped, it goes on again. That a thread couldn't be started is counted.
+fn work<R: Threads + Wait + Sync + Abort>(
+    rt: &R,
+    alloc: Global,
+    workers: u32,
+    unstarted: &AtomicU64,
+    k: usize,
+) -> Turn {
     let (world, turn, fault) = set_to_work(rt, alloc, begun(rt, alloc), workers, k);
     assert_sound(rt, alloc, &world, &FIRST);
-    if let Some(fault) = fault {
-        assert!(rt; fault == PoolFault::Memory || fault == PoolFault::NoThread);
+    match fault {
+        None | Some(PoolFault::Memory) => {}
+        fault => {
+            assert!(rt; fault == Some(PoolFault::NoThread));
+            unstarted.fetch_add(1, Ordering::SeqCst);
+        }
     }
     let (world, _, fault) = set_to_work(rt, alloc, world, workers, 0);
     assert!(rt; fault.is_none());
@@ -237,7 +248,12 @@ fn workers(host: HostRuntime) -> Result<(), Fail> {
         ("run_workers(2)", 2),
         ("run_workers(8)", 8),
     ] {
-        refuse(rt, alloc, name, |k| work(rt, alloc, workers, k))?;
+        let unstarted = AtomicU64::new(0);
+        refuse(rt, alloc, name, |k| {
+            work(rt, alloc, workers, &unstarted, k)
+        })?;
+        // to start a thread takes one allocation; any other that is refused is want of memory
+        assert!(rt; workers > 1 || unstarted.load(Ordering::SeqCst) <= 1);
     }
     refuse(rt, alloc, "run_watched", |k| work_watched(rt, alloc, k))
 }

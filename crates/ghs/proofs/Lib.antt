@@ -1,0 +1,2 @@
+-- Proofs of the program's own functions.
+mod Words
