@@ -2,7 +2,7 @@
 #![tactic(auto)]
 
 ghost use Rattle.ghs.specs.Status.{IsStatusOf, IsStatusOfWork, status_unread};
-ghost use Rattle.ghs_cli.specs.Ending.{IsPatientTask};
+ghost use Rattle.ghs_cli.specs.Ending.{IsBoundedTask};
 ghost use Rattle.ghs_cli.specs.Fault.{status_of};
 ghost use Rattle.ghs_cli.specs.Serving.{IfStored, IsUnread, Serves, is_write};
 ghost use Rattle.ghs_cli.specs.declared.fault.ServeFault.{ServeFault};
@@ -196,7 +196,7 @@ fn work_on<R: Runtime + AllocGlobal + Threads + Wait + Sync, S: Source, T: Sourc
     requires trace { T.has_failed trace.old ≡ false }
     ensures serves { IfStored job.now.task (T.left trace.old) (λ stored. IfSome (S.left graph.old) (λ input. Serves job.now.task stored input None None result)) }
     ensures read { IsErrOf result ServeFault.Read ↔ ((S.has_failed graph.new ≡ true) ⊎ (T.has_failed trace.new ≡ true)) }
-    ensures ends { IfSome (S.left graph.old) (λ input. IsPatientTask job.now.task input → IsErrOf result ServeFault.TurnLimit → ⊥) }
+    ensures ends { IfSome (S.left graph.old) (λ input. IsBoundedTask job.now.task input → IsErrOf result ServeFault.TurnLimit → ⊥) }
     ensures trace { IsUnread job.now.task trace.old trace.new }
 {
     let mut out = Device::of(io::writer(rt));
