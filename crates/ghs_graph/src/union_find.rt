@@ -73,8 +73,8 @@ impl Roots {
     }
 }
 
-/// The root of a number. It goes two steps at a time, and lets each number that it comes by lead two steps up from then on: to
-/// the same root.
+/// The root of a number. It goes two steps at a time, and lets each number that it comes by lead two steps up from then on,
+/// which changes no root.
 fn climb(up: &mut Vec<u32>, x: u32) -> u32
     requires down { LeadDown up.old.items }
     requires x { x < length up.old.items }
@@ -93,7 +93,7 @@ fn climb(up: &mut Vec<u32>, x: u32) -> u32
     at
 }
 
-/// Lets each number lead to its root at once. What it led to is less, so that leads there already.
+/// Lets each number lead to its root at once. What it led to, unless that is itself, comes before it and leads there already.
 fn settle(up: &mut Vec<u32>)
     requires { LeadDown up.old.items }
     ensures { up.new.items ≡ roots_of up.old.items }
