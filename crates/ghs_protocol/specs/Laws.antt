@@ -86,7 +86,7 @@ ConnectsAreOne = (g : Shape) (w : Net) → IsNetOf g w → (v p : ℕ) → At (n
 abbrev pub TakesAreCounted : Type 0
 TakesAreCounted = (g : Shape) → IsGraph g → (es : List Event) (w : Net) → IsAfter (network_of g) es w → in_all w.consumed + w.requeued ≡ takes_in es
 
--- each event sends at most 8,388,609 messages: one more than a node may have ports
+-- what was sent is at most the events times 8,388,609, one more than a node may have ports
 abbrev pub SendsAreBounded : Type 0
 SendsAreBounded = (g : Shape) → IsGraph g → (es : List Event) (w : Net) → IsAfter (network_of g) es w → in_all w.sent ≤ length es * 8388609
 

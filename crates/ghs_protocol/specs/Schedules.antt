@@ -62,7 +62,7 @@ EveryRunCanEndWhole =
     (b : ℕ) → IsBound g.nodes (length g.keys) b →
     WholeFinish may g w (2 * (b + g.nodes))
 
--- A patient choice: a wake, or a message that isn't put back; where all first messages would be, one with a message behind it that would not.
+-- A patient choice: a wake, or a message that doesn't wait, as none does at a sleeper; where all first ones wait, one with a second that doesn't.
 pub data IsPatientIn (g : Network) (w : Net) : Event → Type 0 where
   A_wake : (v : ℕ) → IsPatientIn g w (Wake v)
   Moves_on : (v p : ℕ) (m : Message) (ms : List Message) → w.queue v p ≡ m ∷ ms → (Waits (w.node v) p m → ⊥) → IsPatientIn g w (Take v p)

@@ -148,7 +148,7 @@ pub fn law_real_events()
     ensures { RealEventsAreFew }
 {}
 
-/// Whoever takes what isn't put back where there is such, and else uncovers such, makes at most twice as many events as the bound on messages and the nodes together.
+/// Whoever wakes a node or takes what doesn't wait where there is such, and else uncovers such, makes at most twice as many events as the bound on messages and the nodes together.
 pub fn law_patience()
     ensures { PatientRunsAreShort }
 {}

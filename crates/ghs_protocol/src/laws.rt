@@ -67,7 +67,7 @@ pub fn law_takes()
     ensures { TakesAreCounted }
 {}
 
-/// An event sends at most 8,388,609 messages, one more than a node may have ports.
+/// What was sent is at most the events times 8,388,609, one more than a node may have ports.
 pub fn law_sends()
     ensures { SendsAreBounded }
 {}
