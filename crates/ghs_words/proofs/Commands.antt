@@ -1,23 +1,13 @@
--- Commands put together, as the app that a parse reads.
+-- Arguments put to a command, as the app that a parse reads.
 use Rattle.std.proofs.Common.{◌≡◌, ◌||◌, false, Bool, List, [], ◌∷◌, ap, map, sym, ◌∙◌}
 use Rattle.std.specs.List.{All}
 use Rattle.std.proofs.lemmas.List.Elements.{All-head, All-tail}
-use Rattle.clap.specs.Built.{AddsArg, AddsInTurn, AddsSubcommand}
-use Rattle.clap.specs.Simple.{shape_of}
-use Rattle.clap.specs.Words.{App, app_of, rule_of, with_rule, with_subcommand}
+use Rattle.clap.specs.Built.{AddsArg, AddsInTurn}
+use Rattle.clap.specs.Words.{App, app_of, rule_of, with_rule}
 use Rattle.clap.specs.declared.builder.arg.Arg.{Arg}
 use Rattle.clap.specs.declared.builder.command.Command.{Command}
 use Rattle.clap.specs.declared.builder.command.Command.TheViews.{out-Command}
 use Rattle.ghs_words.specs.Grammar.{with_rules}
-
--- one subcommand more
-pub with_command : (old sub new : Command) (app command : App) →
-    AddsSubcommand old sub new →
-    (out-Command sub).has_globals ≡ false →
-    app_of old ≡ app →
-    app_of sub ≡ command →
-    app_of new ≡ with_subcommand app command.top
-with_command old sub new app command adds globals before is = adds.shape globals ∙ (ap (λ a. with_subcommand a (shape_of sub)) before ∙ ap (λ (a : App). with_subcommand app a.top) is)
 
 -- an argument that is for its command alone
 abbrev IsLocal : Arg → Type 0
