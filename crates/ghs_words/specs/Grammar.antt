@@ -1,7 +1,20 @@
 -- The words that the program takes.
-use Rattle.std.specs.Prelude.{codes, [], ◌∷◌, Some, true}
+use Rattle.std.specs.Prelude.{codes, List, [], ◌∷◌, Some, true}
 use Rattle.clap.specs.declared.builder.action.ArgAction.TheVariants.{Append, SetTrue}
 use Rattle.clap.specs.Words.{App, Rule, Text, new_app, new_rule, with_rule, with_subcommand}
+
+-- an app with more arguments, in their order
+abbrev pub with_rules : List Rule → App → App
+with_rules [] app = app
+with_rules (rule ∷ rules) app = with_rules rules (with_rule app rule)
+
+-- `--NAME VALUE`, of which the program speaks by an id
+abbrev pub valued_rule : Text → Text → Rule
+valued_rule id name = record (new_rule id) { long = Some name }
+
+-- `--NAME`, which has no value of its own
+abbrev pub flag_rule : Text → Rule
+flag_rule name = record (new_rule name) { long = Some name; action = Some SetTrue }
 
 -- FILE: the graph
 abbrev pub file_rule : Rule
@@ -13,7 +26,7 @@ files_rule = record (new_rule (codes "FILE")) { action = Some Append }
 
 -- `--names`: whether lines begin with their graph's name where one is swept
 abbrev pub names_rule : Rule
-names_rule = record (new_rule (codes "names")) { long = Some (codes "names"); action = Some SetTrue }
+names_rule = flag_rule (codes "names")
 
 -- TRACE: the stored run
 abbrev pub trace_rule : Rule
@@ -33,7 +46,7 @@ seeds_rule = record (new_rule (codes "seeds")) { long = Some (codes "seeds"); re
 
 -- `--seeds` of a view, which are two: whose runs are shown beside each other
 abbrev pub pair_rule : Rule
-pair_rule = record (new_rule (codes "pair")) { long = Some (codes "seeds") }
+pair_rule = valued_rule (codes "pair") (codes "seeds")
 
 -- `--schedule`: among which events it picks them
 abbrev pub schedule_rule : Rule
@@ -64,31 +77,31 @@ to_rule = option_rule (codes "to") (codes "1099511627776")
 
 -- `--node`: whose events are shown
 abbrev pub node_rule : Rule
-node_rule = record (new_rule (codes "node")) { long = Some (codes "node") }
+node_rule = valued_rule (codes "node") (codes "node")
 
 -- `--json`: whether the lines are JSON
 abbrev pub json_rule : Rule
-json_rule = record (new_rule (codes "json")) { long = Some (codes "json"); action = Some SetTrue }
+json_rule = flag_rule (codes "json")
 
 -- `--trace`: the stored run, where one is shown
 abbrev pub stored_rule : Rule
-stored_rule = record (new_rule (codes "TRACE")) { long = Some (codes "trace") }
+stored_rule = valued_rule (codes "TRACE") (codes "trace")
 
 -- `--progress`: whether it is told how far the run has come
 abbrev pub progress_rule : Rule
-progress_rule = record (new_rule (codes "progress")) { long = Some (codes "progress"); action = Some SetTrue }
+progress_rule = flag_rule (codes "progress")
 
 -- `--tally`: whether it is told what each of the threads has done
 abbrev pub tally_rule : Rule
-tally_rule = record (new_rule (codes "tally")) { long = Some (codes "tally"); action = Some SetTrue }
+tally_rule = flag_rule (codes "tally")
 
 -- `--by`: by which parts the messages of each run of a sweep are counted
 abbrev pub by_rule : Rule
-by_rule = record (new_rule (codes "by")) { long = Some (codes "by") }
+by_rule = valued_rule (codes "by") (codes "by")
 
 -- `--core`: whether the core of each component is printed too
 abbrev pub core_rule : Rule
-core_rule = record (new_rule (codes "core")) { long = Some (codes "core"); action = Some SetTrue }
+core_rule = flag_rule (codes "core")
 
 -- `--wake`: which nodes wake by themselves
 abbrev pub wake_rule : Rule
@@ -96,46 +109,42 @@ wake_rule = option_rule (codes "wake") (codes "all")
 
 -- `tree [FILE] [--core]`
 abbrev pub tree_command : App
-tree_command = with_rule (with_rule (new_app (codes "tree")) file_rule) core_rule
+tree_command = with_rules (file_rule ∷ core_rule ∷ []) (new_app (codes "tree"))
 
 -- `run [FILE] [--seed S] [--schedule seeded|patient|rounds|waits|lifo] [--workers W] [--wake all|first] [--turns T] [--print report|trace|time] [--core]
 -- [--progress] [--tally]`
 abbrev pub run_command : App
 run_command =
-    let named = with_rule (new_app (codes "run")) file_rule in
-    let numbered = with_rule (with_rule (with_rule named seed_rule) schedule_rule) workers_rule in
-    let printed = with_rule (with_rule (with_rule (with_rule numbered wake_rule) turns_rule) print_rule) core_rule in
-    with_rule (with_rule printed progress_rule) tally_rule
+    with_rules
+    (file_rule ∷ seed_rule ∷ schedule_rule ∷ workers_rule ∷ wake_rule
+    ∷ turns_rule ∷ print_rule ∷ core_rule ∷ progress_rule ∷ tally_rule ∷ [])
+    (new_app (codes "run"))
 
 -- `replay TRACE [FILE] [--wake all|first]`
 abbrev pub replay_command : App
-replay_command = with_rule (with_rule (with_rule (new_app (codes "replay")) trace_rule) file_rule) wake_rule
+replay_command = with_rules (trace_rule ∷ file_rule ∷ wake_rule ∷ []) (new_app (codes "replay"))
 
 -- `steps TRACE [FILE] [--wake all|first] [--from A] [--to B] [--node V] [--json]`
 abbrev pub steps_command : App
-steps_command =
-    let stored = with_rule (with_rule (with_rule (new_app (codes "steps")) trace_rule) file_rule) wake_rule in
-    with_rule (with_rule (with_rule (with_rule stored from_rule) to_rule) node_rule) json_rule
+steps_command = with_rules (trace_rule ∷ file_rule ∷ wake_rule ∷ from_rule ∷ to_rule ∷ node_rule ∷ json_rule ∷ []) (new_app (codes "steps"))
 
--- `sweep [FILE ..] --seeds FIRST..LAST [--schedule seeded|patient|rounds|waits|lifo] [--workers W] [--wake all|first] [--turns T]`, and how it is
--- printed: `[--print runs|summary|chart] [--by node|level|rule] [--names] [--json] [--progress]`
-abbrev pub swept_command : App
-swept_command =
-    let named = with_rule (with_rule (new_app (codes "sweep")) files_rule) seeds_rule in
-    with_rule (with_rule (with_rule (with_rule named schedule_rule) workers_rule) wake_rule) turns_rule
-
+-- `sweep [FILE ..] --seeds FIRST..LAST [--schedule seeded|patient|rounds|waits|lifo] [--workers W] [--wake all|first] [--turns T]
+-- [--print runs|summary|chart] [--by node|level|rule] [--names] [--json] [--progress]`
 abbrev pub sweep_command : App
 sweep_command =
-    let parted = with_rule (with_rule swept_command sheet_rule) by_rule in
-    with_rule (with_rule (with_rule parted names_rule) json_rule) progress_rule
+    with_rules
+    (files_rule ∷ seeds_rule ∷ schedule_rule ∷ workers_rule ∷ wake_rule ∷ turns_rule
+    ∷ sheet_rule ∷ by_rule ∷ names_rule ∷ json_rule ∷ progress_rule ∷ [])
+    (new_app (codes "sweep"))
 
 -- `view [FILE] [--seed S] [--seeds FIRST,SECOND] [--schedule seeded|patient|rounds|waits|lifo] [--wake all|first] [--turns T] [--trace TRACE] [--from A]
 -- [--to B]`
 abbrev pub view_command : App
 view_command =
-    let seeded = with_rule (with_rule (with_rule (new_app (codes "view")) file_rule) seed_rule) pair_rule in
-    let picked = with_rule (with_rule (with_rule seeded schedule_rule) wake_rule) turns_rule in
-    with_rule (with_rule (with_rule picked stored_rule) from_rule) to_rule
+    with_rules
+    (file_rule ∷ seed_rule ∷ pair_rule ∷ schedule_rule ∷ wake_rule
+    ∷ turns_rule ∷ stored_rule ∷ from_rule ∷ to_rule ∷ [])
+    (new_app (codes "view"))
 
 -- a word that has to stand at its place
 abbrev pub place_rule : Text → Rule
@@ -151,17 +160,15 @@ nodes_rule = place_rule (codes "NODES")
 
 -- `--links`: how many links it has
 abbrev pub links_rule : Rule
-links_rule = record (new_rule (codes "links")) { long = Some (codes "links") }
+links_rule = valued_rule (codes "links") (codes "links")
 
 -- `--weights`: how they weigh
 abbrev pub weights_rule : Rule
-weights_rule = record (new_rule (codes "weights")) { long = Some (codes "weights") }
+weights_rule = valued_rule (codes "weights") (codes "weights")
 
 -- `make KIND NODES [--seed S] [--links M] [--weights random|rising|falling|equal]`
 abbrev pub make_command : App
-make_command =
-    let named = with_rule (with_rule (new_app (codes "make")) kind_rule) nodes_rule in
-    with_rule (with_rule (with_rule named seed_rule) links_rule) weights_rule
+make_command = with_rules (kind_rule ∷ nodes_rule ∷ seed_rule ∷ links_rule ∷ weights_rule ∷ []) (new_app (codes "make"))
 
 -- `--limit`: how many states there may be
 abbrev pub limit_rule : Rule
@@ -177,9 +184,7 @@ end_rule = option_rule (codes "end") (codes "1")
 
 -- `explore [FILE] [--wake all|first] [--limit STATES] [--print report|trace] [--end K] [--progress]`
 abbrev pub explore_command : App
-explore_command =
-    let named = with_rule (with_rule (new_app (codes "explore")) file_rule) wake_rule in
-    with_rule (with_rule (with_rule (with_rule named limit_rule) found_rule) end_rule) progress_rule
+explore_command = with_rules (file_rule ∷ wake_rule ∷ limit_rule ∷ found_rule ∷ end_rule ∷ progress_rule ∷ []) (new_app (codes "explore"))
 
 -- the program's command line: its name and one of its commands, or a word that asks for its version
 unfoldable pub program : App

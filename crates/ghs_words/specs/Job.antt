@@ -283,32 +283,75 @@ IsWithinLimits (task.StoredView options) = Unit {0}
 IsWithinLimits (task.Make asked) = Unit {0}
 IsWithinLimits (task.Explore options) = AreExploreLimits options
 
+-- what is printed of a run, of a sweep or of an exploration is one of its choices
+abbrev pub has_prints : Used → Bool
+has_prints command =
+    is_among (codes "report" ∷ codes "trace" ∷ codes "time" ∷ []) (value_in (codes "print") command)
+    && is_among (codes "runs" ∷ codes "summary" ∷ codes "chart" ∷ []) (value_in (codes "sheet") command)
+    && is_among (codes "report" ∷ codes "trace" ∷ []) (value_in (codes "found") command)
+
+-- each choice of the command is one that there is
+abbrev pub has_choices : Used → Bool
+has_choices command =
+    is_among (codes "all" ∷ codes "first" ∷ []) (value_in (codes "wake") command)
+    && has_prints command
+    && is_among (codes "seeded" ∷ codes "patient" ∷ codes "rounds" ∷ codes "waits" ∷ codes "lifo" ∷ []) (value_in (codes "schedule") command)
+
+-- the numbers of how a network is run, of which events are shown, and of a network that is made and of an exploration
+abbrev pub has_course : Used → Bool
+has_course command =
+    is_number 0 18446744073709551615 (value_in (codes "seed") command)
+    && is_number 0 MOST_WORKERS (value_in (codes "workers") command)
+    && is_number 1 EVENT_LIMIT (value_in (codes "turns") command)
+
+abbrev pub has_events : Used → Bool
+has_events command =
+    is_number 1 EVENT_LIMIT (value_in (codes "from") command)
+    && is_number 1 EVENT_LIMIT (value_in (codes "to") command)
+    && is_number 1 4294967295 (value_in (codes "node") command)
+
+abbrev pub has_sizes : Used → Bool
+has_sizes command =
+    is_number 0 4294967295 (value_in (codes "links") command)
+    && is_number 1 MOST_STATES (value_in (codes "limit") command)
+    && is_number 1 4294967295 (value_in (codes "end") command)
+
+-- each number of the command is one, and in its range
+abbrev pub has_numbers : Used → Bool
+has_numbers command = has_course command && has_events command && has_sizes command
+
+-- a network that is made has a number of nodes, a kind and weights
+abbrev pub has_network : Used → Bool
+has_network command =
+    is_number 1 MOST_NODES (value_in (codes "NODES") command)
+    && is_kind (value_in (codes "KIND") command)
+    && are_weights (value_in (codes "weights") command)
+
+-- the seeds of a sweep are some, and those of a view two
+abbrev pub has_seeds : Used → Bool
+has_seeds command = is_range (value_in (codes "seeds") command) && are_two (value_in (codes "pair") command)
+
+-- the figures of a sweep can be printed as it is asked for
+abbrev pub has_figures : Used → Bool
+has_figures command =
+    is_part (value_in (codes "by") command)
+    && go_together (value_in (codes "sheet") command) (value_in (codes "by") command) (value_in (codes "json") command)
+
+-- standard input isn't read twice
+abbrev pub has_sources : Used → Bool
+has_sources command =
+    are_apart (value_in (codes "TRACE") command) (value_in (codes "FILE") command)
+    && are_read_once (values_in (codes "FILE") command)
+
 -- each option of the command has a value that it may have, and standard input isn't read twice
 abbrev pub has_values : Used → Bool
 has_values command =
-    is_among (codes "all" ∷ codes "first" ∷ []) (value_in (codes "wake") command)
-    && is_among (codes "report" ∷ codes "trace" ∷ codes "time" ∷ []) (value_in (codes "print") command)
-    && is_among (codes "runs" ∷ codes "summary" ∷ codes "chart" ∷ []) (value_in (codes "sheet") command)
-    && is_among (codes "report" ∷ codes "trace" ∷ []) (value_in (codes "found") command)
-    && is_among (codes "seeded" ∷ codes "patient" ∷ codes "rounds" ∷ codes "waits" ∷ codes "lifo" ∷ []) (value_in (codes "schedule") command)
-    && is_number 0 18446744073709551615 (value_in (codes "seed") command)
-    && is_number 0 MOST_WORKERS (value_in (codes "workers") command)
-    && is_number 1 EVENT_LIMIT (value_in (codes "turns") command)
-    && is_number 1 EVENT_LIMIT (value_in (codes "from") command)
-    && is_number 1 EVENT_LIMIT (value_in (codes "to") command)
-    && is_number 1 4294967295 (value_in (codes "node") command)
-    && is_number 0 4294967295 (value_in (codes "links") command)
-    && is_number 1 MOST_STATES (value_in (codes "limit") command)
-    && is_number 1 4294967295 (value_in (codes "end") command)
-    && is_number 1 MOST_NODES (value_in (codes "NODES") command)
-    && is_kind (value_in (codes "KIND") command)
-    && are_weights (value_in (codes "weights") command)
-    && is_range (value_in (codes "seeds") command)
-    && are_two (value_in (codes "pair") command)
-    && is_part (value_in (codes "by") command)
-    && go_together (value_in (codes "sheet") command) (value_in (codes "by") command) (value_in (codes "json") command)
-    && are_apart (value_in (codes "TRACE") command) (value_in (codes "FILE") command)
-    && are_read_once (values_in (codes "FILE") command)
+    has_choices command
+    && has_numbers command
+    && has_network command
+    && has_seeds command
+    && has_figures command
+    && has_sources command
 
 -- what is wrong with the values of a command's options
 abbrev pub option_kinds : Used → Kinds

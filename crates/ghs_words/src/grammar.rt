@@ -1,8 +1,9 @@
 //! The words that the program takes.
-ghost use Rattle.clap.specs.Words.{app_of, rule_of};
+ghost use Rattle.clap.specs.Words.{App, app_of, new_app, rule_of, with_subcommand};
 ghost use Rattle.clap.specs.declared.builder.command.Command.TheViews.{out-Command};
-ghost use Rattle.ghs_words.specs.Grammar.{by_rule, core_rule, end_rule, explore_command, file_rule, files_rule, found_rule, from_rule, json_rule, kind_rule, limit_rule, links_rule, make_command, names_rule, node_rule, nodes_rule, option_rule, pair_rule, place_rule, print_rule, program, progress_rule, replay_command, run_command, schedule_rule, seed_rule, seeds_rule, sheet_rule, steps_command, sweep_command, swept_command, tally_rule, to_rule, trace_rule, tree_command, turns_rule, wake_rule, weights_rule, workers_rule, stored_rule, view_command};
-ghost use Rattle.std.specs.Prelude.{◌≡◌, IfOk, false};
+ghost use Rattle.ghs_words.specs.Grammar.{by_rule, core_rule, end_rule, explore_command, file_rule, files_rule, flag_rule, found_rule, from_rule, json_rule, kind_rule, limit_rule, links_rule, make_command, names_rule, node_rule, nodes_rule, option_rule, pair_rule, place_rule, print_rule, program, progress_rule, replay_command, run_command, schedule_rule, seed_rule, seeds_rule, sheet_rule, steps_command, sweep_command, tally_rule, to_rule, trace_rule, tree_command, turns_rule, valued_rule, view_command, wake_rule, weights_rule, with_rules, workers_rule, stored_rule};
+ghost use Rattle.std.specs.List.{All};
+ghost use Rattle.std.specs.Prelude.{◌≡◌, IfOk, false, map};
 
 use clap::{Arg, ArgAction, Command};
 use std::alloc::{AllocError, Global};
@@ -15,20 +16,43 @@ pub const VERSION: &str = "1.0.0, proved with rattle-kit-13f logic dac8208d650f1
 pub fn program<'a>(alloc: Global) -> Result<Command<'a>, AllocError>
     ensures { IfOk result (λ command. app_of command ≡ program) }
 {
-    Ok(
-        Command::new(alloc, "ghs")
-            .about("Minimum spanning trees of networks")
-            .version(VERSION)
-            .subcommand_required(true)
-            .subcommand(tree(alloc)?)?
-            .subcommand(run(alloc)?)?
-            .subcommand(replay(alloc)?)?
-            .subcommand(steps(alloc)?)?
-            .subcommand(sweep(alloc)?)?
-            .subcommand(view(alloc)?)?
-            .subcommand(make(alloc)?)?
-            .subcommand(explore(alloc)?)?,
-    )
+    let command = Command::new(alloc, "ghs")
+        .about("Minimum spanning trees of networks")
+        .version(VERSION)
+        .subcommand_required(true);
+    with_shows(alloc, with_runs(alloc, command)?)
+}
+
+// What runs a network, and plays a run again.
+fn with_runs<'a>(alloc: Global, command: Command<'a>) -> Result<Command<'a>, AllocError>
+    ensures { IfOk result (λ r. app_of r ≡ with_subcommand (with_subcommand (with_subcommand (with_subcommand (app_of command.entry) tree_command.top) run_command.top) replay_command.top) steps_command.top) }
+{
+    let command = with_command(command, tree(alloc))?;
+    let command = with_command(command, run(alloc))?;
+    let command = with_command(command, replay(alloc))?;
+    with_command(command, steps(alloc))
+}
+
+// What shows many runs or one, makes networks and explores them.
+fn with_shows<'a>(alloc: Global, command: Command<'a>) -> Result<Command<'a>, AllocError>
+    ensures { IfOk result (λ r. app_of r ≡ with_subcommand (with_subcommand (with_subcommand (with_subcommand (app_of command.entry) sweep_command.top) view_command.top) make_command.top) explore_command.top) }
+{
+    let command = with_command(command, sweep(alloc))?;
+    let command = with_command(command, view(alloc))?;
+    let command = with_command(command, make(alloc))?;
+    with_command(command, explore(alloc))
+}
+
+// The command with one more, where there was memory for that. It takes what made it, so that no caller has both in hand where
+// memory runs out: each way out of a function has the drops of all that it holds, and a command's are many.
+fn with_command<'a>(
+    command: Command<'a>,
+    subcommand: Result<Command<'a>, AllocError>,
+) -> Result<Command<'a>, AllocError>
+    requires { IfOk subcommand (λ s. (out-Command s).has_globals ≡ false) }
+    ensures { (app : App) → IfOk subcommand.entry (λ s. app_of s ≡ app) → IfOk result (λ r. app_of r ≡ with_subcommand (app_of command.entry) app.top) }
+{
+    Ok(command.subcommand(subcommand?)?)
 }
 
 // `ghs tree`.
@@ -36,12 +60,13 @@ fn tree<'a>(alloc: Global) -> Result<Command<'a>, AllocError>
     ensures local { IfOk result (λ command. (out-Command command).has_globals ≡ false) }
     ensures app { IfOk result (λ command. app_of command ≡ tree_command) }
 {
-    Ok(
-        Command::new(alloc, "tree")
-            .about("Prints the minimum spanning forest of a graph")
-            .arg(file(alloc))?
-            .arg(core(alloc))?,
-    )
+    let arguments = vec![in alloc; file(alloc), core(alloc)]?;
+    Ok(command(
+        alloc,
+        "tree",
+        "Prints the minimum spanning forest of a graph",
+        arguments,
+    )?)
 }
 
 // `ghs run`.
@@ -49,22 +74,24 @@ fn run<'a>(alloc: Global) -> Result<Command<'a>, AllocError>
     ensures local { IfOk result (λ command. (out-Command command).has_globals ≡ false) }
     ensures app { IfOk result (λ command. app_of command ≡ run_command) }
 {
-    Ok(
-        Command::new(alloc, "run")
-            .about(
-                "Runs the network of a graph, event by event, by the schedule of a seed or by threads",
-            )
-            .arg(file(alloc))?
-            .arg(seed(alloc))?
-            .arg(schedule(alloc))?
-            .arg(workers(alloc))?
-            .arg(wake(alloc))?
-            .arg(turns(alloc))?
-            .arg(print(alloc))?
-            .arg(core(alloc))?
-            .arg(progress(alloc))?
-            .arg(tally(alloc))?,
-    )
+    let arguments = vec![in alloc;
+        file(alloc),
+        seed(alloc),
+        schedule(alloc),
+        workers(alloc),
+        wake(alloc),
+        turns(alloc),
+        print(alloc),
+        core(alloc),
+        progress(alloc),
+        tally(alloc),
+    ]?;
+    Ok(command(
+        alloc,
+        "run",
+        "Runs the network of a graph, event by event, by the schedule of a seed or by threads",
+        arguments,
+    )?)
 }
 
 // `ghs replay`.
@@ -72,13 +99,13 @@ fn replay<'a>(alloc: Global) -> Result<Command<'a>, AllocError>
     ensures local { IfOk result (λ command. (out-Command command).has_globals ≡ false) }
     ensures app { IfOk result (λ command. app_of command ≡ replay_command) }
 {
-    Ok(
-        Command::new(alloc, "replay")
-            .about("Plays a stored run again, event by event")
-            .arg(trace(alloc))?
-            .arg(file(alloc))?
-            .arg(wake(alloc))?,
-    )
+    let arguments = vec![in alloc; trace(alloc), file(alloc), wake(alloc)]?;
+    Ok(command(
+        alloc,
+        "replay",
+        "Plays a stored run again, event by event",
+        arguments,
+    )?)
 }
 
 // `ghs steps`.
@@ -86,17 +113,21 @@ fn steps<'a>(alloc: Global) -> Result<Command<'a>, AllocError>
     ensures local { IfOk result (λ command. (out-Command command).has_globals ≡ false) }
     ensures app { IfOk result (λ command. app_of command ≡ steps_command) }
 {
-    Ok(
-        Command::new(alloc, "steps")
-            .about("Prints what each event of a stored run does, an event a line")
-            .arg(trace(alloc))?
-            .arg(file(alloc))?
-            .arg(wake(alloc))?
-            .arg(from(alloc))?
-            .arg(to(alloc))?
-            .arg(node(alloc))?
-            .arg(json(alloc))?,
-    )
+    let arguments = vec![in alloc;
+        trace(alloc),
+        file(alloc),
+        wake(alloc),
+        from(alloc),
+        to(alloc),
+        node(alloc),
+        json(alloc),
+    ]?;
+    Ok(command(
+        alloc,
+        "steps",
+        "Prints what each event of a stored run does, an event a line",
+        arguments,
+    )?)
 }
 
 // `ghs sweep`.
@@ -104,33 +135,25 @@ fn sweep<'a>(alloc: Global) -> Result<Command<'a>, AllocError>
     ensures local { IfOk result (λ command. (out-Command command).has_globals ≡ false) }
     ensures app { IfOk result (λ command. app_of command ≡ sweep_command) }
 {
-    Ok(
-        swept(alloc)?
-            .arg(sheet(alloc))?
-            .arg(by(alloc))?
-            .arg(names(alloc))?
-            .arg(json(alloc))?
-            .arg(seeds_told(alloc))?,
-    )
-}
-
-// The same without what says how it is printed.
-fn swept<'a>(alloc: Global) -> Result<Command<'a>, AllocError>
-    ensures local { IfOk result (λ command. (out-Command command).has_globals ≡ false) }
-    ensures app { IfOk result (λ command. app_of command ≡ swept_command) }
-{
-    Ok(
-        Command::new(alloc, "sweep")
-            .about(
-                "Runs the networks of graphs by the schedules of many seeds, and prints a line of figures for each run, or what they come to",
-            )
-            .arg(files(alloc))?
-            .arg(seeds(alloc))?
-            .arg(schedule(alloc))?
-            .arg(sharers(alloc))?
-            .arg(wake(alloc))?
-            .arg(turns(alloc))?,
-    )
+    let arguments = vec![in alloc;
+        files(alloc),
+        seeds(alloc),
+        schedule(alloc),
+        sharers(alloc),
+        wake(alloc),
+        turns(alloc),
+        sheet(alloc),
+        by(alloc),
+        names(alloc),
+        json(alloc),
+        seeds_told(alloc),
+    ]?;
+    Ok(command(
+        alloc,
+        "sweep",
+        "Runs the networks of graphs by the schedules of many seeds, and prints a line of figures for each run, or what they come to",
+        arguments,
+    )?)
 }
 
 // `ghs view`.
@@ -138,21 +161,23 @@ fn view<'a>(alloc: Global) -> Result<Command<'a>, AllocError>
     ensures local { IfOk result (λ command. (out-Command command).has_globals ≡ false) }
     ensures app { IfOk result (λ command. app_of command ≡ view_command) }
 {
-    Ok(
-        Command::new(alloc, "view")
-            .about(
-                "Prints a run as one page for a browser, to step through, or two runs beside each other",
-            )
-            .arg(file(alloc))?
-            .arg(seed(alloc))?
-            .arg(pair(alloc))?
-            .arg(schedule(alloc))?
-            .arg(wake(alloc))?
-            .arg(turns(alloc))?
-            .arg(stored(alloc))?
-            .arg(from(alloc))?
-            .arg(to(alloc))?,
-    )
+    let arguments = vec![in alloc;
+        file(alloc),
+        seed(alloc),
+        pair(alloc),
+        schedule(alloc),
+        wake(alloc),
+        turns(alloc),
+        stored(alloc),
+        from(alloc),
+        to(alloc),
+    ]?;
+    Ok(command(
+        alloc,
+        "view",
+        "Prints a run as one page for a browser, to step through, or two runs beside each other",
+        arguments,
+    )?)
 }
 
 // `ghs make`.
@@ -160,15 +185,19 @@ fn make<'a>(alloc: Global) -> Result<Command<'a>, AllocError>
     ensures local { IfOk result (λ command. (out-Command command).has_globals ≡ false) }
     ensures app { IfOk result (λ command. app_of command ≡ make_command) }
 {
-    Ok(
-        Command::new(alloc, "make")
-            .about("Makes a network of a kind by a seed, and prints it in the .gr format")
-            .arg(kind(alloc))?
-            .arg(nodes(alloc))?
-            .arg(maker(alloc))?
-            .arg(links(alloc))?
-            .arg(weights(alloc))?,
-    )
+    let arguments = vec![in alloc;
+        kind(alloc),
+        nodes(alloc),
+        maker(alloc),
+        links(alloc),
+        weights(alloc),
+    ]?;
+    Ok(command(
+        alloc,
+        "make",
+        "Makes a network of a kind by a seed, and prints it in the .gr format",
+        arguments,
+    )?)
 }
 
 // `ghs explore`.
@@ -176,18 +205,34 @@ fn explore<'a>(alloc: Global) -> Result<Command<'a>, AllocError>
     ensures local { IfOk result (λ command. (out-Command command).has_globals ≡ false) }
     ensures app { IfOk result (λ command. app_of command ≡ explore_command) }
 {
-    Ok(
-        Command::new(alloc, "explore")
-            .about(
-                "Explores all runs of a small network, and prints with which counts of messages they end",
-            )
-            .arg(file(alloc))?
-            .arg(wake(alloc))?
-            .arg(limit(alloc))?
-            .arg(found(alloc))?
-            .arg(end(alloc))?
-            .arg(states_told(alloc))?,
-    )
+    let arguments = vec![in alloc;
+        file(alloc),
+        wake(alloc),
+        limit(alloc),
+        found(alloc),
+        end(alloc),
+        states_told(alloc),
+    ]?;
+    Ok(command(
+        alloc,
+        "explore",
+        "Explores all runs of a small network, and prints with which counts of messages they end",
+        arguments,
+    )?)
+}
+
+// A command of a name, with what it is about and its arguments.
+fn command<'a>(
+    alloc: Global,
+    name: &'a str,
+    about: &'a str,
+    arguments: Vec<Arg<'a>>,
+) -> Result<Command<'a>, AllocError>
+    requires { All (λ a. a.global ≡ false) arguments.items }
+    ensures local { IfOk result (λ r. (out-Command r).has_globals ≡ false) }
+    ensures app { IfOk result (λ r. app_of r ≡ with_rules (map rule_of arguments.entry.items) (new_app name.entry.now)) }
+{
+    Ok(Command::new(alloc, name).about(about).args(arguments)?)
 }
 
 // How many states there may be.
@@ -205,12 +250,9 @@ fn found<'a>(alloc: Global) -> Arg<'a>
     ensures local { result.global ≡ false }
     ensures rule { rule_of result ≡ found_rule }
 {
-    Arg::new(alloc, "found")
-        .long("print")
-        .default_value("report")
-        .help(
-            "What is printed: report, the counts with which runs end, or trace, the events of a run that ends with those of --end",
-        )
+    valued(alloc, "found", "print").default_value("report").help(
+        "What is printed: report, the counts with which runs end, or trace, the events of a run that ends with those of --end",
+    )
 }
 
 // Whose run is printed.
@@ -260,7 +302,7 @@ fn links<'a>(alloc: Global) -> Arg<'a>
     ensures local { result.global ≡ false }
     ensures rule { rule_of result ≡ links_rule }
 {
-    Arg::new(alloc, "links").long("links").help(
+    valued(alloc, "links", "links").help(
         "How many links a random network or a forest has; without it two for each node, and in a forest three for four",
     )
 }
@@ -270,7 +312,7 @@ fn weights<'a>(alloc: Global) -> Arg<'a>
     ensures local { result.global ≡ false }
     ensures rule { rule_of result ≡ weights_rule }
 {
-    Arg::new(alloc, "weights").long("weights").help(
+    valued(alloc, "weights", "weights").help(
         "How links weigh: random, rising, falling or equal; without it random, but for slow and busy, which have weights of their own",
     )
 }
@@ -306,7 +348,7 @@ fn node<'a>(alloc: Global) -> Arg<'a>
     ensures local { result.global ≡ false }
     ensures rule { rule_of result ≡ node_rule }
 {
-    Arg::new(alloc, "node").long("node").help(
+    valued(alloc, "node", "node").help(
         "The node whose events are shown; all nodes' where none is named",
     )
 }
@@ -316,10 +358,7 @@ fn json<'a>(alloc: Global) -> Arg<'a>
     ensures local { result.global ≡ false }
     ensures rule { rule_of result ≡ json_rule }
 {
-    Arg::new(alloc, "json")
-        .long("json")
-        .action(ArgAction::SetTrue)
-        .help("Prints the lines as JSON")
+    flag(alloc, "json", "Prints the lines as JSON")
 }
 
 // The graph's file.
@@ -347,10 +386,11 @@ fn names<'a>(alloc: Global) -> Arg<'a>
     ensures local { result.global ≡ false }
     ensures rule { rule_of result ≡ names_rule }
 {
-    Arg::new(alloc, "names")
-        .long("names")
-        .action(ArgAction::SetTrue)
-        .help("Begins each line with the name of the graph's file, as where several are named")
+    flag(
+        alloc,
+        "names",
+        "Begins each line with the name of the graph's file, as where several are named",
+    )
 }
 
 // Which schedule picks the events.
@@ -366,7 +406,7 @@ fn seeds<'a>(alloc: Global) -> Arg<'a>
     ensures local { result.global ≡ false }
     ensures rule { rule_of result ≡ seeds_rule }
 {
-    Arg::new(alloc, "seeds").long("seeds").required(true).help(
+    valued(alloc, "seeds", "seeds").required(true).help(
         "The seeds, FIRST..LAST, both included, 1000000 of them at most",
     )
 }
@@ -376,7 +416,7 @@ fn pair<'a>(alloc: Global) -> Arg<'a>
     ensures local { result.global ≡ false }
     ensures rule { rule_of result ≡ pair_rule }
 {
-    Arg::new(alloc, "pair").long("seeds").help(
+    valued(alloc, "pair", "seeds").help(
         "Two seeds, FIRST,SECOND, whose runs are shown beside each other, in place of the one of --seed",
     )
 }
@@ -434,12 +474,9 @@ fn sheet<'a>(alloc: Global) -> Arg<'a>
     ensures local { result.global ≡ false }
     ensures rule { rule_of result ≡ sheet_rule }
 {
-    Arg::new(alloc, "sheet")
-        .long("print")
-        .default_value("runs")
-        .help(
-            "What is printed: runs, a line of figures for each, summary, their range, percentiles and sums, or chart, a picture of them as SVG",
-        )
+    valued(alloc, "sheet", "print").default_value("runs").help(
+        "What is printed: runs, a line of figures for each, summary, their range, percentiles and sums, or chart, a picture of them as SVG",
+    )
 }
 
 // By which parts the messages of each run of a sweep are counted.
@@ -447,7 +484,7 @@ fn by<'a>(alloc: Global) -> Arg<'a>
     ensures local { result.global ≡ false }
     ensures rule { rule_of result ≡ by_rule }
 {
-    Arg::new(alloc, "by").long("by").help(
+    valued(alloc, "by", "by").help(
         "Counts the messages of each run by node or level, or how often each rule applied, by rule, a line for each",
     )
 }
@@ -457,7 +494,7 @@ fn stored<'a>(alloc: Global) -> Arg<'a>
     ensures local { result.global ≡ false }
     ensures rule { rule_of result ≡ stored_rule }
 {
-    Arg::new(alloc, "TRACE").long("trace").help(
+    valued(alloc, "TRACE", "trace").help(
         "The stored run that is shown, the text of its events, from standard input where it is -; without it the seed's",
     )
 }
@@ -467,10 +504,11 @@ fn core<'a>(alloc: Global) -> Arg<'a>
     ensures local { result.global ≡ false }
     ensures rule { rule_of result ≡ core_rule }
 {
-    Arg::new(alloc, "core")
-        .long("core")
-        .action(ArgAction::SetTrue)
-        .help("Prints behind the tree, or the report of a run, each component's core and its level")
+    flag(
+        alloc,
+        "core",
+        "Prints behind the tree, or the report of a run, each component's core and its level",
+    )
 }
 
 // Whether it is told how far the run has come.
@@ -478,10 +516,11 @@ fn progress<'a>(alloc: Global) -> Arg<'a>
     ensures local { result.global ≡ false }
     ensures rule { rule_of result ≡ progress_rule }
 {
-    Arg::new(alloc, "progress")
-        .long("progress")
-        .action(ArgAction::SetTrue)
-        .help("Tells standard error how far the run has come")
+    flag(
+        alloc,
+        "progress",
+        "Tells standard error how far the run has come",
+    )
 }
 
 // Whether it is told what each of the threads has done.
@@ -489,10 +528,11 @@ fn tally<'a>(alloc: Global) -> Arg<'a>
     ensures local { result.global ≡ false }
     ensures rule { rule_of result ≡ tally_rule }
 {
-    Arg::new(alloc, "tally")
-        .long("tally")
-        .action(ArgAction::SetTrue)
-        .help("Tells standard error at the end what each of the threads has done")
+    flag(
+        alloc,
+        "tally",
+        "Tells standard error at the end what each of the threads has done",
+    )
 }
 
 // Whether it is told how many of the seeds have been run.
@@ -500,10 +540,11 @@ fn seeds_told<'a>(alloc: Global) -> Arg<'a>
     ensures local { result.global ≡ false }
     ensures rule { rule_of result ≡ progress_rule }
 {
-    Arg::new(alloc, "progress")
-        .long("progress")
-        .action(ArgAction::SetTrue)
-        .help("Tells standard error how many of the seeds have been run")
+    flag(
+        alloc,
+        "progress",
+        "Tells standard error how many of the seeds have been run",
+    )
 }
 
 // Whether it is told how many states have been met.
@@ -511,10 +552,11 @@ fn states_told<'a>(alloc: Global) -> Arg<'a>
     ensures local { result.global ≡ false }
     ensures rule { rule_of result ≡ progress_rule }
 {
-    Arg::new(alloc, "progress")
-        .long("progress")
-        .action(ArgAction::SetTrue)
-        .help("Tells standard error how many states have been met")
+    flag(
+        alloc,
+        "progress",
+        "Tells standard error how many states have been met",
+    )
 }
 
 // Which nodes wake by themselves.
@@ -532,5 +574,23 @@ fn option<'a>(alloc: Global, name: &'a str, default: &'a str) -> Arg<'a>
     ensures local { result.global ≡ false }
     ensures rule { rule_of result ≡ option_rule name.entry.now default.entry.now }
 {
-    Arg::new(alloc, name).long(name).default_value(default)
+    valued(alloc, name, name).default_value(default)
+}
+
+// An option that has no value of its own.
+fn flag<'a>(alloc: Global, name: &'a str, help: &'a str) -> Arg<'a>
+    ensures local { result.global ≡ false }
+    ensures rule { rule_of result ≡ flag_rule name.entry.now }
+{
+    valued(alloc, name, name)
+        .action(ArgAction::SetTrue)
+        .help(help)
+}
+
+// An option `--NAME` with a value, which the program calls by its id.
+fn valued<'a>(alloc: Global, id: &'a str, name: &'a str) -> Arg<'a>
+    ensures local { result.global ≡ false }
+    ensures rule { rule_of result ≡ valued_rule id.entry.now name.entry.now }
+{
+    Arg::new(alloc, id).long(name)
 }

@@ -1,7 +1,7 @@
 //! Command lines.
 ghost use Rattle.ghs_words.specs.declared.job.JobFault.TheVariants.{Memory};
 ghost use Rattle.ghs_words.specs.Grammar.{program};
-ghost use Rattle.ghs_words.specs.Job.{AreNetworks, AreOptions, IsAsked, kind_in, links_in, weights_in, AreStepsOptions, AreSweepLimits, AreSweepOptions, AreWithinLimits, by_in, command_in, has_values, first_seed_in, kinds_of, name_in, node_in, number_at, option_kinds, pair_in, second_seed_in, seeds_at, value_in, with_name, IsForm, IsPicking, IsRefused, IsSaid, IsSaidOf, IsSheet, IsShow, IsTask, IsWake, IsWithinLimits, AreStoredViewOptions, AreViewLimits, AreViewOptions};
+ghost use Rattle.ghs_words.specs.Job.{AreNetworks, AreOptions, IsAsked, kind_in, links_in, weights_in, AreStepsOptions, AreSweepLimits, AreSweepOptions, AreWithinLimits, by_in, command_in, first_seed_in, has_choices, has_course, has_events, has_figures, has_network, has_numbers, has_prints, has_seeds, has_sizes, has_sources, has_values, kinds_of, name_in, node_in, number_at, option_kinds, pair_in, second_seed_in, seeds_at, value_in, with_name, IsForm, IsPicking, IsRefused, IsSaid, IsSaidOf, IsSheet, IsShow, IsTask, IsWake, IsWithinLimits, AreStoredViewOptions, AreViewLimits, AreViewOptions};
 ghost use Rattle.ghs_words.specs.Values.{AreSeeds, are_apart, are_weights, is_among, is_kind, is_number, is_range};
 ghost use Rattle.ghs_words.specs.Networks.{are_read_once, values_in};
 ghost use Rattle.ghs_words.specs.Parts.{go_together, is_part};
@@ -266,7 +266,37 @@ fn check_options<'a>(alloc: Global, matches: &ArgMatches<'a>) -> Result<(), JobF
     ensures err { OnErr result (has_values (subcommand_rows_of matches.now) ≡ false) }
     ensures fault { IfErr result IsRefused }
 {
+    check_choices(alloc, matches)?;
+    check_numbers(alloc, matches)?;
+    check_network(alloc, matches)?;
+    check_runs(alloc, matches)?;
+    check_figures(alloc, matches)?;
+    check_sources(alloc, matches)
+}
+
+/// Whether each choice is one that there is.
+fn check_choices<'a>(alloc: Global, matches: &ArgMatches<'a>) -> Result<(), JobFault>
+    ensures ok { OnOk result (has_choices (subcommand_rows_of matches.now) ≡ true) }
+    ensures err { OnErr result (has_choices (subcommand_rows_of matches.now) ≡ false) }
+    ensures fault { IfErr result IsRefused }
+{
     check_choice(alloc, matches, "wake", "wake", &["all", "first"])?;
+    check_prints(alloc, matches)?;
+    check_choice(
+        alloc,
+        matches,
+        "schedule",
+        "schedule",
+        &["seeded", "patient", "rounds", "waits", "lifo"],
+    )
+}
+
+/// Whether what is printed of a run, of a sweep or of an exploration is one of its choices.
+fn check_prints<'a>(alloc: Global, matches: &ArgMatches<'a>) -> Result<(), JobFault>
+    ensures ok { OnOk result (has_prints (subcommand_rows_of matches.now) ≡ true) }
+    ensures err { OnErr result (has_prints (subcommand_rows_of matches.now) ≡ false) }
+    ensures fault { IfErr result IsRefused }
+{
     check_choice(
         alloc,
         matches,
@@ -281,30 +311,90 @@ fn check_options<'a>(alloc: Global, matches: &ArgMatches<'a>) -> Result<(), JobF
         "print",
         &["runs", "summary", "chart"],
     )?;
-    check_choice(alloc, matches, "found", "print", &["report", "trace"])?;
-    check_choice(
-        alloc,
-        matches,
-        "schedule",
-        "schedule",
-        &["seeded", "patient", "rounds", "waits", "lifo"],
-    )?;
+    check_choice(alloc, matches, "found", "print", &["report", "trace"])
+}
+
+/// Whether each number is one, and in its range.
+fn check_numbers<'a>(alloc: Global, matches: &ArgMatches<'a>) -> Result<(), JobFault>
+    ensures ok { OnOk result (has_numbers (subcommand_rows_of matches.now) ≡ true) }
+    ensures err { OnErr result (has_numbers (subcommand_rows_of matches.now) ≡ false) }
+    ensures fault { IfErr result IsRefused }
+{
+    check_course(alloc, matches)?;
+    check_events(alloc, matches)?;
+    check_sizes(alloc, matches)
+}
+
+/// The numbers of how a network is run.
+fn check_course<'a>(alloc: Global, matches: &ArgMatches<'a>) -> Result<(), JobFault>
+    ensures ok { OnOk result (has_course (subcommand_rows_of matches.now) ≡ true) }
+    ensures err { OnErr result (has_course (subcommand_rows_of matches.now) ≡ false) }
+    ensures fault { IfErr result IsRefused }
+{
     check_number(alloc, matches, "seed", 0, u64::MAX)?;
     check_number(alloc, matches, "workers", 0, MOST_WORKERS as u64)?;
-    check_number(alloc, matches, "turns", 1, EVENT_LIMIT)?;
+    check_number(alloc, matches, "turns", 1, EVENT_LIMIT)
+}
+
+/// The numbers of which events are shown.
+fn check_events<'a>(alloc: Global, matches: &ArgMatches<'a>) -> Result<(), JobFault>
+    ensures ok { OnOk result (has_events (subcommand_rows_of matches.now) ≡ true) }
+    ensures err { OnErr result (has_events (subcommand_rows_of matches.now) ≡ false) }
+    ensures fault { IfErr result IsRefused }
+{
     check_number(alloc, matches, "from", 1, EVENT_LIMIT)?;
     check_number(alloc, matches, "to", 1, EVENT_LIMIT)?;
-    check_number(alloc, matches, "node", 1, u32::MAX as u64)?;
+    check_number(alloc, matches, "node", 1, u32::MAX as u64)
+}
+
+/// The numbers of a network that is made, and of an exploration.
+fn check_sizes<'a>(alloc: Global, matches: &ArgMatches<'a>) -> Result<(), JobFault>
+    ensures ok { OnOk result (has_sizes (subcommand_rows_of matches.now) ≡ true) }
+    ensures err { OnErr result (has_sizes (subcommand_rows_of matches.now) ≡ false) }
+    ensures fault { IfErr result IsRefused }
+{
     check_number(alloc, matches, "links", 0, u32::MAX as u64)?;
     check_number(alloc, matches, "limit", 1, MOST_STATES as u64)?;
-    check_number(alloc, matches, "end", 1, u32::MAX as u64)?;
+    check_number(alloc, matches, "end", 1, u32::MAX as u64)
+}
+
+/// Whether a network that is made has a number of nodes, a kind and weights.
+fn check_network<'a>(alloc: Global, matches: &ArgMatches<'a>) -> Result<(), JobFault>
+    ensures ok { OnOk result (has_network (subcommand_rows_of matches.now) ≡ true) }
+    ensures err { OnErr result (has_network (subcommand_rows_of matches.now) ≡ false) }
+    ensures fault { IfErr result IsRefused }
+{
     check_nodes(alloc, matches)?;
     check_kind(alloc, matches)?;
-    check_weights(alloc, matches)?;
+    check_weights(alloc, matches)
+}
+
+/// Whether the seeds of a sweep are some, and those of a view two.
+fn check_runs<'a>(alloc: Global, matches: &ArgMatches<'a>) -> Result<(), JobFault>
+    ensures ok { OnOk result (has_seeds (subcommand_rows_of matches.now) ≡ true) }
+    ensures err { OnErr result (has_seeds (subcommand_rows_of matches.now) ≡ false) }
+    ensures fault { IfErr result IsRefused }
+{
     check_seeds(alloc, matches)?;
-    check_two_seeds(alloc, matches)?;
+    check_two_seeds(alloc, matches)
+}
+
+/// Whether the figures of a sweep can be printed as it is asked for.
+fn check_figures<'a>(alloc: Global, matches: &ArgMatches<'a>) -> Result<(), JobFault>
+    ensures ok { OnOk result (has_figures (subcommand_rows_of matches.now) ≡ true) }
+    ensures err { OnErr result (has_figures (subcommand_rows_of matches.now) ≡ false) }
+    ensures fault { IfErr result IsRefused }
+{
     check_part(alloc, matches)?;
-    check_together(alloc, matches)?;
+    check_together(alloc, matches)
+}
+
+/// Whether standard input isn't read twice.
+fn check_sources<'a>(alloc: Global, matches: &ArgMatches<'a>) -> Result<(), JobFault>
+    ensures ok { OnOk result (has_sources (subcommand_rows_of matches.now) ≡ true) }
+    ensures err { OnErr result (has_sources (subcommand_rows_of matches.now) ≡ false) }
+    ensures fault { IfErr result IsRefused }
+{
     check_inputs(alloc, matches)?;
     check_files(alloc, matches)
 }

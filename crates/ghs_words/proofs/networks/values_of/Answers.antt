@@ -1,4 +1,4 @@
-use Rattle.std.proofs.Common.{ap, List, ◌∙◌, ◌≡◌, refl, Some, None, option_map}
+use Rattle.std.proofs.Common.{ap, ◌∙◌, ◌≡◌, refl, Some, None, option_map}
 use Rattle.std.specs.Option.{option_and_then}
 use Rattle.clap.specs.Words.{Text, all_of, found_of, subcommand_rows_of}
 use Rattle.clap.proofs.WalkLemmas.{raw_values-rows}
