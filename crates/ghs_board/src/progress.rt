@@ -6,6 +6,7 @@ ghost use Rattle.ghs_board.specs.Progress.{pair, pair_of, word_of};
 #[derive(Clone, Copy, Debug, Drop, PartialEq, Eq)]
 pub struct Progress {
     pub commits: u64,
+    /// The run has ended: in each component a core node has halted.
     pub halted: bool,
 }
 

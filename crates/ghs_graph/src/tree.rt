@@ -17,7 +17,7 @@ pub fn tree_slow(alloc: Global, graph: &Graph) -> Result<Vec<Key>, AllocError>
     Ok(span(alloc, graph.nodes(), graph.keys())?.tree)
 }
 
-/// The same of the graph of a text, for a caller that wants no ports.
+/// The same of the graph of a text, by Kruskal's algorithm too, for a caller that wants no ports.
 ///
 /// ```text
 /// let raw = judge(alloc, b"p sp 3 3\na 1 2 7\na 2 3 1\na 1 3 9")?;

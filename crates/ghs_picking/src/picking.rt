@@ -18,7 +18,7 @@ use ghs_waits::run::run_waiting;
 use ghs_world::world::World;
 use std::alloc::Global;
 
-/// Among which events a schedule picks the next one.
+/// Among which events a schedule picks the next one, as `--schedule` names it.
 #[derive(Clone, Copy, Debug, PartialEq, Eq)]
 pub enum Picking {
     /// Among all that may happen.

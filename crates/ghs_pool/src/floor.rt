@@ -41,7 +41,7 @@ impl Start for Brand {
 // What the workers keep of each node.
 #[derive(Drop)]
 pub struct Notes {
-    // The port behind the one that was served or passed over last.
+    // The port behind the one whose event began or was passed over last.
     ports: Vec<u32>,
     // How many events it has made at once since it went out last, where it has many ports.
     made: Vec<u32>,
@@ -50,7 +50,7 @@ pub struct Notes {
 }
 
 impl Notes {
-    // No port was served, nothing was made, and no number waits.
+    // No event began, nothing was made, and no number waits.
     pub fn fresh(alloc: Global, nodes: u32) -> Result<Notes, AllocError>
         ensures { IfOk result (λ n. length n.ports.items ≡ nodes) }
     {
@@ -196,8 +196,8 @@ impl<J: Start> Floor<J> {
         }
     }
 
-    // A worker's visit: the steps in its hand happen, and what it serves next goes out. With nothing to serve in the queue
-    // it looks over all nodes, and else when a look is due; or it leaves the work to others.
+    // A worker's visit: the steps in its hand happen, and what it performs next goes out. Where the queue gave it nothing it
+    // looks over all nodes, and else when a look is due; or it leaves the lock to others.
     pub fn visit<R: Wait>(
         &mut self,
         rt: &R,

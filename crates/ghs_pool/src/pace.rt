@@ -32,7 +32,7 @@ pub fn crowd_of(nodes: usize) -> usize {
 pub struct Pace {
     // The numbers taken since the last look.
     taken: u32,
-    // How long the last rest was; none since something was served.
+    // How long the last rest was; none since an event happened.
     pause: u32,
     // The events made since the worker came.
     served: u32,

@@ -1,4 +1,4 @@
-//! Threads that serve one world.
+//! Threads that run one world on.
 ghost use Rattle.std.specs.Prelude.{◌≡◌, ◌≤◌, ◌+◌, [], Some, length, IfOk};
 ghost use Rattle.ghs_core.specs.NetState.{network, IsLeastHalted};
 ghost use Rattle.ghs_world.specs.WorldState.{home};
@@ -134,7 +134,7 @@ fn run_from<J: Start + Send + Sync, G: Gate + Sync, R: Threads + Wait + Sync>(
     (world, publisher, end)
 }
 
-// A thread for each share of the pass serves until the run is over. Whether none was refused; all have ended.
+// Starts a worker for each share of the pass, each on a thread of its own. Whether none was refused; all have ended.
 fn serve_all<J: Start + Send + Sync, G: Gate + Sync, R: Threads + Wait + Sync>(
     rt: &R,
     alloc: Global,
@@ -187,7 +187,7 @@ fn serve_all<J: Start + Send + Sync, G: Gate + Sync, R: Threads + Wait + Sync>(
     )
 }
 
-// Serves nodes until the run is over: visits to the lock, and between them what needs none.
+// A worker, until the run is over: visits to the lock, and between them what needs none.
 fn work<J: Start, G: Gate, R: Wait>(
     rt: &R,
     alloc: Global,

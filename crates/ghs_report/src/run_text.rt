@@ -9,8 +9,8 @@ use crate::net_text::{ReportFault, net_text};
 use ghs_world::world::World;
 use std::alloc::Global;
 
-/// The text of a world whose run has ended: that of its home view, whatever is out. Refusals: the run hasn't ended; want
-/// of memory.
+/// The text of a world whose run has ended, as `--print report` prints it: that of its home view, whatever is out. Refusals:
+/// the run hasn't ended; want of memory.
 pub fn run_text(alloc: Global, world: &World) -> Result<Vec<u8>, ReportFault>
     ensures text { IfOk result (λ text. IsNetText world.now.net.graph (home world.now) text.items) }
     ensures ended { IfOk result (λ _. HasEnded world.now.net.graph (home world.now)) }

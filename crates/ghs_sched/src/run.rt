@@ -15,7 +15,7 @@ use std::alloc::{AllocError, Global};
 /// How a run ends.
 #[derive(Clone, Copy, Debug, Drop, PartialEq, Eq)]
 pub enum RunEnd {
-    /// The run has ended, and this is the least node that has halted as a core node.
+    /// The run has ended: in each component a core node has halted. This is the least node that has.
     Halted(u32),
 }
 

@@ -41,7 +41,7 @@ pub const MOST_WORKERS: u32 = 64;
 /// What of a run is printed.
 #[derive(Clone, Copy, Debug, PartialEq, Eq)]
 pub enum Show {
-    /// Where it has ended, the text of the net that it leaves.
+    /// What `--print report` prints: where it has ended, the text of the net that it leaves.
     Summary,
     /// Its events.
     Events,
