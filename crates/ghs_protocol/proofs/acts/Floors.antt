@@ -14,18 +14,17 @@ use Rattle.ghs_protocol.proofs.lemmas.Wired.{IsWired}
 use Rattle.ghs_protocol.specs.Marks.{Leads, Here, Over}
 use Rattle.ghs_protocol.proofs.clauses.Scene.{Scene, End, tree_end, end, forest, far_end}
 use Rattle.ghs_protocol.proofs.clauses.Changes.{seen_beyond}
-use Rattle.ghs_protocol.proofs.clauses.Links.{Joins, Ups}
-use Rattle.ghs_protocol.proofs.clauses.Search.{LeadsOut}
-use Rattle.ghs_protocol.proofs.clauses.TreeMessages.{Begun, Stage, AtStage, Asking, Called}
 use Rattle.ghs_protocol.proofs.clauses.Fragments.{IsJoinedIn, Root, Both_ways, Reach, At_root, By_step}
 use Rattle.ghs_protocol.proofs.clauses.Uniting.{SendsRoot, By_report, By_root}
-use Rattle.ghs_protocol.proofs.clauses.Whole.{LinkFits, Invariant, NamesOf}
+use Rattle.ghs_protocol.proofs.clauses.Whole.{Invariant, NamesOf}
 use Rattle.ghs_protocol.proofs.clauses.Floors.{Floor, lower, FloorsAt, IsTreeLink, Floors}
 use Rattle.ghs_protocol.proofs.acts.SameForest.{branch_mark}
 use Rattle.ghs_protocol.proofs.tests.Links.{probe_is}
 use Rattle.ghs_protocol.proofs.rest.Halt.{Back, Old, Half, back}
 use Rattle.ghs_protocol.proofs.root.AtRoot.{AtRoot, root_sent}
-use Rattle.ghs_protocol.proofs.rows.Link.{link_fits, link_fits', link_leads}
+use Rattle.ghs_protocol.proofs.rows.Link.{link_fits, link_clauses, joined_clauses}
+use Rattle.ghs_protocol.proofs.acts.Situations.{begun_at_top, all_awake}
+use Rattle.ghs_protocol.proofs.lemmas.Wires.{at_in}
 
 -- The order of floors.
 
@@ -116,11 +115,6 @@ module _ (g : Network) (wired : IsWired g) (w : Scene) (holds : Invariant g w) (
         (probe_is (w.at (far g v p)).up (far_port g v p))
 
     module _ (awake : (w.at u).head.phase ≢ Sleeping) where
-      pub wakes : (v : ℕ) → InNetwork g v → (w.at v).fragment ≡ (w.at u).fragment → (w.at v).head.phase ≢ Sleeping
-      wakes v is same e =
-          awake
-          (subst (λ y. (w.at y).head.phase ≡ Sleeping) (sym (holds.alone v u is (record { some = at.some; node = at.node }) e (sym same))) e)
-
       -- no link that leads out of the fragment is below the floor
       pub leads_above : (v p : ℕ) →
           At g v p →
@@ -129,19 +123,12 @@ module _ (g : Network) (wired : IsWired g) (w : Scene) (holds : Invariant g w) (
           lower k (Some (Some (port_at g v p).key)) ≡ true
       leads_above v p at' same out =
           let is : InNetwork g v = record { some = at'.some; node = at'.node } in
-          let z = (holds.nodes v is).points (wakes v is same) (omega (arith, at'.port)) in
+          let z = (holds.nodes v is).points (all_awake g w holds.alone u (at_in at) awake v is same) (omega (arith, at'.port)) in
           lower_on k (floor v) _ (above_root (holds.trees.reached v z.port is z.up) same) ((near_fits v p at').none_below (λ e. out (e ∙ same)))
 
   -- The root is about to be sent on.
   module _ (u j : ℕ) (at : At g u j) (ms : List Message) (root : AtRoot g w u j ms) where
-    link : LinkFits (NamesOf g w) (end g w u j) (far_end g w u j)
-    link = link_fits g wired w holds u j at
-
-    link' : LinkFits (NamesOf g w) (far_end g w u j) (end g w u j)
-    link' = link_fits' g wired w holds u j at
-
-    ways : Joins (tree_end (end g w u j)) (tree_end (far_end g w u j)) → Ups (tree_end (end g w u j)) ⊎ Ups (tree_end (far_end g w u j))
-    ways = link_leads g wired w holds u j at
+    open link_clauses g wired w holds u j at use {link, link', ways}
 
     there_fits : FloorsAt (far_end g w u j) (end g w u j) (floor (far g u j)) (floor u)
     there_fits = far_fits u j at
@@ -154,24 +141,18 @@ module _ (g : Network) (wired : IsWired g) (w : Scene) (holds : Invariant g w) (
     found : (w.at u).head.phase ≡ Found
     found = root.quiet.found u (record { some = at.some; node = at.node }) refl
 
-    begun : (s : Stage) → s ≡ Begun → AtStage (tree_end (far_end g w u j)) s → (w.at (far g u j)).head.level ≡ (w.at (far g u j)).coming
-    begun Begun i a = a
-    begun Asking i a = cc
-    begun Called i a = cc
-
     by_report : (k : Option Key) → (waits : (w.seen u j).tree ≡ Report k ∷ ms) → below (best_key (w.at u).head.best) k ≡ true → RootFloors
     by_report k waits better = go (back (tree_end (end g w u j)) (tree_end (far_end g w u j)) link.tree link'.tree ways k ms waits (λ ne. ne root.up))
       where
         go : Back (NamesOf g w (w.at u).fragment) (tree_end (end g w u j)) (tree_end (far_end g w u j)) k ms → RootFloors
         go (Old c h x) = absurd (c.down root.up_beyond)
         go (Half c z a b n p q) =
-            let same = holds.trees.by_fragment (far g u j) u
-            (sym (holds.trees.joined_within u j at (record { here = ap is_branch c.both.joins.here; there = ap is_branch c.both.joins.there }))) in
+            let same = (joined_clauses g w holds u j at c.both.joins).ghosts in
             let mine : floor u ≡ Some (best_key (w.at u).head.best) = (near_fits u j at).core c root.top found in
             let theirs : floor (far g u j) ≡ Some (best_key (w.at (far g u j)).head.best) = there_fits.core (record {
               both = record { joins = record { here = c.both.joins.there; there = c.both.joins.here }; up = c.both.up_beyond; up_beyond = c.both.up };
               named = same.1 ∙ c.named;
-            }) (begun z.there b z.at_there) p in
+            }) (begun_at_top (tree_end (far_end g w u j)) z.there b z.at_there) p in
             record {
               mine = mine;
               theirs =
@@ -191,14 +172,13 @@ module _ (g : Network) (wired : IsWired g) (w : Scene) (holds : Invariant g w) (
     -- the best link of the root, where it leads out, is the least that does
     module _ (calls : SendsRoot w u j ms) (b : ℕ) (k : Key) (atb : At g u b) (best : (w.at u).head.best ≡ Some (b, k))
         (mark : (w.at u).mark b ≢ Branch) where
-      out : LeadsOut (tree_end (end g w u b)) (tree_end (far_end g w u b)) k
-      out = (link_fits g wired w holds u b atb).search.find_leads k best root.top mark
-
       floors_here : RootFloors
       floors_here = root_floors calls
 
       is_floor : floor u ≡ Some (Some (port_at g u b).key)
-      is_floor = floors_here.mine ∙ ap (λ o. Some (best_key o)) best ∙ ap (λ x. Some (Some x)) out.key
+      is_floor =
+          let out = (link_fits g wired w holds u b atb).search.find_leads k best root.top mark in
+          floors_here.mine ∙ ap (λ o. Some (best_key o)) best ∙ ap (λ x. Some (Some x)) out.key
 
       pub best_least : (t q : ℕ) →
           At g t q →
@@ -214,4 +194,6 @@ module _ (g : Network) (wired : IsWired g) (w : Scene) (holds : Invariant g w) (
 
       -- so it is one of the tree
       pub best_in_tree : IsTreeLink g u b
-      best_in_tree = cut_link g (λ t. (w.at t).fragment) (w.at u).fragment u b out.apart best_least refl
+      best_in_tree =
+          let out = (link_fits g wired w holds u b atb).search.find_leads k best root.top mark in
+          cut_link g (λ t. (w.at t).fragment) (w.at u).fragment u b out.apart best_least refl

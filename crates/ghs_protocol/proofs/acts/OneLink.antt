@@ -1,5 +1,5 @@
 -- Steps of a node that touch the two queues of one link, and leave the fragments' forest.
-use Rattle.std.proofs.Common.{◌≡◌, ◌≢◌, ℕ, ◌+◌, false, List, [], ◌∷◌, refl, sym, ◌∙◌, ap, ap₂, subst, subst₂, ⊎_elim, length, arith, eq-eqb, ne_eqb}
+use Rattle.std.proofs.Common.{◌≡◌, ◌≢◌, ℕ, ◌+◌, false, List, [], ◌∷◌, refl, sym, ◌∙◌, ap, ap₂, subst, subst₂, ⊎_elim, length, arith, eq-eqb, ne_eqb, ◌≤◌}
 use Rattle.std.proofs.lemmas.Bool.{cases_eq}
 use Rattle.ghs_node.specs.declared.mark.Mark.TheVariants.{Branch}
 use Rattle.ghs_node.specs.Words.{is_branch, Outgoing}
@@ -10,7 +10,7 @@ use Rattle.ghs_protocol.proofs.lemmas.Wired.{IsWired}
 use Rattle.ghs_protocol.specs.Net.{put}
 use Rattle.ghs_protocol.specs.Steps.{sent_on}
 use Rattle.ghs_protocol.proofs.lemmas.Updates.{put_same, put_other}
-use Rattle.ghs_protocol.proofs.lemmas.Sums.{sum_same, sum_one}
+use Rattle.ghs_protocol.proofs.lemmas.Sums.{sum_same, sum_one, term_le}
 use Rattle.ghs_protocol.specs.Ledger.{sum_below}
 use Rattle.ghs_protocol.proofs.clauses.Scene.{Seen, adds, Member, Scene, End, end, Forest, forest, acts, far_end}
 use Rattle.ghs_protocol.proofs.clauses.Changes.{seen_beyond}
@@ -19,6 +19,7 @@ use Rattle.ghs_protocol.proofs.clauses.Whole.{LinkFits, Invariant, NamesOf}
 use Rattle.ghs_protocol.proofs.clauses.Fragments.{Names}
 use Rattle.ghs_protocol.proofs.clauses.Rest.{Quiet, Resting, has_call, debt, DebtsCounted}
 use Rattle.ghs_protocol.proofs.acts.SameForest.{Alike, near', far', quiet_after, forest_after, sums_after, kept_after, branch_mark}
+use Rattle.ghs_protocol.proofs.lemmas.Wires.{at_in}
 
 -- all that is sent goes out on port j, or nothing
 pub record SendsOn (j : ℕ) (ms : List Message) (ss : Outgoing) : Type 0 where
@@ -31,7 +32,6 @@ sends_none j = record { only = refl; none = λ i ne. refl }
 pub sends_one : (j : ℕ) (m : Message) → SendsOn j (m ∷ []) ((j, m) ∷ [])
 sends_one j m = record { only = rw (eq-eqb j j refl) refl; none = λ i ne. rw (ne_eqb j i (λ e. ne (sym e))) refl }
 
--- a fact of all links, at the two ends of u's
 -- a node's find_count is what its neighbours owe it
 pub debts_here : (g : Network) → IsWired g → (w : Scene) → DebtsCounted g w → (u : ℕ) → InNetwork g u →
     (w.at u).head.find_count ≡ sum_below (length (g.ports u)) (λ i. debt (end g w u i) (far_end g w u i))
@@ -48,6 +48,14 @@ debts_here g wired w counted u is =
       seen = seen_beyond g w u i;
     }
 
+-- what one neighbour owes is at most find_count
+pub debt_within : (g : Network) → IsWired g → (w : Scene) → DebtsCounted g w → (u i : ℕ) → At g u i →
+    debt (end g w u i) (far_end g w u i) ≤ (w.at u).head.find_count
+debt_within g wired w counted u i at =
+    subst (λ n. debt (end g w u i) (far_end g w u i) ≤ n) (sym (debts_here g wired w counted u (at_in at)))
+    (term_le (length (g.ports u)) i (λ p. debt (end g w u p) (far_end g w u p)) at.port)
+
+-- a fact of all links, at the two ends of u's
 module _ (g : Network) (wired : IsWired g) (w : Scene) (P : End → End → Type 0)
     (all : (v p : ℕ) → At g v p → P (end g w v p) (end g w (far g v p) (far_port g v p))) (u i : ℕ) (at : At g u i) where
   far_is : end g w (far g u i) (far_port g u i) ≡ far_end g w u i

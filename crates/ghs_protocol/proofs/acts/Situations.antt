@@ -1,5 +1,5 @@
 -- What the clauses give of one node, of two nodes of a fragment, and of a mark that turns Rejected.
-use Rattle.std.proofs.Common.{◌≡◌, ◌≢◌, ℕ, ◌<◌, ◌≤◌, Option, Some, None, refl, sym, ◌∙◌, ap, subst, ⊎_elim, ◌⊎◌, inl, inr, arith}
+use Rattle.std.proofs.Common.{◌≡◌, ◌≢◌, ℕ, ◌<◌, ◌≤◌, Option, Some, None, refl, sym, ◌∙◌, ap, subst, ⊎_elim, ◌⊎◌, inl, inr, arith, List}
 use Rattle.std.proofs.lemmas.Bool.{cases_eq}
 use Rattle.ghs_graph.specs.declared.key.Key.{Key}
 use Rattle.ghs_node.specs.declared.mark.Mark.{Mark}
@@ -7,13 +7,15 @@ use Rattle.ghs_node.specs.declared.mark.Mark.TheVariants.{Basic, Branch, Rejecte
 use Rattle.ghs_node.specs.Words.{is_branch, Best}
 use Rattle.ghs_node.specs.declared.message.Phase.{Phase}
 use Rattle.ghs_node.specs.declared.message.Phase.TheVariants.{Sleeping, Find, Found}
-use Rattle.ghs_protocol.specs.Network.{Network}
-use Rattle.ghs_protocol.proofs.clauses.Scene.{Member, TreeEnd, Forest}
+use Rattle.ghs_node.specs.declared.message.Message.{Message}
+use Rattle.ghs_protocol.specs.Network.{Network, InNetwork}
+use Rattle.ghs_protocol.proofs.clauses.Scene.{Member, Scene, TreeEnd, Forest}
 use Rattle.ghs_protocol.proofs.clauses.Changes.{rejected, marked}
 use Rattle.ghs_protocol.proofs.clauses.Nodes.{NodeFits, LevelLags}
-use Rattle.ghs_protocol.proofs.clauses.TreeMessages.{TreeFits, CoreFits}
+use Rattle.ghs_protocol.proofs.clauses.TreeMessages.{TreeFits, CoreFits, Stage, Asking, Called, Begun, AtStage}
 use Rattle.ghs_protocol.proofs.clauses.Search.{SearchFits}
 use Rattle.ghs_protocol.proofs.clauses.Fragments.{Names, JoinedWithin}
+use Rattle.ghs_protocol.proofs.clauses.Rest.{Alone}
 use Rattle.ghs_protocol.proofs.clauses.Wiring.{IsKeyed}
 use Rattle.ghs_protocol.proofs.lemmas.Updates.{put_same, put_other}
 use Rattle.ghs_protocol.proofs.acts.SameForest.{branch_mark}
@@ -61,6 +63,24 @@ one_fragment g s a b k keyed joined_within x y =
     ⊎_elim (λ h. sym x.fragment ∙ ap s.fragment h.0 ∙ y.fragment)
     (λ h. sym x.fragment ∙ joined_within _ _ x.at x.joined ∙ ap s.fragment h.0 ∙ y.fragment)
     (keyed _ _ _ _ x.at y.at (x.key ∙ sym y.key))
+
+-- where one node of a fragment is awake, all are
+pub all_awake : (g : Network) (w : Scene) → Alone g w → (u : ℕ) → InNetwork g u → (w.at u).head.phase ≢ Sleeping → (v : ℕ) → InNetwork g v →
+    (w.at v).fragment ≡ (w.at u).fragment → (w.at v).head.phase ≢ Sleeping
+all_awake g w alone u u_is awake v is same e =
+    awake (subst (λ y. (w.at y).head.phase ≡ Sleeping) (sym (alone v u is u_is e (sym same))) e)
+
+-- a core end that has begun is at the top
+pub begun_at_top : (e : TreeEnd) (s : Stage) → s ≡ Begun → AtStage e s → e.level ≡ e.coming
+begun_at_top e Begun i a = a
+begun_at_top e Asking i a = cc
+begun_at_top e Called i a = cc
+
+-- a stage stays while messages are read
+pub stage_read : (e : TreeEnd) (ms : List Message) (s : Stage) → AtStage e s → AtStage (record e { tree = ms }) s
+stage_read e ms Asking h = h
+stage_read e ms Called h = h
+stage_read e ms Begun h = h
 
 -- a core link seen from its other end
 pub core_from_there : (e f : TreeEnd) → CoreFits e f → CoreFits f e

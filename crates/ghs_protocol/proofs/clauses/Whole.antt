@@ -21,11 +21,19 @@ pub record LinkFits (N : ℕ → Key → Type 0) (e f : End) : Type 0 where
 abbrev pub NamesOf : Network → Scene → ℕ → Key → Type 0
 NamesOf g w a k = Names g (forest w) a k
 
+-- each node keeps its clauses
+abbrev pub NodesFit : Network → Scene → Type 0
+NodesFit g w = (v : ℕ) → InNetwork g v → NodeFits (length (g.ports v)) (w.at v)
+
+-- each link keeps them, from either end
+abbrev pub LinksFit : Network → Scene → Type 0
+LinksFit g w = (v p : ℕ) → At g v p → LinkFits (NamesOf g w) (end g w v p) (end g w (far g v p) (far_port g v p))
+
 -- all clauses
 pub record Invariant (g : Network) (w : Scene) : Type 0 where
-  pub nodes : (v : ℕ) → InNetwork g v → NodeFits (length (g.ports v)) (w.at v)
+  pub nodes : NodesFit g w
   pub trees : ForestFits g (forest w)
-  pub links : (v p : ℕ) → At g v p → LinkFits (NamesOf g w) (end g w v p) (end g w (far g v p) (far_port g v p))
+  pub links : LinksFit g w
   pub alone : Alone g w
   pub named : Named g w
   pub resting : Resting g w

@@ -1,6 +1,6 @@
 -- A node has halted exactly where one of its reactions has halted it.
 use Rattle.std.proofs.Common.{◌≡◌, ℕ, ◌⊎◌, inl, inr, ⊎_elim, ◌↔◌, Bool, true, false, ◌||◌, List, [], ◌∷◌, refl, sym, ◌∙◌, ap, subst, Some}
-use Rattle.std.proofs.lemmas.Bool.{cases_eq}
+use Rattle.std.proofs.lemmas.Bool.{cases_eq, or_cases}
 use Rattle.std.proofs.lemmas.Option.{same_Some}
 use Rattle.ghs_node.specs.declared.message.Message.{Message}
 use Rattle.ghs_node.specs.declared.delta.Delta.{Delta}
@@ -23,10 +23,6 @@ use Rattle.ghs_protocol.proofs.lemmas.Sends.{node_here, node_there}
 use Rattle.ghs_protocol.proofs.lemmas.WellFormed.{HasFewPorts, IsWellFormed, event_row, event_formed, opening_formed}
 use Rattle.ghs_protocol.proofs.lemmas.Lasting.{run_lasts}
 
-or_true : (a b : Bool) → (a || b) ≡ true → (a ≡ true) ⊎ (b ≡ true)
-or_true true b e = inl refl
-or_true false b e = inr e
-
 or_right : (a b : Bool) → b ≡ true → (a || b) ≡ true
 or_right true b e = refl
 or_right false b e = e
@@ -47,7 +43,7 @@ halted_by g w w1 u v d e nodes sets r h =
     here is =
         let now : d.head.halted ≡ true = sym (ap (λ (n : NodeState). n.head.halted) (ap (reacted g u d w1).node is ∙ node_here g u d w1)) ∙ h in
         ⊎_elim (λ a. inl (ap (λ y. (w.node y).head.halted) is ∙ a)) (λ b. inr (d, subst (λ y. Reacts w e y d) (sym is) r, b))
-        (or_true _ _ (sym sets ∙ now))
+        (or_cases _ _ (sym sets ∙ now))
 
 -- the node that reacts has halted, where the reaction halts it
 halts_here : (g : Network) (w w1 : Net) (u : ℕ) (d : Delta) → d.head.halted ≡ ((w.node u).head.halted || d.halts) → d.halts ≡ true →

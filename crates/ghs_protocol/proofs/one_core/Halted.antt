@@ -2,7 +2,7 @@
 use Rattle.std.proofs.Common.{◌≡◌, ◌≢◌, ℕ, ◌<◌, true, Option, Some, None, List, [], ◌∷◌, length, refl, sym, ◌∙◌, ap, subst, ⊎_elim, ◌⊎◌, inl, inr, arith}
 use Rattle.std.proofs.lemmas.Bool.{cases_eq}
 use Rattle.ghs_graph.specs.declared.key.Key.{Key}
-use Rattle.ghs_node.specs.Words.{is_branch, below, best_key}
+use Rattle.ghs_node.specs.Words.{below, best_key}
 use Rattle.ghs_node.specs.declared.mark.Mark.{Mark}
 use Rattle.ghs_node.specs.declared.message.Phase.TheVariants.{Sleeping, Found}
 use Rattle.ghs_node.specs.declared.message.Message.{Message}
@@ -18,17 +18,16 @@ use Rattle.ghs_protocol.specs.Steps.{Step, Wakes_up, Takes_one, waking, reacted}
 use Rattle.ghs_protocol.proofs.lemmas.Nodes.{ports_many}
 use Rattle.ghs_protocol.proofs.lemmas.Sends.{node_here, node_there}
 use Rattle.ghs_protocol.proofs.lemmas.WellFormed.{AreNodes}
-use Rattle.ghs_protocol.proofs.clauses.Scene.{Ghost, Scene, TreeEnd, scene, see, tree_end, end, far_end, forest}
-use Rattle.ghs_protocol.proofs.clauses.Links.{Joins}
-use Rattle.ghs_protocol.proofs.clauses.TreeMessages.{Begun, Stage, AtStage, Asking, Called}
+use Rattle.ghs_protocol.proofs.clauses.Scene.{Ghost, Scene, scene, see, tree_end, end, far_end, forest}
 use Rattle.ghs_protocol.proofs.clauses.Fragments.{IsJoinedIn}
 use Rattle.ghs_protocol.proofs.clauses.Floors.{Floor, lower, Sound}
 use Rattle.ghs_protocol.proofs.clauses.Wiring.{Ground}
-use Rattle.ghs_protocol.proofs.clauses.Whole.{LinkFits, NamesOf}
-use Rattle.ghs_protocol.proofs.rest.Halt.{Back, Old, Half, back, owed_finds}
-use Rattle.ghs_protocol.proofs.rows.Link.{link_fits, link_fits', link_leads}
+use Rattle.ghs_protocol.proofs.clauses.Whole.{NamesOf}
+use Rattle.ghs_protocol.proofs.rest.Halt.{Back, Old, Half, heard_at_rest}
+use Rattle.ghs_protocol.proofs.rows.Link.{joined_in, joined_clauses}
 use Rattle.ghs_protocol.proofs.rows.Read.{tree_first}
 use Rattle.ghs_protocol.proofs.acts.Floors.{near_fits, far_fits, leads_above}
+use Rattle.ghs_protocol.proofs.acts.Situations.{begun_at_top}
 
 -- the node has the coming name's link, joined, or no link
 pub data AtCore (g : Network) (w : Scene) (v : ℕ) : Type 0 where
@@ -53,23 +52,6 @@ module _ (g : Network) (ground : Ground g) (w : Scene) (s : Sound g w) (u : ℕ)
   -- the last Report comes in
   module _ (j : ℕ) (at : At g u j) (ms : List Message) (waits : (w.seen u j).tree ≡ Report None ∷ ms) (way : (w.at u).head.in_branch ≡ Some j)
       (rests : (w.at u).head.phase ≡ Found) (best : (w.at u).head.best ≡ None) where
-    link : LinkFits (NamesOf g w) (end g w u j) (far_end g w u j)
-    link = link_fits g ground.wired w s.first u j at
-
-    link' : LinkFits (NamesOf g w) (far_end g w u j) (end g w u j)
-    link' = link_fits' g ground.wired w s.first u j at
-
-    mine : (w.at u).up ≢ Some j → ⊥
-    mine ne = let z = owed_finds g ground.wired u u_is j at w s.first ne (rw waits refl) in cc (z, rests)
-
-    inside : Joins (tree_end (end g w u j)) (tree_end (far_end g w u j)) → IsJoinedIn g (forest w) u j
-    inside h = record { here = ap is_branch h.here; there = ap is_branch h.there }
-
-    begun : (e : TreeEnd) (t : Stage) → t ≡ Begun → AtStage e t → e.level ≡ e.coming
-    begun e Begun i a = a
-    begun e Asking i a = cc
-    begun e Called i a = cc
-
     no_key : (o : Option Key) → o ≡ None → below None o ≡ true → ⊥
     no_key o e h = cc
 
@@ -80,27 +62,21 @@ module _ (g : Network) (ground : Ground g) (w : Scene) (s : Sound g w) (u : ℕ)
     halts_so (Old c h x) = absurd (let z = h.worse in cc)
     halts_so (Half c z a b n p q) = record {
       whole = λ t i at' same. ⊎_elim (λ e. e) (λ away. absurd (let y = above t i at' same away in cc)) (cases_eq _ _);
-      top = top;
-      core = On_core j at (inside c.both.joins) c.named;
+      top = begun_at_top (tree_end (end g w u j)) z.here a z.at_here;
+      core = On_core j at (joined_in g w u j c.both.joins) c.named;
     }
       where
-        top : (w.at u).head.level ≡ (w.at u).coming
-        top = begun (tree_end (end g w u j)) z.here a z.at_here
-
-        same : ((w.at (far g u j)).coming ≡ (w.at u).coming) × ((w.at (far g u j)).coming_name ≡ (w.at u).coming_name)
-        same = s.first.trees.by_fragment (far g u j) u (sym (s.first.trees.joined_within u j at (inside c.both.joins)))
-
         here_floor : s.floor u ≡ Some None
-        here_floor = (near_fits g ground.wired w s.first s.floor s.floors u j at).core c top rests ∙ ap (λ o. Some (best_key o)) best
+        here_floor = (near_fits g ground.wired w s.first s.floor s.floors u j at).core c (begun_at_top (tree_end (end g w u j)) z.here a z.at_here) rests ∙ ap (λ o. Some (best_key o)) best
 
         there_floor : s.floor (far g u j) ≡ Some None
         there_floor =
             (far_fits g ground.wired w s.first s.floor s.floors u j at).core
             (record {
               both = record { joins = record { here = c.both.joins.there; there = c.both.joins.here }; up = c.both.up_beyond; up_beyond = c.both.up };
-              named = same.1 ∙ c.named;
+              named = (joined_clauses g w s.first u j at c.both.joins).ghosts.1 ∙ c.named;
             })
-            (begun (tree_end (far_end g w u j)) z.there b z.at_there) p ∙
+            (begun_at_top (tree_end (far_end g w u j)) z.there b z.at_there) p ∙
             ap Some q
 
         above : (t i : ℕ) →
@@ -109,13 +85,12 @@ module _ (g : Network) (ground : Ground g) (w : Scene) (s : Sound g w) (u : ℕ)
             (w.at (far g t i)).fragment ≢ (w.at u).fragment →
             lower (Some None) (Some (Some (port_at g t i).key)) ≡ true
         above t i at' same away =
-            leads_above g ground.wired w s.first s.floor s.floors u j at (inside c.both.joins) c.both.up c.both.up_beyond (Some None)
+            leads_above g ground.wired w s.first s.floor s.floors u j at (joined_in g w u j c.both.joins) c.both.up c.both.up_beyond (Some None)
             (none_lower _ here_floor) (none_lower _ there_floor) (λ e. cc (e, rests)) t i at' same away
 
     pub report_halts : IsCoreNode g w u
     report_halts =
-        halts_so
-        (back (tree_end (end g w u j)) (tree_end (far_end g w u j)) link.tree link'.tree (link_leads g ground.wired w s.first u j at) None ms waits mine)
+        halts_so (heard_at_rest g ground.wired u u_is j at w s.first None ms waits rests)
 
   -- a node without links wakes
   pub lone_halts : (w.at u).head.phase ≡ Sleeping → ◌≡◌ {A = ℕ} (length (g.ports u)) 0 → IsCoreNode g w u

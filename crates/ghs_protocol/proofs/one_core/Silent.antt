@@ -21,6 +21,8 @@ use Rattle.ghs_protocol.proofs.search.FirstReport.{key_is}
 use Rattle.ghs_protocol.proofs.rows.Link.{link_fits}
 use Rattle.ghs_protocol.proofs.progress.Askers.{Asker, someone_asks}
 use Rattle.ghs_protocol.proofs.progress.Halves.{RootLink, turned, Stands, Itself, tip}
+use Rattle.std.proofs.lemmas.Option.{same_Some}
+use Rattle.ghs_protocol.proofs.acts.Situations.{all_awake}
 
 no_connect : (l v : ℕ) (n : Key) (s t : Stage) → asked l t ++ called v n s ≡ [] → (s ≢ Called) × (t ≢ Asking)
 no_connect l v n s Asking h = cc
@@ -54,15 +56,11 @@ module _ (g : Network) (ground : Ground g) (w : Scene) (holds : Invariant g w) (
   there : (v p : ℕ) → At g v p → At g (far g v p) (far_port g v p)
   there = ground.wired.there
 
-  -- nobody of the fragment sleeps
-  pub all_awake : (t : ℕ) → InNetwork g t → (w.at t).fragment ≡ (w.at u).fragment → (w.at t).head.phase ≢ Sleeping
-  all_awake t is same e =
-      awake (subst (λ y. (w.at y).head.phase ≡ Sleeping) (sym (holds.alone t u is u_is e (sym same))) e)
-
   pub reach : (t p : ℕ) → At g t p → (w.at t).fragment ≡ (w.at u).fragment → Reach g (forest w) t
   reach t p at same =
       let is : InNetwork g t = record { some = at.some; node = at.node } in
-      let z = (holds.nodes t is).points (all_awake t is same) (let lt = at.port in omega (arith, lt)) in holds.trees.reached t z.port is z.up
+      let z = (holds.nodes t is).points (all_awake g w holds.alone u u_is awake t is same) (let lt = at.port in omega (arith, lt)) in
+      holds.trees.reached t z.port is z.up
 
   -- its root is a core link whose ends have both begun
   pub record Done (a j : ℕ) : Type 0 where
@@ -180,7 +178,7 @@ module _ (g : Network) (ground : Ground g) (w : Scene) (holds : Invariant g w) (
 
   pub found : (t p : ℕ) → At g t p → (w.at t).fragment ≡ (w.at u).fragment → (w.at t).head.phase ≡ Found
   found t p at same =
-      at_rest _ (searches t p at same) (all_awake t (record { some = at.some; node = at.node }) same)
+      at_rest _ (searches t p at same) (all_awake g w holds.alone u u_is awake t (record { some = at.some; node = at.node }) same)
 
   -- the core link, by its key, is the root
   pub root_of : {t : ℕ} → Reach g (forest w) t → (w.at t).fragment ≡ (w.at u).fragment → (a : ℕ) × (j : ℕ) × ((w.at a).fragment ≡ (w.at u).fragment) × Done a j
@@ -198,10 +196,7 @@ module _ (g : Network) (ground : Ground g) (w : Scene) (holds : Invariant g w) (
         go (a, j, inside_it, d) =
             ⊎_elim (λ h. subst₂ (RootLink g (forest w)) h.0 h.1 d.link)
             (λ h. subst₂ (RootLink g (forest w)) h.0 h.1 (turned g ground.wired (forest w) a j d.link))
-            (ground.keyed a j t p d.link.at at (one_name _ _ (sym d.named ∙ (holds.trees.by_fragment a t (inside_it ∙ sym same)).1 ∙ named)))
-          where
-            one_name : (x y : Key) → Some x ≡ Some y → x ≡ y
-            one_name x y e = cc
+            (ground.keyed a j t p d.link.at at (same_Some _ _ (sym d.named ∙ (holds.trees.by_fragment a t (inside_it ∙ sym same)).1 ∙ named)))
 
   -- an end of the core has no best link, and has halted
   module _ (t p : ℕ) (r : RootLink g (forest w) t p) (same : (w.at t).fragment ≡ (w.at u).fragment) where

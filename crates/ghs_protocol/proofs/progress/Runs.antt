@@ -1,7 +1,5 @@
 -- No run is ever stuck.
 use Rattle.std.proofs.Common.{◌≡◌, ◌≢◌, ℕ, true, false, Some, length, sym, ◌∙◌, ap, subst, subst₂, ⊎_elim, arith, List, [], ◌∷◌, ◌++◌}
-use Rattle.std.proofs.lemmas.Bool.Decides.{nat_tests}
-use Rattle.ghs_graph.specs.declared.key.Key.{Key}
 use Rattle.ghs_graph.specs.Key.{key_lt}
 use Rattle.ghs_graph.specs.Graph.{Shape}
 use Rattle.ghs_node.specs.declared.mark.Mark.TheVariants.{Branch}
@@ -26,14 +24,11 @@ use Rattle.ghs_protocol.proofs.lemmas.Nodes.{ports_many}
 use Rattle.ghs_protocol.proofs.lemmas.WellFormed.{after_formed}
 use Rattle.ghs_protocol.proofs.acts.SameForest.{branch_mark, mark_branch}
 use Rattle.ghs_protocol.proofs.tests.Links.{probe_is}
-use Rattle.ghs_protocol.proofs.acts.Floors.{near_fits, lower_on, lower_self}
+use Rattle.ghs_protocol.proofs.acts.Floors.{near_fits, lower_on, lower_self, not_above}
 use Rattle.ghs_protocol.proofs.every_run.Sound.{sound}
 use Rattle.ghs_protocol.proofs.progress.Nets.{back, progress}
 use Rattle.ghs_protocol.proofs.progress.OneWaits.{two_wait}
 use Rattle.ghs_protocol.proofs.acts.Grounds.{graph_ground}
-
-not_less : (j k : Key) → lower (Some (Some j)) (Some (Some k)) ≡ true → key_lt k j ≡ false
-not_less j k h = grind (arith, nat_tests)
 
 -- A Connect under way goes over the least link that leaves its fragment: its sender's floor is that link's key, and no floor of the
 -- fragment is below it.
@@ -82,7 +77,7 @@ module _ (g : Network) (wired : IsWired g) (w : Scene) (holds : Invariant g w) (
       (w.at (far g u q)).fragment ≢ (w.at a).fragment →
       key_lt (port_at g u q).key (port_at g a j).key ≡ false
   over_least u q at' same out =
-      not_less (port_at g a j).key (port_at g u q).key
+      not_above (port_at g a j).key (port_at g u q).key
       (subst (λ f. lower f (Some (Some (port_at g u q).key)) ≡ true) is_floor
       (lower_on (floor a) (floor u) _ (above (holds.trees.reached u z.port its z.up) same)
       ((near_fits g wired w holds floor floors u q at').none_below (λ e. out (e ∙ same)))))

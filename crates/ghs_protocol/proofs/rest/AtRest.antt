@@ -23,6 +23,7 @@ use Rattle.ghs_protocol.proofs.search.ReportGone.{at_it}
 use Rattle.ghs_protocol.proofs.tests.Links.{probe_is}
 use Rattle.ghs_protocol.proofs.rest.Halt.{owed_finds}
 use Rattle.ghs_protocol.proofs.lemmas.Wires.{at_in}
+use Rattle.ghs_protocol.proofs.acts.Situations.{all_awake}
 
 -- a call waits: its receiver's way leads to the sender
 pub data CalledTo (e f : TreeEnd) : Type 0 where
@@ -197,15 +198,10 @@ module _ (g : Network) (wired : IsWired g) (w : Scene) (holds : Invariant g w) w
         (λ ne. below_ease v p at' way ne (eased r (sym (holds.trees.joined_within v p at' link) ∙ same)))
         (probe_is (w.at (far g v p)).up (far_port g v p))
 
-    awake : (v : ℕ) → InNetwork g v → (w.at v).fragment ≡ (w.at u).fragment → (w.at v).head.phase ≢ Sleeping
-    awake v is same e =
-        let z = holds.alone v u is (record { some = at.some; node = at.node }) e (sym same) in
-        cc (subst (λ y. (w.at y).head.phase ≡ Sleeping) (sym z) e, done)
-
     ease : (v p : ℕ) → At g v p → (w.at v).fragment ≡ (w.at u).fragment → AtEase g w v
     ease v p at' same =
         let is : InNetwork g v = record { some = at'.some; node = at'.node } in
-        let z = (holds.nodes v is).points (awake v is same) (omega (arith, at'.port)) in
+        let z = (holds.nodes v is).points (all_awake g w holds.alone u (at_in at) (λ e. cc (e, done)) v is same) (omega (arith, at'.port)) in
         eased (holds.trees.reached v z.port is z.up) same
 
     -- all of its fragment is at rest
@@ -213,6 +209,6 @@ module _ (g : Network) (wired : IsWired g) (w : Scene) (holds : Invariant g w) w
     core_rests = record {
       found = λ v is same.
           let t = has_port (holds.trees.connected v u is (record { some = at.some; node = at.node }) same) j at in
-          at_rest _ (ease v t.0 t.1 same).found (awake v is same);
+          at_rest _ (ease v t.0 t.1 same).found (all_awake g w holds.alone u (at_in at) (λ e. cc (e, done)) v is same);
       uncalled = λ v p at' same. not_true _ ((ease v p at' same).uncalled p at');
     }

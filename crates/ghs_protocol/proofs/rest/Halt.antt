@@ -1,25 +1,24 @@
 -- A node at rest hears the Report of its in_branch: it halts, or the Report is dropped.
-use Rattle.std.proofs.Common.{◌≡◌, ◌≢◌, ℕ, ◌+◌, ◌≤◌, Bool, true, Option, Some, List, [], ◌∷◌, ◌++◌, refl, sym, ◌∙◌, ap, ap₂, subst, ⊎_elim, ◌⊎◌, length, arith}
+use Rattle.std.proofs.Common.{◌≡◌, ◌≢◌, ℕ, ◌+◌, Bool, true, Option, Some, List, [], ◌∷◌, ◌++◌, refl, sym, ◌∙◌, ap, ap₂, subst, ⊎_elim, ◌⊎◌, length, arith}
 use Rattle.ghs_graph.specs.declared.key.Key.{Key}
-use Rattle.ghs_node.specs.Words.{is_branch, best_key}
+use Rattle.ghs_node.specs.Words.{best_key}
 use Rattle.ghs_node.specs.declared.message.Phase.TheVariants.{Find, Found}
 use Rattle.ghs_node.specs.declared.message.Message.{Message}
 use Rattle.ghs_node.specs.declared.message.Message.TheVariants.{Report}
-use Rattle.ghs_protocol.specs.Network.{Network, port_at, At, far, far_port, InNetwork}
+use Rattle.ghs_protocol.specs.Network.{Network, port_at, At, InNetwork}
 use Rattle.ghs_protocol.proofs.lemmas.Wired.{IsWired}
-use Rattle.ghs_protocol.specs.Ledger.{sum_below}
-use Rattle.ghs_protocol.proofs.lemmas.Sums.{sum_same, term_le}
 use Rattle.ghs_protocol.proofs.clauses.Scene.{Member, Scene, End, TreeEnd, tree_end, end, acts, far_end}
 use Rattle.ghs_protocol.proofs.clauses.Changes.{left_tree, seen_beyond, with_halt}
 use Rattle.ghs_protocol.proofs.clauses.Nodes.{NodeFits}
-use Rattle.ghs_protocol.proofs.clauses.TreeMessages.{TreeFits, Falls, Upward, Nothing_up, Report_up, Downward, Initiates, Old_report, Harmless, CoreFits, CoreQueue, Plain, With_report, Core, MovedFits, To_here, To_there, Stage, Asking, Called, Begun, AtStage, Served, asked, called}
-use Rattle.ghs_protocol.proofs.clauses.Whole.{LinkFits, Invariant, NamesOf}
+use Rattle.ghs_protocol.proofs.clauses.TreeMessages.{TreeFits, Falls, Upward, Nothing_up, Report_up, Downward, Initiates, Old_report, Harmless, CoreFits, CoreQueue, Plain, With_report, Core, MovedFits, To_here, To_there, Stage, Asking, Called, Begun, Served, asked, called}
+use Rattle.ghs_protocol.proofs.clauses.Whole.{Invariant, NamesOf}
 use Rattle.ghs_protocol.proofs.clauses.Links.{Joins, Child, Ups}
 use Rattle.ghs_protocol.proofs.clauses.Rest.{debt, owes, has_call}
-use Rattle.ghs_protocol.proofs.acts.OneLink.{sends_none, at_near, at_far, sums_one, kept_one}
+use Rattle.ghs_protocol.proofs.acts.OneLink.{sends_none, sums_one, kept_one, debt_within}
 use Rattle.ghs_protocol.proofs.search.ReportGone.{search_trees, debt_one, debt_up}
 use Rattle.ghs_protocol.proofs.search.FirstReport.{Joint, joint, Down_here, Down_there, On_core, On_moved, no_report, no_plain, joined}
-use Rattle.ghs_protocol.proofs.acts.Situations.{is_find', core_from_there}
+use Rattle.ghs_protocol.proofs.acts.Situations.{is_find', core_from_there, stage_read}
+use Rattle.ghs_protocol.proofs.rows.Link.{link_clauses, joined_clauses}
 
 -- the Report is an old one, or that of the other half of the core
 pub data Back (N : Key → Type 0) (e f : TreeEnd) (k : Option Key) (ms : List Message) : Type 0 where
@@ -72,11 +71,6 @@ module _ (e f : TreeEnd) (k : Option Key) (ms : List Message) where
   up_taken (Nothing_up q) = Nothing_up q
   up_taken (Report_up r q h) = Report_up r q (record { phase = h.phase; in_branch = h.in_branch; level = h.level; key = h.key })
 
-  stage_taken : (s : Stage) → AtStage e s → AtStage (record e { tree = ms }) s
-  stage_taken Asking h = h
-  stage_taken Called h = h
-  stage_taken Begun h = h
-
   other_queue : {x y : Stage} → CoreQueue f e x y → CoreQueue f (record e { tree = ms }) x y
   other_queue (Plain q) = Plain q
   other_queue (With_report r q s p b) = With_report r q s p b
@@ -86,7 +80,7 @@ module _ (e f : TreeEnd) (k : Option Key) (ms : List Message) where
   core_taken z a b n = record {
     here = z.here;
     there = z.there;
-    at_here = stage_taken z.here z.at_here;
+    at_here = stage_read e ms z.here z.at_here;
     at_there = z.at_there;
     served = z.served;
     served_beyond = z.served_beyond;
@@ -141,58 +135,26 @@ module _ (e f : TreeEnd) (k : Option Key) (ms : List Message) where
   }
 
 module _ (g : Network) (wired : IsWired g) (u : ℕ) (u_is : InNetwork g u) (j : ℕ) (at : At g u j) (w : Scene) (holds : Invariant g w) where
-  fits : NodeFits (length (g.ports u)) (w.at u)
-  fits = holds.nodes u u_is
-
-  link : LinkFits (NamesOf g w) (end g w u j) (far_end g w u j)
-  link = at_near g wired w (LinkFits (NamesOf g w)) holds.links u j at
-
-  link' : LinkFits (NamesOf g w) (far_end g w u j) (end g w u j)
-  link' = at_far g wired w (LinkFits (NamesOf g w)) holds.links u j at
+  open link_clauses g wired w holds u j at use {fits, link, link', ways}
 
   -- who is owed a Report by another than its parent searches
   pub owed_finds : (w.at u).up ≢ Some j → owes (end g w u j) (far_end g w u j) ≡ true → (w.at u).head.phase ≡ Find
-  owed_finds ne o = ⊎_elim (λ h. h) (λ no. absurd (let z = (fits.idle no).1 in omega (arith, z, count, term, one))) (is_find' (w.at u).head.phase)
-    where
-      f : ℕ → ℕ
-      f i = debt (end g w u i) (far_end g w u i)
-
-      count : (w.at u).head.find_count ≡ sum_below (length (g.ports u)) f
-      count =
-          holds.counted u u_is ∙
-          sum_same (length (g.ports u)) _ _ (λ i lt.
-          let at' : At g u i = record { some = u_is.some; node = u_is.node; port = lt } in
-          ap (debt (end g w u i)) (λ k. record {
-            port = far_port g u i;
-            key = wired.same_key u i at' k;
-            mark = (w.at (far g u i)).mark (far_port g u i);
-            is = w.at (far g u i);
-            seen = seen_beyond g w u i;
-          }))
-
-      term : f j ≤ sum_below (length (g.ports u)) f
-      term = term_le (length (g.ports u)) j f at.port
-
-      one : ◌≡◌ {A = ℕ} (f j) 1
-      one = debt_one (end g w u j) (far_end g w u j) ne o
+  owed_finds ne o =
+      ⊎_elim (λ h. h)
+      (λ no.
+      absurd (let one = debt_one (end g w u j) (far_end g w u j) ne o in
+      let within = debt_within g wired w holds.counted u j at in let none = (fits.idle no).1 in omega (arith, one, within, none)))
+      (is_find' (w.at u).head.phase)
 
   module _ (k : Option Key) (ms : List Message) (waits : (w.seen u j).tree ≡ Report k ∷ ms) (rests : (w.at u).head.phase ≡ Found) where
     mine : (w.at u).up ≢ Some j → ⊥
     mine ne = let z = owed_finds ne (rw waits refl) in cc (z, rests)
 
-    ways : Joins (tree_end (end g w u j)) (tree_end (far_end g w u j)) → Ups (tree_end (end g w u j)) ⊎ Ups (tree_end (far_end g w u j))
-    ways h = holds.trees.joined_lead u j at (record { here = ap is_branch h.here; there = ap is_branch h.there })
+    pub heard_at_rest : Back (NamesOf g w (w.at u).fragment) (tree_end (end g w u j)) (tree_end (far_end g w u j)) k ms
+    heard_at_rest = back (tree_end (end g w u j)) (tree_end (far_end g w u j)) link.tree link'.tree ways k ms waits mine
 
-    came : Back (NamesOf g w (w.at u).fragment) (tree_end (end g w u j)) (tree_end (far_end g w u j)) k ms
-    came = back (tree_end (end g w u j)) (tree_end (far_end g w u j)) link.tree link'.tree ways k ms waits mine
-
-    joins' : Joins (tree_end (end g w u j)) (tree_end (far_end g w u j))
-    joins' = joined (tree_end (end g w u j)) (tree_end (far_end g w u j)) link.tree link'.tree ways k ms waits
-
-    ghosts : ((w.at (far g u j)).coming ≡ (w.at u).coming) × ((w.at (far g u j)).coming_name ≡ (w.at u).coming_name)
-    ghosts =
-        let z = holds.trees.joined_within u j at (record { here = ap is_branch joins'.here; there = ap is_branch joins'.there }) in
-        holds.trees.by_fragment (far g u j) u (sym z)
+    open joined_clauses g w holds u j at (joined (tree_end (end g w u j)) (tree_end (far_end g w u j)) link.tree link'.tree ways k ms waits)
+        use {ghosts}
 
     up : Back (NamesOf g w (w.at u).fragment) (tree_end (end g w u j)) (tree_end (far_end g w u j)) k ms → (w.at u).up ≡ Some j
     up (Old c h x) = c.up
@@ -210,12 +172,12 @@ module _ (g : Network) (wired : IsWired g) (u : ℕ) (u_is : InNetwork g u) (j :
         })
         holds node
         (record {
-          tree = tree_taken (tree_end (end g w u j)) (tree_end (far_end g w u j)) k ms came link.tree;
+          tree = tree_taken (tree_end (end g w u j)) (tree_end (far_end g w u j)) k ms heard_at_rest link.tree;
           search = search_trees (tree_end (end g w u j)) (tree_end (far_end g w u j)) ms (seen_beyond g w u j).tree link.search;
           tests = record { probing = link.tests.probing; not_probing = link.tests.not_probing };
         })
         (record {
-          tree = tree_taken' (tree_end (end g w u j)) (tree_end (far_end g w u j)) k ms ghosts.1 refl ghosts.0 came link'.tree;
+          tree = tree_taken' (tree_end (end g w u j)) (tree_end (far_end g w u j)) k ms ghosts.1 refl ghosts.0 heard_at_rest link'.tree;
           search = search_trees (tree_end (far_end g w u j)) (tree_end (end g w u j)) (seen_beyond g w u j).tree ms link'.search;
           tests = record { probing = link'.tests.probing; not_probing = link'.tests.not_probing };
         })
@@ -245,4 +207,4 @@ module _ (g : Network) (wired : IsWired g) (u : ℕ) (u_is : InNetwork g u) (j :
         same_count : (w.at u).head.find_count + debt (end g w u j) (far_end g w u j) ≡ (w.at u).head.find_count + debt here' (far_end g w u j)
         same_count =
             ap (λ z. (w.at u).head.find_count + z)
-            (debt_up (end g w u j) (far_end g w u j) (up came) ∙ sym (debt_up here' (far_end g w u j) (up came)))
+            (debt_up (end g w u j) (far_end g w u j) (up heard_at_rest) ∙ sym (debt_up here' (far_end g w u j) (up heard_at_rest)))

@@ -1,25 +1,26 @@
 -- Where the root is sent on: what stands at the root link, its fragment being at rest.
-use Rattle.std.proofs.Common.{◌≡◌, ◌≢◌, ℕ, true, Option, Some, None, List, [], ◌∷◌, ◌++◌, refl, sym, ◌∙◌, ap, ap₂, subst, subst₂, ◌⊎◌, arith}
+use Rattle.std.proofs.Common.{◌≡◌, ℕ, true, Option, Some, None, List, [], ◌∷◌, ◌++◌, sym, ◌∙◌, ap, ap₂, subst, subst₂, ◌⊎◌, arith}
 use Rattle.std.proofs.lemmas.Bool.Decides.{nat_tests}
 use Rattle.ghs_graph.specs.declared.key.Key.{Key}
 use Rattle.ghs_graph.specs.Key.{key_lt}
-use Rattle.ghs_node.specs.Words.{is_branch, below, best_key}
+use Rattle.ghs_node.specs.Words.{below, best_key}
 use Rattle.ghs_node.specs.declared.message.Phase.TheVariants.{Found}
 use Rattle.ghs_node.specs.declared.message.Message.{Message}
 use Rattle.ghs_node.specs.declared.message.Message.TheVariants.{Report, ChangeRoot}
 use Rattle.ghs_protocol.specs.Network.{Network, port_at, At, far, far_port, InNetwork}
 use Rattle.ghs_protocol.proofs.lemmas.Wired.{IsWired}
-use Rattle.ghs_protocol.proofs.clauses.Scene.{Scene, TreeEnd, tree_end, end, forest, far_end}
+use Rattle.ghs_protocol.proofs.clauses.Scene.{Scene, TreeEnd, tree_end, end, far_end}
 use Rattle.ghs_protocol.proofs.clauses.Links.{Joins, Ups}
-use Rattle.ghs_protocol.proofs.clauses.TreeMessages.{TreeFits, Chain, Upward, Nothing_up, Report_up, Downward, Initiates, Old_report, CoreFits, CoreQueue, Plain, With_report, Moved, Moving, MovedFits, To_here, To_there, Stage, Asking, Called, Begun, AtStage, asked, called}
-use Rattle.ghs_protocol.proofs.clauses.Fragments.{IsJoinedIn}
+use Rattle.ghs_protocol.proofs.clauses.TreeMessages.{TreeFits, Chain, Upward, Nothing_up, Report_up, Downward, Initiates, Old_report, CoreFits, CoreQueue, Plain, With_report, Moved, Moving, MovedFits, To_here, To_there, Stage, Asking, Called, Begun, asked, called}
 use Rattle.ghs_protocol.proofs.clauses.Rest.{Quiet}
-use Rattle.ghs_protocol.proofs.clauses.Whole.{LinkFits, Invariant, NamesOf}
+use Rattle.ghs_protocol.proofs.clauses.Whole.{Invariant, NamesOf}
 use Rattle.ghs_protocol.proofs.clauses.Uniting.{SendsRoot, By_report, By_root}
-use Rattle.ghs_protocol.proofs.acts.OneLink.{at_near, at_far}
+use Rattle.ghs_protocol.proofs.acts.OneLink.{at_near}
 use Rattle.ghs_protocol.proofs.search.FirstReport.{joined_by, Joint, joint, Down_here, Down_there, On_core, On_moved}
-use Rattle.ghs_protocol.proofs.rest.Halt.{Back, Old, Half, back, owed_finds}
+use Rattle.ghs_protocol.proofs.rest.Halt.{Back, Old, Half, heard_at_rest}
 use Rattle.ghs_protocol.proofs.rest.AtRest.{core_rests}
+use Rattle.ghs_protocol.proofs.acts.Situations.{begun_at_top}
+use Rattle.ghs_protocol.proofs.rows.Link.{link_clauses, joined_clauses}
 
 lt_asym : (k l : Key) → key_lt k l ≡ true → key_lt l k ≡ true → ⊥
 lt_asym k l a b = grind (arith, nat_tests)
@@ -108,37 +109,14 @@ pub record AtRoot (g : Network) (w : Scene) (u j : ℕ) (ms : List Message) : Ty
 
 module _ (g : Network) (wired : IsWired g) (u : ℕ) (u_is : InNetwork g u) (j : ℕ) (at : At g u j) (w : Scene) (holds : Invariant g w)
     (ms : List Message) where
-  link : LinkFits (NamesOf g w) (end g w u j) (far_end g w u j)
-  link = at_near g wired w (LinkFits (NamesOf g w)) holds.links u j at
-
-  link' : LinkFits (NamesOf g w) (far_end g w u j) (end g w u j)
-  link' = at_far g wired w (LinkFits (NamesOf g w)) holds.links u j at
-
-  inside : Joins (tree_end (end g w u j)) (tree_end (far_end g w u j)) → IsJoinedIn g (forest w) u j
-  inside h = record { here = ap is_branch h.here; there = ap is_branch h.there }
-
-  ghosts :
-      Joins (tree_end (end g w u j)) (tree_end (far_end g w u j)) →
-      ((w.at (far g u j)).coming ≡ (w.at u).coming) × ((w.at (far g u j)).coming_name ≡ (w.at u).coming_name)
-  ghosts h = holds.trees.by_fragment (far g u j) u (sym (holds.trees.joined_within u j at (inside h)))
-
-  ways : Joins (tree_end (end g w u j)) (tree_end (far_end g w u j)) → Ups (tree_end (end g w u j)) ⊎ Ups (tree_end (far_end g w u j))
-  ways h = holds.trees.joined_lead u j at (inside h)
+  open link_clauses g wired w holds u j at use {link, link', ways}
 
   by_report : (k : Option Key) →
       (waits : (w.seen u j).tree ≡ Report k ∷ ms) → (w.at u).head.in_branch ≡ Some j →
       (rests : (w.at u).head.phase ≡ Found) →
       below (best_key (w.at u).head.best) k ≡ true → AtRoot g w u j ms
-  by_report k waits way rests better = go (back (tree_end (end g w u j)) (tree_end (far_end g w u j)) link.tree link'.tree ways k ms waits mine)
+  by_report k waits way rests better = go (heard_at_rest g wired u u_is j at w holds k ms waits rests)
     where
-      mine : (w.at u).up ≢ Some j → ⊥
-      mine ne = let z = owed_finds g wired u u_is j at w holds ne (rw waits refl) in cc (z, rests)
-
-      begun : (e : TreeEnd) (s : Stage) → s ≡ Begun → AtStage e s → e.level ≡ e.coming
-      begun e Begun i a = a
-      begun e Asking i a = cc
-      begun e Called i a = cc
-
       go : Back (NamesOf g w (w.at u).fragment) (tree_end (end g w u j)) (tree_end (far_end g w u j)) k ms → AtRoot g w u j ms
       go (Old c h x) = absurd (below_asym (best_key (w.at u).head.best) k better h.worse)
       go (Half c z a b n p q) = record {
@@ -146,24 +124,22 @@ module _ (g : Network) (wired : IsWired g) (u : ℕ) (u_is : InNetwork g u) (j :
         up = c.both.up;
         up_beyond = c.both.up_beyond;
         in_branch = way;
-        top = top;
-        top' = top' ∙ same.0;
+        top = begun_at_top (tree_end (end g w u j)) z.here a z.at_here;
+        top' = top' ∙ ghosts.0;
         rest = n;
         left = remains z.queue_beyond;
-        quiet = core_rests g wired w holds u j at (inside c.both.joins) c.both.up c.both.up_beyond top top' rests p;
+        quiet =
+            core_rests g wired w holds u j at joined c.both.up c.both.up_beyond
+            (begun_at_top (tree_end (end g w u j)) z.here a z.at_here) top' rests p;
       }
         where
-          same : ((w.at (far g u j)).coming ≡ (w.at u).coming) × ((w.at (far g u j)).coming_name ≡ (w.at u).coming_name)
-          same = ghosts c.both.joins
-
-          top : (w.at u).head.level ≡ (w.at u).coming
-          top = begun (tree_end (end g w u j)) z.here a z.at_here
+          open joined_clauses g w holds u j at c.both.joins use {joined, ghosts}
 
           top' : (w.at (far g u j)).head.level ≡ (w.at (far g u j)).coming
-          top' = begun (tree_end (far_end g w u j)) z.there b z.at_there
+          top' = begun_at_top (tree_end (far_end g w u j)) z.there b z.at_there
 
           back' : (w.at (far g u j)).head.in_branch ≡ Some (far_port g u j)
-          back' = (link'.tree.core_ends (record { here = c.both.joins.there; there = c.both.joins.here }) (same.1 ∙ c.named)).at_top top'
+          back' = (link'.tree.core_ends (record { here = c.both.joins.there; there = c.both.joins.here }) (ghosts.1 ∙ c.named)).at_top top'
 
           remains : CoreQueue (tree_end (far_end g w u j)) (tree_end (end g w u j)) z.there z.here → Left (tree_end (far_end g w u j))
           remains (Plain y) = Nothing_left (y ∙ no_stage (w.at u).head.level (w.at (far g u j)).coming (port_at g u j).key z.here z.there a b)

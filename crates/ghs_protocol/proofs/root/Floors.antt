@@ -1,11 +1,11 @@
 -- The root is sent on: floors stay, and are kept.
-use Rattle.std.proofs.Common.{◌≡◌, ◌≢◌, ℕ, false, Some, List, [], ◌∷◌, ◌++◌, length, refl, sym, ◌∙◌, ap, subst, ⊎_elim}
+use Rattle.std.proofs.Common.{◌≡◌, ◌≢◌, ℕ, false, Some, List, [], ◌∷◌, ◌++◌, refl, sym, ◌∙◌, ap, subst, ⊎_elim}
 use Rattle.std.proofs.lemmas.Bool.{cases_eq}
 use Rattle.std.proofs.lemmas.Option.{same_Some}
 use Rattle.ghs_graph.specs.declared.key.Key.{Key}
 use Rattle.ghs_node.specs.declared.mark.Mark.{Mark}
 use Rattle.ghs_node.specs.declared.mark.Mark.TheVariants.{Branch}
-use Rattle.ghs_node.specs.Words.{is_branch, best_key}
+use Rattle.ghs_node.specs.Words.{best_key}
 use Rattle.ghs_node.specs.declared.message.Phase.TheVariants.{Find, Found}
 use Rattle.ghs_node.specs.declared.message.Message.{Message}
 use Rattle.ghs_node.specs.declared.message.Message.TheVariants.{Connect, ChangeRoot}
@@ -14,23 +14,19 @@ use Rattle.ghs_protocol.proofs.lemmas.Wired.{IsWired}
 use Rattle.ghs_protocol.specs.Net.{put}
 use Rattle.ghs_protocol.proofs.clauses.Scene.{Seen, add, adds, Member, Scene, End, tree_end, end, acts, far_end}
 use Rattle.ghs_protocol.proofs.clauses.Changes.{left_tree, seen_beyond, pointing, sent_out}
-use Rattle.ghs_protocol.proofs.clauses.Links.{Joins}
-use Rattle.ghs_protocol.proofs.clauses.TreeMessages.{ConnectUnderWay, Reported, Upward, Nothing_up, Report_up}
-use Rattle.ghs_protocol.proofs.clauses.Nodes.{NodeFits}
+use Rattle.ghs_protocol.proofs.clauses.TreeMessages.{Upward, Nothing_up, Report_up}
 use Rattle.ghs_protocol.proofs.clauses.Rest.{has_call}
-use Rattle.ghs_protocol.proofs.clauses.Search.{LeadsOut}
 use Rattle.ghs_protocol.proofs.clauses.Wiring.{Ground}
 use Rattle.ghs_protocol.proofs.clauses.Uniting.{SendsRoot, meet}
-use Rattle.ghs_protocol.proofs.clauses.Whole.{LinkFits, Invariant, NamesOf}
+use Rattle.ghs_protocol.proofs.clauses.Whole.{Invariant}
 use Rattle.ghs_protocol.proofs.clauses.Floors.{Floor, FloorsAt, IsTreeLink, Floors}
 use Rattle.ghs_protocol.proofs.lemmas.Updates.{put_same, put_other}
 use Rattle.ghs_protocol.proofs.acts.Reactions.{put_again}
 use Rattle.ghs_protocol.proofs.root.AtRoot.{AtRoot, at_root}
 use Rattle.ghs_protocol.proofs.root.Sent.{by_ports_at}
-use Rattle.ghs_protocol.proofs.root.Inward.{at_best, best_apart, best_aside, leads_to}
+use Rattle.ghs_protocol.proofs.root.Inward.{at_best, best_apart, best_aside, best_below}
 use Rattle.ghs_protocol.proofs.root.OldLink.{call_append}
-use Rattle.ghs_protocol.proofs.search.FirstReport.{mark_is}
-use Rattle.ghs_protocol.proofs.rows.Link.{link_fits, link_fits'}
+use Rattle.ghs_protocol.proofs.rows.Link.{node_clauses, link_clauses, joined_clauses, not_the_way, connect_comes}
 use Rattle.ghs_protocol.proofs.acts.Ends.{here_seen, far_seen}
 use Rattle.ghs_protocol.proofs.acts.OneLink.{sends_one}
 use Rattle.ghs_protocol.proofs.union.MetByRoot.{connects_meeting}
@@ -71,17 +67,11 @@ module _ (g : Network) (wired : IsWired g) (u : ℕ) (u_is : InNetwork g u) (j :
   not_find : (w.at u).head.phase ≡ Find → ⊥
   not_find e = cc (e, found)
 
-  fits : NodeFits (length (g.ports u)) (w.at u)
-  fits = holds.nodes u u_is
-
-  inside : (w.at u).fragment ≡ (w.at (far g u j)).fragment
-  inside = holds.trees.joined_within u j at (record { here = ap is_branch root.joins.here; there = ap is_branch root.joins.there })
+  open node_clauses g wired w holds u u_is use {fits}
+  open joined_clauses g w holds u j at root.joins use {inside}
 
   not_way : (i : ℕ) → i ≢ b → Some b ≢ Some i
   not_way i ne e = ne (sym (same_Some b i e))
-
-  was_not : (i : ℕ) → i ≢ j → (w.at u).up ≢ Some i
-  was_not i ne e = ne (sym (same_Some j i (sym root.up ∙ e)))
 
   away : j ≢ b
   away e = apart (sym e)
@@ -132,11 +122,19 @@ module _ (g : Network) (wired : IsWired g) (u : ℕ) (u_is : InNetwork g u) (j :
       record {
         none_below = f.none_below;
         falls = λ c.
-            f.falls (record { joins = record { here = c.joins.here; there = sym (same i ne') ∙ c.joins.there }; up = c.up; down = was_not i ne });
+            f.falls (record {
+              joins = record { here = c.joins.here; there = sym (same i ne') ∙ c.joins.there };
+              up = c.up;
+              down = not_the_way root.up i ne;
+            });
         covered = λ p c o. absurd (not_find p);
         report = λ r c t.
             f.report r
-            (record { joins = record { here = c.joins.here; there = sym (same i ne') ∙ c.joins.there }; up = c.up; down = was_not i ne }) t;
+            (record {
+              joins = record { here = c.joins.here; there = sym (same i ne') ∙ c.joins.there };
+              up = c.up;
+              down = not_the_way root.up i ne;
+            }) t;
         core = λ c l p. absurd (not_way i ne' c.both.up_beyond);
         out = λ o. f.out (record { here = o.here; there = λ e. o.there (same i ne' ∙ e) });
         moved = λ z t. absurd (not_way i ne' z.both.up_beyond);
@@ -202,54 +200,24 @@ module _ (g : Network) (wired : IsWired g) (u : ℕ) (u_is : InNetwork g u) (w :
   rf : RootFloors g wired w holds floor floors u j at ms root
   rf = root_floors g wired w holds floor floors u j at ms root calls
 
-  my_fits : NodeFits (length (g.ports u)) (w.at u)
-  my_fits = holds.nodes u u_is
-
   atb : At g u b
   atb = at_best g wired u u_is j at w holds ms root b k best
 
   apart : b ≢ j
   apart = best_apart g wired u u_is j at w holds ms root b k best
 
-  link : LinkFits (NamesOf g w) (end g w u b) (far_end g w u b)
-  link = link_fits g wired w holds u b atb
-
-  link' : LinkFits (NamesOf g w) (far_end g w u b) (end g w u b)
-  link' = link_fits' g wired w holds u b atb
-
-  not_core : (w.at u).head.in_branch ≢ Some b
-  not_core = (my_fits.best_port b k best).1
+  open link_clauses g wired w holds u b atb use {fits as my_fits, link, link'}
 
   is_floor : floor u ≡ Some (Some k)
   is_floor = rf.mine ∙ ap (λ o. Some (best_key o)) best
 
   -- the root moves on over a Branch link
   module _ (mark : (w.at u).mark b ≡ Branch) where
-    joins : Joins (tree_end (end g w u b)) (tree_end (far_end g w u b))
-    joins =
-        ⊎_elim (λ h. record { here = mark; there = h })
-        (λ h. absurd (best_aside g wired u u_is j at w holds ms root b k best ((link.tree.out_connect (record { here = mark; there = h })).up)))
-        (mark_is ((w.at (far g u b)).mark (far_port g u b)))
-
-    inside_b : (w.at u).fragment ≡ (w.at (far g u b)).fragment
-    inside_b = holds.trees.joined_within u b atb (record { here = ap is_branch joins.here; there = ap is_branch joins.there })
-
-    ghosts : ((w.at (far g u b)).coming ≡ (w.at u).coming) × ((w.at (far g u b)).coming_name ≡ (w.at u).coming_name)
-    ghosts = holds.trees.by_fragment (far g u b) u (sym inside_b)
-
-    below_way : (w.at (far g u b)).up ≡ Some (far_port g u b)
-    below_way =
-        leads_to g wired u u_is j at w holds ms root b k best b atb
-        (record { here = ap is_branch joins.here; there = ap is_branch joins.there })
-
-    reported : Reported (tree_end (far_end g w u b)) (Some k)
-    reported = link.search.find_reported k best root.top joins
+    open best_below g wired u u_is j at w holds ms root b k best mark use {joins, up as below_way, unnamed, unnamed'}
+    open joined_clauses g w holds u b atb joins use {inside as inside_b}
 
     child_floor : floor (far g u b) ≡ Some (Some k)
     child_floor = (near_fits g wired w holds floor floors u b atb).best k best root.top joins
-
-    unnamed : (w.at u).coming_name ≢ Some (port_at g u b).key
-    unnamed n = not_core ((link.tree.core_ends joins n).at_top root.top)
 
     -- no ChangeRoot waits at b
     no_root : (w.seen u b).tree ≡ ChangeRoot ∷ [] → ⊥
@@ -289,9 +257,9 @@ module _ (g : Network) (wired : IsWired g) (u : ℕ) (u_is : InNetwork g u) (w :
       falls = λ c. absurd (c.down refl);
       covered = λ p c o. absurd (c.down refl);
       report = λ r c t. absurd (c.down refl);
-      core = λ c l p. absurd (unnamed (sym ghosts.1 ∙ c.named));
+      core = λ c l p. absurd (unnamed' c.named);
       out = λ o. absurd (o.there joins.here);
-      moved = λ z t. (child_floor ∙ ap Some (sym reported.key), is_floor ∙ sym child_floor);
+      moved = λ z t. (child_floor ∙ ap Some (sym (link.search.find_reported k best root.top joins).key), is_floor ∙ sym child_floor);
       best = λ y e l z. (far_fits g wired w holds floor floors u b atb).best y e l (record { here = joins.there; there = joins.here });
     }
 
@@ -304,9 +272,6 @@ module _ (g : Network) (wired : IsWired g) (u : ℕ) (u_is : InNetwork g u) (w :
 
   -- the root goes out, to a fragment that hasn't connected to this one
   module _ (mark : (w.at u).mark b ≢ Branch) (mark' : (w.at (far g u b)).mark (far_port g u b) ≢ Branch) where
-    out : LeadsOut (tree_end (end g w u b)) (tree_end (far_end g w u b)) k
-    out = link.search.find_leads k best root.top mark
-
     l : ℕ
     l = (w.at u).head.level
 
@@ -320,7 +285,7 @@ module _ (g : Network) (wired : IsWired g) (u : ℕ) (u_is : InNetwork g u) (w :
       covered = λ p c o. absurd (mark' c.joins.there);
       report = λ r c t. absurd (mark' c.joins.there);
       core = λ c y p. absurd (mark' c.both.joins.there);
-      out = λ o. is_floor ∙ ap (λ z. Some (Some z)) out.key;
+      out = λ o. is_floor ∙ ap (λ z. Some (Some z)) (link.search.find_leads k best root.top mark).key;
       moved = λ z t. absurd (mark' z.both.joins.there);
       best = λ y e h z. absurd (mark' z.there);
     }
@@ -352,12 +317,6 @@ module _ (g : Network) (wired : IsWired g) (u : ℕ) (u_is : InNetwork g u) (w :
   module _ (ground : Ground g) (mark : (w.at u).mark b ≢ Branch) (mark' : (w.at (far g u b)).mark (far_port g u b) ≡ Branch) where
     abbrev mid : Scene
     mid = acts g u (sent_out (w.at u) b) (left_tree w u j ms) ((b, Connect (w.at u).head.level) ∷ []) w
-
-    leads : LeadsOut (tree_end (end g w u b)) (tree_end (far_end g w u b)) k
-    leads = link.search.find_leads k best root.top mark
-
-    came : ConnectUnderWay (tree_end (far_end g w u b)) (tree_end (end g w u b))
-    came = link'.tree.out_connect (record { here = mark'; there = mark })
 
     here_is : mid.at u ≡ sent_out (w.at u) b
     here_is = put_same w.at u (sent_out (w.at u) b)
@@ -391,8 +350,11 @@ module _ (g : Network) (wired : IsWired g) (u : ℕ) (u_is : InNetwork g u) (w :
 
     pub meets_floors : Floors g (meet g u b (acts g u (sent_out (w.at u) b) (left_tree w u j ms) ((b, Connect (w.at u).head.level) ∷ []) w)) floor
     meets_floors =
+        let came = connect_comes g wired w holds u b atb mark' mark in
         floors_met g wired mid floor off.nodes off.in_tree off.halted u b atb
-        (λ e. leads.apart (sym (same.fragment (far g u b)) ∙ e ∙ same.fragment u)) off.links (below_new g w mid holds same u b came root.top)
+        (λ e.
+        (link.search.find_leads k best root.top mark).apart (sym (same.fragment (far g u b)) ∙ e ∙ same.fragment u)) off.links
+        (below_new g w mid holds same u b came root.top)
         (ap (λ (m : Member). m.mark b) here_is ∙ put_same (w.at u).mark b Branch) (ap (λ (m : Member). m.mark (far_port g u b)) far_is ∙ mark')
         (ap (λ (m : Member). m.up) here_is) (ap (λ (m : Member). m.up) far_is ∙ came.up)
         (λ e.

@@ -1,5 +1,5 @@
 -- The root moves towards the best link, over a link of the fragment.
-use Rattle.std.proofs.Common.{◌≡◌, ◌≢◌, ℕ, ◌≤◌, true, Some, None, List, [], ◌∷◌, ◌++◌, refl, sym, ◌∙◌, ap, ap₂, subst, subst₂, ⊎_elim, ◌⊎◌, inl, inr, length, arith}
+use Rattle.std.proofs.Common.{◌≡◌, ◌≢◌, ℕ, ◌≤◌, true, Some, None, List, [], ◌∷◌, ◌++◌, refl, sym, ◌∙◌, ap, ap₂, subst, subst₂, ⊎_elim, ◌⊎◌, inl, inr, arith}
 use Rattle.std.proofs.lemmas.Option.{same_Some}
 use Rattle.ghs_graph.specs.declared.key.Key.{Key}
 use Rattle.ghs_node.specs.Words.{is_branch}
@@ -13,19 +13,18 @@ use Rattle.ghs_protocol.proofs.clauses.Scene.{Member, Scene, End, TreeEnd, tree_
 use Rattle.ghs_protocol.proofs.clauses.Changes.{left_tree, seen_beyond, pointing}
 use Rattle.ghs_protocol.proofs.clauses.Links.{Joins, Child, Ups}
 use Rattle.ghs_protocol.proofs.clauses.TreeMessages.{TreeFits, Reported, Upward, Nothing_up, Report_up, Downward, Initiates, Old_report, To_here, To_there}
-use Rattle.ghs_protocol.proofs.clauses.Nodes.{NodeFits}
-use Rattle.ghs_protocol.proofs.clauses.Fragments.{IsJoinedIn, Root, Both_ways}
-use Rattle.ghs_protocol.proofs.clauses.Whole.{LinkFits, Invariant, NamesOf}
+use Rattle.ghs_protocol.proofs.clauses.Fragments.{IsJoinedIn, Both_ways}
+use Rattle.ghs_protocol.proofs.clauses.Whole.{Invariant, NamesOf}
 use Rattle.ghs_protocol.proofs.clauses.Uniting.{SendsRoot}
 use Rattle.ghs_protocol.proofs.lemmas.Updates.{put_same, put_other, put_alike}
-use Rattle.ghs_protocol.proofs.acts.OneLink.{at_near, at_far}
 use Rattle.ghs_protocol.proofs.search.ReportGone.{debt_up}
 use Rattle.ghs_protocol.proofs.search.FirstReport.{chain_top, mark_is}
 use Rattle.ghs_protocol.proofs.rest.Halt.{owed_finds}
 use Rattle.ghs_protocol.proofs.root.AtRoot.{AtRoot, at_root}
-use Rattle.ghs_protocol.proofs.root.Ways.{Turns}
+use Rattle.ghs_protocol.proofs.root.Ways.{Turns, RootAtNode, NeighboursLed}
 use Rattle.ghs_protocol.proofs.root.OldLink.{search_turns, search_turns', call_append}
 use Rattle.ghs_protocol.proofs.root.Sent.{reroutes}
+use Rattle.ghs_protocol.proofs.rows.Link.{node_clauses, link_clauses}
 
 -- the best link, of a child that has reported: e is the parent's end, at the root
 pub record Below (e f : TreeEnd) : Type 0 where
@@ -90,8 +89,7 @@ module _ (e f : TreeEnd) (b : Below e f) where
 module _ (g : Network) (wired : IsWired g) (u : ℕ) (u_is : InNetwork g u) (j : ℕ) (at : At g u j) (w : Scene) (holds : Invariant g w)
     (ms : List Message) (root : AtRoot g w u j ms)
     (b : ℕ) (k : Key) (best : (w.at u).head.best ≡ Some (b, k)) where
-  fits : NodeFits (length (g.ports u)) (w.at u)
-  fits = holds.nodes u u_is
+  open node_clauses g wired w holds u u_is use {fits}
 
   pub at_best : At g u b
   at_best = record { some = u_is.some; node = u_is.node; port = (fits.best_port b k best).0 }
@@ -102,11 +100,7 @@ module _ (g : Network) (wired : IsWired g) (u : ℕ) (u_is : InNetwork g u) (j :
   pub best_aside : (w.at u).up ≢ Some b
   best_aside e = best_apart (sym (same_Some j b (sym root.up ∙ e)))
 
-  pub old_roots : (v p : ℕ) →
-      At g v p →
-      Root g (forest w) v p →
-      (w.at v).fragment ≡ (w.at u).fragment →
-      IsJoinedIn g (forest w) v p × ((v ≡ u) ⊎ (far g v p ≡ u))
+  pub old_roots : RootAtNode g (forest w) u
   old_roots v p at' r same =
       ⊎_elim
       (λ h. (
@@ -130,17 +124,13 @@ module _ (g : Network) (wired : IsWired g) (u : ℕ) (u_is : InNetwork g u) (j :
       inside : IsJoinedIn g (forest w) u j
       inside = record { here = ap is_branch root.joins.here; there = ap is_branch root.joins.there }
 
-  pub leads_to : (p : ℕ) → At g u p → IsJoinedIn g (forest w) u p → (w.at (far g u p)).up ≡ Some (far_port g u p)
+  pub leads_to : NeighboursLed g (forest w) u
   leads_to p at' l =
       ⊎_elim (λ e.
       let same : j ≡ p = same_Some j p (sym root.up ∙ e) in subst (λ y. (w.at (far g u y)).up ≡ Some (far_port g u y)) same root.up_beyond)
       (λ e. e) (holds.trees.joined_lead u p at' l)
 
-  best_link : LinkFits (NamesOf g w) (end g w u b) (far_end g w u b)
-  best_link = at_near g wired w (LinkFits (NamesOf g w)) holds.links u b at_best
-
-  best_link' : LinkFits (NamesOf g w) (far_end g w u b) (end g w u b)
-  best_link' = at_far g wired w (LinkFits (NamesOf g w)) holds.links u b at_best
+  open link_clauses g wired w holds u b at_best use {link as best_link, link' as best_link'}
 
   module _ (mark : (w.at u).mark b ≡ Branch) where
     e : TreeEnd
@@ -190,8 +180,8 @@ module _ (g : Network) (wired : IsWired g) (u : ℕ) (u_is : InNetwork g u) (j :
         (chain_top (NamesOf g w (w.at (far g u b)).fragment) (w.at (far g u b)).coming (w.at (far g u b)).coming_name (w.at u).head.level
         (w.at (far g u b)).head.level xs level_up c)))
 
-    below : Below (tree_end (end g w u b)) (tree_end (far_end g w u b))
-    below = record {
+    pub best_below : Below (tree_end (end g w u b)) (tree_end (far_end g w u b))
+    best_below = record {
       joins = joins;
       up = child.up;
       empty = no_report' (best_link'.tree.upward child);
@@ -234,12 +224,12 @@ module _ (g : Network) (wired : IsWired g) (u : ℕ) (u_is : InNetwork g u) (j :
         (λ q n. call_append ChangeRoot refl q.tree ∙ n)
         turns
         (record {
-          tree = tree_passes (tree_end (end g w u b)) (tree_end (far_end g w u b)) below;
+          tree = tree_passes (tree_end (end g w u b)) (tree_end (far_end g w u b)) best_below;
           search = search_turns (tree_end (end g w u b)) (tree_end (far_end g w u b)) (Some b) _ _ best_link.search;
           tests = best_link.tests;
         })
         (record {
-          tree = tree_passes' (tree_end (end g w u b)) (tree_end (far_end g w u b)) below;
+          tree = tree_passes' (tree_end (end g w u b)) (tree_end (far_end g w u b)) best_below;
           search = search_turns' (tree_end (end g w u b)) (tree_end (far_end g w u b)) (Some b) _ _ best_link'.search;
           tests = best_link'.tests;
         })

@@ -1,16 +1,15 @@
 -- A node's way to the root turns away from its old root link: the links that it doesn't turn to.
-use Rattle.std.proofs.Common.{◌≡◌, ◌≢◌, ℕ, ◌≤◌, Bool, true, false, not, ◌&&◌, Option, Some, List, [], ◌∷◌, ◌++◌, refl, sym, subst, cond}
+use Rattle.std.proofs.Common.{◌≡◌, ◌≢◌, ℕ, ◌≤◌, false, Option, Some, List, [], ◌∷◌, ◌++◌, refl, sym, subst}
 use Rattle.ghs_graph.specs.declared.key.Key.{Key}
 use Rattle.ghs_node.specs.declared.message.Phase.TheVariants.{Sleeping, Find, Found}
 use Rattle.ghs_node.specs.declared.message.Message.{Message}
 use Rattle.ghs_node.specs.declared.message.Message.TheVariants.{Connect, Initiate, Test, Accept, Reject, Report, ChangeRoot}
-use Rattle.ghs_node.specs.Words.{is_at}
 use Rattle.ghs_protocol.proofs.clauses.Scene.{End, TreeEnd, tree_end}
 use Rattle.ghs_protocol.proofs.clauses.Links.{Joins, Ups}
 use Rattle.ghs_protocol.proofs.clauses.TreeMessages.{TreeFits, Chain, Upward, Nothing_up, Report_up, Downward, Initiates, Old_report}
 use Rattle.ghs_protocol.proofs.clauses.Search.{SearchFits}
 use Rattle.ghs_protocol.proofs.clauses.Whole.{LinkFits}
-use Rattle.ghs_protocol.proofs.clauses.Rest.{debt, owes, has_call, has_report}
+use Rattle.ghs_protocol.proofs.clauses.Rest.{has_call, has_report}
 use Rattle.ghs_protocol.proofs.union.Risen.{tree_named}
 use Rattle.ghs_protocol.proofs.root.AtRoot.{Left, Nothing_left, Report_left}
 
@@ -128,10 +127,3 @@ report_append m n (Accept ∷ xs) = report_append m n xs
 report_append m n (Reject ∷ xs) = report_append m n xs
 report_append m n (Report r ∷ xs) = refl
 report_append m n (ChangeRoot ∷ xs) = report_append m n xs
-
-pub debt_unowed : (e f : End) → owes e f ≡ false → ◌≡◌ {A = ℕ} (debt e f) 0
-debt_unowed e f o = go (is_at e.is.up e.port)
-  where
-    go : (x : Bool) → ◌≡◌ {A = ℕ} (cond (not x && owes e f) 1 0) 0
-    go true = refl
-    go false = rw o refl

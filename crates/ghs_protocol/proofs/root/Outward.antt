@@ -19,7 +19,6 @@ use Rattle.ghs_protocol.proofs.clauses.Rest.{debt}
 use Rattle.ghs_protocol.proofs.clauses.Whole.{LinkFits, Invariant, NamesOf}
 use Rattle.ghs_protocol.proofs.clauses.Uniting.{SendsRoot}
 use Rattle.ghs_protocol.proofs.lemmas.Updates.{put_same, put_other}
-use Rattle.ghs_protocol.proofs.acts.OneLink.{at_near, at_far}
 use Rattle.ghs_protocol.proofs.root.AtRoot.{AtRoot, at_root}
 use Rattle.ghs_protocol.proofs.root.Ways.{Turns}
 use Rattle.ghs_protocol.proofs.root.OldLink.{call_append, report_append}
@@ -27,6 +26,7 @@ use Rattle.ghs_protocol.proofs.root.Sent.{reroutes}
 use Rattle.ghs_protocol.proofs.root.Inward.{at_best, best_apart, leads_to, old_roots}
 use Rattle.ghs_protocol.proofs.acts.SameForest.{not_branch}
 use Rattle.ghs_protocol.proofs.acts.Situations.{basic_left}
+use Rattle.ghs_protocol.proofs.rows.Link.{link_clauses}
 
 -- a port turns Branch: the clauses of Tests
 abbrev pub joined_by : TestEnd → TestEnd
@@ -118,17 +118,46 @@ module _ (e f : TreeEnd) (k : Key) (mark : e.mark ≢ Branch) (mark' : f.mark �
     find_reported = λ l x y j. absurd (mark' j.here);
   }
 
+-- e, whose node is m then, connects over the link to f, which hasn't
+module _ (N : ℕ → Key → Type 0) (e f : End) (m : Member) (k : Key) (mark : e.mark ≢ Branch) (mark' : f.mark ≢ Branch)
+    (out : LeadsOut (tree_end e) (tree_end f) k) (top : e.is.head.level ≡ e.is.coming) (h : LinkFits N e f) (h' : LinkFits N f e)
+    (tree : tree_end (record e { mark = Branch; is = m }) ≡ connected (tree_end e))
+    (tests : test_end (record e { mark = Branch; is = m }) ≡ joined_by (test_end e)) where
+  abbrev pub connecting : End
+  connecting = record e { mark = Branch; is = m }
+
+  abbrev pub asked_end : End
+  asked_end = record f { seen = record f.seen { tree = f.seen.tree ++ Connect e.is.head.level ∷ [] } }
+
+  pub connects_near : LinkFits N connecting asked_end
+  connects_near = record {
+    tree =
+        subst (λ t. TreeFits N t (asked_by (tree_end f) e.is.head.level)) (sym tree)
+        (tree_connects (tree_end e) (tree_end f) k mark mark' out top h.search h'.search h.tree h'.tree);
+    search =
+        subst (λ t. SearchFits t (asked_by (tree_end f) e.is.head.level)) (sym tree)
+        (search_connects (tree_end e) (tree_end f) k mark mark' out top h.search h'.search);
+    tests = subst (λ t. TestsFit t (test_end f)) (sym tests) (tests_branch _ _ h.tests);
+  }
+
+  pub connects_far : LinkFits N asked_end connecting
+  connects_far = record {
+    tree =
+        subst (TreeFits N (asked_by (tree_end f) e.is.head.level)) (sym tree)
+        (tree_connects' (tree_end e) (tree_end f) k mark mark' out top h.search h'.search);
+    search =
+        subst (SearchFits (asked_by (tree_end f) e.is.head.level)) (sym tree)
+        (search_connects' (tree_end e) (tree_end f) k mark mark' out top h.search h'.search);
+    tests = subst (TestsFit (test_end f)) (sym tests) (tests_branch' _ _ h'.tests);
+  }
+
 module _ (g : Network) (wired : IsWired g) (u : ℕ) (u_is : InNetwork g u) (j : ℕ) (at : At g u j) (w : Scene) (holds : Invariant g w)
     (ms : List Message) (root : AtRoot g w u j ms)
     (b : ℕ) (k : Key) (best : (w.at u).head.best ≡ Some (b, k)) (mark : (w.at u).mark b ≢ Branch) where
   atb : At g u b
   atb = at_best g wired u u_is j at w holds ms root b k best
 
-  pub out_link : LinkFits (NamesOf g w) (end g w u b) (far_end g w u b)
-  out_link = at_near g wired w (LinkFits (NamesOf g w)) holds.links u b atb
-
-  pub out_link' : LinkFits (NamesOf g w) (far_end g w u b) (end g w u b)
-  out_link' = at_far g wired w (LinkFits (NamesOf g w)) holds.links u b atb
+  open link_clauses g wired w holds u b atb use {link as out_link, link' as out_link'}
 
   pub leads_out : LeadsOut (tree_end (end g w u b)) (tree_end (far_end g w u b)) k
   leads_out = out_link.search.find_leads k best root.top mark
@@ -226,25 +255,6 @@ module _ (g : Network) (wired : IsWired g) (u : ℕ) (u_is : InNetwork g u) (j :
       seen = w.seen u b;
     }
 
-    sent : LinkFits (NamesOf g w) sender receiver
-    sent = record {
-      tree =
-          tree_connects (tree_end (end g w u b)) (tree_end (far_end g w u b)) k mark mark' leads_out root.top out_link.search out_link'.search
-          out_link.tree out_link'.tree;
-      search =
-          search_connects (tree_end (end g w u b)) (tree_end (far_end g w u b)) k mark mark' leads_out root.top out_link.search out_link'.search;
-      tests = tests_branch _ _ out_link.tests;
-    }
-
-    sent' : LinkFits (NamesOf g w) receiver sender
-    sent' = record {
-      tree =
-          tree_connects' (tree_end (end g w u b)) (tree_end (far_end g w u b)) k mark mark' leads_out root.top out_link.search out_link'.search;
-      search =
-          search_connects' (tree_end (end g w u b)) (tree_end (far_end g w u b)) k mark mark' leads_out root.top out_link.search out_link'.search;
-      tests = tests_branch' _ _ out_link'.tests;
-    }
-
     owing : debt receiver sender' ≡ debt (far_end g w u b) (end g w u b)
     owing = rw (report_append (Connect (w.at u).head.level) refl (seen_beyond g w u b).tree) refl
 
@@ -254,7 +264,13 @@ module _ (g : Network) (wired : IsWired g) (u : ℕ) (u_is : InNetwork g u) (j :
         (put (w.at u).mark b Branch) (put_same (w.at u).mark b Branch)
         (λ i ne. put_other (w.at u).mark b i Branch ne)
         (Connect (w.at u).head.level) (λ q n. call_append (Connect (w.at u).head.level) refl q.tree ∙ n) turns
-        (subst (λ e. LinkFits (NamesOf g w) e receiver) marked sent) (subst (LinkFits (NamesOf g w) receiver) marked sent') owing
+        (subst (λ e. LinkFits (NamesOf g w) e receiver) marked
+        (connects_near (NamesOf g w) (end g w u b) (far_end g w u b) (sent_out (w.at u) b) k mark mark' leads_out root.top
+        out_link out_link' refl refl))
+        (subst (LinkFits (NamesOf g w) receiver) marked
+        (connects_far (NamesOf g w) (end g w u b) (far_end g w u b) (sent_out (w.at u) b) k mark mark' leads_out root.top
+        out_link out_link' refl refl))
+        owing
 
 -- a step: the root goes out over its best link, the far end not being a Branch
 pub connects_out :

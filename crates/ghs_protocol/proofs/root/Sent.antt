@@ -18,19 +18,20 @@ use Rattle.ghs_protocol.proofs.clauses.Changes.{left_tree, seen_beyond}
 use Rattle.ghs_protocol.proofs.clauses.Nodes.{NodeFits}
 use Rattle.ghs_protocol.proofs.clauses.Links.{Out}
 use Rattle.ghs_protocol.proofs.clauses.TreeMessages.{Moved}
-use Rattle.ghs_protocol.proofs.clauses.Fragments.{IsJoinedIn, Names, ForestFits}
+use Rattle.ghs_protocol.proofs.clauses.Fragments.{Names, ForestFits}
 use Rattle.ghs_protocol.proofs.clauses.Rest.{Quiet, Resting, owes, debt, DebtsCounted, has_call, has_report}
 use Rattle.ghs_protocol.proofs.clauses.Whole.{LinkFits, Invariant, NamesOf}
 use Rattle.ghs_protocol.proofs.lemmas.Updates.{put_same, put_other, put_alike}
 use Rattle.ghs_protocol.proofs.acts.Ends.{acts_keeps}
 use Rattle.ghs_protocol.proofs.acts.SameForest.{near', far', node_after, quiet_after, sums_after, branch_mark}
-use Rattle.ghs_protocol.proofs.acts.OneLink.{sends_one, at_near, at_far}
-use Rattle.ghs_protocol.proofs.search.ReportGone.{debt_up, debt_none}
+use Rattle.ghs_protocol.proofs.acts.OneLink.{sends_one}
+use Rattle.ghs_protocol.proofs.search.ReportGone.{debt_up, debt_none, debt_unowed}
 use Rattle.ghs_protocol.proofs.rest.Halt.{owed_finds}
 use Rattle.ghs_protocol.proofs.rest.AtRest.{not_true}
 use Rattle.ghs_protocol.proofs.root.AtRoot.{AtRoot}
 use Rattle.ghs_protocol.proofs.root.Ways.{Turns, turning, forest_turn, names_turn}
-use Rattle.ghs_protocol.proofs.root.OldLink.{search_turns, search_turns', tree_aside, tree_aside', tree_leaves, tree_leaves', link_names, debt_unowed}
+use Rattle.ghs_protocol.proofs.root.OldLink.{search_turns, search_turns', tree_aside, tree_aside', tree_leaves, tree_leaves', link_names}
+use Rattle.ghs_protocol.proofs.rows.Link.{node_clauses, joined_clauses, not_the_way}
 
 pub put_field : {A B : Type 0} (k : A → B) (f : ℕ → A) (u : ℕ) (x : A) (v : ℕ) → k (put f u x v) ≡ put (λ y. k (f y)) u (k x) v
 put_field k f u x v =
@@ -54,8 +55,8 @@ module _ (g : Network) (wired : IsWired g) (u : ℕ) (u_is : InNetwork g u) (j :
   abbrev pub rest : Seen
   rest = record (w.seen u j) { tree = ms }
 
-  abbrev pub then : Scene
-  then = acts g u (record (w.at u) { up = Some b; mark = μ }) (left_tree w u j ms) ((b, m) ∷ []) w
+  abbrev pub rerouted : Scene
+  rerouted = acts g u (record (w.at u) { up = Some b; mark = μ }) (left_tree w u j ms) ((b, m) ∷ []) w
 
   -- the ends of its links
   abbrev pub still : ℕ → End
@@ -153,8 +154,7 @@ module _ (g : Network) (wired : IsWired g) (u : ℕ) (u_is : InNetwork g u) (j :
   pub found : (w.at u).head.phase ≡ Found
   found = root.quiet.found u is refl
 
-  fits : NodeFits (length (g.ports u)) (w.at u)
-  fits = holds.nodes u is
+  open node_clauses g wired w holds u u_is use {fits, link as link_at, link' as link_at'}
 
   pub node : NodeFits (length (g.ports u)) goes
   node = record {
@@ -174,15 +174,6 @@ module _ (g : Network) (wired : IsWired g) (u : ℕ) (u_is : InNetwork g u) (j :
     best_port = fits.best_port;
   }
 
-  link_at : (i : ℕ) → At g u i → LinkFits (NamesOf g w) (end g w u i) (far_end g w u i)
-  link_at i at' = at_near g wired w (LinkFits (NamesOf g w)) holds.links u i at'
-
-  link_at' : (i : ℕ) → At g u i → LinkFits (NamesOf g w) (far_end g w u i) (end g w u i)
-  link_at' i at' = at_far g wired w (LinkFits (NamesOf g w)) holds.links u i at'
-
-  way_else : (i : ℕ) → i ≢ j → (w.at u).up ≢ Some i
-  way_else i ne e = ne (sym (same_Some j i (sym root.up ∙ e)))
-
   way_not : (i : ℕ) → i ≢ b → Some b ≢ Some i
   way_not i ne e = ne (sym (same_Some b i e))
 
@@ -198,7 +189,7 @@ module _ (g : Network) (wired : IsWired g) (u : ℕ) (u_is : InNetwork g u) (j :
       subst
       (λ k. LinkFits (NamesOf g w) (record { port = i; key = (port_at g u i).key; mark = k; is = goes; seen = w.seen u i }) (far_end g w u i))
       (sym (same i ne')) (record {
-        tree = tree_aside e f (Some b) (way_else i ne) (way_not i ne') h.tree;
+        tree = tree_aside e f (Some b) (not_the_way root.up i ne) (way_not i ne') h.tree;
         search = search_turns e f (Some b) e.tree f.tree h.search;
         tests = h.tests;
       })
@@ -211,17 +202,13 @@ module _ (g : Network) (wired : IsWired g) (u : ℕ) (u_is : InNetwork g u) (j :
       subst
       (λ k. LinkFits (NamesOf g w) (far_end g w u i) (record { port = i; key = (port_at g u i).key; mark = k; is = goes; seen = w.seen u i }))
       (sym (same i ne')) (record {
-        tree = tree_aside' e f (Some b) (way_else i ne) (way_not i ne') h.tree;
+        tree = tree_aside' e f (Some b) (not_the_way root.up i ne) (way_not i ne') h.tree;
         search = search_turns' e f (Some b) e.tree f.tree h.search;
         tests = h.tests;
       })
 
   -- the old root link
-  inside : IsJoinedIn g (forest w) u j
-  inside = record { here = ap is_branch root.joins.here; there = ap is_branch root.joins.there }
-
-  one_fragment : (w.at u).fragment ≡ (w.at (far g u j)).fragment
-  one_fragment = holds.trees.joined_within u j at inside
+  open joined_clauses g w holds u j at root.joins use {inside as one_fragment}
 
   found' : (w.at (far g u j)).head.phase ≡ Found
   found' = let z = wired.there u j at in root.quiet.found (far g u j) (record { some = z.some; node = z.node }) (sym one_fragment)
@@ -290,7 +277,7 @@ module _ (g : Network) (wired : IsWired g) (u : ℕ) (u_is : InNetwork g u) (j :
 
   -- nobody owes u a Report
   owed_none : (i : ℕ) → At g u i → i ≢ j → owes (end g w u i) (far_end g w u i) ≡ false
-  owed_none i at' ne = not_true _ (λ o. let z = owed_finds g wired u u_is i at' w holds (way_else i ne) o in cc (z, found))
+  owed_none i at' ne = not_true _ (λ o. let z = owed_finds g wired u u_is i at' w holds (not_the_way root.up i ne) o in cc (z, found))
 
   -- u's own sum
   debts_none : (i : ℕ) → At g u i → ◌≡◌ {A = ℕ} (debt (near_now i) (far_now i)) 0
@@ -305,7 +292,7 @@ module _ (g : Network) (wired : IsWired g) (u : ℕ) (u_is : InNetwork g u) (j :
   no_count = (fits.idle (λ e. cc (e, found))).1
 
   -- find_count
-  pub counts : debt there (still b) ≡ debt (far_end g w u b) (end g w u b) → DebtsCounted g then
+  pub counts : debt there (still b) ≡ debt (far_end g w u b) (end g w u b) → DebtsCounted g rerouted
   unfolding own ss
   counts sent =
       sums_after g wired u u_is goes own ss w holds.counted
@@ -328,7 +315,7 @@ module _ (g : Network) (wired : IsWired g) (u : ℕ) (u_is : InNetwork g u) (j :
               (sym e) (ap₂ debt far_there (near_still b apart) ∙ sent)
 
   -- quiet fragments stay quiet
-  pub quiet_still : (a : ℕ) → Quiet g w a → Quiet g then a
+  pub quiet_still : (a : ℕ) → Quiet g w a → Quiet g rerouted a
   unfolding own ss
   quiet_still a z =
       quiet_after g wired u u_is goes own ss w a z (λ e. found)
@@ -339,27 +326,27 @@ module _ (g : Network) (wired : IsWired g) (u : ℕ) (u_is : InNetwork g u) (j :
       (λ i at' ne ne' e. z.uncalled _ _ (wired.there u i at') e))
 
   -- what the nodes keep
-  frags : (v : ℕ) → (then.at v).fragment ≡ (w.at v).fragment
+  frags : (v : ℕ) → (rerouted.at v).fragment ≡ (w.at v).fragment
   frags = put_alike (λ (m : Member). m.fragment) w.at u goes refl
 
-  unmoved : (v : ℕ) → v ≢ u → then.at v ≡ w.at v
+  unmoved : (v : ℕ) → v ≢ u → rerouted.at v ≡ w.at v
   unmoved v ne = put_other w.at u v goes ne
 
-  marked : (v p : ℕ) → (w.at v).mark p ≡ Branch → (then.at v).mark p ≡ Branch
+  marked : (v p : ℕ) → (w.at v).mark p ≡ Branch → (rerouted.at v).mark p ≡ Branch
   marked v p e = ⊎_elim here' (λ ne. ap (λ (m : Member). m.mark p) (unmoved v ne) ∙ e) (cases_eq v u)
     where
       mine : (w.at u).mark p ≡ Branch → μ p ≡ Branch
       mine h = ⊎_elim (λ (z : p ≡ b). ap μ z ∙ to) (λ ne. same p ne ∙ h) (cases_eq p b)
 
-      here' : v ≡ u → (then.at v).mark p ≡ Branch
+      here' : v ≡ u → (rerouted.at v).mark p ≡ Branch
       here' h =
-          subst (λ y. (then.at y).mark p ≡ Branch) (sym h)
+          subst (λ y. (rerouted.at y).mark p ≡ Branch) (sym h)
           (ap (λ (m : Member). m.mark p) (put_same w.at u goes) ∙ mine (subst (λ y. (w.at y).mark p ≡ Branch) h e))
 
   abbrev pub branches : ℕ → ℕ → Bool
   branches v p = is_branch ((put w.at u (record (w.at u) { up = Some b; mark = μ }) v).mark p)
 
-  pub forest_now : forest then ≡ turning (forest w) u b branches
+  pub forest_now : forest rerouted ≡ turning (forest w) u b branches
   forest_now = λ i. record {
     branch = branches;
     fragment = fun_ext frags i;
@@ -375,7 +362,7 @@ module _ (g : Network) (wired : IsWired g) (u : ℕ) (u_is : InNetwork g u) (j :
     out_was : (v p : ℕ) →
         At g v p →
         (w.at v).fragment ≢ (w.at u).fragment →
-        Out (tree_end (end g then v p)) (tree_end (end g then (far g v p) (far_port g v p))) →
+        Out (tree_end (end g rerouted v p)) (tree_end (end g rerouted (far g v p) (far_port g v p))) →
         Out (tree_end (end g w v p)) (tree_end (end g w (far g v p) (far_port g v p)))
     out_was v p at' ne o = record {
       here = ap (λ (m : Member). m.mark p) (sym (unmoved v (other_node v ne))) ∙ o.here;
@@ -385,7 +372,7 @@ module _ (g : Network) (wired : IsWired g) (u : ℕ) (u_is : InNetwork g u) (j :
     moved_was : (v p : ℕ) →
         At g v p →
         (w.at v).fragment ≢ (w.at u).fragment →
-        Moved (tree_end (end g then v p)) (tree_end (end g then (far g v p) (far_port g v p))) →
+        Moved (tree_end (end g rerouted v p)) (tree_end (end g rerouted (far g v p) (far_port g v p))) →
         Moved (tree_end (end g w v p)) (tree_end (end g w (far g v p) (far_port g v p)))
     moved_was v p at' ne z =
         let l = turns.only v p at' (record { here = ap is_branch z.both.joins.here; there = ap is_branch z.both.joins.there }) in
@@ -399,22 +386,22 @@ module _ (g : Network) (wired : IsWired g) (u : ℕ) (u_is : InNetwork g u) (j :
           unnamed = λ e. z.unnamed (ap (λ (m : Member). m.coming_name) (unmoved v (other_node v ne)) ∙ e);
         }
 
-    rests : Resting g then
+    rests : Resting g rerouted
     rests = record {
       out = λ v p at' o.
-          subst (Quiet g then) (sym (frags v)) (quiet_still (w.at v).fragment
+          subst (Quiet g rerouted) (sym (frags v)) (quiet_still (w.at v).fragment
           (⊎_elim (λ e. subst (Quiet g w) (sym e) root.quiet) (λ ne. holds.resting.out v p at' (out_was v p at' ne o))
           (cases_eq (w.at v).fragment (w.at u).fragment)));
       moved = λ v p at' z.
-          subst (Quiet g then) (sym (frags v)) (quiet_still (w.at v).fragment
+          subst (Quiet g rerouted) (sym (frags v)) (quiet_still (w.at v).fragment
           (⊎_elim (λ e. subst (Quiet g w) (sym e) root.quiet) (λ ne. holds.resting.moved v p at' (moved_was v p at' ne z))
           (cases_eq (w.at v).fragment (w.at u).fragment)));
     }
 
-    slept : (v : ℕ) → (then.at v).head.phase ≡ Sleeping → (w.at v).head.phase ≡ Sleeping
+    slept : (v : ℕ) → (rerouted.at v).head.phase ≡ Sleeping → (w.at v).head.phase ≡ Sleeping
     slept v e = sym (put_alike (λ (m : Member). m.head.phase) w.at u goes refl v) ∙ e
 
-    names_now : (a : ℕ) → (k : Key) → NamesOf g w a k → NamesOf g then a k
+    names_now : (a : ℕ) → (k : Key) → NamesOf g w a k → NamesOf g rerouted a k
     names_now a k n = subst (λ s. Names g s a k) (sym forest_now) (names_turn g wired (forest w) u b branches turns holds.trees a k n)
 
     -- all together
@@ -422,18 +409,18 @@ module _ (g : Network) (wired : IsWired g) (u : ℕ) (u_is : InNetwork g u) (j :
         LinkFits (NamesOf g w) (still b) there →
         LinkFits (NamesOf g w) there (still b) →
         debt there (still b) ≡ debt (far_end g w u b) (end g w u b) →
-        Invariant g then
+        Invariant g rerouted
     unfolding own ss
     reroutes sent sent' owing = record {
       nodes = node_after g wired u u_is goes own ss w NodeFits holds.nodes node;
       trees = subst (ForestFits g) (sym forest_now) (forest_turn g wired (forest w) u b branches turns holds.trees);
       links = λ v p at'.
-          link_names (NamesOf g w) (NamesOf g then) names_now (end g then v p) (end g then (far g v p) (far_port g v p))
+          link_names (NamesOf g w) (NamesOf g rerouted) names_now (end g rerouted v p) (end g rerouted (far g v p) (far_port g v p))
           (acts_keeps g wired u u_is.some u_is.node goes own ss w (LinkFits (NamesOf g w)) holds.links
           (by_ports (LinkFits (NamesOf g w)) link_left sent link_aside) (by_ports' (LinkFits (NamesOf g w)) link_left' sent' link_aside') v p at');
       alone = λ v t iv it asleep alike. holds.alone v t iv it (slept v asleep) (sym (frags t) ∙ alike ∙ frags v);
       named = λ v k iv e.
-          subst (λ a. NamesOf g then a k) (sym (frags v))
+          subst (λ a. NamesOf g rerouted a k) (sym (frags v))
           (names_now _ k (holds.named v k iv (sym (put_alike (λ (m : Member). m.head.name) w.at u goes refl v) ∙ e)));
       resting = rests;
       counted = counts owing;

@@ -1,10 +1,9 @@
 -- The root is sent on: what is always under way.
-use Rattle.std.proofs.Common.{◌≡◌, ◌≢◌, ℕ, suc, false, Some, List, [], ◌∷◌, length, refl, sym, ◌∙◌, ap, subst, ⊎_elim, inl}
+use Rattle.std.proofs.Common.{◌≡◌, ◌≢◌, ℕ, suc, false, Some, List, [], ◌∷◌, refl, sym, ◌∙◌, ap, subst, inl}
 use Rattle.std.proofs.lemmas.Option.{same_Some}
 use Rattle.ghs_graph.specs.declared.key.Key.{Key}
 use Rattle.ghs_node.specs.declared.mark.Mark.{Mark}
 use Rattle.ghs_node.specs.declared.mark.Mark.TheVariants.{Branch}
-use Rattle.ghs_node.specs.Words.{is_branch}
 use Rattle.ghs_node.specs.declared.message.Message.{Message}
 use Rattle.ghs_node.specs.declared.message.Message.TheVariants.{Connect, ChangeRoot}
 use Rattle.ghs_protocol.specs.Network.{Network, port_at, At, far, far_port, InNetwork}
@@ -12,22 +11,18 @@ use Rattle.ghs_protocol.proofs.lemmas.Wired.{IsWired}
 use Rattle.ghs_protocol.specs.Net.{put}
 use Rattle.ghs_protocol.proofs.clauses.Scene.{Seen, add, Member, Scene, End, TreeEnd, tree_end, end, acts, far_end}
 use Rattle.ghs_protocol.proofs.clauses.Changes.{left_tree, seen_beyond, pointing, sent_out}
-use Rattle.ghs_protocol.proofs.clauses.Links.{Joins}
-use Rattle.ghs_protocol.proofs.clauses.TreeMessages.{ConnectUnderWay}
-use Rattle.ghs_protocol.proofs.clauses.Nodes.{NodeFits}
 use Rattle.ghs_protocol.proofs.clauses.Rest.{has_call}
 use Rattle.ghs_protocol.proofs.clauses.Wiring.{Ground}
 use Rattle.ghs_protocol.proofs.clauses.Uniting.{SendsRoot, meet}
-use Rattle.ghs_protocol.proofs.clauses.Whole.{LinkFits, Invariant, NamesOf}
+use Rattle.ghs_protocol.proofs.clauses.Whole.{Invariant}
 use Rattle.ghs_protocol.proofs.clauses.UnderWay.{ProbeAsks, brought_to, ChildBrought, CoreHeard, Lives}
 use Rattle.ghs_protocol.proofs.lemmas.Updates.{put_same, put_other}
 use Rattle.ghs_protocol.proofs.acts.Ends.{acts_keeps}
 use Rattle.ghs_protocol.proofs.root.AtRoot.{AtRoot, at_root, Left, Nothing_left, Report_left}
 use Rattle.ghs_protocol.proofs.root.Sent.{by_ports_at}
-use Rattle.ghs_protocol.proofs.root.Inward.{at_best, best_apart, best_aside, leads_to}
+use Rattle.ghs_protocol.proofs.root.Inward.{at_best, best_apart, best_below}
 use Rattle.ghs_protocol.proofs.root.OldLink.{call_append}
-use Rattle.ghs_protocol.proofs.search.FirstReport.{mark_is}
-use Rattle.ghs_protocol.proofs.rows.Link.{link_fits, link_fits'}
+use Rattle.ghs_protocol.proofs.rows.Link.{not_the_way, connect_comes}
 use Rattle.ghs_protocol.proofs.union.MetByRoot.{connects_meeting}
 use Rattle.ghs_protocol.proofs.tests.UnderWay.{near_asks, far_asks, far_brought}
 use Rattle.ghs_protocol.proofs.union.UnderWay.{no_name, united_lives}
@@ -71,9 +66,6 @@ module _ (g : Network) (wired : IsWired g) (u : ℕ) (u_is : InNetwork g u) (j :
   not_way : (i : ℕ) → i ≢ b → Some b ≢ Some i
   not_way i ne e = ne (sym (same_Some b i e))
 
-  was_not : (i : ℕ) → i ≢ j → (w.at u).up ≢ Some i
-  was_not i ne e = ne (sym (same_Some j i (sym root.up ∙ e)))
-
   away : j ≢ b
   away e = apart (sym e)
 
@@ -99,7 +91,7 @@ module _ (g : Network) (wired : IsWired g) (u : ℕ) (u_is : InNetwork g u) (j :
         (λ c. left_brought (tree_end (far_end g w u j)) root.left ∙ root.top' ∙ sym root.top)
         (λ c. absurd (c.3 (unchild c.1))) (λ c. absurd (c.3 refl))
         (λ i at' ne ne' c. absurd (not_way i ne' c.2))
-        (λ i at' ne ne' c. far_brought g wired u u_is j at w holds lives i at' (c.0, sym (same i ne') ∙ c.1, c.2, was_not i ne));
+        (λ i at' ne ne' c. far_brought g wired u u_is j at w holds lives i at' (c.0, sym (same i ne') ∙ c.1, c.2, not_the_way root.up i ne));
     heard =
         moves CoreHeard lives.heard (λ c. absurd (not_way j away c.2)) (λ c. absurd (not_way j away c.3)) (λ c. absurd (unnamed c.1 c.4))
         (λ c. absurd (unnamed' c.0 c.4))
@@ -118,48 +110,22 @@ module _ (g : Network) (wired : IsWired g) (u : ℕ) (u_is : InNetwork g u) (w :
     root : AtRoot g w u j ms
     root = at_root g wired u u_is j at w holds ms calls
 
-    my_fits : NodeFits (length (g.ports u)) (w.at u)
-    my_fits = holds.nodes u u_is
-
     atb : At g u b
     atb = at_best g wired u u_is j at w holds ms root b k best
 
     apart : b ≢ j
     apart = best_apart g wired u u_is j at w holds ms root b k best
 
-    link : LinkFits (NamesOf g w) (end g w u b) (far_end g w u b)
-    link = link_fits g wired w holds u b atb
-
-    link' : LinkFits (NamesOf g w) (far_end g w u b) (end g w u b)
-    link' = link_fits' g wired w holds u b atb
-
     -- the root moves on over a Branch link
     module _ (mark : (w.at u).mark b ≡ Branch) where
-      joins : Joins (tree_end (end g w u b)) (tree_end (far_end g w u b))
-      joins =
-          ⊎_elim (λ h. record { here = mark; there = h })
-          (λ h. absurd (best_aside g wired u u_is j at w holds ms root b k best ((link.tree.out_connect (record { here = mark; there = h })).up)))
-          (mark_is ((w.at (far g u b)).mark (far_port g u b)))
-
-      ghosts : ((w.at (far g u b)).coming ≡ (w.at u).coming) × ((w.at (far g u b)).coming_name ≡ (w.at u).coming_name)
-      ghosts =
-          holds.trees.by_fragment (far g u b) u
-          (sym (holds.trees.joined_within u b atb (record { here = ap is_branch joins.here; there = ap is_branch joins.there })))
-
-      below_way : (w.at (far g u b)).up ≡ Some (far_port g u b)
-      below_way =
-          leads_to g wired u u_is j at w holds ms root b k best b atb
-          (record { here = ap is_branch joins.here; there = ap is_branch joins.there })
-
-      unnamed : (w.at u).coming_name ≢ Some (port_at g u b).key
-      unnamed n = (my_fits.best_port b k best).1 ((link.tree.core_ends joins n).at_top root.top)
+      open best_below g wired u u_is j at w holds ms root b k best mark use {up as below_way, unnamed, unnamed'}
 
       pub passes_lives : Lives g (acts g u (pointing (w.at u) b) (left_tree w u j ms) ((b, ChangeRoot) ∷ []) w)
       passes_lives =
           moves_lives g wired u u_is j at w holds lives ms root b atb apart (w.at u).mark mark (λ i ne. refl) ChangeRoot
           (λ q n. call_append ChangeRoot refl q.tree ∙ n)
           (λ q. refl)
-          (λ e. below_way) (λ e. unnamed) (λ e n. unnamed (sym ghosts.1 ∙ n))
+          (λ e. below_way) (λ e. unnamed) (λ e. unnamed')
 
     -- the root goes out
     module _ (mark : (w.at u).mark b ≢ Branch) where
@@ -178,14 +144,12 @@ module _ (g : Network) (wired : IsWired g) (u : ℕ) (u_is : InNetwork g u) (w :
         abbrev mid : Scene
         mid = acts g u (sent_out (w.at u) b) (left_tree w u j ms) ((b, Connect (w.at u).head.level) ∷ []) w
 
-        came : ConnectUnderWay (tree_end (far_end g w u b)) (tree_end (end g w u b))
-        came = link'.tree.out_connect (record { here = mark'; there = mark })
-
         same : SameParts w mid
         same = same_parts g u (sent_out (w.at u) b) (left_tree w u j ms) ((b, Connect (w.at u).head.level) ∷ []) w refl refl refl refl
 
         met : Lives g mid
         met =
+            let came = connect_comes g wired w holds u b atb mark' mark in
             moves_lives g wired u u_is j at w holds lives ms root b atb apart (put (w.at u).mark b Branch) (put_same (w.at u).mark b Branch)
             (λ i ne. put_other (w.at u).mark b i Branch ne)
             (Connect (w.at u).head.level) (λ q n. call_append (Connect (w.at u).head.level) refl q.tree ∙ n) (λ q. refl) (λ e. came.up)
@@ -194,6 +158,7 @@ module _ (g : Network) (wired : IsWired g) (u : ℕ) (u_is : InNetwork g u) (w :
 
         pub meets_lives : Lives g (meet g u b (acts g u (sent_out (w.at u) b) (left_tree w u j ms) ((b, Connect (w.at u).head.level) ∷ []) w))
         meets_lives =
+            let came = connect_comes g wired w holds u b atb mark' mark in
             united_lives g mid met (mid.at (far g u b)).fragment (mid.at u).fragment (suc (mid.at u).head.level) (Some (port_at g u b).key)
             (λ t it i. inl (below_new g w mid holds same u b came root.top t it i))
             (connects_meeting g ground u u_is w holds j at ms b k calls best mark mark')

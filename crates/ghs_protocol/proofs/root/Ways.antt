@@ -26,6 +26,14 @@ data Lies (g : Network) (s : Forest) (u b v p : ℕ) : Type 0 where
 abbrev pub turning : Forest → ℕ → ℕ → (ℕ → ℕ → Bool) → Forest
 turning s u b β = record s { branch = β; up = put s.up u (Some b) }
 
+-- u's old root, if it has one, is a joined link at u
+abbrev pub RootAtNode : Network → Forest → ℕ → Type 0
+RootAtNode g s u = (v p : ℕ) → At g v p → Root g s v p → s.fragment v ≡ s.fragment u → IsJoinedIn g s v p × ((v ≡ u) ⊎ (far g v p ≡ u))
+
+-- the joined links of u are their far ends' ways
+abbrev pub NeighboursLed : Network → Forest → ℕ → Type 0
+NeighboursLed g s u = (p : ℕ) → At g u p → IsJoinedIn g s u p → s.up (far g u p) ≡ Some (far_port g u p)
+
 -- what the turn asks for: the same links are joined, u's old root is at u, and its new one at b
 pub record Turns (g : Network) (s : Forest) (u b : ℕ) (β : ℕ → ℕ → Bool) : Type 0 where
   pub at : At g u b
@@ -41,8 +49,8 @@ pub record Turns (g : Network) (s : Forest) (u b : ℕ) (β : ℕ → ℕ → Bo
       β v p ≡ true →
       β (far g v p) (far_port g v p) ≡ false →
       ((v ≡ u) × (p ≡ b)) ⊎ ((s.branch v p ≡ true) × (s.branch (far g v p) (far_port g v p) ≡ false))
-  pub led : (p : ℕ) → At g u p → IsJoinedIn g s u p → s.up (far g u p) ≡ Some (far_port g u p)
-  pub old : (v p : ℕ) → At g v p → Root g s v p → s.fragment v ≡ s.fragment u → IsJoinedIn g s v p × ((v ≡ u) ⊎ (far g v p ≡ u))
+  pub led : NeighboursLed g s u
+  pub old : RootAtNode g s u
   pub root : Root g (turning s u b β) u b
 
 module _ (g : Network) (wired : IsWired g) (s : Forest) (u b : ℕ) (β : ℕ → ℕ → Bool) (turns : Turns g s u b β) (fits : ForestFits g s) where

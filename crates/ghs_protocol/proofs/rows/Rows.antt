@@ -27,7 +27,7 @@ use Rattle.ghs_protocol.proofs.clauses.Growing.{As_it_was, Grouped, Grows, Kept,
 use Rattle.ghs_protocol.proofs.lemmas.Updates.{put_same}
 use Rattle.ghs_protocol.proofs.union.Absorb.{came}
 use Rattle.ghs_protocol.proofs.union.ConnectIn.{Came}
-use Rattle.ghs_protocol.proofs.union.LeastLinks.{came_least, grouped, root_least, root_levels, root_top, wake_least, wake_levels}
+use Rattle.ghs_protocol.proofs.union.LeastLinks.{came_least, grouped, root_least, root_levels, wake_least, wake_levels}
 use Rattle.ghs_protocol.proofs.clauses.Floors.{HasSound, Nearly, ScansInOrder, Sound}
 use Rattle.ghs_protocol.proofs.clauses.Nodes.{NodeFits}
 use Rattle.ghs_protocol.proofs.clauses.Uniting.{By_report, By_root, MarksAre, SendsRoot, absorb, meet}
@@ -41,6 +41,7 @@ use Rattle.ghs_protocol.proofs.lemmas.WellFormed.{AreNodes}
 use Rattle.ghs_protocol.specs.Steps.{Step, Takes_one, Wakes_up, reacted, taken, waking}
 use Rattle.std.proofs.Common.{List, None, Option, Some, [], ap, ap₂, arith, false, get_or, inl, inr, length, refl, subst, suc, sym, true, ℕ, ⊎_elim, ◌++◌, ◌+◌, ◌<◌, ◌∙◌, ◌∷◌, ◌≡◌, ◌≢◌, ◌≤◌}
 use Rattle.ghs_protocol.proofs.lemmas.Wires.{at_in}
+use Rattle.ghs_protocol.proofs.root.AtRoot.{at_root}
 
 -- the ways to the root after a row: that of v, where it sends the root on
 abbrev pub ups_after : {n : NodeState} {p : ℕ} {m : Message} {d : Delta} → AwakeRow n p m d → (ℕ → Option ℕ) → ℕ → ℕ → Option ℕ
@@ -495,7 +496,7 @@ module _ (g : Network) (ground : Ground g) (v p : ℕ) (at : At g v p) (w : Net)
             (root_levels g ground.wired (scene w gh) sound.first sound.floor sound.floors v (at_in at) p at (see ms).tree b k calls best free met)
             (ap (λ (z : Scene). (z.at v).head.level) same ∙
             ap (λ (z : Member). z.head.level) (put_same (scene w gh).at v (moved_member (put ((scene w gh).at v).mark b Branch))) ∙
-            root_top g ground.wired (scene w gh) sound.first sound.floor sound.floors v (at_in at) p at (see ms).tree b k calls best free)
+            (at_root g ground.wired v (at_in at) p at (scene w gh) sound.first (see ms).tree calls).top)
             (subst (λ (z : Scene). Sound g (meet g v b z)) (sym same)
             (meet_sound g ground.wired v (at_in at) (scene w gh) sound p at (see ms).tree b k calls best ground free met))
 

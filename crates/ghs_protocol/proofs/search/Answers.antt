@@ -11,18 +11,18 @@ use Rattle.ghs_protocol.specs.Network.{Network, port_at, At, far, far_port, InNe
 use Rattle.ghs_protocol.proofs.lemmas.Wired.{IsWired}
 use Rattle.ghs_protocol.proofs.clauses.Scene.{Seen, Member, Scene, End, tree_end, test_end, end, acts, far_end}
 use Rattle.ghs_protocol.proofs.clauses.Changes.{left_tree, left_accepts, seen_beyond, took_accept, took_report}
-use Rattle.ghs_protocol.proofs.clauses.Nodes.{NodeFits}
 use Rattle.ghs_protocol.proofs.clauses.TreeMessages.{Reported}
 use Rattle.ghs_protocol.proofs.clauses.Search.{LeadsOut}
-use Rattle.ghs_protocol.proofs.clauses.Whole.{LinkFits, Invariant, NamesOf}
+use Rattle.ghs_protocol.proofs.clauses.Whole.{Invariant}
 use Rattle.ghs_protocol.proofs.clauses.Links.{Joins, Ups}
 use Rattle.ghs_protocol.proofs.clauses.Rest.{debt, has_call}
-use Rattle.ghs_protocol.proofs.acts.OneLink.{sends_none, at_near, at_far, here, sums_one, kept_one}
+use Rattle.ghs_protocol.proofs.acts.OneLink.{sends_none, here, sums_one, kept_one}
 use Rattle.ghs_protocol.proofs.tests.Links.{not_some, tests_aside, tests_aside', accepted_apart, accepted_here, accepted_there}
 use Rattle.ghs_protocol.proofs.acts.Situations.{is_find', probing_finds, node_turned}
 use Rattle.ghs_protocol.proofs.search.Best.{with_best, tree_best, tree_best', search_best, search_best', better_is}
 use Rattle.ghs_protocol.proofs.search.ReportGone.{search_trees, tree_popped, tree_popped', uncalled, debt_one, debt_up, debt_none}
 use Rattle.ghs_protocol.proofs.search.FirstReport.{heard_first, Heard, mark_is}
+use Rattle.ghs_protocol.proofs.rows.Link.{link_clauses}
 
 some_better : (o : Best) (j : ℕ) (w : Option Key) → o ≢ None → better o j w ≢ None
 some_better o j w ne = ⊎_elim (λ e z. ne (sym e ∙ z)) (λ t z. let y = t.2 in cc (y, z)) (better_is o j w)
@@ -31,15 +31,12 @@ port_in : Best → ℕ
 port_in None = 0
 port_in (Some b) = b.0
 
-key_Some : (k l : Key) → Some k ≡ Some l → k ≡ l
-key_Some k l e = cc
-
 port_same : (p j : ℕ) (k l : Key) → ◌≡◌ {A = Best} (Some (p, k)) (Some (j, l)) → p ≡ j
 unfolding port_in
 port_same p j k l e = ap port_in e
 
 key_same : (p j : ℕ) (k l : Key) → ◌≡◌ {A = Best} (Some (p, k)) (Some (j, l)) → k ≡ l
-key_same p j k l e = key_Some k l (ap best_key e)
+key_same p j k l e = same_Some k l (ap best_key e)
 
 -- the better one at a port
 pub better_at : (o : Best) (j : ℕ) (w : Option Key) (p : ℕ) (k : Key) → better o j w ≡ Some (p, k) → (o ≡ Some (p, k)) ⊎ ((p ≡ j) × (w ≡ Some k))
@@ -49,14 +46,7 @@ better_at o j w p k e =
     (better_is o j w)
 
 module _ (g : Network) (wired : IsWired g) (u : ℕ) (u_is : InNetwork g u) (j : ℕ) (at : At g u j) (w : Scene) (holds : Invariant g w) where
-  my_fits : NodeFits (length (g.ports u)) (w.at u)
-  my_fits = holds.nodes u u_is
-
-  lnk : LinkFits (NamesOf g w) (end g w u j) (far_end g w u j)
-  lnk = at_near g wired w (LinkFits (NamesOf g w)) holds.links u j at
-
-  lnk' : LinkFits (NamesOf g w) (far_end g w u j) (end g w u j)
-  lnk' = at_far g wired w (LinkFits (NamesOf g w)) holds.links u j at
+  open link_clauses g wired w holds u j at use {fits as my_fits, link as lnk, link' as lnk'}
 
   inside : (i : ℕ) → At g u i → Joins (tree_end (end g w u i)) (tree_end (far_end g w u i)) → (w.at u).fragment ≡ (w.at (far g u i)).fragment
   inside i at' h = holds.trees.joined_within u i at' (record { here = ap is_branch h.here; there = ap is_branch h.there })
@@ -107,7 +97,7 @@ module _ (g : Network) (wired : IsWired g) (u : ℕ) (u_is : InNetwork g u) (j :
         ((w.at u).mark y ≢ Branch → LeadsOut (tree_end (end g w u y)) (tree_end (far_end g w u y)) k) ×
         (Joins (tree_end (end g w u y)) (tree_end (far_end g w u y)) → Reported (tree_end (far_end g w u y)) (Some k)))
         (sym t.0) (
-          (λ m. record { key = sym (key_Some (port_at g u j).key k t.1); apart = apart.0; higher = apart.1 }),
+          (λ m. record { key = sym (same_Some (port_at g u j).key k t.1); apart = apart.0; higher = apart.1 }),
           (λ h. absurd (apart.0 (sym (inside j at h)))),
         )))
         (better_at _ j (Some (port_at g u j).key) i k e)
@@ -171,17 +161,18 @@ module _ (g : Network) (wired : IsWired g) (u : ℕ) (u_is : InNetwork g u) (j :
         x : Member
         x = record (w.at u) { head = record (w.at u).head { probe = None; best = b } }
 
+  -- a Report that comes over another link than in_branch is a child's
+  module _ (k : Option Key) (ms : List Message) (waits : (w.seen u j).tree ≡ Report k ∷ ms) (away : (w.at u).head.in_branch ≢ Some j) where
+    pub child_heard : Heard (tree_end (end g w u j)) (tree_end (far_end g w u j)) k
+    child_heard = heard_first (tree_end (end g w u j)) (tree_end (far_end g w u j)) lnk.tree lnk'.tree (ways j at) k ms waits away
+
   -- a child's Report is heard
   module _ (k : Option Key) (ms : List Message) (c : ℕ) (waits : (w.seen u j).tree ≡ Report k ∷ ms)
       (away : (w.at u).head.in_branch ≢ Some j) (count : (w.at u).head.find_count ≡ suc c) where
     finds' : (w.at u).head.phase ≡ Find
     finds' = ⊎_elim (λ h. h) (λ ne. absurd (let z = (my_fits.idle ne).1 in omega (arith, z, count))) (is_find' (w.at u).head.phase)
 
-    heard : Heard (tree_end (end g w u j)) (tree_end (far_end g w u j)) k
-    heard = heard_first (tree_end (end g w u j)) (tree_end (far_end g w u j)) lnk.tree lnk'.tree (ways j at) k ms waits away
-
-    joins : Joins (tree_end (end g w u j)) (tree_end (far_end g w u j))
-    joins = record { here = heard.child.joins.there; there = heard.child.joins.here }
+    open child_heard k ms waits away use {child, reported}
 
     b' : Best
     b' = better (w.at u).head.best j k
@@ -201,7 +192,7 @@ module _ (g : Network) (wired : IsWired g) (u : ℕ) (u_is : InNetwork g u) (j :
         ((w.at u).mark y ≢ Branch → LeadsOut (tree_end (end g w u y)) (tree_end (far_end g w u y)) l) ×
         (Joins (tree_end (end g w u y)) (tree_end (far_end g w u y)) → Reported (tree_end (far_end g w u y)) (Some l)))
         (sym t.0)
-        ((λ m. absurd (m joins.here)), (λ h. subst (Reported (tree_end (far_end g w u j))) t.1 heard.reported))))
+        ((λ m. absurd (m child.joins.there)), (λ h. subst (Reported (tree_end (far_end g w u j))) t.1 reported))))
         (better_at _ j k i l e)
 
     best_fits' : (p : ℕ) → (l : Key) → b' ≡ Some (p, l) → (p < length (g.ports u)) × ((w.at u).head.in_branch ≢ Some p)
@@ -213,13 +204,13 @@ module _ (g : Network) (wired : IsWired g) (u : ℕ) (u_is : InNetwork g u) (j :
 
     free : has_call (seen_beyond g w u j).tree ≡ false
     free =
-        uncalled (tree_end (end g w u j)) (tree_end (far_end g w u j)) heard.child
-        (let s = holds.trees.by_fragment u (far g u j) (inside j at joins) in
-        let l = my_fits.lag.level in let t = heard.reported.level in omega (arith, s.0, l, t))
-        (lnk'.tree.downward heard.child)
+        uncalled (tree_end (end g w u j)) (tree_end (far_end g w u j)) child
+        (let s = holds.trees.by_fragment u (far g u j) (inside j at (record { here = child.joins.there; there = child.joins.here })) in
+        let l = my_fits.lag.level in let t = reported.level in omega (arith, s.0, l, t))
+        (lnk'.tree.downward child)
 
     phase_free : is_find (w.at (far g u j)).head.phase ≡ false
-    phase_free = ap is_find heard.reported.phase
+    phase_free = ap is_find reported.phase
 
     pub hears_report : Invariant g (acts g u (took_report (w.at u) j k c) (left_tree w u j []) [] w)
     unfolding b'
@@ -237,7 +228,7 @@ module _ (g : Network) (wired : IsWired g) (u : ℕ) (u_is : InNetwork g u) (j :
         (record {
           tree =
               tree_best (record (tree_end (end g w u j)) { tree = [] }) (tree_end (far_end g w u j)) b' finds' keeps'
-              (tree_popped (tree_end (end g w u j)) (tree_end (far_end g w u j)) heard.child lnk.tree);
+              (tree_popped (tree_end (end g w u j)) (tree_end (far_end g w u j)) child lnk.tree);
           search =
               search_trees (with_best (tree_end (end g w u j)) b') (tree_end (far_end g w u j)) [] _
               (search_best (tree_end (end g w u j)) (tree_end (far_end g w u j)) b' finds' keeps' (new' j) lnk.search);
@@ -246,7 +237,7 @@ module _ (g : Network) (wired : IsWired g) (u : ℕ) (u_is : InNetwork g u) (j :
         (record {
           tree =
               tree_best' (record (tree_end (end g w u j)) { tree = [] }) (tree_end (far_end g w u j)) b' finds' keeps'
-              (tree_popped' (tree_end (end g w u j)) (tree_end (far_end g w u j)) heard.child lnk'.tree);
+              (tree_popped' (tree_end (end g w u j)) (tree_end (far_end g w u j)) child lnk'.tree);
           search =
               search_trees (tree_end (far_end g w u j)) (with_best (tree_end (end g w u j)) b') _ []
               (search_best' (tree_end (end g w u j)) (tree_end (far_end g w u j)) b' finds' keeps' lnk'.search);
@@ -264,7 +255,7 @@ module _ (g : Network) (wired : IsWired g) (u : ℕ) (u_is : InNetwork g u) (j :
         })
         (λ e. e) refl
         (sums_one g wired u u_is x j at q [] [] (sends_none j) w holds.counted (omega (arith, count, was, is)) (λ i ne. refl)
-        (debt_up (far_end g w u j) here' heard.child.up ∙ sym (debt_up (far_end g w u j) (end g w u j) heard.child.up)) (λ i ne. refl))
+        (debt_up (far_end g w u j) here' child.up ∙ sym (debt_up (far_end g w u j) (end g w u j) child.up)) (λ i ne. refl))
       where
         q : Seen
         q = record (w.seen u j) { tree = [] }
@@ -276,7 +267,7 @@ module _ (g : Network) (wired : IsWired g) (u : ℕ) (u_is : InNetwork g u) (j :
         here' = record { port = j; key = (port_at g u j).key; mark = (w.at u).mark j; is = x; seen = q }
 
         was : ◌≡◌ {A = ℕ} (debt (end g w u j) (far_end g w u j)) 1
-        was = debt_one (end g w u j) (far_end g w u j) heard.child.down (rw waits refl)
+        was = debt_one (end g w u j) (far_end g w u j) child.down (rw waits refl)
 
         is : ◌≡◌ {A = ℕ} (debt (record { port = j; key = (port_at g u j).key; mark = (w.at u).mark j; is = x; seen = q }) (far_end g w u j)) 0
         is =

@@ -12,22 +12,20 @@ use Rattle.ghs_node.specs.declared.message.Message.TheVariants.{Report}
 use Rattle.ghs_protocol.specs.Network.{Network, port_at, At, far, InNetwork}
 use Rattle.ghs_protocol.proofs.lemmas.Wired.{IsWired}
 use Rattle.ghs_protocol.specs.Net.{put}
-use Rattle.ghs_protocol.proofs.clauses.Scene.{Seen, Member, Scene, End, TreeEnd, tree_end, test_end, end, forest, acts, far_end}
+use Rattle.ghs_protocol.proofs.clauses.Scene.{Seen, Member, Scene, End, TreeEnd, tree_end, test_end, end, acts, far_end}
 use Rattle.ghs_protocol.proofs.clauses.Changes.{left_tree, left_accepts, seen_beyond, took_accept, took_report, with_halt}
-use Rattle.ghs_protocol.proofs.clauses.Links.{Joins, Child, Ups}
-use Rattle.ghs_protocol.proofs.clauses.TreeMessages.{Moved, MovedFits, To_here, To_there, Stage, AtStage, Asking, Called, Begun}
-use Rattle.ghs_protocol.proofs.clauses.Fragments.{IsJoinedIn}
+use Rattle.ghs_protocol.proofs.clauses.Links.{Joins, Child}
+use Rattle.ghs_protocol.proofs.clauses.TreeMessages.{Moved, MovedFits, To_here, To_there}
 use Rattle.ghs_protocol.proofs.clauses.Rest.{Quiet, has_call, has_report}
-use Rattle.ghs_protocol.proofs.clauses.Whole.{LinkFits, Invariant, NamesOf}
+use Rattle.ghs_protocol.proofs.clauses.Whole.{Invariant, NamesOf}
 use Rattle.ghs_protocol.proofs.clauses.Floors.{Floor, lower, FloorsFit, FloorsAt, NodeFloor, HaltedIsWhole, Floors}
 use Rattle.ghs_protocol.proofs.acts.Reactions.{put_again}
 use Rattle.ghs_protocol.proofs.tests.Links.{accepted_apart}
-use Rattle.ghs_protocol.proofs.acts.Situations.{probing_finds, is_find'}
+use Rattle.ghs_protocol.proofs.acts.Situations.{probing_finds, is_find', begun_at_top}
 use Rattle.ghs_protocol.proofs.acts.OneLink.{by_port_at, sends_none}
-use Rattle.ghs_protocol.proofs.search.FirstReport.{Heard, heard_first}
-use Rattle.ghs_protocol.proofs.rest.Halt.{Back, Old, Half, back, owed_finds}
-use Rattle.ghs_protocol.proofs.search.Answers.{better_at}
-use Rattle.ghs_protocol.proofs.rows.Link.{link_fits, link_fits', link_leads}
+use Rattle.ghs_protocol.proofs.rest.Halt.{Back, Old, Half, owed_finds, heard_at_rest}
+use Rattle.ghs_protocol.proofs.search.Answers.{better_at, child_heard}
+use Rattle.ghs_protocol.proofs.rows.Link.{link_fits, link_fits', link_clauses, joined_clauses}
 use Rattle.ghs_protocol.proofs.acts.Floors.{near_fits, far_fits, lower_on, lower_self, below_lower, leads_above}
 use Rattle.ghs_protocol.proofs.search.CloseFloors.{nodes_after, links_after, in_tree_after, halted_after, halted_more}
 
@@ -61,20 +59,10 @@ module _ (g : Network) (wired : IsWired g) (u : ℕ) (u_is : InNetwork g u) (x :
 module _ (g : Network) (wired : IsWired g) (u : ℕ) (u_is : InNetwork g u) (j : ℕ) (at : At g u j) (w : Scene) (holds : Invariant g w)
     (k : Option Key) (ms : List Message) (waits : (w.seen u j).tree ≡ Report k ∷ ms) (rests : (w.at u).head.phase ≡ Found)
     (floor : ℕ → Floor) (floors : Floors g w floor) where
-  link : LinkFits (NamesOf g w) (end g w u j) (far_end g w u j)
-  link = link_fits g wired w holds u j at
-
-  link' : LinkFits (NamesOf g w) (far_end g w u j) (end g w u j)
-  link' = link_fits' g wired w holds u j at
-
-  ways : Joins (tree_end (end g w u j)) (tree_end (far_end g w u j)) → Ups (tree_end (end g w u j)) ⊎ Ups (tree_end (far_end g w u j))
-  ways = link_leads g wired w holds u j at
+  open link_clauses g wired w holds u j at use {link}
 
   mine : (w.at u).up ≢ Some j → ⊥
   mine ne = let z = owed_finds g wired u u_is j at w holds ne (rw waits refl) in cc (z, rests)
-
-  came : Back (NamesOf g w (w.at u).fragment) (tree_end (end g w u j)) (tree_end (far_end g w u j)) k ms
-  came = back (tree_end (end g w u j)) (tree_end (far_end g w u j)) link.tree link'.tree ways k ms waits mine
 
   not_find : (w.at u).head.phase ≡ Find → ⊥
   not_find e = cc (e, rests)
@@ -152,28 +140,19 @@ module _ (g : Network) (wired : IsWired g) (u : ℕ) (u_is : InNetwork g u) (j :
       (t p : ℕ) → At g t p →
       (w.at t).fragment ≡ (w.at u).fragment →
       (w.at (far g t p)).fragment ≡ (w.at u).fragment
-  whole none best t p at' same = go came
+  whole none best t p at' same = go (heard_at_rest g wired u u_is j at w holds k ms waits rests)
     where
-      begun : (e : TreeEnd) (s : Stage) → s ≡ Begun → AtStage e s → e.level ≡ e.coming
-      begun e Begun i a = a
-      begun e Asking i a = cc
-      begun e Called i a = cc
-
       go :
           Back (NamesOf g w (w.at u).fragment) (tree_end (end g w u j)) (tree_end (far_end g w u j)) k ms →
           (w.at (far g t p)).fragment ≡ (w.at u).fragment
       go (Old c h x) = absurd (let z = h.worse in cc (z, none, best))
       go (Half c z a b n f y) = ⊎_elim (λ e. e) (λ ne. absurd (let l = leads ne in cc)) (cases_eq (w.at (far g t p)).fragment (w.at u).fragment)
         where
-          inside : IsJoinedIn g (forest w) u j
-          inside = record { here = ap is_branch c.both.joins.here; there = ap is_branch c.both.joins.there }
-
-          ghosts : ((w.at (far g u j)).coming ≡ (w.at u).coming) × ((w.at (far g u j)).coming_name ≡ (w.at u).coming_name)
-          ghosts = holds.trees.by_fragment (far g u j) u (sym (holds.trees.joined_within u j at inside))
+          open joined_clauses g w holds u j at c.both.joins use {joined, ghosts}
 
           floor_here : floor u ≡ Some None
           floor_here =
-              (near_fits g wired w holds floor floors u j at).core c (begun (tree_end (end g w u j)) z.here a z.at_here) rests ∙
+              (near_fits g wired w holds floor floors u j at).core c (begun_at_top (tree_end (end g w u j)) z.here a z.at_here) rests ∙
               ap (λ o. Some (best_key o)) best
 
           floor_there : floor (far g u j) ≡ Some None
@@ -184,11 +163,11 @@ module _ (g : Network) (wired : IsWired g) (u : ℕ) (u_is : InNetwork g u) (j :
                     record { joins = record { here = c.both.joins.there; there = c.both.joins.here }; up = c.both.up_beyond; up_beyond = c.both.up };
                 named = ghosts.1 ∙ c.named;
               })
-              (begun (tree_end (far_end g w u j)) z.there b z.at_there) f ∙ ap Some (y ∙ none)
+              (begun_at_top (tree_end (far_end g w u j)) z.there b z.at_there) f ∙ ap Some (y ∙ none)
 
           leads : (w.at (far g t p)).fragment ≢ (w.at u).fragment → lower (Some None) (Some (Some (port_at g t p).key)) ≡ true
           leads =
-              leads_above g wired w holds floor floors u j at inside c.both.up c.both.up_beyond (Some None)
+              leads_above g wired w holds floor floors u j at joined c.both.up c.both.up_beyond (Some None)
               (subst (λ v. lower (Some None) v ≡ true) (sym floor_here) refl) (subst (λ v. lower (Some None) v ≡ true) (sym floor_there) refl)
               (λ e. cc (e, rests)) t p at' same
 
@@ -281,14 +260,8 @@ module _ (e f : TreeEnd) (b : Best) (a c : Floor) (finds : e.phase ≡ Find) whe
 -- a node that searches
 module _ (g : Network) (wired : IsWired g) (u : ℕ) (u_is : InNetwork g u) (w : Scene) (holds : Invariant g w)
     (finds : (w.at u).head.phase ≡ Find) where
-  its : InNetwork g u
-  its = u_is
-
-  at_top : (w.at u).head.level ≡ (w.at u).coming
-  at_top = ((holds.nodes u its).searching finds).level
-
   restless : Quiet g w (w.at u).fragment → ⊥
-  restless q = let z = q.found u its refl in cc (z, finds)
+  restless q = let z = q.found u u_is refl in cc (z, finds)
 
   root_unmoved : (i : ℕ) → At g u i → Moved (tree_end (end g w u i)) (tree_end (far_end g w u i)) → ⊥
   root_unmoved i at m =
@@ -329,8 +302,8 @@ module _ (g : Network) (wired : IsWired g) (u : ℕ) (u_is : InNetwork g u) (j :
         FloorsFit (record (tree_end (end g w u i)) { best = b }) (tree_end (far_end g w u i)) (floor u) (floor (far g u i))
     near_accepts i at' =
         near_best (tree_end (end g w u i)) (tree_end (far_end g w u i)) b (floor u) (floor (far g u i)) finds
-        (root_unmoved g wired u u_is w holds finds i at') (news i at') (λ z. at_top g wired u u_is w holds finds)
-        (at_top g wired u u_is w holds finds) (near_fits g wired w holds floor floors u i at')
+        (root_unmoved g wired u u_is w holds finds i at') (news i at') (λ z. ((holds.nodes u u_is).searching finds).level)
+        ((holds.nodes u u_is).searching finds).level (near_fits g wired w holds floor floors u i at')
 
     far_accepts : (i : ℕ) →
         At g u i →
@@ -365,13 +338,10 @@ module _ (g : Network) (wired : IsWired g) (u : ℕ) (u_is : InNetwork g u) (j :
   abbrev best' : Best
   best' = better (w.at u).head.best j k
 
-  heard : Heard (tree_end (end g w u j)) (tree_end (far_end g w u j)) k
-  heard =
-      heard_first (tree_end (end g w u j)) (tree_end (far_end g w u j)) (link_fits g wired w holds u j at).tree
-      (link_fits' g wired w holds u j at).tree (link_leads g wired w holds u j at) k ms waits away
+  open child_heard g wired u u_is j at w holds k ms waits away use {child, tree as reports}
 
   child_floor : floor (far g u j) ≡ Some k
-  child_floor = (far_fits g wired w holds floor floors u j at).report k heard.child heard.tree
+  child_floor = (far_fits g wired w holds floor floors u j at).report k child reports
 
   learnt : (i : ℕ) →
       At g u i →
@@ -388,8 +358,8 @@ module _ (g : Network) (wired : IsWired g) (u : ℕ) (u_is : InNetwork g u) (j :
       FloorsFit (record (tree_end (end g w u i)) { best = best' }) (tree_end (far_end g w u i)) (floor u) (floor (far g u i))
   near_hears i at' =
       near_best (tree_end (end g w u i)) (tree_end (far_end g w u i)) best' (floor u) (floor (far g u i)) searches
-      (root_unmoved g wired u u_is w holds searches i at') (learnt i at') (λ z. at_top g wired u u_is w holds searches)
-      (at_top g wired u u_is w holds searches) (near_fits g wired w holds floor floors u i at')
+      (root_unmoved g wired u u_is w holds searches i at') (learnt i at') (λ z. ((holds.nodes u u_is).searching searches).level)
+      ((holds.nodes u u_is).searching searches).level (near_fits g wired w holds floor floors u i at')
 
   far_hears : (i : ℕ) →
       At g u i →
@@ -404,12 +374,12 @@ module _ (g : Network) (wired : IsWired g) (u : ℕ) (u_is : InNetwork g u) (j :
       let h = near_hears j at in
       record {
         none_below = h.none_below;
-        falls = λ z. absurd (heard.child.down z.up);
-        covered = λ p z o. absurd (heard.child.down z.up);
-        report = λ r z t. absurd (heard.child.down z.up);
-        core = λ z l p. absurd (heard.child.down z.both.up);
-        out = λ o. absurd (o.there heard.child.joins.here);
-        moved = λ z t. absurd (heard.child.down z.both.up);
+        falls = λ z. absurd (child.down z.up);
+        covered = λ p z o. absurd (child.down z.up);
+        report = λ r z t. absurd (child.down z.up);
+        core = λ z l p. absurd (child.down z.both.up);
+        out = λ o. absurd (o.there child.joins.here);
+        moved = λ z t. absurd (child.down z.both.up);
         best = λ y q l z. h.best y q l (record { here = z.here; there = z.there });
       }
 
@@ -421,9 +391,9 @@ module _ (g : Network) (wired : IsWired g) (u : ℕ) (u_is : InNetwork g u) (j :
         falls = λ z. h.falls (record { joins = record { here = z.joins.here; there = z.joins.there }; up = z.up; down = z.down });
         covered = λ p z o. subst (λ v. lower (Some (best_key best')) v ≡ true) (sym child_floor) (better_heard (w.at u).head.best j k);
         report = λ r z t. absurd (let y : [] ≡ Report r ∷ [] = t in cc);
-        core = λ z l p. absurd (heard.child.down z.both.up_beyond);
-        out = λ o. absurd (o.there heard.child.joins.there);
-        moved = λ z t. absurd (heard.child.down z.both.up_beyond);
+        core = λ z l p. absurd (child.down z.both.up_beyond);
+        out = λ o. absurd (o.there child.joins.there);
+        moved = λ z t. absurd (child.down z.both.up_beyond);
         best = λ y q l z. h.best y q l (record { here = z.here; there = z.there });
       }
 

@@ -2,7 +2,7 @@
 use Rattle.std.proofs.Common.{◌≡◌, ◌≢◌, ℕ, ◌+◌, Bool, true, false, not, ◌&&◌, Option, Some, None, List, [], ◌∷◌, ◌++◌, refl, sym, ◌∙◌, ap, subst, ⊎_elim, length, arith, cond}
 use Rattle.std.proofs.lemmas.Option.{same_Some}
 use Rattle.ghs_graph.specs.declared.key.Key.{Key}
-use Rattle.ghs_node.specs.Words.{is_branch, is_at, best_key}
+use Rattle.ghs_node.specs.Words.{is_at, best_key}
 use Rattle.ghs_node.specs.declared.mark.Mark.TheVariants.{Branch}
 use Rattle.ghs_node.specs.declared.message.Phase.TheVariants.{Sleeping, Find, Found}
 use Rattle.ghs_node.specs.declared.message.Message.{Message}
@@ -15,13 +15,14 @@ use Rattle.ghs_protocol.proofs.clauses.Changes.{seen_beyond}
 use Rattle.ghs_protocol.proofs.clauses.Nodes.{NodeFits}
 use Rattle.ghs_protocol.proofs.clauses.TreeMessages.{TreeFits, Upward, Nothing_up, Report_up, Downward, Initiates, Old_report, CoreFits, CoreQueue, Plain, With_report, Moved, Stage, Asking, Called, Begun, AtStage, asked, called}
 use Rattle.ghs_protocol.proofs.clauses.Search.{SearchFits}
-use Rattle.ghs_protocol.proofs.clauses.Whole.{LinkFits, Invariant, NamesOf}
+use Rattle.ghs_protocol.proofs.clauses.Whole.{Invariant}
 use Rattle.ghs_protocol.proofs.clauses.Links.{Joins, Ups}
 use Rattle.ghs_protocol.proofs.clauses.Rest.{debt, owes, has_call, has_report, Quiet}
-use Rattle.ghs_protocol.proofs.acts.OneLink.{sends_one, at_near, at_far, sums_one, kept_one}
+use Rattle.ghs_protocol.proofs.acts.OneLink.{sends_one, sums_one, kept_one}
 use Rattle.ghs_protocol.proofs.search.ReportGone.{search_trees, debt_up, not_at, at_it}
 use Rattle.ghs_protocol.proofs.search.FirstReport.{mark_is}
 use Rattle.ghs_protocol.proofs.rest.AtRest.{by_find}
+use Rattle.ghs_protocol.proofs.rows.Link.{link_clauses, joined_clauses, not_the_way}
 
 abbrev pub found : TreeEnd → TreeEnd
 found e = record e { phase = Found }
@@ -200,20 +201,10 @@ has_call_append (ChangeRoot ∷ xs) k = has_call_append xs k
 module _ (g : Network) (wired : IsWired g) (u : ℕ) (u_is : InNetwork g u) (j : ℕ) (at : At g u j) (w : Scene) (holds : Invariant g w)
     (finds : (w.at u).head.phase ≡ Find) (back : (w.at u).head.in_branch ≡ Some j) (quit : (w.at u).head.probe ≡ None)
     (at_zero : ◌≡◌ {A = ℕ} (w.at u).head.find_count 0) where
-  fits' : NodeFits (length (g.ports u)) (w.at u)
-  fits' = holds.nodes u u_is
-
-  link : LinkFits (NamesOf g w) (end g w u j) (far_end g w u j)
-  link = at_near g wired w (LinkFits (NamesOf g w)) holds.links u j at
-
-  link' : LinkFits (NamesOf g w) (far_end g w u j) (end g w u j)
-  link' = at_far g wired w (LinkFits (NamesOf g w)) holds.links u j at
+  open link_clauses g wired w holds u j at use {fits as fits', link, link'}
 
   abbrev pub facing : ℕ → End
   facing i = far_end g w u i
-
-  pub top : (w.at u).head.level ≡ (w.at u).coming
-  top = (fits'.searching finds).level
 
   pub up : (w.at u).up ≡ Some j
   up = let s = fits'.searching finds in s.up ∙ sym s.in_branch ∙ back
@@ -239,11 +230,6 @@ module _ (g : Network) (wired : IsWired g) (u : ℕ) (u_is : InNetwork g u) (j :
         unnamed = m.unnamed;
       }))
 
-  same_name : (w.at (far g u j)).coming_name ≡ (w.at u).coming_name
-  same_name =
-      let z = holds.trees.joined_within u j at (record { here = ap is_branch joins'.here; there = ap is_branch joins'.there }) in
-      sym (holds.trees.by_fragment u (far g u j) z).1
-
   k : Option Key
   k = best_key (w.at u).head.best
 
@@ -262,9 +248,6 @@ module _ (g : Network) (wired : IsWired g) (u : ℕ) (u_is : InNetwork g u) (j :
     lag = record { level = fits'.lag.level; name = fits'.lag.name };
     best_port = fits'.best_port;
   }
-
-  pub away : (i : ℕ) → i ≢ j → (w.at u).up ≢ Some i
-  away i ne e = ne (sym (same_Some j i (sym up ∙ e)))
 
   here' : ℕ → End
   here' i = record { port = i; key = (port_at g u i).key; mark = (w.at u).mark i; is = x; seen = w.seen u i }
@@ -302,26 +285,28 @@ module _ (g : Network) (wired : IsWired g) (u : ℕ) (u_is : InNetwork g u) (j :
       })
       holds node
       (record {
-        tree = tree_reports (tree_end (end g w u j)) (tree_end (facing j)) finds joins' up top back unmoved' link.tree;
+        tree = tree_reports (tree_end (end g w u j)) (tree_end (facing j)) finds joins' up (fits'.searching finds).level back unmoved' link.tree;
         search =
             search_trees (found (tree_end (end g w u j))) (tree_end (facing j)) _ _
             (search_done (tree_end (end g w u j)) (tree_end (facing j)) finds link.search);
         tests = record { probing = link.tests.probing; not_probing = link.tests.not_probing };
       })
       (record {
-        tree = tree_reports' (tree_end (end g w u j)) (tree_end (facing j)) finds joins' up top back unmoved' same_name refl link'.tree;
+        tree =
+            tree_reports' (tree_end (end g w u j)) (tree_end (facing j)) finds joins' up (fits'.searching finds).level back unmoved'
+            (joined_clauses g w holds u j at joins').ghosts.1 refl link'.tree;
         search =
             search_trees (tree_end (facing j)) (found (tree_end (end g w u j))) _ _
             (search_done' (tree_end (end g w u j)) (tree_end (facing j)) finds link'.search);
         tests = record { probing = link'.tests.probing; not_probing = link'.tests.not_probing };
       })
       (λ i at' ne h h'. record {
-        tree = tree_done (tree_end (end g w u i)) (tree_end (facing i)) finds (away i ne) h.tree;
+        tree = tree_done (tree_end (end g w u i)) (tree_end (facing i)) finds (not_the_way up i ne) h.tree;
         search = search_done (tree_end (end g w u i)) (tree_end (facing i)) finds h.search;
         tests = record { probing = h.tests.probing; not_probing = h.tests.not_probing };
       })
       (λ i at' ne h h'. record {
-        tree = tree_done' (tree_end (end g w u i)) (tree_end (facing i)) finds (away i ne) h'.tree;
+        tree = tree_done' (tree_end (end g w u i)) (tree_end (facing i)) finds (not_the_way up i ne) h'.tree;
         search = search_done' (tree_end (end g w u i)) (tree_end (facing i)) finds h'.search;
         tests = record { probing = h'.tests.probing; not_probing = h'.tests.not_probing };
       })

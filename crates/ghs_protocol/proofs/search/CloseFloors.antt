@@ -15,21 +15,21 @@ use Rattle.ghs_protocol.proofs.clauses.Scene.{Seen, Member, Scene, End, tree_end
 use Rattle.ghs_protocol.proofs.clauses.Changes.{seen_beyond}
 use Rattle.ghs_protocol.proofs.clauses.Links.{Joins, Out, Child}
 use Rattle.ghs_protocol.proofs.clauses.TreeMessages.{Moved}
-use Rattle.ghs_protocol.proofs.clauses.Nodes.{NodeFits}
 use Rattle.ghs_protocol.proofs.clauses.Rest.{Quiet, owes, debt, has_report, has_call}
-use Rattle.ghs_protocol.proofs.clauses.Whole.{LinkFits, Invariant, NamesOf}
+use Rattle.ghs_protocol.proofs.clauses.Whole.{Invariant}
 use Rattle.ghs_protocol.proofs.clauses.Floors.{Floor, lower, FloorsAt, NodeFloor, IsTreeLink, BranchesInTree, HaltedIsWhole, Floors}
 use Rattle.ghs_protocol.proofs.lemmas.Updates.{put_same, put_other}
 use Rattle.ghs_protocol.proofs.lemmas.Sums.{term_le}
 use Rattle.ghs_protocol.proofs.acts.Ends.{acts_read}
 use Rattle.ghs_protocol.proofs.acts.SameForest.{near', far'}
-use Rattle.ghs_protocol.proofs.acts.OneLink.{by_port_at, sends_one, at_near, at_far}
+use Rattle.ghs_protocol.proofs.acts.OneLink.{by_port_at, sends_one}
 use Rattle.ghs_protocol.proofs.search.FirstReport.{mark_is}
 use Rattle.ghs_protocol.proofs.union.OneFragment.{Off}
 use Rattle.ghs_protocol.proofs.rest.AtRest.{parent_finds, by_find}
 use Rattle.ghs_protocol.proofs.search.ReportGone.{at_it, not_at}
 use Rattle.ghs_protocol.proofs.search.Close.{busy, joins', unmoved', up, away, has_report_append}
 use Rattle.ghs_protocol.proofs.acts.Situations.{basic_left}
+use Rattle.ghs_protocol.proofs.rows.Link.{node_clauses, joined_clauses, not_the_way}
 
 -- all clauses of floors, but at the link at port b of u, and but the order of tests
 pub record FloorsOff (g : Network) (w : Scene) (floor : ℕ → Floor) (u b : ℕ) : Type 0 where
@@ -161,11 +161,7 @@ module _ (g : Network) (wired : IsWired g) (u : ℕ) (u_is : InNetwork g u) (j :
   abbrev pub q : Seen
   q = w.seen u j
 
-  link : (i : ℕ) → At g u i → LinkFits (NamesOf g w) (end g w u i) (far_end g w u i)
-  link i at' = at_near g wired w (LinkFits (NamesOf g w)) holds.links u i at'
-
-  link' : (i : ℕ) → At g u i → LinkFits (NamesOf g w) (far_end g w u i) (end g w u i)
-  link' i at' = at_far g wired w (LinkFits (NamesOf g w)) holds.links u i at'
+  open node_clauses g wired w holds u u_is use {fits, link, link'}
 
   -- u's ends afterwards, and those across
   abbrev still : ℕ → End
@@ -174,14 +170,11 @@ module _ (g : Network) (wired : IsWired g) (u : ℕ) (u_is : InNetwork g u) (j :
   abbrev there : End
   there = record (far_end g w u j) { seen = record (seen_beyond g w u j) { tree = (seen_beyond g w u j).tree ++ Report k ∷ [] } }
 
-  joins : Joins (tree_end (end g w u j)) (tree_end (far_end g w u j))
-  joins = joins' g wired u u_is j at w holds finds back quit at_zero
+  open joins' g wired u u_is j at w holds finds back quit at_zero use {here as branch, there as branch'}
+  open joined_clauses g w holds u j at (record { here = branch; there = branch' }) use {inside, ghosts}
 
   ups : (w.at u).up ≡ Some j
   ups = up g wired u u_is j at w holds finds back quit at_zero
-
-  aside : (i : ℕ) → i ≢ j → (w.at u).up ≢ Some i
-  aside i ne = away g wired u u_is j at w holds finds back quit at_zero i ne
 
   restless : Quiet g w (w.at u).fragment → ⊥
   restless = busy g wired u u_is j at w holds finds back quit at_zero
@@ -206,9 +199,6 @@ module _ (g : Network) (wired : IsWired g) (u : ℕ) (u_is : InNetwork g u) (j :
       let z = holds.counted u is in
       let y = term_le (length (g.ports u)) i (λ p. debt (end g w u p) (end g w (far g u p) (far_port g u p))) at'.port in
       omega (arith, z, y, at_zero)
-
-  unowed_by : (i : ℕ) → At g u i → i ≢ j → owes (end g w u i) (far_end g w u i) ≡ false
-  unowed_by i at' ne = unowed (is_at (w.at u).up i) _ (not_at (w.at u).up i (aside i ne)) (debts_over i at')
 
   was_near : (i : ℕ) → At g u i → FloorsAt (end g w u i) (far_end g w u i) (floor u) (floor (far g u i))
   was_near i at' =
@@ -248,12 +238,12 @@ module _ (g : Network) (wired : IsWired g) (u : ℕ) (u_is : InNetwork g u) (j :
   near_aside : (i : ℕ) → At g u i → i ≢ j → FloorsAt (still i) (far_end g w u i) (Some k) (floor (far g u i))
   near_aside i at' ne = record {
     none_below = λ out. negated _ (scanned i (leads_basic i at' out));
-    falls = λ c. absurd (aside i ne c.up);
-    covered = λ p c o. absurd (aside i ne c.up);
-    report = λ r c t. absurd (aside i ne c.up);
-    core = λ c l p. absurd (aside i ne c.both.up);
+    falls = λ c. absurd (not_the_way ups i ne c.up);
+    covered = λ p c o. absurd (not_the_way ups i ne c.up);
+    report = λ r c t. absurd (not_the_way ups i ne c.up);
+    core = λ c l p. absurd (not_the_way ups i ne c.both.up);
     out = λ o. absurd (no_out i at' (record { here = o.here; there = o.there }));
-    moved = λ m t. absurd (aside i ne m.both.up);
+    moved = λ m t. absurd (not_the_way ups i ne m.both.up);
     best = λ y b l z. (was_near i at').best y b l (record { here = z.here; there = z.there });
   }
 
@@ -262,31 +252,34 @@ module _ (g : Network) (wired : IsWired g) (u : ℕ) (u_is : InNetwork g u) (j :
     none_below = (was_far i at').none_below;
     falls = λ c.
         (was_far i at').covered finds
-        (record { joins = record { here = c.joins.here; there = c.joins.there }; up = c.up; down = c.down }) (unowed_by i at' ne);
+        (record { joins = record { here = c.joins.here; there = c.joins.there }; up = c.up; down = c.down })
+        (unowed (is_at (w.at u).up i) _ (not_at (w.at u).up i (not_the_way ups i ne)) (debts_over i at'));
     covered = λ p c o. absurd (let z : Found ≡ Find = p in cc);
     report = λ r c t. (was_far i at').report r (record { joins = record { here = c.joins.here; there = c.joins.there }; up = c.up; down = c.down }) t;
-    core = λ c l p. absurd (aside i ne c.both.up_beyond);
+    core = λ c l p. absurd (not_the_way ups i ne c.both.up_beyond);
     out = λ o. (was_far i at').out (record { here = o.here; there = o.there });
-    moved = λ m t. absurd (aside i ne m.both.up_beyond);
+    moved = λ m t. absurd (not_the_way ups i ne m.both.up_beyond);
     best = λ y b l z. absurd (not_found _ finds ((link' i at').search.find_reported y b l (record { here = z.here; there = z.there })).phase);
   }
 
   -- the link to the parent, or the core
   here_fits : FloorsAt (still j) there (Some k) (floor (far g u j))
   here_fits = record {
-    none_below = λ out. absurd (out (sym (same_fragment j at joins)));
-    falls = λ c. subst (λ (y : Floor). lower y (Some k) ≡ true) (sym (parent_none (record { joins = joins; up = c.up; down = c.down }))) refl;
+    none_below = λ out. absurd (out (sym inside));
+    falls = λ c. subst (λ (y : Floor). lower y (Some k) ≡ true)
+        (sym (parent_none (record { joins = record { here = branch; there = branch' }; up = c.up; down = c.down }))) refl;
     covered = λ p c o. absurd (let z = reported in cc (z, o));
     report = λ r c t. ap Some (last_report (seen_beyond g w u j).tree k r t);
     core = λ c l p. refl;
-    out = λ o. absurd (o.there joins.there);
-    moved = λ m t. absurd (unmoved (record { both = record { joins = joins; up = m.both.up; up_beyond = m.both.up_beyond }; unnamed = m.unnamed }));
+    out = λ o. absurd (o.there branch');
+    moved = λ m t.
+        absurd (unmoved (record {
+          both = record { joins = record { here = branch; there = branch' }; up = m.both.up; up_beyond = m.both.up_beyond };
+          unnamed = m.unnamed;
+        }));
     best = λ y b l z. absurd ((fits.best_port j y b).1 back);
   }
     where
-      fits : NodeFits (length (g.ports u)) (w.at u)
-      fits = holds.nodes u is
-
       unmoved : Moved (tree_end (end g w u j)) (tree_end (far_end g w u j)) → ⊥
       unmoved = unmoved' g wired u u_is j at w holds finds back quit at_zero
 
@@ -302,7 +295,7 @@ module _ (g : Network) (wired : IsWired g) (u : ℕ) (u_is : InNetwork g u) (j :
 
   there_fits : FloorsAt there (still j) (floor (far g u j)) (Some k)
   there_fits = record {
-    none_below = λ out. absurd (out (same_fragment j at joins));
+    none_below = λ out. absurd (out inside);
     falls = λ c. absurd (c.down ups);
     covered = λ p c o. absurd (c.down ups);
     report = λ r c t. absurd (c.down ups);
@@ -311,18 +304,18 @@ module _ (g : Network) (wired : IsWired g) (u : ℕ) (u_is : InNetwork g u) (j :
           both = record { joins = record { here = c.both.joins.here; there = c.both.joins.there }; up = c.both.up; up_beyond = c.both.up_beyond };
           named = c.named;
         }) l p;
-    out = λ o. absurd (o.there joins.here);
+    out = λ o. absurd (o.there branch);
     moved = λ m t. absurd (unmoved m);
-    best = λ y b l z. absurd (not_found _ finds ((link' j at).search.find_reported y b l (record { here = joins.there; there = joins.here })).phase);
+    best = λ y b l z. absurd (not_found _ finds ((link' j at).search.find_reported y b l (record { here = branch'; there = branch })).phase);
   }
     where
-      ghosts : ((w.at (far g u j)).coming ≡ (w.at u).coming) × ((w.at (far g u j)).coming_name ≡ (w.at u).coming_name)
-      ghosts = holds.trees.by_fragment (far g u j) u (sym (same_fragment j at joins))
-
       unmoved : Moved (tree_end there) (tree_end (still j)) → ⊥
       unmoved m =
           unmoved' g wired u u_is j at w holds finds back quit at_zero
-          (record { both = record { joins = joins; up = m.both.up_beyond; up_beyond = m.both.up }; unnamed = λ e. m.unnamed (ghosts.1 ∙ e) })
+          (record {
+            both = record { joins = record { here = branch; there = branch' }; up = m.both.up_beyond; up_beyond = m.both.up };
+            unnamed = λ e. m.unnamed (ghosts.1 ∙ e);
+          })
 
   -- the node reports: its floor is what it reports
   pub closes_floors : Floors g (acts g u x (put (w.seen u) j q) ((j, Report k) ∷ []) w) (put floor u (Some k))

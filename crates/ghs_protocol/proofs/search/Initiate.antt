@@ -1,7 +1,7 @@
 -- An Initiate is heard and passed on: the invariant is kept.
 use Rattle.std.proofs.Common.{◌≡◌, ◌≢◌, ℕ, zero, suc, ◌+◌, ◌<◌, ◌≤◌, Bool, true, false, ◌&&◌, ◌||◌, Option, Some, None, List, [], ◌∷◌, ◌++◌, refl, sym, ◌∙◌, ap, subst, subst₂, ⊎_elim, ◌⊎◌, length, arith, cond, eq-eqb, ne_eqb, zero-add}
 use Rattle.std.proofs.lemmas.Option.{same_Some}
-use Rattle.std.proofs.lemmas.Bool.{cases_eq}
+use Rattle.std.proofs.lemmas.Bool.{cases_eq, or_parts}
 use Rattle.ghs_graph.specs.declared.key.Key.{Key}
 use Rattle.ghs_node.specs.declared.mark.Mark.{Mark}
 use Rattle.ghs_node.specs.declared.mark.Mark.TheVariants.{Branch}
@@ -24,9 +24,9 @@ use Rattle.ghs_protocol.proofs.clauses.Whole.{Invariant, NamesOf, LinkFits}
 use Rattle.ghs_protocol.proofs.clauses.Uniting.{MarksAre}
 use Rattle.ghs_protocol.specs.Steps.{sent_on}
 use Rattle.ghs_protocol.proofs.lemmas.Updates.{put_same, put_other}
-use Rattle.ghs_protocol.proofs.lemmas.Sums.{sum_same, term_le}
+use Rattle.ghs_protocol.proofs.lemmas.Sums.{sum_same}
 use Rattle.ghs_protocol.proofs.acts.SameForest.{Alike, near', far', quiet_after, forest_after, sums_after, kept_after, not_branch}
-use Rattle.ghs_protocol.proofs.acts.OneLink.{debts_here, at_near, at_far}
+use Rattle.ghs_protocol.proofs.acts.OneLink.{debt_within}
 use Rattle.ghs_protocol.proofs.tests.Links.{tests_aside, tests_aside', not_some}
 use Rattle.ghs_protocol.proofs.rest.StaysAtRest.{rests_alike}
 use Rattle.ghs_protocol.proofs.search.ReportGone.{debt_up, debt_one}
@@ -34,6 +34,7 @@ use Rattle.ghs_protocol.proofs.search.FirstReport.{mark_is}
 use Rattle.ghs_protocol.proofs.search.PassedOn.{forwards_on, forwards_many, one_on}
 use Rattle.ghs_protocol.proofs.search.Called.{Calls, calls, tree_told, tree_told', tree_past, tree_past', tree_passed, tree_passed', search_told, search_told'}
 use Rattle.ghs_protocol.proofs.lemmas.Balance.{none_or_none}
+use Rattle.ghs_protocol.proofs.rows.Link.{node_clauses, not_the_way}
 
 pub has_call_more : (xs : List Message) (l : ℕ) (n : Key) (s : Phase) → has_call (xs ++ Initiate l n s ∷ []) ≡ (has_call xs || is_find s)
 has_call_more [] l n Sleeping = refl
@@ -107,20 +108,13 @@ module _ (g : Network) (wired : IsWired g) (u : ℕ) (u_is : InNetwork g u) (j :
   abbrev pub passed : ℕ → End
   passed i = record (far_end g w u i) { seen = add (seen_beyond g w u i) (Initiate l n s) }
 
-  abbrev pub then : Scene
-  then = acts g u hearer (put (w.seen u) j left) passing w
+  abbrev pub initiated : Scene
+  initiated = acts g u hearer (put (w.seen u) j left) passing w
 
   here : InNetwork g u
   here = u_is
 
-  fits : NodeFits (length (g.ports u)) (w.at u)
-  fits = holds.nodes u here
-
-  link : (i : ℕ) → At g u i → LinkFits (NamesOf g w) (end g w u i) (far_end g w u i)
-  link i at' = at_near g wired w (LinkFits (NamesOf g w)) holds.links u i at'
-
-  link' : (i : ℕ) → At g u i → LinkFits (NamesOf g w) (far_end g w u i) (end g w u i)
-  link' i at' = at_far g wired w (LinkFits (NamesOf g w)) holds.links u i at'
+  open node_clauses g wired w holds u u_is use {fits, link, link'}
 
   pub inside : (i : ℕ) → At g u i → Joins (tree_end (end g w u i)) (tree_end (far_end g w u i)) → (w.at u).fragment ≡ (w.at (far g u i)).fragment
   inside i at' h = holds.trees.joined_within u i at' (record { here = ap is_branch h.here; there = ap is_branch h.there })
@@ -166,17 +160,14 @@ module _ (g : Network) (wired : IsWired g) (u : ℕ) (u_is : InNetwork g u) (j :
   pub idle : ((w.at u).head.probe ≡ None) × (◌≡◌ {A = ℕ} (w.at u).head.find_count 0)
   idle = fits.idle (λ z. cc (z, found))
 
-  pub away : (i : ℕ) → i ≢ j → (w.at u).up ≢ Some i
-  away i ne e = ne (sym (same_Some j i (sym call.up ∙ e)))
-
   pub branch_joined : (i : ℕ) → At g u i → i ≢ j → (w.at u).mark i ≡ Branch → Joins (tree_end (end g w u i)) (tree_end (far_end g w u i))
   branch_joined i at' ne b =
       ⊎_elim (λ z. record { here = b; there = z })
-      (λ z. absurd (away i ne ((link i at').tree.out_connect (record { here = b; there = z })).up))
+      (λ z. absurd (not_the_way call.up i ne ((link i at').tree.out_connect (record { here = b; there = z })).up))
       (mark_is ((w.at (far g u i)).mark (far_port g u i)))
 
   pub child : (i : ℕ) → At g u i → i ≢ j → (w.at u).mark i ≡ Branch → Ups (tree_end (far_end g w u i))
-  child i at' ne b = ⊎_elim (λ z. absurd (away i ne z)) (λ z. z) (ways i at' (branch_joined i at' ne b))
+  child i at' ne b = ⊎_elim (λ z. absurd (not_the_way call.up i ne z)) (λ z. z) (ways i at' (branch_joined i at' ne b))
 
   -- what goes out on each port
   sent_here : sent_on passing j ≡ []
@@ -254,13 +245,7 @@ module _ (g : Network) (wired : IsWired g) (u : ℕ) (u_is : InNetwork g u) (j :
 
   -- nobody owed a Report before
   owed_none : (i : ℕ) → At g u i → ◌≡◌ {A = ℕ} (debt (end g w u i) (far_end g w u i)) 0
-  owed_none i at' = zero_of _ _ (term_le (length (g.ports u)) i f at'.port) (sym all ∙ idle.1)
-    where
-      f : ℕ → ℕ
-      f i = debt (end g w u i) (far_end g w u i)
-
-      all : (w.at u).head.find_count ≡ sum_below (length (g.ports u)) f
-      all = debts_here g wired w holds.counted u here
+  owed_none i at' = zero_of _ _ (debt_within g wired w holds.counted u i at') idle.1
 
   value : ℕ → ℕ
   value i = cond (is_find s) (one_on xs 0 j i) 0
@@ -280,7 +265,7 @@ module _ (g : Network) (wired : IsWired g) (u : ℕ) (u_is : InNetwork g u) (j :
         where
           go : (c : Bool) → is_find s ≡ c → debt (still i) (passed i) ≡ cond c (one_on xs 0 j i) 0
           go true e =
-              debt_one (still i) (passed i) (away i ne) (rw (has_call_more (seen_beyond g w u i).tree l n s, e) (any_true _ _ _)) ∙
+              debt_one (still i) (passed i) (not_the_way call.up i ne) (rw (has_call_more (seen_beyond g w u i).tree l n s, e) (any_true _ _ _)) ∙
               sym (rw (zero-add, ← marks.marks i, b, ne_eqb i j ne) refl)
           go false e = rw (has_call_more (seen_beyond g w u i).tree l n s, e, or_false) (owed_none i at')
 
@@ -310,7 +295,7 @@ module _ (g : Network) (wired : IsWired g) (u : ℕ) (u_is : InNetwork g u) (j :
       other : (i : ℕ) → At g u i → i ≢ j → (w.at u).mark i ≢ Branch → debt (far_end g w u i) (still i) ≡ debt (far_end g w u i) (end g w u i)
       other i at' ne nb = rw (ne_eqb j i (λ z. ne (sym z)), found, and_false) refl
 
-  debts : DebtsCounted g then
+  debts : DebtsCounted g initiated
   debts =
       sums_after g wired u u_is hearer (put (w.seen u) j left) passing w holds.counted
       (total ∙ sum_same (length (g.ports u)) _ _ (λ i lt. sym (owed_here i (record { some = u_is.some; node = u_is.node; port = lt }))))
@@ -343,8 +328,8 @@ module _ (g : Network) (wired : IsWired g) (u : ℕ) (u_is : InNetwork g u) (j :
       branch : (i : ℕ) → At g u i → i ≢ j → (w.at u).mark i ≡ Branch → LinkFits (NamesOf g w) (still i) (passed i)
       branch i at' ne b = let jo = branch_joined i at' ne b in record {
         tree =
-            tree_passed (NamesOf g w) (tree_end (end g w u i)) (tree_end (far_end g w u i)) l n s (Some j) (away i ne) call.rises call.most jo
-            (child i at' ne b) (sym (inside i at' jo)) (ghosts i at' jo).0 (ghosts i at' jo).1 call.inside call.name call.awake call.find
+            tree_passed (NamesOf g w) (tree_end (end g w u i)) (tree_end (far_end g w u i)) l n s (Some j) (not_the_way call.up i ne) call.rises
+            call.most jo (child i at' ne b) (sym (inside i at' jo)) (ghosts i at' jo).0 (ghosts i at' jo).1 call.inside call.name call.awake call.find
             (link i at').tree;
         search =
             search_told (tree_end (end g w u i)) (tree_end (far_end g w u i)) l s (Some j) call.rises call.most (w.seen u i).tree
@@ -357,8 +342,8 @@ module _ (g : Network) (wired : IsWired g) (u : ℕ) (u_is : InNetwork g u) (j :
       other : (i : ℕ) → At g u i → i ≢ j → (w.at u).mark i ≢ Branch → LinkFits (NamesOf g w) (still i) (far_end g w u i)
       other i at' ne nb = record {
         tree =
-            tree_past (NamesOf g w) (tree_end (end g w u i)) (tree_end (far_end g w u i)) l n s (Some j) (away i ne) call.rises call.most nb
-            (link i at').tree;
+            tree_past (NamesOf g w) (tree_end (end g w u i)) (tree_end (far_end g w u i)) l n s (Some j) (not_the_way call.up i ne) call.rises
+            call.most nb (link i at').tree;
         search =
             search_told (tree_end (end g w u i)) (tree_end (far_end g w u i)) l s (Some j) call.rises call.most (w.seen u i).tree
             (tree_end (far_end g w u i)).tree (link i at').search;
@@ -389,8 +374,8 @@ module _ (g : Network) (wired : IsWired g) (u : ℕ) (u_is : InNetwork g u) (j :
       branch : (i : ℕ) → At g u i → i ≢ j → (w.at u).mark i ≡ Branch → LinkFits (NamesOf g w) (passed i) (still i)
       branch i at' ne b = let jo = branch_joined i at' ne b in record {
         tree =
-            tree_passed' (NamesOf g w) (tree_end (end g w u i)) (tree_end (far_end g w u i)) l n s (Some j) (away i ne) call.rises call.most jo
-            (child i at' ne b) (sym (inside i at' jo)) (ghosts i at' jo).0 (ghosts i at' jo).1 call.inside call.name call.awake call.find
+            tree_passed' (NamesOf g w) (tree_end (end g w u i)) (tree_end (far_end g w u i)) l n s (Some j) (not_the_way call.up i ne) call.rises
+            call.most jo (child i at' ne b) (sym (inside i at' jo)) (ghosts i at' jo).0 (ghosts i at' jo).1 call.inside call.name call.awake call.find
             (link' i at').tree;
         search =
             search_told' (tree_end (end g w u i)) (tree_end (far_end g w u i)) l s (Some j) call.rises call.most (w.seen u i).tree
@@ -403,8 +388,8 @@ module _ (g : Network) (wired : IsWired g) (u : ℕ) (u_is : InNetwork g u) (j :
       other : (i : ℕ) → At g u i → i ≢ j → (w.at u).mark i ≢ Branch → LinkFits (NamesOf g w) (far_end g w u i) (still i)
       other i at' ne nb = record {
         tree =
-            tree_past' (NamesOf g w) (tree_end (end g w u i)) (tree_end (far_end g w u i)) l n s (Some j) (away i ne) call.rises call.most nb
-            (link' i at').tree;
+            tree_past' (NamesOf g w) (tree_end (end g w u i)) (tree_end (far_end g w u i)) l n s (Some j) (not_the_way call.up i ne) call.rises
+            call.most nb (link' i at').tree;
         search =
             search_told' (tree_end (end g w u i)) (tree_end (far_end g w u i)) l s (Some j) call.rises call.most (w.seen u i).tree
             (tree_end (far_end g w u i)).tree (link' i at').search;
@@ -414,15 +399,11 @@ module _ (g : Network) (wired : IsWired g) (u : ℕ) (u_is : InNetwork g u) (j :
       }
 
   -- a fragment at rest hears no call to search
-  quiet : (a : ℕ) → Quiet g w a → Quiet g then a
+  quiet : (a : ℕ) → Quiet g w a → Quiet g initiated a
   quiet a q = quiet_after g wired u u_is hearer (put (w.seen u) j left) passing w a q (λ e. found_is s call.awake (calm e).0) mine theirs
     where
-      neither : (b c : Bool) → (b || c) ≡ false → (b ≡ false) × (c ≡ false)
-      neither true c e = absurd (let z = e in cc)
-      neither false c e = (refl, e)
-
       calm : (w.at u).fragment ≡ a → (is_find s ≡ false) × (has_call ms ≡ false)
-      calm e = neither _ _ (sym (has_call_first ms l n s) ∙ sym (ap has_call waits) ∙ q.uncalled u j at e)
+      calm e = or_parts _ _ (sym (has_call_first ms l n s) ∙ sym (ap has_call waits) ∙ q.uncalled u j at e)
 
       found_is : (p : Phase) → p ≢ Sleeping → is_find p ≡ false → p ≡ Found
       found_is Sleeping ne e = absurd (ne refl)
@@ -443,11 +424,11 @@ module _ (g : Network) (wired : IsWired g) (u : ℕ) (u_is : InNetwork g u) (j :
           (calm (inside i at' (branch_joined i at' ne b) ∙ e)).0)
           (λ i at' ne nb e. q.uncalled _ _ (wired.there u i at') e)
 
-  pub initiates : Invariant g then
+  pub initiates : Invariant g initiated
   initiates =
       kept_after g wired u u_is hearer (put (w.seen u) j left) passing w holds alike node fits_near fits_far (λ e. absurd (call.awake e))
       (λ k e. subst (Names g (forest w) (w.at u).fragment) (name_is k e) call.inside)
-      (rests_alike g w then (forest_after g wired u u_is hearer (put (w.seen u) j left) passing w alike) quiet holds.resting) debts
+      (rests_alike g w initiated (forest_after g wired u u_is hearer (put (w.seen u) j left) passing w alike) quiet holds.resting) debts
     where
       alike : Alike (w.at u) hearer
       alike = record { fragment = refl; coming = refl; coming_name = refl; up = refl; branch = λ p. refl }

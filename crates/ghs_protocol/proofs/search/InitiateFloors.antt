@@ -1,5 +1,5 @@
 -- An Initiate is heard and passed on: floors are kept, but that a node which begins to search knows nothing any more.
-use Rattle.std.proofs.Common.{◌≡◌, ◌≢◌, ℕ, Bool, true, false, ◌||◌, ◌&&◌, Option, Some, None, List, [], ◌∷◌, ◌++◌, length, refl, sym, ◌∙◌, ap, subst, ⊎_elim, ◌⊎◌, inl, inr, arith, cond}
+use Rattle.std.proofs.Common.{◌≡◌, ◌≢◌, ℕ, Bool, true, false, ◌||◌, ◌&&◌, Option, Some, None, List, [], ◌∷◌, ◌++◌, length, refl, sym, ◌∙◌, ap, subst, ⊎_elim, ◌⊎◌, arith, cond}
 use Rattle.ghs_graph.specs.declared.key.Key.{Key}
 use Rattle.ghs_node.specs.declared.mark.Mark.{Mark}
 use Rattle.ghs_node.specs.Words.{is_find, is_at, best_key, Outgoing, on_branches}
@@ -16,16 +16,17 @@ use Rattle.ghs_protocol.proofs.clauses.Links.{Joins, Out, Child}
 use Rattle.ghs_protocol.proofs.clauses.TreeMessages.{TreeFits, Upward, Nothing_up, Report_up, Core, CoreQueue, Plain, With_report, Stage, Asking, Called, Begun, asked, called, Moved, MovedFits, To_here, To_there}
 use Rattle.ghs_protocol.proofs.clauses.Rest.{has_call, has_report}
 use Rattle.ghs_protocol.proofs.clauses.Uniting.{MarksAre}
-use Rattle.ghs_protocol.proofs.clauses.Whole.{LinkFits, Invariant, NamesOf}
+use Rattle.ghs_protocol.proofs.clauses.Whole.{Invariant, NamesOf}
 use Rattle.ghs_protocol.proofs.clauses.Floors.{Floor, lower, owing, FloorsFit, FloorsAt, Floors}
 use Rattle.ghs_protocol.proofs.search.ReportGone.{at_it}
 use Rattle.ghs_protocol.proofs.rest.AtRest.{parent_finds, by_call, by_find}
 use Rattle.ghs_protocol.proofs.search.Called.{Calls, told}
 use Rattle.ghs_protocol.proofs.search.Initiate as initiating
 use Rattle.ghs_protocol.proofs.search.Initiate.{has_call_more, has_call_first}
-use Rattle.ghs_protocol.proofs.rows.Link.{link_fits, link_fits'}
+use Rattle.ghs_protocol.proofs.rows.Link.{not_the_way, node_clauses}
 use Rattle.ghs_protocol.proofs.acts.Floors.{near_fits, far_fits}
 use Rattle.ghs_protocol.proofs.search.CloseFloors.{nodes_after, links_after, in_tree_after, halted_after}
+use Rattle.ghs_protocol.proofs.acts.Situations.{is_find'}
 
 is_call : (s : Phase) → s ≡ Find → is_find s ≡ true
 is_call s e = ap is_find e
@@ -184,20 +185,13 @@ module _ (g : Network) (wired : IsWired g) (u : ℕ) (u_is : InNetwork g u) (j :
   rests : (w.at u).head.phase ≡ Found
   rests = initiating.found g wired u u_is j at w holds l n s ms xs marks waits o quit count counts
 
-  aside : (i : ℕ) → i ≢ j → (w.at u).up ≢ Some i
-  aside i ne = initiating.away g wired u u_is j at w holds l n s ms xs marks waits o quit count counts i ne
-
-  link : (i : ℕ) → At g u i → LinkFits (NamesOf g w) (end g w u i) (far_end g w u i)
-  link i at' = link_fits g wired w holds u i at'
-
-  link' : (i : ℕ) → At g u i → LinkFits (NamesOf g w) (far_end g w u i) (end g w u i)
-  link' i at' = link_fits' g wired w holds u i at'
+  open node_clauses g wired w holds u u_is use {link, link'}
 
   within : (i : ℕ) → At g u i → Joins (tree_end (end g w u i)) (tree_end (far_end g w u i)) → (w.at u).fragment ≡ (w.at (far g u i)).fragment
   within i at' z = initiating.inside g wired u u_is j at w holds l n s ms xs marks waits o quit count counts i at' z
 
   no_out : (i : ℕ) → At g u i → i ≢ j → Out (tree_end (end g w u i)) (tree_end (far_end g w u i)) → ⊥
-  no_out i at' ne z = aside i ne ((link i at').tree.out_connect z).up
+  no_out i at' ne z = not_the_way calls.up i ne ((link i at').tree.out_connect z).up
 
   -- nobody's best is at u: it hasn't come to its level
   unbest : (i : ℕ) →
@@ -210,12 +204,7 @@ module _ (g : Network) (wired : IsWired g) (u : ℕ) (u_is : InNetwork g u) (j :
       let h = ((link' i at').search.find_reported k q y z).level in let x = calls.rises in let v = calls.most in omega (arith, h, x, v)
 
   phases : (s ≡ Find) ⊎ (s ≢ Find)
-  phases = go s
-    where
-      go : (p : Phase) → (p ≡ Find) ⊎ (p ≢ Find)
-      go Find = inl refl
-      go Found = inr (λ e. cc)
-      go Sleeping = inr (λ e. cc)
+  phases = is_find' s
 
   none_lower : s ≡ Find → (k : Floor) → lower b k ≡ true
   none_lower e k = subst (λ v. lower v k ≡ true) (sym (sought e)) refl
@@ -236,7 +225,8 @@ module _ (g : Network) (wired : IsWired g) (u : ℕ) (u_is : InNetwork g u) (j :
       FloorsFit (told (tree_end (end g w u i)) l s (Some j) (w.seen u i).tree) (record (tree_end (far_end g w u i)) { tree = t }) b
       (floor (far g u i))
   near_other i at' ne t =
-      near_passed (tree_end (end g w u i)) (tree_end (far_end g w u i)) l s (Some j) t (floor u) b (floor (far g u i)) (aside i ne) (no_out i at' ne)
+      near_passed (tree_end (end g w u i)) (tree_end (far_end g w u i)) l s (Some j) t (floor u) b (floor (far g u i))
+      (not_the_way calls.up i ne) (no_out i at' ne)
       (λ out. ⊎_elim (λ e. none_lower e _) (λ nt.
       subst (λ v. lower v (Some (Some (port_at g u i).key)) ≡ true) (sym (falls nt))
       ((near_fits g wired w holds floor floors u i at').none_below out))
@@ -249,7 +239,8 @@ module _ (g : Network) (wired : IsWired g) (u : ℕ) (u_is : InNetwork g u) (j :
       FloorsFit (record (tree_end (far_end g w u i)) { tree = t }) (told (tree_end (end g w u i)) l s (Some j) (w.seen u i).tree)
       (floor (far g u i)) b
   far_other i at' ne t called =
-      far_passed (tree_end (end g w u i)) (tree_end (far_end g w u i)) l s (Some j) t (floor u) b (floor (far g u i)) (aside i ne) called
+      far_passed (tree_end (end g w u i)) (tree_end (far_end g w u i)) l s (Some j) t (floor u) b (floor (far g u i))
+      (not_the_way calls.up i ne) called
       (unbest i at')
       (λ c. ⊎_elim (λ e. none_lower e _)
       (λ nt. subst (λ v. lower v (floor (far g u i)) ≡ true) (sym (falls nt)) ((far_fits g wired w holds floor floors u i at').falls c))

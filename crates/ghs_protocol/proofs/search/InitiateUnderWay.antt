@@ -20,7 +20,7 @@ use Rattle.ghs_protocol.proofs.clauses.UnderWay.{Answering, ProbeAsks, brought_t
 use Rattle.ghs_protocol.proofs.acts.Ends.{acts_keeps}
 use Rattle.ghs_protocol.proofs.search.Called.{Calls}
 use Rattle.ghs_protocol.proofs.search.Initiate as initiating
-use Rattle.ghs_protocol.proofs.rows.Link.{link_fits}
+use Rattle.ghs_protocol.proofs.rows.Link.{link_fits, not_the_way}
 use Rattle.ghs_protocol.proofs.search.InitiateFloors.{core_searches}
 use Rattle.ghs_protocol.proofs.tests.UnderWay.{dropped, far_asks, near_brought, far_heard, brought_by_call}
 
@@ -39,9 +39,6 @@ module _ (g : Network) (wired : IsWired g) (u : ℕ) (u_is : InNetwork g u) (j :
 
   calls : Calls (NamesOf g w (w.at u).fragment) (tree_end (end g w u j)) (tree_end (far_end g w u j)) l n s ms
   calls = initiating.call g wired u u_is j at w holds l n s ms xs marks waits o quit count counts
-
-  aside : (i : ℕ) → i ≢ j → (w.at u).up ≢ Some i
-  aside i ne = initiating.away g wired u u_is j at w holds l n s ms xs marks waits o quit count counts i ne
 
   -- a fact of all links
   initiates :
@@ -97,13 +94,13 @@ module _ (g : Network) (wired : IsWired g) (u : ℕ) (u_is : InNetwork g u) (j :
     brought =
         initiates ChildBrought lives.brought
         (λ c. ap (brought_to (w.at u).head.level) (sym waits) ∙ near_brought g wired u u_is j at w holds lives j at c)
-        (λ c. absurd (c.3 calls.up)) (λ i at' ne t c. absurd (aside i ne c.2))
+        (λ c. absurd (c.3 calls.up)) (λ i at' ne t c. absurd (not_the_way calls.up i ne c.2))
         (λ i at' ne t is c.
         ap (brought_to (w.at (far g u i)).head.level) (is c.1) ∙ brought_by_call (seen_beyond g w u i).tree (w.at (far g u i)).head.level l n s);
     heard =
         initiates CoreHeard lives.heard
         (λ c t f r. absurd (let z = core_finds c in let y : s ≡ Found = f in cc (z, y)))
         (λ c t f r. absurd (low (far_heard g wired u u_is j at w holds lives j at c t f (ap has_report waits ∙ r)).top))
-        (λ i at' ne t c. absurd (aside i ne c.2))
-        (λ i at' ne t is c. absurd (aside i ne c.3));
+        (λ i at' ne t c. absurd (not_the_way calls.up i ne c.2))
+        (λ i at' ne t is c. absurd (not_the_way calls.up i ne c.3));
   }

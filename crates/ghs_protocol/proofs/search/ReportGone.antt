@@ -67,13 +67,16 @@ debt_one e f h o = rw (not_at e.is.up e.port h, o) refl
 pub debt_up : (e f : End) → e.is.up ≡ Some e.port → ◌≡◌ {A = ℕ} (debt e f) 0
 debt_up e f h = rw (at_it e.is.up e.port h) refl
 
+pub debt_unowed : (e f : End) → owes e f ≡ false → ◌≡◌ {A = ℕ} (debt e f) 0
+debt_unowed e f o = go (is_at e.is.up e.port)
+  where
+    go : (x : Bool) → ◌≡◌ {A = ℕ} (cond (not x && owes e f) 1 0) 0
+    go true = refl
+    go false = rw o refl
+
 pub debt_none : (e f : End) →
     has_report e.seen.tree ≡ false →
     has_call f.seen.tree ≡ false →
     is_find f.is.head.phase ≡ false →
     ◌≡◌ {A = ℕ} (debt e f) 0
-debt_none e f a b c = go (is_at e.is.up e.port)
-  where
-    go : (x : Bool) → ◌≡◌ {A = ℕ} (cond (not x && owes e f) 1 0) 0
-    go true = refl
-    go false = rw (a, b, c) refl
+debt_none e f a b c = debt_unowed e f (rw (a, b, c) refl)

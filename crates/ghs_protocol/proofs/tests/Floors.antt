@@ -18,8 +18,8 @@ use Rattle.ghs_protocol.proofs.acts.SameForest.{branch_mark}
 use Rattle.ghs_protocol.proofs.acts.Reactions.{put_again}
 use Rattle.ghs_protocol.proofs.acts.Situations.{branch_marked}
 use Rattle.ghs_protocol.proofs.acts.OneLink.{SendsOn, sends_none, sends_one, by_port_at}
-use Rattle.ghs_protocol.proofs.union.CoreAnswered.{Asked, asked_on}
-use Rattle.ghs_protocol.proofs.rows.Link.{link_fits, link_fits', link_leads}
+use Rattle.ghs_protocol.proofs.union.CoreAnswered.{serving}
+use Rattle.ghs_protocol.proofs.rows.Link.{joined_clauses}
 use Rattle.ghs_protocol.proofs.acts.Floors.{near_fits, far_fits}
 use Rattle.ghs_protocol.proofs.search.CloseFloors.{nodes_after, links_after, in_tree_after, halted_after, halted_more}
 
@@ -189,10 +189,7 @@ module _ (g : Network) (wired : IsWired g) (u : ℕ) (u_is : InNetwork g u) (j :
 
   -- a Connect over the core is answered
   module _ (l : ℕ) (ms : List Message) (waits : (w.seen u j).tree ≡ Connect l ∷ ms) (marked_so : (w.at u).mark j ≢ Basic) (m : ℕ) (k : Key) where
-    asked : Asked (tree_end (end g w u j)) (tree_end (far_end g w u j)) l ms
-    asked =
-        asked_on (tree_end (end g w u j)) (tree_end (far_end g w u j)) (link_fits g wired w holds u j at).tree
-        (link_fits' g wired w holds u j at).tree (link_leads g wired w holds u j at) l ms waits marked_so
+    open serving g wired u u_is j at w holds l ms waits marked_so use {core as core_link}
 
     near_served :
         FloorsFit (record (tree_end (end g w u j)) { tree = ms })
@@ -201,13 +198,13 @@ module _ (g : Network) (wired : IsWired g) (u : ℕ) (u_is : InNetwork g u) (j :
         let f = near_fits g wired w holds floor floors u j at in
         record {
           none_below = f.none_below;
-          falls = λ c. absurd (c.down asked.core.both.up_beyond);
-          covered = λ p c o. absurd (c.down asked.core.both.up_beyond);
-          report = λ r c t. absurd (c.down asked.core.both.up_beyond);
-          core = λ c y p. f.core asked.core y p;
-          out = λ o. absurd (o.there asked.core.both.joins.there);
-          moved = λ z t. absurd (z.unnamed asked.core.named);
-          best = λ y b e z. f.best y b e asked.core.both.joins;
+          falls = λ c. absurd (c.down core_link.both.up_beyond);
+          covered = λ p c o. absurd (c.down core_link.both.up_beyond);
+          report = λ r c t. absurd (c.down core_link.both.up_beyond);
+          core = λ c y p. f.core core_link y p;
+          out = λ o. absurd (o.there core_link.both.joins.there);
+          moved = λ z t. absurd (z.unnamed core_link.named);
+          best = λ y b e z. f.best y b e core_link.both.joins;
         }
 
     far_served :
@@ -218,24 +215,19 @@ module _ (g : Network) (wired : IsWired g) (u : ℕ) (u_is : InNetwork g u) (j :
         let f = far_fits g wired w holds floor floors u j at in
         record {
           none_below = f.none_below;
-          falls = λ c. absurd (c.down asked.core.both.up);
-          covered = λ p c o. absurd (c.down asked.core.both.up);
-          report = λ r c t. absurd (c.down asked.core.both.up);
+          falls = λ c. absurd (c.down core_link.both.up);
+          covered = λ p c o. absurd (c.down core_link.both.up);
+          report = λ r c t. absurd (c.down core_link.both.up);
           core = λ c y p.
               f.core (record {
                 both =
                     record { joins = record { here = c.both.joins.here; there = c.both.joins.there }; up = c.both.up; up_beyond = c.both.up_beyond };
                 named = c.named;
               }) y p;
-          out = λ o. absurd (o.there asked.core.both.joins.here);
-          moved = λ z t. absurd (z.unnamed (names ∙ asked.core.named));
-          best = λ y b e z. f.best y b e (record { here = asked.core.both.joins.there; there = asked.core.both.joins.here });
+          out = λ o. absurd (o.there core_link.both.joins.here);
+          moved = λ z t. absurd (z.unnamed ((joined_clauses g w holds u j at core_link.both.joins).ghosts.1 ∙ core_link.named));
+          best = λ y b e z. f.best y b e (record { here = core_link.both.joins.there; there = core_link.both.joins.here });
         }
-      where
-        names : (w.at (far g u j)).coming_name ≡ (w.at u).coming_name
-        names =
-            (holds.trees.by_fragment (far g u j) u (sym (holds.trees.joined_within u j at
-            (record { here = ap is_branch asked.core.both.joins.here; there = ap is_branch asked.core.both.joins.there })))).1
 
     pub serve_floors : Floors g (acts g u (w.at u) (left_tree w u j ms) ((j, Initiate m k Find) ∷ []) w) floor
     serve_floors =

@@ -19,13 +19,13 @@ use Rattle.ghs_protocol.proofs.clauses.Wiring.{IsKeyed}
 use Rattle.ghs_protocol.proofs.acts.OneLink.{sends_none, sends_one, at_near, at_far, onto, sums_one, kept_one}
 use Rattle.ghs_protocol.proofs.tests.Links.{not_some, tests_aside, tests_aside', accept_here, accept_there, reject_here, reject_there, reject_frag, cross_frag, cross_here, cross_there, rejected_facts, rejected_here, rejected_there, scan_here, scan_there}
 use Rattle.ghs_protocol.proofs.acts.Situations.{probing_finds, tops_alike, named_apart, one_fragment, tree_rejected, tree_rejected', search_rejected, search_rejected', node_turned, branch_marked, within_marked}
+use Rattle.ghs_protocol.proofs.rows.Link.{node_clauses}
 
 module _ (g : Network) (wired : IsWired g) (u : ℕ) (u_is : InNetwork g u) (j : ℕ) (at : At g u j) (w : Scene) (holds : Invariant g w) where
   abbrev pub beyond' : End
   beyond' = onto g wired u u_is (w.at u) j at (w.seen u j) [] [] (sends_none j) w j
 
-  here_fits : NodeFits (length (g.ports u)) (w.at u)
-  here_fits = holds.nodes u u_is
+  open node_clauses g wired w holds u u_is use {fits as here_fits}
 
   far_fits : NodeFits (length (g.ports (far g u j))) (w.at (far g u j))
   far_fits = let t = wired.there u j at in holds.nodes (far g u j) (record { some = t.some; node = t.node })

@@ -12,11 +12,10 @@ use Rattle.ghs_node.specs.declared.message.Message.TheVariants.{Connect, Initiat
 use Rattle.ghs_protocol.specs.Network.{Network, port_at, At, far, far_port, InNetwork}
 use Rattle.ghs_protocol.proofs.lemmas.Wired.{IsWired}
 use Rattle.ghs_protocol.specs.Net.{put}
-use Rattle.ghs_protocol.proofs.clauses.Scene.{Seen, adds, Member, Scene, End, TreeEnd, tree_end, end, acts, far_end}
+use Rattle.ghs_protocol.proofs.clauses.Scene.{Seen, adds, Member, Scene, End, tree_end, end, acts, far_end}
 use Rattle.ghs_protocol.proofs.clauses.Changes.{left_tree, left_tests, left_accepts, left_rejects, seen_beyond, marked, rules_out, took_reject, took_accept, took_report, with_halt, halts_alone}
-use Rattle.ghs_protocol.proofs.clauses.Whole.{LinkFits, Invariant, NamesOf}
+use Rattle.ghs_protocol.proofs.clauses.Whole.{Invariant, NamesOf}
 use Rattle.ghs_protocol.proofs.clauses.Tests.{AllFrom}
-use Rattle.ghs_protocol.proofs.clauses.TreeMessages.{Stage, AtStage, Asking, Called, Begun}
 use Rattle.ghs_protocol.proofs.clauses.Rest.{has_report}
 use Rattle.ghs_protocol.proofs.clauses.UnderWay.{Answering, Test_there, Accept_here, Reject_here, Crossed_here, ProbeAsks, brought_to, ChildBrought, IsCore, HeardBy, CoreHeard, Lives}
 use Rattle.ghs_protocol.proofs.acts.Ends.{acts_keeps}
@@ -24,13 +23,13 @@ use Rattle.ghs_protocol.proofs.acts.SameForest.{branch_mark}
 use Rattle.ghs_protocol.proofs.tests.Steps.{one_name}
 use Rattle.ghs_protocol.proofs.clauses.Wiring.{IsKeyed}
 use Rattle.ghs_protocol.proofs.acts.OneLink.{SendsOn, sends_none, sends_one, by_port_at, at_near, at_far}
-use Rattle.ghs_protocol.proofs.rows.Link.{link_fits, link_fits', link_leads}
-use Rattle.ghs_protocol.proofs.acts.Situations.{branch_marked, probing_finds, is_find'}
-use Rattle.ghs_protocol.proofs.search.FirstReport.{Heard, heard_first}
-use Rattle.ghs_protocol.proofs.union.CoreAnswered.{Asked, asked_on}
-use Rattle.ghs_protocol.proofs.rest.Halt.{Back, Old, Half, back, owed_finds}
+use Rattle.ghs_protocol.proofs.rows.Link.{link_fits, link_fits'}
+use Rattle.ghs_protocol.proofs.acts.Situations.{branch_marked, probing_finds, is_find', begun_at_top}
+use Rattle.ghs_protocol.proofs.union.CoreAnswered.{serving}
+use Rattle.ghs_protocol.proofs.rest.Halt.{Back, Old, Half, heard_at_rest}
 use Rattle.ghs_protocol.proofs.search.Close.{has_report_append}
 use Rattle.ghs_protocol.proofs.tests.Links.{probe_is}
+use Rattle.ghs_protocol.proofs.search.Answers.{child_heard}
 
 -- One link is touched: a fact of all links.
 module _ (g : Network) (wired : IsWired g) (u : ℕ) (u_is : InNetwork g u) (x : Member) (j : ℕ) (at : At g u j) (q : Seen)
@@ -216,9 +215,6 @@ module _ (g : Network) (wired : IsWired g) (u : ℕ) (u_is : InNetwork g u) (j :
       (near_brought_marked j at, far_brought_marked j at, (λ i at' ne. near_brought_marked i at'), (λ i at' ne. far_brought_marked i at'))
       (near_heard_marked j at, far_heard_marked j at, (λ i at' ne. near_heard_marked i at'), (λ i at' ne. far_heard_marked i at'))
     where
-      mine : LinkFits (NamesOf g w) (end g w u j) (far_end g w u j)
-      mine = link_fits g wired w holds u j at
-
       -- the far end's Test has my name, so it is of my fragment
       same : (w.at (far g u j)).head.probe ≡ Some (far_port g u j) → (w.at (far g u j)).fragment ≡ (w.at u).fragment
       same theirs =
@@ -233,8 +229,8 @@ module _ (g : Network) (wired : IsWired g) (u : ℕ) (u_is : InNetwork g u) (j :
           (far_port g u j) →
           Answering ts (seen_beyond g w u j).accepts (seen_beyond g w u j).rejects (seen_beyond g w u j).tests None j
       go theirs (Test_there h) = Crossed_here h (λ z. cc)
-      go theirs (Accept_here h) = absurd (((mine.tests.probing own).accepted h).0 (same theirs))
-      go theirs (Reject_here h) = absurd (((mine.tests.probing own).rejected h).2 theirs)
+      go theirs (Accept_here h) = absurd ((((link_fits g wired w holds u j at).tests.probing own).accepted h).0 (same theirs))
+      go theirs (Reject_here h) = absurd ((((link_fits g wired w holds u j at).tests.probing own).rejected h).2 theirs)
       go theirs (Crossed_here h ne) = absurd (ne theirs)
 
   -- a Reject is heard
@@ -321,9 +317,9 @@ module _ (g : Network) (wired : IsWired g) (u : ℕ) (u_is : InNetwork g u) (j :
   report_lives k ms c waits away count =
       touches_lives g wired u u_is (took_report (w.at u) j k c) j at (record (w.seen u j) { tree = [] }) [] [] (sends_none j) w lives
       (near_asks j at, far_asks j at, (λ i at' ne. near_asks i at'), (λ i at' ne. far_asks i at'))
-      ((λ z. absurd (heard.child.down z.2)), far_brought j at, (λ i at' ne. near_brought i at'), (λ i at' ne. far_brought i at')) (
-        (λ z. absurd (heard.child.down z.2)),
-        (λ z. absurd (heard.child.down z.3)),
+      ((λ z. absurd (child.down z.2)), far_brought j at, (λ i at' ne. near_brought i at'), (λ i at' ne. far_brought i at')) (
+        (λ z. absurd (child.down z.2)),
+        (λ z. absurd (child.down z.3)),
         (λ i at' ne z t f n. absurd (let y : (w.at u).head.phase ≡ Found = f in cc (y, finds))),
         (λ i at' ne z t f n. absurd (hears_nothing finds i at' z t f n)),
       )
@@ -331,10 +327,7 @@ module _ (g : Network) (wired : IsWired g) (u : ℕ) (u_is : InNetwork g u) (j :
       finds : (w.at u).head.phase ≡ Find
       finds = ⊎_elim (λ h. h) (λ ne. absurd (let z = ((holds.nodes u u_is).idle ne).1 in omega (arith, z, count))) (is_find' (w.at u).head.phase)
 
-      heard : Heard (tree_end (end g w u j)) (tree_end (far_end g w u j)) k
-      heard =
-          heard_first (tree_end (end g w u j)) (tree_end (far_end g w u j)) (link_fits g wired w holds u j at).tree
-          (link_fits' g wired w holds u j at).tree (link_leads g wired w holds u j at) k ms waits away
+      open child_heard g wired u u_is j at w holds k ms waits away use {child}
 
   -- a Connect over the core is answered
   pub serve_lives : (l : ℕ) (ms : List Message) →
@@ -345,8 +338,8 @@ module _ (g : Network) (wired : IsWired g) (u : ℕ) (u_is : InNetwork g u) (j :
       touches_lives g wired u u_is (w.at u) j at (record (w.seen u j) { tree = ms }) (Initiate m k Find ∷ []) ((j, Initiate m k Find) ∷ [])
       (sends_one j (Initiate m k Find)) w lives
       (near_asks j at, far_asks j at, (λ i at' ne. near_asks i at'), (λ i at' ne. far_asks i at')) (
-        (λ z. absurd (z.3 asked.core.both.up_beyond)),
-        (λ z. absurd (z.3 asked.core.both.up)),
+        (λ z. absurd (z.3 core_link.both.up_beyond)),
+        (λ z. absurd (z.3 core_link.both.up)),
         (λ i at' ne. near_brought i at'),
         (λ i at' ne. far_brought i at'),
       ) (
@@ -356,10 +349,7 @@ module _ (g : Network) (wired : IsWired g) (u : ℕ) (u_is : InNetwork g u) (j :
         (λ i at' ne. far_heard i at'),
       )
     where
-      asked : Asked (tree_end (end g w u j)) (tree_end (far_end g w u j)) l ms
-      asked =
-          asked_on (tree_end (end g w u j)) (tree_end (far_end g w u j)) (link_fits g wired w holds u j at).tree
-          (link_fits' g wired w holds u j at).tree (link_leads g wired w holds u j at) l ms waits marked_so
+      open serving g wired u u_is j at w holds l ms waits marked_so use {core as core_link}
 
   -- a Report of the core's other half, or an old one, is heard at rest; with b the node halts
   pub end_lives : (k : Option Key) (ms : List Message) →
@@ -376,26 +366,17 @@ module _ (g : Network) (wired : IsWired g) (u : ℕ) (u_is : InNetwork g u) (j :
         far_brought j at,
         (λ i at' ne. near_brought i at'),
         (λ i at' ne. far_brought i at'),
+      ) (
+        near_heard j at,
+        (λ c t f n. from_back c (heard_at_rest g wired u u_is j at w holds k ms waits rests)),
+        (λ i at' ne. near_heard i at'),
+        (λ i at' ne c t f n. more (far_heard i at' c t f n)),
       )
-      (near_heard j at, (λ c t f n. from_back c came), (λ i at' ne. near_heard i at'), (λ i at' ne c t f n. more (far_heard i at' c t f n)))
     where
-      mine : (w.at u).up ≢ Some j → ⊥
-      mine ne = let z = owed_finds g wired u u_is j at w holds ne (rw waits refl) in cc (z, rests)
-
-      came : Back (NamesOf g w (w.at u).fragment) (tree_end (end g w u j)) (tree_end (far_end g w u j)) k ms
-      came =
-          back (tree_end (end g w u j)) (tree_end (far_end g w u j)) (link_fits g wired w holds u j at).tree
-          (link_fits' g wired w holds u j at).tree (link_leads g wired w holds u j at) k ms waits mine
-
       more : {o : Best} →
           HeardBy (w.at u).head.level (w.at u).coming (w.at u).head.phase (w.at u).head.best o (w.at u).head.halted →
           HeardBy (w.at u).head.level (w.at u).coming (w.at u).head.phase (w.at u).head.best o b
       more h = record { top = h.top; done = h.done; key = h.key; halts = λ x y. ⊎_elim (λ e. e ∙ h.halts x y) (λ e. e) why }
-
-      begun : (e : TreeEnd) (s : Stage) → s ≡ Begun → AtStage e s → e.level ≡ e.coming
-      begun e Begun i a = a
-      begun e Asking i a = cc
-      begun e Called i a = cc
 
       from_back :
           IsCore (far_end g w u j) (end g w u j) →
@@ -403,7 +384,7 @@ module _ (g : Network) (wired : IsWired g) (u : ℕ) (u_is : InNetwork g u) (j :
           HeardBy (w.at u).head.level (w.at u).coming (w.at u).head.phase (w.at u).head.best (w.at (far g u j)).head.best b
       from_back c (Old h x y) = absurd (h.down c.2)
       from_back c (Half z s x y n f q) = record {
-        top = begun (tree_end (end g w u j)) s.here x s.at_here;
+        top = begun_at_top (tree_end (end g w u j)) s.here x s.at_here;
         done = rests;
         key = ap (below (best_key (w.at u).head.best)) q ∙ less;
         halts = λ o p. halts (sym q ∙ ap best_key o) p;

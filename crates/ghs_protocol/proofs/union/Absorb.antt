@@ -14,7 +14,6 @@ use Rattle.ghs_protocol.specs.Net.{put}
 use Rattle.ghs_protocol.specs.Interleavings.{HaveAtLeast}
 use Rattle.ghs_protocol.proofs.clauses.Scene.{Seen, adds, Member, Scene, End, end, tree_end, test_end, forest, acts, far_end}
 use Rattle.ghs_protocol.proofs.clauses.Changes.{left_tree, seen_beyond, took_child}
-use Rattle.ghs_protocol.proofs.clauses.Links.{Joins}
 use Rattle.ghs_protocol.proofs.clauses.Nodes.{NodeFits}
 use Rattle.ghs_protocol.proofs.clauses.Fragments.{IsJoinedIn, Names, Root, Goes_out, Both_ways, OneRoot, Reach, At_root, By_step, RootsReached, JoinedLinksLead}
 use Rattle.ghs_protocol.proofs.clauses.Rest.{Quiet, Resting, DebtsCounted, debt, has_call, has_report}
@@ -29,9 +28,10 @@ use Rattle.ghs_protocol.proofs.search.ReportGone.{debt_one, debt_up, debt_none}
 use Rattle.ghs_protocol.proofs.acts.Situations.{one_fragment}
 use Rattle.ghs_protocol.proofs.acts.Many.{many_as}
 use Rattle.ghs_protocol.proofs.union.OneFragment.{Off, Joinable, unites, raised, rise, rise_in, rise_out, rise_keeps, risen, root_from, names_here}
-use Rattle.ghs_protocol.proofs.union.NewBranch.{Branches, fragment_was, coming_was, name_was, mark_else, joined_grows, joined_was, bridged, names_grow, by_fragment_grown, names_within_grown, sizes_grown, within_grown, connected_grown, alone_grown, named_grown, nodes_grown, links_grown}
+use Rattle.ghs_protocol.proofs.union.NewBranch.{Branches, mark_else, joined_was, bridged, names_grow, by_fragment_grown, names_within_grown, sizes_grown, within_grown, connected_grown, alone_grown, named_grown, nodes_grown, links_grown, grown_as}
 use Rattle.ghs_protocol.proofs.rest.AtRest.{by_call}
 use Rattle.ghs_protocol.proofs.union.ConnectIn.{Came, came_in, tree_takes, tree_takes', search_takes, search_takes', tests_take, tests_take', count_more, more_none, call_only}
+use Rattle.ghs_protocol.proofs.rows.Link.{link_clauses, joined_clauses}
 
 -- a link is that at port j of u, from this end or the other, or another one
 pub data Where (g : Network) (u j t p : ℕ) : Type 0 where
@@ -76,22 +76,12 @@ module _ (g : Network) (ground : Ground g) (u : ℕ) (u_is : InNetwork g u) (w :
   is' : InNetwork g (far g u j)
   is' = record { some = at'.some; node = at'.node }
 
-  fits : NodeFits (length (g.ports u)) (w.at u)
-  fits = holds.nodes u is
-
-  link : LinkFits (NamesOf g w) (end g w u j) (far_end g w u j)
-  link = at_near g ground.wired w (LinkFits (NamesOf g w)) holds.links u j at
-
-  link' : LinkFits (NamesOf g w) (far_end g w u j) (end g w u j)
-  link' = at_far g ground.wired w (LinkFits (NamesOf g w)) holds.links u j at
-
-  inside : Joins (tree_end (end g w u j)) (tree_end (far_end g w u j)) → IsJoinedIn g (forest w) u j
-  inside h = record { here = ap is_branch h.here; there = ap is_branch h.there }
+  open link_clauses g ground.wired w holds u j at use {fits, link, link', ways}
 
   pub came : Came (tree_end (end g w u j)) (tree_end (far_end g w u j)) l ms
   came =
-      came_in (tree_end (end g w u j)) (tree_end (far_end g w u j)) link.tree link'.tree (λ h. holds.trees.joined_lead u j at (inside h))
-      (λ h. (holds.trees.by_fragment (far g u j) u (sym (holds.trees.joined_within u j at (inside h)))).0) l ms waits lower
+      came_in (tree_end (end g w u j)) (tree_end (far_end g w u j)) link.tree link'.tree ways
+      (λ h. (joined_clauses g w holds u j at h).ghosts.0) l ms waits lower
 
   pub below : (w.at (far g u j)).head.level < (w.at u).head.level
   below = let z = came.level in omega (arith, z, lower)
@@ -113,9 +103,6 @@ module _ (g : Network) (ground : Ground g) (u : ℕ) (u_is : InNetwork g u) (w :
 
   quiet_far : Quiet g w (w.at (far g u j)).fragment
   quiet_far = holds.resting.out (far g u j) (far_port g u j) at' (record { here = came.mark'; there = back_mark })
-
-  pub found_far : (w.at (far g u j)).head.phase ≡ Found
-  found_far = quiet_far.found (far g u j) is' refl
 
   abbrev pub takes : Member
   takes = took_child (w.at u) j
@@ -217,7 +204,7 @@ module _ (g : Network) (ground : Ground g) (u : ℕ) (u_is : InNetwork g u) (w :
   no_debt : ◌≡◌ {A = ℕ} (debt (end g w u j) (far_end g w u j)) 0
   no_debt =
       debt_none (end g w u j) (far_end g w u j) (ap has_report waits ∙ ap has_report came.rest) (ap has_call came.under.none)
-      (ap is_find found_far)
+      (ap is_find (quiet_far.found (far g u j) is' refl))
 
   a_debt : (w.at u).head.phase ≡ Find → ◌≡◌ {A = ℕ} (debt here_now there_now) 1
   a_debt e =
@@ -230,7 +217,7 @@ module _ (g : Network) (ground : Ground g) (u : ℕ) (u_is : InNetwork g u) (w :
       (subst
       (λ t. has_call (t ++ Initiate (w.at u).head.level k (w.at u).head.phase ∷ []) ≡ false)
       (sym came.under.none) (call_only (w.at u).head.level k (w.at u).head.phase ne))
-      (ap is_find found_far)
+      (ap is_find (quiet_far.found (far g u j) is' refl))
 
   counted : DebtsCounted g grown
   counted =
@@ -243,14 +230,12 @@ module _ (g : Network) (ground : Ground g) (u : ℕ) (u_is : InNetwork g u) (w :
       (debt_up there_now here_now came.under.up ∙ sym (debt_up (far_end g w u j) (end g w u j) came.under.up)) (λ i ne. refl)
 
   -- members, ways and queues
-  fragment_is : (t : ℕ) → (grown.at t).fragment ≡ (w.at t).fragment
-  fragment_is t = fragment_was g ground.wired u u_is j at w holds takes (put (w.seen u) j rest) sends more t
-
-  coming_is : (t : ℕ) → (grown.at t).coming ≡ (w.at t).coming
-  coming_is t = coming_was g ground.wired u u_is j at w holds takes (put (w.seen u) j rest) sends more t
-
-  name_is : (t : ℕ) → (grown.at t).coming_name ≡ (w.at t).coming_name
-  name_is t = name_was g ground.wired u u_is j at w holds takes (put (w.seen u) j rest) sends more t
+  open grown_as g ground.wired u u_is j at w holds takes (put (w.seen u) j rest) sends more use {
+    fragment as fragment_is,
+    coming as coming_is,
+    name as name_is,
+    joined as joined_new,
+  }
 
   up_is : (t : ℕ) → (grown.at t).up ≡ (w.at t).up
   up_is t = put_alike (λ (m : Member). m.up) w.at u takes refl t
@@ -263,9 +248,6 @@ module _ (g : Network) (ground : Ground g) (u : ℕ) (u_is : InNetwork g u) (w :
 
   joined_old : (t p : ℕ) → Off g u j t p → IsJoinedIn g (forest grown) t p → IsJoinedIn g (forest w) t p
   joined_old t p off l' = joined_was g ground.wired u u_is j at w holds takes (put (w.seen u) j rest) sends more t p off l'
-
-  joined_new : (t p : ℕ) → IsJoinedIn g (forest w) t p → IsJoinedIn g (forest grown) t p
-  joined_new t p l' = joined_grows g ground.wired u u_is j at w holds takes (put (w.seen u) j rest) sends more t p l'
 
   bridge : IsJoinedIn g (forest grown) u j
   bridge = bridged g ground.wired u u_is j at w holds takes (put (w.seen u) j rest) sends more came.mark'
@@ -614,7 +596,7 @@ module _ (g : Network) (ground : Ground g) (u : ℕ) (u_is : InNetwork g u) (w :
       (ground.keyed n.node n.port u j n.at at n.key)
 
   idle : (w.at (far g u j)).head.probe ≡ None
-  idle = ((holds.nodes (far g u j) is').idle (λ e. cc (e, found_far))).0
+  idle = ((holds.nodes (far g u j) is').idle (λ e. let z = quiet_far.found (far g u j) is' refl in cc (e, z))).0
 
   at_search : (w.at u).head.phase ≡ Find → (w.at u).head.level ≡ (w.at u).coming
   at_search e = (fits.searching e).level

@@ -29,7 +29,6 @@ use Rattle.ghs_protocol.proofs.rest.AtRest.{by_call}
 use Rattle.ghs_protocol.proofs.root.AtRoot.{root_sent}
 use Rattle.ghs_protocol.proofs.acts.Reactions.{put_again}
 use Rattle.ghs_protocol.proofs.union.OneFragment.{Off}
-use Rattle.ghs_protocol.proofs.union.ConnectIn.{Came}
 use Rattle.ghs_protocol.proofs.union.Absorb.{absorbs_in, came, below, way_not}
 use Rattle.ghs_protocol.proofs.rows.Link.{link_fits, link_fits', link_leads}
 use Rattle.ghs_protocol.proofs.acts.Floors.{near_fits, far_fits}
@@ -67,11 +66,7 @@ module _ (g : Network) (ground : Ground g) (u : ℕ) (u_is : InNetwork g u) (w :
   abbrev pub joint : Scene
   joint = absorb g u j grown
 
-  its : Came (tree_end (end g w u j)) (tree_end (far_end g w u j)) l ms
-  its = came g ground u u_is w holds j at ms l k waits less name awake
-
-  lower_far : (w.at (far g u j)).head.level < (w.at u).head.level
-  lower_far = below g ground u u_is w holds j at ms l k waits less name awake
+  open came g ground u u_is w holds j at ms l k waits less name awake use {mark as basic_near, mark' as branch_far, rest as none_left, under}
 
   no_way : (w.at u).up ≢ Some j
   no_way = way_not g ground u u_is w holds j at ms l k waits less name awake
@@ -117,7 +112,7 @@ module _ (g : Network) (ground : Ground g) (u : ℕ) (u_is : InNetwork g u) (w :
         in_tree =
             in_tree_after g ground.wired u u_is x (put (w.seen u) j q) ((j, call) ∷ []) w floor floors (floor u)
             (λ p at' m. ⊎_elim
-            (λ e. subst (IsTreeLink g u) (sym e) (tree_link_back g ground.wired u j at (floors.in_tree _ _ (ground.wired.there u j at) its.mark')))
+            (λ e. subst (IsTreeLink g u) (sym e) (tree_link_back g ground.wired u j at (floors.in_tree _ _ (ground.wired.there u j at) branch_far)))
             (λ ne. floors.in_tree u p at' (sym (put_other (w.at u).mark j p Branch ne) ∙ m))
             (cases_eq p j));
         halted = halted_after g ground.wired u u_is x (put (w.seen u) j q) ((j, call) ∷ []) w floor floors (floor u) refl refl;
@@ -132,9 +127,6 @@ module _ (g : Network) (ground : Ground g) (u : ℕ) (u_is : InNetwork g u) (w :
 
   same : SameParts w grown
   same = same_parts g u x (left_tree w u j ms) ((j, call) ∷ []) w refl refl refl refl
-
-  up_is : (t : ℕ) → (grown.at t).up ≡ (w.at t).up
-  up_is t = put_alike (λ (m : Member). m.up) w.at u x refl t
 
   after : Invariant g joint
   after = absorbs_in g ground u u_is w holds j at ms l k waits less name awake
@@ -193,14 +185,14 @@ module _ (g : Network) (ground : Ground g) (u : ℕ) (u_is : InNetwork g u) (w :
       go (Left_out ne ne' s) = absurd (⊎_elim ne ne' i)
 
   up_here : (joint.at u).up ≢ Some j
-  up_here e = no_way (sym (up_is u) ∙ sym (keeps (λ m. m.up) (λ m a b n. refl) u) ∙ e)
+  up_here e = no_way (sym (put_alike (λ (m : Member). m.up) w.at u x refl u) ∙ sym (keeps (λ m. m.up) (λ m a b n. refl) u) ∙ e)
 
   joins : Joins (tree_end (end g joint u j)) (tree_end (end g joint (far g u j) (far_port g u j)))
   joins = record {
     here = ap (λ f. f j) (keeps (λ m. m.mark) (λ m a b n. refl) u) ∙ ap (λ (m : Member). m.mark j) here_is ∙ put_same (w.at u).mark j Branch;
     there =
         ap (λ f. f (far_port g u j)) (keeps (λ m. m.mark) (λ m a b n. refl) (far g u j)) ∙ ap (λ (m : Member). m.mark (far_port g u j)) far_is ∙
-        its.mark';
+        branch_far;
   }
 
   level_at : (t : ℕ) → (joint.at t).head.level ≡ (w.at t).head.level
@@ -224,25 +216,28 @@ module _ (g : Network) (ground : Ground g) (u : ℕ) (u_is : InNetwork g u) (w :
       -- u's best isn't this link, which leads to a lower level
       unled : (y : Key) → (w.at u).head.best ≡ Some (j, y) → (w.at u).head.level ≡ (w.at u).coming → ⊥
       unled y b e =
-          let z = ((link_fits g ground.wired w holds u j at).search.find_leads y b e its.mark).higher in let s = lower_far in omega (arith, z, s)
+          let z = ((link_fits g ground.wired w holds u j at).search.find_leads y b e basic_near).higher in
+          let s = below g ground u u_is w holds j at ms l k waits less name awake in omega (arith, z, s)
 
   away_new : FloorsAt (end g joint (far g u j) (far_port g u j)) (end g joint u j) (floor (far g u j)) (floor u)
   away_new = record {
     none_below = λ o. absurd (o (sym in_one));
     falls = λ c.
         subst (λ v. lower (floor u) v ≡ true)
-        (sym ((far_fits g ground.wired w holds floor floors u j at).out (record { here = its.mark'; there = its.mark })))
-        ((near_fits g ground.wired w holds floor floors u j at).none_below (λ e. its.under.apart (sym e)));
+        (sym ((far_fits g ground.wired w holds floor floors u j at).out (record { here = branch_far; there = basic_near })))
+        ((near_fits g ground.wired w holds floor floors u j at).none_below (λ e. under.apart (sym e)));
     covered = λ p c o.
         absurd (let y = owed (sym (ap (λ (m : Member). m.head.phase) here_is) ∙ sym (keeps (λ m. m.head.phase) (λ m a b n. refl) u) ∙ p) in
         let z = o in cc (y, z));
-    report = λ r c t. absurd (let y : [] ≡ Report r ∷ [] = sym its.rest ∙ sym own_tree ∙ t in cc);
+    report = λ r c t. absurd (let y : [] ≡ Report r ∷ [] = sym none_left ∙ sym own_tree ∙ t in cc);
     core = λ c y p. absurd (up_here c.both.up_beyond);
     out = λ o. absurd (o.there joins.here);
     moved = λ z t. absurd (up_here z.both.up_beyond);
     best = λ y b e z.
         absurd (let s = level_at (far g u j) in
-        let c = coming_at (far g u j) (inl refl) in let d = lower_far in let h = (holds.nodes u u_is).lag.level in omega (arith, s, c, d, h, e));
+        let c = coming_at (far g u j) (inl refl) in
+        let d = below g ground u u_is w holds j at ms l k waits less name awake in
+        let h = (holds.nodes u u_is).lag.level in omega (arith, s, c, d, h, e));
   }
     where
       own_tree : (grown.seen u j).tree ≡ ms
@@ -253,7 +248,7 @@ module _ (g : Network) (ground : Ground g) (u : ℕ) (u_is : InNetwork g u) (w :
       their_tree : (seen_beyond g grown u j).tree ≡ Initiate (w.at u).head.level k (w.at u).head.phase ∷ []
       their_tree =
           ap (λ (v : Seen). v.tree) (far_seen g ground.wired u u_is.some u_is.node x (put (w.seen u) j q) ((j, call) ∷ []) w j at) ∙
-          ap (λ s. (adds (seen_beyond g w u j) s).tree) ((sends_one j call).only) ∙ ap (λ t. t ++ call ∷ []) its.under.none
+          ap (λ s. (adds (seen_beyond g w u j) s).tree) ((sends_one j call).only) ∙ ap (λ t. t ++ call ∷ []) under.none
 
       called : (s : Phase) → s ≡ Find → has_call (Initiate (w.at u).head.level k s ∷ []) ≡ true
       called Find e = refl
@@ -269,5 +264,7 @@ module _ (g : Network) (ground : Ground g) (u : ℕ) (u_is : InNetwork g u) (w :
       floor
   absorbs_floors =
       floors_united g ground.wired grown floor off.nodes off.in_tree off.halted u j at
-      (λ e. its.under.apart (sym (same.fragment u) ∙ sym e ∙ same.fragment (far g u j)))
-      off.links (grown.at u).coming (grown.at u).coming_name (below_coming g w grown holds same u j its.under u_is lower_far) still near_new away_new
+      (λ e. under.apart (sym (same.fragment u) ∙ sym e ∙ same.fragment (far g u j)))
+      off.links (grown.at u).coming (grown.at u).coming_name
+      (below_coming g w grown holds same u j under u_is (below g ground u u_is w holds j at ms l k waits less name awake)) still
+      near_new away_new

@@ -9,7 +9,7 @@ use Rattle.ghs_node.specs.declared.message.Message.{Message}
 use Rattle.ghs_node.specs.declared.message.Message.TheVariants.{Connect, Initiate}
 use Rattle.ghs_protocol.specs.Network.{Network, At, far, far_port, InNetwork}
 use Rattle.ghs_protocol.specs.Net.{put}
-use Rattle.ghs_protocol.proofs.clauses.Scene.{Seen, Member, Scene, tree_end, end, acts, far_end}
+use Rattle.ghs_protocol.proofs.clauses.Scene.{Seen, Member, Scene, end, acts}
 use Rattle.ghs_protocol.proofs.clauses.Changes.{left_tree, seen_beyond, took_child}
 use Rattle.ghs_protocol.proofs.clauses.Wiring.{Ground}
 use Rattle.ghs_protocol.proofs.clauses.Uniting.{absorb}
@@ -17,7 +17,6 @@ use Rattle.ghs_protocol.proofs.clauses.Whole.{Invariant}
 use Rattle.ghs_protocol.proofs.clauses.UnderWay.{IsCore, Lives}
 use Rattle.ghs_protocol.proofs.lemmas.Updates.{put_same, put_other, put_alike}
 use Rattle.ghs_protocol.proofs.acts.OneLink.{sends_one}
-use Rattle.ghs_protocol.proofs.union.ConnectIn.{Came}
 use Rattle.ghs_protocol.proofs.union.Absorb.{absorbs_in, came, below, way_not}
 use Rattle.ghs_protocol.proofs.tests.UnderWay.{touches_lives, near_asks, far_asks, near_brought, far_brought, near_heard, far_heard, brought_by_call}
 use Rattle.ghs_protocol.proofs.union.UnderWay.{united_lives}
@@ -39,11 +38,7 @@ module _ (g : Network) (ground : Ground g) (u : ℕ) (u_is : InNetwork g u) (w :
   abbrev grown : Scene
   grown = acts g u (took_child (w.at u) j) (left_tree w u j ms) ((j, Initiate (w.at u).head.level k (w.at u).head.phase) ∷ []) w
 
-  its : Came (tree_end (end g w u j)) (tree_end (far_end g w u j)) l ms
-  its = came g ground u u_is w holds j at ms l k waits less name awake
-
-  lower_far : (w.at (far g u j)).head.level < (w.at u).head.level
-  lower_far = below g ground u u_is w holds j at ms l k waits less name awake
+  open came g ground u u_is w holds j at ms l k waits less name awake use {under}
 
   no_way : (w.at u).up ≢ Some j
   no_way = way_not g ground u u_is w holds j at ms l k waits less name awake
@@ -73,9 +68,6 @@ module _ (g : Network) (ground : Ground g) (u : ℕ) (u_is : InNetwork g u) (w :
   same : SameParts w grown
   same = same_parts g u x (left_tree w u j ms) ((j, call) ∷ []) w refl refl refl refl
 
-  up_is : (t : ℕ) → (grown.at t).up ≡ (w.at t).up
-  up_is t = put_alike (λ (m : Member). m.up) w.at u x refl t
-
   -- a Branch afterwards was one, but for u's at j
   branch_was : (t p : ℕ) → ((t ≡ u) × (p ≡ j) → ⊥) → (grown.at t).mark p ≡ Branch → (w.at t).mark p ≡ Branch
   branch_was t p off e =
@@ -92,10 +84,14 @@ module _ (g : Network) (ground : Ground g) (u : ℕ) (u_is : InNetwork g u) (w :
   core_alike t p at' c =
       same.coming (far g t p) ∙
       (holds.trees.by_fragment (far g t p) t (sym (holds.trees.joined_within t p at' (record {
-        here = ap is_branch (branch_was t p (λ z. no_way (subst₂ (λ a b. (w.at a).up ≡ Some b) z.0 z.1 (sym (up_is t) ∙ c.2))) c.0);
+        here =
+            ap is_branch
+            (branch_was t p (λ z. no_way (subst₂ (λ a b. (w.at a).up ≡ Some b) z.0 z.1 (sym (put_alike (λ (m : Member). m.up) w.at u x refl t) ∙ c.2)))
+            c.0);
         there =
             ap is_branch
-            (branch_was (far g t p) (far_port g t p) (λ z. no_way (subst₂ (λ a b. (w.at a).up ≡ Some b) z.0 z.1 (sym (up_is (far g t p)) ∙ c.3))) c.1);
+            (branch_was (far g t p) (far_port g t p) (λ z.
+            no_way (subst₂ (λ a b. (w.at a).up ≡ Some b) z.0 z.1 (sym (put_alike (λ (m : Member). m.up) w.at u x refl (far g t p)) ∙ c.3))) c.1);
       })))).0 ∙
       sym (same.coming t)
 
@@ -105,7 +101,9 @@ module _ (g : Network) (ground : Ground g) (u : ℕ) (u_is : InNetwork g u) (w :
       ((p : ℕ) → At g t p →
       IsCore (end g grown t p) (end g grown (far g t p) (far_port g t p)) →
       (grown.at (far g t p)).coming ≡ (grown.at t).coming))
-  low t it i = ⊎_elim inl (λ z. inr (z.0, z.1, core_alike t)) (below_coming g w grown holds same u j its.under u_is lower_far t it i)
+  low t it i =
+      ⊎_elim inl (λ z. inr (z.0, z.1, core_alike t))
+      (below_coming g w grown holds same u j under u_is (below g ground u u_is w holds j at ms l k waits less name awake) t it i)
 
   pub absorbs_lives :
       Lives g

@@ -1,10 +1,9 @@
 -- A Connect over the core is answered by an Initiate.
-use Rattle.std.proofs.Common.{◌≡◌, ◌≢◌, ℕ, suc, ◌+◌, true, false, Option, Some, List, [], ◌∷◌, ◌++◌, refl, sym, ◌∙◌, ap, ap₂, subst, subst₂, ⊎_elim, ◌⊎◌, length, arith}
+use Rattle.std.proofs.Common.{◌≡◌, ◌≢◌, ℕ, suc, ◌+◌, true, false, Option, Some, List, [], ◌∷◌, ◌++◌, refl, sym, ◌∙◌, ap, ap₂, subst, subst₂, ⊎_elim, ◌⊎◌, arith}
 use Rattle.std.proofs.lemmas.Bool.{cases_eq}
 use Rattle.ghs_graph.specs.declared.key.Key.{Key}
 use Rattle.ghs_node.specs.Words.{is_branch}
-use Rattle.ghs_node.specs.declared.mark.Mark.{Mark}
-use Rattle.ghs_node.specs.declared.mark.Mark.TheVariants.{Basic, Branch, Rejected}
+use Rattle.ghs_node.specs.declared.mark.Mark.TheVariants.{Basic}
 use Rattle.ghs_node.specs.declared.message.Phase.TheVariants.{Find}
 use Rattle.ghs_node.specs.declared.message.Message.{Message}
 use Rattle.ghs_node.specs.declared.message.Message.TheVariants.{Connect, Initiate, Report, ChangeRoot}
@@ -13,18 +12,18 @@ use Rattle.ghs_protocol.proofs.lemmas.Wired.{IsWired}
 use Rattle.ghs_protocol.specs.Net.{put}
 use Rattle.ghs_protocol.proofs.clauses.Scene.{Member, Scene, End, TreeEnd, tree_end, end, forest, acts, adds, far_end}
 use Rattle.ghs_protocol.proofs.clauses.Changes.{left_tree, seen_beyond}
-use Rattle.ghs_protocol.proofs.clauses.Nodes.{NodeFits}
 use Rattle.ghs_protocol.proofs.clauses.TreeMessages.{TreeFits, Chain, Upward, Nothing_up, Report_up, Downward, Initiates, Old_report, CoreFits, CoreQueue, Plain, With_report, Core, Moved, MovedFits, To_here, To_there, Stage, Asking, Called, Begun, AtStage, Served, asked, called}
-use Rattle.ghs_protocol.proofs.clauses.Whole.{LinkFits, Invariant, NamesOf}
+use Rattle.ghs_protocol.proofs.clauses.Whole.{Invariant}
 use Rattle.ghs_protocol.proofs.clauses.Links.{Joins, Out, Ups}
-use Rattle.ghs_protocol.proofs.clauses.Fragments.{IsJoinedIn, Root, Goes_out, Both_ways}
+use Rattle.ghs_protocol.proofs.clauses.Fragments.{Root, Goes_out, Both_ways}
 use Rattle.ghs_protocol.proofs.clauses.Rest.{debt, Quiet, Resting, has_call}
-use Rattle.ghs_protocol.proofs.acts.SameForest.{quiet_after, branch_mark}
+use Rattle.ghs_protocol.proofs.acts.SameForest.{quiet_after, branch_mark, not_branch}
 use Rattle.ghs_protocol.proofs.lemmas.Updates.{put_same, put_other}
-use Rattle.ghs_protocol.proofs.acts.OneLink.{sends_one, at_near, at_far, sums_one, kept_at}
+use Rattle.ghs_protocol.proofs.acts.OneLink.{sends_one, sums_one, kept_at}
 use Rattle.ghs_protocol.proofs.search.ReportGone.{search_trees, debt_up}
 use Rattle.ghs_protocol.proofs.search.FirstReport.{Joint, joint, Down_here, Down_there, On_core, On_moved, mark_is}
-use Rattle.ghs_protocol.proofs.acts.Situations.{core_from_there}
+use Rattle.ghs_protocol.proofs.acts.Situations.{core_from_there, stage_read}
+use Rattle.ghs_protocol.proofs.rows.Link.{link_clauses, joined_clauses}
 
 pub no_connect : (N : Key → Type 0) (coming : ℕ) (coming_name : Option Key) (t l k : ℕ) (ms xs : List Message) →
     xs ≡ Connect k ∷ ms →
@@ -117,11 +116,6 @@ module _ (e f : TreeEnd) (l : ℕ) (ms : List Message) (a : Asked e f l ms) (vls
   abbrev pub answered_to : TreeEnd
   answered_to = record f { tree = f.tree ++ Initiate (e.level + 1) e.key Find ∷ [] }
 
-  stage_here : (s : Stage) → AtStage e s → AtStage (record e { tree = ms }) s
-  stage_here Asking h = h
-  stage_here Called h = h
-  stage_here Begun h = h
-
   was_there : (s : Stage) → s ≡ Asking → AtStage f s → suc f.level ≡ f.coming
   was_there Asking s h = h
   was_there Called s h = absurd (let z = s in cc)
@@ -136,7 +130,7 @@ module _ (e f : TreeEnd) (l : ℕ) (ms : List Message) (a : Asked e f l ms) (vls
   core_after = let z = a.stages in record {
     here = z.here;
     there = Called;
-    at_here = stage_here z.here z.at_here;
+    at_here = stage_read e ms z.here z.at_here;
     at_there = was_there z.there a.there z.at_there;
     served = not_begun z.here z.at_here;
     served_beyond = tt;
@@ -171,36 +165,14 @@ module _ (e f : TreeEnd) (l : ℕ) (ms : List Message) (a : Asked e f l ms) (vls
     moved_root = λ y. absurd (y.unnamed (vns ∙ c.named ∙ ap Some (sym keys)));
   }
 
-not_branch' : (m : Mark) → m ≢ Branch → is_branch m ≡ false
-not_branch' Basic h = refl
-not_branch' Branch h = absurd (h refl)
-not_branch' Rejected h = refl
-
 module _ (g : Network) (wired : IsWired g) (u : ℕ) (u_is : InNetwork g u) (j : ℕ) (at : At g u j) (w : Scene) (holds : Invariant g w)
     (l : ℕ) (ms : List Message) (waits : (w.seen u j).tree ≡ Connect l ∷ ms) (marked : (w.at u).mark j ≢ Basic) where
-  fits : NodeFits (length (g.ports u)) (w.at u)
-  fits = holds.nodes u u_is
+  open link_clauses g wired w holds u j at use {fits, link, link', ways}
 
-  link : LinkFits (NamesOf g w) (end g w u j) (far_end g w u j)
-  link = at_near g wired w (LinkFits (NamesOf g w)) holds.links u j at
+  pub serving : Asked (tree_end (end g w u j)) (tree_end (far_end g w u j)) l ms
+  serving = asked_on (tree_end (end g w u j)) (tree_end (far_end g w u j)) link.tree link'.tree ways l ms waits marked
 
-  link' : LinkFits (NamesOf g w) (far_end g w u j) (end g w u j)
-  link' = at_far g wired w (LinkFits (NamesOf g w)) holds.links u j at
-
-  serving : Asked (tree_end (end g w u j)) (tree_end (far_end g w u j)) l ms
-  serving =
-      asked_on (tree_end (end g w u j)) (tree_end (far_end g w u j)) link.tree link'.tree
-      (λ h. holds.trees.joined_lead u j at (record { here = ap is_branch h.here; there = ap is_branch h.there }))
-      l ms waits marked
-
-  joined' : IsJoinedIn g (forest w) u j
-  joined' = let b = serving.core.both.joins in record { here = ap is_branch b.here; there = ap is_branch b.there }
-
-  one_frag : (w.at u).fragment ≡ (w.at (far g u j)).fragment
-  one_frag = holds.trees.joined_within u j at joined'
-
-  ghosts : ((w.at (far g u j)).coming ≡ (w.at u).coming) × ((w.at (far g u j)).coming_name ≡ (w.at u).coming_name)
-  ghosts = holds.trees.by_fragment (far g u j) u (sym one_frag)
+  open joined_clauses g w holds u j at serving.core.both.joins use {joined as joined', inside as one_frag, ghosts}
 
   root : Root g (forest w) u j
   root = let b = serving.core.both in Both_ways joined' b.up b.up_beyond
@@ -249,7 +221,7 @@ module _ (g : Network) (wired : IsWired g) (u : ℕ) (u_is : InNetwork g u) (j :
       o.there (branch_mark _ (⊎_elim
       (λ h. subst₂ (λ y z. is_branch ((w.at (far g y z)).mark (far_port g y z)) ≡ true) (sym h.0) (sym h.1) joined'.there)
       (λ h. subst₂ (λ y z. is_branch ((w.at y).mark z) ≡ true) (sym h.0) (sym h.1) joined'.here)
-      (holds.trees.one_root v p u j at' at (Goes_out (ap is_branch o.here) (not_branch' _ o.there)) root same)))
+      (holds.trees.one_root v p u j at' at (Goes_out (ap is_branch o.here) (not_branch _ o.there)) root same)))
 
   no_moved : (v p : ℕ) →
       At g v p →

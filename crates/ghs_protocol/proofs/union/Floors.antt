@@ -16,6 +16,7 @@ use Rattle.ghs_node.specs.Words.{is_branch}
 use Rattle.ghs_protocol.proofs.clauses.Floors.{Floor, FloorsFit, FloorsAt, NodeFloor, BranchesInTree, HaltedIsWhole, Floors}
 use Rattle.ghs_protocol.proofs.union.OneFragment.{Off}
 use Rattle.ghs_protocol.proofs.union.Absorb.{Where, On_it, Across, Off_it, where_is}
+use Rattle.std.proofs.lemmas.Bool.{or_cases, or_parts}
 
 -- other fragments, coming levels and names at both ends
 abbrev with_ghosts : TreeEnd → ℕ → ℕ → Option Key → TreeEnd
@@ -61,14 +62,6 @@ module _ (c a l : ℕ) (n : Option Key) where
       go true = refl
       go false = refl
 
-  or_cases : (x y : Bool) → (x || y) ≡ true → (x ≡ true) ⊎ (y ≡ true)
-  or_cases true y e = inl refl
-  or_cases false y e = inr e
-
-  or_none : (x y : Bool) → (x || y) ≡ false → (x ≡ false) × (y ≡ false)
-  or_none false y e = (refl, e)
-  or_none true y e = cc
-
   -- whether a member joins
   pub data Joining (m : Member) : Type 0 where
     Joined_in :
@@ -87,7 +80,7 @@ module _ (c a l : ℕ) (n : Option Key) where
           Joined_in
           (⊎_elim (λ t. inl (eqb-true m.fragment c t)) (λ t. inr (eqb-true m.fragment a t)) (or_cases _ _ e)) (rw e refl) (rw e refl) (rw e refl)
       go false e =
-          let z : ((m.fragment == c) ≡ false) × ((m.fragment == a) ≡ false) = or_none (m.fragment == c) (m.fragment == a) e in
+          let z : ((m.fragment == c) ≡ false) × ((m.fragment == a) ≡ false) = or_parts (m.fragment == c) (m.fragment == a) e in
           Left_out (λ t. let y = eq-eqb m.fragment c t in let x = z.0 in cc (x, y))
           (λ t. let y = eq-eqb m.fragment a t in let x = z.1 in cc (x, y))
           (rw e refl)

@@ -13,7 +13,6 @@ use Rattle.ghs_protocol.proofs.clauses.Scene.{Ghost, Scene, tree_end, end, fores
 use Rattle.ghs_protocol.proofs.clauses.Links.{Out}
 use Rattle.ghs_protocol.proofs.clauses.TreeMessages.{ConnectUnderWay}
 use Rattle.ghs_protocol.proofs.clauses.Fragments.{Root, Goes_out, Both_ways, Reach, At_root, By_step}
-use Rattle.ghs_protocol.proofs.clauses.Search.{LeadsOut}
 use Rattle.ghs_protocol.proofs.clauses.Uniting.{SendsRoot}
 use Rattle.ghs_protocol.proofs.clauses.Wiring.{Ground}
 use Rattle.ghs_protocol.proofs.clauses.Whole.{Invariant}
@@ -22,11 +21,12 @@ use Rattle.ghs_protocol.proofs.clauses.Growing.{LeastPort, Grouped}
 use Rattle.ghs_protocol.proofs.acts.SameForest.{branch_mark, not_branch}
 use Rattle.ghs_protocol.proofs.acts.Reactions.{regrouped}
 use Rattle.ghs_protocol.proofs.acts.Floors.{near_fits, lower_on, lower_self, not_above, best_least}
-use Rattle.ghs_protocol.proofs.rows.Link.{link_fits, link_fits'}
+use Rattle.ghs_protocol.proofs.rows.Link.{link_fits, connect_comes}
 use Rattle.ghs_protocol.proofs.root.AtRoot.{AtRoot, at_root}
 use Rattle.ghs_protocol.proofs.root.Inward.{at_best}
 use Rattle.ghs_protocol.proofs.tests.Links.{probe_is}
-use Rattle.ghs_protocol.proofs.wake.Floors.{apart, first_least}
+use Rattle.ghs_protocol.proofs.wake.Floors.{first_least}
+use Rattle.ghs_protocol.proofs.wake.Inward.{waking}
 
 -- regrouping, node by node
 pub grouped : (c a l : ℕ) (n : Option Key) (gh : Ghost) (o : ℕ → Option ℕ) → Grouped gh (regrouped c a l n (record gh { up = o })) c a l n
@@ -128,18 +128,17 @@ module _ (g : Network) (wired : IsWired g) (w : Scene) (holds : Invariant g w) (
     atb : At g u b
     atb = at_best g wired u u_is j at w holds ms root b k best
 
-    out : LeadsOut (tree_end (end g w u b)) (tree_end (far_end g w u b)) k
-    out = (link_fits g wired w holds u b atb).search.find_leads k best root.top mark
-
     pub root_least : LeastPort g (λ t. (w.at t).fragment) u b
-    root_least = record { at = atb; out = out.apart; least = best_least g wired w holds floor floors u j at ms root calls b k atb best mark }
-
-    pub root_top : (w.at u).head.level ≡ (w.at u).coming
-    root_top = root.top
+    root_least = record {
+      at = atb;
+      out = ((link_fits g wired w holds u b atb).search.find_leads k best root.top mark).apart;
+      least = best_least g wired w holds floor floors u j at ms root calls b k atb best mark;
+    }
 
     pub root_levels : (w.at (far g u b)).mark (far_port g u b) ≡ Branch → (w.at u).coming ≡ (w.at (far g u b)).coming
     root_levels there =
-        let c = (link_fits' g wired w holds u b atb).tree.out_connect (record { here = there; there = mark }) in
+        let c = connect_comes g wired w holds u b atb there mark in
+        let out = (link_fits g wired w holds u b atb).search.find_leads k best root.top mark in
         let x = c.level in let y = c.higher in let z = out.higher in let t = root.top in omega (arith, x, y, z, t)
 
 module _ (g : Network) (ground : Ground g) (w : Scene) (holds : Invariant g w) (floor : ℕ → Floor) (floors : Floors g w floor) where
@@ -148,15 +147,12 @@ module _ (g : Network) (ground : Ground g) (w : Scene) (holds : Invariant g w) (
     pub wake_least : LeastPort g (λ t. (w.at t).fragment) u 0
     wake_least = record {
       at = at;
-      out = apart g ground u u_is w holds at sleeps floor floors;
+      out = (waking g ground.wired u u_is w holds at sleeps).apart;
       least = first_least g ground u u_is w holds at sleeps floor floors;
     }
-
-    pub wake_top : (w.at u).head.level ≡ (w.at u).coming
-    wake_top = let f = (holds.nodes u u_is).untouched sleeps in f.level ∙ sym f.coming
 
     pub wake_levels : (w.at (far g u 0)).mark (far_port g u 0) ≡ Branch → (w.at u).coming ≡ (w.at (far g u 0)).coming
     wake_levels there =
         let f = (holds.nodes u u_is).untouched sleeps in
-        let c = (link_fits' g ground.wired w holds u 0 at).tree.out_connect (record { here = there; there = f.marks 0 }) in
+        let c = connect_comes g ground.wired w holds u 0 at there (f.marks 0) in
         let x = c.level in let y = c.higher in let z = f.level in let t = f.coming in omega (arith, x, y, z, t)

@@ -28,12 +28,13 @@ use Rattle.ghs_protocol.specs.Steps.{sent_on}
 use Rattle.ghs_protocol.proofs.lemmas.Updates.{put_same, put_other}
 use Rattle.ghs_protocol.proofs.acts.Ends.{here_seen, far_seen}
 use Rattle.ghs_protocol.proofs.acts.SameForest.{near', far', quiet_after, not_branch}
-use Rattle.ghs_protocol.proofs.acts.OneLink.{at_near, at_far}
 use Rattle.ghs_protocol.proofs.union.Risen.{tests_lifted}
 use Rattle.ghs_protocol.proofs.union.NewCore.{has_call_connect, either_eq, or_true, new_core, new_search, tests_branch, tests_branch'}
 use Rattle.ghs_protocol.proofs.acts.Many.{doubled, many_as}
 use Rattle.ghs_protocol.proofs.union.OneFragment.{Off, Joinable, unites, raised, rise_in, place, On_it, Across, Off_it, Place, root_from}
 use Rattle.ghs_protocol.proofs.union.NewBranch.{Branches, at_here, at_else, fragment_was, coming_was, name_was, mark_else, mark_here, joined_grows, joined_was, bridged, by_fragment_grown, names_within_grown, sizes_grown, within_grown, connected_grown, alone_grown, named_grown, nodes_grown, links_grown}
+use Rattle.ghs_protocol.proofs.root.Ways.{RootAtNode, NeighboursLed}
+use Rattle.ghs_protocol.proofs.rows.Link.{connect_comes, link_clauses}
 
 -- the node that meets, with its new head
 abbrev pub meeting : Member → Head → ℕ → Member
@@ -66,12 +67,8 @@ pub record Meets (g : Network) (wired : IsWired g) (u : ℕ) (u_is : InNetwork g
       (near' g wired u u_is (meeting (w.at u) h b) own ((b, Connect h.level) ∷ []) w i)
   pub quiet : Quiet g (acts g u (meeting (w.at u) h b) own ((b, Connect h.level) ∷ []) w) (w.at u).fragment
   -- the fragment's old root, if there is one, is a joined link at u; and the joined links of u are their far ends' ways
-  pub old : (t p : ℕ) →
-      At g t p →
-      Root g (forest w) t p →
-      (w.at t).fragment ≡ (w.at u).fragment →
-      IsJoinedIn g (forest w) t p × ((t ≡ u) ⊎ (far g t p ≡ u))
-  pub led : (i : ℕ) → At g u i → IsJoinedIn g (forest w) u i → (w.at (far g u i)).up ≡ Some (far_port g u i)
+  pub old : RootAtNode g (forest w) u
+  pub led : NeighboursLed g (forest w) u
   pub counted : DebtsCounted g (acts g u (meeting (w.at u) h b) own ((b, Connect h.level) ∷ []) w)
 
 module _ (g : Network) (ground : Ground g) (u : ℕ) (u_is : InNetwork g u) (b : ℕ) (at : At g u b) (w : Scene) (holds : Invariant g w)
@@ -131,23 +128,16 @@ module _ (g : Network) (ground : Ground g) (u : ℕ) (u_is : InNetwork g u) (b :
   unmarked_back : (w.at (far g (far g u b) (far_port g u b))).mark (far_port g (far g u b) (far_port g u b)) ≢ Branch
   unmarked_back e = owed.unmarked (subst₂ (λ p q. (w.at p).mark q ≡ Branch) (ground.wired.back u b at) (ground.wired.back_port u b at) e)
 
-  link : LinkFits (NamesOf g w) (end g w u b) (far_end g w u b)
-  link = at_near g ground.wired w (LinkFits (NamesOf g w)) holds.links u b at
-
-  link' : LinkFits (NamesOf g w) (far_end g w u b) (end g w u b)
-  link' = at_far g ground.wired w (LinkFits (NamesOf g w)) holds.links u b at
+  open link_clauses g ground.wired w holds u b at use {link, link'}
 
   came : ConnectUnderWay (tree_end (far_end g w u b)) (tree_end (end g w u b))
-  came = link'.tree.out_connect (record { here = owed.marked; there = owed.unmarked })
+  came = connect_comes g ground.wired w holds u b at owed.marked owed.unmarked
 
   level_y : (w.at (far g u b)).head.level ≡ h.level
   level_y = let z = came.higher in let q = owed.same_level in let r = owed.least in omega (arith, z, q, r)
 
   coming_y : (w.at (far g u b)).coming ≡ h.level
   coming_y = sym came.level ∙ level_y
-
-  up_y : (w.at (far g u b)).up ≡ Some (far_port g u b)
-  up_y = came.up
 
   apart : (w.at u).fragment ≢ (w.at (far g u b)).fragment
   apart = came.apart
@@ -212,7 +202,7 @@ module _ (g : Network) (ground : Ground g) (u : ℕ) (u_is : InNetwork g u) (b :
 
   -- who reached a root reaches one
   up_far : (sent.at (far g u b)).up ≡ Some (far_port g u b)
-  up_far = up_else _ not_u ∙ up_y
+  up_far = up_else _ not_u ∙ came.up
 
   reach_u : Reach g (forest sent) u
   reach_u = At_root b at up_here (Both_ways bridge up_here up_far)
@@ -464,11 +454,8 @@ module _ (g : Network) (ground : Ground g) (u : ℕ) (u_is : InNetwork g u) (b :
     uncalled = λ s p at' e. let z = back s e in rest.uncalled s p at' z.1;
   })
     where
-      ne : (w.at u).fragment ≢ (w.at t).fragment
-      ne e = let z = lifts_two t (inr (sym e)) in cc (c, z)
-
       rest : Quiet g sent (sent.at t).fragment
-      rest = subst (Quiet g sent) (sym (fragment_is t)) (quiet_else _ ne q)
+      rest = subst (Quiet g sent) (sym (fragment_is t)) (quiet_else _ (λ e. let z = lifts_two t (inr (sym e)) in cc (c, z)) q)
 
       back : (s : ℕ) →
           (met.at s).fragment ≡ (sent.at t).fragment →
@@ -681,7 +668,7 @@ module _ (g : Network) (ground : Ground g) (u : ℕ) (u_is : InNetwork g u) (b :
   core_near : LinkFits (NamesOf g met) core_here core_there
   core_near = record {
     tree =
-        new_core (tree_end core_here) (tree_end core_there) refl refl refl up_y up_level (ap suc level_y ∙ up_level) refl came.one
+        new_core (tree_end core_here) (tree_end core_there) refl refl refl came.up up_level (ap suc level_y ∙ up_level) refl came.one
         (ap (λ z. z ++ Connect h.level ∷ []) came.none);
     search = new_search (tree_end core_here) (tree_end core_there) refl up_level;
     tests =
@@ -692,7 +679,7 @@ module _ (g : Network) (ground : Ground g) (u : ℕ) (u_is : InNetwork g u) (b :
   core_away : LinkFits (NamesOf g met) core_there core_here
   core_away = record {
     tree =
-        new_core (tree_end core_there) (tree_end core_here) refl refl up_y refl (ap suc level_y ∙ up_level) up_level refl
+        new_core (tree_end core_there) (tree_end core_here) refl refl came.up refl (ap suc level_y ∙ up_level) up_level refl
         (ap (λ z. z ++ Connect h.level ∷ []) came.none) came.one;
     search = new_search (tree_end core_there) (tree_end core_here) refl (ap suc level_y ∙ up_level);
     tests =

@@ -7,9 +7,8 @@ use Rattle.ghs_node.specs.declared.message.Message.{Message}
 use Rattle.ghs_node.specs.declared.message.Message.TheVariants.{Connect}
 use Rattle.ghs_protocol.specs.Network.{Network, port_at, At, far, far_port, InNetwork}
 use Rattle.ghs_protocol.specs.Net.{put}
-use Rattle.ghs_protocol.proofs.clauses.Scene.{Scene, End, tree_end, end, acts, far_end}
+use Rattle.ghs_protocol.proofs.clauses.Scene.{Scene, End, end, acts, far_end}
 use Rattle.ghs_protocol.proofs.clauses.Changes.{left_tree, seen_beyond, sent_out}
-use Rattle.ghs_protocol.proofs.clauses.TreeMessages.{ConnectUnderWay}
 use Rattle.ghs_protocol.proofs.clauses.Whole.{Invariant}
 use Rattle.ghs_protocol.proofs.clauses.Wiring.{Ground}
 use Rattle.ghs_protocol.proofs.clauses.Uniting.{SendsRoot, meet}
@@ -19,8 +18,9 @@ use Rattle.ghs_protocol.proofs.root.AtRoot.{AtRoot, at_root}
 use Rattle.ghs_protocol.proofs.root.OldLink.{call_append}
 use Rattle.ghs_protocol.proofs.root.Sent.{near_aside, far_aside, node, quiet_still, counts}
 use Rattle.ghs_protocol.proofs.root.Inward.{at_best, best_apart, leads_to, old_roots}
-use Rattle.ghs_protocol.proofs.root.Outward.{out_link', leads_out}
+use Rattle.ghs_protocol.proofs.root.Outward.{leads_out}
 use Rattle.ghs_protocol.proofs.union.Met.{Meets, meets}
+use Rattle.ghs_protocol.proofs.rows.Link.{connect_comes}
 
 module _ (g : Network) (ground : Ground g) (u : ℕ) (u_is : InNetwork g u) (j : ℕ) (at : At g u j) (w : Scene) (holds : Invariant g w)
     (ms : List Message)
@@ -37,9 +37,6 @@ module _ (g : Network) (ground : Ground g) (u : ℕ) (u_is : InNetwork g u) (j :
 
   idle : (w.at u).head.probe ≡ None
   idle = ((holds.nodes u u_is).idle (λ e. cc (e, found))).0
-
-  came : ConnectUnderWay (tree_end (far_end g w u b)) (tree_end (end g w u b))
-  came = (out_link' g ground.wired u u_is j at w holds ms root b k best mark).tree.out_connect (record { here = mark'; there = mark })
 
   abbrev sender : End
   sender = record { port = b; key = (port_at g u b).key; mark = put (w.at u).mark b Branch b; is = sent_out (w.at u) b; seen = w.seen u b }
@@ -83,7 +80,8 @@ module _ (g : Network) (ground : Ground g) (u : ℕ) (u_is : InNetwork g u) (j :
         counts g ground.wired u u_is j at w holds ms root b atb apart (put (w.at u).mark b Branch) (put_same (w.at u).mark b Branch)
         (λ i ne. put_other (w.at u).mark b i Branch ne)
         (Connect (w.at u).head.level) (λ q n. call_append (Connect (w.at u).head.level) refl q.tree ∙ n)
-        (debt_up receiver sender came.up ∙ sym (debt_up (far_end g w u b) (end g w u b) came.up));
+        (let came = connect_comes g ground.wired w holds u b atb mark' mark in
+        debt_up receiver sender came.up ∙ sym (debt_up (far_end g w u b) (end g w u b) came.up));
   }
 
 -- a step: the root goes out and meets the far end

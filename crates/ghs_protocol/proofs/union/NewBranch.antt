@@ -80,6 +80,16 @@ module _ (g : Network) (wired : IsWired g) (u : ℕ) (u_is : InNetwork g u) (b :
   pub joined_grows : (t p : ℕ) → IsJoinedIn g (forest w) t p → IsJoinedIn g (forest grown) t p
   joined_grows t p j = record { here = branch_grows t p j.here; there = branch_grows _ _ j.there }
 
+  -- what a branch more leaves
+  pub record GrownAs : Type 0 where
+    pub fragment : (t : ℕ) → (grown.at t).fragment ≡ (w.at t).fragment
+    pub coming : (t : ℕ) → (grown.at t).coming ≡ (w.at t).coming
+    pub name : (t : ℕ) → (grown.at t).coming_name ≡ (w.at t).coming_name
+    pub joined : (t p : ℕ) → IsJoinedIn g (forest w) t p → IsJoinedIn g (forest grown) t p
+
+  pub grown_as : GrownAs
+  grown_as = record { fragment = fragment_was; coming = coming_was; name = name_was; joined = joined_grows }
+
   pub joined_was : (t p : ℕ) → Off g u b t p → IsJoinedIn g (forest grown) t p → IsJoinedIn g (forest w) t p
   joined_was t p off j =
       record { here = sym (ap is_branch (mark_else t p off.here)) ∙ j.here; there = sym (ap is_branch (mark_else _ _ off.there)) ∙ j.there }

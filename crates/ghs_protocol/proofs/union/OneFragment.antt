@@ -16,12 +16,13 @@ use Rattle.ghs_protocol.proofs.clauses.Nodes.{NodeFits}
 use Rattle.ghs_protocol.proofs.clauses.Links.{Joins, Out, Mutual}
 use Rattle.ghs_protocol.proofs.clauses.Fragments.{IsJoinedIn, Names, NamesWithin, LargeFragments, FragmentsJoined, JoinedWithin, JoinedLinksLead, Root, Goes_out, Both_ways, OneRoot, Reach, At_root, By_step, RootsReached, GhostsByFragment}
 use Rattle.ghs_protocol.proofs.clauses.Rest.{Alone, Named, Resting, has_call, has_report, owes, debt, debts, DebtsCounted}
-use Rattle.ghs_protocol.proofs.clauses.Whole.{Invariant, NamesOf, LinkFits}
+use Rattle.ghs_protocol.proofs.clauses.Whole.{Invariant, NamesOf, LinkFits, NodesFit}
 use Rattle.ghs_protocol.proofs.lemmas.Sums.{sum_same, term_le}
 use Rattle.ghs_protocol.proofs.search.ReportGone.{debt_one}
 use Rattle.ghs_protocol.proofs.acts.Situations.{probing_finds}
 use Rattle.ghs_protocol.proofs.union.Risen.{tree_named, Lifts, tree_lifted, tree_lifted_here, tree_lifted_there, search_lifted, search_lifted_there, tests_lifted, tests_lifted_here, tests_lifted_there}
 use Rattle.ghs_protocol.proofs.acts.SameForest.{not_branch}
+use Rattle.std.proofs.lemmas.Option.{same_Some}
 
 -- a member of a fragment that is lifted comes to fragment a, level l and name n
 abbrev pub raised : ℕ → ℕ → Option Key → Member → Member
@@ -55,7 +56,7 @@ pub record Joinable (g : Network) (w : Scene) (v b : ℕ) (lifts : ℕ → Bool)
   pub at : At g v b
   pub bridge : IsJoinedIn g (forest w) v b
   -- the clauses, but for those of the new link and of the united fragment
-  pub nodes : (t : ℕ) → InNetwork g t → NodeFits (length (g.ports t)) (w.at t)
+  pub nodes : NodesFit g w
   pub links : (t p : ℕ) → At g t p → Off g v b t p → LinkFits (NamesOf g w) (end g w t p) (end g w (far g t p) (far_port g t p))
   pub by_fragment : GhostsByFragment g (forest w)
   pub names_within : NamesWithin g (forest w)
@@ -217,7 +218,7 @@ module _ (g : Network) (wired : IsWired g) (w : Scene) (v b : ℕ) (lifts : ℕ 
         λ t k is e. ⊎_elim
         (λ x.
         subst (λ y. Names g (forest united) y k) (sym x) (names_here k
-        (subst (λ y. Names g (forest w) (w.at v).fragment y) (same_name known.name k (sym known.is_name ∙ sym (there t x).1 ∙ e)) known.name_in)))
+        (subst (λ y. Names g (forest w) (w.at v).fragment y) (same_Some known.name k (sym known.is_name ∙ sym (there t x).1 ∙ e)) known.name_in)))
         (λ ne.
         let y = other_is t ne in
         subst (λ z. Names g (forest united) z k) (sym (ap (λ (m : Member). m.fragment) y.1))
@@ -227,9 +228,6 @@ module _ (g : Network) (wired : IsWired g) (w : Scene) (v b : ℕ) (lifts : ℕ 
     where
       none_some : {k : Key} → None ≡ Some k → ⊥
       none_some e = cc
-
-      same_name : (x y : Key) → Some x ≡ Some y → x ≡ y
-      same_name x y e = cc
 
   sizes' : HaveAtLeast (2 ^ l) (λ t. InNetwork g t × ((united.at t).fragment ≡ (w.at v).fragment)) → LargeFragments g (forest united)
   sizes' many t is = ⊎_elim here away (cases_eq (united.at t).fragment (w.at v).fragment)

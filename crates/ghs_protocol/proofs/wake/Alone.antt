@@ -11,6 +11,7 @@ use Rattle.ghs_protocol.proofs.clauses.Nodes.{NodeFits, Untouched}
 use Rattle.ghs_protocol.proofs.clauses.Rest.{Quiet, Resting}
 use Rattle.ghs_protocol.proofs.clauses.Whole.{Invariant}
 use Rattle.ghs_protocol.proofs.acts.SameForest.{quiet_after, sums_after, kept_after}
+use Rattle.ghs_protocol.proofs.rows.Link.{node_clauses}
 
 module _ (g : Network) (wired : IsWired g) (u : ℕ) (u_is : InNetwork g u) (w : Scene) (holds : Invariant g w)
     (lone : ◌≡◌ {A = ℕ} (length (g.ports u)) 0) (sleeps : (w.at u).head.phase ≡ Sleeping) where
@@ -20,8 +21,7 @@ module _ (g : Network) (wired : IsWired g) (u : ℕ) (u_is : InNetwork g u) (w :
   here : InNetwork g u
   here = u_is
 
-  fits : NodeFits (length (g.ports u)) (w.at u)
-  fits = holds.nodes u here
+  open node_clauses g wired w holds u u_is use {fits}
 
   fresh : Untouched (w.at u)
   fresh = fits.untouched sleeps

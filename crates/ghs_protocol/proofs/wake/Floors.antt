@@ -8,10 +8,8 @@ use Rattle.ghs_node.specs.declared.message.Phase.TheVariants.{Sleeping, Find, Fo
 use Rattle.ghs_node.specs.declared.message.Message.TheVariants.{Connect, ChangeRoot}
 use Rattle.ghs_protocol.specs.Network.{Network, port_at, At, far, far_port, InNetwork}
 use Rattle.ghs_protocol.specs.Net.{put}
-use Rattle.ghs_protocol.proofs.clauses.Scene.{Seen, add, adds, Member, Scene, End, tree_end, end, acts, far_end}
+use Rattle.ghs_protocol.proofs.clauses.Scene.{Seen, add, adds, Member, Scene, End, acts, far_end}
 use Rattle.ghs_protocol.proofs.clauses.Changes.{seen_beyond, awakened}
-use Rattle.ghs_protocol.proofs.clauses.TreeMessages.{ConnectUnderWay}
-use Rattle.ghs_protocol.proofs.clauses.Nodes.{Untouched}
 use Rattle.ghs_protocol.proofs.clauses.Wiring.{Ground}
 use Rattle.ghs_protocol.proofs.clauses.Uniting.{meet}
 use Rattle.ghs_protocol.proofs.clauses.Whole.{Invariant}
@@ -20,8 +18,8 @@ use Rattle.ghs_protocol.proofs.lemmas.Updates.{put_same, put_other}
 use Rattle.ghs_protocol.proofs.acts.Ends.{here_seen, far_seen}
 use Rattle.ghs_protocol.proofs.acts.OneLink.{by_port_at, sends_one}
 use Rattle.ghs_protocol.proofs.acts.Reactions.{put_again}
-use Rattle.ghs_protocol.proofs.rows.Link.{link_fits'}
-use Rattle.ghs_protocol.proofs.wake.Inward.{wakes_meeting}
+use Rattle.ghs_protocol.proofs.rows.Link.{connect_comes}
+use Rattle.ghs_protocol.proofs.wake.Inward.{wakes_meeting, waking}
 use Rattle.ghs_protocol.proofs.acts.Floors.{far_fits, lower_self, below_lower, cut_link}
 use Rattle.ghs_protocol.proofs.search.CloseFloors.{FloorsOff, nodes_after, links_after, links_after_off, in_tree_after, halted_after}
 use Rattle.ghs_protocol.proofs.union.Floors.{floors_met}
@@ -45,20 +43,13 @@ module _ (g : Network) (ground : Ground g) (u : ℕ) (u_is : InNetwork g u) (w :
   is : InNetwork g u
   is = u_is
 
-  fresh : Untouched (w.at u)
-  fresh = (holds.nodes u is).untouched sleeps
+  open waking g ground.wired u u_is w holds at sleeps use {fresh, apart, plain}
 
   unmarked : (i : ℕ) → (w.at u).mark i ≢ Branch
   unmarked = fresh.marks
 
   alone : (t : ℕ) → InNetwork g t → (w.at t).fragment ≡ (w.at u).fragment → t ≡ u
   alone t it e = holds.alone u t is it sleeps e
-
-  far_in : (i : ℕ) → At g u i → InNetwork g (far g u i)
-  far_in i at' = let z = ground.wired.there u i at' in record { some = z.some; node = z.node }
-
-  pub apart : (w.at (far g u 0)).fragment ≢ (w.at u).fragment
-  apart e = ground.wired.apart u 0 at (alone (far g u 0) (far_in 0 at) e)
 
   -- no port's key is less than that of port 0
   pub first_least : (t q : ℕ) →
@@ -79,9 +70,6 @@ module _ (g : Network) (ground : Ground g) (u : ℕ) (u_is : InNetwork g u) (w :
 
   abbrev still : ℕ → End
   still i = record { port = i; key = (port_at g u i).key; mark = put (w.at u).mark 0 Branch i; is = x; seen = w.seen u i }
-
-  plain : (i : ℕ) → i ≢ 0 → put (w.at u).mark 0 Branch i ≢ Branch
-  plain i ne e = unmarked i (sym (put_other (w.at u).mark 0 i Branch ne) ∙ e)
 
   near_other : (i : ℕ) → At g u i → i ≢ 0 → FloorsAt (still i) (far_end g w u i) least (floor (far g u i))
   near_other i at' ne = record {
@@ -169,9 +157,6 @@ module _ (g : Network) (ground : Ground g) (u : ℕ) (u_is : InNetwork g u) (w :
 
   -- the far end's Connect has come in
   module _ (met : (w.at (far g u 0)).mark (far_port g u 0) ≡ Branch) where
-    came : ConnectUnderWay (tree_end (far_end g w u 0)) (tree_end (end g w u 0))
-    came = (link_fits' g ground.wired w holds u 0 at).tree.out_connect (record { here = met; there = unmarked 0 })
-
     off : FloorsOff g woken (put floor u least) u 0
     off =
         subst (λ v. FloorsOff g v (put floor u least) u 0) own_again (record {
@@ -207,6 +192,7 @@ module _ (g : Network) (ground : Ground g) (u : ℕ) (u_is : InNetwork g u) (w :
 
     pub wakes_meeting_floors : Floors g (meet g u 0 woken) (put floor u least)
     wakes_meeting_floors =
+        let came = connect_comes g ground.wired w holds u 0 at met (unmarked 0) in
         floors_met g ground.wired woken (put floor u least) off.nodes off.in_tree off.halted u 0 at
         (λ e. apart (sym (same.fragment (far g u 0)) ∙ e ∙ same.fragment u)) off.links
         (below_new g w woken holds same u 0 came (fresh.level ∙ sym fresh.coming))

@@ -21,15 +21,16 @@ use Rattle.ghs_protocol.proofs.clauses.Whole.{Invariant, NamesOf, LinkFits}
 use Rattle.ghs_protocol.proofs.clauses.Wiring.{Ground}
 use Rattle.ghs_protocol.proofs.clauses.Uniting.{meet}
 use Rattle.ghs_protocol.proofs.lemmas.Updates.{put_same, put_other}
-use Rattle.ghs_protocol.proofs.lemmas.Sums.{term_le}
 use Rattle.ghs_protocol.proofs.acts.Ends.{here_seen}
 use Rattle.ghs_protocol.proofs.acts.SameForest.{near', far', sums_after, branch_mark}
-use Rattle.ghs_protocol.proofs.acts.OneLink.{debts_here, at_near, at_far, sends_one}
+use Rattle.ghs_protocol.proofs.acts.OneLink.{sends_one, debt_within}
 use Rattle.ghs_protocol.proofs.tests.Links.{tests_aside, tests_aside', not_some}
 use Rattle.ghs_protocol.proofs.search.ReportGone.{debt_up, debt_one}
 use Rattle.ghs_protocol.proofs.search.FirstReport.{mark_is}
 use Rattle.ghs_protocol.proofs.root.OldLink.{report_append}
 use Rattle.ghs_protocol.proofs.union.Met.{meets}
+use Rattle.ghs_protocol.proofs.rows.Link.{node_clauses}
+use Rattle.ghs_protocol.proofs.lemmas.Wires.{at_in}
 
 -- a node that isn't on the link, awake now, at level 0 as before
 abbrev pub woke : TreeEnd → Option ℕ → TreeEnd
@@ -87,6 +88,12 @@ module _ (e f : TreeEnd) (o : Option ℕ) (low : ◌≡◌ {A = ℕ} e.level 0) 
       (λ z. ap has_call (t'.out_connect (record { here = z; there = plain })).one)
       (λ z. ap has_call (t.silent plain z)) (mark_is f.mark)
 
+-- what is known of a sleeping node that wakes
+pub record Waking (g : Network) (w : Scene) (u : ℕ) : Type 0 where
+  pub fresh : Untouched (w.at u)
+  pub apart : (w.at (far g u 0)).fragment ≢ (w.at u).fragment
+  pub plain : (i : ℕ) → i ≢ 0 → put (w.at u).mark 0 Branch i ≢ Branch
+
 module _ (g : Network) (wired : IsWired g) (u : ℕ) (u_is : InNetwork g u) (w : Scene) (holds : Invariant g w) (at : At g u 0)
     (sleeps : (w.at u).head.phase ≡ Sleeping) where
   abbrev pub woken_head : Head
@@ -104,17 +111,18 @@ module _ (g : Network) (wired : IsWired g) (u : ℕ) (u_is : InNetwork g u) (w :
   pub is : InNetwork g u
   is = u_is
 
-  pub fits : NodeFits (length (g.ports u)) (w.at u)
-  fits = holds.nodes u is
+  open node_clauses g wired w holds u u_is use {fits, link, link'}
 
   pub fresh : Untouched (w.at u)
   fresh = fits.untouched sleeps
 
-  pub link : (i : ℕ) → At g u i → LinkFits (NamesOf g w) (end g w u i) (far_end g w u i)
-  link i at' = at_near g wired w (LinkFits (NamesOf g w)) holds.links u i at'
-
-  pub link' : (i : ℕ) → At g u i → LinkFits (NamesOf g w) (far_end g w u i) (end g w u i)
-  link' i at' = at_far g wired w (LinkFits (NamesOf g w)) holds.links u i at'
+  -- what is known of the node: it is untouched and alone, and no port is Branch afterwards but the first
+  pub waking : Waking g w u
+  waking = record {
+    fresh = fresh;
+    apart = λ e. wired.apart u 0 at (holds.alone u (far g u 0) u_is (at_in (wired.there u 0 at)) sleeps e);
+    plain = λ i ne e. fresh.marks i (sym (put_other (w.at u).mark 0 i Branch ne) ∙ e);
+  }
 
   -- the ends of its other links
   abbrev pub still : ℕ → End
@@ -126,28 +134,25 @@ module _ (g : Network) (wired : IsWired g) (u : ℕ) (u_is : InNetwork g u) (w :
   far_is : (i : ℕ) → i ≢ 0 → far' g wired u u_is waker (w.seen u) sends w i ≡ far_end g w u i
   far_is i ne = λ k. record (far_end g w u i) { seen = adds (seen_beyond g w u i) ((sends_one 0 (Connect 0)).none i ne k) }
 
-  pub quits : (i : ℕ) → (w.at u).head.probe ≢ Some i
-  quits i = not_some (w.at u).head.probe i fresh.probe
-
   pub low : (w.at u).head.level ≤ 0
   low = let z = fresh.level in omega (arith, z)
 
-  still_fits : (i : ℕ) → At g u i → LinkFits (NamesOf g w) (still i) (far_end g w u i)
+  pub still_fits : (i : ℕ) → At g u i → LinkFits (NamesOf g w) (still i) (far_end g w u i)
   still_fits i at' = record {
     tree = tree_woke (tree_end (end g w u i)) (tree_end (far_end g w u i)) (Some 0) fresh.level (fresh.marks i) (link i at').tree;
     search = search_woke (tree_end (end g w u i)) (tree_end (far_end g w u i)) (Some 0) fresh.level (fresh.marks i) (link i at').search fresh.best;
     tests =
-        tests_aside (test_end (end g w u i)) (test_end (far_end g w u i)) (w.at u).head.probe 0 (w.at u).head.name (quits i) (quits i) low
-        (link i at').tests (link' i at').tests;
+        tests_aside (test_end (end g w u i)) (test_end (far_end g w u i)) (w.at u).head.probe 0 (w.at u).head.name
+        (not_some (w.at u).head.probe i fresh.probe) (not_some (w.at u).head.probe i fresh.probe) low (link i at').tests (link' i at').tests;
   }
 
-  still_fits' : (i : ℕ) → At g u i → LinkFits (NamesOf g w) (far_end g w u i) (still i)
+  pub still_fits' : (i : ℕ) → At g u i → LinkFits (NamesOf g w) (far_end g w u i) (still i)
   still_fits' i at' = record {
     tree = tree_woke' (tree_end (end g w u i)) (tree_end (far_end g w u i)) (Some 0) fresh.level (fresh.marks i) (link' i at').tree;
     search = search_woke' (tree_end (end g w u i)) (tree_end (far_end g w u i)) (Some 0) fresh.level (fresh.marks i) (link' i at').search;
     tests =
-        tests_aside' (test_end (end g w u i)) (test_end (far_end g w u i)) (w.at u).head.probe 0 (w.at u).head.name (quits i) (quits i) low
-        (link i at').tests (link' i at').tests;
+        tests_aside' (test_end (end g w u i)) (test_end (far_end g w u i)) (w.at u).head.probe 0 (w.at u).head.name
+        (not_some (w.at u).head.probe i fresh.probe) (not_some (w.at u).head.probe i fresh.probe) low (link i at').tests (link' i at').tests;
   }
 
   pub near_fits : (i : ℕ) →
@@ -185,17 +190,8 @@ module _ (g : Network) (wired : IsWired g) (u : ℕ) (u_is : InNetwork g u) (w :
   unowed i at' =
       ⊎_elim (λ z.
       absurd (let one = debt_one (end g w u i) (far_end g w u i) (λ y. let q = fresh.up in cc (q, y)) z in
-      let n = fresh.find_count in omega (arith, one, term, all, n)))
+      let within = debt_within g wired w holds.counted u i at' in let n = fresh.find_count in omega (arith, one, within, n)))
       (λ z. z) (cases_Bool (owes (end g w u i) (far_end g w u i)))
-    where
-      f : ℕ → ℕ
-      f i = debt (end g w u i) (far_end g w u i)
-
-      all : (w.at u).head.find_count ≡ sum_below (length (g.ports u)) f
-      all = debts_here g wired w holds.counted u is
-
-      term : f i ≤ sum_below (length (g.ports u)) f
-      term = term_le (length (g.ports u)) i f at'.port
 
   zeros : (n : ℕ) (f : ℕ → ℕ) → ((i : ℕ) → i < n → ◌≡◌ {A = ℕ} (f i) 0) → ◌≡◌ {A = ℕ} 0 (sum_below n f)
   zeros zero f h = refl

@@ -5,7 +5,7 @@ use Rattle.std.proofs.lemmas.List.{get_or_past, length-replicate}
 use Rattle.ghs_node.specs.declared.mark.Mark.{Mark}
 use Rattle.ghs_node.specs.declared.mark.Mark.TheVariants.{Basic, Branch, Rejected}
 use Rattle.ghs_node.specs.Words.{is_branch}
-use Rattle.ghs_protocol.specs.Network.{Network, At, far, far_port, InNetwork}
+use Rattle.ghs_protocol.specs.Network.{Network, InNetwork}
 use Rattle.ghs_protocol.specs.Net.{opening}
 use Rattle.ghs_protocol.specs.Marks.{Leads, Here}
 use Rattle.std.specs.List.{All}
@@ -13,9 +13,9 @@ use Rattle.std.proofs.lemmas.List.Elements.{All-nil, All-cons}
 use Rattle.ghs_protocol.proofs.acts.Many.{one_apart}
 use Rattle.ghs_protocol.proofs.clauses.Fragments.{IsJoinedIn, Goes_out, Both_ways, Root}
 use Rattle.ghs_protocol.specs.Ledger.{sum_below}
-use Rattle.ghs_protocol.proofs.clauses.Scene.{Scene, scene, end, forest}
+use Rattle.ghs_protocol.proofs.clauses.Scene.{Scene, scene, forest}
 use Rattle.ghs_protocol.proofs.clauses.Nodes.{NodeFits}
-use Rattle.ghs_protocol.proofs.clauses.Whole.{LinkFits, Invariant, NamesOf, opening_ghost}
+use Rattle.ghs_protocol.proofs.clauses.Whole.{Invariant, opening_ghost, LinksFit}
 
 pub unmarked : (n p : ℕ) → get_or (replicate n Basic) p Rejected ≢ Branch
 unmarked zero p = λ e. cc
@@ -78,7 +78,7 @@ module _ (g : Network) where
     best_port = λ p k e. cc;
   }
 
-  link : (v p : ℕ) → At g v p → LinkFits (NamesOf g w) (end g w v p) (end g w (far g v p) (far_port g v p))
+  link : LinksFit g w
   unfolding w
   link v p at = record {
     tree = record {

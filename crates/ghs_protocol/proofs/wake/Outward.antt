@@ -1,5 +1,5 @@
 -- A sleeping node wakes, and nobody has connected to it over its least link: its Connect leads out.
-use Rattle.std.proofs.Common.{◌≡◌, ◌≢◌, ℕ, zero, suc, ◌+◌, ◌<◌, ◌≤◌, ◌==◌, Bool, true, false, Option, Some, None, List, [], ◌∷◌, ◌++◌, refl, sym, ◌∙◌, ap, ap₂, subst, subst₂, ⊎_elim, ◌⊎◌, inl, inr, length, arith, eq-eqb}
+use Rattle.std.proofs.Common.{◌≡◌, ◌≢◌, ℕ, zero, suc, ◌+◌, ◌<◌, ◌≤◌, ◌==◌, Bool, true, false, Option, None, List, [], ◌∷◌, ◌++◌, refl, sym, ◌∙◌, ap, ap₂, subst, subst₂, ⊎_elim, ◌⊎◌, inl, inr, length, arith, eq-eqb}
 use Rattle.std.proofs.Math.Path.{fun_ext}
 use Rattle.std.proofs.lemmas.Bool.{cases_eq}
 use Rattle.ghs_graph.specs.declared.key.Key.{Key}
@@ -9,11 +9,11 @@ use Rattle.ghs_node.specs.declared.message.Message.TheVariants.{Connect}
 use Rattle.ghs_node.specs.Words.{is_branch}
 use Rattle.ghs_protocol.specs.Network.{Network, port_at, At, far, far_port, InNetwork}
 use Rattle.ghs_protocol.proofs.lemmas.Wired.{IsWired}
-use Rattle.ghs_protocol.proofs.clauses.Scene.{Seen, adds, Member, Scene, End, TreeEnd, end, tree_end, test_end, forest, acts, far_end}
+use Rattle.ghs_protocol.proofs.clauses.Scene.{Seen, adds, Member, Scene, End, TreeEnd, end, tree_end, forest, acts, far_end}
 use Rattle.ghs_protocol.proofs.clauses.Changes.{seen_beyond, awakened}
 use Rattle.ghs_protocol.proofs.clauses.Nodes.{Untouched}
 use Rattle.ghs_protocol.proofs.clauses.TreeMessages.{Moved}
-use Rattle.ghs_protocol.proofs.clauses.Search.{LeadsOut, SearchFits}
+use Rattle.ghs_protocol.proofs.clauses.Search.{LeadsOut}
 use Rattle.ghs_protocol.proofs.clauses.Fragments.{IsJoinedIn, Goes_out, ForestFits}
 use Rattle.ghs_protocol.proofs.clauses.Rest.{Quiet, Resting, has_call}
 use Rattle.ghs_protocol.proofs.clauses.Whole.{Invariant, NamesOf, LinkFits}
@@ -21,13 +21,12 @@ use Rattle.ghs_protocol.specs.Steps.{sent_on}
 use Rattle.ghs_protocol.proofs.lemmas.Updates.{put_same, put_other}
 use Rattle.ghs_protocol.proofs.acts.Ends.{acts_keeps}
 use Rattle.ghs_protocol.proofs.acts.SameForest.{near', far', quiet_after, branch_mark, not_branch}
-use Rattle.ghs_protocol.proofs.tests.Links.{tests_aside, tests_aside'}
 use Rattle.ghs_protocol.proofs.root.Ways.{Turns, turning, forest_turn}
 use Rattle.ghs_protocol.proofs.root.Sent.{put_field}
 use Rattle.ghs_protocol.proofs.root.OldLink.{call_append}
-use Rattle.ghs_protocol.proofs.root.Outward.{tree_connects, tree_connects', search_connects, search_connects', tests_branch, tests_branch'}
 use Rattle.ghs_protocol.proofs.union.NewBranch.{Branches, link_named, fragment_was, coming_was, name_was, mark_else, mark_here, branch_grows, names_grow, alone_grown, named_grown, nodes_grown}
-use Rattle.ghs_protocol.proofs.wake.Inward.{waker, sent, is, fresh, link, link', near_fits, far_fits, node, counted, unbranched, no_root, quiet, quits, low, woke, tree_woke, tree_woke', search_woke, search_woke'}
+use Rattle.ghs_protocol.proofs.wake.Inward.{waker, sent, is, fresh, near_fits, far_fits, node, counted, unbranched, no_root, quiet, waking, still, still_fits, still_fits'}
+use Rattle.ghs_protocol.proofs.root.Outward.{connects_near, connects_far}
 
 module _ (g : Network) (wired : IsWired g) (u : ℕ) (u_is : InNetwork g u) (w : Scene) (holds : Invariant g w) (at : At g u 0)
     (sleeps : (w.at u).head.phase ≡ Sleeping) (apart : (w.at (far g u 0)).mark (far_port g u 0) ≢ Branch) where
@@ -134,55 +133,12 @@ module _ (g : Network) (wired : IsWired g) (u : ℕ) (u_is : InNetwork g u) (w :
   abbrev pub receiver : End
   receiver = record (far_end g w u 0) { seen = record (seen_beyond g w u 0) { tree = (seen_beyond g w u 0).tree ++ Connect 0 ∷ [] } }
 
-  alone : (w.at (far g u 0)).fragment ≢ (w.at u).fragment
-  alone same =
-      let t = wired.there u 0 at in
-      not_u (holds.alone u (far g u 0) (is g wired u u_is w holds at sleeps) (record { some = t.some; node = t.node }) sleeps same)
+  -- its end of the link, awake, before the Connect goes out
+  abbrev waiting : End
+  waiting = still g wired u u_is w holds at sleeps 0
 
-  out : LeadsOut (woke (tree_end (end g w u 0)) (Some 0)) (tree_end (far_end g w u 0)) (port_at g u 0).key
-  out = record { key = refl; apart = alone; higher = omega arith }
-
-  fit : LinkFits (NamesOf g w) (end g w u 0) (far_end g w u 0)
-  fit = link g wired u u_is w holds at sleeps 0 at
-
-  fit' : LinkFits (NamesOf g w) (far_end g w u 0) (end g w u 0)
-  fit' = link' g wired u u_is w holds at sleeps 0 at
-
-  searches : SearchFits (woke (tree_end (end g w u 0)) (Some 0)) (tree_end (far_end g w u 0))
-  searches = search_woke (tree_end (end g w u 0)) (tree_end (far_end g w u 0)) (Some 0) new.level (new.marks 0) fit.search new.best
-
-  searches' : SearchFits (tree_end (far_end g w u 0)) (woke (tree_end (end g w u 0)) (Some 0))
-  searches' = search_woke' (tree_end (end g w u 0)) (tree_end (far_end g w u 0)) (Some 0) new.level (new.marks 0) fit'.search
-
-  connect_fits : LinkFits (NamesOf g w) sender receiver
-  connect_fits = record {
-    tree =
-        tree_connects (woke (tree_end (end g w u 0)) (Some 0)) (tree_end (far_end g w u 0)) (port_at g u 0).key
-        (new.marks 0) apart out (sym new.coming) searches searches'
-        (tree_woke (tree_end (end g w u 0)) (tree_end (far_end g w u 0)) (Some 0) new.level (new.marks 0) fit.tree)
-        (tree_woke' (tree_end (end g w u 0)) (tree_end (far_end g w u 0)) (Some 0) new.level (new.marks 0) fit'.tree);
-    search =
-        search_connects (woke (tree_end (end g w u 0)) (Some 0)) (tree_end (far_end g w u 0)) (port_at g u 0).key (new.marks 0) apart out
-        (sym new.coming) searches searches';
-    tests =
-        tests_branch _ _ (tests_aside (test_end (end g w u 0)) (test_end (far_end g w u 0)) (w.at u).head.probe 0 (w.at u).head.name
-        (quits g wired u u_is w holds at sleeps 0) (quits g wired u u_is w holds at sleeps 0) (low g wired u u_is w holds at sleeps) fit.tests
-        fit'.tests);
-  }
-
-  connect_fits' : LinkFits (NamesOf g w) receiver sender
-  connect_fits' = record {
-    tree =
-        tree_connects' (woke (tree_end (end g w u 0)) (Some 0)) (tree_end (far_end g w u 0)) (port_at g u 0).key (new.marks 0) apart out
-        (sym new.coming) searches searches';
-    search =
-        search_connects' (woke (tree_end (end g w u 0)) (Some 0)) (tree_end (far_end g w u 0)) (port_at g u 0).key (new.marks 0) apart out
-        (sym new.coming) searches searches';
-    tests =
-        tests_branch' _ _ (tests_aside' (test_end (end g w u 0)) (test_end (far_end g w u 0)) (w.at u).head.probe 0 (w.at u).head.name
-        (quits g wired u u_is w holds at sleeps 0) (quits g wired u u_is w holds at sleeps 0) (low g wired u u_is w holds at sleeps) fit.tests
-        fit'.tests);
-  }
+  out : LeadsOut (tree_end waiting) (tree_end (far_end g w u 0)) (port_at g u 0).key
+  out = record { key = refl; apart = (waking g wired u u_is w holds at sleeps).apart; higher = omega arith }
 
   sender_is : near' g wired u u_is awake (w.seen u) ((0, Connect 0) ∷ []) w 0 ≡ sender
   sender_is = λ i. record { port = 0; key = (port_at g u 0).key; mark = put_same (w.at u).mark 0 Branch i; is = awake; seen = w.seen u 0 }
@@ -200,7 +156,9 @@ module _ (g : Network) (wired : IsWired g) (u : ℕ) (u_is : InNetwork g u) (w :
       LinkFits (NamesOf g w) (near' g wired u u_is awake (w.seen u) ((0, Connect 0) ∷ []) w y)
       (far' g wired u u_is awake (w.seen u) ((0, Connect 0) ∷ []) w y))
       (sym z)
-      (subst (λ y. LinkFits (NamesOf g w) y receiver) (sym sender_is) connect_fits))
+      (subst (λ y. LinkFits (NamesOf g w) y receiver) (sym sender_is)
+      (connects_near (NamesOf g w) waiting (far_end g w u 0) awake (port_at g u 0).key (new.marks 0) apart out (sym new.coming)
+      (still_fits g wired u u_is w holds at sleeps 0 at) (still_fits' g wired u u_is w holds at sleeps 0 at) refl refl)))
       (λ ne. near_fits g wired u u_is w holds at sleeps i at' ne)
       (cases_eq i 0)
 
@@ -214,7 +172,9 @@ module _ (g : Network) (wired : IsWired g) (u : ℕ) (u_is : InNetwork g u) (w :
       LinkFits (NamesOf g w) (far' g wired u u_is awake (w.seen u) ((0, Connect 0) ∷ []) w y)
       (near' g wired u u_is awake (w.seen u) ((0, Connect 0) ∷ []) w y))
       (sym z)
-      (subst (λ y. LinkFits (NamesOf g w) receiver y) (sym sender_is) connect_fits'))
+      (subst (λ y. LinkFits (NamesOf g w) receiver y) (sym sender_is)
+      (connects_far (NamesOf g w) waiting (far_end g w u 0) awake (port_at g u 0).key (new.marks 0) apart out (sym new.coming)
+      (still_fits g wired u u_is w holds at sleeps 0 at) (still_fits' g wired u u_is w holds at sleeps 0 at) refl refl)))
       (λ ne. far_fits g wired u u_is w holds at sleeps i at' ne)
       (cases_eq i 0)
 
@@ -229,13 +189,11 @@ module _ (g : Network) (wired : IsWired g) (u : ℕ) (u_is : InNetwork g u) (w :
   quiet_else : (t : ℕ) → InNetwork g t → t ≢ u → Quiet g w (w.at t).fragment → Quiet g (then) ((then).at t).fragment
   quiet_else t it ne q =
       subst (Quiet g (then)) (sym (fragments t))
-      (quiet_after g wired u u_is awake (w.seen u) ((0, Connect 0) ∷ []) w (w.at t).fragment q (λ z. absurd (other z))
-      (λ i at' z. absurd (other z))
+      (quiet_after g wired u u_is awake (w.seen u) ((0, Connect 0) ∷ []) w (w.at t).fragment q
+      (λ z. absurd (ne (holds.alone u t u_is it sleeps (sym z))))
+      (λ i at' z. absurd (ne (holds.alone u t u_is it sleeps (sym z))))
       (λ i at' z. calls (seen_beyond g w u i) i ∙ q.uncalled _ _ (wired.there u i at') z))
     where
-      other : (w.at u).fragment ≢ (w.at t).fragment
-      other z = ne (holds.alone u t (is g wired u u_is w holds at sleeps) it sleeps (sym z))
-
       calls : (s : Seen) (i : ℕ) → has_call (adds s (sent_on ((0, Connect 0) ∷ []) i)).tree ≡ has_call s.tree
       calls s i =
           elim (0 == i) as

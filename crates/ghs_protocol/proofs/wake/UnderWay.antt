@@ -6,20 +6,16 @@ use Rattle.ghs_node.specs.declared.message.Phase.TheVariants.{Sleeping}
 use Rattle.ghs_node.specs.declared.message.Message.TheVariants.{Connect}
 use Rattle.ghs_protocol.specs.Network.{Network, port_at, At, far, far_port, InNetwork}
 use Rattle.ghs_protocol.proofs.lemmas.Wired.{IsWired}
-use Rattle.ghs_protocol.specs.Net.{put}
-use Rattle.ghs_protocol.proofs.clauses.Scene.{Member, Scene, tree_end, end, acts, far_end}
+use Rattle.ghs_protocol.proofs.clauses.Scene.{Member, Scene, acts}
 use Rattle.ghs_protocol.proofs.clauses.Changes.{awakened}
-use Rattle.ghs_protocol.proofs.clauses.TreeMessages.{ConnectUnderWay}
-use Rattle.ghs_protocol.proofs.clauses.Nodes.{Untouched}
 use Rattle.ghs_protocol.proofs.clauses.Wiring.{Ground}
 use Rattle.ghs_protocol.proofs.clauses.Uniting.{meet}
 use Rattle.ghs_protocol.proofs.clauses.Whole.{Invariant}
 use Rattle.ghs_protocol.proofs.clauses.UnderWay.{Lives}
-use Rattle.ghs_protocol.proofs.lemmas.Updates.{put_other}
 use Rattle.ghs_protocol.proofs.acts.OneLink.{sends_one}
 use Rattle.ghs_protocol.proofs.acts.Reactions.{put_again}
-use Rattle.ghs_protocol.proofs.rows.Link.{link_fits'}
-use Rattle.ghs_protocol.proofs.wake.Inward.{wakes_meeting}
+use Rattle.ghs_protocol.proofs.rows.Link.{connect_comes}
+use Rattle.ghs_protocol.proofs.wake.Inward.{wakes_meeting, waking}
 use Rattle.ghs_protocol.proofs.tests.UnderWay.{touches_lives, near_asks, far_asks}
 use Rattle.ghs_protocol.proofs.union.UnderWay.{no_name, united_lives}
 use Rattle.ghs_protocol.proofs.union.Lower.{SameParts, same_parts, below_new}
@@ -38,11 +34,7 @@ module _ (g : Network) (wired : IsWired g) (u : ℕ) (u_is : InNetwork g u) (w :
   is : InNetwork g u
   is = u_is
 
-  fresh : Untouched (w.at u)
-  fresh = (holds.nodes u is).untouched sleeps
-
-  plain : (i : ℕ) → i ≢ 0 → put (w.at u).mark 0 Branch i ≢ Branch
-  plain i ne e = fresh.marks i (sym (put_other (w.at u).mark 0 i Branch ne) ∙ e)
+  open waking g wired u u_is w holds at sleeps use {fresh, plain}
 
   -- no node is a child over the link, and it hasn't the coming name
   woken_lives :
@@ -74,14 +66,12 @@ module _ (g : Network) (wired : IsWired g) (u : ℕ) (u_is : InNetwork g u) (w :
 
   -- the far end's Connect has come in
   module _ (ground : Ground g) (met : (w.at (far g u 0)).mark (far_port g u 0) ≡ Branch) where
-    came : ConnectUnderWay (tree_end (far_end g w u 0)) (tree_end (end g w u 0))
-    came = (link_fits' g wired w holds u 0 at).tree.out_connect (record { here = met; there = fresh.marks 0 })
-
     same : SameParts w woken
     same = same_parts g u x (w.seen u) ss w refl refl refl (sym fresh.level)
 
     woken_met : Lives g woken
     woken_met =
+        let came = connect_comes g wired w holds u 0 at met (fresh.marks 0) in
         woken_lives (λ e. came.up) (λ e. no_name g ground.keyed w holds u 0 at (fresh.marks 0) u is)
         (λ e.
         no_name g ground.keyed w holds u 0 at (fresh.marks 0) (far g u 0)
@@ -89,6 +79,7 @@ module _ (g : Network) (wired : IsWired g) (u : ℕ) (u_is : InNetwork g u) (w :
 
     pub wakes_meeting_lives : Lives g (meet g u 0 (acts g u (awakened (w.at u)) (w.seen u) ((0, Connect 0) ∷ []) w))
     wakes_meeting_lives =
+        let came = connect_comes g wired w holds u 0 at met (fresh.marks 0) in
         united_lives g woken woken_met (woken.at (far g u 0)).fragment (woken.at u).fragment (suc (woken.at u).head.level)
         (Some (port_at g u 0).key)
         (λ t it i. inl (below_new g w woken holds same u 0 came (fresh.level ∙ sym fresh.coming) t it i))
