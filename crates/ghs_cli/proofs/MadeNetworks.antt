@@ -5,13 +5,13 @@ use Rattle.std.specs.Io.KnownBytes.{Appends}
 use Rattle.std.proofs.lemmas.List.{take_all}
 use Rattle.ghs_make.specs.Network.{IsNetwork, IsNetworkOf, IsRefusal}
 use Rattle.ghs_make.specs.Text.{text_of}
-use Rattle.ghs_make.specs.Written.{IsFront}
+use Rattle.ghs_report.specs.Written.{IsFront}
 use Rattle.ghs_make.specs.declared.fault.MakeFault.{MakeFault}
 use Rattle.ghs_make.specs.declared.fault.MakeFault.TheVariants as make
 use Rattle.ghs_make.specs.declared.network.Network.{Network}
 use Rattle.ghs_make.specs.declared.plan.Asked.{Asked}
-use Rattle.ghs_make.specs.declared.write.WriteFault.{WriteFault}
-use Rattle.ghs_make.specs.declared.write.WriteFault.TheVariants as write
+use Rattle.ghs_report.specs.declared.portions.WriteFault.{WriteFault}
+use Rattle.ghs_report.specs.declared.portions.WriteFault.TheVariants as write
 use Rattle.ghs_words.specs.declared.job.Task.{Task}
 use Rattle.ghs_words.specs.declared.job.Task.TheVariants as task
 use Rattle.ghs_cli.specs.Ending.{IsBoundedTask}

@@ -10,8 +10,8 @@ use Rattle.ghs_sched.specs.declared.fault.TraceFault.{TraceFault}
 use Rattle.ghs_sched.specs.declared.fault.TraceFault.TheVariants as trace
 use Rattle.ghs_make.specs.declared.fault.MakeFault.{MakeFault}
 use Rattle.ghs_make.specs.declared.fault.MakeFault.TheVariants as make
-use Rattle.ghs_make.specs.declared.write.WriteFault.{WriteFault}
-use Rattle.ghs_make.specs.declared.write.WriteFault.TheVariants as write
+use Rattle.ghs_report.specs.declared.portions.WriteFault.{WriteFault}
+use Rattle.ghs_report.specs.declared.portions.WriteFault.TheVariants as write
 use Rattle.ghs_steps.specs.declared.show.StepsFault.{StepsFault}
 use Rattle.ghs_steps.specs.declared.show.StepsFault.TheVariants as steps
 use Rattle.ghs_cli.specs.declared.fault.ServeFault.{ServeFault}

@@ -5,7 +5,7 @@ ghost use Rattle.std.specs.Prelude.{◌≡◌};
 use ghs_gr::fault::GrFault;
 use ghs_gr::text::TextFault;
 use ghs_make::fault::MakeFault;
-use ghs_make::write::WriteFault;
+use ghs_report::portions::WriteFault;
 use ghs_report::write_out::Partial;
 use ghs_sched::fault::{ReplayFault, TraceFault};
 use ghs_steps::show::StepsFault;

@@ -17,6 +17,7 @@ use Rattle.ghs_graph.specs.Spanning.{AreTold}
 use Rattle.ghs_graph.specs.Ports.{ports_of, port_number, no_port}
 use Rattle.ghs_graph.proofs.lemmas.Joining.{joined_nodes, joined_within}
 use Rattle.ghs_graph.proofs.lemmas.Ports.{OnLink, on_link}
+use Rattle.ghs_graph.proofs.lemmas.Members.{filter_has, in_filter}
 use Rattle.ghs_node.specs.declared.mark.Mark.TheVariants.{Branch}
 use Rattle.ghs_node.specs.NodeState.{NodeState, mark_at, degree}
 use Rattle.ghs_links.specs.Links.{LinksState}
@@ -33,7 +34,7 @@ use Rattle.ghs_core.specs.declared.halts.Halts.{Halts}
 use Rattle.ghs_core.specs.Kept.{IsKept}
 use Rattle.ghs_core.specs.Marked.{is_wanted, has_branch, HavePorts, AreBranches, IsFragment, IsRootOf, HaveRoot, TellFragments}
 use Rattle.ghs_core.proofs.Reading.{formed}
-use Rattle.ghs_core.proofs.Sides.{filtered, unfiltered, branch_so, among, branch_from, branch_to, joined_from, joined_to}
+use Rattle.ghs_core.proofs.Sides.{branch_so, among, branch_from, branch_to, joined_from, joined_to}
 
 or_true : (b : Bool) → (b || true) ≡ true
 or_true true = refl
@@ -73,7 +74,7 @@ module _ {g : Shape} {es : List Event} {nodes : List NodeState} {links : LinksSt
     where
       there : (k : Key) → Contains (filter (is_wanted One g.keys nodes) g.keys) k → IsBranchLink net w k
       there k h =
-          let u = unfiltered (is_wanted One g.keys nodes) g.keys k h in
+          let u = in_filter (is_wanted One g.keys nodes) g.keys k h in
           let r = among g kept.graph k u.0 in
           branch_from g kept.graph k u.0 w (⊎_elim (λ a. inl (marked k k.a r.0 (omega (arith, r.1, r.2)) a)) (λ b. inr (marked k k.b (omega (arith, r.0, r.1)) r.2 b)) (or_cases _ _ u.1))
 
@@ -81,12 +82,12 @@ module _ {g : Shape} {es : List Event} {nodes : List NodeState} {links : LinksSt
       back k l =
           let i = in_graph k l.0 l.1 l.2 l.3 in
           let r = among g kept.graph k i in
-          filtered (is_wanted One g.keys nodes) g.keys k i (⊎_elim (λ a. rw (marked_back k k.a r.0 (omega (arith, r.1, r.2)) a) refl) (λ b. rw (marked_back k k.b (omega (arith, r.0, r.1)) r.2 b) (or_true _)) (branch_to g kept.graph k i w l))
+          filter_has (is_wanted One g.keys nodes) g.keys k i (⊎_elim (λ a. rw (marked_back k k.a r.0 (omega (arith, r.1, r.2)) a) refl) (λ b. rw (marked_back k k.b (omega (arith, r.0, r.1)) r.2 b) (or_true _)) (branch_to g kept.graph k i w l))
 
   -- the joined links
   joined_there : (k : Key) → Contains (filter (is_wanted Both g.keys nodes) g.keys) k → IsJoinedLink net w k
   joined_there k h =
-      let u = unfiltered (is_wanted Both g.keys nodes) g.keys k h in
+      let u = in_filter (is_wanted Both g.keys nodes) g.keys k h in
       let r = among g kept.graph k u.0 in
       let b = and_parts _ _ u.1 in
       joined_from g kept.graph k u.0 w (marked k k.a r.0 (omega (arith, r.1, r.2)) b.0) (marked k k.b (omega (arith, r.0, r.1)) r.2 b.1)
@@ -96,7 +97,7 @@ module _ {g : Shape} {es : List Event} {nodes : List NodeState} {links : LinksSt
       let i = in_graph k l.0 l.1 l.2 l.3 in
       let r = among g kept.graph k i in
       let m = joined_to g kept.graph k i w l in
-      filtered (is_wanted Both g.keys nodes) g.keys k i (rw (marked_back k k.a r.0 (omega (arith, r.1, r.2)) m.0, marked_back k k.b (omega (arith, r.0, r.1)) r.2 m.1) refl)
+      filter_has (is_wanted Both g.keys nodes) g.keys k i (rw (marked_back k k.a r.0 (omega (arith, r.1, r.2)) m.0, marked_back k k.b (omega (arith, r.0, r.1)) r.2 m.1) refl)
 
   pub joined_rising : IsRising (filter (is_wanted Both g.keys nodes) g.keys)
   joined_rising = AllPairs-filter (λ j k. key_lt j k ≡ true) (is_wanted Both g.keys nodes) g.keys kept.graph.rising

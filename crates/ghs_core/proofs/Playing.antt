@@ -14,17 +14,16 @@ use Rattle.ghs_protocol.specs.declared.event.Event.{Event}
 use Rattle.ghs_protocol.specs.Network.{network_of, At}
 use Rattle.ghs_protocol.proofs.lemmas.Wired.{IsWired}
 use Rattle.ghs_protocol.specs.Net.{Net, is_lawful, happens}
-use Rattle.ghs_protocol.specs.Run.{IsAfter, net_after}
+use Rattle.ghs_protocol.specs.Run.{net_after}
 use Rattle.ghs_protocol.specs.Ledger.{in_all}
 use Rattle.ghs_protocol.specs.Nodes.{IsNodeOf}
 use Rattle.ghs_protocol.specs.Steps.{reacted, Happens}
 use Rattle.ghs_protocol.proofs.lemmas.Events.{happens_so}
-use Rattle.ghs_protocol.proofs.lemmas.Graphs.{graph_wired, graph_few}
+use Rattle.ghs_protocol.proofs.lemmas.Graphs.{graph_wired}
 use Rattle.ghs_protocol.proofs.lemmas.Lasting.{event_lasts}
 use Rattle.ghs_protocol.proofs.lemmas.Nodes.{ports_many}
-use Rattle.ghs_protocol.proofs.lemmas.Runs.{after_is_net, after_more, net_after_more}
+use Rattle.ghs_protocol.proofs.lemmas.Runs.{after_more, net_after_more}
 use Rattle.ghs_protocol.proofs.lemmas.Sends.{node_here, node_there}
-use Rattle.ghs_protocol.proofs.lemmas.WellFormed.{IsWellFormed, after_formed}
 use Rattle.ghs_core.specs.declared.counts.Counts.{Counts}
 use Rattle.ghs_core.specs.NetState.{NetState, event_node, work_at, halted_in, IsLawful, IsAnswer}
 use Rattle.ghs_core.specs.Dispatch.{arriving, Arrives, CountsSends, Disposes, WaitsAt}
@@ -32,6 +31,7 @@ use Rattle.ghs_core.specs.declared.halts.Halts.{Halts}
 use Rattle.ghs_core.specs.Halts.{AreHalts, with_node}
 use Rattle.ghs_core.specs.Kept.{IsKept, no_node}
 use Rattle.ghs_core.proofs.Few.{row_few}
+use Rattle.ghs_core.proofs.Reading.{run, formed}
 use Rattle.ghs_core.proofs.Stages.{Staged, staged, stage_happens, stage_low, stage_high, stage_nodes, stage_reaction, reaction_row}
 use Rattle.ghs_core.proofs.Showing.{waits_at, stage_shows, reacted_shows}
 use Rattle.ghs_core.proofs.Totals.{Disposed, disposed, disposed_room, disposed_rooms, fit_more, total_fits, sent_fits}
@@ -57,17 +57,11 @@ module _ {g : Shape} {es : List Event} {nodes : List NodeState} {links : LinksSt
   wired : IsWired (network_of g)
   wired = graph_wired g plays.kept.graph
 
-  run : IsAfter (network_of g) es (net_after g es)
-  run = after_is_net g es plays.kept.run
-
-  formed : IsWellFormed (network_of g) (net_after g es)
-  formed = after_formed (network_of g) wired (graph_few g plays.kept.graph) es (net_after g es) run
-
   stages : Staged (network_of g) (net_after g es) e d
   stages = staged (network_of g) (net_after g es) e d plays.lawful plays.answer
 
   is_node : IsNodeOf (network_of g) (event_node e) ((net_after g es).node (event_node e))
-  is_node = formed.nodes (event_node e)
+  is_node = (formed plays.kept).nodes (event_node e)
 
   the_reaction : IsReaction ((net_after g es).node (event_node e)) d
   the_reaction = stage_reaction stages.stage is_node
@@ -136,7 +130,7 @@ module _ {g : Shape} {es : List Event} {nodes : List NodeState} {links : LinksSt
       happened = stage_happens stages.stage
 
       is_next : net_after g (es ++ e ∷ []) ≡ next
-      is_next = net_after_more g es e (net_after g es) next run happened
+      is_next = net_after_more g es e (net_after g es) next (run plays.kept) happened
 
       here : halted_in next (event_node e) ≡ d.head.halted
       here = ap (λ (n : NodeState). n.head.halted) (node_here (network_of g) (event_node e) d stages.before)
@@ -151,7 +145,7 @@ module _ {g : Shape} {es : List Event} {nodes : List NodeState} {links : LinksSt
           (λ u _ _.
           with_node_is (halted_in (net_after g es)) (halted_in next) (event_node e) d.head.halted here
           (λ u ne. ap (λ (n : NodeState). n.head.halted) (there u ne))
-          (λ h. (event_lasts (network_of g) wired (net_after g es) next e formed happened (event_node e)).halted h)
+          (λ h. (event_lasts (network_of g) wired (net_after g es) next e (formed plays.kept) happened (event_node e)).halted h)
           u)
           (noted (halted_in (net_after g es)) plays.kept.halted)
 
@@ -170,7 +164,7 @@ module _ {g : Shape} {es : List Event} {nodes : List NodeState} {links : LinksSt
           IsKept g (es ++ e ∷ []) (set nodes (event_node e - 1) n) l' (record { sent = sent; consumed = c.consumed; requeued = c.requeued }) k
       kept_next k are x n is now = record {
         graph = plays.kept.graph;
-        run = (next, after_more (network_of g) es e (net_after g es) next run happened);
+        run = (next, after_more (network_of g) es e (net_after g es) next (run plays.kept) happened);
         queues = same_for g l l' a.ports disposed_for;
         shows =
             rw is_next (reacted_shows g plays.kept.graph (event_node e) low high d stages.before nodes n l l' c sent
@@ -207,7 +201,7 @@ module _ {g : Shape} {es : List Event} {nodes : List NodeState} {links : LinksSt
   pub played_event : happens (network_of g) (net_after g es) e ≡ Some (net_after g (es ++ e ∷ []))
   played_event =
       happens_so (stage_happens stages.stage) ∙
-      ap (λ (x : Net). Some x) (sym (net_after_more g es e (net_after g es) _ run (stage_happens stages.stage)))
+      ap (λ (x : Net). Some x) (sym (net_after_more g es e (net_after g es) _ (run plays.kept) (stage_happens stages.stage)))
 
 -- a reserve
 pub reserved : (g : Shape) (es : List Event) (nodes : List NodeState) (links l : LinksState) (counts : Counts) (halts : Halts) →

@@ -4,7 +4,7 @@ use Rattle.std.proofs.lemmas.Bool.{and_parts}
 use Rattle.std.proofs.lemmas.List.{get_or_default}
 use Rattle.ghs_graph.specs.Graph.{Shape}
 use Rattle.ghs_node.specs.NodeState.{NodeState, degree}
-use Rattle.ghs_links.specs.Links.{LinksState, HasQueue, IsFor, AllEmpty, total_of}
+use Rattle.ghs_links.specs.Links.{LinksState, IsFor, AllEmpty, total_of}
 use Rattle.ghs_protocol.specs.declared.event.Event.{Event}
 use Rattle.ghs_protocol.specs.declared.event.Event.TheVariants.{Take}
 use Rattle.ghs_protocol.specs.Network.{Network, network_of, At}
@@ -40,15 +40,12 @@ module _ {g : Shape} {es : List Event} {nodes : List NodeState} {links : LinksSt
   pub node_ports : (v : ℕ) (x : NodeState) → 1 ≤ v → v ≤ g.nodes → x ≡ get_or nodes (v - 1) x → degree x ≡ length ((network_of g).ports v)
   node_ports v x lo hi is = ap degree (node_found v x lo hi is) ∙ ports_many (formed.nodes v)
 
-  -- a port of the graph is a port of the node, and has a queue
+  -- a port of the graph is a port of the node
   pub port_below : (v p : ℕ) (x : NodeState) → At (network_of g) v p → x ≡ get_or nodes (v - 1) x → p < degree x
   port_below v p x at is =
       let lt = at.port in
       let many = node_ports v x at.some at.node is in
       omega (arith, lt, many)
-
-  pub port_queue : (v p : ℕ) → At (network_of g) v p → HasQueue links v p
-  port_queue v p at = (kept.queues.queues v p).1 (record { some = at.some; node = at.node; port = at.port })
 
   -- the ledger
   pub told : (queued : ℕ) → queued ≡ total_of links →

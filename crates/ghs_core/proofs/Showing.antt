@@ -23,16 +23,17 @@ use Rattle.ghs_core.specs.Kept.{Shows, no_node}
 use Rattle.ghs_core.proofs.Arriving.{machine_arrives}
 use Rattle.ghs_core.proofs.Stages.{Stage, Wakes, Takes}
 
+-- a port of the graph has a queue
+pub port_queue : {g : Shape} {links : LinksState} → IsFor g links → (v p : ℕ) → At (network_of g) v p → HasQueue links v p
+port_queue for v p at = (for.queues v p).1 (record { some = at.some; node = at.node; port = at.port })
+
 module _ (g : Shape) (w : Net) (nodes : List NodeState) (links : LinksState) (counts : Counts) (for : IsFor g links)
     (shows : Shows (network_of g) w nodes links counts) where
-  has_queue : (v p : ℕ) → At (network_of g) v p → HasQueue links v p
-  has_queue v p at = (for.queues v p).1 (record { some = at.some; node = at.node; port = at.port })
-
   -- where a message is taken one waits
   pub waits_at : {e : Event} {d : Delta} {x : Net} → Stage (network_of g) w e d x → WaitsAt e links
   waits_at (Wakes v d lo hi s r) = tt
   waits_at (Takes v p m ms d at q r) =
-      (has_queue v p at, let e : length (queue_at links v p) ≡ length (m ∷ ms) = ap length (shows.queue v p at ∙ q) in omega (arith, e))
+      (port_queue for v p at, let e : length (queue_at links v p) ≡ length (m ∷ ms) = ap length (shows.queue v p at ∙ q) in omega (arith, e))
 
   -- once a message has met its fate
   met_shows : (f : Fate) (v p : ℕ) (m : Message) (ms : List Message) (l : LinksState) (c : Counts) → At (network_of g) v p → Met f v p m ms links l →
@@ -43,7 +44,7 @@ module _ (g : Shape) (w : Net) (nodes : List NodeState) (links : LinksState) (co
     queue = λ u r there. ⊎_elim
         (λ (z : (u ≡ v) × (r ≡ p)). sym (put_at_hit w.queue v p u r (left_of f m ms) z.0 z.1 ∙ sym (rw (z.0, z.1) met.here)))
         (λ apart.
-        met.elsewhere u r (has_queue u r there) apart ∙ shows.queue u r there ∙ sym (put_at_miss w.queue v p u r (left_of f m ms) apart))
+        met.elsewhere u r (port_queue for u r there) apart ∙ shows.queue u r there ∙ sym (put_at_miss w.queue v p u r (left_of f m ms) apart))
         (one_place v p u r);
     sent = λ k lt. ap (λ (xs : List ℕ). get_or xs k 0) told.sent ∙ shows.sent k lt;
     consumed = λ k lt.

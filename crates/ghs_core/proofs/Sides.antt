@@ -1,7 +1,6 @@
 -- A link's two sides, and how they are marked.
-use Rattle.std.proofs.Common.{◌≡◌, ℕ, ◌<◌, ◌≤◌, ◌⊎◌, inl, inr, Bool, true, List, [], ◌∷◌, get_or, refl, sym, ◌∙◌, ap, ap₂, ⊎_elim, arith, ne_eqb, eq-eqb}
-use Rattle.std.specs.List.{Contains, filter}
-use Rattle.std.proofs.lemmas.Bool.{cases_Bool}
+use Rattle.std.proofs.Common.{◌≡◌, ℕ, ◌<◌, ◌≤◌, ◌⊎◌, inl, inr, true, get_or, refl, sym, ◌∙◌, ap, ap₂, ⊎_elim, arith, ne_eqb, eq-eqb}
+use Rattle.std.specs.List.{Contains}
 use Rattle.std.proofs.lemmas.List.{get_or_default}
 use Rattle.std.proofs.lemmas.Option.{slice_get_within, slice_get-get_or, get_or_from_slice_get}
 use Rattle.ghs_graph.specs.declared.key.Key.{Key}
@@ -10,7 +9,6 @@ use Rattle.ghs_graph.specs.Graph.{Shape, IsGraph}
 use Rattle.ghs_graph.specs.Laws.{HasTwoPorts}
 use Rattle.ghs_graph.specs.Ports.{ports_of, port_number, far_end, port_on, no_port}
 use Rattle.ghs_graph.specs.Key.{no_key}
-use Rattle.ghs_graph.proofs.lemmas.Members.{nothing_in, first_in, later_in, in_cases}
 use Rattle.ghs_graph.proofs.lemmas.Ports.{links_have_two_ports}
 use Rattle.ghs_node.specs.declared.mark.Mark.{Mark}
 use Rattle.ghs_node.specs.declared.mark.Mark.TheVariants.{Basic, Branch, Rejected}
@@ -19,26 +17,6 @@ use Rattle.ghs_node.specs.Words.{is_branch}
 use Rattle.ghs_protocol.specs.Network.{Network, network_of, At, port_at, far, far_port}
 use Rattle.ghs_protocol.specs.Net.{Net}
 use Rattle.ghs_protocol.specs.Marks.{IsBranchLink, IsJoined, IsJoinedLink}
-
--- a filtered list has what passes
-pub filtered : {X : Type 0} (p : X → Bool) (xs : List X) (x : X) → Contains xs x → p x ≡ true → Contains (filter p xs) x
-filtered p [] x h t = absurd (nothing_in x h)
-filtered p (y ∷ ys) x h t = ⊎_elim
-    (λ rest.
-    let there = filtered p ys x rest t in
-    ⊎_elim (λ (e : p y ≡ true). rw e (later_in y x (filter p ys) there)) (λ e. rw e there) (cases_Bool (p y)))
-    (λ (e : y ≡ x). rw (e, t) (first_in x (filter p ys)))
-    (in_cases y x ys h)
-
-pub unfiltered : {X : Type 0} (p : X → Bool) (xs : List X) (x : X) → Contains (filter p xs) x → Contains xs x × (p x ≡ true)
-unfiltered p [] x h = absurd (nothing_in x h)
-unfiltered p (y ∷ ys) x h = ⊎_elim
-    (λ (e : p y ≡ true). ⊎_elim
-    (λ rest. let u = unfiltered p ys x rest in (later_in y x ys u.0, u.1))
-    (λ (z : y ≡ x). rw z (first_in x ys, rw z at e))
-    (in_cases y x (filter p ys) (rw e at h)))
-    (λ e. let u = unfiltered p ys x (rw e at h) in (later_in y x ys u.0, u.1))
-    (cases_Bool (p y))
 
 pub branch_so : (m : Mark) → is_branch m ≡ true → m ≡ Branch
 branch_so Basic e = cc

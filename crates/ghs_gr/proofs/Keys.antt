@@ -37,7 +37,7 @@ key_eq-symm x y = grind (arith, nat_tests)
 key_eq-congr : (x y z : Triple) → key_eq x y ≡ true → key_eq x z ≡ key_eq y z
 key_eq-congr x y z e = grind (arith, nat_tests)
 
-same_parts : (a b c d e f : ℕ) → a ≡ d → b ≡ e → c ≡ f → (let t : Triple = (a, b, c) in t) ≡ (d, e, f)
+pub same_parts : (a b c d e f : ℕ) → a ≡ d → b ≡ e → c ≡ f → (let t : Triple = (a, b, c) in t) ≡ (d, e, f)
 same_parts a b c d e f p q r = cc
 
 key_eq-true : (x y : Triple) → key_eq x y ≡ true → x ≡ y

@@ -6,9 +6,9 @@ use Rattle.std.specs.Option.{option_or}
 use Rattle.std.proofs.lemmas.Bool.{and_parts, eq-eqb, false≢true, leb-true}
 use Rattle.std.proofs.lemmas.List.{take-append-drop}
 use Rattle.std.proofs.lemmas.List.Elements.{Contains-get_or}
+use Rattle.ghs_lines.specs.Judging.{AreSound}
 use Rattle.ghs_gr.specs.Arc.{key_of, link_in, link_of, links_in}
-use Rattle.ghs_gr.specs.Fault.{Sizes, ends_fault, is_node, line_fault, problem_in}
-use Rattle.ghs_gr.specs.Judgement.{AreSound}
+use Rattle.ghs_gr.specs.Fault.{Sizes, ends_fault, is_node, judge, line_fault, problem_in}
 use Rattle.ghs_gr.specs.Key.{AreSameKeys}
 use Rattle.ghs_gr.specs.RawGraph.{IsLinkOf, Triple}
 use Rattle.ghs_gr.specs.declared.arc.Arc.{Arc}
@@ -75,7 +75,7 @@ of_line (Some s) q (line.Arc (Some u) (Some v) (Some w)) key n m e sound is =
 
 -- links of lines without a fault are links of their graph
 pub links_among : (ls : List Line) (n : ℕ) (m : Option ℕ) (keys : List Triple)
-    → AreSound ls → problem_in ls ≡ Some (Some n, m) → AreSameKeys keys (links_in ls) → All (IsLinkOf n) keys
+    → AreSound judge ls → problem_in ls ≡ Some (Some n, m) → AreSameKeys keys (links_in ls) → All (IsLinkOf n) keys
 links_among ls n m keys sound problem are i d l =
     let key = get_or keys i d in
     let g = given ls key ((are key).0 (Contains-get_or keys i d l)) in

@@ -1,16 +1,14 @@
 -- How a pass goes on.
-use Rattle.std.proofs.Common.{◌≡◌, ◌+◌, ◌-◌, ◌<◌, ◌≤◌, ◌∙◌, ℕ, true, false, List, [], ◌∷◌, ◌++◌, length, take, get_or, append_assoc, refl, sym, ap, arith, subst, ⊎_elim, Option, Some, None, take_all}
+use Rattle.std.proofs.Common.{◌≡◌, ◌+◌, ◌-◌, ◌≤◌, ◌∙◌, ℕ, true, false, List, [], ◌∷◌, ◌++◌, length, append_assoc, refl, sym, ap, arith, subst, ⊎_elim, Option, Some, None}
 use Rattle.std.specs.Prelude.{Contains, MatchOption, is_some}
 use Rattle.std.specs.Option.{option_map, option_or}
-use Rattle.std.proofs.Math.ListN.{get_or-append, get_or-eq_default}
-use Rattle.std.proofs.Math.Seq.{get_or-append_seam}
-use Rattle.std.proofs.lemmas.Bool.{cases_lt}
-use Rattle.std.proofs.lemmas.List.{length-append, take-append-le}
+use Rattle.std.proofs.lemmas.List.{length-append}
 use Rattle.std.proofs.lemmas.List.Elements.{Contains-append_cases, Contains-append_left, Contains-append_right, filter-append, filter_map-append}
 use Rattle.std.proofs.lemmas.List.Sums.{count_by-le-length, length-filter}
+use Rattle.ghs_lines.specs.Judging.{IsFirstFault}
+use Rattle.ghs_lines.proofs.lemmas.Judging.{IsFirstFault-append, Passes, sound_more}
 use Rattle.ghs_gr.specs.Arc.{arc_count, is_arc_line, link_in, links_in}
-use Rattle.ghs_gr.specs.Fault.{Sizes, fault_at, line_fault, problem_in}
-use Rattle.ghs_gr.specs.Judgement.{AreSound, IsFirstFault}
+use Rattle.ghs_gr.specs.Fault.{Sizes, judge, line_fault, problem_in}
 use Rattle.ghs_gr.specs.Key.{AreSameKeys}
 use Rattle.ghs_gr.specs.Pass.{IsPass, IsSoundPass, Notes}
 use Rattle.ghs_gr.specs.Problem.{sizes_of}
@@ -32,45 +30,17 @@ problem_in-append (line.Arc u v w ∷ xs) ys = problem_in-append xs ys
 arc_count-append : (xs ys : List Line) → arc_count (xs ++ ys) ≡ arc_count xs + arc_count ys
 arc_count-append xs ys = ap length (filter-append is_arc_line xs ys) ∙ length-append _ _
 
--- the lines behind a line don't matter for its fault
-fault_at-append : (ls more : List Line) (k : ℕ) → k < length ls → fault_at (ls ++ more) k ≡ fault_at ls k
-fault_at-append ls more k l =
-    ap (λ xs. line_fault (problem_in xs) (get_or (ls ++ more) k line.Passed)) (take-append-le k ls more (omega arith))
-    ∙ ap (line_fault (problem_in (take k ls))) (get_or-append ls more line.Passed k l)
-
-fault_at-end : (ls : List Line) (l : Line) → fault_at (ls ++ l ∷ []) (length ls) ≡ line_fault (problem_in ls) l
-fault_at-end ls l =
-    ap (λ xs. line_fault (problem_in xs) (get_or (ls ++ l ∷ []) (length ls) line.Passed))
-    (take-append-le (length ls) ls (l ∷ []) (omega arith) ∙ take_all (length ls) ls (omega arith))
-    ∙ ap (line_fault (problem_in ls)) (get_or-append_seam ls l [] line.Passed)
-
--- behind the last line there is no fault
-pub no_line : (ls : List Line) (k : ℕ) → length ls ≤ k → fault_at ls k ≡ None
-no_line ls k l = ap (line_fault (problem_in (take k ls))) (get_or-eq_default ls line.Passed l)
-
-pub inside : (ls : List Line) (k : ℕ) (f : LineFault) → fault_at ls k ≡ Some f → k < length ls
-inside ls k f e = ⊎_elim
-    (λ below. below)
-    (λ behind. let same : Some f ≡ None = sym e ∙ no_line ls k behind in cc)
-    (cases_lt k (length ls))
-
--- lines behind the first faulty one change nothing
-IsFirstFault-append : (ls more : List Line) (n : ℕ) (f : LineFault) → IsFirstFault ls n f → IsFirstFault (ls ++ more) n f
-IsFirstFault-append ls more n f h =
-    let below : n - 1 < length ls = inside ls (n - 1) f h.here in
-    record {
-      counted = h.counted;
-      here = fault_at-append ls more (n - 1) below ∙ h.here;
-      before = λ k l. fault_at-append ls more k (omega arith) ∙ h.before k l;
-    }
+-- a line that says nothing has no fault
+pub passes : Passes judge
+passes said = refl
 
 -- what a pass with this fault finds
 abbrev pub PassWith : Option LineFault → List Line → Pass → Type 0
-PassWith fault ls p = MatchOption fault (IsSoundPass ls p) (λ f. IsFirstFault ls (p.lines + 1) f)
+PassWith fault ls p = MatchOption fault (IsSoundPass ls p) (λ f. IsFirstFault judge ls (p.lines + 1) f)
 
 stays_with : (o : Option LineFault) (ls more : List Line) (p : Pass) → is_some o ≡ true → PassWith o ls p → PassWith o (ls ++ more) p
 stays_with None ls more p e h = cc
-stays_with (Some f) ls more p e h = IsFirstFault-append ls more (p.lines + 1) f h
+stays_with (Some f) ls more p e h = IsFirstFault-append judge passes ls more (p.lines + 1) f h
 
 -- a pass that stopped for a fault has gone over the lines behind it too
 pub stopped : (ls gone more all : List Line) (p : Pass) → is_some p.fault ≡ true → all ≡ gone ++ more → IsPass (ls ++ gone) p → IsPass (ls ++ all) p
@@ -79,12 +49,6 @@ stopped ls gone more all p some e h =
     subst (λ xs. IsPass xs p) whole (stays_with p.fault (ls ++ gone) more p some h)
 
 -- one more line
-
-sound_both : (ls : List Line) (l : Line) → AreSound ls → line_fault (problem_in ls) l ≡ None → AreSound (ls ++ l ∷ [])
-sound_both ls l sound here = λ k b. ⊎_elim
-    (λ below. fault_at-append ls (l ∷ []) k below ∙ sound k below)
-    (λ end. let at : k ≡ length ls = omega (arith, length-append ls (l ∷ [])) in ap (fault_at (ls ++ l ∷ [])) at ∙ fault_at-end ls l ∙ here)
-    (cases_lt k (length ls))
 
 keys_more : (ls : List Line) (l : Line) (old new : List Triple)
     → AreSameKeys old (links_in ls) → AreSameKeys new (old ++ links_in (l ∷ [])) → AreSameKeys new (links_in (ls ++ l ∷ []))
@@ -100,10 +64,10 @@ keys_more ls l old new are adds key =
           (Contains-append_cases (links_in ls) (links_in (l ∷ [])) key (subst (λ ks. Contains ks key) all c))),
     )
 
-sound_more : (ls : List Line) (l : Line) (f : Option LineFault) (old new : Pass) → IsSoundPass ls old → line_fault (problem_in ls) l ≡ None
+pass_more : (ls : List Line) (l : Line) (f : Option LineFault) (old new : Pass) → IsSoundPass ls old → line_fault (problem_in ls) l ≡ None
     → Notes l (record old { fault = f }) new → new.lines ≡ old.lines → IsSoundPass (ls ++ l ∷ []) (record new { lines = new.lines + 1 })
-sound_more ls l f old new pass sound notes lines = record {
-  sound = sound_both ls l pass.sound sound;
+pass_more ls l f old new pass sound notes lines = record {
+  sound = sound_more judge ls l pass.sound sound;
   counted = omega (arith, pass.counted, lines, length-append ls (l ∷ []));
   problem = notes.problem ∙ ap (λ p. option_or p (problem_in (l ∷ []))) pass.problem ∙ sym (problem_in-append ls (l ∷ []));
   found = notes.found ∙ ap (λ n. n + arc_count (l ∷ [])) pass.found ∙ sym (arc_count-append ls (l ∷ []));
@@ -132,7 +96,7 @@ takes_sound ls l old new o none h says sound notes lines fault =
     let free : o ≡ None = none_of o sound in
     let here : line_fault (problem_in ls) l ≡ None = sym (known ls l old pass) ∙ sym says ∙ free in
     subst (λ q. PassWith q (ls ++ l ∷ []) (record new { lines = new.lines + 1 })) (sym (fault ∙ free))
-    (sound_more ls l o old new pass here notes lines)
+    (pass_more ls l o old new pass here notes lines)
 
 -- how many arc lines there are
 

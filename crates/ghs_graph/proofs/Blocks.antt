@@ -28,7 +28,7 @@ one_placed n ks cs i x y qs new among lt g ex ey placed e = (
         (cases_lt m i);
     at_b = λ m ml. ⊎_elim
         (λ (h : m < i). ap (λ (p : Places). p.b) (old m h) ∙ placed.at_b m h)
-        (λ ge. let z : m ≡ i = omega arith in rw z (ap (λ (p : Places). p.b) newest ∙ y_is ∙ g.each k.b in_range.2))
+        (λ ge. let z : m ≡ i = omega arith in rw z (ap (λ (p : Places). p.b) newest ∙ y_is ∙ g.each k.b (among_at n ks i no_key among lt).2))
         (cases_lt m i);
   }),
 )
@@ -42,17 +42,14 @@ one_placed n ks cs i x y qs new among lt g ex ey placed e = (
     none : Places
     none = record { a = 0; b = 0 }
 
-    in_range : (1 ≤ k.a) × (k.a < k.b) × (k.b ≤ n)
-    in_range = among_at n ks i no_key among lt
-
     a_le : k.a ≤ n
-    a_le = omega (arith, in_range.1, in_range.2)
+    a_le = let r = among_at n ks i no_key among lt in omega (arith, r.1, r.2)
 
     x_is : x ≡ get_or cs k.a 0
     x_is = ex ∙ get_or_default cs k.a x 0 (omega (arith, a_le, g.count))
 
     y_is : y ≡ get_or cs k.b 0
-    y_is = ey ∙ get_or_default cs k.b y 0 (omega (arith, in_range.2, g.count))
+    y_is = ey ∙ get_or_default cs k.b y 0 (let r = among_at n ks i no_key among lt in omega (arith, r.2, g.count))
 
     old : (m : ℕ) → m < i → get_or (qs ++ q ∷ []) m none ≡ get_or qs m none
     old m h = get_or_append_left qs (q ∷ []) none m (omega (arith, placed.count))

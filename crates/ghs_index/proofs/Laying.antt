@@ -6,15 +6,10 @@ use Rattle.ghs_graph.specs.Graph.{Shape, IsGraph}
 use Rattle.ghs_graph.specs.Ports.{ports_of}
 use Rattle.ghs_protocol.specs.declared.event.Event.{Event}
 use Rattle.ghs_protocol.specs.Network.{Network, network_of}
-use Rattle.ghs_protocol.specs.Ledger.{sum_below}
 use Rattle.ghs_protocol.proofs.lemmas.Graphs.{twice_links}
 use Rattle.ghs_index.specs.Places.{events_to, all_events}
 use Rattle.ghs_index.specs.Index.{AreBases}
-use Rattle.ghs_index.proofs.lemmas.Places.{length_next, longer}
-
-length_to : (g : Network) (n : ℕ) → length (events_to g n) ≡ n + sum_below n (λ i. length (g.ports (suc i)))
-length_to g zero = refl
-length_to g (suc n) = let l = length_next g n in let r = length_to g n in omega arith
+use Rattle.ghs_index.proofs.lemmas.Places.{length_next, length_to, longer}
 
 pub few_events : (g : Shape) → IsGraph g → length (all_events (network_of g)) ≤ 33554432
 few_events g graph =

@@ -7,11 +7,11 @@ use Rattle.std.proofs.lemmas.List.Concat.{flat_map-append}
 use Rattle.ghs_make.specs.Ends.{smaller_ends}
 use Rattle.ghs_make.specs.Network.{count_of_nodes, links_at, links_of_nodes}
 use Rattle.ghs_make.specs.Text.{arc_line, head_of, text_of}
-use Rattle.ghs_make.specs.Written.{IsOut, IsFront}
+use Rattle.ghs_report.specs.Written.{IsOut, IsFront}
 use Rattle.ghs_make.specs.declared.network.Network.{Network}
-use Rattle.ghs_make.specs.declared.write.WriteFault.{WriteFault}
+use Rattle.ghs_report.specs.declared.portions.WriteFault.{WriteFault}
 use Rattle.ghs_make.proofs.Counts.{links_more, links_none}
-use Rattle.ghs_make.proofs.Gone.{front_longer, out_more}
+use Rattle.ghs_report.proofs.lemmas.Gone.{front_longer, out_more}
 
 -- the text of so many nodes from 2 on
 abbrev pub text_to : Network → ℕ → List ℕ

@@ -1,30 +1,28 @@
 -- A network's lines are sound, and give its graph.
-use Rattle.std.proofs.Common.{◌≡◌, ◌≢◌, ◌∙◌, ℕ, zero, suc, ◌+◌, ◌-◌, ◌*◌, ◌^◌, ◌<◌, ◌≤◌, ◌⊎◌, ⊎_elim, Bool, true, false, cond, ◌&&◌, ◌==◌, List, [], ◌∷◌, ◌++◌, length, map, take, filter, get_or, min, max, refl, sym, ap, subst, arith, Option, Some, None, Result, Ok, Err}
-use Rattle.std.specs.Prelude.{Contains, nat_le, ◌↔◌, IfSome}
+use Rattle.std.proofs.Common.{◌≡◌, ◌∙◌, ℕ, zero, suc, ◌-◌, ◌^◌, ◌<◌, ◌≤◌, ◌⊎◌, ⊎_elim, true, false, ◌&&◌, ◌==◌, List, [], ◌∷◌, length, map, filter, get_or, min, max, refl, sym, ap, subst, arith, Option, Some, None, Result, Ok, Err}
+use Rattle.std.specs.Prelude.{nat_le}
 use Rattle.std.specs.List.{filter_map}
 use Rattle.std.proofs.lemmas.Bool.{and_from, cond-true, cond-false, le-leb, ne_eqb}
-use Rattle.ghs_gr.specs.Arc.{arc_count, arc_in, is_arc_line, link_in, link_of, links_in}
-use Rattle.ghs_gr.specs.Fault.{ends_fault, fault_at, is_node, line_fault, problem_in, sizes_fault, Sizes}
-use Rattle.ghs_gr.specs.Judgement.{AreSound, IsFirstFault, IsGraph, IsOneThing, LinesAre, TextIs}
+use Rattle.ghs_lines.specs.Judging.{IsFirstFault, fault_at}
+use Rattle.ghs_gr.specs.Arc.{arc_count, is_arc_line, link_in, links_in}
+use Rattle.ghs_gr.specs.Fault.{is_node, judge, line_fault, Sizes}
+use Rattle.ghs_gr.specs.Judgement.{IsOneThing, LinesAre, TextIs}
 use Rattle.ghs_gr.specs.Key.{AreSameKeys}
 use Rattle.ghs_gr.specs.Line.{meanings}
 use Rattle.ghs_gr.specs.RawGraph.{RawShape, Triple}
-use Rattle.ghs_gr.specs.declared.arc.Arc.{Arc as ArcOf}
 use Rattle.ghs_gr.specs.declared.fault.GrFault.{GrFault}
 use Rattle.ghs_gr.specs.declared.fault.GrFault.TheVariants as gr
 use Rattle.ghs_gr.specs.declared.fault.LineFault.{LineFault}
 use Rattle.ghs_gr.specs.declared.line.Line.{Line}
-use Rattle.ghs_gr.specs.declared.line.Line.TheVariants.{Passed, Problem, Arc}
+use Rattle.ghs_gr.specs.declared.line.Line.TheVariants.{Passed, Problem}
 use Rattle.ghs_gr.specs.declared.raw_graph.TheConstants.{ARC_LIMIT, NODE_LIMIT}
 use Rattle.ghs_gr.specs.declared.text.TheConstants.{TEXT_LIMIT}
 use Rattle.ghs_make.specs.Laws.{IsRead}
 use Rattle.ghs_make.specs.Network.{IsNetwork, links_of}
-use Rattle.ghs_make.specs.Plan.{IsPlan, TakesLinks}
 use Rattle.ghs_make.specs.Text.{text_of}
-use Rattle.ghs_make.specs.declared.kind.Kind.{Kind}
 use Rattle.ghs_make.specs.declared.network.Network.{Network}
 use Rattle.ghs_make.proofs.Each.{Each, each_map}
-use Rattle.ghs_make.proofs.Lines.{AreHeadNumbers, AreNumbers, AreShort, arc_of, length_text, said_by, text_says}
+use Rattle.ghs_make.proofs.Lines.{AreHeadNumbers, AreNumbers, AreShort, arc_of, length_text, text_says}
 use Rattle.ghs_make.proofs.Linking.{IsFine, all_fine, are_simple}
 
 -- the lines of a graph: a comment, its numbers, and its links
@@ -44,7 +42,7 @@ arc_sound n m (k ∷ ks) zero h =
     cond-true (is_node (Some n) k.1 && is_node (Some n) k.2) _ _ (and_from _ _ (node_is n k.1 low (omega arith)) (node_is n k.2 (omega arith) high))
 arc_sound n m (k ∷ ks) (suc i) h = arc_sound n m ks i h.1
 
-all_sound : (n m : ℕ) (ks : List Triple) (i : ℕ) → 1 ≤ n → n ≤ NODE_LIMIT → m ≤ ARC_LIMIT → Each (IsFine n) ks → fault_at (lines n m ks) i ≡ None
+all_sound : (n m : ℕ) (ks : List Triple) (i : ℕ) → 1 ≤ n → n ≤ NODE_LIMIT → m ≤ ARC_LIMIT → Each (IsFine n) ks → fault_at judge (lines n m ks) i ≡ None
 all_sound n m ks zero some few links h = refl
 all_sound n m ks (suc zero) some few links h =
     cond-true (nat_le 1 n && nat_le n NODE_LIMIT && nat_le m ARC_LIMIT) _ _
@@ -73,7 +71,7 @@ abbrev IsTheirs : ℕ → List Triple → RawShape → Type 0
 IsTheirs n ks g = (g.nodes ≡ n) × AreSameKeys g.keys ks
 
 no_fault : (n m : ℕ) (ks : List Triple) (number : ℕ) (f : LineFault) → 1 ≤ n → n ≤ NODE_LIMIT → m ≤ ARC_LIMIT → Each (IsFine n) ks
-    → IsFirstFault (lines n m ks) number f → ⊥
+    → IsFirstFault judge (lines n m ks) number f → ⊥
 no_fault n m ks number f some few links h first =
     let e : Some f ≡ None = sym first.here ∙ all_sound n m ks (number - 1) some few links h in cc
 

@@ -2,7 +2,6 @@ pub mod Counted
 pub mod Counts
 pub mod Each
 pub mod Going
-pub mod Gone
 pub mod Good
 pub mod Joining
 pub mod Judging

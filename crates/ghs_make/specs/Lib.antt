@@ -8,4 +8,3 @@ pub mod Plan
 pub mod Text
 pub mod Weights
 pub mod Word
-pub mod Written

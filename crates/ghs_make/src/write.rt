@@ -2,40 +2,17 @@
 ghost use Rattle.ghs_make.specs.Ends.{smaller_ends};
 ghost use Rattle.ghs_make.specs.Network.{IsNetwork, count_of_nodes, links_at};
 ghost use Rattle.ghs_make.specs.Text.{arc_line, text_of};
-ghost use Rattle.ghs_make.specs.Written.{IsFront, IsOut, is_write};
+ghost use Rattle.ghs_report.specs.Written.{IsFront, is_write};
 ghost use Rattle.std.specs.Io.KnownBytes.{Appends};
 ghost use Rattle.std.specs.List.{flat_map};
-ghost use Rattle.std.specs.Prelude.{IfErr, IfOk, List, MatchResult, OnOk, Option, [], false, ◌++◌, ◌+◌, ◌-◌, ◌<◌, ◌^◌, ◌≡◌, ◌≤◌, ℕ};
+ghost use Rattle.std.specs.Prelude.{IfErr, MatchResult, OnOk, [], false, ◌++◌, ◌-◌, ◌≡◌, ◌≤◌};
 
 use crate::ends::put_smaller_ends;
 use crate::network::Network;
 use crate::text::{put_head, put_links};
 use ghs_gr::device::Sink;
-use ghs_report::write_out::write_out;
+use ghs_report::portions::{WriteFault, send_off, send_portion};
 use std::alloc::{AllocError, Global};
-use thiserror::Error;
-
-/// How many bytes are gathered before they go out.
-pub const PORTION: usize = 65_536;
-
-/// Why a network's text isn't written to its end.
-#[derive(Clone, Copy, Debug, Drop, PartialEq, Eq, Error)]
-pub enum WriteFault {
-    #[error("out of memory")]
-    Memory,
-    #[error("output failed after {written} bytes")]
-    Write { written: u128 },
-}
-
-impl From<AllocError> for WriteFault {
-    ghost use Rattle.ghs_make.specs.declared.write.WriteFault.{WriteFault};
-
-    ghost from_gives = { λ _ e. e ≡ WriteFault.Memory };
-
-    fn from(_error: AllocError) -> WriteFault {
-        WriteFault::Memory
-    }
-}
 
 /// Writes a network's text. It goes out by portions, so that the memory that it takes doesn't grow with the text: it is that
 /// for the lines of one node. At a fault what is out is a front of the text.
@@ -94,43 +71,4 @@ fn put_node(
 {
     put_smaller_ends(&network.plan, node, ends)?;
     put_links(network, number, node, ends, text)
-}
-
-// What waits goes out, once it is a portion. Answers how many bytes are out by then.
-fn send_portion<W: Sink>(writer: &mut W, text: &mut Vec<u8>, gone: u128) -> Result<u128, WriteFault>
-    requires sound { W.has_failed writer.old ≡ false }
-    requires few { gone + 2 ^ 64 < 2 ^ 128 }
-    ensures out { IfOk result (λ now. (old : Option (List ℕ)) (all : List ℕ) → IsOut old (W.held writer.old) all gone text.old.items → IsOut old (W.held writer.new) all now text.new.items) }
-    ensures more { IfOk result (λ now. now ≤ gone + 2 ^ 64) }
-    ensures sound { OnOk result (W.has_failed writer.new ≡ false) }
-    ensures front { IfErr result (λ fault. (old : Option (List ℕ)) (all : List ℕ) → IsOut old (W.held writer.old) all gone text.old.items → IsFront old (W.held writer.new) all fault) }
-    ensures failed { IfErr result (λ fault. W.has_failed writer.new ≡ is_write fault) }
-{
-    if text.len() < PORTION {
-        return Ok(gone);
-    }
-    send_off(writer, text, gone)
-}
-
-// What waits goes out.
-fn send_off<W: Sink>(writer: &mut W, text: &mut Vec<u8>, gone: u128) -> Result<u128, WriteFault>
-    requires sound { W.has_failed writer.old ≡ false }
-    requires few { gone + 2 ^ 64 < 2 ^ 128 }
-    ensures out { IfOk result (λ now. (old : Option (List ℕ)) (all : List ℕ) → IsOut old (W.held writer.old) all gone text.old.items → IsOut old (W.held writer.new) all now text.new.items) }
-    ensures empty { OnOk result (text.new.items ≡ []) }
-    ensures more { IfOk result (λ now. now ≤ gone + 2 ^ 64) }
-    ensures sound { OnOk result (W.has_failed writer.new ≡ false) }
-    ensures front { IfErr result (λ fault. (old : Option (List ℕ)) (all : List ℕ) → IsOut old (W.held writer.old) all gone text.old.items → IsFront old (W.held writer.new) all fault) }
-    ensures failed { IfErr result (λ fault. W.has_failed writer.new ≡ is_write fault) }
-{
-    match write_out(writer, text.as_slice()) {
-        Ok(()) => {
-            let now = gone + text.len() as u128;
-            text.clear();
-            Ok(now)
-        }
-        Err(partial) => Err(WriteFault::Write {
-            written: gone + partial.written as u128,
-        }),
-    }
 }

@@ -1,5 +1,5 @@
 -- What a reaction does to the marks.
-use Rattle.std.proofs.Common.{◌≡◌, ◌≢◌, ℕ, ◌<◌, ◌≤◌, List, false, length, refl, sym, ap, ◌∙◌, cond, ⊎_elim, arith, Option, Some, None, get_or-set_same, get_or-set_other, length-set, set, get_or, ◌⊎◌, inl, inr}
+use Rattle.std.proofs.Common.{◌≡◌, ◌≢◌, ℕ, ◌<◌, ◌≤◌, List, length, refl, sym, ap, ◌∙◌, cond, ⊎_elim, arith, Option, Some, None, get_or-set_same, get_or-set_other, length-set, set, get_or, ◌⊎◌, inl, inr}
 use Rattle.std.specs.List.{position_or_len}
 use Rattle.std.proofs.lemmas.Bool.{cases_eq, cases_lt, lt-ltb, le-ltb}
 use Rattle.std.proofs.lemmas.List.Sums.{position_or_len_is}
@@ -17,6 +17,7 @@ use Rattle.ghs_node.specs.Reaction.{reject_at, root_mark, IsReaction}
 use Rattle.ghs_node.specs.Rows.{AwakeRow, Connect_absorbed, Test_rejected, Tests_cross, Reject_heard, Report_moves_root, Root_moves, Row, Wakes, Wakes_alone, Woken_merges, Woken_connect_waits, Woken_test_waits, Woken_accepts, Awake}
 use Rattle.ghs_node.specs.Laws.{MarkChange, Stays, To_branch, To_rejected}
 use Rattle.ghs_node.proofs.Inversion.{reaction_inverts}
+use Rattle.ghs_node.proofs.Tests.{is_basic_not}
 
 -- as many marks as before
 pub length-with_mark : (ms : List Mark) (o : Option (ℕ × Mark)) → length (with_mark ms o) ≡ length ms
@@ -96,20 +97,15 @@ reaction_port n d p m f r e = go d.mark e (row_marks n r.work d f (reaction_inve
     go _ x (To_branch q lt) = let z = ap (λ (y : ℕ × Mark). y.0) (same_Some _ _ x) in omega arith
     go _ x (To_rejected q lt b) = let z = ap (λ (y : ℕ × Mark). y.0) (same_Some _ _ x) in omega arith
 
-basic_no : (m : Mark) → m ≢ Basic → is_basic m ≡ false
-basic_no Basic ne = absurd (ne refl)
-basic_no Branch ne = refl
-basic_no Rejected ne = refl
-
 -- the least Basic port, found by looking at the ports in turn
 pub least_basic_at : (ms : List Mark) (i : ℕ) → i < length ms → get_or ms i Rejected ≡ Basic → ((k : ℕ) → k < i → get_or ms k Rejected ≢ Basic)
     → least_basic ms ≡ Some i
 least_basic_at ms i lt e below =
-    let at : position_or_len is_basic ms ≡ i = position_or_len_is is_basic ms i Rejected (omega arith) (λ k h. basic_no _ (below k h)) (λ h. rw e) in
+    let at : position_or_len is_basic ms ≡ i = position_or_len_is is_basic ms i Rejected (omega arith) (λ k h. is_basic_not _ (below k h)) (λ h. rw e) in
     rw (at, lt-ltb i (length ms) lt)
 
 pub least_basic_none : (ms : List Mark) (i : ℕ) → length ms ≤ i → ((k : ℕ) → k < i → get_or ms k Rejected ≢ Basic) → least_basic ms ≡ None
 least_basic_none ms i le below =
     let at : position_or_len is_basic ms ≡ length ms =
-    position_or_len_is is_basic ms (length ms) Rejected (omega arith) (λ k h. basic_no _ (below k (omega arith))) (λ h. absurd (omega arith)) in
+    position_or_len_is is_basic ms (length ms) Rejected (omega arith) (λ k h. is_basic_not _ (below k (omega arith))) (λ h. absurd (omega arith)) in
     rw (at, le-ltb (length ms) (length ms) (omega arith))

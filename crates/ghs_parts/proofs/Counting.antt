@@ -1,9 +1,7 @@
 -- What is counted while the events of a run are gone over.
-use Rattle.std.proofs.Common.{◌≡◌, ℕ, suc, ◌+◌, ◌<◌, ◌≤◌, true, Option, Some, List, [], ◌∷◌, ◌++◌, length, get_or, take, drop, map, max, refl, sym, ◌∙◌, ap, subst, append_assoc, append-nil, arith}
+use Rattle.std.proofs.Common.{◌≡◌, ℕ, ◌+◌, ◌<◌, Option, Some, List, [], ◌∷◌, ◌++◌, length, map, max, refl, sym, ◌∙◌, ap, append_assoc, append-nil, arith}
 use Rattle.std.specs.List.{sum_by}
 use Rattle.std.specs.Prelude.{unwrap_or}
-use Rattle.std.proofs.Math.Seq.{split_at}
-use Rattle.std.proofs.lemmas.Bool.{and_parts}
 use Rattle.ghs_graph.specs.Graph.{Shape}
 use Rattle.ghs_node.specs.declared.delta.Delta.{Delta}
 use Rattle.ghs_node.specs.declared.row_name.RowName.{RowName}
@@ -14,15 +12,15 @@ use Rattle.ghs_node.specs.Words.{Outgoing}
 use Rattle.ghs_protocol.specs.declared.event.Event.{Event}
 use Rattle.ghs_protocol.specs.declared.event.Event.TheVariants.{Wake, Take}
 use Rattle.ghs_protocol.specs.Ledger.{of_kind}
-use Rattle.ghs_protocol.specs.Net.{Net, effect, event_node, happens, is_lawful, opening}
-use Rattle.ghs_protocol.specs.Network.{Network, network_of}
+use Rattle.ghs_protocol.specs.Net.{Net, event_node, happens, opening}
+use Rattle.ghs_protocol.specs.Network.{network_of}
 use Rattle.ghs_protocol.specs.Run.{IsAfter, IsRun, net_after, run}
 use Rattle.ghs_protocol.specs.Steps.{Happens, Woke, Took}
 use Rattle.ghs_protocol.proofs.lemmas.Effects.{taken_sent}
-use Rattle.ghs_protocol.proofs.lemmas.Events.{at_of, happening, if_some, node_of}
-use Rattle.ghs_protocol.proofs.lemmas.Runs.{both_some, net_after_is, run_joins, run_splits}
+use Rattle.ghs_protocol.proofs.lemmas.Events.{happening}
+use Rattle.ghs_protocol.proofs.lemmas.Runs.{both_some, net_after_is, run_joins}
 use Rattle.ghs_protocol.proofs.lemmas.Sends.{messages, sent_now}
-use Rattle.ghs_core.specs.NetState.{IsLawful, NetState, delivery, work_at}
+use Rattle.ghs_core.specs.NetState.{delivery, work_at}
 use Rattle.ghs_steps.specs.declared.sent.Sent.{Sent}
 use Rattle.ghs_steps.specs.Told.{sent_by}
 use Rattle.ghs_parts.specs.Deeds.{Deed, deed, deeds, deeds_behind, sent_of}
@@ -97,27 +95,6 @@ all_sent g k es r =
     let sum = sent_behind g k [] es (opening n) r.0 refl r.1 in
     let same : r.0.sent k ≡ (net_after g es).sent k = ap (λ (w : Net). w.sent k) (sym (net_after_is g es r.0 r.1)) in
     omega (arith, sum, same)
-
--- the node of a lawful event is one of the network
-pub lawful_node : (g : Network) (w : Net) (e : Event) → is_lawful g w e ≡ true → (1 ≤ event_node e) × (event_node e ≤ g.count)
-lawful_node g w (Wake v) h = node_of g v (and_parts _ _ h).0
-lawful_node g w (Take v p) h = let at = at_of g v p (and_parts _ _ h).0 in (at.some, at.node)
-
--- each event of a run is lawful where it stands
-pub lawful_here : (s : NetState) (g : Shape) (es : List Event) (i : ℕ) (d : Event) → s.graph ≡ g → s.trace ≡ take i es → IsRun (network_of g) es →
-    i < length es → IsLawful s (get_or es i d)
-lawful_here s g es i d graph trace is_run lt = rw (graph, trace) here
-  where
-    here : is_lawful (network_of g) (net_after g (take i es)) (get_or es i d) ≡ true
-    here =
-        let e = get_or es i d in
-        let cut : es ≡ take i es ++ e ∷ drop (suc i) es = split_at es i d lt in
-        let whole : run (network_of g) (take i es ++ e ∷ drop (suc i) es) (opening (network_of g)) ≡ Some is_run.0 =
-        subst (λ fs. run (network_of g) fs (opening (network_of g)) ≡ Some is_run.0) cut is_run.1 in
-        run_splits (network_of g) (take i es) (e ∷ drop (suc i) es) (opening (network_of g)) is_run.0 whole (λ x front rest.
-        both_some (happens (network_of g) x e) (λ y. run (network_of g) (drop (suc i) es) y) is_run.0 rest (λ y now _.
-        subst (λ w. is_lawful (network_of g) w e ≡ true) (sym (net_after_is g (take i es) x front))
-        (if_some (is_lawful (network_of g) x e) (effect (network_of g) x e) y now (λ lawful _. lawful))))
 
 -- the greatest level of some, and of the next
 pub greatest_more : (ds : List Deed) (d : Deed) → greatest_level (ds ++ d ∷ []) ≡ max (greatest_level ds) d.level

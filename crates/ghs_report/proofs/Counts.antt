@@ -1,18 +1,11 @@
 -- Counts of messages that are the same for each of the seven kinds.
 use Rattle.std.proofs.Common.{◌≡◌, ℕ, ◌<◌, arith, refl}
 use Rattle.ghs_graph.specs.Bound.{IsBound}
-use Rattle.ghs_protocol.specs.Ledger.{in_all}
 use Rattle.ghs_report.specs.NetText.{messages_line}
 
 -- the same line
 pub same_line : (f g : ℕ → ℕ) → ((k : ℕ) → k < 7 → f k ≡ g k) → messages_line f ≡ messages_line g
 same_line f g same =
-    rw (same 0 (omega arith)) (rw (same 1 (omega arith)) (rw (same 2 (omega arith))
-    (rw (same 3 (omega arith)) (rw (same 4 (omega arith)) (rw (same 5 (omega arith)) (rw (same 6 (omega arith)) refl))))))
-
--- the same sum
-pub same_total : (f g : ℕ → ℕ) → ((k : ℕ) → k < 7 → f k ≡ g k) → in_all f ≡ in_all g
-same_total f g same =
     rw (same 0 (omega arith)) (rw (same 1 (omega arith)) (rw (same 2 (omega arith))
     (rw (same 3 (omega arith)) (rw (same 4 (omega arith)) (rw (same 5 (omega arith)) (rw (same 6 (omega arith)) refl))))))
 

@@ -2,3 +2,4 @@
 pub mod NetText
 pub mod TreeText
 pub mod Writing
+pub mod Written

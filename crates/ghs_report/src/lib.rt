@@ -2,6 +2,7 @@
 #![tactic(auto)]
 
 pub mod net_text;
+pub mod portions;
 pub mod run_text;
 pub mod tree_text;
 pub mod write_out;

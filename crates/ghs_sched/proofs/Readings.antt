@@ -1,15 +1,15 @@
 -- How lines are read one after the other, and what they are in the end.
-use Rattle.std.proofs.Common.{◌≡◌, ◌+◌, ◌-◌, ◌<◌, ◌≤◌, ◌⊎◌, ◌∙◌, ◌==◌, ℕ, zero, suc, Bool, true, false, List, [], ◌∷◌, ◌++◌, length, take, get_or, refl, sym, ap, arith, subst, inl, inr, ⊎_elim, Option, Some, None, Result, Ok, Err, cond, take_all}
-use Rattle.std.specs.Option.{option_map, option_or}
-use Rattle.std.proofs.Math.ListN.{get_or-append, get_or-eq_default}
-use Rattle.std.proofs.Math.Seq.{get_or-append_seam}
-use Rattle.std.proofs.lemmas.Bool.{cases_lt, cases_order, eqb-false, eqb-true}
-use Rattle.std.proofs.lemmas.List.{length-append, take-append-le}
+use Rattle.std.proofs.Common.{◌≡◌, ◌+◌, ◌-◌, ◌⊎◌, ◌∙◌, ◌==◌, ℕ, Bool, true, false, List, [], ◌∷◌, ◌++◌, length, refl, sym, ap, arith, subst, inl, inr, ⊎_elim, Option, Some, None, Result, Ok, Err, cond}
+use Rattle.std.specs.Option.{option_or}
+use Rattle.std.proofs.lemmas.Bool.{eqb-false, eqb-true}
+use Rattle.std.proofs.lemmas.List.{length-append}
 use Rattle.std.proofs.lemmas.List.Elements.{filter_map-append}
+use Rattle.ghs_lines.specs.Judging.{AreSound, IsFirstFault}
+use Rattle.ghs_lines.proofs.lemmas.Judging.{FirstBelow, Passes, first_below, first_fault, not_sound, or_fault, same_fault, sound_more}
 use Rattle.ghs_protocol.specs.declared.event.Event.{Event}
 use Rattle.ghs_sched.specs.Laws.{IsOneReading}
 use Rattle.ghs_sched.specs.Line.{meanings}
-use Rattle.ghs_sched.specs.Reading.{AreSound, HaveFault, IsFirstFault, IsMiscount, IsTrace, LacksHead, event_in, events_in, fault_at, head_in, line_fault, of_line}
+use Rattle.ghs_sched.specs.Reading.{HaveFault, IsMiscount, IsTrace, LacksHead, event_in, events_in, head_in, judge, line_fault, of_line}
 use Rattle.ghs_sched.specs.Reads.{HasRead}
 use Rattle.ghs_sched.specs.declared.fault.LineFault.{LineFault}
 use Rattle.ghs_sched.specs.declared.fault.LineFault.TheVariants.{BadLine, Number}
@@ -18,7 +18,7 @@ use Rattle.ghs_sched.specs.declared.fault.TraceFault.TheVariants as trace
 use Rattle.ghs_sched.specs.declared.line.Line.{Line}
 use Rattle.ghs_sched.specs.declared.line.Line.TheVariants as line
 use Rattle.ghs_sched.specs.declared.reading.Reading.{Reading}
-use Rattle.ghs_sched.proofs.Slow.{first_fault, or_fault, slow_text, sound_lines}
+use Rattle.ghs_sched.proofs.Slow.{slow_text, sound_lines}
 
 -- lines, and more lines behind them
 
@@ -31,40 +31,16 @@ head_in-append (line.Head (Some count) ∷ xs) ys = refl
 head_in-append (line.Wake v ∷ xs) ys = head_in-append xs ys
 head_in-append (line.Take v port ∷ xs) ys = head_in-append xs ys
 
--- the lines behind a line don't matter for its fault
-fault_at-append : (ls more : List Line) (k : ℕ) → k < length ls → fault_at (ls ++ more) k ≡ fault_at ls k
-fault_at-append ls more k l =
-    ap (λ xs. line_fault (head_in xs) (get_or (ls ++ more) k line.Passed)) (take-append-le k ls more (omega arith))
-    ∙ ap (line_fault (head_in (take k ls))) (get_or-append ls more line.Passed k l)
-
-fault_at-end : (ls : List Line) (l : Line) → fault_at (ls ++ l ∷ []) (length ls) ≡ line_fault (head_in ls) l
-fault_at-end ls l =
-    ap (λ xs. line_fault (head_in xs) (get_or (ls ++ l ∷ []) (length ls) line.Passed))
-    (take-append-le (length ls) ls (l ∷ []) (omega arith) ∙ take_all (length ls) ls (omega arith))
-    ∙ ap (line_fault (head_in ls)) (get_or-append_seam ls l [] line.Passed)
-
--- behind the last line there is no fault
-no_line : (ls : List Line) (k : ℕ) → length ls ≤ k → fault_at ls k ≡ None
-no_line ls k l = ap (line_fault (head_in (take k ls))) (get_or-eq_default ls line.Passed l)
-
-inside : (ls : List Line) (k : ℕ) (f : LineFault) → fault_at ls k ≡ Some f → k < length ls
-inside ls k f e = ⊎_elim
-    (λ below. below)
-    (λ behind. let same : Some f ≡ None = sym e ∙ no_line ls k behind in cc)
-    (cases_lt k (length ls))
-
-sound_both : (ls : List Line) (l : Line) → AreSound ls → line_fault (head_in ls) l ≡ None → AreSound (ls ++ l ∷ [])
-sound_both ls l sound here = λ k b. ⊎_elim
-    (λ below. fault_at-append ls (l ∷ []) k below ∙ sound k below)
-    (λ end. let at : k ≡ length ls = omega (arith, length-append ls (l ∷ [])) in ap (fault_at (ls ++ l ∷ [])) at ∙ fault_at-end ls l ∙ here)
-    (cases_lt k (length ls))
+-- a line that says nothing has no fault
+passes : Passes judge
+passes said = refl
 
 -- one more line without a fault
 pub reads_more : (ls : List Line) (l : Line) (old new : Reading) → HasRead ls old → line_fault old.said l ≡ None
     → new.said ≡ option_or old.said (head_in (l ∷ [])) → new.events.items ≡ old.events.items ++ events_in (l ∷ []) → new.lines ≡ old.lines + 1
     → HasRead (ls ++ l ∷ []) new
 reads_more ls l old new read sound said events lines = record {
-  sound = sound_both ls l read.sound (ap (λ head. line_fault head l) (sym read.said) ∙ sound);
+  sound = sound_more judge ls l read.sound (ap (λ head. line_fault head l) (sym read.said) ∙ sound);
   counted = omega (arith, read.counted, lines, length-append ls (l ∷ []));
   said = said ∙ ap (λ head. option_or head (head_in (l ∷ []))) read.said ∙ sym (head_in-append ls (l ∷ []));
   events = events ∙ ap (λ es. es ++ events_in (l ∷ [])) read.events ∙ sym (filter_map-append event_in ls (l ∷ []));
@@ -72,51 +48,32 @@ reads_more ls l old new read sound said events lines = record {
 
 -- each text is something: what the slow way finds
 
-HaveFault-of_line : (ls : List Line) (f : LineFault) (n : ℕ) → IsFirstFault ls n f → HaveFault ls (of_line f n)
+HaveFault-of_line : (ls : List Line) (f : LineFault) (n : ℕ) → IsFirstFault judge ls n f → HaveFault ls (of_line f n)
 HaveFault-of_line ls BadLine n h = inl h
 HaveFault-of_line ls Number n h = h
-
--- none of the first k lines has a fault, or this is the first
-abbrev FirstBelow : List Line → ℕ → Option TraceFault → Type 0
-FirstBelow ls k None = (j : ℕ) → j < k → fault_at ls j ≡ None
-FirstBelow ls k (Some g) = (n : ℕ) × (f : LineFault) × IsFirstFault ls n f × (g ≡ of_line f n)
-
-one_more : (ls : List Line) (k : ℕ) (a : Option TraceFault) (o : Option LineFault) →
-    FirstBelow ls k a →
-    fault_at ls k ≡ o →
-    FirstBelow ls (suc k) (option_or a (option_map (λ f. of_line f (suc k)) o))
-one_more ls k None None h e = λ j l. ⊎_elim (λ low. h j low) (λ high. let same : j ≡ k = omega arith in ap (fault_at ls) same ∙ e) (cases_lt j k)
-one_more ls k None (Some f) h e =
-    let at : suc k - 1 ≡ k = omega arith in
-    (suc k, f, record { counted = omega arith; here = ap (fault_at ls) at ∙ e; before = λ j l. h j (omega arith) }, refl)
-one_more ls k (Some g) o h e = h
-
-first_below : (ls : List Line) (k : ℕ) → FirstBelow ls k (first_fault ls k)
-first_below ls zero = λ j l. absurd (omega arith)
-first_below ls (suc k) = one_more ls k (first_fault ls k) (fault_at ls k) (first_below ls k) refl
 
 -- what lines are: the text of a trace, or this fault
 abbrev LinesAre : List Line → Result (List Event) TraceFault → Type 0
 LinesAre ls (Ok events) = IsTrace ls events
 LinesAre ls (Err fault) = HaveFault ls fault
 
-counted : (ls : List Line) (said : ℕ) (b : Bool) → AreSound ls → head_in ls ≡ Some said → b ≡ (said == length (events_in ls))
+counted : (ls : List Line) (said : ℕ) (b : Bool) → AreSound judge ls → head_in ls ≡ Some said → b ≡ (said == length (events_in ls))
     → LinesAre ls (cond b (Ok (events_in ls)) (Err (trace.Count said (length (events_in ls)))))
 counted ls said true sound head e =
     record { sound = sound; head = head ∙ ap (λ n. Some n) (eqb-true said (length (events_in ls)) (sym e)); all = refl }
 counted ls said false sound head e = record { sound = sound; head = head; counted = refl; other = eqb-false said (length (events_in ls)) (sym e) }
 
-found_sound : (ls : List Line) (head : Option ℕ) → AreSound ls → head_in ls ≡ head → LinesAre ls (sound_lines ls head)
+found_sound : (ls : List Line) (head : Option ℕ) → AreSound judge ls → head_in ls ≡ head → LinesAre ls (sound_lines ls head)
 found_sound ls None sound e = inr (record { sound = sound; none = e }, refl)
 found_sound ls (Some said) sound e = counted ls said (said == length (events_in ls)) sound e refl
 
-found_at : (ls : List Line) (o : Option TraceFault) → FirstBelow ls (length ls) o → LinesAre ls (or_fault o (sound_lines ls (head_in ls)))
+found_at : (ls : List Line) (o : Option TraceFault) → FirstBelow judge of_line ls (length ls) o → LinesAre ls (or_fault o (sound_lines ls (head_in ls)))
 found_at ls None h = found_sound ls (head_in ls) h refl
 found_at ls (Some g) h = subst (HaveFault ls) (sym h.3) (HaveFault-of_line ls h.1 h.0 h.2)
 
 -- the slow way finds what a text is
 pub found : (text : List ℕ) → LinesAre (meanings text) (slow_text text)
-found text = let ls = meanings text in found_at ls (first_fault ls (length ls)) (first_below ls (length ls))
+found text = let ls = meanings text in found_at ls (first_fault judge of_line ls (length ls)) (first_below judge of_line ls (length ls))
 
 abbrev AreSome : List Line → Type 0
 AreSome ls = ((events : List Event) × IsTrace ls events) ⊎ ((fault : TraceFault) × HaveFault ls fault)
@@ -128,7 +85,7 @@ are_some ls (Err fault) h = inr (fault, h)
 -- no text is two things
 
 data Kind (ls : List Line) (fault : TraceFault) : Type 0 where
-  faulty : (n : ℕ) (f : LineFault) → IsFirstFault ls n f → fault ≡ of_line f n → Kind ls fault
+  faulty : (n : ℕ) (f : LineFault) → IsFirstFault judge ls n f → fault ≡ of_line f n → Kind ls fault
   lacking : LacksHead ls → fault ≡ trace.BadLine 1 → Kind ls fault
   miscounted : (said found : ℕ) → IsMiscount ls said found → fault ≡ trace.Count said found → Kind ls fault
 
@@ -140,27 +97,14 @@ kind_of ls (trace.Number n) h = faulty n Number h refl
 kind_of ls (trace.Count said found) h = miscounted said found h refl
 kind_of ls trace.Memory h = absurd h
 
-not_sound : (ls : List Line) (n : ℕ) (f : LineFault) → IsFirstFault ls n f → AreSound ls → ⊥
-not_sound ls n f h sound = let e : Some f ≡ None = sym h.here ∙ sound (n - 1) (inside ls (n - 1) f h.here) in cc
-
-same_fault : (ls : List Line) (n m : ℕ) (f g : LineFault) → IsFirstFault ls n f → IsFirstFault ls m g → of_line f n ≡ of_line g m
-same_fault ls n m f g p q = ⊎_elim
-    (λ e. let same : Some f ≡ Some g = sym p.here ∙ ap (λ j. fault_at ls (j - 1)) e ∙ q.here in
-    let fault : f ≡ g = cc in
-    ap (of_line f) e ∙ ap (λ h. of_line h m) fault)
-    (λ apart. ⊎_elim
-    (λ l. let e : Some f ≡ None = sym p.here ∙ q.before (n - 1) (omega (arith, p.counted)) in cc)
-    (λ l. let e : Some g ≡ None = sym q.here ∙ p.before (m - 1) (omega (arith, q.counted)) in cc) apart)
-    (cases_order n m)
-
 same_kind : (ls : List Line) (a b : TraceFault) → Kind ls a → Kind ls b → a ≡ b
-same_kind ls a b (faulty n f h e) (faulty m g i d) = e ∙ same_fault ls n m f g h i ∙ sym d
-same_kind ls a b (faulty n f h e) (lacking i d) = absurd (not_sound ls n f h i.sound)
-same_kind ls a b (faulty n f h e) (miscounted said found i d) = absurd (not_sound ls n f h i.sound)
-same_kind ls a b (lacking h e) (faulty m g i d) = absurd (not_sound ls m g i h.sound)
+same_kind ls a b (faulty n f h e) (faulty m g i d) = e ∙ same_fault judge of_line ls n m f g h i ∙ sym d
+same_kind ls a b (faulty n f h e) (lacking i d) = absurd (not_sound judge passes ls n f h i.sound)
+same_kind ls a b (faulty n f h e) (miscounted said found i d) = absurd (not_sound judge passes ls n f h i.sound)
+same_kind ls a b (lacking h e) (faulty m g i d) = absurd (not_sound judge passes ls m g i h.sound)
 same_kind ls a b (lacking h e) (lacking i d) = e ∙ sym d
 same_kind ls a b (lacking h e) (miscounted said found i d) = let x : None ≡ Some said = sym h.none ∙ i.head in cc
-same_kind ls a b (miscounted said found h e) (faulty m g i d) = absurd (not_sound ls m g i h.sound)
+same_kind ls a b (miscounted said found h e) (faulty m g i d) = absurd (not_sound judge passes ls m g i h.sound)
 same_kind ls a b (miscounted said found h e) (lacking i d) = let x : None ≡ Some said = sym i.none ∙ h.head in cc
 same_kind ls a b (miscounted said found h e) (miscounted other number i d) =
     let x : Some said ≡ Some other = sym h.head ∙ i.head in
@@ -168,7 +112,7 @@ same_kind ls a b (miscounted said found h e) (miscounted other number i d) =
     e ∙ ap (λ n. trace.Count n found) same ∙ ap (λ n. trace.Count other n) (h.counted ∙ sym i.counted) ∙ sym d
 
 not_faulty : (ls : List Line) (events : List Event) (fault : TraceFault) → IsTrace ls events → Kind ls fault → ⊥
-not_faulty ls events fault h (faulty m g i d) = not_sound ls m g i h.sound
+not_faulty ls events fault h (faulty m g i d) = not_sound judge passes ls m g i h.sound
 not_faulty ls events fault h (lacking i d) = let x : None ≡ Some (length events) = sym i.none ∙ h.head in cc
 not_faulty ls events fault h (miscounted said found i d) =
     let x : Some said ≡ Some (length events) = sym i.head ∙ h.head in

@@ -2,12 +2,13 @@
 use Rattle.std.proofs.Common.{◌≡◌, ◌<◌, ◌≤◌, ◌^◌, ◌∙◌, ℕ, zero, suc, true, Some, None, List, [], ◌∷◌, ◌++◌, length, map, refl, sym, ap, ap₂, arith, append_assoc, codes, decimal}
 use Rattle.std.specs.List.{All, flat_map}
 use Rattle.std.proofs.lemmas.Fmt.{decimal_nonempty}
+use Rattle.ghs_lines.specs.Judging.{AreSound, fault_at}
 use Rattle.ghs_lines.proofs.lemmas.Words.{decimal_plain, fields_of-last, fields_of-word, has_no_feed, has_no_feed-last, has_no_feed-word, lines_of-line, number_of-decimal}
 use Rattle.ghs_protocol.specs.declared.event.Event.{Event}
 use Rattle.ghs_protocol.specs.declared.event.Event.TheVariants as event
 use Rattle.ghs_sched.specs.Laws.{IsNarrow, ReadsBack}
 use Rattle.ghs_sched.specs.Line.{meaning, meaning_of, meanings}
-use Rattle.ghs_sched.specs.Reading.{AreSound, HasEvents, IsTrace, events_in, fault_at}
+use Rattle.ghs_sched.specs.Reading.{HasEvents, IsTrace, events_in, judge}
 use Rattle.ghs_sched.specs.Text.{event_text, head_text, trace_text}
 use Rattle.ghs_sched.specs.declared.line.Line.{Line}
 use Rattle.ghs_sched.specs.declared.line.Line.TheVariants.{Head, Wake, Take}
@@ -78,13 +79,13 @@ events_in-lines (event.Wake v ∷ es) = ap (λ xs. event.Wake v ∷ xs) (events_
 events_in-lines (event.Take v port ∷ es) = ap (λ xs. event.Take v port ∷ xs) (events_in-lines es)
 
 -- behind the head no line of an event has a fault
-sound_events : (said : ℕ) (es : List Event) (k : ℕ) → k < length (map line_of es) → fault_at (Head (Some said) ∷ map line_of es) (suc k) ≡ None
+sound_events : (said : ℕ) (es : List Event) (k : ℕ) → k < length (map line_of es) → fault_at judge (Head (Some said) ∷ map line_of es) (suc k) ≡ None
 sound_events said [] k l = absurd (omega arith)
 sound_events said (event.Wake v ∷ es) zero l = refl
 sound_events said (event.Take v port ∷ es) zero l = refl
 sound_events said (e ∷ es) (suc k) l = sound_events said es k (omega arith)
 
-sound_all : (said : ℕ) (es : List Event) → AreSound (Head (Some said) ∷ map line_of es)
+sound_all : (said : ℕ) (es : List Event) → AreSound judge (Head (Some said) ∷ map line_of es)
 sound_all said es zero l = refl
 sound_all said es (suc k) l = sound_events said es k (omega arith)
 

@@ -1,6 +1,7 @@
 -- What a text is: the text of a trace, or no such text, for one fault.
-use Rattle.std.specs.Prelude.{ℕ, ◌-◌, ◌<◌, ◌≤◌, ◌≡◌, ◌≢◌, ◌⊎◌, length, take, slice_index_or, List, [], ◌∷◌, Option, Some, None}
+use Rattle.std.specs.Prelude.{ℕ, ◌≡◌, ◌≢◌, ◌⊎◌, length, List, [], ◌∷◌, Option, Some, None}
 use Rattle.std.specs.List.{filter_map}
+use Rattle.ghs_lines.specs.Judging.{AreSound, IsFirstFault, Judge}
 use Rattle.ghs_protocol.specs.declared.event.Event.{Event}
 use Rattle.ghs_protocol.specs.declared.event.Event.TheVariants as event
 use Rattle.ghs_sched.specs.Line.{meanings}
@@ -52,34 +53,24 @@ line_fault (Some said) (Head count) = Some BadLine
 line_fault (Some said) (Wake v) = number_fault (event_in (Wake v))
 line_fault (Some said) (Take v port) = number_fault (event_in (Take v port))
 
--- the first fault of line k, counted from 0
-abbrev pub fault_at : List Line → ℕ → Option LineFault
-fault_at lines k = line_fault (head_in (take k lines)) (slice_index_or lines k Passed)
-
--- no line has a fault
-abbrev pub AreSound : List Line → Type 0
-AreSound lines = (k : ℕ) → k < length lines → fault_at lines k ≡ None
-
--- the first faulty line has this number, counted from 1, and this is its first fault
-pub record IsFirstFault (lines : List Line) (number : ℕ) (fault : LineFault) : Type 0 where
-  pub counted : 1 ≤ number
-  pub here : fault_at lines (number - 1) ≡ Some fault
-  pub before : (k : ℕ) → k < number - 1 → fault_at lines k ≡ None
+-- how the lines of a trace's text are judged
+abbrev pub judge : Judge Line (Option ℕ) LineFault
+judge = record { said_in = head_in; line_fault = line_fault; passed = Passed }
 
 -- sound lines whose head says how many events there are
 pub record IsTrace (lines : List Line) (events : List Event) : Type 0 where
-  pub sound : AreSound lines
+  pub sound : AreSound judge lines
   pub head : head_in lines ≡ Some (length events)
   pub all : events ≡ events_in lines
 
 -- sound lines without a head: none of them has fields
 pub record LacksHead (lines : List Line) : Type 0 where
-  pub sound : AreSound lines
+  pub sound : AreSound judge lines
   pub none : head_in lines ≡ None
 
 -- sound lines whose head says another number of events than there are
 pub record IsMiscount (lines : List Line) (said found : ℕ) : Type 0 where
-  pub sound : AreSound lines
+  pub sound : AreSound judge lines
   pub head : head_in lines ≡ Some said
   pub counted : found ≡ length (events_in lines)
   pub other : said ≢ found
@@ -90,8 +81,8 @@ HasEvents text events = IsTrace (meanings text) events
 
 -- the lines have no list of events, for this fault
 abbrev pub HaveFault : List Line → TraceFault → Type 0
-HaveFault lines (trace.BadLine number) = IsFirstFault lines number BadLine ⊎ (LacksHead lines × (number ≡ 1))
-HaveFault lines (trace.Number number) = IsFirstFault lines number Number
+HaveFault lines (trace.BadLine number) = IsFirstFault judge lines number BadLine ⊎ (LacksHead lines × (number ≡ 1))
+HaveFault lines (trace.Number number) = IsFirstFault judge lines number Number
 HaveFault lines (trace.Count said found) = IsMiscount lines said found
 HaveFault lines trace.Memory = ⊥
 

@@ -1,12 +1,13 @@
 -- What lines without a fault have said.
 use Rattle.std.specs.Prelude.{◌≡◌, length, List}
-use Rattle.ghs_sched.specs.Reading.{AreSound, events_in, head_in}
+use Rattle.ghs_lines.specs.Judging.{AreSound}
+use Rattle.ghs_sched.specs.Reading.{events_in, head_in, judge}
 use Rattle.ghs_sched.specs.declared.line.Line.{Line}
 use Rattle.ghs_sched.specs.declared.reading.Reading.{Reading}
 
 -- these lines have been read, and none of them has a fault
 pub record HasRead (lines : List Line) (reading : Reading) : Type 0 where
-  pub sound : AreSound lines
+  pub sound : AreSound judge lines
   pub counted : reading.lines ≡ length lines
   pub said : reading.said ≡ head_in lines
   pub events : reading.events.items ≡ events_in lines

@@ -8,12 +8,12 @@ use Rattle.ghs_protocol.specs.Network.{network_of}
 use Rattle.ghs_protocol.specs.Run.{IsRun}
 use Rattle.ghs_core.specs.NetState.{NetState, IsLawful}
 use Rattle.ghs_steps.specs.declared.choice.Choice.{Choice}
-use Rattle.ghs_steps.specs.declared.write.WriteFault.{WriteFault}
+use Rattle.ghs_report.specs.declared.portions.WriteFault.{WriteFault}
 use Rattle.ghs_steps.specs.Step.{chosen, step, steps, steps_behind}
 use Rattle.ghs_steps.specs.declared.form.Form.{Form}
 use Rattle.ghs_steps.specs.Lines.{line_in, lines, shown}
-use Rattle.ghs_steps.specs.Written.{IsFront, IsOut}
-use Rattle.ghs_steps.proofs.Gone.{front_longer, out_more}
+use Rattle.ghs_report.specs.Written.{IsFront, IsOut}
+use Rattle.ghs_report.proofs.lemmas.Gone.{front_longer, out_more}
 use Rattle.ghs_steps.proofs.Stepping.{lawful_here, steps_more, text_front, text_more}
 
 pub lawful_net : (s : NetState) (g : Shape) (es : List Event) (i : ℕ) (d : Event) → s.graph ≡ g → s.trace ≡ take i es →

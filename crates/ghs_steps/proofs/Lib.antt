@@ -1,6 +1,6 @@
+-- Serves the proofs: nothing here has to be believed. lemmas is what proofs above this crate may use.
+pub mod lemmas
 mod Applied
-mod Changed
 mod Going
-mod Gone
 mod Stepping
 mod Suffice

@@ -7,5 +7,4 @@ pub mod Deltas
 pub mod StepLine
 pub mod Json
 pub mod Lines
-pub mod Written
 pub mod Shown

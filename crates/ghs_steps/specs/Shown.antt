@@ -9,8 +9,8 @@ use Rattle.ghs_world.specs.Wakes.{may_wake}
 use Rattle.ghs_sched.specs.Replays.{IsFirstUnlawful}
 use Rattle.ghs_steps.specs.declared.show.StepsFault.{StepsFault}
 use Rattle.ghs_steps.specs.declared.show.StepsFault.TheVariants.{NotLawful, Memory, Write}
-use Rattle.ghs_steps.specs.declared.write.WriteFault.TheVariants as writes
-use Rattle.ghs_steps.specs.Written.{IsFront}
+use Rattle.ghs_report.specs.declared.portions.WriteFault.TheVariants as writes
+use Rattle.ghs_report.specs.Written.{IsFront}
 
 -- an event isn't lawful, and nothing has gone out; or the events are a run, and a front of its lines has; where memory is wanting, one of nothing or that front
 abbrev pub CantShow : Shape → WakeSet → List Event → List ℕ → Option (List ℕ) → Option (List ℕ) → StepsFault → Type 0

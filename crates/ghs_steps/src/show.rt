@@ -10,10 +10,11 @@ ghost use Rattle.ghs_steps.specs.Lines.{lines};
 
 use crate::choice::Choice;
 use crate::form::Form;
-use crate::write::{WriteFault, write_run};
+use crate::write::write_run;
 use ghs_core::event::Event;
 use ghs_gr::device::Sink;
 use ghs_graph::graph::Graph;
+use ghs_report::portions::WriteFault;
 use ghs_sched::fault::ReplayFault;
 use ghs_sched::replay::replay;
 use ghs_world::wake_set::WakeSet;

@@ -1,5 +1,5 @@
 //! The steps of a whole run, written out.
-ghost use Rattle.std.specs.Prelude.{◌≡◌, ℕ, ◌+◌, ◌≤◌, ◌<◌, ◌^◌, ◌++◌, ◌∷◌, [], List, Option, false, true, length, slice_index, IfErr, IfOk, OnOk, MatchResult};
+ghost use Rattle.std.specs.Prelude.{◌≡◌, ◌≤◌, ◌<◌, ◌^◌, ◌++◌, ◌∷◌, [], false, length, slice_index, IfErr, IfOk, OnOk, MatchResult};
 ghost use Rattle.std.specs.Io.KnownBytes.{Appends};
 ghost use Rattle.std.specs.List.{flat_map};
 ghost use Rattle.ghs_protocol.specs.Ledger.{in_all};
@@ -11,7 +11,7 @@ ghost use Rattle.ghs_node.specs.Reaction.{IsReaction};
 ghost use Rattle.ghs_node.specs.Rows.{Row};
 ghost use Rattle.ghs_steps.specs.Step.{step, steps};
 ghost use Rattle.ghs_steps.specs.Lines.{line_in, lines, shown};
-ghost use Rattle.ghs_steps.specs.Written.{IsFront, IsOut, is_write};
+ghost use Rattle.ghs_report.specs.Written.{IsFront, is_write};
 
 use crate::change::{Change, changes};
 use crate::choice::Choice;
@@ -27,31 +27,8 @@ use ghs_graph::graph::Graph;
 use ghs_node::delta::Delta;
 use ghs_node::react::react;
 use ghs_node::row_name::row_of;
-use ghs_report::write_out::write_out;
+use ghs_report::portions::{WriteFault, send_off, send_portion};
 use std::alloc::{AllocError, Global};
-use thiserror::Error;
-
-/// How many bytes are gathered before they go out.
-pub const PORTION: usize = 65_536;
-
-/// Why the steps of a run aren't written to their end.
-#[derive(Clone, Copy, Debug, Drop, PartialEq, Eq, Error)]
-pub enum WriteFault {
-    #[error("out of memory")]
-    Memory,
-    #[error("output failed after {written} bytes")]
-    Write { written: u128 },
-}
-
-impl From<AllocError> for WriteFault {
-    ghost use Rattle.ghs_steps.specs.declared.write.WriteFault.{WriteFault};
-
-    ghost from_gives = { λ _ e. e ≡ WriteFault.Memory };
-
-    fn from(_error: AllocError) -> WriteFault {
-        WriteFault::Memory
-    }
-}
 
 /// Writes a line for each chosen event of a run, in order, in the form that is asked for. The lines go out by portions,
 /// so the memory that it takes doesn't grow with the text. At a fault what is out is a front of the text.
@@ -241,43 +218,4 @@ fn in_total(sent: &[u64; 7]) -> u128
         + u128::from(sent[4])
         + u128::from(sent[5])
         + u128::from(sent[6])
-}
-
-// What waits goes out, once it is a portion. Answers how many bytes are out by then.
-fn send_portion<W: Sink>(writer: &mut W, text: &mut Vec<u8>, gone: u128) -> Result<u128, WriteFault>
-    requires sound { W.has_failed writer.old ≡ false }
-    requires few { gone + 2 ^ 64 < 2 ^ 128 }
-    ensures out { IfOk result (λ now. (old : Option (List ℕ)) (all : List ℕ) → IsOut old (W.held writer.old) all gone text.old.items → IsOut old (W.held writer.new) all now text.new.items) }
-    ensures more { IfOk result (λ now. now ≤ gone + 2 ^ 64) }
-    ensures sound { OnOk result (W.has_failed writer.new ≡ false) }
-    ensures front { IfErr result (λ fault. (old : Option (List ℕ)) (all : List ℕ) → IsOut old (W.held writer.old) all gone text.old.items → IsFront old (W.held writer.new) all fault) }
-    ensures failed { IfErr result (λ fault. W.has_failed writer.new ≡ is_write fault) }
-{
-    if text.len() < PORTION {
-        return Ok(gone);
-    }
-    send_off(writer, text, gone)
-}
-
-// What waits goes out.
-fn send_off<W: Sink>(writer: &mut W, text: &mut Vec<u8>, gone: u128) -> Result<u128, WriteFault>
-    requires sound { W.has_failed writer.old ≡ false }
-    requires few { gone + 2 ^ 64 < 2 ^ 128 }
-    ensures out { IfOk result (λ now. (old : Option (List ℕ)) (all : List ℕ) → IsOut old (W.held writer.old) all gone text.old.items → IsOut old (W.held writer.new) all now text.new.items) }
-    ensures empty { OnOk result (text.new.items ≡ []) }
-    ensures more { IfOk result (λ now. now ≤ gone + 2 ^ 64) }
-    ensures sound { OnOk result (W.has_failed writer.new ≡ false) }
-    ensures front { IfErr result (λ fault. (old : Option (List ℕ)) (all : List ℕ) → IsOut old (W.held writer.old) all gone text.old.items → IsFront old (W.held writer.new) all fault) }
-    ensures failed { IfErr result (λ fault. W.has_failed writer.new ≡ is_write fault) }
-{
-    match write_out(writer, text.as_slice()) {
-        Ok(()) => {
-            let now = gone + text.len() as u128;
-            text.clear();
-            Ok(now)
-        }
-        Err(partial) => Err(WriteFault::Write {
-            written: gone + partial.written as u128,
-        }),
-    }
 }

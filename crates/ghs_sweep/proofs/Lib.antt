@@ -1,6 +1,5 @@
 -- Serves the proofs: nothing here has to be believed. lemmas is what proofs above this crate may use.
 pub mod lemmas
-pub mod Summing
 pub mod Opened
 pub mod Appending
 pub mod Lining

@@ -4,12 +4,9 @@ use Rattle.std.proofs.lemmas.Bool.{and_parts}
 use Rattle.std.proofs.lemmas.List.Elements.{All-nil}
 use Rattle.ghs_protocol.specs.Run.{MayWake}
 use Rattle.ghs_protocol.specs.declared.event.Event.{Event}
-use Rattle.ghs_protocol.specs.declared.event.Event.TheVariants.{Wake, Take}
-use Rattle.ghs_protocol.specs.Network.{Network}
-use Rattle.ghs_protocol.specs.Net.{Net, is_lawful}
-use Rattle.ghs_protocol.proofs.lemmas.Events.{node_of, at_of}
 use Rattle.ghs_protocol.proofs.lemmas.Runs.{lawful_under}
 use Rattle.ghs_core.specs.NetState.{NetState, network, net_of, event_node, IsLawful, IsSameNet}
+use Rattle.ghs_core.proofs.lemmas.Lawful as lawful
 use Rattle.ghs_world.specs.declared.fault.OutFault.TheVariants.{NoSuch, Busy, Nothing, TurnLimit}
 use Rattle.ghs_world.specs.Outs.{event_out, without, is_out}
 use Rattle.ghs_world.specs.WorldState.{WorldState, IsWorld, home, wakers, may_happen, has_place, has_turn, refusal, gone_out}
@@ -47,13 +44,9 @@ out_happens s n e world out = all_at (may_happen s) n e s.outs world.lawful out
 pub out_lawful : (s : WorldState) (n : ℕ) (e : Event) → IsWorld s → event_out s.outs n ≡ Some e → IsLawful s.net e
 out_lawful s n e world out = may_lawful s e (out_happens s n e world out)
 
-lawful_there : (g : Network) (w : Net) (e : Event) → is_lawful g w e ≡ true → (1 ≤ event_node e) × (event_node e ≤ g.count)
-lawful_there g w (Wake v) h = node_of g v (and_parts _ _ h).0
-lawful_there g w (Take v p) h = let at = at_of g v p (and_parts _ _ h).0 in (at.some, at.node)
-
 -- a lawful event is of a node of the graph
 pub lawful_node : (s : NetState) (e : Event) → IsLawful s e → (1 ≤ event_node e) × (event_node e ≤ s.graph.nodes)
-lawful_node s e h = lawful_there (network s) (net_of s) e h
+lawful_node s e h = lawful.lawful_node (network s) (net_of s) e h
 
 -- an event goes out
 pub world_out : (s : WorldState) (e : Event) → IsWorld s → refusal s e ≡ None → IsWorld (gone_out s e)

@@ -2,14 +2,13 @@
 use Rattle.std.proofs.Common.{◌≡◌, ◌≢◌, ℕ, Bool, true, not, Option, Some, None, refl, sym, ◌∙◌, ap}
 use Rattle.std.specs.Prelude.{IsTrue, ◌↔◌}
 use Rattle.std.proofs.lemmas.Bool.{and_parts, and_from, eqb-true, eq-eqb, le-leb, leb-true, lt-ltb, ltb-true}
-use Rattle.ghs_node.specs.declared.mark.Mark.{Mark}
-use Rattle.ghs_node.specs.declared.mark.Mark.TheVariants.{Basic, Branch, Rejected}
 use Rattle.ghs_node.specs.declared.message.Phase.{Phase}
 use Rattle.ghs_node.specs.declared.message.Phase.TheVariants.{Sleeping, Find, Found}
 use Rattle.ghs_node.specs.declared.message.Message.{Message}
 use Rattle.ghs_node.specs.declared.message.Message.TheVariants.{Connect, Initiate, Test, Accept, Reject, Report, ChangeRoot}
 use Rattle.ghs_node.specs.NodeState.{NodeState, mark_at}
 use Rattle.ghs_node.specs.Words.{is_at, is_basic, is_find, is_sleeping}
+use Rattle.ghs_node.proofs.lemmas.{basic_is}
 use Rattle.ghs_protocol.specs.Living.{Waits, Connect_waits, Test_waits, Report_waits}
 use Rattle.ghs_core.specs.Waits.{waits}
 
@@ -22,11 +21,6 @@ awake_test : (s : Phase) → s ≢ Sleeping → not (is_sleeping s) ≡ true
 awake_test Sleeping h = absurd (h refl)
 awake_test Find h = refl
 awake_test Found h = refl
-
-basic_so : (m : Mark) → is_basic m ≡ true → m ≡ Basic
-basic_so Basic h = refl
-basic_so Branch h = cc
-basic_so Rejected h = cc
 
 find_so : (s : Phase) → is_find s ≡ true → s ≡ Find
 find_so Sleeping h = cc
@@ -45,7 +39,7 @@ module _ (n : NodeState) (p : ℕ) where
   waits_so (Connect l) h =
       let a = and_parts _ _ h in
       let b = and_parts _ _ a.1 in
-      Connect_waits (awake_so n.head.phase a.0) (leb-true _ _ b.0) (basic_so (mark_at n p) b.1)
+      Connect_waits (awake_so n.head.phase a.0) (leb-true _ _ b.0) (basic_is (mark_at n p) b.1)
   waits_so (Initiate l f s) h = cc
   waits_so (Test l f) h = let a = and_parts _ _ h in Test_waits (awake_so n.head.phase a.0) (ltb-true _ _ a.1)
   waits_so Accept h = cc

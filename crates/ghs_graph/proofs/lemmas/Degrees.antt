@@ -70,7 +70,7 @@ one_counted n ks cs i d x y w lt g ex ey = record {
   each = λ v le. ⊎_elim
       (λ (e : v ≡ k.b).
       rw e
-      (get_or-set_same (set cs k.a (x + 1)) k.b (y + 1) 0 b_in ∙ ap (λ m. m + 1) (ey ∙ g.each k.b in_range.2)
+      (get_or-set_same (set cs k.a (x + 1)) k.b (y + 1) 0 b_in ∙ ap (λ m. m + 1) (ey ∙ g.each k.b (among_at n ks i d w lt).2)
       ∙ sym (degree_ends ks i d k.b lt (ends_b k))))
       (λ nb. get_or-set_other (set cs k.a (x + 1)) k.b v (y + 1) 0 nb ∙ ⊎_elim
       (λ (e : v ≡ k.a).
@@ -83,24 +83,21 @@ one_counted n ks cs i d x y w lt g ex ey = record {
       let more_b : sum (set (set cs k.a (x + 1)) k.b (y + 1)) + get_or (set cs k.a (x + 1)) k.b 0 ≡ sum (set cs k.a (x + 1)) + (y + 1) = sum_by-set
       (λ m. m) (set cs k.a (x + 1)) k.b (y + 1) 0 b_in in
       let old_b : get_or (set cs k.a (x + 1)) k.b 0 ≡ get_or cs k.b 0 = get_or-set_other cs k.a k.b (x + 1) 0
-      (λ e. absurd (omega (arith, in_range.1))) in
+      (λ e. absurd (let r = among_at n ks i d w lt in omega (arith, r.1))) in
       omega (arith, more_a, more_b, old_b, ex, ey, g.total, length-take i ks, length-take (i + 1) ks);
 }
   where
     k : Key
     k = get_or ks i d
 
-    in_range : (1 ≤ k.a) × (k.a < k.b) × (k.b ≤ n)
-    in_range = among_at n ks i d w lt
-
     a_le : k.a ≤ n
-    a_le = omega (arith, in_range.1, in_range.2)
+    a_le = let r = among_at n ks i d w lt in omega (arith, r.1, r.2)
 
     a_in : k.a < length cs
     a_in = omega (arith, a_le, g.count)
 
     b_in : k.b < length (set cs k.a (x + 1))
-    b_in = omega (arith, in_range.2, g.count, length-set cs k.a (x + 1))
+    b_in = let r = among_at n ks i d w lt in omega (arith, r.2, g.count, length-set cs k.a (x + 1))
 
 -- The sum of the degrees.
 

@@ -5,6 +5,7 @@ use Rattle.std.proofs.lemmas.Bool.{cases_lt}
 use Rattle.std.proofs.lemmas.Option.{same_Some, slice_get_within}
 use Rattle.ghs_protocol.specs.declared.event.Event.{Event}
 use Rattle.ghs_protocol.specs.declared.event.Event.TheVariants.{Wake, Take}
+use Rattle.ghs_protocol.specs.Ledger.{sum_below}
 use Rattle.ghs_protocol.specs.Network.{Network}
 use Rattle.ghs_index.specs.Places.{events_at, node_events, events_to, all_events, takes, HasPlace, place}
 use Rattle.ghs_index.proofs.lemmas.Lists.{get_left, get_right}
@@ -52,6 +53,10 @@ takes_only v low n j e h =
 module _ (g : Network) where
   pub length_next : (n : ℕ) → length (events_to g (suc n)) ≡ length (events_to g n) + suc (length (g.ports (suc n)))
   length_next n = let l = length-append (events_to g n) (node_events g (suc n)) in let r = length_at (suc n) (length (g.ports (suc n))) in omega arith
+
+  pub length_to : (n : ℕ) → length (events_to g n) ≡ n + sum_below n (λ i. length (g.ports (suc i)))
+  length_to zero = refl
+  length_to (suc n) = let l = length_next n in let r = length_to n in omega arith
 
   pub longer : (m n : ℕ) → n ≤ m → length (events_to g n) ≤ length (events_to g m)
   longer zero n le = (let e : n ≡ 0 = omega arith in rw e (omega arith))

@@ -1,9 +1,9 @@
 use Rattle.std.proofs.Common.{◌≡◌, ◌∙◌, ◌+◌, ◌-◌, ◌++◌, ◌<◌, ◌≤◌, length, ap, sym, arith, rules}
 use Rattle.ghs_make.specs.Ends.{smaller_ends}
-use Rattle.ghs_make.specs.declared.write.WriteFault.TheVariants.{Memory}
+use Rattle.ghs_report.specs.declared.portions.WriteFault.TheVariants.{Memory}
 use Rattle.ghs_make.proofs.Counts.{count_more, count_none, count_within}
 use Rattle.ghs_make.proofs.Going.{front_of_all, out_node, text_none, text_to, text_whole}
-use Rattle.ghs_make.proofs.Gone.{out_all, out_front, out_more, out_start}
+use Rattle.ghs_report.proofs.lemmas.Gone.{out_all, out_front, out_more, out_start}
 use Rattle.ghs_make.proofs.write.write_network.Goals as goal
 
 pub nodes-init : goal.nodes-init

@@ -2,7 +2,7 @@ use Rattle.std.proofs.Common.{◌≡◌, ◌+◌, ◌*◌, ◌++◌, ◌≤◌, 
 use Rattle.std.specs.List.{flat_map}
 use Rattle.ghs_make.specs.Network.{count_of_nodes, links_of_nodes}
 use Rattle.ghs_make.specs.Text.{arc_line, head_of}
-use Rattle.ghs_make.specs.Written.{IsOut}
+use Rattle.ghs_report.specs.Written.{IsOut}
 use Rattle.ghs_make.proofs.write.write_network.Given as goal
 
 abbrev pub invariant-nodes : goal.invariant-nodes

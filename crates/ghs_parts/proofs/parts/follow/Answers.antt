@@ -4,7 +4,7 @@ use Rattle.ghs_protocol.specs.Network.{network_of}
 use Rattle.ghs_protocol.specs.Run.{IsRun, net_after}
 use Rattle.ghs_core.specs.NetState.{net_of}
 use Rattle.ghs_parts.specs.Tally.{IsTally}
-use Rattle.ghs_parts.proofs.Counting.{lawful_node}
+use Rattle.ghs_core.proofs.lemmas.Lawful.{lawful_node}
 use Rattle.ghs_parts.proofs.Tallying.{events_fit, kinds_fit, part_is, place_there, tally_more}
 use Rattle.ghs_parts.proofs.parts.follow.Goals as goal
 

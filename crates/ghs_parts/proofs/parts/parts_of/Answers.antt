@@ -4,14 +4,14 @@ use Rattle.std.proofs.lemmas.List.{take_all, take_more}
 use Rattle.ghs_protocol.specs.declared.event.Event.{Event}
 use Rattle.ghs_protocol.specs.declared.event.Event.TheVariants.{Wake}
 use Rattle.ghs_parts.specs.Tally.{parts_kept}
-use Rattle.ghs_parts.proofs.Counting.{lawful_here}
+use Rattle.ghs_steps.proofs.lemmas.{lawful_net}
 use Rattle.ghs_parts.proofs.Tallying.{kept_count, kept_parts, parts_listed}
 use Rattle.ghs_parts.proofs.parts.parts_of.Goals as goal
 
 pub follow-requires-clause-lawful : goal.follow-requires-clause-lawful
 follow-requires-clause-lawful c =
     let inv = c.loop-event.invariant in
-    lawful_here c.loop-event.net c.args.graph.now c.args.events.now c.loop-event.event-index (Wake 0) inv.graph inv.trace
+    lawful_net c.loop-event.net c.args.graph.now c.args.events.now c.loop-event.event-index (Wake 0) inv.graph inv.trace
     c.requires.run c.loop-event-test.true
 
 pub loop-event-preserved : goal.loop-event-preserved

@@ -5,7 +5,8 @@ use Rattle.ghs_graph.specs.declared.key.Key.{Key}
 use Rattle.ghs_protocol.specs.Ledger.{in_all}
 use Rattle.ghs_protocol.specs.Net.{Net}
 use Rattle.ghs_protocol.specs.Marks.{HasEnded}
-use Rattle.ghs_report.proofs.Counts.{same_bound, same_line, same_total}
+use Rattle.ghs_protocol.proofs.lemmas.Sums.{sum_same}
+use Rattle.ghs_report.proofs.Counts.{same_bound, same_line}
 use Rattle.ghs_report.specs.NetText.{messages_line, sends_line}
 use Rattle.ghs_report.specs.TreeText.{tree_text}
 use Rattle.ghs_report.proofs.net_text.net_text.Goals as goal
@@ -24,7 +25,7 @@ returns-clause-text c =
     let tree : List Key = c.in_ok-branches.branches.items in
     let ended : HasEnded c.args.net.now.graph w = c.if-not-ended.ensures.ended.0 refl in
     let lines : messages_line (λ k. slice_index c.ledger.result.sent k) ≡ messages_line w.sent = same_line _ _ c.ledger.ensures.counts.sent in
-    let sum : in_all (λ k. slice_index c.ledger.result.sent k) ≡ in_all w.sent = same_total _ _ c.ledger.ensures.counts.sent in
+    let sum : in_all (λ k. slice_index c.ledger.result.sent k) ≡ in_all w.sent = sum_same 7 _ _ c.ledger.ensures.counts.sent in
     let total : c.in_total.result ≡ in_all w.sent = c.in_total.ensures ∙ sum in
     let is_bound : IsBound c.args.net.now.graph.nodes (length c.args.net.now.graph.keys) c.bound-most.result = same_bound _ _ _ _ _ (search rules) (search rules) c.bound-most.ensures in
     let most : in_all (λ k. slice_index c.ledger.result.sent k) ≤ c.bound-most.result = c.ledger.ensures.bound.bound c.bound-most.result is_bound in

@@ -1,6 +1,6 @@
 use Rattle.std.proofs.Common.{◌≡◌, ◌*◌, ◌≤◌, ◌^◌, false, take}
 use Rattle.ghs_steps.specs.Lines.{lines}
-use Rattle.ghs_steps.specs.Written.{IsOut}
+use Rattle.ghs_report.specs.Written.{IsOut}
 use Rattle.ghs_steps.proofs.write.write_run.Given as goal
 
 abbrev pub invariant-loop-event : goal.invariant-loop-event

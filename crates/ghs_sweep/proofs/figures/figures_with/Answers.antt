@@ -3,7 +3,7 @@ use Rattle.ghs_core.specs.NetState.{net_of}
 use Rattle.ghs_graph.specs.Bound.{IsBound}
 use Rattle.ghs_protocol.specs.Ledger.{in_all}
 use Rattle.ghs_protocol.specs.Net.{Net}
-use Rattle.ghs_sweep.proofs.Summing.{all_alike}
+use Rattle.ghs_protocol.proofs.lemmas.Sums.{sum_same}
 use Rattle.ghs_sweep.proofs.figures.figures_with.Goals as goal
 
 -- what was sent is within the bound, which is a number of 64 bits
@@ -18,7 +18,7 @@ pub returns : goal.returns
 returns c =
     let w : Net = net_of c.args.net.now in
     let ledger = c.ledger-ledger.ensures in
-    let sum : in_all (λ k. slice_index c.ledger-ledger.result.sent k) ≡ in_all w.sent = all_alike _ _ ledger.counts.sent in
+    let sum : in_all (λ k. slice_index c.ledger-ledger.result.sent k) ≡ in_all w.sent = sum_same 7 _ _ ledger.counts.sent in
     let is_bound : IsBound c.args.net.now.graph.nodes (length c.args.net.now.graph.keys) c.bound-most.result = search rules in
     let most = ledger.bound.bound c.bound-most.result is_bound in
     let total = c.in_total.ensures in

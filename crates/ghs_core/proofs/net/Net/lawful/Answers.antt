@@ -2,10 +2,10 @@ use Rattle.std.proofs.Common.{◌≡◌, true, sym, ◌∙◌}
 use Rattle.ghs_protocol.specs.Net.{is_port}
 use Rattle.ghs_core.specs.NetState.{network}
 use Rattle.ghs_protocol.proofs.lemmas.Events.{at_of}
-use Rattle.ghs_core.proofs.Reading.{port_queue}
+use Rattle.ghs_core.proofs.Showing.{port_queue}
 use Rattle.ghs_core.proofs.net.Net.lawful.Goals as goal
 
 pub front-requires : goal.front-requires
 front-requires c =
     let has : is_port (network c.args.self.now) c.in-Take.v c.in-Take.port ≡ true = sym c.has_port.ensures ∙ c.if-has_port.true in
-    port_queue c.self.invariant c.in-Take.v c.in-Take.port (at_of _ c.in-Take.v c.in-Take.port (rw (← c.self.view_is) at has))
+    port_queue c.self.invariant.queues c.in-Take.v c.in-Take.port (at_of _ c.in-Take.v c.in-Take.port (rw (← c.self.view_is) at has))

@@ -1,5 +1,5 @@
-use Rattle.ghs_core.proofs.Reading.{port_queue}
+use Rattle.ghs_core.proofs.Showing.{port_queue}
 use Rattle.ghs_core.proofs.net.Net.waiting_at.Goals as goal
 
 pub len_at-requires : goal.len_at-requires
-len_at-requires c = port_queue c.self.invariant c.args.v c.args.port (rw (← c.self.view_is) at c.requires)
+len_at-requires c = port_queue c.self.invariant.queues c.args.v c.args.port (rw (← c.self.view_is) at c.requires)

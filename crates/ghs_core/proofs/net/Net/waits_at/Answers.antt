@@ -1,12 +1,13 @@
 use Rattle.std.proofs.Common.{sym, ◌∙◌}
 use Rattle.ghs_protocol.specs.Run.{net_after}
 use Rattle.ghs_core.proofs.PuttingBack.{back_here}
-use Rattle.ghs_core.proofs.Reading.{lawful_port, port_below, port_queue}
+use Rattle.ghs_core.proofs.Reading.{lawful_port, port_below}
+use Rattle.ghs_core.proofs.Showing.{port_queue}
 use Rattle.ghs_core.proofs.net.Net.waits_at.Goals as goal
 
 pub front-requires : goal.front-requires
 front-requires c =
-    port_queue c.self.invariant c.args.v c.args.port
+    port_queue c.self.invariant.queues c.args.v c.args.port
     (lawful_port _ (net_after c.self.inside.graph c.self.inside.trace.items) c.args.v c.args.port (rw (← c.self.view_is) at c.requires))
 
 pub waits-requires : goal.waits-requires

@@ -1,9 +1,9 @@
--- What of a text has gone out.
+-- What of a text that goes out by portions has gone out.
 use Rattle.std.specs.Prelude.{◌≡◌, ℕ, ◌≤◌, ◌<◌, Bool, false, true, Option, List, ◌++◌, length}
 use Rattle.std.specs.Io.KnownBytes.{Appends}
 use Rattle.ghs_report.specs.Writing.{HasWritten}
-use Rattle.ghs_steps.specs.declared.write.WriteFault.{WriteFault}
-use Rattle.ghs_steps.specs.declared.write.WriteFault.TheVariants.{Memory, Write}
+use Rattle.ghs_report.specs.declared.portions.WriteFault.{WriteFault}
+use Rattle.ghs_report.specs.declared.portions.WriteFault.TheVariants.{Memory, Write}
 
 -- the first `gone` bytes of the text so far have gone out, and the others wait
 pub record IsOut (old now : Option (List ℕ)) (text : List ℕ) (gone : ℕ) (waiting : List ℕ) : Type 0 where

@@ -5,9 +5,9 @@ use Rattle.std.specs.Io.KnownBytes.{Appends}
 use Rattle.std.proofs.lemmas.List.{take_all, take-append-le}
 use Rattle.std.proofs.Math.Seq.{take-append-add}
 use Rattle.ghs_report.specs.Writing.{HasWritten}
-use Rattle.ghs_steps.specs.declared.write.WriteFault.{WriteFault}
-use Rattle.ghs_steps.specs.declared.write.WriteFault.TheVariants.{Memory, Write}
-use Rattle.ghs_steps.specs.Written.{IsOut, IsFront}
+use Rattle.ghs_report.specs.declared.portions.WriteFault.{WriteFault}
+use Rattle.ghs_report.specs.declared.portions.WriteFault.TheVariants.{Memory, Write}
+use Rattle.ghs_report.specs.Written.{IsOut, IsFront}
 
 appends_both : (a b c : Option (List ℕ)) (xs ys : List ℕ) → Appends a b xs → Appends b c ys → Appends a c (xs ++ ys)
 appends_both None b c xs ys h k = tt

@@ -1,6 +1,6 @@
 use Rattle.std.proofs.Common.{rules, ◌≡◌, length}
-use Rattle.ghs_steps.proofs.Gone.{out_failed, out_sent}
-use Rattle.ghs_steps.proofs.write.send_off.Goals as goal
+use Rattle.ghs_report.proofs.lemmas.Gone.{out_failed, out_sent}
+use Rattle.ghs_report.proofs.portions.send_off.Goals as goal
 
 pub returns-in-Ok-clause-out : goal.returns-in-Ok-clause-out
 returns-in-Ok-clause-out g c = λ old all out.
