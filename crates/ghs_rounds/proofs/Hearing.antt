@@ -22,17 +22,9 @@ use Rattle.ghs_chain.proofs.Bounding.{IsWithin, hears_within, run_within}
 use Rattle.ghs_chain.proofs.Following.{sends_to}
 use Rattle.ghs_patient.proofs.Stirring.{port_below}
 
-delivered : (n : NodeState) (p : ℕ) (q : List Message) → p < degree n → HasPort n (delivery p q)
-delivered n p [] lt = tt
-delivered n p (m ∷ ms) lt = lt
-
 module _ (s : NetState) (ok : IsGraph s.graph) (is_run : IsRun (network s) s.trace) (e : Event) (d : Delta) (lawful : IsLawful s e) (answer : IsAnswer s e d) where
-  work_port : (f : Event) → IsLawful s f → HasPort ((net_of s).node (event_node f)) (work_at (net_of s) f)
-  work_port (Wake v) h = tt
-  work_port (Take v p) h = delivered ((net_of s).node v) p ((net_of s).queue v p) (port_below s v p ok is_run (at_of (network s) v p (and_parts _ _ h).0))
-
   row : Row ((net_of s).node (event_node e)) (work_at (net_of s) e) d
-  row = reaction_inverts ((net_of s).node (event_node e)) (work_at (net_of s) e) d (work_port e lawful) answer
+  row = reaction_inverts ((net_of s).node (event_node e)) (work_at (net_of s) e) d (work_port s ok is_run e lawful) answer
 
   pub sends_far : (k : Kept) → Fits s.graph k →
       All (λ (x : ℕ × Message). HasPlace k (far (network s) (event_node e) x.0) (far_port (network s) (event_node e) x.0)) d.sends
