@@ -1,5 +1,5 @@
 -- Ranks that are set one by one.
-use Rattle.std.proofs.Common.{◌≡◌, ◌≢◌, ℕ, ◌<◌, ◌≤◌, true, Option, Some, List, [], ◌∷◌, length, get_or, set, sym, ◌∙◌, ap, ⊎_elim, arith, length-set, get_or-set_same, get_or-set_other}
+use Rattle.std.proofs.Common.{◌≡◌, ◌≢◌, ℕ, ◌<◌, ◌≤◌, true, Some, List, [], ◌∷◌, length, get_or, set, sym, ◌∙◌, ap, ⊎_elim, arith, length-set, get_or-set_same, get_or-set_other}
 use Rattle.std.specs.List.{All, Contains}
 use Rattle.std.proofs.lemmas.Bool.{cases_eq}
 use Rattle.ghs_graph.specs.Graph.{IsGraph}
@@ -14,7 +14,7 @@ use Rattle.ghs_protocol.specs.declared.event.Event.{Event}
 use Rattle.ghs_protocol.specs.declared.event.Event.TheVariants.{Wake, Take}
 use Rattle.ghs_protocol.specs.Net.{event_node}
 use Rattle.ghs_core.specs.NetState.{network}
-use Rattle.ghs_index.specs.Places.{HasPlace, place}
+use Rattle.ghs_index.specs.Places.{HasPlace, all_events, place}
 use Rattle.ghs_index.proofs.lemmas.Places.{place_within}
 use Rattle.ghs_world.specs.WorldState.{WorldState}
 use Rattle.ghs_patient.specs.Choices.{are_alike, far_takes}
@@ -23,6 +23,10 @@ use Rattle.ghs_patient.proofs.lemmas.Walks.{AreOwnLeft, far_places}
 use Rattle.ghs_patient.proofs.lemmas.Walks as walks
 use Rattle.ghs_lifo.specs.Kept.{AreRanks, AreRanksBut, IsUnranked, rank_in, ranked, ranked_all, ranked_to}
 use Rattle.ghs_lifo.proofs.Numbering.{one_event}
+
+-- there is a rank for each event
+abbrev pub IsRankEach : WorldState → List ℕ → Type 0
+IsRankEach s ranks = length ranks ≡ length (all_events (network s.net))
 
 module _ (s : WorldState) (newest : List ℕ) where
   pub many_all : (es : List Event) (r : List ℕ) → length (ranked_all s newest es r) ≡ length r
@@ -103,15 +107,19 @@ module _ (s : WorldState) (newest : List ℕ) where
   module _ (v : ℕ) (before : Head) (d : Delta) (r : List ℕ) (h : Seen v before d r) where
     -- the Takes of the node
     pub own_all : (n : ℕ) → n ≡ length ((network s.net).ports v) → AreRanks s newest (ranked_to s newest v n r)
-    own_all n many = walks.own_all (List ℕ) (network s.net) (AreRanksBut s newest) (ranked s newest) right_ranked right_wider (AreRanks s newest) all_right v before d r h n many
+    own_all n many =
+        walks.own_all (List ℕ) (network s.net) (AreRanksBut s newest) (ranked s newest) right_ranked right_wider
+        (AreRanks s newest) all_right v before d r h n many
 
     -- the one that was marked
     pub own_one : (m : ℕ × Mark) → are_alike before d.head ≡ true → d.mark ≡ Some m → HasPlace (network s.net) (Take v m.0) →
         AreRanks s newest (ranked s newest (Take v m.0) r)
     own_one m alike is there =
-        walks.own_one (List ℕ) (network s.net) (AreRanksBut s newest) (ranked s newest) right_ranked right_wider (AreRanks s newest) all_right v before d r h m alike is there
+        walks.own_one (List ℕ) (network s.net) (AreRanksBut s newest) (ranked s newest) right_ranked right_wider
+        (AreRanks s newest) all_right v before d r h m alike is there
 
     -- none
     pub own_none : are_alike before d.head ≡ true → ((m : ℕ × Mark) → d.mark ≡ Some m → ⊥) → AreRanks s newest r
     own_none alike unmarked =
-        walks.own_none (List ℕ) (network s.net) (AreRanksBut s newest) (ranked s newest) right_ranked right_wider (AreRanks s newest) all_right v before d r h alike unmarked
+        walks.own_none (List ℕ) (network s.net) (AreRanksBut s newest) (ranked s newest) right_ranked right_wider
+        (AreRanks s newest) all_right v before d r h alike unmarked

@@ -1,31 +1,23 @@
 -- What such a run keeps.
-use Rattle.std.proofs.Common.{◌≡◌, ℕ, ◌+◌, ◌<◌, Bool, true, false, not, List, [], ◌∷◌, ◌++◌, length, Some, refl, sym, ◌∙◌, ap, ap₂, subst, subst₂, ⊎_elim, arith}
-use Rattle.std.proofs.lemmas.Bool.{and_from, and_parts, both_ways, lt-ltb, ltb-true}
+use Rattle.std.proofs.Common.{◌≡◌, ℕ, ◌+◌, ◌<◌, true, not, List, [], ◌∷◌, ◌++◌, length, refl, ◌∙◌, ap, subst₂, ⊎_elim, arith}
+use Rattle.std.proofs.lemmas.Bool.{and_from, and_parts, ltb-true}
 use Rattle.std.proofs.lemmas.List.{length_push}
 use Rattle.ghs_graph.specs.Graph.{Shape}
-use Rattle.ghs_node.specs.declared.message.Message.{Message}
 use Rattle.ghs_protocol.specs.declared.event.Event.{Event}
 use Rattle.ghs_protocol.specs.declared.event.Event.TheVariants.{Wake, Take}
-use Rattle.ghs_protocol.specs.Laws.{IsNetOf}
 use Rattle.ghs_protocol.specs.Marks.{HasEnded}
-use Rattle.ghs_protocol.specs.Net.{Net, is_lawful_under, is_port, is_waiting}
-use Rattle.ghs_protocol.specs.Network.{Network, network_of}
+use Rattle.ghs_protocol.specs.Net.{is_port}
+use Rattle.ghs_protocol.specs.Network.{network_of}
 use Rattle.ghs_protocol.specs.Run.{net_after}
-use Rattle.ghs_protocol.specs.Schedules.{IsPatientIn, Moves_on, PatienceLasts, PatientRunsAreShort}
 use Rattle.ghs_protocol.proofs.lemmas.Events.{at_of}
-use Rattle.ghs_protocol.proofs.lemmas.Runs.{after_more, run_keeps}
 use Rattle.ghs_core.specs.NetState.{network}
-use Rattle.ghs_core.specs.Waits.{waits}
-use Rattle.ghs_core.proofs.lemmas.Waiting.{waits_test}
 use Rattle.ghs_world.specs.declared.wake_set.WakeSet.{WakeSet}
 use Rattle.ghs_world.specs.Outs.{Outs, is_out}
-use Rattle.ghs_world.specs.Steps.{IsSameWorld, Makes}
+use Rattle.ghs_world.specs.Steps.{IsSameWorld}
 use Rattle.ghs_world.specs.Wakes.{may_wake}
 use Rattle.ghs_world.specs.WorldState.{WorldState, has_turn, home, may_happen, wakers}
-use Rattle.ghs_world.proofs.lemmas.Waking.{each_is_woken}
 use Rattle.ghs_sched.specs.Picks.{IsPick}
-use Rattle.ghs_patient.specs.Patience.{first_waits, patient_events, puts_back}
-use Rattle.ghs_patient.specs.Runs.{HasTurns, IsShort}
+use Rattle.ghs_patient.specs.Patience.{patient_events}
 use Rattle.ghs_patient.proofs.lemmas.Growing.{still_going}
 use Rattle.ghs_patient.proofs.lemmas.Picked.{take_patient}
 use Rattle.ghs_patient.proofs.Picks.{Pickable}

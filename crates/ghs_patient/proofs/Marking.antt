@@ -1,5 +1,5 @@
 -- Marks of the choices, set one by one.
-use Rattle.std.proofs.Common.{◌≡◌, ◌≢◌, ℕ, ◌+◌, ◌<◌, ◌≤◌, true, Option, Some, List, length, ◌∙◌, length-set}
+use Rattle.std.proofs.Common.{◌≡◌, ◌≢◌, ℕ, ◌+◌, ◌<◌, ◌≤◌, true, Some, length, ◌∙◌, length-set}
 use Rattle.std.specs.List.{All}
 use Rattle.ghs_graph.specs.Graph.{IsGraph}
 use Rattle.ghs_graph.specs.Ports.{ports_of}
@@ -90,15 +90,18 @@ module _ (s : WorldState) where
     -- the Takes of the node
     pub own_all : (n : ℕ) → n ≡ length ((network s.net).ports v) → AreChoices s (marked_to s v n c)
     own_all n many =
-        walks.own_all ChoicesState (network s.net) (AreChoicesBut s) (marked s) right_marked right_wider (AreChoices s) all_right v before d c h n many
+        walks.own_all ChoicesState (network s.net) (AreChoicesBut s) (marked s) right_marked right_wider
+        (AreChoices s) all_right v before d c h n many
 
     -- the one that was marked
     pub own_one : (m : ℕ × Mark) → are_alike before d.head ≡ true → d.mark ≡ Some m → HasPlace (network s.net) (Take v m.0) →
         AreChoices s (marked s (Take v m.0) c)
     own_one m alike is there =
-        walks.own_one ChoicesState (network s.net) (AreChoicesBut s) (marked s) right_marked right_wider (AreChoices s) all_right v before d c h m alike is there
+        walks.own_one ChoicesState (network s.net) (AreChoicesBut s) (marked s) right_marked right_wider
+        (AreChoices s) all_right v before d c h m alike is there
 
     -- none
     pub own_none : are_alike before d.head ≡ true → ((m : ℕ × Mark) → d.mark ≡ Some m → ⊥) → AreChoices s c
     own_none alike unmarked =
-        walks.own_none ChoicesState (network s.net) (AreChoicesBut s) (marked s) right_marked right_wider (AreChoices s) all_right v before d c h alike unmarked
+        walks.own_none ChoicesState (network s.net) (AreChoicesBut s) (marked s) right_marked right_wider
+        (AreChoices s) all_right v before d c h alike unmarked

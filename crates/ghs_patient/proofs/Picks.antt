@@ -1,24 +1,22 @@
 -- What a patient schedule picks is a patient choice, and there is one until the run has ended.
-use Rattle.std.proofs.Common.{◌≡◌, ◌≢◌, ℕ, ◌+◌, ◌%◌, ◌<◌, ◌≤◌, Bool, true, false, ◌&&◌, not, Option, Some, List, [], ◌∷◌, length, filter, slice_get, cond, refl, sym, ◌∙◌, ap, ap₂, subst, ⊎_elim, inl, inr, ◌⊎◌, arith}
+use Rattle.std.proofs.Common.{◌≡◌, ℕ, ◌<◌, ◌≤◌, Bool, true, false, not, List, [], ◌∷◌, length, filter, cond, refl, sym, ◌∙◌, ap, ap₂, subst, ⊎_elim, inl, inr, ◌⊎◌, arith}
 use Rattle.std.specs.List.{Contains}
-use Rattle.std.proofs.lemmas.Bool.{and_from, and_parts, both_ways, cases_Bool}
+use Rattle.std.proofs.lemmas.Bool.{and_from, and_parts, cases_Bool}
 use Rattle.ghs_graph.specs.Graph.{Shape, IsGraph}
 use Rattle.ghs_graph.proofs.lemmas.Members.{filter_has, first_in, in_filter, later_in, nothing_in}
 use Rattle.ghs_node.specs.declared.message.Message.{Message}
-use Rattle.ghs_node.specs.declared.message.Phase.TheVariants.{Sleeping}
-use Rattle.ghs_node.specs.NodeState.{NodeState}
 use Rattle.ghs_node.specs.Words.{is_sleeping}
 use Rattle.ghs_protocol.specs.declared.event.Event.{Event}
 use Rattle.ghs_protocol.specs.declared.event.Event.TheVariants.{Wake, Take}
 use Rattle.ghs_protocol.specs.Laws.{IsNetOf}
-use Rattle.ghs_protocol.specs.Living.{OneWaits, Waits}
+use Rattle.ghs_protocol.specs.Living.{OneWaits}
 use Rattle.ghs_protocol.specs.Marks.{HasEnded}
 use Rattle.ghs_protocol.specs.Network.{At, Network, network_of}
-use Rattle.ghs_protocol.specs.Net.{Net, event_node, is_lawful, is_lawful_under, is_node, is_port, is_waiting}
+use Rattle.ghs_protocol.specs.Net.{Net, event_node, is_lawful_under, is_node, is_port, is_waiting}
 use Rattle.ghs_protocol.specs.Run.{IsRun, MayWake}
 use Rattle.ghs_protocol.specs.Schedules.{A_wake, AllMayWake, IsPatientIn, Moves_on, PatienceLasts, Uncovers}
-use Rattle.ghs_protocol.specs.Steps.{Happens, Took, Woke}
-use Rattle.ghs_protocol.proofs.lemmas.Events.{at_of, is_node_of, is_port_of, node_of, taken_at}
+use Rattle.ghs_protocol.specs.Steps.{Happens, Woke}
+use Rattle.ghs_protocol.proofs.lemmas.Events.{is_node_of, is_port_of, taken_at}
 use Rattle.ghs_protocol.proofs.lemmas.Runs.{after_is_net, lawful_under}
 use Rattle.ghs_core.specs.NetState.{IsLawful, NetState, net_of, network}
 use Rattle.ghs_core.specs.Waits.{waits}

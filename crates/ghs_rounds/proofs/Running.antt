@@ -5,7 +5,6 @@ use Rattle.std.proofs.lemmas.List.{length_push}
 use Rattle.ghs_graph.specs.Graph.{Shape}
 use Rattle.ghs_protocol.specs.Marks.{HasEnded}
 use Rattle.ghs_protocol.specs.Network.{Network}
-use Rattle.ghs_protocol.specs.Run.{net_after}
 use Rattle.ghs_core.specs.NetState.{network}
 use Rattle.ghs_world.specs.declared.wake_set.WakeSet.{WakeSet}
 use Rattle.ghs_world.specs.Steps.{IsSameWorld}

@@ -1,7 +1,7 @@
 -- How many events a run by rounds has at most.
 use Rattle.std.proofs.Common.{◌≡◌, ◌≢◌, ℕ, zero, suc, ◌<◌, ◌≤◌, ◌+◌, ◌*◌, ◌%◌, Bool, true, false, Some, List, [], ◌∷◌, ◌++◌, length, filter, refl, sym, ◌∙◌, ap, subst, ⊎_elim, inl, inr, ◌⊎◌, arith}
 use Rattle.std.specs.List.{Contains}
-use Rattle.std.proofs.lemmas.Bool.{and_parts, both_ways, cases_Bool, cases_eq, not-true, not-false, false_from_ne_true}
+use Rattle.std.proofs.lemmas.Bool.{and_parts, cases_eq}
 use Rattle.std.proofs.lemmas.List.{length_push}
 use Rattle.std.proofs.Math.Nat.{mod-lt}
 use Rattle.ghs_graph.specs.Bound.{IsBound}
@@ -11,8 +11,7 @@ use Rattle.ghs_node.specs.declared.delta.Delta.{Delta}
 use Rattle.ghs_node.specs.declared.delta.Fate.{Fate}
 use Rattle.ghs_node.specs.declared.delta.Fate.TheVariants.{Consumed, Requeued}
 use Rattle.ghs_node.specs.declared.message.Message.{Message}
-use Rattle.ghs_node.specs.declared.message.Phase.{Phase}
-use Rattle.ghs_node.specs.declared.message.Phase.TheVariants.{Sleeping, Find, Found}
+use Rattle.ghs_node.specs.declared.message.Phase.TheVariants.{Sleeping}
 use Rattle.ghs_node.specs.declared.work.Work.TheVariants as works
 use Rattle.ghs_node.specs.NodeState.{NodeState}
 use Rattle.ghs_node.specs.Reaction.{reaction}
@@ -22,11 +21,11 @@ use Rattle.ghs_protocol.specs.declared.event.Event.{Event}
 use Rattle.ghs_protocol.specs.declared.event.Event.TheVariants.{Wake, Take}
 use Rattle.ghs_protocol.specs.Interleavings.{EventsHaveRules, SendsWithinBound}
 use Rattle.ghs_protocol.specs.Laws.{IsLater, IsNetOf, LedgerBalances, NodesStayAwake, TakesAreCounted}
-use Rattle.ghs_protocol.specs.Ledger.{in_all, takes_in}
+use Rattle.ghs_protocol.specs.Ledger.{takes_in}
 use Rattle.ghs_protocol.specs.Marks.{HasEnded}
 use Rattle.ghs_protocol.specs.Net.{Net, event_node, is_lawful, one_if_requeued, opening}
-use Rattle.ghs_protocol.specs.Network.{At, Network, network_of}
-use Rattle.ghs_protocol.specs.Run.{IsAfter, net_after}
+use Rattle.ghs_protocol.specs.Network.{Network, network_of}
+use Rattle.ghs_protocol.specs.Run.{net_after}
 use Rattle.ghs_protocol.specs.Schedules.{AllMayWake, PatienceLasts}
 use Rattle.ghs_protocol.specs.Steps as steps
 use Rattle.ghs_protocol.specs.Steps.{Happens, Woke, Took}
@@ -50,7 +49,7 @@ use Rattle.ghs_chain.proofs.Lengths.{same_lengths}
 use Rattle.ghs_patient.proofs.lemmas.Picked.{in_either, picked_in}
 use Rattle.ghs_rounds.proofs.Picked.{lawful_pick, picked}
 use Rattle.ghs_rounds.proofs.Settling.{some_now}
-use Rattle.ghs_rounds.proofs.Steps.{IsTimed, Promised, Turns, back_turns, moves_fate, port_in}
+use Rattle.ghs_rounds.proofs.Steps.{Promised, Turns, back_turns, moves_fate, port_in}
 use Rattle.ghs_rounds.proofs.Told as of
 use Rattle.ghs_rounds.proofs.Told.{IsTold, told}
 

@@ -1,18 +1,16 @@
 -- What an event of a round, and the beginning of the next, leave of a run by rounds.
-use Rattle.std.proofs.Common.{◌≡◌, ◌≢◌, ℕ, zero, suc, ◌<◌, ◌≤◌, Bool, true, false, ◌&&◌, not, Some, None, Option, List, [], ◌∷◌, ◌++◌, length, filter, refl, sym, ◌∙◌, ap, subst, ⊎_elim, inl, inr, ◌⊎◌, arith, length-append}
+use Rattle.std.proofs.Common.{◌≡◌, ◌≢◌, ℕ, suc, ◌<◌, ◌≤◌, Bool, true, false, ◌&&◌, not, Some, Option, List, [], ◌∷◌, ◌++◌, length, filter, refl, sym, ◌∙◌, ap, subst, ⊎_elim, inl, inr, ◌⊎◌, arith, length-append}
 use Rattle.std.specs.List.{All, Contains, slice_get}
 use Rattle.std.proofs.lemmas.Bool.{and_from, and_parts, both_ways, cases_Bool, cases_eq, le-leb, leb-false, leb-true, not-true}
 use Rattle.std.specs.Prelude.{nat_le}
 use Rattle.std.proofs.lemmas.List.Elements.{All-nil, All-cons}
 use Rattle.std.proofs.lemmas.Option.{same_Some}
-use Rattle.ghs_graph.specs.Graph.{Shape, IsGraph}
+use Rattle.ghs_graph.specs.Graph.{Shape}
 use Rattle.ghs_graph.proofs.lemmas.Members.{filter_has, nothing_in}
 use Rattle.ghs_node.specs.declared.delta.Delta.{Delta}
 use Rattle.ghs_node.specs.declared.delta.Fate.{Fate}
 use Rattle.ghs_node.specs.declared.delta.Fate.TheVariants.{Consumed, Requeued}
 use Rattle.ghs_node.specs.declared.message.Message.{Message}
-use Rattle.ghs_node.specs.declared.message.Phase.{Phase}
-use Rattle.ghs_node.specs.declared.message.Phase.TheVariants.{Sleeping, Find, Found}
 use Rattle.ghs_node.specs.NodeState.{NodeState, degree}
 use Rattle.ghs_node.specs.Reaction.{reaction, requeues}
 use Rattle.ghs_node.specs.Words.{is_sleeping}
@@ -24,9 +22,9 @@ use Rattle.ghs_protocol.specs.Living.{OneWaits, RequeuesAreWaits, Turned, Waitin
 use Rattle.ghs_protocol.specs.Net.{Net, event_node, is_lawful, is_lawful_under, is_node, is_port, is_waiting, put}
 use Rattle.ghs_protocol.specs.Network.{At, Network, network_of}
 use Rattle.ghs_protocol.specs.Run.{and_then, run}
-use Rattle.ghs_protocol.specs.Schedules.{LeftAlone, OthersLeaveAlone}
+use Rattle.ghs_protocol.specs.Schedules.{OthersLeaveAlone}
 use Rattle.ghs_protocol.specs.Steps.{Happens}
-use Rattle.ghs_protocol.proofs.lemmas.Events.{at_of, happens_so, is_port_of, node_of}
+use Rattle.ghs_protocol.proofs.lemmas.Events.{at_of, happens_so, is_port_of}
 use Rattle.ghs_protocol.proofs.lemmas.Graphs.{graph_few, graph_wired}
 use Rattle.ghs_protocol.proofs.lemmas.Nodes.{ports_many}
 use Rattle.ghs_protocol.proofs.lemmas.Runs.{after_more}
@@ -37,15 +35,16 @@ use Rattle.ghs_protocol.proofs.lemmas.Woken.{asleep_or_not}
 use Rattle.ghs_core.specs.NetState.{delivery, work_at}
 use Rattle.ghs_core.specs.Waits.{waits}
 use Rattle.ghs_core.proofs.lemmas.Waiting.{waits_so, waits_test}
-use Rattle.ghs_index.specs.Places.{HasPlace, all_events}
+use Rattle.ghs_index.specs.Places.{all_events}
 use Rattle.ghs_world.proofs.lemmas.Listed.{listed}
-use Rattle.ghs_chain.specs.Chains.{Chains, hears, reacted, sent, taken}
+use Rattle.ghs_chain.specs.Chains.{Chains, hears, reacted, taken}
 use Rattle.ghs_chain.proofs.Bounding.{IsWithin, more_within}
 use Rattle.ghs_patient.specs.Patience.{first_waits, moves_on, or_else, puts_back}
 use Rattle.ghs_rounds.specs.Rounds.{has_due_second, hides_due, is_by, is_due, moves_due, round_events}
 use Rattle.ghs_chain.proofs.Lengths.{SameLengths}
-use Rattle.ghs_rounds.proofs.Sending.{IsTimely, reacted_timely}
-use Rattle.ghs_rounds.proofs.Timing.{AreLate, HasCome, heard_is, hears_node, hears_queue, late_all, late_append, sent_come, sent_node}
+use Rattle.ghs_chain.proofs.lemmas.Hears.{hears_node}
+use Rattle.ghs_rounds.proofs.Sending.{reacted_timely}
+use Rattle.ghs_rounds.proofs.Timing.{AreLate, HasCome, heard_is, hears_queue, late_all, late_append, sent_come, sent_node}
 
 -- No number is greater than the round, nor a message's than the next; after round 0 nobody wakes by itself; and who hasn't the round's number yet hears of
 -- nothing that gives it less.

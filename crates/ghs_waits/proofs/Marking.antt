@@ -1,5 +1,5 @@
 -- Marks of the index, set one by one.
-use Rattle.std.proofs.Common.{◌≡◌, ◌≢◌, ℕ, ◌+◌, ◌<◌, ◌≤◌, true, Option, Some, List, length, ◌∙◌, length-set}
+use Rattle.std.proofs.Common.{◌≡◌, ◌≢◌, ℕ, ◌+◌, ◌<◌, ◌≤◌, true, Some, length, ◌∙◌, length-set}
 use Rattle.std.specs.List.{All}
 use Rattle.ghs_graph.specs.Graph.{IsGraph}
 use Rattle.ghs_graph.specs.Ports.{ports_of}
@@ -88,9 +88,11 @@ module _ (s : WorldState) where
     pub own_one : (m : ℕ × Mark) → are_alike before d.head ≡ true → d.mark ≡ Some m → HasPlace (network s.net) (Take v m.0) →
         AreMarks s (marked s (Take v m.0) c)
     own_one m alike is there =
-        walks.own_one IndexState (network s.net) (AreMarksBut s) (marked s) right_marked right_wider (AreMarks s) all_right v before d c h m alike is there
+        walks.own_one IndexState (network s.net) (AreMarksBut s) (marked s) right_marked right_wider
+        (AreMarks s) all_right v before d c h m alike is there
 
     -- none
     pub own_none : are_alike before d.head ≡ true → ((m : ℕ × Mark) → d.mark ≡ Some m → ⊥) → AreMarks s c
     own_none alike unmarked =
-        walks.own_none IndexState (network s.net) (AreMarksBut s) (marked s) right_marked right_wider (AreMarks s) all_right v before d c h alike unmarked
+        walks.own_none IndexState (network s.net) (AreMarksBut s) (marked s) right_marked right_wider
+        (AreMarks s) all_right v before d c h alike unmarked

@@ -1,12 +1,12 @@
 -- What such a schedule picks is lawful.
 use Rattle.std.proofs.Common.{◌≡◌, ℕ, ◌<◌, ◌≤◌, ◌%◌, Bool, true, not, Some, List, [], ◌∷◌, filter, length, slice_get, arith, ap, subst, inl, inr, ◌⊎◌, refl, sym, ◌∙◌}
 use Rattle.std.specs.List.{Contains}
-use Rattle.std.proofs.lemmas.Bool.{and_from, and_parts}
+use Rattle.std.proofs.lemmas.Bool.{and_from}
 use Rattle.ghs_graph.proofs.lemmas.Members.{in_filter}
 use Rattle.ghs_protocol.specs.declared.event.Event.{Event}
 use Rattle.ghs_protocol.specs.declared.event.Event.TheVariants.{Wake, Take}
 use Rattle.ghs_protocol.specs.Network.{Network}
-use Rattle.ghs_protocol.specs.Net.{Net, event_node, is_lawful, is_lawful_under, is_node, is_port, is_waiting}
+use Rattle.ghs_protocol.specs.Net.{Net, event_node, is_lawful_under, is_port, is_waiting}
 use Rattle.ghs_protocol.proofs.lemmas.Events.{is_port_of}
 use Rattle.ghs_protocol.proofs.lemmas.Runs.{lawful_under}
 use Rattle.ghs_core.specs.NetState.{IsLawful, network}

@@ -1,20 +1,20 @@
 -- How a patient run grows, and that it is short.
-use Rattle.std.proofs.Common.{◌≡◌, ℕ, suc, ◌+◌, ◌*◌, ◌<◌, ◌≤◌, Bool, true, false, ◌&&◌, Some, List, [], ◌∷◌, ◌++◌, length, refl, sym, ◌∙◌, ap, ap₂, subst, ⊎_elim, ◌⊎◌, arith, length-append, append_assoc, append-nil}
-use Rattle.std.proofs.lemmas.Bool.{and_from, and_parts, both_ways, lt-ltb, ltb-true}
+use Rattle.std.proofs.Common.{◌≡◌, ℕ, ◌+◌, ◌*◌, ◌<◌, ◌≤◌, Bool, false, Some, List, [], ◌∷◌, ◌++◌, length, refl, sym, ◌∙◌, ap, ap₂, subst, ⊎_elim, arith, length-append, append_assoc, append-nil}
+use Rattle.std.proofs.lemmas.Bool.{and_from, both_ways, lt-ltb}
 use Rattle.std.proofs.lemmas.List.{length_push}
 use Rattle.std.proofs.lemmas.Option.{same_Some}
 use Rattle.ghs_graph.specs.Bound.{IsBound}
-use Rattle.ghs_graph.specs.Graph.{Shape, IsGraph}
+use Rattle.ghs_graph.specs.Graph.{Shape}
 use Rattle.ghs_protocol.specs.declared.event.Event.{Event}
 use Rattle.ghs_protocol.specs.Laws.{IsNetOf}
 use Rattle.ghs_protocol.specs.Marks.{HasEnded}
 use Rattle.ghs_protocol.specs.Network.{Network, network_of}
 use Rattle.ghs_protocol.specs.Net.{Net, happens}
-use Rattle.ghs_protocol.specs.Run.{IsRun, and_then, net_after, run}
+use Rattle.ghs_protocol.specs.Run.{and_then, net_after, run}
 use Rattle.ghs_protocol.specs.Schedules.{AllMayWake, And_then, IsPatient, IsPatientIn, No_more, PatienceLasts, PatientRunsAreShort}
 use Rattle.ghs_protocol.specs.Steps.{Happens}
 use Rattle.ghs_protocol.proofs.lemmas.Events.{happening, happens_so}
-use Rattle.ghs_protocol.proofs.lemmas.Runs.{after_is_net, after_more, both_some, run_keeps, run_more}
+use Rattle.ghs_protocol.proofs.lemmas.Runs.{after_more, run_keeps, run_more}
 use Rattle.ghs_core.specs.NetState.{network}
 use Rattle.ghs_world.specs.Steps.{IsSameWorld, Makes}
 use Rattle.ghs_world.specs.WorldState.{WorldState, has_turn, home, wakers}

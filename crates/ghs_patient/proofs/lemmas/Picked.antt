@@ -1,5 +1,5 @@
 -- What is picked of one list or, where it is empty, of another.
-use Rattle.std.proofs.Common.{◌≡◌, ℕ, Bool, true, false, not, List, [], ◌∷◌, refl, sym, ◌∙◌, ap, subst, inl, inr, ◌⊎◌}
+use Rattle.std.proofs.Common.{◌≡◌, ℕ, Bool, true, not, List, [], ◌∷◌, refl, sym, ◌∙◌, ap, subst, inl, inr, ◌⊎◌}
 use Rattle.std.specs.List.{Contains}
 use Rattle.std.proofs.lemmas.Bool.{and_parts}
 use Rattle.std.proofs.lemmas.List.Elements.{Contains-get_or}
@@ -39,7 +39,8 @@ second_there n p (m ∷ ms) t = refl
 pub take_patient : (may : ℕ → Bool) (g : Network) (w : Net) (v p : ℕ) (q : List Message) → w.queue v p ≡ q →
     is_lawful_under may g w (Take v p) ≡ true → not (puts_back w (Take v p)) ≡ true →
     IsPatientIn g w (Take v p)
-take_patient may g w v p [] e lawful goes = absurd (let z : is_waiting [] ≡ true = ap is_waiting (sym e) ∙ (and_parts (is_port g v p) _ lawful).1 in cc)
+take_patient may g w v p [] e lawful goes =
+    absurd (let z : is_waiting [] ≡ true = ap is_waiting (sym e) ∙ (and_parts (is_port g v p) _ lawful).1 in cc)
 take_patient may g w v p (m ∷ ms) e lawful goes =
     Moves_on v p m ms e
     (λ z. let f : not (waits (w.node v) p m) ≡ true = ap (λ x. not (first_waits (w.node v) p x)) (sym e) ∙ goes in

@@ -21,6 +21,7 @@ use Rattle.ghs_index.specs.Index.{IndexState, IsFor}
 use Rattle.ghs_index.specs.Places.{HasPlace, all_events, place}
 use Rattle.ghs_index.proofs.lemmas.Places.{placed, place_within}
 use Rattle.ghs_patient.specs.Choices.{IsMarked, IsOwn, IsStirred, are_alike, far_takes}
+use Rattle.ghs_patient.specs.Walks.{on_each, on_takes}
 use Rattle.ghs_patient.proofs.lemmas.Places.{own_node}
 
 -- one mark more is right
@@ -118,16 +119,6 @@ own_unmarked v before d alike unmarked (Wake u) w = w
 own_unmarked v before d alike unmarked (Take u q) w =
     ⊎_elim (λ f. both_ways (are_alike before d.head) f alike) (λ k. not_marked d.mark q unmarked k) w.1
 
--- the Takes at the first ports of a node are put right, one after another
-abbrev pub put_to : {C : Type 0} → (Event → C → C) → ℕ → ℕ → C → C
-put_to put v zero c = c
-put_to put v (suc n) c = put (Take v n) (put_to put v n c)
-
--- and several events
-abbrev pub put_all : {C : Type 0} → (Event → C → C) → List Event → C → C
-put_all put [] c = c
-put_all put (e ∷ es) c = put_all put es (put e c)
-
 -- of all events only Takes of a node that has reacted may be wrong, at ports where other messages may wait now
 pub record AreOwnLeft (C : Type 0) (g : Network) (But : (Event → Type 0) → C → Type 0) (v : ℕ) (before : Head) (d : Delta) (c : C) : Type 0 where
   pub low : 1 ≤ v
@@ -139,27 +130,27 @@ module _ (C : Type 0) (g : Network) (But : (Event → Type 0) → C → Type 0) 
     (one : (wrong : Event → Type 0) (e : Event) (c : C) → But wrong c → HasPlace g e → But (λ f. wrong f × (f ≢ e)) (put e c))
     (wider : (wrong more : Event → Type 0) (c : C) → But wrong c → ((f : Event) → HasPlace g f → wrong f → more f) → But more c) where
   pub right_to : (wrong : Event → Type 0) (v n : ℕ) (c : C) → But wrong c → ((q : ℕ) → q < n → HasPlace g (Take v q)) →
-      But (λ f. wrong f × (IsBelow v n f → ⊥)) (put_to put v n c)
+      But (λ f. wrong f × (IsBelow v n f → ⊥)) (on_takes put v n c)
   right_to wrong v zero c h has = wider wrong (λ f. wrong f × (IsBelow v 0 f → ⊥)) c h (λ f there w. (w, none_below v f))
   right_to wrong v (suc n) c h has =
-      wider (λ f. (wrong f × (IsBelow v n f → ⊥)) × (f ≢ Take v n)) (λ f. wrong f × (IsBelow v (suc n) f → ⊥)) (put_to put v (suc n) c)
-      (one (λ f. wrong f × (IsBelow v n f → ⊥)) (Take v n) (put_to put v n c)
+      wider (λ f. (wrong f × (IsBelow v n f → ⊥)) × (f ≢ Take v n)) (λ f. wrong f × (IsBelow v (suc n) f → ⊥)) (on_takes put v (suc n) c)
+      (one (λ f. wrong f × (IsBelow v n f → ⊥)) (Take v n) (on_takes put v n c)
       (right_to wrong v n c h (λ q lt. has q (omega (arith, lt)))) (has n (omega arith)))
       (λ f there w. (w.0.0, not_below v n f w.0.1 w.1))
 
   pub right_all : (wrong : Event → Type 0) (es : List Event) (c : C) → But wrong c → ((f : Event) → Contains es f → HasPlace g f) →
-      But (λ f. wrong f × (Contains es f → ⊥)) (put_all put es c)
+      But (λ f. wrong f × (Contains es f → ⊥)) (on_each put es c)
   right_all wrong [] c h has = wider wrong (λ f. wrong f × (Contains [] f → ⊥)) c h (λ f there w. (w, nothing_in f))
   right_all wrong (e ∷ es) c h has =
-      wider (λ f. (wrong f × (f ≢ e)) × (Contains es f → ⊥)) (λ f. wrong f × (Contains (e ∷ es) f → ⊥)) (put_all put (e ∷ es) c)
+      wider (λ f. (wrong f × (f ≢ e)) × (Contains es f → ⊥)) (λ f. wrong f × (Contains (e ∷ es) f → ⊥)) (on_each put (e ∷ es) c)
       (right_all (λ f. wrong f × (f ≢ e)) es (put e c) (one wrong e c h (has e (first_in e es))) (λ f k. has f (later_in e f es k)))
       (λ f there w. (w.0.0, λ k. ⊎_elim w.1 (λ z. w.0.1 (sym z)) (in_cases e f es k)))
 
   -- the events of a node
   pub one_node : (v n : ℕ) (c : C) → But (IsFrom v) c → 1 ≤ v → v ≤ g.count → n ≡ length (g.ports v) →
-      But (IsFrom (v + 1)) (put_to put v n (put (Wake v) c))
+      But (IsFrom (v + 1)) (on_takes put v n (put (Wake v) c))
   one_node v n c h lo hi many =
-      wider (λ f. (IsFrom v f × (f ≢ Wake v)) × (IsBelow v n f → ⊥)) (IsFrom (v + 1)) (put_to put v n (put (Wake v) c))
+      wider (λ f. (IsFrom v f × (f ≢ Wake v)) × (IsBelow v n f → ⊥)) (IsFrom (v + 1)) (on_takes put v n (put (Wake v) c))
       (right_to (λ f. IsFrom v f × (f ≢ Wake v)) v n (put (Wake v) c) (one (IsFrom v) (Wake v) c h (lo, hi))
       (λ q lt. record { some = lo; node = hi; port = omega (arith, lt, many) }))
       (from_next g v n many)
@@ -168,11 +159,11 @@ module _ (C : Type 0) (g : Network) (But : (Event → Type 0) → C → Type 0) 
   stirred_left : (e : Event) (before : Head) (d : Delta) (c : C) → HasPlace g e →
       ((f : Event) → Contains (far_takes g (event_node e) d.sends) f → HasPlace g f) →
       But (IsStirred g e before d) c →
-      But (IsOwn (event_node e) before d) (put_all put (far_takes g (event_node e) d.sends) (put e (put (Wake (event_node e)) c)))
+      But (IsOwn (event_node e) before d) (on_each put (far_takes g (event_node e) d.sends) (put e (put (Wake (event_node e)) c)))
   stirred_left e before d c has places stirred =
       wider
       (λ f. ((IsStirred g e before d f × (f ≢ Wake (event_node e))) × (f ≢ e)) × (Contains (far_takes g (event_node e) d.sends) f → ⊥))
-      (IsOwn (event_node e) before d) (put_all put (far_takes g (event_node e) d.sends) (put e (put (Wake (event_node e)) c)))
+      (IsOwn (event_node e) before d) (on_each put (far_takes g (event_node e) d.sends) (put e (put (Wake (event_node e)) c)))
       (right_all (λ f. (IsStirred g e before d f × (f ≢ Wake (event_node e))) × (f ≢ e)) (far_takes g (event_node e) d.sends)
       (put e (put (Wake (event_node e)) c))
       (one (λ f. IsStirred g e before d f × (f ≢ Wake (event_node e))) e (put (Wake (event_node e)) c)
@@ -188,21 +179,21 @@ module _ (C : Type 0) (g : Network) (But : (Event → Type 0) → C → Type 0) 
       v ≡ event_node e → sends ≡ d.sends → HasPlace g e →
       ((f : Event) → Contains (far_takes g (event_node e) d.sends) f → HasPlace g f) →
       But (IsStirred g e before d) c →
-      first ≡ put (Wake v) c → second ≡ put e first → third ≡ put_all put (far_takes g v sends) second →
+      first ≡ put (Wake v) c → second ≡ put e first → third ≡ on_each put (far_takes g v sends) second →
       AreOwnLeft C g But v before d third
   stirred_seen e before d v sends c first second third node out has places stirred a b z =
       let own = own_node g e has in
-      let is : third ≡ put_all put (far_takes g (event_node e) d.sends) (put e (put (Wake (event_node e)) c)) =
-      z ∙ ap₂ (λ u ss. put_all put (far_takes g u ss) second) node out
-      ∙ ap (put_all put (far_takes g (event_node e) d.sends)) (b ∙ ap (put e) (a ∙ ap (λ u. put (Wake u) c) node)) in
+      let is : third ≡ on_each put (far_takes g (event_node e) d.sends) (put e (put (Wake (event_node e)) c)) =
+      z ∙ ap₂ (λ u ss. on_each put (far_takes g u ss) second) node out
+      ∙ ap (on_each put (far_takes g (event_node e) d.sends)) (b ∙ ap (put e) (a ∙ ap (λ u. put (Wake u) c) node)) in
       rw (node, is) (record { low = own.0; high = own.1; left = stirred_left e before d c has places stirred })
 
   -- Then all is right once the Takes of the node have been put right, or the one that was marked.
   module _ (Right : C → Type 0) (all_right : (wrong : Event → Type 0) (c : C) → But wrong c → ((f : Event) → HasPlace g f → wrong f → ⊥) → Right c)
       (v : ℕ) (before : Head) (d : Delta) (c : C) (seen : AreOwnLeft C g But v before d c) where
-    pub own_all : (n : ℕ) → n ≡ length (g.ports v) → Right (put_to put v n c)
+    pub own_all : (n : ℕ) → n ≡ length (g.ports v) → Right (on_takes put v n c)
     own_all n many =
-        all_right (λ f. IsOwn v before d f × (IsBelow v n f → ⊥)) (put_to put v n c)
+        all_right (λ f. IsOwn v before d f × (IsBelow v n f → ⊥)) (on_takes put v n c)
         (right_to (IsOwn v before d) v n c seen.left (λ q lt. record { some = seen.low; node = seen.high; port = omega (arith, lt, many) }))
         (own_past g v n before d many)
 
