@@ -1,30 +1,21 @@
 -- The chains of one event more.
 use Rattle.std.proofs.Common.{◌≡◌, ◌-◌, ◌^◌, add-one, drop, slice_index, suc, take, ℕ, Bool, true, ◌<◌, ◌≤◌, Option, Some, None, List, [], ◌∷◌, ◌++◌, length, sym, ◌∙◌, ap, subst, arith}
-use Rattle.std.specs.List.{All, slice_index_or}
+use Rattle.std.specs.List.{slice_index_or}
 use Rattle.std.proofs.lemmas.Bool.{and_parts}
 use Rattle.std.proofs.lemmas.List.{take-append-drop, take_all}
 use Rattle.std.proofs.lemmas.Option.{same_Some}
 use Rattle.std.proofs.Math.Seq.{drop-cons}
-use Rattle.ghs_graph.specs.Graph.{Shape, IsGraph}
-use Rattle.ghs_graph.specs.Ports.{ports_of}
+use Rattle.ghs_graph.specs.Graph.{Shape}
 use Rattle.ghs_node.specs.declared.delta.Delta.{Delta}
 use Rattle.ghs_node.specs.declared.delta.Fate.{Fate}
-use Rattle.ghs_node.specs.declared.message.Message.{Message}
-use Rattle.ghs_node.specs.declared.work.Work.{Work}
-use Rattle.ghs_node.specs.NodeState.{NodeState}
-use Rattle.ghs_node.specs.Rows.{Row}
 use Rattle.ghs_node.specs.Words.{is_sleeping}
-use Rattle.ghs_node.proofs.lemmas.{row_ported}
 use Rattle.ghs_protocol.specs.declared.event.Event.{Event}
 use Rattle.ghs_protocol.specs.declared.event.Event.TheVariants.{Wake, Take}
 use Rattle.ghs_protocol.specs.Net.{Net, event_node, happens, is_lawful, opening}
-use Rattle.ghs_protocol.specs.Network.{At, Network, far, far_port, network_of}
+use Rattle.ghs_protocol.specs.Network.{At, Network, network_of}
 use Rattle.ghs_protocol.specs.Run.{IsRun, and_then, net_after, run}
-use Rattle.ghs_protocol.proofs.lemmas.Events.{at_of, if_some, node_of}
-use Rattle.ghs_protocol.proofs.lemmas.Graphs.{graph_few, graph_wired}
-use Rattle.ghs_protocol.proofs.lemmas.Nodes.{ports_many}
+use Rattle.ghs_protocol.proofs.lemmas.Events.{at_of, if_some}
 use Rattle.ghs_protocol.proofs.lemmas.Runs.{after_is_net, both_some, net_after_is, run_splits}
-use Rattle.ghs_protocol.proofs.lemmas.WellFormed.{IsWellFormed, after_formed, sends_arrive}
 use Rattle.ghs_core.specs.NetState.{IsAnswer, IsLawful, NetState, net_of, network}
 use Rattle.ghs_chain.specs.Chains.{Chains, answered, chains_after, chains_of, chains_then, hears, if_then, longest_chain, most_below, no_chains, reacted, sent}
 use Rattle.ghs_chain.specs.Kept.{AreChains, Fits, HasPlace, HasPlaceOf, Kept, SamePlaces, seen}
@@ -88,32 +79,6 @@ place_at g k v p f at = record {
 pub place_of : (s : NetState) (k : Kept) (e : Event) → Fits s.graph k → IsLawful s e → HasPlaceOf k e
 place_of s k (Wake v) f l = tt
 place_of s k (Take v p) f l = place_at s.graph k v p f (at_of (network s) v p (and_parts _ _ l).0)
-
--- the node of an event is a node
-pub event_at : (s : NetState) (e : Event) → IsLawful s e → (1 ≤ event_node e) × (event_node e ≤ s.graph.nodes)
-event_at s (Wake v) l = node_of (network s) v (and_parts _ _ l).0
-event_at s (Take v p) l = let at = at_of (network s) v p (and_parts _ _ l).0 in (at.some, at.node)
-
--- a reaction sends on ports, and what it sends arrives at ports
-module _ (s : NetState) (graph : IsGraph s.graph) (r : IsRun (network s) s.trace) (e : Event) (lawful : IsLawful s e) (n : NodeState) (w : Work) (d : Delta)
-    (same : n ≡ (net_of s).node (event_node e)) (row : Row n w d) where
-  formed : IsWellFormed (network s) (net_of s)
-  formed = after_formed (network s) (graph_wired s.graph graph) (graph_few s.graph graph) s.trace (net_of s) (after_is_net s.graph s.trace r)
-
-  of_node : Row ((net_of s).node (event_node e)) w d
-  of_node = let P : NodeState → Type 0 = λ m. Row m w d in subst P same row
-
-  pub sends_on : All (λ (x : ℕ × Message). x.0 < length (ports_of s.graph.keys (event_node e))) d.sends
-  sends_on i x lt =
-      let a = row_ported _ _ d (formed.nodes (event_node e)).node of_node i x lt in
-      let b = ports_many (formed.nodes (event_node e)) in
-      omega (arith, a, b)
-
-  pub sends_to : (k : Kept) → Fits s.graph k →
-      All (λ (x : ℕ × Message). HasPlace k (far (network s) (event_node e) x.0) (far_port (network s) (event_node e) x.0)) d.sends
-  sends_to k f i x lt =
-      place_at s.graph k _ _ f
-      (sends_arrive (network s) (graph_wired s.graph graph) (event_node e) _ w d (event_at s e lawful).0 (event_at s e lawful).1 (formed.nodes (event_node e)) of_node i x lt)
 
 -- the same, where room was made before the event was played
 pub follows_reserved : (s t s' : NetState) (e : Event) (d : Delta) (k k1 k' : Kept) → AreChains s k → t.graph ≡ s.graph → t.trace ≡ s.trace →

@@ -1,4 +1,4 @@
--- Serves the proofs: nothing here has to be believed.
+-- Serves the proofs: nothing here has to be believed. lemmas is what proofs above this crate may use.
 pub mod Following
 pub mod Bounding
 pub mod Placing
@@ -8,3 +8,4 @@ pub mod Flat
 pub mod Swapping
 pub mod Carrying
 mod Examples
+pub mod lemmas

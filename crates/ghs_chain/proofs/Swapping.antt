@@ -42,6 +42,7 @@ use Rattle.ghs_chain.specs.Chains.{Chains, answered, behind, chains_after, chain
 use Rattle.ghs_chain.specs.Swaps.{AreAlike, AreApart, No_swap, OrdersAreAlike, PutsBackAt, SendsTo, Swap_more, SwapsAreAlike, answer}
 use Rattle.ghs_chain.proofs.Filling.{IsFit, OnPorts, StaysClear, acts, acts_swap, comes, fills, first_stays, on_port, taking, turned}
 use Rattle.ghs_chain.proofs.Lengths.{SameLengths, same_lengths}
+use Rattle.ghs_chain.proofs.lemmas.Hears.{hears_node}
 
 -- The net after an event, by what its node does.
 
@@ -368,14 +369,6 @@ told g b e d c = sent g (event_node e) d.sends (hears e b d.fate c)
 abbrev number : Event → Bool → Fate → Chains → ℕ
 number e b f c = (hears e b f c).node (event_node e)
 
-hears_there : (e : Event) (b : Bool) (f : Fate) (c : Chains) (v : ℕ) → v ≢ event_node e → (hears e b f c).node v ≡ c.node v
-hears_there (Wake u) b f c v ne = refl
-hears_there (Take u p) b f c v ne = go (c.queue u p)
-  where
-    go : (l : List ℕ) → (taken u p b f l c).node v ≡ c.node v
-    go [] = refl
-    go (t ∷ ts) = put_other c.node u v _ ne
-
 hears_queue : (e : Event) (b : Bool) (f : Fate) (c : Chains) → IsThere c.queue e → (hears e b f c).queue ≡ taking e f c.queue
 hears_queue (Wake u) b f c there = refl
 hears_queue (Take u p) b f c there = go (c.queue u p) refl
@@ -416,7 +409,7 @@ module _ (g : Network) (b : Bool) (e : Event) (d : Delta) (c : Chains) where
   told_here = ap (λ (n : ℕ → ℕ). n (event_node e)) (sent_node g (event_node e) d.sends (hears e b d.fate c))
 
   told_there : (v : ℕ) → v ≢ event_node e → (told g b e d c).node v ≡ c.node v
-  told_there v ne = ap (λ (n : ℕ → ℕ). n v) (sent_node g (event_node e) d.sends (hears e b d.fate c)) ∙ hears_there e b d.fate c v ne
+  told_there v ne = ap (λ (n : ℕ → ℕ). n v) (sent_node g (event_node e) d.sends (hears e b d.fate c)) ∙ hears_node e b d.fate c v ne
 
   told_queue : IsThere c.queue e → (told g b e d c).queue ≡ acts g e d.fate (stamped (suc (number e b d.fate c)) d.sends) c.queue
   told_queue there =

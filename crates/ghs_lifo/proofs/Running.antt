@@ -1,32 +1,25 @@
 -- What such a run keeps.
-use Rattle.std.proofs.Common.{◌≡◌, ℕ, ◌+◌, ◌<◌, Bool, true, false, not, List, [], ◌∷◌, ◌++◌, length, Some, refl, sym, ◌∙◌, ap, ap₂, subst, subst₂, ⊎_elim, arith}
-use Rattle.std.proofs.lemmas.Bool.{and_from, and_parts, both_ways, lt-ltb, ltb-true}
+use Rattle.std.proofs.Common.{◌≡◌, ℕ, ◌+◌, ◌<◌, true, not, List, [], ◌∷◌, ◌++◌, length, refl, ◌∙◌, ap, subst₂, ⊎_elim, arith}
+use Rattle.std.proofs.lemmas.Bool.{and_from, and_parts, ltb-true}
 use Rattle.std.proofs.lemmas.List.{length_push}
 use Rattle.ghs_graph.specs.Graph.{Shape}
-use Rattle.ghs_node.specs.declared.message.Message.{Message}
 use Rattle.ghs_protocol.specs.declared.event.Event.{Event}
 use Rattle.ghs_protocol.specs.declared.event.Event.TheVariants.{Wake, Take}
-use Rattle.ghs_protocol.specs.Laws.{IsNetOf}
 use Rattle.ghs_protocol.specs.Marks.{HasEnded}
-use Rattle.ghs_protocol.specs.Net.{Net, is_lawful_under, is_port, is_waiting}
-use Rattle.ghs_protocol.specs.Network.{Network, network_of}
+use Rattle.ghs_protocol.specs.Net.{is_port}
+use Rattle.ghs_protocol.specs.Network.{network_of}
 use Rattle.ghs_protocol.specs.Run.{net_after}
-use Rattle.ghs_protocol.specs.Schedules.{IsPatientIn, Moves_on, PatienceLasts, PatientRunsAreShort}
 use Rattle.ghs_protocol.proofs.lemmas.Events.{at_of}
-use Rattle.ghs_protocol.proofs.lemmas.Runs.{after_more, run_keeps}
 use Rattle.ghs_core.specs.NetState.{network}
-use Rattle.ghs_core.specs.Waits.{waits}
-use Rattle.ghs_core.proofs.lemmas.Waiting.{waits_test}
 use Rattle.ghs_world.specs.declared.wake_set.WakeSet.{WakeSet}
 use Rattle.ghs_world.specs.Outs.{Outs, is_out}
-use Rattle.ghs_world.specs.Steps.{IsSameWorld, Makes}
+use Rattle.ghs_world.specs.Steps.{IsSameWorld}
 use Rattle.ghs_world.specs.Wakes.{may_wake}
 use Rattle.ghs_world.specs.WorldState.{WorldState, has_turn, home, may_happen, wakers}
-use Rattle.ghs_world.proofs.lemmas.Waking.{each_is_woken}
 use Rattle.ghs_sched.specs.Picks.{IsPick}
-use Rattle.ghs_patient.specs.Patience.{first_waits, patient_events, puts_back}
-use Rattle.ghs_patient.specs.Runs.{HasTurns, IsShort}
-use Rattle.ghs_patient.proofs.Growing.{HasGrown, grown_more, grown_not, short, shorter}
+use Rattle.ghs_patient.specs.Patience.{patient_events}
+use Rattle.ghs_patient.proofs.lemmas.Growing.{still_going}
+use Rattle.ghs_patient.proofs.lemmas.Picked.{take_patient}
 use Rattle.ghs_patient.proofs.Picks.{Pickable}
 use Rattle.ghs_patient.proofs.Picks as patient
 use Rattle.ghs_lifo.specs.Latest.{IsLatest, NoTakeMoves}
@@ -34,15 +27,6 @@ use Rattle.ghs_lifo.specs.Newest.{newest_of}
 use Rattle.ghs_lifo.specs.Runs.{Begun, HasMadeNext, HasRun, IsLatestIn, IsNext, IsPickedLast, Latest, NoTakeMovesIn, Picked}
 
 -- What is next is lawful and patient.
-
-module _ (may : ℕ → Bool) (g : Network) (w : Net) where
-  first_is : (v p : ℕ) (q : List Message) → w.queue v p ≡ q → is_lawful_under may g w (Take v p) ≡ true → not (puts_back w (Take v p)) ≡ true →
-      IsPatientIn g w (Take v p)
-  first_is v p [] e lawful goes = absurd (let z : is_waiting [] ≡ true = ap is_waiting (sym e) ∙ (and_parts (is_port g v p) _ lawful).1 in cc)
-  first_is v p (m ∷ ms) e lawful goes =
-      Moves_on v p m ms e
-      (λ z. let f : not (waits (w.node v) p m) ≡ true = ap (λ x. not (first_waits (w.node v) p x)) (sym e) ∙ goes in
-      let t = waits_test (w.node v) p m z in cc (f, t))
 
 latest_pickable : (s : WorldState) (e : Event) → s.outs ≡ [] → IsLatestIn s e → Pickable s e
 latest_pickable s (Wake v) out h = absurd h
@@ -55,7 +39,7 @@ latest_pickable s (Take v p) out h =
       high = at.node;
       lawful = t.0;
       ready = and_from (not (is_out s.outs v)) (may_happen s (Take v p)) (ap (λ (o : Outs). not (is_out o v)) out) t.0;
-      patient = first_is (wakers s) (network s.net) (home s) v p ((home s).queue v p) refl t.0 t.1;
+      patient = take_patient (wakers s) (network s.net) (home s) v p ((home s).queue v p) refl t.0 t.1;
     }
 
 pub pickable : (s : WorldState) (words : List ℕ) (e : Event) (after : List ℕ) → s.outs ≡ [] → IsNext s words e after → Pickable s e
@@ -64,9 +48,6 @@ pickable s words e after out next = ⊎_elim (λ h. latest_pickable s e out h.0)
 -- it begins with nothing out
 pub run_begins : (s t : WorldState) (words : List ℕ) → t ≡ record s { outs = [] } → HasRun s t words words
 run_begins s t words e = rw e (record { graph = refl; wake = refl; turns = refl; outs = refl; numbers = refl; picked = Begun })
-
-pub grown_begins : (s t : WorldState) → t ≡ record s { outs = [] } → HasGrown s.net.graph s.net.trace t.net.trace
-grown_begins s t e = rw e (grown_not s.net.graph s.net.trace)
 
 -- one event more
 module _ (old s : WorldState) (words used : List ℕ) (run : HasRun old s words used) where
@@ -90,9 +71,6 @@ module _ (old s : WorldState) (words used : List ℕ) (run : HasRun old s words 
       subst₂ P run.graph run.wake h
 
   module _ (going : HasEnded s.net.graph (home s) → ⊥) (turn : has_turn s ≡ true) where
-    going_still : HasEnded old.net.graph (net_after old.net.graph s.net.trace) → ⊥
-    going_still = subst (λ (g : Shape). HasEnded g (net_after g s.net.trace) → ⊥) run.graph going
-
     few : length s.net.trace < old.turns
     few =
         let left : length s.net.trace + length s.outs < s.turns = ltb-true _ _ (and_parts _ _ turn).0 in
@@ -102,8 +80,8 @@ module _ (old s : WorldState) (words used : List ℕ) (run : HasRun old s words 
     picked_more : (e : Event) (after : List ℕ) → IsNext s used e after →
         IsPickedLast (wakers old) old.net.graph old.turns old.net.trace words (s.net.trace ++ e ∷ []) after
     picked_more e after next = ⊎_elim
-        (λ h. rw h.1 (Latest s.net.trace used e run.picked going_still few (same_latest e h.0)))
-        (λ h. rw h.2 (Picked s.net.trace used e run.picked going_still few (same_none h.0) (same_pick e h.1)))
+        (λ h. rw h.1 (Latest s.net.trace used e run.picked (still_going old s run.graph going) few (same_latest e h.0)))
+        (λ h. rw h.2 (Picked s.net.trace used e run.picked (still_going old s run.graph going) few (same_none h.0) (same_pick e h.1)))
         next
 
     pub run_more : (new : WorldState) (after : List ℕ) → HasMadeNext s new used after → HasRun old new words after
@@ -121,19 +99,6 @@ module _ (old s : WorldState) (words used : List ℕ) (run : HasRun old s words 
           picked = rw made.trace (picked_more next.event after next.next);
         }
 
-grown_next : (g : Shape) (trace : List Event) (s new : WorldState) (e : Event) → s.net.graph ≡ g → IsPatientIn (network s.net) (home s) e →
-    Makes s e new →
-    HasGrown g trace s.net.trace → HasGrown g trace new.net.trace
-grown_next g trace s new e same patient made = subst
-    (λ (x : Shape). HasGrown x trace s.net.trace → HasGrown x trace new.net.trace)
-    same
-    (λ grown. rw made.trace (grown_more s.net.graph trace s.net.trace e grown patient (made.event ∙ ap Some (ap₂ net_after made.graph made.trace))))
-
-pub grown_too : (old s new : WorldState) (words used after : List ℕ) → HasRun old s words used → HasMadeNext s new used after →
-    HasGrown old.net.graph old.net.trace s.net.trace → HasGrown old.net.graph old.net.trace new.net.trace
-grown_too old s new words used after run next =
-    grown_next old.net.graph old.net.trace s new next.event run.graph (pickable s used next.event after run.outs next.next).patient next.made
-
 -- a refusal of memory leaves the run as it was
 pub run_stays : (old s new : WorldState) (words used : List ℕ) → HasRun old s words used → IsSameWorld s new → HasRun old new words used
 run_stays old s new words used run same = record {
@@ -144,32 +109,3 @@ run_stays old s new words used run same = record {
   numbers = rw (same.last, same.net.trace) run.numbers;
   picked = rw same.net.trace run.picked;
 }
-
-pub grown_stays : (g : Shape) (trace : List Event) (s new : WorldState) → IsSameWorld s new → HasGrown g trace s.net.trace →
-    HasGrown g trace new.net.trace
-grown_stays g trace s new same grown = rw same.net.trace grown
-
-module _ (old s : WorldState) (is : IsNetOf old.net.graph (home old)) (grown : HasGrown old.net.graph old.net.trace s.net.trace)
-    (law : PatientRunsAreShort) where
-  pub is_short : IsShort old s
-  is_short b bound = short old.net.graph old.net.trace s.net.trace is grown law b bound
-
-  now : IsNetOf old.net.graph (net_after old.net.graph s.net.trace)
-  now = run_keeps (network_of old.net.graph) (IsNetOf old.net.graph)
-      (λ w x e i h. record { graph = i.graph; events = i.events ++ e ∷ []; run = after_more (network_of old.net.graph) i.events e w x i.run h })
-      grown.more (home old) (net_after old.net.graph s.net.trace) is grown.leads
-
-  -- turns are left where there were enough, and the run goes on
-  pub turns_left : (words used : List ℕ) → HasRun old s words used → PatienceLasts → (HasEnded s.net.graph (home s) → ⊥) → has_turn s ≡ false →
-      HasTurns old → ⊥
-  turns_left words used run lasts going none enough =
-      let going' = subst (λ (g : Shape). HasEnded g (net_after g s.net.trace) → ⊥) run.graph going in
-      let lt = shorter old.net.graph old.net.trace s.net.trace is grown law enough.bound enough.is (wakers old) lasts now
-      (each_is_woken old.net.graph old.wake is.graph) going' in
-      let turns = enough.turns in
-      let numbers = enough.numbers in
-      let same = run.turns in
-      let used' = run.numbers in
-      let home : length s.outs ≡ 0 = ap length run.outs in
-      both_ways (has_turn s) none (and_from _ _ (lt-ltb (length s.net.trace + length s.outs) s.turns (omega (arith, lt, turns, same, home)))
-      (lt-ltb s.last 18446744073709551615 (omega (arith, lt, numbers, used'))))

@@ -1,5 +1,5 @@
 -- What is kept of a run from event to event, so that the message sent last is found without a look at all ports.
-use Rattle.std.specs.Prelude.{◌≡◌, ℕ, suc, zero, ◌≤◌, Bool, true, false, List, [], ◌∷◌, length, slice_index, slice_set}
+use Rattle.std.specs.Prelude.{◌≡◌, ℕ, suc, ◌≤◌, Bool, true, false, List, [], ◌∷◌, length, slice_index, slice_set}
 use Rattle.ghs_node.specs.declared.delta.Delta.{Delta}
 use Rattle.ghs_node.specs.declared.head.Head.{Head}
 use Rattle.ghs_node.specs.Words.{Outgoing}
@@ -13,6 +13,7 @@ use Rattle.ghs_index.specs.Places.{HasPlace, all_events, place}
 use Rattle.ghs_world.specs.WorldState.{WorldState, home, wakers}
 use Rattle.ghs_patient.specs.Choices.{AreChoices, AreChoicesBut, ChoicesState, IsStirred}
 use Rattle.ghs_patient.specs.Patience.{moves_on}
+use Rattle.ghs_patient.specs.Walks.{on_each, on_takes}
 use Rattle.ghs_lifo.specs.Newest.{Newest, sent}
 use Rattle.ghs_lifo.specs.Runs.{newest_in}
 
@@ -70,12 +71,10 @@ abbrev pub ranked : WorldState → List ℕ → Event → List ℕ → List ℕ
 ranked s newest e ranks = slice_set ranks (place (network s.net) e) (rank_in s newest e)
 
 abbrev pub ranked_to : WorldState → List ℕ → ℕ → ℕ → List ℕ → List ℕ
-ranked_to s newest v zero ranks = ranks
-ranked_to s newest v (suc n) ranks = ranked s newest (Take v n) (ranked_to s newest v n ranks)
+ranked_to s newest v n ranks = on_takes (ranked s newest) v n ranks
 
 abbrev pub ranked_all : WorldState → List ℕ → List Event → List ℕ → List ℕ
-ranked_all s newest [] ranks = ranks
-ranked_all s newest (e ∷ es) ranks = ranked_all s newest es (ranked s newest e ranks)
+ranked_all s newest es ranks = on_each (ranked s newest) es ranks
 
 -- the Takes whose rank an event may change; a wake's is always 0
 abbrev pub IsUnranked : Network → Event → Head → Delta → Event → Type 0

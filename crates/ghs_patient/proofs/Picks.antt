@@ -1,33 +1,27 @@
 -- What a patient schedule picks is a patient choice, and there is one until the run has ended.
-use Rattle.std.proofs.Common.{◌≡◌, ◌≢◌, ℕ, ◌+◌, ◌%◌, ◌<◌, ◌≤◌, Bool, true, false, ◌&&◌, not, Option, Some, List, [], ◌∷◌, length, filter, slice_get, cond, refl, sym, ◌∙◌, ap, ap₂, subst, ⊎_elim, inl, inr, ◌⊎◌, arith}
+use Rattle.std.proofs.Common.{◌≡◌, ℕ, ◌<◌, ◌≤◌, Bool, true, false, not, List, [], ◌∷◌, length, filter, cond, refl, sym, ◌∙◌, ap, ap₂, subst, ⊎_elim, inl, inr, ◌⊎◌, arith}
 use Rattle.std.specs.List.{Contains}
-use Rattle.std.proofs.lemmas.Bool.{and_from, and_parts, both_ways, cases_Bool}
-use Rattle.std.proofs.lemmas.List.Elements.{Contains-get_or}
-use Rattle.std.proofs.lemmas.Option.{get_or_from_slice_get, same_Some, slice_get_within}
+use Rattle.std.proofs.lemmas.Bool.{and_from, and_parts, cases_Bool}
 use Rattle.ghs_graph.specs.Graph.{Shape, IsGraph}
 use Rattle.ghs_graph.proofs.lemmas.Members.{filter_has, first_in, in_filter, later_in, nothing_in}
 use Rattle.ghs_node.specs.declared.message.Message.{Message}
-use Rattle.ghs_node.specs.declared.message.Phase.TheVariants.{Sleeping}
-use Rattle.ghs_node.specs.NodeState.{NodeState}
 use Rattle.ghs_node.specs.Words.{is_sleeping}
 use Rattle.ghs_protocol.specs.declared.event.Event.{Event}
 use Rattle.ghs_protocol.specs.declared.event.Event.TheVariants.{Wake, Take}
 use Rattle.ghs_protocol.specs.Laws.{IsNetOf}
-use Rattle.ghs_protocol.specs.Living.{OneWaits, Waits}
+use Rattle.ghs_protocol.specs.Living.{OneWaits}
 use Rattle.ghs_protocol.specs.Marks.{HasEnded}
 use Rattle.ghs_protocol.specs.Network.{At, Network, network_of}
-use Rattle.ghs_protocol.specs.Net.{Net, event_node, is_lawful, is_lawful_under, is_node, is_port, is_waiting}
+use Rattle.ghs_protocol.specs.Net.{Net, event_node, is_lawful_under, is_node, is_port, is_waiting}
 use Rattle.ghs_protocol.specs.Run.{IsRun, MayWake}
 use Rattle.ghs_protocol.specs.Schedules.{A_wake, AllMayWake, IsPatientIn, Moves_on, PatienceLasts, Uncovers}
-use Rattle.ghs_protocol.specs.Steps.{Happens, Took, Woke}
-use Rattle.ghs_protocol.proofs.lemmas.Events.{at_of, is_node_of, is_port_of, node_of, taken_at}
+use Rattle.ghs_protocol.specs.Steps.{Happens, Woke}
+use Rattle.ghs_protocol.proofs.lemmas.Events.{is_node_of, is_port_of, taken_at}
 use Rattle.ghs_protocol.proofs.lemmas.Runs.{after_is_net, lawful_under}
 use Rattle.ghs_core.specs.NetState.{IsLawful, NetState, net_of, network}
 use Rattle.ghs_core.specs.Waits.{waits}
 use Rattle.ghs_core.proofs.lemmas.Waiting.{waits_so, waits_test}
 use Rattle.ghs_index.specs.Places.{HasPlace, all_events, place}
-use Rattle.ghs_index.proofs.lemmas.Lists.{get_some}
-use Rattle.ghs_index.proofs.lemmas.Places.{only_place}
 use Rattle.ghs_world.specs.Outs.{Outs, is_out}
 use Rattle.ghs_world.specs.Ready.{is_ready}
 use Rattle.ghs_world.specs.WorldState.{WorldState, home, may_happen, wakers}
@@ -35,6 +29,8 @@ use Rattle.ghs_world.proofs.lemmas.Listed.{listed}
 use Rattle.ghs_sched.specs.Picks.{IsPick}
 use Rattle.ghs_patient.specs.Patience.{first_waits, moves_on, or_else, patient_events, puts_back, second_goes, uncovers}
 use Rattle.ghs_patient.specs.Choices.{has_second, is_double}
+use Rattle.ghs_patient.proofs.lemmas.Picked.{in_either, picked_in, second_there, take_patient}
+use Rattle.ghs_patient.proofs.lemmas.Places.{lawful_place, own_node, placed_of}
 
 -- Lists.
 
@@ -49,20 +45,6 @@ contains_some xs x h = let lt = h.1 in omega (arith, lt)
 some_of_either : (es fs : List Event) (e : Event) → Contains es e ⊎ (es ≡ [] → Contains fs e) → 0 < length (or_else es fs)
 some_of_either [] fs e h = ⊎_elim (λ k. absurd (nothing_in e k)) (λ k. contains_some fs e (k refl)) h
 some_of_either (x ∷ es) fs e h = omega arith
-
--- what is picked stands in one of the lists
-either : (es fs : List Event) (e : Event) → Contains (or_else es fs) e → Contains es e ⊎ ((es ≡ []) × Contains fs e)
-either [] fs e h = inr (refl, h)
-either (x ∷ es) fs e h = inl h
-
-picked_in : (es : List Event) (words : List ℕ) (e : Event) → IsPick es words e → Contains es e
-picked_in es words e h =
-    subst (λ x. Contains es x) (get_or_from_slice_get es _ e e h.1) (Contains-get_or es _ e (slice_get_within es _ e h.1))
-
-placed_of : (g : Network) (e : Event) → Contains (all_events g) e → HasPlace g e
-placed_of g e h =
-    let z = get_some (all_events g) h.0 h.1 in
-    subst (HasPlace g) (sym (get_or_from_slice_get (all_events g) h.0 z.0 e z.1) ∙ h.2) (only_place g h.0 z.0 z.1).0
 
 -- One net.
 module _ (may : ℕ → Bool) (g : Network) (w : Net) where
@@ -86,13 +68,6 @@ module _ (may : ℕ → Bool) (g : Network) (w : Net) where
           let back : not (puts_back w (Take v p)) ≡ true = ap (λ x. not (first_waits (w.node v) p x)) q ∙ ap not f in
           absurd (nothing_in (Take v p) (subst (λ es. Contains es (Take v p)) none (moving_has (Take v p) at (and_from _ _ lawful back))))
 
-  first_is : (v p : ℕ) (q : List Message) → w.queue v p ≡ q → is_lawful_under may g w (Take v p) ≡ true → not (puts_back w (Take v p)) ≡ true → IsPatientIn g w (Take v p)
-  first_is v p [] e lawful goes = absurd (let z : is_waiting [] ≡ true = ap is_waiting (sym e) ∙ (and_parts (is_port g v p) _ lawful).1 in cc)
-  first_is v p (m ∷ ms) e lawful goes =
-      Moves_on v p m ms e
-      (λ z. let f : not (waits (w.node v) p m) ≡ true = ap (λ x. not (first_waits (w.node v) p x)) (sym e) ∙ goes in
-      let t = waits_test (w.node v) p m z in cc (f, t))
-
   second_is : (v p : ℕ) (q : List Message) → w.queue v p ≡ q → moving ≡ [] → uncovers w (Take v p) ≡ true → IsPatientIn g w (Take v p)
   second_is v p [] e none t = absurd (let z : second_goes (w.node v) p [] ≡ true = ap (second_goes (w.node v) p) (sym e) ∙ t in cc)
   second_is v p (m ∷ []) e none t = absurd (let z : second_goes (w.node v) p (m ∷ []) ≡ true = ap (second_goes (w.node v) p) (sym e) ∙ t in cc)
@@ -105,27 +80,23 @@ module _ (may : ℕ → Bool) (g : Network) (w : Net) where
   patient_in : (e : Event) → Contains moving e ⊎ ((moving ≡ []) × Contains uncovering e) → IsPatientIn g w e
   patient_in (Wake v) h = A_wake v
   patient_in (Take v p) h = ⊎_elim
-      (λ k. let t = and_parts _ _ (in_filter (moves_on may g w) (all_events g) (Take v p) k).1 in first_is v p (w.queue v p) refl t.0 t.1)
+      (λ k. let t = and_parts _ _ (in_filter (moves_on may g w) (all_events g) (Take v p) k).1 in take_patient may g w v p (w.queue v p) refl t.0 t.1)
       (λ k. second_is v p (w.queue v p) refl k.0 (in_filter (uncovers w) (all_events g) (Take v p) k.1).1)
       h
 
   pub pick_is_patient : (words : List ℕ) (e : Event) → IsPick (patient_events may g w) words e → IsPatientIn g w e
-  pick_is_patient words e h = patient_in e (either moving uncovering e (picked_in (patient_events may g w) words e h))
+  pick_is_patient words e h = patient_in e (in_either moving uncovering e (picked_in (patient_events may g w) words e h))
 
   -- what is picked is lawful
-  uncovers_waits : (v p : ℕ) (q : List Message) → second_goes (w.node v) p q ≡ true → is_waiting q ≡ true
-  uncovers_waits v p [] t = cc
-  uncovers_waits v p (m ∷ ms) t = refl
-
   lawful_in : (e : Event) → Contains moving e ⊎ ((moving ≡ []) × Contains uncovering e) → is_lawful_under may g w e ≡ true
   lawful_in e (inl k) = (and_parts _ _ (in_filter (moves_on may g w) (all_events g) e k).1).0
   lawful_in (Wake v) (inr k) = absurd (let t = (in_filter (uncovers w) (all_events g) (Wake v) k.1).1 in cc)
   lawful_in (Take v p) (inr k) =
       let t = in_filter (uncovers w) (all_events g) (Take v p) k.1 in
-      and_from (is_port g v p) (is_waiting (w.queue v p)) (is_port_of g v p (placed_of g (Take v p) t.0)) (uncovers_waits v p (w.queue v p) t.1)
+      and_from (is_port g v p) (is_waiting (w.queue v p)) (is_port_of g v p (placed_of g (Take v p) t.0)) (second_there (w.node v) p (w.queue v p) t.1)
 
   pub pick_is_lawful : (words : List ℕ) (e : Event) → IsPick (patient_events may g w) words e → is_lawful_under may g w e ≡ true
-  pick_is_lawful words e h = lawful_in e (either moving uncovering e (picked_in (patient_events may g w) words e h))
+  pick_is_lawful words e h = lawful_in e (in_either moving uncovering e (picked_in (patient_events may g w) words e h))
 
   -- a patient choice under the wake set stands among them
   wake_moves : {v : ℕ} {x : Net} → Happens g w (Wake v) x → may v ≡ true → Contains moving (Wake v)
@@ -172,14 +143,6 @@ seconds_go g may w law is none = agree_in (is_double w) (uncovers w) (all_events
     same : (e : Event) → Contains (all_events (network_of g)) e → is_double w e ≡ uncovers w e
     same (Wake v) h = refl
     same (Take v p) h = second v p (placed_of (network_of g) (Take v p) h) (w.queue v p) refl
-
-lawful_place : (may : ℕ → Bool) (g : Network) (w : Net) (e : Event) → is_lawful_under may g w e ≡ true → HasPlace g e
-lawful_place may g w (Wake v) h = node_of g v (and_parts (is_node g v) _ (and_parts (may v) (is_lawful g w (Wake v)) h).1).0
-lawful_place may g w (Take v p) h = at_of g v p (and_parts (is_port g v p) _ h).0
-
-own_node : (g : Network) (e : Event) → HasPlace g e → (1 ≤ event_node e) × (event_node e ≤ g.count)
-own_node g (Wake v) h = h
-own_node g (Take v p) h = (h.some, h.node)
 
 -- What a pick of a world's words gives.
 pub record Pickable (s : WorldState) (e : Event) : Type 0 where

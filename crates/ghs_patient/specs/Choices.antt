@@ -1,5 +1,5 @@
 -- What is kept of a world from event to event, so that a patient pick needs no look over all events.
-use Rattle.std.specs.Prelude.{◌≡◌, ◌⊎◌, ℕ, Bool, true, false, ◌&&◌, ◌==◌, Option, Some, None, List, [], ◌∷◌, filter, map, slice_set, zero, suc}
+use Rattle.std.specs.Prelude.{◌≡◌, ◌⊎◌, ℕ, Bool, true, false, ◌&&◌, ◌==◌, Option, Some, None, List, [], ◌∷◌, filter, map, slice_set}
 use Rattle.std.specs.List.{Contains}
 use Rattle.ghs_node.specs.declared.delta.Delta.{Delta}
 use Rattle.ghs_node.specs.declared.head.Head.{Head}
@@ -20,6 +20,7 @@ use Rattle.ghs_world.specs.Ready.{all_events}
 use Rattle.ghs_world.specs.Upkeep.{changed}
 use Rattle.ghs_world.specs.WorldState.{WorldState, home, wakers}
 use Rattle.ghs_patient.specs.Patience.{moves_on, patient_events, uncovers}
+use Rattle.ghs_patient.specs.Walks.{on_each, on_takes}
 
 -- there is a second message
 abbrev pub has_second : List Message → Bool
@@ -67,13 +68,11 @@ marked s e c = record {
 
 -- of the Takes at the first ports of a node
 abbrev pub marked_to : WorldState → ℕ → ℕ → ChoicesState → ChoicesState
-marked_to s v zero c = c
-marked_to s v (suc n) c = marked s (Take v n) (marked_to s v n c)
+marked_to s v n c = on_takes (marked s) v n c
 
 -- of several events
 abbrev pub marked_all : WorldState → List Event → ChoicesState → ChoicesState
-marked_all s [] c = c
-marked_all s (e ∷ es) c = marked_all s es (marked s e c)
+marked_all s es c = on_each (marked s) es c
 
 -- the Takes at the far ends of what node v has sent
 abbrev pub far_takes : Network → ℕ → Outgoing → List Event

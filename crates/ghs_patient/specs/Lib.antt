@@ -2,3 +2,4 @@
 pub mod Choices
 pub mod Patience
 pub mod Runs
+pub mod Walks

@@ -1,42 +1,11 @@
 -- What the clock asks of an event before it hears of it.
-use Rattle.std.proofs.Common.{ℕ, ◌-◌, ◌^◌, ◌<◌, Bool, List, [], ◌∷◌, length, refl, sym, subst, arith}
-use Rattle.std.specs.List.{All}
-use Rattle.std.proofs.lemmas.Bool.{and_parts}
-use Rattle.ghs_graph.specs.Graph.{IsGraph}
-use Rattle.ghs_node.specs.declared.delta.Delta.{Delta}
+use Rattle.std.proofs.Common.{ℕ, ◌-◌, ◌^◌, ◌<◌, Bool, length, sym, subst, arith}
 use Rattle.ghs_node.specs.declared.delta.Fate.{Fate}
-use Rattle.ghs_node.specs.declared.message.Message.{Message}
-use Rattle.ghs_node.specs.NodeState.{NodeState, degree}
-use Rattle.ghs_node.specs.Reaction.{HasPort}
-use Rattle.ghs_node.specs.Rows.{Row}
-use Rattle.ghs_node.proofs.lemmas.{reaction_inverts}
 use Rattle.ghs_protocol.specs.declared.event.Event.{Event}
-use Rattle.ghs_protocol.specs.declared.event.Event.TheVariants.{Wake, Take}
-use Rattle.ghs_protocol.specs.Network.{far, far_port}
-use Rattle.ghs_protocol.specs.Run.{IsRun}
-use Rattle.ghs_protocol.proofs.lemmas.Events.{at_of}
-use Rattle.ghs_core.specs.NetState.{IsAnswer, IsLawful, NetState, delivery, event_node, net_of, network, work_at}
+use Rattle.ghs_core.specs.NetState.{NetState, network}
 use Rattle.ghs_chain.specs.Chains.{Chains, hears}
-use Rattle.ghs_chain.specs.Kept.{AreChains, Fits, HasPlace, Kept, seen}
+use Rattle.ghs_chain.specs.Kept.{AreChains, Kept, seen}
 use Rattle.ghs_chain.proofs.Bounding.{IsWithin, hears_within, run_within}
-use Rattle.ghs_chain.proofs.Following.{sends_to}
-use Rattle.ghs_patient.proofs.Stirring.{port_below}
-
-delivered : (n : NodeState) (p : ℕ) (q : List Message) → p < degree n → HasPort n (delivery p q)
-delivered n p [] lt = tt
-delivered n p (m ∷ ms) lt = lt
-
-module _ (s : NetState) (ok : IsGraph s.graph) (is_run : IsRun (network s) s.trace) (e : Event) (d : Delta) (lawful : IsLawful s e) (answer : IsAnswer s e d) where
-  work_port : (f : Event) → IsLawful s f → HasPort ((net_of s).node (event_node f)) (work_at (net_of s) f)
-  work_port (Wake v) h = tt
-  work_port (Take v p) h = delivered ((net_of s).node v) p ((net_of s).queue v p) (port_below s v p ok is_run (at_of (network s) v p (and_parts _ _ h).0))
-
-  row : Row ((net_of s).node (event_node e)) (work_at (net_of s) e) d
-  row = reaction_inverts ((net_of s).node (event_node e)) (work_at (net_of s) e) d (work_port e lawful) answer
-
-  pub sends_far : (k : Kept) → Fits s.graph k →
-      All (λ (x : ℕ × Message). HasPlace k (far (network s) (event_node e) x.0) (far_port (network s) (event_node e) x.0)) d.sends
-  sends_far k fits = sends_to s ok is_run e lawful ((net_of s).node (event_node e)) (work_at (net_of s) e) d refl row k fits
 
 -- no number comes near the end of its range
 pub hears_small : (s : NetState) (k : Kept) (e : Event) (asleep : Bool) (f : Fate) → AreChains s k → length s.trace < 2 ^ 41 →

@@ -29,7 +29,7 @@ use Rattle.ghs_patient.specs.Choices.{IsStirred, far_takes}
 use Rattle.ghs_patient.proofs.Stirring.{same_back, same_moves}
 use Rattle.ghs_rounds.specs.Choices.{AreByRound, AreChoices, AreChoicesBut, AreFor, AreRounds, ChoicesState, HasHeard, IsPast, RoundsState, hides_in, moves_in}
 use Rattle.ghs_rounds.specs.Rounds.{hides_due, is_by, is_due, has_due_second, moves_due}
-use Rattle.ghs_rounds.proofs.Marking.{far_places}
+use Rattle.ghs_patient.proofs.lemmas.Walks.{far_places}
 use Rattle.ghs_rounds.proofs.Sending.{IsTimely, chains_leave, kept_below, reacted_timely}
 
 module _ (s t : WorldState) (e : Event) (d : Delta) (x y : RoundsState) (are : AreRounds s x) (made : Makes s e t) (answer : IsAnswer s.net e d) (heard : HasHeard s e d x y) where
@@ -113,7 +113,7 @@ module _ (s t : WorldState) (e : Event) (d : Delta) (x y : RoundsState) (are : A
         record { node = λ v. rw (heard.round, heard.chains) (out.node v); queue = λ v p. rw (heard.round, heard.chains) (out.queue v p) }
 
     places : (f : Event) → Contains y.fresh f → HasPlace (network s.net) f
-    places f h = ⊎_elim (are.places f) (far_places s x.clock (event_node e) graph low high d.sends ports f)
+    places f h = ⊎_elim (are.places f) (far_places s.net.graph (event_node e) graph low high d.sends ports f)
         (Contains-append_cases x.fresh (far_takes (network s.net) (event_node e) d.sends) f (subst (λ (fs : List Event). Contains fs f) heard.fresh h))
 
     pub next_are : AreRounds t (record { clock = y.clock; choices = new; fresh = y.fresh })

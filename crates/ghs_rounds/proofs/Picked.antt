@@ -1,17 +1,14 @@
 -- What a pick of a round's events gives.
-use Rattle.std.proofs.Common.{◌≡◌, ℕ, ◌≤◌, Bool, true, false, not, nat_eq, Some, List, [], ◌∷◌, length, filter, refl, sym, ◌∙◌, ap, subst, ⊎_elim, inl, inr, ◌⊎◌, arith}
-use Rattle.std.specs.List.{Contains}
+use Rattle.std.proofs.Common.{◌≡◌, ℕ, ◌≤◌, Bool, true, false, not, nat_eq, Some, List, [], ◌∷◌, length, filter, refl, sym, ◌∙◌, ap, ⊎_elim, inl, inr, ◌⊎◌, arith}
 use Rattle.std.proofs.lemmas.Bool.{and_from, and_parts, eqb-true}
-use Rattle.std.proofs.lemmas.List.Elements.{Contains-get_or}
-use Rattle.std.proofs.lemmas.Option.{get_or_from_slice_get, same_Some, slice_get_within}
+use Rattle.std.proofs.lemmas.Option.{same_Some}
 use Rattle.ghs_graph.specs.Graph.{IsGraph}
 use Rattle.ghs_graph.proofs.lemmas.Members.{in_filter}
 use Rattle.ghs_node.specs.declared.delta.Delta.{Delta}
 use Rattle.ghs_node.specs.declared.message.Message.{Message}
-use Rattle.ghs_node.specs.declared.message.Phase.{Phase}
-use Rattle.ghs_node.specs.declared.message.Phase.TheVariants.{Sleeping, Find, Found}
 use Rattle.ghs_node.specs.Reaction.{reaction, requeues}
 use Rattle.ghs_node.specs.Words.{is_sleeping}
+use Rattle.ghs_node.proofs.lemmas.{is_sleeping_not}
 use Rattle.ghs_protocol.specs.declared.event.Event.{Event}
 use Rattle.ghs_protocol.specs.declared.event.Event.TheVariants.{Wake, Take}
 use Rattle.ghs_protocol.specs.Network.{Network}
@@ -23,8 +20,6 @@ use Rattle.ghs_protocol.proofs.lemmas.Waiting.{waits_awake, waits_reaction}
 use Rattle.ghs_core.specs.NetState.{IsAnswer, IsLawful, NetState, delivery, net_of, network}
 use Rattle.ghs_core.proofs.lemmas.Waiting.{waits_so}
 use Rattle.ghs_index.specs.Places.{HasPlace, all_events}
-use Rattle.ghs_index.proofs.lemmas.Lists.{get_some}
-use Rattle.ghs_index.proofs.lemmas.Places.{only_place}
 use Rattle.ghs_world.specs.Outs.{Outs, is_out}
 use Rattle.ghs_world.specs.Ready.{is_ready}
 use Rattle.ghs_world.specs.WorldState.{WorldState, home, may_happen, wakers}
@@ -33,6 +28,8 @@ use Rattle.ghs_chain.specs.Chains.{Chains}
 use Rattle.ghs_chain.specs.Kept.{seen}
 use Rattle.ghs_patient.specs.Patience.{first_waits, moves_on, or_else, puts_back}
 use Rattle.ghs_patient.proofs.Stirring.{port_below}
+use Rattle.ghs_patient.proofs.lemmas.Picked.{first_there, in_either, picked_in}
+use Rattle.ghs_patient.proofs.lemmas.Places.{own_node, placed_of}
 use Rattle.ghs_rounds.specs.Choices.{events_of}
 use Rattle.ghs_rounds.specs.Clock.{ClockState}
 use Rattle.ghs_rounds.specs.Rounds.{hides_due, is_due, moves_due, round_events}
@@ -44,20 +41,6 @@ none_left [] [] m n a b x y = refl
 none_left [] (f ∷ fs) m n a b x y = absurd (let z : n ≡ 0 = eqb-true n 0 y in omega (arith, z, b))
 none_left (e ∷ es) fs m n a b x y = absurd (omega (arith, x, a))
 
--- what is picked stands in one of the lists
-either : (es fs : List Event) (e : Event) → Contains (or_else es fs) e → Contains es e ⊎ Contains fs e
-either [] fs e h = inr h
-either (x ∷ es) fs e h = inl h
-
-pub picked_in : (es : List Event) (words : List ℕ) (e : Event) → IsPick es words e → Contains es e
-picked_in es words e h =
-    subst (λ x. Contains es x) (get_or_from_slice_get es _ e e h.1) (Contains-get_or es _ e (slice_get_within es _ e h.1))
-
-pub placed_of : (g : Network) (e : Event) → Contains (all_events g) e → HasPlace g e
-placed_of g e h =
-    let z = get_some (all_events g) h.0 h.1 in
-    subst (HasPlace g) (sym (get_or_from_slice_get (all_events g) h.0 z.0 e z.1) ∙ h.2) (only_place g h.0 z.0 z.1).0
-
 module _ (may : ℕ → Bool) (g : Network) (w : Net) (c : Chains) (r : ℕ) where
   abbrev pub Picked : Event → Type 0
   Picked e = HasPlace g e × ((moves_due may g w c r e ≡ true) ⊎ (hides_due w c r e ≡ true))
@@ -65,28 +48,19 @@ module _ (may : ℕ → Bool) (g : Network) (w : Net) (c : Chains) (r : ℕ) whe
   pub picked : (words : List ℕ) (e : Event) → IsPick (round_events may g w c r) words e → Picked e
   picked words e h = ⊎_elim
       (λ k. let t = in_filter (moves_due may g w c r) (all_events g) e k in (placed_of g e t.0, inl t.1))
-      (λ k. let t = in_filter (hides_due w c r) (all_events g) e k in (placed_of g e t.0, inr t.1))
-      (either (filter (moves_due may g w c r) (all_events g)) (filter (hides_due w c r) (all_events g)) e
+      (λ k. let t = in_filter (hides_due w c r) (all_events g) e k.1 in (placed_of g e t.0, inr t.1))
+      (in_either (filter (moves_due may g w c r) (all_events g)) (filter (hides_due w c r) (all_events g)) e
       (picked_in (round_events may g w c r) words e h))
-
-  first_is_there : (v p : ℕ) (q : List Message) → first_waits (w.node v) p q ≡ true → is_waiting q ≡ true
-  first_is_there v p [] t = cc
-  first_is_there v p (m ∷ ms) t = refl
 
   lawful_back : (e : Event) → HasPlace g e → puts_back w e ≡ true → is_lawful_under may g w e ≡ true
   lawful_back (Wake v) there t = cc
-  lawful_back (Take v p) there t = and_from (is_port g v p) (is_waiting (w.queue v p)) (is_port_of g v p there) (first_is_there v p (w.queue v p) t)
+  lawful_back (Take v p) there t = and_from (is_port g v p) (is_waiting (w.queue v p)) (is_port_of g v p there) (first_there (w.node v) p (w.queue v p) t)
 
   pub lawful_pick : (e : Event) → Picked e → is_lawful_under may g w e ≡ true
   lawful_pick e k = ⊎_elim
       (λ t. (and_parts (is_lawful_under may g w e) _ (and_parts (moves_on may g w e) (is_due c r e) t).0).0)
       (λ t. lawful_back e k.0 (and_parts (puts_back w e) _ t).0)
       k.1
-
-awake_is : (s : Phase) → (s ≡ Sleeping → ⊥) → is_sleeping s ≡ false
-awake_is Sleeping ne = absurd (ne refl)
-awake_is Find ne = refl
-awake_is Found ne = refl
 
 -- what only puts its message back comes to a node that is awake, which sends nothing
 back_is : (s : NetState) (e : Event) (d : Delta) → IsGraph s.graph → IsRun (network s) s.trace → HasPlace (network s) e → puts_back (net_of s) e ≡ true → IsAnswer s e d →
@@ -99,7 +73,7 @@ back_is s (Take v p) d ok run there t answer = go ((net_of s).queue v p) t answe
     go [] b a = cc
     go (m ∷ ms) b a =
         let so = waits_so ((net_of s).node v) p m b in (
-          awake_is ((net_of s).node v).head.phase (waits_awake ((net_of s).node v) p m so),
+          is_sleeping_not ((net_of s).node v).head.phase (waits_awake ((net_of s).node v) p m so),
           same_Some d (requeues ((net_of s).node v).head) (sym a ∙ waits_reaction ((net_of s).node v) p m (port_below s v p ok run there) so),
         )
 
@@ -112,10 +86,6 @@ pub record Pickable (s : WorldState) (k : ClockState) (e : Event) : Type 0 where
   pub ready : is_ready s e ≡ true
   pub timely : IsGraph s.net.graph → IsRun (network s.net) s.net.trace → (d : Delta) → IsAnswer s.net e d →
       IsTimely (seen k.kept) k.round e (is_sleeping ((home s).node (event_node e)).head.phase) d.fate
-
-own_node : (g : Network) (e : Event) → HasPlace g e → (1 ≤ event_node e) × (event_node e ≤ g.count)
-own_node g (Wake v) h = h
-own_node g (Take v p) h = (h.some, h.node)
 
 pub pickable : (s : WorldState) (k : ClockState) (words : List ℕ) (e : Event) → s.outs ≡ [] → IsPick (events_of s k) words e → Pickable s k e
 pickable s k words e out h =

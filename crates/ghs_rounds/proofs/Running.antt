@@ -5,7 +5,6 @@ use Rattle.std.proofs.lemmas.List.{length_push}
 use Rattle.ghs_graph.specs.Graph.{Shape}
 use Rattle.ghs_protocol.specs.Marks.{HasEnded}
 use Rattle.ghs_protocol.specs.Network.{Network}
-use Rattle.ghs_protocol.specs.Run.{net_after}
 use Rattle.ghs_core.specs.NetState.{network}
 use Rattle.ghs_world.specs.declared.wake_set.WakeSet.{WakeSet}
 use Rattle.ghs_world.specs.Steps.{IsSameWorld}
@@ -15,6 +14,7 @@ use Rattle.ghs_sched.specs.Picks.{IsPick}
 use Rattle.ghs_chain.specs.Chains.{Chains, chains_of, longest_chain}
 use Rattle.ghs_chain.proofs.Bounding.{most_within}
 use Rattle.ghs_chain.specs.Kept.{AreChains}
+use Rattle.ghs_patient.proofs.lemmas.Growing.{still_going}
 use Rattle.ghs_rounds.specs.Choices.{AreRounds, IsNextClock, RoundsState, events_of}
 use Rattle.ghs_rounds.specs.Clock.{ClockState}
 use Rattle.ghs_rounds.specs.Rounds.{events_in, round_events}
@@ -40,9 +40,6 @@ module _ (old s : WorldState) (words used : List ℕ) (k : ClockState) (run : Ha
       ∙ ap (λ (g : Shape). events_in (may_wake g old.wake) g s.net.trace k.round) run.graph
 
   module _ (going : HasEnded s.net.graph (home s) → ⊥) (turn : has_turn s ≡ true) where
-    going_still : HasEnded old.net.graph (net_after old.net.graph s.net.trace) → ⊥
-    going_still = subst (λ (g : Shape). HasEnded g (net_after g s.net.trace) → ⊥) run.graph going
-
     few : length s.net.trace < old.turns
     few =
         let left : length s.net.trace + length s.outs < s.turns = ltb-true _ _ (and_parts _ _ turn).0 in
@@ -59,7 +56,7 @@ module _ (old s : WorldState) (words used : List ℕ) (k : ClockState) (run : Ha
           turns = run.turns;
           outs = run.outs;
           numbers = run.numbers;
-          picked = Over s.net.trace k.round used run.picked going_still few (sym same_events ∙ z.1);
+          picked = Over s.net.trace k.round used run.picked (still_going old s run.graph going) few (sym same_events ∙ z.1);
         }))
         is
 
@@ -77,7 +74,7 @@ module _ (old s : WorldState) (words used : List ℕ) (k : ClockState) (run : Ha
           turns = made.turns ∙ run.turns;
           outs = made.outs ∙ run.outs;
           numbers = rw made.trace (omega (arith, numbers, last, more));
-          picked = rw (made.trace, next.rest) (Picked s.net.trace k.round used next.event run.picked going_still few (subst (λ es. IsPick es used next.event) same_events pick));
+          picked = rw (made.trace, next.rest) (Picked s.net.trace k.round used next.event run.picked (still_going old s run.graph going) few (subst (λ es. IsPick es used next.event) same_events pick));
         }
 
 -- a refusal of memory leaves the run as it was

@@ -31,7 +31,8 @@ use Rattle.ghs_rounds.specs.Clock.{ClockState}
 use Rattle.ghs_rounds.specs.Rounds.{has_due_second, hides_due, is_by, is_due, moves_due}
 use Rattle.ghs_chain.proofs.Lengths.{SameLengths, same_lengths}
 use Rattle.ghs_rounds.proofs.Marking.{all_right, right_all}
-use Rattle.ghs_rounds.proofs.Picked.{placed_of}
+use Rattle.ghs_patient.proofs.lemmas.Picked.{second_there}
+use Rattle.ghs_patient.proofs.lemmas.Places.{placed_of}
 
 -- the clock of the next round
 abbrev pub advanced : ClockState → ClockState
@@ -108,10 +109,6 @@ module _ (g : Network) (may : ℕ → Bool) (w : Net) (c : Chains) (r : ℕ) (sa
   second_by v p (a ∷ []) (m ∷ (k ∷ ms)) all many t = absurd (let z : 1 ≡ suc (suc (length ms)) = many in omega (arith, z))
   second_by v p (a ∷ (b ∷ ts)) (m ∷ (k ∷ ms)) all many t = le-leb b r (all_first (λ t. t ≤ r) b ts (all_rest (λ t. t ≤ r) a (b ∷ ts) all))
 
-  uncovered_waits : (v p : ℕ) (ms : List Message) → second_goes (w.node v) p ms ≡ true → is_waiting ms ≡ true
-  uncovered_waits v p [] t = cc
-  uncovered_waits v p (m ∷ ms) t = refl
-
   some_of : (es fs : List Event) (e : Event) → Contains es e ⊎ Contains fs e → 0 < length (or_else es fs)
   some_of [] fs e h = ⊎_elim (λ k. absurd (nothing_in e k)) (λ k. let lt = k.1 in omega (arith, lt)) h
   some_of (x ∷ es) fs e h = omega arith
@@ -128,7 +125,7 @@ module _ (g : Network) (may : ℕ → Bool) (w : Net) (c : Chains) (r : ℕ) (sa
   hiding (Wake v) there t none = cc
   hiding (Take v p) there t none =
       let lawful : is_lawful_under may g w (Take v p) ≡ true =
-      and_from (is_port g v p) (is_waiting (w.queue v p)) (is_port_of g v p (placed_of g (Take v p) there)) (uncovered_waits v p (w.queue v p) t) in
+      and_from (is_port g v p) (is_waiting (w.queue v p)) (is_port_of g v p (placed_of g (Take v p) there)) (second_there (w.node v) p (w.queue v p) t) in
       let back : puts_back w (Take v p) ≡ true =
       ⊎_elim (λ z. z) (λ z. absurd (none (and_from _ (not (puts_back w (Take v p))) lawful (ap not z)))) (cases_Bool (puts_back w (Take v p))) in
       filter_has (hides_due w c r) (all_events g) (Take v p) there

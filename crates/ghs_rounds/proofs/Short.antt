@@ -1,7 +1,7 @@
 -- How many events a run by rounds has at most.
 use Rattle.std.proofs.Common.{◌≡◌, ◌≢◌, ℕ, zero, suc, ◌<◌, ◌≤◌, ◌+◌, ◌*◌, ◌%◌, Bool, true, false, Some, List, [], ◌∷◌, ◌++◌, length, filter, refl, sym, ◌∙◌, ap, subst, ⊎_elim, inl, inr, ◌⊎◌, arith}
 use Rattle.std.specs.List.{Contains}
-use Rattle.std.proofs.lemmas.Bool.{and_parts, both_ways, cases_Bool, cases_eq, not-true, not-false, false_from_ne_true}
+use Rattle.std.proofs.lemmas.Bool.{and_parts, cases_eq}
 use Rattle.std.proofs.lemmas.List.{length_push}
 use Rattle.std.proofs.Math.Nat.{mod-lt}
 use Rattle.ghs_graph.specs.Bound.{IsBound}
@@ -11,22 +11,21 @@ use Rattle.ghs_node.specs.declared.delta.Delta.{Delta}
 use Rattle.ghs_node.specs.declared.delta.Fate.{Fate}
 use Rattle.ghs_node.specs.declared.delta.Fate.TheVariants.{Consumed, Requeued}
 use Rattle.ghs_node.specs.declared.message.Message.{Message}
-use Rattle.ghs_node.specs.declared.message.Phase.{Phase}
-use Rattle.ghs_node.specs.declared.message.Phase.TheVariants.{Sleeping, Find, Found}
+use Rattle.ghs_node.specs.declared.message.Phase.TheVariants.{Sleeping}
 use Rattle.ghs_node.specs.declared.work.Work.TheVariants as works
 use Rattle.ghs_node.specs.NodeState.{NodeState}
 use Rattle.ghs_node.specs.Reaction.{reaction}
 use Rattle.ghs_node.specs.Words.{is_sleeping}
-use Rattle.ghs_node.proofs.lemmas.{reaction_inverts, row_awake}
+use Rattle.ghs_node.proofs.lemmas.{is_sleeping_not, reaction_inverts, row_awake, sleeping_is}
 use Rattle.ghs_protocol.specs.declared.event.Event.{Event}
 use Rattle.ghs_protocol.specs.declared.event.Event.TheVariants.{Wake, Take}
 use Rattle.ghs_protocol.specs.Interleavings.{EventsHaveRules, SendsWithinBound}
 use Rattle.ghs_protocol.specs.Laws.{IsLater, IsNetOf, LedgerBalances, NodesStayAwake, TakesAreCounted}
-use Rattle.ghs_protocol.specs.Ledger.{in_all, takes_in}
+use Rattle.ghs_protocol.specs.Ledger.{takes_in}
 use Rattle.ghs_protocol.specs.Marks.{HasEnded}
 use Rattle.ghs_protocol.specs.Net.{Net, event_node, is_lawful, one_if_requeued, opening}
-use Rattle.ghs_protocol.specs.Network.{At, Network, network_of}
-use Rattle.ghs_protocol.specs.Run.{IsAfter, net_after}
+use Rattle.ghs_protocol.specs.Network.{Network, network_of}
+use Rattle.ghs_protocol.specs.Run.{net_after}
 use Rattle.ghs_protocol.specs.Schedules.{AllMayWake, PatienceLasts}
 use Rattle.ghs_protocol.specs.Steps as steps
 use Rattle.ghs_protocol.specs.Steps.{Happens, Woke, Took}
@@ -47,9 +46,10 @@ use Rattle.ghs_patient.proofs.Picks.{some_patient}
 use Rattle.ghs_rounds.specs.Rounds.{events_in, hides_due, moves_due, round_events}
 use Rattle.ghs_rounds.specs.Runs.{Begun, IsPickedByRounds, Over, Picked}
 use Rattle.ghs_chain.proofs.Lengths.{same_lengths}
-use Rattle.ghs_rounds.proofs.Picked.{lawful_pick, picked, picked_in, placed_of}
+use Rattle.ghs_patient.proofs.lemmas.Picked.{in_either, picked_in}
+use Rattle.ghs_rounds.proofs.Picked.{lawful_pick, picked}
 use Rattle.ghs_rounds.proofs.Settling.{some_now}
-use Rattle.ghs_rounds.proofs.Steps.{IsTimed, Promised, Turns, back_turns, moves_fate, port_in}
+use Rattle.ghs_rounds.proofs.Steps.{Promised, Turns, back_turns, moves_fate, port_in}
 use Rattle.ghs_rounds.proofs.Told as of
 use Rattle.ghs_rounds.proofs.Told.{IsTold, told}
 
@@ -102,16 +102,6 @@ module _ (w x : Net) (stay : (v : ℕ) → sleeps_at x v ≡ true → sleeps_at 
       omega (arith, a, b))
       (cases_eq v (suc k))
 
-sleeps : (s : Phase) → is_sleeping s ≡ true → s ≡ Sleeping
-sleeps Sleeping t = refl
-sleeps Find t = cc
-sleeps Found t = cc
-
-awake_is : (s : Phase) → s ≢ Sleeping → is_sleeping s ≡ false
-awake_is Sleeping ne = absurd (ne refl)
-awake_is Find ne = refl
-awake_is Found ne = refl
-
 -- What is taken is counted.
 takes_more : (es : List Event) (e : Event) → takes_in (es ++ e ∷ []) ≡ takes_in es + takes_in (e ∷ [])
 takes_more [] e = omega arith
@@ -155,10 +145,10 @@ counts g w _ _ (Took v p m ms d at q r) stay fate up =
 -- who has acted is awake
 acted_awake : (g : Shape) (w x : Net) (e : Event) → IsNetOf g w → Happens (network_of g) w e x → sleeps_at x (event_node e) ≡ false
 acted_awake g w _ _ n (Woke v d lo hi s r) =
-    awake_is ((steps.reacted (network_of g) v d w).node v).head.phase
+    is_sleeping_not ((steps.reacted (network_of g) v d w).node v).head.phase
     (subst (λ (y : NodeState). y.head.phase ≢ Sleeping) (sym (node_here (network_of g) v d w)) (row_awake (w.node v) works.Wake d (reaction_inverts (w.node v) works.Wake d tt r)))
 acted_awake g w _ _ n (Took v p m ms d at q r) =
-    awake_is ((steps.taken (network_of g) v p m ms d w).node v).head.phase
+    is_sleeping_not ((steps.taken (network_of g) v p m ms d w).node v).head.phase
     (subst (λ (y : NodeState). y.head.phase ≢ Sleeping) (sym (taken_here (network_of g) v p m ms d w))
     (row_awake (w.node v) (works.Deliver p m) d (reaction_inverts (w.node v) (works.Deliver p m) d (port_in g w n v p at) r)))
 
@@ -167,12 +157,7 @@ nobody_sleeps : (law : NodesStayAwake) (g : Shape) (w x : Net) (e : Event) (n : 
     (v : ℕ) → sleeps_at x v ≡ true → sleeps_at w v ≡ true
 nobody_sleeps law g w x e n h v is =
     let later : IsLater g w x = record { graph = n.graph; events = n.events; further = e ∷ []; run = n.run; later = after_more (network_of g) n.events e w x n.run h } in
-    ⊎_elim (λ s. ap is_sleeping s) (λ up. absurd (law g w x later v up (sleeps (x.node v).head.phase is))) (asleep_or_not (w.node v).head.phase)
-
--- Of what is picked either moves the run on, or nothing that is due does.
-either : (es fs : List Event) (e : Event) → Contains (or_else es fs) e → Contains es e ⊎ ((es ≡ []) × Contains fs e)
-either [] fs e h = inr (refl, h)
-either (x ∷ es) fs e h = inl h
+    ⊎_elim (λ s. ap is_sleeping s) (λ up. absurd (law g w x later v up (sleeping_is (x.node v).head.phase is))) (asleep_or_not (w.node v).head.phase)
 
 -- where no event has happened nothing waits
 nothing_yet : (es : List Event) → length es ≡ 0 → es ≡ []
@@ -294,7 +279,7 @@ module _ (law : Promised) (rules : EventsHaveRules) (lasts : PatienceLasts) (may
       let c = chains_of (network_of g) es in
       let z = picked may (network_of g) w c r s e pick in
       let lawful : is_lawful (network_of g) w e ≡ true = ((lawful_under may (network_of g) w e).0 (lawful_pick may (network_of g) w c r e z)).1 in
-      let one = either (filter (moves_due may (network_of g) w c r) (all_events (network_of g))) (filter (hides_due w c r) (all_events (network_of g))) e
+      let one = in_either (filter (moves_due may (network_of g) w c r) (all_events (network_of g))) (filter (hides_due w c r) (all_events (network_of g))) e
       (picked_in (round_events may (network_of g) w c r) s e pick) in
       ⊎_elim
       (λ h. counted_moves es r is going so_far e z.0 lawful (in_filter (moves_due may (network_of g) w c r) (all_events (network_of g)) e h).1)

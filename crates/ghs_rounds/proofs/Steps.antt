@@ -1,21 +1,20 @@
 -- What an event of a round, and the beginning of the next, leave of a run by rounds.
-use Rattle.std.proofs.Common.{◌≡◌, ◌≢◌, ℕ, zero, suc, ◌<◌, ◌≤◌, Bool, true, false, ◌&&◌, not, Some, None, Option, List, [], ◌∷◌, ◌++◌, length, filter, refl, sym, ◌∙◌, ap, subst, ⊎_elim, inl, inr, ◌⊎◌, arith, length-append}
+use Rattle.std.proofs.Common.{◌≡◌, ◌≢◌, ℕ, suc, ◌<◌, ◌≤◌, Bool, true, false, ◌&&◌, not, Some, Option, List, [], ◌∷◌, ◌++◌, length, filter, refl, sym, ◌∙◌, ap, subst, ⊎_elim, inl, inr, ◌⊎◌, arith, length-append}
 use Rattle.std.specs.List.{All, Contains, slice_get}
-use Rattle.std.proofs.lemmas.Bool.{and_from, and_parts, both_ways, cases_Bool, cases_eq, le-leb, leb-false, leb-true}
+use Rattle.std.proofs.lemmas.Bool.{and_from, and_parts, both_ways, cases_Bool, cases_eq, le-leb, leb-false, leb-true, not-true}
 use Rattle.std.specs.Prelude.{nat_le}
 use Rattle.std.proofs.lemmas.List.Elements.{All-nil, All-cons}
 use Rattle.std.proofs.lemmas.Option.{same_Some}
-use Rattle.ghs_graph.specs.Graph.{Shape, IsGraph}
+use Rattle.ghs_graph.specs.Graph.{Shape}
 use Rattle.ghs_graph.proofs.lemmas.Members.{filter_has, nothing_in}
 use Rattle.ghs_node.specs.declared.delta.Delta.{Delta}
 use Rattle.ghs_node.specs.declared.delta.Fate.{Fate}
 use Rattle.ghs_node.specs.declared.delta.Fate.TheVariants.{Consumed, Requeued}
 use Rattle.ghs_node.specs.declared.message.Message.{Message}
-use Rattle.ghs_node.specs.declared.message.Phase.{Phase}
-use Rattle.ghs_node.specs.declared.message.Phase.TheVariants.{Sleeping, Find, Found}
 use Rattle.ghs_node.specs.NodeState.{NodeState, degree}
 use Rattle.ghs_node.specs.Reaction.{reaction, requeues}
 use Rattle.ghs_node.specs.Words.{is_sleeping}
+use Rattle.ghs_node.proofs.lemmas.{is_sleeping_not, sleeping_is}
 use Rattle.ghs_protocol.specs.declared.event.Event.{Event}
 use Rattle.ghs_protocol.specs.declared.event.Event.TheVariants.{Wake, Take}
 use Rattle.ghs_protocol.specs.Laws.{IsLater, IsNetOf, NodesStayAwake}
@@ -23,9 +22,9 @@ use Rattle.ghs_protocol.specs.Living.{OneWaits, RequeuesAreWaits, Turned, Waitin
 use Rattle.ghs_protocol.specs.Net.{Net, event_node, is_lawful, is_lawful_under, is_node, is_port, is_waiting, put}
 use Rattle.ghs_protocol.specs.Network.{At, Network, network_of}
 use Rattle.ghs_protocol.specs.Run.{and_then, run}
-use Rattle.ghs_protocol.specs.Schedules.{LeftAlone, OthersLeaveAlone}
+use Rattle.ghs_protocol.specs.Schedules.{OthersLeaveAlone}
 use Rattle.ghs_protocol.specs.Steps.{Happens}
-use Rattle.ghs_protocol.proofs.lemmas.Events.{at_of, happens_so, is_port_of, node_of}
+use Rattle.ghs_protocol.proofs.lemmas.Events.{at_of, happens_so, is_port_of}
 use Rattle.ghs_protocol.proofs.lemmas.Graphs.{graph_few, graph_wired}
 use Rattle.ghs_protocol.proofs.lemmas.Nodes.{ports_many}
 use Rattle.ghs_protocol.proofs.lemmas.Runs.{after_more}
@@ -36,15 +35,16 @@ use Rattle.ghs_protocol.proofs.lemmas.Woken.{asleep_or_not}
 use Rattle.ghs_core.specs.NetState.{delivery, work_at}
 use Rattle.ghs_core.specs.Waits.{waits}
 use Rattle.ghs_core.proofs.lemmas.Waiting.{waits_so, waits_test}
-use Rattle.ghs_index.specs.Places.{HasPlace, all_events}
+use Rattle.ghs_index.specs.Places.{all_events}
 use Rattle.ghs_world.proofs.lemmas.Listed.{listed}
-use Rattle.ghs_chain.specs.Chains.{Chains, hears, reacted, sent, taken}
+use Rattle.ghs_chain.specs.Chains.{Chains, hears, reacted, taken}
 use Rattle.ghs_chain.proofs.Bounding.{IsWithin, more_within}
 use Rattle.ghs_patient.specs.Patience.{first_waits, moves_on, or_else, puts_back}
 use Rattle.ghs_rounds.specs.Rounds.{has_due_second, hides_due, is_by, is_due, moves_due, round_events}
 use Rattle.ghs_chain.proofs.Lengths.{SameLengths}
-use Rattle.ghs_rounds.proofs.Sending.{IsTimely, reacted_timely}
-use Rattle.ghs_rounds.proofs.Timing.{AreLate, HasCome, heard_is, hears_node, hears_queue, late_all, late_append, sent_come, sent_node}
+use Rattle.ghs_chain.proofs.lemmas.Hears.{hears_node}
+use Rattle.ghs_rounds.proofs.Sending.{reacted_timely}
+use Rattle.ghs_rounds.proofs.Timing.{AreLate, HasCome, heard_is, hears_queue, late_all, late_append, sent_come, sent_node}
 
 -- No number is greater than the round, nor a message's than the next; after round 0 nobody wakes by itself; and who hasn't the round's number yet hears of
 -- nothing that gives it less.
@@ -60,19 +60,6 @@ pub record Promised : Type 0 where
   pub turns : WaitingTakesTurn
   pub others : OthersLeaveAlone
   pub awake : NodesStayAwake
-
-sleeping_is : (s : Phase) → s ≡ Sleeping → is_sleeping s ≡ true
-sleeping_is s e = ap is_sleeping e
-
-sleeps : (s : Phase) → is_sleeping s ≡ true → s ≡ Sleeping
-sleeps Sleeping t = refl
-sleeps Find t = cc
-sleeps Found t = cc
-
-awake_is : (s : Phase) → s ≢ Sleeping → is_sleeping s ≡ false
-awake_is Sleeping ne = absurd (ne refl)
-awake_is Find ne = refl
-awake_is Found ne = refl
 
 fate_told : (f : Fate) → (f ≡ Consumed) ⊎ (f ≡ Requeued)
 fate_told Consumed = inl refl
@@ -107,17 +94,13 @@ module _ (law : Promised) (may : ℕ → Bool) (g : Shape) (w : Net) (n : IsNetO
     stays : not (puts_back w e) ≡ true
     stays = (and_parts (is_lawful_under may (network_of g) w e) (not (puts_back w e)) on).1
 
-  not_so : (b : Bool) → not b ≡ true → b ≡ false
-  not_so true z = cc
-  not_so false z = refl
-
   fate_is : (v p : ℕ) (d : Delta) (q : List Message) → At (network_of g) v p → is_waiting q ≡ true → not (first_waits (w.node v) p q) ≡ true →
       reaction (w.node v) (delivery p q) ≡ Some d → (d.fate ≡ Consumed) ⊎ (is_sleeping (w.node v).head.phase ≡ true)
   fate_is v p d [] at there goes_on answer = cc
   fate_is v p d (m ∷ ms) at there goes_on answer = ⊎_elim
-      (λ s. inr (sleeping_is (w.node v).head.phase s))
+      (λ s. inr (ap is_sleeping s))
       (λ up. ⊎_elim inl
-      (λ back. absurd (goes v p m (not_so (waits (w.node v) p m) goes_on) ((law.requeues (w.node v) p m d (port_in g w n v p at) up answer).0 back)))
+      (λ back. absurd (goes v p m (not-true (waits (w.node v) p m) goes_on) ((law.requeues (w.node v) p m d (port_in g w n v p at) up answer).0 back)))
       (fate_told d.fate))
       (asleep_or_not (w.node v).head.phase)
 
@@ -129,7 +112,7 @@ module _ (law : Promised) (may : ℕ → Bool) (g : Shape) (w : Net) (n : IsNetO
   taken_is v p d (m ∷ ms) (t ∷ ts) at there goes_on by late answer =
       put_same c.node v _
       ∙ heard_is d.fate (is_sleeping (w.node v).head.phase) (c.node v) t r (timed.within.node v) (leb-true t r by)
-      (⊎_elim inl (λ l. inr (l.1 (goes v p m (not_so (waits (w.node v) p m) goes_on)))) late) (fate_is v p d (m ∷ ms) at there goes_on answer)
+      (⊎_elim inl (λ l. inr (l.1 (goes v p m (not-true (waits (w.node v) p m) goes_on)))) late) (fate_is v p d (m ∷ ms) at there goes_on answer)
 
   -- it is consumed, or wakes its node
   pub moves_fate : (v p : ℕ) (d : Delta) → reaction (w.node v) (work_at w (Take v p)) ≡ Some d → moves_due may (network_of g) w c r (Take v p) ≡ true →
@@ -159,8 +142,8 @@ module _ (law : Promised) (may : ℕ → Bool) (g : Shape) (w : Net) (n : IsNetO
         let a = and_parts (may v) (is_lawful (network_of g) x (Wake v)) lawful in
         let b = and_parts (is_node (network_of g) v) (is_sleeping (x.node v).head.phase) a.1 in
         ⊎_elim
-        (λ s. timed.woken some v (and_from (may v) _ a.0 (and_from (is_node (network_of g) v) _ b.0 (sleeping_is (w.node v).head.phase s))))
-        (λ up. law.awake g w x later v up (sleeps (x.node v).head.phase b.1))
+        (λ s. timed.woken some v (and_from (may v) _ a.0 (and_from (is_node (network_of g) v) _ b.0 (ap is_sleeping s))))
+        (λ up. law.awake g w x later v up (sleeping_is (x.node v).head.phase b.1))
         (asleep_or_not (w.node v).head.phase)
 
     abbrev heard : Chains
@@ -214,7 +197,7 @@ module _ (law : Promised) (may : ℕ → Bool) (g : Shape) (w : Net) (n : IsNetO
         (sym answer ∙ ap (λ (l : List Message). reaction (w.node v) (delivery p l)) queue ∙ waits_reaction (w.node v) p m (port_in g w n v p at) waits_here)
 
     up : is_sleeping (w.node v).head.phase ≡ false
-    up = awake_is (w.node v).head.phase (waits_awake (w.node v) p m waits_here)
+    up = is_sleeping_not (w.node v).head.phase (waits_awake (w.node v) p m waits_here)
 
     abbrev put_back : Chains
     put_back = taken v p false Requeued (t ∷ u ∷ us) c

@@ -1,34 +1,20 @@
 -- In a round of a run by rounds, who hears of a message has the round's number then.
-use Rattle.std.proofs.Common.{◌≡◌, ◌≢◌, ℕ, zero, suc, ◌<◌, ◌≤◌, Bool, true, false, ◌&&◌, not, max, Some, None, Option, List, [], ◌∷◌, ◌++◌, length, refl, sym, ◌∙◌, ap, subst, ⊎_elim, inl, inr, ◌⊎◌, arith, append-nil, append_assoc}
-use Rattle.std.specs.List.{All, Contains, slice_get}
-use Rattle.std.proofs.lemmas.Bool.{and_from, and_parts, both_ways, cases_Bool, le-leb, leb-true}
+use Rattle.std.proofs.Common.{◌≡◌, ◌≢◌, ℕ, suc, ◌≤◌, Bool, true, false, List, [], ◌∷◌, ◌++◌, length, refl, sym, ◌∙◌, ap, ⊎_elim, ◌⊎◌, arith, append-nil, append_assoc}
+use Rattle.std.specs.List.{All}
 use Rattle.std.proofs.lemmas.List.Elements.{All-nil, All-cons, All-append}
-use Rattle.ghs_graph.specs.Graph.{Shape, IsGraph}
-use Rattle.ghs_graph.proofs.lemmas.Members.{filter_has, first_in, nothing_in}
-use Rattle.ghs_node.specs.declared.delta.Delta.{Delta}
 use Rattle.ghs_node.specs.declared.delta.Fate.{Fate}
 use Rattle.ghs_node.specs.declared.delta.Fate.TheVariants.{Consumed, Requeued}
 use Rattle.ghs_node.specs.declared.message.Message.{Message}
-use Rattle.ghs_node.specs.declared.message.Phase.TheVariants.{Sleeping}
-use Rattle.ghs_node.specs.declared.work.Work.TheVariants.{Deliver}
-use Rattle.ghs_node.specs.NodeState.{NodeState, degree}
-use Rattle.ghs_node.specs.Reaction.{reaction}
-use Rattle.ghs_node.specs.Words.{Outgoing, is_sleeping}
+use Rattle.ghs_node.specs.NodeState.{NodeState}
+use Rattle.ghs_node.specs.Words.{Outgoing}
 use Rattle.ghs_protocol.specs.declared.event.Event.{Event}
 use Rattle.ghs_protocol.specs.declared.event.Event.TheVariants.{Wake, Take}
-use Rattle.ghs_protocol.specs.Laws.{IsNetOf}
-use Rattle.ghs_protocol.specs.Living.{OneWaits, RequeuesAreWaits, Turned, WaitingTakesTurn, Waits}
-use Rattle.ghs_protocol.specs.Net.{Net, event_node, is_lawful_under, put}
-use Rattle.ghs_protocol.specs.Network.{At, Network, far, far_port, network_of}
-use Rattle.ghs_protocol.specs.Schedules.{LeftAlone, OthersLeaveAlone}
-use Rattle.ghs_protocol.specs.Steps.{Happens}
+use Rattle.ghs_protocol.specs.Living.{Waits}
+use Rattle.ghs_protocol.specs.Net.{event_node}
+use Rattle.ghs_protocol.specs.Network.{Network, far, far_port}
 use Rattle.ghs_protocol.proofs.lemmas.Queues.{all_first, all_rest}
-use Rattle.ghs_protocol.proofs.lemmas.Updates.{one_place, put_at_hit, put_at_miss, put_other, put_same}
-use Rattle.ghs_protocol.proofs.lemmas.Woken.{asleep_or_not}
-use Rattle.ghs_core.specs.Waits.{waits}
-use Rattle.ghs_core.proofs.lemmas.Waiting.{waits_so, waits_test}
-use Rattle.ghs_chain.specs.Chains.{Chains, behind, heard, hears, reacted, sent, sent_on, taken}
-use Rattle.ghs_chain.proofs.Bounding.{IsWithin}
+use Rattle.ghs_protocol.proofs.lemmas.Updates.{one_place, put_at_hit, put_at_miss}
+use Rattle.ghs_chain.specs.Chains.{Chains, behind, heard, hears, sent, sent_on, taken}
 
 -- Of a queue: who takes from its front what doesn't wait, takes a message that arrives in round r or later, if it hasn't waited before one that does.
 abbrev pub AreLate : NodeState → ℕ → ℕ → List Message → List ℕ → Type 0
@@ -91,18 +77,10 @@ module _ (g : Network) (v : ℕ) where
   sent_node [] c u = refl
   sent_node (s ∷ ss) c u = sent_node ss (sent_on g v s.0 c) u
 
--- Hearing changes the number and the queues of the event's node alone.
-taken_node : (v p : ℕ) (asleep : Bool) (f : Fate) (ts : List ℕ) (c : Chains) (u : ℕ) → u ≢ v → (taken v p asleep f ts c).node u ≡ c.node u
-taken_node v p asleep f [] c u ne = refl
-taken_node v p asleep f (t ∷ ts) c u ne = put_other c.node v u (heard f asleep (c.node v) t) ne
-
+-- Hearing changes the queues of the event's node alone.
 taken_queue : (v p : ℕ) (asleep : Bool) (f : Fate) (ts : List ℕ) (c : Chains) (u q : ℕ) → u ≢ v → (taken v p asleep f ts c).queue u q ≡ c.queue u q
 taken_queue v p asleep f [] c u q ne = refl
 taken_queue v p asleep f (t ∷ ts) c u q ne = put_at_miss c.queue v p u q (behind f t ts) (λ z. ne z.0)
-
-pub hears_node : (e : Event) (asleep : Bool) (f : Fate) (c : Chains) (u : ℕ) → u ≢ event_node e → (hears e asleep f c).node u ≡ c.node u
-hears_node (Wake v) asleep f c u ne = refl
-hears_node (Take v p) asleep f c u ne = taken_node v p asleep f (c.queue v p) c u ne
 
 pub hears_queue : (e : Event) (asleep : Bool) (f : Fate) (c : Chains) (u q : ℕ) → u ≢ event_node e → (hears e asleep f c).queue u q ≡ c.queue u q
 hears_queue (Wake v) asleep f c u q ne = refl

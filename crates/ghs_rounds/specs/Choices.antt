@@ -1,5 +1,5 @@
 -- What is kept of a world and a clock from event to event, so that a pick of a round needs no look over all events.
-use Rattle.std.specs.Prelude.{◌≡◌, ◌⊎◌, ℕ, suc, zero, ◌<◌, ◌≤◌, Bool, List, [], ◌∷◌, ◌++◌, length, slice_set}
+use Rattle.std.specs.Prelude.{◌≡◌, ◌⊎◌, ℕ, suc, ◌<◌, ◌≤◌, Bool, List, [], ◌++◌, length, slice_set}
 use Rattle.std.specs.List.{All, Contains}
 use Rattle.ghs_protocol.specs.declared.event.Event.{Event}
 use Rattle.ghs_protocol.specs.declared.event.Event.TheVariants.{Wake, Take}
@@ -14,6 +14,7 @@ use Rattle.ghs_protocol.specs.Net.{event_node}
 use Rattle.ghs_chain.specs.Chains.{reacted}
 use Rattle.ghs_chain.specs.Kept.{AreChains, SamePlaces, seen}
 use Rattle.ghs_patient.specs.Choices.{far_takes}
+use Rattle.ghs_patient.specs.Walks.{on_each, on_takes}
 use Rattle.ghs_rounds.specs.Clock.{ClockState}
 use Rattle.ghs_rounds.specs.Rounds.{hides_due, moves_due, round_events}
 
@@ -56,13 +57,11 @@ marked s k e c = record {
 
 -- of the Takes at the first ports of a node
 abbrev pub marked_to : WorldState → ClockState → ℕ → ℕ → ChoicesState → ChoicesState
-marked_to s k v zero c = c
-marked_to s k v (suc n) c = marked s k (Take v n) (marked_to s k v n c)
+marked_to s k v n c = on_takes (marked s k) v n c
 
 -- of several events
 abbrev pub marked_all : WorldState → ClockState → List Event → ChoicesState → ChoicesState
-marked_all s k [] c = c
-marked_all s k (e ∷ es) c = marked_all s k es (marked s k e c)
+marked_all s k es c = on_each (marked s k) es c
 
 -- what waits where the event takes was sent before the round, all of it
 abbrev pub IsPast : ClockState → Event → Type 0

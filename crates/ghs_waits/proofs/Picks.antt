@@ -1,67 +1,39 @@
 -- What such a schedule picks is lawful.
 use Rattle.std.proofs.Common.{◌≡◌, ℕ, ◌<◌, ◌≤◌, ◌%◌, Bool, true, not, Some, List, [], ◌∷◌, filter, length, slice_get, arith, ap, subst, inl, inr, ◌⊎◌, refl, sym, ◌∙◌}
 use Rattle.std.specs.List.{Contains}
-use Rattle.std.proofs.lemmas.Bool.{and_from, and_parts}
-use Rattle.std.proofs.lemmas.List.Elements.{Contains-get_or}
-use Rattle.std.proofs.lemmas.Option.{get_or_from_slice_get, slice_get_within}
+use Rattle.std.proofs.lemmas.Bool.{and_from}
 use Rattle.ghs_graph.proofs.lemmas.Members.{in_filter}
-use Rattle.ghs_node.specs.declared.message.Message.{Message}
 use Rattle.ghs_protocol.specs.declared.event.Event.{Event}
 use Rattle.ghs_protocol.specs.declared.event.Event.TheVariants.{Wake, Take}
 use Rattle.ghs_protocol.specs.Network.{Network}
-use Rattle.ghs_protocol.specs.Net.{Net, event_node, is_lawful, is_lawful_under, is_node, is_port, is_waiting}
-use Rattle.ghs_protocol.proofs.lemmas.Events.{at_of, is_port_of, node_of}
+use Rattle.ghs_protocol.specs.Net.{Net, event_node, is_lawful_under, is_port, is_waiting}
+use Rattle.ghs_protocol.proofs.lemmas.Events.{is_port_of}
 use Rattle.ghs_protocol.proofs.lemmas.Runs.{lawful_under}
 use Rattle.ghs_core.specs.NetState.{IsLawful, network}
 use Rattle.ghs_index.specs.Places.{HasPlace, all_events}
-use Rattle.ghs_index.proofs.lemmas.Lists.{get_some}
-use Rattle.ghs_index.proofs.lemmas.Places.{only_place}
 use Rattle.ghs_world.specs.Outs.{Outs, is_out}
 use Rattle.ghs_world.specs.Ready.{is_ready, ready_events}
 use Rattle.ghs_world.specs.WorldState.{WorldState, home, may_happen, wakers}
 use Rattle.ghs_sched.specs.Picks.{IsPick}
 use Rattle.ghs_sched.specs.Schedule.{word_of}
-use Rattle.ghs_patient.specs.Patience.{first_waits, or_else, puts_back}
+use Rattle.ghs_patient.specs.Patience.{or_else, puts_back}
+use Rattle.ghs_patient.proofs.lemmas.Picked.{first_there, in_either, picked_in}
+use Rattle.ghs_patient.proofs.lemmas.Places.{lawful_place, own_node, placed_of}
 use Rattle.ghs_waits.specs.Waiting.{waiting_events, waiting_in}
 
--- what is picked stands in one of the lists
-either : (es fs : List Event) (e : Event) → Contains (or_else es fs) e → Contains es e ⊎ Contains fs e
-either [] fs e h = inr h
-either (x ∷ es) fs e h = inl h
-
-picked_in : (es : List Event) (words : List ℕ) (e : Event) → IsPick es words e → Contains es e
-picked_in es words e h =
-    subst (λ x. Contains es x) (get_or_from_slice_get es _ e e h.1) (Contains-get_or es _ e (slice_get_within es _ e h.1))
-
-placed_of : (g : Network) (e : Event) → Contains (all_events g) e → HasPlace g e
-placed_of g e h =
-    let z = get_some (all_events g) h.0 h.1 in
-    subst (HasPlace g) (sym (get_or_from_slice_get (all_events g) h.0 z.0 e z.1) ∙ h.2) (only_place g h.0 z.0 z.1).0
-
 module _ (may : ℕ → Bool) (g : Network) (w : Net) where
-  back_waits : (v p : ℕ) (q : List Message) → first_waits (w.node v) p q ≡ true → is_waiting q ≡ true
-  back_waits v p [] t = cc
-  back_waits v p (m ∷ ms) t = refl
-
   lawful_in : (e : Event) →
-      Contains (filter (puts_back w) (all_events g)) e ⊎ Contains (filter (is_lawful_under may g w) (all_events g)) e →
+      Contains (filter (puts_back w) (all_events g)) e ⊎
+      ((filter (puts_back w) (all_events g) ≡ []) × Contains (filter (is_lawful_under may g w) (all_events g)) e) →
       is_lawful_under may g w e ≡ true
-  lawful_in e (inr k) = (in_filter (is_lawful_under may g w) (all_events g) e k).1
+  lawful_in e (inr k) = (in_filter (is_lawful_under may g w) (all_events g) e k.1).1
   lawful_in (Wake v) (inl k) = absurd (let t = (in_filter (puts_back w) (all_events g) (Wake v) k).1 in cc)
   lawful_in (Take v p) (inl k) =
       let t = in_filter (puts_back w) (all_events g) (Take v p) k in
-      and_from (is_port g v p) (is_waiting (w.queue v p)) (is_port_of g v p (placed_of g (Take v p) t.0)) (back_waits v p (w.queue v p) t.1)
+      and_from (is_port g v p) (is_waiting (w.queue v p)) (is_port_of g v p (placed_of g (Take v p) t.0)) (first_there (w.node v) p (w.queue v p) t.1)
 
   pick_is_lawful : (words : List ℕ) (e : Event) → IsPick (waiting_events may g w) words e → is_lawful_under may g w e ≡ true
-  pick_is_lawful words e h = lawful_in e (either _ _ e (picked_in (waiting_events may g w) words e h))
-
-lawful_place : (may : ℕ → Bool) (g : Network) (w : Net) (e : Event) → is_lawful_under may g w e ≡ true → HasPlace g e
-lawful_place may g w (Wake v) h = node_of g v (and_parts (is_node g v) _ (and_parts (may v) (is_lawful g w (Wake v)) h).1).0
-lawful_place may g w (Take v p) h = at_of g v p (and_parts (is_port g v p) _ h).0
-
-own_node : (g : Network) (e : Event) → HasPlace g e → (1 ≤ event_node e) × (event_node e ≤ g.count)
-own_node g (Wake v) h = h
-own_node g (Take v p) h = (h.some, h.node)
+  pick_is_lawful words e h = lawful_in e (in_either _ _ e (picked_in (waiting_events may g w) words e h))
 
 or_none : (es fs : List Event) → length es ≡ 0 → or_else es fs ≡ fs
 or_none [] fs none = refl

@@ -11,6 +11,7 @@ use Rattle.ghs_world.specs.Steps.{IsSameWorld}
 use Rattle.ghs_world.specs.Wakes.{may_wake}
 use Rattle.ghs_world.specs.WorldState.{WorldState, has_turn, home}
 use Rattle.ghs_sched.specs.Picks.{IsPick}
+use Rattle.ghs_patient.proofs.lemmas.Growing.{still_going}
 use Rattle.ghs_waits.specs.Waiting.{waiting_events, waiting_in}
 use Rattle.ghs_waits.specs.Runs.{Begun, HasMadeNext, HasRun, Picked}
 
@@ -42,7 +43,7 @@ run_more old s new words used after run going turn next =
       outs = made.outs ∙ run.outs;
       numbers = rw made.trace (omega arith);
       picked = rw (made.trace, next.rest) (Picked s.net.trace used next.event run.picked
-          (subst (λ (g : Shape). HasEnded g (net_after g s.net.trace) → ⊥) run.graph going)
+          (still_going old s run.graph going)
           few
           (subst (λ es. IsPick es used next.event) same next.pick));
     }

@@ -1,13 +1,13 @@
 -- An index of the events of a world that only put their message back, kept from event to event.
-use Rattle.std.specs.Prelude.{◌≡◌, ℕ, List, [], ◌∷◌, slice_set, zero, suc}
+use Rattle.std.specs.Prelude.{◌≡◌, ℕ, List, slice_set}
 use Rattle.ghs_protocol.specs.declared.event.Event.{Event}
-use Rattle.ghs_protocol.specs.declared.event.Event.TheVariants.{Take}
 use Rattle.ghs_core.specs.NetState.{network}
 use Rattle.ghs_flags.specs.Flags.{at}
 use Rattle.ghs_index.specs.Index.{IndexState, IsFor, IsIndexOf}
 use Rattle.ghs_index.specs.Places.{HasPlace, place}
 use Rattle.ghs_world.specs.WorldState.{WorldState, home}
 use Rattle.ghs_patient.specs.Patience.{puts_back}
+use Rattle.ghs_patient.specs.Walks.{on_each, on_takes}
 
 -- its marks are those of a world
 abbrev pub AreMarks : WorldState → IndexState → Type 0
@@ -24,10 +24,8 @@ marked s e x = record x { marks = slice_set x.marks (place (network s.net) e) (p
 
 -- of the Takes at the first ports of a node
 abbrev pub marked_to : WorldState → ℕ → ℕ → IndexState → IndexState
-marked_to s v zero x = x
-marked_to s v (suc n) x = marked s (Take v n) (marked_to s v n x)
+marked_to s v n x = on_takes (marked s) v n x
 
 -- of several events
 abbrev pub marked_all : WorldState → List Event → IndexState → IndexState
-marked_all s [] x = x
-marked_all s (e ∷ es) x = marked_all s es (marked s e x)
+marked_all s es x = on_each (marked s) es x

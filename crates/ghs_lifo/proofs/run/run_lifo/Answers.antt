@@ -3,8 +3,9 @@ use Rattle.ghs_protocol.specs.Laws.{IsNetOf}
 use Rattle.ghs_core.specs.NetState.{NetState, net_of}
 use Rattle.ghs_world.specs.WorldState.{home}
 use Rattle.ghs_patient.proofs.Picks.{is_net}
-use Rattle.ghs_patient.proofs.Running.{not_so, same_end}
-use Rattle.ghs_lifo.proofs.Running.{grown_begins, grown_stays, grown_too, is_short, run_begins, run_more, run_stays, turns_left}
+use Rattle.ghs_sched.proofs.Running.{not_so, same_end}
+use Rattle.ghs_patient.proofs.lemmas.Growing.{grown_begins, grown_next, grown_stays, is_short, turns_left}
+use Rattle.ghs_lifo.proofs.Running.{pickable, run_begins, run_more, run_stays}
 use Rattle.ghs_lifo.proofs.run.run_lifo.Goals as goal
 
 pub events-init : goal.events-init
@@ -15,13 +16,14 @@ events-init c = record {
 }
 
 pub events-preserved : goal.events-preserved
-events-preserved c = record {
+events-preserved c = let next = c.in-Ok-make_next.ensures.ok in record {
   run = run_more c.args.world.now c.events.world c.args.schedule.now c.events.schedule c.events.invariant.run
       (not_so c.ended-in-events.result c.ended-in-events.ensures.ended c.events-test.true) (sym c.has_turn.ensures ∙ c.if-not-has_turn.false)
       c.make_next.new.world c.make_next.new.schedule c.in-Ok-make_next.ensures.ok;
-  grown = grown_too c.args.world.now c.events.world c.make_next.new.world c.args.schedule.now c.events.schedule c.make_next.new.schedule
-      c.events.invariant.run
-      c.in-Ok-make_next.ensures.ok c.events.invariant.grown;
+  grown = grown_next c.args.world.now.net.graph c.args.world.now.net.trace c.events.world c.make_next.new.world next.event
+      c.events.invariant.run.graph
+      (pickable c.events.world c.events.schedule next.event c.make_next.new.schedule c.events.invariant.run.outs next.next).patient next.made
+      c.events.invariant.grown;
   latest = c.in-Ok-make_next.ensures.latest;
 }
 
@@ -41,8 +43,8 @@ pub returns-then-not-has_turn-clause-ends : goal.returns-then-not-has_turn-claus
 returns-then-not-has_turn-clause-ends c =
     let is : IsNetOf c.args.world.now.net.graph (home c.args.world.now) =
     subst (λ (n : NetState). IsNetOf n.graph (net_of n)) c.net.ensures.net (is_net c.net.result.now c.trace.ensures.graph c.trace.ensures.run) in
-    λ enough e. turns_left c.args.world.now c.events.world is c.events.invariant.grown c.law_patience.ensures c.args.schedule.now
-    c.events.schedule c.events.invariant.run
+    let run = c.events.invariant.run in
+    λ enough e. turns_left c.args.world.now c.events.world is c.events.invariant.grown c.law_patience.ensures run.graph run.turns run.outs run.numbers
     c.law_patience_lasts.ensures (not_so c.ended-in-events.result c.ended-in-events.ensures.ended c.events-test.true)
     (sym c.has_turn.ensures ∙ c.if-not-has_turn.true) enough
 

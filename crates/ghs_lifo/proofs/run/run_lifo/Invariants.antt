@@ -1,5 +1,5 @@
 use Rattle.std.proofs.Common.{◌-◌, length}
-use Rattle.ghs_patient.proofs.Growing.{HasGrown}
+use Rattle.ghs_patient.proofs.lemmas.Growing.{HasGrown}
 use Rattle.ghs_lifo.specs.Kept.{AreLatest}
 use Rattle.ghs_lifo.specs.Runs.{HasRun}
 use Rattle.ghs_lifo.proofs.run.run_lifo.Given as goal

@@ -3,8 +3,10 @@ use Rattle.ghs_protocol.specs.Laws.{IsNetOf}
 use Rattle.ghs_core.specs.NetState.{NetState, net_of}
 use Rattle.ghs_chain.specs.Kept.{AreChains}
 use Rattle.ghs_world.specs.WorldState.{WorldState, home}
+use Rattle.ghs_sched.proofs.Running.{not_so}
 use Rattle.ghs_patient.proofs.Picks.{is_net}
-use Rattle.ghs_patient.proofs.Running.{grown_begins, grown_stays, grown_too, is_short, not_so, run_begins, run_more, run_stays, turns_left}
+use Rattle.ghs_patient.proofs.Running.{grown_too, run_begins, run_more, run_stays}
+use Rattle.ghs_patient.proofs.lemmas.Growing.{grown_begins, grown_stays, is_short, turns_left}
 use Rattle.ghs_picking.proofs.patient.run_patient.Goals as goal
 
 pub events-init : goal.events-init
@@ -44,7 +46,8 @@ pub returns-then-not-has_turn-clause-ends : goal.returns-then-not-has_turn-claus
 returns-then-not-has_turn-clause-ends c =
     let is : IsNetOf c.args.world.now.net.graph (home c.args.world.now) =
     subst (λ (n : NetState). IsNetOf n.graph (net_of n)) c.net.ensures.net (is_net c.net.result.now c.trace.ensures.graph c.trace.ensures.run) in
-    λ enough e. turns_left c.args.world.now c.events.world is c.events.invariant.grown c.law_patience.ensures c.args.schedule.now c.events.schedule c.events.invariant.run
+    let run = c.events.invariant.run in
+    λ enough e. turns_left c.args.world.now c.events.world is c.events.invariant.grown c.law_patience.ensures run.graph run.turns run.outs run.numbers
     c.law_patience_lasts.ensures (not_so c.ended-in-events.result c.ended-in-events.ensures.ended c.events-test.true) (sym c.has_turn.ensures ∙ c.if-not-has_turn.true) enough
 
 pub returns-in-Err-make_next-clause-run : goal.returns-in-Err-make_next-clause-run

@@ -1,5 +1,5 @@
 use Rattle.std.proofs.Common.{◌∙◌, sym}
-use Rattle.ghs_patient.proofs.Running.{not_so, same_end}
+use Rattle.ghs_sched.proofs.Running.{not_so, same_end}
 use Rattle.ghs_waits.proofs.Running.{run_begins, run_more, run_stays}
 use Rattle.ghs_waits.proofs.run.run_waiting.Goals as goal
 

@@ -3,8 +3,9 @@ use Rattle.ghs_graph.specs.Graph.{IsGraph}
 use Rattle.ghs_protocol.specs.Run.{IsRun}
 use Rattle.ghs_core.specs.NetState.{NetState, network}
 use Rattle.ghs_chain.specs.Kept.{AreChains}
+use Rattle.ghs_chain.proofs.Carrying.{out_to}
 use Rattle.ghs_patient.proofs.Ports.{sends_out}
-use Rattle.ghs_rounds.proofs.Hearing.{hears_small, sends_far}
+use Rattle.ghs_rounds.proofs.Hearing.{hears_small}
 use Rattle.ghs_rounds.proofs.rounds.Rounds.hear.Goals as goal
 
 pub follow-requires-clause-small : goal.follow-requires-clause-small
@@ -23,7 +24,7 @@ follow-requires-clause-far c =
     let graph : IsGraph c.args.world.now.net.graph = subst (λ (n : NetState). IsGraph n.graph) c.net.ensures.net c.trace.ensures.graph in
     let is_run : IsRun (network c.args.world.now.net) c.args.world.now.net.trace = subst (λ (n : NetState). IsRun (network n) n.trace) c.net.ensures.net c.trace.ensures.run in
     let chains : AreChains c.args.world.now.net c.self.inside.clock.kept = rw (← c.self.view_is) at c.requires.rounds.chains in
-    rw c.graph.ensures (sends_far c.args.world.now.net graph is_run c.args.event c.args.delta.now c.requires.lawful c.requires.answer c.self.inside.clock.kept chains.fits)
+    rw c.graph.ensures (out_to c.args.world.now.net graph is_run c.args.event c.requires.lawful c.args.delta.now c.requires.answer c.self.inside.clock.kept chains.fits)
 
 pub note-requires-clause-ports : goal.note-requires-clause-ports
 note-requires-clause-ports c =

@@ -1,20 +1,25 @@
 -- How a patient run grows, and that it is short.
-use Rattle.std.proofs.Common.{◌≡◌, ℕ, suc, ◌+◌, ◌*◌, ◌<◌, ◌≤◌, Bool, true, false, ◌&&◌, Some, List, [], ◌∷◌, ◌++◌, length, refl, sym, ◌∙◌, ap, subst, ⊎_elim, ◌⊎◌, arith, length-append, append_assoc, append-nil}
-use Rattle.std.proofs.lemmas.Bool.{and_from, and_parts, both_ways, lt-ltb, ltb-true}
+use Rattle.std.proofs.Common.{◌≡◌, ℕ, ◌+◌, ◌*◌, ◌<◌, ◌≤◌, Bool, false, Some, List, [], ◌∷◌, ◌++◌, length, refl, sym, ◌∙◌, ap, ap₂, subst, ⊎_elim, arith, length-append, append_assoc, append-nil}
+use Rattle.std.proofs.lemmas.Bool.{and_from, both_ways, lt-ltb}
 use Rattle.std.proofs.lemmas.List.{length_push}
 use Rattle.std.proofs.lemmas.Option.{same_Some}
 use Rattle.ghs_graph.specs.Bound.{IsBound}
-use Rattle.ghs_graph.specs.Graph.{Shape, IsGraph}
+use Rattle.ghs_graph.specs.Graph.{Shape}
 use Rattle.ghs_protocol.specs.declared.event.Event.{Event}
 use Rattle.ghs_protocol.specs.Laws.{IsNetOf}
 use Rattle.ghs_protocol.specs.Marks.{HasEnded}
 use Rattle.ghs_protocol.specs.Network.{Network, network_of}
 use Rattle.ghs_protocol.specs.Net.{Net, happens}
-use Rattle.ghs_protocol.specs.Run.{IsRun, and_then, net_after, run}
+use Rattle.ghs_protocol.specs.Run.{and_then, net_after, run}
 use Rattle.ghs_protocol.specs.Schedules.{AllMayWake, And_then, IsPatient, IsPatientIn, No_more, PatienceLasts, PatientRunsAreShort}
 use Rattle.ghs_protocol.specs.Steps.{Happens}
 use Rattle.ghs_protocol.proofs.lemmas.Events.{happening, happens_so}
-use Rattle.ghs_protocol.proofs.lemmas.Runs.{after_is_net, both_some, run_more}
+use Rattle.ghs_protocol.proofs.lemmas.Runs.{after_more, run_keeps, run_more}
+use Rattle.ghs_core.specs.NetState.{network}
+use Rattle.ghs_world.specs.Steps.{IsSameWorld, Makes}
+use Rattle.ghs_world.specs.WorldState.{WorldState, has_turn, home, wakers}
+use Rattle.ghs_world.proofs.lemmas.Waking.{each_is_woken}
+use Rattle.ghs_patient.specs.Runs.{HasTurns, IsShort}
 
 -- one event more at the end
 patient_more : (g : Network) (es : List Event) (w x y : Net) (e : Event) → IsPatient g w es → run g es w ≡ Some x → IsPatientIn g x e → Happens g x e y →
@@ -67,3 +72,46 @@ module _ (g : Shape) (trace new : List Event) (is : IsNetOf g (net_after g trace
       omega (arith, few, one, many))
       (λ ended. absurd (going ended))
       (lasts g may (net_after g new) now all)
+
+-- A world's trace grows: not at first, by an event that is picked patiently, and not where memory is refused.
+pub grown_begins : (s t : WorldState) → t ≡ record s { outs = [] } → HasGrown s.net.graph s.net.trace t.net.trace
+grown_begins s t e = rw e (grown_not s.net.graph s.net.trace)
+
+pub grown_next : (g : Shape) (trace : List Event) (s new : WorldState) (e : Event) → s.net.graph ≡ g → IsPatientIn (network s.net) (home s) e →
+    Makes s e new →
+    HasGrown g trace s.net.trace → HasGrown g trace new.net.trace
+grown_next g trace s new e same patient made = subst
+    (λ (x : Shape). HasGrown x trace s.net.trace → HasGrown x trace new.net.trace)
+    same
+    (λ grown. rw made.trace (grown_more s.net.graph trace s.net.trace e grown patient (made.event ∙ ap Some (ap₂ net_after made.graph made.trace))))
+
+pub grown_stays : (g : Shape) (trace : List Event) (s new : WorldState) → IsSameWorld s new → HasGrown g trace s.net.trace →
+    HasGrown g trace new.net.trace
+grown_stays g trace s new same grown = rw same.net.trace grown
+
+-- a run that goes on in a world goes on over the graph that it began with
+pub still_going : (old s : WorldState) → s.net.graph ≡ old.net.graph → (HasEnded s.net.graph (home s) → ⊥) →
+    HasEnded old.net.graph (net_after old.net.graph s.net.trace) → ⊥
+still_going old s graph going = subst (λ (g : Shape). HasEnded g (net_after g s.net.trace) → ⊥) graph going
+
+module _ (old s : WorldState) (is : IsNetOf old.net.graph (home old)) (grown : HasGrown old.net.graph old.net.trace s.net.trace)
+    (law : PatientRunsAreShort) where
+  pub is_short : IsShort old s
+  is_short b bound = short old.net.graph old.net.trace s.net.trace is grown law b bound
+
+  now : IsNetOf old.net.graph (net_after old.net.graph s.net.trace)
+  now = run_keeps (network_of old.net.graph) (IsNetOf old.net.graph)
+      (λ w x e i h. record { graph = i.graph; events = i.events ++ e ∷ []; run = after_more (network_of old.net.graph) i.events e w x i.run h })
+      grown.more (home old) (net_after old.net.graph s.net.trace) is grown.leads
+
+  -- turns are left where there were enough, and the run goes on
+  pub turns_left : s.net.graph ≡ old.net.graph → s.turns ≡ old.turns → s.outs ≡ [] → s.last + length old.net.trace ≡ old.last + length s.net.trace →
+      PatienceLasts → (HasEnded s.net.graph (home s) → ⊥) → has_turn s ≡ false → HasTurns old → ⊥
+  turns_left graph same outs used lasts going none enough =
+      let lt = shorter old.net.graph old.net.trace s.net.trace is grown law enough.bound enough.is (wakers old) lasts now
+      (each_is_woken old.net.graph old.wake is.graph) (still_going old s graph going) in
+      let turns = enough.turns in
+      let numbers = enough.numbers in
+      let home : length s.outs ≡ 0 = ap length outs in
+      both_ways (has_turn s) none (and_from _ _ (lt-ltb (length s.net.trace + length s.outs) s.turns (omega (arith, lt, turns, same, home)))
+      (lt-ltb s.last 18446744073709551615 (omega (arith, lt, numbers, used))))

@@ -1,0 +1,2 @@
+-- What proofs about chains above this crate may use.
+pub mod Hears

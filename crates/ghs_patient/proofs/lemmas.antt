@@ -1,0 +1,5 @@
+-- What proofs about schedules above this crate may use.
+pub mod Growing
+pub mod Picked
+pub mod Places
+pub mod Walks
