@@ -9,7 +9,7 @@ use Rattle.ghs_node.specs.declared.message.Message.TheVariants.{Connect}
 use Rattle.ghs_protocol.specs.Network.{Network, port_at, At, far, far_port, InNetwork}
 use Rattle.ghs_protocol.proofs.lemmas.Wired.{IsWired}
 use Rattle.ghs_protocol.specs.Net.{put}
-use Rattle.ghs_protocol.proofs.clauses.Scene.{Member, Scene, End, TreeEnd, TestEnd, tree_end, end, forest, acts, far_end}
+use Rattle.ghs_protocol.proofs.clauses.Scene.{Member, Scene, End, TreeEnd, TestEnd, tree_end, end, forest, acts, far_end, test_end}
 use Rattle.ghs_protocol.proofs.clauses.Changes.{left_tree, seen_beyond, sent_out}
 use Rattle.ghs_protocol.proofs.clauses.TreeMessages.{TreeFits}
 use Rattle.ghs_protocol.proofs.clauses.Search.{SearchFits, LeadsOut}

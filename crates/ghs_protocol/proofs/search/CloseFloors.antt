@@ -27,7 +27,7 @@ use Rattle.ghs_protocol.proofs.search.FirstReport.{mark_is}
 use Rattle.ghs_protocol.proofs.union.OneFragment.{Off}
 use Rattle.ghs_protocol.proofs.rest.AtRest.{parent_finds, by_find}
 use Rattle.ghs_protocol.proofs.search.ReportGone.{at_it, not_at}
-use Rattle.ghs_protocol.proofs.search.Close.{busy, joins', unmoved', up, away, has_report_append}
+use Rattle.ghs_protocol.proofs.search.Close.{busy, joins', unmoved', up, has_report_append}
 use Rattle.ghs_protocol.proofs.acts.Situations.{basic_left}
 use Rattle.ghs_protocol.proofs.rows.Link.{node_clauses, joined_clauses, not_the_way}
 

@@ -31,6 +31,7 @@ use Rattle.ghs_protocol.proofs.root.OldLink.{report_append}
 use Rattle.ghs_protocol.proofs.union.Met.{meets}
 use Rattle.ghs_protocol.proofs.rows.Link.{node_clauses}
 use Rattle.ghs_protocol.proofs.lemmas.Wires.{at_in}
+use Rattle.ghs_protocol.specs.Net.{put}
 
 -- a node that isn't on the link, awake now, at level 0 as before
 abbrev pub woke : TreeEnd → Option ℕ → TreeEnd

@@ -25,7 +25,7 @@ use Rattle.ghs_protocol.proofs.root.Ways.{Turns, turning, forest_turn}
 use Rattle.ghs_protocol.proofs.root.Sent.{put_field}
 use Rattle.ghs_protocol.proofs.root.OldLink.{call_append}
 use Rattle.ghs_protocol.proofs.union.NewBranch.{Branches, link_named, fragment_was, coming_was, name_was, mark_else, mark_here, branch_grows, names_grow, alone_grown, named_grown, nodes_grown}
-use Rattle.ghs_protocol.proofs.wake.Inward.{waker, sent, is, fresh, near_fits, far_fits, node, counted, unbranched, no_root, quiet, waking, still, still_fits, still_fits'}
+use Rattle.ghs_protocol.proofs.wake.Inward.{waker, sent, fresh, near_fits, far_fits, node, counted, unbranched, no_root, quiet, waking, still, still_fits, still_fits'}
 use Rattle.ghs_protocol.proofs.root.Outward.{connects_near, connects_far}
 
 module _ (g : Network) (wired : IsWired g) (u : ℕ) (u_is : InNetwork g u) (w : Scene) (holds : Invariant g w) (at : At g u 0)
