@@ -1,11 +1,12 @@
 -- Tests for equality decide equality.
-use Rattle.std.proofs.Common.{◌≡◌, ◌==◌, ◌&&◌, ℕ, Bool, true, Option, Some, None, refl, ap, eq-eqb}
+use Rattle.std.proofs.Common.{◌≡◌, ◌==◌, ◌&&◌, ◌<◌, ℕ, Bool, true, List, length, get_or, Option, Some, None, refl, ap, eq-eqb}
 use Rattle.std.specs.Bool.{Decides}
 use Rattle.std.specs.Cmp.{booleans_Decides}
 use Rattle.std.specs.Option.{option_eq}
 use Rattle.std.proofs.Math.Bool.{beq}
 use Rattle.std.proofs.lemmas.Bool.{and_parts, eqb-true}
 use Rattle.std.proofs.lemmas.Bool.Decides.{Decides-and, Decides-eqb}
+use Rattle.std.proofs.lemmas.List.{same_lists}
 use Rattle.std.proofs.lemmas.Option.{same_Some}
 use Rattle.ghs_graph.specs.declared.key.Key.{Key}
 use Rattle.ghs_node.specs.declared.head.Head.{Head}
@@ -112,3 +113,7 @@ head_decides g h =
             ),
           ),
     )
+
+-- lists of keys with the same key at each place
+pub keys_alike : (ks ls : List Key) → length ks ≡ length ls → ((k : ℕ) → (d : Key) → k < length ks → get_or ks k d ≡ get_or ls k d) → ks ≡ ls
+keys_alike ks ls e f = same_lists ks ls e f

@@ -263,11 +263,12 @@ impl<J: Start> Floor<J> {
         if hand.pace.come() {
             self.at_work = self.at_work.saturating_add(1);
         }
-        let crowd = crowd_of(self.ports.len());
+        let nodes = self.ports.len();
+        let crowd = crowd_of(nodes);
         // a look may have put one ticket more into a full hand than a visit performs
         let leaves = hand.tickets() == 0
             && self.at_work > 1
-            && hand.pace.has_enough(waiting, crowd, self.workers);
+            && hand.pace.has_enough(waiting, nodes, self.workers);
         if leaves {
             self.at_work = self.at_work.saturating_sub(1);
             hand.pace.leave();

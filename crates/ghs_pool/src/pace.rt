@@ -17,8 +17,10 @@ pub const AWAY: u32 = 4096;
 // would only wait for it.
 pub const PAIR: u32 = 2;
 
-// A worker that has made so many events since it came makes room for the one that was away the longest.
-const STINT: u32 = 128;
+// A worker that has made so many events since it came makes room for the one that was away the longest: the most, and the
+// least.
+const STINT: usize = 1024;
+const SHORT_STINT: usize = 64;
 
 // Where fewer numbers wait one worker is enough: what several write would go from processor to processor at each event.
 const CROWD: usize = 32;
@@ -26,6 +28,12 @@ const CROWD: usize = 32;
 // From how many numbers on a second worker is worth it: few in a small network, so that several take part in a short run.
 pub fn crowd_of(nodes: usize) -> usize {
     (nodes / CROWD).clamp(1, CROWD)
+}
+
+// How many events a worker makes before it makes room: few in a small network, so that all take part in a short run, and many
+// in a large one, since whoever comes finds nothing at hand.
+pub fn stint_of(nodes: usize) -> usize {
+    (nodes / CROWD).clamp(SHORT_STINT, STINT)
 }
 
 #[derive(Clone, Copy, Debug)]
@@ -61,11 +69,11 @@ impl Pace {
         was_away
     }
 
-    // Whether the worker has enough of it where so many numbers wait and others are at work too.
-    pub fn has_enough(&self, waiting: usize, crowd: usize, workers: u32) -> bool {
+    // Whether the worker has enough of it where so many numbers wait at so many nodes, and others are at work too.
+    pub fn has_enough(&self, waiting: usize, nodes: usize, workers: u32) -> bool {
         waiting == 0
-            || (self.served > 0 && waiting < crowd)
-            || (self.served >= STINT && workers > PAIR)
+            || (self.served > 0 && waiting < crowd_of(nodes))
+            || (self.served as usize >= stint_of(nodes) && workers > PAIR)
     }
 
     // The worker leaves.
