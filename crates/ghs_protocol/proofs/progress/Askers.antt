@@ -100,11 +100,12 @@ module _ (g : Network) (wired : IsWired g) (w : Scene) (holds : Invariant g w) (
       away : is_branch ((w.at (far g z p)).mark (far_port g z p)) ≡ false → ⊥
       away h = let q = (holds.resting.out z p at (record { here = marked; there = mark_branch _ h })).found z is refl in cc (q, finds)
 
-  abbrev Q : ℕ → ℕ → Type 0
-  Q a v = InNetwork g v → (w.at v).fragment ≡ a → S v ≡ true → (w.at v).head.phase ≡ Find → Asker g w S a
+  -- a node of fragment a that searches leads to one that probes
+  abbrev LeadsToAsker : ℕ → ℕ → Type 0
+  LeadsToAsker a v = InNetwork g v → (w.at v).fragment ≡ a → S v ≡ true → (w.at v).head.phase ≡ Find → Asker g w S a
 
   owing : (a v p : ℕ) →
-      ((z : ℕ) → IsChild g (forest w) z v → Q a z) →
+      ((z : ℕ) → IsChild g (forest w) z v → LeadsToAsker a z) →
       At g v p →
       (w.at v).fragment ≡ a →
       S v ≡ true →
@@ -138,7 +139,7 @@ module _ (g : Network) (wired : IsWired g) (w : Scene) (holds : Invariant g w) (
         to = wired.back v p at;
       }
 
-  step : (a v : ℕ) → ((z : ℕ) → IsChild g (forest w) z v → Q a z) → Q a v
+  step : (a v : ℕ) → ((z : ℕ) → IsChild g (forest w) z v → LeadsToAsker a z) → LeadsToAsker a v
   step a v below is same m finds = go (w.at v).head.probe refl
     where
       count : is_missing (w.at v).head.probe ≡ true → 1 ≤ (w.at v).head.find_count
@@ -160,4 +161,4 @@ module _ (g : Network) (wired : IsWired g) (w : Scene) (holds : Invariant g w) (
 
   -- in a fragment that searches, without a call under way and without a Report but on the way, somebody probes
   pub someone_asks : (v : ℕ) → Reach g (forest w) v → InNetwork g v → S v ≡ true → (w.at v).head.phase ≡ Find → Asker g w S (w.at v).fragment
-  someone_asks v r is m finds = upwards g (forest w) (Q (w.at v).fragment) (step (w.at v).fragment) v r is refl m finds
+  someone_asks v r is m finds = upwards g (forest w) (LeadsToAsker (w.at v).fragment) (step (w.at v).fragment) v r is refl m finds

@@ -3,7 +3,6 @@ use Rattle.std.proofs.Common.{◌≡◌, ◌≢◌, ℕ, Bool, true, false, ◌|
 use Rattle.std.proofs.lemmas.Option.{same_Some}
 use Rattle.ghs_graph.specs.declared.key.Key.{Key}
 use Rattle.ghs_node.specs.Words.{is_branch}
-use Rattle.ghs_node.specs.declared.message.Phase.{Phase}
 use Rattle.ghs_node.specs.declared.message.Phase.TheVariants.{Sleeping, Find, Found}
 use Rattle.ghs_node.specs.declared.message.Message.{Message}
 use Rattle.ghs_node.specs.declared.message.Message.TheVariants.{Report}
@@ -23,6 +22,7 @@ use Rattle.ghs_protocol.proofs.search.ReportGone.{at_it}
 use Rattle.ghs_protocol.proofs.tests.Links.{probe_is}
 use Rattle.ghs_protocol.proofs.rest.Halt.{owed_finds}
 use Rattle.ghs_protocol.proofs.lemmas.Wires.{at_in}
+use Rattle.ghs_protocol.proofs.lemmas.Woken.{at_rest}
 
 -- a call waits: its receiver's way leads to the sender
 pub data CalledTo (e f : TreeEnd) : Type 0 where
@@ -107,11 +107,6 @@ by_call false false c e = cc
 has_port : {g : Network} {S : ℕ → ℕ → Type 0} {v u : ℕ} → Leads g S v u → (j : ℕ) → At g u j → (p : ℕ) × At g v p
 has_port Here j at = (j, at)
 has_port (Over p at s l) j _ = (p, at)
-
-at_rest : (s : Phase) → s ≢ Find → s ≢ Sleeping → s ≡ Found
-at_rest Found a b = refl
-at_rest Find a b = absurd (a refl)
-at_rest Sleeping a b = absurd (b refl)
 
 pub not_true : (b : Bool) → b ≢ true → b ≡ false
 not_true false h = refl

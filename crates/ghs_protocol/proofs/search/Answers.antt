@@ -2,7 +2,7 @@
 use Rattle.std.proofs.Common.{◌≡◌, ◌≢◌, ℕ, suc, ◌<◌, ◌≤◌, false, Option, Some, None, List, [], ◌∷◌, refl, sym, ◌∙◌, ap, subst, ⊎_elim, ◌⊎◌, inl, inr, length, arith, le_refl}
 use Rattle.std.proofs.lemmas.Option.{same_Some}
 use Rattle.ghs_graph.specs.declared.key.Key.{Key}
-use Rattle.ghs_node.specs.Words.{Best, is_branch, is_find, better, best_key}
+use Rattle.ghs_node.specs.Words.{Best, is_find, better, best_key}
 use Rattle.ghs_node.specs.declared.mark.Mark.TheVariants.{Branch}
 use Rattle.ghs_node.specs.declared.message.Phase.TheVariants.{Find}
 use Rattle.ghs_node.specs.declared.message.Message.{Message}
@@ -15,7 +15,7 @@ use Rattle.ghs_protocol.proofs.clauses.Nodes.{NodeFits}
 use Rattle.ghs_protocol.proofs.clauses.TreeMessages.{Reported}
 use Rattle.ghs_protocol.proofs.clauses.Search.{LeadsOut}
 use Rattle.ghs_protocol.proofs.clauses.Whole.{LinkFits, Invariant, NamesOf}
-use Rattle.ghs_protocol.proofs.clauses.Links.{Joins, Ups}
+use Rattle.ghs_protocol.proofs.clauses.Links.{Joins}
 use Rattle.ghs_protocol.proofs.clauses.Rest.{debt, has_call}
 use Rattle.ghs_protocol.proofs.acts.OneLink.{sends_none, at_near, at_far, here, sums_one, kept_one}
 use Rattle.ghs_protocol.proofs.tests.Links.{not_some, tests_aside, tests_aside', accepted_apart, accepted_here, accepted_there}
@@ -23,6 +23,7 @@ use Rattle.ghs_protocol.proofs.acts.Situations.{is_find', probing_finds, node_tu
 use Rattle.ghs_protocol.proofs.search.Best.{with_best, tree_best, tree_best', search_best, search_best', better_is}
 use Rattle.ghs_protocol.proofs.search.ReportGone.{search_trees, tree_popped, tree_popped', uncalled, debt_one, debt_up, debt_none}
 use Rattle.ghs_protocol.proofs.search.FirstReport.{heard_first, Heard, mark_is}
+use Rattle.ghs_protocol.proofs.rows.Link.{link_inside, link_leads}
 
 some_better : (o : Best) (j : ℕ) (w : Option Key) → o ≢ None → better o j w ≢ None
 some_better o j w ne = ⊎_elim (λ e z. ne (sym e ∙ z)) (λ t z. let y = t.2 in cc (y, z)) (better_is o j w)
@@ -58,15 +59,6 @@ module _ (g : Network) (wired : IsWired g) (u : ℕ) (u_is : InNetwork g u) (j :
   lnk' : LinkFits (NamesOf g w) (far_end g w u j) (end g w u j)
   lnk' = at_far g wired w (LinkFits (NamesOf g w)) holds.links u j at
 
-  inside : (i : ℕ) → At g u i → Joins (tree_end (end g w u i)) (tree_end (far_end g w u i)) → (w.at u).fragment ≡ (w.at (far g u i)).fragment
-  inside i at' h = holds.trees.joined_within u i at' (record { here = ap is_branch h.here; there = ap is_branch h.there })
-
-  ways : (i : ℕ) →
-      At g u i →
-      Joins (tree_end (end g w u i)) (tree_end (far_end g w u i)) →
-      Ups (tree_end (end g w u i)) ⊎ Ups (tree_end (far_end g w u i))
-  ways i at' h = holds.trees.joined_lead u i at' (record { here = ap is_branch h.here; there = ap is_branch h.there })
-
   -- at a node that searches each Branch link is joined
   branch_joined : (i : ℕ) →
       At g u i →
@@ -94,7 +86,7 @@ module _ (g : Network) (wired : IsWired g) (u : ℕ) (u_is : InNetwork g u) (j :
         let s = my_fits.searching finds in
         let z = my_fits.points (λ y. cc (finds, y)) (omega (arith, at.port)) in
         let same : z.port ≡ j = same_Some z.port j (sym z.up ∙ s.up ∙ sym s.in_branch ∙ e) in
-        apart.0 (sym (inside j at (branch_joined j at finds (subst (λ y. (w.at u).mark y ≡ Branch) same z.mark))))
+        apart.0 (sym (link_inside g wired w holds u j at (branch_joined j at finds (subst (λ y. (w.at u).mark y ≡ Branch) same z.mark))))
 
     new : (i : ℕ) →
         (k : Key) → better (w.at u).head.best j (Some (port_at g u j).key) ≡ Some (i, k) →
@@ -108,7 +100,7 @@ module _ (g : Network) (wired : IsWired g) (u : ℕ) (u_is : InNetwork g u) (j :
         (Joins (tree_end (end g w u y)) (tree_end (far_end g w u y)) → Reported (tree_end (far_end g w u y)) (Some k)))
         (sym t.0) (
           (λ m. record { key = sym (key_Some (port_at g u j).key k t.1); apart = apart.0; higher = apart.1 }),
-          (λ h. absurd (apart.0 (sym (inside j at h)))),
+          (λ h. absurd (apart.0 (sym (link_inside g wired w holds u j at h)))),
         )))
         (better_at _ j (Some (port_at g u j).key) i k e)
 
@@ -178,7 +170,7 @@ module _ (g : Network) (wired : IsWired g) (u : ℕ) (u_is : InNetwork g u) (j :
     finds' = ⊎_elim (λ h. h) (λ ne. absurd (let z = (my_fits.idle ne).1 in omega (arith, z, count))) (is_find' (w.at u).head.phase)
 
     heard : Heard (tree_end (end g w u j)) (tree_end (far_end g w u j)) k
-    heard = heard_first (tree_end (end g w u j)) (tree_end (far_end g w u j)) lnk.tree lnk'.tree (ways j at) k ms waits away
+    heard = heard_first (tree_end (end g w u j)) (tree_end (far_end g w u j)) lnk.tree lnk'.tree (link_leads g wired w holds u j at) k ms waits away
 
     joins : Joins (tree_end (end g w u j)) (tree_end (far_end g w u j))
     joins = record { here = heard.child.joins.there; there = heard.child.joins.here }
@@ -214,7 +206,7 @@ module _ (g : Network) (wired : IsWired g) (u : ℕ) (u_is : InNetwork g u) (j :
     free : has_call (seen_beyond g w u j).tree ≡ false
     free =
         uncalled (tree_end (end g w u j)) (tree_end (far_end g w u j)) heard.child
-        (let s = holds.trees.by_fragment u (far g u j) (inside j at joins) in
+        (let s = holds.trees.by_fragment u (far g u j) (link_inside g wired w holds u j at joins) in
         let l = my_fits.lag.level in let t = heard.reported.level in omega (arith, s.0, l, t))
         (lnk'.tree.downward heard.child)
 

@@ -3,7 +3,7 @@ use Rattle.std.proofs.Common.{◌≡◌, ◌≢◌, ℕ, Bool, true, false, not,
 use Rattle.std.proofs.lemmas.Bool.{cases_eq}
 use Rattle.ghs_graph.specs.declared.key.Key.{Key}
 use Rattle.ghs_node.specs.declared.mark.Mark.TheVariants.{Basic, Branch}
-use Rattle.ghs_node.specs.Words.{is_branch, is_at, below, best_key, Outgoing}
+use Rattle.ghs_node.specs.Words.{is_at, below, best_key, Outgoing}
 use Rattle.ghs_node.specs.declared.message.Phase.{Phase}
 use Rattle.ghs_node.specs.declared.message.Phase.TheVariants.{Sleeping, Find, Found}
 use Rattle.ghs_node.specs.declared.message.Message.{Message}
@@ -18,7 +18,7 @@ use Rattle.ghs_protocol.proofs.clauses.TreeMessages.{Moved}
 use Rattle.ghs_protocol.proofs.clauses.Nodes.{NodeFits}
 use Rattle.ghs_protocol.proofs.clauses.Rest.{Quiet, owes, debt, has_report, has_call}
 use Rattle.ghs_protocol.proofs.clauses.Whole.{LinkFits, Invariant, NamesOf}
-use Rattle.ghs_protocol.proofs.clauses.Floors.{Floor, lower, FloorsAt, NodeFloor, IsTreeLink, BranchesInTree, HaltedIsWhole, Floors}
+use Rattle.ghs_protocol.proofs.clauses.Floors.{Floor, lower, FloorsAt, NodeFloor, IsTreeLink, BranchesInTree, HaltedIsWhole, Floors, AllNodeFloors}
 use Rattle.ghs_protocol.proofs.lemmas.Updates.{put_same, put_other}
 use Rattle.ghs_protocol.proofs.lemmas.Sums.{term_le}
 use Rattle.ghs_protocol.proofs.acts.Ends.{acts_read}
@@ -30,10 +30,11 @@ use Rattle.ghs_protocol.proofs.rest.AtRest.{parent_finds, by_find}
 use Rattle.ghs_protocol.proofs.search.ReportGone.{at_it, not_at}
 use Rattle.ghs_protocol.proofs.search.Close.{busy, joins', unmoved', up, away, has_report_append}
 use Rattle.ghs_protocol.proofs.acts.Situations.{basic_left}
+use Rattle.ghs_protocol.proofs.rows.Link.{link_inside}
 
 -- all clauses of floors, but at the link at port b of u, and but the order of tests
 pub record FloorsOff (g : Network) (w : Scene) (floor : ℕ → Floor) (u b : ℕ) : Type 0 where
-  pub nodes : (v : ℕ) → InNetwork g v → NodeFloor (w.at v) (floor v)
+  pub nodes : AllNodeFloors g w floor
   pub links : (v p : ℕ) → At g v p → Off g u b v p → FloorsAt (end g w v p) (end g w (far g v p) (far_port g v p)) (floor v) (floor (far g v p))
   pub in_tree : BranchesInTree g w
   pub halted : HaltedIsWhole g w
@@ -91,7 +92,7 @@ module _ (g : Network) (wired : IsWired g) (u : ℕ) (u_is : InNetwork g u) (x :
       (sym (ap floor' (wired.back u i at) ∙ floor_here))
       (away i at (λ e. off.there (wired.back u i at, wired.back_port u i at ∙ e))))
 
-  pub nodes_after : NodeFloor x a → (v : ℕ) → InNetwork g v → NodeFloor (acted.at v) (floor' v)
+  pub nodes_after : NodeFloor x a → AllNodeFloors g acted floor'
   nodes_after here v is =
       ⊎_elim (λ (e : v ≡ u).
       subst (λ y. NodeFloor (put w.at u x y) (floor' y)) (sym e) (subst₂ NodeFloor (sym (put_same w.at u x)) (sym floor_here) here))
@@ -189,14 +190,12 @@ module _ (g : Network) (wired : IsWired g) (u : ℕ) (u_is : InNetwork g u) (j :
   no_out : (i : ℕ) → At g u i → Out (tree_end (end g w u i)) (tree_end (far_end g w u i)) → ⊥
   no_out i at' o = restless (holds.resting.out u i at' (record { here = o.here; there = o.there }))
 
-  same_fragment : (i : ℕ) → At g u i → Joins (tree_end (end g w u i)) (tree_end (far_end g w u i)) → (w.at u).fragment ≡ (w.at (far g u i)).fragment
-  same_fragment i at' z = holds.trees.joined_within u i at' (record { here = ap is_branch z.here; there = ap is_branch z.there })
-
   -- a port that leads out is Basic
   leads_basic : (i : ℕ) → At g u i → (w.at (far g u i)).fragment ≢ (w.at u).fragment → (w.at u).mark i ≡ Basic
   leads_basic i at' ne =
       basic_left ((w.at u).mark i)
-      (λ b. ⊎_elim (λ c. ne (sym (same_fragment i at' (record { here = b; there = c })))) (λ c. no_out i at' (record { here = b; there = c }))
+      (λ b.
+      ⊎_elim (λ c. ne (sym (link_inside g wired w holds u i at' (record { here = b; there = c })))) (λ c. no_out i at' (record { here = b; there = c }))
       (mark_is ((w.at (far g u i)).mark (far_port g u i))))
       (λ r. ne (sym ((link i at').search.rejected_inside r)))
 
@@ -274,7 +273,7 @@ module _ (g : Network) (wired : IsWired g) (u : ℕ) (u_is : InNetwork g u) (j :
   -- the link to the parent, or the core
   here_fits : FloorsAt (still j) there (Some k) (floor (far g u j))
   here_fits = record {
-    none_below = λ out. absurd (out (sym (same_fragment j at joins)));
+    none_below = λ out. absurd (out (sym (link_inside g wired w holds u j at joins)));
     falls = λ c. subst (λ (y : Floor). lower y (Some k) ≡ true) (sym (parent_none (record { joins = joins; up = c.up; down = c.down }))) refl;
     covered = λ p c o. absurd (let z = reported in cc (z, o));
     report = λ r c t. ap Some (last_report (seen_beyond g w u j).tree k r t);
@@ -302,7 +301,7 @@ module _ (g : Network) (wired : IsWired g) (u : ℕ) (u_is : InNetwork g u) (j :
 
   there_fits : FloorsAt there (still j) (floor (far g u j)) (Some k)
   there_fits = record {
-    none_below = λ out. absurd (out (same_fragment j at joins));
+    none_below = λ out. absurd (out (link_inside g wired w holds u j at joins));
     falls = λ c. absurd (c.down ups);
     covered = λ p c o. absurd (c.down ups);
     report = λ r c t. absurd (c.down ups);
@@ -317,7 +316,7 @@ module _ (g : Network) (wired : IsWired g) (u : ℕ) (u_is : InNetwork g u) (j :
   }
     where
       ghosts : ((w.at (far g u j)).coming ≡ (w.at u).coming) × ((w.at (far g u j)).coming_name ≡ (w.at u).coming_name)
-      ghosts = holds.trees.by_fragment (far g u j) u (sym (same_fragment j at joins))
+      ghosts = holds.trees.by_fragment (far g u j) u (sym (link_inside g wired w holds u j at joins))
 
       unmoved : Moved (tree_end there) (tree_end (still j)) → ⊥
       unmoved m =

@@ -34,6 +34,7 @@ use Rattle.ghs_protocol.proofs.search.FirstReport.{mark_is}
 use Rattle.ghs_protocol.proofs.search.PassedOn.{forwards_on, forwards_many, one_on}
 use Rattle.ghs_protocol.proofs.search.Called.{Calls, calls, tree_told, tree_told', tree_past, tree_past', tree_passed, tree_passed', search_told, search_told'}
 use Rattle.ghs_protocol.proofs.lemmas.Balance.{none_or_none}
+use Rattle.ghs_protocol.proofs.rows.Link.{link_inside, link_leads}
 
 pub has_call_more : (xs : List Message) (l : ℕ) (n : Key) (s : Phase) → has_call (xs ++ Initiate l n s ∷ []) ≡ (has_call xs || is_find s)
 has_call_more [] l n Sleeping = refl
@@ -122,20 +123,11 @@ module _ (g : Network) (wired : IsWired g) (u : ℕ) (u_is : InNetwork g u) (j :
   link' : (i : ℕ) → At g u i → LinkFits (NamesOf g w) (far_end g w u i) (end g w u i)
   link' i at' = at_far g wired w (LinkFits (NamesOf g w)) holds.links u i at'
 
-  pub inside : (i : ℕ) → At g u i → Joins (tree_end (end g w u i)) (tree_end (far_end g w u i)) → (w.at u).fragment ≡ (w.at (far g u i)).fragment
-  inside i at' h = holds.trees.joined_within u i at' (record { here = ap is_branch h.here; there = ap is_branch h.there })
-
   pub ghosts : (i : ℕ) →
       At g u i →
       Joins (tree_end (end g w u i)) (tree_end (far_end g w u i)) →
       ((w.at (far g u i)).coming ≡ (w.at u).coming) × ((w.at (far g u i)).coming_name ≡ (w.at u).coming_name)
-  ghosts i at' h = holds.trees.by_fragment (far g u i) u (sym (inside i at' h))
-
-  ways : (i : ℕ) →
-      At g u i →
-      Joins (tree_end (end g w u i)) (tree_end (far_end g w u i)) →
-      Ups (tree_end (end g w u i)) ⊎ Ups (tree_end (far_end g w u i))
-  ways i at' h = holds.trees.joined_lead u i at' (record { here = ap is_branch h.here; there = ap is_branch h.there })
+  ghosts i at' h = holds.trees.by_fragment (far g u i) u (sym (link_inside g wired w holds u i at' h))
 
   named : Joins (tree_end (end g w u j)) (tree_end (far_end g w u j)) → NamesOf g w (w.at u).fragment (port_at g u j).key
   named h = record {
@@ -153,7 +145,8 @@ module _ (g : Network) (wired : IsWired g) (u : ℕ) (u_is : InNetwork g u) (j :
       let z = (holds.nodes (far g u j) (record { some = t.some; node = t.node })).lag.level in omega (arith, z, (ghosts j at h).0)
 
   pub call : Calls (NamesOf g w (w.at u).fragment) (tree_end (end g w u j)) (tree_end (far_end g w u j)) l n s ms
-  call = calls (tree_end (end g w u j)) (tree_end (far_end g w u j)) (link j at).tree (link' j at).tree (ways j at) named lags l n s ms waits
+  call =
+      calls (tree_end (end g w u j)) (tree_end (far_end g w u j)) (link j at).tree (link' j at).tree (link_leads g wired w holds u j at) named lags l n s ms waits
 
   pub found : (w.at u).head.phase ≡ Found
   found = go (w.at u).head.phase refl
@@ -176,7 +169,7 @@ module _ (g : Network) (wired : IsWired g) (u : ℕ) (u_is : InNetwork g u) (j :
       (mark_is ((w.at (far g u i)).mark (far_port g u i)))
 
   pub child : (i : ℕ) → At g u i → i ≢ j → (w.at u).mark i ≡ Branch → Ups (tree_end (far_end g w u i))
-  child i at' ne b = ⊎_elim (λ z. absurd (away i ne z)) (λ z. z) (ways i at' (branch_joined i at' ne b))
+  child i at' ne b = ⊎_elim (λ z. absurd (away i ne z)) (λ z. z) (link_leads g wired w holds u i at' (branch_joined i at' ne b))
 
   -- what goes out on each port
   sent_here : sent_on passing j ≡ []
@@ -344,7 +337,8 @@ module _ (g : Network) (wired : IsWired g) (u : ℕ) (u_is : InNetwork g u) (j :
       branch i at' ne b = let jo = branch_joined i at' ne b in record {
         tree =
             tree_passed (NamesOf g w) (tree_end (end g w u i)) (tree_end (far_end g w u i)) l n s (Some j) (away i ne) call.rises call.most jo
-            (child i at' ne b) (sym (inside i at' jo)) (ghosts i at' jo).0 (ghosts i at' jo).1 call.inside call.name call.awake call.find
+            (child i at' ne b) (sym (link_inside g wired w holds u i at' jo)) (ghosts i at' jo).0 (ghosts i at' jo).1 call.inside
+            call.name call.awake call.find
             (link i at').tree;
         search =
             search_told (tree_end (end g w u i)) (tree_end (far_end g w u i)) l s (Some j) call.rises call.most (w.seen u i).tree
@@ -390,7 +384,8 @@ module _ (g : Network) (wired : IsWired g) (u : ℕ) (u_is : InNetwork g u) (j :
       branch i at' ne b = let jo = branch_joined i at' ne b in record {
         tree =
             tree_passed' (NamesOf g w) (tree_end (end g w u i)) (tree_end (far_end g w u i)) l n s (Some j) (away i ne) call.rises call.most jo
-            (child i at' ne b) (sym (inside i at' jo)) (ghosts i at' jo).0 (ghosts i at' jo).1 call.inside call.name call.awake call.find
+            (child i at' ne b) (sym (link_inside g wired w holds u i at' jo)) (ghosts i at' jo).0 (ghosts i at' jo).1 call.inside
+            call.name call.awake call.find
             (link' i at').tree;
         search =
             search_told' (tree_end (end g w u i)) (tree_end (far_end g w u i)) l s (Some j) call.rises call.most (w.seen u i).tree
@@ -440,7 +435,7 @@ module _ (g : Network) (wired : IsWired g) (u : ℕ) (u_is : InNetwork g u) (j :
           (λ i at' ne b e.
           rw
           (has_call_more (seen_beyond g w u i).tree l n s, q.uncalled _ _ (wired.there u i at') e)
-          (calm (inside i at' (branch_joined i at' ne b) ∙ e)).0)
+          (calm (link_inside g wired w holds u i at' (branch_joined i at' ne b) ∙ e)).0)
           (λ i at' ne nb e. q.uncalled _ _ (wired.there u i at') e)
 
   pub initiates : Invariant g then

@@ -15,10 +15,9 @@ use Rattle.ghs_protocol.proofs.clauses.Changes.{left_tree, seen_beyond, took_ini
 use Rattle.ghs_protocol.proofs.clauses.TreeMessages.{CoreFits}
 use Rattle.ghs_protocol.proofs.clauses.Rest.{has_report}
 use Rattle.ghs_protocol.proofs.clauses.Uniting.{MarksAre}
-use Rattle.ghs_protocol.proofs.clauses.Whole.{Invariant, NamesOf}
+use Rattle.ghs_protocol.proofs.clauses.Whole.{Invariant}
 use Rattle.ghs_protocol.proofs.clauses.UnderWay.{Answering, ProbeAsks, brought_to, ChildBrought, IsCore, CoreHeard, Lives}
 use Rattle.ghs_protocol.proofs.acts.Ends.{acts_keeps}
-use Rattle.ghs_protocol.proofs.search.Called.{Calls}
 use Rattle.ghs_protocol.proofs.search.Initiate as initiating
 use Rattle.ghs_protocol.proofs.rows.Link.{link_fits}
 use Rattle.ghs_protocol.proofs.search.InitiateFloors.{core_searches}
@@ -36,9 +35,6 @@ module _ (g : Network) (wired : IsWired g) (u : ℕ) (u_is : InNetwork g u) (j :
 
   abbrev passing : Outgoing
   passing = on_branches xs j (Initiate l n s)
-
-  calls : Calls (NamesOf g w (w.at u).fragment) (tree_end (end g w u j)) (tree_end (far_end g w u j)) l n s ms
-  calls = initiating.call g wired u u_is j at w holds l n s ms xs marks waits o quit count counts
 
   aside : (i : ℕ) → i ≢ j → (w.at u).up ≢ Some i
   aside i ne = initiating.away g wired u u_is j at w holds l n s ms xs marks waits o quit count counts i ne
@@ -87,7 +83,11 @@ module _ (g : Network) (wired : IsWired g) (u : ℕ) (u_is : InNetwork g u) (j :
 
   -- who isn't at its coming level has heard nothing
   low : (w.at u).head.level ≡ (w.at u).coming → ⊥
-  low e = let a = calls.rises in let b = calls.most in omega (arith, a, b, e)
+  low e =
+      let c = initiating.call g wired u u_is j at w holds l n s ms xs marks waits o quit count counts in
+      let a = c.rises in
+      let b = c.most in
+      omega (arith, a, b, e)
 
   pub initiates_lives : Lives g (acts g u (took_initiate (w.at u) l n s j o count) (left_tree w u j ms) (on_branches xs j (Initiate l n s)) w)
   initiates_lives = record {
@@ -97,7 +97,8 @@ module _ (g : Network) (wired : IsWired g) (u : ℕ) (u_is : InNetwork g u) (j :
     brought =
         initiates ChildBrought lives.brought
         (λ c. ap (brought_to (w.at u).head.level) (sym waits) ∙ near_brought g wired u u_is j at w holds lives j at c)
-        (λ c. absurd (c.3 calls.up)) (λ i at' ne t c. absurd (aside i ne c.2))
+        (λ c. absurd (c.3 (initiating.call g wired u u_is j at w holds l n s ms xs marks waits o quit count counts).up))
+        (λ i at' ne t c. absurd (aside i ne c.2))
         (λ i at' ne t is c.
         ap (brought_to (w.at (far g u i)).head.level) (is c.1) ∙ brought_by_call (seen_beyond g w u i).tree (w.at (far g u i)).head.level l n s);
     heard =
