@@ -34,7 +34,6 @@ use Rattle.ghs_protocol.proofs.charges.Acts.{all_calls, pays_accept, pays_idle, 
 use Rattle.ghs_protocol.proofs.search.Initiate as initiating
 use Rattle.ghs_protocol.proofs.charges.TopLevel.{below_top}
 use Rattle.ghs_protocol.proofs.charges.Due.{Grows, NoTests}
-use Rattle.ghs_protocol.proofs.search.ReportGone.{at_it, not_at}
 use Rattle.ghs_protocol.proofs.charges.PortActs.{accept_pays, calm_pays, grows_branch, reject_pays, search_pays, turn_pays}
 use Rattle.ghs_protocol.proofs.tests.Steps.{cross_inside, reject_inside}
 use Rattle.ghs_protocol.proofs.acts.AsRead.{reacts}
@@ -50,6 +49,7 @@ use Rattle.ghs_protocol.proofs.charges.Taken.{arrives, fewer, lone, next_basic, 
 use Rattle.ghs_protocol.proofs.tests.Links.{accepted_apart, not_basic, probe_is, rejected_facts}
 use Rattle.ghs_protocol.proofs.lemmas.Wires.{at_in}
 use Rattle.ghs_protocol.proofs.lemmas.Balance.{none_or_none}
+use Rattle.ghs_node.proofs.lemmas.{is_at_is, is_at_not}
 
 -- a port at which a tree message waits isn't Rejected
 not_rejected : {N : ℕ → Key → Type 0} (e f : TreeEnd) →
@@ -246,8 +246,8 @@ module _ (g : Network) (ground : Ground g) (k : ℕ) (log : IsFloorLog2 g.count 
       (reject_pays g ground.wired v (at_in at)
       (reacts g v w opening_ghost (does (w.node v).head (reject_at (w.node v) p) ((p, Reject) ∷ []))) own (scene w opening_ghost)
       (fewer g v p w (Test l n) ms waits) p at
-      ((p, Reject) ∷ []) refl refl (not_at (w.node v).head.probe p free) rejects
-      (at_it (w.node (far g v p)).head.probe (far_port g v p) theirs) (ap any_test first)
+      ((p, Reject) ∷ []) refl refl (is_at_not (w.node v).head.probe p free) rejects
+      (is_at_is (w.node (far g v p)).head.probe (far_port g v p) theirs) (ap any_test first)
       (own_tests (none_left (l, n) (see ms).tests (see (w.queue v p)).tests first
       (lone (test_end (end g (scene w gh) v p)) (test_end (far_end g (scene w gh) v p)) link.far.tests)))
       (λ e. marked_beyond same (was_branch (sym (ap (λ (f : ℕ → Mark). f p) rejects) ∙ e)))))
@@ -322,7 +322,7 @@ module _ (g : Network) (ground : Ground g) (k : ℕ) (log : IsFloorLog2 g.count 
       (λ own.
       kind (marked (λ q. mark_at (w.node v) q) p p)
       (λ z. not_basic (mark_at (w.node v) p) (sym (put_same (λ q. mark_at (w.node v) q) p (rejected (mark_at (w.node v) p))) ∙ z))
-      (at_it (w.node (far g v p)).head.probe (far_port g v p) own) (λ z. marked_beyond same (was_branch z)))
+      (is_at_is (w.node (far g v p)).head.probe (far_port g v p) own) (λ z. marked_beyond same (was_branch z)))
       (λ ne. inl ((link.far.tests.not_probing ne).crossed (let z = ap length first in omega (arith, z))).mark)
       (probe_is (w.node (far g v p)).head.probe (far_port g v p)))
     where
@@ -358,7 +358,7 @@ module _ (g : Network) (ground : Ground g) (k : ℕ) (log : IsFloorLog2 g.count 
       rejected_facts (test_end (end g (scene w gh) v p)) (test_end (far_end g (scene w gh) v p)) mine link.near.tests link.far.tests (see ms).rejects
       (reject_first (w.queue v p) ms waits) in
       turn_rises Reject e waits mine s
-      (λ z. absurd (let y = not_at (w.node (far g v p)).head.probe (far_port g v p) facts.2 in cc (y, z))) (inl facts.1)
+      (λ z. absurd (let y = is_at_not (w.node (far g v p)).head.probe (far_port g v p) facts.2 in cc (y, z))) (inl facts.1)
 
   row_reject_heard :
       (e : Ending) → w.queue v p ≡ Reject ∷ ms →

@@ -17,7 +17,6 @@ use Rattle.ghs_protocol.proofs.clauses.Fragments.{IsJoinedIn}
 use Rattle.ghs_protocol.proofs.lemmas.Graphs.{is_key}
 use Rattle.ghs_protocol.proofs.lemmas.Nodes.{ports_many}
 use Rattle.ghs_protocol.proofs.acts.Grounds.{graph_ground}
-use Rattle.ghs_protocol.proofs.acts.SameForest.{branch_mark}
 use Rattle.ghs_protocol.proofs.every_run.Trees.{leads_join}
 use Rattle.ghs_protocol.proofs.one_core.Runs.{simulated, merges_alike}
 use Rattle.ghs_protocol.proofs.one_core.Quiet.{u_is, living, core, same, c_awake, quiet, ended, fits, named, merges, rests, branches, tree_joined, halts}
@@ -26,6 +25,7 @@ use Rattle.ghs_protocol.proofs.one_core.SilentEnds.{no_basic, no_best}
 use Rattle.ghs_protocol.proofs.one_core.SameWays.{same_ways}
 use Rattle.ghs_protocol.proofs.every_run.Firsts.{formed}
 use Rattle.ghs_protocol.proofs.lemmas.Bools.{same_bool}
+use Rattle.ghs_node.proofs.lemmas.{branch_mark}
 
 -- one node of the component
 module _ (g : Shape) (w : Net) (u : ℕ) (q : IsQuietAt g w u) where

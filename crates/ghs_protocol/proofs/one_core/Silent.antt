@@ -12,13 +12,14 @@ use Rattle.ghs_protocol.proofs.clauses.Wiring.{Ground}
 use Rattle.ghs_protocol.proofs.clauses.Whole.{Invariant}
 use Rattle.ghs_protocol.proofs.clauses.UnderWay.{Answering, Test_there, Accept_here, Reject_here, Crossed_here, CoreHeard, HeardBy, brought_to, Living}
 use Rattle.ghs_protocol.proofs.acts.OneLink.{at_far}
-use Rattle.ghs_protocol.proofs.acts.SameForest.{branch_mark, mark_branch}
+use Rattle.ghs_protocol.proofs.acts.SameForest.{mark_branch}
 use Rattle.ghs_protocol.proofs.tests.Links.{probe_is}
 use Rattle.ghs_protocol.proofs.rows.Link.{link_fits}
 use Rattle.ghs_protocol.proofs.progress.Askers.{Asker, someone_asks}
 use Rattle.ghs_protocol.proofs.progress.Halves.{RootLink, turned, Stands, Itself, tip}
 use Rattle.ghs_protocol.proofs.lemmas.Woken.{at_rest}
 use Rattle.ghs_protocol.proofs.progress.BothBegun.{BegunCore, both_begun, tree_waits, AllOf}
+use Rattle.ghs_node.proofs.lemmas.{branch_mark}
 
 no_best : (b : Best) → ((k : Key) → best_key b ≡ Some k → ⊥) → b ≡ None
 no_best None h = refl

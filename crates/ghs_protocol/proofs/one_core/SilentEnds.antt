@@ -10,12 +10,12 @@ use Rattle.ghs_protocol.proofs.clauses.Floors.{Floor, lower, Sound}
 use Rattle.ghs_protocol.proofs.clauses.Wiring.{Ground}
 use Rattle.ghs_protocol.proofs.clauses.UnderWay.{Living}
 use Rattle.ghs_protocol.proofs.acts.Floors.{near_fits, above_root, none_lower}
-use Rattle.ghs_protocol.proofs.acts.SameForest.{branch_mark}
 use Rattle.ghs_protocol.proofs.search.FirstReport.{mark_is}
 use Rattle.ghs_protocol.proofs.rows.Link.{link_fits}
 use Rattle.ghs_protocol.proofs.progress.Halves.{RootLink, turned}
 use Rattle.ghs_protocol.proofs.one_core.Silent.{reach, top, found, root_of, best_none, begun}
 use Rattle.ghs_protocol.proofs.progress.BothBegun.{BegunCore}
+use Rattle.ghs_node.proofs.lemmas.{branch_mark}
 
 infinite : (b : Floor) → lower (Some None) b ≡ true → b ≡ Some None
 infinite None h = cc

@@ -1,5 +1,5 @@
 -- Who searches waits for a Report or an answer; who is awake without ports has halted.
-use Rattle.std.proofs.Common.{◌≡◌, ◌≢◌, ℕ, Bool, true, false, ◌&&◌, Option, Some, None, List, [], ◌∷◌, length, refl, sym, ◌∙◌, ap, arith, length-set}
+use Rattle.std.proofs.Common.{◌≡◌, ◌≢◌, ℕ, Bool, true, false, ◌&&◌, Option, Some, None, List, [], ◌∷◌, length, refl, sym, ◌∙◌, ap, arith}
 use Rattle.ghs_node.specs.declared.head.Head.{Head}
 use Rattle.ghs_node.specs.declared.mark.Mark.{Mark}
 use Rattle.ghs_node.specs.declared.mark.Mark.TheVariants.{Branch}
@@ -25,6 +25,7 @@ use Rattle.ghs_protocol.proofs.lemmas.Graphs.{graph_wired, graph_few}
 use Rattle.ghs_protocol.proofs.every_run.Firsts.{formed}
 use Rattle.ghs_protocol.proofs.clauses.Scene.{Ghost, scene}
 use Rattle.ghs_protocol.proofs.clauses.UnderWay.{Lives, Living}
+use Rattle.ghs_node.proofs.lemmas.{length-with_mark}
 
 abbrev pub awaits : Head → Type 0
 awaits h = h.phase ≡ Find → (is_zero h.find_count && is_missing h.probe) ≡ false
@@ -88,10 +89,6 @@ row_halted n j m _ (Report_halts x y z) h = refl
 row_halted n j m _ (Report_passes x y z t) h = h
 row_halted n j m _ (Root_moves b k x) h = h
 
-same_degree : (ms : List Mark) (o : Option (ℕ × Mark)) → length (with_mark ms o) ≡ length ms
-same_degree ms None = refl
-same_degree ms (Some m) = length-set ms m.0 m.1
-
 awakes : (v : ℕ) (n : NodeState) → n.head.phase ≡ Sleeping → Awaits v (after n (waking n))
 awakes v n s = record { search = search n.marks; halts = halts n.marks refl }
   where
@@ -105,13 +102,13 @@ awakes v n s = record { search = search n.marks; halts = halts n.marks refl }
         ◌≡◌ {A = ℕ} (length (with_mark n.marks (at_wake n ms).mark)) 0 →
         (at_wake n ms).head.halted ≡ true
     halts [] e a z = refl
-    halts (m ∷ ms) e a z = absurd (let x = same_degree n.marks (Some (0, Branch)) in let y = ap length e in omega (arith, x, y, z))
+    halts (m ∷ ms) e a z = absurd (let x = length-with_mark n.marks (Some (0, Branch)) in let y = ap length e in omega (arith, x, y, z))
 
 pub kept : NodeKept Awaits
 kept = record {
   takes = λ v n j m d a up row. record {
     search = row_search n j m d a.search row;
-    halts = λ w z. row_halted n j m d row (a.halts up (sym (same_degree n.marks d.mark) ∙ z));
+    halts = λ w z. row_halted n j m d row (a.halts up (sym (length-with_mark n.marks d.mark) ∙ z));
   };
   wakes = λ v n a s. awakes v n s;
 }

@@ -12,9 +12,9 @@ use Rattle.ghs_protocol.proofs.clauses.Links.{Mutual}
 use Rattle.ghs_protocol.proofs.clauses.TreeMessages.{CoreFits, CoreQueue, Plain, With_report, Stage, Asking, Called, Begun, AtStage, asked, called, MovedFits, To_here, To_there}
 use Rattle.ghs_protocol.proofs.clauses.Whole.{Invariant}
 use Rattle.ghs_protocol.proofs.search.FirstReport.{key_is}
-use Rattle.ghs_protocol.proofs.acts.SameForest.{branch_mark}
 use Rattle.ghs_protocol.proofs.progress.Halves.{RootLink}
 use Rattle.ghs_protocol.proofs.clauses.Nodes.{IsAtTop}
+use Rattle.ghs_node.proofs.lemmas.{branch_mark}
 
 -- a tree message waits
 abbrev pub tree_waits : Member → ℕ → Message → Type 0

@@ -12,9 +12,9 @@ use Rattle.ghs_protocol.proofs.clauses.Fragments.{IsJoinedIn, Goes_out, Both_way
 use Rattle.ghs_protocol.proofs.clauses.Wiring.{IsKeyed}
 use Rattle.ghs_protocol.proofs.clauses.Whole.{Invariant}
 use Rattle.ghs_protocol.proofs.search.FirstReport.{mark_is}
-use Rattle.ghs_protocol.proofs.acts.SameForest.{branch_mark}
 use Rattle.ghs_protocol.proofs.progress.Depths.{IsChild, upwards}
 use Rattle.ghs_protocol.proofs.clauses.Nodes.{IsAtTop}
+use Rattle.ghs_node.proofs.lemmas.{branch_mark}
 
 -- u lies below x, by ways that are no root links
 pub data Side (g : Network) (s : Forest) (x : ℕ) : ℕ → Type 0 where

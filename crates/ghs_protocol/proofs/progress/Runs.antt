@@ -17,13 +17,14 @@ use Rattle.ghs_protocol.proofs.clauses.Whole.{Invariant}
 use Rattle.ghs_protocol.proofs.clauses.Floors.{Floor, lower, Floors}
 use Rattle.ghs_protocol.proofs.progress.Awaits.{net_lives}
 use Rattle.ghs_protocol.proofs.lemmas.Graphs.{graph_wired}
-use Rattle.ghs_protocol.proofs.acts.SameForest.{branch_mark, mark_branch}
+use Rattle.ghs_protocol.proofs.acts.SameForest.{mark_branch}
 use Rattle.ghs_protocol.proofs.tests.Links.{probe_is}
 use Rattle.ghs_protocol.proofs.acts.Floors.{near_fits, lower_on, lower_self}
 use Rattle.ghs_protocol.proofs.every_run.Sound.{sound}
 use Rattle.ghs_protocol.proofs.progress.Nets.{back, progress}
 use Rattle.ghs_protocol.proofs.progress.OneWaits.{two_wait}
 use Rattle.ghs_protocol.proofs.acts.Grounds.{graph_ground}
+use Rattle.ghs_node.proofs.lemmas.{branch_mark}
 
 not_less : (j k : Key) → lower (Some (Some j)) (Some (Some k)) ≡ true → key_lt k j ≡ false
 not_less j k h = grind (arith, nat_tests)

@@ -21,13 +21,14 @@ use Rattle.ghs_protocol.proofs.clauses.Whole.{Invariant, LinkFits, NamesOf}
 use Rattle.ghs_protocol.proofs.clauses.UnderWay.{Answering, Test_there, Accept_here, Reject_here, Crossed_here, CoreHeard, HeardBy, brought_to, Living}
 use Rattle.ghs_protocol.proofs.acts.OneLink.{at_near, at_far}
 use Rattle.ghs_protocol.proofs.tests.Links.{probe_is}
-use Rattle.ghs_protocol.proofs.acts.SameForest.{branch_mark, mark_branch}
+use Rattle.ghs_protocol.proofs.acts.SameForest.{mark_branch}
 use Rattle.ghs_protocol.proofs.progress.Askers.{Asker, someone_asks}
 use Rattle.ghs_protocol.proofs.progress.Halves.{RootLink, Stands, no_tie}
 use Rattle.ghs_protocol.proofs.progress.KeyDescent.{key_descent}
 use Rattle.std.proofs.lemmas.Bool.{cases_Bool}
 use Rattle.ghs_protocol.proofs.lemmas.Graphs.{same_key}
 use Rattle.ghs_protocol.proofs.progress.BothBegun.{BegunCore, both_begun, tree_waits, AllOf, first_of}
+use Rattle.ghs_node.proofs.lemmas.{branch_mark}
 
 -- neither of two bests is below the other: both are missing, or they have one key
 data Even (a b : Best) : Type 0 where

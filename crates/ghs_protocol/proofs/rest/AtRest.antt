@@ -18,11 +18,11 @@ use Rattle.ghs_protocol.proofs.clauses.Rest.{Quiet, owes, has_call, has_report}
 use Rattle.ghs_protocol.proofs.clauses.Whole.{LinkFits, Invariant, NamesOf}
 use Rattle.ghs_protocol.proofs.acts.OneLink.{at_near, at_far}
 use Rattle.ghs_protocol.proofs.search.FirstReport.{Joint, joint, Down_here, Down_there, On_core, On_moved, mark_is}
-use Rattle.ghs_protocol.proofs.search.ReportGone.{at_it}
 use Rattle.ghs_protocol.proofs.tests.Links.{probe_is}
 use Rattle.ghs_protocol.proofs.rest.Halt.{owed_finds}
 use Rattle.ghs_protocol.proofs.lemmas.Wires.{at_in}
 use Rattle.ghs_protocol.proofs.lemmas.Woken.{at_rest}
+use Rattle.ghs_node.proofs.lemmas.{is_at_is}
 
 -- a call waits: its receiver's way leads to the sender
 pub data CalledTo (e f : TreeEnd) : Type 0 where
@@ -174,7 +174,7 @@ module _ (g : Network) (wired : IsWired g) (w : Scene) (holds : Invariant g w) w
       found = λ e.
           let s = (holds.nodes v (record { some = at'.some; node = at'.node })).searching e in
           ease.found (parent_finds v p at' down (by_find (has_report (seen_beyond g w v p).tree) (has_call (w.seen v p).tree) _
-          (rw (e, at_it (w.at v).head.in_branch p (s.in_branch ∙ sym s.up ∙ way)) refl)));
+          (rw (e, is_at_is (w.at v).head.in_branch p (s.in_branch ∙ sym s.up ∙ way)) refl)));
       uncalled = λ q at'' h.
           let same : q ≡ p = same_Some q p (sym (way_of q (calls_from v q at'' h)) ∙ way) in
           ease.found (parent_finds v p at' down

@@ -27,10 +27,10 @@ use Rattle.ghs_protocol.proofs.acts.OneLink.{by_port_at, sends_one, at_near, at_
 use Rattle.ghs_protocol.proofs.search.FirstReport.{mark_is}
 use Rattle.ghs_protocol.proofs.union.OneFragment.{Off}
 use Rattle.ghs_protocol.proofs.rest.AtRest.{parent_finds, by_find}
-use Rattle.ghs_protocol.proofs.search.ReportGone.{at_it, not_at}
 use Rattle.ghs_protocol.proofs.search.Close.{busy, joins', unmoved', up, away, has_report_append}
 use Rattle.ghs_protocol.proofs.acts.Situations.{basic_left}
 use Rattle.ghs_protocol.proofs.rows.Link.{link_inside}
+use Rattle.ghs_node.proofs.lemmas.{is_at_is, is_at_not}
 
 -- all clauses of floors, but at the link at port b of u, and but the order of tests
 pub record FloorsOff (g : Network) (w : Scene) (floor : ℕ → Floor) (u b : ℕ) : Type 0 where
@@ -207,7 +207,7 @@ module _ (g : Network) (wired : IsWired g) (u : ℕ) (u_is : InNetwork g u) (j :
       omega (arith, z, y, at_zero)
 
   unowed_by : (i : ℕ) → At g u i → i ≢ j → owes (end g w u i) (far_end g w u i) ≡ false
-  unowed_by i at' ne = unowed (is_at (w.at u).up i) _ (not_at (w.at u).up i (aside i ne)) (debts_over i at')
+  unowed_by i at' ne = unowed (is_at (w.at u).up i) _ (is_at_not (w.at u).up i (aside i ne)) (debts_over i at')
 
   was_near : (i : ℕ) → At g u i → FloorsAt (end g w u i) (far_end g w u i) (floor u) (floor (far g u i))
   was_near i at' =
@@ -297,7 +297,7 @@ module _ (g : Network) (wired : IsWired g) (u : ℕ) (u_is : InNetwork g u) (j :
           let z = wired.there u j at in
           (floors.nodes (far g u j) (record { some = z.some; node = z.node })).search
           (parent_finds g wired w holds u j at c.down
-          (by_find (has_report (seen_beyond g w u j).tree) (has_call (w.seen u j).tree) _ (rw (finds, at_it (w.at u).head.in_branch j back) refl)))
+          (by_find (has_report (seen_beyond g w u j).tree) (has_call (w.seen u j).tree) _ (rw (finds, is_at_is (w.at u).head.in_branch j back) refl)))
 
   there_fits : FloorsAt there (still j) (floor (far g u j)) (Some k)
   there_fits = record {

@@ -35,6 +35,7 @@ use Rattle.ghs_protocol.proofs.search.PassedOn.{forwards_on, forwards_many, one_
 use Rattle.ghs_protocol.proofs.search.Called.{Calls, calls, tree_told, tree_told', tree_past, tree_past', tree_passed, tree_passed', search_told, search_told'}
 use Rattle.ghs_protocol.proofs.lemmas.Balance.{none_or_none}
 use Rattle.ghs_protocol.proofs.rows.Link.{link_inside, link_leads}
+use Rattle.ghs_node.proofs.lemmas.{found_is}
 
 pub has_call_more : (xs : List Message) (l : ℕ) (n : Key) (s : Phase) → has_call (xs ++ Initiate l n s ∷ []) ≡ (has_call xs || is_find s)
 has_call_more [] l n Sleeping = refl
@@ -418,11 +419,6 @@ module _ (g : Network) (wired : IsWired g) (u : ℕ) (u_is : InNetwork g u) (j :
 
       calm : (w.at u).fragment ≡ a → (is_find s ≡ false) × (has_call ms ≡ false)
       calm e = neither _ _ (sym (has_call_first ms l n s) ∙ sym (ap has_call waits) ∙ q.uncalled u j at e)
-
-      found_is : (p : Phase) → p ≢ Sleeping → is_find p ≡ false → p ≡ Found
-      found_is Sleeping ne e = absurd (ne refl)
-      found_is Find ne e = absurd (let z = e in cc)
-      found_is Found ne e = refl
 
       mine : (i : ℕ) → At g u i → hearer.fragment ≡ a → has_call (put (w.seen u) j left i).tree ≡ false
       mine =

@@ -18,7 +18,6 @@ use Rattle.ghs_protocol.proofs.clauses.Rest.{has_call, has_report}
 use Rattle.ghs_protocol.proofs.clauses.Uniting.{MarksAre}
 use Rattle.ghs_protocol.proofs.clauses.Whole.{LinkFits, Invariant, NamesOf}
 use Rattle.ghs_protocol.proofs.clauses.Floors.{Floor, lower, owing, FloorsFit, FloorsAt, Floors}
-use Rattle.ghs_protocol.proofs.search.ReportGone.{at_it}
 use Rattle.ghs_protocol.proofs.rest.AtRest.{parent_finds, by_call, by_find}
 use Rattle.ghs_protocol.proofs.search.Called.{Calls, told}
 use Rattle.ghs_protocol.proofs.search.Initiate as initiating
@@ -27,6 +26,7 @@ use Rattle.ghs_protocol.proofs.rows.Link.{link_fits, link_fits', link_inside}
 use Rattle.ghs_protocol.proofs.acts.Floors.{near_fits, far_fits}
 use Rattle.ghs_protocol.proofs.search.CloseFloors.{nodes_after, links_after, in_tree_after, halted_after}
 use Rattle.ghs_protocol.proofs.lemmas.Woken.{at_rest}
+use Rattle.ghs_node.proofs.lemmas.{is_at_is}
 
 is_call : (s : Phase) → s ≡ Find → is_find s ≡ true
 is_call s e = ap is_find e
@@ -278,7 +278,7 @@ module _ (g : Network) (wired : IsWired g) (u : ℕ) (u_is : InNetwork g u) (j :
           (by_call (has_report (seen_beyond g w u j).tree) (has_call (w.seen u j).tree) _ (called_first e)))
 
       by_self : s ≡ Find → owing (tree_end (far_end g w u j)) (told (tree_end (end g w u j)) l s (Some j) ms) ≡ true
-      by_self e = by_find (has_report (seen_beyond g w u j).tree) (has_call ms) (is_find s && is_at (Some j) j) (rw (e, at_it (Some j) j refl) refl)
+      by_self e = by_find (has_report (seen_beyond g w u j).tree) (has_call ms) (is_find s && is_at (Some j) j) (rw (e, is_at_is (Some j) j refl) refl)
 
       owed_before :
           s ≢ Find →
