@@ -130,7 +130,7 @@ module _ (g : Network) (ground : Ground g) (k : ℕ) (log : IsFloorLog2 g.count 
     where
       free : mark_at (w.node v) p ≢ Rejected
       free =
-          not_rejected (tree_end (end g (scene w gh) v p)) (tree_end (far_end g (scene w gh) v p)) link.near.tree link.far.tree (Connect l)
+          not_rejected (tree_end (end g (scene w gh) v p)) (tree_end (far_end g (scene w gh) v p)) link.here.tree link.there.tree (Connect l)
           (see ms).tree
           (tree_first (w.queue v p) ms (Connect l) refl waits)
 
@@ -235,7 +235,7 @@ module _ (g : Network) (ground : Ground g) (k : ℕ) (log : IsFloorLog2 g.count 
       gh.fragment v ≡ gh.fragment (far g v p) →
       mark_at (w.node v) p ≡ Branch →
       ((scene w gh).at (far g v p)).mark (far_port g v p) ≢ Basic
-  marked_beyond same here basic = (link.near.tree.out_connect (record { here = here; there = λ e. cc (e, basic) })).apart (sym same)
+  marked_beyond same here basic = (link.here.tree.out_connect (record { here = here; there = λ e. cc (e, basic) })).apart (sym same)
 
   pub rejected_rises :
       (l : ℕ) (n : Key) → w.queue v p ≡ Test l n ∷ ms → is_name (w.node v).head.name n ≡ true → (w.node v).head.probe ≢ Some p →
@@ -249,7 +249,7 @@ module _ (g : Network) (ground : Ground g) (k : ℕ) (log : IsFloorLog2 g.count 
       ((p, Reject) ∷ []) refl refl (is_at_not (w.node v).head.probe p free) rejects
       (is_at_is (w.node (far g v p)).head.probe (far_port g v p) theirs) (ap any_test first)
       (own_tests (none_left (l, n) (see ms).tests (see (w.queue v p)).tests first
-      (lone (test_end (end g (scene w gh) v p)) (test_end (far_end g (scene w gh) v p)) link.far.tests)))
+      (lone (test_end (end g (scene w gh) v p)) (test_end (far_end g (scene w gh) v p)) link.there.tests)))
       (λ e. marked_beyond same (was_branch (sym (ap (λ (f : ℕ → Mark). f p) rejects) ∙ e)))))
     where
       first : (see (w.queue v p)).tests ≡ (l, n) ∷ (see ms).tests
@@ -261,7 +261,7 @@ module _ (g : Network) (ground : Ground g) (k : ℕ) (log : IsFloorLog2 g.count 
       theirs : (w.node (far g v p)).head.probe ≡ Some (far_port g v p)
       theirs =
           ⊎_elim (λ e. e)
-          (λ ne. absurd (free ((link.far.tests.not_probing ne).crossed (let z = ap length first in omega (arith, z))).probe))
+          (λ ne. absurd (free ((link.there.tests.not_probing ne).crossed (let z = ap length first in omega (arith, z))).probe))
           (probe_is (w.node (far g v p)).head.probe (far_port g v p))
 
   row_test_rejected :
@@ -317,13 +317,13 @@ module _ (g : Network) (ground : Ground g) (k : ℕ) (log : IsFloorLog2 g.count 
       turn_rises (Test l n) e waits mine s
       (λ z.
       none_left (l, n) (see ms).tests (see (w.queue v p)).tests first
-      (lone (test_end (end g (scene w gh) v p)) (test_end (far_end g (scene w gh) v p)) link.far.tests))
+      (lone (test_end (end g (scene w gh) v p)) (test_end (far_end g (scene w gh) v p)) link.there.tests))
       (⊎_elim
       (λ own.
       kind (marked (λ q. mark_at (w.node v) q) p p)
       (λ z. not_basic (mark_at (w.node v) p) (sym (put_same (λ q. mark_at (w.node v) q) p (rejected (mark_at (w.node v) p))) ∙ z))
       (is_at_is (w.node (far g v p)).head.probe (far_port g v p) own) (λ z. marked_beyond same (was_branch z)))
-      (λ ne. inl ((link.far.tests.not_probing ne).crossed (let z = ap length first in omega (arith, z))).mark)
+      (λ ne. inl ((link.there.tests.not_probing ne).crossed (let z = ap length first in omega (arith, z))).mark)
       (probe_is (w.node (far g v p)).head.probe (far_port g v p)))
     where
       first : (see (w.queue v p)).tests ≡ (l, n) ∷ (see ms).tests
@@ -355,7 +355,8 @@ module _ (g : Network) (ground : Ground g) (k : ℕ) (log : IsFloorLog2 g.count 
       (scene (taken g v p Reject ms (ends (no_probe (w.node v).head) (reject_at (w.node v) p) [] e) w) opening_ghost) v p 1
   heard_rises e waits mine s =
       let facts =
-      rejected_facts (test_end (end g (scene w gh) v p)) (test_end (far_end g (scene w gh) v p)) mine link.near.tests link.far.tests (see ms).rejects
+      rejected_facts (test_end (end g (scene w gh) v p)) (test_end (far_end g (scene w gh) v p)) mine link.here.tests link.there.tests
+      (see ms).rejects
       (reject_first (w.queue v p) ms waits) in
       turn_rises Reject e waits mine s
       (λ z. absurd (let y = is_at_not (w.node (far g v p)).head.probe (far_port g v p) facts.2 in cc (y, z))) (inl facts.1)
@@ -378,7 +379,7 @@ module _ (g : Network) (ground : Ground g) (k : ℕ) (log : IsFloorLog2 g.count 
       (fewer g v p w Accept ms waits) p at
       (answered (w.node v).head p (Some (key_at (w.node v) p))) e refl mine (λ q z. absurd (no_probing _ e c q z))
       (λ q z. absurd (no_probing _ e c q z)) refl
-      (λ b rej. apart.0 (link.far.search.rejected_inside rej))))
+      (λ b rej. apart.0 (link.there.search.rejected_inside rej))))
       (pays_accept k (w.node v).head (gh.up v) low p (Some (key_at (w.node v) p)) _ e mine finds lower refl refl c)
     where
       finds : (w.node v).head.phase ≡ Find
@@ -386,7 +387,7 @@ module _ (g : Network) (ground : Ground g) (k : ℕ) (log : IsFloorLog2 g.count 
 
       apart : (gh.fragment (far g v p) ≢ gh.fragment v) × ((w.node v).head.level ≤ (w.node (far g v p)).head.level)
       apart =
-          accepted_apart (test_end (end g (scene w gh) v p)) (test_end (far_end g (scene w gh) v p)) mine link.near.tests link.far.tests
+          accepted_apart (test_end (end g (scene w gh) v p)) (test_end (far_end g (scene w gh) v p)) mine link.here.tests link.there.tests
           (see ms).accepts
           (accept_first (w.queue v p) ms waits)
 
@@ -419,7 +420,7 @@ module _ (g : Network) (ground : Ground g) (k : ℕ) (log : IsFloorLog2 g.count 
 
       only : Heard (tree_end (end g (scene w gh) v p)) (tree_end (far_end g (scene w gh) v p)) r
       only =
-          heard_first (tree_end (end g (scene w gh) v p)) (tree_end (far_end g (scene w gh) v p)) link.near.tree link.far.tree
+          heard_first (tree_end (end g (scene w gh) v p)) (tree_end (far_end g (scene w gh) v p)) link.here.tree link.there.tree
           (link_leads g ground.wired (scene w gh) sound.first v p at) r (see ms).tree
           (tree_first (w.queue v p) ms (Report r) refl waits) away
 

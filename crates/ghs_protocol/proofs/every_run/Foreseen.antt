@@ -67,9 +67,9 @@ module _ (g : Network) (wired : IsWired g) (few : g.count ≤ 1048576) (v p : �
       (λ b.
       other (tree_end (far_end g (scene w gh) v p)).level
       (let z : m ∷ (see ms).tree ≡ Connect (tree_end (far_end g (scene w gh) v p)).level ∷ [] =
-      sym first ∙ (link.far.tree.out_connect (record { here = b; there = bare })).one in
+      sym first ∙ (link.there.tree.out_connect (record { here = b; there = bare })).one in
       cc))
-      (λ b. let z : m ∷ (see ms).tree ≡ [] = sym first ∙ link.near.tree.silent bare b in cc) (mark_is (tree_end (far_end g (scene w gh) v p)).mark)
+      (λ b. let z : m ∷ (see ms).tree ≡ [] = sym first ∙ link.here.tree.silent bare b in cc) (mark_is (tree_end (far_end g (scene w gh) v p)).mark)
     where
       bare : (tree_end (end g (scene w gh) v p)).mark ≢ Branch
       bare = ((holds.nodes v inside).untouched sleeps).marks p
@@ -79,7 +79,7 @@ module _ (g : Network) (wired : IsWired g) (few : g.count ≤ 1048576) (v p : �
 
   -- answers come to who probes
   answered : (w.node v).head.probe ≢ Some p → ((see (w.queue v p)).accepts ≡ 0) × ((see (w.queue v p)).rejects ≡ 0)
-  answered ne = let z = link.near.tests.not_probing ne in (z.accepts, z.rejects)
+  answered ne = let z = link.here.tests.not_probing ne in (z.accepts, z.rejects)
 
   unprobed : (w.node v).head.phase ≡ Sleeping → (w.node v).head.probe ≢ Some p
   unprobed s e = let z = ((holds.nodes v inside).untouched s).probe in cc (z, e)
@@ -102,7 +102,8 @@ module _ (g : Network) (wired : IsWired g) (few : g.count ≤ 1048576) (v p : �
       (l : ℕ) (n : Key) (s : Phase) (ms : List Message) → w.queue v p ≡ Initiate l n s ∷ ms →
       Calls (NamesOf g (scene w gh) (gh.fragment v)) (tree_end (end g (scene w gh) v p)) (tree_end (far_end g (scene w gh) v p)) l n s (see ms).tree
   called_by l n s ms q =
-      calls (tree_end (end g (scene w gh) v p)) (tree_end (far_end g (scene w gh) v p)) link.near.tree link.far.tree ways own lags l n s (see ms).tree
+      calls (tree_end (end g (scene w gh) v p)) (tree_end (far_end g (scene w gh) v p)) link.here.tree link.there.tree ways own lags l n s
+      (see ms).tree
       (tree_first (w.queue v p) ms (Initiate l n s) refl q)
     where
       own :
@@ -200,7 +201,7 @@ module _ (g : Network) (wired : IsWired g) (few : g.count ≤ 1048576) (v p : �
       one : ◌≡◌ {A = ℕ} (f p) 1
       one =
           debt_one (end g (scene w gh) v p) (far_end g (scene w gh) v p)
-          (reports.heard_first (tree_end (end g (scene w gh) v p)) (tree_end (far_end g (scene w gh) v p)) link.near.tree link.far.tree ways k
+          (reports.heard_first (tree_end (end g (scene w gh) v p)) (tree_end (far_end g (scene w gh) v p)) link.here.tree link.there.tree ways k
           (see ms).tree (tree_first (w.queue v p) ms (Report k) refl q) ne).child.down
           (rw (tree_first (w.queue v p) ms (Report k) refl q) refl)
 
@@ -222,11 +223,12 @@ module _ (g : Network) (wired : IsWired g) (few : g.count ≤ 1048576) (v p : �
   foreseen m ms q (Reject_untested up ne) = no_reject ms q ne
   foreseen m ms q (Report_unowed {w = k} up ne z) = unowed k ms q ne z
   foreseen m ms q (Root_without_best up none) =
-      (root_sent (tree_end (end g (scene w gh) v p)) (tree_end (far_end g (scene w gh) v p)) link.near.tree link.far.tree ways (see ms).tree
+      (root_sent (tree_end (end g (scene w gh) v p)) (tree_end (far_end g (scene w gh) v p)) link.here.tree link.there.tree ways (see ms).tree
       (tree_first (w.queue v p) ms ChangeRoot refl q)).fits.best
       none
   foreseen m ms q (Merge_above_levels {l = l} up top le marked) =
-      let z = (asked_on (tree_end (end g (scene w gh) v p)) (tree_end (far_end g (scene w gh) v p)) link.near.tree link.far.tree ways l (see ms).tree
+      let z = (asked_on (tree_end (end g (scene w gh) v p)) (tree_end (far_end g (scene w gh) v p)) link.here.tree link.there.tree ways l
+      (see ms).tree
       (tree_first (w.queue v p) ms (Connect l) refl q) marked).below in
       omega (arith, z, top, coming_most)
   foreseen m ms q (Absorbs_too_many up lt many) = more_few many

@@ -121,7 +121,7 @@ module _ (g : Network) (wired : IsWired g) where
       (λ v. record { search = λ f. cc; halts = λ a z. absurd (a refl) })
       es w h
 
--- in a net of a graph's run what is always under way is there, and nobody waits for nothing
+-- in every net of a graph's run
 module _ (g : Shape) (w : Net) (n : IsNetOf g w) where
   pub net_awaits : (v : ℕ) → Awaits v (w.node v)
   net_awaits v = all_await (network_of g) (graph_wired g n.graph) (graph_few g n.graph) n.events w n.run v

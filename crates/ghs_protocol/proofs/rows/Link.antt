@@ -11,8 +11,8 @@ use Rattle.ghs_protocol.proofs.acts.OneLink.{at_near, at_far}
 
 -- the link at port p of v, as this end and as the far one sees it
 pub record BothFit (g : Network) (w : Scene) (v p : ℕ) : Type 0 where
-  pub near : LinkFits (NamesOf g w) (end g w v p) (far_end g w v p)
-  pub far : LinkFits (NamesOf g w) (far_end g w v p) (end g w v p)
+  pub here : LinkFits (NamesOf g w) (end g w v p) (far_end g w v p)
+  pub there : LinkFits (NamesOf g w) (far_end g w v p) (end g w v p)
 
 -- a node, and the link at one of its ports
 module _ (g : Network) (wired : IsWired g) (w : Scene) (holds : Invariant g w) (v p : ℕ) (at : At g v p) where
@@ -26,7 +26,7 @@ module _ (g : Network) (wired : IsWired g) (w : Scene) (holds : Invariant g w) (
   link_fits' = at_far g wired w (LinkFits (NamesOf g w)) holds.links v p at
 
   pub both_fit : BothFit g w v p
-  both_fit = record { near = link_fits; far = link_fits' }
+  both_fit = record { here = link_fits; there = link_fits' }
 
   -- a joined link lies within a fragment
   pub link_inside : Joins (tree_end (end g w v p)) (tree_end (far_end g w v p)) → (w.at v).fragment ≡ (w.at (far g v p)).fragment

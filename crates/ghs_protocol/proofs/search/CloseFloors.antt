@@ -195,7 +195,8 @@ module _ (g : Network) (wired : IsWired g) (u : ℕ) (u_is : InNetwork g u) (j :
   leads_basic i at' ne =
       basic_left ((w.at u).mark i)
       (λ b.
-      ⊎_elim (λ c. ne (sym (link_inside g wired w holds u i at' (record { here = b; there = c })))) (λ c. no_out i at' (record { here = b; there = c }))
+      ⊎_elim (λ c. ne (sym (link_inside g wired w holds u i at' (record { here = b; there = c }))))
+      (λ c. no_out i at' (record { here = b; there = c }))
       (mark_is ((w.at (far g u i)).mark (far_port g u i))))
       (λ r. ne (sym ((link i at').search.rejected_inside r)))
 

@@ -147,7 +147,8 @@ module _ (g : Network) (wired : IsWired g) (u : ℕ) (u_is : InNetwork g u) (j :
 
   pub call : Calls (NamesOf g w (w.at u).fragment) (tree_end (end g w u j)) (tree_end (far_end g w u j)) l n s ms
   call =
-      calls (tree_end (end g w u j)) (tree_end (far_end g w u j)) (link j at).tree (link' j at).tree (link_leads g wired w holds u j at) named lags l n s ms waits
+      calls (tree_end (end g w u j)) (tree_end (far_end g w u j)) (link j at).tree (link' j at).tree (link_leads g wired w holds u j at) named lags l n s
+      ms waits
 
   pub found : (w.at u).head.phase ≡ Found
   found = go (w.at u).head.phase refl
