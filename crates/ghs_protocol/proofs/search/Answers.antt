@@ -46,7 +46,7 @@ better_at o j w p k e =
     (better_is o j w)
 
 module _ (g : Network) (wired : IsWired g) (u : ℕ) (u_is : InNetwork g u) (j : ℕ) (at : At g u j) (w : Scene) (holds : Invariant g w) where
-  open link_clauses g wired w holds u j at use {fits as my_fits, link as lnk, link' as lnk'}
+  open link_clauses g wired w holds u j at use {fits as my_fits, link as lnk, link' as lnk', ways}
 
   -- at a node that searches each Branch link is joined
   branch_joined : (i : ℕ) →
@@ -155,7 +155,7 @@ module _ (g : Network) (wired : IsWired g) (u : ℕ) (u_is : InNetwork g u) (j :
   -- a Report that comes over another link than in_branch is a child's
   module _ (k : Option Key) (ms : List Message) (waits : (w.seen u j).tree ≡ Report k ∷ ms) (away : (w.at u).head.in_branch ≢ Some j) where
     pub child_heard : Heard (tree_end (end g w u j)) (tree_end (far_end g w u j)) k
-    child_heard = heard_first (tree_end (end g w u j)) (tree_end (far_end g w u j)) lnk.tree lnk'.tree (ways j at) k ms waits away
+    child_heard = heard_first (tree_end (end g w u j)) (tree_end (far_end g w u j)) lnk.tree lnk'.tree ways k ms waits away
 
   -- a child's Report is heard
   module _ (k : Option Key) (ms : List Message) (c : ℕ) (waits : (w.seen u j).tree ≡ Report k ∷ ms)

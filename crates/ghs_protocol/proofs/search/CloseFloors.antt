@@ -26,7 +26,7 @@ use Rattle.ghs_protocol.proofs.acts.OneLink.{by_port_at, sends_one}
 use Rattle.ghs_protocol.proofs.search.FirstReport.{mark_is}
 use Rattle.ghs_protocol.proofs.union.OneFragment.{Off}
 use Rattle.ghs_protocol.proofs.rest.AtRest.{parent_finds, by_find}
-use Rattle.ghs_protocol.proofs.search.Close.{busy, joins', unmoved', up, has_report_append, away}
+use Rattle.ghs_protocol.proofs.search.Close.{busy, joins', unmoved', up, has_report_append}
 use Rattle.ghs_protocol.proofs.acts.Situations.{basic_left}
 use Rattle.ghs_protocol.proofs.rows.Link.{node_clauses, joined_clauses, not_the_way}
 use Rattle.ghs_node.proofs.lemmas.{is_at_is, is_at_not}
