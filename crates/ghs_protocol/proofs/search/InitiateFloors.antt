@@ -278,8 +278,9 @@ module _ (g : Network) (wired : IsWired g) (u : ℕ) (u_is : InNetwork g u) (j :
           (by_call (has_report (seen_beyond g w u j).tree) (has_call (w.seen u j).tree) _ (called_first e)))
 
       by_self : s ≡ Find → owing (tree_end (far_end g w u j)) (told (tree_end (end g w u j)) l s (Some j) ms) ≡ true
-      by_self e = by_find (has_report (seen_beyond g w u j).tree) (has_call ms) (is_find s && is_at (Some j) j)
-      (rw (e, is_at_is (Some j) j refl) refl)
+      by_self e =
+          by_find (has_report (seen_beyond g w u j).tree) (has_call ms) (is_find s && is_at (Some j) j)
+          (rw (e, is_at_is (Some j) j refl) refl)
 
       owed_before :
           s ≢ Find →
