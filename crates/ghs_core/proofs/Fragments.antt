@@ -34,7 +34,9 @@ use Rattle.ghs_core.specs.declared.halts.Halts.{Halts}
 use Rattle.ghs_core.specs.Kept.{IsKept}
 use Rattle.ghs_core.specs.Marked.{is_wanted, has_branch, HavePorts, AreBranches, IsFragment, IsRootOf, HaveRoot, TellFragments}
 use Rattle.ghs_core.proofs.Reading.{formed}
-use Rattle.ghs_core.proofs.Sides.{branch_so, among, branch_from, branch_to, joined_from, joined_to}
+use Rattle.ghs_core.proofs.Sides.{branch_from, branch_to, joined_from, joined_to}
+use Rattle.ghs_node.proofs.lemmas.{branch_mark}
+use Rattle.ghs_protocol.proofs.lemmas.Graphs.{link_among}
 
 or_true : (b : Bool) → (b || true) ≡ true
 or_true true = refl
@@ -64,7 +66,7 @@ module _ {g : Shape} {es : List Event} {nodes : List NodeState} {links : LinksSt
 
   -- marks, as the fields have them and as the net does
   marked : (k : Key) (v : ℕ) → 1 ≤ v → v ≤ g.nodes → has_branch g.keys nodes v k ≡ true → mark_at (w.node v) (port_number g.keys v k) ≡ Branch
-  marked k v lo hi h = branch_so _ (rw (kept.shows.node v lo hi) at h)
+  marked k v lo hi h = branch_mark _ (rw (kept.shows.node v lo hi) at h)
 
   marked_back : (k : Key) (v : ℕ) → 1 ≤ v → v ≤ g.nodes → mark_at (w.node v) (port_number g.keys v k) ≡ Branch → has_branch g.keys nodes v k ≡ true
   marked_back k v lo hi h = rw (kept.shows.node v lo hi, h) refl
@@ -75,27 +77,27 @@ module _ {g : Shape} {es : List Event} {nodes : List NodeState} {links : LinksSt
       there : (k : Key) → Contains (filter (is_wanted One g.keys nodes) g.keys) k → IsBranchLink net w k
       there k h =
           let u = in_filter (is_wanted One g.keys nodes) g.keys k h in
-          let r = among g kept.graph k u.0 in
+          let r = link_among g kept.graph k u.0 in
           branch_from g kept.graph k u.0 w (⊎_elim (λ a. inl (marked k k.a r.0 (omega (arith, r.1, r.2)) a)) (λ b. inr (marked k k.b (omega (arith, r.0, r.1)) r.2 b)) (or_cases _ _ u.1))
 
       back : (k : Key) → IsBranchLink net w k → Contains (filter (is_wanted One g.keys nodes) g.keys) k
       back k l =
           let i = in_graph k l.0 l.1 l.2 l.3 in
-          let r = among g kept.graph k i in
+          let r = link_among g kept.graph k i in
           filter_has (is_wanted One g.keys nodes) g.keys k i (⊎_elim (λ a. rw (marked_back k k.a r.0 (omega (arith, r.1, r.2)) a) refl) (λ b. rw (marked_back k k.b (omega (arith, r.0, r.1)) r.2 b) (or_true _)) (branch_to g kept.graph k i w l))
 
   -- the joined links
   joined_there : (k : Key) → Contains (filter (is_wanted Both g.keys nodes) g.keys) k → IsJoinedLink net w k
   joined_there k h =
       let u = in_filter (is_wanted Both g.keys nodes) g.keys k h in
-      let r = among g kept.graph k u.0 in
+      let r = link_among g kept.graph k u.0 in
       let b = and_parts _ _ u.1 in
       joined_from g kept.graph k u.0 w (marked k k.a r.0 (omega (arith, r.1, r.2)) b.0) (marked k k.b (omega (arith, r.0, r.1)) r.2 b.1)
 
   joined_back : (k : Key) → IsJoinedLink net w k → Contains (filter (is_wanted Both g.keys nodes) g.keys) k
   joined_back k l =
       let i = in_graph k l.0 l.1 l.2 l.3 in
-      let r = among g kept.graph k i in
+      let r = link_among g kept.graph k i in
       let m = joined_to g kept.graph k i w l in
       filter_has (is_wanted Both g.keys nodes) g.keys k i (rw (marked_back k k.a r.0 (omega (arith, r.1, r.2)) m.0, marked_back k k.b (omega (arith, r.0, r.1)) r.2 m.1) refl)
 

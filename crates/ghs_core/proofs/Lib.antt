@@ -1,7 +1,6 @@
 -- Serves the proofs: nothing here has to be believed. lemmas is what proofs above this crate may use.
 pub mod Arriving
 pub mod Sending
-pub mod Few
 pub mod Stages
 pub mod Showing
 pub mod Totals

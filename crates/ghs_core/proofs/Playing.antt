@@ -30,8 +30,8 @@ use Rattle.ghs_core.specs.Dispatch.{arriving, Arrives, CountsSends, Disposes, Wa
 use Rattle.ghs_core.specs.declared.halts.Halts.{Halts}
 use Rattle.ghs_core.specs.Halts.{AreHalts, with_node}
 use Rattle.ghs_core.specs.Kept.{IsKept, no_node}
-use Rattle.ghs_core.proofs.Few.{row_few}
 use Rattle.ghs_core.proofs.Reading.{run, formed}
+use Rattle.ghs_protocol.proofs.lemmas.Few.{row_few}
 use Rattle.ghs_core.proofs.Stages.{Staged, staged, stage_happens, stage_low, stage_high, stage_nodes, stage_reaction, reaction_row}
 use Rattle.ghs_core.proofs.Showing.{waits_at, stage_shows, reacted_shows}
 use Rattle.ghs_core.proofs.Totals.{Disposed, disposed, disposed_room, disposed_rooms, fit_more, total_fits, sent_fits}

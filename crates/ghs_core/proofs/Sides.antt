@@ -1,27 +1,19 @@
 -- A link's two sides, and how they are marked.
-use Rattle.std.proofs.Common.{◌≡◌, ℕ, ◌<◌, ◌≤◌, ◌⊎◌, inl, inr, true, get_or, refl, sym, ◌∙◌, ap, ap₂, ⊎_elim, arith, ne_eqb, eq-eqb}
+use Rattle.std.proofs.Common.{◌≡◌, ℕ, ◌⊎◌, inl, inr, true, get_or, refl, sym, ◌∙◌, ap, ap₂, ⊎_elim, arith, ne_eqb, eq-eqb}
 use Rattle.std.specs.List.{Contains}
-use Rattle.std.proofs.lemmas.List.{get_or_default}
 use Rattle.std.proofs.lemmas.Option.{slice_get_within, slice_get-get_or, get_or_from_slice_get}
 use Rattle.ghs_graph.specs.declared.key.Key.{Key}
 use Rattle.ghs_graph.specs.declared.port.Port.{Port}
 use Rattle.ghs_graph.specs.Graph.{Shape, IsGraph}
 use Rattle.ghs_graph.specs.Laws.{HasTwoPorts}
 use Rattle.ghs_graph.specs.Ports.{ports_of, port_number, far_end, port_on, no_port}
-use Rattle.ghs_graph.specs.Key.{no_key}
 use Rattle.ghs_graph.proofs.lemmas.Ports.{links_have_two_ports}
-use Rattle.ghs_node.specs.declared.mark.Mark.{Mark}
-use Rattle.ghs_node.specs.declared.mark.Mark.TheVariants.{Basic, Branch, Rejected}
+use Rattle.ghs_node.specs.declared.mark.Mark.TheVariants.{Branch}
 use Rattle.ghs_node.specs.NodeState.{mark_at}
-use Rattle.ghs_node.specs.Words.{is_branch}
 use Rattle.ghs_protocol.specs.Network.{Network, network_of, At, port_at, far, far_port}
 use Rattle.ghs_protocol.specs.Net.{Net}
 use Rattle.ghs_protocol.specs.Marks.{IsBranchLink, IsJoined, IsJoinedLink}
-
-pub branch_so : (m : Mark) → is_branch m ≡ true → m ≡ Branch
-branch_so Basic e = cc
-branch_so Branch e = refl
-branch_so Rejected e = cc
+use Rattle.ghs_protocol.proofs.lemmas.Graphs.{link_among}
 
 module _ (g : Shape) (ok : IsGraph g) (k : Key) (in_graph : Contains g.keys k) where
   abbrev net : Network
@@ -29,11 +21,6 @@ module _ (g : Shape) (ok : IsGraph g) (k : Key) (in_graph : Contains g.keys k) w
 
   two : HasTwoPorts g.keys k
   two = links_have_two_ports g ok k in_graph
-
-  pub among : (1 ≤ k.a) × (k.a < k.b) × (k.b ≤ g.nodes)
-  among =
-      let i = in_graph.0 in
-      let e : get_or g.keys i no_key ≡ k = get_or_default g.keys i no_key k in_graph.1 ∙ in_graph.2 in rw e at (ok.among i no_key in_graph.1)
 
   abbrev pa : ℕ
   pa = port_number g.keys k.a k
@@ -55,7 +42,7 @@ module _ (g : Shape) (ok : IsGraph g) (k : Key) (in_graph : Contains g.keys k) w
       let other : far_end k.a k ≡ k.b = rw (eq-eqb k.a k.a refl) refl in
       record {
         at =
-            let r = among in
+            let r = link_among g ok k in_graph in
             record {
               some = r.0;
               node = omega (arith, r.1, r.2);
@@ -70,10 +57,10 @@ module _ (g : Shape) (ok : IsGraph g) (k : Key) (in_graph : Contains g.keys k) w
   side_b =
       let is : port_at net k.b pb ≡ port_on g.keys k.b k =
       get_or_from_slice_get (ports_of g.keys k.b) (port_number g.keys k.b k) (port_on g.keys k.b k) no_port two.at_b in
-      let other : far_end k.b k ≡ k.a = let r = among in rw (ne_eqb k.a k.b (λ z. absurd (omega (arith, r.1, z)))) refl in
+      let other : far_end k.b k ≡ k.a = let r = link_among g ok k in_graph in rw (ne_eqb k.a k.b (λ z. absurd (omega (arith, r.1, z)))) refl in
       record {
         at =
-            let r = among in
+            let r = link_among g ok k in_graph in
             record {
               some = omega (arith, r.0, r.1);
               node = r.2;

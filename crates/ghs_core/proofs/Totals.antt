@@ -1,6 +1,5 @@
 -- Counts over all kinds, stage by stage.
-use Rattle.std.proofs.Common.{◌≡◌, ℕ, zero, suc, ◌+◌, ◌-◌, ◌<◌, ◌≤◌, ◌==◌, ◌^◌, List, [], ◌∷◌, length, get_or, refl, ◌∙◌, ap, cond, ⊎_elim, arith, true, false, Bool}
-use Rattle.std.proofs.lemmas.Bool.{cases_eq}
+use Rattle.std.proofs.Common.{◌≡◌, ℕ, ◌+◌, ◌-◌, ◌<◌, ◌≤◌, ◌==◌, ◌^◌, List, [], ◌∷◌, length, get_or, refl, ◌∙◌, ap, cond, arith}
 use Rattle.std.proofs.lemmas.List.{length-map}
 use Rattle.ghs_node.specs.declared.message.Message.{Message}
 use Rattle.ghs_node.specs.declared.delta.Fate.{Fate}
@@ -14,20 +13,14 @@ use Rattle.ghs_links.specs.Links.{LinksState, HasQueue, IsFor, SamePorts, HasRoo
 use Rattle.ghs_links.proofs.lemmas.Ports.{same_alike, same_destination, far_queue}
 use Rattle.ghs_protocol.specs.declared.event.Event.{Event}
 use Rattle.ghs_protocol.specs.Network.{network_of}
-use Rattle.ghs_protocol.specs.Net.{Net, one_if_consumed, one_if_requeued}
-use Rattle.ghs_protocol.specs.Ledger.{sum_below, of_kind, in_all}
-use Rattle.ghs_protocol.proofs.lemmas.Sums.{sum_same, sum_none, sum_add}
-use Rattle.ghs_protocol.proofs.lemmas.Balance.{kinds_in_all}
+use Rattle.ghs_protocol.specs.Net.{Net, one_if_consumed}
+use Rattle.ghs_protocol.specs.Ledger.{of_kind, in_all}
+use Rattle.ghs_protocol.proofs.lemmas.Sums.{sum_same, sum_none, sum_add, term_le}
+use Rattle.ghs_protocol.proofs.lemmas.Balance.{kinds_in_all, none_or_none, one_fate}
 use Rattle.ghs_core.specs.declared.counts.Counts.{Counts}
 use Rattle.ghs_core.specs.Dispatch.{Arrives, CountsSends, Disposes, messages_of}
 use Rattle.ghs_core.specs.Kept.{Shows, CountsFit}
 use Rattle.ghs_core.proofs.Stages.{Stage, Wakes, Takes}
-
--- one count is part of all
-pub one_of_all : (n k : ℕ) (f : ℕ → ℕ) → k < n → f k ≤ sum_below n f
-one_of_all zero k f lt = absurd (omega arith)
-one_of_all (suc n) k f lt =
-    ⊎_elim (λ (e : k ≡ n). rw e (omega arith)) (λ ne. let rest = one_of_all n k f (omega (arith, ne)) in omega (arith, rest)) (cases_eq k n)
 
 -- counts that rise by h kind by kind rise by its sum
 rise : (f f' h : ℕ → ℕ) → ((k : ℕ) → k < 7 → f' k ≡ f k + h k) → in_all f' ≡ in_all f + in_all h
@@ -37,15 +30,7 @@ rise f f' h e = sum_same 7 f' (λ k. f k + h k) e ∙ sum_add 7 f h
 fate_counts : (f : Fate) (m : Message) → in_all (λ k. cond (place_of (kind_of m) == k) (one_if_consumed f) 0) ≡ one_if_consumed f
 fate_counts Consumed m =
     sum_same 7 (λ k. cond (place_of (kind_of m) == k) 1 0) (λ k. of_kind k (m ∷ [])) (λ k lt. omega arith) ∙ kinds_in_all (m ∷ [])
-fate_counts Requeued m = sum_none 7 (λ k. cond (place_of (kind_of m) == k) 0 0) (λ k lt. none (place_of (kind_of m) == k))
-  where
-    none : (b : Bool) → ◌≡◌ {A = ℕ} (cond b 0 0) 0
-    none true = refl
-    none false = refl
-
-one_fate : (f : Fate) → one_if_consumed f + one_if_requeued f ≡ 1
-one_fate Consumed = refl
-one_fate Requeued = refl
+fate_counts Requeued m = sum_none 7 (λ k. cond (place_of (kind_of m) == k) 0 0) (λ k lt. none_or_none (place_of (kind_of m) == k))
 
 -- what the first stage leaves: fewer wait by the one that was consumed, and the sent are as they were
 pub record Disposed (links l : LinksState) (counts c : Counts) : Type 0 where
@@ -142,7 +127,7 @@ pub sent_fits : (n : ℕ) (links l : LinksState) (counts c : Counts) (k i : ℕ)
     i < 7 →
     get_or c.sent i 0 + k < 2 ^ 64
 sent_fits n links l counts c k i lt few fit s below =
-    let one = one_of_all 7 i (λ j. get_or c.sent j 0) below in
+    let one = term_le 7 i (λ j. get_or c.sent j 0) below in
     let same : in_all (λ j. get_or c.sent j 0) ≡ in_all (λ j. get_or counts.sent j 0) = ap (λ (xs : List ℕ). in_all (λ j. get_or xs j 0)) s.sent in
     let a = fit.sent in
     omega (arith, one, same, a)
@@ -153,6 +138,6 @@ pub consumed_fits : (n : ℕ) (links : LinksState) (counts : Counts) (i : ℕ) �
     i < 7 →
     get_or counts.consumed i 0 < 2 ^ 64 - 1
 consumed_fits n links counts i lt fit below =
-    let one = one_of_all 7 i (λ j. get_or counts.consumed j 0) below in
+    let one = term_le 7 i (λ j. get_or counts.consumed j 0) below in
     let a = fit.consumed in
     omega (arith, one, a)

@@ -75,10 +75,10 @@ is_basic_not Basic e = absurd (e refl)
 is_basic_not Branch e = refl
 is_basic_not Rejected e = refl
 
-pub branch_is : (m : Mark) → is_branch m ≡ true → m ≡ Branch
-branch_is Basic e = cc
-branch_is Branch e = refl
-branch_is Rejected e = cc
+pub branch_mark : (m : Mark) → is_branch m ≡ true → m ≡ Branch
+branch_mark Basic e = cc
+branch_mark Branch e = refl
+branch_mark Rejected e = cc
 
 pub sleeping_is : (p : Phase) → is_sleeping p ≡ true → p ≡ Sleeping
 sleeping_is Sleeping e = refl

@@ -1,5 +1,5 @@
 -- What is published of a world, and how a run goes on.
-use Rattle.std.proofs.Common.{◌≡◌, ◌↔◌, ℕ, ◌+◌, ◌≤◌, Bool, true, false, true≢false, List, [], ◌∷◌, ◌++◌, length, refl, sym, ap, ◌∙◌, subst, arith, length-append, append-nil, append_assoc, Result, Ok, Err, OnOk, OnErr, None}
+use Rattle.std.proofs.Common.{◌≡◌, ℕ, ◌+◌, Bool, true, false, true≢false, List, [], ◌∷◌, ◌++◌, length, refl, sym, ap, ◌∙◌, subst, arith, length-append, append-nil, append_assoc, Result, Ok, Err, OnOk, OnErr, None}
 use mathlib.Core.Bool.{beq}
 use Rattle.ghs_graph.specs.Graph.{Shape, IsGraph}
 use Rattle.ghs_protocol.specs.declared.event.Event.{Event}
@@ -9,21 +9,16 @@ use Rattle.ghs_protocol.specs.Marks.{HasEnded}
 use Rattle.ghs_protocol.specs.Laws.{IsLater}
 use Rattle.ghs_protocol.proofs.lemmas.Laws.{halts_stay}
 use Rattle.ghs_protocol.proofs.lemmas.Runs.{after_is_net}
-use Rattle.ghs_core.specs.NetState.{NetState, net_of, network, IsSameNet, IsLeastHalted}
+use Rattle.ghs_core.specs.NetState.{NetState, net_of, network, IsLeastHalted}
 use Rattle.ghs_board.specs.declared.progress.Progress.{Progress}
 use Rattle.ghs_board.specs.Progress.{pair, last_of, NoLess, StartsWith}
 use Rattle.ghs_board.specs.Board.{Published}
-use Rattle.ghs_board.proofs.lemmas.Pairs.{last_or_push, starts_refl, starts_more}
+use Rattle.ghs_board.proofs.lemmas.Pairs.{last_or_push, starts_refl}
 use Rattle.ghs_world.specs.WorldState.{WorldState, home}
 use Rattle.ghs_world.specs.Steps.{Commits, Makes, IsSameWorld}
 use Rattle.ghs_pool.specs.Shop.{ShopState, IsPairOf, IsTold, Publishes}
 use Rattle.ghs_pool.specs.Follows.{Follows, GoesOn}
-
-same_bool : (a b : Bool) → (a ≡ true → b ≡ true) → (b ≡ true → a ≡ true) → a ≡ b
-same_bool true true f g = refl
-same_bool true false f g = sym (f refl)
-same_bool false true f g = g refl
-same_bool false false f g = refl
+use Rattle.ghs_protocol.proofs.lemmas.Bools.{same_bool}
 
 -- a net has one pair
 pub one_pair : (n : NetState) (p q : Progress) → IsPairOf n p → IsPairOf n q → p ≡ q

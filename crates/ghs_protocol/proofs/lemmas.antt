@@ -1,7 +1,9 @@
 -- What proofs about nets above this crate may use.
 pub mod Balance
+pub mod Bools
 pub mod Effects
 pub mod Events
+pub mod Few
 pub mod Fragments
 pub mod Graphs
 pub mod Lasting

@@ -4,6 +4,7 @@ pub mod KeyDescent
 pub mod Askers
 pub mod Halves
 pub mod OneWaits
+pub mod BothBegun
 pub mod Scenes
 pub mod Found
 pub mod Nets

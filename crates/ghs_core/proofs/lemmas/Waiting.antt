@@ -1,16 +1,17 @@
 -- The test of waiting says what waits.
-use Rattle.std.proofs.Common.{◌≡◌, ◌≢◌, ℕ, Bool, true, not, Option, Some, None, refl, sym, ◌∙◌, ap}
+use Rattle.std.proofs.Common.{◌≡◌, ◌≢◌, ℕ, Bool, true, not, refl, sym, ◌∙◌, ap}
 use Rattle.std.specs.Prelude.{IsTrue, ◌↔◌}
-use Rattle.std.proofs.lemmas.Bool.{and_parts, and_from, eqb-true, eq-eqb, le-leb, leb-true, lt-ltb, ltb-true}
+use Rattle.std.proofs.lemmas.Bool.{and_parts, and_from, le-leb, leb-true, lt-ltb, ltb-true}
 use Rattle.ghs_node.specs.declared.message.Phase.{Phase}
 use Rattle.ghs_node.specs.declared.message.Phase.TheVariants.{Sleeping, Find, Found}
 use Rattle.ghs_node.specs.declared.message.Message.{Message}
 use Rattle.ghs_node.specs.declared.message.Message.TheVariants.{Connect, Initiate, Test, Accept, Reject, Report, ChangeRoot}
 use Rattle.ghs_node.specs.NodeState.{NodeState, mark_at}
-use Rattle.ghs_node.specs.Words.{is_at, is_basic, is_find, is_sleeping}
+use Rattle.ghs_node.specs.Words.{is_basic, is_find, is_sleeping}
 use Rattle.ghs_node.proofs.lemmas.{basic_is}
 use Rattle.ghs_protocol.specs.Living.{Waits, Connect_waits, Test_waits, Report_waits}
 use Rattle.ghs_core.specs.Waits.{waits}
+use Rattle.ghs_node.proofs.lemmas.{find_is, at_is, is_at_is}
 
 awake_so : (s : Phase) → not (is_sleeping s) ≡ true → s ≢ Sleeping
 awake_so Sleeping h = cc
@@ -22,18 +23,6 @@ awake_test Sleeping h = absurd (h refl)
 awake_test Find h = refl
 awake_test Found h = refl
 
-find_so : (s : Phase) → is_find s ≡ true → s ≡ Find
-find_so Sleeping h = cc
-find_so Find h = refl
-find_so Found h = cc
-
-at_so : (o : Option ℕ) (p : ℕ) → is_at o p ≡ true → o ≡ Some p
-at_so None p h = cc
-at_so (Some q) p h = ap Some (eqb-true _ _ h)
-
-at_test : (o : Option ℕ) (p : ℕ) → o ≡ Some p → is_at o p ≡ true
-at_test o p e = rw e (eq-eqb p p refl)
-
 module _ (n : NodeState) (p : ℕ) where
   pub waits_so : (m : Message) → waits n p m ≡ true → Waits n p m
   waits_so (Connect l) h =
@@ -44,13 +33,13 @@ module _ (n : NodeState) (p : ℕ) where
   waits_so (Test l f) h = let a = and_parts _ _ h in Test_waits (awake_so n.head.phase a.0) (ltb-true _ _ a.1)
   waits_so Accept h = cc
   waits_so Reject h = cc
-  waits_so (Report k) h = let a = and_parts _ _ h in Report_waits (at_so n.head.in_branch p a.1) (find_so n.head.phase a.0)
+  waits_so (Report k) h = let a = and_parts _ _ h in Report_waits (at_is n.head.in_branch p a.1) (find_is n.head.phase a.0)
   waits_so ChangeRoot h = cc
 
   pub waits_test : (m : Message) → Waits n p m → waits n p m ≡ true
   waits_test _ (Connect_waits up le b) = and_from _ _ (awake_test n.head.phase up) (and_from _ _ (le-leb _ _ le) (ap is_basic b))
   waits_test _ (Test_waits up lt) = and_from _ _ (awake_test n.head.phase up) (lt-ltb _ _ lt)
-  waits_test _ (Report_waits way f) = and_from _ _ (ap is_find f) (at_test n.head.in_branch p way)
+  waits_test _ (Report_waits way f) = and_from _ _ (ap is_find f) (is_at_is n.head.in_branch p way)
 
   -- the test is true just where the message waits
   pub told : (m : Message) (b : Bool) → b ≡ waits n p m → IsTrue b ↔ Waits n p m

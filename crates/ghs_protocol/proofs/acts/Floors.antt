@@ -45,6 +45,9 @@ lower_self None = refl
 lower_self (Some None) = refl
 lower_self (Some (Some k)) = grind (arith, nat_tests)
 
+pub none_lower : (b : Floor) → b ≡ Some None → lower (Some None) b ≡ true
+none_lower b e = rw e refl
+
 -- less is not above
 pub below_lower : (a b : Option Key) → below a b ≡ true → lower (Some a) (Some b) ≡ true
 below_lower (Some i) (Some j) h = grind (arith, nat_tests)

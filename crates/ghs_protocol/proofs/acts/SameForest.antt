@@ -1,5 +1,5 @@
 -- What an act that leaves the fragments' forest owes.
-use Rattle.std.proofs.Common.{◌≡◌, ◌≢◌, ℕ, true, false, Some, refl, sym, ◌∙◌, ap, ap₂, subst, subst₂, ⊎_elim, length}
+use Rattle.std.proofs.Common.{◌≡◌, ◌≢◌, ℕ, false, Some, refl, sym, ◌∙◌, ap, ap₂, subst, subst₂, ⊎_elim, length}
 use Rattle.std.proofs.Math.Path.{fun_ext}
 use Rattle.std.proofs.lemmas.Bool.{cases_eq}
 use Rattle.ghs_graph.specs.declared.key.Key.{Key}
@@ -21,6 +21,8 @@ use Rattle.ghs_protocol.proofs.clauses.Whole.{LinkFits, Invariant, NamesOf}
 use Rattle.ghs_protocol.proofs.clauses.Fragments.{Names, ForestFits}
 use Rattle.ghs_protocol.proofs.clauses.Rest.{Quiet, Resting, has_call, debt, debts, DebtsCounted}
 use Rattle.ghs_protocol.proofs.acts.Ends.{here_end_is, far_end_is, other_end_is, acts_keeps}
+-- for those who know branches by this file
+pub use Rattle.ghs_node.proofs.lemmas.{branch_mark}
 
 -- the same in what fragments are read off
 pub record Alike (m x : Member) : Type 0 where
@@ -29,10 +31,6 @@ pub record Alike (m x : Member) : Type 0 where
   pub coming_name : x.coming_name ≡ m.coming_name
   pub up : x.up ≡ m.up
   pub branch : (p : ℕ) → is_branch (x.mark p) ≡ is_branch (m.mark p)
-
-pub branch_mark : (m : Mark) → is_branch m ≡ true → m ≡ Branch
-branch_mark Branch e = refl
-branch_mark _ e = cc
 
 pub mark_branch : (m : Mark) → is_branch m ≡ false → m ≢ Branch
 mark_branch Branch e = cc

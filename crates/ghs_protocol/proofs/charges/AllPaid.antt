@@ -39,13 +39,13 @@ use Rattle.ghs_protocol.proofs.lemmas.Sends.{consumed_now, messages, node_here, 
 use Rattle.ghs_protocol.proofs.lemmas.Steps.{event_by_steps}
 use Rattle.ghs_protocol.proofs.lemmas.Sums.{ports_none, ports_one, sum_none, sum_one, sum_same}
 use Rattle.ghs_protocol.proofs.lemmas.Woken.{asleep_or_not, awake_row, step_node}
-use Rattle.ghs_protocol.proofs.lemmas.WellFormed.{HasFewPorts, IsWellFormed, event_row, opening_formed}
+use Rattle.ghs_protocol.proofs.lemmas.WellFormed.{HasFewPorts, IsWellFormed, opening_formed}
 use Rattle.ghs_protocol.proofs.charges.Acts.{all_calls, kinds_append, nodes_one}
 use Rattle.ghs_protocol.proofs.charges.Runs.{by_memory, charged, opening_has, stepped}
 use Rattle.ghs_protocol.proofs.charges.Rows.{closes_probe, search_free}
 use Rattle.ghs_protocol.proofs.charges.LevelsPay.{counted}
 use Rattle.ghs_protocol.proofs.charges.Waiting.{level_most}
-use Rattle.ghs_protocol.proofs.charges.PortsPay.{Taking, taking, accepted_one, first_only, probes_on, unprobed}
+use Rattle.ghs_protocol.proofs.charges.PortsPay.{Taking, taking, accepted_one, first_only, probes_on, unprobed, taken_row}
 use Rattle.ghs_protocol.proofs.rows.Read.{reject_marks}
 use Rattle.ghs_protocol.proofs.charges.Taken.{next_basic}
 use Rattle.ghs_protocol.proofs.tests.Links.{not_basic}
@@ -375,14 +375,12 @@ module _ (g : Network) (ground : Ground g) (k : ℕ) (log : IsFloorLog2 g.count 
         consumed : x.consumed 3 ≡ w.consumed 3 + hears took.message took.delta
         consumed = ap (λ (y : Net). y.consumed 3) took.is ∙ taken_consumed g v p took.message took.others took.delta w 3
 
-        row : Row (w.node v) (Deliver p took.message) took.delta
-        row = event_row g ground.wired v (w.node v) p took.message took.delta at (f.nodes v) took.reacts
-
         tally : ((w.node v).head.phase ≡ Sleeping) ⊎ ((w.node v).head.phase ≢ Sleeping) → TestsTally (w.node v) p took.message took.delta
-        tally (inl s) = woken_tests (w.node v) p took.message took.delta ((h.sound.holds.first.nodes v inside).untouched s).probe s row
+        tally (inl s) = woken_tests (w.node v) p took.message took.delta ((h.sound.holds.first.nodes v inside).untouched s).probe s
+            (taken_row g ground.wired w x v p at f took)
         tally (inr up) =
             row_tests v p at w (f.nodes v) h.sound.ghost h.sound.holds (by_memory g ground k log h.sound h.charges) took.others took.message
-            took.delta took.waits (awake_row up row)
+            took.delta took.waits (awake_row up (taken_row g ground.wired w x v p at f took))
 
         fails_so : failed v p w x ≡ fails (w.node v) p took.message took.delta
         fails_so =

@@ -43,6 +43,7 @@ use Rattle.ghs_protocol.proofs.charges.Due.{paid_not, paid_once}
 use Rattle.ghs_protocol.proofs.charges.Rows.{closes_probe, cross_rises, heard_rises, rejected_rises, search_free}
 use Rattle.ghs_protocol.proofs.charges.LevelsPay.{counted}
 use Rattle.ghs_protocol.proofs.acts.Grounds.{graph_ground}
+use Rattle.ghs_protocol.proofs.lemmas.Wired.{IsWired}
 
 -- no Test has failed where the port is probed as before, where none was, and where an Accept came
 pub probes_on : (b c : Bool) → ◌≡◌ {A = ℕ} (if b && (not b && c) then 1 else 0) 0
@@ -95,6 +96,11 @@ pub record Taking (g : Network) (w : Net) (v p : ℕ) (x : Net) : Type 0 where
 
 pub taking : {g : Network} {w : Net} {v p : ℕ} {x : Net} → Happens g w (events.Take v p) x → Taking g w v p x
 taking (Took v p m ms d at q r) = record { message = m; others = ms; delta = d; waits = q; reacts = r; is = refl }
+
+-- by a row of the table
+pub taken_row : (g : Network) → IsWired g → (w x : Net) (v p : ℕ) → At g v p → IsWellFormed g w → (took : Taking g w v p x) →
+    Row (w.node v) (Deliver p took.message) took.delta
+taken_row g wired w x v p at f took = event_row g wired v (w.node v) p took.message took.delta at (f.nodes v) took.reacts
 
 module _ (g : Network) (ground : Ground g) (k : ℕ) (log : IsFloorLog2 g.count k) (v p : ℕ) (at : At g v p) where
   -- what v's port p pays for a row of its own
@@ -210,9 +216,6 @@ module _ (g : Network) (ground : Ground g) (k : ℕ) (log : IsFloorLog2 g.count 
       after : Covered x t
       after = steps_covered v w x t f h (event_steps_by g ground.wired w x (events.Take v p) f.nodes happened)
 
-      row : Row (w.node v) (Deliver p took.message) took.delta
-      row = event_row g ground.wired v (w.node v) p took.message took.delta at (f.nodes v) took.reacts
-
       fails :
           failed v p w x ≡
           (if is_at (w.node v).head.probe p && (not (is_at took.delta.head.probe p) && no_accept_first (took.message ∷ [])) then 1 else 0)
@@ -243,10 +246,11 @@ module _ (g : Network) (ground : Ground g) (k : ℕ) (log : IsFloorLog2 g.count 
           t + ((x.sent 4 - w.sent 4) + failed v p w x) ≤ paid_at g (scene x opening_ghost) v p
       go (inl s) =
           nothing (woken_port w took.message took.delta
-          ((h.has.sound.holds.first.nodes v (record { some = at.some; node = at.node })).untouched s).probe s row)
+          ((h.has.sound.holds.first.nodes v (record { some = at.some; node = at.node })).untouched s).probe s
+          (taken_row g ground.wired w x v p at f took))
       go (inr up) = ⊎_elim nothing one
           (row_port w (f.nodes v) h.has.sound.ghost h.has.sound.holds (by_memory g ground k log h.has.sound h.has.charges) took.others took.message
-          took.delta took.waits up (awake_row up row))
+          took.delta took.waits up (awake_row up (taken_row g ground.wired w x v p at f took)))
 
   plain : (x : Net) (t n : ℕ) → n ≡ 0 → Covered x t → Covered x (t + n)
   plain x t n z c = record { has = c.has; within = let a = c.within in omega (arith, a, z) }

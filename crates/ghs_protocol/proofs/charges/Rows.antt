@@ -1,5 +1,5 @@
 -- Each row pays for what it sends.
-use Rattle.std.proofs.Common.{◌≡◌, ◌≢◌, ◌⊎◌, inl, inr, ℕ, suc, ◌+◌, ◌≤◌, ◌<◌, ◌==◌, Bool, true, false, Option, Some, None, List, [], ◌∷◌, ◌++◌, length, refl, sym, ◌∙◌, ap, subst, arith, ⊎_elim, get_or, cond}
+use Rattle.std.proofs.Common.{◌≡◌, ◌≢◌, ◌⊎◌, inl, inr, ℕ, suc, ◌+◌, ◌≤◌, ◌<◌, ◌==◌, true, false, Option, Some, None, List, [], ◌∷◌, ◌++◌, length, refl, sym, ◌∙◌, ap, subst, arith, ⊎_elim, get_or, cond}
 use Rattle.ghs_graph.specs.declared.key.Key.{Key}
 use Rattle.ghs_graph.specs.Bound.{IsFloorLog2}
 use Rattle.ghs_node.specs.declared.head.Head.{Head}
@@ -21,11 +21,10 @@ use Rattle.ghs_protocol.specs.Nodes.{IsNodeOf}
 use Rattle.ghs_protocol.specs.Steps.{taken}
 use Rattle.ghs_protocol.proofs.clauses.Scene.{Ghost, Seen, TreeEnd, Scene, end, see, test_end, tree_end, scene, far_end}
 use Rattle.ghs_protocol.proofs.clauses.Changes.{rejected, marked}
-use Rattle.ghs_protocol.proofs.clauses.Nodes.{NodeFits}
 use Rattle.ghs_protocol.proofs.clauses.TreeMessages.{TreeFits}
-use Rattle.ghs_protocol.proofs.clauses.Uniting.{By_report, By_root, MarksAre, SendsRoot}
+use Rattle.ghs_protocol.proofs.clauses.Uniting.{By_report, By_root, SendsRoot}
 use Rattle.ghs_protocol.proofs.clauses.Wiring.{Ground}
-use Rattle.ghs_protocol.proofs.clauses.Whole.{LinkFits, NamesOf, opening_ghost}
+use Rattle.ghs_protocol.proofs.clauses.Whole.{opening_ghost}
 use Rattle.ghs_protocol.proofs.clauses.Floors.{Sound}
 use Rattle.ghs_protocol.proofs.clauses.Charges.{Acted, Charges, IsLow, Pays, Rises, any_test}
 use Rattle.ghs_protocol.proofs.lemmas.Nodes.{ports_many}
@@ -35,14 +34,13 @@ use Rattle.ghs_protocol.proofs.charges.Acts.{all_calls, pays_accept, pays_idle, 
 use Rattle.ghs_protocol.proofs.search.Initiate as initiating
 use Rattle.ghs_protocol.proofs.charges.TopLevel.{below_top}
 use Rattle.ghs_protocol.proofs.charges.Due.{Grows, NoTests}
-use Rattle.ghs_protocol.proofs.search.ReportGone.{at_it, not_at}
 use Rattle.ghs_protocol.proofs.charges.PortActs.{accept_pays, calm_pays, grows_branch, reject_pays, search_pays, turn_pays}
 use Rattle.ghs_protocol.proofs.tests.Steps.{cross_inside, reject_inside}
 use Rattle.ghs_protocol.proofs.acts.AsRead.{reacts}
 use Rattle.ghs_protocol.proofs.search.FirstReport.{Heard, heard_first, mark_is}
 use Rattle.ghs_protocol.proofs.root.AtRoot.{AtRoot, at_root}
-use Rattle.ghs_protocol.proofs.rows.Read.{accept_first, reject_first, reject_marks, same_name, set_marks, test_first, tree_first}
-use Rattle.ghs_protocol.proofs.rows.Link.{link_fits, link_fits', link_leads, node_fits}
+use Rattle.ghs_protocol.proofs.rows.Read.{accept_first, reject_first, reject_marks, same_name, set_marks, test_first, tree_first, marks_are}
+use Rattle.ghs_protocol.proofs.rows.Link.{link_fits, link_leads, link_clauses}
 use Rattle.ghs_protocol.proofs.acts.Situations.{is_find', probing_finds}
 use Rattle.ghs_protocol.proofs.rows.Steps.{basic_was}
 use Rattle.ghs_protocol.proofs.rows.Rows.{ups_after, connect_again, report_again, test_again}
@@ -50,6 +48,8 @@ use Rattle.ghs_protocol.proofs.acts.Reactions.{round_scene}
 use Rattle.ghs_protocol.proofs.charges.Taken.{arrives, fewer, lone, next_basic, no_probing, none_left, taken_pays}
 use Rattle.ghs_protocol.proofs.tests.Links.{accepted_apart, not_basic, probe_is, rejected_facts}
 use Rattle.ghs_protocol.proofs.lemmas.Wires.{at_in}
+use Rattle.ghs_protocol.proofs.lemmas.Balance.{none_or_none}
+use Rattle.ghs_node.proofs.lemmas.{is_at_is, is_at_not}
 
 -- a port at which a tree message waits isn't Rejected
 not_rejected : {N : ℕ → Key → Type 0} (e f : TreeEnd) →
@@ -75,14 +75,7 @@ module _ (g : Network) (ground : Ground g) (k : ℕ) (log : IsFloorLog2 g.count 
   inside : InNetwork g v
   inside = record { some = at.some; node = at.node }
 
-  fits : NodeFits (length (g.ports v)) ((scene w gh).at v)
-  fits = node_fits g ground.wired (scene w gh) sound.first v p at
-
-  link : LinkFits (NamesOf g (scene w gh)) (end g (scene w gh) v p) (far_end g (scene w gh) v p)
-  link = link_fits g ground.wired (scene w gh) sound.first v p at
-
-  link' : LinkFits (NamesOf g (scene w gh)) (far_end g (scene w gh) v p) (end g (scene w gh) v p)
-  link' = link_fits' g ground.wired (scene w gh) sound.first v p at
+  open link_clauses g ground.wired (scene w gh) sound.first v p at use {link, link'}
 
   low : IsLow k (w.node v).head (gh.up v)
   low = charges.low v inside
@@ -136,7 +129,8 @@ module _ (g : Network) (ground : Ground g) (k : ℕ) (log : IsFloorLog2 g.count 
     where
       free : mark_at (w.node v) p ≢ Rejected
       free =
-          not_rejected (tree_end (end g (scene w gh) v p)) (tree_end (far_end g (scene w gh) v p)) link.tree link'.tree (Connect l) (see ms).tree
+          not_rejected (tree_end (end g (scene w gh) v p)) (tree_end (far_end g (scene w gh) v p)) link.tree link'.tree (Connect l)
+          (see ms).tree
           (tree_first (w.queue v p) ms (Connect l) refl waits)
 
   row_connect_merges : (l : ℕ) → w.queue v p ≡ Connect l ∷ ms → Acted g k v gh.up gh.up w (taken g v p (Connect l) ms (merges (w.node v) p) w)
@@ -171,14 +165,7 @@ module _ (g : Network) (ground : Ground g) (k : ℕ) (log : IsFloorLog2 g.count 
       (subst (λ (z : Scene). Rises g (scene w opening_ghost) z v p 0) (sym (round_scene g v w opening_ghost p m ms e))
       (record { stays = λ u q at'. omega arith; more = λ h. absurd (omega (arith, h)) }))
       (pays_idle k (w.node v).head (gh.up v) low (w.node v).head (λ j. cond (place_of (kind_of m) == j) 0 0) [] 0 refl refl refl refl refl
-      (no (place_of (kind_of m) == 1)) (no (place_of (kind_of m) == 3)) refl refl refl refl)
-    where
-      no : (b : Bool) → ◌≡◌ {A = ℕ} (cond b 0 0) 0
-      no true = refl
-      no false = refl
-
-  marks : MarksAre g v ((scene w gh).at v) (w.node v).marks
-  marks = record { ports = ports_many is; marks = λ i. refl }
+      (none_or_none (place_of (kind_of m) == 1)) (none_or_none (place_of (kind_of m) == 3)) refl refl refl refl)
 
   row_initiate_rests : (l : ℕ) (f : Key) →
       w.queue v p ≡ Initiate l f Found ∷ ms →
@@ -192,12 +179,12 @@ module _ (g : Network) (ground : Ground g) (k : ℕ) (log : IsFloorLog2 g.count 
     where
       up : gh.up v ≡ Some p
       up =
-          (initiating.call g ground.wired v (at_in at) p at (scene w gh) sound.first l f Found (see ms).tree (w.node v).marks marks
+          (initiating.call g ground.wired v (at_in at) p at (scene w gh) sound.first l f Found (see ms).tree (w.node v).marks (marks_are g v w gh is)
           (tree_first (w.queue v p) ms (Initiate l f Found) refl waits) None refl 0 (λ e. refl)).up
 
   pub search_free : (l : ℕ) (f : Key) → w.queue v p ≡ Initiate l f Find ∷ ms → (w.node v).head.probe ≡ None
   search_free l f waits =
-      (initiating.idle g ground.wired v (at_in at) p at (scene w gh) sound.first l f Find (see ms).tree (w.node v).marks marks
+      (initiating.idle g ground.wired v (at_in at) p at (scene w gh) sound.first l f Find (see ms).tree (w.node v).marks (marks_are g v w gh is)
       (tree_first (w.queue v p) ms (Initiate l f Find) refl waits) None refl (length (passed_on (w.node v) p l f Find)) (λ e. refl)).0
 
   row_initiate_searches :
@@ -221,12 +208,12 @@ module _ (g : Network) (ground : Ground g) (k : ℕ) (log : IsFloorLog2 g.count 
     where
       up : gh.up v ≡ Some p
       up =
-          (initiating.call g ground.wired v (at_in at) p at (scene w gh) sound.first l f Find (see ms).tree (w.node v).marks marks
+          (initiating.call g ground.wired v (at_in at) p at (scene w gh) sound.first l f Find (see ms).tree (w.node v).marks (marks_are g v w gh is)
           (tree_first (w.queue v p) ms (Initiate l f Find) refl waits) None refl (length (passed_on (w.node v) p l f Find)) (λ e. refl)).up
 
       free : (w.node v).head.probe ≡ None
       free =
-          (initiating.idle g ground.wired v (at_in at) p at (scene w gh) sound.first l f Find (see ms).tree (w.node v).marks marks
+          (initiating.idle g ground.wired v (at_in at) p at (scene w gh) sound.first l f Find (see ms).tree (w.node v).marks (marks_are g v w gh is)
           (tree_first (w.queue v p) ms (Initiate l f Find) refl waits) None refl (length (passed_on (w.node v) p l f Find)) (λ e. refl)).0
 
   -- the marks once port p is Rejected where it was Basic
@@ -258,8 +245,8 @@ module _ (g : Network) (ground : Ground g) (k : ℕ) (log : IsFloorLog2 g.count 
       (reject_pays g ground.wired v (at_in at)
       (reacts g v w opening_ghost (does (w.node v).head (reject_at (w.node v) p) ((p, Reject) ∷ []))) own (scene w opening_ghost)
       (fewer g v p w (Test l n) ms waits) p at
-      ((p, Reject) ∷ []) refl refl (not_at (w.node v).head.probe p free) rejects
-      (at_it (w.node (far g v p)).head.probe (far_port g v p) theirs) (ap any_test first)
+      ((p, Reject) ∷ []) refl refl (is_at_not (w.node v).head.probe p free) rejects
+      (is_at_is (w.node (far g v p)).head.probe (far_port g v p) theirs) (ap any_test first)
       (own_tests (none_left (l, n) (see ms).tests (see (w.queue v p)).tests first
       (lone (test_end (end g (scene w gh) v p)) (test_end (far_end g (scene w gh) v p)) link'.tests)))
       (λ e. marked_beyond same (was_branch (sym (ap (λ (f : ℕ → Mark). f p) rejects) ∙ e)))))
@@ -318,7 +305,7 @@ module _ (g : Network) (ground : Ground g) (k : ℕ) (log : IsFloorLog2 g.count 
       Acted g k v gh.up gh.up w (taken g v p m ms (ends (no_probe (w.node v).head) (reject_at (w.node v) p) [] e) w)
   turns m e mine c1 c3 rises =
       pays_so m (ends (no_probe (w.node v).head) (reject_at (w.node v) p) [] e) 1 refl rises
-      (pays_turn k (w.node v).head (gh.up v) low p _ e mine (probing_finds fits mine) c1 c3)
+      (pays_turn k (w.node v).head (gh.up v) low p _ e mine (probing_finds (sound.first.nodes v inside) mine) c1 c3)
 
   pub cross_rises :
       (l : ℕ) (n : Key) (e : Ending) → w.queue v p ≡ Test l n ∷ ms → is_name (w.node v).head.name n ≡ true → (w.node v).head.probe ≡ Some p →
@@ -334,7 +321,7 @@ module _ (g : Network) (ground : Ground g) (k : ℕ) (log : IsFloorLog2 g.count 
       (λ own.
       kind (marked (λ q. mark_at (w.node v) q) p p)
       (λ z. not_basic (mark_at (w.node v) p) (sym (put_same (λ q. mark_at (w.node v) q) p (rejected (mark_at (w.node v) p))) ∙ z))
-      (at_it (w.node (far g v p)).head.probe (far_port g v p) own) (λ z. marked_beyond same (was_branch z)))
+      (is_at_is (w.node (far g v p)).head.probe (far_port g v p) own) (λ z. marked_beyond same (was_branch z)))
       (λ ne. inl ((link'.tests.not_probing ne).crossed (let z = ap length first in omega (arith, z))).mark)
       (probe_is (w.node (far g v p)).head.probe (far_port g v p)))
     where
@@ -367,10 +354,11 @@ module _ (g : Network) (ground : Ground g) (k : ℕ) (log : IsFloorLog2 g.count 
       (scene (taken g v p Reject ms (ends (no_probe (w.node v).head) (reject_at (w.node v) p) [] e) w) opening_ghost) v p 1
   heard_rises e waits mine s =
       let facts =
-      rejected_facts (test_end (end g (scene w gh) v p)) (test_end (far_end g (scene w gh) v p)) mine link.tests link'.tests (see ms).rejects
+      rejected_facts (test_end (end g (scene w gh) v p)) (test_end (far_end g (scene w gh) v p)) mine link.tests link'.tests
+      (see ms).rejects
       (reject_first (w.queue v p) ms waits) in
       turn_rises Reject e waits mine s
-      (λ z. absurd (let y = not_at (w.node (far g v p)).head.probe (far_port g v p) facts.2 in cc (y, z))) (inl facts.1)
+      (λ z. absurd (let y = is_at_not (w.node (far g v p)).head.probe (far_port g v p) facts.2 in cc (y, z))) (inl facts.1)
 
   row_reject_heard :
       (e : Ending) → w.queue v p ≡ Reject ∷ ms →
@@ -394,16 +382,17 @@ module _ (g : Network) (ground : Ground g) (k : ℕ) (log : IsFloorLog2 g.count 
       (pays_accept k (w.node v).head (gh.up v) low p (Some (key_at (w.node v) p)) _ e mine finds lower refl refl c)
     where
       finds : (w.node v).head.phase ≡ Find
-      finds = probing_finds fits mine
+      finds = probing_finds (sound.first.nodes v inside) mine
 
       apart : (gh.fragment (far g v p) ≢ gh.fragment v) × ((w.node v).head.level ≤ (w.node (far g v p)).head.level)
       apart =
-          accepted_apart (test_end (end g (scene w gh) v p)) (test_end (far_end g (scene w gh) v p)) mine link.tests link'.tests (see ms).accepts
+          accepted_apart (test_end (end g (scene w gh) v p)) (test_end (far_end g (scene w gh) v p)) mine link.tests link'.tests
+          (see ms).accepts
           (accept_first (w.queue v p) ms waits)
 
       lower : (w.node v).head.level < k
       lower =
-          let top = (fits.searching finds).level in
+          let top = ((sound.first.nodes v inside).searching finds).level in
           let lag = (sound.first.nodes (far g v p) far_in).lag.level in
           let z = below_top g k log (scene w gh) sound.first v (far g v p) inside far_in apart.0 (omega (arith, top, lag, apart.1)) in
           omega (arith, z, top)
@@ -424,7 +413,9 @@ module _ (g : Network) (ground : Ground g) (k : ℕ) (log : IsFloorLog2 g.count 
       (pays_report k (w.node v).head (gh.up v) low c p r _ e finds lower refl refl s))
     where
       finds : (w.node v).head.phase ≡ Find
-      finds = ⊎_elim (λ h. h) (λ ne. absurd (let z = (fits.idle ne).1 in omega (arith, z, count))) (is_find' (w.node v).head.phase)
+      finds =
+          ⊎_elim (λ h. h) (λ ne. absurd (let z = ((sound.first.nodes v inside).idle ne).1 in omega (arith, z, count)))
+          (is_find' (w.node v).head.phase)
 
       only : Heard (tree_end (end g (scene w gh) v p)) (tree_end (far_end g (scene w gh) v p)) r
       only =
@@ -437,7 +428,7 @@ module _ (g : Network) (ground : Ground g) (k : ℕ) (log : IsFloorLog2 g.count 
           let j = only.child.joins in
           let same = sound.first.trees.joined_within v p at (record { here = ap is_branch j.there; there = ap is_branch j.here }) in
           let coming = (sound.first.trees.by_fragment v (far g v p) same).0 in
-          let top = (fits.searching finds).level in
+          let top = ((sound.first.nodes v inside).searching finds).level in
           let top' = only.reported.level in
           let z = (charges.low (far g v p) far_in).best (λ e. some (sym only.reported.key ∙ ap best_key e)) in
           omega (arith, coming, top, top', z)
@@ -455,14 +446,15 @@ module _ (g : Network) (ground : Ground g) (k : ℕ) (log : IsFloorLog2 g.count 
       Pays k (w.node v).head (gh.up v) (w.node v).head o (λ j. cond (place_of (kind_of m) == j) 1 0)
       (messages (moves_root (w.node v) b).sends) 0)
       (sym (put_same gh.up v (Some b)))
-      (pays_root k (w.node v).head (gh.up v) low p b (mark_at (w.node v) b) _ root.in_branch root.up (fits.best_port b q best).1
+      (pays_root k (w.node v).head (gh.up v) low p b (mark_at (w.node v) b) _ root.in_branch root.up
+      ((sound.first.nodes v inside).best_port b q best).1
       (low.best (λ e. cc (e, best))) c1 c3))
     where
       root : AtRoot g (scene w gh) v p (see ms).tree
       root = at_root g ground.wired v (at_in at) p at (scene w gh) sound.first (see ms).tree calls
 
       at_b : At g v b
-      at_b = record { some = at.some; node = at.node; port = (fits.best_port b q best).0 }
+      at_b = record { some = at.some; node = at.node; port = ((sound.first.nodes v inside).best_port b q best).0 }
 
       no_tests : (n : Mark) → NoTests (messages ((b, root_message n (w.node v).head.level) ∷ []))
       no_tests Basic = refl

@@ -13,7 +13,6 @@ use Rattle.ghs_protocol.specs.Ledger.{sum_below, of_kind}
 use Rattle.ghs_protocol.specs.Payments.{calls_at, testing}
 use Rattle.ghs_protocol.proofs.clauses.Scene.{Ghost, Seen, TreeEnd, add, adds, end, see, test_end, tree_end, unseen, scene, far_end}
 use Rattle.ghs_protocol.proofs.clauses.Links.{Joins, Ups, Child}
-use Rattle.ghs_protocol.proofs.clauses.Nodes.{NodeFits}
 use Rattle.ghs_protocol.proofs.clauses.Tests.{TestsFit}
 use Rattle.ghs_protocol.proofs.clauses.TreeMessages.{TreeFits, Upward, Nothing_up, Report_up, Chain, Downward, Initiates, Old_report, Stage, Asking, Called, Begun, AtStage, asked, called, CoreQueue, Plain, With_report, Core, CoreFits, MovedFits, To_here, To_there}
 use Rattle.ghs_protocol.proofs.clauses.Whole.{Invariant, opening_ghost}
@@ -286,11 +285,8 @@ module _ (g : Network) (wired : IsWired g) (k : ℕ) (log : IsFloorLog2 g.count 
   place : (p : ℕ) → p < length (g.ports v) → At g v p
   place p lt = record { some = is.some; node = is.node; port = lt }
 
-  fits : NodeFits (length (g.ports v)) ((scene w gh).at v)
-  fits = holds.nodes v is
-
   pub level_most : (w.node v).head.level ≤ k
-  level_most = let a = fits.lag.level in let b = coming_most g k log (scene w gh) holds v is in omega (arith, a, b)
+  level_most = let a = (holds.nodes v is).lag.level in let b = coming_most g k log (scene w gh) holds v is in omega (arith, a, b)
 
   few_at : (p : ℕ) →
       p < length (g.ports v) →
@@ -423,8 +419,8 @@ module _ (g : Network) (wired : IsWired g) (k : ℕ) (log : IsFloorLog2 g.count 
             let probes = link.probing own in
             let count = probes.one in
             let apart = probes.accepted (omega (arith, seen, ne)) in
-            let finds = probing_finds fits own in
-            let top = (fits.searching finds).level in
+            let finds = probing_finds (holds.nodes v is) own in
+            let top = ((holds.nodes v is).searching finds).level in
             let lag = (holds.nodes (far g v p) far_in).lag.level in
             let lower = below_top g k log (scene w gh) holds v (far g v p) is far_in apart.0 (omega (arith, top, lag, apart.1)) in
             (own, omega (arith, count, seen), omega (arith, lower, top))
@@ -458,7 +454,7 @@ module _ (g : Network) (wired : IsWired g) (k : ℕ) (log : IsFloorLog2 g.count 
             none (sum_none (length (g.ports v)) (λ p. of_kind 3 (w.queue v p))
             (λ p lt. ⊎_elim (λ a. a) (λ a. absurd (let y = a.0 in cc (y, e))) (accepts_at p lt)))
         go (Some q) e =
-            let q_in : q < length (g.ports v) = fits.own_ports.probe q e in
+            let q_in : q < length (g.ports v) = (holds.nodes v is).own_ports.probe q e in
             let sum = lonely (length (g.ports v)) q (λ p. of_kind 3 (w.queue v p))
             (λ p lt ne. ⊎_elim (λ a. a) (λ a. absurd (ne (let y : Some p ≡ Some q = sym a.0 ∙ e in cc))) (accepts_at p lt)) in
             ⊎_elim (λ a. none (omega (arith, sum, a)))
@@ -480,7 +476,7 @@ module _ (g : Network) (wired : IsWired g) (k : ℕ) (log : IsFloorLog2 g.count 
           inl (sum_none (length (g.ports v)) (λ p. of_kind 3 (w.queue v p))
           (λ p lt. ⊎_elim (λ a. a) (λ a. absurd (let y = a.0 in cc (y, e))) (accepts_at 0 (omega arith) (omega arith) p lt)))
       go (Some q) e =
-          let q_in : q < length (g.ports v) = fits.own_ports.probe q e in
+          let q_in : q < length (g.ports v) = (holds.nodes v is).own_ports.probe q e in
           let sum = lonely (length (g.ports v)) q (λ p. of_kind 3 (w.queue v p))
           (λ p lt ne.
           ⊎_elim (λ a. a) (λ a. absurd (ne (let y : Some p ≡ Some q = sym a.0 ∙ e in cc))) (accepts_at 0 (omega arith) (omega arith) p lt)) in
@@ -499,7 +495,7 @@ module _ (g : Network) (wired : IsWired g) (k : ℕ) (log : IsFloorLog2 g.count 
           let z = sum_few (length (g.ports v)) (paid_at g (scene w opening_ghost) v) (λ p. paid_once g (scene w opening_ghost) v p) in
           let t = ap testing e in omega (arith, z, t)
       go (Some q) e =
-          let z = sum_lacks (length (g.ports v)) q (paid_at g (scene w opening_ghost) v) (fits.own_ports.probe q e)
+          let z = sum_lacks (length (g.ports v)) q (paid_at g (scene w opening_ghost) v) ((holds.nodes v is).own_ports.probe q e)
           (λ p. paid_once g (scene w opening_ghost) v p)
           (paid_not g (scene w opening_ghost) v q e) in
           let t = ap testing e in omega (arith, z, t)

@@ -104,9 +104,12 @@ HaltedIsWhole g w =
     (w.at t).fragment ≡ (w.at v).fragment →
     (w.at (far g t p)).fragment ≡ (w.at v).fragment
 
+abbrev pub AllNodeFloors : Network → Scene → (ℕ → Floor) → Type 0
+AllNodeFloors g w floor = (v : ℕ) → InNetwork g v → NodeFloor (w.at v) (floor v)
+
 -- all clauses of floors, trees and halts but the order of tests
 pub record Floors (g : Network) (w : Scene) (floor : ℕ → Floor) : Type 0 where
-  pub nodes : (v : ℕ) → InNetwork g v → NodeFloor (w.at v) (floor v)
+  pub nodes : AllNodeFloors g w floor
   pub links : (v p : ℕ) → At g v p → FloorsAt (end g w v p) (end g w (far g v p) (far_port g v p)) (floor v) (floor (far g v p))
   pub in_tree : BranchesInTree g w
   pub halted : HaltedIsWhole g w

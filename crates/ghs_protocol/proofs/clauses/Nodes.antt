@@ -28,6 +28,10 @@ pub record Untouched (m : Member) : Type 0 where
 abbrev pub AsleepUntouched : Member → Type 0
 AsleepUntouched m = m.head.phase ≡ Sleeping → Untouched m
 
+-- who has the level that its fragment comes to
+abbrev pub IsAtTop : Member → Type 0
+IsAtTop m = m.head.level ≡ m.coming
+
 -- the way to the root goes over a Branch port
 pub record IsUp (n : ℕ) (m : Member) : Type 0 where
   pub port : ℕ

@@ -1,83 +1,28 @@
 -- Counts are bounded by the number of events: what a take counts, and how many messages a reaction sends.
-use Rattle.std.proofs.Common.{◌≡◌, ℕ, suc, ◌+◌, ◌*◌, ◌≤◌, ◌==◌, Bool, true, false, List, [], ◌∷◌, length, refl, sym, ◌∙◌, ap, cond, arith, Some, length-append, add-zero, le_of_eq}
+use Rattle.std.proofs.Common.{◌≡◌, ℕ, ◌+◌, ◌*◌, ◌≤◌, ◌==◌, List, [], ◌∷◌, length, refl, sym, ◌∙◌, ap, cond, arith, Some, add-zero, le_of_eq}
 use Rattle.std.proofs.lemmas.List.{length-map}
 use Rattle.std.proofs.lemmas.Option.{same_Some}
-use Rattle.ghs_node.specs.declared.head.Head.{Head}
-use Rattle.ghs_node.specs.declared.mark.Mark.{Mark}
-use Rattle.ghs_node.specs.declared.mark.Mark.TheVariants.{Basic, Branch, Rejected}
-use Rattle.ghs_node.specs.declared.message.Phase.TheVariants.{Find, Found}
 use Rattle.ghs_node.specs.declared.message.Message.{Message}
 use Rattle.ghs_node.specs.declared.message.Message.TheVariants.{Connect, Initiate, Test, Accept, Reject, Report, ChangeRoot}
 use Rattle.ghs_node.specs.declared.delta.Delta.{Delta}
-use Rattle.ghs_node.specs.declared.delta.Fate.{Fate}
-use Rattle.ghs_node.specs.declared.delta.Fate.TheVariants.{Consumed, Requeued}
-use Rattle.ghs_node.specs.declared.work.Work.{Work}
 use Rattle.ghs_node.specs.declared.work.Work.TheVariants.{Wake}
 use Rattle.ghs_node.specs.Kind.{kind_of, place_of}
 use Rattle.ghs_node.proofs.lemmas.{reaction_inverts}
 use Rattle.ghs_protocol.specs.declared.event.Event.{Event}
 use Rattle.ghs_protocol.specs.Network.{Network}
 use Rattle.ghs_protocol.proofs.lemmas.Wired.{IsWired}
-use Rattle.ghs_protocol.specs.Net.{Net, happens, take_first, one_if_consumed, one_if_requeued}
+use Rattle.ghs_protocol.specs.Net.{Net, happens, take_first, one_if_consumed}
 use Rattle.ghs_protocol.specs.Run.{run}
 use Rattle.ghs_protocol.specs.Ledger.{in_all, of_kind, takes_in}
 use Rattle.ghs_protocol.specs.Steps.{reacted, taken, Happens, Woke, Took}
 use Rattle.ghs_protocol.proofs.lemmas.Sends.{messages, sent_now, consumed_now, requeued_now}
 use Rattle.ghs_protocol.proofs.lemmas.Sums.{sum_same, sum_add}
-use Rattle.ghs_protocol.proofs.lemmas.Balance.{kinds_in_all}
+use Rattle.ghs_protocol.proofs.lemmas.Balance.{kinds_in_all, one_fate}
 use Rattle.ghs_protocol.proofs.lemmas.Effects.{taken_consumed, taken_requeued}
 use Rattle.ghs_protocol.proofs.lemmas.Events.{happening}
 use Rattle.ghs_protocol.proofs.lemmas.Runs.{both_some}
 use Rattle.ghs_protocol.proofs.lemmas.WellFormed.{IsWellFormed, event_row, event_formed}
-use Rattle.ghs_node.specs.Words.{on_branches_from}
-use Rattle.ghs_node.specs.NodeState.{NodeState, key_at, degree}
-use Rattle.ghs_node.specs.Reaction.{Ending, Probing, Reporting, Waiting, last_sends, no_probe, searching, passed_on, answered, heard}
-use Rattle.ghs_node.specs.Rows.{AwakeRow, Initiate_rests, Initiate_searches, Tests_cross, Accept_heard, Reject_heard, Report_heard, Row, Wakes, Wakes_alone, Woken_merges, Woken_connect_waits, Woken_test_waits, Woken_accepts, Awake}
-
-branches_few : (p : ℕ) (ms : List Mark) (j : ℕ) (m : Message) → length (on_branches_from p ms j m) ≤ length ms
-branches_few p [] j m = omega arith
-branches_few p (Basic ∷ ms) j m = omega (arith, branches_few (suc p) ms j m)
-branches_few p (Rejected ∷ ms) j m = omega (arith, branches_few (suc p) ms j m)
-branches_few p (Branch ∷ ms) j m = go (p == j) (branches_few (suc p) ms j m)
-  where
-    go : (b : Bool) → length (on_branches_from (suc p) ms j m) ≤ length ms →
-        length (cond b (on_branches_from (suc p) ms j m) ((p, m) ∷ on_branches_from (suc p) ms j m)) ≤ suc (length ms)
-    go true le = omega arith
-    go false le = omega arith
-
-last_few : (h : Head) (e : Ending) → length (last_sends h e) ≤ 1
-last_few h (Probing p) = omega arith
-last_few h Reporting = omega arith
-last_few h Waiting = omega arith
-
-awake_few : {n : NodeState} {j : ℕ} {m : Message} {d : Delta} → AwakeRow n j m d → length d.sends ≤ suc (degree n)
-awake_few {n} (Initiate_rests {j = j} {l = l} {f = f} lt) = omega (arith, branches_few 0 n.marks j (Initiate l f Found))
-awake_few {n} (Initiate_searches {j = j} {l = l} {f = f} {e = e} lt few s) =
-    omega (
-      arith,
-      branches_few 0 n.marks j (Initiate l f Find),
-      last_few (no_probe (searching n j l f)) e,
-      length-append (passed_on n j l f Find) (last_sends (no_probe (searching n j l f)) e),
-    )
-awake_few {n} (Tests_cross {e = e} a b c s) = omega (arith, last_few (no_probe n.head) e)
-awake_few {n} (Accept_heard {j = j} {e = e} a s) = omega (arith, last_few (answered n.head j (Some (key_at n j))) e)
-awake_few {n} (Reject_heard {e = e} a s) = omega (arith, last_few (no_probe n.head) e)
-awake_few {n} (Report_heard {j = j} {w = w} {e = e} c a b s) = omega (arith, last_few (heard n.head c j w) e)
-awake_few _ = omega arith
-
--- a reaction sends at most one message more than the node has ports
-pub row_few : {n : NodeState} {k : Work} {d : Delta} → Row n k d → length d.sends ≤ suc (degree n)
-row_few (Wakes s lt) = omega arith
-row_few (Wakes_alone s e) = omega arith
-row_few (Woken_merges s lt) = omega arith
-row_few (Woken_connect_waits s lt ne) = omega arith
-row_few (Woken_test_waits s lt lo) = omega arith
-row_few (Woken_accepts s lt) = omega arith
-row_few (Awake up lt row) = awake_few row
-
-one_fate : (f : Fate) → one_if_consumed f + one_if_requeued f ≡ 1
-one_fate Consumed = refl
-one_fate Requeued = refl
+use Rattle.ghs_protocol.proofs.lemmas.Few.{row_few}
 
 one_kind_of : (m : Message) (c : ℕ) → in_all (λ k. cond (place_of (kind_of m) == k) c 0) ≡ c
 one_kind_of (Connect l) c = omega arith

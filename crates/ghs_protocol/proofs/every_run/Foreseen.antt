@@ -1,15 +1,14 @@
 -- No lawful event is without a rule.
-use Rattle.std.proofs.Common.{◌≡◌, ◌≢◌, ℕ, zero, suc, ◌+◌, ◌^◌, ◌<◌, ◌≤◌, true, false, not, ◌&&◌, ◌==◌, Option, Some, List, [], ◌∷◌, length, refl, sym, ◌∙◌, ap, subst, arith, ⊎_elim, ◌⊎◌, if◌then◌else◌, pow_mono}
+use Rattle.std.proofs.Common.{◌≡◌, ◌≢◌, ℕ, zero, suc, ◌+◌, ◌^◌, ◌<◌, ◌≤◌, true, false, not, ◌&&◌, Option, Some, List, [], ◌∷◌, length, refl, sym, ◌∙◌, ap, subst, arith, ⊎_elim, ◌⊎◌, if◌then◌else◌, pow_mono}
 use Rattle.std.proofs.lemmas.Bool.{cases_eq, cases_lt}
 use Rattle.ghs_graph.specs.declared.key.Key.{Key}
-use Rattle.ghs_node.specs.declared.mark.Mark.{Mark}
-use Rattle.ghs_node.specs.declared.mark.Mark.TheVariants.{Basic, Branch, Rejected}
+use Rattle.ghs_node.specs.declared.mark.Mark.TheVariants.{Branch}
 use Rattle.ghs_node.specs.declared.message.Phase.{Phase}
 use Rattle.ghs_node.specs.declared.message.Phase.TheVariants.{Sleeping, Find, Found}
 use Rattle.ghs_node.specs.declared.message.Message.{Message}
 use Rattle.ghs_node.specs.declared.message.Message.TheVariants.{Connect, Initiate, Accept, Reject, Report, ChangeRoot}
 use Rattle.ghs_node.specs.declared.work.Work.TheVariants.{Deliver}
-use Rattle.ghs_node.specs.Words.{is_branch, is_at, on_branches, on_branches_from, find_more}
+use Rattle.ghs_node.specs.Words.{is_branch, is_at, on_branches, find_more}
 use Rattle.ghs_node.specs.NodeState.{degree}
 use Rattle.ghs_node.specs.NoRule.{NoRule, IsForAwake, An_initiate, An_accept, A_reject, A_report, A_change_root, Still_asleep, Initiate_too_low, Initiate_to_sleep, Accept_untested, Reject_untested, Report_unowed, Root_without_best, Merge_above_levels, Absorbs_too_many, Searches_too_many}
 use Rattle.ghs_protocol.specs.Network.{Network, At, port_at, far, far_port, InNetwork}
@@ -21,28 +20,20 @@ use Rattle.ghs_protocol.proofs.acts.Many.{few_nodes}
 use Rattle.ghs_protocol.proofs.clauses.Scene.{End, end, tree_end, see, scene, Ghost, far_end}
 use Rattle.ghs_protocol.proofs.clauses.Changes.{marked}
 use Rattle.ghs_protocol.proofs.clauses.Links.{Joins, Ups}
-use Rattle.ghs_protocol.proofs.clauses.Nodes.{NodeFits, Searching}
+use Rattle.ghs_protocol.proofs.clauses.Nodes.{Searching}
 use Rattle.ghs_protocol.proofs.clauses.Rest.{owes, debt}
-use Rattle.ghs_protocol.proofs.clauses.Whole.{Invariant, LinkFits, NamesOf}
+use Rattle.ghs_protocol.proofs.clauses.Whole.{Invariant, NamesOf}
 use Rattle.ghs_protocol.proofs.lemmas.Nodes.{ports_many}
 use Rattle.ghs_protocol.proofs.lemmas.Sums.{sum_same, term_le, sum_few}
-use Rattle.ghs_protocol.proofs.rows.Link.{node_fits, link_fits, link_fits', link_leads}
+use Rattle.ghs_protocol.proofs.rows.Link.{link_leads, link_clauses}
 use Rattle.ghs_protocol.proofs.search.ReportGone.{debt_one, debt_up}
 use Rattle.ghs_protocol.proofs.search.FirstReport as reports
-use Rattle.ghs_protocol.proofs.search.FirstReport.{Joint, Down_here, Down_there, On_core, On_moved, joint, mark_is}
+use Rattle.ghs_protocol.proofs.search.FirstReport.{mark_is}
 use Rattle.ghs_protocol.proofs.union.CoreAnswered.{asked_on}
 use Rattle.ghs_protocol.proofs.root.AtRoot.{root_sent}
 use Rattle.ghs_protocol.proofs.search.Called.{Calls, calls}
 use Rattle.ghs_protocol.proofs.rows.Read.{is_tree, tree_first, accept_first, reject_first}
-
-forwards_few : (q : ℕ) (ms : List Mark) (j : ℕ) (m : Message) → length (on_branches_from q ms j m) ≤ length ms
-forwards_few q [] j m = omega arith
-forwards_few q (Basic ∷ ms) j m = let z = forwards_few (suc q) ms j m in omega (arith, z)
-forwards_few q (Rejected ∷ ms) j m = let z = forwards_few (suc q) ms j m in omega (arith, z)
-forwards_few q (Branch ∷ ms) j m =
-    let z = forwards_few (suc q) ms j m in
-    elim (q == j) as (λ b. length (if b then on_branches_from (suc q) ms j m else ((q, m) ∷ on_branches_from (suc q) ms j m)) ≤ suc (length ms))
-    [ true ↦ omega (arith, z) | false ↦ omega (arith, z) ]
+use Rattle.ghs_protocol.proofs.lemmas.Few.{branches_few}
 
 -- where one of them is 0
 pub sum_lacks : (n j : ℕ) (f : ℕ → ℕ) → j < n → ((i : ℕ) → f i ≤ 1) → f j ≡ 0 → sum_below n f < n
@@ -56,14 +47,7 @@ module _ (g : Network) (wired : IsWired g) (few : g.count ≤ 1048576) (v p : �
   inside : InNetwork g v
   inside = record { some = at.some; node = at.node }
 
-  fits : NodeFits (length (g.ports v)) ((scene w gh).at v)
-  fits = node_fits g wired (scene w gh) holds v p at
-
-  link : LinkFits (NamesOf g (scene w gh)) (end g (scene w gh) v p) (far_end g (scene w gh) v p)
-  link = link_fits g wired (scene w gh) holds v p at
-
-  link' : LinkFits (NamesOf g (scene w gh)) (far_end g (scene w gh) v p) (end g (scene w gh) v p)
-  link' = link_fits' g wired (scene w gh) holds v p at
+  open link_clauses g wired (scene w gh) holds v p at use {link, link'}
 
   ways :
       Joins (tree_end (end g (scene w gh) v p)) (tree_end (far_end g (scene w gh) v p)) →
@@ -87,7 +71,7 @@ module _ (g : Network) (wired : IsWired g) (few : g.count ≤ 1048576) (v p : �
       (λ b. let z : m ∷ (see ms).tree ≡ [] = sym first ∙ link.tree.silent bare b in cc) (mark_is (tree_end (far_end g (scene w gh) v p)).mark)
     where
       bare : (tree_end (end g (scene w gh) v p)).mark ≢ Branch
-      bare = (fits.untouched sleeps).marks p
+      bare = ((holds.nodes v inside).untouched sleeps).marks p
 
       first : (see (w.queue v p)).tree ≡ m ∷ (see ms).tree
       first = tree_first (w.queue v p) ms m tree q
@@ -97,7 +81,7 @@ module _ (g : Network) (wired : IsWired g) (few : g.count ≤ 1048576) (v p : �
   answered ne = let z = link.tests.not_probing ne in (z.accepts, z.rejects)
 
   unprobed : (w.node v).head.phase ≡ Sleeping → (w.node v).head.probe ≢ Some p
-  unprobed s e = let z = (fits.untouched s).probe in cc (z, e)
+  unprobed s e = let z = ((holds.nodes v inside).untouched s).probe in cc (z, e)
 
   no_accept : (ms : List Message) → w.queue v p ≡ Accept ∷ ms → (w.node v).head.probe ≢ Some p → ⊥
   no_accept ms q ne = let z = (answered ne).0 in let y = accept_first (w.queue v p) ms q in omega (arith, z, y)
@@ -117,7 +101,8 @@ module _ (g : Network) (wired : IsWired g) (few : g.count ≤ 1048576) (v p : �
       (l : ℕ) (n : Key) (s : Phase) (ms : List Message) → w.queue v p ≡ Initiate l n s ∷ ms →
       Calls (NamesOf g (scene w gh) (gh.fragment v)) (tree_end (end g (scene w gh) v p)) (tree_end (far_end g (scene w gh) v p)) l n s (see ms).tree
   called_by l n s ms q =
-      calls (tree_end (end g (scene w gh) v p)) (tree_end (far_end g (scene w gh) v p)) link.tree link'.tree ways own lags l n s (see ms).tree
+      calls (tree_end (end g (scene w gh) v p)) (tree_end (far_end g (scene w gh) v p)) link.tree link'.tree ways own lags l n s
+      (see ms).tree
       (tree_first (w.queue v p) ms (Initiate l n s) refl q)
     where
       own :
@@ -163,8 +148,8 @@ module _ (g : Network) (wired : IsWired g) (few : g.count ≤ 1048576) (v p : �
   -- who searches waits for less Reports than it has ports
   owed_few : (w.node v).head.phase ≡ Find → (w.node v).head.find_count < degree (w.node v)
   owed_few finds =
-      let s : Searching ((scene w gh).at v) = fits.searching finds in
-      let lt : s.port < length (g.ports v) = fits.own_ports.in_branch s.port s.in_branch in
+      let s : Searching ((scene w gh).at v) = (holds.nodes v inside).searching finds in
+      let lt : s.port < length (g.ports v) = (holds.nodes v inside).own_ports.in_branch s.port s.in_branch in
       let z = sum_lacks (length (g.ports v)) s.port (λ i. debt (end g (scene w gh) v i) (far_end g (scene w gh) v i)) lt
       (λ i. debt_most (end g (scene w gh) v i) (far_end g (scene w gh) v i))
       (debt_up (end g (scene w gh) v s.port) (far_end g (scene w gh) v s.port) s.up) in
@@ -181,11 +166,11 @@ module _ (g : Network) (wired : IsWired g) (few : g.count ≤ 1048576) (v p : �
           omega (arith, y, z)
       go Found e =
           let y : degree (w.node v) < (w.node v).head.find_count = subst (λ s. degree (w.node v) < find_more s (w.node v).head.find_count) e many in
-          let z = (fits.idle (λ h. cc (e, h))).1 in
+          let z = ((holds.nodes v inside).idle (λ h. cc (e, h))).1 in
           omega (arith, y, z)
       go Sleeping e =
           let y : degree (w.node v) < (w.node v).head.find_count = subst (λ s. degree (w.node v) < find_more s (w.node v).head.find_count) e many in
-          let z = (fits.idle (λ h. cc (e, h))).1 in
+          let z = ((holds.nodes v inside).idle (λ h. cc (e, h))).1 in
           omega (arith, y, z)
 
   -- a fragment's coming level is one that a network of so few nodes can have
@@ -206,9 +191,6 @@ module _ (g : Network) (wired : IsWired g) (few : g.count ≤ 1048576) (v p : �
       ⊥
   unowed k ms q ne none = omega (arith, none, owed, term, one)
     where
-      first : (see (w.queue v p)).tree ≡ Report k ∷ (see ms).tree
-      first = tree_first (w.queue v p) ms (Report k) refl q
-
       f : ℕ → ℕ
       f i = debt (end g (scene w gh) v i) (far_end g (scene w gh) v i)
 
@@ -219,16 +201,17 @@ module _ (g : Network) (wired : IsWired g) (few : g.count ≤ 1048576) (v p : �
       one =
           debt_one (end g (scene w gh) v p) (far_end g (scene w gh) v p)
           (reports.heard_first (tree_end (end g (scene w gh) v p)) (tree_end (far_end g (scene w gh) v p)) link.tree link'.tree ways k
-          (see ms).tree first ne).child.down
-          (rw first refl)
+          (see ms).tree (tree_first (w.queue v p) ms (Report k) refl q) ne).child.down
+          (rw (tree_first (w.queue v p) ms (Report k) refl q) refl)
 
   search_few :
       (l : ℕ) (n : Key) (ms : List Message) → w.queue v p ≡ Initiate l n Find ∷ ms →
       degree (w.node v) < (w.node v).head.find_count + length (on_branches (w.node v).marks p (Initiate l n Find)) → ⊥
   search_few l n ms q many =
       let c = called_by l n Find ms q in
-      let z = (fits.idle (λ h. let y = (fits.searching h).level in let r = c.rises in let t = c.most in omega (arith, y, r, t))).1 in
-      let few' = forwards_few 0 (w.node v).marks p (Initiate l n Find) in
+      let z = ((holds.nodes v inside).idle
+      (λ h. let y = ((holds.nodes v inside).searching h).level in let r = c.rises in let t = c.most in omega (arith, y, r, t))).1 in
+      let few' = branches_few 0 (w.node v).marks p (Initiate l n Find) in
       omega (arith, z, few', many)
 
   pub foreseen : (m : Message) (ms : List Message) → w.queue v p ≡ m ∷ ms → NoRule (w.node v) (Deliver p m) → ⊥
@@ -243,7 +226,8 @@ module _ (g : Network) (wired : IsWired g) (few : g.count ≤ 1048576) (v p : �
       (tree_first (w.queue v p) ms ChangeRoot refl q)).fits.best
       none
   foreseen m ms q (Merge_above_levels {l = l} up top le marked) =
-      let z = (asked_on (tree_end (end g (scene w gh) v p)) (tree_end (far_end g (scene w gh) v p)) link.tree link'.tree ways l (see ms).tree
+      let z = (asked_on (tree_end (end g (scene w gh) v p)) (tree_end (far_end g (scene w gh) v p)) link.tree link'.tree ways l
+      (see ms).tree
       (tree_first (w.queue v p) ms (Connect l) refl q) marked).below in
       omega (arith, z, top, coming_most)
   foreseen m ms q (Absorbs_too_many up lt many) = more_few many

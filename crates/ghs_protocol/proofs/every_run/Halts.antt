@@ -22,13 +22,11 @@ use Rattle.ghs_protocol.proofs.lemmas.Runs.{both_some}
 use Rattle.ghs_protocol.proofs.lemmas.Sends.{node_here, node_there}
 use Rattle.ghs_protocol.proofs.lemmas.WellFormed.{HasFewPorts, IsWellFormed, event_row, event_formed, opening_formed}
 use Rattle.ghs_protocol.proofs.lemmas.Lasting.{run_lasts}
+use Rattle.ghs_protocol.proofs.lemmas.Queues.{same_first}
 
 or_right : (a b : Bool) → b ≡ true → (a || b) ≡ true
 or_right true b e = refl
 or_right false b e = e
-
-same_message : (m m' : Message) (ms ms' : List Message) → m ∷ ms ≡ m' ∷ ms' → m ≡ m'
-same_message m m' ms ms' e = cc
 
 -- the net after a reaction of u: where v has halted it had before, or it is u, which this reaction halts
 halted_by : (g : Network) (w w1 : Net) (u v : ℕ) (d : Delta) (e : Event) → w1.node ≡ w.node →
@@ -64,7 +62,7 @@ module _ (g : Network) (wired : IsWired g) where
       let e = same_Some d d' (sym r' ∙ r) in
       halts_here g w w u d' (row_halts (w.node u) Wake d' (reaction_inverts (w.node u) Wake d' tt r)) (ap (λ (x : Delta). x.halts) (sym e) ∙ h)
   event_halts w _ _ _ d f (Took u p m ms d' at q r) (By_taking {m = m'} {ms = ms'} q' r') h =
-      let same = same_message m' m ms' ms (sym q' ∙ q) in
+      let same = same_first m' m ms' ms (sym q' ∙ q) in
       let e = same_Some d d' (sym r' ∙ ap (λ (x : Message). reaction (w.node u) (Deliver p x)) same ∙ r) in
       halts_here g w (take_first d'.fate u p m ms w) u d'
       (row_halts (w.node u) (Deliver p m) d' (event_row g wired u (w.node u) p m d' at (f.nodes u) r))

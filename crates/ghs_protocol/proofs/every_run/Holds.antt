@@ -11,7 +11,7 @@ use Rattle.ghs_node.specs.declared.work.Work.TheVariants.{Deliver}
 use Rattle.ghs_node.specs.Reaction.{reaction}
 use Rattle.ghs_node.specs.NodeState.{mark_at}
 use Rattle.ghs_node.specs.Words.{is_sleeping}
-use Rattle.ghs_node.proofs.lemmas.{sleeping_is, reaction_ruleless}
+use Rattle.ghs_node.proofs.lemmas.{sleeping_is, reaction_ruleless, branch_mark}
 use Rattle.ghs_protocol.specs.declared.event.Event.{Event}
 use Rattle.ghs_protocol.specs.declared.event.Event.TheVariants as events
 use Rattle.ghs_protocol.specs.Network.{Network, At, far, InNetwork}
@@ -27,7 +27,6 @@ use Rattle.ghs_protocol.proofs.clauses.Wiring.{Ground}
 use Rattle.ghs_protocol.proofs.clauses.Whole.{HasInvariant}
 use Rattle.ghs_protocol.proofs.lemmas.Events.{at_of}
 use Rattle.ghs_protocol.proofs.lemmas.WellFormed.{HasFewPorts, IsWellFormed, after_formed}
-use Rattle.ghs_protocol.proofs.acts.SameForest.{branch_mark}
 use Rattle.ghs_protocol.proofs.rows.Rows.{step_keeps}
 use Rattle.ghs_protocol.proofs.every_run.Sound.{after_sound}
 use Rattle.ghs_protocol.proofs.clauses.Floors.{HasSound}

@@ -22,12 +22,12 @@ use Rattle.ghs_protocol.proofs.clauses.Whole.{opening_ghost}
 use Rattle.ghs_protocol.proofs.clauses.Floors.{HasSound, Sound}
 use Rattle.ghs_protocol.proofs.lemmas.Graphs.{graph_few, port_ends}
 use Rattle.ghs_protocol.proofs.lemmas.Steps.{run_by_steps}
-use Rattle.ghs_protocol.proofs.acts.SameForest.{branch_mark}
 use Rattle.ghs_protocol.proofs.wake.Opening.{opening_holds}
 use Rattle.ghs_protocol.proofs.search.ScanOrder.{opening_floors, opening_scans, opening_lives}
 use Rattle.ghs_protocol.proofs.every_run.Trees.{at_a, key_there, branch_in_tree, rejected_aside, branch_is_joined, tree_is_joined}
 use Rattle.ghs_protocol.proofs.rows.Rows.{step_keeps}
 use Rattle.ghs_protocol.proofs.acts.Grounds.{graph_ground}
+use Rattle.ghs_node.proofs.lemmas.{branch_mark}
 
 pub opening_sound : (g : Network) → Sound g (scene (opening g) opening_ghost)
 opening_sound g = record { first = opening_holds g; floor = λ v. None; floors = opening_floors g; scans = opening_scans g; tried = λ v is. record { untried = λ q b. refl; way = λ e ne. absurd (ne refl) }; lives = opening_lives g }

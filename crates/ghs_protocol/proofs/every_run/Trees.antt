@@ -22,9 +22,9 @@ use Rattle.ghs_protocol.proofs.clauses.Whole.{Invariant}
 use Rattle.ghs_protocol.proofs.clauses.Floors.{Floor, Floors}
 use Rattle.ghs_protocol.proofs.lemmas.Graphs.{graph_wired, graph_keyed, is_key, port_ends}
 use Rattle.ghs_protocol.proofs.lemmas.Fragments.{leads_on, leads_back}
-use Rattle.ghs_protocol.proofs.acts.SameForest.{branch_mark}
 use Rattle.ghs_protocol.proofs.search.FirstReport.{mark_is}
 use Rattle.ghs_protocol.proofs.rows.Link.{link_fits}
+use Rattle.ghs_node.proofs.lemmas.{branch_mark}
 
 module _ (s : Shape) (ok : IsGraph s) where
   abbrev g : Network

@@ -12,7 +12,7 @@ use Rattle.ghs_node.proofs.lemmas.{reaction_inverts}
 use Rattle.ghs_protocol.specs.declared.event.Event.{Event}
 use Rattle.ghs_protocol.specs.Network.{Network, far, far_port, At}
 use Rattle.ghs_protocol.proofs.lemmas.Wired.{IsWired}
-use Rattle.ghs_protocol.specs.Net.{Net, opening, put_at, send, send_all, change, take_first, left_of, one_if_consumed}
+use Rattle.ghs_protocol.specs.Net.{Net, opening, put_at, send, send_all, change, take_first, left_of, one_if_consumed, one_if_requeued}
 use Rattle.ghs_protocol.specs.Run.{run, IsAfter}
 use Rattle.ghs_protocol.specs.Ledger.{sum_below, sum_over_ports, of_kind, waiting_of, waiting, IsBalanced, in_all, IsBalancedInAll}
 use Rattle.ghs_protocol.specs.Steps.{Happens, Woke, Took}
@@ -30,6 +30,11 @@ of_kind_append k (m ∷ a) b = omega (arith, of_kind_append k a b)
 pub none_or_none : (b : Bool) → ◌≡◌ {A = ℕ} (cond b 0 0) 0
 none_or_none true = refl
 none_or_none false = refl
+
+-- a message is consumed or put back
+pub one_fate : (f : Fate) → one_if_consumed f + one_if_requeued f ≡ 1
+one_fate Consumed = refl
+one_fate Requeued = refl
 
 -- what is left, and what was consumed, are what was there
 left_kind : (f : Fate) (k : ℕ) (m : Message) (ms : List Message) →

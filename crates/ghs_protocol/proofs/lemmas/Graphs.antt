@@ -1,5 +1,5 @@
 -- The network of a graph: it is wired, a node's ports rise and are few, and all ports together are twice the links.
-use Rattle.std.proofs.Common.{◌≡◌, ℕ, zero, suc, ◌+◌, ◌*◌, ◌<◌, ◌⊎◌, inl, inr, ⊎_elim, true, length, map, sum, refl, sym, ◌∙◌, ap, arith, subst, add-one}
+use Rattle.std.proofs.Common.{◌≡◌, ℕ, zero, suc, ◌+◌, ◌*◌, ◌<◌, ◌⊎◌, inl, inr, ⊎_elim, true, length, map, sum, refl, sym, ◌∙◌, ap, arith, subst, add-one, false, ◌≤◌}
 use Rattle.std.specs.List.{Contains, range_with_len}
 use Rattle.std.proofs.lemmas.List.FromFn.{sum_by-map-range_with_len_more}
 use Rattle.std.proofs.lemmas.List.Sums.{sum-map}
@@ -17,6 +17,8 @@ use Rattle.ghs_protocol.specs.Network.{network_of, port_at, far, far_port, At}
 use Rattle.ghs_protocol.proofs.lemmas.Wired.{IsWired}
 use Rattle.ghs_protocol.proofs.lemmas.WellFormed.{HasFewPorts}
 use Rattle.ghs_protocol.specs.Ledger.{sum_below}
+use Rattle.std.proofs.lemmas.Bool.Decides.{nat_tests}
+use Rattle.std.proofs.lemmas.List.Elements.{All-contains}
 
 -- a sum over the nodes, in ghs_graph's way to say it
 sum_nodes : (n : ℕ) (f : ℕ → ℕ) → sum_below n (λ i. f (suc i)) ≡ sum (map f (range_with_len 1 n))
@@ -27,6 +29,13 @@ sum_nodes (suc n) f =
     let same : sum (map f (range_with_len 1 (suc n))) ≡ sum (map f (range_with_len 1 (n + 1))) =
     ap (λ m. sum (map f (range_with_len 1 m))) (sym (add-one n)) in
     omega (arith, sum_nodes n f, one_more, same)
+
+-- keys of which neither is below the other are one
+same_parts : (j k : Key) → key_lt j k ≡ false → key_lt k j ≡ false → (j.weight ≡ k.weight) × (j.a ≡ k.a) × (j.b ≡ k.b)
+same_parts j k h l = (grind (arith, nat_tests), grind (arith, nat_tests), grind (arith, nat_tests))
+
+pub same_key : (j k : Key) → key_lt j k ≡ false → key_lt k j ≡ false → j ≡ k
+same_key j k h l = let s = same_parts j k h l in λ i. record { weight = s.0 i; a = s.1 i; b = s.2 i }
 
 module _ (g : Shape) (ok : IsGraph g) where
   pub has_port : (v p : ℕ) → At (network_of g) v p → HasPort g.keys v p (port_at (network_of g) v p)
@@ -73,6 +82,10 @@ module _ (g : Shape) (ok : IsGraph g) where
 
   port_is : (v p : ℕ) → At (network_of g) v p → port_at (network_of g) v p ≡ port_on g.keys v (port_at (network_of g) v p).key
   port_is v p at = let o = on_key v p at in o.port ∙ ap (port_on g.keys v) (sym (ap (λ (x : Port). x.key) o.port))
+
+  -- the ends of a link are nodes, the lesser one first
+  pub link_among : (k : Key) → Contains g.keys k → (1 ≤ k.a) × (k.a < k.b) × (k.b ≤ g.nodes)
+  link_among k has = All-contains (λ (x : Key). (1 ≤ x.a) × (x.a < x.b) × (x.b ≤ g.nodes)) g.keys k ok.among has
 
   pub is_key : (v p : ℕ) → At (network_of g) v p → Contains g.keys (port_at (network_of g) v p).key
   is_key v p at = let o = on_key v p at in (o.at, o.within, get_or_default g.keys o.at _ no_key o.within ∙ sym (ap (λ (x : Port). x.key) o.port))

@@ -13,6 +13,10 @@ use Rattle.ghs_protocol.proofs.lemmas.Updates.{one_place, put_at_hit, put_at_mis
 pub all_first : {X : Type 0} (P : X → Type 0) (x : X) (xs : List X) → All P (x ∷ xs) → P x
 all_first P x xs h = h 0 x (omega arith)
 
+-- two queues that are one have one first message
+pub same_first : (x y : Message) (xs ys : List Message) → x ∷ xs ≡ y ∷ ys → x ≡ y
+same_first x y xs ys e = cc
+
 pub all_rest : {X : Type 0} (P : X → Type 0) (x : X) (xs : List X) → All P (x ∷ xs) → All P xs
 all_rest P x xs h k d lt = h (suc k) d (omega arith)
 

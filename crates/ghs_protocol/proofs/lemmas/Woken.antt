@@ -79,6 +79,11 @@ asleep_or_not Sleeping = inl refl
 asleep_or_not Find = inr (λ e. cc)
 asleep_or_not Found = inr (λ e. cc)
 
+pub at_rest : (p : Phase) → p ≢ Find → p ≢ Sleeping → p ≡ Found
+at_rest Found a b = refl
+at_rest Find a b = absurd (a refl)
+at_rest Sleeping a b = absurd (b refl)
+
 -- a node that wakes does so in one way
 wake_is : {n : NodeState} {d : Delta} → Row n Wake d → d ≡ waking n
 wake_is {n} (Wakes s lt) = go n.marks refl

@@ -6,14 +6,9 @@ use Rattle.ghs_graph.specs.declared.key.Key.{Key}
 use Rattle.ghs_graph.specs.Key.{key_lt}
 use Rattle.ghs_protocol.specs.Merging.{Fragments, united, Between, IsLeastOut}
 use Rattle.ghs_protocol.proofs.merging.United.{Either, still_one, was_one}
+use Rattle.ghs_protocol.proofs.lemmas.Graphs.{same_key}
 
 -- the order of keys
-same_parts : (j k : Key) → key_lt j k ≡ false → key_lt k j ≡ false → (j.weight ≡ k.weight) × (j.a ≡ k.a) × (j.b ≡ k.b)
-same_parts j k h l = (grind (arith, nat_tests), grind (arith, nat_tests), grind (arith, nat_tests))
-
-pub same_key : (j k : Key) → key_lt j k ≡ false → key_lt k j ≡ false → j ≡ k
-same_key j k h l = let s = same_parts j k h l in λ i. record { weight = s.0 i; a = s.1 i; b = s.2 i }
-
 pub not_below : (i j k : Key) → key_lt i j ≡ false → key_lt j k ≡ false → key_lt i k ≡ false
 not_below i j k h l = grind (arith, nat_tests)
 

@@ -1,8 +1,7 @@
 -- Merging comes to an end: each step takes a name from the fragments.
-use Rattle.std.proofs.Common.{◌≡◌, ◌≢◌, ℕ, zero, suc, ◌+◌, ◌<◌, ◌≤◌, ◌==◌, min, cond, Option, Some, List, [], ◌∷◌, inl, inr, refl, sym, ◌∙◌, ap, ⊎_elim, eq-eqb, arith}
+use Rattle.std.proofs.Common.{◌≡◌, ◌≢◌, ℕ, zero, suc, ◌+◌, ◌≤◌, ◌==◌, min, cond, Option, Some, List, [], ◌∷◌, inl, inr, refl, sym, ◌∙◌, ap, ⊎_elim, eq-eqb, arith}
 use Rattle.std.specs.List.{Contains}
 use Rattle.std.proofs.lemmas.Bool.{cases_eq, ne_eqb}
-use Rattle.std.proofs.lemmas.List.Elements.{All-contains}
 use Rattle.ghs_graph.specs.declared.key.Key.{Key}
 use Rattle.ghs_graph.specs.Graph.{Shape, IsGraph}
 use Rattle.ghs_protocol.specs.Ledger.{sum_below}
@@ -11,6 +10,7 @@ use Rattle.ghs_protocol.proofs.merging.United.{Either, either_cases, inside, out
 use Rattle.ghs_protocol.proofs.merging.OneEnd.{step_even, singles_even}
 use Rattle.ghs_protocol.proofs.merging.Ends.{first_out, Step, step_from, end_of_none}
 use Rattle.ghs_protocol.proofs.lemmas.Sums.{sum_less}
+use Rattle.ghs_protocol.proofs.lemmas.Graphs.{link_among}
 
 -- names are nodes, and each names the fragment that it lies in
 pub record Named (n : ℕ) (m : Fragments) : Type 0 where
@@ -124,7 +124,7 @@ pub record Ended (ks : List Key) (pay : Option Key → ℕ → ℕ) (m : Fragmen
 module _ (g : Shape) (ok : IsGraph g) (pay : Option Key → ℕ → ℕ) where
   in_graph : (k : Key) (u v : ℕ) → Contains g.keys k → Between k u v → ((1 ≤ u) × (u ≤ g.nodes)) × ((1 ≤ v) × (v ≤ g.nodes))
   in_graph k u v has ends =
-      let e : (1 ≤ k.a) × (k.a < k.b) × (k.b ≤ g.nodes) = All-contains (λ (x : Key). (1 ≤ x.a) × (x.a < x.b) × (x.b ≤ g.nodes)) g.keys k ok.among has in
+      let e = link_among g ok k has in
       ⊎_elim (λ z. ((omega (arith, e, z.0), omega (arith, e, z.0)), (omega (arith, e, z.1), omega (arith, e, z.1))))
       (λ z. ((omega (arith, e, z.1), omega (arith, e, z.1)), (omega (arith, e, z.0), omega (arith, e, z.0)))) ends
 

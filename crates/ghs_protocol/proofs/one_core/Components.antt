@@ -1,6 +1,5 @@
 -- All nodes of a component are merged to one level and one core; so two runs that halt there agree.
-use Rattle.std.proofs.Common.{◌≡◌, ℕ, ◌≤◌, ◌<◌, Option, List, inl, inr, refl, sym, ◌∙◌, arith}
-use Rattle.std.proofs.lemmas.List.Elements.{All-contains}
+use Rattle.std.proofs.Common.{◌≡◌, ℕ, ◌≤◌, Option, List, inl, inr, refl, sym, ◌∙◌, arith}
 use Rattle.ghs_graph.specs.declared.key.Key.{Key}
 use Rattle.ghs_graph.specs.Graph.{Shape, IsGraph}
 use Rattle.ghs_graph.specs.Links.{Joined, Same, Over, Back, links}
@@ -8,15 +7,16 @@ use Rattle.ghs_protocol.specs.Merging.{Fragments, singles, one_connect, IsWhole}
 use Rattle.ghs_protocol.specs.Cores.{MergesTo, OneCore}
 use Rattle.ghs_protocol.proofs.merging.OneEnd.{merging_even, singles_even}
 use Rattle.ghs_protocol.proofs.one_core.Runs.{halted_merges_to, merges_alike}
+use Rattle.ghs_protocol.proofs.lemmas.Graphs.{link_among}
 
 -- links don't leave the graph
 pub joined_in : (s : Shape) → IsGraph s → {v u : ℕ} → Joined (links s.keys) v u → (1 ≤ v) × (v ≤ s.nodes) → (1 ≤ u) × (u ≤ s.nodes)
 joined_in s ok Same h = h
 joined_in s ok (Over k has j) h =
-    let e : (1 ≤ k.a) × (k.a < k.b) × (k.b ≤ s.nodes) = All-contains (λ (x : Key). (1 ≤ x.a) × (x.a < x.b) × (x.b ≤ s.nodes)) s.keys k ok.among has in
+    let e = link_among s ok k has in
     joined_in s ok j (omega arith, omega arith)
 joined_in s ok (Back k has j) h =
-    let e : (1 ≤ k.a) × (k.a < k.b) × (k.b ≤ s.nodes) = All-contains (λ (x : Key). (1 ≤ x.a) × (x.a < x.b) × (x.b ≤ s.nodes)) s.keys k ok.among has in
+    let e = link_among s ok k has in
     joined_in s ok j (omega arith, omega arith)
 
 -- nor a whole fragment

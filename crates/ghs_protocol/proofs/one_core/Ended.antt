@@ -1,6 +1,5 @@
 -- Where a run has ended merging has come to its end, and each Branch port is that of a joined link: as many Connects were sent as merging takes.
-use Rattle.std.proofs.Common.{◌≡◌, ℕ, ◌≤◌, ◌<◌, refl, sym, ◌∙◌, ap, ap₂, subst, ⊎_elim, arith}
-use Rattle.std.proofs.lemmas.List.Elements.{All-contains}
+use Rattle.std.proofs.Common.{◌≡◌, ℕ, ◌≤◌, refl, sym, ◌∙◌, ap, ap₂, subst, ⊎_elim, arith}
 use Rattle.ghs_graph.specs.declared.key.Key.{Key}
 use Rattle.ghs_graph.specs.Graph.{Shape}
 use Rattle.ghs_graph.specs.Links.{Joined, links}
@@ -24,6 +23,7 @@ use Rattle.ghs_protocol.proofs.one_core.Joins.{one_if_joined, not_joined, joined
 use Rattle.ghs_protocol.proofs.one_core.Links.{joined_at}
 use Rattle.ghs_protocol.proofs.one_core.Runs.{simulated, whole_of}
 use Rattle.ghs_protocol.proofs.search.FirstReport.{mark_is}
+use Rattle.ghs_protocol.proofs.lemmas.Graphs.{link_among}
 
 -- a node that has halted stands at the level of its fragment, which is its component
 module _ (g : Shape) (w : Net) (n : IsNetOf g w) (v : ℕ) (lo : 1 ≤ v) (hi : v ≤ g.nodes) (h : HasHalted w v) where
@@ -57,12 +57,10 @@ module _ (g : Shape) (w : Net) (n : IsNetOf g w) (h : HasEnded g w) where
   -- no link leads out of any fragment
   none_out : (u v : ℕ) (k : Key) → IsLeastOut g.keys (simulated g w n).state u v k → ⊥
   none_out u v k p =
+      let ends = link_among g n.graph k p.link in
       ⊎_elim (λ e. closed (subst (λ x. 1 ≤ x) e.0 (omega (arith, ends))) (subst (λ x. x ≤ g.nodes) e.0 (omega (arith, ends))))
       (λ e. closed (subst (λ x. 1 ≤ x) e.1 (omega (arith, ends))) (subst (λ x. x ≤ g.nodes) e.1 (omega (arith, ends)))) p.ends
     where
-      ends : (1 ≤ k.a) × (k.a < k.b) × (k.b ≤ g.nodes)
-      ends = All-contains (λ (x : Key). (1 ≤ x.a) × (x.a < x.b) × (x.b ≤ g.nodes)) g.keys k n.graph.among p.link
-
       closed : 1 ≤ u → u ≤ g.nodes → ⊥
       closed lo hi = p.out (whole u lo hi k u v p.link p.ends refl)
 

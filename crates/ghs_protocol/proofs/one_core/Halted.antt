@@ -20,14 +20,15 @@ use Rattle.ghs_protocol.proofs.lemmas.Sends.{node_here, node_there}
 use Rattle.ghs_protocol.proofs.lemmas.WellFormed.{AreNodes}
 use Rattle.ghs_protocol.proofs.clauses.Scene.{Ghost, Scene, scene, see, tree_end, end, far_end, forest}
 use Rattle.ghs_protocol.proofs.clauses.Fragments.{IsJoinedIn}
-use Rattle.ghs_protocol.proofs.clauses.Floors.{Floor, lower, Sound}
+use Rattle.ghs_protocol.proofs.clauses.Floors.{lower, Sound}
 use Rattle.ghs_protocol.proofs.clauses.Wiring.{Ground}
 use Rattle.ghs_protocol.proofs.clauses.Whole.{NamesOf}
 use Rattle.ghs_protocol.proofs.rest.Halt.{Back, Old, Half, heard_at_rest}
 use Rattle.ghs_protocol.proofs.rows.Link.{joined_in, joined_clauses}
 use Rattle.ghs_protocol.proofs.rows.Read.{tree_first}
-use Rattle.ghs_protocol.proofs.acts.Floors.{near_fits, far_fits, leads_above}
+use Rattle.ghs_protocol.proofs.acts.Floors.{near_fits, far_fits, leads_above, none_lower}
 use Rattle.ghs_protocol.proofs.acts.Situations.{begun_at_top}
+use Rattle.ghs_protocol.proofs.clauses.Nodes.{IsAtTop}
 
 -- the node has the coming name's link, joined, or no link
 pub data AtCore (g : Network) (w : Scene) (v : ℕ) : Type 0 where
@@ -37,7 +38,7 @@ pub data AtCore (g : Network) (w : Scene) (v : ℕ) : Type 0 where
 -- no link leaves the fragment of v, and v is at its level and at its core
 pub record IsCoreNode (g : Network) (w : Scene) (v : ℕ) : Type 0 where
   pub whole : (t p : ℕ) → At g t p → (w.at t).fragment ≡ (w.at v).fragment → (w.at (far g t p)).fragment ≡ (w.at v).fragment
-  pub top : (w.at v).head.level ≡ (w.at v).coming
+  pub top : IsAtTop (w.at v)
   pub core : AtCore g w v
 
 -- a row that halts
@@ -54,9 +55,6 @@ module _ (g : Network) (ground : Ground g) (w : Scene) (s : Sound g w) (u : ℕ)
       (rests : (w.at u).head.phase ≡ Found) (best : (w.at u).head.best ≡ None) where
     no_key : (o : Option Key) → o ≡ None → below None o ≡ true → ⊥
     no_key o e h = cc
-
-    none_lower : (b : Floor) → b ≡ Some None → lower (Some None) b ≡ true
-    none_lower b e = rw e refl
 
     halts_so : Back (NamesOf g w (w.at u).fragment) (tree_end (end g w u j)) (tree_end (far_end g w u j)) None ms → IsCoreNode g w u
     halts_so (Old c h x) = absurd (let z = h.worse in cc)

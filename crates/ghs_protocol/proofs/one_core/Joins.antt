@@ -8,7 +8,7 @@ use Rattle.ghs_node.specs.Laws.{MarkChange, Stays, To_branch, To_rejected}
 use Rattle.ghs_node.specs.NodeState.{NodeState, mark_at, with_mark}
 use Rattle.ghs_node.specs.Reaction.{after}
 use Rattle.ghs_node.specs.Words.{is_branch}
-use Rattle.ghs_node.proofs.lemmas.{mark_set, awake_marks}
+use Rattle.ghs_node.proofs.lemmas.{mark_set, awake_marks, branch_mark}
 use Rattle.ghs_protocol.specs.Network.{Network, At, InNetwork, far, far_port}
 use Rattle.ghs_protocol.specs.Net.{Net, put, put_at, take_first}
 use Rattle.ghs_protocol.specs.Marks.{Leads, Here, Over}
@@ -25,7 +25,6 @@ use Rattle.ghs_protocol.proofs.clauses.Scene.{Ghost, scene, forest}
 use Rattle.ghs_protocol.proofs.clauses.Fragments.{IsJoinedIn}
 use Rattle.ghs_protocol.proofs.clauses.Whole.{Invariant}
 use Rattle.ghs_protocol.proofs.clauses.Growing.{Grows, As_it_was, Meets, Takes_in}
-use Rattle.ghs_protocol.proofs.acts.SameForest.{branch_mark}
 use Rattle.ghs_protocol.proofs.search.FirstReport.{mark_is}
 use Rattle.ghs_protocol.proofs.rows.Link.{link_fits'}
 use Rattle.ghs_protocol.proofs.one_core.Connects.{one_if_branch, not_one, wake_change}

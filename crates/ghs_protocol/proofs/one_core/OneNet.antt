@@ -1,5 +1,5 @@
 -- Two nets where nothing waits are the same in each component that has woken in both.
-use Rattle.std.proofs.Common.{◌≡◌, ◌≢◌, ℕ, zero, suc, ◌<◌, Bool, true, false, Option, Some, None, length, refl, sym, ◌∙◌, ap, arith}
+use Rattle.std.proofs.Common.{◌≡◌, ◌≢◌, ℕ, zero, suc, ◌<◌, Option, Some, None, length, refl, sym, ◌∙◌, ap, arith}
 use Rattle.std.proofs.lemmas.List.{same_lists, get_or_default}
 use Rattle.ghs_graph.specs.Graph.{Shape}
 use Rattle.ghs_graph.specs.Links.{Joined, links}
@@ -17,13 +17,15 @@ use Rattle.ghs_protocol.proofs.clauses.Fragments.{IsJoinedIn}
 use Rattle.ghs_protocol.proofs.lemmas.Graphs.{is_key}
 use Rattle.ghs_protocol.proofs.lemmas.Nodes.{ports_many}
 use Rattle.ghs_protocol.proofs.acts.Grounds.{graph_ground}
-use Rattle.ghs_protocol.proofs.acts.SameForest.{branch_mark}
 use Rattle.ghs_protocol.proofs.every_run.Trees.{leads_join}
 use Rattle.ghs_protocol.proofs.one_core.Runs.{simulated, merges_alike}
-use Rattle.ghs_protocol.proofs.one_core.Quiet.{u_is, node_of, living, core, same, c_awake, quiet, ended, fits, named, merges, rests, branches, tree_joined, halts}
+use Rattle.ghs_protocol.proofs.one_core.Quiet.{u_is, living, core, same, c_awake, quiet, ended, fits, named, merges, rests, branches, tree_joined, halts}
 use Rattle.ghs_protocol.proofs.one_core.Silent.{reach}
 use Rattle.ghs_protocol.proofs.one_core.SilentEnds.{no_basic, no_best}
 use Rattle.ghs_protocol.proofs.one_core.SameWays.{same_ways}
+use Rattle.ghs_protocol.proofs.every_run.Firsts.{formed}
+use Rattle.ghs_protocol.proofs.lemmas.Bools.{same_bool}
+use Rattle.ghs_node.proofs.lemmas.{branch_mark}
 
 -- one node of the component
 module _ (g : Shape) (w : Net) (u : ℕ) (q : IsQuietAt g w u) where
@@ -68,11 +70,6 @@ quiet_on g w u t q j = record {
   way = joined_then q.way j;
 }
 
-alike_bools : (a b : Bool) → (a ≡ true → b ≡ true) → (b ≡ true → a ≡ true) → a ≡ b
-alike_bools true b h l = sym (h refl)
-alike_bools false true h l = l refl
-alike_bools false false h l = refl
-
 alike_marks : (a b : Mark) → a ≢ Basic → b ≢ Basic → (a ≡ Branch → b ≡ Branch) → (b ≡ Branch → a ≡ Branch) → a ≡ b
 alike_marks Basic b na nb h l = absurd (na refl)
 alike_marks Branch b na nb h l = sym (h refl)
@@ -103,10 +100,10 @@ module _ (g : Shape) (w w' : Net) (u : ℕ) (q : IsQuietAt g w u) (q' : IsQuietA
       get_or_default (w'.node u).marks k Rejected d lt')
     where
       many : length (w.node u).marks ≡ length ((network_of g).ports u)
-      many = ports_many (node_of g w u q u)
+      many = ports_many ((formed g w q.net).nodes u)
 
       many' : length (w'.node u).marks ≡ length ((network_of g).ports u)
-      many' = ports_many (node_of g w' u q' u)
+      many' = ports_many ((formed g w' q'.net).nodes u)
 
   -- ways
   same_joined : (t p : ℕ) →
@@ -171,7 +168,7 @@ module _ (g : Shape) (w w' : Net) (u : ℕ) (q : IsQuietAt g w u) (q' : IsQuietA
       let count : (w.node u).head.find_count ≡ (w'.node u).head.find_count = a.2 ∙ sym b.2 in
       let best : (w.node u).head.best ≡ (w'.node u).head.best = best_none g w u q ∙ sym (best_none g w' u q') in
       let halted : (w.node u).head.halted ≡ (w'.node u).head.halted =
-      alike_bools (w.node u).head.halted (w'.node u).head.halted (halts_so g w w' u q q') (halts_so g w' w u q' q) in
+      same_bool (w.node u).head.halted (w'.node u).head.halted (halts_so g w w' u q q') (halts_so g w' w u q' q) in
       λ i. record {
         level = c.0 i;
         name = c.1 i;
@@ -185,8 +182,8 @@ module _ (g : Shape) (w w' : Net) (u : ℕ) (q : IsQuietAt g w u) (q' : IsQuietA
 
   pub same_node : w.node u ≡ w'.node u
   same_node =
-      let a = node_of g w u q u in
-      let b = node_of g w' u q' u in
+      let a = (formed g w q.net).nodes u in
+      let b = (formed g w' q'.net).nodes u in
       let number : (w.node u).number ≡ (w'.node u).number = a.number ∙ sym b.number in
       let keys : (w.node u).keys ≡ (w'.node u).keys = a.keys ∙ sym b.keys in
       λ i. record { number = number i; keys = keys i; marks = same_marks g w w' u q q' i; head = same_head i }

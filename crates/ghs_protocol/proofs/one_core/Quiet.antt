@@ -9,7 +9,6 @@ use Rattle.ghs_node.specs.declared.message.Phase.TheVariants.{Sleeping, Find, Fo
 use Rattle.ghs_node.specs.NodeState.{mark_at}
 use Rattle.ghs_protocol.specs.Network.{network_of, port_at, At, InNetwork}
 use Rattle.ghs_protocol.specs.Net.{Net}
-use Rattle.ghs_protocol.specs.Nodes.{IsNodeOf}
 use Rattle.ghs_protocol.specs.Marks.{HasHalted, IsJoined, Leads, Here, Over}
 use Rattle.ghs_protocol.specs.Living.{AnyLink}
 use Rattle.ghs_protocol.specs.Merging.{IsWhole}
@@ -18,18 +17,19 @@ use Rattle.ghs_protocol.proofs.clauses.Scene.{scene, see, unseen, forest}
 use Rattle.ghs_protocol.proofs.clauses.Fragments.{IsJoinedIn}
 use Rattle.ghs_protocol.proofs.clauses.Nodes.{NodeFits}
 use Rattle.ghs_protocol.proofs.clauses.UnderWay.{Living}
-use Rattle.ghs_protocol.proofs.lemmas.WellFormed.{after_formed}
 use Rattle.ghs_protocol.proofs.lemmas.Nodes.{ports_many}
-use Rattle.ghs_protocol.proofs.lemmas.Graphs.{graph_wired, graph_few, is_key, port_ends}
+use Rattle.ghs_protocol.proofs.lemmas.Graphs.{graph_wired, is_key, port_ends}
 use Rattle.ghs_protocol.proofs.acts.Grounds.{graph_ground}
 use Rattle.ghs_protocol.proofs.every_run.Trees.{leads_join}
-use Rattle.ghs_protocol.proofs.progress.Awaits.{Awaits, all_await}
+use Rattle.ghs_protocol.proofs.progress.Awaits.{net_lives, net_awaits}
 use Rattle.ghs_protocol.proofs.progress.Finish.{silent_nets_have_ended, silent_nets_are_exact, leads_inside}
 use Rattle.ghs_protocol.proofs.one_core.Halted.{IsCoreNode}
 use Rattle.ghs_protocol.proofs.one_core.Links.{joined_at}
 use Rattle.ghs_protocol.proofs.one_core.Runs.{Simulated, simulated, whole_of, is_core_end}
 use Rattle.ghs_protocol.proofs.one_core.Components.{joined_in, joined_whole}
-use Rattle.ghs_protocol.proofs.one_core.Silent.{top, found, core_is_root, core_halts, at_rest}
+use Rattle.ghs_protocol.proofs.one_core.Silent.{top, found, core_is_root, core_halts}
+use Rattle.ghs_protocol.proofs.lemmas.Woken.{at_rest}
+use Rattle.ghs_protocol.proofs.every_run.Firsts.{formed}
 
 module _ (g : Shape) (w : Net) (u : ℕ) (q : IsQuietAt g w u) where
   ok : IsGraph g
@@ -44,18 +44,8 @@ module _ (g : Shape) (w : Net) (u : ℕ) (q : IsQuietAt g w u) where
   pub u_is : InNetwork (network_of g) u
   u_is = let b = joined_in g q.net.graph q.way (q.some, q.node) in record { some = b.0; node = b.1 }
 
-  pub node_of : (t : ℕ) → IsNodeOf (network_of g) t (w.node t)
-  node_of = (after_formed (network_of g) (graph_wired g q.net.graph) (graph_few g q.net.graph) q.net.events w q.net.run).nodes
-
-  waits : (t : ℕ) → Awaits t (w.node t)
-  waits t = all_await (network_of g) (graph_wired g q.net.graph) (graph_few g q.net.graph) q.net.events w q.net.run t
-
   pub living : Living (network_of g) (scene w (simulated g w q.net).ghost)
-  living = record {
-    no_port = λ t is awake none. (waits t).halts awake (ports_many (node_of t) ∙ none);
-    awaits = λ t is. (waits t).search;
-    links = (simulated g w q.net).sound.lives;
-  }
+  living = net_lives g w q.net (simulated g w q.net).ghost (simulated g w q.net).sound.lives
 
   -- a node that has halted
   pub record Ended : Type 0 where
@@ -198,7 +188,7 @@ module _ (g : Shape) (w : Net) (u : ℕ) (q : IsQuietAt g w u) where
       (core_is_root (network_of g) (graph_ground g q.net.graph) (scene w (simulated g w q.net).ghost) (simulated g w q.net).sound.first living quiet
       ended.node ended.is c_awake core.whole u p at same (sym named ∙ e))
       same
-  ends_halt (By_itself none e l) = (waits u).halts stands.awake (ports_many (node_of u) ∙ none)
+  ends_halt (By_itself none e l) = (net_awaits g w q.net u).halts stands.awake (ports_many ((formed g w q.net).nodes u) ∙ none)
 
   pub halts : HasHalted w u ↔ IsCoreEnd (network_of g) w u
   halts = (λ h. is_core_end g w q.net u u_is.some u_is.node h, ends_halt)

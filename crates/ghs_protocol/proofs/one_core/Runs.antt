@@ -31,7 +31,6 @@ use Rattle.ghs_protocol.proofs.lemmas.Graphs.{graph_wired, graph_few, is_key}
 use Rattle.ghs_protocol.proofs.lemmas.Lasting.{AllLast, event_lasts}
 use Rattle.ghs_protocol.proofs.lemmas.Steps.{step_happens, run_by_steps}
 use Rattle.ghs_protocol.proofs.acts.Grounds.{graph_ground}
-use Rattle.ghs_protocol.proofs.acts.SameForest.{branch_mark}
 use Rattle.ghs_protocol.proofs.rows.Rows.{Stepped, step_grows, step_takes}
 use Rattle.ghs_protocol.proofs.every_run.Sound.{opening_sound}
 use Rattle.ghs_protocol.proofs.merging.OneEnd.{Stays, merging_on, whole_stays_on, one_core, singles_even}
@@ -41,6 +40,7 @@ use Rattle.ghs_protocol.proofs.one_core.Connects.{one_if_branch, not_one, branch
 use Rattle.ghs_protocol.proofs.lemmas.Sums.{ports_none}
 use Rattle.ghs_protocol.proofs.one_core.Joins.{one_if_joined, not_joined, joined_ports, step_branched, join_count}
 use Rattle.ghs_protocol.proofs.one_core.Halted.{AtCore, On_core, No_link, IsCoreNode, step_halts}
+use Rattle.ghs_node.proofs.lemmas.{branch_mark}
 
 -- the net's fragments are those of a state that merging leads to
 pub record Simulated (s : Shape) (w : Net) : Type 0 where

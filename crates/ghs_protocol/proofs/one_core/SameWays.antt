@@ -7,7 +7,8 @@ use Rattle.ghs_protocol.proofs.clauses.Fragments.{IsJoinedIn, Reach, At_root, By
 use Rattle.ghs_protocol.proofs.clauses.Wiring.{Ground}
 use Rattle.ghs_protocol.proofs.clauses.Whole.{Invariant}
 use Rattle.ghs_protocol.proofs.clauses.UnderWay.{Living}
-use Rattle.ghs_protocol.proofs.one_core.Silent.{Done, root_done, begun, core_is_root}
+use Rattle.ghs_protocol.proofs.one_core.Silent.{root_done, begun, core_is_root}
+use Rattle.ghs_protocol.proofs.progress.BothBegun.{BegunCore}
 
 module _ (g : Network) (ground : Ground g)
     (w : Scene) (holds : Invariant g w) (lives : Living g w) (silent : (v p : ℕ) → At g v p → w.seen v p ≡ unseen)
@@ -19,7 +20,7 @@ module _ (g : Network) (ground : Ground g)
     (joins : (t p : ℕ) → At g t p → (w.at t).fragment ≡ (w.at u).fragment → IsJoinedIn g (forest w) t p → IsJoinedIn g (forest w') t p) where
   -- the root link of the one is that of the other
   at_core : (t p : ℕ) → At g t p → (w'.at t).fragment ≡ (w'.at u').fragment → (w.at t).coming_name ≡ (w'.at t).coming_name →
-      Done g ground w holds lives silent u u_is awake whole t p → (w'.at t).up ≡ Some p
+      BegunCore g w t p → (w'.at t).up ≡ Some p
   at_core t p at same' named d =
       (core_is_root g ground w' holds' lives' silent' u' u'_is awake' whole' t p at same' (sym named ∙ d.named)).up
 

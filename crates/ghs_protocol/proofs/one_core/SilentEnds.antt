@@ -9,20 +9,18 @@ use Rattle.ghs_protocol.proofs.clauses.Scene.{Scene, unseen, forest}
 use Rattle.ghs_protocol.proofs.clauses.Floors.{Floor, lower, Sound}
 use Rattle.ghs_protocol.proofs.clauses.Wiring.{Ground}
 use Rattle.ghs_protocol.proofs.clauses.UnderWay.{Living}
-use Rattle.ghs_protocol.proofs.acts.Floors.{near_fits, above_root}
-use Rattle.ghs_protocol.proofs.acts.SameForest.{branch_mark}
+use Rattle.ghs_protocol.proofs.acts.Floors.{near_fits, above_root, none_lower}
 use Rattle.ghs_protocol.proofs.search.FirstReport.{mark_is}
 use Rattle.ghs_protocol.proofs.rows.Link.{link_fits}
 use Rattle.ghs_protocol.proofs.progress.Halves.{RootLink, turned}
-use Rattle.ghs_protocol.proofs.one_core.Silent.{Done, reach, top, found, root_of, best_none, begun}
+use Rattle.ghs_protocol.proofs.one_core.Silent.{reach, top, found, root_of, best_none, begun}
+use Rattle.ghs_protocol.proofs.progress.BothBegun.{BegunCore}
+use Rattle.ghs_node.proofs.lemmas.{branch_mark}
 
 infinite : (b : Floor) → lower (Some None) b ≡ true → b ≡ Some None
 infinite None h = cc
 infinite (Some None) h = refl
 infinite (Some (Some k)) h = absurd (let z : false ≡ true = h in cc)
-
-none_lower : (b : Floor) → b ≡ Some None → lower (Some None) b ≡ true
-none_lower b e = rw e refl
 
 no_key : (b : Floor) (k : Key) → b ≡ Some None → lower b (Some (Some k)) ≡ true → ⊥
 no_key b k e h = let z : lower (Some None) (Some (Some k)) ≡ true = subst (λ x. lower x (Some (Some k)) ≡ true) e h in let y : false ≡ true = z in cc
@@ -34,7 +32,7 @@ module _ (g : Network) (ground : Ground g) (w : Scene) (s : Sound g w) (lives : 
   module _ (a j : ℕ) (r : RootLink g (forest w) a j) (same : (w.at a).fragment ≡ (w.at u).fragment) where
     core_floor : (b i : ℕ) → RootLink g (forest w) b i → (w.at b).fragment ≡ (w.at u).fragment → s.floor b ≡ Some None
     core_floor b i l e =
-        let d : Done g ground w s.first lives silent u u_is awake whole b i = begun g ground w s.first lives silent u u_is awake whole b i l in
+        let d : BegunCore g w b i = begun g ground w s.first lives silent u u_is awake whole b i l in
         (near_fits g ground.wired w s.first s.floor s.floors b i l.at).core
         (record {
           both = record {
@@ -58,7 +56,7 @@ module _ (g : Network) (ground : Ground g) (w : Scene) (s : Sound g w) (lives : 
   floor_none t p at e = go (root_of g ground w s.first lives silent u u_is awake whole (reach g ground w s.first lives silent u u_is awake whole t p at e) e)
     where
       go :
-          (a : ℕ) × (j : ℕ) × ((w.at a).fragment ≡ (w.at u).fragment) × Done g ground w s.first lives silent u u_is awake whole a j →
+          (a : ℕ) × (j : ℕ) × ((w.at a).fragment ≡ (w.at u).fragment) × BegunCore g w a j →
           s.floor t ≡ Some None
       go (a, j, same, d) = floor_here a j d.link same t p at e
 

@@ -1,8 +1,7 @@
 -- Below a node that searches, where nothing else is under way, a node has a probe.
-use Rattle.std.proofs.Common.{◌≡◌, ◌≢◌, ℕ, zero, suc, ◌<◌, ◌≤◌, Bool, true, false, not, ◌&&◌, ◌||◌, Option, Some, None, length, if◌then◌else◌, refl, sym, ◌∙◌, ap, ap₂, subst, subst₂, ⊎_elim, arith, eqb-true}
+use Rattle.std.proofs.Common.{◌≡◌, ◌≢◌, ℕ, zero, suc, ◌<◌, ◌≤◌, Bool, true, false, not, ◌&&◌, ◌||◌, Option, Some, None, length, if◌then◌else◌, refl, sym, ◌∙◌, ap, ap₂, subst, subst₂, ⊎_elim, arith}
 use Rattle.ghs_node.specs.declared.mark.Mark.TheVariants.{Branch}
-use Rattle.ghs_node.specs.declared.message.Phase.{Phase}
-use Rattle.ghs_node.specs.declared.message.Phase.TheVariants.{Sleeping, Find, Found}
+use Rattle.ghs_node.specs.declared.message.Phase.TheVariants.{Find}
 use Rattle.ghs_node.specs.Words.{is_find, is_at, is_branch, is_zero, is_missing}
 use Rattle.ghs_protocol.specs.Network.{Network, At, far, far_port, InNetwork}
 use Rattle.ghs_protocol.proofs.lemmas.Wired.{IsWired}
@@ -14,9 +13,9 @@ use Rattle.ghs_protocol.proofs.clauses.Whole.{Invariant}
 use Rattle.ghs_protocol.proofs.clauses.UnderWay.{FindAwaits}
 use Rattle.std.proofs.lemmas.Option.{same_Some}
 use Rattle.ghs_protocol.proofs.acts.SameForest.{mark_branch}
-use Rattle.ghs_protocol.proofs.search.ReportGone.{at_it}
 use Rattle.ghs_protocol.proofs.progress.Depths.{IsChild, upwards}
 use Rattle.std.proofs.lemmas.Bool.{cases_Bool}
+use Rattle.ghs_node.proofs.lemmas.{at_is, find_is, is_at_is}
 
 -- a sum above 0 has a term above 0
 pub some_term : (n : ℕ) (f : ℕ → ℕ) → 1 ≤ sum_below n f → (i : ℕ) × (i < n) × (1 ≤ f i)
@@ -33,15 +32,6 @@ pub data Owed (e f : End) : Type 0 where
   By_call : has_call f.seen.tree ≡ true → Owed e f
   By_search : f.is.head.phase ≡ Find → f.is.head.in_branch ≡ Some f.port → Owed e f
 
-at_is : (o : Option ℕ) (p : ℕ) → is_at o p ≡ true → o ≡ Some p
-at_is None p h = cc
-at_is (Some q) p h = ap Some (eqb-true q p h)
-
-finds_is : (s : Phase) → is_find s ≡ true → s ≡ Find
-finds_is Find h = refl
-finds_is Found h = cc
-finds_is Sleeping h = cc
-
 pub owed_is : (e f : End) → owes e f ≡ true → Owed e f
 owed_is e f o =
     report (has_report e.seen.tree) (has_call f.seen.tree) (is_find f.is.head.phase) (is_at f.is.head.in_branch f.port) refl refl refl refl
@@ -56,7 +46,7 @@ owed_is e f o =
         Owed e f
     report true b c d h i j k o = By_report h
     report false true c d h i j k o = By_call i
-    report false false true true h i j k o = By_search (finds_is _ j) (at_is _ _ k)
+    report false false true true h i j k o = By_search (find_is _ j) (at_is _ _ k)
     report false false true false h i j k o = absurd (let z : false ≡ true = o in cc)
     report false false false d h i j k o = absurd (let z : false ≡ true = o in cc)
 
@@ -65,7 +55,7 @@ debt_is e f le = go (is_at e.is.up e.port) (owes e f) refl refl le
   where
     go : (a b : Bool) → is_at e.is.up e.port ≡ a → owes e f ≡ b → 1 ≤ (if not a && b then 1 else 0) → (e.is.up ≢ Some e.port) × (owes e f ≡ true)
     go true b h i le = absurd (omega (arith, le))
-    go false true h i le = ((λ z. let k : is_at e.is.up e.port ≡ true = at_it e.is.up e.port z in let y : true ≡ false = sym k ∙ h in cc), i)
+    go false true h i le = ((λ z. let k : is_at e.is.up e.port ≡ true = is_at_is e.is.up e.port z in let y : true ≡ false = sym k ∙ h in cc), i)
     go false false h i le = absurd (omega (arith, le))
 
 -- a node that searches and has a probe
@@ -100,11 +90,12 @@ module _ (g : Network) (wired : IsWired g) (w : Scene) (holds : Invariant g w) (
       away : is_branch ((w.at (far g z p)).mark (far_port g z p)) ≡ false → ⊥
       away h = let q = (holds.resting.out z p at (record { here = marked; there = mark_branch _ h })).found z is refl in cc (q, finds)
 
-  abbrev Q : ℕ → ℕ → Type 0
-  Q a v = InNetwork g v → (w.at v).fragment ≡ a → S v ≡ true → (w.at v).head.phase ≡ Find → Asker g w S a
+  -- a node of fragment a that searches leads to one that probes
+  abbrev LeadsToAsker : ℕ → ℕ → Type 0
+  LeadsToAsker a v = InNetwork g v → (w.at v).fragment ≡ a → S v ≡ true → (w.at v).head.phase ≡ Find → Asker g w S a
 
   owing : (a v p : ℕ) →
-      ((z : ℕ) → IsChild g (forest w) z v → Q a z) →
+      ((z : ℕ) → IsChild g (forest w) z v → LeadsToAsker a z) →
       At g v p →
       (w.at v).fragment ≡ a →
       S v ≡ true →
@@ -138,7 +129,7 @@ module _ (g : Network) (wired : IsWired g) (w : Scene) (holds : Invariant g w) (
         to = wired.back v p at;
       }
 
-  step : (a v : ℕ) → ((z : ℕ) → IsChild g (forest w) z v → Q a z) → Q a v
+  step : (a v : ℕ) → ((z : ℕ) → IsChild g (forest w) z v → LeadsToAsker a z) → LeadsToAsker a v
   step a v below is same m finds = go (w.at v).head.probe refl
     where
       count : is_missing (w.at v).head.probe ≡ true → 1 ≤ (w.at v).head.find_count
@@ -160,4 +151,4 @@ module _ (g : Network) (wired : IsWired g) (w : Scene) (holds : Invariant g w) (
 
   -- in a fragment that searches, without a call under way and without a Report but on the way, somebody probes
   pub someone_asks : (v : ℕ) → Reach g (forest w) v → InNetwork g v → S v ≡ true → (w.at v).head.phase ≡ Find → Asker g w S (w.at v).fragment
-  someone_asks v r is m finds = upwards g (forest w) (Q (w.at v).fragment) (step (w.at v).fragment) v r is refl m finds
+  someone_asks v r is m finds = upwards g (forest w) (LeadsToAsker (w.at v).fragment) (step (w.at v).fragment) v r is refl m finds

@@ -1,5 +1,5 @@
 -- Who searches waits for a Report or an answer; who is awake without ports has halted.
-use Rattle.std.proofs.Common.{◌≡◌, ◌≢◌, ℕ, Bool, true, false, ◌&&◌, Option, Some, None, List, [], ◌∷◌, length, refl, sym, ◌∙◌, ap, arith, length-set}
+use Rattle.std.proofs.Common.{◌≡◌, ◌≢◌, ℕ, Bool, true, false, ◌&&◌, Option, Some, None, List, [], ◌∷◌, length, refl, sym, ◌∙◌, ap, arith}
 use Rattle.ghs_node.specs.declared.head.Head.{Head}
 use Rattle.ghs_node.specs.declared.mark.Mark.{Mark}
 use Rattle.ghs_node.specs.declared.mark.Mark.TheVariants.{Branch}
@@ -11,14 +11,21 @@ use Rattle.ghs_node.specs.Words.{is_zero, is_missing, find_more, Outgoing}
 use Rattle.ghs_node.specs.NodeState.{NodeState, degree, with_mark}
 use Rattle.ghs_node.specs.Reaction.{after, at_wake, ends, Ending}
 use Rattle.ghs_node.specs.Rows.{AwakeRow, Closes, Reports, Waits, Settles, Probes, Exhausts, Connect_absorbed, Connect_waits, Connect_merges, Initiate_rests, Initiate_searches, Test_waits, Test_accepted, Test_rejected, Tests_cross, Accept_heard, Reject_heard, Report_heard, Report_waits, Report_moves_root, Report_halts, Report_passes, Root_moves}
-use Rattle.ghs_protocol.specs.Network.{Network}
+use Rattle.ghs_protocol.specs.Network.{Network, network_of}
 use Rattle.ghs_protocol.proofs.lemmas.Wired.{IsWired}
 use Rattle.ghs_protocol.specs.Net.{Net}
 use Rattle.ghs_protocol.specs.Run.{IsAfter}
 use Rattle.ghs_protocol.specs.Steps.{waking}
 use Rattle.ghs_protocol.proofs.lemmas.WellFormed.{HasFewPorts}
-use Rattle.ghs_protocol.proofs.lemmas.Nodes.{NodeKept, node_step}
+use Rattle.ghs_protocol.proofs.lemmas.Nodes.{NodeKept, node_step, ports_many}
 use Rattle.ghs_protocol.proofs.lemmas.Steps.{run_by_steps}
+use Rattle.ghs_protocol.specs.Laws.{IsNetOf}
+use Rattle.ghs_graph.specs.Graph.{Shape}
+use Rattle.ghs_protocol.proofs.lemmas.Graphs.{graph_wired, graph_few}
+use Rattle.ghs_protocol.proofs.every_run.Firsts.{formed}
+use Rattle.ghs_protocol.proofs.clauses.Scene.{Ghost, scene}
+use Rattle.ghs_protocol.proofs.clauses.UnderWay.{Lives, Living}
+use Rattle.ghs_node.proofs.lemmas.{length-with_mark}
 
 abbrev pub awaits : Head → Type 0
 awaits h = h.phase ≡ Find → (is_zero h.find_count && is_missing h.probe) ≡ false
@@ -82,10 +89,6 @@ row_halted n j m _ (Report_halts x y z) h = refl
 row_halted n j m _ (Report_passes x y z t) h = h
 row_halted n j m _ (Root_moves b k x) h = h
 
-same_degree : (ms : List Mark) (o : Option (ℕ × Mark)) → length (with_mark ms o) ≡ length ms
-same_degree ms None = refl
-same_degree ms (Some m) = length-set ms m.0 m.1
-
 awakes : (v : ℕ) (n : NodeState) → n.head.phase ≡ Sleeping → Awaits v (after n (waking n))
 awakes v n s = record { search = search n.marks; halts = halts n.marks refl }
   where
@@ -99,13 +102,13 @@ awakes v n s = record { search = search n.marks; halts = halts n.marks refl }
         ◌≡◌ {A = ℕ} (length (with_mark n.marks (at_wake n ms).mark)) 0 →
         (at_wake n ms).head.halted ≡ true
     halts [] e a z = refl
-    halts (m ∷ ms) e a z = absurd (let x = same_degree n.marks (Some (0, Branch)) in let y = ap length e in omega (arith, x, y, z))
+    halts (m ∷ ms) e a z = absurd (let x = length-with_mark n.marks (Some (0, Branch)) in let y = ap length e in omega (arith, x, y, z))
 
 pub kept : NodeKept Awaits
 kept = record {
   takes = λ v n j m d a up row. record {
     search = row_search n j m d a.search row;
-    halts = λ w z. row_halted n j m d row (a.halts up (sym (same_degree n.marks d.mark) ∙ z));
+    halts = λ w z. row_halted n j m d row (a.halts up (sym (length-with_mark n.marks d.mark) ∙ z));
   };
   wakes = λ v n a s. awakes v n s;
 }
@@ -117,3 +120,15 @@ module _ (g : Network) (wired : IsWired g) where
       run_by_steps g wired few (λ x. (v : ℕ) → Awaits v (x.node v)) (λ x y f i s. node_step g Awaits kept x y i s)
       (λ v. record { search = λ f. cc; halts = λ a z. absurd (a refl) })
       es w h
+
+-- in every net of a graph's run
+module _ (g : Shape) (w : Net) (n : IsNetOf g w) where
+  pub net_awaits : (v : ℕ) → Awaits v (w.node v)
+  net_awaits v = all_await (network_of g) (graph_wired g n.graph) (graph_few g n.graph) n.events w n.run v
+
+  pub net_lives : (gh : Ghost) → Lives (network_of g) (scene w gh) → Living (network_of g) (scene w gh)
+  net_lives gh lives = record {
+    no_port = λ v is awake none. (net_awaits v).halts awake (ports_many ((formed g w n).nodes v) ∙ none);
+    awaits = λ v is. (net_awaits v).search;
+    links = lives;
+  }

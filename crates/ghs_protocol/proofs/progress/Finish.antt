@@ -1,5 +1,5 @@
 -- Each run can be brought to its end.
-use Rattle.std.proofs.Common.{◌≡◌, ◌≢◌, ℕ, zero, suc, ◌<◌, ◌≤◌, ◌+◌, ◌*◌, Bool, true, false, Option, Some, None, List, [], ◌∷◌, ◌++◌, length, refl, sym, ◌∙◌, ap, subst, subst₂, ⊎_elim, ◌⊎◌, inl, inr, arith, cond, length-append, IsSome}
+use Rattle.std.proofs.Common.{◌≡◌, ◌≢◌, ℕ, zero, suc, ◌≤◌, ◌+◌, ◌*◌, Bool, true, false, Option, Some, None, List, [], ◌∷◌, ◌++◌, length, refl, sym, ◌∙◌, ap, subst, subst₂, ⊎_elim, ◌⊎◌, inl, inr, arith, cond, length-append, IsSome}
 use Rattle.std.specs.List.{All}
 use Rattle.std.proofs.lemmas.Bool.{cases_eq}
 use Rattle.std.proofs.lemmas.Option.{same_Some}
@@ -40,7 +40,7 @@ use Rattle.ghs_protocol.proofs.lemmas.Effects.{taken_here, taken_requeued}
 use Rattle.ghs_protocol.proofs.lemmas.Lasting.{event_lasts}
 use Rattle.ghs_protocol.proofs.every_run.Firsts.{ledger_balances}
 use Rattle.ghs_protocol.proofs.every_run.Interleavings.{events_have_rules}
-use Rattle.ghs_protocol.proofs.lemmas.Sums.{sum_most, sum_few}
+use Rattle.ghs_protocol.proofs.lemmas.Sums.{sum_most, sum_few, sum_less}
 use Rattle.ghs_protocol.proofs.lemmas.Woken.{awake_row}
 use Rattle.ghs_protocol.proofs.lemmas.WellFormed.{IsWellFormed, after_formed, opening_formed, event_formed, event_row}
 use Rattle.ghs_protocol.proofs.progress.Requeues.{fate_is, turned, turns, turn_happens}
@@ -49,21 +49,7 @@ use Rattle.ghs_protocol.proofs.every_run.Sound.{halt_is_exact}
 use Rattle.ghs_protocol.proofs.charges.Bound.{sends_within}
 use Rattle.ghs_protocol.proofs.progress.Runs.{no_run_is_stuck, silence_is_end}
 use Rattle.ghs_protocol.proofs.lemmas.Nodes.{node_before}
-
--- one term more
-sum_more : (n j : ℕ) (f h : ℕ → ℕ) → j < n → ((i : ℕ) → i < n → f i ≤ h i) → suc (f j) ≤ h j → suc (sum_below n f) ≤ sum_below n h
-sum_more zero j f h lt e s = absurd (omega arith)
-sum_more (suc n) j f h lt e s = ⊎_elim here (λ ne. before (sum_more n j f h) ne) (cases_eq j n)
-  where
-    here : j ≡ n → suc (sum_below n f + f n) ≤ sum_below n h + h n
-    here x =
-        let rest = sum_most n f h (λ i l. e i (omega arith)) in
-        let y : suc (f n) ≤ h n = subst (λ z. suc (f z) ≤ h z) x s in omega (arith, rest, y)
-
-    before : (j < n → ((i : ℕ) → i < n → f i ≤ h i) → suc (f j) ≤ h j → suc (sum_below n f) ≤ sum_below n h) →
-        j ≢ n →
-        suc (sum_below n f + f n) ≤ sum_below n h + h n
-    before ih ne = let rest = ih (omega (arith, lt, ne)) (λ i l. e i (omega arith)) s in let last = e n (omega arith) in omega (arith, rest, last)
+use Rattle.ghs_protocol.proofs.lemmas.Queues.{same_first}
 
 -- 1 where the node is awake
 abbrev pub awake_one : NodeState → ℕ
@@ -137,9 +123,6 @@ so_holds (inr p) h = absurd (p h)
 truth : (b : Bool) → (b ≡ true) ⊎ (b ≢ true)
 truth true = inl refl
 truth false = inr (λ e. cc)
-
-head_same : (x y : Message) (xs ys : List Message) → x ∷ xs ≡ y ∷ ys → x ≡ y
-head_same x y xs ys e = cc
 
 module _ (g : Shape) (graph : IsGraph g) where
   abbrev any : Key → Type 0
@@ -302,7 +285,7 @@ module _ (g : Shape) (graph : IsGraph g) where
           let hi = at.node in
           let same = i.1 in
           let s =
-          sum_more g.nodes i.0 (λ i. awake_one (w.node (suc i))) (λ i. awake_one ((taken (network_of g) v p m ms d w).node (suc i)))
+          sum_less g.nodes i.0 (λ i. awake_one (w.node (suc i))) (λ i. awake_one ((taken (network_of g) v p m ms d w).node (suc i)))
           (omega (arith, hi, same))
           (λ i lt.
           awake_stays (w.node (suc i)) ((taken (network_of g) v p m ms d w).node (suc i))
@@ -345,7 +328,7 @@ module _ (g : Shape) (graph : IsGraph g) where
       suc (reached (network_of g) w) ≤ reached (network_of g) w'
   gets_on w w' v p n m ms q goes h =
       ⊎_elim (λ z. z)
-      (λ z. absurd (goes (subst (Waits (w.node v) p) (head_same z.message m z.behind ms (sym z.queue ∙ q)) z.waits)))
+      (λ z. absurd (goes (subst (Waits (w.node v) p) (same_first z.message m z.behind ms (sym z.queue ∙ q)) z.waits)))
       (real w w' (Take v p) n v p refl h)
 
   pub advance : (w : Net) → IsNetOf g w → (S : ℕ → Bool) → GoesOn (network_of g) w S → Advance w
@@ -465,7 +448,7 @@ module _ (g : Network) (wired : IsWired g) where
       let up : ((reacted g v d w).node v).head.phase ≢ Sleeping = subst (λ (y : NodeState). y.head.phase ≢ Sleeping) (sym (node_here g v d w))
       (row_awake (w.node v) Wake d (reaction_inverts (w.node v) Wake d tt r)) in
       let t = awake_is ((reacted g v d w).node v) up in
-      sum_more g.count i.0 (λ i. awake_one (w.node (suc i))) (λ i. awake_one ((reacted g v d w).node (suc i))) (omega (arith, hi, same))
+      sum_less g.count i.0 (λ i. awake_one (w.node (suc i))) (λ i. awake_one ((reacted g v d w).node (suc i))) (omega (arith, hi, same))
       (λ i lt.
       awake_stays (w.node (suc i)) ((reacted g v d w).node (suc i))
       ((event_lasts g wired w (reacted g v d w) (events.Wake v) f (Woke v d lo hi s r) (suc i)).awake))

@@ -4,8 +4,7 @@ use Rattle.std.proofs.lemmas.Bool.{cases_lt, cases_Bool}
 use Rattle.ghs_graph.specs.declared.key.Key.{Key}
 use Rattle.ghs_node.specs.declared.mark.Mark.{Mark}
 use Rattle.ghs_node.specs.declared.mark.Mark.TheVariants.{Basic, Branch, Rejected}
-use Rattle.ghs_node.specs.declared.message.Phase.{Phase}
-use Rattle.ghs_node.specs.declared.message.Phase.TheVariants.{Sleeping, Find, Found}
+use Rattle.ghs_node.specs.declared.message.Phase.TheVariants.{Sleeping, Find}
 use Rattle.ghs_node.specs.declared.message.Message.{Message}
 use Rattle.ghs_node.specs.declared.message.Message.TheVariants.{Connect, Initiate, Test, Accept, Reject, Report, ChangeRoot}
 use Rattle.ghs_node.specs.NodeState.{NodeState, mark_at}
@@ -18,7 +17,9 @@ use Rattle.ghs_protocol.specs.Living.{Unended}
 use Rattle.ghs_protocol.proofs.clauses.UnderWay.{Living}
 use Rattle.ghs_protocol.proofs.tests.Links.{probe_is}
 use Rattle.ghs_protocol.proofs.acts.Situations.{is_find'}
-use Rattle.ghs_protocol.proofs.progress.Scenes.{ConnectsLeast, tree_waits, test_waits, AllOf, AllTests, SeenWaits, not_stuck}
+use Rattle.ghs_protocol.proofs.progress.Scenes.{ConnectsLeast, test_waits, AllTests, SeenWaits, not_stuck}
+use Rattle.ghs_protocol.proofs.lemmas.Woken.{asleep_or_not}
+use Rattle.ghs_protocol.proofs.progress.BothBegun.{tree_waits, AllOf}
 
 -- a message waits
 abbrev pub node_waits : NodeState → ℕ → Message → Type 0
@@ -62,11 +63,6 @@ module _ (g : Network) (w : Net) (gh : Ghost) (v p : ℕ) where
   seen_waits h = all_more (w.queue v p) unseen (record { tree = tt; tests = tt; accepts = refl; rejects = refl }) h
 
 -- it is decided
-asleep_is : (s : Phase) → (s ≡ Sleeping) ⊎ (s ≢ Sleeping)
-asleep_is Sleeping = inl refl
-asleep_is Find = inr (λ z. cc)
-asleep_is Found = inr (λ z. cc)
-
 basic_is : (x : Mark) → (x ≡ Basic) ⊎ (x ≢ Basic)
 basic_is Basic = inl refl
 basic_is Branch = inr (λ z. cc)
@@ -78,7 +74,7 @@ waits_is n p (Connect l) =
     ⊎_elim (λ lt. inr (λ h. let le = h.1 in omega (arith, le, lt))) (λ ge.
     ⊎_elim (λ b. inl (a, (omega (arith, ge)), b)) (λ ne. inr (λ h. ne h.2)) (basic_is (mark_at n p)))
     (cases_lt l n.head.level))
-    (asleep_is n.head.phase)
+    (asleep_or_not n.head.phase)
 waits_is n p (Report k) =
     ⊎_elim
     (λ a. ⊎_elim (λ b. inl (a, b)) (λ ne. inr (λ h. ne h.1)) (is_find' n.head.phase))
@@ -86,7 +82,7 @@ waits_is n p (Report k) =
 waits_is n p (Test l f) =
     ⊎_elim (λ s. inr (λ h. h.0 s))
     (λ a. ⊎_elim (λ lt. inl (a, lt)) (λ ge. inr (λ h. let lt = h.1 in omega (arith, lt, ge))) (cases_lt n.head.level l))
-    (asleep_is n.head.phase)
+    (asleep_or_not n.head.phase)
 waits_is n p (Initiate l f s) = inr (λ h. elim h [ ])
 waits_is n p ChangeRoot = inr (λ h. elim h [ ])
 waits_is n p Accept = inr (λ h. elim h [ ])

@@ -12,8 +12,9 @@ use Rattle.ghs_protocol.proofs.clauses.Fragments.{IsJoinedIn, Goes_out, Both_way
 use Rattle.ghs_protocol.proofs.clauses.Wiring.{IsKeyed}
 use Rattle.ghs_protocol.proofs.clauses.Whole.{Invariant}
 use Rattle.ghs_protocol.proofs.search.FirstReport.{mark_is}
-use Rattle.ghs_protocol.proofs.acts.SameForest.{branch_mark}
 use Rattle.ghs_protocol.proofs.progress.Depths.{IsChild, upwards}
+use Rattle.ghs_protocol.proofs.clauses.Nodes.{IsAtTop}
+use Rattle.ghs_node.proofs.lemmas.{branch_mark}
 
 -- u lies below x, by ways that are no root links
 pub data Side (g : Network) (s : Forest) (x : ℕ) : ℕ → Type 0 where
@@ -65,7 +66,7 @@ pub record Tip (g : Network) (w : Scene) (x : ℕ) (k : Key) (f : ℕ) : Type 0 
 
 -- who has reported k, its way being its in_branch
 pub record Stands (w : Scene) (k : Key) (v : ℕ) : Type 0 where
-  pub top : (w.at v).head.level ≡ (w.at v).coming
+  pub top : IsAtTop (w.at v)
   pub way : (w.at v).up ≡ (w.at v).head.in_branch
   pub best : best_key (w.at v).head.best ≡ Some k
 
@@ -86,8 +87,9 @@ module _ (g : Network) (wired : IsWired g) (w : Scene) (holds : Invariant g w) (
       (λ h. let z : true ≡ false = sym (subst₂ (λ x y. is_branch ((w.at x).mark y) ≡ true) (sym h.0) (sym h.1) r.joined.here) ∙ away in cc)
       (holds.trees.one_root v p a j at r.at (Goes_out (ap is_branch here) away) (Both_ways r.joined r.up r.up_beyond) same)
 
-  abbrev Q : ℕ → ℕ → Type 0
-  Q x v = InNetwork g v → (w.at v).fragment ≡ (w.at a).fragment → Side g (forest w) x v → Stands w k v → Tip g w x k (w.at a).fragment
+  -- a node on x's side that has reported k leads to the outgoing link of that key
+  abbrev LeadsToTip : ℕ → ℕ → Type 0
+  LeadsToTip x v = InNetwork g v → (w.at v).fragment ≡ (w.at a).fragment → Side g (forest w) x v → Stands w k v → Tip g w x k (w.at a).fragment
 
   bool_is : (b : Bool) → (b ≡ true) ⊎ (b ≡ false)
   bool_is true = inl refl
@@ -97,7 +99,7 @@ module _ (g : Network) (wired : IsWired g) (w : Scene) (holds : Invariant g w) (
   some_best None e = cc
   some_best (Some (q, l)) e = let same : l ≡ k = same_Some l k e in (q, ap (λ z. Some (q, z)) same)
 
-  step : (x v : ℕ) → ((z : ℕ) → IsChild g (forest w) z v → Q x z) → Q x v
+  step : (x v : ℕ) → ((z : ℕ) → IsChild g (forest w) z v → LeadsToTip x z) → LeadsToTip x v
   step x v below is same side st = go (some_best (w.at v).head.best st.best)
     where
       go : (q : ℕ) × ((w.at v).head.best ≡ Some (q, k)) → Tip g w x k (w.at a).fragment
@@ -158,8 +160,8 @@ module _ (g : Network) (wired : IsWired g) (w : Scene) (holds : Invariant g w) (
               ⊎_elim (λ there. reported here there) (λ away. absurd (no_out v q at same here away))
               (bool_is (is_branch ((w.at (far g v q)).mark (far_port g v q))))
 
-  pub tip : (x v : ℕ) → Reach g (forest w) v → Q x v
-  tip x v r' = upwards g (forest w) (Q x) (step x) v r'
+  pub tip : (x v : ℕ) → Reach g (forest w) v → LeadsToTip x v
+  tip x v r' = upwards g (forest w) (LeadsToTip x) (step x) v r'
 
   -- the two halves of a core don't report one key
   pub no_tie : IsKeyed g → InNetwork g (far g a j) → Stands w k a → Stands w k (far g a j) → ⊥

@@ -13,9 +13,10 @@ use Rattle.ghs_protocol.proofs.clauses.Whole.{Invariant}
 use Rattle.ghs_protocol.specs.Living.{Waits, Unended, GoesOn}
 use Rattle.ghs_protocol.proofs.clauses.UnderWay.{Living}
 use Rattle.ghs_protocol.specs.Living as living
-use Rattle.ghs_protocol.proofs.progress.Scenes.{ConnectsLeast, AllOf}
+use Rattle.ghs_protocol.proofs.progress.Scenes.{ConnectsLeast}
 use Rattle.ghs_protocol.proofs.progress.Found.{node_waits, Found_one, goes_on}
 use Rattle.ghs_protocol.proofs.progress.OneWaits.{few}
+use Rattle.ghs_protocol.proofs.progress.BothBegun.{AllOf}
 
 so : (n : NodeState) (p : ℕ) (x : Message) → node_waits n p x → Waits n p x
 so n p (Connect l) h = living.Connect_waits h.0 h.1 h.2

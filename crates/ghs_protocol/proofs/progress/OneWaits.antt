@@ -21,7 +21,7 @@ use Rattle.ghs_protocol.proofs.search.FirstReport.{Joint, Down_here, Down_there,
 use Rattle.ghs_protocol.proofs.acts.Situations.{probing_finds}
 use Rattle.ghs_protocol.proofs.tests.Links.{probe_is}
 use Rattle.ghs_protocol.proofs.progress.Found.{node_waits, Split}
-use Rattle.ghs_protocol.proofs.progress.Scenes.{AllOf}
+use Rattle.ghs_protocol.proofs.progress.BothBegun.{AllOf}
 
 -- a Report to a searching node comes from the other half of the core, which is done
 module _ {N : ℕ → Key → Type 0} (e f : TreeEnd) (he : TreeFits N e f) (hf : TreeFits N f e) (ups : Joins e f → Ups e ⊎ Ups f)

@@ -1,34 +1,28 @@
 -- No run is ever stuck.
 use Rattle.std.proofs.Common.{◌≡◌, ◌≢◌, ℕ, true, false, Some, length, sym, ◌∙◌, ap, subst, subst₂, ⊎_elim, arith, List, [], ◌∷◌, ◌++◌}
 use Rattle.ghs_graph.specs.Key.{key_lt}
-use Rattle.ghs_graph.specs.Graph.{Shape}
 use Rattle.ghs_node.specs.declared.mark.Mark.TheVariants.{Branch}
 use Rattle.ghs_node.specs.declared.message.Message.{Message}
 use Rattle.ghs_node.specs.declared.message.Phase.TheVariants.{Sleeping}
 use Rattle.ghs_node.specs.Words.{is_branch}
 use Rattle.ghs_protocol.specs.Network.{Network, network_of, port_at, At, far, far_port, InNetwork}
 use Rattle.ghs_protocol.proofs.lemmas.Wired.{IsWired}
-use Rattle.ghs_protocol.specs.Net.{Net}
-use Rattle.ghs_protocol.specs.Nodes.{IsNodeOf}
-use Rattle.ghs_protocol.specs.Laws.{IsNetOf}
 use Rattle.ghs_protocol.specs.Living.{SilenceIsEnd, NoRunIsStuck, OneWaits}
-use Rattle.ghs_protocol.proofs.clauses.UnderWay.{Living}
 use Rattle.ghs_protocol.proofs.clauses.Scene.{Scene, scene, forest}
 use Rattle.ghs_protocol.proofs.clauses.Nodes.{IsUp}
 use Rattle.ghs_protocol.proofs.clauses.Fragments.{Root, Goes_out, Both_ways, Reach, At_root, By_step}
 use Rattle.ghs_protocol.proofs.clauses.Whole.{Invariant}
 use Rattle.ghs_protocol.proofs.clauses.Floors.{Floor, lower, Floors}
-use Rattle.ghs_protocol.proofs.progress.Awaits.{Awaits, all_await}
-use Rattle.ghs_protocol.proofs.lemmas.Graphs.{graph_wired, graph_few}
-use Rattle.ghs_protocol.proofs.lemmas.Nodes.{ports_many}
-use Rattle.ghs_protocol.proofs.lemmas.WellFormed.{after_formed}
-use Rattle.ghs_protocol.proofs.acts.SameForest.{branch_mark, mark_branch}
+use Rattle.ghs_protocol.proofs.progress.Awaits.{net_lives}
+use Rattle.ghs_protocol.proofs.lemmas.Graphs.{graph_wired}
+use Rattle.ghs_protocol.proofs.acts.SameForest.{mark_branch}
 use Rattle.ghs_protocol.proofs.tests.Links.{probe_is}
 use Rattle.ghs_protocol.proofs.acts.Floors.{near_fits, lower_on, lower_self, not_above}
 use Rattle.ghs_protocol.proofs.every_run.Sound.{sound}
 use Rattle.ghs_protocol.proofs.progress.Nets.{back, progress}
 use Rattle.ghs_protocol.proofs.progress.OneWaits.{two_wait}
 use Rattle.ghs_protocol.proofs.acts.Grounds.{graph_ground}
+use Rattle.ghs_node.proofs.lemmas.{branch_mark}
 
 -- A Connect under way goes over the least link that leaves its fragment: its sender's floor is that link's key, and no floor of the
 -- fragment is below it.
@@ -104,24 +98,10 @@ pub goes_over_least : (g : Network) → IsWired g → (w : Scene) → Invariant 
 goes_over_least g wired w holds floor floors a j at mark free u q at' same out =
     over_least g wired w holds floor floors a j at mark free u q at' same out
 
-module _ (g : Shape) (w : Net) (n : IsNetOf g w) where
-  node_of : (v : ℕ) → IsNodeOf (network_of g) v (w.node v)
-  node_of = (after_formed (network_of g) (graph_wired g n.graph) (graph_few g n.graph) n.events w n.run).nodes
-
-  waits : (v : ℕ) → Awaits v (w.node v)
-  waits v = all_await (network_of g) (graph_wired g n.graph) (graph_few g n.graph) n.events w n.run v
-
-  living : Living (network_of g) (scene w (sound g w n).ghost)
-  living = record {
-    no_port = λ v is awake none. (waits v).halts awake (ports_many (node_of v) ∙ none);
-    awaits = λ v is. (waits v).search;
-    links = (sound g w n).holds.lives;
-  }
-
 pub no_run_is_stuck : NoRunIsStuck
 no_run_is_stuck g w n S u =
     let s = sound g w n in
-    progress (network_of g) (graph_ground g n.graph) w s.ghost s.holds.first (living g w n) S u
+    progress (network_of g) (graph_ground g n.graph) w s.ghost s.holds.first (net_lives g w n s.ghost s.holds.lives) S u
     (goes_over_least (network_of g) (graph_wired g n.graph) (scene w s.ghost) s.holds.first s.holds.floor s.holds.floors)
 
 -- a queue with such a message isn't empty

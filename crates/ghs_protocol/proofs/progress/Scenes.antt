@@ -1,7 +1,6 @@
 -- Where each message waits, a core node has halted: no run is ever stuck.
-use Rattle.std.proofs.Common.{◌≡◌, ◌≢◌, ℕ, zero, suc, ◌<◌, ◌≤◌, Bool, true, false, Option, Some, None, List, [], ◌∷◌, ◌++◌, length, refl, sym, ◌∙◌, ap, subst, subst₂, ⊎_elim, ◌⊎◌, inl, inr, arith}
+use Rattle.std.proofs.Common.{◌≡◌, ◌≢◌, ℕ, zero, suc, ◌<◌, ◌≤◌, Bool, true, false, Option, Some, None, List, [], ◌∷◌, length, refl, sym, ◌∙◌, ap, subst, subst₂, ⊎_elim, ◌⊎◌, inl, inr, arith}
 use Rattle.std.specs.Prelude.{⊤}
-use Rattle.std.proofs.lemmas.Bool.Decides.{nat_tests}
 use Rattle.ghs_graph.specs.declared.key.Key.{Key}
 use Rattle.ghs_graph.specs.Key.{key_lt}
 use Rattle.ghs_node.specs.declared.mark.Mark.TheVariants.{Basic, Branch}
@@ -11,10 +10,9 @@ use Rattle.ghs_node.specs.declared.message.Message.{Message}
 use Rattle.ghs_node.specs.declared.message.Message.TheVariants.{Connect, Initiate, Test, Accept, Reject, Report, ChangeRoot}
 use Rattle.ghs_node.specs.Words.{Best, is_branch, below, best_key}
 use Rattle.ghs_protocol.specs.Network.{Network, port_at, At, far, far_port, InNetwork}
-use Rattle.ghs_protocol.proofs.clauses.Scene.{Scene, Member, End, TreeEnd, end, tree_end, forest, Seen, far_end}
+use Rattle.ghs_protocol.proofs.clauses.Scene.{Scene, Member, End, end, tree_end, forest, Seen, far_end}
 use Rattle.ghs_protocol.proofs.clauses.Changes.{seen_beyond}
-use Rattle.ghs_protocol.proofs.clauses.Links.{Mutual}
-use Rattle.ghs_protocol.proofs.clauses.TreeMessages.{CoreFits, CoreQueue, Plain, With_report, Stage, Asking, Called, Begun, AtStage, asked, called, MovedFits, To_here, To_there, ConnectUnderWay}
+use Rattle.ghs_protocol.proofs.clauses.TreeMessages.{ConnectUnderWay}
 use Rattle.ghs_protocol.proofs.clauses.Tests.{AllFrom}
 use Rattle.ghs_protocol.proofs.clauses.Fragments.{Root, Goes_out, Both_ways, Reach, At_root, By_step}
 use Rattle.ghs_protocol.proofs.clauses.Rest.{has_call, has_report}
@@ -22,21 +20,15 @@ use Rattle.ghs_protocol.proofs.clauses.Wiring.{Ground}
 use Rattle.ghs_protocol.proofs.clauses.Whole.{Invariant, LinkFits, NamesOf}
 use Rattle.ghs_protocol.proofs.clauses.UnderWay.{Answering, Test_there, Accept_here, Reject_here, Crossed_here, CoreHeard, HeardBy, brought_to, Living}
 use Rattle.ghs_protocol.proofs.acts.OneLink.{at_near, at_far}
-use Rattle.ghs_protocol.proofs.search.FirstReport.{key_is}
 use Rattle.ghs_protocol.proofs.tests.Links.{probe_is}
-use Rattle.ghs_protocol.proofs.acts.SameForest.{branch_mark, mark_branch}
+use Rattle.ghs_protocol.proofs.acts.SameForest.{mark_branch}
 use Rattle.ghs_protocol.proofs.progress.Askers.{Asker, someone_asks}
 use Rattle.ghs_protocol.proofs.progress.Halves.{RootLink, Stands, no_tie}
 use Rattle.ghs_protocol.proofs.progress.KeyDescent.{key_descent}
 use Rattle.std.proofs.lemmas.Bool.{cases_Bool}
-
--- neither of two keys is below the other
-pub same_lt : (j k : Key) → key_lt j k ≡ false → key_lt k j ≡ false → j ≡ k
-same_lt j k a b =
-    let x : j.weight ≡ k.weight = grind (arith, nat_tests) in
-    let y : j.a ≡ k.a = grind (arith, nat_tests) in
-    let z : j.b ≡ k.b = grind (arith, nat_tests) in
-    (λ i. record { weight = x i; a = y i; b = z i })
+use Rattle.ghs_protocol.proofs.lemmas.Graphs.{same_key}
+use Rattle.ghs_protocol.proofs.progress.BothBegun.{BegunCore, both_begun, tree_waits, AllOf, first_of}
+use Rattle.ghs_node.proofs.lemmas.{branch_mark}
 
 -- neither of two bests is below the other: both are missing, or they have one key
 data Even (a b : Best) : Type 0 where
@@ -47,22 +39,9 @@ even : (a b : Best) → below (best_key a) (best_key b) ≡ false → below (bes
 even None None h i = Both_missing refl refl
 even None (Some y) h i = cc
 even (Some x) None h i = cc
-even (Some x) (Some y) h i = One_key x.1 refl (ap Some (sym (same_lt x.1 y.1 h i)))
+even (Some x) (Some y) h i = One_key x.1 refl (ap Some (sym (same_key x.1 y.1 h i)))
 
--- a tree message waits
-abbrev pub tree_waits : Member → ℕ → Message → Type 0
-tree_waits m p (Connect l) = (m.head.phase ≢ Sleeping) × (m.head.level ≤ l) × (m.mark p ≡ Basic)
-tree_waits m p (Report k) = (m.head.in_branch ≡ Some p) × (m.head.phase ≡ Find)
-tree_waits m p (Initiate l f s) = Prim.⊥
-tree_waits m p ChangeRoot = Prim.⊥
-tree_waits m p (Test l f) = Prim.⊥
-tree_waits m p Accept = Prim.⊥
-tree_waits m p Reject = Prim.⊥
-
-abbrev pub AllOf : (Message → Type 0) → List Message → Type 0
-AllOf P [] = ⊤
-AllOf P (x ∷ xs) = (P x) × AllOf P xs
-
+-- a Test waits
 abbrev pub test_waits : Member → ℕ × Key → Type 0
 test_waits m t = (m.head.phase ≢ Sleeping) × (m.head.level < t.0)
 
@@ -109,9 +88,6 @@ none_brought m p l (ChangeRoot ∷ xs) a = elim a.0 [ ]
 none_brought m p l (Test k f ∷ xs) a = elim a.0 [ ]
 none_brought m p l (Accept ∷ xs) a = elim a.0 [ ]
 none_brought m p l (Reject ∷ xs) a = elim a.0 [ ]
-
-first_of : (P : Message → Type 0) (x : Message) (xs ys : List Message) → ys ≡ x ∷ xs → AllOf P ys → P x
-first_of P x xs ys e a = let z : AllOf P (x ∷ xs) = subst (AllOf P) e a in z.0
 
 -- the tests that wait, one of them at least, are above the reader
 above : (m : Member) (l : ℕ) (n : Option Key) (ts : List (ℕ × Key)) →
@@ -172,10 +148,6 @@ module _ (g : Network) (ground : Ground g) (w : Scene) (holds : Invariant g w) (
         root = z.root;
       }
 
-  -- two nodes of one fragment come to one level
-  alike : (u v : ℕ) → (w.at u).fragment ≡ (w.at v).fragment → (w.at u).coming ≡ (w.at v).coming
-  alike u v e = (holds.trees.by_fragment u v e).0
-
   -- the Connect under way on a port that is Branch here alone
   connect : (a j : ℕ) →
       At g a j →
@@ -215,95 +187,17 @@ module _ (g : Network) (ground : Ground g) (w : Scene) (holds : Invariant g w) (
     there : (w.at (far g a j)).mark (far_port g a j) ≡ Branch
     there = branch_mark _ r.joined.there
 
-    near : AllOf (tree_waits (w.at a) j) (w.seen a j).tree
-    near = (stuck a j r.at m).tree
-
-    away : AllOf (tree_waits (w.at (far g a j)) (far_port g a j)) (seen_beyond g w a j).tree
-    away = (stuck (far g a j) (far_port g a j) at' m').tree
-
-    two_ways : Mutual (tree_end (end g w a j)) (tree_end (end g w (far g a j) (far_port g a j)))
-    two_ways = record { joins = record { here = here; there = there }; up = r.up; up_beyond = r.up_beyond }
-
-    -- no ChangeRoot is under way
-    moved : (w.at a).coming_name ≢ Some (port_at g a j).key → ⊥
-    moved ne = go ((holds.links a j r.at).tree.moved_root (record { both = two_ways; unnamed = ne }))
-      where
-        go : MovedFits (tree_end (end g w a j)) (tree_end (end g w (far g a j) (far_port g a j))) → ⊥
-        go (To_here x) = first_of (tree_waits (w.at a) j) ChangeRoot [] _ x.queue near
-        go (To_there x) = first_of (tree_waits (w.at (far g a j)) (far_port g a j)) ChangeRoot [] _ x.queue away
-
     -- both ends have begun
-    pub record Done : Type 0 where
-      pub named : (w.at a).coming_name ≡ Some (port_at g a j).key
-      pub top : (w.at a).head.level ≡ (w.at a).coming
-      pub top' : (w.at (far g a j)).head.level ≡ (w.at (far g a j)).coming
-
-    abbrev e0 : TreeEnd
-    e0 = tree_end (end g w a j)
-
-    abbrev f0 : TreeEnd
-    f0 = tree_end (end g w (far g a j) (far_port g a j))
+    pub begun : BegunCore g w a j
+    begun =
+        both_begun g w holds a j r (stuck a j r.at m).tree
+        (stuck (far g a j) (far_port g a j) (ground.wired.there a j r.at) (closed a j r.at m)).tree
 
     abbrev e1 : End
     e1 = end g w a j
 
     abbrev f1 : End
     f1 = far_end g w a j
-
-    -- no Connect and no Initiate stands in a queue of the core
-    no_asked : (x : Member) (p l v : ℕ) (n : Key) (s t : Stage) →
-        x.mark p ≡ Branch →
-        AllOf (tree_waits x p) (asked l t ++ called v n s) →
-        (s ≢ Called) × (t ≢ Asking)
-    no_asked x p l v n s Asking b h =
-        absurd (let z : (x.head.phase ≢ Sleeping) × (x.head.level ≤ l) × (x.mark p ≡ Basic) = h.0 in let y : Branch ≡ Basic = sym b ∙ z.2 in cc)
-    no_asked x p l v n Called Called b h = elim h.0 [ ]
-    no_asked x p l v n Called Begun b h = elim h.0 [ ]
-    no_asked x p l v n Asking Called b h = ((λ z. cc), (λ z. cc))
-    no_asked x p l v n Asking Begun b h = ((λ z. cc), (λ z. cc))
-    no_asked x p l v n Begun Called b h = ((λ z. cc), (λ z. cc))
-    no_asked x p l v n Begun Begun b h = ((λ z. cc), (λ z. cc))
-
-    not_called : (x : Member) (p v : ℕ) (n : Key) (s : Stage) (k : Option Key) → AllOf (tree_waits x p) (called v n s ++ Report k ∷ []) → s ≢ Called
-    not_called x p v n Called k h = elim h.0 [ ]
-    not_called x p v n Asking k h = λ z. cc
-    not_called x p v n Begun k h = λ z. cc
-
-    begun_not_asking : (t : Stage) → t ≡ Begun → t ≢ Asking
-    begun_not_asking t e h = let z : Begun ≡ Asking = sym e ∙ h in cc
-
-    done : (w.at a).coming_name ≡ Some (port_at g a j).key → Done
-    done named = go ((holds.links a j r.at).tree.core_queues (record { both = two_ways; named = named }))
-      where
-        one : (x y : Stage) → CoreQueue e0 f0 x y → (x ≢ Called) × (y ≢ Asking)
-        one x y (Plain z) = no_asked (w.at a) j f0.level e0.coming e0.key x y here (subst (AllOf (tree_waits (w.at a) j)) z near)
-        one x y (With_report k z s p c) =
-            (not_called (w.at a) j e0.coming e0.key x k (subst (AllOf (tree_waits (w.at a) j)) z near), begun_not_asking y s)
-
-        two : (x y : Stage) → CoreQueue f0 e0 y x → (y ≢ Called) × (x ≢ Asking)
-        two x y (Plain z) =
-            no_asked (w.at (far g a j)) (far_port g a j) e0.level f0.coming f0.key y x there
-            (subst (AllOf (tree_waits (w.at (far g a j)) (far_port g a j))) z away)
-        two x y (With_report k z s p c) = (
-          not_called (w.at (far g a j)) (far_port g a j) f0.coming f0.key y k
-              (subst (AllOf (tree_waits (w.at (far g a j)) (far_port g a j))) z away),
-          begun_not_asking x s,
-        )
-
-        both_begun : (x y : Stage) → AtStage e0 x → AtStage f0 y → x ≢ Called → x ≢ Asking → y ≢ Called → y ≢ Asking → Done
-        both_begun Begun Begun p c h i k l = record { named = named; top = p; top' = c }
-        both_begun Called y p c h i k l = absurd (h refl)
-        both_begun Asking y p c h i k l = absurd (i refl)
-        both_begun Begun Called p c h i k l = absurd (k refl)
-        both_begun Begun Asking p c h i k l = absurd (l refl)
-
-        go : CoreFits e0 f0 → Done
-        go z =
-            let x = one z.here z.there z.queue in
-            let y = two z.here z.there z.queue_beyond in both_begun z.here z.there z.at_here z.at_there x.0 y.1 y.0 x.1
-
-    pub begun : Done
-    begun = ⊎_elim done (λ ne. absurd (moved ne)) (key_is (w.at a).coming_name (port_at g a j).key)
 
     no_reports : (v p : ℕ) → At g v p → S v ≡ true → (w.at v).head.phase ≡ Found → has_report (w.seen v p).tree ≡ false
     no_reports v p at y f =
@@ -369,7 +263,7 @@ module _ (g : Network) (ground : Ground g) (w : Scene) (holds : Invariant g w) (
       by_child ne top =
           let b = lives.links.brought v p at (branch_mark _ joined.here, branch_mark _ joined.there, up, ne) in
           sym (none_brought (w.at v) p (w.at v).head.level (w.seen v p).tree (stuck v p at m).tree) ∙ b ∙ top ∙
-          alike (far g v p) v (sym (holds.trees.joined_within v p at joined))
+          (holds.trees.by_fragment (far g v p) v (sym (holds.trees.joined_within v p at joined))).0
 
   top : (v : ℕ) → InNetwork g v → S v ≡ true → (w.at v).head.phase ≢ Sleeping → (w.at v).head.level ≡ (w.at v).coming
   top v is m awake = levels (reach v is m awake) m
@@ -410,7 +304,7 @@ module _ (g : Network) (ground : Ground g) (w : Scene) (holds : Invariant g w) (
           m' = closed k.node k.port at k.member
 
           level : (w.at k.node).head.level ≡ (w.at v).coming
-          level = ((holds.nodes k.node k.is).searching k.finds).level ∙ alike k.node v k.inside
+          level = ((holds.nodes k.node k.is).searching k.finds).level ∙ (holds.trees.by_fragment k.node v k.inside).0
 
           lower :
               ((w.at (far g k.node k.port)).head.phase ≢ Sleeping) × ((w.at (far g k.node k.port)).head.level < (w.at k.node).head.level) →
@@ -457,7 +351,7 @@ module _ (g : Network) (ground : Ground g) (w : Scene) (holds : Invariant g w) (
   next v is m awake = by_root (root_of (reach v is m awake) m)
     where
       lower : (x : ℕ) → (w.at x).fragment ≡ (w.at v).fragment → (l : ℕ) × (l < (w.at x).coming) × At_level l → Next v
-      lower x e t = let lt = t.1 in let c = alike x v e in Lower t.0 (omega (arith, lt, c)) t.2
+      lower x e t = let lt = t.1 in let c = (holds.trees.by_fragment x v e).0 in Lower t.0 (omega (arith, lt, c)) t.2
 
       phase_of : (x p : ℕ) → At g x p → (w.at x).mark p ≡ Branch → ((w.at x).head.phase ≡ Found) ⊎ ((w.at x).head.phase ≡ Find)
       phase_of x p at b = go (w.at x).head.phase refl
@@ -531,7 +425,7 @@ module _ (g : Network) (ground : Ground g) (w : Scene) (holds : Invariant g w) (
           go (Outward o) =
               ⊎_elim (λ h.
               r (port_at g o.node o.port).key (subst (λ z. key_lt (port_at g o.node o.port).key z ≡ true) e h) o.node o.port o.at o.member
-              (alike o.node (far g a j) o.same ∙ comes) o.here o.away refl)
+              ((holds.trees.by_fragment o.node (far g a j) o.same).0 ∙ comes) o.here o.away refl)
               (λ h. same h) (cases_Bool _)
             where
               not_less : key_lt (port_at g a j).key (port_at g o.node o.port).key ≡ false
@@ -546,7 +440,7 @@ module _ (g : Network) (ground : Ground g) (w : Scene) (holds : Invariant g w) (
                   (λ t.
                   let b : (w.at (far g a j)).mark (far_port g a j) ≡ Branch = subst₂ (λ z q. (w.at z).mark q ≡ Branch) (sym t.0) (sym t.1) o.here in
                   let x : Basic ≡ Branch = sym waits.2 ∙ b in cc)
-                  (ground.keyed a j o.node o.port at o.at (same_lt _ _ not_less h))
+                  (ground.keyed a j o.node o.port at o.at (same_key _ _ not_less h))
 
       none_at : At_level l → ⊥
       none_at z = go (next z.node z.is z.member z.awake)
@@ -554,8 +448,8 @@ module _ (g : Network) (ground : Ground g) (w : Scene) (holds : Invariant g w) (
           go : Next z.node → ⊥
           go (Lower x lt y) = low x (let c = z.comes in omega (arith, lt, c)) y
           go (Outward o) =
-              key_descent P out_step (port_at g o.node o.port).key o.node o.port o.at o.member (alike o.node z.node o.same ∙ z.comes) o.here o.away
-              refl
+              key_descent P out_step (port_at g o.node o.port).key o.node o.port o.at o.member
+              ((holds.trees.by_fragment o.node z.node o.same).0 ∙ z.comes) o.here o.away refl
 
     below_level : (n l : ℕ) → l < n → At_level l → ⊥
     below_level zero l lt z = omega (arith, lt)

@@ -32,7 +32,7 @@ use Rattle.ghs_protocol.specs.Schedules.{OthersLeaveAlone, NothingIsReady, AllMa
 use Rattle.ghs_protocol.proofs.lemmas.Effects.{taken_there}
 use Rattle.ghs_protocol.proofs.lemmas.Events.{happening, happens_so, is_node_of, is_port_of, taken_at}
 use Rattle.ghs_protocol.proofs.lemmas.Graphs.{graph_wired, is_key}
-use Rattle.ghs_protocol.proofs.lemmas.Nodes.{ports_many}
+use Rattle.ghs_protocol.proofs.lemmas.Nodes.{ports_many, node_before}
 use Rattle.ghs_protocol.proofs.lemmas.Lasting.{AllLast, event_lasts, run_lasts}
 use Rattle.ghs_protocol.proofs.lemmas.Runs.{both_some, run_joins, run_keeps, run_more}
 use Rattle.ghs_protocol.proofs.lemmas.Sends.{node_here, node_there}
@@ -45,6 +45,7 @@ use Rattle.ghs_protocol.proofs.every_run.Trees.{leads_join}
 use Rattle.ghs_protocol.proofs.progress.Runs.{no_run_is_stuck}
 use Rattle.ghs_protocol.proofs.progress.Finish.{reached, component, formed, later, can_take, gets_on, most, grows, going, finishes, leads_inside, run_short, silent_nets_have_ended}
 use Rattle.ghs_protocol.proofs.progress.Rounds.{wake_gets_on}
+use Rattle.ghs_protocol.proofs.lemmas.Queues.{same_first}
 
 -- Other nodes' events.
 
@@ -197,9 +198,6 @@ fate_told : (f : Fate) → (f ≡ Requeued) ⊎ (f ≢ Requeued)
 fate_told Requeued = inl refl
 fate_told Consumed = inr (λ e. cc)
 
-same_first : (m k : Message) (ms ks : List Message) → m ∷ ms ≡ k ∷ ks → m ≡ k
-same_first m k ms ks e = cc
-
 -- the reaction by which a message is taken
 taken_by : {g : Network} {w : Net} {v p : ℕ} {x : Net} →
     Happens g w (events.Take v p) x →
@@ -263,14 +261,10 @@ module _ (g : Shape) (ok : IsGraph g) (w : Net) (n : IsNetOf g w) where
   anywhere =
       ⊎_elim inl (λ all.
       inr (λ v p at.
-      (let i = before v at.some in
+      (let i = node_before v at.some in
       let e = i.1 in subst (λ u. (p : ℕ) → WaitsAt u p) (sym e) (all i.0 (let hi = at.node in omega (arith, e, hi))))
       p at))
       (look (λ i. (p : ℕ) → WaitsAt (suc i) p) g.nodes (λ i lt. at_node (suc i) (omega arith) (omega (arith, lt))))
-    where
-      before : (v : ℕ) → 1 ≤ v → (i : ℕ) × (v ≡ suc i)
-      before zero lo = absurd (omega (arith, lo))
-      before (suc i) lo = (i, refl)
 
   -- a Take that is a patient choice
   abbrev Choice : Type 0

@@ -3,7 +3,6 @@ use Rattle.std.proofs.Common.{◌≡◌, ◌≢◌, ℕ, Bool, true, false, ◌|
 use Rattle.std.proofs.lemmas.Option.{same_Some}
 use Rattle.ghs_graph.specs.declared.key.Key.{Key}
 use Rattle.ghs_node.specs.Words.{is_branch}
-use Rattle.ghs_node.specs.declared.message.Phase.{Phase}
 use Rattle.ghs_node.specs.declared.message.Phase.TheVariants.{Sleeping, Find, Found}
 use Rattle.ghs_node.specs.declared.message.Message.{Message}
 use Rattle.ghs_node.specs.declared.message.Message.TheVariants.{Report}
@@ -19,11 +18,12 @@ use Rattle.ghs_protocol.proofs.clauses.Rest.{Quiet, owes, has_call, has_report}
 use Rattle.ghs_protocol.proofs.clauses.Whole.{LinkFits, Invariant, NamesOf}
 use Rattle.ghs_protocol.proofs.acts.OneLink.{at_near, at_far}
 use Rattle.ghs_protocol.proofs.search.FirstReport.{Joint, joint, Down_here, Down_there, On_core, On_moved, mark_is}
-use Rattle.ghs_protocol.proofs.search.ReportGone.{at_it}
 use Rattle.ghs_protocol.proofs.tests.Links.{probe_is}
 use Rattle.ghs_protocol.proofs.rest.Halt.{owed_finds}
 use Rattle.ghs_protocol.proofs.lemmas.Wires.{at_in}
 use Rattle.ghs_protocol.proofs.acts.Situations.{all_awake}
+use Rattle.ghs_protocol.proofs.lemmas.Woken.{at_rest}
+use Rattle.ghs_node.proofs.lemmas.{is_at_is}
 
 -- a call waits: its receiver's way leads to the sender
 pub data CalledTo (e f : TreeEnd) : Type 0 where
@@ -109,11 +109,6 @@ has_port : {g : Network} {S : ℕ → ℕ → Type 0} {v u : ℕ} → Leads g S 
 has_port Here j at = (j, at)
 has_port (Over p at s l) j _ = (p, at)
 
-at_rest : (s : Phase) → s ≢ Find → s ≢ Sleeping → s ≡ Found
-at_rest Found a b = refl
-at_rest Find a b = absurd (a refl)
-at_rest Sleeping a b = absurd (b refl)
-
 pub not_true : (b : Bool) → b ≢ true → b ≡ false
 not_true false h = refl
 not_true true h = absurd (h refl)
@@ -180,7 +175,7 @@ module _ (g : Network) (wired : IsWired g) (w : Scene) (holds : Invariant g w) w
       found = λ e.
           let s = (holds.nodes v (record { some = at'.some; node = at'.node })).searching e in
           ease.found (parent_finds v p at' down (by_find (has_report (seen_beyond g w v p).tree) (has_call (w.seen v p).tree) _
-          (rw (e, at_it (w.at v).head.in_branch p (s.in_branch ∙ sym s.up ∙ way)) refl)));
+          (rw (e, is_at_is (w.at v).head.in_branch p (s.in_branch ∙ sym s.up ∙ way)) refl)));
       uncalled = λ q at'' h.
           let same : q ≡ p = same_Some q p (sym (way_of q (calls_from v q at'' h)) ∙ way) in
           ease.found (parent_finds v p at' down

@@ -5,7 +5,7 @@ use Rattle.ghs_node.specs.Words.{is_branch}
 use Rattle.ghs_protocol.specs.Network.{Network}
 use Rattle.ghs_protocol.proofs.clauses.Scene.{Scene, Forest, forest}
 use Rattle.ghs_protocol.proofs.clauses.Rest.{Quiet, Resting}
-use Rattle.ghs_protocol.proofs.acts.SameForest.{branch_mark}
+use Rattle.ghs_node.proofs.lemmas.{branch_mark}
 
 module _ (g : Network) (w w' : Scene) (same : forest w' ≡ forest w) where
   was : (v p : ℕ) → (w'.at v).mark p ≡ Branch → (w.at v).mark p ≡ Branch

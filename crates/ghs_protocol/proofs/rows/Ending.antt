@@ -15,7 +15,7 @@ use Rattle.ghs_protocol.proofs.clauses.Wiring.{Ground}
 use Rattle.ghs_protocol.specs.Network.{Network, port_at, At, InNetwork}
 use Rattle.ghs_protocol.specs.Net.{put}
 use Rattle.ghs_protocol.proofs.clauses.Scene.{Seen, Member, Scene, acts}
-use Rattle.ghs_protocol.proofs.clauses.Nodes.{NodeFits, Searching}
+use Rattle.ghs_protocol.proofs.clauses.Nodes.{Searching}
 use Rattle.ghs_protocol.proofs.clauses.Floors.{Floors, ScansInOrder, Sound, Nearly, lower}
 use Rattle.ghs_protocol.proofs.rows.Tried.{tried_same, tried_put, tried_fewer}
 use Rattle.ghs_graph.specs.declared.key.Key.{Key}
@@ -91,7 +91,7 @@ module _ (g : Network) (ground : Ground g) (v : ℕ) (v_is : InNetwork g v) wher
     scans =
         scans_after g v v_is.some v_is.node (ended (w.at v) (Probing p)) (w.seen v) (last_sends (w.at v).head (Probing p)) w n.scans
         (probing_scan g ground.ordered v (ended (w.at v) (Probing p)) p at refl least
-        (λ q b. record { some = v_is.some; node = v_is.node; port = fits.own_ports.mark q (λ z. cc (z, b)) }));
+        (λ q b. record { some = v_is.some; node = v_is.node; port = (n.first.nodes v is).own_ports.mark q (λ z. cc (z, b)) }));
     tried =
         tried_same g v (ended (w.at v) (Probing p)) w.at n.floor n.tried
         (tried_fewer g v (w.at v) (ended (w.at v) (Probing p)) (n.floor v) (λ q b. b) (λ e. e) refl refl (n.tried v is));
@@ -102,11 +102,8 @@ module _ (g : Network) (ground : Ground g) (v : ℕ) (v_is : InNetwork g v) wher
         (scan_lives g ground.wired v v_is p at w n.first n.lives (w.at v).head.level (name_of (w.at v).head) none basic);
   }
     where
-      fits : NodeFits (length (g.ports v)) (w.at v)
-      fits = n.first.nodes v is
-
       at : At g v p
-      at = record { some = v_is.some; node = v_is.node; port = fits.own_ports.mark p (λ z. cc (z, basic)) }
+      at = record { some = v_is.some; node = v_is.node; port = (n.first.nodes v is).own_ports.mark p (λ z. cc (z, basic)) }
   ends_so w n _ finds (Reports_so at_zero none scan) = record {
     first = ends_alone g ground.wired v v_is w n.first Reporting finds (Reports_now at_zero none);
     floor = put n.floor v (Some (best_key (w.at v).head.best));
@@ -136,17 +133,14 @@ module _ (g : Network) (ground : Ground g) (v : ℕ) (v_is : InNetwork g v) wher
         (closes_lives g ground.wired v v_is s.port at w n.first n.lives finds s.in_branch (best_key (w.at v).head.best)));
   }
     where
-      fits : NodeFits (length (g.ports v)) (w.at v)
-      fits = n.first.nodes v is
-
       s : Searching (w.at v)
-      s = fits.searching finds
+      s = (n.first.nodes v is).searching finds
 
       way : core_port (w.at v).head ≡ s.port
       way = ap (λ o. core_port (record (w.at v).head { in_branch = o })) s.in_branch
 
       at : At g v s.port
-      at = record { some = v_is.some; node = v_is.node; port = fits.own_ports.in_branch s.port s.in_branch }
+      at = record { some = v_is.some; node = v_is.node; port = (n.first.nodes v is).own_ports.in_branch s.port s.in_branch }
   ends_so w n _ finds (Waits_so scan) =
       subst (Sound g) (λ i. record { at = sym (put_again w.at v) i; seen = sym (put_again w.seen v) i })
       (record {

@@ -44,13 +44,11 @@ module _ (g : Network) (wired : IsWired g) (v : ℕ) (v_is : InNetwork g v) wher
       Invariant g (acts g v (ended (w.at v) e) (w.seen v) (last_sends (w.at v).head e) w)
   ends_alone w holds _ finds (Tests_next p none basic) =
       subst (λ (q : ℕ → Seen). Invariant g (acts g v (ended (w.at v) (Probing p)) q (last_sends (w.at v).head (Probing p)) w))
-      (put_again (w.seen v) p) (scans g wired v v_is p at w holds (name_of (w.at v).head) (named (w.at v) fits finds) finds none basic)
+      (put_again (w.seen v) p)
+      (scans g wired v v_is p at w holds (name_of (w.at v).head) (named (w.at v) (holds.nodes v v_is) finds) finds none basic)
     where
-      fits : NodeFits (length (g.ports v)) (w.at v)
-      fits = holds.nodes v v_is
-
       at : At g v p
-      at = record { some = v_is.some; node = v_is.node; port = fits.own_ports.mark p (λ z. cc (z, basic)) }
+      at = record { some = v_is.some; node = v_is.node; port = (holds.nodes v v_is).own_ports.mark p (λ z. cc (z, basic)) }
   ends_alone w holds _ finds (Reports_now at_zero none) =
       subst (λ (q : ℕ → Seen). Invariant g (acts g v (ended (w.at v) Reporting) q (last_sends (w.at v).head Reporting) w))
       (put_again (w.seen v) s.port)
@@ -60,15 +58,12 @@ module _ (g : Network) (wired : IsWired g) (v : ℕ) (v_is : InNetwork g v) wher
       (sym way)
       (closing.closes g wired v v_is s.port at w holds finds s.in_branch none at_zero))
     where
-      fits : NodeFits (length (g.ports v)) (w.at v)
-      fits = holds.nodes v v_is
-
       s : Searching (w.at v)
-      s = fits.searching finds
+      s = (holds.nodes v v_is).searching finds
 
       way : core_port (w.at v).head ≡ s.port
       way = ap (λ o. core_port (record (w.at v).head { in_branch = o })) s.in_branch
 
       at : At g v s.port
-      at = record { some = v_is.some; node = v_is.node; port = fits.own_ports.in_branch s.port s.in_branch }
+      at = record { some = v_is.some; node = v_is.node; port = (holds.nodes v v_is).own_ports.in_branch s.port s.in_branch }
   ends_alone w holds _ finds Waits_on = subst (Invariant g) (λ i. record { at = sym (put_again w.at v) i; seen = sym (put_again w.seen v) i }) holds

@@ -15,13 +15,15 @@ use Rattle.ghs_node.specs.Words.{is_name}
 use Rattle.ghs_node.specs.Reaction.{reject_at}
 use Rattle.ghs_protocol.specs.Network.{Network, port_at}
 use Rattle.ghs_graph.specs.Ports.{no_port}
-use Rattle.ghs_protocol.specs.Net.{put}
+use Rattle.ghs_protocol.specs.Net.{put, Net}
 use Rattle.ghs_protocol.specs.Nodes.{IsNodeOf}
-use Rattle.ghs_protocol.proofs.clauses.Scene.{Seen, unseen, add, see}
+use Rattle.ghs_protocol.proofs.clauses.Scene.{Seen, unseen, add, see, Ghost, scene}
 use Rattle.ghs_protocol.proofs.clauses.Changes.{marked}
 use Rattle.ghs_protocol.proofs.lemmas.Updates.{put_same, put_other}
 use Rattle.ghs_protocol.proofs.acts.AsRead.{both, same_seen, see_first}
 use Rattle.ghs_protocol.proofs.acts.Reactions.{put_again}
+use Rattle.ghs_protocol.proofs.clauses.Uniting.{MarksAre}
+use Rattle.ghs_protocol.proofs.lemmas.Nodes.{ports_many}
 
 -- Connect, Initiate, Report and ChangeRoot
 abbrev pub is_tree : Message → Bool
@@ -115,6 +117,10 @@ reject_marks n j lt = go (mark_at n j) refl
     go Basic e = rw e (set_marks n.marks j Rejected lt)
     go Branch e = rw e (sym (ap (put (λ p. mark_at n p) j) (sym e) ∙ put_again (λ p. mark_at n p) j))
     go Rejected e = rw e (sym (ap (put (λ p. mark_at n p) j) (sym e) ∙ put_again (λ p. mark_at n p) j))
+
+-- a node's marks are those of its member
+pub marks_are : (g : Network) (v : ℕ) (w : Net) (gh : Ghost) → IsNodeOf g v (w.node v) → MarksAre g v ((scene w gh).at v) (w.node v).marks
+marks_are g v w gh is = record { ports = ports_many is; marks = λ i. refl }
 
 -- a node's keys are those of its ports
 pub key_is_port : (g : Network) (v : ℕ) (n : NodeState) (p : ℕ) → IsNodeOf g v n → key_at n p ≡ (port_at g v p).key

@@ -16,7 +16,7 @@ use Rattle.ghs_protocol.proofs.acts.AsRead.{reacts}
 use Rattle.ghs_protocol.proofs.search.FirstReport.{Heard, heard_first, mark_is}
 use Rattle.ghs_protocol.proofs.rows.EndingAct.{ended}
 use Rattle.ghs_protocol.proofs.rows.Requeue.{connect_round, lone_connect, lone_report, lone_test, report_round, test_round}
-use Rattle.ghs_protocol.proofs.rows.Read.{other_name, same_name, accept_first, accept_left, all_left, is_tree, key_is_port, reject_first, reject_left, reject_marks, seen, set_marks, test_first, test_left, tree_first, tree_left}
+use Rattle.ghs_protocol.proofs.rows.Read.{other_name, same_name, accept_first, accept_left, all_left, is_tree, key_is_port, reject_first, reject_left, reject_marks, seen, set_marks, test_first, test_left, tree_first, tree_left, marks_are}
 use Rattle.ghs_protocol.proofs.rows.Link.{link_fits, link_fits', link_leads, node_fits}
 use Rattle.ghs_protocol.proofs.acts.Situations.{is_find', probing_finds}
 use Rattle.ghs_protocol.proofs.rows.Ending.{EndsSo, closes_so, ends_after_so, settles_so}
@@ -29,8 +29,7 @@ use Rattle.ghs_protocol.proofs.union.Absorb.{came}
 use Rattle.ghs_protocol.proofs.union.ConnectIn.{Came}
 use Rattle.ghs_protocol.proofs.union.LeastLinks.{came_least, grouped, root_least, root_levels, wake_least, wake_levels}
 use Rattle.ghs_protocol.proofs.clauses.Floors.{HasSound, Nearly, ScansInOrder, Sound}
-use Rattle.ghs_protocol.proofs.clauses.Nodes.{NodeFits}
-use Rattle.ghs_protocol.proofs.clauses.Uniting.{By_report, By_root, MarksAre, SendsRoot, absorb, meet}
+use Rattle.ghs_protocol.proofs.clauses.Uniting.{By_report, By_root, SendsRoot, absorb, meet}
 use Rattle.ghs_protocol.proofs.clauses.Wiring.{Ground}
 use Rattle.ghs_protocol.proofs.clauses.Scene.{Ghost, Member, Seen, Scene, acts, end, see, test_end, tree_end, scene, far_end}
 use Rattle.ghs_protocol.proofs.clauses.Changes.{marked}
@@ -305,15 +304,12 @@ module _ (g : Network) (ground : Ground g) (v p : ℕ) (at : At g v p) (w : Net)
       subst Answered (sym (key_is_port g v (w.node v) p is))
       (serve_sound g ground.wired v (at_in at) p at (scene w gh) sound l (see ms).tree first marked))
 
-  marks : MarksAre g v ((scene w gh).at v) (w.node v).marks
-  marks = record { ports = ports_many is; marks = λ i. refl }
-
   row_initiate_rests : (l : ℕ) (f : Key) →
       w.queue v p ≡ Initiate l f Found ∷ ms →
       Kept g 0 gh gh.up (taken g v p (Initiate l f Found) ms (rests (w.node v) p l f) w)
   row_initiate_rests l f waits =
       tree_taken g v p w gh ms (Initiate l f Found) refl waits (rests (w.node v) p l f) (with_head (rests (w.node v) p l f).head) refl refl
-      (rest_sound g ground.wired v (at_in at) (scene w gh) sound p at (see ms).tree l f (w.node v).marks marks)
+      (rest_sound g ground.wired v (at_in at) (scene w gh) sound p at (see ms).tree l f (w.node v).marks (marks_are g v w gh is))
 
   row_initiate_searches :
       (l : ℕ) (f : Key) (e : Ending) → w.queue v p ≡ Initiate l f Find ∷ ms → Settles (w.node v).marks (no_probe (searching (w.node v) p l f)) e →
@@ -321,7 +317,7 @@ module _ (g : Network) (ground : Ground g) (v p : ℕ) (at : At g v p) (w : Net)
   row_initiate_searches l f e waits s =
       search_taken g v p w gh ms ground at.some at.node (Initiate l f Find) _ (tree_left (w.queue v p) ms (Initiate l f Find) refl waits) x None
       (passed_on (w.node v) p l f Find) e refl refl (settles_so g v x (w.node v).marks e refl refl s)
-      (search_nearly g ground.wired v (at_in at) (scene w gh) sound p at (see ms).tree l f (w.node v).marks marks
+      (search_nearly g ground.wired v (at_in at) (scene w gh) sound p at (see ms).tree l f (w.node v).marks (marks_are g v w gh is)
       (tree_first (w.queue v p) ms (Initiate l f Find) refl waits))
     where
       x : Member
@@ -383,9 +379,6 @@ module _ (g : Network) (ground : Ground g) (v p : ℕ) (at : At g v p) (w : Net)
 
   -- a Connect is absorbed, or the root moves
 
-  here_fits : NodeFits (length (g.ports v)) ((scene w gh).at v)
-  here_fits = node_fits g ground.wired (scene w gh) sound.first v p at
-
   -- v's queues, the first tree message of port p taken
   abbrev popped : ℕ → Seen
   popped = put (λ i. see (w.queue v i)) p (record (see (w.queue v p)) { tree = (see ms).tree })
@@ -403,7 +396,7 @@ module _ (g : Network) (ground : Ground g) (v p : ℕ) (at : At g v p) (w : Net)
   named lt = go (w.node v).head.name refl
     where
       go : (o : Option Key) → (w.node v).head.name ≡ o → (w.node v).head.name ≡ Some (name_of (w.node v).head)
-      go None e = absurd (let z = here_fits.naming.level e in omega (arith, z, lt))
+      go None e = absurd (let z = (sound.first.nodes v (at_in at)).naming.level e in omega (arith, z, lt))
       go (Some k) e = e ∙ ap (λ o. Some (name_of (record (w.node v).head { name = o }))) (sym e)
 
   row_connect_absorbed :
@@ -412,7 +405,7 @@ module _ (g : Network) (ground : Ground g) (v p : ℕ) (at : At g v p) (w : Net)
   row_connect_absorbed l waits lower awake =
       absorbed_sound g v p absorbed gh at
       (came_least g ground.wired (scene w gh) sound.first sound.floor sound.floors v p at its.mark its.mark')
-      (let a = its.under.level in let b = its.level in let c = here_fits.lag.level in omega (arith, a, b, c, lower))
+      (let a = its.under.level in let b = its.level in let c = (sound.first.nodes v (at_in at)).lag.level in omega (arith, a, b, c, lower))
       (subst (λ (z : Scene). Sound g (absorb g v p z)) (sym same) step)
     where
       first : (see (w.queue v p)).tree ≡ Connect l ∷ (see ms).tree
@@ -455,7 +448,7 @@ module _ (g : Network) (ground : Ground g) (v p : ℕ) (at : At g v p) (w : Net)
     moved_member x = record ((scene w gh).at v) { up = Some b; mark = x }
 
     best_at : At g v b
-    best_at = record { some = at.some; node = at.node; port = (here_fits.best_port b k best).0 }
+    best_at = record { some = at.some; node = at.node; port = ((sound.first.nodes v (at_in at)).best_port b k best).0 }
 
     left_is : see ms ≡ record (see (w.queue v p)) { tree = (see ms).tree }
     left_is = λ i. record (sym waits i) { tree = (see ms).tree }

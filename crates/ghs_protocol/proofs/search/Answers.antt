@@ -2,7 +2,7 @@
 use Rattle.std.proofs.Common.{◌≡◌, ◌≢◌, ℕ, suc, ◌<◌, ◌≤◌, false, Option, Some, None, List, [], ◌∷◌, refl, sym, ◌∙◌, ap, subst, ⊎_elim, ◌⊎◌, inl, inr, length, arith, le_refl}
 use Rattle.std.proofs.lemmas.Option.{same_Some}
 use Rattle.ghs_graph.specs.declared.key.Key.{Key}
-use Rattle.ghs_node.specs.Words.{Best, is_branch, is_find, better, best_key}
+use Rattle.ghs_node.specs.Words.{Best, is_find, better, best_key}
 use Rattle.ghs_node.specs.declared.mark.Mark.TheVariants.{Branch}
 use Rattle.ghs_node.specs.declared.message.Phase.TheVariants.{Find}
 use Rattle.ghs_node.specs.declared.message.Message.{Message}
@@ -13,7 +13,7 @@ use Rattle.ghs_protocol.proofs.clauses.Scene.{Seen, Member, Scene, End, tree_end
 use Rattle.ghs_protocol.proofs.clauses.Changes.{left_tree, left_accepts, seen_beyond, took_accept, took_report}
 use Rattle.ghs_protocol.proofs.clauses.TreeMessages.{Reported}
 use Rattle.ghs_protocol.proofs.clauses.Search.{LeadsOut}
-use Rattle.ghs_protocol.proofs.clauses.Whole.{Invariant}
+use Rattle.ghs_protocol.proofs.clauses.Whole.{Invariant, LinkFits, NamesOf}
 use Rattle.ghs_protocol.proofs.clauses.Links.{Joins, Ups}
 use Rattle.ghs_protocol.proofs.clauses.Rest.{debt, has_call}
 use Rattle.ghs_protocol.proofs.acts.OneLink.{sends_none, here, sums_one, kept_one}
@@ -22,7 +22,7 @@ use Rattle.ghs_protocol.proofs.acts.Situations.{is_find', probing_finds, node_tu
 use Rattle.ghs_protocol.proofs.search.Best.{with_best, tree_best, tree_best', search_best, search_best', better_is}
 use Rattle.ghs_protocol.proofs.search.ReportGone.{search_trees, tree_popped, tree_popped', uncalled, debt_one, debt_up, debt_none}
 use Rattle.ghs_protocol.proofs.search.FirstReport.{heard_first, Heard, mark_is}
-use Rattle.ghs_protocol.proofs.rows.Link.{link_clauses}
+use Rattle.ghs_protocol.proofs.rows.Link.{link_clauses, link_leads, joined_clauses}
 
 some_better : (o : Best) (j : ℕ) (w : Option Key) → o ≢ None → better o j w ≢ None
 some_better o j w ne = ⊎_elim (λ e z. ne (sym e ∙ z)) (λ t z. let y = t.2 in cc (y, z)) (better_is o j w)
@@ -46,16 +46,7 @@ better_at o j w p k e =
     (better_is o j w)
 
 module _ (g : Network) (wired : IsWired g) (u : ℕ) (u_is : InNetwork g u) (j : ℕ) (at : At g u j) (w : Scene) (holds : Invariant g w) where
-  open link_clauses g wired w holds u j at use {fits as my_fits, link as lnk, link' as lnk'}
-
-  inside : (i : ℕ) → At g u i → Joins (tree_end (end g w u i)) (tree_end (far_end g w u i)) → (w.at u).fragment ≡ (w.at (far g u i)).fragment
-  inside i at' h = holds.trees.joined_within u i at' (record { here = ap is_branch h.here; there = ap is_branch h.there })
-
-  ways : (i : ℕ) →
-      At g u i →
-      Joins (tree_end (end g w u i)) (tree_end (far_end g w u i)) →
-      Ups (tree_end (end g w u i)) ⊎ Ups (tree_end (far_end g w u i))
-  ways i at' h = holds.trees.joined_lead u i at' (record { here = ap is_branch h.here; there = ap is_branch h.there })
+  open link_clauses g wired w holds u j at use {fits as my_fits, link as lnk, link' as lnk', ways}
 
   -- at a node that searches each Branch link is joined
   branch_joined : (i : ℕ) →
@@ -84,7 +75,7 @@ module _ (g : Network) (wired : IsWired g) (u : ℕ) (u_is : InNetwork g u) (j :
         let s = my_fits.searching finds in
         let z = my_fits.points (λ y. cc (finds, y)) (omega (arith, at.port)) in
         let same : z.port ≡ j = same_Some z.port j (sym z.up ∙ s.up ∙ sym s.in_branch ∙ e) in
-        apart.0 (sym (inside j at (branch_joined j at finds (subst (λ y. (w.at u).mark y ≡ Branch) same z.mark))))
+        apart.0 (sym ((joined_clauses g w holds u j at (branch_joined j at finds (subst (λ y. (w.at u).mark y ≡ Branch) same z.mark))).inside))
 
     new : (i : ℕ) →
         (k : Key) → better (w.at u).head.best j (Some (port_at g u j).key) ≡ Some (i, k) →
@@ -98,7 +89,7 @@ module _ (g : Network) (wired : IsWired g) (u : ℕ) (u_is : InNetwork g u) (j :
         (Joins (tree_end (end g w u y)) (tree_end (far_end g w u y)) → Reported (tree_end (far_end g w u y)) (Some k)))
         (sym t.0) (
           (λ m. record { key = sym (same_Some (port_at g u j).key k t.1); apart = apart.0; higher = apart.1 }),
-          (λ h. absurd (apart.0 (sym (inside j at h)))),
+          (λ h. absurd (apart.0 (sym (joined_clauses g w holds u j at h).inside))),
         )))
         (better_at _ j (Some (port_at g u j).key) i k e)
 
@@ -164,7 +155,7 @@ module _ (g : Network) (wired : IsWired g) (u : ℕ) (u_is : InNetwork g u) (j :
   -- a Report that comes over another link than in_branch is a child's
   module _ (k : Option Key) (ms : List Message) (waits : (w.seen u j).tree ≡ Report k ∷ ms) (away : (w.at u).head.in_branch ≢ Some j) where
     pub child_heard : Heard (tree_end (end g w u j)) (tree_end (far_end g w u j)) k
-    child_heard = heard_first (tree_end (end g w u j)) (tree_end (far_end g w u j)) lnk.tree lnk'.tree (ways j at) k ms waits away
+    child_heard = heard_first (tree_end (end g w u j)) (tree_end (far_end g w u j)) lnk.tree lnk'.tree ways k ms waits away
 
   -- a child's Report is heard
   module _ (k : Option Key) (ms : List Message) (c : ℕ) (waits : (w.seen u j).tree ≡ Report k ∷ ms)
@@ -205,7 +196,7 @@ module _ (g : Network) (wired : IsWired g) (u : ℕ) (u_is : InNetwork g u) (j :
     free : has_call (seen_beyond g w u j).tree ≡ false
     free =
         uncalled (tree_end (end g w u j)) (tree_end (far_end g w u j)) child
-        (let s = holds.trees.by_fragment u (far g u j) (inside j at (record { here = child.joins.there; there = child.joins.here })) in
+        (let s = (joined_clauses g w holds u j at (record { here = child.joins.there; there = child.joins.here })).ghosts in
         let l = my_fits.lag.level in let t = reported.level in omega (arith, s.0, l, t))
         (lnk'.tree.downward child)
 

@@ -18,11 +18,12 @@ use Rattle.ghs_protocol.proofs.clauses.Search.{SearchFits}
 use Rattle.ghs_protocol.proofs.clauses.Whole.{Invariant}
 use Rattle.ghs_protocol.proofs.clauses.Links.{Joins, Ups}
 use Rattle.ghs_protocol.proofs.clauses.Rest.{debt, owes, has_call, has_report, Quiet}
-use Rattle.ghs_protocol.proofs.acts.OneLink.{sends_one, sums_one, kept_one}
-use Rattle.ghs_protocol.proofs.search.ReportGone.{search_trees, debt_up, not_at, at_it}
+use Rattle.ghs_protocol.proofs.acts.OneLink.{sends_one, sums_one, kept_one, at_near, at_far}
+use Rattle.ghs_protocol.proofs.search.ReportGone.{search_trees, debt_up}
 use Rattle.ghs_protocol.proofs.search.FirstReport.{mark_is}
 use Rattle.ghs_protocol.proofs.rest.AtRest.{by_find}
 use Rattle.ghs_protocol.proofs.rows.Link.{link_clauses, joined_clauses, not_the_way}
+use Rattle.ghs_node.proofs.lemmas.{is_at_is, is_at_not}
 
 abbrev pub found : TreeEnd → TreeEnd
 found e = record e { phase = Found }
@@ -256,7 +257,7 @@ module _ (g : Network) (wired : IsWired g) (u : ℕ) (u_is : InNetwork g u) (j :
   there' = record (far_end g w u j) { seen = record (seen_beyond g w u j) { tree = (seen_beyond g w u j).tree ++ Report k ∷ [] } }
 
   owing : owes (facing j) (end g w u j) ≡ true
-  owing = by_find (has_report (seen_beyond g w u j).tree) (has_call (w.seen u j).tree) _ (rw (finds, at_it (w.at u).head.in_branch j back) refl)
+  owing = by_find (has_report (seen_beyond g w u j).tree) (has_call (w.seen u j).tree) _ (rw (finds, is_at_is (w.at u).head.in_branch j back) refl)
 
   debt_kept : debt there' (here' j) ≡ debt (facing j) (end g w u j)
   unfolding there' here' x k
@@ -268,7 +269,7 @@ module _ (g : Network) (wired : IsWired g) (u : ℕ) (u_is : InNetwork g u) (j :
 
   debt_aside : (i : ℕ) → i ≢ j → debt (facing i) (here' i) ≡ debt (facing i) (end g w u i)
   unfolding here' x
-  debt_aside i ne = rw (not_at (w.at u).head.in_branch i (λ e. ne (sym (same_Some j i (sym back ∙ e)))), finds) refl
+  debt_aside i ne = rw (is_at_not (w.at u).head.in_branch i (λ e. ne (sym (same_Some j i (sym back ∙ e)))), finds) refl
 
   -- the node reports and comes to rest
   pub closes :

@@ -3,7 +3,7 @@ use Rattle.std.proofs.Common.{◌≡◌, ◌≢◌, ℕ, Bool, true, false, not,
 use Rattle.std.proofs.lemmas.Bool.{cases_eq}
 use Rattle.ghs_graph.specs.declared.key.Key.{Key}
 use Rattle.ghs_node.specs.declared.mark.Mark.TheVariants.{Basic, Branch}
-use Rattle.ghs_node.specs.Words.{is_branch, is_at, below, best_key, Outgoing}
+use Rattle.ghs_node.specs.Words.{is_at, below, best_key, Outgoing}
 use Rattle.ghs_node.specs.declared.message.Phase.{Phase}
 use Rattle.ghs_node.specs.declared.message.Phase.TheVariants.{Sleeping, Find, Found}
 use Rattle.ghs_node.specs.declared.message.Message.{Message}
@@ -16,8 +16,8 @@ use Rattle.ghs_protocol.proofs.clauses.Changes.{seen_beyond}
 use Rattle.ghs_protocol.proofs.clauses.Links.{Joins, Out, Child}
 use Rattle.ghs_protocol.proofs.clauses.TreeMessages.{Moved}
 use Rattle.ghs_protocol.proofs.clauses.Rest.{Quiet, owes, debt, has_report, has_call}
-use Rattle.ghs_protocol.proofs.clauses.Whole.{Invariant}
-use Rattle.ghs_protocol.proofs.clauses.Floors.{Floor, lower, FloorsAt, NodeFloor, IsTreeLink, BranchesInTree, HaltedIsWhole, Floors}
+use Rattle.ghs_protocol.proofs.clauses.Whole.{Invariant, LinkFits, NamesOf}
+use Rattle.ghs_protocol.proofs.clauses.Floors.{Floor, lower, FloorsAt, NodeFloor, IsTreeLink, BranchesInTree, HaltedIsWhole, Floors, AllNodeFloors}
 use Rattle.ghs_protocol.proofs.lemmas.Updates.{put_same, put_other}
 use Rattle.ghs_protocol.proofs.lemmas.Sums.{term_le}
 use Rattle.ghs_protocol.proofs.acts.Ends.{acts_read}
@@ -26,14 +26,14 @@ use Rattle.ghs_protocol.proofs.acts.OneLink.{by_port_at, sends_one}
 use Rattle.ghs_protocol.proofs.search.FirstReport.{mark_is}
 use Rattle.ghs_protocol.proofs.union.OneFragment.{Off}
 use Rattle.ghs_protocol.proofs.rest.AtRest.{parent_finds, by_find}
-use Rattle.ghs_protocol.proofs.search.ReportGone.{at_it, not_at}
 use Rattle.ghs_protocol.proofs.search.Close.{busy, joins', unmoved', up, has_report_append}
 use Rattle.ghs_protocol.proofs.acts.Situations.{basic_left}
 use Rattle.ghs_protocol.proofs.rows.Link.{node_clauses, joined_clauses, not_the_way}
+use Rattle.ghs_node.proofs.lemmas.{is_at_is, is_at_not}
 
 -- all clauses of floors, but at the link at port b of u, and but the order of tests
 pub record FloorsOff (g : Network) (w : Scene) (floor : ℕ → Floor) (u b : ℕ) : Type 0 where
-  pub nodes : (v : ℕ) → InNetwork g v → NodeFloor (w.at v) (floor v)
+  pub nodes : AllNodeFloors g w floor
   pub links : (v p : ℕ) → At g v p → Off g u b v p → FloorsAt (end g w v p) (end g w (far g v p) (far_port g v p)) (floor v) (floor (far g v p))
   pub in_tree : BranchesInTree g w
   pub halted : HaltedIsWhole g w
@@ -91,7 +91,7 @@ module _ (g : Network) (wired : IsWired g) (u : ℕ) (u_is : InNetwork g u) (x :
       (sym (ap floor' (wired.back u i at) ∙ floor_here))
       (away i at (λ e. off.there (wired.back u i at, wired.back_port u i at ∙ e))))
 
-  pub nodes_after : NodeFloor x a → (v : ℕ) → InNetwork g v → NodeFloor (acted.at v) (floor' v)
+  pub nodes_after : NodeFloor x a → AllNodeFloors g acted floor'
   nodes_after here v is =
       ⊎_elim (λ (e : v ≡ u).
       subst (λ y. NodeFloor (put w.at u x y) (floor' y)) (sym e) (subst₂ NodeFloor (sym (put_same w.at u x)) (sym floor_here) here))
@@ -182,14 +182,13 @@ module _ (g : Network) (wired : IsWired g) (u : ℕ) (u_is : InNetwork g u) (j :
   no_out : (i : ℕ) → At g u i → Out (tree_end (end g w u i)) (tree_end (far_end g w u i)) → ⊥
   no_out i at' o = restless (holds.resting.out u i at' (record { here = o.here; there = o.there }))
 
-  same_fragment : (i : ℕ) → At g u i → Joins (tree_end (end g w u i)) (tree_end (far_end g w u i)) → (w.at u).fragment ≡ (w.at (far g u i)).fragment
-  same_fragment i at' z = holds.trees.joined_within u i at' (record { here = ap is_branch z.here; there = ap is_branch z.there })
-
   -- a port that leads out is Basic
   leads_basic : (i : ℕ) → At g u i → (w.at (far g u i)).fragment ≢ (w.at u).fragment → (w.at u).mark i ≡ Basic
   leads_basic i at' ne =
       basic_left ((w.at u).mark i)
-      (λ b. ⊎_elim (λ c. ne (sym (same_fragment i at' (record { here = b; there = c })))) (λ c. no_out i at' (record { here = b; there = c }))
+      (λ b.
+      ⊎_elim (λ c. ne (sym (joined_clauses g w holds u i at' (record { here = b; there = c })).inside))
+      (λ c. no_out i at' (record { here = b; there = c }))
       (mark_is ((w.at (far g u i)).mark (far_port g u i))))
       (λ r. ne (sym ((link i at').search.rejected_inside r)))
 
@@ -253,7 +252,7 @@ module _ (g : Network) (wired : IsWired g) (u : ℕ) (u_is : InNetwork g u) (j :
     falls = λ c.
         (was_far i at').covered finds
         (record { joins = record { here = c.joins.here; there = c.joins.there }; up = c.up; down = c.down })
-        (unowed (is_at (w.at u).up i) _ (not_at (w.at u).up i (not_the_way ups i ne)) (debts_over i at'));
+        (unowed (is_at (w.at u).up i) _ (is_at_not (w.at u).up i (not_the_way ups i ne)) (debts_over i at'));
     covered = λ p c o. absurd (let z : Found ≡ Find = p in cc);
     report = λ r c t. (was_far i at').report r (record { joins = record { here = c.joins.here; there = c.joins.there }; up = c.up; down = c.down }) t;
     core = λ c l p. absurd (not_the_way ups i ne c.both.up_beyond);
@@ -291,7 +290,7 @@ module _ (g : Network) (wired : IsWired g) (u : ℕ) (u_is : InNetwork g u) (j :
           let z = wired.there u j at in
           (floors.nodes (far g u j) (record { some = z.some; node = z.node })).search
           (parent_finds g wired w holds u j at c.down
-          (by_find (has_report (seen_beyond g w u j).tree) (has_call (w.seen u j).tree) _ (rw (finds, at_it (w.at u).head.in_branch j back) refl)))
+          (by_find (has_report (seen_beyond g w u j).tree) (has_call (w.seen u j).tree) _ (rw (finds, is_at_is (w.at u).head.in_branch j back) refl)))
 
   there_fits : FloorsAt there (still j) (floor (far g u j)) (Some k)
   there_fits = record {

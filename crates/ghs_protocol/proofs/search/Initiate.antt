@@ -34,7 +34,8 @@ use Rattle.ghs_protocol.proofs.search.FirstReport.{mark_is}
 use Rattle.ghs_protocol.proofs.search.PassedOn.{forwards_on, forwards_many, one_on}
 use Rattle.ghs_protocol.proofs.search.Called.{Calls, calls, tree_told, tree_told', tree_past, tree_past', tree_passed, tree_passed', search_told, search_told'}
 use Rattle.ghs_protocol.proofs.lemmas.Balance.{none_or_none}
-use Rattle.ghs_protocol.proofs.rows.Link.{node_clauses, not_the_way}
+use Rattle.ghs_protocol.proofs.rows.Link.{node_clauses, not_the_way, link_leads, joined_clauses}
+use Rattle.ghs_node.proofs.lemmas.{found_is}
 
 pub has_call_more : (xs : List Message) (l : ℕ) (n : Key) (s : Phase) → has_call (xs ++ Initiate l n s ∷ []) ≡ (has_call xs || is_find s)
 has_call_more [] l n Sleeping = refl
@@ -116,20 +117,11 @@ module _ (g : Network) (wired : IsWired g) (u : ℕ) (u_is : InNetwork g u) (j :
 
   open node_clauses g wired w holds u u_is use {fits, link, link'}
 
-  pub inside : (i : ℕ) → At g u i → Joins (tree_end (end g w u i)) (tree_end (far_end g w u i)) → (w.at u).fragment ≡ (w.at (far g u i)).fragment
-  inside i at' h = holds.trees.joined_within u i at' (record { here = ap is_branch h.here; there = ap is_branch h.there })
-
   pub ghosts : (i : ℕ) →
       At g u i →
       Joins (tree_end (end g w u i)) (tree_end (far_end g w u i)) →
       ((w.at (far g u i)).coming ≡ (w.at u).coming) × ((w.at (far g u i)).coming_name ≡ (w.at u).coming_name)
-  ghosts i at' h = holds.trees.by_fragment (far g u i) u (sym (inside i at' h))
-
-  ways : (i : ℕ) →
-      At g u i →
-      Joins (tree_end (end g w u i)) (tree_end (far_end g w u i)) →
-      Ups (tree_end (end g w u i)) ⊎ Ups (tree_end (far_end g w u i))
-  ways i at' h = holds.trees.joined_lead u i at' (record { here = ap is_branch h.here; there = ap is_branch h.there })
+  ghosts i at' h = (joined_clauses g w holds u i at' h).ghosts
 
   named : Joins (tree_end (end g w u j)) (tree_end (far_end g w u j)) → NamesOf g w (w.at u).fragment (port_at g u j).key
   named h = record {
@@ -147,7 +139,9 @@ module _ (g : Network) (wired : IsWired g) (u : ℕ) (u_is : InNetwork g u) (j :
       let z = (holds.nodes (far g u j) (record { some = t.some; node = t.node })).lag.level in omega (arith, z, (ghosts j at h).0)
 
   pub call : Calls (NamesOf g w (w.at u).fragment) (tree_end (end g w u j)) (tree_end (far_end g w u j)) l n s ms
-  call = calls (tree_end (end g w u j)) (tree_end (far_end g w u j)) (link j at).tree (link' j at).tree (ways j at) named lags l n s ms waits
+  call =
+      calls (tree_end (end g w u j)) (tree_end (far_end g w u j)) (link j at).tree (link' j at).tree (link_leads g wired w holds u j at) named lags
+      l n s ms waits
 
   pub found : (w.at u).head.phase ≡ Found
   found = go (w.at u).head.phase refl
@@ -167,7 +161,7 @@ module _ (g : Network) (wired : IsWired g) (u : ℕ) (u_is : InNetwork g u) (j :
       (mark_is ((w.at (far g u i)).mark (far_port g u i)))
 
   pub child : (i : ℕ) → At g u i → i ≢ j → (w.at u).mark i ≡ Branch → Ups (tree_end (far_end g w u i))
-  child i at' ne b = ⊎_elim (λ z. absurd (not_the_way call.up i ne z)) (λ z. z) (ways i at' (branch_joined i at' ne b))
+  child i at' ne b = ⊎_elim (λ z. absurd (not_the_way call.up i ne z)) (λ z. z) (link_leads g wired w holds u i at' (branch_joined i at' ne b))
 
   -- what goes out on each port
   sent_here : sent_on passing j ≡ []
@@ -329,7 +323,8 @@ module _ (g : Network) (wired : IsWired g) (u : ℕ) (u_is : InNetwork g u) (j :
       branch i at' ne b = let jo = branch_joined i at' ne b in record {
         tree =
             tree_passed (NamesOf g w) (tree_end (end g w u i)) (tree_end (far_end g w u i)) l n s (Some j) (not_the_way call.up i ne) call.rises
-            call.most jo (child i at' ne b) (sym (inside i at' jo)) (ghosts i at' jo).0 (ghosts i at' jo).1 call.inside call.name call.awake call.find
+            call.most jo (child i at' ne b) (sym (joined_clauses g w holds u i at' jo).inside) (ghosts i at' jo).0 (ghosts i at' jo).1 call.inside
+            call.name call.awake call.find
             (link i at').tree;
         search =
             search_told (tree_end (end g w u i)) (tree_end (far_end g w u i)) l s (Some j) call.rises call.most (w.seen u i).tree
@@ -375,7 +370,8 @@ module _ (g : Network) (wired : IsWired g) (u : ℕ) (u_is : InNetwork g u) (j :
       branch i at' ne b = let jo = branch_joined i at' ne b in record {
         tree =
             tree_passed' (NamesOf g w) (tree_end (end g w u i)) (tree_end (far_end g w u i)) l n s (Some j) (not_the_way call.up i ne) call.rises
-            call.most jo (child i at' ne b) (sym (inside i at' jo)) (ghosts i at' jo).0 (ghosts i at' jo).1 call.inside call.name call.awake call.find
+            call.most jo (child i at' ne b) (sym (joined_clauses g w holds u i at' jo).inside) (ghosts i at' jo).0 (ghosts i at' jo).1 call.inside
+            call.name call.awake call.find
             (link' i at').tree;
         search =
             search_told' (tree_end (end g w u i)) (tree_end (far_end g w u i)) l s (Some j) call.rises call.most (w.seen u i).tree
@@ -405,11 +401,6 @@ module _ (g : Network) (wired : IsWired g) (u : ℕ) (u_is : InNetwork g u) (j :
       calm : (w.at u).fragment ≡ a → (is_find s ≡ false) × (has_call ms ≡ false)
       calm e = or_parts _ _ (sym (has_call_first ms l n s) ∙ sym (ap has_call waits) ∙ q.uncalled u j at e)
 
-      found_is : (p : Phase) → p ≢ Sleeping → is_find p ≡ false → p ≡ Found
-      found_is Sleeping ne e = absurd (ne refl)
-      found_is Find ne e = absurd (let z = e in cc)
-      found_is Found ne e = refl
-
       mine : (i : ℕ) → At g u i → hearer.fragment ≡ a → has_call (put (w.seen u) j left i).tree ≡ false
       mine =
           by_port (λ e f. e.is.fragment ≡ a → has_call e.seen.tree ≡ false) (λ e. (calm e).1) (λ i at' ne b e. q.uncalled u i at' e)
@@ -421,7 +412,7 @@ module _ (g : Network) (wired : IsWired g) (u : ℕ) (u_is : InNetwork g u) (j :
           (λ i at' ne b e.
           rw
           (has_call_more (seen_beyond g w u i).tree l n s, q.uncalled _ _ (wired.there u i at') e)
-          (calm (inside i at' (branch_joined i at' ne b) ∙ e)).0)
+          (calm ((joined_clauses g w holds u i at' (branch_joined i at' ne b)).inside ∙ e)).0)
           (λ i at' ne nb e. q.uncalled _ _ (wired.there u i at') e)
 
   pub initiates : Invariant g initiated

@@ -18,15 +18,16 @@ use Rattle.ghs_protocol.proofs.clauses.Rest.{has_call, has_report}
 use Rattle.ghs_protocol.proofs.clauses.Uniting.{MarksAre}
 use Rattle.ghs_protocol.proofs.clauses.Whole.{Invariant, NamesOf}
 use Rattle.ghs_protocol.proofs.clauses.Floors.{Floor, lower, owing, FloorsFit, FloorsAt, Floors}
-use Rattle.ghs_protocol.proofs.search.ReportGone.{at_it}
 use Rattle.ghs_protocol.proofs.rest.AtRest.{parent_finds, by_call, by_find}
 use Rattle.ghs_protocol.proofs.search.Called.{Calls, told}
 use Rattle.ghs_protocol.proofs.search.Initiate as initiating
 use Rattle.ghs_protocol.proofs.search.Initiate.{has_call_more, has_call_first}
-use Rattle.ghs_protocol.proofs.rows.Link.{not_the_way, node_clauses}
+use Rattle.ghs_protocol.proofs.rows.Link.{not_the_way, node_clauses, link_fits, link_fits', joined_clauses}
 use Rattle.ghs_protocol.proofs.acts.Floors.{near_fits, far_fits}
 use Rattle.ghs_protocol.proofs.search.CloseFloors.{nodes_after, links_after, in_tree_after, halted_after}
 use Rattle.ghs_protocol.proofs.acts.Situations.{is_find'}
+use Rattle.ghs_protocol.proofs.lemmas.Woken.{at_rest}
+use Rattle.ghs_node.proofs.lemmas.{is_at_is}
 
 is_call : (s : Phase) → s ≡ Find → is_find s ≡ true
 is_call s e = ap is_find e
@@ -179,19 +180,14 @@ module _ (g : Network) (wired : IsWired g) (u : ℕ) (u_is : InNetwork g u) (j :
   abbrev passing : Outgoing
   passing = on_branches xs j (Initiate l n s)
 
-  calls : Calls (NamesOf g w (w.at u).fragment) (tree_end (end g w u j)) (tree_end (far_end g w u j)) l n s ms
-  calls = initiating.call g wired u u_is j at w holds l n s ms xs marks waits o quit count counts
-
   rests : (w.at u).head.phase ≡ Found
   rests = initiating.found g wired u u_is j at w holds l n s ms xs marks waits o quit count counts
 
+  open initiating.call g wired u u_is j at w holds l n s ms xs marks waits o quit count counts use {up as call_up}
   open node_clauses g wired w holds u u_is use {link, link'}
 
-  within : (i : ℕ) → At g u i → Joins (tree_end (end g w u i)) (tree_end (far_end g w u i)) → (w.at u).fragment ≡ (w.at (far g u i)).fragment
-  within i at' z = initiating.inside g wired u u_is j at w holds l n s ms xs marks waits o quit count counts i at' z
-
   no_out : (i : ℕ) → At g u i → i ≢ j → Out (tree_end (end g w u i)) (tree_end (far_end g w u i)) → ⊥
-  no_out i at' ne z = not_the_way calls.up i ne ((link i at').tree.out_connect z).up
+  no_out i at' ne z = not_the_way call_up i ne ((link i at').tree.out_connect z).up
 
   -- nobody's best is at u: it hasn't come to its level
   unbest : (i : ℕ) →
@@ -201,7 +197,11 @@ module _ (g : Network) (wired : IsWired g) (u : ℕ) (u_is : InNetwork g u) (j :
       Joins (tree_end (far_end g w u i)) (tree_end (end g w u i)) →
       ⊥
   unbest i at' k q y z =
-      let h = ((link' i at').search.find_reported k q y z).level in let x = calls.rises in let v = calls.most in omega (arith, h, x, v)
+      let h = ((link' i at').search.find_reported k q y z).level in
+      let c = initiating.call g wired u u_is j at w holds l n s ms xs marks waits o quit count counts in
+      let x = c.rises in
+      let v = c.most in
+      omega (arith, h, x, v)
 
   phases : (s ≡ Find) ⊎ (s ≢ Find)
   phases = is_find' s
@@ -210,12 +210,7 @@ module _ (g : Network) (wired : IsWired g) (u : ℕ) (u_is : InNetwork g u) (j :
   none_lower e k = subst (λ v. lower v k ≡ true) (sym (sought e)) refl
 
   not_found : s ≢ Find → s ≡ Found
-  not_found ne = go s ne calls.awake
-    where
-      go : (p : Phase) → p ≢ Find → p ≢ Sleeping → p ≡ Found
-      go Found a c = refl
-      go Find a c = absurd (a refl)
-      go Sleeping a c = absurd (c refl)
+  not_found ne = at_rest s ne (initiating.call g wired u u_is j at w holds l n s ms xs marks waits o quit count counts).awake
 
   -- the ports other than that of the Initiate
   near_other : (i : ℕ) →
@@ -226,7 +221,7 @@ module _ (g : Network) (wired : IsWired g) (u : ℕ) (u_is : InNetwork g u) (j :
       (floor (far g u i))
   near_other i at' ne t =
       near_passed (tree_end (end g w u i)) (tree_end (far_end g w u i)) l s (Some j) t (floor u) b (floor (far g u i))
-      (not_the_way calls.up i ne) (no_out i at' ne)
+      (not_the_way call_up i ne) (no_out i at' ne)
       (λ out. ⊎_elim (λ e. none_lower e _) (λ nt.
       subst (λ v. lower v (Some (Some (port_at g u i).key)) ≡ true) (sym (falls nt))
       ((near_fits g wired w holds floor floors u i at').none_below out))
@@ -240,7 +235,7 @@ module _ (g : Network) (wired : IsWired g) (u : ℕ) (u_is : InNetwork g u) (j :
       (floor (far g u i)) b
   far_other i at' ne t called =
       far_passed (tree_end (end g w u i)) (tree_end (far_end g w u i)) l s (Some j) t (floor u) b (floor (far g u i))
-      (not_the_way calls.up i ne) called
+      (not_the_way call_up i ne) called
       (unbest i at')
       (λ c. ⊎_elim (λ e. none_lower e _)
       (λ nt. subst (λ v. lower v (floor (far g u i)) ≡ true) (sym (falls nt)) ((far_fits g wired w holds floor floors u i at').falls c))
@@ -253,9 +248,11 @@ module _ (g : Network) (wired : IsWired g) (u : ℕ) (u_is : InNetwork g u) (j :
 
   near_here : FloorsFit (told (tree_end (end g w u j)) l s (Some j) ms) (tree_end (far_end g w u j)) b (floor (far g u j))
   near_here =
+      let call = initiating.call g wired u u_is j at w holds l n s ms xs marks waits o quit count counts in
+      let inside = (joined_clauses g w holds u j at call.joins).inside in
       near_told (tree_end (end g w u j)) (tree_end (far_end g w u j)) l n s ms (floor u) b (floor (far g u j)) (link j at).tree
-      (link' j at).tree calls waits
-      (holds.trees.by_fragment (far g u j) u (sym (within j at calls.joins))).1 refl (sym (within j at calls.joins))
+      (link' j at).tree call waits
+      (holds.trees.by_fragment (far g u j) u (sym inside)).1 refl (sym inside)
       (λ c. ⊎_elim (λ e. subst (λ v. lower v b ≡ true) (sym (parent_none c e)) refl)
       (λ nt. subst (λ v. lower (floor (far g u j)) v ≡ true) (sym (falls nt)) ((near_fits g wired w holds floor floors u j at).falls c))
       phases)
@@ -273,7 +270,9 @@ module _ (g : Network) (wired : IsWired g) (u : ℕ) (u_is : InNetwork g u) (j :
           (by_call (has_report (seen_beyond g w u j).tree) (has_call (w.seen u j).tree) _ (called_first e)))
 
       by_self : s ≡ Find → owing (tree_end (far_end g w u j)) (told (tree_end (end g w u j)) l s (Some j) ms) ≡ true
-      by_self e = by_find (has_report (seen_beyond g w u j).tree) (has_call ms) (is_find s && is_at (Some j) j) (rw (e, at_it (Some j) j refl) refl)
+      by_self e =
+          by_find (has_report (seen_beyond g w u j).tree) (has_call ms) (is_find s && is_at (Some j) j)
+          (rw (e, is_at_is (Some j) j refl) refl)
 
       owed_before :
           s ≢ Find →
@@ -291,9 +290,11 @@ module _ (g : Network) (wired : IsWired g) (u : ℕ) (u_is : InNetwork g u) (j :
 
   far_here : FloorsFit (tree_end (far_end g w u j)) (told (tree_end (end g w u j)) l s (Some j) ms) (floor (far g u j)) b
   far_here =
+      let call = initiating.call g wired u u_is j at w holds l n s ms xs marks waits o quit count counts in
+      let inside = (joined_clauses g w holds u j at call.joins).inside in
       far_told (tree_end (end g w u j)) (tree_end (far_end g w u j)) l n s ms (floor u) b (floor (far g u j)) (link j at).tree
-      (link' j at).tree calls waits
-      (holds.trees.by_fragment (far g u j) u (sym (within j at calls.joins))).1 refl (sym (within j at calls.joins)) (unbest j at)
+      (link' j at).tree call waits
+      (holds.trees.by_fragment (far g u j) u (sym inside)).1 refl (sym inside) (unbest j at)
       (far_fits g wired w holds floor floors u j at)
 
   more_call : (i : ℕ) → s ≡ Find → has_call ((seen_beyond g w u i).tree ++ Initiate l n s ∷ []) ≡ true
@@ -308,7 +309,11 @@ module _ (g : Network) (wired : IsWired g) (u : ℕ) (u_is : InNetwork g u) (j :
   -- all together
   pub initiates_floors : Floors g (acts g u hearer own passing w) (put floor u b)
   initiates_floors = record {
-    nodes = nodes_after g wired u u_is hearer own passing w floor floors b (record { asleep = λ e. absurd (calls.awake e); search = sought });
+    nodes =
+        nodes_after g wired u u_is hearer own passing w floor floors b (record {
+          asleep = λ e. absurd ((initiating.call g wired u u_is j at w holds l n s ms xs marks waits o quit count counts).awake e);
+          search = sought;
+        });
     links =
         links_after g wired u u_is hearer own passing w floor floors b
         (initiating.by_port_at g wired u u_is j at w holds l n s ms xs marks waits o quit count counts

@@ -15,10 +15,9 @@ use Rattle.ghs_protocol.proofs.clauses.Changes.{left_tree, seen_beyond, took_ini
 use Rattle.ghs_protocol.proofs.clauses.TreeMessages.{CoreFits}
 use Rattle.ghs_protocol.proofs.clauses.Rest.{has_report}
 use Rattle.ghs_protocol.proofs.clauses.Uniting.{MarksAre}
-use Rattle.ghs_protocol.proofs.clauses.Whole.{Invariant, NamesOf}
+use Rattle.ghs_protocol.proofs.clauses.Whole.{Invariant}
 use Rattle.ghs_protocol.proofs.clauses.UnderWay.{Answering, ProbeAsks, brought_to, ChildBrought, IsCore, CoreHeard, Lives}
 use Rattle.ghs_protocol.proofs.acts.Ends.{acts_keeps}
-use Rattle.ghs_protocol.proofs.search.Called.{Calls}
 use Rattle.ghs_protocol.proofs.search.Initiate as initiating
 use Rattle.ghs_protocol.proofs.rows.Link.{link_fits, not_the_way}
 use Rattle.ghs_protocol.proofs.search.InitiateFloors.{core_searches}
@@ -37,8 +36,7 @@ module _ (g : Network) (wired : IsWired g) (u : ℕ) (u_is : InNetwork g u) (j :
   abbrev passing : Outgoing
   passing = on_branches xs j (Initiate l n s)
 
-  calls : Calls (NamesOf g w (w.at u).fragment) (tree_end (end g w u j)) (tree_end (far_end g w u j)) l n s ms
-  calls = initiating.call g wired u u_is j at w holds l n s ms xs marks waits o quit count counts
+  open initiating.call g wired u u_is j at w holds l n s ms xs marks waits o quit count counts use {up as call_up}
 
   -- a fact of all links
   initiates :
@@ -84,7 +82,11 @@ module _ (g : Network) (wired : IsWired g) (u : ℕ) (u_is : InNetwork g u) (j :
 
   -- who isn't at its coming level has heard nothing
   low : (w.at u).head.level ≡ (w.at u).coming → ⊥
-  low e = let a = calls.rises in let b = calls.most in omega (arith, a, b, e)
+  low e =
+      let c = initiating.call g wired u u_is j at w holds l n s ms xs marks waits o quit count counts in
+      let a = c.rises in
+      let b = c.most in
+      omega (arith, a, b, e)
 
   pub initiates_lives : Lives g (acts g u (took_initiate (w.at u) l n s j o count) (left_tree w u j ms) (on_branches xs j (Initiate l n s)) w)
   initiates_lives = record {
@@ -94,13 +96,13 @@ module _ (g : Network) (wired : IsWired g) (u : ℕ) (u_is : InNetwork g u) (j :
     brought =
         initiates ChildBrought lives.brought
         (λ c. ap (brought_to (w.at u).head.level) (sym waits) ∙ near_brought g wired u u_is j at w holds lives j at c)
-        (λ c. absurd (c.3 calls.up)) (λ i at' ne t c. absurd (not_the_way calls.up i ne c.2))
+        (λ c. absurd (c.3 call_up)) (λ i at' ne t c. absurd (not_the_way call_up i ne c.2))
         (λ i at' ne t is c.
         ap (brought_to (w.at (far g u i)).head.level) (is c.1) ∙ brought_by_call (seen_beyond g w u i).tree (w.at (far g u i)).head.level l n s);
     heard =
         initiates CoreHeard lives.heard
         (λ c t f r. absurd (let z = core_finds c in let y : s ≡ Found = f in cc (z, y)))
         (λ c t f r. absurd (low (far_heard g wired u u_is j at w holds lives j at c t f (ap has_report waits ∙ r)).top))
-        (λ i at' ne t c. absurd (not_the_way calls.up i ne c.2))
-        (λ i at' ne t is c. absurd (not_the_way calls.up i ne c.3));
+        (λ i at' ne t c. absurd (not_the_way call_up i ne c.2))
+        (λ i at' ne t is c. absurd (not_the_way call_up i ne c.3));
   }

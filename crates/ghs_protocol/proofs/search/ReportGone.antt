@@ -1,5 +1,5 @@
 -- A Report leaves a joined link.
-use Rattle.std.proofs.Common.{◌≡◌, ◌≢◌, ℕ, ◌≤◌, Bool, true, false, not, ◌&&◌, Option, Some, None, List, [], ◌∷◌, refl, ◌∙◌, ap, cond, eq-eqb, ne_eqb}
+use Rattle.std.proofs.Common.{◌≡◌, ◌≢◌, ℕ, ◌≤◌, Bool, true, false, not, ◌&&◌, Some, List, [], ◌∷◌, refl, ◌∙◌, ap, cond}
 use Rattle.ghs_graph.specs.declared.key.Key.{Key}
 use Rattle.ghs_node.specs.Words.{is_find, is_at}
 use Rattle.ghs_node.specs.declared.message.Message.{Message}
@@ -10,6 +10,7 @@ use Rattle.ghs_protocol.proofs.clauses.Search.{SearchFits}
 use Rattle.ghs_protocol.proofs.clauses.Links.{Child}
 use Rattle.ghs_protocol.proofs.clauses.Rest.{debt, owes, has_call, has_report}
 use Rattle.ghs_protocol.proofs.search.FirstReport.{chain_top}
+use Rattle.ghs_node.proofs.lemmas.{is_at_is, is_at_not}
 
 -- the search clauses don't read the queues
 pub search_trees : (e f : TreeEnd) (t s : List Message) → SearchFits e f → SearchFits (record e { tree = t }) (record f { tree = s })
@@ -54,18 +55,11 @@ module _ (e f : TreeEnd) (c : Child f e) where
   uncalled {N} le (Initiates x) = ap has_call (chain_top N f.coming f.coming_name e.level f.level f.tree le x)
   uncalled {N} le (Old_report k ms q h x) = ap has_call (q ∙ ap (λ z. Report k ∷ z) (chain_top N f.coming f.coming_name e.level f.level ms le x))
 
-pub not_at : (o : Option ℕ) (p : ℕ) → o ≢ Some p → is_at o p ≡ false
-not_at None p h = refl
-not_at (Some q) p h = ne_eqb q p (λ e. h (ap Some e))
-
-pub at_it : (o : Option ℕ) (p : ℕ) → o ≡ Some p → is_at o p ≡ true
-at_it o p e = rw e (eq-eqb p p refl)
-
 pub debt_one : (e f : End) → e.is.up ≢ Some e.port → owes e f ≡ true → ◌≡◌ {A = ℕ} (debt e f) 1
-debt_one e f h o = rw (not_at e.is.up e.port h, o) refl
+debt_one e f h o = rw (is_at_not e.is.up e.port h, o) refl
 
 pub debt_up : (e f : End) → e.is.up ≡ Some e.port → ◌≡◌ {A = ℕ} (debt e f) 0
-debt_up e f h = rw (at_it e.is.up e.port h) refl
+debt_up e f h = rw (is_at_is e.is.up e.port h) refl
 
 pub debt_unowed : (e f : End) → owes e f ≡ false → ◌≡◌ {A = ℕ} (debt e f) 0
 debt_unowed e f o = go (is_at e.is.up e.port)

@@ -66,7 +66,7 @@ module _ (g : Network) (ground : Ground g) (u : ℕ) (u_is : InNetwork g u) (w :
   abbrev pub joint : Scene
   joint = absorb g u j grown
 
-  open came g ground u u_is w holds j at ms l k waits less name awake use {mark as basic_near, mark' as branch_far, rest as none_left, under}
+  open came g ground u u_is w holds j at ms l k waits less name awake use {mark as unmarked, mark' as marked_beyond, rest as nothing_behind, under}
 
   no_way : (w.at u).up ≢ Some j
   no_way = way_not g ground u u_is w holds j at ms l k waits less name awake
@@ -112,7 +112,7 @@ module _ (g : Network) (ground : Ground g) (u : ℕ) (u_is : InNetwork g u) (w :
         in_tree =
             in_tree_after g ground.wired u u_is x (put (w.seen u) j q) ((j, call) ∷ []) w floor floors (floor u)
             (λ p at' m. ⊎_elim
-            (λ e. subst (IsTreeLink g u) (sym e) (tree_link_back g ground.wired u j at (floors.in_tree _ _ (ground.wired.there u j at) branch_far)))
+            (λ e. subst (IsTreeLink g u) (sym e) (tree_link_back g ground.wired u j at (floors.in_tree _ _ (ground.wired.there u j at) marked_beyond)))
             (λ ne. floors.in_tree u p at' (sym (put_other (w.at u).mark j p Branch ne) ∙ m))
             (cases_eq p j));
         halted = halted_after g ground.wired u u_is x (put (w.seen u) j q) ((j, call) ∷ []) w floor floors (floor u) refl refl;
@@ -192,7 +192,7 @@ module _ (g : Network) (ground : Ground g) (u : ℕ) (u_is : InNetwork g u) (w :
     here = ap (λ f. f j) (keeps (λ m. m.mark) (λ m a b n. refl) u) ∙ ap (λ (m : Member). m.mark j) here_is ∙ put_same (w.at u).mark j Branch;
     there =
         ap (λ f. f (far_port g u j)) (keeps (λ m. m.mark) (λ m a b n. refl) (far g u j)) ∙ ap (λ (m : Member). m.mark (far_port g u j)) far_is ∙
-        branch_far;
+        marked_beyond;
   }
 
   level_at : (t : ℕ) → (joint.at t).head.level ≡ (w.at t).head.level
@@ -216,7 +216,7 @@ module _ (g : Network) (ground : Ground g) (u : ℕ) (u_is : InNetwork g u) (w :
       -- u's best isn't this link, which leads to a lower level
       unled : (y : Key) → (w.at u).head.best ≡ Some (j, y) → (w.at u).head.level ≡ (w.at u).coming → ⊥
       unled y b e =
-          let z = ((link_fits g ground.wired w holds u j at).search.find_leads y b e basic_near).higher in
+          let z = ((link_fits g ground.wired w holds u j at).search.find_leads y b e unmarked).higher in
           let s = below g ground u u_is w holds j at ms l k waits less name awake in omega (arith, z, s)
 
   away_new : FloorsAt (end g joint (far g u j) (far_port g u j)) (end g joint u j) (floor (far g u j)) (floor u)
@@ -224,12 +224,12 @@ module _ (g : Network) (ground : Ground g) (u : ℕ) (u_is : InNetwork g u) (w :
     none_below = λ o. absurd (o (sym in_one));
     falls = λ c.
         subst (λ v. lower (floor u) v ≡ true)
-        (sym ((far_fits g ground.wired w holds floor floors u j at).out (record { here = branch_far; there = basic_near })))
+        (sym ((far_fits g ground.wired w holds floor floors u j at).out (record { here = marked_beyond; there = unmarked })))
         ((near_fits g ground.wired w holds floor floors u j at).none_below (λ e. under.apart (sym e)));
     covered = λ p c o.
         absurd (let y = owed (sym (ap (λ (m : Member). m.head.phase) here_is) ∙ sym (keeps (λ m. m.head.phase) (λ m a b n. refl) u) ∙ p) in
         let z = o in cc (y, z));
-    report = λ r c t. absurd (let y : [] ≡ Report r ∷ [] = sym none_left ∙ sym own_tree ∙ t in cc);
+    report = λ r c t. absurd (let y : [] ≡ Report r ∷ [] = sym nothing_behind ∙ sym own_tree ∙ t in cc);
     core = λ c y p. absurd (up_here c.both.up_beyond);
     out = λ o. absurd (o.there joins.here);
     moved = λ z t. absurd (up_here z.both.up_beyond);

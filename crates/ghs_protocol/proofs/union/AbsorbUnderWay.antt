@@ -86,7 +86,8 @@ module _ (g : Network) (ground : Ground g) (u : ℕ) (u_is : InNetwork g u) (w :
       (holds.trees.by_fragment (far g t p) t (sym (holds.trees.joined_within t p at' (record {
         here =
             ap is_branch
-            (branch_was t p (λ z. no_way (subst₂ (λ a b. (w.at a).up ≡ Some b) z.0 z.1 (sym (put_alike (λ (m : Member). m.up) w.at u x refl t) ∙ c.2)))
+            (branch_was t p (λ z.
+            no_way (subst₂ (λ a b. (w.at a).up ≡ Some b) z.0 z.1 (sym (put_alike (λ (m : Member). m.up) w.at u x refl t) ∙ c.2)))
             c.0);
         there =
             ap is_branch
