@@ -10,6 +10,7 @@ mod LeastBasic
 mod Kept
 mod Outgoing
 mod RowNames
+mod Phases
 mod Whole
 mod Equal
 mod Branches

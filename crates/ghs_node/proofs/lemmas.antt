@@ -11,3 +11,5 @@ pub use Rattle.ghs_node.proofs.Ruleless.{reaction_ruleless}
 pub use Rattle.ghs_node.proofs.MarkChanges.{length-with_mark, mark_set, awake_marks, row_marks, branch_stays, reaction_port}
 pub use Rattle.ghs_node.proofs.Outgoing.{row_ported, row_leveled}
 pub use Rattle.ghs_node.proofs.Kept.{row_level, row_awake, row_halts, row_kept}
+-- A test for one phase.
+pub use Rattle.ghs_node.proofs.Phases.{same_phase_is}

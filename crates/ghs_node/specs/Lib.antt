@@ -1,6 +1,7 @@
 -- To be believed: contracts cite what stands here, and what it is made of.
 pub mod Kind
 pub mod Words
+pub mod Phases
 pub mod NodeState
 pub mod Reaction
 pub mod Rows

@@ -1,7 +1,6 @@
 -- What an event leaves of the choices.
-use Rattle.std.proofs.Common.{◌≡◌, ◌≢◌, ℕ, zero, suc, ◌+◌, ◌<◌, ◌≤◌, Bool, true, false, ◌&&◌, not, ◌==◌, Option, Some, None, List, [], ◌∷◌, length, refl, sym, ◌∙◌, ap, ap₂, subst, subst₂, ⊎_elim, inl, inr, ◌⊎◌, arith, get_or, set, get_or-set_other}
-use Rattle.std.specs.List.{Contains}
-use Rattle.std.proofs.lemmas.Bool.{and_parts, cases_eq, cases_Bool, both_ways, eqb-true}
+use Rattle.std.proofs.Common.{◌≡◌, ℕ, ◌<◌, Bool, true, ◌&&◌, not, Option, Some, None, List, [], ◌∷◌, refl, sym, ◌∙◌, ap, ap₂, subst, subst₂, ⊎_elim, inl, inr, arith, get_or, get_or-set_other}
+use Rattle.std.proofs.lemmas.Bool.{and_parts, cases_eq, cases_Bool, eqb-true}
 use Rattle.std.proofs.lemmas.Option.{same_Some}
 use Rattle.ghs_graph.specs.Graph.{Shape, IsGraph}
 use Rattle.ghs_node.specs.declared.delta.Delta.{Delta}
@@ -10,16 +9,14 @@ use Rattle.ghs_node.specs.declared.mark.Mark.{Mark}
 use Rattle.ghs_node.specs.declared.mark.Mark.TheVariants.{Rejected}
 use Rattle.ghs_node.specs.declared.message.Message.{Message}
 use Rattle.ghs_node.specs.declared.message.Message.TheVariants.{Connect, Initiate, Test, Accept, Reject, Report, ChangeRoot}
-use Rattle.ghs_node.specs.declared.message.Phase.{Phase}
-use Rattle.ghs_node.specs.declared.message.Phase.TheVariants.{Sleeping, Find, Found}
 use Rattle.ghs_node.specs.NodeState.{NodeState, degree, mark_at, with_mark}
 use Rattle.ghs_node.specs.Reaction.{after, reaction}
-use Rattle.ghs_node.specs.Words.{is_at, is_basic, is_find, is_missing, is_sleeping}
+use Rattle.ghs_node.proofs.lemmas.{same_phase_is}
 use Rattle.ghs_protocol.specs.declared.event.Event.{Event}
 use Rattle.ghs_protocol.specs.declared.event.Event.TheVariants.{Wake, Take}
 use Rattle.ghs_protocol.specs.Network.{At, Network, network_of}
 use Rattle.ghs_protocol.specs.Net.{Net, event_node, happens}
-use Rattle.ghs_protocol.specs.Run.{IsRun, net_after}
+use Rattle.ghs_protocol.specs.Run.{IsRun}
 use Rattle.ghs_protocol.specs.Steps.{Happens, Woke, Took}
 use Rattle.ghs_protocol.proofs.lemmas.Effects.{taken_here}
 use Rattle.ghs_protocol.proofs.lemmas.Events.{happening}
@@ -30,18 +27,16 @@ use Rattle.ghs_protocol.proofs.lemmas.Sends.{node_here}
 use Rattle.ghs_protocol.proofs.lemmas.WellFormed.{after_formed}
 use Rattle.ghs_core.specs.NetState.{IsAnswer, NetState, delivery, net_of, network, work_at}
 use Rattle.ghs_core.specs.Waits.{waits}
-use Rattle.ghs_index.specs.Index.{IndexState, IsIndexOf}
 use Rattle.ghs_flags.specs.Flags.{at}
 use Rattle.ghs_index.specs.Places.{HasPlace, place}
 use Rattle.ghs_index.proofs.lemmas.Marks.{is_for, mark_is}
 use Rattle.ghs_world.specs.Steps.{IsSameWorld, Makes}
-use Rattle.ghs_world.specs.Upkeep.{changed}
 use Rattle.ghs_world.specs.declared.wake_set.WakeSet.{WakeSet}
 use Rattle.ghs_world.specs.Wakes.{may_wake}
-use Rattle.ghs_world.specs.WorldState.{WorldState, home, wakers}
+use Rattle.ghs_world.specs.WorldState.{WorldState, home}
 use Rattle.ghs_world.proofs.lemmas.Leaving.{Leaves, leaves, same_else}
 use Rattle.ghs_patient.specs.Patience.{first_waits, moves_on, puts_back}
-use Rattle.ghs_patient.specs.Choices.{AreChoices, AreChoicesBut, AreFor, ChoicesState, IsMarked, IsOwn, IsStirred, are_alike, has_second, is_double, moves_in, same_phase, same_place}
+use Rattle.ghs_patient.specs.Choices.{AreChoices, AreChoicesBut, AreFor, ChoicesState, IsMarked, IsStirred, are_alike, has_second, is_double, moves_in, same_place}
 
 -- a port of the network is one of its node
 pub port_below : (n : NetState) (v p : ℕ) → IsGraph n.graph → IsRun (network n) n.trace → At (network n) v p → p < degree ((net_of n).node v)
@@ -52,17 +47,6 @@ port_below n v p ok is_run at =
     omega (arith, lt, many)
 
 -- Heads that are alike.
-
-same_phase_so : (a b : Phase) → same_phase a b ≡ true → a ≡ b
-same_phase_so Sleeping Sleeping h = refl
-same_phase_so Sleeping Find h = cc
-same_phase_so Sleeping Found h = cc
-same_phase_so Find Sleeping h = cc
-same_phase_so Find Find h = refl
-same_phase_so Find Found h = cc
-same_phase_so Found Sleeping h = cc
-same_phase_so Found Find h = cc
-same_phase_so Found Found h = refl
 
 same_place_so : (a b : Option ℕ) → same_place a b ≡ true → a ≡ b
 same_place_so None None h = refl
@@ -79,7 +63,7 @@ alike_so : (h k : Head) → are_alike h k ≡ true → Alike h k
 alike_so h k t =
     let a = and_parts _ _ t in
     let b = and_parts _ _ a.1 in
-    record { phase = same_phase_so h.phase k.phase a.0; level = eqb-true h.level k.level b.0; in_branch = same_place_so h.in_branch k.in_branch b.1 }
+    record { phase = same_phase_is h.phase k.phase a.0; level = eqb-true h.level k.level b.0; in_branch = same_place_so h.in_branch k.in_branch b.1 }
 
 module _ (n k : NodeState) (q : ℕ) (same : Alike n.head k.head) (mark : mark_at n q ≡ mark_at k q) where
   -- the same messages wait

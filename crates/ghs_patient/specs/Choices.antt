@@ -5,9 +5,8 @@ use Rattle.ghs_node.specs.declared.delta.Delta.{Delta}
 use Rattle.ghs_node.specs.declared.head.Head.{Head}
 use Rattle.ghs_node.specs.declared.mark.Mark.{Mark}
 use Rattle.ghs_node.specs.declared.message.Message.{Message}
-use Rattle.ghs_node.specs.declared.message.Phase.{Phase}
-use Rattle.ghs_node.specs.declared.message.Phase.TheVariants.{Sleeping, Find, Found}
-use Rattle.ghs_node.specs.Words.{Outgoing, is_at, is_find, is_missing, is_sleeping}
+use Rattle.ghs_node.specs.Phases.{same_phase}
+use Rattle.ghs_node.specs.Words.{Outgoing, is_at, is_missing}
 use Rattle.ghs_protocol.specs.declared.event.Event.{Event}
 use Rattle.ghs_protocol.specs.declared.event.Event.TheVariants.{Wake, Take}
 use Rattle.ghs_protocol.specs.Network.{Network, far, far_port}
@@ -79,13 +78,6 @@ abbrev pub far_takes : Network → ℕ → Outgoing → List Event
 far_takes g v ss = map (λ (s : ℕ × Message). Take (far g v s.0) (far_port g v s.0)) ss
 
 -- two heads by which the same messages wait, at ports whose marks are the same
-abbrev pub same_phase : Phase → Phase → Bool
-same_phase Sleeping q = is_sleeping q
-same_phase Find q = is_find q
-same_phase Found Sleeping = false
-same_phase Found Find = false
-same_phase Found Found = true
-
 abbrev pub same_place : Option ℕ → Option ℕ → Bool
 same_place None o = is_missing o
 same_place (Some p) o = is_at o p

@@ -4,6 +4,7 @@ ghost use Rattle.std.specs.List.{All};
 ghost use Rattle.ghs_graph.specs.Graph.{IsGraph};
 ghost use Rattle.ghs_graph.specs.Ports.{ports_of};
 ghost use Rattle.ghs_node.specs.declared.message.Message.{Message as Letter};
+ghost use Rattle.ghs_node.specs.Phases.{same_phase};
 ghost use Rattle.ghs_protocol.specs.Network.{network_of, At};
 ghost use Rattle.ghs_core.specs.NetState.{network, net_of, event_node};
 ghost use Rattle.ghs_index.specs.Index.{IsFor, IsIndexOf};
@@ -13,7 +14,7 @@ ghost use Rattle.ghs_sched.specs.Schedule.{next_of};
 ghost use Rattle.ghs_world.specs.Ready.{all_events};
 ghost use Rattle.ghs_world.specs.WorldState.{has_place, home};
 ghost use Rattle.ghs_patient.specs.Patience.{puts_back};
-ghost use Rattle.ghs_patient.specs.Choices.{AreChoices, AreChoicesBut, AreFor, IsMarked, IsStirred, SecondsGo, are_alike, far_takes, has_second, is_double, marked, marked_all, marked_to, moves_in, patient_in, same_phase, same_place};
+ghost use Rattle.ghs_patient.specs.Choices.{AreChoices, AreChoicesBut, AreFor, IsMarked, IsStirred, SecondsGo, are_alike, far_takes, has_second, is_double, marked, marked_all, marked_to, moves_in, patient_in, same_place};
 
 use ghs_core::event::Event;
 use ghs_core::net::{Net, node_of};
@@ -149,8 +150,8 @@ impl Choices {
     }
 }
 
-// Whether an event is lawful under the wake set, and moves the run on.
-fn moves_on(world: &World, event: Event) -> bool
+/// Whether an event is lawful under the wake set, and moves the run on.
+pub fn moves_on(world: &World, event: Event) -> bool
     requires home { world.now.outs ≡ [] }
     requires place { HasPlace (network world.now.net) event }
     ensures { result ≡ moves_in world.now event }

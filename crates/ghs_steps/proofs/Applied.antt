@@ -8,13 +8,14 @@ use Rattle.ghs_node.specs.declared.delta.Delta.{Delta}
 use Rattle.ghs_node.specs.declared.mark.Mark.{Mark}
 use Rattle.ghs_node.specs.declared.mark.Mark.TheVariants.{Basic, Branch, Rejected}
 use Rattle.ghs_node.specs.declared.message.Phase.{Phase}
-use Rattle.ghs_node.specs.declared.message.Phase.TheVariants.{Sleeping, Find, Found}
+use Rattle.ghs_node.specs.Phases.{same_phase}
 use Rattle.ghs_node.specs.Words.{Best, key_eq}
+use Rattle.ghs_node.proofs.lemmas.{same_phase_is}
 use Rattle.ghs_node.specs.NodeState.{NodeState, mark_at, with_mark}
 use Rattle.ghs_node.specs.Reaction.{after}
 use Rattle.ghs_steps.specs.declared.change.Change.{Change}
 use Rattle.ghs_steps.specs.declared.change.Change.TheVariants as change
-use Rattle.ghs_steps.specs.Changes.{changes, fragment_changes, mark_change, same_best, same_key, same_mark, same_phase, same_port, search_changes, unless}
+use Rattle.ghs_steps.specs.Changes.{changes, fragment_changes, mark_change, same_best, same_key, same_mark, same_port, search_changes, unless}
 use Rattle.ghs_steps.specs.Deltas.{with_change, with_changes}
 
 -- what tests as the same is the same
@@ -35,17 +36,6 @@ mark_same Branch Rejected t = cc
 mark_same Rejected Basic t = cc
 mark_same Rejected Branch t = cc
 mark_same Rejected Rejected t = refl
-
-phase_same : (p q : Phase) → same_phase p q ≡ true → p ≡ q
-phase_same Sleeping Sleeping t = refl
-phase_same Sleeping Find t = cc
-phase_same Sleeping Found t = cc
-phase_same Find Sleeping t = cc
-phase_same Find Find t = refl
-phase_same Find Found t = cc
-phase_same Found Sleeping t = cc
-phase_same Found Find t = cc
-phase_same Found Found t = refl
 
 name_same : (k l : Option Key) → same_key k l ≡ true → k ≡ l
 name_same None None t = refl
@@ -111,7 +101,7 @@ fragment_made n new =
     (λ t. ap (λ x. record n1 { head = record n1.head { name = x } }) (sym (name_same old.name new.name t))) in
     let third : with_changes n l3 ≡ n3 =
     one_more n n2 l2 (same_phase old.phase new.phase) (change.Phase new.phase) second
-    (λ t. ap (λ x. record n2 { head = record n2.head { phase = x } }) (sym (phase_same old.phase new.phase t))) in
+    (λ t. ap (λ x. record n2 { head = record n2.head { phase = x } }) (sym (same_phase_is old.phase new.phase t))) in
     one_more n n3 l3 (old.find_count == new.find_count) (change.FindCount new.find_count) third
     (λ t. ap (λ x. record n3 { head = record n3.head { find_count = x } }) (sym (eqb-true old.find_count new.find_count t)))
 

@@ -5,9 +5,8 @@ use Rattle.ghs_node.specs.declared.head.Head.{Head}
 use Rattle.ghs_node.specs.declared.delta.Delta.{Delta}
 use Rattle.ghs_node.specs.declared.mark.Mark.{Mark}
 use Rattle.ghs_node.specs.declared.mark.Mark.TheVariants.{Basic, Branch, Rejected}
-use Rattle.ghs_node.specs.declared.message.Phase.{Phase}
-use Rattle.ghs_node.specs.declared.message.Phase.TheVariants.{Sleeping, Find, Found}
-use Rattle.ghs_node.specs.Words.{Best, key_eq, is_basic, is_branch, is_find, is_sleeping}
+use Rattle.ghs_node.specs.Phases.{same_phase}
+use Rattle.ghs_node.specs.Words.{Best, key_eq, is_basic, is_branch}
 use Rattle.ghs_node.specs.NodeState.{NodeState, mark_at}
 use Rattle.ghs_steps.specs.declared.change.Change.{Change}
 use Rattle.ghs_steps.specs.declared.change.Change.TheVariants as change
@@ -16,11 +15,6 @@ abbrev pub same_mark : Mark → Mark → Bool
 same_mark Basic m = is_basic m
 same_mark Branch m = is_branch m
 same_mark Rejected m = not (is_basic m) && not (is_branch m)
-
-abbrev pub same_phase : Phase → Phase → Bool
-same_phase Sleeping s = is_sleeping s
-same_phase Find s = is_find s
-same_phase Found s = not (is_sleeping s) && not (is_find s)
 
 abbrev pub same_key : Option Key → Option Key → Bool
 same_key None None = true

@@ -1,8 +1,9 @@
 //! What differs at a node after a reaction.
 ghost use Rattle.std.specs.Prelude.{◌≡◌, ◌++◌, ◌||◌, not, IfOk};
 ghost use Rattle.ghs_node.specs.Reaction.{IsReaction};
+ghost use Rattle.ghs_node.specs.Phases.{same_phase};
 ghost use Rattle.ghs_node.specs.Words.{key_eq};
-ghost use Rattle.ghs_steps.specs.Changes.{changes, fragment_changes, search_changes, same_best, same_key, same_mark, same_phase, same_port, unless};
+ghost use Rattle.ghs_steps.specs.Changes.{changes, fragment_changes, search_changes, same_best, same_key, same_mark, same_port, unless};
 
 use ghs_graph::key::Key;
 use ghs_node::delta::Delta;
