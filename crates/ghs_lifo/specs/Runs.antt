@@ -31,9 +31,13 @@ pub data IsPickedLast (may : ℕ → Bool) (g : Shape) (turns : ℕ) (trace : Li
       NoTakeMoves may (network_of g) (net_after g es) → IsPick (patient_events may (network_of g) (net_after g es)) s e →
       IsPickedLast may g turns trace words (es ++ e ∷ []) (next_of s)
 
+-- the same, from a world on
+abbrev pub IsPickedFrom : WorldState → List ℕ → List Event → List ℕ → Type 0
+IsPickedFrom old words es after = IsPickedLast (wakers old) old.net.graph old.turns old.net.trace words es after
+
 -- a world has run on so
 abbrev pub HasRun : WorldState → WorldState → List ℕ → List ℕ → Type 0
-HasRun old new words after = HasRunBy (IsPickedLast (wakers old) old.net.graph old.turns old.net.trace words) old new after
+HasRun old new words after = HasRunBy (IsPickedFrom old words) old new after
 
 -- the same of a world: the numbers of its net's messages, which Take is the latest, and whether none moves the run on
 abbrev pub newest_in : WorldState → Newest

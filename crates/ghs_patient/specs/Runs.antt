@@ -22,9 +22,13 @@ pub data IsPatientlyPicked (may : ℕ → Bool) (g : Shape) (turns : ℕ) (trace
       (HasEnded g (net_after g es) → ⊥) → length es < turns → IsPick (patient_events may (network_of g) (net_after g es)) s e →
       IsPatientlyPicked may g turns trace words (es ++ e ∷ []) (next_of s)
 
+-- a schedule has picked patiently, from a world on
+abbrev pub IsPickedFrom : WorldState → List ℕ → List Event → List ℕ → Type 0
+IsPickedFrom old words es after = IsPatientlyPicked (wakers old) old.net.graph old.turns old.net.trace words es after
+
 -- a world has run on patiently
 abbrev pub HasRun : WorldState → WorldState → List ℕ → List ℕ → Type 0
-HasRun old new words after = HasRunBy (IsPatientlyPicked (wakers old) old.net.graph old.turns old.net.trace words) old new after
+HasRun old new words after = HasRunBy (IsPickedFrom old words) old new after
 
 -- it has grown by twice as many events as the bound on messages and the nodes together, at most
 abbrev pub IsShort : WorldState → WorldState → Type 0

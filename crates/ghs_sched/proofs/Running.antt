@@ -16,8 +16,8 @@ use Rattle.ghs_world.specs.Steps.{IsSameWorld, Makes}
 use Rattle.ghs_world.specs.declared.wake_set.WakeSet.{WakeSet}
 use Rattle.ghs_world.specs.Wakes.{may_wake}
 use Rattle.ghs_world.specs.WorldState.{WorldState, has_turn, home, wakers}
-use Rattle.ghs_sched.specs.Picks.{Begun, IsPick, IsPicked, Picked, lawful_events}
-use Rattle.ghs_sched.specs.Runs.{HasMadeNext, HasRun, IsWhole}
+use Rattle.ghs_sched.specs.Picks.{Begun, IsPick, Picked, lawful_events}
+use Rattle.ghs_sched.specs.Runs.{HasMadeNext, HasRun, IsPickedFrom, IsWhole}
 use Rattle.ghs_sched.specs.Schedule.{next_of, word_of}
 use Rattle.ghs_sched.proofs.lemmas.Runs.{still_going, turn_left}
 use Rattle.ghs_sched.proofs.lemmas.Runs as runs
@@ -28,7 +28,7 @@ ready_is_lawful s e = rw e refl
 
 -- it begins with nothing out
 pub run_begins : (s t : WorldState) (words : List ℕ) → t ≡ record s { outs = [] } → HasRun s t words words
-run_begins s t words e = runs.run_begins (IsPicked (wakers s) s.net.graph s.turns s.net.trace words) s t words Begun e
+run_begins s t words e = runs.run_begins (IsPickedFrom s words) s t words Begun e
 
 -- one event more
 pub run_more : (old s new : WorldState) (words used after : List ℕ) →
@@ -42,7 +42,7 @@ run_more old s new words used after run going turn next =
     ready_is_lawful s run.outs
     ∙ ap (λ (w : WakeSet). lawful_events (may_wake s.net.graph w) s.net.graph s.net.trace) run.wake
     ∙ ap (λ (g : Shape). lawful_events (may_wake g old.wake) g s.net.trace) run.graph in
-    runs.run_more (IsPicked (wakers old) old.net.graph old.turns old.net.trace words) old s new used after next.event run next.made
+    runs.run_more (IsPickedFrom old words) old s new used after next.event run next.made
     (rw next.rest (Picked s.net.trace used next.event run.picked (still_going old s run.graph going) (turn_left old s run.turns turn)
     (subst (λ es. IsPick es used next.event) same next.pick)))
 
@@ -52,7 +52,7 @@ pub run_stays : (old s new : WorldState) (words used : List ℕ) →
     IsSameWorld s new →
     HasRun old new words used
 run_stays old s new words used run same =
-    runs.run_stays (IsPicked (wakers old) old.net.graph old.turns old.net.trace words) old s new used run same
+    runs.run_stays (IsPickedFrom old words) old s new used run same
 
 -- what is picked of the events that are ready is ready
 pub pick_is_ready : (s : WorldState) (k : ℕ) (e : Event) → slice_get (ready_events s) k ≡ Some e → is_ready s e ≡ true

@@ -23,9 +23,13 @@ pub record HasRunBy (leads : List Event → List ℕ → Type 0) (old new : Worl
   pub numbers : new.last + length old.net.trace ≡ old.last + length new.net.trace
   pub picked : leads new.net.trace after
 
--- it has picked lawful events
+-- a schedule has picked lawful events, from a world on
+abbrev pub IsPickedFrom : WorldState → List ℕ → List Event → List ℕ → Type 0
+IsPickedFrom old words es after = IsPicked (wakers old) old.net.graph old.turns old.net.trace words es after
+
+-- a world has run on by a schedule among all events
 abbrev pub HasRun : WorldState → WorldState → List ℕ → List ℕ → Type 0
-HasRun old new words after = HasRunBy (IsPicked (wakers old) old.net.graph old.turns old.net.trace words) old new after
+HasRun old new words after = HasRunBy (IsPickedFrom old words) old new after
 
 -- the trace is the whole seeded run
 abbrev pub IsWhole : WorldState → WorldState → List ℕ → List ℕ → Type 0

@@ -20,9 +20,13 @@ pub data IsPickedWaiting (may : ℕ → Bool) (g : Shape) (turns : ℕ) (trace :
       (HasEnded g (net_after g es) → ⊥) → length es < turns → IsPick (waiting_events may (network_of g) (net_after g es)) s e →
       IsPickedWaiting may g turns trace words (es ++ e ∷ []) (next_of s)
 
+-- a schedule that prefers what waits has picked so, from a world on
+abbrev pub IsPickedFrom : WorldState → List ℕ → List Event → List ℕ → Type 0
+IsPickedFrom old words es after = IsPickedWaiting (wakers old) old.net.graph old.turns old.net.trace words es after
+
 -- a world has run on so
 abbrev pub HasRun : WorldState → WorldState → List ℕ → List ℕ → Type 0
-HasRun old new words after = HasRunBy (IsPickedWaiting (wakers old) old.net.graph old.turns old.net.trace words) old new after
+HasRun old new words after = HasRunBy (IsPickedFrom old words) old new after
 
 -- the next word has picked one of the events that such a schedule picks from, and it has happened
 pub record HasMadeNext (old new : WorldState) (words after : List ℕ) : Type 0 where
