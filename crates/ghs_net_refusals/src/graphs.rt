@@ -13,7 +13,8 @@ use ghs_graph::union_find::Roots;
 use ghs_index::index::Index;
 use ghs_links::links::Links;
 use ghs_refusing::orders::{Turn, order, refuse, turn_of};
-use ghs_refusing::scenes::{FIVE, five, is_five};
+use ghs_refusing::scenes::{five, is_five};
+use ghs_test_graphs::graphs::PATH_OF_FIVE;
 use std::alloc::Global;
 use std::process::Abort;
 use std::test::Fail;
@@ -23,7 +24,9 @@ const KEYS: [(u32, u32, u32); 4] = [(1, 1, 2), (2, 2, 3), (3, 4, 5), (4, 3, 4)];
 
 /// The graph of the five nodes as its text gives it.
 fn raw_five(rt: &impl Abort, alloc: Global) -> RawGraph {
-    judge(alloc, FIVE.as_bytes()).ok().expect(rt, "a graph")
+    judge(alloc, PATH_OF_FIVE.as_bytes())
+        .ok()
+        .expect(rt, "a graph")
 }
 
 fn is_raw_five(raw: &RawGraph) -> bool {
@@ -32,25 +35,29 @@ fn is_raw_five(raw: &RawGraph) -> bool {
 
 /// Bytes that were taken from the reader are gone; read again, the text is whole.
 fn read_bytes(rt: &impl Abort, alloc: Global, k: usize) -> Turn {
-    let mut rest = FIVE.as_bytes();
+    let mut rest = PATH_OF_FIVE.as_bytes();
     order(alloc, k);
     let answer = read_text(alloc, &mut Device::of(&mut rest));
     let turn = turn_of(alloc, k, &answer);
     match answer {
-        Ok(text) => assert!(rt; text.as_slice() == FIVE.as_bytes()),
-        Err(fault) => assert!(rt; fault == TextFault::Memory && FIVE.as_bytes().ends_with(rest)),
+        Ok(text) => assert!(rt; text.as_slice() == PATH_OF_FIVE.as_bytes()),
+        Err(fault) => assert!(rt;
+            fault == TextFault::Memory && PATH_OF_FIVE.as_bytes().ends_with(rest)
+        ),
     }
     turn
 }
 
 fn read_graph(rt: &impl Abort, alloc: Global, k: usize) -> Turn {
-    let mut rest = FIVE.as_bytes();
+    let mut rest = PATH_OF_FIVE.as_bytes();
     order(alloc, k);
     let answer = read_gr(alloc, &mut Device::of(&mut rest));
     let turn = turn_of(alloc, k, &answer);
     match answer {
         Ok(raw) => assert!(rt; is_raw_five(&raw)),
-        Err(fault) => assert!(rt; fault == GrFault::Memory && FIVE.as_bytes().ends_with(rest)),
+        Err(fault) => assert!(rt;
+            fault == GrFault::Memory && PATH_OF_FIVE.as_bytes().ends_with(rest)
+        ),
     }
     turn
 }
@@ -90,7 +97,7 @@ fn make(rt: &impl Abort, alloc: Global, made: Made, k: usize) -> Turn {
     let graph = five(alloc).expect(rt, "a graph");
     order(alloc, k);
     let turn = match made {
-        Made::Raw => turn_of(alloc, k, &judge(alloc, FIVE.as_bytes())),
+        Made::Raw => turn_of(alloc, k, &judge(alloc, PATH_OF_FIVE.as_bytes())),
         Made::Copy => turn_of(alloc, k, &graph.copy(alloc)),
         Made::Spanning => turn_of(alloc, k, &span_raw(alloc, &raw)),
         Made::Tree => turn_of(alloc, k, &tree_of(alloc, &raw)),

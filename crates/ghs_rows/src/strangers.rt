@@ -1,6 +1,8 @@
 //! Steps and tickets that a world doesn't take: they are of another world, or were called back.
-use crate::worlds::{MOST_TURNS, check_out, commit, do_all, hold, let_go, path, step_of, world_of};
+use crate::worlds::{check_out, commit, do_all, hold, let_go, path, step_of, world_of};
 use ghs_core::event::Event;
+use ghs_sched::trace::EVENT_LIMIT;
+use ghs_test_graphs::graphs::HEAVIER_PATH_OF_THREE;
 use ghs_world::fault::{BackFault, CommitFault};
 use ghs_world::ticket::{Step, Ticket};
 use ghs_world::wake_set::WakeSet;
@@ -158,8 +160,8 @@ fn twins_that_went_apart(rt: HostRuntime) {
 
 /// A step of a world in which a link of the path is heavier.
 fn step_of_another_weight(rt: &impl Abort, alloc: Global, event: Event) -> Step {
-    let text = "p sp 3 2\na 1 2 6\na 2 3 7";
-    let mut other = world_of(rt, alloc, text, WakeSet::All, MOST_TURNS);
+    let text = HEAVIER_PATH_OF_THREE;
+    let mut other = world_of(rt, alloc, text, WakeSet::All, EVENT_LIMIT);
     let step = step_of(rt, alloc, &mut other, event);
     let_go(other);
     step
