@@ -167,13 +167,13 @@ impl Read for Failing {
     }
 }
 
-fn p_sp() -> Device<Failing> {
-    Device::of(Failing { bytes: b"p sp" })
+fn p_sp() -> Failing {
+    Failing { bytes: b"p sp" }
 }
 
 #[test]
 fn tells_of_a_failing_reader(rt: HostRuntime) {
-    let mut reader = p_sp();
+    let mut reader = Device::of(p_sp());
     assert!(rt; !Source::failed(&reader));
     let fault = read_gr(rt.alloc(), &mut reader).err();
     assert_same_fault(&rt, b"p sp", fault, Some(GrFault::Read));
@@ -251,12 +251,13 @@ fn reads_texts_whole(rt: HostRuntime) {
     let text = TRIANGLE.as_bytes();
     let read = read_text(rt.alloc(), &mut Device::of(text));
     assert_read(&rt, read, Ok(text));
-    let failed = read_text(rt.alloc(), &mut p_sp());
+    let failed = read_text(rt.alloc(), &mut Device::of(p_sp()));
     assert_read(&rt, failed, Err(TextFault::Read));
 }
 
 /// A line that is written to a device is behind it.
 fn assert_written(rt: &impl Abort, alloc: Global, line: &[u8]) {
+    assert!(rt; !line.is_empty());
     let mut bytes = Vec::new(alloc);
     let mut writer = Device::of(&mut bytes);
     let written = Sink::write(&mut writer, line).ok();

@@ -144,7 +144,7 @@ fn assert_weight(rt: &impl Abort, one: &Key, other: &Key, weight: u64) {
     assert_eq!(rt; one.weight as u64 + other.weight as u64, weight);
 }
 
-// Each two of the links join all nodes, and weigh as much.
+/// Each two of the links join all nodes, and weigh as much.
 #[test]
 fn equal_weights(rt: HostRuntime) {
     assert_weight(&rt, &EQUAL_LINKS[0], &EQUAL_LINKS[1], 8);

@@ -35,7 +35,7 @@ fn world_of(rt: &impl Abort, alloc: Global, text: &[u8]) -> World {
 /// Lets go of a world here, so that its memory's way isn't in the proof of each test that has one.
 fn let_go(_world: World) {}
 
-// Checks out an event, and its node reacts.
+/// Checks out an event, and its node reacts.
 fn step_of(rt: &impl Abort, alloc: Global, world: &mut World, event: Event) -> Step {
     let ticket = world.check_out(alloc, event).ok().expect(rt, "a ticket");
     ticket.perform(alloc).ok().expect(rt, "a step")
@@ -48,7 +48,7 @@ fn make(rt: &impl Abort, alloc: Global, world: &mut World, event: Event) {
 
 const BEGUN: [Event; 2] = [Event::Wake(2), Event::Wake(4)];
 
-// Does events, and leaves one more out.
+/// Does events, and leaves one more out.
 fn begin(rt: &impl Abort, alloc: Global, world: &mut World) {
     for event in &BEGUN {
         make(rt, alloc, world, *event);
@@ -56,7 +56,7 @@ fn begin(rt: &impl Abort, alloc: Global, world: &mut World) {
     assert!(rt; world.check_out(alloc, Event::Wake(1)).is_ok());
 }
 
-// Runs a world on to its end.
+/// Runs a world on to its end.
 fn run<G: Gate + Sync, R: Threads + Wait + Sync + Abort>(
     rt: &R,
     alloc: Global,
@@ -89,7 +89,7 @@ fn a_run_goes_on_from_its_world(rt: HostRuntime) {
     }
 }
 
-// Holds ticket 1 until ticket 2 is out and ticket 2 until ticket 1 is, and notes what came.
+/// Holds ticket 1 until ticket 2 is out and ticket 2 until ticket 1 is, and notes what came.
 #[derive(Drop)]
 struct Hold {
     first: AtomicU64,
@@ -146,8 +146,8 @@ fn two_nodes_are_out_at_once(rt: HostRuntime) {
     assert_noted(&rt, &gate.noted, 2);
 }
 
-// Holds ticket 1 and then each hundredth, up to 500, until another worker comes with a ticket too. The thread that holds it
-// stands here, so whoever comes meanwhile is another.
+/// Holds ticket 1 and then each hundredth, up to 500, until another worker comes with a ticket too. The thread that holds it
+/// stands here, so whoever comes meanwhile is another.
 #[derive(Drop)]
 struct Meeting {
     came: AtomicU64,
@@ -181,7 +181,7 @@ impl Gate for Meeting {
     fn ended(&self, _tally: Tally) {}
 }
 
-// The first line of a text.
+/// The first line of a text.
 fn first_line(alloc: Global, nodes: u32, links: u32) -> Result<Vec<u8>, AllocError> {
     let mut text = Vec::from_slice(alloc, b"p sp ")?;
     put_number(&mut text, nodes as u128)?;
@@ -190,7 +190,7 @@ fn first_line(alloc: Global, nodes: u32, links: u32) -> Result<Vec<u8>, AllocErr
     Ok(text)
 }
 
-// A link's line behind a text.
+/// A link's line behind a text.
 fn put_link(text: &mut Vec<u8>, a: u32, b: u32, weight: u64) -> Result<(), AllocError> {
     text.extend_from_slice(b"\na ")?;
     put_number(text, a as u128)?;
@@ -200,7 +200,7 @@ fn put_link(text: &mut Vec<u8>, a: u32, b: u32, weight: u64) -> Result<(), Alloc
     put_number(text, weight as u128)
 }
 
-// A ring; its weights turn three times.
+/// A ring; its weights turn three times.
 fn ring(alloc: Global, nodes: u32) -> Result<Vec<u8>, AllocError> {
     let mut text = first_line(alloc, nodes, nodes)?;
     for v in 1..=nodes {
@@ -210,13 +210,13 @@ fn ring(alloc: Global, nodes: u32) -> Result<Vec<u8>, AllocError> {
     Ok(text)
 }
 
-// The opening world of a ring of 1,100 nodes.
+/// The opening world of a ring of 1,100 nodes.
 fn world_of_ring(rt: &impl Abort, alloc: Global) -> World {
     let text = ring(alloc, 1_100).expect(rt, "a text");
     world_of(rt, alloc, &text)
 }
 
-// While a ticket up to the 500th is held, others can't have all of the 1,100 nodes out: so somebody else finds one.
+/// While a ticket up to the 500th is held, others can't have all of the 1,100 nodes out: so somebody else finds one.
 #[test]
 fn eight_workers_hold_two_tickets_at_once(rt: HostRuntime) {
     let gate = Meeting::new();
@@ -226,7 +226,7 @@ fn eight_workers_hold_two_tickets_at_once(rt: HostRuntime) {
     assert_noted(&rt, &gate.met, 6);
 }
 
-// Counts the tickets that were performed, the events that the workers say they made, and those beside another's.
+/// Counts the tickets that were performed, the events that the workers say they made, and those beside another's.
 #[derive(Drop)]
 struct Count {
     tickets: AtomicU64,
@@ -255,7 +255,7 @@ impl Gate for Count {
     }
 }
 
-// A star of node 1 and of leaves from node 2 on, each link as heavy as its leaf's number.
+/// A star of node 1 and of leaves from node 2 on, each link as heavy as its leaf's number.
 fn star(alloc: Global, nodes: u32) -> Result<Vec<u8>, AllocError> {
     let mut text = first_line(alloc, nodes, nodes.saturating_sub(1))?;
     for leaf in 2..=nodes {
@@ -264,19 +264,19 @@ fn star(alloc: Global, nodes: u32) -> Result<Vec<u8>, AllocError> {
     Ok(text)
 }
 
-// The workers say that they made so many events, and one alone none beside another's.
+/// The workers say that they made so many events, and one alone none beside another's.
 fn assert_counted(rt: &impl Abort, gate: &Count, workers: u32, events: u64) {
     assert_eq!(rt; gate.commits.load(Ordering::SeqCst), events);
     assert!(rt; workers > 1 || gate.beside.load(Ordering::SeqCst) == 0);
 }
 
-// How many events were those of node 1.
+/// How many events were those of node 1.
 fn events_of_first(world: &World) -> u64 {
     let is_of_first = |event: &&Event| matches!(event, Event::Wake(1) | Event::Take(1, _));
     world.trace().iter().filter(is_of_first).count() as u64
 }
 
-// The graph's run by so many workers, its events, the tickets, and how many events were those of node 1.
+/// The graph's run by so many workers, its events, the tickets, and how many events were those of node 1.
 fn count_tickets<R: Threads + Wait + Sync + Abort>(
     rt: &R,
     alloc: Global,
@@ -306,7 +306,7 @@ fn assert_hub_goes_out<R: Threads + Wait + Sync + Abort>(
     assert!(rt; workers > 1 || tickets == least);
 }
 
-// A node of 1,025 to 2,048 ports goes out on a ticket in every second of its events, and makes the others at once.
+/// A node of 1,025 to 2,048 ports goes out on a ticket in every second of its events, and makes the others at once.
 #[test]
 fn a_hub_goes_out_in_every_second_event(rt: HostRuntime) {
     let text = star(rt.alloc(), 1_101).expect(&rt, "a text");
@@ -315,7 +315,7 @@ fn a_hub_goes_out_in_every_second_event(rt: HostRuntime) {
     }
 }
 
-// Two nodes with so many links, each as heavy as its place among them.
+/// Two nodes with so many links, each as heavy as its place among them.
 fn parallel(alloc: Global, links: u32) -> Result<Vec<u8>, AllocError> {
     let mut text = first_line(alloc, 2, links)?;
     for weight in 1..=links {
@@ -331,7 +331,7 @@ fn assert_hubs_go_out<R: Threads + Wait + Sync + Abort>(rt: &R, alloc: Global, t
     assert_eq!(rt; tickets, (of_first / 2).saturating_add(of_second / 2));
 }
 
-// Two nodes of 1,025 ports, and nobody else: half of their events go out on tickets, which none did once.
+/// Two nodes of 1,025 ports, and nobody else: half of their events go out on tickets, which none did once.
 #[test]
 fn two_hubs_alone_go_out(rt: HostRuntime) {
     let text = parallel(rt.alloc(), 1_025).expect(&rt, "a text");
@@ -363,8 +363,8 @@ fn assert_trace(rt: &impl Abort, world: &World, events: &[Event]) {
     assert!(rt; world.trace() == events);
 }
 
-// The numbers of the nodes that have an event stand in the queue at first, and each commit puts those that it wakes and that
-// don't wait: nodes are served in that order, and of a node's ports the one behind the last that was served comes first.
+/// The numbers of the nodes that have an event stand in the queue at first, and each commit puts those that it wakes and that
+/// don't wait: nodes are served in that order, and of a node's ports the one behind the last that was served comes first.
 #[test]
 fn one_worker_serves_from_the_queue(rt: HostRuntime) {
     let world = world_of(&rt, rt.alloc(), PATH_OF_THREE.as_bytes());
@@ -374,7 +374,7 @@ fn one_worker_serves_from_the_queue(rt: HostRuntime) {
     let_go(world);
 }
 
-// The first 192 events are the wakes of the first nodes, in their order. Counts the wakes.
+/// The first 192 events are the wakes of the first nodes, in their order. Counts the wakes.
 fn assert_wakes(rt: &impl Abort, place: usize, event: &Event, woken: &mut u32) {
     if let Event::Wake(v) = event {
         *woken = woken.saturating_add(1);
@@ -392,8 +392,8 @@ fn assert_all_woken(rt: &impl Abort, events: &[Event], nodes: u32) {
     assert_eq!(rt; woken, nodes);
 }
 
-// Where many numbers wait one worker serves 64 of them at a visit, in their order: so the run begins with the wakes of the
-// first nodes, and all nodes are awake before much else has happened. A look comes after each 256 numbers, and finds one event.
+/// Where many numbers wait one worker serves 64 of them at a visit, in their order: so the run begins with the wakes of the
+/// first nodes, and all nodes are awake before much else has happened. A look comes after each 256 numbers, and finds one event.
 #[test]
 fn one_worker_serves_all_numbers(rt: HostRuntime) {
     let world = world_of_ring(&rt, rt.alloc());
@@ -413,13 +413,13 @@ const ONE_COMMIT: Progress = Progress {
     halted: false,
 };
 
-// A shop of a world without commits.
+/// A shop of a world without commits.
 fn open_shop(rt: &impl Abort, alloc: Global, world: World) -> Shop {
     let (_board, publisher, _reader) = Board::open(alloc, NONE_YET).expect(rt, "a board");
     Shop::open(world, publisher).ok().expect(rt, "a shop")
 }
 
-// There is no such shop, since the world has commits.
+/// There is no such shop, since the world has commits.
 fn assert_no_shop(rt: &impl Abort, alloc: Global, world: World) {
     let (_board, publisher, _reader) = Board::open(alloc, NONE_YET).expect(rt, "a board");
     assert!(rt; Shop::open(world, publisher).is_err());
@@ -446,7 +446,7 @@ fn a_shop_tells_of_each_commit(rt: HostRuntime) {
     assert_no_shop(&rt, alloc, world);
 }
 
-// A step of another world of the pair.
+/// A step of another world of the pair.
 fn step_of_a_twin(rt: &impl Abort, alloc: Global) -> Step {
     let mut twin = world_of(rt, alloc, PAIR.as_bytes());
     let step = step_of(rt, alloc, &mut twin, Event::Wake(1));
@@ -458,7 +458,7 @@ fn refuse(rt: &impl Abort, alloc: Global, shop: &mut Shop, step: Step) {
     assert!(rt; shop.commit(alloc, step).is_err());
 }
 
-// A step of another world is refused: its event doesn't happen, and nothing is published.
+/// A step of another world is refused: its event doesn't happen, and nothing is published.
 #[test]
 fn a_refused_commit_tells_nothing(rt: HostRuntime) {
     let alloc = rt.alloc();
@@ -472,8 +472,8 @@ fn a_refused_commit_tells_nothing(rt: HostRuntime) {
     let_go(world);
 }
 
-// Holds ticket 3 until a reader has seen a pair of a run under way, and notes that it came. Of two workers' tickets one of
-// the first two is committed before the third goes out.
+/// Holds ticket 3 until a reader has seen a pair of a run under way, and notes that it came. Of two workers' tickets one of
+/// the first two is committed before the third goes out.
 #[derive(Drop)]
 struct Meet {
     seen: AtomicU64,
@@ -505,7 +505,7 @@ impl Gate for Meet {
     fn ended(&self, _tally: Tally) {}
 }
 
-// Reads until the run has ended.
+/// Reads until the run has ended.
 fn watch(board: &Board, mut reader: Reader, gate: &Meet) -> Reader
     requires { reader.table ≡ board.now }
     ensures { result.table ≡ board.now }
@@ -523,7 +523,7 @@ fn watch(board: &Board, mut reader: Reader, gate: &Meet) -> Reader
     reader
 }
 
-// The opening world of five nodes, of which this publisher tells.
+/// The opening world of five nodes, of which this publisher tells.
 fn told_world(rt: &impl Abort, alloc: Global, publisher: Publisher) -> (World, Publisher)
     ensures { IsTold result.0 result.1 }
 {
@@ -534,7 +534,7 @@ fn told_world(rt: &impl Abort, alloc: Global, publisher: Publisher) -> (World, P
     shop.close()
 }
 
-// The last pair is that of a run that has ended.
+/// The last pair is that of a run that has ended.
 fn assert_last(rt: &impl Abort, world: &World, last: Progress) {
     assert!(rt; last.halted && last.commits == world.trace().len() as u64);
 }
@@ -545,7 +545,7 @@ fn assert_reads(rt: &impl Abort, board: &Board, reader: &mut Reader, progress: P
     assert_eq!(rt; board.read(reader), progress);
 }
 
-// Two threads read while two workers run, each until the end: one finds a pair on the way, and then each the world's.
+/// Two threads read while two workers run, each until the end: one finds a pair on the way, and then each the world's.
 fn run_beside_readers<R: Threads + Wait + Sync + Abort>(rt: &R, alloc: Global) {
     let (board, publisher, mut first) = Board::open(alloc, NONE_YET).expect(rt, "a board");
     let second = board.split(alloc, &mut first).expect(rt, "a reader");

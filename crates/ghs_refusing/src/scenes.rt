@@ -91,3 +91,14 @@ pub fn stands(alloc: Global, world: &World, twin: &World) -> bool {
         _ => false,
     }
 }
+
+/// Whether a world is as the one after these events.
+pub fn is_after(alloc: Global, world: &World, events: &[Event]) -> bool {
+    match world_after(alloc, events) {
+        Some(twin) => stands(alloc, world, &twin),
+        None => false,
+    }
+}
+
+/// Lets go of a world here, so that its memory's way isn't in the proof of each test that has one.
+pub fn let_go(_world: World) {}

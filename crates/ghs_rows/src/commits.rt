@@ -176,7 +176,7 @@ fn assert_events(rt: &impl Abort, world: &World, from: usize, events: &[Event]) 
     assert!(rt; world.trace().get(from..) == Some(events));
 }
 
-// While node 2 is out, node 1 acts; node 2's message waits, and is put back.
+/// While node 2 is out, node 1 acts; node 2's message waits, and is put back.
 #[test]
 fn one_out_while_another_acts(rt: HostRuntime) {
     let alloc = rt.alloc();
@@ -225,7 +225,7 @@ fn ends_at_level(rt: &impl Abort, alloc: Global, text: &str, nodes: u32, level: 
     let_go(world);
 }
 
-// At the end each component is one fragment.
+/// At the end each component is one fragment.
 #[test]
 fn fragments_at_the_end(rt: HostRuntime) {
     let alloc = rt.alloc();
@@ -254,7 +254,7 @@ fn make_all(rt: &impl Abort, alloc: Global, world: &mut World, events: &[Event])
     }
 }
 
-// The same run without tickets has the same text, and has used as many numbers.
+/// The same run without tickets has the same text, and has used as many numbers.
 #[test]
 fn two_nodes_at_once(rt: HostRuntime) {
     let alloc = rt.alloc();

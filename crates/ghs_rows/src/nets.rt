@@ -354,7 +354,7 @@ fn run_parallel_links(rt: &impl Abort, alloc: Global, order: &[u32]) {
     assert_sent(rt, &net, [2, 2, 2, 0, 0, 2, 0]);
 }
 
-// Of two parallel links the lighter one is the tree. Each node tests the other one, and neither Test is answered.
+/// Of two parallel links the lighter one is the tree. Each node tests the other one, and neither Test is answered.
 #[test]
 fn parallel_links(rt: HostRuntime) {
     let alloc = rt.alloc();
@@ -389,7 +389,7 @@ fn end_pieces(rt: &impl Abort, alloc: Global, net: &mut Net) {
     go_on(rt, alloc, net, &[Event::Wake(5)], true);
 }
 
-// A run has ended where each component has, and not before.
+/// A run has ended where each component has, and not before.
 #[test]
 fn pieces(rt: HostRuntime) {
     let alloc = rt.alloc();
@@ -480,7 +480,7 @@ fn put_back_of_two(rt: &impl Abort, alloc: Global, net: &mut Net, event: Event) 
     assert!(rt; sent_in(net) == 2);
 }
 
-// A message that comes to a sleeping node is put back, and yet the run has moved on: the node is awake.
+/// A message that comes to a sleeping node is put back, and yet the run has moved on: the node is awake.
 #[test]
 fn a_message_put_back_at_a_sleeper(rt: HostRuntime) {
     let alloc = rt.alloc();
@@ -503,7 +503,7 @@ const UNTIL_ALL_WAIT: [Event; 7] = [
     Event::Take(1, 1),
 ];
 
-// All first messages wait; behind one of them stands the message that moves the run on.
+/// All first messages wait; behind one of them stands the message that moves the run on.
 #[test]
 fn all_first_messages_wait(rt: HostRuntime) {
     let alloc = rt.alloc();

@@ -32,7 +32,7 @@ fn pair_of(rt: &impl Abort, alloc: Global) -> World {
     world_of(rt, alloc, PAIR, WakeSet::All, EVENT_LIMIT)
 }
 
-// The run is the same where tickets were out, and the words behind it are the schedule's next ones.
+/// The run is the same where tickets were out, and the words behind it are the schedule's next ones.
 #[test]
 fn tickets_come_back_before_a_run(rt: HostRuntime) {
     let alloc = rt.alloc();
@@ -45,7 +45,7 @@ fn tickets_come_back_before_a_run(rt: HostRuntime) {
     let_go(world);
 }
 
-// A run that has ended uses no word.
+/// A run that has ended uses no word.
 #[test]
 fn a_run_that_has_ended_stays(rt: HostRuntime) {
     let alloc = rt.alloc();

@@ -129,7 +129,7 @@ fn commit_of_a_twin(rt: &impl Abort, alloc: Global, world: &mut World, event: Ev
     let_go(twin);
 }
 
-// A step with equal number, event, node and work is the same step, whichever world it is of.
+/// A step with equal number, event, node and work is the same step, whichever world it is of.
 #[test]
 fn twins(rt: HostRuntime) {
     let alloc = rt.alloc();
@@ -142,7 +142,7 @@ fn twins(rt: HostRuntime) {
     let_go(world);
 }
 
-// The event, its number and its message are equal, but node 1 is awake in one world and asleep in the other.
+/// The event, its number and its message are equal, but node 1 is awake in one world and asleep in the other.
 #[test]
 fn twins_that_went_apart(rt: HostRuntime) {
     let alloc = rt.alloc();

@@ -109,7 +109,7 @@ fn take_back(rt: &impl Abort, world: &mut World, ticket: Ticket) {
     assert!(rt; world.give_back(ticket).is_ok());
 }
 
-// With one turn left one node may be out; its number is used up when it is taken back, and the turn is there again.
+/// With one turn left one node may be out; its number is used up when it is taken back, and the turn is there again.
 #[test]
 fn one_turn(rt: HostRuntime) {
     let alloc = rt.alloc();
