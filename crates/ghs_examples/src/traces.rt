@@ -3,12 +3,11 @@ use ghs_protocol::event::Event;
 use ghs_sched::fault::TraceFault;
 use ghs_sched::schedule::Schedule;
 use ghs_sched::trace::{read_trace, write_trace};
+use ghs_test_graphs::traces::PAIR_TRACE;
 use std::alloc::Global;
 use std::process::Abort;
 
-/// The trace of a run of two nodes with one link.
-const PAIR: &str = "trace 7\nwake 1\nwake 2\ntake 1 0\ntake 2 0\ntake 1 0\ntake 2 0\ntake 1 0\n";
-
+/// A run of the pair.
 const PAIR_EVENTS: [Event; 7] = [
     Event::Wake(1),
     Event::Wake(2),
@@ -41,7 +40,7 @@ fn goes_there_and_back(rt: &impl Abort, alloc: Global, events: &[Event], text: &
 fn traces_are_written_and_read(rt: HostRuntime) {
     let alloc = rt.alloc();
     writes(&rt, alloc, &[], "trace 0\n");
-    goes_there_and_back(&rt, alloc, &PAIR_EVENTS, PAIR);
+    goes_there_and_back(&rt, alloc, &PAIR_EVENTS, PAIR_TRACE);
 
     let greatest = [Event::Take(u32::MAX, u32::MAX), Event::Wake(0)];
     let text = "trace 2\ntake 4294967295 4294967295\nwake 0\n";

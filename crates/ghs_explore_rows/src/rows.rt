@@ -8,7 +8,7 @@ pub struct Row {
     pub first: &'static str,
 }
 
-pub const ROWS: [Row; 20] = [
+pub static ROWS: [Row; 20] = [
     Row {
         name: "a lone node",
         graph: "p sp 1 0",

@@ -1,102 +1,151 @@
 //! What is found of all runs, and runs of each line.
-use crate::rows::ROWS;
+use crate::rows::{ROWS, Row};
 use ghs_explore::explore::explore;
 use ghs_explore::explored::Explored;
 use ghs_explore::fault::ExploreFault;
 use ghs_explore::text::explored_text;
-use ghs_gr::judgement::judge;
-use ghs_graph::graph::Graph;
+use ghs_protocol::event::Event;
 use ghs_sched::replay::replay;
+use ghs_test_graphs::build::graph_of;
+use ghs_test_graphs::graphs::PATH_OF_THIRTEEN;
 use ghs_world::wake_set::WakeSet;
+use ghs_world::world::World;
 use std::alloc::Global;
-use std::test::Fail;
+use std::process::Abort;
 
 /// More states than any of these networks has.
 const LIMIT: u32 = 1_000_000;
 
-const PATH_OF_13: &str =
-    "p sp 13 12\na 1 2 1\na 2 3 1\na 3 4 1\na 4 5 1\na 5 6 1\na 6 7 1\na 7 8 1\na 8 9 1\na 9 10 1\na 10 11 1\na 11 12 1\na 12 13 1";
-
-fn graph_of(alloc: Global, text: &str) -> Result<Graph, Fail> {
-    let raw = judge(alloc, text.as_bytes()).ok().ok_or("no graph")?;
-    Ok(Graph::build(alloc, raw).ok().ok_or("no memory")?)
+/// What is found of all runs of a network's text, up to so many states.
+fn try_to_explore(
+    rt: &impl Abort,
+    alloc: Global,
+    text: &str,
+    wake: WakeSet,
+    limit: u32,
+) -> Result<Explored, ExploreFault> {
+    let graph = graph_of(alloc, text.as_bytes()).expect(rt, "a graph");
+    assert!(rt; limit >= 1);
+    explore(alloc, &graph, wake, limit)
 }
 
-fn explored(alloc: Global, text: &str, wake: WakeSet) -> Result<Explored, Fail> {
-    let graph = graph_of(alloc, text)?;
-    Ok(
-        explore(alloc, &graph, wake, LIMIT)
-            .ok()
-            .ok_or("not explored")?,
-    )
+fn explored(rt: &impl Abort, alloc: Global, row: &Row, wake: WakeSet) -> Explored {
+    let found = try_to_explore(rt, alloc, row.graph, wake, LIMIT);
+    found.ok().expect(rt, "an exploration")
+}
+
+fn assert_lines(rt: &impl Abort, alloc: Global, row: &Row, wake: WakeSet, lines: &str) {
+    let found = explored(rt, alloc, row, wake);
+    let text = explored_text(alloc, &found).expect(rt, "memory");
+    assert_eq!(rt; text.as_slice(), lines.as_bytes(), "of {}", row.name);
+}
+
+fn assert_all_lines(rt: &impl Abort, alloc: Global, rows: &[Row]) {
+    for row in rows {
+        assert_lines(rt, alloc, row, WakeSet::All, row.all);
+        assert_lines(rt, alloc, row, WakeSet::First, row.first);
+    }
 }
 
 /// The lines of each network are those of an explorer that shares nothing with this one.
 #[test]
-fn lines_are_an_explorers(rt: HostRuntime) -> Result<(), Fail> {
-    for row in &ROWS {
-        for (wake, lines) in [(WakeSet::All, row.all), (WakeSet::First, row.first)] {
-            let found = explored(rt.alloc(), row.graph, wake)?;
-            let text = explored_text(rt.alloc(), &found)?;
-            assert_eq!(rt; text.as_slice(), lines.as_bytes(), "of {}", row.name);
-        }
-    }
-    Ok(())
+fn lines_are_an_explorers(rt: HostRuntime) {
+    assert_all_lines(&rt, rt.alloc(), &ROWS);
 }
 
-/// Each line has a run, which replays to the line's counts.
-#[test]
-fn lines_have_runs(rt: HostRuntime) -> Result<(), Fail> {
-    for row in &ROWS {
-        for wake in [WakeSet::All, WakeSet::First] {
-            let found = explored(rt.alloc(), row.graph, wake)?;
-            for k in 0..found.rows().len() {
-                let events = found.run(rt.alloc(), k)?;
-                let graph = graph_of(rt.alloc(), row.graph)?;
-                let world = replay(rt.alloc(), graph, wake, events.as_slice())
-                    .ok()
-                    .ok_or("no replay")?;
-                assert!(rt; world.ended(), "of {}", row.name);
-                let sent = found.rows()[k].sent;
-                for kind in 0..7 {
-                    assert_eq!(rt;
-                        world.ledger().sent[kind],
-                        sent[kind] as u64,
-                        "of {}",
-                        row.name
-                    );
-                }
-            }
-        }
+/// The world after a run of a network.
+fn replayed(rt: &impl Abort, alloc: Global, row: &Row, wake: WakeSet, events: &[Event]) -> World {
+    let graph = graph_of(alloc, row.graph.as_bytes()).expect(rt, "a graph");
+    assert!(rt; events.len() < 1 << 32);
+    let world = replay(alloc, graph, wake, events).ok();
+    world.expect(rt, "a run")
+}
+
+fn assert_sent(rt: &impl Abort, row: &Row, sent: u64, count: u8) {
+    assert_eq!(rt; sent, count as u64, "of {}", row.name);
+}
+
+/// A run has ended, with so many messages of each kind.
+fn assert_end(rt: &impl Abort, row: &Row, world: &World, sent: &[u8; 7]) {
+    assert!(rt; world.ended(), "of {}", row.name);
+    let counts = world.ledger().sent;
+    for kind in 0..7 {
+        assert_sent(rt, row, counts[kind], sent[kind]);
     }
-    Ok(())
+}
+
+/// A line has a run, which replays to the line's counts.
+fn assert_run(
+    rt: &impl Abort,
+    alloc: Global,
+    row: &Row,
+    wake: WakeSet,
+    found: &Explored,
+    line: usize,
+) {
+    assert!(rt; line < found.rows().len());
+    let events = found.run(alloc, line).expect(rt, "memory");
+    let world = replayed(rt, alloc, row, wake, &events);
+    assert_end(rt, row, &world, &found.rows()[line].sent);
+}
+
+fn assert_runs(rt: &impl Abort, alloc: Global, row: &Row, wake: WakeSet) {
+    let found = explored(rt, alloc, row, wake);
+    for line in 0..found.rows().len() {
+        assert_run(rt, alloc, row, wake, &found, line);
+    }
+}
+
+fn assert_all_runs(rt: &impl Abort, alloc: Global, rows: &[Row]) {
+    for row in rows {
+        assert_runs(rt, alloc, row, WakeSet::All);
+        assert_runs(rt, alloc, row, WakeSet::First);
+    }
+}
+
+#[test]
+fn lines_have_runs(rt: HostRuntime) {
+    assert_all_runs(&rt, rt.alloc(), &ROWS);
+}
+
+/// A network is explored up to so many states, or isn't.
+fn assert_explored(
+    rt: &impl Abort,
+    alloc: Global,
+    row: &Row,
+    limit: u32,
+    fault: Option<ExploreFault>,
+) {
+    let found = try_to_explore(rt, alloc, row.graph, WakeSet::All, limit).err();
+    assert_eq!(rt; found, fault, "of {}", row.name);
+}
+
+fn assert_limit(rt: &impl Abort, alloc: Global, row: &Row) {
+    let states = explored(rt, alloc, row, WakeSet::All).states();
+    assert!(rt; states >= 1 && states <= LIMIT as usize);
+    let states = states as u32;
+    assert_explored(rt, alloc, row, states, None);
+    if states > 1 {
+        assert_explored(rt, alloc, row, states - 1, Some(ExploreFault::TooMany));
+    }
+}
+
+fn assert_limits(rt: &impl Abort, alloc: Global, rows: &[Row]) {
+    for row in rows {
+        assert_limit(rt, alloc, row);
+    }
 }
 
 /// As many states as the limit are taken, and one more isn't.
 #[test]
-fn limits_are_exact(rt: HostRuntime) -> Result<(), Fail> {
-    for row in &ROWS {
-        let graph = graph_of(rt.alloc(), row.graph)?;
-        let states = explored(rt.alloc(), row.graph, WakeSet::All)?.states();
-        if states < 1 || states > LIMIT as usize {
-            return Err(Fail::new("no number of states"));
-        }
-        let states = states as u32;
-        let enough = explore(rt.alloc(), &graph, WakeSet::All, states);
-        assert!(rt; enough.is_ok(), "of {}", row.name);
-        if states > 1 {
-            let less = explore(rt.alloc(), &graph, WakeSet::All, states - 1);
-            assert_eq!(rt; less.err(), Some(ExploreFault::TooMany), "of {}", row.name);
-        }
-    }
-    Ok(())
+fn limits_are_exact(rt: HostRuntime) {
+    assert_limits(&rt, rt.alloc(), &ROWS);
 }
 
 /// A path of 13 nodes is refused.
 #[test]
-fn larger_graphs_are_refused(rt: HostRuntime) -> Result<(), Fail> {
-    let graph = graph_of(rt.alloc(), PATH_OF_13)?;
-    let refused = explore(rt.alloc(), &graph, WakeSet::All, LIMIT);
-    assert_eq!(rt; refused.err(), Some(ExploreFault::TooLarge));
-    Ok(())
+fn larger_graphs_are_refused(rt: HostRuntime) {
+    let text = PATH_OF_THIRTEEN;
+    let found = try_to_explore(&rt, rt.alloc(), text, WakeSet::All, LIMIT);
+    assert_eq!(rt; found.err(), Some(ExploreFault::TooLarge));
 }

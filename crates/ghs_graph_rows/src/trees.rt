@@ -1,41 +1,33 @@
 //! Worked examples, with ample memory.
-ghost use Rattle.std.specs.Prelude.{◌≡◌, IfOk};
-ghost use Rattle.ghs_gr.specs.RawGraph.{IsRawGraph};
-
-use ghs_gr::raw_graph::{Key3, KeyList, RawGraph};
+use ghs_gr::judgement::judge;
+use ghs_gr::raw_graph::RawGraph;
 use ghs_graph::bounds::{bound, floor_log2};
 use ghs_graph::graph::Graph;
 use ghs_graph::key::Key;
 use ghs_graph::port::Port;
 use ghs_graph::tree::{tree_of, tree_slow};
-use std::alloc::{AllocError, Global};
-use std::test::Fail;
+use ghs_test_graphs::graphs::{EQUAL_TRIANGLE, TRIANGLE, TWO_PAIRS_AND_NODE};
+use std::alloc::Global;
+use std::process::Abort;
 
-fn raw(alloc: Global, nodes: u32, keys: &[Key3]) -> Result<RawGraph, AllocError>
-    requires { IsRawGraph nodes keys.now }
-{
-    Ok(RawGraph::of(nodes, KeyList::of(Vec::from_slice(alloc, keys)?)))
+fn assert_log(rt: &impl Abort, n: u32, want: u8) {
+    assert!(rt; n >= 1);
+    assert_eq!(rt; floor_log2(n), want, "of {n}");
 }
 
-fn key(weight: u32, a: u32, b: u32) -> Key {
-    Key { weight, a, b }
-}
-
-fn port(key: Key, far: u32, far_port: u32) -> Port {
-    Port { key, far, far_port }
-}
+const LOGARITHMS: [(u32, u8); 6] = [
+    (1, 0),
+    (2, 1),
+    (3, 1),
+    (4, 2),
+    (1_048_575, 19),
+    (1_048_576, 20),
+];
 
 #[test]
 fn logarithms(rt: HostRuntime) {
-    for (n, want) in [
-        (1, 0),
-        (2, 1),
-        (3, 1),
-        (4, 2),
-        (1_048_575, 19),
-        (1_048_576, 20),
-    ] {
-        assert_eq!(rt; floor_log2(n), want, "of {n}");
+    for (n, want) in &LOGARITHMS {
+        assert_log(&rt, *n, *want);
     }
 }
 
@@ -46,67 +38,156 @@ fn bounds(rt: HostRuntime) {
     assert_eq!(rt; bound(1_048_576, 8_388_608), 121_634_816);
 }
 
-#[test]
-fn triangle(rt: HostRuntime) -> Result<(), Fail> {
-    let alloc = rt.alloc();
-    let (short, middle, long) = (key(1, 1, 2), key(2, 2, 3), key(3, 1, 3));
-    let raw = raw(alloc, 3, &[(1, 1, 2), (2, 2, 3), (3, 1, 3)])?;
-    assert_eq!(rt;
-        tree_of(alloc, &raw)?.as_slice(),
-        [short, middle].as_slice()
-    );
-    let graph = Graph::build(alloc, raw).ok().ok_or("refused")?;
-    assert_eq!(rt; graph.nodes(), 3);
-    assert_eq!(rt; graph.links(), 3);
-    assert_eq!(rt; graph.keys(), [short, middle, long].as_slice());
-    let ports = [
-        [port(short, 2, 0), port(long, 3, 1)],
-        [port(short, 1, 0), port(middle, 3, 0)],
-        [port(middle, 2, 1), port(long, 1, 1)],
-    ];
-    for v in 1..4u32 {
-        assert_eq!(rt; graph.ports(v), ports[v as usize - 1].as_slice(), "of {v}");
+fn raw_of(rt: &impl Abort, alloc: Global, text: &str) -> RawGraph {
+    judge(alloc, text.as_bytes()).ok().expect(rt, "a graph")
+}
+
+fn assert_keys(rt: &impl Abort, found: &[Key], keys: &[Key]) {
+    assert_eq!(rt; found, keys);
+}
+
+/// A graph's tree, by two ways, is this. The graph.
+fn graph_with_tree(rt: &impl Abort, alloc: Global, text: &str, tree: &[Key]) -> Graph {
+    let raw = raw_of(rt, alloc, text);
+    let found = tree_of(alloc, &raw).expect(rt, "memory");
+    assert_keys(rt, &found, tree);
+    let graph = Graph::build(alloc, raw).ok().expect(rt, "ports");
+    let found = tree_slow(alloc, &graph).expect(rt, "memory");
+    assert_keys(rt, &found, tree);
+    graph
+}
+
+fn assert_counts(rt: &impl Abort, graph: &Graph, nodes: u32, links: u64, components: u32) {
+    assert!(rt; graph.nodes() == nodes);
+    assert!(rt; graph.links() == links);
+    assert!(rt; graph.components() == components);
+}
+
+/// The links of the triangle, by weight.
+const LINKS: [Key; 3] = [
+    Key {
+        weight: 1,
+        a: 1,
+        b: 2,
+    },
+    Key {
+        weight: 2,
+        a: 2,
+        b: 3,
+    },
+    Key {
+        weight: 3,
+        a: 1,
+        b: 3,
+    },
+];
+
+/// A port as its link's place, the node at the other end, and that one's port.
+fn assert_port(rt: &impl Abort, port: &Port, (link, far, far_port): (usize, u32, u32)) {
+    assert!(rt; link < 3);
+    let key = LINKS[link];
+    assert_eq!(rt; *port, Port { key, far, far_port });
+}
+
+fn assert_ports(rt: &impl Abort, graph: &Graph, v: u32, wanted: &[(usize, u32, u32)]) {
+    assert!(rt; v >= 1 && v <= graph.nodes());
+    let ports = graph.ports(v);
+    assert!(rt; ports.len() == wanted.len());
+    for (port, want) in ports.iter().zip(wanted) {
+        assert_port(rt, port, *want);
     }
-    assert_eq!(rt;
-        tree_slow(alloc, &graph)?.as_slice(),
-        [short, middle].as_slice()
-    );
-    assert!(rt; graph.copy(alloc)?.same(&graph));
-    Ok(())
+}
+
+fn assert_ports_of_triangle(rt: &impl Abort, graph: &Graph) {
+    assert_ports(rt, graph, 1, &[(0, 2, 0), (2, 3, 1)]);
+    assert_ports(rt, graph, 2, &[(0, 1, 0), (1, 3, 0)]);
+    assert_ports(rt, graph, 3, &[(1, 2, 1), (2, 1, 1)]);
+}
+
+/// A graph's copy, which is the same.
+fn copy_of(rt: &impl Abort, alloc: Global, graph: &Graph) -> Graph {
+    let copy = graph.copy(alloc).expect(rt, "memory");
+    assert!(rt; copy.same(graph));
+    copy
 }
 
 #[test]
-fn equal_weights(rt: HostRuntime) -> Result<(), Fail> {
+fn triangle(rt: HostRuntime) {
     let alloc = rt.alloc();
-    let raw = raw(alloc, 3, &[(4, 1, 2), (4, 1, 3), (4, 2, 3)])?;
-    let (least, middle, greatest) = (key(4, 1, 2), key(4, 1, 3), key(4, 2, 3));
-    // Each two of the links join all nodes, and weigh as much.
-    for (one, other) in [(least, middle), (least, greatest), (middle, greatest)] {
-        assert_eq!(rt; u64::from(one.weight) + u64::from(other.weight), 8);
+    let graph = graph_with_tree(&rt, alloc, TRIANGLE, &LINKS[..2]);
+    assert_counts(&rt, &graph, 3, 3, 1);
+    assert_keys(&rt, graph.keys(), &LINKS);
+    assert_ports_of_triangle(&rt, &graph);
+    let _ = copy_of(&rt, alloc, &graph);
+}
+
+/// The links of the triangle whose weights are equal, by their ends.
+const EQUAL_LINKS: [Key; 3] = [
+    Key {
+        weight: 4,
+        a: 1,
+        b: 2,
+    },
+    Key {
+        weight: 4,
+        a: 1,
+        b: 3,
+    },
+    Key {
+        weight: 4,
+        a: 2,
+        b: 3,
+    },
+];
+
+fn assert_weight(rt: &impl Abort, one: &Key, other: &Key, weight: u64) {
+    assert_eq!(rt; one.weight as u64 + other.weight as u64, weight);
+}
+
+/// Each two of the links join all nodes, and weigh as much.
+#[test]
+fn equal_weights(rt: HostRuntime) {
+    assert_weight(&rt, &EQUAL_LINKS[0], &EQUAL_LINKS[1], 8);
+    assert_weight(&rt, &EQUAL_LINKS[0], &EQUAL_LINKS[2], 8);
+    assert_weight(&rt, &EQUAL_LINKS[1], &EQUAL_LINKS[2], 8);
+    let graph = graph_with_tree(&rt, rt.alloc(), EQUAL_TRIANGLE, &EQUAL_LINKS[..2]);
+    assert_keys(&rt, graph.keys(), &EQUAL_LINKS);
+}
+
+/// The links of the two pairs.
+const BOTH: [Key; 2] = [
+    Key {
+        weight: 5,
+        a: 1,
+        b: 2,
+    },
+    Key {
+        weight: 6,
+        a: 3,
+        b: 4,
+    },
+];
+
+fn assert_root(rt: &impl Abort, graph: &Graph, v: u32, root: u32) {
+    assert!(rt; v >= 1 && v <= graph.nodes());
+    assert_eq!(rt; graph.root(v), root, "of {v}");
+}
+
+const ROOTS: [(u32, u32); 5] = [(1, 1), (2, 1), (3, 3), (4, 3), (5, 5)];
+
+fn assert_roots(rt: &impl Abort, graph: &Graph) {
+    for (v, root) in &ROOTS {
+        assert_root(rt, graph, *v, *root);
     }
-    let tree = tree_of(alloc, &raw)?;
-    assert_eq!(rt; tree.as_slice(), [least, middle].as_slice());
-    Ok(())
 }
 
 #[test]
-fn two_pieces(rt: HostRuntime) -> Result<(), Fail> {
+fn two_pieces(rt: HostRuntime) {
     let alloc = rt.alloc();
-    let raw = raw(alloc, 5, &[(5, 1, 2), (6, 3, 4)])?;
-    let both = [key(5, 1, 2), key(6, 3, 4)];
-    assert_eq!(rt; tree_of(alloc, &raw)?.as_slice(), both.as_slice());
-    let graph = Graph::build(alloc, raw).ok().ok_or("refused")?;
-    assert_eq!(rt; tree_slow(alloc, &graph)?.as_slice(), both.as_slice());
-    assert_eq!(rt; graph.components(), 3);
-    assert_eq!(rt; graph.nodes(), 5);
-    let roots = [1, 1, 3, 3, 5];
-    for v in 1..6u32 {
-        assert_eq!(rt; graph.root(v), roots[v as usize - 1], "of {v}");
-    }
-    let copy = graph.copy(alloc)?;
-    assert!(rt; copy.same(&graph));
-    assert_eq!(rt; copy.components(), 3);
-    assert_eq!(rt; copy.nodes(), 5);
-    assert_eq!(rt; copy.root(4), 3);
-    Ok(())
+    let graph = graph_with_tree(&rt, alloc, TWO_PAIRS_AND_NODE, &BOTH);
+    assert_counts(&rt, &graph, 5, 2, 3);
+    assert_roots(&rt, &graph);
+    let copy = copy_of(&rt, alloc, &graph);
+    assert_counts(&rt, &copy, 5, 2, 3);
+    assert_roots(&rt, &copy);
 }

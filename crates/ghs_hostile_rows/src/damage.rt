@@ -5,6 +5,8 @@ use ghs_cli::fault::ServeFault;
 use ghs_cli::serve::serve;
 use ghs_gr::device::Device;
 use ghs_sched::schedule::Schedule;
+use ghs_test_graphs::graphs::{EQUAL_TRIANGLE, LONE_NODE, PAIR, PATH_OF_FIVE, TWO_PAIRS_AND_NODE};
+use ghs_test_graphs::traces::PAIR_TRACE;
 use ghs_words::job::{Job, JobFault, read_job};
 use std::alloc::{AllocError, Global};
 use std::process::Abort;
@@ -15,20 +17,17 @@ use std::thread::Threads;
 /// How many texts of each kind are damaged.
 const TRIALS: u32 = 100_000;
 
-/// Graphs that are accepted.
+/// Graphs that are accepted; stored runs are of the first.
 const GRAPHS: [&str; 8] = [
-    "p sp 2 2\na 1 2 5\na 2 1 5",
+    PAIR,
     "c x\r\np sp  2 1\r\n\r\na\t1 2\t5",
-    "p sp 1 0",
-    "p sp 3 3\na 1 2 4\na 2 3 4\na 1 3 4\n",
-    "p sp 5 4\na 1 2 1\na 2 3 2\na 4 5 3\na 3 4 4",
-    "p sp 5 2\na 1 2 5\na 3 4 6\n",
+    LONE_NODE,
+    EQUAL_TRIANGLE,
+    PATH_OF_FIVE,
+    TWO_PAIRS_AND_NODE,
     "p sp 3 2\na 1 2 0\na 2 3 4294967295\n",
     "p sp 2 3\na 1 2 5\na 1 2 6\na 1 1 6\n",
 ];
-
-/// A run of the first of them.
-const TRACE: &str = "trace 7\nwake 1\nwake 2\ntake 1 0\ntake 2 0\ntake 1 0\ntake 2 0\ntake 1 0\n";
 
 /// Command lines that are taken.
 const LINES: [&str; 7] = [
@@ -194,7 +193,7 @@ fn try_trace<R: Threads + Wait + Eprint + Sync + Abort>(
     requires replay { IsWithinLimits replay.now.task }
     requires steps { IsWithinLimits steps.now.task }
 {
-    let graph = GRAPHS[0].as_bytes();
+    let graph = PAIR.as_bytes();
     let (answer, text) = answer_of(rt, alloc, replay, graph, stored);
     let (shown, lines) = answer_of(rt, alloc, steps, graph, stored);
     judge(rt, alloc, &answer, &text, tally);
@@ -250,7 +249,7 @@ fn damaged_traces(host: HostRuntime) -> Result<(), Fail> {
     let mut dice = Schedule::seeded(2);
     let mut tally = NONE;
     for _ in 0..TRIALS {
-        let stored = much_damaged(alloc, &mut dice, TRACE.as_bytes())?;
+        let stored = much_damaged(alloc, &mut dice, PAIR_TRACE.as_bytes())?;
         try_trace(rt, alloc, &replay, &steps, &stored, &mut tally);
     }
     println!(host; "damaged traces {} {}", tally.texts, tally.faults)?;
@@ -273,8 +272,8 @@ fn prefixes(host: HostRuntime) {
             try_graph(rt, alloc, &tree, &run, front, &mut tally);
         }
     }
-    for length in 0..TRACE.len() {
-        let front = TRACE.as_bytes().get(..length).unwrap_or(b"");
+    for length in 0..PAIR_TRACE.len() {
+        let front = PAIR_TRACE.as_bytes().get(..length).unwrap_or(b"");
         try_trace(rt, alloc, &replay, &steps, front, &mut tally);
     }
     assert!(rt; tally.texts > 0 && tally.faults > 400);

@@ -6,6 +6,8 @@ ghost use Rattle.std.specs.Io.{ReadsAtMost, WritesAtMost};
 use ghs_cli::fault::ServeFault;
 use ghs_cli::serve::serve;
 use ghs_gr::device::Device;
+use ghs_test_graphs::graphs::TRIANGLE;
+use ghs_test_graphs::traces::TRIANGLE_TRACE;
 use ghs_words::job::{Job, read_job};
 use std::alloc::{AllocError, Global};
 use std::io;
@@ -83,11 +85,6 @@ const WHOLE: Ways = Ways {
     fails: true,
 };
 
-const GRAPH: &str = "p sp 3 3\na 1 2 1\na 2 3 2\na 1 3 3\n";
-
-const TRACE: &str =
-    "trace 15\nwake 2\ntake 1 0\ntake 2 0\ntake 1 0\ntake 2 0\ntake 3 1\ntake 2 1\ntake 3 0\ntake 3 0\ntake 3 1\ntake 3 0\ntake 1 1\ntake 2 1\ntake 2 1\ntake 1 0";
-
 /// A text by a reader that is whole, or fails after so many bytes.
 fn reader(text: &str, pace: usize, fails_after: Option<usize>) -> Slow<'_> {
     let bytes = text.as_bytes();
@@ -109,8 +106,8 @@ fn answer_of<R: Threads + Wait + Eprint + Sync>(
 ) -> (Result<(), ServeFault>, Vec<u8>)
     requires { IsWithinLimits job.now.task }
 {
-    let mut graph = Device::of(reader(GRAPH, ways.pace, ways.graph));
-    let mut trace = Device::of(reader(TRACE, ways.pace, ways.trace));
+    let mut graph = Device::of(reader(TRIANGLE, ways.pace, ways.graph));
+    let mut trace = Device::of(reader(TRIANGLE_TRACE, ways.pace, ways.trace));
     let mut small = Small {
         held: Vec::new(alloc),
         pace: ways.pace,
@@ -139,14 +136,14 @@ fn assert_unread<R: Threads + Wait + Eprint + Sync + Abort>(
 fn fail_to_read<R: Threads + Wait + Eprint + Sync + Abort>(rt: &R, alloc: Global, job: &Job)
     requires { IsWithinLimits job.now.task }
 {
-    for length in 0..GRAPH.len() + 1 {
+    for length in 0..TRIANGLE.len() + 1 {
         let graph = Some(length);
         assert_unread(rt, alloc, job, Ways { graph, ..WHOLE });
     }
     if job.trace.is_none() {
         return;
     }
-    for length in 0..TRACE.len() + 1 {
+    for length in 0..TRIANGLE_TRACE.len() + 1 {
         let trace = Some(length);
         assert_unread(rt, alloc, job, Ways { trace, ..WHOLE });
     }

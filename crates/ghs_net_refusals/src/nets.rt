@@ -1,29 +1,40 @@
 //! Nodes and nets of one thread.
 use ghs_core::event::Event;
 use ghs_core::net::Net;
-use ghs_node::delta::Delta;
+use ghs_graph::graph::Graph;
+use ghs_graph::port::Port;
 use ghs_node::fault::NodeFault;
 use ghs_node::node::Node;
 use ghs_node::react::react;
-use ghs_refusing::orders::{NONE, Turn, order, refuse, refuse_each, tell, turn_of};
+use ghs_refusing::orders::{Count, NONE, Turn, order, refuse, refuse_each, tell, turn_of};
 use ghs_refusing::scenes::{are_same, events_of_run, five, is_five};
 use ghs_report::net_text::net_text;
 use std::alloc::Global;
 use std::process::Abort;
 use std::test::Fail;
 
+/// Lets go of a net here, so that its memory's way isn't in the proof of each function that has one.
+fn let_go(_net: Net) {}
+
+fn assert_opening(rt: &impl Abort, alloc: Global, net: Net) {
+    assert!(rt; is_five(alloc, net.graph()) && net.trace().is_empty());
+    let_go(net);
+}
+
 /// The graph comes back, and opens then.
+fn open_again(rt: &impl Abort, alloc: Global, graph: Graph) {
+    assert!(rt; is_five(alloc, &graph));
+    assert!(rt; Net::open(alloc, graph).is_ok());
+}
+
 fn open(rt: &impl Abort, alloc: Global, k: usize) -> Turn {
     let graph = five(alloc).expect(rt, "a graph");
     order(alloc, k);
     let answer = Net::open(alloc, graph);
     let turn = turn_of(alloc, k, &answer);
     match answer {
-        Ok(net) => assert!(rt; is_five(alloc, net.graph()) && net.trace().is_empty()),
-        Err((graph, _)) => {
-            assert!(rt; is_five(alloc, &graph));
-            assert!(rt; Net::open(alloc, graph).is_ok());
-        }
+        Ok(net) => assert_opening(rt, alloc, net),
+        Err((graph, _)) => open_again(rt, alloc, graph),
     }
     turn
 }
@@ -35,24 +46,21 @@ fn node_of(event: Event) -> u32 {
     }
 }
 
-/// The reaction of an event's node, with the k-th allocation refused.
-fn reaction(
-    rt: &impl Abort,
-    alloc: Global,
-    net: &Net,
-    event: Event,
-    k: usize,
-) -> (Turn, Option<Delta>) {
+/// How the reaction of an event's node goes, with the k-th allocation refused.
+fn reaction(rt: &impl Abort, alloc: Global, net: &Net, event: Event, k: usize) -> Turn {
     assert!(rt; net.lawful(event));
     let v = node_of(event);
     assert!(rt; v >= 1 && v <= net.graph().nodes());
     order(alloc, k);
     let answer = react(alloc, net.node(v), net.work(event));
     let turn = turn_of(alloc, k, &answer);
-    if let Err(fault) = &answer {
-        assert!(rt; *fault == NodeFault::Memory);
-    }
-    (turn, answer.ok())
+    assert_fault(rt, answer.err());
+    turn
+}
+
+/// There was no fault but want of memory.
+fn assert_fault(rt: &impl Abort, fault: Option<NodeFault>) {
+    assert!(rt; fault.is_none() || fault == Some(NodeFault::Memory));
 }
 
 /// Plays an event, with the k-th allocation of the room for it refused. A net without room for it is as it was.
@@ -86,26 +94,45 @@ fn net_after(rt: &impl Abort, alloc: Global, events: &[Event]) -> Net {
     net
 }
 
+/// A net is the one after these events.
+fn assert_after(rt: &impl Abort, alloc: Global, net: &Net, events: &[Event]) {
+    let twin = net_after(rt, alloc, events);
+    assert!(rt; are_same(net, &twin));
+    let_go(twin);
+}
+
 /// One event after these, with the k-th allocation of its reaction refused.
 fn react_after(rt: &impl Abort, alloc: Global, events: &[Event], event: Event, k: usize) -> Turn {
     let net = net_after(rt, alloc, events);
-    let (turn, _) = reaction(rt, alloc, &net, event, k);
-    assert!(rt; are_same(&net, &net_after(rt, alloc, events)));
+    let turn = reaction(rt, alloc, &net, event, k);
+    assert_after(rt, alloc, &net, events);
+    let_go(net);
     turn
+}
+
+fn play_whole(rt: &impl Abort, alloc: Global, net: &mut Net, event: Event) {
+    assert!(rt; play(rt, alloc, net, event, 0) != Turn::Refused);
 }
 
 /// One event after these, with the k-th allocation of the room for it refused; then it is played.
 fn play_after(rt: &impl Abort, alloc: Global, events: &[Event], event: Event, k: usize) -> Turn {
     let mut net = net_after(rt, alloc, events);
-    let mut twin = net_after(rt, alloc, events);
     let turn = play(rt, alloc, &mut net, event, k);
     if turn == Turn::Refused {
-        assert!(rt; are_same(&net, &twin));
-        assert!(rt; play(rt, alloc, &mut net, event, 0) != Turn::Refused);
+        assert_after(rt, alloc, &net, events);
+        play_whole(rt, alloc, &mut net, event);
     }
-    assert!(rt; play(rt, alloc, &mut twin, event, 0) != Turn::Refused);
-    assert!(rt; are_same(&net, &twin));
+    assert_played(rt, alloc, &net, events, event);
+    let_go(net);
     turn
+}
+
+/// A net is the one after these events and one more.
+fn assert_played(rt: &impl Abort, alloc: Global, net: &Net, events: &[Event], event: Event) {
+    let mut twin = net_after(rt, alloc, events);
+    play_whole(rt, alloc, &mut twin, event);
+    assert!(rt; are_same(net, &twin));
+    let_go(twin);
 }
 
 /// What is asked of a net, and leaves it as it was.
@@ -120,24 +147,81 @@ enum Asked {
     Text,
 }
 
+/// What is asked of a whole net.
+fn ask_net(alloc: Global, net: &Net, asked: Asked, k: usize) -> Option<Turn> {
+    match asked {
+        Asked::Branches => Some(turn_of(alloc, k, &net.branches(alloc))),
+        Asked::Census => Some(turn_of(alloc, k, &net.census(alloc))),
+        Asked::Text => Some(turn_of(alloc, k, &net_text(alloc, net))),
+        _ => None,
+    }
+}
+
+/// What is asked of node 3, or of its ports.
+fn ask_node(
+    rt: &impl Abort,
+    alloc: Global,
+    net: &Net,
+    ports: &[Port],
+    asked: Asked,
+    k: usize,
+) -> Turn {
+    assert!(rt; net.graph().nodes() >= 3 && ports.len() <= 2);
+    match asked {
+        Asked::Fragment => turn_of(alloc, k, &net.fragment(alloc, 3)),
+        Asked::Lift => turn_of(alloc, k, &net.lift(alloc, 3)),
+        Asked::Copy => turn_of(alloc, k, &net.node(3).copy(alloc)),
+        _ => turn_of(alloc, k, &Node::asleep(alloc, 3, ports)),
+    }
+}
+
+/// What is asked of a net, or of a graph that is as its own.
+fn ask_of(
+    rt: &impl Abort,
+    alloc: Global,
+    net: &Net,
+    graph: &Graph,
+    asked: Asked,
+    k: usize,
+) -> Turn {
+    assert!(rt; graph.nodes() >= 3);
+    let ports = graph.ports(3);
+    order(alloc, k);
+    match ask_net(alloc, net, asked, k) {
+        Some(turn) => turn,
+        None => ask_node(rt, alloc, net, ports, asked, k),
+    }
+}
+
 fn ask(rt: &impl Abort, alloc: Global, events: &[Event], asked: Asked, k: usize) -> Turn {
     let net = net_after(rt, alloc, events);
     let graph = five(alloc).expect(rt, "a graph");
-    assert!(rt; net.graph().nodes() >= 3 && graph.nodes() >= 3);
-    let ports = graph.ports(3);
-    assert!(rt; ports.len() <= 2);
-    order(alloc, k);
-    let turn = match asked {
-        Asked::Branches => turn_of(alloc, k, &net.branches(alloc)),
-        Asked::Fragment => turn_of(alloc, k, &net.fragment(alloc, 3)),
-        Asked::Census => turn_of(alloc, k, &net.census(alloc)),
-        Asked::Lift => turn_of(alloc, k, &net.lift(alloc, 3)),
-        Asked::Copy => turn_of(alloc, k, &net.node(3).copy(alloc)),
-        Asked::Asleep => turn_of(alloc, k, &Node::asleep(alloc, 3, ports)),
-        Asked::Text => turn_of(alloc, k, &net_text(alloc, &net)),
-    };
-    assert!(rt; are_same(&net, &net_after(rt, alloc, events)));
+    let turn = ask_of(rt, alloc, &net, &graph, asked, k);
+    assert_after(rt, alloc, &net, events);
+    let_go(net);
     turn
+}
+
+static ASKED: [(&str, Asked); 7] = [
+    ("Net::branches", Asked::Branches),
+    ("Net::fragment", Asked::Fragment),
+    ("Net::census", Asked::Census),
+    ("Net::lift", Asked::Lift),
+    ("Node::copy", Asked::Copy),
+    ("Node::asleep", Asked::Asleep),
+    ("net_text", Asked::Text),
+];
+
+fn refuse_asked<R: Print + Abort>(
+    rt: &R,
+    alloc: Global,
+    events: &[Event],
+    rows: &[(&str, Asked)],
+) -> Result<(), Fail> {
+    for (name, asked) in rows {
+        refuse(rt, alloc, name, |k| ask(rt, alloc, events, *asked, k))?;
+    }
+    Ok(())
 }
 
 #[test]
@@ -145,16 +229,19 @@ fn nets(host: HostRuntime) -> Result<(), Fail> {
     let (rt, alloc) = (&host, host.alloc());
     refuse(rt, alloc, "Net::open", |k| open(rt, alloc, k))?;
     let events = events_of_run(alloc).expect(rt, "a run");
-    for (name, asked) in [
-        ("Net::branches", Asked::Branches),
-        ("Net::fragment", Asked::Fragment),
-        ("Net::census", Asked::Census),
-        ("Net::lift", Asked::Lift),
-        ("Node::copy", Asked::Copy),
-        ("Node::asleep", Asked::Asleep),
-        ("net_text", Asked::Text),
-    ] {
-        refuse(rt, alloc, name, |k| ask(rt, alloc, &events, asked, k))?;
+    refuse_asked(rt, alloc, &events, &ASKED)
+}
+
+/// Each event of a run in turn, with each allocation of its reaction refused.
+fn refuse_reactions(
+    rt: &impl Abort,
+    alloc: Global,
+    events: &[Event],
+    count: &mut Count,
+) -> Result<(), Fail> {
+    for (place, event) in events.iter().enumerate() {
+        let before = &events[..place];
+        refuse_each(alloc, count, |k| react_after(rt, alloc, before, *event, k))?;
     }
     Ok(())
 }
@@ -164,15 +251,22 @@ fn reactions(host: HostRuntime) -> Result<(), Fail> {
     let (rt, alloc) = (&host, host.alloc());
     let events = events_of_run(alloc).expect(rt, "a run");
     let mut count = NONE;
+    refuse_reactions(rt, alloc, &events, &mut count)?;
+    tell(rt, alloc, "react", count)
+}
+
+/// Each event of a run in turn, with each allocation of the room for it refused.
+fn refuse_plays(
+    rt: &impl Abort,
+    alloc: Global,
+    events: &[Event],
+    count: &mut Count,
+) -> Result<(), Fail> {
     for (place, event) in events.iter().enumerate() {
         let before = &events[..place];
-        refuse_each(
-            alloc,
-            &mut count,
-            |k| react_after(rt, alloc, before, *event, k),
-        )?;
+        refuse_each(alloc, count, |k| play_after(rt, alloc, before, *event, k))?;
     }
-    tell(rt, alloc, "react", count)
+    Ok(())
 }
 
 #[test]
@@ -180,13 +274,6 @@ fn plays(host: HostRuntime) -> Result<(), Fail> {
     let (rt, alloc) = (&host, host.alloc());
     let events = events_of_run(alloc).expect(rt, "a run");
     let mut count = NONE;
-    for (place, event) in events.iter().enumerate() {
-        let before = &events[..place];
-        refuse_each(
-            alloc,
-            &mut count,
-            |k| play_after(rt, alloc, before, *event, k),
-        )?;
-    }
+    refuse_plays(rt, alloc, &events, &mut count)?;
     tell(rt, alloc, "Net::reserve", count)
 }

@@ -1,21 +1,17 @@
 //! A worked run, counted by hand from what its steps say.
-use ghs_gr::judgement::judge;
-use ghs_graph::graph::Graph;
 use ghs_parts::by::By;
 use ghs_parts::line::head_line;
 use ghs_parts::lines::put_run;
 use ghs_sched::replay::replay;
 use ghs_sched::trace::{EVENT_LIMIT, read_trace};
 use ghs_steps::form::Form;
+use ghs_test_graphs::build::graph_of;
+use ghs_test_graphs::graphs::TRIANGLE;
+use ghs_test_graphs::traces::TRIANGLE_TRACE;
 use ghs_world::wake_set::WakeSet;
+use ghs_world::world::World;
 use std::alloc::Global;
-use std::test::Fail;
-
-const TRIANGLE: &str = "p sp 3 3\na 1 2 1\na 2 3 2\na 1 3 3";
-
-/// In this run fragments merge, one is absorbed, messages wait, Tests cross, and a link is rejected at one end alone.
-const TRIANGLE_TRACE: &str =
-    "trace 15\nwake 2\ntake 1 0\ntake 2 0\ntake 1 0\ntake 2 0\ntake 3 1\ntake 2 1\ntake 3 0\ntake 3 0\ntake 3 1\ntake 3 0\ntake 1 1\ntake 2 1\ntake 2 1\ntake 1 0";
+use std::process::Abort;
 
 const BY_NODE: &str = "\
 seed,node,connect,initiate,test,accept,reject,report,changeroot\n\
@@ -68,97 +64,80 @@ const BY_LEVEL_JSON: &str = "\
 {\"seed\":7,\"level\":1,\"connect\":0,\"initiate\":1,\"test\":3,\"accept\":0,\"reject\":1,\"report\":3,\"changeroot\":0}\n\
 ";
 
-/// The lines of this run of this graph behind a text, each behind a front.
-fn put_lines(
+/// The world after the run of the triangle.
+fn triangle_run(rt: &impl Abort, alloc: Global) -> World {
+    let graph = graph_of(alloc, TRIANGLE.as_bytes()).expect(rt, "a graph");
+    let events = read_trace(alloc, TRIANGLE_TRACE.as_bytes()).ok();
+    let events = events.expect(rt, "a trace");
+    assert!(rt; events.len() as u64 <= EVENT_LIMIT);
+    let world = replay(alloc, graph, WakeSet::All, &events).ok();
+    world.expect(rt, "a run")
+}
+
+/// A text, and behind it the lines of the run of the triangle, each behind a front.
+fn text_of(
+    rt: &impl Abort,
     alloc: Global,
-    text: &mut Vec<u8>,
+    head: &[u8],
     form: Form,
     front: &[u8],
     by: By,
-    graph: &str,
-    trace: &str,
-) -> Result<(), Fail> {
-    let raw = judge(alloc, graph.as_bytes()).ok().ok_or("no graph")?;
-    let graph = Graph::build(alloc, raw).ok().ok_or("refused")?;
-    let events = read_trace(alloc, trace.as_bytes()).ok().ok_or("no trace")?;
-    if events.len() as u64 > EVENT_LIMIT {
-        return Err(Fail::from("too many events"));
-    }
-    let world = match replay(alloc, graph, WakeSet::All, &events) {
-        Ok(world) => world,
-        Err(_) => return Err(Fail::from("no run")),
-    };
-    put_run(
+) -> Vec<u8> {
+    let world = triangle_run(rt, alloc);
+    let mut text = Vec::from_slice(alloc, head).expect(rt, "memory");
+    let _ = world.turns();
+    let put = put_run(
         alloc,
-        text,
+        &mut text,
         form,
         front,
         by,
         7,
         world.graph(),
         world.trace(),
-    )?;
-    Ok(())
+    );
+    assert!(rt; put.is_ok());
+    text
+}
+
+fn assert_text(rt: &impl Abort, found: &[u8], text: &str) {
+    assert_eq!(rt; found, text.as_bytes());
+}
+
+/// The lines by a kind of part, behind their head.
+fn assert_lines(rt: &impl Abort, alloc: Global, by: By, lines: &str) {
+    let text = text_of(rt, alloc, head_line(by), Form::Text, b"", by);
+    assert_text(rt, &text, lines);
 }
 
 #[test]
-fn whole_runs(rt: HostRuntime) -> Result<(), Fail> {
-    let rows = [
-        (By::Node, BY_NODE),
-        (By::Level, BY_LEVEL),
-        (By::Rule, BY_RULE),
-    ];
-    for (by, lines) in rows {
-        let mut text = Vec::from_slice(rt.alloc(), head_line(by))?;
-        put_lines(
-            rt.alloc(),
-            &mut text,
-            Form::Text,
-            b"",
-            by,
-            TRIANGLE,
-            TRIANGLE_TRACE,
-        )?;
-        assert_eq!(rt; text.as_slice(), lines.as_bytes());
-    }
-    Ok(())
+fn whole_runs(rt: HostRuntime) {
+    assert_lines(&rt, rt.alloc(), By::Node, BY_NODE);
+    assert_lines(&rt, rt.alloc(), By::Level, BY_LEVEL);
+    assert_lines(&rt, rt.alloc(), By::Rule, BY_RULE);
+}
+
+fn assert_json_lines(rt: &impl Abort, alloc: Global, by: By, lines: &str) {
+    let text = text_of(rt, alloc, b"", Form::Json, b"{", by);
+    assert_text(rt, &text, lines);
 }
 
 /// The same as JSON.
 #[test]
-fn json_lines(rt: HostRuntime) -> Result<(), Fail> {
-    let rows = [(By::Node, BY_NODE_JSON), (By::Level, BY_LEVEL_JSON)];
-    for (by, lines) in rows {
-        let mut text = Vec::new(rt.alloc());
-        put_lines(
-            rt.alloc(),
-            &mut text,
-            Form::Json,
-            b"{",
-            by,
-            TRIANGLE,
-            TRIANGLE_TRACE,
-        )?;
-        assert_eq!(rt; text.as_slice(), lines.as_bytes());
-    }
-    Ok(())
+fn json_lines(rt: HostRuntime) {
+    assert_json_lines(&rt, rt.alloc(), By::Node, BY_NODE_JSON);
+    assert_json_lines(&rt, rt.alloc(), By::Level, BY_LEVEL_JSON);
 }
+
+const FRONT: &str = "{\"graph\":\"t\",";
+
+const FIRST_RULES: &str =
+    "{\"graph\":\"t\",\"seed\":7,\"rule\":\"Wakes\",\"times\":1}\n{\"graph\":\"t\",\"seed\":7,\"rule\":\"Wakes_alone\",\"times\":0}\n";
 
 /// Of a row of the table its word and how often it applied, behind the front of a network's lines.
 #[test]
-fn json_rules(rt: HostRuntime) -> Result<(), Fail> {
-    let mut text = Vec::new(rt.alloc());
-    let first =
-        "{\"graph\":\"t\",\"seed\":7,\"rule\":\"Wakes\",\"times\":1}\n{\"graph\":\"t\",\"seed\":7,\"rule\":\"Wakes_alone\",\"times\":0}\n";
-    put_lines(
-        rt.alloc(),
-        &mut text,
-        Form::Json,
-        b"{\"graph\":\"t\",",
-        By::Rule,
-        TRIANGLE,
-        TRIANGLE_TRACE,
-    )?;
-    assert!(rt; text.as_slice().starts_with(first.as_bytes()));
-    Ok(())
+fn json_rules(rt: HostRuntime) {
+    let front = FRONT.as_bytes();
+    let text = text_of(&rt, rt.alloc(), b"", Form::Json, front, By::Rule);
+    assert!(rt; text.starts_with(FIRST_RULES.as_bytes()));
 }

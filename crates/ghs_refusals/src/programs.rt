@@ -5,7 +5,9 @@ use ghs_cli::fault::ServeFault;
 use ghs_cli::serve::serve;
 use ghs_gr::device::Device;
 use ghs_refusing::orders::{Turn, order, refuse, turn_of};
-use ghs_refusing::scenes::{FIVE, TEXT};
+use ghs_refusing::scenes::TEXT;
+use ghs_test_graphs::graphs::PATH_OF_FIVE;
+use ghs_test_graphs::traces::PATH_OF_FIVE_TRACE;
 use ghs_words::job::{Job, JobFault, read_job};
 use std::alloc::{AllocError, Global};
 use std::process::Abort;
@@ -33,10 +35,6 @@ fn read(rt: &impl Abort, alloc: Global, line: &str, k: usize) -> Turn {
     turn_of(alloc, k, &answer)
 }
 
-/// A run of the five nodes.
-const TRACE: &str =
-    "trace 66\nwake 3\nwake 1\nwake 5\nwake 2\ntake 1 0\ntake 2 1\ntake 4 0\ntake 5 0\ntake 2 0\ntake 2 1\ntake 2 0\ntake 3 0\ntake 2 1\ntake 3 0\ntake 4 0\ntake 5 0\ntake 3 1\ntake 4 0\ntake 3 1\ntake 3 1\ntake 4 0\ntake 3 1\ntake 4 0\ntake 1 0\ntake 4 0\ntake 2 0\ntake 3 1\ntake 3 1\ntake 2 0\ntake 3 1\ntake 4 0\ntake 4 0\ntake 3 1\ntake 3 0\ntake 4 1\ntake 3 0\ntake 2 1\ntake 3 1\ntake 2 0\ntake 4 1\ntake 2 0\ntake 5 0\ntake 3 1\ntake 2 0\ntake 2 1\ntake 2 0\ntake 1 0\ntake 3 0\ntake 4 1\ntake 4 0\ntake 4 1\ntake 3 1\ntake 3 1\ntake 4 1\ntake 5 0\ntake 2 1\ntake 4 0\ntake 3 1\ntake 3 1\ntake 1 0\ntake 3 1\ntake 3 1\ntake 3 1\ntake 2 0\ntake 3 0\ntake 3 1";
-
 /// What a task of a command line answers, with the k-th allocation refused, and what it writes.
 fn do_task<R: Threads + Wait + Eprint + Sync + Abort>(
     rt: &R,
@@ -46,8 +44,8 @@ fn do_task<R: Threads + Wait + Eprint + Sync + Abort>(
 ) -> (Turn, Vec<u8>)
     requires { IsWithinLimits job.now.task }
 {
-    let mut graph = Device::of(FIVE.as_bytes());
-    let mut trace = Device::of(TRACE.as_bytes());
+    let mut graph = Device::of(PATH_OF_FIVE.as_bytes());
+    let mut trace = Device::of(PATH_OF_FIVE_TRACE.as_bytes());
     let mut held = Vec::with_capacity(alloc, 1 << 18).expect(rt, "memory");
     let mut out = Device::of(&mut held);
     order(alloc, k);

@@ -1,19 +1,17 @@
 //! Five nodes in a row: their graph, its runs, and whether nets and worlds of them are the same.
 use ghs_core::event::Event;
 use ghs_core::net::Net;
-use ghs_gr::judgement::judge;
 use ghs_graph::graph::Graph;
 use ghs_report::run_text::run_text;
 use ghs_sched::replay::replay;
 use ghs_sched::run::run_seeded;
 use ghs_sched::schedule::Schedule;
 use ghs_sched::trace::EVENT_LIMIT;
+use ghs_test_graphs::build::graph_of;
+use ghs_test_graphs::graphs::PATH_OF_FIVE;
 use ghs_world::wake_set::WakeSet;
 use ghs_world::world::World;
 use std::alloc::Global;
-
-/// Five nodes in a row.
-pub const FIVE: &str = "p sp 5 4\na 1 2 1\na 2 3 2\na 4 5 3\na 3 4 4";
 
 /// The text of every run of the five nodes.
 pub const TEXT: &str =
@@ -21,8 +19,7 @@ pub const TEXT: &str =
 
 /// The graph of the five nodes, where there is memory.
 pub fn five(alloc: Global) -> Option<Graph> {
-    let raw = judge(alloc, FIVE.as_bytes()).ok()?;
-    Graph::build(alloc, raw).ok()
+    graph_of(alloc, PATH_OF_FIVE.as_bytes())
 }
 
 /// Whether this is the graph of the five nodes.
@@ -94,3 +91,14 @@ pub fn stands(alloc: Global, world: &World, twin: &World) -> bool {
         _ => false,
     }
 }
+
+/// Whether a world is as the one after these events.
+pub fn is_after(alloc: Global, world: &World, events: &[Event]) -> bool {
+    match world_after(alloc, events) {
+        Some(twin) => stands(alloc, world, &twin),
+        None => false,
+    }
+}
+
+/// Lets go of a world here, so that its memory's way isn't in the proof of each test that has one.
+pub fn let_go(_world: World) {}

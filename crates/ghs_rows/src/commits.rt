@@ -1,19 +1,17 @@
 //! Runs of worlds, step by step: what is counted, and the text at the end.
-use crate::worlds::{
-    MOST_TURNS, branches_of, commit, do_all, hold, let_go, path, step_of, text_of, world_of,
-};
+use crate::worlds::{branches_of, commit, do_all, hold, let_go, path, step_of, text_of, world_of};
 use ghs_core::census::FragmentRow;
 use ghs_core::event::Event;
 use ghs_core::ledger::Ledger;
 use ghs_graph::key::Key;
 use ghs_report::net_text::ReportFault;
 use ghs_report::run_text::run_text;
+use ghs_sched::trace::EVENT_LIMIT;
+use ghs_test_graphs::graphs::{PAIR, PATH_OF_FIVE, PATH_OF_FOUR, TRIANGLE};
 use ghs_world::wake_set::WakeSet;
 use ghs_world::world::World;
 use std::alloc::Global;
 use std::process::Abort;
-
-const PAIR: &str = "p sp 2 2\na 1 2 5\na 2 1 5";
 
 const PAIR_TEXT: &str =
     "t 1 2 5\nw 5\nm connect=2 initiate=2 test=0 accept=0 reject=0 report=2 changeroot=0\ns 6 12\n";
@@ -178,7 +176,7 @@ fn assert_events(rt: &impl Abort, world: &World, from: usize, events: &[Event]) 
     assert!(rt; world.trace().get(from..) == Some(events));
 }
 
-// While node 2 is out, node 1 acts; node 2's message waits, and is put back.
+/// While node 2 is out, node 1 acts; node 2's message waits, and is put back.
 #[test]
 fn one_out_while_another_acts(rt: HostRuntime) {
     let alloc = rt.alloc();
@@ -215,7 +213,7 @@ fn run_in_turn(rt: &impl Abort, alloc: Global, world: &mut World, nodes: u32) {
 
 /// A connected graph's nodes are one fragment at the end, of this level.
 fn ends_at_level(rt: &impl Abort, alloc: Global, text: &str, nodes: u32, level: u8) {
-    let mut world = world_of(rt, alloc, text, WakeSet::All, MOST_TURNS);
+    let mut world = world_of(rt, alloc, text, WakeSet::All, EVENT_LIMIT);
     run_in_turn(rt, alloc, &mut world, nodes);
     let least = 1;
     let row = FragmentRow {
@@ -227,16 +225,13 @@ fn ends_at_level(rt: &impl Abort, alloc: Global, text: &str, nodes: u32, level: 
     let_go(world);
 }
 
-// At the end each component is one fragment.
+/// At the end each component is one fragment.
 #[test]
 fn fragments_at_the_end(rt: HostRuntime) {
     let alloc = rt.alloc();
-    let triangle = "p sp 3 3\na 1 2 1\na 2 3 2\na 1 3 3";
-    ends_at_level(&rt, alloc, triangle, 3, 1);
-    let two_pairs = "p sp 4 3\na 1 2 1\na 3 4 2\na 2 3 3";
-    ends_at_level(&rt, alloc, two_pairs, 4, 2);
-    let five = "p sp 5 4\na 1 2 1\na 2 3 2\na 4 5 3\na 3 4 4";
-    ends_at_level(&rt, alloc, five, 5, 2);
+    ends_at_level(&rt, alloc, TRIANGLE, 3, 1);
+    ends_at_level(&rt, alloc, PATH_OF_FOUR, 4, 2);
+    ends_at_level(&rt, alloc, PATH_OF_FIVE, 5, 2);
 }
 
 /// Makes an event at once, without a ticket.
@@ -259,7 +254,7 @@ fn make_all(rt: &impl Abort, alloc: Global, world: &mut World, events: &[Event])
     }
 }
 
-// The same run without tickets has the same text, and has used as many numbers.
+/// The same run without tickets has the same text, and has used as many numbers.
 #[test]
 fn two_nodes_at_once(rt: HostRuntime) {
     let alloc = rt.alloc();

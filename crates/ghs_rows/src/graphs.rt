@@ -1,6 +1,10 @@
 //! The graphs of texts: roots and components.
-use ghs_gr::judgement::judge;
 use ghs_graph::graph::Graph;
+use ghs_test_graphs::build::graph_of;
+use ghs_test_graphs::graphs::{
+    LONE_NODE, NODE_AND_PAIR, PATH_AND_PAIR, PATH_OF_THREE, TWO_LONE_NODES, TWO_PAIRS,
+    TWO_PAIRS_AND_NODE,
+};
 use std::alloc::Global;
 use std::process::Abort;
 
@@ -13,37 +17,37 @@ struct Row {
 
 const ROWS: [Row; 7] = [
     Row {
-        text: "p sp 1 0",
+        text: LONE_NODE,
         roots: &[1],
         components: 1,
     },
     Row {
-        text: "p sp 2 0",
+        text: TWO_LONE_NODES,
         roots: &[1, 2],
         components: 2,
     },
     Row {
-        text: "p sp 3 2\na 1 2 5\na 2 3 7",
+        text: PATH_OF_THREE,
         roots: &[1, 1, 1],
         components: 1,
     },
     Row {
-        text: "p sp 3 1\na 3 2 5",
+        text: NODE_AND_PAIR,
         roots: &[1, 2, 2],
         components: 2,
     },
     Row {
-        text: "p sp 4 2\na 1 2 5\na 3 4 6",
+        text: TWO_PAIRS,
         roots: &[1, 1, 3, 3],
         components: 2,
     },
     Row {
-        text: "p sp 5 2\na 1 2 5\na 3 4 6",
+        text: TWO_PAIRS_AND_NODE,
         roots: &[1, 1, 3, 3, 5],
         components: 3,
     },
     Row {
-        text: "p sp 6 4\na 5 6 1\na 4 6 2\na 2 4 3\na 1 3 9",
+        text: PATH_AND_PAIR,
         roots: &[1, 2, 1, 2, 2, 2],
         components: 2,
     },
@@ -64,9 +68,7 @@ fn assert_roots(rt: &impl Abort, graph: &Graph, roots: &[u32]) {
 }
 
 fn assert_row(rt: &impl Abort, alloc: Global, row: &Row) {
-    let raw = judge(alloc, row.text.as_bytes()).ok();
-    let graph = Graph::build(alloc, raw.expect(rt, "a graph")).ok();
-    let graph = graph.expect(rt, "ports");
+    let graph = graph_of(alloc, row.text.as_bytes()).expect(rt, "a graph");
     assert_eq!(rt; graph.components(), row.components, "of {:?}", row.text);
     assert_roots(rt, &graph, row.roots);
 }

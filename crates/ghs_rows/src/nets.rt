@@ -5,37 +5,22 @@ ghost use Rattle.ghs_core.specs.NetState.{IsLawful, IsAnswer, event_node};
 use ghs_core::event::Event;
 use ghs_core::ledger::Ledger;
 use ghs_core::net::Net;
-use ghs_gr::judgement::judge;
 use ghs_graph::graph::Graph;
 use ghs_graph::key::Key;
 use ghs_node::delta::Delta;
 use ghs_node::node::Node;
 use ghs_node::react::react;
+use ghs_test_graphs::build::graph_of;
+use ghs_test_graphs::graphs::{
+    EQUAL_TRIANGLE, FALLING_PATH_OF_THREE, FORKED_PATH, LONE_NODE, PAIR, PARALLEL_PAIR,
+    PATH_OF_FIVE, PATH_OF_FOUR, PATH_OF_THREE, STAR_OF_THREE, TRIANGLE, TWO_PAIRS_AND_NODE,
+};
 use std::alloc::Global;
 use std::process::Abort;
-use std::test::Fail;
-
-const SINGLE: &str = "p sp 1 0";
-
-const PAIR: &str = "p sp 2 1\na 1 2 5";
-
-const PATH: &str = "p sp 3 2\na 1 2 5\na 2 3 7";
-
-const TRIANGLE: &str = "p sp 3 3\na 1 2 1\na 2 3 2\na 1 3 3";
-
-/// All weights are equal: the smaller ends decide.
-const ALIKE: &str = "p sp 3 3\na 1 2 4\na 2 3 4\na 1 3 4";
-
-const TWO_PAIRS: &str = "p sp 4 3\na 1 2 1\na 3 4 2\na 2 3 3";
-
-const FIVE: &str = "p sp 5 4\na 1 2 1\na 2 3 2\na 4 5 3\na 3 4 4";
-
-const FORKED: &str = "p sp 5 4\na 1 2 1\na 3 4 2\na 2 3 5\na 2 5 9";
 
 /// The opening net of the graph of a text.
 pub fn net_of(rt: &impl Abort, alloc: Global, text: &str) -> Net {
-    let raw = judge(alloc, text.as_bytes()).ok().expect(rt, "a graph");
-    let graph = Graph::build(alloc, raw).ok().expect(rt, "ports");
+    let graph = graph_of(alloc, text.as_bytes()).expect(rt, "a graph");
     Net::open(alloc, graph).ok().expect(rt, "a net")
 }
 
@@ -263,7 +248,7 @@ const PATH_LEDGER: Ledger = Ledger {
 #[test]
 fn path(rt: HostRuntime) {
     let alloc = rt.alloc();
-    let mut net = played(&rt, alloc, PATH, &[Event::Wake(1)]);
+    let mut net = played(&rt, alloc, PATH_OF_THREE, &[Event::Wake(1)]);
     assert_branches(&rt, alloc, &net, &[(5, 1, 2)]);
     play_all(&rt, alloc, &mut net, &[Event::Wake(2), Event::Wake(3)]);
     assert_ledger(&rt, &net, &PATH_LEDGER);
@@ -274,7 +259,7 @@ fn path(rt: HostRuntime) {
 
 const EXAMPLES: [Example; 8] = [
     Example {
-        text: SINGLE,
+        text: LONE_NODE,
         nodes: 1,
         level: 0,
         most: 0,
@@ -288,7 +273,7 @@ const EXAMPLES: [Example; 8] = [
         tree: &[(5, 1, 2)],
     },
     Example {
-        text: PATH,
+        text: PATH_OF_THREE,
         nodes: 3,
         level: 1,
         most: 13,
@@ -302,28 +287,28 @@ const EXAMPLES: [Example; 8] = [
         tree: &[(1, 1, 2), (2, 2, 3)],
     },
     Example {
-        text: ALIKE,
+        text: EQUAL_TRIANGLE,
         nodes: 3,
         level: 1,
         most: 15,
         tree: &[(4, 1, 2), (4, 1, 3)],
     },
     Example {
-        text: TWO_PAIRS,
+        text: PATH_OF_FOUR,
         nodes: 4,
         level: 2,
         most: 38,
         tree: &[(1, 1, 2), (2, 3, 4), (3, 2, 3)],
     },
     Example {
-        text: FIVE,
+        text: PATH_OF_FIVE,
         nodes: 5,
         level: 2,
         most: 48,
         tree: &[(1, 1, 2), (2, 2, 3), (3, 4, 5), (4, 3, 4)],
     },
     Example {
-        text: FORKED,
+        text: FORKED_PATH,
         nodes: 5,
         level: 2,
         most: 48,
@@ -355,7 +340,7 @@ fn runs_in_turn(rt: HostRuntime) {
 }
 
 const PARALLEL: Example = Example {
-    text: "p sp 2 2\na 1 2 5\na 2 1 6",
+    text: PARALLEL_PAIR,
     nodes: 2,
     level: 1,
     most: 10,
@@ -369,7 +354,7 @@ fn run_parallel_links(rt: &impl Abort, alloc: Global, order: &[u32]) {
     assert_sent(rt, &net, [2, 2, 2, 0, 0, 2, 0]);
 }
 
-// Of two parallel links the lighter one is the tree. Each node tests the other one, and neither Test is answered.
+/// Of two parallel links the lighter one is the tree. Each node tests the other one, and neither Test is answered.
 #[test]
 fn parallel_links(rt: HostRuntime) {
     let alloc = rt.alloc();
@@ -404,11 +389,11 @@ fn end_pieces(rt: &impl Abort, alloc: Global, net: &mut Net) {
     go_on(rt, alloc, net, &[Event::Wake(5)], true);
 }
 
-// A run has ended where each component has, and not before.
+/// A run has ended where each component has, and not before.
 #[test]
 fn pieces(rt: HostRuntime) {
     let alloc = rt.alloc();
-    let mut net = net_of(&rt, alloc, "p sp 5 2\na 1 2 5\na 3 4 6");
+    let mut net = net_of(&rt, alloc, TWO_PAIRS_AND_NODE);
     go_on(&rt, alloc, &mut net, &PAIR_RUN, false);
     assert_halted(&rt, &net, Some(1));
     end_pieces(&rt, alloc, &mut net);
@@ -423,8 +408,8 @@ fn assert_same(rt: &impl Abort, left: &Net, right: &Net, same: bool) {
 #[test]
 fn same_runs(rt: HostRuntime) {
     let alloc = rt.alloc();
-    let left = played(&rt, alloc, PATH, &[Event::Wake(2)]);
-    let mut right = net_of(&rt, alloc, PATH);
+    let left = played(&rt, alloc, PATH_OF_THREE, &[Event::Wake(2)]);
+    let mut right = net_of(&rt, alloc, PATH_OF_THREE);
     assert_same(&rt, &left, &right, false);
     play(&rt, alloc, &mut right, Event::Wake(3));
     assert_same(&rt, &left, &right, false);
@@ -444,10 +429,10 @@ fn assert_opens(rt: &impl Abort, alloc: Global, net: &Net, text: &str, same: boo
 #[test]
 fn a_graph_opens_again(rt: HostRuntime) {
     let alloc = rt.alloc();
-    let net = played(&rt, alloc, PATH, &[Event::Wake(2)]);
+    let net = played(&rt, alloc, PATH_OF_THREE, &[Event::Wake(2)]);
     let again = opened_again(&rt, alloc, net);
     assert_opens(&rt, alloc, &again, PAIR, false);
-    assert_opens(&rt, alloc, &again, PATH, true);
+    assert_opens(&rt, alloc, &again, PATH_OF_THREE, true);
 }
 
 /// A node that is lifted out is the net's.
@@ -463,7 +448,7 @@ fn assert_same_node(rt: &impl Abort, node: &Node, other: &Node) {
 
 #[test]
 fn a_node_lifted(rt: HostRuntime) {
-    let net = net_of(&rt, rt.alloc(), PATH);
+    let net = net_of(&rt, rt.alloc(), PATH_OF_THREE);
     assert!(rt; net.graph().nodes() == 3);
     assert_lifted(&rt, rt.alloc(), &net, 1);
 }
@@ -495,11 +480,11 @@ fn put_back_of_two(rt: &impl Abort, alloc: Global, net: &mut Net, event: Event) 
     assert!(rt; sent_in(net) == 2);
 }
 
-// A message that comes to a sleeping node is put back, and yet the run has moved on: the node is awake.
+/// A message that comes to a sleeping node is put back, and yet the run has moved on: the node is awake.
 #[test]
 fn a_message_put_back_at_a_sleeper(rt: HostRuntime) {
     let alloc = rt.alloc();
-    let text = "p sp 3 2\na 1 2 5\na 2 3 4";
+    let text = FALLING_PATH_OF_THREE;
     let mut net = played(&rt, alloc, text, &[Event::Wake(1)]);
     assert_lawful(&rt, &net, Event::Wake(2));
     put_back_of_two(&rt, alloc, &mut net, Event::Take(2, 1));
@@ -518,24 +503,25 @@ const UNTIL_ALL_WAIT: [Event; 7] = [
     Event::Take(1, 1),
 ];
 
-// All first messages wait; behind one of them stands the message that moves the run on.
+/// All first messages wait; behind one of them stands the message that moves the run on.
 #[test]
 fn all_first_messages_wait(rt: HostRuntime) {
     let alloc = rt.alloc();
-    let text = "p sp 3 2\na 1 2 5\na 1 3 7";
-    let mut net = played(&rt, alloc, text, &UNTIL_ALL_WAIT);
+    let mut net = played(&rt, alloc, STAR_OF_THREE, &UNTIL_ALL_WAIT);
     assert_unlawful(&rt, &net, &[Event::Take(1, 1), Event::Take(2, 0)]);
     assert_put_back(&rt, alloc, &mut net, Event::Take(1, 0));
     assert_put_back(&rt, alloc, &mut net, Event::Take(3, 0));
     assert_consumed(&rt, alloc, &mut net, Event::Take(3, 0));
 }
 
-#[test]
-fn copies(rt: HostRuntime) -> Result<(), Fail> {
-    let alloc = rt.alloc();
-    let raw = judge(alloc, PATH.as_bytes()).ok().ok_or("a graph")?;
-    let graph = Graph::build(alloc, raw).ok().ok_or("ports")?;
-    let copy = graph.copy(alloc)?;
+/// A graph is as its copy.
+fn assert_copied(rt: &impl Abort, alloc: Global, graph: &Graph) {
+    let copy = graph.copy(alloc).expect(rt, "memory");
     assert!(rt; graph.same(&copy));
-    Ok(())
+}
+
+#[test]
+fn copies(rt: HostRuntime) {
+    let net = net_of(&rt, rt.alloc(), PATH_OF_THREE);
+    assert_copied(&rt, rt.alloc(), net.graph());
 }

@@ -1,14 +1,14 @@
 //! The queues of a path.
 ghost use Rattle.ghs_links.specs.Links.{IsFor, IsPort};
 
-use ghs_gr::judgement::judge;
 use ghs_graph::graph::Graph;
 use ghs_graph::key::Key;
 use ghs_links::links::Links;
 use ghs_node::level::Level;
 use ghs_node::message::Message;
+use ghs_test_graphs::build::graph_of;
+use ghs_test_graphs::graphs::PATH_OF_THREE;
 use std::process::Abort;
-use std::test::Fail;
 
 /// Sees that the graph has a port.
 fn expect_port(rt: &impl Abort, graph: &Graph, v: u32, port: u32)
@@ -145,16 +145,13 @@ fn pass_messages(rt: &impl Abort, links: &mut Links, graph: &Graph)
 }
 
 #[test]
-fn queues(rt: HostRuntime) -> Result<(), Fail> {
+fn queues(rt: HostRuntime) {
     let alloc = rt.alloc();
-    let raw = judge(alloc, b"p sp 3 2\na 1 2 5\na 2 3 7").ok();
-    let graph = Graph::build(alloc, raw.ok_or("refused")?).ok();
-    let graph = graph.ok_or("refused")?;
-    let mut links = Links::new(alloc, &graph)?;
+    let graph = graph_of(alloc, PATH_OF_THREE.as_bytes()).expect(&rt, "a graph");
+    let mut links = Links::new(alloc, &graph).expect(&rt, "memory");
     starts_empty(&rt, &links, &graph);
     pass_messages(&rt, &mut links, &graph);
     sees_none(&rt, &links, &graph, 1, 0);
     sees(&rt, &links, &graph, 3, 0, (1, Some(TEST)));
     assert_total(&rt, &links, 1);
-    Ok(())
 }

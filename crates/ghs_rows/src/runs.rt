@@ -1,15 +1,15 @@
 //! Runs whose events a schedule picks.
-use crate::worlds::{MOST_TURNS, check_out, let_go, world_of};
+use crate::worlds::{check_out, let_go, world_of};
 use ghs_core::event::Event;
 use ghs_sched::fault::RunFault;
 use ghs_sched::run::{RunEnd, run_seeded};
 use ghs_sched::schedule::Schedule;
+use ghs_sched::trace::EVENT_LIMIT;
+use ghs_test_graphs::graphs::PAIR;
 use ghs_world::wake_set::WakeSet;
 use ghs_world::world::World;
 use std::alloc::Global;
 use std::process::Abort;
-
-const PAIR: &str = "p sp 2 2\na 1 2 5\na 2 1 5";
 
 /// The run of the two nodes by seed 0.
 const PAIR_RUN: [Event; 6] = [
@@ -29,10 +29,10 @@ fn run_pair(rt: &impl Abort, alloc: Global, world: &mut World, schedule: &mut Sc
 }
 
 fn pair_of(rt: &impl Abort, alloc: Global) -> World {
-    world_of(rt, alloc, PAIR, WakeSet::All, MOST_TURNS)
+    world_of(rt, alloc, PAIR, WakeSet::All, EVENT_LIMIT)
 }
 
-// The run is the same where tickets were out, and the words behind it are the schedule's next ones.
+/// The run is the same where tickets were out, and the words behind it are the schedule's next ones.
 #[test]
 fn tickets_come_back_before_a_run(rt: HostRuntime) {
     let alloc = rt.alloc();
@@ -45,7 +45,7 @@ fn tickets_come_back_before_a_run(rt: HostRuntime) {
     let_go(world);
 }
 
-// A run that has ended uses no word.
+/// A run that has ended uses no word.
 #[test]
 fn a_run_that_has_ended_stays(rt: HostRuntime) {
     let alloc = rt.alloc();

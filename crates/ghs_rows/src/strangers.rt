@@ -1,6 +1,8 @@
 //! Steps and tickets that a world doesn't take: they are of another world, or were called back.
-use crate::worlds::{MOST_TURNS, check_out, commit, do_all, hold, let_go, path, step_of, world_of};
+use crate::worlds::{check_out, commit, do_all, hold, let_go, path, step_of, world_of};
 use ghs_core::event::Event;
+use ghs_sched::trace::EVENT_LIMIT;
+use ghs_test_graphs::graphs::HEAVIER_PATH_OF_THREE;
 use ghs_world::fault::{BackFault, CommitFault};
 use ghs_world::ticket::{Step, Ticket};
 use ghs_world::wake_set::WakeSet;
@@ -127,7 +129,7 @@ fn commit_of_a_twin(rt: &impl Abort, alloc: Global, world: &mut World, event: Ev
     let_go(twin);
 }
 
-// A step with equal number, event, node and work is the same step, whichever world it is of.
+/// A step with equal number, event, node and work is the same step, whichever world it is of.
 #[test]
 fn twins(rt: HostRuntime) {
     let alloc = rt.alloc();
@@ -140,7 +142,7 @@ fn twins(rt: HostRuntime) {
     let_go(world);
 }
 
-// The event, its number and its message are equal, but node 1 is awake in one world and asleep in the other.
+/// The event, its number and its message are equal, but node 1 is awake in one world and asleep in the other.
 #[test]
 fn twins_that_went_apart(rt: HostRuntime) {
     let alloc = rt.alloc();
@@ -158,8 +160,8 @@ fn twins_that_went_apart(rt: HostRuntime) {
 
 /// A step of a world in which a link of the path is heavier.
 fn step_of_another_weight(rt: &impl Abort, alloc: Global, event: Event) -> Step {
-    let text = "p sp 3 2\na 1 2 6\na 2 3 7";
-    let mut other = world_of(rt, alloc, text, WakeSet::All, MOST_TURNS);
+    let text = HEAVIER_PATH_OF_THREE;
+    let mut other = world_of(rt, alloc, text, WakeSet::All, EVENT_LIMIT);
     let step = step_of(rt, alloc, &mut other, event);
     let_go(other);
     step

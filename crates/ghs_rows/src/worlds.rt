@@ -1,9 +1,10 @@
 //! Worlds, from which nodes go out on tickets.
 use ghs_core::event::Event;
-use ghs_gr::judgement::judge;
-use ghs_graph::graph::Graph;
 use ghs_graph::key::Key;
 use ghs_report::run_text::run_text;
+use ghs_sched::trace::EVENT_LIMIT;
+use ghs_test_graphs::build::graph_of;
+use ghs_test_graphs::graphs::{PATH_OF_THREE, TWO_PAIRS_AND_NODE};
 use ghs_world::fault::OutFault;
 use ghs_world::ticket::{Step, Ticket};
 use ghs_world::wake_set::WakeSet;
@@ -12,15 +13,10 @@ use ghs_world::world::World;
 use std::alloc::Global;
 use std::process::Abort;
 
-const PATH: &str = "p sp 3 2\na 1 2 5\na 2 3 7";
-
-pub const MOST_TURNS: u64 = 1 << 40;
-
 /// The opening world of the graph of a text.
 pub fn world_of(rt: &impl Abort, alloc: Global, text: &str, wake: WakeSet, turns: u64) -> World {
-    assert!(rt; turns >= 1 && turns <= MOST_TURNS);
-    let raw = judge(alloc, text.as_bytes()).ok().expect(rt, "a graph");
-    let graph = Graph::build(alloc, raw).ok().expect(rt, "ports");
+    assert!(rt; turns >= 1 && turns <= EVENT_LIMIT);
+    let graph = graph_of(alloc, text.as_bytes()).expect(rt, "a graph");
     World::open(alloc, graph, wake, turns)
         .ok()
         .expect(rt, "a world")
@@ -31,7 +27,7 @@ pub fn let_go(_world: World) {}
 
 /// The opening world of three nodes in a row, in which all may wake.
 pub fn path(rt: &impl Abort, alloc: Global) -> World {
-    world_of(rt, alloc, PATH, WakeSet::All, MOST_TURNS)
+    world_of(rt, alloc, PATH_OF_THREE, WakeSet::All, EVENT_LIMIT)
 }
 
 /// Checks out an event, which isn't refused.
@@ -113,11 +109,11 @@ fn take_back(rt: &impl Abort, world: &mut World, ticket: Ticket) {
     assert!(rt; world.give_back(ticket).is_ok());
 }
 
-// With one turn left one node may be out; its number is used up when it is taken back, and the turn is there again.
+/// With one turn left one node may be out; its number is used up when it is taken back, and the turn is there again.
 #[test]
 fn one_turn(rt: HostRuntime) {
     let alloc = rt.alloc();
-    let mut world = world_of(&rt, alloc, PATH, WakeSet::All, 1);
+    let mut world = world_of(&rt, alloc, PATH_OF_THREE, WakeSet::All, 1);
     let ticket = check_out(&rt, alloc, &mut world, Event::Wake(1));
     assert_refused(&rt, alloc, &mut world, Event::Wake(1), OutFault::Busy);
     assert_refused(&rt, alloc, &mut world, Event::Wake(2), OutFault::TurnLimit);
@@ -126,12 +122,9 @@ fn one_turn(rt: HostRuntime) {
     let_go(world);
 }
 
-/// Two pairs and a fifth node, of which nodes 1, 3 and 5 may wake.
-const PIECES: &str = "p sp 5 2\na 1 2 5\na 3 4 6";
-
-/// The opening world of the pieces, of which those nodes go out.
+/// The opening world of two pairs and a node, of which nodes 1, 3 and 5 may wake: those go out.
 fn pieces_out(rt: &impl Abort, alloc: Global) -> World {
-    let mut world = world_of(rt, alloc, PIECES, WakeSet::First, MOST_TURNS);
+    let mut world = world_of(rt, alloc, TWO_PAIRS_AND_NODE, WakeSet::First, EVENT_LIMIT);
     for v in [2, 4] {
         assert_refused(rt, alloc, &mut world, Event::Wake(v), OutFault::Nothing);
     }

@@ -1,7 +1,10 @@
 //! Runs of the five nodes: seeded, patient, by workers, and done again.
-use ghs_board::board::Board;
+ghost use Rattle.ghs_pool.specs.Shop.{IsTold};
+
+use ghs_board::board::{Board, Publisher};
 use ghs_board::progress::Progress;
 use ghs_core::event::Event;
+use ghs_graph::graph::Graph;
 use ghs_patient::run::run_patient;
 use ghs_picking::picking::{Picking, run_by_seed};
 use ghs_pool::end::PoolFault;
@@ -10,7 +13,7 @@ use ghs_pool::shop::Shop;
 use ghs_pool::workers::{run_watched, run_workers};
 use ghs_refusing::orders::{Turn, order, refuse, turn_of};
 use ghs_refusing::scenes::{
-    are_same, events_of_run, five, has_ended, is_five, opening, world_after,
+    are_same, events_of_run, five, has_ended, is_five, let_go, opening, world_after,
 };
 use ghs_sched::fault::{ReplayFault, RunFault};
 use ghs_sched::replay::replay;
@@ -41,6 +44,19 @@ fn assert_sound(rt: &impl Abort, alloc: Global, world: &World, first: &[Event]) 
     assert!(rt; world.out_count() == 0 && world.trace().starts_with(first));
     let same = world_after(alloc, world.trace()).expect(rt, "a run");
     assert!(rt; are_same(world.net(), same.net()));
+    let_go(same);
+}
+
+/// The run has ended with its one text.
+fn assert_ended(rt: &impl Abort, alloc: Global, world: World) {
+    assert!(rt; has_ended(alloc, &world));
+    let_go(world);
+}
+
+/// There was no fault but want of memory. Whether there was one.
+fn is_stopped(rt: &impl Abort, fault: Option<RunFault>) -> bool {
+    assert!(rt; fault.is_none() || fault == Some(RunFault::Memory));
+    fault.is_some()
 }
 
 /// Goes on by a schedule, with the k-th allocation refused.
@@ -67,6 +83,16 @@ fn go_on_patiently(
     (turn_of(alloc, k, &answer), answer.err())
 }
 
+/// A run goes on to its end.
+fn end_run(rt: &impl Abort, alloc: Global, world: &mut World, schedule: &mut Schedule) {
+    let (_, fault) = go_on(alloc, world, schedule, 0);
+    assert!(rt; fault.is_none());
+}
+
+fn assert_trace(rt: &impl Abort, world: &World, events: &[Event]) {
+    assert!(rt; world.trace() == events);
+}
+
 /// One seed's run, stopped for want of memory, goes on by the same schedule to the events that it has where nothing is
 /// refused.
 fn seeded(rt: &impl Abort, alloc: Global, events: &[Event], k: usize) -> Turn {
@@ -74,13 +100,18 @@ fn seeded(rt: &impl Abort, alloc: Global, events: &[Event], k: usize) -> Turn {
     let mut schedule = Schedule::seeded(7);
     let (turn, fault) = go_on(alloc, &mut world, &mut schedule, k);
     assert_sound(rt, alloc, &world, &[]);
-    if fault.is_some() {
-        assert!(rt; fault == Some(RunFault::Memory));
-        assert!(rt; go_on(alloc, &mut world, &mut schedule, 0).1.is_none());
+    if is_stopped(rt, fault) {
+        end_run(rt, alloc, &mut world, &mut schedule);
     }
-    assert!(rt; world.trace() == events);
-    assert!(rt; has_ended(alloc, &world));
+    assert_trace(rt, &world, events);
+    assert_ended(rt, alloc, world);
     turn
+}
+
+/// A patient run goes on to its end.
+fn end_patiently(rt: &impl Abort, alloc: Global, world: &mut World, schedule: &mut Schedule) {
+    let (_, fault) = go_on_patiently(alloc, world, schedule, 0);
+    assert!(rt; fault.is_none());
 }
 
 /// A patient run that goes on from what stands, with something out; stopped, it goes on again.
@@ -89,15 +120,10 @@ fn patient(rt: &impl Abort, alloc: Global, k: usize) -> Turn {
     let mut schedule = Schedule::seeded(7);
     let (turn, fault) = go_on_patiently(alloc, &mut world, &mut schedule, k);
     assert_sound(rt, alloc, &world, &FIRST);
-    if fault.is_some() {
-        assert!(rt; fault == Some(RunFault::Memory));
-        assert!(rt;
-            go_on_patiently(alloc, &mut world, &mut schedule, 0)
-                .1
-                .is_none()
-        );
+    if is_stopped(rt, fault) {
+        end_patiently(rt, alloc, &mut world, &mut schedule);
     }
-    assert!(rt; has_ended(alloc, &world));
+    assert_ended(rt, alloc, world);
     turn
 }
 
@@ -120,19 +146,21 @@ fn go_by_seed(
 fn by_seed(rt: &impl Abort, alloc: Global, picking: Picking, k: usize) -> Turn {
     let (mut world, turn, fault) = go_by_seed(rt, alloc, picking, k);
     assert_sound(rt, alloc, &world, &[]);
-    if fault.is_some() {
-        assert!(rt; fault == Some(RunFault::Memory));
-        assert!(rt;
-            go_on(alloc, &mut world, &mut Schedule::seeded(7), 0)
-                .1
-                .is_none()
-        );
+    if is_stopped(rt, fault) {
+        end_run(rt, alloc, &mut world, &mut Schedule::seeded(7));
     }
-    assert!(rt; has_ended(alloc, &world));
+    assert_ended(rt, alloc, world);
     turn
 }
 
 /// The graph comes back, and the run is done again with it.
+fn do_again(rt: &impl Abort, alloc: Global, graph: Graph, events: &[Event], fault: ReplayFault) {
+    assert!(rt; events.len() as u64 <= EVENT_LIMIT);
+    assert!(rt; fault == ReplayFault::Memory && is_five(alloc, &graph));
+    assert!(rt; replay(alloc, graph, WakeSet::All, events).is_ok());
+}
+
+/// A run that is done again.
 fn done_again(rt: &impl Abort, alloc: Global, events: &[Event], k: usize) -> Turn {
     assert!(rt; events.len() as u64 <= EVENT_LIMIT);
     let graph = five(alloc).expect(rt, "a graph");
@@ -140,11 +168,8 @@ fn done_again(rt: &impl Abort, alloc: Global, events: &[Event], k: usize) -> Tur
     let answer = replay(alloc, graph, WakeSet::All, events);
     let turn = turn_of(alloc, k, &answer);
     match answer {
-        Ok(world) => assert!(rt; has_ended(alloc, &world)),
-        Err((graph, fault)) => {
-            assert!(rt; fault == ReplayFault::Memory && is_five(alloc, &graph));
-            assert!(rt; replay(alloc, graph, WakeSet::All, events).is_ok());
-        }
+        Ok(world) => assert_ended(rt, alloc, world),
+        Err((graph, fault)) => do_again(rt, alloc, graph, events, fault),
     }
     turn
 }
@@ -167,16 +192,20 @@ fn runs(host: HostRuntime) -> Result<(), Fail> {
     refuse(rt, alloc, "replay", |k| done_again(rt, alloc, &events, k))
 }
 
+fn refuse_picking<R: Print + Abort>(
+    rt: &R,
+    alloc: Global,
+    name: &str,
+    picking: Picking,
+) -> Result<(), Fail> {
+    refuse(rt, alloc, name, |k| by_seed(rt, alloc, picking, k))
+}
+
 #[test]
 fn runs_by_seed(host: HostRuntime) -> Result<(), Fail> {
     let (rt, alloc) = (&host, host.alloc());
-    for (name, picking) in [
-        ("run_by_seed", Picking::Patient),
-        ("run_by_seed(lifo)", Picking::Lifo),
-    ] {
-        refuse(rt, alloc, name, |k| by_seed(rt, alloc, picking, k))?;
-    }
-    Ok(())
+    refuse_picking(rt, alloc, "run_by_seed", Picking::Patient)?;
+    refuse_picking(rt, alloc, "run_by_seed(lifo)", Picking::Lifo)
 }
 
 /// A run of so many workers, with the k-th allocation refused.
@@ -193,6 +222,27 @@ fn set_to_work<R: Threads + Wait + Sync + Abort>(
     (world, turn_of(alloc, k, &answer), answer.err())
 }
 
+/// There was no fault but want of memory, or a thread that couldn't be started: that is counted.
+fn count_unstarted(rt: &impl Abort, fault: Option<PoolFault>, unstarted: &AtomicU64) {
+    if fault == Some(PoolFault::NoThread) {
+        unstarted.fetch_add(1, Ordering::SeqCst);
+    } else {
+        assert!(rt; fault.is_none() || fault == Some(PoolFault::Memory));
+    }
+}
+
+/// Workers run a world on to its end.
+fn end_by_workers<R: Threads + Wait + Sync + Abort>(
+    rt: &R,
+    alloc: Global,
+    world: World,
+    workers: u32,
+) {
+    let (world, _, fault) = set_to_work(rt, alloc, world, workers, 0);
+    assert!(rt; fault.is_none());
+    assert_ended(rt, alloc, world);
+}
+
 /// The same from what stands, with something out; stopped, it goes on again. That a thread couldn't be started is counted.
 fn work<R: Threads + Wait + Sync + Abort>(
     rt: &R,
@@ -203,57 +253,66 @@ fn work<R: Threads + Wait + Sync + Abort>(
 ) -> Turn {
     let (world, turn, fault) = set_to_work(rt, alloc, begun(rt, alloc), workers, k);
     assert_sound(rt, alloc, &world, &FIRST);
-    match fault {
-        None | Some(PoolFault::Memory) => {}
-        fault => {
-            assert!(rt; fault == Some(PoolFault::NoThread));
-            unstarted.fetch_add(1, Ordering::SeqCst);
-        }
-    }
-    let (world, _, fault) = set_to_work(rt, alloc, world, workers, 0);
-    assert!(rt; fault.is_none());
-    assert!(rt; has_ended(alloc, &world));
+    count_unstarted(rt, fault, unstarted);
+    end_by_workers(rt, alloc, world, workers);
     turn
+}
+
+const TWO_COMMITS: Progress = Progress {
+    commits: 2,
+    halted: false,
+};
+
+/// A world after two events, and a publisher that tells of them.
+fn told_world(rt: &impl Abort, alloc: Global) -> (World, Publisher)
+    ensures { IsTold result.0 result.1 }
+{
+    let world = world_after(alloc, &FIRST).expect(rt, "a run");
+    let (_board, publisher, _reader) = Board::open(alloc, TWO_COMMITS).expect(rt, "a board");
+    let Ok(shop) = Shop::open(world, publisher) else {
+        panic!(rt; "the pair of the world");
+    };
+    shop.close()
+}
+
+/// A publisher's last pair is that of the world that stands.
+fn assert_told(rt: &impl Abort, world: &World, publisher: &Publisher) {
+    let last = publisher.last();
+    assert!(rt; last.commits == world.trace().len() as u64 && last.halted == world.ended());
 }
 
 /// The same, watched: the publisher comes back with the pair of the world that stands.
 fn work_watched<R: Threads + Wait + Sync + Abort>(rt: &R, alloc: Global, k: usize) -> Turn {
-    let world = world_after(alloc, &FIRST).expect(rt, "a run");
-    let two = Progress {
-        commits: 2,
-        halted: false,
-    };
-    let (_board, publisher, _reader) = Board::open(alloc, two).expect(rt, "a board");
-    let Ok(shop) = Shop::open(world, publisher) else {
-        panic!(rt; "the pair of the world");
-    };
-    let (world, publisher) = shop.close();
+    let (world, publisher) = told_world(rt, alloc);
     order(alloc, k);
     let (world, publisher, answer) = run_watched(rt, alloc, world, 2, &OpenGate, publisher);
     let turn = turn_of(alloc, k, &answer);
     assert_sound(rt, alloc, &world, &FIRST);
-    let last = publisher.last();
-    assert!(rt; last.commits == world.trace().len() as u64 && last.halted == world.ended());
+    assert_told(rt, &world, &publisher);
     let (world, _, answer) = run_watched(rt, alloc, world, 2, &OpenGate, publisher);
     assert!(rt; answer.is_ok());
-    assert!(rt; has_ended(alloc, &world));
+    assert_ended(rt, alloc, world);
     turn
+}
+
+/// To start a thread takes one allocation; any other that is refused is want of memory.
+fn refuse_workers<R: Threads + Wait + Sync + Print + Abort>(
+    rt: &R,
+    alloc: Global,
+    name: &str,
+    workers: u32,
+) -> Result<(), Fail> {
+    let unstarted = AtomicU64::new(0);
+    refuse(rt, alloc, name, |k| work(rt, alloc, workers, &unstarted, k))?;
+    assert!(rt; workers > 1 || unstarted.load(Ordering::SeqCst) <= 1);
+    Ok(())
 }
 
 #[test]
 fn workers(host: HostRuntime) -> Result<(), Fail> {
     let (rt, alloc) = (&host, host.alloc());
-    for (name, workers) in [
-        ("run_workers(1)", 1u32),
-        ("run_workers(2)", 2),
-        ("run_workers(8)", 8),
-    ] {
-        let unstarted = AtomicU64::new(0);
-        refuse(rt, alloc, name, |k| {
-            work(rt, alloc, workers, &unstarted, k)
-        })?;
-        // to start a thread takes one allocation; any other that is refused is want of memory
-        assert!(rt; workers > 1 || unstarted.load(Ordering::SeqCst) <= 1);
-    }
+    refuse_workers(rt, alloc, "run_workers(1)", 1)?;
+    refuse_workers(rt, alloc, "run_workers(2)", 2)?;
+    refuse_workers(rt, alloc, "run_workers(8)", 8)?;
     refuse(rt, alloc, "run_watched", |k| work_watched(rt, alloc, k))
 }

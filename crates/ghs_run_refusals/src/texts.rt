@@ -134,35 +134,57 @@ fn push(rt: &impl Abort, alloc: Global, k: usize) -> Turn {
     turn
 }
 
+static MADE: [(&str, Made); 3] = [
+    ("tree_text", Made::Tree),
+    ("write_trace", Made::Trace),
+    ("page", Made::Page),
+];
+
+fn refuse_made<R: Print + Abort>(
+    rt: &R,
+    alloc: Global,
+    events: &[Event],
+    rows: &[(&str, Made)],
+) -> Result<(), Fail> {
+    for (name, made) in rows {
+        refuse(rt, alloc, name, |k| make(rt, alloc, events, *made, k))?;
+    }
+    Ok(())
+}
+
 #[test]
 fn texts(host: HostRuntime) -> Result<(), Fail> {
     let (rt, alloc) = (&host, host.alloc());
     let events = events_of_run(alloc).expect(rt, "a run");
-    for (name, made) in [
-        ("tree_text", Made::Tree),
-        ("write_trace", Made::Trace),
-        ("page", Made::Page),
-    ] {
-        refuse(rt, alloc, name, |k| make(rt, alloc, &events, made, k))?;
-    }
+    refuse_made(rt, alloc, &events, &MADE)?;
     refuse(rt, alloc, "read_trace", |k| read(rt, alloc, &events, k))
+}
+
+fn refuse_lines<R: Print + Abort>(
+    rt: &R,
+    alloc: Global,
+    name: &str,
+    form: Form,
+) -> Result<(), Fail> {
+    let events = events_of_run(alloc).expect(rt, "a run");
+    refuse(
+        rt,
+        alloc,
+        name,
+        |k| write_lines(rt, alloc, &events, form, k),
+    )
+}
+
+#[test]
+fn lines_of_steps(host: HostRuntime) -> Result<(), Fail> {
+    let (rt, alloc) = (&host, host.alloc());
+    refuse_lines(rt, alloc, "write_steps", Form::Text)?;
+    refuse_lines(rt, alloc, "write_steps(JSON)", Form::Json)
 }
 
 #[test]
 fn parts_of_texts(host: HostRuntime) -> Result<(), Fail> {
     let (rt, alloc) = (&host, host.alloc());
-    let events = events_of_run(alloc).expect(rt, "a run");
-    for (name, form) in [
-        ("write_steps", Form::Text),
-        ("write_steps(JSON)", Form::Json),
-    ] {
-        refuse(
-            rt,
-            alloc,
-            name,
-            |k| write_lines(rt, alloc, &events, form, k),
-        )?;
-    }
     refuse(rt, alloc, "put_number", |k| put_digits(rt, alloc, k))?;
     refuse(rt, alloc, "Sends::push", |k| push(rt, alloc, k))
 }

@@ -1,14 +1,15 @@
 //! Worked runs, line by line.
 use ghs_gr::device::Device;
-use ghs_gr::judgement::judge;
-use ghs_graph::graph::Graph;
 use ghs_sched::trace::{EVENT_LIMIT, read_trace};
 use ghs_steps::choice::Choice;
 use ghs_steps::form::Form;
 use ghs_steps::show::{StepsFault, write_steps};
+use ghs_test_graphs::build::graph_of;
+use ghs_test_graphs::graphs::{NODE_AND_PAIR, PARALLEL_PAIR, PATH_OF_FIVE, TRIANGLE};
+use ghs_test_graphs::traces::{PATH_OF_FIVE_TRACE, TRIANGLE_TRACE};
 use ghs_world::wake_set::WakeSet;
 use std::alloc::Global;
-use std::test::Fail;
+use std::process::Abort;
 
 const ALL: Choice = Choice {
     from: 1,
@@ -16,12 +17,7 @@ const ALL: Choice = Choice {
     node: None,
 };
 
-const TRIANGLE: &str = "p sp 3 3\na 1 2 1\na 2 3 2\na 1 3 3";
-
-const TRIANGLE_TRACE: &str =
-    "trace 15\nwake 2\ntake 1 0\ntake 2 0\ntake 1 0\ntake 2 0\ntake 3 1\ntake 2 1\ntake 3 0\ntake 3 0\ntake 3 1\ntake 3 0\ntake 1 1\ntake 2 1\ntake 2 1\ntake 1 0";
-
-/// In this run fragments merge, one is absorbed, messages wait, Tests cross, and a link is rejected at one end alone.
+/// The lines of the triangle's run.
 const TRIANGLE_LINES: &str = "\
 1 2 - - wake Wakes - mark.0=branch;phase=found 0>1:connect(0) 1\n\
 2 1 0 2 connect(0) Woken_merges done mark.0=branch;phase=found 0>2:connect(0);0>2:initiate(1,1:1-2,find) 3\n\
@@ -59,14 +55,8 @@ const TRIANGLE_JSON: &str = "\
 {\"step\":15,\"node\":1,\"port\":0,\"far\":2,\"kind\":\"report\",\"key\":null,\"row\":\"Report_halts\",\"fate\":\"done\",\"mark\":null,\"set\":{\"halted\":true},\"send\":[],\"total\":13}\n\
 ";
 
-/// A fragment of three nodes and one of two, and the link that joins them.
-const FIVE_PATH: &str = "p sp 5 4\na 1 2 1\na 2 3 2\na 4 5 3\na 3 4 4";
-
-const FIVE_PATH_TRACE: &str =
-    "trace 66\nwake 3\nwake 1\nwake 5\nwake 2\ntake 1 0\ntake 2 1\ntake 4 0\ntake 5 0\ntake 2 0\ntake 2 1\ntake 2 0\ntake 3 0\ntake 2 1\ntake 3 0\ntake 4 0\ntake 5 0\ntake 3 1\ntake 4 0\ntake 3 1\ntake 3 1\ntake 4 0\ntake 3 1\ntake 4 0\ntake 1 0\ntake 4 0\ntake 2 0\ntake 3 1\ntake 3 1\ntake 2 0\ntake 3 1\ntake 4 0\ntake 4 0\ntake 3 1\ntake 3 0\ntake 4 1\ntake 3 0\ntake 2 1\ntake 3 1\ntake 2 0\ntake 4 1\ntake 2 0\ntake 5 0\ntake 3 1\ntake 2 0\ntake 2 1\ntake 2 0\ntake 1 0\ntake 3 0\ntake 4 1\ntake 4 0\ntake 4 1\ntake 3 1\ntake 3 1\ntake 4 1\ntake 5 0\ntake 2 1\ntake 4 0\ntake 3 1\ntake 3 1\ntake 1 0\ntake 3 1\ntake 3 1\ntake 3 1\ntake 2 0\ntake 3 0\ntake 3 1";
-
-/// Its events 40 to 54, by that program: links are accepted, one is reported, and the core moves to it.
-const FIVE_PATH_JSON: &str = "\
+/// Events 40 to 54 of the run of the path of five, by that program: links are accepted, one is reported, and the core moves to it.
+const PATH_OF_FIVE_JSON: &str = "\
 {\"step\":40,\"node\":4,\"port\":1,\"far\":3,\"kind\":\"accept\",\"row\":\"Accept_heard\",\"fate\":\"done\",\"mark\":null,\"set\":{\"phase\":\"found\",\"best\":[1,\"4:3-4\"],\"probe\":null},\"send\":[{\"port\":0,\"to\":5,\"at\":0,\"kind\":\"report\",\"key\":\"4:3-4\"}],\"total\":19}\n\
 {\"step\":41,\"node\":2,\"port\":0,\"far\":1,\"kind\":\"report\",\"key\":null,\"row\":\"Report_waits\",\"fate\":\"waits\",\"mark\":null,\"set\":{},\"send\":[],\"total\":19}\n\
 {\"step\":42,\"node\":5,\"port\":0,\"far\":4,\"kind\":\"report\",\"key\":\"4:3-4\",\"row\":\"Report_passes\",\"fate\":\"done\",\"mark\":null,\"set\":{},\"send\":[],\"total\":19}\n\
@@ -84,8 +74,7 @@ const FIVE_PATH_JSON: &str = "\
 {\"step\":54,\"node\":4,\"port\":1,\"far\":3,\"kind\":\"initiate\",\"level\":2,\"key\":\"4:3-4\",\"phase\":\"find\",\"row\":\"Initiate_searches\",\"fate\":\"done\",\"mark\":null,\"set\":{\"level\":2,\"name\":\"4:3-4\",\"phase\":\"find\",\"find_count\":1,\"in_branch\":1,\"best\":null},\"send\":[{\"port\":0,\"to\":5,\"at\":0,\"kind\":\"initiate\",\"level\":2,\"key\":\"4:3-4\",\"phase\":\"find\"}],\"total\":28}\n\
 ";
 
-const PARALLEL: &str = "p sp 2 2\na 1 2 5\na 1 2 7";
-
+/// A run of the two nodes with two links.
 const PARALLEL_TRACE: &str = "trace 5\nwake 1\ntake 2 0\ntake 1 0\ntake 1 0\ntake 2 1";
 
 const PARALLEL_LINES: &str = "\
@@ -96,9 +85,7 @@ const PARALLEL_LINES: &str = "\
 5 2 1 1 test(1,5:1-2) Test_waits waits - - 5\n\
 ";
 
-/// A node without links, and two nodes that are joined.
-const FOREST: &str = "p sp 3 1\na 2 3 5";
-
+/// A run of a node without links and two nodes that are joined.
 const FOREST_TRACE: &str = "trace 3\nwake 1\nwake 2\ntake 3 0";
 
 const FOREST_LINES: &str = "\
@@ -109,21 +96,20 @@ const FOREST_LINES: &str = "\
 
 /// What is answered and written, of this stored run of this graph.
 fn steps_of(
+    rt: &impl Abort,
     alloc: Global,
     graph: &str,
     trace: &str,
     choice: &Choice,
     form: Form,
-) -> Result<(Result<(), StepsFault>, Vec<u8>), Fail> {
-    let raw = judge(alloc, graph.as_bytes()).ok().ok_or("no graph")?;
-    let graph = Graph::build(alloc, raw).ok().ok_or("refused")?;
-    let events = read_trace(alloc, trace.as_bytes()).ok().ok_or("no trace")?;
-    if events.len() as u64 > EVENT_LIMIT {
-        return Err(Fail::from("too many events"));
-    }
+) -> (Result<(), StepsFault>, Vec<u8>) {
+    let graph = graph_of(alloc, graph.as_bytes()).expect(rt, "a graph");
+    let events = read_trace(alloc, trace.as_bytes()).ok();
+    let events = events.expect(rt, "a trace");
+    assert!(rt; events.len() as u64 <= EVENT_LIMIT);
     let mut written = Vec::new(alloc);
     let mut writer = Device::of(&mut written);
-    let result = write_steps(
+    let answer = write_steps(
         alloc,
         graph,
         WakeSet::All,
@@ -132,67 +118,103 @@ fn steps_of(
         form,
         &mut writer,
     );
-    Ok((result, written))
+    (answer, written)
+}
+
+fn assert_answer(
+    rt: &impl Abort,
+    graph: &str,
+    found: Result<(), StepsFault>,
+    answer: Result<(), StepsFault>,
+) {
+    assert_eq!(rt; found, answer, "of {graph:?}");
+}
+
+fn assert_text(rt: &impl Abort, graph: &str, found: &[u8], text: &[u8]) {
+    assert_eq!(rt; found, text, "of {graph:?}");
+}
+
+/// The chosen lines of a stored run are these.
+fn assert_lines(
+    rt: &impl Abort,
+    alloc: Global,
+    graph: &str,
+    trace: &str,
+    choice: &Choice,
+    form: Form,
+    lines: &str,
+) {
+    let (answer, written) = steps_of(rt, alloc, graph, trace, choice, form);
+    assert_answer(rt, graph, answer, Ok(()));
+    assert_text(rt, graph, &written, lines.as_bytes());
+}
+
+/// A stored run is refused before any line.
+fn assert_refused(rt: &impl Abort, alloc: Global, graph: &str, trace: &str, fault: StepsFault) {
+    let (answer, written) = steps_of(rt, alloc, graph, trace, &ALL, Form::Text);
+    assert_answer(rt, graph, answer, Err(fault));
+    assert_text(rt, graph, &written, b"");
+}
+
+/// All lines of a stored run are these.
+fn assert_whole(rt: &impl Abort, alloc: Global, graph: &str, trace: &str, lines: &str) {
+    assert_lines(rt, alloc, graph, trace, &ALL, Form::Text, lines);
 }
 
 #[test]
-fn whole_runs(rt: HostRuntime) -> Result<(), Fail> {
-    let rows = [
-        (TRIANGLE, TRIANGLE_TRACE, TRIANGLE_LINES),
-        (PARALLEL, PARALLEL_TRACE, PARALLEL_LINES),
-        (FOREST, FOREST_TRACE, FOREST_LINES),
-    ];
-    for (graph, trace, lines) in rows {
-        let (result, written) = steps_of(rt.alloc(), graph, trace, &ALL, Form::Text)?;
-        assert_eq!(rt; result, Ok(()), "of {graph:?}");
-        assert_eq!(rt; written.as_slice(), lines.as_bytes(), "of {graph:?}");
-    }
-    Ok(())
+fn whole_runs(rt: HostRuntime) {
+    let alloc = rt.alloc();
+    assert_whole(&rt, alloc, TRIANGLE, TRIANGLE_TRACE, TRIANGLE_LINES);
+    assert_whole(&rt, alloc, PARALLEL_PAIR, PARALLEL_TRACE, PARALLEL_LINES);
+    assert_whole(&rt, alloc, NODE_AND_PAIR, FOREST_TRACE, FOREST_LINES);
+}
+
+const SOME: Choice = Choice {
+    from: 6,
+    to: 8,
+    node: Some(3),
+};
+
+const TWO_LINES: &str =
+    "6 3 1 1 test(1,1:1-2) Woken_test_waits waits mark.0=branch;phase=found 0>2:connect(0) 7\n8 3 0 2 test(1,1:1-2) Test_waits waits - - 8\n";
+
+const NONE: Choice = Choice {
+    from: 9,
+    to: 8,
+    node: None,
+};
+
+/// Chosen lines of the run of the triangle are these.
+fn assert_chosen(rt: &impl Abort, alloc: Global, choice: &Choice, form: Form, lines: &str) {
+    assert_lines(rt, alloc, TRIANGLE, TRIANGLE_TRACE, choice, form, lines);
 }
 
 /// Two lines of node 3; no line where the first number is above the last; and a run that is refused before any line.
 #[test]
-fn chosen_lines(rt: HostRuntime) -> Result<(), Fail> {
-    let some = Choice {
-        from: 6,
-        to: 8,
-        node: Some(3),
-    };
-    let none = Choice {
-        from: 9,
-        to: 8,
-        node: None,
-    };
-    let two =
-        "6 3 1 1 test(1,1:1-2) Woken_test_waits waits mark.0=branch;phase=found 0>2:connect(0) 7\n8 3 0 2 test(1,1:1-2) Test_waits waits - - 8\n";
-    let (_, written) = steps_of(rt.alloc(), TRIANGLE, TRIANGLE_TRACE, &some, Form::Text)?;
-    assert_eq!(rt; written.as_slice(), two.as_bytes());
-    let (_, written) = steps_of(rt.alloc(), TRIANGLE, TRIANGLE_TRACE, &none, Form::Text)?;
-    assert!(rt; written.is_empty());
-    let (result, written) = steps_of(
-        rt.alloc(),
-        FOREST,
-        "trace 2\nwake 1\nwake 1",
-        &ALL,
-        Form::Text,
-    )?;
-    assert_eq!(rt; result, Err(StepsFault::NotLawful(2)));
-    assert!(rt; written.is_empty());
-    Ok(())
+fn chosen_lines(rt: HostRuntime) {
+    let alloc = rt.alloc();
+    assert_chosen(&rt, alloc, &SOME, Form::Text, TWO_LINES);
+    assert_chosen(&rt, alloc, &NONE, Form::Text, "");
+    let twice = "trace 2\nwake 1\nwake 1";
+    assert_refused(&rt, alloc, NODE_AND_PAIR, twice, StepsFault::NotLawful(2));
+}
+
+const FROM_40_TO_54: Choice = Choice {
+    from: 40,
+    to: 54,
+    node: None,
+};
+
+/// Chosen lines of the run of the path of five are these.
+fn assert_chosen_of_five(rt: &impl Abort, alloc: Global, choice: &Choice, lines: &str) {
+    let (graph, trace) = (PATH_OF_FIVE, PATH_OF_FIVE_TRACE);
+    assert_lines(rt, alloc, graph, trace, choice, Form::Json, lines);
 }
 
 /// The same as JSON.
 #[test]
-fn json_lines(rt: HostRuntime) -> Result<(), Fail> {
-    let some = Choice {
-        from: 40,
-        to: 54,
-        node: None,
-    };
-    let (result, written) = steps_of(rt.alloc(), TRIANGLE, TRIANGLE_TRACE, &ALL, Form::Json)?;
-    assert_eq!(rt; result, Ok(()));
-    assert_eq!(rt; written.as_slice(), TRIANGLE_JSON.as_bytes());
-    let (_, written) = steps_of(rt.alloc(), FIVE_PATH, FIVE_PATH_TRACE, &some, Form::Json)?;
-    assert_eq!(rt; written.as_slice(), FIVE_PATH_JSON.as_bytes());
-    Ok(())
+fn json_lines(rt: HostRuntime) {
+    let alloc = rt.alloc();
+    assert_chosen(&rt, alloc, &ALL, Form::Json, TRIANGLE_JSON);
+    assert_chosen_of_five(&rt, alloc, &FROM_40_TO_54, PATH_OF_FIVE_JSON);
 }

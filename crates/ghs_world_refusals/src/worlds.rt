@@ -1,8 +1,11 @@
 //! Worlds of the five nodes, served ticket by ticket.
 use ghs_core::event::Event;
+use ghs_graph::graph::Graph;
 use ghs_node::fault::NodeFault;
-use ghs_refusing::orders::{NONE, Turn, order, refuse, refuse_each, tell, turn_of};
-use ghs_refusing::scenes::{events_of_run, five, has_ended, is_five, stands, world_after};
+use ghs_refusing::orders::{Count, NONE, Turn, order, refuse, refuse_each, tell, turn_of};
+use ghs_refusing::scenes::{
+    events_of_run, five, has_ended, is_after, is_five, let_go, stands, world_after,
+};
 use ghs_report::run_text::run_text;
 use ghs_sched::run::run_seeded;
 use ghs_sched::schedule::Schedule;
@@ -15,18 +18,25 @@ use std::alloc::Global;
 use std::process::Abort;
 use std::test::Fail;
 
+fn assert_opening(rt: &impl Abort, alloc: Global, world: World) {
+    assert!(rt; is_five(alloc, world.graph()) && world.trace().is_empty());
+    let_go(world);
+}
+
 /// The graph comes back, and opens then.
+fn open_again(rt: &impl Abort, alloc: Global, graph: Graph) {
+    assert!(rt; is_five(alloc, &graph));
+    assert!(rt; World::open(alloc, graph, WakeSet::All, EVENT_LIMIT).is_ok());
+}
+
 fn open(rt: &impl Abort, alloc: Global, k: usize) -> Turn {
     let graph = five(alloc).expect(rt, "a graph");
     order(alloc, k);
     let answer = World::open(alloc, graph, WakeSet::All, EVENT_LIMIT);
     let turn = turn_of(alloc, k, &answer);
     match answer {
-        Ok(world) => assert!(rt; is_five(alloc, world.graph()) && world.trace().is_empty()),
-        Err((graph, _)) => {
-            assert!(rt; is_five(alloc, &graph));
-            assert!(rt; World::open(alloc, graph, WakeSet::All, EVENT_LIMIT).is_ok());
-        }
+        Ok(world) => assert_opening(rt, alloc, world),
+        Err((graph, _)) => open_again(rt, alloc, graph),
     }
     turn
 }
@@ -62,6 +72,43 @@ struct Place {
     number: u64,
 }
 
+impl Place {
+    /// Whether nothing has happened that isn't undone.
+    fn stands(&self, alloc: Global) -> bool {
+        stands(alloc, &self.world, &self.twin)
+    }
+}
+
+/// The event's ticket in the world.
+fn out_of_world(rt: &impl Abort, alloc: Global, place: &mut Place) -> Ticket {
+    out(rt, alloc, &mut place.world, place.event)
+}
+
+/// The event's ticket in the twin.
+fn out_of_twin(rt: &impl Abort, alloc: Global, place: &mut Place) -> Ticket {
+    out(rt, alloc, &mut place.twin, place.event)
+}
+
+fn back_to_twin(rt: &impl Abort, place: &mut Place, ticket: Ticket) {
+    assert!(rt; place.twin.give_back(ticket).is_ok());
+}
+
+fn commit_to_world(rt: &impl Abort, alloc: Global, place: &mut Place, step: Step) {
+    commit(rt, alloc, &mut place.world, step);
+}
+
+/// The event's node reacts to its ticket, and the step is committed.
+fn happen(rt: &impl Abort, alloc: Global, place: &mut Place, ticket: Ticket) {
+    let step = step_of(rt, alloc, ticket);
+    commit_to_world(rt, alloc, place, step);
+}
+
+/// Nothing went out; then the event does.
+fn out_again(rt: &impl Abort, alloc: Global, place: &mut Place, fault: OutFault) -> Ticket {
+    assert!(rt; fault == OutFault::Memory && place.stands(alloc));
+    out_of_world(rt, alloc, place)
+}
+
 /// Nothing went out, and no number was used.
 fn refuse_out(rt: &impl Abort, alloc: Global, place: &mut Place, k: usize) -> Turn {
     order(alloc, k);
@@ -69,55 +116,71 @@ fn refuse_out(rt: &impl Abort, alloc: Global, place: &mut Place, k: usize) -> Tu
     let turn = turn_of(alloc, k, &answer);
     let ticket = match answer {
         Ok(ticket) => ticket,
-        Err(fault) => {
-            assert!(rt; fault == OutFault::Memory);
-            assert!(rt; stands(alloc, &place.world, &place.twin));
-            out(rt, alloc, &mut place.world, place.event)
-        }
+        Err(fault) => out_again(rt, alloc, place, fault),
     };
     assert!(rt; ticket.number() == place.number);
-    let step = step_of(rt, alloc, ticket);
-    commit(rt, alloc, &mut place.world, step);
+    happen(rt, alloc, place, ticket);
     turn
+}
+
+/// The ticket that came back is that of the place, and is still out; then its node reacts.
+fn perform_again(
+    rt: &impl Abort,
+    alloc: Global,
+    place: &Place,
+    ticket: Ticket,
+    fault: NodeFault,
+) -> Step {
+    assert!(rt; fault == NodeFault::Memory);
+    assert!(rt; ticket.number() == place.number && ticket.event() == place.event);
+    assert!(rt; place.stands(alloc));
+    step_of(rt, alloc, ticket)
 }
 
 /// The ticket comes back, and it is still out.
 fn refuse_perform(rt: &impl Abort, alloc: Global, place: &mut Place, k: usize) -> Turn {
-    let ticket = out(rt, alloc, &mut place.world, place.event);
-    let other = out(rt, alloc, &mut place.twin, place.event);
+    let ticket = out_of_world(rt, alloc, place);
+    let other = out_of_twin(rt, alloc, place);
     order(alloc, k);
     let answer = ticket.perform(alloc);
     let turn = turn_of(alloc, k, &answer);
     let step = match answer {
         Ok(step) => step,
-        Err((ticket, fault)) => {
-            assert!(rt; fault == NodeFault::Memory);
-            assert!(rt; ticket.number() == place.number && ticket.event() == place.event);
-            assert!(rt; stands(alloc, &place.world, &place.twin));
-            step_of(rt, alloc, ticket)
-        }
+        Err((ticket, fault)) => perform_again(rt, alloc, place, ticket, fault),
     };
-    assert!(rt; place.twin.give_back(other).is_ok());
-    commit(rt, alloc, &mut place.world, step);
+    back_to_twin(rt, place, other);
+    commit_to_world(rt, alloc, place, step);
     turn
+}
+
+/// The step that came back is that of the place, and its ticket is still out; then it is committed.
+fn commit_again(rt: &impl Abort, alloc: Global, place: &mut Place, step: Step, fault: CommitFault) {
+    assert!(rt; fault == CommitFault::Memory);
+    assert!(rt; step.number() == place.number && step.event() == place.event);
+    assert!(rt; place.stands(alloc));
+    commit_to_world(rt, alloc, place, step);
 }
 
 /// The step comes back, and its ticket is still out.
 fn refuse_commit(rt: &impl Abort, alloc: Global, place: &mut Place, k: usize) -> Turn {
-    let ticket = out(rt, alloc, &mut place.world, place.event);
-    let other = out(rt, alloc, &mut place.twin, place.event);
+    let ticket = out_of_world(rt, alloc, place);
+    let other = out_of_twin(rt, alloc, place);
     let step = step_of(rt, alloc, ticket);
     order(alloc, k);
     let answer = try_commit(alloc, &mut place.world, step);
     let turn = turn_of(alloc, k, &answer);
     if let Err((step, fault)) = answer {
-        assert!(rt; fault == CommitFault::Memory);
-        assert!(rt; step.number() == place.number && step.event() == place.event);
-        assert!(rt; stands(alloc, &place.world, &place.twin));
-        commit(rt, alloc, &mut place.world, step);
+        commit_again(rt, alloc, place, step, fault);
     }
-    assert!(rt; place.twin.give_back(other).is_ok());
+    back_to_twin(rt, place, other);
     turn
+}
+
+/// Nothing has happened; then the event does.
+fn make_again(rt: &impl Abort, alloc: Global, place: &mut Place) {
+    assert!(rt; place.stands(alloc));
+    let ticket = out_of_world(rt, alloc, place);
+    happen(rt, alloc, place, ticket);
 }
 
 /// An event that happens at once.
@@ -128,9 +191,7 @@ fn refuse_make(rt: &impl Abort, alloc: Global, place: &mut Place, k: usize) -> T
     let answer = place.world.make(alloc, place.event);
     let turn = turn_of(alloc, k, &answer);
     if answer.is_err() {
-        assert!(rt; stands(alloc, &place.world, &place.twin));
-        let step = step_of(rt, alloc, out(rt, alloc, &mut place.world, place.event));
-        commit(rt, alloc, &mut place.world, step);
+        make_again(rt, alloc, place);
     }
     turn
 }
@@ -144,6 +205,30 @@ enum Call {
     Make,
 }
 
+fn place_after(rt: &impl Abort, alloc: Global, events: &[Event], event: Event) -> Place {
+    Place {
+        world: world_after(alloc, events).expect(rt, "a run"),
+        twin: world_after(alloc, events).expect(rt, "a run"),
+        event,
+        number: (events.len() as u64).saturating_add(1),
+    }
+}
+
+/// The event happens in the twin too, and the world is as it is then.
+fn assert_happened(rt: &impl Abort, alloc: Global, place: &mut Place) {
+    let ticket = out_of_twin(rt, alloc, place);
+    let step = step_of(rt, alloc, ticket);
+    commit(rt, alloc, &mut place.twin, step);
+    assert!(rt; place.stands(alloc));
+}
+
+/// The run goes on to its end.
+fn end_run(rt: &impl Abort, alloc: Global, mut place: Place) {
+    let world = &mut place.world;
+    assert!(rt; run_seeded(alloc, world, &mut Schedule::seeded(3)).is_ok());
+    assert!(rt; has_ended(alloc, world));
+}
+
 /// One event after these, with the k-th allocation of a call for it refused; then it happens, and the run goes on to its end.
 fn serve(
     rt: &impl Abort,
@@ -153,48 +238,69 @@ fn serve(
     call: Call,
     k: usize,
 ) -> Turn {
-    let mut place = Place {
-        world: world_after(alloc, events).expect(rt, "a run"),
-        twin: world_after(alloc, events).expect(rt, "a run"),
-        event,
-        number: events.len() as u64 + 1,
-    };
+    let mut place = place_after(rt, alloc, events, event);
     let turn = match call {
         Call::CheckOut => refuse_out(rt, alloc, &mut place, k),
         Call::Perform => refuse_perform(rt, alloc, &mut place, k),
         Call::Commit => refuse_commit(rt, alloc, &mut place, k),
         Call::Make => refuse_make(rt, alloc, &mut place, k),
     };
-    let step = step_of(rt, alloc, out(rt, alloc, &mut place.twin, event));
-    commit(rt, alloc, &mut place.twin, step);
-    assert!(rt; stands(alloc, &place.world, &place.twin));
-    assert!(rt; run_seeded(alloc, &mut place.world, &mut Schedule::seeded(3)).is_ok());
-    assert!(rt; has_ended(alloc, &place.world));
+    assert_happened(rt, alloc, &mut place);
+    end_run(rt, alloc, place);
     turn
+}
+
+/// Each event of a run in turn, with each allocation of a call for it refused.
+fn serve_each(
+    rt: &impl Abort,
+    alloc: Global,
+    events: &[Event],
+    call: Call,
+    count: &mut Count,
+) -> Result<(), Fail> {
+    for (place, event) in events.iter().enumerate() {
+        let before = &events[..place];
+        refuse_each(alloc, count, |k| serve(rt, alloc, before, *event, call, k))?;
+    }
+    Ok(())
+}
+
+static CALLS: [(&str, Call); 4] = [
+    ("World::check_out", Call::CheckOut),
+    ("Ticket::perform", Call::Perform),
+    ("World::commit", Call::Commit),
+    ("World::make", Call::Make),
+];
+
+fn refuse_call<R: Print + Abort>(
+    rt: &R,
+    alloc: Global,
+    events: &[Event],
+    name: &str,
+    call: Call,
+) -> Result<(), Fail> {
+    let mut count = NONE;
+    serve_each(rt, alloc, events, call, &mut count)?;
+    tell(rt, alloc, name, count)
+}
+
+fn refuse_calls<R: Print + Abort>(
+    rt: &R,
+    alloc: Global,
+    events: &[Event],
+    rows: &[(&str, Call)],
+) -> Result<(), Fail> {
+    for (name, call) in rows {
+        refuse_call(rt, alloc, events, name, *call)?;
+    }
+    Ok(())
 }
 
 #[test]
 fn events(host: HostRuntime) -> Result<(), Fail> {
     let (rt, alloc) = (&host, host.alloc());
     let events = events_of_run(alloc).expect(rt, "a run");
-    for (name, call) in [
-        ("World::check_out", Call::CheckOut),
-        ("Ticket::perform", Call::Perform),
-        ("World::commit", Call::Commit),
-        ("World::make", Call::Make),
-    ] {
-        let mut count = NONE;
-        for (place, event) in events.iter().enumerate() {
-            let before = &events[..place];
-            refuse_each(
-                alloc,
-                &mut count,
-                |k| serve(rt, alloc, before, *event, call, k),
-            )?;
-        }
-        tell(rt, alloc, name, count)?;
-    }
-    Ok(())
+    refuse_calls(rt, alloc, &events, &CALLS)
 }
 
 /// What is asked of a world, and leaves it as it was.
@@ -206,18 +312,41 @@ enum Asked {
     Text,
 }
 
-fn ask(rt: &impl Abort, alloc: Global, events: &[Event], asked: Asked, k: usize) -> Turn {
-    let world = world_after(alloc, events).expect(rt, "a run");
+fn ask_of(alloc: Global, world: &World, asked: Asked, k: usize) -> Turn {
     order(alloc, k);
-    let turn = match asked {
+    match asked {
         Asked::Ready => turn_of(alloc, k, &world.ready(alloc)),
         Asked::Branches => turn_of(alloc, k, &world.branches(alloc)),
         Asked::Census => turn_of(alloc, k, &world.census(alloc)),
-        Asked::Text => turn_of(alloc, k, &run_text(alloc, &world)),
-    };
-    let twin = world_after(alloc, events).expect(rt, "a run");
-    assert!(rt; stands(alloc, &world, &twin));
+        Asked::Text => turn_of(alloc, k, &run_text(alloc, world)),
+    }
+}
+
+fn ask(rt: &impl Abort, alloc: Global, events: &[Event], asked: Asked, k: usize) -> Turn {
+    let world = world_after(alloc, events).expect(rt, "a run");
+    let turn = ask_of(alloc, &world, asked, k);
+    assert!(rt; is_after(alloc, &world, events));
+    let_go(world);
     turn
+}
+
+static ASKED: [(&str, Asked); 4] = [
+    ("World::ready", Asked::Ready),
+    ("World::branches", Asked::Branches),
+    ("World::census", Asked::Census),
+    ("run_text", Asked::Text),
+];
+
+fn refuse_asked<R: Print + Abort>(
+    rt: &R,
+    alloc: Global,
+    events: &[Event],
+    rows: &[(&str, Asked)],
+) -> Result<(), Fail> {
+    for (name, asked) in rows {
+        refuse(rt, alloc, name, |k| ask(rt, alloc, events, *asked, k))?;
+    }
+    Ok(())
 }
 
 #[test]
@@ -225,13 +354,5 @@ fn worlds(host: HostRuntime) -> Result<(), Fail> {
     let (rt, alloc) = (&host, host.alloc());
     refuse(rt, alloc, "World::open", |k| open(rt, alloc, k))?;
     let events = events_of_run(alloc).expect(rt, "a run");
-    for (name, asked) in [
-        ("World::ready", Asked::Ready),
-        ("World::branches", Asked::Branches),
-        ("World::census", Asked::Census),
-        ("run_text", Asked::Text),
-    ] {
-        refuse(rt, alloc, name, |k| ask(rt, alloc, &events, asked, k))?;
-    }
-    Ok(())
+    refuse_asked(rt, alloc, &events, &ASKED)
 }
