@@ -140,11 +140,12 @@ impl<'a, R: Eprint> Gate for Tallying<'a, R> {
             let Tally {
                 worker,
                 commits,
+                tickets,
                 crowded,
                 beside,
             } = tally;
             let _ = eprintln!(self.rt;
-                "worker {worker}: {commits} events, {crowded} crowded, {beside} beside another's"
+                "worker {worker}: {commits} events, {tickets} on tickets, {crowded} crowded, {beside} beside another's"
             );
         }
     }

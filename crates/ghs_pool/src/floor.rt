@@ -313,7 +313,7 @@ impl<J: Start> Floor<J> {
                 return;
             };
             if let Some(woken) = self.commit(alloc, step) {
-                hand.count(is_beside);
+                hand.count_committed(is_beside);
                 self.put_each(rt, queue, pass, woken.as_slice());
             }
         }
@@ -463,7 +463,7 @@ impl<J: Start> Floor<J> {
         }
         match self.shop.make(alloc, event) {
             Ok(delta) => {
-                hand.count(false);
+                hand.count_made();
                 match self.shop.woken(alloc, event, delta.sends.as_slice()) {
                     Ok(woken) => self.put_each(rt, queue, pass, woken.as_slice()),
                     Err(AllocError) => self.want_memory(),

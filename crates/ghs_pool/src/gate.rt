@@ -7,6 +7,8 @@ pub struct Tally {
     pub worker: u32,
     /// The events that it made.
     pub commits: u64,
+    /// Of these, those that went out on a ticket; the others were made at once.
+    pub tickets: u64,
     /// Of these, those that it made while 64 nodes and more were ready: numbers that waited in the queue, or nodes out.
     pub crowded: u64,
     /// Of its events, those between whose check-out and commit another worker made one.

@@ -34,6 +34,7 @@ impl Hand {
             tally: Tally {
                 worker,
                 commits: 0,
+                tickets: 0,
                 crowded: 0,
                 beside: 0,
             },
@@ -63,13 +64,23 @@ impl Hand {
         self.steps.pop()
     }
 
-    // An event happened, with another worker's event since its check-out or none.
-    pub fn count(&mut self, is_beside: bool) {
+    // An event was made at once.
+    pub fn count_made(&mut self) {
         self.pace.serve();
         let tally = self.tally;
         self.tally = Tally {
             commits: tally.commits.saturating_add(1),
             crowded: tally.crowded.saturating_add(self.is_crowded as u64),
+            ..tally
+        };
+    }
+
+    // The event of a ticket happened, with another worker's event since its check-out or none.
+    pub fn count_committed(&mut self, is_beside: bool) {
+        self.count_made();
+        let tally = self.tally;
+        self.tally = Tally {
+            tickets: tally.tickets.saturating_add(1),
             beside: tally.beside.saturating_add(is_beside as u64),
             ..tally
         };
