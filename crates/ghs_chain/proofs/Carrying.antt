@@ -1,9 +1,8 @@
 -- Chains that follow an event before it happens.
-use Rattle.std.proofs.Common.{◌≡◌, ℕ, suc, ◌<◌, Bool, false, List, [], ◌∷◌, ◌++◌, length, refl, sym, ◌∙◌, ap, ap₂, subst, arith, add-one}
+use Rattle.std.proofs.Common.{◌≡◌, ℕ, suc, Bool, false, List, [], ◌∷◌, ◌++◌, length, refl, sym, ◌∙◌, ap, ap₂, subst, arith, add-one}
 use Rattle.std.specs.List.{All}
 use Rattle.std.proofs.Math.Path.{fun_ext}
 use Rattle.ghs_graph.specs.Graph.{Shape, IsGraph}
-use Rattle.ghs_graph.specs.Ports.{ports_of}
 use Rattle.ghs_node.specs.declared.delta.Delta.{Delta}
 use Rattle.ghs_node.specs.declared.delta.Fate.TheVariants.{Requeued}
 use Rattle.ghs_node.specs.declared.message.Message.{Message}
@@ -36,11 +35,7 @@ module _ (s : NetState) (graph : IsGraph s.graph) (r : IsRun (network s) s.trace
       let wired = graph_wired s.graph graph in
       on_ports (network s) wired (net_of s) (after_formed (network s) wired (graph_few s.graph graph) s.trace (net_of s) (after_is_net s.graph s.trace r)) e d lawful answer
 
-  -- what the event's node sends goes out on ports
-  pub out_on : All (λ (x : ℕ × Message). x.0 < length (ports_of s.graph.keys (event_node e))) d.sends
-  out_on i x lt = (goes_out i x lt).port
-
-  -- and arrives at ports
+  -- what the event's node sends arrives at ports
   pub out_to : (k : Kept) → Fits s.graph k →
       All (λ (x : ℕ × Message). HasPlace k (far (network s) (event_node e) x.0) (far_port (network s) (event_node e) x.0)) d.sends
   out_to k f i x lt = place_at s.graph k _ _ f ((graph_wired s.graph graph).there (event_node e) _ (goes_out i x lt))

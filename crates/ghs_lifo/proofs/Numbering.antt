@@ -1,7 +1,6 @@
 -- Numbers that are kept, message by message.
 use Rattle.std.proofs.Common.{◌≡◌, ◌≢◌, ℕ, zero, suc, ◌+◌, ◌<◌, ◌≤◌, List, [], ◌∷◌, length, get_or, set, refl, sym, ◌∙◌, ap, subst, ⊎_elim, arith, length-set, get_or-set_same, get_or-set_other}
-use Rattle.std.specs.List.{All, Contains, slice_get}
-use Rattle.std.proofs.lemmas.Option.{same_Some}
+use Rattle.std.specs.List.{All, Contains}
 use Rattle.ghs_graph.proofs.lemmas.Members.{first_in, later_in}
 use Rattle.ghs_node.specs.declared.message.Message.{Message}
 use Rattle.ghs_node.specs.Words.{Outgoing}
@@ -11,8 +10,8 @@ use Rattle.ghs_protocol.specs.Net.{put_at}
 use Rattle.ghs_protocol.specs.Network.{At, Network, far, far_port}
 use Rattle.ghs_protocol.proofs.lemmas.Wired.{IsWired}
 use Rattle.ghs_protocol.proofs.lemmas.Updates.{one_place, put_at_hit, put_at_miss}
-use Rattle.ghs_index.specs.Places.{HasPlace, all_events, place}
-use Rattle.ghs_index.proofs.lemmas.Places.{placed, place_within}
+use Rattle.ghs_index.specs.Places.{HasPlace, place}
+use Rattle.ghs_index.proofs.lemmas.Places.{place_apart, place_within}
 use Rattle.ghs_patient.specs.Choices.{far_takes}
 use Rattle.ghs_lifo.specs.Kept.{AreFor, AreNumbers, NumbersState, with_all, with_one}
 use Rattle.ghs_lifo.specs.Newest.{Newest, sent, sent_on}
@@ -24,10 +23,6 @@ set_most (y ∷ ys) zero x m zero le all = le
 set_most (y ∷ ys) zero x m (suc j) le all = all (suc j)
 set_most (y ∷ ys) (suc i) x m zero le all = all zero
 set_most (y ∷ ys) (suc i) x m (suc j) le all = set_most ys i x m j le (λ k. all (suc k))
-
--- two events at one place are one
-pub one_event : (g : Network) (e f : Event) → HasPlace g e → HasPlace g f → place g e ≡ place g f → e ≡ f
-one_event g e f has there same = same_Some e f (sym (placed g e has) ∙ ap (slice_get (all_events g)) same ∙ placed g f there)
 
 module _ (g : Network) where
   pub for_one : (v p : ℕ) (k : NumbersState) → AreFor g k → AreFor g (with_one g v p k)
@@ -66,7 +61,7 @@ module _ (g : Network) where
           ∙ get_or-set_same k.newest (place g e) (suc k.count) 0 (omega (arith, within, many))
           ∙ ap suc h.count ∙ sym (put_at_hit n.last (far g v p) (far_port g v p) u q (suc n.count) z.0 z.1))
           (λ ne.
-          let other : place g (Take u q) ≢ place g e = λ z. let one = one_event g (Take u q) e at there z in ne (cc one, cc one) in
+          let other : place g (Take u q) ≢ place g e = λ z. let one = place_apart g (Take u q) e at there z in ne (cc one, cc one) in
           get_or-set_other k.newest (place g e) (place g (Take u q)) (suc k.count) 0 other ∙ h.last u q at
           ∙ sym (put_at_miss n.last (far g v p) (far_port g v p) u q (suc n.count) ne))
           (one_place (far g v p) (far_port g v p) u q)
@@ -88,7 +83,7 @@ module _ (g : Network) where
     other_kept (s ∷ ss) k f all has none =
         let e : Event = Take (far g v s.0) (far_port g v s.0) in
         let other : place g f ≢ place g e =
-        λ z. none (subst (λ (x : Event). Contains (x ∷ far_takes g v ss) f) (one_event g f e has (there ss s all) z)
+        λ z. none (subst (λ (x : Event). Contains (x ∷ far_takes g v ss) f) (place_apart g f e has (there ss s all) z)
         (first_in f (far_takes g v ss))) in
         other_kept ss (with_one g v s.0 k) f (λ i d lt. all (suc i) d (omega (arith, lt))) has (λ h. none (later_in e f (far_takes g v ss) h))
         ∙ get_or-set_other k.newest (place g e) (place g f) (suc k.count) 0 other

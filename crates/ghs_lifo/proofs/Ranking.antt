@@ -1,5 +1,5 @@
 -- Ranks that are set one by one.
-use Rattle.std.proofs.Common.{◌≡◌, ◌≢◌, ℕ, ◌<◌, ◌≤◌, true, Some, List, [], ◌∷◌, length, get_or, set, sym, ◌∙◌, ap, ⊎_elim, arith, length-set, get_or-set_same, get_or-set_other}
+use Rattle.std.proofs.Common.{◌≡◌, ◌≢◌, ℕ, ◌<◌, ◌≤◌, true, Some, List, [], ◌∷◌, length, get_or, set, refl, sym, ◌∙◌, ap, ⊎_elim, arith, length-set, get_or-set_same, get_or-set_other}
 use Rattle.std.specs.List.{All, Contains}
 use Rattle.std.proofs.lemmas.Bool.{cases_eq}
 use Rattle.ghs_graph.specs.Graph.{IsGraph}
@@ -15,14 +15,13 @@ use Rattle.ghs_protocol.specs.declared.event.Event.TheVariants.{Wake, Take}
 use Rattle.ghs_protocol.specs.Net.{event_node}
 use Rattle.ghs_core.specs.NetState.{network}
 use Rattle.ghs_index.specs.Places.{HasPlace, all_events, place}
-use Rattle.ghs_index.proofs.lemmas.Places.{place_within}
+use Rattle.ghs_index.proofs.lemmas.Places.{place_apart, place_within}
 use Rattle.ghs_world.specs.WorldState.{WorldState}
-use Rattle.ghs_patient.specs.Choices.{are_alike, far_takes}
+use Rattle.ghs_patient.specs.Choices.{IsOwn, are_alike, far_takes}
 use Rattle.ghs_patient.proofs.lemmas.Places.{own_node}
 use Rattle.ghs_patient.proofs.lemmas.Walks.{AreOwnLeft, far_places}
 use Rattle.ghs_patient.proofs.lemmas.Walks as walks
 use Rattle.ghs_lifo.specs.Kept.{AreRanks, AreRanksBut, IsUnranked, rank_in, ranked, ranked_all, ranked_to}
-use Rattle.ghs_lifo.proofs.Numbering.{one_event}
 
 -- there is a rank for each event
 abbrev pub IsRankEach : WorldState → List ℕ → Type 0
@@ -45,7 +44,7 @@ module _ (s : WorldState) (newest : List ℕ) where
           let many = h.many in
           ap (λ (i : ℕ). get_or (set r (place (network s.net) e) (rank_in s newest e)) i 0) same
           ∙ get_or-set_same r (place (network s.net) e) (rank_in s newest e) 0 (omega (arith, within, many))
-          ∙ ap (rank_in s newest) (sym (one_event (network s.net) f e there has same)))
+          ∙ ap (rank_in s newest) (sym (place_apart (network s.net) f e there has same)))
           (λ (other : place (network s.net) f ≢ place (network s.net) e).
           get_or-set_other r (place (network s.net) e) (place (network s.net) f) (rank_in s newest e) 0 other
           ∙ h.rank f there (λ w. none (w, λ z. other (ap (place (network s.net)) z))))

@@ -1,7 +1,6 @@
 -- What such a run keeps.
-use Rattle.std.proofs.Common.{◌≡◌, ℕ, ◌+◌, ◌<◌, true, not, List, [], ◌∷◌, ◌++◌, length, refl, ◌∙◌, ap, subst₂, ⊎_elim, arith}
-use Rattle.std.proofs.lemmas.Bool.{and_from, and_parts, ltb-true}
-use Rattle.std.proofs.lemmas.List.{length_push}
+use Rattle.std.proofs.Common.{◌≡◌, ℕ, true, not, List, [], ◌∷◌, ◌++◌, refl, ap, subst₂, ⊎_elim}
+use Rattle.std.proofs.lemmas.Bool.{and_from, and_parts}
 use Rattle.ghs_graph.specs.Graph.{Shape}
 use Rattle.ghs_protocol.specs.declared.event.Event.{Event}
 use Rattle.ghs_protocol.specs.declared.event.Event.TheVariants.{Wake, Take}
@@ -13,18 +12,17 @@ use Rattle.ghs_protocol.proofs.lemmas.Events.{at_of}
 use Rattle.ghs_core.specs.NetState.{network}
 use Rattle.ghs_world.specs.declared.wake_set.WakeSet.{WakeSet}
 use Rattle.ghs_world.specs.Outs.{Outs, is_out}
-use Rattle.ghs_world.specs.Steps.{IsSameWorld}
 use Rattle.ghs_world.specs.Wakes.{may_wake}
 use Rattle.ghs_world.specs.WorldState.{WorldState, has_turn, home, may_happen, wakers}
 use Rattle.ghs_sched.specs.Picks.{IsPick}
+use Rattle.ghs_sched.proofs.lemmas.Runs.{still_going, turn_left}
 use Rattle.ghs_patient.specs.Patience.{patient_events}
-use Rattle.ghs_patient.proofs.lemmas.Growing.{still_going}
 use Rattle.ghs_patient.proofs.lemmas.Picked.{take_patient}
 use Rattle.ghs_patient.proofs.Picks.{Pickable}
 use Rattle.ghs_patient.proofs.Picks as patient
 use Rattle.ghs_lifo.specs.Latest.{IsLatest, NoTakeMoves}
 use Rattle.ghs_lifo.specs.Newest.{newest_of}
-use Rattle.ghs_lifo.specs.Runs.{Begun, HasMadeNext, HasRun, IsLatestIn, IsNext, IsPickedLast, Latest, NoTakeMovesIn, Picked}
+use Rattle.ghs_lifo.specs.Runs.{HasRun, IsLatestIn, IsNext, IsPickedLast, Latest, NoTakeMovesIn, Picked}
 
 -- What is next is lawful and patient.
 
@@ -45,11 +43,7 @@ latest_pickable s (Take v p) out h =
 pub pickable : (s : WorldState) (words : List ℕ) (e : Event) (after : List ℕ) → s.outs ≡ [] → IsNext s words e after → Pickable s e
 pickable s words e after out next = ⊎_elim (λ h. latest_pickable s e out h.0) (λ h. patient.pickable s words e out h.1) next
 
--- it begins with nothing out
-pub run_begins : (s t : WorldState) (words : List ℕ) → t ≡ record s { outs = [] } → HasRun s t words words
-run_begins s t words e = rw e (record { graph = refl; wake = refl; turns = refl; outs = refl; numbers = refl; picked = Begun })
-
--- one event more
+-- one event more is picked
 module _ (old s : WorldState) (words used : List ℕ) (run : HasRun old s words used) where
   same_latest : (e : Event) → IsLatestIn s e →
       IsLatest (wakers old) (network_of old.net.graph) (net_after old.net.graph s.net.trace) (newest_of (network_of old.net.graph) s.net.trace) e
@@ -70,42 +64,12 @@ module _ (old s : WorldState) (words used : List ℕ) (run : HasRun old s words 
       IsPick (patient_events (may_wake g w) (network_of g) (net_after g s.net.trace)) used e in
       subst₂ P run.graph run.wake h
 
-  module _ (going : HasEnded s.net.graph (home s) → ⊥) (turn : has_turn s ≡ true) where
-    few : length s.net.trace < old.turns
-    few =
-        let left : length s.net.trace + length s.outs < s.turns = ltb-true _ _ (and_parts _ _ turn).0 in
-        let t = run.turns in
-        omega (arith, left, t)
-
-    picked_more : (e : Event) (after : List ℕ) → IsNext s used e after →
-        IsPickedLast (wakers old) old.net.graph old.turns old.net.trace words (s.net.trace ++ e ∷ []) after
-    picked_more e after next = ⊎_elim
-        (λ h. rw h.1 (Latest s.net.trace used e run.picked (still_going old s run.graph going) few (same_latest e h.0)))
-        (λ h. rw h.2 (Picked s.net.trace used e run.picked (still_going old s run.graph going) few (same_none h.0) (same_pick e h.1)))
-        next
-
-    pub run_more : (new : WorldState) (after : List ℕ) → HasMadeNext s new used after → HasRun old new words after
-    run_more new after next =
-        let made = next.made in
-        let more : length (s.net.trace ++ next.event ∷ []) ≡ length s.net.trace + 1 = length_push s.net.trace next.event in
-        let numbers = run.numbers in
-        let last = made.last in
-        record {
-          graph = made.graph ∙ run.graph;
-          wake = made.wake ∙ run.wake;
-          turns = made.turns ∙ run.turns;
-          outs = made.outs ∙ run.outs;
-          numbers = rw made.trace (omega (arith, more, numbers, last));
-          picked = rw made.trace (picked_more next.event after next.next);
-        }
-
--- a refusal of memory leaves the run as it was
-pub run_stays : (old s new : WorldState) (words used : List ℕ) → HasRun old s words used → IsSameWorld s new → HasRun old new words used
-run_stays old s new words used run same = record {
-  graph = same.net.graph ∙ run.graph;
-  wake = same.wake ∙ run.wake;
-  turns = same.turns ∙ run.turns;
-  outs = same.outs ∙ run.outs;
-  numbers = rw (same.last, same.net.trace) run.numbers;
-  picked = rw same.net.trace run.picked;
-}
+  pub picked_more : (HasEnded s.net.graph (home s) → ⊥) → has_turn s ≡ true → (e : Event) (after : List ℕ) → IsNext s used e after →
+      IsPickedLast (wakers old) old.net.graph old.turns old.net.trace words (s.net.trace ++ e ∷ []) after
+  picked_more going turn e after next =
+      let still = still_going old s run.graph going in
+      let few = turn_left old s run.turns turn in
+      ⊎_elim
+      (λ h. rw h.1 (Latest s.net.trace used e run.picked still few (same_latest e h.0)))
+      (λ h. rw h.2 (Picked s.net.trace used e run.picked still few (same_none h.0) (same_pick e h.1)))
+      next

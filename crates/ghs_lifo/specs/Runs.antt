@@ -1,5 +1,5 @@
 -- Runs that take first what was sent last: what they leave of a world and a schedule.
-use Rattle.std.specs.Prelude.{◌≡◌, ℕ, Bool, ◌+◌, ◌<◌, ◌⊎◌, List, [], ◌∷◌, ◌++◌, length}
+use Rattle.std.specs.Prelude.{◌≡◌, ℕ, Bool, ◌<◌, ◌⊎◌, List, [], ◌∷◌, ◌++◌, length}
 use Rattle.ghs_graph.specs.Graph.{Shape}
 use Rattle.ghs_protocol.specs.declared.event.Event.{Event}
 use Rattle.ghs_protocol.specs.Marks.{HasEnded}
@@ -9,6 +9,7 @@ use Rattle.ghs_core.specs.NetState.{network}
 use Rattle.ghs_world.specs.Steps.{Makes}
 use Rattle.ghs_world.specs.WorldState.{WorldState, home, wakers}
 use Rattle.ghs_sched.specs.Picks.{IsPick}
+use Rattle.ghs_sched.specs.Runs.{HasRunBy}
 use Rattle.ghs_sched.specs.Schedule.{next_of}
 use Rattle.ghs_patient.specs.Choices.{patient_in}
 use Rattle.ghs_patient.specs.Patience.{patient_events}
@@ -30,15 +31,13 @@ pub data IsPickedLast (may : ℕ → Bool) (g : Shape) (turns : ℕ) (trace : Li
       NoTakeMoves may (network_of g) (net_after g es) → IsPick (patient_events may (network_of g) (net_after g es)) s e →
       IsPickedLast may g turns trace words (es ++ e ∷ []) (next_of s)
 
--- A world has run on so: graph, wake set and turns stay, nothing is out, each event has used one ticket number, and its trace has grown by such
--- events, by these words of the schedule and no more.
-pub record HasRun (old new : WorldState) (words after : List ℕ) : Type 0 where
-  pub graph : new.net.graph ≡ old.net.graph
-  pub wake : new.wake ≡ old.wake
-  pub turns : new.turns ≡ old.turns
-  pub outs : new.outs ≡ []
-  pub numbers : new.last + length old.net.trace ≡ old.last + length new.net.trace
-  pub picked : IsPickedLast (wakers old) old.net.graph old.turns old.net.trace words new.net.trace after
+-- the same, from a world on
+abbrev pub IsPickedFrom : WorldState → List ℕ → List Event → List ℕ → Type 0
+IsPickedFrom old words es after = IsPickedLast (wakers old) old.net.graph old.turns old.net.trace words es after
+
+-- a world has run on so
+abbrev pub HasRun : WorldState → WorldState → List ℕ → List ℕ → Type 0
+HasRun old new words after = HasRunBy (IsPickedFrom old words) old new after
 
 -- the same of a world: the numbers of its net's messages, which Take is the latest, and whether none moves the run on
 abbrev pub newest_in : WorldState → Newest

@@ -5,7 +5,7 @@ ghost use Rattle.ghs_graph.specs.Ports.{ports_of};
 ghost use Rattle.ghs_node.specs.declared.message.Message.{Message as Letter};
 ghost use Rattle.ghs_core.specs.NetState.{network, event_node};
 ghost use Rattle.ghs_index.specs.Places.{HasPlace, all_events};
-ghost use Rattle.ghs_patient.specs.Choices.{IsMarked, far_takes, moves_in};
+ghost use Rattle.ghs_patient.specs.Choices.{IsMarked, far_takes};
 ghost use Rattle.ghs_lifo.specs.Kept.{AreFor, AreNumbers, AreRanks, AreRanksBut, IsUnranked, rank_in, ranked, ranked_all, ranked_to};
 ghost use Rattle.ghs_lifo.specs.Runs.{IsLatestIn, NoTakeMovesIn, newest_in};
 
@@ -16,7 +16,7 @@ use ghs_maxima::maxima::Maxima;
 use ghs_node::delta::Delta;
 use ghs_node::head::Head;
 use ghs_node::message::Message;
-use ghs_patient::choices::{are_alike, puts_back};
+use ghs_patient::choices::{are_alike, moves_on};
 use ghs_world::world::World;
 use std::alloc::{AllocError, Global};
 use std::marker::Model;
@@ -160,13 +160,4 @@ fn rank_of(world: &World, numbers: &Numbers, event: Event) -> u64
             }
         }
     }
-}
-
-// Whether an event is lawful under the wake set, and moves the run on.
-fn moves_on(world: &World, event: Event) -> bool
-    requires home { world.now.outs ≡ [] }
-    requires place { HasPlace (network world.now.net) event }
-    ensures { result ≡ moves_in world.now event }
-{
-    world.is_ready(event) && !puts_back(world.net(), event)
 }

@@ -10,6 +10,7 @@ use Rattle.ghs_core.specs.NetState.{network}
 use Rattle.ghs_world.specs.Steps.{Makes}
 use Rattle.ghs_world.specs.WorldState.{WorldState, home, wakers}
 use Rattle.ghs_sched.specs.Picks.{IsPick}
+use Rattle.ghs_sched.specs.Runs.{HasRunBy}
 use Rattle.ghs_sched.specs.Schedule.{next_of}
 use Rattle.ghs_patient.specs.Patience.{patient_events}
 
@@ -21,15 +22,13 @@ pub data IsPatientlyPicked (may : ℕ → Bool) (g : Shape) (turns : ℕ) (trace
       (HasEnded g (net_after g es) → ⊥) → length es < turns → IsPick (patient_events may (network_of g) (net_after g es)) s e →
       IsPatientlyPicked may g turns trace words (es ++ e ∷ []) (next_of s)
 
--- A world has run on patiently: graph, wake set and turns stay, nothing is out, each event has used one ticket number, and the schedule has picked what
--- the trace has grown by, and no more.
-pub record HasRun (old new : WorldState) (words after : List ℕ) : Type 0 where
-  pub graph : new.net.graph ≡ old.net.graph
-  pub wake : new.wake ≡ old.wake
-  pub turns : new.turns ≡ old.turns
-  pub outs : new.outs ≡ []
-  pub numbers : new.last + length old.net.trace ≡ old.last + length new.net.trace
-  pub picked : IsPatientlyPicked (wakers old) old.net.graph old.turns old.net.trace words new.net.trace after
+-- a schedule has picked patiently, from a world on
+abbrev pub IsPickedFrom : WorldState → List ℕ → List Event → List ℕ → Type 0
+IsPickedFrom old words es after = IsPatientlyPicked (wakers old) old.net.graph old.turns old.net.trace words es after
+
+-- a world has run on patiently
+abbrev pub HasRun : WorldState → WorldState → List ℕ → List ℕ → Type 0
+HasRun old new words after = HasRunBy (IsPickedFrom old words) old new after
 
 -- it has grown by twice as many events as the bound on messages and the nodes together, at most
 abbrev pub IsShort : WorldState → WorldState → Type 0

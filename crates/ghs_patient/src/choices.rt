@@ -149,8 +149,8 @@ impl Choices {
     }
 }
 
-// Whether an event is lawful under the wake set, and moves the run on.
-fn moves_on(world: &World, event: Event) -> bool
+/// Whether an event is lawful under the wake set, and moves the run on.
+pub fn moves_on(world: &World, event: Event) -> bool
     requires home { world.now.outs ≡ [] }
     requires place { HasPlace (network world.now.net) event }
     ensures { result ≡ moves_in world.now event }

@@ -19,18 +19,12 @@ use Rattle.ghs_picking.specs.declared.picking.Picking.TheVariants.{Rounds}
 use Rattle.ghs_picking.proofs.BySeed.{HasGoneOn, at_limit_patient, gone_patient, gone_seeded, has_ended, is_seeded, on_ok_patient}
 use Rattle.std.proofs.lemmas.Bool.{and_parts, ltb-true}
 use Rattle.ghs_protocol.specs.declared.event.Event.{Event}
-use Rattle.ghs_protocol.proofs.lemmas.Runs.{lawful_under}
-use Rattle.ghs_core.specs.NetState.{IsLawful, network}
-use Rattle.ghs_world.specs.Ready.{is_ready}
+use Rattle.ghs_core.specs.NetState.{network}
 use Rattle.ghs_world.specs.Steps.{Makes}
-use Rattle.ghs_world.specs.WorldState.{WorldState, has_turn, home, wakers}
+use Rattle.ghs_world.specs.WorldState.{WorldState, has_turn, home}
 use Rattle.ghs_chain.specs.Kept.{AreChains, AreChainsThen, Fits, Kept, seen}
 use Rattle.ghs_chain.proofs.Carrying.{then_are}
 use Rattle.ghs_chain.proofs.Following.{none_are}
-
--- what is ready may happen
-pub lawful_of : (s : WorldState) (e : Event) → is_ready s e ≡ true → IsLawful s.net e
-lawful_of s e ready = ((lawful_under (wakers s) (network s.net) (home s) e).0 (and_parts _ _ ready).1).1
 
 -- where a turn is left, there were few events
 pub few_left : (s : WorldState) (turns : ℕ) → turns ≡ s.turns → turns ≤ 2 ^ 40 → has_turn s ≡ true → length s.net.trace < 2 ^ 40

@@ -2,7 +2,7 @@
 //! are kept from event to event, so that nothing is played twice.
 ghost use Rattle.ghs_chain.specs.Chains.{longest_chain};
 ghost use Rattle.ghs_core.specs.NetState.{network};
-ghost use Rattle.ghs_picking.specs.Picking.{IsPatient, IsPickedBy, IsSeeded, IsByRounds, IsLast, IsWaiting};
+ghost use Rattle.ghs_picking.specs.Picking.{IsPatient, IsPickedBy, IsSeeded, IsByRounds};
 ghost use Rattle.std.specs.Prelude.{IfOk, OnOk, [], ◌≡◌};
 
 use crate::patient::run_patient;
@@ -37,8 +37,8 @@ pub fn run_chained(
         Picking::Seeded => seeded(alloc, world, seed),
         Picking::Patient => patient(alloc, world, seed),
         Picking::Rounds => by_rounds(alloc, world, seed),
-        Picking::Waits => waiting(alloc, world, seed),
-        Picking::Lifo => last_first(alloc, world, seed),
+        Picking::Waits => played_again(alloc, world, Picking::Waits, seed),
+        Picking::Lifo => played_again(alloc, world, Picking::Lifo, seed),
     }
 }
 
@@ -113,39 +113,23 @@ fn by_rounds(alloc: Global, world: &mut World, seed: u64) -> Result<u64, AllocEr
     longest_chain(alloc, net.graph(), net.trace())
 }
 
-// The run that prefers what waits. Its events are played once more.
-fn waiting(alloc: Global, world: &mut World, seed: u64) -> Result<u64, AllocError>
+/// The run of a schedule that keeps no chains. Its events are played once more.
+fn played_again(
+    alloc: Global,
+    world: &mut World,
+    picking: Picking,
+    seed: u64,
+) -> Result<u64, AllocError>
     requires trace { world.old.net.trace ≡ [] }
     requires numbers { world.old.last ≡ 0 }
     ensures graph { world.new.net.graph ≡ world.old.net.graph }
     ensures wake { world.new.wake ≡ world.old.wake }
     ensures turns { world.new.turns ≡ world.old.turns }
     ensures outs { world.new.outs ≡ [] }
-    ensures run { OnOk result (IsWaiting seed world.old.wake world.old.turns world.old.net.graph world.new.net.trace) }
+    ensures run { OnOk result (IsPickedBy picking seed world.old.wake world.old.turns world.old.net.graph world.new.net.trace) }
     ensures chain { IfOk result (λ n. n ≡ longest_chain (network world.new.net) world.new.net.trace) }
 {
-    match run_timed(alloc, world, Picking::Waits, seed).1 {
-        Ok(_) => {}
-        Err(RunFault::TurnLimit) => {}
-        Err(_) => return Err(AllocError),
-    }
-    let _ = world.turns();
-    let net = world.net();
-    longest_chain(alloc, net.graph(), net.trace())
-}
-
-// The run that takes first what was sent last. Its events are played once more.
-fn last_first(alloc: Global, world: &mut World, seed: u64) -> Result<u64, AllocError>
-    requires trace { world.old.net.trace ≡ [] }
-    requires numbers { world.old.last ≡ 0 }
-    ensures graph { world.new.net.graph ≡ world.old.net.graph }
-    ensures wake { world.new.wake ≡ world.old.wake }
-    ensures turns { world.new.turns ≡ world.old.turns }
-    ensures outs { world.new.outs ≡ [] }
-    ensures run { OnOk result (IsLast seed world.old.wake world.old.turns world.old.net.graph world.new.net.trace) }
-    ensures chain { IfOk result (λ n. n ≡ longest_chain (network world.new.net) world.new.net.trace) }
-{
-    match run_timed(alloc, world, Picking::Lifo, seed).1 {
+    match run_timed(alloc, world, picking, seed).1 {
         Ok(_) => {}
         Err(RunFault::TurnLimit) => {}
         Err(_) => return Err(AllocError),

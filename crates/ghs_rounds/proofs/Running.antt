@@ -11,10 +11,10 @@ use Rattle.ghs_world.specs.Steps.{IsSameWorld}
 use Rattle.ghs_world.specs.Wakes.{may_wake}
 use Rattle.ghs_world.specs.WorldState.{WorldState, has_turn, home, wakers}
 use Rattle.ghs_sched.specs.Picks.{IsPick}
+use Rattle.ghs_sched.proofs.lemmas.Runs.{still_going, turn_left}
 use Rattle.ghs_chain.specs.Chains.{Chains, chains_of, longest_chain}
 use Rattle.ghs_chain.proofs.Bounding.{most_within}
 use Rattle.ghs_chain.specs.Kept.{AreChains}
-use Rattle.ghs_patient.proofs.lemmas.Growing.{still_going}
 use Rattle.ghs_rounds.specs.Choices.{AreRounds, IsNextClock, RoundsState, events_of}
 use Rattle.ghs_rounds.specs.Clock.{ClockState}
 use Rattle.ghs_rounds.specs.Rounds.{events_in, round_events}
@@ -40,12 +40,6 @@ module _ (old s : WorldState) (words used : List ℕ) (k : ClockState) (run : Ha
       ∙ ap (λ (g : Shape). events_in (may_wake g old.wake) g s.net.trace k.round) run.graph
 
   module _ (going : HasEnded s.net.graph (home s) → ⊥) (turn : has_turn s ≡ true) where
-    few : length s.net.trace < old.turns
-    few =
-        let left : length s.net.trace + length s.outs < s.turns = ltb-true _ _ (and_parts _ _ turn).0 in
-        let t = run.turns in
-        omega (arith, left, t)
-
     -- the next round, where it begins
     pub run_settles : (next : ClockState) → IsNextClock s k next → HasRun old s words used next.round
     run_settles next is = ⊎_elim
@@ -56,7 +50,7 @@ module _ (old s : WorldState) (words used : List ℕ) (k : ClockState) (run : Ha
           turns = run.turns;
           outs = run.outs;
           numbers = run.numbers;
-          picked = Over s.net.trace k.round used run.picked (still_going old s run.graph going) few (sym same_events ∙ z.1);
+          picked = Over s.net.trace k.round used run.picked (still_going old s run.graph going) (turn_left old s run.turns turn) (sym same_events ∙ z.1);
         }))
         is
 
@@ -74,7 +68,7 @@ module _ (old s : WorldState) (words used : List ℕ) (k : ClockState) (run : Ha
           turns = made.turns ∙ run.turns;
           outs = made.outs ∙ run.outs;
           numbers = rw made.trace (omega (arith, numbers, last, more));
-          picked = rw (made.trace, next.rest) (Picked s.net.trace k.round used next.event run.picked (still_going old s run.graph going) few (subst (λ es. IsPick es used next.event) same_events pick));
+          picked = rw (made.trace, next.rest) (Picked s.net.trace k.round used next.event run.picked (still_going old s run.graph going) (turn_left old s run.turns turn) (subst (λ es. IsPick es used next.event) same_events pick));
         }
 
 -- a refusal of memory leaves the run as it was

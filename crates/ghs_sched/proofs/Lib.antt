@@ -1,4 +1,4 @@
--- Serves the proofs: nothing here has to be believed.
+-- Serves the proofs: nothing here has to be believed. lemmas is what proofs above this crate may use.
 pub mod Picking
 pub mod Readings
 pub mod Replaying
@@ -6,3 +6,4 @@ pub mod Rows
 pub mod Running
 pub mod Slow
 pub mod Written
+pub mod lemmas

@@ -1,9 +1,8 @@
 -- What a seeded run keeps.
-use Rattle.std.proofs.Common.{◌≡◌, ℕ, ◌+◌, ◌%◌, ◌<◌, inl, Bool, true, false, List, [], ◌∷◌, ◌++◌, length, Some, slice_get, refl, sym, ◌∙◌, ap, ap₂, subst, arith}
+use Rattle.std.proofs.Common.{◌≡◌, ℕ, ◌%◌, ◌<◌, inl, Bool, true, false, List, [], length, Some, slice_get, refl, sym, ◌∙◌, ap, ap₂, subst, arith}
 use Rattle.std.specs.List.{Contains}
 use Rattle.std.specs.Prelude.{IsTrue, ◌↔◌}
-use Rattle.std.proofs.lemmas.Bool.{and_parts, false≢true, ltb-true}
-use Rattle.std.proofs.lemmas.List.{length_push}
+use Rattle.std.proofs.lemmas.Bool.{false≢true}
 use Rattle.std.proofs.lemmas.List.Elements.{Contains-get_or}
 use Rattle.std.proofs.lemmas.Option.{get_or_from_slice_get, slice_get_within}
 use Rattle.ghs_graph.specs.Graph.{Shape}
@@ -18,8 +17,10 @@ use Rattle.ghs_world.specs.declared.wake_set.WakeSet.{WakeSet}
 use Rattle.ghs_world.specs.Wakes.{may_wake}
 use Rattle.ghs_world.specs.WorldState.{WorldState, has_turn, home, wakers}
 use Rattle.ghs_sched.specs.Picks.{Begun, IsPick, Picked, lawful_events}
-use Rattle.ghs_sched.specs.Runs.{HasMadeNext, HasRun, IsWhole}
+use Rattle.ghs_sched.specs.Runs.{HasMadeNext, HasRun, IsPickedFrom, IsWhole}
 use Rattle.ghs_sched.specs.Schedule.{next_of, word_of}
+use Rattle.ghs_sched.proofs.lemmas.Runs.{still_going, turn_left}
+use Rattle.ghs_sched.proofs.lemmas.Runs as runs
 
 -- with nothing out, what is ready is what is lawful
 ready_is_lawful : (s : WorldState) → s.outs ≡ [] → ready_events s ≡ lawful_events (wakers s) s.net.graph s.net.trace
@@ -27,7 +28,7 @@ ready_is_lawful s e = rw e refl
 
 -- it begins with nothing out
 pub run_begins : (s t : WorldState) (words : List ℕ) → t ≡ record s { outs = [] } → HasRun s t words words
-run_begins s t words e = rw e (record { graph = refl; wake = refl; turns = refl; outs = refl; numbers = refl; picked = Begun })
+run_begins s t words e = runs.run_begins (IsPickedFrom s words) s t words Begun e
 
 -- one event more
 pub run_more : (old s new : WorldState) (words used after : List ℕ) →
@@ -37,42 +38,21 @@ pub run_more : (old s new : WorldState) (words used after : List ℕ) →
     HasMadeNext s new used after →
     HasRun old new words after
 run_more old s new words used after run going turn next =
-    let made = next.made in
-    let graph = run.graph in
     let same : ready_events s ≡ lawful_events (wakers old) old.net.graph s.net.trace =
     ready_is_lawful s run.outs
     ∙ ap (λ (w : WakeSet). lawful_events (may_wake s.net.graph w) s.net.graph s.net.trace) run.wake
     ∙ ap (λ (g : Shape). lawful_events (may_wake g old.wake) g s.net.trace) run.graph in
-    let left : length s.net.trace + length s.outs < s.turns = ltb-true _ _ (and_parts _ _ turn).0 in
-    let few : length s.net.trace < old.turns = (let t = run.turns in omega arith) in
-    let more : length (s.net.trace ++ next.event ∷ []) ≡ length s.net.trace + 1 = length_push s.net.trace next.event in
-    let numbers = run.numbers in
-    let last = made.last in
-    record {
-      graph = made.graph ∙ run.graph;
-      wake = made.wake ∙ run.wake;
-      turns = made.turns ∙ run.turns;
-      outs = made.outs ∙ run.outs;
-      numbers = rw made.trace (omega arith);
-      picked = rw (made.trace, next.rest) (Picked s.net.trace used next.event run.picked
-          (subst (λ (g : Shape). HasEnded g (net_after g s.net.trace) → ⊥) run.graph going)
-          few
-          (subst (λ es. IsPick es used next.event) same next.pick));
-    }
+    runs.run_more (IsPickedFrom old words) old s new used after next.event run next.made
+    (rw next.rest (Picked s.net.trace used next.event run.picked (still_going old s run.graph going) (turn_left old s run.turns turn)
+    (subst (λ es. IsPick es used next.event) same next.pick)))
 
 -- a refusal of memory leaves the run as it was
 pub run_stays : (old s new : WorldState) (words used : List ℕ) →
     HasRun old s words used →
     IsSameWorld s new →
     HasRun old new words used
-run_stays old s new words used run same = record {
-  graph = same.net.graph ∙ run.graph;
-  wake = same.wake ∙ run.wake;
-  turns = same.turns ∙ run.turns;
-  outs = same.outs ∙ run.outs;
-  numbers = rw (same.last, same.net.trace) run.numbers;
-  picked = rw same.net.trace run.picked;
-}
+run_stays old s new words used run same =
+    runs.run_stays (IsPickedFrom old words) old s new used run same
 
 -- what is picked of the events that are ready is ready
 pub pick_is_ready : (s : WorldState) (k : ℕ) (e : Event) → slice_get (ready_events s) k ≡ Some e → is_ready s e ≡ true

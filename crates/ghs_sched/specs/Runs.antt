@@ -13,15 +13,23 @@ use Rattle.ghs_sched.specs.declared.fault.RunFault.TheVariants.{TurnLimit, Stall
 use Rattle.ghs_sched.specs.declared.run.RunEnd.{RunEnd}
 use Rattle.ghs_sched.specs.declared.run.RunEnd.TheVariants.{Halted}
 
--- A world has run on by a schedule: graph, wake set and turns stay, nothing is out, each event has used one ticket
--- number, and the schedule has picked what the trace has grown by, and no more.
-pub record HasRun (old new : WorldState) (words after : List ℕ) : Type 0 where
+-- A world has run on: graph, wake set and turns stay, nothing is out, each event has used one ticket number, and what a schedule has picked leads to
+-- the trace, and leaves these words.
+pub record HasRunBy (leads : List Event → List ℕ → Type 0) (old new : WorldState) (after : List ℕ) : Type 0 where
   pub graph : new.net.graph ≡ old.net.graph
   pub wake : new.wake ≡ old.wake
   pub turns : new.turns ≡ old.turns
   pub outs : new.outs ≡ []
   pub numbers : new.last + length old.net.trace ≡ old.last + length new.net.trace
-  pub picked : IsPicked (wakers old) old.net.graph old.turns old.net.trace words new.net.trace after
+  pub picked : leads new.net.trace after
+
+-- a schedule has picked lawful events, from a world on
+abbrev pub IsPickedFrom : WorldState → List ℕ → List Event → List ℕ → Type 0
+IsPickedFrom old words es after = IsPicked (wakers old) old.net.graph old.turns old.net.trace words es after
+
+-- a world has run on by a schedule among all events
+abbrev pub HasRun : WorldState → WorldState → List ℕ → List ℕ → Type 0
+HasRun old new words after = HasRunBy (IsPickedFrom old words) old new after
 
 -- the trace is the whole seeded run
 abbrev pub IsWhole : WorldState → WorldState → List ℕ → List ℕ → Type 0

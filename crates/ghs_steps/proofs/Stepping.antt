@@ -1,8 +1,7 @@
 -- The steps of a trace, one after another.
-use Rattle.std.proofs.Common.{◌≡◌, ℕ, suc, ◌+◌, ◌<◌, ◌≤◌, true, Option, Some, map, List, [], ◌∷◌, ◌++◌, length, get_or, take, drop, filter, refl, sym, ◌∙◌, ap, subst, append_assoc, append-nil}
+use Rattle.std.proofs.Common.{◌≡◌, ℕ, suc, ◌+◌, ◌<◌, true, Option, Some, map, List, [], ◌∷◌, ◌++◌, length, get_or, take, drop, filter, refl, sym, ◌∙◌, ap, subst, append_assoc, append-nil}
 use Rattle.std.specs.List.{flat_map}
 use Rattle.std.proofs.Math.Seq.{split_at}
-use Rattle.std.proofs.lemmas.Bool.{and_parts}
 use Rattle.std.proofs.lemmas.List.{take_more, take-append-drop}
 use Rattle.std.proofs.lemmas.List.Elements.{filter-append}
 use Rattle.std.proofs.lemmas.List.Concat.{flat_map-append}
@@ -16,14 +15,13 @@ use Rattle.ghs_node.specs.RowName.{row_name}
 use Rattle.ghs_steps.specs.declared.change.Change.{Change}
 use Rattle.ghs_steps.specs.declared.sent.Sent.{Sent}
 use Rattle.ghs_protocol.specs.declared.event.Event.{Event}
-use Rattle.ghs_protocol.specs.declared.event.Event.TheVariants.{Wake, Take}
 use Rattle.ghs_protocol.specs.Network.{network_of}
 use Rattle.ghs_protocol.specs.Ledger.{in_all}
 use Rattle.ghs_protocol.specs.Net.{effect, event_node, happens, is_lawful, opening}
 use Rattle.ghs_protocol.specs.Run.{IsRun, net_after, run}
-use Rattle.ghs_protocol.proofs.lemmas.Events.{at_of, if_some, node_of}
+use Rattle.ghs_protocol.proofs.lemmas.Events.{if_some}
 use Rattle.ghs_protocol.proofs.lemmas.Runs.{both_some, net_after_is, run_splits}
-use Rattle.ghs_core.specs.NetState.{NetState, IsLawful, network, net_of, work_at}
+use Rattle.ghs_core.specs.NetState.{NetState, net_of, work_at}
 use Rattle.ghs_steps.specs.declared.choice.Choice.{Choice}
 use Rattle.ghs_steps.specs.Changes.{changes}
 use Rattle.ghs_steps.specs.Choice.{is_chosen}
@@ -80,11 +78,6 @@ lawful_here g es i d is_run lt =
     both_some (happens n x e) (λ y. run n (drop (suc i) es) y) is_run.0 rest (λ y here _.
     subst (λ w. is_lawful n w e ≡ true) (sym (net_after_is g (take i es) x front))
     (if_some (is_lawful n x e) (effect n x e) y here (λ lawful _. lawful))))
-
--- a lawful event's node is one of the network
-pub node_there : (s : NetState) (e : Event) → IsLawful s e → (1 ≤ event_node e) × (event_node e ≤ s.graph.nodes)
-node_there s (Wake v) h = node_of (network s) v (and_parts _ _ h).0
-node_there s (Take v p) h = let at = at_of (network s) v p (and_parts _ _ h).0 in (at.some, at.node)
 
 -- the line of a step, from what is at hand
 pub put_is : (f : Form) (g : Shape) (done : List Event) (e : Event) (d : Delta) (new : NetState) (n : NodeState) (number total : ℕ) (far : Option ℕ) (k : Work)

@@ -1,5 +1,5 @@
 -- Runs that prefer what waits: what they leave of a world and a schedule.
-use Rattle.std.specs.Prelude.{◌≡◌, ℕ, Bool, ◌+◌, ◌<◌, List, [], ◌∷◌, ◌++◌, length}
+use Rattle.std.specs.Prelude.{◌≡◌, ℕ, Bool, ◌<◌, List, [], ◌∷◌, ◌++◌, length}
 use Rattle.ghs_graph.specs.Graph.{Shape}
 use Rattle.ghs_protocol.specs.declared.event.Event.{Event}
 use Rattle.ghs_protocol.specs.Marks.{HasEnded}
@@ -8,6 +8,7 @@ use Rattle.ghs_protocol.specs.Run.{net_after}
 use Rattle.ghs_world.specs.Steps.{Makes}
 use Rattle.ghs_world.specs.WorldState.{WorldState, wakers}
 use Rattle.ghs_sched.specs.Picks.{IsPick}
+use Rattle.ghs_sched.specs.Runs.{HasRunBy}
 use Rattle.ghs_sched.specs.Schedule.{next_of}
 use Rattle.ghs_waits.specs.Waiting.{waiting_events, waiting_in}
 
@@ -19,15 +20,13 @@ pub data IsPickedWaiting (may : ℕ → Bool) (g : Shape) (turns : ℕ) (trace :
       (HasEnded g (net_after g es) → ⊥) → length es < turns → IsPick (waiting_events may (network_of g) (net_after g es)) s e →
       IsPickedWaiting may g turns trace words (es ++ e ∷ []) (next_of s)
 
--- A world has run on so: graph, wake set and turns stay, nothing is out, each event has used one ticket number, and the schedule has picked what
--- the trace has grown by, and no more.
-pub record HasRun (old new : WorldState) (words after : List ℕ) : Type 0 where
-  pub graph : new.net.graph ≡ old.net.graph
-  pub wake : new.wake ≡ old.wake
-  pub turns : new.turns ≡ old.turns
-  pub outs : new.outs ≡ []
-  pub numbers : new.last + length old.net.trace ≡ old.last + length new.net.trace
-  pub picked : IsPickedWaiting (wakers old) old.net.graph old.turns old.net.trace words new.net.trace after
+-- a schedule that prefers what waits has picked so, from a world on
+abbrev pub IsPickedFrom : WorldState → List ℕ → List Event → List ℕ → Type 0
+IsPickedFrom old words es after = IsPickedWaiting (wakers old) old.net.graph old.turns old.net.trace words es after
+
+-- a world has run on so
+abbrev pub HasRun : WorldState → WorldState → List ℕ → List ℕ → Type 0
+HasRun old new words after = HasRunBy (IsPickedFrom old words) old new after
 
 -- the next word has picked one of the events that such a schedule picks from, and it has happened
 pub record HasMadeNext (old new : WorldState) (words after : List ℕ) : Type 0 where

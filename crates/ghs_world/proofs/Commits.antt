@@ -13,7 +13,7 @@ use Rattle.ghs_protocol.specs.Network.{network_of}
 use Rattle.ghs_protocol.specs.Net.{is_lawful_under, happens}
 use Rattle.ghs_protocol.specs.Run.{MayWake}
 use Rattle.ghs_protocol.proofs.lemmas.Runs.{lawful_under}
-use Rattle.ghs_core.specs.NetState.{NetState, network, net_of, event_node, IsAnswer, IsLawful}
+use Rattle.ghs_core.specs.NetState.{NetState, network, net_of, event_node, IsAnswer}
 use Rattle.ghs_world.specs.Tickets.{TicketState, HasRule}
 use Rattle.ghs_world.specs.Outs.{event_out, without, is_out}
 use Rattle.ghs_world.specs.WorldState.{WorldState, IsWorld, IsOut, home, wakers, may_happen, has_turn}
@@ -22,7 +22,7 @@ use Rattle.ghs_world.specs.Ready.{has_ready, is_ready, node_events}
 use Rattle.ghs_world.proofs.Going.{all_without, all_same, length_without, out_same, event_same, is_there}
 use Rattle.ghs_world.proofs.Listing.{any_same}
 use Rattle.ghs_world.proofs.Reacting.{answers}
-use Rattle.ghs_world.proofs.Keeping.{out_happens, out_lawful, may_lawful}
+use Rattle.ghs_world.proofs.Keeping.{out_happens, out_lawful}
 use Rattle.ghs_world.proofs.Staying.{Beside, beside, still_lawful, same_lawful, same_work}
 
 -- a number stands in a list, or it doesn't
@@ -139,9 +139,6 @@ pub record Passes (s : WorldState) (e : Event) (d : Delta) (net : NetState) : Ty
 -- what is ready is at home, and may happen
 pub ready_parts : (s : WorldState) (e : Event) → is_ready s e ≡ true → (is_out s.outs (event_node e) ≡ false) × (may_happen s e ≡ true)
 ready_parts s e h = let b = and_parts _ _ h in (not-true _ b.0, b.1)
-
-pub ready_lawful : (s : WorldState) (e : Event) → is_ready s e ≡ true → IsLawful s.net e
-ready_lawful s e h = may_lawful s e (ready_parts s e h).1
 
 abbrev pub after_event : WorldState → NetState → WorldState
 after_event s net = record s { net = net; last = s.last + 1 }

@@ -8,12 +8,12 @@ use Rattle.ghs_protocol.specs.declared.event.Event.TheVariants.{Wake, Take}
 use Rattle.ghs_protocol.specs.Network.{Network}
 use Rattle.ghs_protocol.specs.Net.{Net, is_lawful}
 use Rattle.ghs_protocol.proofs.lemmas.Events.{node_of, at_of}
-use Rattle.ghs_protocol.proofs.lemmas.Runs.{lawful_under}
 use Rattle.ghs_core.specs.NetState.{NetState, network, net_of, event_node, IsLawful, IsSameNet}
 use Rattle.ghs_world.specs.declared.fault.OutFault.TheVariants.{NoSuch, Busy, Nothing, TurnLimit}
 use Rattle.ghs_world.specs.Outs.{event_out, without, is_out}
 use Rattle.ghs_world.specs.WorldState.{WorldState, IsWorld, home, wakers, may_happen, has_place, has_turn, refusal, gone_out}
 use Rattle.ghs_world.proofs.Going.{all_more, all_without, all_at, length_without}
+use Rattle.ghs_world.proofs.lemmas.Ready.{may_lawful}
 
 -- what is not refused
 pub record IsFree (s : WorldState) (e : Event) : Type 0 where
@@ -35,10 +35,6 @@ pub not_refused : (s : WorldState) (e : Event) → refusal s e ≡ None → IsFr
 not_refused s e h =
     let all = through (has_place (network s.net) e) (is_out s.outs (event_node e)) (may_happen s e) (has_turn s) h in
     record { place = all.0; home = all.1; happens = all.2; turn = all.3 }
-
--- what may happen under a wake set is lawful
-pub may_lawful : (s : WorldState) (e : Event) → may_happen s e ≡ true → IsLawful s.net e
-may_lawful s e h = ((lawful_under (wakers s) (network s.net) (home s) e).0 h).1
 
 -- what is out may happen
 pub out_happens : (s : WorldState) (n : ℕ) (e : Event) → IsWorld s → event_out s.outs n ≡ Some e → may_happen s e ≡ true

@@ -21,6 +21,7 @@ use Rattle.ghs_protocol.proofs.lemmas.Sends.{node_there}
 use Rattle.ghs_protocol.proofs.lemmas.Updates.{put_at_node, put_at_miss, put_at_hit, one_place}
 use Rattle.ghs_core.specs.NetState.{event_node, work_at, delivery}
 use Rattle.ghs_world.specs.Steps.{touched}
+use Rattle.ghs_world.proofs.lemmas.Leaving.{NodesStay}
 
 -- the second list begins with the first
 abbrev pub Begins : List Message → List Message → Type 0
@@ -57,7 +58,7 @@ module _ (g : Network) (v : ℕ) where
 
 -- what an event does at other nodes than its own
 pub record Beside (g : Network) (w w' : Net) (e : Event) (d : Delta) : Type 0 where
-  pub node : (u : ℕ) → u ≢ event_node e → w'.node u ≡ w.node u
+  pub node : NodesStay w w' e
   pub queue : (u p : ℕ) → u ≢ event_node e → Begins (w.queue u p) (w'.queue u p)
   pub unsent : (u p : ℕ) → (Contains (touched g (event_node e) d.sends) u → ⊥) → w'.queue u p ≡ w.queue u p
 

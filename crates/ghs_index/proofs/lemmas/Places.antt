@@ -119,3 +119,7 @@ module _ (g : Network) where
 
   pub only_place : (i : ℕ) (e : Event) → slice_get (all_events g) i ≡ Some e → HasPlace g e × (i ≡ place g e)
   only_place i e h = only_to g.count i e (omega arith) h
+
+  -- two events have two places
+  pub place_apart : (e f : Event) → HasPlace g e → HasPlace g f → place g e ≡ place g f → e ≡ f
+  place_apart e f has there same = same_Some e f (sym (placed e has) ∙ ap (slice_get (all_events g)) same ∙ placed f there)

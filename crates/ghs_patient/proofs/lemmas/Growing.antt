@@ -19,6 +19,7 @@ use Rattle.ghs_core.specs.NetState.{network}
 use Rattle.ghs_world.specs.Steps.{IsSameWorld, Makes}
 use Rattle.ghs_world.specs.WorldState.{WorldState, has_turn, home, wakers}
 use Rattle.ghs_world.proofs.lemmas.Waking.{each_is_woken}
+use Rattle.ghs_sched.proofs.lemmas.Runs.{still_going}
 use Rattle.ghs_patient.specs.Runs.{HasTurns, IsShort}
 
 -- one event more at the end
@@ -88,11 +89,6 @@ grown_next g trace s new e same patient made = subst
 pub grown_stays : (g : Shape) (trace : List Event) (s new : WorldState) → IsSameWorld s new → HasGrown g trace s.net.trace →
     HasGrown g trace new.net.trace
 grown_stays g trace s new same grown = rw same.net.trace grown
-
--- a run that goes on in a world goes on over the graph that it began with
-pub still_going : (old s : WorldState) → s.net.graph ≡ old.net.graph → (HasEnded s.net.graph (home s) → ⊥) →
-    HasEnded old.net.graph (net_after old.net.graph s.net.trace) → ⊥
-still_going old s graph going = subst (λ (g : Shape). HasEnded g (net_after g s.net.trace) → ⊥) graph going
 
 module _ (old s : WorldState) (is : IsNetOf old.net.graph (home old)) (grown : HasGrown old.net.graph old.net.trace s.net.trace)
     (law : PatientRunsAreShort) where

@@ -1,8 +1,7 @@
 -- What is kept of each event, as a mark or a rank, and put right one event after another.
 use Rattle.std.proofs.Common.{◌≡◌, ◌≢◌, ℕ, zero, suc, ◌+◌, ◌<◌, ◌≤◌, Bool, true, false, Option, Some, None, List, [], ◌∷◌, length, set, refl, sym, ◌∙◌, ap, ap₂, subst, ⊎_elim, arith, get_or-set_same, get_or-set_other}
-use Rattle.std.specs.List.{All, Contains, slice_get}
+use Rattle.std.specs.List.{All, Contains}
 use Rattle.std.proofs.lemmas.Bool.{cases_eq, both_ways}
-use Rattle.std.proofs.lemmas.Option.{same_Some}
 use Rattle.ghs_graph.specs.Graph.{Shape, IsGraph}
 use Rattle.ghs_graph.specs.Ports.{ports_of}
 use Rattle.ghs_graph.proofs.lemmas.Members.{first_in, later_in, nothing_in, in_cases}
@@ -18,8 +17,8 @@ use Rattle.ghs_protocol.proofs.lemmas.Graphs.{graph_wired}
 use Rattle.ghs_protocol.specs.Net.{event_node}
 use Rattle.ghs_flags.specs.Flags.{at}
 use Rattle.ghs_index.specs.Index.{IndexState, IsFor}
-use Rattle.ghs_index.specs.Places.{HasPlace, all_events, place}
-use Rattle.ghs_index.proofs.lemmas.Places.{placed, place_within}
+use Rattle.ghs_index.specs.Places.{HasPlace, place}
+use Rattle.ghs_index.proofs.lemmas.Places.{place_apart, place_within}
 use Rattle.ghs_patient.specs.Choices.{IsMarked, IsOwn, IsStirred, are_alike, far_takes}
 use Rattle.ghs_patient.specs.Walks.{on_each, on_takes}
 use Rattle.ghs_patient.proofs.lemmas.Places.{own_node}
@@ -30,7 +29,7 @@ pub set_right : (g : Network) (p : Event → Bool) (wrong : Event → Type 0) (e
     (f : Event) → HasPlace g f → (wrong f × (f ≢ e) → ⊥) → at (set x.marks (place g e) (p e)) (place g f) ≡ p f
 set_right g p wrong e x is has right f there none = ⊎_elim
     (λ (same : place g f ≡ place g e).
-    let one : f ≡ e = same_Some f e (sym (placed g f there) ∙ ap (slice_get (all_events g)) same ∙ placed g e has) in
+    let one : f ≡ e = place_apart g f e there has same in
     let within = place_within g e has in
     let many = is.many in
     ap (at (set x.marks (place g e) (p e))) same ∙ get_or-set_same x.marks (place g e) (p e) false (omega arith) ∙ ap p (sym one))

@@ -53,9 +53,13 @@ module _ (g : Network) (v : ℕ) where
       ∙ put_at_miss w.queue (far g v s.0) (far_port g v s.0) u q _
       (λ z. none (subst (λ (e : Event). Contains (e ∷ arrivals g v ss) (Take u q)) (ap (λ a. Take a q) z.0 ∙ ap (Take (far g v s.0)) z.1) (first_in (Take u q) (arrivals g v ss))))
 
+-- other nodes than an event's are as they were
+abbrev pub NodesStay : Net → Net → Event → Type 0
+NodesStay w w' e = (u : ℕ) → u ≢ event_node e → w'.node u ≡ w.node u
+
 -- what an event leaves as it was
 pub record Leaves (g : Network) (w w' : Net) (e : Event) (d : Delta) : Type 0 where
-  pub node : (u : ℕ) → u ≢ event_node e → w'.node u ≡ w.node u
+  pub node : NodesStay w w' e
   pub queue : (u q : ℕ) → (Contains (changed g e d.sends) (Take u q) → ⊥) → w'.queue u q ≡ w.queue u q
 
 module _ (g : Network) where

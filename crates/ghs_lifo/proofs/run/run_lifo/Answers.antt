@@ -4,22 +4,26 @@ use Rattle.ghs_core.specs.NetState.{NetState, net_of}
 use Rattle.ghs_world.specs.WorldState.{home}
 use Rattle.ghs_patient.proofs.Picks.{is_net}
 use Rattle.ghs_sched.proofs.Running.{not_so, same_end}
+use Rattle.ghs_sched.proofs.lemmas.Runs.{run_begins, run_more, run_stays}
 use Rattle.ghs_patient.proofs.lemmas.Growing.{grown_begins, grown_next, grown_stays, is_short, turns_left}
-use Rattle.ghs_lifo.proofs.Running.{pickable, run_begins, run_more, run_stays}
+use Rattle.ghs_lifo.specs.Runs.{Begun, IsPickedFrom}
+use Rattle.ghs_lifo.proofs.Running.{pickable, picked_more}
 use Rattle.ghs_lifo.proofs.run.run_lifo.Goals as goal
 
 pub events-init : goal.events-init
 events-init c = record {
-  run = run_begins c.args.world.now c.recall_all.new.self c.args.schedule.now c.recall_all.ensures;
+  run = run_begins (IsPickedFrom c.args.world.now c.args.schedule.now) c.args.world.now c.recall_all.new.self c.args.schedule.now Begun c.recall_all.ensures;
   grown = grown_begins c.args.world.now c.recall_all.new.self c.recall_all.ensures;
   latest = c.in-Ok.ensures;
 }
 
 pub events-preserved : goal.events-preserved
 events-preserved c = let next = c.in-Ok-make_next.ensures.ok in record {
-  run = run_more c.args.world.now c.events.world c.args.schedule.now c.events.schedule c.events.invariant.run
+  run = run_more (IsPickedFrom c.args.world.now c.args.schedule.now) c.args.world.now c.events.world c.make_next.new.world c.events.schedule c.make_next.new.schedule next.event c.events.invariant.run
+      next.made
+      (picked_more c.args.world.now c.events.world c.args.schedule.now c.events.schedule c.events.invariant.run
       (not_so c.ended-in-events.result c.ended-in-events.ensures.ended c.events-test.true) (sym c.has_turn.ensures ∙ c.if-not-has_turn.false)
-      c.make_next.new.world c.make_next.new.schedule c.in-Ok-make_next.ensures.ok;
+      next.event c.make_next.new.schedule next.next);
   grown = grown_next c.args.world.now.net.graph c.args.world.now.net.trace c.events.world c.make_next.new.world next.event
       c.events.invariant.run.graph
       (pickable c.events.world c.events.schedule next.event c.make_next.new.schedule c.events.invariant.run.outs next.next).patient next.made
@@ -28,10 +32,10 @@ events-preserved c = let next = c.in-Ok-make_next.ensures.ok in record {
 }
 
 pub returns-then-ended-clause-run : goal.returns-then-ended-clause-run
-returns-then-ended-clause-run c = run_begins c.args.world.now c.recall_all.new.self c.args.schedule.now c.recall_all.ensures
+returns-then-ended-clause-run c = run_begins (IsPickedFrom c.args.world.now c.args.schedule.now) c.args.world.now c.recall_all.new.self c.args.schedule.now Begun c.recall_all.ensures
 
 pub returns-in-Err-clause-run : goal.returns-in-Err-clause-run
-returns-in-Err-clause-run c = run_begins c.args.world.now c.recall_all.new.self c.args.schedule.now c.recall_all.ensures
+returns-in-Err-clause-run c = run_begins (IsPickedFrom c.args.world.now c.args.schedule.now) c.args.world.now c.recall_all.new.self c.args.schedule.now Begun c.recall_all.ensures
 
 pub returns-then-not-has_turn-clause-short : goal.returns-then-not-has_turn-clause-short
 returns-then-not-has_turn-clause-short c =

@@ -3,28 +3,32 @@ use Rattle.ghs_protocol.specs.Laws.{IsNetOf}
 use Rattle.ghs_core.specs.NetState.{NetState, net_of}
 use Rattle.ghs_world.specs.WorldState.{home}
 use Rattle.ghs_sched.proofs.Running.{not_so, same_end}
+use Rattle.ghs_sched.proofs.lemmas.Runs.{run_begins, run_more, run_stays}
+use Rattle.ghs_patient.specs.Runs.{Begun, IsPickedFrom}
 use Rattle.ghs_patient.proofs.Picks.{is_net}
-use Rattle.ghs_patient.proofs.Running.{grown_too, run_begins, run_more, run_stays}
+use Rattle.ghs_patient.proofs.Running.{grown_too, picked_more}
 use Rattle.ghs_patient.proofs.lemmas.Growing.{grown_begins, grown_stays, is_short, turns_left}
 use Rattle.ghs_patient.proofs.run.run_patient.Goals as goal
 
 pub events-init : goal.events-init
-events-init c = (run_begins c.args.world.now c.recall_all.new.self c.args.schedule.now c.recall_all.ensures, grown_begins c.args.world.now c.recall_all.new.self c.recall_all.ensures, c.in-Ok.ensures)
+events-init c = (run_begins (IsPickedFrom c.args.world.now c.args.schedule.now) c.args.world.now c.recall_all.new.self c.args.schedule.now Begun c.recall_all.ensures, grown_begins c.args.world.now c.recall_all.new.self c.recall_all.ensures, c.in-Ok.ensures)
 
 pub events-preserved : goal.events-preserved
-events-preserved c = (
-  run_more c.args.world.now c.events.world c.make_next.new.world c.args.schedule.now c.events.schedule c.make_next.new.schedule c.events.invariant.0
-      (not_so c.ended-in-events.result c.ended-in-events.ensures.ended c.events-test.true) (sym c.has_turn.ensures ∙ c.if-not-has_turn.false) c.in-Ok-make_next.ensures.ok,
+events-preserved c = let next = c.in-Ok-make_next.ensures.ok in (
+  run_more (IsPickedFrom c.args.world.now c.args.schedule.now) c.args.world.now c.events.world c.make_next.new.world c.events.schedule c.make_next.new.schedule next.event c.events.invariant.0 next.made
+      (picked_more c.args.world.now c.events.world c.make_next.new.world c.args.schedule.now c.events.schedule c.make_next.new.schedule c.events.invariant.0
+      (not_so c.ended-in-events.result c.ended-in-events.ensures.ended c.events-test.true)
+      (sym c.has_turn.ensures ∙ c.if-not-has_turn.false) next),
   grown_too c.args.world.now c.events.world c.make_next.new.world c.args.schedule.now c.events.schedule c.make_next.new.schedule c.events.invariant.0
       c.in-Ok-make_next.ensures.ok c.events.invariant.1,
   c.in-Ok-make_next.ensures.choices,
 )
 
 pub returns-then-ended-clause-run : goal.returns-then-ended-clause-run
-returns-then-ended-clause-run c = run_begins c.args.world.now c.recall_all.new.self c.args.schedule.now c.recall_all.ensures
+returns-then-ended-clause-run c = run_begins (IsPickedFrom c.args.world.now c.args.schedule.now) c.args.world.now c.recall_all.new.self c.args.schedule.now Begun c.recall_all.ensures
 
 pub returns-in-Err-clause-run : goal.returns-in-Err-clause-run
-returns-in-Err-clause-run c = run_begins c.args.world.now c.recall_all.new.self c.args.schedule.now c.recall_all.ensures
+returns-in-Err-clause-run c = run_begins (IsPickedFrom c.args.world.now c.args.schedule.now) c.args.world.now c.recall_all.new.self c.args.schedule.now Begun c.recall_all.ensures
 
 pub returns-then-not-has_turn-clause-short : goal.returns-then-not-has_turn-clause-short
 returns-then-not-has_turn-clause-short c =

@@ -18,7 +18,7 @@ events-preserved c = record {
 }
 
 pub returns-in-Err-clause-run : goal.returns-in-Err-clause-run
-returns-in-Err-clause-run c = rw c.in-Err.ensures.word (run_stays _ _ _ _ _ c.events.invariant.run c.in-Err.ensures.err)
+returns-in-Err-clause-run c = rw c.in-Err.ensures.word (run_stays c.args.world.now c.events.world c.make_next.new.world c.args.schedule.now c.events.schedule c.events.invariant.run c.in-Err.ensures.err)
 
 pub returns-clause-whole : goal.returns-clause-whole
-returns-clause-whole c = is_whole _ _ _ _ c.events.invariant.run (c.ended.ensures.ended.0 c.events-test.false)
+returns-clause-whole c = is_whole c.args.world.now c.events.world c.args.schedule.now c.events.schedule c.events.invariant.run (c.ended.ensures.ended.0 c.events-test.false)

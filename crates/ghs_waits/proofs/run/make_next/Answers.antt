@@ -2,7 +2,8 @@ use Rattle.std.proofs.Common.{subst}
 use Rattle.ghs_core.specs.NetState.{NetState, network}
 use Rattle.ghs_protocol.specs.Run.{IsRun}
 use Rattle.ghs_graph.specs.Graph.{IsGraph}
-use Rattle.ghs_patient.proofs.Ports.{marks_own, sends_out}
+use Rattle.ghs_core.proofs.lemmas.Reacting.{answer_sends}
+use Rattle.ghs_patient.proofs.Ports.{marks_own}
 use Rattle.ghs_waits.proofs.Picks.{pickable}
 use Rattle.ghs_waits.proofs.Stirring.{keeps}
 use Rattle.ghs_waits.proofs.run.make_next.Goals as goal
@@ -32,7 +33,7 @@ follow-requires-clause-ports c =
     let graph : IsGraph c.args.world.now.net.graph = subst (λ (n : NetState). IsGraph n.graph) c.net.ensures.net c.trace.ensures.graph in
     let is_run : IsRun (network c.args.world.now.net) c.args.world.now.net.trace =
     subst (λ (n : NetState). IsRun (network n) n.trace) c.net.ensures.net c.trace.ensures.run in
-    rw made.graph (sends_out c.args.world.now.net graph is_run c.pick-event.result c.in_ok-delta.delta z.lawful c.in_ok-delta.ensures)
+    rw made.graph (answer_sends c.args.world.now.net graph is_run c.pick-event.result c.in_ok-delta.delta z.lawful c.in_ok-delta.ensures)
 
 pub follow-requires-clause-own : goal.follow-requires-clause-own
 follow-requires-clause-own c =

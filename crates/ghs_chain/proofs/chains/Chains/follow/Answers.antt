@@ -3,9 +3,10 @@ use Rattle.ghs_node.specs.NodeState.{NodeState}
 use Rattle.ghs_node.specs.declared.head.Head.{Head}
 use Rattle.ghs_node.specs.Words.{is_sleeping}
 use Rattle.ghs_core.specs.NetState.{event_node, net_of}
+use Rattle.ghs_core.proofs.lemmas.Reacting.{answer_sends}
 use Rattle.ghs_chain.specs.Chains.{hears}
 use Rattle.ghs_chain.specs.Kept.{seen}
-use Rattle.ghs_chain.proofs.Carrying.{carried, out_on, out_to}
+use Rattle.ghs_chain.proofs.Carrying.{carried, out_to}
 use Rattle.ghs_chain.proofs.Following.{fits_kept, small_number}
 use Rattle.ghs_chain.proofs.chains.Chains.follow.Goals as goal
 
@@ -16,7 +17,7 @@ send-requires-clause-small c =
 pub send-requires-clause-ports : goal.send-requires-clause-ports
 send-requires-clause-ports c =
     rw (c.as_slice.ensures, c.graph.ensures, c.node_of-v.ensures)
-    (out_on c.args.net.now c.trace.ensures.graph c.trace.ensures.run c.args.event c.requires.lawful c.args.delta.now c.requires.answer)
+    (answer_sends c.args.net.now c.trace.ensures.graph c.trace.ensures.run c.args.event c.args.delta.now c.requires.lawful c.requires.answer)
 
 pub send-requires-clause-far : goal.send-requires-clause-far
 send-requires-clause-far c =

@@ -4,7 +4,7 @@ use Rattle.ghs_protocol.specs.Run.{IsRun}
 use Rattle.ghs_core.specs.NetState.{NetState, network}
 use Rattle.ghs_chain.specs.Kept.{AreChains}
 use Rattle.ghs_chain.proofs.Carrying.{out_to}
-use Rattle.ghs_patient.proofs.Ports.{sends_out}
+use Rattle.ghs_core.proofs.lemmas.Reacting.{answer_sends}
 use Rattle.ghs_rounds.proofs.Hearing.{hears_small}
 use Rattle.ghs_rounds.proofs.rounds.Rounds.hear.Goals as goal
 
@@ -17,7 +17,7 @@ pub follow-requires-clause-ports : goal.follow-requires-clause-ports
 follow-requires-clause-ports c =
     let graph : IsGraph c.args.world.now.net.graph = subst (λ (n : NetState). IsGraph n.graph) c.net.ensures.net c.trace.ensures.graph in
     let is_run : IsRun (network c.args.world.now.net) c.args.world.now.net.trace = subst (λ (n : NetState). IsRun (network n) n.trace) c.net.ensures.net c.trace.ensures.run in
-    rw c.graph.ensures (sends_out c.args.world.now.net graph is_run c.args.event c.args.delta.now c.requires.lawful c.requires.answer)
+    rw c.graph.ensures (answer_sends c.args.world.now.net graph is_run c.args.event c.args.delta.now c.requires.lawful c.requires.answer)
 
 pub follow-requires-clause-far : goal.follow-requires-clause-far
 follow-requires-clause-far c =
@@ -30,4 +30,4 @@ pub note-requires-clause-ports : goal.note-requires-clause-ports
 note-requires-clause-ports c =
     let graph : IsGraph c.args.world.now.net.graph = subst (λ (n : NetState). IsGraph n.graph) c.net.ensures.net c.trace.ensures.graph in
     let is_run : IsRun (network c.args.world.now.net) c.args.world.now.net.trace = subst (λ (n : NetState). IsRun (network n) n.trace) c.net.ensures.net c.trace.ensures.run in
-    rw (c.as_slice.ensures, c.graph-2.ensures, c.node_of.ensures) (sends_out c.args.world.now.net graph is_run c.args.event c.args.delta.now c.requires.lawful c.requires.answer)
+    rw (c.as_slice.ensures, c.graph-2.ensures, c.node_of.ensures) (answer_sends c.args.world.now.net graph is_run c.args.event c.args.delta.now c.requires.lawful c.requires.answer)

@@ -5,7 +5,8 @@ use Rattle.ghs_node.specs.Words.{is_sleeping}
 use Rattle.ghs_core.specs.NetState.{NetState, event_node, network}
 use Rattle.ghs_world.specs.WorldState.{home}
 use Rattle.ghs_chain.specs.Kept.{seen}
-use Rattle.ghs_patient.proofs.Ports.{marks_own, sends_out}
+use Rattle.ghs_core.proofs.lemmas.Reacting.{answer_sends}
+use Rattle.ghs_patient.proofs.Ports.{marks_own}
 use Rattle.ghs_rounds.proofs.Keeping.{keeps, next_are}
 use Rattle.ghs_rounds.proofs.Picked.{pickable}
 use Rattle.ghs_rounds.proofs.Sending.{IsTimely}
@@ -36,7 +37,7 @@ follow-requires-clause-ports c =
     let z = pickable c.args.world.now c.self.inside.clock c.in_ok-rest.rest c.pick-event.result c.requires.home c.pick-event.ensures.pick in
     let graph : IsGraph c.args.world.now.net.graph = subst (λ (n : NetState). IsGraph n.graph) c.net.ensures.net c.trace.ensures.graph in
     let is_run : IsRun (network c.args.world.now.net) c.args.world.now.net.trace = subst (λ (n : NetState). IsRun (network n) n.trace) c.net.ensures.net c.trace.ensures.run in
-    rw c.in_ok-make_answered.ensures.made.graph (sends_out c.args.world.now.net graph is_run c.pick-event.result c.in_ok-delta.delta z.lawful c.in_ok-delta.ensures)
+    rw c.in_ok-make_answered.ensures.made.graph (answer_sends c.args.world.now.net graph is_run c.pick-event.result c.in_ok-delta.delta z.lawful c.in_ok-delta.ensures)
 
 pub follow-requires-clause-own : goal.follow-requires-clause-own
 follow-requires-clause-own c =
@@ -63,5 +64,5 @@ returns-clause-rounds c =
     (is_sleeping ((home c.args.world.now).node (event_node c.pick-event.result)).head.phase) c.in_ok-delta.delta.fate =
     rw (← c.self.view_is) (z.timely graph is_run c.in_ok-delta.delta c.in_ok-delta.ensures) in
     next_are c.args.world.now c.make_answered.new.self c.pick-event.result c.in_ok-delta.delta _ _ are c.in_ok-make_answered.ensures.made c.in_ok-delta.ensures heard
-    graph is_run z.low z.high (sends_out c.args.world.now.net graph is_run c.pick-event.result c.in_ok-delta.delta z.lawful c.in_ok-delta.ensures)
+    graph is_run z.low z.high (answer_sends c.args.world.now.net graph is_run c.pick-event.result c.in_ok-delta.delta z.lawful c.in_ok-delta.ensures)
     timely c.follow.new.self c.follow.ensures

@@ -6,7 +6,7 @@ use Rattle.ghs_world.specs.WorldState.{WorldState}
 use Rattle.ghs_world.specs.Steps.{AreReadyOf, HasAllRoused, touched}
 use Rattle.ghs_world.specs.contracts.world.World.{the_view}
 use Rattle.ghs_world.proofs.Keeping.{out_lawful}
-use Rattle.ghs_world.proofs.Reacting.{answer_sends}
+use Rattle.ghs_core.proofs.lemmas.Reacting.{answer_sends}
 use Rattle.ghs_world.proofs.Arriving.{arrived_in}
 use Rattle.ghs_world.proofs.Changing.{index_but}
 use Rattle.ghs_world.proofs.lemmas.Leaving.{lawful_place}
@@ -22,7 +22,7 @@ mark_changed-requires-clause-place c =
 
 pub mark_changed-requires-clause-ports : goal.mark_changed-requires-clause-ports
 mark_changed-requires-clause-ports c =
-    rw (c.play.ensures.graph, c.as_slice-sends.ensures) (answer_sends c.self.inside.net c.args.event c.args.delta.now c.trace.ensures.graph c.trace.ensures.run
+    rw (c.play.ensures.graph, c.as_slice-sends.ensures) (answer_sends c.self.inside.net c.trace.ensures.graph c.trace.ensures.run c.args.event c.args.delta.now
     (out_lawful (the_view c.self.inside) c.args.out c.args.event c.self.invariant.0 (rw (← c.self.view_is) at c.requires.out)) (rw (← c.self.view_is) at c.requires.answer))
 
 pub mark_changed-requires-clause-arrived : goal.mark_changed-requires-clause-arrived

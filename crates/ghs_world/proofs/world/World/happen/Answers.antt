@@ -1,8 +1,9 @@
 use Rattle.std.proofs.Common.{◌∙◌, sym, ap}
 use Rattle.ghs_graph.specs.Graph.{Shape}
 use Rattle.ghs_world.specs.contracts.world.World.{the_view}
-use Rattle.ghs_world.proofs.Commits.{ready_lawful, world_made}
-use Rattle.ghs_world.proofs.Reacting.{answer_sends}
+use Rattle.ghs_world.proofs.Commits.{world_made}
+use Rattle.ghs_world.proofs.lemmas.Ready.{ready_lawful}
+use Rattle.ghs_core.proofs.lemmas.Reacting.{answer_sends}
 use Rattle.ghs_world.proofs.Arriving.{arrived_in}
 use Rattle.ghs_world.proofs.Changing.{index_but}
 use Rattle.ghs_world.proofs.lemmas.Leaving.{lawful_place}
@@ -17,7 +18,7 @@ mark_changed-requires-clause-place c =
 
 pub mark_changed-requires-clause-ports : goal.mark_changed-requires-clause-ports
 mark_changed-requires-clause-ports c =
-    rw (c.play.ensures.graph, c.as_slice-sends.ensures) (answer_sends c.self.inside.net c.args.event c.args.answer.now c.trace.ensures.graph c.trace.ensures.run
+    rw (c.play.ensures.graph, c.as_slice-sends.ensures) (answer_sends c.self.inside.net c.trace.ensures.graph c.trace.ensures.run c.args.event c.args.answer.now
     (ready_lawful (the_view c.self.inside) c.args.event (rw (← c.self.view_is) at c.requires.ready)) (rw (← c.self.view_is) at c.requires.answer))
 
 pub mark_changed-requires-clause-arrived : goal.mark_changed-requires-clause-arrived

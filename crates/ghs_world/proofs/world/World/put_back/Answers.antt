@@ -5,7 +5,8 @@ use Rattle.ghs_protocol.specs.declared.event.Event.TheVariants.{Take}
 use Rattle.ghs_world.specs.WorldState.{home}
 use Rattle.ghs_world.specs.contracts.world.World.{the_view}
 use Rattle.ghs_world.proofs.Changing.{index_same}
-use Rattle.ghs_world.proofs.Commits.{ready_lawful, world_made}
+use Rattle.ghs_world.proofs.Commits.{world_made}
+use Rattle.ghs_world.proofs.lemmas.Ready.{ready_lawful}
 use Rattle.ghs_world.proofs.Keeping.{world_same}
 use Rattle.ghs_world.proofs.PuttingBack.{index_back}
 use Rattle.ghs_world.proofs.world.World.put_back.Goals as goal

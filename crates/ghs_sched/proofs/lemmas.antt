@@ -1,0 +1,2 @@
+-- What proofs about schedules above this crate may use.
+pub mod Runs
