@@ -1,5 +1,5 @@
 -- Ranks that are set one by one.
-use Rattle.std.proofs.Common.{◌≡◌, ◌≢◌, ℕ, ◌<◌, ◌≤◌, true, Some, List, [], ◌∷◌, length, get_or, set, sym, ◌∙◌, ap, ⊎_elim, arith, length-set, get_or-set_same, get_or-set_other}
+use Rattle.std.proofs.Common.{◌≡◌, ◌≢◌, ℕ, ◌<◌, ◌≤◌, true, Some, List, [], ◌∷◌, length, get_or, set, refl, sym, ◌∙◌, ap, ⊎_elim, arith, length-set, get_or-set_same, get_or-set_other}
 use Rattle.std.specs.List.{All, Contains}
 use Rattle.std.proofs.lemmas.Bool.{cases_eq}
 use Rattle.ghs_graph.specs.Graph.{IsGraph}
@@ -17,7 +17,7 @@ use Rattle.ghs_core.specs.NetState.{network}
 use Rattle.ghs_index.specs.Places.{HasPlace, all_events, place}
 use Rattle.ghs_index.proofs.lemmas.Places.{place_apart, place_within}
 use Rattle.ghs_world.specs.WorldState.{WorldState}
-use Rattle.ghs_patient.specs.Choices.{are_alike, far_takes}
+use Rattle.ghs_patient.specs.Choices.{IsOwn, are_alike, far_takes}
 use Rattle.ghs_patient.proofs.lemmas.Places.{own_node}
 use Rattle.ghs_patient.proofs.lemmas.Walks.{AreOwnLeft, far_places}
 use Rattle.ghs_patient.proofs.lemmas.Walks as walks
