@@ -106,7 +106,7 @@ impl Hold {
         }
     }
 
-    // Notes that the other ticket came, once it has come.
+    /// Notes that the other ticket came, once it has come.
     fn await_other(&self, other: &AtomicU64) {
         for _ in 0..10_000_000u64 {
             if other.load(Ordering::SeqCst) == 1 {
