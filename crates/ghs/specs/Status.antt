@@ -2,7 +2,7 @@
 use Rattle.std.specs.Prelude.{◌≡◌, ◌≢◌, ◌⊎◌, ℕ, []}
 use Rattle.clap.specs.Kinds.{Kinds, IsAmong}
 use Rattle.clap.specs.declared.error.kind.ErrorKind.{ErrorKind}
-use Rattle.ghs_words.specs.Job.{IsRequest}
+use Rattle.ghs_commands.specs.Job.{IsRequest}
 use Rattle.std.specs.declared.io.ErrorKind.{ErrorKind as ReadKind}
 use Rattle.std.specs.declared.io.ErrorKind.TheVariants as read
 
@@ -12,8 +12,8 @@ pub record IsStatusOf (kinds : Kinds) (status : ℕ) : Type 0 where
   pub done : status ≡ 0 → (kinds ≡ []) ⊎ ((k : ErrorKind) × IsAmong k kinds × IsRequest k)
 
 -- words that are taken never end with the status of those that are refused
-abbrev pub IsStatusOfWork : ℕ → Type 0
-IsStatusOfWork status = status ≢ 2
+abbrev pub IsStatusOfJob : ℕ → Type 0
+IsStatusOfJob status = status ≢ 2
 
 -- words that can't be read end as memory that is wanting, where that is why, and else as words that are refused
 abbrev pub status_unread : ReadKind → ℕ

@@ -1,12 +1,12 @@
 //! The program `ghs`: it opens files and prints faults, and leaves the work to `ghs_cli`.
 #![tactic(auto)]
 
-ghost use Rattle.ghs.specs.Status.{IsStatusOf, IsStatusOfWork, status_unread};
+ghost use Rattle.ghs.specs.Status.{IsStatusOf, IsStatusOfJob, status_unread};
 ghost use Rattle.ghs_cli.specs.Ending.{IsBoundedTask};
 ghost use Rattle.ghs_cli.specs.Fault.{status_of};
 ghost use Rattle.ghs_cli.specs.Serving.{IfStored, IsUnread, Serves, is_write};
 ghost use Rattle.ghs_cli.specs.declared.fault.ServeFault.{ServeFault};
-ghost use Rattle.ghs_words.specs.Job.{AreSweepLimits, IsWithinLimits, kinds_of};
+ghost use Rattle.ghs_commands.specs.Job.{AreSweepLimits, IsWithinLimits, kinds_of};
 ghost use Rattle.std.specs.IoError.{error_kind};
 ghost use Rattle.std.specs.Vec.Iter.{into_iter_items, into_iter_len};
 ghost use Rattle.std.specs.Prelude.{◌≡◌, ◌⊎◌, ◌↔◌, IfErr, IfOk, IfSome, IsErrOf, MatchResult, None, drop, false, length, map, string_bytes, true};
@@ -14,10 +14,10 @@ ghost use Rattle.std.specs.Prelude.{◌≡◌, ◌⊎◌, ◌↔◌, IfErr, IfOk
 use ghs_cli::fault::ServeFault;
 use ghs_cli::networks::{Network, read_network, sweep_networks};
 use ghs_cli::serve::serve;
+use ghs_commands::job::{Job, JobFault, SweepOptions, Task, read_job};
+use ghs_commands::values::is_dash;
 use ghs_gr::device::{Device, Source};
 use ghs_report::write_out::write_out;
-use ghs_words::job::{Job, JobFault, SweepOptions, Task, read_job};
-use ghs_words::values::is_dash;
 use std::alloc::{AllocError, Global};
 use std::env::Args;
 use std::fs::File;
@@ -91,13 +91,13 @@ fn answer<R: Runtime + AllocGlobal + Threads + Wait + Sync>(
 /// Does the job, and gives the exit status. A sweep whose lines begin with names is one of networks.
 fn fulfil<R: Runtime + AllocGlobal + Threads + Wait + Sync>(rt: &R, alloc: Global, job: &Job) -> u8
     requires { IsWithinLimits job.now.task }
-    ensures { IsStatusOfWork result }
+    ensures { IsStatusOfJob result }
 {
     match &job.task {
         Task::Sweep(options) if !job.networks.is_empty() => {
             sweep(rt, alloc, options, &job.networks)
         }
-        _ => finish(rt, work(rt, alloc, job)),
+        _ => finish(rt, do_job(rt, alloc, job)),
     }
 }
 
@@ -109,7 +109,7 @@ fn sweep<R: Runtime + AllocGlobal + Threads + Sync>(
     names: &[String],
 ) -> u8
     requires { AreSweepLimits options.now }
-    ensures { IsStatusOfWork result }
+    ensures { IsStatusOfJob result }
 {
     let mut networks = Vec::new(alloc);
     for name in names {
@@ -144,7 +144,7 @@ fn network_of<R: Runtime + AllocGlobal>(
 
 /// Opens the files and does the job, the trace's before the graph's; `-` is standard input. A file that can't be opened can't be
 /// read. What a file holds no contract says, and so nothing is said of what comes of it.
-fn work<R: Runtime + AllocGlobal + Threads + Wait + Sync>(
+fn do_job<R: Runtime + AllocGlobal + Threads + Wait + Sync>(
     rt: &R,
     alloc: Global,
     job: &Job,
@@ -152,17 +152,22 @@ fn work<R: Runtime + AllocGlobal + Threads + Wait + Sync>(
     requires { IsWithinLimits job.now.task }
 {
     match &job.trace {
-        Some(path) if is_dash(path) => work_after(rt, alloc, job, &mut Device::of(rt.reader())),
+        Some(path) if is_dash(path) => do_job_with_trace(
+            rt,
+            alloc,
+            job,
+            &mut Device::of(rt.reader()),
+        ),
         Some(path) => match File::open(rt, path.as_str()) {
-            Ok(file) => work_after(rt, alloc, job, &mut Device::of(file)),
+            Ok(file) => do_job_with_trace(rt, alloc, job, &mut Device::of(file)),
             Err(_) => Err(ServeFault::Read),
         },
-        None => work_after(rt, alloc, job, &mut Device::of(b"".as_slice())),
+        None => do_job_with_trace(rt, alloc, job, &mut Device::of(b"".as_slice())),
     }
 }
 
 /// Opens the graph's file and does the job with this trace.
-fn work_after<R: Runtime + AllocGlobal + Threads + Wait + Sync, T: Source>(
+fn do_job_with_trace<R: Runtime + AllocGlobal + Threads + Wait + Sync, T: Source>(
     rt: &R,
     alloc: Global,
     job: &Job,
@@ -175,16 +180,16 @@ fn work_after<R: Runtime + AllocGlobal + Threads + Wait + Sync, T: Source>(
 {
     match &job.graph {
         Some(path) if !is_dash(path) => match File::open(rt, path.as_str()) {
-            Ok(file) => work_on(rt, alloc, job, &mut Device::of(file), trace),
+            Ok(file) => do_job_on_graph(rt, alloc, job, &mut Device::of(file), trace),
             Err(_) => Err(ServeFault::Read),
         },
-        _ => work_on(rt, alloc, job, &mut Device::of(rt.reader()), trace),
+        _ => do_job_on_graph(rt, alloc, job, &mut Device::of(rt.reader()), trace),
     }
 }
 
 /// Does the job on this graph with this trace, and prints. What standard output holds no contract says, so of what is printed
 /// it is said that there is such a text.
-fn work_on<R: Runtime + AllocGlobal + Threads + Wait + Sync, S: Source, T: Source>(
+fn do_job_on_graph<R: Runtime + AllocGlobal + Threads + Wait + Sync, S: Source, T: Source>(
     rt: &R,
     alloc: Global,
     job: &Job,
@@ -212,10 +217,10 @@ fn help<R: Runtime>(rt: &R, text: &str) -> Result<(), ServeFault>
 }
 
 /// The exit status of work that has come to this.
-fn finish<R: Runtime>(rt: &R, result_of_work: Result<(), ServeFault>) -> u8
-    ensures { MatchResult result_of_work (λ _. result ≡ 0) (λ fault. result ≡ status_of fault) }
+fn finish<R: Runtime>(rt: &R, result_of_job: Result<(), ServeFault>) -> u8
+    ensures { MatchResult result_of_job (λ _. result ≡ 0) (λ fault. result ≡ status_of fault) }
 {
-    match result_of_work {
+    match result_of_job {
         Ok(()) => 0,
         Err(fault) => tell(rt, &fault),
     }

@@ -129,7 +129,8 @@ publishes slots id me p may empty up s h sized at small =
           subst (λ l. StartsWith log (l ++ q ∷ [])) (sym known.1) (starts_refl log),
           starts_none log,
         )
-            (λ j u other e. let was = h.fits j u e in ((λ c. absurd (other ((was.0 c).0 ∙ sym known.0))), starts_more h.all u.seen q was.1, starts_more h.all u.told q was.2));
+            (λ j u other e. let was = h.fits j u e in
+            ((λ c. absurd (other ((was.0 c).0 ∙ sym known.0))), starts_more h.all u.seen q was.1, starts_more h.all u.told q was.2));
       },
       ap (λ (c : List (ℕ × ℕ)). (w, c)) empty,
     )

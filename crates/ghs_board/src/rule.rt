@@ -3,15 +3,15 @@ use crate::progress::Progress;
 use atomic_table::{Join, Play, Split, TableRule};
 use std::collections::LinkedList;
 
-// What a seat knows: all that was published where it publishes, else a beginning of that; and what it was told by another
-// seat since its last load. It is there for the rule alone, and no value of it is made.
+/// What a seat knows: all that was published where it publishes, else a beginning of that; and what it was told by another
+/// seat since its last load. It is there for the rule alone, and no value of it is made.
 pub struct Watch {
     pub publishes: bool,
     pub seen: LinkedList<Progress>,
     pub told: LinkedList<Progress>,
 }
 
-// There is one rising list, the word stands for its last pair, and one seat knows all of it.
+/// There is one rising list, the word stands for its last pair, and one seat knows all of it.
 pub struct Rising;
 
 impl TableRule<u8, Watch, Progress> for Rising {
@@ -23,7 +23,7 @@ impl TableRule<u8, Watch, Progress> for Rising {
     ghost first = { λ p. publisher_of (p ∷ []) };
 }
 
-// The publisher raises the word.
+/// The publisher raises the word.
 pub struct Publishes;
 
 impl Play<u8, Watch> for Publishes {
@@ -32,7 +32,7 @@ impl Play<u8, Watch> for Publishes {
     ghost then = { Adds };
 }
 
-// A reader loads the word.
+/// A reader loads the word.
 pub struct Reads;
 
 impl Play<u8, Watch> for Reads {
@@ -41,7 +41,7 @@ impl Play<u8, Watch> for Reads {
     ghost then = { Looks };
 }
 
-// The publisher loads the word.
+/// The publisher loads the word.
 pub struct ReadsOwn;
 
 impl Play<u8, Watch> for ReadsOwn {
@@ -50,7 +50,7 @@ impl Play<u8, Watch> for ReadsOwn {
     ghost then = { Checks };
 }
 
-// A reader that has seen what this seat has.
+/// A reader that has seen what this seat has.
 pub struct Another;
 
 impl Split<Watch> for Another {
@@ -61,7 +61,7 @@ impl Split<Watch> for Another {
     ghost right = { λ v. reader_of v.seen };
 }
 
-// The first seat is told what the second has seen. A join by itself tells nothing; the next load does.
+/// The first seat is told what the second has seen. A join by itself tells nothing; the next load does.
 pub struct News;
 
 impl Join<Watch> for News {
@@ -73,7 +73,7 @@ impl Join<Watch> for News {
     ghost spent = { reader_of [] };
 }
 
-// The first seat becomes a reader that has seen what the second has.
+/// The first seat becomes a reader that has seen what the second has.
 pub struct Instead;
 
 impl Join<Watch> for Instead {

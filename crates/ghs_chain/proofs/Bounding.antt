@@ -46,7 +46,8 @@ more_within n q m r c a b w = record {
 }
 
 -- a line put at a place is among them
-pub put_below : (q : ℕ) (f : ℕ → ℕ → List ℕ) (v p : ℕ) (line : List ℕ) → ((u r : ℕ) → Below q (f u r)) → Below q line → (u r : ℕ) → Below q (put_at f v p line u r)
+pub put_below : (q : ℕ) (f : ℕ → ℕ → List ℕ) (v p : ℕ) (line : List ℕ) → ((u r : ℕ) → Below q (f u r)) → Below q line → (u r : ℕ) →
+    Below q (put_at f v p line u r)
 put_below q f v p line all this u r = ⊎_elim
     (λ (e : (u ≡ v) × (r ≡ p)). let P : List ℕ → Type 0 = Below q in subst P (sym (put_at_hit f v p u r line e.0 e.1)) this)
     (λ ne. let P : List ℕ → Type 0 = Below q in subst P (sym (put_at_miss f v p u r line ne)) (all u r))
@@ -63,14 +64,16 @@ sent_on_within g v p n q c lt w = record {
 -- by events: what is sent is one more than a node's number at most
 pub sent_within : (g : Network) (v n : ℕ) (ss : Outgoing) (c : Chains) → IsWithin n (suc n) c → IsWithin n (suc n) (sent g v ss c)
 sent_within g v n [] c w = w
-sent_within g v n (s ∷ ss) c w = sent_within g v n ss (sent_on g v s.0 c) (sent_on_within g v s.0 n (suc n) c (let x = w.node v in omega (arith, x)) w)
+sent_within g v n (s ∷ ss) c w =
+    sent_within g v n ss (sent_on g v s.0 c) (sent_on_within g v s.0 n (suc n) c (let x = w.node v in omega (arith, x)) w)
 
 -- by messages: each makes the numbers greater by one at most
 pub sends_within : (g : Network) (v n : ℕ) (ss : Outgoing) (c : Chains) → IsWithin n n c → IsWithin (n + length ss) (n + length ss) (sent g v ss c)
 sends_within g v n [] c w = more_within n n _ _ c (omega arith) (omega arith) w
 sends_within g v n (s ∷ ss) c w =
     let one : IsWithin (n + 1) (n + 1) (sent_on g v s.0 c) =
-    sent_on_within g v s.0 (n + 1) (n + 1) c (let x = w.node v in omega (arith, x)) (more_within n n (n + 1) (n + 1) c (omega arith) (omega arith) w) in
+    sent_on_within g v s.0 (n + 1) (n + 1) c (let x = w.node v in omega (arith, x))
+    (more_within n n (n + 1) (n + 1) c (omega arith) (omega arith) w) in
     more_within (n + 1 + length ss) (n + 1 + length ss) _ _ _ (omega arith) (omega arith) (sends_within g v (n + 1) ss (sent_on g v s.0 c) one)
 
 pub heard_within : (f : Fate) (asleep : Bool) (n q m t : ℕ) → m ≤ n → t ≤ n → heard f asleep m t ≤ n
@@ -81,7 +84,8 @@ heard_within Requeued false n q m t a b = a
 pub behind_below : (f : Fate) (q t : ℕ) (ts : List ℕ) → Below q (t ∷ ts) → Below q (behind f t ts)
 behind_below Consumed q t ts b = all_rest (λ x. x ≤ q) t ts b
 behind_below Requeued q t ts b =
-    All-append (λ x. x ≤ q) ts (t ∷ []) (all_rest (λ x. x ≤ q) t ts b) (All-cons (λ x. x ≤ q) t [] (all_first (λ x. x ≤ q) t ts b) (All-nil (λ x. x ≤ q)))
+    All-append (λ x. x ≤ q) ts (t ∷ []) (all_rest (λ x. x ≤ q) t ts b)
+    (All-cons (λ x. x ≤ q) t [] (all_first (λ x. x ≤ q) t ts b) (All-nil (λ x. x ≤ q)))
 
 pub put_node : (n : ℕ) (f : ℕ → ℕ) (v m : ℕ) → ((u : ℕ) → f u ≤ n) → m ≤ n → (u : ℕ) → put f v m u ≤ n
 put_node n f v m all this u = ⊎_elim
@@ -89,7 +93,8 @@ put_node n f v m all this u = ⊎_elim
     (λ ne. let x = put_other f v u m ne in let y = all u in omega (arith, x, y))
     (cases_eq u v)
 
-taken_within : (v p n : ℕ) (asleep : Bool) (f : Fate) (ts : List ℕ) (c : Chains) → IsWithin n n c → Below n ts → IsWithin n n (taken v p asleep f ts c)
+taken_within : (v p n : ℕ) (asleep : Bool) (f : Fate) (ts : List ℕ) (c : Chains) → IsWithin n n c → Below n ts →
+    IsWithin n n (taken v p asleep f ts c)
 taken_within v p n asleep f [] c w b = w
 taken_within v p n asleep f (t ∷ ts) c w b = record {
   node = put_node n c.node v (heard f asleep (c.node v) t) w.node (heard_within f asleep n n (c.node v) t (w.node v) (all_first (λ x. x ≤ n) t ts b));
@@ -111,7 +116,8 @@ then_within g w e n c i = go (reaction (w.node (event_node e)) (work_at w e))
         more_within n (suc n) _ _ _ (omega arith) (omega arith)
         (sent_within g (event_node e) n d.sends _ (more_within n n n (suc n) _ (omega arith) (omega arith) a))
 
-pub after_within : (g : Network) (es : List Event) (w : Net) (n : ℕ) (c : Chains) → IsWithin n n c → IsWithin (n + length es) (n + length es) (chains_after g es w c)
+pub after_within : (g : Network) (es : List Event) (w : Net) (n : ℕ) (c : Chains) → IsWithin n n c →
+    IsWithin (n + length es) (n + length es) (chains_after g es w c)
 after_within g [] w n c i = more_within n n _ _ c (omega arith) (omega arith) i
 after_within g (e ∷ es) w n c i = go (λ x. after_within g es x (n + 1) (chains_then g w e c) (then_within g w e n c i)) (happens g w e)
   where
@@ -127,7 +133,8 @@ none_within = record { node = λ v. omega arith; queue = λ v p. All-nil (λ t. 
 -- no number of a run is greater than it has events
 pub run_within : (g : Network) (es : List Event) → IsWithin (length es) (length es) (chains_of g es)
 unfolding chains_of
-run_within g es = more_within (0 + length es) (0 + length es) _ _ _ (omega arith) (omega arith) (after_within g es (opening g) 0 no_chains none_within)
+run_within g es =
+    more_within (0 + length es) (0 + length es) _ _ _ (omega arith) (omega arith) (after_within g es (opening g) 0 no_chains none_within)
 
 -- the greatest of some numbers is within, where each is
 pub most_within : (n m : ℕ) (f : ℕ → ℕ) → ((v : ℕ) → f v ≤ m) → most_below n f ≤ m
@@ -137,7 +144,8 @@ most_within (suc n) m f all = let a = most_within n m f all in let b = all n in 
 -- what an event sends is counted
 sends_counted : (g : Network) (v : ℕ) (d : Delta) (w : Net) → in_all (steps.reacted g v d w).sent ≡ in_all w.sent + length d.sends
 sends_counted g v d w =
-    let each : in_all (steps.reacted g v d w).sent ≡ in_all (λ k. w.sent k + of_kind k (messages d.sends)) = sum_same 7 _ _ (λ k lt. sent_now g v d w k) in
+    let each : in_all (steps.reacted g v d w).sent ≡ in_all (λ k. w.sent k + of_kind k (messages d.sends)) =
+    sum_same 7 _ _ (λ k lt. sent_now g v d w k) in
     let both = sum_add 7 w.sent (λ k. of_kind k (messages d.sends)) in
     let all = kinds_in_all (messages d.sends) in
     let count : length (messages d.sends) ≡ length d.sends = length-map d.sends _ in
@@ -171,7 +179,8 @@ sent_after g (e ∷ es) w x c i r =
     go (λ y h. sent_after g es y x (chains_then g w e c) (happens_within g w y e c (happening g w y e h) i)) (happens g w e) refl r
   where
     go :
-        ((y : Net) → happens g w e ≡ Some y → run g es y ≡ Some x → IsWithin (in_all x.sent) (in_all x.sent) (chains_after g es y (chains_then g w e c))) →
+        ((y : Net) → happens g w e ≡ Some y → run g es y ≡ Some x →
+        IsWithin (in_all x.sent) (in_all x.sent) (chains_after g es y (chains_then g w e c))) →
         (o : Option Net) → happens g w e ≡ o → and_then o (λ y. run g es y) ≡ Some x →
         IsWithin (in_all x.sent) (in_all x.sent) (if_then o (λ y. chains_after g es y (chains_then g w e c)) c)
     go rest None h k = cc
@@ -180,7 +189,8 @@ sent_after g (e ∷ es) w x c i r =
 pub chains_are_sent : ChainsAreSent
 unfolding chains_of
 chains_are_sent g es w a =
-    let opens : IsWithin (in_all (opening g).sent) (in_all (opening g).sent) no_chains = more_within 0 0 _ _ _ (omega arith) (omega arith) none_within in
+    let opens : IsWithin (in_all (opening g).sent) (in_all (opening g).sent) no_chains =
+    more_within 0 0 _ _ _ (omega arith) (omega arith) none_within in
     most_within (suc g.count) (in_all w.sent) _ (sent_after g es (opening g) w no_chains opens a).node
 
 pub chains_within_bound : ChainsAreWithinBound

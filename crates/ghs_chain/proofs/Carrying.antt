@@ -29,11 +29,13 @@ use Rattle.ghs_chain.proofs.Lengths.{same_lengths}
 use Rattle.ghs_chain.proofs.Placing.{put_at_none, same_then}
 use Rattle.ghs_chain.proofs.Swapping.{happens_made, made, on_ports}
 
-module _ (s : NetState) (graph : IsGraph s.graph) (r : IsRun (network s) s.trace) (e : Event) (lawful : IsLawful s e) (d : Delta) (answer : IsAnswer s e d) where
+module _ (s : NetState) (graph : IsGraph s.graph) (r : IsRun (network s) s.trace) (e : Event) (lawful : IsLawful s e) (d : Delta)
+    (answer : IsAnswer s e d) where
   goes_out : OnPorts (network s) (event_node e) d.sends
   goes_out =
       let wired = graph_wired s.graph graph in
-      on_ports (network s) wired (net_of s) (after_formed (network s) wired (graph_few s.graph graph) s.trace (net_of s) (after_is_net s.graph s.trace r)) e d lawful answer
+      on_ports (network s) wired (net_of s)
+      (after_formed (network s) wired (graph_few s.graph graph) s.trace (net_of s) (after_is_net s.graph s.trace r)) e d lawful answer
 
   -- what the event's node sends arrives at ports
   pub out_to : (k : Kept) → Fits s.graph k →
@@ -51,7 +53,8 @@ module _ (s : NetState) (graph : IsGraph s.graph) (r : IsRun (network s) s.trace
   carried k k1 k' are p1 heard p2 out = record {
     fits = fits_kept s.graph k k' (same_then k k1 k' p1 p2) are.fits;
     same =
-        out ∙ ap (sent (network s) (event_node e) d.sends) (heard ∙ ap (hears e (is_sleeping ((net_of s).node (event_node e)).head.phase) d.fate) are.same)
+        out ∙ ap (sent (network s) (event_node e) d.sends)
+        (heard ∙ ap (hears e (is_sleeping ((net_of s).node (event_node e)).head.phase) d.fate) are.same)
         ∙ sym happened;
   }
 
@@ -86,7 +89,8 @@ then_are s s' e k graph trace then = record {
 }
 
 -- the greatest number of a node is the longest chain
-pub longest_are : (s : NetState) (k : Kept) (n : ℕ) → AreChains s k → n ≡ most_below (length k.numbers) (seen k).node → n ≡ longest_chain (network s) s.trace
+pub longest_are : (s : NetState) (k : Kept) (n : ℕ) → AreChains s k → n ≡ most_below (length k.numbers) (seen k).node →
+    n ≡ longest_chain (network s) s.trace
 longest_are s k n are value =
     let count : length k.numbers ≡ suc s.graph.nodes = are.fits.numbers ∙ add-one s.graph.nodes in
     value ∙ ap₂ (λ (m : ℕ) (c : Chains). most_below m c.node) count are.same

@@ -33,8 +33,8 @@ three = record { nodes = 3; keys = record { weight = 5; a = 1; b = 2 } ∷ recor
 crossing : List Event
 crossing = Wake 1 ∷ Wake 2 ∷ Take 1 0 ∷ Take 2 0 ∷ Take 2 0 ∷ Wake 3 ∷ []
 
--- Node 2 takes the Connect and answers by an Initiate; node 3 puts the Test back, in the same queue. The Initiate comes before the Test or behind it, by which
--- of them happens first, so that the next to take from there hears of another message: such neighbours may not be swapped.
+-- Node 2 takes the Connect and answers by an Initiate; node 3 puts the Test back, in the same queue. The Initiate comes before the Test or behind
+-- it, by which of them happens first, so that the next to take from there hears of another message: such neighbours may not be swapped.
 before : longest_chain (network_of three) (crossing ++ Take 2 1 ∷ Take 3 0 ∷ Take 3 0 ∷ []) ≡ 3
 unfolding chains_of three crossing ports_of
 before = refl

@@ -60,7 +60,8 @@ port_or_not g a b = go (is_port g a b) refl
 -- an event takes at a place or it doesn't
 pub takes_or_not : (e : Event) (a b : ℕ) → (e ≡ Take a b) ⊎ (e ≡ Take a b → ⊥)
 takes_or_not (Wake v) a b = inr (λ h. cc)
-takes_or_not (Take v p) a b = ⊎_elim (λ (h : (a ≡ v) × (b ≡ p)). inl (ap₂ Take (sym h.0) (sym h.1))) (λ ne. inr (λ h. ne (cc, cc))) (one_place v p a b)
+takes_or_not (Take v p) a b =
+    ⊎_elim (λ (h : (a ≡ v) × (b ≡ p)). inl (ap₂ Take (sym h.0) (sym h.1))) (λ ne. inr (λ h. ne (cc, cc))) (one_place v p a b)
 
 module _ {A : Type 0} where
   pub takes_hit : (e : Event) (f : Fate) (q : ℕ → ℕ → List A) (a b : ℕ) → e ≡ Take a b → taking e f q a b ≡ turned f (q a b)
@@ -118,7 +119,8 @@ module _ {A : Type 0} where
                 (λ (h : s.0 ≢ far_port g a b). rw (ne_eqb s.0 (far_port g a b) h) (nothing (far g a b == v))) (cases_eq s.0 (far_port g a b)))
                 (λ (e : far g a b ≢ v). rw (ne_eqb (far g a b) v e) refl) (cases_eq (far g a b) v)
 
-    pub fills_at : (v : ℕ) (ss : List (ℕ × A)) (q : ℕ → ℕ → List A) (a b : ℕ) → OnPorts g v ss → At g a b → fills g v ss q a b ≡ q a b ++ comes g v ss a b
+    pub fills_at : (v : ℕ) (ss : List (ℕ × A)) (q : ℕ → ℕ → List A) (a b : ℕ) → OnPorts g v ss → At g a b →
+        fills g v ss q a b ≡ q a b ++ comes g v ss a b
     fills_at v [] q a b on here = sym (ap (λ (l : List A). q a b ++ l) (nothing (far g a b == v)) ∙ append-nil (q a b))
     fills_at v (s ∷ ss) q a b on here =
         fills_at v ss _ a b (all_rest (λ (t : ℕ × A). At g v t.0) s ss on) here
@@ -160,8 +162,8 @@ StaysClear g e d f rs = (a b : ℕ) → e ≡ Take a b → d ≡ Requeued → co
 
 module _ {A : Type 0} (g : Network) (wired : IsWired g) (q : ℕ → ℕ → List A) where
   -- where the first of two events takes
-  taken_there : (e f : Event) (d h : Fate) (ss rs : List (ℕ × A)) → event_node e ≢ event_node f → IsFit g q e ss → IsFit g q f rs → StaysClear g e d f rs →
-      (a b : ℕ) → e ≡ Take a b → acts g f h rs (acts g e d ss q) a b ≡ acts g e d ss (acts g f h rs q) a b
+  taken_there : (e f : Event) (d h : Fate) (ss rs : List (ℕ × A)) → event_node e ≢ event_node f → IsFit g q e ss → IsFit g q f rs →
+      StaysClear g e d f rs → (a b : ℕ) → e ≡ Take a b → acts g f h rs (acts g e d ss q) a b ≡ acts g e d ss (acts g f h rs q) a b
   taken_there e f d h ss rs ne fe ff clear a b is =
       let here : At g a b = fe.at a b is in
       let node : event_node e ≡ a = ap event_node is in
@@ -170,7 +172,8 @@ module _ {A : Type 0} (g : Network) (wired : IsWired g) (q : ℕ → ℕ → Lis
       let cf : List A = comes g (event_node f) rs a b in
       let none : ce ≡ [] = ap (λ v. comes g v ss a b) node ∙ none_back g wired a ss b here in
       let first : acts g e d ss q a b ≡ turned d (q a b) =
-      fills_at g wired (event_node e) ss (taking e d q) a b fe.on here ∙ ap₂ (λ (x y : List A). x ++ y) (takes_hit e d q a b is) none ∙ append-nil _ in
+      fills_at g wired (event_node e) ss (taking e d q) a b fe.on here ∙ ap₂ (λ (x y : List A). x ++ y) (takes_hit e d q a b is) none
+      ∙ append-nil _ in
       let left : acts g f h rs (acts g e d ss q) a b ≡ turned d (q a b) ++ cf =
       fills_at g wired (event_node f) rs _ a b ff.on here ∙ ap (λ (x : List A). x ++ cf) (takes_miss f h _ a b miss ∙ first) in
       let other : acts g f h rs q a b ≡ q a b ++ cf =
@@ -200,8 +203,10 @@ module _ {A : Type 0} (g : Network) (wired : IsWired g) (q : ℕ → ℕ → Lis
   nowhere e f d h ss rs fe ff a b off =
       let no_e : e ≡ Take a b → ⊥ = λ k. off (fe.at a b k) in
       let no_f : f ≡ Take a b → ⊥ = λ k. off (ff.at a b k) in
-      fills_off g wired (event_node f) rs _ a b ff.on off ∙ takes_miss f h _ a b no_f ∙ fills_off g wired (event_node e) ss _ a b fe.on off ∙ takes_miss e d q a b no_e
-      ∙ sym (fills_off g wired (event_node e) ss _ a b fe.on off ∙ takes_miss e d _ a b no_e ∙ fills_off g wired (event_node f) rs _ a b ff.on off ∙ takes_miss f h q a b no_f)
+      fills_off g wired (event_node f) rs _ a b ff.on off ∙ takes_miss f h _ a b no_f ∙ fills_off g wired (event_node e) ss _ a b fe.on off
+      ∙ takes_miss e d q a b no_e
+      ∙ sym (fills_off g wired (event_node e) ss _ a b fe.on off ∙ takes_miss e d _ a b no_e ∙ fills_off g wired (event_node f) rs _ a b ff.on off
+      ∙ takes_miss f h q a b no_f)
 
   -- the queues are the same in either order
   pub acts_swap : (e f : Event) (d h : Fate) (ss rs : List (ℕ × A)) → event_node e ≢ event_node f → IsFit g q e ss → IsFit g q f rs →
@@ -218,5 +223,7 @@ module _ {A : Type 0} (g : Network) (wired : IsWired g) (q : ℕ → ℕ → Lis
   pub first_stays : (e f : Event) (h : Fate) (rs : List (ℕ × A)) → event_node e ≢ event_node f → IsFit g q f rs →
       (a b : ℕ) → At g a b → e ≡ Take a b → (c : List A) × (acts g f h rs q a b ≡ q a b ++ c)
   first_stays e f h rs ne ff a b here is =
-      let miss : f ≡ Take a b → ⊥ = λ k. ne (ap event_node is ∙ sym (ap event_node k)) in
-      (comes g (event_node f) rs a b, fills_at g wired (event_node f) rs _ a b ff.on here ∙ ap (λ (x : List A). x ++ comes g (event_node f) rs a b) (takes_miss f h q a b miss))
+      let miss : f ≡ Take a b → ⊥ = λ k. ne (ap event_node is ∙ sym (ap event_node k)) in (
+        comes g (event_node f) rs a b,
+        fills_at g wired (event_node f) rs _ a b ff.on here ∙ ap (λ (x : List A). x ++ comes g (event_node f) rs a b) (takes_miss f h q a b miss),
+      )

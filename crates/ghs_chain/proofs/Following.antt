@@ -36,15 +36,17 @@ chains_more g [] e w x y c h k =
 chains_more g (f ∷ es) e w x y c h k = go (λ z l. chains_more g es e z x y (chains_then g w f c) l k) (happens g w f) h
   where
     go :
-        ((z : Net) → run g es z ≡ Some x → chains_after g (es ++ e ∷ []) z (chains_then g w f c) ≡ chains_then g x e (chains_after g es z (chains_then g w f c))) →
+        ((z : Net) → run g es z ≡ Some x →
+        chains_after g (es ++ e ∷ []) z (chains_then g w f c) ≡ chains_then g x e (chains_after g es z (chains_then g w f c))) →
         (o : Option Net) → and_then o (λ z. run g es z) ≡ Some x →
-        if_then o (λ z. chains_after g (es ++ e ∷ []) z (chains_then g w f c)) c ≡ chains_then g x e (if_then o (λ z. chains_after g es z (chains_then g w f c)) c)
+        if_then o (λ z. chains_after g (es ++ e ∷ []) z (chains_then g w f c)) c ≡
+        chains_then g x e (if_then o (λ z. chains_after g es z (chains_then g w f c)) c)
     go rest None l = cc
     go rest (Some z) l = rest z l
 
 -- the chains of a run with an event more
-pub chains_of_more : (s : NetState) (e : Event) (d : Delta) (y : Net) → IsRun (network s) s.trace → happens (network s) (net_of s) e ≡ Some y → IsAnswer s e d →
-    chains_of (network s) (s.trace ++ e ∷ []) ≡ reacted (network s) (net_of s) e d (chains_of (network s) s.trace)
+pub chains_of_more : (s : NetState) (e : Event) (d : Delta) (y : Net) → IsRun (network s) s.trace → happens (network s) (net_of s) e ≡ Some y →
+    IsAnswer s e d → chains_of (network s) (s.trace ++ e ∷ []) ≡ reacted (network s) (net_of s) e d (chains_of (network s) s.trace)
 unfolding chains_of
 chains_of_more s e d y r h a =
     let g = network s in
@@ -63,7 +65,8 @@ pub follows : (s s' : NetState) (e : Event) (d : Delta) (k k1 k' : Kept) → Are
 follows s s' e d k k1 k' are graph trace r h a p1 heard p2 out = record {
   fits = let P : Shape → Type 0 = λ (g : Shape). Fits g k' in subst P (sym graph) (fits_kept s.graph k k' (same_then k k1 k' p1 p2) are.fits);
   same =
-      out ∙ ap (sent (network s) (event_node e) d.sends) (heard ∙ ap (hears e (is_sleeping ((net_of s).node (event_node e)).head.phase) d.fate) are.same)
+      out ∙ ap (sent (network s) (event_node e) d.sends)
+      (heard ∙ ap (hears e (is_sleeping ((net_of s).node (event_node e)).head.phase) d.fate) are.same)
       ∙ sym (chains_of_more s e d (net_of s') r h a)
       ∙ ap (λ (es : List Event). chains_of (network s) es) (sym trace) ∙ ap (λ (g : Shape). chains_of (network_of g) s'.trace) (sym graph);
 }
@@ -98,7 +101,8 @@ unfolding seen
 small_number s k k1 e asleep f v are heard few =
     let n = length s.trace in
     let within : IsWithin n n (seen k1) =
-    subst (λ (c : Chains). IsWithin n n c) (sym (heard ∙ ap (hears e asleep f) are.same)) (hears_within e n asleep f _ (run_within (network s) s.trace)) in
+    subst (λ (c : Chains). IsWithin n n c) (sym (heard ∙ ap (hears e asleep f) are.same))
+    (hears_within e n asleep f _ (run_within (network s) s.trace)) in
     let at : slice_index k1.numbers v ≤ n = within.node v in
     omega (arith, at, few)
 
@@ -107,7 +111,8 @@ pub lawful_at : (g : Shape) (es : List Event) (i : ℕ) (d : Event) (s : NetStat
     IsRun (network_of g) es → IsLawful s (slice_index_or es i d)
 lawful_at g es i d s graph trace lt (w, r) =
     let e = slice_index_or es i d in
-    let parts : es ≡ take i es ++ (e ∷ drop (suc i) es) = sym (take-append-drop i es) ∙ ap (λ (l : List Event). take i es ++ l) (drop-cons es i d lt) in
+    let parts : es ≡ take i es ++ (e ∷ drop (suc i) es) =
+    sym (take-append-drop i es) ∙ ap (λ (l : List Event). take i es ++ l) (drop-cons es i d lt) in
     let both : run (network_of g) (take i es ++ (e ∷ drop (suc i) es)) (opening (network_of g)) ≡ Some w =
     subst (λ (l : List Event). run (network_of g) l (opening (network_of g)) ≡ Some w) parts r in
     run_splits (network_of g) (take i es) (e ∷ drop (suc i) es) (opening (network_of g)) w both
@@ -126,8 +131,8 @@ none_are s k g graph trace f same = record {
 }
 
 -- after all events the greatest number is that of the run
-pub longest_is : (s : NetState) (k : Kept) (g : Shape) (es : List Event) (i n : ℕ) → AreChains s k → s.graph ≡ g → s.trace ≡ take i es → length es ≤ i →
-    n ≡ most_below (length k.numbers) (seen k).node → n ≡ longest_chain (network_of g) es
+pub longest_is : (s : NetState) (k : Kept) (g : Shape) (es : List Event) (i n : ℕ) → AreChains s k → s.graph ≡ g → s.trace ≡ take i es →
+    length es ≤ i → n ≡ most_below (length k.numbers) (seen k).node → n ≡ longest_chain (network_of g) es
 longest_is s k g es i n are graph trace all value =
     let events : s.trace ≡ es = trace ∙ take_all i es all in
     let nodes : length k.numbers ≡ suc g.nodes = are.fits.numbers ∙ add-one s.graph.nodes ∙ ap (λ (h : Shape). suc h.nodes) graph in

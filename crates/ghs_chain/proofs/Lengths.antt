@@ -36,15 +36,17 @@ sends : (g : Network) (v : ℕ) (ss : Outgoing) (w : Net) (c : Chains) → SameL
 sends g v [] w c same = same
 sends g v (s ∷ ss) w c same = sends g v ss (send g v w s) (sent_on g v s.0 c) (record {
   queue = same_put c.queue w.queue (far g v s.0) (far_port g v s.0) _ _ same.queue
-      (one_more (c.queue (far g v s.0) (far_port g v s.0)) (w.queue (far g v s.0) (far_port g v s.0)) (suc (c.node v)) s.1 (same.queue (far g v s.0) (far_port g v s.0)));
+      (one_more (c.queue (far g v s.0) (far_port g v s.0)) (w.queue (far g v s.0) (far_port g v s.0)) (suc (c.node v)) s.1
+      (same.queue (far g v s.0) (far_port g v s.0)));
 })
 
-behind_same : (f : Fate) (t : ℕ) (ts : List ℕ) (m : Message) (ms : List Message) → length ts ≡ length ms → length (behind f t ts) ≡ length (left_of f m ms)
+behind_same : (f : Fate) (t : ℕ) (ts : List ℕ) (m : Message) (ms : List Message) → length ts ≡ length ms →
+    length (behind f t ts) ≡ length (left_of f m ms)
 behind_same Consumed t ts m ms e = e
 behind_same Requeued t ts m ms e = one_more ts ms t m e
 
-takes : (v p : ℕ) (asleep : Bool) (f : Fate) (ts : List ℕ) (m : Message) (ms : List Message) (w : Net) (c : Chains) → length ts ≡ length (m ∷ ms) → SameLengths w c →
-    SameLengths (take_first f v p m ms w) (taken v p asleep f ts c)
+takes : (v p : ℕ) (asleep : Bool) (f : Fate) (ts : List ℕ) (m : Message) (ms : List Message) (w : Net) (c : Chains) → length ts ≡ length (m ∷ ms) →
+    SameLengths w c → SameLengths (take_first f v p m ms w) (taken v p asleep f ts c)
 takes v p asleep f [] m ms w c many same = absurd (let z : 0 ≡ suc (length ms) = many in omega (arith, z))
 takes v p asleep f (t ∷ ts) m ms w c many same = record {
   queue = same_put c.queue w.queue v p (behind f t ts) (left_of f m ms) same.queue

@@ -144,4 +144,5 @@ none_seen k numbers lines =
 pub zeros : (n v : ℕ) (numbers : List ℕ) → numbers ≡ replicate n 0 → slice_index numbers v ≡ 0
 zeros n v numbers is =
     rw is (⊎_elim (λ (lt : v < n). get_or-replicate n v 0 0 lt)
-    (λ (le : n ≤ v). get_or_past (replicate n 0) v 0 (let a : length {A = ℕ} (replicate n 0) ≡ n = length-replicate n 0 in omega arith)) (cases_lt v n))
+    (λ (le : n ≤ v). get_or_past (replicate n 0) v 0 (let a : length {A = ℕ} (replicate n 0) ≡ n = length-replicate n 0 in omega arith))
+    (cases_lt v n))

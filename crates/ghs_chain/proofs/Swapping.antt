@@ -144,7 +144,8 @@ module _ (g : Network) (e : Event) (d : Delta) (w : Net) where
 
   made_queue : IsThere w.queue e → (made g e d w).queue ≡ acts g e d.fate d.sends w.queue
   made_queue there =
-      queues_fill g (event_node e) d.sends (change (event_node e) d (dispose e d.fate w)) ∙ ap (fills g (event_node e) d.sends) (dispose_queue w d.fate e there)
+      queues_fill g (event_node e) d.sends (change (event_node e) d (dispose e d.fate w))
+      ∙ ap (fills g (event_node e) d.sends) (dispose_queue w d.fate e there)
 
   made_sent : (k : ℕ) → (made g e d w).sent k ≡ w.sent k + of_kind k (messages d.sends)
   made_sent k =
@@ -159,7 +160,8 @@ module _ (g : Network) (e : Event) (d : Delta) (w : Net) where
   made_requeued = requeued_sent g (event_node e) d.sends (change (event_node e) d (dispose e d.fate w)) ∙ dispose_requeued w d.fate e
 
 -- an event that may happen and has a rule happens
-pub happens_made : (g : Network) (w : Net) (e : Event) (d : Delta) → is_lawful g w e ≡ true → answer w e ≡ Some d → happens g w e ≡ Some (made g e d w)
+pub happens_made : (g : Network) (w : Net) (e : Event) (d : Delta) → is_lawful g w e ≡ true → answer w e ≡ Some d →
+    happens g w e ≡ Some (made g e d w)
 happens_made g w (Wake v) d l r = lawful_happens g w (Wake v) l ∙ ap (after_wake g w v) r
 happens_made g w (Take v p) d l r = lawful_happens g w (Take v p) l ∙ go (w.queue v p) (and_parts _ _ l).1 r
   where
@@ -211,7 +213,11 @@ pub on_ports : (g : Network) → IsWired g → (w : Net) → IsWellFormed g w �
 on_ports g wired w formed (Wake v) d l r x y lt =
     let n = node_of g v (and_parts _ _ l).0 in
     let row : Row (w.node v) To_wake d = reaction_inverts (w.node v) To_wake d tt r in
-    record { some = n.0; node = n.1; port = let a = row_ported (w.node v) To_wake d (formed.nodes v).node row x y lt in let b = ports_many (formed.nodes v) in omega (arith, a, b) }
+    record {
+      some = n.0;
+      node = n.1;
+      port = let a = row_ported (w.node v) To_wake d (formed.nodes v).node row x y lt in let b = ports_many (formed.nodes v) in omega (arith, a, b);
+    }
 on_ports g wired w formed (Take v p) d l r x y lt = go (w.queue v p) (and_parts _ _ l).1 r
   where
     at : At g v p
@@ -224,7 +230,8 @@ on_ports g wired w formed (Take v p) d l r x y lt = go (w.queue v p) (and_parts 
         record {
           some = at.some;
           node = at.node;
-          port = let a = row_ported (w.node v) (Deliver p m) d (formed.nodes v).node row x y lt in let b = ports_many (formed.nodes v) in omega (arith, a, b);
+          port = let a = row_ported (w.node v) (Deliver p m) d (formed.nodes v).node row x y lt in let b = ports_many (formed.nodes v) in
+              omega (arith, a, b);
         }
 
 -- What an event of another node leaves of an event: its node, and what is first in the queue from which it takes.
@@ -265,7 +272,8 @@ module _ (g : Network) (wired : IsWired g) (w : Net) (f : Event) (h : Delta) (ff
       ap (λ (b : Bool). is_port g v p && b) (beside_read g wired w (Take v p) f h ne ff le is_waiting (λ m ms c. refl) v p refl) ∙ le
 
   -- and it consumes or puts back the same
-  beside_eats : (e : Event) (x : Fate) (k : ℕ) → event_node e ≢ event_node f → is_lawful g w e ≡ true → eats e x (made g f h w).queue k ≡ eats e x w.queue k
+  beside_eats : (e : Event) (x : Fate) (k : ℕ) → event_node e ≢ event_node f → is_lawful g w e ≡ true →
+      eats e x (made g f h w).queue k ≡ eats e x w.queue k
   beside_eats (Wake v) x k ne le = refl
   beside_eats (Take v p) x k ne le = beside_read g wired w (Take v p) f h ne ff le (λ q. eaten x q k) (λ m ms c. refl) v p refl
 
@@ -531,7 +539,8 @@ clear_of g w e f d h ae af none a b is back =
     empty none_sent (m ∷ l) k = absurd (none_sent (λ z. let y = sym k ∙ z in cc))
 
 -- two events, and then others
-run_two : (g : Network) (w x y : Net) (e f : Event) (rest : List Event) → happens g w e ≡ Some x → happens g x f ≡ Some y → run g (e ∷ f ∷ rest) w ≡ run g rest y
+run_two : (g : Network) (w x y : Net) (e f : Event) (rest : List Event) → happens g w e ≡ Some x → happens g x f ≡ Some y →
+    run g (e ∷ f ∷ rest) w ≡ run g rest y
 run_two g w x y e f rest he hf =
     ap (λ (o : Option Net). and_then o (λ z. run g (f ∷ rest) z)) he ∙ ap (λ (o : Option Net). and_then o (λ z. run g rest z)) hf
 
@@ -542,14 +551,17 @@ chains_two g w x y e f rest c he hf =
     ∙ ap (λ (o : Option Net). if_then o (λ z. chains_after g rest z (chains_then g x f (chains_then g w e c))) (chains_then g w e c)) hf
 
 -- chains go on from where a run has led
-chains_join : (g : Network) (es l : List Event) (w x : Net) (c : Chains) → run g es w ≡ Some x → chains_after g (es ++ l) w c ≡ chains_after g l x (chains_after g es w c)
+chains_join : (g : Network) (es l : List Event) (w x : Net) (c : Chains) → run g es w ≡ Some x →
+    chains_after g (es ++ l) w c ≡ chains_after g l x (chains_after g es w c)
 chains_join g [] l w x c h = ap (λ (z : Net). chains_after g l z c) (same_Some w x h)
 chains_join g (e ∷ es) l w x c h = go (λ y k. chains_join g es l y x (chains_then g w e c) k) (happens g w e) h
   where
     go :
-        ((y : Net) → run g es y ≡ Some x → chains_after g (es ++ l) y (chains_then g w e c) ≡ chains_after g l x (chains_after g es y (chains_then g w e c))) →
+        ((y : Net) → run g es y ≡ Some x →
+        chains_after g (es ++ l) y (chains_then g w e c) ≡ chains_after g l x (chains_after g es y (chains_then g w e c))) →
         (o : Option Net) → and_then o (λ y. run g es y) ≡ Some x →
-        if_then o (λ y. chains_after g (es ++ l) y (chains_then g w e c)) c ≡ chains_after g l x (if_then o (λ y. chains_after g es y (chains_then g w e c)) c)
+        if_then o (λ y. chains_after g (es ++ l) y (chains_then g w e c)) c ≡
+        chains_after g l x (if_then o (λ y. chains_after g es y (chains_then g w e c)) c)
     go rest None k = cc
     go rest (Some y) k = rest y k
 
@@ -591,13 +603,15 @@ module _ (g : Network) (wired : IsWired g) (w : Net) (c : Chains) (same : SameLe
   e_first = happens_made g w e d a.one ae
 
   f_then : happens g (made g e d w) f ≡ Some (made g f h (made g e d w))
-  f_then = happens_made g (made g e d w) f h (beside_lawful g wired w e d both_e f other a.other) (beside_answer g wired w e d both_e f other a.other ∙ af)
+  f_then = happens_made g (made g e d w) f h (beside_lawful g wired w e d both_e f other a.other)
+      (beside_answer g wired w e d both_e f other a.other ∙ af)
 
   f_first : happens g w f ≡ Some (made g f h w)
   f_first = happens_made g w f h a.other af
 
   e_then : happens g (made g f h w) e ≡ Some (made g e d (made g f h w))
-  e_then = happens_made g (made g f h w) e d (beside_lawful g wired w f h both_f e a.nodes a.one) (beside_answer g wired w f h both_f e a.nodes a.one ∙ ae)
+  e_then = happens_made g (made g f h w) e d (beside_lawful g wired w f h both_f e a.nodes a.one)
+      (beside_answer g wired w f h both_f e a.nodes a.one ∙ ae)
 
   one_net : made g f h (made g e d w) ≡ made g e d (made g f h w)
   one_net = nets_swap g wired w e f d h a.nodes a.one a.other ae af both_e both_f clear_e clear_f
@@ -605,12 +619,14 @@ module _ (g : Network) (wired : IsWired g) (w : Net) (c : Chains) (same : SameLe
   one_chain : chains_then g (made g e d w) f (chains_then g w e c) ≡ chains_then g (made g f h w) e (chains_then g w f c)
   one_chain =
       let sleeps = λ (v : ℕ). is_sleeping (w.node v).head.phase in
-      then_beside g w (made g e d w) f h _ (beside_answer g wired w e d both_e f other a.other ∙ af) (beside_node g wired w f e d other both_e a.other)
+      then_beside g w (made g e d w) f h _ (beside_answer g wired w e d both_e f other a.other ∙ af)
+      (beside_node g wired w f e d other both_e a.other)
       ∙ ap (told g (sleeps (event_node f)) f h) (then_told g w e d c ae)
       ∙ told_swap g wired c e f (sleeps (event_node e)) (sleeps (event_node f)) d h a.nodes numbers_e numbers_f
       (λ n x y is back. stamped_none g (event_node f) n h.sends x y (clear_e x y is back))
       (λ n x y is back. stamped_none g (event_node e) n d.sends x y (clear_f x y is back))
-      ∙ sym (then_beside g w (made g f h w) e d _ (beside_answer g wired w f h both_f e a.nodes a.one ∙ ae) (beside_node g wired w e f h a.nodes both_f a.one)
+      ∙ sym (then_beside g w (made g f h w) e d _ (beside_answer g wired w f h both_f e a.nodes a.one ∙ ae)
+      (beside_node g wired w e f h a.nodes both_f a.one)
       ∙ ap (told g (sleeps (event_node e)) e d) (then_told g w f h c af))
 
   pub two_run : (w' : Net) × (run g (e ∷ f ∷ []) w ≡ Some w')

@@ -30,8 +30,8 @@ pub record SendsTo (g : Network) (w : Net) (e : Event) (v p : ℕ) : Type 0 wher
   pub answer : answer w e ≡ Some delta
   pub some : arriving g (event_node e) delta.sends v p ≢ []
 
--- They have nothing to do with each other: they are of two nodes, each may happen first, and neither puts a message back to the end of a queue to whose end
--- the other one sends.
+-- They have nothing to do with each other: they are of two nodes, each may happen first, and neither puts a message back to the end of a queue to
+-- whose end the other one sends.
 pub record AreApart (g : Network) (w : Net) (e f : Event) : Type 0 where
   pub nodes : event_node e ≢ event_node f
   pub one : is_lawful g w e ≡ true

@@ -33,7 +33,7 @@ pub fn longest_chain(alloc: Global, graph: &Graph, events: &[Event]) -> Result<u
     Ok(chains.longest())
 }
 
-// An event happens in a net, and the chains follow it. Refusal: want of memory; both are then of no use.
+/// An event happens in a net, and the chains follow it. Refusal: want of memory; both are then of no use.
 fn follow(alloc: Global, net: &mut Net, chains: &mut Chains, event: Event) -> Result<(), AllocError>
     requires lawful { IsLawful net.old event }
     requires few { length net.old.trace < 2 ^ 40 }
@@ -50,7 +50,7 @@ fn follow(alloc: Global, net: &mut Net, chains: &mut Chains, event: Event) -> Re
     react_to(alloc, net, chains, event)
 }
 
-// The Take of a message that its node only puts back happens.
+/// The Take of a message that its node only puts back happens.
 fn put_back(net: &mut Net, chains: &mut Chains, v: u32, port: u32) -> Result<(), AllocError>
     requires lawful { IsLawful net.old (Event.Take v port) }
     requires back { IsPutBack net.old v port }
@@ -65,7 +65,7 @@ fn put_back(net: &mut Net, chains: &mut Chains, v: u32, port: u32) -> Result<(),
     Ok(())
 }
 
-// An event happens to which its node reacts.
+/// An event happens to which its node reacts.
 fn react_to(
     alloc: Global,
     net: &mut Net,

@@ -68,7 +68,7 @@ impl Chains {
         }
     }
 
-    // A node, asleep or not, takes the first message of a port.
+    /// A node, asleep or not, takes the first message of a port.
     fn take(&mut self, v: u32, port: u32, asleep: bool, fate: Fate) -> Result<(), AllocError>
         requires { HasPlace self.old v port }
         ensures places { OnOk result (SamePlaces self.old self.new) }
@@ -106,7 +106,7 @@ impl Chains {
         Ok(())
     }
 
-    // A message with a number more waits at a port.
+    /// A message with a number more waits at a port.
     fn push(&mut self, v: u32, port: u32, number: u64) -> Result<(), AllocError>
         requires { HasPlace self.old v port }
         ensures places { OnOk result (SamePlaces self.old self.new) }
@@ -129,8 +129,8 @@ impl Chains {
     }
 }
 
-// The number of a node, asleep or not, that has taken a message with a number. It has heard of the message once it has
-// consumed it, or was woken by it.
+/// The number of a node, asleep or not, that has taken a message with a number. It has heard of the message once it has
+/// consumed it, or was woken by it.
 fn heard(fate: Fate, asleep: bool, number: u64, of_message: u64) -> u64
     ensures { result ≡ heard fate asleep number of_message }
 {

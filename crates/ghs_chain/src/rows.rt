@@ -78,7 +78,7 @@ impl Rows {
     }
 }
 
-// Where the lines of each node begin, and where those of the last one end.
+/// Where the lines of each node begin, and where those of the last one end.
 fn lay_bases(alloc: Global, graph: &Graph) -> Result<Vec<u32>, AllocError>
     ensures { IfOk result (λ bs. AreBases graph.now graph.now.nodes bs.items) }
 {
@@ -94,7 +94,7 @@ fn lay_bases(alloc: Global, graph: &Graph) -> Result<Vec<u32>, AllocError>
     Ok(bases)
 }
 
-// So many lines without a number.
+/// So many lines without a number.
 fn empty_lines(alloc: Global, count: usize) -> Result<Vec<Line>, AllocError>
     ensures count { IfOk result (λ ls. length ls.items ≡ count) }
     ensures empty { IfOk result (λ ls. (i : ℕ) → slice_index_or ls.items i [] ≡ []) }
@@ -106,7 +106,7 @@ fn empty_lines(alloc: Global, count: usize) -> Result<Vec<Line>, AllocError>
     Ok(lines)
 }
 
-// Where the line of a port stands. O(1).
+/// Where the line of a port stands. O(1).
 fn place_of(bases: &[u32], v: u32, port: u32) -> usize
     requires { v < length bases.now }
     ensures { result ≡ slice_index bases.now v + port }

@@ -19,14 +19,14 @@ pub fn put_chart_head(text: &mut Vec<u8>, panels: u64) -> Result<(), AllocError>
     text.extend_from_slice(LEGEND)
 }
 
-// How high a chart of so many panels is.
+/// How high a chart of so many panels is.
 fn height_of(panels: u64) -> u128
     ensures { result ≡ height_of panels }
 {
     u128::from(panels) * 200 + 50
 }
 
-// The opening tag of a picture of this height.
+/// The opening tag of a picture of this height.
 #[tactic(auto, unfolding(crate::specs::Chart::opening))]
 fn put_opening(text: &mut Vec<u8>, height: u128) -> Result<(), AllocError>
     ensures { IfOk result (λ _. text.new.items ≡ text.old.items ++ opening height) }
@@ -36,7 +36,7 @@ fn put_opening(text: &mut Vec<u8>, height: u128) -> Result<(), AllocError>
     text.extend_from_slice(FONT)
 }
 
-// What all of it stands on.
+/// What all of it stands on.
 #[tactic(auto, unfolding(crate::specs::Chart::paper))]
 fn put_paper(text: &mut Vec<u8>, height: u128) -> Result<(), AllocError>
     ensures { IfOk result (λ _. text.new.items ≡ text.old.items ++ paper height) }

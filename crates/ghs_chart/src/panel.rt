@@ -44,7 +44,7 @@ pub fn put_panel(
     put_strips(text, caption.bound, sent, requeued, chains)
 }
 
-// The scale, and above it the strips.
+/// The scale, and above it the strips.
 #[tactic(auto, unfolding(crate::specs::Chart::strips))]
 fn put_strips(
     text: &mut Vec<u8>,
@@ -64,7 +64,7 @@ fn put_strips(
     put_last_strip(text, bound, chains)
 }
 
-// The last strip, and the end of the panel.
+/// The last strip, and the end of the panel.
 #[tactic(auto, unfolding(crate::specs::Chart::last_strip))]
 fn put_last_strip(text: &mut Vec<u8>, bound: u64, chains: &[u128]) -> Result<(), AllocError>
     requires { (1 ≤ length chains.now) × (length chains.now ≤ 2 ^ 32) }
@@ -74,14 +74,14 @@ fn put_last_strip(text: &mut Vec<u8>, bound: u64, chains: &[u128]) -> Result<(),
     text.extend_from_slice(GROUP_END)
 }
 
-// Where the panel at a place begins.
+/// Where the panel at a place begins.
 fn top_of(place: u64) -> u128
     ensures { result ≡ top_of place }
 {
     u128::from(place) * 200 + 44
 }
 
-// The name.
+/// The name.
 #[tactic(auto, unfolding(crate::specs::Chart::name_text))]
 fn put_name(text: &mut Vec<u8>, name: &[u8]) -> Result<(), AllocError>
     ensures { IfOk result (λ _. text.new.items ≡ text.old.items ++ name_text name.now) }
@@ -91,7 +91,7 @@ fn put_name(text: &mut Vec<u8>, name: &[u8]) -> Result<(), AllocError>
     text.extend_from_slice(TEXT_END)
 }
 
-// What is said of the network and its runs.
+/// What is said of the network and its runs.
 #[tactic(auto, unfolding(crate::specs::Chart::caption_text))]
 fn put_caption(text: &mut Vec<u8>, caption: Caption) -> Result<(), AllocError>
     ensures { IfOk result (λ _. text.new.items ≡ text.old.items ++ caption_text caption) }
@@ -102,7 +102,7 @@ fn put_caption(text: &mut Vec<u8>, caption: Caption) -> Result<(), AllocError>
     put_around(text, b"bound ", u128::from(caption.bound), TEXT_END)
 }
 
-// A text as SVG holds it.
+/// A text as SVG holds it.
 fn put_escaped(text: &mut Vec<u8>, bytes: &[u8]) -> Result<(), AllocError>
     ensures { IfOk result (λ _. text.new.items ≡ text.old.items ++ flat_map escaped bytes.now) }
 {
@@ -112,7 +112,7 @@ fn put_escaped(text: &mut Vec<u8>, bytes: &[u8]) -> Result<(), AllocError>
     Ok(())
 }
 
-// A byte of such a text; a control character, which SVG may not hold, becomes a question mark.
+/// A byte of such a text; a control character, which SVG may not hold, becomes a question mark.
 fn put_escape(text: &mut Vec<u8>, byte: u8) -> Result<(), AllocError>
     ensures { IfOk result (λ _. text.new.items ≡ text.old.items ++ escaped byte) }
 {

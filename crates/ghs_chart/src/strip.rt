@@ -30,7 +30,7 @@ pub(crate) fn put_strip(
     put_values(text, rising)
 }
 
-// The axis, and on it the bars.
+/// The axis, and on it the bars.
 #[tactic(auto, unfolding(crate::specs::Strip::axis))]
 fn put_axis(text: &mut Vec<u8>, bound: u64, rising: &[u128]) -> Result<(), AllocError>
     requires few { length rising.now ≤ 2 ^ 32 }
@@ -40,7 +40,7 @@ fn put_axis(text: &mut Vec<u8>, bound: u64, rising: &[u128]) -> Result<(), Alloc
     put_bars(text, bound, rising)
 }
 
-// The least, the median and the greatest value.
+/// The least, the median and the greatest value.
 #[tactic(auto, unfolding(crate::specs::Strip::values_text))]
 fn put_values(text: &mut Vec<u8>, rising: &[u128]) -> Result<(), AllocError>
     requires some { 1 ≤ length rising.now }
@@ -51,7 +51,7 @@ fn put_values(text: &mut Vec<u8>, rising: &[u128]) -> Result<(), AllocError>
     put_around(text, b"/ ", rising[rising.len() - 1], STRIP_END)
 }
 
-// A bar for each column into which a value falls.
+/// A bar for each column into which a value falls.
 fn put_bars(text: &mut Vec<u8>, bound: u64, values: &[u128]) -> Result<(), AllocError>
     requires few { length values.now ≤ 2 ^ 32 }
     ensures { IfOk result (λ _. text.new.items ≡ text.old.items ++ bars COLUMNS bound values.now (most_in bound values.now)) }
@@ -63,7 +63,7 @@ fn put_bars(text: &mut Vec<u8>, bound: u64, values: &[u128]) -> Result<(), Alloc
     Ok(())
 }
 
-// The bar of a column into which so many values fall, where into another the most of all do.
+/// The bar of a column into which so many values fall, where into another the most of all do.
 #[tactic(auto, unfolding(crate::specs::Strip::bar))]
 fn put_bar(text: &mut Vec<u8>, column: u32, count: u128, most: u128) -> Result<(), AllocError>
     requires column { column < COLUMNS }
@@ -79,7 +79,7 @@ fn put_bar(text: &mut Vec<u8>, column: u32, count: u128, most: u128) -> Result<(
     put_number(text, (40 * count + (most - 1)) / most)
 }
 
-// Into how many columns values fall at most together: the greatest count of a column.
+/// Into how many columns values fall at most together: the greatest count of a column.
 fn most_in(bound: u64, values: &[u128]) -> u128
     ensures most { result ≡ most_in bound values.now }
     ensures few { result ≤ length values.now }
@@ -91,7 +91,7 @@ fn most_in(bound: u64, values: &[u128]) -> u128
     most
 }
 
-// How many values fall into a column.
+/// How many values fall into a column.
 fn count_in(bound: u64, column: u32, values: &[u128]) -> u128
     ensures count { result ≡ count_in bound values.now column }
     ensures few { result ≤ length values.now }
@@ -102,7 +102,7 @@ fn count_in(bound: u64, column: u32, values: &[u128]) -> u128
         .count() as u128
 }
 
-// The column of a value; those beyond the bound fall into the last.
+/// The column of a value; those beyond the bound fall into the last.
 fn column_of(bound: u64, value: u128) -> u128
     ensures { result ≡ column_of bound value }
 {

@@ -9,7 +9,7 @@ use Rattle.ghs_sweep.specs.declared.measure.Measure.{Measure}
 use Rattle.ghs_sweep.specs.Measure.{value_of}
 use Rattle.ghs_sweep.specs.Summary.{IsRising}
 use Rattle.ghs_sweep.specs.Sweep.{AreRuns}
-use Rattle.ghs_words.specs.declared.job.SweepOptions.{SweepOptions}
+use Rattle.ghs_commands.specs.declared.job.SweepOptions.{SweepOptions}
 use Rattle.ghs_cli.specs.declared.networks.Network.{Network}
 use Rattle.ghs_cli.specs.Charts.{IsPanel, IsPanelOf}
 use Rattle.ghs_cli.specs.Networks.{ArePanels, NextPanel}
@@ -26,7 +26,8 @@ pub one_panel_more : (o : SweepOptions) (ns : List Network) (i : ℕ) (n : Netwo
 one_panel_more o ns i n name old text new is within named (panels, before, first) (panel, next, last) =
     let count : length (take i ns) ≡ i = length-take-le i ns (omega (arith, within)) in
     let here : IsPanel o (length (take i ns)) (string_bytes n.name) n.graph panel =
-    subst (λ (k : ℕ). IsPanel o k (string_bytes n.name) n.graph panel) (sym count) (subst (λ (t : List ℕ). IsPanel o i t n.graph panel) named next) in (
+    subst (λ (k : ℕ). IsPanel o k (string_bytes n.name) n.graph panel) (sym count)
+    (subst (λ (t : List ℕ). IsPanel o i t n.graph panel) named next) in (
       panels ++ panel,
       subst (λ (l : List Network). ArePanels o l (panels ++ panel)) (ap (λ (m : Network). take i ns ++ m ∷ []) is ∙ sym (take_more ns i n within))
           (NextPanel (take i ns) n panels panel before here),

@@ -3,8 +3,8 @@ use Rattle.std.proofs.Common.{◌≡◌, ◌∙◌, ℕ, true, List, [], Option,
 use Rattle.std.specs.Prelude.{IfSome, IsErrOf, Result, Ok, Err}
 use Rattle.ghs_gr.specs.Judgement.{IsOneThing, TextIs}
 use Rattle.ghs_gr.specs.RawGraph.{RawShape}
-use Rattle.ghs_picking.specs.declared.picking.Picking.{Picking}
-use Rattle.ghs_picking.specs.declared.picking.Picking.TheVariants.{Seeded, Patient, Rounds, Waits, Lifo}
+use Rattle.ghs_picking.specs.declared.picking.ScheduleKind.{ScheduleKind}
+use Rattle.ghs_picking.specs.declared.picking.ScheduleKind.TheVariants.{Seeded, Patient, Rounds, Waits, Lifo}
 use Rattle.ghs_picking.specs.Picking.{HasTurnsFor, IsPickedBy}
 use Rattle.ghs_graph.specs.Graph.{Shape}
 use Rattle.ghs_protocol.specs.declared.event.Event.{Event}
@@ -13,16 +13,16 @@ use Rattle.ghs_protocol.specs.Run.{net_after}
 use Rattle.ghs_world.specs.declared.wake_set.WakeSet.{WakeSet}
 use Rattle.ghs_cli.specs.declared.fault.ServeFault.{ServeFault}
 use Rattle.ghs_cli.specs.declared.fault.ServeFault.TheVariants as serve
-use Rattle.ghs_words.specs.declared.job.RunOptions.{RunOptions}
-use Rattle.ghs_words.specs.declared.job.StepsOptions.{StepsOptions}
-use Rattle.ghs_words.specs.declared.job.Task.{Task}
-use Rattle.ghs_words.specs.declared.job.Task.TheVariants as task
+use Rattle.ghs_commands.specs.declared.job.RunOptions.{RunOptions}
+use Rattle.ghs_commands.specs.declared.job.StepsOptions.{StepsOptions}
+use Rattle.ghs_commands.specs.declared.job.Task.{Task}
+use Rattle.ghs_commands.specs.declared.job.Task.TheVariants as task
 use Rattle.ghs_cli.specs.Ending.{IsBounded, IsBoundedTask}
 use Rattle.ghs_cli.specs.Serving.{IfStored, IsCause, IsGraphCause, IsOutput, IsRunningCause, StopsRun, shape_of}
 use Rattle.ghs_cli.proofs.Serves.{if_stored, if_some, limit_cause, printed_at_limit}
 
 -- a run by a bounded schedule, with turns for its events, has ended
-ended_by : (p : Picking) (seed : ℕ) (wake : WakeSet) (turns : ℕ) (g : Shape) (es : List Event) → IsBounded p →
+ended_by : (p : ScheduleKind) (seed : ℕ) (wake : WakeSet) (turns : ℕ) (g : Shape) (es : List Event) → IsBounded p →
     IsPickedBy p seed wake turns g es → HasTurnsFor g turns → HasEnded g (net_after g es)
 ended_by Seeded seed wake turns g es bounded run enough = absurd bounded
 ended_by Patient seed wake turns g es bounded run enough = run.ends enough
@@ -38,11 +38,12 @@ run_goes_on o input one cause is =
     let same : o ≡ is.options = let run = is.run in cc in
     let graph : is.graph ≡ stops.0 = let both : Ok is.graph ≡ Ok stops.0 = one.one (Ok is.graph) (Ok stops.0) is.text stops.1 in cc in
     let turns : HasTurnsFor (shape_of stops.0) o.turns =
-    subst (λ (g : RawShape). HasTurnsFor (shape_of g) o.turns) graph (subst (λ (p : RunOptions). HasTurnsFor (shape_of is.graph) p.turns) (sym same) is.turns) in
+    subst (λ (g : RawShape). HasTurnsFor (shape_of g) o.turns) graph
+    (subst (λ (p : RunOptions). HasTurnsFor (shape_of is.graph) p.turns) (sym same) is.turns) in
     let alone : o.workers ≡ 0 = subst (λ (p : RunOptions). p.workers ≡ 0) (sym same) is.alone in
-    let bounded : IsBounded o.picking = subst (λ (p : RunOptions). IsBounded p.picking) (sym same) is.bounded in
+    let bounded : IsBounded o.schedule_kind = subst (λ (p : RunOptions). IsBounded p.schedule_kind) (sym same) is.bounded in
     let stopped = stops.2.1 in
-    stopped.goes_on (ended_by o.picking o.seed o.wake o.turns (shape_of stops.0) stops.2.0 bounded (stopped.by.picked alone) turns))
+    stopped.goes_on (ended_by o.schedule_kind o.seed o.wake o.turns (shape_of stops.0) stops.2.0 bounded (stopped.by.picked alone) turns))
     cause
 
 -- a task that stops at its turns is no bounded one
@@ -94,7 +95,8 @@ pub ends_by : (job : Task) (stored input : Option (List ℕ)) (r : Result (Unit 
 ends_by job stored None r fault one is cause = tt
 ends_by job stored (Some i) r fault one is cause = λ bounded limit.
     let same : fault ≡ serve.TurnLimit = let both : Err fault ≡ Err serve.TurnLimit = sym is ∙ limit in cc in
-    never_stops job stored (Some i) one (subst (λ (f : ServeFault). IfStored job stored (λ s. IfSome (Some i) (λ k. IsCause job s k f))) same cause) bounded
+    never_stops job stored (Some i) one
+    (subst (λ (f : ServeFault). IfStored job stored (λ s. IfSome (Some i) (λ k. IsCause job s k f))) same cause) bounded
 
 -- nor one behind output,
 pub ends_behind : (job : Task) (stored input : Option (List ℕ)) (output : List ℕ) (r : Result (Unit {0}) ServeFault) →
@@ -102,7 +104,8 @@ pub ends_behind : (job : Task) (stored input : Option (List ℕ)) (output : List
     IfStored job stored (λ s. IfSome input (λ i. IsOutput job true s i output)) →
     IfSome input (λ i. IsBoundedTask job i → IsErrOf r serve.TurnLimit → ⊥)
 ends_behind job stored input output r one out =
-    if_some input (λ i. IsBoundedTask job i → ⊥) (λ i. IsBoundedTask job i → IsErrOf r serve.TurnLimit → ⊥) (λ i never is limit. never is) (never_at_limit job stored input output one out)
+    if_some input (λ i. IsBoundedTask job i → ⊥) (λ i. IsBoundedTask job i → IsErrOf r serve.TurnLimit → ⊥)
+    (λ i never is limit. never is) (never_at_limit job stored input output one out)
 
 -- nor any other
 pub ends_else : (job : Task) (input : Option (List ℕ)) (r : Result (Unit {0}) ServeFault) →

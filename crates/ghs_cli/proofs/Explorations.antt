@@ -13,7 +13,7 @@ use Rattle.ghs_graph.specs.Graph.{IsGraph, Shape}
 use Rattle.ghs_protocol.specs.declared.event.Event.{Event}
 use Rattle.ghs_sched.specs.Text.{trace_text}
 use Rattle.ghs_world.specs.declared.wake_set.WakeSet.{WakeSet}
-use Rattle.ghs_words.specs.declared.exploring.ExploreOptions.{ExploreOptions}
+use Rattle.ghs_commands.specs.declared.exploring.ExploreOptions.{ExploreOptions}
 use Rattle.ghs_cli.specs.declared.fault.ServeFault.{ServeFault}
 use Rattle.ghs_cli.specs.Exploring.{AreEndsOf, HasNoExploration, IsExplored, IsRunOf}
 use Rattle.ghs_cli.specs.Serving.{IsExploreCause, IsExploreOutput, shape_of}

@@ -12,8 +12,8 @@ use Rattle.ghs_make.specs.declared.network.Network.{Network}
 use Rattle.ghs_make.specs.declared.plan.Asked.{Asked}
 use Rattle.ghs_report.specs.declared.portions.WriteFault.{WriteFault}
 use Rattle.ghs_report.specs.declared.portions.WriteFault.TheVariants as write
-use Rattle.ghs_words.specs.declared.job.Task.{Task}
-use Rattle.ghs_words.specs.declared.job.Task.TheVariants as task
+use Rattle.ghs_commands.specs.declared.job.Task.{Task}
+use Rattle.ghs_commands.specs.declared.job.Task.TheVariants as task
 use Rattle.ghs_cli.specs.Ending.{IsBoundedTask}
 use Rattle.ghs_cli.specs.Fault.{of_make, of_unwritten}
 use Rattle.ghs_cli.specs.Serving.{IfStored, IsMade, IsMakeCause, IsUnread, IsUnwritten, Serves, is_late}

@@ -3,7 +3,7 @@ use Rattle.std.proofs.Common.{◌≡◌, ◌++◌, ◌+◌, ◌<◌, ◌∙◌, 
 use Rattle.std.specs.Prelude.{Result}
 use Rattle.std.specs.List.{slice_index_or}
 use Rattle.std.proofs.lemmas.List.{take_more}
-use Rattle.ghs_words.specs.declared.job.SweepOptions.{SweepOptions}
+use Rattle.ghs_commands.specs.declared.job.SweepOptions.{SweepOptions}
 use Rattle.ghs_sweep.specs.Front.{front_of}
 use Rattle.ghs_report.specs.Writing.{HasWritten}
 use Rattle.ghs_cli.specs.declared.fault.ServeFault.{ServeFault}
@@ -56,8 +56,8 @@ pub swept_all : (o : SweepOptions) (ns : List Network) (bytes output : List ℕ)
 swept_all o ns bytes output old new same has text = (output, text, subst (λ (b : List ℕ). HasWritten old new b (length b)) same has)
 
 -- and one that failed the first bytes
-pub swept_part : (o : SweepOptions) (ns : List Network) (bytes output : List ℕ) (old new : Option (List ℕ)) (r : Result (Unit {0}) ServeFault) (written : ℕ) →
-    bytes ≡ output →
+pub swept_part : (o : SweepOptions) (ns : List Network) (bytes output : List ℕ) (old new : Option (List ℕ))
+    (r : Result (Unit {0}) ServeFault) (written : ℕ) → bytes ≡ output →
     r ≡ Err (serve.Write written) →
     written < length bytes →
     HasWritten old new bytes written →

@@ -4,7 +4,7 @@ use Rattle.std.specs.Prelude.{IfOk, Result, Ok}
 use Rattle.std.specs.declared.alloc.AllocError.{AllocError}
 use Rattle.ghs_graph.specs.Graph.{Shape}
 use Rattle.ghs_parts.specs.declared.by.By.{By}
-use Rattle.ghs_words.specs.declared.job.SweepOptions.{SweepOptions}
+use Rattle.ghs_commands.specs.declared.job.SweepOptions.{SweepOptions}
 use Rattle.ghs_cli.specs.Sweeping.{ArePartedRuns, IsPartedRun, NextRun, NoRun}
 
 module _ (o : SweepOptions) (by : By) (front : List ℕ) (g : Shape) where
@@ -20,7 +20,8 @@ module _ (o : SweepOptions) (by : By) (front : List ℕ) (g : Shape) where
       ArePartedRuns o by front g first (n + m) (text ++ more)
   runs_joined first n _ text _ before NoRun =
       let none : n ≡ n + 0 = omega arith in
-      subst (λ (k : ℕ). ArePartedRuns o by front g first k (text ++ [])) none (subst (ArePartedRuns o by front g first n) (sym (append-nil text)) before)
+      subst (λ (k : ℕ). ArePartedRuns o by front g first k (text ++ [])) none
+      (subst (ArePartedRuns o by front g first n) (sym (append-nil text)) before)
   runs_joined first n _ text _ before (NextRun k lines last rest is) =
       let here = runs_joined first n k text lines before rest in
       let seed : first + n + k ≡ first + (n + k) = omega arith in
@@ -43,10 +44,12 @@ parted_by_both o by front g first count share r s mine others lines less first_o
     let one : ArePartedRuns o by front g first share mine.items =
     subst (λ (x : Result (Vec ℕ Global) AllocError). IfOk x (λ v. ArePartedRuns o by front g first share v.items)) is_mine first_ones in
     let two : ArePartedRuns o by front g (first + share) (count - share) others.items =
-    subst (λ (x : Result (Vec ℕ Global) AllocError). IfOk x (λ v. ArePartedRuns o by front g (first + share) (count - share) v.items)) is_others rest in
+    subst (λ (x : Result (Vec ℕ Global) AllocError). IfOk x (λ v. ArePartedRuns o by front g (first + share) (count - share) v.items))
+    is_others rest in
     let all : share + (count - share) ≡ count = omega (arith, less) in
     subst (λ (l : List ℕ). ArePartedRuns o by front g first count l) (sym joined)
-    (subst (λ (n : ℕ). ArePartedRuns o by front g first n (mine.items ++ others.items)) all (runs_joined o by front g first share (count - share) mine.items others.items one two))
+    (subst (λ (n : ℕ). ArePartedRuns o by front g first n (mine.items ++ others.items)) all
+    (runs_joined o by front g first share (count - share) mine.items others.items one two))
 
 -- before the first portion there are none
 pub none_yet : (o : SweepOptions) (by : By) (front : List ℕ) (g : Shape) (count : ℕ) (lines : List ℕ) → lines ≡ [] →

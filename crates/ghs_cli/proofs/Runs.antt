@@ -22,10 +22,10 @@ use Rattle.ghs_world.specs.declared.wake_set.WakeSet.{WakeSet}
 use Rattle.ghs_world.specs.Wakes.{may_wake}
 use Rattle.ghs_world.specs.WorldState.{WorldState, home, wakers}
 use Rattle.ghs_cli.specs.declared.fault.ServeFault.{ServeFault}
-use Rattle.ghs_words.specs.declared.job.RunOptions.{RunOptions}
-use Rattle.ghs_words.specs.declared.job.Show.TheVariants.{Events}
-use Rattle.ghs_words.specs.declared.job.Task.{Task}
-use Rattle.ghs_words.specs.declared.job.Task.TheVariants as task
+use Rattle.ghs_commands.specs.declared.job.RunOptions.{RunOptions}
+use Rattle.ghs_commands.specs.declared.job.Show.TheVariants.{Events}
+use Rattle.ghs_commands.specs.declared.job.Task.{Task}
+use Rattle.ghs_commands.specs.declared.job.Task.TheVariants as task
 use Rattle.ghs_cli.specs.Running.{IsOpened}
 use Rattle.ghs_cli.specs.Serving.{AreItsRounds, IfStored, IsCause, IsRan, IsRunBy, IsRunOutput, IsRunningCause, IsStopped, IsWholeRun, StopsRun, shape_of}
 
@@ -36,7 +36,7 @@ pub is_run_by : (o : RunOptions) (new : WorldState) (limit : ℕ) →
     IsRunUnder (wakers new) (network_of new.net.graph) new.net.trace →
     limit ≡ new.turns →
     length new.net.trace + length new.outs ≤ limit →
-    (o.workers ≡ 0 → IsPickedBy o.picking o.seed o.wake o.turns new.net.graph new.net.trace) →
+    (o.workers ≡ 0 → IsPickedBy o.schedule_kind o.seed o.wake o.turns new.net.graph new.net.trace) →
     IsRunBy o new.net.graph new.net.trace
 is_run_by o new limit wake turns run is fits picked = record {
   run = subst (λ (w : WakeSet). IsRunUnder (may_wake new.net.graph w) (network_of new.net.graph) new.net.trace) wake run;
@@ -52,12 +52,12 @@ ended_by s (Halted v) is = is.0
 picked_by : (o : RunOptions) (old new : WorldState) →
     IsOpened o old →
     new.net.graph ≡ old.net.graph →
-    IsPickedBy o.picking o.seed old.wake old.turns old.net.graph new.net.trace →
-    IsPickedBy o.picking o.seed o.wake o.turns new.net.graph new.net.trace
+    IsPickedBy o.schedule_kind o.seed old.wake old.turns old.net.graph new.net.trace →
+    IsPickedBy o.schedule_kind o.seed o.wake o.turns new.net.graph new.net.trace
 picked_by o old new opened graph picked =
-    subst (λ (s : Shape). IsPickedBy o.picking o.seed o.wake o.turns s new.net.trace) (sym graph)
-    (subst (λ (w : WakeSet). IsPickedBy o.picking o.seed w o.turns old.net.graph new.net.trace) opened.wake
-    (subst (λ (t : ℕ). IsPickedBy o.picking o.seed old.wake t old.net.graph new.net.trace) opened.turns picked))
+    subst (λ (s : Shape). IsPickedBy o.schedule_kind o.seed o.wake o.turns s new.net.trace) (sym graph)
+    (subst (λ (w : WakeSet). IsPickedBy o.schedule_kind o.seed w o.turns old.net.graph new.net.trace) opened.wake
+    (subst (λ (t : ℕ). IsPickedBy o.schedule_kind o.seed old.wake t old.net.graph new.net.trace) opened.turns picked))
 
 by_schedule : (o : RunOptions) (old new : WorldState) (limit : ℕ) →
     IsOpened o old →
@@ -67,7 +67,7 @@ by_schedule : (o : RunOptions) (old new : WorldState) (limit : ℕ) →
     IsRunUnder (wakers new) (network_of new.net.graph) new.net.trace →
     limit ≡ new.turns →
     length new.net.trace + length new.outs ≤ limit →
-    IsPickedBy o.picking o.seed old.wake old.turns old.net.graph new.net.trace →
+    IsPickedBy o.schedule_kind o.seed old.wake old.turns old.net.graph new.net.trace →
     IsRunBy o new.net.graph new.net.trace
 by_schedule o old new limit opened graph wake turns run is fits picked =
     is_run_by o new limit (wake ∙ opened.wake) (turns ∙ opened.turns) run is fits (λ no. picked_by o old new opened graph picked)
@@ -77,13 +77,13 @@ pub rounds_by_schedule : (o : RunOptions) (old new : WorldState) (rounds : Optio
     IsOpened o old →
     o.workers ≡ 0 →
     new.net.graph ≡ old.net.graph →
-    AreRounds o.picking o.seed old.wake old.turns old.net.graph new.net.trace rounds →
+    AreRounds o.schedule_kind o.seed old.wake old.turns old.net.graph new.net.trace rounds →
     AreItsRounds o new.net.graph new.net.trace rounds
 rounds_by_schedule o old new rounds opened none graph are = record {
   by_schedule = λ no.
-      subst (λ (s : Shape). AreRounds o.picking o.seed o.wake o.turns s new.net.trace rounds) (sym graph)
-      (subst (λ (w : WakeSet). AreRounds o.picking o.seed w o.turns old.net.graph new.net.trace rounds) opened.wake
-      (subst (λ (t : ℕ). AreRounds o.picking o.seed old.wake t old.net.graph new.net.trace rounds) opened.turns are));
+      subst (λ (s : Shape). AreRounds o.schedule_kind o.seed o.wake o.turns s new.net.trace rounds) (sym graph)
+      (subst (λ (w : WakeSet). AreRounds o.schedule_kind o.seed w o.turns old.net.graph new.net.trace rounds) opened.wake
+      (subst (λ (t : ℕ). AreRounds o.schedule_kind o.seed old.wake t old.net.graph new.net.trace rounds) opened.turns are));
   by_threads = λ some. absurd (omega (arith, some, none));
 }
 
@@ -97,12 +97,13 @@ pub whole_by_schedule : (o : RunOptions) (old new : WorldState) (limit : ℕ) (r
     limit ≡ new.turns →
     length new.net.trace + length new.outs ≤ limit →
     r ≡ Ok e →
-    OnOk r (IsPickedBy o.picking o.seed old.wake old.turns old.net.graph new.net.trace) →
+    OnOk r (IsPickedBy o.schedule_kind o.seed old.wake old.turns old.net.graph new.net.trace) →
     IfOk r (λ e. IsEnd new e) →
     IsWholeRun o new.net.graph new.net.trace
 whole_by_schedule o old new limit r e opened graph wake turns run is fits answer picked end = record {
   by = by_schedule o old new limit opened graph wake turns run is fits
-      (subst (λ (x : Result RunEnd RunFault). OnOk x (IsPickedBy o.picking o.seed old.wake old.turns old.net.graph new.net.trace)) answer picked);
+      (subst (λ (x : Result RunEnd RunFault). OnOk x (IsPickedBy o.schedule_kind o.seed old.wake old.turns old.net.graph new.net.trace))
+      answer picked);
   ended = ended_by new e (subst (λ (x : Result RunEnd RunFault). IfOk x (λ e. IsEnd new e)) answer end);
 }
 
@@ -115,7 +116,7 @@ pub stopped_by_schedule : (o : RunOptions) (old new : WorldState) (limit : ℕ) 
     IsRunUnder (wakers new) (network_of new.net.graph) new.net.trace →
     limit ≡ new.turns →
     length new.net.trace + length new.outs ≤ limit →
-    (r ≡ Err TurnLimit → IsPickedBy o.picking o.seed old.wake old.turns old.net.graph new.net.trace) →
+    (r ≡ Err TurnLimit → IsPickedBy o.schedule_kind o.seed old.wake old.turns old.net.graph new.net.trace) →
     IfErr r (λ f. StopsFor new f) →
     OnErr r (HasEnded new.net.graph (home new) → ⊥) →
     r ≡ Err TurnLimit →
@@ -179,11 +180,12 @@ pub stopped_text : (o : RunOptions) (g : Shape) (events : List Event) (at_limit 
     at_limit ≡ true →
     text ≡ trace_text events →
     IsRan o g at_limit text
-stopped_text o g events at_limit text stopped asked limit printed = rw limit (record { events = events; stopped = stopped; asked = asked; printed = printed })
+stopped_text o g events at_limit text stopped asked limit printed =
+    rw limit (record { events = events; stopped = stopped; asked = asked; printed = printed })
 
 -- what goes out of a graph's run goes out of the input that is its text
-pub run_output : {A : Type 0} (r : Result A ServeFault) (at_limit : A → Bool) (text : A → List ℕ) (o : RunOptions) (raw : RawShape) (input : Option (List ℕ)) →
-    IfOk r (λ x. IsRan o (shape_of raw) (at_limit x) (text x)) →
+pub run_output : {A : Type 0} (r : Result A ServeFault) (at_limit : A → Bool) (text : A → List ℕ) (o : RunOptions) (raw : RawShape)
+    (input : Option (List ℕ)) → IfOk r (λ x. IsRan o (shape_of raw) (at_limit x) (text x)) →
     IfSome input (λ i. TextIs i (Ok raw)) →
     IfOk r (λ x. IfSome input (λ i. IsRunOutput o (at_limit x) i (text x)))
 run_output (Ok x) at_limit text o raw None ran is = tt

@@ -10,14 +10,14 @@ use Rattle.ghs_protocol.specs.declared.event.Event.{Event}
 use Rattle.ghs_protocol.specs.Marks.{HasEnded}
 use Rattle.ghs_protocol.specs.Network.{network_of}
 use Rattle.ghs_protocol.specs.Run.{IsRunUnder, net_after}
-use Rattle.ghs_report.specs.NetText.{IsNetText}
+use Rattle.ghs_report.specs.ReportText.{IsReportText}
 use Rattle.ghs_report.specs.Writing.{HasWritten}
 use Rattle.ghs_world.specs.declared.wake_set.WakeSet.{WakeSet}
 use Rattle.ghs_world.specs.Wakes.{may_wake}
 use Rattle.ghs_cli.specs.declared.fault.ServeFault.{ServeFault}
 use Rattle.ghs_cli.specs.declared.fault.ServeFault.TheVariants as serve
-use Rattle.ghs_words.specs.declared.job.Task.{Task}
-use Rattle.ghs_words.specs.declared.job.Task.TheVariants as task
+use Rattle.ghs_commands.specs.declared.job.Task.{Task}
+use Rattle.ghs_commands.specs.declared.job.Task.TheVariants as task
 use Rattle.ghs_cli.specs.Serving.{GoesOn, HasBegun, IfStored, IsCause, IsOutput, IsPrinted, IsPrintedAtLimit, IsReplayCause, IsReplayed, IsRunCause, IsTraceText, IsTried, Serves, is_late, shape_of}
 
 -- what follows for each stored text follows where the task reads one
@@ -100,7 +100,8 @@ pub faults_together : {A : Type 0} (r : Result A ServeFault) (wake : WakeSet) (g
 faults_together (Ok x) wake graph events stored input cause trace text = tt
 faults_together (Err fault) wake graph events None input cause trace text = tt
 faults_together (Err fault) wake graph events (Some s) None cause trace text = tt
-faults_together (Err fault) wake graph events (Some s) (Some i) cause trace text = inr (inr (record { events = events; trace = trace; graph = graph; text = text; cause = cause }))
+faults_together (Err fault) wake graph events (Some s) (Some i) cause trace text =
+    inr (inr (record { events = events; trace = trace; graph = graph; text = text; cause = cause }))
 
 -- a world that stands at the end of events has their text
 pub is_replayed : (wake own : WakeSet) (raw : RawShape) (g : Shape) (done events : List Event) (text : List ℕ) →
@@ -109,12 +110,16 @@ pub is_replayed : (wake own : WakeSet) (raw : RawShape) (g : Shape) (done events
     own ≡ wake →
     IsRunUnder (may_wake g own) (network_of g) done →
     HasEnded g (net_after g done) →
-    IsNetText g (net_after g done) text →
+    IsReportText g (net_after g done) text →
     IsReplayed wake raw events text
 is_replayed wake own raw g done events text graph trace wakes run ended printed = record {
-  run = subst (λ (s : Shape). IsRunUnder (may_wake s wake) (network_of s) events) graph (subst (λ (es : List Event). IsRunUnder (may_wake g wake) (network_of g) es) trace (subst (λ (w : WakeSet). IsRunUnder (may_wake g w) (network_of g) done) wakes run));
+  run =
+      subst (λ (s : Shape). IsRunUnder (may_wake s wake) (network_of s) events) graph
+      (subst (λ (es : List Event). IsRunUnder (may_wake g wake) (network_of g) es) trace
+      (subst (λ (w : WakeSet). IsRunUnder (may_wake g w) (network_of g) done) wakes run));
   ended = subst (λ (s : Shape). HasEnded s (net_after s events)) graph (subst (λ (es : List Event). HasEnded g (net_after g es)) trace ended);
-  printed = subst (λ (s : Shape). IsNetText s (net_after s events) text) graph (subst (λ (es : List Event). IsNetText g (net_after g es) text) trace printed);
+  printed = subst (λ (s : Shape). IsReportText s (net_after s events) text) graph
+      (subst (λ (es : List Event). IsReportText g (net_after g es) text) trace printed);
 }
 
 -- a world whose run goes on gives its fault
@@ -137,7 +142,9 @@ goes_on wake own raw g done events (serve.StateLimit limit) graph trace wakes ru
 goes_on wake own raw g done events serve.TurnLimit graph trace wakes run goes = absurd goes
 goes_on wake own raw g done events serve.Stalled graph trace wakes run goes = absurd goes
 goes_on wake own raw g done events serve.NotEnded graph trace wakes run goes = (
-  subst (λ (s : Shape). IsRunUnder (may_wake s wake) (network_of s) events) graph (subst (λ (es : List Event). IsRunUnder (may_wake g wake) (network_of g) es) trace (subst (λ (w : WakeSet). IsRunUnder (may_wake g w) (network_of g) done) wakes run)),
+  subst (λ (s : Shape). IsRunUnder (may_wake s wake) (network_of s) events) graph
+      (subst (λ (es : List Event). IsRunUnder (may_wake g wake) (network_of g) es) trace
+      (subst (λ (w : WakeSet). IsRunUnder (may_wake g w) (network_of g) done) wakes run)),
   subst (λ (s : Shape). HasEnded s (net_after s events) → ⊥) graph (subst (λ (es : List Event). HasEnded g (net_after g es) → ⊥) trace goes),
 )
 goes_on wake own raw g done events serve.Memory graph trace wakes run goes = tt
@@ -171,7 +178,8 @@ if_err (Err e) P Q f all = f e all
 -- a graph with the nodes and keys of a raw one is the one that is built of it
 pub same_shape : (g : Shape) (raw : RawShape) → g.nodes ≡ raw.nodes → g.keys ≡ map key_of raw.keys → g ≡ shape_of raw
 same_shape g raw nodes keys =
-    subst (λ (ks : List Key). g ≡ record { nodes = raw.nodes; keys = ks }) keys (subst (λ (n : ℕ). g ≡ record { nodes = n; keys = g.keys }) nodes refl)
+    subst (λ (ks : List Key). g ≡ record { nodes = raw.nodes; keys = ks }) keys
+    (subst (λ (n : ℕ). g ≡ record { nodes = n; keys = g.keys }) nodes refl)
 
 -- a result that is a fault is served by its cause
 pub serves_fault : (job : Task) (stored input : List ℕ) (old new : Option (List ℕ)) (r : Result (Unit {0}) ServeFault) (fault : ServeFault) →
@@ -237,7 +245,12 @@ pub serves_part : (job : Task) (at_limit : Bool) (stored input bytes output : Li
     IsOutput job at_limit stored input output →
     Serves job stored input old new r
 serves_part job at_limit stored input bytes output old new r written same is less has out =
-    rw is (output, tried_of job at_limit stored input output out, subst (λ (b : List ℕ). written < length b) same less, subst (λ (b : List ℕ). HasWritten old new b written) same has)
+    rw is (
+      output,
+      tried_of job at_limit stored input output out,
+      subst (λ (b : List ℕ). written < length b) same less,
+      subst (λ (b : List ℕ). HasWritten old new b written) same has,
+    )
 
 -- a write that succeeded served all
 pub serves_all : (job : Task) (stored input bytes output : List ℕ) (old new : Option (List ℕ)) →

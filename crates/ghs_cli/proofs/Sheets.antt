@@ -9,9 +9,9 @@ use Rattle.ghs_sweep.specs.Front.{bare_front}
 use Rattle.ghs_sweep.specs.Lines.{line_behind, run_lines}
 use Rattle.ghs_sweep.specs.Summary.{AreSummaryLines}
 use Rattle.ghs_sweep.specs.Sweep.{AreRuns}
-use Rattle.ghs_words.specs.declared.job.Sheet.{Sheet}
-use Rattle.ghs_words.specs.declared.job.Sheet.TheVariants.{Runs, Summary}
-use Rattle.ghs_words.specs.declared.job.SweepOptions.{SweepOptions}
+use Rattle.ghs_commands.specs.declared.job.Sheet.{Sheet}
+use Rattle.ghs_commands.specs.declared.job.Sheet.TheVariants.{Runs, Summary}
+use Rattle.ghs_commands.specs.declared.job.SweepOptions.{SweepOptions}
 use Rattle.ghs_cli.specs.Sweeping.{AreLines, ArePartedRuns, AreSheetLines, AreSweptLines, IsSwept, count_of, head_by, setup_of}
 
 -- lines of runs behind a text, where these are asked for

@@ -17,9 +17,9 @@ use Rattle.ghs_steps.specs.declared.show.StepsFault.TheVariants as steps
 use Rattle.ghs_world.specs.Wakes.{may_wake}
 use Rattle.ghs_cli.specs.Fault.{of_steps}
 use Rattle.ghs_cli.specs.declared.fault.ServeFault.{ServeFault}
-use Rattle.ghs_words.specs.declared.job.StepsOptions.{StepsOptions}
-use Rattle.ghs_words.specs.declared.job.Task.{Task}
-use Rattle.ghs_words.specs.declared.job.Task.TheVariants as task
+use Rattle.ghs_commands.specs.declared.job.StepsOptions.{StepsOptions}
+use Rattle.ghs_commands.specs.declared.job.Task.{Task}
+use Rattle.ghs_commands.specs.declared.job.Task.TheVariants as task
 use Rattle.ghs_cli.specs.Serving.{IfStored, IsStepsText, IsTraceText, IsUnread, IsUnwritten, Serves, is_late, shape_of}
 
 -- the lines of the graph that is built are those of the text
@@ -47,8 +47,8 @@ all_lines o stored input raw g events old new trace text same run out =
       subst (λ (bytes : List ℕ). Appends old new bytes) (sym (take_all (length text_of) text_of (omega arith))) out,
     )
 
-pub serves_lines : (o : StepsOptions) (stored input : Option (List ℕ)) (raw : RawShape) (g : Shape) (events : List Event) (old new : Option (List ℕ)) →
-    IfSome stored (λ s. IsTraceText s events) → IfSome input (λ i. TextIs i (Ok raw)) → g ≡ shape_of raw →
+pub serves_lines : (o : StepsOptions) (stored input : Option (List ℕ)) (raw : RawShape) (g : Shape) (events : List Event)
+    (old new : Option (List ℕ)) → IfSome stored (λ s. IsTraceText s events) → IfSome input (λ i. TextIs i (Ok raw)) → g ≡ shape_of raw →
     IsRunUnder (may_wake g o.wake) (network_of g) events → Appends old new (lines o.form g events o.choice) →
     IfSome stored (λ s. IfSome input (λ i. Serves (task.Steps o) s i old new (Ok tt)))
 serves_lines o None input raw g events old new trace text same run out = tt
@@ -56,13 +56,14 @@ serves_lines o (Some s) None raw g events old new trace text same run out = tt
 serves_lines o (Some s) (Some i) raw g events old new trace text same run out = all_lines o s i raw g events old new trace text same run out
 
 -- a fault behind the judgement of trace and graph
-cant_show : (o : StepsOptions) (stored input : List ℕ) (raw : RawShape) (g : Shape) (events : List Event) (old new : Option (List ℕ)) (fault : StepsFault) →
-    IsTraceText stored events → TextIs input (Ok raw) → g ≡ shape_of raw →
+cant_show : (o : StepsOptions) (stored input : List ℕ) (raw : RawShape) (g : Shape) (events : List Event)
+    (old new : Option (List ℕ)) (fault : StepsFault) → IsTraceText stored events → TextIs input (Ok raw) → g ≡ shape_of raw →
     CantShow g o.wake events (lines o.form g events o.choice) old new fault →
     Serves (task.Steps o) stored input old new (Err (of_steps fault))
 cant_show o stored input raw g events old new (steps.NotLawful k) trace text same has = (
   (λ is. cc),
-  inr (inr (record { events = events; trace = trace; graph = raw; text = text; cause = subst (λ (s : Shape). IsFirstUnlawful s o.wake events k) same has.0 })),
+  inr (inr (record
+      { events = events; trace = trace; graph = raw; text = text; cause = subst (λ (s : Shape). IsFirstUnlawful s o.wake events k) same has.0 })),
 )
 cant_show o stored input raw g events old new steps.Memory trace text same (inl none) =
     (((λ is. cc), inr (inr (record { events = events; trace = trace; graph = raw; text = text; cause = tt }))), inl none)
@@ -73,7 +74,8 @@ cant_show o stored input raw g events old new steps.Memory trace text same (inr 
 cant_show o stored input raw g events old new (steps.Write k) trace text same has =
     (_, lines_of o stored input raw g events trace text same has.0, has.1.0, has.1.1)
 
-pub serves_unshown : (o : StepsOptions) (stored input : Option (List ℕ)) (raw : RawShape) (g : Shape) (events : List Event) (old new : Option (List ℕ))
+pub serves_unshown :
+    (o : StepsOptions) (stored input : Option (List ℕ)) (raw : RawShape) (g : Shape) (events : List Event) (old new : Option (List ℕ))
     (r : Result (Unit {0}) ServeFault) (fault : StepsFault) →
     r ≡ Err (of_steps fault) →
     IfSome stored (λ s. IsTraceText s events) → IfSome input (λ i. TextIs i (Ok raw)) → g ≡ shape_of raw →
@@ -81,7 +83,8 @@ pub serves_unshown : (o : StepsOptions) (stored input : Option (List ℕ)) (raw 
     IfSome stored (λ s. IfSome input (λ i. Serves (task.Steps o) s i old new r))
 serves_unshown o None input raw g events old new r fault is trace text same has = tt
 serves_unshown o (Some s) None raw g events old new r fault is trace text same has = tt
-serves_unshown o (Some s) (Some i) raw g events old new r fault is trace text same has = rw is (cant_show o s i raw g events old new fault trace text same has)
+serves_unshown o (Some s) (Some i) raw g events old new r fault is trace text same has =
+    rw is (cant_show o s i raw g events old new fault trace text same has)
 
 -- a job whose task are steps is served as they are
 pub serves_steps : (job : Task) (o : StepsOptions) (stored input old new : Option (List ℕ)) (r : Result (Unit {0}) ServeFault) →

@@ -35,7 +35,8 @@ small_head : (more : List (List ℕ)) → IsSmall (head_of more)
 small_head [] = tt
 small_head (field ∷ []) =
     small_number (is_nonempty field && all_ascii_digits field && nat_le (digits_value 10 field) EVENT_LIMIT) (digits_value 10 field)
-    (λ e. leb-true (digits_value 10 field) EVENT_LIMIT (last_true (is_nonempty field) (all_ascii_digits field) (nat_le (digits_value 10 field) EVENT_LIMIT) e))
+    (λ e. leb-true (digits_value 10 field) EVENT_LIMIT
+    (last_true (is_nonempty field) (all_ascii_digits field) (nat_le (digits_value 10 field) EVENT_LIMIT) e))
 small_head (field ∷ other ∷ more) = tt
 
 small_wake : (more : List (List ℕ)) → IsSmall (wake_of more)
@@ -56,7 +57,8 @@ small_fields (first ∷ more) =
     (small_either (bytes_eq first (codes "wake")) (wake_of more) _ (small_wake more)
     (small_either (bytes_eq first (codes "take")) (take_of more) Malformed (small_take more) tt))
 
-small_next : (l : Line) (more : List Line) (n : ℕ) → IsSmall l → (head_in more ≡ Some n → n ≤ EVENT_LIMIT) → head_in (l ∷ more) ≡ Some n → n ≤ EVENT_LIMIT
+small_next : (l : Line) (more : List Line) (n : ℕ) → IsSmall l → (head_in more ≡ Some n → n ≤ EVENT_LIMIT) → head_in (l ∷ more) ≡ Some n →
+    n ≤ EVENT_LIMIT
 small_next Passed more n small rest e = rest e
 small_next Malformed more n small rest e = rest e
 small_next (Head None) more n small rest e = rest e

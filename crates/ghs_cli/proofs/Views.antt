@@ -7,10 +7,10 @@ use Rattle.ghs_graph.specs.Graph.{Shape}
 use Rattle.ghs_protocol.specs.declared.event.Event.{Event}
 use Rattle.ghs_cli.specs.declared.fault.ServeFault.{ServeFault}
 use Rattle.ghs_cli.specs.declared.fault.ServeFault.TheVariants as serve
-use Rattle.ghs_words.specs.declared.job.StoredViewOptions.{StoredViewOptions}
-use Rattle.ghs_words.specs.declared.job.Task.{Task}
-use Rattle.ghs_words.specs.declared.job.Task.TheVariants as task
-use Rattle.ghs_words.specs.declared.job.ViewOptions.{ViewOptions}
+use Rattle.ghs_commands.specs.declared.job.StoredViewOptions.{StoredViewOptions}
+use Rattle.ghs_commands.specs.declared.job.Task.{Task}
+use Rattle.ghs_commands.specs.declared.job.Task.TheVariants as task
+use Rattle.ghs_commands.specs.declared.job.ViewOptions.{ViewOptions}
 use Rattle.ghs_cli.specs.Serving.{IfStored, IsCause, IsOutput, IsStoredViewCause, IsStoredViewOutput, IsTraceText, IsViewCause, IsViewOutput, shape_of}
 use Rattle.ghs_cli.specs.Viewing.{HasNoPairView, HasNoStoredView, HasNoView, IsStoredView, IsView}
 
@@ -53,8 +53,8 @@ view_cause (Err fault) o raw None none is = tt
 view_cause (Err fault) o raw (Some i) none is = inr (raw, is, none)
 
 -- and one of a graph and stored events is one of their texts
-pub stored_view_cause : {A : Type 0} (r : Result A ServeFault) (o : StoredViewOptions) (raw : RawShape) (events : List Event) (stored input : Option (List ℕ)) →
-    IfErr r (HasNoStoredView o (shape_of raw) events) →
+pub stored_view_cause : {A : Type 0} (r : Result A ServeFault) (o : StoredViewOptions) (raw : RawShape) (events : List Event)
+    (stored input : Option (List ℕ)) → IfErr r (HasNoStoredView o (shape_of raw) events) →
     IfSome stored (λ s. IsTraceText s events) →
     IfSome input (λ i. TextIs i (Ok raw)) →
     IfErr r (λ fault. IfSome stored (λ s. IfSome input (λ i. IsStoredViewCause o s i fault)))

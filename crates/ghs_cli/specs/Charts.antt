@@ -10,9 +10,9 @@ use Rattle.ghs_sweep.specs.declared.measure.Measure.TheVariants.{Chain, Requeued
 use Rattle.ghs_sweep.specs.Measure.{value_of}
 use Rattle.ghs_sweep.specs.Summary.{IsRising}
 use Rattle.ghs_sweep.specs.Sweep.{AreRuns}
-use Rattle.ghs_words.specs.declared.job.Sheet.{Sheet}
-use Rattle.ghs_words.specs.declared.job.Sheet.TheVariants.{Chart, Runs, Summary}
-use Rattle.ghs_words.specs.declared.job.SweepOptions.{SweepOptions}
+use Rattle.ghs_commands.specs.declared.job.Sheet.{Sheet}
+use Rattle.ghs_commands.specs.declared.job.Sheet.TheVariants.{Chart, Runs, Summary}
+use Rattle.ghs_commands.specs.declared.job.SweepOptions.{SweepOptions}
 use Rattle.ghs_cli.specs.Sweeping.{IsSwept, count_of, setup_of}
 
 -- what is said of a network and its runs

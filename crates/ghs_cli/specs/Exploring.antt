@@ -11,9 +11,9 @@ use Rattle.ghs_protocol.specs.declared.event.Event.{Event}
 use Rattle.ghs_sched.specs.Text.{trace_text}
 use Rattle.ghs_cli.specs.declared.fault.ServeFault.{ServeFault}
 use Rattle.ghs_cli.specs.declared.fault.ServeFault.TheVariants as serve
-use Rattle.ghs_words.specs.declared.exploring.ExploreOptions.{ExploreOptions}
-use Rattle.ghs_words.specs.declared.exploring.Finding.{Finding}
-use Rattle.ghs_words.specs.declared.exploring.Finding.TheVariants.{Ends, Run}
+use Rattle.ghs_commands.specs.declared.exploring.ExploreOptions.{ExploreOptions}
+use Rattle.ghs_commands.specs.declared.exploring.Finding.{Finding}
+use Rattle.ghs_commands.specs.declared.exploring.Finding.TheVariants.{Ends, Run}
 
 -- the lines of all counts with which runs of the graph end, of the least and the greatest sum, and of the states
 pub record AreEndsOf (o : ExploreOptions) (g : Shape) (output : List ℕ) : Type 0 where

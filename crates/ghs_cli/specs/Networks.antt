@@ -10,9 +10,9 @@ use Rattle.ghs_steps.specs.declared.form.Form.{Form}
 use Rattle.ghs_steps.specs.declared.form.Form.TheVariants.{Text, Json}
 use Rattle.ghs_sweep.specs.declared.front.TheConstants.{FRONT_HEAD}
 use Rattle.ghs_sweep.specs.Front.{front_of}
-use Rattle.ghs_words.specs.declared.job.Sheet.{Sheet}
-use Rattle.ghs_words.specs.declared.job.Sheet.TheVariants.{Chart, Runs, Summary}
-use Rattle.ghs_words.specs.declared.job.SweepOptions.{SweepOptions}
+use Rattle.ghs_commands.specs.declared.job.Sheet.{Sheet}
+use Rattle.ghs_commands.specs.declared.job.Sheet.TheVariants.{Chart, Runs, Summary}
+use Rattle.ghs_commands.specs.declared.job.SweepOptions.{SweepOptions}
 use Rattle.ghs_cli.specs.declared.fault.ServeFault.{ServeFault}
 use Rattle.ghs_cli.specs.declared.fault.ServeFault.TheVariants as serve
 use Rattle.ghs_cli.specs.declared.networks.Network.{Network}
@@ -48,8 +48,8 @@ pub record IsNetworksText (o : SweepOptions) (ns : List Network) (text : List �
 -- the panels of networks, one's below another's
 pub data ArePanels (o : SweepOptions) : List Network → List ℕ → Type 0 where
   NoPanel : ArePanels o [] []
-  NextPanel : (ns : List Network) (n : Network) (text panel : List ℕ) → ArePanels o ns text → IsPanel o (length ns) (string_bytes n.name) n.graph panel →
-      ArePanels o (ns ++ n ∷ []) (text ++ panel)
+  NextPanel : (ns : List Network) (n : Network) (text panel : List ℕ) → ArePanels o ns text →
+      IsPanel o (length ns) (string_bytes n.name) n.graph panel → ArePanels o (ns ++ n ∷ []) (text ++ panel)
 
 -- the chart of networks
 pub record IsChart (o : SweepOptions) (ns : List Network) (text : List ℕ) : Type 0 where

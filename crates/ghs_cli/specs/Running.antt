@@ -2,7 +2,7 @@
 use Rattle.std.specs.Prelude.{◌≡◌, ◌≤◌, []}
 use Rattle.ghs_world.specs.WorldState.{WorldState}
 use Rattle.ghs_cli.specs.Serving.{IsStopped}
-use Rattle.ghs_words.specs.declared.job.RunOptions.{RunOptions}
+use Rattle.ghs_commands.specs.declared.job.RunOptions.{RunOptions}
 use Rattle.ghs_cli.specs.declared.running.Stop.{Stop}
 use Rattle.ghs_cli.specs.declared.running.Stop.TheVariants.{TurnLimit, Memory, NoThread, Strange}
 

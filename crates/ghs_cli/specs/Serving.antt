@@ -19,7 +19,7 @@ use Rattle.ghs_protocol.specs.Marks.{HasEnded}
 use Rattle.ghs_protocol.specs.Net.{Net}
 use Rattle.ghs_protocol.specs.Network.{network_of}
 use Rattle.ghs_protocol.specs.Run.{IsRunUnder, net_after}
-use Rattle.ghs_report.specs.NetText.{IsNetText}
+use Rattle.ghs_report.specs.ReportText.{IsReportText}
 use Rattle.ghs_report.specs.TreeText.{tree_text}
 use Rattle.ghs_report.specs.Writing.{HasWritten}
 use Rattle.ghs_sched.specs.Reading.{HasEvents, HasFault}
@@ -31,21 +31,21 @@ use Rattle.ghs_world.specs.declared.wake_set.WakeSet.{WakeSet}
 use Rattle.ghs_world.specs.Wakes.{may_wake}
 use Rattle.ghs_cli.specs.declared.fault.ServeFault.{ServeFault}
 use Rattle.ghs_cli.specs.declared.fault.ServeFault.TheVariants as serve
-use Rattle.ghs_words.specs.declared.job.RunOptions.{RunOptions}
-use Rattle.ghs_words.specs.declared.job.Show.{Show}
-use Rattle.ghs_words.specs.declared.job.Show.TheVariants.{Summary, Events, Time}
+use Rattle.ghs_commands.specs.declared.job.RunOptions.{RunOptions}
+use Rattle.ghs_commands.specs.declared.job.Show.{Show}
+use Rattle.ghs_commands.specs.declared.job.Show.TheVariants.{Summary, Events, Time}
 use Rattle.ghs_make.specs.Network.{IsNetwork, IsNetworkOf, IsRefusal}
 use Rattle.ghs_make.specs.Text.{text_of}
 use Rattle.ghs_make.specs.declared.fault.MakeFault.TheVariants as make
 use Rattle.ghs_make.specs.declared.network.Network.{Network}
 use Rattle.ghs_make.specs.declared.plan.Asked.{Asked}
-use Rattle.ghs_words.specs.declared.exploring.ExploreOptions.{ExploreOptions}
-use Rattle.ghs_words.specs.declared.job.StepsOptions.{StepsOptions}
-use Rattle.ghs_words.specs.declared.job.StoredViewOptions.{StoredViewOptions}
-use Rattle.ghs_words.specs.declared.job.SweepOptions.{SweepOptions}
-use Rattle.ghs_words.specs.declared.job.Task.{Task}
-use Rattle.ghs_words.specs.declared.job.Task.TheVariants as task
-use Rattle.ghs_words.specs.declared.job.ViewOptions.{ViewOptions}
+use Rattle.ghs_commands.specs.declared.exploring.ExploreOptions.{ExploreOptions}
+use Rattle.ghs_commands.specs.declared.job.StepsOptions.{StepsOptions}
+use Rattle.ghs_commands.specs.declared.job.StoredViewOptions.{StoredViewOptions}
+use Rattle.ghs_commands.specs.declared.job.SweepOptions.{SweepOptions}
+use Rattle.ghs_commands.specs.declared.job.Task.{Task}
+use Rattle.ghs_commands.specs.declared.job.Task.TheVariants as task
+use Rattle.ghs_commands.specs.declared.job.ViewOptions.{ViewOptions}
 use Rattle.ghs_cli.specs.Exploring.{HasNoExploration, IsExplored}
 use Rattle.ghs_cli.specs.Charts.{IsSweepText}
 use Rattle.ghs_cli.specs.Viewing.{HasNoStoredView, HasNoView, IsStoredView, IsView}
@@ -63,7 +63,8 @@ abbrev pub HaveCores : Bool → Shape → (Component → Type 0) → List ℕ �
 HaveCores true g holds old new = HaveLines g holds old new
 HaveCores false g holds old new = new ≡ old
 
--- the input is the text of a graph, and the output that of its minimum spanning forest, with the cores to which merging it leads, where they are asked for
+-- the input is the text of a graph, and the output that of its minimum spanning forest, with the cores to which merging it leads,
+-- where they are asked for
 pub record IsTreeText (core : Bool) (input output : List ℕ) : Type 0 where
   pub graph : RawShape
   pub text : TextIs input (Ok graph)
@@ -83,7 +84,7 @@ net_at g events = net_after (shape_of g) events
 pub record IsReplayed (wake : WakeSet) (graph : RawShape) (events : List Event) (output : List ℕ) : Type 0 where
   pub run : IsRunUnder (may_wake (shape_of graph) wake) (network_of (shape_of graph)) events
   pub ended : HasEnded (shape_of graph) (net_at graph events)
-  pub printed : IsNetText (shape_of graph) (net_at graph events) output
+  pub printed : IsReportText (shape_of graph) (net_at graph events) output
 
 -- the input is the text of a graph, what is stored that of a run of it which has ended, and the output that of its net
 pub record IsReplayText (wake : WakeSet) (stored input output : List ℕ) : Type 0 where
@@ -97,7 +98,7 @@ pub record IsReplayText (wake : WakeSet) (stored input output : List ℕ) : Type
 pub record IsRunBy (o : RunOptions) (g : Shape) (events : List Event) : Type 0 where
   pub run : IsRunUnder (may_wake g o.wake) (network_of g) events
   pub within : length events ≤ o.turns
-  pub picked : o.workers ≡ 0 → IsPickedBy o.picking o.seed o.wake o.turns g events
+  pub picked : o.workers ≡ 0 → IsPickedBy o.schedule_kind o.seed o.wake o.turns g events
 
 -- such a run that has ended
 pub record IsWholeRun (o : RunOptions) (g : Shape) (events : List Event) : Type 0 where
@@ -113,11 +114,11 @@ pub record IsStopped (o : RunOptions) (g : Shape) (events : List Event) : Type 0
 -- the report of a run that has ended: the text of its net, with the cores with which it ended, where they are asked for
 abbrev pub IsReport : Bool → Shape → List Event → List ℕ → Type 0
 IsReport core g events output =
-    (text : List ℕ) × IsNetText g (net_after g events) text × HaveCores core g (HasEndedIn g (net_after g events)) text output
+    (text : List ℕ) × IsReportText g (net_after g events) text × HaveCores core g (HasEndedIn g (net_after g events)) text output
 
 -- in how many rounds the seed's schedule has picked a run, where it picks by rounds; threads go by none
 pub record AreItsRounds (o : RunOptions) (g : Shape) (events : List Event) (rounds : Option ℕ) : Type 0 where
-  pub by_schedule : o.workers ≡ 0 → AreRounds o.picking o.seed o.wake o.turns g events rounds
+  pub by_schedule : o.workers ≡ 0 → AreRounds o.schedule_kind o.seed o.wake o.turns g events rounds
   pub by_threads : 1 ≤ o.workers → rounds ≡ None
 
 -- the time of a run: its longest chain of messages, and its rounds
@@ -245,7 +246,8 @@ GoesOn g w _ = ⊥
 -- these events and this graph give this fault: the first event that isn't lawful, or a run that hasn't ended
 abbrev pub IsRunCause : WakeSet → RawShape → List Event → ServeFault → Type 0
 IsRunCause wake graph events (serve.NotLawful k) = IsFirstUnlawful (shape_of graph) wake events k
-IsRunCause wake graph events serve.NotEnded = IsRunUnder (may_wake (shape_of graph) wake) (network_of (shape_of graph)) events × (HasEnded (shape_of graph) (net_at graph events) → ⊥)
+IsRunCause wake graph events serve.NotEnded =
+    IsRunUnder (may_wake (shape_of graph) wake) (network_of (shape_of graph)) events × (HasEnded (shape_of graph) (net_at graph events) → ⊥)
 IsRunCause wake graph events serve.Memory = Unit {0}
 IsRunCause wake graph events _ = ⊥
 
@@ -369,14 +371,17 @@ HasShown job input old new =
 
 -- a task that prints by portions may have printed the first bytes before memory was wanting
 abbrev pub HasBegun : Task → List ℕ → List ℕ → Option (List ℕ) → Option (List ℕ) → Type 0
-HasBegun (task.Steps o) stored input old new = (new ≡ old) ⊎ ((output : List ℕ) × IsStepsText o stored input output × ((k : ℕ) × (k ≤ length output) × HasWritten old new output k))
-HasBegun (task.Make asked) stored input old new = (new ≡ old) ⊎ ((output : List ℕ) × IsMade asked output × ((k : ℕ) × (k ≤ length output) × HasWritten old new output k))
+HasBegun (task.Steps o) stored input old new =
+    (new ≡ old) ⊎ ((output : List ℕ) × IsStepsText o stored input output × ((k : ℕ) × (k ≤ length output) × HasWritten old new output k))
+HasBegun (task.Make asked) stored input old new =
+    (new ≡ old) ⊎ ((output : List ℕ) × IsMade asked output × ((k : ℕ) × (k ≤ length output) × HasWritten old new output k))
 HasBegun _ stored input old new = Unit {0}
 
 -- what has gone out: all of what the task prints, or only its first bytes, where a write failed
 abbrev pub Serves : Task → List ℕ → List ℕ → Option (List ℕ) → Option (List ℕ) → Result (Unit {0}) ServeFault → Type 0
 Serves job stored input old new (Ok u) = (output : List ℕ) × IsPrinted job stored input output × HasWritten old new output (length output)
-Serves job stored input old new (Err (serve.Write written)) = (output : List ℕ) × IsTried job stored input output × (written < length output) × HasWritten old new output written
+Serves job stored input old new (Err (serve.Write written)) =
+    (output : List ℕ) × IsTried job stored input output × (written < length output) × HasWritten old new output written
 Serves job stored input old new (Err serve.TurnLimit) = IsCause job stored input serve.TurnLimit × HasShown job input old new
 Serves job stored input old new (Err serve.Memory) = IsCause job stored input serve.Memory × HasBegun job stored input old new
 Serves job stored input old new (Err fault) = IsCause job stored input fault

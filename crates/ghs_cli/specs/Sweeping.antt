@@ -16,13 +16,13 @@ use Rattle.ghs_sweep.specs.Front.{bare_front}
 use Rattle.ghs_sweep.specs.Lines.{line_behind, run_lines}
 use Rattle.ghs_sweep.specs.Summary.{AreSummaryLines}
 use Rattle.ghs_sweep.specs.Sweep.{AreRuns}
-use Rattle.ghs_words.specs.declared.job.Sheet.{Sheet}
-use Rattle.ghs_words.specs.declared.job.Sheet.TheVariants.{Chart, Runs, Summary}
-use Rattle.ghs_words.specs.declared.job.SweepOptions.{SweepOptions}
+use Rattle.ghs_commands.specs.declared.job.Sheet.{Sheet}
+use Rattle.ghs_commands.specs.declared.job.Sheet.TheVariants.{Chart, Runs, Summary}
+use Rattle.ghs_commands.specs.declared.job.SweepOptions.{SweepOptions}
 
 -- what its runs have in common
 abbrev pub setup_of : SweepOptions → Setup
-setup_of o = record { picking = o.picking; wake = o.wake; turns = o.turns }
+setup_of o = record { schedule_kind = o.schedule_kind; wake = o.wake; turns = o.turns }
 
 -- how many runs it has: one for each seed
 abbrev pub count_of : SweepOptions → ℕ
@@ -52,7 +52,7 @@ pub record AreSweptLines (o : SweepOptions) (front : List ℕ) (g : Shape) (line
 -- a seed's run by parts: a line for each of them, each behind a front
 pub record IsPartedRun (o : SweepOptions) (by : By) (front : List ℕ) (g : Shape) (seed : ℕ) (lines : List ℕ) : Type 0 where
   pub events : List Event
-  pub run : IsPickedBy o.picking seed o.wake o.turns g events
+  pub run : IsPickedBy o.schedule_kind seed o.wake o.turns g events
   pub printed : lines ≡ run_text o.form front by seed g events
 
 -- the runs of so many seeds by parts, from the first on, one's lines behind another's

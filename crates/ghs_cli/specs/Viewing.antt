@@ -11,21 +11,21 @@ use Rattle.ghs_view.specs.RunPage.{IsRunPage, IsTooLarge}
 use Rattle.ghs_world.specs.Wakes.{may_wake}
 use Rattle.ghs_cli.specs.declared.fault.ServeFault.{ServeFault}
 use Rattle.ghs_cli.specs.declared.fault.ServeFault.TheVariants as serve
-use Rattle.ghs_words.specs.declared.job.StoredViewOptions.{StoredViewOptions}
-use Rattle.ghs_words.specs.declared.job.ViewOptions.{ViewOptions}
+use Rattle.ghs_commands.specs.declared.job.StoredViewOptions.{StoredViewOptions}
+use Rattle.ghs_commands.specs.declared.job.ViewOptions.{ViewOptions}
 
 -- the page of the run that a seed picks of a graph, to its end or to its last turn
 pub record IsSeedView (o : ViewOptions) (g : Shape) (output : List ℕ) : Type 0 where
   pub events : List Event
-  pub picked : IsPickedBy o.picking o.seed o.wake o.turns g events
+  pub picked : IsPickedBy o.schedule_kind o.seed o.wake o.turns g events
   pub page : IsRunPage g events o.from o.to output
 
 -- the page of two such runs, that of its seed and that of another one
 pub record IsPairView (o : ViewOptions) (beside : ℕ) (g : Shape) (output : List ℕ) : Type 0 where
   pub first : List Event
   pub second : List Event
-  pub picked : IsPickedBy o.picking o.seed o.wake o.turns g first
-  pub picked_beside : IsPickedBy o.picking beside o.wake o.turns g second
+  pub picked : IsPickedBy o.schedule_kind o.seed o.wake o.turns g first
+  pub picked_beside : IsPickedBy o.schedule_kind beside o.wake o.turns g second
   pub page : IsPairPage g first second o.from o.to output
 
 -- the page of one of them, or with another seed of two
@@ -39,14 +39,14 @@ IsView o g output = IsViewBeside o.beside o g output
 -- a run that a page can't take, or two of which it can't take one
 pub record IsLongSeed (o : ViewOptions) (g : Shape) : Type 0 where
   pub events : List Event
-  pub picked : IsPickedBy o.picking o.seed o.wake o.turns g events
+  pub picked : IsPickedBy o.schedule_kind o.seed o.wake o.turns g events
   pub large : IsTooLarge g events o.to
 
 pub record IsLongPair (o : ViewOptions) (beside : ℕ) (g : Shape) : Type 0 where
   pub first : List Event
   pub second : List Event
-  pub picked : IsPickedBy o.picking o.seed o.wake o.turns g first
-  pub picked_beside : IsPickedBy o.picking beside o.wake o.turns g second
+  pub picked : IsPickedBy o.schedule_kind o.seed o.wake o.turns g first
+  pub picked_beside : IsPickedBy o.schedule_kind beside o.wake o.turns g second
   pub large : IsPairTooLarge g first second o.to
 
 -- why there is no page of one run

@@ -1,15 +1,15 @@
 //! Pages of two runs, beside each other.
-ghost use Rattle.ghs_words.specs.Job.{AreViewLimits};
+ghost use Rattle.ghs_commands.specs.Job.{AreViewLimits};
 ghost use Rattle.ghs_cli.specs.Viewing.{HasNoPairView, IsPairView};
 ghost use Rattle.ghs_picking.specs.Picking.{IsPickedBy};
 ghost use Rattle.std.specs.Prelude.{◌≡◌, IfErr, IfOk};
 
 use crate::fault::ServeFault;
 use crate::viewing::world_of;
+use ghs_commands::job::ViewOptions;
 use ghs_graph::graph::Graph;
 use ghs_view::page::PageFault;
 use ghs_view::pair::pair_page;
-use ghs_words::job::ViewOptions;
 use ghs_world::world::World;
 use std::alloc::Global;
 
@@ -39,8 +39,8 @@ fn pair_page_of(
     second: &World,
 ) -> Result<Vec<u8>, ServeFault>
     requires graph { second.now.net.graph ≡ first.now.net.graph }
-    requires first { IsPickedBy options.now.picking options.now.seed options.now.wake options.now.turns first.now.net.graph first.now.net.trace }
-    requires second { IsPickedBy options.now.picking beside options.now.wake options.now.turns first.now.net.graph second.now.net.trace }
+    requires first { IsPickedBy options.now.schedule_kind options.now.seed options.now.wake options.now.turns first.now.net.graph first.now.net.trace }
+    requires second { IsPickedBy options.now.schedule_kind beside options.now.wake options.now.turns first.now.net.graph second.now.net.trace }
     ensures text { IfOk result (λ text. IsPairView options.now beside first.now.net.graph text.items) }
     ensures fault { IfErr result (λ fault. HasNoPairView options.now beside first.now.net.graph fault) }
 {

@@ -1,5 +1,5 @@
 //! Charts of sweeps.
-ghost use Rattle.ghs_words.specs.Job.{AreSweepLimits};
+ghost use Rattle.ghs_commands.specs.Job.{AreSweepLimits};
 ghost use Rattle.ghs_cli.specs.Charts.{IsCaption, IsNamelessChart, IsPanel, IsPanelOf};
 ghost use Rattle.ghs_cli.specs.Networks.{ArePanels, IsChart};
 ghost use Rattle.ghs_sweep.specs.Figures.{HasSmallWeight};
@@ -10,12 +10,12 @@ use crate::sweeping::runs_of;
 use ghs_chart::chart::put_chart_head;
 use ghs_chart::panel::{Caption, put_panel};
 use ghs_chart::texts::CHART_TAIL;
+use ghs_commands::job::SweepOptions;
 use ghs_graph::bounds::bound;
 use ghs_graph::graph::Graph;
 use ghs_sweep::figures::Figures;
 use ghs_sweep::measure::Measure;
 use ghs_sweep::summary::rising_of;
-use ghs_words::job::SweepOptions;
 use std::alloc::{AllocError, Global};
 use std::thread::Threads;
 

@@ -2,13 +2,14 @@
 ghost use Rattle.ghs_cli.specs.Exploring.{AreEndsOf, HasNoExploration, IsBehind, IsExplored, IsRunOf};
 ghost use Rattle.ghs_cli.specs.Serving.{IsExploreCause, IsExploreOutput, is_write, shape_of};
 ghost use Rattle.ghs_cli.specs.declared.fault.ServeFault.{ServeFault};
-ghost use Rattle.ghs_words.specs.Job.{AreExploreLimits};
-ghost use Rattle.ghs_words.specs.declared.exploring.Finding.{Finding};
+ghost use Rattle.ghs_commands.specs.Job.{AreExploreLimits};
+ghost use Rattle.ghs_commands.specs.declared.exploring.Finding.{Finding};
 ghost use Rattle.std.specs.Prelude.{◌≡◌, ◌≤◌, ◌↔◌, false, true, IfErr, IfOk, IfSome, IsErrOf};
 
 use crate::fault::ServeFault;
 use crate::progress::Teller;
 use crate::sweeping::built;
+use ghs_commands::exploring::{ExploreOptions, Finding};
 use ghs_explore::explore::explore_watched;
 use ghs_explore::explored::Explored;
 use ghs_explore::fault::ExploreFault;
@@ -19,7 +20,6 @@ use ghs_gr::judgement::read_gr;
 use ghs_gr::raw_graph::RawGraph;
 use ghs_graph::graph::Graph;
 use ghs_sched::trace::write_trace;
-use ghs_words::exploring::{ExploreOptions, Finding};
 use std::alloc::{AllocError, Global};
 
 /// What is found of all runs of the graph that the device gives.

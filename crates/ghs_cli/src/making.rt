@@ -1,7 +1,7 @@
 //! A network that is made.
 ghost use Rattle.ghs_cli.specs.Serving.{IsWrite, Serves, is_late};
 ghost use Rattle.ghs_cli.specs.declared.fault.ServeFault.{ServeFault};
-ghost use Rattle.ghs_words.specs.declared.job.Task.{Task};
+ghost use Rattle.ghs_commands.specs.declared.job.Task.{Task};
 ghost use Rattle.std.specs.Prelude.{IfErr, IsErrOf, List, false, true, ◌↔◌, ◌≡◌, ℕ};
 
 use crate::fault::ServeFault;

@@ -1,5 +1,5 @@
 //! Sweeps of several networks, whose lines begin with names.
-ghost use Rattle.ghs_words.specs.Job.{AreSweepLimits};
+ghost use Rattle.ghs_commands.specs.Job.{AreSweepLimits};
 ghost use Rattle.ghs_cli.specs.Networks.{AreLinesOf, AreLinesOfAll, HasSwept, IsNetworksText, IsSweepOf, IsTextOf, front_head};
 ghost use Rattle.ghs_cli.specs.Serving.{IsGraphCause, IsWrite};
 ghost use Rattle.ghs_cli.specs.declared.fault.ServeFault.{ServeFault};
@@ -9,13 +9,13 @@ use crate::charting::chart_text;
 use crate::fault::ServeFault;
 use crate::progress::tell_networks;
 use crate::sweeping::{built, head_by, put_lines_of};
+use ghs_commands::job::{Sheet, SweepOptions};
 use ghs_gr::device::{Sink, Source};
 use ghs_gr::judgement::read_gr;
 use ghs_graph::graph::Graph;
 use ghs_report::write_out::write_out;
 use ghs_steps::form::Form;
 use ghs_sweep::front::{FRONT_HEAD, front_of};
-use ghs_words::job::{Sheet, SweepOptions};
 use std::alloc::{AllocError, Global};
 use std::thread::Threads;
 

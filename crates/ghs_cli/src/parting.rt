@@ -1,5 +1,5 @@
 //! Sweeps by parts: the messages of each run by node or level, or how often each rule applied.
-ghost use Rattle.ghs_words.specs.Job.{AreSweepLimits};
+ghost use Rattle.ghs_commands.specs.Job.{AreSweepLimits};
 ghost use Rattle.ghs_cli.specs.Sweeping.{ArePartedRuns, IsPartedRun, count_of};
 ghost use Rattle.ghs_picking.specs.Picking.{IsPickedBy};
 ghost use Rattle.ghs_cli.specs.Sweeping.{AreLines};
@@ -7,14 +7,14 @@ ghost use Rattle.std.specs.Prelude.{◌≡◌, ◌+◌, ◌-◌, ◌<◌, ◌≤
 ghost use Rattle.std.specs.Thread.{IsSync};
 
 use crate::progress::tell_seeds;
+use ghs_commands::job::SweepOptions;
+use ghs_commands::values::Seeds;
 use ghs_graph::graph::Graph;
 use ghs_parts::by::By;
 use ghs_parts::lines::put_run;
 use ghs_picking::picking::run_by_seed;
 use ghs_sched::fault::RunFault;
 use ghs_sweep::runs::share_of;
-use ghs_words::job::SweepOptions;
-use ghs_words::values::Seeds;
 use ghs_world::world::World;
 use std::alloc::{AllocError, Global};
 use std::thread::{Threads, join};
@@ -179,14 +179,14 @@ fn run_of(
 ) -> Result<World, AllocError>
     requires { AreSweepLimits options.now }
     ensures graph { IfOk result (λ world. world.net.graph ≡ graph.now) }
-    ensures run { IfOk result (λ world. IsPickedBy options.now.picking seed options.now.wake options.now.turns graph.now world.net.trace) }
+    ensures run { IfOk result (λ world. IsPickedBy options.now.schedule_kind seed options.now.wake options.now.turns graph.now world.net.trace) }
 {
     let mut world = match World::open(alloc, graph.copy(alloc)?, options.wake, options.turns) {
         Ok(world) => world,
         Err((_, error)) => return Err(error),
     };
     let _ = world.net();
-    match run_by_seed(alloc, &mut world, options.picking, seed) {
+    match run_by_seed(alloc, &mut world, options.schedule_kind, seed) {
         Ok(_) | Err(RunFault::TurnLimit) => Ok(world),
         Err(_) => Err(AllocError),
     }

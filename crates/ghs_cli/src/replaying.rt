@@ -2,7 +2,7 @@
 ghost use Rattle.ghs_core.specs.NetState.{network};
 ghost use Rattle.ghs_protocol.specs.Marks.{HasEnded};
 ghost use Rattle.ghs_protocol.specs.Run.{IsRunUnder};
-ghost use Rattle.ghs_report.specs.NetText.{IsNetText};
+ghost use Rattle.ghs_report.specs.ReportText.{IsReportText};
 ghost use Rattle.ghs_world.specs.WorldState.{home, wakers};
 ghost use Rattle.ghs_cli.specs.Serving.{GoesOn, IsReplayCause, IsReplayText, IsReplayed, IsRunCause, IsTraceCause, IsTraceText, is_write};
 ghost use Rattle.ghs_cli.specs.declared.fault.ServeFault.{ServeFault};
@@ -15,7 +15,7 @@ use ghs_gr::raw_graph::RawGraph;
 use ghs_gr::text::read_text;
 use ghs_graph::graph::Graph;
 use ghs_protocol::event::Event;
-use ghs_report::net_text::ReportFault;
+use ghs_report::report_text::ReportFault;
 use ghs_report::run_text::run_text;
 use ghs_sched::replay::replay;
 use ghs_sched::trace::{EVENT_LIMIT, read_trace};
@@ -77,7 +77,7 @@ fn replayed(
 
 /// The text of a world whose run has ended.
 fn finished(alloc: Global, world: &World) -> Result<Vec<u8>, ServeFault>
-    ensures text { IfOk result (λ text. IsNetText world.now.net.graph (home world.now) text.items) }
+    ensures text { IfOk result (λ text. IsReportText world.now.net.graph (home world.now) text.items) }
     ensures ended { OnOk result (HasEnded world.now.net.graph (home world.now)) }
     ensures fault { IfErr result (λ fault. GoesOn world.now.net.graph (home world.now) fault) }
     ensures run { IsRunUnder (wakers world.now) (network world.now.net) world.now.net.trace }

@@ -6,16 +6,17 @@ ghost use Rattle.ghs_protocol.specs.Network.{network_of};
 ghost use Rattle.ghs_pool.specs.Ends.{EndFits};
 ghost use Rattle.ghs_pool.specs.Follows.{Follows};
 ghost use Rattle.ghs_world.specs.WorldState.{home};
-ghost use Rattle.ghs_words.specs.Job.{AreWithinLimits};
+ghost use Rattle.ghs_commands.specs.Job.{AreWithinLimits};
 ghost use Rattle.ghs_cli.specs.Running.{IsOpened, Stops};
 ghost use Rattle.ghs_cli.specs.Serving.{AreItsRounds, IsRan, IsReport, IsRunOutput, IsRunningCause, IsShown, IsStopped, IsWholeRun, StopsRun, is_events, is_write, shape_of};
-ghost use Rattle.ghs_words.specs.declared.job.Show.TheVariants.{Events};
+ghost use Rattle.ghs_commands.specs.declared.job.Show.TheVariants.{Events};
 ghost use Rattle.ghs_cli.specs.declared.fault.ServeFault.{ServeFault};
 ghost use Rattle.std.specs.Prelude.{◌≡◌, ◌≤◌, ◌↔◌, false, true, IfSome, IsErrOf, OnOk, IfErr, IfOk};
 
 use crate::fault::ServeFault;
 use crate::output::Output;
 use crate::progress::{Tallying, run_told, tell_end};
+use ghs_commands::job::{RunOptions, Show};
 use ghs_cores::text::put_ended_cores;
 use ghs_gr::device::Source;
 use ghs_gr::judgement::read_gr;
@@ -26,12 +27,11 @@ use ghs_picking::time::time_text;
 use ghs_pool::end::PoolFault;
 use ghs_pool::shop::pair_of;
 use ghs_pool::workers::run_workers;
-use ghs_report::net_text::ReportFault;
+use ghs_report::report_text::ReportFault;
 use ghs_report::run_text::run_text;
 use ghs_sched::fault::RunFault;
 use ghs_sched::run::RunEnd;
 use ghs_sched::trace::write_trace;
-use ghs_words::job::{RunOptions, Show};
 use ghs_world::world::World;
 use std::alloc::Global;
 use std::sync::Wait;
@@ -139,7 +139,7 @@ fn by_schedule(
     ensures whole { OnOk result.2 (IsWholeRun options.now result.0.net.graph result.0.net.trace) }
     ensures stops { IfErr result.2 (Stops options.now result.0) }
 {
-    let (rounds, end) = run_timed(alloc, &mut world, options.picking, options.seed);
+    let (rounds, end) = run_timed(alloc, &mut world, options.schedule_kind, options.seed);
     let _ = world.net();
     let _ = world.turns();
     match end {

@@ -1,6 +1,6 @@
 //! The work that a job asks for.
 ghost use Rattle.ghs_cli.specs.Ending.{IsBoundedTask};
-ghost use Rattle.ghs_words.specs.Job.{IsWithinLimits};
+ghost use Rattle.ghs_commands.specs.Job.{IsWithinLimits};
 ghost use Rattle.ghs_cli.specs.Serving.{IfStored, IsCause, IsGraphCause, IsOutput, IsTreeText, IsUnread, IsUnwritten, IsWrite, Serves, by_portions, is_late, is_write, shows_events};
 ghost use Rattle.ghs_cli.specs.declared.fault.ServeFault.{ServeFault};
 ghost use Rattle.std.specs.Prelude.{◌≡◌, ◌⊎◌, ◌↔◌, false, true, IfSome, IsErrOf, IfErr, IfOk};
@@ -14,6 +14,7 @@ use crate::running::run_output_of;
 use crate::stepping::write_steps_of;
 use crate::sweeping::sweep_text_of;
 use crate::viewing::{stored_view_of, view_text_of};
+use ghs_commands::job::{Job, Task};
 use ghs_cores::text::put_graph_cores;
 use ghs_gr::device::{Sink, Source};
 use ghs_gr::judgement::read_gr;
@@ -22,7 +23,6 @@ use ghs_graph::graph::Graph;
 use ghs_graph::tree::tree_of;
 use ghs_report::tree_text::tree_text;
 use ghs_report::write_out::write_out;
-use ghs_words::job::{Job, Task};
 use std::alloc::Global;
 use std::sync::Wait;
 use std::thread::Threads;

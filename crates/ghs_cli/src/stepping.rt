@@ -1,16 +1,16 @@
 //! What each event of a stored run does, line by line.
 ghost use Rattle.ghs_cli.specs.Serving.{IsWrite, Serves, is_late};
 ghost use Rattle.ghs_cli.specs.declared.fault.ServeFault.{ServeFault};
-ghost use Rattle.ghs_words.specs.declared.job.Task.{Task};
+ghost use Rattle.ghs_commands.specs.declared.job.Task.{Task};
 ghost use Rattle.std.specs.Prelude.{◌≡◌, ◌⊎◌, ◌↔◌, false, true, IfErr, IfSome, IsErrOf};
 
 use crate::fault::ServeFault;
 use crate::replaying::events_of;
+use ghs_commands::job::StepsOptions;
 use ghs_gr::device::{Sink, Source};
 use ghs_gr::judgement::read_gr;
 use ghs_graph::graph::Graph;
 use ghs_steps::show::write_steps;
-use ghs_words::job::StepsOptions;
 use std::alloc::Global;
 
 /// Writes the lines of the chosen steps of a stored run of the graph that a device gives. The trace is judged first, then

@@ -1,5 +1,5 @@
 //! Sweeps: the figures of many seeds' runs, or what they come to.
-ghost use Rattle.ghs_words.specs.Job.{AreSweepLimits};
+ghost use Rattle.ghs_commands.specs.Job.{AreSweepLimits};
 ghost use Rattle.ghs_cli.specs.Charts.{IsSweepText};
 ghost use Rattle.ghs_cli.specs.Serving.{IsGraphCause, IsSweepOutput, is_write, shape_of};
 ghost use Rattle.ghs_cli.specs.Sweeping.{AreLines, AreSheetLines, AreSweptLines, IsSwept, count_of, head_by, head_of, setup_of};
@@ -12,6 +12,8 @@ use crate::charting::nameless_chart;
 use crate::fault::ServeFault;
 use crate::parting::put_parted;
 use crate::progress::tell_seeds;
+use ghs_commands::job::{Sheet, SweepOptions};
+use ghs_commands::values::Seeds;
 use ghs_gr::device::Source;
 use ghs_gr::judgement::read_gr;
 use ghs_gr::raw_graph::RawGraph;
@@ -23,11 +25,9 @@ use ghs_sweep::figures::Figures;
 use ghs_sweep::front::bare_front;
 use ghs_sweep::line::HEAD_LINE;
 use ghs_sweep::lines::put_runs;
-use ghs_sweep::runs::run_on;
+use ghs_sweep::runs::run_seeds;
 use ghs_sweep::seeded::Setup;
 use ghs_sweep::summary::{SUMMARY_HEAD, put_summary};
-use ghs_words::job::{Sheet, SweepOptions};
-use ghs_words::values::Seeds;
 use std::alloc::{AllocError, Global};
 use std::thread::Threads;
 
@@ -251,7 +251,7 @@ pub(crate) fn runs_of<R: Threads + Sync + Eprint>(
     let mut left = count;
     while left > 0 {
         let batch = batch_of(&runs, threads).min(left);
-        run_on(rt, alloc, graph, setup, first, &mut runs, batch, threads)?;
+        run_seeds(rt, alloc, graph, setup, first, &mut runs, batch, threads)?;
         left -= batch;
         if options.progress && left > 0 {
             tell_seeds(rt, count - left, count);
@@ -278,7 +278,7 @@ pub(crate) fn setup_of(options: &SweepOptions) -> Setup
     ensures { result ≡ setup_of options.now }
 {
     Setup {
-        picking: options.picking,
+        schedule_kind: options.schedule_kind,
         wake: options.wake,
         turns: options.turns,
     }

@@ -1,5 +1,5 @@
 //! Pages of runs: of the run that a seed picks, of the runs of two, and of a stored one.
-ghost use Rattle.ghs_words.specs.Job.{AreViewLimits};
+ghost use Rattle.ghs_commands.specs.Job.{AreViewLimits};
 ghost use Rattle.ghs_cli.specs.Serving.{IsStoredViewCause, IsStoredViewOutput, IsViewCause, IsViewOutput, is_write, shape_of};
 ghost use Rattle.ghs_cli.specs.Viewing.{HasNoSeedView, HasNoStoredView, HasNoView, IsSeedView, IsStoredView, IsView};
 ghost use Rattle.ghs_cli.specs.declared.fault.ServeFault.{ServeFault};
@@ -10,6 +10,7 @@ ghost use Rattle.std.specs.Prelude.{◌≡◌, ◌≤◌, ◌⊎◌, ◌↔◌, 
 use crate::beside::pair_viewed;
 use crate::fault::ServeFault;
 use crate::replaying::events_of;
+use ghs_commands::job::{StoredViewOptions, ViewOptions};
 use ghs_gr::device::Source;
 use ghs_gr::judgement::read_gr;
 use ghs_gr::raw_graph::RawGraph;
@@ -20,7 +21,6 @@ use ghs_sched::fault::RunFault;
 use ghs_sched::trace::EVENT_LIMIT;
 use ghs_view::page::{PageFault, run_page};
 use ghs_view::stored::{StoredFault, stored_page};
-use ghs_words::job::{StoredViewOptions, ViewOptions};
 use ghs_world::world::World;
 use std::alloc::Global;
 
@@ -84,14 +84,14 @@ pub(crate) fn world_of(
 ) -> Result<World, ServeFault>
     requires { AreViewLimits options.now }
     ensures graph { IfOk result (λ world. world.net.graph ≡ graph) }
-    ensures picked { IfOk result (λ world. IsPickedBy options.now.picking seed options.now.wake options.now.turns graph world.net.trace) }
+    ensures picked { IfOk result (λ world. IsPickedBy options.now.schedule_kind seed options.now.wake options.now.turns graph world.net.trace) }
     ensures fault { IfErr result (λ fault. fault ≡ ServeFault.Memory) }
 {
     let mut world = match World::open(alloc, graph, options.wake, options.turns) {
         Ok(world) => world,
         Err(_) => return Err(ServeFault::Memory),
     };
-    match run_by_seed(alloc, &mut world, options.picking, seed) {
+    match run_by_seed(alloc, &mut world, options.schedule_kind, seed) {
         Ok(_) => Ok(world),
         Err(RunFault::TurnLimit) => Ok(world),
         Err(RunFault::Stalled) => unreachable!(),
@@ -102,7 +102,7 @@ pub(crate) fn world_of(
 
 /// The page of a world.
 fn page_of(alloc: Global, options: &ViewOptions, world: &World) -> Result<Vec<u8>, ServeFault>
-    requires { IsPickedBy options.now.picking options.now.seed options.now.wake options.now.turns world.now.net.graph world.now.net.trace }
+    requires { IsPickedBy options.now.schedule_kind options.now.seed options.now.wake options.now.turns world.now.net.graph world.now.net.trace }
     ensures text { IfOk result (λ text. IsSeedView options.now world.now.net.graph text.items) }
     ensures fault { IfErr result (λ fault. HasNoSeedView options.now world.now.net.graph fault) }
 {

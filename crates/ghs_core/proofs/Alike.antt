@@ -15,7 +15,8 @@ none_alike ls label us e = rw e (record {
 })
 
 -- one number more: it has the root, or it hasn't
-pub alike_more : (ls : List ℕ) (u label : ℕ) (us : List ℕ) → 1 ≤ u → get_or ls u 0 ≡ label → HaveRoot ls u label us → HaveRoot ls (u + 1) label (us ++ u ∷ [])
+pub alike_more : (ls : List ℕ) (u label : ℕ) (us : List ℕ) → 1 ≤ u → get_or ls u 0 ≡ label → HaveRoot ls u label us →
+    HaveRoot ls (u + 1) label (us ++ u ∷ [])
 alike_more ls u label us some t a = record { rising = rising; has = has; all = all }
   where
     below : (k : ℕ) → k < length us → get_or us k 0 < u
@@ -23,14 +24,17 @@ alike_more ls u label us some t a = record { rising = rising; has = has; all = a
 
     rising : (k : ℕ) → k + 1 < length (us ++ u ∷ []) → get_or (us ++ u ∷ []) k 0 < get_or (us ++ u ∷ []) (k + 1) 0
     rising k lt = ⊎_elim
-        (λ (l : k + 1 < length us). rw (get_or_append_left us (u ∷ []) 0 k (omega (arith, l)), get_or_append_left us (u ∷ []) 0 (k + 1) l) (a.rising k l))
-        (λ (l : length us ≤ k + 1). let e : length us ≡ k + 1 = omega (arith, length-append us (u ∷ []), lt, l) in rw (get_or_append_left us (u ∷ []) 0 k (omega (arith, e)), get_or_push us u 0 (k + 1) e) (below k (omega (arith, e))))
+        (λ (l : k + 1 < length us). rw (get_or_append_left us (u ∷ []) 0 k (omega (arith, l)), get_or_append_left us (u ∷ []) 0 (k + 1) l)
+        (a.rising k l))
+        (λ (l : length us ≤ k + 1). let e : length us ≡ k + 1 = omega (arith, length-append us (u ∷ []), lt, l) in
+        rw (get_or_append_left us (u ∷ []) 0 k (omega (arith, e)), get_or_push us u 0 (k + 1) e) (below k (omega (arith, e))))
         (cases_lt (k + 1) (length us))
 
     has : (x : ℕ) → Contains (us ++ u ∷ []) x → (1 ≤ x) × (x < u + 1) × (get_or ls x 0 ≡ label)
     has x h = ⊎_elim
         (λ l. let b = a.has x l in (b.0, omega (arith, b.1), b.2))
-        (λ l. ⊎_elim (λ n. absurd (nothing_in x n)) (λ (e : u ≡ x). subst (λ (y : ℕ). (1 ≤ y) × (y < u + 1) × (get_or ls y 0 ≡ label)) e (some, omega arith, t)) (in_cases u x [] l))
+        (λ l. ⊎_elim (λ n. absurd (nothing_in x n))
+        (λ (e : u ≡ x). subst (λ (y : ℕ). (1 ≤ y) × (y < u + 1) × (get_or ls y 0 ≡ label)) e (some, omega arith, t)) (in_cases u x [] l))
         (Contains-append_cases us (u ∷ []) x h)
 
     all : (x : ℕ) → 1 ≤ x → x < u + 1 → get_or ls x 0 ≡ label → Contains (us ++ u ∷ []) x
@@ -43,5 +47,6 @@ pub alike_less : (ls : List ℕ) (u label : ℕ) (us : List ℕ) → (get_or ls 
 alike_less ls u label us other a = record {
   rising = a.rising;
   has = λ x h. let b = a.has x h in (b.0, omega (arith, b.1), b.2);
-  all = λ x lo hi same. ⊎_elim (λ (l : x < u). a.all x lo l same) (λ (l : u ≤ x). let e : x ≡ u = omega (arith, l, hi) in absurd (other (rw e at same))) (cases_lt x u);
+  all = λ x lo hi same. ⊎_elim (λ (l : x < u). a.all x lo l same)
+      (λ (l : u ≤ x). let e : x ≡ u = omega (arith, l, hi) in absurd (other (rw e at same))) (cases_lt x u);
 }

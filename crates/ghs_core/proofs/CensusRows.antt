@@ -9,7 +9,7 @@ use Rattle.std.proofs.lemmas.Result.{IfOk-weaker}
 use Rattle.ghs_graph.specs.Graph.{Shape}
 use Rattle.ghs_graph.proofs.lemmas.Members.{in_filter, filter_has}
 use Rattle.ghs_node.specs.NodeState.{NodeState}
-use Rattle.ghs_links.specs.Links.{LinksState}
+use Rattle.ghs_channels.specs.Channels.{ChannelsState}
 use Rattle.ghs_protocol.specs.declared.event.Event.{Event}
 use Rattle.ghs_protocol.specs.Network.{Network, network_of}
 use Rattle.ghs_protocol.specs.Net.{Net}
@@ -25,7 +25,8 @@ use Rattle.ghs_core.specs.Census.{IsRow, IsCensus, AreLarge, CountsClass, AreCou
 use Rattle.ghs_core.proofs.Enough.{no_more}
 use Rattle.ghs_core.proofs.Interleaved.{large_fragment}
 
-module _ {g : Shape} {es : List Event} {nodes : List NodeState} {links : LinksState} {counts : Counts} {halts : Halts} (kept : IsKept g es nodes links counts halts) where
+module _ {g : Shape} {es : List Event} {nodes : List NodeState} {channels : ChannelsState} {counts : Counts} {halts : Halts}
+    (kept : IsKept g es nodes channels counts halts) where
   abbrev net : Network
   net = network_of g
 
@@ -145,8 +146,11 @@ module _ {g : Shape} {es : List Event} {nodes : List NodeState} {links : LinksSt
 
     pub census_told : {X E : Type 0} (items : X → List FragmentRow) (r : Result X E) → IfOk r (λ x. AreCounted roots (level_in nodes) (items x)) →
         IfOk r (λ x. IsCensus net w (items x))
-    census_told items r h = IfOk-weaker r (λ x. AreCounted roots (level_in nodes) (items x)) (λ x. IsCensus net w (items x)) (λ x a. is_census (items x) a) h
+    census_told items r h =
+        IfOk-weaker r (λ x. AreCounted roots (level_in nodes) (items x)) (λ x. IsCensus net w (items x)) (λ x a. is_census (items x) a) h
 
   -- its rows are large
-  pub large_told : {X E : Type 0} (items : X → List FragmentRow) (r : Result X E) → IfOk r (λ x. IsCensus net w (items x)) → IfOk r (λ x. AreLarge (items x))
-  large_told items r h = IfOk-weaker r (λ x. IsCensus net w (items x)) (λ x. AreLarge (items x)) (λ x c. λ k d lt. large_row (get_or (items x) k d) (c.each k d lt)) h
+  pub large_told : {X E : Type 0} (items : X → List FragmentRow) (r : Result X E) → IfOk r (λ x. IsCensus net w (items x)) →
+      IfOk r (λ x. AreLarge (items x))
+  large_told items r h =
+      IfOk-weaker r (λ x. IsCensus net w (items x)) (λ x. AreLarge (items x)) (λ x c. λ k d lt. large_row (get_or (items x) k d) (c.each k d lt)) h

@@ -24,7 +24,8 @@ module _ (roots : List ℕ) (level : ℕ → ℕ) where
   }
 
   -- the next number is of the class
-  pub one_counted : (v f : ℕ) (row : FragmentRow) → 1 ≤ v → get_or roots v 0 ≡ f → CountsClass roots level v f row → CountsClass roots level (v + 1) f (with_one row (level v))
+  pub one_counted : (v f : ℕ) (row : FragmentRow) → 1 ≤ v → get_or roots v 0 ≡ f → CountsClass roots level v f row →
+      CountsClass roots level (v + 1) f (with_one row (level v))
   one_counted v f row low e c = record {
     least = c.least;
     members = c.members ++ v ∷ [];
@@ -51,7 +52,8 @@ module _ (roots : List ℕ) (level : ℕ → ℕ) where
           (Contains-push_cases c.members v u h)
 
   -- the next number isn't
-  pub other_counted : (v f : ℕ) (row : FragmentRow) → (get_or roots v 0 ≡ f → ⊥) → CountsClass roots level v f row → CountsClass roots level (v + 1) f row
+  pub other_counted : (v f : ℕ) (row : FragmentRow) → (get_or roots v 0 ≡ f → ⊥) → CountsClass roots level v f row →
+      CountsClass roots level (v + 1) f row
   other_counted v f row ne c = record {
     least = c.least;
     members = c.members;
@@ -63,8 +65,8 @@ module _ (roots : List ℕ) (level : ℕ → ℕ) where
   }
 
   -- all rows
-  pub counted_more : (v f : ℕ) (row : FragmentRow) (rows : List FragmentRow) → 1 ≤ v → get_or roots v 0 ≡ f → f < length roots → row ≡ get_or rows f row →
-      CountClasses roots level v rows → CountClasses roots level (v + 1) (set rows f (with_one row (level v)))
+  pub counted_more : (v f : ℕ) (row : FragmentRow) (rows : List FragmentRow) → 1 ≤ v → get_or roots v 0 ≡ f → f < length roots →
+      row ≡ get_or rows f row → CountClasses roots level v rows → CountClasses roots level (v + 1) (set rows f (with_one row (level v)))
   counted_more v f row rows low e lt is c = record { places = length-set rows f _ ∙ c.places; each = each }
     where
       inside : f < length rows
@@ -75,8 +77,10 @@ module _ (roots : List ℕ) (level : ℕ → ℕ) where
 
       each : (k : ℕ) → k < length roots → CountsClass roots level (v + 1) k (get_or (set rows f (with_one row (level v))) k no_row)
       each k kl = ⊎_elim
-          (λ (q : k ≡ f). rw (q, get_or-set_same rows f (with_one row (level v)) no_row inside) (one_counted v f row low e (rw (← there) at (c.each f lt))))
-          (λ ne. rw (get_or-set_other rows f k (with_one row (level v)) no_row ne) (other_counted v k (get_or rows k no_row) (λ z. ne (sym z ∙ e)) (c.each k kl)))
+          (λ (q : k ≡ f). rw (q, get_or-set_same rows f (with_one row (level v)) no_row inside)
+          (one_counted v f row low e (rw (← there) at (c.each f lt))))
+          (λ ne. rw (get_or-set_other rows f k (with_one row (level v)) no_row ne)
+          (other_counted v k (get_or rows k no_row) (λ z. ne (sym z ∙ e)) (c.each k kl)))
           (cases_eq k f)
 
 -- the first rows, before any number
@@ -89,9 +93,12 @@ blank_more n rows b = record {
   places = length_push rows _ ∙ ap (λ (k : ℕ). k + 1) b.places;
   each = λ k lt. ⊎_elim
       (λ (e : k ≡ n). rw (e, get_or_push rows (record { least = n; level = 0; nodes = 0 }) no_row n b.places) refl)
-      (λ ne. rw (get_or_append_left rows (record { least = n; level = 0; nodes = 0 } ∷ []) no_row k (let p = b.places in omega (arith, p, ne, lt))) (b.each k (omega (arith, ne, lt))))
+      (λ ne. rw (get_or_append_left rows (record { least = n; level = 0; nodes = 0 } ∷ []) no_row k (let p = b.places in omega (arith, p, ne, lt)))
+      (b.each k (omega (arith, ne, lt))))
       (cases_eq k n);
 }
 
-pub blank_counted : (roots : List ℕ) (n : ℕ) (rows : List FragmentRow) → n ≡ length roots → AreBlank n rows → (level : ℕ → ℕ) → CountClasses roots level 1 rows
-blank_counted roots n rows e b level = record { places = b.places ∙ e; each = λ f lt. rw (b.each f (omega (arith, e, lt))) (none_counted roots level f) }
+pub blank_counted : (roots : List ℕ) (n : ℕ) (rows : List FragmentRow) → n ≡ length roots → AreBlank n rows → (level : ℕ → ℕ) →
+    CountClasses roots level 1 rows
+blank_counted roots n rows e b level =
+    record { places = b.places ∙ e; each = λ f lt. rw (b.each f (omega (arith, e, lt))) (none_counted roots level f) }

@@ -4,7 +4,8 @@ use Rattle.std.specs.List.{AllPairs, Contains}
 use Rattle.ghs_graph.proofs.lemmas.Members.{nothing_in, first_in, later_in, in_cases}
 
 -- a list without one of its numbers
-without_one : (ys : List ℕ) (x : ℕ) → Contains ys x → (zs : List ℕ) × (length ys ≡ suc (length zs)) × ((z : ℕ) → Contains ys z → z ≢ x → Contains zs z)
+without_one : (ys : List ℕ) (x : ℕ) → Contains ys x →
+    (zs : List ℕ) × (length ys ≡ suc (length zs)) × ((z : ℕ) → Contains ys z → z ≢ x → Contains zs z)
 without_one [] x h = absurd (nothing_in x h)
 without_one (y ∷ ys) x h = ⊎_elim
     (λ later.

@@ -1,4 +1,4 @@
--- Links in key order, and the ports on them.
+-- Channels in key order, and the ports on them.
 use Rattle.std.proofs.Common.{◌≡◌, ℕ, ◌+◌, ◌-◌, ◌<◌, ◌≤◌, Bool, true, false, ◌||◌, List, [], ◌∷◌, ◌++◌, length, get_or, take, replicate, set, refl, sym, ◌∙◌, ap, cond, arith, ◌==◌, eq-eqb, get_or-set_other, length-set}
 use Rattle.std.specs.List.{filter}
 use Rattle.std.proofs.lemmas.List.{get_or_default}

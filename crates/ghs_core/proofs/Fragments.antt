@@ -20,7 +20,7 @@ use Rattle.ghs_graph.proofs.lemmas.Ports.{OnLink, on_link}
 use Rattle.ghs_graph.proofs.lemmas.Members.{filter_has, in_filter}
 use Rattle.ghs_node.specs.declared.mark.Mark.TheVariants.{Branch}
 use Rattle.ghs_node.specs.NodeState.{NodeState, mark_at, degree}
-use Rattle.ghs_links.specs.Links.{LinksState}
+use Rattle.ghs_channels.specs.Channels.{ChannelsState}
 use Rattle.ghs_protocol.specs.declared.event.Event.{Event}
 use Rattle.ghs_protocol.specs.Network.{Network, network_of, At, port_at}
 use Rattle.ghs_protocol.specs.Net.{Net}
@@ -42,7 +42,8 @@ or_true : (b : Bool) → (b || true) ≡ true
 or_true true = refl
 or_true false = refl
 
-module _ {g : Shape} {es : List Event} {nodes : List NodeState} {links : LinksState} {counts : Counts} {halts : Halts} (kept : IsKept g es nodes links counts halts) where
+module _ {g : Shape} {es : List Event} {nodes : List NodeState} {channels : ChannelsState} {counts : Counts} {halts : Halts}
+    (kept : IsKept g es nodes channels counts halts) where
   abbrev net : Network
   net = network_of g
 
@@ -72,19 +73,24 @@ module _ {g : Shape} {es : List Event} {nodes : List NodeState} {links : LinksSt
   marked_back k v lo hi h = rw (kept.shows.node v lo hi, h) refl
 
   pub branches_are : AreBranches net w (filter (is_wanted One g.keys nodes) g.keys)
-  branches_are = record { rising = AllPairs-filter (λ j k. key_lt j k ≡ true) (is_wanted One g.keys nodes) g.keys kept.graph.rising; all = λ k. (there k, back k) }
+  branches_are = record {
+    rising = AllPairs-filter (λ j k. key_lt j k ≡ true) (is_wanted One g.keys nodes) g.keys kept.graph.rising;
+    all = λ k. (there k, back k);
+  }
     where
       there : (k : Key) → Contains (filter (is_wanted One g.keys nodes) g.keys) k → IsBranchLink net w k
       there k h =
           let u = in_filter (is_wanted One g.keys nodes) g.keys k h in
           let r = link_among g kept.graph k u.0 in
-          branch_from g kept.graph k u.0 w (⊎_elim (λ a. inl (marked k k.a r.0 (omega (arith, r.1, r.2)) a)) (λ b. inr (marked k k.b (omega (arith, r.0, r.1)) r.2 b)) (or_cases _ _ u.1))
+          branch_from g kept.graph k u.0 w (⊎_elim (λ a. inl (marked k k.a r.0 (omega (arith, r.1, r.2)) a))
+          (λ b. inr (marked k k.b (omega (arith, r.0, r.1)) r.2 b)) (or_cases _ _ u.1))
 
       back : (k : Key) → IsBranchLink net w k → Contains (filter (is_wanted One g.keys nodes) g.keys) k
       back k l =
           let i = in_graph k l.0 l.1 l.2 l.3 in
           let r = link_among g kept.graph k i in
-          filter_has (is_wanted One g.keys nodes) g.keys k i (⊎_elim (λ a. rw (marked_back k k.a r.0 (omega (arith, r.1, r.2)) a) refl) (λ b. rw (marked_back k k.b (omega (arith, r.0, r.1)) r.2 b) (or_true _)) (branch_to g kept.graph k i w l))
+          filter_has (is_wanted One g.keys nodes) g.keys k i (⊎_elim (λ a. rw (marked_back k k.a r.0 (omega (arith, r.1, r.2)) a) refl)
+          (λ b. rw (marked_back k k.b (omega (arith, r.0, r.1)) r.2 b) (or_true _)) (branch_to g kept.graph k i w l))
 
   -- the joined links
   joined_there : (k : Key) → Contains (filter (is_wanted Both g.keys nodes) g.keys) k → IsJoinedLink net w k
@@ -99,7 +105,8 @@ module _ {g : Shape} {es : List Event} {nodes : List NodeState} {links : LinksSt
       let i = in_graph k l.0 l.1 l.2 l.3 in
       let r = link_among g kept.graph k i in
       let m = joined_to g kept.graph k i w l in
-      filter_has (is_wanted Both g.keys nodes) g.keys k i (rw (marked_back k k.a r.0 (omega (arith, r.1, r.2)) m.0, marked_back k k.b (omega (arith, r.0, r.1)) r.2 m.1) refl)
+      filter_has (is_wanted Both g.keys nodes) g.keys k i
+      (rw (marked_back k k.a r.0 (omega (arith, r.1, r.2)) m.0, marked_back k k.b (omega (arith, r.0, r.1)) r.2 m.1) refl)
 
   pub joined_rising : IsRising (filter (is_wanted Both g.keys nodes) g.keys)
   joined_rising = AllPairs-filter (λ j k. key_lt j k ≡ true) (is_wanted Both g.keys nodes) g.keys kept.graph.rising
@@ -108,7 +115,8 @@ module _ {g : Shape} {es : List Event} {nodes : List NodeState} {links : LinksSt
   joined_among = All-filter (is_wanted Both g.keys nodes) (λ k. (1 ≤ k.a) × (k.a < k.b) × (k.b ≤ g.nodes)) g.keys kept.graph.among
 
   -- the roots over the joined links tell the fragments
-  pub roots_tell : (ls : List ℕ) → length ls ≡ g.nodes + 1 → AreTold ls (filter (is_wanted Both g.keys nodes) g.keys) → AreLeast ls → TellFragments net w ls
+  pub roots_tell : (ls : List ℕ) → length ls ≡ g.nodes + 1 → AreTold ls (filter (is_wanted Both g.keys nodes) g.keys) → AreLeast ls →
+      TellFragments net w ls
   roots_tell ls count told least = record {
     count = count;
     root = root;
@@ -127,10 +135,16 @@ module _ {g : Shape} {es : List Event} {nodes : List NodeState} {links : LinksSt
           let below = least.low v v_in in
           let own = least.own v v_in in
           let way = told.joined v (get_or ls v 0) v_in (omega (arith, below, v_in)) (sym own) in
-          record { is = refl; some = (joined_nodes g.nodes (filter (is_wanted Both g.keys nodes) g.keys) joined_among lo hi way).0; low = below; own = own }
+          record {
+            is = refl;
+            some = (joined_nodes g.nodes (filter (is_wanted Both g.keys nodes) g.keys) joined_among lo hi way).0;
+            low = below;
+            own = own;
+          }
 
   -- the numbers with the root of a node are its fragment
-  pub fragment_is : (ls us : List ℕ) (v : ℕ) → 1 ≤ v → v ≤ g.nodes → TellFragments net w ls → HaveRoot ls (g.nodes + 1) (get_or ls v 0) us → IsFragment net w v us
+  pub fragment_is : (ls us : List ℕ) (v : ℕ) → 1 ≤ v → v ≤ g.nodes → TellFragments net w ls → HaveRoot ls (g.nodes + 1) (get_or ls v 0) us →
+      IsFragment net w v us
   fragment_is ls us v lo hi tell alike = record { rising = alike.rising; all = λ u. (there u, back u) }
     where
       there : (u : ℕ) → Contains us u → (1 ≤ u) × (u ≤ g.nodes) × InOneFragment net w v u
@@ -140,10 +154,13 @@ module _ {g : Shape} {es : List Event} {nodes : List NodeState} {links : LinksSt
       back u h = alike.all u h.0 (omega (arith, h.1)) (sym ((tell.told v u lo hi h.0 h.1).1 h.2))
 
   -- the same of what calls answer
-  pub branches_told : {X E : Type 0} (f : X → List Key) (r : Result X E) → IfOk r (λ x. f x ≡ filter (is_wanted One g.keys nodes) g.keys) → IfOk r (λ x. AreBranches net w (f x))
-  branches_told f r h = IfOk-weaker r (λ x. f x ≡ filter (is_wanted One g.keys nodes) g.keys) (λ x. AreBranches net w (f x)) (λ x e. rw e branches_are) h
+  pub branches_told : {X E : Type 0} (f : X → List Key) (r : Result X E) → IfOk r (λ x. f x ≡ filter (is_wanted One g.keys nodes) g.keys) →
+      IfOk r (λ x. AreBranches net w (f x))
+  branches_told f r h =
+      IfOk-weaker r (λ x. f x ≡ filter (is_wanted One g.keys nodes) g.keys) (λ x. AreBranches net w (f x)) (λ x e. rw e branches_are) h
 
-  pub fragment_told : {X E : Type 0} (f : X → List ℕ) (r : Result X E) (ls : List ℕ) (n v : ℕ) → 1 ≤ v → v ≤ g.nodes → n ≡ g.nodes → TellFragments net w ls →
-      IfOk r (λ x. HaveRoot ls (n + 1) (get_or ls v 0) (f x)) → IfOk r (λ x. IsFragment net w v (f x))
+  pub fragment_told : {X E : Type 0} (f : X → List ℕ) (r : Result X E) (ls : List ℕ) (n v : ℕ) → 1 ≤ v → v ≤ g.nodes → n ≡ g.nodes →
+      TellFragments net w ls → IfOk r (λ x. HaveRoot ls (n + 1) (get_or ls v 0) (f x)) → IfOk r (λ x. IsFragment net w v (f x))
   fragment_told f r ls n v lo hi e tell h =
-      IfOk-weaker r (λ x. HaveRoot ls (n + 1) (get_or ls v 0) (f x)) (λ x. IsFragment net w v (f x)) (λ x a. fragment_is ls (f x) v lo hi tell (rw e at a)) h
+      IfOk-weaker r (λ x. HaveRoot ls (n + 1) (get_or ls v 0) (f x)) (λ x. IsFragment net w v (f x))
+      (λ x a. fragment_is ls (f x) v lo hi tell (rw e at a)) h

@@ -8,8 +8,8 @@ use Rattle.ghs_node.specs.NodeState.{NodeState}
 use Rattle.ghs_node.specs.Reaction.{reaction, after, IsReaction}
 use Rattle.ghs_node.specs.Rows.{Row}
 use Rattle.ghs_node.proofs.lemmas.{row_ported}
-use Rattle.ghs_links.specs.Links.{LinksState, IsFor, GoOut, HasRoomFor, KeepsLists, room_at, total_of}
-use Rattle.ghs_links.proofs.lemmas.Ports.{same_for}
+use Rattle.ghs_channels.specs.Channels.{ChannelsState, IsFor, GoOut, HasRoomFor, KeepsLists, room_at, total_of}
+use Rattle.ghs_channels.proofs.lemmas.Ports.{same_for}
 use Rattle.ghs_protocol.specs.declared.event.Event.{Event}
 use Rattle.ghs_protocol.specs.Network.{network_of, At}
 use Rattle.ghs_protocol.proofs.lemmas.Wired.{IsWired}
@@ -38,22 +38,23 @@ use Rattle.ghs_core.proofs.Totals.{Disposed, disposed, disposed_room, disposed_r
 use Rattle.ghs_core.proofs.Halting.{are_like, with_node_is}
 
 -- the events of a run so far, and the reaction of one more
-pub record Plays (g : Shape) (es : List Event) (nodes : List NodeState) (links : LinksState) (counts : Counts) (halts : Halts)
+pub record Plays (g : Shape) (es : List Event) (nodes : List NodeState) (channels : ChannelsState) (counts : Counts) (halts : Halts)
     (e : Event) (d : Delta) : Type 0 where
-  pub kept : IsKept g es nodes links counts halts
+  pub kept : IsKept g es nodes channels counts halts
   pub lawful : is_lawful (network_of g) (net_after g es) e ≡ true
   pub answer : reaction ((net_after g es).node (event_node e)) (work_at (net_after g es) e) ≡ Some d
 
 -- the same, of what contracts see
 pub plays_of :
-    {g : Shape} {es : List Event} {nodes : List NodeState} {links : LinksState} {counts : Counts} {halts : Halts} {spare : ℕ} {s : NetState}
+    {g : Shape} {es : List Event} {nodes : List NodeState} {channels : ChannelsState} {counts : Counts} {halts : Halts} {spare : ℕ} {s : NetState}
     {e : Event} {d : Delta} →
-    IsKept g es nodes links counts halts → record { graph = g; trace = es; links = links; spare = spare } ≡ s → IsLawful s e → IsAnswer s e d →
-    Plays g es nodes links counts halts e d
+    IsKept g es nodes channels counts halts → record { graph = g; trace = es; channels = channels; spare = spare } ≡ s →
+    IsLawful s e → IsAnswer s e d →
+    Plays g es nodes channels counts halts e d
 plays_of kept view lawful answer = record { kept = kept; lawful = rw (← view) at lawful; answer = rw (← view) at answer }
 
-module _ {g : Shape} {es : List Event} {nodes : List NodeState} {links : LinksState} {counts : Counts} {halts : Halts} {e : Event}
-    {d : Delta} (plays : Plays g es nodes links counts halts e d) where
+module _ {g : Shape} {es : List Event} {nodes : List NodeState} {channels : ChannelsState} {counts : Counts} {halts : Halts} {e : Event}
+    {d : Delta} (plays : Plays g es nodes channels counts halts e d) where
   wired : IsWired (network_of g)
   wired = graph_wired g plays.kept.graph
 
@@ -85,44 +86,44 @@ module _ {g : Shape} {es : List Event} {nodes : List NodeState} {links : LinksSt
   pub can_react : (x : NodeState) → x ≡ get_or nodes (event_node e - 1) x → IsReaction x d
   can_react x is = let P : NodeState → Type 0 = λ n. IsReaction n d in subst P (sym (found x is)) the_reaction
 
-  pub waits : WaitsAt e links
-  waits = waits_at g (net_after g es) nodes links counts plays.kept.queues plays.kept.shows stages.stage
+  pub waits : WaitsAt e channels
+  waits = waits_at g (net_after g es) nodes channels counts plays.kept.queues plays.kept.shows stages.stage
 
-  pub go_out : GoOut links (event_node e) d.sends
+  pub go_out : GoOut channels (event_node e) d.sends
   go_out i x lt =
       let a = row_ported _ _ d is_node.node row i x lt in
       (plays.kept.queues.queues (event_node e) _).1 (record { some = low; node = high; port = omega (arith, a, ports_many is_node) })
 
   -- the node has its queues
-  pub queues_there : event_node e < length links.queues
+  pub queues_there : event_node e < length channels.queues
   queues_there = let n = plays.kept.queues.count in omega (arith, n, high)
 
   pub few : length d.sends ≤ 8388610
   few = let a = row_few row in let b = is_node.node.few in omega (arith, a, b)
 
   -- once the message that the event takes has met its fate
-  module _ (l : LinksState) (c : Counts) (s : Disposes e d.fate links l counts c) where
-    so_far : Disposed links l counts c
-    so_far = disposed g (net_after g es) nodes links counts plays.kept.queues plays.kept.shows l c stages.stage s
+  module _ (l : ChannelsState) (c : Counts) (s : Disposes e d.fate channels l counts c) where
+    so_far : Disposed channels l counts c
+    so_far = disposed g (net_after g es) nodes channels counts plays.kept.queues plays.kept.shows l c stages.stage s
 
     pub disposed_for : IsFor g l
-    disposed_for = same_for g links l so_far.ports plays.kept.queues
+    disposed_for = same_for g channels l so_far.ports plays.kept.queues
 
     pub out_still : GoOut l (event_node e) d.sends
     out_still i x lt = (so_far.ports.queues (event_node e) _).0 (go_out i x lt)
 
-    pub room_still : HasRoomFor (event_node e) d.sends links → HasRoomFor (event_node e) d.sends l
+    pub room_still : HasRoomFor (event_node e) d.sends channels → HasRoomFor (event_node e) d.sends l
     room_still room =
-        disposed_room g (net_after g es) nodes links counts plays.kept.queues plays.kept.shows l c (event_node e) d.sends stages.stage s room
+        disposed_room g (net_after g es) nodes channels counts plays.kept.queues plays.kept.shows l c (event_node e) d.sends stages.stage s room
 
     pub total_below : length es < 2 ^ 40 → total_of l + length d.sends < 2 ^ 64
-    total_below lt = total_fits (length es) links l counts c (length d.sends) lt few plays.kept.fit so_far
+    total_below lt = total_fits (length es) channels l counts c (length d.sends) lt few plays.kept.fit so_far
 
     pub sent_below : length es < 2 ^ 40 → (k : ℕ) → k < 7 → get_or c.sent k 0 + length d.sends < 2 ^ 64
-    sent_below lt k below = sent_fits (length es) links l counts c (length d.sends) k lt few plays.kept.fit so_far below
+    sent_below lt k below = sent_fits (length es) channels l counts c (length d.sends) k lt few plays.kept.fit so_far below
 
     -- and its node has reacted
-    module _ (l' : LinksState) (sent : List ℕ) (a : Arrives g (event_node e) d.sends l l') (told : CountsSends d.sends c.sent sent) where
+    module _ (l' : ChannelsState) (sent : List ℕ) (a : Arrives g (event_node e) d.sends l l') (told : CountsSends d.sends c.sent sent) where
       abbrev next : Net
       next = reacted (network_of g) (event_node e) d stages.before
 
@@ -169,9 +170,10 @@ module _ {g : Shape} {es : List Event} {nodes : List NodeState} {links : LinksSt
         shows =
             rw is_next (reacted_shows g plays.kept.graph (event_node e) low high d stages.before nodes n l l' c sent
             (now ∙ ap (λ (y : NodeState). after y d) (found x is ∙ sym (ap (λ (f : ℕ → NodeState). f (event_node e)) (stage_nodes stages.stage))))
-            (stage_shows g (net_after g es) nodes links counts plays.kept.queues plays.kept.shows l c stages.stage s) a told);
+            (stage_shows g (net_after g es) nodes channels counts plays.kept.queues plays.kept.shows l c stages.stage s) a told);
         fit =
-            rw (length-append es (e ∷ [])) (fit_more (length es) links l l' counts c sent g (event_node e) d.sends few plays.kept.fit so_far a told);
+            rw (length-append es (e ∷ []))
+            (fit_more (length es) channels l l' counts c sent g (event_node e) d.sends few plays.kept.fit so_far a told);
         halted = rw is_next are;
       }
 
@@ -191,9 +193,9 @@ module _ {g : Shape} {es : List Event} {nodes : List NodeState} {links : LinksSt
 
       pub played_rooms : (u r : ℕ) →
           At (network_of g) u r →
-          room_at links u r ≤ room_at l' u r + length (arriving (network_of g) (event_node e) d.sends u r)
+          room_at channels u r ≤ room_at l' u r + length (arriving (network_of g) (event_node e) d.sends u r)
       played_rooms u r at =
-          let first = disposed_rooms g (net_after g es) nodes links counts plays.kept.queues plays.kept.shows l c stages.stage s u r
+          let first = disposed_rooms g (net_after g es) nodes channels counts plays.kept.queues plays.kept.shows l c stages.stage s u r
           ((plays.kept.queues.queues u r).1 (record { some = at.some; node = at.node; port = at.port })) in
           let then = a.rooms u r at in
           omega (arith, first, then)
@@ -204,13 +206,13 @@ module _ {g : Shape} {es : List Event} {nodes : List NodeState} {links : LinksSt
       ap (λ (x : Net). Some x) (sym (net_after_more g es e (net_after g es) _ (run plays.kept) (stage_happens stages.stage)))
 
 -- a reserve
-pub reserved : (g : Shape) (es : List Event) (nodes : List NodeState) (links l : LinksState) (counts : Counts) (halts : Halts) →
-    IsKept g es nodes links counts halts →
-    KeepsLists links l → IsKept g es nodes l counts halts
-reserved g es nodes links l counts halts kept same = record {
+pub reserved : (g : Shape) (es : List Event) (nodes : List NodeState) (channels l : ChannelsState) (counts : Counts) (halts : Halts) →
+    IsKept g es nodes channels counts halts →
+    KeepsLists channels l → IsKept g es nodes l counts halts
+reserved g es nodes channels l counts halts kept same = record {
   graph = kept.graph;
   run = kept.run;
-  queues = same_for g links l same.ports kept.queues;
+  queues = same_for g channels l same.ports kept.queues;
   shows = let shows = kept.shows in record {
     count = shows.count;
     node = shows.node;

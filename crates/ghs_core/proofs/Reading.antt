@@ -4,7 +4,7 @@ use Rattle.std.proofs.lemmas.Bool.{and_parts}
 use Rattle.std.proofs.lemmas.List.{get_or_default}
 use Rattle.ghs_graph.specs.Graph.{Shape}
 use Rattle.ghs_node.specs.NodeState.{NodeState, degree}
-use Rattle.ghs_links.specs.Links.{LinksState, IsFor, AllEmpty, total_of}
+use Rattle.ghs_channels.specs.Channels.{ChannelsState, IsFor, AllEmpty, total_of}
 use Rattle.ghs_protocol.specs.declared.event.Event.{Event}
 use Rattle.ghs_protocol.specs.declared.event.Event.TheVariants.{Take}
 use Rattle.ghs_protocol.specs.Network.{Network, network_of, At}
@@ -24,8 +24,8 @@ use Rattle.ghs_core.specs.declared.halts.Halts.{Halts}
 use Rattle.ghs_core.specs.Halts.{AreHalts, none_halted}
 use Rattle.ghs_core.specs.Kept.{IsKept, AreAsleep, no_node}
 
-module _ {g : Shape} {es : List Event} {nodes : List NodeState} {links : LinksState} {counts : Counts} {halts : Halts}
-    (kept : IsKept g es nodes links counts halts) where
+module _ {g : Shape} {es : List Event} {nodes : List NodeState} {channels : ChannelsState} {counts : Counts} {halts : Halts}
+    (kept : IsKept g es nodes channels counts halts) where
   pub run : IsAfter (network_of g) es (net_after g es)
   run = after_is_net g es kept.run
 
@@ -48,7 +48,7 @@ module _ {g : Shape} {es : List Event} {nodes : List NodeState} {links : LinksSt
       omega (arith, lt, many)
 
   -- the ledger
-  pub told : (queued : ℕ) → queued ≡ total_of links →
+  pub told : (queued : ℕ) → queued ≡ total_of channels →
       IsLedger (network_of g) (net_after g es)
       (record { sent = counts.sent; consumed = counts.consumed; requeued = counts.requeued; queued = queued; out = 0 })
   told queued q =
@@ -71,17 +71,17 @@ pub lawful_port : (g : Network) (w : Net) (v p : ℕ) → is_lawful g w (Take v 
 lawful_port g w v p l = let b = and_parts _ _ l in at_of g v p b.0
 
 -- the fields of an opening net
-pub opened : (g : Shape) (nodes : List NodeState) (links : LinksState) (counts : Counts) (halts : Halts) →
+pub opened : (g : Shape) (nodes : List NodeState) (channels : ChannelsState) (counts : Counts) (halts : Halts) →
     AreAsleep g nodes →
-    IsFor g links →
-    AllEmpty links →
-    total_of links ≡ 0 →
+    IsFor g channels →
+    AllEmpty channels →
+    total_of channels ≡ 0 →
     ((k : ℕ) → get_or counts.sent k 0 ≡ 0) →
     ((k : ℕ) → get_or counts.consumed k 0 ≡ 0) →
     counts.requeued ≡ 0 →
     AreHalts g none_halted halts →
-    IsKept g [] nodes links counts halts
-opened g nodes links counts halts asleep for empty total sent consumed requeued none = record {
+    IsKept g [] nodes channels counts halts
+opened g nodes channels counts halts asleep for empty total sent consumed requeued none = record {
   graph = asleep.graph;
   run = (opening (network_of g), refl);
   queues = for;

@@ -8,9 +8,9 @@ use Rattle.ghs_graph.specs.Graph.{Shape}
 use Rattle.ghs_node.specs.declared.message.Message.{Message}
 use Rattle.ghs_node.specs.Kind.{kind_of, place_of}
 use Rattle.ghs_node.specs.Words.{Outgoing}
-use Rattle.ghs_links.specs.Queue.{QueueState, pushed}
-use Rattle.ghs_links.specs.Links.{LinksState, HasQueue, IsPort, IsFor, SamePorts, GoOut, HasRoomFor, Changes, state_at, queue_at, room_at, port_of, far_end, destination_of}
-use Rattle.ghs_links.proofs.lemmas.Ports.{same_then, same_alike, same_for, same_destination, far_queue}
+use Rattle.ghs_channels.specs.Queue.{QueueState, pushed}
+use Rattle.ghs_channels.specs.Channels.{ChannelsState, HasQueue, IsPort, IsFor, SamePorts, GoOut, HasRoomFor, Changes, state_at, queue_at, room_at, port_of, far_end, destination_of}
+use Rattle.ghs_channels.proofs.lemmas.Ports.{same_then, same_alike, same_for, same_destination, far_queue}
 use Rattle.ghs_protocol.specs.Network.{Network, At, network_of, far}
 use Rattle.ghs_protocol.proofs.lemmas.Wired.{IsWired}
 use Rattle.ghs_protocol.proofs.lemmas.Graphs.{graph_wired}
@@ -21,7 +21,7 @@ use Rattle.ghs_core.specs.Dispatch.{Arrives, CountsSends, arriving, messages_of}
 use Rattle.ghs_core.proofs.Arriving.{arriving_push, one_arrives, one_misses, kinds_push}
 
 -- what holds once the first i messages are out
-pub record Sent (g : Shape) (v : ℕ) (ss : Outgoing) (i : ℕ) (old l : LinksState) (os s : List ℕ) : Type 0 where
+pub record Sent (g : Shape) (v : ℕ) (ss : Outgoing) (i : ℕ) (old l : ChannelsState) (os s : List ℕ) : Type 0 where
   pub arrives : Arrives g v (take i ss) old l
   pub room : HasRoomFor v (drop i ss) l
   pub counts : CountsSends (take i ss) os s
@@ -35,12 +35,12 @@ pub port_at : {g : Shape} {v i : ℕ} → At (network_of g) v i → IsPort g v i
 port_at p = record { some = p.some; node = p.node; port = p.port }
 
 -- where a message goes
-leads_to : (g : Shape) (old l : LinksState) → IsFor g old → SamePorts old l → (v i : ℕ) → IsPort g v i → destination_of l v i ≡ far_end g v i
+leads_to : (g : Shape) (old l : ChannelsState) → IsFor g old → SamePorts old l → (v i : ℕ) → IsPort g v i → destination_of l v i ≡ far_end g v i
 leads_to g old l for same v i port = same_destination old l same v i ∙ for.leads v i port
 
 module _ (g : Shape) (v : ℕ) where
   -- one message more
-  arrives_more : (old l l' : LinksState) (ss : Outgoing) (i : ℕ) (m : Message) → IsFor g old → IsPort g v i → Arrives g v ss old l →
+  arrives_more : (old l l' : ChannelsState) (ss : Outgoing) (i : ℕ) (m : Message) → IsFor g old → IsPort g v i → Arrives g v ss old l →
       Changes l l' (port_of g v i).far (port_of g v i).far_port (pushed (state_at l (port_of g v i).far (port_of g v i).far_port) m) →
       Arrives g v (ss ++ (i, m) ∷ []) old l'
   arrives_more old l l' ss i m for lt a c = record {
@@ -108,7 +108,7 @@ module _ (g : Shape) (v : ℕ) where
           (one_place to_node to_port u r)
 
   -- the room that the next message leaves
-  room_after : (l l' : LinksState) (ss : Outgoing) (i : ℕ) (d s : ℕ × Message) → IsFor g l → i < length ss → s ≡ get_or ss i d → IsPort g v s.0 →
+  room_after : (l l' : ChannelsState) (ss : Outgoing) (i : ℕ) (d s : ℕ × Message) → IsFor g l → i < length ss → s ≡ get_or ss i d → IsPort g v s.0 →
       HasRoomFor v (drop i ss) l →
       Changes l l' (port_of g v s.0).far (port_of g v s.0).far_port (pushed (state_at l (port_of g v s.0).far (port_of g v s.0).far_port) s.1) →
       HasRoomFor v (drop (i + 1) ss) l'
@@ -152,7 +152,7 @@ module _ (g : Shape) (v : ℕ) where
           omega (arith, ours, same, r)
 
 -- the room for the next message
-pub room_for_next : (v : ℕ) (l : LinksState) (ss : Outgoing) (i : ℕ) (d s : ℕ × Message) → i < length ss → s ≡ get_or ss i d → HasQueue l v s.0 →
+pub room_for_next : (v : ℕ) (l : ChannelsState) (ss : Outgoing) (i : ℕ) (d s : ℕ × Message) → i < length ss → s ≡ get_or ss i d → HasQueue l v s.0 →
     HasRoomFor v (drop i ss) l → 0 < room_at l (destination_of l v s.0).0 (destination_of l v s.0).1
 room_for_next v l ss i d s more is has room =
     let one = sum_by-drop_more (λ (x : ℕ × Message). cond (x.0 == s.0) 1 0) ss i d more in
@@ -185,7 +185,7 @@ counts_more ss x os s k w e lt c j below = ⊎_elim hit miss (cases_eq j k)
         omega (arith, now, add, one, had)
 
 -- the port that a message goes out on
-pub port_out : (old l : LinksState) (v : ℕ) (ss : Outgoing) (i : ℕ) (x : ℕ × Message) →
+pub port_out : (old l : ChannelsState) (v : ℕ) (ss : Outgoing) (i : ℕ) (x : ℕ × Message) →
     GoOut old v ss →
     SamePorts old l →
     i < length ss →
@@ -204,7 +204,7 @@ kind_few k (s ∷ ss) = let rest = kind_few k ss in let one = one_few (place_of 
     one_few false = omega arith
 
 -- the loop of all sends: at the start, and one message on
-pub none_sent : (g : Shape) (v : ℕ) (ss : Outgoing) (l : LinksState) (s : List ℕ) → HasRoomFor v ss l → Sent g v ss 0 l l s s
+pub none_sent : (g : Shape) (v : ℕ) (ss : Outgoing) (l : ChannelsState) (s : List ℕ) → HasRoomFor v ss l → Sent g v ss 0 l l s s
 none_sent g v ss l s room = record {
   arrives = record { ports = same_alike l; queue = λ u r at. sym (none u r); rooms = λ u r at. omega arith; total = omega arith };
   room = room;
@@ -217,7 +217,7 @@ none_sent g v ss l s room = record {
         elim (far (network_of g) u r == v) as (λ b. queue_at l u r ++ cond b [] [] ≡ queue_at l u r)
         [ true ↦ append-nil _ | false ↦ append-nil _ ]
 
-pub one_sent : (g : Shape) (v : ℕ) (ss : Outgoing) (i : ℕ) (d x : ℕ × Message) (old l l' : LinksState) (os s : List ℕ) (k : ℕ) →
+pub one_sent : (g : Shape) (v : ℕ) (ss : Outgoing) (i : ℕ) (d x : ℕ × Message) (old l l' : ChannelsState) (os s : List ℕ) (k : ℕ) →
     IsFor g old →
     GoOut old v ss →
     length os ≡ 7 → i < length ss → x ≡ get_or ss i d → k ≡ place_of (kind_of x.1) → k < 7 → Sent g v ss i old l os s →

@@ -9,8 +9,8 @@ use Rattle.ghs_node.specs.Kind.{kind_of, place_of}
 use Rattle.ghs_node.specs.Words.{Outgoing}
 use Rattle.ghs_node.specs.NodeState.{NodeState}
 use Rattle.ghs_graph.specs.Graph.{Shape}
-use Rattle.ghs_links.specs.Links.{LinksState, HasQueue, IsFor, SamePorts, HasRoomFor, room_at, far_end, destination_of, total_of}
-use Rattle.ghs_links.proofs.lemmas.Ports.{same_alike, same_destination, far_queue}
+use Rattle.ghs_channels.specs.Channels.{ChannelsState, HasQueue, IsFor, SamePorts, HasRoomFor, room_at, far_end, destination_of, total_of}
+use Rattle.ghs_channels.proofs.lemmas.Ports.{same_alike, same_destination, far_queue}
 use Rattle.ghs_protocol.specs.declared.event.Event.{Event}
 use Rattle.ghs_protocol.specs.Network.{network_of}
 use Rattle.ghs_protocol.specs.Net.{Net, one_if_consumed}
@@ -33,23 +33,23 @@ fate_counts Consumed m =
 fate_counts Requeued m = sum_none 7 (λ k. cond (place_of (kind_of m) == k) 0 0) (λ k lt. none_or_none (place_of (kind_of m) == k))
 
 -- what the first stage leaves: fewer wait by the one that was consumed, and the sent are as they were
-pub record Disposed (links l : LinksState) (counts c : Counts) : Type 0 where
+pub record Disposed (channels l : ChannelsState) (counts c : Counts) : Type 0 where
   pub sent : c.sent ≡ counts.sent
-  pub balance : total_of l + in_all (λ k. get_or c.consumed k 0) ≡ total_of links + in_all (λ k. get_or counts.consumed k 0)
-  pub fewer : total_of l ≤ total_of links
+  pub balance : total_of l + in_all (λ k. get_or c.consumed k 0) ≡ total_of channels + in_all (λ k. get_or counts.consumed k 0)
+  pub fewer : total_of l ≤ total_of channels
   pub consumed : in_all (λ k. get_or c.consumed k 0) ≤ in_all (λ k. get_or counts.consumed k 0) + 1
   pub requeued : c.requeued ≤ counts.requeued + 1
-  pub ports : SamePorts links l
+  pub ports : SamePorts channels l
 
-module _ (g : Shape) (w : Net) (nodes : List NodeState) (links : LinksState) (counts : Counts) (for : IsFor g links)
-    (shows : Shows (network_of g) w nodes links counts) where
-  pub disposed : {e : Event} {d : Delta} {x : Net} (l : LinksState) (c : Counts) →
+module _ (g : Shape) (w : Net) (nodes : List NodeState) (channels : ChannelsState) (counts : Counts) (for : IsFor g channels)
+    (shows : Shows (network_of g) w nodes channels counts) where
+  pub disposed : {e : Event} {d : Delta} {x : Net} (l : ChannelsState) (c : Counts) →
       Stage (network_of g) w e d x →
-      Disposes e d.fate links l counts c →
-      Disposed links l counts c
+      Disposes e d.fate channels l counts c →
+      Disposed channels l counts c
   disposed l c (Wakes v d lo hi s r) z =
       rw (z.0, z.1)
-      (record { sent = refl; balance = refl; fewer = omega arith; consumed = omega arith; requeued = omega arith; ports = same_alike links })
+      (record { sent = refl; balance = refl; fewer = omega arith; consumed = omega arith; requeued = omega arith; ports = same_alike channels })
   disposed l c (Takes v p m ms d at q r) z =
       let one = z m ms (shows.queue v p at ∙ q) in
       let t = one.0.total in
@@ -69,31 +69,31 @@ module _ (g : Shape) (w : Net) (nodes : List NodeState) (links : LinksState) (co
       }
 
   -- the first stage takes no room
-  pub disposed_room : {e : Event} {d : Delta} {x : Net} (l : LinksState) (c : Counts) (v : ℕ) (ss : Outgoing) → Stage (network_of g) w e d x →
-      Disposes e d.fate links l counts c → HasRoomFor v ss links → HasRoomFor v ss l
+  pub disposed_room : {e : Event} {d : Delta} {x : Net} (l : ChannelsState) (c : Counts) (v : ℕ) (ss : Outgoing) → Stage (network_of g) w e d x →
+      Disposes e d.fate channels l counts c → HasRoomFor v ss channels → HasRoomFor v ss l
   disposed_room l c u ss (Wakes v d lo hi s r) z room = rw z.0 room
   disposed_room l c u ss (Takes v p m ms d at q r) z room = λ i has.
       let one = z m ms (shows.queue v p at ∙ q) in
       let had = (one.0.ports.queues u i).1 has in
       let port = (for.queues u i).0 had in
-      let led : destination_of links u i ≡ far_end g u i = for.leads u i port in
+      let led : destination_of channels u i ≡ far_end g u i = for.leads u i port in
       let enough = rw led at (room i had) in
-      let more = one.0.rooms _ _ (far_queue g links for u i port.port) in
-      rw (same_destination links l one.0.ports u i, led) (omega (arith, more, enough))
+      let more = one.0.rooms _ _ (far_queue g channels for u i port.port) in
+      rw (same_destination channels l one.0.ports u i, led) (omega (arith, more, enough))
 
-  pub disposed_rooms : {e : Event} {d : Delta} {x : Net} (l : LinksState) (c : Counts) →
+  pub disposed_rooms : {e : Event} {d : Delta} {x : Net} (l : ChannelsState) (c : Counts) →
       Stage (network_of g) w e d x →
-      Disposes e d.fate links l counts c →
+      Disposes e d.fate channels l counts c →
       (u r : ℕ) →
-      HasQueue links u r → room_at links u r ≤ room_at l u r
+      HasQueue channels u r → room_at channels u r ≤ room_at l u r
   disposed_rooms l c (Wakes v d lo hi s r) z = λ u r has. rw z.0 (omega arith)
   disposed_rooms l c (Takes v p m ms d at q r) z = (z m ms (shows.queue v p at ∙ q)).0.rooms
 
 -- the second stage: the sends are counted
-pub fit_more : (n : ℕ) (links l l' : LinksState) (counts c : Counts) (sent : List ℕ) (g : Shape) (v : ℕ) (ss : Outgoing) → length ss ≤ 8388610 →
-    CountsFit n links counts → Disposed links l counts c → Arrives g v ss l l' → CountsSends ss c.sent sent →
+pub fit_more : (n : ℕ) (channels l l' : ChannelsState) (counts c : Counts) (sent : List ℕ) (g : Shape) (v : ℕ) (ss : Outgoing) → length ss ≤ 8388610 →
+    CountsFit n channels counts → Disposed channels l counts c → Arrives g v ss l l' → CountsSends ss c.sent sent →
     CountsFit (n + 1) l' (record { sent = sent; consumed = c.consumed; requeued = c.requeued })
-fit_more n links l l' counts c sent g v ss few fit s a told =
+fit_more n channels l l' counts c sent g v ss few fit s a told =
     let all : in_all (λ k. get_or sent k 0) ≡ in_all (λ k. get_or c.sent k 0) + in_all (λ k. of_kind k (messages_of ss)) =
     rise (λ k. get_or c.sent k 0) (λ k. get_or sent k 0) (λ k. of_kind k (messages_of ss)) told in
     let kinds : in_all (λ k. of_kind k (messages_of ss)) ≡ length ss = kinds_in_all (messages_of ss) ∙ length-map ss (λ (x : ℕ × Message). x.1) in
@@ -107,37 +107,37 @@ fit_more n links l l' counts c sent g v ss few fit s a told =
     }
 
 -- there is room for the counts of one event more
-pub total_fits : (n : ℕ) (links l : LinksState) (counts c : Counts) (k : ℕ) →
+pub total_fits : (n : ℕ) (channels l : ChannelsState) (counts c : Counts) (k : ℕ) →
     n < 2 ^ 40 →
     k ≤ 8388610 →
-    CountsFit n links counts →
-    Disposed links l counts c →
+    CountsFit n channels counts →
+    Disposed channels l counts c →
     total_of l + k < 2 ^ 64
-total_fits n links l counts c k lt few fit s =
+total_fits n channels l counts c k lt few fit s =
     let a = fit.sent in
     let b = fit.waiting in
     let t = s.fewer in
     omega (arith, a, b, t)
 
-pub sent_fits : (n : ℕ) (links l : LinksState) (counts c : Counts) (k i : ℕ) →
+pub sent_fits : (n : ℕ) (channels l : ChannelsState) (counts c : Counts) (k i : ℕ) →
     n < 2 ^ 40 →
     k ≤ 8388610 →
-    CountsFit n links counts →
-    Disposed links l counts c →
+    CountsFit n channels counts →
+    Disposed channels l counts c →
     i < 7 →
     get_or c.sent i 0 + k < 2 ^ 64
-sent_fits n links l counts c k i lt few fit s below =
+sent_fits n channels l counts c k i lt few fit s below =
     let one = term_le 7 i (λ j. get_or c.sent j 0) below in
     let same : in_all (λ j. get_or c.sent j 0) ≡ in_all (λ j. get_or counts.sent j 0) = ap (λ (xs : List ℕ). in_all (λ j. get_or xs j 0)) s.sent in
     let a = fit.sent in
     omega (arith, one, same, a)
 
-pub consumed_fits : (n : ℕ) (links : LinksState) (counts : Counts) (i : ℕ) →
+pub consumed_fits : (n : ℕ) (channels : ChannelsState) (counts : Counts) (i : ℕ) →
     n < 2 ^ 40 →
-    CountsFit n links counts →
+    CountsFit n channels counts →
     i < 7 →
     get_or counts.consumed i 0 < 2 ^ 64 - 1
-consumed_fits n links counts i lt fit below =
+consumed_fits n channels counts i lt fit below =
     let one = term_le 7 i (λ j. get_or counts.consumed j 0) below in
     let a = fit.consumed in
     omega (arith, one, a)

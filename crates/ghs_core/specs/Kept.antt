@@ -3,7 +3,7 @@ use Rattle.std.specs.Prelude.{◌≡◌, ℕ, ◌+◌, ◌-◌, ◌*◌, ◌≤�
 use Rattle.ghs_graph.specs.Graph.{Shape, IsGraph}
 use Rattle.ghs_graph.specs.Ports.{ports_of}
 use Rattle.ghs_node.specs.NodeState.{NodeState, sleeper}
-use Rattle.ghs_links.specs.Links.{LinksState, IsFor, queue_at, total_of}
+use Rattle.ghs_channels.specs.Channels.{ChannelsState, IsFor, queue_at, total_of}
 use Rattle.ghs_protocol.specs.declared.event.Event.{Event}
 use Rattle.ghs_protocol.specs.Network.{Network, network_of, At}
 use Rattle.ghs_protocol.specs.Net.{Net}
@@ -19,28 +19,28 @@ abbrev pub no_node : NodeState
 no_node = sleeper 0 []
 
 -- nodes, queues and counts are those of the net
-pub record Shows (g : Network) (w : Net) (nodes : List NodeState) (links : LinksState) (counts : Counts) : Type 0 where
+pub record Shows (g : Network) (w : Net) (nodes : List NodeState) (channels : ChannelsState) (counts : Counts) : Type 0 where
   pub count : length nodes ≡ g.count
   pub node : (v : ℕ) → 1 ≤ v → v ≤ g.count → slice_index_or nodes (v - 1) no_node ≡ w.node v
-  pub queue : (v p : ℕ) → At g v p → queue_at links v p ≡ w.queue v p
+  pub queue : (v p : ℕ) → At g v p → queue_at channels v p ≡ w.queue v p
   pub sent : (k : ℕ) → k < 7 → slice_index counts.sent k ≡ w.sent k
   pub consumed : (k : ℕ) → k < 7 → slice_index counts.consumed k ≡ w.consumed k
   pub requeued : counts.requeued ≡ w.requeued
 
 -- The counts after n events: none is too large, since an event sends at most 8388610 messages, and together they say how many wait.
-pub record CountsFit (n : ℕ) (links : LinksState) (counts : Counts) : Type 0 where
+pub record CountsFit (n : ℕ) (channels : ChannelsState) (counts : Counts) : Type 0 where
   pub sent : in_all (λ k. slice_index counts.sent k) ≤ n * 8388610
   pub consumed : in_all (λ k. slice_index counts.consumed k) ≤ n
   pub requeued : counts.requeued ≤ n
-  pub waiting : total_of links + in_all (λ k. slice_index counts.consumed k) ≡ in_all (λ k. slice_index counts.sent k)
+  pub waiting : total_of channels + in_all (λ k. slice_index counts.consumed k) ≡ in_all (λ k. slice_index counts.sent k)
 
 -- the fields are those of the net after a run of the graph
-pub record IsKept (g : Shape) (es : List Event) (nodes : List NodeState) (links : LinksState) (counts : Counts) (halts : Halts) : Type 0 where
+pub record IsKept (g : Shape) (es : List Event) (nodes : List NodeState) (channels : ChannelsState) (counts : Counts) (halts : Halts) : Type 0 where
   pub graph : IsGraph g
   pub run : IsRun (network_of g) es
-  pub queues : IsFor g links
-  pub shows : Shows (network_of g) (net_after g es) nodes links counts
-  pub fit : CountsFit (length es) links counts
+  pub queues : IsFor g channels
+  pub shows : Shows (network_of g) (net_after g es) nodes channels counts
+  pub fit : CountsFit (length es) channels counts
   pub halted : AreHalts g (halted_in (net_after g es)) halts
 
 -- all nodes of a graph, as they are at the opening

@@ -1,4 +1,4 @@
--- Links that are marked Branch at one end, or at both.
+-- Channels that are marked Branch at one end, or at both.
 use Rattle.std.specs.Prelude.{Option, Some, None, ◌≡◌, ℕ, ◌+◌, ◌-◌, ◌≤◌, ◌<◌, Bool, ◌&&◌, ◌||◌, ◌↔◌, List, length, slice_index, slice_index_or}
 use Rattle.std.specs.List.{Contains}
 use Rattle.std.specs.List.Sorted.{IsStrictlyIncreasing}

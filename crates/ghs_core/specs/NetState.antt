@@ -6,7 +6,7 @@ use Rattle.ghs_node.specs.declared.delta.Delta.{Delta}
 use Rattle.ghs_node.specs.declared.work.Work.{Work}
 use Rattle.ghs_node.specs.declared.work.Work.TheVariants as works
 use Rattle.ghs_node.specs.Reaction.{reaction}
-use Rattle.ghs_links.specs.Links.{LinksState, HasRoomFor, KeepsLists, room_at}
+use Rattle.ghs_channels.specs.Channels.{ChannelsState, HasRoomFor, KeepsLists, room_at}
 use Rattle.ghs_protocol.specs.declared.event.Event.{Event}
 use Rattle.ghs_protocol.specs.declared.event.Event.TheVariants.{Wake, Take}
 use Rattle.ghs_protocol.specs.Network.{Network, network_of, At}
@@ -20,7 +20,7 @@ use Rattle.ghs_core.specs.Halts.{IsLeast}
 pub record NetState : Type 0 where
   pub graph : Shape
   pub trace : List Event
-  pub links : LinksState
+  pub channels : ChannelsState
   pub spare : ℕ
 
 abbrev pub network : NetState → Network
@@ -50,20 +50,20 @@ IsAnswer s e d = reaction ((net_of s).node (event_node e)) (work_at (net_of s) e
 -- room for the event in the trace, and for the messages that the reaction sends
 pub record HasRoomToPlay (s : NetState) (e : Event) (d : Delta) : Type 0 where
   pub trace : 0 < s.spare
-  pub sends : HasRoomFor (event_node e) d.sends s.links
+  pub sends : HasRoomFor (event_node e) d.sends s.channels
 
 -- no room is let go of: the event takes one place in the trace, and each message that comes in one in its queue
 pub record KeepsRoom (old new : NetState) (e : Event) (d : Delta) : Type 0 where
   pub trace : old.spare ≤ new.spare + 1
   pub queues : (u r : ℕ) →
       At (network old) u r →
-      room_at old.links u r ≤ room_at new.links u r + length (arriving (network old) (event_node e) d.sends u r)
+      room_at old.channels u r ≤ room_at new.channels u r + length (arriving (network old) (event_node e) d.sends u r)
 
 -- the same net, and nowhere less room
 pub record IsSameNet (old new : NetState) : Type 0 where
   pub graph : new.graph ≡ old.graph
   pub trace : new.trace ≡ old.trace
-  pub links : KeepsLists old.links new.links
+  pub channels : KeepsLists old.channels new.channels
   pub spare : old.spare ≤ new.spare
 
 -- the same graph, and the same events played on it

@@ -5,7 +5,8 @@ use Rattle.ghs_node.specs.declared.message.Message.TheVariants.{Connect, Initiat
 use Rattle.ghs_node.specs.NodeState.{NodeState, mark_at}
 use Rattle.ghs_node.specs.Words.{is_at, is_basic, is_find, is_sleeping}
 
--- at a port of a node that is awake: a Connect not below its level where the mark is Basic, a Test above its level, a Report from its in_branch while it searches
+-- at a port of a node that is awake: a Connect not below its level where the mark is Basic, a Test above its level,
+-- a Report from its in_branch while it searches
 abbrev pub waits : NodeState → ℕ → Message → Bool
 waits n p (Connect l) = not (is_sleeping n.head.phase) && (nat_le n.head.level l && is_basic (mark_at n p))
 waits n p (Initiate l f s) = false

@@ -17,7 +17,7 @@ pub struct FragmentRow {
 }
 
 impl FragmentRow {
-    // One node more, of this level.
+    /// One node more, of this level.
     fn add(&mut self, level: u8)
         requires { self.old.nodes + 1 < 2 ^ 32 }
         ensures { self.new ≡ with_one self.old level }
@@ -45,7 +45,7 @@ pub fn count_classes(
     Ok(rows)
 }
 
-// A row without nodes at each place.
+/// A row without nodes at each place.
 fn no_nodes(alloc: Global, roots: &[u32]) -> Result<Vec<FragmentRow>, AllocError>
     requires { length roots.now < 2 ^ 32 }
     ensures { IfOk result (λ rows. (level : ℕ → ℕ) → CountClasses roots.now level 1 rows.items) }

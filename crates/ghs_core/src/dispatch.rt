@@ -1,62 +1,62 @@
 //! Messages on their way: what one reaction does to the queues.
 ghost use Rattle.std.specs.Prelude.{◌≡◌, ℕ, ◌+◌, ◌-◌, ◌<◌, ◌≤◌, ◌^◌, List, ◌∷◌, length, slice_index};
 ghost use Rattle.ghs_node.specs.declared.message.Message.{Message as Letter};
-ghost use Rattle.ghs_links.specs.Links.{HasQueue, IsFor, IsForSome, GoOut, HasRoomFor, queue_at, total_of};
+ghost use Rattle.ghs_channels.specs.Channels.{HasQueue, IsFor, IsForSome, GoOut, HasRoomFor, queue_at, total_of};
 ghost use Rattle.ghs_graph.specs.Graph.{Shape};
 ghost use Rattle.ghs_core.specs.Dispatch.{Arrives, CountsSends, Met, CountsFate, WaitsAt, Disposes};
 
 use crate::counts::Counts;
-use ghs_links::links::Links;
+use ghs_channels::channels::Channels;
 use ghs_node::delta::Fate;
 use ghs_node::message::Message;
 use ghs_protocol::event::Event;
 
 /// Sends messages out from node `v`, in their order. There is room for them at the far ends.
-pub fn send_all(links: &mut Links, sent: &mut [u64; 7], v: u32, sends: &[(u32, Message)])
-    requires queues { IsForSome links.old }
-    requires ports { GoOut links.old v sends.now }
-    requires room { HasRoomFor v sends.now links.old }
-    requires total { total_of links.old + length sends.now < 2 ^ 64 }
+pub fn send_all(channels: &mut Channels, sent: &mut [u64; 7], v: u32, sends: &[(u32, Message)])
+    requires queues { IsForSome channels.old }
+    requires ports { GoOut channels.old v sends.now }
+    requires room { HasRoomFor v sends.now channels.old }
+    requires total { total_of channels.old + length sends.now < 2 ^ 64 }
     requires fits { (k : ℕ) → k < 7 → slice_index sent.old k + length sends.now < 2 ^ 64 }
-    ensures arrives { (g : Shape) → IsFor g links.old → Arrives g v sends.now links.old links.new }
+    ensures arrives { (g : Shape) → IsFor g channels.old → Arrives g v sends.now channels.old channels.new }
     ensures counts { CountsSends sends.now sent.old sent.new }
 {
     for (port, message) in sends {
-        links.send(v, *port, *message);
+        channels.send(v, *port, *message);
         sent[message.kind().place()] += 1;
     }
 }
 
-// The first message that waits at a port meets its fate: it is gone, or goes to the end.
-fn meet_fate(links: &mut Links, counts: &mut Counts, v: u32, port: u32, fate: Fate)
-    requires port { HasQueue links.old v port }
-    requires waits { 0 < length (queue_at links.old v port) }
+/// The first message that waits at a port meets its fate: it is gone, or goes to the end.
+fn meet_fate(channels: &mut Channels, counts: &mut Counts, v: u32, port: u32, fate: Fate)
+    requires port { HasQueue channels.old v port }
+    requires waits { 0 < length (queue_at channels.old v port) }
     requires consumed { (k : ℕ) → k < 7 → slice_index counts.old.consumed k < 2 ^ 64 - 1 }
     requires requeued { counts.old.requeued < 2 ^ 64 - 1 }
-    ensures met { (m : Letter) (ms : List Letter) → queue_at links.old v port ≡ m ∷ ms → Met fate v port m ms links.old links.new }
-    ensures counts { (m : Letter) (ms : List Letter) → queue_at links.old v port ≡ m ∷ ms → CountsFate fate m counts.old counts.new }
+    ensures met { (m : Letter) (ms : List Letter) → queue_at channels.old v port ≡ m ∷ ms → Met fate v port m ms channels.old channels.new }
+    ensures counts { (m : Letter) (ms : List Letter) → queue_at channels.old v port ≡ m ∷ ms → CountsFate fate m counts.old counts.new }
 {
     match fate {
         Fate::Consumed => {
-            if let Some(message) = links.take_front(v, port) {
+            if let Some(message) = channels.take_front(v, port) {
                 counts.consumed[message.kind().place()] += 1;
             }
         }
         Fate::Requeued => {
-            links.requeue(v, port);
+            channels.requeue(v, port);
             counts.requeued += 1;
         }
     }
 }
 
 /// Disposes of the message that an event takes, before its node reacts: it meets its fate.
-pub fn dispose(links: &mut Links, counts: &mut Counts, event: Event, fate: Fate)
-    requires waits { WaitsAt event links.old }
+pub fn dispose(channels: &mut Channels, counts: &mut Counts, event: Event, fate: Fate)
+    requires waits { WaitsAt event channels.old }
     requires consumed { (k : ℕ) → k < 7 → slice_index counts.old.consumed k < 2 ^ 64 - 1 }
     requires requeued { counts.old.requeued < 2 ^ 64 - 1 }
-    ensures { Disposes event fate links.old links.new counts.old counts.new }
+    ensures { Disposes event fate channels.old channels.new counts.old counts.new }
 {
     if let Event::Take(v, port) = event {
-        meet_fate(links, counts, v, port, fate);
+        meet_fate(channels, counts, v, port, fate);
     }
 }

@@ -28,7 +28,7 @@ impl Halts {
         })
     }
 
-    // Node `v` has halted.
+    /// Node `v` has halted.
     fn add(&mut self, graph: &Graph, v: u32)
         requires low { 1 ≤ v }
         requires high { v ≤ graph.now.nodes }
@@ -70,7 +70,7 @@ impl Halts {
     }
 }
 
-// The lesser of two nodes, or the one there is.
+/// The lesser of two nodes, or the one there is.
 fn lesser_of(least: Option<u32>, v: u32) -> u32
     ensures { result ≡ lesser least v }
 {

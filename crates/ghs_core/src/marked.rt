@@ -1,4 +1,4 @@
-//! Links that are marked Branch.
+//! Channels that are marked Branch.
 ghost use Rattle.std.specs.Prelude.{◌≡◌, ◌+◌, ◌≤◌, ◌++◌, ◌∷◌, [], length, slice_index, filter, if◌then◌else◌, IfOk};
 ghost use Rattle.ghs_node.specs.Words.{is_branch};
 ghost use Rattle.ghs_core.specs.Marked.{are_wanted, is_wanted, HavePorts, HaveRoot};

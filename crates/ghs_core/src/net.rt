@@ -26,10 +26,10 @@ use crate::ledger::Ledger;
 use crate::marked::{Ends, branch_links, numbers_alike};
 use crate::parts::open_parts;
 use crate::waits::waits;
+use ghs_channels::channels::Channels;
 use ghs_graph::graph::Graph;
 use ghs_graph::key::Key;
 use ghs_graph::spanning::span;
-use ghs_links::links::Links;
 use ghs_node::delta::{Delta, Fate};
 use ghs_node::head::Head;
 use ghs_node::mark::Mark;
@@ -45,7 +45,7 @@ use std::marker::Model;
 pub struct Net {
     graph: Graph,
     nodes: Vec<Node>,
-    links: Links,
+    channels: Channels,
     counts: Counts,
     halts: Halts,
     trace: Vec<Event>,
@@ -58,9 +58,9 @@ impl Model for Net {
 
     ghost Value = { NetState };
 
-    ghost view = { λ n. record { graph = n.graph; trace = n.trace.items; links = n.links; spare = vec_capacity n.trace - vec_len n.trace } };
+    ghost view = { λ n. record { graph = n.graph; trace = n.trace.items; channels = n.channels; spare = vec_capacity n.trace - vec_len n.trace } };
 
-    ghost invariant = { λ n. IsKept n.graph n.trace.items n.nodes.items n.links n.counts n.halts };
+    ghost invariant = { λ n. IsKept n.graph n.trace.items n.nodes.items n.channels n.counts n.halts };
 }
 
 impl Net {
@@ -75,7 +75,7 @@ impl Net {
             Ok(parts) => Ok(Net {
                 graph,
                 nodes: parts.nodes,
-                links: parts.links,
+                channels: parts.channels,
                 counts: Counts::none(),
                 halts: parts.halts,
                 trace: Vec::new(alloc),
@@ -90,7 +90,8 @@ impl Net {
     {
         match event {
             Event::Wake(v) => self.has_node(v) && is_asleep(self.nodes[v as usize - 1].head()),
-            Event::Take(v, port) => self.has_port(v, port) && self.links.front(v, port).is_some(),
+            Event::Take(v, port) => self.has_port(v, port)
+                && self.channels.front(v, port).is_some(),
         }
     }
 
@@ -108,7 +109,7 @@ impl Net {
         requires { At (network self.now) v port }
         ensures { result ≡ slice_get ((net_of self.now).queue v port) 0 }
     {
-        self.links.front(v, port)
+        self.channels.front(v, port)
     }
 
     /// How many messages wait at a port.
@@ -116,7 +117,7 @@ impl Net {
         requires { At (network self.now) v port }
         ensures { result ≡ length ((net_of self.now).queue v port) }
     {
-        self.links.len_at(v, port)
+        self.channels.len_at(v, port)
     }
 
     /// Whether the node of a Take that may happen would only put back the message that it takes. O(1).
@@ -125,7 +126,7 @@ impl Net {
         ensures waits { (m : Letter) → slice_get ((net_of self.now).queue v port) 0 ≡ Some m → IsTrue result ↔ Waits ((net_of self.now).node v) port m }
         ensures back { IsTrue result → IsPutBack self.now v port }
     {
-        match self.links.front(v, port) {
+        match self.channels.front(v, port) {
             Some(message) => waits(&self.nodes[v as usize - 1], port, &message),
             None => false,
         }
@@ -220,7 +221,7 @@ impl Net {
             sent: self.counts.sent,
             consumed: self.counts.consumed,
             requeued: self.counts.requeued,
-            queued: self.links.total(),
+            queued: self.channels.total(),
             out: 0,
         }
     }
@@ -255,7 +256,7 @@ impl Net {
         count_classes(alloc, &roots, &self.nodes)
     }
 
-    // The root of each node, at the node's number: the least node of its fragment.
+    /// The root of each node, at the node's number: the least node of its fragment.
     fn fragment_roots(&self, alloc: Global) -> Result<Vec<u32>, AllocError>
         ensures { IfOk result (λ rs. TellFragments (network self.now) (net_of self.now) rs.items) }
     {
@@ -278,7 +279,7 @@ impl Net {
         self.graph
     }
 
-    // What an event brings to its node.
+    /// What an event brings to its node.
     fn work_of(&self, event: Event) -> Work
         requires { IsLawful self.now event }
         ensures work { result ≡ work_at (net_of self.now) event }
@@ -289,19 +290,19 @@ impl Net {
             Event::Wake(_) => Work::Wake,
             Event::Take(v, port) => Work::Deliver {
                 port,
-                message: self.links.front(v, port).unwrap(),
+                message: self.channels.front(v, port).unwrap(),
             },
         }
     }
 
-    // Whether the graph has such a node.
+    /// Whether the graph has such a node.
     fn has_node(&self, v: u32) -> bool
         ensures { result ≡ is_node (network self.now) v }
     {
         v > 0 && v <= self.graph.nodes()
     }
 
-    // Whether the node has such a port.
+    /// Whether the node has such a port.
     fn has_port(&self, v: u32, port: u32) -> bool
         ensures { result ≡ is_port (network self.now) v port }
     {
@@ -318,7 +319,7 @@ impl Net {
         ensures full { OnErr result (HasRoomToPlay self.old event delta.now → ⊥) }
     {
         self.trace.reserve(1)?;
-        self.links
+        self.channels
             .reserve_for(node_of(event), delta.sends.as_slice())
     }
 
@@ -333,12 +334,12 @@ impl Net {
         ensures event { happens (network self.old) (net_of self.old) event ≡ Some (net_of self.new) }
         ensures room { KeepsRoom self.old self.new event delta.now }
     {
-        dispose(&mut self.links, &mut self.counts, event, delta.fate);
+        dispose(&mut self.channels, &mut self.counts, event, delta.fate);
         let v = node_of(event);
         let node = &mut self.nodes[v as usize - 1];
         node.apply(delta);
         send_all(
-            &mut self.links,
+            &mut self.channels,
             &mut self.counts.sent,
             v,
             delta.sends.as_slice(),
@@ -362,7 +363,7 @@ impl Net {
     {
         let take = Event::Take(v, port);
         self.trace.push(take)?;
-        dispose(&mut self.links, &mut self.counts, take, Fate::Requeued);
+        dispose(&mut self.channels, &mut self.counts, take, Fate::Requeued);
         Ok(())
     }
 }

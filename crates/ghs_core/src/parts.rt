@@ -1,12 +1,12 @@
 //! The parts of an opening net.
 ghost use Rattle.std.specs.Prelude.{◌≡◌, ℕ, [], IfOk};
-ghost use Rattle.ghs_links.specs.Links.{IsFor, AllEmpty, total_of};
+ghost use Rattle.ghs_channels.specs.Channels.{IsFor, AllEmpty, total_of};
 ghost use Rattle.ghs_core.specs.Halts.{AreHalts, none_halted};
 ghost use Rattle.ghs_core.specs.Kept.{AreAsleep};
 
 use crate::halts::Halts;
+use ghs_channels::channels::Channels;
 use ghs_graph::graph::Graph;
-use ghs_links::links::Links;
 use ghs_node::node::Node;
 use std::alloc::{AllocError, Global};
 
@@ -14,29 +14,29 @@ use std::alloc::{AllocError, Global};
 #[derive(Debug, Drop)]
 pub struct Parts {
     pub nodes: Vec<Node>,
-    pub links: Links,
+    pub channels: Channels,
     pub halts: Halts,
 }
 
 /// The parts of the opening net of a graph.
 pub fn open_parts(alloc: Global, graph: &Graph) -> Result<Parts, AllocError>
     ensures nodes { IfOk result (λ p. AreAsleep graph.now p.nodes.items) }
-    ensures queues { IfOk result (λ p. IsFor graph.now p.links) }
-    ensures empty { IfOk result (λ p. AllEmpty p.links) }
-    ensures total { IfOk result (λ p. total_of p.links ≡ 0) }
+    ensures queues { IfOk result (λ p. IsFor graph.now p.channels) }
+    ensures empty { IfOk result (λ p. AllEmpty p.channels) }
+    ensures total { IfOk result (λ p. total_of p.channels ≡ 0) }
     ensures halts { IfOk result (λ p. AreHalts graph.now none_halted p.halts) }
 {
     let nodes = sleepers(alloc, graph)?;
-    let links = Links::new(alloc, graph)?;
+    let channels = Channels::new(alloc, graph)?;
     let halts = Halts::none(alloc, graph)?;
     Ok(Parts {
         nodes,
-        links,
+        channels,
         halts,
     })
 }
 
-// All nodes, asleep.
+/// All nodes, asleep.
 fn sleepers(alloc: Global, graph: &Graph) -> Result<Vec<Node>, AllocError>
     ensures { IfOk result (λ n. AreAsleep graph.now n.items) }
 {

@@ -54,7 +54,7 @@ fn is_basic(mark: Mark) -> bool
     }
 }
 
-// Whether a port that may be none is this one.
+/// Whether a port that may be none is this one.
 fn is_at(place: Option<u32>, port: u32) -> bool
     ensures { result ≡ is_at place port }
 {

@@ -48,7 +48,8 @@ module _ (t : ℕ) (ps ls more : List ℕ) (child top : ℕ) (u : GoesUnder t ps
           u.others v (λ (e : v ≡ top). absurd (let z : get_or ls top 0 < get_or ls top 0 = (subst (λ x. get_or ls top 0 < get_or ls x 0) u.itself
           (subst (λ x. get_or ls x 0 < get_or ls (get_or ps x 0) 0) e less)) in omega (arith, z))) in
           ⊎_elim
-          (λ (e : get_or ps v 0 ≡ top). let g = u.grows in let z : get_or ls v 0 < get_or ls top 0 = (subst (λ x. get_or ls v 0 < get_or ls x 0) e less) in
+          (λ (e : get_or ps v 0 ≡ top).
+          let g = u.grows in let z : get_or ls v 0 < get_or ls top 0 = (subst (λ x. get_or ls v 0 < get_or ls x 0) e less) in
           rw (e, here) (omega (arith, g, z)))
           (λ ne. rw (here, u.others (get_or ps v 0) ne) less) (cases_eq (get_or ps v 0) top)
 

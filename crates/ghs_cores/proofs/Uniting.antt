@@ -13,7 +13,8 @@ use Rattle.ghs_protocol.proofs.lemmas.Merging.{Either, inside, merging_on, outsi
 use Rattle.ghs_cores.specs.Fragments.{AreMerged, IsLeader}
 use Rattle.ghs_cores.proofs.Trees.{GoesUnder, trees_within, trees_under, now_child, now_other}
 
-module _ (ks : List Key) (rising : IsRising ks) (t : ℕ) (more : t < length ks) (ps ls : List ℕ) (cs : List (Option Key)) (s : AreMerged ks t ps ls cs) where
+module _ (ks : List Key) (rising : IsRising ks) (t : ℕ) (more : t < length ks) (ps ls : List ℕ) (cs : List (Option Key))
+    (s : AreMerged ks t ps ls cs) where
   -- who leads to the same node lies in the same fragment
   pub leader_one : (v r : ℕ) → IsLeader ps v r → s.to.fragment r ≡ s.to.fragment v
   leader_one v r l = l.same s.to.fragment s.one
@@ -134,12 +135,15 @@ module _ (ks : List Key) (rising : IsRising ks) (t : ℕ) (more : t < length ks)
 
         level_of : (w : ℕ) → w < length ps → (w ≢ child) × (get_or ps w 0 ≡ w) → get_or ls' w 0 ≡ (united u v l c s.to).level w
         level_of w lt e =
-            ⊎_elim (λ (q : w ≡ top). subst (λ x. get_or ls' x 0 ≡ (united u v l c s.to).level x) (sym q) (level ∙ sym (inside s.to u v l c top second).level))
-            (λ ne. let z = aside w lt e.0 e.1 ne in under.others w ne ∙ s.level w lt e.1 ∙ sym (outside s.to u v l c w z.0 z.1).level) (cases_eq w top)
+            ⊎_elim (λ (q : w ≡ top). subst (λ x. get_or ls' x 0 ≡ (united u v l c s.to).level x) (sym q)
+            (level ∙ sym (inside s.to u v l c top second).level))
+            (λ ne. let z = aside w lt e.0 e.1 ne in under.others w ne ∙ s.level w lt e.1 ∙ sym (outside s.to u v l c w z.0 z.1).level)
+            (cases_eq w top)
 
         core_of : (w : ℕ) → w < length ps → (w ≢ child) × (get_or ps w 0 ≡ w) → get_or cs' w None ≡ (united u v l c s.to).core w
         core_of w lt e =
-            ⊎_elim (λ (q : w ≡ top). subst (λ x. get_or cs' x None ≡ (united u v l c s.to).core x) (sym q) (core ∙ sym (inside s.to u v l c top second).core))
+            ⊎_elim (λ (q : w ≡ top). subst (λ x. get_or cs' x None ≡ (united u v l c s.to).core x) (sym q)
+            (core ∙ sym (inside s.to u v l c top second).core))
             (λ ne. let z = aside w lt e.0 e.1 ne in others w ne ∙ s.core w lt e.1 ∙ sym (outside s.to u v l c w z.0 z.1).core) (cases_eq w top)
 
         ends : Between k u v → (united u v l c s.to).fragment k.a ≡ (united u v l c s.to).fragment k.b
@@ -151,6 +155,6 @@ module _ (ks : List Key) (rising : IsRising ks) (t : ℕ) (more : t < length ks)
         within i lt =
             ⊎_elim
             (λ (q : i ≡ t).
-            subst (λ (x : Key). (united u v l c s.to).fragment x.a ≡ (united u v l c s.to).fragment x.b) (sym is ∙ ap (λ n. get_or ks n no_key) (sym q))
-            (ends between))
+            subst (λ (x : Key). (united u v l c s.to).fragment x.a ≡ (united u v l c s.to).fragment x.b)
+            (sym is ∙ ap (λ n. get_or ks n no_key) (sym q)) (ends between))
             (λ ne. still_one s.to u v l c (get_or ks i no_key).a (get_or ks i no_key).b (s.within i (omega (arith, lt, ne)))) (cases_eq i t)

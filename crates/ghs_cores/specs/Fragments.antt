@@ -18,7 +18,8 @@ pub record IsLeader (parents : List ℕ) (v r : ℕ) : Type 0 where
   pub same : (f : ℕ → ℕ) → ((x : ℕ) → x < length parents → f (slice_index parents x) ≡ f x) → f r ≡ f v
 
 -- Of two nodes that lead to themselves the one of the lower level leads to the other now; of equal ones the second to the first, one level higher.
-pub data HasUnited (parents levels : List ℕ) (cores : List (Option Key)) (parents' levels' : List ℕ) (cores' : List (Option Key)) (a b : ℕ) (k : Key) : Type 0 where
+pub data HasUnited (parents levels : List ℕ) (cores : List (Option Key)) (parents' levels' : List ℕ) (cores' : List (Option Key)) (a b : ℕ)
+    (k : Key) : Type 0 where
   First_absorbed : slice_index levels a < slice_index levels b → parents' ≡ set parents a b → levels' ≡ levels → cores' ≡ cores →
       HasUnited parents levels cores parents' levels' cores' a b k
   Second_absorbed : slice_index levels b < slice_index levels a → parents' ≡ set parents b a → levels' ≡ levels → cores' ≡ cores →

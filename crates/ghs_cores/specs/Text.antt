@@ -8,7 +8,8 @@ use Rattle.ghs_cores.specs.Components.{AreAll}
 
 -- `c A B W LEVEL`: the core's smaller end, larger end and weight; `c V 0` of a node without links
 abbrev pub core_line : ℕ → ℕ → Option Key → List ℕ
-core_line root level (Some k) = codes "c " ++ decimal k.a ++ codes " " ++ decimal k.b ++ codes " " ++ decimal k.weight ++ codes " " ++ decimal level ++ 10 ∷ []
+core_line root level (Some k) =
+    codes "c " ++ decimal k.a ++ codes " " ++ decimal k.b ++ codes " " ++ decimal k.weight ++ codes " " ++ decimal level ++ 10 ∷ []
 core_line root level None = codes "c " ++ decimal root ++ codes " " ++ decimal level ++ 10 ∷ []
 
 -- the line of a component

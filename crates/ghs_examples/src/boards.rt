@@ -22,7 +22,7 @@ const NINE_AND_ENDED: Progress = Progress {
     halted: true,
 };
 
-// A read finds this.
+/// A read finds this.
 fn reads(rt: &impl Abort, board: &Board, reader: &mut Reader, progress: Progress)
     requires { reader.old.table ≡ board.now }
     ensures { reader.new.table ≡ reader.old.table }
@@ -30,7 +30,7 @@ fn reads(rt: &impl Abort, board: &Board, reader: &mut Reader, progress: Progress
     assert_eq!(rt; board.read(reader), progress);
 }
 
-// A read beside the publisher finds this.
+/// A read beside the publisher finds this.
 fn reads_beside(
     rt: &impl Abort,
     alloc: Global,
@@ -85,7 +85,7 @@ fn readers_are_split_and_joined(rt: HostRuntime) -> Result<(), Fail> {
     Ok(())
 }
 
-// Reads until a read says that the run has ended. Whether no part fell, and the last commits are these.
+/// Reads until a read says that the run has ended. Whether no part fell, and the last commits are these.
 fn rises_to(board: &Board, reader: &mut Reader, commits: u64) -> bool
     requires { reader.old.table ≡ board.now }
 {
@@ -103,7 +103,7 @@ fn rises_to(board: &Board, reader: &mut Reader, commits: u64) -> bool
     last.commits == commits
 }
 
-// Publishes 1 commit, 2, up to 1,000, with which the run ends.
+/// Publishes 1 commit, 2, up to 1,000, with which the run ends.
 fn raise(publisher: &mut Publisher) {
     for commits in 1..1001u64 {
         let last = publisher.last();

@@ -194,7 +194,7 @@ const EDGES: [Edge; 7] = [
     },
 ];
 
-// The node waits for as many Reports as before.
+/// The node waits for as many Reports as before.
 fn assert_edge(rt: &impl Abort, alloc: Global, edge: &Edge) {
     let mut node = after(rt, alloc, 2, &edge.before);
     let awaited = node.head().find_count;

@@ -9,7 +9,7 @@ use std::test::*;
 use std::thread;
 use std::thread::Threads;
 
-// A number is put, or the queue is full.
+/// A number is put, or the queue is full.
 fn puts<R: Wait + Abort>(
     rt: &R,
     queue: &ReadyQueue,
@@ -24,7 +24,7 @@ fn puts<R: Wait + Abort>(
     assert_eq!(rt; found, put);
 }
 
-// This number is taken, or none.
+/// This number is taken, or none.
 fn takes<R: Wait + Abort>(rt: &R, queue: &ReadyQueue, pass: &mut ReadyPass, number: Option<u32>)
     requires { pass.old.name ≡ queue.now.name }
     ensures { (pass.new.name ≡ pass.old.name) × (pass.new.shares ≡ pass.old.shares) }
@@ -33,7 +33,7 @@ fn takes<R: Wait + Abort>(rt: &R, queue: &ReadyQueue, pass: &mut ReadyPass, numb
     assert_eq!(rt; found, number);
 }
 
-// Two numbers fill the queue and leave it, one of them twice; then a third stands in it.
+/// Two numbers fill the queue and leave it, one of them twice; then a third stands in it.
 fn fill_and_empty<R: Wait + Abort>(rt: &R, queue: &ReadyQueue, pass: &mut ReadyPass)
     requires { pass.old.name ≡ queue.now.name }
     ensures { (pass.new.name ≡ pass.old.name) × (pass.new.shares ≡ pass.old.shares) }
@@ -55,7 +55,7 @@ fn assert_one_stands<R: Wait + Abort>(rt: &R, queue: &ReadyQueue, pass: &mut Rea
     assert!(rt; found == 1);
 }
 
-// The queue closes, and so many numbers stand in it.
+/// The queue closes, and so many numbers stand in it.
 fn closes<R: Wait + Abort>(
     rt: &R,
     alloc: Global,
@@ -93,7 +93,7 @@ fn a_queue_of_two(rt: HostRuntime) -> Result<(), Fail> {
     Ok(())
 }
 
-// Puts each number from the first to before the end, however often the queue is full.
+/// Puts each number from the first to before the end, however often the queue is full.
 fn put_all<R: Wait>(
     rt: &R,
     queue: &ReadyQueue,
@@ -115,7 +115,7 @@ fn put_all<R: Wait>(
     pass
 }
 
-// Takes so many numbers, however often the queue is empty.
+/// Takes so many numbers, however often the queue is empty.
 fn take_some<R: Wait>(
     rt: &R,
     alloc: Global,
@@ -143,7 +143,7 @@ fn take_some<R: Wait>(
     (pass, Ok(taken))
 }
 
-// A queue closes with a hundred thousand numbers in it.
+/// A queue closes with a hundred thousand numbers in it.
 #[test]
 fn a_long_queue_closes(rt: HostRuntime) -> Result<(), Fail> {
     let alloc = rt.alloc();
@@ -153,7 +153,7 @@ fn a_long_queue_closes(rt: HostRuntime) -> Result<(), Fail> {
     Ok(())
 }
 
-// Two threads put 1 to 1,000 and 1,001 to 2,000, and two others take 900 and 1,095 of them.
+/// Two threads put 1 to 1,000 and 1,001 to 2,000, and two others take 900 and 1,095 of them.
 fn exchange<R: Threads + Wait + Sync>(
     rt: &R,
     alloc: Global,
@@ -210,7 +210,7 @@ fn exchange<R: Threads + Wait + Sync>(
     }
 }
 
-// The numbers are 1 to 2,000, in some order.
+/// The numbers are 1 to 2,000, in some order.
 fn are_all_once(rt: &impl Abort, mut all: Vec<u32>) -> Result<(), AllocError> {
     all.sort()?;
     assert!(rt; all.len() == 2000);

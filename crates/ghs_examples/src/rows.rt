@@ -634,7 +634,7 @@ fn node_before(rt: &impl Abort, alloc: Global, row: &Row) -> Node {
     after(rt, alloc, row.degree, &works)
 }
 
-// What the node does, by the row of this name.
+/// What the node does, by the row of this name.
 fn reaction(rt: &impl Abort, alloc: Global, row: &Row, node: &Node, work: &Work) -> Delta
     ensures { IsReaction node.now result }
 {

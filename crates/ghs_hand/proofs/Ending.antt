@@ -22,7 +22,8 @@ module _ (seed : ℕ) (old new : WorldState) (words after : List ℕ) (begun : w
   among_all ran = (after, subst (λ (s : List ℕ). IsPicked (wakers old) old.net.graph old.turns old.net.trace s new.net.trace after) begun ran.picked)
 
   pub patiently : patient.HasRun old new words after → GoesOnTo true seed old new.net.trace
-  patiently ran = (after, subst (λ (s : List ℕ). IsPatientlyPicked (wakers old) old.net.graph old.turns old.net.trace s new.net.trace after) begun ran.picked)
+  patiently ran =
+      (after, subst (λ (s : List ℕ). IsPatientlyPicked (wakers old) old.net.graph old.turns old.net.trace s new.net.trace after) begun ran.picked)
 
 module _ (way : Bool) (seed : ℕ) (old new : WorldState) (r : Result RunEnd RunFault) (picked : GoesOnTo way seed old new.net.trace)
     (same : new.net.graph ≡ old.net.graph)
@@ -37,8 +38,8 @@ module _ (way : Bool) (seed : ℕ) (old new : WorldState) (r : Result RunEnd Run
         by_end (Halted v) end = subst (λ (g : Shape). HasEnded g (net_after g new.net.trace)) same end.0
 
     -- there are fewer turns than numbers of tickets, so it is the turns that are used
-    pub stopped : (f : RunFault) (limit outs : ℕ) → r ≡ Err f → f ≡ TurnLimit → IfErr r (λ x. EndsFor new x) → OnErr r (HasEnded new.net.graph (home new) → ⊥) →
-        new.turns ≡ old.turns →
+    pub stopped : (f : RunFault) (limit outs : ℕ) → r ≡ Err f → f ≡ TurnLimit → IfErr r (λ x. EndsFor new x) →
+        OnErr r (HasEnded new.net.graph (home new) → ⊥) → new.turns ≡ old.turns →
         new.last + length old.net.trace ≡ old.last + length new.net.trace →
         old.last ≡ length old.net.trace →
         length new.net.trace + outs ≤ limit →
@@ -47,9 +48,11 @@ module _ (way : Bool) (seed : ℕ) (old new : WorldState) (r : Result RunEnd Run
     stopped f limit outs is limited ends goes turns numbers first fits few =
         let is_limit : r ≡ Err TurnLimit = is ∙ ap (λ (x : RunFault). Err x) limited in
         let used : EndsFor new TurnLimit = subst (λ (x : Result RunEnd RunFault). IfErr x (λ y. EndsFor new y)) is_limit ends in
-        let on : HasEnded new.net.graph (home new) → ⊥ = subst (λ (x : Result RunEnd RunFault). OnErr x (HasEnded new.net.graph (home new) → ⊥)) is_limit goes in
+        let on : HasEnded new.net.graph (home new) → ⊥ =
+        subst (λ (x : Result RunEnd RunFault). OnErr x (HasEnded new.net.graph (home new) → ⊥)) is_limit goes in
         record {
           picked = picked;
-          used = ⊎_elim (λ (all : length new.net.trace ≡ new.turns). all ∙ turns) (λ (large : 18446744073709551615 ≤ new.last). absurd (omega arith)) used;
+          used = ⊎_elim (λ (all : length new.net.trace ≡ new.turns). all ∙ turns)
+              (λ (large : 18446744073709551615 ≤ new.last). absurd (omega arith)) used;
           goes_on = λ ended. on (subst (λ (g : Shape). HasEnded g (net_after g new.net.trace)) (sym same) ended);
         }

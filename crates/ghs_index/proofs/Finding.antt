@@ -17,7 +17,8 @@ use Rattle.ghs_index.proofs.lemmas.Places.{length_at, take_at, takes_at, takes_o
 use Rattle.ghs_index.proofs.lemmas.Marks.{is_for}
 
 -- the k-th mark stands where the k-th event that passes does
-pub kth_is : {X : Type 0} (p : X → Bool) (xs : List X) (i k : ℕ) → at (map p xs) i ≡ true → count (take i (map p xs)) ≡ k → slice_get (filter p xs) k ≡ slice_get xs i
+pub kth_is : {X : Type 0} (p : X → Bool) (xs : List X) (i k : ℕ) → at (map p xs) i ≡ true → count (take i (map p xs)) ≡ k →
+    slice_get (filter p xs) k ≡ slice_get xs i
 kth_is p [] zero k up e = cc
 kth_is p [] (suc i) k up e = cc
 kth_is p (x ∷ xs) zero k up e = rw (up, ← e) refl
@@ -66,7 +67,8 @@ module _ (g : Network) (p : Event → Bool) (x : IndexState) (of : IsIndexOf g p
       let l = length_at (suc n) (length (g.ports (suc n))) in
       let lt = slice_get_within (node_events g (suc n)) j e h in
       let base = of.bases.base n (omega arith) in
-      rw base (ap (λ bs. at bs (length (events_to g n) + j)) of.marks ∙ map_at p (all_events g) (length (events_to g n) + j) e (node_place g n j hi (omega arith) ∙ h))
+      rw base (ap (λ bs. at bs (length (events_to g n) + j)) of.marks
+      ∙ map_at p (all_events g) (length (events_to g n) + j) e (node_place g n j hi (omega arith) ∙ h))
 
   in_span : (v j : ℕ) (e : Event) → 1 ≤ v → v ≤ g.count → slice_get (node_events g v) j ≡ Some e → get_or x.bases v 0 + j < get_or x.bases (v + 1) 0
   in_span v j e lo hi h =
@@ -79,10 +81,13 @@ module _ (g : Network) (p : Event → Bool) (x : IndexState) (of : IsIndexOf g p
       omega arith
 
   -- whether an event of node v passes
-  pub none_of : (v : ℕ) → 1 ≤ v → v ≤ g.count → NonePasses (at x.marks) (get_or x.bases v 0) (get_or x.bases (v + 1) 0) → list_any p (node_events g v) ≡ false
-  none_of v lo hi none = none_any p (node_events g v) (λ j e h. sym (marked v j e lo hi h) ∙ none (get_or x.bases v 0 + j) (omega arith) (in_span v j e lo hi h))
+  pub none_of : (v : ℕ) → 1 ≤ v → v ≤ g.count → NonePasses (at x.marks) (get_or x.bases v 0) (get_or x.bases (v + 1) 0) →
+      list_any p (node_events g v) ≡ false
+  none_of v lo hi none =
+      none_any p (node_events g v) (λ j e h. sym (marked v j e lo hi h) ∙ none (get_or x.bases v 0 + j) (omega arith) (in_span v j e lo hi h))
 
-  pub one_of : (v i : ℕ) → 1 ≤ v → v ≤ g.count → get_or x.bases v 0 ≤ i → i < get_or x.bases (v + 1) 0 → at x.marks i ≡ true → list_any p (node_events g v) ≡ true
+  pub one_of : (v i : ℕ) → 1 ≤ v → v ≤ g.count → get_or x.bases v 0 ≤ i → i < get_or x.bases (v + 1) 0 → at x.marks i ≡ true →
+      list_any p (node_events g v) ≡ true
   one_of v i lo hi from to up =
       let s = spans v lo hi in
       let a = s.from in
@@ -91,7 +96,8 @@ module _ (g : Network) (p : Event → Bool) (x : IndexState) (of : IsIndexOf g p
       let l = length_at v (length (g.ports v)) in
       let here = get_some (node_events g v) (i - get_or x.bases v 0) (omega arith) in
       let same : get_or x.bases v 0 + (i - get_or x.bases v 0) ≡ i = omega arith in
-      any_at p (node_events g v) (i - get_or x.bases v 0) here.0 here.1 (sym (marked v (i - get_or x.bases v 0) here.0 lo hi here.1) ∙ ap (at x.marks) same ∙ up)
+      any_at p (node_events g v) (i - get_or x.bases v 0) here.0 here.1
+      (sym (marked v (i - get_or x.bases v 0) here.0 lo hi here.1) ∙ ap (at x.marks) same ∙ up)
 
   -- the first Take from port low on
   take_mark : (v q : ℕ) → 1 ≤ v → v ≤ g.count → q < length (g.ports v) → at x.marks (get_or x.bases v 0 + 1 + q) ≡ p (Take v q)
@@ -99,7 +105,8 @@ module _ (g : Network) (p : Event → Bool) (x : IndexState) (of : IsIndexOf g p
       let same : get_or x.bases v 0 + suc q ≡ get_or x.bases v 0 + 1 + q = omega arith in
       sym (ap (at x.marks) same) ∙ marked v (suc q) (Take v q) lo hi (take_at v (length (g.ports v)) q lt)
 
-  pub no_take : (v low : ℕ) → 1 ≤ v → v ≤ g.count → NonePasses (at x.marks) (get_or x.bases v 0 + 1 + low) (get_or x.bases (v + 1) 0) → find p (takes v low (length (g.ports v) - low)) ≡ None
+  pub no_take : (v low : ℕ) → 1 ≤ v → v ≤ g.count → NonePasses (at x.marks) (get_or x.bases v 0 + 1 + low) (get_or x.bases (v + 1) 0) →
+      find p (takes v low (length (g.ports v) - low)) ≡ None
   no_take v low lo hi none = find_none p (takes v low (length (g.ports v) - low)) (λ j e h.
       let here = takes_only v low (length (g.ports v) - low) j e h in
       let s = spans v lo hi in
@@ -109,11 +116,13 @@ module _ (g : Network) (p : Event → Bool) (x : IndexState) (of : IsIndexOf g p
       let port : low + j < length (g.ports v) = (let lt = here.0 in omega arith) in
       ap p here.1 ∙ sym (take_mark v (low + j) lo hi port) ∙ none (get_or x.bases v 0 + 1 + (low + j)) (omega arith) (omega arith))
 
-  pub past_ports : (v low : ℕ) → 1 ≤ v → v ≤ g.count → get_or x.bases (v + 1) 0 < get_or x.bases v 0 + 1 + low → find p (takes v low (length (g.ports v) - low)) ≡ None
+  pub past_ports : (v low : ℕ) → 1 ≤ v → v ≤ g.count → get_or x.bases (v + 1) 0 < get_or x.bases v 0 + 1 + low →
+      find p (takes v low (length (g.ports v) - low)) ≡ None
   past_ports v low lo hi past = no_take v low lo hi (λ i from to. absurd (omega arith))
 
   pub one_take : (v low i : ℕ) → 1 ≤ v → v ≤ g.count → get_or x.bases v 0 + 1 + low ≤ i → i < get_or x.bases (v + 1) 0 → at x.marks i ≡ true →
-      NonePasses (at x.marks) (get_or x.bases v 0 + 1 + low) i → find p (takes v low (length (g.ports v) - low)) ≡ Some (Take v (i - get_or x.bases v 0 - 1))
+      NonePasses (at x.marks) (get_or x.bases v 0 + 1 + low) i →
+      find p (takes v low (length (g.ports v) - low)) ≡ Some (Take v (i - get_or x.bases v 0 - 1))
   one_take v low i lo hi from to up none =
       let s = spans v lo hi in
       let a = s.from in
@@ -131,7 +140,8 @@ module _ (g : Network) (p : Event → Bool) (x : IndexState) (of : IsIndexOf g p
       ap p here.1 ∙ sym (take_mark v (low + j) lo hi q) ∙ none (get_or x.bases v 0 + 1 + (low + j)) (omega arith) (omega arith))
 
   -- the first node from low on
-  pub no_node : (low : ℕ) → 1 ≤ low → NonePasses (at x.marks) (get_or x.bases low 0) (length x.marks) → find (λ (v : ℕ). list_any p (node_events g v)) (range_with_len low (g.count + 1 - low)) ≡ None
+  pub no_node : (low : ℕ) → 1 ≤ low → NonePasses (at x.marks) (get_or x.bases low 0) (length x.marks) →
+      find (λ (v : ℕ). list_any p (node_events g v)) (range_with_len low (g.count + 1 - low)) ≡ None
   no_node low lo none = none_found (λ v. list_any p (node_events g v)) low (g.count + 1 - low) (λ u from to.
       let hi : u ≤ g.count = omega arith in
       let some : 1 ≤ u = omega arith in
@@ -150,8 +160,9 @@ module _ (g : Network) (p : Event → Bool) (x : IndexState) (of : IsIndexOf g p
           let l = longer g (u - 1) (low - 1) (omega arith) in
           omega arith
 
-  pub one_node : (low v i : ℕ) → 1 ≤ low → low ≤ g.count + 1 → 1 ≤ v → v ≤ g.count → get_or x.bases low 0 ≤ i → get_or x.bases v 0 ≤ i → i < get_or x.bases (v + 1) 0 → at x.marks i ≡ true →
-      NonePasses (at x.marks) (get_or x.bases low 0) i → find (λ (u : ℕ). list_any p (node_events g u)) (range_with_len low (g.count + 1 - low)) ≡ Some v
+  pub one_node : (low v i : ℕ) → 1 ≤ low → low ≤ g.count + 1 → 1 ≤ v → v ≤ g.count → get_or x.bases low 0 ≤ i → get_or x.bases v 0 ≤ i →
+      i < get_or x.bases (v + 1) 0 → at x.marks i ≡ true → NonePasses (at x.marks) (get_or x.bases low 0) i →
+      find (λ (u : ℕ). list_any p (node_events g u)) (range_with_len low (g.count + 1 - low)) ≡ Some v
   one_node low v i lo top some hi first from to up none =
       let order : low ≤ v = ⊎_elim
       (λ (lt : v < low). let z = base_low in let b = (spans v some hi).to in let l = longer g (low - 1) v (omega arith) in absurd (omega arith))
@@ -177,48 +188,57 @@ module _ (g : Network) (p : Event → Bool) (x : IndexState) (of : IsIndexOf g p
       base_low = base_at low lo top
 
 -- the event at a place
-pub wake_stands : (g : Network) (bases : List ℕ) (v i : ℕ) → AreBases g g.count bases → 1 ≤ v → v + 1 < length bases → i ≡ get_or bases v 0 → slice_get (all_events g) i ≡ Some (Wake v)
+pub wake_stands : (g : Network) (bases : List ℕ) (v i : ℕ) → AreBases g g.count bases → 1 ≤ v → v + 1 < length bases → i ≡ get_or bases v 0 →
+    slice_get (all_events g) i ≡ Some (Wake v)
 wake_stands g bases v i b lo top e =
     let c = b.count in
     let s = span g bases v b lo (omega arith) in
     let from = s.from in
     ap (slice_get (all_events g)) (e ∙ from) ∙ placed g (Wake v) (lo, omega arith)
 
-pub take_stands : (g : Network) (bases : List ℕ) (v i : ℕ) → AreBases g g.count bases → 1 ≤ v → v + 1 < length bases → get_or bases v 0 ≤ i → i < get_or bases (v + 1) 0 → (i ≡ get_or bases v 0 → ⊥) →
-    slice_get (all_events g) i ≡ Some (Take v (i - get_or bases v 0 - 1))
+pub take_stands : (g : Network) (bases : List ℕ) (v i : ℕ) → AreBases g g.count bases → 1 ≤ v → v + 1 < length bases → get_or bases v 0 ≤ i →
+    i < get_or bases (v + 1) 0 → (i ≡ get_or bases v 0 → ⊥) → slice_get (all_events g) i ≡ Some (Take v (i - get_or bases v 0 - 1))
 take_stands g bases v i b lo top from to ne =
     let c = b.count in
     let s = span g bases v b lo (omega arith) in
     let sf = s.from in
     let st = s.to in
     let many = s.many in
-    let behind : get_or bases v 0 < i = ⊎_elim (λ (lt : get_or bases v 0 < i). lt) (λ (le : i ≤ get_or bases v 0). absurd (ne (omega arith))) (cases_lt (get_or bases v 0) i) in
+    let behind : get_or bases v 0 < i =
+    ⊎_elim (λ (lt : get_or bases v 0 < i). lt) (λ (le : i ≤ get_or bases v 0). absurd (ne (omega arith))) (cases_lt (get_or bases v 0) i) in
     let here : i ≡ length (events_to g (v - 1)) + suc (i - get_or bases v 0 - 1) = omega arith in
     ap (slice_get (all_events g)) here ∙ placed g (Take v (i - get_or bases v 0 - 1)) (record { some = lo; node = omega arith; port = omega arith })
 
-pub base_within : (g : Network) (bases : List ℕ) (v : ℕ) → AreBases g g.count bases → 1 ≤ v → v ≤ g.count + 1 → get_or bases v 0 ≤ length (all_events g)
+pub base_within : (g : Network) (bases : List ℕ) (v : ℕ) → AreBases g g.count bases → 1 ≤ v → v ≤ g.count + 1 →
+    get_or bases v 0 ≤ length (all_events g)
 base_within g bases zero b lo hi = absurd (omega arith)
 base_within g bases (suc n) b lo hi = let base = b.base n (omega arith) in let l = longer g g.count n (omega arith) in omega arith
 
 -- the same, with numbers that equal the bases
 module _ (g : Network) (p : Event → Bool) (x : IndexState) (of : IsIndexOf g p x) where
-  pub any_told : (v a b : ℕ) (o : Option ℕ) → 1 ≤ v → v ≤ g.count → a ≡ get_or x.bases v 0 → b ≡ get_or x.bases (v + 1) 0 → IsFirstFrom x.marks a b o → is_some o ≡ list_any p (node_events g v)
+  pub any_told : (v a b : ℕ) (o : Option ℕ) → 1 ≤ v → v ≤ g.count → a ≡ get_or x.bases v 0 → b ≡ get_or x.bases (v + 1) 0 →
+      IsFirstFrom x.marks a b o → is_some o ≡ list_any p (node_events g v)
   any_told v a b None lo hi ea eb h = sym (none_of g p x of v lo hi (rw (ea, eb) at h))
   any_told v a b (Some i) lo hi ea eb h = sym (one_of g p x of v i lo hi (rw ea at h.0) (rw eb at h.1) h.2)
 
-  pub past_told : (v low a b : ℕ) → 1 ≤ v → v ≤ g.count → a ≡ get_or x.bases v 0 → b ≡ get_or x.bases (v + 1) 0 → b < a + 1 + low → None ≡ find p (takes v low (length (g.ports v) - low))
+  pub past_told : (v low a b : ℕ) → 1 ≤ v → v ≤ g.count → a ≡ get_or x.bases v 0 → b ≡ get_or x.bases (v + 1) 0 → b < a + 1 + low →
+      None ≡ find p (takes v low (length (g.ports v) - low))
   past_told v low a b lo hi ea eb lt = sym (past_ports g p x of v low lo hi (rw (ea, eb) at lt))
 
-  pub none_told : (v low a b : ℕ) → 1 ≤ v → v ≤ g.count → a ≡ get_or x.bases v 0 → b ≡ get_or x.bases (v + 1) 0 → IsFirstFrom x.marks (a + 1 + low) b None → None ≡ find p (takes v low (length (g.ports v) - low))
+  pub none_told : (v low a b : ℕ) → 1 ≤ v → v ≤ g.count → a ≡ get_or x.bases v 0 → b ≡ get_or x.bases (v + 1) 0 →
+      IsFirstFrom x.marks (a + 1 + low) b None → None ≡ find p (takes v low (length (g.ports v) - low))
   none_told v low a b lo hi ea eb h = sym (no_take g p x of v low lo hi (rw (ea, eb) at h))
 
-  pub take_told : (v low a b i : ℕ) → 1 ≤ v → v ≤ g.count → a ≡ get_or x.bases v 0 → b ≡ get_or x.bases (v + 1) 0 → IsFirstFrom x.marks (a + 1 + low) b (Some i) → Some (Take v (i - a - 1)) ≡ find p (takes v low (length (g.ports v) - low))
+  pub take_told : (v low a b i : ℕ) → 1 ≤ v → v ≤ g.count → a ≡ get_or x.bases v 0 → b ≡ get_or x.bases (v + 1) 0 →
+      IsFirstFrom x.marks (a + 1 + low) b (Some i) → Some (Take v (i - a - 1)) ≡ find p (takes v low (length (g.ports v) - low))
   take_told v low a b i lo hi ea eb h = rw ea (sym (one_take g p x of v low i lo hi (rw ea at h.0) (rw eb at h.1) h.2 (rw ea at h.3)))
 
-  pub no_node_told : (low a n : ℕ) → 1 ≤ low → a ≡ get_or x.bases low 0 → n ≡ length x.marks → IsFirstFrom x.marks a n None → None ≡ find (λ (v : ℕ). list_any p (node_events g v)) (range_with_len low (g.count + 1 - low))
+  pub no_node_told : (low a n : ℕ) → 1 ≤ low → a ≡ get_or x.bases low 0 → n ≡ length x.marks → IsFirstFrom x.marks a n None →
+      None ≡ find (λ (v : ℕ). list_any p (node_events g v)) (range_with_len low (g.count + 1 - low))
   no_node_told low a n lo ea en h = sym (no_node g p x of low lo (rw (ea, en) at h))
 
-  pub node_told : (low v a n i : ℕ) → 1 ≤ low → low ≤ g.count + 1 → a ≡ get_or x.bases low 0 → 1 ≤ v → v + 1 < length x.bases → get_or x.bases v 0 ≤ i → i < get_or x.bases (v + 1) 0 →
+  pub node_told : (low v a n i : ℕ) → 1 ≤ low → low ≤ g.count + 1 → a ≡ get_or x.bases low 0 → 1 ≤ v → v + 1 < length x.bases →
+      get_or x.bases v 0 ≤ i → i < get_or x.bases (v + 1) 0 →
       IsFirstFrom x.marks a n (Some i) → Some v ≡ find (λ (u : ℕ). list_any p (node_events g u)) (range_with_len low (g.count + 1 - low))
   node_told low v a n i lo top ea some last from to h =
       let c = of.bases.count in

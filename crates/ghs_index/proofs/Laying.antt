@@ -20,7 +20,8 @@ few_events g graph =
     omega arith
 
 -- with one node more there is still room
-pub fits_more : (g : Shape) → IsGraph g → (n d end : ℕ) → n < g.nodes → end ≡ length (events_to (network_of g) n) → d ≡ length (ports_of g.keys (n + 1)) → end + (d + 1) ≤ 33554432
+pub fits_more : (g : Shape) → IsGraph g → (n d end : ℕ) → n < g.nodes → end ≡ length (events_to (network_of g) n) →
+    d ≡ length (ports_of g.keys (n + 1)) → end + (d + 1) ≤ 33554432
 fits_more g graph n d end lt e f =
     let all = few_events g graph in
     let front = longer (network_of g) g.nodes (suc n) lt in
@@ -36,8 +37,8 @@ no_bases g = record { count = refl; base = first }
     first zero le = refl
     first (suc m) le = absurd (omega arith)
 
-pub bases_more : (g : Network) (n : ℕ) (bases new : List ℕ) (end d : ℕ) → AreBases g n bases → end ≡ length (events_to g n) → d ≡ length (g.ports (n + 1)) →
-    new ≡ bases ++ (end + (d + 1)) ∷ [] → AreBases g (n + 1) new × (end + (d + 1) ≡ length (events_to g (n + 1)))
+pub bases_more : (g : Network) (n : ℕ) (bases new : List ℕ) (end d : ℕ) → AreBases g n bases → end ≡ length (events_to g n) →
+    d ≡ length (g.ports (n + 1)) → new ≡ bases ++ (end + (d + 1)) ∷ [] → AreBases g (n + 1) new × (end + (d + 1) ≡ length (events_to g (n + 1)))
 bases_more g n bases new end d b e f is =
     rw is (
       record {
@@ -57,7 +58,8 @@ bases_more g n bases new end d b e f is =
     at : (m : ℕ) → m ≤ n + 1 → get_or (bases ++ (end + (d + 1)) ∷ []) (suc m) 0 ≡ length (events_to g m)
     at m le = ⊎_elim
         (λ (lt : m < n + 1). get_or_append_left bases ((end + (d + 1)) ∷ []) 0 (suc m) (let c = b.count in omega arith) ∙ b.base m (omega arith))
-        (λ (ge : n + 1 ≤ m). let z : m ≡ n + 1 = omega arith in rw z (get_or_push bases (end + (d + 1)) 0 (suc (n + 1)) (let c = b.count in omega arith) ∙ last))
+        (λ (ge : n + 1 ≤ m). let z : m ≡ n + 1 = omega arith in
+        rw z (get_or_push bases (end + (d + 1)) 0 (suc (n + 1)) (let c = b.count in omega arith) ∙ last))
         (cases_lt m (n + 1))
 
 -- a network with a node has an event
@@ -70,7 +72,8 @@ some_events g (suc n) bases b lo =
     rw up (omega arith)
 
 -- the last base, whatever stands for what lies past the end
-pub last_base : (g : Network) (n : ℕ) (bases : List ℕ) (i d : ℕ) → AreBases g n bases → i ≡ length bases - 1 → get_or bases i d ≡ length (events_to g n)
+pub last_base : (g : Network) (n : ℕ) (bases : List ℕ) (i d : ℕ) → AreBases g n bases → i ≡ length bases - 1 →
+    get_or bases i d ≡ length (events_to g n)
 last_base g n bases i d b e =
     let c = b.count in
     let at : i ≡ suc n = omega arith in

@@ -77,7 +77,7 @@ impl Numbers {
         }
     }
 
-    // It sends one on a port.
+    /// It sends one on a port.
     fn send_on(&mut self, graph: &Graph, v: u32, port: u32)
         requires port { At (network_of graph.now) v port }
         requires few { self.old.count + 1 < 2 ^ 64 }

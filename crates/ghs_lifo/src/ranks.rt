@@ -92,7 +92,7 @@ impl Ranks {
         }
     }
 
-    // Ranks the Takes at the far ends of what node `v` has sent.
+    /// Ranks the Takes at the far ends of what node `v` has sent.
     fn rank_far(&mut self, world: &World, numbers: &Numbers, v: u32, sends: &[(u32, Message)])
         requires home { world.now.outs ≡ [] }
         requires low { 1 ≤ v }
@@ -111,7 +111,7 @@ impl Ranks {
         }
     }
 
-    // Ranks the Takes of a node.
+    /// Ranks the Takes of a node.
     fn rank_ports(&mut self, world: &World, numbers: &Numbers, v: u32)
         requires home { world.now.outs ≡ [] }
         requires low { 1 ≤ v }
@@ -128,7 +128,7 @@ impl Ranks {
         }
     }
 
-    // Ranks one event.
+    /// Ranks one event.
     fn rank(&mut self, world: &World, numbers: &Numbers, event: Event)
         requires home { world.now.outs ≡ [] }
         requires place { HasPlace (network world.now.net) event }
@@ -142,7 +142,7 @@ impl Ranks {
     }
 }
 
-// The rank of an event.
+/// The rank of an event.
 fn rank_of(world: &World, numbers: &Numbers, event: Event) -> u64
     requires home { world.now.outs ≡ [] }
     requires place { HasPlace (network world.now.net) event }

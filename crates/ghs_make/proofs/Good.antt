@@ -44,7 +44,8 @@ rising_firsts v f zero h up = none v
 rising_firsts v f (suc d) h up =
     let inner = rising_firsts v f d (λ i lt. h i (omega arith)) (λ i j l m. up i j l (omega arith)) in
     let other : Each (λ x. Each (λ b. x ≢ b) (f d ∷ [])) (firsts f d) =
-    each_firsts (λ x. Each (λ b. x ≢ b) (f d ∷ [])) f d (λ i lt. (let less : f i < f d = up i d lt (omega arith) in λ e. absurd (omega (arith, less, e)), tt)) in
+    each_firsts (λ x. Each (λ b. x ≢ b) (f d ∷ [])) f d
+    (λ i lt. (let less : f i < f d = up i d lt (omega arith) in λ e. absurd (omega (arith, less, e)), tt)) in
     record {
       below = each_firsts (IsBelow v) f (suc d) h;
       apart = apart_append (λ a b. a ≢ b) (firsts f d) (f d ∷ []) inner.apart (tt, tt) other;
@@ -53,7 +54,8 @@ rising_firsts v f (suc d) h up =
 -- rows
 
 good_ring : (p : Plan) (v : ℕ) (b : Bool) → 2 ≤ v → (b ≡ true → 2 < v) → AreGood v (one_if b 1 ++ (v - 1) ∷ [])
-good_ring p v true low h = let far : 2 < v = h refl in two v 1 (v - 1) (omega arith, omega arith) (omega arith, omega arith) (λ e. absurd (omega arith))
+good_ring p v true low h =
+    let far : 2 < v = h refl in two v 1 (v - 1) (omega arith, omega arith) (omega arith, omega arith) (λ e. absurd (omega arith))
 good_ring p v false low h = one v (v - 1) (omega arith, omega arith)
 
 apart_rows : (p : Plan) → IsPlan p → (v : ℕ) → 2 ≤ v → has_above p v ≡ true → has_beside p v ≡ true → (1 ≤ p.width) × (v - p.width ≢ v - 1)
@@ -192,7 +194,8 @@ good_three p v h some low =
     each_map (IsKnown p v (v - 2 * h)) (λ x. x < v - h) b (λ w k. let pos = k.0.0.0 in let is = k.1 in omega (arith, pos, is)) second in
     let c_high : Each (λ y. v - h ≤ y) c =
     each_map (IsKnown p v (v - h)) (λ y. v - h ≤ y) c (λ w k. let is = k.1 in omega (arith, is)) third in
-    let ab : Apart (λ x y. x ≢ y) (a ++ b) = apart_append (λ x y. x ≢ y) a b (apart_one _ _) (apart_one _ _) (apart_both a b (v - 2 * h) a_low b_high) in
+    let ab : Apart (λ x y. x ≢ y) (a ++ b) =
+    apart_append (λ x y. x ≢ y) a b (apart_one _ _) (apart_one _ _) (apart_both a b (v - 2 * h) a_low b_high) in
     let abc : Apart (λ x y. x ≢ y) ((a ++ b) ++ c) =
     apart_append (λ x y. x ≢ y) (a ++ b) c ab (apart_one _ _)
     (apart_both (a ++ b) c (v - h) (each_append (λ x. x < v - h) a b a_lower b_low) c_high) in (

@@ -126,6 +126,7 @@ joined_first n h ne (suc m) (suc (suc k)) le low high =
     let link = first_link n k first.0 first.1 (omega arith) first.2 in
     subst (λ i. JoinedIn n i 1) same (link_joins n link.0 first.0 v 1 link.1 inner)
 
-pub are_connected : (n : Network) → IsNetwork n → n.plan.kind ≢ Forest → (u v : ℕ) → 1 ≤ u → u ≤ n.plan.nodes → 1 ≤ v → v ≤ n.plan.nodes → JoinedIn n u v
+pub are_connected : (n : Network) → IsNetwork n → n.plan.kind ≢ Forest → (u v : ℕ) → 1 ≤ u → u ≤ n.plan.nodes → 1 ≤ v → v ≤ n.plan.nodes →
+    JoinedIn n u v
 are_connected n h ne u v a b c d =
     joined_then (joined_first n h ne u u (omega arith) a b) (joined_back (joined_first n h ne v v (omega arith) c d))

@@ -42,7 +42,8 @@ arc_sound n m (k ∷ ks) zero h =
     cond-true (is_node (Some n) k.1 && is_node (Some n) k.2) _ _ (and_from _ _ (node_is n k.1 low (omega arith)) (node_is n k.2 (omega arith) high))
 arc_sound n m (k ∷ ks) (suc i) h = arc_sound n m ks i h.1
 
-all_sound : (n m : ℕ) (ks : List Triple) (i : ℕ) → 1 ≤ n → n ≤ NODE_LIMIT → m ≤ ARC_LIMIT → Each (IsFine n) ks → fault_at judge (lines n m ks) i ≡ None
+all_sound : (n m : ℕ) (ks : List Triple) (i : ℕ) → 1 ≤ n → n ≤ NODE_LIMIT → m ≤ ARC_LIMIT → Each (IsFine n) ks →
+    fault_at judge (lines n m ks) i ≡ None
 all_sound n m ks zero some few links h = refl
 all_sound n m ks (suc zero) some few links h =
     cond-true (nat_le 1 n && nat_le n NODE_LIMIT && nat_le m ARC_LIMIT) _ _
@@ -82,7 +83,8 @@ nodes_same n m a b e =
     let second : Some m ≡ Some b = ap (λ t. t.1) pairs in
     (cc, cc)
 
-module _ (n m : ℕ) (ks : List Triple) (some : 1 ≤ n) (few : n ≤ NODE_LIMIT) (links : m ≤ ARC_LIMIT) (fine : Each (IsFine n) ks) (counted : length ks ≡ m) where
+module _ (n m : ℕ) (ks : List Triple) (some : 1 ≤ n) (few : n ≤ NODE_LIMIT) (links : m ≤ ARC_LIMIT) (fine : Each (IsFine n) ks)
+    (counted : length ks ≡ m) where
   lines_read : (r : Result RawShape GrFault) → LinesAre (lines n m ks) r → (g : RawShape) × (r ≡ Ok g) × IsTheirs n ks g
   lines_read (Ok g) h =
       let numbers = nodes_same n m g.nodes (arc_count (lines n m ks)) h.problem in
@@ -110,7 +112,8 @@ is_read n h seed asked judged =
     let head : AreHeadNumbers n = record { nodes = omega arith; links = omega arith; asked = asked; seed = seed } in
     let numbers : Each AreNumbers (links_of n) =
     each_map (IsFine n.plan.nodes) AreNumbers (links_of n)
-    (λ k f. let order = f.order in let high = f.high in let weight = f.weight in record { low = omega arith; high = omega arith; weight = omega arith }) fine.each in
+    (λ k f. let order = f.order in let high = f.high in let weight = f.weight in
+    record { low = omega arith; high = omega arith; weight = omega arith }) fine.each in
     let short : Each AreShort (links_of n) =
     each_map (IsFine n.plan.nodes) AreShort (links_of n)
     (λ k f. let order = f.order in let high = f.high in record { low = omega arith; high = omega arith; weight = f.weight }) fine.each in
@@ -119,7 +122,8 @@ is_read n h seed asked judged =
     let counted = simple.counted in
     let within : length (text_of n) ≤ TEXT_LIMIT = omega (arith, long, counted, links_few) in
     let thing = (judged (text_of n)).some in
-    let is : LinesAre (meanings (text_of n)) thing.0 = ⊎_elim (λ too. absurd (let over = too.0 in omega (arith, over, within))) (λ fit. fit.1) thing.1 in
+    let is : LinesAre (meanings (text_of n)) thing.0 =
+    ⊎_elim (λ too. absurd (let over = too.0 in omega (arith, over, within))) (λ fit. fit.1) thing.1 in
     let read = lines_read n.plan.nodes n.links (links_of n) h.plan.some h.plan.few h.few fine.each counted thing.0 (rw says at is) in
     record {
       graph = read.0;

@@ -113,7 +113,8 @@ problem_says n m rest a b =
     let line : List ℕ = 112 ∷ 32 ∷ 115 ∷ 112 ∷ 32 ∷ (decimal n ++ 32 ∷ decimal m) in
     let ns = decimal_plain n (omega arith) in
     let ms = decimal_plain m (omega arith) in
-    let feed : has_no_feed line ≡ true = no_feed_both (decimal n) (32 ∷ decimal m) (no_feed_number n (omega arith)) (no_feed_number m (omega arith)) in
+    let feed : has_no_feed line ≡ true =
+    no_feed_both (decimal n) (32 ∷ decimal m) (no_feed_number n (omega arith)) (no_feed_number m (omega arith)) in
     ap meanings (problem_words n m rest)
     ∙ ap (map meaning) (lines_of-line line rest feed)
     ∙ ap (λ fs. meaning_of fs ∷ meanings rest) (fields_of-word (112 ∷ []) (115 ∷ 112 ∷ 32 ∷ (decimal n ++ 32 ∷ decimal m)) (omega arith) refl
@@ -125,7 +126,8 @@ problem_says n m rest a b =
 
 -- the comment
 
-comment_says : (words rest : List ℕ) → has_no_feed words ≡ true → meanings ((codes "c ghs make " ++ words ++ 10 ∷ []) ++ rest) ≡ Passed ∷ meanings rest
+comment_says : (words rest : List ℕ) → has_no_feed words ≡ true →
+    meanings ((codes "c ghs make " ++ words ++ 10 ∷ []) ++ rest) ≡ Passed ∷ meanings rest
 comment_says words rest none =
     let line : List ℕ = codes "c ghs make " ++ words in
     let whole : (codes "c ghs make " ++ words ++ 10 ∷ []) ++ rest ≡ line ++ 10 ∷ rest = append_assoc line (10 ∷ []) rest in

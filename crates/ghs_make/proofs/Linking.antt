@@ -49,10 +49,12 @@ fine_more : (v v' : ℕ) (ks new : List Triple) → v < v' → AreFine v ks → 
     → AreFine v' (ks ++ new)
 fine_more v v' ks new lt h fine ends apart = record {
   each = each_append (IsFine v') ks new
-      (each_map (IsFine v) (IsFine v') ks (λ k f. record { low = f.low; order = f.order; high = (let high = f.high in omega arith); weight = f.weight }) h.each) fine;
+      (each_map (IsFine v) (IsFine v') ks
+      (λ k f. record { low = f.low; order = f.order; high = (let high = f.high in omega arith); weight = f.weight }) h.each) fine;
   apart = apart_append HaveOtherEnds ks new h.apart apart
       (each_map (IsFine v) (λ j. Each (HaveOtherEnds j) new) ks
-      (λ j f. each_map (λ k. k.2 ≡ v') (HaveOtherEnds j) new (λ k e. λ same. let high = f.high in let both = same.1 in absurd (omega (arith, high, both, e, lt))) ends) h.each);
+      (λ j f. each_map (λ k. k.2 ≡ v') (HaveOtherEnds j) new
+      (λ k e. λ same. let high = f.high in let both = same.1 in absurd (omega (arith, high, both, e, lt))) ends) h.each);
 }
 
 pub fine_links : (n : Network) → IsNetwork n → (k : ℕ) → k + 1 ≤ n.plan.nodes → AreFine (k + 1) (links_of_nodes n k)

@@ -123,7 +123,8 @@ mono_by p h u =
     let two : u + 2 ≡ suc (suc u) = omega arith in
     rw (one, two) (mono_kind p.kind p u h.links)
 
-some_kind : (k : Kind) (p : Plan) (u : ℕ) → TakesLinks k p.nodes p.links → (k ≡ Tree) ⊎ (k ≡ Random) → links_by k p (suc u) + 1 ≤ links_by k p (suc (suc u))
+some_kind : (k : Kind) (p : Plan) (u : ℕ) → TakesLinks k p.nodes p.links → (k ≡ Tree) ⊎ (k ≡ Random) →
+    links_by k p (suc u) + 1 ≤ links_by k p (suc (suc u))
 some_kind Tree p u h is = omega arith
 some_kind Random p u h is = (random_steps p u h.1).mono
 some_kind Forest p u h is = absurd (⊎_elim (λ e. cc) (λ e. cc) is)
@@ -201,5 +202,6 @@ unfolding links_among
 forest_few p h is u =
     let one : u + 1 ≡ suc u = omega arith in
     let two : u + 2 ≡ suc (suc u) = omega arith in
-    let few : links_by Forest p (suc (suc u)) ≤ links_by Forest p (suc u) + 1 = (forest_steps p u (subst (λ k. TakesLinks k p.nodes p.links) is h.links)).within in
+    let few : links_by Forest p (suc (suc u)) ≤ links_by Forest p (suc u) + 1 =
+    (forest_steps p u (subst (λ k. TakesLinks k p.nodes p.links) is h.links)).within in
     rw (one, two, is) few

@@ -42,7 +42,8 @@ head_by p (suc m) v = step_of (ends_of p v) v (head_by p m)
 below_of : (p : Plan) → IsPlan p → (v : ℕ) → Each (IsBelow v) (ends_of p v)
 below_of p h zero = tt
 below_of p h (suc zero) = tt
-below_of p h (suc (suc k)) = let same : k + 2 ≡ suc (suc k) = omega arith in subst (λ v. Each (IsBelow v) (smaller_ends p (k + 2))) same (good_ends p h (k + 2) (omega arith)).below
+below_of p h (suc (suc k)) = let same : k + 2 ≡ suc (suc k) = omega arith in
+    subst (λ v. Each (IsBelow v) (smaller_ends p (k + 2))) same (good_ends p h (k + 2) (omega arith)).below
 
 -- with as many steps as the node's number all are gone
 same_by : (us : List ℕ) (v : ℕ) (f g : ℕ → ℕ) → Each (IsBelow v) us → ((u : ℕ) → u < v → f u ≡ g u) → step_of us v f ≡ step_of us v g
@@ -124,7 +125,8 @@ HasOneHead p k = head_of p k.b ≡ head_of p k.a
 one_head : (n : Network) → IsPlan n.plan → n.plan.kind ≡ Forest → Each (HasOneHead n.plan) (map key_of (links_of n))
 one_head n h is =
     each_key (HasOneHead n.plan) (links_of n)
-    (each_map (IsOnlyLink n.plan) (λ k. HasOneHead n.plan (key_of k)) (links_of n) (λ k e. one_step n.plan h k.2 k.1 e) (only_links n h is (n.plan.nodes - 1)))
+    (each_map (IsOnlyLink n.plan) (λ k. HasOneHead n.plan (key_of k)) (links_of n)
+    (λ k e. one_step n.plan h k.2 k.1 e) (only_links n h is (n.plan.nodes - 1)))
 
 joined_heads : (p : Plan) (ks : List Key) {u v : ℕ} → Each (HasOneHead p) ks → Joined (links ks) u v → head_of p u ≡ head_of p v
 joined_heads p ks h Same = refl
@@ -227,7 +229,8 @@ root_alone n h (suc (suc k)) low high root =
     let least : (u : ℕ) → JoinedIn n (k + 2) u → k + 2 ≤ u = subst (λ v. (u : ℕ) → JoinedIn n v u → v ≤ u) same root.least in
     root_by n h k (smaller_ends n.plan (k + 2)) (omega arith) refl least
 
-pub in_pieces : (n : Network) → IsNetwork n → n.plan.kind ≡ Forest → HasComponents (record { nodes = n.plan.nodes; keys = map key_of (links_of n) }) (n.plan.nodes - n.links)
+pub in_pieces : (n : Network) → IsNetwork n → n.plan.kind ≡ Forest →
+    HasComponents (record { nodes = n.plan.nodes; keys = map key_of (links_of n) }) (n.plan.nodes - n.links)
 in_pieces n h is =
     let p = n.plan in
     let some = h.plan.some in

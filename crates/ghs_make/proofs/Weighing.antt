@@ -31,7 +31,8 @@ own_few p u v le =
     own_by p v (u == chain_end p v) (nat_le v (front p))
     (λ e. let behind : front p < v = leb-false v (front p) e in twos_few (place p v) (omega arith) (omega arith))
 
-weight_few_by : (w : Option Weights) (n : Network) (number u v : ℕ) → n.links ≤ ARC_LIMIT → number < n.links → v ≤ NODE_LIMIT → weight_by w n number u v < 10000000
+weight_few_by : (w : Option Weights) (n : Network) (number u v : ℕ) → n.links ≤ ARC_LIMIT → number < n.links → v ≤ NODE_LIMIT →
+    weight_by w n number u v < 10000000
 weight_few_by (Some Random) n number u v few lt le =
     let some : 0 < 1000000 = omega arith in
     let rest = mod-lt (word n.plan.seed WEIGHING number) some in omega (arith, rest)

@@ -53,7 +53,7 @@ pub fn write_network<W: Sink>(
     }
 }
 
-// Appends the lines of a node's links, and finds their smaller ends.
+/// Appends the lines of a node's links, and finds their smaller ends.
 fn put_node(
     network: &Network,
     number: u32,

@@ -1,4 +1,5 @@
 //! Graph texts, graphs and what is laid out for them.
+use ghs_channels::channels::Channels;
 use ghs_flags::flags::Flags;
 use ghs_gr::device::Device;
 use ghs_gr::fault::GrFault;
@@ -11,7 +12,6 @@ use ghs_graph::spanning::span_raw;
 use ghs_graph::tree::{tree_of, tree_slow};
 use ghs_graph::union_find::Roots;
 use ghs_index::index::Index;
-use ghs_links::links::Links;
 use ghs_refusing::orders::{Turn, order, refuse, turn_of};
 use ghs_refusing::scenes::{five, is_five};
 use ghs_test_graphs::graphs::PATH_OF_FIVE;
@@ -103,7 +103,7 @@ enum Made {
     SlowTree,
     Roots,
     Flags,
-    Links,
+    Channels,
     Index,
 }
 
@@ -131,7 +131,7 @@ fn make_of_graph(alloc: Global, graph: &Graph, made: Made, k: usize) -> Option<T
     match made {
         Made::Copy => Some(turn_of(alloc, k, &graph.copy(alloc))),
         Made::SlowTree => Some(turn_of(alloc, k, &tree_slow(alloc, graph))),
-        Made::Links => Some(turn_of(alloc, k, &Links::new(alloc, graph))),
+        Made::Channels => Some(turn_of(alloc, k, &Channels::new(alloc, graph))),
         Made::Index => Some(turn_of(alloc, k, &Index::none(alloc, graph))),
         _ => None,
     }
@@ -166,7 +166,7 @@ static MADE: [(&str, Made); 9] = [
     ("tree_slow", Made::SlowTree),
     ("Roots::fresh", Made::Roots),
     ("Flags::lowered", Made::Flags),
-    ("Links::new", Made::Links),
+    ("Channels::new", Made::Channels),
     ("Index::none", Made::Index),
 ];
 

@@ -8,7 +8,7 @@ use ghs_node::node::Node;
 use ghs_node::react::react;
 use ghs_refusing::orders::{Count, NONE, Turn, order, refuse, refuse_each, tell, turn_of};
 use ghs_refusing::scenes::{are_same, events_of_run, five, is_five};
-use ghs_report::net_text::net_text;
+use ghs_report::report_text::report_text;
 use std::alloc::Global;
 use std::process::Abort;
 use std::test::Fail;
@@ -152,7 +152,7 @@ fn ask_net(alloc: Global, net: &Net, asked: Asked, k: usize) -> Option<Turn> {
     match asked {
         Asked::Branches => Some(turn_of(alloc, k, &net.branches(alloc))),
         Asked::Census => Some(turn_of(alloc, k, &net.census(alloc))),
-        Asked::Text => Some(turn_of(alloc, k, &net_text(alloc, net))),
+        Asked::Text => Some(turn_of(alloc, k, &report_text(alloc, net))),
         _ => None,
     }
 }
@@ -209,7 +209,7 @@ static ASKED: [(&str, Asked); 7] = [
     ("Net::lift", Asked::Lift),
     ("Node::copy", Asked::Copy),
     ("Node::asleep", Asked::Asleep),
-    ("net_text", Asked::Text),
+    ("report_text", Asked::Text),
 ];
 
 fn refuse_asked<R: Print + Abort>(

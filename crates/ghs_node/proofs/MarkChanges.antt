@@ -101,7 +101,8 @@ reaction_port n d p m f r e = go d.mark e (row_marks n r.work d f (reaction_inve
 pub least_basic_at : (ms : List Mark) (i : ℕ) → i < length ms → get_or ms i Rejected ≡ Basic → ((k : ℕ) → k < i → get_or ms k Rejected ≢ Basic)
     → least_basic ms ≡ Some i
 least_basic_at ms i lt e below =
-    let at : position_or_len is_basic ms ≡ i = position_or_len_is is_basic ms i Rejected (omega arith) (λ k h. is_basic_not _ (below k h)) (λ h. rw e) in
+    let at : position_or_len is_basic ms ≡ i =
+    position_or_len_is is_basic ms i Rejected (omega arith) (λ k h. is_basic_not _ (below k h)) (λ h. rw e) in
     rw (at, lt-ltb i (length ms) lt)
 
 pub least_basic_none : (ms : List Mark) (i : ℕ) → length ms ≤ i → ((k : ℕ) → k < i → get_or ms k Rejected ≢ Basic) → least_basic ms ≡ None

@@ -31,7 +31,7 @@ pub fn pair_page(alloc: Global, first: &[u8], second: &[u8]) -> Result<Vec<u8>, 
     Ok(text)
 }
 
-// Apart from `page`, so that its proof is over any texts and never looks into the constant ones.
+/// Apart from `page`, so that its proof is over any texts and never looks into the constant ones.
 fn joined(alloc: Global, head: &[u8], middle: &[u8], tail: &[u8]) -> Result<Vec<u8>, AllocError>
     ensures { IfOk result (λ text. text.items ≡ head.now ++ middle.now ++ tail.now) }
 {
@@ -42,7 +42,7 @@ fn joined(alloc: Global, head: &[u8], middle: &[u8], tail: &[u8]) -> Result<Vec<
     Ok(text)
 }
 
-// Two texts, and what stands before, between and behind them.
+/// Two texts, and what stands before, between and behind them.
 fn put_both(
     text: &mut Vec<u8>,
     before: &[u8],

@@ -26,7 +26,7 @@ pub(crate) fn put_json_line(
     text.extend_from_slice(b"}\n")
 }
 
-// A node or a level with its messages, or a row with how often it applied.
+/// A node or a level with its messages, or a row with how often it applied.
 fn put_part(text: &mut Vec<u8>, by: By, number: u64, part: &Part) -> Result<(), AllocError>
     ensures { IfOk result (λ _. text.new.items ≡ text.old.items ++ part_members by number part.now) }
 {
@@ -37,7 +37,7 @@ fn put_part(text: &mut Vec<u8>, by: By, number: u64, part: &Part) -> Result<(), 
     }
 }
 
-// A part's number, by this name, and its messages.
+/// A part's number, by this name, and its messages.
 fn put_counts(text: &mut Vec<u8>, name: &[u8], number: u64, part: &Part) -> Result<(), AllocError>
     ensures { IfOk result (λ _. text.new.items ≡ text.old.items ++ numbered name.now number ++ kind_members part.now) }
 {
@@ -45,7 +45,7 @@ fn put_counts(text: &mut Vec<u8>, name: &[u8], number: u64, part: &Part) -> Resu
     put_kinds(text, part)
 }
 
-// A row's name and how often it applied.
+/// A row's name and how often it applied.
 fn put_times(text: &mut Vec<u8>, number: u64, part: &Part) -> Result<(), AllocError>
     ensures { IfOk result (λ _. text.new.items ≡ text.old.items ++ part_members By.Rule number part.now) }
 {
@@ -53,7 +53,7 @@ fn put_times(text: &mut Vec<u8>, number: u64, part: &Part) -> Result<(), AllocEr
     put_numbered(text, b"times", part.events)
 }
 
-// Messages of each kind.
+/// Messages of each kind.
 #[tactic(auto, unfolding(crate::specs::JsonLine::kind_members))]
 fn put_kinds(text: &mut Vec<u8>, part: &Part) -> Result<(), AllocError>
     ensures { IfOk result (λ _. text.new.items ≡ text.old.items ++ kind_members part.now) }
@@ -62,7 +62,7 @@ fn put_kinds(text: &mut Vec<u8>, part: &Part) -> Result<(), AllocError>
     put_last_kinds(text, part)
 }
 
-// Of the first four.
+/// Of the first four.
 #[tactic(auto, unfolding(crate::specs::JsonLine::first_kinds))]
 fn put_first_kinds(text: &mut Vec<u8>, part: &Part) -> Result<(), AllocError>
     ensures { IfOk result (λ _. text.new.items ≡ text.old.items ++ first_kinds part.now) }
@@ -73,7 +73,7 @@ fn put_first_kinds(text: &mut Vec<u8>, part: &Part) -> Result<(), AllocError>
     put_numbered(text, b"accept", part.kinds[3])
 }
 
-// Of the last three.
+/// Of the last three.
 #[tactic(auto, unfolding(crate::specs::JsonLine::last_kinds))]
 fn put_last_kinds(text: &mut Vec<u8>, part: &Part) -> Result<(), AllocError>
     ensures { IfOk result (λ _. text.new.items ≡ text.old.items ++ last_kinds part.now) }
@@ -83,7 +83,7 @@ fn put_last_kinds(text: &mut Vec<u8>, part: &Part) -> Result<(), AllocError>
     put_numbered(text, b"changeroot", part.kinds[6])
 }
 
-// A member that isn't the first, and a number.
+/// A member that isn't the first, and a number.
 #[tactic(auto, unfolding(crate::specs::JsonLine::numbered))]
 fn put_numbered(text: &mut Vec<u8>, name: &[u8], number: u64) -> Result<(), AllocError>
     ensures { IfOk result (λ _. text.new.items ≡ text.old.items ++ numbered name.now number) }

@@ -36,7 +36,7 @@ pub fn put_line(
     text.extend_from_slice(b"\n")
 }
 
-// A node or a level with its messages, or a row with how often it applied.
+/// A node or a level with its messages, or a row with how often it applied.
 fn put_part(text: &mut Vec<u8>, by: By, number: u64, part: &Part) -> Result<(), AllocError>
     ensures { IfOk result (λ _. text.new.items ≡ text.old.items ++ part_fields by number part.now) }
 {
@@ -47,7 +47,7 @@ fn put_part(text: &mut Vec<u8>, by: By, number: u64, part: &Part) -> Result<(), 
     }
 }
 
-// A part's number and its messages.
+/// A part's number and its messages.
 fn put_counts(text: &mut Vec<u8>, number: u64, part: &Part) -> Result<(), AllocError>
     ensures { IfOk result (λ _. text.new.items ≡ text.old.items ++ field number ++ kind_fields part.now) }
 {
@@ -55,7 +55,7 @@ fn put_counts(text: &mut Vec<u8>, number: u64, part: &Part) -> Result<(), AllocE
     put_kinds(text, part)
 }
 
-// A row's name and how often it applied.
+/// A row's name and how often it applied.
 fn put_times(text: &mut Vec<u8>, number: u64, part: &Part) -> Result<(), AllocError>
     ensures { IfOk result (λ _. text.new.items ≡ text.old.items ++ part_fields By.Rule number part.now) }
 {
@@ -63,7 +63,7 @@ fn put_times(text: &mut Vec<u8>, number: u64, part: &Part) -> Result<(), AllocEr
     put_field(text, part.events)
 }
 
-// Messages of each kind.
+/// Messages of each kind.
 #[tactic(auto, unfolding(crate::specs::Line::kind_fields))]
 fn put_kinds(text: &mut Vec<u8>, part: &Part) -> Result<(), AllocError>
     ensures { IfOk result (λ _. text.new.items ≡ text.old.items ++ kind_fields part.now) }
@@ -78,7 +78,7 @@ fn put_kinds(text: &mut Vec<u8>, part: &Part) -> Result<(), AllocError>
     Ok(())
 }
 
-// A comma and a number.
+/// A comma and a number.
 #[tactic(auto, unfolding(crate::specs::Line::field))]
 fn put_field(text: &mut Vec<u8>, number: u64) -> Result<(), AllocError>
     ensures { IfOk result (λ _. text.new.items ≡ text.old.items ++ field number) }
@@ -88,7 +88,7 @@ fn put_field(text: &mut Vec<u8>, number: u64) -> Result<(), AllocError>
     Ok(())
 }
 
-// A comma and a word.
+/// A comma and a word.
 #[tactic(auto, unfolding(crate::specs::Line::word_field))]
 fn put_word(text: &mut Vec<u8>, word: &[u8]) -> Result<(), AllocError>
     ensures { IfOk result (λ _. text.new.items ≡ text.old.items ++ word_field word.now) }

@@ -55,7 +55,7 @@ pub fn put_parts(
     Ok(())
 }
 
-// A front, and the line of a part.
+/// A front, and the line of a part.
 fn put_behind(
     text: &mut Vec<u8>,
     form: Form,

@@ -27,7 +27,7 @@ impl Part {
     }
 }
 
-// Counts messages by their kinds.
+/// Counts messages by their kinds.
 fn count(kinds: &mut [u64; 7], sends: &[(u32, Message)])
     requires { (k : ℕ) → k < 7 → slice_index kinds.old k + of_kind k (messages_of sends.now) < 2 ^ 64 }
     ensures counts { CountsSends sends.now kinds.old kinds.new }

@@ -48,14 +48,14 @@ pub fn parts_of(
     Ok(parts_in(by, tally))
 }
 
-// The parts as far as a run has come, with room for all levels that there are, and the greatest level of a node by then.
+/// The parts as far as a run has come, with room for all levels that there are, and the greatest level of a node by then.
 #[derive(Debug, Drop)]
 struct Tally {
     parts: Vec<Part>,
     level: u8,
 }
 
-// Nothing has happened.
+/// Nothing has happened.
 fn none(alloc: Global, by: By, graph: &Graph) -> Result<Tally, AllocError>
     ensures { IfOk result (λ tally. IsTally by graph.now [] tally.parts.items tally.level) }
 {
@@ -72,7 +72,7 @@ fn none(alloc: Global, by: By, graph: &Graph) -> Result<Tally, AllocError>
     Ok(Tally { parts, level: 0 })
 }
 
-// An event happens, and is counted. Refusal: want of memory; both are then of no use.
+/// An event happens, and is counted. Refusal: want of memory; both are then of no use.
 fn follow(
     alloc: Global,
     net: &mut Net,
@@ -106,12 +106,12 @@ fn follow(
     Ok(())
 }
 
-// Each count is a number of 64 bits.
+/// Each count is a number of 64 bits.
 fn are_small(counts: &[u64])
     ensures { (k : ℕ) → k < length counts.now → slice_index counts.now k < 2 ^ 64 }
 {}
 
-// What the event's node does. A lawful event has a rule, so memory alone can be wanting.
+/// What the event's node does. A lawful event has a rule, so memory alone can be wanting.
 fn answer(alloc: Global, net: &Net, event: Event) -> Result<Delta, AllocError>
     requires { IsLawful net.now event }
     ensures answer { IfOk result (λ d. IsAnswer net.now event d) }
@@ -125,7 +125,7 @@ fn answer(alloc: Global, net: &Net, event: Event) -> Result<Delta, AllocError>
     }
 }
 
-// Where the part of an event stands among all, from 0 on.
+/// Where the part of an event stands among all, from 0 on.
 fn place(by: By, v: u32, level: u8, row: RowName) -> usize
     requires { 1 ≤ v }
     ensures { first_of by + result ≡ place_of_part by v level row }
@@ -137,7 +137,7 @@ fn place(by: By, v: u32, level: u8, row: RowName) -> usize
     }
 }
 
-// Counts an event of the part at a place, whose node has this level then.
+/// Counts an event of the part at a place, whose node has this level then.
 fn add(tally: &mut Tally, place: usize, level: u8, sends: &[(u32, Message)])
     requires place { place < length tally.old.parts.items }
     requires events { (part_at tally.old.parts.items place).events < 2 ^ 64 - 1 }
@@ -149,7 +149,7 @@ fn add(tally: &mut Tally, place: usize, level: u8, sends: &[(u32, Message)])
     tally.level = tally.level.max(level);
 }
 
-// The parts that a run has: of all levels those up to the greatest.
+/// The parts that a run has: of all levels those up to the greatest.
 fn parts_in(by: By, tally: Tally) -> Vec<Part>
     ensures { result.items ≡ parts_kept by tally.parts.items tally.level }
 {

@@ -50,7 +50,8 @@ module _ (s : WorldState) where
       AreChoices s c
   all_right wrong c h none = record {
     moving = of_but (network s.net) (moves_in s) c.moving (record { index = h.for_all.moving; marks = λ f there k. h.moving f there (none f there) });
-    double = of_but (network s.net) (is_double (home s)) c.double (record { index = h.for_all.double; marks = λ f there k. h.double f there (none f there) });
+    double = of_but (network s.net) (is_double (home s)) c.double
+        (record { index = h.for_all.double; marks = λ f there k. h.double f there (none f there) });
   }
 
   -- Events one node after another.

@@ -64,7 +64,8 @@ module _ (may : ℕ → Bool) (g : Network) (w : Net) where
     where
       goes : waits (w.node v) p m ≡ false → waits (w.node v) p m ≡ true
       goes f =
-          let lawful : is_lawful_under may g w (Take v p) ≡ true = and_from (is_port g v p) (is_waiting (w.queue v p)) (is_port_of g v p at) (ap is_waiting q) in
+          let lawful : is_lawful_under may g w (Take v p) ≡ true =
+          and_from (is_port g v p) (is_waiting (w.queue v p)) (is_port_of g v p at) (ap is_waiting q) in
           let back : not (puts_back w (Take v p)) ≡ true = ap (λ x. not (first_waits (w.node v) p x)) q ∙ ap not f in
           absurd (nothing_in (Take v p) (subst (λ es. Contains es (Take v p)) none (moving_has (Take v p) at (and_from _ _ lawful back))))
 
@@ -93,7 +94,8 @@ module _ (may : ℕ → Bool) (g : Network) (w : Net) where
   lawful_in (Wake v) (inr k) = absurd (let t = (in_filter (uncovers w) (all_events g) (Wake v) k.1).1 in cc)
   lawful_in (Take v p) (inr k) =
       let t = in_filter (uncovers w) (all_events g) (Take v p) k.1 in
-      and_from (is_port g v p) (is_waiting (w.queue v p)) (is_port_of g v p (placed_of g (Take v p) t.0)) (second_there (w.node v) p (w.queue v p) t.1)
+      and_from (is_port g v p) (is_waiting (w.queue v p)) (is_port_of g v p (placed_of g (Take v p) t.0))
+      (second_there (w.node v) p (w.queue v p) t.1)
 
   pub pick_is_lawful : (words : List ℕ) (e : Event) → IsPick (patient_events may g w) words e → is_lawful_under may g w e ≡ true
   pick_is_lawful words e h = lawful_in e (in_either moving uncovering e (picked_in (patient_events may g w) words e h))
@@ -102,9 +104,11 @@ module _ (may : ℕ → Bool) (g : Network) (w : Net) where
   wake_moves : {v : ℕ} {x : Net} → Happens g w (Wake v) x → may v ≡ true → Contains moving (Wake v)
   wake_moves (Woke v d lo hi s r) can =
       moving_has (Wake v) (lo, hi)
-      (and_from _ _ (and_from (may v) _ can (and_from (is_node g v) (is_sleeping (w.node v).head.phase) (is_node_of g v lo hi) (ap is_sleeping s))) refl)
+      (and_from _ _ (and_from (may v) _ can (and_from (is_node g v) (is_sleeping (w.node v).head.phase) (is_node_of g v lo hi) (ap is_sleeping s)))
+      refl)
 
-  choice_stands : (e : Event) (x : Net) → Happens g w e x → MayWake may e → IsPatientIn g w e → Contains moving e ⊎ (moving ≡ [] → Contains uncovering e)
+  choice_stands : (e : Event) (x : Net) → Happens g w e x → MayWake may e → IsPatientIn g w e →
+      Contains moving e ⊎ (moving ≡ [] → Contains uncovering e)
   choice_stands _ x h can (A_wake v) = inl (wake_moves h can)
   choice_stands _ x h can (Moves_on v p m ms q goes) =
       let at = taken_at h in
@@ -127,7 +131,8 @@ some_patient g may w law is all going = ⊎_elim
     (law g may w is all)
 
 -- where nothing moves the run on, a second message does
-pub seconds_go : (g : Shape) (may : ℕ → Bool) (w : Net) → OneWaits → IsNetOf g w → filter (moves_on may (network_of g) w) (all_events (network_of g)) ≡ [] →
+pub seconds_go : (g : Shape) (may : ℕ → Bool) (w : Net) → OneWaits → IsNetOf g w →
+    filter (moves_on may (network_of g) w) (all_events (network_of g)) ≡ [] →
     filter (is_double w) (all_events (network_of g)) ≡ filter (uncovers w) (all_events (network_of g))
 seconds_go g may w law is none = agree_in (is_double w) (uncovers w) (all_events (network_of g)) same
   where
@@ -153,7 +158,8 @@ pub record Pickable (s : WorldState) (e : Event) : Type 0 where
   pub ready : is_ready s e ≡ true
   pub patient : IsPatientIn (network s.net) (home s) e
 
-pub pickable : (s : WorldState) (words : List ℕ) (e : Event) → s.outs ≡ [] → IsPick (patient_events (wakers s) (network s.net) (home s)) words e → Pickable s e
+pub pickable : (s : WorldState) (words : List ℕ) (e : Event) → s.outs ≡ [] →
+    IsPick (patient_events (wakers s) (network s.net) (home s)) words e → Pickable s e
 pickable s words e out h =
     let lawful = pick_is_lawful (wakers s) (network s.net) (home s) words e h in
     let there = lawful_place (wakers s) (network s.net) (home s) e lawful in

@@ -23,7 +23,8 @@ pub picked_more : (old s new : WorldState) (words used after : List ℕ) →
     (next : HasMadeNext s new used after) →
     IsPatientlyPicked (wakers old) old.net.graph old.turns old.net.trace words (s.net.trace ++ next.event ∷ []) after
 picked_more old s new words used after run going turn next =
-    let same : patient_events (wakers s) (network s.net) (home s) ≡ patient_events (wakers old) (network_of old.net.graph) (net_after old.net.graph s.net.trace) =
+    let same : patient_events (wakers s) (network s.net) (home s) ≡
+    patient_events (wakers old) (network_of old.net.graph) (net_after old.net.graph s.net.trace) =
     ap (λ (w : WakeSet). patient_events (may_wake s.net.graph w) (network_of s.net.graph) (net_after s.net.graph s.net.trace)) run.wake
     ∙ ap (λ (g : Shape). patient_events (may_wake g old.wake) (network_of g) (net_after g s.net.trace)) run.graph in
     rw next.rest (Picked s.net.trace used next.event run.picked (still_going old s run.graph going) (turn_left old s run.turns turn)
@@ -33,4 +34,5 @@ picked_more old s new words used after run going turn next =
 pub grown_too : (old s new : WorldState) (words used after : List ℕ) → HasRun old s words used → HasMadeNext s new used after →
     HasGrown old.net.graph old.net.trace s.net.trace → HasGrown old.net.graph old.net.trace new.net.trace
 grown_too old s new words used after run next =
-    grown_next old.net.graph old.net.trace s new next.event run.graph (pick_is_patient (wakers s) (network s.net) (home s) used next.event next.pick) next.made
+    grown_next old.net.graph old.net.trace s new next.event run.graph
+    (pick_is_patient (wakers s) (network s.net) (home s) used next.event next.pick) next.made

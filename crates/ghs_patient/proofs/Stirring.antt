@@ -80,7 +80,8 @@ module _ (n k : NodeState) (q : ℕ) (same : Alike n.head k.head) (mark : mark_a
   same_first [] = refl
   same_first (m ∷ ms) = same_waits m
 
-unmarked : (marks : List Mark) (change : Option (ℕ × Mark)) (q : ℕ) → (IsMarked change q → ⊥) → get_or marks q Rejected ≡ get_or (with_mark marks change) q Rejected
+unmarked : (marks : List Mark) (change : Option (ℕ × Mark)) (q : ℕ) → (IsMarked change q → ⊥) →
+    get_or marks q Rejected ≡ get_or (with_mark marks change) q Rejected
 unmarked marks None q none = refl
 unmarked marks (Some m) q none = sym (get_or-set_other marks m.0 q m.1 Rejected (λ z. none (sym z)))
 
@@ -94,7 +95,8 @@ module _ (g : Network) (may : ℕ → Bool) (w w' : Net) (e : Event) (d : Delta)
   here : w'.node (event_node e) ≡ after (w.node (event_node e)) d
   here = go w' e r (happening g w w' e h)
     where
-      go : (x : Net) (f : Event) → reaction (w.node (event_node f)) (work_at w f) ≡ Some d → Happens g w f x → x.node (event_node f) ≡ after (w.node (event_node f)) d
+      go : (x : Net) (f : Event) → reaction (w.node (event_node f)) (work_at w f) ≡ Some d → Happens g w f x →
+          x.node (event_node f) ≡ after (w.node (event_node f)) d
       go _ _ r (Woke v c lo hi s z) = node_here g v c w ∙ ap (after (w.node v)) (same_Some c d (sym z ∙ r))
       go _ _ r (Took v p m ms c at q z) =
           taken_here g v p m ms c w ∙ ap (after (w.node v)) (same_Some c d (sym z ∙ sym (ap (λ k. reaction (w.node v) (delivery p k)) q) ∙ r))
@@ -110,7 +112,8 @@ module _ (g : Network) (may : ℕ → Bool) (w w' : Net) (e : Event) (d : Delta)
 
       own : u ≡ event_node e → first_waits (w'.node u) q (w.queue u q) ≡ first_waits (w.node u) q (w.queue u q)
       own is =
-          let alike : are_alike n.head d.head ≡ true = ⊎_elim (λ t. t) (λ z. absurd (none (inr (is, inl z)))) (cases_Bool (are_alike n.head d.head)) in
+          let alike : are_alike n.head d.head ≡ true =
+          ⊎_elim (λ t. t) (λ z. absurd (none (inr (is, inl z)))) (cases_Bool (are_alike n.head d.head)) in
           let mark = unmarked n.marks d.mark q (λ k. none (inr (is, inr k))) in
           ap (λ x. first_waits (w'.node x) q (w.queue u q)) is ∙ ap (λ x. first_waits x q (w.queue u q)) here
           ∙ same_first n (after n d) q (alike_so n.head d.head alike) mark (w.queue u q)
@@ -133,7 +136,8 @@ module _ (s t : WorldState) (e : Event) (d : Delta) (c : ChoicesState) (are : Ar
       at c.moving.marks (place (network_of g) f) ≡ moves_on (may_wake g wake) (network_of g) (home t) f
 
   abbrev Doubles : Shape → Type 0
-  Doubles g = (f : Event) → HasPlace (network_of g) f → (IsStirred (network_of g) e before d f → ⊥) → at c.double.marks (place (network_of g) f) ≡ is_double (home t) f
+  Doubles g = (f : Event) → HasPlace (network_of g) f → (IsStirred (network_of g) e before d f → ⊥) →
+      at c.double.marks (place (network_of g) f) ≡ is_double (home t) f
 
   moves : Moves s.net.graph s.wake
   moves f there none =
@@ -146,7 +150,10 @@ module _ (s t : WorldState) (e : Event) (d : Delta) (c : ChoicesState) (are : Ar
       ∙ sym (same_double (network s.net) (may_wake s.net.graph s.wake) (home s) (home t) e d made.event answer f none)
 
   fits : AreFor (network s.net) c
-  fits = record { moving = is_for (network s.net) (moves_in s) c.moving are.moving; double = is_for (network s.net) (is_double (home s)) c.double are.double }
+  fits = record {
+    moving = is_for (network s.net) (moves_in s) c.moving are.moving;
+    double = is_for (network s.net) (is_double (home s)) c.double are.double;
+  }
 
   pub keeps : AreChoicesBut t (IsStirred (network t.net) e before d) c
   keeps = record {

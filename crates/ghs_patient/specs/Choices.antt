@@ -101,4 +101,5 @@ IsStirred g e before d f = Contains (changed g e d.sends) f ⊎ IsOwn (event_nod
 
 -- where no event moves the run on, second messages would not be put back
 abbrev pub SecondsGo : WorldState → Type 0
-SecondsGo s = filter (moves_in s) (all_events (network s.net)) ≡ [] → filter (is_double (home s)) (all_events (network s.net)) ≡ filter (uncovers (home s)) (all_events (network s.net))
+SecondsGo s = filter (moves_in s) (all_events (network s.net)) ≡ [] →
+    filter (is_double (home s)) (all_events (network s.net)) ≡ filter (uncovers (home s)) (all_events (network s.net))

@@ -14,8 +14,8 @@ use Rattle.ghs_sched.specs.Runs.{HasRunBy}
 use Rattle.ghs_sched.specs.Schedule.{next_of}
 use Rattle.ghs_patient.specs.Patience.{patient_events}
 
--- A schedule has patiently picked the events by which a trace has grown, and has this state then: each where the run hadn't ended and turns were left, of the
--- events that moved the run on there, or of those that uncovered one where none did.
+-- A schedule has patiently picked the events by which a trace has grown, and has this state then: each where the run hadn't ended and turns were
+-- left, of the events that moved the run on there, or of those that uncovered one where none did.
 pub data IsPatientlyPicked (may : ℕ → Bool) (g : Shape) (turns : ℕ) (trace : List Event) (words : List ℕ) : List Event → List ℕ → Type 0 where
   Begun : IsPatientlyPicked may g turns trace words trace words
   Picked : (es : List Event) (s : List ℕ) (e : Event) → IsPatientlyPicked may g turns trace words es s →

@@ -105,7 +105,7 @@ impl Choices {
         }
     }
 
-    // Marks the Takes at the far ends of what node `v` has sent.
+    /// Marks the Takes at the far ends of what node `v` has sent.
     fn mark_far(&mut self, world: &World, v: u32, sends: &[(u32, Message)])
         requires home { world.now.outs ≡ [] }
         requires low { 1 ≤ v }
@@ -122,7 +122,7 @@ impl Choices {
         }
     }
 
-    // Marks the Takes of a node.
+    /// Marks the Takes of a node.
     fn mark_ports(&mut self, world: &World, v: u32)
         requires home { world.now.outs ≡ [] }
         requires low { 1 ≤ v }
@@ -137,7 +137,7 @@ impl Choices {
         }
     }
 
-    // Marks one event.
+    /// Marks one event.
     fn mark(&mut self, world: &World, event: Event)
         requires home { world.now.outs ≡ [] }
         requires place { HasPlace (network world.now.net) event }
@@ -174,7 +174,7 @@ pub fn puts_back(net: &Net, event: Event) -> bool
     }
 }
 
-// Whether an event takes from a queue with a second message.
+/// Whether an event takes from a queue with a second message.
 fn is_double(net: &Net, event: Event) -> bool
     requires { HasPlace (network net.now) event }
     ensures { result ≡ is_double (net_of net.now) event }

@@ -207,7 +207,8 @@ on_ok_patient seed old new words after (Ok e) begun gone ran short end =
 on_ok_patient seed old new words after (Err f) begun gone ran short end = tt
 
 -- turns for all its events are enough for the world
-has_turns : (old new : WorldState) (limit : ℕ) → HasGoneOn old new → old.last ≡ 0 → limit ≡ old.turns → limit ≤ 2 ^ 40 → HasTurnsFor old.net.graph old.turns → HasTurns old
+has_turns : (old new : WorldState) (limit : ℕ) → HasGoneOn old new → old.last ≡ 0 → limit ≡ old.turns → limit ≤ 2 ^ 40 →
+    HasTurnsFor old.net.graph old.turns → HasTurns old
 has_turns old new limit gone first is few has = record {
   bound = has.bound;
   is = has.is;
@@ -228,7 +229,8 @@ pub at_limit_patient : (seed : ℕ) (old new : WorldState) (words after : List �
     r ≡ Err TurnLimit →
     IsPatient seed old.wake old.turns old.net.graph new.net.trace
 at_limit_patient seed old new words after limit r begun gone first is few ran short ends surely at_limit =
-    let used : StopsFor new TurnLimit = subst (λ (x : Result RunEnd RunFault). IfErr x (λ f. StopsFor new f)) at_limit (stops_for old new r gone ends) in
+    let used : StopsFor new TurnLimit =
+    subst (λ (x : Result RunEnd RunFault). IfErr x (λ f. StopsFor new f)) at_limit (stops_for old new r gone ends) in
     let turns = gone.turns in
     is_patient seed old new words after begun gone ran short (inr (omega (arith, used, turns)))
     (λ has. absurd (surely (has_turns old new limit gone first is few has) at_limit))
@@ -280,7 +282,8 @@ pub on_ok_by_rounds : (laws : Laws) (seed : ℕ) (old new : WorldState) (words a
     IfOk r (λ e. IsEnd new e) →
     OnOk r (IsByRounds seed old.wake old.turns old.net.graph new.net.trace)
 on_ok_by_rounds laws seed old new words after rounds (Ok e) ok begun gone ran end =
-    let ended = has_ended old.net.graph new e gone.graph end in is_by_rounds laws seed old new words after rounds ok begun ran (inl ended) (λ _. ended)
+    let ended = has_ended old.net.graph new e gone.graph end in
+    is_by_rounds laws seed old new words after rounds ok begun ran (inl ended) (λ _. ended)
 on_ok_by_rounds laws seed old new words after rounds (Err f) ok begun gone ran end = tt
 
 pub at_limit_by_rounds : (laws : Laws) (seed : ℕ) (old new : WorldState) (words after : List ℕ) (rounds : ℕ) (r : Result RunEnd RunFault) →
@@ -293,14 +296,17 @@ pub at_limit_by_rounds : (laws : Laws) (seed : ℕ) (old new : WorldState) (word
     r ≡ Err TurnLimit →
     IsByRounds seed old.wake old.turns old.net.graph new.net.trace
 at_limit_by_rounds laws seed old new words after rounds r ok begun gone ran ends goes at_limit =
-    let used : StopsFor new TurnLimit = subst (λ (x : Result RunEnd RunFault). IfErr x (λ f. StopsFor new f)) at_limit (stops_for old new r gone ends) in
+    let used : StopsFor new TurnLimit =
+    subst (λ (x : Result RunEnd RunFault). IfErr x (λ f. StopsFor new f)) at_limit (stops_for old new r gone ends) in
     let going : HasEnded old.net.graph (net_after old.net.graph new.net.trace) → ⊥ =
     subst (λ (s : Shape). HasEnded s (net_after s new.net.trace) → ⊥) gone.graph
     (subst (λ (x : Result RunEnd RunFault). OnErr x (HasEnded new.net.graph (home new) → ⊥)) at_limit goes) in
     let turns = gone.turns in
     is_by_rounds laws seed old new words after rounds ok begun ran (inr (omega (arith, used, turns)))
     (λ has. absurd (
-    let less = laws.end (wakers old) old.net.graph old.turns words new.net.trace rounds after ok (each_is_woken old.net.graph old.wake ok) has.bound has.is ran.picked going in
+    let less =
+    laws.end (wakers old) old.net.graph old.turns words new.net.trace rounds after ok (each_is_woken old.net.graph old.wake ok)
+    has.bound has.is ran.picked going in
     let enough = has.enough in
     omega (arith, less, enough, used, turns)))
 
@@ -324,7 +330,8 @@ pub on_ok_waiting : (seed : ℕ) (old new : WorldState) (words after : List ℕ)
     waits.HasRun old new words after →
     IfOk r (λ e. IsEnd new e) →
     OnOk r (IsWaiting seed old.wake old.turns old.net.graph new.net.trace)
-on_ok_waiting seed old new words after (Ok e) begun gone ran end = is_waiting seed old new words after begun gone ran (inl (has_ended old.net.graph new e gone.graph end))
+on_ok_waiting seed old new words after (Ok e) begun gone ran end =
+    is_waiting seed old new words after begun gone ran (inl (has_ended old.net.graph new e gone.graph end))
 on_ok_waiting seed old new words after (Err f) begun gone ran end = tt
 
 pub at_limit_waiting : (seed : ℕ) (old new : WorldState) (words after : List ℕ) (r : Result RunEnd RunFault) →
@@ -335,7 +342,8 @@ pub at_limit_waiting : (seed : ℕ) (old new : WorldState) (words after : List �
     r ≡ Err TurnLimit →
     IsWaiting seed old.wake old.turns old.net.graph new.net.trace
 at_limit_waiting seed old new words after r begun gone ran ends at_limit =
-    let used : StopsFor new TurnLimit = subst (λ (x : Result RunEnd RunFault). IfErr x (λ f. StopsFor new f)) at_limit (stops_for old new r gone ends) in
+    let used : StopsFor new TurnLimit =
+    subst (λ (x : Result RunEnd RunFault). IfErr x (λ f. StopsFor new f)) at_limit (stops_for old new r gone ends) in
     let turns = gone.turns in
     is_waiting seed old new words after begun gone ran (inr (omega (arith, used, turns)))
 
@@ -384,7 +392,8 @@ pub at_limit_last : (seed : ℕ) (old new : WorldState) (words after : List ℕ)
     r ≡ Err TurnLimit →
     IsLast seed old.wake old.turns old.net.graph new.net.trace
 at_limit_last seed old new words after limit r begun gone first is few ran short ends surely at_limit =
-    let used : StopsFor new TurnLimit = subst (λ (x : Result RunEnd RunFault). IfErr x (λ f. StopsFor new f)) at_limit (stops_for old new r gone ends) in
+    let used : StopsFor new TurnLimit =
+    subst (λ (x : Result RunEnd RunFault). IfErr x (λ f. StopsFor new f)) at_limit (stops_for old new r gone ends) in
     let turns = gone.turns in
     is_last seed old new words after begun gone ran short (inr (omega (arith, used, turns)))
     (λ has. absurd (surely (has_turns old new limit gone first is few has) at_limit))

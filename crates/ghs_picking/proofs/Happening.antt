@@ -15,7 +15,7 @@ use Rattle.ghs_sched.specs.declared.run.RunEnd.{RunEnd}
 use Rattle.ghs_world.specs.declared.wake_set.WakeSet.{WakeSet}
 use Rattle.ghs_chain.specs.Chains.{longest_chain, no_chains}
 use Rattle.ghs_picking.specs.Picking.{AreRounds, IsPatient, IsSeeded}
-use Rattle.ghs_picking.specs.declared.picking.Picking.TheVariants.{Rounds}
+use Rattle.ghs_picking.specs.declared.picking.ScheduleKind.TheVariants.{Rounds}
 use Rattle.ghs_picking.proofs.BySeed.{HasGoneOn, at_limit_patient, gone_patient, gone_seeded, has_ended, is_seeded, on_ok_patient}
 use Rattle.std.proofs.lemmas.Bool.{and_parts, ltb-true}
 use Rattle.ghs_protocol.specs.declared.event.Event.{Event}
@@ -36,7 +36,8 @@ pub made_chains : (s new : WorldState) (e : Event) (k : Kept) → AreChainsThen 
 made_chains s new e k then made = then_are s.net new.net e k made.graph made.trace then
 
 -- the rounds of a run that has ended are its longest chain
-pub rounds_are_chain : (seed : ℕ) (wake : WakeSet) (turns : ℕ) (g : Shape) (new : WorldState) (o : Option ℕ) (n : ℕ) (r : Result RunEnd RunFault) (e : RunEnd) →
+pub rounds_are_chain : (seed : ℕ) (wake : WakeSet) (turns : ℕ) (g : Shape) (new : WorldState) (o : Option ℕ) (n : ℕ)
+    (r : Result RunEnd RunFault) (e : RunEnd) →
     new.net.graph ≡ g → AreRounds Rounds seed wake turns g new.net.trace o → o ≡ Some n → IfOk r (λ x. IsEnd new x) → r ≡ Ok e →
     n ≡ longest_chain (network new.net) new.net.trace
 rounds_are_chain seed wake turns g new o n r e graph rounds some end ok =
@@ -52,20 +53,23 @@ pub stopped_well : (f : RunFault) → f ≡ TurnLimit → ◌≡◌ {A = Result 
 stopped_well f limit h = let z : ◌≡◌ {A = Result RunEnd RunFault} (Err TurnLimit) (Err Memory) = sym (ap Err limit) ∙ h in cc
 
 -- A run of a world from which all was recalled: home is that world, at its opening.
-module _ (seed limit : ℕ) (old home new : WorldState) (words after : List ℕ) (same : home ≡ record old { outs = [] }) (none : old.net.trace ≡ []) (first : old.last ≡ 0)
-    (is : limit ≡ old.turns) (few : limit ≤ 2 ^ 40) (begun : words ≡ seeded seed) where
+module _ (seed limit : ℕ) (old home new : WorldState) (words after : List ℕ) (same : home ≡ record old { outs = [] }) (none : old.net.trace ≡ [])
+    (first : old.last ≡ 0) (is : limit ≡ old.turns) (few : limit ≤ 2 ^ 40) (begun : words ≡ seeded seed) where
   now : WorldState
   now = record old { outs = [] }
 
   -- the seeded run is the seed's, where it is whole
-  pub seeded_run : sched.HasRun home new words after → (new.last < 2 ^ 64 - 1 → IsWhole home new words after) → IsSeeded seed old.wake old.turns old.net.graph new.net.trace
+  pub seeded_run : sched.HasRun home new words after → (new.last < 2 ^ 64 - 1 → IsWhole home new words after) →
+      IsSeeded seed old.wake old.turns old.net.graph new.net.trace
   unfolding now
   seeded_run ran whole =
-      let gone : HasGoneOn now new = gone_seeded now new words after limit none first is few (subst (λ (s : WorldState). sched.HasRun s new words after) same ran) in
+      let gone : HasGoneOn now new =
+      gone_seeded now new words after limit none first is few (subst (λ (s : WorldState). sched.HasRun s new words after) same ran) in
       is_seeded seed now new words after begun gone (subst (λ (s : WorldState). IsWhole s new words after) same (whole gone.numbers))
 
   -- the patient run is the seed's, where it has ended
-  pub patient_end : (e : RunEnd) → patient.HasRun home new words after → IsShort home new → IsEnd new e → IsPatient seed old.wake old.turns old.net.graph new.net.trace
+  pub patient_end : (e : RunEnd) → patient.HasRun home new words after → IsShort home new → IsEnd new e →
+      IsPatient seed old.wake old.turns old.net.graph new.net.trace
   unfolding now
   patient_end e ran short end =
       let run = subst (λ (s : WorldState). patient.HasRun s new words after) same ran in
@@ -83,7 +87,7 @@ module _ (seed limit : ℕ) (old home new : WorldState) (words after : List ℕ)
       (subst (λ (s : WorldState). HasTurns s → ◌≡◌ {A = Result RunEnd RunFault} (Err f) (Err TurnLimit) → ⊥) same surely) (ap Err at_limit)
 
 -- no chain has begun at the opening
-pub opened_chains : (old home : WorldState) (g : Shape) (k : Kept) → home ≡ record old { outs = [] } → old.net.trace ≡ [] → g ≡ home.net.graph → Fits g k →
-    seen k ≡ no_chains → AreChains home.net k
+pub opened_chains : (old home : WorldState) (g : Shape) (k : Kept) → home ≡ record old { outs = [] } → old.net.trace ≡ [] →
+    g ≡ home.net.graph → Fits g k → seen k ≡ no_chains → AreChains home.net k
 opened_chains old home g k same none graph fits begun =
     none_are home.net k g (sym graph) (ap (λ (s : WorldState). s.net.trace) same ∙ none) fits begun

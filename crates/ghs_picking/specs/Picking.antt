@@ -18,8 +18,8 @@ use Rattle.ghs_patient.specs.Runs.{IsPatientlyPicked}
 use Rattle.ghs_rounds.specs.Runs.{IsPickedByRounds}
 use Rattle.ghs_waits.specs.Runs.{IsPickedWaiting}
 use Rattle.ghs_lifo.specs.Runs.{IsPickedLast}
-use Rattle.ghs_picking.specs.declared.picking.Picking.{Picking}
-use Rattle.ghs_picking.specs.declared.picking.Picking.TheVariants.{Seeded, Patient, Rounds, Waits, Lifo}
+use Rattle.ghs_picking.specs.declared.picking.ScheduleKind.{ScheduleKind}
+use Rattle.ghs_picking.specs.declared.picking.ScheduleKind.TheVariants.{Seeded, Patient, Rounds, Waits, Lifo}
 
 -- the events of the seed's run of a graph: all that its schedule picks, from the opening on
 pub record IsSeeded (seed : ℕ) (wake : WakeSet) (turns : ℕ) (g : Shape) (events : List Event) : Type 0 where
@@ -32,8 +32,8 @@ pub record HasTurnsFor (g : Shape) (turns : ℕ) : Type 0 where
   pub is : IsBound g.nodes (length g.keys) bound
   pub enough : 2 * (bound + g.nodes) ≤ turns
 
--- The events of the seed's patient run of a graph: all that its schedule patiently picks, from the opening on to the end or to the last turn. They are so
--- many at most, and with turns for so many they lead to the end.
+-- The events of the seed's patient run of a graph: all that its schedule patiently picks, from the opening on to the end or to the last turn. They
+-- are so many at most, and with turns for so many they lead to the end.
 pub record IsPatient (seed : ℕ) (wake : WakeSet) (turns : ℕ) (g : Shape) (events : List Event) : Type 0 where
   pub words : List ℕ
   pub picked : IsPatientlyPicked (may_wake g wake) g turns [] (seeded seed) events words
@@ -49,8 +49,8 @@ pub record IsInRounds (seed : ℕ) (wake : WakeSet) (turns : ℕ) (g : Shape) (e
   pub few : (b : ℕ) → IsBound g.nodes (length g.keys) b → rounds ≤ b + g.nodes
   pub chain : HasEnded g (net_after g events) → longest_chain (network_of g) events ≡ rounds
 
--- The events of the seed's run of a graph by rounds: all that its schedule picks so, from the opening on to the end or to the last turn. They are at most
--- as many as a patient run may have, and with turns for so many they lead to the end.
+-- The events of the seed's run of a graph by rounds: all that its schedule picks so, from the opening on to the end or to the last turn. They are at
+-- most as many as a patient run may have, and with turns for so many they lead to the end.
 pub record IsByRounds (seed : ℕ) (wake : WakeSet) (turns : ℕ) (g : Shape) (events : List Event) : Type 0 where
   pub rounds : ℕ
   pub picked : IsInRounds seed wake turns g events rounds
@@ -64,8 +64,8 @@ pub record IsWaiting (seed : ℕ) (wake : WakeSet) (turns : ℕ) (g : Shape) (ev
   pub picked : IsPickedWaiting (may_wake g wake) g turns [] (seeded seed) events words
   pub over : HasEnded g (net_after g events) ⊎ (turns ≤ length events)
 
--- The events of the run of a graph that takes first what was sent last, from the opening on to the end or to the last turn; the seed's words pick where
--- no message would be consumed. They are at most as many as a patient run may have, and with turns for so many they lead to the end.
+-- The events of the run of a graph that takes first what was sent last, from the opening on to the end or to the last turn; the seed's words pick
+-- where no message would be consumed. They are at most as many as a patient run may have, and with turns for so many they lead to the end.
 pub record IsLast (seed : ℕ) (wake : WakeSet) (turns : ℕ) (g : Shape) (events : List Event) : Type 0 where
   pub words : List ℕ
   pub picked : IsPickedLast (may_wake g wake) g turns [] (seeded seed) events words
@@ -74,7 +74,7 @@ pub record IsLast (seed : ℕ) (wake : WakeSet) (turns : ℕ) (g : Shape) (event
   pub ends : HasTurnsFor g turns → HasEnded g (net_after g events)
 
 -- the events of the run that a seed's schedule picks of a graph, among all that may happen, patiently, by rounds, what waits, or what was sent last
-abbrev pub IsPickedBy : Picking → ℕ → WakeSet → ℕ → Shape → List Event → Type 0
+abbrev pub IsPickedBy : ScheduleKind → ℕ → WakeSet → ℕ → Shape → List Event → Type 0
 IsPickedBy Seeded seed wake turns g events = IsSeeded seed wake turns g events
 IsPickedBy Patient seed wake turns g events = IsPatient seed wake turns g events
 IsPickedBy Rounds seed wake turns g events = IsByRounds seed wake turns g events
@@ -82,7 +82,7 @@ IsPickedBy Waits seed wake turns g events = IsWaiting seed wake turns g events
 IsPickedBy Lifo seed wake turns g events = IsLast seed wake turns g events
 
 -- in how many rounds a schedule has picked events, where it picks by rounds
-abbrev pub AreRounds : Picking → ℕ → WakeSet → ℕ → Shape → List Event → Option ℕ → Type 0
+abbrev pub AreRounds : ScheduleKind → ℕ → WakeSet → ℕ → Shape → List Event → Option ℕ → Type 0
 AreRounds Seeded seed wake turns g events rounds = rounds ≡ None
 AreRounds Patient seed wake turns g events rounds = rounds ≡ None
 AreRounds Waits seed wake turns g events rounds = rounds ≡ None

@@ -6,7 +6,7 @@ ghost use Rattle.ghs_picking.specs.Picking.{IsPatient, IsPickedBy, IsSeeded, IsB
 ghost use Rattle.std.specs.Prelude.{IfOk, OnOk, [], ◌≡◌};
 
 use crate::patient::run_patient;
-use crate::picking::{Picking, run_timed};
+use crate::picking::{ScheduleKind, run_timed};
 use crate::seeded::run_seeded;
 use ghs_chain::chain::longest_chain;
 use ghs_chain::chains::Chains;
@@ -21,7 +21,7 @@ use std::alloc::{AllocError, Global};
 pub fn run_chained(
     alloc: Global,
     world: &mut World,
-    picking: Picking,
+    schedule_kind: ScheduleKind,
     seed: u64,
 ) -> Result<u64, AllocError>
     requires trace { world.old.net.trace ≡ [] }
@@ -30,19 +30,19 @@ pub fn run_chained(
     ensures wake { world.new.wake ≡ world.old.wake }
     ensures turns { world.new.turns ≡ world.old.turns }
     ensures outs { world.new.outs ≡ [] }
-    ensures run { OnOk result (IsPickedBy picking seed world.old.wake world.old.turns world.old.net.graph world.new.net.trace) }
+    ensures run { OnOk result (IsPickedBy schedule_kind seed world.old.wake world.old.turns world.old.net.graph world.new.net.trace) }
     ensures chain { IfOk result (λ n. n ≡ longest_chain (network world.new.net) world.new.net.trace) }
 {
-    match picking {
-        Picking::Seeded => seeded(alloc, world, seed),
-        Picking::Patient => patient(alloc, world, seed),
-        Picking::Rounds => by_rounds(alloc, world, seed),
-        Picking::Waits => played_again(alloc, world, Picking::Waits, seed),
-        Picking::Lifo => played_again(alloc, world, Picking::Lifo, seed),
+    match schedule_kind {
+        ScheduleKind::Seeded => seeded(alloc, world, seed),
+        ScheduleKind::Patient => patient(alloc, world, seed),
+        ScheduleKind::Rounds => by_rounds(alloc, world, seed),
+        ScheduleKind::Waits => played_again(alloc, world, ScheduleKind::Waits, seed),
+        ScheduleKind::Lifo => played_again(alloc, world, ScheduleKind::Lifo, seed),
     }
 }
 
-// The run among all events.
+/// The run among all events.
 fn seeded(alloc: Global, world: &mut World, seed: u64) -> Result<u64, AllocError>
     requires trace { world.old.net.trace ≡ [] }
     requires numbers { world.old.last ≡ 0 }
@@ -64,7 +64,7 @@ fn seeded(alloc: Global, world: &mut World, seed: u64) -> Result<u64, AllocError
     }
 }
 
-// The patient run.
+/// The patient run.
 fn patient(alloc: Global, world: &mut World, seed: u64) -> Result<u64, AllocError>
     requires trace { world.old.net.trace ≡ [] }
     requires numbers { world.old.last ≡ 0 }
@@ -86,8 +86,8 @@ fn patient(alloc: Global, world: &mut World, seed: u64) -> Result<u64, AllocErro
     }
 }
 
-// The run by rounds. Once it has ended, its longest chain has as many messages as there were rounds; where its turns were
-// used before, its events are played once more.
+/// The run by rounds. Once it has ended, its longest chain has as many messages as there were rounds; where its turns were
+/// used before, its events are played once more.
 fn by_rounds(alloc: Global, world: &mut World, seed: u64) -> Result<u64, AllocError>
     requires trace { world.old.net.trace ≡ [] }
     requires numbers { world.old.last ≡ 0 }
@@ -98,7 +98,7 @@ fn by_rounds(alloc: Global, world: &mut World, seed: u64) -> Result<u64, AllocEr
     ensures run { OnOk result (IsByRounds seed world.old.wake world.old.turns world.old.net.graph world.new.net.trace) }
     ensures chain { IfOk result (λ n. n ≡ longest_chain (network world.new.net) world.new.net.trace) }
 {
-    let (rounds, end) = run_timed(alloc, world, Picking::Rounds, seed);
+    let (rounds, end) = run_timed(alloc, world, ScheduleKind::Rounds, seed);
     match end {
         Ok(_) => {
             if let Some(rounds) = rounds {
@@ -117,7 +117,7 @@ fn by_rounds(alloc: Global, world: &mut World, seed: u64) -> Result<u64, AllocEr
 fn played_again(
     alloc: Global,
     world: &mut World,
-    picking: Picking,
+    schedule_kind: ScheduleKind,
     seed: u64,
 ) -> Result<u64, AllocError>
     requires trace { world.old.net.trace ≡ [] }
@@ -126,10 +126,10 @@ fn played_again(
     ensures wake { world.new.wake ≡ world.old.wake }
     ensures turns { world.new.turns ≡ world.old.turns }
     ensures outs { world.new.outs ≡ [] }
-    ensures run { OnOk result (IsPickedBy picking seed world.old.wake world.old.turns world.old.net.graph world.new.net.trace) }
+    ensures run { OnOk result (IsPickedBy schedule_kind seed world.old.wake world.old.turns world.old.net.graph world.new.net.trace) }
     ensures chain { IfOk result (λ n. n ≡ longest_chain (network world.new.net) world.new.net.trace) }
 {
-    match run_timed(alloc, world, picking, seed).1 {
+    match run_timed(alloc, world, schedule_kind, seed).1 {
         Ok(_) => {}
         Err(RunFault::TurnLimit) => {}
         Err(_) => return Err(AllocError),

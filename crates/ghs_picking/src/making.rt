@@ -33,7 +33,7 @@ pub(crate) fn make(
     react_to(alloc, world, chains, event)
 }
 
-// The Take of a message that its node only puts back happens.
+/// The Take of a message that its node only puts back happens.
 fn put_back(
     alloc: Global,
     world: &mut World,
@@ -54,7 +54,7 @@ fn put_back(
     Ok(())
 }
 
-// An event happens to which its node reacts.
+/// An event happens to which its node reacts.
 fn react_to(
     alloc: Global,
     world: &mut World,

@@ -58,7 +58,7 @@ pub(crate) fn run_patient(
     Ok(end_of(world))
 }
 
-// The next word picks an event, and it happens. A refusal leaves the world, the choices and the word.
+/// The next word picks an event, and it happens. A refusal leaves the world, the choices and the word.
 fn make_next(
     alloc: Global,
     world: &mut World,

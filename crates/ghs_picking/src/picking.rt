@@ -20,7 +20,7 @@ use std::alloc::Global;
 
 /// Among which events a schedule picks the next one, as `--schedule` names it.
 #[derive(Clone, Copy, Debug, PartialEq, Eq)]
-pub enum Picking {
+pub enum ScheduleKind {
     /// Among all that may happen.
     Seeded,
     /// Among those that move the run on, and so every run ends; where there is none, among those that uncover one.
@@ -41,7 +41,7 @@ pub enum Picking {
 pub fn run_by_seed(
     alloc: Global,
     world: &mut World,
-    picking: Picking,
+    schedule_kind: ScheduleKind,
     seed: u64,
 ) -> Result<RunEnd, RunFault>
     requires trace { world.old.net.trace ≡ [] }
@@ -50,13 +50,13 @@ pub fn run_by_seed(
     ensures wake { world.new.wake ≡ world.old.wake }
     ensures turns { world.new.turns ≡ world.old.turns }
     ensures outs { world.new.outs ≡ [] }
-    ensures whole { OnOk result (IsPickedBy picking seed world.old.wake world.old.turns world.old.net.graph world.new.net.trace) }
-    ensures limit { result ≡ Err RunFault.TurnLimit → IsPickedBy picking seed world.old.wake world.old.turns world.old.net.graph world.new.net.trace }
+    ensures whole { OnOk result (IsPickedBy schedule_kind seed world.old.wake world.old.turns world.old.net.graph world.new.net.trace) }
+    ensures limit { result ≡ Err RunFault.TurnLimit → IsPickedBy schedule_kind seed world.old.wake world.old.turns world.old.net.graph world.new.net.trace }
     ensures halted { IfOk result (λ e. IsEnd world.new e) }
     ensures going { OnErr result (HasEnded world.new.net.graph (home world.new) → ⊥) }
     ensures fault { IfErr result (λ f. StopsFor world.new f) }
 {
-    let (_, end) = run_timed(alloc, world, picking, seed);
+    let (_, end) = run_timed(alloc, world, schedule_kind, seed);
     end
 }
 
@@ -65,7 +65,7 @@ pub fn run_by_seed(
 pub fn run_timed(
     alloc: Global,
     world: &mut World,
-    picking: Picking,
+    schedule_kind: ScheduleKind,
     seed: u64,
 ) -> (Option<u64>, Result<RunEnd, RunFault>)
     requires trace { world.old.net.trace ≡ [] }
@@ -74,9 +74,9 @@ pub fn run_timed(
     ensures wake { world.new.wake ≡ world.old.wake }
     ensures turns { world.new.turns ≡ world.old.turns }
     ensures outs { world.new.outs ≡ [] }
-    ensures rounds { AreRounds picking seed world.old.wake world.old.turns world.old.net.graph world.new.net.trace result.0 }
-    ensures whole { OnOk result.1 (IsPickedBy picking seed world.old.wake world.old.turns world.old.net.graph world.new.net.trace) }
-    ensures limit { result.1 ≡ Err RunFault.TurnLimit → IsPickedBy picking seed world.old.wake world.old.turns world.old.net.graph world.new.net.trace }
+    ensures rounds { AreRounds schedule_kind seed world.old.wake world.old.turns world.old.net.graph world.new.net.trace result.0 }
+    ensures whole { OnOk result.1 (IsPickedBy schedule_kind seed world.old.wake world.old.turns world.old.net.graph world.new.net.trace) }
+    ensures limit { result.1 ≡ Err RunFault.TurnLimit → IsPickedBy schedule_kind seed world.old.wake world.old.turns world.old.net.graph world.new.net.trace }
     ensures halted { IfOk result.1 (λ e. IsEnd world.new e) }
     ensures going { OnErr result.1 (HasEnded world.new.net.graph (home world.new) → ⊥) }
     ensures fault { IfErr result.1 (λ f. StopsFor world.new f) }
@@ -88,14 +88,14 @@ pub fn run_timed(
     let mut schedule = Schedule::seeded(seed);
     let _ = world.turns();
     let _ = world.net().trace();
-    match picking {
-        Picking::Seeded => (None, run_seeded(alloc, world, &mut schedule)),
-        Picking::Patient => (None, run_patient(alloc, world, &mut schedule)),
-        Picking::Rounds => {
+    match schedule_kind {
+        ScheduleKind::Seeded => (None, run_seeded(alloc, world, &mut schedule)),
+        ScheduleKind::Patient => (None, run_patient(alloc, world, &mut schedule)),
+        ScheduleKind::Rounds => {
             let (rounds, end) = run_rounds(alloc, world, &mut schedule);
             (Some(rounds), end)
         }
-        Picking::Waits => (None, run_waiting(alloc, world, &mut schedule)),
-        Picking::Lifo => (None, run_lifo(alloc, world, &mut schedule)),
+        ScheduleKind::Waits => (None, run_waiting(alloc, world, &mut schedule)),
+        ScheduleKind::Lifo => (None, run_lifo(alloc, world, &mut schedule)),
     }
 }

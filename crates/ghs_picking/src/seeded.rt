@@ -43,7 +43,7 @@ pub(crate) fn run_seeded(
     Ok(end_of(world))
 }
 
-// The next word picks one of the events that are ready, and it happens. A refusal leaves the world and the word.
+/// The next word picks one of the events that are ready, and it happens. A refusal leaves the world and the word.
 fn make_next(
     alloc: Global,
     world: &mut World,

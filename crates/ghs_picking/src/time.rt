@@ -32,7 +32,7 @@ pub fn time_text(
     Ok(text)
 }
 
-// The line of a chain.
+/// The line of a chain.
 #[tactic(auto, unfolding(crate::specs::Time::chain_line))]
 fn put_chain(text: &mut Vec<u8>, chain: u64) -> Result<(), AllocError>
     ensures { IfOk result (λ _. text.new.items ≡ text.old.items ++ chain_line chain) }
@@ -43,7 +43,7 @@ fn put_chain(text: &mut Vec<u8>, chain: u64) -> Result<(), AllocError>
     Ok(())
 }
 
-// The line of rounds.
+/// The line of rounds.
 #[tactic(auto, unfolding(crate::specs::Time::rounds_line))]
 fn put_rounds(text: &mut Vec<u8>, rounds: u64) -> Result<(), AllocError>
     ensures { IfOk result (λ _. text.new.items ≡ text.old.items ++ rounds_line rounds) }

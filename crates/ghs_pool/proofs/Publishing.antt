@@ -40,7 +40,8 @@ apart_beq false true e s = true≢false (sym s)
 apart_beq false false e s = true≢false e
 
 -- the same parts, so the net's pair
-pub told_by : (n : NetState) (told last p : Progress) → last ≡ told → last.commits ≡ p.commits → beq last.halted p.halted ≡ true → IsPairOf n p → IsPairOf n told
+pub told_by : (n : NetState) (told last p : Progress) → last ≡ told → last.commits ≡ p.commits → beq last.halted p.halted ≡ true → IsPairOf n p →
+    IsPairOf n told
 told_by n told last p e c h a =
     let b = same_beq last.halted p.halted h in
     let same : last ≡ p = λ i. record { commits = c i; halted = b i } in
@@ -68,8 +69,8 @@ pair_as n m p g t h = record {
 }
 
 -- a call that leaves the home view leaves what was told
-pub told_still : {A E : Type 0} (r : Result A E) (old new ok : WorldState) (told : Published) → ok.net ≡ old.net → OnOk r (new ≡ ok) → OnErr r (new ≡ old) →
-    IsTold old told → IsTold new told
+pub told_still : {A E : Type 0} (r : Result A E) (old new ok : WorldState) (told : Published) → ok.net ≡ old.net → OnOk r (new ≡ ok) →
+    OnErr r (new ≡ old) → IsTold old told → IsTold new told
 told_still (Ok a) old new ok told same o e h =
     let n : new.net ≡ old.net = ap (λ (s : WorldState). s.net) o ∙ same in
     pair_as old.net new.net (last_of told.list) (ap (λ (m : NetState). m.graph) n) (ap (λ (m : NetState). m.trace) n) h

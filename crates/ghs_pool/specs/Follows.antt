@@ -24,7 +24,7 @@ pub record GoesOn (s first : ShopState) : Type 0 where
 abbrev pub no_shop : ShopState
 no_shop = record {
   world = record {
-    net = record { graph = record { nodes = 0; keys = [] }; trace = []; links = record { queues = []; destinations = [] }; spare = 0 };
+    net = record { graph = record { nodes = 0; keys = [] }; trace = []; channels = record { queues = []; destinations = [] }; spare = 0 };
     wake = All;
     turns = 0;
     outs = [];

@@ -15,17 +15,17 @@ use std::alloc::{AllocError, Global};
 use std::marker::{Brand, Model, PhantomData};
 use std::sync::Wait;
 
-// How many ports at most a worker passes over at a node for one number taken, so that a node of many ports holds nobody up.
+/// How many ports at most a worker passes over at a node for one number taken, so that a node of many ports holds nobody up.
 const PORTS: usize = 8;
 
-// So many nodes and more that are ready are many.
+/// So many nodes and more that are ready are many.
 const MANY: usize = 64;
 
-// How many nodes at most a look passes over.
+/// How many nodes at most a look passes over.
 const NODES: usize = 16;
 
-// Where a run of workers began. Each run picks it, so that the lock's type names it: what a lock held at its last use is
-// known by its type alone.
+/// Where a run of workers began. Each run picks it, so that the lock's type names it: what a lock held at its last use is
+/// known by its type alone.
 pub trait Start {
     ghost use Rattle.ghs_pool.specs.Shop.{ShopState};
 
@@ -38,7 +38,7 @@ impl Start for Brand {
     ghost first = { no_shop };
 }
 
-// What the workers keep of each node.
+/// What the workers keep of each node.
 #[derive(Drop)]
 pub struct Notes {
     // The port behind the one whose event began or was passed over last.
@@ -50,7 +50,7 @@ pub struct Notes {
 }
 
 impl Notes {
-    // No event began, nothing was made, and no number waits.
+    /// No event began, nothing was made, and no number waits.
     pub fn fresh(alloc: Global, nodes: u32) -> Result<Notes, AllocError>
         ensures { IfOk result (λ n. length n.ports.items ≡ nodes) }
     {
@@ -62,7 +62,7 @@ impl Notes {
     }
 }
 
-// A shop that goes on from where its run began, and what the workers share beside it.
+/// A shop that goes on from where its run began, and what the workers share beside it.
 #[derive(Drop)]
 pub struct Floor<J: Start> {
     shop: Shop,
@@ -94,11 +94,11 @@ impl<J: Start> Model for Floor<J> {
     ghost invariant = { λ f. GoesOn f.shop J.first × (length f.ports.items ≡ f.shop.world.net.graph.nodes) };
 }
 
-// What a worker does next.
+/// What a worker does next.
 #[derive(Drop)]
 pub enum Next {
     // It performs the tickets in its hand.
-    Serve,
+    Perform,
     // It comes again at once.
     Again,
     // It waits for what is out.
@@ -109,7 +109,7 @@ pub enum Next {
     End,
 }
 
-// What a node's number was good for.
+/// What a node's number was good for.
 #[derive(Drop)]
 enum Found {
     // An event went out.
@@ -145,7 +145,7 @@ impl<J: Start> Floor<J> {
         }
     }
 
-    // The shop, and whether memory was wanting.
+    /// The shop, and whether memory was wanting.
     pub fn close(self) -> (Shop, bool)
         ensures shop { result.0 ≡ self }
         ensures goes_on { GoesOn result.0 J.first }
@@ -154,14 +154,14 @@ impl<J: Start> Floor<J> {
         (shop, memory)
     }
 
-    // The workers are to end.
+    /// The workers are to end.
     pub fn stop(&mut self)
         ensures { self.new ≡ self.old }
     {
         self.stopped = true;
     }
 
-    // The workers are to end, since memory is wanting.
+    /// The workers are to end, since memory is wanting.
     pub fn want_memory(&mut self)
         ensures { self.new ≡ self.old }
     {
@@ -169,7 +169,7 @@ impl<J: Start> Floor<J> {
         self.stopped = true;
     }
 
-    // A ticket comes back for want of memory, and the workers are to end.
+    /// A ticket comes back for want of memory, and the workers are to end.
     pub fn give_back(&mut self, ticket: Ticket)
         ensures net { self.new.world.net ≡ self.old.world.net }
         ensures told { self.new.told ≡ self.old.told }
@@ -178,7 +178,7 @@ impl<J: Start> Floor<J> {
         self.want_memory();
     }
 
-    // The numbers of all nodes that have an event go into the queue.
+    /// The numbers of all nodes that have an event go into the queue.
     pub fn put_ready<R: Wait>(&mut self, rt: &R, queue: &ReadyQueue, pass: &mut ReadyPass)
         requires { pass.old.name ≡ queue.now.name }
         ensures { pass.new.name ≡ pass.old.name }
@@ -196,8 +196,8 @@ impl<J: Start> Floor<J> {
         }
     }
 
-    // A worker's visit: the steps in its hand happen, and what it performs next goes out. Where the queue gave it nothing it
-    // looks over all nodes, and else when a look is due; or it leaves the lock to others.
+    /// A worker's visit: the steps in its hand happen, and what it performs next goes out. Where the queue gave it nothing it
+    /// looks over all nodes, and else when a look is due; or it leaves the lock to others.
     pub fn visit<R: Wait>(
         &mut self,
         rt: &R,
@@ -216,7 +216,7 @@ impl<J: Start> Floor<J> {
         next
     }
 
-    // What goes on behind the commits of a visit.
+    /// What goes on behind the commits of a visit.
     fn go_on<R: Wait>(
         &mut self,
         rt: &R,
@@ -231,7 +231,7 @@ impl<J: Start> Floor<J> {
         if self.is_over() {
             return Next::End;
         }
-        if self.gather(hand, queue.len(rt, pass)) {
+        if self.come_or_leave(hand, queue.len(rt, pass)) {
             return Next::Leave;
         }
         let mut made = self.fill(rt, alloc, queue, pass, hand);
@@ -244,7 +244,7 @@ impl<J: Start> Floor<J> {
         self.next(hand, made)
     }
 
-    // Whether many nodes are ready: their numbers wait, or they are out.
+    /// Whether many nodes are ready: their numbers wait, or they are out.
     fn is_crowded<R: Wait>(&self, rt: &R, queue: &ReadyQueue, pass: &mut ReadyPass) -> bool
         requires { pass.old.name ≡ queue.now.name }
         ensures { pass.new.name ≡ pass.old.name }
@@ -255,9 +255,9 @@ impl<J: Start> Floor<J> {
             >= MANY as u64
     }
 
-    // A worker that was away is at work again, and one that has enough of it leaves, but for the last. Whether it leaves;
-    // and one more is called where too few are at work for the numbers that wait.
-    fn gather(&mut self, hand: &mut Hand, waiting: usize) -> bool
+    /// A worker that was away is at work again, and one that has enough of it leaves, but for the last. Whether it leaves;
+    /// and one more is called where too few are at work for the numbers that wait.
+    fn come_or_leave(&mut self, hand: &mut Hand, waiting: usize) -> bool
         ensures { self.new ≡ self.old }
     {
         if hand.pace.come() {
@@ -274,16 +274,16 @@ impl<J: Start> Floor<J> {
             hand.pace.leave();
         }
         hand.calls = waiting >= crowd && self.at_work < self.workers.min(PAIR);
-        hand.takes_turns = waiting >= crowd && self.at_work > 1;
+        hand.gives_way = waiting >= crowd && self.at_work > 1;
         leaves
     }
 
-    // What a worker does whose hand is as full as it gets, after a visit that made events at once or none.
+    /// What a worker does whose hand is as full as it gets, after a visit that made events at once or none.
     fn next(&mut self, hand: &Hand, made: bool) -> Next
         ensures { self.new ≡ self.old }
     {
         if hand.tickets() > 0 {
-            return Next::Serve;
+            return Next::Perform;
         }
         if self.is_over() {
             return Next::End;
@@ -294,8 +294,8 @@ impl<J: Start> Floor<J> {
         Next::Again
     }
 
-    // The steps of a hand happen, and are published; the numbers of the nodes that they wake go into the queue. A number
-    // for which there is no room is left out: a look will find its node.
+    /// The steps of a hand happen, and are published; the numbers of the nodes that they wake go into the queue. A number
+    /// for which there is no room is left out: a look will find its node.
     fn commit_all<R: Wait>(
         &mut self,
         rt: &R,
@@ -319,7 +319,7 @@ impl<J: Start> Floor<J> {
         }
     }
 
-    // A step's event happens, and is published; the nodes that it wakes. After a refusal the workers are to end.
+    /// A step's event happens, and is published; the nodes that it wakes. After a refusal the workers are to end.
     fn commit(&mut self, alloc: Global, step: Step) -> Option<Woken>
         ensures { GoesOn self.new self.old }
     {
@@ -333,8 +333,8 @@ impl<J: Start> Floor<J> {
         }
     }
 
-    // Nodes of the queue go out: of the numbers that wait half a worker's part, so that others find some too. Whether
-    // events were made at once meanwhile.
+    /// Nodes of the queue go out: of the numbers that wait half a worker's part, so that others find some too. Whether
+    /// events were made at once meanwhile.
     fn fill<R: Wait>(
         &mut self,
         rt: &R,
@@ -356,7 +356,7 @@ impl<J: Start> Floor<J> {
             };
             hand.pace.take();
             self.took(v);
-            match self.serve(rt, alloc, queue, pass, v, hand) {
+            match self.begin_event(rt, alloc, queue, pass, v, hand) {
                 Found::Event | Found::Nothing => {}
                 Found::Made => made = true,
                 Found::More => self.put(rt, queue, pass, v),
@@ -369,8 +369,8 @@ impl<J: Start> Floor<J> {
         made
     }
 
-    // Looks over the nodes, from behind the one that the last look found, for one that has an event that is worth it. Where
-    // no node has an event at all, and nothing is out, the workers are to end. Whether an event was made at once.
+    /// Looks over the nodes, from behind the one that the last look found, for one that has an event that is worth it. Where
+    /// no node has an event at all, and nothing is out, the workers are to end. Whether an event was made at once.
     fn look<R: Wait>(
         &mut self,
         rt: &R,
@@ -388,7 +388,7 @@ impl<J: Start> Floor<J> {
                 return false;
             };
             self.found = v;
-            match self.serve(rt, alloc, queue, pass, v, hand) {
+            match self.begin_event(rt, alloc, queue, pass, v, hand) {
                 Found::Made => return true,
                 Found::Event | Found::NoTurn => return false,
                 Found::Nothing | Found::More => {}
@@ -401,11 +401,11 @@ impl<J: Start> Floor<J> {
         self.stopped || self.shop.ended()
     }
 
-    // An event of a node goes out or is made at once, if the node has one that is worth it.
-    //
-    // A node has none whose messages all wait, each alone in its queue. Its number can be let go: nothing changes for the
-    // node before it makes an event itself or a message comes to it, and after either its number is put.
-    fn serve<R: Wait>(
+    /// An event of a node goes out or is made at once, if the node has one that is worth it.
+    ///
+    /// A node has none whose messages all wait, each alone in its queue. Its number can be let go: nothing changes for the
+    /// node before it makes an event itself or a message comes to it, and after either its number is put.
+    fn begin_event<R: Wait>(
         &mut self,
         rt: &R,
         alloc: Global,
@@ -429,7 +429,7 @@ impl<J: Start> Floor<J> {
                 return Found::Nothing;
             }
             if self.shop.is_worth_it(event) {
-                self.turn(event);
+                self.begin_behind(event);
                 return if self.goes_out(v) {
                     self.send_out(alloc, event, hand)
                 } else {
@@ -437,12 +437,12 @@ impl<J: Start> Floor<J> {
                 };
             }
             first = first.or(Some(event));
-            self.turn(event);
+            self.begin_behind(event);
         }
         Found::More
     }
 
-    // An event is made at once, and the numbers of the nodes that it has woken go into the queue, as behind a commit.
+    /// An event is made at once, and the numbers of the nodes that it has woken go into the queue, as behind a commit.
     fn make<R: Wait>(
         &mut self,
         rt: &R,
@@ -477,8 +477,8 @@ impl<J: Start> Floor<J> {
         }
     }
 
-    // Whether a node's next event goes out on a ticket, and isn't made at once: of a node of few ports each does, and of one
-    // of many as many as pay for it.
+    /// Whether a node's next event goes out on a ticket, and isn't made at once: of a node of few ports each does, and of one
+    /// of many as many as pay for it.
     fn goes_out(&mut self, v: u32) -> bool
         ensures { self.new ≡ self.old }
     {
@@ -491,7 +491,7 @@ impl<J: Start> Floor<J> {
         is_paid
     }
 
-    // No event can go out before one comes back; where nothing is out the workers are to end.
+    /// No event can go out before one comes back; where nothing is out the workers are to end.
     fn want_turns(&mut self) -> Found
         ensures { self.new ≡ self.old }
     {
@@ -499,7 +499,7 @@ impl<J: Start> Floor<J> {
         Found::NoTurn
     }
 
-    // An event goes out.
+    /// An event goes out.
     fn send_out(&mut self, alloc: Global, event: Event, hand: &mut Hand) -> Found {
         match self.shop.check_out(alloc, event) {
             Ok(ticket) => {
@@ -517,8 +517,8 @@ impl<J: Start> Floor<J> {
         }
     }
 
-    // The next search at an event's node begins behind the event's port.
-    fn turn(&mut self, event: Event)
+    /// The next search at an event's node begins behind the event's port.
+    fn begin_behind(&mut self, event: Event)
         ensures { self.new ≡ self.old }
     {
         if let Event::Take(v, port) = event {
@@ -528,7 +528,7 @@ impl<J: Start> Floor<J> {
         }
     }
 
-    // Puts numbers into the queue.
+    /// Puts numbers into the queue.
     fn put_each<R: Wait>(&mut self, rt: &R, queue: &ReadyQueue, pass: &mut ReadyPass, nodes: &[u32])
         requires { pass.old.name ≡ queue.now.name }
         ensures { pass.new.name ≡ pass.old.name }
@@ -538,7 +538,7 @@ impl<J: Start> Floor<J> {
         }
     }
 
-    // Puts a node's number into the queue, unless it waits there.
+    /// Puts a node's number into the queue, unless it waits there.
     fn put<R: Wait>(&mut self, rt: &R, queue: &ReadyQueue, pass: &mut ReadyPass, v: u32)
         requires { pass.old.name ≡ queue.now.name }
         ensures shop { self.new ≡ self.old }
@@ -552,7 +552,7 @@ impl<J: Start> Floor<J> {
         }
     }
 
-    // A node's number was taken.
+    /// A node's number was taken.
     fn took(&mut self, v: u32)
         ensures { self.new ≡ self.old }
     {

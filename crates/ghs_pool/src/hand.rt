@@ -4,11 +4,11 @@ use crate::pace::Pace;
 use ghs_world::ticket::{Step, Ticket};
 use std::alloc::{AllocError, Global};
 
-// How many tickets at most a worker has out at a time.
+/// How many tickets at most a worker has out at a time.
 pub const MOST: usize = 64;
 
-// The tickets that a worker has out, the steps that it made of them, and when it looks. It has room for all of them from
-// the beginning.
+/// The tickets that a worker has out, the steps that it made of them, and when it looks. It has room for all of them from
+/// the beginning.
 #[derive(Drop)]
 pub struct Hand {
     tickets: Vec<Ticket>,
@@ -22,7 +22,7 @@ pub struct Hand {
     // Whether one worker more is to be called.
     pub calls: bool,
     // Whether the lock is left to another worker first.
-    pub takes_turns: bool,
+    pub gives_way: bool,
 }
 
 impl Hand {
@@ -41,21 +41,21 @@ impl Hand {
             is_crowded: false,
             seen: 0,
             calls: false,
-            takes_turns: false,
+            gives_way: false,
         })
     }
 
-    // How many tickets are out and not performed.
+    /// How many tickets are out and not performed.
     pub fn tickets(&self) -> usize {
         self.tickets.len()
     }
 
-    // Whether there are steps that haven't happened.
+    /// Whether there are steps that haven't happened.
     pub fn has_steps(&self) -> bool {
         !self.steps.is_empty()
     }
 
-    // Tickets are performed the last first, and their steps happen the last first: in the order in which they went out.
+    /// Tickets are performed the last first, and their steps happen the last first: in the order in which they went out.
     pub fn next_ticket(&mut self) -> Option<Ticket> {
         self.tickets.pop()
     }
@@ -64,9 +64,9 @@ impl Hand {
         self.steps.pop()
     }
 
-    // An event was made at once.
+    /// An event was made at once.
     pub fn count_made(&mut self) {
-        self.pace.serve();
+        self.pace.note_event();
         let tally = self.tally;
         self.tally = Tally {
             commits: tally.commits.saturating_add(1),
@@ -75,7 +75,7 @@ impl Hand {
         };
     }
 
-    // The event of a ticket happened, with another worker's event since its check-out or none.
+    /// The event of a ticket happened, with another worker's event since its check-out or none.
     pub fn count_committed(&mut self, is_beside: bool) {
         self.count_made();
         let tally = self.tally;
@@ -86,7 +86,7 @@ impl Hand {
         };
     }
 
-    // One ticket more, or it comes back where there is no room.
+    /// One ticket more, or it comes back where there is no room.
     pub fn add_ticket(&mut self, ticket: Ticket) -> Result<(), Ticket> {
         match self.tickets.push(ticket) {
             Ok(()) => Ok(()),
@@ -94,7 +94,7 @@ impl Hand {
         }
     }
 
-    // One step more; where there is no room it is let go, and its ticket stays out until all is recalled.
+    /// One step more; where there is no room it is let go, and its ticket stays out until all is recalled.
     pub fn add_step(&mut self, step: Step) -> Result<(), AllocError> {
         match self.steps.push(step) {
             Ok(()) => Ok(()),

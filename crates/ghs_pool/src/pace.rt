@@ -1,37 +1,38 @@
 // When a worker looks over all nodes, how long it rests, and when and for how long it stays away.
 
-// A worker that has taken so many numbers since its last look looks again: the queue alone might not come to a node whose
-// number found no room.
+/// A worker that has taken so many numbers since its last look looks again: the queue alone might not come to a node whose
+/// number found no room.
 const NUMBERS: u32 = 256;
 
-// A rest up to so long is made of turns given away, a longer one is slept: in microseconds, about.
-const TURNS: u32 = 32;
+/// A rest up to so long is made of turns given away, a longer one is slept: in microseconds, about.
+const YIELDS: u32 = 32;
 
-// The longest rest, in microseconds.
+/// The longest rest, in microseconds.
 const LONGEST: u32 = 1024;
 
-// A worker stays away so long, in microseconds, where nobody calls it.
+/// A worker stays away so long, in microseconds, where nobody calls it.
 pub const AWAY: u32 = 4096;
 
-// How many workers are at work at a time. The lock goes from one to the other while each performs what it has out; more
-// would only wait for it.
+/// How many workers are at work at a time. The lock goes from one to the other while each performs what it has out; more
+/// would only wait for it.
 pub const PAIR: u32 = 2;
 
-// A worker that has made so many events since it came makes room for the one that was away the longest: the most, and the
-// least.
+/// A worker that has made so many events since it came makes room for the one that was away the longest: the most, and the
+/// least.
 const STINT: usize = 1024;
+
 const SHORT_STINT: usize = 64;
 
-// Where fewer numbers wait one worker is enough: what several write would go from processor to processor at each event.
+/// Where fewer numbers wait one worker is enough: what several write would go from processor to processor at each event.
 const CROWD: usize = 32;
 
-// From how many numbers on a second worker is worth it: few in a small network, so that several take part in a short run.
+/// From how many numbers on a second worker is worth it: few in a small network, so that several take part in a short run.
 pub fn crowd_of(nodes: usize) -> usize {
     (nodes / CROWD).clamp(1, CROWD)
 }
 
-// How many events a worker makes before it makes room: few in a small network, so that all take part in a short run, and many
-// in a large one, since whoever comes finds nothing at hand.
+/// How many events a worker makes before it makes room: few in a small network, so that all take part in a short run, and many
+/// in a large one, since whoever comes finds nothing at hand.
 pub fn stint_of(nodes: usize) -> usize {
     (nodes / CROWD).clamp(SHORT_STINT, STINT)
 }
@@ -43,17 +44,17 @@ pub struct Pace {
     // How long the last rest was; none since an event happened.
     pause: u32,
     // The events made since the worker came.
-    served: u32,
+    made: u32,
     is_away: bool,
 }
 
 impl Pace {
-    // A worker begins at work.
+    /// A worker begins at work.
     pub fn new() -> Pace {
         Pace {
             taken: 0,
             pause: 0,
-            served: 0,
+            made: 0,
             is_away: false,
         }
     }
@@ -62,59 +63,59 @@ impl Pace {
         self.is_away
     }
 
-    // The worker comes to the lock; whether it was away.
+    /// The worker comes to the lock; whether it was away.
     pub fn come(&mut self) -> bool {
         let was_away = self.is_away;
         self.is_away = false;
         was_away
     }
 
-    // Whether the worker has enough of it where so many numbers wait at so many nodes, and others are at work too.
+    /// Whether the worker has enough of it where so many numbers wait at so many nodes, and others are at work too.
     pub fn has_enough(&self, waiting: usize, nodes: usize, workers: u32) -> bool {
         waiting == 0
-            || (self.served > 0 && waiting < crowd_of(nodes))
-            || (self.served as usize >= stint_of(nodes) && workers > PAIR)
+            || (self.made > 0 && waiting < crowd_of(nodes))
+            || (self.made as usize >= stint_of(nodes) && workers > PAIR)
     }
 
-    // The worker leaves.
+    /// The worker leaves.
     pub fn leave(&mut self) {
         self.is_away = true;
-        self.served = 0;
+        self.made = 0;
     }
 
-    // A number was taken.
+    /// A number was taken.
     pub fn take(&mut self) {
         self.taken = self.taken.saturating_add(1);
     }
 
-    // Whether a look is due though numbers may wait.
+    /// Whether a look is due though numbers may wait.
     pub fn is_due(&self) -> bool {
         self.taken >= NUMBERS
     }
 
-    // A look is made.
+    /// A look is made.
     pub fn look(&mut self) {
         self.taken = 0;
     }
 
-    // An event happened: the next rest is a short one.
-    pub fn serve(&mut self) {
+    /// An event happened: the next rest is a short one.
+    pub fn note_event(&mut self) {
         self.pause = 0;
-        self.served = self.served.saturating_add(1);
+        self.made = self.made.saturating_add(1);
     }
 
-    // A rest begins, twice as long as the one before.
+    /// A rest begins, twice as long as the one before.
     pub fn rest(&mut self) {
         self.pause = (self.pause.saturating_mul(2)).clamp(1, LONGEST);
     }
 
-    // How many turns the worker gives away in this rest, where it doesn't sleep.
-    pub fn turns(&self) -> u32 {
-        if self.pause < TURNS { self.pause } else { 0 }
+    /// How many turns the worker gives away in this rest, where it doesn't sleep.
+    pub fn yields(&self) -> u32 {
+        if self.pause < YIELDS { self.pause } else { 0 }
     }
 
-    // For how many microseconds the worker sleeps in this rest, where it sleeps.
+    /// For how many microseconds the worker sleeps in this rest, where it sleeps.
     pub fn sleep(&self) -> u32 {
-        if self.pause < TURNS { 0 } else { self.pause }
+        if self.pause < YIELDS { 0 } else { self.pause }
     }
 }

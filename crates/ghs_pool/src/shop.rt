@@ -133,12 +133,12 @@ impl Shop {
         Ok(nodes)
     }
 
-    // Whether a node has an event that may be made now.
+    /// Whether a node has an event that may be made now.
     fn has_event(&self, v: u32) -> bool {
         self.world.has_place(Event::Wake(v)) && self.world.next_event(v, 0).is_some()
     }
 
-    // The node at the other end of a node's port; of what is no node or port none.
+    /// The node at the other end of a node's port; of what is no node or port none.
     fn far_of(&self, v: u32, port: u32) -> Option<u32> {
         if !self.world.has_place(Event::Wake(v)) {
             return None;

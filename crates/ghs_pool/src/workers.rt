@@ -88,7 +88,7 @@ pub fn run_watched<G: Gate + Sync, R: Threads + Wait + Sync>(
     run_from::<Brand, G, R>(rt, alloc, shop, notes, gate, &queue, pass)
 }
 
-// A queue with room for each node and a share for each worker, its pass, and what is kept of each node.
+/// A queue with room for each node and a share for each worker, its pass, and what is kept of each node.
 fn prepare(
     alloc: Global,
     nodes: u32,
@@ -103,7 +103,7 @@ fn prepare(
     Ok((queue, pass, notes))
 }
 
-// Runs on from the shop that `J` names.
+/// Runs on from the shop that `J` names.
 fn run_from<J: Start + Send + Sync, G: Gate + Sync, R: Threads + Wait + Sync>(
     rt: &R,
     alloc: Global,
@@ -126,7 +126,7 @@ fn run_from<J: Start + Send + Sync, G: Gate + Sync, R: Threads + Wait + Sync>(
     floor.put_ready(rt, queue, &mut pass);
     let floor = Mutex::new(floor);
     let bell = Bell::new();
-    let started = serve_all(rt, alloc, &floor, &bell, gate, queue, pass);
+    let started = start_workers(rt, alloc, &floor, &bell, gate, queue, pass);
     let (shop, memory) = floor.into_inner().close();
     let (mut world, publisher) = shop.close();
     world.recall_all();
@@ -134,8 +134,8 @@ fn run_from<J: Start + Send + Sync, G: Gate + Sync, R: Threads + Wait + Sync>(
     (world, publisher, end)
 }
 
-// Starts a worker for each share of the pass, each on a thread of its own. Whether none was refused; all have ended.
-fn serve_all<J: Start + Send + Sync, G: Gate + Sync, R: Threads + Wait + Sync>(
+/// Starts a worker for each share of the pass, each on a thread of its own. Whether none was refused; all have ended.
+fn start_workers<J: Start + Send + Sync, G: Gate + Sync, R: Threads + Wait + Sync>(
     rt: &R,
     alloc: Global,
     floor: &Mutex<Floor<J>>,
@@ -165,7 +165,7 @@ fn serve_all<J: Start + Send + Sync, G: Gate + Sync, R: Threads + Wait + Sync>(
                 };
                 let worker = move ||
                     requires { mine.name ≡ queue.now.name }
-                { work(rt, alloc, floor, bell, gate, queue, mine, hand) };
+                { worker_loop(rt, alloc, floor, bell, gate, queue, mine, hand) };
                 if scope.spawn(worker).is_err() {
                     floor.lock(rt).stop();
                     return false;
@@ -177,7 +177,7 @@ fn serve_all<J: Start + Send + Sync, G: Gate + Sync, R: Threads + Wait + Sync>(
             };
             let worker = move ||
                 requires { rest.name ≡ queue.now.name }
-            { work(rt, alloc, floor, bell, gate, queue, rest, hand) };
+            { worker_loop(rt, alloc, floor, bell, gate, queue, rest, hand) };
             if scope.spawn(worker).is_err() {
                 floor.lock(rt).stop();
                 return false;
@@ -187,8 +187,8 @@ fn serve_all<J: Start + Send + Sync, G: Gate + Sync, R: Threads + Wait + Sync>(
     )
 }
 
-// A worker, until the run is over: visits to the lock, and between them what needs none.
-fn work<J: Start, G: Gate, R: Wait>(
+/// A worker, until the run is over: visits to the lock, and between them what needs none.
+fn worker_loop<J: Start, G: Gate, R: Wait>(
     rt: &R,
     alloc: Global,
     floor: &Mutex<Floor<J>>,
@@ -207,7 +207,7 @@ fn work<J: Start, G: Gate, R: Wait>(
             bell.call();
         }
         match next {
-            Next::Serve => perform(rt, alloc, floor, gate, &mut hand),
+            Next::Perform => perform(rt, alloc, floor, gate, &mut hand),
             Next::Again => {}
             Next::Wait => rest(rt, bell, queue, &mut pass, &mut hand.pace),
             Next::Leave => bell.sleep(rt, AWAY),
@@ -220,7 +220,7 @@ fn work<J: Start, G: Gate, R: Wait>(
     unreachable!()
 }
 
-// A visit to the lock. A worker that is away leaves it alone while no number waits and the run goes on.
+/// A visit to the lock. A worker that is away leaves it alone while no number waits and the run goes on.
 fn come<J: Start, R: Wait>(
     rt: &R,
     alloc: Global,
@@ -236,15 +236,15 @@ fn come<J: Start, R: Wait>(
     if hand.pace.is_away() && queue.len(rt, pass) == 0 && !bell.has_rung() {
         return Next::Leave;
     }
-    if hand.takes_turns {
-        bell.take_turns(hand.tally.worker);
+    if hand.gives_way {
+        bell.give_way(hand.tally.worker);
     }
     let mut floor = floor.lock(rt);
     bell.visit(hand.tally.worker);
     floor.visit(rt, alloc, queue, pass, hand)
 }
 
-// Performs the tickets in a hand, outside the lock.
+/// Performs the tickets in a hand, outside the lock.
 fn perform<J: Start, G: Gate, R: Wait>(
     rt: &R,
     alloc: Global,
@@ -270,13 +270,13 @@ fn perform<J: Start, G: Gate, R: Wait>(
     }
 }
 
-// Rests, holding nothing, until the rest is over; a short one ends where a number waits.
+/// Rests, holding nothing, until the rest is over; a short one ends where a number waits.
 fn rest<R: Wait>(rt: &R, bell: &Bell, queue: &ReadyQueue, pass: &mut ReadyPass, pace: &mut Pace)
     requires { pass.old.name ≡ queue.now.name }
     ensures { pass.new.name ≡ pass.old.name }
 {
     pace.rest();
-    for _ in 0..pace.turns() {
+    for _ in 0..pace.yields() {
         if queue.len(rt, pass) > 0 {
             return;
         }
@@ -287,7 +287,7 @@ fn rest<R: Wait>(rt: &R, bell: &Bell, queue: &ReadyQueue, pass: &mut ReadyPass, 
     }
 }
 
-// What the world says of the end, and else what was met.
+/// What the world says of the end, and else what was met.
 fn end_of(world: &World, started: bool, memory: bool) -> Result<RunEnd, PoolFault>
     requires { world.now.outs ≡ [] }
     ensures { EndFits world.now result }
@@ -307,7 +307,7 @@ fn end_of(world: &World, started: bool, memory: bool) -> Result<RunEnd, PoolFaul
     Err(PoolFault::Strange)
 }
 
-// The least node that has halted, of a run that has ended.
+/// The least node that has halted, of a run that has ended.
 fn least_halted(world: &World) -> u32
     requires { IsAtEnd world.now }
     ensures { IsLeastHalted (network world.now.net) (home world.now) (Some result) }

@@ -2,6 +2,6 @@
 //! know what was put and taken by them.
 #![tactic(auto)]
 
-mod hand;
+mod pass_view;
 pub mod queue;
 mod rule;

@@ -4,14 +4,14 @@ ghost use Rattle.crossbeam_queue.specs.Passes.{view, IsPassOf};
 ghost use Rattle.ghs_queue.specs.Bags.{opener};
 ghost use Rattle.ghs_queue.specs.Closing.{Closes, Refuses};
 
-use crate::hand::Hand;
+use crate::pass_view::PassView;
 use crate::rule::{Begin, Cut, Fair, Puts, Takes, Twice, TwiceAndOne};
 use crossbeam_queue::{Pass, RuledArrayQueue};
 use std::alloc::{AllocError, Global};
 use std::marker::Model;
 use std::sync::Wait;
 
-type Inner = RuledArrayQueue<u32, Hand, Fair>;
+type Inner = RuledArrayQueue<u32, PassView, Fair>;
 
 /// A queue of at most so many numbers, first in first out. A contract sees its name, with the number of its shares, and
 /// its capacity.
@@ -37,7 +37,7 @@ impl Model for ReadyQueue {
 /// were put and taken by this pass.
 #[derive(Drop)]
 pub struct ReadyPass {
-    pass: Pass<u32, Hand>,
+    pass: Pass<u32, PassView>,
     shares: u32,
 }
 
@@ -65,8 +65,8 @@ pub enum CloseFault {
     Memory,
 }
 
-// Counts `all` up to a number, in the first pass's view.
-fn count_up(inner: &Inner, pass: &mut Pass<u32, Hand>, number: u32)
+/// Counts `all` up to a number, in the first pass's view.
+fn count_up(inner: &Inner, pass: &mut Pass<u32, PassView>, number: u32)
     requires { IsPassOf inner.now pass.old × (view pass.old ≡ opener 0) }
     ensures { IsPassOf inner.now pass.new × (view pass.new ≡ opener number) }
 {
@@ -195,7 +195,7 @@ impl ReadyQueue {
         Ok(self.drain(rt, pass, rest))
     }
 
-    // The pass with all shares takes all that is left, for which there is room.
+    /// The pass with all shares takes all that is left, for which there is room.
     fn drain<R: Wait>(&self, rt: &R, mut pass: ReadyPass, mut rest: Vec<u32>) -> Vec<u32>
         requires pass { (pass.name ≡ self.now.name) × (pass.shares ≡ self.now.name.all) }
         requires room { (rest.items ≡ []) × (length pass.put ≤ length pass.taken + vec_capacity rest) }
@@ -210,7 +210,7 @@ impl ReadyQueue {
         unreachable!()
     }
 
-    // The pass with all shares takes one of the numbers that are left.
+    /// The pass with all shares takes one of the numbers that are left.
     fn take_last<R: Wait>(&self, rt: &R, pass: &mut ReadyPass) -> Option<u32>
         requires { (pass.old.name ≡ self.now.name) × (pass.old.shares ≡ self.now.name.all) }
         ensures some { IfSome result (λ n. (pass.new ≡ record pass.old { taken = pass.old.taken ++ n ∷ [] }) × (length pass.old.taken < length pass.old.put)) }

@@ -1,14 +1,14 @@
 //! Command lines and whole tasks, from bytes to bytes.
-ghost use Rattle.ghs_words.specs.Job.{IsWithinLimits};
+ghost use Rattle.ghs_commands.specs.Job.{IsWithinLimits};
 
 use ghs_cli::fault::ServeFault;
 use ghs_cli::serve::serve;
+use ghs_commands::job::{Job, JobFault, read_job};
 use ghs_gr::device::Device;
 use ghs_refusing::orders::{Turn, order, refuse, turn_of};
 use ghs_refusing::scenes::TEXT;
 use ghs_test_graphs::graphs::PATH_OF_FIVE;
 use ghs_test_graphs::traces::PATH_OF_FIVE_TRACE;
-use ghs_words::job::{Job, JobFault, read_job};
 use std::alloc::{AllocError, Global};
 use std::process::Abort;
 use std::sync::Wait;

@@ -1,7 +1,7 @@
 -- Counts of messages that are the same for each of the seven kinds.
 use Rattle.std.proofs.Common.{◌≡◌, ℕ, ◌<◌, arith, refl}
 use Rattle.ghs_graph.specs.Bound.{IsBound}
-use Rattle.ghs_report.specs.NetText.{messages_line}
+use Rattle.ghs_report.specs.ReportText.{messages_line}
 
 -- the same line
 pub same_line : (f g : ℕ → ℕ) → ((k : ℕ) → k < 7 → f k ≡ g k) → messages_line f ≡ messages_line g

@@ -1,7 +1,7 @@
 -- Worked examples, computed from the definitions.
 use Rattle.std.proofs.Common.{◌≡◌, ℕ, List, [], ◌∷◌, ◌++◌, codes, refl, slice_index_or}
 use Rattle.std.specs.Fmt.{digits}
-use Rattle.ghs_report.specs.NetText.{messages_line, named, sends_line}
+use Rattle.ghs_report.specs.ReportText.{messages_line, named, sends_line}
 use Rattle.ghs_report.specs.TreeText.{tree_text}
 
 abbrev line : List ℕ → List ℕ

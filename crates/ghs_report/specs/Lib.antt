@@ -1,5 +1,5 @@
 -- To be believed: contracts cite what stands here, and what it is made of.
-pub mod NetText
+pub mod ReportText
 pub mod TreeText
 pub mod Writing
 pub mod Written

@@ -1,20 +1,20 @@
 //! The text of a finished run.
 ghost use Rattle.std.specs.Prelude.{◌↔◌, IfOk, IsErrOf};
 ghost use Rattle.ghs_protocol.specs.Marks.{HasEnded};
-ghost use Rattle.ghs_report.specs.NetText.{IsNetText};
-ghost use Rattle.ghs_report.specs.declared.net_text.ReportFault.TheVariants.{NotEnded};
+ghost use Rattle.ghs_report.specs.ReportText.{IsReportText};
+ghost use Rattle.ghs_report.specs.declared.report_text.ReportFault.TheVariants.{NotEnded};
 ghost use Rattle.ghs_world.specs.WorldState.{home};
 
-use crate::net_text::{ReportFault, net_text};
+use crate::report_text::{ReportFault, report_text};
 use ghs_world::world::World;
 use std::alloc::Global;
 
 /// The text of a world whose run has ended, as `--print report` prints it: that of its home view, whatever is out. Refusals:
 /// the run hasn't ended; want of memory.
 pub fn run_text(alloc: Global, world: &World) -> Result<Vec<u8>, ReportFault>
-    ensures text { IfOk result (λ text. IsNetText world.now.net.graph (home world.now) text.items) }
+    ensures text { IfOk result (λ text. IsReportText world.now.net.graph (home world.now) text.items) }
     ensures ended { IfOk result (λ _. HasEnded world.now.net.graph (home world.now)) }
     ensures not_ended { IsErrOf result NotEnded ↔ (HasEnded world.now.net.graph (home world.now) → ⊥) }
 {
-    net_text(alloc, world.net())
+    report_text(alloc, world.net())
 }

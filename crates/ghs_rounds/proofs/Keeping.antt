@@ -32,7 +32,8 @@ use Rattle.ghs_rounds.specs.Rounds.{hides_due, is_by, is_due, has_due_second, mo
 use Rattle.ghs_patient.proofs.lemmas.Walks.{far_places}
 use Rattle.ghs_rounds.proofs.Sending.{IsTimely, chains_leave, kept_below, reacted_timely}
 
-module _ (s t : WorldState) (e : Event) (d : Delta) (x y : RoundsState) (are : AreRounds s x) (made : Makes s e t) (answer : IsAnswer s.net e d) (heard : HasHeard s e d x y) where
+module _ (s t : WorldState) (e : Event) (d : Delta) (x y : RoundsState) (are : AreRounds s x) (made : Makes s e t) (answer : IsAnswer s.net e d)
+    (heard : HasHeard s e d x y) where
   abbrev before : Head
   before = ((home s).node (event_node e)).head
 
@@ -40,7 +41,8 @@ module _ (s t : WorldState) (e : Event) (d : Delta) (x y : RoundsState) (are : A
   same_queue u q none =
       ap (λ (c : Chains). c.queue u q) heard.chains ∙ chains_leave (network s.net) (home s) e d (seen x.clock.kept) u q (λ k. none (inl k))
 
-  same_due : (f : Event) → (IsStirred (network s.net) e before d f → ⊥) → is_due (seen y.clock.kept) y.clock.round f ≡ is_due (seen x.clock.kept) x.clock.round f
+  same_due : (f : Event) → (IsStirred (network s.net) e before d f → ⊥) →
+      is_due (seen y.clock.kept) y.clock.round f ≡ is_due (seen x.clock.kept) x.clock.round f
   same_due (Wake u) none = refl
   same_due (Take u q) none = ap₂ (λ (r : ℕ) (l : List ℕ). is_by r (slice_get l 0)) heard.round (same_queue u q none)
 
@@ -83,38 +85,45 @@ module _ (s t : WorldState) (e : Event) (d : Delta) (x y : RoundsState) (are : A
   })
 
   pub fits_then : Fits t.net.graph y.clock.kept
-  fits_then = let P : Shape → Type 0 = λ (g : Shape). Fits g y.clock.kept in subst P (sym made.graph) (fits_kept s.net.graph x.clock.kept y.clock.kept heard.places are.chains.fits)
+  fits_then = let P : Shape → Type 0 = λ (g : Shape). Fits g y.clock.kept in
+      subst P (sym made.graph) (fits_kept s.net.graph x.clock.kept y.clock.kept heard.places are.chains.fits)
 
   past_kept : (f : Event) → HasPlace (network s.net) f → (Contains y.fresh f → ⊥) → IsPast y.clock f
   past_kept (Wake u) there none = tt
   past_kept (Take u q) there none =
       let f : Event = Take u q in
       let far = far_takes (network s.net) (event_node e) d.sends in
-      let old_not : Contains x.fresh f → ⊥ = λ h. none (subst (λ (fs : List Event). Contains fs f) (sym heard.fresh) (Contains-append_left x.fresh far f h)) in
-      let far_not : Contains far f → ⊥ = λ h. none (subst (λ (fs : List Event). Contains fs f) (sym heard.fresh) (Contains-append_right x.fresh far f h)) in
+      let old_not : Contains x.fresh f → ⊥ =
+      λ h. none (subst (λ (fs : List Event). Contains fs f) (sym heard.fresh) (Contains-append_left x.fresh far f h)) in
+      let far_not : Contains far f → ⊥ =
+      λ h. none (subst (λ (fs : List Event). Contains fs f) (sym heard.fresh) (Contains-append_right x.fresh far f h)) in
       let below = kept_below (network s.net) (home s) e d (seen x.clock.kept) x.clock.round u q far_not (are.past f there old_not) in
       rw (heard.round, heard.chains) below
 
-  module _ (graph : IsGraph s.net.graph) (is_run : IsRun (network s.net) s.net.trace) (low : 1 ≤ event_node e) (high : event_node e ≤ s.net.graph.nodes)
-      (ports : All (λ (m : ℕ × Message). m.0 < length (ports_of s.net.graph.keys (event_node e))) d.sends)
-      (timely : IsTimely (seen x.clock.kept) x.clock.round e (is_sleeping before.phase) d.fate) (new : ChoicesState) (right : AreChoices t y.clock new) where
+  module _ (graph : IsGraph s.net.graph) (is_run : IsRun (network s.net) s.net.trace) (low : 1 ≤ event_node e)
+      (high : event_node e ≤ s.net.graph.nodes) (ports : All (λ (m : ℕ × Message). m.0 < length (ports_of s.net.graph.keys (event_node e))) d.sends)
+      (timely : IsTimely (seen x.clock.kept) x.clock.round e (is_sleeping before.phase) d.fate) (new : ChoicesState)
+      (right : AreChoices t y.clock new) where
     chains : AreChains t.net y.clock.kept
     chains = record {
       fits = fits_then;
       same =
           heard.chains ∙ ap (reacted (network s.net) (home s) e d) are.chains.same ∙ sym (chains_of_more s.net e d (home t) is_run made.event answer)
-          ∙ ap (λ (es : List Event). chains_of (network s.net) es) (sym made.trace) ∙ ap (λ (g : Shape). chains_of (network_of g) t.net.trace) (sym made.graph);
+          ∙ ap (λ (es : List Event). chains_of (network s.net) es) (sym made.trace)
+          ∙ ap (λ (g : Shape). chains_of (network_of g) t.net.trace) (sym made.graph);
     }
 
     by_round : AreByRound y.clock
     by_round =
-        let within : IsWithin x.clock.round (suc x.clock.round) (seen x.clock.kept) = record { node = are.by_round.node; queue = are.by_round.queue } in
+        let within : IsWithin x.clock.round (suc x.clock.round) (seen x.clock.kept) =
+        record { node = are.by_round.node; queue = are.by_round.queue } in
         let out = reacted_timely (network s.net) (home s) e d x.clock.round (seen x.clock.kept) within timely in
         record { node = λ v. rw (heard.round, heard.chains) (out.node v); queue = λ v p. rw (heard.round, heard.chains) (out.queue v p) }
 
     places : (f : Event) → Contains y.fresh f → HasPlace (network s.net) f
     places f h = ⊎_elim (are.places f) (far_places s.net.graph (event_node e) graph low high d.sends ports f)
-        (Contains-append_cases x.fresh (far_takes (network s.net) (event_node e) d.sends) f (subst (λ (fs : List Event). Contains fs f) heard.fresh h))
+        (Contains-append_cases x.fresh (far_takes (network s.net) (event_node e) d.sends) f
+        (subst (λ (fs : List Event). Contains fs f) heard.fresh h))
 
     pub next_are : AreRounds t (record { clock = y.clock; choices = new; fresh = y.fresh })
     next_are = record {

@@ -58,14 +58,16 @@ module _ (s : WorldState) (clock : ClockState) where
       ((f : Event) → HasPlace (network s.net) f → wrong f → ⊥) →
       AreChoices s clock c
   all_right wrong c h none = record {
-    moving = of_but (network s.net) (moves_in s clock) c.moving (record { index = h.for_all.moving; marks = λ f there k. h.moving f there (none f there) });
-    hidden = of_but (network s.net) (hides_in s clock) c.hidden (record { index = h.for_all.hidden; marks = λ f there k. h.hidden f there (none f there) });
+    moving = of_but (network s.net) (moves_in s clock) c.moving
+        (record { index = h.for_all.moving; marks = λ f there k. h.moving f there (none f there) });
+    hidden = of_but (network s.net) (hides_in s clock) c.hidden
+        (record { index = h.for_all.hidden; marks = λ f there k. h.hidden f there (none f there) });
   }
 
   -- Events one node after another.
 
-  pub one_node : (v n : ℕ) (c : ChoicesState) → AreChoicesBut s clock (IsFrom v) c → 1 ≤ v → v ≤ s.net.graph.nodes → n ≡ length ((network s.net).ports v) →
-      AreChoicesBut s clock (IsFrom (v + 1)) (marked_to s clock v n (marked s clock (Wake v) c))
+  pub one_node : (v n : ℕ) (c : ChoicesState) → AreChoicesBut s clock (IsFrom v) c → 1 ≤ v → v ≤ s.net.graph.nodes →
+      n ≡ length ((network s.net).ports v) → AreChoicesBut s clock (IsFrom (v + 1)) (marked_to s clock v n (marked s clock (Wake v) c))
   one_node v n c h low high many =
       walks.one_node ChoicesState (network s.net) (AreChoicesBut s clock) (marked s clock) right_marked right_wider v n c h low high many
 
@@ -92,8 +94,8 @@ module _ (s : WorldState) (clock : ClockState) where
       Seen v before d three
   seen e before d v sends c one two three ok node out has ports stirred first second third =
       let own = own_node (network s.net) e has in
-      walks.stirred_seen ChoicesState (network s.net) (AreChoicesBut s clock) (marked s clock) right_marked right_wider e before d v sends c one two three
-      node out has (far_places s.net.graph (event_node e) ok own.0 own.1 d.sends ports) stirred first second third
+      walks.stirred_seen ChoicesState (network s.net) (AreChoicesBut s clock) (marked s clock) right_marked right_wider e before d v sends
+      c one two three node out has (far_places s.net.graph (event_node e) ok own.0 own.1 d.sends ports) stirred first second third
 
   module _ (v : ℕ) (before : Head) (d : Delta) (c : ChoicesState) (h : Seen v before d c) where
     -- the Takes of the node

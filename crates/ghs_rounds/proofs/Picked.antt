@@ -54,7 +54,8 @@ module _ (may : ℕ → Bool) (g : Network) (w : Net) (c : Chains) (r : ℕ) whe
 
   lawful_back : (e : Event) → HasPlace g e → puts_back w e ≡ true → is_lawful_under may g w e ≡ true
   lawful_back (Wake v) there t = cc
-  lawful_back (Take v p) there t = and_from (is_port g v p) (is_waiting (w.queue v p)) (is_port_of g v p there) (first_there (w.node v) p (w.queue v p) t)
+  lawful_back (Take v p) there t =
+      and_from (is_port g v p) (is_waiting (w.queue v p)) (is_port_of g v p there) (first_there (w.node v) p (w.queue v p) t)
 
   pub lawful_pick : (e : Event) → Picked e → is_lawful_under may g w e ≡ true
   lawful_pick e k = ⊎_elim
@@ -63,7 +64,8 @@ module _ (may : ℕ → Bool) (g : Network) (w : Net) (c : Chains) (r : ℕ) whe
       k.1
 
 -- what only puts its message back comes to a node that is awake, which sends nothing
-back_is : (s : NetState) (e : Event) (d : Delta) → IsGraph s.graph → IsRun (network s) s.trace → HasPlace (network s) e → puts_back (net_of s) e ≡ true → IsAnswer s e d →
+back_is : (s : NetState) (e : Event) (d : Delta) → IsGraph s.graph → IsRun (network s) s.trace → HasPlace (network s) e →
+    puts_back (net_of s) e ≡ true → IsAnswer s e d →
     (is_sleeping ((net_of s).node (event_node e)).head.phase ≡ false) × (d ≡ requeues ((net_of s).node (event_node e)).head)
 back_is s (Wake v) d ok run there t answer = cc
 back_is s (Take v p) d ok run there t answer = go ((net_of s).queue v p) t answer

@@ -50,12 +50,14 @@ module _ (old s : WorldState) (words used : List ℕ) (k : ClockState) (run : Ha
           turns = run.turns;
           outs = run.outs;
           numbers = run.numbers;
-          picked = Over s.net.trace k.round used run.picked (still_going old s run.graph going) (turn_left old s run.turns turn) (sym same_events ∙ z.1);
+          picked =
+              Over s.net.trace k.round used run.picked (still_going old s run.graph going) (turn_left old s run.turns turn) (sym same_events ∙ z.1);
         }))
         is
 
     -- one event more
-    pub run_more : (new : WorldState) (after : List ℕ) (x : RoundsState) → x.clock ≡ k → HasMadeNext s new x used after → HasRun old new words after k.round
+    pub run_more : (new : WorldState) (after : List ℕ) (x : RoundsState) → x.clock ≡ k → HasMadeNext s new x used after →
+        HasRun old new words after k.round
     run_more new after x clock next =
         let made = next.made in
         let more : length (s.net.trace ++ next.event ∷ []) ≡ length s.net.trace + 1 = length_push s.net.trace next.event in
@@ -68,7 +70,9 @@ module _ (old s : WorldState) (words used : List ℕ) (k : ClockState) (run : Ha
           turns = made.turns ∙ run.turns;
           outs = made.outs ∙ run.outs;
           numbers = rw made.trace (omega (arith, numbers, last, more));
-          picked = rw (made.trace, next.rest) (Picked s.net.trace k.round used next.event run.picked (still_going old s run.graph going) (turn_left old s run.turns turn) (subst (λ es. IsPick es used next.event) same_events pick));
+          picked =
+              rw (made.trace, next.rest) (Picked s.net.trace k.round used next.event run.picked (still_going old s run.graph going)
+              (turn_left old s run.turns turn) (subst (λ es. IsPick es used next.event) same_events pick));
         }
 
 -- a refusal of memory leaves the run as it was
@@ -86,8 +90,8 @@ run_stays old s new words used r run same = record {
 pub few_settled : (s : WorldState) (k next : ClockState) → IsNextClock s k next → next.round ≤ suc k.round
 few_settled s k next is = ⊎_elim (λ (e : next ≡ k). rw e (omega arith)) (λ z. rw z.0 (omega arith)) is
 
-pub few_more : (s new : WorldState) (k next : ClockState) (x : RoundsState) (used after : List ℕ) → IsNextClock s k next → k.round ≤ length s.net.trace →
-    HasMadeNext s new x used after → next.round ≤ length new.net.trace
+pub few_more : (s new : WorldState) (k next : ClockState) (x : RoundsState) (used after : List ℕ) → IsNextClock s k next →
+    k.round ≤ length s.net.trace → HasMadeNext s new x used after → next.round ≤ length new.net.trace
 few_more s new k next x used after is few next_made =
     let one = few_settled s k next is in
     let more : length (s.net.trace ++ next_made.event ∷ []) ≡ length s.net.trace + 1 = length_push s.net.trace next_made.event in
@@ -109,7 +113,8 @@ chain_by s x are =
     most_within (suc (network s.net).count) x.clock.round (chains_of (network s.net) s.net.trace).node
     (λ v. subst (λ (c : Chains). c.node v ≤ x.clock.round) are.chains.same (are.by_round.node v))
 
-pub chain_stays : (s new : WorldState) (x : RoundsState) → AreRounds s x → IsSameWorld s new → longest_chain (network new.net) new.net.trace ≤ x.clock.round
+pub chain_stays : (s new : WorldState) (x : RoundsState) → AreRounds s x → IsSameWorld s new →
+    longest_chain (network new.net) new.net.trace ≤ x.clock.round
 chain_stays s new x are same = rw (same.net.graph, same.net.trace) (chain_by s x are)
 
 -- where nothing has happened there is none

@@ -25,10 +25,12 @@ module _ (g : Network) (v : ℕ) where
   unsent (s ∷ ss) c u q none =
       unsent ss (sent_on g v s.0 c) u q (λ h. none (later_in (Take (far g v s.0) (far_port g v s.0)) (Take u q) _ h))
       ∙ put_at_miss c.queue (far g v s.0) (far_port g v s.0) u q _
-      (λ z. none (subst (λ (e : Event). Contains (e ∷ far_takes g v ss) (Take u q)) (ap (λ a. Take a q) z.0 ∙ ap (Take (far g v s.0)) z.1) (first_in (Take u q) (far_takes g v ss))))
+      (λ z. none (subst (λ (e : Event). Contains (e ∷ far_takes g v ss) (Take u q)) (ap (λ a. Take a q) z.0 ∙ ap (Take (far g v s.0)) z.1)
+      (first_in (Take u q) (far_takes g v ss))))
 
 -- a queue from which nothing is taken
-untaken : (v p : ℕ) (asleep : Bool) (f : Fate) (ts : List ℕ) (c : Chains) (u q : ℕ) → ((u ≡ v) × (q ≡ p) → ⊥) → (taken v p asleep f ts c).queue u q ≡ c.queue u q
+untaken : (v p : ℕ) (asleep : Bool) (f : Fate) (ts : List ℕ) (c : Chains) (u q : ℕ) → ((u ≡ v) × (q ≡ p) → ⊥) →
+    (taken v p asleep f ts c).queue u q ≡ c.queue u q
 untaken v p asleep f [] c u q ne = refl
 untaken v p asleep f (t ∷ ts) c u q ne = put_at_miss c.queue v p u q (behind f t ts) ne
 
@@ -41,9 +43,11 @@ pub chains_leave : (g : Network) (w : Net) (e : Event) (d : Delta) (c : Chains) 
     (reacted g w e d c).queue u q ≡ c.queue u q
 chains_leave g w e d c u q none =
     unsent g (event_node e) d.sends (hears e (is_sleeping (w.node (event_node e)).head.phase) d.fate c) u q
-    (λ h. none (later_in (Wake (event_node e)) (Take u q) (e ∷ far_takes g (event_node e) d.sends) (later_in e (Take u q) (far_takes g (event_node e) d.sends) h)))
+    (λ h. none (later_in (Wake (event_node e)) (Take u q) (e ∷ far_takes g (event_node e) d.sends)
+    (later_in e (Take u q) (far_takes g (event_node e) d.sends) h)))
     ∙ unheard e (is_sleeping (w.node (event_node e)).head.phase) d.fate c u q
-    (λ z. none (later_in (Wake (event_node e)) (Take u q) (e ∷ far_takes g (event_node e) d.sends) (subst (λ (x : Event). Contains (e ∷ far_takes g (event_node e) d.sends) x) z (first_in e (far_takes g (event_node e) d.sends)))))
+    (λ z. none (later_in (Wake (event_node e)) (Take u q) (e ∷ far_takes g (event_node e) d.sends)
+    (subst (λ (x : Event). Contains (e ∷ far_takes g (event_node e) d.sends) x) z (first_in e (far_takes g (event_node e) d.sends)))))
 
 -- What is no greater than a number is so after a taking.
 taken_below : (v p n : ℕ) (asleep : Bool) (f : Fate) (ts : List ℕ) (c : Chains) (u q : ℕ) → c.queue v p ≡ ts → Below n (c.queue u q) →
@@ -57,13 +61,14 @@ taken_below v p n asleep f (t ∷ ts) c u q is b = ⊎_elim
     (λ ne. let P : List ℕ → Type 0 = Below n in subst P (sym (put_at_miss c.queue v p u q (behind f t ts) ne)) b)
     (one_place v p u q)
 
-pub heard_below : (e : Event) (n : ℕ) (asleep : Bool) (f : Fate) (c : Chains) (u q : ℕ) → Below n (c.queue u q) → Below n ((hears e asleep f c).queue u q)
+pub heard_below : (e : Event) (n : ℕ) (asleep : Bool) (f : Fate) (c : Chains) (u q : ℕ) → Below n (c.queue u q) →
+    Below n ((hears e asleep f c).queue u q)
 heard_below (Wake v) n asleep f c u q b = b
 heard_below (Take v p) n asleep f c u q b = taken_below v p n asleep f (c.queue v p) c u q refl b
 
 -- a queue that nothing is sent to is no greater than it was
-pub kept_below : (g : Network) (w : Net) (e : Event) (d : Delta) (c : Chains) (n u q : ℕ) → (Contains (far_takes g (event_node e) d.sends) (Take u q) → ⊥) →
-    Below n (c.queue u q) → Below n ((reacted g w e d c).queue u q)
+pub kept_below : (g : Network) (w : Net) (e : Event) (d : Delta) (c : Chains) (n u q : ℕ) →
+    (Contains (far_takes g (event_node e) d.sends) (Take u q) → ⊥) → Below n (c.queue u q) → Below n ((reacted g w e d c).queue u q)
 kept_below g w e d c n u q none b =
     let P : List ℕ → Type 0 = Below n in
     let asleep = is_sleeping (w.node (event_node e)).head.phase in
@@ -89,7 +94,8 @@ taken_timely v p r asleep f (t ∷ ts) c is w timely = record {
       (behind_below f (suc r) t ts (let P : List ℕ → Type 0 = Below (suc r) in subst P is (w.queue v p)));
 }
 
-pub hears_timely : (e : Event) (r : ℕ) (asleep : Bool) (f : Fate) (c : Chains) → IsWithin r (suc r) c → IsTimely c r e asleep f → IsWithin r (suc r) (hears e asleep f c)
+pub hears_timely : (e : Event) (r : ℕ) (asleep : Bool) (f : Fate) (c : Chains) → IsWithin r (suc r) c → IsTimely c r e asleep f →
+    IsWithin r (suc r) (hears e asleep f c)
 hears_timely (Wake v) r asleep f c w timely = w
 hears_timely (Take v p) r asleep f c w timely = taken_timely v p r asleep f (c.queue v p) c refl w timely
 

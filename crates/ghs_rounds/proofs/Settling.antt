@@ -92,17 +92,20 @@ module _ (s : WorldState) (x : RoundsState) (are : AreRounds s x) where
       past (Take v p) = are.by_round.queue v p
 
 -- In the next round something may come, until the run has ended.
-first_by : (ts : List ℕ) (ms : List Message) (r : ℕ) → All (λ t. t ≤ r) ts → length ts ≡ length ms → is_waiting ms ≡ true → is_by r (slice_get ts 0) ≡ true
+first_by : (ts : List ℕ) (ms : List Message) (r : ℕ) → All (λ t. t ≤ r) ts → length ts ≡ length ms → is_waiting ms ≡ true →
+    is_by r (slice_get ts 0) ≡ true
 first_by ts [] r all many w = cc
 first_by [] (m ∷ ms) r all many w = absurd (let z : 0 ≡ suc (length ms) = many in omega (arith, z))
 first_by (t ∷ ts) (m ∷ ms) r all many w = le-leb t r (all_first (λ t. t ≤ r) t ts all)
 
-module _ (g : Network) (may : ℕ → Bool) (w : Net) (c : Chains) (r : ℕ) (same : SameLengths w c) (by : (v p : ℕ) → All (λ t. t ≤ r) (c.queue v p)) where
+module _ (g : Network) (may : ℕ → Bool) (w : Net) (c : Chains) (r : ℕ) (same : SameLengths w c)
+    (by : (v p : ℕ) → All (λ t. t ≤ r) (c.queue v p)) where
   due : (e : Event) → is_lawful_under may g w e ≡ true → is_due c r e ≡ true
   due (Wake v) t = refl
   due (Take v p) t = first_by (c.queue v p) (w.queue v p) r (by v p) (same.queue v p) (and_parts (is_port g v p) _ t).1
 
-  second_by : (v p : ℕ) (ts : List ℕ) (ms : List Message) → All (λ t. t ≤ r) ts → length ts ≡ length ms → second_goes (w.node v) p ms ≡ true → is_by r (slice_get ts 1) ≡ true
+  second_by : (v p : ℕ) (ts : List ℕ) (ms : List Message) → All (λ t. t ≤ r) ts → length ts ≡ length ms → second_goes (w.node v) p ms ≡ true →
+      is_by r (slice_get ts 1) ≡ true
   second_by v p ts [] all many t = cc
   second_by v p ts (m ∷ []) all many t = cc
   second_by v p [] (m ∷ (k ∷ ms)) all many t = absurd (let z : 0 ≡ suc (suc (length ms)) = many in omega (arith, z))
@@ -121,17 +124,20 @@ module _ (g : Network) (may : ℕ → Bool) (w : Net) (c : Chains) (r : ℕ) (sa
   moving e there t = filter_has (moves_due may g w c r) (all_events g) e there
       (and_from (moves_on may g w e) (is_due c r e) t (due e (and_parts (is_lawful_under may g w e) _ t).0))
 
-  hiding : (e : Event) → Contains (all_events g) e → uncovers w e ≡ true → (moves_on may g w e ≡ true → ⊥) → Contains (filter (hides_due w c r) (all_events g)) e
+  hiding : (e : Event) → Contains (all_events g) e → uncovers w e ≡ true → (moves_on may g w e ≡ true → ⊥) →
+      Contains (filter (hides_due w c r) (all_events g)) e
   hiding (Wake v) there t none = cc
   hiding (Take v p) there t none =
       let lawful : is_lawful_under may g w (Take v p) ≡ true =
-      and_from (is_port g v p) (is_waiting (w.queue v p)) (is_port_of g v p (placed_of g (Take v p) there)) (second_there (w.node v) p (w.queue v p) t) in
+      and_from (is_port g v p) (is_waiting (w.queue v p)) (is_port_of g v p (placed_of g (Take v p) there))
+      (second_there (w.node v) p (w.queue v p) t) in
       let back : puts_back w (Take v p) ≡ true =
       ⊎_elim (λ z. z) (λ z. absurd (none (and_from _ (not (puts_back w (Take v p))) lawful (ap not z)))) (cases_Bool (puts_back w (Take v p))) in
       filter_has (hides_due w c r) (all_events g) (Take v p) there
       (and_from (puts_back w (Take v p)) _ back (second_by v p (c.queue v p) (w.queue v p) (by v p) (same.queue v p) t))
 
-  pub some_now : 0 < length (patient_events may g w) → 0 < length (or_else (filter (moves_due may g w c r) (all_events g)) (filter (hides_due w c r) (all_events g)))
+  pub some_now : 0 < length (patient_events may g w) →
+      0 < length (or_else (filter (moves_due may g w c r) (all_events g)) (filter (hides_due w c r) (all_events g)))
   some_now lt = go (filter (moves_on may g w) (all_events g)) refl lt
     where
       go : (es : List Event) → filter (moves_on may g w) (all_events g) ≡ es → 0 < length (or_else es (filter (uncovers w) (all_events g))) →
@@ -140,7 +146,8 @@ module _ (g : Network) (may : ℕ → Bool) (w : Net) (c : Chains) (r : ℕ) (sa
           let z = some_first (filter (uncovers w) (all_events g)) lt in
           let k = in_filter (uncovers w) (all_events g) z.0 z.1 in
           some_of _ _ z.0
-          (inr (hiding z.0 k.0 k.1 (λ t. nothing_in z.0 (subst (λ (es : List Event). Contains es z.0) is (filter_has (moves_on may g w) (all_events g) z.0 k.0 t)))))
+          (inr (hiding z.0 k.0 k.1
+          (λ t. nothing_in z.0 (subst (λ (es : List Event). Contains es z.0) is (filter_has (moves_on may g w) (all_events g) z.0 k.0 t)))))
       go (e ∷ es) is lt =
           let k = in_filter (moves_on may g w) (all_events g) e (subst (λ (fs : List Event). Contains fs e) (sym is) (first_in e es)) in
           some_of _ _ e (inl (moving e k.0 k.1))
@@ -167,7 +174,8 @@ settled s x are graph is_run law going clock choices fresh some is_clock is_choi
     })
 
 -- the first round, of a world that stands at its opening
-pub begun : (s : WorldState) (clock : ClockState) (choices : ChoicesState) (fresh : List Event) (g : Shape) → g ≡ s.net.graph → s.net.trace ≡ [] → Fits g clock.kept →
+pub begun : (s : WorldState) (clock : ClockState) (choices : ChoicesState) (fresh : List Event) (g : Shape) → g ≡ s.net.graph → s.net.trace ≡ [] →
+    Fits g clock.kept →
     seen clock.kept ≡ no_chains → AreChoices s clock choices → fresh ≡ [] → AreRounds s (record { clock = clock; choices = choices; fresh = fresh })
 begun s clock choices fresh g graph trace fits none are is_fresh = record {
   chains = none_are s.net clock.kept g (sym graph) trace fits none;

@@ -146,7 +146,8 @@ counts g w _ _ (Took v p m ms d at q r) stay fate up =
 acted_awake : (g : Shape) (w x : Net) (e : Event) → IsNetOf g w → Happens (network_of g) w e x → sleeps_at x (event_node e) ≡ false
 acted_awake g w _ _ n (Woke v d lo hi s r) =
     is_sleeping_not ((steps.reacted (network_of g) v d w).node v).head.phase
-    (subst (λ (y : NodeState). y.head.phase ≢ Sleeping) (sym (node_here (network_of g) v d w)) (row_awake (w.node v) works.Wake d (reaction_inverts (w.node v) works.Wake d tt r)))
+    (subst (λ (y : NodeState). y.head.phase ≢ Sleeping) (sym (node_here (network_of g) v d w))
+    (row_awake (w.node v) works.Wake d (reaction_inverts (w.node v) works.Wake d tt r)))
 acted_awake g w _ _ n (Took v p m ms d at q r) =
     is_sleeping_not ((steps.taken (network_of g) v p m ms d w).node v).head.phase
     (subst (λ (y : NodeState). y.head.phase ≢ Sleeping) (sym (taken_here (network_of g) v p m ms d w))
@@ -156,7 +157,8 @@ acted_awake g w _ _ n (Took v p m ms d at q r) =
 nobody_sleeps : (law : NodesStayAwake) (g : Shape) (w x : Net) (e : Event) (n : IsNetOf g w) → Happens (network_of g) w e x →
     (v : ℕ) → sleeps_at x v ≡ true → sleeps_at w v ≡ true
 nobody_sleeps law g w x e n h v is =
-    let later : IsLater g w x = record { graph = n.graph; events = n.events; further = e ∷ []; run = n.run; later = after_more (network_of g) n.events e w x n.run h } in
+    let later : IsLater g w x =
+    record { graph = n.graph; events = n.events; further = e ∷ []; run = n.run; later = after_more (network_of g) n.events e w x n.run h } in
     ⊎_elim (λ s. ap is_sleeping s) (λ up. absurd (law g w x later v up (sleeping_is (x.node v).head.phase is))) (asleep_or_not (w.node v).head.phase)
 
 -- where no event has happened nothing waits
@@ -175,7 +177,8 @@ at_most_twice : (n m : ℕ) (P : Type 0) → (suc n ≤ 2 * m) ⊎ ((n ≤ 2 * m
 at_most_twice n m P (inl le) = omega (arith, le)
 at_most_twice n m P (inr z) = z.0
 
-module _ (law : Promised) (rules : EventsHaveRules) (lasts : PatienceLasts) (may : ℕ → Bool) (g : Shape) (ok : IsGraph g) (turns : ℕ) (words : List ℕ) where
+module _ (law : Promised) (rules : EventsHaveRules) (lasts : PatienceLasts) (may : ℕ → Bool) (g : Shape) (ok : IsGraph g) (turns : ℕ)
+    (words : List ℕ) where
   module _ (es : List Event) (r : ℕ) (is : IsTold may g es r) (going : HasEnded g (net_after g es) → ⊥) (so_far : IsCounted may g es r) where
     abbrev w : Net
     w = net_after g es
@@ -186,8 +189,8 @@ module _ (law : Promised) (rules : EventsHaveRules) (lasts : PatienceLasts) (may
     n : IsNetOf g w
     n = of.is_net law rules lasts may g ok turns words es r is going
 
-    counted_moves : (e : Event) (there : HasPlace (network_of g) e) (lawful : is_lawful (network_of g) w e ≡ true) → moves_due may (network_of g) w c r e ≡ true →
-        IsCounted may g (es ++ e ∷ []) r
+    counted_moves : (e : Event) (there : HasPlace (network_of g) e) (lawful : is_lawful (network_of g) w e ≡ true) →
+        moves_due may (network_of g) w c r e ≡ true → IsCounted may g (es ++ e ∷ []) r
     counted_moves e there lawful moves =
         let x = of.x law rules lasts may g ok turns words es r is going e there lawful in
         let so = of.so law rules lasts may g ok turns words es r is going e there lawful in
@@ -195,7 +198,8 @@ module _ (law : Promised) (rules : EventsHaveRules) (lasts : PatienceLasts) (may
         let one : Counts w x e g.nodes =
         counts (network_of g) w x e so (nobody_sleeps law.awake g w x e n so)
         (λ v p d own answer.
-        let here : moves_due may (network_of g) w c r (Take v p) ≡ true = subst (λ (y : Event). moves_due may (network_of g) w c r y ≡ true) own moves in
+        let here : moves_due may (network_of g) w c r (Take v p) ≡ true =
+        subst (λ (y : Event). moves_due may (network_of g) w c r y ≡ true) own moves in
         moves_fate law may g w n c r is.timed v p d (subst (λ (y : Event). reaction (w.node v) (work_at w y) ≡ Some d) own answer) here)
         (acted_awake g w x e n so) in
         let paid = one.paid in
@@ -222,7 +226,8 @@ module _ (law : Promised) (rules : EventsHaveRules) (lasts : PatienceLasts) (may
         let t : Turns law may g w n c r is.timed v p d x =
         back_turns law may g w n c r is.timed v p there (of.same law rules lasts may g ok turns words es r is going) d x
         (of.answer law rules lasts may g ok turns words es r is going e there lawful) so hides in
-        let stay : (u : ℕ) → sleeps_at x u ≡ true → sleeps_at w u ≡ true = λ u s. subst (λ (y : NodeState). is_sleeping y.head.phase ≡ true) (t.node u) s in
+        let stay : (u : ℕ) → sleeps_at x u ≡ true → sleeps_at w u ≡ true =
+        λ u s. subst (λ (y : NodeState). is_sleeping y.head.phase ≡ true) (t.node u) s in
         let fewer = no_more w x stay g.nodes in
         let back = t.requeued in
         let before = so_far.paid in
@@ -279,7 +284,8 @@ module _ (law : Promised) (rules : EventsHaveRules) (lasts : PatienceLasts) (may
       let c = chains_of (network_of g) es in
       let z = picked may (network_of g) w c r s e pick in
       let lawful : is_lawful (network_of g) w e ≡ true = ((lawful_under may (network_of g) w e).0 (lawful_pick may (network_of g) w c r e z)).1 in
-      let one = in_either (filter (moves_due may (network_of g) w c r) (all_events (network_of g))) (filter (hides_due w c r) (all_events (network_of g))) e
+      let one =
+      in_either (filter (moves_due may (network_of g) w c r) (all_events (network_of g))) (filter (hides_due w c r) (all_events (network_of g))) e
       (picked_in (round_events may (network_of g) w c r) s e pick) in
       ⊎_elim
       (λ h. counted_moves es r is going so_far e z.0 lawful (in_filter (moves_due may (network_of g) w c r) (all_events (network_of g)) e h).1)
@@ -319,7 +325,8 @@ next_pick events words some =
 -- A run that hasn't ended can go on, so it has fewer events.
 pub runs_are_shorter : (law : Promised) → EventsHaveRules → PatienceLasts → TakesAreCounted → LedgerBalances → SendsWithinBound →
     (may : ℕ → Bool) (g : Shape) (ok : IsGraph g) (turns : ℕ) (words : List ℕ) → AllMayWake may g → (b : ℕ) → IsBound g.nodes (length g.keys) b →
-    (es : List Event) (r : ℕ) (s : List ℕ) → IsPickedByRounds may g turns words es r s → (HasEnded g (net_after g es) → ⊥) → length es < 2 * (b + g.nodes)
+    (es : List Event) (r : ℕ) (s : List ℕ) → IsPickedByRounds may g turns words es r s → (HasEnded g (net_after g es) → ⊥) →
+    length es < 2 * (b + g.nodes)
 runs_are_shorter law rules lasts takes balance sends may g ok turns words all b bound es r s by going = go (events_in may g es r) refl
   where
     same : IsPickedByRounds may g (turns + suc (length es)) words es r s

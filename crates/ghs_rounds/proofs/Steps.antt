@@ -46,8 +46,8 @@ use Rattle.ghs_chain.proofs.lemmas.Hears.{hears_node}
 use Rattle.ghs_rounds.proofs.Sending.{reacted_timely}
 use Rattle.ghs_rounds.proofs.Timing.{AreLate, HasCome, heard_is, hears_queue, late_all, late_append, sent_come, sent_node}
 
--- No number is greater than the round, nor a message's than the next; after round 0 nobody wakes by itself; and who hasn't the round's number yet hears of
--- nothing that gives it less.
+-- No number is greater than the round, nor a message's than the next; after round 0 nobody wakes by itself; and who hasn't the round's number yet
+-- hears of nothing that gives it less.
 pub record IsTimed (may : ℕ → Bool) (g : Network) (w : Net) (c : Chains) (r : ℕ) : Type 0 where
   pub within : IsWithin r (suc r) c
   pub woken : 1 ≤ r → (v : ℕ) → is_lawful_under may g w (Wake v) ≡ true → ⊥
@@ -72,13 +72,15 @@ module _ (g : Shape) (w : Net) (n : IsNetOf g w) where
       let lt = at.port in
       omega (arith, lt, many)
 
-module _ (law : Promised) (may : ℕ → Bool) (g : Shape) (w : Net) (n : IsNetOf g w) (c : Chains) (r : ℕ) (timed : IsTimed may (network_of g) w c r) where
+module _ (law : Promised) (may : ℕ → Bool) (g : Shape) (w : Net) (n : IsNetOf g w) (c : Chains) (r : ℕ)
+    (timed : IsTimed may (network_of g) w c r) where
   -- what moves the run on doesn't wait
   goes : (v p : ℕ) (m : Message) → waits (w.node v) p m ≡ false → Waits (w.node v) p m → ⊥
   goes v p m f z = both_ways (waits (w.node v) p m) f (waits_test (w.node v) p m z)
 
   -- and gives its node the round's number
-  module _ (e : Event) (d : Delta) (answer : reaction (w.node (event_node e)) (work_at w e) ≡ Some d) (moves : moves_due may (network_of g) w c r e ≡ true) where
+  module _ (e : Event) (d : Delta) (answer : reaction (w.node (event_node e)) (work_at w e) ≡ Some d)
+      (moves : moves_due may (network_of g) w c r e ≡ true) where
     abbrev asleep : Bool
     asleep = is_sleeping (w.node (event_node e)).head.phase
 
@@ -100,11 +102,13 @@ module _ (law : Promised) (may : ℕ → Bool) (g : Shape) (w : Net) (n : IsNetO
   fate_is v p d (m ∷ ms) at there goes_on answer = ⊎_elim
       (λ s. inr (ap is_sleeping s))
       (λ up. ⊎_elim inl
-      (λ back. absurd (goes v p m (not-true (waits (w.node v) p m) goes_on) ((law.requeues (w.node v) p m d (port_in g w n v p at) up answer).0 back)))
+      (λ back. absurd (goes v p m (not-true (waits (w.node v) p m) goes_on)
+      ((law.requeues (w.node v) p m d (port_in g w n v p at) up answer).0 back)))
       (fate_told d.fate))
       (asleep_or_not (w.node v).head.phase)
 
-  taken_is : (v p : ℕ) (d : Delta) (q : List Message) (ts : List ℕ) → At (network_of g) v p → is_waiting q ≡ true → not (first_waits (w.node v) p q) ≡ true →
+  taken_is : (v p : ℕ) (d : Delta) (q : List Message) (ts : List ℕ) → At (network_of g) v p → is_waiting q ≡ true →
+      not (first_waits (w.node v) p q) ≡ true →
       is_by r (slice_get ts 0) ≡ true → (c.node v ≡ r) ⊎ AreLate (w.node v) p r q ts → reaction (w.node v) (delivery p q) ≡ Some d →
       (taken v p (is_sleeping (w.node v).head.phase) d.fate ts c).node v ≡ r
   taken_is v p d [] ts at there goes_on by late answer = cc
@@ -115,8 +119,8 @@ module _ (law : Promised) (may : ℕ → Bool) (g : Shape) (w : Net) (n : IsNetO
       (⊎_elim inl (λ l. inr (l.1 (goes v p m (not-true (waits (w.node v) p m) goes_on)))) late) (fate_is v p d (m ∷ ms) at there goes_on answer)
 
   -- it is consumed, or wakes its node
-  pub moves_fate : (v p : ℕ) (d : Delta) → reaction (w.node v) (work_at w (Take v p)) ≡ Some d → moves_due may (network_of g) w c r (Take v p) ≡ true →
-      (d.fate ≡ Consumed) ⊎ (is_sleeping (w.node v).head.phase ≡ true)
+  pub moves_fate : (v p : ℕ) (d : Delta) → reaction (w.node v) (work_at w (Take v p)) ≡ Some d →
+      moves_due may (network_of g) w c r (Take v p) ≡ true → (d.fate ≡ Consumed) ⊎ (is_sleeping (w.node v).head.phase ≡ true)
   moves_fate v p d answer moves =
       let l = and_parts (is_port (network_of g) v p) (is_waiting (w.queue v p)) (lawful (Take v p) d answer moves) in
       fate_is v p d (w.queue v p) (at_of (network_of g) v p l.0) l.1 (stays (Take v p) d answer moves) answer
@@ -125,14 +129,16 @@ module _ (law : Promised) (may : ℕ → Bool) (g : Shape) (w : Net) (n : IsNetO
       (hears e (is_sleeping (w.node (event_node e)).head.phase) d.fate c).node (event_node e) ≡ r
   moves_give (Wake v) d answer moves =
       let le = timed.within.node v in
-      ⊎_elim (λ (z : r ≡ 0). omega (arith, z, le)) (λ (ne : r ≢ 0). absurd (timed.woken (omega (arith, ne)) v (lawful (Wake v) d answer moves))) (cases_eq r 0)
+      ⊎_elim (λ (z : r ≡ 0). omega (arith, z, le))
+      (λ (ne : r ≢ 0). absurd (timed.woken (omega (arith, ne)) v (lawful (Wake v) d answer moves))) (cases_eq r 0)
   moves_give (Take v p) d answer moves =
       let l = and_parts (is_port (network_of g) v p) (is_waiting (w.queue v p)) (lawful (Take v p) d answer moves) in
       let at = at_of (network_of g) v p l.0 in
       taken_is v p d (w.queue v p) (c.queue v p) at l.1 (stays (Take v p) d answer moves) (due (Take v p) d answer moves) (timed.late v p at) answer
 
   -- so it leaves the rest as it was
-  module _ (e : Event) (d : Delta) (x : Net) (h : Happens (network_of g) w e x) (same : SameLengths w c) (after : SameLengths x (reacted (network_of g) w e d c)) where
+  module _ (e : Event) (d : Delta) (x : Net) (h : Happens (network_of g) w e x) (same : SameLengths w c)
+      (after : SameLengths x (reacted (network_of g) w e d c)) where
     later : IsLater g w x
     later = record { graph = n.graph; events = n.events; further = e ∷ []; run = n.run; later = after_more (network_of g) n.events e w x n.run h }
 
@@ -155,9 +161,12 @@ module _ (law : Promised) (may : ℕ → Bool) (g : Shape) (w : Net) (n : IsNetO
     others_late : heard.node (event_node e) ≡ r → (u q : ℕ) → u ≢ event_node e → (c.node u ≡ r) ⊎ AreLate (w.node u) q r (w.queue u q) (c.queue u q) →
         ((reacted (network_of g) w e d c).node u ≡ r) ⊎ AreLate (x.node u) q r (x.queue u q) ((reacted (network_of g) w e d c).queue u q)
     others_late gives u q ne (inl is) =
-        inl (sent_node (network_of g) (event_node e) d.sends heard u ∙ hears_node e (is_sleeping (w.node (event_node e)).head.phase) d.fate c u ne ∙ is)
+        inl (sent_node (network_of g) (event_node e) d.sends heard u
+        ∙ hears_node e (is_sleeping (w.node (event_node e)).head.phase) d.fate c u ne ∙ is)
     others_late gives u q ne (inr late) =
-        let alone = law.others (network_of g) u (e ∷ []) w x (All-cons (λ e. event_node e ≢ u) e [] (λ z. ne (sym z)) (All-nil (λ e. event_node e ≢ u))) run_one in
+        let alone =
+        law.others (network_of g) u (e ∷ []) w x
+        (All-cons (λ e. event_node e ≢ u) e [] (λ z. ne (sym z)) (All-nil (λ e. event_node e ≢ u))) run_one in
         let came = alone.queue q in
         let nums : HasCome (suc (heard.node (event_node e))) (heard.queue u q) ((reacted (network_of g) w e d c).queue u q) =
         sent_come (network_of g) (event_node e) d.sends heard u q in
@@ -170,7 +179,8 @@ module _ (law : Promised) (may : ℕ → Bool) (g : Shape) (w : Net) (n : IsNetO
         let k = ap length came.1 ∙ length-append (w.queue u q) came.0 in
         let l = ap length queue ∙ length-append (c.queue u q) nums.came in
         omega (arith, a, b, k, l) in
-        inr (rw (alone.node, came.1, queue) (late_append (w.node u) q r (w.queue u q) (c.queue u q) came.0 nums.came late (same.queue u q) (late_all (w.node u) q r came.0 nums.came many all)))
+        inr (rw (alone.node, came.1, queue) (late_append (w.node u) q r (w.queue u q) (c.queue u q) came.0 nums.came late (same.queue u q)
+        (late_all (w.node u) q r came.0 nums.came many all)))
 
     pub timed_moves : reaction (w.node (event_node e)) (work_at w e) ≡ Some d → moves_due may (network_of g) w c r e ≡ true →
         IsTimed may (network_of g) x (reacted (network_of g) w e d c) r
@@ -186,7 +196,8 @@ module _ (law : Promised) (may : ℕ → Bool) (g : Shape) (w : Net) (n : IsNetO
         }
 
   -- What only puts its message back turns its queue: behind it stands one that is due, and doesn't wait.
-  module _ (v p : ℕ) (at : At (network_of g) v p) (m k : Message) (ks : List Message) (queue : w.queue v p ≡ m ∷ k ∷ ks) (waits_here : Waits (w.node v) p m)
+  module _ (v p : ℕ) (at : At (network_of g) v p) (m k : Message) (ks : List Message) (queue : w.queue v p ≡ m ∷ k ∷ ks)
+      (waits_here : Waits (w.node v) p m)
       (t u : ℕ) (us : List ℕ) (numbers : c.queue v p ≡ t ∷ u ∷ us) (by : u ≤ r) (same : SameLengths w c) (d : Delta) (x : Net)
       (answer : reaction (w.node v) (delivery p (w.queue v p)) ≡ Some d) (h : Happens (network_of g) w (Take v p) x) where
     turned : Turned w v p m (k ∷ ks) x
@@ -194,7 +205,8 @@ module _ (law : Promised) (may : ℕ → Bool) (g : Shape) (w : Net) (n : IsNetO
 
     d_is : d ≡ requeues (w.node v).head
     d_is = same_Some d (requeues (w.node v).head)
-        (sym answer ∙ ap (λ (l : List Message). reaction (w.node v) (delivery p l)) queue ∙ waits_reaction (w.node v) p m (port_in g w n v p at) waits_here)
+        (sym answer ∙ ap (λ (l : List Message). reaction (w.node v) (delivery p l)) queue
+        ∙ waits_reaction (w.node v) p m (port_in g w n v p at) waits_here)
 
     up : is_sleeping (w.node v).head.phase ≡ false
     up = is_sleeping_not (w.node v).head.phase (waits_awake (w.node v) p m waits_here)
@@ -254,7 +266,8 @@ module _ (law : Promised) (may : ℕ → Bool) (g : Shape) (w : Net) (n : IsNetO
     }
 
     goes_next : waits (w.node v) p k ≡ false
-    goes_next = ⊎_elim (λ z. absurd (law.one g w n v p at m k ks queue waits_here (waits_so (w.node v) p k z))) (λ z. z) (cases_Bool (waits (w.node v) p k))
+    goes_next =
+        ⊎_elim (λ z. absurd (law.one g w n v p at m k ks queue waits_here (waits_so (w.node v) p k z))) (λ z. z) (cases_Bool (waits (w.node v) p k))
 
     next_moves : moves_due may (network_of g) x (reacted (network_of g) w (Take v p) d c) r (Take v p) ≡ true
     next_moves =
@@ -311,15 +324,18 @@ module _ (law : Promised) (may : ℕ → Bool) (g : Shape) (w : Net) (n : IsNetO
     neither [] fs e = (refl, e)
     neither (x ∷ es) fs e = absurd (let z : x ∷ es ≡ [] = e in cc)
 
-    lists : (filter (moves_due may (network_of g) w c r) (all_events (network_of g)) ≡ []) × (filter (hides_due w c r) (all_events (network_of g)) ≡ [])
+    lists :
+        (filter (moves_due may (network_of g) w c r) (all_events (network_of g)) ≡ []) × (filter (hides_due w c r) (all_events (network_of g)) ≡ [])
     lists = neither _ _ over
 
     none_moves : (e : Event) → Contains (all_events (network_of g)) e → moves_due may (network_of g) w c r e ≡ true → ⊥
     none_moves e there z =
-        nothing_in e (subst (λ (es : List Event). Contains es e) lists.0 (filter_has (moves_due may (network_of g) w c r) (all_events (network_of g)) e there z))
+        nothing_in e (subst (λ (es : List Event). Contains es e) lists.0
+        (filter_has (moves_due may (network_of g) w c r) (all_events (network_of g)) e there z))
 
     none_hides : (e : Event) → Contains (all_events (network_of g)) e → hides_due w c r e ≡ true → ⊥
-    none_hides e there z = nothing_in e (subst (λ (es : List Event). Contains es e) lists.1 (filter_has (hides_due w c r) (all_events (network_of g)) e there z))
+    none_hides e there z =
+        nothing_in e (subst (λ (es : List Event). Contains es e) lists.1 (filter_has (hides_due w c r) (all_events (network_of g)) e there z))
 
     nobody : (v : ℕ) → is_lawful_under may (network_of g) w (Wake v) ≡ true → ⊥
     nobody v lawful =
@@ -332,7 +348,8 @@ module _ (law : Promised) (may : ℕ → Bool) (g : Shape) (w : Net) (n : IsNetO
       stands : Contains (all_events (network_of g)) (Take v p)
       stands = listed (network_of g) (Take v p) (is_port_of (network_of g) v p at)
 
-      first_later : (m : Message) (ms : List Message) (t : ℕ) (ts : List ℕ) → w.queue v p ≡ m ∷ ms → c.queue v p ≡ t ∷ ts → (Waits (w.node v) p m → ⊥) → suc r ≤ t
+      first_later : (m : Message) (ms : List Message) (t : ℕ) (ts : List ℕ) → w.queue v p ≡ m ∷ ms → c.queue v p ≡ t ∷ ts →
+          (Waits (w.node v) p m → ⊥) → suc r ≤ t
       first_later m ms t ts e f free = ⊎_elim
           (λ z. absurd (none_moves (Take v p) stands
           (and_from (moves_on may (network_of g) w (Take v p)) (is_due c r (Take v p))
@@ -344,7 +361,8 @@ module _ (law : Promised) (may : ℕ → Bool) (g : Shape) (w : Net) (n : IsNetO
           (λ z. leb-false t r z)
           (cases_Bool (nat_le t r))
 
-      second_later : (m : Message) (ms : List Message) (t u : ℕ) (us : List ℕ) → w.queue v p ≡ m ∷ ms → c.queue v p ≡ t ∷ u ∷ us → Waits (w.node v) p m → suc r ≤ u
+      second_later : (m : Message) (ms : List Message) (t u : ℕ) (us : List ℕ) → w.queue v p ≡ m ∷ ms → c.queue v p ≡ t ∷ u ∷ us →
+          Waits (w.node v) p m → suc r ≤ u
       second_later m ms t u us e f z = ⊎_elim
           (λ y. absurd (none_hides (Take v p) stands
           (and_from (puts_back w (Take v p)) (has_due_second c r (Take v p))
@@ -358,8 +376,10 @@ module _ (law : Promised) (may : ℕ → Bool) (g : Shape) (w : Net) (n : IsNetO
       all_later (m ∷ ms) e [] f l = absurd (let z : 0 ≡ suc (length ms) = l in omega (arith, z))
       all_later (m ∷ []) e (t ∷ ts) f l = ((λ z. tt), first_later m [] t ts e f)
       all_later (m ∷ (k ∷ ks)) e (t ∷ []) f l = absurd (let z : 1 ≡ suc (suc (length ks)) = l in omega (arith, z))
-      all_later (m ∷ (k ∷ ks)) e (t ∷ (u ∷ us)) f l =
-          ((λ z. ((λ y. absurd (law.one g w n v p at m k ks e z y)), (λ free. second_later m (k ∷ ks) t u us e f z))), first_later m (k ∷ ks) t (u ∷ us) e f)
+      all_later (m ∷ (k ∷ ks)) e (t ∷ (u ∷ us)) f l = (
+        (λ z. ((λ y. absurd (law.one g w n v p at m k ks e z y)), (λ free. second_later m (k ∷ ks) t u us e f z))),
+        first_later m (k ∷ ks) t (u ∷ us) e f,
+      )
 
     pub timed_next : IsTimed may (network_of g) w c (suc r)
     timed_next = record {

@@ -83,7 +83,8 @@ pub record IsTold (may : ℕ → Bool) (g : Shape) (es : List Event) (r : ℕ) :
   pub behind : AllMayWake may g →
       (r ≤ longest_chain (network_of g) es) ⊎ ((r ≤ suc (longest_chain (network_of g) es)) × (0 < length (events_in may g es r)))
 
-module _ (law : Promised) (rules : EventsHaveRules) (lasts : PatienceLasts) (may : ℕ → Bool) (g : Shape) (ok : IsGraph g) (turns : ℕ) (words : List ℕ) where
+module _ (law : Promised) (rules : EventsHaveRules) (lasts : PatienceLasts) (may : ℕ → Bool) (g : Shape) (ok : IsGraph g) (turns : ℕ)
+    (words : List ℕ) where
   module _ (es : List Event) (r : ℕ) (told : IsTold may g es r) (going : HasEnded g (net_after g es) → ⊥) where
     abbrev pub w : Net
     w = net_after g es
@@ -135,7 +136,8 @@ module _ (law : Promised) (rules : EventsHaveRules) (lasts : PatienceLasts) (may
       same_after : SameLengths x (reacted (network_of g) w e d c)
       same_after = subst (λ (y : Chains). SameLengths x y) chains_are (same_lengths (network_of g) more x run_more)
 
-      timed_more : IsTimed may (network_of g) x (reacted (network_of g) w e d c) r → IsTimed may (network_of g) (net_after g more) (chains_of (network_of g) more) r
+      timed_more : IsTimed may (network_of g) x (reacted (network_of g) w e d c) r →
+          IsTimed may (network_of g) (net_after g more) (chains_of (network_of g) more) r
       timed_more t = rw (net_is, chains_are) t
 
       own : event_node e < suc (network_of g).count
@@ -167,12 +169,14 @@ module _ (law : Promised) (rules : EventsHaveRules) (lasts : PatienceLasts) (may
           behind = λ all. inl longest;
         }
 
-    pub told_back : (e : Event) (there : HasPlace (network_of g) e) (lawful : is_lawful (network_of g) w e ≡ true) → hides_due w c r e ≡ true → IsTold may g (es ++ e ∷ []) r
+    pub told_back : (e : Event) (there : HasPlace (network_of g) e) (lawful : is_lawful (network_of g) w e ≡ true) → hides_due w c r e ≡ true →
+        IsTold may g (es ++ e ∷ []) r
     told_back (Wake v) there lawful hides = cc
     told_back (Take v p) there lawful hides =
         let e = Take v p in
         let t : Turns law may g w is_net c r told.timed v p (d e there lawful) (x e there lawful) =
-        back_turns law may g w is_net c r told.timed v p there same (d e there lawful) (x e there lawful) (answer e there lawful) (so e there lawful) hides in
+        back_turns law may g w is_net c r told.timed v p there same (d e there lawful) (x e there lawful) (answer e there lawful)
+        (so e there lawful) hides in
         record {
           is_run = (x e there lawful, run_more e there lawful);
           timed = timed_more e there lawful t.keeps;
@@ -180,8 +184,8 @@ module _ (law : Promised) (rules : EventsHaveRules) (lasts : PatienceLasts) (may
           behind = λ all. inr (
             longer e there lawful t.number (told.behind all),
             rw (net_is e there lawful, chains_are e there lawful)
-                (some_of _ _ e (filter_has (moves_due may (network_of g) (x e there lawful) (reacted (network_of g) w e (d e there lawful) c) r) (all_events (network_of g)) e
-                (listed (network_of g) e (is_port_of (network_of g) v p there)) t.next)),
+                (some_of _ _ e (filter_has (moves_due may (network_of g) (x e there lawful) (reacted (network_of g) w e (d e there lawful) c) r)
+                (all_events (network_of g)) e (listed (network_of g) e (is_port_of (network_of g) v p there)) t.next)),
           );
         }
       where
@@ -235,12 +239,14 @@ module _ (law : Promised) (rules : EventsHaveRules) (lasts : PatienceLasts) (may
       ⊎_elim (λ moves. told_moves es r so_far going e z.0 lawful moves) (λ hides. told_back es r so_far going e z.0 lawful hides) z.1
   told _ _ _ (Over es r s before going less over) = told_over es r (told es r s before) going over
 
-  pub rounds_are_chains : (es : List Event) (r : ℕ) (s : List ℕ) → IsPickedByRounds may g turns words es r s → HasEnded g (net_after g es) → longest_chain (network_of g) es ≡ r
+  pub rounds_are_chains : (es : List Event) (r : ℕ) (s : List ℕ) → IsPickedByRounds may g turns words es r s → HasEnded g (net_after g es) →
+      longest_chain (network_of g) es ≡ r
   rounds_are_chains es r s by ended =
       let t = told es r s by in
       let least = t.reached ended in
       let most = most_within (suc (network_of g).count) r (chains_of (network_of g) es).node t.timed.within.node in
       omega (arith, least, most)
 
-  pub rounds_are_near : (es : List Event) (r : ℕ) (s : List ℕ) → IsPickedByRounds may g turns words es r s → AllMayWake may g → r ≤ suc (longest_chain (network_of g) es)
+  pub rounds_are_near : (es : List Event) (r : ℕ) (s : List ℕ) → IsPickedByRounds may g turns words es r s → AllMayWake may g →
+      r ≤ suc (longest_chain (network_of g) es)
   rounds_are_near es r s by all = ⊎_elim (λ le. omega (arith, le)) (λ z. z.0) ((told es r s by).behind all)

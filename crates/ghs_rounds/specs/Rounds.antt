@@ -1,5 +1,5 @@
--- The events of a round. Each message takes one unit of time, and computing none: so one that ends a chain of r messages arrives in round r, and is due from
--- then on. In a run by rounds that is one more than the round in which it was sent.
+-- The events of a round. Each message takes one unit of time, and computing none: so one that ends a chain of r messages arrives in round r, and is
+-- due from then on. In a run by rounds that is one more than the round in which it was sent.
 use Rattle.std.specs.Prelude.{ℕ, Bool, true, false, ◌&&◌, nat_le, Option, Some, None, List, filter}
 use Rattle.std.specs.List.{slice_get}
 use Rattle.ghs_graph.specs.Graph.{Shape}
@@ -35,8 +35,8 @@ moves_due may g w c r e = moves_on may g w e && is_due c r e
 abbrev pub hides_due : Net → Chains → ℕ → Event → Bool
 hides_due w c r e = puts_back w e && has_due_second c r e
 
--- The events of round r: those that are due and move the run on; where there is none, those that put a message back before one that is due, which moves on
--- then. So the round is over when each message that has arrived by it was consumed, or waits, or stands behind one that hasn't arrived.
+-- The events of round r: those that are due and move the run on; where there is none, those that put a message back before one that is due, which
+-- moves on then. So the round is over when each message that has arrived by it was consumed, or waits, or stands behind one that hasn't arrived.
 abbrev pub round_events : (ℕ → Bool) → Network → Net → Chains → ℕ → List Event
 round_events may g w c r = or_else (filter (moves_due may g w c r) (all_events g)) (filter (hides_due w c r) (all_events g))
 

@@ -11,8 +11,8 @@ use Rattle.ghs_sched.specs.Schedule.{next_of}
 use Rattle.ghs_rounds.specs.Choices.{RoundsState, events_of}
 use Rattle.ghs_rounds.specs.Rounds.{events_in}
 
--- A schedule has picked the events of so many rounds, and has this state then: each where the run hadn't ended and turns were left, of the events of its
--- round; and where a round had none left, and the run hadn't ended, the next round began. Round 0 has the wakes.
+-- A schedule has picked the events of so many rounds, and has this state then: each where the run hadn't ended and turns were left, of the events of
+-- its round; and where a round had none left, and the run hadn't ended, the next round began. Round 0 has the wakes.
 pub data IsPickedByRounds (may : ℕ → Bool) (g : Shape) (turns : ℕ) (words : List ℕ) : List Event → ℕ → List ℕ → Type 0 where
   Begun : IsPickedByRounds may g turns words [] 0 words
   Picked : (es : List Event) (r : ℕ) (s : List ℕ) (e : Event) → IsPickedByRounds may g turns words es r s →
@@ -22,8 +22,8 @@ pub data IsPickedByRounds (may : ℕ → Bool) (g : Shape) (turns : ℕ) (words 
       (HasEnded g (net_after g es) → ⊥) → length es < turns → events_in may g es r ≡ [] →
       IsPickedByRounds may g turns words es (suc r) s
 
--- A world has run from its opening on by rounds: graph, wake set and turns stay, nothing is out, each event has used one ticket number, and the schedule
--- has picked the trace, in so many rounds, and no more.
+-- A world has run from its opening on by rounds: graph, wake set and turns stay, nothing is out, each event has used one ticket number, and the
+-- schedule has picked the trace, in so many rounds, and no more.
 pub record HasRun (old new : WorldState) (words after : List ℕ) (rounds : ℕ) : Type 0 where
   pub graph : new.net.graph ≡ old.net.graph
   pub wake : new.wake ≡ old.wake

@@ -132,7 +132,7 @@ impl Choices {
         }
     }
 
-    // Marks the Takes at the far ends of what node `v` has sent.
+    /// Marks the Takes at the far ends of what node `v` has sent.
     fn mark_far(&mut self, world: &World, clock: &Clock, v: u32, sends: &[(u32, Message)])
         requires home { world.now.outs ≡ [] }
         requires fits { Fits world.now.net.graph clock.now.kept }
@@ -150,7 +150,7 @@ impl Choices {
         }
     }
 
-    // Marks the Takes of a node.
+    /// Marks the Takes of a node.
     fn mark_ports(&mut self, world: &World, clock: &Clock, v: u32)
         requires home { world.now.outs ≡ [] }
         requires fits { Fits world.now.net.graph clock.now.kept }
@@ -166,7 +166,7 @@ impl Choices {
         }
     }
 
-    // Marks one event.
+    /// Marks one event.
     fn mark(&mut self, world: &World, clock: &Clock, event: Event)
         requires home { world.now.outs ≡ [] }
         requires fits { Fits world.now.net.graph clock.now.kept }
@@ -180,7 +180,7 @@ impl Choices {
     }
 }
 
-// Whether an event is lawful under the wake set, moves the run on, and is due.
+/// Whether an event is lawful under the wake set, moves the run on, and is due.
 fn moves_on(world: &World, clock: &Clock, event: Event) -> bool
     requires home { world.now.outs ≡ [] }
     requires fits { Fits world.now.net.graph clock.now.kept }
@@ -190,7 +190,7 @@ fn moves_on(world: &World, clock: &Clock, event: Event) -> bool
     world.is_ready(event) && !puts_back(world.net(), event) && clock.is_due(event)
 }
 
-// Whether an event only puts its message back, before one that is due.
+/// Whether an event only puts its message back, before one that is due.
 fn hides(world: &World, clock: &Clock, event: Event) -> bool
     requires home { world.now.outs ≡ [] }
     requires fits { Fits world.now.net.graph clock.now.kept }

@@ -79,7 +79,7 @@ impl Clock {
         }
     }
 
-    // Whether there is a number, and no greater than the round.
+    /// Whether there is a number, and no greater than the round.
     fn is_by(&self, number: Option<u64>) -> bool
         ensures { result ≡ is_by self.now.round number }
     {

@@ -119,8 +119,8 @@ impl Rounds {
         Ok(())
     }
 
-    // The clock hears of an event before it happens, by what its node, asleep or not, will do, and what will be sent is
-    // noted. Refusal: want of memory; the round is then of no use.
+    /// The clock hears of an event before it happens, by what its node, asleep or not, will do, and what will be sent is
+    /// noted. Refusal: want of memory; the round is then of no use.
     fn hear(
         &mut self,
         world: &World,
@@ -146,7 +146,7 @@ impl Rounds {
     }
 }
 
-// The Takes at the far ends of what node `v` sends are noted as those of messages sent within the round.
+/// The Takes at the far ends of what node `v` sends are noted as those of messages sent within the round.
 fn note(
     fresh: &mut Vec<Event>,
     graph: &Graph,

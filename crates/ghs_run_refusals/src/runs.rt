@@ -6,7 +6,7 @@ use ghs_board::progress::Progress;
 use ghs_core::event::Event;
 use ghs_graph::graph::Graph;
 use ghs_patient::run::run_patient;
-use ghs_picking::picking::{Picking, run_by_seed};
+use ghs_picking::picking::{ScheduleKind, run_by_seed};
 use ghs_pool::end::PoolFault;
 use ghs_pool::gate::OpenGate;
 use ghs_pool::shop::Shop;
@@ -131,20 +131,20 @@ fn patient(rt: &impl Abort, alloc: Global, k: usize) -> Turn {
 fn go_by_seed(
     rt: &impl Abort,
     alloc: Global,
-    picking: Picking,
+    schedule_kind: ScheduleKind,
     k: usize,
 ) -> (World, Turn, Option<RunFault>) {
     let graph = five(alloc).expect(rt, "a graph");
     let world = World::open(alloc, graph, WakeSet::All, EVENT_LIMIT).ok();
     let mut world = world.expect(rt, "a world");
     order(alloc, k);
-    let answer = run_by_seed(alloc, &mut world, picking, 7);
+    let answer = run_by_seed(alloc, &mut world, schedule_kind, 7);
     (world, turn_of(alloc, k, &answer), answer.err())
 }
 
 /// The same; stopped, it goes on.
-fn by_seed(rt: &impl Abort, alloc: Global, picking: Picking, k: usize) -> Turn {
-    let (mut world, turn, fault) = go_by_seed(rt, alloc, picking, k);
+fn by_seed(rt: &impl Abort, alloc: Global, schedule_kind: ScheduleKind, k: usize) -> Turn {
+    let (mut world, turn, fault) = go_by_seed(rt, alloc, schedule_kind, k);
     assert_sound(rt, alloc, &world, &[]);
     if is_stopped(rt, fault) {
         end_run(rt, alloc, &mut world, &mut Schedule::seeded(7));
@@ -196,16 +196,16 @@ fn refuse_picking<R: Print + Abort>(
     rt: &R,
     alloc: Global,
     name: &str,
-    picking: Picking,
+    schedule_kind: ScheduleKind,
 ) -> Result<(), Fail> {
-    refuse(rt, alloc, name, |k| by_seed(rt, alloc, picking, k))
+    refuse(rt, alloc, name, |k| by_seed(rt, alloc, schedule_kind, k))
 }
 
 #[test]
 fn runs_by_seed(host: HostRuntime) -> Result<(), Fail> {
     let (rt, alloc) = (&host, host.alloc());
-    refuse_picking(rt, alloc, "run_by_seed", Picking::Patient)?;
-    refuse_picking(rt, alloc, "run_by_seed(lifo)", Picking::Lifo)
+    refuse_picking(rt, alloc, "run_by_seed", ScheduleKind::Patient)?;
+    refuse_picking(rt, alloc, "run_by_seed(lifo)", ScheduleKind::Lifo)
 }
 
 /// A run of so many workers, with the k-th allocation refused.
@@ -244,7 +244,7 @@ fn end_by_workers<R: Threads + Wait + Sync + Abort>(
 }
 
 /// The same from what stands, with something out; stopped, it goes on again. That a thread couldn't be started is counted.
-fn work<R: Threads + Wait + Sync + Abort>(
+fn work_unwatched<R: Threads + Wait + Sync + Abort>(
     rt: &R,
     alloc: Global,
     workers: u32,
@@ -303,7 +303,12 @@ fn refuse_workers<R: Threads + Wait + Sync + Print + Abort>(
     workers: u32,
 ) -> Result<(), Fail> {
     let unstarted = AtomicU64::new(0);
-    refuse(rt, alloc, name, |k| work(rt, alloc, workers, &unstarted, k))?;
+    refuse(
+        rt,
+        alloc,
+        name,
+        |k| work_unwatched(rt, alloc, workers, &unstarted, k),
+    )?;
     assert!(rt; workers > 1 || unstarted.load(Ordering::SeqCst) <= 1);
     Ok(())
 }

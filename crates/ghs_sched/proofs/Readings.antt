@@ -67,7 +67,8 @@ found_sound : (ls : List Line) (head : Option ℕ) → AreSound judge ls → hea
 found_sound ls None sound e = inr (record { sound = sound; none = e }, refl)
 found_sound ls (Some said) sound e = counted ls said (said == length (events_in ls)) sound e refl
 
-found_at : (ls : List Line) (o : Option TraceFault) → FirstBelow judge of_line ls (length ls) o → LinesAre ls (or_fault o (sound_lines ls (head_in ls)))
+found_at : (ls : List Line) (o : Option TraceFault) → FirstBelow judge of_line ls (length ls) o →
+    LinesAre ls (or_fault o (sound_lines ls (head_in ls)))
 found_at ls None h = found_sound ls (head_in ls) h refl
 found_at ls (Some g) h = subst (HaveFault ls) (sym h.3) (HaveFault-of_line ls h.1 h.0 h.2)
 

@@ -51,11 +51,13 @@ lawful_at g may es j d is_run lt =
     let n = network_of g in
     let e = get_or es j d in
     let cut : es ≡ take j es ++ e ∷ drop (suc j) es = split_at es j d lt in
-    let whole : run n (take j es ++ e ∷ drop (suc j) es) (opening n) ≡ Some is_run.0.0 = subst (λ fs. run n fs (opening n) ≡ Some is_run.0.0) cut is_run.0.1 in
+    let whole : run n (take j es ++ e ∷ drop (suc j) es) (opening n) ≡ Some is_run.0.0 =
+    subst (λ fs. run n fs (opening n) ≡ Some is_run.0.0) cut is_run.0.1 in
     let may_e : MayWake may e = is_run.1 j d lt in
     run_splits n (take j es) (e ∷ drop (suc j) es) (opening n) is_run.0.0 whole (λ x front rest.
     both_some (happens n x e) (λ y. run n (drop (suc j) es) y) is_run.0.0 rest (λ y here _.
-    subst (λ w. is_lawful_under may n w e ≡ true) (sym (net_after_is g (take j es) x front)) ((lawful_under may n x e).1 (may_e, lawful_if n x y e here))))
+    subst (λ w. is_lawful_under may n w e ≡ true) (sym (net_after_is g (take j es) x front))
+    ((lawful_under may n x e).1 (may_e, lawful_if n x y e here))))
 
 slice_get-some : (es : List Event) (j : ℕ) (e : Event) → slice_get es j ≡ Some e → (j < length es) × (get_or es j e ≡ e)
 slice_get-some [] j e h = cc
@@ -63,8 +65,10 @@ slice_get-some (x ∷ es) zero e h = (omega arith, same_Some x e h)
 slice_get-some (x ∷ es) (suc j) e h = let rest = slice_get-some es j e h in (omega (arith, rest.0), rest.1)
 
 -- so a run has none that isn't
-pub never_unlawful : (g : Shape) (wake : WakeSet) (es : List Event) (k : ℕ) → IsRunUnder (may_wake g wake) (network_of g) es → IsFirstUnlawful g wake es k → ⊥
+pub never_unlawful : (g : Shape) (wake : WakeSet) (es : List Event) (k : ℕ) → IsRunUnder (may_wake g wake) (network_of g) es →
+    IsFirstUnlawful g wake es k → ⊥
 never_unlawful g wake es k is_run first =
     let at = slice_get-some es (k - 1) first.event first.here in
     let lawful = lawful_at g (may_wake g wake) es (k - 1) first.event is_run at.0 in
-    false≢true (sym first.unlawful ∙ subst (λ e. is_lawful_under (may_wake g wake) (network_of g) (net_after g (take (k - 1) es)) e ≡ true) at.1 lawful)
+    false≢true (sym first.unlawful
+    ∙ subst (λ e. is_lawful_under (may_wake g wake) (network_of g) (net_after g (take (k - 1) es)) e ≡ true) at.1 lawful)

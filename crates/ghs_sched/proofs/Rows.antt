@@ -23,7 +23,9 @@ two_events = refl
 
 -- texts read
 
-says : meanings (line (codes " trace 007") ++ line [] ++ line (codes "wake x") ++ line (codes "take 1 0") ++ codes "take 1") ≡ Head (Some 7) ∷ Passed ∷ Wake None ∷ Take (Some 1) (Some 0) ∷ Malformed ∷ []
+says :
+    meanings (line (codes " trace 007") ++ line [] ++ line (codes "wake x") ++ line (codes "take 1 0") ++ codes "take 1") ≡
+    Head (Some 7) ∷ Passed ∷ Wake None ∷ Take (Some 1) (Some 0) ∷ Malformed ∷ []
 says = refl
 
 nothing : slow_text [] ≡ Err (BadLine 1)
@@ -35,7 +37,8 @@ no_fields = refl
 head_alone : slow_text (codes "trace 0") ≡ Ok []
 head_alone = refl
 
-events_read : slow_text (line [] ++ line (codes "trace 2") ++ line (codes "wake 01") ++ line [] ++ codes "take 1 0") ≡ Ok (event.Wake 1 ∷ event.Take 1 0 ∷ [])
+events_read :
+    slow_text (line [] ++ line (codes "trace 2") ++ line (codes "wake 01") ++ line [] ++ codes "take 1 0") ≡ Ok (event.Wake 1 ∷ event.Take 1 0 ∷ [])
 events_read = refl
 
 none_found : slow_text (codes "trace 1") ≡ Err (Count 1 0)

@@ -17,7 +17,8 @@ lawful_events may g es = filter (is_lawful_under may (network_of g) (net_after g
 abbrev pub IsPick : List Event → List ℕ → Event → Type 0
 IsPick events words e = (0 < length events) × (slice_get events (word_of words % length events) ≡ Some e)
 
--- A schedule has picked the events by which a trace has grown, and has this state then: each where the run hadn't ended and turns were left, of the events that were lawful there.
+-- A schedule has picked the events by which a trace has grown, and has this state then: each where the run hadn't ended and turns were left,
+-- of the events that were lawful there.
 pub data IsPicked (may : ℕ → Bool) (g : Shape) (turns : ℕ) (trace : List Event) (words : List ℕ) : List Event → List ℕ → Type 0 where
   Begun : IsPicked may g turns trace words trace words
   Picked : (es : List Event) (s : List ℕ) (e : Event) → IsPicked may g turns trace words es s →
@@ -33,7 +34,8 @@ pub record IsSeededRun (may : ℕ → Bool) (g : Shape) (turns : ℕ) (trace : L
   pub picked : IsPicked may g turns trace words es s
   pub over : IsOver may g turns es
 
--- of two lists that a schedule has picked from one trace on the longer begins with the other; where they have one length, the schedule's states are the same too
+-- of two lists that a schedule has picked from one trace on the longer begins with the other; where they have one length,
+-- the schedule's states are the same too
 pub record PicksAgree (es fs : List Event) (s t : List ℕ) : Type 0 where
   pub begins : length es ≤ length fs → take (length es) fs ≡ es
   pub state : length es ≡ length fs → s ≡ t

@@ -5,7 +5,7 @@ ghost use Rattle.std.specs.Prelude.{◌≡◌, ◌≤◌, ◌^◌, All, IfOk, le
 
 use ghs_core::event::Event;
 use ghs_graph::graph::Graph;
-use ghs_picking::picking::Picking;
+use ghs_picking::picking::ScheduleKind;
 use ghs_refusing::orders::{Turn, order, refuse, turn_of};
 use ghs_refusing::scenes::{events_of_run, five, is_five, stands, world_after};
 use ghs_sched::trace::EVENT_LIMIT;
@@ -14,7 +14,7 @@ use ghs_sweep::figures::{Figures, figures_of};
 use ghs_sweep::front::{bare_front, front_of};
 use ghs_sweep::line::put_line;
 use ghs_sweep::lines::put_runs;
-use ghs_sweep::runs::run_on;
+use ghs_sweep::runs::run_seeds;
 use ghs_sweep::seeded::{Setup, figures_of_seed};
 use ghs_sweep::summary::put_summary;
 use ghs_view::stored::{StoredFault, stored_page};
@@ -26,7 +26,7 @@ use std::test::Fail;
 use std::thread::Threads;
 
 const SETUP: Setup = Setup {
-    picking: Picking::Patient,
+    schedule_kind: ScheduleKind::Patient,
     wake: WakeSet::All,
     turns: EVENT_LIMIT,
 };
@@ -109,7 +109,7 @@ fn first_runs<R: Threads + Sync>(
     ensures small { IfOk result (λ runs. All HasSmallWeight runs.items) }
 {
     let mut runs = Vec::new(alloc);
-    run_on(rt, alloc, graph, setup, 1, &mut runs, count, 1)?;
+    run_seeds(rt, alloc, graph, setup, 1, &mut runs, count, 1)?;
     Ok(runs)
 }
 
@@ -125,7 +125,7 @@ fn sweep_on<R: Threads + Sync + Abort>(rt: &R, alloc: Global, threads: u32, k: u
     ];
     let mut runs = first_runs(rt, alloc, &graph, SETUP, 1).expect(rt, "a run");
     order(alloc, k);
-    let answer = run_on(rt, alloc, &graph, SETUP, 1, &mut runs, 3, threads);
+    let answer = run_seeds(rt, alloc, &graph, SETUP, 1, &mut runs, 3, threads);
     let turn = turn_of(alloc, k, &answer);
     let stand = if turn == Turn::Refused { 1 } else { 4 };
     assert!(rt; runs.len() == stand && runs.as_slice() == &four[..stand]);
@@ -215,7 +215,7 @@ fn pages_and_figures(host: HostRuntime) -> Result<(), Fail> {
 #[test]
 fn sweeps(host: HostRuntime) -> Result<(), Fail> {
     let (rt, alloc) = (&host, host.alloc());
-    for (name, threads) in [("run_on(1)", 1u32), ("run_on(2)", 2)] {
+    for (name, threads) in [("run_seeds(1)", 1u32), ("run_seeds(2)", 2)] {
         refuse(rt, alloc, name, |k| sweep_on(rt, alloc, threads, k))?;
     }
     for (name, sheet) in [

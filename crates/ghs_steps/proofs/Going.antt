@@ -26,8 +26,8 @@ pub trace_more : (s new : NetState) (es : List Event) (i : ℕ) (d : Event) → 
     new.trace ≡ take (i + 1) es
 trace_more s new es i d trace lt more = more ∙ (ap (λ (fs : List Event). fs ++ get_or es i d ∷ []) trace ∙ sym (take_more es i d lt))
 
-pub out_shown : (old now : Option (List ℕ)) (form : Form) (g : Shape) (c : Choice) (es : List Event) (i gone : ℕ) (d : Event) (s : NetState) (rest rest' : List ℕ) →
-    s.graph ≡ g → s.trace ≡ take i es → i < length es → IsOut old now (lines form g (take i es) c) gone rest →
+pub out_shown : (old now : Option (List ℕ)) (form : Form) (g : Shape) (c : Choice) (es : List Event) (i gone : ℕ) (d : Event) (s : NetState)
+    (rest rest' : List ℕ) → s.graph ≡ g → s.trace ≡ take i es → i < length es → IsOut old now (lines form g (take i es) c) gone rest →
     rest' ≡ rest ++ shown form s.graph s.trace (get_or es i d) c →
     IsOut old now (lines form g (take (i + 1) es) c) gone rest'
 out_shown old now form g c es i gone d s rest rest' graph trace lt out more =

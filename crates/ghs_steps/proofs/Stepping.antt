@@ -80,7 +80,9 @@ lawful_here g es i d is_run lt =
     (if_some (is_lawful n x e) (effect n x e) y here (λ lawful _. lawful))))
 
 -- the line of a step, from what is at hand
-pub put_is : (f : Form) (g : Shape) (done : List Event) (e : Event) (d : Delta) (new : NetState) (n : NodeState) (number total : ℕ) (far : Option ℕ) (k : Work)
+pub put_is :
+    (f : Form) (g : Shape) (done : List Event) (e : Event) (d : Delta) (new : NetState) (n : NodeState) (number total : ℕ)
+    (far : Option ℕ) (k : Work)
     (r : RowName) (cs : List Change) (ss : List Sent) → n ≡ (net_after g done).node (event_node e) →
     reaction ((net_after g done).node (event_node e)) (work_at (net_after g done) e) ≡ Some d → new.graph ≡ g → new.trace ≡ done ++ e ∷ [] →
     number ≡ length done + 1 → total ≡ in_all (net_of new).sent → far ≡ event_far g e → k ≡ work_at (net_after g done) e →

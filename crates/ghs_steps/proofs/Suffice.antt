@@ -51,10 +51,11 @@ delta_is : (n : NodeState) (k : Work) (d : Delta) → reaction n k ≡ Some d �
 delta_is n k d r = ap (λ o. unwrap_or o (requeues n.head)) r
 
 -- a step's line, applied to the state before its event, gives the state after it
-step_made : (g : Shape) (done : List Event) (e : Event) (w w' : Net) → net_after g done ≡ w → IsWellFormed (network_of g) w → Happens (network_of g) w e w' →
-    apply_step (state_of w) (step g done e) ≡ state_of w'
+step_made : (g : Shape) (done : List Event) (e : Event) (w w' : Net) → net_after g done ≡ w → IsWellFormed (network_of g) w →
+    Happens (network_of g) w e w' → apply_step (state_of w) (step g done e) ≡ state_of w'
 step_made g done _ w _ is_net formed (Woke v d lo hi s r) =
-    ap (λ (x : Net). arrive (change_at v (changes (x.node v) (delta_of (x.node v) Wake)) (state_of w)) (map (sent_by g v) (delta_of (x.node v) Wake).sends)) is_net
+    ap (λ (x : Net). arrive (change_at v (changes (x.node v) (delta_of (x.node v) Wake)) (state_of w))
+    (map (sent_by g v) (delta_of (x.node v) Wake).sends)) is_net
     ∙ (ap (λ (y : Delta). arrive (change_at v (changes (w.node v) y) (state_of w)) (map (sent_by g v) y.sends)) (delta_is (w.node v) Wake d r)
     ∙ reaction_made g v Wake d w w refl tt r)
 step_made g done _ w _ is_net formed (Took v p m ms d at q r) =
@@ -68,7 +69,8 @@ step_made g done _ w _ is_net formed (Took v p m ms d at q r) =
     let there : told (work_at w (events.Take v p)) (w.node v) (w.queue v p) ≡ told (Deliver p m) (w.node v) (m ∷ ms) = rw q refl in
     let with_d : told (Deliver p m) (w.node v) (m ∷ ms) ≡
     arrive (change_at v (changes (w.node v) d) (state_of (take_first d.fate v p m ms w))) (map (sent_by g v) d.sends) =
-    ap (λ (y : Delta). arrive (change_at v (changes (w.node v) y) (record (state_of w) { queue = put_at w.queue v p (left_of y.fate m ms) })) (map (sent_by g v) y.sends))
+    ap (λ (y : Delta). arrive (change_at v (changes (w.node v) y) (record (state_of w) { queue = put_at w.queue v p (left_of y.fate m ms) }))
+    (map (sent_by g v) y.sends))
     (delta_is (w.node v) (Deliver p m) d r) in
     at_w ∙ (there ∙ (with_d ∙ reaction_made g v (Deliver p m) d w (take_first d.fate v p m ms w) refl port r))
 

@@ -48,7 +48,7 @@ pub fn changes(alloc: Global, node: &Node, delta: &Delta) -> Result<Vec<Change>,
     Ok(list)
 }
 
-// What the node knows of its fragment, and how many Reports it waits for.
+/// What the node knows of its fragment, and how many Reports it waits for.
 fn note_fragment(list: &mut Vec<Change>, old: &Head, new: &Head) -> Result<(), AllocError>
     ensures { IfOk result (λ _. list.new.items ≡ list.old.items ++ fragment_changes old.now new.now) }
 {
@@ -71,7 +71,7 @@ fn note_fragment(list: &mut Vec<Change>, old: &Head, new: &Head) -> Result<(), A
     Ok(())
 }
 
-// Its ports in the search, and whether it has halted.
+/// Its ports in the search, and whether it has halted.
 fn note_search(list: &mut Vec<Change>, old: &Head, new: &Head) -> Result<(), AllocError>
     ensures { IfOk result (λ _. list.new.items ≡ list.old.items ++ search_changes old.now new.now) }
 {
@@ -90,14 +90,14 @@ fn note_search(list: &mut Vec<Change>, old: &Head, new: &Head) -> Result<(), All
     Ok(())
 }
 
-// Whether the node hasn't halted, or had before.
+/// Whether the node hasn't halted, or had before.
 fn has_not_just_halted(old: &Head, new: &Head) -> bool
     ensures { result ≡ (old.now.halted || not new.now.halted) }
 {
     old.halted || !new.halted
 }
 
-// The change, unless it is none.
+/// The change, unless it is none.
 #[tactic(auto, unfolding(crate::specs::Changes::unless))]
 fn note(list: &mut Vec<Change>, same: bool, change: Change) -> Result<(), AllocError>
     ensures { IfOk result (λ _. list.new.items ≡ list.old.items ++ unless same change) }

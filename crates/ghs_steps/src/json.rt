@@ -55,7 +55,7 @@ fn put_work(text: &mut Vec<u8>, work: &Work) -> Result<(), AllocError>
     }
 }
 
-// The row, and what becomes of the message.
+/// The row, and what becomes of the message.
 #[tactic(auto, unfolding(crate::specs::Json::row_members))]
 fn put_row(text: &mut Vec<u8>, work: &Work, row: RowName, fate: Fate) -> Result<(), AllocError>
     ensures { IfOk result (λ _. text.new.items ≡ text.old.items ++ row_members work.now row fate) }
@@ -72,7 +72,7 @@ fn put_row(text: &mut Vec<u8>, work: &Work, row: RowName, fate: Fate) -> Result<
     }
 }
 
-// The mark and the variables that differ.
+/// The mark and the variables that differ.
 #[tactic(auto, unfolding(crate::specs::Json::change_members))]
 fn put_changes(text: &mut Vec<u8>, changes: &[Change]) -> Result<(), AllocError>
     ensures { IfOk result (λ _. text.new.items ≡ text.old.items ++ change_members changes.now) }
@@ -111,7 +111,7 @@ pub(crate) fn put_each_change(text: &mut Vec<u8>, changes: &[Change]) -> Result<
     }
 }
 
-// Each behind a comma.
+/// Each behind a comma.
 #[tactic(auto, unfolding(crate::specs::Json::behind_comma))]
 fn put_other_changes(text: &mut Vec<u8>, changes: &[Change]) -> Result<(), AllocError>
     ensures { IfOk result (λ _. text.new.items ≡ text.old.items ++ flat_map (behind_comma (change_member [])) changes.now) }
@@ -123,7 +123,7 @@ fn put_other_changes(text: &mut Vec<u8>, changes: &[Change]) -> Result<(), Alloc
     Ok(())
 }
 
-// One mark or variable, with its new value.
+/// One mark or variable, with its new value.
 #[tactic(auto, unfolding(crate::specs::Json::change_member, crate::specs::Json::member))]
 fn put_change(text: &mut Vec<u8>, lead: &[u8], change: &Change) -> Result<(), AllocError>
     ensures { IfOk result (λ _. text.new.items ≡ text.old.items ++ change_member lead.now change.now) }
@@ -176,7 +176,7 @@ fn put_sends_member(text: &mut Vec<u8>, sends: &[Sent]) -> Result<(), AllocError
     text.extend_from_slice(b"]")
 }
 
-// The messages that go out, with a comma between each and the next.
+/// The messages that go out, with a comma between each and the next.
 #[tactic(auto, unfolding(crate::specs::Json::listed))]
 fn put_sends(text: &mut Vec<u8>, sends: &[Sent]) -> Result<(), AllocError>
     ensures { IfOk result (λ _. text.new.items ≡ text.old.items ++ listed send_json sends.now) }
@@ -190,7 +190,7 @@ fn put_sends(text: &mut Vec<u8>, sends: &[Sent]) -> Result<(), AllocError>
     }
 }
 
-// Each behind a comma.
+/// Each behind a comma.
 #[tactic(auto, unfolding(crate::specs::Json::behind_comma))]
 fn put_other_sends(text: &mut Vec<u8>, sends: &[Sent]) -> Result<(), AllocError>
     ensures { IfOk result (λ _. text.new.items ≡ text.old.items ++ flat_map (behind_comma send_json) sends.now) }
@@ -202,7 +202,7 @@ fn put_other_sends(text: &mut Vec<u8>, sends: &[Sent]) -> Result<(), AllocError>
     Ok(())
 }
 
-// One message that goes out.
+/// One message that goes out.
 #[tactic(auto, unfolding(crate::specs::Json::send_json))]
 fn put_send(text: &mut Vec<u8>, send: &Sent) -> Result<(), AllocError>
     ensures { IfOk result (λ _. text.new.items ≡ text.old.items ++ send_json send.now) }
@@ -249,7 +249,7 @@ pub(crate) fn put_message(
     }
 }
 
-// What stands before a member, and its name.
+/// What stands before a member, and its name.
 fn put_name(text: &mut Vec<u8>, lead: &[u8], name: &[u8]) -> Result<(), AllocError>
     ensures { IfOk result (λ _. text.new.items ≡ text.old.items ++ lead.now ++ codes "\"" ++ name.now ++ codes "\":") }
 {
@@ -376,7 +376,7 @@ fn put_number_or_null(text: &mut Vec<u8>, number: Option<u32>) -> Result<(), All
     }
 }
 
-// A port and its mark.
+/// A port and its mark.
 #[tactic(auto, unfolding(crate::specs::Json::pair))]
 fn put_pair(text: &mut Vec<u8>, port: u32, mark: &[u8]) -> Result<(), AllocError>
     ensures { IfOk result (λ _. text.new.items ≡ text.old.items ++ pair port mark.now) }
@@ -388,7 +388,7 @@ fn put_pair(text: &mut Vec<u8>, port: u32, mark: &[u8]) -> Result<(), AllocError
     text.extend_from_slice(b"]")
 }
 
-// The port of the best link, and its key.
+/// The port of the best link, and its key.
 #[tactic(auto, unfolding(crate::specs::Json::pair))]
 fn put_best(text: &mut Vec<u8>, best: Option<(u32, Key)>) -> Result<(), AllocError>
     ensures { IfOk result (λ _. text.new.items ≡ text.old.items ++ best_or_null best) }

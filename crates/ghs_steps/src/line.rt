@@ -35,7 +35,7 @@ pub fn step_line(
     text.extend_from_slice(b"\n")
 }
 
-// A number and a blank.
+/// A number and a blank.
 #[tactic(auto, unfolding(crate::specs::StepLine::field))]
 fn put_number_field(text: &mut Vec<u8>, number: u64) -> Result<(), AllocError>
     ensures { IfOk result (λ _. text.new.items ≡ text.old.items ++ field (decimal number)) }
@@ -44,7 +44,7 @@ fn put_number_field(text: &mut Vec<u8>, number: u64) -> Result<(), AllocError>
     text.extend_from_slice(b" ")
 }
 
-// A word and a blank.
+/// A word and a blank.
 #[tactic(auto, unfolding(crate::specs::StepLine::field))]
 fn put_word_field(text: &mut Vec<u8>, word: &[u8]) -> Result<(), AllocError>
     ensures { IfOk result (λ _. text.new.items ≡ text.old.items ++ field word.now) }
@@ -53,7 +53,7 @@ fn put_word_field(text: &mut Vec<u8>, word: &[u8]) -> Result<(), AllocError>
     text.extend_from_slice(b" ")
 }
 
-// The fields of an event's node, port and far end.
+/// The fields of an event's node, port and far end.
 #[tactic(auto, unfolding(crate::specs::StepLine::place_fields))]
 fn put_place(text: &mut Vec<u8>, event: Event, far: Option<u32>) -> Result<(), AllocError>
     ensures { IfOk result (λ _. text.new.items ≡ text.old.items ++ place_fields event far) }
@@ -63,7 +63,7 @@ fn put_place(text: &mut Vec<u8>, event: Event, far: Option<u32>) -> Result<(), A
     put_optional_field(text, far)
 }
 
-// A number or a dash, and a blank.
+/// A number or a dash, and a blank.
 #[tactic(auto, unfolding(crate::specs::StepLine::field))]
 fn put_optional_field(text: &mut Vec<u8>, number: Option<u32>) -> Result<(), AllocError>
     ensures { IfOk result (λ _. text.new.items ≡ text.old.items ++ field (number_or_dash number)) }
@@ -72,7 +72,7 @@ fn put_optional_field(text: &mut Vec<u8>, number: Option<u32>) -> Result<(), All
     text.extend_from_slice(b" ")
 }
 
-// The fields of the work, the row and the message's fate.
+/// The fields of the work, the row and the message's fate.
 #[tactic(auto, unfolding(crate::specs::StepLine::work_fields))]
 fn put_work(text: &mut Vec<u8>, work: &Work, row: RowName, fate: Fate) -> Result<(), AllocError>
     ensures { IfOk result (λ _. text.new.items ≡ text.old.items ++ work_fields work.now row fate) }
@@ -100,7 +100,7 @@ pub(crate) fn fate_word(fate: Fate) -> &'static [u8]
     }
 }
 
-// A message and a blank.
+/// A message and a blank.
 #[tactic(auto, unfolding(crate::specs::StepLine::field))]
 fn put_message_field(text: &mut Vec<u8>, message: &Message) -> Result<(), AllocError>
     ensures { IfOk result (λ _. text.new.items ≡ text.old.items ++ field (message_text message.now)) }
@@ -109,7 +109,7 @@ fn put_message_field(text: &mut Vec<u8>, message: &Message) -> Result<(), AllocE
     text.extend_from_slice(b" ")
 }
 
-// The field of what differs at the node.
+/// The field of what differs at the node.
 #[tactic(auto, unfolding(crate::specs::StepLine::field, crate::specs::StepLine::joined))]
 fn put_changes(text: &mut Vec<u8>, changes: &[Change]) -> Result<(), AllocError>
     ensures { IfOk result (λ _. text.new.items ≡ text.old.items ++ field (joined change_text changes.now)) }
@@ -124,7 +124,7 @@ fn put_changes(text: &mut Vec<u8>, changes: &[Change]) -> Result<(), AllocError>
     text.extend_from_slice(b" ")
 }
 
-// Each behind a semicolon.
+/// Each behind a semicolon.
 #[tactic(auto, unfolding(crate::specs::StepLine::behind_semicolon))]
 fn put_other_changes(text: &mut Vec<u8>, changes: &[Change]) -> Result<(), AllocError>
     ensures { IfOk result (λ _. text.new.items ≡ text.old.items ++ flat_map (behind_semicolon change_text) changes.now) }
@@ -136,7 +136,7 @@ fn put_other_changes(text: &mut Vec<u8>, changes: &[Change]) -> Result<(), Alloc
     Ok(())
 }
 
-// The field of what the event's node sends.
+/// The field of what the event's node sends.
 #[tactic(auto, unfolding(crate::specs::StepLine::field, crate::specs::StepLine::joined))]
 fn put_sends(text: &mut Vec<u8>, sends: &[Sent]) -> Result<(), AllocError>
     ensures { IfOk result (λ _. text.new.items ≡ text.old.items ++ field (joined send_text sends.now)) }
@@ -151,7 +151,7 @@ fn put_sends(text: &mut Vec<u8>, sends: &[Sent]) -> Result<(), AllocError>
     text.extend_from_slice(b" ")
 }
 
-// Each behind a semicolon.
+/// Each behind a semicolon.
 #[tactic(auto, unfolding(crate::specs::StepLine::behind_semicolon))]
 fn put_other_sends(text: &mut Vec<u8>, sends: &[Sent]) -> Result<(), AllocError>
     ensures { IfOk result (λ _. text.new.items ≡ text.old.items ++ flat_map (behind_semicolon send_text) sends.now) }
@@ -163,7 +163,7 @@ fn put_other_sends(text: &mut Vec<u8>, sends: &[Sent]) -> Result<(), AllocError>
     Ok(())
 }
 
-// One message that goes out.
+/// One message that goes out.
 #[tactic(auto, unfolding(crate::specs::StepLine::send_text))]
 fn put_send(text: &mut Vec<u8>, send: &Sent) -> Result<(), AllocError>
     ensures { IfOk result (λ _. text.new.items ≡ text.old.items ++ send_text send.now) }
@@ -175,7 +175,7 @@ fn put_send(text: &mut Vec<u8>, send: &Sent) -> Result<(), AllocError>
     put_message(text, &send.message)
 }
 
-// One variable or mark, with its new value.
+/// One variable or mark, with its new value.
 #[tactic(auto, unfolding(crate::specs::StepLine::change_text))]
 fn put_change(text: &mut Vec<u8>, change: &Change) -> Result<(), AllocError>
     ensures { IfOk result (λ _. text.new.items ≡ text.old.items ++ change_text change.now) }
@@ -220,7 +220,7 @@ fn put_change_value(text: &mut Vec<u8>, change: &Change) -> Result<(), AllocErro
     }
 }
 
-// A message with what it carries.
+/// A message with what it carries.
 #[tactic(auto, unfolding(crate::specs::StepLine::message_text))]
 fn put_message(text: &mut Vec<u8>, message: &Message) -> Result<(), AllocError>
     ensures { IfOk result (λ _. text.new.items ≡ text.old.items ++ message_text message.now) }
@@ -276,7 +276,7 @@ fn put_number_or_dash(text: &mut Vec<u8>, number: Option<u32>) -> Result<(), All
     }
 }
 
-// The port of the best link, and its key.
+/// The port of the best link, and its key.
 fn put_best(text: &mut Vec<u8>, best: Option<(u32, Key)>) -> Result<(), AllocError>
     ensures { IfOk result (λ _. text.new.items ≡ text.old.items ++ best_text best) }
 {

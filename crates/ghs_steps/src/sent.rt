@@ -56,7 +56,7 @@ pub fn far_end(graph: &Graph, event: Event) -> Option<u32>
     }
 }
 
-// A port of node `v`; what is no port leads to node 0.
+/// A port of node `v`; what is no port leads to node 0.
 fn port_at(graph: &Graph, v: u32, port: u32) -> Port
     requires low { 1 ≤ v }
     requires high { v ≤ graph.now.nodes }

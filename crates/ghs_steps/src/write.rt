@@ -95,7 +95,7 @@ pub fn put_lines(
     Ok(net)
 }
 
-// The event happens, and its line is appended if it is chosen.
+/// The event happens, and its line is appended if it is chosen.
 fn show(
     alloc: Global,
     net: &mut Net,
@@ -119,7 +119,7 @@ fn show(
     Ok(())
 }
 
-// What the event's node does. A lawful event has a rule, so memory alone can be wanting.
+/// What the event's node does. A lawful event has a rule, so memory alone can be wanting.
 fn answer(alloc: Global, net: &Net, event: Event) -> Result<Delta, AllocError>
     requires { IsLawful net.now event }
     ensures answer { IfOk result (λ d. IsAnswer net.now event d) }
@@ -133,7 +133,7 @@ fn answer(alloc: Global, net: &Net, event: Event) -> Result<Delta, AllocError>
     }
 }
 
-// The event happens, and its line is appended.
+/// The event happens, and its line is appended.
 fn put_step(
     alloc: Global,
     net: &mut Net,
@@ -171,7 +171,7 @@ fn put_step(
     Ok(())
 }
 
-// The line of a step, in the form that is asked for.
+/// The line of a step, in the form that is asked for.
 #[tactic(auto, unfolding(crate::specs::StepLine::step_line, crate::specs::Json::step_json))]
 fn put_line(
     text: &mut Vec<u8>,
@@ -188,7 +188,7 @@ fn put_line(
     }
 }
 
-// The event happens.
+/// The event happens.
 fn play(net: &mut Net, event: Event, delta: &Delta) -> Result<(), AllocError>
     requires lawful { IsLawful net.old event }
     requires answer { IsAnswer net.old event delta.now }
@@ -201,7 +201,7 @@ fn play(net: &mut Net, event: Event, delta: &Delta) -> Result<(), AllocError>
     Ok(())
 }
 
-// How many messages were sent for the first time.
+/// How many messages were sent for the first time.
 fn total(net: &Net) -> u128
     ensures { result ≡ in_all (net_of net.now).sent }
 {

@@ -176,16 +176,20 @@ module _ (g : Shape) (es fs : List Event) (f f' : Figures) (ok : IsGraph g) (run
 
   levels : f.level ≡ f'.level
   levels =
-      let x = not_higher g (net_after g es) (net_after g fs) n n' (a.ended.0 e) (b.ended.0 e') a.marks.rows b.marks.rows a.marks.census b.marks.census in
-      let y = not_higher g (net_after g fs) (net_after g es) n' n (b.ended.0 e') (a.ended.0 e) b.marks.rows a.marks.rows b.marks.census a.marks.census in
+      let x =
+      not_higher g (net_after g es) (net_after g fs) n n' (a.ended.0 e) (b.ended.0 e') a.marks.rows b.marks.rows a.marks.census b.marks.census in
+      let y =
+      not_higher g (net_after g fs) (net_after g es) n' n (b.ended.0 e') (a.ended.0 e) b.marks.rows a.marks.rows b.marks.census a.marks.census in
       let p = a.marks.level in
       let q = b.marks.level in
       omega (arith, x, y, p, q)
 
   fragments : f.fragments ≡ f'.fragments
   fragments =
-      let x = not_more g (net_after g es) (net_after g fs) n n' (a.ended.0 e) (b.ended.0 e') a.marks.rows b.marks.rows a.marks.census b.marks.census in
-      let y = not_more g (net_after g fs) (net_after g es) n' n (b.ended.0 e') (a.ended.0 e) b.marks.rows a.marks.rows b.marks.census a.marks.census in
+      let x =
+      not_more g (net_after g es) (net_after g fs) n n' (a.ended.0 e) (b.ended.0 e') a.marks.rows b.marks.rows a.marks.census b.marks.census in
+      let y =
+      not_more g (net_after g fs) (net_after g es) n' n (b.ended.0 e') (a.ended.0 e) b.marks.rows a.marks.rows b.marks.census a.marks.census in
       let p = a.marks.fragments in
       let q = b.marks.fragments in
       omega (arith, x, y, p, q)
@@ -194,7 +198,8 @@ module _ (g : Shape) (es fs : List Event) (f f' : Figures) (ok : IsGraph g) (run
   weights =
       let same = same_keys a.marks.branches b.marks.branches a.marks.all.rising b.marks.all.rising
       (branches_there g (net_after g es) (net_after g fs) n n' (a.ended.0 e) (b.ended.0 e') a.marks.branches b.marks.branches a.marks.all b.marks.all)
-      (branches_there g (net_after g fs) (net_after g es) n' n (b.ended.0 e') (a.ended.0 e) b.marks.branches a.marks.branches b.marks.all a.marks.all) in
+      (branches_there g (net_after g fs) (net_after g es) n' n (b.ended.0 e') (a.ended.0 e) b.marks.branches a.marks.branches b.marks.all
+      a.marks.all) in
       a.marks.weight ∙ ap total_weight same ∙ sym b.marks.weight
 
   agree : (m : Measure) → is_fixed m ≡ true → value_of m f ≡ value_of m f'

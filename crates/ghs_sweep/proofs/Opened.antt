@@ -22,16 +22,16 @@ pub record IsOpened (g : Shape) (setup : Setup) (s : WorldState) : Type 0 where
 pub figures_of_run : (g : Shape) (setup : Setup) (seed : ℕ) (old new : WorldState) (net : NetState) (r : Result Figures AllocError) →
     IsOpened g setup old →
     new.net.graph ≡ old.net.graph →
-    IsPickedBy setup.picking seed old.wake old.turns old.net.graph new.net.trace →
+    IsPickedBy setup.schedule_kind seed old.wake old.turns old.net.graph new.net.trace →
     net ≡ new.net →
     IfOk r (λ f. AreFigures net.graph net.trace f) →
     IfOk r (λ f. AreFiguresOf g setup seed f)
 figures_of_run g setup seed old new net (Err e) opened stays picked same figures = figures
 figures_of_run g setup seed old new net (Ok f) opened stays picked same figures = record {
   events = new.net.trace;
-  run = subst (λ (s : Shape). IsPickedBy setup.picking seed setup.wake setup.turns s new.net.trace) opened.graph
-      (subst (λ (w : WakeSet). IsPickedBy setup.picking seed w setup.turns old.net.graph new.net.trace) opened.wake
-      (subst (λ (t : ℕ). IsPickedBy setup.picking seed old.wake t old.net.graph new.net.trace) opened.turns picked));
+  run = subst (λ (s : Shape). IsPickedBy setup.schedule_kind seed setup.wake setup.turns s new.net.trace) opened.graph
+      (subst (λ (w : WakeSet). IsPickedBy setup.schedule_kind seed w setup.turns old.net.graph new.net.trace) opened.wake
+      (subst (λ (t : ℕ). IsPickedBy setup.schedule_kind seed old.wake t old.net.graph new.net.trace) opened.turns picked));
   figures = subst (λ (s : Shape). AreFigures s new.net.trace f) (stays ∙ opened.graph)
       (subst (λ (n : NetState). AreFigures n.graph n.trace f) same figures);
 }

@@ -3,7 +3,7 @@ use Rattle.std.specs.Prelude.{ℕ, List, [], ◌++◌, codes, decimal, slice_ind
 use Rattle.ghs_steps.specs.Json.{member, quoted}
 use Rattle.ghs_sweep.specs.declared.figures.Figures.{Figures}
 use Rattle.ghs_sweep.specs.declared.seeded.Setup.{Setup}
-use Rattle.ghs_sweep.specs.Line.{end_word, picking_word, wake_word}
+use Rattle.ghs_sweep.specs.Line.{end_word, schedule_word, wake_word}
 
 -- a member that isn't the first, and a number
 unfoldable pub numbered : List ℕ → ℕ → List ℕ
@@ -41,7 +41,8 @@ outcome_members f =
 -- seed, schedule and wake set
 unfoldable pub head_members : ℕ → Setup → List ℕ
 head_members seed setup =
-    member [] (codes "seed") (decimal seed) ++ worded (codes "schedule") (picking_word setup.picking) ++ worded (codes "wake") (wake_word setup.wake)
+    member [] (codes "seed") (decimal seed) ++ worded (codes "schedule") (schedule_word setup.schedule_kind)
+    ++ worded (codes "wake") (wake_word setup.wake)
 
 unfoldable pub messages_members : Figures → List ℕ
 messages_members f = first_kinds f ++ answers f ++ last_kinds f

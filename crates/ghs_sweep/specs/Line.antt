@@ -2,8 +2,8 @@
 use Rattle.std.specs.Prelude.{ℕ, Bool, true, false, List, ◌++◌, codes, decimal, slice_index}
 use Rattle.ghs_world.specs.declared.wake_set.WakeSet.{WakeSet}
 use Rattle.ghs_world.specs.declared.wake_set.WakeSet.TheVariants.{All, First}
-use Rattle.ghs_picking.specs.declared.picking.Picking.{Picking}
-use Rattle.ghs_picking.specs.declared.picking.Picking.TheVariants.{Seeded, Patient, Rounds, Waits, Lifo}
+use Rattle.ghs_picking.specs.declared.picking.ScheduleKind.{ScheduleKind}
+use Rattle.ghs_picking.specs.declared.picking.ScheduleKind.TheVariants.{Seeded, Patient, Rounds, Waits, Lifo}
 use Rattle.ghs_sweep.specs.declared.seeded.Setup.{Setup}
 use Rattle.ghs_sweep.specs.declared.figures.Figures.{Figures}
 
@@ -15,12 +15,12 @@ field n = codes "," ++ decimal n
 unfoldable pub word_field : List ℕ → List ℕ
 word_field word = codes "," ++ word
 
-abbrev pub picking_word : Picking → List ℕ
-picking_word Seeded = codes "seeded"
-picking_word Patient = codes "patient"
-picking_word Rounds = codes "rounds"
-picking_word Waits = codes "waits"
-picking_word Lifo = codes "lifo"
+abbrev pub schedule_word : ScheduleKind → List ℕ
+schedule_word Seeded = codes "seeded"
+schedule_word Patient = codes "patient"
+schedule_word Rounds = codes "rounds"
+schedule_word Waits = codes "waits"
+schedule_word Lifo = codes "lifo"
 
 abbrev pub wake_word : WakeSet → List ℕ
 wake_word All = codes "all"
@@ -52,7 +52,7 @@ outcome_fields f =
 unfoldable pub line_text : ℕ → Setup → Figures → List ℕ
 line_text seed setup f =
     decimal seed
-    ++ word_field (picking_word setup.picking)
+    ++ word_field (schedule_word setup.schedule_kind)
     ++ word_field (wake_word setup.wake)
     ++ size_fields f
     ++ messages_fields f

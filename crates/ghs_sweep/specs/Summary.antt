@@ -76,8 +76,8 @@ pub record IsMeasureLine (form : Form) (front : List ℕ) (runs : List Figures) 
 -- the lines of some measures, one behind another, each behind the same front
 pub data AreMeasureLines (form : Form) (front : List ℕ) (runs : List Figures) : List Measure → List ℕ → Type 0 where
   NoMeasure : AreMeasureLines form front runs [] []
-  NextMeasure : (ms : List Measure) (m : Measure) (text line : List ℕ) → AreMeasureLines form front runs ms text → IsMeasureLine form front runs m line →
-      AreMeasureLines form front runs (ms ++ m ∷ []) (text ++ line)
+  NextMeasure : (ms : List Measure) (m : Measure) (text line : List ℕ) → AreMeasureLines form front runs ms text →
+      IsMeasureLine form front runs m line → AreMeasureLines form front runs (ms ++ m ∷ []) (text ++ line)
 
 -- the summary of runs: a line for each measure
 abbrev pub AreSummaryLines : Form → List ℕ → List Figures → List ℕ → Type 0

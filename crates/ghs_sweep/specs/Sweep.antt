@@ -12,10 +12,11 @@ pub record HasTurns (setup : Setup) : Type 0 where
   pub some : 1 ≤ setup.turns
   pub few : setup.turns ≤ 2 ^ 40
 
--- the figures of the seed's run: of all that its schedule picks, among all events, patiently, by rounds, what waits or what was sent last, from the opening on
+-- the figures of the seed's run: of all that its schedule picks, among all events, patiently, by rounds, what waits or what was sent last,
+-- from the opening on
 pub record AreFiguresOf (g : Shape) (setup : Setup) (seed : ℕ) (f : Figures) : Type 0 where
   pub events : List Event
-  pub run : IsPickedBy setup.picking seed setup.wake setup.turns g events
+  pub run : IsPickedBy setup.schedule_kind seed setup.wake setup.turns g events
   pub figures : AreFigures g events f
 
 -- the figures of the runs of seeds from the first on, rising

@@ -76,7 +76,7 @@ pub(crate) fn figures_with(alloc: Global, net: &Net, chain: u64) -> Result<Figur
     })
 }
 
-// The counts of all kinds together.
+/// The counts of all kinds together.
 fn in_total(sent: &[u64; 7]) -> u64
     requires { in_all (λ k. slice_index sent.now k) < 2 ^ 64 }
     ensures { result ≡ in_all (λ k. slice_index sent.now k) }
@@ -84,7 +84,7 @@ fn in_total(sent: &[u64; 7]) -> u64
     sent[0] + sent[1] + sent[2] + sent[3] + sent[4] + sent[5] + sent[6]
 }
 
-// The greatest level of the rows, 0 where there are none.
+/// The greatest level of the rows, 0 where there are none.
 fn greatest_level(census: &[FragmentRow]) -> u8
     ensures { result ≡ greatest_level census.now }
 {
@@ -95,7 +95,7 @@ fn greatest_level(census: &[FragmentRow]) -> u8
     level
 }
 
-// The weights of links, added up.
+/// The weights of links, added up.
 fn total_weight(links: &[Key]) -> u128
     ensures total { result ≡ total_weight links.now }
     ensures small { result < 2 ^ 96 }

@@ -3,7 +3,7 @@ ghost use Rattle.ghs_sweep.specs.JsonLine.{answers, end_members, first_kinds, he
 ghost use Rattle.std.specs.Prelude.{◌≡◌, ◌++◌, IfOk};
 
 use crate::figures::Figures;
-use crate::line::{end_word, picking_word, wake_word};
+use crate::line::{end_word, schedule_word, wake_word};
 use crate::seeded::Setup;
 use ghs_steps::json::{put_number_member, put_word_member};
 use std::alloc::AllocError;
@@ -25,17 +25,17 @@ pub(crate) fn put_json_line(
     put_end(text, figures)
 }
 
-// Seed, schedule and wake set.
+/// Seed, schedule and wake set.
 #[tactic(auto, unfolding(crate::specs::JsonLine::head_members))]
 fn put_head(text: &mut Vec<u8>, seed: u64, setup: Setup) -> Result<(), AllocError>
     ensures { IfOk result (λ _. text.new.items ≡ text.old.items ++ head_members seed setup) }
 {
     put_number_member(text, b"", b"seed", u128::from(seed))?;
-    put_worded(text, b"schedule", picking_word(setup.picking))?;
+    put_worded(text, b"schedule", schedule_word(setup.schedule_kind))?;
     put_worded(text, b"wake", wake_word(setup.wake))
 }
 
-// How the run ended, and its chain; and the object's end.
+/// How the run ended, and its chain; and the object's end.
 #[tactic(auto, unfolding(crate::specs::JsonLine::end_members))]
 fn put_end(text: &mut Vec<u8>, figures: &Figures) -> Result<(), AllocError>
     ensures { IfOk result (λ _. text.new.items ≡ text.old.items ++ end_members figures.now) }
@@ -45,7 +45,7 @@ fn put_end(text: &mut Vec<u8>, figures: &Figures) -> Result<(), AllocError>
     text.extend_from_slice(b"}\n")
 }
 
-// Messages, of all kinds and of each.
+/// Messages, of all kinds and of each.
 #[tactic(auto, unfolding(crate::specs::JsonLine::messages_members))]
 fn put_messages(text: &mut Vec<u8>, figures: &Figures) -> Result<(), AllocError>
     ensures { IfOk result (λ _. text.new.items ≡ text.old.items ++ messages_members figures.now) }
@@ -55,7 +55,7 @@ fn put_messages(text: &mut Vec<u8>, figures: &Figures) -> Result<(), AllocError>
     put_last_kinds(text, figures)
 }
 
-// What doesn't change from seed to seed, and the events.
+/// What doesn't change from seed to seed, and the events.
 #[tactic(auto, unfolding(crate::specs::JsonLine::size_members))]
 fn put_size(text: &mut Vec<u8>, figures: &Figures) -> Result<(), AllocError>
     ensures { IfOk result (λ _. text.new.items ≡ text.old.items ++ size_members figures.now) }
@@ -65,7 +65,7 @@ fn put_size(text: &mut Vec<u8>, figures: &Figures) -> Result<(), AllocError>
     put_numbered(text, b"events", u128::from(figures.events))
 }
 
-// Messages, of all kinds together and of the first three.
+/// Messages, of all kinds together and of the first three.
 #[tactic(auto, unfolding(crate::specs::JsonLine::first_kinds))]
 fn put_first_kinds(text: &mut Vec<u8>, figures: &Figures) -> Result<(), AllocError>
     ensures { IfOk result (λ _. text.new.items ≡ text.old.items ++ first_kinds figures.now) }
@@ -76,7 +76,7 @@ fn put_first_kinds(text: &mut Vec<u8>, figures: &Figures) -> Result<(), AllocErr
     put_numbered(text, b"test", u128::from(figures.kinds[2]))
 }
 
-// Answers to tests.
+/// Answers to tests.
 #[tactic(auto, unfolding(crate::specs::JsonLine::answers))]
 fn put_answers(text: &mut Vec<u8>, figures: &Figures) -> Result<(), AllocError>
     ensures { IfOk result (λ _. text.new.items ≡ text.old.items ++ answers figures.now) }
@@ -85,7 +85,7 @@ fn put_answers(text: &mut Vec<u8>, figures: &Figures) -> Result<(), AllocError>
     put_numbered(text, b"reject", u128::from(figures.kinds[4]))
 }
 
-// The last two kinds.
+/// The last two kinds.
 #[tactic(auto, unfolding(crate::specs::JsonLine::last_kinds))]
 fn put_last_kinds(text: &mut Vec<u8>, figures: &Figures) -> Result<(), AllocError>
     ensures { IfOk result (λ _. text.new.items ≡ text.old.items ++ last_kinds figures.now) }
@@ -94,7 +94,7 @@ fn put_last_kinds(text: &mut Vec<u8>, figures: &Figures) -> Result<(), AllocErro
     put_numbered(text, b"changeroot", u128::from(figures.kinds[6]))
 }
 
-// What the run came to.
+/// What the run came to.
 #[tactic(auto, unfolding(crate::specs::JsonLine::outcome_members))]
 fn put_outcome(text: &mut Vec<u8>, figures: &Figures) -> Result<(), AllocError>
     ensures { IfOk result (λ _. text.new.items ≡ text.old.items ++ outcome_members figures.now) }
@@ -115,7 +115,7 @@ pub(crate) fn put_numbered(text: &mut Vec<u8>, name: &[u8], number: u128) -> Res
     put_number_member(text, b",", name, number)
 }
 
-// A member that isn't the first, and a word.
+/// A member that isn't the first, and a word.
 #[tactic(auto, unfolding(crate::specs::JsonLine::worded))]
 fn put_worded(text: &mut Vec<u8>, name: &[u8], word: &[u8]) -> Result<(), AllocError>
     ensures { IfOk result (λ _. text.new.items ≡ text.old.items ++ worded name.now word.now) }

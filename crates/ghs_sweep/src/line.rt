@@ -1,11 +1,11 @@
 //! A run's figures as a line of comma separated values.
-ghost use Rattle.ghs_sweep.specs.Line.{end_word, field, line_text, messages_fields, outcome_fields, picking_word, size_fields, wake_word, word_field};
+ghost use Rattle.ghs_sweep.specs.Line.{end_word, field, line_text, messages_fields, outcome_fields, schedule_word, size_fields, wake_word, word_field};
 ghost use Rattle.std.specs.Prelude.{◌≡◌, ◌++◌, IfOk};
 
 use crate::figures::Figures;
 use crate::seeded::Setup;
 use ghs_lines::numbers::put_number;
-use ghs_picking::picking::Picking;
+use ghs_picking::picking::ScheduleKind;
 use ghs_world::wake_set::WakeSet;
 use std::alloc::AllocError;
 
@@ -25,7 +25,7 @@ pub fn put_line(
     ensures { IfOk result (λ _. text.new.items ≡ text.old.items ++ line_text seed setup figures.now) }
 {
     put_number(text, u128::from(seed))?;
-    put_word(text, picking_word(setup.picking))?;
+    put_word(text, schedule_word(setup.schedule_kind))?;
     put_word(text, wake_word(setup.wake))?;
     put_size(text, figures)?;
     put_messages(text, figures)?;
@@ -36,7 +36,7 @@ pub fn put_line(
     Ok(())
 }
 
-// What doesn't change from seed to seed, and the events.
+/// What doesn't change from seed to seed, and the events.
 #[tactic(auto, unfolding(crate::specs::Line::size_fields))]
 fn put_size(text: &mut Vec<u8>, figures: &Figures) -> Result<(), AllocError>
     ensures { IfOk result (λ _. text.new.items ≡ text.old.items ++ size_fields figures.now) }
@@ -47,7 +47,7 @@ fn put_size(text: &mut Vec<u8>, figures: &Figures) -> Result<(), AllocError>
     Ok(())
 }
 
-// Messages, of all kinds and of each.
+/// Messages, of all kinds and of each.
 #[tactic(auto, unfolding(crate::specs::Line::messages_fields))]
 fn put_messages(text: &mut Vec<u8>, figures: &Figures) -> Result<(), AllocError>
     ensures { IfOk result (λ _. text.new.items ≡ text.old.items ++ messages_fields figures.now) }
@@ -63,7 +63,7 @@ fn put_messages(text: &mut Vec<u8>, figures: &Figures) -> Result<(), AllocError>
     Ok(())
 }
 
-// What the run came to.
+/// What the run came to.
 #[tactic(auto, unfolding(crate::specs::Line::outcome_fields))]
 fn put_outcome(text: &mut Vec<u8>, figures: &Figures) -> Result<(), AllocError>
     ensures { IfOk result (λ _. text.new.items ≡ text.old.items ++ outcome_fields figures.now) }
@@ -87,7 +87,7 @@ pub(crate) fn put_field(text: &mut Vec<u8>, number: u128) -> Result<(), AllocErr
     Ok(())
 }
 
-// A comma and a word.
+/// A comma and a word.
 #[tactic(auto, unfolding(crate::specs::Line::word_field))]
 fn put_word(text: &mut Vec<u8>, word: &[u8]) -> Result<(), AllocError>
     ensures { IfOk result (λ _. text.new.items ≡ text.old.items ++ word_field word.now) }
@@ -97,15 +97,15 @@ fn put_word(text: &mut Vec<u8>, word: &[u8]) -> Result<(), AllocError>
     Ok(())
 }
 
-pub(crate) fn picking_word(picking: Picking) -> &'static [u8]
-    ensures { result.now ≡ picking_word picking }
+pub(crate) fn schedule_word(schedule_kind: ScheduleKind) -> &'static [u8]
+    ensures { result.now ≡ schedule_word schedule_kind }
 {
-    match picking {
-        Picking::Seeded => b"seeded",
-        Picking::Patient => b"patient",
-        Picking::Rounds => b"rounds",
-        Picking::Waits => b"waits",
-        Picking::Lifo => b"lifo",
+    match schedule_kind {
+        ScheduleKind::Seeded => b"seeded",
+        ScheduleKind::Patient => b"patient",
+        ScheduleKind::Rounds => b"rounds",
+        ScheduleKind::Waits => b"waits",
+        ScheduleKind::Lifo => b"lifo",
     }
 }
 

@@ -27,7 +27,7 @@ pub fn put_runs(
     Ok(())
 }
 
-// A front, and the line of a seed's run.
+/// A front, and the line of a seed's run.
 fn put_behind(
     text: &mut Vec<u8>,
     form: Form,

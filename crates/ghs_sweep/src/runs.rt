@@ -12,7 +12,7 @@ use std::thread::{Threads, join};
 /// Goes on with the runs of seeds that rise from the first on: puts the figures of the next ones, so many and one at
 /// least, behind those that there are. The runs go side by side on so many threads, 1 at least; the figures are the same
 /// for every number of threads. Refusal: want of memory; then those that there are stay.
-pub fn run_on<R: Threads + Sync>(
+pub fn run_seeds<R: Threads + Sync>(
     rt: &R,
     alloc: Global,
     graph: &Graph,
@@ -92,7 +92,7 @@ pub fn share_of(count: u64, threads: u32) -> u64
     (count / u64::from(threads)).max(1)
 }
 
-// The figures of the runs of so many seeds, one after another.
+/// The figures of the runs of so many seeds, one after another.
 fn runs_of(
     alloc: Global,
     graph: &Graph,

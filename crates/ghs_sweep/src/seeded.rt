@@ -5,7 +5,7 @@ ghost use Rattle.std.specs.Prelude.{IfOk};
 use crate::figures::{Figures, figures_with};
 use ghs_graph::graph::Graph;
 use ghs_picking::chained::run_chained;
-use ghs_picking::picking::Picking;
+use ghs_picking::picking::ScheduleKind;
 use ghs_world::wake_set::WakeSet;
 use ghs_world::world::World;
 use std::alloc::{AllocError, Global};
@@ -14,7 +14,7 @@ use std::alloc::{AllocError, Global};
 #[derive(Clone, Copy, Debug, PartialEq, Eq)]
 pub struct Setup {
     /// Among which events their schedules pick.
-    pub picking: Picking,
+    pub schedule_kind: ScheduleKind,
     /// Which nodes wake by themselves.
     pub wake: WakeSet,
     /// How many events each run may have, 1 to 2^40.
@@ -36,6 +36,6 @@ pub fn figures_of_seed(
         Ok(world) => world,
         Err((_, error)) => return Err(error),
     };
-    let chain = run_chained(alloc, &mut world, setup.picking, seed)?;
+    let chain = run_chained(alloc, &mut world, setup.schedule_kind, seed)?;
     figures_with(alloc, world.net(), chain)
 }

@@ -33,7 +33,7 @@ pub fn put_summary(
     put_measures(alloc, text, form, front, &MEASURES, runs)
 }
 
-// A line for each of these measures behind a text.
+/// A line for each of these measures behind a text.
 fn put_measures(
     alloc: Global,
     text: &mut Vec<u8>,
@@ -53,7 +53,7 @@ fn put_measures(
     Ok(())
 }
 
-// The line of a measure behind a text.
+/// The line of a measure behind a text.
 fn put_measure(
     alloc: Global,
     text: &mut Vec<u8>,
@@ -75,7 +75,7 @@ fn put_measure(
     Ok(())
 }
 
-// A measure's line without its front.
+/// A measure's line without its front.
 fn put_measure_text(
     text: &mut Vec<u8>,
     form: Form,
@@ -93,7 +93,7 @@ fn put_measure_text(
     }
 }
 
-// A measure as a line: what its values come to in rising order, and their sum.
+/// A measure as a line: what its values come to in rising order, and their sum.
 #[tactic(auto, unfolding(crate::specs::Summary::measure_fields))]
 fn put_measure_fields(
     text: &mut Vec<u8>,
@@ -112,7 +112,7 @@ fn put_measure_fields(
     text.extend_from_slice(b"\n")
 }
 
-// The same as members of an object, which is closed.
+/// The same as members of an object, which is closed.
 #[tactic(auto, unfolding(crate::specs::Summary::measure_members))]
 fn put_measure_members(
     text: &mut Vec<u8>,
@@ -142,7 +142,7 @@ pub fn rising_of(alloc: Global, measure: Measure, runs: &[Figures]) -> Result<Ve
     Ok(values)
 }
 
-// The values of a measure for runs.
+/// The values of a measure for runs.
 fn values_of(alloc: Global, measure: Measure, runs: &[Figures]) -> Result<Vec<u128>, AllocError>
     requires { All HasSmallWeight runs.now }
     ensures values { IfOk result (λ values. values.items ≡ map (value_of measure) runs.now) }
@@ -155,7 +155,7 @@ fn values_of(alloc: Global, measure: Measure, runs: &[Figures]) -> Result<Vec<u1
     Ok(values)
 }
 
-// Numbers added up.
+/// Numbers added up.
 fn sum_of(values: &[u128]) -> u128
     requires few { length values.now ≤ 2 ^ 32 }
     requires small { All (λ v. v < 2 ^ 96) values.now }
@@ -168,7 +168,7 @@ fn sum_of(values: &[u128]) -> u128
     total
 }
 
-// How many numbers there are, the least, four percentiles, and the greatest.
+/// How many numbers there are, the least, four percentiles, and the greatest.
 #[tactic(auto, unfolding(crate::specs::Summary::rising_fields))]
 fn put_rising(text: &mut Vec<u8>, rising: &[u128]) -> Result<(), AllocError>
     requires some { 1 ≤ length rising.now }
@@ -185,7 +185,7 @@ fn put_rising(text: &mut Vec<u8>, rising: &[u128]) -> Result<(), AllocError>
     Ok(())
 }
 
-// As members of an object: how many numbers there are, the least, and two percentiles.
+/// As members of an object: how many numbers there are, the least, and two percentiles.
 #[tactic(auto, unfolding(crate::specs::Summary::low_members))]
 fn put_low_members(text: &mut Vec<u8>, rising: &[u128]) -> Result<(), AllocError>
     requires some { 1 ≤ length rising.now }
@@ -198,7 +198,7 @@ fn put_low_members(text: &mut Vec<u8>, rising: &[u128]) -> Result<(), AllocError
     put_numbered(text, b"p50", percentile(rising, 50))
 }
 
-// Two more percentiles, and the greatest.
+/// Two more percentiles, and the greatest.
 #[tactic(auto, unfolding(crate::specs::Summary::high_members))]
 fn put_high_members(text: &mut Vec<u8>, rising: &[u128]) -> Result<(), AllocError>
     requires some { 1 ≤ length rising.now }
@@ -210,7 +210,7 @@ fn put_high_members(text: &mut Vec<u8>, rising: &[u128]) -> Result<(), AllocErro
     put_numbered(text, b"max", rising[rising.len() - 1])
 }
 
-// The percentile of rising numbers: the one at p hundredths of their places, rounded up.
+/// The percentile of rising numbers: the one at p hundredths of their places, rounded up.
 fn percentile(rising: &[u128], p: usize) -> u128
     requires some { 1 ≤ length rising.now }
     requires few { length rising.now ≤ 2 ^ 32 }

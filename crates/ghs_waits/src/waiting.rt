@@ -98,7 +98,7 @@ impl Waiting {
         }
     }
 
-    // Marks the Takes at the far ends of what node `v` has sent.
+    /// Marks the Takes at the far ends of what node `v` has sent.
     fn mark_far(&mut self, world: &World, v: u32, sends: &[(u32, Message)])
         requires low { 1 ≤ v }
         requires high { v ≤ world.now.net.graph.nodes }
@@ -114,7 +114,7 @@ impl Waiting {
         }
     }
 
-    // Marks the Takes of a node.
+    /// Marks the Takes of a node.
     fn mark_ports(&mut self, world: &World, v: u32)
         requires low { 1 ≤ v }
         requires high { v ≤ world.now.net.graph.nodes }
@@ -128,7 +128,7 @@ impl Waiting {
         }
     }
 
-    // Marks one event.
+    /// Marks one event.
     fn mark(&mut self, world: &World, event: Event)
         requires place { HasPlace (network world.now.net) event }
         requires index { IsFor (network world.now.net) self.old }

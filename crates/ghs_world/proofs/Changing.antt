@@ -20,13 +20,14 @@ use Rattle.ghs_world.specs.Upkeep.{lawful_in, lawful_first, changed}
 use Rattle.ghs_world.proofs.lemmas.Leaving.{leaves, same_else}
 
 -- the index of the net before an event is that of the net after it, but for what has changed
-but_after : (old : NetState) (g : Shape) (w : Net) (wake : WakeSet) (e : Event) (d : Delta) (x : IndexState) → IsIndexOf (network old) (lawful_in old wake) x →
-    old.graph ≡ g → happens (network old) (net_of old) e ≡ Some w → IsAnswer old e d →
+but_after : (old : NetState) (g : Shape) (w : Net) (wake : WakeSet) (e : Event) (d : Delta) (x : IndexState) →
+    IsIndexOf (network old) (lawful_in old wake) x → old.graph ≡ g → happens (network old) (net_of old) e ≡ Some w → IsAnswer old e d →
     IsIndexBut (network_of g) (is_lawful_under (may_wake g wake) (network_of g) w) (changed (network_of g) e d.sends) x
 but_after old g w wake e d x of same event answer = subst
     (λ (h : Shape). IsIndexBut (network_of h) (is_lawful_under (may_wake h wake) (network_of h) w) (changed (network_of h) e d.sends) x) same
     (but_of (network old) (lawful_in old wake) (is_lawful_under (may_wake old.graph wake) (network old) w) (changed (network old) e d.sends) x of
-    (λ f has none. same_else (network old) (may_wake old.graph wake) (net_of old) w e d f (leaves (network old) (net_of old) w e d event answer) none))
+    (λ f has none. same_else (network old) (may_wake old.graph wake) (net_of old) w e d f
+    (leaves (network old) (net_of old) w e d event answer) none))
 
 pub index_but : (old new : NetState) (wake : WakeSet) (e : Event) (d : Delta) (x : IndexState) → IsIndexOf (network old) (lawful_in old wake) x →
     new.graph ≡ old.graph → happens (network old) (net_of old) e ≡ Some (net_of new) → IsAnswer old e d →
@@ -46,7 +47,8 @@ wake_among v (suc n) u lo hi = ⊎_elim
     (cases_lt v u)
 
 -- at the opening no Take is lawful
-pub none_but_wakes : (g : Shape) (wake : WakeSet) (x : IndexState) → IsIndexOf (network_of g) (λ _. false) x → IsIndexBut (network_of g) (lawful_first g wake) (wakes 1 g.nodes) x
+pub none_but_wakes : (g : Shape) (wake : WakeSet) (x : IndexState) → IsIndexOf (network_of g) (λ _. false) x →
+    IsIndexBut (network_of g) (lawful_first g wake) (wakes 1 g.nodes) x
 none_but_wakes g wake x of = but_of (network_of g) (λ _. false) (lawful_first g wake) (wakes 1 g.nodes) x of not_lawful
   where
     no_message : (b : Bool) → (b && false) ≡ false
@@ -68,13 +70,14 @@ pub one_wake_less : (v n m : ℕ) → n ≡ suc m → wakes v n ≡ Wake v ∷ w
 one_wake_less v n m e = rw e refl
 
 -- the index of the opening net
-pub index_first : (n : NetState) (g : Shape) (wake : WakeSet) (x : IndexState) → n.graph ≡ g → net_of n ≡ opening (network_of g) → IsIndexOf (network_of g) (lawful_first g wake) x →
-    IsIndexOf (network n) (lawful_in n wake) x
+pub index_first : (n : NetState) (g : Shape) (wake : WakeSet) (x : IndexState) → n.graph ≡ g → net_of n ≡ opening (network_of g) →
+    IsIndexOf (network_of g) (lawful_first g wake) x → IsIndexOf (network n) (lawful_in n wake) x
 index_first n g wake x same net of =
     let here : net_of n ≡ opening (network_of n.graph) = net ∙ ap (λ (h : Shape). opening (network_of h)) (sym same) in
     subst (λ (w : Net). IsIndexOf (network n) (is_lawful_under (may_wake n.graph wake) (network n) w) x) (sym here)
     (subst (λ (h : Shape). IsIndexOf (network_of h) (lawful_first h wake) x) (sym same) of)
 
 -- the same net has the same index
-pub index_same : (old new : NetState) (wake : WakeSet) (x : IndexState) → IsIndexOf (network old) (lawful_in old wake) x → IsSameNet old new → IsIndexOf (network new) (lawful_in new wake) x
+pub index_same : (old new : NetState) (wake : WakeSet) (x : IndexState) → IsIndexOf (network old) (lawful_in old wake) x → IsSameNet old new →
+    IsIndexOf (network new) (lawful_in new wake) x
 index_same old new wake x of same = rw (same.graph, same.trace) of

@@ -15,7 +15,8 @@ module _ (s : WorldState) (from : ℕ) where
   unfolding next_node_of
   found_next v e = find-append (has_ready s) (range_with_len from (s.net.graph.nodes + 1 - from)) (range_with_len 1 s.net.graph.nodes) ∙ rw e refl
 
-  pub else_next : find (has_ready s) (range_with_len from (s.net.graph.nodes + 1 - from)) ≡ None → next_node_of s from ≡ find (has_ready s) (range_with_len 1 (s.net.graph.nodes + 1 - 1))
+  pub else_next : find (has_ready s) (range_with_len from (s.net.graph.nodes + 1 - from)) ≡ None →
+      next_node_of s from ≡ find (has_ready s) (range_with_len 1 (s.net.graph.nodes + 1 - 1))
   unfolding next_node_of
   else_next e =
       let n : s.net.graph.nodes + 1 - 1 ≡ s.net.graph.nodes = omega arith in
@@ -43,7 +44,8 @@ module _ (p : ℕ → Bool) where
         from = omega arith;
         to = omega arith;
         here = rest.here;
-        none = λ u lo hi. ⊎_elim (λ (lt : a < u). rest.none u (omega arith) hi) (λ (le : u ≤ a). let z : u ≡ a = omega arith in rw z not_here) (cases_lt a u);
+        none = λ u lo hi. ⊎_elim (λ (lt : a < u). rest.none u (omega arith) hi)
+            (λ (le : u ≤ a). let z : u ≡ a = omega arith in rw z not_here) (cases_lt a u);
       })
       (cases_Bool (p a))
 
@@ -53,7 +55,8 @@ module _ (p : ℕ → Bool) where
       (λ (yes_here : p a ≡ true). let k = sym (ap (λ (b : Bool). cond b (Some a) (find p (range_with_len (a + 1) n))) yes_here) ∙ e in cc)
       (λ (not_here : p a ≡ false).
       let rest = sym (ap (λ (b : Bool). cond b (Some a) (find p (range_with_len (a + 1) n))) not_here) ∙ e in
-      ⊎_elim (λ (lt : a < u). none_tells (a + 1) n rest u (omega arith) (omega arith)) (λ (le : u ≤ a). let z : u ≡ a = omega arith in rw z not_here) (cases_lt a u))
+      ⊎_elim (λ (lt : a < u). none_tells (a + 1) n rest u (omega arith) (omega arith))
+      (λ (le : u ≤ a). let z : u ≡ a = omega arith in rw z not_here) (cases_lt a u))
       (cases_Bool (p a))
 
 -- where nothing may happen, or the node is out, nothing is ready
@@ -76,7 +79,8 @@ pub record IsPast (s : WorldState) (low from : ℕ) : Type 0 where
   pub order : low ≤ from
   pub none : (u : ℕ) → low ≤ u → u < from → has_ready s u ≡ false
 
-pub past_more : (s : WorldState) (low from v : ℕ) → IsPast s low from → Tells (has_lawful s) from (s.net.graph.nodes + 1 - from) v → is_out s.outs v ≡ true → IsPast s low (v + 1)
+pub past_more : (s : WorldState) (low from v : ℕ) → IsPast s low from → Tells (has_lawful s) from (s.net.graph.nodes + 1 - from) v →
+    is_out s.outs v ≡ true → IsPast s low (v + 1)
 past_more s low from v past tells out = record {
   some = omega arith;
   order = (let a = tells.from in let b = past.order in omega arith);
@@ -89,8 +93,8 @@ past_more s low from v past tells out = record {
       (cases_lt u from);
 }
 
-pub past_found : (s : WorldState) (low from v : ℕ) → IsPast s low from → Tells (has_lawful s) from (s.net.graph.nodes + 1 - from) v → is_out s.outs v ≡ false →
-    find (has_ready s) (range_with_len low (s.net.graph.nodes + 1 - low)) ≡ Some v
+pub past_found : (s : WorldState) (low from v : ℕ) → IsPast s low from → Tells (has_lawful s) from (s.net.graph.nodes + 1 - from) v →
+    is_out s.outs v ≡ false → find (has_ready s) (range_with_len low (s.net.graph.nodes + 1 - low)) ≡ Some v
 past_found s low from v past tells home =
     let a = tells.from in
     let b = tells.to in
@@ -99,14 +103,16 @@ past_found s low from v past tells home =
     (λ u lo hi. ⊎_elim (λ (lt : u < from). past.none u lo lt) (λ (le : from ≤ u). none_lawful s u (tells.none u le hi)) (cases_lt u from))
     (home_ready s v home tells.here)
 
-pub past_none : (s : WorldState) (low from : ℕ) → IsPast s low from → find (has_lawful s) (range_with_len from (s.net.graph.nodes + 1 - from)) ≡ None →
+pub past_none : (s : WorldState) (low from : ℕ) → IsPast s low from →
+    find (has_lawful s) (range_with_len from (s.net.graph.nodes + 1 - from)) ≡ None →
     find (has_ready s) (range_with_len low (s.net.graph.nodes + 1 - low)) ≡ None
 past_none s low from past e = none_found (has_ready s) low (s.net.graph.nodes + 1 - low) (λ u lo hi. ⊎_elim
     (λ (lt : u < from). past.none u lo lt)
     (λ (le : from ≤ u). none_lawful s u (none_tells (has_lawful s) from (s.net.graph.nodes + 1 - from) e u le (omega arith)))
     (cases_lt u from))
 
-pub past_all : (s : WorldState) (low from : ℕ) → IsPast s low from → s.net.graph.nodes < from → find (has_ready s) (range_with_len low (s.net.graph.nodes + 1 - low)) ≡ None
+pub past_all : (s : WorldState) (low from : ℕ) → IsPast s low from → s.net.graph.nodes < from →
+    find (has_ready s) (range_with_len low (s.net.graph.nodes + 1 - low)) ≡ None
 past_all s low from past above = none_found (has_ready s) low (s.net.graph.nodes + 1 - low) (λ u lo hi. past.none u lo (omega arith))
 
 -- the search begins at a number, and at node 1 at least

@@ -6,7 +6,8 @@ use Rattle.ghs_core.specs.declared.ledger.Ledger.{Ledger}
 use Rattle.ghs_world.specs.Outs.{messages_out}
 use Rattle.ghs_world.specs.WorldState.{WorldState, home}
 
--- The ledger of the home view, in which the messages of tickets are counted apart; and that it balances: what was sent was consumed, is out or is queued.
+-- The ledger of the home view, in which the messages of tickets are counted apart; and that it balances: what was sent was consumed,
+-- is out or is queued.
 pub record IsWorldLedger (s : WorldState) (l : Ledger) : Type 0 where
   pub sent : (k : ℕ) → k < 7 → slice_index l.sent k ≡ (home s).sent k
   pub consumed : (k : ℕ) → k < 7 → slice_index l.consumed k ≡ (home s).consumed k

@@ -75,7 +75,7 @@ fn put_in_order(numbers: &mut Vec<u32>)
     numbers.dedup();
 }
 
-// Node `v`, and the far end of each message that it sends.
+/// Node `v`, and the far end of each message that it sends.
 fn with_far_ends(
     alloc: Global,
     graph: &Graph,

@@ -136,7 +136,7 @@ impl World {
         Ok(Ticket::of(number, event, node, work))
     }
 
-    // Why an event isn't checked out, memory aside.
+    /// Why an event isn't checked out, memory aside.
     fn refusal(&self, event: Event) -> Option<OutFault>
         ensures { result ≡ refusal self.now event }
     {
@@ -170,8 +170,8 @@ impl World {
         self.make_answered(event, &delta)
     }
 
-    // The Take of a message that its node only puts back happens, under the next number. Neither a node nor the index is
-    // touched: a message still waits there, and nothing else has changed.
+    /// The Take of a message that its node only puts back happens, under the next number. Neither a node nor the index is
+    /// touched: a message still waits there, and nothing else has changed.
     fn put_back(&mut self, v: u32, port: u32) -> Result<(), AllocError>
         requires ready { is_ready self.old (Event.Take v port) ≡ true }
         requires turn { has_turn self.old ≡ true }
@@ -183,7 +183,7 @@ impl World {
         law_turns();
         let _ = self.net.trace();
         self.net.put_back(v, port)?;
-        Ok(self.outs.pass_number())
+        Ok(self.outs.skip_number())
     }
 
     /// The same for an event whose node's reaction is at hand (`answer`).
@@ -199,7 +199,7 @@ impl World {
         Ok(())
     }
 
-    // The event of a node that is at home happens, under the next number. Takes no memory.
+    /// The event of a node that is at home happens, under the next number. Takes no memory.
     fn happen(&mut self, event: Event, answer: &Delta)
         requires ready { is_ready self.old event ≡ true }
         requires turn { has_turn self.old ≡ true }
@@ -211,10 +211,10 @@ impl World {
         self.net.play(event, answer);
         let sends = answer.sends.as_slice();
         mark_changed(&mut self.index, &self.net, self.wake, event, sends);
-        self.outs.pass_number();
+        self.outs.skip_number();
     }
 
-    // Makes room for an event in the net.
+    /// Makes room for an event in the net.
     fn reserve(&mut self, event: Event, delta: &Delta) -> Result<(), AllocError>
         requires lawful { IsLawful self.old.net event }
         requires answer { IsAnswer self.old.net event delta.now }
@@ -259,7 +259,7 @@ impl World {
         }
     }
 
-    // The first Take at a port or later that is lawful in the home view.
+    /// The first Take at a port or later that is lawful in the home view.
     fn first_take(&self, v: u32, low: u32) -> Option<Event>
         requires low { 1 ≤ v }
         requires high { v ≤ self.now.net.graph.nodes }
@@ -280,7 +280,7 @@ impl World {
         }
     }
 
-    // The first node from a number on one of whose events may be checked out.
+    /// The first node from a number on one of whose events may be checked out.
     fn first_node(&self, low: u32) -> Option<u32>
         ensures { result ≡ find (has_ready self.now) (range_with_len low (self.now.net.graph.nodes + 1 - low)) }
     {
@@ -300,7 +300,7 @@ impl World {
         None
     }
 
-    // The first node from a number on one of whose events is lawful in the home view, under the wake set.
+    /// The first node from a number on one of whose events is lawful in the home view, under the wake set.
     fn lawful_from(&self, low: u32) -> Option<u32>
         requires low { 1 ≤ low }
         requires high { low ≤ self.now.net.graph.nodes }
@@ -328,7 +328,7 @@ impl World {
         !self.outs.has_node(node_of(event)) && self.may_happen(event)
     }
 
-    // Whether one of a node's events may be checked out, turns and memory aside.
+    /// Whether one of a node's events may be checked out, turns and memory aside.
     fn has_ready(&self, v: u32) -> bool
         ensures { result ≡ has_ready self.now v }
     {
@@ -355,7 +355,7 @@ impl World {
         self.index.kth(self.net.graph(), k)
     }
 
-    // Whether one of a node's events is lawful in the home view, under the wake set.
+    /// Whether one of a node's events is lawful in the home view, under the wake set.
     fn has_lawful(&self, v: u32) -> bool
         requires low { 1 ≤ v }
         requires high { v ≤ self.now.net.graph.nodes }
@@ -364,7 +364,7 @@ impl World {
         self.index.has_any(self.net.graph(), v)
     }
 
-    // Whether an event is lawful in the home view, under the wake set.
+    /// Whether an event is lawful in the home view, under the wake set.
     fn may_happen(&self, event: Event) -> bool
         requires { has_place (network self.now.net) event ≡ true }
         ensures { result ≡ may_happen self.now event }
@@ -408,7 +408,7 @@ impl World {
         Ok(Committed { woken, halted })
     }
 
-    // Makes the room for a commit, and finds the nodes that it will touch.
+    /// Makes the room for a commit, and finds the nodes that it will touch.
     fn make_room(
         &mut self,
         alloc: Global,
@@ -433,7 +433,7 @@ impl World {
         nodes
     }
 
-    // The event of a ticket that is out happens, and touches these nodes. Takes no memory.
+    /// The event of a ticket that is out happens, and touches these nodes. Takes no memory.
     fn carry_out(&mut self, out: u64, event: Event, delta: &Delta, nodes: Vec<u32>) -> Woken
         requires out { event_out self.old.outs out ≡ Some event }
         requires answer { IsAnswer self.old.net event delta.now }
@@ -452,7 +452,7 @@ impl World {
         self.ready_of(nodes)
     }
 
-    // Of some nodes those that may be checked out.
+    /// Of some nodes those that may be checked out.
     fn ready_of(&self, mut nodes: Vec<u32>) -> Woken
         ensures { result ≡ filter (has_ready self.now) nodes.items }
     {
@@ -486,7 +486,7 @@ impl World {
         self.outs.clear();
     }
 
-    // Whether a ticket is the one of its number, whose event is out.
+    /// Whether a ticket is the one of its number, whose event is out.
     fn is_counterfoil(&self, ticket: &Ticket, event: Event) -> bool
         requires { event_out self.now.outs ticket.now.number ≡ Some event }
         ensures same { IsTrue result ↔ IsOut self.now ticket.now }

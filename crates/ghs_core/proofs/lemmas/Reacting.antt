@@ -27,7 +27,8 @@ delivered n p (m ∷ ms) lt = lt
 
 module _ (s : NetState) (graph : IsGraph s.graph) (run : IsRun (network s) s.trace) where
   pub node_is : (v : ℕ) → IsNodeOf (network s) v ((net_of s).node v)
-  node_is v = (after_formed (network s) (graph_wired s.graph graph) (graph_few s.graph graph) s.trace (net_of s) (after_is_net s.graph s.trace run)).nodes v
+  node_is v =
+      (after_formed (network s) (graph_wired s.graph graph) (graph_few s.graph graph) s.trace (net_of s) (after_is_net s.graph s.trace run)).nodes v
 
   pub work_port : (e : Event) → IsLawful s e → HasPort ((net_of s).node (event_node e)) (work_at (net_of s) e)
   work_port (Wake v) h = tt

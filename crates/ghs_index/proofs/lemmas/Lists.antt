@@ -25,7 +25,8 @@ module _ {X : Type 0} where
     map_at (y ∷ ys) zero x e = ap p (same_Some y x e)
     map_at (y ∷ ys) (suc i) x e = map_at ys i x e
 
-    pub map_of : (xs : List X) (bs : List Bool) → length bs ≡ length xs → ((i : ℕ) (x : X) → slice_get xs i ≡ Some x → get_or bs i false ≡ p x) → bs ≡ map p xs
+    pub map_of : (xs : List X) (bs : List Bool) → length bs ≡ length xs →
+        ((i : ℕ) (x : X) → slice_get xs i ≡ Some x → get_or bs i false ≡ p x) → bs ≡ map p xs
     map_of [] [] e h = refl
     map_of [] (b ∷ bs) e h = absurd (omega arith)
     map_of (x ∷ xs) [] e h = absurd (omega arith)
@@ -40,7 +41,8 @@ module _ {X : Type 0} where
     none_any [] h = refl
     none_any (x ∷ xs) h = rw (h 0 x refl) (none_any xs (λ i y k. h (suc i) y k))
 
-    pub find_at : (xs : List X) (i : ℕ) (x : X) → slice_get xs i ≡ Some x → p x ≡ true → ((j : ℕ) (y : X) → j < i → slice_get xs j ≡ Some y → p y ≡ false) → find p xs ≡ Some x
+    pub find_at : (xs : List X) (i : ℕ) (x : X) → slice_get xs i ≡ Some x → p x ≡ true →
+        ((j : ℕ) (y : X) → j < i → slice_get xs j ≡ Some y → p y ≡ false) → find p xs ≡ Some x
     find_at [] i x e h none = cc
     find_at (y ∷ ys) zero x e h none = let z = same_Some y x e in rw (ap p z ∙ h) (ap Some z)
     find_at (y ∷ ys) (suc i) x e h none = rw (none 0 y (omega arith) refl) (find_at ys i x e h (λ j z lt k. none (suc j) z (omega arith) k))
@@ -54,7 +56,8 @@ module _ (p : ℕ → Bool) where
   pub first_found : (a n v : ℕ) → a ≤ v → v < a + n → ((u : ℕ) → a ≤ u → u < v → p u ≡ false) → p v ≡ true → find p (range_with_len a n) ≡ Some v
   first_found a zero v le lt none here = absurd (omega arith)
   first_found a (suc n) v le lt none here = ⊎_elim
-      (λ (above : a < v). rw (none a (omega arith) above) (first_found (a + 1) n v (omega arith) (omega arith) (λ u lo hi. none u (omega arith) hi) here))
+      (λ (above : a < v). rw (none a (omega arith) above)
+      (first_found (a + 1) n v (omega arith) (omega arith) (λ u lo hi. none u (omega arith) hi) here))
       (λ (same : v ≤ a). let e : v ≡ a = omega arith in rw e (rw (rw e at here) refl))
       (cases_lt a v)
 

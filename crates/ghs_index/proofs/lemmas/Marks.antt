@@ -32,7 +32,8 @@ module _ (g : Network) where
   mark_is p x e of has = ap (λ bs. at bs (place g e)) of.marks ∙ map_at p (all_events g) (place g e) e (placed g e has)
 
   -- where another test says the same but for some events
-  pub but_of : (p q : Event → Bool) (some : List Event) (x : IndexState) → IsIndexOf g p x → ((e : Event) → HasPlace g e → (Contains some e → ⊥) → q e ≡ p e) → IsIndexBut g q some x
+  pub but_of : (p q : Event → Bool) (some : List Event) (x : IndexState) → IsIndexOf g p x →
+      ((e : Event) → HasPlace g e → (Contains some e → ⊥) → q e ≡ p e) → IsIndexBut g q some x
   but_of p q some x of same = record {
     index = is_for p x of;
     marks = λ e has none. mark_is p x e of has ∙ sym (same e has none);
@@ -42,12 +43,13 @@ module _ (g : Network) where
   pub of_but : (p : Event → Bool) (x : IndexState) → IsIndexBut g p [] x → IsIndexOf g p x
   of_but p x but = record {
     bases = but.index.bases;
-    marks = map_of p (all_events g) x.marks but.index.many (λ i e h. let there = only_place g i e h in ap (at x.marks) there.1 ∙ but.marks e there.0 (nothing_in e));
+    marks = map_of p (all_events g) x.marks but.index.many
+        (λ i e h. let there = only_place g i e h in ap (at x.marks) there.1 ∙ but.marks e there.0 (nothing_in e));
   }
 
   -- one less
-  pub but_set : (p : Event → Bool) (e : Event) (some : List Event) (x : IndexState) (marked : Bool) → IsIndexBut g p (e ∷ some) x → HasPlace g e → marked ≡ p e →
-      IsIndexBut g p some (record x { marks = set x.marks (place g e) marked })
+  pub but_set : (p : Event → Bool) (e : Event) (some : List Event) (x : IndexState) (marked : Bool) → IsIndexBut g p (e ∷ some) x → HasPlace g e →
+      marked ≡ p e → IsIndexBut g p some (record x { marks = set x.marks (place g e) marked })
   but_set p e some x marked but has right = record {
     index = record { bases = but.index.bases; many = length-set x.marks (place g e) marked ∙ but.index.many };
     marks = λ f there none. ⊎_elim

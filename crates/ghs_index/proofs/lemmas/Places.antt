@@ -77,7 +77,8 @@ module _ (g : Network) where
       (cases_lt n (suc m))
 
   -- the events of node n + 1
-  pub node_place : (n j : ℕ) → n < g.count → j < suc (length (g.ports (suc n))) → slice_get (all_events g) (length (events_to g n) + j) ≡ slice_get (node_events g (suc n)) j
+  pub node_place : (n j : ℕ) → n < g.count → j < suc (length (g.ports (suc n))) →
+      slice_get (all_events g) (length (events_to g n) + j) ≡ slice_get (node_events g (suc n)) j
   node_place n j lt below =
       let l = length_next n in
       front g.count (suc n) (length (events_to g n) + j) (omega arith) (omega arith) ∙ get_right (events_to g n) (node_events g (suc n)) j
@@ -99,7 +100,8 @@ module _ (g : Network) where
   place_within e h = slice_get_within (all_events g) (place g e) e (placed e h)
 
   -- and nowhere else
-  of_node : (n j : ℕ) (e : Event) → n < g.count → slice_get (node_events g (suc n)) j ≡ Some e → HasPlace g e × (length (events_to g n) + j ≡ place g e)
+  of_node : (n j : ℕ) (e : Event) → n < g.count → slice_get (node_events g (suc n)) j ≡ Some e →
+      HasPlace g e × (length (events_to g n) + j ≡ place g e)
   of_node n zero e lt h =
       let down : suc n - 1 ≡ n = omega arith in
       let same : Wake (suc n) ≡ e = same_Some _ _ (sym (wake_at (suc n) (length (g.ports (suc n)))) ∙ h) in
@@ -110,7 +112,8 @@ module _ (g : Network) where
       let within = slice_get_within (node_events g (suc n)) (suc q) e h in
       let port : q < length (g.ports (suc n)) = omega arith in
       let same : Take (suc n) q ≡ e = same_Some _ _ (sym (take_at (suc n) (length (g.ports (suc n))) q port) ∙ h) in
-      subst (λ (f : Event). HasPlace g f × (length (events_to g n) + suc q ≡ place g f)) same (record { some = omega arith; node = lt; port = port }, rw down refl)
+      subst (λ (f : Event). HasPlace g f × (length (events_to g n) + suc q ≡ place g f)) same
+      (record { some = omega arith; node = lt; port = port }, rw down refl)
 
   only_to : (n i : ℕ) (e : Event) → n ≤ g.count → slice_get (events_to g n) i ≡ Some e → HasPlace g e × (i ≡ place g e)
   only_to zero i e le h = cc
@@ -118,7 +121,9 @@ module _ (g : Network) where
       (λ (before : i < length (events_to g n)). only_to n i e (omega arith) (sym (get_left (events_to g n) (node_events g (suc n)) i before) ∙ h))
       (λ (from : length (events_to g n) ≤ i).
       let up : length (events_to g n) + (i - length (events_to g n)) ≡ i = omega arith in
-      let here = of_node n (i - length (events_to g n)) e le (sym (get_right (events_to g n) (node_events g (suc n)) (i - length (events_to g n))) ∙ ap (slice_get (events_to g (suc n))) up ∙ h) in
+      let here =
+      of_node n (i - length (events_to g n)) e le
+      (sym (get_right (events_to g n) (node_events g (suc n)) (i - length (events_to g n))) ∙ ap (slice_get (events_to g (suc n))) up ∙ h) in
       (here.0, sym up ∙ here.1))
       (cases_lt i (length (events_to g n)))
 

@@ -23,8 +23,8 @@ use Rattle.ghs_sched.proofs.lemmas.Runs.{still_going}
 use Rattle.ghs_patient.specs.Runs.{HasTurns, IsShort}
 
 -- one event more at the end
-patient_more : (g : Network) (es : List Event) (w x y : Net) (e : Event) → IsPatient g w es → run g es w ≡ Some x → IsPatientIn g x e → Happens g x e y →
-    IsPatient g w (es ++ e ∷ [])
+patient_more : (g : Network) (es : List Event) (w x y : Net) (e : Event) → IsPatient g w es → run g es w ≡ Some x → IsPatientIn g x e →
+    Happens g x e y → IsPatient g w (es ++ e ∷ [])
 patient_more g [] w x y e p r q h =
     let same : w ≡ x = same_Some w x r in
     And_then (subst (λ z. IsPatientIn g z e) (sym same) q) (subst (λ z. Happens g z e y) (sym same) h) No_more

@@ -159,7 +159,8 @@ module _ (g : Network) (wired : IsWired g) (w : Scene) (holds : Invariant g w) (
             record {
               mine = mine;
               theirs =
-                  subst₂ (λ (x y : Floor). lower x y ≡ true) (sym mine) (sym (theirs ∙ ap Some q)) (below_lower (best_key (w.at u).head.best) k better);
+                  subst₂ (λ (x y : Floor). lower x y ≡ true) (sym mine) (sym (theirs ∙ ap Some q))
+                  (below_lower (best_key (w.at u).head.best) k better);
             }
 
     by_root : (waits : (w.seen u j).tree ≡ ChangeRoot ∷ ms) → RootFloors

@@ -424,7 +424,8 @@ module _ (g : Network) (ground : Ground g) (k : ℕ) (log : IsFloorLog2 g.count 
     tests_have_paid : w.sent 2 + w.sent 4 ≡ w.consumed 3 + tests_out g w + paid_by_ports g es (opening g)
     tests_have_paid =
         let z = (counted g ground.wired all_ports (Tallied TestsSo) each es (opening g) w 0 (opening_formed g few)
-        (record { has = opening_has g ground k log; counts = (let n = sum_none g.count (λ i. 0) (λ i lt. refl) in omega (arith, n)) }) after).counts in
+        (record { has = opening_has g ground k log; counts = (let n = sum_none g.count (λ i. 0) (λ i lt. refl) in omega (arith, n)) })
+        after).counts in
         let y = ports_add_up g es (opening g) in
         omega (arith, z, y)
       where

@@ -30,7 +30,14 @@ use Rattle.ghs_protocol.proofs.acts.Grounds.{graph_ground}
 use Rattle.ghs_node.proofs.lemmas.{branch_mark}
 
 pub opening_sound : (g : Network) → Sound g (scene (opening g) opening_ghost)
-opening_sound g = record { first = opening_holds g; floor = λ v. None; floors = opening_floors g; scans = opening_scans g; tried = λ v is. record { untried = λ q b. refl; way = λ e ne. absurd (ne refl) }; lives = opening_lives g }
+opening_sound g = record {
+  first = opening_holds g;
+  floor = λ v. None;
+  floors = opening_floors g;
+  scans = opening_scans g;
+  tried = λ v is. record { untried = λ q b. refl; way = λ e ne. absurd (ne refl) };
+  lives = opening_lives g;
+}
 
 pub after_sound : (g : Network) → Ground g → HasFewPorts g → (es : List Event) (w : Net) → IsAfter g es w → HasSound g w
 after_sound g ground few es w h =

@@ -181,7 +181,8 @@ module _ (ks : List Key) (pay : Option Key → ℕ → ℕ) (m : Fragments) (eve
       Closes ks pay (united u v l c m) (united x y k d m) e f i j
   square u v x y e f ne l k c d {i} {j} p q a b l' k' c' d' fa eb s =
       Square (united x y k' d' (united u v l c m)) (goes ks pay (united u v l c m) x y k' d' j f (f_later u v x y e f p q ne l k c d a b) fa)
-      (subst (Unites ks pay (united x y k d m) e i) (sym s) (goes ks pay (united x y k d m) u v l' c' i e (e_later u v x y e f p q ne l k c d a b) eb))
+      (subst (Unites ks pay (united x y k d m) e i) (sym s)
+      (goes ks pay (united x y k d m) u v l' c' i e (e_later u v x y e f p q ne l k c d a b) eb))
 
   two_merges : (u v x y : ℕ) (e f : Key) → e ≢ f →
       IsLeastOut ks m u v e → IsLeastOut ks m v u e → m.level u ≡ m.level v →
@@ -303,8 +304,8 @@ cases_key e f =
     (λ ne. inr (λ z. ne (ap (λ (k : Key). k.a) z))) (cases_eq e.a f.a))
     (λ ne. inr (λ z. ne (ap (λ (k : Key). k.weight) z))) (cases_eq e.weight f.weight)
 
-pub diamond : (ks : List Key) (pay : Option Key → ℕ → ℕ) (m : Fragments) → IsEven m → (e f : Key) (i j : ℕ) (n p : Fragments) → Unites ks pay m e i n → Unites ks pay m f j p →
-    Closes ks pay n p e f i j
+pub diamond : (ks : List Key) (pay : Option Key → ℕ → ℕ) (m : Fragments) → IsEven m → (e f : Key) (i j : ℕ) (n p : Fragments) →
+    Unites ks pay m e i n → Unites ks pay m f j p → Closes ks pay n p e f i j
 diamond ks pay m even e f i j n p a b =
     ⊎_elim (λ s. let z = one_step ks pay m even f i j n p (subst (λ k. Unites ks pay m k i n) s a) b in Same z.0 z.1)
     (λ ne. apart_links ks pay m even e f i j n p ne a b) (cases_key e f)

@@ -109,7 +109,8 @@ module _ (ks : List Key) (pay : Option Key → ℕ → ℕ) (m : Fragments) (eve
           ⊎_elim (λ z. let a = ap m.level z.0 in let b = ap m.level z.1 in omega (arith, a, b, le))
           (λ z. let a = ap m.level z.0 in let b = ap m.level z.1 in omega (arith, a, b, le)) h
 
-      least : (j : Key) (s t : ℕ) → Contains ks j → Between j s t → m.fragment s ≡ m.fragment u → m.fragment t ≢ m.fragment u → key_lt j f.link ≡ false
+      least : (j : Key) (s t : ℕ) → Contains ks j → Between j s t → m.fragment s ≡ m.fragment u → m.fragment t ≢ m.fragment u →
+          key_lt j f.link ≡ false
       least j s t has h same away =
           ⊎_elim (λ lt. absurd (let a = is_low ends in let b = low_j h in omega (arith, a, b, lt))) (λ z. z.1) (f.first j has (leaves h))
         where
@@ -153,7 +154,8 @@ module _ (ks : List Key) (pay : Option Key → ℕ → ℕ) (m : Fragments) (eve
   -- where none can, no link leads out of any fragment
   whole_of_none : ((j : Key) → Contains ks j → m.fragment j.a ≡ m.fragment j.b) → (v : ℕ) → IsWhole ks m v
   whole_of_none none v j s t has ends e =
-      ⊎_elim (λ z. sym (ap m.fragment z.1) ∙ sym (none j has) ∙ ap m.fragment z.0 ∙ e) (λ z. sym (ap m.fragment z.0) ∙ none j has ∙ ap m.fragment z.1 ∙ e) ends
+      ⊎_elim (λ z. sym (ap m.fragment z.1) ∙ sym (none j has) ∙ ap m.fragment z.0 ∙ e)
+      (λ z. sym (ap m.fragment z.0) ∙ none j has ∙ ap m.fragment z.1 ∙ e) ends
 
   pub end_whole : IsEnd ks m → (v : ℕ) → IsWhole ks m v
   end_whole no_more =

@@ -16,13 +16,16 @@ module _ (ks : List Key) (pay : Option Key → ℕ → ℕ) where
   merging_even m _ _ z (Then {n = n} {k = k} {es = es} {c = c} {d = d} s r) even = merging_even n es d z r (step_even m k c n s even)
 
   -- steps, and further ones
-  pub merging_on : (m n z : Fragments) (es fs : List Key) (c d : ℕ) → Merging ks pay m es c n → Merging ks pay n fs d z → Merging ks pay m (es ++ fs) (c + d) z
+  pub merging_on : (m n z : Fragments) (es fs : List Key) (c d : ℕ) → Merging ks pay m es c n → Merging ks pay n fs d z →
+      Merging ks pay m (es ++ fs) (c + d) z
   merging_on m n z es fs c d s t = go m n z es fs c d s t
     where
-      more : (m x z : Fragments) (k : Key) (gs : List Key) (a b d e : ℕ) → a + (b + d) ≡ e → Unites ks pay m k a x → Merging ks pay x gs (b + d) z → Merging ks pay m (k ∷ gs) e z
+      more : (m x z : Fragments) (k : Key) (gs : List Key) (a b d e : ℕ) → a + (b + d) ≡ e → Unites ks pay m k a x → Merging ks pay x gs (b + d) z →
+          Merging ks pay m (k ∷ gs) e z
       more m x z k gs a b d e is s r = subst (λ y. Merging ks pay m (k ∷ gs) y z) is (Then s r)
 
-      go : (m n z : Fragments) (es fs : List Key) (c d : ℕ) → Merging ks pay m es c n → Merging ks pay n fs d z → Merging ks pay m (es ++ fs) (c + d) z
+      go : (m n z : Fragments) (es fs : List Key) (c d : ℕ) → Merging ks pay m es c n → Merging ks pay n fs d z →
+          Merging ks pay m (es ++ fs) (c + d) z
       go m _ z _ fs _ d Done t = subst (λ y. Merging ks pay m fs y z) (sym (zero-add d)) t
       go m n z _ fs _ d (Then {n = x} {k = k} {es = es} {c = a} {d = b} s r) t =
           more m x z k (es ++ fs) a b d (a + b + d) (omega arith) s (go x n z es fs b d r t)

@@ -178,7 +178,8 @@ pub wake_change : (n : NodeState) (ks : List Mark) → n.marks ≡ ks → MarkCh
 wake_change n [] e = Stays
 wake_change n (k ∷ ks) e = To_branch 0 (let z = ap length e in omega (arith, z))
 
-wake_connects : (n : NodeState) (ks : List Mark) → n.marks ≡ ks → mark_at n 0 ≢ Branch → of_kind 0 (messages (at_wake n ks).sends) ≡ fresh n (at_wake n ks).mark
+wake_connects : (n : NodeState) (ks : List Mark) → n.marks ≡ ks → mark_at n 0 ≢ Branch →
+    of_kind 0 (messages (at_wake n ks).sends) ≡ fresh n (at_wake n ks).mark
 unfolding fresh
 wake_connects n [] e ne = refl
 wake_connects n (k ∷ ks) e ne = sym (free_one n 0 ne)

@@ -65,7 +65,9 @@ module _ (g : Network) (ground : Ground g) (w : Scene) (s : Sound g w) (u : ℕ)
     }
       where
         here_floor : s.floor u ≡ Some None
-        here_floor = (near_fits g ground.wired w s.first s.floor s.floors u j at).core c (begun_at_top (tree_end (end g w u j)) z.here a z.at_here) rests ∙ ap (λ o. Some (best_key o)) best
+        here_floor =
+            (near_fits g ground.wired w s.first s.floor s.floors u j at).core c (begun_at_top (tree_end (end g w u j)) z.here a z.at_here) rests
+            ∙ ap (λ o. Some (best_key o)) best
 
         there_floor : s.floor (far g u j) ≡ Some None
         there_floor =

@@ -91,7 +91,8 @@ module _ (g : Network) (w w' : Net) (v : ℕ) (v_is : InNetwork g v) (is : IsNod
   is_now p = ap (λ (n : NodeState). mark_at n p) here
 
   -- what holds at v holds everywhere
-  everywhere : (X : ℕ → ℕ → Type 0) → ((p : ℕ) → (X v p → ⊥) → get_or (with_mark (w.node v).marks d.mark) p Rejected ≡ Branch → mark_at (w.node v) p ≡ Branch) →
+  everywhere : (X : ℕ → ℕ → Type 0) →
+      ((p : ℕ) → (X v p → ⊥) → get_or (with_mark (w.node v).marks d.mark) p Rejected ≡ Branch → mark_at (w.node v) p ≡ Branch) →
       (u p : ℕ) → (X u p → ⊥) → mark_at (w'.node u) p ≡ Branch → mark_at (w.node u) p ≡ Branch
   everywhere X at u p out e =
       ⊎_elim

@@ -53,7 +53,8 @@ module _ (g : Shape) (w : Net) (u : ℕ) (q : IsQuietAt g w u) where
   way_home ne = ((simulated g w q.net).sound.tried u (u_is g w u q)).way best_none ne
 
   -- a node of its fragment is of its component
-  quiet_there : (t : ℕ) → InNetwork (network_of g) t → (simulated g w q.net).ghost.fragment t ≡ (simulated g w q.net).ghost.fragment u → Joined (links g.keys) u t
+  quiet_there : (t : ℕ) → InNetwork (network_of g) t → (simulated g w q.net).ghost.fragment t ≡ (simulated g w q.net).ghost.fragment u →
+      Joined (links g.keys) u t
   quiet_there t is e =
       leads_join g q.net.graph (links g.keys) (IsJoinedIn (network_of g) (forest (scene w (simulated g w q.net).ghost)))
       (λ v p at j. is_key g q.net.graph v p at)

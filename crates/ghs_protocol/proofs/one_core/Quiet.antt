@@ -166,7 +166,8 @@ module _ (g : Shape) (w : Net) (u : ℕ) (q : IsQuietAt g w u) where
     k_way : Joined (links g.keys) q.woken (port_at (network_of g) u p).key.a
     k_way =
         ⊎_elim (λ e. subst (Joined (links g.keys) q.woken) e.0 q.way)
-        (λ e. joined_then (subst (Joined (links g.keys) q.woken) e.0 q.way) (Back (port_at (network_of g) u p).key (is_key g q.net.graph u p at) Same))
+        (λ e. joined_then (subst (Joined (links g.keys) q.woken) e.0 q.way)
+        (Back (port_at (network_of g) u p).key (is_key g q.net.graph u p at) Same))
         (port_ends g q.net.graph u p at)
 
     -- a link of the tree is joined

@@ -155,7 +155,8 @@ module _ (s : Shape) (ok : IsGraph s) where
 
   step_simulated : (w w' : Net) → IsWellFormed (network_of s) w → Simulated s w → Step (network_of s) w w' → Simulated s w'
   step_simulated w w' f i t =
-      let a : Stepped (network_of s) (graph_ground s ok) (step_takes t) w' i.ghost = step_grows g (graph_ground s ok) w w' f.nodes i.ghost i.sound t in
+      let a : Stepped (network_of s) (graph_ground s ok) (step_takes t) w' i.ghost =
+      step_grows g (graph_ground s ok) w w' f.nodes i.ghost i.sound t in
       let b : Went s.keys i.state (step_takes t) a.steps a.ghost = grows_merges s ok i.state i.ghost a.ghost i.same (step_takes t) a.steps a.grows in
       let lasts : AllLast w w' = step_happens g f t (λ e h. event_lasts g (graph_wired s ok) w w' e f h) in
       record {

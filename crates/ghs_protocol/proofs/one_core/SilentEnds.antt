@@ -53,7 +53,8 @@ module _ (g : Network) (ground : Ground g) (w : Scene) (s : Sound g w) (lives : 
         (reach g ground w s.first lives silent u u_is awake whole t p at e) (e ∙ sym same))
 
   pub floor_none : (t p : ℕ) → At g t p → (w.at t).fragment ≡ (w.at u).fragment → s.floor t ≡ Some None
-  floor_none t p at e = go (root_of g ground w s.first lives silent u u_is awake whole (reach g ground w s.first lives silent u u_is awake whole t p at e) e)
+  floor_none t p at e =
+      go (root_of g ground w s.first lives silent u u_is awake whole (reach g ground w s.first lives silent u u_is awake whole t p at e) e)
     where
       go :
           (a : ℕ) × (j : ℕ) × ((w.at a).fragment ≡ (w.at u).fragment) × BegunCore g w a j →
@@ -74,7 +75,9 @@ module _ (g : Network) (ground : Ground g) (w : Scene) (s : Sound g w) (lives : 
       where
         go : (b : Best) → (w.at t).head.best ≡ b → b ≡ None
         go None e = refl
-        go (Some (b, k)) e = absurd (⊎_elim (λ m. ⊎_elim (λ m'. joined m m') (λ m'. out m m') (mark_is ((w.at (far g t b)).mark (far_port g t b)))) apart (mark_is ((w.at t).mark b)))
+        go (Some (b, k)) e =
+            absurd (⊎_elim (λ m. ⊎_elim (λ m'. joined m m') (λ m'. out m m') (mark_is ((w.at (far g t b)).mark (far_port g t b)))) apart
+            (mark_is ((w.at t).mark b)))
           where
             atb : At g t b
             atb = record { some = at.some; node = at.node; port = ((s.first.nodes t is).best_port b k e).0 }

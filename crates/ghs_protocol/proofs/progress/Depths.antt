@@ -69,7 +69,8 @@ module _ (g : Network) (s : Forest) where
     once = AllPairs-cons Differ v rest.nodes (All-weaker (NoDeeper n) (Differ v) other rest.nodes rest.each) rest.once;
     each =
         All-cons (NoDeeper (suc n)) v rest.nodes (record { some = at.some; node = at.node }, (suc n, mine, omega arith))
-        (All-weaker (NoDeeper n) (NoDeeper (suc n)) (λ x z. (z.0, let t = z.1 in (t.0, t.1, let le = t.2 in omega (arith, le)))) rest.nodes rest.each);
+        (All-weaker (NoDeeper n) (NoDeeper (suc n))
+        (λ x z. (z.0, let t = z.1 in (t.0, t.1, let le = t.2 in omega (arith, le)))) rest.nodes rest.each);
     long = ap suc rest.long;
   }
     where

@@ -140,7 +140,8 @@ module _ (g : Shape) (graph : IsGraph g) where
               (λ i k r.
                   let ea : u ≡ v = cc in
                   let eb : q ≡ p = cc in
-                  nearer k w w' z.message z.behind (here (sym ea) (sym eb) ∙ z.queue) (there (sym ea) (sym eb) z.waits) (turned_here (sym ea) (sym eb)) r),
+                  nearer k w w' z.message z.behind (here (sym ea) (sym eb) ∙ z.queue) (there (sym ea) (sym eb) z.waits)
+                  (turned_here (sym ea) (sym eb)) r),
               (λ i r.
                   let ea : u ≡ v = cc in
                   let eb : q ≡ p = cc in first_goes w z.message z.behind (here (sym ea) (sym eb) ∙ z.queue) (there (sym ea) (sym eb) z.waits) r),

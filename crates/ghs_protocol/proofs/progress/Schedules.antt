@@ -381,7 +381,8 @@ module _ (g : Shape) (may : ℕ → Bool) (w : Net) where
           (λ no. inr (more (λ c. absurd (both_ways (may (suc k)) no c))))
           (cases_Bool (may (suc k)))
         where
-          more : (may (suc k) ≡ true → (w.node (suc k)).head.phase ≢ Sleeping) → (v : ℕ) → 1 ≤ v → v ≤ suc k → may v ≡ true → (w.node v).head.phase ≢ Sleeping
+          more : (may (suc k) ≡ true → (w.node (suc k)).head.phase ≢ Sleeping) → (v : ℕ) → 1 ≤ v → v ≤ suc k → may v ≡ true →
+              (w.node v).head.phase ≢ Sleeping
           more last v lo hi can = ⊎_elim
               (λ (e : v ≡ suc k). subst (λ u. (w.node u).head.phase ≢ Sleeping) (sym e) (last (subst (λ u. may u ≡ true) e can)))
               (λ ne. rest v lo (omega (arith, hi, ne)) can)
@@ -476,7 +477,8 @@ module _ (g : Shape) (ok : IsGraph g) (may : ℕ → Bool) (w : Net) (n : IsNetO
                     let l = length-append z.wakes (events.Wake (suc k) ∷ []) in
                     let r = wake_gets_on g ok z.next (suc k) t.0 z.is t.1 in omega (arith, a, l, r);
                 awake = λ v lo hi c. ⊎_elim
-                    (λ (e : v ≡ suc k). subst (λ u. (t.0.node u).head.phase ≢ Sleeping) (sym e) (woken_is_awake (network_of g) z.next (suc k) t.0 t.1))
+                    (λ (e : v ≡ suc k). subst (λ u. (t.0.node u).head.phase ≢ Sleeping) (sym e)
+                    (woken_is_awake (network_of g) z.next (suc k) t.0 t.1))
                     (λ ne. (lasts v).awake (z.awake v lo (omega (arith, hi, ne)) c))
                     (cases_eq v (suc k));
               }

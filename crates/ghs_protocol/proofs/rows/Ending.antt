@@ -123,7 +123,10 @@ module _ (g : Network) (ground : Ground g) (v : ℕ) (v_is : InNetwork g v) wher
         (rests_scan g v (ended (w.at v) Reporting) (λ e. cc));
     tried =
         tried_put g v (ended (w.at v) Reporting) w.at n.floor (Some (best_key (w.at v).head.best)) n.tried
-        (record { untried = λ q b. not_lower (Some (port_at g v q).key) (best_key (w.at v).head.best) (scan.done q finds none b); way = (n.tried v is).way });
+        (record {
+          untried = λ q b. not_lower (Some (port_at g v q).key) (best_key (w.at v).head.best) (scan.done q finds none b);
+          way = (n.tried v is).way;
+        });
     lives =
         subst (λ (q : ℕ → Seen). Lives g (acts g v (ended (w.at v) Reporting) q (last_sends (w.at v).head Reporting) w)) (put_again (w.seen v) s.port)
         (subst (λ b.

@@ -140,7 +140,13 @@ module _ (g : Network) (v p : ℕ) (w : Net) (gh : Ghost) (ms : List Message) wh
 -- a message that goes round: the scene stays
 module _ (g : Network) (ground : Ground g) (v p : ℕ) (at : At g v p) (w : Net) (gh : Ghost) (sound : Sound g (scene w gh)) (ms : List Message) where
   goes_round : (m : Message) → see (ms ++ m ∷ []) ≡ see (w.queue v p) → Kept g 0 gh gh.up (taken g v p m ms (requeues (w.node v).head) w)
-  goes_round m e = record { ghost = gh; ups = refl; steps = 0; grows = As_it_was refl refl refl; holds = subst (Sound g) (sym (round_scene g v w gh p m ms e)) sound }
+  goes_round m e = record {
+    ghost = gh;
+    ups = refl;
+    steps = 0;
+    grows = As_it_was refl refl refl;
+    holds = subst (Sound g) (sym (round_scene g v w gh p m ms e)) sound;
+  }
 
   pub connect_again : (l : ℕ) → w.queue v p ≡ Connect l ∷ ms → ((scene w gh).at v).mark p ≡ Basic → see (ms ++ Connect l ∷ []) ≡ see (w.queue v p)
   connect_again l waits basic =

@@ -174,7 +174,8 @@ module _ (g : Network) (wired : IsWired g) (u : ℕ) (u_is : InNetwork g u) (j :
     floors = accept_floors g wired u u_is j at w s.first a waits own s.floor s.floors;
     scans = now_but g u (took_accept (w.at u) j (port_at g u j).key) w.at s.scans;
     tried = tried_same g u (took_accept (w.at u) j (port_at g u j).key) w.at s.floor s.tried
-        (tried_fewer g u (w.at u) (took_accept (w.at u) j (port_at g u j).key) (s.floor u) (λ q b. b) (λ e. better_none (w.at u).head.best j (Some (port_at g u j).key) e) refl refl (s.tried u here));
+        (tried_fewer g u (w.at u) (took_accept (w.at u) j (port_at g u j).key) (s.floor u) (λ q b. b)
+        (λ e. better_none (w.at u).head.best j (Some (port_at g u j).key) e) refl refl (s.tried u here));
     lives = accept_lives g wired u u_is j at w s.first s.lives a own;
   }
 
@@ -200,7 +201,8 @@ module _ (g : Network) (wired : IsWired g) (u : ℕ) (u_is : InNetwork g u) (j :
     floors = report_floors g wired u u_is j at w s.first k ms c waits away count s.floor s.floors;
     scans = now_but g u (took_report (w.at u) j k c) w.at s.scans;
     tried = tried_same g u (took_report (w.at u) j k c) w.at s.floor s.tried
-        (tried_fewer g u (w.at u) (took_report (w.at u) j k c) (s.floor u) (λ q b. b) (λ e. better_none (w.at u).head.best j k e) refl refl (s.tried u here));
+        (tried_fewer g u (w.at u) (took_report (w.at u) j k c) (s.floor u) (λ q b. b)
+        (λ e. better_none (w.at u).head.best j k e) refl refl (s.tried u here));
     lives = report_lives g wired u u_is j at w s.first s.lives k ms c waits away count;
   }
 
@@ -418,7 +420,8 @@ module _ (g : Network) (ground : Ground g) (u : ℕ) (u_is : InNetwork g u) (w :
     floors = wakes_meeting_floors g ground u u_is w s.first at sleeps s.floor s.floors m;
     scans = scans_relabel g _ _ _ _ (acts g u (awakened (w.at u)) (w.seen u) ((0, Connect 0) ∷ []) w) awoken;
     tried =
-        tried_relabel g _ _ _ _ (acts g u (awakened (w.at u)) (w.seen u) ((0, Connect 0) ∷ []) w) (put s.floor u (Some (Some (port_at g u 0).key))) woken_tried;
+        tried_relabel g _ _ _ _ (acts g u (awakened (w.at u)) (w.seen u) ((0, Connect 0) ∷ []) w)
+        (put s.floor u (Some (Some (port_at g u 0).key))) woken_tried;
     lives = wakes_meeting_lives g ground.wired u u_is w s.first s.lives at sleeps ground m;
   }
 

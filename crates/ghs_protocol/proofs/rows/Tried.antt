@@ -41,7 +41,8 @@ tried_put g u x at floor a h here v is =
     subst (λ m. Tried g v m (put floor u a v)) (sym (put_other at u v x ne)) (subst (Tried g v (at v)) (sym (put_other floor u v a ne)) (h v is)))
     (cases_eq v u)
 
-pub tried_relabel : (g : Network) (c a l : ℕ) (n : Option Key) (w : Scene) (floor : ℕ → Floor) → AllTried g w floor → AllTried g (relabel c a l n w) floor
+pub tried_relabel : (g : Network) (c a l : ℕ) (n : Option Key) (w : Scene) (floor : ℕ → Floor) → AllTried g w floor →
+    AllTried g (relabel c a l n w) floor
 tried_relabel g c a l n w floor h v is =
     subst (λ m. Tried g v m (floor v)) (sym (joining_as c a l n (w.at v))) (let t = h v is in record { untried = t.untried; way = t.way })
 

@@ -259,5 +259,6 @@ module _ (g : Network) (wired : IsWired g) (u : ℕ) (u_is : InNetwork g u) (w :
           halted =
               halted_more g wired u u_is x (w.seen u) [] w floor floors (floor u) refl
               (λ t p at same.
-              absurd (let e = holds.alone u t u_is (record { some = at.some; node = at.node }) sleeps same in no_port p (subst (λ y. At g y p) e at)));
+              absurd (let e = holds.alone u t u_is (record { some = at.some; node = at.node }) sleeps same in
+              no_port p (subst (λ y. At g y p) e at)));
         })

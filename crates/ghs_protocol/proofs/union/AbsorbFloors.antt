@@ -112,7 +112,8 @@ module _ (g : Network) (ground : Ground g) (u : ℕ) (u_is : InNetwork g u) (w :
         in_tree =
             in_tree_after g ground.wired u u_is x (put (w.seen u) j q) ((j, call) ∷ []) w floor floors (floor u)
             (λ p at' m. ⊎_elim
-            (λ e. subst (IsTreeLink g u) (sym e) (tree_link_back g ground.wired u j at (floors.in_tree _ _ (ground.wired.there u j at) marked_beyond)))
+            (λ e. subst (IsTreeLink g u) (sym e)
+            (tree_link_back g ground.wired u j at (floors.in_tree _ _ (ground.wired.there u j at) marked_beyond)))
             (λ ne. floors.in_tree u p at' (sym (put_other (w.at u).mark j p Branch ne) ∙ m))
             (cases_eq p j));
         halted = halted_after g ground.wired u u_is x (put (w.seen u) j q) ((j, call) ∷ []) w floor floors (floor u) refl refl;

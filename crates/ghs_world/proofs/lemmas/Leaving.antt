@@ -51,7 +51,8 @@ module _ (g : Network) (v : ℕ) where
   unsent (s ∷ ss) w u q none =
       unsent ss (send g v w s) u q (λ h. none (later_in (Take (far g v s.0) (far_port g v s.0)) (Take u q) _ h))
       ∙ put_at_miss w.queue (far g v s.0) (far_port g v s.0) u q _
-      (λ z. none (subst (λ (e : Event). Contains (e ∷ arrivals g v ss) (Take u q)) (ap (λ a. Take a q) z.0 ∙ ap (Take (far g v s.0)) z.1) (first_in (Take u q) (arrivals g v ss))))
+      (λ z. none (subst (λ (e : Event). Contains (e ∷ arrivals g v ss) (Take u q)) (ap (λ a. Take a q) z.0 ∙ ap (Take (far g v s.0)) z.1)
+      (first_in (Take u q) (arrivals g v ss))))
 
 -- other nodes than an event's are as they were
 abbrev pub NodesStay : Net → Net → Event → Type 0
@@ -76,7 +77,8 @@ module _ (g : Network) where
     queue = λ u q none. unsent g v d.sends (change v d w) u q (past (Wake v) (Wake v) (Take u q) _ none).2;
   }
 
-  took_leaves : (w : Net) (v p : ℕ) (m : Message) (ms : List Message) (d : Delta) → Leaves g w (send_all g v d.sends (change v d (take_first d.fate v p m ms w))) (Take v p) d
+  took_leaves : (w : Net) (v p : ℕ) (m : Message) (ms : List Message) (d : Delta) →
+      Leaves g w (send_all g v d.sends (change v d (take_first d.fate v p m ms w))) (Take v p) d
   took_leaves w v p m ms d = record {
     node = λ u ne. taken_there g v p m ms d w u ne;
     queue = λ u q none.
@@ -85,30 +87,39 @@ module _ (g : Network) where
         ∙ put_at_miss w.queue v p u q (left_of d.fate m ms) (λ z. apart.1 (ap (λ a. Take a q) z.0 ∙ ap (Take v) z.1));
   }
 
-  happens_leaves : (w w' : Net) (e : Event) (d : Delta) → Happens g w e w' → reaction (w.node (event_node e)) (work_at w e) ≡ Some d → Leaves g w w' e d
-  happens_leaves w _ _ d (Woke v c lo hi s r) answer = subst (λ x. Leaves g w (send_all g v c.sends (change v c w)) (Wake v) x) (same_Some c d (sym r ∙ answer)) (woke_leaves w v c)
+  happens_leaves : (w w' : Net) (e : Event) (d : Delta) → Happens g w e w' → reaction (w.node (event_node e)) (work_at w e) ≡ Some d →
+      Leaves g w w' e d
+  happens_leaves w _ _ d (Woke v c lo hi s r) answer =
+      subst (λ x. Leaves g w (send_all g v c.sends (change v c w)) (Wake v) x) (same_Some c d (sym r ∙ answer)) (woke_leaves w v c)
   happens_leaves w _ _ d (Took v p m ms c at q r) answer =
-      subst (λ x. Leaves g w (send_all g v c.sends (change v c (take_first c.fate v p m ms w))) (Take v p) x) (same_Some c d (sym r ∙ sym (ap (λ k. reaction (w.node v) (delivery p k)) q) ∙ answer)) (took_leaves w v p m ms c)
+      subst (λ x. Leaves g w (send_all g v c.sends (change v c (take_first c.fate v p m ms w))) (Take v p) x)
+      (same_Some c d (sym r ∙ sym (ap (λ k. reaction (w.node v) (delivery p k)) q) ∙ answer)) (took_leaves w v p m ms c)
 
-  pub leaves : (w w' : Net) (e : Event) (d : Delta) → happens g w e ≡ Some w' → reaction (w.node (event_node e)) (work_at w e) ≡ Some d → Leaves g w w' e d
+  pub leaves : (w w' : Net) (e : Event) (d : Delta) → happens g w e ≡ Some w' → reaction (w.node (event_node e)) (work_at w e) ≡ Some d →
+      Leaves g w w' e d
   leaves w w' e d h answer = happens_leaves w w' e d (happening g w w' e h) answer
 
   -- an event that isn't among the changed ones is as lawful as before
-  pub same_else : (may : ℕ → Bool) (w w' : Net) (e : Event) (d : Delta) (f : Event) → Leaves g w w' e d → (Contains (changed g e d.sends) f → ⊥) → is_lawful_under may g w' f ≡ is_lawful_under may g w f
+  pub same_else : (may : ℕ → Bool) (w w' : Net) (e : Event) (d : Delta) (f : Event) → Leaves g w w' e d → (Contains (changed g e d.sends) f → ⊥) →
+      is_lawful_under may g w' f ≡ is_lawful_under may g w f
   same_else may w w' e d (Wake u) after none =
-      ap (λ (n : NodeState). may u && (is_node g u && is_sleeping n.head.phase)) (after.node u (λ z. (past (Wake (event_node e)) e (Wake u) _ none).0 (ap Wake z)))
+      ap (λ (n : NodeState). may u && (is_node g u && is_sleeping n.head.phase))
+      (after.node u (λ z. (past (Wake (event_node e)) e (Wake u) _ none).0 (ap Wake z)))
   same_else may w w' e d (Take u q) after none = ap (λ (l : List Message). is_port g u q && is_waiting l) (after.queue u q none)
 
 -- one event more is marked as it should be
-pub marked_one : (g : Network) (p : Event → Bool) (e : Event) (x y : IndexState) (marked : Bool) → y ≡ record x { marks = set x.marks (place g e) marked } → marked ≡ p e → HasPlace g e →
+pub marked_one : (g : Network) (p : Event → Bool) (e : Event) (x y : IndexState) (marked : Bool) →
+    y ≡ record x { marks = set x.marks (place g e) marked } → marked ≡ p e → HasPlace g e →
     (others : List Event) → IsIndexBut g p (e ∷ others) x → IsIndexBut g p others y
 marked_one g p e x y marked same right has others but = rw same (but_set g p e others x marked but has right)
 
 -- a far end is a port
-pub far_place : (g : Shape) (v p : ℕ) → IsGraph g → 1 ≤ v → v ≤ g.nodes → p < length (ports_of g.keys v) → has_place (network_of g) (Take (far (network_of g) v p) (far_port (network_of g) v p)) ≡ true
+pub far_place : (g : Shape) (v p : ℕ) → IsGraph g → 1 ≤ v → v ≤ g.nodes → p < length (ports_of g.keys v) →
+    has_place (network_of g) (Take (far (network_of g) v p) (far_port (network_of g) v p)) ≡ true
 far_place g v p graph lo hi lt = is_port_of (network_of g) _ _ ((graph_wired g graph).there v p (record { some = lo; node = hi; port = lt }))
 
-pub node_place : (g : Network) (e : Event) → has_place g e ≡ true → (1 ≤ event_node e) × (event_node e ≤ g.count) × (has_place g (Wake (event_node e)) ≡ true)
+pub node_place : (g : Network) (e : Event) → has_place g e ≡ true →
+    (1 ≤ event_node e) × (event_node e ≤ g.count) × (has_place g (Wake (event_node e)) ≡ true)
 node_place g (Wake v) h = let n = node_of g v h in (n.0, n.1, h)
 node_place g (Take v p) h = let at = at_of g v p h in (at.some, at.node, is_node_of g v at.some at.node)
 

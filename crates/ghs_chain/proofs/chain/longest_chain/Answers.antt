@@ -12,7 +12,8 @@ loop-event-init c =
     record {
       graph = graph;
       trace = c.in-Ok.ensures.trace;
-      chains = none_are c.in-Ok.net c.in_ok-chains.chains c.args.graph.now graph c.in-Ok.ensures.trace c.in_ok-chains.ensures.fits c.in_ok-chains.ensures.none;
+      chains = none_are c.in-Ok.net c.in_ok-chains.chains c.args.graph.now graph c.in-Ok.ensures.trace c.in_ok-chains.ensures.fits
+          c.in_ok-chains.ensures.none;
     }
 
 pub follow-requires-clause-lawful : goal.follow-requires-clause-lawful
@@ -33,12 +34,14 @@ pub loop-event-preserved : goal.loop-event-preserved
 loop-event-preserved c = record {
   graph = c.in_ok-follow.ensures.graph ∙ c.loop-event.invariant.graph;
   trace =
-      c.in_ok-follow.ensures.trace ∙ ap (λ (l : List Event). l ++ slice_index_or c.args.events.now c.loop-event.event-index (Wake 0) ∷ []) c.loop-event.invariant.trace
+      c.in_ok-follow.ensures.trace
+      ∙ ap (λ (l : List Event). l ++ slice_index_or c.args.events.now c.loop-event.event-index (Wake 0) ∷ []) c.loop-event.invariant.trace
       ∙ sym (take_more c.args.events.now c.loop-event.event-index (Wake 0) c.loop-event-test.true);
   chains = c.in_ok-follow.ensures.chains;
 }
 
 pub returns : goal.returns
 returns c =
-    longest_is c.loop-event.net c.loop-event.chains c.args.graph.now c.args.events.now c.loop-event.event-index c.longest.result c.loop-event.invariant.chains
+    longest_is c.loop-event.net c.loop-event.chains c.args.graph.now c.args.events.now c.loop-event.event-index c.longest.result
+    c.loop-event.invariant.chains
     c.loop-event.invariant.graph c.loop-event.invariant.trace (omega (arith, c.loop-event-test.false)) c.longest.ensures

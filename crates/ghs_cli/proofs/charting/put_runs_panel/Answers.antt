@@ -5,7 +5,8 @@ use Rattle.ghs_cli.proofs.charting.put_runs_panel.Goals as goal
 
 pub put_panel-requires-clause-sent : goal.put_panel-requires-clause-sent
 put_panel-requires-clause-sent c =
-    many_rising Sent c.args.runs.now c.in_ok-sent.sent.items c.deref.result.now c.deref.ensures.value c.in_ok-sent.ensures c.requires.some c.requires.few
+    many_rising Sent c.args.runs.now c.in_ok-sent.sent.items c.deref.result.now c.deref.ensures.value c.in_ok-sent.ensures c.requires.some
+    c.requires.few
 
 pub put_panel-requires-clause-requeued : goal.put_panel-requires-clause-requeued
 put_panel-requires-clause-requeued c =

@@ -17,6 +17,7 @@ loop-left-preserved g c =
     record {
       lines = one_portion_more c.args.options.now c.args.by c.args.front.now c.args.graph.now
           (c.args.options.now.seeds.last - c.args.options.now.seeds.first + 1) c.loop-left.left c.min-portion.result _ c.loop-left.lines.items
-          c.in_ok-more.more.items c.append.new.self.items within some refl c.loop-left.invariant.lines c.in_ok-more.ensures c.in_ok-append.ensures.items;
+          c.in_ok-more.more.items c.append.new.self.items within some refl c.loop-left.invariant.lines c.in_ok-more.ensures
+          c.in_ok-append.ensures.items;
       left = omega (arith, some);
     }

@@ -9,34 +9,45 @@ use Rattle.ghs_cli.proofs.serve.print.Goals as goal
 pub returns-in_err-output-clause-serves : goal.returns-in_err-output-clause-serves
 returns-in_err-output-clause-serves g c =
     let is : c.from_residual.result ≡ Err c.in_err-output.field-0.0 = search rules in
-    if_stored c.args.job.now.task _ (λ stored. IfSome (g.R.Source.left c.args.graph.now) (λ input. IsCause c.args.job.now.task stored input c.in_err-output.field-0.0)) _
+    if_stored c.args.job.now.task _
+    (λ stored. IfSome (g.R.Source.left c.args.graph.now) (λ input. IsCause c.args.job.now.task stored input c.in_err-output.field-0.0)) _
     (λ stored. if_some _ (λ input. IsCause c.args.job.now.task stored input c.in_err-output.field-0.0) _
-    (λ input cause. serves_fault c.args.job.now.task stored input _ _ c.from_residual.result c.in_err-output.field-0.0 is c.in_err-output.ensures.early cause))
+    (λ input cause. serves_fault c.args.job.now.task stored input _ _ c.from_residual.result c.in_err-output.field-0.0 is
+    c.in_err-output.ensures.early cause))
     c.in_err-output.ensures.fault
 
 pub returns-in_err-write_out-clause-serves : goal.returns-in_err-write_out-clause-serves
 returns-in_err-write_out-clause-serves g c =
     let is : c.from_residual-in_err-write_out.result ≡ Err (serve.Write c.in_err-write_out.field-0.0.written) = search rules in
-    if_stored c.args.job.now.task _ (λ stored. IfSome (g.R.Source.left c.args.graph.now) (λ input. IsOutput c.args.job.now.task c.in_ok-output.output.at_limit stored input c.in_ok-output.output.text.items)) _
+    if_stored c.args.job.now.task _ (λ stored. IfSome (g.R.Source.left c.args.graph.now)
+    (λ input. IsOutput c.args.job.now.task c.in_ok-output.output.at_limit stored input c.in_ok-output.output.text.items)) _
     (λ stored. if_some _ (λ input. IsOutput c.args.job.now.task c.in_ok-output.output.at_limit stored input c.in_ok-output.output.text.items) _
-    (λ input out. serves_part c.args.job.now.task c.in_ok-output.output.at_limit stored input c.deref.result.now c.in_ok-output.output.text.items (g.W.Sink.held c.args.out.now) (g.W.Sink.held c.write_out.new.writer)
-    c.from_residual-in_err-write_out.result c.in_err-write_out.field-0.0.written c.deref.ensures.value is c.in_err-write_out.ensures.err.0 c.in_err-write_out.ensures.err.1 out))
+    (λ input out. serves_part c.args.job.now.task c.in_ok-output.output.at_limit stored input c.deref.result.now c.in_ok-output.output.text.items
+    (g.W.Sink.held c.args.out.now) (g.W.Sink.held c.write_out.new.writer)
+    c.from_residual-in_err-write_out.result c.in_err-write_out.field-0.0.written c.deref.ensures.value is c.in_err-write_out.ensures.err.0
+    c.in_err-write_out.ensures.err.1 out))
     c.in_ok-output.ensures.output
 
 pub returns-then-output-clause-serves : goal.returns-then-output-clause-serves
 returns-then-output-clause-serves g c =
-    if_stored c.args.job.now.task _ (λ stored. IfSome (g.R.Source.left c.args.graph.now) (λ input. IsOutput c.args.job.now.task c.in_ok-output.output.at_limit stored input c.in_ok-output.output.text.items)) _
+    if_stored c.args.job.now.task _ (λ stored. IfSome (g.R.Source.left c.args.graph.now)
+    (λ input. IsOutput c.args.job.now.task c.in_ok-output.output.at_limit stored input c.in_ok-output.output.text.items)) _
     (λ stored. if_some _ (λ input. IsOutput c.args.job.now.task c.in_ok-output.output.at_limit stored input c.in_ok-output.output.text.items) _
-    (λ input out. serves_limit c.args.job.now.task stored input c.deref.result.now c.in_ok-output.output.text.items (g.W.Sink.held c.args.out.now) (g.W.Sink.held c.write_out.new.writer)
-    c.deref.ensures.value c.in_ok-write_out.ensures.ok (subst (λ (b : Bool). IsOutput c.args.job.now.task b stored input c.in_ok-output.output.text.items) c.if-output.true out)))
+    (λ input out. serves_limit c.args.job.now.task stored input c.deref.result.now c.in_ok-output.output.text.items (g.W.Sink.held c.args.out.now)
+    (g.W.Sink.held c.write_out.new.writer)
+    c.deref.ensures.value c.in_ok-write_out.ensures.ok
+    (subst (λ (b : Bool). IsOutput c.args.job.now.task b stored input c.in_ok-output.output.text.items) c.if-output.true out)))
     c.in_ok-output.ensures.output
 
 pub returns-clause-serves : goal.returns-clause-serves
 returns-clause-serves g c =
-    if_stored c.args.job.now.task _ (λ stored. IfSome (g.R.Source.left c.args.graph.now) (λ input. IsOutput c.args.job.now.task c.in_ok-output.output.at_limit stored input c.in_ok-output.output.text.items)) _
+    if_stored c.args.job.now.task _ (λ stored. IfSome (g.R.Source.left c.args.graph.now)
+    (λ input. IsOutput c.args.job.now.task c.in_ok-output.output.at_limit stored input c.in_ok-output.output.text.items)) _
     (λ stored. if_some _ (λ input. IsOutput c.args.job.now.task c.in_ok-output.output.at_limit stored input c.in_ok-output.output.text.items) _
-    (λ input out. serves_all c.args.job.now.task stored input c.deref.result.now c.in_ok-output.output.text.items (g.W.Sink.held c.args.out.now) (g.W.Sink.held c.write_out.new.writer)
-    c.deref.ensures.value c.in_ok-write_out.ensures.ok (subst (λ (b : Bool). IsOutput c.args.job.now.task b stored input c.in_ok-output.output.text.items) c.if-output.false out)))
+    (λ input out. serves_all c.args.job.now.task stored input c.deref.result.now c.in_ok-output.output.text.items (g.W.Sink.held c.args.out.now)
+    (g.W.Sink.held c.write_out.new.writer)
+    c.deref.ensures.value c.in_ok-write_out.ensures.ok
+    (subst (λ (b : Bool). IsOutput c.args.job.now.task b stored input c.in_ok-output.output.text.items) c.if-output.false out)))
     c.in_ok-output.ensures.output
 
 pub returns-in_err-output-clause-ends : goal.returns-in_err-output-clause-ends
@@ -52,9 +63,10 @@ returns-in_err-write_out-clause-ends g c =
 
 pub returns-then-output-clause-ends : goal.returns-then-output-clause-ends
 returns-then-output-clause-ends g c =
-    ends_behind c.args.job.now.task (g.T.Source.left c.args.trace.now) (g.R.Source.left c.args.graph.now) c.in_ok-output.output.text.items (Err serve.TurnLimit)
-    c.law_one_judgement.ensures
-    (subst (λ (b : Bool). IfStored c.args.job.now.task (g.T.Source.left c.args.trace.now) (λ s. IfSome (g.R.Source.left c.args.graph.now) (λ i. IsOutput c.args.job.now.task b s i c.in_ok-output.output.text.items)))
+    ends_behind c.args.job.now.task (g.T.Source.left c.args.trace.now)
+    (g.R.Source.left c.args.graph.now) c.in_ok-output.output.text.items (Err serve.TurnLimit) c.law_one_judgement.ensures
+    (subst (λ (b : Bool). IfStored c.args.job.now.task (g.T.Source.left c.args.trace.now)
+    (λ s. IfSome (g.R.Source.left c.args.graph.now) (λ i. IsOutput c.args.job.now.task b s i c.in_ok-output.output.text.items)))
     c.if-output.true c.in_ok-output.ensures.output)
 
 pub returns-clause-ends : goal.returns-clause-ends

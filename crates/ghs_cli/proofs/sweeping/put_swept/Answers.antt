@@ -12,5 +12,5 @@ put_sheet-requires-clause-small g c =
 
 pub returns : goal.returns
 returns g c =
-    sheet_is_swept c.args.options.now c.args.front.now c.args.graph.now c.in_ok-runs.runs.items c.deref.result.now c.args.text.now.items c.put_sheet.new.text.items
-    c.deref.ensures.value c.in_ok-runs.ensures.runs c.in_ok-runs.ensures.all c.in_ok-put_sheet.ensures
+    sheet_is_swept c.args.options.now c.args.front.now c.args.graph.now c.in_ok-runs.runs.items c.deref.result.now c.args.text.now.items
+    c.put_sheet.new.text.items c.deref.ensures.value c.in_ok-runs.ensures.runs c.in_ok-runs.ensures.all c.in_ok-put_sheet.ensures

@@ -13,4 +13,5 @@ loop-v-preserved c =
     let node = c.index-nodes-v.is ∙ get_or_default c.args.nodes.now (v - 1) c.index-nodes-v.result no_node (omega (arith, c.requires.places)) in
     let level = c.get.ensures.value ∙ ap (λ h. h.level) c.head.ensures.head ∙ ap (λ n. n.head.level) node in
     rw (c.add.ensures, level)
-    (counted_more c.args.roots.now (level_in c.args.nodes.now) v (get_or c.args.roots.now v 0) c.index_mut.result.now c.loop-v.rows.items (omega arith) refl lt c.index_mut.ensures.value c.loop-v.invariant)
+    (counted_more c.args.roots.now (level_in c.args.nodes.now) v
+    (get_or c.args.roots.now v 0) c.index_mut.result.now c.loop-v.rows.items (omega arith) refl lt c.index_mut.ensures.value c.loop-v.invariant)

@@ -5,12 +5,12 @@ use Rattle.ghs_core.proofs.Sending.{port_out, room_for_next, kind_few, none_sent
 use Rattle.ghs_core.proofs.dispatch.send_all.Goals as goal
 
 pub loop-port-init : goal.loop-port-init
-loop-port-init c = λ g for. none_sent g c.args.v c.args.sends.now c.args.links.now c.args.sent.now c.requires.room
+loop-port-init c = λ g for. none_sent g c.args.v c.args.sends.now c.args.channels.now c.args.sent.now c.requires.room
 
 pub send-requires-clause-port : goal.send-requires-clause-port
 send-requires-clause-port c =
     let so_far = c.loop-port.invariant c.requires.queues.0 c.requires.queues.1 in
-    port_out c.args.links.now c.loop-port.links c.args.v c.args.sends.now c.loop-port.port-index c.loop-port-item.result c.requires.ports
+    port_out c.args.channels.now c.loop-port.channels c.args.v c.args.sends.now c.loop-port.port-index c.loop-port-item.result c.requires.ports
     so_far.arrives.ports c.loop-port-test.true c.loop-port-item.is
 
 pub send-requires-clause-room : goal.send-requires-clause-room
@@ -18,9 +18,9 @@ send-requires-clause-room c =
     let x = c.loop-port-item.result in
     let so_far = c.loop-port.invariant c.requires.queues.0 c.requires.queues.1 in
     let port =
-    port_out c.args.links.now c.loop-port.links c.args.v c.args.sends.now c.loop-port.port-index x c.requires.ports so_far.arrives.ports
+    port_out c.args.channels.now c.loop-port.channels c.args.v c.args.sends.now c.loop-port.port-index x c.requires.ports so_far.arrives.ports
     c.loop-port-test.true c.loop-port-item.is in
-    room_for_next c.args.v c.loop-port.links c.args.sends.now c.loop-port.port-index x x c.loop-port-test.true c.loop-port-item.is port so_far.room
+    room_for_next c.args.v c.loop-port.channels c.args.sends.now c.loop-port.port-index x x c.loop-port-test.true c.loop-port-item.is port so_far.room
 
 pub send-requires-clause-total : goal.send-requires-clause-total
 send-requires-clause-total c =
@@ -40,6 +40,6 @@ overflow_add-sent c =
 pub loop-port-preserved : goal.loop-port-preserved
 loop-port-preserved c = λ g for.
     let x = c.loop-port-item.result in
-    one_sent g c.args.v c.args.sends.now c.loop-port.port-index x x c.args.links.now c.loop-port.links _ c.args.sent.now c.loop-port.sent
+    one_sent g c.args.v c.args.sends.now c.loop-port.port-index x x c.args.channels.now c.loop-port.channels _ c.args.sent.now c.loop-port.sent
     c.place.result for c.requires.ports (omega arith) c.loop-port-test.true c.loop-port-item.is
     (c.place.ensures.place ∙ ap place_of c.kind.ensures) c.place.ensures.bound (c.loop-port.invariant g for) c.send.ensures

@@ -14,7 +14,8 @@ component-requires-clause-low c =
     let g = c.args.net.now.graph in
     let w = net_of c.args.net.now in
     let within : c.loop-v.v ≤ g.nodes =
-    (let t = c.loop-v-test.true in let n = c.nodes-v-end.ensures.nodes in let e = ap (λ g. g.nodes) c.graph-graph.ensures in omega (arith, t, n, e)) in
+    (let t = c.loop-v-test.true in let n = c.nodes-v-end.ensures.nodes in let e = ap (λ g. g.nodes) c.graph-graph.ensures in
+    omega (arith, t, n, e)) in
     let inside : c.loop-v.v < length c.in_ok-halted.halted.items = (let p = c.in_ok-halted.ensures.places in omega (arith, within, p)) in
     let read : c.index.result.now ≡ get_or c.in_ok-halted.halted.items c.loop-v.v 0 =
     c.index.ensures ∙ get_or_default_zero c.in_ok-halted.halted.items c.loop-v.v c.index.result.now inside in
@@ -27,7 +28,8 @@ loop-v-preserved c =
     let g = c.args.net.now.graph in
     let w = net_of c.args.net.now in
     let within : c.loop-v.v ≤ g.nodes =
-    (let t = c.loop-v-test.true in let n = c.nodes-v-end.ensures.nodes in let e = ap (λ g. g.nodes) c.graph-graph.ensures in omega (arith, t, n, e)) in
+    (let t = c.loop-v-test.true in let n = c.nodes-v-end.ensures.nodes in let e = ap (λ g. g.nodes) c.graph-graph.ensures in
+    omega (arith, t, n, e)) in
     let inside : c.loop-v.v < length c.in_ok-halted.halted.items = (let p = c.in_ok-halted.ensures.places in omega (arith, within, p)) in
     let root : IsRoot g.keys c.loop-v.v c.root.result = (rw c.graph-graph.ensures at c.root.ensures.root) in
     elim c.if-root-v.branch [
@@ -37,8 +39,8 @@ loop-v-preserved c =
           b.index.ensures ∙ get_or_default_zero c.in_ok-halted.halted.items c.loop-v.v b.index.result.now inside in
           let h : IsHaltedOf g w c.loop-v.v b.index.result.now =
           rw read (halts_somewhere g w c.in_ok-halted.halted.items c.loop-v.v c.in_ok-halted.ensures c.requires c.loop-v.auto.v within itself) in
-          below_one g (HasEndedIn g w) c.loop-v.v c.loop-v.components.items c.loop-v.invariant b.component.result b.push.new.self.items c.loop-v.auto.v
-          within b.component.ensures.root itself
+          below_one g (HasEndedIn g w) c.loop-v.v c.loop-v.components.items c.loop-v.invariant b.component.result b.push.new.self.items
+          c.loop-v.auto.v within b.component.ensures.root itself
           (record {
             node = b.index.result.now;
             some = h.some;

@@ -21,11 +21,12 @@ pub loop-v-preserved : goal.loop-v-preserved
 loop-v-preserved c =
     let head = ap (λ (h : Head). h.halted) (c.head.ensures.head ∙ ap (λ n. n.head) c.node.ensures) in
     let within : c.loop-v.v ≤ c.args.net.now.graph.nodes =
-    (let t = c.loop-v-test.true in let n = c.nodes-v-end.ensures.nodes in let g = ap (λ g. g.nodes) c.graph-graph.ensures in omega (arith, t, n, g)) in
+    (let t = c.loop-v-test.true in let n = c.nodes-v-end.ensures.nodes in let g = ap (λ g. g.nodes) c.graph-graph.ensures in
+    omega (arith, t, n, g)) in
     elim c.if-head.branch [
       | then-head w ↦ rw w.halted-is
-          (halts_one c.args.net.now.graph (net_of c.args.net.now) c.loop-v.v c.loop-v.halted.items c.loop-v.invariant w.root.result c.loop-v.auto.v within
-          (sym head ∙ w.if-head.true) (rw c.graph-graph.ensures at w.root.ensures.root))
+          (halts_one c.args.net.now.graph (net_of c.args.net.now) c.loop-v.v c.loop-v.halted.items c.loop-v.invariant w.root.result
+          c.loop-v.auto.v within (sym head ∙ w.if-head.true) (rw c.graph-graph.ensures at w.root.ensures.root))
       | else-head w ↦ rw w.halted-is
           (halts_not c.args.net.now.graph (net_of c.args.net.now) c.loop-v.v c.loop-v.halted.items c.loop-v.invariant
           (λ h. both_ways c.head.result.now.halted w.if-head.false (head ∙ h)))

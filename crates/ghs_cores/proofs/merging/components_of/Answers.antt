@@ -10,7 +10,8 @@ loop-v-preserved c =
     let within : c.loop-v.v ≤ c.args.graph.now.nodes = let t = c.loop-v-test.true in let n = c.nodes-v-end.ensures.nodes in omega (arith, t, n) in
     elim c.if-root-v.branch [
       | then-root-v+in_ok-push w ↦ rw w.components-is
-          (below_one c.args.graph.now (IsOfGraph c.args.graph.now) c.loop-v.v c.loop-v.components.items c.loop-v.invariant w.component.result w.push.new.self.items c.loop-v.auto.v
+          (below_one c.args.graph.now (IsOfGraph c.args.graph.now) c.loop-v.v c.loop-v.components.items c.loop-v.invariant w.component.result
+          w.push.new.self.items c.loop-v.auto.v
           within w.component.ensures.root (subst (λ r. IsRoot c.args.graph.now.keys c.loop-v.v r) w.if-root-v.true c.root.ensures.root)
           (w.component.ensures.core c.args.graph.now c.in_ok-fragments.ensures.merged) w.in_ok-push.ensures.items)
       | else-root-v w ↦ rw w.components-is

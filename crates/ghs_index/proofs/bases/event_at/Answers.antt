@@ -3,7 +3,9 @@ use Rattle.ghs_index.proofs.Finding.{wake_stands, take_stands}
 use Rattle.ghs_index.proofs.bases.event_at.Goals as goal
 
 pub returns-then-at-base : goal.returns-then-at-base
-returns-then-at-base c = wake_stands (network_of c.args.graph.now) c.args.bases.now c.node_at-v.result c.args.at c.requires.bases c.node_at-v.ensures.node c.node_at-v.ensures.last c.if-at-base.true
+returns-then-at-base c = wake_stands (network_of c.args.graph.now) c.args.bases.now c.node_at-v.result c.args.at c.requires.bases
+    c.node_at-v.ensures.node c.node_at-v.ensures.last c.if-at-base.true
 
 pub returns-else-at-base : goal.returns-else-at-base
-returns-else-at-base c = take_stands (network_of c.args.graph.now) c.args.bases.now c.node_at-v.result c.args.at c.requires.bases c.node_at-v.ensures.node c.node_at-v.ensures.last c.node_at-v.ensures.from c.node_at-v.ensures.to c.if-at-base.false
+returns-else-at-base c = take_stands (network_of c.args.graph.now) c.args.bases.now c.node_at-v.result c.args.at c.requires.bases
+    c.node_at-v.ensures.node c.node_at-v.ensures.last c.node_at-v.ensures.from c.node_at-v.ensures.to c.if-at-base.false

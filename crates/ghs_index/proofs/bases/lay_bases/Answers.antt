@@ -14,11 +14,14 @@ pub overflow_add-end-in-loop-i : goal.overflow_add-end-in-loop-i
 overflow_add-end-in-loop-i c =
     let nodes = c.nodes-nodes.ensures.nodes in
     let below = c.loop-i-test.true in
-    let few = fits_more c.args.graph.now c.nodes-nodes.ensures.graph c.loop-i.i (length c.ports.result.now) c.loop-i.end (omega arith) c.loop-i.invariant.1 (ap length c.ports.ensures) in
+    let few =
+    fits_more c.args.graph.now c.nodes-nodes.ensures.graph c.loop-i.i (length c.ports.result.now) c.loop-i.end (omega arith) c.loop-i.invariant.1
+    (ap length c.ports.ensures) in
     omega arith
 
 pub loop-i-preserved : goal.loop-i-preserved
-loop-i-preserved c = bases_more (network_of c.args.graph.now) c.loop-i.i c.loop-i.bases.items _ c.loop-i.end (length c.ports.result.now) c.loop-i.invariant.0 c.loop-i.invariant.1 (ap length c.ports.ensures) c.in_ok-push-3.ensures.items
+loop-i-preserved c = bases_more (network_of c.args.graph.now) c.loop-i.i c.loop-i.bases.items _ c.loop-i.end
+    (length c.ports.result.now) c.loop-i.invariant.0 c.loop-i.invariant.1 (ap length c.ports.ensures) c.in_ok-push-3.ensures.items
 
 pub returns-clause-few : goal.returns-clause-few
 returns-clause-few c = few_events c.args.graph.now c.nodes-nodes.ensures.graph

@@ -12,15 +12,16 @@ use Rattle.ghs_lifo.proofs.run.run_lifo.Goals as goal
 
 pub events-init : goal.events-init
 events-init c = record {
-  run = run_begins (IsPickedFrom c.args.world.now c.args.schedule.now) c.args.world.now c.recall_all.new.self c.args.schedule.now Begun c.recall_all.ensures;
+  run = run_begins (IsPickedFrom c.args.world.now c.args.schedule.now)
+      c.args.world.now c.recall_all.new.self c.args.schedule.now Begun c.recall_all.ensures;
   grown = grown_begins c.args.world.now c.recall_all.new.self c.recall_all.ensures;
   latest = c.in-Ok.ensures;
 }
 
 pub events-preserved : goal.events-preserved
 events-preserved c = let next = c.in-Ok-make_next.ensures.ok in record {
-  run = run_more (IsPickedFrom c.args.world.now c.args.schedule.now) c.args.world.now c.events.world c.make_next.new.world c.events.schedule c.make_next.new.schedule next.event c.events.invariant.run
-      next.made
+  run = run_more (IsPickedFrom c.args.world.now c.args.schedule.now) c.args.world.now c.events.world c.make_next.new.world c.events.schedule
+      c.make_next.new.schedule next.event c.events.invariant.run next.made
       (picked_more c.args.world.now c.events.world c.args.schedule.now c.events.schedule c.events.invariant.run
       (not_so c.ended-in-events.result c.ended-in-events.ensures.ended c.events-test.true) (sym c.has_turn.ensures ∙ c.if-not-has_turn.false)
       next.event c.make_next.new.schedule next.next);
@@ -32,10 +33,12 @@ events-preserved c = let next = c.in-Ok-make_next.ensures.ok in record {
 }
 
 pub returns-then-ended-clause-run : goal.returns-then-ended-clause-run
-returns-then-ended-clause-run c = run_begins (IsPickedFrom c.args.world.now c.args.schedule.now) c.args.world.now c.recall_all.new.self c.args.schedule.now Begun c.recall_all.ensures
+returns-then-ended-clause-run c = run_begins (IsPickedFrom c.args.world.now c.args.schedule.now)
+    c.args.world.now c.recall_all.new.self c.args.schedule.now Begun c.recall_all.ensures
 
 pub returns-in-Err-clause-run : goal.returns-in-Err-clause-run
-returns-in-Err-clause-run c = run_begins (IsPickedFrom c.args.world.now c.args.schedule.now) c.args.world.now c.recall_all.new.self c.args.schedule.now Begun c.recall_all.ensures
+returns-in-Err-clause-run c = run_begins (IsPickedFrom c.args.world.now c.args.schedule.now)
+    c.args.world.now c.recall_all.new.self c.args.schedule.now Begun c.recall_all.ensures
 
 pub returns-then-not-has_turn-clause-short : goal.returns-then-not-has_turn-clause-short
 returns-then-not-has_turn-clause-short c =

@@ -14,5 +14,6 @@ overflow_cast-result c =
     let start = c.part_start-start.ensures in
     let end = c.part_start.ensures in
     let some : 0 < c.part_start.result - c.part_start-start.result = omega arith in
-    let offset : c.word.result % (c.part_start.result - c.part_start-start.result) < c.part_start.result - c.part_start-start.result = mod-lt _ some in
+    let offset : c.word.result % (c.part_start.result - c.part_start-start.result) < c.part_start.result - c.part_start-start.result =
+    mod-lt _ some in
     omega arith

@@ -46,7 +46,8 @@ follow-requires-clause-ports c =
     let z = pickable c.args.world.now c.in_ok-rest.rest c.pick-event.result c.requires.home c.pick-event.ensures.pick in
     let made = c.in_ok-make_answered.ensures.made in
     let graph : IsGraph c.args.world.now.net.graph = subst (λ (n : NetState). IsGraph n.graph) c.net.ensures.net c.trace.ensures.graph in
-    let is_run : IsRun (network c.args.world.now.net) c.args.world.now.net.trace = subst (λ (n : NetState). IsRun (network n) n.trace) c.net.ensures.net c.trace.ensures.run in
+    let is_run : IsRun (network c.args.world.now.net) c.args.world.now.net.trace =
+    subst (λ (n : NetState). IsRun (network n) n.trace) c.net.ensures.net c.trace.ensures.run in
     rw made.graph (answer_sends c.args.world.now.net graph is_run c.pick-event.result c.in_ok-delta.delta z.lawful c.in_ok-delta.ensures)
 
 pub follow-requires-clause-own : goal.follow-requires-clause-own
@@ -54,10 +55,12 @@ follow-requires-clause-own c =
     let z = pickable c.args.world.now c.in_ok-rest.rest c.pick-event.result c.requires.home c.pick-event.ensures.pick in
     let made = c.in_ok-make_answered.ensures.made in
     let graph : IsGraph c.args.world.now.net.graph = subst (λ (n : NetState). IsGraph n.graph) c.net.ensures.net c.trace.ensures.graph in
-    let is_run : IsRun (network c.args.world.now.net) c.args.world.now.net.trace = subst (λ (n : NetState). IsRun (network n) n.trace) c.net.ensures.net c.trace.ensures.run in
+    let is_run : IsRun (network c.args.world.now.net) c.args.world.now.net.trace =
+    subst (λ (n : NetState). IsRun (network n) n.trace) c.net.ensures.net c.trace.ensures.run in
     rw made.graph (marks_own c.args.world.now.net graph is_run c.pick-event.result c.in_ok-delta.delta z.lawful c.in_ok-delta.ensures)
 
 pub follow-requires-clause-choices : goal.follow-requires-clause-choices
 follow-requires-clause-choices c =
     rw (c.head.ensures.head, c.node.ensures, c.net-2.ensures.net, c.node_of.ensures)
-    (keeps c.args.world.now c.make_answered.new.self c.pick-event.result c.in_ok-delta.delta c.args.choices.now c.requires.choices c.in_ok-make_answered.ensures.made c.in_ok-delta.ensures)
+    (keeps c.args.world.now c.make_answered.new.self c.pick-event.result c.in_ok-delta.delta c.args.choices.now c.requires.choices
+    c.in_ok-make_answered.ensures.made c.in_ok-delta.ensures)

@@ -12,13 +12,17 @@ events-init c = record {
 
 pub events-preserved : goal.events-preserved
 events-preserved c = record {
-  run = run_more c.args.world.now c.events.world c.make_next.new.world c.args.schedule.now c.events.schedule c.make_next.new.schedule c.events.invariant.run
+  run = run_more c.args.world.now c.events.world c.make_next.new.world c.args.schedule.now c.events.schedule c.make_next.new.schedule
+      c.events.invariant.run
       (not_so c.ended.result c.ended.ensures.ended c.events-test.true) (sym c.has_turn.ensures ∙ c.if-not-has_turn.false) c.in-Ok.ensures.ok;
   chains = c.in-Ok.ensures.chains;
 }
 
 pub returns-in-Err-clause-run : goal.returns-in-Err-clause-run
-returns-in-Err-clause-run c = rw c.in-Err.ensures.word (run_stays c.args.world.now c.events.world c.make_next.new.world c.args.schedule.now c.events.schedule c.events.invariant.run c.in-Err.ensures.err)
+returns-in-Err-clause-run c =
+    rw c.in-Err.ensures.word (run_stays c.args.world.now c.events.world c.make_next.new.world c.args.schedule.now c.events.schedule
+    c.events.invariant.run c.in-Err.ensures.err)
 
 pub returns-clause-whole : goal.returns-clause-whole
-returns-clause-whole c = is_whole c.args.world.now c.events.world c.args.schedule.now c.events.schedule c.events.invariant.run (c.ended.ensures.ended.0 c.events-test.false)
+returns-clause-whole c = is_whole c.args.world.now c.events.world c.args.schedule.now c.events.schedule c.events.invariant.run
+    (c.ended.ensures.ended.0 c.events-test.false)

@@ -7,7 +7,14 @@ use Rattle.ghs_rounds.proofs.laws.law_rounds_are_few.Goals as goal
 
 pub returns : goal.returns
 returns c =
-    let law : Promised = record { one = c.law_one_waits.ensures; requeues = c.law_requeues.ensures; turns = c.law_turns.ensures; others = c.law_others.ensures; awake = c.law_awake.ensures } in
+    let law : Promised =
+    record {
+      one = c.law_one_waits.ensures;
+      requeues = c.law_requeues.ensures;
+      turns = c.law_turns.ensures;
+      others = c.law_others.ensures;
+      awake = c.law_awake.ensures;
+    } in
     λ may g turns words es r after ok all b bound by.
     let near = rounds_are_near law c.law_rules.ensures c.law_patience_lasts.ensures may g ok turns words es r after by all in
     let run = (told law c.law_rules.ensures c.law_patience_lasts.ensures may g ok turns words es r after by).is_run in

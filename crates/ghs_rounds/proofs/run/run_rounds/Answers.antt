@@ -28,17 +28,17 @@ events-preserved c =
     let going = not_so c.ended-in-events.result c.ended-in-events.ensures.ended c.events-test.true in
     let turn = sym c.has_turn.ensures ∙ c.if-not-has_turn.false in
     let settled : HasRun c.args.world.now c.events.world c.args.schedule.now c.events.schedule c.settle.new.self.clock.round =
-    run_settles c.args.world.now c.events.world c.args.schedule.now c.events.schedule c.events.rounds.clock c.events.invariant.run c.events.invariant.rounds.chains going turn
-    c.settle.new.self.clock c.settle.ensures.clock in
+    run_settles c.args.world.now c.events.world c.args.schedule.now c.events.schedule c.events.rounds.clock c.events.invariant.run
+    c.events.invariant.rounds.chains going turn c.settle.new.self.clock c.settle.ensures.clock in
     let made = c.in-Ok-make_next.ensures in
     record {
       run = rw made.round
-          (run_more c.args.world.now c.events.world c.args.schedule.now c.events.schedule c.settle.new.self.clock settled c.settle.ensures.rounds.chains going turn
-          c.make_next.new.world c.make_next.new.schedule c.settle.new.self refl made.ok);
+          (run_more c.args.world.now c.events.world c.args.schedule.now c.events.schedule c.settle.new.self.clock settled
+          c.settle.ensures.rounds.chains going turn c.make_next.new.world c.make_next.new.schedule c.settle.new.self refl made.ok);
       rounds = made.rounds;
       few = rw made.round
-          (few_more c.events.world c.make_next.new.world c.events.rounds.clock c.settle.new.self.clock c.settle.new.self c.events.schedule c.make_next.new.schedule
-          c.settle.ensures.clock c.events.invariant.few made.ok);
+          (few_more c.events.world c.make_next.new.world c.events.rounds.clock c.settle.new.self.clock c.settle.new.self c.events.schedule
+          c.make_next.new.schedule c.settle.ensures.clock c.events.invariant.few made.ok);
     }
 
 pub returns-in-Err-make_next-clause-run : goal.returns-in-Err-make_next-clause-run
@@ -46,10 +46,11 @@ returns-in-Err-make_next-clause-run c =
     let going = not_so c.ended-in-events.result c.ended-in-events.ensures.ended c.events-test.true in
     let turn = sym c.has_turn.ensures ∙ c.if-not-has_turn.false in
     let settled : HasRun c.args.world.now c.events.world c.args.schedule.now c.events.schedule c.settle.new.self.clock.round =
-    run_settles c.args.world.now c.events.world c.args.schedule.now c.events.schedule c.events.rounds.clock c.events.invariant.run c.events.invariant.rounds.chains going turn
-    c.settle.new.self.clock c.settle.ensures.clock in
+    run_settles c.args.world.now c.events.world c.args.schedule.now c.events.schedule c.events.rounds.clock c.events.invariant.run
+    c.events.invariant.rounds.chains going turn c.settle.new.self.clock c.settle.ensures.clock in
     rw (c.in-Err-make_next.ensures.word, c.count-count.ensures)
-    (run_stays c.args.world.now c.events.world c.make_next.new.world c.args.schedule.now c.events.schedule c.settle.new.self.clock.round settled c.in-Err-make_next.ensures.err)
+    (run_stays c.args.world.now c.events.world c.make_next.new.world c.args.schedule.now c.events.schedule c.settle.new.self.clock.round settled
+    c.in-Err-make_next.ensures.err)
 
 pub returns-in-Err-make_next-clause-going : goal.returns-in-Err-make_next-clause-going
 returns-in-Err-make_next-clause-going c =
@@ -69,7 +70,8 @@ returns-then-not-has_turn-clause-chain c = rw c.count.ensures (chain_by c.events
 
 pub returns-in-Err-make_next-clause-chain : goal.returns-in-Err-make_next-clause-chain
 returns-in-Err-make_next-clause-chain c =
-    rw c.count-count.ensures (chain_stays c.events.world c.make_next.new.world c.settle.new.self c.settle.ensures.rounds c.in-Err-make_next.ensures.err)
+    rw c.count-count.ensures
+    (chain_stays c.events.world c.make_next.new.world c.settle.new.self c.settle.ensures.rounds c.in-Err-make_next.ensures.err)
 
 pub returns-clause-chain : goal.returns-clause-chain
 returns-clause-chain c = rw c.count-2.ensures (chain_by c.events.world c.events.rounds c.events.invariant.rounds)

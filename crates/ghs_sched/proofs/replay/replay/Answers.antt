@@ -5,7 +5,9 @@ use Rattle.ghs_sched.proofs.replay.replay.Goals as goal
 pub returns-then-not-is_ready-clause-fault : goal.returns-then-not-is_ready-clause-fault
 returns-then-not-is_ready-clause-fault c =
     first_unlawful c.args.graph c.args.wake c.args.events.now c.loop-event.event-index (length c.trace.result.now) c.loop-event.world _
-    c.loop-event.invariant c.loop-event-test.true (sym c.is_ready.ensures ∙ c.if-not-is_ready.true) c.trace.ensures.run (ap length c.trace.ensures.trace)
+    c.loop-event.invariant c.loop-event-test.true (sym c.is_ready.ensures ∙ c.if-not-is_ready.true) c.trace.ensures.run
+    (ap length c.trace.ensures.trace)
 
 pub returns-then-not-is_ready-clause-run : goal.returns-then-not-is_ready-clause-run
-returns-then-not-is_ready-clause-run c = λ is_run. absurd (never_unlawful c.args.graph c.args.wake c.args.events.now _ is_run (returns-then-not-is_ready-clause-fault c))
+returns-then-not-is_ready-clause-run c =
+    λ is_run. absurd (never_unlawful c.args.graph c.args.wake c.args.events.now _ is_run (returns-then-not-is_ready-clause-fault c))

@@ -6,5 +6,7 @@ make-requires-clause-ready c = pick_is_ready c.args.world.now c.pick-place.resul
 
 pub returns-clause-ok : goal.returns-clause-ok
 returns-clause-ok c =
-    made_next c.args.world.now c.make.new.self c.args.schedule.now c.in_ok-rest.rest c.pick-place.new.self c.ready_count.result c.pick-place.result c.ready_at.result
-    c.in_ok-rest.ensures c.ready_count.ensures c.pick-place.ensures.pick c.pick-place.ensures.within c.ready_at.ensures c.in_ok-make.ensures.made c.pick-place.ensures.next
+    made_next c.args.world.now c.make.new.self c.args.schedule.now c.in_ok-rest.rest c.pick-place.new.self c.ready_count.result c.pick-place.result
+    c.ready_at.result
+    c.in_ok-rest.ensures c.ready_count.ensures c.pick-place.ensures.pick c.pick-place.ensures.within c.ready_at.ensures c.in_ok-make.ensures.made
+    c.pick-place.ensures.next

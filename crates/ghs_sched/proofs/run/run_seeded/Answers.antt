@@ -11,10 +11,12 @@ events-preserved c =
     (not_so c.ended.result c.ended.ensures.ended c.events-test.true) (sym c.has_turn.ensures ∙ c.if-not-has_turn.false) c.in-Ok.ensures.ok
 
 pub returns-in-Err-clause-run : goal.returns-in-Err-clause-run
-returns-in-Err-clause-run c = rw c.in-Err.ensures.word (run_stays c.args.world.now c.events.world c.make_next.new.world c.args.schedule.now c.events.schedule c.events.invariant c.in-Err.ensures.err)
+returns-in-Err-clause-run c = rw c.in-Err.ensures.word
+    (run_stays c.args.world.now c.events.world c.make_next.new.world c.args.schedule.now c.events.schedule c.events.invariant c.in-Err.ensures.err)
 
 pub returns-in-Err-clause-going : goal.returns-in-Err-clause-going
 returns-in-Err-clause-going c = λ h. not_so c.ended.result c.ended.ensures.ended c.events-test.true (same_end _ _ c.in-Err.ensures.err h)
 
 pub returns-clause-whole : goal.returns-clause-whole
-returns-clause-whole c = is_whole c.args.world.now c.events.world c.args.schedule.now c.events.schedule c.events.invariant (c.ended.ensures.ended.0 c.events-test.false)
+returns-clause-whole c =
+    is_whole c.args.world.now c.events.world c.args.schedule.now c.events.schedule c.events.invariant (c.ended.ensures.ended.0 c.events-test.false)

@@ -9,29 +9,33 @@ use Rattle.ghs_steps.proofs.write.write_run.Goals as goal
 pub show-requires-clause-lawful : goal.show-requires-clause-lawful
 show-requires-clause-lawful g c =
     let inv = c.loop-event.invariant in
-    lawful_net c.loop-event.net c.args.graph c.args.events.now c.loop-event.event-index (Wake 0) inv.graph inv.trace c.requires.run c.loop-event-test.true
+    lawful_net c.loop-event.net c.args.graph c.args.events.now c.loop-event.event-index (Wake 0) inv.graph inv.trace c.requires.run
+    c.loop-event-test.true
 
 pub returns-in-Err-show-clause-err : goal.returns-in-Err-show-clause-err
 returns-in-Err-show-clause-err g c =
-    front_of_all _ _ c.args.form c.args.graph c.args.choice.now c.args.events.now c.loop-event.event-index Memory (out_front _ _ _ _ _ c.loop-event.invariant.out)
+    front_of_all _ _ c.args.form c.args.graph c.args.choice.now c.args.events.now c.loop-event.event-index Memory
+    (out_front _ _ _ _ _ c.loop-event.invariant.out)
 
 pub returns-in-Err-send_portion-clause-err : goal.returns-in-Err-send_portion-clause-err
 returns-in-Err-send_portion-clause-err g c =
     let inv = c.loop-event.invariant in
     let out =
-    out_shown _ _ c.args.form c.args.graph c.args.choice.now c.args.events.now c.loop-event.event-index _ (Wake 0) c.loop-event.net _ _ inv.graph inv.trace
-    c.loop-event-test.true inv.out c.in-Ok-show.ensures.text in
-    front_of_all _ _ c.args.form c.args.graph c.args.choice.now c.args.events.now (c.loop-event.event-index + 1) _ (c.in-Err-send_portion.ensures.front _ _ out)
+    out_shown _ _ c.args.form c.args.graph c.args.choice.now c.args.events.now c.loop-event.event-index _ (Wake 0) c.loop-event.net _ _
+    inv.graph inv.trace c.loop-event-test.true inv.out c.in-Ok-show.ensures.text in
+    front_of_all _ _ c.args.form c.args.graph c.args.choice.now c.args.events.now (c.loop-event.event-index + 1) _
+    (c.in-Err-send_portion.ensures.front _ _ out)
 
 pub loop-event-preserved : goal.loop-event-preserved
 loop-event-preserved g c =
     let inv = c.loop-event.invariant in
     let out =
-    out_shown _ _ c.args.form c.args.graph c.args.choice.now c.args.events.now c.loop-event.event-index _ (Wake 0) c.loop-event.net _ _ inv.graph inv.trace
-    c.loop-event-test.true inv.out c.in-Ok-show.ensures.text in
+    out_shown _ _ c.args.form c.args.graph c.args.choice.now c.args.events.now c.loop-event.event-index _ (Wake 0) c.loop-event.net _ _
+    inv.graph inv.trace c.loop-event-test.true inv.out c.in-Ok-show.ensures.text in
     record {
       graph = c.in-Ok-show.ensures.graph ∙ inv.graph;
-      trace = trace_more c.loop-event.net c.show.new.net c.args.events.now c.loop-event.event-index (Wake 0) inv.trace c.loop-event-test.true c.in-Ok-show.ensures.trace;
+      trace = trace_more c.loop-event.net c.show.new.net c.args.events.now c.loop-event.event-index (Wake 0) inv.trace c.loop-event-test.true
+          c.in-Ok-show.ensures.trace;
       sound = c.in-Ok-send_portion.ensures.sound;
       out = c.in-Ok-send_portion.ensures.out _ _ out;
       small = (let more = c.in-Ok-send_portion.ensures.more in let small = inv.small in omega arith);
@@ -45,4 +49,5 @@ returns-in-Ok-send_off-clause-ok g c =
 
 pub returns-clause-err : goal.returns-clause-err
 returns-clause-err g c =
-    front_of_all _ _ c.args.form c.args.graph c.args.choice.now c.args.events.now c.loop-event.event-index _ (c.in-Err-send_off.ensures.front _ _ c.loop-event.invariant.out)
+    front_of_all _ _ c.args.form c.args.graph c.args.choice.now c.args.events.now c.loop-event.event-index _
+    (c.in-Err-send_off.ensures.front _ _ c.loop-event.invariant.out)

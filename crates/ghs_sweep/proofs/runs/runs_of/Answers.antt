@@ -12,7 +12,8 @@ loop-done-init c = record {
 
 pub loop-done-preserved : goal.loop-done-preserved
 loop-done-preserved c = record {
-  runs = one_run_more c.args.graph.now c.args.setup c.args.first c.loop-done.done c.loop-done.runs.items c.push.new.self.items c.in_ok-figures_of_seed.field-0
+  runs = one_run_more c.args.graph.now c.args.setup c.args.first c.loop-done.done c.loop-done.runs.items c.push.new.self.items
+      c.in_ok-figures_of_seed.field-0
       c.loop-done.invariant.runs c.loop-done.invariant.count c.in_ok-figures_of_seed.ensures c.in_ok-push.ensures.items;
   count = search rules;
 }

@@ -8,5 +8,5 @@ loop-measure-init c = ([], NoMeasure, sym (append-nil c.args.text.now.items))
 
 pub loop-measure-preserved : goal.loop-measure-preserved
 loop-measure-preserved c =
-    one_measure_more c.args.form c.args.front.now c.args.runs.now c.args.measures.now c.loop-measure.measure-index _ c.args.text.now.items c.loop-measure.text.items
-    c.put_measure.new.text.items c.loop-measure-test.true c.loop-measure.invariant c.in_ok-put_measure.ensures
+    one_measure_more c.args.form c.args.front.now c.args.runs.now c.args.measures.now c.loop-measure.measure-index _ c.args.text.now.items
+    c.loop-measure.text.items c.put_measure.new.text.items c.loop-measure-test.true c.loop-measure.invariant c.in_ok-put_measure.ensures

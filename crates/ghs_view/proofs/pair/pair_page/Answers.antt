@@ -22,7 +22,9 @@ returns-clause-page c =
     record {
       bound = c.bound-most.result;
       is_bound = rw (c.nodes-2.ensures.nodes, c.links.ensures) at c.bound-most.ensures;
-      printed = c.in_ok-pair_page.ensures ∙ (ap (λ text. pair_text text c.deref-2.result.now) first ∙ ap (pair_text (run_json c.args.graph c.args.first.now c.args.from c.args.to c.bound-most.result)) second);
+      printed =
+          c.in_ok-pair_page.ensures ∙ (ap (λ text. pair_text text c.deref-2.result.now) first
+          ∙ ap (pair_text (run_json c.args.graph c.args.first.now c.args.from c.args.to c.bound-most.result)) second);
     }
 
 -- a page that is made isn't too large

@@ -4,5 +4,6 @@ use Rattle.ghs_world.proofs.lemmas.Leaving.{place_there, marked_one}
 use Rattle.ghs_world.proofs.upkeep.mark.Goals as goal
 
 pub returns : goal.returns
-returns c = marked_one (network c.args.net.now) (lawful_in c.args.net.now c.args.wake) c.args.event c.args.index.now c.set.new.self c.may_happen.result
+returns c =
+    marked_one (network c.args.net.now) (lawful_in c.args.net.now c.args.wake) c.args.event c.args.index.now c.set.new.self c.may_happen.result
     (rw c.graph.ensures at c.set.ensures) c.may_happen.ensures (place_there (network c.args.net.now) c.args.event c.requires.place)

@@ -16,14 +16,16 @@ mark_far_take-requires-clause-index c = rw c.graph.ensures c.loop-port.invariant
 
 pub mark_far_take-requires-clause-port : goal.mark_far_take-requires-clause-port
 mark_far_take-requires-clause-port c =
-    rw (c.graph.ensures, c.node_of-v.ensures) (sent_port c.args.net.now.graph c.args.event c.args.sends.now c.loop-port.port-index c.loop-port-item.result
+    rw (c.graph.ensures, c.node_of-v.ensures)
+    (sent_port c.args.net.now.graph c.args.event c.args.sends.now c.loop-port.port-index c.loop-port-item.result
     c.requires.place c.requires.ports c.loop-port-test.true c.loop-port-item.is)
 
 pub loop-port-preserved : goal.loop-port-preserved
 loop-port-preserved c =
     let at = sent_port c.args.net.now.graph c.args.event c.args.sends.now c.loop-port.port-index c.loop-port-item.result
     c.requires.place c.requires.ports c.loop-port-test.true c.loop-port-item.is in
-    arrival_marked c.args.net.now c.args.wake (event_node c.args.event) c.loop-port.port-index c.args.sends.now c.loop-port-item.result c.loop-port.index
+    arrival_marked c.args.net.now c.args.wake
+    (event_node c.args.event) c.loop-port.port-index c.args.sends.now c.loop-port-item.result c.loop-port.index
     c.mark_far_take.new.self c.trace.ensures.graph at c.requires.arrived c.loop-port-test.true c.loop-port-item.is
     (rw (c.graph.ensures, c.node_of-v.ensures) at c.mark_far_take.ensures) c.loop-port.invariant
 

@@ -24,7 +24,8 @@ loop-v-preserved c =
     let less = one_wake_less c.loop-v.v (c.args.graph.now.nodes + 1 - c.loop-v.v) (c.args.graph.now.nodes + 1 - (c.loop-v.v + 1)) (omega arith) in
     marked_one (network_of c.args.graph.now) (lawful_first c.args.graph.now c.args.wake) (Wake c.loop-v.v) c.loop-v.index c.set.new.self c.has.result
     c.set.ensures (c.has.ensures ∙ sym (first_wake c.args.graph.now c.args.wake c.loop-v.v from top)) (from, top) _
-    (subst (λ (es : List Event). IsIndexBut (network_of c.args.graph.now) (lawful_first c.args.graph.now c.args.wake) es c.loop-v.index) less c.loop-v.invariant)
+    (subst (λ (es : List Event). IsIndexBut (network_of c.args.graph.now) (lawful_first c.args.graph.now c.args.wake) es c.loop-v.index)
+    less c.loop-v.invariant)
 
 pub returns : goal.returns
 returns c =
@@ -32,4 +33,5 @@ returns c =
     let end = c.loop-v-test.false in
     let none : c.args.graph.now.nodes + 1 - c.loop-v.v ≡ 0 = omega arith in
     of_but (network_of c.args.graph.now) (lawful_first c.args.graph.now c.args.wake) c.loop-v.index
-    (subst (λ (n : ℕ). IsIndexBut (network_of c.args.graph.now) (lawful_first c.args.graph.now c.args.wake) (wakes c.loop-v.v n) c.loop-v.index) none c.loop-v.invariant)
+    (subst (λ (n : ℕ). IsIndexBut (network_of c.args.graph.now) (lawful_first c.args.graph.now c.args.wake) (wakes c.loop-v.v n) c.loop-v.index)
+    none c.loop-v.invariant)

@@ -24,5 +24,6 @@ invariant_of-self c =
       i.0 ∙ sym f.0,
       ap (λ t. t.words) f.0 ∙ i.1,
       f.2 ∙ ap (λ l. (publisher_of l, [])) (sym seen),
-      sym (ap last_of seen ∙ last_or_push (pair 0 false) c.self.inside.seat.me.0.seen (pair_of c.word_of.result) ∙ ap pair_of c.word_of.ensures ∙ pair_word p),
+      sym (ap last_of seen ∙ last_or_push (pair 0 false) c.self.inside.seat.me.0.seen (pair_of c.word_of.result) ∙ ap pair_of c.word_of.ensures
+          ∙ pair_word p),
     )

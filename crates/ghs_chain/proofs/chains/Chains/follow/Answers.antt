@@ -12,7 +12,8 @@ use Rattle.ghs_chain.proofs.chains.Chains.follow.Goals as goal
 
 pub send-requires-clause-small : goal.send-requires-clause-small
 send-requires-clause-small c =
-    small_number c.args.net.now c.args.self.now c.hear.new.self c.args.event _ _ c.node_of-v.result c.requires.chains c.in_ok-hear.ensures.heard c.requires.few
+    small_number c.args.net.now c.args.self.now c.hear.new.self c.args.event _ _ c.node_of-v.result c.requires.chains c.in_ok-hear.ensures.heard
+    c.requires.few
 
 pub send-requires-clause-ports : goal.send-requires-clause-ports
 send-requires-clause-ports c =
@@ -30,9 +31,12 @@ returns c =
     let s = c.args.net.now in
     let e = c.args.event in
     let same : c.node.result.now ≡ (net_of s).node (event_node e) = c.node.ensures ∙ ap (λ v. (net_of s).node v) c.node_of-v.ensures in
-    let asleep = c.is_asleep-asleep.ensures ∙ ap (λ (h : Head). is_sleeping h.phase) c.head.ensures.head ∙ ap (λ (n : NodeState). is_sleeping n.head.phase) same in
-    let heard : seen c.hear.new.self ≡ hears e (is_sleeping ((net_of s).node (event_node e)).head.phase) c.args.delta.now.fate (seen c.args.self.now) =
+    let asleep =
+    c.is_asleep-asleep.ensures ∙ ap (λ (h : Head). is_sleeping h.phase) c.head.ensures.head
+    ∙ ap (λ (n : NodeState). is_sleeping n.head.phase) same in
+    let heard : seen c.hear.new.self ≡
+    hears e (is_sleeping ((net_of s).node (event_node e)).head.phase) c.args.delta.now.fate (seen c.args.self.now) =
     c.in_ok-hear.ensures.heard ∙ ap (λ b. hears e b c.args.delta.now.fate (seen c.args.self.now)) asleep in
     let sent = rw (c.as_slice.ensures, c.graph.ensures, c.node_of-v.ensures) at c.in_ok-send.ensures.sent in
-    carried s c.trace.ensures.graph c.trace.ensures.run e c.requires.lawful c.args.delta.now c.requires.answer c.args.self.now c.hear.new.self c.send.new.self
-    c.requires.chains c.in_ok-hear.ensures.places heard c.in_ok-send.ensures.places sent
+    carried s c.trace.ensures.graph c.trace.ensures.run e c.requires.lawful c.args.delta.now c.requires.answer c.args.self.now c.hear.new.self
+    c.send.new.self c.requires.chains c.in_ok-hear.ensures.places heard c.in_ok-send.ensures.places sent

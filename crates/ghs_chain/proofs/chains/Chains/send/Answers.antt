@@ -17,10 +17,12 @@ push-requires c =
     let s = slice_index_or c.args.sends.now c.loop-port.port-index c.loop-port-item.result in
     let item : c.loop-port-item.result ≡ s = c.loop-port-item.is in
     let there : HasPlace c.loop-port.self (far g v s.0) (far_port g v s.0) =
-    place_kept c.args.self.now c.loop-port.self _ _ c.loop-port.invariant.places (c.requires.far c.loop-port.port-index c.loop-port-item.result c.loop-port-test.true) in
+    place_kept c.args.self.now c.loop-port.self _ _ c.loop-port.invariant.places
+    (c.requires.far c.loop-port.port-index c.loop-port-item.result c.loop-port-test.true) in
     let of_item : HasPlace c.loop-port.self (far g v c.loop-port-item.result.0) (far_port g v c.loop-port-item.result.0) =
     subst (λ (x : ℕ × Message). HasPlace c.loop-port.self (far g v x.0) (far_port g v x.0)) (sym item) there in
-    subst (λ (ps : List Port). HasPlace c.loop-port.self (slice_index_or ps c.loop-port-item.result.0 no_port).far (slice_index_or ps c.loop-port-item.result.0 no_port).far_port)
+    subst (λ (ps : List Port). HasPlace c.loop-port.self (slice_index_or ps c.loop-port-item.result.0 no_port).far
+    (slice_index_or ps c.loop-port-item.result.0 no_port).far_port)
     (sym c.ports-ports.ensures) of_item
 
 pub loop-port-preserved : goal.loop-port-preserved
@@ -32,9 +34,11 @@ loop-port-preserved c =
     let item : x ≡ s = c.loop-port-item.is in
     let n = c.index.result.now + 1 in
     let number : n ≡ slice_index c.args.self.now.numbers v + 1 =
-    rw (← c.self.view_is) (ap (λ (m : ℕ). m + 1) (c.index.ensures ∙ get_or_default c.self.inside.numbers.items v c.index.result.now 0 (rw (← c.self.view_is) at c.requires.node))) in
+    rw (← c.self.view_is) (ap (λ (m : ℕ). m + 1)
+    (c.index.ensures ∙ get_or_default c.self.inside.numbers.items v c.index.result.now 0 (rw (← c.self.view_is) at c.requires.node))) in
     let one : seen c.push.new.self ≡ with_last (far g v x.0) (far_port g v x.0) n (seen c.loop-port.self) =
-    subst (λ (ps : List Port). seen c.push.new.self ≡ with_last (slice_index_or ps x.0 no_port).far (slice_index_or ps x.0 no_port).far_port n (seen c.loop-port.self))
+    subst (λ (ps : List Port). seen c.push.new.self ≡
+    with_last (slice_index_or ps x.0 no_port).far (slice_index_or ps x.0 no_port).far_port n (seen c.loop-port.self))
     c.ports-ports.ensures c.in_ok-push.ensures.last in
     let two = subst (λ (y : ℕ × Message). seen c.push.new.self ≡ with_last (far g v y.0) (far_port g v y.0) n (seen c.loop-port.self)) item one in
     record {

@@ -6,4 +6,5 @@ pub returns : goal.returns
 returns c =
     rw (← c.self.view_is)
     (fragment_told c.self.invariant (λ (v : Vec ℕ Global). v.items) c.numbers_alike.result c.in_ok-roots.roots.items c.nodes.result c.args.v
-    c.requires.low (rw (← c.self.view_is) at c.requires.high) c.nodes.ensures.nodes (rw (← c.self.view_is) at c.in_ok-roots.ensures) (rw c.deref.ensures.value at c.numbers_alike.ensures))
+    c.requires.low (rw (← c.self.view_is) at c.requires.high) c.nodes.ensures.nodes (rw (← c.self.view_is) at c.in_ok-roots.ensures)
+    (rw c.deref.ensures.value at c.numbers_alike.ensures))

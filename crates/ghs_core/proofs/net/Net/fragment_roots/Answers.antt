@@ -19,6 +19,8 @@ pub returns : goal.returns
 returns c =
     let joined = c.deref-2.ensures.value ∙ rw c.deref.ensures.value at c.in_ok-joined.ensures in
     let told = rw joined at c.in_ok-spanning.ensures.told in
-    let count = ap (λ (rs : List ℕ). length rs) c.settled.ensures.roots ∙ c.in_ok-spanning.ensures.count ∙ ap (λ (n : ℕ). n + 1) c.nodes.ensures.nodes in
+    let count =
+    ap (λ (rs : List ℕ). length rs) c.settled.ensures.roots ∙ c.in_ok-spanning.ensures.count ∙ ap (λ (n : ℕ). n + 1) c.nodes.ensures.nodes in
     rw (← c.self.view_is)
-    (roots_tell c.self.invariant c.settled.result.items count (rw (← c.settled.ensures.roots) at told) (rw (← c.settled.ensures.roots) at c.settled.ensures.least))
+    (roots_tell c.self.invariant c.settled.result.items count (rw (← c.settled.ensures.roots) at told)
+    (rw (← c.settled.ensures.roots) at c.settled.ensures.least))

@@ -8,7 +8,8 @@ dispose-requires-clause-waits c = waits (plays_back c.self.invariant c.self.view
 pub invariant_of-self-2 : goal.invariant_of-self-2
 invariant_of-self-2 c =
     rw c.in_ok-push.ensures.items
-    (kept_back (plays_back c.self.invariant c.self.view_is c.requires.lawful c.requires.back) c.dispose.new.links c.dispose.new.counts c.dispose.ensures)
+    (kept_back (plays_back c.self.invariant c.self.view_is c.requires.lawful c.requires.back)
+    c.dispose.new.channels c.dispose.new.counts c.dispose.ensures)
 
 pub returns-clause-event : goal.returns-clause-event
 returns-clause-event c =

@@ -7,5 +7,6 @@ use Rattle.ghs_index.proofs.index.Index.has_any.Goals as goal
 pub returns : goal.returns
 returns c = λ p of.
     c.is_some.ensures
-    ∙ any_told (network_of c.args.graph.now) p (the_view c.self.inside) (rw (← c.self.view_is) at of) c.args.v _ _ c.first_from_to.result c.requires.low c.requires.high
+    ∙ any_told (network_of c.args.graph.now) p (the_view c.self.inside)
+    (rw (← c.self.view_is) at of) c.args.v _ _ c.first_from_to.result c.requires.low c.requires.high
     (rw c.deref.ensures.value at c.span_of-base.ensures.from) (rw c.deref.ensures.value at c.span_of-base.ensures.to) c.first_from_to.ensures

@@ -6,5 +6,7 @@ use Rattle.ghs_index.proofs.index.Index.none.Goals as goal
 
 pub returns : goal.returns
 returns c =
-    let many = c.index.ensures ∙ last_base (network_of c.args.graph.now) c.args.graph.now.nodes c.in_ok-bases.bases.items _ _ c.in_ok-bases.ensures.bases (omega arith) in
+    let many =
+    c.index.ensures ∙ last_base (network_of c.args.graph.now) c.args.graph.now.nodes c.in_ok-bases.bases.items _ _ c.in_ok-bases.ensures.bases
+    (omega arith) in
     record { bases = c.in_ok-bases.ensures.bases; marks = c.in_ok-marks.ensures ∙ all_false (all_events (network_of c.args.graph.now)) _ many }

@@ -6,4 +6,5 @@ use Rattle.ghs_patient.proofs.choices.Choices.mark_far.Given as goal
 abbrev pub invariant-loop-port : goal.invariant-loop-port
 invariant-loop-port l =
     AreFor (network l.world.net) l.self ×
-    (marked_all l.world (far_takes (network l.world.net) l.v (drop l.port-index l.sends)) l.self ≡ marked_all l.world (far_takes (network l.world.net) l.v l.sends) l.fn.self)
+    (marked_all l.world (far_takes (network l.world.net) l.v (drop l.port-index l.sends)) l.self ≡
+    marked_all l.world (far_takes (network l.world.net) l.v l.sends) l.fn.self)

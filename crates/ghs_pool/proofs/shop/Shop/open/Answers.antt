@@ -5,7 +5,8 @@ pub invariant_of-result : goal.invariant_of-result
 invariant_of-result c = told_by _ _ _ _ c.last-last.ensures c.if-last-commits.true c.if-last-halted.true c.pair_of-commits.ensures.pair
 
 pub returns-then-last-halted-clause-told : goal.returns-then-last-halted-clause-told
-returns-then-last-halted-clause-told c = told_by _ _ _ _ c.last-last.ensures c.if-last-commits.true c.if-last-halted.true c.pair_of-commits.ensures.pair
+returns-then-last-halted-clause-told c =
+    told_by _ _ _ _ c.last-last.ensures c.if-last-commits.true c.if-last-halted.true c.pair_of-commits.ensures.pair
 
 pub returns-clause-untold : goal.returns-clause-untold
 returns-clause-untold c = not_commits _ _ _ _ c.last-last.ensures c.if-last-commits.false c.pair_of-commits.ensures.pair

@@ -18,7 +18,9 @@ use Rattle.ghs_rounds.proofs.choices.Choices.mark_far.Goals as goal
 pub mark-requires-clause-place : goal.mark-requires-clause-place
 mark-requires-clause-place c =
     let graph : IsGraph c.args.world.now.net.graph = subst (λ (n : NetState). IsGraph n.graph) c.net.ensures.net c.trace.ensures.graph in
-    let port = All-get_or (λ (s : ℕ × Message). s.0 < length (ports_of c.args.world.now.net.graph.keys c.args.v)) c.args.sends.now c.loop-port.port-index c.loop-port-item.result c.loop-port-test.true c.requires.ports in
+    let port =
+    All-get_or (λ (s : ℕ × Message). s.0 < length (ports_of c.args.world.now.net.graph.keys c.args.v))
+    c.args.sends.now c.loop-port.port-index c.loop-port-item.result c.loop-port-test.true c.requires.ports in
     rw (c.ports-ports.ensures, c.graph.ensures) ((graph_wired c.args.world.now.net.graph graph).there c.args.v c.loop-port-item.result.0 (record {
       some = c.requires.low;
       node = c.requires.high;
@@ -29,7 +31,8 @@ pub loop-port-preserved : goal.loop-port-preserved
 loop-port-preserved c =
     let g = network c.args.world.now.net in
     let is = rw (c.ports-ports.ensures, c.graph.ensures) at c.mark.ensures in (
-      rw is (for_marked c.args.world.now c.args.clock.now (Take (far g c.args.v c.loop-port-item.result.0) (far_port g c.args.v c.loop-port-item.result.0)) c.loop-port.self c.loop-port.invariant.0),
+      rw is (for_marked c.args.world.now c.args.clock.now (Take (far g c.args.v c.loop-port-item.result.0)
+          (far_port g c.args.v c.loop-port-item.result.0)) c.loop-port.self c.loop-port.invariant.0),
       ap (marked_all c.args.world.now c.args.clock.now (far_takes g c.args.v (drop (c.loop-port.port-index + 1) c.args.sends.now))) is
           ∙ sym (ap (λ (es : List Event). marked_all c.args.world.now c.args.clock.now es c.loop-port.self)
           (next_arrival g c.args.v c.args.sends.now c.loop-port.port-index c.loop-port-item.result c.loop-port-test.true c.loop-port-item.is))

@@ -11,7 +11,8 @@ pub overflow_cast-port-end : goal.overflow_cast-port-end
 overflow_cast-port-end c = let few = graph_few c.graph-graph.result.now c.nodes.ensures.graph c.args.v in rw c.ports.ensures (omega arith)
 
 pub mark-requires-clause-place : goal.mark-requires-clause-place
-mark-requires-clause-place c = record { some = c.requires.low; node = c.requires.high; port = rw (c.ports.ensures, c.graph-graph.ensures) at c.loop-port-test.true }
+mark-requires-clause-place c =
+    record { some = c.requires.low; node = c.requires.high; port = rw (c.ports.ensures, c.graph-graph.ensures) at c.loop-port-test.true }
 
 pub loop-port-preserved : goal.loop-port-preserved
 loop-port-preserved c =

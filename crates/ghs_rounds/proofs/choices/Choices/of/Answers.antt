@@ -8,20 +8,25 @@ use Rattle.ghs_rounds.proofs.choices.Choices.of.Goals as goal
 
 pub loop-v-init : goal.loop-v-init
 loop-v-init c = none_yet c.args.world.now c.args.clock.now _ (record {
-  moving = subst (λ (g : Shape). IsFor (network_of g) c.in_ok-none.field-0) c.graph-graph.ensures (is_for _ _ c.in_ok-none.field-0 c.in_ok-none.ensures);
-  hidden = subst (λ (g : Shape). IsFor (network_of g) c.in_ok-none-2.field-0) c.graph-graph.ensures (is_for _ _ c.in_ok-none-2.field-0 c.in_ok-none-2.ensures);
+  moving =
+      subst (λ (g : Shape). IsFor (network_of g) c.in_ok-none.field-0) c.graph-graph.ensures (is_for _ _ c.in_ok-none.field-0 c.in_ok-none.ensures);
+  hidden = subst (λ (g : Shape). IsFor (network_of g) c.in_ok-none-2.field-0) c.graph-graph.ensures
+      (is_for _ _ c.in_ok-none-2.field-0 c.in_ok-none-2.ensures);
 })
 
 pub loop-v-preserved : goal.loop-v-preserved
 loop-v-preserved c =
-    let many : c.nodes-v-end.result ≡ c.args.world.now.net.graph.nodes = c.nodes-v-end.ensures.nodes ∙ ap (λ (g : Shape). g.nodes) c.graph-graph.ensures in
+    let many : c.nodes-v-end.result ≡ c.args.world.now.net.graph.nodes =
+    c.nodes-v-end.ensures.nodes ∙ ap (λ (g : Shape). g.nodes) c.graph-graph.ensures in
     let low : 1 ≤ c.loop-v.v = c.loop-v.auto.v in
     let below = c.loop-v-test.true in
     let high : c.loop-v.v ≤ c.args.world.now.net.graph.nodes = omega arith in
-    rw (c.mark_ports.ensures, c.mark.ensures) (one_node c.args.world.now c.args.clock.now c.loop-v.v _ c.loop-v.choices c.loop-v.invariant low high refl)
+    rw (c.mark_ports.ensures, c.mark.ensures)
+    (one_node c.args.world.now c.args.clock.now c.loop-v.v _ c.loop-v.choices c.loop-v.invariant low high refl)
 
 pub returns : goal.returns
 returns c =
-    let many : c.nodes-v-end.result ≡ c.args.world.now.net.graph.nodes = c.nodes-v-end.ensures.nodes ∙ ap (λ (g : Shape). g.nodes) c.graph-graph.ensures in
+    let many : c.nodes-v-end.result ≡ c.args.world.now.net.graph.nodes =
+    c.nodes-v-end.ensures.nodes ∙ ap (λ (g : Shape). g.nodes) c.graph-graph.ensures in
     let end = c.loop-v-test.false in
     all_nodes c.args.world.now c.args.clock.now c.loop-v.v c.loop-v.choices (omega arith) c.loop-v.invariant

@@ -23,10 +23,12 @@ node-requires-clause-high c =
     rw (c.node_of.ensures, c.net-2.ensures.net) z.high
 
 pub answer-requires : goal.answer-requires
-answer-requires c = (pickable c.args.world.now c.self.inside.clock c.in_ok-rest.rest c.pick-event.result c.requires.home c.pick-event.ensures.pick).lawful
+answer-requires c =
+    (pickable c.args.world.now c.self.inside.clock c.in_ok-rest.rest c.pick-event.result c.requires.home c.pick-event.ensures.pick).lawful
 
 pub hear-requires-clause-lawful : goal.hear-requires-clause-lawful
-hear-requires-clause-lawful c = (pickable c.args.world.now c.self.inside.clock c.in_ok-rest.rest c.pick-event.result c.requires.home c.pick-event.ensures.pick).lawful
+hear-requires-clause-lawful c =
+    (pickable c.args.world.now c.self.inside.clock c.in_ok-rest.rest c.pick-event.result c.requires.home c.pick-event.ensures.pick).lawful
 
 pub make_answered-requires-clause-ready : goal.make_answered-requires-clause-ready
 make_answered-requires-clause-ready c =
@@ -36,33 +38,40 @@ pub follow-requires-clause-ports : goal.follow-requires-clause-ports
 follow-requires-clause-ports c =
     let z = pickable c.args.world.now c.self.inside.clock c.in_ok-rest.rest c.pick-event.result c.requires.home c.pick-event.ensures.pick in
     let graph : IsGraph c.args.world.now.net.graph = subst (λ (n : NetState). IsGraph n.graph) c.net.ensures.net c.trace.ensures.graph in
-    let is_run : IsRun (network c.args.world.now.net) c.args.world.now.net.trace = subst (λ (n : NetState). IsRun (network n) n.trace) c.net.ensures.net c.trace.ensures.run in
-    rw c.in_ok-make_answered.ensures.made.graph (answer_sends c.args.world.now.net graph is_run c.pick-event.result c.in_ok-delta.delta z.lawful c.in_ok-delta.ensures)
+    let is_run : IsRun (network c.args.world.now.net) c.args.world.now.net.trace =
+    subst (λ (n : NetState). IsRun (network n) n.trace) c.net.ensures.net c.trace.ensures.run in
+    rw c.in_ok-make_answered.ensures.made.graph
+    (answer_sends c.args.world.now.net graph is_run c.pick-event.result c.in_ok-delta.delta z.lawful c.in_ok-delta.ensures)
 
 pub follow-requires-clause-own : goal.follow-requires-clause-own
 follow-requires-clause-own c =
     let z = pickable c.args.world.now c.self.inside.clock c.in_ok-rest.rest c.pick-event.result c.requires.home c.pick-event.ensures.pick in
     let graph : IsGraph c.args.world.now.net.graph = subst (λ (n : NetState). IsGraph n.graph) c.net.ensures.net c.trace.ensures.graph in
-    let is_run : IsRun (network c.args.world.now.net) c.args.world.now.net.trace = subst (λ (n : NetState). IsRun (network n) n.trace) c.net.ensures.net c.trace.ensures.run in
-    rw c.in_ok-make_answered.ensures.made.graph (marks_own c.args.world.now.net graph is_run c.pick-event.result c.in_ok-delta.delta z.lawful c.in_ok-delta.ensures)
+    let is_run : IsRun (network c.args.world.now.net) c.args.world.now.net.trace =
+    subst (λ (n : NetState). IsRun (network n) n.trace) c.net.ensures.net c.trace.ensures.run in
+    rw c.in_ok-make_answered.ensures.made.graph
+    (marks_own c.args.world.now.net graph is_run c.pick-event.result c.in_ok-delta.delta z.lawful c.in_ok-delta.ensures)
 
 pub follow-requires-clause-choices : goal.follow-requires-clause-choices
 follow-requires-clause-choices c =
     let are = c.requires.rounds in
     let heard = rw (← c.self-2.view_is) at c.in_ok-hear.ensures in
     rw (c.head.ensures.head, c.node.ensures, c.net-2.ensures.net, c.node_of.ensures)
-    (keeps c.args.world.now c.make_answered.new.self c.pick-event.result c.in_ok-delta.delta _ _ are c.in_ok-make_answered.ensures.made c.in_ok-delta.ensures heard)
+    (keeps c.args.world.now c.make_answered.new.self c.pick-event.result c.in_ok-delta.delta _ _ are c.in_ok-make_answered.ensures.made
+    c.in_ok-delta.ensures heard)
 
 pub returns-clause-rounds : goal.returns-clause-rounds
 returns-clause-rounds c =
     let z = pickable c.args.world.now c.self.inside.clock c.in_ok-rest.rest c.pick-event.result c.requires.home c.pick-event.ensures.pick in
     let graph : IsGraph c.args.world.now.net.graph = subst (λ (n : NetState). IsGraph n.graph) c.net.ensures.net c.trace.ensures.graph in
-    let is_run : IsRun (network c.args.world.now.net) c.args.world.now.net.trace = subst (λ (n : NetState). IsRun (network n) n.trace) c.net.ensures.net c.trace.ensures.run in
+    let is_run : IsRun (network c.args.world.now.net) c.args.world.now.net.trace =
+    subst (λ (n : NetState). IsRun (network n) n.trace) c.net.ensures.net c.trace.ensures.run in
     let are = c.requires.rounds in
     let heard = rw (← c.self-2.view_is) at c.in_ok-hear.ensures in
     let timely : IsTimely (seen c.args.self.now.clock.kept) c.args.self.now.clock.round c.pick-event.result
     (is_sleeping ((home c.args.world.now).node (event_node c.pick-event.result)).head.phase) c.in_ok-delta.delta.fate =
     rw (← c.self.view_is) (z.timely graph is_run c.in_ok-delta.delta c.in_ok-delta.ensures) in
-    next_are c.args.world.now c.make_answered.new.self c.pick-event.result c.in_ok-delta.delta _ _ are c.in_ok-make_answered.ensures.made c.in_ok-delta.ensures heard
+    next_are c.args.world.now c.make_answered.new.self c.pick-event.result c.in_ok-delta.delta _ _ are c.in_ok-make_answered.ensures.made
+    c.in_ok-delta.ensures heard
     graph is_run z.low z.high (answer_sends c.args.world.now.net graph is_run c.pick-event.result c.in_ok-delta.delta z.lawful c.in_ok-delta.ensures)
     timely c.follow.new.self c.follow.ensures

@@ -14,16 +14,20 @@ use Rattle.ghs_world.proofs.Commits.{Done, after_commit, world_after, others_sta
 use Rattle.ghs_world.proofs.world.World.carry_out.Goals as goal
 
 pub play-requires-clause-lawful : goal.play-requires-clause-lawful
-play-requires-clause-lawful c = out_lawful (the_view c.self.inside) c.args.out c.args.event c.self.invariant.0 (rw (← c.self.view_is) at c.requires.out)
+play-requires-clause-lawful c =
+    out_lawful (the_view c.self.inside) c.args.out c.args.event c.self.invariant.0 (rw (← c.self.view_is) at c.requires.out)
 
 pub mark_changed-requires-clause-place : goal.mark_changed-requires-clause-place
 mark_changed-requires-clause-place c =
-    rw c.play.ensures.graph (lawful_place c.self.inside.net c.args.event (out_lawful (the_view c.self.inside) c.args.out c.args.event c.self.invariant.0 (rw (← c.self.view_is) at c.requires.out)))
+    rw c.play.ensures.graph (lawful_place c.self.inside.net c.args.event
+    (out_lawful (the_view c.self.inside) c.args.out c.args.event c.self.invariant.0 (rw (← c.self.view_is) at c.requires.out)))
 
 pub mark_changed-requires-clause-ports : goal.mark_changed-requires-clause-ports
 mark_changed-requires-clause-ports c =
-    rw (c.play.ensures.graph, c.as_slice-sends.ensures) (answer_sends c.self.inside.net c.trace.ensures.graph c.trace.ensures.run c.args.event c.args.delta.now
-    (out_lawful (the_view c.self.inside) c.args.out c.args.event c.self.invariant.0 (rw (← c.self.view_is) at c.requires.out)) (rw (← c.self.view_is) at c.requires.answer))
+    rw (c.play.ensures.graph, c.as_slice-sends.ensures)
+    (answer_sends c.self.inside.net c.trace.ensures.graph c.trace.ensures.run c.args.event c.args.delta.now
+    (out_lawful (the_view c.self.inside) c.args.out c.args.event c.self.invariant.0 (rw (← c.self.view_is) at c.requires.out))
+    (rw (← c.self.view_is) at c.requires.answer))
 
 pub mark_changed-requires-clause-arrived : goal.mark_changed-requires-clause-arrived
 mark_changed-requires-clause-arrived c =
@@ -32,7 +36,8 @@ mark_changed-requires-clause-arrived c =
 
 pub mark_changed-requires-clause-index : goal.mark_changed-requires-clause-index
 mark_changed-requires-clause-index c =
-    rw c.as_slice-sends.ensures (index_but c.self.inside.net c.play.new.self c.self.inside.wake c.args.event c.args.delta.now c.self.inside.index c.self.invariant.2
+    rw c.as_slice-sends.ensures
+    (index_but c.self.inside.net c.play.new.self c.self.inside.wake c.args.event c.args.delta.now c.self.inside.index c.self.invariant.2
     c.play.ensures.graph c.play.ensures.event (rw (← c.self.view_is) at c.requires.answer))
 
 done : (c : goal.After-remove) → Done (the_view c.self.inside) c.args.out c.args.event c.args.delta.now c.play.new.self
@@ -65,10 +70,19 @@ found c = record {
   event = c.play.ensures.event;
 }
 
-new_world : (c : goal.After-ready_of) → the_view (record { net = c.play.new.self; wake = c.self.inside.wake; turns = c.self.inside.turns; outs = c.remove.new.self; index = c.mark_changed.new.index }) ≡ after_commit (the_view c.self.inside) c.args.out c.play.new.self
-new_world c = ap (λ (o : OutsState). record { net = c.play.new.self; wake = c.self.inside.wake; turns = c.self.inside.turns; outs = o.list; last = o.last }) c.remove.ensures.out
+new_world : (c : goal.After-ready_of) → the_view (record {
+  net = c.play.new.self;
+  wake = c.self.inside.wake;
+  turns = c.self.inside.turns;
+  outs = c.remove.new.self;
+  index = c.mark_changed.new.index;
+}) ≡ after_commit (the_view c.self.inside) c.args.out c.play.new.self
+new_world c =
+    ap (λ (o : OutsState). record { net = c.play.new.self; wake = c.self.inside.wake; turns = c.self.inside.turns; outs = o.list; last = o.last })
+    c.remove.ensures.out
 
-kept : (c : goal.After-ready_of) → AreReadyOf (after_commit (the_view c.self.inside) c.args.out c.play.new.self) (touched (network c.self.inside.net) (event_node c.args.event) c.args.delta.now.sends) c.ready_of.result
+kept : (c : goal.After-ready_of) → AreReadyOf (after_commit (the_view c.self.inside) c.args.out c.play.new.self)
+    (touched (network c.self.inside.net) (event_node c.args.event) c.args.delta.now.sends) c.ready_of.result
 kept c = rw (c.ready_of.ensures, new_world c) (ready_kept _ _ _ (rw (← c.self.view_is) at c.requires.touched))
 
 pub returns-clause-others : goal.returns-clause-others
@@ -78,4 +92,6 @@ pub returns-clause-woken : goal.returns-clause-woken
 returns-clause-woken c = rw (← c.self.view_is, new_world c) (kept c)
 
 pub returns-clause-roused : goal.returns-clause-roused
-returns-clause-roused c = rw (← c.self.view_is) (subst (λ (w : WorldState). HasAllRoused (the_view c.self.inside) w c.ready_of.result) (sym (new_world c)) (all_roused _ _ _ _ _ (found c) c.ready_of.result (kept c)))
+returns-clause-roused c =
+    rw (← c.self.view_is) (subst (λ (w : WorldState). HasAllRoused (the_view c.self.inside) w c.ready_of.result) (sym (new_world c))
+    (all_roused _ _ _ _ _ (found c) c.ready_of.result (kept c)))

@@ -14,4 +14,5 @@ returns-clause-forest c = rw (← c.self.view_is) c.ended.ensures.forest
 
 pub returns-clause-still : goal.returns-clause-still
 returns-clause-still c = subst (λ (s : WorldState). s.outs ≡ [] → ready_events s ≡ [] → IsTrue c.ended.result) c.self.view_is
-    (λ out none. c.ended.ensures.ended.1 (still_has_ended (the_view c.self.inside) c.law_stillness.ensures c.trace.ensures.graph c.trace.ensures.run out none))
+    (λ out none. c.ended.ensures.ended.1
+    (still_has_ended (the_view c.self.inside) c.law_stillness.ensures c.trace.ensures.graph c.trace.ensures.run out none))

@@ -11,14 +11,18 @@ loop-from-init c = past_start c.args.self.now c.args.low c.max-from.result c.max
 
 pub has_node-requires-clause-low : goal.has_node-requires-clause-low
 has_node-requires-clause-low c =
-    let tells = found_tells (has_lawful c.args.self.now) c.loop-from.from (c.args.self.now.net.graph.nodes + 1 - c.loop-from.from) c.in-Some.v (sym c.lawful_from.ensures ∙ c.in-Some.is) in
+    let tells =
+    found_tells (has_lawful c.args.self.now) c.loop-from.from (c.args.self.now.net.graph.nodes + 1 - c.loop-from.from) c.in-Some.v
+    (sym c.lawful_from.ensures ∙ c.in-Some.is) in
     let from = tells.from in
     let some = c.loop-from.invariant.some in
     omega arith
 
 pub has_node-requires-clause-high : goal.has_node-requires-clause-high
 has_node-requires-clause-high c =
-    let tells = found_tells (has_lawful c.args.self.now) c.loop-from.from (c.args.self.now.net.graph.nodes + 1 - c.loop-from.from) c.in-Some.v (sym c.lawful_from.ensures ∙ c.in-Some.is) in
+    let tells =
+    found_tells (has_lawful c.args.self.now) c.loop-from.from (c.args.self.now.net.graph.nodes + 1 - c.loop-from.from) c.in-Some.v
+    (sym c.lawful_from.ensures ∙ c.in-Some.is) in
     let to = tells.to in
     let here = c.loop-from-test.true in
     let seen = ap (λ (s : WorldState). s.net.graph.nodes) c.self.view_is in
@@ -29,12 +33,15 @@ has_node-requires-clause-high c =
 pub returns-then-not-has_node : goal.returns-then-not-has_node
 returns-then-not-has_node c =
     sym (past_found c.args.self.now c.args.low c.loop-from.from c.in-Some.v c.loop-from.invariant
-    (found_tells (has_lawful c.args.self.now) c.loop-from.from (c.args.self.now.net.graph.nodes + 1 - c.loop-from.from) c.in-Some.v (sym c.lawful_from.ensures ∙ c.in-Some.is))
+    (found_tells (has_lawful c.args.self.now) c.loop-from.from (c.args.self.now.net.graph.nodes + 1 - c.loop-from.from) c.in-Some.v
+    (sym c.lawful_from.ensures ∙ c.in-Some.is))
     (sym (ap (λ (s : WorldState). is_out s.outs c.in-Some.v) c.self.view_is) ∙ sym c.has_node.ensures ∙ c.if-not-has_node.true))
 
 pub overflow_add-from : goal.overflow_add-from
 overflow_add-from c =
-    let tells = found_tells (has_lawful c.args.self.now) c.loop-from.from (c.args.self.now.net.graph.nodes + 1 - c.loop-from.from) c.in-Some.v (sym c.lawful_from.ensures ∙ c.in-Some.is) in
+    let tells =
+    found_tells (has_lawful c.args.self.now) c.loop-from.from (c.args.self.now.net.graph.nodes + 1 - c.loop-from.from) c.in-Some.v
+    (sym c.lawful_from.ensures ∙ c.in-Some.is) in
     let to = tells.to in
     let here = c.loop-from-test.true in
     let seen = ap (λ (s : WorldState). s.net.graph.nodes) c.self.view_is in
@@ -45,7 +52,9 @@ overflow_add-from c =
 
 pub loop-from-smaller : goal.loop-from-smaller
 loop-from-smaller c =
-    let tells = found_tells (has_lawful c.args.self.now) c.loop-from.from (c.args.self.now.net.graph.nodes + 1 - c.loop-from.from) c.in-Some.v (sym c.lawful_from.ensures ∙ c.in-Some.is) in
+    let tells =
+    found_tells (has_lawful c.args.self.now) c.loop-from.from (c.args.self.now.net.graph.nodes + 1 - c.loop-from.from) c.in-Some.v
+    (sym c.lawful_from.ensures ∙ c.in-Some.is) in
     let from = tells.from in
     let to = tells.to in
     let here = c.loop-from-test.true in
@@ -56,7 +65,8 @@ loop-from-smaller c =
 pub loop-from-preserved : goal.loop-from-preserved
 loop-from-preserved c =
     past_more c.args.self.now c.args.low c.loop-from.from c.in-Some.v c.loop-from.invariant
-    (found_tells (has_lawful c.args.self.now) c.loop-from.from (c.args.self.now.net.graph.nodes + 1 - c.loop-from.from) c.in-Some.v (sym c.lawful_from.ensures ∙ c.in-Some.is))
+    (found_tells (has_lawful c.args.self.now) c.loop-from.from (c.args.self.now.net.graph.nodes + 1 - c.loop-from.from) c.in-Some.v
+    (sym c.lawful_from.ensures ∙ c.in-Some.is))
     (sym (ap (λ (s : WorldState). is_out s.outs c.in-Some.v) c.self.view_is) ∙ sym c.has_node.ensures ∙ c.if-not-has_node.false)
 
 pub returns-in-None : goal.returns-in-None

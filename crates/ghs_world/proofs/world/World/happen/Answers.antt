@@ -14,11 +14,13 @@ play-requires-clause-lawful c = ready_lawful (the_view c.self.inside) c.args.eve
 
 pub mark_changed-requires-clause-place : goal.mark_changed-requires-clause-place
 mark_changed-requires-clause-place c =
-    rw c.play.ensures.graph (lawful_place c.self.inside.net c.args.event (ready_lawful (the_view c.self.inside) c.args.event (rw (← c.self.view_is) at c.requires.ready)))
+    rw c.play.ensures.graph (lawful_place c.self.inside.net c.args.event
+    (ready_lawful (the_view c.self.inside) c.args.event (rw (← c.self.view_is) at c.requires.ready)))
 
 pub mark_changed-requires-clause-ports : goal.mark_changed-requires-clause-ports
 mark_changed-requires-clause-ports c =
-    rw (c.play.ensures.graph, c.as_slice-sends.ensures) (answer_sends c.self.inside.net c.trace.ensures.graph c.trace.ensures.run c.args.event c.args.answer.now
+    rw (c.play.ensures.graph, c.as_slice-sends.ensures)
+    (answer_sends c.self.inside.net c.trace.ensures.graph c.trace.ensures.run c.args.event c.args.answer.now
     (ready_lawful (the_view c.self.inside) c.args.event (rw (← c.self.view_is) at c.requires.ready)) (rw (← c.self.view_is) at c.requires.answer))
 
 pub mark_changed-requires-clause-arrived : goal.mark_changed-requires-clause-arrived
@@ -28,11 +30,12 @@ mark_changed-requires-clause-arrived c =
 
 pub mark_changed-requires-clause-index : goal.mark_changed-requires-clause-index
 mark_changed-requires-clause-index c =
-    rw c.as_slice-sends.ensures (index_but c.self.inside.net c.play.new.self c.self.inside.wake c.args.event c.args.answer.now c.self.inside.index c.self.invariant.2
+    rw c.as_slice-sends.ensures
+    (index_but c.self.inside.net c.play.new.self c.self.inside.wake c.args.event c.args.answer.now c.self.inside.index c.self.invariant.2
     c.play.ensures.graph c.play.ensures.event (rw (← c.self.view_is) at c.requires.answer))
 
 pub invariant_of-self : goal.invariant_of-self
-invariant_of-self c = rw c.pass_number.ensures (
+invariant_of-self c = rw c.skip_number.ensures (
   world_made (the_view c.self.inside) c.args.event c.args.answer.now c.play.new.self (record {
     world = c.self.invariant.0;
     ready = rw (← c.self.view_is) at c.requires.ready;

@@ -27,7 +27,7 @@ invariant_of-self-2 c =
     let ready = rw (← c.self.view_is) at c.requires.ready in
     let back = rw (← c.self.view_is) at c.requires.back in
     let done = c.in_ok-put_back.ensures in
-    rw c.pass_number.ensures (
+    rw c.skip_number.ensures (
       world_made (the_view c.self.inside) take (requeues ((home (the_view c.self.inside)).node c.args.v).head) c.put_back.new.self (record {
         world = c.self.invariant.0;
         ready = ready;

@@ -1,0 +1,22 @@
+use Rattle.std.proofs.Common.{◌+◌, refl, arith}
+use Rattle.ghs_channels.proofs.Laying.{far_inside, far_few, far_step}
+use Rattle.ghs_channels.proofs.blocks.far_places.Goals as goal
+
+pub bounds-starts-port : goal.bounds-starts-port
+bounds-starts-port c =
+    let lt = rw c.ports-port-items.ensures at c.loop-port-test.true in
+    rw c.ports-port-items.ensures
+    (far_inside c.args.graph.now c.nodes-nodes.ensures.graph c.args.starts.now c.requires (c.loop-i.i + 1) c.loop-port.port-index lt)
+
+pub overflow_add-starts : goal.overflow_add-starts
+overflow_add-starts c =
+    let lt = rw c.ports-port-items.ensures at c.loop-port-test.true in
+    let few = far_few c.args.graph.now c.nodes-nodes.ensures.graph c.args.starts.now c.requires (c.loop-i.i + 1) c.loop-port.port-index lt in
+    rw c.ports-port-items.ensures (omega (arith, few))
+
+pub loop-port-preserved : goal.loop-port-preserved
+loop-port-preserved c =
+    let lt = rw c.ports-port-items.ensures at c.loop-port-test.true in
+    far_step c.args.graph.now c.nodes-nodes.ensures.graph c.args.starts.now c.requires c.loop-port.far.items _ c.loop-i.i
+    c.loop-port.port-index _ (omega (arith, c.nodes-nodes.ensures.nodes)) lt c.loop-port.invariant (rw c.ports-port-items.ensures refl)
+    c.in_ok-push.ensures.items

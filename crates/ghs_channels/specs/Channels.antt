@@ -1,0 +1,95 @@
+-- The queues of a network: one list of messages for each port of each node.
+use Rattle.std.specs.Prelude.{◌≡◌, ℕ, ◌+◌, ◌<◌, ◌≤◌, ◌==◌, ◌↔◌, List, [], length, slice_index_or}
+use Rattle.std.specs.List.{All, sum_by, count_by}
+use Rattle.ghs_graph.specs.declared.port.Port.{Port}
+use Rattle.ghs_graph.specs.Graph.{Shape, IsGraph}
+use Rattle.ghs_graph.specs.Ports.{ports_of, no_port}
+use Rattle.ghs_node.specs.declared.message.Message.{Message}
+use Rattle.ghs_node.specs.Words.{Outgoing}
+use Rattle.ghs_channels.specs.Queue.{QueueState, no_queue}
+
+-- of each node, by its number, and each of its ports: the queue there, and where the link leads, as node and port
+pub record ChannelsState : Type 0 where
+  pub queues : List (List QueueState)
+  pub destinations : List (List (ℕ × ℕ))
+
+abbrev pub queues_of : ChannelsState → ℕ → List QueueState
+queues_of l v = slice_index_or l.queues v []
+
+-- node v has a queue at port p
+pub record HasQueue (l : ChannelsState) (v p : ℕ) : Type 0 where
+  pub node : v < length l.queues
+  pub port : p < length (queues_of l v)
+
+-- what waits at port p of node v, and the room beside it
+abbrev pub state_at : ChannelsState → ℕ → ℕ → QueueState
+state_at l v p = slice_index_or (queues_of l v) p no_queue
+
+abbrev pub queue_at : ChannelsState → ℕ → ℕ → List Message
+queue_at l v p = (state_at l v p).list
+
+abbrev pub room_at : ChannelsState → ℕ → ℕ → ℕ
+room_at l v p = (state_at l v p).room
+
+-- how many messages wait anywhere
+abbrev pub total_of : ChannelsState → ℕ
+total_of l = sum_by (λ qs. sum_by (λ q. length q.list) qs) l.queues
+
+-- the node and the port at which waits what goes out on port p of node v
+abbrev pub destination_of : ChannelsState → ℕ → ℕ → ℕ × ℕ
+destination_of l v p = slice_index_or (slice_index_or l.destinations v []) p (0, 0)
+
+-- p is a port of node v
+pub record IsPort (g : Shape) (v p : ℕ) : Type 0 where
+  pub some : 1 ≤ v
+  pub node : v ≤ g.nodes
+  pub port : p < length (ports_of g.keys v)
+
+abbrev pub port_of : Shape → ℕ → ℕ → Port
+port_of g v p = slice_index_or (ports_of g.keys v) p no_port
+
+-- the end of a link away from node v and its port p
+abbrev pub far_end : Shape → ℕ → ℕ → ℕ × ℕ
+far_end g v p = let to = port_of g v p in (to.far, to.far_port)
+
+-- one queue for each port of each node of a graph, and links that lead where the graph's do
+pub record IsFor (g : Shape) (l : ChannelsState) : Type 0 where
+  pub graph : IsGraph g
+  pub count : length l.queues ≡ g.nodes + 1
+  pub queues : (v p : ℕ) → HasQueue l v p ↔ IsPort g v p
+  pub leads : (v p : ℕ) → IsPort g v p → destination_of l v p ≡ far_end g v p
+
+-- the queues of some graph
+abbrev pub IsForSome : ChannelsState → Type 0
+IsForSome l = (g : Shape) × IsFor g l
+
+abbrev pub AllEmpty : ChannelsState → Type 0
+AllEmpty l = (v p : ℕ) → HasQueue l v p → queue_at l v p ≡ []
+
+-- The same nodes and ports, and links that lead to the same places. So what were the queues of a graph are still its queues.
+pub record SamePorts (old new : ChannelsState) : Type 0 where
+  pub count : length new.queues ≡ length old.queues
+  pub queues : (v p : ℕ) → HasQueue old v p ↔ HasQueue new v p
+  pub leads : new.destinations ≡ old.destinations
+
+-- the queue at port p of node v is now this one, and the others are as they were
+pub record Changes (old new : ChannelsState) (v p : ℕ) (q : QueueState) : Type 0 where
+  pub ports : SamePorts old new
+  pub here : state_at new v p ≡ q
+  pub elsewhere : (u r : ℕ) → HasQueue old u r → ((u ≡ v) × (r ≡ p) → ⊥) → state_at new u r ≡ state_at old u r
+  pub total : total_of new + length (queue_at old v p) ≡ total_of old + length q.list
+
+-- the lists are as they were, and nowhere is less room
+pub record KeepsLists (old new : ChannelsState) : Type 0 where
+  pub ports : SamePorts old new
+  pub lists : (v p : ℕ) → HasQueue old v p → queue_at new v p ≡ queue_at old v p
+  pub rooms : (v p : ℕ) → HasQueue old v p → room_at old v p ≤ room_at new v p
+  pub total : total_of new ≡ total_of old
+
+-- the messages go out on ports of node v
+abbrev pub GoOut : ChannelsState → ℕ → Outgoing → Type 0
+GoOut l v ss = All (λ s. HasQueue l v s.0) ss
+
+-- at the far end of each port of node v is room for what goes out on the port
+abbrev pub HasRoomFor : ℕ → Outgoing → ChannelsState → Type 0
+HasRoomFor v ss l = (p : ℕ) → HasQueue l v p → let to = destination_of l v p in count_by (λ s. s.0 == p) ss ≤ room_at l to.0 to.1

@@ -1,0 +1,74 @@
+//! Where the queues of each node stand.
+ghost use Rattle.std.specs.Prelude.{◌≡◌, ◌+◌, ◌<◌, ◌≤◌, length, slice_index, IfOk};
+ghost use Rattle.ghs_graph.specs.Graph.{IsGraph};
+ghost use Rattle.ghs_channels.specs.Kept.{AreBlocks, AreParts, LeadFar, EachEmpty, part_of};
+
+use crate::queue::Queue;
+use ghs_graph::graph::Graph;
+use std::alloc::{AllocError, Global};
+
+/// Where the queues of each number from 0 to one above the nodes begin, and the greatest number of ports of a node.
+#[derive(Debug, Drop)]
+pub struct Blocks {
+    pub starts: Vec<u32>,
+    pub widest: usize,
+}
+
+/// A block of queues for each node, as long as it has ports. The number 0 is no node.
+pub fn lay_blocks(alloc: Global, graph: &Graph) -> Result<Blocks, AllocError>
+    ensures graph { IfOk result (λ _. IsGraph graph.now) }
+    ensures blocks { IfOk result (λ b. AreBlocks graph.now graph.now.nodes b.starts.items b.widest) }
+{
+    let nodes = graph.nodes();
+    let mut starts = Vec::with_capacity(alloc, nodes as usize + 2)?;
+    starts.push(0)?;
+    starts.push(0)?;
+    let mut end: u32 = 0;
+    let mut widest = 0;
+    for i in 0..nodes {
+        let degree = graph.ports(i + 1).len();
+        end += degree as u32;
+        widest = widest.max(degree);
+        starts.push(end)?;
+    }
+    Ok(Blocks { starts, widest })
+}
+
+/// So many queues without a message.
+pub fn empty_queues(alloc: Global, count: usize) -> Result<Vec<Queue>, AllocError>
+    ensures count { IfOk result (λ q. length q.items ≡ count) }
+    ensures empty { IfOk result (λ q. EachEmpty q.items) }
+{
+    let mut queues = Vec::with_capacity(alloc, count)?;
+    for _ in 0..count {
+        queues.push(Queue::new(alloc))?;
+    }
+    Ok(queues)
+}
+
+/// For each queue the place of the one at the far end of its link.
+pub fn far_places(alloc: Global, graph: &Graph, starts: &[u32]) -> Result<Vec<u32>, AllocError>
+    requires { AreParts graph.now starts.now }
+    ensures count { IfOk result (λ f. length f.items ≡ slice_index starts.now (graph.now.nodes + 1)) }
+    ensures far { IfOk result (λ f. LeadFar graph.now starts.now f.items) }
+{
+    let nodes = graph.nodes();
+    let mut far = Vec::with_capacity(alloc, starts[nodes as usize + 1] as usize)?;
+    for i in 0..nodes {
+        for port in graph.ports(i + 1) {
+            far.push(starts[port.far as usize] + port.far_port)?;
+        }
+    }
+    Ok(far)
+}
+
+/// The part of node `v` of a list that has something for each queue.
+pub fn part<'a>(starts: &[u32], list: &'a [u32], v: u32) -> &'a [u32]
+    requires node { v + 1 < length starts.now }
+    requires order { slice_index starts.now v ≤ slice_index starts.now (v + 1) }
+    requires within { slice_index starts.now (v + 1) ≤ length list.now }
+    ensures { result.now ≡ part_of starts.now list.now v }
+{
+    let at = v as usize;
+    &list[starts[at] as usize..starts[at + 1] as usize]
+}

@@ -1,0 +1,149 @@
+//! All channels of a network.
+ghost use Rattle.std.specs.Prelude.{◌≡◌, ℕ, ◌+◌, ◌-◌, ◌<◌, ◌≤◌, ◌^◌, [], length, slice_get, slice_index, slice_index_or, IfOk, OnOk, OnErr};
+ghost use Rattle.ghs_channels.specs.Queue.{pushed, taken, requeued, counted};
+ghost use Rattle.ghs_channels.specs.Channels.{HasQueue, IsFor, AllEmpty, Changes, KeepsLists, GoOut, HasRoomFor, state_at, queue_at, room_at, total_of, destination_of};
+
+use crate::blocks::{Blocks, empty_queues, far_places, lay_blocks, part};
+use crate::claims::make_room;
+use crate::queue::Queue;
+use ghs_graph::graph::Graph;
+use ghs_node::message::Message;
+use std::alloc::{AllocError, Global};
+use std::marker::Model;
+
+/// A queue of messages for each port of each node of a graph. What goes out on a port waits at the port of the
+/// far end, so each direction of a link is a channel. Nodes are numbered from 1, ports from 0.
+#[derive(Debug, Drop)]
+pub struct Channels {
+    // Where the queues of each number begin; 0 is no node.
+    starts: Vec<u32>,
+    queues: Vec<Queue>,
+    // For each queue the place of the one at the far end of its link.
+    far: Vec<u32>,
+    // For each port of a node, how much room the reserve at hand has asked for at its far end.
+    claims: Vec<usize>,
+    total: u64,
+}
+
+impl Model for Channels {
+    ghost use Rattle.ghs_channels.specs.Channels.{ChannelsState};
+    ghost use Rattle.ghs_channels.specs.Kept.{IsKept, seen};
+
+    ghost Value = { ChannelsState };
+
+    ghost view = { λ l. seen (record { starts = l.starts.items; queues = l.queues.items; far = l.far.items }) };
+
+    ghost invariant = { λ l. IsKept (record { starts = l.starts.items; queues = l.queues.items; far = l.far.items }) l.claims.items l.total };
+}
+
+impl Channels {
+    /// An empty queue for each port of each node.
+    pub fn new(alloc: Global, graph: &Graph) -> Result<Channels, AllocError>
+        ensures queues { IfOk result (IsFor graph.now) }
+        ensures empty { IfOk result AllEmpty }
+        ensures total { IfOk result (λ l. total_of l ≡ 0) }
+    {
+        let Blocks { starts, widest } = lay_blocks(alloc, graph)?;
+        let queues = empty_queues(alloc, starts[starts.len() - 1] as usize)?;
+        let far = far_places(alloc, graph, &starts)?;
+        let claims = vec![in alloc; 0usize; widest]?;
+        Ok(Channels {
+            starts,
+            queues,
+            far,
+            claims,
+            total: 0,
+        })
+    }
+
+    /// Makes room for the messages that node `v` sends, at the far ends of the ports that they go out on. It is refused
+    /// only where there was no room for them.
+    pub fn reserve_for(&mut self, v: u32, sends: &[(u32, Message)]) -> Result<(), AllocError>
+        requires node { v < length self.old.queues }
+        requires ports { GoOut self.old v sends.now }
+        ensures lists { KeepsLists self.old self.new }
+        ensures room { OnOk result (HasRoomFor v sends.now self.new) }
+        ensures full { OnErr result (HasRoomFor v sends.now self.old → ⊥) }
+    {
+        let far = part(&self.starts, &self.far, v);
+        make_room(far, &mut self.queues, &mut self.claims, sends)
+    }
+
+    /// Sends a message out on a port: it is appended to the queue at the far end. Takes no memory.
+    pub fn send(&mut self, v: u32, port: u32, message: Message)
+        requires port { HasQueue self.old v port }
+        requires room { let to = destination_of self.old v port in 0 < room_at self.old to.0 to.1 }
+        requires total { total_of self.old < 2 ^ 64 - 1 }
+        ensures { let to = destination_of self.old v port in Changes self.old self.new to.0 to.1 (pushed (state_at self.old to.0 to.1) message) }
+    {
+        let to = self.far[self.starts[v as usize] as usize + port as usize];
+        self.queues[to as usize].push(message);
+        self.total += 1;
+    }
+
+    /// Appends a message to the queue of a port. Takes no memory.
+    pub fn push(&mut self, v: u32, port: u32, message: Message)
+        requires port { HasQueue self.old v port }
+        requires room { 0 < room_at self.old v port }
+        requires total { total_of self.old < 2 ^ 64 - 1 }
+        ensures { Changes self.old self.new v port (pushed (state_at self.old v port) message) }
+    {
+        let at = self.starts[v as usize] as usize + port as usize;
+        self.queues[at].push(message);
+        self.total += 1;
+    }
+
+    /// Takes the first message of the queue of a port, if one waits there. Takes no memory.
+    pub fn take_front(&mut self, v: u32, port: u32) -> Option<Message>
+        requires port { HasQueue self.old v port }
+        ensures first { result ≡ slice_get (queue_at self.old v port) 0 }
+        ensures left { Changes self.old self.new v port (taken (state_at self.old v port)) }
+    {
+        let at = self.starts[v as usize] as usize + port as usize;
+        let first = self.queues[at].take_front();
+        self.total -= count(&first);
+        first
+    }
+
+    /// Puts the first message of the queue of a port behind the others; an empty queue stays so. Takes no memory.
+    pub fn requeue(&mut self, v: u32, port: u32)
+        requires port { HasQueue self.old v port }
+        ensures { Changes self.old self.new v port (requeued (state_at self.old v port)) }
+    {
+        let at = self.starts[v as usize] as usize + port as usize;
+        self.queues[at].requeue();
+    }
+
+    /// The first message that waits at a port.
+    pub fn front(&self, v: u32, port: u32) -> Option<Message>
+        requires { HasQueue self.now v port }
+        ensures { result ≡ slice_get (queue_at self.now v port) 0 }
+    {
+        self.queues[self.starts[v as usize] as usize + port as usize].front()
+    }
+
+    /// How many messages wait at a port.
+    pub fn len_at(&self, v: u32, port: u32) -> u64
+        requires { HasQueue self.now v port }
+        ensures { result ≡ length (queue_at self.now v port) }
+    {
+        self.queues[self.starts[v as usize] as usize + port as usize].len()
+    }
+
+    /// How many messages wait at all ports.
+    pub fn total(&self) -> u64
+        ensures { result ≡ total_of self.now }
+    {
+        self.total
+    }
+}
+
+/// How many messages these are: one, or none.
+fn count(message: &Option<Message>) -> u64
+    ensures { result ≡ counted message.now }
+{
+    match message {
+        Some(_) => 1,
+        None => 0,
+    }
+}

@@ -1,0 +1,78 @@
+-- Command lines, computed from the definitions.
+use Rattle.std.proofs.Common.{◌≡◌, codes, Some, None, [], ◌∷◌, refl}
+use Rattle.clap.specs.declared.error.kind.ErrorKind.TheVariants as kind
+use Rattle.clap.proofs.OnLiterals.{clap_on_literals}
+use Rattle.ghs_commands.specs.Grammar.{program}
+use Rattle.ghs_commands.specs.Job.{command_in, kinds_of, name_in, value_in}
+
+tree-taken : kinds_of (codes "tree" ∷ []) ≡ []
+unfolding program clap_on_literals
+tree-taken = refl
+
+tree-input : value_in (codes "FILE") (command_in (codes "tree" ∷ [])) ≡ None
+unfolding program clap_on_literals
+tree-input = refl
+
+file-taken : kinds_of (codes "tree" ∷ codes "map.gr" ∷ []) ≡ []
+unfolding program clap_on_literals
+file-taken = refl
+
+file-named : value_in (codes "FILE") (command_in (codes "tree" ∷ codes "map.gr" ∷ [])) ≡ Some (codes "map.gr")
+unfolding program clap_on_literals
+file-named = refl
+
+dashes-named : value_in (codes "FILE") (command_in (codes "tree" ∷ codes "--" ∷ codes "-map" ∷ [])) ≡ Some (codes "-map")
+unfolding program clap_on_literals
+dashes-named = refl
+
+dash-named : value_in (codes "FILE") (command_in (codes "tree" ∷ codes "-" ∷ [])) ≡ Some (codes "-")
+unfolding program clap_on_literals
+dash-named = refl
+
+one_input-taken : kinds_of (codes "replay" ∷ codes "-" ∷ codes "map.gr" ∷ []) ≡ []
+unfolding program clap_on_literals
+one_input-taken = refl
+
+two_inputs-refused : kinds_of (codes "replay" ∷ codes "-" ∷ []) ≡ kind.InvalidValue ∷ []
+unfolding program clap_on_literals
+two_inputs-refused = refl
+
+nothing-refused : kinds_of [] ≡ kind.MissingSubcommand ∷ []
+unfolding program clap_on_literals
+nothing-refused = refl
+
+two_files-refused : kinds_of (codes "tree" ∷ codes "a" ∷ codes "b" ∷ []) ≡ kind.UnknownArgument ∷ []
+unfolding program clap_on_literals
+two_files-refused = refl
+
+help-asked : kinds_of (codes "--help" ∷ []) ≡ kind.DisplayHelp ∷ []
+unfolding program clap_on_literals
+help-asked = refl
+
+version-asked : kinds_of (codes "--version" ∷ []) ≡ kind.DisplayVersion ∷ []
+unfolding program clap_on_literals
+version-asked = refl
+
+wake-taken : kinds_of (codes "replay" ∷ codes "--wake" ∷ codes "first" ∷ codes "run.trace" ∷ []) ≡ []
+unfolding program clap_on_literals
+wake-taken = refl
+
+replay-called : name_in (command_in (codes "replay" ∷ codes "run.trace" ∷ [])) ≡ Some (codes "replay")
+unfolding program clap_on_literals
+replay-called = refl
+
+wake-not_given : value_in (codes "wake") (command_in (codes "replay" ∷ codes "run.trace" ∷ [])) ≡ Some (codes "all")
+unfolding program clap_on_literals
+wake-not_given = refl
+
+wake-refused : kinds_of (codes "replay" ∷ codes "--wake" ∷ codes "none" ∷ codes "run.trace" ∷ []) ≡ kind.InvalidValue ∷ []
+unfolding program clap_on_literals
+wake-refused = refl
+
+replay-named : value_in (codes "TRACE") (command_in (codes "replay" ∷ codes "run.trace" ∷ codes "map.gr" ∷ [])) ≡ Some (codes "run.trace")
+unfolding program clap_on_literals
+replay-named = refl
+
+no_trace-refused : kinds_of (codes "replay" ∷ []) ≡ kind.MissingRequiredArgument ∷ []
+unfolding program clap_on_literals
+no_trace-refused = refl

@@ -1,0 +1,596 @@
+//! The words that the program takes.
+ghost use Rattle.clap.specs.Words.{App, app_of, new_app, rule_of, with_subcommand};
+ghost use Rattle.clap.specs.declared.builder.command.Command.TheViews.{out-Command};
+ghost use Rattle.ghs_commands.specs.Grammar.{by_rule, core_rule, end_rule, explore_command, file_rule, files_rule, flag_rule, found_rule, from_rule, json_rule, kind_rule, limit_rule, links_rule, make_command, names_rule, node_rule, nodes_rule, option_rule, pair_rule, place_rule, print_rule, program, progress_rule, replay_command, run_command, schedule_rule, seed_rule, seeds_rule, sheet_rule, steps_command, sweep_command, tally_rule, to_rule, trace_rule, tree_command, turns_rule, valued_rule, view_command, wake_rule, weights_rule, with_rules, workers_rule, stored_rule};
+ghost use Rattle.std.specs.List.{All};
+ghost use Rattle.std.specs.Prelude.{◌≡◌, IfOk, false, map};
+
+use clap::{Arg, ArgAction, Command};
+use std::alloc::{AllocError, Global};
+
+/// The program's version, and by which kit its proofs hold.
+pub const VERSION: &str = "1.0.0, proved with rattle-kit-13f logic dac8208d650f15bf";
+
+/// The program's commands, with their help.
+#[tactic(auto, unfolding(crate::specs::Grammar::program))]
+pub fn program<'a>(alloc: Global) -> Result<Command<'a>, AllocError>
+    ensures { IfOk result (λ command. app_of command ≡ program) }
+{
+    let command = Command::new(alloc, "ghs")
+        .about("Minimum spanning trees of networks")
+        .version(VERSION)
+        .subcommand_required(true);
+    with_shows(alloc, with_runs(alloc, command)?)
+}
+
+/// What runs a network, and plays a run again.
+fn with_runs<'a>(alloc: Global, command: Command<'a>) -> Result<Command<'a>, AllocError>
+    ensures { IfOk result (λ r. app_of r ≡ with_subcommand (with_subcommand (with_subcommand (with_subcommand (app_of command.entry) tree_command.top) run_command.top) replay_command.top) steps_command.top) }
+{
+    let command = with_command(command, tree(alloc))?;
+    let command = with_command(command, run(alloc))?;
+    let command = with_command(command, replay(alloc))?;
+    with_command(command, steps(alloc))
+}
+
+/// What shows many runs or one, makes networks and explores them.
+fn with_shows<'a>(alloc: Global, command: Command<'a>) -> Result<Command<'a>, AllocError>
+    ensures { IfOk result (λ r. app_of r ≡ with_subcommand (with_subcommand (with_subcommand (with_subcommand (app_of command.entry) sweep_command.top) view_command.top) make_command.top) explore_command.top) }
+{
+    let command = with_command(command, sweep(alloc))?;
+    let command = with_command(command, view(alloc))?;
+    let command = with_command(command, make(alloc))?;
+    with_command(command, explore(alloc))
+}
+
+/// The command with one more, where there was memory for that. It takes what made it, so that no caller has both in hand where
+/// memory runs out: each way out of a function has the drops of all that it holds, and a command's are many.
+fn with_command<'a>(
+    command: Command<'a>,
+    subcommand: Result<Command<'a>, AllocError>,
+) -> Result<Command<'a>, AllocError>
+    requires { IfOk subcommand (λ s. (out-Command s).has_globals ≡ false) }
+    ensures { (app : App) → IfOk subcommand.entry (λ s. app_of s ≡ app) → IfOk result (λ r. app_of r ≡ with_subcommand (app_of command.entry) app.top) }
+{
+    Ok(command.subcommand(subcommand?)?)
+}
+
+/// `ghs tree`.
+fn tree<'a>(alloc: Global) -> Result<Command<'a>, AllocError>
+    ensures local { IfOk result (λ command. (out-Command command).has_globals ≡ false) }
+    ensures app { IfOk result (λ command. app_of command ≡ tree_command) }
+{
+    let arguments = vec![in alloc; file(alloc), core(alloc)]?;
+    Ok(command(
+        alloc,
+        "tree",
+        "Prints the minimum spanning forest of a graph",
+        arguments,
+    )?)
+}
+
+/// `ghs run`.
+fn run<'a>(alloc: Global) -> Result<Command<'a>, AllocError>
+    ensures local { IfOk result (λ command. (out-Command command).has_globals ≡ false) }
+    ensures app { IfOk result (λ command. app_of command ≡ run_command) }
+{
+    let arguments = vec![in alloc;
+        file(alloc),
+        seed(alloc),
+        schedule(alloc),
+        workers(alloc),
+        wake(alloc),
+        turns(alloc),
+        print(alloc),
+        core(alloc),
+        progress(alloc),
+        tally(alloc),
+    ]?;
+    Ok(command(
+        alloc,
+        "run",
+        "Runs the network of a graph, event by event, by the schedule of a seed or by threads",
+        arguments,
+    )?)
+}
+
+/// `ghs replay`.
+fn replay<'a>(alloc: Global) -> Result<Command<'a>, AllocError>
+    ensures local { IfOk result (λ command. (out-Command command).has_globals ≡ false) }
+    ensures app { IfOk result (λ command. app_of command ≡ replay_command) }
+{
+    let arguments = vec![in alloc; trace(alloc), file(alloc), wake(alloc)]?;
+    Ok(command(
+        alloc,
+        "replay",
+        "Plays a stored run again, event by event",
+        arguments,
+    )?)
+}
+
+/// `ghs steps`.
+fn steps<'a>(alloc: Global) -> Result<Command<'a>, AllocError>
+    ensures local { IfOk result (λ command. (out-Command command).has_globals ≡ false) }
+    ensures app { IfOk result (λ command. app_of command ≡ steps_command) }
+{
+    let arguments = vec![in alloc;
+        trace(alloc),
+        file(alloc),
+        wake(alloc),
+        from(alloc),
+        to(alloc),
+        node(alloc),
+        json(alloc),
+    ]?;
+    Ok(command(
+        alloc,
+        "steps",
+        "Prints what each event of a stored run does, an event a line",
+        arguments,
+    )?)
+}
+
+/// `ghs sweep`.
+fn sweep<'a>(alloc: Global) -> Result<Command<'a>, AllocError>
+    ensures local { IfOk result (λ command. (out-Command command).has_globals ≡ false) }
+    ensures app { IfOk result (λ command. app_of command ≡ sweep_command) }
+{
+    let arguments = vec![in alloc;
+        files(alloc),
+        seeds(alloc),
+        schedule(alloc),
+        sharers(alloc),
+        wake(alloc),
+        turns(alloc),
+        sheet(alloc),
+        by(alloc),
+        names(alloc),
+        json(alloc),
+        seeds_told(alloc),
+    ]?;
+    Ok(command(
+        alloc,
+        "sweep",
+        "Runs the networks of graphs by the schedules of many seeds, and prints a line of figures for each run, or what they come to",
+        arguments,
+    )?)
+}
+
+/// `ghs view`.
+fn view<'a>(alloc: Global) -> Result<Command<'a>, AllocError>
+    ensures local { IfOk result (λ command. (out-Command command).has_globals ≡ false) }
+    ensures app { IfOk result (λ command. app_of command ≡ view_command) }
+{
+    let arguments = vec![in alloc;
+        file(alloc),
+        seed(alloc),
+        pair(alloc),
+        schedule(alloc),
+        wake(alloc),
+        turns(alloc),
+        stored(alloc),
+        from(alloc),
+        to(alloc),
+    ]?;
+    Ok(command(
+        alloc,
+        "view",
+        "Prints a run as one page for a browser, to step through, or two runs beside each other",
+        arguments,
+    )?)
+}
+
+/// `ghs make`.
+fn make<'a>(alloc: Global) -> Result<Command<'a>, AllocError>
+    ensures local { IfOk result (λ command. (out-Command command).has_globals ≡ false) }
+    ensures app { IfOk result (λ command. app_of command ≡ make_command) }
+{
+    let arguments = vec![in alloc;
+        kind(alloc),
+        nodes(alloc),
+        maker(alloc),
+        links(alloc),
+        weights(alloc),
+    ]?;
+    Ok(command(
+        alloc,
+        "make",
+        "Makes a network of a kind by a seed, and prints it in the .gr format",
+        arguments,
+    )?)
+}
+
+/// `ghs explore`.
+fn explore<'a>(alloc: Global) -> Result<Command<'a>, AllocError>
+    ensures local { IfOk result (λ command. (out-Command command).has_globals ≡ false) }
+    ensures app { IfOk result (λ command. app_of command ≡ explore_command) }
+{
+    let arguments = vec![in alloc;
+        file(alloc),
+        wake(alloc),
+        limit(alloc),
+        found(alloc),
+        end(alloc),
+        states_told(alloc),
+    ]?;
+    Ok(command(
+        alloc,
+        "explore",
+        "Explores all runs of a small network, and prints with which counts of messages they end",
+        arguments,
+    )?)
+}
+
+/// A command of a name, with what it is about and its arguments.
+fn command<'a>(
+    alloc: Global,
+    name: &'a str,
+    about: &'a str,
+    arguments: Vec<Arg<'a>>,
+) -> Result<Command<'a>, AllocError>
+    requires { All (λ a. a.global ≡ false) arguments.items }
+    ensures local { IfOk result (λ r. (out-Command r).has_globals ≡ false) }
+    ensures app { IfOk result (λ r. app_of r ≡ with_rules (map rule_of arguments.entry.items) (new_app name.entry.now)) }
+{
+    Ok(Command::new(alloc, name).about(about).args(arguments)?)
+}
+
+/// How many states there may be.
+fn limit<'a>(alloc: Global) -> Arg<'a>
+    ensures local { result.global ≡ false }
+    ensures rule { rule_of result ≡ limit_rule }
+{
+    option(alloc, "limit", "1000000").help(
+        "How many states the runs may lead to, 1 to 10000000; with more there is no answer",
+    )
+}
+
+/// What of an exploration is printed.
+fn found<'a>(alloc: Global) -> Arg<'a>
+    ensures local { result.global ≡ false }
+    ensures rule { rule_of result ≡ found_rule }
+{
+    valued(alloc, "found", "print").default_value("report").help(
+        "What is printed: report, the counts with which runs end, or trace, the events of a run that ends with those of --end",
+    )
+}
+
+/// Whose run is printed.
+fn end<'a>(alloc: Global) -> Arg<'a>
+    ensures local { result.global ≡ false }
+    ensures rule { rule_of result ≡ end_rule }
+{
+    option(alloc, "end", "1").help("The number of the line of the report whose run is printed")
+}
+
+/// The kind of the network.
+fn kind<'a>(alloc: Global) -> Arg<'a>
+    ensures local { result.global ≡ false }
+    ensures rule { rule_of result ≡ kind_rule }
+{
+    place(alloc, "KIND").help(
+        "The kind: path, ring, star, grid, complete, tree, random, road, forest, slow or busy",
+    )
+}
+
+/// How many nodes it has.
+fn nodes<'a>(alloc: Global) -> Arg<'a>
+    ensures local { result.global ≡ false }
+    ensures rule { rule_of result ≡ nodes_rule }
+{
+    place(alloc, "NODES").help("How many nodes it has, 1 to 1048576")
+}
+
+/// A word that has to stand at its place.
+fn place<'a>(alloc: Global, name: &'a str) -> Arg<'a>
+    ensures local { result.global ≡ false }
+    ensures rule { rule_of result ≡ place_rule name.entry.now }
+{
+    Arg::new(alloc, name).required(true)
+}
+
+/// What picks its links and weights.
+fn maker<'a>(alloc: Global) -> Arg<'a>
+    ensures local { result.global ≡ false }
+    ensures rule { rule_of result ≡ seed_rule }
+{
+    option(alloc, "seed", "1").help("The number that picks links and weights")
+}
+
+/// How many links it has.
+fn links<'a>(alloc: Global) -> Arg<'a>
+    ensures local { result.global ≡ false }
+    ensures rule { rule_of result ≡ links_rule }
+{
+    valued(alloc, "links", "links").help(
+        "How many links a random network or a forest has; without it two for each node, and in a forest three for four",
+    )
+}
+
+/// How they weigh.
+fn weights<'a>(alloc: Global) -> Arg<'a>
+    ensures local { result.global ≡ false }
+    ensures rule { rule_of result ≡ weights_rule }
+{
+    valued(alloc, "weights", "weights").help(
+        "How links weigh: random, rising, falling or equal; without it random, but for slow and busy, which have weights of their own",
+    )
+}
+
+/// The stored run's file.
+fn trace<'a>(alloc: Global) -> Arg<'a>
+    ensures local { result.global ≡ false }
+    ensures rule { rule_of result ≡ trace_rule }
+{
+    Arg::new(alloc, "TRACE")
+        .help("The stored run: the text of its events; - is standard input")
+        .required(true)
+}
+
+/// The number of the first event that is shown.
+fn from<'a>(alloc: Global) -> Arg<'a>
+    ensures local { result.global ≡ false }
+    ensures rule { rule_of result ≡ from_rule }
+{
+    option(alloc, "from", "1").help("The number of the first event that is shown, counted from 1")
+}
+
+/// The number of the last.
+fn to<'a>(alloc: Global) -> Arg<'a>
+    ensures local { result.global ≡ false }
+    ensures rule { rule_of result ≡ to_rule }
+{
+    option(alloc, "to", "1099511627776").help("The number of the last event that is shown")
+}
+
+/// Whose events are shown.
+fn node<'a>(alloc: Global) -> Arg<'a>
+    ensures local { result.global ≡ false }
+    ensures rule { rule_of result ≡ node_rule }
+{
+    valued(alloc, "node", "node").help(
+        "The node whose events are shown; all nodes' where none is named",
+    )
+}
+
+/// Whether the lines are JSON.
+fn json<'a>(alloc: Global) -> Arg<'a>
+    ensures local { result.global ≡ false }
+    ensures rule { rule_of result ≡ json_rule }
+{
+    flag(alloc, "json", "Prints the lines as JSON")
+}
+
+/// The graph's file.
+fn file<'a>(alloc: Global) -> Arg<'a>
+    ensures local { result.global ≡ false }
+    ensures rule { rule_of result ≡ file_rule }
+{
+    Arg::new(alloc, "FILE").help(
+        "The graph, in the .gr format; standard input where it is - or none is named",
+    )
+}
+
+/// The graphs' files.
+fn files<'a>(alloc: Global) -> Arg<'a>
+    ensures local { result.global ≡ false }
+    ensures rule { rule_of result ≡ files_rule }
+{
+    Arg::new(alloc, "FILE").action(ArgAction::Append).help(
+        "The graphs, in the .gr format; standard input where one is - or none is named",
+    )
+}
+
+/// Whether lines begin with the name of their graph where one is swept.
+fn names<'a>(alloc: Global) -> Arg<'a>
+    ensures local { result.global ≡ false }
+    ensures rule { rule_of result ≡ names_rule }
+{
+    flag(
+        alloc,
+        "names",
+        "Begins each line with the name of the graph's file, as where several are named",
+    )
+}
+
+/// Which schedule picks the events.
+fn seed<'a>(alloc: Global) -> Arg<'a>
+    ensures local { result.global ≡ false }
+    ensures rule { rule_of result ≡ seed_rule }
+{
+    option(alloc, "seed", "1").help("The number that picks the order of the events")
+}
+
+/// Whose schedules pick the runs of a sweep.
+fn seeds<'a>(alloc: Global) -> Arg<'a>
+    ensures local { result.global ≡ false }
+    ensures rule { rule_of result ≡ seeds_rule }
+{
+    valued(alloc, "seeds", "seeds").required(true).help(
+        "The seeds, FIRST..LAST, both included, 1000000 of them at most",
+    )
+}
+
+/// Whose schedules pick the two runs of a page.
+fn pair<'a>(alloc: Global) -> Arg<'a>
+    ensures local { result.global ≡ false }
+    ensures rule { rule_of result ≡ pair_rule }
+{
+    valued(alloc, "pair", "seeds").help(
+        "Two seeds, FIRST,SECOND, whose runs are shown beside each other, in place of the one of --seed",
+    )
+}
+
+/// How many threads share the runs of a sweep.
+fn sharers<'a>(alloc: Global) -> Arg<'a>
+    ensures local { result.global ≡ false }
+    ensures rule { rule_of result ≡ workers_rule }
+{
+    option(alloc, "workers", "0").help(
+        "How many threads share the runs, 0 to 64; 0 is one, and the text is the same for each",
+    )
+}
+
+/// Among which events it picks them.
+fn schedule<'a>(alloc: Global) -> Arg<'a>
+    ensures local { result.global ≡ false }
+    ensures rule { rule_of result ≡ schedule_rule }
+{
+    option(alloc, "schedule", "seeded").help(
+        "Which events the seed picks among: seeded, all that may happen, patient, those that move the run on, rounds, those of them whose message arrives in the round, waits, those that only put a message back as long as there are any, so that such a run needn't end before its turns, or lifo, the one whose message was sent last",
+    )
+}
+
+/// How many threads take part.
+fn workers<'a>(alloc: Global) -> Arg<'a>
+    ensures local { result.global ≡ false }
+    ensures rule { rule_of result ≡ workers_rule }
+{
+    option(alloc, "workers", "0").help(
+        "How many threads take part, 0 to 64; with 0 the seed's schedule picks the events",
+    )
+}
+
+/// How many events there may be.
+fn turns<'a>(alloc: Global) -> Arg<'a>
+    ensures local { result.global ≡ false }
+    ensures rule { rule_of result ≡ turns_rule }
+{
+    option(alloc, "turns", "1099511627776").help("How many events there may be, 1 to 1099511627776")
+}
+
+/// What of a run is printed.
+fn print<'a>(alloc: Global) -> Arg<'a>
+    ensures local { result.global ≡ false }
+    ensures rule { rule_of result ≡ print_rule }
+{
+    option(alloc, "print", "report").help(
+        "What is printed: report, the tree and the counts, trace, the events, or time, the longest chain of messages and the rounds",
+    )
+}
+
+/// What of a sweep is printed.
+fn sheet<'a>(alloc: Global) -> Arg<'a>
+    ensures local { result.global ≡ false }
+    ensures rule { rule_of result ≡ sheet_rule }
+{
+    valued(alloc, "sheet", "print").default_value("runs").help(
+        "What is printed: runs, a line of figures for each, summary, their range, percentiles and sums, or chart, a picture of them as SVG",
+    )
+}
+
+/// By which parts the messages of each run of a sweep are counted.
+fn by<'a>(alloc: Global) -> Arg<'a>
+    ensures local { result.global ≡ false }
+    ensures rule { rule_of result ≡ by_rule }
+{
+    valued(alloc, "by", "by").help(
+        "Counts the messages of each run by node or level, or how often each rule applied, by rule, a line for each",
+    )
+}
+
+/// The file of a stored run, where one is shown.
+fn stored<'a>(alloc: Global) -> Arg<'a>
+    ensures local { result.global ≡ false }
+    ensures rule { rule_of result ≡ stored_rule }
+{
+    valued(alloc, "TRACE", "trace").help(
+        "The stored run that is shown, the text of its events, from standard input where it is -; without it the seed's",
+    )
+}
+
+/// Whether the core of each component is printed too.
+fn core<'a>(alloc: Global) -> Arg<'a>
+    ensures local { result.global ≡ false }
+    ensures rule { rule_of result ≡ core_rule }
+{
+    flag(
+        alloc,
+        "core",
+        "Prints behind the tree, or the report of a run, each component's core and its level",
+    )
+}
+
+/// Whether it is told how far the run has come.
+fn progress<'a>(alloc: Global) -> Arg<'a>
+    ensures local { result.global ≡ false }
+    ensures rule { rule_of result ≡ progress_rule }
+{
+    flag(
+        alloc,
+        "progress",
+        "Tells standard error how far the run has come",
+    )
+}
+
+/// Whether it is told what each of the threads has done.
+fn tally<'a>(alloc: Global) -> Arg<'a>
+    ensures local { result.global ≡ false }
+    ensures rule { rule_of result ≡ tally_rule }
+{
+    flag(
+        alloc,
+        "tally",
+        "Tells standard error at the end what each of the threads has done",
+    )
+}
+
+/// Whether it is told how many of the seeds have been run.
+fn seeds_told<'a>(alloc: Global) -> Arg<'a>
+    ensures local { result.global ≡ false }
+    ensures rule { rule_of result ≡ progress_rule }
+{
+    flag(
+        alloc,
+        "progress",
+        "Tells standard error how many of the seeds have been run",
+    )
+}
+
+/// Whether it is told how many states have been met.
+fn states_told<'a>(alloc: Global) -> Arg<'a>
+    ensures local { result.global ≡ false }
+    ensures rule { rule_of result ≡ progress_rule }
+{
+    flag(
+        alloc,
+        "progress",
+        "Tells standard error how many states have been met",
+    )
+}
+
+/// Which nodes wake by themselves.
+fn wake<'a>(alloc: Global) -> Arg<'a>
+    ensures local { result.global ≡ false }
+    ensures rule { rule_of result ≡ wake_rule }
+{
+    option(alloc, "wake", "all").help(
+        "Which nodes wake by themselves: all, or the first of each component",
+    )
+}
+
+/// An option, and its value where it isn't given.
+fn option<'a>(alloc: Global, name: &'a str, default: &'a str) -> Arg<'a>
+    ensures local { result.global ≡ false }
+    ensures rule { rule_of result ≡ option_rule name.entry.now default.entry.now }
+{
+    valued(alloc, name, name).default_value(default)
+}
+
+/// An option that has no value of its own.
+fn flag<'a>(alloc: Global, name: &'a str, help: &'a str) -> Arg<'a>
+    ensures local { result.global ≡ false }
+    ensures rule { rule_of result ≡ flag_rule name.entry.now }
+{
+    valued(alloc, name, name)
+        .action(ArgAction::SetTrue)
+        .help(help)
+}
+
+/// An option `--NAME` with a value, which the program calls by its id.
+fn valued<'a>(alloc: Global, id: &'a str, name: &'a str) -> Arg<'a>
+    ensures local { result.global ≡ false }
+    ensures rule { rule_of result ≡ valued_rule id.entry.now name.entry.now }
+{
+    Arg::new(alloc, id).long(name)
+}

@@ -1,8 +1,0 @@
-use Rattle.ghs_links.proofs.lemmas.Ports.{same_for}
-use Rattle.ghs_rows.proofs.queues.take.Goals as goal
-
-pub take_front-requires : goal.take_front-requires
-take_front-requires g c = record { port = (c.requires.queues c.args.v c.args.port).1 c.expect_port.ensures }
-
-pub returns : goal.returns
-returns g c = same_for _ c.args.links.now c.take_front.new.self c.take_front.ensures.left.ports c.requires
