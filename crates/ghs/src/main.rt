@@ -1,4 +1,11 @@
 //! The program `ghs`: it opens files and prints faults, and leaves the work to `ghs_cli`.
+//!
+//! Proved: the exit status is that of what the words ask for and of how it went (`run`, by `IsStatusOf`); of the words
+//! only the first is left out (`behind_first`); on what was opened the work is that of `serve` (`do_job_on_graph`:
+//! `serves`).
+//!
+//! Only tested, by the cases of `cases/`: which file is opened for what. No contract says what words the system gives,
+//! what a file holds and where standard output goes. docs/FORMATS.md has the commands, their output and the statuses.
 #![tactic(auto)]
 
 ghost use Rattle.ghs.specs.Status.{IsStatusOf, IsStatusOfJob, status_unread};

@@ -1,5 +1,11 @@
-//! A run that a hand leads, for a page: the calls of `ghs_hand` as a static library exports them. A graph's text and a trace's
-//! text come in, and a text goes out. Nothing is kept between two calls, and no call asks for more than its types say.
+//! A run that a hand leads, for a page: the calls of `ghs_hand` as a static library exports them. A graph's text and a
+//! trace's text come in, and a text goes out. Nothing is kept between two calls, and no call asks for more than its types
+//! say.
+//!
+//! Proved: the answers are those of `hand_seen` and `hand_run` (`IsHandedOver`). What is made of the library for browsers
+//! (`page/module`) is compared with the program by `page/held`, and not proved.
+//!
+//! How a page calls them, and asks again where an answer didn't fit: `call` in page/choose/choose.js.
 #![tactic(auto)]
 
 ghost use Rattle.ghs_hand.specs.Answers.{IsHandedOver, IsRunAnswer, IsSeenAnswer};
