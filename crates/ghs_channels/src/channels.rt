@@ -38,6 +38,14 @@ impl Model for Channels {
 
 impl Channels {
     /// An empty queue for each port of each node.
+    ///
+    /// ```text
+    /// let mut channels = Channels::new(alloc, &graph)?;         // of the path 1-2-3
+    /// let sends = [(0, Message::Connect(Level::ZERO))];
+    /// channels.reserve_for(2, &sends)?;                         // room at the far ends
+    /// channels.send(2, 0, sends[0].1);
+    /// // it waits at port 0 of node 1: channels.len_at(1, 0) is 1, channels.total() is 1
+    /// ```
     pub fn new(alloc: Global, graph: &Graph) -> Result<Channels, AllocError>
         ensures queues { IfOk result (IsFor graph.now) }
         ensures empty { IfOk result AllEmpty }

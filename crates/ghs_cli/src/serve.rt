@@ -36,6 +36,13 @@ use std::thread::Threads;
 /// Where the events of a run are asked for, they go out before the answer that its turns are used, and a write that fails
 /// then is answered in its place. A patient run, one by rounds, or one of what was sent last, without threads, that has turns
 /// for 2(B + N) events, B the bound and N the nodes, is never answered by its turns.
+///
+/// ```text
+/// let job = read_job(alloc, &words)?;                       // the word tree
+/// let (mut graph, mut trace) = (Device::of(file), Device::of(&b""[..]));
+/// serve(rt, alloc, &job, &mut graph, &mut trace, &mut Device::of(&mut text))?;
+/// // of two nodes and a link of weight 5 text is b"t 1 2 5\nw 5\n"
+/// ```
 pub fn serve<R: Source, T: Source, W: Sink, H: Threads + Wait + Eprint + Sync>(
     rt: &H,
     alloc: Global,

@@ -202,6 +202,12 @@ impl From<AllocError> for JobFault {
 
 /// The job of a command line: the words after the program's name. The words are taken as `clap` takes them; a choice
 /// has to be one that there is, and a number has to be digits of a value in its range.
+///
+/// ```text
+/// let job = read_job(alloc, &words)?;                       // the words run --seed 7 five.gr
+/// // job.graph is five.gr, and job.task is Task::Run(options) with options.seed 7 and options.workers 0
+/// // of the word --help it is Err(JobFault::Help(text))
+/// ```
 pub fn read_job(alloc: Global, words: &[String]) -> Result<Job, JobFault>
     ensures task { IfOk result (λ job. IsTask (command_in (map string_bytes words.now)) job.task) }
     ensures trace { IfOk result (λ job. option_map string_bytes job.trace ≡ value_in (codes "TRACE") (command_in (map string_bytes words.now))) }

@@ -27,6 +27,12 @@ use std::alloc::{AllocError, Global};
 /// to the turns or no ticket number is left, and else Memory. At every end nothing is out, and the world stands after the
 /// events so far. O(log N) an event and a message; where phase, level or in_branch of a node have changed, for each of its
 /// ports too.
+///
+/// ```text
+/// let mut world = World::open(alloc, graph, WakeSet::All, 1 << 40)?;
+/// let end = run_lifo(alloc, &mut world, &mut Schedule::seeded(7))?;
+/// // world.ended(); the seed has picked only where no message would have been consumed
+/// ```
 pub fn run_lifo(
     alloc: Global,
     world: &mut World,

@@ -29,6 +29,13 @@ impl Model for Maxima {
 
 impl Maxima {
     /// So many numbers, each of them 0. More than half of `usize::MAX` are refused as want of memory. O(len).
+    ///
+    /// ```text
+    /// let mut row = Maxima::zeros(alloc, 3)?;                   // row.greatest() is None
+    /// row.set(1, 5);
+    /// row.set(2, 4);
+    /// // row.greatest() is Some(1), and row.get(1) is 5
+    /// ```
     pub fn zeros(alloc: Global, len: usize) -> Result<Maxima, AllocError>
         ensures { IfOk result (λ m. m ≡ replicate len 0) }
     {

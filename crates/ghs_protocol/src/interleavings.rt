@@ -134,6 +134,11 @@ pub fn law_others()
 {}
 
 /// Where no event can happen, the run has ended, or the part of it that wakes by itself has.
+///
+/// ```text
+/// law_stillness();
+/// // in a body: from here on its contract may be used by the proof, and the compiler leaves the call out
+/// ```
 pub fn law_stillness()
     ensures { StillnessIsEnd }
 {}

@@ -83,6 +83,15 @@ fn count_up(inner: &Inner, pass: &mut Pass<u32, PassView>, number: u32)
 
 impl ReadyQueue {
     /// An empty queue, and the pass with all of its shares. Room and shares are 1 at least.
+    ///
+    /// ```text
+    /// let (queue, mut pass) = ReadyQueue::open(alloc, 2, 2)?;   // room for two numbers, and a pass with two shares
+    /// let mut other = queue.split(alloc, &mut pass)?;           // one of them for another thread
+    /// queue.put(rt, &mut pass, 3)?;                             // Full(3) comes back where there is no room
+    /// let number = queue.take(rt, &mut other);                  // Some(3)
+    /// queue.join(&mut pass, other);
+    /// let left = queue.close(rt, alloc, pass)?;                 // nothing: what was put was taken
+    /// ```
     pub fn open(
         alloc: Global,
         capacity: u32,

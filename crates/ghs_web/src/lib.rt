@@ -19,6 +19,12 @@ use std::alloc::Global;
 /// What a page is told of the world to which a graph's text and a trace's text lead, or the fault for which they lead to none.
 /// By themselves wake all nodes, or the first of each piece. The answer is how many bytes that has; where they fit into `out`
 /// they are its front, and else it is as it was.
+///
+/// ```text
+/// // in JavaScript: an address and a length for each text and for the room of the answer, all of them BigInt
+/// const n = box.ghs_web_seen(0, graph, graphBytes, trace, traceBytes, room, roomBytes);
+/// // the answer is the first n bytes at room where n <= roomBytes; else ask again with more room
+/// ```
 #[unsafe(no_mangle)]
 pub extern "C" fn ghs_web_seen(
     alloc: Global,
@@ -35,6 +41,11 @@ pub extern "C" fn ghs_web_seen(
 /// The trace's text of the run that goes on from there by a seed until it has ended, patiently or among all events, or the
 /// fault for which there is none. The answer is how many bytes that has; where they fit into `out` they are its front, and else
 /// it is as it was.
+///
+/// ```text
+/// // in JavaScript: behind the two texts 1 for a patient run, and the seed
+/// const n = box.ghs_web_run(0, graph, graphBytes, trace, traceBytes, 1, 7n, room, roomBytes);
+/// ```
 #[unsafe(no_mangle)]
 pub extern "C" fn ghs_web_run(
     alloc: Global,

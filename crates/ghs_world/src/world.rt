@@ -155,6 +155,13 @@ impl World {
 
     /// An event happens here as if it were checked out, performed and committed at once, without copying or comparing
     /// a node. It uses a ticket number. All room is taken before any change.
+    ///
+    /// ```text
+    /// while !world.ended() && world.has_turn() {
+    ///     let event = world.ready_at(0);                        // where nothing is out and a run goes on, one is ready
+    ///     world.make(alloc, event)?;
+    /// }
+    /// ```
     pub fn make(&mut self, alloc: Global, event: Event) -> Result<(), AllocError>
         requires ready { is_ready self.old event ≡ true }
         requires turn { has_turn self.old ≡ true }
