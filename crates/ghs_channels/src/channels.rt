@@ -15,12 +15,12 @@ use std::marker::Model;
 /// far end, so each direction of a link is a channel. Nodes are numbered from 1, ports from 0.
 #[derive(Debug, Drop)]
 pub struct Channels {
-    // Where the queues of each number begin; 0 is no node.
+    /// Where the queues of each number begin; 0 is no node.
     starts: Vec<u32>,
     queues: Vec<Queue>,
-    // For each queue the place of the one at the far end of its link.
+    /// For each queue the place of the one at the far end of its link.
     far: Vec<u32>,
-    // For each port of a node, how much room the reserve at hand has asked for at its far end.
+    /// For each port of a node, how much room the reserve at hand has asked for at its far end.
     claims: Vec<usize>,
     total: u64,
 }

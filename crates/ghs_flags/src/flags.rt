@@ -21,7 +21,7 @@ const BLOCK: usize = 512;
 #[derive(Debug, Drop)]
 pub struct Flags {
     row: Row,
-    // How many are raised in each block.
+    /// How many are raised in each block.
     blocks: Counts,
 }
 

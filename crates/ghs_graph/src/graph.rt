@@ -22,7 +22,7 @@ pub struct Graph {
     nodes: u32,
     keys: Vec<Key>,
     layout: Layout,
-    // The root of each node, at the node's number.
+    /// The root of each node, at the node's number.
     roots: Vec<u32>,
     components: u32,
 }

@@ -19,9 +19,9 @@ use std::marker::Model;
 /// rising. The index takes 4 bytes a node, and a bit and nine sixteenths an event.
 #[derive(Debug, Drop)]
 pub struct Index {
-    // The place of the first event of each node, and behind them how many events there are; 0 is no node.
+    /// The place of the first event of each node, and behind them how many events there are; 0 is no node.
     bases: Vec<u32>,
-    // Where a search among the bases begins.
+    /// Where a search among the bases begins.
     guesses: Vec<u32>,
     marks: Flags,
 }

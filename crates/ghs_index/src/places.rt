@@ -14,9 +14,9 @@ use std::marker::Model;
 /// bytes a node, and a sixteenth an event.
 #[derive(Debug, Drop)]
 pub struct Places {
-    // The place of the first event of each node, and behind them how many events there are; 0 is no node.
+    /// The place of the first event of each node, and behind them how many events there are; 0 is no node.
     bases: Vec<u32>,
-    // Where a search among the bases begins.
+    /// Where a search among the bases begins.
     guesses: Vec<u32>,
 }
 

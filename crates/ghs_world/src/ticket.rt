@@ -157,7 +157,7 @@ impl Step {
         &self.delta
     }
 
-    // The ticket.
+    /// The ticket.
     pub(crate) fn ticket(&self) -> &Ticket
         ensures ticket { result.now ≡ self.now.ticket }
         ensures rule { HasRule result.now.node result.now.work }
