@@ -149,8 +149,8 @@ fn network_of<R: Runtime + AllocGlobal>(
     }
 }
 
-/// Opens the files and does the job, the trace's before the graph's; `-` is standard input. A file that can't be opened can't be
-/// read. What a file holds no contract says, and so nothing is said of what comes of it.
+/// Opens the files and does the job, the trace's before the graph's; `-` is standard input. A file that can't be opened
+/// can't be read. What a file holds no contract says, and so nothing is said of what comes of it.
 fn do_job<R: Runtime + AllocGlobal + Threads + Wait + Sync>(
     rt: &R,
     alloc: Global,

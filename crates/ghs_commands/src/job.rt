@@ -266,7 +266,8 @@ fn networks_of<'a>(alloc: Global, matches: &ArgMatches<'a>) -> Result<Vec<String
     Ok(named_of(alloc, asked, values_of(matches, "FILE"))?)
 }
 
-/// Whether each option has a value that it may have, and standard input isn't read twice; what is said of the first that hasn't.
+/// Whether each option has a value that it may have, and standard input isn't read twice; what is said of the first that
+/// hasn't.
 fn check_options<'a>(alloc: Global, matches: &ArgMatches<'a>) -> Result<(), JobFault>
     ensures ok { OnOk result (has_values (subcommand_rows_of matches.now) ≡ true) }
     ensures err { OnErr result (has_values (subcommand_rows_of matches.now) ≡ false) }

@@ -235,8 +235,8 @@ impl Net {
         }
     }
 
-    /// The links that are Branch at one end at least, in key order: links of the minimum spanning forest, and all of them once
-    /// with each node a core node is joined that has halted.
+    /// The links that are Branch at one end at least, in key order: links of the minimum spanning forest, and all of them
+    /// once with each node a core node is joined that has halted.
     ///
     /// ```text
     /// let links = net.branches(alloc)?;

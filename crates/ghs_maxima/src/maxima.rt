@@ -12,7 +12,8 @@ use std::marker::Model;
 #[derive(Debug, Drop)]
 pub struct Maxima {
     len: usize,
-    /// The row stands from place `len` on. Place k before it has the greater of what places 2 k and 2 k + 1 have; place 0 is free.
+    /// The row stands from place `len` on. Place k before it has the greater of what places 2 k and 2 k + 1 have; place 0
+    /// is free.
     tree: Vec<u64>,
 }
 

@@ -156,8 +156,8 @@ impl ReadyQueue {
         Err(Full(back))
     }
 
-    /// Takes the first number, or none. The pass is one of this queue. Where it has all shares there is none only if the queue
-    /// is empty, as its own bags say; where it has fewer, no clause says why.
+    /// Takes the first number, or none. The pass is one of this queue. Where it has all shares there is none only if the
+    /// queue is empty, as its own bags say; where it has fewer, no clause says why.
     pub fn take<R: Wait>(&self, rt: &R, pass: &mut ReadyPass) -> Option<u32>
         requires { pass.old.name ≡ self.now.name }
         ensures some { IfSome result (λ n. pass.new ≡ record pass.old { taken = pass.old.taken ++ n ∷ [] }) }
@@ -170,8 +170,8 @@ impl ReadyQueue {
         Some(number)
     }
 
-    /// How many numbers wait, at one moment of the call. The pass is one of this queue. Where it has all shares its own bags say
-    /// so many; where it has fewer, no clause says more than that they have room.
+    /// How many numbers wait, at one moment of the call. The pass is one of this queue. Where it has all shares its own
+    /// bags say so many; where it has fewer, no clause says more than that they have room.
     pub fn len<R: Wait>(&self, rt: &R, pass: &mut ReadyPass) -> usize
         requires { pass.old.name ≡ self.now.name }
         ensures pass { pass.new ≡ pass.old }

@@ -169,7 +169,8 @@ struct Example {
     nodes: u32,
     /// The greatest level at the end.
     level: u8,
-    /// The most messages that a run sends: twice the links, and 5K - 2 for each node, where 2^K is at most the number of nodes.
+    /// The most messages that a run sends: twice the links, and 5K - 2 for each node, where 2^K is at most the number of
+    /// nodes.
     most: u64,
     /// The links of the tree: weight, smaller end, larger end.
     tree: &'static [(u32, u32, u32)],

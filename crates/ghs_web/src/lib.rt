@@ -16,9 +16,9 @@ use ghs_hand::answers::{hand_run, hand_seen};
 use ghs_world::wake_set::WakeSet;
 use std::alloc::Global;
 
-/// What a page is told of the world to which a graph's text and a trace's text lead, or the fault for which they lead to none.
-/// By themselves wake all nodes, or the first of each piece. The answer is how many bytes that has; where they fit into `out`
-/// they are its front, and else it is as it was.
+/// What a page is told of the world to which a graph's text and a trace's text lead, or the fault for which they lead to
+/// none. By themselves wake all nodes, or the first of each piece. The answer is how many bytes that has; where they fit
+/// into `out` they are its front, and else it is as it was.
 ///
 /// ```text
 /// // in JavaScript: an address and a length for each text and for the room of the answer, all of them BigInt
@@ -38,9 +38,9 @@ pub extern "C" fn ghs_web_seen(
     hand_seen(alloc, wakers_of(first), graph, trace, out)
 }
 
-/// The trace's text of the run that goes on from there by a seed until it has ended, patiently or among all events, or the
-/// fault for which there is none. The answer is how many bytes that has; where they fit into `out` they are its front, and else
-/// it is as it was.
+/// The trace's text of the run that goes on from there by a seed until it has ended, patiently or among all events, or
+/// the fault for which there is none. The answer is how many bytes that has; where they fit into `out` they are its
+/// front, and else it is as it was.
 ///
 /// ```text
 /// // in JavaScript: behind the two texts 1 for a patient run, and the seed
