@@ -1,4 +1,11 @@
 //! The program `ghs`: it opens files and prints faults, and leaves the work to `ghs_cli`.
+//!
+//! Proved: the exit status is that of what the words ask for and of how it went (`run`, by `IsStatusOf`); of the words
+//! only the first is left out (`behind_first`); on what was opened the work is that of `serve` (`do_job_on_graph`:
+//! `serves`).
+//!
+//! Only tested, by the cases of `cases/`: which file is opened for what. No contract says what words the system gives,
+//! what a file holds and where standard output goes. docs/FORMATS.md has the commands, their output and the statuses.
 #![tactic(auto)]
 
 ghost use Rattle.ghs.specs.Status.{IsStatusOf, IsStatusOfJob, status_unread};
@@ -142,8 +149,8 @@ fn network_of<R: Runtime + AllocGlobal>(
     }
 }
 
-/// Opens the files and does the job, the trace's before the graph's; `-` is standard input. A file that can't be opened can't be
-/// read. What a file holds no contract says, and so nothing is said of what comes of it.
+/// Opens the files and does the job, the trace's before the graph's; `-` is standard input. A file that can't be opened
+/// can't be read. What a file holds no contract says, and so nothing is said of what comes of it.
 fn do_job<R: Runtime + AllocGlobal + Threads + Wait + Sync>(
     rt: &R,
     alloc: Global,

@@ -71,6 +71,14 @@ impl Model for Reader {
 
 impl Board {
     /// A board on which one pair was published, of at most 2^40 commits; its publisher, and a reader that has seen it.
+    ///
+    /// ```text
+    /// let first = Progress { commits: 0, halted: false };
+    /// let (board, mut publisher, mut reader) = Board::open(alloc, first)?;
+    /// publisher.publish(7, false);
+    /// let found = board.read(&mut reader);                      // 7 commits; by the contract it may be 0 still
+    /// let last = board.read_beside(alloc, &mut reader, &mut publisher)?;      // exactly the last: 7 commits
+    /// ```
     pub fn open(alloc: Global, first: Progress) -> Result<(Board, Publisher, Reader), AllocError>
         requires { first.commits ≤ 2 ^ 40 }
         ensures publisher { IfOk result (λ r. (r.1.table ≡ r.0) × (r.1.list ≡ first ∷ [])) }

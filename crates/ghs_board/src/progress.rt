@@ -10,7 +10,7 @@ pub struct Progress {
     pub halted: bool,
 }
 
-// Twice the commits, and one more where the run has ended: so one load gives both parts of one moment.
+/// Twice the commits, and one more where the run has ended: so one load gives both parts of one moment.
 pub(crate) fn word_of(commits: u64, halted: bool) -> u64
     requires { commits ≤ 2 ^ 40 }
     ensures { result ≡ word_of (pair commits halted) }
@@ -18,7 +18,7 @@ pub(crate) fn word_of(commits: u64, halted: bool) -> u64
     2 * commits + halted as u64
 }
 
-// The pair that a word stands for.
+/// The pair that a word stands for.
 pub(crate) fn pair_of(word: u64) -> Progress
     ensures { result ≡ pair_of word }
 {

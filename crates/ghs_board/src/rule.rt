@@ -1,4 +1,4 @@
-// The rule of the board's word, and what each step tells the seat that makes it.
+//! The rule of the board's word, and what each step tells the seat that makes it.
 use crate::progress::Progress;
 use atomic_table::{Join, Play, Split, TableRule};
 use std::collections::LinkedList;

@@ -17,6 +17,12 @@ use std::alloc::{AllocError, Global};
 /// How many messages the longest chain of a run has, each sent because of the one before, and each heard: its node has
 /// consumed it, or was woken by it. The events are played once more, each and each message in constant time. Refusal: want
 /// of memory.
+///
+/// ```text
+/// let world = replay(alloc, graph, WakeSet::All, &events)?;
+/// let length = longest_chain(alloc, world.graph(), world.trace())?;
+/// // 8 in the run of the triangle that docs/LESSON.md tells
+/// ```
 pub fn longest_chain(alloc: Global, graph: &Graph, events: &[Event]) -> Result<u64, AllocError>
     requires run { IsRun (network_of graph.now) events.now }
     requires few { length events.now ≤ 2 ^ 40 }

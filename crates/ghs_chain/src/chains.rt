@@ -18,7 +18,7 @@ use std::marker::Model;
 #[derive(Debug, Drop)]
 pub struct Chains {
     alloc: Global,
-    // By the numbers of nodes; 0 is none.
+    /// By the numbers of nodes; 0 is none.
     numbers: Vec<u64>,
     rows: Rows,
 }

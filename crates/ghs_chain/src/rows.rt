@@ -14,7 +14,7 @@ use std::marker::Model;
 /// A line for each port of each node. All stand in one list, so that the way to a line is short.
 #[derive(Debug, Drop)]
 pub struct Rows {
-    // By the numbers of nodes where their lines begin, and behind the last node where its lines end; 0 is none.
+    /// By the numbers of nodes where their lines begin, and behind the last node where its lines end; 0 is none.
     bases: Vec<u32>,
     lines: Vec<Line>,
 }

@@ -15,12 +15,12 @@ use std::marker::Model;
 /// far end, so each direction of a link is a channel. Nodes are numbered from 1, ports from 0.
 #[derive(Debug, Drop)]
 pub struct Channels {
-    // Where the queues of each number begin; 0 is no node.
+    /// Where the queues of each number begin; 0 is no node.
     starts: Vec<u32>,
     queues: Vec<Queue>,
-    // For each queue the place of the one at the far end of its link.
+    /// For each queue the place of the one at the far end of its link.
     far: Vec<u32>,
-    // For each port of a node, how much room the reserve at hand has asked for at its far end.
+    /// For each port of a node, how much room the reserve at hand has asked for at its far end.
     claims: Vec<usize>,
     total: u64,
 }
@@ -38,6 +38,14 @@ impl Model for Channels {
 
 impl Channels {
     /// An empty queue for each port of each node.
+    ///
+    /// ```text
+    /// let mut channels = Channels::new(alloc, &graph)?;         // of the path 1-2-3
+    /// let sends = [(0, Message::Connect(Level::ZERO))];
+    /// channels.reserve_for(2, &sends)?;                         // room at the far ends
+    /// channels.send(2, 0, sends[0].1);
+    /// // it waits at port 0 of node 1: channels.len_at(1, 0) is 1, channels.total() is 1
+    /// ```
     pub fn new(alloc: Global, graph: &Graph) -> Result<Channels, AllocError>
         ensures queues { IfOk result (IsFor graph.now) }
         ensures empty { IfOk result AllEmpty }

@@ -12,7 +12,7 @@ use std::marker::Model;
 #[derive(Debug, Drop)]
 pub struct Queue {
     first: Option<Message>,
-    // What waits behind the first message.
+    /// What waits behind the first message.
     rest: VecDeque<Message>,
 }
 

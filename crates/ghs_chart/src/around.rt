@@ -5,7 +5,7 @@ ghost use Rattle.std.specs.Prelude.{◌≡◌, ◌++◌, IfOk};
 use ghs_lines::numbers::put_number;
 use std::alloc::AllocError;
 
-// Puts a number behind a text, between two others.
+/// Puts a number behind a text, between two others.
 #[tactic(auto, unfolding(crate::specs::Around::around))]
 pub(crate) fn put_around(
     text: &mut Vec<u8>,

@@ -23,6 +23,13 @@ pub struct Caption {
 /// Puts a network's panel behind a text, at a place counted from 0: its name, which may be empty, what is said of it, and a
 /// strip each for what its runs have sent, what was put back and their longest chains, in rising order. There has to be a
 /// run, and 2^32 at most. Refusal: want of memory.
+///
+/// ```text
+/// put_chart_head(&mut text, 1)?;                            // a chart of one panel
+/// let caption = Caption { nodes: 5, links: 4, runs: 3, bound: 58 };
+/// put_panel(&mut text, 0, b"five", caption, &[34, 34, 34], &requeued, &chains)?;
+/// text.extend_from_slice(CHART_TAIL)?;
+/// ```
 #[tactic(auto, unfolding(crate::specs::Chart::panel_text))]
 pub fn put_panel(
     text: &mut Vec<u8>,

@@ -47,6 +47,12 @@ pub fn read_network<S: Source>(
 /// Sweeps networks, and writes the text: one head line, and the lines of each network behind its name, in the order of the
 /// networks. Threads share the runs of one network after another. The text is made whole before its first byte goes out,
 /// and it is the same for every number of threads. Faults: want of memory, and then a write that fails.
+///
+/// ```text
+/// networks.push(read_network(alloc, "star.gr", &mut Device::of(file))?)?;
+/// sweep_networks(rt, alloc, &options, &networks, &mut out)?;
+/// // a head line that begins with graph, and a line for each network and seed
+/// ```
 pub fn sweep_networks<W: Sink, H: Threads + Sync + Eprint>(
     rt: &H,
     alloc: Global,

@@ -27,15 +27,23 @@ use std::alloc::Global;
 use std::sync::Wait;
 use std::thread::Threads;
 
-/// Does what the job asks for: reads what it needs, and writes what is to be printed. The output is made whole before
-/// its first byte goes out, but for steps and networks that are made: their lines go out by portions, once what they are of
-/// is judged, so that want of memory may be said behind a front of them. Of several faults the first in the order of work counts: reading
-/// the trace, judging it, reading the graph, judging it, the run or the replay, the writing; want of memory comes where
-/// it is met. Only replays, steps and pages of stored runs touch the trace. Threads run a network where the job names
-/// workers, and where it asks for progress lines on standard error tell of it; one that can't be written is passed over.
-/// Where the events of a run are asked for, they go out before the answer that its turns are used, and a write that fails
-/// then is answered in its place. A patient run, one by rounds, or one of what was sent last, without threads, that has turns
-/// for 2(B + N) events, B the bound and N the nodes, is never answered by its turns.
+/// Does what the job asks for: reads what it needs, and writes what is to be printed. The output is made whole before its
+/// first byte goes out, but for steps and networks that are made: their lines go out by portions, once what they are of
+/// is judged, so that want of memory may be said behind a front of them. Of several faults the first in the order of work
+/// counts: reading the trace, judging it, reading the graph, judging it, the run or the replay, the writing; want of
+/// memory comes where it is met. Only replays, steps and pages of stored runs touch the trace. Threads run a network
+/// where the job names workers, and where it asks for progress lines on standard error tell of it; one that can't be
+/// written is passed over. Where the events of a run are asked for, they go out before the answer that its turns are
+/// used, and a write that fails then is answered in its place. A patient run, one by rounds, or one of what was sent
+/// last, without threads, that has turns for 2(B + N) events, B the bound and N the nodes, is never answered by its
+/// turns.
+///
+/// ```text
+/// let job = read_job(alloc, &words)?;                       // the word tree
+/// let (mut graph, mut trace) = (Device::of(file), Device::of(&b""[..]));
+/// serve(rt, alloc, &job, &mut graph, &mut trace, &mut Device::of(&mut text))?;
+/// // of two nodes and a link of weight 5 text is b"t 1 2 5\nw 5\n"
+/// ```
 pub fn serve<R: Source, T: Source, W: Sink, H: Threads + Wait + Eprint + Sync>(
     rt: &H,
     alloc: Global,

@@ -172,8 +172,8 @@ fn put_swept<R: Threads + Sync + Eprint>(
     Ok(())
 }
 
-/// Puts what is printed of the runs of a sweep behind a text, each line behind the same front. A chart has no lines: where one
-/// is asked for, it is made by `charting`, and this isn't called.
+/// Puts what is printed of the runs of a sweep behind a text, each line behind the same front. A chart has no lines:
+/// where one is asked for, it is made by `charting`, and this isn't called.
 fn put_sheet(
     alloc: Global,
     text: &mut Vec<u8>,

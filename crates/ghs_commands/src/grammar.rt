@@ -43,8 +43,8 @@ fn with_shows<'a>(alloc: Global, command: Command<'a>) -> Result<Command<'a>, Al
     with_command(command, explore(alloc))
 }
 
-/// The command with one more, where there was memory for that. It takes what made it, so that no caller has both in hand where
-/// memory runs out: each way out of a function has the drops of all that it holds, and a command's are many.
+/// The command with one more, where there was memory for that. It takes what made it, so that no caller has both in hand
+/// where memory runs out: each way out of a function has the drops of all that it holds, and a command's are many.
 fn with_command<'a>(
     command: Command<'a>,
     subcommand: Result<Command<'a>, AllocError>,

@@ -202,6 +202,12 @@ impl From<AllocError> for JobFault {
 
 /// The job of a command line: the words after the program's name. The words are taken as `clap` takes them; a choice
 /// has to be one that there is, and a number has to be digits of a value in its range.
+///
+/// ```text
+/// let job = read_job(alloc, &words)?;                       // the words run --seed 7 five.gr
+/// // job.graph is five.gr, and job.task is Task::Run(options) with options.seed 7 and options.workers 0
+/// // of the word --help it is Err(JobFault::Help(text))
+/// ```
 pub fn read_job(alloc: Global, words: &[String]) -> Result<Job, JobFault>
     ensures task { IfOk result (λ job. IsTask (command_in (map string_bytes words.now)) job.task) }
     ensures trace { IfOk result (λ job. option_map string_bytes job.trace ≡ value_in (codes "TRACE") (command_in (map string_bytes words.now))) }
@@ -260,7 +266,8 @@ fn networks_of<'a>(alloc: Global, matches: &ArgMatches<'a>) -> Result<Vec<String
     Ok(named_of(alloc, asked, values_of(matches, "FILE"))?)
 }
 
-/// Whether each option has a value that it may have, and standard input isn't read twice; what is said of the first that hasn't.
+/// Whether each option has a value that it may have, and standard input isn't read twice; what is said of the first that
+/// hasn't.
 fn check_options<'a>(alloc: Global, matches: &ArgMatches<'a>) -> Result<(), JobFault>
     ensures ok { OnOk result (has_values (subcommand_rows_of matches.now) ≡ true) }
     ensures err { OnErr result (has_values (subcommand_rows_of matches.now) ≡ false) }

@@ -9,9 +9,9 @@ use std::alloc::{AllocError, Global};
 #[derive(Debug, Drop)]
 pub struct Halts {
     least: Option<u32>,
-    // Whether a node of a component has halted, at the number of the component's root.
+    /// Whether a node of a component has halted, at the number of the component's root.
     ended: Vec<bool>,
-    // Of how many components no node has halted.
+    /// Of how many components no node has halted.
     running: u32,
 }
 

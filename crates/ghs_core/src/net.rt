@@ -65,6 +65,15 @@ impl Model for Net {
 
 impl Net {
     /// The opening net of a graph: all nodes asleep, nothing under way. Where memory is wanting the graph comes back.
+    ///
+    /// ```text
+    /// let mut net = Net::open(alloc, graph)?;                   // an Err hands the graph back
+    /// let event = Event::Wake(1);                               // lawful: net.lawful(event)
+    /// let delta = react(alloc, net.node(1), net.work(event))?;
+    /// net.reserve(event, &delta)?;
+    /// net.play(event, &delta);
+    /// // net.trace() is [Event::Wake(1)], and node 1 is awake
+    /// ```
     pub fn open(alloc: Global, graph: Graph) -> Result<Net, (Graph, AllocError)>
         ensures graph { IfOk result (λ n. n.graph ≡ graph) }
         ensures trace { IfOk result (λ n. n.trace ≡ []) }
@@ -226,8 +235,13 @@ impl Net {
         }
     }
 
-    /// The links that are Branch at one end at least, in key order: links of the minimum spanning forest, and all of them once
-    /// with each node a core node is joined that has halted.
+    /// The links that are Branch at one end at least, in key order: links of the minimum spanning forest, and all of them
+    /// once with each node a core node is joined that has halted.
+    ///
+    /// ```text
+    /// let links = net.branches(alloc)?;
+    /// // on the path 1-2-3 of weights 5 and 7, once node 1 has woken, there is one: Key { weight: 5, a: 1, b: 2 }
+    /// ```
     pub fn branches(&self, alloc: Global) -> Result<Vec<Key>, AllocError>
         ensures links { IfOk result (λ ks. AreBranches (network self.now) (net_of self.now) ks.items) }
         ensures tree { IfOk result (λ ks. AreInTree self.now.graph.keys ks.items) }

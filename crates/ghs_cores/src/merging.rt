@@ -11,6 +11,11 @@ use std::alloc::{AllocError, Global};
 
 /// The components of a graph, by rising least node, each with the core and the level to which merging leads in whatever
 /// order: those with which every run ends. It takes O(N + E log N) steps.
+///
+/// ```text
+/// let components = components_of(alloc, &graph)?;
+/// // of the path of five in docs/LESSON.md: one, of root 1 and level 2, whose core is the link 3-4 of weight 4
+/// ```
 pub fn components_of(alloc: Global, graph: &Graph) -> Result<Vec<Component>, AllocError>
     ensures { IfOk result (λ cs. AreAll graph.now (IsOfGraph graph.now) cs.items) }
 {

@@ -15,6 +15,11 @@ use ghs_lines::numbers::put_number;
 use std::alloc::{AllocError, Global};
 
 /// Puts the lines of a graph's components behind a text: of each the core to which merging leads, and its level.
+///
+/// ```text
+/// let mut text = tree_text(alloc, &tree)?;
+/// put_graph_cores(alloc, &mut text, &graph)?;               // one line more on the path of five: `c 3 4 4 2`
+/// ```
 pub fn put_graph_cores(alloc: Global, text: &mut Vec<u8>, graph: &Graph) -> Result<(), AllocError>
     ensures { IfOk result (λ _. HaveLines graph.now (IsOfGraph graph.now) text.old.items text.new.items) }
 {

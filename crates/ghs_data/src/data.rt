@@ -21,6 +21,13 @@ use std::alloc::{AllocError, Global};
 /// The network, its links, the steps of the events that are shown, and the counts behind them. `events` is how many the
 /// whole run has, `from` the event before which it opens, counted from 1, and `bound` the bound on the network's messages.
 /// Refusal: want of memory.
+///
+/// ```text
+/// let most = bound(graph.nodes(), graph.links());
+/// let data = data_of(alloc, graph, most, &events, events.len() as u64, 1)?;
+/// // of the run of the triangle, the first of its lines:
+/// // {"ghs":"steps","version":1,"nodes":3,"links":3,"bound":21,"events":15,"from":1,"to":15}
+/// ```
 pub fn data_of(
     alloc: Global,
     graph: Graph,

@@ -13,7 +13,7 @@ const WIDTH: usize = 16;
 #[derive(Debug, Drop)]
 pub struct Counts {
     counts: Vec<u32>,
-    // Above the counts three heights, each of which adds up what stands below it.
+    /// Above the counts three heights, each of which adds up what stands below it.
     groups: Vec<u32>,
     regions: Vec<u32>,
     zones: Vec<u32>,

@@ -21,7 +21,7 @@ const BLOCK: usize = 512;
 #[derive(Debug, Drop)]
 pub struct Flags {
     row: Row,
-    // How many are raised in each block.
+    /// How many are raised in each block.
     blocks: Counts,
 }
 
@@ -38,6 +38,14 @@ impl Model for Flags {
 
 impl Flags {
     /// So many flags, none of them raised. At most `FLAG_LIMIT`; O(len).
+    ///
+    /// ```text
+    /// let mut flags = Flags::lowered(alloc, 2000)?;
+    /// for place in [0, 63, 64, 511, 512, 1500, 1999] {
+    ///     flags.set(place, true);
+    /// }
+    /// // flags.count() is 7, flags.kth(3) is 511, flags.count_before(511) is 3
+    /// ```
     pub fn lowered(alloc: Global, len: usize) -> Result<Flags, AllocError>
         requires { len ≤ FLAG_LIMIT }
         ensures { IfOk result (λ f. f ≡ replicate len false) }

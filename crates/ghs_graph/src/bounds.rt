@@ -13,6 +13,11 @@ pub fn floor_log2(n: u32) -> u8
 }
 
 /// The greatest number of messages for `n` nodes and `e` links: `2e + 5nk`, where `k` is `floor_log2(n)`.
+///
+/// ```text
+/// let most = bound(graph.nodes(), graph.links());
+/// // 58 where there are five nodes and four links: 2 · 4 + 5 · 5 · 2
+/// ```
 pub fn bound(n: u32, e: u64) -> u64
     requires some { 1 ≤ n }
     requires nodes { n ≤ NODE_LIMIT }

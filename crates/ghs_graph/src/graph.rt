@@ -22,7 +22,7 @@ pub struct Graph {
     nodes: u32,
     keys: Vec<Key>,
     layout: Layout,
-    // The root of each node, at the node's number.
+    /// The root of each node, at the node's number.
     roots: Vec<u32>,
     components: u32,
 }
@@ -45,7 +45,7 @@ impl Graph {
     /// let raw = judge(alloc, b"p sp 3 2\na 1 2 7\na 3 2 1")?;
     /// let graph = match Graph::build(alloc, raw) {
     ///     Ok(graph) => graph,                       // graph.links() is 2
-    ///     Err((raw, fault)) => return Err(fault),   // want of memory; what was given comes back
+    ///     Err((raw, fault)) => return Err(fault),   // out of memory; what was given comes back
     /// };
     /// ```
     pub fn build(alloc: Global, raw: RawGraph) -> Result<Graph, (RawGraph, GraphFault)>

@@ -9,7 +9,7 @@ use std::marker::Model;
 /// each on the average, and in practice few.
 #[derive(Debug, Drop)]
 pub struct Roots {
-    // A number leads to a lesser one of its class, and a root to itself.
+    /// A number leads to a lesser one of its class, and a root to itself.
     up: Vec<u32>,
 }
 

@@ -18,17 +18,27 @@ use std::alloc::Global;
 /// The line of the fault that can't be told of for want of memory.
 const NO_MEMORY: &[u8] = b"{\"fault\":\"memory\",\"words\":\"out of memory\"}\n";
 
-/// What a page is told of the world to which a graph's text and a trace's text lead, or the fault for which they lead to none.
-/// The answer is how many bytes that has; where they fit into `out` they are its front, and else it is as it was.
+/// What a page is told of the world to which a graph's text and a trace's text lead, or the fault for which they lead to
+/// none. The answer is how many bytes that has; where they fit into `out` they are its front, and else it is as it was.
+///
+/// ```text
+/// let count = hand_seen(alloc, WakeSet::All, b"p sp 2 1\na 1 2 5", b"trace 0", &mut out);
+/// // where count is at most out.len(), out[..count] is the answer, whose last lines are `{"may":[1]}` and `{"may":[2]}`
+/// ```
 pub fn hand_seen(alloc: Global, wake: WakeSet, graph: &[u8], trace: &[u8], out: &mut [u8]) -> usize
     ensures { IsHandedOver (IsSeenAnswer wake graph.now trace.now) result out.old out.new }
 {
     hand_over(alloc, seen_of(alloc, wake, graph, trace), out)
 }
 
-/// The trace's text of the run that goes on from there by a seed until it has ended, patiently or among all events, or the
-/// fault for which there is none. The answer is how many bytes that has; where they fit into `out` they are its front, and else
-/// it is as it was.
+/// The trace's text of the run that goes on from there by a seed until it has ended, patiently or among all events, or
+/// the fault for which there is none. The answer is how many bytes that has; where they fit into `out` they are its
+/// front, and else it is as it was.
+///
+/// ```text
+/// let count = hand_run(alloc, WakeSet::All, graph, b"trace 0", true, 7, &mut out);
+/// // a trace's text, that of `ghs run --schedule patient --seed 7 --print trace`
+/// ```
 pub fn hand_run(
     alloc: Global,
     wake: WakeSet,

@@ -19,9 +19,9 @@ use std::marker::Model;
 /// rising. The index takes 4 bytes a node, and a bit and nine sixteenths an event.
 #[derive(Debug, Drop)]
 pub struct Index {
-    // The place of the first event of each node, and behind them how many events there are; 0 is no node.
+    /// The place of the first event of each node, and behind them how many events there are; 0 is no node.
     bases: Vec<u32>,
-    // Where a search among the bases begins.
+    /// Where a search among the bases begins.
     guesses: Vec<u32>,
     marks: Flags,
 }
@@ -36,6 +36,13 @@ impl Model for Index {
 
 impl Index {
     /// No event of the graph is marked. O(N + E).
+    ///
+    /// ```text
+    /// let mut index = Index::none(alloc, &graph)?;
+    /// index.set(&graph, Event::Wake(3), true);
+    /// index.set(&graph, Event::Take(2, 1), true);
+    /// // index.count() is 2, and index.kth(&graph, 0) is Event::Take(2, 1): it stands before the events of node 3
+    /// ```
     pub fn none(alloc: Global, graph: &Graph) -> Result<Index, AllocError>
         ensures { IfOk result (IsIndexOf (network_of graph.now) (λ _. false)) }
     {

@@ -14,9 +14,9 @@ use std::marker::Model;
 /// bytes a node, and a sixteenth an event.
 #[derive(Debug, Drop)]
 pub struct Places {
-    // The place of the first event of each node, and behind them how many events there are; 0 is no node.
+    /// The place of the first event of each node, and behind them how many events there are; 0 is no node.
     bases: Vec<u32>,
-    // Where a search among the bases begins.
+    /// Where a search among the bases begins.
     guesses: Vec<u32>,
 }
 
@@ -30,6 +30,12 @@ impl Model for Places {
 
 impl Places {
     /// Those of a graph. O(N + E).
+    ///
+    /// ```text
+    /// let places = Places::of(alloc, &graph)?;
+    /// let at = places.place_of(&graph, Event::Take(2, 1));
+    /// // places.event_at(&graph, at) is Event::Take(2, 1), and at is below places.count(&graph)
+    /// ```
     pub fn of(alloc: Global, graph: &Graph) -> Result<Places, AllocError>
         ensures bases { IfOk result (λ x. AreBases (network_of graph.now) graph.now.nodes x) }
         ensures few { IfOk result (λ _. length (all_events (network_of graph.now)) ≤ 2 ^ 25) }

@@ -20,7 +20,7 @@ use std::marker::Model;
 pub struct Numbers {
     places: Places,
     count: u64,
-    // At the place of each Take the number of the last message that was sent to its port, 0 where none was.
+    /// At the place of each Take the number of the last message that was sent to its port, 0 where none was.
     newest: Vec<u64>,
 }
 

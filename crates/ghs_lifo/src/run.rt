@@ -18,15 +18,21 @@ use ghs_sched::schedule::Schedule;
 use ghs_world::world::World;
 use std::alloc::{AllocError, Global};
 
-/// Runs a world on from its opening until the run has ended. All that is out is recalled first. Of the messages that would
-/// be consumed, and not only put back, the one at the port to which a message was sent last is taken next, and no word of the
-/// schedule is used; what waits at one port is taken in its order. Where no message would be consumed the next word picks a
-/// wake, or where there is none a message to be put back behind which stands one that would be consumed. Each of these is a
-/// patient pick, so at most 2(B + N) events are made, B the bound on messages and N the nodes, and where turns and ticket
-/// numbers for so many are left, the run ends, or memory is wanting. Of the faults TurnLimit comes where the commits have come
-/// to the turns or no ticket number is left, and else Memory. At every end nothing is out, and the world stands after the
-/// events so far. O(log N) an event and a message; where phase, level or in_branch of a node have changed, for each of its
-/// ports too.
+/// Runs a world on from its opening until the run has ended. All that is out is recalled first. Of the messages that
+/// would be consumed, and not only put back, the one at the port to which a message was sent last is taken next, and no
+/// word of the schedule is used; what waits at one port is taken in its order. Where no message would be consumed the
+/// next word picks a wake, or where there is none a message to be put back behind which stands one that would be
+/// consumed. Each of these is a patient pick, so at most 2(B + N) events are made, B the bound on messages and N the
+/// nodes, and where turns and ticket numbers for so many are left, the run ends, or memory is wanting. Of the faults
+/// TurnLimit comes where the commits have come to the turns or no ticket number is left, and else Memory. At every end
+/// nothing is out, and the world stands after the events so far. O(log N) an event and a message; where phase, level or
+/// in_branch of a node have changed, for each of its ports too.
+///
+/// ```text
+/// let mut world = World::open(alloc, graph, WakeSet::All, 1 << 40)?;
+/// let end = run_lifo(alloc, &mut world, &mut Schedule::seeded(7))?;
+/// // world.ended(); the seed has picked only where no message would have been consumed
+/// ```
 pub fn run_lifo(
     alloc: Global,
     world: &mut World,

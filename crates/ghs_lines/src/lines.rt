@@ -5,6 +5,12 @@ ghost use Rattle.std.specs.Prelude.{IfNone, IfSome, [], length, ◌<◌, ◌≡�
 use bstr::ByteSlice;
 
 /// The first line, without its line feed, and what is behind it; none where the text is empty.
+///
+/// ```text
+/// let Some((line, rest)) = next_line(b" a\t07\r\n\nb") else { return };
+/// // line is b" a\t07\r", and rest is b"\nb"
+/// let fields = two_fields(line);          // Some((b"a", b"07"))
+/// ```
 pub fn next_line(text: &[u8]) -> Option<(&[u8], &[u8])>
     ensures some { IfSome result (λ x. lines_of text.now ≡ x.0.now ∷ lines_of x.1.now) }
     ensures shorter { IfSome result (λ x. length x.1.now < length text.now) }

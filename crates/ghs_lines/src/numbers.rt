@@ -6,6 +6,12 @@ use itoa::Buffer;
 use std::alloc::AllocError;
 
 /// The number that a field is, where it is one of at most `most`. Leading zeros are allowed, a sign is not.
+///
+/// ```text
+/// let value = number(b"07", 7);           // Some(7)
+/// let above = number(b"07", 6);           // None: it is above the limit
+/// let signed = number(b"+7", 7);          // None: it isn't digits alone
+/// ```
 pub fn number(field: &[u8], most: u64) -> Option<u64>
     requires { most < 2 ^ 60 }
     ensures { result ≡ number_of most field.now }

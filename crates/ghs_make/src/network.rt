@@ -27,6 +27,12 @@ impl Network {
     /// The network of what is asked for. Refusals, in their order: `Nodes`, `LinksGiven`, `WeightsGiven`, `Links`, and
     /// `TooManyLinks` where there are more than `ARC_LIMIT`; `Memory` may come before that one. It takes as many steps as
     /// there are nodes and links, and memory for the links of one node.
+    ///
+    /// ```text
+    /// let weights = Some(Weights::Falling);
+    /// let asked = Asked { kind: Kind::Ring, nodes: 4, seed: 1, links: None, weights };
+    /// let network = Network::of(alloc, &asked)?;                // network.links is 4
+    /// ```
     pub fn of(alloc: Global, asked: &Asked) -> Result<Network, MakeFault>
         ensures network { IfOk result (λ network. IsNetwork network) }
         ensures asked { IfOk result (λ network. IsNetworkOf asked.now network) }

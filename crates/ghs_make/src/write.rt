@@ -16,6 +16,13 @@ use std::alloc::{AllocError, Global};
 
 /// Writes a network's text. It goes out by portions, so that the memory that it takes doesn't grow with the text: it is that
 /// for the lines of one node. At a fault what is out is a front of the text.
+///
+/// ```text
+/// let mut text = Vec::new(alloc);
+/// write_network(alloc, &network, &mut Device::of(&mut text))?;
+/// // of a ring of four, weights falling: the line `c ghs make ring 4 --seed 1 --weights falling`,
+/// // `p sp 4 4`, and then `a 1 2 4`, `a 2 3 3`, `a 1 4 2`, `a 3 4 1`
+/// ```
 pub fn write_network<W: Sink>(
     alloc: Global,
     network: &Network,

@@ -12,7 +12,8 @@ use std::marker::Model;
 #[derive(Debug, Drop)]
 pub struct Maxima {
     len: usize,
-    // The row stands from place `len` on. Place k before it has the greater of what places 2 k and 2 k + 1 have; place 0 is free.
+    /// The row stands from place `len` on. Place k before it has the greater of what places 2 k and 2 k + 1 have; place 0
+    /// is free.
     tree: Vec<u64>,
 }
 
@@ -29,6 +30,13 @@ impl Model for Maxima {
 
 impl Maxima {
     /// So many numbers, each of them 0. More than half of `usize::MAX` are refused as want of memory. O(len).
+    ///
+    /// ```text
+    /// let mut row = Maxima::zeros(alloc, 3)?;                   // row.greatest() is None
+    /// row.set(1, 5);
+    /// row.set(2, 4);
+    /// // row.greatest() is Some(1), and row.get(1) is 5
+    /// ```
     pub fn zeros(alloc: Global, len: usize) -> Result<Maxima, AllocError>
         ensures { IfOk result (λ m. m ≡ replicate len 0) }
     {

@@ -21,6 +21,13 @@ use std::alloc::Global;
 /// What a node does with a piece of work, by the procedures of Gallager, Humblet and Spira (ACM TOPLAS
 /// 5(1), 1983, appendix). The node itself stays as it is: `Node::apply` makes the change. The sends are
 /// all that takes memory.
+///
+/// ```text
+/// let delta = react(alloc, &node, Work::Wake)?;
+/// // of a sleeper with ports: delta.mark is Some((0, Mark::Branch)), and delta.sends a Connect of level 0 on port 0
+/// node.apply(&delta);                                       // the node is awake
+/// let again = react(alloc, &node, Work::Wake);              // Err(NodeFault::Unforeseen): only a sleeper wakes
+/// ```
 pub fn react(alloc: Global, node: &Node, work: Work) -> Result<Delta, NodeFault>
     ensures reaction { IfOk result (λ d. reaction node.now work ≡ Some d) }
     ensures row { IfOk result (λ d. Row node.now work d) }

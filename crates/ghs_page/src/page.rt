@@ -8,6 +8,11 @@ use std::alloc::{AllocError, Global};
 
 /// The page round the steps of a run, as JSON Lines. They hold no `<`, by which the element that they stand in could end.
 /// Refusal: want of memory.
+///
+/// ```text
+/// let html = page(alloc, &data_of(alloc, graph, most, &events, count, 1)?)?;
+/// // one file, from <!doctype html> on, to be opened in a browser
+/// ```
 pub fn page(alloc: Global, steps: &[u8]) -> Result<Vec<u8>, AllocError>
     ensures { IfOk result (λ text. text.items ≡ page_text steps.now) }
 {

@@ -16,6 +16,12 @@ use std::alloc::{AllocError, Global};
 
 /// Puts the lines of all parts of a seed's run behind a text, each behind the same front. The events are played once more.
 /// Refusal: want of memory.
+///
+/// ```text
+/// let mut text = Vec::from_slice(alloc, head_line(By::Node))?;
+/// put_run(alloc, &mut text, Form::Text, b"", By::Node, 7, world.graph(), world.trace())?;
+/// // of the run of the triangle, as that of seed 7: `7,1,1,1,1,0,0,1,0`, `7,2,1,2,1,0,0,1,0`, `7,3,1,0,1,0,1,1,0`
+/// ```
 pub fn put_run(
     alloc: Global,
     text: &mut Vec<u8>,

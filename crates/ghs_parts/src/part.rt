@@ -14,7 +14,7 @@ pub struct Part {
 }
 
 impl Part {
-    // An event more, which sends these messages.
+    /// An event more, which sends these messages.
     pub(crate) fn add(&mut self, sends: &[(u32, Message)])
         requires events { self.old.events < 2 ^ 64 - 1 }
         requires kinds { (k : ℕ) → k < 7 → slice_index self.old.kinds k + of_kind k (messages_of sends.now) < 2 ^ 64 }

@@ -24,9 +24,14 @@ use ghs_node::row_name::{RowName, row_of};
 use ghs_protocol::event::Event;
 use std::alloc::{AllocError, Global};
 
-/// The figures of a run by part, one part behind another: all nodes from 1 on, the levels from 0 to the greatest that a node
-/// had, or all rows of the table of rules. The events are played once more, each and each message in constant time; the memory
-/// beside the net's is that of the parts. Refusal: want of memory.
+/// The figures of a run by part, one part behind another: all nodes from 1 on, the levels from 0 to the greatest that a
+/// node had, or all rows of the table of rules. The events are played once more, each and each message in constant time;
+/// the memory beside the net's is that of the parts. Refusal: want of memory.
+///
+/// ```text
+/// let parts = parts_of(alloc, world.graph(), world.trace(), By::Level)?;
+/// // of the run of the triangle: two levels, and parts[0].kinds is [3, 2, 0, 0, 0, 0, 0], three Connects and two Initiates
+/// ```
 pub fn parts_of(
     alloc: Global,
     graph: &Graph,

@@ -23,6 +23,12 @@ use std::alloc::{AllocError, Global};
 /// 2(B + N) events are made, B the bound on messages and N the nodes, and where turns and ticket numbers for so many are
 /// left, the run ends, or memory is wanting. Of the faults TurnLimit comes where the commits have come to the turns or no
 /// ticket number is left, and else Memory. At every end nothing is out, and the world stands after the events so far.
+///
+/// ```text
+/// let mut world = World::open(alloc, graph, WakeSet::All, 1 << 40)?;
+/// let end = run_patient(alloc, &mut world, &mut Schedule::seeded(7))?;
+/// // world.ended(), after 2(B + N) events at most; so many turns are enough for every graph, so an Err is out of memory
+/// ```
 pub fn run_patient(
     alloc: Global,
     world: &mut World,

@@ -34,10 +34,17 @@ pub enum ScheduleKind {
     Lifo,
 }
 
-/// Runs a world from its opening on, by the schedule of a seed, until the run has ended or its turns are used. Of the faults
-/// TurnLimit comes where the commits have come to the turns, and else Memory. A patient run, one by rounds, or one that takes
-/// first what was sent last, that has turns for 2(B + N) events, B the bound on messages and N the nodes, ends, or memory is
-/// wanting; a run that prefers what waits needn't end. At every end nothing is out, and the world stands after the events so far.
+/// Runs a world from its opening on, by the schedule of a seed, until the run has ended or its turns are used. Of the
+/// faults TurnLimit comes where the commits have come to the turns, and else Memory. A patient run, one by rounds, or one
+/// that takes first what was sent last, that has turns for 2(B + N) events, B the bound on messages and N the nodes,
+/// ends, or memory is wanting; a run that prefers what waits needn't end. At every end nothing is out, and the world
+/// stands after the events so far.
+///
+/// ```text
+/// let mut world = World::open(alloc, graph, WakeSet::All, 1 << 40)?;
+/// let end = run_by_seed(alloc, &mut world, ScheduleKind::Patient, 7)?;
+/// // world.trace() are the events that `ghs run --schedule patient --seed 7 --print trace` prints
+/// ```
 pub fn run_by_seed(
     alloc: Global,
     world: &mut World,

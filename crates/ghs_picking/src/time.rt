@@ -13,6 +13,12 @@ use std::alloc::{AllocError, Global};
 
 /// The time of a run: a line of its longest chain, and behind it, where the run went by rounds, a line of these. The events
 /// are played once more for the chain, each and each message in constant time. Refusal: want of memory.
+///
+/// ```text
+/// let (rounds, end) = run_timed(alloc, &mut world, ScheduleKind::Rounds, 1);
+/// let text = time_text(alloc, world.graph(), world.trace(), rounds)?;
+/// // b"l 7\nu 7\n" on the path of three, where node 1 alone wakes by itself; b"l 7\n" if rounds were None
+/// ```
 pub fn time_text(
     alloc: Global,
     graph: &Graph,

@@ -1,8 +1,10 @@
-//! What all orders have in common: fragments of the graph merge in any order to one end, and so do those of the net. Each law is a function that does nothing.
+//! What all orders have in common: fragments of the graph merge in any order to one end, and so do those of the net. Each
+//! law is a function that does nothing.
 ghost use Rattle.ghs_protocol.specs.Merging.{OrdersAgree, EndsAreWhole, MergingEnds};
 ghost use Rattle.ghs_protocol.specs.Cores.{HaltedAreCoreEnds, CoreIsOfGraph, OneCore, QuietNames, QuietNodes, QuietBranches, QuietHalts, OneEnd, HaltedAreHighest, ConnectsOfGraph, ConnectsAgree};
 
-/// All orders of merging the graph end in one state, after as many steps, and as much is paid, whatever fragments pay for going out.
+/// All orders of merging the graph end in one state, after as many steps, and as much is paid, whatever fragments pay for
+/// going out.
 pub fn law_orders_agree()
     ensures { OrdersAgree }
 {}
@@ -62,8 +64,8 @@ pub fn law_halted_highest()
     ensures { HaltedAreHighest }
 {}
 
-/// Once a run has ended, as where nothing waits and nobody sleeps, as many Connects have been sent as merging the graph alone takes:
-/// two for a merge, one for an absorb.
+/// Once a run has ended, as where nothing waits and nobody sleeps, as many Connects have been sent as merging the graph
+/// alone takes: two for a merge, one for an absorb.
 pub fn law_connects_of_graph()
     ensures { ConnectsOfGraph }
 {}

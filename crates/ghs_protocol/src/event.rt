@@ -2,6 +2,11 @@
 
 /// An event of the network: a sleeping node wakes by itself, or a node takes the first message that waits at
 /// one of its ports. Nodes are numbered from 1, ports from 0.
+///
+/// ```text
+/// let events = [Event::Wake(2), Event::Take(1, 0)];
+/// // node 2 wakes by itself, and then node 1 takes what waits at the first of its ports
+/// ```
 #[derive(Clone, Copy, Debug, PartialEq, Eq)]
 pub enum Event {
     Wake(u32),

@@ -98,7 +98,8 @@ pub fn law_lengths()
     ensures { RunsAreShort }
 {}
 
-/// As many rounds as the bound on messages and the nodes together end each run; in a round each queue has two turns, and anything else may happen.
+/// As many rounds as the bound on messages and the nodes together end each run; in a round each queue has two turns, and
+/// anything else may happen.
 pub fn law_rounds()
     ensures { FairRunsEnd }
 {}
@@ -113,12 +114,14 @@ pub fn law_sharp_bound()
     ensures { SendsWithinSharpBound }
 {}
 
-/// Each level of a node pays at most once for a Connect or ChangeRoot, a Report, an Initiate and an Accept; level 0 for a Connect alone, the highest for a Report and an Initiate alone.
+/// Each level of a node pays at most once for a Connect or ChangeRoot, a Report, an Initiate and an Accept; level 0 for a
+/// Connect alone, the highest for a Report and an Initiate alone.
 pub fn law_levels_pay()
     ensures { LevelsPayOnce }
 {}
 
-/// Each direction of a link pays at most once, for a Reject or for a Test that ended without an Accept, and not while it is being tested.
+/// Each direction of a link pays at most once, for a Reject or for a Test that ended without an Accept, and not while it
+/// is being tested.
 pub fn law_ports_pay()
     ensures { PortsPayOnce }
 {}
@@ -128,17 +131,24 @@ pub fn law_all_paid()
     ensures { SendsArePaid }
 {}
 
-/// What other nodes do leaves a node as it was, appends to its queues at most, and leaves its events lawful, with the same reactions.
+/// What other nodes do leaves a node as it was, appends to its queues at most, and leaves its events lawful, with the
+/// same reactions.
 pub fn law_others()
     ensures { OthersLeaveAlone }
 {}
 
 /// Where no event can happen, the run has ended, or the part of it that wakes by itself has.
+///
+/// ```text
+/// law_stillness();
+/// // in a body: from here on its contract may be used by the proof, and the compiler leaves the call out
+/// ```
 pub fn law_stillness()
     ensures { StillnessIsEnd }
 {}
 
-/// From every moment at most twice as many events as the bound on messages and the nodes together lead to the end of the run, wakes of all who may wake among them.
+/// From every moment at most twice as many events as the bound on messages and the nodes together lead to the end of the
+/// run, wakes of all who may wake among them.
 pub fn law_finish_whole()
     ensures { EveryRunCanEndWhole }
 {}
@@ -148,7 +158,8 @@ pub fn law_real_events()
     ensures { RealEventsAreFew }
 {}
 
-/// Whoever wakes a node or takes what doesn't wait where there is such, and else uncovers such, makes at most twice as many events as the bound on messages and the nodes together.
+/// Whoever wakes a node or takes what doesn't wait where there is such, and else uncovers such, makes at most twice as
+/// many events as the bound on messages and the nodes together.
 pub fn law_patience()
     ensures { PatientRunsAreShort }
 {}

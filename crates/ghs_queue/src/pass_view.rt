@@ -1,4 +1,4 @@
-// What a pass knows.
+//! What a pass knows.
 use std::collections::LinkedList;
 
 /// How many shares there are in all, how many of them the pass holds, and what was put and taken by it. While the queue is

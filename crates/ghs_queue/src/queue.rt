@@ -83,6 +83,15 @@ fn count_up(inner: &Inner, pass: &mut Pass<u32, PassView>, number: u32)
 
 impl ReadyQueue {
     /// An empty queue, and the pass with all of its shares. Room and shares are 1 at least.
+    ///
+    /// ```text
+    /// let (queue, mut pass) = ReadyQueue::open(alloc, 2, 2)?;   // room for two numbers, and a pass with two shares
+    /// let mut other = queue.split(alloc, &mut pass)?;           // one of them for another thread
+    /// queue.put(rt, &mut pass, 3)?;                             // Full(3) comes back where there is no room
+    /// let number = queue.take(rt, &mut other);                  // Some(3)
+    /// queue.join(&mut pass, other);
+    /// let left = queue.close(rt, alloc, pass)?;                 // nothing: what was put was taken
+    /// ```
     pub fn open(
         alloc: Global,
         capacity: u32,
@@ -147,8 +156,8 @@ impl ReadyQueue {
         Err(Full(back))
     }
 
-    /// Takes the first number, or none. The pass is one of this queue. Where it has all shares there is none only if the queue
-    /// is empty, as its own bags say; where it has fewer, no clause says why.
+    /// Takes the first number, or none. The pass is one of this queue. Where it has all shares there is none only if the
+    /// queue is empty, as its own bags say; where it has fewer, no clause says why.
     pub fn take<R: Wait>(&self, rt: &R, pass: &mut ReadyPass) -> Option<u32>
         requires { pass.old.name ≡ self.now.name }
         ensures some { IfSome result (λ n. pass.new ≡ record pass.old { taken = pass.old.taken ++ n ∷ [] }) }
@@ -161,8 +170,8 @@ impl ReadyQueue {
         Some(number)
     }
 
-    /// How many numbers wait, at one moment of the call. The pass is one of this queue. Where it has all shares its own bags say
-    /// so many; where it has fewer, no clause says more than that they have room.
+    /// How many numbers wait, at one moment of the call. The pass is one of this queue. Where it has all shares its own
+    /// bags say so many; where it has fewer, no clause says more than that they have room.
     pub fn len<R: Wait>(&self, rt: &R, pass: &mut ReadyPass) -> usize
         requires { pass.old.name ≡ self.now.name }
         ensures pass { pass.new ≡ pass.old }

@@ -1,4 +1,4 @@
-// The rule of the queue, and what each step tells the pass that makes it.
+//! The rule of the queue, and what each step tells the pass that makes it.
 use crate::pass_view::PassView;
 use crossbeam_queue::protocol::{Join, Lesson, Outcome, Protocol, Split};
 

@@ -8,6 +8,11 @@ use std::alloc::{AllocError, Global};
 
 /// A line `t A B W` for each link, and a line `w TOTAL` with the sum of their weights. The sum of a list of any
 /// length fits, so nothing is asked of it.
+///
+/// ```text
+/// let text = tree_text(alloc, &tree_of(alloc, &raw)?)?;
+/// // b"t 1 2 5\nw 5\n" of two nodes and a link of weight 5
+/// ```
 pub fn tree_text(alloc: Global, tree: &[Key]) -> Result<Vec<u8>, AllocError>
     ensures { IfOk result (λ text. text.items ≡ tree_text tree.now) }
 {

@@ -11,6 +11,11 @@ pub struct Partial {
 }
 
 /// Writes all the bytes. A write that fails, or takes no byte, ends it. It takes no memory.
+///
+/// ```text
+/// let mut out = Device::of(io::writer(rt));
+/// write_out(&mut out, &text)?;                              // an Err says how many bytes are out
+/// ```
 pub fn write_out<W: Sink>(writer: &mut W, bytes: &[u8]) -> Result<(), Partial>
     requires { W.has_failed writer.old ≡ false }
     ensures ok { OnOk result (HasWritten (W.held writer.old) (W.held writer.new) bytes.now (length bytes.now)) }

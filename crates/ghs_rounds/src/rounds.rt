@@ -31,7 +31,7 @@ use std::marker::Model;
 pub struct Rounds {
     clock: Clock,
     choices: Choices,
-    // The Takes of what was sent within the round; one may stand here more than once.
+    /// The Takes of what was sent within the round; one may stand here more than once.
     fresh: Vec<Event>,
 }
 

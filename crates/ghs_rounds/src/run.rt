@@ -21,6 +21,12 @@ use std::alloc::Global;
 /// next round begins. No chain is longer than there were rounds. Of the faults TurnLimit comes where the commits have come to
 /// the turns or no ticket number is left, and else Memory. At every end nothing is out, and the world stands after the events
 /// so far. O(1) an event and a message; where phase, level or in_branch of a node have changed, O(1) for each of its ports.
+///
+/// ```text
+/// let mut world = World::open(alloc, graph, WakeSet::First, 1 << 40)?;
+/// let (rounds, end) = run_rounds(alloc, &mut world, &mut Schedule::seeded(1));
+/// // on the path 1-2-3 of weights 5 and 7 end is Ok and rounds is 7: so many messages has the longest chain
+/// ```
 pub fn run_rounds(
     alloc: Global,
     world: &mut World,

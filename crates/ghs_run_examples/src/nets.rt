@@ -167,11 +167,12 @@ fn assert_branches(rt: &impl Abort, alloc: Global, net: &Net, tree: &[(u32, u32,
 struct Example {
     text: &'static str,
     nodes: u32,
-    // The greatest level at the end.
+    /// The greatest level at the end.
     level: u8,
-    // The most messages that a run sends: twice the links, and 5K - 2 for each node, where 2^K is at most the number of nodes.
+    /// The most messages that a run sends: twice the links, and 5K - 2 for each node, where 2^K is at most the number of
+    /// nodes.
     most: u64,
-    // The links of the tree: weight, smaller end, larger end.
+    /// The links of the tree: weight, smaller end, larger end.
     tree: &'static [(u32, u32, u32)],
 }
 

@@ -17,6 +17,12 @@ use std::alloc::Global;
 
 /// The world that a list of events leaves, done in order from the opening of the graph on: nothing is out, and there are
 /// as many turns as there may be. A fault hands the graph back. A run under the wake set has no fault but want of memory.
+///
+/// ```text
+/// let events = read_trace(alloc, &text)?;
+/// let world = replay(alloc, graph, WakeSet::All, &events)?;
+/// // world.trace() is these events; an Err hands the graph back, and names the first that isn't lawful
+/// ```
 pub fn replay(
     alloc: Global,
     graph: Graph,

@@ -8,8 +8,8 @@ use rand_xoshiro::Xoshiro256PlusPlus;
 use std::alloc::AllocError;
 use std::marker::Model;
 
-/// The stream of random words by which a seeded run picks its events: a seed fixes it, by Xoshiro256++. Not for secrets. Among
-/// which events a word picks is said elsewhere.
+/// The stream of random words by which a seeded run picks its events: a seed fixes it, by Xoshiro256++. Not for secrets.
+/// Among which events a word picks is said elsewhere.
 #[derive(Debug, Drop)]
 pub struct Schedule {
     words: Xoshiro256PlusPlus,

@@ -16,6 +16,11 @@ use std::alloc::{AllocError, Global};
 pub const EVENT_LIMIT: u64 = 1_099_511_627_776;
 
 /// The text of a list of events: how many there are, and a line for each of them.
+///
+/// ```text
+/// let text = write_trace(alloc, &[Event::Wake(1), Event::Take(1, 0)])?;
+/// // b"trace 2\nwake 1\ntake 1 0\n", of which read_trace(alloc, &text) gives the two events again
+/// ```
 pub fn write_trace(alloc: Global, events: &[Event]) -> Result<Vec<u8>, AllocError>
     ensures { IfOk result (λ text. text.items ≡ trace_text events.now) }
 {

@@ -55,7 +55,8 @@ const TRIANGLE_JSON: &str = "\
 {\"step\":15,\"node\":1,\"port\":0,\"far\":2,\"kind\":\"report\",\"key\":null,\"row\":\"Report_halts\",\"fate\":\"done\",\"mark\":null,\"set\":{\"halted\":true},\"send\":[],\"total\":13}\n\
 ";
 
-/// Events 40 to 54 of the run of the path of five, by that program: links are accepted, one is reported, and the core moves to it.
+/// Events 40 to 54 of the run of the path of five, by that program: links are accepted, one is reported, and the core
+/// moves to it.
 const PATH_OF_FIVE_JSON: &str = "\
 {\"step\":40,\"node\":4,\"port\":1,\"far\":3,\"kind\":\"accept\",\"row\":\"Accept_heard\",\"fate\":\"done\",\"mark\":null,\"set\":{\"phase\":\"found\",\"best\":[1,\"4:3-4\"],\"probe\":null},\"send\":[{\"port\":0,\"to\":5,\"at\":0,\"kind\":\"report\",\"key\":\"4:3-4\"}],\"total\":19}\n\
 {\"step\":41,\"node\":2,\"port\":0,\"far\":1,\"kind\":\"report\",\"key\":null,\"row\":\"Report_waits\",\"fate\":\"waits\",\"mark\":null,\"set\":{},\"send\":[],\"total\":19}\n\

@@ -97,7 +97,7 @@ fn put_set(text: &mut Vec<u8>, changes: &[Change]) -> Result<(), AllocError>
     text.extend_from_slice(b"}")
 }
 
-// The changes, with a comma between each and the next.
+/// The changes, with a comma between each and the next.
 #[tactic(auto, unfolding(crate::specs::Json::listed))]
 pub(crate) fn put_each_change(text: &mut Vec<u8>, changes: &[Change]) -> Result<(), AllocError>
     ensures { IfOk result (λ _. text.new.items ≡ text.old.items ++ listed (change_member []) changes.now) }
@@ -214,7 +214,7 @@ fn put_send(text: &mut Vec<u8>, send: &Sent) -> Result<(), AllocError>
     text.extend_from_slice(b"}")
 }
 
-// A message's kind, and what it carries.
+/// A message's kind, and what it carries.
 #[tactic(auto, unfolding(crate::specs::Json::message_members))]
 pub(crate) fn put_message(
     text: &mut Vec<u8>,

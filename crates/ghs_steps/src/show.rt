@@ -36,6 +36,12 @@ pub enum StepsFault {
 /// Writes a line for each chosen event of a stored run, in order, in the form that is asked for. The run is played twice:
 /// whether each event is lawful is judged before the first byte goes out. A run that hasn't ended is shown too. Want of
 /// memory, and a write that fails, may come behind a front of the lines.
+///
+/// ```text
+/// let all = Choice { from: 1, to: u64::MAX, node: None };
+/// write_steps(alloc, graph, WakeSet::All, &events, &all, Form::Text, &mut out)?;
+/// // the run of the triangle begins with `1 2 - - wake Wakes - mark.0=branch;phase=found 0>1:connect(0) 1`
+/// ```
 pub fn write_steps<W: Sink>(
     alloc: Global,
     graph: Graph,

@@ -107,7 +107,7 @@ fn put_outcome(text: &mut Vec<u8>, figures: &Figures) -> Result<(), AllocError>
     put_numbered(text, b"weight", figures.weight)
 }
 
-// A member that isn't the first, and a number.
+/// A member that isn't the first, and a number.
 #[tactic(auto, unfolding(crate::specs::JsonLine::numbered))]
 pub(crate) fn put_numbered(text: &mut Vec<u8>, name: &[u8], number: u128) -> Result<(), AllocError>
     ensures { IfOk result (λ _. text.new.items ≡ text.old.items ++ numbered name.now number) }

@@ -77,7 +77,7 @@ fn put_outcome(text: &mut Vec<u8>, figures: &Figures) -> Result<(), AllocError>
     Ok(())
 }
 
-// A comma and a number.
+/// A comma and a number.
 #[tactic(auto, unfolding(crate::specs::Line::field))]
 pub(crate) fn put_field(text: &mut Vec<u8>, number: u128) -> Result<(), AllocError>
     ensures { IfOk result (λ _. text.new.items ≡ text.old.items ++ field number) }

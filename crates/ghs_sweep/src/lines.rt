@@ -10,6 +10,12 @@ use ghs_steps::form::Form;
 use std::alloc::AllocError;
 
 /// Puts the lines of runs whose seeds rise from the first on behind a text, each behind the same front.
+///
+/// ```text
+/// let mut text = Vec::from_slice(alloc, HEAD_LINE)?;
+/// put_runs(&mut text, Form::Text, bare_front(Form::Text), setup, 1, &runs)?;
+/// // what `ghs sweep --seeds 1..3` prints, where runs are those of the seeds 1, 2 and 3
+/// ```
 pub fn put_runs(
     text: &mut Vec<u8>,
     form: Form,

@@ -12,6 +12,12 @@ use std::thread::{Threads, join};
 /// Goes on with the runs of seeds that rise from the first on: puts the figures of the next ones, so many and one at
 /// least, behind those that there are. The runs go side by side on so many threads, 1 at least; the figures are the same
 /// for every number of threads. Refusal: want of memory; then those that there are stay.
+///
+/// ```text
+/// let setup = Setup { schedule_kind: ScheduleKind::Seeded, wake: WakeSet::All, turns: 1 << 40 };
+/// let mut runs = Vec::new(alloc);
+/// run_seeds(rt, alloc, &graph, setup, 1, &mut runs, 3, 2)?; // seeds 1, 2 and 3, by two threads
+/// ```
 pub fn run_seeds<R: Threads + Sync>(
     rt: &R,
     alloc: Global,

@@ -18,6 +18,12 @@ pub const SUMMARY_HEAD: &[u8] = b"measure,runs,min,p25,p50,p75,p95,max,sum,fixed
 
 /// Puts the summary of runs behind a text: a line for each measure, each behind the same front. There has to be a run, and
 /// 2^32 at most. Refusal: want of memory.
+///
+/// ```text
+/// let mut text = Vec::from_slice(alloc, SUMMARY_HEAD)?;
+/// put_summary(alloc, &mut text, Form::Text, bare_front(Form::Text), &runs)?;
+/// // 17 lines more, from `events` to `chain`
+/// ```
 pub fn put_summary(
     alloc: Global,
     text: &mut Vec<u8>,

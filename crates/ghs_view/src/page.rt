@@ -37,6 +37,12 @@ impl From<AllocError> for PageFault {
 
 /// The page of a run: its steps from the opening on to the event `to`, or to the last where there are fewer. It opens
 /// before the event `from`. Events are counted from 1. Refusals: the page is too large; want of memory.
+///
+/// ```text
+/// let graph = world.graph().copy(alloc)?;
+/// let html = run_page(alloc, graph, world.trace(), 1, u64::MAX)?;
+/// // the whole run, as `ghs view` prints it; Err(PageFault::TooLarge) of more than 2,000 nodes or 100,000 events
+/// ```
 pub fn run_page(
     alloc: Global,
     graph: Graph,

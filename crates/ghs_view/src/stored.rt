@@ -29,6 +29,12 @@ pub enum StoredFault {
 /// The page of a stored run, from the opening on to the event `to`; it opens before the event `from`. A run that hasn't
 /// ended is shown too. Refusals, in this order: an event isn't lawful; the page is too large; want of memory comes where
 /// it is met.
+///
+/// ```text
+/// let events = read_trace(alloc, &text)?;
+/// let html = stored_page(alloc, graph, WakeSet::All, &events, 1, u64::MAX)?;
+/// // Err(StoredFault::NotLawful(2)) where the second event isn't lawful
+/// ```
 pub fn stored_page(
     alloc: Global,
     graph: Graph,

@@ -22,6 +22,12 @@ use std::alloc::{AllocError, Global};
 /// then. Of the faults TurnLimit comes where the commits have come to the turns or no ticket number is left, and else
 /// Memory. At every end nothing is out, and the world stands after the events so far. O(log N) an event and a message; where
 /// phase, level or in_branch of a node have changed, O(1) for each of its ports.
+///
+/// ```text
+/// let mut world = World::open(alloc, graph, WakeSet::All, 1000)?;
+/// let end = run_waiting(alloc, &mut world, &mut Schedule::seeded(7));
+/// // Ok where the run has ended, Err(RunFault::TurnLimit) where it still goes on after 1,000 events
+/// ```
 pub fn run_waiting(
     alloc: Global,
     world: &mut World,

@@ -78,6 +78,14 @@ impl Ticket {
     }
 
     /// The node reacts to the work; no world is needed. The one fault is want of memory, and the ticket comes back.
+    ///
+    /// ```text
+    /// let (ticket, fault) = match ticket.perform(alloc) {
+    ///     Ok(step) => return world.commit(alloc, step),
+    ///     Err(back) => back,                                    // out of memory: the ticket is still out
+    /// };
+    /// world.give_back(ticket)?;
+    /// ```
     pub fn perform(self, alloc: Global) -> Result<Step, (Ticket, NodeFault)>
         ensures ticket { IfOk result (λ s. s.ticket ≡ self) }
         ensures row { IfOk result (λ s. Row self.node self.work s.delta) }
@@ -149,7 +157,7 @@ impl Step {
         &self.delta
     }
 
-    // The ticket.
+    /// The ticket.
     pub(crate) fn ticket(&self) -> &Ticket
         ensures ticket { result.now ≡ self.now.ticket }
         ensures rule { HasRule result.now.node result.now.work }

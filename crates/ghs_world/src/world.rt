@@ -59,7 +59,7 @@ pub struct World {
     wake: WakeSet,
     turns: u64,
     outs: Outs,
-    // The events that are lawful in the home view, under the wake set. What is out is marked as before.
+    /// The events that are lawful in the home view, under the wake set. What is out is marked as before.
     index: Index,
 }
 
@@ -155,6 +155,13 @@ impl World {
 
     /// An event happens here as if it were checked out, performed and committed at once, without copying or comparing
     /// a node. It uses a ticket number. All room is taken before any change.
+    ///
+    /// ```text
+    /// while !world.ended() && world.has_turn() {
+    ///     let event = world.ready_at(0);                        // where nothing is out and a run goes on, one is ready
+    ///     world.make(alloc, event)?;
+    /// }
+    /// ```
     pub fn make(&mut self, alloc: Global, event: Event) -> Result<(), AllocError>
         requires ready { is_ready self.old event ≡ true }
         requires turn { has_turn self.old ≡ true }
@@ -338,7 +345,7 @@ impl World {
         !self.outs.has_node(v) && self.has_lawful(v)
     }
 
-    // How many events are lawful in the home view, under the wake set.
+    /// How many events are lawful in the home view, under the wake set.
     pub(crate) fn marked_count(&self) -> u32
         ensures { result ≡ length (filter (may_happen self.now) (all_events (network self.now.net))) }
     {
@@ -346,7 +353,7 @@ impl World {
         self.index.count()
     }
 
-    // Of these the one at place `k`, counted from 0.
+    /// Of these the one at place `k`, counted from 0.
     pub(crate) fn marked_at(&self, k: u32) -> Event
         requires { k < length (filter (may_happen self.now) (all_events (network self.now.net))) }
         ensures { slice_get (filter (may_happen self.now) (all_events (network self.now.net))) k ≡ Some result }
