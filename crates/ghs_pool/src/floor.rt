@@ -24,8 +24,8 @@ impl Start for Brand {
     ghost first = { no_shop };
 }
 
-/// What workers lacked.
-#[derive(Clone, Copy, Debug, PartialEq, Eq)]
+/// What the workers of a run lacked, so that they had to end.
+#[derive(Clone, Copy, Debug)]
 pub struct Lacks {
     pub thread: bool,
     pub memory: bool,

@@ -10,8 +10,8 @@ use std::alloc::{AllocError, Global};
 /// How many tickets at most a worker has out at a time.
 pub const MOST: usize = 64;
 
-/// The tickets that a worker has out, the steps that it made of them, and when it looks. It has room for all of them from
-/// the beginning.
+/// The tickets that a worker has out, the steps that it made of them, where it finds more, and when it looks. It has room
+/// for all of them from the beginning.
 #[derive(Drop)]
 pub struct Hand<'q> {
     pub feed: Feed<'q>,

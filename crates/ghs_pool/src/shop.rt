@@ -161,8 +161,8 @@ impl Shop {
         self.world.has_turn()
     }
 
-    /// An event happens at once, without a ticket, and then the new pair is published. What its node did comes back. At a
-    /// refusal, for want of memory, nothing is.
+    /// An event happens at once, without a ticket, and then the new pair is published. What its node did comes back. Where
+    /// memory runs out nothing is published.
     pub(crate) fn make(&mut self, alloc: Global, event: Event) -> Result<Delta, AllocError>
         requires ready { is_ready self.old.world event ≡ true }
         requires turn { has_turn self.old.world ≡ true }

@@ -37,7 +37,7 @@ const NO_MEMORY: Lacks = Lacks {
 /// comes back with nothing out, after the commits so far: on the same graph, under the same wake set and turns, its trace
 /// beginning with the given one.
 ///
-/// The ends in their order: NoThread where a thread couldn't be started, be it for want of memory; Halted where the run
+/// The ends in their order: NoThread where a thread couldn't be started, be it that memory ran out; Halted where the run
 /// has ended; TurnLimit; and then Memory, or nothing that has a name.
 ///
 /// ```text
