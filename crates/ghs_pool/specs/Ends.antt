@@ -11,6 +11,7 @@ use Rattle.ghs_pool.specs.declared.end.PoolFault.TheVariants.{TurnLimit, Stalled
 abbrev pub IsAtEnd : WorldState → Type 0
 IsAtEnd s = HasEnded s.net.graph (home s)
 
+-- it goes on
 abbrev pub IsNotAtEnd : WorldState → Type 0
 IsNotAtEnd s = IsAtEnd s → ⊥
 
@@ -23,6 +24,7 @@ FaultFits s Memory = IsNotAtEnd s
 FaultFits s Strange = IsNotAtEnd s
 FaultFits s NoThread = Unit {0}
 
+-- where each end may come: halted at the least node that has, once the run has ended
 abbrev pub EndFits : WorldState → Result RunEnd PoolFault → Type 0
 EndFits s (Ok e) = IsEnd s e
 EndFits s (Err f) = FaultFits s f

@@ -1,5 +1,5 @@
 -- A world and what was published of it.
-use Rattle.std.specs.Prelude.{◌≡◌, ◌↔◌, true, List, [], ◌∷◌, ◌++◌, length}
+use Rattle.std.specs.Prelude.{◌≡◌, ◌↔◌, true, [], ◌∷◌, ◌++◌, length}
 use Rattle.ghs_protocol.specs.Marks.{HasEnded}
 use Rattle.ghs_board.specs.declared.progress.Progress.{Progress}
 use Rattle.ghs_board.specs.Progress.{last_of}

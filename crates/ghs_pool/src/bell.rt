@@ -1,9 +1,10 @@
-// What wakes workers that sleep: one where there is work for it, all when their run is over.
+//! What wakes workers that sleep: one where there is work for it, all when their run is over.
 use std::sync::Wait;
 use std::sync::atomic::{AtomicU64, Ordering};
 use std::thread;
 use std::time::Duration;
 
+/// What the bell's word holds while the run goes on, and what from its end on.
 const SILENT: u32 = 0;
 
 const RUNG: u64 = 1;
@@ -14,8 +15,9 @@ const PATIENCE: u32 = 64;
 /// Workers sleep beside it, holding nothing. It is rung once for all, and from then on nobody sleeps.
 #[derive(Drop)]
 pub struct Bell {
+    /// Whether the bell has rung; who sleeps waits for this word.
     word: AtomicU64,
-    // The worker that visited the lock last; none has the number 0.
+    /// The worker that visited the lock last; none has the number 0.
     visitor: AtomicU64,
 }
 

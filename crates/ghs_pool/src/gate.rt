@@ -9,7 +9,7 @@ pub struct Tally {
     pub commits: u64,
     /// Of these, those that went out on a ticket; the others were made at once.
     pub tickets: u64,
-    /// Of these, those that it made while 64 nodes and more were ready: numbers that waited in the queue, or nodes out.
+    /// Of its events, those that it made while 64 nodes and more were ready: numbers that waited in the queue, or nodes out.
     pub crowded: u64,
     /// Of its events, those between whose check-out and commit another worker made one.
     pub beside: u64,

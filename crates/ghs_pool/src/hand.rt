@@ -1,4 +1,7 @@
-// What a worker keeps by itself.
+//! What a worker keeps by itself.
+ghost use Rattle.std.specs.Prelude.{◌≡◌, ◌≤◌, ◌-◌, OnOk};
+
+use crate::feed::Feed;
 use crate::gate::Tally;
 use crate::pace::Pace;
 use ghs_world::ticket::{Step, Ticket};
@@ -7,29 +10,37 @@ use std::alloc::{AllocError, Global};
 /// How many tickets at most a worker has out at a time.
 pub const MOST: usize = 64;
 
-/// The tickets that a worker has out, the steps that it made of them, and when it looks. It has room for all of them from
-/// the beginning.
+/// The tickets that a worker has out, the steps that it made of them, where it finds more, and when it looks. It has room
+/// for all of them from the beginning.
 #[derive(Drop)]
-pub struct Hand {
+pub struct Hand<'q> {
+    pub feed: Feed<'q>,
     tickets: Vec<Ticket>,
     steps: Vec<Step>,
     pub pace: Pace,
     pub tally: Tally,
-    // Whether many nodes were ready when the last visit began.
+    /// Whether many nodes were ready when the last visit began.
     pub is_crowded: bool,
-    // How many events had happened when the last visit ended.
+    /// How many events had happened when the last visit ended.
     pub seen: u64,
-    // Whether one worker more is to be called.
+    /// Whether one worker more is to be called.
     pub calls: bool,
-    // Whether the lock is left to another worker first.
+    /// Whether the lock is left to another worker first.
     pub gives_way: bool,
 }
 
-impl Hand {
-    pub fn new(alloc: Global, worker: u32) -> Result<Hand, AllocError> {
+impl<'q> Hand<'q> {
+    /// A worker's hand, with one of the feed's shares.
+    pub fn new(alloc: Global, worker: u32, feed: &mut Feed<'q>) -> Result<Hand<'q>, AllocError>
+        requires { 2 ≤ feed.old.pass.shares }
+        ensures { OnOk result (feed.new.pass.shares ≡ feed.old.pass.shares - 1) }
+    {
+        let tickets = Vec::with_capacity(alloc, MOST)?;
+        let steps = Vec::with_capacity(alloc, MOST)?;
         Ok(Hand {
-            tickets: Vec::with_capacity(alloc, MOST)?,
-            steps: Vec::with_capacity(alloc, MOST)?,
+            feed: feed.split(alloc)?,
+            tickets,
+            steps,
             pace: Pace::new(),
             tally: Tally {
                 worker,
@@ -50,11 +61,6 @@ impl Hand {
         self.tickets.len()
     }
 
-    /// Whether there are steps that haven't happened.
-    pub fn has_steps(&self) -> bool {
-        !self.steps.is_empty()
-    }
-
     /// Tickets are performed the last first, and their steps happen the last first: in the order in which they went out.
     pub fn next_ticket(&mut self) -> Option<Ticket> {
         self.tickets.pop()
@@ -65,24 +71,25 @@ impl Hand {
     }
 
     /// An event was made at once.
-    pub fn count_made(&mut self) {
-        self.pace.note_event();
-        let tally = self.tally;
-        self.tally = Tally {
-            commits: tally.commits.saturating_add(1),
-            crowded: tally.crowded.saturating_add(self.is_crowded as u64),
-            ..tally
-        };
+    pub fn count_at_once(&mut self) {
+        self.count(false, false);
     }
 
     /// The event of a ticket happened, with another worker's event since its check-out or none.
     pub fn count_committed(&mut self, is_beside: bool) {
-        self.count_made();
+        self.count(true, is_beside);
+    }
+
+    /// An event of the worker's happened.
+    fn count(&mut self, is_ticket: bool, is_beside: bool) {
+        self.pace.note_event();
         let tally = self.tally;
         self.tally = Tally {
-            tickets: tally.tickets.saturating_add(1),
+            worker: tally.worker,
+            commits: tally.commits.saturating_add(1),
+            tickets: tally.tickets.saturating_add(is_ticket as u64),
+            crowded: tally.crowded.saturating_add(self.is_crowded as u64),
             beside: tally.beside.saturating_add(is_beside as u64),
-            ..tally
         };
     }
 

@@ -14,10 +14,15 @@
 mod bell;
 pub mod desk;
 pub mod end;
+mod feed;
+mod fill;
 mod floor;
 pub mod gate;
 mod hand;
 mod moves;
+mod notes;
 mod pace;
+mod settle;
 pub mod shop;
+mod visit;
 pub mod workers;

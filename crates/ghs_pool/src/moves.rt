@@ -1,4 +1,4 @@
-// Which events are worth a ticket, and which are made at once.
+//! Which events are worth a ticket, and which are made at once.
 ghost use Rattle.ghs_protocol.specs.Network.{At};
 ghost use Rattle.ghs_core.specs.NetState.{network};
 
@@ -13,7 +13,7 @@ use ghs_world::world::World;
 const MANY_PORTS: u32 = 1024;
 
 /// How many events a node makes at once for each that goes out on a ticket: none, unless it has many ports.
-pub fn made_for_a_ticket(world: &World, v: u32) -> u32 {
+pub fn at_once_per_ticket(world: &World, v: u32) -> u32 {
     if !world.has_place(Event::Wake(v)) {
         return 0;
     }

@@ -1,4 +1,4 @@
-// When a worker looks over all nodes, how long it rests, and when and for how long it stays away.
+//! When a worker looks over all nodes, how long it rests, and when and for how long it stays away.
 
 /// A worker that has taken so many numbers since its last look looks again: the queue alone might not come to a node whose
 /// number found no room.
@@ -23,28 +23,36 @@ const STINT: usize = 1024;
 
 const SHORT_STINT: usize = 64;
 
+/// Between these a stint has one event for each so many nodes. A run makes several events for each node, so that there are
+/// stints for all workers.
+const STINT_NODES: usize = 32;
+
 /// Where fewer numbers wait one worker is enough: what several write would go from processor to processor at each event.
 const CROWD: usize = 32;
 
+/// In a small network a number for each so many nodes is a crowd too.
+const CROWD_NODES: usize = 32;
+
 /// From how many numbers on a second worker is worth it: few in a small network, so that several take part in a short run.
 pub fn crowd_of(nodes: usize) -> usize {
-    (nodes / CROWD).clamp(1, CROWD)
+    (nodes / CROWD_NODES).clamp(1, CROWD)
 }
 
 /// How many events a worker makes before it makes room: few in a small network, so that all take part in a short run, and many
 /// in a large one, since whoever comes finds nothing at hand.
 pub fn stint_of(nodes: usize) -> usize {
-    (nodes / CROWD).clamp(SHORT_STINT, STINT)
+    (nodes / STINT_NODES).clamp(SHORT_STINT, STINT)
 }
 
+/// What a worker has done since it last looked, rested and came.
 #[derive(Clone, Copy, Debug)]
 pub struct Pace {
-    // The numbers taken since the last look.
+    /// The numbers taken since the last look.
     taken: u32,
-    // How long the last rest was; none since an event happened.
+    /// How long the last rest was; none since an event happened.
     pause: u32,
-    // The events made since the worker came.
-    made: u32,
+    /// The events made since the worker came.
+    stint: u32,
     is_away: bool,
 }
 
@@ -54,7 +62,7 @@ impl Pace {
         Pace {
             taken: 0,
             pause: 0,
-            made: 0,
+            stint: 0,
             is_away: false,
         }
     }
@@ -73,14 +81,14 @@ impl Pace {
     /// Whether the worker has enough of it where so many numbers wait at so many nodes, and others are at work too.
     pub fn has_enough(&self, waiting: usize, nodes: usize, workers: u32) -> bool {
         waiting == 0
-            || (self.made > 0 && waiting < crowd_of(nodes))
-            || (self.made as usize >= stint_of(nodes) && workers > PAIR)
+            || (self.stint > 0 && waiting < crowd_of(nodes))
+            || (self.stint as usize >= stint_of(nodes) && workers > PAIR)
     }
 
     /// The worker leaves.
     pub fn leave(&mut self) {
         self.is_away = true;
-        self.made = 0;
+        self.stint = 0;
     }
 
     /// A number was taken.
@@ -101,7 +109,7 @@ impl Pace {
     /// An event happened: the next rest is a short one.
     pub fn note_event(&mut self) {
         self.pause = 0;
-        self.made = self.made.saturating_add(1);
+        self.stint = self.stint.saturating_add(1);
     }
 
     /// A rest begins, twice as long as the one before.

@@ -9,7 +9,7 @@ ghost use Rattle.ghs_world.specs.Steps.{Makes, IsSameWorld};
 ghost use Rattle.ghs_world.specs.WorldState.{has_turn, has_place};
 ghost use Rattle.ghs_pool.specs.Shop.{IsPairOf, IsTold, Publishes};
 
-use crate::moves::{is_worth_it, made_for_a_ticket};
+use crate::moves::{at_once_per_ticket, is_worth_it};
 use ghs_board::board::{Board, Publisher, Reader};
 use ghs_board::progress::Progress;
 use ghs_node::delta::Delta;
@@ -98,22 +98,22 @@ impl Shop {
         &self.world
     }
 
-    // How many events there were.
+    /// How many events there were.
     pub(crate) fn events(&self) -> u64 {
         self.world.net().events()
     }
 
-    // Whether an event of the world is worth a ticket.
+    /// Whether an event of the world is worth a ticket.
     pub(crate) fn is_worth_it(&self, event: Event) -> bool {
         is_worth_it(&self.world, event)
     }
 
-    // How many events a node makes at once for each that goes out on a ticket.
-    pub(crate) fn made_for_a_ticket(&self, v: u32) -> u32 {
-        made_for_a_ticket(&self.world, v)
+    /// How many events a node makes at once for each that goes out on a ticket.
+    pub(crate) fn at_once_per_ticket(&self, v: u32) -> u32 {
+        at_once_per_ticket(&self.world, v)
     }
 
-    // Of an event's node and the nodes to which it sent those that have an event now: their numbers, rising, each once.
+    /// Of an event's node and the nodes to which it sent those that have an event now: their numbers, rising, each once.
     pub(crate) fn woken(
         &self,
         alloc: Global,
@@ -147,22 +147,22 @@ impl Shop {
         Some(port.far)
     }
 
-    // Whether an event names a node and port of the world's graph and may be made now, turns and memory aside.
+    /// Whether an event names a node and port of the world's graph and may be made now, turns and memory aside.
     pub(crate) fn is_ready(&self, event: Event) -> bool
         ensures { result ≡ has_place (network self.now.world.net) event && is_ready self.now.world event }
     {
         self.world.has_place(event) && self.world.is_ready(event)
     }
 
-    // Whether there are turns and a number for one event more.
+    /// Whether there are turns and a number for one event more.
     pub(crate) fn has_turn(&self) -> bool
         ensures { result ≡ has_turn self.now.world }
     {
         self.world.has_turn()
     }
 
-    // An event happens at once, without a ticket, and then the new pair is published. What its node did comes back. At a
-    // refusal, for want of memory, nothing is.
+    /// An event happens at once, without a ticket, and then the new pair is published. What its node did comes back. Where
+    /// memory runs out nothing is published.
     pub(crate) fn make(&mut self, alloc: Global, event: Event) -> Result<Delta, AllocError>
         requires ready { is_ready self.old.world event ≡ true }
         requires turn { has_turn self.old.world ≡ true }

@@ -9,11 +9,14 @@ ghost use Rattle.ghs_pool.specs.Ends.{EndFits, IsAtEnd};
 
 use crate::bell::Bell;
 use crate::end::PoolFault;
-use crate::floor::{Floor, Next, Notes, Start};
+use crate::feed::Feed;
+use crate::floor::{Floor, Lacks, Start};
 use crate::gate::Gate;
 use crate::hand::{Hand, MOST};
-use crate::pace::{AWAY, Pace};
+use crate::notes::Notes;
+use crate::pace::AWAY;
 use crate::shop::{Shop, pair_of};
+use crate::visit::Next;
 use ghs_board::board::{Board, Publisher};
 use ghs_queue::queue::{ReadyPass, ReadyQueue};
 use ghs_sched::run::RunEnd;
@@ -24,11 +27,17 @@ use std::sync::{Mutex, Wait};
 use std::thread;
 use std::thread::Threads;
 
+/// What a run lacks that can't begin.
+const NO_MEMORY: Lacks = Lacks {
+    thread: false,
+    memory: true,
+};
+
 /// Runs a world on by so many threads, 1 to 64, until its run has ended. All that is out is recalled first. The world
 /// comes back with nothing out, after the commits so far: on the same graph, under the same wake set and turns, its trace
 /// beginning with the given one.
 ///
-/// The ends in their order: NoThread where a thread couldn't be started, be it for want of memory; Halted where the run
+/// The ends in their order: NoThread where a thread couldn't be started, be it that memory ran out; Halted where the run
 /// has ended; TurnLimit; and then Memory, or nothing that has a name.
 ///
 /// ```text
@@ -51,7 +60,7 @@ pub fn run_workers<G: Gate + Sync, R: Threads + Wait + Sync>(
     world.recall_all();
     let first = pair_of(&world);
     let Ok((_board, publisher, _reader)) = Board::open(alloc, first) else {
-        let end = end_of(&world, true, true);
+        let end = end_of(&world, NO_MEMORY);
         return (world, end);
     };
     let (world, _publisher, end) = run_watched(rt, alloc, world, workers, gate, publisher);
@@ -79,26 +88,27 @@ pub fn run_watched<G: Gate + Sync, R: Threads + Wait + Sync>(
     world.recall_all();
     let nodes = world.graph().nodes();
     let Ok((queue, pass, notes)) = prepare(alloc, nodes, workers) else {
-        let end = end_of(&world, true, true);
+        let end = end_of(&world, NO_MEMORY);
         return (world, publisher, end);
     };
     let Ok(shop) = Shop::open(world, publisher) else {
         unreachable!()
     };
-    run_from::<Brand, G, R>(rt, alloc, shop, notes, gate, &queue, pass)
+    let feed = Feed::new(&queue, pass);
+    run_from::<Brand, G, R>(rt, alloc, shop, notes, gate, feed)
 }
 
-/// A queue with room for each node and a share for each worker, its pass, and what is kept of each node.
+/// A queue with room for each node and a share for each worker, and one for who starts them; its pass; and what is kept of
+/// each node.
 fn prepare(
     alloc: Global,
     nodes: u32,
     workers: u32,
 ) -> Result<(ReadyQueue, ReadyPass, Notes), AllocError>
-    requires { 1 ≤ workers }
     ensures pass { IfOk result (λ r. r.1.name ≡ r.0.name) }
-    ensures notes { IfOk result (λ r. length r.2.ports.items ≡ nodes) }
+    ensures notes { IfOk result (λ r. r.2 ≡ nodes) }
 {
-    let (queue, pass) = ReadyQueue::open(alloc, nodes.max(1), workers)?;
+    let (queue, pass) = ReadyQueue::open(alloc, nodes.max(1), workers.saturating_add(1))?;
     let notes = Notes::fresh(alloc, nodes)?;
     Ok((queue, pass, notes))
 }
@@ -110,81 +120,51 @@ fn run_from<J: Start + Send + Sync, G: Gate + Sync, R: Threads + Wait + Sync>(
     shop: Shop,
     notes: Notes,
     gate: &G,
-    queue: &ReadyQueue,
-    mut pass: ReadyPass,
+    mut feed: Feed<'_>,
 ) -> (World, Publisher, Result<RunEnd, PoolFault>)
     requires goes_on { GoesOn shop J.first }
-    requires ports { length notes.ports.items ≡ shop.world.net.graph.nodes }
-    requires pass { pass.name ≡ queue.now.name }
+    requires notes { notes ≡ shop.world.net.graph.nodes }
     ensures out { result.0.outs ≡ [] }
     ensures follows { Follows result.0 J.first.world }
     ensures told { IsTold result.0 result.1 }
     ensures board { (result.1.table ≡ J.first.told.table) × StartsWith result.1.list J.first.told.list }
     ensures end { EndFits result.0 result.2 }
 {
-    let mut floor = Floor::<J>::new(shop, notes, pass.shares());
-    floor.put_ready(rt, queue, &mut pass);
+    let workers = feed.shares().saturating_sub(1);
+    let mut floor = Floor::<J>::new(shop, notes, workers);
+    floor.put_ready(rt, &mut feed);
     let floor = Mutex::new(floor);
     let bell = Bell::new();
-    let started = start_workers(rt, alloc, &floor, &bell, gate, queue, pass);
-    let (shop, memory) = floor.into_inner().close();
+    start_workers(rt, alloc, &floor, &bell, gate, feed);
+    let (shop, lacks) = floor.into_inner().close();
     let (mut world, publisher) = shop.close();
     world.recall_all();
-    let end = end_of(&world, started, memory);
+    let end = end_of(&world, lacks);
     (world, publisher, end)
 }
 
-/// Starts a worker for each share of the pass, each on a thread of its own. Whether none was refused; all have ended.
+/// Starts the workers, each on a thread of its own, until one can't be started. All that were have ended.
 fn start_workers<J: Start + Send + Sync, G: Gate + Sync, R: Threads + Wait + Sync>(
     rt: &R,
     alloc: Global,
     floor: &Mutex<Floor<J>>,
     bell: &Bell,
     gate: &G,
-    queue: &ReadyQueue,
-    pass: ReadyPass,
-) -> bool
-    requires { pass.name ≡ queue.now.name }
-{
-    thread::scope(
-        thread::scope_env(),
-        rt,
-        move |scope| -> bool
-            requires { pass.name ≡ queue.now.name }
-        {
-            let mut rest = pass;
-            let shares = rest.shares();
-            for rank in 1..shares {
-                let Ok(hand) = Hand::new(alloc, rank) else {
-                    floor.lock(rt).want_memory();
-                    return true;
-                };
-                let Ok(mine) = queue.split(alloc, &mut rest) else {
-                    floor.lock(rt).want_memory();
-                    return true;
-                };
-                let worker = move ||
-                    requires { mine.name ≡ queue.now.name }
-                { worker_loop(rt, alloc, floor, bell, gate, queue, mine, hand) };
-                if scope.spawn(worker).is_err() {
-                    floor.lock(rt).stop();
-                    return false;
-                }
-            }
-            let Ok(hand) = Hand::new(alloc, shares) else {
-                floor.lock(rt).want_memory();
-                return true;
+    feed: Feed<'_>,
+) {
+    thread::scope(thread::scope_env(), rt, move |scope| {
+        let mut feed = feed;
+        let shares = feed.shares();
+        for rank in 1..shares {
+            let Ok(hand) = Hand::new(alloc, rank, &mut feed) else {
+                return floor.lock(rt).lack_memory();
             };
-            let worker = move ||
-                requires { rest.name ≡ queue.now.name }
-            { worker_loop(rt, alloc, floor, bell, gate, queue, rest, hand) };
+            let worker = move || worker_loop(rt, alloc, floor, bell, gate, hand);
             if scope.spawn(worker).is_err() {
-                floor.lock(rt).stop();
-                return false;
+                return floor.lock(rt).lack_thread();
             }
-            true
-        },
-    )
+        }
+    })
 }
 
 /// A worker, until the run is over: visits to the lock, and between them what needs none.
@@ -194,14 +174,10 @@ fn worker_loop<J: Start, G: Gate, R: Wait>(
     floor: &Mutex<Floor<J>>,
     bell: &Bell,
     gate: &G,
-    queue: &ReadyQueue,
-    mut pass: ReadyPass,
-    mut hand: Hand,
-)
-    requires { pass.name ≡ queue.now.name }
-{
+    mut hand: Hand<'_>,
+) {
     for _ in rt.forever() {
-        let next = come(rt, alloc, floor, bell, queue, &mut pass, &mut hand);
+        let next = come(rt, alloc, floor, bell, &mut hand);
         if hand.calls {
             hand.calls = false;
             bell.call();
@@ -209,7 +185,7 @@ fn worker_loop<J: Start, G: Gate, R: Wait>(
         match next {
             Next::Perform => perform(rt, alloc, floor, gate, &mut hand),
             Next::Again => {}
-            Next::Wait => rest(rt, bell, queue, &mut pass, &mut hand.pace),
+            Next::Wait => rest(rt, bell, &mut hand),
             Next::Leave => bell.sleep(rt, AWAY),
             Next::End => {
                 gate.ended(hand.tally);
@@ -226,14 +202,9 @@ fn come<J: Start, R: Wait>(
     alloc: Global,
     floor: &Mutex<Floor<J>>,
     bell: &Bell,
-    queue: &ReadyQueue,
-    pass: &mut ReadyPass,
-    hand: &mut Hand,
-) -> Next
-    requires { pass.old.name ≡ queue.now.name }
-    ensures { pass.new.name ≡ pass.old.name }
-{
-    if hand.pace.is_away() && queue.len(rt, pass) == 0 && !bell.has_rung() {
+    hand: &mut Hand<'_>,
+) -> Next {
+    if hand.pace.is_away() && hand.feed.len(rt) == 0 && !bell.has_rung() {
         return Next::Leave;
     }
     if hand.gives_way {
@@ -241,7 +212,7 @@ fn come<J: Start, R: Wait>(
     }
     let mut floor = floor.lock(rt);
     bell.visit(hand.tally.worker);
-    floor.visit(rt, alloc, queue, pass, hand)
+    floor.visit(rt, alloc, hand)
 }
 
 /// Performs the tickets in a hand, outside the lock.
@@ -250,7 +221,7 @@ fn perform<J: Start, G: Gate, R: Wait>(
     alloc: Global,
     floor: &Mutex<Floor<J>>,
     gate: &G,
-    hand: &mut Hand,
+    hand: &mut Hand<'_>,
 ) {
     for _ in 0..MOST {
         let Some(ticket) = hand.next_ticket() else {
@@ -262,7 +233,7 @@ fn perform<J: Start, G: Gate, R: Wait>(
         match performed {
             Ok(step) => {
                 if hand.add_step(step).is_err() {
-                    floor.lock(rt).want_memory();
+                    floor.lock(rt).lack_memory();
                 }
             }
             Err((ticket, _)) => floor.lock(rt).give_back(ticket),
@@ -271,28 +242,26 @@ fn perform<J: Start, G: Gate, R: Wait>(
 }
 
 /// Rests, holding nothing, until the rest is over; a short one ends where a number waits.
-fn rest<R: Wait>(rt: &R, bell: &Bell, queue: &ReadyQueue, pass: &mut ReadyPass, pace: &mut Pace)
-    requires { pass.old.name ≡ queue.now.name }
-    ensures { pass.new.name ≡ pass.old.name }
-{
-    pace.rest();
-    for _ in 0..pace.yields() {
-        if queue.len(rt, pass) > 0 {
+fn rest<R: Wait>(rt: &R, bell: &Bell, hand: &mut Hand<'_>) {
+    hand.pace.rest();
+    for _ in 0..hand.pace.yields() {
+        if hand.feed.len(rt) > 0 {
             return;
         }
         thread::yield_now();
     }
-    if pace.sleep() > 0 {
-        bell.sleep(rt, pace.sleep());
+    let micros = hand.pace.sleep();
+    if micros > 0 {
+        bell.sleep(rt, micros);
     }
 }
 
-/// What the world says of the end, and else what was met.
-fn end_of(world: &World, started: bool, memory: bool) -> Result<RunEnd, PoolFault>
+/// What the world says of the end, and else what was lacking.
+fn end_of(world: &World, lacks: Lacks) -> Result<RunEnd, PoolFault>
     requires { world.now.outs ≡ [] }
     ensures { EndFits world.now result }
 {
-    if !started {
+    if lacks.thread {
         return Err(PoolFault::NoThread);
     }
     if world.ended() {
@@ -301,7 +270,7 @@ fn end_of(world: &World, started: bool, memory: bool) -> Result<RunEnd, PoolFaul
     if !world.has_turn() {
         return Err(PoolFault::TurnLimit);
     }
-    if memory {
+    if lacks.memory {
         return Err(PoolFault::Memory);
     }
     Err(PoolFault::Strange)
