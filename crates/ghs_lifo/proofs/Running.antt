@@ -15,14 +15,17 @@ use Rattle.ghs_world.specs.Outs.{Outs, is_out}
 use Rattle.ghs_world.specs.Wakes.{may_wake}
 use Rattle.ghs_world.specs.WorldState.{WorldState, has_turn, home, may_happen, wakers}
 use Rattle.ghs_sched.specs.Picks.{IsPick}
-use Rattle.ghs_sched.proofs.lemmas.Runs.{still_going, turn_left}
+use Rattle.ghs_sched.proofs.lemmas.Runs.{run_more, still_going, turn_left}
+use Rattle.ghs_patient.specs.Keeping.{HasGone, HasGoneOn}
 use Rattle.ghs_patient.specs.Patience.{patient_events}
+use Rattle.ghs_patient.proofs.lemmas.Gone.{gone_grown, gone_run}
+use Rattle.ghs_patient.proofs.lemmas.Growing.{HasGrown}
 use Rattle.ghs_patient.proofs.lemmas.Picked.{take_patient}
 use Rattle.ghs_patient.proofs.Picks.{Pickable}
 use Rattle.ghs_patient.proofs.Picks as patient
 use Rattle.ghs_lifo.specs.Latest.{IsLatest, NoTakeMoves}
 use Rattle.ghs_lifo.specs.Newest.{newest_of}
-use Rattle.ghs_lifo.specs.Runs.{HasRun, IsLatestIn, IsNext, IsPickedLast, Latest, NoTakeMovesIn, Picked}
+use Rattle.ghs_lifo.specs.Runs.{Begun, HasRun, IsLatestIn, IsNext, IsPickedFrom, IsPickedLast, Latest, NoTakeMovesIn, Picked}
 
 -- What is next is lawful and patient.
 
@@ -73,3 +76,20 @@ module _ (old s : WorldState) (words used : List ℕ) (run : HasRun old s words 
       (λ h. rw h.1 (Latest s.net.trace used e run.picked still few (same_latest e h.0)))
       (λ h. rw h.2 (Picked s.net.trace used e run.picked still few (same_none h.0) (same_pick e h.1)))
       next
+
+-- The whole run.
+module _ (old : WorldState) (words : List ℕ) where
+  one_more : (s new : WorldState) (used after : List ℕ) → HasRun old s words used → (HasEnded s.net.graph (home s) → ⊥) → has_turn s ≡ true →
+      HasGoneOn IsNext s new used after → HasRun old new words after
+  one_more s new used after run going turn on =
+      run_more (IsPickedFrom old words) old s new used after on.event run on.made
+      (picked_more old s words used run going turn on.event after on.next)
+
+  pub last_run : {new : WorldState} {after : List ℕ} → HasGone IsNext (record old { outs = [] }) words new after → HasRun old new words after
+  last_run gone = gone_run IsNext old words (IsPickedFrom old words) Begun one_more gone
+
+  pub last_grown : {new : WorldState} {after : List ℕ} → HasGone IsNext (record old { outs = [] }) words new after →
+      HasGrown old.net.graph old.net.trace new.net.trace
+  last_grown gone =
+      gone_grown IsNext old words (IsPickedFrom old words) Begun one_more
+      (λ s used after e out next. (pickable s used e after out next).patient) gone

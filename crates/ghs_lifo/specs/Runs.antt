@@ -6,7 +6,6 @@ use Rattle.ghs_protocol.specs.Marks.{HasEnded}
 use Rattle.ghs_protocol.specs.Network.{network_of}
 use Rattle.ghs_protocol.specs.Run.{net_after}
 use Rattle.ghs_core.specs.NetState.{network}
-use Rattle.ghs_world.specs.Steps.{Makes}
 use Rattle.ghs_world.specs.WorldState.{WorldState, home, wakers}
 use Rattle.ghs_sched.specs.Picks.{IsPick}
 use Rattle.ghs_sched.specs.Runs.{HasRunBy}
@@ -52,9 +51,3 @@ NoTakeMovesIn s = NoTakeMoves (wakers s) (network s.net) (home s)
 -- the event is the next of such a run, and leaves these words
 abbrev pub IsNext : WorldState → List ℕ → Event → List ℕ → Type 0
 IsNext s words e after = (IsLatestIn s e × (after ≡ words)) ⊎ (NoTakeMovesIn s × IsPick (patient_in s) words e × (after ≡ next_of words))
-
--- the next event has happened
-pub record HasMadeNext (old new : WorldState) (words after : List ℕ) : Type 0 where
-  pub event : Event
-  pub next : IsNext old words event after
-  pub made : Makes old event new

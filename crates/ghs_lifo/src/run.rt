@@ -1,19 +1,20 @@
 //! Runs that take first what was sent last.
-ghost use Rattle.ghs_core.specs.NetState.{network};
 ghost use Rattle.ghs_lifo.specs.Kept.{AreLatest};
-ghost use Rattle.ghs_lifo.specs.Runs.{HasMadeNext, HasRun};
+ghost use Rattle.ghs_lifo.specs.Runs.{HasRun, IsNext};
 ghost use Rattle.ghs_patient.specs.Runs.{HasTurns, IsShort};
 ghost use Rattle.ghs_protocol.specs.Marks.{HasEnded};
 ghost use Rattle.ghs_sched.specs.Runs.{EndsFor, IsEnd};
-ghost use Rattle.ghs_world.specs.Steps.{IsSameWorld};
-ghost use Rattle.ghs_world.specs.WorldState.{has_turn, home};
-ghost use Rattle.std.specs.Prelude.{IfErr, IfOk, OnErr, OnOk, [], true, ◌≡◌};
+ghost use Rattle.ghs_world.specs.WorldState.{home};
+ghost use Rattle.std.specs.Prelude.{IfErr, IfOk, OnErr, [], ◌≡◌};
 
 use crate::latest::Latest;
-use ghs_core::net::node_of;
+use ghs_node::delta::Delta;
+use ghs_node::head::Head;
+use ghs_patient::keeping::{Keeper, run_by};
+use ghs_protocol::event::Event;
 use ghs_protocol::interleavings::{law_one_waits, law_patience, law_patience_lasts};
 use ghs_sched::fault::RunFault;
-use ghs_sched::run::{RunEnd, end_of};
+use ghs_sched::run::RunEnd;
 use ghs_sched::schedule::Schedule;
 use ghs_world::world::World;
 use std::alloc::{AllocError, Global};
@@ -49,54 +50,29 @@ pub fn run_lifo(
     law_patience();
     law_patience_lasts();
     let _ = world.net().trace();
-    world.recall_all();
-    if world.ended() {
-        return Ok(end_of(world));
-    }
-    let mut latest = match Latest::of(alloc, world) {
-        Ok(latest) => latest,
-        Err(_) => return Err(RunFault::Memory),
-    };
-    'events: while !world.ended() {
-        if !world.has_turn() {
-            let _ = world.turns();
-            return Err(RunFault::TurnLimit);
-        }
-        match make_next(alloc, world, &mut latest, schedule) {
-            Ok(()) => {}
-            Err(_) => return Err(RunFault::Memory),
-        }
-    }
-    Ok(end_of(world))
+    run_by::<Latest>(alloc, world, schedule)
 }
 
-/// The next event happens. A refusal leaves the world, what is kept of it, and the schedule.
-fn make_next(
-    alloc: Global,
-    world: &mut World,
-    latest: &mut Latest,
-    schedule: &mut Schedule,
-) -> Result<(), AllocError>
-    requires home { world.old.outs ≡ [] }
-    requires going { HasEnded world.old.net.graph (home world.old) → ⊥ }
-    requires turn { has_turn world.old ≡ true }
-    requires latest { AreLatest world.old latest.old }
-    ensures ok { OnOk result (HasMadeNext world.old world.new schedule.old schedule.new) }
-    ensures latest { OnOk result (AreLatest world.new latest.new) }
-    ensures err { OnErr result (IsSameWorld world.old world.new) }
-    ensures word { OnErr result (schedule.new ≡ schedule.old) }
-    ensures kept { OnErr result (latest.new ≡ latest.old) }
-{
-    law_one_waits();
-    law_patience_lasts();
-    let _ = world.net().trace();
-    let _ = world.turns();
-    let mut rest = schedule.copy()?;
-    let event = latest.pick(world, &mut rest);
-    let before = *world.net().node(node_of(event)).head();
-    let delta = world.answer(alloc, event)?;
-    world.make_answered(event, &delta)?;
-    latest.follow(world, event, &before, &delta);
-    *schedule = rest;
-    Ok(())
+/// A schedule that takes first what was sent last keeps which message that is.
+impl Keeper for Latest {
+    ghost can_begin = { λ es. es ≡ [] };
+
+    ghost is_of = { λ s l. AreLatest s l };
+
+    ghost is_next = { λ s words e after. IsNext s words e after };
+
+    fn begin(alloc: Global, world: &World) -> Result<Latest, AllocError> {
+        Latest::of(alloc, world)
+    }
+
+    fn next(&self, world: &World, schedule: &mut Schedule) -> Event {
+        law_one_waits();
+        law_patience_lasts();
+        let _ = world.net().trace();
+        self.pick(world, schedule)
+    }
+
+    fn keep_up(&mut self, world: &World, event: Event, before: &Head, delta: &Delta) {
+        self.follow(world, event, before, delta);
+    }
 }

@@ -21,7 +21,7 @@ use Rattle.ghs_protocol.proofs.lemmas.Runs.{after_is_net, lawful_under}
 use Rattle.ghs_core.specs.NetState.{IsLawful, NetState, net_of, network}
 use Rattle.ghs_core.specs.Waits.{waits}
 use Rattle.ghs_core.proofs.lemmas.Waiting.{waits_so, waits_test}
-use Rattle.ghs_index.specs.Places.{HasPlace, all_events, place}
+use Rattle.ghs_index.specs.Places.{HasPlace, all_events}
 use Rattle.ghs_world.specs.Outs.{Outs, is_out}
 use Rattle.ghs_world.specs.Ready.{is_ready}
 use Rattle.ghs_world.specs.WorldState.{WorldState, home, may_happen, wakers}

@@ -1,4 +1,5 @@
 -- What proofs about schedules above this crate may use.
+pub mod Gone
 pub mod Growing
 pub mod Picked
 pub mod Places

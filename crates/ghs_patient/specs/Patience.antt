@@ -1,5 +1,5 @@
 -- The events that a patient schedule picks from.
-use Rattle.std.specs.Prelude.{ℕ, Bool, true, false, ◌&&◌, not, List, [], ◌∷◌, filter}
+use Rattle.std.specs.Prelude.{ℕ, Bool, false, ◌&&◌, not, List, [], ◌∷◌, filter}
 use Rattle.ghs_node.specs.declared.message.Message.{Message}
 use Rattle.ghs_node.specs.NodeState.{NodeState}
 use Rattle.ghs_protocol.specs.declared.event.Event.{Event}

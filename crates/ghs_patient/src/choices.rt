@@ -4,7 +4,6 @@ ghost use Rattle.std.specs.List.{All};
 ghost use Rattle.ghs_graph.specs.Graph.{IsGraph};
 ghost use Rattle.ghs_graph.specs.Ports.{ports_of};
 ghost use Rattle.ghs_node.specs.declared.message.Message.{Message as Letter};
-ghost use Rattle.ghs_node.specs.Phases.{same_phase};
 ghost use Rattle.ghs_protocol.specs.Network.{network_of, At};
 ghost use Rattle.ghs_core.specs.NetState.{network, net_of, event_node};
 ghost use Rattle.ghs_index.specs.Index.{IsFor, IsIndexOf};
@@ -22,7 +21,7 @@ use ghs_core::waits::waits;
 use ghs_index::index::Index;
 use ghs_node::delta::Delta;
 use ghs_node::head::Head;
-use ghs_node::message::{Message, Phase};
+use ghs_node::message::Message;
 use ghs_sched::schedule::Schedule;
 use ghs_world::world::World;
 use std::alloc::{AllocError, Global};
@@ -189,22 +188,12 @@ fn is_double(net: &Net, event: Event) -> bool
 pub fn are_alike(left: &Head, right: &Head) -> bool
     ensures { result ≡ are_alike left.now right.now }
 {
-    is_same_phase(left.phase, right.phase)
+    left.phase == right.phase
         && left.level.get() == right.level.get()
         && is_same_place(left.in_branch, right.in_branch)
 }
 
-fn is_same_phase(left: Phase, right: Phase) -> bool
-    ensures { result ≡ same_phase left right }
-{
-    match (left, right) {
-        (Phase::Sleeping, Phase::Sleeping) => true,
-        (Phase::Find, Phase::Find) => true,
-        (Phase::Found, Phase::Found) => true,
-        _ => false,
-    }
-}
-
+/// Whether both are the same port, or none. (`==` of two options says this by another definition.)
 fn is_same_place(left: Option<u32>, right: Option<u32>) -> bool
     ensures { result ≡ same_place left right }
 {

@@ -10,4 +10,5 @@
 #![tactic(auto)]
 
 pub mod choices;
+pub mod keeping;
 pub mod run;

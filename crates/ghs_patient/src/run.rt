@@ -1,18 +1,20 @@
 //! Runs that go on patiently, and so end.
-ghost use Rattle.ghs_core.specs.NetState.{network};
 ghost use Rattle.ghs_patient.specs.Choices.{AreChoices};
-ghost use Rattle.ghs_patient.specs.Runs.{HasMadeNext, HasRun, HasTurns, IsShort};
+ghost use Rattle.ghs_patient.specs.Keeping.{IsNextAmong};
+ghost use Rattle.ghs_patient.specs.Runs.{HasRun, HasTurns, IsShort, patient_after};
 ghost use Rattle.ghs_protocol.specs.Marks.{HasEnded};
 ghost use Rattle.ghs_sched.specs.Runs.{EndsFor, IsEnd};
-ghost use Rattle.ghs_world.specs.Steps.{IsSameWorld};
-ghost use Rattle.ghs_world.specs.WorldState.{has_turn, home};
-ghost use Rattle.std.specs.Prelude.{IfErr, IfOk, OnErr, OnOk, [], true, ◌≡◌};
+ghost use Rattle.ghs_world.specs.WorldState.{home};
+ghost use Rattle.std.specs.Prelude.{IfErr, IfOk, OnErr, ◌≡◌};
 
 use crate::choices::Choices;
-use ghs_core::net::node_of;
+use crate::keeping::{Keeper, run_by};
+use ghs_node::delta::Delta;
+use ghs_node::head::Head;
+use ghs_protocol::event::Event;
 use ghs_protocol::interleavings::{law_one_waits, law_patience, law_patience_lasts};
 use ghs_sched::fault::RunFault;
-use ghs_sched::run::{RunEnd, end_of};
+use ghs_sched::run::RunEnd;
 use ghs_sched::schedule::Schedule;
 use ghs_world::world::World;
 use std::alloc::{AllocError, Global};
@@ -44,53 +46,29 @@ pub fn run_patient(
     law_patience();
     law_patience_lasts();
     let _ = world.net().trace();
-    world.recall_all();
-    if world.ended() {
-        return Ok(end_of(world));
-    }
-    let mut choices = match Choices::of(alloc, world) {
-        Ok(choices) => choices,
-        Err(_) => return Err(RunFault::Memory),
-    };
-    'events: while !world.ended() {
-        if !world.has_turn() {
-            let _ = world.turns();
-            return Err(RunFault::TurnLimit);
-        }
-        match make_next(alloc, world, &mut choices, schedule) {
-            Ok(()) => {}
-            Err(_) => return Err(RunFault::Memory),
-        }
-    }
-    Ok(end_of(world))
+    run_by::<Choices>(alloc, world, schedule)
 }
 
-/// The next word picks an event, and it happens. A refusal leaves the world, the choices and the word.
-fn make_next(
-    alloc: Global,
-    world: &mut World,
-    choices: &mut Choices,
-    schedule: &mut Schedule,
-) -> Result<(), AllocError>
-    requires home { world.old.outs ≡ [] }
-    requires going { HasEnded world.old.net.graph (home world.old) → ⊥ }
-    requires turn { has_turn world.old ≡ true }
-    requires choices { AreChoices world.old choices.old }
-    ensures ok { OnOk result (HasMadeNext world.old world.new schedule.old schedule.new) }
-    ensures choices { OnOk result (AreChoices world.new choices.new) }
-    ensures err { OnErr result (IsSameWorld world.old world.new) }
-    ensures word { OnErr result (schedule.new ≡ schedule.old) }
-    ensures kept { OnErr result (choices.new ≡ choices.old) }
-{
-    law_one_waits();
-    law_patience_lasts();
-    let _ = world.net().trace();
-    let mut rest = schedule.copy()?;
-    let event = choices.pick(world, &mut rest);
-    let before = *world.net().node(node_of(event)).head();
-    let delta = world.answer(alloc, event)?;
-    world.make_answered(event, &delta)?;
-    choices.follow(world, event, &before, &delta);
-    *schedule = rest;
-    Ok(())
+/// A patient schedule keeps its choices.
+impl Keeper for Choices {
+    ghost can_begin = { λ es. Unit {0} };
+
+    ghost is_of = { λ s c. AreChoices s c };
+
+    ghost is_next = { λ s words e after. IsNextAmong patient_after s words e after };
+
+    fn begin(alloc: Global, world: &World) -> Result<Choices, AllocError> {
+        Choices::of(alloc, world)
+    }
+
+    fn next(&self, world: &World, schedule: &mut Schedule) -> Event {
+        law_one_waits();
+        law_patience_lasts();
+        let _ = world.net().trace();
+        self.pick(world, schedule)
+    }
+
+    fn keep_up(&mut self, world: &World, event: Event, before: &Head, delta: &Delta) {
+        self.follow(world, event, before, delta);
+    }
 }

@@ -6,10 +6,8 @@ use Rattle.ghs_graph.specs.Graph.{IsGraph, Shape}
 use Rattle.ghs_protocol.specs.declared.event.Event.{Event}
 use Rattle.ghs_protocol.specs.Marks.{HasEnded}
 use Rattle.ghs_protocol.specs.Run.{net_after}
-use Rattle.ghs_sched.specs.Picks as picks
-use Rattle.ghs_sched.specs.Picks.{IsPicked, IsSeededRun}
-use Rattle.ghs_sched.specs.Runs as sched
-use Rattle.ghs_sched.specs.Runs.{EndsFor, IsEnd, IsWhole}
+use Rattle.ghs_sched.specs.Picks.{IsPickedAmong, IsSeededRun, Offers}
+use Rattle.ghs_sched.specs.Runs.{EndsFor, HasRunAmong, HasRunBy, IsEnd, IsWhole}
 use Rattle.ghs_sched.specs.Schedule.{seeded}
 use Rattle.ghs_sched.specs.declared.fault.RunFault.{RunFault}
 use Rattle.ghs_sched.specs.declared.fault.RunFault.TheVariants.{TurnLimit, Stalled, Unforeseen, Memory}
@@ -17,6 +15,7 @@ use Rattle.ghs_sched.specs.declared.run.RunEnd.{RunEnd}
 use Rattle.ghs_sched.specs.declared.run.RunEnd.TheVariants.{Halted}
 use Rattle.ghs_world.specs.WorldState.{WorldState, home, wakers}
 use Rattle.ghs_world.proofs.lemmas.Waking.{each_is_woken}
+use Rattle.ghs_sched.proofs.lemmas.Runs.{picked_within}
 use Rattle.ghs_patient.specs.Runs as patient
 use Rattle.ghs_patient.specs.Runs.{HasTurns, IsPatientlyPicked, IsShort}
 use Rattle.ghs_rounds.specs.Laws.{RoundsAreChains, RoundsAreFew, RunsByRoundsAreShort, RunsByRoundsEnd}
@@ -29,22 +28,6 @@ use Rattle.ghs_lifo.specs.Runs.{IsPickedLast}
 use Rattle.ghs_picking.specs.Picking.{HasTurnsFor, IsByRounds, IsInRounds, IsLast, IsPatient, IsSeeded, IsWaiting, StopsFor}
 
 -- what a schedule picks stays within the turns
-few_seeded : (may : ℕ → Bool) (g : Shape) (turns : ℕ) (trace : List Event) (words : List ℕ) (es : List Event) (s : List ℕ) →
-    IsPicked may g turns trace words es s →
-    length trace ≤ turns →
-    length es ≤ turns
-few_seeded may g turns trace words _ _ picks.Begun few = few
-few_seeded may g turns trace words _ _ (picks.Picked es s e before goes less pick) few =
-    let more : length (es ++ e ∷ []) ≡ length es + 1 = length_push es e in omega (arith, more, less)
-
-few_patient : (may : ℕ → Bool) (g : Shape) (turns : ℕ) (trace : List Event) (words : List ℕ) (es : List Event) (s : List ℕ) →
-    IsPatientlyPicked may g turns trace words es s →
-    length trace ≤ turns →
-    length es ≤ turns
-few_patient may g turns trace words _ _ patient.Begun few = few
-few_patient may g turns trace words _ _ (patient.Picked es s e before goes less pick) few =
-    let more : length (es ++ e ∷ []) ≡ length es + 1 = length_push es e in omega (arith, more, less)
-
 few_by_rounds : (may : ℕ → Bool) (g : Shape) (turns : ℕ) (words : List ℕ) (es : List Event) (r : ℕ) (s : List ℕ) →
     IsPickedByRounds may g turns words es r s →
     length es ≤ turns
@@ -52,14 +35,6 @@ few_by_rounds may g turns words _ _ _ by_rounds.Begun = omega arith
 few_by_rounds may g turns words _ _ _ (by_rounds.Picked es r s e before goes less pick) =
     let more : length (es ++ e ∷ []) ≡ length es + 1 = length_push es e in omega (arith, more, less)
 few_by_rounds may g turns words _ _ _ (by_rounds.Over es r s before goes less none) = omega (arith, less)
-
-few_waiting : (may : ℕ → Bool) (g : Shape) (turns : ℕ) (trace : List Event) (words : List ℕ) (es : List Event) (s : List ℕ) →
-    IsPickedWaiting may g turns trace words es s →
-    length trace ≤ turns →
-    length es ≤ turns
-few_waiting may g turns trace words _ _ waits.Begun few = few
-few_waiting may g turns trace words _ _ (waits.Picked es s e before goes less pick) few =
-    let more : length (es ++ e ∷ []) ≡ length es + 1 = length_push es e in omega (arith, more, less)
 
 few_last : (may : ℕ → Bool) (g : Shape) (turns : ℕ) (trace : List Event) (words : List ℕ) (es : List Event) (s : List ℕ) →
     IsPickedLast may g turns trace words es s →
@@ -78,31 +53,31 @@ pub record HasGoneOn (old new : WorldState) : Type 0 where
   pub turns : new.turns ≡ old.turns
   pub numbers : new.last < 2 ^ 64 - 1
 
-pub gone_seeded : (old new : WorldState) (words after : List ℕ) (limit : ℕ) →
+pub gone_on : (leads : List Event → List ℕ → Type 0) (old new : WorldState) (after : List ℕ) (limit : ℕ) →
     old.net.trace ≡ [] →
     old.last ≡ 0 →
     limit ≡ old.turns →
     limit ≤ 2 ^ 40 →
-    sched.HasRun old new words after →
+    HasRunBy leads old new after →
+    length new.net.trace ≤ old.turns →
     HasGoneOn old new
-gone_seeded old new words after limit none first is few ran =
+gone_on leads old new after limit none first is few ran most =
     let nothing : length old.net.trace ≡ 0 = ap length none in
     let numbers = ran.numbers in
-    let most : length new.net.trace ≤ old.turns = few_seeded _ _ _ _ _ _ _ ran.picked (omega (arith, nothing)) in
     record { none = none; graph = ran.graph; turns = ran.turns; numbers = omega (arith, numbers, nothing, first, most, is, few) }
 
-pub gone_patient : (old new : WorldState) (words after : List ℕ) (limit : ℕ) →
+-- whatever events are offered
+pub gone_among : (offers : Offers) (old new : WorldState) (words after : List ℕ) (limit : ℕ) →
     old.net.trace ≡ [] →
     old.last ≡ 0 →
     limit ≡ old.turns →
     limit ≤ 2 ^ 40 →
-    patient.HasRun old new words after →
+    HasRunAmong offers old new words after →
     HasGoneOn old new
-gone_patient old new words after limit none first is few ran =
+gone_among offers old new words after limit none first is few ran =
     let nothing : length old.net.trace ≡ 0 = ap length none in
-    let numbers = ran.numbers in
-    let most : length new.net.trace ≤ old.turns = few_patient _ _ _ _ _ _ _ ran.picked (omega (arith, nothing)) in
-    record { none = none; graph = ran.graph; turns = ran.turns; numbers = omega (arith, numbers, nothing, first, most, is, few) }
+    gone_on (IsPickedAmong offers (wakers old) old.net.graph old.turns old.net.trace words) old new after limit none first is few ran
+    (picked_within offers (wakers old) old.net.graph old.turns old.net.trace words new.net.trace after ran.picked (omega (arith, nothing)))
 
 pub gone_by_rounds : (old new : WorldState) (words after : List ℕ) (limit rounds : ℕ) →
     old.net.trace ≡ [] →
@@ -116,19 +91,6 @@ gone_by_rounds old new words after limit rounds none first is few ran =
     let most : length new.net.trace ≤ old.turns = few_by_rounds _ _ _ _ _ _ _ ran.picked in
     record { none = none; graph = ran.graph; turns = ran.turns; numbers = omega (arith, numbers, first, most, is, few) }
 
-pub gone_waiting : (old new : WorldState) (words after : List ℕ) (limit : ℕ) →
-    old.net.trace ≡ [] →
-    old.last ≡ 0 →
-    limit ≡ old.turns →
-    limit ≤ 2 ^ 40 →
-    waits.HasRun old new words after →
-    HasGoneOn old new
-gone_waiting old new words after limit none first is few ran =
-    let nothing : length old.net.trace ≡ 0 = ap length none in
-    let numbers = ran.numbers in
-    let most : length new.net.trace ≤ old.turns = few_waiting _ _ _ _ _ _ _ ran.picked (omega (arith, nothing)) in
-    record { none = none; graph = ran.graph; turns = ran.turns; numbers = omega (arith, numbers, nothing, first, most, is, few) }
-
 pub gone_last : (old new : WorldState) (words after : List ℕ) (limit : ℕ) →
     old.net.trace ≡ [] →
     old.last ≡ 0 →
@@ -138,9 +100,8 @@ pub gone_last : (old new : WorldState) (words after : List ℕ) (limit : ℕ) �
     HasGoneOn old new
 gone_last old new words after limit none first is few ran =
     let nothing : length old.net.trace ≡ 0 = ap length none in
-    let numbers = ran.numbers in
-    let most : length new.net.trace ≤ old.turns = few_last _ _ _ _ _ _ _ ran.picked (omega (arith, nothing)) in
-    record { none = none; graph = ran.graph; turns = ran.turns; numbers = omega (arith, numbers, nothing, first, most, is, few) }
+    gone_on (lifo.IsPickedFrom old words) old new after limit none first is few ran
+    (few_last _ _ _ _ _ _ _ ran.picked (omega (arith, nothing)))
 
 -- with a number left, it is the turns that are used
 pub stops_for : (old new : WorldState) (r : Result RunEnd RunFault) → HasGoneOn old new → IfErr r (λ f. EndsFor new f) → IfErr r (λ f. StopsFor new f)
@@ -195,6 +156,16 @@ is_patient seed old new words after begun gone ran short over ends = record {
 pub has_ended : (g : Shape) (new : WorldState) (e : RunEnd) → new.net.graph ≡ g → IsEnd new e → HasEnded g (net_after g new.net.trace)
 has_ended g new (Halted v) same end = subst (λ (s : Shape). HasEnded s (net_after s new.net.trace)) same end.0
 
+-- a run of at most so many events that is over at its end
+on_ok_short : (Is : Type 0) (old new : WorldState) (r : Result RunEnd RunFault) →
+    HasGoneOn old new →
+    IfOk r (λ e. IsEnd new e) →
+    (HasEnded old.net.graph (net_after old.net.graph new.net.trace) ⊎ (old.turns ≤ length new.net.trace) →
+    (HasTurnsFor old.net.graph old.turns → HasEnded old.net.graph (net_after old.net.graph new.net.trace)) → Is) →
+    OnOk r Is
+on_ok_short Is old new (Ok e) gone end is = let ended = has_ended old.net.graph new e gone.graph end in is (inl ended) (λ _. ended)
+on_ok_short Is old new (Err f) gone end is = tt
+
 pub on_ok_patient : (seed : ℕ) (old new : WorldState) (words after : List ℕ) (r : Result RunEnd RunFault) →
     words ≡ seeded seed →
     HasGoneOn old new →
@@ -202,9 +173,8 @@ pub on_ok_patient : (seed : ℕ) (old new : WorldState) (words after : List ℕ)
     IsShort old new →
     IfOk r (λ e. IsEnd new e) →
     OnOk r (IsPatient seed old.wake old.turns old.net.graph new.net.trace)
-on_ok_patient seed old new words after (Ok e) begun gone ran short end =
-    let ended = has_ended old.net.graph new e gone.graph end in is_patient seed old new words after begun gone ran short (inl ended) (λ _. ended)
-on_ok_patient seed old new words after (Err f) begun gone ran short end = tt
+on_ok_patient seed old new words after r begun gone ran short end =
+    on_ok_short _ old new r gone end (is_patient seed old new words after begun gone ran short)
 
 -- turns for all its events are enough for the world
 has_turns : (old new : WorldState) (limit : ℕ) → HasGoneOn old new → old.last ≡ 0 → limit ≡ old.turns → limit ≤ 2 ^ 40 →
@@ -215,6 +185,24 @@ has_turns old new limit gone first is few has = record {
   turns = let nothing : length old.net.trace ≡ 0 = ap length gone.none in let enough = has.enough in omega (arith, nothing, enough);
   numbers = let enough = has.enough in omega (arith, enough, few, is, first);
 }
+
+-- or at its last turn
+at_limit_short : (Is : Type 0) (old new : WorldState) (limit : ℕ) (r : Result RunEnd RunFault) →
+    HasGoneOn old new →
+    old.last ≡ 0 →
+    limit ≡ old.turns →
+    limit ≤ 2 ^ 40 →
+    IfErr r (λ f. EndsFor new f) →
+    (HasTurns old → r ≡ Err TurnLimit → ⊥) →
+    (HasEnded old.net.graph (net_after old.net.graph new.net.trace) ⊎ (old.turns ≤ length new.net.trace) →
+    (HasTurnsFor old.net.graph old.turns → HasEnded old.net.graph (net_after old.net.graph new.net.trace)) → Is) →
+    r ≡ Err TurnLimit →
+    Is
+at_limit_short Is old new limit r gone first same few ends surely is at_limit =
+    let used : StopsFor new TurnLimit =
+    subst (λ (x : Result RunEnd RunFault). IfErr x (λ f. StopsFor new f)) at_limit (stops_for old new r gone ends) in
+    let turns = gone.turns in
+    is (inr (omega (arith, used, turns))) (λ has. absurd (surely (has_turns old new limit gone first same few has) at_limit))
 
 pub at_limit_patient : (seed : ℕ) (old new : WorldState) (words after : List ℕ) (limit : ℕ) (r : Result RunEnd RunFault) →
     words ≡ seeded seed →
@@ -229,11 +217,7 @@ pub at_limit_patient : (seed : ℕ) (old new : WorldState) (words after : List �
     r ≡ Err TurnLimit →
     IsPatient seed old.wake old.turns old.net.graph new.net.trace
 at_limit_patient seed old new words after limit r begun gone first is few ran short ends surely at_limit =
-    let used : StopsFor new TurnLimit =
-    subst (λ (x : Result RunEnd RunFault). IfErr x (λ f. StopsFor new f)) at_limit (stops_for old new r gone ends) in
-    let turns = gone.turns in
-    is_patient seed old new words after begun gone ran short (inr (omega (arith, used, turns)))
-    (λ has. absurd (surely (has_turns old new limit gone first is few has) at_limit))
+    at_limit_short _ old new limit r gone first is few ends surely (is_patient seed old new words after begun gone ran short) at_limit
 
 -- What holds of every run by rounds.
 pub record Laws : Type 0 where
@@ -375,9 +359,8 @@ pub on_ok_last : (seed : ℕ) (old new : WorldState) (words after : List ℕ) (r
     IsShort old new →
     IfOk r (λ e. IsEnd new e) →
     OnOk r (IsLast seed old.wake old.turns old.net.graph new.net.trace)
-on_ok_last seed old new words after (Ok e) begun gone ran short end =
-    let ended = has_ended old.net.graph new e gone.graph end in is_last seed old new words after begun gone ran short (inl ended) (λ _. ended)
-on_ok_last seed old new words after (Err f) begun gone ran short end = tt
+on_ok_last seed old new words after r begun gone ran short end =
+    on_ok_short _ old new r gone end (is_last seed old new words after begun gone ran short)
 
 pub at_limit_last : (seed : ℕ) (old new : WorldState) (words after : List ℕ) (limit : ℕ) (r : Result RunEnd RunFault) →
     words ≡ seeded seed →
@@ -392,8 +375,4 @@ pub at_limit_last : (seed : ℕ) (old new : WorldState) (words after : List ℕ)
     r ≡ Err TurnLimit →
     IsLast seed old.wake old.turns old.net.graph new.net.trace
 at_limit_last seed old new words after limit r begun gone first is few ran short ends surely at_limit =
-    let used : StopsFor new TurnLimit =
-    subst (λ (x : Result RunEnd RunFault). IfErr x (λ f. StopsFor new f)) at_limit (stops_for old new r gone ends) in
-    let turns = gone.turns in
-    is_last seed old new words after begun gone ran short (inr (omega (arith, used, turns)))
-    (λ has. absurd (surely (has_turns old new limit gone first is few has) at_limit))
+    at_limit_short _ old new limit r gone first is few ends surely (is_last seed old new words after begun gone ran short) at_limit

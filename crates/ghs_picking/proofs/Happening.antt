@@ -1,22 +1,18 @@
 -- Events that happen while chains follow them.
-use Rattle.std.proofs.Common.{◌≡◌, ◌≤◌, ◌<◌, ◌+◌, ◌^◌, ℕ, true, ◌-◌, Option, Some, List, [], length, sym, ◌∙◌, ap, subst, arith}
+use Rattle.std.proofs.Common.{◌≡◌, ◌≤◌, ◌<◌, ◌+◌, ◌^◌, ℕ, true, Option, Some, [], length, sym, ◌∙◌, ap, subst, arith}
 use Rattle.std.specs.Prelude.{IfOk, Result, Ok, Err}
 use Rattle.std.proofs.lemmas.Option.{same_Some}
 use Rattle.ghs_graph.specs.Graph.{Shape}
 use Rattle.ghs_protocol.specs.Network.{network_of}
-use Rattle.ghs_patient.specs.Runs as patient
-use Rattle.ghs_patient.specs.Runs.{HasTurns, IsShort}
-use Rattle.ghs_sched.specs.Runs as sched
-use Rattle.ghs_sched.specs.Runs.{EndsFor, IsEnd, IsWhole}
-use Rattle.ghs_sched.specs.Schedule.{seeded}
+use Rattle.ghs_sched.specs.Runs.{IsEnd}
 use Rattle.ghs_sched.specs.declared.fault.RunFault.{RunFault}
 use Rattle.ghs_sched.specs.declared.fault.RunFault.TheVariants.{TurnLimit, Memory}
 use Rattle.ghs_sched.specs.declared.run.RunEnd.{RunEnd}
 use Rattle.ghs_world.specs.declared.wake_set.WakeSet.{WakeSet}
 use Rattle.ghs_chain.specs.Chains.{longest_chain, no_chains}
-use Rattle.ghs_picking.specs.Picking.{AreRounds, IsPatient, IsSeeded}
+use Rattle.ghs_picking.specs.Picking.{AreRounds}
 use Rattle.ghs_picking.specs.declared.picking.ScheduleKind.TheVariants.{Rounds}
-use Rattle.ghs_picking.proofs.BySeed.{HasGoneOn, at_limit_patient, gone_patient, gone_seeded, has_ended, is_seeded, on_ok_patient}
+use Rattle.ghs_picking.proofs.BySeed.{has_ended}
 use Rattle.std.proofs.lemmas.Bool.{and_parts, ltb-true}
 use Rattle.ghs_protocol.specs.declared.event.Event.{Event}
 use Rattle.ghs_core.specs.NetState.{network}
@@ -51,40 +47,6 @@ ended_well e h = cc
 
 pub stopped_well : (f : RunFault) → f ≡ TurnLimit → ◌≡◌ {A = Result RunEnd RunFault} (Err f) (Err Memory) → ⊥
 stopped_well f limit h = let z : ◌≡◌ {A = Result RunEnd RunFault} (Err TurnLimit) (Err Memory) = sym (ap Err limit) ∙ h in cc
-
--- A run of a world from which all was recalled: home is that world, at its opening.
-module _ (seed limit : ℕ) (old home new : WorldState) (words after : List ℕ) (same : home ≡ record old { outs = [] }) (none : old.net.trace ≡ [])
-    (first : old.last ≡ 0) (is : limit ≡ old.turns) (few : limit ≤ 2 ^ 40) (begun : words ≡ seeded seed) where
-  now : WorldState
-  now = record old { outs = [] }
-
-  -- the seeded run is the seed's, where it is whole
-  pub seeded_run : sched.HasRun home new words after → (new.last < 2 ^ 64 - 1 → IsWhole home new words after) →
-      IsSeeded seed old.wake old.turns old.net.graph new.net.trace
-  unfolding now
-  seeded_run ran whole =
-      let gone : HasGoneOn now new =
-      gone_seeded now new words after limit none first is few (subst (λ (s : WorldState). sched.HasRun s new words after) same ran) in
-      is_seeded seed now new words after begun gone (subst (λ (s : WorldState). IsWhole s new words after) same (whole gone.numbers))
-
-  -- the patient run is the seed's, where it has ended
-  pub patient_end : (e : RunEnd) → patient.HasRun home new words after → IsShort home new → IsEnd new e →
-      IsPatient seed old.wake old.turns old.net.graph new.net.trace
-  unfolding now
-  patient_end e ran short end =
-      let run = subst (λ (s : WorldState). patient.HasRun s new words after) same ran in
-      let gone : HasGoneOn now new = gone_patient now new words after limit none first is few run in
-      on_ok_patient seed now new words after (Ok e) begun gone run (subst (λ (s : WorldState). IsShort s new) same short) end
-
-  -- or its turns were used
-  pub patient_limit : (f : RunFault) → f ≡ TurnLimit → patient.HasRun home new words after → IsShort home new → EndsFor new f →
-      (HasTurns home → ◌≡◌ {A = Result RunEnd RunFault} (Err f) (Err TurnLimit) → ⊥) → IsPatient seed old.wake old.turns old.net.graph new.net.trace
-  unfolding now
-  patient_limit f at_limit ran short ends surely =
-      let run = subst (λ (s : WorldState). patient.HasRun s new words after) same ran in
-      let gone : HasGoneOn now new = gone_patient now new words after limit none first is few run in
-      at_limit_patient seed now new words after limit (Err f) begun gone first is few run (subst (λ (s : WorldState). IsShort s new) same short) ends
-      (subst (λ (s : WorldState). HasTurns s → ◌≡◌ {A = Result RunEnd RunFault} (Err f) (Err TurnLimit) → ⊥) same surely) (ap Err at_limit)
 
 -- no chain has begun at the opening
 pub opened_chains : (old home : WorldState) (g : Shape) (k : Kept) → home ≡ record old { outs = [] } → old.net.trace ≡ [] →

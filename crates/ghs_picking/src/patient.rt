@@ -1,10 +1,10 @@
 //! Patient runs whose chains are kept from event to event.
 ghost use Rattle.ghs_chain.specs.Kept.{AreChains};
 ghost use Rattle.ghs_core.specs.NetState.{network};
-ghost use Rattle.ghs_patient.specs.Choices.{AreChoices};
-ghost use Rattle.ghs_patient.specs.Runs.{HasMadeNext, HasRun, HasTurns, IsShort};
+ghost use Rattle.ghs_patient.specs.Choices.{AreChoices, patient_in};
+ghost use Rattle.ghs_patient.specs.Runs.{HasRun, HasTurns, IsShort};
 ghost use Rattle.ghs_protocol.specs.Marks.{HasEnded};
-ghost use Rattle.ghs_sched.specs.Runs.{EndsFor, IsEnd};
+ghost use Rattle.ghs_sched.specs.Runs.{EndsFor, HasMadeOneOf, IsEnd};
 ghost use Rattle.ghs_world.specs.Steps.{IsSameWorld};
 ghost use Rattle.ghs_world.specs.WorldState.{has_turn, home};
 ghost use Rattle.std.specs.Prelude.{IfErr, IfOk, OnErr, OnOk, [], true, ◌≡◌};
@@ -71,7 +71,7 @@ fn make_next(
     requires turn { has_turn world.old ≡ true }
     requires choices { AreChoices world.old choices.old }
     requires chains { AreChains world.old.net chains.old }
-    ensures ok { OnOk result (HasMadeNext world.old world.new schedule.old schedule.new) }
+    ensures ok { OnOk result (HasMadeOneOf (patient_in world.old) world.old world.new schedule.old schedule.new) }
     ensures choices { OnOk result (AreChoices world.new choices.new) }
     ensures chains { OnOk result (AreChains world.new.net chains.new) }
     ensures err { OnErr result (IsSameWorld world.old world.new) }

@@ -13,13 +13,10 @@ use Rattle.ghs_protocol.specs.Run.{net_after}
 use Rattle.ghs_core.specs.NetState.{network}
 use Rattle.ghs_world.specs.Ready.{all_events, is_ready, ready_events}
 use Rattle.ghs_world.specs.Steps.{IsSameWorld, Makes}
-use Rattle.ghs_world.specs.declared.wake_set.WakeSet.{WakeSet}
-use Rattle.ghs_world.specs.Wakes.{may_wake}
 use Rattle.ghs_world.specs.WorldState.{WorldState, has_turn, home, wakers}
-use Rattle.ghs_sched.specs.Picks.{Begun, IsPick, Picked, lawful_events}
-use Rattle.ghs_sched.specs.Runs.{HasMadeNext, HasRun, IsPickedFrom, IsWhole}
+use Rattle.ghs_sched.specs.Picks.{IsPicked, lawful_events}
+use Rattle.ghs_sched.specs.Runs.{HasMadeNext, HasMadeOneOf, HasRun, IsWhole}
 use Rattle.ghs_sched.specs.Schedule.{next_of, word_of}
-use Rattle.ghs_sched.proofs.lemmas.Runs.{still_going, turn_left}
 use Rattle.ghs_sched.proofs.lemmas.Runs as runs
 
 -- with nothing out, what is ready is what is lawful
@@ -28,7 +25,7 @@ ready_is_lawful s e = rw e refl
 
 -- it begins with nothing out
 pub run_begins : (s t : WorldState) (words : List ℕ) → t ≡ record s { outs = [] } → HasRun s t words words
-run_begins s t words e = runs.run_begins (IsPickedFrom s words) s t words Begun e
+run_begins s t words e = runs.among_begins lawful_events s t words e
 
 -- one event more
 pub run_more : (old s new : WorldState) (words used after : List ℕ) →
@@ -38,13 +35,8 @@ pub run_more : (old s new : WorldState) (words used after : List ℕ) →
     HasMadeNext s new used after →
     HasRun old new words after
 run_more old s new words used after run going turn next =
-    let same : ready_events s ≡ lawful_events (wakers old) old.net.graph s.net.trace =
-    ready_is_lawful s run.outs
-    ∙ ap (λ (w : WakeSet). lawful_events (may_wake s.net.graph w) s.net.graph s.net.trace) run.wake
-    ∙ ap (λ (g : Shape). lawful_events (may_wake g old.wake) g s.net.trace) run.graph in
-    runs.run_more (IsPickedFrom old words) old s new used after next.event run next.made
-    (rw next.rest (Picked s.net.trace used next.event run.picked (still_going old s run.graph going) (turn_left old s run.turns turn)
-    (subst (λ es. IsPick es used next.event) same next.pick)))
+    runs.among_more lawful_events old s new words used after run going turn
+    (subst (λ (es : List Event). HasMadeOneOf es s new used after) (ready_is_lawful s run.outs) next)
 
 -- a refusal of memory leaves the run as it was
 pub run_stays : (old s new : WorldState) (words used : List ℕ) →
@@ -52,7 +44,7 @@ pub run_stays : (old s new : WorldState) (words used : List ℕ) →
     IsSameWorld s new →
     HasRun old new words used
 run_stays old s new words used run same =
-    runs.run_stays (IsPickedFrom old words) old s new used run same
+    runs.run_stays (IsPicked (wakers old) old.net.graph old.turns old.net.trace words) old s new used run same
 
 -- what is picked of the events that are ready is ready
 pub pick_is_ready : (s : WorldState) (k : ℕ) (e : Event) → slice_get (ready_events s) k ≡ Some e → is_ready s e ≡ true

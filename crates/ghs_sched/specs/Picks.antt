@@ -17,13 +17,22 @@ lawful_events may g es = filter (is_lawful_under may (network_of g) (net_after g
 abbrev pub IsPick : List Event → List ℕ → Event → Type 0
 IsPick events words e = (0 < length events) × (slice_get events (word_of words % length events) ≡ Some e)
 
+-- which events a schedule picks from after a trace
+abbrev pub Offers : Type 0
+Offers = (ℕ → Bool) → Shape → List Event → List Event
+
 -- A schedule has picked the events by which a trace has grown, and has this state then: each where the run hadn't ended and turns were left,
--- of the events that were lawful there.
-pub data IsPicked (may : ℕ → Bool) (g : Shape) (turns : ℕ) (trace : List Event) (words : List ℕ) : List Event → List ℕ → Type 0 where
-  Begun : IsPicked may g turns trace words trace words
-  Picked : (es : List Event) (s : List ℕ) (e : Event) → IsPicked may g turns trace words es s →
-      (HasEnded g (net_after g es) → ⊥) → length es < turns → IsPick (lawful_events may g es) s e →
-      IsPicked may g turns trace words (es ++ e ∷ []) (next_of s)
+-- of the events that were offered there.
+pub data IsPickedAmong (offers : Offers) (may : ℕ → Bool) (g : Shape) (turns : ℕ) (trace : List Event) (words : List ℕ)
+    : List Event → List ℕ → Type 0 where
+  Begun : IsPickedAmong offers may g turns trace words trace words
+  Picked : (es : List Event) (s : List ℕ) (e : Event) → IsPickedAmong offers may g turns trace words es s →
+      (HasEnded g (net_after g es) → ⊥) → length es < turns → IsPick (offers may g es) s e →
+      IsPickedAmong offers may g turns trace words (es ++ e ∷ []) (next_of s)
+
+-- it has picked each of the events that were lawful there
+abbrev pub IsPicked : (ℕ → Bool) → Shape → ℕ → List Event → List ℕ → List Event → List ℕ → Type 0
+IsPicked may g turns trace words es s = IsPickedAmong lawful_events may g turns trace words es s
 
 -- nothing more is picked: the run has ended, no turn is left, or no event is lawful
 abbrev pub IsOver : (ℕ → Bool) → Shape → ℕ → List Event → Type 0

@@ -6,7 +6,7 @@ use Rattle.ghs_core.specs.NetState.{IsLeastHalted, network}
 use Rattle.ghs_world.specs.Ready.{ready_events}
 use Rattle.ghs_world.specs.Steps.{Makes}
 use Rattle.ghs_world.specs.WorldState.{WorldState, home, wakers}
-use Rattle.ghs_sched.specs.Picks.{IsPick, IsPicked, IsSeededRun}
+use Rattle.ghs_sched.specs.Picks.{IsPick, IsPickedAmong, IsSeededRun, Offers, lawful_events}
 use Rattle.ghs_sched.specs.Schedule.{next_of}
 use Rattle.ghs_sched.specs.declared.fault.RunFault.{RunFault}
 use Rattle.ghs_sched.specs.declared.fault.RunFault.TheVariants.{TurnLimit, Stalled, Unforeseen, Memory}
@@ -23,13 +23,13 @@ pub record HasRunBy (leads : List Event → List ℕ → Type 0) (old new : Worl
   pub numbers : new.last + length old.net.trace ≡ old.last + length new.net.trace
   pub picked : leads new.net.trace after
 
--- a schedule has picked lawful events, from a world on
-abbrev pub IsPickedFrom : WorldState → List ℕ → List Event → List ℕ → Type 0
-IsPickedFrom old words es after = IsPicked (wakers old) old.net.graph old.turns old.net.trace words es after
+-- a world has run on by a schedule among the events that are offered
+abbrev pub HasRunAmong : Offers → WorldState → WorldState → List ℕ → List ℕ → Type 0
+HasRunAmong offers old new words after = HasRunBy (IsPickedAmong offers (wakers old) old.net.graph old.turns old.net.trace words) old new after
 
--- a world has run on by a schedule among all events
+-- among all events
 abbrev pub HasRun : WorldState → WorldState → List ℕ → List ℕ → Type 0
-HasRun old new words after = HasRunBy (IsPickedFrom old words) old new after
+HasRun old new words after = HasRunAmong lawful_events old new words after
 
 -- the trace is the whole seeded run
 abbrev pub IsWhole : WorldState → WorldState → List ℕ → List ℕ → Type 0
@@ -46,9 +46,13 @@ EndsFor s Stalled = ⊥
 EndsFor s Unforeseen = ⊥
 EndsFor s Memory = Unit {0}
 
--- the next word has picked one of the events that were ready, and it has happened
-pub record HasMadeNext (old new : WorldState) (words after : List ℕ) : Type 0 where
+-- the next word has picked one of these events, and it has happened
+pub record HasMadeOneOf (events : List Event) (old new : WorldState) (words after : List ℕ) : Type 0 where
   pub event : Event
-  pub pick : IsPick (ready_events old) words event
+  pub pick : IsPick events words event
   pub made : Makes old event new
   pub rest : after ≡ next_of words
+
+-- one of the events that were ready
+abbrev pub HasMadeNext : WorldState → WorldState → List ℕ → List ℕ → Type 0
+HasMadeNext old new words after = HasMadeOneOf (ready_events old) old new words after

@@ -1,5 +1,4 @@
 -- Serves the proofs: nothing here has to be believed.
 mod Marking
 mod Picks
-mod Running
 mod Stirring

@@ -1,5 +1,5 @@
 -- What such a schedule picks is lawful.
-use Rattle.std.proofs.Common.{◌≡◌, ℕ, ◌<◌, ◌≤◌, ◌%◌, Bool, true, not, Some, List, [], ◌∷◌, filter, length, slice_get, arith, ap, subst, inl, inr, ◌⊎◌, refl, sym, ◌∙◌}
+use Rattle.std.proofs.Common.{◌≡◌, ℕ, ◌<◌, ◌%◌, Bool, true, not, Some, List, [], ◌∷◌, filter, length, slice_get, arith, ap, subst, inl, inr, ◌⊎◌, refl, sym, ◌∙◌}
 use Rattle.std.specs.List.{Contains}
 use Rattle.std.proofs.lemmas.Bool.{and_from}
 use Rattle.ghs_graph.proofs.lemmas.Members.{in_filter}
@@ -8,9 +8,8 @@ use Rattle.ghs_protocol.specs.declared.event.Event.TheVariants.{Wake, Take}
 use Rattle.ghs_protocol.specs.Network.{Network}
 use Rattle.ghs_protocol.specs.Net.{Net, event_node, is_lawful_under, is_port, is_waiting}
 use Rattle.ghs_protocol.proofs.lemmas.Events.{is_port_of}
-use Rattle.ghs_protocol.proofs.lemmas.Runs.{lawful_under}
-use Rattle.ghs_core.specs.NetState.{IsLawful, network}
-use Rattle.ghs_index.specs.Places.{HasPlace, all_events}
+use Rattle.ghs_core.specs.NetState.{network}
+use Rattle.ghs_index.specs.Places.{all_events}
 use Rattle.ghs_world.specs.Outs.{Outs, is_out}
 use Rattle.ghs_world.specs.Ready.{is_ready, ready_events}
 use Rattle.ghs_world.specs.WorldState.{WorldState, home, may_happen, wakers}
@@ -18,7 +17,7 @@ use Rattle.ghs_sched.specs.Picks.{IsPick}
 use Rattle.ghs_sched.specs.Schedule.{word_of}
 use Rattle.ghs_patient.specs.Patience.{or_else, puts_back}
 use Rattle.ghs_patient.proofs.lemmas.Picked.{first_there, in_either, picked_in}
-use Rattle.ghs_patient.proofs.lemmas.Places.{lawful_place, own_node, placed_of}
+use Rattle.ghs_patient.proofs.lemmas.Places.{placed_of}
 use Rattle.ghs_waits.specs.Waiting.{waiting_events, waiting_in}
 
 module _ (may : ℕ → Bool) (g : Network) (w : Net) where
@@ -55,23 +54,8 @@ picked_of_all s words count n k e out many none are is within at =
     subst (λ es. IsPick es words e) same
     (omega arith, subst (λ i. slice_get (ready_events s) i ≡ Some e) (is ∙ ap (λ m. word_of words % m) are) at)
 
--- What a pick of a world's words gives.
-pub record Pickable (s : WorldState) (e : Event) : Type 0 where
-  pub place : HasPlace (network s.net) e
-  pub low : 1 ≤ event_node e
-  pub high : event_node e ≤ s.net.graph.nodes
-  pub lawful : IsLawful s.net e
-  pub ready : is_ready s e ≡ true
-
-pub pickable : (s : WorldState) (words : List ℕ) (e : Event) → s.outs ≡ [] → IsPick (waiting_in s) words e → Pickable s e
-pickable s words e out h =
-    let lawful = pick_is_lawful (wakers s) (network s.net) (home s) words e h in
-    let there = lawful_place (wakers s) (network s.net) (home s) e lawful in
-    let own = own_node (network s.net) e there in
-    record {
-      place = there;
-      low = own.0;
-      high = own.1;
-      lawful = ((lawful_under (wakers s) (network s.net) (home s) e).0 lawful).1;
-      ready = and_from (not (is_out s.outs (event_node e))) (may_happen s e) (ap (λ (o : Outs). not (is_out o (event_node e))) out) lawful;
-    }
+-- what is picked in a world is ready
+pub pick_is_ready : (s : WorldState) (words : List ℕ) (e : Event) → s.outs ≡ [] → IsPick (waiting_in s) words e → is_ready s e ≡ true
+pick_is_ready s words e out h =
+    and_from (not (is_out s.outs (event_node e))) (may_happen s e) (ap (λ (o : Outs). not (is_out o (event_node e))) out)
+    (pick_is_lawful (wakers s) (network s.net) (home s) words e h)

@@ -1,17 +1,19 @@
 //! Runs that prefer what waits.
+ghost use Rattle.ghs_patient.specs.Keeping.{IsNextAmong};
 ghost use Rattle.ghs_protocol.specs.Marks.{HasEnded};
 ghost use Rattle.ghs_sched.specs.Runs.{EndsFor, IsEnd};
 ghost use Rattle.ghs_waits.specs.Marks.{AreMarks};
-ghost use Rattle.ghs_waits.specs.Runs.{HasMadeNext, HasRun};
-ghost use Rattle.ghs_world.specs.Ready.{ready_events};
-ghost use Rattle.ghs_world.specs.Steps.{IsSameWorld};
-ghost use Rattle.ghs_world.specs.WorldState.{has_turn, home};
-ghost use Rattle.std.specs.Prelude.{IfErr, IfOk, OnErr, OnOk, [], true, ◌≡◌};
+ghost use Rattle.ghs_waits.specs.Runs.{HasRun, waiting_after};
+ghost use Rattle.ghs_world.specs.WorldState.{home};
+ghost use Rattle.std.specs.Prelude.{IfErr, IfOk, OnErr};
 
 use crate::waiting::Waiting;
-use ghs_core::net::node_of;
+use ghs_node::delta::Delta;
+use ghs_node::head::Head;
+use ghs_patient::keeping::{Keeper, run_by};
+use ghs_protocol::event::Event;
 use ghs_sched::fault::RunFault;
-use ghs_sched::run::{RunEnd, end_of};
+use ghs_sched::run::RunEnd;
 use ghs_sched::schedule::Schedule;
 use ghs_world::world::World;
 use std::alloc::{AllocError, Global};
@@ -38,51 +40,26 @@ pub fn run_waiting(
     ensures going { OnErr result (HasEnded world.new.net.graph (home world.new) → ⊥) }
     ensures fault { IfErr result (λ f. EndsFor world.new f) }
 {
-    world.recall_all();
-    if world.ended() {
-        return Ok(end_of(world));
-    }
-    let mut waiting = match Waiting::of(alloc, world) {
-        Ok(waiting) => waiting,
-        Err(_) => return Err(RunFault::Memory),
-    };
-    'events: while !world.ended() {
-        if !world.has_turn() {
-            let _ = world.turns();
-            return Err(RunFault::TurnLimit);
-        }
-        match make_next(alloc, world, &mut waiting, schedule) {
-            Ok(()) => {}
-            Err(_) => return Err(RunFault::Memory),
-        }
-    }
-    Ok(end_of(world))
+    run_by::<Waiting>(alloc, world, schedule)
 }
 
-/// The next word picks an event, and it happens. A refusal leaves the world, the index and the word.
-fn make_next(
-    alloc: Global,
-    world: &mut World,
-    waiting: &mut Waiting,
-    schedule: &mut Schedule,
-) -> Result<(), AllocError>
-    requires home { world.old.outs ≡ [] }
-    requires some { ready_events world.old ≡ [] → ⊥ }
-    requires turn { has_turn world.old ≡ true }
-    requires marks { AreMarks world.old waiting.old }
-    ensures ok { OnOk result (HasMadeNext world.old world.new schedule.old schedule.new) }
-    ensures marks { OnOk result (AreMarks world.new waiting.new) }
-    ensures err { OnErr result (IsSameWorld world.old world.new) }
-    ensures word { OnErr result (schedule.new ≡ schedule.old) }
-    ensures kept { OnErr result (waiting.new ≡ waiting.old) }
-{
-    let _ = world.net().trace();
-    let mut rest = schedule.copy()?;
-    let event = waiting.pick(world, &mut rest);
-    let before = *world.net().node(node_of(event)).head();
-    let delta = world.answer(alloc, event)?;
-    world.make_answered(event, &delta)?;
-    waiting.follow(world, event, &before, &delta);
-    *schedule = rest;
-    Ok(())
+/// A schedule that prefers what waits keeps which events wait.
+impl Keeper for Waiting {
+    ghost can_begin = { λ es. Unit {0} };
+
+    ghost is_of = { λ s w. AreMarks s w };
+
+    ghost is_next = { λ s words e after. IsNextAmong waiting_after s words e after };
+
+    fn begin(alloc: Global, world: &World) -> Result<Waiting, AllocError> {
+        Waiting::of(alloc, world)
+    }
+
+    fn next(&self, world: &World, schedule: &mut Schedule) -> Event {
+        self.pick(world, schedule)
+    }
+
+    fn keep_up(&mut self, world: &World, event: Event, before: &Head, delta: &Delta) {
+        self.follow(world, event, before, delta);
+    }
 }

@@ -1,5 +1,5 @@
 -- What a run keeps, whatever its schedule picks.
-use Rattle.std.proofs.Common.{◌≡◌, ℕ, ◌+◌, ◌<◌, true, List, [], ◌∷◌, ◌++◌, length, refl, ◌∙◌, subst, arith}
+use Rattle.std.proofs.Common.{◌≡◌, ℕ, ◌+◌, ◌<◌, ◌≤◌, Bool, true, List, [], ◌∷◌, ◌++◌, length, refl, ◌∙◌, ap, subst, arith}
 use Rattle.std.proofs.lemmas.Bool.{and_parts, ltb-true}
 use Rattle.std.proofs.lemmas.List.{length_push}
 use Rattle.ghs_graph.specs.Graph.{Shape}
@@ -7,8 +7,11 @@ use Rattle.ghs_protocol.specs.declared.event.Event.{Event}
 use Rattle.ghs_protocol.specs.Marks.{HasEnded}
 use Rattle.ghs_protocol.specs.Run.{net_after}
 use Rattle.ghs_world.specs.Steps.{IsSameWorld, Makes}
-use Rattle.ghs_world.specs.WorldState.{WorldState, has_turn, home}
-use Rattle.ghs_sched.specs.Runs.{HasRunBy}
+use Rattle.ghs_world.specs.declared.wake_set.WakeSet.{WakeSet}
+use Rattle.ghs_world.specs.Wakes.{may_wake}
+use Rattle.ghs_world.specs.WorldState.{WorldState, has_turn, home, wakers}
+use Rattle.ghs_sched.specs.Picks.{Begun, IsPick, IsPickedAmong, Offers, Picked}
+use Rattle.ghs_sched.specs.Runs.{HasMadeOneOf, HasRunAmong, HasRunBy}
 
 -- it begins with nothing out
 pub run_begins : (leads : List Event → List ℕ → Type 0) (s t : WorldState) (words : List ℕ) → leads s.net.trace words → t ≡ record s { outs = [] } →
@@ -54,3 +57,29 @@ pub turn_left : (old s : WorldState) → s.turns ≡ old.turns → has_turn s �
 turn_left old s same turn =
     let left : length s.net.trace + length s.outs < s.turns = ltb-true _ _ (and_parts _ _ turn).0 in
     omega (arith, left, same)
+
+-- What a schedule picks among some events.
+
+-- nothing at first
+pub among_begins : (offers : Offers) (s t : WorldState) (words : List ℕ) → t ≡ record s { outs = [] } → HasRunAmong offers s t words words
+among_begins offers s t words e =
+    run_begins (IsPickedAmong offers (wakers s) s.net.graph s.turns s.net.trace words) s t words Begun e
+
+-- one event more
+pub among_more : (offers : Offers) (old s new : WorldState) (words used after : List ℕ) → HasRunAmong offers old s words used →
+    (HasEnded s.net.graph (home s) → ⊥) → has_turn s ≡ true → HasMadeOneOf (offers (wakers s) s.net.graph s.net.trace) s new used after →
+    HasRunAmong offers old new words after
+among_more offers old s new words used after run going turn next =
+    let same : offers (wakers s) s.net.graph s.net.trace ≡ offers (wakers old) old.net.graph s.net.trace =
+    ap (λ (w : WakeSet). offers (may_wake s.net.graph w) s.net.graph s.net.trace) run.wake
+    ∙ ap (λ (g : Shape). offers (may_wake g old.wake) g s.net.trace) run.graph in
+    run_more (IsPickedAmong offers (wakers old) old.net.graph old.turns old.net.trace words) old s new used after next.event run next.made
+    (rw next.rest (Picked s.net.trace used next.event run.picked (still_going old s run.graph going) (turn_left old s run.turns turn)
+    (subst (λ es. IsPick es used next.event) same next.pick)))
+
+-- no more than there are turns
+pub picked_within : (offers : Offers) (may : ℕ → Bool) (g : Shape) (turns : ℕ) (trace : List Event) (words : List ℕ) (es : List Event) (s : List ℕ) →
+    IsPickedAmong offers may g turns trace words es s → length trace ≤ turns → length es ≤ turns
+picked_within offers may g turns trace words _ _ Begun few = few
+picked_within offers may g turns trace words _ _ (Picked es s e before goes less pick) few =
+    let more : length (es ++ e ∷ []) ≡ length es + 1 = length_push es e in omega (arith, more, less)

@@ -1,77 +1,33 @@
-use Rattle.std.proofs.Common.{◌∙◌, subst, sym}
+use Rattle.std.proofs.Common.{subst}
+use Rattle.std.specs.Prelude.{OnErr, Result}
 use Rattle.ghs_protocol.specs.Laws.{IsNetOf}
+use Rattle.ghs_protocol.specs.Marks.{HasEnded}
 use Rattle.ghs_core.specs.NetState.{NetState, net_of}
 use Rattle.ghs_world.specs.WorldState.{home}
+use Rattle.ghs_sched.specs.declared.fault.RunFault.{RunFault}
+use Rattle.ghs_sched.specs.declared.run.RunEnd.{RunEnd}
 use Rattle.ghs_patient.proofs.Picks.{is_net}
-use Rattle.ghs_sched.proofs.Running.{not_so, same_end}
-use Rattle.ghs_sched.proofs.lemmas.Runs.{run_begins, run_more, run_stays}
-use Rattle.ghs_patient.proofs.lemmas.Growing.{grown_begins, grown_next, grown_stays, is_short, turns_left}
-use Rattle.ghs_lifo.specs.Runs.{Begun, IsPickedFrom}
-use Rattle.ghs_lifo.proofs.Running.{pickable, picked_more}
+use Rattle.ghs_patient.proofs.lemmas.Growing.{is_short, turns_left}
+use Rattle.ghs_lifo.proofs.Running.{last_grown, last_run}
 use Rattle.ghs_lifo.proofs.run.run_lifo.Goals as goal
 
-pub events-init : goal.events-init
-events-init c = record {
-  run = run_begins (IsPickedFrom c.args.world.now c.args.schedule.now)
-      c.args.world.now c.recall_all.new.self c.args.schedule.now Begun c.recall_all.ensures;
-  grown = grown_begins c.args.world.now c.recall_all.new.self c.recall_all.ensures;
-  latest = c.in-Ok.ensures;
-}
-
-pub events-preserved : goal.events-preserved
-events-preserved c = let next = c.in-Ok-make_next.ensures.ok in record {
-  run = run_more (IsPickedFrom c.args.world.now c.args.schedule.now) c.args.world.now c.events.world c.make_next.new.world c.events.schedule
-      c.make_next.new.schedule next.event c.events.invariant.run next.made
-      (picked_more c.args.world.now c.events.world c.args.schedule.now c.events.schedule c.events.invariant.run
-      (not_so c.ended-in-events.result c.ended-in-events.ensures.ended c.events-test.true) (sym c.has_turn.ensures ∙ c.if-not-has_turn.false)
-      next.event c.make_next.new.schedule next.next);
-  grown = grown_next c.args.world.now.net.graph c.args.world.now.net.trace c.events.world c.make_next.new.world next.event
-      c.events.invariant.run.graph
-      (pickable c.events.world c.events.schedule next.event c.make_next.new.schedule c.events.invariant.run.outs next.next).patient next.made
-      c.events.invariant.grown;
-  latest = c.in-Ok-make_next.ensures.latest;
-}
-
-pub returns-then-ended-clause-run : goal.returns-then-ended-clause-run
-returns-then-ended-clause-run c = run_begins (IsPickedFrom c.args.world.now c.args.schedule.now)
-    c.args.world.now c.recall_all.new.self c.args.schedule.now Begun c.recall_all.ensures
-
-pub returns-in-Err-clause-run : goal.returns-in-Err-clause-run
-returns-in-Err-clause-run c = run_begins (IsPickedFrom c.args.world.now c.args.schedule.now)
-    c.args.world.now c.recall_all.new.self c.args.schedule.now Begun c.recall_all.ensures
-
-pub returns-then-not-has_turn-clause-short : goal.returns-then-not-has_turn-clause-short
-returns-then-not-has_turn-clause-short c =
-    let is : IsNetOf c.args.world.now.net.graph (home c.args.world.now) =
-    subst (λ (n : NetState). IsNetOf n.graph (net_of n)) c.net.ensures.net (is_net c.net.result.now c.trace.ensures.graph c.trace.ensures.run) in
-    is_short c.args.world.now c.events.world is c.events.invariant.grown c.law_patience.ensures
-
-pub returns-then-not-has_turn-clause-ends : goal.returns-then-not-has_turn-clause-ends
-returns-then-not-has_turn-clause-ends c =
-    let is : IsNetOf c.args.world.now.net.graph (home c.args.world.now) =
-    subst (λ (n : NetState). IsNetOf n.graph (net_of n)) c.net.ensures.net (is_net c.net.result.now c.trace.ensures.graph c.trace.ensures.run) in
-    let run = c.events.invariant.run in
-    λ enough e. turns_left c.args.world.now c.events.world is c.events.invariant.grown c.law_patience.ensures run.graph run.turns run.outs run.numbers
-    c.law_patience_lasts.ensures (not_so c.ended-in-events.result c.ended-in-events.ensures.ended c.events-test.true)
-    (sym c.has_turn.ensures ∙ c.if-not-has_turn.true) enough
-
-pub returns-in-Err-make_next-clause-run : goal.returns-in-Err-make_next-clause-run
-returns-in-Err-make_next-clause-run c = rw c.in-Err-make_next.ensures.word (run_stays _ _ _ _ _ c.events.invariant.run c.in-Err-make_next.ensures.err)
-
-pub returns-in-Err-make_next-clause-short : goal.returns-in-Err-make_next-clause-short
-returns-in-Err-make_next-clause-short c =
-    let is : IsNetOf c.args.world.now.net.graph (home c.args.world.now) =
-    subst (λ (n : NetState). IsNetOf n.graph (net_of n)) c.net.ensures.net (is_net c.net.result.now c.trace.ensures.graph c.trace.ensures.run) in
-    is_short c.args.world.now c.make_next.new.world is
-    (grown_stays c.args.world.now.net.graph c.args.world.now.net.trace c.events.world c.make_next.new.world c.in-Err-make_next.ensures.err
-    c.events.invariant.grown) c.law_patience.ensures
-
-pub returns-in-Err-make_next-clause-going : goal.returns-in-Err-make_next-clause-going
-returns-in-Err-make_next-clause-going c = λ h. (not_so c.ended-in-events.result c.ended-in-events.ensures.ended c.events-test.true)
-    (same_end _ _ c.in-Err-make_next.ensures.err h)
+pub returns-clause-run : goal.returns-clause-run
+returns-clause-run c = last_run c.args.world.now c.args.schedule.now c.run_by.ensures.gone
 
 pub returns-clause-short : goal.returns-clause-short
 returns-clause-short c =
     let is : IsNetOf c.args.world.now.net.graph (home c.args.world.now) =
     subst (λ (n : NetState). IsNetOf n.graph (net_of n)) c.net.ensures.net (is_net c.net.result.now c.trace.ensures.graph c.trace.ensures.run) in
-    is_short c.args.world.now c.events.world is c.events.invariant.grown c.law_patience.ensures
+    is_short c.args.world.now c.run_by.new.world is
+    (last_grown c.args.world.now c.args.schedule.now c.run_by.ensures.gone) c.law_patience.ensures
+
+pub returns-clause-ends : goal.returns-clause-ends
+returns-clause-ends c =
+    let is : IsNetOf c.args.world.now.net.graph (home c.args.world.now) =
+    subst (λ (n : NetState). IsNetOf n.graph (net_of n)) c.net.ensures.net (is_net c.net.result.now c.trace.ensures.graph c.trace.ensures.run) in
+    let new = c.run_by.new.world in
+    let run = last_run c.args.world.now c.args.schedule.now c.run_by.ensures.gone in
+    λ enough limit. turns_left c.args.world.now new is (last_grown c.args.world.now c.args.schedule.now c.run_by.ensures.gone)
+    c.law_patience.ensures run.graph run.turns run.outs run.numbers c.law_patience_lasts.ensures
+    (subst (λ (r : Result RunEnd RunFault). OnErr r (HasEnded new.net.graph (home new) → ⊥)) limit c.run_by.ensures.going)
+    (c.run_by.ensures.full limit) enough

@@ -1,20 +1,18 @@
 use Rattle.std.proofs.Common.{◌∙◌, subst, sym}
 use Rattle.ghs_protocol.specs.Laws.{IsNetOf}
-use Rattle.ghs_core.specs.NetState.{NetState, net_of}
+use Rattle.ghs_core.specs.NetState.{NetState, net_of, network}
 use Rattle.ghs_chain.specs.Kept.{AreChains}
-use Rattle.ghs_world.specs.WorldState.{WorldState, home}
+use Rattle.ghs_world.specs.WorldState.{WorldState, home, wakers}
 use Rattle.ghs_sched.proofs.Running.{not_so}
-use Rattle.ghs_sched.proofs.lemmas.Runs.{run_begins, run_more, run_stays}
-use Rattle.ghs_patient.specs.Runs.{Begun, IsPickedFrom}
-use Rattle.ghs_patient.proofs.Picks.{is_net}
-use Rattle.ghs_patient.proofs.Running.{grown_too, picked_more}
-use Rattle.ghs_patient.proofs.lemmas.Growing.{grown_begins, grown_stays, is_short, turns_left}
+use Rattle.ghs_sched.proofs.lemmas.Runs.{among_begins, among_more, run_stays}
+use Rattle.ghs_patient.specs.Runs.{patient_after}
+use Rattle.ghs_patient.proofs.Picks.{is_net, pick_is_patient}
+use Rattle.ghs_patient.proofs.lemmas.Growing.{grown_begins, grown_next, grown_stays, is_short, turns_left}
 use Rattle.ghs_picking.proofs.patient.run_patient.Goals as goal
 
 pub events-init : goal.events-init
 events-init c = record {
-  run = run_begins (IsPickedFrom c.args.world.now c.args.schedule.now)
-      c.args.world.now c.recall_all.new.self c.args.schedule.now Begun c.recall_all.ensures;
+  run = among_begins patient_after c.args.world.now c.recall_all.new.self c.args.schedule.now c.recall_all.ensures;
   grown = grown_begins c.args.world.now c.recall_all.new.self c.recall_all.ensures;
   choices = c.in-Ok.ensures;
   chains = subst (λ (s : WorldState). AreChains s.net c.args.chains.now) (sym c.recall_all.ensures) c.requires.chains;
@@ -22,13 +20,13 @@ events-init c = record {
 
 pub events-preserved : goal.events-preserved
 events-preserved c = let next = c.in-Ok-make_next.ensures.ok in record {
-  run = run_more (IsPickedFrom c.args.world.now c.args.schedule.now) c.args.world.now c.events.world c.make_next.new.world c.events.schedule
-      c.make_next.new.schedule next.event c.events.invariant.run next.made
-      (picked_more c.args.world.now c.events.world c.make_next.new.world c.args.schedule.now c.events.schedule c.make_next.new.schedule
+  run = among_more patient_after c.args.world.now c.events.world c.make_next.new.world c.args.schedule.now c.events.schedule c.make_next.new.schedule
       c.events.invariant.run (not_so c.ended-in-events.result c.ended-in-events.ensures.ended c.events-test.true)
-      (sym c.has_turn.ensures ∙ c.if-not-has_turn.false) next);
-  grown = grown_too c.args.world.now c.events.world c.make_next.new.world c.args.schedule.now c.events.schedule c.make_next.new.schedule
-      c.events.invariant.run c.in-Ok-make_next.ensures.ok c.events.invariant.grown;
+      (sym c.has_turn.ensures ∙ c.if-not-has_turn.false) next;
+  grown = grown_next c.args.world.now.net.graph c.args.world.now.net.trace c.events.world c.make_next.new.world next.event
+      c.events.invariant.run.graph
+      (pick_is_patient (wakers c.events.world) (network c.events.world.net) (home c.events.world) c.events.schedule next.event next.pick)
+      next.made c.events.invariant.grown;
   choices = c.in-Ok-make_next.ensures.choices;
   chains = c.in-Ok-make_next.ensures.chains;
 }
@@ -37,12 +35,10 @@ pub returns-then-ended-clause-chains : goal.returns-then-ended-clause-chains
 returns-then-ended-clause-chains c = λ _. subst (λ (s : WorldState). AreChains s.net c.args.chains.now) (sym c.recall_all.ensures) c.requires.chains
 
 pub returns-then-ended-clause-run : goal.returns-then-ended-clause-run
-returns-then-ended-clause-run c = run_begins (IsPickedFrom c.args.world.now c.args.schedule.now)
-    c.args.world.now c.recall_all.new.self c.args.schedule.now Begun c.recall_all.ensures
+returns-then-ended-clause-run c = among_begins patient_after c.args.world.now c.recall_all.new.self c.args.schedule.now c.recall_all.ensures
 
 pub returns-in-Err-clause-run : goal.returns-in-Err-clause-run
-returns-in-Err-clause-run c = run_begins (IsPickedFrom c.args.world.now c.args.schedule.now)
-    c.args.world.now c.recall_all.new.self c.args.schedule.now Begun c.recall_all.ensures
+returns-in-Err-clause-run c = among_begins patient_after c.args.world.now c.recall_all.new.self c.args.schedule.now c.recall_all.ensures
 
 pub returns-then-not-has_turn-clause-short : goal.returns-then-not-has_turn-clause-short
 returns-then-not-has_turn-clause-short c =

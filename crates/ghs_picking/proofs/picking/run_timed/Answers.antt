@@ -1,15 +1,18 @@
 use Rattle.std.proofs.Common.{refl, subst}
 use Rattle.ghs_core.specs.NetState.{NetState}
 use Rattle.ghs_graph.specs.Graph.{IsGraph}
-use Rattle.ghs_picking.proofs.BySeed.{HasGoneOn, Laws, at_limit_by_rounds, at_limit_last, at_limit_patient, at_limit_waiting, gone_by_rounds, gone_last, gone_patient, gone_seeded, gone_waiting, is_in_rounds, is_seeded, on_ok_by_rounds, on_ok_last, on_ok_patient, on_ok_seeded, on_ok_waiting}
+use Rattle.ghs_sched.specs.Picks.{lawful_events}
+use Rattle.ghs_patient.specs.Runs.{patient_after}
+use Rattle.ghs_waits.specs.Runs.{waiting_after}
+use Rattle.ghs_picking.proofs.BySeed.{HasGoneOn, Laws, at_limit_by_rounds, at_limit_last, at_limit_patient, at_limit_waiting, gone_among, gone_by_rounds, gone_last, is_in_rounds, is_seeded, on_ok_by_rounds, on_ok_last, on_ok_patient, on_ok_seeded, on_ok_waiting}
 use Rattle.ghs_picking.proofs.picking.run_timed.Goals as goal
 
 pub returns-in-Seeded-clause-whole : goal.returns-in-Seeded-clause-whole
 returns-in-Seeded-clause-whole c =
     let ran = c.run_seeded in
     let gone : HasGoneOn c.args.world.now ran.new.world =
-    gone_seeded c.args.world.now ran.new.world c.seeded-schedule.result ran.new.schedule c.turns.result c.requires.trace c.requires.numbers
-    c.turns.ensures.turns c.turns.ensures.few ran.ensures.run in
+    gone_among lawful_events c.args.world.now ran.new.world c.seeded-schedule.result ran.new.schedule c.turns.result c.requires.trace
+    c.requires.numbers c.turns.ensures.turns c.turns.ensures.few ran.ensures.run in
     rw c.in-Seeded.is (on_ok_seeded c.args.seed c.args.world.now ran.new.world c.seeded-schedule.result ran.new.schedule ran.result
     c.seeded-schedule.ensures gone ran.ensures.whole)
 
@@ -17,8 +20,8 @@ pub returns-in-Seeded-clause-limit : goal.returns-in-Seeded-clause-limit
 returns-in-Seeded-clause-limit c =
     let ran = c.run_seeded in
     let gone : HasGoneOn c.args.world.now ran.new.world =
-    gone_seeded c.args.world.now ran.new.world c.seeded-schedule.result ran.new.schedule c.turns.result c.requires.trace c.requires.numbers
-    c.turns.ensures.turns c.turns.ensures.few ran.ensures.run in
+    gone_among lawful_events c.args.world.now ran.new.world c.seeded-schedule.result ran.new.schedule c.turns.result c.requires.trace
+    c.requires.numbers c.turns.ensures.turns c.turns.ensures.few ran.ensures.run in
     rw c.in-Seeded.is (λ limit. is_seeded c.args.seed c.args.world.now ran.new.world c.seeded-schedule.result ran.new.schedule
     c.seeded-schedule.ensures gone (ran.ensures.limit limit gone.numbers))
 
@@ -26,8 +29,8 @@ pub returns-in-Patient-clause-whole : goal.returns-in-Patient-clause-whole
 returns-in-Patient-clause-whole c =
     let ran = c.run_patient in
     let gone : HasGoneOn c.args.world.now ran.new.world =
-    gone_patient c.args.world.now ran.new.world c.seeded-schedule.result ran.new.schedule c.turns.result c.requires.trace c.requires.numbers
-    c.turns.ensures.turns c.turns.ensures.few ran.ensures.run in
+    gone_among patient_after c.args.world.now ran.new.world c.seeded-schedule.result ran.new.schedule c.turns.result c.requires.trace
+    c.requires.numbers c.turns.ensures.turns c.turns.ensures.few ran.ensures.run in
     rw c.in-Patient.is
     (on_ok_patient c.args.seed c.args.world.now ran.new.world c.seeded-schedule.result ran.new.schedule ran.result c.seeded-schedule.ensures gone
     ran.ensures.run ran.ensures.short ran.ensures.halted)
@@ -36,8 +39,8 @@ pub returns-in-Patient-clause-limit : goal.returns-in-Patient-clause-limit
 returns-in-Patient-clause-limit c =
     let ran = c.run_patient in
     let gone : HasGoneOn c.args.world.now ran.new.world =
-    gone_patient c.args.world.now ran.new.world c.seeded-schedule.result ran.new.schedule c.turns.result c.requires.trace c.requires.numbers
-    c.turns.ensures.turns c.turns.ensures.few ran.ensures.run in
+    gone_among patient_after c.args.world.now ran.new.world c.seeded-schedule.result ran.new.schedule c.turns.result c.requires.trace
+    c.requires.numbers c.turns.ensures.turns c.turns.ensures.few ran.ensures.run in
     rw c.in-Patient.is
     (λ limit. at_limit_patient c.args.seed c.args.world.now ran.new.world c.seeded-schedule.result ran.new.schedule c.turns.result ran.result
     c.seeded-schedule.ensures gone c.requires.numbers
@@ -88,8 +91,8 @@ pub returns-in-Waits-clause-whole : goal.returns-in-Waits-clause-whole
 returns-in-Waits-clause-whole c =
     let ran = c.run_waiting in
     let gone : HasGoneOn c.args.world.now ran.new.world =
-    gone_waiting c.args.world.now ran.new.world c.seeded-schedule.result ran.new.schedule c.turns.result c.requires.trace c.requires.numbers
-    c.turns.ensures.turns c.turns.ensures.few ran.ensures.run in
+    gone_among waiting_after c.args.world.now ran.new.world c.seeded-schedule.result ran.new.schedule c.turns.result c.requires.trace
+    c.requires.numbers c.turns.ensures.turns c.turns.ensures.few ran.ensures.run in
     rw c.in-Waits.is
     (on_ok_waiting c.args.seed c.args.world.now ran.new.world c.seeded-schedule.result ran.new.schedule ran.result c.seeded-schedule.ensures gone
     ran.ensures.run ran.ensures.halted)
@@ -98,8 +101,8 @@ pub returns-in-Waits-clause-limit : goal.returns-in-Waits-clause-limit
 returns-in-Waits-clause-limit c =
     let ran = c.run_waiting in
     let gone : HasGoneOn c.args.world.now ran.new.world =
-    gone_waiting c.args.world.now ran.new.world c.seeded-schedule.result ran.new.schedule c.turns.result c.requires.trace c.requires.numbers
-    c.turns.ensures.turns c.turns.ensures.few ran.ensures.run in
+    gone_among waiting_after c.args.world.now ran.new.world c.seeded-schedule.result ran.new.schedule c.turns.result c.requires.trace
+    c.requires.numbers c.turns.ensures.turns c.turns.ensures.few ran.ensures.run in
     rw c.in-Waits.is
     (λ limit. at_limit_waiting c.args.seed c.args.world.now ran.new.world c.seeded-schedule.result ran.new.schedule ran.result
     c.seeded-schedule.ensures gone ran.ensures.run ran.ensures.fault limit)
@@ -108,8 +111,8 @@ pub returns-in-Lifo-clause-whole : goal.returns-in-Lifo-clause-whole
 returns-in-Lifo-clause-whole c =
     let ran = c.run_lifo in
     let gone : HasGoneOn c.args.world.now ran.new.world =
-    gone_last c.args.world.now ran.new.world c.seeded-schedule.result ran.new.schedule c.turns.result c.requires.trace c.requires.numbers
-    c.turns.ensures.turns c.turns.ensures.few ran.ensures.run in
+    gone_last c.args.world.now ran.new.world c.seeded-schedule.result ran.new.schedule c.turns.result c.requires.trace
+    c.requires.numbers c.turns.ensures.turns c.turns.ensures.few ran.ensures.run in
     rw c.in-Lifo.is
     (on_ok_last c.args.seed c.args.world.now ran.new.world c.seeded-schedule.result ran.new.schedule ran.result c.seeded-schedule.ensures gone
     ran.ensures.run ran.ensures.short ran.ensures.halted)
@@ -118,8 +121,8 @@ pub returns-in-Lifo-clause-limit : goal.returns-in-Lifo-clause-limit
 returns-in-Lifo-clause-limit c =
     let ran = c.run_lifo in
     let gone : HasGoneOn c.args.world.now ran.new.world =
-    gone_last c.args.world.now ran.new.world c.seeded-schedule.result ran.new.schedule c.turns.result c.requires.trace c.requires.numbers
-    c.turns.ensures.turns c.turns.ensures.few ran.ensures.run in
+    gone_last c.args.world.now ran.new.world c.seeded-schedule.result ran.new.schedule c.turns.result c.requires.trace
+    c.requires.numbers c.turns.ensures.turns c.turns.ensures.few ran.ensures.run in
     rw c.in-Lifo.is
     (λ limit. at_limit_last c.args.seed c.args.world.now ran.new.world c.seeded-schedule.result ran.new.schedule c.turns.result ran.result
     c.seeded-schedule.ensures gone c.requires.numbers

@@ -1,7 +1,5 @@
-use Rattle.std.proofs.Common.{◌≡◌, ◌∙◌, sym, refl, subst, ap, length}
+use Rattle.std.proofs.Common.{◌∙◌, sym, refl, subst}
 use Rattle.ghs_graph.specs.Graph.{IsGraph}
-use Rattle.ghs_graph.specs.Ports.{ports_of}
-use Rattle.ghs_node.specs.declared.mark.Mark.{Mark}
 use Rattle.ghs_core.specs.NetState.{NetState}
 use Rattle.ghs_patient.proofs.Marking.{own_all, own_none, own_one, seen}
 use Rattle.ghs_patient.proofs.choices.Choices.follow.Goals as goal
