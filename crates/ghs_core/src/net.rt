@@ -110,7 +110,13 @@ impl Net {
         ensures work { result ≡ work_at (net_of self.now) event }
         ensures rule { IsSome (reaction ((net_of self.now).node (event_node event)) result) }
     {
-        self.work_of(event)
+        match event {
+            Event::Wake(_) => Work::Wake,
+            Event::Take(v, port) => Work::Deliver {
+                port,
+                message: self.channels.front(v, port).unwrap(),
+            },
+        }
     }
 
     /// The first message that waits at a port.
@@ -291,22 +297,6 @@ impl Net {
         ensures { result ≡ self.graph }
     {
         self.graph
-    }
-
-    /// What an event brings to its node.
-    fn work_of(&self, event: Event) -> Work
-        requires { IsLawful self.now event }
-        ensures work { result ≡ work_at (net_of self.now) event }
-        ensures graph { IsGraph self.now.graph }
-        ensures run { IsRun (network self.now) self.now.trace }
-    {
-        match event {
-            Event::Wake(_) => Work::Wake,
-            Event::Take(v, port) => Work::Deliver {
-                port,
-                message: self.channels.front(v, port).unwrap(),
-            },
-        }
     }
 
     /// Whether the graph has such a node.

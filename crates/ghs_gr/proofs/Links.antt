@@ -64,12 +64,9 @@ of_line : (p q : Option Sizes) (l : Line) (key : Triple) (n : ℕ) (m : Option �
 of_line p q line.Passed key n m e sound is = cc
 of_line p q line.Malformed key n m e sound is = cc
 of_line p q (line.Problem nodes arcs) key n m e sound is = cc
-of_line p q (line.Arc None v w) key n m e sound is = cc
-of_line p q (line.Arc (Some u) None w) key n m e sound is = cc
-of_line p q (line.Arc (Some u) (Some v) None) key n m e sound is = cc
-of_line None q (line.Arc (Some u) (Some v) (Some w)) key n m e sound is = cc
-of_line (Some s) q (line.Arc (Some u) (Some v) (Some w)) key n m e sound is =
-    let a : Arc = record { from = u; to = v; weight = w } in
+of_line p q (line.Arc None) key n m e sound is = cc
+of_line None q (line.Arc (Some a)) key n m e sound is = cc
+of_line (Some s) q (line.Arc (Some a)) key n m e sound is =
     let same : s ≡ (Some n, m) = cc in
     between n a key e (subst (λ (t : Sizes). ends_fault t.0 (Some a) ≡ None) same sound)
 

@@ -1,5 +1,5 @@
 -- How a pass goes on.
-use Rattle.std.proofs.Common.{◌≡◌, ◌+◌, ◌-◌, ◌≤◌, ◌∙◌, ℕ, true, false, List, [], ◌∷◌, ◌++◌, length, append_assoc, refl, sym, ap, arith, subst, ⊎_elim, Option, Some, None}
+use Rattle.std.proofs.Common.{◌≡◌, ◌+◌, ◌≤◌, ◌∙◌, true, false, List, [], ◌∷◌, ◌++◌, length, append_assoc, refl, sym, ap, arith, subst, ⊎_elim, Option, Some, None}
 use Rattle.std.specs.Prelude.{Contains, MatchOption, is_some}
 use Rattle.std.specs.Option.{option_map, option_or}
 use Rattle.std.proofs.lemmas.List.{length-append}
@@ -13,6 +13,7 @@ use Rattle.ghs_gr.specs.Key.{AreSameKeys}
 use Rattle.ghs_gr.specs.Pass.{IsPass, IsSoundPass, Notes}
 use Rattle.ghs_gr.specs.Problem.{sizes_of}
 use Rattle.ghs_gr.specs.RawGraph.{Triple}
+use Rattle.ghs_gr.specs.declared.arc.Arc.{Arc}
 use Rattle.ghs_gr.specs.declared.fault.LineFault.{LineFault}
 use Rattle.ghs_gr.specs.declared.line.Line.{Line}
 use Rattle.ghs_gr.specs.declared.line.Line.TheVariants as line
@@ -25,7 +26,7 @@ problem_in-append [] ys = refl
 problem_in-append (line.Passed ∷ xs) ys = problem_in-append xs ys
 problem_in-append (line.Malformed ∷ xs) ys = problem_in-append xs ys
 problem_in-append (line.Problem n m ∷ xs) ys = refl
-problem_in-append (line.Arc u v w ∷ xs) ys = problem_in-append xs ys
+problem_in-append (line.Arc a ∷ xs) ys = problem_in-append xs ys
 
 arc_count-append : (xs ys : List Line) → arc_count (xs ++ ys) ≡ arc_count xs + arc_count ys
 arc_count-append xs ys = ap length (filter-append is_arc_line xs ys) ∙ length-append _ _
@@ -112,5 +113,5 @@ option_or-none : {A : Type 0} (a : Option A) → a ≡ option_or a None
 option_or-none None = refl
 option_or-none (Some x) = refl
 
-pub no_problem : (p : Option Sizes) (l : Line) (u v w : Option ℕ) → l ≡ line.Arc u v w → p ≡ option_or p (problem_in (l ∷ []))
-no_problem p l u v w is = option_or-none p ∙ ap (λ x. option_or p (problem_in (x ∷ []))) (sym is)
+pub no_problem : (p : Option Sizes) (l : Line) (a : Option Arc) → l ≡ line.Arc a → p ≡ option_or p (problem_in (l ∷ []))
+no_problem p l a is = option_or-none p ∙ ap (λ x. option_or p (problem_in (x ∷ []))) (sym is)

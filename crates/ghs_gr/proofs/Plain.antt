@@ -3,11 +3,12 @@ use Rattle.std.proofs.Common.{◌≡◌, ◌∙◌, ℕ, true, List, [], ◌∷�
 use Rattle.ghs_lines.specs.Fields.{fields_of}
 use Rattle.ghs_lines.specs.Lines.{lines_of}
 use Rattle.ghs_lines.proofs.lemmas.Words.{digits_plain, fields_of-last, fields_of-word, has_no_feed, has_no_feed-last, has_no_feed-word, lines_of-line}
+use Rattle.ghs_gr.specs.Arc.{arc_with}
 use Rattle.ghs_gr.specs.Line.{IsNumberBefore, meaning, meaning_of, meanings, number_in}
 use Rattle.ghs_gr.specs.declared.line.Line.TheVariants.{Arc}
 
 pub plain : (text r1 r2 rest : List ℕ) (u v w : ℕ) → IsNumberBefore 32 text u r1 → IsNumberBefore 32 r1 v r2 → IsNumberBefore 10 r2 w rest
-    → meanings (97 ∷ 32 ∷ text) ≡ Arc (Some u) (Some v) (Some w) ∷ meanings rest
+    → meanings (97 ∷ 32 ∷ text) ≡ Arc (Some (record { from = u; to = v; weight = w })) ∷ meanings rest
 plain text r1 r2 rest u v w a b c =
     let tail : List ℕ = b.digits ++ 32 ∷ c.digits in
     let line : List ℕ = 97 ∷ 32 ∷ (a.digits ++ 32 ∷ tail) in
@@ -27,6 +28,6 @@ plain text r1 r2 rest u v w a b c =
     ∙ ap (λ fs. b.digits ∷ fs) (fields_of-last c.digits c.some c_plain))) in
     ap (map meaning) lines
     ∙ ap (λ fs. meaning_of fs ∷ meanings rest) fields
-    ∙ ap (λ n. Arc n (number_in b.digits) (number_in c.digits) ∷ meanings rest) a.number
-    ∙ ap (λ n. Arc (Some u) n (number_in c.digits) ∷ meanings rest) b.number
-    ∙ ap (λ n. Arc (Some u) (Some v) n ∷ meanings rest) c.number
+    ∙ ap (λ n. Arc (arc_with n (number_in b.digits) (number_in c.digits)) ∷ meanings rest) a.number
+    ∙ ap (λ n. Arc (arc_with (Some u) n (number_in c.digits)) ∷ meanings rest) b.number
+    ∙ ap (λ n. Arc (arc_with (Some u) (Some v) n) ∷ meanings rest) c.number

@@ -5,6 +5,7 @@ use Rattle.std.specs.Str.{all_ascii_digits, bytes_eq}
 use Rattle.ghs_lines.specs.Fields.{fields_of}
 use Rattle.ghs_lines.specs.Lines.{lines_of}
 use Rattle.ghs_lines.specs.Numbers.{number_of}
+use Rattle.ghs_gr.specs.Arc.{arc_with}
 use Rattle.ghs_gr.specs.declared.line.Line.{Line}
 use Rattle.ghs_gr.specs.declared.line.Line.TheVariants.{Passed, Malformed, Problem, Arc}
 
@@ -27,7 +28,7 @@ problem_of _ = Malformed
 
 -- what the fields behind an `a` say
 abbrev pub arc_of : List (List ℕ) → Line
-arc_of (from ∷ to ∷ weight ∷ []) = Arc (number_in from) (number_in to) (number_in weight)
+arc_of (from ∷ to ∷ weight ∷ []) = Arc (arc_with (number_in from) (number_in to) (number_in weight))
 arc_of _ = Malformed
 
 -- what fields say: nothing, a comment, a problem line, an arc line, or nothing that is known

@@ -1,5 +1,4 @@
 //! The faults of one line.
-ghost use Rattle.ghs_gr.specs.Arc.{arc_in};
 ghost use Rattle.ghs_gr.specs.Fault.{ends_fault as ends_fault_of, is_node as is_node_of, line_fault as line_fault_of, sizes_fault as sizes_fault_of};
 ghost use Rattle.ghs_gr.specs.Problem.{sizes_of};
 ghost use Rattle.std.specs.Option.{option_map};
@@ -22,8 +21,8 @@ pub fn line_fault(problem: Option<Problem>, line: Line) -> Option<LineFault>
             Some(_) => Some(LineFault::SecondProblem),
             None => sizes_fault(nodes, arcs),
         },
-        Line::Arc(..) => match problem {
-            Some(problem) => ends_fault(problem.nodes, line),
+        Line::Arc(arc) => match problem {
+            Some(problem) => ends_fault(problem.nodes, arc),
             None => Some(LineFault::ArcBeforeProblem),
         },
     }
@@ -40,18 +39,13 @@ fn sizes_fault(nodes: Option<u32>, arcs: Option<u32>) -> Option<LineFault>
 }
 
 /// The fault of an arc line's numbers and ends, where there are so many nodes.
-fn ends_fault(nodes: u32, line: Line) -> Option<LineFault>
-    ensures { result ≡ ends_fault_of (Some nodes) (arc_in line) }
+fn ends_fault(nodes: u32, arc: Option<Arc>) -> Option<LineFault>
+    ensures { result ≡ ends_fault_of (Some nodes) arc }
 {
-    match Arc::in_line(line) {
+    match arc {
+        Some(arc) if is_node(nodes, arc.from) && is_node(nodes, arc.to) => None,
+        Some(_) => Some(LineFault::NodeRange),
         None => Some(LineFault::Number),
-        Some(arc) => {
-            if is_node(nodes, arc.from) && is_node(nodes, arc.to) {
-                None
-            } else {
-                Some(LineFault::NodeRange)
-            }
-        }
     }
 }
 

@@ -1,9 +1,11 @@
 //! What the lines of a graph text say.
+ghost use Rattle.ghs_gr.specs.Arc.{arc_with};
 ghost use Rattle.ghs_gr.specs.Line.{IsNumberBefore, arc_of, meaning, meanings, number_in, problem_of};
 ghost use Rattle.ghs_gr.specs.declared.line.Line.TheVariants as line;
 ghost use Rattle.ghs_lines.specs.Fields.{fields_of};
 ghost use Rattle.std.specs.Prelude.{IfNone, IfSome, Some, [], length, ◌<◌, ◌≡◌, ◌≢◌, ◌∷◌};
 
+use crate::arc::Arc;
 use ghs_lines::fields::next_field;
 use ghs_lines::lines::next_line;
 use ghs_lines::numbers::number as number_up_to;
@@ -11,17 +13,17 @@ use ghs_lines::numbers::number as number_up_to;
 /// How many digits a plain number has at most, as those below 2^32 without leading zeros have.
 const PLAIN_DIGITS: usize = 10;
 
-/// What one line says. A number is `None` where its field is no number below 2^32.
+/// What one line says.
 #[derive(Clone, Copy, Debug, Drop)]
 pub enum Line {
     /// Nothing: a line without fields, or a comment.
     Passed,
     /// Nothing that the format knows.
     Malformed,
-    /// How many nodes and how many arc lines there are.
+    /// How many nodes and how many arc lines there are, each where its field is a number below 2^32.
     Problem(Option<u32>, Option<u32>),
-    /// An arc: from, to, weight.
-    Arc(Option<u32>, Option<u32>, Option<u32>),
+    /// An arc, where all three fields are numbers below 2^32.
+    Arc(Option<Arc>),
 }
 
 /// What the first line says, and what is behind it.
@@ -30,24 +32,24 @@ pub fn next_meaning(text: &[u8]) -> Option<(Line, &[u8])>
     ensures shorter { IfSome result (λ x. length x.1.now < length text.now) }
     ensures none { IfNone result (text.now ≡ []) }
 {
-    if let Some((from, to, weight, rest)) = plain_arc(text) {
-        return Some((Line::Arc(Some(from), Some(to), Some(weight)), rest));
+    if let Some((arc, rest)) = plain_arc(text) {
+        return Some((Line::Arc(Some(arc)), rest));
     }
     let (line, rest) = next_line(text)?;
     Some((meaning_of(line), rest))
 }
 
-/// From, to and weight of the first line, where it is an arc line in the form that nearly all have: single spaces, a
-/// line feed behind it, and numbers that fit. It is read as it stands, without being cut into fields first.
-fn plain_arc(text: &[u8]) -> Option<(u32, u32, u32, &[u8])>
-    ensures some { IfSome result (λ x. meanings text.now ≡ line.Arc (Some x.0) (Some x.1) (Some x.2) ∷ meanings x.3.now) }
-    ensures shorter { IfSome result (λ x. length x.3.now < length text.now) }
+/// The arc of the first line, where it is an arc line in the form that nearly all have: single spaces, a line feed
+/// behind it, and numbers that fit. It is read as it stands, without being cut into fields first.
+fn plain_arc(text: &[u8]) -> Option<(Arc, &[u8])>
+    ensures some { IfSome result (λ x. meanings text.now ≡ line.Arc (Some x.0) ∷ meanings x.1.now) }
+    ensures shorter { IfSome result (λ x. length x.1.now < length text.now) }
 {
     let fields = text.strip_prefix(b"a ")?;
     let (from, rest) = number_before(b' ', fields)?;
     let (to, rest) = number_before(b' ', rest)?;
     let (weight, rest) = number_before(b'\n', rest)?;
-    Some((from, to, weight, rest))
+    Some((Arc { from, to, weight }, rest))
 }
 
 /// The plain number of the digits at the front, where this byte stands right behind them, and what is behind that byte.
@@ -99,9 +101,20 @@ fn arc(fields: &[u8]) -> Line
     ensures { result ≡ arc_of (fields_of fields.now) }
 {
     match three_fields(fields) {
-        Some((from, to, weight)) => Line::Arc(number(from), number(to), number(weight)),
+        Some((from, to, weight)) => Line::Arc(arc_between(from, to, weight)),
         None => Line::Malformed,
     }
+}
+
+/// The arc of these fields, where all three are numbers.
+fn arc_between(from: &[u8], to: &[u8], weight: &[u8]) -> Option<Arc>
+    ensures { result ≡ arc_with (number_in from.now) (number_in to.now) (number_in weight.now) }
+{
+    Some(Arc {
+        from: number(from)?,
+        to: number(to)?,
+        weight: number(weight)?,
+    })
 }
 
 /// The fields, where there are just three.

@@ -7,7 +7,6 @@ ghost use Rattle.ghs_gr.specs.declared.line.Line.{Line};
 ghost use Rattle.std.specs.Option.{option_map};
 ghost use Rattle.std.specs.Prelude.{IfOk, List, None, [], length, ◌++◌, ◌+◌, ◌<◌, ◌≡◌, ◌≤◌, ◌∷◌};
 
-use crate::arc::link_in;
 use crate::check::line_fault;
 use crate::fault::LineFault;
 use crate::key::put_key;
@@ -93,9 +92,9 @@ impl Pass {
             Line::Problem(Some(nodes), Some(arcs)) => {
                 self.problem = Some(Problem { nodes, arcs });
             }
-            Line::Arc(..) => {
+            Line::Arc(Some(arc)) => {
                 self.found += 1;
-                if let Some(key) = link_in(line) {
+                if let Some(key) = arc.link() {
                     put_key(&mut self.keys, key)?;
                 }
             }

@@ -7,6 +7,7 @@ use Rattle.std.proofs.lemmas.Fmt.{decimal_nonempty, length-decimal-le}
 use Rattle.ghs_lines.specs.Fields.{fields_of}
 use Rattle.ghs_lines.specs.Lines.{lines_of}
 use Rattle.ghs_lines.proofs.lemmas.Words.{all_plain, decimal_plain, fields_of-last, fields_of-word, has_no_feed, has_no_feed-last, lines_of-line, number_of-decimal}
+use Rattle.ghs_gr.specs.Arc.{arc_with}
 use Rattle.ghs_gr.specs.Line.{meaning, meaning_of, meanings, number_in}
 use Rattle.ghs_gr.specs.RawGraph.{Triple}
 use Rattle.ghs_gr.specs.declared.line.Line.{Line}
@@ -62,7 +63,7 @@ arc_words : (u v w : ℕ) (rest : List ℕ) → arc_line (w, u, v) ++ rest ≡ (
 arc_words u v w rest = simp append_assoc
 
 abbrev pub arc_of : Triple → Line
-arc_of k = Arc (Some k.1) (Some k.2) (Some k.0)
+arc_of k = Arc (Some (record { from = k.1; to = k.2; weight = k.0 }))
 
 -- numbers that a text's line can say
 pub record AreNumbers (k : Triple) : Type 0 where
@@ -74,7 +75,7 @@ number_is : (n : ℕ) → n < 2 ^ 32 → number_in (decimal n) ≡ Some n
 number_is n small = number_of-decimal n (omega arith) (2 ^ 32 - 1) (omega arith)
 
 arc_meaning : (u v w : ℕ) → u < 2 ^ 32 → v < 2 ^ 32 → w < 2 ^ 32
-    → meaning (97 ∷ 32 ∷ (decimal u ++ 32 ∷ (decimal v ++ 32 ∷ decimal w))) ≡ Arc (Some u) (Some v) (Some w)
+    → meaning (97 ∷ 32 ∷ (decimal u ++ 32 ∷ (decimal v ++ 32 ∷ decimal w))) ≡ arc_of (w, u, v)
 arc_meaning u v w a b c =
     let us = decimal_plain u (omega arith) in
     let vs = decimal_plain v (omega arith) in
@@ -83,9 +84,9 @@ arc_meaning u v w a b c =
     ∙ ap (λ fs. (97 ∷ []) ∷ fs) (fields_of-word (decimal u) (decimal v ++ 32 ∷ decimal w) (decimal_nonempty u (omega arith)) us
     ∙ ap (λ fs. decimal u ∷ fs) (fields_of-word (decimal v) (decimal w) (decimal_nonempty v (omega arith)) vs
     ∙ ap (λ fs. decimal v ∷ fs) (fields_of-last (decimal w) (decimal_nonempty w (omega arith)) ws))))
-    ∙ ap (λ n. Arc n (number_in (decimal v)) (number_in (decimal w))) (number_is u a)
-    ∙ ap (λ n. Arc (Some u) n (number_in (decimal w))) (number_is v b)
-    ∙ ap (λ n. Arc (Some u) (Some v) n) (number_is w c)
+    ∙ ap (λ n. Arc (arc_with n (number_in (decimal v)) (number_in (decimal w)))) (number_is u a)
+    ∙ ap (λ n. Arc (arc_with (Some u) n (number_in (decimal w)))) (number_is v b)
+    ∙ ap (λ n. Arc (arc_with (Some u) (Some v) n)) (number_is w c)
 
 arc_no_feed : (u v w : ℕ) → u < 2 ^ 32 → v < 2 ^ 32 → w < 2 ^ 32 → has_no_feed (97 ∷ 32 ∷ (decimal u ++ 32 ∷ (decimal v ++ 32 ∷ decimal w))) ≡ true
 arc_no_feed u v w a b c =

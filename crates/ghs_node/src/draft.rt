@@ -32,6 +32,7 @@ impl Draft {
         }
     }
 
+    /// The reaction sends one message more, the last.
     pub(crate) fn send(&mut self, port: u32, message: Message) -> Result<(), AllocError>
         ensures { IfOk result (λ _. self.new ≡ record self.old { sends = self.old.sends ++ (port, message) ∷ [] }) }
     {

@@ -1,5 +1,5 @@
 //! The events that may be checked out.
-ghost use Rattle.std.specs.Prelude.{◌≡◌, ◌<◌, ◌++◌, ◌∷◌, [], Some, length, slice_get, if◌then◌else◌, IfOk};
+ghost use Rattle.std.specs.Prelude.{◌≡◌, ◌++◌, ◌∷◌, [], if◌then◌else◌, IfOk};
 ghost use Rattle.ghs_world.specs.Ready.{ready_events};
 
 use crate::world::World;
@@ -22,25 +22,6 @@ impl World {
             }
         }
         Ok(events)
-    }
-
-    /// How many events may be checked out where nothing is out, turns and memory aside. O(1).
-    pub fn ready_count(&self) -> usize
-        requires { self.now.outs ≡ [] }
-        ensures { result ≡ length (ready_events self.now) }
-    {
-        self.marked_count() as usize
-    }
-
-    /// Of the events that may be checked out where nothing is out (by node, Wake before ports, ports rising) the one at
-    /// place `k`, counted from 0. O(log N).
-    pub fn ready_at(&self, k: usize) -> Event
-        requires home { self.now.outs ≡ [] }
-        requires within { k < length (ready_events self.now) }
-        ensures { slice_get (ready_events self.now) k ≡ Some result }
-    {
-        let _ = self.marked_count();
-        self.marked_at(k as u32)
     }
 }
 

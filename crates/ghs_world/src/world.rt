@@ -168,6 +168,7 @@ impl World {
         ensures made { OnOk result (Makes self.old event self.new) }
         ensures err { OnErr result (IsSameWorld self.old self.new) }
     {
+        // This is asked first, since then no node is touched. `react` asks it again: a reaction is whole by itself.
         if let Event::Take(v, port) = event {
             if self.net.waits_at(v, port) {
                 return self.put_back(v, port);
@@ -221,7 +222,7 @@ impl World {
         self.outs.skip_number();
     }
 
-    /// Makes room for an event in the net.
+    /// Makes room for an event in the net. The world is seen as before.
     fn reserve(&mut self, event: Event, delta: &Delta) -> Result<(), AllocError>
         requires lawful { IsLawful self.old.net event }
         requires answer { IsAnswer self.old.net event delta.now }
@@ -345,21 +346,24 @@ impl World {
         !self.outs.has_node(v) && self.has_lawful(v)
     }
 
-    /// How many events are lawful in the home view, under the wake set.
-    pub(crate) fn marked_count(&self) -> u32
-        ensures { result ≡ length (filter (may_happen self.now) (all_events (network self.now.net))) }
+    /// How many events may be checked out where nothing is out, turns and memory aside. O(1).
+    pub fn ready_count(&self) -> usize
+        requires { self.now.outs ≡ [] }
+        ensures { result ≡ length (ready_events self.now) }
     {
         let _ = &self.net;
-        self.index.count()
+        self.index.count() as usize
     }
 
-    /// Of these the one at place `k`, counted from 0.
-    pub(crate) fn marked_at(&self, k: u32) -> Event
-        requires { k < length (filter (may_happen self.now) (all_events (network self.now.net))) }
-        ensures { slice_get (filter (may_happen self.now) (all_events (network self.now.net))) k ≡ Some result }
+    /// Of the events that may be checked out where nothing is out (by node, Wake before ports, ports rising) the one at
+    /// place `k`, counted from 0. O(log N).
+    pub fn ready_at(&self, k: usize) -> Event
+        requires home { self.now.outs ≡ [] }
+        requires within { k < length (ready_events self.now) }
+        ensures { slice_get (ready_events self.now) k ≡ Some result }
     {
         let _ = self.index.count();
-        self.index.kth(self.net.graph(), k)
+        self.index.kth(self.net.graph(), k as u32)
     }
 
     /// Whether one of a node's events is lawful in the home view, under the wake set.

@@ -1,6 +1,22 @@
+use Rattle.std.proofs.Common.{◌≡◌, rules}
+use Rattle.ghs_graph.specs.Graph.{IsGraph}
+use Rattle.ghs_node.specs.declared.work.Work.TheVariants.{Deliver}
+use Rattle.ghs_protocol.specs.Run.{IsRun, net_after}
+use Rattle.ghs_core.specs.NetState.{net_of, network, work_at}
 use Rattle.ghs_core.proofs.Interleaved.{work_has_rule}
+use Rattle.ghs_core.proofs.Reading.{lawful_port}
+use Rattle.ghs_core.proofs.Showing.{port_queue}
 use Rattle.ghs_core.proofs.net.Net.work.Goals as goal
 
-pub returns-clause-rule : goal.returns-clause-rule
-returns-clause-rule c =
-    work_has_rule _ _ c.work_of.ensures.graph c.work_of.ensures.run c.args.event c.work_of.result c.requires c.work_of.ensures.work
+pub front-requires : goal.front-requires
+front-requires c =
+    let lawful = rw (← c.self.view_is, c.in-Take.is) at c.requires in
+    port_queue c.self.invariant.queues c.in-Take.v c.in-Take.port
+    (lawful_port _ (net_after c.self.inside.graph c.self.inside.trace.items) c.in-Take.v c.in-Take.port lawful)
+
+pub returns-in-Take-clause-rule : goal.returns-in-Take-clause-rule
+returns-in-Take-clause-rule c =
+    let graph : IsGraph c.args.self.now.graph = rw (← c.self.view_is) c.self.invariant.graph in
+    let run : IsRun (network c.args.self.now) c.args.self.now.trace = rw (← c.self.view_is) c.self.invariant.run in
+    let work : Deliver c.in-Take.port c.unwrap.result ≡ work_at (net_of c.args.self.now) c.args.event = search rules in
+    work_has_rule _ _ graph run c.args.event _ c.requires work
