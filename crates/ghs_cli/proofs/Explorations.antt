@@ -1,22 +1,18 @@
 -- What an exploration comes to.
-use Rattle.std.proofs.Common.{◌≡◌, ◌⊎◌, ℕ, suc, ◌+◌, ◌-◌, ◌<◌, ◌≤◌, List, None, Option, Some, Vec, Global, arith, length, ⊎_elim, inr, subst, sym}
-use Rattle.std.specs.Prelude.{IfErr, IfOk, IfSome, Result, Ok, Err, get_or, slice_get}
+use Rattle.std.proofs.Common.{◌≡◌, ◌⊎◌, ℕ, ◌-◌, ◌<◌, ◌≤◌, List, None, Some, arith, length, ⊎_elim, subst, sym}
+use Rattle.std.specs.Prelude.{IfOk, Result, Ok, Err, get_or, slice_get}
 use Rattle.std.proofs.lemmas.Option.{slice_get_cases}
 use Rattle.ghs_explore.specs.Ends.{AreEnds, EndsIn, RowsHaveRange}
 use Rattle.ghs_explore.specs.Explored.{Exploration}
 use Rattle.ghs_explore.specs.States.{HasStates}
 use Rattle.ghs_explore.specs.Text.{IsExploredText}
 use Rattle.ghs_explore.specs.declared.row.EndRow.{EndRow}
-use Rattle.ghs_gr.specs.Judgement.{TextIs}
-use Rattle.ghs_gr.specs.RawGraph.{RawShape}
 use Rattle.ghs_graph.specs.Graph.{IsGraph, Shape}
 use Rattle.ghs_protocol.specs.declared.event.Event.{Event}
 use Rattle.ghs_sched.specs.Text.{trace_text}
 use Rattle.ghs_world.specs.declared.wake_set.WakeSet.{WakeSet}
 use Rattle.ghs_commands.specs.declared.exploring.ExploreOptions.{ExploreOptions}
-use Rattle.ghs_cli.specs.declared.fault.ServeFault.{ServeFault}
-use Rattle.ghs_cli.specs.Exploring.{AreEndsOf, HasNoExploration, IsExplored, IsRunOf}
-use Rattle.ghs_cli.specs.Serving.{IsExploreCause, IsExploreOutput, shape_of}
+use Rattle.ghs_cli.specs.Exploring.{AreEndsOf, IsRunOf}
 
 -- what the runs of the options' wake set end with, printed
 are_ends : (o : ExploreOptions) (g : Shape) (wake : WakeSet) (rows : List EndRow) (states : ℕ) (text : List ℕ) →
@@ -85,21 +81,3 @@ run_printed o g x events text graph wake first few ends run printed =
       run = subst (λ (w : WakeSet). EndsIn x.graph w found.0 events) wake (run found.0 found.1);
       printed = printed;
     })
-
--- what is found of a graph is found of the input that is its text
-pub explore_output : {A : Type 0} (r : Result A ServeFault) (text : A → List ℕ) (o : ExploreOptions) (raw : RawShape) (input : Option (List ℕ)) →
-    IfOk r (λ x. IsExplored o (shape_of raw) (text x)) →
-    IfSome input (λ i. TextIs i (Ok raw)) →
-    IfOk r (λ x. IfSome input (λ i. IsExploreOutput o i (text x)))
-explore_output (Ok x) text o raw None found is = tt
-explore_output (Ok x) text o raw (Some i) found is = (raw, is, found)
-explore_output (Err fault) text o raw input found is = tt
-
--- and so is why nothing is
-pub explore_cause : {A : Type 0} (r : Result A ServeFault) (o : ExploreOptions) (raw : RawShape) (input : Option (List ℕ)) →
-    IfErr r (HasNoExploration o (shape_of raw)) →
-    IfSome input (λ i. TextIs i (Ok raw)) →
-    IfErr r (λ fault. IfSome input (λ i. IsExploreCause o i fault))
-explore_cause (Ok x) o raw input none is = tt
-explore_cause (Err fault) o raw None none is = tt
-explore_cause (Err fault) o raw (Some i) none is = inr (raw, is, none)

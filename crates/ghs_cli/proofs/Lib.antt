@@ -9,5 +9,6 @@ mod Runs
 mod Serves
 mod Sheets
 mod Stepped
+mod Texts
 mod Traces
 mod Views

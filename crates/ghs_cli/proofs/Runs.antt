@@ -1,19 +1,14 @@
 -- What a run of a world comes to.
-use Rattle.std.proofs.Common.{◌≡◌, ◌∙◌, ℕ, ◌+◌, ◌-◌, ◌≤◌, ◌<◌, ◌^◌, ◌⊎◌, ⊎_elim, Bool, true, List, [], Option, Some, None, ap, arith, inr, length, subst, sym}
-use Rattle.std.specs.Prelude.{IfErr, IfOk, IfSome, OnErr, OnOk, Result, Ok, Err}
-use Rattle.ghs_gr.specs.Judgement.{TextIs}
-use Rattle.ghs_gr.specs.RawGraph.{RawShape}
+use Rattle.std.proofs.Common.{◌≡◌, ◌∙◌, ℕ, ◌+◌, ◌≤◌, ◌<◌, Bool, true, false, List, Option, arith, inr, length, subst, sym}
+use Rattle.std.specs.Prelude.{IfErr, IfOk, OnErr, OnOk, Result, Ok, Err}
 use Rattle.ghs_graph.specs.Graph.{Shape}
-use Rattle.ghs_protocol.specs.declared.event.Event.{Event}
 use Rattle.ghs_protocol.specs.Marks.{HasEnded}
 use Rattle.ghs_protocol.specs.Network.{network_of}
 use Rattle.ghs_protocol.specs.Run.{IsRunUnder}
 use Rattle.ghs_picking.specs.Picking.{AreRounds, IsPickedBy, StopsFor}
 use Rattle.ghs_pool.specs.Ends.{EndFits}
 use Rattle.ghs_pool.specs.declared.end.PoolFault.{PoolFault}
-use Rattle.ghs_pool.specs.declared.end.PoolFault.TheVariants as pool
 use Rattle.ghs_sched.specs.Runs.{IsEnd}
-use Rattle.ghs_sched.specs.Text.{trace_text}
 use Rattle.ghs_sched.specs.declared.fault.RunFault.{RunFault}
 use Rattle.ghs_sched.specs.declared.fault.RunFault.TheVariants.{TurnLimit}
 use Rattle.ghs_sched.specs.declared.run.RunEnd.{RunEnd}
@@ -21,13 +16,13 @@ use Rattle.ghs_sched.specs.declared.run.RunEnd.TheVariants.{Halted}
 use Rattle.ghs_world.specs.declared.wake_set.WakeSet.{WakeSet}
 use Rattle.ghs_world.specs.Wakes.{may_wake}
 use Rattle.ghs_world.specs.WorldState.{WorldState, home, wakers}
+use Rattle.ghs_report.specs.Writing.{HasWritten}
 use Rattle.ghs_cli.specs.declared.fault.ServeFault.{ServeFault}
+use Rattle.ghs_cli.specs.declared.fault.ServeFault.TheVariants as serve
 use Rattle.ghs_commands.specs.declared.job.RunOptions.{RunOptions}
-use Rattle.ghs_commands.specs.declared.job.Show.TheVariants.{Events}
-use Rattle.ghs_commands.specs.declared.job.Task.{Task}
 use Rattle.ghs_commands.specs.declared.job.Task.TheVariants as task
-use Rattle.ghs_cli.specs.Running.{IsOpened}
-use Rattle.ghs_cli.specs.Serving.{AreItsRounds, IfStored, IsCause, IsRan, IsRunBy, IsRunOutput, IsRunningCause, IsStopped, IsWholeRun, StopsRun, shape_of}
+use Rattle.ghs_cli.specs.Running.{IsOpened, Stops}
+use Rattle.ghs_cli.specs.Serving.{AreItsRounds, IsRunBy, IsRunOutput, IsRunningCause, IsStopped, IsWholeRun, Serves, StopsRun}
 
 -- what a world holds of its run, as the options ask
 pub is_run_by : (o : RunOptions) (new : WorldState) (limit : ℕ) →
@@ -173,37 +168,51 @@ stopped_threads o new limit events some wake turns run is fits count least goes 
       goes_on = goes;
     }
 
--- what goes out of one that has used its turns
-pub stopped_text : (o : RunOptions) (g : Shape) (events : List Event) (at_limit : Bool) (text : List ℕ) →
-    IsStopped o g events →
-    o.show ≡ Events →
-    at_limit ≡ true →
-    text ≡ trace_text events →
-    IsRan o g at_limit text
-stopped_text o g events at_limit text stopped asked limit printed =
-    rw limit (record { events = events; stopped = stopped; asked = asked; printed = printed })
+-- what goes out at the turn limit is of a run that has used its turns
+pub limit_cause : (o : RunOptions) (input output : List ℕ) → IsRunOutput o true input output → IsRunningCause o input serve.TurnLimit
+limit_cause o input output out = inr (out.0, out.1, (out.2.events, out.2.stopped))
 
--- what goes out of a graph's run goes out of the input that is its text
-pub run_output : {A : Type 0} (r : Result A ServeFault) (at_limit : A → Bool) (text : A → List ℕ) (o : RunOptions) (raw : RawShape)
-    (input : Option (List ℕ)) → IfOk r (λ x. IsRan o (shape_of raw) (at_limit x) (text x)) →
-    IfSome input (λ i. TextIs i (Ok raw)) →
-    IfOk r (λ x. IfSome input (λ i. IsRunOutput o (at_limit x) i (text x)))
-run_output (Ok x) at_limit text o raw None ran is = tt
-run_output (Ok x) at_limit text o raw (Some i) ran is = (raw, is, ran)
-run_output (Err fault) at_limit text o raw input ran is = tt
+-- a run stops in a world where its turns are used,
+pub stops_at_limit : (o : RunOptions) (s : WorldState) → IsStopped o s.net.graph s.net.trace → Stops o s serve.TurnLimit
+stops_at_limit o s stopped = record { cause = (s.net.trace, stopped); used = λ limit. stopped }
 
-pub run_cause : {A : Type 0} (r : Result A ServeFault) (o : RunOptions) (raw : RawShape) (input : Option (List ℕ)) →
-    IfErr r (StopsRun o (shape_of raw)) →
-    IfSome input (λ i. TextIs i (Ok raw)) →
-    IfErr r (λ fault. IfSome input (λ i. IsRunningCause o i fault))
-run_cause (Ok x) o raw input stops is = tt
-run_cause (Err fault) o raw None stops is = tt
-run_cause (Err fault) o raw (Some i) stops is = inr (raw, is, stops)
+-- or for any other fault that stops a run
+pub stops_for : (o : RunOptions) (s : WorldState) (fault : ServeFault) → StopsRun o s.net.graph fault → (fault ≡ serve.TurnLimit → ⊥) →
+    Stops o s fault
+stops_for o s fault cause other = record { cause = cause; used = λ limit. absurd (other limit) }
 
--- a run's fault is its task's
-pub task_cause : {A : Type 0} (r : Result A ServeFault) (job : Task) (o : RunOptions) (stored input : Option (List ℕ)) →
-    job ≡ task.Run o →
-    IfErr r (λ fault. IfSome input (λ i. IsRunningCause o i fault)) →
-    IfErr r (λ fault. IfStored job stored (λ s. IfSome input (λ i. IsCause job s i fault)))
-task_cause (Ok x) job o stored input is cause = tt
-task_cause (Err fault) job o stored input is cause = rw is (λ bytes. cause)
+-- what goes out of a run serves its task: all of it,
+pub run_all : (o : RunOptions) (stored input bytes output : List ℕ) (old new : Option (List ℕ)) →
+    bytes ≡ output →
+    HasWritten old new bytes (length bytes) →
+    IsRunOutput o false input output →
+    Serves (task.Run o) stored input old new (Ok tt)
+run_all o stored input bytes output old new same has out = (output, out, subst (λ (b : List ℕ). HasWritten old new b (length b)) same has)
+
+-- all of it, and the turns are used,
+pub run_limit : (o : RunOptions) (stored input bytes output : List ℕ) (old new : Option (List ℕ)) →
+    bytes ≡ output →
+    HasWritten old new bytes (length bytes) →
+    IsRunOutput o true input output →
+    Serves (task.Run o) stored input old new (Err serve.TurnLimit)
+run_limit o stored input bytes output old new same has out = (
+  limit_cause o input output out,
+  λ shows. (output, out, subst (λ (b : List ℕ). HasWritten old new b (length b)) same has),
+)
+
+-- or its first bytes, where a write failed
+pub run_part : (o : RunOptions) (at_limit : Bool) (stored input bytes output : List ℕ) (old new : Option (List ℕ))
+    (r : Result (Unit {0}) ServeFault) (written : ℕ) →
+    bytes ≡ output →
+    r ≡ Err (serve.Write written) →
+    written < length bytes →
+    HasWritten old new bytes written →
+    IsRunOutput o at_limit input output →
+    Serves (task.Run o) stored input old new r
+run_part o at_limit stored input bytes output old new r written same is less has out =
+    rw is (
+      output,
+      (at_limit, out),
+      subst (λ (b : List ℕ). written < length b) same less,
+      subst (λ (b : List ℕ). HasWritten old new b written) same has,
+    )

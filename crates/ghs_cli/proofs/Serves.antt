@@ -1,7 +1,6 @@
 -- What serving comes to, put together from its parts.
-use Rattle.std.proofs.Common.{◌≡◌, ◌∙◌, ℕ, ◌<◌, Bool, true, false, List, Option, Some, None, inr, length, map, refl, subst, sym}
+use Rattle.std.proofs.Common.{◌≡◌, ◌∙◌, ℕ, ◌<◌, ◌&&◌, ◌||◌, Bool, true, false, List, Option, Some, None, Vec, Global, inr, length, map, refl, subst, sym}
 use Rattle.std.specs.Prelude.{IfErr, IfOk, IfSome, OnOk, Result, Ok, Err}
-use Rattle.ghs_gr.specs.Judgement.{TextIs}
 use Rattle.ghs_gr.specs.RawGraph.{RawShape}
 use Rattle.ghs_graph.specs.declared.key.Key.{Key}
 use Rattle.ghs_graph.specs.Graph.{Shape}
@@ -18,29 +17,17 @@ use Rattle.ghs_cli.specs.declared.fault.ServeFault.{ServeFault}
 use Rattle.ghs_cli.specs.declared.fault.ServeFault.TheVariants as serve
 use Rattle.ghs_commands.specs.declared.job.Task.{Task}
 use Rattle.ghs_commands.specs.declared.job.Task.TheVariants as task
-use Rattle.ghs_cli.specs.Serving.{GoesOn, HasBegun, IfStored, IsCause, IsOutput, IsPrinted, IsPrintedAtLimit, IsReplayCause, IsReplayed, IsRunCause, IsTraceText, IsTried, Serves, is_late, shape_of}
+use Rattle.ghs_cli.specs.Printing.{HasGoneOut, HasPrinted}
+use Rattle.ghs_cli.specs.Serving.{GoesOn, HasBegun, IfStored, IsCause, IsPrinted, IsReplayCause, IsReplayText, IsReplayed, IsRunCause, IsTextOf, IsTraceText, IsTried, IsUnread, IsUnwritten, Serves, by_portions, is_late, is_limit, is_memory, is_write, shape_of, shows_events}
 
--- what follows for each stored text follows where the task reads one
-pub if_stored : (job : Task) (stored : Option (List ℕ)) (P Q : List ℕ → Type 0) →
-    ((bytes : List ℕ) → P bytes → Q bytes) →
-    IfStored job stored P →
-    IfStored job stored Q
-if_stored (task.Tree core) stored P Q f all = λ bytes. f bytes (all bytes)
-if_stored (task.Run o) stored P Q f all = λ bytes. f bytes (all bytes)
-if_stored (task.Sweep o) stored P Q f all = λ bytes. f bytes (all bytes)
-if_stored (task.View o) stored P Q f all = λ bytes. f bytes (all bytes)
-if_stored (task.Make asked) stored P Q f all = λ bytes. f bytes (all bytes)
-if_stored (task.Explore o) stored P Q f all = λ bytes. f bytes (all bytes)
-if_stored (task.StoredView o) None P Q f all = tt
-if_stored (task.StoredView o) (Some bytes) P Q f all = f bytes all
-if_stored (task.Replay wake) None P Q f all = tt
-if_stored (task.Steps o) None P Q f all = tt
-if_stored (task.Steps o) (Some bytes) P Q f all = f bytes all
-if_stored (task.Replay wake) (Some bytes) P Q f all = f bytes all
-
+-- what follows for each text follows where one is known
 pub if_some : (o : Option (List ℕ)) (P Q : List ℕ → Type 0) → ((bytes : List ℕ) → P bytes → Q bytes) → IfSome o P → IfSome o Q
 if_some None P Q f all = tt
 if_some (Some bytes) P Q f all = f bytes all
+
+pub for_some : (o : Option (List ℕ)) (P : List ℕ → Type 0) → ((bytes : List ℕ) → P bytes) → IfSome o P
+for_some None P all = tt
+for_some (Some bytes) P all = all bytes
 
 -- where memory can't be wanting behind output, none has gone out
 begun : (job : Task) (stored input : List ℕ) (old new : Option (List ℕ)) → is_late job serve.Memory ≡ false → HasBegun job stored input old new
@@ -90,29 +77,60 @@ serves_cause job stored input old new serve.Read early cause = cause
 serves_cause job stored input old new (serve.Write written) early cause = cc
 serves_cause job stored input old new serve.Unforeseen early cause = cause
 
--- a graph and a trace that give a fault together
-pub faults_together : {A : Type 0} (r : Result A ServeFault) (wake : WakeSet) (graph : RawShape) (events : List Event)
+-- a graph and a trace give a fault together
+pub fault_together : (wake : WakeSet) (stored input : List ℕ) (g : Shape) (events : List Event) (fault : ServeFault) →
+    IsTraceText stored events →
+    IsTextOf input g →
+    IsRunCause wake g events fault →
+    IsReplayCause wake stored input fault
+fault_together wake stored input g events fault trace (raw, text, same) cause = inr (inr (record {
+  events = events;
+  trace = trace;
+  graph = raw;
+  text = text;
+  cause = subst (λ (h : Shape). IsRunCause wake h events fault) same cause;
+}))
+
+-- and so does a result of them
+pub faults_together : {A : Type 0} (r : Result A ServeFault) (wake : WakeSet) (g : Shape) (events : List Event)
     (stored input : Option (List ℕ)) →
-    IfErr r (IsRunCause wake graph events) →
+    IfErr r (IsRunCause wake g events) →
     IfSome stored (λ s. IsTraceText s events) →
-    IfSome input (λ i. TextIs i (Ok graph)) →
+    IfSome input (λ i. IsTextOf i g) →
     IfErr r (λ fault. IfSome stored (λ s. IfSome input (λ i. IsReplayCause wake s i fault)))
-faults_together (Ok x) wake graph events stored input cause trace text = tt
-faults_together (Err fault) wake graph events None input cause trace text = tt
-faults_together (Err fault) wake graph events (Some s) None cause trace text = tt
-faults_together (Err fault) wake graph events (Some s) (Some i) cause trace text =
-    inr (inr (record { events = events; trace = trace; graph = graph; text = text; cause = cause }))
+faults_together (Ok x) wake g events stored input cause trace text = tt
+faults_together (Err fault) wake g events None input cause trace text = tt
+faults_together (Err fault) wake g events (Some s) None cause trace text = tt
+faults_together (Err fault) wake g events (Some s) (Some i) cause trace text = fault_together wake s i g events fault trace text cause
+
+-- or a replay
+pub replay_output : {A : Type 0} (r : Result A ServeFault) (out : A → List ℕ) (wake : WakeSet) (g : Shape) (events : List Event)
+    (stored input : Option (List ℕ)) →
+    IfOk r (λ x. IsReplayed wake g events (out x)) →
+    IfSome stored (λ s. IsTraceText s events) →
+    IfSome input (λ i. IsTextOf i g) →
+    IfOk r (λ x. IfSome stored (λ s. IfSome input (λ i. IsReplayText wake s i (out x))))
+replay_output (Err fault) out wake g events stored input replayed trace text = tt
+replay_output (Ok x) out wake g events None input replayed trace text = tt
+replay_output (Ok x) out wake g events (Some s) None replayed trace text = tt
+replay_output (Ok x) out wake g events (Some s) (Some i) replayed trace (raw, text, same) = record {
+  graph = raw;
+  text = text;
+  events = events;
+  trace = trace;
+  replayed = subst (λ (h : Shape). IsReplayed wake h events (out x)) same replayed;
+}
 
 -- a world that stands at the end of events has their text
-pub is_replayed : (wake own : WakeSet) (raw : RawShape) (g : Shape) (done events : List Event) (text : List ℕ) →
-    g ≡ shape_of raw →
+pub is_replayed : (wake own : WakeSet) (h g : Shape) (done events : List Event) (text : List ℕ) →
+    g ≡ h →
     done ≡ events →
     own ≡ wake →
     IsRunUnder (may_wake g own) (network_of g) done →
     HasEnded g (net_after g done) →
     IsReportText g (net_after g done) text →
-    IsReplayed wake raw events text
-is_replayed wake own raw g done events text graph trace wakes run ended printed = record {
+    IsReplayed wake h events text
+is_replayed wake own h g done events text graph trace wakes run ended printed = record {
   run =
       subst (λ (s : Shape). IsRunUnder (may_wake s wake) (network_of s) events) graph
       (subst (λ (es : List Event). IsRunUnder (may_wake g wake) (network_of g) es) trace
@@ -123,48 +141,48 @@ is_replayed wake own raw g done events text graph trace wakes run ended printed 
 }
 
 -- a world whose run goes on gives its fault
-pub goes_on : (wake own : WakeSet) (raw : RawShape) (g : Shape) (done events : List Event) (fault : ServeFault) →
-    g ≡ shape_of raw →
+pub goes_on : (wake own : WakeSet) (h g : Shape) (done events : List Event) (fault : ServeFault) →
+    g ≡ h →
     done ≡ events →
     own ≡ wake →
     IsRunUnder (may_wake g own) (network_of g) done →
     GoesOn g (net_after g done) fault →
-    IsRunCause wake raw events fault
-goes_on wake own raw g done events serve.PageTooLarge graph trace wakes run goes = absurd goes
-goes_on wake own raw g done events serve.NodesOutside graph trace wakes run goes = absurd goes
-goes_on wake own raw g done events serve.LinksGiven graph trace wakes run goes = absurd goes
-goes_on wake own raw g done events serve.WeightsGiven graph trace wakes run goes = absurd goes
-goes_on wake own raw g done events (serve.LinksOutside least most) graph trace wakes run goes = absurd goes
-goes_on wake own raw g done events serve.TooManyLinks graph trace wakes run goes = absurd goes
-goes_on wake own raw g done events serve.TooLargeToExplore graph trace wakes run goes = absurd goes
-goes_on wake own raw g done events (serve.NoSuchEnd ends) graph trace wakes run goes = absurd goes
-goes_on wake own raw g done events (serve.StateLimit limit) graph trace wakes run goes = absurd goes
-goes_on wake own raw g done events serve.TurnLimit graph trace wakes run goes = absurd goes
-goes_on wake own raw g done events serve.Stalled graph trace wakes run goes = absurd goes
-goes_on wake own raw g done events serve.NotEnded graph trace wakes run goes = (
+    IsRunCause wake h events fault
+goes_on wake own h g done events serve.PageTooLarge graph trace wakes run goes = absurd goes
+goes_on wake own h g done events serve.NodesOutside graph trace wakes run goes = absurd goes
+goes_on wake own h g done events serve.LinksGiven graph trace wakes run goes = absurd goes
+goes_on wake own h g done events serve.WeightsGiven graph trace wakes run goes = absurd goes
+goes_on wake own h g done events (serve.LinksOutside least most) graph trace wakes run goes = absurd goes
+goes_on wake own h g done events serve.TooManyLinks graph trace wakes run goes = absurd goes
+goes_on wake own h g done events serve.TooLargeToExplore graph trace wakes run goes = absurd goes
+goes_on wake own h g done events (serve.NoSuchEnd ends) graph trace wakes run goes = absurd goes
+goes_on wake own h g done events (serve.StateLimit limit) graph trace wakes run goes = absurd goes
+goes_on wake own h g done events serve.TurnLimit graph trace wakes run goes = absurd goes
+goes_on wake own h g done events serve.Stalled graph trace wakes run goes = absurd goes
+goes_on wake own h g done events serve.NotEnded graph trace wakes run goes = (
   subst (λ (s : Shape). IsRunUnder (may_wake s wake) (network_of s) events) graph
       (subst (λ (es : List Event). IsRunUnder (may_wake g wake) (network_of g) es) trace
       (subst (λ (w : WakeSet). IsRunUnder (may_wake g w) (network_of g) done) wakes run)),
   subst (λ (s : Shape). HasEnded s (net_after s events) → ⊥) graph (subst (λ (es : List Event). HasEnded g (net_after g es) → ⊥) trace goes),
 )
-goes_on wake own raw g done events serve.Memory graph trace wakes run goes = tt
-goes_on wake own raw g done events serve.NoThread graph trace wakes run goes = absurd goes
-goes_on wake own raw g done events serve.Strange graph trace wakes run goes = absurd goes
-goes_on wake own raw g done events (serve.BadLine line) graph trace wakes run goes = absurd goes
-goes_on wake own raw g done events (serve.ArcBeforeProblem line) graph trace wakes run goes = absurd goes
-goes_on wake own raw g done events (serve.SecondProblem line) graph trace wakes run goes = absurd goes
-goes_on wake own raw g done events (serve.Number line) graph trace wakes run goes = absurd goes
-goes_on wake own raw g done events (serve.NodeRange line) graph trace wakes run goes = absurd goes
-goes_on wake own raw g done events serve.NoProblem graph trace wakes run goes = absurd goes
-goes_on wake own raw g done events (serve.ArcCount said found) graph trace wakes run goes = absurd goes
-goes_on wake own raw g done events serve.TooLong graph trace wakes run goes = absurd goes
-goes_on wake own raw g done events (serve.TraceBadLine line) graph trace wakes run goes = absurd goes
-goes_on wake own raw g done events (serve.TraceNumber line) graph trace wakes run goes = absurd goes
-goes_on wake own raw g done events (serve.TraceCount said found) graph trace wakes run goes = absurd goes
-goes_on wake own raw g done events (serve.NotLawful k) graph trace wakes run goes = absurd goes
-goes_on wake own raw g done events serve.Read graph trace wakes run goes = absurd goes
-goes_on wake own raw g done events (serve.Write written) graph trace wakes run goes = absurd goes
-goes_on wake own raw g done events serve.Unforeseen graph trace wakes run goes = absurd goes
+goes_on wake own h g done events serve.Memory graph trace wakes run goes = tt
+goes_on wake own h g done events serve.NoThread graph trace wakes run goes = absurd goes
+goes_on wake own h g done events serve.Strange graph trace wakes run goes = absurd goes
+goes_on wake own h g done events (serve.BadLine line) graph trace wakes run goes = absurd goes
+goes_on wake own h g done events (serve.ArcBeforeProblem line) graph trace wakes run goes = absurd goes
+goes_on wake own h g done events (serve.SecondProblem line) graph trace wakes run goes = absurd goes
+goes_on wake own h g done events (serve.Number line) graph trace wakes run goes = absurd goes
+goes_on wake own h g done events (serve.NodeRange line) graph trace wakes run goes = absurd goes
+goes_on wake own h g done events serve.NoProblem graph trace wakes run goes = absurd goes
+goes_on wake own h g done events (serve.ArcCount said found) graph trace wakes run goes = absurd goes
+goes_on wake own h g done events serve.TooLong graph trace wakes run goes = absurd goes
+goes_on wake own h g done events (serve.TraceBadLine line) graph trace wakes run goes = absurd goes
+goes_on wake own h g done events (serve.TraceNumber line) graph trace wakes run goes = absurd goes
+goes_on wake own h g done events (serve.TraceCount said found) graph trace wakes run goes = absurd goes
+goes_on wake own h g done events (serve.NotLawful k) graph trace wakes run goes = absurd goes
+goes_on wake own h g done events serve.Read graph trace wakes run goes = absurd goes
+goes_on wake own h g done events (serve.Write written) graph trace wakes run goes = absurd goes
+goes_on wake own h g done events serve.Unforeseen graph trace wakes run goes = absurd goes
 
 -- what follows for each value, or each fault, follows for a result
 pub if_ok : {A E : Type 0} (r : Result A E) (H : Type 0) (P Q : A → Type 0) → ((x : A) → H → P x → Q x) → OnOk r H → IfOk r P → IfOk r Q
@@ -189,84 +207,147 @@ pub serves_fault : (job : Task) (stored input : List ℕ) (old new : Option (Lis
     Serves job stored input old new r
 serves_fault job stored input old new r fault is early cause = rw is (serves_cause job stored input old new fault early cause)
 
--- what goes out is what the task prints, or what it prints at the turn limit
-pub printed_of : (job : Task) (stored input output : List ℕ) → IsOutput job false stored input output → IsPrinted job stored input output
-printed_of (task.Tree core) stored input output out = out.1
-printed_of (task.Run o) stored input output out = out
-printed_of (task.Replay wake) stored input output out = out.1
-printed_of (task.Steps o) stored input output out = absurd out
-printed_of (task.Sweep o) stored input output out = out.1
-printed_of (task.View o) stored input output out = out.1
-printed_of (task.StoredView o) stored input output out = out.1
-printed_of (task.Make asked) stored input output out = absurd out
-printed_of (task.Explore o) stored input output out = out.1
+-- what a task prints may have gone out in part
+tried_of : (job : Task) (stored input output : List ℕ) → IsPrinted job stored input output → IsTried job stored input output
+tried_of (task.Tree core) stored input output printed = printed
+tried_of (task.Run o) stored input output printed = (false, printed)
+tried_of (task.Replay wake) stored input output printed = printed
+tried_of (task.Steps o) stored input output printed = printed
+tried_of (task.Sweep o) stored input output printed = printed
+tried_of (task.View o) stored input output printed = printed
+tried_of (task.StoredView o) stored input output printed = printed
+tried_of (task.Make asked) stored input output printed = printed
+tried_of (task.Explore o) stored input output printed = printed
 
-pub printed_at_limit : (job : Task) (stored input output : List ℕ) → IsOutput job true stored input output → IsPrintedAtLimit job input output
-printed_at_limit (task.Tree core) stored input output out = absurd (let bad : true ≡ false = out.0 in cc)
-printed_at_limit (task.Run o) stored input output out = out
-printed_at_limit (task.Replay wake) stored input output out = absurd (let bad : true ≡ false = out.0 in cc)
-printed_at_limit (task.Steps o) stored input output out = absurd out
-printed_at_limit (task.Sweep o) stored input output out = absurd (let bad : true ≡ false = out.0 in cc)
-printed_at_limit (task.View o) stored input output out = absurd (let bad : true ≡ false = out.0 in cc)
-printed_at_limit (task.StoredView o) stored input output out = absurd (let bad : true ≡ false = out.0 in cc)
-printed_at_limit (task.Make asked) stored input output out = absurd out
-printed_at_limit (task.Explore o) stored input output out = absurd (let bad : true ≡ false = out.0 in cc)
+-- an output that has gone out serves the task that prints it
+serves_output : (job : Task) (stored input output : List ℕ) (old new : Option (List ℕ)) (r : Result (Unit {0}) ServeFault) →
+    IsPrinted job stored input output →
+    HasGoneOut output old new r →
+    Serves job stored input old new r
+serves_output job stored input output old new (Ok u) printed out = (output, printed, out.whole)
+serves_output job stored input output old new (Err fault) printed out =
+    let part = out.part in rw part.is (output, tried_of job stored input output printed, part.less, part.has)
 
-tried_of : (job : Task) (at_limit : Bool) (stored input output : List ℕ) → IsOutput job at_limit stored input output → IsTried job stored input output
-tried_of (task.Tree core) at_limit stored input output out = out.1
-tried_of (task.Run o) at_limit stored input output out = (at_limit, out)
-tried_of (task.Replay wake) at_limit stored input output out = out.1
-tried_of (task.Steps o) at_limit stored input output out = absurd out
-tried_of (task.Sweep o) at_limit stored input output out = out.1
-tried_of (task.View o) at_limit stored input output out = out.1
-tried_of (task.StoredView o) at_limit stored input output out = out.1
-tried_of (task.Make asked) at_limit stored input output out = absurd out
-tried_of (task.Explore o) at_limit stored input output out = out.1
+-- a fault is a late one where one of these is true
+none_late : (write memory limit portions events : Bool) → write ≡ false → portions ≡ false → events ≡ false →
+    (write || (memory && portions) || (limit && events)) ≡ false
+none_late write true true portions events early whole quiet = rw (early, whole, quiet) refl
+none_late write true false portions events early whole quiet = rw (early, whole) refl
+none_late write false true portions events early whole quiet = rw (early, quiet) refl
+none_late write false false portions events early whole quiet = rw early refl
 
--- only a run of a graph stops at a turn limit
-pub limit_cause : (job : Task) (stored input output : List ℕ) → IsPrintedAtLimit job input output → IsCause job stored input serve.TurnLimit
-limit_cause (task.Tree core) stored input output out = absurd out
-limit_cause (task.Run o) stored input output out = inr (out.0, out.1, (out.2.events, out.2.stopped))
-limit_cause (task.Replay wake) stored input output out = absurd out
-limit_cause (task.Steps o) stored input output out = absurd out
-limit_cause (task.Sweep o) stored input output out = absurd out
-limit_cause (task.View o) stored input output out = absurd out
-limit_cause (task.StoredView o) stored input output out = absurd out
-limit_cause (task.Make asked) stored input output out = absurd out
-limit_cause (task.Explore o) stored input output out = absurd out
+no_write : (write memory limit portions events : Bool) → (write || (memory && portions) || (limit && events)) ≡ false → write ≡ false
+no_write true memory limit portions events none = absurd (let bad : true ≡ false = none in cc)
+no_write false memory limit portions events none = refl
 
--- a write that failed served the first bytes
-pub serves_part : (job : Task) (at_limit : Bool) (stored input bytes output : List ℕ) (old new : Option (List ℕ))
+-- what a task prints whole has gone out, or it is said why there is nothing
+serves_made : (job : Task) (stored input : List ℕ) (made : Result (Vec ℕ Global) ServeFault) (old new : Option (List ℕ))
+    (r : Result (Unit {0}) ServeFault) →
+    by_portions job ≡ false →
+    shows_events job ≡ false →
+    IfErr made (λ fault. is_write fault ≡ false) →
+    HasPrinted made old new r →
+    IfOk made (λ text. IsPrinted job stored input text.items) →
+    IfErr made (λ fault. IsCause job stored input fault) →
+    Serves job stored input old new r
+serves_made job stored input (Ok text) old new r whole quiet early has printed cause =
+    serves_output job stored input text.items old new r printed has.out
+serves_made job stored input (Err fault) old new r whole quiet early has printed cause =
+    serves_fault job stored input old new r fault has.none
+    (none_late (is_write fault) (is_memory fault) (is_limit fault) (by_portions job) (shows_events job) early whole quiet) cause
+
+-- whatever is stored,
+pub serves_unread : (job : Task) (input : Option (List ℕ)) (made : Result (Vec ℕ Global) ServeFault) (old new : Option (List ℕ))
+    (r : Result (Unit {0}) ServeFault) →
+    by_portions job ≡ false →
+    shows_events job ≡ false →
+    IfErr made (λ fault. is_write fault ≡ false) →
+    HasPrinted made old new r →
+    ((s : List ℕ) → IfOk made (λ text. IfSome input (λ i. IsPrinted job s i text.items))) →
+    ((s : List ℕ) → IfErr made (λ fault. IfSome input (λ i. IsCause job s i fault))) →
+    (s : List ℕ) → IfSome input (λ i. Serves job s i old new r)
+serves_unread job None made old new r whole quiet early has printed cause s = tt
+serves_unread job (Some i) made old new r whole quiet early has printed cause s =
+    serves_made job s i made old new r whole quiet early has (printed s) (cause s)
+
+-- or of what is stored
+pub serves_stored : (job : Task) (stored input : Option (List ℕ)) (made : Result (Vec ℕ Global) ServeFault) (old new : Option (List ℕ))
+    (r : Result (Unit {0}) ServeFault) →
+    by_portions job ≡ false →
+    shows_events job ≡ false →
+    IfErr made (λ fault. is_write fault ≡ false) →
+    HasPrinted made old new r →
+    IfOk made (λ text. IfSome stored (λ s. IfSome input (λ i. IsPrinted job s i text.items))) →
+    IfErr made (λ fault. IfSome stored (λ s. IfSome input (λ i. IsCause job s i fault))) →
+    IfSome stored (λ s. IfSome input (λ i. Serves job s i old new r))
+serves_stored job None input made old new r whole quiet early has printed cause = tt
+serves_stored job (Some s) None made old new r whole quiet early has printed cause = tt
+serves_stored job (Some s) (Some i) made old new r whole quiet early has printed cause =
+    serves_made job s i made old new r whole quiet early has printed cause
+
+-- where only the write may be late, the writer is as it was before it
+pub unwritten_but_for_write : {W : Type 0} (job : Task) (old new : W) (r : Result (Unit {0}) ServeFault) →
+    IfErr r (λ fault. is_write fault ≡ false → new ≡ old) →
+    IsUnwritten job old new r
+unwritten_but_for_write job old new (Ok u) early = tt
+unwritten_but_for_write job old new (Err fault) early = λ none.
+    early (no_write (is_write fault) (is_memory fault) (is_limit fault) (by_portions job) (shows_events job) none)
+
+-- a job is served as its task is
+pub serves_as : (job other : Task) (stored input old new : Option (List ℕ)) (r : Result (Unit {0}) ServeFault) →
+    job ≡ other →
+    IfStored other stored (λ s. IfSome input (λ i. Serves other s i old new r)) →
+    IfStored job stored (λ s. IfSome input (λ i. Serves job s i old new r))
+serves_as job other stored input old new r is all = rw is all
+
+pub unwritten_as : {W : Type 0} (job other : Task) (old new : W) (r : Result (Unit {0}) ServeFault) →
+    job ≡ other →
+    IfErr r (λ fault. is_late other fault ≡ false → new ≡ old) →
+    IsUnwritten job old new r
+unwritten_as job other old new (Ok u) is early = tt
+unwritten_as job other old new (Err fault) is early = rw is early
+
+pub unread_as : {T : Type 0} (job other : Task) (old new : T) → job ≡ other → IsUnread other old new → IsUnread job old new
+unread_as job other old new is unread = rw is unread
+
+-- a text that was made goes out,
+pub all_printed : (made : Result (Vec ℕ Global) ServeFault) (text : Vec ℕ Global) (bytes : List ℕ) (old new : Option (List ℕ)) →
+    made ≡ Ok text →
+    bytes ≡ text.items →
+    HasWritten old new bytes (length bytes) →
+    HasPrinted made old new (Ok tt)
+all_printed made text bytes old new is same has =
+    rw is (record {
+      out = record { whole = subst (λ (b : List ℕ). HasWritten old new b (length b)) same has; part = tt };
+      none = tt;
+    })
+
+-- or a part of it,
+pub part_printed : (made : Result (Vec ℕ Global) ServeFault) (text : Vec ℕ Global) (bytes : List ℕ) (old new : Option (List ℕ))
     (r : Result (Unit {0}) ServeFault) (written : ℕ) →
-    bytes ≡ output →
+    made ≡ Ok text →
+    bytes ≡ text.items →
     r ≡ Err (serve.Write written) →
     written < length bytes →
     HasWritten old new bytes written →
-    IsOutput job at_limit stored input output →
-    Serves job stored input old new r
-serves_part job at_limit stored input bytes output old new r written same is less has out =
-    rw is (
-      output,
-      tried_of job at_limit stored input output out,
-      subst (λ (b : List ℕ). written < length b) same less,
-      subst (λ (b : List ℕ). HasWritten old new b written) same has,
-    )
+    HasPrinted made old new r
+part_printed made text bytes old new r written is same failed less has =
+    rw (is, failed) (record {
+      out = record {
+        whole = tt;
+        part = record {
+          written = written;
+          is = refl;
+          less = subst (λ (b : List ℕ). written < length b) same less;
+          has = subst (λ (b : List ℕ). HasWritten old new b written) same has;
+        };
+      };
+      none = tt;
+    })
 
--- a write that succeeded served all
-pub serves_all : (job : Task) (stored input bytes output : List ℕ) (old new : Option (List ℕ)) →
-    bytes ≡ output →
-    HasWritten old new bytes (length bytes) →
-    IsOutput job false stored input output →
-    Serves job stored input old new (Ok tt)
-serves_all job stored input bytes output old new same has out =
-    (output, printed_of job stored input output out, subst (λ (b : List ℕ). HasWritten old new b (length b)) same has)
-
--- and behind it the turns may be used
-pub serves_limit : (job : Task) (stored input bytes output : List ℕ) (old new : Option (List ℕ)) →
-    bytes ≡ output →
-    HasWritten old new bytes (length bytes) →
-    IsOutput job true stored input output →
-    Serves job stored input old new (Err serve.TurnLimit)
-serves_limit job stored input bytes output old new same has out =
-    let printed = printed_at_limit job stored input output out in
-    (limit_cause job stored input output printed, λ shows. (output, printed, subst (λ (b : List ℕ). HasWritten old new b (length b)) same has))
+-- or nothing, where there is none
+pub none_printed : (made : Result (Vec ℕ Global) ServeFault) (fault : ServeFault) (old new : Option (List ℕ)) (r : Result (Unit {0}) ServeFault) →
+    made ≡ Err fault →
+    r ≡ Err fault →
+    HasPrinted made old new r
+none_printed made fault old new r is failed = rw is (record { out = tt; none = failed })

@@ -4,6 +4,7 @@ pub mod Ending
 pub mod Exploring
 pub mod Fault
 pub mod Networks
+pub mod Printing
 pub mod Running
 pub mod Serving
 pub mod Sweeping

@@ -1,8 +1,5 @@
 -- Sweeps of networks, whose lines begin with names, or whose charts have a panel for each.
 use Rattle.std.specs.Prelude.{◌≡◌, ℕ, ◌<◌, List, [], ◌∷◌, ◌++◌, length, string_bytes, Option, Result, Ok, Err}
-use Rattle.ghs_gr.specs.Judgement.{TextIs}
-use Rattle.ghs_gr.specs.RawGraph.{RawShape}
-use Rattle.ghs_graph.specs.Graph.{Shape}
 use Rattle.ghs_report.specs.Writing.{HasWritten}
 use Rattle.ghs_chart.specs.Chart.{chart_head}
 use Rattle.ghs_chart.specs.declared.texts.TheConstants.{CHART_TAIL}
@@ -17,12 +14,7 @@ use Rattle.ghs_cli.specs.declared.fault.ServeFault.{ServeFault}
 use Rattle.ghs_cli.specs.declared.fault.ServeFault.TheVariants as serve
 use Rattle.ghs_cli.specs.declared.networks.Network.{Network}
 use Rattle.ghs_cli.specs.Charts.{IsPanel}
-use Rattle.ghs_cli.specs.Serving.{shape_of}
 use Rattle.ghs_cli.specs.Sweeping.{AreLines, head_by}
-
--- the input is the text of this graph
-abbrev pub IsTextOf : List ℕ → Shape → Type 0
-IsTextOf input g = (graph : RawShape) × TextIs input (Ok graph) × (g ≡ shape_of graph)
 
 -- the lines of a network begin with its name
 pub record AreLinesOf (o : SweepOptions) (n : Network) (lines : List ℕ) : Type 0 where

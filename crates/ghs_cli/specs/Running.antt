@@ -1,10 +1,10 @@
 -- A run as a world goes through it.
-use Rattle.std.specs.Prelude.{◌≡◌, ◌≤◌, []}
+use Rattle.std.specs.Prelude.{◌≡◌, []}
 use Rattle.ghs_world.specs.WorldState.{WorldState}
-use Rattle.ghs_cli.specs.Serving.{IsStopped}
+use Rattle.ghs_cli.specs.Serving.{IsStopped, StopsRun}
+use Rattle.ghs_cli.specs.declared.fault.ServeFault.{ServeFault}
+use Rattle.ghs_cli.specs.declared.fault.ServeFault.TheVariants as serve
 use Rattle.ghs_commands.specs.declared.job.RunOptions.{RunOptions}
-use Rattle.ghs_cli.specs.declared.running.Stop.{Stop}
-use Rattle.ghs_cli.specs.declared.running.Stop.TheVariants.{TurnLimit, Memory, NoThread, Strange}
 
 -- a world before its run, as options ask
 pub record IsOpened (o : RunOptions) (s : WorldState) : Type 0 where
@@ -13,9 +13,7 @@ pub record IsOpened (o : RunOptions) (s : WorldState) : Type 0 where
   pub wake : s.wake ≡ o.wake
   pub turns : s.turns ≡ o.turns
 
--- why its run stops before its end, in the world that it leaves
-abbrev pub Stops : RunOptions → WorldState → Stop → Type 0
-Stops o s TurnLimit = IsStopped o s.net.graph s.net.trace
-Stops o s Memory = Unit {0}
-Stops o s NoThread = 1 ≤ o.workers
-Stops o s Strange = 1 ≤ o.workers
+-- why its run stops before its end, in the world that it leaves: where the turns are used, it is this world's run that has used them
+pub record Stops (o : RunOptions) (s : WorldState) (fault : ServeFault) : Type 0 where
+  pub cause : StopsRun o s.net.graph fault
+  pub used : fault ≡ serve.TurnLimit → IsStopped o s.net.graph s.net.trace

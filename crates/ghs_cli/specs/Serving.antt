@@ -58,6 +58,10 @@ keys_of g = map key_of g.keys
 abbrev pub shape_of : RawShape → Shape
 shape_of g = record { nodes = g.nodes; keys = keys_of g }
 
+-- the input is the text of this graph
+abbrev pub IsTextOf : List ℕ → Shape → Type 0
+IsTextOf input g = (graph : RawShape) × TextIs input (Ok graph) × (g ≡ shape_of graph)
+
 -- behind a text the lines of all components with their cores, where they are asked for
 abbrev pub HaveCores : Bool → Shape → (Component → Type 0) → List ℕ → List ℕ → Type 0
 HaveCores true g holds old new = HaveLines g holds old new
@@ -76,15 +80,11 @@ pub record IsTreeText (core : Bool) (input output : List ℕ) : Type 0 where
 abbrev pub IsTraceText : List ℕ → List Event → Type 0
 IsTraceText stored events = (IsTooLong stored → ⊥) × HasEvents stored events
 
--- the net of a graph after events
-abbrev pub net_at : RawShape → List Event → Net
-net_at g events = net_after (shape_of g) events
-
 -- events that are a run of the graph which has ended, and the output is the text of its net
-pub record IsReplayed (wake : WakeSet) (graph : RawShape) (events : List Event) (output : List ℕ) : Type 0 where
-  pub run : IsRunUnder (may_wake (shape_of graph) wake) (network_of (shape_of graph)) events
-  pub ended : HasEnded (shape_of graph) (net_at graph events)
-  pub printed : IsReportText (shape_of graph) (net_at graph events) output
+pub record IsReplayed (wake : WakeSet) (g : Shape) (events : List Event) (output : List ℕ) : Type 0 where
+  pub run : IsRunUnder (may_wake g wake) (network_of g) events
+  pub ended : HasEnded g (net_after g events)
+  pub printed : IsReportText g (net_after g events) output
 
 -- the input is the text of a graph, what is stored that of a run of it which has ended, and the output that of its net
 pub record IsReplayText (wake : WakeSet) (stored input output : List ℕ) : Type 0 where
@@ -92,7 +92,7 @@ pub record IsReplayText (wake : WakeSet) (stored input output : List ℕ) : Type
   pub text : TextIs input (Ok graph)
   pub events : List Event
   pub trace : IsTraceText stored events
-  pub replayed : IsReplayed wake graph events output
+  pub replayed : IsReplayed wake (shape_of graph) events output
 
 -- events that are a run of a graph as its options ask: under the wake set, within the turns; without threads the seed's schedule picks them
 pub record IsRunBy (o : RunOptions) (g : Shape) (events : List Event) : Type 0 where
@@ -244,12 +244,11 @@ GoesOn g w serve.Memory = Unit {0}
 GoesOn g w _ = ⊥
 
 -- these events and this graph give this fault: the first event that isn't lawful, or a run that hasn't ended
-abbrev pub IsRunCause : WakeSet → RawShape → List Event → ServeFault → Type 0
-IsRunCause wake graph events (serve.NotLawful k) = IsFirstUnlawful (shape_of graph) wake events k
-IsRunCause wake graph events serve.NotEnded =
-    IsRunUnder (may_wake (shape_of graph) wake) (network_of (shape_of graph)) events × (HasEnded (shape_of graph) (net_at graph events) → ⊥)
-IsRunCause wake graph events serve.Memory = Unit {0}
-IsRunCause wake graph events _ = ⊥
+abbrev pub IsRunCause : WakeSet → Shape → List Event → ServeFault → Type 0
+IsRunCause wake g events (serve.NotLawful k) = IsFirstUnlawful g wake events k
+IsRunCause wake g events serve.NotEnded = IsRunUnder (may_wake g wake) (network_of g) events × (HasEnded g (net_after g events) → ⊥)
+IsRunCause wake g events serve.Memory = Unit {0}
+IsRunCause wake g events _ = ⊥
 
 -- a trace is stored and the input is the text of a graph, and they give this fault together
 pub record GiveFault (wake : WakeSet) (stored input : List ℕ) (fault : ServeFault) : Type 0 where
@@ -257,7 +256,7 @@ pub record GiveFault (wake : WakeSet) (stored input : List ℕ) (fault : ServeFa
   pub trace : IsTraceText stored events
   pub graph : RawShape
   pub text : TextIs input (Ok graph)
-  pub cause : IsRunCause wake graph events fault
+  pub cause : IsRunCause wake (shape_of graph) events fault
 
 -- why a replay prints nothing: the trace, which is read first, the graph, or the run
 abbrev pub IsReplayCause : WakeSet → List ℕ → List ℕ → ServeFault → Type 0
@@ -322,18 +321,6 @@ IsCause (task.View o) stored input fault = IsViewCause o input fault
 IsCause (task.StoredView o) stored input fault = IsStoredViewCause o stored input fault
 IsCause (task.Make asked) stored input fault = IsMakeCause asked fault
 IsCause (task.Explore o) stored input fault = IsExploreCause o input fault
-
--- what goes out whole for a task, and whether the answer behind it is that its turns are used; steps go out by portions
-abbrev pub IsOutput : Task → Bool → List ℕ → List ℕ → List ℕ → Type 0
-IsOutput (task.Tree core) at_limit stored input output = (at_limit ≡ false) × IsTreeText core input output
-IsOutput (task.Run o) at_limit stored input output = IsRunOutput o at_limit input output
-IsOutput (task.Replay wake) at_limit stored input output = (at_limit ≡ false) × IsReplayText wake stored input output
-IsOutput (task.Steps o) at_limit stored input output = ⊥
-IsOutput (task.Sweep o) at_limit stored input output = (at_limit ≡ false) × IsSweepOutput o input output
-IsOutput (task.View o) at_limit stored input output = (at_limit ≡ false) × IsViewOutput o input output
-IsOutput (task.StoredView o) at_limit stored input output = (at_limit ≡ false) × IsStoredViewOutput o stored input output
-IsOutput (task.Make asked) at_limit stored input output = ⊥
-IsOutput (task.Explore o) at_limit stored input output = (at_limit ≡ false) × IsExploreOutput o input output
 
 -- what may have gone out in part
 abbrev pub IsTried : Task → List ℕ → List ℕ → List ℕ → Type 0

@@ -5,7 +5,8 @@ ghost use Rattle.ghs_cli.specs.Networks.{ArePanels, IsChart};
 ghost use Rattle.ghs_sweep.specs.Figures.{HasSmallWeight};
 ghost use Rattle.std.specs.Prelude.{◌≡◌, ◌≤◌, ◌^◌, ◌++◌, All, [], List, ℕ, length, string_bytes, IfOk};
 
-use crate::networks::{Network, tell};
+use crate::networks::Network;
+use crate::progress::tell_networks;
 use crate::sweeping::runs_of;
 use ghs_chart::chart::put_chart_head;
 use ghs_chart::panel::{Caption, put_panel};
@@ -68,7 +69,7 @@ fn put_panels<R: Threads + Sync + Eprint>(
     for (place, network) in networks.iter().enumerate() {
         let name = network.name.as_bytes();
         put_network_panel(rt, alloc, text, options, place as u64, name, &network.graph)?;
-        tell(rt, options, place + 1, networks.len());
+        tell_networks(rt, options.progress, place + 1, networks.len());
     }
     Ok(())
 }

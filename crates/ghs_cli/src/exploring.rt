@@ -1,6 +1,6 @@
 //! Explorations: with which counts of messages all runs of a small network end, and a run of each.
 ghost use Rattle.ghs_cli.specs.Exploring.{AreEndsOf, HasNoExploration, IsBehind, IsExplored, IsRunOf};
-ghost use Rattle.ghs_cli.specs.Serving.{IsExploreCause, IsExploreOutput, is_write, shape_of};
+ghost use Rattle.ghs_cli.specs.Serving.{IsExploreCause, IsExploreOutput, is_write};
 ghost use Rattle.ghs_cli.specs.declared.fault.ServeFault.{ServeFault};
 ghost use Rattle.ghs_commands.specs.Job.{AreExploreLimits};
 ghost use Rattle.ghs_commands.specs.declared.exploring.Finding.{Finding};
@@ -8,7 +8,7 @@ ghost use Rattle.std.specs.Prelude.{◌≡◌, ◌≤◌, ◌↔◌, false, true
 
 use crate::fault::ServeFault;
 use crate::progress::Teller;
-use crate::sweeping::built;
+use crate::reading::graph_of;
 use ghs_commands::exploring::{ExploreOptions, Finding};
 use ghs_explore::explore::explore_watched;
 use ghs_explore::explored::Explored;
@@ -16,8 +16,6 @@ use ghs_explore::fault::ExploreFault;
 use ghs_explore::laws::law_range;
 use ghs_explore::text::explored_text;
 use ghs_gr::device::Source;
-use ghs_gr::judgement::read_gr;
-use ghs_gr::raw_graph::RawGraph;
 use ghs_graph::graph::Graph;
 use ghs_sched::trace::write_trace;
 use std::alloc::{AllocError, Global};
@@ -36,22 +34,7 @@ pub(crate) fn explored_text_of<S: Source, R: Eprint>(
     ensures early { IfErr result (λ fault. is_write fault ≡ false) }
     ensures read { IsErrOf result ServeFault.Read ↔ (S.has_failed graph.new ≡ true) }
 {
-    let raw = read_gr(alloc, graph)?;
-    explored(rt, alloc, options, raw)
-}
-
-/// What is found of all runs of a graph that was read.
-fn explored<R: Eprint>(
-    rt: &R,
-    alloc: Global,
-    options: &ExploreOptions,
-    raw: RawGraph,
-) -> Result<Vec<u8>, ServeFault>
-    requires { AreExploreLimits options.now }
-    ensures text { IfOk result (λ text. IsExplored options.now (shape_of raw) text.items) }
-    ensures fault { IfErr result (λ fault. HasNoExploration options.now (shape_of raw) fault) }
-{
-    let graph = built(alloc, raw)?;
+    let graph = graph_of(alloc, graph)?;
     found(rt, alloc, options, &graph)
 }
 

@@ -1,17 +1,17 @@
 //! Sweeps of several networks, whose lines begin with names.
 ghost use Rattle.ghs_commands.specs.Job.{AreSweepLimits};
-ghost use Rattle.ghs_cli.specs.Networks.{AreLinesOf, AreLinesOfAll, HasSwept, IsNetworksText, IsSweepOf, IsTextOf, front_head};
-ghost use Rattle.ghs_cli.specs.Serving.{IsGraphCause, IsWrite};
+ghost use Rattle.ghs_cli.specs.Networks.{AreLinesOf, AreLinesOfAll, HasSwept, IsNetworksText, IsSweepOf, front_head};
+ghost use Rattle.ghs_cli.specs.Serving.{IsGraphCause, IsTextOf, IsWrite};
 ghost use Rattle.ghs_cli.specs.declared.fault.ServeFault.{ServeFault};
 ghost use Rattle.std.specs.Prelude.{◌≡◌, ◌++◌, ◌↔◌, List, ℕ, false, string_bytes, true, IfErr, IfOk, IfSome, IsErrOf};
 
 use crate::charting::chart_text;
 use crate::fault::ServeFault;
 use crate::progress::tell_networks;
-use crate::sweeping::{built, head_by, put_lines_of};
+use crate::reading::graph_of;
+use crate::sweeping::{head_by, put_lines_of};
 use ghs_commands::job::{Sheet, SweepOptions};
 use ghs_gr::device::{Sink, Source};
-use ghs_gr::judgement::read_gr;
 use ghs_graph::graph::Graph;
 use ghs_report::write_out::write_out;
 use ghs_steps::form::Form;
@@ -38,8 +38,7 @@ pub fn read_network<S: Source>(
     ensures fault { IfErr result (λ fault. IfSome (S.left source.old) (λ input. IsGraphCause input fault)) }
     ensures read { IsErrOf result ServeFault.Read ↔ (S.has_failed source.new ≡ true) }
 {
-    let raw = read_gr(alloc, source)?;
-    let graph = built(alloc, raw)?;
+    let graph = graph_of(alloc, source)?;
     let name = String::from_str(alloc, name)?;
     Ok(Network { name, graph })
 }
@@ -116,16 +115,9 @@ fn put_networks<H: Threads + Sync + Eprint>(
 {
     for (place, network) in networks.iter().enumerate() {
         put_network(rt, alloc, text, options, network)?;
-        tell(rt, options, place + 1, networks.len());
+        tell_networks(rt, options.progress, place + 1, networks.len());
     }
     Ok(())
-}
-
-/// Tells that so many of the networks have been swept, where that is asked for and there are more.
-pub(crate) fn tell<H: Eprint>(rt: &H, options: &SweepOptions, done: usize, count: usize) {
-    if options.progress && done < count {
-        tell_networks(rt, done, count);
-    }
 }
 
 /// The name of the column of names, and a comma; lines of JSON say it with each name.

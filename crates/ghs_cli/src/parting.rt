@@ -65,18 +65,9 @@ fn parted<R: Threads + Sync + Eprint>(
         let mut more = parted_by(rt, alloc, options, by, front, graph, next, portion, threads)?;
         lines.append(&mut more)?;
         left -= portion;
-        tell(rt, options, left, count);
+        tell_seeds(rt, options.progress, left, count);
     }
     Ok(lines)
-}
-
-/// Tells how many of the seeds have been run, where that is asked for and some are left.
-fn tell<R: Eprint>(rt: &R, options: &SweepOptions, left: u64, count: u64)
-    requires { left ≤ count }
-{
-    if options.progress && left > 0 {
-        tell_seeds(rt, count - left, count);
-    }
 }
 
 /// The lines of the parts of the runs of so many seeds from the first on, by so many threads.

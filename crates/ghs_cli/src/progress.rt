@@ -151,21 +151,30 @@ impl<'a, R: Eprint> Gate for Tallying<'a, R> {
     }
 }
 
-/// Writes the line that follows a run: how many events there were, and whether it has ended.
-pub(crate) fn tell_end<R: Eprint>(rt: &R, end: Progress) {
-    let Progress { commits, halted } = end;
-    let word = if halted { "halted" } else { "open" };
-    let _ = eprintln!(rt; "at {commits} {word}");
+/// Tells behind a run how many events there were, and whether it has ended, where that is asked for.
+pub(crate) fn tell_end<R: Eprint>(rt: &R, asked: bool, world: &World) {
+    if asked {
+        let Progress { commits, halted } = pair_of(world);
+        let word = if halted { "halted" } else { "open" };
+        let _ = eprintln!(rt; "at {commits} {word}");
+    }
 }
 
-/// Writes how many of the seeds of a sweep have been run.
-pub(crate) fn tell_seeds<R: Eprint>(rt: &R, done: u64, count: u64) {
-    let _ = eprintln!(rt; "{done} of {count} seeds");
+/// Tells how many of the seeds of a sweep have been run, where that is asked for and some are left.
+pub(crate) fn tell_seeds<R: Eprint>(rt: &R, asked: bool, left: u64, count: u64)
+    requires { left ≤ count }
+{
+    if asked && left > 0 {
+        let done = count - left;
+        let _ = eprintln!(rt; "{done} of {count} seeds");
+    }
 }
 
-/// Writes how many of the networks of a sweep have been swept.
-pub(crate) fn tell_networks<R: Eprint>(rt: &R, done: usize, count: usize) {
-    let _ = eprintln!(rt; "{done} of {count} graphs");
+/// Tells how many of the networks of a sweep have been swept, where that is asked for and there are more.
+pub(crate) fn tell_networks<R: Eprint>(rt: &R, asked: bool, done: usize, count: usize) {
+    if asked && done < count {
+        let _ = eprintln!(rt; "{done} of {count} graphs");
+    }
 }
 
 /// Tells how far a search through states has come, where that is asked for.

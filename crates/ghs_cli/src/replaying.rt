@@ -4,21 +4,19 @@ ghost use Rattle.ghs_protocol.specs.Marks.{HasEnded};
 ghost use Rattle.ghs_protocol.specs.Run.{IsRunUnder};
 ghost use Rattle.ghs_report.specs.ReportText.{IsReportText};
 ghost use Rattle.ghs_world.specs.WorldState.{home, wakers};
-ghost use Rattle.ghs_cli.specs.Serving.{GoesOn, IsReplayCause, IsReplayText, IsReplayed, IsRunCause, IsTraceCause, IsTraceText, is_write};
+ghost use Rattle.ghs_cli.specs.Serving.{GoesOn, IsReplayCause, IsReplayText, IsReplayed, IsRunCause, is_write};
 ghost use Rattle.ghs_cli.specs.declared.fault.ServeFault.{ServeFault};
 ghost use Rattle.std.specs.Prelude.{◌≡◌, ◌≤◌, ◌⊎◌, ◌↔◌, false, length, true, IfSome, IsErrOf, OnOk, IfErr, IfOk};
 
 use crate::fault::ServeFault;
+use crate::reading::{events_of, graph_of};
 use ghs_gr::device::Source;
-use ghs_gr::judgement::read_gr;
-use ghs_gr::raw_graph::RawGraph;
-use ghs_gr::text::read_text;
 use ghs_graph::graph::Graph;
 use ghs_protocol::event::Event;
 use ghs_report::report_text::ReportFault;
 use ghs_report::run_text::run_text;
 use ghs_sched::replay::replay;
-use ghs_sched::trace::{EVENT_LIMIT, read_trace};
+use ghs_sched::trace::EVENT_LIMIT;
 use ghs_world::wake_set::WakeSet;
 use ghs_world::world::World;
 use std::alloc::Global;
@@ -38,37 +36,21 @@ pub(crate) fn replay_text_of<R: Source, T: Source>(
     ensures read { IsErrOf result ServeFault.Read ↔ ((R.has_failed graph.new ≡ true) ⊎ (T.has_failed trace.new ≡ true)) }
 {
     let events = events_of(alloc, trace)?;
-    let raw = read_gr(alloc, graph)?;
-    replayed(alloc, wake, raw, &events)
-}
-
-/// The events whose text the device gives.
-pub(crate) fn events_of<T: Source>(alloc: Global, trace: &mut T) -> Result<Vec<Event>, ServeFault>
-    requires { T.has_failed trace.old ≡ false }
-    ensures events { IfOk result (λ events. IfSome (T.left trace.old) (λ stored. IsTraceText stored events.items)) }
-    ensures few { IfOk result (λ events. length events.items ≤ EVENT_LIMIT) }
-    ensures fault { IfErr result (λ fault. IfSome (T.left trace.old) (λ stored. IsTraceCause stored fault)) }
-    ensures early { IfErr result (λ fault. is_write fault ≡ false) }
-    ensures read { IsErrOf result ServeFault.Read ↔ (T.has_failed trace.new ≡ true) }
-{
-    let text = read_text(alloc, trace)?;
-    Ok(read_trace(alloc, &text)?)
+    let graph = graph_of(alloc, graph)?;
+    replayed(alloc, wake, graph, &events)
 }
 
 /// The text of the net that a list of events leaves of a graph.
 fn replayed(
     alloc: Global,
     wake: WakeSet,
-    raw: RawGraph,
+    graph: Graph,
     events: &[Event],
 ) -> Result<Vec<u8>, ServeFault>
     requires { length events.now ≤ EVENT_LIMIT }
-    ensures text { IfOk result (λ text. IsReplayed wake raw events.now text.items) }
-    ensures fault { IfErr result (λ fault. IsRunCause wake raw events.now fault) }
+    ensures text { IfOk result (λ text. IsReplayed wake graph events.now text.items) }
+    ensures fault { IfErr result (λ fault. IsRunCause wake graph events.now fault) }
 {
-    let Ok(graph) = Graph::build(alloc, raw) else {
-        return Err(ServeFault::Memory);
-    };
     match replay(alloc, graph, wake, events) {
         Ok(world) => finished(alloc, &world),
         Err((_, fault)) => Err(fault.into()),

@@ -1,16 +1,16 @@
 //! The work that a job asks for.
 ghost use Rattle.ghs_cli.specs.Ending.{IsBoundedTask};
 ghost use Rattle.ghs_commands.specs.Job.{IsWithinLimits};
-ghost use Rattle.ghs_cli.specs.Serving.{IfStored, IsCause, IsGraphCause, IsOutput, IsTreeText, IsUnread, IsUnwritten, IsWrite, Serves, by_portions, is_late, is_write, shows_events};
+ghost use Rattle.ghs_cli.specs.Serving.{IfStored, IsGraphCause, IsTreeText, IsUnread, IsUnwritten, IsWrite, Serves, is_write};
 ghost use Rattle.ghs_cli.specs.declared.fault.ServeFault.{ServeFault};
 ghost use Rattle.std.specs.Prelude.{◌≡◌, ◌⊎◌, ◌↔◌, false, true, IfSome, IsErrOf, IfErr, IfOk};
 
 use crate::exploring::explored_text_of;
 use crate::fault::ServeFault;
 use crate::making::write_network_of;
-use crate::output::Output;
+use crate::printing::print;
 use crate::replaying::replay_text_of;
-use crate::running::run_output_of;
+use crate::running::write_run_of;
 use crate::stepping::write_steps_of;
 use crate::sweeping::sweep_text_of;
 use crate::viewing::{stored_view_of, view_text_of};
@@ -18,11 +18,9 @@ use ghs_commands::job::{Job, Task};
 use ghs_cores::text::put_graph_cores;
 use ghs_gr::device::{Sink, Source};
 use ghs_gr::judgement::read_gr;
-use ghs_gr::laws::law_one_judgement;
 use ghs_graph::graph::Graph;
 use ghs_graph::tree::tree_of;
 use ghs_report::tree_text::tree_text;
-use ghs_report::write_out::write_out;
 use std::alloc::Global;
 use std::sync::Wait;
 use std::thread::Threads;
@@ -64,81 +62,15 @@ pub fn serve<R: Source, T: Source, W: Sink, H: Threads + Wait + Eprint + Sync>(
     ensures trace { IsUnread job.now.task trace.old trace.new }
 {
     match &job.task {
+        Task::Tree { core } => print(tree_text_of(alloc, *core, graph), out),
+        Task::Run(options) => write_run_of(rt, alloc, options, graph, out),
+        Task::Replay { wake } => print(replay_text_of(alloc, *wake, graph, trace), out),
         Task::Steps(options) => write_steps_of(alloc, options, graph, trace, out),
-        Task::Tree { core: _ } => print(rt, alloc, job, graph, trace, out),
-        Task::Run(_) => print(rt, alloc, job, graph, trace, out),
-        Task::Replay { wake: _ } => print(rt, alloc, job, graph, trace, out),
-        Task::Sweep(_) => print(rt, alloc, job, graph, trace, out),
-        Task::View(_) => print(rt, alloc, job, graph, trace, out),
-        Task::StoredView(_) => print(rt, alloc, job, graph, trace, out),
+        Task::Sweep(options) => print(sweep_text_of(rt, alloc, options, graph), out),
+        Task::View(options) => print(view_text_of(alloc, options, graph), out),
+        Task::StoredView(options) => print(stored_view_of(alloc, options, graph, trace), out),
         Task::Make(asked) => write_network_of(alloc, asked, out),
-        Task::Explore(_) => print(rt, alloc, job, graph, trace, out),
-    }
-}
-
-/// Does what a job asks for whose output goes out whole.
-fn print<R: Source, T: Source, W: Sink, H: Threads + Wait + Eprint + Sync>(
-    rt: &H,
-    alloc: Global,
-    job: &Job,
-    graph: &mut R,
-    trace: &mut T,
-    out: &mut W,
-) -> Result<(), ServeFault>
-    requires whole { by_portions job.now.task ≡ false }
-    requires limits { IsWithinLimits job.now.task }
-    requires graph { R.has_failed graph.old ≡ false }
-    requires trace { T.has_failed trace.old ≡ false }
-    requires out { W.has_failed out.old ≡ false }
-    ensures serves { IfStored job.now.task (T.left trace.old) (λ stored. IfSome (R.left graph.old) (λ input. Serves job.now.task stored input (W.held out.old) (W.held out.new) result)) }
-    ensures read { IsErrOf result ServeFault.Read ↔ ((R.has_failed graph.new ≡ true) ⊎ (T.has_failed trace.new ≡ true)) }
-    ensures write { IsWrite result ↔ (W.has_failed out.new ≡ true) }
-    ensures ends { IfSome (R.left graph.old) (λ input. IsBoundedTask job.now.task input → IsErrOf result ServeFault.TurnLimit → ⊥) }
-    ensures unwritten { IsUnwritten job.now.task out.old out.new result }
-    ensures trace { IsUnread job.now.task trace.old trace.new }
-{
-    law_one_judgement();
-    let output = output_of(rt, alloc, &job.task, graph, trace)?;
-    write_out(out, &output.text)?;
-    if output.at_limit {
-        return Err(ServeFault::TurnLimit);
-    }
-    Ok(())
-}
-
-/// What goes out for a task.
-fn output_of<R: Source, T: Source, H: Threads + Wait + Eprint + Sync>(
-    rt: &H,
-    alloc: Global,
-    task: &Task,
-    graph: &mut R,
-    trace: &mut T,
-) -> Result<Output, ServeFault>
-    requires whole { by_portions task.now ≡ false }
-    requires limits { IsWithinLimits task.now }
-    requires graph { R.has_failed graph.old ≡ false }
-    requires trace { T.has_failed trace.old ≡ false }
-    ensures output { IfOk result (λ o. IfStored task.now (T.left trace.old) (λ stored. IfSome (R.left graph.old) (λ input. IsOutput task.now o.at_limit stored input o.text.items))) }
-    ensures limit { IfOk result (λ o. o.at_limit ≡ true → shows_events task.now ≡ true) }
-    ensures fault { IfErr result (λ fault. IfStored task.now (T.left trace.old) (λ stored. IfSome (R.left graph.old) (λ input. IsCause task.now stored input fault))) }
-    ensures early { IfErr result (λ fault. is_late task.now fault ≡ false) }
-    ensures read { IsErrOf result ServeFault.Read ↔ ((R.has_failed graph.new ≡ true) ⊎ (T.has_failed trace.new ≡ true)) }
-    ensures trace { IsUnread task.now trace.old trace.new }
-{
-    match task {
-        Task::Tree { core } => Ok(Output::whole(tree_text_of(alloc, *core, graph)?)),
-        Task::Run(options) => run_output_of(rt, alloc, options, graph),
-        Task::Replay { wake } => Ok(Output::whole(replay_text_of(alloc, *wake, graph, trace)?)),
-        Task::Steps(_) => unreachable!(),
-        Task::Make(_) => unreachable!(),
-        Task::Explore(options) => {
-            Ok(Output::whole(explored_text_of(rt, alloc, options, graph)?))
-        }
-        Task::Sweep(options) => Ok(Output::whole(sweep_text_of(rt, alloc, options, graph)?)),
-        Task::View(options) => Ok(Output::whole(view_text_of(alloc, options, graph)?)),
-        Task::StoredView(options) => {
-            Ok(Output::whole(stored_view_of(alloc, options, graph, trace)?))
-        }
+        Task::Explore(options) => print(explored_text_of(rt, alloc, options, graph), out),
     }
 }
 

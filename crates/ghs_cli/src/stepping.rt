@@ -5,11 +5,9 @@ ghost use Rattle.ghs_commands.specs.declared.job.Task.{Task};
 ghost use Rattle.std.specs.Prelude.{◌≡◌, ◌⊎◌, ◌↔◌, false, true, IfErr, IfSome, IsErrOf};
 
 use crate::fault::ServeFault;
-use crate::replaying::events_of;
+use crate::reading::{events_of, graph_of};
 use ghs_commands::job::StepsOptions;
 use ghs_gr::device::{Sink, Source};
-use ghs_gr::judgement::read_gr;
-use ghs_graph::graph::Graph;
 use ghs_steps::show::write_steps;
 use std::alloc::Global;
 
@@ -31,13 +29,10 @@ pub(crate) fn write_steps_of<R: Source, T: Source, W: Sink>(
     ensures unwritten { IfErr result (λ fault. is_late (Task.Steps options.now) fault ≡ false → out.new ≡ out.old) }
 {
     let events = events_of(alloc, trace)?;
-    let raw = read_gr(alloc, graph)?;
-    let Ok(built) = Graph::build(alloc, raw) else {
-        return Err(ServeFault::Memory);
-    };
+    let graph = graph_of(alloc, graph)?;
     write_steps(
         alloc,
-        built,
+        graph,
         options.wake,
         &events,
         &options.choice,

@@ -1,7 +1,7 @@
 //! Sweeps: the figures of many seeds' runs, or what they come to.
 ghost use Rattle.ghs_commands.specs.Job.{AreSweepLimits};
 ghost use Rattle.ghs_cli.specs.Charts.{IsSweepText};
-ghost use Rattle.ghs_cli.specs.Serving.{IsGraphCause, IsSweepOutput, is_write, shape_of};
+ghost use Rattle.ghs_cli.specs.Serving.{IsGraphCause, IsSweepOutput, is_write};
 ghost use Rattle.ghs_cli.specs.Sweeping.{AreLines, AreSheetLines, AreSweptLines, IsSwept, count_of, head_by, head_of, setup_of};
 ghost use Rattle.ghs_sweep.specs.Figures.{HasSmallWeight};
 ghost use Rattle.ghs_sweep.specs.Sweep.{AreRuns};
@@ -12,11 +12,10 @@ use crate::charting::nameless_chart;
 use crate::fault::ServeFault;
 use crate::parting::put_parted;
 use crate::progress::tell_seeds;
+use crate::reading::graph_of;
 use ghs_commands::job::{Sheet, SweepOptions};
 use ghs_commands::values::Seeds;
 use ghs_gr::device::Source;
-use ghs_gr::judgement::read_gr;
-use ghs_gr::raw_graph::RawGraph;
 use ghs_graph::graph::Graph;
 use ghs_parts::by::By;
 use ghs_parts::line::head_line;
@@ -48,22 +47,7 @@ pub(crate) fn sweep_text_of<S: Source, R: Threads + Sync + Eprint>(
     ensures early { IfErr result (λ fault. is_write fault ≡ false) }
     ensures read { IsErrOf result ServeFault.Read ↔ (S.has_failed graph.new ≡ true) }
 {
-    let raw = read_gr(alloc, graph)?;
-    swept(rt, alloc, options, raw)
-}
-
-/// The text of a sweep of a graph.
-fn swept<R: Threads + Sync + Eprint>(
-    rt: &R,
-    alloc: Global,
-    options: &SweepOptions,
-    raw: RawGraph,
-) -> Result<Vec<u8>, ServeFault>
-    requires { AreSweepLimits options.now }
-    ensures text { IfOk result (λ text. IsSweepText options.now.sheet options.now (shape_of raw) text.items) }
-    ensures err { IfErr result (λ fault. fault ≡ ServeFault.Memory) }
-{
-    let graph = built(alloc, raw)?;
+    let graph = graph_of(alloc, graph)?;
     Ok(sweep_text(rt, alloc, options, &graph)?)
 }
 
@@ -80,17 +64,6 @@ fn sweep_text<R: Threads + Sync + Eprint>(
     match options.sheet {
         Sheet::Runs | Sheet::Summary => swept_text(rt, alloc, options, graph),
         Sheet::Chart => nameless_chart(rt, alloc, options, graph),
-    }
-}
-
-/// A graph, built of what was read.
-pub(crate) fn built(alloc: Global, raw: RawGraph) -> Result<Graph, ServeFault>
-    ensures graph { IfOk result (λ graph. graph ≡ shape_of raw) }
-    ensures err { IfErr result (λ fault. fault ≡ ServeFault.Memory) }
-{
-    match Graph::build(alloc, raw) {
-        Ok(graph) => Ok(graph),
-        Err(_) => Err(ServeFault::Memory),
     }
 }
 
@@ -253,9 +226,7 @@ pub(crate) fn runs_of<R: Threads + Sync + Eprint>(
         let batch = batch_of(&runs, threads).min(left);
         run_seeds(rt, alloc, graph, setup, first, &mut runs, batch, threads)?;
         left -= batch;
-        if options.progress && left > 0 {
-            tell_seeds(rt, count - left, count);
-        }
+        tell_seeds(rt, options.progress, left, count);
     }
     Ok(runs)
 }

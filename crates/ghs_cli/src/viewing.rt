@@ -1,6 +1,6 @@
 //! Pages of runs: of the run that a seed picks, of the runs of two, and of a stored one.
 ghost use Rattle.ghs_commands.specs.Job.{AreViewLimits};
-ghost use Rattle.ghs_cli.specs.Serving.{IsStoredViewCause, IsStoredViewOutput, IsViewCause, IsViewOutput, is_write, shape_of};
+ghost use Rattle.ghs_cli.specs.Serving.{IsStoredViewCause, IsStoredViewOutput, IsViewCause, IsViewOutput, is_write};
 ghost use Rattle.ghs_cli.specs.Viewing.{HasNoSeedView, HasNoStoredView, HasNoView, IsSeedView, IsStoredView, IsView};
 ghost use Rattle.ghs_cli.specs.declared.fault.ServeFault.{ServeFault};
 ghost use Rattle.ghs_picking.specs.Picking.{IsPickedBy};
@@ -9,11 +9,9 @@ ghost use Rattle.std.specs.Prelude.{◌≡◌, ◌≤◌, ◌⊎◌, ◌↔◌, 
 
 use crate::beside::pair_viewed;
 use crate::fault::ServeFault;
-use crate::replaying::events_of;
+use crate::reading::{events_of, graph_of};
 use ghs_commands::job::{StoredViewOptions, ViewOptions};
 use ghs_gr::device::Source;
-use ghs_gr::judgement::read_gr;
-use ghs_gr::raw_graph::RawGraph;
 use ghs_graph::graph::Graph;
 use ghs_picking::picking::run_by_seed;
 use ghs_protocol::event::Event;
@@ -37,24 +35,12 @@ pub(crate) fn view_text_of<S: Source>(
     ensures early { IfErr result (λ fault. is_write fault ≡ false) }
     ensures read { IsErrOf result ServeFault.Read ↔ (S.has_failed graph.new ≡ true) }
 {
-    let raw = read_gr(alloc, graph)?;
-    viewed(alloc, options, raw)
+    let graph = graph_of(alloc, graph)?;
+    viewed(alloc, options, graph)
 }
 
 /// The page of the run that a seed picks of a graph, or of the runs of two.
-fn viewed(alloc: Global, options: &ViewOptions, raw: RawGraph) -> Result<Vec<u8>, ServeFault>
-    requires { AreViewLimits options.now }
-    ensures text { IfOk result (λ text. IsView options.now (shape_of raw) text.items) }
-    ensures fault { IfErr result (λ fault. HasNoView options.now (shape_of raw) fault) }
-{
-    let Ok(graph) = Graph::build(alloc, raw) else {
-        return Err(ServeFault::Memory);
-    };
-    one_or_two(alloc, options, graph)
-}
-
-/// The page of one run of a graph, or of two.
-fn one_or_two(alloc: Global, options: &ViewOptions, graph: Graph) -> Result<Vec<u8>, ServeFault>
+fn viewed(alloc: Global, options: &ViewOptions, graph: Graph) -> Result<Vec<u8>, ServeFault>
     requires { AreViewLimits options.now }
     ensures text { IfOk result (λ text. IsView options.now graph text.items) }
     ensures fault { IfErr result (λ fault. HasNoView options.now graph fault) }
@@ -132,24 +118,21 @@ pub(crate) fn stored_view_of<R: Source, T: Source>(
     ensures read { IsErrOf result ServeFault.Read ↔ ((R.has_failed graph.new ≡ true) ⊎ (T.has_failed trace.new ≡ true)) }
 {
     let events = events_of(alloc, trace)?;
-    let raw = read_gr(alloc, graph)?;
-    stored_viewed(alloc, options, raw, &events)
+    let graph = graph_of(alloc, graph)?;
+    stored_viewed(alloc, options, graph, &events)
 }
 
 /// The page of events, once they are known to be a run of a graph.
 fn stored_viewed(
     alloc: Global,
     options: &StoredViewOptions,
-    raw: RawGraph,
+    graph: Graph,
     events: &[Event],
 ) -> Result<Vec<u8>, ServeFault>
     requires { length events.now ≤ EVENT_LIMIT }
-    ensures text { IfOk result (λ text. IsStoredView options.now (shape_of raw) events.now text.items) }
-    ensures fault { IfErr result (λ fault. HasNoStoredView options.now (shape_of raw) events.now fault) }
+    ensures text { IfOk result (λ text. IsStoredView options.now graph events.now text.items) }
+    ensures fault { IfErr result (λ fault. HasNoStoredView options.now graph events.now fault) }
 {
-    let Ok(graph) = Graph::build(alloc, raw) else {
-        return Err(ServeFault::Memory);
-    };
     match stored_page(alloc, graph, options.wake, events, options.from, options.to) {
         Ok(text) => Ok(text),
         Err(StoredFault::NotLawful(event)) => Err(ServeFault::NotLawful(event)),

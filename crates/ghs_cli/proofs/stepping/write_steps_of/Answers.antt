@@ -1,8 +1,6 @@
-use Rattle.std.proofs.Common.{◌≡◌, Err, IfSome, List, rules, subst, sym}
+use Rattle.std.proofs.Common.{IfSome, List, rules, subst, sym}
 use Rattle.ghs_protocol.specs.declared.event.Event.{Event}
-use Rattle.ghs_cli.specs.Fault.{of_steps}
 use Rattle.ghs_cli.specs.Serving.{IsTraceText}
-use Rattle.ghs_cli.proofs.Serves.{same_shape}
 use Rattle.ghs_cli.proofs.Stepped.{serves_lines, serves_unshown}
 use Rattle.ghs_cli.proofs.stepping.write_steps_of.Goals as goal
 
@@ -12,9 +10,9 @@ returns-in_err-write_steps-clause-serves g c =
     subst (λ (es : List Event). IfSome (g.T.Source.left c.args.trace.now) (λ s. IsTraceText s es))
     (sym c.deref.ensures.value) c.in_ok-events.ensures.events in
     serves_unshown c.args.options.now (g.T.Source.left c.args.trace.now)
-    (g.R.Source.left c.args.graph.now) c.in_ok-raw.raw c.in-Ok.built c.deref.result.now _ _
-    c.from_residual-in_err-write_steps.result c.in_err-write_steps.field-0.0 (search rules) trace (search rules)
-    (same_shape c.in-Ok.built c.in_ok-raw.raw c.in-Ok.ensures.nodes c.in-Ok.ensures.keys) c.in_err-write_steps.ensures.err
+    (g.R.Source.left c.args.graph.now) c.in_ok-graph.graph c.deref.result.now _ _
+    c.from_residual-in_err-write_steps.result c.in_err-write_steps.field-0.0 (search rules) trace c.in_ok-graph.ensures.text
+    c.in_err-write_steps.ensures.err
 
 pub returns-clause-serves : goal.returns-clause-serves
 returns-clause-serves g c =
@@ -22,6 +20,5 @@ returns-clause-serves g c =
     subst (λ (es : List Event). IfSome (g.T.Source.left c.args.trace.now) (λ s. IsTraceText s es))
     (sym c.deref.ensures.value) c.in_ok-events.ensures.events in
     serves_lines c.args.options.now (g.T.Source.left c.args.trace.now)
-    (g.R.Source.left c.args.graph.now) c.in_ok-raw.raw c.in-Ok.built c.deref.result.now _ _
-    trace (search rules) (same_shape c.in-Ok.built c.in_ok-raw.raw c.in-Ok.ensures.nodes c.in-Ok.ensures.keys)
-    c.in_ok-write_steps.ensures.run c.in_ok-write_steps.ensures.ok
+    (g.R.Source.left c.args.graph.now) c.in_ok-graph.graph c.deref.result.now _ _
+    trace c.in_ok-graph.ensures.text c.in_ok-write_steps.ensures.run c.in_ok-write_steps.ensures.ok

@@ -1,11 +1,13 @@
-use Rattle.std.proofs.Common.{rules}
-use Rattle.ghs_cli.proofs.Views.{view_cause, view_output}
+use Rattle.ghs_cli.specs.Viewing.{HasNoView, IsView}
+use Rattle.ghs_cli.proofs.Texts.{cause_of_text, output_of_text}
 use Rattle.ghs_cli.proofs.viewing.view_text_of.Goals as goal
 
 pub returns-clause-text : goal.returns-clause-text
-returns-clause-text g c = view_output c.viewed.result (λ text. text.items) c.args.options.now c.in_ok-raw.raw
-    (g.S.Source.left c.args.graph.now) c.viewed.ensures.text (search rules)
+returns-clause-text g c =
+    output_of_text c.viewed.result (λ text s. IsView c.args.options.now s text.items) c.in_ok-graph.graph
+    (g.S.Source.left c.args.graph.now) c.in_ok-graph.ensures.text c.viewed.ensures.text
 
 pub returns-clause-fault : goal.returns-clause-fault
 returns-clause-fault g c =
-    view_cause c.viewed.result c.args.options.now c.in_ok-raw.raw (g.S.Source.left c.args.graph.now) c.viewed.ensures.fault (search rules)
+    cause_of_text c.viewed.result (HasNoView c.args.options.now) c.in_ok-graph.graph
+    (g.S.Source.left c.args.graph.now) c.in_ok-graph.ensures.text c.viewed.ensures.fault

@@ -1,0 +1,42 @@
+//! What the devices give: a graph, and the events of a stored run.
+ghost use Rattle.ghs_cli.specs.Serving.{IsGraphCause, IsTextOf, IsTraceCause, IsTraceText, is_limit, is_write};
+ghost use Rattle.ghs_cli.specs.declared.fault.ServeFault.{ServeFault};
+ghost use Rattle.std.specs.Prelude.{◌≡◌, ◌≤◌, ◌↔◌, false, length, true, IfErr, IfOk, IfSome, IsErrOf};
+
+use crate::fault::ServeFault;
+use ghs_gr::device::Source;
+use ghs_gr::judgement::read_gr;
+use ghs_gr::text::read_text;
+use ghs_graph::graph::Graph;
+use ghs_protocol::event::Event;
+use ghs_sched::trace::{EVENT_LIMIT, read_trace};
+use std::alloc::Global;
+
+/// The graph whose text the device gives.
+pub(crate) fn graph_of<R: Source>(alloc: Global, graph: &mut R) -> Result<Graph, ServeFault>
+    requires { R.has_failed graph.old ≡ false }
+    ensures text { IfOk result (λ built. IfSome (R.left graph.old) (λ input. IsTextOf input built)) }
+    ensures fault { IfErr result (λ fault. IfSome (R.left graph.old) (λ input. IsGraphCause input fault)) }
+    ensures early { IfErr result (λ fault. is_write fault ≡ false) }
+    ensures goes_on { IfErr result (λ fault. is_limit fault ≡ false) }
+    ensures read { IsErrOf result ServeFault.Read ↔ (R.has_failed graph.new ≡ true) }
+{
+    let raw = read_gr(alloc, graph)?;
+    match Graph::build(alloc, raw) {
+        Ok(built) => Ok(built),
+        Err(_) => Err(ServeFault::Memory),
+    }
+}
+
+/// The events whose text the device gives.
+pub(crate) fn events_of<T: Source>(alloc: Global, trace: &mut T) -> Result<Vec<Event>, ServeFault>
+    requires { T.has_failed trace.old ≡ false }
+    ensures events { IfOk result (λ events. IfSome (T.left trace.old) (λ stored. IsTraceText stored events.items)) }
+    ensures few { IfOk result (λ events. length events.items ≤ EVENT_LIMIT) }
+    ensures fault { IfErr result (λ fault. IfSome (T.left trace.old) (λ stored. IsTraceCause stored fault)) }
+    ensures early { IfErr result (λ fault. is_write fault ≡ false) }
+    ensures read { IsErrOf result ServeFault.Read ↔ (T.has_failed trace.new ≡ true) }
+{
+    let text = read_text(alloc, trace)?;
+    Ok(read_trace(alloc, &text)?)
+}
