@@ -15,7 +15,7 @@ pub record IsStatusOf (kinds : Kinds) (status : ℕ) : Type 0 where
 abbrev pub IsStatusOfJob : ℕ → Type 0
 IsStatusOfJob status = status ≢ 2
 
--- words that can't be read end as memory that is wanting, where that is why, and else as words that are refused
+-- words that can't be read end as being out of memory, where that is why, and else as words that are refused
 abbrev pub status_unread : ReadKind → ℕ
 status_unread read.OutOfMemory = 4
 status_unread _ = 2

@@ -39,7 +39,7 @@ pub fn longest_chain(alloc: Global, graph: &Graph, events: &[Event]) -> Result<u
     Ok(chains.longest())
 }
 
-/// An event happens in a net, and the chains follow it. Refusal: want of memory; both are then of no use.
+/// An event happens in a net, and the chains follow it. Refusal: out of memory; both are then of no use.
 fn follow(alloc: Global, net: &mut Net, chains: &mut Chains, event: Event) -> Result<(), AllocError>
     requires lawful { IsLawful net.old event }
     requires few { length net.old.trace < 2 ^ 40 }

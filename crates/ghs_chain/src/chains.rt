@@ -81,7 +81,7 @@ impl Chains {
         Ok(())
     }
 
-    /// A node sends messages on its ports. Refusal: want of memory; the chains are then of no use.
+    /// A node sends messages on its ports. Refusal: out of memory; the chains are then of no use.
     pub fn send(
         &mut self,
         graph: &Graph,

@@ -12,7 +12,7 @@ use std::alloc::AllocError;
 
 impl Chains {
     /// Follows an event that is to happen, by what its node will do: O(1), and so for each message that is sent. Refusal:
-    /// want of memory; the chains are then of no use.
+    /// lack of memory; the chains are then of no use.
     pub fn follow(&mut self, net: &Net, event: Event, delta: &Delta) -> Result<(), AllocError>
         requires lawful { IsLawful net.now event }
         requires answer { IsAnswer net.now event delta.now }

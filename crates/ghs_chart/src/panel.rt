@@ -22,7 +22,7 @@ pub struct Caption {
 
 /// Puts a network's panel behind a text, at a place counted from 0: its name, which may be empty, what is said of it, and a
 /// strip each for what its runs have sent, what was put back and their longest chains, in rising order. There has to be a
-/// run, and 2^32 at most. Refusal: want of memory.
+/// run, and 2^32 at most. Refusal: out of memory.
 ///
 /// ```text
 /// put_chart_head(&mut text, 1)?;                            // a chart of one panel

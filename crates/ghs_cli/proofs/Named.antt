@@ -66,7 +66,7 @@ pub swept_part : (o : SweepOptions) (ns : List Network) (bytes output : List ℕ
 swept_part o ns bytes output old new r written same is less has text =
     rw is (output, text, subst (λ (b : List ℕ). written < length b) same less, subst (λ (b : List ℕ). HasWritten old new b written) same has)
 
--- where memory was wanting nothing was written
+-- where memory ran out nothing was written
 pub swept_none : (o : SweepOptions) (ns : List Network) (old : Option (List ℕ)) (r : Result (Unit {0}) ServeFault) →
     r ≡ Err serve.Memory →
     HasSwept o ns old old r

@@ -29,7 +29,7 @@ pub for_some : (o : Option (List ℕ)) (P : List ℕ → Type 0) → ((bytes : L
 for_some None P all = tt
 for_some (Some bytes) P all = all bytes
 
--- where memory can't be wanting behind output, none has gone out
+-- where memory can't run out behind output, none has gone out
 begun : (job : Task) (stored input : List ℕ) (old new : Option (List ℕ)) → is_late job serve.Memory ≡ false → HasBegun job stored input old new
 begun (task.Tree core) stored input old new early = tt
 begun (task.Run o) stored input old new early = tt

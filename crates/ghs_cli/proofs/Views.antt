@@ -10,7 +10,7 @@ use Rattle.ghs_commands.specs.declared.job.ViewOptions.{ViewOptions}
 use Rattle.ghs_cli.specs.Serving.{IsStoredViewCause, IsStoredViewOutput, IsTextOf, IsTraceText}
 use Rattle.ghs_cli.specs.Viewing.{HasNoPairView, HasNoStoredView, IsStoredView}
 
--- want of memory is why there is no page of two runs
+-- lack of memory is why there is no page of two runs
 pub no_pair_for_memory : {A : Type 0} (r : Result A ServeFault) (fault : ServeFault) (o : ViewOptions) (beside : ℕ) (g : Shape) →
     r ≡ Err fault →
     fault ≡ serve.Memory →

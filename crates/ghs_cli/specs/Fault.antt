@@ -66,7 +66,7 @@ abbrev pub of_unwritten : WriteFault → ServeFault
 of_unwritten write.Memory = serve.Memory
 of_unwritten (write.Write written) = serve.Write written
 
--- the exit status: 1 for input that is refused, 3 for a run that hasn't ended or states above their limit, 4 for want of memory or of a thread,
+-- the exit status: 1 for input that is refused, 3 for a run that hasn't ended or states above their limit, 4 for lack of memory or of a thread,
 -- 5 for a read or a write that failed, 6 for a state without a rule or workers that stop without a reason
 abbrev pub status_of : ServeFault → ℕ
 status_of (serve.BadLine line) = 1

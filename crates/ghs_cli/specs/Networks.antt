@@ -55,7 +55,7 @@ IsSweepOf Runs o ns text = IsNetworksText o ns text
 IsSweepOf Summary o ns text = IsNetworksText o ns text
 IsSweepOf Chart o ns text = IsChart o ns text
 
--- what has gone out of a sweep of networks: all of its text, or only its first bytes, where a write failed; nothing where memory was wanting
+-- what has gone out of a sweep of networks: all of its text, or only its first bytes, where a write failed; nothing where memory ran out
 abbrev pub HasSwept : SweepOptions → List Network → Option (List ℕ) → Option (List ℕ) → Result (Unit {0}) ServeFault → Type 0
 HasSwept o ns old new (Ok u) = (output : List ℕ) × IsSweepOf o.sheet o ns output × HasWritten old new output (length output)
 HasSwept o ns old new (Err (serve.Write written)) =

@@ -296,7 +296,7 @@ abbrev pub IsStoredViewCause : StoredViewOptions → List ℕ → List ℕ → S
 IsStoredViewCause o stored input fault =
     IsTraceCause stored fault ⊎ (((events : List Event) × IsTraceText stored events × IsGraphCause input fault) ⊎ HaveNoPage o stored input fault)
 
--- why a network isn't made: what is asked for is refused, it has too many links, or memory is wanting
+-- why a network isn't made: what is asked for is refused, it has too many links, or memory runs out
 abbrev pub IsMakeCause : Asked → ServeFault → Type 0
 IsMakeCause asked serve.NodesOutside = IsRefusal asked make.Nodes
 IsMakeCause asked serve.LinksGiven = IsRefusal asked make.LinksGiven
@@ -356,7 +356,7 @@ abbrev pub HasShown : Task → List ℕ → Option (List ℕ) → Option (List �
 HasShown job input old new =
     shows_events job ≡ true → (output : List ℕ) × IsPrintedAtLimit job input output × HasWritten old new output (length output)
 
--- a task that prints by portions may have printed the first bytes before memory was wanting
+-- a task that prints by portions may have printed the first bytes before memory ran out
 abbrev pub HasBegun : Task → List ℕ → List ℕ → Option (List ℕ) → Option (List ℕ) → Type 0
 HasBegun (task.Steps o) stored input old new =
     (new ≡ old) ⊎ ((output : List ℕ) × IsStepsText o stored input output × ((k : ℕ) × (k ≤ length output) × HasWritten old new output k))

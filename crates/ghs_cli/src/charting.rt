@@ -20,7 +20,7 @@ use ghs_sweep::summary::rising_of;
 use std::alloc::{AllocError, Global};
 use std::thread::Threads;
 
-/// The chart of the sweep of one network, which has no name. Refusal: want of memory.
+/// The chart of the sweep of one network, which has no name. Refusal: out of memory.
 pub(crate) fn nameless_chart<R: Threads + Sync + Eprint>(
     rt: &R,
     alloc: Global,
@@ -37,7 +37,7 @@ pub(crate) fn nameless_chart<R: Threads + Sync + Eprint>(
     Ok(text)
 }
 
-/// The chart of the sweeps of networks. Refusal: want of memory.
+/// The chart of the sweeps of networks. Refusal: out of memory.
 pub(crate) fn chart_text<R: Threads + Sync + Eprint>(
     rt: &R,
     alloc: Global,

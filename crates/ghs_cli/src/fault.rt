@@ -82,7 +82,7 @@ pub enum ServeFault {
 
 impl ServeFault {
     /// The program's exit status: 1 where the input is refused, 3 where a run hasn't ended or there are more states than
-    /// may be, 4 for want of memory or of a thread, 5 where a read or a write failed, 6 for workers that stop without a
+    /// may be, 4 for lack of memory or of a thread, 5 where a read or a write failed, 6 for workers that stop without a
     /// reason and a state that has no rule.
     pub fn status(&self) -> u8
         ensures { result ≡ status_of self.now }

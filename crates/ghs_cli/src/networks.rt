@@ -26,7 +26,7 @@ pub struct Network {
     pub graph: Graph,
 }
 
-/// Reads the network of this name that a device gives. Faults: those of the graph's text, and want of memory.
+/// Reads the network of this name that a device gives. Faults: those of the graph's text, and lack of memory.
 pub fn read_network<S: Source>(
     alloc: Global,
     name: &str,
@@ -45,7 +45,7 @@ pub fn read_network<S: Source>(
 
 /// Sweeps networks, and writes the text: one head line, and the lines of each network behind its name, in the order of the
 /// networks. Threads share the runs of one network after another. The text is made whole before its first byte goes out,
-/// and it is the same for every number of threads. Faults: want of memory, and then a write that fails.
+/// and it is the same for every number of threads. Faults: lack of memory, and then a write that fails.
 ///
 /// ```text
 /// networks.push(read_network(alloc, "star.gr", &mut Device::of(file))?)?;

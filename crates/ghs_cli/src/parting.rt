@@ -23,7 +23,7 @@ use std::thread::{Threads, join};
 const PORTION: u64 = 16;
 
 /// Puts the lines of the parts of a graph's runs behind a text, each behind the same front. Where that is asked for, standard
-/// error is told now and then how many of the seeds have been run. Refusal: want of memory.
+/// error is told now and then how many of the seeds have been run. Refusal: out of memory.
 pub(crate) fn put_parted<R: Threads + Sync + Eprint>(
     rt: &R,
     alloc: Global,

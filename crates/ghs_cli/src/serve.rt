@@ -27,7 +27,7 @@ use std::thread::Threads;
 
 /// Does what the job asks for: reads what it needs, and writes what is to be printed. The output is made whole before its
 /// first byte goes out, but for steps and networks that are made: their lines go out by portions, once what they are of
-/// is judged, so that want of memory may be said behind a front of them. Of several faults the first in the order of work
+/// is judged, so that lack of memory may be said behind a front of them. Of several faults the first in the order of work
 /// counts: reading the trace, judging it, reading the graph, judging it, the run or the replay, the writing; want of
 /// memory comes where it is met. Only replays, steps and pages of stored runs touch the trace. Threads run a network
 /// where the job names workers, and where it asks for progress lines on standard error tell of it; one that can't be

@@ -95,7 +95,7 @@ pub(crate) fn head_by(by: Option<By>, form: Form, sheet: Sheet) -> &'static [u8]
 }
 
 /// Puts the lines of the sweep of a graph behind a text, of its runs or of their parts, each behind the same front. Refusal:
-/// want of memory.
+/// out of memory.
 pub(crate) fn put_lines_of<R: Threads + Sync + Eprint>(
     rt: &R,
     alloc: Global,
@@ -128,7 +128,7 @@ fn head_of(form: Form, sheet: Sheet) -> &'static [u8]
     }
 }
 
-/// Puts the lines of the runs of a graph behind a text, each behind the same front. Refusal: want of memory.
+/// Puts the lines of the runs of a graph behind a text, each behind the same front. Refusal: out of memory.
 fn put_swept<R: Threads + Sync + Eprint>(
     rt: &R,
     alloc: Global,

@@ -367,7 +367,7 @@ kinds_of words = or_else (fault_of program (with_name words)) (option_kinds (com
 abbrev pub IsRequest : ErrorKind → Type 0
 IsRequest k = (k ≡ kind.DisplayHelp) ⊎ (k ≡ kind.DisplayVersion)
 
--- what was asked for is for those who ask for it, a refusal for every other fault of the words; memory may always be wanting
+-- what was asked for is for those who ask for it, a refusal for every other fault of the words; memory may run out at any time
 abbrev pub IsSaidOf : Kinds → JobFault → Type 0
 IsSaidOf kinds (fault.Help text) = (k : ErrorKind) × IsAmong k kinds × IsRequest k
 IsSaidOf kinds (fault.Refused text) = (k : ErrorKind) × IsAmong k kinds × (IsRequest k → ⊥)
@@ -379,7 +379,7 @@ IsSaid k (fault.Help text) = IsRequest k
 IsSaid k (fault.Refused text) = (IsRequest k → ⊥) × (k ≢ kind.OutOfMemory)
 IsSaid k fault.Memory = Unit {0}
 
--- a refusal, or want of memory
+-- a refusal, or lack of memory
 abbrev pub IsRefused : JobFault → Type 0
 IsRefused (fault.Help text) = ⊥
 IsRefused (fault.Refused text) = Unit {0}

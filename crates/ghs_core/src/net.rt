@@ -64,7 +64,7 @@ impl Model for Net {
 }
 
 impl Net {
-    /// The opening net of a graph: all nodes asleep, nothing under way. Where memory is wanting the graph comes back.
+    /// The opening net of a graph: all nodes asleep, nothing under way. Where memory runs out the graph comes back.
     ///
     /// ```text
     /// let mut net = Net::open(alloc, graph)?;                   // an Err hands the graph back

@@ -20,7 +20,7 @@ use std::alloc::{AllocError, Global};
 
 /// The network, its links, the steps of the events that are shown, and the counts behind them. `events` is how many the
 /// whole run has, `from` the event before which it opens, counted from 1, and `bound` the bound on the network's messages.
-/// Refusal: want of memory.
+/// Refusal: out of memory.
 ///
 /// ```text
 /// let most = bound(graph.nodes(), graph.links());

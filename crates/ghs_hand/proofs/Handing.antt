@@ -6,7 +6,7 @@ use Rattle.ghs_hand.specs.Words.{fault_json}
 use Rattle.ghs_hand.specs.declared.fault.HandFault.{HandFault}
 use Rattle.ghs_hand.specs.declared.fault.HandFault.TheVariants.{Memory}
 
--- an answer's text, or that of its fault; whatever it is, memory may be wanting for it
+-- an answer's text, or that of its fault; whatever it is, memory may run out before it
 module _ {V : Type 0} (items : V → List ℕ) (Good : List ℕ → Type 0) (Bad : HandFault → Type 0) where
   abbrev Is : List ℕ → Type 0
   Is t = Good t ⊎ ((f : HandFault) × Bad f × (t ≡ fault_json f))

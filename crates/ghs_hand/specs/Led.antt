@@ -43,7 +43,7 @@ HasNoEvents text Memory = Unit {0}
 HasNoEvents text _ = ⊥
 
 -- why two texts lead to no world: the first has a fault; or it is a graph's and the second has one; or both are sound,
--- and an event isn't lawful where it stands, the first such; want of memory may come anywhere
+-- and an event isn't lawful where it stands, the first such; out of memory may come anywhere
 abbrev pub LeadsNowhere : WakeSet → List ℕ → List ℕ → HandFault → Type 0
 LeadsNowhere wake graph trace (Graph fault) = TextIs graph (Err fault)
 LeadsNowhere wake graph trace (Trace fault) = ((g : Shape) × IsTextOf graph g) × HasFault trace fault

@@ -15,7 +15,7 @@ use ghs_world::wake_set::WakeSet;
 use ghs_world::world::World;
 use std::alloc::Global;
 
-/// The line of the fault that can't be told of for want of memory.
+/// The line of the fault that can't be told of for lack of memory.
 const NO_MEMORY: &[u8] = b"{\"fault\":\"memory\",\"words\":\"out of memory\"}\n";
 
 /// What a page is told of the world to which a graph's text and a trace's text lead, or the fault for which they lead to

@@ -11,7 +11,7 @@ use ghs_world::world::World;
 use std::alloc::Global;
 
 /// Runs a world on, from wherever it stands, by the schedule of a seed until the run has ended: among all events that may
-/// happen or, patiently, among those that move the run on. Refusals: the turns are used before the end; want of memory.
+/// happen or, patiently, among those that move the run on. Refusals: the turns are used before the end; out of memory.
 pub fn go_on(alloc: Global, world: &mut World, patient: bool, seed: u64) -> Result<(), HandFault>
     requires numbers { world.old.last ≡ length world.old.net.trace }
     ensures on { OnOk result (HasGoneOn patient seed world.old world.new.net.trace) }

@@ -15,7 +15,7 @@ use std::alloc::{AllocError, Global};
 
 /// The data of a world's run so far: the network, its links, a line for each step, the counts; then a line for each event
 /// that may come next, which says so where its node would only put the message back; and a last one exactly where the run
-/// has ended. Refusal: want of memory.
+/// has ended. Refusal: out of memory.
 pub fn seen(alloc: Global, world: &World) -> Result<Vec<u8>, AllocError>
     ensures { IfOk result (λ text. IsSeen world.now text.items) }
 {

@@ -8,7 +8,7 @@ use ghs_lines::numbers::put_number;
 use ghs_sched::fault::TraceFault;
 use std::alloc::{AllocError, Global};
 
-/// The line of a fault: what has it, and its words, which are those of the program. Refusal: want of memory.
+/// The line of a fault: what has it, and its words, which are those of the program. Refusal: out of memory.
 #[tactic(auto, unfolding(crate::specs::Words::fault_json))]
 pub fn fault_line(alloc: Global, fault: HandFault) -> Result<Vec<u8>, AllocError>
     ensures { IfOk result (λ text. text.items ≡ fault_json fault) }

@@ -24,7 +24,7 @@ use std::alloc::{AllocError, Global};
 /// word of the schedule is used; what waits at one port is taken in its order. Where no message would be consumed the
 /// next word picks a wake, or where there is none a message to be put back behind which stands one that would be
 /// consumed. Each of these is a patient pick, so at most 2(B + N) events are made, B the bound on messages and N the
-/// nodes, and where turns and ticket numbers for so many are left, the run ends, or memory is wanting. Of the faults
+/// nodes, and where turns and ticket numbers for so many are left, the run ends, or memory runs out. Of the faults
 /// TurnLimit comes where the commits have come to the turns or no ticket number is left, and else Memory. At every end
 /// nothing is out, and the world stands after the events so far. O(log N) an event and a message; where phase, level or
 /// in_branch of a node have changed, for each of its ports too.

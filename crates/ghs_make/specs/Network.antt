@@ -79,7 +79,7 @@ pub record IsNetworkOf (asked : Asked) (n : Network) : Type 0 where
   pub plan : IsPlanOf asked n.plan
   pub weights : n.weights ≡ weights_asked asked
 
--- why there is no network: it was refused, it has too many links, or memory is wanting
+-- why there is no network: it was refused, it has too many links, or memory runs out
 abbrev pub IsRefusal : Asked → MakeFault → Type 0
 IsRefusal asked TooManyLinks = (p : Plan) × IsPlan p × IsPlanOf asked p × (refusal asked ≡ None) × (ARC_LIMIT < count_of p)
 IsRefusal asked Memory = Unit {0}

@@ -153,7 +153,7 @@ fn what_is_asked_for_is_refused(rt: HostRuntime) {
     }
 }
 
-/// A network is made whole, or memory is wanting.
+/// A network is made whole, or memory runs out.
 fn make(rt: &impl Abort, alloc: Global, k: usize) -> Turn {
     let asked = asked(Kind::Busy, 7, 1, None, None);
     let mut held = Vec::with_capacity(alloc, 1 << 16).expect(rt, "memory");

@@ -29,7 +29,7 @@ impl Model for Maxima {
 }
 
 impl Maxima {
-    /// So many numbers, each of them 0. More than half of `usize::MAX` are refused as want of memory. O(len).
+    /// So many numbers, each of them 0. More than half of `usize::MAX` are refused as out of memory. O(len).
     ///
     /// ```text
     /// let mut row = Maxima::zeros(alloc, 3)?;                   // row.greatest() is None

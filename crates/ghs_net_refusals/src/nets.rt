@@ -58,7 +58,7 @@ fn reaction(rt: &impl Abort, alloc: Global, net: &Net, event: Event, k: usize) -
     turn
 }
 
-/// There was no fault but want of memory.
+/// There was no fault but lack of memory.
 fn assert_fault(rt: &impl Abort, fault: Option<NodeFault>) {
     assert!(rt; fault.is_none() || fault == Some(NodeFault::Memory));
 }

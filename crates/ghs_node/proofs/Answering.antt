@@ -22,7 +22,7 @@ module _ (n : NodeState) (w : Work) (f : IsNode n) (h : HasPort n w) where
   answered_change (Ok d) a = record { work = w; port = h; is = a }
   answered_change (Err e) a = tt
 
-  -- where want of memory is answered, the row sends something
+  -- where lack of memory is answered, the row sends something
   sending_row : (o : Option Delta) → reaction n w ≡ o → SendsSome o → (d : Delta) × Row n w d × (0 < length d.sends)
   sending_row None e s = absurd s
   sending_row (Some d) e s = (d, reaction_inverts n w d h e, s)

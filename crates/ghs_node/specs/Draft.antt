@@ -42,7 +42,7 @@ abbrev pub SendsSome : Option Delta → Type 0
 SendsSome None = ⊥
 SendsSome (Some d) = 0 < length d.sends
 
--- the answer to work at a port of the node: the reaction, and want of memory only where something is sent
+-- the answer to work at a port of the node: the reaction, and lack of memory only where something is sent
 abbrev pub Answers : Result Delta NodeFault → Option Delta → Type 0
 Answers (Ok d) o = o ≡ Some d
 Answers (Err Unforeseen) o = o ≡ None

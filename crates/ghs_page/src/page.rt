@@ -7,7 +7,7 @@ use crate::template::{HEAD, TAIL};
 use std::alloc::{AllocError, Global};
 
 /// The page round the steps of a run, as JSON Lines. They hold no `<`, by which the element that they stand in could end.
-/// Refusal: want of memory.
+/// Refusal: out of memory.
 ///
 /// ```text
 /// let html = page(alloc, &data_of(alloc, graph, most, &events, count, 1)?)?;
@@ -20,7 +20,7 @@ pub fn page(alloc: Global, steps: &[u8]) -> Result<Vec<u8>, AllocError>
 }
 
 /// The page of two runs, round the steps of each, as JSON Lines without a `<`. It holds the page of one, in which it shows
-/// them both. Refusal: want of memory.
+/// them both. Refusal: out of memory.
 pub fn pair_page(alloc: Global, first: &[u8], second: &[u8]) -> Result<Vec<u8>, AllocError>
     ensures { IfOk result (λ text. text.items ≡ pair_text first.now second.now) }
 {

@@ -15,7 +15,7 @@ use ghs_steps::form::Form;
 use std::alloc::{AllocError, Global};
 
 /// Puts the lines of all parts of a seed's run behind a text, each behind the same front. The events are played once more.
-/// Refusal: want of memory.
+/// Refusal: out of memory.
 ///
 /// ```text
 /// let mut text = Vec::from_slice(alloc, head_line(By::Node))?;

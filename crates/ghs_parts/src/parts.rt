@@ -26,7 +26,7 @@ use std::alloc::{AllocError, Global};
 
 /// The figures of a run by part, one part behind another: all nodes from 1 on, the levels from 0 to the greatest that a
 /// node had, or all rows of the table of rules. The events are played once more, each and each message in constant time;
-/// the memory beside the net's is that of the parts. Refusal: want of memory.
+/// the memory beside the net's is that of the parts. Refusal: out of memory.
 ///
 /// ```text
 /// let parts = parts_of(alloc, world.graph(), world.trace(), By::Level)?;
@@ -77,7 +77,7 @@ fn none(alloc: Global, by: By, graph: &Graph) -> Result<Tally, AllocError>
     Ok(Tally { parts, level: 0 })
 }
 
-/// An event happens, and is counted. Refusal: want of memory; both are then of no use.
+/// An event happens, and is counted. Refusal: out of memory; both are then of no use.
 fn follow(
     alloc: Global,
     net: &mut Net,
@@ -116,7 +116,7 @@ fn are_small(counts: &[u64])
     ensures { (k : ℕ) → k < length counts.now → slice_index counts.now k < 2 ^ 64 }
 {}
 
-/// What the event's node does. A lawful event has a rule, so memory alone can be wanting.
+/// What the event's node does. A lawful event has a rule, so only memory can run out.
 fn answer(alloc: Global, net: &Net, event: Event) -> Result<Delta, AllocError>
     requires { IsLawful net.now event }
     ensures answer { IfOk result (λ d. IsAnswer net.now event d) }

@@ -23,7 +23,7 @@ use std::alloc::{AllocError, Global};
 /// the events that move the run on: wakes under the wake set, and takes of messages that wouldn't only be put back. Where
 /// there is none it picks one of those takes behind whose message stands one that would move the run on. So at most
 /// 2(B + N) events are made, B the bound on messages and N the nodes, and where turns and ticket numbers for so many are
-/// left, the run ends, or memory is wanting. Of the faults TurnLimit comes where the commits have come to the turns or no
+/// left, the run ends, or memory runs out. Of the faults TurnLimit comes where the commits have come to the turns or no
 /// ticket number is left, and else Memory. At every end nothing is out, and the world stands after the events so far.
 ///
 /// ```text

@@ -97,7 +97,7 @@ AreRounds Waits seed wake turns g events rounds = rounds ≡ None
 AreRounds Lifo seed wake turns g events rounds = rounds ≡ None
 AreRounds Rounds seed wake turns g events rounds = (r : ℕ) × (rounds ≡ Some r) × IsInRounds seed wake turns g events r
 
--- why a run from the opening on stops before its end: its turns are used, or memory is wanting; an event is always ready, and has a rule
+-- why a run from the opening on stops before its end: its turns are used, or memory runs out; an event is always ready, and has a rule
 abbrev pub StopsFor : WorldState → RunFault → Type 0
 StopsFor s TurnLimit = length s.net.trace ≡ s.turns
 StopsFor s Stalled = ⊥

@@ -18,7 +18,7 @@ use ghs_world::world::World;
 use std::alloc::{AllocError, Global};
 
 /// Runs a world from its opening on as `run_by_seed` does, until the run has ended or its turns are used, and says how many
-/// messages its longest chain has. Refusal: want of memory. At every end nothing is out, and the world stands after the
+/// messages its longest chain has. Refusal: out of memory. At every end nothing is out, and the world stands after the
 /// events so far.
 pub fn run_chained(
     alloc: Global,
@@ -70,7 +70,7 @@ fn followed(
     }
 }
 
-/// The same run, and the chains follow. Where memory is wanting they are of no use.
+/// The same run, and the chains follow. Where memory runs out they are of no use.
 fn run_followed(
     alloc: Global,
     world: &mut World,

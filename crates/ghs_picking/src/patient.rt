@@ -19,7 +19,7 @@ use ghs_sched::schedule::Schedule;
 use ghs_world::world::World;
 use std::alloc::{AllocError, Global};
 
-/// Runs a world on as `ghs_patient` does, and the chains follow. Where memory is wanting the chains are of no use.
+/// Runs a world on as `ghs_patient` does, and the chains follow. Where memory runs out the chains are of no use.
 pub(crate) fn run_patient(
     alloc: Global,
     world: &mut World,

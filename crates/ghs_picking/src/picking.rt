@@ -37,7 +37,7 @@ pub enum ScheduleKind {
 /// Runs a world from its opening on, by the schedule of a seed, until the run has ended or its turns are used. Of the
 /// faults TurnLimit comes where the commits have come to the turns, and else Memory. A patient run, one by rounds, or one
 /// that takes first what was sent last, that has turns for 2(B + N) events, B the bound on messages and N the nodes,
-/// ends, or memory is wanting; a run that prefers what waits needn't end. At every end nothing is out, and the world
+/// ends, or memory runs out; a run that prefers what waits needn't end. At every end nothing is out, and the world
 /// stands after the events so far.
 ///
 /// ```text

@@ -12,7 +12,7 @@ use ghs_protocol::event::Event;
 use std::alloc::{AllocError, Global};
 
 /// The time of a run: a line of its longest chain, and behind it, where the run went by rounds, a line of these. The events
-/// are played once more for the chain, each and each message in constant time. Refusal: want of memory.
+/// are played once more for the chain, each and each message in constant time. Refusal: out of memory.
 ///
 /// ```text
 /// let (rounds, end) = run_timed(alloc, &mut world, ScheduleKind::Rounds, 1);

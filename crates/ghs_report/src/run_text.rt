@@ -10,7 +10,7 @@ use ghs_world::world::World;
 use std::alloc::Global;
 
 /// The text of a world whose run has ended, as `--print report` prints it: that of its home view, whatever is out. Refusals:
-/// the run hasn't ended; want of memory.
+/// the run hasn't ended; out of memory.
 ///
 /// ```text
 /// let text = run_text(alloc, &world)?;                      // Err(ReportFault::NotEnded) as long as the run goes on

@@ -89,7 +89,7 @@ impl Clock {
         }
     }
 
-    /// The node of an event, asleep or not, hears of what the event takes, and sends. Refusal: want of memory; the clock is
+    /// The node of an event, asleep or not, hears of what the event takes, and sends. Refusal: out of memory; the clock is
     /// then of no use.
     pub fn follow(
         &mut self,

@@ -120,7 +120,7 @@ impl Rounds {
     }
 
     /// The clock hears of an event before it happens, by what its node, asleep or not, will do, and what will be sent is
-    /// noted. Refusal: want of memory; the round is then of no use.
+    /// noted. Refusal: out of memory; the round is then of no use.
     fn hear(
         &mut self,
         world: &World,

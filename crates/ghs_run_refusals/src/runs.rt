@@ -53,7 +53,7 @@ fn assert_ended(rt: &impl Abort, alloc: Global, world: World) {
     let_go(world);
 }
 
-/// There was no fault but want of memory. Whether there was one.
+/// There was no fault but lack of memory. Whether there was one.
 fn is_stopped(rt: &impl Abort, fault: Option<RunFault>) -> bool {
     assert!(rt; fault.is_none() || fault == Some(RunFault::Memory));
     fault.is_some()
@@ -93,7 +93,7 @@ fn assert_trace(rt: &impl Abort, world: &World, events: &[Event]) {
     assert!(rt; world.trace() == events);
 }
 
-/// One seed's run, stopped for want of memory, goes on by the same schedule to the events that it has where nothing is
+/// One seed's run, stopped for lack of memory, goes on by the same schedule to the events that it has where nothing is
 /// refused.
 fn seeded(rt: &impl Abort, alloc: Global, events: &[Event], k: usize) -> Turn {
     let mut world = opening(alloc).expect(rt, "a world");
@@ -222,7 +222,7 @@ fn set_to_work<R: Threads + Wait + Sync + Abort>(
     (world, turn_of(alloc, k, &answer), answer.err())
 }
 
-/// There was no fault but want of memory, or a thread that couldn't be started: that is counted.
+/// There was no fault but lack of memory, or a thread that couldn't be started: that is counted.
 fn count_unstarted(rt: &impl Abort, fault: Option<PoolFault>, unstarted: &AtomicU64) {
     if fault == Some(PoolFault::NoThread) {
         unstarted.fetch_add(1, Ordering::SeqCst);
@@ -295,7 +295,7 @@ fn work_watched<R: Threads + Wait + Sync + Abort>(rt: &R, alloc: Global, k: usiz
     turn
 }
 
-/// To start a thread takes one allocation; any other that is refused is want of memory.
+/// To start a thread takes one allocation; any other that is refused is lack of memory.
 fn refuse_workers<R: Threads + Wait + Sync + Print + Abort>(
     rt: &R,
     alloc: Global,

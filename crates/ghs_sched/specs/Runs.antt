@@ -39,7 +39,7 @@ IsWhole old new words after = IsSeededRun (wakers old) old.net.graph old.turns o
 abbrev pub IsEnd : WorldState → RunEnd → Type 0
 IsEnd s (Halted v) = HasEnded s.net.graph (home s) × IsLeastHalted (network s.net) (home s) (Some v)
 
--- why a run stops before its end: no turn is left, or no ticket number; or memory is wanting. An event is always ready, and has a rule.
+-- why a run stops before its end: no turn is left, or no ticket number; or memory runs out. An event is always ready, and has a rule.
 abbrev pub EndsFor : WorldState → RunFault → Type 0
 EndsFor s TurnLimit = (length s.net.trace ≡ s.turns) ⊎ (18446744073709551615 ≤ s.last)
 EndsFor s Stalled = ⊥

@@ -16,7 +16,7 @@ use ghs_world::world::World;
 use std::alloc::Global;
 
 /// The world that a list of events leaves, done in order from the opening of the graph on: nothing is out, and there are
-/// as many turns as there may be. A fault hands the graph back. A run under the wake set has no fault but want of memory.
+/// as many turns as there may be. A fault hands the graph back. A run under the wake set has no fault but lack of memory.
 ///
 /// ```text
 /// let events = read_trace(alloc, &text)?;

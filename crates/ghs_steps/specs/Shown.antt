@@ -12,7 +12,7 @@ use Rattle.ghs_steps.specs.declared.show.StepsFault.TheVariants.{NotLawful, Memo
 use Rattle.ghs_report.specs.declared.portions.WriteFault.TheVariants as writes
 use Rattle.ghs_report.specs.Written.{IsFront}
 
--- an event isn't lawful, and nothing has gone out; or the events are a run, and a front of its lines has; where memory is wanting,
+-- an event isn't lawful, and nothing has gone out; or the events are a run, and a front of its lines has; where memory runs out,
 -- one of nothing or that front
 abbrev pub CantShow : Shape → WakeSet → List Event → List ℕ → Option (List ℕ) → Option (List ℕ) → StepsFault → Type 0
 CantShow g wake es text old new (NotLawful k) = IsFirstUnlawful g wake es k × (new ≡ old)

@@ -70,7 +70,7 @@ pub fn write_run<W: Sink>(
 }
 
 /// Plays a run from the opening on and appends the line of each of its events, in the form that is asked for. Answers the
-/// net that it leaves. Refusal: want of memory.
+/// net that it leaves. Refusal: out of memory.
 pub fn put_lines(
     alloc: Global,
     graph: Graph,
@@ -119,7 +119,7 @@ fn show(
     Ok(())
 }
 
-/// What the event's node does. A lawful event has a rule, so memory alone can be wanting.
+/// What the event's node does. A lawful event has a rule, so only memory can run out.
 fn answer(alloc: Global, net: &Net, event: Event) -> Result<Delta, AllocError>
     requires { IsLawful net.now event }
     ensures answer { IfOk result (λ d. IsAnswer net.now event d) }

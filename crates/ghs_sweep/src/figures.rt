@@ -40,7 +40,7 @@ pub struct Figures {
     pub chain: u64,
 }
 
-/// The figures of a net. Its events are played once more for their longest chain. Refusal: want of memory.
+/// The figures of a net. Its events are played once more for their longest chain. Refusal: out of memory.
 pub fn figures_of(alloc: Global, net: &Net) -> Result<Figures, AllocError>
     requires { length net.now.trace ≤ 2 ^ 40 }
     ensures { IfOk result (λ f. AreFigures net.now.graph net.now.trace f) }

@@ -10,7 +10,7 @@ use std::alloc::{AllocError, Global};
 pub const FRONT_HEAD: &[u8] = b"graph,";
 
 /// What the lines of a network begin with: its name and a comma. As a field it stands in quotes where it holds a comma, a
-/// quote or a line's end; as a string of JSON it has the escapes that it needs. Refusal: want of memory.
+/// quote or a line's end; as a string of JSON it has the escapes that it needs. Refusal: out of memory.
 pub fn front_of(alloc: Global, form: Form, name: &str) -> Result<Vec<u8>, AllocError>
     ensures { IfOk result (λ front. front.items ≡ front_of form name.now) }
 {
@@ -32,7 +32,7 @@ pub fn bare_front(form: Form) -> &'static [u8]
     }
 }
 
-/// A name as a field of comma separated values. What is written to memory fails for want of memory alone.
+/// A name as a field of comma separated values. What is written to memory fails for lack of memory alone.
 fn field_of(alloc: Global, name: &str) -> Result<Vec<u8>, AllocError>
     ensures { IfOk result (λ field. field.items ≡ field_text default_writer name.now) }
 {

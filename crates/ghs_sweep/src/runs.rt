@@ -11,7 +11,7 @@ use std::thread::{Threads, join};
 
 /// Goes on with the runs of seeds that rise from the first on: puts the figures of the next ones, so many and one at
 /// least, behind those that there are. The runs go side by side on so many threads, 1 at least; the figures are the same
-/// for every number of threads. Refusal: want of memory; then those that there are stay.
+/// for every number of threads. Refusal: out of memory; then those that there are stay.
 ///
 /// ```text
 /// let setup = Setup { schedule_kind: ScheduleKind::Seeded, wake: WakeSet::All, turns: 1 << 40 };
@@ -43,7 +43,7 @@ pub fn run_seeds<R: Threads + Sync>(
     Ok(())
 }
 
-/// The figures of the runs of so many seeds, by so many threads. Refusal: want of memory.
+/// The figures of the runs of so many seeds, by so many threads. Refusal: out of memory.
 pub(crate) fn runs_by<R: Threads + Sync>(
     rt: &R,
     alloc: Global,

@@ -17,7 +17,7 @@ use std::alloc::{AllocError, Global};
 pub const SUMMARY_HEAD: &[u8] = b"measure,runs,min,p25,p50,p75,p95,max,sum,fixed\n";
 
 /// Puts the summary of runs behind a text: a line for each measure, each behind the same front. There has to be a run, and
-/// 2^32 at most. Refusal: want of memory.
+/// 2^32 at most. Refusal: out of memory.
 ///
 /// ```text
 /// let mut text = Vec::from_slice(alloc, SUMMARY_HEAD)?;
@@ -138,7 +138,7 @@ fn put_measure_members(
     text.extend_from_slice(b"}\n")
 }
 
-/// The values of a measure for runs, in rising order. Refusal: want of memory.
+/// The values of a measure for runs, in rising order. Refusal: out of memory.
 pub fn rising_of(alloc: Global, measure: Measure, runs: &[Figures]) -> Result<Vec<u128>, AllocError>
     requires { All HasSmallWeight runs.now }
     ensures { IfOk result (λ rising. IsRising (map (value_of measure) runs.now) rising.items) }

@@ -11,7 +11,7 @@ use Rattle.ghs_view.specs.declared.stored.StoredFault.{StoredFault}
 use Rattle.ghs_view.specs.declared.stored.StoredFault.TheVariants.{Memory, NotLawful, TooLarge}
 use Rattle.ghs_view.specs.RunPage.{IsTooLarge}
 
--- the first event that can't happen where it stands; a run that a page can't take; want of memory may come anywhere
+-- the first event that can't happen where it stands; a run that a page can't take; out of memory may come anywhere
 abbrev pub HasNoPage : Shape → WakeSet → List Event → ℕ → StoredFault → Type 0
 HasNoPage g wake es to (NotLawful k) = IsFirstUnlawful g wake es k
 HasNoPage g wake es to TooLarge = IsRunUnder (may_wake g wake) (network_of g) es × IsTooLarge g es to

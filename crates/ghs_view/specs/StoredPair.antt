@@ -17,7 +17,7 @@ pub record AreRuns (g : Shape) (wake : WakeSet) (first second : List Event) : Ty
   pub second_is_run : IsRunUnder (may_wake g wake) (network_of g) second
 
 -- the first event that can't happen where it stands, of the first, or of the second behind a first that is a run; two runs
--- of which a page can't take one; want of memory may come anywhere
+-- of which a page can't take one; out of memory may come anywhere
 abbrev pub HasNoPairPage : Shape → WakeSet → List Event → List Event → ℕ → StoredPairFault → Type 0
 HasNoPairPage g wake first second to (FirstNotLawful k) = IsFirstUnlawful g wake first k
 HasNoPairPage g wake first second to (SecondNotLawful k) = IsRunUnder (may_wake g wake) (network_of g) first × IsFirstUnlawful g wake second k

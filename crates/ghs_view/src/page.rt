@@ -36,7 +36,7 @@ impl From<AllocError> for PageFault {
 }
 
 /// The page of a run: its steps from the opening on to the event `to`, or to the last where there are fewer. It opens
-/// before the event `from`. Events are counted from 1. Refusals: the page is too large; want of memory.
+/// before the event `from`. Events are counted from 1. Refusals: the page is too large; out of memory.
 ///
 /// ```text
 /// let graph = world.graph().copy(alloc)?;

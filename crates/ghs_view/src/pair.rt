@@ -15,7 +15,7 @@ use std::alloc::Global;
 
 /// The page of two runs of one network, beside each other: of each its steps from the opening on to the event `to`, or to its
 /// last where there are fewer. Both open before the event `from`. Events are counted from 1. Refusals: a page of one of the
-/// two would be too large; want of memory.
+/// two would be too large; out of memory.
 pub fn pair_page(
     alloc: Global,
     graph: Graph,

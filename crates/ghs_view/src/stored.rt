@@ -27,7 +27,7 @@ pub enum StoredFault {
 }
 
 /// The page of a stored run, from the opening on to the event `to`; it opens before the event `from`. A run that hasn't
-/// ended is shown too. Refusals, in this order: an event isn't lawful; the page is too large; want of memory comes where
+/// ended is shown too. Refusals, in this order: an event isn't lawful; the page is too large; out of memory comes where
 /// it is met.
 ///
 /// ```text

@@ -41,7 +41,7 @@ impl From<AllocError> for StoredPairFault {
 
 /// The page of two stored runs of one network, beside each other, from the opening on to the event `to`; both open before
 /// the event `from`. Runs that haven't ended are shown too. Refusals, in this order: an event of the first isn't lawful; one
-/// of the second isn't; a page of one of the two would be too large; want of memory comes where it is met.
+/// of the second isn't; a page of one of the two would be too large; out of memory comes where it is met.
 pub fn stored_pair_page(
     alloc: Global,
     graph: Graph,

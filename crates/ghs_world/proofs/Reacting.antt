@@ -28,7 +28,7 @@ pub has_rule : (s : NetState) (e : Event) (k : Work) →
     HasRule ((net_of s).node (event_node e)) k
 has_rule s e k graph run lawful same rule = record { port = rw same (work_port s graph run e lawful); rule = rule }
 
--- where there is a rule, want of memory is the one fault
+-- where there is a rule, lack of memory is the one fault
 pub only_memory :
     ListHasNoRow →
     (n : NodeState) (k : Work) (r : Result Delta NodeFault) (f : NodeFault) →

@@ -77,7 +77,7 @@ impl Ticket {
         self.work
     }
 
-    /// The node reacts to the work; no world is needed. The one fault is want of memory, and the ticket comes back.
+    /// The node reacts to the work; no world is needed. The one fault is lack of memory, and the ticket comes back.
     ///
     /// ```text
     /// let (ticket, fault) = match ticket.perform(alloc) {

@@ -79,7 +79,7 @@ impl Model for World {
 
 impl World {
     /// The opening world of a graph: all nodes asleep, nothing under way, nothing out. There may be 1 to 2^40 commits,
-    /// `turns` of them. Where memory is wanting the graph comes back.
+    /// `turns` of them. Where memory runs out the graph comes back.
     pub fn open(
         alloc: Global,
         graph: Graph,
@@ -232,7 +232,7 @@ impl World {
         self.net.reserve(event, delta)
     }
 
-    /// The reaction of the node of an event that may happen; want of memory is the one fault.
+    /// The reaction of the node of an event that may happen; lack of memory is the one fault.
     pub fn answer(&self, alloc: Global, event: Event) -> Result<Delta, AllocError>
         requires { IsLawful self.now.net event }
         ensures { IfOk result (λ d. IsAnswer self.now.net event d) }

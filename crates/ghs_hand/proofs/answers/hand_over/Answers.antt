@@ -2,7 +2,7 @@ use Rattle.std.proofs.Common.{inr}
 use Rattle.ghs_hand.specs.Words.{fault_json, fault_members}
 use Rattle.ghs_hand.proofs.answers.hand_over.Goals as goal
 
--- the constant line is that of want of memory
+-- the constant line is that of lack of memory
 pub returns-in-Err-fault_line : goal.returns-in-Err-fault_line
 unfolding fault_json fault_members
 returns-in-Err-fault_line c =
