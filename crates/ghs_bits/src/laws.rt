@@ -1,0 +1,23 @@
+//! What holds of the bits of every run. Each law is a function that does nothing.
+ghost use Rattle.ghs_bits.specs.Laws.{BitsAreByKind, BitsAreWithinBound, LevelsAreFloors, WidthsAreLeast};
+
+/// The bits that a number needs are the least number, one at least, in which it can be written.
+pub fn law_widths()
+    ensures { WidthsAreLeast }
+{}
+
+/// A level has as many bits as the floor of log2 of the nodes needs.
+pub fn law_levels()
+    ensures { LevelsAreFloors }
+{}
+
+/// The bits of a run are those of its messages by kind: of each kind as many as the ledger has, each with what all messages
+/// of the kind have, and the bits of a key for each Report that has one.
+pub fn law_bits_by_kind()
+    ensures { BitsAreByKind }
+{}
+
+/// No run sends more bits than the bound on messages allows, if each had as many as an Initiate. No message has more.
+pub fn law_bits_within_bound()
+    ensures { BitsAreWithinBound }
+{}
