@@ -1,5 +1,5 @@
 -- How many bits a run has, and that they fit in 64 bits.
-use Rattle.std.proofs.Common.{◌≡◌, ℕ, ◌+◌, ◌^◌, ◌<◌, ◌≤◌, Some, List, [], ◌∷◌, ◌++◌, length, max, refl, sym, ◌∙◌, ap, subst, ⊎_elim, arith}
+use Rattle.std.proofs.Common.{◌≡◌, ℕ, ◌-◌, ◌+◌, ◌^◌, ◌<◌, ◌≤◌, Some, List, [], ◌∷◌, ◌++◌, length, max, refl, sym, ◌∙◌, ap, subst, ⊎_elim, arith}
 use Rattle.std.proofs.Math.Nat.{mul-le-mul_left}
 use Rattle.std.proofs.Math.Path.{fun_ext}
 use Rattle.std.proofs.Math.Pow.{pow_mono}
@@ -20,9 +20,10 @@ use Rattle.ghs_core.specs.NetState.{IsAnswer, IsLawful, NetState, net_of, networ
 use Rattle.ghs_bits.specs.declared.bits.Bits.{Bits}
 use Rattle.ghs_bits.specs.declared.widths.Widths.{Widths}
 use Rattle.ghs_bits.specs.Bits.{AreBits, AreBitsOf, AreBitsThen, all_sent, bits_in, bits_sent, longest_in, messages_of}
-use Rattle.ghs_bits.specs.Laws.{BitsAreByKind, BitsAreWithinBound, keyed_in}
-use Rattle.ghs_bits.specs.Length.{key_width, longest_length, widths_of}
-use Rattle.ghs_bits.proofs.Counting.{bits_append, bits_by_kind, bits_within, by_counts, longest_append}
+use Rattle.ghs_bits.specs.Laws.{BitsAreByKind, BitsAreWithinBound, LengthsAreShort, keyed_in}
+use Rattle.ghs_bits.specs.Length.{greatest_weight, key_width, longest_length, width_of, widths_of}
+use Rattle.ghs_bits.proofs.Counting.{bits_append, bits_by_kind, bits_within, by_counts, length_within, longest_append}
+use Rattle.ghs_bits.proofs.Width.{widths_are_least}
 use Rattle.ghs_bits.proofs.Sending.{leads, sent_by_kind, sent_in_all, sent_more}
 
 pub bits_are_by_kind : BitsAreByKind
@@ -113,3 +114,17 @@ moved g h es fs b graph events are =
 pub none_are : (g : Shape) (b : Bits) → b.widths ≡ widths_of g → b.sent ≡ 0 → b.longest ≡ 0 → AreBitsOf g [] b
 unfolding all_sent
 none_are g b widths sent longest = record { widths = widths; sent = sent; longest = longest }
+
+-- a number below 2 ^ k has k bits at most
+narrow : (n k : ℕ) → 1 ≤ k → n < 2 ^ k → width_of n ≤ k
+narrow n k some lt = (widths_are_least n).least k some lt
+
+pub lengths_are_short : LengthsAreShort
+unfolding widths_of
+lengths_are_short g graph light m =
+    let nodes = graph.nodes in
+    let number = narrow g.nodes 21 (omega arith) (omega (arith, nodes)) in
+    let level = narrow (width_of g.nodes - 1) 5 (omega arith) (omega (arith, number)) in
+    let weight = narrow (greatest_weight g.keys) 32 (omega arith) light in
+    let within = length_within (widths_of g) m in
+    omega (arith, number, level, weight, within)

@@ -3,3 +3,4 @@ pub mod Width
 pub mod Counting
 pub mod Sending
 pub mod Bounding
+mod Examples

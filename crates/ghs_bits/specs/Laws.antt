@@ -13,7 +13,7 @@ use Rattle.ghs_protocol.specs.Net.{Net}
 use Rattle.ghs_protocol.specs.Run.{IsAfter}
 use Rattle.ghs_bits.specs.declared.widths.Widths.{Widths}
 use Rattle.ghs_bits.specs.Bits.{all_sent, bits_sent}
-use Rattle.ghs_bits.specs.Length.{key_width, longest_length, width_of, widths_of}
+use Rattle.ghs_bits.specs.Length.{greatest_weight, key_width, length_of, longest_length, width_of, widths_of}
 
 -- k is the least number of bits, one at least, in which n can be written
 pub record IsWidth (n k : ℕ) : Type 0 where
@@ -28,6 +28,11 @@ WidthsAreLeast = (n : ℕ) → IsWidth n (width_of n)
 -- a level has the bits that the floor of log2 of the nodes needs
 abbrev pub LevelsAreFloors : Type 0
 LevelsAreFloors = (g : Shape) (k : ℕ) → IsFloorLog2 g.nodes k → (widths_of g).level ≡ width_of k
+
+-- no message of a graph has more bits than 83, where each weight has 32 at most
+abbrev pub LengthsAreShort : Type 0
+LengthsAreShort =
+    (g : Shape) → IsGraph g → greatest_weight g.keys < 2 ^ 32 → (m : Message) → length_of (widths_of g) m ≤ 83
 
 -- what every message of a kind has; a Report may have a key besides
 abbrev pub kind_length : Widths → Kind → ℕ

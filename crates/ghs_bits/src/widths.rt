@@ -23,9 +23,10 @@ impl Widths {
     {
         let nodes = graph.nodes();
         let level = floor_log2(nodes);
+        let heaviest = greatest_weight(graph.keys());
         Widths {
             number: width(nodes),
-            weight: width(greatest_weight(graph.keys())),
+            weight: width(heaviest),
             level: width(level as u32),
         }
     }

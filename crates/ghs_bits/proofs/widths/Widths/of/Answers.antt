@@ -12,5 +12,5 @@ returns c =
     let level = subst (λ n. IsFloorLog2 n k) c.nodes-nodes.ensures.nodes c.floor_log2-level.ensures in
     widths_are g k (record { number = c.width.result; weight = c.width-2.result; level = c.width-3.result }) level
     (c.width.ensures ∙ ap width_of c.nodes-nodes.ensures.nodes)
-    (c.width-2.ensures ∙ ap width_of (c.greatest_weight.ensures ∙ ap (λ (ks : List Key). greatest_weight ks) c.keys.ensures.keys))
+    (c.width-2.ensures ∙ ap width_of (c.greatest_weight-heaviest.ensures ∙ ap (λ (ks : List Key). greatest_weight ks) c.keys.ensures.keys))
     c.width-3.ensures
