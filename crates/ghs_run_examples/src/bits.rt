@@ -12,7 +12,9 @@ const LONE_TRACE: &str = "trace 1\nwake 1\n";
 
 /// A run has so many bits, and so many its longest message.
 fn assert_bits(rt: &impl Abort, alloc: Global, text: &str, trace: &str, sent: u64, longest: u32) {
-    let events = read_trace(alloc, trace.as_bytes()).ok().expect(rt, "a trace");
+    let events = read_trace(alloc, trace.as_bytes())
+        .ok()
+        .expect(rt, "a trace");
     let mut net = net_of(rt, alloc, text);
     play_all(rt, alloc, &mut net, &events);
     assert!(rt; net.events() <= 1 << 40);
