@@ -1,9 +1,8 @@
 //! The bits of a run, counted from event to event.
-ghost use Rattle.ghs_bits.specs.Bits.{AreBits, AreBitsThen, bits_in, longest_in, messages_of};
-ghost use Rattle.ghs_bits.specs.Length.{widths_of};
+ghost use Rattle.ghs_bits.specs.Bits.{AreBits, AreBitsOf, AreBitsThen, bits_in, longest_in, messages_of};
 ghost use Rattle.ghs_core.specs.NetState.{IsAnswer, IsLawful};
 ghost use Rattle.ghs_core.specs.PutBack.{IsPutBack};
-ghost use Rattle.std.specs.Prelude.{◌≡◌, ◌+◌, ◌<◌, ◌^◌, max};
+ghost use Rattle.std.specs.Prelude.{[], ◌≡◌, ◌+◌, ◌<◌, ◌^◌, max};
 
 use crate::widths::Widths;
 use ghs_core::net::Net;
@@ -23,9 +22,7 @@ pub struct Bits {
 impl Bits {
     /// No message has been sent.
     pub fn none(graph: &Graph) -> Bits
-        ensures widths { result.widths ≡ widths_of graph.now }
-        ensures sent { result.sent ≡ 0 }
-        ensures longest { result.longest ≡ 0 }
+        ensures { AreBitsOf graph.now [] result }
     {
         Bits {
             widths: Widths::of(graph),

@@ -6,7 +6,7 @@ use Rattle.ghs_protocol.specs.declared.event.Event.{Event}
 use Rattle.ghs_protocol.specs.declared.event.Event.TheVariants.{Wake}
 use Rattle.ghs_protocol.specs.Network.{network_of}
 use Rattle.ghs_protocol.specs.Run.{IsRun}
-use Rattle.ghs_bits.proofs.Bounding.{moved, none_are}
+use Rattle.ghs_bits.proofs.lemmas.Moved.{moved}
 use Rattle.ghs_bits.proofs.Sending.{lawful_between}
 use Rattle.ghs_bits.proofs.run.bits_of.Goals as goal
 
@@ -16,8 +16,7 @@ loop-event-init c =
     record {
       graph = graph;
       trace = c.in-Ok.ensures.trace;
-      bits = moved c.args.graph.now c.in-Ok.net.graph [] c.in-Ok.net.trace c.none-bits.result graph c.in-Ok.ensures.trace
-          (none_are c.args.graph.now c.none-bits.result c.none-bits.ensures.widths c.none-bits.ensures.sent c.none-bits.ensures.longest);
+      bits = moved c.args.graph.now c.in-Ok.net.graph [] c.in-Ok.net.trace c.none-bits.result graph c.in-Ok.ensures.trace c.none-bits.ensures;
     }
 
 pub follow-requires-clause-lawful : goal.follow-requires-clause-lawful

@@ -1,6 +1,6 @@
 use Rattle.std.proofs.Common.{◌++◌, ◌∷◌, []}
 use Rattle.ghs_protocol.specs.declared.event.Event.TheVariants.{Take}
-use Rattle.ghs_bits.proofs.Bounding.{moved}
+use Rattle.ghs_bits.proofs.lemmas.Moved.{moved}
 use Rattle.ghs_bits.proofs.run.put_back.Goals as goal
 
 pub returns-clause-bits : goal.returns-clause-bits

@@ -1,6 +1,6 @@
 use Rattle.std.proofs.Common.{◌∙◌, ap, List, ◌++◌, ◌∷◌, []}
 use Rattle.ghs_protocol.specs.declared.event.Event.{Event}
-use Rattle.ghs_bits.proofs.Bounding.{moved}
+use Rattle.ghs_bits.proofs.lemmas.Moved.{moved}
 use Rattle.ghs_bits.proofs.run.react_to.Goals as goal
 
 pub returns-clause-bits : goal.returns-clause-bits
