@@ -6,6 +6,8 @@
 #![tactic(auto)]
 
 #[cfg(test)]
+mod bits;
+#[cfg(test)]
 mod commits;
 #[cfg(test)]
 mod graphs;

@@ -1,0 +1,2 @@
+-- What proofs about bits above this crate may use.
+pub mod Moved
