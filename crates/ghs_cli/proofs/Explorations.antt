@@ -1,5 +1,5 @@
 -- What an exploration comes to.
-use Rattle.std.proofs.Common.{◌≡◌, ◌⊎◌, ℕ, ◌-◌, ◌<◌, ◌≤◌, List, None, Some, arith, length, ⊎_elim, subst, sym}
+use Rattle.std.proofs.Common.{◌≡◌, ℕ, ◌-◌, ◌<◌, ◌≤◌, List, None, Some, arith, length, ⊎_elim, subst, sym}
 use Rattle.std.specs.Prelude.{IfOk, Result, Ok, Err, get_or, slice_get}
 use Rattle.std.proofs.lemmas.Option.{slice_get_cases}
 use Rattle.ghs_explore.specs.Ends.{AreEnds, EndsIn, RowsHaveRange}

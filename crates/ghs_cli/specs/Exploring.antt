@@ -1,7 +1,6 @@
 -- Explorations of all runs of a graph.
 use Rattle.std.specs.Prelude.{◌≡◌, ℕ, suc, ◌<◌, ◌≤◌, List, length, Some, slice_get}
 use Rattle.ghs_explore.specs.Ends.{AreEnds, EndsIn, IsRange, greatest_sum, least_sum}
-use Rattle.ghs_explore.specs.Explored.{Exploration}
 use Rattle.ghs_explore.specs.Position.{IsSmall}
 use Rattle.ghs_explore.specs.States.{HasMoreStates, HasStates}
 use Rattle.ghs_explore.specs.Text.{IsExploredText}

@@ -1,4 +1,3 @@
-use Rattle.std.proofs.Common.{◌≡◌}
 use Rattle.ghs_sweep.specs.declared.measure.Measure.TheVariants.{Chain, Requeued, Sent}
 use Rattle.ghs_cli.proofs.Charted.{many_rising}
 use Rattle.ghs_cli.proofs.charting.put_runs_panel.Goals as goal

@@ -1,6 +1,6 @@
 use Rattle.ghs_cli.proofs.Named.{networks_behind}
 use Rattle.ghs_cli.proofs.networks.networks_text.Goals as goal
-use Rattle.std.proofs.Common.{◌∙◌, ap, ◌++◌, List, ℕ}
+use Rattle.std.proofs.Common.{◌∙◌}
 
 pub returns : goal.returns
 returns g c =

@@ -1,4 +1,3 @@
-use Rattle.std.proofs.Common.{◌-◌}
 use Rattle.ghs_cli.proofs.Parted.{parted_by_both}
 use Rattle.ghs_cli.proofs.parting.+fn-parted_by-join+arg3+parted_by.Goals as goal
 

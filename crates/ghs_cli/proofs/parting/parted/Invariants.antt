@@ -1,4 +1,4 @@
-use Rattle.std.proofs.Common.{◌≡◌, ◌+◌, ◌-◌, ◌≤◌}
+use Rattle.std.proofs.Common.{◌-◌, ◌≤◌}
 use Rattle.ghs_cli.specs.Sweeping.{ArePartedRuns}
 use Rattle.ghs_cli.proofs.parting.parted.Given as goal
 
