@@ -86,7 +86,7 @@ pub fn run_by<K: Keeper + Drop>(
     }
 }
 
-/// The same of a world from which nothing is out, by what is kept of it. Where memory runs out what is kept is of no use.
+/// The same of a world from which nothing is out, by what is kept of it. If allocation fails what is kept is of no use.
 pub fn run_on<K: Keeper>(
     alloc: Global,
     world: &mut World,

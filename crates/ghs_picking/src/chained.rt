@@ -70,7 +70,7 @@ fn followed(
     }
 }
 
-/// The same run, and the chains follow. Where memory runs out they are of no use.
+/// The same run, and the chains follow. If allocation fails they are of no use.
 fn run_followed(
     alloc: Global,
     world: &mut World,
