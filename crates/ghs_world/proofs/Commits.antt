@@ -172,9 +172,6 @@ module _ (s : WorldState) (e : Event) (d : Delta) (net : NetState) (passes : Pas
   }
 
 -- the same world has the same events ready, and the same turns
-pub ready_still : (s t : WorldState) (e : Event) → IsSameWorld s t → is_ready s e ≡ true → is_ready t e ≡ true
-ready_still s t e same h = rw (same.net.graph, same.net.trace, same.wake, same.outs) h
-
 pub turn_still : (s t : WorldState) → IsSameWorld s t → has_turn s ≡ true → has_turn t ≡ true
 turn_still s t same h = rw (same.net.trace, same.turns, same.outs, same.last) h
 
