@@ -17,6 +17,8 @@ use Rattle.ghs_index.proofs.lemmas.Marks.{but_of}
 use Rattle.ghs_world.specs.declared.wake_set.WakeSet.{WakeSet}
 use Rattle.ghs_world.specs.Wakes.{may_wake}
 use Rattle.ghs_world.specs.Upkeep.{lawful_in, lawful_first, changed}
+use Rattle.ghs_world.specs.WorldState.{WorldState, IsWorld}
+use Rattle.ghs_world.proofs.Keeping.{world_same}
 use Rattle.ghs_world.proofs.lemmas.Leaving.{leaves, same_else}
 
 -- the index of the net before an event is that of the net after it, but for what has changed
@@ -78,6 +80,16 @@ index_first n g wake x same net of =
     (subst (λ (h : Shape). IsIndexOf (network_of h) (lawful_first h wake) x) (sym same) of)
 
 -- the same net has the same index
-pub index_same : (old new : NetState) (wake : WakeSet) (x : IndexState) → IsIndexOf (network old) (lawful_in old wake) x → IsSameNet old new →
+index_same : (old new : NetState) (wake : WakeSet) (x : IndexState) → IsIndexOf (network old) (lawful_in old wake) x → IsSameNet old new →
     IsIndexOf (network new) (lawful_in new wake) x
 index_same old new wake x of same = rw (same.graph, same.trace) of
+
+-- a world with the same net is as whole as before
+pub whole_still : (s : WorldState) (nodes : ℕ) (x : IndexState) (new : NetState)
+    → IsWorld s × (nodes ≡ s.net.graph.nodes) × IsIndexOf (network s.net) (lawful_in s.net s.wake) x → IsSameNet s.net new
+    → IsWorld (record s { net = new }) × (nodes ≡ new.graph.nodes) × IsIndexOf (network new) (lawful_in new s.wake) x
+whole_still s nodes x new whole same = (
+  world_same s new whole.0 same,
+  whole.1 ∙ ap (λ (g : Shape). g.nodes) (sym same.graph),
+  index_same s.net new s.wake x whole.2 same,
+)

@@ -17,7 +17,7 @@ use Rattle.ghs_core.specs.NetState.{NetState, network, net_of, event_node, IsAns
 use Rattle.ghs_world.specs.Tickets.{TicketState, HasRule}
 use Rattle.ghs_world.specs.Outs.{event_out, without, is_out}
 use Rattle.ghs_world.specs.WorldState.{WorldState, IsWorld, IsOut, home, wakers, may_happen, has_turn}
-use Rattle.ghs_world.specs.Steps.{LeavesOthers, HasAllRoused, AreReadyOf, HasEach, IsSameWorld, touched}
+use Rattle.ghs_world.specs.Steps.{LeavesOthers, HasAllRoused, AreReadyOf, HasEach, touched}
 use Rattle.ghs_world.specs.Ready.{has_ready, is_ready, node_events}
 use Rattle.ghs_world.proofs.Going.{all_without, all_same, length_without, out_same, event_same, is_there}
 use Rattle.ghs_world.proofs.Listing.{any_same}
@@ -170,13 +170,3 @@ module _ (s : WorldState) (e : Event) (d : Delta) (net : NetState) (passes : Pas
         let more = ap length passes.trace ∙ length-append s.net.trace (e ∷ []) in omega arith;
     few = passes.world.few;
   }
-
--- the same world has the same events ready, and the same turns
-pub ready_still : (s t : WorldState) (e : Event) → IsSameWorld s t → is_ready s e ≡ true → is_ready t e ≡ true
-ready_still s t e same h = rw (same.net.graph, same.net.trace, same.wake, same.outs) h
-
-pub turn_still : (s t : WorldState) → IsSameWorld s t → has_turn s ≡ true → has_turn t ≡ true
-turn_still s t same h = rw (same.net.trace, same.turns, same.outs, same.last) h
-
-pub answer_still : (s t : WorldState) (e : Event) (d : Delta) → IsSameWorld s t → IsAnswer s.net e d → IsAnswer t.net e d
-answer_still s t e d same h = rw (same.net.graph, same.net.trace) h

@@ -8,7 +8,7 @@ use Rattle.ghs_core.specs.NetState.{NetState, network, net_of, event_node, IsLaw
 use Rattle.ghs_core.proofs.lemmas.Lawful as lawful
 use Rattle.ghs_world.specs.declared.fault.OutFault.TheVariants.{NoSuch, Busy, Nothing, TurnLimit}
 use Rattle.ghs_world.specs.Outs.{event_out, without, is_out}
-use Rattle.ghs_world.specs.WorldState.{WorldState, IsWorld, home, wakers, may_happen, has_place, has_turn, refusal, gone_out}
+use Rattle.ghs_world.specs.WorldState.{WorldState, IsWorld, wakers, may_happen, has_place, has_turn, refusal, gone_out}
 use Rattle.ghs_world.proofs.Going.{all_more, all_without, all_at, length_without}
 use Rattle.ghs_world.proofs.lemmas.Ready.{may_lawful}
 

@@ -202,7 +202,7 @@ impl World {
         ensures made { OnOk result (Makes self.old event self.new) }
         ensures err { OnErr result (IsSameWorld self.old self.new) }
     {
-        self.reserve(event, answer)?;
+        self.net.reserve(event, answer)?;
         self.happen(event, answer);
         Ok(())
     }
@@ -220,16 +220,6 @@ impl World {
         let sends = answer.sends.as_slice();
         mark_changed(&mut self.index, &self.net, self.wake, event, sends);
         self.outs.skip_number();
-    }
-
-    /// Makes room for an event in the net. The world is seen as before.
-    fn reserve(&mut self, event: Event, delta: &Delta) -> Result<(), AllocError>
-        requires lawful { IsLawful self.old.net event }
-        requires answer { IsAnswer self.old.net event delta.now }
-        ensures same { IsSameWorld self.old self.new }
-        ensures room { OnOk result (HasRoomToPlay self.new.net event delta.now) }
-    {
-        self.net.reserve(event, delta)
     }
 
     /// The reaction of the node of an event that may happen; lack of memory is the one fault.
@@ -440,7 +430,7 @@ impl World {
             node_of(event),
             delta.sends.as_slice(),
         );
-        self.reserve(event, delta)?;
+        self.net.reserve(event, delta)?;
         nodes
     }
 

@@ -1,5 +1,9 @@
-use Rattle.ghs_world.proofs.Commits.{ready_still}
+use Rattle.ghs_world.specs.contracts.world.World.{the_view}
+use Rattle.ghs_world.proofs.Changing.{whole_still}
 use Rattle.ghs_world.proofs.world.World.make_answered.Goals as goal
 
-pub happen-requires-clause-ready : goal.happen-requires-clause-ready
-happen-requires-clause-ready c = ready_still c.args.self.now c.reserve.new.self c.args.event c.reserve.ensures.same c.requires.ready
+pub invariant_of-self : goal.invariant_of-self
+invariant_of-self c = whole_still (the_view c.self.inside) _ _ c.reserve.new.self c.self.invariant c.reserve.ensures.net
+
+pub invariant_of-self-2 : goal.invariant_of-self-2
+invariant_of-self-2 c = whole_still (the_view c.self.inside) _ _ c.reserve.new.self c.self.invariant c.reserve.ensures.net

@@ -4,10 +4,9 @@ use Rattle.ghs_node.specs.Reaction.{requeues}
 use Rattle.ghs_protocol.specs.declared.event.Event.TheVariants.{Take}
 use Rattle.ghs_world.specs.WorldState.{home}
 use Rattle.ghs_world.specs.contracts.world.World.{the_view}
-use Rattle.ghs_world.proofs.Changing.{index_same}
+use Rattle.ghs_world.proofs.Changing.{whole_still}
 use Rattle.ghs_world.proofs.Commits.{world_made}
 use Rattle.ghs_world.proofs.lemmas.Ready.{ready_lawful}
-use Rattle.ghs_world.proofs.Keeping.{world_same}
 use Rattle.ghs_world.proofs.PuttingBack.{index_back}
 use Rattle.ghs_world.proofs.world.World.put_back.Goals as goal
 
@@ -15,11 +14,7 @@ pub put_back-requires-clause-lawful : goal.put_back-requires-clause-lawful
 put_back-requires-clause-lawful c = ready_lawful (the_view c.self.inside) (Take c.args.v c.args.port) (rw (← c.self.view_is) at c.requires.ready)
 
 pub invariant_of-self : goal.invariant_of-self
-invariant_of-self c = (
-  world_same (the_view c.self.inside) c.put_back.new.self c.self.invariant.0 c.in_err-put_back.ensures.err,
-  c.self.invariant.1 ∙ ap (λ (g : Shape). g.nodes) (sym c.in_err-put_back.ensures.err.graph),
-  index_same c.self.inside.net c.put_back.new.self c.self.inside.wake c.self.inside.index c.self.invariant.2 c.in_err-put_back.ensures.err,
-)
+invariant_of-self c = whole_still (the_view c.self.inside) _ _ c.put_back.new.self c.self.invariant c.in_err-put_back.ensures.err
 
 pub invariant_of-self-2 : goal.invariant_of-self-2
 invariant_of-self-2 c =
