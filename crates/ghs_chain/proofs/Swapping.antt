@@ -41,7 +41,7 @@ use Rattle.ghs_core.specs.NetState.{delivery}
 use Rattle.ghs_chain.specs.Chains.{Chains, answered, behind, chains_after, chains_of, chains_then, heard, hears, if_then, most_below, no_chains, sent, sent_on as number_on, taken}
 use Rattle.ghs_chain.specs.Swaps.{AreAlike, AreApart, No_swap, OrdersAreAlike, PutsBackAt, SendsTo, Swap_more, SwapsAreAlike, answer}
 use Rattle.ghs_chain.proofs.Filling.{IsFit, OnPorts, StaysClear, acts, acts_swap, comes, fills, first_stays, on_port, taking, turned}
-use Rattle.ghs_chain.proofs.Lengths.{SameLengths, same_lengths}
+use Rattle.ghs_chain.proofs.lemmas.Lengths.{SameLengths, same_lengths}
 use Rattle.ghs_chain.proofs.lemmas.Hears.{hears_node}
 
 -- The net after an event, by what its node does.

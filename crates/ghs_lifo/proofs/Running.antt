@@ -21,8 +21,8 @@ use Rattle.ghs_patient.specs.Patience.{patient_events}
 use Rattle.ghs_patient.proofs.lemmas.Gone.{gone_grown, gone_run}
 use Rattle.ghs_patient.proofs.lemmas.Growing.{HasGrown}
 use Rattle.ghs_patient.proofs.lemmas.Picked.{take_patient}
-use Rattle.ghs_patient.proofs.Picks.{Pickable}
-use Rattle.ghs_patient.proofs.Picks as patient
+use Rattle.ghs_patient.proofs.lemmas.Picks.{Pickable}
+use Rattle.ghs_patient.proofs.lemmas.Picks as patient
 use Rattle.ghs_lifo.specs.Latest.{IsLatest, NoTakeMoves}
 use Rattle.ghs_lifo.specs.Newest.{newest_of}
 use Rattle.ghs_lifo.specs.Runs.{Begun, HasRun, IsLatestIn, IsNext, IsPickedFrom, IsPickedLast, Latest, NoTakeMovesIn, Picked}

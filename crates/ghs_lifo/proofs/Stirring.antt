@@ -14,8 +14,8 @@ use Rattle.ghs_world.specs.declared.wake_set.WakeSet.{WakeSet}
 use Rattle.ghs_world.specs.Steps.{Makes}
 use Rattle.ghs_world.specs.Wakes.{may_wake}
 use Rattle.ghs_world.specs.WorldState.{WorldState, home}
-use Rattle.ghs_patient.proofs.Stirring.{same_moves}
-use Rattle.ghs_patient.proofs.Stirring as patient
+use Rattle.ghs_patient.proofs.lemmas.Stirring.{same_moves}
+use Rattle.ghs_patient.proofs.lemmas.Stirring as patient
 use Rattle.ghs_lifo.specs.Kept.{AreLatest, AreLatestBefore, AreNumbers, IsUnranked, LatestState, rank_by, rank_if}
 use Rattle.ghs_lifo.specs.Newest.{newest_of, sent}
 use Rattle.ghs_lifo.specs.Runs.{newest_in}

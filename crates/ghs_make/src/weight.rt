@@ -1,6 +1,6 @@
 //! How a link weighs.
 ghost use Rattle.ghs_make.specs.Ends.{front as front_of};
-ghost use Rattle.ghs_make.specs.Network.{own_weight as own_weight_of, twos as twos_of, weight_of as weight_of_lem};
+ghost use Rattle.ghs_make.specs.Network.{own_weight as own_weight_of, twos as twos_of, weight_of as weight_of_link};
 ghost use Rattle.ghs_make.specs.Plan.{IsPlan};
 ghost use Rattle.std.specs.Prelude.{◌<◌, ◌^◌, ◌≡◌, ◌≤◌};
 
@@ -15,7 +15,7 @@ pub fn weight_of(network: &Network, number: u32, low: u32, high: u32) -> u64
     requires plan { IsPlan network.now.plan }
     requires low { 2 ≤ high }
     requires high { high ≤ network.now.plan.nodes }
-    ensures { result ≡ weight_of_lem network.now number low high }
+    ensures { result ≡ weight_of_link network.now number low high }
 {
     match network.weights {
         Some(Weights::Random) => {

@@ -1,5 +1,5 @@
 //! The words of a seed, each found by its number alone.
-ghost use Rattle.ghs_make.specs.Word.{word as word_lem, word_at as word_at_lem};
+ghost use Rattle.ghs_make.specs.Word.{word as word_of_stream, word_at as word_of_state};
 ghost use Rattle.std.specs.Prelude.{◌<◌, ◌^◌, ◌≡◌};
 
 use rand_core::SeedableRng;
@@ -20,7 +20,7 @@ pub const WEIGHING: u64 = 2;
 
 /// The word of this number, of one of the seed's streams.
 pub fn word(seed: u64, stream: u64, number: u64) -> u64
-    ensures { result ≡ word_lem seed stream number }
+    ensures { result ≡ word_of_stream seed stream number }
 {
     word_at(word_at(seed, stream), number)
 }
@@ -28,7 +28,7 @@ pub fn word(seed: u64, stream: u64, number: u64) -> u64
 /// The word of this number from a state of SplitMix64 on, counted from 0.
 #[tactic(auto, unfolding(crate::specs::Word::word_at))]
 fn word_at(state: u64, number: u64) -> u64
-    ensures { result ≡ word_at_lem state number }
+    ensures { result ≡ word_of_state state number }
 {
     SplitMix64::seed_from_u64(state.wrapping_add(number.wrapping_mul(STEP))).next_word()
 }

@@ -1,6 +1,6 @@
 //! Nodes and nets of one thread.
 use ghs_core::event::Event;
-use ghs_core::net::Net;
+use ghs_core::net::{Net, node_of};
 use ghs_graph::graph::Graph;
 use ghs_graph::port::Port;
 use ghs_node::fault::NodeFault;
@@ -37,13 +37,6 @@ fn open(rt: &impl Abort, alloc: Global, k: usize) -> Turn {
         Err((graph, _)) => open_again(rt, alloc, graph),
     }
     turn
-}
-
-fn node_of(event: Event) -> u32 {
-    match event {
-        Event::Wake(v) => v,
-        Event::Take(v, _) => v,
-    }
 }
 
 /// How the reaction of an event's node goes, with the k-th allocation refused.

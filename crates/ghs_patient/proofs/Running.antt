@@ -4,7 +4,7 @@ use Rattle.ghs_core.specs.NetState.{network}
 use Rattle.ghs_world.specs.WorldState.{WorldState, home, wakers}
 use Rattle.ghs_patient.specs.Keeping.{HasGone, IsNextAmong}
 use Rattle.ghs_patient.specs.Runs.{patient_after}
-use Rattle.ghs_patient.proofs.Picks.{pick_is_patient}
+use Rattle.ghs_patient.proofs.lemmas.Picks.{pick_is_patient}
 use Rattle.ghs_patient.proofs.lemmas.Gone.{among_grown}
 use Rattle.ghs_patient.proofs.lemmas.Growing.{HasGrown}
 

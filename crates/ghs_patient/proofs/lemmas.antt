@@ -2,5 +2,8 @@
 pub mod Gone
 pub mod Growing
 pub mod Picked
+pub mod Picks
 pub mod Places
+pub mod Ports
+pub mod Stirring
 pub mod Walks

@@ -19,8 +19,8 @@ use Rattle.ghs_core.specs.NetState.{network}
 use Rattle.ghs_world.specs.Steps.{Makes}
 use Rattle.ghs_world.specs.WorldState.{WorldState, has_turn, home}
 use Rattle.ghs_chain.specs.Kept.{AreChains, AreChainsThen, Fits, Kept, seen}
-use Rattle.ghs_chain.proofs.Carrying.{then_are}
-use Rattle.ghs_chain.proofs.Following.{none_are}
+use Rattle.ghs_chain.proofs.lemmas.Carrying.{then_are}
+use Rattle.ghs_chain.proofs.lemmas.Following.{none_are}
 
 -- where a turn is left, there were few events
 pub few_left : (s : WorldState) (turns : ℕ) → turns ≡ s.turns → turns ≤ 2 ^ 40 → has_turn s ≡ true → length s.net.trace < 2 ^ 40

@@ -5,7 +5,7 @@ use Rattle.ghs_protocol.specs.declared.event.Event.{Event}
 use Rattle.ghs_core.specs.NetState.{NetState, network}
 use Rattle.ghs_chain.specs.Chains.{Chains, hears}
 use Rattle.ghs_chain.specs.Kept.{AreChains, Kept, seen}
-use Rattle.ghs_chain.proofs.Bounding.{IsWithin, hears_within, run_within}
+use Rattle.ghs_chain.proofs.lemmas.Bounding.{IsWithin, hears_within, run_within}
 
 -- no number comes near the end of its range
 pub hears_small : (s : NetState) (k : Kept) (e : Event) (asleep : Bool) (f : Fate) → AreChains s k → length s.trace < 2 ^ 41 →

@@ -23,10 +23,10 @@ use Rattle.ghs_world.specs.Wakes.{may_wake}
 use Rattle.ghs_world.specs.WorldState.{WorldState, home}
 use Rattle.ghs_chain.specs.Chains.{Chains, chains_of, reacted}
 use Rattle.ghs_chain.specs.Kept.{AreChains, Fits, seen}
-use Rattle.ghs_chain.proofs.Bounding.{IsWithin}
-use Rattle.ghs_chain.proofs.Following.{chains_of_more, fits_kept}
+use Rattle.ghs_chain.proofs.lemmas.Bounding.{IsWithin}
+use Rattle.ghs_chain.proofs.lemmas.Following.{chains_of_more, fits_kept}
 use Rattle.ghs_patient.specs.Choices.{IsStirred, far_takes}
-use Rattle.ghs_patient.proofs.Stirring.{same_back, same_moves}
+use Rattle.ghs_patient.proofs.lemmas.Stirring.{same_back, same_moves}
 use Rattle.ghs_rounds.specs.Choices.{AreByRound, AreChoices, AreChoicesBut, AreFor, AreRounds, ChoicesState, HasHeard, IsPast, RoundsState, hides_in, moves_in}
 use Rattle.ghs_rounds.specs.Rounds.{hides_due, is_by, is_due, has_due_second, moves_due}
 use Rattle.ghs_patient.proofs.lemmas.Walks.{far_places}

@@ -27,7 +27,7 @@ use Rattle.ghs_sched.specs.Picks.{IsPick}
 use Rattle.ghs_chain.specs.Chains.{Chains}
 use Rattle.ghs_chain.specs.Kept.{seen}
 use Rattle.ghs_patient.specs.Patience.{first_waits, moves_on, or_else, puts_back}
-use Rattle.ghs_patient.proofs.Stirring.{port_below}
+use Rattle.ghs_patient.proofs.lemmas.Stirring.{port_below}
 use Rattle.ghs_patient.proofs.lemmas.Picked.{first_there, in_either, picked_in}
 use Rattle.ghs_patient.proofs.lemmas.Places.{own_node, placed_of}
 use Rattle.ghs_rounds.specs.Choices.{events_of}

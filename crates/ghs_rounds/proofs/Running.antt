@@ -13,7 +13,7 @@ use Rattle.ghs_world.specs.WorldState.{WorldState, has_turn, home, wakers}
 use Rattle.ghs_sched.specs.Picks.{IsPick}
 use Rattle.ghs_sched.proofs.lemmas.Runs.{still_going, turn_left}
 use Rattle.ghs_chain.specs.Chains.{Chains, chains_of, longest_chain}
-use Rattle.ghs_chain.proofs.Bounding.{most_within}
+use Rattle.ghs_chain.proofs.lemmas.Bounding.{most_within}
 use Rattle.ghs_chain.specs.Kept.{AreChains}
 use Rattle.ghs_rounds.specs.Choices.{AreRounds, IsNextClock, RoundsState, events_of}
 use Rattle.ghs_rounds.specs.Clock.{ClockState}

@@ -14,7 +14,7 @@ use Rattle.ghs_protocol.specs.Net.{Net, event_node}
 use Rattle.ghs_protocol.proofs.lemmas.Updates.{one_place, put_at_hit, put_at_miss}
 use Rattle.ghs_world.specs.Upkeep.{changed}
 use Rattle.ghs_chain.specs.Chains.{Chains, behind, heard, hears, reacted, sent, sent_on, taken}
-use Rattle.ghs_chain.proofs.Bounding.{Below, IsWithin, behind_below, heard_within, put_below, put_node, sent_within}
+use Rattle.ghs_chain.proofs.lemmas.Bounding.{Below, IsWithin, behind_below, heard_within, put_below, put_node, sent_within}
 use Rattle.ghs_patient.specs.Choices.{far_takes}
 use Rattle.ghs_rounds.specs.Rounds.{is_by, is_due}
 

@@ -42,10 +42,10 @@ use Rattle.ghs_sched.specs.Picks.{IsPick}
 use Rattle.ghs_sched.specs.Schedule.{next_of, word_of}
 use Rattle.ghs_chain.specs.Chains.{Chains, chains_of, reacted}
 use Rattle.ghs_patient.specs.Patience.{first_waits, or_else, puts_back}
-use Rattle.ghs_patient.proofs.Picks.{some_patient}
+use Rattle.ghs_patient.proofs.lemmas.Picks.{some_patient}
 use Rattle.ghs_rounds.specs.Rounds.{events_in, hides_due, moves_due, round_events}
 use Rattle.ghs_rounds.specs.Runs.{Begun, IsPickedByRounds, Over, Picked}
-use Rattle.ghs_chain.proofs.Lengths.{same_lengths}
+use Rattle.ghs_chain.proofs.lemmas.Lengths.{same_lengths}
 use Rattle.ghs_patient.proofs.lemmas.Picked.{in_either, picked_in}
 use Rattle.ghs_rounds.proofs.Picked.{lawful_pick, picked}
 use Rattle.ghs_rounds.proofs.Settling.{some_now}

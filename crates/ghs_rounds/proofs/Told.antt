@@ -29,13 +29,13 @@ use Rattle.ghs_index.specs.Places.{HasPlace, all_events}
 use Rattle.ghs_world.proofs.lemmas.Listed.{listed}
 use Rattle.ghs_sched.specs.Picks.{IsPick}
 use Rattle.ghs_chain.specs.Chains.{Chains, answered, chains_after, chains_of, chains_then, hears, longest_chain, most_below, no_chains, reacted}
-use Rattle.ghs_chain.proofs.Bounding.{IsWithin, most_within}
-use Rattle.ghs_chain.proofs.Following.{chains_more}
+use Rattle.ghs_chain.proofs.lemmas.Bounding.{IsWithin, most_within}
+use Rattle.ghs_chain.proofs.lemmas.Following.{chains_more}
 use Rattle.ghs_patient.specs.Patience.{or_else}
-use Rattle.ghs_patient.proofs.Picks.{some_patient}
+use Rattle.ghs_patient.proofs.lemmas.Picks.{some_patient}
 use Rattle.ghs_rounds.specs.Rounds.{events_in, hides_due, moves_due, round_events}
 use Rattle.ghs_rounds.specs.Runs.{Begun, IsPickedByRounds, Over, Picked}
-use Rattle.ghs_chain.proofs.Lengths.{SameLengths, same_lengths}
+use Rattle.ghs_chain.proofs.lemmas.Lengths.{SameLengths, same_lengths}
 use Rattle.ghs_rounds.proofs.Picked.{lawful_pick, picked}
 use Rattle.ghs_rounds.proofs.Settling.{some_now}
 use Rattle.ghs_rounds.proofs.Steps.{IsTimed, Promised, Turns, back_turns, moves_give, timed_moves, timed_next}

@@ -1,10 +1,9 @@
 //! Nets of one thread, played event by event.
-ghost use Rattle.std.specs.Prelude.{◌≡◌};
-ghost use Rattle.ghs_core.specs.NetState.{IsLawful, IsAnswer, event_node};
+ghost use Rattle.ghs_core.specs.NetState.{IsLawful, IsAnswer};
 
 use ghs_core::event::Event;
 use ghs_core::ledger::Ledger;
-use ghs_core::net::Net;
+use ghs_core::net::{Net, node_of};
 use ghs_graph::graph::Graph;
 use ghs_graph::key::Key;
 use ghs_node::delta::Delta;
@@ -22,15 +21,6 @@ use std::process::Abort;
 pub fn net_of(rt: &impl Abort, alloc: Global, text: &str) -> Net {
     let graph = graph_of(alloc, text.as_bytes()).expect(rt, "a graph");
     Net::open(alloc, graph).ok().expect(rt, "a net")
-}
-
-fn node_of(event: Event) -> u32
-    ensures { result ≡ event_node event }
-{
-    match event {
-        Event::Wake(v) => v,
-        Event::Take(v, _) => v,
-    }
 }
 
 /// What a node does with a lawful event.

@@ -3,7 +3,6 @@ pub mod Picking
 pub mod Readings
 pub mod Replaying
 pub mod Rows
-pub mod Running
 pub mod Slow
 pub mod Written
 pub mod lemmas

@@ -16,7 +16,7 @@ use Rattle.ghs_world.specs.Wakes.{may_wake}
 use Rattle.ghs_world.specs.WorldState.{WorldState, home}
 use Rattle.ghs_patient.specs.Choices.{IsStirred}
 use Rattle.ghs_patient.specs.Patience.{puts_back}
-use Rattle.ghs_patient.proofs.Stirring.{same_back}
+use Rattle.ghs_patient.proofs.lemmas.Stirring.{same_back}
 use Rattle.ghs_waits.specs.Marks.{AreMarks, AreMarksBut}
 
 -- the marks of the world before an event are those of the world after it, but for what it has stirred

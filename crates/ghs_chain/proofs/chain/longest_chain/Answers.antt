@@ -3,7 +3,7 @@ use Rattle.std.specs.List.{slice_index_or}
 use Rattle.std.proofs.lemmas.List.{length-take-le, take_more}
 use Rattle.ghs_protocol.specs.declared.event.Event.{Event}
 use Rattle.ghs_protocol.specs.declared.event.Event.TheVariants.{Wake}
-use Rattle.ghs_chain.proofs.Following.{lawful_at, longest_is, none_are}
+use Rattle.ghs_chain.proofs.lemmas.Following.{lawful_at, longest_is, none_are}
 use Rattle.ghs_chain.proofs.chain.longest_chain.Goals as goal
 
 pub loop-event-init : goal.loop-event-init

@@ -1,5 +1,5 @@
 use Rattle.ghs_protocol.specs.declared.event.Event.TheVariants.{Take}
-use Rattle.ghs_chain.proofs.Carrying.{then_are}
+use Rattle.ghs_chain.proofs.lemmas.Carrying.{then_are}
 use Rattle.ghs_chain.proofs.chain.put_back.Goals as goal
 
 pub returns-clause-chains : goal.returns-clause-chains

@@ -1,6 +1,6 @@
 use Rattle.std.proofs.Common.{◌∙◌, ap, List, ◌++◌, ◌∷◌, []}
 use Rattle.ghs_protocol.specs.declared.event.Event.{Event}
-use Rattle.ghs_chain.proofs.Carrying.{then_are}
+use Rattle.ghs_chain.proofs.lemmas.Carrying.{then_are}
 use Rattle.ghs_chain.proofs.chain.react_to.Goals as goal
 
 pub returns-clause-chains : goal.returns-clause-chains

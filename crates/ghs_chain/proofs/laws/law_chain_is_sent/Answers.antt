@@ -1,4 +1,4 @@
-use Rattle.ghs_chain.proofs.Bounding.{chains_are_sent}
+use Rattle.ghs_chain.proofs.lemmas.Bounding.{chains_are_sent}
 use Rattle.ghs_chain.proofs.laws.law_chain_is_sent.Goals as goal
 
 pub returns : goal.returns

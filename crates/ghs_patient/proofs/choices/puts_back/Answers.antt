@@ -1,4 +1,4 @@
-use Rattle.ghs_patient.proofs.Stirring.{port_below}
+use Rattle.ghs_patient.proofs.lemmas.Stirring.{port_below}
 use Rattle.ghs_patient.proofs.choices.puts_back.Goals as goal
 
 pub waits-requires : goal.waits-requires

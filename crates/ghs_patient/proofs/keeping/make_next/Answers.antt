@@ -4,7 +4,7 @@ use Rattle.ghs_protocol.specs.Run.{IsRun}
 use Rattle.ghs_core.specs.NetState.{NetState, network}
 use Rattle.ghs_core.proofs.lemmas.Reacting.{answer_sends}
 use Rattle.ghs_world.proofs.lemmas.Ready.{ready_lawful}
-use Rattle.ghs_patient.proofs.Ports.{marks_own}
+use Rattle.ghs_patient.proofs.lemmas.Ports.{marks_own}
 use Rattle.ghs_patient.proofs.keeping.make_next.Goals as goal
 
 pub keep_up-requires-clause-ports : goal.keep_up-requires-clause-ports

@@ -1,5 +1,5 @@
 use Rattle.std.proofs.Common.{◌∙◌, sym}
-use Rattle.ghs_sched.proofs.Running.{not_so, same_end}
+use Rattle.ghs_sched.proofs.lemmas.Running.{not_so, same_end}
 use Rattle.ghs_patient.specs.Keeping.{Begun, Stayed, Then}
 use Rattle.ghs_patient.proofs.keeping.run_on.Goals as goal
 

@@ -6,7 +6,7 @@ use Rattle.ghs_core.specs.NetState.{NetState, net_of}
 use Rattle.ghs_world.specs.WorldState.{home}
 use Rattle.ghs_sched.specs.declared.fault.RunFault.{RunFault}
 use Rattle.ghs_sched.specs.declared.run.RunEnd.{RunEnd}
-use Rattle.ghs_patient.proofs.Picks.{is_net}
+use Rattle.ghs_patient.proofs.lemmas.Picks.{is_net}
 use Rattle.ghs_patient.proofs.lemmas.Growing.{is_short, turns_left}
 use Rattle.ghs_patient.specs.Runs.{patient_after}
 use Rattle.ghs_patient.proofs.Running.{patient_grown}

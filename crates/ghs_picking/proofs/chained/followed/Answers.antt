@@ -1,6 +1,6 @@
 use Rattle.std.proofs.Common.{ap, subst}
 use Rattle.std.specs.Prelude.{Err}
-use Rattle.ghs_chain.proofs.Carrying.{longest_are}
+use Rattle.ghs_chain.proofs.lemmas.Carrying.{longest_are}
 use Rattle.ghs_world.specs.WorldState.{WorldState}
 use Rattle.ghs_picking.specs.Picking.{IsPickedBy}
 use Rattle.ghs_picking.proofs.Happening.{ended_well, opened_chains, stopped_well}

@@ -5,10 +5,10 @@ use Rattle.ghs_protocol.specs.Laws.{IsNetOf}
 use Rattle.ghs_graph.specs.Graph.{IsGraph}
 use Rattle.ghs_world.specs.WorldState.{home, wakers}
 use Rattle.ghs_world.proofs.lemmas.Waking.{each_is_woken}
-use Rattle.ghs_patient.proofs.Picks.{is_net, pickable, seconds_go, some_patient}
+use Rattle.ghs_patient.proofs.lemmas.Picks.{is_net, pickable, seconds_go, some_patient}
 use Rattle.ghs_core.proofs.lemmas.Reacting.{answer_sends}
-use Rattle.ghs_patient.proofs.Ports.{marks_own}
-use Rattle.ghs_patient.proofs.Stirring.{keeps}
+use Rattle.ghs_patient.proofs.lemmas.Ports.{marks_own}
+use Rattle.ghs_patient.proofs.lemmas.Stirring.{keeps}
 use Rattle.ghs_picking.proofs.patient.make_next.Goals as goal
 
 pub pick-event-requires-clause-seconds : goal.pick-event-requires-clause-seconds

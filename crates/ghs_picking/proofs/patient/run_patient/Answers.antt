@@ -3,10 +3,10 @@ use Rattle.ghs_protocol.specs.Laws.{IsNetOf}
 use Rattle.ghs_core.specs.NetState.{NetState, net_of, network}
 use Rattle.ghs_chain.specs.Kept.{AreChains}
 use Rattle.ghs_world.specs.WorldState.{WorldState, home, wakers}
-use Rattle.ghs_sched.proofs.Running.{not_so}
+use Rattle.ghs_sched.proofs.lemmas.Running.{not_so}
 use Rattle.ghs_sched.proofs.lemmas.Runs.{among_begins, among_more, run_stays}
 use Rattle.ghs_patient.specs.Runs.{patient_after}
-use Rattle.ghs_patient.proofs.Picks.{is_net, pick_is_patient}
+use Rattle.ghs_patient.proofs.lemmas.Picks.{is_net, pick_is_patient}
 use Rattle.ghs_patient.proofs.lemmas.Growing.{grown_begins, grown_next, grown_stays, is_short, turns_left}
 use Rattle.ghs_picking.proofs.patient.run_patient.Goals as goal
 

@@ -1,4 +1,4 @@
-use Rattle.ghs_sched.proofs.Running.{made_next, pick_is_ready}
+use Rattle.ghs_sched.proofs.lemmas.Running.{made_next, pick_is_ready}
 use Rattle.ghs_picking.proofs.seeded.make_next.Goals as goal
 
 pub make-requires-clause-ready : goal.make-requires-clause-ready

@@ -1,6 +1,6 @@
 use Rattle.std.proofs.Common.{◌∙◌, subst, sym}
 use Rattle.ghs_chain.specs.Kept.{AreChains}
-use Rattle.ghs_sched.proofs.Running.{is_whole, not_so, run_begins, run_more, run_stays}
+use Rattle.ghs_sched.proofs.lemmas.Running.{is_whole, not_so, run_begins, run_more, run_stays}
 use Rattle.ghs_world.specs.WorldState.{WorldState}
 use Rattle.ghs_picking.proofs.seeded.run_seeded.Goals as goal
 

@@ -1,6 +1,6 @@
 use Rattle.std.proofs.Common.{◌∙◌, refl, sym, arith}
 use Rattle.ghs_rounds.specs.Runs.{HasRun}
-use Rattle.ghs_sched.proofs.Running.{not_so, same_end}
+use Rattle.ghs_sched.proofs.lemmas.Running.{not_so, same_end}
 use Rattle.ghs_rounds.proofs.Running.{chain_begins, chain_by, chain_stays, few_more, run_begins, run_more, run_settles, run_stays, smaller}
 use Rattle.ghs_rounds.proofs.run.run_rounds.Goals as goal
 

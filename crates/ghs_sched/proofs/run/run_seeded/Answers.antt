@@ -1,5 +1,5 @@
 use Rattle.std.proofs.Common.{◌∙◌, sym}
-use Rattle.ghs_sched.proofs.Running.{is_whole, not_so, run_begins, run_more, run_stays, same_end}
+use Rattle.ghs_sched.proofs.lemmas.Running.{is_whole, not_so, run_begins, run_more, run_stays, same_end}
 use Rattle.ghs_sched.proofs.run.run_seeded.Goals as goal
 
 pub events-init : goal.events-init

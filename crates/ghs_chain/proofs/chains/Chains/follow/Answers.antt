@@ -6,8 +6,8 @@ use Rattle.ghs_core.specs.NetState.{event_node, net_of}
 use Rattle.ghs_core.proofs.lemmas.Reacting.{answer_sends}
 use Rattle.ghs_chain.specs.Chains.{hears}
 use Rattle.ghs_chain.specs.Kept.{seen}
-use Rattle.ghs_chain.proofs.Carrying.{carried, out_to}
-use Rattle.ghs_chain.proofs.Following.{fits_kept, small_number}
+use Rattle.ghs_chain.proofs.lemmas.Carrying.{carried, out_to}
+use Rattle.ghs_chain.proofs.lemmas.Following.{fits_kept, small_number}
 use Rattle.ghs_chain.proofs.chains.Chains.follow.Goals as goal
 
 pub send-requires-clause-small : goal.send-requires-clause-small

@@ -9,7 +9,7 @@ use Rattle.ghs_protocol.specs.declared.event.Event.TheVariants.{Take}
 use Rattle.ghs_core.specs.NetState.{net_of}
 use Rattle.ghs_chain.specs.Chains.{hears}
 use Rattle.ghs_chain.specs.Kept.{seen}
-use Rattle.ghs_chain.proofs.Carrying.{carried, carried_alone}
+use Rattle.ghs_chain.proofs.lemmas.Carrying.{carried, carried_alone}
 use Rattle.ghs_chain.proofs.Placing.{same_alike}
 use Rattle.ghs_chain.proofs.chains.Chains.follow_back.Goals as goal
 

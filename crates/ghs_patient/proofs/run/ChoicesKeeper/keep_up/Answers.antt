@@ -1,4 +1,4 @@
-use Rattle.ghs_patient.proofs.Stirring.{keeps}
+use Rattle.ghs_patient.proofs.lemmas.Stirring.{keeps}
 use Rattle.ghs_patient.proofs.run.ChoicesKeeper.keep_up.Goals as goal
 
 pub follow-requires-clause-choices : goal.follow-requires-clause-choices

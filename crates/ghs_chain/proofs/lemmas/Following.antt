@@ -19,7 +19,7 @@ use Rattle.ghs_protocol.proofs.lemmas.Runs.{after_is_net, both_some, net_after_i
 use Rattle.ghs_core.specs.NetState.{IsAnswer, IsLawful, NetState, net_of, network}
 use Rattle.ghs_chain.specs.Chains.{Chains, answered, chains_after, chains_of, chains_then, hears, if_then, longest_chain, most_below, no_chains, reacted, sent}
 use Rattle.ghs_chain.specs.Kept.{AreChains, Fits, HasPlace, HasPlaceOf, Kept, SamePlaces, seen}
-use Rattle.ghs_chain.proofs.Bounding.{IsWithin, hears_within, run_within}
+use Rattle.ghs_chain.proofs.lemmas.Bounding.{IsWithin, hears_within, run_within}
 use Rattle.ghs_chain.proofs.Placing.{same_then}
 
 -- an event that happens has its part in the chains

@@ -24,8 +24,8 @@ use Rattle.ghs_core.specs.PutBack.{IsPutBack}
 use Rattle.ghs_chain.specs.Chains.{Chains, chains_of, hears, longest_chain, most_below, reacted, sent, taken}
 use Rattle.ghs_chain.specs.Kept.{AreChains, AreChainsThen, Fits, HasPlace, Kept, SamePlaces, seen}
 use Rattle.ghs_chain.proofs.Filling.{OnPorts}
-use Rattle.ghs_chain.proofs.Following.{chains_of_more, fits_kept, place_at}
-use Rattle.ghs_chain.proofs.Lengths.{same_lengths}
+use Rattle.ghs_chain.proofs.lemmas.Following.{chains_of_more, fits_kept, place_at}
+use Rattle.ghs_chain.proofs.lemmas.Lengths.{same_lengths}
 use Rattle.ghs_chain.proofs.Placing.{put_at_none, same_then}
 use Rattle.ghs_chain.proofs.Swapping.{happens_made, made, on_ports}
 
