@@ -19,7 +19,7 @@ use Rattle.ghs_protocol.proofs.lemmas.Runs.{after_is_net, run_more}
 use Rattle.ghs_core.specs.NetState.{IsAnswer, IsLawful, NetState, net_of, network}
 use Rattle.ghs_bits.specs.declared.bits.Bits.{Bits}
 use Rattle.ghs_bits.specs.declared.widths.Widths.{Widths}
-use Rattle.ghs_bits.specs.Bits.{AreBits, AreBitsThen, all_sent, bits_in, bits_sent, longest_in, messages_of}
+use Rattle.ghs_bits.specs.Bits.{AreBits, AreBitsOf, AreBitsThen, all_sent, bits_in, bits_sent, longest_in, messages_of}
 use Rattle.ghs_bits.specs.Laws.{BitsAreByKind, BitsAreWithinBound, LengthsAreShort, keyed_in}
 use Rattle.ghs_bits.specs.Length.{greatest_weight, key_width, longest_length, width_of, widths_of}
 use Rattle.ghs_bits.proofs.Counting.{bits_append, bits_by_kind, bits_within, by_counts, length_within, longest_append}
@@ -104,6 +104,11 @@ put_back_are s graph r e lawful d answer none b are =
     let bits : bits_in b.widths (messages_of d.sends) ≡ 0 = ap (λ (ss : Outgoing). bits_in b.widths (messages_of ss)) none in
     let long : longest_in b.widths (messages_of d.sends) ≡ 0 = ap (λ (ss : Outgoing). longest_in b.widths (messages_of ss)) none in
     grown_are s graph r e lawful d answer b are b refl (omega (arith, bits)) (omega (arith, long))
+
+-- no event, no bits
+pub none_are : (g : Shape) (b : Bits) → b.widths ≡ widths_of g → b.sent ≡ 0 → b.longest ≡ 0 → AreBitsOf g [] b
+unfolding all_sent
+none_are g b widths sent longest = record { widths = widths; sent = sent; longest = longest }
 
 -- a number below 2 ^ k has k bits at most
 narrow : (n k : ℕ) → 1 ≤ k → n < 2 ^ k → width_of n ≤ k

@@ -1,7 +1,6 @@
--- Serves the proofs: nothing here has to be believed. lemmas is what proofs above this crate may use.
+-- Serves the proofs: nothing here has to be believed.
 pub mod Width
 pub mod Counting
 pub mod Sending
 pub mod Bounding
 mod Examples
-pub mod lemmas

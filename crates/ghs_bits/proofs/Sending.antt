@@ -1,8 +1,7 @@
 -- What the events of a run send.
-use Rattle.std.proofs.Common.{◌≡◌, ℕ, true, ◌+◌, Option, Some, None, List, [], ◌∷◌, ◌++◌, length, refl, sym, ◌∙◌, ap, subst, append_assoc, append-nil, arith}
+use Rattle.std.proofs.Common.{◌≡◌, ℕ, true, ◌+◌, Option, Some, None, List, [], ◌∷◌, ◌++◌, length, refl, sym, ◌∙◌, ap, append_assoc, append-nil, arith}
 use Rattle.std.proofs.lemmas.Bool.{and_parts}
 use Rattle.std.proofs.lemmas.Option.{same_Some}
-use Rattle.ghs_graph.specs.Graph.{Shape}
 use Rattle.ghs_node.specs.declared.delta.Delta.{Delta}
 use Rattle.ghs_node.specs.declared.message.Message.{Message}
 use Rattle.ghs_node.specs.Reaction.{reaction}
@@ -10,12 +9,12 @@ use Rattle.ghs_protocol.specs.declared.event.Event.{Event}
 use Rattle.ghs_protocol.specs.declared.event.Event.TheVariants.{Wake, Take}
 use Rattle.ghs_protocol.specs.Ledger.{in_all, of_kind}
 use Rattle.ghs_protocol.specs.Net.{Net, after_take, after_wake, change, event_node, happens, is_lawful, is_waiting, opening, send_all, take_first, takes_from}
-use Rattle.ghs_protocol.specs.Network.{Network, network_of}
-use Rattle.ghs_protocol.specs.Run.{IsAfter, IsRun, and_then, net_after, run}
+use Rattle.ghs_protocol.specs.Network.{Network}
+use Rattle.ghs_protocol.specs.Run.{IsAfter, IsRun, and_then, run}
 use Rattle.ghs_protocol.specs.Steps.{Happens, Woke, Took}
 use Rattle.ghs_protocol.proofs.lemmas.Balance.{kinds_in_all, of_kind_append}
-use Rattle.ghs_protocol.proofs.lemmas.Events.{happening, if_some, lawful_happens}
-use Rattle.ghs_protocol.proofs.lemmas.Runs.{after_is_net, both_some, net_after_is, run_splits}
+use Rattle.ghs_protocol.proofs.lemmas.Events.{happening, lawful_happens}
+use Rattle.ghs_protocol.proofs.lemmas.Runs.{after_is_net}
 use Rattle.ghs_protocol.proofs.lemmas.Sends.{sent_now}
 use Rattle.ghs_protocol.proofs.lemmas.Sums.{sum_same}
 use Rattle.ghs_core.specs.NetState.{IsAnswer, IsLawful, NetState, delivery, net_of, network, work_at}
@@ -89,14 +88,3 @@ sent_by_kind g es w after k = let all = counted g es (opening g) w k after in om
 
 pub sent_in_all : (g : Network) (es : List Event) (w : Net) → IsAfter g es w → length (all_sent g es) ≡ in_all w.sent
 sent_in_all g es w after = sym (kinds_in_all (all_sent g es)) ∙ sum_same 7 _ _ (λ k lt. sent_by_kind g es w after k)
-
--- an event between others of a run may happen in a net in which those before it have
-pub lawful_between : (g : Shape) (es fs : List Event) (e : Event) (s : NetState) → s.graph ≡ g → s.trace ≡ es →
-    IsRun (network_of g) (es ++ e ∷ fs) → IsLawful s e
-lawful_between g es fs e s graph trace (w, r) =
-    run_splits (network_of g) es (e ∷ fs) (opening (network_of g)) w r
-    (λ x here on. both_some (happens (network_of g) x e) (λ y. run (network_of g) fs y) w on
-    (λ y happened rest. if_some (is_lawful (network_of g) x e) _ y happened
-    (λ lawful effect.
-    let at : net_of s ≡ x = ap (λ (h : Shape). net_after h s.trace) graph ∙ ap (net_after g) trace ∙ net_after_is g es x here in
-    subst (λ (n : Net). is_lawful (network s) n e ≡ true) (sym at) (subst (λ (h : Shape). is_lawful (network_of h) x e ≡ true) (sym graph) lawful))))

@@ -63,12 +63,15 @@ pub record Fits (g : Shape) (k : Kept) : Type 0 where
   pub rows : length k.rows ≡ g.nodes + 1
   pub ports : (v : ℕ) → 1 ≤ v → v ≤ g.nodes → length (row_of k v) ≡ length (ports_of g.keys v)
 
--- the chains of a net's run
-pub record AreChains (s : NetState) (k : Kept) : Type 0 where
-  pub fits : Fits s.graph k
-  pub same : seen k ≡ chains_of (network_of s.graph) s.trace
+-- the chains of a run of a graph
+pub record AreChainsOf (g : Shape) (es : List Event) (k : Kept) : Type 0 where
+  pub fits : Fits g k
+  pub same : seen k ≡ chains_of (network_of g) es
 
--- those of its run once the event has happened
-pub record AreChainsThen (s : NetState) (e : Event) (k : Kept) : Type 0 where
-  pub fits : Fits s.graph k
-  pub same : seen k ≡ chains_of (network_of s.graph) (s.trace ++ e ∷ [])
+-- of a net's run
+abbrev pub AreChains : NetState → Kept → Type 0
+AreChains s k = AreChainsOf s.graph s.trace k
+
+-- of its run once the event has happened
+abbrev pub AreChainsThen : NetState → Event → Kept → Type 0
+AreChainsThen s e k = AreChainsOf s.graph (s.trace ++ e ∷ []) k

@@ -1,25 +1,19 @@
 //! The chains of a run, kept by whoever makes its events.
-ghost use Rattle.ghs_chain.specs.Kept.{AreChains, AreChainsThen};
-ghost use Rattle.ghs_core.specs.NetState.{IsAnswer, IsLawful};
-ghost use Rattle.ghs_core.specs.PutBack.{IsPutBack};
-ghost use Rattle.std.specs.Prelude.{◌<◌, ◌^◌, length, OnOk};
+ghost use Rattle.ghs_chain.specs.Kept.{AreChainsOf};
 
 use crate::chains::Chains;
 use ghs_core::net::{Net, is_asleep, node_of};
+use ghs_following::follower::Follower;
 use ghs_node::delta::{Delta, Fate};
 use ghs_protocol::event::Event;
 use std::alloc::AllocError;
 
-impl Chains {
-    /// Follows an event that is to happen, by what its node will do: O(1), and so for each message that is sent. Refusal:
-    /// lack of memory; the chains are then of no use.
-    pub fn follow(&mut self, net: &Net, event: Event, delta: &Delta) -> Result<(), AllocError>
-        requires lawful { IsLawful net.now event }
-        requires answer { IsAnswer net.now event delta.now }
-        requires few { length net.now.trace < 2 ^ 40 }
-        requires chains { AreChains net.now self.old }
-        ensures { OnOk result (AreChainsThen net.now event self.new) }
-    {
+/// Chains follow the events of their run.
+impl Follower for Chains {
+    ghost is_of = { λ g es c. AreChainsOf g es c };
+
+    /// O(1), and so for each message that is sent.
+    fn follow(&mut self, net: &Net, event: Event, delta: &Delta) -> Result<(), AllocError> {
         let _ = net.trace();
         let v = node_of(event);
         let asleep = is_asleep(net.node(v).head());
@@ -28,13 +22,8 @@ impl Chains {
         Ok(())
     }
 
-    /// The same of a message that is to be put back. Where it alone waits and its node is awake, nothing changes.
-    pub fn follow_back(&mut self, net: &Net, v: u32, port: u32) -> Result<(), AllocError>
-        requires lawful { IsLawful net.now (Event.Take v port) }
-        requires back { IsPutBack net.now v port }
-        requires chains { AreChains net.now self.old }
-        ensures { OnOk result (AreChainsThen net.now (Event.Take v port) self.new) }
-    {
+    /// Where the message alone waits and its node is awake, nothing changes.
+    fn follow_back(&mut self, net: &Net, v: u32, port: u32) -> Result<(), AllocError> {
         let _ = net.trace();
         let asleep = is_asleep(net.node(v).head());
         if !asleep && net.waiting_at(v, port) == 1 {

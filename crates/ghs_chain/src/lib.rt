@@ -4,8 +4,8 @@
 //! was sent (`law_chain_is_sent`), and so within the bound (`law_chain_within_bound`); to swap neighbours that have
 //! nothing to do with each other doesn't change it (`law_swap`).
 //!
-//! `longest_chain` plays a run of at most 2^40 events once more; `Chains` follows events while they are made. Next:
-//! `ghs_rounds`, whose rounds are this number, and `ghs_picking`, which says it of a seed's run.
+//! `longest_chain` plays a run of at most 2^40 events once more; `Chains` follows events while they are made (`Follower`).
+//! Next: `ghs_rounds`, whose rounds are this number, and `ghs_picking`, which says it of a seed's run.
 #![tactic(auto)]
 
 pub mod chain;

@@ -1,5 +1,5 @@
--- Events that happen while chains follow them.
-use Rattle.std.proofs.Common.{◌≡◌, ◌≤◌, ◌<◌, ◌+◌, ◌^◌, ℕ, true, Option, Some, [], length, sym, ◌∙◌, ap, subst, arith}
+-- Events that happen and are followed.
+use Rattle.std.proofs.Common.{◌≡◌, ◌≤◌, ◌<◌, ◌+◌, ◌^◌, ℕ, true, Option, Some, List, [], ◌∷◌, ◌++◌, length, sym, ◌∙◌, ap, subst, arith}
 use Rattle.std.specs.Prelude.{IfOk, Result, Ok, Err}
 use Rattle.std.proofs.lemmas.Option.{same_Some}
 use Rattle.ghs_graph.specs.Graph.{Shape}
@@ -9,18 +9,16 @@ use Rattle.ghs_sched.specs.declared.fault.RunFault.{RunFault}
 use Rattle.ghs_sched.specs.declared.fault.RunFault.TheVariants.{TurnLimit, Memory}
 use Rattle.ghs_sched.specs.declared.run.RunEnd.{RunEnd}
 use Rattle.ghs_world.specs.declared.wake_set.WakeSet.{WakeSet}
-use Rattle.ghs_chain.specs.Chains.{longest_chain, no_chains}
+use Rattle.ghs_chain.specs.Chains.{longest_chain}
 use Rattle.ghs_picking.specs.Picking.{AreRounds}
 use Rattle.ghs_picking.specs.declared.picking.ScheduleKind.TheVariants.{Rounds}
 use Rattle.ghs_picking.proofs.BySeed.{has_ended}
 use Rattle.std.proofs.lemmas.Bool.{and_parts, ltb-true}
 use Rattle.ghs_protocol.specs.declared.event.Event.{Event}
-use Rattle.ghs_core.specs.NetState.{network}
+use Rattle.ghs_core.specs.NetState.{NetState, network}
 use Rattle.ghs_world.specs.Steps.{Makes}
-use Rattle.ghs_world.specs.WorldState.{WorldState, has_turn, home}
-use Rattle.ghs_chain.specs.Kept.{AreChains, AreChainsThen, Fits, Kept, seen}
-use Rattle.ghs_chain.proofs.lemmas.Carrying.{then_are}
-use Rattle.ghs_chain.proofs.lemmas.Following.{none_are}
+use Rattle.ghs_world.specs.WorldState.{WorldState, has_turn}
+use Rattle.ghs_following.proofs.lemmas.Moved.{moved}
 
 -- where a turn is left, there were few events
 pub few_left : (s : WorldState) (turns : ℕ) → turns ≡ s.turns → turns ≤ 2 ^ 40 → has_turn s ≡ true → length s.net.trace < 2 ^ 40
@@ -28,8 +26,12 @@ few_left s turns is few left =
     let lt : length s.net.trace + length s.outs < s.turns = ltb-true _ _ (and_parts _ _ left).0 in
     omega (arith, lt, is, few)
 
-pub made_chains : (s new : WorldState) (e : Event) (k : Kept) → AreChainsThen s.net e k → Makes s e new → AreChains new.net k
-made_chains s new e k then made = then_are s.net new.net e k made.graph made.trace then
+-- what is kept of a run once an event has happened is kept of its world
+pub made_kept : {K : Type 0} (is_of : Shape → List Event → K → Type 0) (s new : WorldState) (n : NetState) (e : Event) (k : K) → n ≡ s.net →
+    is_of n.graph (n.trace ++ e ∷ []) k → Makes s e new → is_of new.net.graph new.net.trace k
+made_kept is_of s new n e k same then made =
+    let before = subst (λ (m : NetState). is_of m.graph (m.trace ++ e ∷ []) k) same then in
+    moved is_of s.net.graph new.net.graph (s.net.trace ++ e ∷ []) new.net.trace k made.graph made.trace before
 
 -- the rounds of a run that has ended are its longest chain
 pub rounds_are_chain : (seed : ℕ) (wake : WakeSet) (turns : ℕ) (g : Shape) (new : WorldState) (o : Option ℕ) (n : ℕ)
@@ -47,9 +49,3 @@ ended_well e h = cc
 
 pub stopped_well : (f : RunFault) → f ≡ TurnLimit → ◌≡◌ {A = Result RunEnd RunFault} (Err f) (Err Memory) → ⊥
 stopped_well f limit h = let z : ◌≡◌ {A = Result RunEnd RunFault} (Err TurnLimit) (Err Memory) = sym (ap Err limit) ∙ h in cc
-
--- no chain has begun at the opening
-pub opened_chains : (old home : WorldState) (g : Shape) (k : Kept) → home ≡ record old { outs = [] } → old.net.trace ≡ [] →
-    g ≡ home.net.graph → Fits g k → seen k ≡ no_chains → AreChains home.net k
-opened_chains old home g k same none graph fits begun =
-    none_are home.net k g (sym graph) (ap (λ (s : WorldState). s.net.trace) same ∙ none) fits begun

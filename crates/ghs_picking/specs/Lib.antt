@@ -1,3 +1,4 @@
 -- To be believed: contracts cite what stands here, and what it is made of.
+pub mod Lengths
 pub mod Picking
 pub mod Time

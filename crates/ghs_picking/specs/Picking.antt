@@ -81,14 +81,6 @@ IsPickedBy Rounds seed wake turns g events = IsByRounds seed wake turns g events
 IsPickedBy Waits seed wake turns g events = IsWaiting seed wake turns g events
 IsPickedBy Lifo seed wake turns g events = IsLast seed wake turns g events
 
--- its chains are kept from event to event
-abbrev pub IsFollowed : ScheduleKind → Type 0
-IsFollowed Seeded = Unit {0}
-IsFollowed Patient = Unit {0}
-IsFollowed Rounds = ⊥
-IsFollowed Waits = ⊥
-IsFollowed Lifo = ⊥
-
 -- in how many rounds a schedule has picked events, where it picks by rounds
 abbrev pub AreRounds : ScheduleKind → ℕ → WakeSet → ℕ → Shape → List Event → Option ℕ → Type 0
 AreRounds Seeded seed wake turns g events rounds = rounds ≡ None

@@ -1,5 +1,6 @@
 -- The text of a run's time.
-use Rattle.std.specs.Prelude.{ℕ, Option, Some, None, List, ◌++◌, codes, decimal}
+use Rattle.std.specs.Prelude.{ℕ, Option, Some, None, List, [], ◌++◌, codes, decimal}
+use Rattle.ghs_picking.specs.declared.lengths.RunLengths.{RunLengths}
 
 -- `l CHAIN`: how many messages the longest chain has
 unfoldable pub chain_line : ℕ → List ℕ
@@ -9,7 +10,15 @@ chain_line chain = codes "l " ++ decimal chain ++ codes "\n"
 unfoldable pub rounds_line : ℕ → List ℕ
 rounds_line rounds = codes "u " ++ decimal rounds ++ codes "\n"
 
--- the lines of both, and the chain's alone where the run goes by no rounds
-abbrev pub time_text : ℕ → Option ℕ → List ℕ
-time_text chain None = chain_line chain
-time_text chain (Some rounds) = chain_line chain ++ rounds_line rounds
+-- `b BITS LONGEST`: how many bits the messages that were sent have, each counted once, and how many the longest has
+unfoldable pub bits_line : ℕ → ℕ → List ℕ
+bits_line bits longest = codes "b " ++ decimal bits ++ codes " " ++ decimal longest ++ codes "\n"
+
+-- no line, where the run goes by no rounds
+abbrev pub rounds_lines : Option ℕ → List ℕ
+rounds_lines None = []
+rounds_lines (Some rounds) = rounds_line rounds
+
+-- all lines
+abbrev pub time_text : RunLengths → Option ℕ → List ℕ
+time_text lengths rounds = chain_line lengths.chain ++ rounds_lines rounds ++ bits_line lengths.bits lengths.longest

@@ -1,5 +1,4 @@
-//! Patient runs whose chains are kept from event to event.
-ghost use Rattle.ghs_chain.specs.Kept.{AreChains};
+//! Patient runs that are followed from event to event.
 ghost use Rattle.ghs_core.specs.NetState.{network};
 ghost use Rattle.ghs_patient.specs.Choices.{AreChoices, patient_in};
 ghost use Rattle.ghs_patient.specs.Runs.{HasRun, HasTurns, IsShort};
@@ -9,8 +8,8 @@ ghost use Rattle.ghs_world.specs.Steps.{IsSameWorld};
 ghost use Rattle.ghs_world.specs.WorldState.{has_turn, home};
 ghost use Rattle.std.specs.Prelude.{IfErr, IfOk, OnErr, OnOk, [], true, ◌≡◌};
 
-use ghs_chain::chains::Chains;
 use ghs_core::net::node_of;
+use ghs_following::follower::Follower;
 use ghs_patient::choices::Choices;
 use ghs_protocol::interleavings::{law_one_waits, law_patience, law_patience_lasts};
 use ghs_sched::fault::RunFault;
@@ -19,20 +18,20 @@ use ghs_sched::schedule::Schedule;
 use ghs_world::world::World;
 use std::alloc::{AllocError, Global};
 
-/// Runs a world on as `ghs_patient` does, and the chains follow. Where memory runs out the chains are of no use.
-pub(crate) fn run_patient(
+/// Runs a world on as `ghs_patient` does, each event followed. Where memory runs out what is kept is of no use.
+pub(crate) fn run_patient<F: Follower>(
     alloc: Global,
     world: &mut World,
     schedule: &mut Schedule,
-    chains: &mut Chains,
+    kept: &mut F,
 ) -> Result<RunEnd, RunFault>
-    requires chains { AreChains world.old.net chains.old }
+    requires kept { F.is_of world.old.net.graph world.old.net.trace kept.old }
     ensures run { HasRun world.old world.new schedule.old schedule.new }
     ensures short { IsShort world.old world.new }
     ensures halted { IfOk result (λ e. IsEnd world.new e) }
     ensures fault { IfErr result (λ f. EndsFor world.new f) }
     ensures ends { HasTurns world.old → result ≡ Err RunFault.TurnLimit → ⊥ }
-    ensures chains { (result ≡ Err RunFault.Memory → ⊥) → AreChains world.new.net chains.new }
+    ensures kept { (result ≡ Err RunFault.Memory → ⊥) → F.is_of world.new.net.graph world.new.net.trace kept.new }
 {
     law_patience();
     law_patience_lasts();
@@ -50,7 +49,7 @@ pub(crate) fn run_patient(
             let _ = world.turns();
             return Err(RunFault::TurnLimit);
         }
-        match make_next(alloc, world, &mut choices, schedule, chains) {
+        match make_next(alloc, world, &mut choices, schedule, kept) {
             Ok(()) => {}
             Err(_) => return Err(RunFault::Memory),
         }
@@ -59,21 +58,21 @@ pub(crate) fn run_patient(
 }
 
 /// The next word picks an event, and it happens. A refusal leaves the world, the choices and the word.
-fn make_next(
+fn make_next<F: Follower>(
     alloc: Global,
     world: &mut World,
     choices: &mut Choices,
     schedule: &mut Schedule,
-    chains: &mut Chains,
+    kept: &mut F,
 ) -> Result<(), AllocError>
     requires home { world.old.outs ≡ [] }
     requires going { HasEnded world.old.net.graph (home world.old) → ⊥ }
     requires turn { has_turn world.old ≡ true }
     requires choices { AreChoices world.old choices.old }
-    requires chains { AreChains world.old.net chains.old }
+    requires kept { F.is_of world.old.net.graph world.old.net.trace kept.old }
     ensures ok { OnOk result (HasMadeOneOf (patient_in world.old) world.old world.new schedule.old schedule.new) }
     ensures choices { OnOk result (AreChoices world.new choices.new) }
-    ensures chains { OnOk result (AreChains world.new.net chains.new) }
+    ensures kept { OnOk result (F.is_of world.new.net.graph world.new.net.trace kept.new) }
     ensures err { OnErr result (IsSameWorld world.old world.new) }
     ensures word { OnErr result (schedule.new ≡ schedule.old) }
 {
@@ -85,7 +84,7 @@ fn make_next(
     let event = choices.pick(world, &mut rest);
     let before = *world.net().node(node_of(event)).head();
     let delta = world.answer(alloc, event)?;
-    chains.follow(world.net(), event, &delta)?;
+    kept.follow(world.net(), event, &delta)?;
     world.make_answered(event, &delta)?;
     choices.follow(world, event, &before, &delta);
     *schedule = rest;

@@ -1,5 +1,5 @@
 -- Chains that follow an event before it happens.
-use Rattle.std.proofs.Common.{◌≡◌, ℕ, suc, Bool, false, List, [], ◌∷◌, ◌++◌, length, refl, sym, ◌∙◌, ap, ap₂, subst, arith, add-one}
+use Rattle.std.proofs.Common.{◌≡◌, ℕ, suc, Bool, false, List, [], ◌∷◌, ◌++◌, length, refl, sym, ◌∙◌, ap, ap₂, arith, add-one}
 use Rattle.std.specs.List.{All}
 use Rattle.std.proofs.Math.Path.{fun_ext}
 use Rattle.ghs_graph.specs.Graph.{Shape, IsGraph}
@@ -22,7 +22,7 @@ use Rattle.std.proofs.Common.{⊎_elim}
 use Rattle.ghs_core.specs.NetState.{IsAnswer, IsLawful, NetState, net_of, network}
 use Rattle.ghs_core.specs.PutBack.{IsPutBack}
 use Rattle.ghs_chain.specs.Chains.{Chains, chains_of, hears, longest_chain, most_below, reacted, sent, taken}
-use Rattle.ghs_chain.specs.Kept.{AreChains, AreChainsThen, Fits, HasPlace, Kept, SamePlaces, seen}
+use Rattle.ghs_chain.specs.Kept.{AreChains, AreChainsOf, AreChainsThen, Fits, HasPlace, Kept, SamePlaces, seen}
 use Rattle.ghs_chain.proofs.Filling.{OnPorts}
 use Rattle.ghs_chain.proofs.lemmas.Following.{chains_of_more, fits_kept, place_at}
 use Rattle.ghs_chain.proofs.lemmas.Lengths.{same_lengths}
@@ -80,21 +80,9 @@ carried_alone s v p k graph r lawful back awake one are =
     ∙ turned_alone c v p (c.queue v p) refl (lengths ∙ one) in
     record { fits = are.fits; same = are.same ∙ sym then }
 
--- the event has happened
-pub then_are : (s s' : NetState) (e : Event) (k : Kept) → s'.graph ≡ s.graph → s'.trace ≡ s.trace ++ e ∷ [] → AreChainsThen s e k → AreChains s' k
-then_are s s' e k graph trace then = record {
-  fits = let P : Shape → Type 0 = λ (g : Shape). Fits g k in subst P (sym graph) then.fits;
-  same =
-      then.same ∙ ap (λ (es : List Event). chains_of (network s) es) (sym trace) ∙ ap (λ (g : Shape). chains_of (network_of g) s'.trace) (sym graph);
-}
-
 -- the greatest number of a node is the longest chain
-pub longest_are : (s : NetState) (k : Kept) (n : ℕ) → AreChains s k → n ≡ most_below (length k.numbers) (seen k).node →
-    n ≡ longest_chain (network s) s.trace
-longest_are s k n are value =
-    let count : length k.numbers ≡ suc s.graph.nodes = are.fits.numbers ∙ add-one s.graph.nodes in
+pub longest_are : (g : Shape) (es : List Event) (k : Kept) (n : ℕ) → AreChainsOf g es k → n ≡ most_below (length k.numbers) (seen k).node →
+    n ≡ longest_chain (network_of g) es
+longest_are g es k n are value =
+    let count : length k.numbers ≡ suc g.nodes = are.fits.numbers ∙ add-one g.nodes in
     value ∙ ap₂ (λ (m : ℕ) (c : Chains). most_below m c.node) count are.same
-
--- none are those of a net without events
-pub none_begin : (s : NetState) (k : Kept) → s.trace ≡ [] → Fits s.graph k → seen k ≡ chains_of (network s) [] → AreChains s k
-none_begin s k trace fits same = record { fits = fits; same = same ∙ ap (λ (es : List Event). chains_of (network s) es) (sym trace) }

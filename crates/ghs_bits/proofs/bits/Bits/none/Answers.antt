@@ -1,5 +1,5 @@
 use Rattle.std.proofs.Common.{refl}
-use Rattle.ghs_bits.proofs.lemmas.Moved.{none_are}
+use Rattle.ghs_bits.proofs.Bounding.{none_are}
 use Rattle.ghs_bits.proofs.bits.Bits.none.Goals as goal
 
 pub returns : goal.returns

@@ -1,2 +1,0 @@
--- What proofs about bits above this crate may use.
-pub mod Moved

@@ -1,0 +1,2 @@
+-- What proofs about followers above this crate may use.
+pub mod Moved

@@ -1,0 +1,8 @@
+use Rattle.ghs_protocol.specs.declared.event.Event.TheVariants.{Take}
+use Rattle.ghs_picking.proofs.Happening.{made_kept}
+use Rattle.ghs_picking.proofs.making.put_back.Goals as goal
+
+pub returns-clause-kept : goal.returns-clause-kept
+returns-clause-kept g c =
+    made_kept g.F.Follower.is_of c.args.world.now c.make.new.self c.net.result.now (Take c.args.v c.args.port) c.follow_back.new.self
+    c.net.ensures.net c.in_ok-follow_back.ensures c.in_ok-make.ensures.made
