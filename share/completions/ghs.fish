@@ -17,7 +17,7 @@ complete -c ghs -n '__fish_seen_subcommand_from run' -l schedule -x -a 'seeded p
 complete -c ghs -n '__fish_seen_subcommand_from run' -l workers -x -d 'How many threads take part, 0 to 64; with 0 the seed'\''s schedule picks the events [default: 0]'
 complete -c ghs -n '__fish_seen_subcommand_from run' -l wake -x -a 'all first' -d 'Which nodes wake by themselves: all, or the first of each component [default: all]'
 complete -c ghs -n '__fish_seen_subcommand_from run' -l turns -x -d 'How many events there may be, 1 to 1099511627776 [default: 1099511627776]'
-complete -c ghs -n '__fish_seen_subcommand_from run' -l print -x -a 'report trace time' -d 'What is printed: report, the tree and the counts, trace, the events, or time, the longest chain of messages and the rounds [default: report]'
+complete -c ghs -n '__fish_seen_subcommand_from run' -l print -x -a 'report trace time' -d 'What is printed: report, the tree and the counts, trace, the events, or time, the longest chain of messages, the rounds and the bits [default: report]'
 complete -c ghs -n '__fish_seen_subcommand_from run' -l core -d 'Prints behind the tree, or the report of a run, each component'\''s core and its level'
 complete -c ghs -n '__fish_seen_subcommand_from run' -l progress -d 'Tells standard error how far the run has come'
 complete -c ghs -n '__fish_seen_subcommand_from run' -l tally -d 'Tells standard error at the end what each of the threads has done'

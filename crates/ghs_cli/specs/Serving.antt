@@ -11,7 +11,7 @@ use Rattle.ghs_graph.specs.Links.{IsTree}
 use Rattle.ghs_cores.specs.declared.component.Component.{Component}
 use Rattle.ghs_cores.specs.Components.{HasEndedIn, IsOfGraph}
 use Rattle.ghs_cores.specs.Text.{HaveLines}
-use Rattle.ghs_chain.specs.Chains.{longest_chain}
+use Rattle.ghs_picking.specs.Lengths.{lengths_of}
 use Rattle.ghs_picking.specs.Picking.{AreRounds, IsPickedBy}
 use Rattle.ghs_picking.specs.Time.{time_text}
 use Rattle.ghs_protocol.specs.declared.event.Event.{Event}
@@ -121,9 +121,9 @@ pub record AreItsRounds (o : RunOptions) (g : Shape) (events : List Event) (roun
   pub by_schedule : o.workers ≡ 0 → AreRounds o.schedule_kind o.seed o.wake o.turns g events rounds
   pub by_threads : 1 ≤ o.workers → rounds ≡ None
 
--- the time of a run: its longest chain of messages, and its rounds
+-- the time of a run: its longest chain of messages, and its rounds; and its bits
 abbrev pub IsTime : RunOptions → Shape → List Event → List ℕ → Type 0
-IsTime o g events output = (rounds : Option ℕ) × AreItsRounds o g events rounds × (output ≡ time_text (longest_chain (network_of g) events) rounds)
+IsTime o g events output = (rounds : Option ℕ) × AreItsRounds o g events rounds × (output ≡ time_text (lengths_of g events) rounds)
 
 -- what is shown of a run that has ended: its report, its events, or its time
 abbrev pub IsShown : Show → RunOptions → Shape → List Event → List ℕ → Type 0

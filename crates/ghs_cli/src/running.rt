@@ -1,8 +1,7 @@
 //! Runs of a network: by the schedule of a seed, or by threads.
-ghost use Rattle.ghs_chain.specs.Chains.{longest_chain};
+ghost use Rattle.ghs_picking.specs.Lengths.{lengths_of};
 ghost use Rattle.ghs_picking.specs.Time.{time_text};
 ghost use Rattle.ghs_protocol.specs.Marks.{HasEnded};
-ghost use Rattle.ghs_protocol.specs.Network.{network_of};
 ghost use Rattle.ghs_pool.specs.Ends.{EndFits};
 ghost use Rattle.ghs_pool.specs.Follows.{Follows};
 ghost use Rattle.ghs_world.specs.WorldState.{home};
@@ -252,9 +251,9 @@ fn shown(
     }
 }
 
-/// The time of a world's run.
+/// The time of a world's run, and its bits.
 fn timed(alloc: Global, world: &World, rounds: Option<u64>) -> Result<Vec<u8>, ServeFault>
-    ensures text { IfOk result (λ text. text.items ≡ time_text (longest_chain (network_of world.now.net.graph) world.now.net.trace) rounds) }
+    ensures text { IfOk result (λ text. text.items ≡ time_text (lengths_of world.now.net.graph world.now.net.trace) rounds) }
     ensures err { IfErr result (λ fault. fault ≡ ServeFault.Memory) }
 {
     // Read for their clauses: the events are a run, and no more than 2^40.

@@ -465,7 +465,7 @@ fn print<'a>(alloc: Global) -> Arg<'a>
     ensures rule { rule_of result ≡ print_rule }
 {
     option(alloc, "print", "report").help(
-        "What is printed: report, the tree and the counts, trace, the events, or time, the longest chain of messages and the rounds",
+        "What is printed: report, the tree and the counts, trace, the events, or time, the longest chain of messages, the rounds and the bits",
     )
 }
 

@@ -45,7 +45,7 @@ pub enum Show {
     Summary,
     /// Its events.
     Events,
-    /// Where it has ended, how long its longest chain of messages is, and in how many rounds it went.
+    /// Where it has ended, how long its longest chain of messages is, in how many rounds it went, and how many bits it sent.
     Time,
 }
 

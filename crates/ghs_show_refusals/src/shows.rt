@@ -182,7 +182,8 @@ fn put_figures(rt: &impl Abort, alloc: Global, k: usize) -> Turn {
     let answer = put_line(&mut text, 7, SETUP, &figures);
     let turn = turn_of(alloc, k, &answer);
     assert!(rt;
-        text.starts_with(b"head\n") && text.ends_with(b",halted,14\n") == (turn != Turn::Refused)
+        text.starts_with(b"head\n")
+            && text.ends_with(b",halted,14,306,15\n") == (turn != Turn::Refused)
     );
     turn
 }

@@ -220,6 +220,8 @@ module _ (g : Shape) (es fs : List Event) (f f' : Figures) (ok : IsGraph g) (run
   agree measure.Queued i = cc
   agree measure.Halted i = cc
   agree measure.Chain i = cc
+  agree measure.Bits i = cc
+  agree measure.Longest i = cc
 
 pub fixed_measures_agree : FixedMeasuresAgree
 fixed_measures_agree g es fs f f' m ok run run' a b e e' i = agree g es fs f f' ok run run' a b e e' m i

@@ -14,7 +14,7 @@ use Rattle.ghs_protocol.specs.Run.{net_after}
 use Rattle.ghs_core.specs.Census.{IsCensus}
 use Rattle.ghs_core.specs.Marked.{AreBranches}
 use Rattle.ghs_core.specs.declared.census.FragmentRow.{FragmentRow}
-use Rattle.ghs_chain.specs.Chains.{longest_chain}
+use Rattle.ghs_picking.specs.Lengths.{lengths_of}
 use Rattle.ghs_sweep.specs.declared.figures.Figures.{Figures}
 
 -- the greatest level of some fragments
@@ -45,7 +45,7 @@ pub record AreLinksAndFragments (g : Shape) (w : Net) (f : Figures) : Type 0 whe
   pub weight : f.weight ≡ total_weight branches
   pub small : HasSmallWeight f
 
--- the figures of the net after some events, and the longest chain of their messages
+-- the figures of the net after some events, and how long the run of these events is
 pub record AreFigures (g : Shape) (es : List Event) (f : Figures) : Type 0 where
   pub nodes : f.nodes ≡ g.nodes
   pub links : f.links ≡ length g.keys
@@ -53,4 +53,4 @@ pub record AreFigures (g : Shape) (es : List Event) (f : Figures) : Type 0 where
   pub messages : AreMessages g (net_after g es) f
   pub marks : AreLinksAndFragments g (net_after g es) f
   pub ended : (f.ended ≡ true) ↔ HasEnded g (net_after g es)
-  pub chain : f.chain ≡ longest_chain (network_of g) es
+  pub lengths : f.lengths ≡ lengths_of g es

@@ -47,9 +47,16 @@ head_members seed setup =
 unfoldable pub messages_members : Figures → List ℕ
 messages_members f = first_kinds f ++ answers f ++ last_kinds f
 
--- how the run ended, and its chain; and the object's end
+-- how long the run is: its chain, its bits, and its longest message
+unfoldable pub lengths_members : Figures → List ℕ
+lengths_members f =
+    numbered (codes "chain") f.lengths.chain
+    ++ numbered (codes "bits") f.lengths.bits
+    ++ numbered (codes "longest") f.lengths.longest
+
+-- how the run ended, and how long it is; and the object's end
 unfoldable pub end_members : Figures → List ℕ
-end_members f = worded (codes "end") (end_word f.ended) ++ numbered (codes "chain") f.chain ++ codes "}\n"
+end_members f = worded (codes "end") (end_word f.ended) ++ lengths_members f ++ codes "}\n"
 
 -- what stands in the object behind its front
 unfoldable pub json_text : ℕ → Setup → Figures → List ℕ

@@ -48,7 +48,11 @@ unfoldable pub outcome_fields : Figures → List ℕ
 outcome_fields f =
     field f.requeued ++ field f.queued ++ field f.bound ++ field f.level ++ field f.fragments ++ field f.weight
 
--- seed, schedule, wake set, figures, how the run ended, and its chain
+-- how long the run is: its chain, its bits, and its longest message
+unfoldable pub lengths_fields : Figures → List ℕ
+lengths_fields f = field f.lengths.chain ++ field f.lengths.bits ++ field f.lengths.longest
+
+-- seed, schedule, wake set, figures, how the run ended, and how long it is
 unfoldable pub line_text : ℕ → Setup → Figures → List ℕ
 line_text seed setup f =
     decimal seed
@@ -58,5 +62,5 @@ line_text seed setup f =
     ++ messages_fields f
     ++ outcome_fields f
     ++ word_field (end_word f.ended)
-    ++ field f.chain
+    ++ lengths_fields f
     ++ codes "\n"

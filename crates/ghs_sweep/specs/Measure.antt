@@ -28,6 +28,8 @@ name_of measure.Fragments = codes "fragments"
 name_of measure.Weight = codes "weight"
 name_of measure.Halted = codes "halted"
 name_of measure.Chain = codes "chain"
+name_of measure.Bits = codes "bits"
+name_of measure.Longest = codes "longest"
 
 -- its value for a run: a run that has ended is halted once
 abbrev pub value_of : Measure → Figures → ℕ
@@ -47,7 +49,9 @@ value_of measure.Level run = run.level
 value_of measure.Fragments run = run.fragments
 value_of measure.Weight run = run.weight
 value_of measure.Halted run = if run.ended then 1 else 0
-value_of measure.Chain run = run.chain
+value_of measure.Chain run = run.lengths.chain
+value_of measure.Bits run = run.lengths.bits
+value_of measure.Longest run = run.lengths.longest
 
 -- all of them, in the order of the columns of a sweep's lines
 abbrev pub measures : List Measure
@@ -69,6 +73,8 @@ measures =
     ∷ measure.Weight
     ∷ measure.Halted
     ∷ measure.Chain
+    ∷ measure.Bits
+    ∷ measure.Longest
     ∷ []
 
 -- it is the graph's: each run that has ended has it
@@ -90,6 +96,8 @@ is_fixed measure.Requeued = false
 is_fixed measure.Queued = false
 is_fixed measure.Halted = false
 is_fixed measure.Chain = false
+is_fixed measure.Bits = false
+is_fixed measure.Longest = false
 
 -- 1 for what is fixed, and 0 for what may vary
 abbrev pub fixed_value : Measure → ℕ

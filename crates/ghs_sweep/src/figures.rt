@@ -1,16 +1,15 @@
 //! How a run stands, in numbers.
-ghost use Rattle.ghs_chain.specs.Chains.{longest_chain};
-ghost use Rattle.ghs_core.specs.NetState.{network};
 ghost use Rattle.ghs_graph.specs.Links.{total_weight};
+ghost use Rattle.ghs_picking.specs.Lengths.{lengths_of};
 ghost use Rattle.ghs_protocol.specs.Ledger.{in_all};
 ghost use Rattle.ghs_sweep.specs.Figures.{AreFigures, greatest_level};
 ghost use Rattle.std.specs.Prelude.{◌≡◌, ◌<◌, ◌≤◌, ◌^◌, length, slice_index, IfOk};
 
-use ghs_chain::chain::longest_chain;
 use ghs_core::census::FragmentRow;
 use ghs_core::net::Net;
 use ghs_graph::bounds::bound;
 use ghs_graph::key::Key;
+use ghs_picking::lengths::{RunLengths, lengths_of};
 use std::alloc::{AllocError, Global};
 
 /// How a run stands, in numbers.
@@ -36,22 +35,26 @@ pub struct Figures {
     pub weight: u128,
     /// Whether the run has ended.
     pub ended: bool,
-    /// How many messages the longest chain has, each sent because of the one before.
-    pub chain: u64,
+    /// How long the run is: its longest chain, its bits and its longest message.
+    pub lengths: RunLengths,
 }
 
-/// The figures of a net. Its events are played once more for their longest chain. Refusal: out of memory.
+/// The figures of a net. Its events are played once more for the run's lengths. Refusal: out of memory.
 pub fn figures_of(alloc: Global, net: &Net) -> Result<Figures, AllocError>
     requires { length net.now.trace ≤ 2 ^ 40 }
     ensures { IfOk result (λ f. AreFigures net.now.graph net.now.trace f) }
 {
-    let chain = longest_chain(alloc, net.graph(), net.trace())?;
-    figures_with(alloc, net, chain)
+    let lengths = lengths_of(alloc, net.graph(), net.trace())?;
+    figures_with(alloc, net, lengths)
 }
 
-/// The same, where it is known how long the longest chain is.
-pub(crate) fn figures_with(alloc: Global, net: &Net, chain: u64) -> Result<Figures, AllocError>
-    requires { chain ≡ longest_chain (network net.now) net.now.trace }
+/// The same, where the run's lengths are known.
+pub(crate) fn figures_with(
+    alloc: Global,
+    net: &Net,
+    lengths: RunLengths,
+) -> Result<Figures, AllocError>
+    requires { lengths ≡ lengths_of net.now.graph net.now.trace }
     ensures { IfOk result (λ f. AreFigures net.now.graph net.now.trace f) }
 {
     let graph = net.graph();
@@ -72,7 +75,7 @@ pub(crate) fn figures_with(alloc: Global, net: &Net, chain: u64) -> Result<Figur
         fragments: census.len() as u64,
         weight: total_weight(&branches),
         ended: net.ended(),
-        chain,
+        lengths,
     })
 }
 

@@ -1,5 +1,5 @@
 //! A run's figures as a line of JSON.
-ghost use Rattle.ghs_sweep.specs.JsonLine.{answers, end_members, first_kinds, head_members, json_text, last_kinds, messages_members, numbered, outcome_members, size_members, worded};
+ghost use Rattle.ghs_sweep.specs.JsonLine.{answers, end_members, first_kinds, head_members, json_text, last_kinds, lengths_members, messages_members, numbered, outcome_members, size_members, worded};
 ghost use Rattle.std.specs.Prelude.{◌≡◌, ◌++◌, IfOk};
 
 use crate::figures::Figures;
@@ -35,14 +35,24 @@ fn put_head(text: &mut Vec<u8>, seed: u64, setup: Setup) -> Result<(), AllocErro
     put_worded(text, b"wake", wake_word(setup.wake))
 }
 
-/// How the run ended, and its chain; and the object's end.
+/// How the run ended, and how long it is; and the object's end.
 #[tactic(auto, unfolding(crate::specs::JsonLine::end_members))]
 fn put_end(text: &mut Vec<u8>, figures: &Figures) -> Result<(), AllocError>
     ensures { IfOk result (λ _. text.new.items ≡ text.old.items ++ end_members figures.now) }
 {
     put_worded(text, b"end", end_word(figures.ended))?;
-    put_numbered(text, b"chain", u128::from(figures.chain))?;
+    put_lengths(text, figures)?;
     text.extend_from_slice(b"}\n")
+}
+
+/// How long the run is.
+#[tactic(auto, unfolding(crate::specs::JsonLine::lengths_members))]
+fn put_lengths(text: &mut Vec<u8>, figures: &Figures) -> Result<(), AllocError>
+    ensures { IfOk result (λ _. text.new.items ≡ text.old.items ++ lengths_members figures.now) }
+{
+    put_numbered(text, b"chain", u128::from(figures.lengths.chain))?;
+    put_numbered(text, b"bits", u128::from(figures.lengths.bits))?;
+    put_numbered(text, b"longest", u128::from(figures.lengths.longest))
 }
 
 /// Messages, of all kinds and of each.

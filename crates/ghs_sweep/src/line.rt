@@ -1,5 +1,5 @@
 //! A run's figures as a line of comma separated values.
-ghost use Rattle.ghs_sweep.specs.Line.{end_word, field, line_text, messages_fields, outcome_fields, schedule_word, size_fields, wake_word, word_field};
+ghost use Rattle.ghs_sweep.specs.Line.{end_word, field, lengths_fields, line_text, messages_fields, outcome_fields, schedule_word, size_fields, wake_word, word_field};
 ghost use Rattle.std.specs.Prelude.{◌≡◌, ◌++◌, IfOk};
 
 use crate::figures::Figures;
@@ -11,10 +11,10 @@ use std::alloc::AllocError;
 
 /// The names of a line's fields, as a line.
 pub const HEAD_LINE: &[u8] =
-    b"seed,schedule,wake,nodes,links,events,sent,connect,initiate,test,accept,reject,report,changeroot,requeued,queued,bound,level,fragments,weight,end,chain\n";
+    b"seed,schedule,wake,nodes,links,events,sent,connect,initiate,test,accept,reject,report,changeroot,requeued,queued,bound,level,fragments,weight,end,chain,bits,longest\n";
 
-/// Puts the line of a seed's run behind a text: the seed, the schedule, the wake set, the figures, how it ended, and its
-/// chain.
+/// Puts the line of a seed's run behind a text: the seed, the schedule, the wake set, the figures, how it ended, and how
+/// long it is.
 #[tactic(auto, unfolding(crate::specs::Line::line_text))]
 pub fn put_line(
     text: &mut Vec<u8>,
@@ -31,7 +31,7 @@ pub fn put_line(
     put_messages(text, figures)?;
     put_outcome(text, figures)?;
     put_word(text, end_word(figures.ended))?;
-    put_field(text, u128::from(figures.chain))?;
+    put_lengths(text, figures)?;
     text.extend_from_slice(b"\n")?;
     Ok(())
 }
@@ -74,6 +74,17 @@ fn put_outcome(text: &mut Vec<u8>, figures: &Figures) -> Result<(), AllocError>
     put_field(text, u128::from(figures.level))?;
     put_field(text, u128::from(figures.fragments))?;
     put_field(text, figures.weight)?;
+    Ok(())
+}
+
+/// How long the run is.
+#[tactic(auto, unfolding(crate::specs::Line::lengths_fields))]
+fn put_lengths(text: &mut Vec<u8>, figures: &Figures) -> Result<(), AllocError>
+    ensures { IfOk result (λ _. text.new.items ≡ text.old.items ++ lengths_fields figures.now) }
+{
+    put_field(text, u128::from(figures.lengths.chain))?;
+    put_field(text, u128::from(figures.lengths.bits))?;
+    put_field(text, u128::from(figures.lengths.longest))?;
     Ok(())
 }
 

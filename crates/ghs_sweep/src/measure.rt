@@ -26,10 +26,12 @@ pub enum Measure {
     Weight,
     Halted,
     Chain,
+    Bits,
+    Longest,
 }
 
 /// All measures, in the order of the columns.
-pub const MEASURES: [Measure; 17] = [
+pub const MEASURES: [Measure; 19] = [
     Measure::Events,
     Measure::Sent,
     Measure::Connect,
@@ -47,6 +49,8 @@ pub const MEASURES: [Measure; 17] = [
     Measure::Weight,
     Measure::Halted,
     Measure::Chain,
+    Measure::Bits,
+    Measure::Longest,
 ];
 
 impl Measure {
@@ -72,6 +76,8 @@ impl Measure {
             Measure::Weight => b"weight",
             Measure::Halted => b"halted",
             Measure::Chain => b"chain",
+            Measure::Bits => b"bits",
+            Measure::Longest => b"longest",
         }
     }
 
@@ -97,7 +103,9 @@ impl Measure {
             Measure::Fragments => u128::from(run.fragments),
             Measure::Weight => run.weight,
             Measure::Halted => u128::from(run.ended),
-            Measure::Chain => u128::from(run.chain),
+            Measure::Chain => u128::from(run.lengths.chain),
+            Measure::Bits => u128::from(run.lengths.bits),
+            Measure::Longest => u128::from(run.lengths.longest),
         }
     }
 
@@ -122,7 +130,9 @@ impl Measure {
             | Measure::Requeued
             | Measure::Queued
             | Measure::Halted
-            | Measure::Chain => 0,
+            | Measure::Chain
+            | Measure::Bits
+            | Measure::Longest => 0,
         }
     }
 }

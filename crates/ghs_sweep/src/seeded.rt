@@ -4,7 +4,7 @@ ghost use Rattle.std.specs.Prelude.{IfOk};
 
 use crate::figures::{Figures, figures_with};
 use ghs_graph::graph::Graph;
-use ghs_picking::chained::run_chained;
+use ghs_picking::measured::run_measured;
 use ghs_picking::picking::ScheduleKind;
 use ghs_world::wake_set::WakeSet;
 use ghs_world::world::World;
@@ -36,6 +36,6 @@ pub fn figures_of_seed(
         Ok(world) => world,
         Err((_, error)) => return Err(error),
     };
-    let chain = run_chained(alloc, &mut world, setup.schedule_kind, seed)?;
-    figures_with(alloc, world.net(), chain)
+    let lengths = run_measured(alloc, &mut world, setup.schedule_kind, seed)?;
+    figures_with(alloc, world.net(), lengths)
 }

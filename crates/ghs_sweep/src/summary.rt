@@ -22,7 +22,7 @@ pub const SUMMARY_HEAD: &[u8] = b"measure,runs,min,p25,p50,p75,p95,max,sum,fixed
 /// ```text
 /// let mut text = Vec::from_slice(alloc, SUMMARY_HEAD)?;
 /// put_summary(alloc, &mut text, Form::Text, bare_front(Form::Text), &runs)?;
-/// // 17 lines more, from `events` to `chain`
+/// // 19 lines more, from `events` to `longest`
 /// ```
 pub fn put_summary(
     alloc: Global,

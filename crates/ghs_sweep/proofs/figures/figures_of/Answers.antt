@@ -1,11 +1,10 @@
 use Rattle.std.proofs.Common.{◌∙◌, ap, List}
-use Rattle.ghs_chain.specs.Chains.{longest_chain}
 use Rattle.ghs_graph.specs.Graph.{Shape}
+use Rattle.ghs_picking.specs.Lengths.{lengths_of}
 use Rattle.ghs_protocol.specs.declared.event.Event.{Event}
-use Rattle.ghs_protocol.specs.Network.{network_of}
 use Rattle.ghs_sweep.proofs.figures.figures_of.Goals as goal
 
 pub figures_with-requires : goal.figures_with-requires
 figures_with-requires c =
-    c.in_ok-chain.ensures ∙ ap (λ (g : Shape). longest_chain (network_of g) c.trace.result.now) c.graph.ensures
-    ∙ ap (λ (es : List Event). longest_chain (network_of c.args.net.now.graph) es) c.trace.ensures.trace
+    c.in_ok-lengths.ensures ∙ ap (λ (g : Shape). lengths_of g c.trace.result.now) c.graph.ensures
+    ∙ ap (λ (es : List Event). lengths_of c.args.net.now.graph es) c.trace.ensures.trace

@@ -45,5 +45,5 @@ returns c =
         small = c.total_weight.ensures.small;
       };
       ended = c.ended.ensures.ended;
-      chain = c.requires;
+      lengths = c.requires;
     }

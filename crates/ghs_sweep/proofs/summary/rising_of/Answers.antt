@@ -1,6 +1,5 @@
-use Rattle.std.proofs.Common.{◌≡◌, IsPermutation, List, map, subst, ℕ}
+use Rattle.std.proofs.Common.{IsPermutation, List, subst, ℕ}
 use Rattle.std.proofs.lemmas.List.Sorted.{IsNonDecreasingBy-from_sort}
-use Rattle.ghs_sweep.specs.Measure.{value_of}
 use Rattle.ghs_sweep.proofs.summary.rising_of.Goals as goal
 
 pub returns : goal.returns
