@@ -46,6 +46,21 @@ def key_text(k):
     return '-' if k is None else '%d:%d-%d' % k
 
 
+def lengths(n, keys):
+    """How many bits a message has in a network, as docs/COMPARE.md says: a function of the message."""
+    def needs(greatest):
+        return max(1, greatest.bit_length())
+    level = needs(n.bit_length() - 1)
+    key = 2 * needs(n) + needs(max((weight for weight, _, _ in keys), default=0))
+    behind_kind = {'connect': level, 'initiate': level + key + 1, 'test': level + key, 'accept': 0, 'reject': 0, 'changeroot': 0}
+
+    def length(m):
+        if m[0] == 'report':
+            return 3 + 1 + (0 if m[1] is None else key)
+        return 3 + behind_kind[m[0]]
+    return length
+
+
 class Node:
     def __init__(self, degree):
         self.marks = [BASIC] * degree
@@ -72,6 +87,9 @@ class Net:
         self.queues = {}
         self.sent = dict.fromkeys(KINDS, 0)
         self.consumed = dict.fromkeys(KINDS, 0)
+        self.length = lengths(n, keys)
+        self.bits = dict.fromkeys(KINDS, 0)
+        self.longest = 0
         self.requeued = 0
         self.events = 0
         k = n.bit_length() - 1
@@ -215,6 +233,8 @@ class Net:
             _, f, fp = self.ports[v][j]
             self.queue(f, fp).append(x)
             self.sent[x[0]] += 1
+            self.bits[x[0]] += self.length(x)
+            self.longest = max(self.longest, self.length(x))
         self.events += 1
         changed = [(i, b) for i, (a, b) in enumerate(zip(marks, marks2)) if a != b]
         assert len(changed) <= 1

@@ -45,6 +45,7 @@ dialog td { text-align: left; white-space: normal; }
 dialog td:first-child { font-weight: bold; padding-right: 1.2em; }
 #goal { max-width: 12em; }
 @media (max-height: 820px) { :root { --num: 15px; } }
+@media (max-width: 1100px) { table { font-size: .8em; } #names th { white-space: normal; vertical-align: bottom; } }
 @media (max-width: 700px) {
   :root { --num: 14px; }
   html, body { height: auto; }
@@ -200,8 +201,8 @@ function verdict(nodes) {
 }
 const KINDS = () => runs[0].see('KINDS.map(k => [LETTER[k], NAMES[k]])');
 function tell() {
-  const seen = runs.map(run => run.see('({ at, to: G.to, events: G.events, bound: G.bound, sent: ledger.sent, consumed: ledger.consumed, requeued: ledger.requeued, queued: ledger.queued, now: figures(at) })'));
-  const sum = list => list.reduce((a, b) => a + b, 0), rows = seen.map(s => [s.at + ' of ' + s.events, ...s.sent, sum(s.sent), sum(s.consumed), s.queued, s.requeued, s.now[0], s.now[2]]);
+  const seen = runs.map(run => run.see('({ at, to: G.to, events: G.events, bound: G.bound, sent: ledger.sent, bits: ledger.bits, consumed: ledger.consumed, requeued: ledger.requeued, queued: ledger.queued, now: figures(at) })'));
+  const sum = list => list.reduce((a, b) => a + b, 0), rows = seen.map(s => [s.at + ' of ' + s.events, ...s.sent, sum(s.sent), sum(s.bits), s.now[3], sum(s.consumed), s.queued, s.requeued, s.now[0], s.now[2]]);
   $('counts').innerHTML = rows.map((row, i) => '<tr><th>' + (i ? 'Second run' : 'First run') + '</th>' + row.map((x, k) => '<td' + (x !== rows[1 - i][k] && k ? ' class="other"' : '') + '>' + x + '</td>').join('')
     + '<td class="wide"><div class="bar" role="img" aria-label="' + row[8] + ' of ' + seen[i].bound + '"><i style="width:' + (seen[i].bound ? 100 * row[8] / seen[i].bound : 0) + '%"></i></div></td></tr>').join('');
   const same = parts && seen.every(s => s.at < parts) && seen[0].at === seen[1].at, text = (parts ? same ? 'The same events so far; the runs part in event ' + parts + '. ' : 'The runs part in event ' + parts + '; ' : 'The runs are the same. ') + verdict(differing());
@@ -276,7 +277,7 @@ async function start() {
   document.title = 'ghs: two runs of ' + nodes + ' nodes';
   $('what').textContent = 'two runs of one network: ' + nodes + ' nodes, ' + links + ' links';
   $('goal').innerHTML = runs[0].$('goal').innerHTML;
-  $('names').innerHTML = '<tr><th></th><th>event</th>' + KINDS().map(([letter, name]) => '<th title="sent: ' + name + '"><span class="pill">' + letter + '</span></th>').join('') + '<th>sent</th><th>consumed</th><th>in queues</th><th>requeued</th><th>fragments</th><th>longest chain</th><th class="wide">of the bound, ' + runs[0].see('G.bound') + '</th></tr>';
+  $('names').innerHTML = '<tr><th></th><th>event</th>' + KINDS().map(([letter, name]) => '<th title="sent: ' + name + '"><span class="pill">' + letter + '</span></th>').join('') + '<th>sent</th><th title="the bits of what was sent">bits</th><th title="the bits of the longest message">longest message</th><th>consumed</th><th>in queues</th><th>requeued</th><th>fragments</th><th>longest chain</th><th class="wide">of the bound, ' + runs[0].see('G.bound') + '</th></tr>';
   $('keys').innerHTML = '<table>' + KEYS.map(([k, t]) => '<tr><td>' + k + '</td><td>' + t + '</td></tr>').join('') + '</table><form method="dialog"><button>close</button></form>';
   for (const [id, name] of [['first', 'Home'], ['last', 'End'], ['back', 'ArrowLeft'], ['next', 'ArrowRight'], ['play', ' '], ['part', 'r'], ['jump', 'ArrowDown'], ['jumpback', 'ArrowUp'], ['theme', 'd'], ['help', '?'], ['tab', 't'], ['lead0', '1'], ['lead1', '2'], ['leadboth', 'b']]) $(id).onclick = e => { ACTS[name](); if (e.detail) e.target.blur(); };
   $('skip').onchange = () => setSkip($('skip').checked);

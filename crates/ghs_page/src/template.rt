@@ -28,13 +28,13 @@ main { position: relative; min-width: 0; min-height: 0; overflow: hidden; }
 main > svg { position: absolute; inset: 0; width: 100%; height: 100%; display: block; }
 #time { overflow: auto; position: absolute; inset: 0 0 2.9rem 0; }
 [hidden] { display: none !important; }
-aside { display: flex; flex-direction: column; min-height: 0; border-left: 1px solid var(--line); padding: .4rem .3rem .3rem .8rem; }
+aside { display: flex; flex-direction: column; min-height: 0; overflow-y: auto; border-left: 1px solid var(--line); padding: .4rem .3rem .3rem .8rem; }
 aside > div { overflow-y: auto; scrollbar-gutter: stable; flex: none; }
 aside > #live { flex: none; }
 aside h2 { font-size: 1em; margin: .35rem 0 .1rem; }
 aside #say { flex: 0 1 auto; min-height: 7em; }
-aside #vars { flex: 1 1 9em; min-height: 9em; }
-aside #census { flex: 0 4 auto; min-height: 6.5em; }
+aside #vars { flex: 1 3 auto; min-height: 7.7em; }
+aside #census { flex: 0 4 auto; min-height: 7em; }
 aside p { margin: .15rem 0; }
 table { border-collapse: collapse; width: 100%; font-variant-numeric: tabular-nums; font-size: .92em; }
 th, td { text-align: left; padding: 0 .4em 0 0; font-weight: normal; vertical-align: top; white-space: nowrap; }
@@ -49,6 +49,9 @@ td.new::after, tr.new td:nth-child(4)::after { content: " \25C0"; color: var(--a
 .bar { height: .8em; border: 1px solid var(--ink); margin: .2em 0; }
 .bar i { display: block; height: 100%; background: var(--ink); }
 .pill { display: inline-block; min-width: 1.5em; text-align: center; background: var(--ink); color: var(--paper); border-radius: .7em; font-weight: bold; font-size: .85em; }
+#ledger { container-type: inline-size; }
+/* as large as its columns have room for */
+table.wide { font-size: min(.92em, calc(100cqw / var(--ems))); }
 table.wide td, table.wide th { padding: 0 .15em; }
 footer { display: grid; grid-template-columns: minmax(0, 1fr); }
 footer div { display: flex; gap: .4rem .5rem; align-items: center; flex-wrap: wrap; }
@@ -129,7 +132,8 @@ dialog { color: var(--ink); background: var(--paper); border: 2px solid var(--in
 dialog td:first-child { font-weight: bold; padding-right: 1.2em; }
 dialog td { white-space: normal; }
 @media (min-width: 1500px) { body { grid-template-columns: minmax(0, 1fr) 29rem; } }
-@media (max-height: 820px) { :root { --num: 15px; } aside { font-size: 13.5px; line-height: 1.25; } #strip { height: 60px; } }
+@media (max-height: 905px), (max-width: 1499px) and (max-height: 1030px) { :root { --num: 15px; } aside { font-size: 13.5px; line-height: 1.25; } aside #vars { min-height: 7em; } #strip { height: 60px; } }
+@media (max-height: 719px) { aside { font-size: 12.5px; } aside #say { min-height: 5em; } }
 @media (max-width: 900px) { body { grid-template: auto minmax(0, 1fr) minmax(0, 14rem) auto / minmax(0, 1fr); } header, footer, .bad { grid-column: 1; } aside { display: block; overflow-y: auto; border-left: 0; border-top: 1px solid var(--line); } }
 @media (max-width: 500px) { :root { --num: 14px; } header, footer { padding: .2rem .4rem; gap: .25rem; } footer div { gap: .25rem; } button { min-width: 2em; padding: .1em .35em; } #what, .legend, .wordy { display: none; } #strip { height: 44px; } #strip text { font-size: 11px; } body { grid-template-rows: auto minmax(0, 1fr) minmax(0, 12rem) auto; } #goal { max-width: 9em; } }
 .sr { position: absolute; width: 1px; height: 1px; overflow: hidden; clip-path: inset(50%); }
@@ -248,7 +252,7 @@ const queue = (v, p) => queueAt(v, p).list;
 // the queues that may look otherwise than they were drawn
 let changed = new Set();
 // `back`: how many messages in queues were put back
-const zero = () => ({ sent: KINDS.map(() => 0), consumed: KINDS.map(() => 0), requeued: 0, queued: 0, back: 0 });
+const zero = () => ({ sent: KINDS.map(() => 0), bits: KINDS.map(() => 0), consumed: KINDS.map(() => 0), requeued: 0, queued: 0, back: 0 });
 let ledger = zero();
 const ASLEEP = { level: 0, name: null, phase: 'sleeping', find_count: 0, in_branch: null, best: null, probe: null, halted: false };
 // a link knows the marks of both its ends
@@ -265,6 +269,7 @@ function read(text) {
     if (to < 0) to = text.length;
     for (const o of JSON.parse('[' + text.slice(from, to).trim().replaceAll('\n', ',') + ']')) readLine(o);
   }
+  measure();
 }
 function readLine(o) {
   if ('step' in o) steps.push(o);
@@ -282,11 +287,21 @@ function readLine(o) {
     for (let v = 1; v <= o.nodes; v++) nodes[v] = { v, ports: [], marks: [], queues: [], ...ASLEEP };
   }
 }
-const message = (m, born, from, to, at) => ({ kind: m.kind, level: m.level, key: m.key, phase: m.phase, born, from, to, at, takes: NOTHING, backs: 0, done: 0, number: 0 });
+// how many bits a message has: 3 for its kind, those of its level and its key, one for a phase, one for whether a Report has a key
+const width = n => n.toString(2).length;
+let widths;
+function measure() {
+  // links come in key order, so the last one has the greatest weight; the highest level is the floor of log2 of the nodes
+  const number = width(G.nodes), weight = width(links.length ? links[links.length - 1].weight : 0);
+  widths = { number, weight, level: width(number - 1), key: 2 * number + weight };
+}
+const lengthOf = m => 3 + (m.level === undefined ? 0 : widths.level) + (m.key ? widths.key : 0) + (m.kind === 'initiate' || m.kind === 'report' ? 1 : 0);
+const message = (m, born, from, to, at) => ({ kind: m.kind, level: m.level, key: m.key, phase: m.phase, bits: lengthOf(m), born, from, to, at, takes: NOTHING, backs: 0, done: 0, number: 0 });
 
 // ---- one step on, one step back. Every value is one that the step carries; what it replaces is kept.
 let at, undo = [];
 const NONE = {}, NOTHING = [];
+const tally = (m, d) => { const k = KIND[m.kind]; ledger.sent[k] += d; ledger.bits[k] += d * m.bits; ledger.queued += d; };
 function on() {
   const s = steps[at], n = nodes[s.node], u = undo[at] = undo[at] || { set: NONE, sent: s.send.length ? s.send.map(x => message(x, s.step, s.node, x.to, x.at)) : NOTHING, taken: undefined, mark: undefined, number: 0, then: undefined };
   if (s.port !== null) {
@@ -297,14 +312,14 @@ function on() {
   }
   if (s.mark) { u.mark = n.marks[s.mark[0]]; setMark(n, ...s.mark); }
   for (const x in s.set) { if (u.set === NONE) u.set = {}; u.set[x] = n[x]; n[x] = s.set[x]; }
-  for (const m of u.sent) { const q = queueAt(m.to, m.at); q.list.push(m); changed.add(q); ledger.sent[KIND[m.kind]]++; ledger.queued++; }
+  for (const m of u.sent) { const q = queueAt(m.to, m.at); q.list.push(m); changed.add(q); tally(m, 1); }
   if (s.fate === 'waits' && !u.then) u.then = { level: n.level, phase: n.phase, mark: n.marks[s.port], find_count: n.find_count, probe: n.probe };
   at++;
 }
 function off() {
   at--;
   const s = steps[at], n = nodes[s.node], u = undo[at];
-  for (let k = u.sent.length; k--;) { const m = u.sent[k], q = queueAt(m.to, m.at); q.list.pop(); changed.add(q); ledger.sent[KIND[m.kind]]--; ledger.queued--; }
+  for (let k = u.sent.length; k--;) { const m = u.sent[k], q = queueAt(m.to, m.at); q.list.pop(); changed.add(q); tally(m, -1); }
   for (const x in u.set) n[x] = u.set[x];
   if (s.mark) setMark(n, s.mark[0], u.mark);
   if (s.port !== null) {
@@ -339,7 +354,7 @@ const lastBack = m => m.takes[m.backs - 1];
 const reasonOf = m => { const k = lastBack(m) - 1, row = steps[k].row; return REASON[row] ? REASON[row](m, undo[k].then) : row; };
 const listed = list => (list.length > 6 ? (list.length - 6) + ' before and ' : '') + list.slice(-6).join(', ');
 const backsOf = m => 'put back by event' + (m.backs > 1 ? 's ' : ' ') + listed(m.takes.slice(0, m.backs));
-const bornOf = m => words(m) + ' from node ' + m.from + ' to node ' + m.to + ', sent by event ' + m.born + ', number ' + m.number + ' of its chain';
+const bornOf = m => words(m) + ' from node ' + m.from + ' to node ' + m.to + ', sent by event ' + m.born + ', number ' + m.number + ' of its chain, ' + m.bits + ' bits';
 const storyOf = m => bornOf(m) + (m.backs ? '; ' + backsOf(m) + ': ' + reasonOf(m) : '') + '.';
 
 // ---- what the page adds: components of joined links, and curves over the whole run
@@ -364,9 +379,9 @@ function census() {
   // each fragment by its least node, and that of each node
   return { top, all, of };
 }
-// three numbers for each event, two, and for each node the events in which it does something
+// four numbers for each event, two, and for each node the events in which it does something
 let curve = [], before = [], doings = [], look = new Map(), clashes = new Map();
-const figures = i => [curve[3 * i], curve[3 * i + 1], curve[3 * i + 2]];
+const figures = i => curve.slice(4 * i, 4 * i + 4);
 function survey() {
   // once through the run: number of fragments, first sends, which names stand beside one another, who came before
   let count = G.nodes;
@@ -392,10 +407,10 @@ function survey() {
   };
   // chains: a message goes out with one more than its sender's number; who consumes it, or is woken by it, takes the greater
   const number = nodes.map(() => 0);
-  let longest = 0, sent = 0;
+  let longest = 0, sent = 0, most = 0;
   clashes = new Map();
   doings = nodes.map(() => []);
-  curve.push(count, 0, 0);
+  curve.push(count, 0, 0, 0);
   before.push(0, 0);
   for (const s of steps) {
     const slept = nodes[s.node].phase === 'sleeping';
@@ -406,7 +421,7 @@ function survey() {
     if (u.taken && (slept || s.fate !== 'waits')) number[s.node] = Math.max(number[s.node], u.taken.number);
     u.number = number[s.node];
     longest = Math.max(longest, u.number);
-    for (const m of u.sent) m.number = u.number + 1;
+    for (const m of u.sent) { m.number = u.number + 1; most = Math.max(most, m.bits); }
     before.push(lastAt[s.node] || 0, u.taken ? u.taken.born : 0);
     if (!idle(s)) doings[s.node].push(i);
     lastAt[s.node] = i;
@@ -414,7 +429,7 @@ function survey() {
     if (s.mark && s.mark[1] === 'branch') { const l = links[n.ports[s.mark[0]].link]; if (joined(l)) join(l); }
     if (s.set.level < u.set.level) { const r = root[s.node]; head[r] = 0; bands(r, members[r]); }
     else if (s.set.name || s.set.level) bands(root[s.node], [s.node]);
-    curve.push(count, s.total, longest);
+    curve.push(count, s.total, longest, most);
     sent += u.sent.length;
     if (s.total !== sent) throw Error('event ' + i + ' counts ' + s.total + ' first sends');
   }
@@ -884,7 +899,7 @@ function drawTime() {
   let h = '<defs>' + ['', 'past'].map(c => '<marker id="tip' + c + '" viewBox="0 0 8 8" refX="7" refY="4" markerWidth="' + (c ? 5 : 7) + '" markerHeight="' + (c ? 5 : 7) + '" orient="auto"><path d="M0 0L8 4L0 8Z" fill="var(--' + (c ? 'ink' : 'dim') + ')"/></marker>').join('') + '</defs>';
   for (const v of order) h += '<line class="lane" x1="' + left + '" x2="' + edgeR + '" y1="' + yOf.get(v) + '" y2="' + yOf.get(v) + '"/><text x="8" y="' + (yOf.get(v) + 5) + '"' + (pinned() === v ? ' font-weight="bold"' : '') + '>node ' + v + '</text>';
   if (xOf.has(at)) h += '<line class="nowline" x1="' + xOf.get(at) + '" x2="' + xOf.get(at) + '" y1="24" y2="' + H + '"/>';
-  const arrow = (cls, x0, y0, x1, y1, m, tx, ty) => '<path class="arrow ' + cls + '" marker-end="url(#tip' + (cls === 'past' ? 'past' : '') + ')" d="M' + x0 + ' ' + y0.toFixed(1) + 'L' + x1.toFixed(1) + ' ' + y1.toFixed(1) + '"><title>' + words(m) + ' from ' + m.from + ' to ' + m.to + '</title></path><text font-size="13" x="' + tx.toFixed(1) + '" y="' + ty.toFixed(1) + '">' + LETTER[m.kind] + '</text>';
+  const arrow = (cls, x0, y0, x1, y1, m, tx, ty) => '<path class="arrow ' + cls + '" marker-end="url(#tip' + (cls === 'past' ? 'past' : '') + ')" d="M' + x0 + ' ' + y0.toFixed(1) + 'L' + x1.toFixed(1) + ' ' + y1.toFixed(1) + '"><title>' + words(m) + ' from ' + m.from + ' to ' + m.to + ', ' + m.bits + ' bits</title></path><text font-size="13" x="' + tx.toFixed(1) + '" y="' + ty.toFixed(1) + '">' + LETTER[m.kind] + '</text>';
   for (const m of flights) {
     const y0 = yOf.get(m.from), y1 = yOf.get(m.to), x0 = xOf.get(m.born), inside = m.takes.filter(t => xOf.has(t)), hit = inside[0], x1 = xOf.get(hit);
     const early = m.takes.some(t => t < first) || (m.born < first && m.takes.length && m.takes[0] < hit), later = !m.done || m.done > end;
@@ -944,6 +959,7 @@ function choose(e) {
 const tables = {}, table = (id, html) => { if (tables[id] !== html) $(id).innerHTML = tables[id] = html; };
 let pin = 0;
 const pinned = () => pin;
+const LENGTHS = () => 'In bits; each message counts once, as it is sent. It has 3 bits for its kind, ' + widths.level + ' for a level and ' + widths.key + ' for a key, which is two nodes of ' + widths.number + ' and a weight of ' + widths.weight + '. An Initiate has one more for its phase, a Report one for whether it has a key.';
 function panel(c) {
   const s = stepNow(), u = s && undoNow();
   $('count').textContent = 'of ' + G.events;
@@ -959,7 +975,7 @@ function panel(c) {
     if (s.mark) ch.push('port ' + s.mark[0] + ': <span class="old">' + cap(u.mark) + '</span> &rarr; <b>' + cap(s.mark[1]) + '</b>');
     for (const x in s.set) ch.push(x + ': <span class="old">' + value(x, u.set[x]) + '</span> &rarr; <b>' + value(x, s.set[x]) + '</b>');
     if (!idle(s)) h += '<p>' + (ch.length ? ch.join('; ') + '.' : 'Nothing changes at the node.') + '</p>';
-    h += s.send.map((x, i) => '<p>Sends <b>' + words(x) + '</b> to node ' + x.to + ' on port ' + x.port + '.</p>').join('');
+    h += s.send.map((x, i) => '<p>Sends <b>' + words(x) + '</b>, ' + u.sent[i].bits + ' bits, to node ' + x.to + ' on port ' + x.port + '.</p>').join('');
     if (s.fate === 'waits') h += '<p>The message goes to the end of its queue' + (queue(s.node, s.port).length > 1 ? ', behind ' + (queue(s.node, s.port).length - 1) + ' more' : '') + '. It was sent by event ' + u.taken.born + ', and ' + backsOf(u.taken) + '.</p>';
     h += '<p class="time">Chain: ' + (u.taken ? 'message number ' + u.taken.number + ', ' : '') + 'node number ' + u.number + '.</p>';
     $('say').innerHTML = h;
@@ -977,10 +993,10 @@ function panel(c) {
   h += '</table>';
   n.ports.forEach((_, j) => { for (const m of queue(v, j)) if (m.backs) h += '<p class="waiter">' + storyOf(m) + '</p>'; });
   table('vars', h);
-  const total = ledger.sent.reduce((a, b) => a + b), max = G.bound;
-  h = '<div class="bar" role="img" aria-label="' + total + ' of ' + max + '"><i style="width:' + (max ? 100 * total / max : 0) + '%"></i></div><p>first sends <b>' + total + '</b>, bound ' + max + '</p><table class="wide"><tr><th></th>' + KINDS.map(k => '<th class="n" title="' + NAMES[k] + '"><span class="pill">' + LETTER[k] + '</span></th>').join('') + '</tr>';
-  for (const x of ['sent', 'consumed']) h += '<tr><th>' + x + '</th>' + ledger[x].map(y => td(y, 'n')).join('') + '</tr>';
-  table('ledger', h + '</table><p>in queues <b>' + ledger.queued + '</b>, of these put back <b>' + ledger.back + '</b>; requeued <b>' + ledger.requeued + '</b></p><p id="chain" title="A message goes out with one more than its sender\'s number; who consumes it, or is woken by it, takes the greater of the two.">longest chain of messages <b>' + figures(at)[2] + '</b> (in the whole run ' + figures(G.to)[2] + ')</p>');
+  const sum = list => list.reduce((a, b) => a + b), total = sum(ledger.sent), max = G.bound, ems = .64 * (8 + sum(ledger.bits.map(x => Math.max(2, String(x).length)))) + 2.6;
+  h = '<div class="bar" role="img" aria-label="' + total + ' of ' + max + '"><i style="width:' + (max ? 100 * total / max : 0) + '%"></i></div><p>first sends <b>' + total + '</b>, bound ' + max + '; <span id="bits" title="' + LENGTHS() + '">bits <b>' + sum(ledger.bits) + '</b></span></p><table class="wide" style="--ems:' + ems + '"><tr><th></th>' + KINDS.map(k => '<th class="n" title="' + NAMES[k] + '"><span class="pill">' + LETTER[k] + '</span></th>').join('') + '</tr>';
+  for (const x of ['sent', 'bits', 'consumed']) h += '<tr><th>' + x + '</th>' + ledger[x].map(y => td(y, 'n')).join('') + '</tr>';
+  table('ledger', h + '</table><p>in queues <b>' + ledger.queued + '</b>, of these put back <b>' + ledger.back + '</b>; requeued <b>' + ledger.requeued + '</b></p><p>longest: <span id="chain" title="A message goes out with one more than its sender\'s number; who consumes it, or is woken by it, takes the greater of the two.">chain <b>' + figures(at)[2] + '</b> (at the end ' + figures(G.to)[2] + ')</span>, <span id="long" title="' + LENGTHS() + '">message <b>' + figures(at)[3] + '</b> bits</span></p>');
   const fr = [...c.all.values()].sort((a, b) => b.nodes - a.nodes || a.least - b.least), many = fr.filter(f => f.nodes > 1);
   const tree = links.filter(branchy), halts = nodes.filter(x => x && x.halted).map(x => x.v);
     h = '<p><b>' + fr.length + '</b> of ' + G.nodes + ' at the start; Branch links ' + tree.length + ', weight ' + tree.reduce((a, l) => a + l.weight, 0) + (halts.length ? '; <b>halted: ' + halts.slice(0, 9).join(', ') + '</b>' : '') + '</p>';
@@ -989,7 +1005,7 @@ function panel(c) {
   table('census', h);
 }
 function strip() {
-  const box = $('strip').getBoundingClientRect(), W = box.width || 800, H = box.height || 84, n = curve.length / 3, x = i => 8 + (W - 16) * (n > 1 ? i / (n - 1) : 0), N = G.nodes, B = Math.max(G.bound, 1), half = H * .5;
+  const box = $('strip').getBoundingClientRect(), W = box.width || 800, H = box.height || 84, n = curve.length / 4, x = i => 8 + (W - 16) * (n > 1 ? i / (n - 1) : 0), N = G.nodes, B = Math.max(G.bound, 1), half = H * .5;
   // one point a half pixel is enough
   const path = (f, top, high) => {
     let d = '', last = '';
@@ -997,7 +1013,7 @@ function strip() {
     for (let k = 0; k < n; k += stepBy) { const i = Math.min(n - 1, Math.floor(k)); d += (d ? 'H' + x(i).toFixed(1) + (y(i) !== last ? 'V' + y(i) : '') : 'M' + x(i) + ' ' + y(i)); last = y(i); }
     return d + 'H' + x(n - 1).toFixed(1) + 'V' + y(n - 1);
   };
-  let h = '<g id="plots"><path class="plot" d="' + path(i => N > 1 ? (curve[3 * i] - 1) / (N - 1) : 0, 4, half - 8) + '"/><path class="plot b" d="' + path(i => curve[3 * i + 1] / B, half + 2, half - 10) + '"/><line class="lane" x1="8" x2="' + (W - 8) + '" y1="' + (half + 2) + '" y2="' + (half + 2) + '"/></g><text id="cap1" font-size="14" x="' + (W - 12) + '" y="18" text-anchor="end"></text><text id="cap2" font-size="14" x="14" y="' + (half + 16) + '"></text><g id="ticks"></g><line id="cursor" class="nowline" y1="0" y2="' + H + '" style="stroke-width:2.5;stroke-dasharray:none"/>';
+  let h = '<g id="plots"><path class="plot" d="' + path(i => N > 1 ? (curve[4 * i] - 1) / (N - 1) : 0, 4, half - 8) + '"/><path class="plot b" d="' + path(i => curve[4 * i + 1] / B, half + 2, half - 10) + '"/><line class="lane" x1="8" x2="' + (W - 8) + '" y1="' + (half + 2) + '" y2="' + (half + 2) + '"/></g><text id="cap1" font-size="14" x="' + (W - 12) + '" y="18" text-anchor="end"></text><text id="cap2" font-size="14" x="14" y="' + (half + 16) + '"></text><g id="ticks"></g><line id="cursor" class="nowline" y1="0" y2="' + H + '" style="stroke-width:2.5;stroke-dasharray:none"/>';
   $('strip').innerHTML = h;
   $('strip').setAttribute('viewBox', '0 0 ' + W + ' ' + H);
   strip.x = x;
@@ -1096,7 +1112,7 @@ const GOALS = [['node', 'events of the node'], ['frag', 'fragments merging'], ['
 function fits(s, goal) {
   switch (goal) {
     case 'node': return s.node === (pin || (stepNow() ? stepNow().node : 1)) && !($('skip').checked && idle(s));
-    case 'frag': return curve[3 * s.step] < curve[3 * s.step - 3];
+    case 'frag': return curve[4 * s.step] < curve[4 * s.step - 4];
     case 'level': return 'level' in s.set;
     case 'waits': return s.fate === 'waits';
     case 'wake': return s.set.phase !== undefined && undo[s.step - 1].set.phase === 'sleeping';
