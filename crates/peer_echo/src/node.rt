@@ -1,0 +1,27 @@
+//! A node of the echo wave, and what it is told.
+
+/// A message: the wave goes on, or has come back.
+#[derive(Clone, Copy, Debug, PartialEq, Eq)]
+pub enum Message {
+    /// Asks the far end to take part.
+    Explore,
+    /// All behind the sender have taken part.
+    Echo,
+}
+
+/// What changes at a node.
+#[derive(Clone, Copy, Debug, PartialEq, Eq)]
+pub struct Head {
+    pub awake: bool,
+    /// The port at which the wave came; none at a node that woke by itself.
+    pub parent: Option<u32>,
+    /// From how many ports no message has come yet, at a node that is awake.
+    pub awaits: u32,
+}
+
+/// A node: its number of ports, and its head.
+#[derive(Debug, Drop)]
+pub struct Node {
+    pub ports: u32,
+    pub head: Head,
+}

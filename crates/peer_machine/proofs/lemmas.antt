@@ -1,0 +1,7 @@
+-- What proofs about nets above this crate may use.
+pub mod Events
+pub mod Sends
+pub mod Runs
+pub mod Balance
+pub mod Counts
+pub mod Others

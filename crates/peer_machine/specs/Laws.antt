@@ -1,0 +1,43 @@
+-- What holds under any rules, in every run of every graph, as one fact a law.
+use Rattle.std.specs.Prelude.{◌≡◌, ◌≢◌, ◌↔◌, ℕ, ◌+◌, ◌≤◌, List, ◌++◌, Some}
+use Rattle.ghs_graph.specs.Graph.{Shape}
+use Rattle.ghs_protocol.specs.declared.event.Event.{Event}
+use Rattle.ghs_protocol.specs.Network.{Network, network_of, far, far_port}
+use Rattle.ghs_protocol.specs.Ledger.{takes_in}
+use Rattle.peer_machine.specs.Rules.{Rules, HasKinds}
+use Rattle.peer_machine.specs.Net.{Net, event_node, happens}
+use Rattle.peer_machine.specs.Run.{IsAfter, IsNetOf, IsLater}
+use Rattle.peer_machine.specs.Ledger.{IsBalanced, IsBalancedInAll, in_all}
+use Rattle.peer_machine.specs.Steps.{Happens}
+
+module _ {S M : Type 0} (r : Rules S M) where
+  -- the machine's step, as a relation
+  abbrev pub EventsHappenSo : Type 0
+  EventsHappenSo = (g : Network) (w w' : Net S M) (e : Event) → ((happens r g w e ≡ Some w') ↔ Happens r g w e w')
+
+  -- of each kind, what was sent was consumed or waits
+  abbrev pub KindsBalance : Type 0
+  KindsBalance = (g : Shape) (w : Net S M) → IsNetOf r g w → IsBalanced r (network_of g) w
+
+  -- the same over all kinds
+  abbrev pub LedgerBalances : Type 0
+  LedgerBalances = HasKinds r → (g : Shape) (w : Net S M) → IsNetOf r g w → IsBalancedInAll r (network_of g) w
+
+  -- no count ever falls
+  abbrev pub CountsStay : Type 0
+  CountsStay = (g : Shape) (w w' : Net S M) → IsLater r g w w' → (k : ℕ) → (w.sent k ≤ w'.sent k) × (w.consumed k ≤ w'.consumed k)
+
+  -- each take consumes one message, and a wake none
+  abbrev pub TakesAreCounted : Type 0
+  TakesAreCounted = HasKinds r → (g : Network) (es : List Event) (w : Net S M) → IsAfter r g es w → in_all r w.consumed ≡ takes_in es
+
+  -- an event changes no node but its own
+  abbrev pub OthersStay : Type 0
+  OthersStay = (g : Network) (w w' : Net S M) (e : Event) → Happens r g w e w' → (u : ℕ) → u ≢ event_node e → w'.node u ≡ w.node u
+
+  -- and no queue of another node but those at the far ends of its ports, to which it appends
+  abbrev pub OthersQueue : Type 0
+  OthersQueue =
+      (g : Network) (w w' : Net S M) (e : Event) → Happens r g w e w' → (u q : ℕ) → u ≢ event_node e →
+      (ms : List M) × (w'.queue u q ≡ w.queue u q ++ ms) ×
+      (((i : ℕ) → far g (event_node e) i ≡ u → far_port g (event_node e) i ≡ q → ⊥) → w'.queue u q ≡ w.queue u q)

@@ -1,0 +1,44 @@
+//! What holds under any rules, in every run of every graph. Each law is a function that does nothing; `S` is the type of a
+//! node's states, `M` that of messages.
+ghost use Rattle.peer_machine.specs.Rules.{Rules};
+ghost use Rattle.peer_machine.specs.Laws.{EventsHappenSo, KindsBalance, LedgerBalances, CountsStay, TakesAreCounted, OthersStay, OthersQueue};
+
+/// What an event does is what the relation says.
+pub fn law_events<S, M>()
+    ensures { (r : Rules S M) → EventsHappenSo r }
+{}
+
+/// Of each kind, what was sent was consumed or waits.
+pub fn law_kinds<S, M>()
+    ensures { (r : Rules S M) → KindsBalance r }
+{}
+
+/// Over all kinds, what was sent was consumed or waits.
+pub fn law_ledger<S, M>()
+    ensures { (r : Rules S M) → LedgerBalances r }
+{}
+
+/// No count of messages sent or consumed ever falls.
+pub fn law_counts<S, M>()
+    ensures { (r : Rules S M) → CountsStay r }
+{}
+
+/// Each take consumes one message, and a wake none.
+pub fn law_takes<S, M>()
+    ensures { (r : Rules S M) → TakesAreCounted r }
+{}
+
+/// An event changes no node but its own.
+pub fn law_others<S, M>()
+    ensures { (r : Rules S M) → OthersStay r }
+{}
+
+/// Of another node's queues an event changes those at the far ends of its node's ports alone, and only appends to them.
+///
+/// ```text
+/// law_queues::<State, Message>();
+/// // in a body: from here on its contract may be used by the proof, and the compiler leaves the call out
+/// ```
+pub fn law_queues<S, M>()
+    ensures { (r : Rules S M) → OthersQueue r }
+{}

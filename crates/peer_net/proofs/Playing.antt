@@ -1,0 +1,446 @@
+-- What a net keeps when an event is played.
+use Rattle.std.proofs.Common.{◌≡◌, ◌≢◌, ℕ, ◌+◌, ◌-◌, ◌<◌, ◌≤◌, ◌^◌, Bool, true, false, List, [], ◌∷◌, ◌++◌, length, get_or, set, cond, nat_lt, Option, Some, None, IsSome, is_some, refl, sym, ◌∙◌, ap, subst, ⊎_elim, arith, ltb-true}
+use Rattle.std.specs.List.{All}
+use Rattle.std.proofs.lemmas.Bool.{and_parts, cases_eq}
+use Rattle.std.proofs.lemmas.Option.{same_Some}
+use Rattle.std.proofs.lemmas.List.Elements.{All-nil, All-cons}
+use Rattle.std.proofs.lemmas.List.{length-set, get_or-set_same, get_or-set_other, get_or_default}
+use Rattle.ghs_graph.specs.Graph.{Shape}
+use Rattle.ghs_graph.specs.Ports.{ports_of}
+use Rattle.ghs_protocol.specs.declared.event.Event.{Event}
+use Rattle.ghs_protocol.specs.declared.event.Event.TheVariants as events
+use Rattle.ghs_protocol.specs.Network.{network_of, At}
+use Rattle.ghs_protocol.proofs.lemmas.Events.{node_of, at_of}
+use Rattle.ghs_protocol.proofs.lemmas.Graphs.{graph_wired}
+use Rattle.ghs_protocol.proofs.lemmas.Sums.{term_le}
+use Rattle.ghs_protocol.proofs.lemmas.Updates.{put_same, put_other}
+use Rattle.peer_machine.specs.declared.work.Work.{Work}
+use Rattle.peer_machine.specs.declared.work.Work.TheVariants.{Wake}
+use Rattle.peer_machine.specs.Rules.{Rules, Outcome, Outgoing, HasKinds}
+use Rattle.peer_machine.specs.Net.{Net, is_port, event_node, put, put_at, is_lawful, are_on_ports, reacted, send_all, take_first, if_reacted, takes_from, effect}
+use Rattle.peer_machine.specs.Run.{IsAfter, IsNetOf, net_after}
+use Rattle.peer_machine.specs.Ledger.{in_all}
+use Rattle.peer_machine.specs.Protocol.{HasRules, IsBoundedBy, FitsGraphs}
+use Rattle.peer_machine.specs.Steps.{Happens, Woke, Took}
+use Rattle.peer_machine.proofs.lemmas.Balance.{after_balanced, balanced_in_all}
+use Rattle.peer_machine.proofs.lemmas.Counts.{sent_in_all, taken_in_all, take_counts}
+use Rattle.peer_machine.proofs.lemmas.Runs.{after_is_net, after_more, net_after_more}
+use Rattle.peer_machine.proofs.lemmas.Sends.{nodes_put, sent_now, consumed_now}
+use Rattle.peer_net.specs.declared.counts.Counts.{Counts}
+use Rattle.peer_net.specs.NetState.{delivery, work_at}
+use Rattle.peer_net.specs.Queues.{Lists, HasQueue, queue_at, LeadToQueues, push_all}
+use Rattle.peer_net.specs.Counts.{CountsSends}
+use Rattle.peer_net.specs.Taking.{IsTake, WaitsAt, TakesFirst, TakesIn}
+use Rattle.peer_net.specs.Kept.{AreQueues, AreCounts, AreNodes, Shows, IsKept, no_node}
+use Rattle.peer_net.proofs.Showing.{has_queue, changed, shown_as, leads, pushed, alike, own_kept, taken_after}
+
+-- the first of what waits is taken, if anything waits
+abbrev first_taken : {S M : Type 0} → Rules S M → Shape → ℕ → ℕ → List M → Net S M → Net S M
+first_taken r g v p [] w = w
+first_taken r g v p (m ∷ ms) w = take_first r (network_of g) v p m ms w
+
+-- the net from which the message of an event is taken
+abbrev taken_net : {S M : Type 0} → Rules S M → Shape → Event → Net S M → Net S M
+taken_net r g (events.Wake v) w = w
+taken_net r g (events.Take v p) w = first_taken r g v p (w.queue v p) w
+
+module _ {S M : Type 0} (r : Rules S M) (g : Shape) where
+  pub lawful_node : (w : Net S M) (e : Event) → is_lawful r (network_of g) w e ≡ true → (1 ≤ event_node e) × (event_node e ≤ g.nodes)
+  lawful_node w (events.Wake v) h = node_of (network_of g) v (and_parts _ _ h).0
+  lawful_node w (events.Take v p) h = let at = at_of (network_of g) v p (and_parts _ _ h).0 in (at.some, at.node)
+
+  -- a reaction that led somewhere
+  some_reacted : {P : Type 0} (v : ℕ) (x : Option (Outcome S M)) (w : Net S M) → IsSome (if_reacted r (network_of g) v x w) →
+      ((o : Outcome S M) → x ≡ Some o → are_on_ports r (network_of g) v o.sends ≡ true → P) → P
+  some_reacted v None w h k = cc
+  some_reacted {P} v (Some o) w h k = go (are_on_ports r (network_of g) v o.sends) refl h
+    where
+      go : (b : Bool) → are_on_ports r (network_of g) v o.sends ≡ b → IsSome (cond b (Some (reacted r (network_of g) v o w)) None) → P
+      go true t z = k o refl t
+      go false t z = cc
+
+  -- the rule of an event that is lawful
+  module _ (w : Net S M) where
+    from_queue : {P : Type 0} (v p : ℕ) (q : List M) → IsSome (takes_from r (network_of g) w v p q) →
+        ((o : Outcome S M) → r.reaction (w.node v) (delivery p q) ≡ Some o → are_on_ports r (network_of g) v o.sends ≡ true → P) → P
+    from_queue v p [] h k = cc
+    from_queue v p (m ∷ ms) h k = some_reacted v _ _ h k
+
+    pub rule_of : {P : Type 0} (e : Event) → IsSome (effect r (network_of g) w e) →
+        ((o : Outcome S M) → r.reaction (w.node (event_node e)) (work_at w e) ≡ Some o →
+        are_on_ports r (network_of g) (event_node e) o.sends ≡ true → P) → P
+    rule_of (events.Wake v) h k = some_reacted v _ w h k
+    rule_of (events.Take v p) h k = from_queue v p (w.queue v p) h k
+
+    -- and what happens by it
+    took : (v p : ℕ) (q : List M) (o : Outcome S M) → At (network_of g) v p → w.queue v p ≡ q → nat_lt 0 (length q) ≡ true →
+        r.reaction (w.node v) (delivery p q) ≡ Some o → are_on_ports r (network_of g) v o.sends ≡ true →
+        Happens r (network_of g) w (events.Take v p) (reacted r (network_of g) v o (first_taken r g v p q w))
+    took v p [] o at e lt a t = absurd (let z = ltb-true 0 0 lt in omega (arith, z))
+    took v p (m ∷ ms) o at e lt a t = Took v p m ms o at e a t
+
+    pub happens_by : (e : Event) (o : Outcome S M) → is_lawful r (network_of g) w e ≡ true →
+        r.reaction (w.node (event_node e)) (work_at w e) ≡ Some o → are_on_ports r (network_of g) (event_node e) o.sends ≡ true →
+        Happens r (network_of g) w e (reacted r (network_of g) (event_node e) o (taken_net r g e w))
+    happens_by (events.Wake v) o h a t =
+        let b = and_parts _ _ h in let n = node_of (network_of g) v b.0 in Woke v o n.0 n.1 b.1 a t
+    happens_by (events.Take v p) o h a t =
+        let b = and_parts _ _ h in took v p (w.queue v p) o (at_of (network_of g) v p b.0) refl b.1 a t
+
+-- what a protocol promises of its rules
+pub record Promises {S M : Type 0} (r : Rules S M) (bound : Shape → ℕ) : Type 0 where
+  pub kinds : HasKinds r
+  pub rules : HasRules r
+  pub bounded : IsBoundedBy r bound
+  pub fits : FitsGraphs bound
+
+pub promises_of : {S M : Type 0} {r : Rules S M} {bound : Shape → ℕ} → HasKinds r → HasRules r → IsBoundedBy r bound → FitsGraphs bound →
+    Promises r bound
+promises_of k h b f = record { kinds = k; rules = h; bounded = b; fits = f }
+
+-- the events of a run so far, one more that is lawful, and the reaction to it
+pub record Plays {S M : Type 0} (r : Rules S M) (bound : Shape → ℕ) (g : Shape) (es : List Event) (states : List S) (q : Lists M) (c : Counts)
+    (e : Event) (o : Outcome S M) : Type 0 where
+  pub promises : Promises r bound
+  pub kept : IsKept r g es states q c
+  pub lawful : is_lawful r (network_of g) (net_after r g es) e ≡ true
+  pub answer : r.reaction ((net_after r g es).node (event_node e)) (work_at (net_after r g es) e) ≡ Some o
+
+module _ {S M : Type 0} {r : Rules S M} {g : Shape} {es : List Event} {states : List S} {q : Lists M} {c : Counts}
+    (kept : IsKept r g es states q c) where
+  pub after : IsAfter r (network_of g) es (net_after r g es)
+  after = after_is_net r g es kept.run
+
+  pub is_net : IsNetOf r g (net_after r g es)
+  is_net = record { graph = kept.graph; events = es; run = after }
+
+  -- a node in the fields is the net's
+  pub node_found : (v : ℕ) (x : S) → 1 ≤ v → v ≤ g.nodes → x ≡ get_or states (v - 1) x → x ≡ (net_after r g es).node v
+  node_found v x lo hi is =
+      let n = kept.shows.states.many in
+      is ∙ get_or_default states (v - 1) x (no_node r) (omega (arith, n)) ∙ kept.shows.states.each v lo hi
+
+  pub port_queue : (v p : ℕ) → At (network_of g) v p → HasQueue q v p
+  port_queue v p at = has_queue g kept.shows.queues v p at
+
+  -- an event that is lawful has a rule
+  pub has_reaction : {bound : Shape → ℕ} → Promises r bound → (e : Event) → is_lawful r (network_of g) (net_after r g es) e ≡ true →
+      IsSome (r.reaction ((net_after r g es).node (event_node e)) (work_at (net_after r g es) e))
+  has_reaction p e h = rule_of r g (net_after r g es) e (p.rules g _ is_net e h) (λ o a t. ap is_some a)
+
+-- what the code has found of an event that is lawful: its node, and what the event gives it to do
+module _ {S M : Type 0} {r : Rules S M} {bound : Shape → ℕ} {g : Shape} {es : List Event} {states : List S} {q : Lists M} {c : Counts}
+    (e : Event) (promises : Promises r bound) (kept : IsKept r g es states q c) (lawful : is_lawful r (network_of g) (net_after r g es) e ≡ true)
+    (n : ℕ) (is_node : n ≡ event_node e) where
+  pub node_low : 1 ≤ n
+  node_low = rw is_node (lawful_node r g (net_after r g es) e lawful).0
+
+  pub node_high : n ≤ g.nodes
+  node_high = rw is_node (lawful_node r g (net_after r g es) e lawful).1
+
+  pub node_inside : n - 1 < length states
+  node_inside = let m = kept.shows.states.many in omega (arith, m, node_low, node_high)
+
+  module _ (x : S) (is : x ≡ get_or states (n - 1) x) (k : Work M) (is_work : k ≡ work_at (net_after r g es) e) where
+    the_node : x ≡ (net_after r g es).node (event_node e)
+    the_node = node_found kept n x node_low node_high is ∙ ap (λ y. (net_after r g es).node y) is_node
+
+    pub can_react : IsSome (r.reaction x k)
+    can_react =
+        subst (λ y. IsSome (r.reaction y k)) (sym the_node)
+        (subst (λ z. IsSome (r.reaction ((net_after r g es).node (event_node e)) z)) (sym is_work) (has_reaction kept promises e lawful))
+
+    pub plays_of : (o : Outcome S M) → r.reaction x k ≡ Some o → Plays r bound g es states q c e o
+    plays_of o a = record {
+      promises = promises;
+      kept = kept;
+      lawful = lawful;
+      answer =
+          ap (λ y. r.reaction y (work_at (net_after r g es) e)) (sym the_node) ∙ ap (λ z. r.reaction x z) (sym is_work) ∙ a;
+    }
+
+module _ {S M : Type 0} {r : Rules S M} {bound : Shape → ℕ} {g : Shape} {es : List Event} {states : List S} {q : Lists M} {c : Counts}
+    {e : Event} {o : Outcome S M} (plays : Plays r bound g es states q c e o) where
+  abbrev w : Net S M
+  w = net_after r g es
+
+  abbrev v : ℕ
+  v = event_node e
+
+  kept : IsKept r g es states q c
+  kept = plays.kept
+
+  pub low : 1 ≤ event_node e
+  low = (lawful_node r g w e plays.lawful).0
+
+  pub high : event_node e ≤ g.nodes
+  high = (lawful_node r g w e plays.lawful).1
+
+  -- its messages go out on ports
+  on_ports : are_on_ports r (network_of g) v o.sends ≡ true
+  on_ports = rule_of r g w e (plays.promises.rules g w (is_net kept) e plays.lawful)
+      (λ x a t. subst (λ (y : Outcome S M). are_on_ports r (network_of g) v y.sends ≡ true) (same x a) t)
+    where
+      same : (x : Outcome S M) → r.reaction (w.node v) (work_at w e) ≡ Some x → x ≡ o
+      same x a = same_Some _ _ (sym a ∙ plays.answer)
+
+  abbrev next : Net S M
+  next = reacted r (network_of g) v o (taken_net r g e w)
+
+  pub happens : Happens r (network_of g) w e next
+  happens = happens_by r g w e o plays.lawful plays.answer on_ports
+
+  next_after : IsAfter r (network_of g) (es ++ e ∷ []) next
+  next_after = after_more r (network_of g) es e w next (after kept) happens
+
+  pub next_is : net_after r g (es ++ e ∷ []) ≡ next
+  next_is = net_after_more r g es e w next (after kept) happens
+
+  -- the counts after the event are below 2^64
+  next_few : in_all r next.sent < 2 ^ 64
+  next_few =
+      let a = plays.promises.bounded g next (record { graph = kept.graph; events = es ++ e ∷ []; run = next_after }) in
+      let b = plays.promises.fits g kept.graph in
+      omega (arith, a, b)
+
+  sent_same : (x : Event) → (taken_net r g x w).sent ≡ w.sent
+  sent_same (events.Wake u) = refl
+  sent_same (events.Take u p) = go (w.queue u p)
+    where
+      go : (l : List M) → (first_taken r g u p l w).sent ≡ w.sent
+      go [] = refl
+      go (m ∷ ms) = refl
+
+  node_same : (x : Event) → (taken_net r g x w).node ≡ w.node
+  node_same (events.Wake u) = refl
+  node_same (events.Take u p) = go (w.queue u p)
+    where
+      go : (l : List M) → (first_taken r g u p l w).node ≡ w.node
+      go [] = refl
+      go (m ∷ ms) = refl
+
+  next_sent : in_all r next.sent ≡ in_all r w.sent + length o.sends
+  next_sent =
+      sent_in_all r (network_of g) plays.promises.kinds v o (taken_net r g e w)
+      ∙ ap (λ (f : ℕ → ℕ). in_all r f + length o.sends) (sent_same e)
+
+  next_balance : in_all r next.consumed ≤ in_all r next.sent
+  next_balance =
+      let b = balanced_in_all r plays.promises.kinds (network_of g) next
+      (after_balanced r (network_of g) (graph_wired g kept.graph) (es ++ e ∷ []) next next_after) in
+      omega (arith, b)
+
+  pub lead : LeadToQueues q (ports_of g.keys v)
+  lead = leads r g kept.graph kept.shows.queues v low high
+
+  pub sends_on : All (λ (s : ℕ × M). s.0 < length (ports_of g.keys v)) o.sends
+  sends_on = all_on o.sends on_ports
+    where
+      all_on : (ss : Outgoing M) → are_on_ports r (network_of g) v ss ≡ true → All (λ (s : ℕ × M). s.0 < length (ports_of g.keys v)) ss
+      all_on [] t = All-nil (λ (s : ℕ × M). s.0 < length (ports_of g.keys v))
+      all_on (s ∷ ss) t =
+          let h = and_parts _ _ t in
+          All-cons (λ (s : ℕ × M). s.0 < length (ports_of g.keys v)) s ss (ltb-true s.0 _ h.0) (all_on ss h.1)
+
+  shows : Shows r g w states q c
+  shows = kept.shows
+
+  -- what may be counted
+  pub fits_sent : (k : ℕ) → k < r.kinds → get_or c.sent.items k 0 + length o.sends < 2 ^ 64
+  fits_sent k lt =
+      let a = shows.sent.each k lt in
+      let b : w.sent k ≤ in_all r w.sent = term_le r.kinds k w.sent lt in
+      omega (arith, a, b, next_sent, next_few)
+
+  pub fits_total : c.queued + length o.sends < 2 ^ 64
+  fits_total = let a = shows.queued in omega (arith, a, next_sent, next_few)
+
+  -- the message of an event that takes one
+  of_take : (P : Event → Type 0) → ((u p : ℕ) (m : M) (ms : List M) → At (network_of g) u p → w.queue u p ≡ m ∷ ms → P (events.Take u p)) →
+      ((u : ℕ) → P (events.Wake u)) → (x : Event) → is_lawful r (network_of g) w x ≡ true → P x
+  of_take P f k (events.Wake u) h = k u
+  of_take P f k (events.Take u p) h = go (w.queue u p) refl
+    where
+      go : (l : List M) → w.queue u p ≡ l → P (events.Take u p)
+      go [] z =
+          let b = (and_parts (is_port (network_of g) u p) (nat_lt 0 (length (w.queue u p))) h).1 in
+          absurd (let y = ltb-true 0 0 (ap (λ (t : List M). nat_lt 0 (length t)) (sym z) ∙ b) in omega (arith, y))
+      go (m ∷ ms) z = f u p m ms (at_of (network_of g) u p (and_parts (is_port (network_of g) u p) (nat_lt 0 (length (w.queue u p))) h).0) z
+
+  -- what an event consumes
+  abbrev consumes : Event → ℕ
+  consumes (events.Wake u) = 0
+  consumes (events.Take u p) = 1
+
+  taken_consumed : (x : Event) → is_lawful r (network_of g) w x ≡ true → in_all r (taken_net r g x w).consumed ≡ in_all r w.consumed + consumes x
+  taken_consumed =
+      of_take (λ x. in_all r (taken_net r g x w).consumed ≡ in_all r w.consumed + consumes x)
+      (λ u p m ms at z.
+      ap (λ (l : List M). in_all r (first_taken r g u p l w).consumed) z ∙ taken_in_all r (network_of g) plays.promises.kinds u p m ms w)
+      (λ u. omega arith)
+
+  next_consumed : in_all r next.consumed ≡ in_all r w.consumed + consumes e
+  next_consumed =
+      ap (λ (f : ℕ → ℕ). in_all r f) (consumed_now r (network_of g) v o (taken_net r g e w)) ∙ taken_consumed e plays.lawful
+
+  one : IsTake e → consumes e ≡ 1
+  one = go e
+    where
+      go : (x : Event) → IsTake x → consumes x ≡ 1
+      go (events.Wake u) z = absurd z
+      go (events.Take u p) z = refl
+
+  -- once the sends are counted
+  module _ (c' : Counts) (s : CountsSends r o.sends c c') where
+    pub fits_taken : IsTake e → (k : ℕ) → k < r.kinds → get_or c'.consumed.items k 0 + 1 < 2 ^ 64
+    fits_taken t k lt =
+        let a = ap (λ (l : List ℕ). get_or l k 0) s.consumed ∙ shows.consumed.each k lt in
+        let b : w.consumed k ≤ in_all r w.consumed = term_le r.kinds k w.consumed lt in
+        omega (arith, a, b, next_consumed, one t, next_balance, next_few)
+
+    pub some_queued : IsTake e → 0 < c'.queued
+    some_queued t =
+        let a = shows.queued in
+        let b = s.queued in
+        omega (arith, a, b, next_sent, next_consumed, one t, next_balance)
+
+    pub kinds_still : length c'.consumed.items ≡ r.kinds
+    kinds_still = ap (λ (l : List ℕ). length l) s.consumed ∙ shows.consumed.many
+
+  -- once they are out
+  abbrev q1 : Lists M
+  q1 = push_all (ports_of g.keys v) o.sends q
+
+  out : AreQueues g (send_all r (network_of g) v o.sends w).queue q1
+  out = pushed r g kept.graph v low high o.sends w q on_ports shows.queues
+
+  still_first : (u p : ℕ) → u ≡ v → At (network_of g) u p → queue_at q1 u p ≡ w.queue u p
+  still_first u p z at = out.queue u p at ∙ rw z (own_kept r g kept.graph v p low high o.sends w)
+
+  pub waits : WaitsAt e q1
+  waits = go e refl plays.lawful
+    where
+      go : (x : Event) → event_node x ≡ v → is_lawful r (network_of g) w x ≡ true → WaitsAt x q1
+      go (events.Wake u) z h = tt
+      go (events.Take u p) z h =
+          let b = and_parts _ _ h in
+          let at = at_of (network_of g) u p b.0 in
+          (has_queue g out u p at, subst (λ (l : List M). 0 < length l) (sym (still_first u p z at)) (ltb-true 0 _ b.1))
+
+  -- at the end
+  module _ (c' d : Counts) (q2 : Lists M) (s : CountsSends r o.sends c c') (t : TakesIn r e q1 q2 c' d) where
+    -- the node's own change touches no queue
+    as_reacted : (x : Net S M) (a b : ℕ) → (send_all r (network_of g) v o.sends x).queue a b ≡ (reacted r (network_of g) v o x).queue a b
+    as_reacted x a b = alike r g kept.graph v a b o.sends x (record x { node = put x.node v o.state }) refl
+
+    -- what the event has taken, if anything
+    takes : (P : Event → Type 0) →
+        ((u p : ℕ) (m : M) (ms : List M) → u ≡ v → At (network_of g) u p → w.queue u p ≡ m ∷ ms →
+        TakesFirst r u p m ms q1 q2 c' d → P (events.Take u p)) →
+        ((u : ℕ) → q2 ≡ q1 → d ≡ c' → P (events.Wake u)) →
+        P e
+    takes P f k =
+        of_take (λ y. event_node y ≡ v → TakesIn r y q1 q2 c' d → P y)
+        (λ u p m ms at l z x. f u p m ms z at l (x m ms (still_first u p z at ∙ l))) (λ u z x. k u x.0 x.1) e plays.lawful refl t
+
+    new_queues : AreQueues g next.queue q2
+    new_queues =
+        takes (λ x. AreQueues g (reacted r (network_of g) v o (taken_net r g x w)).queue q2)
+        (λ u p m ms z at l taken.
+        subst (λ x. AreQueues g (reacted r (network_of g) v o (first_taken r g u p x w)).queue q2) (sym l)
+        (subst (AreQueues g (reacted r (network_of g) v o (take_first r (network_of g) u p m ms w)).queue) (sym taken.queues)
+        (shown_as g (changed g out u p at ms ms refl) (λ a b k. swap u p m ms z at a b))))
+        (λ u x y. subst (AreQueues g (reacted r (network_of g) v o w).queue) (sym x) (shown_as g out (λ a b k. as_reacted w a b)))
+      where
+        swap : (u p : ℕ) (m : M) (ms : List M) → u ≡ v → At (network_of g) u p → (a b : ℕ) →
+            put_at (send_all r (network_of g) v o.sends w).queue u p ms a b ≡
+            (reacted r (network_of g) v o (take_first r (network_of g) u p m ms w)).queue a b
+        swap u p m ms z at a b =
+            rw z (taken_after r g kept.graph v p m ms o.sends w (subst (λ y. At (network_of g) y p) z at) a b)
+            ∙ as_reacted (take_first r (network_of g) u p m ms w) a b
+
+    sent_from : d.sent.items ≡ c'.sent.items → AreCounts r.kinds next.sent d.sent.items
+    sent_from z = record {
+      many = ap (λ (l : List ℕ). length l) z ∙ s.kinds ∙ shows.sent.many;
+      each = λ k lt.
+          let x = ap (λ (l : List ℕ). get_or l k 0) z in
+          let a = s.sent k lt in
+          let b = shows.sent.each k lt in
+          let n = sent_now r (network_of g) v o (taken_net r g e w) k in
+          let m = ap (λ (f : ℕ → ℕ). f k) (sent_same e) in
+          omega (arith, x, a, b, n, m);
+    }
+
+    new_sent : AreCounts r.kinds next.sent d.sent.items
+    new_sent =
+        takes (λ x. AreCounts r.kinds next.sent d.sent.items) (λ u p m ms z at l taken. sent_from taken.counts.sent)
+        (λ u x y. sent_from (ap (λ (n : Counts). n.sent.items) y))
+
+    new_consumed : AreCounts r.kinds next.consumed d.consumed.items
+    new_consumed =
+        takes (λ x. AreCounts r.kinds (reacted r (network_of g) v o (taken_net r g x w)).consumed d.consumed.items)
+        (λ u p m ms z at l taken.
+        subst (λ x. AreCounts r.kinds (reacted r (network_of g) v o (first_taken r g u p x w)).consumed d.consumed.items) (sym l) (record {
+          many = taken.counts.kinds ∙ kinds_still c' s;
+          each = λ k lt.
+              let a = taken.counts.consumed k lt in
+              let b = ap (λ (y : List ℕ). get_or y k 0) s.consumed in
+              let n = shows.consumed.each k lt in
+              let f = ap (λ (y : ℕ → ℕ). y k) (consumed_now r (network_of g) v o (take_first r (network_of g) u p m ms w)) in
+              let h = take_counts r (network_of g) u p m ms w k in
+              omega (arith, a, b, n, f, h);
+        }))
+        (λ u x y. record {
+          many = ap (λ (n : Counts). length n.consumed.items) y ∙ kinds_still c' s;
+          each = λ k lt.
+              let a = ap (λ (n : Counts). get_or n.consumed.items k 0) y in
+              let b = ap (λ (l : List ℕ). get_or l k 0) s.consumed in
+              let n = shows.consumed.each k lt in
+              let f = ap (λ (h : ℕ → ℕ). h k) (consumed_now r (network_of g) v o w) in
+              omega (arith, a, b, n, f);
+        })
+
+    new_queued : d.queued + in_all r next.consumed ≡ in_all r next.sent
+    new_queued =
+        let a = shows.queued in
+        let b = s.queued in
+        let x =
+        takes (λ x. d.queued + consumes x ≡ c'.queued) (λ u p m ms z at l taken. taken.counts.queued)
+        (λ u x y. let n = ap (λ (n : Counts). n.queued) y in omega (arith, n)) in
+        omega (arith, a, b, x, next_sent, next_consumed)
+
+    new_states : (l : List S) → l ≡ set states (v - 1) o.state → AreNodes r g next.node l
+    new_states l z = rw z (record {
+      many = length-set states (v - 1) o.state ∙ shows.states.many;
+      each = λ u lo hi. ⊎_elim (here u) (there u lo hi) (cases_eq u v);
+    })
+      where
+        inside : v - 1 < length states
+        inside = let n = shows.states.many in omega (arith, n, low, high)
+
+        now : (u : ℕ) → next.node u ≡ put w.node v o.state u
+        now u =
+            ap (λ (f : ℕ → S). f u) (nodes_put r (network_of g) v o (taken_net r g e w))
+            ∙ ap (λ (f : ℕ → S). put f v o.state u) (node_same e)
+
+        here : (u : ℕ) → u ≡ v → get_or (set states (v - 1) o.state) (u - 1) (no_node r) ≡ next.node u
+        here u z = rw z (get_or-set_same states (v - 1) o.state (no_node r) inside ∙ sym (now v ∙ put_same w.node v o.state))
+
+        there : (u : ℕ) → 1 ≤ u → u ≤ g.nodes → u ≢ v → get_or (set states (v - 1) o.state) (u - 1) (no_node r) ≡ next.node u
+        there u lo hi ne =
+            get_or-set_other states (v - 1) (u - 1) o.state (no_node r) (λ z. ne (omega (arith, z, lo, low)))
+            ∙ shows.states.each u lo hi ∙ sym (now u ∙ put_other w.node v u o.state ne)
+
+    -- the fields are those of the net after the event
+    pub keeps : (l : List S) → l ≡ set states (v - 1) o.state → IsKept r g (es ++ e ∷ []) l q2 d
+    keeps l z = record {
+      graph = kept.graph;
+      run = (next, next_after);
+      shows = rw next_is (record {
+        states = new_states l z;
+        queues = new_queues;
+        sent = new_sent;
+        consumed = new_consumed;
+        queued = new_queued;
+      });
+    }

@@ -1,0 +1,12 @@
+use Rattle.std.proofs.Common.{refl}
+use Rattle.peer_net.proofs.Reading.{told, within}
+use Rattle.peer_net.proofs.net.Net.ledger.Goals as goal
+
+pub returns-clause-counts : goal.returns-clause-counts
+returns-clause-counts g c =
+    rw (← c.self.view_is)
+    (told c.self.invariant g.met.P.Protocol.has_kinds _ c.as_slice.ensures.value c.as_slice-2.ensures.value refl)
+
+pub returns-clause-bound : goal.returns-clause-bound
+returns-clause-bound g c = rw (← c.self.view_is) (within c.self.invariant g.met.P.Protocol.is_bounded
+    (record { sent = c.as_slice.result; consumed = c.as_slice-2.result; queued = c.self.inside.counts.queued }) c.as_slice.ensures.value)

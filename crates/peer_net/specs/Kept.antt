@@ -1,0 +1,52 @@
+-- What the fields of a net keep.
+use Rattle.std.specs.Prelude.{◌≡◌, ℕ, ◌+◌, ◌-◌, ◌≤◌, ◌<◌, List, [], length, slice_index, slice_index_or}
+use Rattle.ghs_graph.specs.Graph.{Shape, IsGraph}
+use Rattle.ghs_graph.specs.Ports.{ports_of}
+use Rattle.ghs_protocol.specs.declared.event.Event.{Event}
+use Rattle.ghs_protocol.specs.Network.{network_of, At}
+use Rattle.peer_machine.specs.Rules.{Rules}
+use Rattle.peer_machine.specs.Net.{Net}
+use Rattle.peer_machine.specs.Run.{IsRun, net_after}
+use Rattle.peer_machine.specs.Ledger.{in_all}
+use Rattle.peer_net.specs.declared.counts.Counts.{Counts}
+use Rattle.peer_net.specs.Queues.{Lists, row_at, queue_at}
+
+-- a list for each port of each node of a graph, and what waits there
+pub record AreQueues {M : Type 0} (g : Shape) (waits : ℕ → ℕ → List M) (q : Lists M) : Type 0 where
+  pub count : length q ≡ g.nodes + 1
+  pub ports : (v : ℕ) → 1 ≤ v → v ≤ g.nodes → length (row_at q v) ≡ length (ports_of g.keys v)
+  pub queue : (v p : ℕ) → At (network_of g) v p → queue_at q v p ≡ waits v p
+
+-- a number for each kind
+pub record AreCounts (kinds : ℕ) (count : ℕ → ℕ) (list : List ℕ) : Type 0 where
+  pub many : length list ≡ kinds
+  pub each : (k : ℕ) → k < kinds → slice_index list k ≡ count k
+
+module _ {S M : Type 0} (r : Rules S M) where
+  -- stands where a list lookup wants a default
+  abbrev pub no_node : S
+  no_node = r.opening 0 []
+
+  -- the states of the nodes, of which the first is that of node 1
+  pub record AreNodes (g : Shape) (state : ℕ → S) (nodes : List S) : Type 0 where
+    pub many : length nodes ≡ g.nodes
+    pub each : (v : ℕ) → 1 ≤ v → v ≤ g.nodes → slice_index_or nodes (v - 1) no_node ≡ state v
+
+  -- all nodes of a graph, as they open
+  pub record AreOpen (g : Shape) (nodes : List S) : Type 0 where
+    pub graph : IsGraph g
+    pub states : AreNodes g (λ v. r.opening v (ports_of g.keys v)) nodes
+
+  -- nodes, queues and counts are those of the net
+  pub record Shows (g : Shape) (w : Net S M) (nodes : List S) (q : Lists M) (c : Counts) : Type 0 where
+    pub states : AreNodes g w.node nodes
+    pub queues : AreQueues g w.queue q
+    pub sent : AreCounts r.kinds w.sent c.sent.items
+    pub consumed : AreCounts r.kinds w.consumed c.consumed.items
+    pub queued : c.queued + in_all r w.consumed ≡ in_all r w.sent
+
+  -- the fields are those of the net after a run of the graph
+  pub record IsKept (g : Shape) (es : List Event) (nodes : List S) (q : Lists M) (c : Counts) : Type 0 where
+    pub graph : IsGraph g
+    pub run : IsRun r (network_of g) es
+    pub shows : Shows g (net_after r g es) nodes q c

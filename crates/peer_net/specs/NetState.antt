@@ -1,0 +1,39 @@
+-- What a net is seen as: a graph and the events that were played on it.
+use Rattle.std.specs.Prelude.{◌≡◌, ℕ, true, List, [], ◌∷◌}
+use Rattle.ghs_graph.specs.Graph.{Shape}
+use Rattle.ghs_protocol.specs.declared.event.Event.{Event}
+use Rattle.ghs_protocol.specs.declared.event.Event.TheVariants as events
+use Rattle.ghs_protocol.specs.Network.{Network, network_of, At}
+use Rattle.peer_machine.specs.declared.work.Work.{Work}
+use Rattle.peer_machine.specs.declared.work.Work.TheVariants.{Wake, Deliver}
+use Rattle.peer_machine.specs.Rules.{Rules}
+use Rattle.peer_machine.specs.Net.{Net, is_lawful}
+use Rattle.peer_machine.specs.Run.{net_after}
+
+pub record NetState : Type 0 where
+  pub graph : Shape
+  pub trace : List Event
+
+abbrev pub network : NetState → Network
+network s = network_of s.graph
+
+-- the machine's net after the events of the trace
+abbrev pub net_of : {S M : Type 0} → Rules S M → NetState → Net S M
+net_of r s = net_after r s.graph s.trace
+
+-- the event may happen
+abbrev pub IsLawful : {S M : Type 0} → Rules S M → NetState → Event → Type 0
+IsLawful r s e = is_lawful r (network s) (net_of r s) e ≡ true
+
+-- the work that an event brings to its node
+abbrev pub delivery : {M : Type 0} → ℕ → List M → Work M
+delivery p [] = Wake
+delivery p (m ∷ ms) = Deliver p m
+
+abbrev pub work_at : {S M : Type 0} → Net S M → Event → Work M
+work_at w (events.Wake v) = Wake
+work_at w (events.Take v p) = delivery p (w.queue v p)
+
+-- no message waits at any port
+abbrev pub IsSilent : {S M : Type 0} → Network → Net S M → Type 0
+IsSilent g w = (v p : ℕ) → At g v p → w.queue v p ≡ []

@@ -1,0 +1,52 @@
+//! Counts of messages.
+ghost use Rattle.std.specs.Prelude.{◌≡◌, ℕ, ◌+◌, ◌<◌, ◌^◌, length, replicate, slice_index, IfOk};
+ghost use Rattle.peer_net.specs.Counts.{AreNone, CountsSends, CountsTake};
+
+use peer_machine::protocol::Protocol;
+use std::alloc::{AllocError, Global};
+
+/// How many messages of each kind were sent and were consumed, and how many wait.
+#[derive(Debug, Drop)]
+pub struct Counts {
+    pub sent: Vec<u64>,
+    pub consumed: Vec<u64>,
+    pub queued: u64,
+}
+
+impl Counts {
+    /// None of each kind.
+    pub fn none(alloc: Global, kinds: usize) -> Result<Counts, AllocError>
+        ensures { IfOk result (AreNone kinds) }
+    {
+        Ok(Counts {
+            sent: vec![in alloc; 0u64; kinds]?,
+            consumed: vec![in alloc; 0u64; kinds]?,
+            queued: 0,
+        })
+    }
+}
+
+/// Counts messages that are sent.
+pub fn count_sends<P: Protocol>(counts: &mut Counts, sends: &[(u32, P::Message)])
+    requires kinds { length counts.old.sent.items ≡ P.rules.kinds }
+    requires fits { (k : ℕ) → k < P.rules.kinds → slice_index counts.old.sent.items k + length sends.now < 2 ^ 64 }
+    requires total { counts.old.queued + length sends.now < 2 ^ 64 }
+    ensures { CountsSends P.rules sends.now counts.old counts.new }
+{
+    for i in 0..sends.len() {
+        let (_, message) = sends[i];
+        counts.sent[P::kind(message)] += 1;
+        counts.queued += 1;
+    }
+}
+
+/// Counts a message that is consumed.
+pub fn count_take<P: Protocol>(counts: &mut Counts, message: P::Message)
+    requires kinds { length counts.old.consumed.items ≡ P.rules.kinds }
+    requires fits { (k : ℕ) → k < P.rules.kinds → slice_index counts.old.consumed.items k + 1 < 2 ^ 64 }
+    requires waits { 0 < counts.old.queued }
+    ensures { CountsTake P.rules message counts.old counts.new }
+{
+    counts.consumed[P::kind(message)] += 1;
+    counts.queued -= 1;
+}

@@ -1,0 +1,47 @@
+//! The parts of an opening net.
+ghost use Rattle.std.specs.Prelude.{◌≡◌, ℕ, IfOk};
+ghost use Rattle.peer_net.specs.Kept.{AreOpen};
+ghost use Rattle.peer_net.specs.Queues.{AreEmptyFor};
+ghost use Rattle.peer_net.specs.Counts.{AreNone};
+
+use crate::counts::Counts;
+use crate::queues::Queues;
+use ghs_graph::graph::Graph;
+use peer_machine::protocol::Protocol;
+use std::alloc::{AllocError, Global};
+
+/// All nodes, all queues, and the counts.
+#[derive(Drop)]
+pub struct Parts<P: Protocol> {
+    pub nodes: Vec<P::Node>,
+    pub queues: Queues<P::Message>,
+    pub counts: Counts,
+}
+
+/// The parts of the opening net of a graph.
+pub fn open_parts<P: Protocol>(alloc: Global, graph: &Graph) -> Result<Parts<P>, AllocError>
+    ensures nodes { IfOk result (λ p. AreOpen P.rules graph.now p.nodes.items) }
+    ensures queues { IfOk result (λ p. AreEmptyFor graph.now p.queues) }
+    ensures counts { IfOk result (λ p. AreNone P.rules.kinds p.counts) }
+{
+    let nodes = open_nodes::<P>(alloc, graph)?;
+    let queues = Queues::empty(alloc, graph)?;
+    let counts = Counts::none(alloc, P::kinds())?;
+    Ok(Parts {
+        nodes,
+        queues,
+        counts,
+    })
+}
+
+/// All nodes, as they open.
+fn open_nodes<P: Protocol>(alloc: Global, graph: &Graph) -> Result<Vec<P::Node>, AllocError>
+    ensures { IfOk result (λ n. AreOpen P.rules graph.now n.items) }
+{
+    let count = graph.nodes();
+    let mut nodes = Vec::with_capacity(alloc, count as usize)?;
+    for i in 0..count {
+        nodes.push(P::open(alloc, i + 1, graph.ports(i + 1))?)?;
+    }
+    Ok(nodes)
+}
