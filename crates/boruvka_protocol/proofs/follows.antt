@@ -1,0 +1,19 @@
+-- What follows from the invariant, of one net: each lemma is of the form `Holds g w → ..`.
+pub mod Cases
+pub mod Ways
+pub mod Seen
+pub mod Tree
+pub mod Goes
+pub mod Rules
+pub mod Descent
+pub mod Quiet
+pub mod Silence
+pub mod Halt
+pub mod Order
+pub mod Ordered
+pub mod Called
+pub mod Told
+pub mod Entered
+pub mod Orders
+pub mod OrderKept
+pub mod Laws

@@ -1,0 +1,3 @@
+-- Facts of a graph's levels that are used of the protocol.
+pub mod Chosen
+pub mod UpOnce
