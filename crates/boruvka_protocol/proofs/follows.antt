@@ -1,4 +1,4 @@
--- What follows from the invariant, of one net: each lemma is of the form `Holds g w → ..`.
+-- What follows from the invariant: of one net, as `Holds g w → ..`; OrderKept and Laws, of each net of a run, where all of them keep it.
 pub mod Cases
 pub mod Ways
 pub mod Seen

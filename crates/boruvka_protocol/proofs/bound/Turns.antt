@@ -2,7 +2,6 @@
 use Rattle.std.proofs.Common.{◌≡◌, ◌⊎◌, ℕ, zero, suc, ◌+◌, ◌<◌, ◌≤◌, ◌==◌, nat_lt, Bool, true, false, Option, Some, None, List, [], ◌∷◌, ◌++◌, length, inl, inr, refl, sym, ◌∙◌, ap, subst, cond, arith, eq-eqb, eqb-true, ltb-true, length-set}
 use Rattle.std.specs.Prelude.{slice_index_or, count_by}
 use Rattle.std.proofs.lemmas.List.Sums.{sum_by-cons}
-use Rattle.std.proofs.lemmas.Bool.{and_parts}
 use Rattle.ghs_graph.specs.declared.key.Key.{Key}
 use Rattle.ghs_node.specs.Words.{is_at, best_key}
 use Rattle.peer_machine.specs.Ledger.{of_kind}
@@ -23,11 +22,12 @@ use Rattle.boruvka_node.specs.State.{State, no_port, degree, port_at, mark_at, s
 use Rattle.boruvka_node.specs.Entering.{joined_mark, entered, told_as, told_from}
 use Rattle.boruvka_node.specs.Reaction.{Outcome, is_over, rested, woken, heard, reported, and_then, wakes, connect, name, asleep, reaction}
 use Rattle.boruvka_node.specs.Boruvka.{boruvka}
-use Rattle.boruvka_protocol.proofs.follows.Cases.{searching_is}
 use Rattle.boruvka_protocol.proofs.rows.Table.{said, still, sends_one, gone, core_entry, call_entry, Moving, Passes, Goes, Closing, Goes_on, Reports, Halts, Moves, Connecting, Connects, Enters, Meeting, Waits, Begins, Going, Goes_out, Meets, Waking, Alone, Wakes, Row, Noted, Met, Late, Called, Named, Told, Moved}
 use Rattle.boruvka_protocol.proofs.rows.Read.{read_if, read_says, no_outcome, waking, row_of}
 use Rattle.boruvka_protocol.proofs.rows.Grows.{entered_many, sleeping_tells}
 use Rattle.boruvka_protocol.proofs.rows.Ports.{port_entered}
+use Rattle.boruvka_protocol.proofs.rows.ClosingNet.{over_search, over_none}
+use Rattle.boruvka_protocol.proofs.follows.Told.{out_at}
 
 -- how many of a kind go out
 abbrev pub sent_of : ℕ → Outcome → ℕ
@@ -114,20 +114,6 @@ module _ (k : ℕ) (no_call : (1 == k) ≡ false) (no_name : (2 == k) ≡ false)
 
 -- Tests.
 
-over_search : (n : State) → is_over n ≡ true → n.head.phase ≡ Search
-over_search n over = searching_is n.head.phase (and_parts _ _ over).0
-
-over_missing : (n : State) → is_over n ≡ true → ◌≡◌ {A = ℕ} (missing n) 0
-over_missing n over = eqb-true (missing n) 0 (and_parts _ _ over).1
-
--- a node that has gone out over a port
-out_at : (n : State) (j : ℕ) → is_at n.head.out j ≡ true → n.head.out ≡ Some j
-out_at n j = go n.head.out
-  where
-    go : (q : Option ℕ) → is_at q j ≡ true → q ≡ Some j
-    go None e = cc
-    go (Some p) e = ap (λ x. Some x) (eqb-true p j e)
-
 some_none : {P A : Type 0} (x : A) → Some x ≡ None → P
 some_none x e = cc
 
@@ -162,7 +148,7 @@ module _ (n : State) (p : ℕ) (out : n.head.out ≡ Some p) (lt : p < degree n)
       many = entered_many (core_entry n p) 0 n.ports
 
   never_over : {P : Type 0} → is_over (entered n (core_entry n p)) ≡ true → P
-  never_over over = absurd (omega (arith, lacks, over_missing (entered n (core_entry n p)) over))
+  never_over over = absurd (omega (arith, lacks, over_none (entered n (core_entry n p)) over))
 
   core_goes_on : (o : Outcome) → Closing Connecting (entered n (core_entry n p)) o → still (entered n (core_entry n p)) ≡ o
   core_goes_on _ (Goes_on b) = refl

@@ -1,5 +1,5 @@
 -- The invariant at the opening: everybody sleeps, and nothing waits.
-use Rattle.std.proofs.Common.{◌≡◌, ℕ, inl, ⊎_elim, true, false, Some, None, List, length, refl, sym, ◌∙◌, ap, subst, arith}
+use Rattle.std.proofs.Common.{◌≡◌, ℕ, inl, true, false, List, length, refl, sym, ◌∙◌, ap, subst, arith}
 use Rattle.std.proofs.lemmas.List.{get_or-replicate}
 use Rattle.ghs_graph.specs.declared.key.Key.{Key}
 use Rattle.ghs_graph.specs.Graph.{Shape, IsGraph}
@@ -13,11 +13,12 @@ use Rattle.boruvka_node.specs.declared.port_state.PortState.{PortState}
 use Rattle.boruvka_node.specs.State as state
 use Rattle.boruvka_node.specs.State.{State, sleeper, fresh_port, no_port}
 use Rattle.boruvka_node.specs.Boruvka.{boruvka}
-use Rattle.boruvka_protocol.proofs.invariant.Words.{IsPast, IsName}
+use Rattle.boruvka_protocol.proofs.invariant.Words.{IsName}
 use Rattle.boruvka_protocol.proofs.invariant.TreeMessages.{Nothing}
 use Rattle.boruvka_protocol.proofs.invariant.Token.{Place, IsTokenAt, In_message, Gone_out, Gone_on, At_end}
 use Rattle.boruvka_protocol.proofs.invariant.Whole.{LinksFit, Fits, Holds}
 use Rattle.boruvka_protocol.proofs.every_run.Ground.{ground_opening}
+use Rattle.boruvka_protocol.proofs.rows.Woken.{nowhere_out, asleep_past}
 
 -- no two of these are one
 basic_branch : {P : Type 0} → Basic ≡ Branch → P
@@ -35,15 +36,8 @@ asleep_search e = cc
 asleep_rest : {P : Type 0} → Sleeping ≡ Rest → P
 asleep_rest e = cc
 
-none_some : {P A : Type 0} (x : A) → None ≡ Some x → P
-none_some x e = cc
-
 false_true : {P : Type 0} → false ≡ true → P
 false_true e = cc
-
--- nobody at level 0 is past a level asleep
-not_past : {P : Type 0} (m : ℕ) → IsPast m 0 Sleeping → P
-not_past m h = ⊎_elim (λ lt. absurd (omega (arith, lt))) (λ b. asleep_rest b.1) h
 
 module _ (ks : List Key) (g : Network) where
   -- a port of a sleeper
@@ -70,7 +64,7 @@ module _ (ks : List Key) (g : Network) where
         near = λ b. (omega arith, omega arith);
         rest = λ r. asleep_rest r;
       };
-      connects = record { asked = λ e. basic_asked (sym mark ∙ e); out = λ e. none_some p e };
+      connects = record { asked = λ e. basic_asked (sym mark ∙ e); out = λ e. nowhere_out p e };
       calls = Nothing;
       children = record { child = λ h. absurd h.up.link; parent = λ h. absurd h.up.link };
       owes = record {
@@ -95,7 +89,7 @@ module _ (ks : List Key) (g : Network) where
 
   no_token : (l u : ℕ) (place : Place) → IsTokenAt ks g (opening boruvka g) l u place → ⊥
   no_token l u _ (In_message p at e lt) = omega (arith, lt)
-  no_token l u _ (Gone_out p at e out) = none_some p out
+  no_token l u _ (Gone_out p at e out) = nowhere_out p out
   no_token l u _ (Gone_on k lt least end) = omega (arith, lt)
   no_token l u _ (At_end e halted) = false_true halted
 
@@ -109,7 +103,7 @@ module _ (ks : List Key) (g : Network) where
     tokens = record {
       halted = λ v here h. false_true h;
       one = λ l v here proper. record {
-        some = λ past. not_past l past.past;
+        some = λ past. asleep_past l past.past;
         one = λ s t. absurd (no_token l s.node s.place s.at);
         none = λ t. absurd (no_token l t.node t.place t.at);
       };

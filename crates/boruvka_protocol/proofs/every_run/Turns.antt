@@ -1,6 +1,6 @@
 -- Each row of the table keeps the invariant: what a reaction does is cut into acts, each from one net to the next.
-use Rattle.std.proofs.Common.{◌≡◌, ◌≢◌, ℕ, suc, ◌≤◌, nat_lt, true, false, Option, Some, None, List, [], ◌∷◌, ◌++◌, refl, sym, ◌∙◌, ap, subst, arith, append-nil, eq-eqb, eqb-true, ⊎_elim}
-use Rattle.std.proofs.lemmas.Bool.{both_ways, eqb-false, cases_eq}
+use Rattle.std.proofs.Common.{◌≡◌, ◌≢◌, ℕ, suc, nat_lt, true, false, Option, Some, List, [], ◌∷◌, ◌++◌, refl, sym, ◌∙◌, ap, subst, arith, append-nil, eq-eqb, eqb-true}
+use Rattle.std.proofs.lemmas.Bool.{both_ways, eqb-false}
 use Rattle.std.proofs.lemmas.Option.{same_Some}
 use Rattle.ghs_graph.specs.declared.key.Key.{Key}
 use Rattle.ghs_graph.specs.Graph.{Shape, IsGraph}
@@ -15,7 +15,7 @@ use Rattle.peer_machine.specs.Rules.{Outgoing}
 use Rattle.peer_machine.specs.Net.{Net, put, reacted, take_first}
 use Rattle.boruvka_node.specs.declared.change.Entry.{Entry}
 use Rattle.boruvka_node.specs.declared.mark.Mark.{Mark}
-use Rattle.boruvka_node.specs.declared.mark.Mark.TheVariants.{Basic, Asked, Branch, Inside}
+use Rattle.boruvka_node.specs.declared.mark.Mark.TheVariants.{Asked}
 use Rattle.boruvka_node.specs.declared.message.Message.{Message}
 use Rattle.boruvka_node.specs.declared.message.Message.TheVariants.{Connect, Initiate, ChangeRoot}
 use Rattle.boruvka_node.specs.declared.message.Phase.TheVariants.{Sleeping, Search, Rest}
@@ -24,12 +24,11 @@ use Rattle.boruvka_node.specs.State.{State, sleeper, key_at, mark_at, set_mark, 
 use Rattle.boruvka_node.specs.Entering.{entered, told_from}
 use Rattle.boruvka_node.specs.Reaction.{Outcome, is_over, rested, halted, woken, heard, reported}
 use Rattle.boruvka_node.specs.Boruvka.{boruvka}
-use Rattle.boruvka_protocol.proofs.invariant.Sides.{at_port}
-use Rattle.boruvka_protocol.proofs.invariant.Whole.{LinkFits, Ground, Fits, NearlyFits}
+use Rattle.boruvka_protocol.proofs.invariant.Whole.{Ground, Fits, NearlyFits}
 use Rattle.boruvka_protocol.proofs.rows.Table.{still, gone, adopted, core_entry, call_entry, Moving, Passes, Goes, Closing, Goes_on, Reports, Halts, Moves, Connecting, Connects, Waking, Alone, Wakes, Enters, Waits, Begins, Going, Goes_out, Meets, Row, Noted, Met, Late, Called, Named, Told, Moved}
 use Rattle.boruvka_protocol.proofs.rows.Grows.{Wakes_up, grows_on, grows_port, grows_rested, grows_gone, grows_reported, grows_entered, grows_woken, search_awake, rest_awake}
 use Rattle.boruvka_protocol.proofs.rows.Acts.{Acts, acts_woken, acts_taken}
-use Rattle.boruvka_protocol.proofs.rows.Between.{acts_between, acts_left, same_fits}
+use Rattle.boruvka_protocol.proofs.rows.Between.{acts_on, same_fits}
 use Rattle.boruvka_protocol.proofs.rows.Unasked.{Unmet, Unasked, entered_unasked, closes_unasked}
 use Rattle.boruvka_protocol.proofs.rows.Asked.{noted_fits}
 use Rattle.boruvka_protocol.proofs.rows.Adopted.{late_fits}
@@ -48,22 +47,13 @@ use Rattle.boruvka_protocol.proofs.rows.Halting.{wakes_alone}
 use Rattle.boruvka_protocol.proofs.rows.Took.{acts_took, took}
 use Rattle.boruvka_protocol.proofs.rows.Passing.{passes_fits}
 use Rattle.boruvka_protocol.proofs.rows.Waking.{wakes_fits}
-use Rattle.boruvka_protocol.proofs.follows.Cases.{searching_is}
+use Rattle.boruvka_protocol.proofs.follows.Cases.{searching_is, asked_is}
+use Rattle.boruvka_protocol.proofs.follows.Told.{out_at}
 use Rattle.boruvka_protocol.proofs.every_run.Ground.{ground_reacted, ground_taken, taken_empty, sleeper_level}
 
 -- a node has gone out on another port, or not at all
 not_out : (o : Option ℕ) (j : ℕ) → is_at o j ≡ false → o ≡ Some j → ⊥
 not_out o j other e = both_ways (is_at o j) other (subst (λ x. is_at x j ≡ true) (sym e) (eq-eqb j j refl))
-
-is_out : (o : Option ℕ) (j : ℕ) → is_at o j ≡ true → o ≡ Some j
-is_out None j e = cc
-is_out (Some p) j e = ap (λ (x : ℕ). Some x) (eqb-true p j e)
-
-asked_is : (m : Mark) → is_asked m ≡ true → m ≡ Asked
-asked_is Basic e = cc
-asked_is Asked e = refl
-asked_is Branch e = cc
-asked_is Inside e = cc
 
 module _ (gr : Shape) (ok : IsGraph gr) where
   abbrev g : Network
@@ -87,14 +77,11 @@ module _ (gr : Shape) (ok : IsGraph gr) where
       subst (λ l. IsOfLevel gr.keys l x) level (h.nodes x net (λ s. searches_awake (sym searching ∙ s))).class in
       let top = classes_have_one_top gr ok (suc (w.node v).head.level) x class in
       h.tokens.none (token_gone_on gr w ok (λ u i at. let k = h.links u i at in record { marks = k.marks; children = k.children })
-      (λ u at lo. (h.nodes u at (λ s. asleep u lo s)).class)
+      (λ u at lo. (h.nodes u at (λ s. let z = sleeper_level h.ground u s in omega (arith, lo, z))).class)
       (w.node v).head.level v x top.0 top.1 class inside net level searching).0
     where
       searches_awake : Search ≡ Sleeping → ⊥
       searches_awake e = cc
-
-      asleep : (u : ℕ) → 1 ≤ (w.node u).head.level → (w.node u).head.phase ≡ Sleeping → ⊥
-      asleep u lo s = let z = sleeper_level h.ground u s in omega (arith, lo, z)
 
   -- goes out where no Connect has come, or as the greater end of a core
   outs_fits : (w w' : Net State Message) (v : ℕ) → InNetwork g v → (h : AboutToMove gr.keys g w v) → is_branch (mark_at (w.node v) h.best.0) ≡ false →
@@ -103,8 +90,10 @@ module _ (gr : Shape) (ok : IsGraph gr) where
       Acts g w w' v (gone (w.node v) h.best.0) (w.queue v) ((h.best.0, Connect (w.node v).head.level) ∷ []) → Ground g w' → Fits gr.keys g w'
   outs_fits w w' v here h plain greater a ground =
       moves_out gr ok w v here h w' plain
-      (λ e. is_greater gr ok v h.best.0 (w.node v) (h.ground.nodes v) (out_port gr ok w v here h plain).at
-      (greater (ap (λ (x : Mark). is_asked x) e))) a ground
+      (λ e.
+      is_greater gr ok v h.best.0 (w.node v) (h.ground.nodes v) (out_port gr ok w v here h plain).at
+      (greater (ap (λ (x : Mark). is_asked x) e)))
+      a ground
 
   module _ (G : State → ℕ → Outcome → Type 0) (goes : GoesRight G) where
     moving_fits : (w w' : Net State Message) (v : ℕ) (o : Outcome) → InNetwork g v → (h : AboutToMove gr.keys g w v) →
@@ -123,8 +112,7 @@ module _ (gr : Shape) (ok : IsGraph gr) where
         moving_fits mid w' v o here h
         (subst (λ (x : State). Moving G x h.best.0 o) (sym first.node)
         (subst (λ (y : ℕ × Key). Moving G (rested (w.node v)) y.0 o) (sym same) m))
-        (acts_left g mid w' v o.state (w.queue v) (mid.queue v) o.sends (λ i at. sym (first.queue i at))
-        (acts_between g w mid w' v (rested (w.node v)) o.state (w.queue v) (w.queue v) [] o.sends first a))
+        (acts_on g w mid w' v (rested (w.node v)) o.state (w.queue v) [] o.sends first a)
         ground
 
     ends_fits : (w w' : Net State Message) (v : ℕ) (o : Outcome) → InNetwork g v → NearlyFits gr.keys g w v → is_over (w.node v) ≡ true →
@@ -146,8 +134,7 @@ module _ (gr : Shape) (ok : IsGraph gr) where
       ended_fits o over c a = ends_fits mid w' v o here near
           (subst (λ (x : State). is_over x ≡ true) (sym first.node) over)
           (subst (λ (x : State). Closing G x o) (sym first.node) c)
-          (acts_left g mid w' v o.state own (mid.queue v) o.sends (λ i at. sym (first.queue i at))
-          (acts_between g w mid w' v n o.state own own ss o.sends first a))
+          (acts_on g w mid w' v n o.state own ss o.sends first a)
           ground
 
       closes_fits : (o : Outcome) → Closing G n o → Acts g w w' v o.state own (ss ++ o.sends) → Fits gr.keys g w'
@@ -172,12 +159,6 @@ module _ (gr : Shape) (ok : IsGraph gr) where
       closes_fits Unmet unmet_right w mid w' v (entered n e) own ss here near first ground o
       (closes_unasked (entered n e) (entered_unasked n e) o c) a
 
-  -- the link at port i of u, in the net x
-  abbrev LinkOf : Net State Message → ℕ → ℕ → Type 0
-  LinkOf x u i =
-      LinkFits gr.keys g u i (at_port (x.node u) i) (at_port (x.node (far g u i)) (far_port g u i)) (x.queue u i)
-      (x.queue (far g u i) (far_port g u i))
-
   -- the lesser end of a core has gone out, and enters: all holds but that it may wait for nothing
   core_nearly : (w w' : Net State Message) (v : ℕ) → InNetwork g v → (h : AboutToMove gr.keys g w v) →
       is_branch (mark_at (w.node v) h.best.0) ≡ false → is_asked (mark_at (w.node v) h.best.0) ≡ true →
@@ -192,32 +173,10 @@ module _ (gr : Shape) (ok : IsGraph gr) where
       let mid = reacted boruvka g v out w in
       let first : Acts g w mid v n (w.queue v) out.sends = acts_woken g wired w v out in
       let o = out_port gr ok w v here h plain in
-      let x = at_core gr ok w mid v p o.at (holding gr ok w v here h) o.basic (least_out gr ok w v here h o) first (gone_node gr ok w v here h o.at)
-      (asked_is (mark_at (w.node v) p) asked) (is_lesser gr ok v p (w.node v) (h.ground.nodes v) o.at t)
-      (ground_reacted g w w v out h.ground refl (grows_gone (w.node v) p, λ s. resting (sym h.rest ∙ s)) wired here (λ u q at ne z. z)) in
       core_after gr ok w mid w' v p n (w.queue v) out.sends
-      (record {
-        at = x.at;
-        out = x.out;
-        asked = x.asked;
-        rest = x.rest;
-        less = x.less;
-        least = x.least;
-        ground = x.ground;
-        nodes = x.nodes;
-        links = λ u i at apart. ⊎_elim
-            (λ (z : u ≡ v). ⊎_elim
-            (λ ne. absurd (ne z))
-            (λ ne. subst (λ y. LinkOf mid y i) (sym z) (x.near i (subst (λ y. At g y i) z at) ne))
-            apart)
-            (λ ne. x.there u i at ne)
-            (cases_eq u v);
-        end = x.end;
-        children = x.children;
-        search = x.search;
-        lacks = x.lacks;
-        tokens = x.tokens;
-      })
+      (at_core gr ok w mid v p o.at (holding gr ok w v here h) o.basic (least_out gr ok w v here h o) first (gone_node gr ok w v here h o.at)
+      (asked_is (mark_at (w.node v) p) asked) (is_lesser gr ok v p (w.node v) (h.ground.nodes v) o.at t)
+      (ground_reacted g w w v out h.ground refl (grows_gone (w.node v) p, λ s. resting (sym h.rest ∙ s)) wired here (λ u q at ne z. z)))
       first a ground
     where
       resting : Rest ≡ Sleeping → ⊥
@@ -301,8 +260,7 @@ module _ (gr : Shape) (ok : IsGraph gr) where
       let same : h.best ≡ b = same_Some _ _ (sym h.is ∙ e) in
       moving_fits Going going_right mid w' v o (record { some = at.some; node = at.node }) h
       (subst (λ (y : ℕ × Key). Moving Going (w.node v) y.0 o) (sym same) move)
-      (acts_left g mid w' v o.state own (mid.queue v) o.sends (λ i there. sym (first.queue i there))
-      (acts_between g w mid w' v (w.node v) o.state own own [] o.sends first a))
+      (acts_on g w mid w' v (w.node v) o.state own [] o.sends first a)
       ground
 
   pub row_fits : (w w' : Net State Message) (v j : ℕ) (m : Message) (ms : List Message) (o : Outcome) → At g v j → Fits gr.keys g w →
@@ -315,11 +273,11 @@ module _ (gr : Shape) (ok : IsGraph gr) where
       (taken_ground w w' v j m ms at fits q ground n [] (grows_port (w.node v) j _, up))) a
   row_fits w w' v j m ms _ at fits up q (Met {l} e out (Waits t)) a ground =
       let n = set_mark (w.node v) j Asked in
-      taken_fits w w' v j m ms at fits q ground n [] (met_waits gr ok w v j l ms at fits q e (is_out (w.node v).head.out j out) t) a
+      taken_fits w w' v j m ms at fits q ground n [] (met_waits gr ok w v j l ms at fits q e (out_at (w.node v) j out) t) a
   row_fits w w' v j m ms _ at fits up q (Met {l} e out (Begins t (Enters {o} top c))) a ground =
       let n = set_mark (w.node v) j Asked in
       taken_enters w w' v j m ms at fits q ground n (core_entry n j) o
-      (met_begins gr ok w v j l ms at fits q e (is_out (w.node v).head.out j out) t) c a
+      (met_begins gr ok w v j l ms at fits q e (out_at (w.node v) j out) t) c a
   row_fits w w' v j m ms _ at fits up q (Late {l} e basic s) a ground =
       let ss : Outgoing Message = (j, Initiate (w.node v).head.level (name_of (w.node v).head)) ∷ [] in
       taken_fits w w' v j m ms at fits q ground (adopted (w.node v) j) ss

@@ -28,10 +28,10 @@ use Rattle.boruvka_protocol.proofs.rows.Acts.{Acts}
 use Rattle.boruvka_protocol.proofs.follows.Seen.{SeenAt, SeenBackAt, seen, seen_back, node_fits}
 use Rattle.boruvka_protocol.proofs.follows.Order.{OrderFits, OrderAt, Ordered}
 use Rattle.boruvka_protocol.proofs.follows.Ordered.{order_more, tells_basic, only_names}
-use Rattle.boruvka_protocol.proofs.follows.Told.{port_in, Fares, Stays, Rises, out_at}
+use Rattle.boruvka_protocol.proofs.follows.Told.{port_in, Fares, Stays, Rises}
 use Rattle.boruvka_protocol.proofs.follows.Entered.{name_within, chose_another, led_out, order_entered, order_joined}
 
--- a node that isn't called has a level of its class, be it asleep
+-- each node's level is that of its class, be it asleep
 pub level_of : (g : Shape) (w : Net State Message) → Holds g w → (v : ℕ) → InNetwork (network_of g) v →
     IsOfLevel g.keys (w.node v).head.level v
 level_of g w h v net = ⊎_elim
@@ -87,7 +87,7 @@ module _ (g : Shape) (w w' : Net State Message) (h : Holds g w) (h' : Holds g w'
       (up : e.level ≡ suc (w.node v).head.level) (sends : o.sends ≡ before ++ (told_from e 0 xs ++ behind))
       (none_before : (i : ℕ) → names_in (sent_on before i) ≡ []) (none_behind : (i : ℕ) → names_in (sent_on behind i) ≡ [])
       (elsewhere : (i : ℕ) → e.out ≢ Some i → sent_on before i ≡ [])
-      (out : (p : ℕ) → e.out ≡ Some p → ((port_in xs p).mark ≡ Asked) ⊎ C p) where
+      (out : (p : ℕ) → is_at e.out p ≡ true → ((port_in xs p).mark ≡ Asked) ⊎ C p) where
     port_now : (i : ℕ) → At net v i → port_in o.state.ports i ≡ entered_port e i (port_in xs i)
     port_now i at = ap (λ ys. port_in ys i) ports ∙ port_entered n e i (within i at)
 
@@ -103,7 +103,7 @@ module _ (g : Shape) (w w' : Net State Message) (h : Holds g w) (h' : Holds g w'
         (order_entered g.keys v (far net v i) e i (port_in xs i) (own i) (mid i at) joins inside)
       where
         joins : is_at e.out i ≡ true → names_in (own i) ≡ []
-        joins t = ⊎_elim (λ a. (mid i at).asked a) (λ c. called i at c) (out i (out_at e.out i t))
+        joins t = ⊎_elim (λ a. (mid i at).asked a) (λ c. called i at c) (out i t)
 
         inside : (entered_port e i (port_in xs i)).mark ≡ Inside → InClass g.keys e.level v (far net v i)
         inside z = subst (λ l. InClass g.keys l v (far net v i)) level_now ((seen g w' h' v i at).marks.inside (mark_now i at ∙ z)).0

@@ -51,7 +51,15 @@ pub data Fares (C : ℕ → Type 0) (xs : List PortState) (l : ℕ) (o : Outcome
   Stays : o.state.ports ≡ xs → TellsNone o.sends → Fares C xs l o
   Rises : (e : Entry) (before behind : Outgoing Message) → o.state.ports ≡ entered_from e 0 xs → o.state.head.level ≡ e.level → e.level ≡ suc l →
       o.sends ≡ before ++ (told_from e 0 xs ++ behind) → TellsNone before → TellsNone behind → ((i : ℕ) → e.out ≢ Some i → sent_on before i ≡ []) →
-      ((p : ℕ) → e.out ≡ Some p → ((port_in xs p).mark ≡ Asked) ⊎ C p) → Fares C xs l o
+      ((p : ℕ) → is_at e.out p ≡ true → ((port_in xs p).mark ≡ Asked) ⊎ C p) → Fares C xs l o
+
+-- a node that has gone out over a port
+pub out_at : (n : State) (j : ℕ) → is_at n.head.out j ≡ true → n.head.out ≡ Some j
+out_at n j = go n.head.out
+  where
+    go : (q : Option ℕ) → is_at q j ≡ true → q ≡ Some j
+    go None e = cc
+    go (Some p) e = ap (λ x. Some x) (eqb-true p j e)
 
 -- the ports stay, and the level, and no Name goes out
 record Plain (n : State) (o : Outcome) : Type 0 where
@@ -73,15 +81,15 @@ module _ (C : ℕ → Type 0) where
   meeting_fares n p before _ asked out none there (Begins b (Enters {o} top h)) =
       let x = plain_closing (entered n (core_entry n p)) o h in
       Rises (core_entry n p) before o.sends x.ports x.level refl refl none x.sends there
-      (λ q same. inl (subst (λ y. mark_at n y ≡ Asked) (one p q (sym out ∙ same)) asked))
+      (λ q same. inl (subst (λ y. mark_at n y ≡ Asked) (one p q (sym out ∙ out_at n q same)) asked))
     where
       one : (a b : ℕ) → Some a ≡ Some b → a ≡ b
       one a b e = cc
 
   going_fares : (n : State) (p : ℕ) (o : Outcome) → Going n p o → Fares C n.ports n.head.level o
   going_fares n p o (Goes_out t) = Stays refl (one_none p _ refl)
-  going_fares n p _ (Meets {o} t h) = meeting_fares (gone n p) p ((p, Connect n.head.level) ∷ []) o (asked_is (mark_at n p) t) refl
-      (one_none p _ refl)
+  going_fares n p _ (Meets {o} t h) =
+      meeting_fares (gone n p) p ((p, Connect n.head.level) ∷ []) o (asked_is (mark_at n p) t) refl (one_none p _ refl)
       (λ i ne. elsewhere p (Connect n.head.level) i (λ z. ne (ap (λ x. Some x) z))) h
 
   moving_fares : (n : State) (p : ℕ) (o : Outcome) → Moving Going n p o → Fares C n.ports n.head.level o
@@ -166,19 +174,18 @@ heard_mark k l name f Asked e = cc
 heard_mark k l name f Branch e = cc
 heard_mark k l name f Inside e = cc
 
-heard_taken : (n : State) (j k : ℕ) (f : Key) (lt : j < degree n) →
-    Taken_at n.head.level n.head.name (Name k f) (port_at n j) (port_at (heard n j k f) j)
-heard_taken n j k f lt = subst (Taken_at n.head.level n.head.name (Name k f) (port_at n j))
-    (sym (get_or-set_same n.ports j (record (port_at n j) {
-      level = k;
-      name = Some f;
-      mark = cond (((k == n.head.level) && is_name n.head.name f) && is_basic (mark_at n j)) Inside (mark_at n j);
-    }) no_port lt))
-    (Name_taken k f refl refl (heard_mark k n.head.level n.head.name f (mark_at n j)))
+-- a port that has heard
+abbrev heard_port : State → ℕ → ℕ → Key → PortState
+heard_port n j k f =
+    let own = (k == n.head.level) && is_name n.head.name f in
+    record (port_at n j) { level = k; name = Some f; mark = cond (own && is_basic (mark_at n j)) Inside (mark_at n j) }
 
-pub out_at : (q : Option ℕ) (j : ℕ) → is_at q j ≡ true → q ≡ Some j
-out_at None j e = cc
-out_at (Some p) j e = ap (λ x. Some x) (eqb-true p j e)
+heard_taken : (n : State) (j k : ℕ) (f : Key) → j < degree n →
+    Taken_at n.head.level n.head.name (Name k f) (port_at n j) (port_at (heard n j k f) j)
+heard_taken n j k f lt = subst
+    (Taken_at n.head.level n.head.name (Name k f) (port_at n j))
+    (sym (get_or-set_same n.ports j (heard_port n j k f) no_port lt))
+    (Name_taken k f refl refl (heard_mark k n.head.level n.head.name f (mark_at n j)))
 
 heard_reacts : (C : ℕ → Type 0) (n : State) (j k : ℕ) (f : Key) (o : Outcome) → j < degree n → Fares C (heard n j k f).ports n.head.level o →
     Reacts C n.ports n.head.level n.head.name j (Name k f) o
@@ -202,14 +209,14 @@ row_reacts n j m o lt (Noted {l} e t) =
 row_reacts n j m o lt (Met {l} e t h) =
     set_reacts (CalledOut n m) n.ports n.head.level n.head.name j m o (record (port_at n j) { mark = Asked }) lt
     (asked_taken n.head.level l n.head.name _ _ refl)
-    (meeting_fares (CalledOut n m) (set_mark n j Asked) j [] o (asked_set n j lt) (out_at n.head.out j t) (λ i. refl) (λ i ne. refl) h)
+    (meeting_fares (CalledOut n m) (set_mark n j Asked) j [] o (asked_set n j lt) (out_at n j t) (λ i. refl) (λ i ne. refl) h)
 row_reacts n j m o lt (Late {l} e t s) =
     set_reacts (CalledOut n m) n.ports n.head.level n.head.name j m o (record (port_at n j) { mark = Branch; owes = true }) lt
     (Call_taken (connect_call l) branch_no_basic branch_no_inside) (Stays refl (one_none j _ refl))
 row_reacts n j m _ lt (Called {l} {f} r e (Enters {o} top h)) =
     let x = plain_closing (entered n (call_entry n j l f)) o h in
     kept_reacts (CalledOut n m) n.ports n.head.level n.head.name j m (said (told_from (call_entry n j l f) 0 n.ports) o) (λ c. cc)
-    (Rises (call_entry n j l f) [] o.sends x.ports x.level e refl (λ i. refl) x.sends (λ i ne. refl) (λ p same. inr (same, (l, f, refl))))
+    (Rises (call_entry n j l f) [] o.sends x.ports x.level e refl (λ i. refl) x.sends (λ i ne. refl) (λ p same. inr (out_at n p same, (l, f, refl))))
 row_reacts n j m o lt (Named {l} {f} t h) =
     heard_reacts (CalledOut n m) n j l f o lt (closing_fares (CalledOut n m) (heard n j l f) o h)
 row_reacts n j m o lt (Told {k} t h) =
@@ -243,7 +250,7 @@ module _ (C : ℕ → Type 0) (n : State) (j : ℕ) (lt : j < degree n) where
       (Stays refl (one_none 0 _ refl))
   up_met k y (Met e t h) =
       set_reacts C n.ports 0 n.head.name j (Connect k) _ (record (port_at n j) { mark = Asked }) lt (asked_taken 0 k n.head.name _ _ refl)
-      (meeting_fares C (set_mark (up n) j Asked) j ((0, Connect 0) ∷ []) y (asked_set n j lt) (out_at (Some 0) j t) (one_none 0 _ refl)
+      (meeting_fares C (set_mark (up n) j Asked) j ((0, Connect 0) ∷ []) y (asked_set n j lt) (out_at (up n) j t) (one_none 0 _ refl)
       (λ i ne. elsewhere 0 (Connect 0) i (λ z. ne (ap (λ x. Some x) z))) h)
   up_met k y (Late e t s) = absurd (omega (arith, e))
 

@@ -43,6 +43,12 @@ acts_left g w w' v n own left ss same a = record {
   queues = a.queues;
 }
 
+-- where both leave the same at v's ports
+pub acts_on : (g : Network) (w mid w' : Net State Message) (v : ℕ) (n n' : State) (own : ℕ → List Message) (ss ts : Outgoing Message) →
+    Acts g w mid v n own ss → Acts g w w' v n' own (ss ++ ts) → Acts g mid w' v n' (mid.queue v) ts
+acts_on g w mid w' v n n' own ss ts a b =
+    acts_left g mid w' v n' own (mid.queue v) ts (λ i at. sym (a.queue i at)) (acts_between g w mid w' v n n' own own ss ts a b)
+
 -- An act by which nothing changes.
 module _ (gr : Shape) (ok : IsGraph gr) (w w' : Net State Message) (v : ℕ) (here : InNetwork (network_of gr) v)
     (a : Acts (network_of gr) w w' v (w.node v) (w.queue v) []) where
@@ -76,8 +82,7 @@ pub same_fits : (gr : Shape) → IsGraph gr → (w x w' : Net State Message) (v 
     InNetwork (network_of gr) v → Acts (network_of gr) w x v n own ss → Acts (network_of gr) w w' v n own ss → Fits gr.keys (network_of gr) x →
     Ground (network_of gr) w' → Fits gr.keys (network_of gr) w'
 same_fits gr ok w x w' v n own ss here a b fits ground = still_fits gr ok x w' v here
-    (acts_left (network_of gr) x w' v (x.node v) own (x.queue v) [] (λ i at. sym (a.queue i at))
-    (subst (λ (y : State). Acts (network_of gr) x w' v y own []) (sym a.node)
-    (acts_between (network_of gr) w x w' v n n own own ss [] a
-    (subst (λ (y : Outgoing Message). Acts (network_of gr) w w' v n own y) (sym (append-nil ss)) b))))
+    (subst (λ (y : State). Acts (network_of gr) x w' v y (x.queue v) []) (sym a.node)
+    (acts_on (network_of gr) w x w' v n n own ss [] a
+    (subst (λ (y : Outgoing Message). Acts (network_of gr) w w' v n own y) (sym (append-nil ss)) b)))
     fits ground

@@ -150,8 +150,8 @@ module _ (gr : Shape) (ok : IsGraph gr) (w : Net State Message) (v j a : ℕ) (c
   joined = ⊎_elim in_class (λ o. joins_out (w.node v) c (Some j) j (mark_at (w.node v) j) o) call.over
     where
       in_class : Taken gr.keys l k → joined_mark (entry (w.node v) c (Some j)) j (mark_at (w.node v) j) ≡ Branch
-      in_class t = joins (entry (w.node v) c (Some j)) j (mark_at (w.node v) j)
-          (inl (by_branch (mark_at (w.node v) j) (λ b. b) (λ ne. late l refl t ne)))
+      in_class t =
+          joins (entry (w.node v) c (Some j)) j (mark_at (w.node v) j) (inl (by_branch (mark_at (w.node v) j) (λ b. b) (λ ne. late l refl t ne)))
         where
           late : {P : Type 0} (x : ℕ) → l ≡ x → Taken gr.keys x k → mark_at (w.node v) j ≢ Branch → P
           late zero e t ne = absurd t

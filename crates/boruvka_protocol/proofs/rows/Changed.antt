@@ -115,13 +115,8 @@ module _ (ks : List Key) (g : Network) where
       token_to t = record { node = t.node; place = t.place; inside = t.inside; in_network = t.in_network; at = at_to t.node t.place t.inside t.at }
 
       pub token_from : Token ks g w' l v → Token ks g w l v
-      token_from t = record {
-        node = t.node;
-        place = t.place;
-        inside = t.inside;
-        in_network = t.in_network;
-        at = at_from t.node t.place t.inside t.at;
-      }
+      token_from t =
+          record { node = t.node; place = t.place; inside = t.inside; in_network = t.in_network; at = at_from t.node t.place t.inside t.at }
 
       pub tokens_changed : (RootIsPast ks g w l v → RootIsPast ks g w' l v) → (RootIsPast ks g w' l v → RootIsPast ks g w l v) →
           TokenFits ks g w l v → TokenFits ks g w' l v

@@ -1,5 +1,5 @@
--- A search ends: with a parent the node reports, and all clauses hold; a root without a way out halts, and all hold; a root with one is
--- about to move.
+-- A search ends: with a parent the node reports, and all clauses hold; a root without a way out halts, and all hold; a root with one
+-- is about to move.
 use Rattle.std.proofs.Common.{◌≡◌, ◌≢◌, ℕ, ◌<◌, inl, inr, ⊎_elim, Bool, true, false, Option, None, Some, [], ◌∷◌, refl, sym, ◌∙◌, ap, subst, arith}
 use Rattle.std.proofs.lemmas.Bool.{cases_eq, both_ways}
 use Rattle.ghs_graph.specs.declared.key.Key.{Key}

@@ -1,5 +1,5 @@
 -- A search ends: what that keeps at each link of the node, from both its ends. The node n stands at port p of v, and its far end has m.
-use Rattle.std.proofs.Common.{◌≡◌, ◌≢◌, ◌⊎◌, ℕ, zero, suc, ◌<◌, ◌≤◌, inl, inr, ⊎_elim, Bool, true, false, Option, None, List, [], ◌∷◌, refl, sym, ◌∙◌, subst, arith}
+use Rattle.std.proofs.Common.{◌≡◌, ◌≢◌, ◌⊎◌, ℕ, suc, ◌<◌, ◌≤◌, inl, inr, ⊎_elim, Bool, true, false, Option, None, List, [], ◌∷◌, refl, sym, ◌∙◌, subst, arith}
 use Rattle.ghs_graph.specs.declared.key.Key.{Key}
 use Rattle.ghs_levels.specs.Levels.{Taken}
 use Rattle.ghs_node.specs.Words.{Best}
@@ -22,6 +22,7 @@ use Rattle.boruvka_protocol.proofs.rows.Leaving.{AreEnds, joined_ends}
 use Rattle.boruvka_protocol.proofs.rows.Late.{search_rest}
 use Rattle.boruvka_protocol.proofs.rows.Told.{false_true}
 use Rattle.boruvka_protocol.proofs.rows.Noted.{basic_no_branch}
+use Rattle.ghs_protocol.proofs.lemmas.Nodes.{node_before}
 
 -- the search is over: the node is at rest with its best, and perhaps has halted
 abbrev pub closed_at : AtPort → Best → Bool → AtPort
@@ -32,10 +33,6 @@ branch_or Basic = inr (λ x. cc)
 branch_or Asked = inr (λ x. cc)
 branch_or Branch = inl refl
 branch_or Inside = inr (λ x. cc)
-
-below_of : (x : ℕ) → 1 ≤ x → (i : ℕ) × (x ≡ suc i)
-below_of zero lt = absurd (omega (arith, lt))
-below_of (suc i) lt = (i, refl)
 
 -- From v's end: no Report is owed there, and a Basic port was heard at the node's level.
 module _ (ks : List Key) (g : Network) (v p : ℕ) (b : Best) (halted : Bool) (n m : AtPort) (q r r' : List Message) (h : LinkFits ks g v p n m q r)
@@ -63,7 +60,7 @@ module _ (ks : List Key) (g : Network) (v p : ℕ) (b : Best) (halted : Bool) (n
   -- so each link that is taken is Branch
   pub taken_branch : Taken ks n.head.level k → n.port.mark ≡ Branch
   taken_branch t =
-      ⊎_elim (λ x. x) (λ ne. let i = below_of n.head.level lo in absurd (not_late i.0 i.1 t ne)) (branch_or n.port.mark)
+      ⊎_elim (λ x. x) (λ ne. let i = node_before n.head.level lo in absurd (not_late i.0 i.1 t ne)) (branch_or n.port.mark)
 
   -- and each child has reported
   pub child_heard : IsWayUp ks n.head.level (far g v p) k → HasReported n.head.level m.head.level m.head.phase (calls_in q)

@@ -18,8 +18,7 @@ use Rattle.peer_machine.specs.Net.{Net}
 use Rattle.boruvka_node.specs.declared.mark.Mark.TheVariants.{Branch}
 use Rattle.boruvka_node.specs.declared.message.Message.{Message}
 use Rattle.boruvka_node.specs.declared.message.Message.TheVariants.{Connect, Initiate, Name, Report, ChangeRoot}
-use Rattle.boruvka_node.specs.declared.message.Phase.{Phase}
-use Rattle.boruvka_node.specs.declared.message.Phase.TheVariants.{Sleeping, Search, Rest}
+use Rattle.boruvka_node.specs.declared.message.Phase.TheVariants.{Search, Rest}
 use Rattle.boruvka_node.specs.Words.{is_search}
 use Rattle.boruvka_node.specs.State.{State, missing, least_basic}
 use Rattle.boruvka_node.specs.Reaction.{is_over, own_best}
@@ -39,6 +38,7 @@ use Rattle.boruvka_protocol.proofs.rows.Changed.{SaysIn, searches_changed}
 use Rattle.boruvka_protocol.proofs.rows.ClosingLinks.{closed_at, closed_near, closed_away, calls_away, empty_there, report_there}
 use Rattle.boruvka_protocol.proofs.rows.ClosingBest.{paid_at, heard_there}
 use Rattle.boruvka_protocol.proofs.rows.ClosingSub.{node_here, level_lo, ends_of, reported_of, best_is_sub}
+use Rattle.boruvka_protocol.proofs.follows.Cases.{searching_is}
 
 -- the search is over: the node is at rest with its best, and perhaps has halted
 abbrev pub closed : State → Bool → State
@@ -78,13 +78,8 @@ reports_told (Name m f ∷ q) k = reports_told q k
 reports_told (Report f ∷ q) k = ap suc (reports_told q k)
 reports_told (ChangeRoot ∷ q) k = reports_told q k
 
-search_of : (x : Phase) → is_search x ≡ true → x ≡ Search
-search_of Sleeping e = cc
-search_of Search e = refl
-search_of Rest e = cc
-
 pub over_search : (n : State) → is_over n ≡ true → n.head.phase ≡ Search
-over_search n e = let b = and_parts (is_search n.head.phase) (missing n == 0) e in search_of n.head.phase b.0
+over_search n e = let b = and_parts (is_search n.head.phase) (missing n == 0) e in searching_is n.head.phase b.0
 
 pub over_none : (n : State) → is_over n ≡ true → ◌≡◌ {A = ℕ} (missing n) 0
 over_none n e = let b = and_parts (is_search n.head.phase) (missing n == 0) e in eqb-true (missing n) 0 b.1
@@ -217,11 +212,8 @@ module _ (gr : Shape) (ok : IsGraph gr) (w : Net State Message) (v : ℕ) (fits 
           by_v : IsUp S top.0 v (key i) → ⊥
           by_v x = search_rest n.head.phase search
               (((far_before.children.child
-              (up_there m.head.level (record {
-                root = top.0;
-                top = top_at gr.keys m.head.level u v top.0 (joined_back across_way) top.1;
-                up = x;
-              }))).behind
+              (up_there m.head.level
+              (record { root = top.0; top = top_at gr.keys m.head.level u v top.0 (joined_back across_way) top.1; up = x }))).behind
               (sym above)).rest branch)
 
           by_u : IsUp S top.0 u (key i) → ⊥

@@ -1,5 +1,5 @@
 -- A search ends where nothing is missing: what its node knows is the least key that leaves the class from it or below it.
-use Rattle.std.proofs.Common.{◌≡◌, ◌⊎◌, ℕ, ◌<◌, ◌≤◌, inl, inr, ⊎_elim, true, false, Option, None, Some, List, refl, sym, ◌∙◌, ap, subst, cond, arith}
+use Rattle.std.proofs.Common.{◌≡◌, ℕ, ◌<◌, ◌≤◌, inl, inr, ⊎_elim, true, false, Option, None, Some, List, refl, sym, ◌∙◌, ap, subst, cond, arith}
 use Rattle.std.proofs.lemmas.Bool.{cases_eq, cases_Bool, both_ways, false_from_ne_true}
 use Rattle.ghs_graph.specs.declared.key.Key.{Key}
 use Rattle.ghs_graph.specs.Graph.{Shape, IsGraph}
@@ -19,8 +19,7 @@ use Rattle.ghs_protocol.specs.Network.{Network, network_of, InNetwork, At, port_
 use Rattle.ghs_protocol.proofs.lemmas.Graphs.{port_ends, is_key, link_among, graph_rising}
 use Rattle.peer_machine.specs.Net.{Net}
 use Rattle.boruvka_node.specs.declared.head.Head.{Head}
-use Rattle.boruvka_node.specs.declared.mark.Mark.{Mark}
-use Rattle.boruvka_node.specs.declared.mark.Mark.TheVariants.{Basic, Asked, Branch, Inside}
+use Rattle.boruvka_node.specs.declared.mark.Mark.TheVariants.{Branch}
 use Rattle.boruvka_node.specs.declared.message.Message.{Message}
 use Rattle.boruvka_node.specs.declared.message.Phase.TheVariants.{Search}
 use Rattle.boruvka_node.specs.Words.{is_basic}
@@ -37,6 +36,7 @@ use Rattle.boruvka_protocol.proofs.rows.Leaving.{AreEnds, joined_ends, end_there
 use Rattle.boruvka_protocol.proofs.rows.Late.{search_rest}
 use Rattle.boruvka_protocol.proofs.rows.ClosingLinks.{taken_branch, child_heard}
 use Rattle.boruvka_protocol.proofs.rows.ClosingBest.{paid_at, heard_there, FirstIs, first_basic, key_is, port_with}
+use Rattle.boruvka_protocol.proofs.follows.Cases.{mark_cases}
 
 -- A link that leaves, by its ends.
 
@@ -55,12 +55,6 @@ ends_by_far u v j lt e far_is = ⊎_elim
     (λ x. inl (x, sym far_is ∙ ap (λ z. far_end z j) x ∙ far_end_a j))
     (λ x. inr (x, sym far_is ∙ ap (λ z. far_end z j) x ∙ far_end_b j lt))
     (end_cases u j e)
-
-mark_cases : (m : Mark) → (is_basic m ≡ true) ⊎ ((m ≡ Branch) ⊎ (m ≡ Inside))
-mark_cases Basic = inl refl
-mark_cases Asked = inl refl
-mark_cases Branch = inr (inl refl)
-mark_cases Inside = inr (inr refl)
 
 module _ (gr : Shape) (ok : IsGraph gr) (w : Net State Message) (v : ℕ) (fits : NearlyFits gr.keys (network_of gr) w v)
     (here : InNetwork (network_of gr) v) (search : (w.node v).head.phase ≡ Search) (none : ◌≡◌ {A = ℕ} (missing (w.node v)) 0) where

@@ -1,5 +1,5 @@
 -- The lesser end of a core enters the next level, as its root: all clauses hold behind it, but that it may wait for nothing.
-use Rattle.std.proofs.Common.{◌≡◌, ◌≢◌, ◌⊎◌, ℕ, suc, ◌<◌, nat_lt, Bool, true, false, Some, None, List, ◌++◌, inl, inr, refl, sym, ◌∙◌, ap, subst, ⊎_elim, append_assoc, ltb-true, arith}
+use Rattle.std.proofs.Common.{◌≡◌, ◌≢◌, ◌⊎◌, ℕ, suc, ◌<◌, nat_lt, Bool, true, false, Some, None, List, ◌++◌, inl, inr, refl, sym, ◌∙◌, ap, subst, ⊎_elim, ltb-true, arith}
 use Rattle.std.proofs.lemmas.Bool.{cases_eq, ltb-false}
 use Rattle.std.proofs.lemmas.Option.{same_Some}
 use Rattle.ghs_graph.specs.declared.key.Key.{Key}
@@ -33,8 +33,8 @@ use Rattle.boruvka_protocol.proofs.invariant.Children.{ChildrenFit}
 use Rattle.boruvka_protocol.proofs.invariant.Search.{LacksSome}
 use Rattle.boruvka_protocol.proofs.invariant.Token.{Out, Waits, Gone_out, Token, TokensFit}
 use Rattle.boruvka_protocol.proofs.invariant.Whole.{Ground, LinkFits, SearchesFit, NearlyFits}
-use Rattle.boruvka_protocol.proofs.rows.Sends.{sent_on, sent_append}
 use Rattle.boruvka_protocol.proofs.rows.Acts.{Acts}
+use Rattle.boruvka_protocol.proofs.rows.Between.{acts_on}
 use Rattle.boruvka_protocol.proofs.rows.Leaving.{end_there}
 use Rattle.boruvka_protocol.proofs.rows.Moves.{own_key}
 use Rattle.boruvka_protocol.proofs.rows.Above.{IsTied}
@@ -204,21 +204,6 @@ module _ (gr : Shape) (ok : IsGraph gr) (w : Net State Message) (v p : ℕ) (h :
       (told_from (entry (w.node v) (key_at (w.node v) p) None) 0 (w.node v).ports) → Ground g w' → NearlyFits gr.keys g w' v
   core_nearly w' a ground = entered_nearly gr ok w w' v (key_at (w.node v) p) None (w.queue v) entrance a ground
 
--- Acts, one after another: from where the first one led on to where both lead.
-pub acts_on : (g : Network) (w mid w' : Net State Message) (v : ℕ) (n n' : State) (own : ℕ → List Message) (s t : Outgoing Message) →
-    Acts g w mid v n own s → Acts g w w' v n' own (s ++ t) → Acts g mid w' v n' (mid.queue v) t
-acts_on g w mid w' v n n' own s t a b = record {
-  node = b.node;
-  others = λ u ne. sym (a.others u ne) ∙ b.others u ne;
-  queue = λ i at. b.queue i at ∙ sym (a.queue i at);
-  far_queue = λ i at.
-      b.far_queue i at
-      ∙ ap (λ (x : List Message). w.queue (far g v i) (far_port g v i) ++ x) (sent_append s t i)
-      ∙ sym (append_assoc (w.queue (far g v i) (far_port g v i)) (sent_on s i) (sent_on t i))
-      ∙ ap (λ (x : List Message). x ++ sent_on t i) (sym (a.far_queue i at));
-  queues = λ u q ne away. b.queues u q ne away ∙ sym (a.queues u q ne away);
-}
-
 -- a node that has come to a core by an act, and enters over it by the same
 pub core_after : (gr : Shape) → IsGraph gr → (w mid w' : Net State Message) (v p : ℕ) (n : State) (own : ℕ → List Message) (s : Outgoing Message) →
     AboutToMeet gr mid v p → Acts (network_of gr) w mid v n own s →
@@ -226,8 +211,8 @@ pub core_after : (gr : Shape) → IsGraph gr → (w mid w' : Net State Message) 
     Ground (network_of gr) w' → NearlyFits gr.keys (network_of gr) w' v
 core_after gr ok w mid w' v p n own s h a b ground = core_nearly gr ok mid v p h w'
     (subst
-    (λ (x : State). Acts (network_of gr) mid w' v (entered x (entry x (key_at x p) None)) (mid.queue v)
-    (told_from (entry x (key_at x p) None) 0 x.ports))
+    (λ (x : State).
+    Acts (network_of gr) mid w' v (entered x (entry x (key_at x p) None)) (mid.queue v) (told_from (entry x (key_at x p) None) 0 x.ports))
     (sym a.node)
     (acts_on (network_of gr) w mid w' v n (entered n (entry n (key_at n p) None)) own s (told_from (entry n (key_at n p) None) 0 n.ports) a b))
     ground

@@ -45,6 +45,7 @@ use Rattle.boruvka_protocol.proofs.rows.EntersInside.{entered_as, none_some}
 use Rattle.boruvka_protocol.proofs.rows.EntersDown.{EndFits}
 use Rattle.boruvka_protocol.proofs.rows.EntersToken.{tokens_enter}
 use Rattle.boruvka_protocol.proofs.rows.Enters.{entry, port_fits}
+use Rattle.boruvka_protocol.proofs.rows.OutLink.{passes_called}
 
 -- Port i of the node v, which enters; it isn't the parent's. own is what is left at v's ports.
 pub record IsOpen (gr : Shape) (w : Net State Message) (v : ℕ) (own : ℕ → List Message) (i : ℕ) : Type 0 where
@@ -96,15 +97,7 @@ pub record Entrance (gr : Shape) (w : Net State Message) (v : ℕ) (c : Key) (up
       (p : ℕ) × At (network_of gr) v p × ((w.node v).head.out ≡ Some p)
   pub passes : (i : ℕ) → At (network_of gr) v i → passes_in (w.queue v i) ≡ passes_in (own i)
 
-passes_calls : (q : List Message) → ◌≡◌ {A = ℕ} (passes_in (calls_in q)) (passes_in q)
-passes_calls [] = refl
-passes_calls (Connect l ∷ q) = passes_calls q
-passes_calls (Initiate l f ∷ q) = passes_calls q
-passes_calls (Name l f ∷ q) = passes_calls q
-passes_calls (Report k ∷ q) = passes_calls q
-passes_calls (ChangeRoot ∷ q) = ap suc (passes_calls q)
-
--- one message more that is plain ChangeRoot
+-- one message more that is no ChangeRoot
 passes_more : (q : List Message) (m : Message) → ◌≡◌ {A = ℕ} (passes_in (m ∷ [])) 0 → ◌≡◌ {A = ℕ} (passes_in q) (passes_in (q ++ m ∷ []))
 passes_more [] m none = sym none
 passes_more (Connect l ∷ q) m none = passes_more q m none
@@ -182,7 +175,7 @@ module _ (gr : Shape) (ok : IsGraph gr) (w w' : Net State Message) (v : ℕ) (c 
   past = (h.tokens.one l v h.here of_level).none h.token
 
   unpassed : (x p : ℕ) → At g x p → InClass gr.keys l v x → (w.node x).head.level ≡ l → ◌≡◌ {A = ℕ} (passes_in (calls_in (w.queue x p))) 0
-  unpassed x p at inside lv = passes_calls (w.queue x p) ∙ go (passes_in (w.queue x p)) refl
+  unpassed x p at inside lv = passes_called (w.queue x p) ∙ go (passes_in (w.queue x p)) refl
     where
       go : (y : ℕ) → passes_in (w.queue x p) ≡ y → y ≡ 0
       go zero z = refl
@@ -361,12 +354,12 @@ module _ (gr : Shape) (ok : IsGraph gr) (w w' : Net State Message) (v : ℕ) (c 
         where
           other : far g u p ≢ v → Alike u p
           other fne = (
-            λ r. subst (λ (y : List Message). HasReported (w.node u).head.level (w'.node (far g u p)).head.level (w'.node (far g u p)).head.phase
-                (calls_in y)) (sym queue_same)
+            λ r. subst (λ (y : List Message). HasReported (w.node u).head.level (w'.node (far g u p)).head.level
+                (w'.node (far g u p)).head.phase (calls_in y)) (sym queue_same)
                 (subst (λ (y : State). HasReported (w.node u).head.level y.head.level y.head.phase (calls_in (w.queue u p)))
                 (a.others (far g u p) fne) r),
-            λ r. subst (λ (y : List Message). HasReported (w.node u).head.level (w.node (far g u p)).head.level (w.node (far g u p)).head.phase
-                (calls_in y)) queue_same
+            λ r. subst (λ (y : List Message). HasReported (w.node u).head.level (w.node (far g u p)).head.level
+                (w.node (far g u p)).head.phase (calls_in y)) queue_same
                 (subst (λ (y : State). HasReported (w.node u).head.level y.head.level y.head.phase (calls_in (w'.queue u p)))
                 (sym (a.others (far g u p) fne)) r),
           )
@@ -416,7 +409,7 @@ module _ (gr : Shape) (ok : IsGraph gr) (w w' : Net State Message) (v : ℕ) (c 
   tokens_now : TokensFit gr.keys g w'
   tokens_now = tokens_enter gr.keys g w w' v a.others passes_now level_now phase_now
       (ap (λ (x : State). x.head.out) a.node) (ap (λ (x : State). x.head.halted) a.node) h.rest way_out h.here
-      (λ p at. sym (passes_calls (w.queue v p)) ∙ unpassed v p at Same refl) h.out_end h.end_out h.tokens
+      (λ p at. sym (passes_called (w.queue v p)) ∙ unpassed v p at Same refl) h.out_end h.end_out h.tokens
 
   -- with the ground, which every event keeps
   pub entered_nearly : Ground g w' → NearlyFits gr.keys g w' v

@@ -64,8 +64,9 @@ joins e i m h = ⊎_elim
     asked false = refl
 
 pub joins_not : (e : Entry) (i : ℕ) (m : Mark) → is_at e.out i ≡ false → is_asked m ≡ false → joined_mark e i m ≡ m
-joins_not e i m a b = ap (λ (x : Bool). let y : Mark = cond (x || is_asked m) Branch m in y) a ∙ ap
-    (λ (x : Bool). let y : Mark = cond x Branch m in y) b
+joins_not e i m a b =
+    ap (λ (x : Bool). let y : Mark = cond (x || is_asked m) Branch m in y) a
+    ∙ ap (λ (x : Bool). let y : Mark = cond x Branch m in y) b
 
 module _ (gr : Shape) (ok : IsGraph gr) (w : Net State Message) (v : ℕ) (c : Key) (up : Option ℕ) (rest : (w.node v).head.phase ≡ Rest)
     (class : IsOfLevel gr.keys (suc (w.node v).head.level) v) (core : IsCore gr.keys (w.node v).head.level v c)
@@ -319,8 +320,8 @@ module _ (gr : Shape) (ok : IsGraph gr) (w : Net State Message) (v : ℕ) (c : K
         there = away
 
         away_now : (mark : Mark) → mark ≢ Branch → mark ≢ Asked → LinkFits gr.keys g u b m (entered_as n mark false c up) (r ++ Name (suc l) c ∷ []) q
-        away_now mark no_call not_asked = basic_away gr ok v i c up n m q r h there (wired.back v i at) (wired.back_port v i at)
-            (wired.same_key v i at)
+        away_now mark no_call not_asked =
+            basic_away gr ok v i c up n m q r h there (wired.back v i at) (wired.back_port v i at) (wired.same_key v i at)
             ends (wired.apart v i at) rest x stays class core is_up not_up not_least mark no_call not_asked
 
         heard : was_heard (suc l) c n.port ≡ true → Ends

@@ -141,7 +141,7 @@ module _ (ks : List Key) (g : Network) (p v i : ℕ) (n m : AtPort) (stays : n.h
         parent = λ up. let c = h.children.parent up in record { level = c.level; mark = c.mark; far_mark = c.far_mark };
       }
 
-      pub gone_owes : OwesFit ks e' f n.port.owes (calls_in q)
+      gone_owes : OwesFit ks e' f n.port.owes (calls_in q)
       gone_owes = record { child = h.owes.child; open_yet = h.owes.open_yet; heard = h.owes.heard; rest = h.owes.rest }
 
       pub gone_near : (e'.out ≡ Some e'.port → OutFits ks e' f (calls_in q) (calls_in r')) → LinkFits ks g v i (gone_at p n) m q r'

@@ -146,9 +146,8 @@ module _ (gr : Shape) (ok : IsGraph gr) (w w' : Net State Message) (v : ℕ) (he
     links = links;
     search = searches;
     lacks = nodes_act ks g w w' v (halted (w.node v)) (w.queue v) [] a (λ y x. LacksSome x) h.lacks (λ s. search_rest (w.node v).head.phase s h.rest);
-    tokens = put_down ks g w w' v l v token.Ended refl h.tokens here Same
-        (At_end (sym (same_level v)) halted_now) token_to token_from past_to past_from
-        halts;
+    tokens = put_down ks g w w' v l v token.Ended refl h.tokens here Same (At_end (sym (same_level v)) halted_now) token_to token_from past_to
+        past_from halts;
   }
 
 -- A sleeper without ports.

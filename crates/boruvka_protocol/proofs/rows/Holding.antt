@@ -118,8 +118,8 @@ module _ (gr : Shape) (ok : IsGraph gr) (w w' : Net State Message) (v p : ℕ) (
       none (w.queue (far g v i) (far_port g v i)) l
       ∙ ap (λ (x : List Message). P (w.queue (far g v i) (far_port g v i) ++ x)) (sym (sent_here (p, Connect l) [] i e)))
       (λ ne.
-      ap P (sym (append-nil _)) ∙ ap (λ (x : List Message). P (w.queue (far g v i) (far_port g v i) ++ x))
-      (sym (sent_elsewhere (p, Connect l) [] i ne)))
+      ap P (sym (append-nil _))
+      ∙ ap (λ (x : List Message). P (w.queue (far g v i) (far_port g v i) ++ x)) (sym (sent_elsewhere (p, Connect l) [] i ne)))
       (cases_eq p i))
 
   past_to : PastStays ks g w w'

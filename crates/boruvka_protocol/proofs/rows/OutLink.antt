@@ -22,7 +22,6 @@ use Rattle.boruvka_node.specs.State.{State, mark_at}
 use Rattle.boruvka_protocol.proofs.invariant.Words.{IsLeast, IsWayUp}
 use Rattle.boruvka_protocol.proofs.invariant.Sides.{Side, AtPort, at_port, side_of, far_side_of, calls_in, connects_in, initiates_in, reports_in, passes_in}
 use Rattle.boruvka_protocol.proofs.invariant.Children.{ChildrenFit}
-use Rattle.boruvka_protocol.proofs.invariant.Search.{OwesFit}
 use Rattle.boruvka_protocol.proofs.rows.EntersDown.{EndFits}
 use Rattle.boruvka_protocol.proofs.invariant.Connects.{HasAsked, Waits, Has_begun, Finds, ConnectFits, Answered, Comes}
 use Rattle.boruvka_protocol.proofs.invariant.TreeMessages as tree
@@ -36,7 +35,7 @@ use Rattle.boruvka_protocol.proofs.rows.Acts.{Acts, fits_like, far_link, links_a
 use Rattle.boruvka_protocol.proofs.rows.Leaving.{AreEnds, joined_ends, not_taken}
 use Rattle.boruvka_protocol.proofs.rows.Noted.{basic_no_branch}
 use Rattle.boruvka_protocol.proofs.rows.There.{LinkNow, link_near, links_there}
-use Rattle.boruvka_protocol.proofs.rows.Gone.{connect_behind, names_before_connect, gone_at, none_some, gone_end, gone_children, gone_owes, gone_near, calls_away, gone_away}
+use Rattle.boruvka_protocol.proofs.rows.Gone.{connect_behind, names_before_connect, gone_at, none_some, gone_end, gone_children, gone_near, calls_away, gone_away}
 
 -- a taken link is the way up of one of its ends
 pub up_of_ends : (g : Shape) → IsGraph g → (l v u : ℕ) (k : Key) → AreEnds v u k → Taken g.keys l k → IsOfLevel g.keys l v →
@@ -262,10 +261,6 @@ module _ (gr : Shape) (ok : IsGraph gr) (w : Net State Message) (v p : ℕ) (at 
   core_children = gone_children ks g p v p n m stays q r (r ++ Connect l ∷ []) here (no_pass p at)
       (ap (λ y. initiates_in y) empty ∙ sym (ap (λ y. initiates_in y) alone))
 
-  pub core_owes : OwesFit ks (side_of g v p (gone_at p n)) (far_side_of g v p m) n.port.owes (calls_in q)
-  core_owes = gone_owes ks g p v p n m stays q r (r ++ Connect l ∷ []) here (no_pass p at)
-      (ap (λ y. initiates_in y) empty ∙ sym (ap (λ y. initiates_in y) alone))
-
   -- The other links.
   module _ (i : ℕ) (at_i : At g v i) (ne : i ≢ p) where
     other_near : LinkFits ks g v i (gone_at p (at_port (w.node v) i)) (at_port (w.node (far g v i)) (far_port g v i)) (w.queue v i)
@@ -286,8 +281,7 @@ module _ (gr : Shape) (ok : IsGraph gr) (w : Net State Message) (v p : ℕ) (at 
           λ one. none_some (far_port g x y) stays (c.1 one),
         ))
         (calls_away ks g p x y (at_port (w.node x) y) (at_port (w.node v) i) stays (w.queue x y) (w.queue x y) (w.queue v i) h
-        (calls_in (w.queue x y))
-        h.calls)
+        (calls_in (w.queue x y)) h.calls)
 
   module _ (w' : Net State Message) (a : Acts g w w' v (gone (w.node v) p) (w.queue v) ((p, Connect l) ∷ [])) where
     abbrev sent : ℕ → List Message
@@ -322,15 +316,15 @@ module _ (gr : Shape) (ok : IsGraph gr) (w : Net State Message) (v p : ℕ) (at 
 
     -- Behind the act, all links from other nodes, and from v at its other ports.
 
-    pub out_links_there : (y i : ℕ) → At g y i → y ≢ v → LinkNow g wired ks w w' v (gone (w.node v) p) (w.queue v)
-        ((p, Connect l) ∷ []) a here_v links y i
+    pub out_links_there : (y i : ℕ) → At g y i → y ≢ v →
+        LinkNow g wired ks w w' v (gone (w.node v) p) (w.queue v) ((p, Connect l) ∷ []) a here_v links y i
     out_links_there = links_there g wired ks w w' v (gone (w.node v) p) (w.queue v) ((p, Connect l) ∷ []) a here_v links
         (λ i at_i. ⊎_elim
         (λ (e : i ≡ p). subst (λ y. Away y) (sym e) (fits_like g wired ks refl refl sent_here_is refl away_out))
         (λ ne. fits_like g wired ks refl refl (sent_there_is i ne) refl (other_away i at_i ne))
         (cases_eq i p))
 
-    pub out_links_near : (i : ℕ) → At g v i → i ≢ p → LinkNow g wired ks w w' v (gone (w.node v) p) (w.queue v)
-        ((p, Connect l) ∷ []) a here_v links v i
+    pub out_links_near : (i : ℕ) → At g v i → i ≢ p →
+        LinkNow g wired ks w w' v (gone (w.node v) p) (w.queue v) ((p, Connect l) ∷ []) a here_v links v i
     out_links_near i at_i ne = link_near g wired ks w w' v (gone (w.node v) p) (w.queue v) ((p, Connect l) ∷ []) a here_v links i at_i
         (fits_like g wired ks refl refl refl (sent_there_is i ne) (other_near i at_i ne))

@@ -1,6 +1,6 @@
 -- A node that moves passes the token on over a Branch, to the child from which or from below which the least way out leaves.
-use Rattle.std.proofs.Common.{◌≡◌, ◌≢◌, ◌⊎◌, ℕ, zero, suc, ◌<◌, ◌≤◌, inl, inr, ⊎_elim, true, Option, Some, None, List, [], ◌∷◌, ◌++◌, refl, sym, ◌∙◌, ap, subst, arith, append-nil}
-use Rattle.std.proofs.lemmas.Bool.{cases_eq, cases_lt}
+use Rattle.std.proofs.Common.{◌≡◌, ◌≢◌, ◌⊎◌, ℕ, suc, ◌<◌, inl, inr, ⊎_elim, true, Option, Some, None, List, [], ◌∷◌, ◌++◌, refl, sym, ◌∙◌, ap, subst, arith, append-nil}
+use Rattle.std.proofs.lemmas.Bool.{cases_eq}
 use Rattle.ghs_graph.specs.declared.key.Key.{Key}
 use Rattle.ghs_graph.specs.Graph.{Shape, IsGraph}
 use Rattle.ghs_levels.specs.Levels.{Taken, InClass, HasWayOut}
@@ -19,6 +19,7 @@ use Rattle.boruvka_node.specs.declared.message.Message.TheVariants.{Connect, Ini
 use Rattle.boruvka_node.specs.declared.message.Phase.TheVariants.{Sleeping, Search, Rest}
 use Rattle.boruvka_node.specs.Words.{is_basic, is_branch}
 use Rattle.boruvka_node.specs.State.{State, mark_at}
+use Rattle.boruvka_protocol.proofs.follows.Ways.{taken_still}
 use Rattle.boruvka_protocol.proofs.invariant.Words.{IsPast, IsLeast, IsRoot, IsWayUp, IsSubAt}
 use Rattle.boruvka_protocol.proofs.invariant.Sides.{Side, AtPort, at_port, side_of, far_side_of, Told, calls_in, names_in, connects_in, initiates_in, reports_in, passes_in}
 use Rattle.boruvka_protocol.proofs.invariant.Nodes.{NodeFits, AwakeFits}
@@ -76,14 +77,6 @@ some_passes (Initiate m k ∷ q) = some_passes q
 some_passes (Name m k ∷ q) = some_passes q
 some_passes (Report k ∷ q) = some_passes q
 some_passes (ChangeRoot ∷ q) = omega arith
-
--- what is taken stays so
-taken_on : (ks : List Key) (l m : ℕ) (k : Key) → l ≤ m → Taken ks l k → Taken ks m k
-taken_on ks l zero k le t = let e : l ≡ 0 = omega (arith, le) in subst (λ x. Taken ks x k) e t
-taken_on ks l (suc m) k le t = ⊎_elim
-    (λ lt. inl (taken_on ks l m k (omega (arith, lt)) t))
-    (λ ge. let e : l ≡ suc m = omega (arith, le, ge) in subst (λ x. Taken ks x k) e t)
-    (cases_lt l (suc m))
 
 rest_asleep : Rest ≡ Sleeping → ⊥
 rest_asleep e = cc
@@ -199,7 +192,7 @@ module _ (gr : Shape) (ok : IsGraph gr) (w : Net State Message) (v : ℕ) (here 
       let above : suc l ≡ m.head.level = omega (arith, le, lt) in
       none_on u here_there inside (sym above) (c.behind above).search)
       (up_of_ends gr ok m.head.level u v k (⊎_elim (λ e. inr (e.1, e.0)) (λ e. inl (e.1, e.0)) ends)
-      (taken_on ks l m.head.level k (omega (arith, lt)) taken) node_there.class)
+      (taken_still ks l m.head.level k (omega (arith, lt)) taken) node_there.class)
     where
       asleep : m.head.phase ≡ Sleeping → ⊥
       asleep z = let e = ap (λ (x : State). x.head.level) (h.ground.untouched u z) in omega (arith, e, lt)

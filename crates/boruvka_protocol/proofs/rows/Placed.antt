@@ -70,8 +70,8 @@ module _ (ks : List Key) (g : Network) (w w' : Net State Message) (v l y : ℕ) 
       inside = s.inside;
       in_network = s.in_network;
       at = ⊎_elim (λ old. old)
-          (λ e. absurd (apart e.0 (joined_then inside (joined_back
-          (subst (λ x. InClass ks l u x) e.1 (subst (λ x. InClass ks x u s.node) e.0 s.inside))))))
+          (λ e.
+          absurd (apart e.0 (joined_then inside (joined_back (subst (λ x. InClass ks l u x) e.1 (subst (λ x. InClass ks x u s.node) e.0 s.inside))))))
           (from m s.node s.place s.at);
     }
 

@@ -228,9 +228,8 @@ module _ (gr : Shape) (ok : IsGraph gr) (w : Net State Message) (v : ℕ) (here 
         many : 0 < degree n
         many = subst (λ (x : State). 0 < degree x) is_sleeper some
 
-    pub wakes_fits : (w' : Net State Message) → Acts g w w' v (gone (woken n) 0) (w.queue v) ((0, Connect 0) ∷ []) → Ground g woken_net →
-        Ground g w' →
-        Fits ks g w'
+    pub wakes_fits : (w' : Net State Message) → Acts g w w' v (gone (woken n) 0) (w.queue v) ((0, Connect 0) ∷ []) →
+        Ground g woken_net → Ground g w' → Fits ks g w'
     wakes_fits w' a ground ground' = out_fits gr ok woken_net w' v 0 at_first (woken_holding ground) basic
         (subst (λ x. IsLeast ks x v (port_at g v 0).key) (sym woken_level) first_least)
         (subst (λ (x : State). Acts g woken_net w' v (gone x 0) (w.queue v) ((0, Connect x.head.level) ∷ [])) (sym woken_is)

@@ -39,7 +39,7 @@ asleep_rest e = cc
 pub rest_search : {P : Type 0} → Rest ≡ Search → P
 rest_search e = cc
 
-nowhere_out : {P A : Type 0} (x : A) → None ≡ Some x → P
+pub nowhere_out : {P A : Type 0} (x : A) → None ≡ Some x → P
 nowhere_out x e = cc
 
 pub false_true : {P : Type 0} → false ≡ true → P
