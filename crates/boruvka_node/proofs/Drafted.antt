@@ -8,7 +8,7 @@ use Rattle.boruvka_node.specs.State.{State, degree, least_basic, missing, no_por
 use Rattle.boruvka_node.specs.Entering.{entered_port, with_entry, with_port}
 use Rattle.boruvka_node.specs.Draft.{drafted}
 use Rattle.boruvka_node.specs.Counters.{is_basic_at}
-use Rattle.boruvka_node.proofs.Entered.{get_entered, length_entered}
+use Rattle.boruvka_node.proofs.lemmas.Entered.{length_entered, get_entered}
 use Rattle.boruvka_node.proofs.LeastBasic.{least_some, least_none}
 
 length-with_port : (ps : List PortState) (c : Option (ℕ × PortState)) → length (with_port ps c) ≡ length ps

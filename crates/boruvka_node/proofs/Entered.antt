@@ -1,11 +1,12 @@
 -- Lists of ports: one changed, all entered.
-use Rattle.std.proofs.Common.{◌≡◌, ℕ, zero, suc, ◌+◌, ◌<◌, List, [], ◌∷◌, ◌++◌, length, get_or, drop, refl, sym, ◌∙◌, ap, arith, add-zero, drop-cons, add-one, append_assoc}
+use Rattle.std.proofs.Common.{◌≡◌, ℕ, suc, ◌+◌, ◌<◌, List, [], ◌∷◌, ◌++◌, length, get_or, drop, refl, sym, ◌∙◌, ap, arith, drop-cons, add-one, append_assoc}
 use Rattle.peer_machine.specs.Rules.{Outgoing}
 use Rattle.boruvka_node.specs.declared.change.Entry.{Entry}
 use Rattle.boruvka_node.specs.declared.message.Message.{Message}
 use Rattle.boruvka_node.specs.declared.port_state.PortState.{PortState}
 use Rattle.boruvka_node.specs.State.{no_port}
 use Rattle.boruvka_node.specs.Entering.{entered_from, entered_port, told_from, told_as, joined_mark}
+use Rattle.boruvka_node.proofs.lemmas.Entered.{length_entered, get_entered}
 
 pub same_ports : (xs ys : List PortState) → length xs ≡ length ys → ((k : ℕ) → k < length xs → get_or xs k no_port ≡ get_or ys k no_port) → xs ≡ ys
 same_ports [] [] e h = refl
@@ -14,24 +15,6 @@ same_ports (x ∷ xs) [] e h = absurd (omega (arith, e))
 same_ports (x ∷ xs) (y ∷ ys) e h =
     let here : x ≡ y = h 0 (omega arith) in
     rw (here, same_ports xs ys (omega (arith, e)) (λ k lt. h (suc k) (omega (arith, lt)))) refl
-
-pub length_entered : (e : Entry) (q : ℕ) (ps : List PortState) → length (entered_from e q ps) ≡ length ps
-length_entered e q [] = refl
-length_entered e q (p ∷ ps) = ap (λ k. suc k) (length_entered e (suc q) ps)
-
-entered_at : (e : Entry) (q : ℕ) (ps : List PortState) (k : ℕ) → k < length ps
-    → get_or (entered_from e q ps) k no_port ≡ entered_port e (q + k) (get_or ps k no_port)
-entered_at e q [] k lt = absurd (omega (arith, lt))
-entered_at e q (p ∷ ps) zero lt = ap (λ i. entered_port e i p) (sym (add-zero q))
-entered_at e q (p ∷ ps) (suc k) lt =
-    let shift : suc q + k ≡ q + suc k = omega arith in
-    entered_at e (suc q) ps k (omega (arith, lt)) ∙ ap (λ i. entered_port e i (get_or ps k no_port)) shift
-
-pub get_entered : (e : Entry) (ps : List PortState) (k : ℕ) → k < length ps
-    → get_or (entered_from e 0 ps) k no_port ≡ entered_port e k (get_or ps k no_port)
-get_entered e ps k lt =
-    let same : 0 + k ≡ k = omega arith in
-    entered_at e 0 ps k lt ∙ ap (λ i. entered_port e i (get_or ps k no_port)) same
 
 -- the ports up to the end are entered, one by one
 pub all_entered : (e : Entry) (old new : List PortState) → length new ≡ length old

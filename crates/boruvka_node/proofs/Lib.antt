@@ -1,4 +1,5 @@
--- Serves the proofs: nothing here has to be believed.
+-- Serves the proofs: nothing here has to be believed. lemmas is what proofs above this crate may use.
+pub mod lemmas
 mod Examples
 mod LeastBasic
 mod Entered

@@ -83,6 +83,7 @@ impl Draft {
         }
     }
 
+    /// The same, counted: O(ports).
     #[tactic(auto, using(crate::proofs::Drafted::length_drafted, crate::proofs::Counting::more_missing, crate::proofs::Counting::no_more_missing))]
     fn count_missing(&self, node: &Node) -> u32
         ensures { result ≡ missing (drafted node.now self.now) }
@@ -108,6 +109,7 @@ impl Draft {
         }
     }
 
+    /// The same, looked for port by port.
     #[tactic(auto, using(crate::proofs::Drafted::length_drafted, crate::proofs::Drafted::basic_there, crate::proofs::Drafted::basic_nowhere))]
     fn first_basic(&self, node: &Node) -> Option<u32>
         ensures { result ≡ least_basic (drafted node.now self.now).ports }

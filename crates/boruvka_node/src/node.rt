@@ -159,7 +159,7 @@ impl Node {
     }
 
     /// The ports enter, and the node has new variables: O(ports).
-    #[tactic(auto, using(crate::proofs::Entered::length_entered))]
+    #[tactic(auto, using(crate::proofs::lemmas::Entered::length_entered))]
     fn enter_ports(&mut self, head: Head, entry: &Entry)
         ensures { self.new ≡ record self.old { ports = entered_from entry.now 0 self.old.ports; head = head } }
     {
@@ -193,6 +193,7 @@ pub fn has_halted(node: &Node) -> bool
     node.head().halted
 }
 
+/// The keys of ports, in their order.
 fn keys_of(alloc: Global, ports: &[Port]) -> Result<Vec<Key>, AllocError>
     ensures { IfOk result (λ keys. keys.items ≡ map (λ (p : Port). p.key) ports.now) }
 {

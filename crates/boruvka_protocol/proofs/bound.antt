@@ -1,7 +1,6 @@
 -- How many messages a run sends at most.
 pub mod Sums
 pub mod Logs
-pub mod OneWay
 pub mod Turns
 pub mod Hears
 pub mod Steps

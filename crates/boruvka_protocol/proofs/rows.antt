@@ -4,12 +4,19 @@ pub mod Read
 pub mod Grows
 pub mod Sends
 pub mod Ports
+pub mod Queues
 pub mod Acts
+pub mod Alike
+pub mod Tokens
+pub mod Searches
+pub mod Parts
 pub mod Between
 pub mod Unasked
 pub mod Others
 pub mod Kept
 pub mod Leaving
+pub mod OwnPorts
+pub mod Aside
 pub mod Noted
 pub mod Noting
 pub mod Asked
@@ -48,6 +55,5 @@ pub mod Entered
 pub mod CalledIn
 pub mod CoreIn
 pub mod Met
-pub mod There
 pub mod AtCore
 pub mod Halting

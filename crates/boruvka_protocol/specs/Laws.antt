@@ -5,6 +5,7 @@ use Rattle.ghs_graph.specs.declared.key.Key.{Key}
 use Rattle.ghs_graph.specs.declared.port.Port.{Port}
 use Rattle.ghs_graph.specs.Graph.{Shape, IsGraph}
 use Rattle.ghs_graph.specs.Links.{Joined, links, InTree}
+use Rattle.ghs_graph.specs.Bound.{IsFloorLog2}
 use Rattle.ghs_protocol.specs.declared.event.Event.{Event}
 use Rattle.ghs_protocol.specs.Network.{Network, network_of, InNetwork, At, far, far_port}
 use Rattle.peer_machine.specs.Net.{Net}
@@ -15,7 +16,7 @@ use Rattle.boruvka_node.specs.declared.message.Message.{Message}
 use Rattle.boruvka_node.specs.declared.message.Phase.TheVariants.{Sleeping}
 use Rattle.boruvka_node.specs.State.{State, sleeper, degree}
 use Rattle.boruvka_node.specs.Boruvka.{boruvka}
-use Rattle.boruvka_protocol.specs.Bound.{bound_of}
+use Rattle.boruvka_protocol.specs.Bound.{floor_log2, bound_of}
 use Rattle.boruvka_protocol.specs.Marks.{IsBranchLink, IsInsideLink, IsJoinedLink, HasHalted}
 
 -- node v has its number, the keys of its ports, and as many ports
@@ -34,7 +35,7 @@ SleepersAreUntouched =
     (g : Shape) (w : Net State Message) → IsNetOf boruvka g w → (v : ℕ) → (w.node v).head.phase ≡ Sleeping →
     w.node v ≡ sleeper v ((network_of g).ports v)
 
--- and has sent nothing: no message waits at the far ends of its ports
+-- and has sent nothing: at no moment of its sleep does a message of it wait, at the far end of any port
 abbrev pub SleepersAreSilent : Type 0
 SleepersAreSilent =
     (g : Shape) (w : Net State Message) → IsNetOf boruvka g w → (v p : ℕ) → At (network_of g) v p → (w.node v).head.phase ≡ Sleeping →
@@ -67,6 +68,10 @@ BranchLinksInTree = (g : Shape) (w : Net State Message) → IsNetOf boruvka g w 
 -- and no Inside link is
 abbrev pub InsideLinksAside : Type 0
 InsideLinksAside = (g : Shape) (w : Net State Message) → IsNetOf boruvka g w → (k : Key) → IsInsideLink (network_of g) w k → InTree g.keys k → ⊥
+
+-- the floor of log2, by which the bound counts levels, is the greatest k with 2 to the k at most n
+abbrev pub FloorsAreGreatest : Type 0
+FloorsAreGreatest = (n : ℕ) → 1 ≤ n → IsFloorLog2 n (floor_log2 n)
 
 -- no run sends more messages than the bound
 abbrev pub SendsWithinBound : Type 0

@@ -12,9 +12,11 @@ use Rattle.boruvka_node.specs.State.{State, mark_at}
 abbrev pub HasMark : Network → Net State Message → Mark → Key → Type 0
 HasMark g w m k = (v p : ℕ) × At g v p × ((port_at g v p).key ≡ k) × (mark_at (w.node v) p ≡ m)
 
+-- it is Branch at one end at least
 abbrev pub IsBranchLink : Network → Net State Message → Key → Type 0
 IsBranchLink g w k = HasMark g w Branch k
 
+-- it is Inside at one end at least
 abbrev pub IsInsideLink : Network → Net State Message → Key → Type 0
 IsInsideLink g w k = HasMark g w Inside k
 
@@ -23,6 +25,6 @@ abbrev pub IsJoinedLink : Network → Net State Message → Key → Type 0
 IsJoinedLink g w k =
     (v p : ℕ) × At g v p × ((port_at g v p).key ≡ k) × (mark_at (w.node v) p ≡ Branch) × (mark_at (w.node (far g v p)) (far_port g v p) ≡ Branch)
 
--- node v has halted, as a root
+-- node v has halted
 abbrev pub HasHalted : Net State Message → ℕ → Type 0
 HasHalted w v = (w.node v).head.halted ≡ true

@@ -1,5 +1,5 @@
 //! What holds in every run of every graph, however its events interleave. Each law is a function that does nothing.
-ghost use Rattle.boruvka_protocol.specs.Laws.{NodesKeepPorts, SleepersAreUntouched, SleepersAreSilent, NodesStayAwake, LevelsStay, EventsAreFew, EventsHaveRules, BranchLinksInTree, InsideLinksAside, SendsWithinBound, RunsAreShort, HaltIsEnd, SilenceIsEnd};
+ghost use Rattle.boruvka_protocol.specs.Laws.{NodesKeepPorts, SleepersAreUntouched, SleepersAreSilent, NodesStayAwake, LevelsStay, EventsAreFew, EventsHaveRules, BranchLinksInTree, InsideLinksAside, FloorsAreGreatest, SendsWithinBound, RunsAreShort, HaltIsEnd, SilenceIsEnd};
 ghost use Rattle.boruvka_protocol.specs.Bound.{bound_of};
 ghost use Rattle.peer_machine.specs.Protocol.{FitsGraphs};
 
@@ -27,6 +27,11 @@ pub fn law_levels()
 /// A run has at most as many events as messages sent and nodes together.
 pub fn law_events()
     ensures { EventsAreFew }
+{}
+
+/// The floor of log2 of n, by which the bound counts levels, is the greatest k with 2^k at most n, for n from 1 on.
+pub fn law_floors()
+    ensures { FloorsAreGreatest }
 {}
 
 /// The bound on messages is below 2^64 for each graph, so that counts of what is sent fit.

@@ -15,9 +15,11 @@ use Rattle.boruvka_node.specs.State.{State, degree, port_at, set_port, set_mark}
 use Rattle.boruvka_node.specs.Entering.{entered}
 use Rattle.boruvka_node.specs.Reaction.{Outcome, rested, halted, woken, heard, reported, and_then, wakes, connect, name, asleep, reaction, is_next_name}
 use Rattle.boruvka_node.specs.Boruvka.{boruvka}
+use Rattle.boruvka_node.proofs.lemmas.Entered.{length_entered}
+use Rattle.boruvka_protocol.proofs.Unlike.{none_is_some}
 use Rattle.boruvka_protocol.proofs.rows.Table.{gone, core_entry, call_entry, Moving, Passes, Goes, Closing, Goes_on, Reports, Halts, Moves, Connecting, Connects, Entering, Enters, Meeting, Waits, Begins, Going, Goes_out, Meets, Waking, Alone, Wakes, Row, Noted, Met, Late, Called, Named, Told, Moved}
-use Rattle.boruvka_protocol.proofs.rows.Read.{read_if, read_says, no_outcome, waking, row_of}
-use Rattle.boruvka_protocol.proofs.rows.Grows.{entered_many, reaction_grows}
+use Rattle.boruvka_protocol.proofs.rows.Read.{read_if, read_says, waking, row_of}
+use Rattle.boruvka_protocol.proofs.rows.Grows.{reaction_grows}
 use Rattle.boruvka_protocol.proofs.rows.Ports.{port_set, port_kept, port_entered}
 
 -- at each port the level heard is as high as it was
@@ -51,7 +53,7 @@ hears_port n j x le = record {
 
 hears_entered : (n : State) (e : Entry) → Hears n (entered n e)
 hears_entered n e = record {
-  many = entered_many e 0 n.ports;
+  many = length_entered e 0 n.ports;
   levels = λ i lt. le_of_eq (ap (λ (x : PortState). x.level) (sym (port_entered n e i lt)));
 }
 
@@ -124,7 +126,7 @@ module _ (n : State) (j : ℕ) (m : Message) (lt : j < degree n) where
 
   sleeper_hears : (f : State → Option Outcome) → ((a : State) (y : Outcome) → f a ≡ Some y → Row a j m y) →
       (x : Option Outcome) → ((a : Outcome) → x ≡ Some a → Waking n a) → (o : Outcome) → and_then x f ≡ Some o → HearsFrom n j m o.state
-  sleeper_hears f rows None wake o h = no_outcome o h
+  sleeper_hears f rows None wake o h = none_is_some o h
   sleeper_hears f rows (Some a) wake o h = read_says a.sends (f a.state) o h
       (λ y e same.
       let first = hears_waking n a (wake a refl) in
@@ -133,14 +135,14 @@ module _ (n : State) (j : ℕ) (m : Message) (lt : j < degree n) where
 
 asleep_hears : (n : State) (j : ℕ) (m : Message) (o : Outcome) → j < degree n → asleep n j m ≡ Some o → HearsFrom n j m o.state
 asleep_hears n j (Connect l) o lt e = sleeper_hears n j (Connect l) lt (λ x. connect x j l) (λ a y. row_of a j (Connect l) y) (wakes n) (waking n) o e
-asleep_hears n j (Initiate l f) o lt e = no_outcome o e
+asleep_hears n j (Initiate l f) o lt e = none_is_some o e
 asleep_hears n j (Name l f) o lt e = sleeper_hears n j (Name l f) lt (λ x. name x j l f) (λ a y. row_of a j (Name l f) y) (wakes n) (waking n) o e
-asleep_hears n j (Report k) o lt e = no_outcome o e
-asleep_hears n j ChangeRoot o lt e = no_outcome o e
+asleep_hears n j (Report k) o lt e = none_is_some o e
+asleep_hears n j ChangeRoot o lt e = none_is_some o e
 
 -- each reaction
 pub wake_hears : (n : State) (o : Outcome) → reaction n Wake ≡ Some o → Hears n o.state
-wake_hears n o e = read_if (is_sleeping n.head.phase) _ _ o e (λ t x. hears_waking n o (waking n o x)) (λ t x. no_outcome o x)
+wake_hears n o e = read_if (is_sleeping n.head.phase) _ _ o e (λ t x. hears_waking n o (waking n o x)) (λ t x. none_is_some o x)
 
 pub take_hears : (n : State) (j : ℕ) (m : Message) (o : Outcome) → reaction n (Deliver j m) ≡ Some o → HearsFrom n j m o.state
 take_hears n j m o e = read_if (nat_lt j (degree n)) _ _ o e
@@ -149,7 +151,7 @@ take_hears n j m o e = read_if (nat_lt j (degree n)) _ _ o e
     read_if (is_sleeping n.head.phase) _ _ o x
     (λ t y. asleep_hears n j m o lt y)
     (λ t y. hears_row n j m o lt (row_of n j m o y)))
-    (λ port x. no_outcome o x)
+    (λ port x. none_is_some o x)
 
 -- An Initiate raises the node's level.
 
@@ -169,9 +171,9 @@ take_calls n j (Connect l) o low e = let g = (reaction_grows n (Deliver j (Conne
 take_calls n j (Initiate l f) o low e = read_if (nat_lt j (degree n)) _ _ o e
     (λ port x.
     read_if (is_sleeping n.head.phase) _ _ o x
-    (λ t y. no_outcome o y)
+    (λ t y. none_is_some o y)
     (λ t y. let z = called_level n j l f o (row_of n j (Initiate l f) o y) in omega (arith, z)))
-    (λ port x. no_outcome o x)
+    (λ port x. none_is_some o x)
 take_calls n j (Name l f) o low e = let g = (reaction_grows n (Deliver j (Name l f)) o low e).0 in omega (arith, g.level)
 take_calls n j (Report k) o low e = let g = (reaction_grows n (Deliver j (Report k)) o low e).0 in omega (arith, g.level)
 take_calls n j ChangeRoot o low e = let g = (reaction_grows n (Deliver j ChangeRoot) o low e).0 in omega (arith, g.level)

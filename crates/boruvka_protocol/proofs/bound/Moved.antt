@@ -33,7 +33,7 @@ use Rattle.boruvka_protocol.proofs.rows.Grows.{sleeping_tells}
 use Rattle.boruvka_protocol.proofs.rows.Late.{search_rest}
 use Rattle.boruvka_protocol.proofs.rows.Sends.{sent_on}
 use Rattle.boruvka_protocol.proofs.bound.Sums.{node_changes}
-use Rattle.boruvka_protocol.proofs.bound.OneWay.{root_has_none, one_port_up, no_way_at_ground}
+use Rattle.boruvka_protocol.proofs.levels.OneWay.{root_has_none, one_port_up, no_way_at_ground}
 use Rattle.boruvka_protocol.proofs.bound.Turns.{before, sent_of, MayMove, Awakes, As_root, Was_told, MayEnter, By_token, Was_out, Was_called, Turn, Stays, Sends_on, Sends_out, Rises}
 use Rattle.boruvka_protocol.proofs.bound.Steps.{Comes, From_none, From_port, Step}
 use Rattle.boruvka_protocol.proofs.bound.Calls.{calls, passes, call_waits, pass_waits, one_waits, sent_on_few, pass_elsewhere}

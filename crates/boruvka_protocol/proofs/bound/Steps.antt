@@ -4,6 +4,7 @@ use Rattle.ghs_protocol.specs.Network.{Network, At, InNetwork}
 use Rattle.ghs_protocol.specs.declared.event.Event.{Event}
 use Rattle.ghs_protocol.proofs.lemmas.Wired.{IsWired}
 use Rattle.ghs_protocol.proofs.lemmas.Updates.{put_same, put_other}
+use Rattle.ghs_protocol.proofs.lemmas.Wires.{at_in}
 use Rattle.peer_machine.specs.Net.{Net, put, take_first}
 use Rattle.peer_machine.specs.Ledger.{of_kind}
 use Rattle.peer_machine.specs.Steps.{Happens, Woke, Took}
@@ -82,7 +83,7 @@ module _ (g : Network) (wired : IsWired g) where
     own = put (w.queue v) p ms;
     taken = m ∷ [];
     step = record {
-      here = record { some = at.some; node = at.node };
+      here = at_in at;
       act = acts_taken g wired w v p m ms o;
       comes = From_port p m ms at refl q (put_same (w.queue v) p ms) (λ i ne. put_other (w.queue v) p i ms ne) from.named;
       turn = reaction_turn (w.node v) (Deliver p m) o (sleeper_level i v)

@@ -22,9 +22,11 @@ use Rattle.boruvka_node.specs.State.{State, no_port, degree, port_at, mark_at, s
 use Rattle.boruvka_node.specs.Entering.{joined_mark, entered, told_as, told_from}
 use Rattle.boruvka_node.specs.Reaction.{Outcome, is_over, rested, woken, heard, reported, and_then, wakes, connect, name, asleep, reaction}
 use Rattle.boruvka_node.specs.Boruvka.{boruvka}
+use Rattle.boruvka_node.proofs.lemmas.Entered.{length_entered}
+use Rattle.boruvka_protocol.proofs.Unlike.{rest_is_sleeping, rest_is_search, none_is_some}
 use Rattle.boruvka_protocol.proofs.rows.Table.{said, still, sends_one, gone, core_entry, call_entry, Moving, Passes, Goes, Closing, Goes_on, Reports, Halts, Moves, Connecting, Connects, Enters, Meeting, Waits, Begins, Going, Goes_out, Meets, Waking, Alone, Wakes, Row, Noted, Met, Late, Called, Named, Told, Moved}
-use Rattle.boruvka_protocol.proofs.rows.Read.{read_if, read_says, no_outcome, waking, row_of}
-use Rattle.boruvka_protocol.proofs.rows.Grows.{entered_many, sleeping_tells}
+use Rattle.boruvka_protocol.proofs.rows.Read.{read_if, read_says, waking, row_of}
+use Rattle.boruvka_protocol.proofs.rows.Grows.{sleeping_tells}
 use Rattle.boruvka_protocol.proofs.rows.Ports.{port_entered}
 use Rattle.boruvka_protocol.proofs.rows.ClosingNet.{over_search, over_none}
 use Rattle.boruvka_protocol.proofs.follows.Told.{out_at}
@@ -145,7 +147,7 @@ module _ (n : State) (p : ℕ) (out : n.head.out ≡ Some p) (lt : p < degree n)
       counted_one (is_missing m.head.level) m.ports p (omega (arith, lt, many)) (rw owed refl)
     where
       many : degree (entered n (core_entry n p)) ≡ degree n
-      many = entered_many (core_entry n p) 0 n.ports
+      many = length_entered (core_entry n p) 0 n.ports
 
   never_over : {P : Type 0} → is_over (entered n (core_entry n p)) ≡ true → P
   never_over over = absurd (omega (arith, lacks, over_none (entered n (core_entry n p)) over))
@@ -238,12 +240,6 @@ row_turn n j m o lt rest (Moved c e h) = moving_turn (ChangeRoot ∷ []) (before
 abbrev up : State → State
 up n = gone (woken n) 0
 
-resting : {P : Type 0} → Rest ≡ Sleeping → P
-resting e = cc
-
-at_rest : {P : Type 0} → Rest ≡ Search → P
-at_rest e = cc
-
 module _ (n : State) (sleeps : n.head.phase ≡ Sleeping) (level : ◌≡◌ {A = ℕ} n.head.level 0) where
   first_turn : (o : Outcome) → Waking n o → Turn (before n) [] o
   first_turn o (Alone t) = Stays (sym level) (λ e. refl) refl refl (omega arith)
@@ -251,8 +247,8 @@ module _ (n : State) (sleeps : n.head.phase ≡ Sleeping) (level : ◌≡◌ {A 
 
   module _ (m : Message) (aside : m ∷ [] ≡ ChangeRoot ∷ [] → ⊥) where
     may_not : {P : Type 0} → MayMove (before (up n)) (m ∷ []) → P
-    may_not (Awakes e) = resting e
-    may_not (As_root e x) = at_rest e
+    may_not (Awakes e) = rest_is_sleeping e
+    may_not (As_root e x) = rest_is_search e
     may_not (Was_told e) = absurd (aside e)
 
     -- who wakes by a message: its Connect goes out first
@@ -271,29 +267,29 @@ module _ (n : State) (sleeps : n.head.phase ≡ Sleeping) (level : ◌≡◌ {A 
 
     sleeper_turn : (j : ℕ) → j < degree n → (f : State → Option Outcome) → ((a : State) (y : Outcome) → f a ≡ Some y → Row a j m y) →
         (x : Option Outcome) → ((a : Outcome) → x ≡ Some a → Waking n a) → (o : Outcome) → and_then x f ≡ Some o → Turn (before n) (m ∷ []) o
-    sleeper_turn j lt f rows None wake o h = no_outcome o h
+    sleeper_turn j lt f rows None wake o h = none_is_some o h
     sleeper_turn j lt f rows (Some a) wake o h = read_says a.sends (f a.state) o h
         (λ y e same. subst (λ z. Turn (before n) (m ∷ []) z) same (woken_turn j lt a y (wake a refl) (rows a.state y e)))
 
   asleep_turn : (j : ℕ) (m : Message) (o : Outcome) → j < degree n → asleep n j m ≡ Some o → Turn (before n) (m ∷ []) o
   asleep_turn j (Connect l) o lt e =
       sleeper_turn (Connect l) (λ x. cc) j lt (λ x. connect x j l) (λ a y. row_of a j (Connect l) y) (wakes n) (waking n) o e
-  asleep_turn j (Initiate l f) o lt e = no_outcome o e
+  asleep_turn j (Initiate l f) o lt e = none_is_some o e
   asleep_turn j (Name l f) o lt e =
       sleeper_turn (Name l f) (λ x. cc) j lt (λ x. name x j l f) (λ a y. row_of a j (Name l f) y) (wakes n) (waking n) o e
-  asleep_turn j (Report k) o lt e = no_outcome o e
-  asleep_turn j ChangeRoot o lt e = no_outcome o e
+  asleep_turn j (Report k) o lt e = none_is_some o e
+  asleep_turn j ChangeRoot o lt e = none_is_some o e
 
 -- each reaction, where sleepers have level 0 and a ChangeRoot finds its node at rest
 pub reaction_turn : (n : State) (k : Work Message) (o : Outcome) → (n.head.phase ≡ Sleeping → ◌≡◌ {A = ℕ} n.head.level 0) →
     (taken_by k ≡ ChangeRoot ∷ [] → n.head.phase ≡ Rest) → reaction n k ≡ Some o → Turn (before n) (taken_by k) o
 reaction_turn n Wake o low rest e = read_if (is_sleeping n.head.phase) _ _ o e
     (λ t x. let s = (sleeping_tells n.head.phase).0 t in first_turn n s (low s) o (waking n o x))
-    (λ t x. no_outcome o x)
+    (λ t x. none_is_some o x)
 reaction_turn n (Deliver j m) o low rest e = read_if (nat_lt j (degree n)) _ _ o e
     (λ port x.
     let lt = ltb-true j (degree n) port in
     read_if (is_sleeping n.head.phase) _ _ o x
     (λ t y. let s = (sleeping_tells n.head.phase).0 t in asleep_turn n s (low s) j m o lt y)
     (λ t y. row_turn n j m o lt (λ q. rest (ap (λ z. z ∷ []) q)) (row_of n j m o y)))
-    (λ port x. no_outcome o x)
+    (λ port x. none_is_some o x)

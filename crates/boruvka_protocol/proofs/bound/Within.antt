@@ -27,7 +27,7 @@ use Rattle.boruvka_protocol.proofs.every_run.Ground.{sleeper_level}
 use Rattle.boruvka_protocol.proofs.rows.Grows.{sleeping_tells}
 use Rattle.boruvka_protocol.proofs.rows.Leaving.{joined_ends}
 use Rattle.boruvka_protocol.proofs.bound.Sums.{sum_of_one, nodes_bounded, ports_bounded}
-use Rattle.boruvka_protocol.proofs.bound.OneWay.{one_port_up}
+use Rattle.boruvka_protocol.proofs.levels.OneWay.{one_port_up}
 use Rattle.boruvka_protocol.proofs.bound.Calls.{calls, names_counted, Call, call_waits, one_waits}
 use Rattle.boruvka_protocol.proofs.bound.Charges.{level_of, heard_of, Charges}
 use Rattle.boruvka_protocol.proofs.bound.Moved.{Moved}

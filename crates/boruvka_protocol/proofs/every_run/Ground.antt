@@ -6,7 +6,7 @@ use Rattle.ghs_graph.specs.Graph.{Shape}
 use Rattle.ghs_protocol.specs.declared.event.Event.{Event}
 use Rattle.ghs_protocol.specs.Network.{Network, network_of, At, InNetwork, far, far_port}
 use Rattle.ghs_protocol.proofs.lemmas.Wired.{IsWired}
-use Rattle.ghs_protocol.proofs.lemmas.Wires.{neighbour}
+use Rattle.ghs_protocol.proofs.lemmas.Wires.{at_in, neighbour}
 use Rattle.ghs_protocol.proofs.lemmas.Graphs.{graph_wired}
 use Rattle.ghs_protocol.proofs.lemmas.Updates.{one_place, put_at_miss}
 use Rattle.peer_machine.specs.declared.work.Work.TheVariants.{Wake, Deliver}
@@ -98,7 +98,7 @@ module _ (g : Network) where
   pub ground_taken : IsWired g → (w : Net State Message) (v p : ℕ) (m : Message) (ms : List Message) (o : Outcome) → Ground g w → At g v p →
       w.queue v p ≡ m ∷ ms → Wakes_up (w.node v) o.state → Ground g (reacted boruvka g v o (take_first boruvka g v p m ms w))
   ground_taken wired w v p m ms o i at q up =
-      ground_reacted w (take_first boruvka g v p m ms w) v o i refl up wired (record { some = at.some; node = at.node })
+      ground_reacted w (take_first boruvka g v p m ms w) v o i refl up wired (at_in at)
       (λ u b there ne h. taken_empty w v p m ms (far g u b) (far_port g u b) q h)
 
   pub ground_event : IsWired g → (w w' : Net State Message) (e : Event) → Ground g w → Happens boruvka g w e w' → Ground g w'

@@ -7,6 +7,7 @@ use Rattle.ghs_protocol.specs.Network.{Network, network_of, At, InNetwork}
 use Rattle.ghs_protocol.proofs.lemmas.Wired.{IsWired}
 use Rattle.ghs_protocol.proofs.lemmas.Graphs.{graph_wired}
 use Rattle.ghs_protocol.proofs.lemmas.Updates.{put_same, put_other}
+use Rattle.ghs_protocol.proofs.lemmas.Wires.{at_in}
 use Rattle.peer_machine.specs.declared.work.Work.TheVariants.{Wake, Deliver}
 use Rattle.peer_machine.specs.Net.{Net, put, opening, reacted, take_first}
 use Rattle.peer_machine.specs.Run.{IsNetOf}
@@ -20,8 +21,9 @@ use Rattle.boruvka_node.specs.State.{State, degree}
 use Rattle.boruvka_node.specs.Reaction.{Outcome, and_then, wakes, asleep, awake, reaction}
 use Rattle.boruvka_node.specs.Boruvka.{boruvka}
 use Rattle.boruvka_protocol.proofs.invariant.Whole.{Ground, Fits, Holds}
+use Rattle.boruvka_protocol.proofs.Unlike.{none_is_some}
 use Rattle.boruvka_protocol.proofs.rows.Table.{said}
-use Rattle.boruvka_protocol.proofs.rows.Read.{read_if, read_says, no_outcome, waking, row_of}
+use Rattle.boruvka_protocol.proofs.rows.Read.{read_if, read_says, waking, row_of}
 use Rattle.boruvka_protocol.proofs.rows.Grows.{Wakes_up, grows_waking, sleeping_tells, awake_woken}
 use Rattle.boruvka_protocol.proofs.rows.Acts.{Acts, acts_woken, acts_taken}
 use Rattle.boruvka_protocol.proofs.rows.Between.{acts_between, acts_left}
@@ -81,7 +83,7 @@ module _ (gr : Shape) (ok : IsGraph gr) where
 
       then_row : (x : Option Outcome) → wakes (w.node v) ≡ x → (f : State → Option Outcome) → ((n : State) → f n ≡ awake n p m) → (o : Outcome) →
           and_then x f ≡ Some o → Acts g w w' v o.state (put (w.queue v) p ms) o.sends → Fits gr.keys g w'
-      then_row None e f same o h acts = no_outcome o h
+      then_row None e f same o h acts = none_is_some o h
       then_row (Some a) e f same o h acts = read_says a.sends (f a.state) o h
           (λ y k is.
           woken_row a y e (sym (same a.state) ∙ k)
@@ -91,21 +93,21 @@ module _ (gr : Shape) (ok : IsGraph gr) where
       (w.node v).head.phase ≡ Sleeping → w.queue v p ≡ m ∷ ms → asleep (w.node v) p m ≡ Some o →
       Acts g w w' v o.state (put (w.queue v) p ms) o.sends → Ground g w' → Fits gr.keys g w'
   asleep_fits w w' v p (Connect l) ms o at fits sleeps q h acts ground =
-      then_row w v (record { some = at.some; node = at.node }) fits sleeps w' p (Connect l) ms at q ground (wakes (w.node v)) refl
+      then_row w v (at_in at) fits sleeps w' p (Connect l) ms at q ground (wakes (w.node v)) refl
       (λ n. awake n p (Connect l)) (λ n. refl) o h acts
-  asleep_fits w w' v p (Initiate l f) ms o at fits sleeps q h acts ground = no_outcome o h
+  asleep_fits w w' v p (Initiate l f) ms o at fits sleeps q h acts ground = none_is_some o h
   asleep_fits w w' v p (Name l f) ms o at fits sleeps q h acts ground =
-      then_row w v (record { some = at.some; node = at.node }) fits sleeps w' p (Name l f) ms at q ground (wakes (w.node v)) refl
+      then_row w v (at_in at) fits sleeps w' p (Name l f) ms at q ground (wakes (w.node v)) refl
       (λ n. awake n p (Name l f)) (λ n. refl) o h acts
-  asleep_fits w w' v p (Report k) ms o at fits sleeps q h acts ground = no_outcome o h
-  asleep_fits w w' v p ChangeRoot ms o at fits sleeps q h acts ground = no_outcome o h
+  asleep_fits w w' v p (Report k) ms o at fits sleeps q h acts ground = none_is_some o h
+  asleep_fits w w' v p ChangeRoot ms o at fits sleeps q h acts ground = none_is_some o h
 
   -- by the reaction
   woke_fits : (w w' : Net State Message) (v : ℕ) (o : Outcome) → InNetwork g v → Fits gr.keys g w → reaction (w.node v) Wake ≡ Some o →
       Acts g w w' v o.state (w.queue v) o.sends → Ground g w' → Fits gr.keys g w'
   woke_fits w w' v o here fits r acts ground = read_if (is_sleeping (w.node v).head.phase) _ _ o r
       (λ t x. waking_fits gr ok w w' v o here fits ((sleeping_tells (w.node v).head.phase).0 t) (waking (w.node v) o x) acts ground)
-      (λ t x. no_outcome o x)
+      (λ t x. none_is_some o x)
 
   took_fits : (w w' : Net State Message) (v p : ℕ) (m : Message) (ms : List Message) (o : Outcome) → At g v p → Fits gr.keys g w →
       w.queue v p ≡ m ∷ ms → reaction (w.node v) (Deliver p m) ≡ Some o → Acts g w w' v o.state (put (w.queue v) p ms) o.sends → Ground g w' →
@@ -116,7 +118,7 @@ module _ (gr : Shape) (ok : IsGraph gr) where
       (λ t y. asleep_fits w w' v p m ms o at fits ((sleeping_tells (w.node v).head.phase).0 t) q y acts ground)
       (λ t y.
       row_fits gr ok w w' v p m ms o at fits ((sleeping_tells (w.node v).head.phase).1 t) q (row_of (w.node v) p m o y) acts ground))
-      (λ port x. no_outcome o x)
+      (λ port x. none_is_some o x)
 
   pub event_fits : (w w' : Net State Message) (e : Event) → Fits gr.keys g w → Happens boruvka g w e w' → Fits gr.keys g w'
   event_fits w _ _ fits (Woke v o lo hi s r t) =

@@ -1,5 +1,5 @@
 -- The invariant at the opening: everybody sleeps, and nothing waits.
-use Rattle.std.proofs.Common.{◌≡◌, ℕ, inl, true, false, List, length, refl, sym, ◌∙◌, ap, subst, arith}
+use Rattle.std.proofs.Common.{◌≡◌, ℕ, inl, false, List, length, refl, sym, ◌∙◌, ap, subst, arith}
 use Rattle.std.proofs.lemmas.List.{get_or-replicate}
 use Rattle.ghs_graph.specs.declared.key.Key.{Key}
 use Rattle.ghs_graph.specs.Graph.{Shape, IsGraph}
@@ -7,38 +7,20 @@ use Rattle.ghs_protocol.specs.Network.{Network, network_of, At, far}
 use Rattle.ghs_protocol.proofs.lemmas.Wired.{IsWired}
 use Rattle.ghs_protocol.proofs.lemmas.Graphs.{graph_wired}
 use Rattle.peer_machine.specs.Net.{opening}
-use Rattle.boruvka_node.specs.declared.mark.Mark.TheVariants.{Basic, Asked, Branch, Inside}
-use Rattle.boruvka_node.specs.declared.message.Phase.TheVariants.{Sleeping, Search, Rest}
+use Rattle.boruvka_node.specs.declared.mark.Mark.TheVariants.{Basic}
 use Rattle.boruvka_node.specs.declared.port_state.PortState.{PortState}
 use Rattle.boruvka_node.specs.State as state
-use Rattle.boruvka_node.specs.State.{State, sleeper, fresh_port, no_port}
+use Rattle.boruvka_node.specs.State.{sleeper, fresh_port, no_port}
 use Rattle.boruvka_node.specs.Boruvka.{boruvka}
 use Rattle.boruvka_protocol.proofs.invariant.Words.{IsName}
 use Rattle.boruvka_protocol.proofs.invariant.TreeMessages.{Nothing}
 use Rattle.boruvka_protocol.proofs.invariant.Token.{Place, IsTokenAt, In_message, Gone_out, Gone_on, At_end}
 use Rattle.boruvka_protocol.proofs.invariant.Whole.{LinksFit, Fits, Holds}
+use Rattle.boruvka_protocol.proofs.Unlike.{sleeping_is_search, sleeping_is_rest, basic_is_branch, basic_is_inside, basic_is_asked, false_is_true, none_is_some}
 use Rattle.boruvka_protocol.proofs.every_run.Ground.{ground_opening}
-use Rattle.boruvka_protocol.proofs.rows.Woken.{nowhere_out, asleep_past}
+use Rattle.boruvka_protocol.proofs.rows.Woken.{asleep_past}
 
 -- no two of these are one
-basic_branch : {P : Type 0} → Basic ≡ Branch → P
-basic_branch e = cc
-
-basic_inside : {P : Type 0} → Basic ≡ Inside → P
-basic_inside e = cc
-
-basic_asked : {P : Type 0} → Basic ≡ Asked → P
-basic_asked e = cc
-
-asleep_search : {P : Type 0} → Sleeping ≡ Search → P
-asleep_search e = cc
-
-asleep_rest : {P : Type 0} → Sleeping ≡ Rest → P
-asleep_rest e = cc
-
-false_true : {P : Type 0} → false ≡ true → P
-false_true e = cc
-
 module _ (ks : List Key) (g : Network) where
   -- a port of a sleeper
   fresh : (v p : ℕ) → At g v p → state.port_at (sleeper v (g.ports v)) p ≡ fresh_port
@@ -48,8 +30,8 @@ module _ (ks : List Key) (g : Network) where
     link_opening : LinksFit ks g (opening boruvka g)
     link_opening v p at = record {
       marks = record {
-        branch = λ e. basic_branch (sym mark ∙ e);
-        inside = λ e. basic_inside (sym mark ∙ e);
+        branch = λ e. basic_is_branch (sym mark ∙ e);
+        inside = λ e. basic_is_inside (sym mark ∙ e);
         late = λ m e t ne. absurd (omega (arith, e));
         leads_out = λ b lo le. absurd (omega (arith, lo));
       };
@@ -62,15 +44,15 @@ module _ (ks : List Key) (g : Network) where
           aside = λ no. record { apart = λ m lt. absurd (omega (arith, lt, level)); far = inl (omega (arith, level)) };
         };
         near = λ b. (omega arith, omega arith);
-        rest = λ r. asleep_rest r;
+        rest = λ r. sleeping_is_rest r;
       };
-      connects = record { asked = λ e. basic_asked (sym mark ∙ e); out = λ e. nowhere_out p e };
+      connects = record { asked = λ e. basic_is_asked (sym mark ∙ e); out = λ e. none_is_some p e };
       calls = Nothing;
       children = record { child = λ h. absurd h.up.link; parent = λ h. absurd h.up.link };
       owes = record {
-        child = λ e. false_true (sym owes ∙ e);
-        open_yet = λ e. false_true (sym owes ∙ e);
-        heard = λ s. asleep_search s;
+        child = λ e. false_is_true (sym owes ∙ e);
+        open_yet = λ e. false_is_true (sym owes ∙ e);
+        heard = λ s. sleeping_is_search s;
         rest = λ ne. owes;
       };
     }
@@ -89,19 +71,19 @@ module _ (ks : List Key) (g : Network) where
 
   no_token : (l u : ℕ) (place : Place) → IsTokenAt ks g (opening boruvka g) l u place → ⊥
   no_token l u _ (In_message p at e lt) = omega (arith, lt)
-  no_token l u _ (Gone_out p at e out) = nowhere_out p out
+  no_token l u _ (Gone_out p at e out) = none_is_some p out
   no_token l u _ (Gone_on k lt least end) = omega (arith, lt)
-  no_token l u _ (At_end e halted) = false_true halted
+  no_token l u _ (At_end e halted) = false_is_true halted
 
   pub fits_opening : IsWired g → Fits ks g (opening boruvka g)
   fits_opening wired = record {
     ground = ground_opening g;
     nodes = λ v here up. absurd (up refl);
     links = link_opening wired;
-    search = λ v here. record { search = λ s. asleep_search s; rest = λ r. asleep_rest r };
-    lacks = λ v here s. asleep_search s;
+    search = λ v here. record { search = λ s. sleeping_is_search s; rest = λ r. sleeping_is_rest r };
+    lacks = λ v here s. sleeping_is_search s;
     tokens = record {
-      halted = λ v here h. false_true h;
+      halted = λ v here h. false_is_true h;
       one = λ l v here proper. record {
         some = λ past. asleep_past l past.past;
         one = λ s t. absurd (no_token l s.node s.place s.at);

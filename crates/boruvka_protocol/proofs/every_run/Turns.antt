@@ -11,6 +11,7 @@ use Rattle.ghs_node.specs.Words.{is_at}
 use Rattle.ghs_protocol.specs.Network.{Network, network_of, At, InNetwork, far, far_port}
 use Rattle.ghs_protocol.proofs.lemmas.Wired.{IsWired}
 use Rattle.ghs_protocol.proofs.lemmas.Graphs.{graph_wired}
+use Rattle.ghs_protocol.proofs.lemmas.Wires.{at_in}
 use Rattle.peer_machine.specs.Rules.{Outgoing}
 use Rattle.peer_machine.specs.Net.{Net, put, reacted, take_first}
 use Rattle.boruvka_node.specs.declared.change.Entry.{Entry}
@@ -18,15 +19,16 @@ use Rattle.boruvka_node.specs.declared.mark.Mark.{Mark}
 use Rattle.boruvka_node.specs.declared.mark.Mark.TheVariants.{Asked}
 use Rattle.boruvka_node.specs.declared.message.Message.{Message}
 use Rattle.boruvka_node.specs.declared.message.Message.TheVariants.{Connect, Initiate, ChangeRoot}
-use Rattle.boruvka_node.specs.declared.message.Phase.TheVariants.{Sleeping, Search, Rest}
+use Rattle.boruvka_node.specs.declared.message.Phase.TheVariants.{Sleeping, Search}
 use Rattle.boruvka_node.specs.Words.{is_asked, is_branch}
 use Rattle.boruvka_node.specs.State.{State, sleeper, key_at, mark_at, set_mark, degree, name_of}
 use Rattle.boruvka_node.specs.Entering.{entered, told_from}
 use Rattle.boruvka_node.specs.Reaction.{Outcome, is_over, rested, halted, woken, heard, reported}
 use Rattle.boruvka_node.specs.Boruvka.{boruvka}
 use Rattle.boruvka_protocol.proofs.invariant.Whole.{Ground, Fits, NearlyFits}
+use Rattle.boruvka_protocol.proofs.Unlike.{rest_is_sleeping, search_is_sleeping}
 use Rattle.boruvka_protocol.proofs.rows.Table.{still, gone, adopted, core_entry, call_entry, Moving, Passes, Goes, Closing, Goes_on, Reports, Halts, Moves, Connecting, Connects, Waking, Alone, Wakes, Enters, Waits, Begins, Going, Goes_out, Meets, Row, Noted, Met, Late, Called, Named, Told, Moved}
-use Rattle.boruvka_protocol.proofs.rows.Grows.{Wakes_up, grows_on, grows_port, grows_rested, grows_gone, grows_reported, grows_entered, grows_woken, search_awake, rest_awake}
+use Rattle.boruvka_protocol.proofs.rows.Grows.{Wakes_up, grows_on, grows_port, grows_rested, grows_gone, grows_reported, grows_entered, grows_woken}
 use Rattle.boruvka_protocol.proofs.rows.Acts.{Acts, acts_woken, acts_taken}
 use Rattle.boruvka_protocol.proofs.rows.Between.{acts_on, same_fits}
 use Rattle.boruvka_protocol.proofs.rows.Unasked.{Unmet, Unasked, entered_unasked, closes_unasked}
@@ -40,7 +42,8 @@ use Rattle.boruvka_protocol.proofs.rows.Reported.{reported_nearly}
 use Rattle.boruvka_protocol.proofs.rows.Above.{token_gone_on}
 use Rattle.boruvka_protocol.proofs.rows.Moves.{moves_out, out_port, holding, least_out, gone_node}
 use Rattle.boruvka_protocol.proofs.rows.AtCore.{at_core}
-use Rattle.boruvka_protocol.proofs.rows.CoreIn.{core_after, is_lesser, is_greater}
+use Rattle.boruvka_protocol.proofs.rows.OwnPorts.{is_lesser, is_greater}
+use Rattle.boruvka_protocol.proofs.rows.CoreIn.{core_after}
 use Rattle.boruvka_protocol.proofs.rows.CalledIn.{called_nearly}
 use Rattle.boruvka_protocol.proofs.rows.Met.{met_waits, met_begins}
 use Rattle.boruvka_protocol.proofs.rows.Halting.{wakes_alone}
@@ -74,14 +77,11 @@ module _ (gr : Shape) (ok : IsGraph gr) where
       InClass gr.keys (w.node v).head.level v x → (w.node x).head.level ≡ suc (w.node v).head.level → (w.node x).head.phase ≡ Search → ⊥
   none_gone_on w v here h x net inside level searching =
       let class : IsOfLevel gr.keys (suc (w.node v).head.level) x =
-      subst (λ l. IsOfLevel gr.keys l x) level (h.nodes x net (λ s. searches_awake (sym searching ∙ s))).class in
+      subst (λ l. IsOfLevel gr.keys l x) level (h.nodes x net (λ s. search_is_sleeping (sym searching ∙ s))).class in
       let top = classes_have_one_top gr ok (suc (w.node v).head.level) x class in
       h.tokens.none (token_gone_on gr w ok (λ u i at. let k = h.links u i at in record { marks = k.marks; children = k.children })
       (λ u at lo. (h.nodes u at (λ s. let z = sleeper_level h.ground u s in omega (arith, lo, z))).class)
       (w.node v).head.level v x top.0 top.1 class inside net level searching).0
-    where
-      searches_awake : Search ≡ Sleeping → ⊥
-      searches_awake e = cc
 
   -- goes out where no Connect has come, or as the greater end of a core
   outs_fits : (w w' : Net State Message) (v : ℕ) → InNetwork g v → (h : AboutToMove gr.keys g w v) → is_branch (mark_at (w.node v) h.best.0) ≡ false →
@@ -124,7 +124,8 @@ module _ (gr : Shape) (ok : IsGraph gr) where
         root_fits w w' v o b here near
         (moves_next gr ok w v near here over up b e (reacted boruvka g v (still (rested (w.node v))) w)
         (acts_woken g wired w v (still (rested (w.node v))))
-        (ground_reacted g w w v (still (rested (w.node v))) near.ground refl (grows_rested (w.node v), rest_awake) wired here (λ u p at ne h. h)))
+        (ground_reacted g w w v (still (rested (w.node v))) near.ground refl (grows_rested (w.node v), rest_is_sleeping) wired here
+        (λ u p at ne h. h)))
         e m a ground
 
     -- v has come to n by way of the net mid, and closes
@@ -176,11 +177,8 @@ module _ (gr : Shape) (ok : IsGraph gr) where
       core_after gr ok w mid w' v p n (w.queue v) out.sends
       (at_core gr ok w mid v p o.at (holding gr ok w v here h) o.basic (least_out gr ok w v here h o) first (gone_node gr ok w v here h o.at)
       (asked_is (mark_at (w.node v) p) asked) (is_lesser gr ok v p (w.node v) (h.ground.nodes v) o.at t)
-      (ground_reacted g w w v out h.ground refl (grows_gone (w.node v) p, λ s. resting (sym h.rest ∙ s)) wired here (λ u q at ne z. z)))
+      (ground_reacted g w w v out h.ground refl (grows_gone (w.node v) p, λ s. rest_is_sleeping (sym h.rest ∙ s)) wired here (λ u q at ne z. z)))
       first a ground
-    where
-      resting : Rest ≡ Sleeping → ⊥
-      resting e = cc
 
   -- the lesser end of a core enters as soon as it has gone out
   begins_fits : (w w' : Net State Message) (v : ℕ) (o : Outcome) → InNetwork g v → (h : AboutToMove gr.keys g w v) →
@@ -199,7 +197,7 @@ module _ (gr : Shape) (ok : IsGraph gr) where
       enters_fits w mid w' v n e (w.queue v) ss o here
       (core_nearly w mid v here h plain asked t (acts_woken g wired w v done)
       (ground_reacted g w w v done h.ground refl
-      (grows_on (grows_gone (w.node v) h.best.0) (grows_entered n e (omega arith)), search_awake) wired here (λ u q at ne z. z)))
+      (grows_on (grows_gone (w.node v) h.best.0) (grows_entered n e (omega arith)), search_is_sleeping) wired here (λ u q at ne z. z)))
       (acts_woken g wired w v done) ground c a
 
   going_right : GoesRight Going
@@ -213,7 +211,7 @@ module _ (gr : Shape) (ok : IsGraph gr) where
   module _ (w w' : Net State Message) (v j : ℕ) (m : Message) (ms : List Message) (at : At g v j) (fits : Fits gr.keys g w)
       (q : w.queue v j ≡ m ∷ ms) (ground : Ground g w') where
     here : InNetwork g v
-    here = record { some = at.some; node = at.node }
+    here = at_in at
 
     abbrev own : ℕ → List Message
     own = put (w.queue v) j ms
@@ -258,7 +256,7 @@ module _ (gr : Shape) (ok : IsGraph gr) where
         silent = λ u p there s. taken_empty g w v j ChangeRoot ms (far g u p) (far_port g u p) q (fits.ground.silent u p there s);
       }) in
       let same : h.best ≡ b = same_Some _ _ (sym h.is ∙ e) in
-      moving_fits Going going_right mid w' v o (record { some = at.some; node = at.node }) h
+      moving_fits Going going_right mid w' v o (at_in at) h
       (subst (λ (y : ℕ × Key). Moving Going (w.node v) y.0 o) (sym same) move)
       (acts_on g w mid w' v (w.node v) o.state own [] o.sends first a)
       ground
@@ -310,7 +308,7 @@ module _ (gr : Shape) (ok : IsGraph gr) where
   woken_ground w v here fits sleeps =
       let n = sleeper v (g.ports v) in
       ground_reacted g w w v (still (woken n)) fits.ground refl
-      (subst (λ (x : State). Wakes_up x (woken n)) (sym (fits.ground.untouched v sleeps)) (grows_woken n refl, rest_awake)) wired here
+      (subst (λ (x : State). Wakes_up x (woken n)) (sym (fits.ground.untouched v sleeps)) (grows_woken n refl, rest_is_sleeping)) wired here
       (λ u q at ne z. z)
 
   -- a sleeper wakes

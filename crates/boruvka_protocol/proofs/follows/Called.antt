@@ -1,5 +1,5 @@
 -- Who has gone out is called over no other link.
-use Rattle.std.proofs.Common.{◌≡◌, ◌≢◌, ℕ, suc, ◌<◌, inr, ⊎_elim, true, sym, ◌∙◌, ap, subst, refl}
+use Rattle.std.proofs.Common.{◌≡◌, ℕ, suc, ◌<◌, inr, ⊎_elim, true, sym, ◌∙◌, ap, subst, refl}
 use Rattle.ghs_graph.specs.declared.key.Key.{Key}
 use Rattle.ghs_graph.specs.Key.{ends_at}
 use Rattle.ghs_graph.specs.Links.{Joined, Same, Back}
@@ -8,35 +8,15 @@ use Rattle.ghs_graph.specs.Graph.{Shape, IsGraph}
 use Rattle.ghs_graph.proofs.lemmas.Ports.{ends_b, end_cases, far_end_a, far_end_b}
 use Rattle.ghs_protocol.proofs.lemmas.Graphs.{link_among}
 use Rattle.ghs_levels.specs.Levels.{Taken, IsOfLevel}
-use Rattle.ghs_levels.specs.WaysUp.{IsTop, IsUp, Away}
+use Rattle.ghs_levels.specs.WaysUp.{IsTop, Away}
 use Rattle.ghs_levels.proofs.lemmas.KeyOrder.{keys_decided}
 use Rattle.ghs_levels.proofs.lemmas.Cores.{least_is_one}
 use Rattle.ghs_levels.proofs.lemmas.WaysOut.{least_out}
-use Rattle.ghs_levels.proofs.lemmas.WaysUp.{classes_have_one_top, others_have_one_way_up, tops_have_no_way_up}
 use Rattle.boruvka_protocol.proofs.invariant.Words.{IsLeast, IsWayUp}
+use Rattle.boruvka_protocol.proofs.levels.OneWay.{root_has_none, one_way_up}
 use Rattle.boruvka_protocol.proofs.levels.Chosen.{chosen_up}
 use Rattle.boruvka_protocol.proofs.follows.Ways.{ends_from}
 use Rattle.boruvka_protocol.proofs.follows.Quiet.{leaves_across}
-
-module _ (g : Shape) (ok : IsGraph g) (l v : ℕ) where
-  -- a node of the level has one way up
-  pub one_way_up : IsOfLevel g.keys l v → (j k : Key) → IsWayUp g.keys l v j → IsWayUp g.keys l v k → j ≡ k
-  one_way_up h j k a b = way.2 j up_a ∙ sym (way.2 k up_b)
-    where
-      top : (r : ℕ) × IsTop g.keys l v r × Joined (Taken g.keys l) v r × ((s : ℕ) → IsTop g.keys l v s → s ≡ r)
-      top = classes_have_one_top g ok l v h
-
-      up_a : IsUp (Taken g.keys l) top.0 v j
-      up_a = subst (λ r. IsUp (Taken g.keys l) r v j) (top.3 a.root a.top) a.up
-
-      up_b : IsUp (Taken g.keys l) top.0 v k
-      up_b = subst (λ r. IsUp (Taken g.keys l) r v k) (top.3 b.root b.top) b.up
-
-      other : v ≢ top.0
-      other e = tops_have_no_way_up g ok l v top.0 top.1 j (subst (λ x. IsUp (Taken g.keys l) top.0 x j) e up_a)
-
-      way : (i : Key) × IsUp (Taken g.keys l) top.0 v i × ((x : Key) → IsUp (Taken g.keys l) top.0 v x → x ≡ i)
-      way = others_have_one_way_up g ok l v top.0 top.1 other
 
 -- the greater end of a core has it as its way up
 pub core_up : (g : Shape) → IsGraph g → (l : ℕ) (c : Key) → IsLeast g.keys l c.a c → IsLeast g.keys l c.b c → IsWayUp g.keys (suc l) c.b c
@@ -62,7 +42,7 @@ module _ (g : Shape) (ok : IsGraph g) (l v : ℕ) (out up : Key) (of_level : IsO
   of_core far = ⊎_elim at_a at_b (end_cases v out ends)
     where
       at_a : v ≡ out.a → IsWayUp g.keys (suc l) v out
-      at_a e = absurd (tops_have_no_way_up g ok (suc l) v v at_top up (subst (λ r. IsUp (Taken g.keys (suc l)) r v up) root_is called.up))
+      at_a e = root_has_none g ok (suc l) v up of_level at_top called
         where
           of_a : IsLeast g.keys l out.a out
           of_a = subst (λ x. IsLeast g.keys l x out) e least
@@ -73,12 +53,6 @@ module _ (g : Shape) (ok : IsGraph g) (l v : ℕ) (out up : Key) (of_level : IsO
           at_top : IsTop g.keys (suc l) v v
           at_top = (out, record { inside = subst (λ x. Joined (Taken g.keys (suc l)) v x) e Same; of_a = of_a; of_b = of_b }, e)
 
-          top : (r : ℕ) × IsTop g.keys (suc l) v r × Joined (Taken g.keys (suc l)) v r × ((s : ℕ) → IsTop g.keys (suc l) v s → s ≡ r)
-          top = classes_have_one_top g ok (suc l) v of_level
-
-          root_is : called.root ≡ v
-          root_is = top.3 called.root called.top ∙ sym (top.3 v at_top)
-
       at_b : v ≡ out.b → IsWayUp g.keys (suc l) v out
       at_b e = subst (λ x. IsWayUp g.keys (suc l) x out) (sym e)
           (core_up g ok l out
@@ -87,7 +61,7 @@ module _ (g : Shape) (ok : IsGraph g) (l v : ℕ) (out up : Key) (of_level : IsO
 
   -- who is called is so over the link that it has gone out over, where it has
   pub called_over_out : out ≡ up
-  called_over_out = one_way_up g ok (suc l) v of_level out up way called
+  called_over_out = one_way_up g ok (suc l) v out up of_level way called
     where
       of_far : (k : Key) × IsLeast g.keys l (far_end v out) k
       of_far = least_out g.keys l (far_end v out) (out, least.link, leaves_across out (ends_from out v lt ends) least.leaves)

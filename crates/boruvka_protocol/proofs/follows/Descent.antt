@@ -10,6 +10,7 @@ use Rattle.ghs_protocol.proofs.lemmas.Sums.{sum_less}
 use Rattle.ghs_levels.specs.Levels.{Taken}
 use Rattle.ghs_levels.specs.WaysUp.{IsTop, IsUp, IsBelow, Here, Up}
 use Rattle.ghs_levels.proofs.lemmas.WaysUp.{top_at, others_have_one_way_up, tops_have_no_way_up, ways_up_lead_to_top}
+use Rattle.boruvka_protocol.proofs.Unlike.{false_is_true}
 use Rattle.boruvka_protocol.proofs.follows.Ways.{over, ends_from, taken_ordered}
 
 -- Nodes that were seen, and how many weren't.
@@ -101,7 +102,4 @@ module _ (g : Shape) (ok : IsGraph g) (l r : ℕ) where
     pub none_goes_down : (y : ℕ) → P y → ⊥
     none_goes_down y p =
         let deep = deep_of (ways_up_lead_to_top g ok l y r (tops y p)) refl in
-        goes_down (sum_below g.nodes (unseen (λ z. false))) (λ z. false) y deep.0 p deep.1 (λ z t. never t) (omega arith)
-      where
-        never : {A : Type 0} → false ≡ true → A
-        never e = cc
+        goes_down (sum_below g.nodes (unseen (λ z. false))) (λ z. false) y deep.0 p deep.1 (λ z t. false_is_true t) (omega arith)

@@ -21,13 +21,12 @@ use Rattle.boruvka_protocol.proofs.invariant.Words.{IsLeast}
 use Rattle.boruvka_protocol.proofs.invariant.Sides.{Side, Heard, names_in, calls_in}
 use Rattle.boruvka_protocol.proofs.invariant.Marks.{IsLate}
 use Rattle.boruvka_protocol.proofs.invariant.Names.{AreNamesFrom}
+use Rattle.boruvka_protocol.proofs.Unlike.{branch_is_inside, inside_is_branch, inside_is_asked}
 use Rattle.boruvka_protocol.proofs.rows.Leaving.{not_joined}
-use Rattle.boruvka_protocol.proofs.rows.Named.{inside_branch, inside_asked}
 use Rattle.boruvka_protocol.proofs.rows.Ports.{told_by}
 use Rattle.boruvka_protocol.proofs.follows.Cases.{asked_is}
 use Rattle.boruvka_protocol.proofs.follows.Seen.{Seen}
 use Rattle.boruvka_protocol.proofs.follows.Order.{OrderFits}
-use Rattle.boruvka_protocol.proofs.follows.Told.{branch_no_inside}
 use Rattle.boruvka_protocol.proofs.follows.Ordered.{none_more, first_none, order_silent, order_more, order_told}
 
 -- a Name that waits isn't above what was heard and as many as Names wait
@@ -77,8 +76,8 @@ module _ (ks : List Key) (v u : ℕ) (e : Entry) (i : ℕ) (x : PortState) (q : 
   turned false same inside = o
   turned true same inside = record {
     first = o.first;
-    asked = λ z. inside_asked z;
-    branch = λ z. inside_branch z;
+    asked = λ z. inside_is_asked z;
+    branch = λ z. inside_is_branch z;
     inside = λ z. subst (λ n. InClass ks n v u) (sym level) (inside refl);
   }
     where
@@ -88,7 +87,7 @@ module _ (ks : List Key) (v u : ℕ) (e : Entry) (i : ℕ) (x : PortState) (q : 
           (and_parts (x.level == e.level) (is_name x.name e.name) (and_parts (is_basic x.mark) (was_heard e.level e.name x) same).1).0
 
   either : (b : Bool) → (b ≡ true → names_in q ≡ []) → Now b
-  either true none inside = order_silent ks v u Branch x.level q (none refl) (λ z. branch_no_inside z)
+  either true none inside = order_silent ks v u Branch x.level q (none refl) (λ z. branch_is_inside z)
   either false none inside = turned (is_basic x.mark && was_heard e.level e.name x) refl inside
 
   pub order_entered : (is_at e.out i ≡ true → names_in q ≡ []) → ((entered_port e i x).mark ≡ Inside → InClass ks e.level v u) →

@@ -18,7 +18,7 @@ use Rattle.boruvka_node.specs.Words.{is_basic, is_asked, is_branch, is_search, i
 use Rattle.boruvka_node.specs.State.{State, degree, key_at, port_at, mark_at, no_port, set_port, set_mark, least_basic}
 use Rattle.boruvka_node.specs.Entering.{joined_mark, entered, told_as, told_from}
 use Rattle.boruvka_node.specs.Reaction.{Outcome, GoingOut, silent, says, and_then, moves_over, own_best, is_over, rested, halted, root_closes, reports, closes_by, connects, enters_by, core, core_if_asked, goes_out, closes, moves, woken, wakes, connect, initiate, heard, is_next_name, name, reported, report}
-use Rattle.boruvka_protocol.proofs.rows.Grows.{entered_many}
+use Rattle.boruvka_node.proofs.lemmas.Entered.{length_entered}
 use Rattle.boruvka_protocol.proofs.follows.Cases.{searching_is}
 
 -- each message goes out on one of the first d ports
@@ -114,7 +114,7 @@ pub enters_goes : (d : ℕ) (n : State) (e : Entry) → degree n ≤ d → e.lev
 enters_goes d n e le top up = choose_goes d (nat_le e.level TOP_LEVEL) _ _
     (λ t.
     says_goes d (told_from e 0 n.ports) (closes_by connects (entered n e)) (told_below e d 0 n.ports (omega (arith, le)))
-    (closes_goes d connects (entered n e) up (λ over. own_below d (entered n e) (omega (arith, le, entered_many e 0 n.ports)) tt)
+    (closes_goes d connects (entered n e) up (λ over. own_below d (entered n e) (omega (arith, le, length_entered e 0 n.ports)) tt)
     (λ c q lt. (lt, tt))))
     (λ t. absurd (both_ways (nat_le e.level TOP_LEVEL) t (le-leb e.level TOP_LEVEL top)))
 

@@ -21,8 +21,9 @@ use Rattle.boruvka_protocol.specs.Marks.{HasHalted}
 use Rattle.boruvka_protocol.proofs.invariant.Sides.{Side, Heard, Told, names_in, calls_in}
 use Rattle.boruvka_protocol.proofs.invariant.Names.{NamesFit}
 use Rattle.boruvka_protocol.proofs.invariant.Connects.{ConnectFits}
-use Rattle.boruvka_protocol.proofs.invariant.TreeMessages.{CallsFit, Nothing, Chosen, Called, Chosen_called, Reported, Passed}
+use Rattle.boruvka_protocol.proofs.invariant.TreeMessages.{CallsFit}
 use Rattle.boruvka_protocol.proofs.invariant.Whole.{Holds}
+use Rattle.boruvka_protocol.proofs.rows.Parts.{none_by}
 use Rattle.boruvka_protocol.proofs.follows.Cases.{not_both}
 use Rattle.boruvka_protocol.proofs.follows.Ways.{over}
 use Rattle.boruvka_protocol.proofs.follows.Seen.{SeenAt, seen}
@@ -55,14 +56,10 @@ module _ (ks : List Key) (l : ℕ) (e f : Side) (at : e.level ≡ l) (rest : e.p
       c.finds
 
   no_calls : (q : List Message) → CallsFit ks e f q → q ≡ []
-  no_calls _ Nothing = refl
-  no_calls _ (Chosen m c) = absurd (no_connect m c)
-  no_calls _ (Called k name c) = absurd (not_both f.phase c.sender_search far_rest)
-  no_calls _ (Chosen_called m k name c d) = absurd (no_connect m c)
-  no_calls _ (Reported least c) = absurd (not_both e.phase c.search rest)
-  no_calls _ (Passed c) =
-      let least = c.least.1 in
-      absurd (none (subst (λ x. HasWayOut ks x e.node) at (c.least.0, least.link, least.leaves)))
+  no_calls = none_by ks e f no_connect
+      (λ k name c. not_both f.phase c.sender_search far_rest)
+      (λ k c. not_both e.phase c.search rest)
+      (λ c. let least = c.least.1 in none (subst (λ x. HasWayOut ks x e.node) at (c.least.0, least.link, least.leaves)))
 
   no_names : (heard : Heard) (ts : List Told) → NamesFit ks e f heard ts → is_basic e.mark ≡ true → ts ≡ []
   no_names heard ts n basic = none_in ts (⊎_elim

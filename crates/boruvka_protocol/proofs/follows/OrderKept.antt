@@ -13,11 +13,12 @@ use Rattle.ghs_protocol.specs.Network as network
 use Rattle.ghs_protocol.specs.Network.{Network, network_of, far, far_port, At}
 use Rattle.ghs_protocol.proofs.lemmas.Graphs.{graph_wired, graph_keyed, port_ends}
 use Rattle.ghs_protocol.proofs.lemmas.Updates.{put_same, put_other}
+use Rattle.ghs_protocol.proofs.lemmas.Wires.{at_in}
 use Rattle.peer_machine.specs.Net.{Net, opening, put, reacted, take_first}
 use Rattle.peer_machine.specs.Run.{IsNetOf}
 use Rattle.peer_machine.specs.Steps.{Happens, Woke, Took}
 use Rattle.peer_machine.proofs.lemmas.Runs.{run_keeps, after_more}
-use Rattle.boruvka_node.specs.declared.mark.Mark.TheVariants.{Basic, Inside}
+use Rattle.boruvka_node.specs.declared.mark.Mark.TheVariants.{Basic}
 use Rattle.boruvka_node.specs.declared.message.Message.{Message}
 use Rattle.boruvka_node.specs.declared.message.Message.TheVariants.{Initiate, Name}
 use Rattle.boruvka_node.specs.declared.port_state.PortState.{PortState}
@@ -31,10 +32,11 @@ use Rattle.boruvka_protocol.proofs.invariant.Connects.{OutFits}
 use Rattle.boruvka_protocol.proofs.invariant.TreeMessages.{CallsFit, Nothing, Chosen, Called, Chosen_called, Reported, Passed}
 use Rattle.boruvka_protocol.proofs.invariant.Nodes.{NodeFits}
 use Rattle.boruvka_protocol.proofs.invariant.Whole.{Holds, LinkFits}
+use Rattle.boruvka_protocol.proofs.Unlike.{basic_is_inside, inside_is_branch, inside_is_asked}
 use Rattle.boruvka_protocol.proofs.every_run.Ground.{sleeper_level}
 use Rattle.boruvka_protocol.proofs.rows.Acts.{Acts, acts_woken, acts_taken}
 use Rattle.boruvka_protocol.proofs.rows.Hears.{name_tells}
-use Rattle.boruvka_protocol.proofs.rows.Named.{inside_branch, inside_asked, one_class}
+use Rattle.boruvka_protocol.proofs.rows.Named.{one_class}
 use Rattle.boruvka_protocol.proofs.follows.Cases.{plain_no_asked, plain_no_branch}
 use Rattle.boruvka_protocol.proofs.follows.Seen.{Seen, side, seen, node_fits}
 use Rattle.boruvka_protocol.proofs.follows.Halt.{NamesEnd}
@@ -99,7 +101,7 @@ module _ (g : Shape) (w w' : Net State Message) (h : Holds g w) (h' : Holds g w'
 
       fits : NodeFits g.keys v n
       fits = let next : k ≡ suc (port_at n p).level = link.names.next.0 in
-          node_fits g w h v (record { some = at.some; node = at.node }) (omega (arith, next, lv))
+          node_fits g w h v (at_in at) (omega (arith, next, lv))
 
   -- the order at p when m is taken
   order_here : OrderFits g.keys v u (port_in r.now p).mark (port_in r.now p).level ms
@@ -119,8 +121,8 @@ module _ (g : Shape) (w w' : Net State Message) (h : Holds g w) (h' : Holds g w'
           })
           (λ i. record {
             first = rest;
-            asked = λ z. inside_asked (sym i.0 ∙ z);
-            branch = λ z. inside_branch (sym i.0 ∙ z);
+            asked = λ z. inside_is_asked (sym i.0 ∙ z);
+            branch = λ z. inside_is_branch (sym i.0 ∙ z);
             inside = λ z. subst (λ y. InClass g.keys y v u) (sym level) (own_class k f e i.1 ((name_tells n.head.name f).0 i.2));
           })
           (mark (finds_basic k f e))
@@ -185,7 +187,7 @@ module _ (g : Shape) (w w' : Net State Message) (h : Holds g w) (h' : Holds g w'
 
   pub order_taken : Ordered g w'
   order_taken =
-      order_act g w w' h h' order v o (put (w.queue v) p ms) (record { some = at.some; node = at.node }) act (CalledOut n m) r.now r.many mid was
+      order_act g w w' h h' order v o (put (w.queue v) p ms) (at_in at) act (CalledOut n m) r.now r.many mid was
       called r.fares
 
 -- each event keeps the order
@@ -201,13 +203,10 @@ order_event g w _ _ h h' order (Took v p m ms o at q r t) =
     (message_reacts (w.node v) p m o (sleeper_level h.fits.ground v) r)
 
 order_opening : (g : Shape) → Ordered g (opening boruvka (network_of g))
-order_opening g v p at = record { first = tt; asked = λ a. refl; branch = λ b. refl; inside = λ i. fresh_no_inside (sym fresh ∙ i) }
+order_opening g v p at = record { first = tt; asked = λ a. refl; branch = λ b. refl; inside = λ i. basic_is_inside (sym fresh ∙ i) }
   where
     fresh : mark_at (sleeper v ((network_of g).ports v)) p ≡ Basic
     fresh = ap (λ (x : PortState). x.mark) (get_or-replicate _ p fresh_port no_port at.port)
-
-    fresh_no_inside : {P : Type 0} → Basic ≡ Inside → P
-    fresh_no_inside e = cc
 
 module _ (every : (g : Shape) (w : Net State Message) → IsNetOf boruvka g w → Holds g w) where
   -- a net of a run, and its order

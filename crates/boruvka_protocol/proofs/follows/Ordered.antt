@@ -15,6 +15,7 @@ use Rattle.boruvka_protocol.proofs.invariant.Sides.{Side, Heard, names_in, calls
 use Rattle.boruvka_protocol.proofs.invariant.Names.{IsToldAside}
 use Rattle.boruvka_protocol.proofs.invariant.Connects.{HasAsked, Waits, Has_begun}
 use Rattle.boruvka_protocol.proofs.invariant.TreeMessages.{CallsFit, Nothing, Chosen, Called, Chosen_called, Reported, Passed}
+use Rattle.boruvka_protocol.proofs.rows.Parts.{none_by}
 use Rattle.boruvka_protocol.proofs.follows.Cases.{plain_no_branch, plain_no_asked}
 use Rattle.boruvka_protocol.proofs.follows.Ways.{over, taken_still}
 use Rattle.boruvka_protocol.proofs.follows.Seen.{Seen}
@@ -120,19 +121,16 @@ module _ (g : Shape) (ok : IsGraph g) (e f : Side) (heard far_heard : Heard) (ow
   no_sender m (Has_begun l least lt b) = no_branch b
 
   pub only_names : calls_in ms ≡ []
-  only_names = go (calls_in ms) s.calls
-    where
-      go : (q : List Message) → CallsFit g.keys e f q → q ≡ []
-      go _ Nothing = refl
-      go _ (Chosen m c) = absurd (no_sender m c.chosen.sender)
-      go _ (Called l name d) = absurd (no_branch d.sender_mark)
-      go _ (Chosen_called m l name c d) = absurd (no_branch d.sender_mark)
-      go _ (Reported k d) =
-          let up : IsWayUp g.keys f.level f.node f.key =
-          subst (λ n. IsWayUp g.keys n f.node f.key) (sym d.sender_level)
-          (subst (λ (k : Key). IsWayUp g.keys e.level f.node k) (sym s.wire.same) d.up) in
-          absurd (no_branch (t.children.parent up).mark)
-      go _ (Passed d) = absurd (no_branch (s.children.parent d.up).far_mark)
+  only_names = none_by g.keys e f
+      (λ m c. no_sender m c.chosen.sender)
+      (λ l name d. no_branch d.sender_mark)
+      (λ k d.
+      let up : IsWayUp g.keys f.level f.node f.key =
+      subst (λ n. IsWayUp g.keys n f.node f.key) (sym d.sender_level)
+      (subst (λ (k : Key). IsWayUp g.keys e.level f.node k) (sym s.wire.same) d.up) in
+      no_branch (t.children.parent up).mark)
+      (λ d. no_branch (s.children.parent d.up).far_mark)
+      (calls_in ms) s.calls
 
   basic_yes : is_basic f.mark ≡ true
   basic_yes = ap is_basic basic

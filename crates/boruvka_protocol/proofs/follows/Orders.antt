@@ -22,6 +22,7 @@ use Rattle.boruvka_node.specs.Reaction.{Outcome}
 use Rattle.boruvka_protocol.proofs.invariant.Sides.{names_in, calls_in}
 use Rattle.boruvka_protocol.proofs.invariant.Names.{AreNamesFrom}
 use Rattle.boruvka_protocol.proofs.invariant.Whole.{Holds}
+use Rattle.boruvka_protocol.proofs.Unlike.{false_is_true}
 use Rattle.boruvka_protocol.proofs.rows.Ports.{port_entered, told_by, told_on}
 use Rattle.boruvka_protocol.proofs.rows.Sends.{sent_on, sent_append}
 use Rattle.boruvka_protocol.proofs.rows.Acts.{Acts}
@@ -129,10 +130,7 @@ module _ (g : Shape) (w w' : Net State Message) (h : Holds g w) (h' : Holds g w'
       joined_basic = ap (joined_mark e i) basic ∙ ap (λ b. cond (b || false) Branch Basic) not_out
 
       nothing_before : sent_on before i ≡ []
-      nothing_before = elsewhere i (λ z. differ (sym not_out ∙ ap (λ x. is_at x i) z ∙ eq-eqb i i refl))
-        where
-          differ : false ≡ true → ⊥
-          differ z = cc
+      nothing_before = elsewhere i (λ z. false_is_true (sym not_out ∙ ap (λ x. is_at x i) z ∙ eq-eqb i i refl))
 
       queue_now : w'.queue u q ≡ w.queue u q ++ (Name e.level e.name ∷ sent_on behind i)
       queue_now =

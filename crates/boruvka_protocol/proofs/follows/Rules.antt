@@ -1,5 +1,5 @@
 -- Each lawful event has a rule: what a message finds is what its row asks for, and all goes out on ports.
-use Rattle.std.proofs.Common.{◌≡◌, ◌≢◌, ℕ, zero, suc, ◌+◌, ◌<◌, ◌≤◌, ◌^◌, ◌&&◌, nat_lt, not, Bool, true, false, Option, Some, None, List, [], ◌∷◌, length, refl, sym, ◌∙◌, ap, subst, ⊎_elim, eq-eqb, eqb-true, ltb-true, lt-ltb, arith}
+use Rattle.std.proofs.Common.{◌≡◌, ◌≢◌, ℕ, zero, suc, ◌+◌, ◌<◌, ◌≤◌, ◌^◌, ◌&&◌, nat_lt, not, Bool, true, false, Option, Some, None, List, [], ◌∷◌, length, refl, sym, ◌∙◌, ap, subst, ⊎_elim, eq-eqb, ltb-true, lt-ltb, arith}
 use Rattle.std.specs.Prelude.{IsSome}
 use Rattle.std.proofs.Math.Pow.{pow_mono}
 use Rattle.std.proofs.lemmas.Bool.{and_parts, and_from, both_ways, cases_lt, false_from_ne_true}
@@ -11,10 +11,12 @@ use Rattle.ghs_graph.proofs.lemmas.Joining.{joined_back}
 use Rattle.ghs_graph.proofs.lemmas.Logs.{floor_log2_is_one}
 use Rattle.ghs_node.specs.declared.level.TheConstants.{TOP_LEVEL}
 use Rattle.ghs_node.specs.Words.{Best, is_at}
+use Rattle.ghs_node.proofs.lemmas.{at_is}
 use Rattle.ghs_protocol.specs.declared.event.Event.{Event}
 use Rattle.ghs_protocol.specs.declared.event.Event.TheVariants as events
 use Rattle.ghs_protocol.specs.Network.{network_of, far, far_port, InNetwork, At}
 use Rattle.ghs_protocol.proofs.lemmas.Events.{node_of, at_of}
+use Rattle.ghs_protocol.proofs.lemmas.Wires.{at_in}
 use Rattle.ghs_levels.specs.Levels.{HasWayOut, IsOfLevel}
 use Rattle.ghs_levels.specs.Cores.{IsCore}
 use Rattle.ghs_levels.proofs.lemmas.Cuts.{taken_links}
@@ -40,6 +42,7 @@ use Rattle.boruvka_protocol.proofs.invariant.Connects.{ConnectFits}
 use Rattle.boruvka_protocol.proofs.invariant.TreeMessages.{CallFits, ReportFits, PassFits, CallsFit, Chosen, Called, Chosen_called, Reported, Passed}
 use Rattle.boruvka_protocol.proofs.invariant.Search.{BestIsHeard, BestIsSub, LeadsTo, Own, By_child}
 use Rattle.boruvka_protocol.proofs.invariant.Whole.{Holds}
+use Rattle.boruvka_protocol.proofs.Unlike.{rest_is_search}
 use Rattle.boruvka_protocol.proofs.follows.Cases.{by_sleep, asleep_no_rest, asleep_no_search, asked_is}
 use Rattle.boruvka_protocol.proofs.follows.Ways.{over}
 use Rattle.boruvka_protocol.proofs.follows.Seen.{Seen, side, seen}
@@ -68,9 +71,6 @@ rest_is p e = ap is_rest e
 
 search_is : (p : Phase) → p ≡ Search → is_search p ≡ true
 search_is p e = ap is_search e
-
-rest_no_search : Rest ≡ Search → ⊥
-rest_no_search e = cc
 
 not_and : (b c : Bool) → (b ≡ true → c ≡ false) → not (b && c) ≡ true
 not_and true c f = rw (f refl) refl
@@ -199,7 +199,7 @@ module _ (g : Shape) (w : Net State Message) (h : Holds g w) where
 
   module _ (v p : ℕ) (at : At (network_of g) v p) where
     net : InNetwork (network_of g) v
-    net = record { some = at.some; node = at.node }
+    net = at_in at
 
     port_lt : p < degree (w.node v)
     port_lt = let m = many v net in let lt = at.port in omega (arith, m, lt)
@@ -225,13 +225,9 @@ module _ (g : Shape) (w : Net State Message) (h : Holds g w) where
           fits : ConnectFits g.keys l (side (network_of g) w v p) (side (network_of g) w (far (network_of g) v p) (far_port (network_of g) v p))
           fits = first_connect g.keys _ _ l (calls_in q) s.calls
 
-          out_is : (o : Option ℕ) → is_at o p ≡ true → o ≡ Some p
-          out_is None e = cc
-          out_is (Some x) e = ap Some (eqb-true x p e)
-
           out_low : is_at (w.node v).head.out p ≡ true → suc (w.node v).head.level ≤ TOP_LEVEL
           out_low t =
-              let out = s.connects.out (out_is (w.node v).head.out t) in
+              let out = s.connects.out (at_is (w.node v).head.out p t) in
               next_low g h.graph (w.node v).head.level v net (_, out.least.link, out.least.leaves)
 
       awake_goes : (m : Message) (q : List Message) → Waiting (m ∷ q) → Goes (d v net) (awake (w.node v) p m)
@@ -274,7 +270,7 @@ module _ (g : Shape) (w : Net State Message) (h : Holds g w) where
       out_close = record {
         ports = let m = many v net in omega (arith, m);
         parent = subst (PortBelow (d v net)) (sym no_parent) tt;
-        best = λ s. absurd (rest_no_search s);
+        best = λ s. absurd (rest_is_search s);
         low = λ q a. one_low;
       }
 

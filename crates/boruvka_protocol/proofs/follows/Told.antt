@@ -3,6 +3,7 @@ use Rattle.std.proofs.Common.{◌≡◌, ◌≢◌, ◌⊎◌, inl, inr, ℕ, su
 use Rattle.std.specs.Prelude.{slice_index_or, slice_set}
 use Rattle.ghs_graph.specs.declared.key.Key.{Key}
 use Rattle.ghs_node.specs.Words.{is_at, is_name}
+use Rattle.ghs_node.proofs.lemmas.{at_is}
 use Rattle.peer_machine.specs.Rules.{Outgoing}
 use Rattle.peer_machine.specs.declared.work.Work.TheVariants.{Wake, Deliver}
 use Rattle.boruvka_node.specs.declared.change.Entry.{Entry}
@@ -17,9 +18,10 @@ use Rattle.boruvka_node.specs.State.{State, no_port, degree, port_at, mark_at, s
 use Rattle.boruvka_node.specs.Entering.{entered, entered_from, told_from}
 use Rattle.boruvka_node.specs.Reaction.{Outcome, rested, woken, heard, reported, and_then, wakes, connect, name, asleep, reaction}
 use Rattle.boruvka_protocol.proofs.invariant.Sides.{names_in, calls_in}
+use Rattle.boruvka_protocol.proofs.Unlike.{asked_is_inside, asked_is_basic, branch_is_inside, branch_is_basic, false_is_true, none_is_some}
 use Rattle.boruvka_protocol.proofs.rows.Table.{said, gone, core_entry, call_entry, Moving, Passes, Goes, Closing, Goes_on, Reports, Halts, Moves, Connecting, Connects, Enters, Meeting, Waits, Begins, Going, Goes_out, Meets, Waking, Alone, Wakes, Row, Noted, Met, Late, Called, Named, Told, Moved}
 use Rattle.boruvka_protocol.proofs.rows.Sends.{sent_on, sent_append, sent_elsewhere}
-use Rattle.boruvka_protocol.proofs.rows.Read.{read_if, read_says, no_outcome, waking, row_of}
+use Rattle.boruvka_protocol.proofs.rows.Read.{read_if, read_says, waking, row_of}
 use Rattle.boruvka_protocol.proofs.rows.Grows.{sleeping_tells}
 use Rattle.boruvka_protocol.proofs.follows.Cases.{asked_is}
 use Rattle.boruvka_protocol.proofs.follows.Ordered.{none_more}
@@ -55,11 +57,7 @@ pub data Fares (C : ℕ → Type 0) (xs : List PortState) (l : ℕ) (o : Outcome
 
 -- a node that has gone out over a port
 pub out_at : (n : State) (j : ℕ) → is_at n.head.out j ≡ true → n.head.out ≡ Some j
-out_at n j = go n.head.out
-  where
-    go : (q : Option ℕ) → is_at q j ≡ true → q ≡ Some j
-    go None e = cc
-    go (Some p) e = ap (λ x. Some x) (eqb-true p j e)
+out_at n j = at_is n.head.out j
 
 -- the ports stay, and the level, and no Name goes out
 record Plain (n : State) (o : Outcome) : Type 0 where
@@ -142,23 +140,11 @@ module _ (C : ℕ → Type 0) (xs : List PortState) (l : ℕ) (name : Option Key
     fares = fares;
   }
 
-asked_no_basic : {P : Type 0} → Asked ≡ Basic → P
-asked_no_basic e = cc
-
-asked_no_inside : {P : Type 0} → Asked ≡ Inside → P
-asked_no_inside e = cc
-
-branch_no_basic : {P : Type 0} → Branch ≡ Basic → P
-branch_no_basic e = cc
-
-pub branch_no_inside : {P : Type 0} → Branch ≡ Inside → P
-branch_no_inside e = cc
-
 connect_call : (l : ℕ) → calls_in (Connect l ∷ []) ≢ []
 connect_call l e = cc
 
 asked_taken : (l k : ℕ) (name : Option Key) (x x' : PortState) → x'.mark ≡ Asked → Taken_at l name (Connect k) x x'
-asked_taken l k name x x' a = Call_taken (connect_call k) (λ b. asked_no_basic (sym a ∙ b)) (λ b. asked_no_inside (sym a ∙ b))
+asked_taken l k name x x' a = Call_taken (connect_call k) (λ b. asked_is_basic (sym a ∙ b)) (λ b. asked_is_inside (sym a ∙ b))
 
 heard_mark : (k l : ℕ) (name : Option Key) (f : Key) (m : Mark) → m ≡ Basic →
     (cond (((k == l) && is_name name f) && is_basic m) Inside m ≡ Basic)
@@ -212,7 +198,7 @@ row_reacts n j m o lt (Met {l} e t h) =
     (meeting_fares (CalledOut n m) (set_mark n j Asked) j [] o (asked_set n j lt) (out_at n j t) (λ i. refl) (λ i ne. refl) h)
 row_reacts n j m o lt (Late {l} e t s) =
     set_reacts (CalledOut n m) n.ports n.head.level n.head.name j m o (record (port_at n j) { mark = Branch; owes = true }) lt
-    (Call_taken (connect_call l) branch_no_basic branch_no_inside) (Stays refl (one_none j _ refl))
+    (Call_taken (connect_call l) branch_is_basic branch_is_inside) (Stays refl (one_none j _ refl))
 row_reacts n j m _ lt (Called {l} {f} r e (Enters {o} top h)) =
     let x = plain_closing (entered n (call_entry n j l f)) o h in
     kept_reacts (CalledOut n m) n.ports n.head.level n.head.name j m (said (told_from (call_entry n j l f) 0 n.ports) o) (λ c. cc)
@@ -234,15 +220,12 @@ wakes_plainly C n o (Wakes t Connects) = Stays refl (one_none 0 _ refl)
 abbrev up : State → State
 up n = gone (woken n) 0
 
-never_over : {P : Type 0} → false ≡ true → P
-never_over e = cc
-
 module _ (C : ℕ → Type 0) (n : State) (j : ℕ) (lt : j < degree n) where
   up_named : (k : ℕ) (f : Key) (y : Outcome) → Row (up n) j (Name k f) y → Reacts C n.ports 0 n.head.name j (Name k f) (said ((0, Connect 0) ∷ []) y)
   up_named k f y (Named t (Goes_on b)) = heard_reacts C (up n) j k f _ lt (Stays refl (one_none 0 _ refl))
-  up_named k f y (Named t (Reports p b x)) = never_over b
-  up_named k f y (Named t (Halts b x none)) = never_over b
-  up_named k f y (Named t (Moves c b x e h)) = never_over b
+  up_named k f y (Named t (Reports p b x)) = false_is_true b
+  up_named k f y (Named t (Halts b x none)) = false_is_true b
+  up_named k f y (Named t (Moves c b x e h)) = false_is_true b
 
   up_met : (k : ℕ) (y : Outcome) → Row (up n) j (Connect k) y → Reacts C n.ports 0 n.head.name j (Connect k) (said ((0, Connect 0) ∷ []) y)
   up_met k y (Noted e t) =
@@ -262,18 +245,18 @@ module _ (C : ℕ → Type 0) (n : State) (j : ℕ) (lt : j < degree n) where
   sleeper_reacts : (m : Message) → ((y : Outcome) → Row (up n) j m y → Reacts C n.ports 0 n.head.name j m (said ((0, Connect 0) ∷ []) y)) →
       (f : State → Option Outcome) → ((a : State) (y : Outcome) → f a ≡ Some y → Row a j m y) → (x : Option Outcome) →
       ((a : Outcome) → x ≡ Some a → Waking n a) → (o : Outcome) → and_then x f ≡ Some o → Reacts C n.ports 0 n.head.name j m o
-  sleeper_reacts m next f rows None wake o h = no_outcome o h
+  sleeper_reacts m next f rows None wake o h = none_is_some o h
   sleeper_reacts m next f rows (Some a) wake o h = read_says a.sends (f a.state) o h
       (λ y e same. subst (λ z. Reacts C n.ports 0 n.head.name j m z) same (woken_reacts m next a y (wake a refl) (rows a.state y e)))
 
   pub asleep_reacts : (m : Message) (o : Outcome) → asleep n j m ≡ Some o → Reacts C n.ports 0 n.head.name j m o
   asleep_reacts (Connect l) o e =
       sleeper_reacts (Connect l) (up_met l) (λ x. connect x j l) (λ a y. row_of a j (Connect l) y) (wakes n) (waking n) o e
-  asleep_reacts (Initiate l f) o e = no_outcome o e
+  asleep_reacts (Initiate l f) o e = none_is_some o e
   asleep_reacts (Name l f) o e =
       sleeper_reacts (Name l f) (up_named l f) (λ x. name x j l f) (λ a y. row_of a j (Name l f) y) (wakes n) (waking n) o e
-  asleep_reacts (Report k) o e = no_outcome o e
-  asleep_reacts ChangeRoot o e = no_outcome o e
+  asleep_reacts (Report k) o e = none_is_some o e
+  asleep_reacts ChangeRoot o e = none_is_some o e
 
 -- each reaction to a message, where sleepers have level 0
 pub message_reacts : (n : State) (j : ℕ) (m : Message) (o : Outcome) → (n.head.phase ≡ Sleeping → ◌≡◌ {A = ℕ} n.head.level 0) →
@@ -286,9 +269,9 @@ message_reacts n j m o low e = read_if (nat_lt j (degree n)) _ _ o e
     subst (λ l. Reacts (CalledOut n m) n.ports l n.head.name j m o) (sym (low ((sleeping_tells n.head.phase).0 t)))
     (asleep_reacts (CalledOut n m) n j lt m o y))
     (λ t y. row_reacts n j m o lt (row_of n j m o y)))
-    (λ port x. no_outcome o x)
+    (λ port x. none_is_some o x)
 
 pub wake_reacts : (C : ℕ → Type 0) (n : State) (o : Outcome) → reaction n Wake ≡ Some o → Fares C n.ports n.head.level o
 wake_reacts C n o e = read_if (is_sleeping n.head.phase) _ _ o e
     (λ t x. wakes_plainly C n o (waking n o x))
-    (λ t x. no_outcome o x)
+    (λ t x. none_is_some o x)

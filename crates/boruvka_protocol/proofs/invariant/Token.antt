@@ -53,6 +53,9 @@ module _ (ks : List Key) (g : Network) (w : Net State Message) where
     pub root : IsRoot ks n.head.level v
     pub rest : n.head.phase ≡ Rest
 
+  abbrev pub HaltsFit : Type 0
+  HaltsFit = (v : ℕ) → InNetwork g v → (w.node v).head.halted ≡ true → HaltFits v (w.node v)
+
   pub record TokensFit : Type 0 where
-    pub halted : (v : ℕ) → InNetwork g v → (w.node v).head.halted ≡ true → HaltFits v (w.node v)
+    pub halted : HaltsFit
     pub one : (l v : ℕ) → InNetwork g v → IsOfLevel ks l v → TokenFits l v

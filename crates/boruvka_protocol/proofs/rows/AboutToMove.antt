@@ -1,5 +1,5 @@
 -- A node that holds the token of its class, at rest, and is about to move.
-use Rattle.std.specs.Prelude.{◌≡◌, ℕ, true, Some, None, List}
+use Rattle.std.specs.Prelude.{◌≡◌, ℕ, Some, None, List}
 use Rattle.ghs_graph.specs.declared.key.Key.{Key}
 use Rattle.ghs_levels.specs.Levels.{InClass, IsOfLevel}
 use Rattle.ghs_protocol.specs.Network.{Network, InNetwork}
@@ -8,24 +8,22 @@ use Rattle.boruvka_node.specs.declared.message.Message.{Message}
 use Rattle.boruvka_node.specs.declared.message.Phase.TheVariants.{Rest}
 use Rattle.boruvka_node.specs.State.{State}
 use Rattle.boruvka_protocol.proofs.invariant.Words.{IsLeast}
-use Rattle.boruvka_protocol.proofs.invariant.Nodes.{AwakeFits}
-use Rattle.boruvka_protocol.proofs.invariant.Search.{LacksSome}
-use Rattle.boruvka_protocol.proofs.invariant.Token.{Token, RootIsPast, TokenFits, HaltFits}
-use Rattle.boruvka_protocol.proofs.invariant.Whole.{Ground, LinksFit, SearchesFit}
+use Rattle.boruvka_protocol.proofs.invariant.Token.{Token, RootIsPast, TokenFits, HaltsFit}
+use Rattle.boruvka_protocol.proofs.invariant.Whole.{Ground, NodesFit, LinksFit, SearchesFit, SearchersLack}
 
 -- tokens of all classes but that of v at its level, whose token v itself holds
 pub record TokensBut (ks : List Key) (g : Network) (w : Net State Message) (v : ℕ) : Type 0 where
-  pub halted : (u : ℕ) → InNetwork g u → (w.node u).head.halted ≡ true → HaltFits ks g w u (w.node u)
+  pub halted : HaltsFit ks g w
   pub past : RootIsPast ks g w (w.node v).head.level v
   pub none : Token ks g w (w.node v).head.level v → ⊥
   pub one : (l u : ℕ) → InNetwork g u → IsOfLevel ks l u → (l ≡ (w.node v).head.level → InClass ks l v u → ⊥) → TokenFits ks g w l u
 
 pub record AboutToMove (ks : List Key) (g : Network) (w : Net State Message) (v : ℕ) : Type 0 where
   pub ground : Ground g w
-  pub nodes : (u : ℕ) → InNetwork g u → AwakeFits ks u (w.node u)
+  pub nodes : NodesFit ks g w
   pub links : LinksFit ks g w
   pub search : SearchesFit ks g w
-  pub lacks : (u : ℕ) → InNetwork g u → LacksSome (w.node u)
+  pub lacks : SearchersLack g w
   pub rest : (w.node v).head.phase ≡ Rest
   pub stays : (w.node v).head.out ≡ None
   pub best : ℕ × Key

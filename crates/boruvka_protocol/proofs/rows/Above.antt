@@ -10,6 +10,7 @@ use Rattle.ghs_graph.proofs.lemmas.Ports.{ends_a}
 use Rattle.ghs_protocol.specs.Network.{Network, network_of, port_at, At, InNetwork, far, far_port}
 use Rattle.ghs_protocol.proofs.lemmas.Wired.{IsWired}
 use Rattle.ghs_protocol.proofs.lemmas.Graphs.{graph_wired, port_ends}
+use Rattle.ghs_protocol.proofs.lemmas.Wires.{at_in}
 use Rattle.ghs_levels.specs.Levels.{Taken, InClass, IsOfLevel}
 use Rattle.ghs_levels.specs.WaysUp.{IsTop, IsUp, IsBelow, Here, Up}
 use Rattle.ghs_levels.proofs.lemmas.Cuts.{taken_in_tree, least_at_end}
@@ -17,13 +18,14 @@ use Rattle.ghs_levels.proofs.lemmas.WaysUp.{level_at, top_at, ways_up_lead_to_to
 use Rattle.peer_machine.specs.Net.{Net}
 use Rattle.boruvka_node.specs.declared.mark.Mark.TheVariants.{Branch}
 use Rattle.boruvka_node.specs.declared.message.Message.{Message}
-use Rattle.boruvka_node.specs.declared.message.Phase.TheVariants.{Search}
+use Rattle.boruvka_node.specs.declared.message.Phase.TheVariants.{Sleeping, Search}
 use Rattle.boruvka_node.specs.State.{State}
 use Rattle.boruvka_protocol.proofs.invariant.Words.{IsPast, IsLeast, IsWayUp}
 use Rattle.boruvka_protocol.proofs.invariant.Sides.{Side, at_port, side_of, heard_at, calls_in}
 use Rattle.boruvka_protocol.proofs.invariant.Marks.{MarksFit}
 use Rattle.boruvka_protocol.proofs.invariant.Children.{ChildrenFit, ChildFits, ParentFits}
 use Rattle.boruvka_protocol.proofs.invariant.Token.{Token, Gone_on, RootIsPast, On}
+use Rattle.boruvka_protocol.proofs.invariant.Whole.{Ground, NodesFit}
 use Rattle.boruvka_protocol.proofs.rows.Leaving.{AreEnds, not_taken, joined_ends}
 use Rattle.boruvka_protocol.proofs.rows.Late.{search_rest}
 use Rattle.boruvka_protocol.proofs.levels.UpOnce.{up_of_either, up_of_one, IsMet, own_choice}
@@ -43,8 +45,21 @@ module _ (gr : Shape) (w : Net State Message) where
     pub marks : MarksFit gr.keys (side u i) (side y j) (heard_at (at_port (w.node u) i)).level (calls_in (w.queue u i))
     pub children : ChildrenFit gr.keys (side u i) (side y j) (calls_in (w.queue u i)) (calls_in (w.queue y j))
 
-  module _ (ok : IsGraph gr) (links : (u i : ℕ) → At g u i → IsTied u i (far g u i) (far_port g u i))
-      (classes : (u : ℕ) → InNetwork g u → 1 ≤ (w.node u).head.level → IsOfLevel gr.keys (w.node u).head.level u) where
+  -- of each link
+  abbrev pub AllTied : Type 0
+  AllTied = (u i : ℕ) → At g u i → IsTied u i (far g u i) (far_port g u i)
+
+  -- who is above level 0 is in a class of its level
+  abbrev pub AreOfLevels : Type 0
+  AreOfLevels = (u : ℕ) → InNetwork g u → 1 ≤ (w.node u).head.level → IsOfLevel gr.keys (w.node u).head.level u
+
+  pub are_of_levels : Ground g w → NodesFit gr.keys g w → AreOfLevels
+  are_of_levels ground nodes u at lo = (nodes u at (λ s. asleep s)).class
+    where
+      asleep : (w.node u).head.phase ≡ Sleeping → ⊥
+      asleep s = omega (arith, lo, ap (λ (n : State). n.head.level) (ground.untouched u s))
+
+  module _ (ok : IsGraph gr) (links : AllTied) (classes : AreOfLevels) where
     wired : IsWired g
     wired = graph_wired gr ok
 
@@ -76,7 +91,7 @@ module _ (gr : Shape) (w : Net State Message) where
           (subst (λ (z : Key). AreEnds x y z) key (subst (λ z. AreEnds x z (port_at g x i).key) to (port_ends gr ok x i at)))
 
       net_there : InNetwork g y
-      net_there = record { some = there.some; node = there.node }
+      net_there = at_in there
 
       child_at : (m : ℕ) → (w.node y).head.level ≡ m → IsWayUp gr.keys m x k →
           ChildFits gr.keys (side y j) (side x i) (calls_in (w.queue y j)) (calls_in (w.queue x i))
@@ -167,7 +182,7 @@ module _ (gr : Shape) (w : Net State Message) where
 
         pub net_up : InNetwork g (far_end x k)
         net_up = subst (λ z. InNetwork g z) far_is
-            (let t = wired.there x port.port port.at in record { some = t.some; node = t.node })
+            (at_in (wired.there x port.port port.at))
 
       below_past : {x z : ℕ} → IsBelow (Taken gr.keys l) r x z → IsTop gr.keys l x r → Past l z → Past l x
       below_past Here top h = h

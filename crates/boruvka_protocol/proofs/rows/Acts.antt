@@ -14,7 +14,7 @@ use Rattle.boruvka_node.specs.State.{State}
 use Rattle.boruvka_node.specs.Reaction.{Outcome}
 use Rattle.boruvka_node.specs.Boruvka.{boruvka}
 use Rattle.boruvka_protocol.proofs.invariant.Sides.{AtPort, at_port}
-use Rattle.boruvka_protocol.proofs.invariant.Whole.{LinkFits, LinksFit}
+use Rattle.boruvka_protocol.proofs.invariant.Whole.{LinkFits, LinkIn, LinksFit}
 use Rattle.boruvka_protocol.proofs.rows.Sends.{sent_on, queue_there, queue_here}
 
 -- from w node v has come to the state n; own is what is left at its ports, and ss is what it has sent
@@ -88,24 +88,17 @@ module _ (g : Network) (wired : IsWired g) where
       abbrev across : ℕ → AtPort
       across i = at_port (w.node (far g v i)) (far_port g v i)
 
-      -- The links of v from v, then from the far end; the others are as they were.
-      module _ (links : (u q : ℕ) → At g u q → u ≢ v → far g u q ≢ v →
-          LinkFits ks g u q (at_port (w.node u) q) (at_port (w.node (far g u q)) (far_port g u q)) (w.queue u q)
-          (w.queue (far g u q) (far_port g u q)))
+      -- port i of v, in the net behind the act
+      pub now_near : (i : ℕ) → At g v i → LinkFits ks g v i (at_port n i) (across i) (own i) (sent_to i) → LinkIn ks g w' v i
+      now_near i at near = fits_like
+          (ap (λ (x : State). at_port x i) (sym a.node))
+          (ap (λ (x : State). at_port x (far_port g v i)) (a.others (far g v i) (wired.apart v i at)))
+          (sym (a.queue i at)) (sym (a.far_queue i at)) near
+
+      -- The links of v from the far end are given; those of other nodes alone are as they were.
+      module _ (links : (u q : ℕ) → At g u q → u ≢ v → far g u q ≢ v → LinkIn ks g w u q)
           (away : (i : ℕ) → At g v i → LinkFits ks g (far g v i) (far_port g v i) (across i) (at_port n i) (sent_to i) (own i)) where
-        -- the link at port q of u, in the net behind the act
-        abbrev pub Now : ℕ → ℕ → Type 0
-        Now u q =
-            LinkFits ks g u q (at_port (w'.node u) q) (at_port (w'.node (far g u q)) (far_port g u q)) (w'.queue u q)
-            (w'.queue (far g u q) (far_port g u q))
-
-        now_near : (i : ℕ) → At g v i → LinkFits ks g v i (at_port n i) (across i) (own i) (sent_to i) → Now v i
-        now_near i at near = fits_like
-            (ap (λ (x : State). at_port x i) (sym a.node))
-            (ap (λ (x : State). at_port x (far_port g v i)) (a.others (far g v i) (wired.apart v i at)))
-            (sym (a.queue i at)) (sym (a.far_queue i at)) near
-
-        now_away : (u q i : ℕ) → At g v i → u ≢ v → far g v i ≡ u → far_port g v i ≡ q → far g u q ≡ v → far_port g u q ≡ i → Now u q
+        now_away : (u q i : ℕ) → At g v i → u ≢ v → far g v i ≡ u → far_port g v i ≡ q → far g u q ≡ v → far_port g u q ≡ i → LinkIn ks g w' u q
         now_away u q i at ne eu eq ev ei = fits_like
             (ap (λ (x : State). at_port x q) (a.others u ne))
             (ap (λ (x : State). at_port x i) (sym a.node) ∙ back)
@@ -123,7 +116,7 @@ module _ (g : Network) (wired : IsWired g) where
                 (λ y. LinkFits ks g (far g v i) y (at_port (w.node (far g v i)) y) (at_port n i) (w.queue (far g v i) y ++ sent_on ss i) (own i)) eq
                 (away i at))
 
-        now_other : (u q : ℕ) → At g u q → u ≢ v → far g u q ≢ v → Now u q
+        now_other : (u q : ℕ) → At g u q → u ≢ v → far g u q ≢ v → LinkIn ks g w' u q
         now_other u q at ne fne = fits_like
             (ap (λ (x : State). at_port x q) (a.others u ne))
             (ap (λ (x : State). at_port x (far_port g u q)) (a.others (far g u q) fne))
@@ -134,9 +127,10 @@ module _ (g : Network) (wired : IsWired g) where
             (links u q at ne fne)
 
         -- one link, which may be v's own
-        pub link_by : (u q : ℕ) → At g u q → (u ≡ v → LinkFits ks g v q (at_port n q) (across q) (own q) (sent_to q)) → Now u q
+        pub link_by : (u q : ℕ) → At g u q → (u ≡ v → LinkFits ks g v q (at_port n q) (across q) (own q) (sent_to q)) →
+            LinkIn ks g w' u q
         link_by u q at near = ⊎_elim
-            (λ (e : u ≡ v). subst (λ y. Now y q) (sym e) (now_near q (subst (λ y. At g y q) e at) (near e)))
+            (λ (e : u ≡ v). subst (λ y. LinkIn ks g w' y q) (sym e) (now_near q (subst (λ y. At g y q) e at) (near e)))
             (λ ne. ⊎_elim
             (λ (e : far g u q ≡ v).
             now_away u q (far_port g u q) (subst (λ y. At g y (far_port g u q)) e (wired.there u q at)) ne

@@ -1,5 +1,5 @@
 -- A Connect of the level below comes late: all clauses hold behind it.
-use Rattle.std.proofs.Common.{◌≡◌, ◌≢◌, ℕ, suc, ◌<◌, ◌≤◌, Bool, true, Option, Some, None, List, [], ◌∷◌, ◌++◌, unwrap_or, refl, sym, ◌∙◌, ap, subst, cond, ⊎_elim, arith, append-nil, length-set, lt-ltb}
+use Rattle.std.proofs.Common.{◌≡◌, ◌≢◌, ℕ, suc, ◌<◌, ◌≤◌, Bool, true, Option, Some, None, List, [], ◌∷◌, ◌++◌, unwrap_or, refl, sym, ◌∙◌, ap, subst, cond, ⊎_elim, arith, length-set, lt-ltb}
 use Rattle.std.proofs.lemmas.Bool.{cases_eq, and_from, or_right}
 use Rattle.std.proofs.lemmas.List.Sums.{sum_by-set}
 use Rattle.ghs_graph.specs.declared.key.Key.{Key}
@@ -11,12 +11,13 @@ use Rattle.ghs_protocol.specs.Network.{Network, network_of, port_at, At, InNetwo
 use Rattle.ghs_protocol.proofs.lemmas.Wired.{IsWired}
 use Rattle.ghs_protocol.proofs.lemmas.Graphs.{graph_wired, port_ends, link_among, is_key}
 use Rattle.ghs_protocol.proofs.lemmas.Updates.{put_same, put_other}
+use Rattle.ghs_protocol.proofs.lemmas.Wires.{at_in}
 use Rattle.peer_machine.specs.Net.{Net, put, reacted, take_first}
 use Rattle.boruvka_node.specs.declared.head.Head.{Head}
 use Rattle.boruvka_node.specs.declared.mark.Mark.TheVariants.{Branch}
 use Rattle.boruvka_node.specs.declared.message.Message.{Message}
-use Rattle.boruvka_node.specs.declared.message.Message.TheVariants.{Connect, Initiate, Name, Report, ChangeRoot}
-use Rattle.boruvka_node.specs.declared.message.Phase.TheVariants.{Sleeping, Search}
+use Rattle.boruvka_node.specs.declared.message.Message.TheVariants.{Connect, Initiate}
+use Rattle.boruvka_node.specs.declared.message.Phase.TheVariants.{Search}
 use Rattle.boruvka_node.specs.declared.port_state.PortState.{PortState}
 use Rattle.boruvka_node.specs.Words.{is_basic}
 use Rattle.boruvka_node.specs.State as state
@@ -28,31 +29,18 @@ use Rattle.boruvka_protocol.proofs.invariant.Nodes.{NodeFits, AwakeFits}
 use Rattle.boruvka_protocol.proofs.invariant.Children.{HasReported}
 use Rattle.boruvka_protocol.proofs.invariant.Search.{LacksSome, SearchFits}
 use Rattle.boruvka_protocol.proofs.invariant.Whole.{LinkFits, LinksFit, SearchesFit, Ground, Fits}
+use Rattle.boruvka_protocol.proofs.Unlike.{search_is_sleeping}
 use Rattle.boruvka_protocol.proofs.rows.Table.{adopted, sends_one}
-use Rattle.boruvka_protocol.proofs.rows.Sends.{sent_on, sent_here, sent_elsewhere}
+use Rattle.boruvka_protocol.proofs.rows.Sends.{sent_on, sent_one, sent_none}
 use Rattle.boruvka_protocol.proofs.rows.Ports.{port_set, port_kept, mark_set, mark_kept}
+use Rattle.boruvka_protocol.proofs.rows.Queues.{passes_before, reports_before}
 use Rattle.boruvka_protocol.proofs.rows.Acts.{Acts, acts_taken, fits_like, far_link, links_one}
+use Rattle.boruvka_protocol.proofs.rows.Alike.{AsMany}
+use Rattle.boruvka_protocol.proofs.rows.OwnPorts.{port_below}
 use Rattle.boruvka_protocol.proofs.rows.Others.{taken_like, node_like, nodes_act, waits_like, tokens_like}
 use Rattle.boruvka_protocol.proofs.rows.Kept.{search_now, heads_act, searches_act}
 use Rattle.boruvka_protocol.proofs.rows.Leaving.{AreEnds, joined_ends, end_there, far_back}
-use Rattle.boruvka_protocol.proofs.rows.Late.{adopted_at, search_rest, taken, sender_out, late_near, late_away, called_alone, calls_more}
-
--- a call read of a queue: no Report and no ChangeRoot
-reports_as_before : (q : List Message) (l : ℕ) (f : Key) → ◌≡◌ {A = ℕ} (reports_in q) (reports_in (q ++ Initiate l f ∷ []))
-reports_as_before [] l f = refl
-reports_as_before (Connect m ∷ q) l f = reports_as_before q l f
-reports_as_before (Initiate m k ∷ q) l f = reports_as_before q l f
-reports_as_before (Name m k ∷ q) l f = reports_as_before q l f
-reports_as_before (Report k ∷ q) l f = ap suc (reports_as_before q l f)
-reports_as_before (ChangeRoot ∷ q) l f = reports_as_before q l f
-
-passes_as_before : (q : List Message) (l : ℕ) (f : Key) → ◌≡◌ {A = ℕ} (passes_in q) (passes_in (q ++ Initiate l f ∷ []))
-passes_as_before [] l f = refl
-passes_as_before (Connect m ∷ q) l f = passes_as_before q l f
-passes_as_before (Initiate m k ∷ q) l f = passes_as_before q l f
-passes_as_before (Name m k ∷ q) l f = passes_as_before q l f
-passes_as_before (Report k ∷ q) l f = passes_as_before q l f
-passes_as_before (ChangeRoot ∷ q) l f = ap suc (passes_as_before q l f)
+use Rattle.boruvka_protocol.proofs.rows.Late.{adopted_at, search_rest, taken, sender_out, late_near, late_away, called_alone}
 
 -- The node itself: port j, from which something was missing, is Branch and owes a Report.
 module _ (n : State) (j : ℕ) (lt : j < degree n) (search : n.head.phase ≡ Search) (missed : is_missing n.head.level (state.port_at n j) ≡ true) where
@@ -95,9 +83,6 @@ adopted_there n j i ne =
     ap (λ (x : PortState). let a : AtPort = record { port = x; head = n.head } in a)
     (port_kept n j i (record (state.port_at n j) { mark = Branch; owes = true }) ne)
 
-search_awake : Search ≡ Sleeping → ⊥
-search_awake e = cc
-
 -- The whole net.
 module _ (gr : Shape) (ok : IsGraph gr) (w : Net State Message) (v j c : ℕ) (ms : List Message) (at : At (network_of gr) v j)
     (fits : Fits gr.keys (network_of gr) w) (waits : w.queue v j ≡ Connect c ∷ ms) (level : suc c ≡ (w.node v).head.level)
@@ -109,10 +94,10 @@ module _ (gr : Shape) (ok : IsGraph gr) (w : Net State Message) (v j c : ℕ) (m
   wired = graph_wired gr ok
 
   here : InNetwork g v
-  here = record { some = at.some; node = at.node }
+  here = at_in at
 
   port : j < degree (w.node v)
-  port = subst (λ x. j < x) (sym (fits.ground.nodes v).ports) at.port
+  port = port_below (fits.ground.nodes v) j at
 
   abbrev n : AtPort
   n = at_port (w.node v) j
@@ -149,7 +134,7 @@ module _ (gr : Shape) (ok : IsGraph gr) (w : Net State Message) (v j c : ℕ) (m
   core = go (subst (λ x. IsName gr.keys x v (w.node v).head.name) (sym level) node.name)
     where
       node : NodeFits gr.keys v (w.node v)
-      node = fits.nodes v here (λ s. search_awake (sym search ∙ s))
+      node = fits.nodes v here (λ s. search_is_sleeping (sym search ∙ s))
 
       go : IsName gr.keys (suc c) v (w.node v).head.name → IsCore gr.keys c v name
       go h = subst (λ x. IsCore gr.keys c v x) (sym (ap (λ (o : Option Key). unwrap_or o no_key) h.1)) h.2
@@ -197,31 +182,30 @@ module _ (gr : Shape) (ok : IsGraph gr) (w : Net State Message) (v j c : ℕ) (m
   abbrev across : ℕ → AtPort
   across i = at_port (w.node (far g v i)) (far_port g v i)
 
+  -- what waited at the far end of port i, and what waits there now
+  abbrev back : ℕ → List Message
+  back i = w.queue (far g v i) (far_port g v i)
+
   abbrev sent : ℕ → List Message
-  sent i = w.queue (far g v i) (far_port g v i) ++ sent_on (call ∷ []) i
+  sent i = back i ++ sent_on (call ∷ []) i
 
-  sent_at_j : r ++ Initiate (w.node v).head.level name ∷ [] ≡ sent j
-  sent_at_j = ap (λ (x : List Message). r ++ x) (sym (sent_here call [] j refl))
-
-  sent_at : (i : ℕ) → i ≢ j → w.queue (far g v i) (far_port g v i) ≡ sent i
-  sent_at i ne =
-      sym (append-nil _)
-      ∙ ap (λ (x : List Message). w.queue (far g v i) (far_port g v i) ++ x) (sym (sent_elsewhere call [] i (λ e. ne (sym e))))
+  sent_at_j : r ++ call.1 ∷ [] ≡ sent j
+  sent_at_j = sent_one r j call.1
 
   links : LinksFit gr.keys g after
   links = links_one g wired gr.keys w after v now_here left (call ∷ []) acts here fits.links j (λ i ne. sym (adopted_there (w.node v) j i ne))
-      (λ i ne. sym (put_other (w.queue v) j i ms ne)) sent_at
+      (λ i ne. sym (put_other (w.queue v) j i ms ne)) (λ i ne. sent_none (back i) j call.1 i ne)
       (fits_like g wired gr.keys (sym (adopted_here (w.node v) j port)) refl (sym (put_same (w.queue v) j ms)) sent_at_j near)
       (fits_like g wired gr.keys refl (sym (adopted_here (w.node v) j port)) sent_at_j (sym (put_same (w.queue v) j ms)) away)
 
   -- a number that is read of each queue, in which Connects and Initiates don't count
   as_many : (P : List Message → ℕ) → P (Connect c ∷ ms) ≡ P ms → ((q : List Message) → P q ≡ P (q ++ call.1 ∷ [])) →
-      (y p : ℕ) → At g y p → P (w.queue y p) ≡ P (after.queue y p)
+      AsMany g P w after
   as_many P no_connect no_call = waits_like gr.keys g w after v now_here left (call ∷ []) acts wired here P
       (λ i at_i. taken_like P (w.queue v) j (Connect c) ms waits no_connect i)
       (λ i at_i. ⊎_elim
-      (λ (e : i ≡ j). subst (λ y. P (w.queue (far g v y) (far_port g v y)) ≡ P (sent y)) (sym e) (no_call r ∙ ap P sent_at_j))
-      (λ ne. ap P (sent_at i ne))
+      (λ (e : i ≡ j). subst (λ y. P (back y) ≡ P (sent y)) (sym e) (no_call r ∙ ap P sent_at_j))
+      (λ ne. ap P (sent_none (back i) j call.1 i ne))
       (cases_eq i j))
 
   unreported : HasReported (w.node v).head.level m.head.level m.head.phase (calls_in (w.queue v j)) → ⊥
@@ -236,14 +220,9 @@ module _ (gr : Shape) (ok : IsGraph gr) (w : Net State Message) (v j c : ℕ) (m
   searches : SearchesFit gr.keys g after
   searches = searches_act gr.keys g w after v now_here left (call ∷ []) acts
       (heads_act gr.keys g w after v now_here left (call ∷ []) acts refl)
-      (as_many (λ q. reports_in (calls_in q)) refl call_reports) fits.search
+      (as_many (λ q. reports_in (calls_in q)) refl (λ q. reports_before q (call.1 ∷ []) refl)) fits.search
       (search_adopted (w.node v) j port search missed gr.keys g v (λ p. (w.node (far g v p)).head) (λ p. w.queue v p) unreported
       (fits.search v here))
-    where
-      call_reports : (q : List Message) → ◌≡◌ {A = ℕ} (reports_in (calls_in q)) (reports_in (calls_in (q ++ call.1 ∷ [])))
-      call_reports q =
-          reports_as_before (calls_in q) (w.node v).head.level name
-          ∙ ap (λ x. reports_in x) (sym (calls_more q (w.node v).head.level name))
 
   -- with the ground, which every event keeps
   pub late_fits : Ground g after → Fits gr.keys g after
@@ -256,5 +235,5 @@ module _ (gr : Shape) (ok : IsGraph gr) (w : Net State Message) (v j c : ℕ) (m
     lacks = nodes_act gr.keys g w after v now_here left (call ∷ []) acts (λ y x. LacksSome x) fits.lacks
         (λ s. subst (λ y. 1 ≤ y) (sym (missing_adopted (w.node v) j port search missed)) (fits.lacks v here s));
     tokens = tokens_like gr.keys g w after (heads_act gr.keys g w after v now_here left (call ∷ []) acts refl)
-        (as_many (λ q. passes_in q) refl (λ q. passes_as_before q (w.node v).head.level name)) fits.tokens;
+        (as_many (λ q. passes_in q) refl (λ q. passes_before q (call.1 ∷ []) refl)) fits.tokens;
   }

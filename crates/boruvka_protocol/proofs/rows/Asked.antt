@@ -7,6 +7,7 @@ use Rattle.ghs_graph.specs.Graph.{Shape, IsGraph}
 use Rattle.ghs_protocol.specs.Network.{Network, network_of, At, InNetwork, far}
 use Rattle.ghs_protocol.proofs.lemmas.Wired.{IsWired}
 use Rattle.ghs_protocol.proofs.lemmas.Graphs.{graph_wired}
+use Rattle.ghs_protocol.proofs.lemmas.Wires.{at_in}
 use Rattle.peer_machine.specs.Net.{Net, put, reacted, take_first}
 use Rattle.boruvka_node.specs.declared.head.Head.{Head}
 use Rattle.boruvka_node.specs.declared.mark.Mark.TheVariants.{Asked, Branch}
@@ -20,13 +21,16 @@ use Rattle.boruvka_protocol.proofs.invariant.Sides.{at_port, calls_in, reports_i
 use Rattle.boruvka_protocol.proofs.invariant.Nodes.{AwakeFits}
 use Rattle.boruvka_protocol.proofs.invariant.Search.{LacksSome, SearchFits}
 use Rattle.boruvka_protocol.proofs.invariant.Token.{TokensFit}
-use Rattle.boruvka_protocol.proofs.invariant.Whole.{Ground, LinksFit, SearchesFit, Fits}
+use Rattle.boruvka_protocol.proofs.invariant.Whole.{Ground, NodesFit, LinksFit, SearchesFit, SearchersLack, Fits}
+use Rattle.boruvka_protocol.proofs.Unlike.{asked_is_branch}
 use Rattle.boruvka_protocol.proofs.rows.Table.{still}
 use Rattle.boruvka_protocol.proofs.rows.Ports.{mark_set, mark_kept}
 use Rattle.boruvka_protocol.proofs.rows.Acts.{Acts, acts_taken}
+use Rattle.boruvka_protocol.proofs.rows.Alike.{SameHeads, AsMany}
+use Rattle.boruvka_protocol.proofs.rows.OwnPorts.{port_below}
 use Rattle.boruvka_protocol.proofs.rows.Others.{taken_like, node_like, nodes_act, waits_like, tokens_like}
 use Rattle.boruvka_protocol.proofs.rows.Kept.{search_now, heads_act, searches_act}
-use Rattle.boruvka_protocol.proofs.rows.Noted.{asked_branch, basic_no_branch}
+use Rattle.boruvka_protocol.proofs.rows.Noted.{basic_no_branch}
 use Rattle.boruvka_protocol.proofs.rows.Noting.{basic_there, noted_links, greater_links}
 
 -- The node itself: port j, which was Basic or Asked, is Asked.
@@ -52,7 +56,7 @@ module _ (n : State) (j : ℕ) (lt : j < degree n) (basic : is_basic (mark_at n 
 
   branch_before : (p : ℕ) → mark_at now p ≡ Branch → mark_at n p ≡ Branch
   branch_before p b = ⊎_elim
-      (λ (e : p ≡ j). asked_branch (sym (mark_set n j new lt) ∙ subst (λ y. mark_at now y ≡ Branch) e b))
+      (λ (e : p ≡ j). asked_is_branch (sym (mark_set n j new lt) ∙ subst (λ y. mark_at now y ≡ Branch) e b))
       (λ ne. sym (mark_kept n j p new ne) ∙ b)
       (cases_eq p j)
 
@@ -81,7 +85,7 @@ module _ (gr : Shape) (ok : IsGraph gr) (w : Net State Message) (v j l : ℕ) (m
   wired = graph_wired gr ok
 
   port : j < degree (w.node v)
-  port = subst (λ x. j < x) (sym (fits.ground.nodes v).ports) at.port
+  port = port_below (fits.ground.nodes v) j at
 
   was : is_basic (at_port (w.node v) j).port.mark ≡ true
   was = basic_there gr ok w v j l ms at fits.links waits port level
@@ -93,17 +97,17 @@ module _ (gr : Shape) (ok : IsGraph gr) (w : Net State Message) (v j l : ℕ) (m
   acts = acts_taken g wired w v j (Connect l) ms (still (set_mark (w.node v) j Asked))
 
   here : InNetwork g v
-  here = record { some = at.some; node = at.node }
+  here = at_in at
 
-  heads : (u : ℕ) → (w.node u).head ≡ (after.node u).head
+  heads : SameHeads w after
   heads = heads_act gr.keys g w after v (set_mark (w.node v) j Asked) (put (w.queue v) j ms) [] acts refl
 
   -- the same waits everywhere but for the Connect
-  as_many : (P : List Message → ℕ) → P (Connect l ∷ ms) ≡ P ms → (u p : ℕ) → At g u p → P (w.queue u p) ≡ P (after.queue u p)
+  as_many : (P : List Message → ℕ) → P (Connect l ∷ ms) ≡ P ms → AsMany g P w after
   as_many P none = waits_like gr.keys g w after v (set_mark (w.node v) j Asked) (put (w.queue v) j ms) [] acts wired here P
       (λ i at_i. taken_like P (w.queue v) j (Connect l) ms waits none i) (λ i at_i. ap P (sym (append-nil _)))
 
-  pub noted_nodes : (u : ℕ) → InNetwork g u → AwakeFits gr.keys u (after.node u)
+  pub noted_nodes : NodesFit gr.keys g after
   noted_nodes = nodes_act gr.keys g w after v (set_mark (w.node v) j Asked) (put (w.queue v) j ms) [] acts (λ u x. AwakeFits gr.keys u x) fits.nodes
       (node_like gr.keys v (w.node v) (set_mark (w.node v) j Asked) refl (sym (length-set (w.node v).ports j _)) refl (fits.nodes v here))
 
@@ -112,7 +116,7 @@ module _ (gr : Shape) (ok : IsGraph gr) (w : Net State Message) (v j l : ℕ) (m
       (as_many (λ q. reports_in (calls_in q)) refl) fits.search
       (search_asked (w.node v) j port was gr.keys g v (λ p. (w.node (far g v p)).head) (λ p. w.queue v p) (fits.search v here))
 
-  pub noted_lacks : (u : ℕ) → InNetwork g u → LacksSome (after.node u)
+  pub noted_lacks : SearchersLack g after
   noted_lacks = nodes_act gr.keys g w after v (set_mark (w.node v) j Asked) (put (w.queue v) j ms) [] acts (λ u x. LacksSome x) fits.lacks
       (λ s. subst (λ y. 1 ≤ y) (sym (missing_asked (w.node v) j port was)) (fits.lacks v here s))
 

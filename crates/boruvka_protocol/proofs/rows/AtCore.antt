@@ -1,5 +1,5 @@
 -- A node has gone out over a port where a Connect has come, as the lesser end of a core: all clauses but one hold before it enters.
-use Rattle.std.proofs.Common.{◌≡◌, ◌≢◌, ◌⊎◌, ℕ, ◌<◌, true, List, [], ◌∷◌, ◌++◌, refl, sym, ◌∙◌, ap, subst, ⊎_elim}
+use Rattle.std.proofs.Common.{◌≡◌, ◌≢◌, ◌⊎◌, ℕ, ◌<◌, true, List, [], ◌∷◌, ◌++◌, sym, ◌∙◌, ap, subst, ⊎_elim}
 use Rattle.std.proofs.lemmas.Bool.{cases_eq}
 use Rattle.ghs_graph.specs.declared.key.Key.{Key}
 use Rattle.ghs_graph.specs.Graph.{Shape, IsGraph}
@@ -16,9 +16,9 @@ use Rattle.boruvka_protocol.proofs.invariant.Words.{IsLeast}
 use Rattle.boruvka_protocol.proofs.invariant.Sides.{AtPort, at_port, side_of, far_side_of, calls_in}
 use Rattle.boruvka_protocol.proofs.invariant.Nodes.{NodeFits}
 use Rattle.boruvka_protocol.proofs.invariant.Children.{ChildrenFit}
-use Rattle.boruvka_protocol.proofs.invariant.Whole.{LinkFits, Ground}
+use Rattle.boruvka_protocol.proofs.invariant.Whole.{LinkIn, Ground}
 use Rattle.boruvka_protocol.proofs.rows.Table.{gone}
-use Rattle.boruvka_protocol.proofs.rows.Sends.{sent_here}
+use Rattle.boruvka_protocol.proofs.rows.Sends.{sent_one}
 use Rattle.boruvka_protocol.proofs.rows.Acts.{Acts}
 use Rattle.boruvka_protocol.proofs.rows.EntersDown.{EndFits}
 use Rattle.boruvka_protocol.proofs.rows.CoreIn.{AboutToMeet}
@@ -55,19 +55,13 @@ module _ (gr : Shape) (ok : IsGraph gr) (w w' : Net State Message) (v p : ℕ) (
   queue_now = sym (a.queue p at)
 
   far_queue_now : w.queue u b ++ Connect l ∷ [] ≡ w'.queue u b
-  far_queue_now = ap (λ (x : List Message). w.queue u b ++ x) (sym (sent_here (p, Connect l) [] p refl)) ∙ sym (a.far_queue p at)
+  far_queue_now = sent_one (w.queue u b) p (Connect l) ∙ sym (a.far_queue p at)
 
-  links : (y i : ℕ) → At g y i → (y ≢ v) ⊎ (i ≢ p) →
-      LinkFits ks g y i (at_port (w'.node y) i) (at_port (w'.node (far g y i)) (far_port g y i)) (w'.queue y i)
-      (w'.queue (far g y i) (far_port g y i))
+  links : (y i : ℕ) → At g y i → (y ≢ v) ⊎ (i ≢ p) → LinkIn ks g w' y i
   links y i at_y apart = ⊎_elim
       (λ (e : y ≡ v).
       let ne : i ≢ p = λ z. ⊎_elim (λ o. o e) (λ o. o z) apart in
-      subst
-      (λ x.
-      LinkFits ks g x i (at_port (w'.node x) i) (at_port (w'.node (far g x i)) (far_port g x i)) (w'.queue x i)
-      (w'.queue (far g x i) (far_port g x i)))
-      (sym e)
+      subst (λ x. LinkIn ks g w' x i) (sym e)
       (out_links_near gr ok w v p at h.links h.rest h.stays basic least h.tokens.none w' a i (subst (λ x. At g x i) e at_y) ne))
       (λ ne. out_links_there gr ok w v p at h.links h.rest h.stays basic least h.tokens.none w' a y i at_y ne)
       (cases_eq y v)
@@ -81,8 +75,13 @@ module _ (gr : Shape) (ok : IsGraph gr) (w w' : Net State Message) (v p : ℕ) (
     asked = ap (λ (x : State). mark_at x p) a.node ∙ asked;
     less = less;
     least = subst (λ (x : State). IsLeast ks x.head.level v (port_at g v p).key) (sym a.node) least;
-    ground = ground;
-    nodes = out_nodes gr ok w w' v p at h basic least a own;
+    all = record {
+      ground = ground;
+      nodes = out_nodes gr ok w w' v p at h basic least a own;
+      search = out_searches gr ok w w' v p at h basic least a;
+      lacks = out_lacks gr ok w w' v p at h basic least a;
+      tokens = out_tokens gr ok w w' v p at h basic least a;
+    };
     links = links;
     end = subst (λ (x : State). EndFits ks g v p (at_port x p) (at_port (w'.node u) b) (w'.queue v p)) (sym a.node)
         (subst (λ (x : List Message). EndFits ks g v p (at_port (gone (w.node v) p) p) (at_port (w'.node u) b) x) queue_now
@@ -108,7 +107,4 @@ module _ (gr : Shape) (ok : IsGraph gr) (w w' : Net State Message) (v p : ℕ) (
         (calls_in (w.queue u b ++ Connect l ∷ [])))
         there_now
         (core_children gr ok w v p at h.links h.rest h.stays basic least h.tokens.none))));
-    search = out_searches gr ok w w' v p at h basic least a;
-    lacks = out_lacks gr ok w w' v p at h basic least a;
-    tokens = out_tokens gr ok w w' v p at h basic least a;
   }

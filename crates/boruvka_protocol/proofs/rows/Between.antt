@@ -14,7 +14,8 @@ use Rattle.boruvka_protocol.proofs.invariant.Search.{LacksSome}
 use Rattle.boruvka_protocol.proofs.invariant.Whole.{Ground, Fits}
 use Rattle.boruvka_protocol.proofs.rows.Sends.{sent_on, sent_append}
 use Rattle.boruvka_protocol.proofs.rows.Acts.{Acts, fits_like, far_link, links_act}
-use Rattle.boruvka_protocol.proofs.rows.Others.{nodes_act, waits_like, tokens_like}
+use Rattle.boruvka_protocol.proofs.rows.Alike.{SameHeads}
+use Rattle.boruvka_protocol.proofs.rows.Others.{nodes_act, waits_same, tokens_like}
 use Rattle.boruvka_protocol.proofs.rows.Kept.{heads_act, searches_act}
 
 pub acts_between : (g : Network) (w mid w' : Net State Message) (v : ℕ) (n n' : State) (own left : ℕ → List Message) (ss ts : Outgoing Message) →
@@ -58,11 +59,8 @@ module _ (gr : Shape) (ok : IsGraph gr) (w w' : Net State Message) (v : ℕ) (he
   wired : IsWired g
   wired = graph_wired gr ok
 
-  heads : (u : ℕ) → (w.node u).head ≡ (w'.node u).head
+  heads : SameHeads w w'
   heads = heads_act gr.keys g w w' v (w.node v) (w.queue v) [] a refl
-
-  as_many : (P : List Message → ℕ) → (u p : ℕ) → At g u p → P (w.queue u p) ≡ P (w'.queue u p)
-  as_many P = waits_like gr.keys g w w' v (w.node v) (w.queue v) [] a wired here P (λ i at. refl) (λ i at. ap P (sym (append-nil _)))
 
   still_fits : Fits gr.keys g w → Ground g w' → Fits gr.keys g w'
   still_fits fits ground = record {
@@ -71,10 +69,10 @@ module _ (gr : Shape) (ok : IsGraph gr) (w w' : Net State Message) (v : ℕ) (he
     links = links_act g wired gr.keys w w' v (w.node v) (w.queue v) [] a here fits.links
         (λ i at. fits_like g wired gr.keys refl refl refl (sym (append-nil _)) (fits.links v i at))
         (λ i at. fits_like g wired gr.keys refl refl (sym (append-nil _)) refl (far_link g wired gr.keys w fits.links v i at));
-    search = searches_act gr.keys g w w' v (w.node v) (w.queue v) [] a heads (as_many (λ q. reports_in (calls_in q))) fits.search
-        (fits.search v here);
+    search = searches_act gr.keys g w w' v (w.node v) (w.queue v) [] a heads
+        (waits_same gr.keys g w w' v (w.node v) a wired here (λ q. reports_in (calls_in q))) fits.search (fits.search v here);
     lacks = nodes_act gr.keys g w w' v (w.node v) (w.queue v) [] a (λ u x. LacksSome x) fits.lacks (fits.lacks v here);
-    tokens = tokens_like gr.keys g w w' heads (as_many (λ q. passes_in q)) fits.tokens;
+    tokens = tokens_like gr.keys g w w' heads (waits_same gr.keys g w w' v (w.node v) a wired here (λ q. passes_in q)) fits.tokens;
   }
 
 -- what holds of one net behind an act holds of each net behind it

@@ -1,5 +1,5 @@
 -- A node is called: it enters the next level, and all clauses hold behind it, but that it may wait for nothing.
-use Rattle.std.proofs.Common.{◌≡◌, ◌≢◌, ℕ, zero, suc, ◌<◌, ◌≤◌, ◌==◌, ◌||◌, Bool, true, false, Option, Some, List, ◌∷◌, inl, inr, refl, sym, ◌∙◌, ap, subst, cond, ⊎_elim, arith, eqb-true, eq-eqb}
+use Rattle.std.proofs.Common.{◌≡◌, ◌≢◌, ℕ, zero, suc, ◌==◌, ◌||◌, Bool, true, false, Option, Some, List, ◌∷◌, inl, refl, sym, ◌∙◌, ap, subst, cond, ⊎_elim, arith, eqb-true, eq-eqb}
 use Rattle.std.proofs.lemmas.Bool.{both_ways}
 use Rattle.ghs_graph.specs.declared.key.Key.{Key}
 use Rattle.ghs_graph.specs.Key.{ends_at}
@@ -11,14 +11,14 @@ use Rattle.ghs_levels.specs.Levels.{Taken, IsOfLevel}
 use Rattle.ghs_levels.proofs.lemmas.WaysUp.{level_at, top_at}
 use Rattle.ghs_protocol.specs.Network.{Network, network_of, port_at, At, InNetwork, far, far_port}
 use Rattle.ghs_protocol.proofs.lemmas.Wired.{IsWired}
-use Rattle.ghs_protocol.proofs.lemmas.Graphs.{graph_wired, port_ends, graph_keyed}
+use Rattle.ghs_protocol.proofs.lemmas.Graphs.{graph_wired, port_ends}
 use Rattle.ghs_protocol.proofs.lemmas.Updates.{put_same, put_other}
+use Rattle.ghs_protocol.proofs.lemmas.Wires.{at_in}
 use Rattle.peer_machine.specs.Net.{Net, put, reacted, take_first}
 use Rattle.boruvka_node.specs.declared.mark.Mark.{Mark}
 use Rattle.boruvka_node.specs.declared.mark.Mark.TheVariants.{Branch}
 use Rattle.boruvka_node.specs.declared.message.Message.{Message}
 use Rattle.boruvka_node.specs.declared.message.Message.TheVariants.{Initiate}
-use Rattle.boruvka_node.specs.declared.message.Phase.TheVariants.{Sleeping, Search}
 use Rattle.boruvka_node.specs.Words.{is_asked}
 use Rattle.boruvka_node.specs.State.{State, mark_at}
 use Rattle.boruvka_node.specs.Entering.{joined_mark, entered, told_from}
@@ -29,21 +29,23 @@ use Rattle.boruvka_protocol.proofs.invariant.Sides.{AtPort, at_port, side_of, fa
 use Rattle.boruvka_protocol.proofs.invariant.TreeMessages.{CallFits}
 use Rattle.boruvka_protocol.proofs.invariant.Token.{Out, On, Waits, Gone_out, Token}
 use Rattle.boruvka_protocol.proofs.invariant.Whole.{Ground, LinkFits, Fits, NearlyFits}
+use Rattle.boruvka_protocol.proofs.Unlike.{search_is_sleeping}
 use Rattle.boruvka_protocol.proofs.every_run.Ground.{ground_taken}
 use Rattle.boruvka_protocol.proofs.rows.Grows.{grows_entered}
 use Rattle.boruvka_protocol.proofs.rows.Acts.{Acts, acts_taken, fits_like, far_link}
 use Rattle.boruvka_protocol.proofs.rows.Others.{taken_like}
-use Rattle.boruvka_protocol.proofs.rows.Leaving.{joined_ends, end_there, not_taken}
+use Rattle.boruvka_protocol.proofs.rows.Leaving.{joined_ends, not_taken}
 use Rattle.boruvka_protocol.proofs.rows.Late.{search_rest}
-use Rattle.boruvka_protocol.proofs.rows.Moves.{own_key}
-use Rattle.boruvka_protocol.proofs.rows.Above.{IsTied, token_gone_on}
+use Rattle.boruvka_protocol.proofs.rows.OwnPorts.{port_below, own_key, own_end}
+use Rattle.boruvka_protocol.proofs.rows.Above.{AllTied, AreOfLevels, are_of_levels, token_gone_on}
 use Rattle.boruvka_protocol.proofs.rows.EntersDown.{end_fits}
 use Rattle.boruvka_protocol.proofs.rows.EntersUp.{first_call, up_near, up_away}
 use Rattle.boruvka_protocol.proofs.rows.Enters.{entry, joins}
 use Rattle.boruvka_protocol.proofs.rows.Entered.{IsOpen, IsParent, Entrance, entered_nearly}
+use Rattle.boruvka_protocol.proofs.levels.OneWay.{one_way_up, one_port}
 use Rattle.boruvka_protocol.proofs.levels.UpOnce.{up_of_one}
 use Rattle.boruvka_protocol.proofs.follows.Cases.{by_branch}
-use Rattle.boruvka_protocol.proofs.follows.Called.{one_way_up, called_over_out}
+use Rattle.boruvka_protocol.proofs.follows.Called.{called_over_out}
 
 -- a node that enters, and tells its neighbours, before it looks whether its search is over
 abbrev pub enters_only : State → Key → Option ℕ → Outcome
@@ -63,7 +65,7 @@ module _ (gr : Shape) (ok : IsGraph gr) (w : Net State Message) (v j a : ℕ) (c
   wired = graph_wired gr ok
 
   here : InNetwork g v
-  here = record { some = at.some; node = at.node }
+  here = at_in at
 
   abbrev l : ℕ
   l = (w.node v).head.level
@@ -96,13 +98,10 @@ module _ (gr : Shape) (ok : IsGraph gr) (w : Net State Message) (v j a : ℕ) (c
   taken = call.up.up.link
 
   far_net : InNetwork g u
-  far_net = let t = wired.there v j at in record { some = t.some; node = t.node }
+  far_net = at_in (wired.there v j at)
 
-  classes : (x : ℕ) → InNetwork g x → 1 ≤ (w.node x).head.level → IsOfLevel gr.keys (w.node x).head.level x
-  classes x net lo = (fits.nodes x net (λ s. asleep s)).class
-    where
-      asleep : (w.node x).head.phase ≡ Sleeping → ⊥
-      asleep s = omega (arith, lo, ap (λ (y : State). y.head.level) (fits.ground.untouched x s))
+  classes : AreOfLevels gr w
+  classes = are_of_levels gr w fits.ground fits.nodes
 
   class_there : IsOfLevel gr.keys (suc l) u
   class_there = subst (λ x. IsOfLevel gr.keys x u) call.sender_level (classes u far_net (let lv = call.sender_level in omega (arith, lv)))
@@ -113,7 +112,7 @@ module _ (gr : Shape) (ok : IsGraph gr) (w : Net State Message) (v j a : ℕ) (c
   one_way : IsWayUp gr.keys (suc l) u k → ⊥
   one_way w = up_of_one gr ok (suc l) v u k class (port_ends gr ok v j at) call.up w
 
-  tied : (x i : ℕ) → At g x i → IsTied gr w x i (far g x i) (far_port g x i)
+  tied : AllTied gr w
   tied x i is = let h = fits.links x i is in record { marks = h.marks; children = h.children }
 
   abbrev own : ℕ → List Message
@@ -121,10 +120,7 @@ module _ (gr : Shape) (ok : IsGraph gr) (w : Net State Message) (v j a : ℕ) (c
 
   -- another port has another key
   other_key : (i : ℕ) → At g v i → i ≢ j → (port_at g v i).key ≡ k → ⊥
-  other_key i is ne e = ⊎_elim (λ x. ne x.1) (λ x. wired.apart v i is x.0) (graph_keyed gr ok v i v j is at e)
-
-  ends_own : (i : ℕ) → At g v i → ends_at v (port_at g v i).key ≡ true
-  ends_own i is = end_there (far g v i) v (port_at g v i).key (⊎_elim (λ x. inr (x.1, x.0)) (λ x. inl (x.1, x.0)) (port_ends gr ok v i is))
+  other_key i is ne e = ne (one_port gr ok v i j is at e)
 
   -- what the node chose itself is its way up
   own_is_up : (x : Key) → IsLeast gr.keys l v x → ends_at v x ≡ true → x ≡ k
@@ -137,14 +133,14 @@ module _ (gr : Shape) (ok : IsGraph gr) (w : Net State Message) (v j a : ℕ) (c
     full = λ ne. fits.links v i is;
     out_asked = λ o. absurd (none ((fits.links v i is).connects.out o).least);
     chose = λ least. absurd (none least);
-    not_up = λ x. other_key i is other (one_way_up gr ok (suc l) v class (port_at g v i).key k x call.up);
+    not_up = λ x. other_key i is other (one_way_up gr ok (suc l) v (port_at g v i).key k class x call.up);
   }
     where
       other : i ≢ j
       other e = both_ways (j == i) plain (eq-eqb j i (sym e))
 
       none : IsLeast gr.keys l v (port_at g v i).key → ⊥
-      none least = other_key i is other (own_is_up (port_at g v i).key least (ends_own i is))
+      none least = other_key i is other (own_is_up (port_at g v i).key least (own_end gr ok v i is))
 
   joined : joined_mark (entry (w.node v) c (Some j)) j (mark_at (w.node v) j) ≡ Branch
   joined = ⊎_elim in_class (λ o. joins_out (w.node v) c (Some j) j (mark_at (w.node v) j) o) call.over
@@ -209,21 +205,17 @@ module _ (gr : Shape) (ok : IsGraph gr) (w : Net State Message) (v j a : ℕ) (c
     class = class;
     core = call.core;
     parent = (
-      subst (λ x. j < x) (sym (fits.ground.nodes v).ports) at.port,
-      subst (λ x. IsWayUp gr.keys (suc l) v x) (sym (own_key g v j (w.node v) (fits.ground.nodes v) at)) call.up,
+      port_below (fits.ground.nodes v) j at,
+      subst (λ x. IsWayUp gr.keys (suc l) v x) (sym (own_key (fits.ground.nodes v) j at)) call.up,
     );
-    ground = fits.ground;
-    nodes = fits.nodes;
+    all = record { ground = fits.ground; nodes = fits.nodes; search = fits.search; lacks = fits.lacks; tokens = fits.tokens };
     tied = tied;
     links = λ x i is ne. fits.links x i is;
     ports = ports;
     called = λ i is led. subst (λ x. IsParent gr w v c (Some j) own x) (eqb-true j i led) parent_at;
-    search = fits.search;
-    lacks = fits.lacks;
-    tokens = fits.tokens;
     token = held.token;
     held = held.held;
-    out_end = λ p is o. (((fits.links v p is).connects.out o).least, ends_own p is);
+    out_end = λ p is o. (((fits.links v p is).connects.out o).least, own_end gr ok v p is);
     end_out = held.end_out;
     passes = λ i is. taken_like (λ q. passes_in q) (w.queue v) j (Initiate a c) ms waits refl i;
   }
@@ -236,10 +228,7 @@ module _ (gr : Shape) (ok : IsGraph gr) (w : Net State Message) (v j a : ℕ) (c
 
   call_ground : Ground g after_call
   call_ground = ground_taken g wired w v j (Initiate a c) ms (enters_only (w.node v) c (Some j)) fits.ground at waits
-      (grows_entered (w.node v) (entry (w.node v) c (Some j)) (omega arith), λ s. search_sleeping s)
-    where
-      search_sleeping : Search ≡ Sleeping → ⊥
-      search_sleeping e = cc
+      (grows_entered (w.node v) (entry (w.node v) c (Some j)) (omega arith), λ s. search_is_sleeping s)
 
   -- row Called: all holds where it has entered, and hasn't looked yet whether its search is over
   pub called_nearly : NearlyFits gr.keys g after_call v

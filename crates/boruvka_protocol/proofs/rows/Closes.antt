@@ -7,14 +7,12 @@ use Rattle.ghs_graph.specs.Graph.{Shape, IsGraph}
 use Rattle.ghs_graph.specs.Links.{Same}
 use Rattle.ghs_graph.proofs.lemmas.Joining.{joined_back}
 use Rattle.ghs_levels.specs.Levels.{Taken, InClass, HasWayOut, IsOfLevel}
-use Rattle.ghs_levels.specs.WaysUp.{IsTop, IsUp, IsSub}
+use Rattle.ghs_levels.specs.WaysUp.{IsTop, IsSub}
 use Rattle.ghs_levels.proofs.lemmas.Computing.{in_class_decided}
 use Rattle.ghs_levels.proofs.lemmas.WaysOut.{least_out}
-use Rattle.ghs_levels.proofs.lemmas.WaysUp.{top_inside, top_at, classes_have_one_top, tops_have_no_way_up, others_have_one_way_up, sub_of_top_is_least}
+use Rattle.ghs_levels.proofs.lemmas.WaysUp.{top_inside, top_at, sub_of_top_is_least}
 use Rattle.ghs_node.specs.Words.{Best, best_key}
 use Rattle.ghs_protocol.specs.Network.{Network, network_of, InNetwork, At, port_at, far}
-use Rattle.ghs_protocol.proofs.lemmas.Wired.{IsWired}
-use Rattle.ghs_protocol.proofs.lemmas.Graphs.{graph_wired, graph_keyed}
 use Rattle.peer_machine.specs.Rules.{Outgoing}
 use Rattle.peer_machine.specs.Net.{Net}
 use Rattle.boruvka_node.specs.declared.message.Message.{Message}
@@ -23,17 +21,20 @@ use Rattle.boruvka_node.specs.declared.message.Phase.TheVariants.{Search, Rest}
 use Rattle.boruvka_node.specs.State.{State, degree, key_at, least_basic}
 use Rattle.boruvka_node.specs.Reaction.{is_over, own_best, rested, halted}
 use Rattle.boruvka_protocol.proofs.invariant.Words.{IsPast, IsLeast, IsRoot, IsWayUp, IsSubAt, HasNoSub, SubIs}
-use Rattle.boruvka_protocol.proofs.invariant.Sides.{passes_in}
 use Rattle.boruvka_protocol.proofs.invariant.Nodes.{ParentIs}
 use Rattle.boruvka_protocol.proofs.invariant.Search.{BestIsSub}
 use Rattle.boruvka_protocol.proofs.invariant.Token.{Place, Waits, Out, On, Ended, IsTokenAt, In_message, Gone_out, Gone_on, At_end, Token, RootIsPast, TokenFits, HaltFits}
 use Rattle.boruvka_protocol.proofs.invariant.Whole.{Ground, Fits, NearlyFits}
+use Rattle.boruvka_protocol.proofs.levels.OneWay.{one_root, root_has_none, one_port_up}
 use Rattle.boruvka_protocol.proofs.rows.Sends.{sent_on, sent_here, sent_elsewhere}
 use Rattle.boruvka_protocol.proofs.rows.Acts.{Acts}
 use Rattle.boruvka_protocol.proofs.rows.Late.{search_rest}
+use Rattle.boruvka_protocol.proofs.rows.Alike.{SameLevels, SameOuts, SameHalted, PastStays, AsManyPasses}
+use Rattle.boruvka_protocol.proofs.rows.Tokens.{root_as, root_stays}
+use Rattle.boruvka_protocol.proofs.rows.OwnPorts.{own_key}
+use Rattle.boruvka_protocol.proofs.rows.Kept.{variable_act}
 use Rattle.boruvka_protocol.proofs.rows.Changed.{token_from, tokens_changed}
 use Rattle.boruvka_protocol.proofs.rows.AboutToMove.{AboutToMove}
-use Rattle.boruvka_protocol.proofs.rows.ClosingBest.{key_is}
 use Rattle.boruvka_protocol.proofs.rows.ClosingSub.{best_is_sub}
 use Rattle.boruvka_protocol.proofs.rows.ClosingNet as net
 use Rattle.boruvka_protocol.proofs.rows.ClosingNet.{closed, over_search, over_none, SentOn, Still, Reports}
@@ -55,9 +56,6 @@ module _ (gr : Shape) (ok : IsGraph gr) (w : Net State Message) (v : ℕ) (fits 
   abbrev best : Best
   best = own_best n (least_basic n.ports)
 
-  wired : IsWired g
-  wired = graph_wired gr ok
-
   search : n.head.phase ≡ Search
   search = over_search n over
 
@@ -74,12 +72,11 @@ module _ (gr : Shape) (ok : IsGraph gr) (w : Net State Message) (v : ℕ) (fits 
   is_sub = best_is_sub gr ok w v fits here search (over_none n over)
 
   top_is : (r s : ℕ) → IsTop gr.keys l v r → IsTop gr.keys l v s → s ≡ r
-  top_is r s t x = let top = classes_have_one_top gr ok l v class in top.3 s x ∙ sym (top.3 r t)
+  top_is r s t x = one_root gr ok l v s r class x t
 
   -- a root has no way up
   root_no_up : IsRoot gr.keys l v → (k : Key) → IsWayUp gr.keys l v k → ⊥
-  root_no_up root k up =
-      tops_have_no_way_up gr ok l v v root k (subst (λ x. IsUp (Taken gr.keys l) x v k) (top_is v up.root root up.top) up.up)
+  root_no_up root k up = root_has_none gr ok l v k class root up
 
   -- who is the root of a class is one of its nodes, and its own root
   own_root : (u : ℕ) → IsTop gr.keys l u v → IsRoot gr.keys l v
@@ -94,18 +91,14 @@ module _ (gr : Shape) (ok : IsGraph gr) (w : Net State Message) (v : ℕ) (fits 
 
   module _ (end : Bool) (w' : Net State Message) (ss : Outgoing Message) (a : Acts g w w' v (closed n end) (w.queue v) ss)
       (sent : (i : ℕ) → At g v i → SentOn gr ok w v fits here over i (sent_on ss i)) where
-    levels : (u : ℕ) → ◌≡◌ {A = ℕ} (w.node u).head.level (w'.node u).head.level
+    levels : SameLevels w w'
     levels = net.levels gr ok w v fits here over end w' ss a sent
 
-    passes : (u p : ℕ) → At g u p → ◌≡◌ {A = ℕ} (passes_in (w.queue u p)) (passes_in (w'.queue u p))
+    passes : AsManyPasses g w w'
     passes = net.passes gr ok w v fits here over end w' ss a sent
 
-    outs : (u : ℕ) → (w.node u).head.out ≡ (w'.node u).head.out
-    outs u = ⊎_elim
-        (λ (e : u ≡ v).
-        subst (λ y. (w.node y).head.out ≡ (w'.node y).head.out) (sym e) (sym (ap (λ (x : State). x.head.out) a.node)))
-        (λ ne. ap (λ (x : State). x.head.out) (a.others u ne))
-        (cases_eq u v)
+    outs : SameOuts w w'
+    outs = variable_act gr.keys g w w' v (closed n end) (w.queue v) ss a (λ x. x.out) refl
 
     halts : (u : ℕ) → u ≢ v → (w.node u).head.halted ≡ (w'.node u).head.halted
     halts u ne = ap (λ (x : State). x.head.halted) (a.others u ne)
@@ -113,7 +106,7 @@ module _ (gr : Shape) (ok : IsGraph gr) (w : Net State Message) (v : ℕ) (fits 
     past_here : (m : ℕ) → IsPast m l n.head.phase → IsPast m l Rest
     past_here m x = ⊎_elim (λ lt. inl lt) (λ y. search_rest n.head.phase search y.1) x
 
-    past_to : (m u : ℕ) → IsPast m (w.node u).head.level (w.node u).head.phase → IsPast m (w'.node u).head.level (w'.node u).head.phase
+    past_to : PastStays w w'
     past_to m u p = ⊎_elim
         (λ (e : u ≡ v).
         subst (λ y. IsPast m (w'.node y).head.level (w'.node y).head.phase) (sym e)
@@ -134,14 +127,10 @@ module _ (gr : Shape) (ok : IsGraph gr) (w : Net State Message) (v : ℕ) (fits 
         (cases_eq u v)
 
     root_to : (m u : ℕ) → RootIsPast gr.keys g w m u → RootIsPast gr.keys g w' m u
-    root_to m u r = record { root = r.root; top = r.top; past = past_to m r.root r.past }
+    root_to = root_stays gr.keys g w w' past_to
 
     root_from : (m u : ℕ) → (IsTop gr.keys m u v → m ≡ l → ⊥) → RootIsPast gr.keys g w' m u → RootIsPast gr.keys g w m u
-    root_from m u other r = record {
-      root = r.root;
-      top = r.top;
-      past = past_from m r.root (λ e lv. other (subst (λ x. IsTop gr.keys m u x) e r.top) lv) r.past;
-    }
+    root_from m u other r = root_as gr.keys g w' w m u r (past_from m r.root (λ e lv. other (subst (λ x. IsTop gr.keys m u x) e r.top) lv) r.past)
 
     -- the tokens of a class that v isn't the root of at its level
     token_else : (m u : ℕ) → InNetwork g u → IsOfLevel gr.keys m u → (IsTop gr.keys m u v → m ≡ l → ⊥) →
@@ -164,12 +153,8 @@ module _ (gr : Shape) (ok : IsGraph gr) (w : Net State Message) (v : ℕ) (fits 
 
   -- v goes on unless it halts
   module _ (w' : Net State Message) (ss : Outgoing Message) (a : Acts g w w' v (closed n n.head.halted) (w.queue v) ss) where
-    same_halted : (u : ℕ) → (w.node u).head.halted ≡ (w'.node u).head.halted
-    same_halted u = ⊎_elim
-        (λ (e : u ≡ v).
-        subst (λ y. (w.node y).head.halted ≡ (w'.node y).head.halted) (sym e) (sym (ap (λ (x : State). x.head.halted) a.node)))
-        (λ ne. ap (λ (x : State). x.head.halted) (a.others u ne))
-        (cases_eq u v)
+    same_halted : SameHalted w w'
+    same_halted = variable_act gr.keys g w w' v (closed n n.head.halted) (w.queue v) ss a (λ x. x.halted) refl
 
     not_halted : (u : ℕ) → (w'.node u).head.halted ≡ true → u ≢ v
     not_halted u h e = both_ways n.head.halted goes_on (subst (λ y. (w.node y).head.halted ≡ true) e (same_halted u ∙ h))
@@ -183,19 +168,14 @@ module _ (gr : Shape) (ok : IsGraph gr) (w : Net State Message) (v : ℕ) (fits 
     at_p = record { some = here.some; node = here.node; port = subst (λ x. p < x) (fits.ground.nodes v).ports par.0 }
 
     up : IsWayUp gr.keys l v (key p)
-    up = subst (λ (x : Key). IsWayUp gr.keys l v x) (key_is g v n (fits.ground.nodes v) p at_p) par.1
+    up = subst (λ (x : Key). IsWayUp gr.keys l v x) (own_key (fits.ground.nodes v) p at_p) par.1
 
     no_root : IsRoot gr.keys l v → ⊥
     no_root root = root_no_up root (key p) up
 
     -- no other port leads up
     only : (i : ℕ) → At g v i → IsWayUp gr.keys l v (key i) → i ≡ p
-    only i at x = ⊎_elim (λ y. y.1) (λ y. absurd (wired.apart v i at y.0)) (graph_keyed gr ok v i v p at at_p one)
-      where
-        one : key i ≡ key p
-        one =
-            let o = others_have_one_way_up gr ok l v up.root up.top (λ e. no_root (subst (λ y. IsTop gr.keys l v y) (sym e) up.top)) in
-            o.2 (key i) (subst (λ y. IsUp (Taken gr.keys l) y v (key i)) (top_is up.root x.root up.top x.top) x.up) ∙ sym (o.2 (key p) up.up)
+    only i at x = one_port_up gr ok l v i p class at at_p x up
 
     sub_is : (b : Best) → BestIsSub gr.keys g v n (λ q. (w.node (far g v q)).head) (λ q. w.queue v q) b → SubIs gr.keys l v (best_key b)
     sub_is None h = h

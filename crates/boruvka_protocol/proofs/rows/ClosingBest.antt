@@ -3,22 +3,20 @@ use Rattle.std.proofs.Common.{◌≡◌, ℕ, zero, suc, ◌+◌, ◌<◌, ◌�
 use Rattle.std.proofs.lemmas.Bool.{cases_Bool}
 use Rattle.std.specs.List.{Contains, position_from}
 use Rattle.std.proofs.lemmas.Iterator.Adapters.{position_from-zero}
-use Rattle.std.proofs.lemmas.List.{get_or-map}
 use Rattle.std.proofs.lemmas.List.Sums.{sum_by-cons}
 use Rattle.std.proofs.lemmas.Option.{slice_get_within, get_or_from_slice_get}
 use Rattle.ghs_graph.specs.declared.key.Key.{Key}
 use Rattle.ghs_graph.specs.declared.port.Port.{Port}
-use Rattle.ghs_graph.specs.Key.{no_key, ends_at}
+use Rattle.ghs_graph.specs.Key.{ends_at}
 use Rattle.ghs_graph.specs.Graph.{Shape}
 use Rattle.ghs_graph.specs.Ports as ports
 use Rattle.ghs_graph.specs.Ports.{HasPort, ports_of, port_on}
 use Rattle.ghs_graph.proofs.lemmas.Ports as lemmas
-use Rattle.ghs_protocol.specs.Network.{Network, network_of, InNetwork, At, port_at}
+use Rattle.ghs_protocol.specs.Network.{network_of, InNetwork, At, port_at}
 use Rattle.boruvka_node.specs.declared.port_state.PortState.{PortState}
 use Rattle.boruvka_node.specs.Words.{is_basic}
 use Rattle.boruvka_node.specs.State as state
-use Rattle.boruvka_node.specs.State.{State, no_port, mark_at, key_at, is_missing, missing, least_basic}
-use Rattle.boruvka_protocol.specs.Laws.{IsNodeOf}
+use Rattle.boruvka_node.specs.State.{State, no_port, mark_at, is_missing, missing, least_basic}
 
 -- Where nothing is missing: what each port says.
 
@@ -100,11 +98,6 @@ pub first_basic : (ps : List PortState) → FirstIs 0 ps (least_basic ps)
 first_basic ps = subst (FirstIs 0 ps) (sym (position_from-zero Test ps)) (first_from 0 ps)
 
 -- Ports and links.
-
--- the node knows its ports' keys
-pub key_is : (g : Network) (v : ℕ) (n : State) → IsNodeOf g v n → (p : ℕ) → At g v p → key_at n p ≡ (port_at g v p).key
-key_is g v n is p at =
-    ap (λ (ks : List Key). slice_index_or ks p no_key) is.keys ∙ get_or-map (λ (x : Port). x.key) (g.ports v) p ports.no_port no_key at.port
 
 -- each link that ends at a node is one of its ports
 pub port_with : (gr : Shape) (v : ℕ) → InNetwork (network_of gr) v → (k : Key) → Contains gr.keys k → ends_at v k ≡ true →

@@ -13,14 +13,15 @@ use Rattle.boruvka_node.specs.Words.{is_basic}
 use Rattle.boruvka_protocol.proofs.invariant.Words.{IsPast, IsWayUp, SubIs}
 use Rattle.boruvka_protocol.proofs.invariant.Sides.{Side, AtPort, side_of, far_side_of, heard_at, names_in, calls_in, connects_in, initiates_in, reports_in}
 use Rattle.boruvka_protocol.proofs.invariant.Names.{NamesFit}
-use Rattle.boruvka_protocol.proofs.invariant.Connects.{HasAsked, Waits, Has_begun, HasChosen, ConnectFits, Answered, Comes, Noted, Called}
+use Rattle.boruvka_protocol.proofs.invariant.Connects.{HasAsked, Waits, Has_begun, HasChosen, Answered, Comes, Noted, Called}
 use Rattle.boruvka_protocol.proofs.invariant.Children.{HasReported, ChildFits}
 use Rattle.boruvka_protocol.proofs.invariant.TreeMessages as tree
 use Rattle.boruvka_protocol.proofs.invariant.TreeMessages.{CallFits, CallsFit}
 use Rattle.boruvka_protocol.proofs.invariant.Whole.{LinkFits}
+use Rattle.boruvka_protocol.proofs.Unlike.{one_is_zero, false_is_true}
+use Rattle.boruvka_protocol.proofs.rows.Parts.{none_by, chosen_near}
 use Rattle.boruvka_protocol.proofs.rows.Leaving.{AreEnds, joined_ends}
 use Rattle.boruvka_protocol.proofs.rows.Late.{search_rest}
-use Rattle.boruvka_protocol.proofs.rows.Told.{false_true}
 use Rattle.boruvka_protocol.proofs.rows.Noted.{basic_no_branch}
 use Rattle.ghs_protocol.proofs.lemmas.Nodes.{node_before}
 
@@ -66,13 +67,6 @@ module _ (ks : List Key) (g : Network) (v p : ℕ) (b : Best) (halted : Bool) (n
   pub child_heard : IsWayUp ks n.head.level (far g v p) k → HasReported n.head.level m.head.level m.head.phase (calls_in q)
   child_heard up = h.owes.heard search (taken_branch up.up.link) up paid
 
-  chosen_near : (i : ℕ) → HasChosen ks i e f → HasChosen ks i e' f
-  chosen_near i c = record { least = c.least; past = c.past; sender = go c.sender }
-    where
-      go : HasAsked ks i e f → HasAsked ks i e' f
-      go (Waits lv o) = Waits lv o
-      go (Has_begun lv least less mark) = Has_begun lv least less mark
-
   -- no Connect of the level below is under way
   none_below : (i : ℕ) → suc i ≡ n.head.level → is_basic n.port.mark ≡ true → HasAsked ks i e f → ⊥
   none_below i lv basic (Waits at o) = not_below basic (omega (arith, lv, at))
@@ -80,22 +74,16 @@ module _ (ks : List Key) (g : Network) (v p : ℕ) (b : Best) (halted : Bool) (n
       h.marks.leads_out basic lo (heard basic)
       (joined_ends {P = λ x. Taken ks n.head.level x} v (far g v p) k ends (subst (λ x. Taken ks x k) lv (inr (v, least))))
 
-  connect_near : (i : ℕ) → ConnectFits ks i e f → ConnectFits ks i e' f
-  connect_near i c = record {
-    chosen = chosen_near i c.chosen;
-    finds = ⊎_elim (λ x. inl x) (λ x. absurd (none_below i x.0 x.2 c.chosen.sender)) c.finds;
-  }
-
-  one_none : {P : Type 0} → ◌≡◌ {A = ℕ} 1 0 → P
-  one_none x = absurd (omega (arith, x))
-
   calls_near : (x : List Message) → x ≡ calls_in q → CallsFit ks e f x → CallsFit ks e' f x
   calls_near _ same tree.Nothing = tree.Nothing
-  calls_near _ same (tree.Chosen i c) = tree.Chosen i (connect_near i c)
+  calls_near _ same (tree.Chosen i c) = tree.Chosen i (record {
+    chosen = chosen_near ks g v p n (closed_at n b halted) f i c.chosen;
+    finds = ⊎_elim (λ x. inl x) (λ x. absurd (none_below i x.0 x.2 c.chosen.sender)) c.finds;
+  })
   calls_near _ same (tree.Called l name d) = search_rest n.head.phase search d.rest
   calls_near _ same (tree.Chosen_called i l name c d) = search_rest n.head.phase search d.rest
   calls_near _ same (tree.Reported w d) =
-      one_none (subst (λ (y : List Message). ◌≡◌ {A = ℕ} (reports_in y) 0) (sym same) ((child_heard d.up).heard d.sender_level))
+      one_is_zero (subst (λ (y : List Message). ◌≡◌ {A = ℕ} (reports_in y) 0) (sym same) ((child_heard d.up).heard d.sender_level))
   calls_near _ same (tree.Passed d) = search_rest n.head.phase search d.rest
 
   child_near : IsWayUp ks n.head.level (far g v p) k → ChildFits ks e' f (calls_in q) (calls_in r')
@@ -125,15 +113,15 @@ module _ (ks : List Key) (g : Network) (v p : ℕ) (b : Best) (halted : Bool) (n
       near = h.names.near;
       rest = λ x l basic. heard basic;
     };
-    connects = record { asked = λ x. chosen_near n.head.level (h.connects.asked x); out = λ x. cc (stays, x) };
+    connects = record { asked = λ x. chosen_near ks g v p n (closed_at n b halted) f n.head.level (h.connects.asked x); out = λ x. cc (stays, x) };
     calls = calls_near (calls_in q) refl h.calls;
     children = record {
       child = λ up. child_near up;
       parent = λ up. let x = h.children.parent up in record { level = x.level; mark = x.mark; far_mark = x.far_mark };
     };
     owes = record {
-      child = λ o. false_true (sym paid ∙ o);
-      open_yet = λ o. false_true (sym paid ∙ o);
+      child = λ o. false_is_true (sym paid ∙ o);
+      open_yet = λ o. false_is_true (sym paid ∙ o);
       heard = λ s. search_rest Rest s refl;
       rest = λ ne. paid;
     };
@@ -246,17 +234,14 @@ module _ (ks : List Key) (g : Network) (v p : ℕ) (b : Best) (halted : Bool) (m
   -- Where the node reports to v, v is in search at its level, the link Branch there, and nothing waits but Names.
   module _ (up : IsWayUp ks n.head.level (far g v p) (port_at g v p).key) (level : m.head.level ≡ n.head.level) (listens : m.head.phase ≡ Search)
       (branch : m.port.mark ≡ Branch) where
-    nothing_waits : (x : List Message) → CallsFit ks c d x → x ≡ []
-    nothing_waits _ tree.Nothing = refl
-    nothing_waits _ (tree.Chosen i x) = absurd (⊎_elim
-        (λ e. past_on i x.chosen.past (λ lt. omega (arith, e, lt, level))) (λ y. basic_no_branch m.port.mark y.2 branch) x.finds)
-    nothing_waits _ (tree.Called l name x) = search_rest m.head.phase listens x.rest
-    nothing_waits _ (tree.Chosen_called i l name x y) = search_rest m.head.phase listens y.rest
-    nothing_waits _ (tree.Reported w x) = search_rest n.head.phase search x.sender_rest
-    nothing_waits _ (tree.Passed x) = search_rest m.head.phase listens x.rest
-
     pub empty_there : calls_in r ≡ []
-    empty_there = nothing_waits (calls_in r) h.calls
+    empty_there = none_by ks c d
+        (λ i x. ⊎_elim
+        (λ e. past_on i x.chosen.past (λ lt. omega (arith, e, lt, level))) (λ y. basic_no_branch m.port.mark y.2 branch) x.finds)
+        (λ l name x. search_rest m.head.phase listens x.rest)
+        (λ w x. search_rest n.head.phase search x.sender_rest)
+        (λ x. search_rest m.head.phase listens x.rest)
+        (calls_in r) h.calls
 
     pub report_there : (w : Option Key) → SubIs ks n.head.level (far g v p) w → CallsFit ks c d' (Report w ∷ [])
     report_there w sub = tree.Reported w

@@ -17,20 +17,23 @@ use Rattle.peer_machine.specs.Rules.{Outgoing}
 use Rattle.peer_machine.specs.Net.{Net}
 use Rattle.boruvka_node.specs.declared.mark.Mark.TheVariants.{Branch}
 use Rattle.boruvka_node.specs.declared.message.Message.{Message}
-use Rattle.boruvka_node.specs.declared.message.Message.TheVariants.{Connect, Initiate, Name, Report, ChangeRoot}
+use Rattle.boruvka_node.specs.declared.message.Message.TheVariants.{Report}
 use Rattle.boruvka_node.specs.declared.message.Phase.TheVariants.{Search, Rest}
 use Rattle.boruvka_node.specs.Words.{is_search}
 use Rattle.boruvka_node.specs.State.{State, missing, least_basic}
 use Rattle.boruvka_node.specs.Reaction.{is_over, own_best}
 use Rattle.boruvka_protocol.proofs.invariant.Words.{IsPast, IsWayUp, SubIs}
-use Rattle.boruvka_protocol.proofs.invariant.Sides.{AtPort, at_port, side_of, far_side_of, Told, names_in, calls_in, connects_in, initiates_in, reports_in, passes_in}
+use Rattle.boruvka_protocol.proofs.invariant.Sides.{AtPort, at_port, side_of, far_side_of, calls_in, connects_in, initiates_in, reports_in, passes_in}
 use Rattle.boruvka_protocol.proofs.invariant.Nodes.{NodeFits, AwakeFits}
 use Rattle.boruvka_protocol.proofs.invariant.Children.{HasReported}
 use Rattle.boruvka_protocol.proofs.invariant.TreeMessages.{CallsFit}
 use Rattle.boruvka_protocol.proofs.invariant.Search.{LacksSome, LeadsTo, Own, By_child, BestIsSub, SearchFits}
-use Rattle.boruvka_protocol.proofs.invariant.Whole.{LinkFits, LinksFit, SearchesFit, NearlyFits}
+use Rattle.boruvka_protocol.proofs.invariant.Whole.{LinkFits, LinksFit, NodesFit, SearchesFit, SearchersLack, NearlyFits}
 use Rattle.boruvka_protocol.proofs.rows.Sends.{sent_on}
+use Rattle.boruvka_protocol.proofs.rows.Queues.{calls_append, names_before, passes_before, reports_behind}
 use Rattle.boruvka_protocol.proofs.rows.Acts.{Acts, far_link, links_act}
+use Rattle.boruvka_protocol.proofs.rows.Alike.{SameLevels, AsManyPasses}
+use Rattle.boruvka_protocol.proofs.rows.Kept.{variable_act}
 use Rattle.boruvka_protocol.proofs.rows.Others.{parent_like, nodes_act, waits_like}
 use Rattle.boruvka_protocol.proofs.rows.Leaving.{AreEnds, joined_ends}
 use Rattle.boruvka_protocol.proofs.rows.Late.{search_rest}
@@ -43,40 +46,6 @@ use Rattle.boruvka_protocol.proofs.follows.Cases.{searching_is}
 -- the search is over: the node is at rest with its best, and perhaps has halted
 abbrev pub closed : State → Bool → State
 closed n halted = record n { head = record n.head { best = own_best n (least_basic n.ports); phase = Rest; halted = halted } }
-
--- One Report more in a queue.
-
-pub calls_told : (q : List Message) (k : Option Key) → calls_in (q ++ Report k ∷ []) ≡ calls_in q ++ Report k ∷ []
-calls_told [] k = refl
-calls_told (Connect m ∷ q) k = ap (λ (x : List Message). Connect m ∷ x) (calls_told q k)
-calls_told (Initiate m f ∷ q) k = ap (λ (x : List Message). Initiate m f ∷ x) (calls_told q k)
-calls_told (Name m f ∷ q) k = calls_told q k
-calls_told (Report f ∷ q) k = ap (λ (x : List Message). Report f ∷ x) (calls_told q k)
-calls_told (ChangeRoot ∷ q) k = ap (λ (x : List Message). ChangeRoot ∷ x) (calls_told q k)
-
-pub names_told : (q : List Message) (k : Option Key) → names_in (q ++ Report k ∷ []) ≡ names_in q
-names_told [] k = refl
-names_told (Connect m ∷ q) k = names_told q k
-names_told (Initiate m f ∷ q) k = names_told q k
-names_told (Name m f ∷ q) k = ap (λ (x : List Told). record { level = m; name = f } ∷ x) (names_told q k)
-names_told (Report f ∷ q) k = names_told q k
-names_told (ChangeRoot ∷ q) k = names_told q k
-
-pub passes_told : (q : List Message) (k : Option Key) → ◌≡◌ {A = ℕ} (passes_in (q ++ Report k ∷ [])) (passes_in q)
-passes_told [] k = refl
-passes_told (Connect m ∷ q) k = passes_told q k
-passes_told (Initiate m f ∷ q) k = passes_told q k
-passes_told (Name m f ∷ q) k = passes_told q k
-passes_told (Report f ∷ q) k = passes_told q k
-passes_told (ChangeRoot ∷ q) k = ap suc (passes_told q k)
-
-reports_told : (q : List Message) (k : Option Key) → ◌≡◌ {A = ℕ} (reports_in (calls_in (q ++ Report k ∷ []))) (suc (reports_in (calls_in q)))
-reports_told [] k = refl
-reports_told (Connect m ∷ q) k = reports_told q k
-reports_told (Initiate m f ∷ q) k = reports_told q k
-reports_told (Name m f ∷ q) k = reports_told q k
-reports_told (Report f ∷ q) k = ap suc (reports_told q k)
-reports_told (ChangeRoot ∷ q) k = reports_told q k
 
 pub over_search : (n : State) → is_over n ≡ true → n.head.phase ≡ Search
 over_search n e = let b = and_parts (is_search n.head.phase) (missing n == 0) e in searching_is n.head.phase b.0
@@ -243,13 +212,13 @@ module _ (gr : Shape) (ok : IsGraph gr) (w : Net State Message) (v : ℕ) (fits 
             (up_there l up) same_level listens branch
 
         calls_now : (k : Option Key) → calls_in (r ++ Report k ∷ []) ≡ Report k ∷ []
-        calls_now k = calls_told r k ∙ ap (λ (x : List Message). x ++ Report k ∷ []) empty
+        calls_now k = calls_append r (Report k ∷ []) ∙ ap (λ (x : List Message). x ++ Report k ∷ []) empty
 
         away_told : (k : Option Key) → SubIs gr.keys l v k → AwayFits (r ++ Report k ∷ [])
         away_told k sub =
             closed_away gr.keys g u b (own_best n (least_basic n.ports)) halted m (at_port n i) r (w.queue v i)
             (r ++ Report k ∷ []) far_before search done
-            (names_told r k)
+            (names_before r (Report k ∷ []) refl)
             (ap (λ (x : List Message). connects_in x) (calls_now k) ∙ sym (ap (λ (x : List Message). connects_in x) empty))
             (ap (λ (x : List Message). initiates_in x) (calls_now k) ∙ sym (ap (λ (x : List Message). initiates_in x) empty))
             (subst
@@ -258,7 +227,7 @@ module _ (gr : Shape) (ok : IsGraph gr) (w : Net State Message) (v : ℕ) (fits 
             (report_there gr.keys g u b (own_best n (least_basic n.ports)) halted m (at_port n i) r (w.queue v i) r far_before search done
             (up_there l up) same_level listens branch k (subst (λ x. SubIs gr.keys l x k) (sym (wired.back v i at)) sub)))
             (λ o rep. owed_up o (calls_in (r ++ Report k ∷ [])) rep
-            (λ up_too lv. let z = rep.heard (sym lv) in let one = reports_told r k in absurd (omega (arith, z, one))))
+            (λ up_too lv. let z = rep.heard (sym lv) in let one = reports_behind r (Report k ∷ []) in absurd (omega (arith, z, one))))
 
       away_by : (x : List Message) → SentOn i x → AwayFits (r ++ x)
       away_by _ (Still lacks) = away_still lacks
@@ -266,23 +235,19 @@ module _ (gr : Shape) (ok : IsGraph gr) (w : Net State Message) (v : ℕ) (fits 
 
       passes_by : (x : List Message) → SentOn i x → ◌≡◌ {A = ℕ} (passes_in r) (passes_in (r ++ x))
       passes_by _ (Still lacks) = ap (λ (x : List Message). passes_in x) (sym (append-nil r))
-      passes_by _ (Reports k up sub) = sym (passes_told r k)
+      passes_by _ (Reports k up sub) = passes_before r (Report k ∷ []) refl
 
     pub links : LinksFit gr.keys g w'
     links = links_act g wired gr.keys w w' v (closed n halted) (w.queue v) ss a here fits.links
         (λ i at. near i at (w.queue (far g v i) (far_port g v i) ++ sent_on ss i))
         (λ i at. away_by i at (sent_on ss i) (sent i at))
 
-    pub passes : (u p : ℕ) → At g u p → ◌≡◌ {A = ℕ} (passes_in (w.queue u p)) (passes_in (w'.queue u p))
+    pub passes : AsManyPasses g w w'
     passes = waits_like gr.keys g w w' v (closed n halted) (w.queue v) ss a wired here passes_in (λ i at. refl)
         (λ i at. passes_by i at (sent_on ss i) (sent i at))
 
-    pub levels : (u : ℕ) → ◌≡◌ {A = ℕ} (w.node u).head.level (w'.node u).head.level
-    levels u = ⊎_elim
-        (λ (e : u ≡ v).
-        subst (λ y. ◌≡◌ {A = ℕ} (w.node y).head.level (w'.node y).head.level) (sym e) (sym (ap (λ (x : State). x.head.level) a.node)))
-        (λ ne. ap (λ (x : State). x.head.level) (a.others u ne))
-        (cases_eq u v)
+    pub levels : SameLevels w w'
+    levels = variable_act gr.keys g w w' v (closed n halted) (w.queue v) ss a (λ x. x.level) refl
 
     -- The searches of others: no child has reported that hadn't.
     module _ (u p : ℕ) (at : At g u p) (ne : u ≢ v) where
@@ -346,7 +311,7 @@ module _ (gr : Shape) (ok : IsGraph gr) (w : Net State Message) (v : ℕ) (fits 
         -- a Report has gone out where v is a child
         not_yet : (x : List Message) → SentOn i x → IsWayUp gr.keys l v (key i) → ◌≡◌ {A = ℕ} (reports_in (calls_in (w.queue u p ++ x))) 0 → ⊥
         not_yet _ (Still lacks) up z = lacks up
-        not_yet _ (Reports k way sub) up z = let one = reports_told (w.queue u p) k in omega (arith, z, one)
+        not_yet _ (Reports k way sub) up z = let one = reports_behind (w.queue u p) (Report k ∷ []) in omega (arith, z, one)
 
         from_here : IsWayUp gr.keys ul (far g u p) (port_at g u p).key → After → Before
         from_here up x = ⊎_elim
@@ -384,7 +349,7 @@ module _ (gr : Shape) (ok : IsGraph gr) (w : Net State Message) (v : ℕ) (fits 
     searches = searches_changed gr.keys g wired w w' v (closed n halted) (w.queue v) ss a (λ u p at ne up x. to u p at ne x)
         (λ u p at ne up x. from u p at ne up x) fits.search own_search
 
-    pub nodes : (u : ℕ) → InNetwork g u → AwakeFits gr.keys u (w'.node u)
+    pub nodes : NodesFit gr.keys g w'
     nodes = nodes_act gr.keys g w w' v (closed n halted) (w.queue v) ss a (λ u x. AwakeFits gr.keys u x) fits.nodes
         (λ up. record {
           class = node.class;
@@ -394,7 +359,7 @@ module _ (gr : Shape) (ok : IsGraph gr) (w : Net State Message) (v : ℕ) (fits 
           out_port = node.out_port;
         })
 
-    pub lacks : (u : ℕ) → InNetwork g u → LacksSome (w'.node u)
+    pub lacks : SearchersLack g w'
     lacks u at = ⊎_elim
         (λ (e : u ≡ v). subst (λ y. LacksSome (w'.node y)) (sym e)
         (subst (λ (x : State). LacksSome x) (sym a.node) (λ s. search_rest Rest s refl)))

@@ -35,7 +35,8 @@ use Rattle.boruvka_protocol.proofs.invariant.Whole.{NearlyFits}
 use Rattle.boruvka_protocol.proofs.rows.Leaving.{AreEnds, joined_ends, end_there, far_back, not_taken, not_joined}
 use Rattle.boruvka_protocol.proofs.rows.Late.{search_rest}
 use Rattle.boruvka_protocol.proofs.rows.ClosingLinks.{taken_branch, child_heard}
-use Rattle.boruvka_protocol.proofs.rows.ClosingBest.{paid_at, heard_there, FirstIs, first_basic, key_is, port_with}
+use Rattle.boruvka_protocol.proofs.rows.OwnPorts.{own_key}
+use Rattle.boruvka_protocol.proofs.rows.ClosingBest.{paid_at, heard_there, FirstIs, first_basic, port_with}
 use Rattle.boruvka_protocol.proofs.follows.Cases.{mark_cases}
 
 -- A link that leaves, by its ends.
@@ -243,7 +244,7 @@ module _ (gr : Shape) (ok : IsGraph gr) (w : Net State Message) (v : ℕ) (fits 
       let size = (fits.ground.nodes v).ports in
       let same : q ≡ f.0 = omega (arith, f.1) in
       let at : At g v q = record { some = here.some; node = here.node; port = omega (arith, lt, size, f.1) } in
-      subst (λ (x : Key). IsBest (better n.head.best q (Some x))) (sym (key_is g v n (fits.ground.nodes v) q at))
+      subst (λ (x : Key). IsBest (better n.head.best q (Some x))) (sym (own_key (fits.ground.nodes v) q at))
       (with_basic q at (subst (λ x. is_basic (mark_at n x) ≡ true) (sym same) first.basic)
       (λ p b. let le = first.before p b in omega (arith, le, f.1)) n.head.best searching.best)
 

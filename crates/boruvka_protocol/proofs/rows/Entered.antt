@@ -1,5 +1,5 @@
 -- A node enters the next level: all clauses hold behind it, but that it may wait for nothing.
-use Rattle.std.proofs.Common.{◌≡◌, ◌≢◌, ℕ, zero, suc, ◌<◌, ◌≤◌, ◌&&◌, Bool, true, false, not, Option, Some, List, [], ◌∷◌, ◌++◌, inl, inr, refl, sym, ◌∙◌, ap, subst, cond, ⊎_elim, arith, append-nil}
+use Rattle.std.proofs.Common.{◌≡◌, ◌≢◌, ℕ, zero, suc, ◌&&◌, Bool, true, false, not, Option, Some, List, ◌++◌, inl, inr, refl, sym, ◌∙◌, ap, subst, cond, ⊎_elim, arith, append-nil}
 use Rattle.std.proofs.lemmas.Bool.{cases_eq, cases_Bool, false_from_ne_true}
 use Rattle.ghs_graph.specs.declared.key.Key.{Key}
 use Rattle.ghs_graph.specs.Key.{ends_at}
@@ -10,19 +10,20 @@ use Rattle.ghs_levels.specs.Levels.{Taken, InClass, HasWayOut, IsOfLevel}
 use Rattle.ghs_levels.specs.Cores.{IsCore}
 use Rattle.ghs_protocol.specs.Network.{Network, network_of, port_at, At, InNetwork, far, far_port}
 use Rattle.ghs_protocol.proofs.lemmas.Wired.{IsWired}
-use Rattle.ghs_protocol.proofs.lemmas.Wires.{neighbour}
+use Rattle.ghs_protocol.proofs.lemmas.Wires.{at_in, neighbour}
 use Rattle.ghs_protocol.proofs.lemmas.Graphs.{graph_wired, port_ends}
 use Rattle.peer_machine.specs.Net.{Net}
 use Rattle.boruvka_node.specs.declared.change.Entry.{Entry}
 use Rattle.boruvka_node.specs.declared.mark.Mark.{Mark}
 use Rattle.boruvka_node.specs.declared.mark.Mark.TheVariants.{Basic, Asked, Branch, Inside}
 use Rattle.boruvka_node.specs.declared.message.Message.{Message}
-use Rattle.boruvka_node.specs.declared.message.Message.TheVariants.{Connect, Initiate, Name, Report, ChangeRoot}
-use Rattle.boruvka_node.specs.declared.message.Phase.TheVariants.{Sleeping, Search, Rest}
+use Rattle.boruvka_node.specs.declared.message.Phase.TheVariants.{Search, Rest}
 use Rattle.boruvka_node.specs.declared.port_state.PortState.{PortState}
 use Rattle.boruvka_node.specs.State as state
-use Rattle.boruvka_node.specs.State.{State, degree, mark_at, was_heard}
+use Rattle.boruvka_node.specs.State.{State, mark_at, was_heard}
+use Rattle.boruvka_node.proofs.lemmas.Entered.{length_entered}
 use Rattle.boruvka_node.specs.Entering.{joined_mark, entered, entered_port_as, told_from}
+use Rattle.boruvka_protocol.specs.Laws.{IsNodeOf}
 use Rattle.boruvka_protocol.proofs.invariant.Words.{IsLeast, IsWayUp}
 use Rattle.boruvka_protocol.proofs.invariant.Sides.{AtPort, at_port, side_of, far_side_of, calls_in, reports_in, passes_in}
 use Rattle.boruvka_protocol.proofs.invariant.Nodes.{ParentIs, AwakeFits}
@@ -31,30 +32,30 @@ use Rattle.boruvka_protocol.proofs.invariant.TreeMessages.{CallsFit}
 use Rattle.boruvka_protocol.proofs.invariant.Children.{HasReported}
 use Rattle.boruvka_protocol.proofs.invariant.Search.{LacksSome, HasChild, SearchFits}
 use Rattle.boruvka_protocol.proofs.invariant.Token.{Waits, In_message, Token, RootIsPast, TokensFit}
-use Rattle.boruvka_protocol.proofs.invariant.Whole.{Ground, LinkFits, LinksFit, SearchesFit, NearlyFits}
-use Rattle.boruvka_protocol.proofs.rows.Grows.{entered_many}
+use Rattle.boruvka_protocol.proofs.invariant.Whole.{Ground, LinkFits, LinkIn, LinksFit, SearchesFit, AllButLinks, NearlyFits}
+use Rattle.boruvka_protocol.proofs.Unlike.{none_is_some}
 use Rattle.boruvka_protocol.proofs.rows.Ports.{port_entered, told_by, told_on}
 use Rattle.boruvka_protocol.proofs.rows.Sends.{sent_on}
 use Rattle.boruvka_protocol.proofs.rows.Acts.{Acts, fits_like, links_around}
 use Rattle.boruvka_protocol.proofs.rows.Others.{nodes_act, waits_like, parent_like}
-use Rattle.boruvka_protocol.proofs.rows.Placed.{search_by}
+use Rattle.boruvka_protocol.proofs.rows.Alike.{AsManyPasses}
+use Rattle.boruvka_protocol.proofs.rows.OwnPorts.{port_below}
+use Rattle.boruvka_protocol.proofs.rows.Searches.{search_by}
 use Rattle.boruvka_protocol.proofs.rows.Leaving.{joined_ends}
 use Rattle.boruvka_protocol.proofs.rows.Late.{search_rest}
-use Rattle.boruvka_protocol.proofs.rows.Above.{IsTied, all_past}
-use Rattle.boruvka_protocol.proofs.rows.EntersInside.{entered_as, none_some}
+use Rattle.boruvka_protocol.proofs.rows.Above.{AllTied, AreOfLevels, are_of_levels, all_past}
+use Rattle.boruvka_protocol.proofs.rows.EntersInside.{entered_as}
 use Rattle.boruvka_protocol.proofs.rows.EntersDown.{EndFits}
 use Rattle.boruvka_protocol.proofs.rows.EntersToken.{tokens_enter}
 use Rattle.boruvka_protocol.proofs.rows.Enters.{entry, port_fits}
-use Rattle.boruvka_protocol.proofs.rows.OutLink.{passes_called}
+use Rattle.boruvka_protocol.proofs.rows.Queues.{passes_called, passes_before}
 
 -- Port i of the node v, which enters; it isn't the parent's. own is what is left at v's ports.
 pub record IsOpen (gr : Shape) (w : Net State Message) (v : ℕ) (own : ℕ → List Message) (i : ℕ) : Type 0 where
   pub kept : w.queue v i ≡ own i
   pub end : EndFits gr.keys (network_of gr) v i (at_port (w.node v) i)
       (at_port (w.node (far (network_of gr) v i)) (far_port (network_of gr) v i)) (w.queue v i)
-  pub full : mark_at (w.node v) i ≢ Asked → LinkFits gr.keys (network_of gr) v i (at_port (w.node v) i)
-      (at_port (w.node (far (network_of gr) v i)) (far_port (network_of gr) v i)) (w.queue v i)
-      (w.queue (far (network_of gr) v i) (far_port (network_of gr) v i))
+  pub full : mark_at (w.node v) i ≢ Asked → LinkIn gr.keys (network_of gr) w v i
   pub out_asked : (w.node v).head.out ≡ Some i → mark_at (w.node v) i ≡ Asked
   pub chose : IsLeast gr.keys (w.node v).head.level v (port_at (network_of gr) v i).key → (w.node v).head.out ≡ Some i
   pub not_up : IsWayUp gr.keys (suc (w.node v).head.level) v (port_at (network_of gr) v i).key → ⊥
@@ -77,17 +78,11 @@ pub record Entrance (gr : Shape) (w : Net State Message) (v : ℕ) (c : Key) (up
   pub class : IsOfLevel gr.keys (suc (w.node v).head.level) v
   pub core : IsCore gr.keys (w.node v).head.level v c
   pub parent : ParentIs gr.keys (suc (w.node v).head.level) v (w.node v) up
-  pub ground : Ground (network_of gr) w
-  pub nodes : (u : ℕ) → InNetwork (network_of gr) u → AwakeFits gr.keys u (w.node u)
-  pub tied : (u i : ℕ) → At (network_of gr) u i → IsTied gr w u i (far (network_of gr) u i) (far_port (network_of gr) u i)
-  pub links : (u i : ℕ) → At (network_of gr) u i → u ≢ v → LinkFits gr.keys (network_of gr) u i (at_port (w.node u) i)
-      (at_port (w.node (far (network_of gr) u i)) (far_port (network_of gr) u i)) (w.queue u i)
-      (w.queue (far (network_of gr) u i) (far_port (network_of gr) u i))
+  pub all : AllButLinks gr w
+  pub tied : AllTied gr w
+  pub links : (u i : ℕ) → At (network_of gr) u i → u ≢ v → LinkIn gr.keys (network_of gr) w u i
   pub ports : (i : ℕ) → At (network_of gr) v i → is_at up i ≡ false → IsOpen gr w v own i
   pub called : (i : ℕ) → At (network_of gr) v i → is_at up i ≡ true → IsParent gr w v c up own i
-  pub search : SearchesFit gr.keys (network_of gr) w
-  pub lacks : (u : ℕ) → InNetwork (network_of gr) u → LacksSome (w.node u)
-  pub tokens : TokensFit gr.keys (network_of gr) w
   -- the token of its class has gone out, or on, and is in no message
   pub token : Token gr.keys (network_of gr) w (w.node v).head.level v
   pub held : token.place ≢ Waits
@@ -97,21 +92,13 @@ pub record Entrance (gr : Shape) (w : Net State Message) (v : ℕ) (c : Key) (up
       (p : ℕ) × At (network_of gr) v p × ((w.node v).head.out ≡ Some p)
   pub passes : (i : ℕ) → At (network_of gr) v i → passes_in (w.queue v i) ≡ passes_in (own i)
 
--- one message more that is no ChangeRoot
-passes_more : (q : List Message) (m : Message) → ◌≡◌ {A = ℕ} (passes_in (m ∷ [])) 0 → ◌≡◌ {A = ℕ} (passes_in q) (passes_in (q ++ m ∷ []))
-passes_more [] m none = sym none
-passes_more (Connect l ∷ q) m none = passes_more q m none
-passes_more (Initiate l f ∷ q) m none = passes_more q m none
-passes_more (Name l f ∷ q) m none = passes_more q m none
-passes_more (Report k ∷ q) m none = passes_more q m none
-passes_more (ChangeRoot ∷ q) m none = ap suc (passes_more q m none)
-
-passes_told : (e : Entry) (q : List Message) (m : Mark) (up : Bool) → ◌≡◌ {A = ℕ} (passes_in q) (passes_in (q ++ told_by e m up))
-passes_told e q Basic up = passes_more q (Name e.level e.name) refl
-passes_told e q Asked up = passes_more q (Name e.level e.name) refl
-passes_told e q Branch true = ap (λ (x : List Message). passes_in x) (sym (append-nil q))
-passes_told e q Branch false = passes_more q (Initiate e.level e.name) refl
-passes_told e q Inside up = ap (λ (x : List Message). passes_in x) (sym (append-nil q))
+-- what it tells at a port has no ChangeRoot
+told_passes : (e : Entry) (m : Mark) (up : Bool) → ◌≡◌ {A = ℕ} (passes_in (told_by e m up)) 0
+told_passes e Basic up = refl
+told_passes e Asked up = refl
+told_passes e Branch true = refl
+told_passes e Branch false = refl
+told_passes e Inside up = refl
 
 -- where a port is Branch now, and isn't the parent's, a Report is owed
 owes_branch : (e : Entry) (i : ℕ) (m : Mark) (x : PortState) → (entered_port_as e i m x).mark ≡ Branch → is_at e.parent i ≡ false →
@@ -159,11 +146,11 @@ module _ (gr : Shape) (ok : IsGraph gr) (w w' : Net State Message) (v : ℕ) (c 
   abbrev sent : ℕ → List Message
   sent i = back i ++ sent_on (told_from e 0 (w.node v).ports) i
 
-  classes : (u : ℕ) → InNetwork g u → 1 ≤ (w.node u).head.level → IsOfLevel gr.keys (w.node u).head.level u
-  classes u at lo = (h.nodes u at (λ s. asleep s)).class
-    where
-      asleep : (w.node u).head.phase ≡ Sleeping → ⊥
-      asleep s = omega (arith, lo, ap (λ (n : State). n.head.level) (h.ground.untouched u s))
+  node_is : IsNodeOf g v (w.node v)
+  node_is = h.all.ground.nodes v
+
+  classes : AreOfLevels gr w
+  classes = are_of_levels gr w h.all.ground h.all.nodes
 
   of_level : IsOfLevel gr.keys l v
   of_level = (h.class v Same).0
@@ -172,26 +159,23 @@ module _ (gr : Shape) (ok : IsGraph gr) (w w' : Net State Message) (v : ℕ) (c 
   way_out = (h.class v Same).1
 
   past : RootIsPast gr.keys g w l v
-  past = (h.tokens.one l v h.here of_level).none h.token
+  past = (h.all.tokens.one l v h.here of_level).none h.token
 
   unpassed : (x p : ℕ) → At g x p → InClass gr.keys l v x → (w.node x).head.level ≡ l → ◌≡◌ {A = ℕ} (passes_in (calls_in (w.queue x p))) 0
   unpassed x p at inside lv = passes_called (w.queue x p) ∙ go (passes_in (w.queue x p)) refl
     where
       go : (y : ℕ) → passes_in (w.queue x p) ≡ y → y ≡ 0
       go zero z = refl
-      go (suc y) z = absurd (h.held ((h.tokens.one l v h.here of_level).one h.token other).1)
+      go (suc y) z = absurd (h.held ((h.all.tokens.one l v h.here of_level).one h.token other).1)
         where
           other : Token gr.keys g w l v
           other = record {
             node = x;
             place = Waits;
             inside = inside;
-            in_network = record { some = at.some; node = at.node };
+            in_network = at_in at;
             at = In_message p at lv (omega (arith, z));
           }
-
-  port_below : (i : ℕ) → At g v i → i < degree (w.node v)
-  port_below i at = subst (λ x. i < x) (sym (h.ground.nodes v).ports) at.port
 
   -- a link of v from its far end, before
   far_before : (i : ℕ) → At g v i → LinkFits gr.keys g (far g v i) (far_port g v i) (across i) (at_port (w.node v) i) (back i) (w.queue v i)
@@ -212,7 +196,7 @@ module _ (gr : Shape) (ok : IsGraph gr) (w w' : Net State Message) (v : ℕ) (c 
 
   open_ends : (i : ℕ) → At g v i → is_at up i ≡ false → Ends i
   open_ends i at plain = let o = h.ports i at plain in
-      let both = port_fits gr ok w v c up h.rest h.class h.core h.tied classes past unpassed i at (port_below i at) plain o.end o.full
+      let both = port_fits gr ok w v c up h.rest h.class h.core h.tied classes past unpassed i at (port_below node_is i at) plain o.end o.full
       (far_before i at) o.out_asked o.chose o.not_up in (
         fits_like g wired gr.keys refl refl o.kept refl both.0,
         fits_like g wired gr.keys refl refl refl o.kept both.1,
@@ -229,13 +213,13 @@ module _ (gr : Shape) (ok : IsGraph gr) (w w' : Net State Message) (v : ℕ) (c 
 
       new_is : at_port now i ≡ entered_as (at_port (w.node v) i) Branch false c up
       new_is =
-          ap (λ (y : PortState). let z : AtPort = record { port = y; head = now.head } in z) (port_entered (w.node v) e i (port_below i at))
+          ap (λ (y : PortState). let z : AtPort = record { port = y; head = now.head } in z) (port_entered (w.node v) e i (port_below node_is i at))
           ∙ ap (λ (y : Mark). let z : AtPort = record { port = entered_port_as e i y (state.port_at (w.node v) i); head = now.head } in z) joined
           ∙ ap (λ (y : Bool). let z : AtPort = entered_as (at_port (w.node v) i) Branch (not y) c up in z) led
 
       sent_is : sent i ≡ back i
       sent_is = ap (λ (y : List Message). back i ++ y)
-          (told_on (w.node v) e i (port_below i at) ∙ ap (λ y. told_by e y (is_at up i)) joined ∙ ap (λ y. told_by e Branch y) led)
+          (told_on (w.node v) e i (port_below node_is i at) ∙ ap (λ y. told_by e y (is_at up i)) joined ∙ ap (λ y. told_by e Branch y) led)
           ∙ append-nil (back i)
 
   ends : (i : ℕ) → At g v i → Ends i
@@ -251,15 +235,15 @@ module _ (gr : Shape) (ok : IsGraph gr) (w w' : Net State Message) (v : ℕ) (c 
   node_now awake = record {
     class = h.class;
     name = (c, refl, h.core);
-    parent = parent_like gr.keys (suc l) v (w.node v) now (sym (entered_many e 0 (w.node v).ports)) refl up h.parent;
+    parent = parent_like gr.keys (suc l) v (w.node v) now (sym (length_entered e 0 (w.node v).ports)) refl up h.parent;
     ground = λ z. absurd (omega (arith, z));
-    out_port = λ p x. none_some p x;
+    out_port = λ p x. none_is_some p x;
   }
 
   -- The searches.
 
   not_halted : (w.node v).head.halted ≡ false
-  not_halted = false_from_ne_true (w.node v).head.halted (λ x. (h.tokens.halted v h.here x).whole way_out)
+  not_halted = false_from_ne_true (w.node v).head.halted (λ x. (h.all.tokens.halted v h.here x).whole way_out)
 
   -- no child has reported at the new level
   none_reported : (i : ℕ) → HasChild gr.keys g v now (λ p. (w'.node (far g v p)).head) (λ p. w'.queue v p) i →
@@ -282,7 +266,7 @@ module _ (gr : Shape) (ok : IsGraph gr) (w w' : Net State Message) (v : ℕ) (c 
       other plain = (ends i at).0.owes.open_yet owed rep_before
         where
           same : state.port_at now i ≡ entered_port_as e i (joined_mark e i (mark_at (w.node v) i)) (state.port_at (w.node v) i)
-          same = port_entered (w.node v) e i (port_below i at)
+          same = port_entered (w.node v) e i (port_below node_is i at)
 
           owed : (state.port_at now i).owes ≡ true
           owed = ap (λ (y : PortState). y.owes) same
@@ -347,7 +331,7 @@ module _ (gr : Shape) (ok : IsGraph gr) (w w' : Net State Message) (v : ℕ) (c 
 
   search_there : (u : ℕ) → InNetwork g u → u ≢ v → SearchFits gr.keys g u (w.node u) (λ p. (w'.node (far g u p)).head) (λ p. w'.queue u p)
   search_there u net ne = search_by gr.keys g u (w.node u) (λ p. (w.node (far g u p)).head) (λ p. (w'.node (far g u p)).head)
-      (λ p. w.queue u p) (λ p. w'.queue u p) (λ p x. (both p x.at).0) (λ p x. (both p x.at).1) (h.search u net)
+      (λ p. w.queue u p) (λ p. w'.queue u p) (λ p x. (both p x.at).0) (λ p x. (both p x.at).1) (h.all.search u net)
     where
       both : (p : ℕ) → At g u p → Alike u p
       both p at = ⊎_elim to_v other (cases_eq (far g u p) v)
@@ -401,23 +385,25 @@ module _ (gr : Shape) (ok : IsGraph gr) (w w' : Net State Message) (v : ℕ) (c 
 
   -- The tokens.
 
-  passes_now : (u p : ℕ) → At g u p → passes_in (w.queue u p) ≡ passes_in (w'.queue u p)
+  passes_now : AsManyPasses g w w'
   passes_now = waits_like gr.keys g w w' v now own (told_from e 0 (w.node v).ports) a wired h.here (λ q. passes_in q) h.passes
-      (λ i at. passes_told e (back i) (joined_mark e i (mark_at (w.node v) i)) (is_at up i)
-      ∙ ap (λ (y : List Message). passes_in (back i ++ y)) (sym (told_on (w.node v) e i (port_below i at))))
+      (λ i at.
+      let told : List Message = told_by e (joined_mark e i (mark_at (w.node v) i)) (is_at up i) in
+      passes_before (back i) told (told_passes e (joined_mark e i (mark_at (w.node v) i)) (is_at up i))
+      ∙ ap (λ (y : List Message). passes_in (back i ++ y)) (sym (told_on (w.node v) e i (port_below node_is i at))))
 
   tokens_now : TokensFit gr.keys g w'
   tokens_now = tokens_enter gr.keys g w w' v a.others passes_now level_now phase_now
       (ap (λ (x : State). x.head.out) a.node) (ap (λ (x : State). x.head.halted) a.node) h.rest way_out h.here
-      (λ p at. sym (passes_called (w.queue v p)) ∙ unpassed v p at Same refl) h.out_end h.end_out h.tokens
+      (λ p at. sym (passes_called (w.queue v p)) ∙ unpassed v p at Same refl) h.out_end h.end_out h.all.tokens
 
   -- with the ground, which every event keeps
   pub entered_nearly : Ground g w' → NearlyFits gr.keys g w' v
   entered_nearly ground = record {
     ground = ground;
-    nodes = nodes_act gr.keys g w w' v now own (told_from e 0 (w.node v).ports) a (λ u x. AwakeFits gr.keys u x) h.nodes node_now;
+    nodes = nodes_act gr.keys g w w' v now own (told_from e 0 (w.node v).ports) a (λ u x. AwakeFits gr.keys u x) h.all.nodes node_now;
     links = links_now;
     search = searches_now;
-    others = λ u net ne. subst (λ (x : State). LacksSome x) (a.others u ne) (h.lacks u net);
+    others = λ u net ne. subst (λ (x : State). LacksSome x) (a.others u ne) (h.all.lacks u net);
     tokens = tokens_now;
   }

@@ -13,6 +13,7 @@ use Rattle.ghs_levels.proofs.lemmas.WaysUp.{core_at}
 use Rattle.ghs_protocol.specs.Network.{Network, network_of, port_at, At, InNetwork, far, far_port}
 use Rattle.ghs_protocol.proofs.lemmas.Wired.{IsWired}
 use Rattle.ghs_protocol.proofs.lemmas.Graphs.{graph_wired, port_ends}
+use Rattle.ghs_protocol.proofs.lemmas.Wires.{at_in}
 use Rattle.peer_machine.specs.Net.{Net}
 use Rattle.boruvka_node.specs.declared.change.Entry.{Entry}
 use Rattle.boruvka_node.specs.declared.mark.Mark.{Mark}
@@ -32,13 +33,14 @@ use Rattle.boruvka_protocol.proofs.invariant.TreeMessages.{CallsFit}
 use Rattle.boruvka_protocol.proofs.invariant.Children.{ChildFits}
 use Rattle.boruvka_protocol.proofs.invariant.Token.{RootIsPast}
 use Rattle.boruvka_protocol.proofs.invariant.Whole.{LinkFits}
+use Rattle.boruvka_protocol.proofs.Unlike.{basic_is_branch, basic_is_asked, inside_is_branch, inside_is_asked}
 use Rattle.boruvka_protocol.proofs.levels.UpOnce.{up_of_either, IsMet, own_choice}
 use Rattle.boruvka_protocol.proofs.rows.Ports.{port_entered, told_by, told_on}
 use Rattle.boruvka_protocol.proofs.rows.Sends.{sent_on}
 use Rattle.boruvka_protocol.proofs.rows.Acts.{fits_like}
 use Rattle.boruvka_protocol.proofs.rows.Leaving.{AreEnds, joined_ends, not_taken}
 use Rattle.boruvka_protocol.proofs.rows.Hears.{name_tells}
-use Rattle.boruvka_protocol.proofs.rows.Above.{IsTied, all_past}
+use Rattle.boruvka_protocol.proofs.rows.Above.{AllTied, AreOfLevels, all_past}
 use Rattle.boruvka_protocol.proofs.rows.EntersInside.{entered_as, inside_near, inside_away}
 use Rattle.boruvka_protocol.proofs.rows.EntersBasic.{one_class, aside_now, basic_near, basic_away}
 use Rattle.boruvka_protocol.proofs.rows.EntersDown.{EndFits, down_near, down_away}
@@ -70,9 +72,7 @@ joins_not e i m a b =
 
 module _ (gr : Shape) (ok : IsGraph gr) (w : Net State Message) (v : ℕ) (c : Key) (up : Option ℕ) (rest : (w.node v).head.phase ≡ Rest)
     (class : IsOfLevel gr.keys (suc (w.node v).head.level) v) (core : IsCore gr.keys (w.node v).head.level v c)
-    (tied : (u i : ℕ) → At (network_of gr) u i → IsTied gr w u i (far (network_of gr) u i) (far_port (network_of gr) u i))
-    (classes : (u : ℕ) → InNetwork (network_of gr) u → 1 ≤ (w.node u).head.level → IsOfLevel gr.keys (w.node u).head.level u)
-    (past : RootIsPast gr.keys (network_of gr) w (w.node v).head.level v)
+    (tied : AllTied gr w) (classes : AreOfLevels gr w) (past : RootIsPast gr.keys (network_of gr) w (w.node v).head.level v)
     (unpassed : (x p : ℕ) → At (network_of gr) x p → InClass gr.keys (w.node v).head.level v x → (w.node x).head.level ≡ (w.node v).head.level →
     ◌≡◌ {A = ℕ} (passes_in (calls_in (w.queue x p))) 0) where
   abbrev g : Network
@@ -138,7 +138,7 @@ module _ (gr : Shape) (ok : IsGraph gr) (w : Net State Message) (v : ℕ) (c : K
     at_far = wired.there v i at
 
     far_net : InNetwork g u
-    far_net = record { some = at_far.some; node = at_far.node }
+    far_net = at_in at_far
 
     -- the port by its mark of now
     new_as : (x : Mark) → joined_mark e i n.port.mark ≡ x →
@@ -263,10 +263,7 @@ module _ (gr : Shape) (ok : IsGraph gr) (w : Net State Message) (v : ℕ) (c : K
     )
       where
         plain : n.port.mark ≢ Asked
-        plain y = inside_asked (sym x ∙ y)
-          where
-            inside_asked : {P : Type 0} → Inside ≡ Asked → P
-            inside_asked z = cc
+        plain y = inside_is_asked (sym x ∙ y)
 
         h : LinkFits gr.keys g v i n m q r
         h = full plain
@@ -293,10 +290,7 @@ module _ (gr : Shape) (ok : IsGraph gr) (w : Net State Message) (v : ℕ) (c : K
     basic_fit x = ⊎_elim heard unheard (cases_Bool (was_heard (suc l) c n.port))
       where
         plain : n.port.mark ≢ Asked
-        plain y = basic_asked (sym x ∙ y)
-          where
-            basic_asked : {P : Type 0} → Basic ≡ Asked → P
-            basic_asked z = cc
+        plain y = basic_is_asked (sym x ∙ y)
 
         h : LinkFits gr.keys g v i n m q r
         h = full plain
@@ -333,7 +327,8 @@ module _ (gr : Shape) (ok : IsGraph gr) (w : Net State Message) (v : ℕ) (c : K
               (r ++ Name (suc l) c ∷ [])
               (one_class gr ok v i c up n m q r h there (wired.back v i at) (wired.back_port v i at) (wired.same_key v i at)
               ends (wired.apart v i at) rest x stays class core is_up not_up not_least lv nm)),
-          fits_like g wired gr.keys refl (sym (new_is true t)) (sym sent_is) refl (away_now Inside (λ z. inside_branch z) (λ z. inside_asked z)),
+          fits_like g wired gr.keys refl (sym (new_is true t)) (sym sent_is) refl
+              (away_now Inside (λ z. inside_is_branch z) (λ z. inside_is_asked z)),
         )
           where
             parts : ((n.port.level == suc l) ≡ true) × (is_name n.port.name c ≡ true)
@@ -345,12 +340,6 @@ module _ (gr : Shape) (ok : IsGraph gr) (w : Net State Message) (v : ℕ) (c : K
             nm : n.port.name ≡ Some c
             nm = (name_tells n.port.name c).0 parts.1
 
-            inside_branch : {P : Type 0} → Inside ≡ Branch → P
-            inside_branch z = cc
-
-            inside_asked : {P : Type 0} → Inside ≡ Asked → P
-            inside_asked z = cc
-
         unheard : was_heard (suc l) c n.port ≡ false → Ends
         unheard t = (
           fits_like g wired gr.keys (sym (new_is false t)) refl refl (sym sent_is)
@@ -358,14 +347,8 @@ module _ (gr : Shape) (ok : IsGraph gr) (w : Net State Message) (v : ℕ) (c : K
               ends (wired.apart v i at) rest x stays class core is_up not_up not_least
               (λ lv nm. both_ways _ t (and_from _ _ (eq-eqb _ _ lv) ((name_tells n.port.name c).1 nm)))
               (r ++ Name (suc l) c ∷ [])),
-          fits_like g wired gr.keys refl (sym (new_is false t)) (sym sent_is) refl (away_now Basic (λ z. basic_branch z) (λ z. basic_asked z)),
+          fits_like g wired gr.keys refl (sym (new_is false t)) (sym sent_is) refl (away_now Basic (λ z. basic_is_branch z) (λ z. basic_is_asked z)),
         )
-          where
-            basic_branch : {P : Type 0} → Basic ≡ Branch → P
-            basic_branch z = cc
-
-            basic_asked : {P : Type 0} → Basic ≡ Asked → P
-            basic_asked z = cc
 
     -- the link, from both its ends
     pub port_fits : Ends

@@ -14,7 +14,7 @@ use Rattle.ghs_levels.proofs.lemmas.WaysOut.{inside_is_tree}
 use Rattle.ghs_levels.proofs.lemmas.WaysUp.{core_at}
 use Rattle.ghs_protocol.specs.Network.{Network, network_of, port_at, far, far_port}
 use Rattle.boruvka_node.specs.declared.mark.Mark.{Mark}
-use Rattle.boruvka_node.specs.declared.mark.Mark.TheVariants.{Basic, Asked, Branch, Inside}
+use Rattle.boruvka_node.specs.declared.mark.Mark.TheVariants.{Basic, Asked, Branch}
 use Rattle.boruvka_node.specs.declared.message.Message.{Message}
 use Rattle.boruvka_node.specs.declared.message.Message.TheVariants.{Name}
 use Rattle.boruvka_node.specs.declared.message.Phase.TheVariants.{Search, Rest}
@@ -28,10 +28,13 @@ use Rattle.boruvka_protocol.proofs.invariant.TreeMessages as tree
 use Rattle.boruvka_protocol.proofs.invariant.TreeMessages.{CallsFit}
 use Rattle.boruvka_protocol.proofs.invariant.Children.{ChildFits}
 use Rattle.boruvka_protocol.proofs.invariant.Whole.{LinkFits}
+use Rattle.boruvka_protocol.proofs.Unlike.{basic_is_branch, basic_is_inside, basic_is_asked, false_is_true, none_is_some}
 use Rattle.boruvka_protocol.proofs.rows.Leaving.{AreEnds}
 use Rattle.boruvka_protocol.proofs.rows.Noted.{basic_no_branch}
 use Rattle.boruvka_protocol.proofs.rows.Late.{search_rest}
-use Rattle.boruvka_protocol.proofs.rows.EntersInside.{entered_as, none_some, false_true, calls_as_before, names_more, told_more, follows}
+use Rattle.boruvka_protocol.proofs.rows.Queues.{names_append, calls_before}
+use Rattle.boruvka_protocol.proofs.rows.Parts.{chosen_near}
+use Rattle.boruvka_protocol.proofs.rows.EntersInside.{entered_as, told_more, follows}
 
 -- A link over which the node hasn't gone out, and no Connect was noted: Basic, and not the node's way up.
 module _ (gr : Shape) (ok : IsGraph gr) (v p : ℕ) (c : Key) (up : Option ℕ) (n m : AtPort) (q r : List Message)
@@ -150,10 +153,6 @@ module _ (gr : Shape) (ok : IsGraph gr) (v p : ℕ) (c : Key) (up : Option ℕ) 
   abbrev t : Side
   t = far_side_of g u b n
 
-  -- who chose the link waits, as the node itself hasn't
-  basic_branch : {P : Type 0} → Basic ≡ Branch → P
-  basic_branch x = cc
-
   -- At the node that enters, where its new name wasn't heard.
 
   module _ (unheard : n.port.level ≡ suc l → n.port.name ≡ Some c → ⊥) where
@@ -180,10 +179,7 @@ module _ (gr : Shape) (ok : IsGraph gr) (v p : ℕ) (c : Key) (up : Option ℕ) 
       where
         go : Answered gr.keys d t (calls_in r) (calls_in q) → ◌≡◌ {A = ℕ} (connects_in (calls_in q)) 1
         go (Comes one ne) = one
-        go (Noted none mark lv) = basic_asked (sym basic ∙ mark)
-          where
-            basic_asked : {P : Type 0} → Basic ≡ Asked → P
-            basic_asked x = cc
+        go (Noted none mark lv) = basic_is_asked (sym basic ∙ mark)
         go (Called none mark lv w one) = no_branch mark
 
     sent_out : (i : ℕ) → ConnectFits gr.keys i e f → f.out ≡ Some f.port
@@ -217,13 +213,9 @@ module _ (gr : Shape) (ok : IsGraph gr) (v p : ℕ) (c : Key) (up : Option ℕ) 
       connect = (waits_for, waits_out (calls_in q) h.calls);
     }
 
-    sender_like : (i : ℕ) → HasAsked gr.keys i e f → HasAsked gr.keys i e' f
-    sender_like i (Waits lv out) = Waits lv out
-    sender_like i (Has_begun lv least less mark) = Has_begun lv least less mark
-
     connect_now : (i : ℕ) → ConnectFits gr.keys i e f → ConnectFits gr.keys i e' f
     connect_now i x = record {
-      chosen = record { least = x.chosen.least; past = x.chosen.past; sender = sender_like i x.chosen.sender };
+      chosen = chosen_near gr.keys g v p n (entered_as n Basic false c up) f i x.chosen;
       finds = ⊎_elim (λ y. inr (ap suc y, refl, refl)) (λ y. search_rest n.head.phase y.1 rest) x.finds;
     }
 
@@ -238,7 +230,7 @@ module _ (gr : Shape) (ok : IsGraph gr) (v p : ℕ) (c : Key) (up : Option ℕ) 
     child_now : (r' : List Message) → IsWayUp gr.keys (suc l) u k → ChildFits gr.keys e' f (calls_in q) r'
     child_now r' w = record {
       level = omega (arith, lv);
-      behind = λ x. record { search = refl; rest = λ y. basic_branch y; called = λ y. basic_branch y };
+      behind = λ x. record { search = refl; rest = λ y. basic_is_branch y; called = λ y. basic_is_branch y };
       search = λ x. absurd (omega (arith, x, lv));
       rest = λ x. search_rest Search refl x;
     }
@@ -249,8 +241,8 @@ module _ (gr : Shape) (ok : IsGraph gr) (v p : ℕ) (c : Key) (up : Option ℕ) 
     pub basic_near : (r' : List Message) → LinkFits gr.keys g v p (entered_as n Basic false c up) m q r'
     basic_near r' = record {
       marks = record {
-        branch = λ x. basic_branch x;
-        inside = λ x. basic_inside x;
+        branch = λ x. basic_is_branch x;
+        inside = λ x. basic_is_inside x;
         late = λ i lv x ne. subst (λ y. IsLate gr.keys y e' f (calls_in q)) (let z : l ≡ i = omega (arith, lv) in z) (late_now x);
         leads_out = λ x lo le way. leads le way;
       };
@@ -265,17 +257,11 @@ module _ (gr : Shape) (ok : IsGraph gr) (v p : ℕ) (c : Key) (up : Option ℕ) 
         near = λ x. (omega (arith, high), omega (arith, low));
         rest = λ x. search_rest Search refl x;
       };
-      connects = record { asked = λ x. basic_asked x; out = λ x. none_some _ x };
+      connects = record { asked = λ x. basic_is_asked x; out = λ x. none_is_some _ x };
       calls = calls_now (calls_in q) h.calls;
       children = record { child = λ w. child_now (calls_in r') w; parent = λ w. absurd (not_up w) };
-      owes = record { child = λ o. false_true o; open_yet = λ o. false_true o; heard = λ s x. basic_branch x; rest = λ ne. refl };
+      owes = record { child = λ o. false_is_true o; open_yet = λ o. false_is_true o; heard = λ s x. basic_is_branch x; rest = λ ne. refl };
     }
-      where
-        basic_inside : {P : Type 0} → Basic ≡ Inside → P
-        basic_inside x = cc
-
-        basic_asked : {P : Type 0} → Basic ≡ Asked → P
-        basic_asked x = cc
 
   -- where it was heard, the link lies inside, and isn't in the forest
   module _ (own_level : n.port.level ≡ suc l) (own_name : n.port.name ≡ Some c) where
@@ -313,7 +299,7 @@ module _ (gr : Shape) (ok : IsGraph gr) (v p : ℕ) (c : Key) (up : Option ℕ) 
     told_now = names_in r ++ record { level = suc l; name = c } ∷ []
 
     names_now : names_in (r ++ Name (suc l) c ∷ []) ≡ told_now
-    names_now = names_more r (suc l) c
+    names_now = names_append r (Name (suc l) c ∷ [])
 
     many_now : m.port.level + length (names_in (r ++ Name (suc l) c ∷ [])) ≡ suc l
     many_now = many _ _ _ told_there (ap (λ (x : List Told). length x) names_now ∙ told_more (names_in r) (record { level = suc l; name = c }))
@@ -343,10 +329,7 @@ module _ (gr : Shape) (ok : IsGraph gr) (v p : ℕ) (c : Key) (up : Option ℕ) 
 
     answer_now : (x : List Message) → Answered gr.keys d t (calls_in r) (calls_in q) → Answered gr.keys d t' x (calls_in q)
     answer_now x (Comes one ne) = Comes one not_asked
-    answer_now x (Noted none asked lv) = basic_asked (sym basic ∙ asked)
-      where
-        basic_asked : {P : Type 0} → Basic ≡ Asked → P
-        basic_asked x = cc
+    answer_now x (Noted none asked lv) = basic_is_asked (sym basic ∙ asked)
     answer_now x (Called none branch lv w one) = no_branch branch
 
     never_asked : {P : Type 0} (i : ℕ) → HasAsked gr.keys i d t → P
@@ -388,7 +371,7 @@ module _ (gr : Shape) (ok : IsGraph gr) (v p : ℕ) (c : Key) (up : Option ℕ) 
               greater = o.greater;
             };
       };
-      calls = subst (λ x. CallsFit gr.keys d t' x) (sym (calls_as_before r (suc l) c)) (calls_there' (calls_in r) hf.calls);
+      calls = subst (λ x. CallsFit gr.keys d t' x) (sym (calls_before r (Name (suc l) c ∷ []) refl)) (calls_there' (calls_in r) hf.calls);
       children = record { child = λ w. free_far w.up.link; parent = λ w. free_far w.up.link };
       owes = record {
         child = hf.owes.child;

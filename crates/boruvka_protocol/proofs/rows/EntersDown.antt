@@ -1,42 +1,33 @@
 -- A node enters the next level, and calls a neighbour there, whose way up the link is: what that keeps at it, from both its ends.
-use Rattle.std.proofs.Common.{◌≡◌, ◌⊎◌, ℕ, suc, ◌+◌, ◌<◌, inl, inr, ⊎_elim, true, false, Option, Some, List, [], ◌∷◌, ◌++◌, length, refl, sym, ◌∙◌, ap, subst, arith}
+use Rattle.std.proofs.Common.{◌≡◌, ◌⊎◌, ℕ, suc, ◌+◌, ◌<◌, inl, inr, ⊎_elim, true, Option, Some, List, [], ◌∷◌, ◌++◌, length, refl, sym, ◌∙◌, ap, subst, arith}
 use Rattle.ghs_graph.specs.declared.key.Key.{Key}
 use Rattle.ghs_levels.specs.Levels.{Taken}
 use Rattle.ghs_levels.specs.Cores.{IsCore}
 use Rattle.ghs_levels.proofs.lemmas.Cuts.{taken_in_tree}
 use Rattle.ghs_protocol.specs.Network.{Network, port_at, far, far_port}
-use Rattle.boruvka_node.specs.declared.mark.Mark.TheVariants.{Asked, Branch, Inside}
+use Rattle.boruvka_node.specs.declared.mark.Mark.TheVariants.{Asked, Branch}
 use Rattle.boruvka_node.specs.declared.message.Message.{Message}
 use Rattle.boruvka_node.specs.declared.message.Message.TheVariants.{Initiate}
 use Rattle.boruvka_node.specs.declared.message.Phase.TheVariants.{Search, Rest}
-use Rattle.boruvka_node.specs.Words.{is_basic}
 use Rattle.boruvka_protocol.proofs.invariant.Words.{IsLeast, IsWayUp}
-use Rattle.boruvka_protocol.proofs.invariant.Sides.{Side, AtPort, side_of, far_side_of, heard_at, calls_in, names_in, connects_in, initiates_in, passes_in}
-use Rattle.boruvka_protocol.proofs.invariant.Marks.{MarksFit}
-use Rattle.boruvka_protocol.proofs.invariant.Names.{AreNamesFrom, ToldFits, NamesFit}
+use Rattle.boruvka_protocol.proofs.invariant.Sides.{Side, AtPort, side_of, far_side_of, calls_in, connects_in, initiates_in, passes_in}
+use Rattle.boruvka_protocol.proofs.invariant.Names.{AreNamesFrom, ToldFits}
 use Rattle.boruvka_protocol.proofs.invariant.Connects.{HasAsked, Waits, Has_begun, HasChosen, ConnectFits, Answered, Comes, Noted, Called}
 use Rattle.boruvka_protocol.proofs.invariant.TreeMessages as tree
 use Rattle.boruvka_protocol.proofs.invariant.TreeMessages.{CallFits, CallsFit}
-use Rattle.boruvka_protocol.proofs.invariant.Whole.{LinkFits}
+use Rattle.boruvka_protocol.proofs.invariant.Whole.{MarksAt, NamesAt, CallsAt, LinkFits}
+use Rattle.boruvka_protocol.proofs.Unlike.{one_is_zero, branch_is_inside, branch_is_asked, branch_is_plain, false_is_true, true_is_false, none_is_some}
+use Rattle.boruvka_protocol.proofs.rows.Queues.{calls_append, names_before}
 use Rattle.boruvka_protocol.proofs.rows.Leaving.{not_taken}
-use Rattle.boruvka_protocol.proofs.rows.Late.{search_rest, calls_more, names_as_before}
-use Rattle.boruvka_protocol.proofs.rows.EntersInside.{entered_as, none_some, false_true}
-
-branch_inside : {P : Type 0} → Branch ≡ Inside → P
-branch_inside x = cc
-
-branch_asked : {P : Type 0} → Branch ≡ Asked → P
-branch_asked x = cc
-
-branch_basic : {P : Type 0} → is_basic Branch ≡ true → P
-branch_basic x = cc
+use Rattle.boruvka_protocol.proofs.rows.Late.{search_rest}
+use Rattle.boruvka_protocol.proofs.rows.EntersInside.{entered_as}
 
 -- What is asked of the link at the end of the node that enters; that it has gone out over it itself may be.
 pub record EndFits (ks : List Key) (g : Network) (v p : ℕ) (n m : AtPort) (q : List Message) : Type 0 where
-  pub marks : MarksFit ks (side_of g v p n) (far_side_of g v p m) (heard_at n).level (calls_in q)
-  pub names : NamesFit ks (side_of g v p n) (far_side_of g v p m) (heard_at n) (names_in q)
+  pub marks : MarksAt ks g v p n m q
+  pub names : NamesAt ks g v p n m q
   pub asked : n.port.mark ≡ Asked → HasChosen ks n.head.level (side_of g v p n) (far_side_of g v p m)
-  pub calls : CallsFit ks (side_of g v p n) (far_side_of g v p m) (calls_in q)
+  pub calls : CallsAt ks g v p n m q
 
 pub end_fits : {ks : List Key} {g : Network} {v p : ℕ} {n m : AtPort} {q r : List Message} → LinkFits ks g v p n m q r → EndFits ks g v p n m q
 end_fits h = record { marks = h.marks; names = h.names; asked = h.connects.asked; calls = h.calls }
@@ -82,9 +73,6 @@ module _ (ks : List Key) (g : Network) (v p : ℕ) (c : Key) (up : Option ℕ) (
   abbrev t' : Side
   t' = far_side_of g u b (entered_as n Branch true c up)
 
-  one_zero : {P : Type 0} → ◌≡◌ {A = ℕ} 1 0 → P
-  one_zero x = absurd (omega (arith, x))
-
   below : {P : Type 0} → m.head.level ≡ suc l → P
   below x = absurd (omega (arith, level, x))
 
@@ -107,8 +95,8 @@ module _ (ks : List Key) (g : Network) (v p : ℕ) (c : Key) (up : Option ℕ) (
             where
               answer : {P : Type 0} → Answered ks d t (calls_in r) (calls_in q) → P
               answer (Comes y ne) = absurd (ne asked)
-              answer (Noted none y z) = one_zero (sym one ∙ none)
-              answer (Called none y z w s) = one_zero (sym one ∙ none)
+              answer (Noted none y z) = one_is_zero (sym one ∙ none)
+              answer (Called none y z w s) = one_is_zero (sym one ∙ none)
 
   -- nothing waits here
   pub empty : calls_in q ≡ []
@@ -120,7 +108,7 @@ module _ (ks : List Key) (g : Network) (v p : ℕ) (c : Key) (up : Option ℕ) (
       go _ same (tree.Called i name x) = absurd (not_up x.up)
       go _ same (tree.Chosen_called i j name x y) = absurd (not_up y.up)
       go _ same (tree.Reported i x) = search_rest n.head.phase x.search rest
-      go _ same (tree.Passed x) = one_zero (sym (ap (λ (y : List Message). passes_in y) same) ∙ unpassed)
+      go _ same (tree.Passed x) = one_is_zero (sym (ap (λ (y : List Message). passes_in y) same) ∙ unpassed)
 
   -- over a link of its class, or the one that the far end went out over
   over : Taken ks l k ⊎ (m.head.out ≡ Some b)
@@ -137,20 +125,21 @@ module _ (ks : List Key) (g : Network) (v p : ℕ) (c : Key) (up : Option ℕ) (
   one_call_behind _ (tree.Called i name x) none = search_rest n.head.phase x.sender_search rest
   one_call_behind _ (tree.Chosen_called i j name x y) none = search_rest n.head.phase y.sender_search rest
   one_call_behind _ (tree.Reported i x) none = search_rest m.head.phase x.search far_rest
-  one_call_behind _ (tree.Passed x) none = one_zero none
+  one_call_behind _ (tree.Passed x) none = one_is_zero none
 
   -- one call waits there now
   pub one_call : ◌≡◌ {A = ℕ} (initiates_in (calls_in (r ++ Initiate (suc l) c ∷ []))) 1
-  one_call = subst (λ x. ◌≡◌ {A = ℕ} (initiates_in x) 1) (sym (calls_more r (suc l) c)) (one_call_behind (calls_in r) hf.calls unpassed_there)
+  one_call = subst (λ x. ◌≡◌ {A = ℕ} (initiates_in x) 1) (sym (calls_append r (Initiate (suc l) c ∷ [])))
+      (one_call_behind (calls_in r) hf.calls unpassed_there)
 
   -- at the node that enters
   pub down_near : LinkFits ks g v p (entered_as n Branch true c up) m q (r ++ Initiate (suc l) c ∷ [])
   down_near = record {
     marks = record {
       branch = λ x. up_there.up.link;
-      inside = λ x. branch_inside x;
+      inside = λ x. branch_is_inside x;
       late = λ i lv x ne. absurd (ne refl);
-      leads_out = λ x. branch_basic x;
+      leads_out = λ x. branch_is_plain x;
     };
     names = record {
       said = h.names.said;
@@ -160,10 +149,10 @@ module _ (ks : List Key) (g : Network) (v p : ℕ) (c : Key) (up : Option ℕ) (
         basic = h.names.all.basic;
         aside = λ no. let a = h.names.all.aside no in record { apart = a.apart; far = a.far };
       };
-      near = λ x. branch_basic x;
+      near = λ x. branch_is_plain x;
       rest = λ x. search_rest Search refl x;
     };
-    connects = record { asked = λ x. branch_asked x; out = λ x. none_some _ x };
+    connects = record { asked = λ x. branch_is_asked x; out = λ x. none_is_some _ x };
     calls = subst (λ x. CallsFit ks (side_of g v p (entered_as n Branch true c up)) f x) (sym empty) tree.Nothing;
     children = record {
       child = λ w. record {
@@ -177,13 +166,10 @@ module _ (ks : List Key) (g : Network) (v p : ℕ) (c : Key) (up : Option ℕ) (
     owes = record {
       child = λ o. (refl, up_there);
       open_yet = λ o rep. ⊎_elim (λ lt. omega (arith, lt, level)) (λ x. below x.0) rep.past;
-      heard = λ s x w no. true_false no;
+      heard = λ s x w no. true_is_false no;
       rest = λ ne. absurd (ne refl);
     };
   }
-    where
-      true_false : {P : Type 0} → true ≡ false → P
-      true_false x = cc
 
   -- From the far end.
 
@@ -233,7 +219,7 @@ module _ (ks : List Key) (g : Network) (v p : ℕ) (c : Key) (up : Option ℕ) (
   calls_now _ (tree.Called i name x) none = search_rest n.head.phase x.sender_search rest
   calls_now _ (tree.Chosen_called i j name x y) none = search_rest n.head.phase y.sender_search rest
   calls_now _ (tree.Reported i x) none = search_rest m.head.phase x.search far_rest
-  calls_now _ (tree.Passed x) none = one_zero none
+  calls_now _ (tree.Passed x) none = one_is_zero none
 
   pub down_away : LinkFits ks g u b m (entered_as n Branch true c up) (r ++ Initiate (suc l) c ∷ []) q
   down_away = record {
@@ -245,11 +231,11 @@ module _ (ks : List Key) (g : Network) (v p : ℕ) (c : Key) (up : Option ℕ) (
     };
     names = record {
       said = hf.names.said;
-      next = subst (λ x. AreNamesFrom ks t'.node m.port.level x) (sym (names_as_before r (suc l) c)) hf.names.next;
-      all = subst (λ x. ToldFits ks d t' (m.port.level + length x)) (sym (names_as_before r (suc l) c))
+      next = subst (λ x. AreNamesFrom ks t'.node m.port.level x) (sym (names_before r (Initiate (suc l) c ∷ []) refl)) hf.names.next;
+      all = subst (λ x. ToldFits ks d t' (m.port.level + length x)) (sym (names_before r (Initiate (suc l) c ∷ []) refl))
           (record {
             at_most = let most = hf.names.all.at_most in omega (arith, most);
-            basic = λ x. branch_basic x;
+            basic = λ x. branch_is_plain x;
             aside = λ no. absurd (no (taken_in_tree ks (suc m.head.level) k' up_now.up.link));
           });
       near = λ x. (omega (arith, level), omega (arith, level));
@@ -269,7 +255,7 @@ module _ (ks : List Key) (g : Network) (v p : ℕ) (c : Key) (up : Option ℕ) (
             greater = o.greater;
           };
     };
-    calls = subst (λ x. CallsFit ks d t' x) (sym (calls_more r (suc l) c)) (calls_now (calls_in r) hf.calls unpassed_there);
+    calls = subst (λ x. CallsFit ks d t' x) (sym (calls_append r (Initiate (suc l) c ∷ []))) (calls_now (calls_in r) hf.calls unpassed_there);
     children = record {
       child = λ w. record {
         level = omega (arith, level);
@@ -281,7 +267,7 @@ module _ (ks : List Key) (g : Network) (v p : ℕ) (c : Key) (up : Option ℕ) (
     };
     owes = record {
       child = hf.owes.child;
-      open_yet = λ o. false_true (sym (hf.owes.rest (λ s. search_rest m.head.phase s far_rest)) ∙ o);
+      open_yet = λ o. false_is_true (sym (hf.owes.rest (λ s. search_rest m.head.phase s far_rest)) ∙ o);
       heard = λ s. search_rest m.head.phase s far_rest;
       rest = hf.owes.rest;
     };

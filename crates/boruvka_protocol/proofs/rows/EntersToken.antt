@@ -12,8 +12,8 @@ use Rattle.boruvka_node.specs.State.{State}
 use Rattle.boruvka_protocol.proofs.invariant.Words.{IsPast, IsLeast}
 use Rattle.boruvka_protocol.proofs.invariant.Sides.{passes_in}
 use Rattle.boruvka_protocol.proofs.invariant.Token.{Place, Out, On, IsTokenAt, In_message, Gone_out, Gone_on, At_end, Token, RootIsPast, TokenFits, HaltFits, TokensFit}
+use Rattle.boruvka_protocol.proofs.Unlike.{none_is_some}
 use Rattle.boruvka_protocol.proofs.rows.Late.{search_rest}
-use Rattle.boruvka_protocol.proofs.rows.EntersInside.{none_some}
 
 module _ (ks : List Key) (g : Network) (w w' : Net State Message) (v : ℕ) (others : (u : ℕ) → u ≢ v → w.node u ≡ w'.node u)
     (passes : (u p : ℕ) → At g u p → passes_in (w.queue u p) ≡ passes_in (w'.queue u p))
@@ -80,7 +80,7 @@ module _ (ks : List Key) (g : Network) (w w' : Net State Message) (v : ℕ) (oth
 
   at_v : (m x : ℕ) (place : Place) → InClass ks m x v → IsTokenAt ks g w' m v place → Was m x v place
   at_v m x _ inside (In_message p at lv lt) = waits_for p at (subst (λ y. 0 < y) (sym (passes v p at)) lt)
-  at_v m x _ inside (Gone_out p at lv out) = none_some p (sym stays ∙ out)
+  at_v m x _ inside (Gone_out p at lv out) = none_is_some p (sym stays ∙ out)
   at_v m x _ inside (Gone_on k lt least end) = ⊎_elim
       (λ (e : l ≡ m).
       let out = end_out k (subst (λ y. IsLeast ks y v k) (sym e) least) end in
@@ -118,7 +118,7 @@ module _ (ks : List Key) (g : Network) (w w' : Net State Message) (v : ℕ) (oth
 
   -- the node hasn't gone out any more
   not_out : {P : Type 0} (m : ℕ) → IsTokenAt ks g w' m v Out → P
-  not_out m (Gone_out p at lv out) = none_some p (sym stays ∙ out)
+  not_out m (Gone_out p at lv out) = none_is_some p (sym stays ∙ out)
 
   module _ (m x : ℕ) (f : TokenFits ks g w m x) where
     mixed : {P : Type 0} (u : ℕ) (place : Place) (s t : Token ks g w m x) → s.node ≡ v → s.place ≡ Out → t.node ≡ u → t.place ≡ place →

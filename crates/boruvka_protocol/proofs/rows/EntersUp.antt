@@ -1,32 +1,23 @@
 -- A node is called, and enters the next level: what that keeps at the link to its parent, from both its ends.
-use Rattle.std.proofs.Common.{◌≡◌, ℕ, suc, inl, ⊎_elim, true, false, Option, List, [], ◌∷◌, refl, sym, ◌∙◌, subst, arith}
+use Rattle.std.proofs.Common.{◌≡◌, ℕ, suc, inl, ⊎_elim, false, Option, List, [], ◌∷◌, refl, sym, ◌∙◌, subst, arith}
 use Rattle.ghs_graph.specs.declared.key.Key.{Key}
 use Rattle.ghs_graph.specs.Links.{InTree}
 use Rattle.ghs_levels.proofs.lemmas.Cuts.{taken_in_tree}
 use Rattle.ghs_protocol.specs.Network.{Network, port_at, far, far_port}
-use Rattle.boruvka_node.specs.declared.mark.Mark.TheVariants.{Asked, Branch, Inside}
+use Rattle.boruvka_node.specs.declared.mark.Mark.TheVariants.{Branch}
 use Rattle.boruvka_node.specs.declared.message.Message.{Message}
 use Rattle.boruvka_node.specs.declared.message.Message.TheVariants.{Initiate}
 use Rattle.boruvka_node.specs.declared.message.Phase.TheVariants.{Search, Rest}
-use Rattle.boruvka_node.specs.Words.{is_basic}
 use Rattle.boruvka_protocol.proofs.invariant.Words.{IsWayUp}
 use Rattle.boruvka_protocol.proofs.invariant.Sides.{Side, AtPort, side_of, far_side_of, calls_in}
 use Rattle.boruvka_protocol.proofs.invariant.Connects.{ConnectFits}
 use Rattle.boruvka_protocol.proofs.invariant.TreeMessages as tree
 use Rattle.boruvka_protocol.proofs.invariant.TreeMessages.{CallFits, CallsFit}
 use Rattle.boruvka_protocol.proofs.invariant.Whole.{LinkFits}
+use Rattle.boruvka_protocol.proofs.Unlike.{branch_is_inside, branch_is_asked, branch_is_plain, false_is_true, none_is_some}
 use Rattle.boruvka_protocol.proofs.rows.Noted.{basic_no_branch}
 use Rattle.boruvka_protocol.proofs.rows.Late.{search_rest}
-use Rattle.boruvka_protocol.proofs.rows.EntersInside.{entered_as, none_some, false_true}
-
-branch_inside : {P : Type 0} → Branch ≡ Inside → P
-branch_inside x = cc
-
-branch_asked : {P : Type 0} → Branch ≡ Asked → P
-branch_asked x = cc
-
-branch_basic : {P : Type 0} → is_basic Branch ≡ true → P
-branch_basic x = cc
+use Rattle.boruvka_protocol.proofs.rows.EntersInside.{entered_as}
 
 -- what a call at the head of a queue says; nothing more waits behind it but Names
 pub first_call : (ks : List Key) (e f : Side) (i : ℕ) (c : Key) (rest : List Message) → CallsFit ks e f (Initiate i c ∷ rest) →
@@ -74,9 +65,9 @@ module _ (ks : List Key) (g : Network) (v p a : ℕ) (c : Key) (up : Option ℕ)
   up_near = record {
     marks = record {
       branch = λ x. call.up.up.link;
-      inside = λ x. branch_inside x;
+      inside = λ x. branch_is_inside x;
       late = λ i lv x ne. absurd (ne refl);
-      leads_out = λ x. branch_basic x;
+      leads_out = λ x. branch_is_plain x;
     };
     names = record {
       said = h.names.said;
@@ -86,18 +77,18 @@ module _ (ks : List Key) (g : Network) (v p a : ℕ) (c : Key) (up : Option ℕ)
         basic = h.names.all.basic;
         aside = λ no. let a = h.names.all.aside no in record { apart = a.apart; far = a.far };
       };
-      near = λ x. branch_basic x;
+      near = λ x. branch_is_plain x;
       rest = λ x. search_rest Search refl x;
     };
-    connects = record { asked = λ x. branch_asked x; out = λ x. none_some _ x };
+    connects = record { asked = λ x. branch_is_asked x; out = λ x. none_is_some _ x };
     calls = subst (λ x. CallsFit ks (side_of g v p (entered_as n Branch false c up)) (far_side_of g v p m) x) (sym empty) tree.Nothing;
     children = record {
       child = λ w. absurd (one_way w);
       parent = λ w. record { level = inl call.sender_level; mark = refl; far_mark = call.sender_mark };
     };
     owes = record {
-      child = λ o. false_true o;
-      open_yet = λ o. false_true o;
+      child = λ o. false_is_true o;
+      open_yet = λ o. false_is_true o;
       heard = λ s x w. absurd (one_way w);
       rest = λ ne. refl;
     };
@@ -140,14 +131,14 @@ module _ (ks : List Key) (g : Network) (v p a : ℕ) (c : Key) (up : Option ℕ)
       next = hf.names.next;
       all = record {
         at_most = let most = hf.names.all.at_most in omega (arith, most);
-        basic = λ x. branch_basic x;
+        basic = λ x. branch_is_plain x;
         aside = λ no. absurd (no (subst (λ (x : Key). InTree ks x) (sym same_key) (taken_in_tree ks (suc l) k call.up.up.link)));
       };
       near = λ x. basic_no_branch m.port.mark x call.sender_mark;
       rest = hf.names.rest;
     };
     connects = record {
-      asked = λ x. branch_asked (sym call.sender_mark ∙ x);
+      asked = λ x. branch_is_asked (sym call.sender_mark ∙ x);
       out = λ x. far_search (hf.connects.out x).rest;
     };
     calls = calls_now (calls_in r) hf.calls;

@@ -1,52 +1,18 @@
 -- A node goes out over a port: what that keeps at each of its links, from both ends. The node stands at port i with n there, and goes out over p.
-use Rattle.std.proofs.Common.{◌≡◌, ◌↔◌, ℕ, suc, ◌+◌, inl, ⊎_elim, Option, Some, None, List, [], ◌∷◌, ◌++◌, length, refl, sym, ◌∙◌, ap, subst, arith}
+use Rattle.std.proofs.Common.{◌≡◌, ◌↔◌, ℕ, ◌+◌, Option, Some, None, List, length, sym, ◌∙◌, subst, arith}
 use Rattle.ghs_graph.specs.declared.key.Key.{Key}
 use Rattle.ghs_protocol.specs.Network.{Network, far_port}
 use Rattle.boruvka_node.specs.declared.message.Message.{Message}
-use Rattle.boruvka_node.specs.declared.message.Message.TheVariants.{Connect, Initiate, Name, Report, ChangeRoot}
 use Rattle.boruvka_protocol.proofs.invariant.Sides.{Side, AtPort, side_of, far_side_of, Told, calls_in, names_in, connects_in, initiates_in, reports_in, passes_in}
 use Rattle.boruvka_protocol.proofs.invariant.Names.{AreNamesFrom, ToldFits}
-use Rattle.boruvka_protocol.proofs.invariant.Connects.{HasAsked, Waits, Has_begun, HasChosen, ConnectFits, Answered, Comes, Noted, Called, OutFits}
+use Rattle.boruvka_protocol.proofs.invariant.Connects.{HasChosen, Answered, Comes, Noted, Called, OutFits}
 use Rattle.boruvka_protocol.proofs.invariant.TreeMessages as tree
-use Rattle.boruvka_protocol.proofs.invariant.TreeMessages.{CallFits, PassFits, CallsFit}
+use Rattle.boruvka_protocol.proofs.invariant.TreeMessages.{CallFits, CallsFit}
 use Rattle.boruvka_protocol.proofs.invariant.Children.{ChildrenFit}
 use Rattle.boruvka_protocol.proofs.invariant.Search.{OwesFit}
 use Rattle.boruvka_protocol.proofs.invariant.Whole.{LinkFits}
+use Rattle.boruvka_protocol.proofs.rows.Parts.{chosen_near, call_near, chosen_far}
 use Rattle.boruvka_protocol.proofs.rows.EntersDown.{EndFits}
-
--- One message more in a queue, which is a Connect.
-
-pub connect_behind : (q : List Message) (l : ℕ) → calls_in (q ++ Connect l ∷ []) ≡ calls_in q ++ Connect l ∷ []
-connect_behind [] l = refl
-connect_behind (Connect m ∷ q) l = ap (λ (x : List Message). Connect m ∷ x) (connect_behind q l)
-connect_behind (Initiate m k ∷ q) l = ap (λ (x : List Message). Initiate m k ∷ x) (connect_behind q l)
-connect_behind (Name m k ∷ q) l = connect_behind q l
-connect_behind (Report k ∷ q) l = ap (λ (x : List Message). Report k ∷ x) (connect_behind q l)
-connect_behind (ChangeRoot ∷ q) l = ap (λ (x : List Message). ChangeRoot ∷ x) (connect_behind q l)
-
-pub names_before_connect : (q : List Message) (l : ℕ) → names_in (q ++ Connect l ∷ []) ≡ names_in q
-names_before_connect [] l = refl
-names_before_connect (Connect m ∷ q) l = names_before_connect q l
-names_before_connect (Initiate m k ∷ q) l = names_before_connect q l
-names_before_connect (Name m k ∷ q) l = ap (λ (x : List Told). record { level = m; name = k } ∷ x) (names_before_connect q l)
-names_before_connect (Report k ∷ q) l = names_before_connect q l
-names_before_connect (ChangeRoot ∷ q) l = names_before_connect q l
-
-pub passes_before_connect : (q : List Message) (l : ℕ) → ◌≡◌ {A = ℕ} (passes_in q) (passes_in (q ++ Connect l ∷ []))
-passes_before_connect [] l = refl
-passes_before_connect (Connect m ∷ q) l = passes_before_connect q l
-passes_before_connect (Initiate m k ∷ q) l = passes_before_connect q l
-passes_before_connect (Name m k ∷ q) l = passes_before_connect q l
-passes_before_connect (Report k ∷ q) l = passes_before_connect q l
-passes_before_connect (ChangeRoot ∷ q) l = ap suc (passes_before_connect q l)
-
-pub reports_before_connect : (q : List Message) (l : ℕ) → ◌≡◌ {A = ℕ} (reports_in (calls_in q)) (reports_in (calls_in (q ++ Connect l ∷ [])))
-reports_before_connect [] l = refl
-reports_before_connect (Connect m ∷ q) l = reports_before_connect q l
-reports_before_connect (Initiate m k ∷ q) l = reports_before_connect q l
-reports_before_connect (Name m k ∷ q) l = reports_before_connect q l
-reports_before_connect (Report k ∷ q) l = ap suc (reports_before_connect q l)
-reports_before_connect (ChangeRoot ∷ q) l = reports_before_connect q l
 
 -- a node that has gone out over p, at any of its ports
 abbrev pub gone_at : ℕ → AtPort → AtPort
@@ -69,33 +35,18 @@ module _ (ks : List Key) (g : Network) (p v i : ℕ) (n m : AtPort) (stays : n.h
 
     module _ (no_pass : ◌≡◌ {A = ℕ} (passes_in (calls_in q)) 0)
         (calls_there : ◌≡◌ {A = ℕ} (initiates_in (calls_in r)) (initiates_in (calls_in r'))) where
-      asked_near : (k : ℕ) → HasAsked ks k e f → HasAsked ks k e' f
-      asked_near k (Waits lv o) = Waits lv o
-      asked_near k (Has_begun lv least less mark) = Has_begun lv least less mark
+      chosen : {k : ℕ} → HasChosen ks k e f → HasChosen ks k e' f
+      chosen {k} c = chosen_near ks g v i n (gone_at p n) f k c
 
-      chosen_near : (k : ℕ) → HasChosen ks k e f → HasChosen ks k e' f
-      chosen_near k c = record { least = c.least; past = c.past; sender = asked_near k c.sender }
-
-      connect_near : (k : ℕ) → ConnectFits ks k e f → ConnectFits ks k e' f
-      connect_near k c = record { chosen = chosen_near k c.chosen; finds = c.finds }
-
-      call_near : (k : ℕ) (name : Key) → CallFits ks k name e f → CallFits ks k name e' f
-      call_near k name d = record {
-        level = d.level;
-        core = d.core;
-        up = d.up;
-        rest = d.rest;
-        sender_level = d.sender_level;
-        sender_search = d.sender_search;
-        sender_mark = d.sender_mark;
-        over = ⊎_elim (λ t. inl t) (λ o. none_some i stays o) d.over;
-      }
+      called : {k : ℕ} {name : Key} → CallFits ks k name e f → CallFits ks k name e' f
+      called {k} {name} d = call_near ks g v i n n.port (Some p) f (λ o. none_some i stays o) k name d
 
       calls_near : (x : List Message) → ◌≡◌ {A = ℕ} (passes_in x) 0 → CallsFit ks e f x → CallsFit ks e' f x
       calls_near _ z tree.Nothing = tree.Nothing
-      calls_near _ z (tree.Chosen k c) = tree.Chosen k (connect_near k c)
-      calls_near _ z (tree.Called k name d) = tree.Called k name (call_near k name d)
-      calls_near _ z (tree.Chosen_called j k name c d) = tree.Chosen_called j k name (connect_near j c) (call_near k name d)
+      calls_near _ z (tree.Chosen k c) = tree.Chosen k (record { chosen = chosen c.chosen; finds = c.finds })
+      calls_near _ z (tree.Called k name d) = tree.Called k name (called d)
+      calls_near _ z (tree.Chosen_called j k name c d) =
+          tree.Chosen_called j k name (record { chosen = chosen c.chosen; finds = c.finds }) (called d)
       calls_near _ z (tree.Reported k d) = tree.Reported k
           (record { up = d.up; sender_level = d.sender_level; sender_rest = d.sender_rest; search = d.search; mark = d.mark; sub = d.sub })
       calls_near _ z (tree.Passed d) = absurd (omega (arith, z))
@@ -122,7 +73,7 @@ module _ (ks : List Key) (g : Network) (p v i : ℕ) (n m : AtPort) (stays : n.h
           near = h.names.near;
           rest = h.names.rest;
         };
-        asked = λ x. chosen_near n.head.level (h.connects.asked x);
+        asked = λ x. chosen (h.connects.asked x);
         calls = calls_near (calls_in q) no_pass h.calls;
       }
 
@@ -166,38 +117,6 @@ module _ (ks : List Key) (g : Network) (p v i : ℕ) (m n : AtPort) (stays : n.h
   abbrev t' : Side
   t' = far_side_of g v i (gone_at p n)
 
-  pub asked_away : (k : ℕ) → HasAsked ks k s t → HasAsked ks k s t'
-  asked_away k (Waits lv o) = none_some (far_port g v i) stays o
-  asked_away k (Has_begun lv least less mark) = Has_begun lv least less mark
-
-  chosen_away : (k : ℕ) → HasChosen ks k s t → HasChosen ks k s t'
-  chosen_away k c = record { least = c.least; past = c.past; sender = asked_away k c.sender }
-
-  connect_away : (k : ℕ) → ConnectFits ks k s t → ConnectFits ks k s t'
-  connect_away k c = record { chosen = chosen_away k c.chosen; finds = c.finds }
-
-  call_away : (k : ℕ) (name : Key) → CallFits ks k name s t → CallFits ks k name s t'
-  call_away k name d = record {
-    level = d.level;
-    core = d.core;
-    up = d.up;
-    rest = d.rest;
-    sender_level = d.sender_level;
-    sender_search = d.sender_search;
-    sender_mark = d.sender_mark;
-    over = d.over;
-  }
-
-  -- what waited fits still
-  pub calls_away : (x : List Message) → CallsFit ks s t x → CallsFit ks s t' x
-  calls_away _ tree.Nothing = tree.Nothing
-  calls_away _ (tree.Chosen k c) = tree.Chosen k (connect_away k c)
-  calls_away _ (tree.Called k name d) = tree.Called k name (call_away k name d)
-  calls_away _ (tree.Chosen_called j k name c d) = tree.Chosen_called j k name (connect_away j c) (call_away k name d)
-  calls_away _ (tree.Reported k d) = tree.Reported k
-      (record { up = d.up; sender_level = d.sender_level; sender_rest = d.sender_rest; search = d.search; mark = d.mark; sub = d.sub })
-  calls_away _ (tree.Passed d) = tree.Passed (record { up = d.up; rest = d.rest; stays = d.stays; least = d.least })
-
   module _ (same_names : names_in q ≡ names_in q') (same_calls : ◌≡◌ {A = ℕ} (initiates_in (calls_in q)) (initiates_in (calls_in q')))
       (same_reports : ◌≡◌ {A = ℕ} (reports_in (calls_in q)) (reports_in (calls_in q')))
       (connect : (t.out ≡ Some t.port) ↔ (◌≡◌ {A = ℕ} (connects_in (calls_in q)) 1) →
@@ -233,7 +152,8 @@ module _ (ks : List Key) (g : Network) (p v i : ℕ) (m n : AtPort) (stays : n.h
         rest = h.names.rest;
       };
       connects = record {
-        asked = λ x. chosen_away m.head.level (h.connects.asked x);
+        asked = λ x.
+            chosen_far ks g v i n n.port (Some p) s (λ o. none_some (far_port g v i) stays o) (λ b. b) m.head.level (h.connects.asked x);
         out = λ x.
             let o = h.connects.out x in
             record { least = o.least; rest = o.rest; basic = o.basic; answer = answer_away o.answer; greater = o.greater };

@@ -1,5 +1,5 @@
 -- What every reaction leaves: the node's number, its keys and how many ports it has; it doesn't fall asleep, and loses no level.
-use Rattle.std.proofs.Common.{◌≡◌, ◌≢◌, ℕ, suc, ◌≤◌, nat_lt, true, false, Option, Some, None, List, [], ◌∷◌, length, refl, ◌∙◌, ap, subst, arith, length-set, le_refl}
+use Rattle.std.proofs.Common.{◌≡◌, ◌≢◌, ℕ, ◌≤◌, nat_lt, true, false, Option, Some, None, refl, ◌∙◌, subst, arith, length-set, le_refl}
 use Rattle.ghs_graph.specs.declared.key.Key.{Key}
 use Rattle.boruvka_node.specs.declared.change.Entry.{Entry}
 use Rattle.boruvka_node.specs.declared.message.Message.{Message}
@@ -11,10 +11,12 @@ use Rattle.peer_machine.specs.declared.work.Work.{Work}
 use Rattle.peer_machine.specs.declared.work.Work.TheVariants.{Wake, Deliver}
 use Rattle.boruvka_node.specs.Words.{is_sleeping}
 use Rattle.boruvka_node.specs.State.{State, degree, set_port}
-use Rattle.boruvka_node.specs.Entering.{entered, entered_from}
+use Rattle.boruvka_node.specs.Entering.{entered}
 use Rattle.boruvka_node.specs.Reaction.{Outcome, rested, halted, woken, heard, reported, and_then, wakes, connect, name, asleep, awake, reaction}
+use Rattle.boruvka_node.proofs.lemmas.Entered.{length_entered}
+use Rattle.boruvka_protocol.proofs.Unlike.{rest_is_sleeping, search_is_sleeping, none_is_some}
 use Rattle.boruvka_protocol.proofs.rows.Table.{gone, core_entry, Moving, Passes, Goes, Closing, Goes_on, Reports, Halts, Moves, Connecting, Connects, Entering, Enters, Meeting, Waits, Begins, Going, Goes_out, Meets, Waking, Alone, Wakes, Row, Noted, Met, Late, Called, Named, Told, Moved}
-use Rattle.boruvka_protocol.proofs.rows.Read.{read_if, read_says, no_outcome, waking, row_of}
+use Rattle.boruvka_protocol.proofs.rows.Read.{read_if, read_says, waking, row_of}
 
 -- n' is n later on
 pub record Grows (n n' : State) : Type 0 where
@@ -36,18 +38,12 @@ grows_on a b = record {
 pub grows_not : (n : State) → Grows n n
 grows_not n = record { number = refl; keys = refl; ports = refl; level = le_refl _; awake = λ up. up }
 
-pub search_awake : Search ≡ Sleeping → ⊥
-search_awake e = cc
-
-pub rest_awake : Rest ≡ Sleeping → ⊥
-rest_awake e = cc
-
 -- only a port changes
 pub grows_port : (n : State) (j : ℕ) (x : PortState) → Grows n (set_port n j x)
 grows_port n j x = record { number = refl; keys = refl; ports = length-set n.ports j x; level = le_refl _; awake = λ up. up }
 
 pub grows_rested : (n : State) → Grows n (rested n)
-grows_rested n = record { number = refl; keys = refl; ports = refl; level = le_refl _; awake = λ up e. rest_awake e }
+grows_rested n = record { number = refl; keys = refl; ports = refl; level = le_refl _; awake = λ up e. rest_is_sleeping e }
 
 pub grows_halted : (n : State) → Grows n (halted n)
 grows_halted n = record { number = refl; keys = refl; ports = refl; level = le_refl _; awake = λ up. up }
@@ -58,15 +54,11 @@ grows_gone n p = record { number = refl; keys = refl; ports = refl; level = le_r
 pub grows_reported : (n : State) (j : ℕ) (k : Option Key) → Grows n (reported n j k)
 grows_reported n j k = record { number = refl; keys = refl; ports = length-set n.ports j _; level = le_refl _; awake = λ up. up }
 
-pub entered_many : (e : Entry) (p : ℕ) (xs : List PortState) → length (entered_from e p xs) ≡ length xs
-entered_many e p [] = refl
-entered_many e p (x ∷ xs) = ap suc (entered_many e (suc p) xs)
-
 pub grows_entered : (n : State) (e : Entry) → n.head.level ≤ e.level → Grows n (entered n e)
-grows_entered n e le = record { number = refl; keys = refl; ports = entered_many e 0 n.ports; level = le; awake = λ up e. search_awake e }
+grows_entered n e le = record { number = refl; keys = refl; ports = length_entered e 0 n.ports; level = le; awake = λ up e. search_is_sleeping e }
 
 pub grows_woken : (n : State) → ◌≡◌ {A = ℕ} n.head.level 0 → Grows n (woken n)
-grows_woken n z = record { number = refl; keys = refl; ports = refl; level = omega (arith, z); awake = λ up e. rest_awake e }
+grows_woken n z = record { number = refl; keys = refl; ports = refl; level = omega (arith, z); awake = λ up e. rest_is_sleeping e }
 
 -- The relations of the table.
 
@@ -111,8 +103,8 @@ grows_row n j m o (Moved b e h) = grows_moving Going grows_going n b.0 o h
 -- Who wakes is awake.
 
 pub awake_woken : (n : State) (o : Outcome) → Waking n o → o.state.head.phase ≢ Sleeping
-awake_woken n o (Alone b) = λ e. rest_awake e
-awake_woken n o (Wakes b h) = (grows_connecting (woken n) 0 o h).awake rest_awake
+awake_woken n o (Alone b) = λ e. rest_is_sleeping e
+awake_woken n o (Wakes b h) = (grows_connecting (woken n) 0 o h).awake rest_is_sleeping
 
 -- Reactions.
 
@@ -154,10 +146,10 @@ pub reaction_grows : (n : State) (k : Work Message) (o : Outcome) → (n.head.ph
     Wakes_up n o.state
 reaction_grows n Wake o z e = read_if (is_sleeping n.head.phase) _ _ o e
     (λ t x. wake_grows n (z ((sleeping_tells _).0 t)) o x)
-    (λ t x. no_outcome o x)
+    (λ t x. none_is_some o x)
 reaction_grows n (Deliver j m) o z e = read_if (nat_lt j (degree n)) _ _ o e
     (λ port x.
     read_if (is_sleeping n.head.phase) _ _ o x
     (λ t y. asleep_grows n j m o (z ((sleeping_tells _).0 t)) y)
     (λ t y. let s = awake_grows n j m o y in (s, s.awake ((sleeping_tells _).1 t))))
-    (λ port x. no_outcome o x)
+    (λ port x. none_is_some o x)

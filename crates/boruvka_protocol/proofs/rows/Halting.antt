@@ -7,30 +7,32 @@ use Rattle.ghs_graph.specs.Graph.{Shape, IsGraph}
 use Rattle.ghs_graph.specs.Links.{Same}
 use Rattle.ghs_levels.specs.Levels.{HasWayOut}
 use Rattle.ghs_levels.proofs.lemmas.FirstPorts.{no_port_no_way_out}
-use Rattle.ghs_protocol.specs.Network.{Network, network_of, At, InNetwork, far}
+use Rattle.ghs_protocol.specs.Network.{Network, network_of, InNetwork, far}
 use Rattle.ghs_protocol.proofs.lemmas.Wired.{IsWired}
 use Rattle.ghs_protocol.proofs.lemmas.Graphs.{graph_wired}
 use Rattle.peer_machine.specs.Net.{Net}
-use Rattle.boruvka_node.specs.declared.head.Head.{Head}
 use Rattle.boruvka_node.specs.declared.message.Message.{Message}
-use Rattle.boruvka_node.specs.declared.message.Phase.{Phase}
 use Rattle.boruvka_node.specs.declared.message.Phase.TheVariants.{Sleeping}
 use Rattle.boruvka_node.specs.State.{State, sleeper, degree}
 use Rattle.boruvka_node.specs.Reaction.{woken, halted}
-use Rattle.boruvka_protocol.proofs.invariant.Words.{IsPast, IsRoot}
+use Rattle.boruvka_protocol.proofs.invariant.Words.{IsRoot}
 use Rattle.boruvka_protocol.proofs.invariant.Sides.{AtPort, at_port, calls_in, reports_in, passes_in}
 use Rattle.boruvka_protocol.proofs.invariant.Nodes.{NodeFits, AwakeFits}
 use Rattle.boruvka_protocol.proofs.invariant.Search.{LacksSome, SearchFits}
 use Rattle.boruvka_protocol.proofs.invariant.Token as token
-use Rattle.boruvka_protocol.proofs.invariant.Token.{Place, IsTokenAt, In_message, Gone_out, Gone_on, At_end, HaltFits, TokensFit}
+use Rattle.boruvka_protocol.proofs.invariant.Token.{Place, IsTokenAt, In_message, Gone_out, Gone_on, At_end, HaltFits, HaltsFit}
 use Rattle.boruvka_protocol.proofs.invariant.Whole.{LinkFits, LinksFit, SearchesFit, Ground, Fits}
+use Rattle.boruvka_protocol.proofs.Unlike.{rest_is_search}
 use Rattle.boruvka_protocol.proofs.rows.Acts.{Acts, fits_like, far_link, links_act}
-use Rattle.boruvka_protocol.proofs.rows.Others.{nodes_act, waits_like}
+use Rattle.boruvka_protocol.proofs.rows.Alike.{SameLevels, SamePhases, SameOuts, PastStays, past_alike, AsManyPasses}
+use Rattle.boruvka_protocol.proofs.rows.Tokens.{TokensStay, token_stays}
+use Rattle.boruvka_protocol.proofs.rows.Searches.{search_seen}
+use Rattle.boruvka_protocol.proofs.rows.Others.{nodes_act, waits_same}
+use Rattle.boruvka_protocol.proofs.rows.Kept.{variable_act}
 use Rattle.boruvka_protocol.proofs.rows.Late.{search_rest}
-use Rattle.boruvka_protocol.proofs.rows.Placed.{put_down, search_seen}
+use Rattle.boruvka_protocol.proofs.rows.Placed.{put_down}
 use Rattle.boruvka_protocol.proofs.rows.Holding.{Holding, acts_then}
 use Rattle.boruvka_protocol.proofs.rows.Waking.{woken_net, woken_acts, woken_is, woken_level, woken_holding}
-use Rattle.boruvka_protocol.proofs.rows.Woken.{rest_search}
 
 -- no clause of a link reads whether its end has halted
 halted_near : {ks : List Key} {g : Network} {v p : ℕ} (n : State) {m : AtPort} {q r : List Message} → LinkFits ks g v p (at_port n p) m q r →
@@ -64,56 +66,46 @@ module _ (gr : Shape) (ok : IsGraph gr) (w w' : Net State Message) (v : ℕ) (he
       (λ i at. fits_like g wired ks refl refl refl (sym (append-nil _)) (halted_near (w.node v) (h.links v i at)))
       (λ i at. fits_like g wired ks refl refl (sym (append-nil _)) refl (halted_away i (w.node v) (far_link g wired ks w h.links v i at)))
 
-  -- a variable that halting leaves
-  same_at : {A : Type 0} (f : Head → A) → f (halted (w.node v)).head ≡ f (w.node v).head → (u : ℕ) → f (w.node u).head ≡ f (w'.node u).head
-  same_at f e u = ⊎_elim
-      (λ (x : u ≡ v).
-      subst (λ y. f (w.node y).head ≡ f (w'.node y).head) (sym x) (sym e ∙ ap (λ (z : State). f z.head) (sym a.node)))
-      (λ ne. ap (λ (z : State). f z.head) (a.others u ne))
-      (cases_eq u v)
+  same_level : SameLevels w w'
+  same_level = variable_act ks g w w' v (halted (w.node v)) (w.queue v) [] a (λ x. x.level) refl
 
-  same_level : (u : ℕ) → ◌≡◌ {A = ℕ} (w.node u).head.level (w'.node u).head.level
-  same_level u = same_at (λ x. x.level) refl u
+  same_phase : SamePhases w w'
+  same_phase = variable_act ks g w w' v (halted (w.node v)) (w.queue v) [] a (λ x. x.phase) refl
 
-  same_phase : (u : ℕ) → ◌≡◌ {A = Phase} (w.node u).head.phase (w'.node u).head.phase
-  same_phase u = same_at (λ x. x.phase) refl u
+  same_out : SameOuts w w'
+  same_out = variable_act ks g w w' v (halted (w.node v)) (w.queue v) [] a (λ x. x.out) refl
 
-  as_many : (P : List Message → ℕ) → (u q : ℕ) → At g u q → P (w.queue u q) ≡ P (w'.queue u q)
-  as_many P = waits_like ks g w w' v (halted (w.node v)) (w.queue v) [] a wired here P (λ i at. refl) (λ i at. ap P (sym (append-nil _)))
+  past_to : PastStays w w'
+  past_to = past_alike w w' same_level same_phase
 
-  past_to : (m x : ℕ) → IsPast m (w.node x).head.level (w.node x).head.phase → IsPast m (w'.node x).head.level (w'.node x).head.phase
-  past_to m x z = subst (λ y. IsPast m (w'.node x).head.level y) (same_phase x) (subst (λ y. IsPast m y (w.node x).head.phase) (same_level x) z)
-
-  past_from : (m x : ℕ) → IsPast m (w'.node x).head.level (w'.node x).head.phase → IsPast m (w.node x).head.level (w.node x).head.phase
-  past_from m x z =
-      subst (λ y. IsPast m (w.node x).head.level y) (sym (same_phase x)) (subst (λ y. IsPast m y (w'.node x).head.phase) (sym (same_level x)) z)
+  past_from : PastStays w' w
+  past_from = past_alike w' w (λ u. sym (same_level u)) (λ u. sym (same_phase u))
 
   halted_now : (w'.node v).head.halted ≡ true
   halted_now = ap (λ (z : State). z.head.halted) a.node
 
-  passes : (u q : ℕ) → At g u q → ◌≡◌ {A = ℕ} (passes_in (w.queue u q)) (passes_in (w'.queue u q))
-  passes = as_many (λ q. passes_in q)
+  passes : AsManyPasses g w w'
+  passes = waits_same ks g w w' v (halted (w.node v)) a wired here (λ q. passes_in q)
 
-  token_to : (m x : ℕ) (place : Place) → IsTokenAt ks g w m x place → IsTokenAt ks g w' m x place
-  token_to m x _ (In_message q at lv lt) = In_message q at (sym (same_level x) ∙ lv) (subst (λ y. 0 < y) (passes x q at) lt)
-  token_to m x _ (Gone_out q at lv out) = Gone_out q at (sym (same_level x) ∙ lv) (sym (same_at (λ y. y.out) refl x) ∙ out)
-  token_to m x _ (Gone_on k lt chosen end) = Gone_on k (subst (λ y. m < y) (same_level x) lt) chosen end
-  token_to m x _ (At_end lv z) = At_end (sym (same_level x) ∙ lv)
-      (⊎_elim
+  token_to : TokensStay ks g w w'
+  token_to m x place = token_stays ks g w w' m x place (same_level x)
+      (λ q at lt. subst (λ y. 0 < y) (passes x q at) lt)
+      (λ lv q out. sym (same_out x) ∙ out)
+      (λ lv z. ⊎_elim
       (λ (e : x ≡ v). subst (λ y. (w'.node y).head.halted ≡ true) (sym e) halted_now)
       (λ ne. ap (λ (y : State). y.head.halted) (sym (a.others x ne)) ∙ z)
       (cases_eq x v))
 
   token_from : (m x : ℕ) (place : Place) → IsTokenAt ks g w' m x place → IsTokenAt ks g w m x place ⊎ ((m ≡ l) × (x ≡ v) × (place ≡ token.Ended))
   token_from m x _ (In_message q at lv lt) = inl (In_message q at (same_level x ∙ lv) (subst (λ y. 0 < y) (sym (passes x q at)) lt))
-  token_from m x _ (Gone_out q at lv out) = inl (Gone_out q at (same_level x ∙ lv) (same_at (λ y. y.out) refl x ∙ out))
+  token_from m x _ (Gone_out q at lv out) = inl (Gone_out q at (same_level x ∙ lv) (same_out x ∙ out))
   token_from m x _ (Gone_on k lt chosen end) = inl (Gone_on k (subst (λ y. m < y) (sym (same_level x)) lt) chosen end)
   token_from m x _ (At_end lv z) = ⊎_elim
       (λ (e : x ≡ v). inr (sym (subst (λ y. (w.node y).head.level ≡ m) e (same_level x ∙ lv)), e, refl))
       (λ ne. inl (At_end (same_level x ∙ lv) (ap (λ (y : State). y.head.halted) (a.others x ne) ∙ z)))
       (cases_eq x v)
 
-  halts : (u : ℕ) → InNetwork g u → (w'.node u).head.halted ≡ true → HaltFits ks g w' u (w'.node u)
+  halts : HaltsFit ks g w'
   halts u at z = ⊎_elim
       (λ (e : u ≡ v). subst (λ y. HaltFits ks g w' y (w'.node y)) (sym e) (record {
         whole = λ o. whole (subst (λ y. HasWayOut ks y v) (sym (same_level v)) o);
@@ -131,7 +123,8 @@ module _ (gr : Shape) (ok : IsGraph gr) (w w' : Net State Message) (v : ℕ) (he
 
   searches : SearchesFit ks g w'
   searches u at = search_seen ks g u (w'.node u) (λ q. (w.node (far g u q)).head) (λ q. (w'.node (far g u q)).head) (λ q. w.queue u q)
-      (λ q. w'.queue u q) (λ q x. same_level (far g u q)) (λ q x. same_phase (far g u q)) (as_many (λ q. reports_in (calls_in q)) u)
+      (λ q. w'.queue u q) (λ q x. same_level (far g u q)) (λ q x. same_phase (far g u q))
+      (waits_same ks g w w' v (halted (w.node v)) a wired here (λ q. reports_in (calls_in q)) u)
       (nodes_act ks g w w' v (halted (w.node v)) (w.queue v) [] a
       (λ y x. SearchFits ks g y x (λ q. (w.node (far g y q)).head) (λ q. w.queue y q)) h.search own_search u at)
 
@@ -193,7 +186,7 @@ module _ (gr : Shape) (ok : IsGraph gr) (w : Net State Message) (v : ℕ) (here 
       (subst (λ x. IsRoot gr.keys x v) (sym (woken_level gr ok w v here fits asleep)) refl)
       (subst (λ (x : State). NodeFits gr.keys v (halted x)) (sym is) halted_node)
       (subst (λ (x : State). SearchFits gr.keys g' v (halted x) (λ q. (mid.node (far g' v q)).head) (λ q. mid.queue v q)) (sym is)
-      (record { search = λ s. rest_search s; rest = λ r lo. absurd (omega (arith, lo)) }))
+      (record { search = λ s. rest_is_search s; rest = λ r lo. absurd (omega (arith, lo)) }))
       (subst (λ (x : State). Acts g' mid w' v (halted x) (mid.queue v) []) (sym is)
       (acts_then g' w mid w' v (woken n) (halted (woken n)) (w.queue v) [] (woken_acts gr ok w v here fits asleep) a))
       ground'

@@ -10,6 +10,7 @@ use Rattle.ghs_protocol.specs.Network.{Network, network_of, At, InNetwork, far, 
 use Rattle.ghs_protocol.proofs.lemmas.Wired.{IsWired}
 use Rattle.ghs_protocol.proofs.lemmas.Graphs.{graph_wired, port_ends}
 use Rattle.ghs_protocol.proofs.lemmas.Updates.{put_same, put_other}
+use Rattle.ghs_protocol.proofs.lemmas.Wires.{at_in}
 use Rattle.peer_machine.specs.Net.{Net, put, reacted, take_first}
 use Rattle.boruvka_node.specs.declared.mark.Mark.{Mark}
 use Rattle.boruvka_node.specs.declared.mark.Mark.TheVariants.{Branch, Inside}
@@ -25,13 +26,16 @@ use Rattle.boruvka_protocol.proofs.invariant.Sides.{AtPort, at_port, calls_in, r
 use Rattle.boruvka_protocol.proofs.invariant.Nodes.{NodeFits, AwakeFits}
 use Rattle.boruvka_protocol.proofs.invariant.Search.{LacksSome}
 use Rattle.boruvka_protocol.proofs.invariant.Whole.{Ground, LinkFits, LinksFit, Fits, NearlyFits}
+use Rattle.boruvka_protocol.proofs.Unlike.{inside_is_branch}
 use Rattle.boruvka_protocol.proofs.rows.Table.{still}
 use Rattle.boruvka_protocol.proofs.rows.Ports.{port_set, port_kept, mark_set, mark_kept}
 use Rattle.boruvka_protocol.proofs.rows.Acts.{Acts, acts_taken, fits_like, far_link, links_one}
+use Rattle.boruvka_protocol.proofs.rows.Alike.{AsMany}
+use Rattle.boruvka_protocol.proofs.rows.OwnPorts.{port_below}
 use Rattle.boruvka_protocol.proofs.rows.Others.{taken_like, node_like, nodes_act, waits_like, tokens_like}
 use Rattle.boruvka_protocol.proofs.rows.Kept.{search_now, heads_act, searches_act}
 use Rattle.boruvka_protocol.proofs.rows.Noted.{basic_no_branch}
-use Rattle.boruvka_protocol.proofs.rows.Named.{told_at, inside_at, inside_branch, next, told_near, inside_near, aside, told_away, inside_away}
+use Rattle.boruvka_protocol.proofs.rows.Named.{told_at, inside_at, next, told_near, inside_near, aside, told_away, inside_away}
 
 pub name_tells : (o : Option Key) (f : Key) → (is_name o f ≡ true → o ≡ Some f) × (o ≡ Some f → is_name o f ≡ true)
 name_tells None f = (λ e. cc, λ e. cc)
@@ -49,10 +53,10 @@ module _ (gr : Shape) (ok : IsGraph gr) (w : Net State Message) (v j l : ℕ) (a
   wired = graph_wired gr ok
 
   here : InNetwork g v
-  here = record { some = at.some; node = at.node }
+  here = at_in at
 
   port : j < degree (w.node v)
-  port = subst (λ x. j < x) (sym (fits.ground.nodes v).ports) at.port
+  port = port_below (fits.ground.nodes v) j at
 
   abbrev n : AtPort
   n = at_port (w.node v) j
@@ -167,7 +171,7 @@ module _ (gr : Shape) (ok : IsGraph gr) (w : Net State Message) (v j l : ℕ) (a
 
   branch_own : cond own Inside n.port.mark ≡ Branch → n.port.mark ≡ Branch
   branch_own b = ⊎_elim
-      (λ t. inside_branch (sym (ap (λ (x : Bool). let y : Mark = cond x Inside n.port.mark in y) t) ∙ b))
+      (λ t. inside_is_branch (sym (ap (λ (x : Bool). let y : Mark = cond x Inside n.port.mark in y) t) ∙ b))
       (λ t. sym (ap (λ (x : Bool). let y : Mark = cond x Inside n.port.mark in y) t) ∙ b)
       (cases_Bool own)
 
@@ -182,7 +186,7 @@ module _ (gr : Shape) (ok : IsGraph gr) (w : Net State Message) (v j l : ℕ) (a
       (λ t. ap (λ (x : Bool). is_basic (cond x Inside n.port.mark)) t)
       (cases_Bool own)
 
-  as_many : (P : List Message → ℕ) → P (Name l a ∷ ms) ≡ P ms → (u p : ℕ) → At g u p → P (w.queue u p) ≡ P (after.queue u p)
+  as_many : (P : List Message → ℕ) → P (Name l a ∷ ms) ≡ P ms → AsMany g P w after
   as_many P none = waits_like gr.keys g w after v now left [] acts wired here P
       (λ i at_i. taken_like P (w.queue v) j (Name l a) ms waits none i) (λ i at_i. ap P (sym (append-nil _)))
 

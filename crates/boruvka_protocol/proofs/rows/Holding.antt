@@ -4,36 +4,40 @@ use Rattle.std.proofs.lemmas.Bool.{cases_eq}
 use Rattle.ghs_graph.specs.declared.key.Key.{Key}
 use Rattle.ghs_graph.specs.Graph.{Shape, IsGraph}
 use Rattle.ghs_graph.specs.Links.{Same}
-use Rattle.ghs_levels.specs.Levels.{HasWayOut}
 use Rattle.ghs_node.specs.Words.{Best}
 use Rattle.ghs_protocol.specs.Network.{Network, network_of, port_at, At, InNetwork, far, far_port}
 use Rattle.ghs_protocol.proofs.lemmas.Wired.{IsWired}
 use Rattle.ghs_protocol.proofs.lemmas.Graphs.{graph_wired}
+use Rattle.ghs_protocol.proofs.lemmas.Wires.{at_in}
 use Rattle.peer_machine.specs.Rules.{Outgoing}
 use Rattle.peer_machine.specs.Net.{Net}
 use Rattle.boruvka_node.specs.declared.head.Head.{Head}
 use Rattle.boruvka_node.specs.declared.mark.Mark.TheVariants.{Asked}
 use Rattle.boruvka_node.specs.declared.message.Message.{Message}
 use Rattle.boruvka_node.specs.declared.message.Message.TheVariants.{Connect}
-use Rattle.boruvka_node.specs.declared.message.Phase.{Phase}
 use Rattle.boruvka_node.specs.declared.message.Phase.TheVariants.{Rest}
 use Rattle.boruvka_node.specs.Words.{is_basic}
 use Rattle.boruvka_node.specs.State.{State, mark_at}
-use Rattle.boruvka_protocol.proofs.invariant.Words.{IsPast, IsLeast, IsRoot}
+use Rattle.boruvka_protocol.proofs.invariant.Words.{IsLeast}
 use Rattle.boruvka_protocol.proofs.invariant.Sides.{calls_in, reports_in, passes_in}
 use Rattle.boruvka_protocol.proofs.invariant.Nodes.{NodeFits, AwakeFits}
 use Rattle.boruvka_protocol.proofs.invariant.Search.{LacksSome, HasChild, LeadsTo, Own, By_child, BestIsSub, SearchFits}
 use Rattle.boruvka_protocol.proofs.invariant.Token as token
-use Rattle.boruvka_protocol.proofs.invariant.Token.{Place, IsTokenAt, In_message, Gone_out, Gone_on, At_end, HaltFits, TokensFit}
-use Rattle.boruvka_protocol.proofs.invariant.Whole.{Ground, LinksFit, SearchesFit, Fits}
+use Rattle.boruvka_protocol.proofs.invariant.Token.{Place, IsTokenAt, In_message, Gone_out, Gone_on, At_end, HaltsFit, TokensFit}
+use Rattle.boruvka_protocol.proofs.invariant.Whole.{Ground, LinksFit, NodesFit, SearchesFit, SearchersLack, Fits}
 use Rattle.boruvka_protocol.proofs.rows.Table.{gone}
-use Rattle.boruvka_protocol.proofs.rows.Sends.{sent_on, sent_here, sent_elsewhere}
+use Rattle.boruvka_protocol.proofs.rows.Sends.{sent_on, sent_here, sent_none}
+use Rattle.boruvka_protocol.proofs.rows.Queues.{passes_before, reports_before}
 use Rattle.boruvka_protocol.proofs.rows.Acts.{Acts}
+use Rattle.boruvka_protocol.proofs.rows.Alike.{SameLevels, SamePhases, SameHalted, PastStays, past_alike, AsMany, AsManyPasses}
+use Rattle.boruvka_protocol.proofs.rows.Tokens.{TokensStay, token_stays, halts_stay}
+use Rattle.boruvka_protocol.proofs.rows.Searches.{search_seen}
 use Rattle.boruvka_protocol.proofs.rows.Others.{nodes_act, waits_like}
+use Rattle.boruvka_protocol.proofs.rows.Kept.{variable_act}
 use Rattle.boruvka_protocol.proofs.rows.Late.{search_rest}
 use Rattle.boruvka_protocol.proofs.rows.AboutToMove.{TokensBut}
-use Rattle.boruvka_protocol.proofs.rows.Placed.{PastStays, put_down, search_seen}
-use Rattle.boruvka_protocol.proofs.rows.Gone.{none_some, passes_before_connect, reports_before_connect}
+use Rattle.boruvka_protocol.proofs.rows.Placed.{put_down}
+use Rattle.boruvka_protocol.proofs.rows.Gone.{none_some}
 use Rattle.boruvka_protocol.proofs.rows.OutLink.{out_links}
 
 -- v is at rest and holds the token of its class; the clauses of its own state are told beside it
@@ -42,7 +46,7 @@ pub record Holding (ks : List Key) (g : Network) (w : Net State Message) (v : �
   pub others : (u : ℕ) → InNetwork g u → u ≢ v → AwakeFits ks u (w.node u)
   pub links : LinksFit ks g w
   pub search : SearchesFit ks g w
-  pub lacks : (u : ℕ) → InNetwork g u → LacksSome (w.node u)
+  pub lacks : SearchersLack g w
   pub rest : (w.node v).head.phase ≡ Rest
   pub stays : (w.node v).head.out ≡ None
   pub tokens : TokensBut ks g w v
@@ -94,56 +98,47 @@ module _ (gr : Shape) (ok : IsGraph gr) (w w' : Net State Message) (v p : ℕ) (
   wired = graph_wired gr ok
 
   here : InNetwork g v
-  here = record { some = at.some; node = at.node }
+  here = at_in at
 
-  -- a variable that going out leaves
-  same_at : {A : Type 0} (f : Head → A) → f (gone (w.node v) p).head ≡ f (w.node v).head → (u : ℕ) → f (w.node u).head ≡ f (w'.node u).head
-  same_at f e u = ⊎_elim
-      (λ (x : u ≡ v).
-      subst (λ y. f (w.node y).head ≡ f (w'.node y).head) (sym x) (sym e ∙ ap (λ (z : State). f z.head) (sym a.node)))
-      (λ ne. ap (λ (z : State). f z.head) (a.others u ne))
-      (cases_eq u v)
+  same_level : SameLevels w w'
+  same_level = variable_act ks g w w' v (gone (w.node v) p) (w.queue v) ss a (λ x. x.level) refl
 
-  same_level : (u : ℕ) → ◌≡◌ {A = ℕ} (w.node u).head.level (w'.node u).head.level
-  same_level u = same_at (λ x. x.level) refl u
+  same_phase : SamePhases w w'
+  same_phase = variable_act ks g w w' v (gone (w.node v) p) (w.queue v) ss a (λ x. x.phase) refl
 
-  same_phase : (u : ℕ) → ◌≡◌ {A = Phase} (w.node u).head.phase (w'.node u).head.phase
-  same_phase u = same_at (λ x. x.phase) refl u
+  same_halted : SameHalted w w'
+  same_halted = variable_act ks g w w' v (gone (w.node v) p) (w.queue v) ss a (λ x. x.halted) refl
 
-  as_many : (P : List Message → ℕ) → ((q : List Message) (i : ℕ) → ◌≡◌ {A = ℕ} (P q) (P (q ++ Connect i ∷ []))) → (u q : ℕ) → At g u q →
-      P (w.queue u q) ≡ P (w'.queue u q)
+  as_many : (P : List Message → ℕ) → ((q : List Message) (i : ℕ) → ◌≡◌ {A = ℕ} (P q) (P (q ++ Connect i ∷ []))) → AsMany g P w w'
   as_many P none = waits_like ks g w w' v (gone (w.node v) p) (w.queue v) ss a wired here P (λ i at_i. refl)
       (λ i at_i. ⊎_elim
       (λ (e : p ≡ i).
       none (w.queue (far g v i) (far_port g v i)) l
       ∙ ap (λ (x : List Message). P (w.queue (far g v i) (far_port g v i) ++ x)) (sym (sent_here (p, Connect l) [] i e)))
-      (λ ne.
-      ap P (sym (append-nil _))
-      ∙ ap (λ (x : List Message). P (w.queue (far g v i) (far_port g v i) ++ x)) (sym (sent_elsewhere (p, Connect l) [] i ne)))
+      (λ ne. ap P (sent_none (w.queue (far g v i) (far_port g v i)) p (Connect l) i (λ e. ne (sym e))))
       (cases_eq p i))
 
-  past_to : PastStays ks g w w'
-  past_to m x h = subst (λ y. IsPast m (w'.node x).head.level y) (same_phase x) (subst (λ y. IsPast m y (w.node x).head.phase) (same_level x) h)
+  past_to : PastStays w w'
+  past_to = past_alike w w' same_level same_phase
 
-  past_from : PastStays ks g w' w
-  past_from m x h =
-      subst (λ y. IsPast m (w.node x).head.level y) (sym (same_phase x)) (subst (λ y. IsPast m y (w'.node x).head.phase) (sym (same_level x)) h)
+  past_from : PastStays w' w
+  past_from = past_alike w' w (λ u. sym (same_level u)) (λ u. sym (same_phase u))
 
-  passes : (u q : ℕ) → At g u q → ◌≡◌ {A = ℕ} (passes_in (w.queue u q)) (passes_in (w'.queue u q))
-  passes = as_many (λ q. passes_in q) passes_before_connect
+  passes : AsManyPasses g w w'
+  passes = as_many (λ q. passes_in q) (λ q i. passes_before q (Connect i ∷ []) refl)
 
   -- elsewhere out is what it was
   out_there : (x : ℕ) → x ≢ v → ◌≡◌ {A = Option ℕ} (w.node x).head.out (w'.node x).head.out
   out_there x ne = ap (λ (z : State). z.head.out) (a.others x ne)
 
-  token_to : (m x : ℕ) (place : Place) → IsTokenAt ks g w m x place → IsTokenAt ks g w' m x place
-  token_to m x _ (In_message q at_q lv lt) = In_message q at_q (sym (same_level x) ∙ lv) (subst (λ y. 0 < y) (passes x q at_q) lt)
-  token_to m x _ (Gone_out q at_q lv out) = ⊎_elim
+  token_to : TokensStay ks g w w'
+  token_to m x place = token_stays ks g w w' m x place (same_level x)
+      (λ q at_q lt. subst (λ y. 0 < y) (passes x q at_q) lt)
+      (λ lv q out. ⊎_elim
       (λ (e : x ≡ v). none_some q h.stays (subst (λ y. (w.node y).head.out ≡ Some q) e out))
-      (λ ne. Gone_out q at_q (sym (same_level x) ∙ lv) (sym (out_there x ne) ∙ out))
-      (cases_eq x v)
-  token_to m x _ (Gone_on k lt chosen end) = Gone_on k (subst (λ y. m < y) (same_level x) lt) chosen end
-  token_to m x _ (At_end lv halted) = At_end (sym (same_level x) ∙ lv) (sym (same_at (λ y. y.halted) refl x) ∙ halted)
+      (λ ne. sym (out_there x ne) ∙ out)
+      (cases_eq x v))
+      (λ lv z. sym (same_halted x) ∙ z)
 
   token_from : (m x : ℕ) (place : Place) → IsTokenAt ks g w' m x place → IsTokenAt ks g w m x place ⊎ ((m ≡ l) × (x ≡ v) × (place ≡ token.Out))
   token_from m x _ (In_message q at_q lv lt) = inl (In_message q at_q (same_level x ∙ lv) (subst (λ y. 0 < y) (sym (passes x q at_q)) lt))
@@ -152,16 +147,10 @@ module _ (gr : Shape) (ok : IsGraph gr) (w w' : Net State Message) (v p : ℕ) (
       (λ ne. inl (Gone_out q at_q (same_level x ∙ lv) (out_there x ne ∙ out)))
       (cases_eq x v)
   token_from m x _ (Gone_on k lt chosen end) = inl (Gone_on k (subst (λ y. m < y) (sym (same_level x)) lt) chosen end)
-  token_from m x _ (At_end lv halted) = inl (At_end (same_level x ∙ lv) (same_at (λ y. y.halted) refl x ∙ halted))
+  token_from m x _ (At_end lv halted) = inl (At_end (same_level x ∙ lv) (same_halted x ∙ halted))
 
-  out_halted : (u : ℕ) → InNetwork g u → (w'.node u).head.halted ≡ true → HaltFits ks g w' u (w'.node u)
-  out_halted u at_u x =
-      let f = h.tokens.halted u at_u (same_at (λ y. y.halted) refl u ∙ x) in
-      record {
-        whole = λ o. f.whole (subst (λ y. HasWayOut ks y u) (sym (same_level u)) o);
-        root = subst (λ y. IsRoot ks y u) (same_level u) f.root;
-        rest = sym (same_phase u) ∙ f.rest;
-      }
+  out_halted : HaltsFit ks g w'
+  out_halted = halts_stay ks g w w' same_level same_phase (λ u x. same_halted u ∙ x) h.tokens.halted
 
   pub out_tokens : TokensFit ks g w'
   out_tokens = put_down ks g w w' v l v token.Out refl h.tokens here Same
@@ -170,19 +159,16 @@ module _ (gr : Shape) (ok : IsGraph gr) (w w' : Net State Message) (v p : ℕ) (
   pub out_searches : SearchesFit ks g w'
   out_searches u at_u = search_seen ks g u (w'.node u) (λ q. (w.node (far g u q)).head) (λ q. (w'.node (far g u q)).head) (λ q. w.queue u q)
       (λ q. w'.queue u q) (λ q x. same_level (far g u q)) (λ q x. same_phase (far g u q))
-      (as_many_reports u)
+      (as_many (λ q. reports_in (calls_in q)) (λ q i. reports_before q (Connect i ∷ []) refl) u)
       (nodes_act ks g w w' v (gone (w.node v) p) (w.queue v) ss a
       (λ y x. SearchFits ks g y x (λ q. (w.node (far g y q)).head) (λ q. w.queue y q)) h.search
       (search_gone ks g v (w.node v) p (λ q. (w.node (far g v q)).head) (λ q. w.queue v q) h.rest (h.search v here)) u at_u)
-    where
-      as_many_reports : (y q : ℕ) → At g y q → ◌≡◌ {A = ℕ} (reports_in (calls_in (w.queue y q))) (reports_in (calls_in (w'.queue y q)))
-      as_many_reports = as_many (λ q. reports_in (calls_in q)) reports_before_connect
 
-  pub out_lacks : (u : ℕ) → InNetwork g u → LacksSome (w'.node u)
+  pub out_lacks : SearchersLack g w'
   out_lacks = nodes_act ks g w w' v (gone (w.node v) p) (w.queue v) ss a (λ y x. LacksSome x) h.lacks (λ s. search_rest _ s h.rest)
 
   module _ (own : NodeFits ks v (gone (w.node v) p)) where
-    pub out_nodes : (u : ℕ) → InNetwork g u → AwakeFits ks u (w'.node u)
+    pub out_nodes : NodesFit ks g w'
     out_nodes u at_u = ⊎_elim
         (λ (e : u ≡ v). subst (λ y. AwakeFits ks y (w'.node y)) (sym e) (λ up. subst (λ x. NodeFits ks v x) (sym a.node) own))
         (λ ne. subst (λ x. AwakeFits ks u x) (a.others u ne) (h.others u at_u ne))

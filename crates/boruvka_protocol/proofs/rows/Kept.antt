@@ -3,7 +3,7 @@ use Rattle.std.proofs.Common.{◌≡◌, ℕ, List, Some, None, sym, ◌∙◌, 
 use Rattle.std.proofs.lemmas.Bool.{cases_eq}
 use Rattle.ghs_graph.specs.declared.key.Key.{Key}
 use Rattle.ghs_node.specs.Words.{Best}
-use Rattle.ghs_protocol.specs.Network.{Network, At, far}
+use Rattle.ghs_protocol.specs.Network.{Network, far}
 use Rattle.peer_machine.specs.Rules.{Outgoing}
 use Rattle.peer_machine.specs.Net.{Net}
 use Rattle.boruvka_node.specs.declared.head.Head.{Head}
@@ -13,12 +13,13 @@ use Rattle.boruvka_node.specs.declared.message.Phase.TheVariants.{Rest}
 use Rattle.boruvka_node.specs.declared.port_state.PortState.{PortState}
 use Rattle.boruvka_node.specs.Words.{is_basic}
 use Rattle.boruvka_node.specs.State.{State, mark_at}
-use Rattle.boruvka_protocol.proofs.invariant.Sides.{calls_in, reports_in}
+use Rattle.boruvka_protocol.proofs.invariant.Sides.{calls_in}
 use Rattle.boruvka_protocol.proofs.invariant.Children.{HasReported}
 use Rattle.boruvka_protocol.proofs.invariant.Search.{HasChild, HasHeard, BestIsHeard, LeadsTo, Own, By_child, BestIsSub, SearchFits}
 use Rattle.boruvka_protocol.proofs.invariant.Whole.{SearchesFit}
 use Rattle.boruvka_protocol.proofs.rows.Acts.{Acts}
-use Rattle.boruvka_protocol.proofs.rows.Others.{search_like}
+use Rattle.boruvka_protocol.proofs.rows.Alike.{SameHeads, AsManyReports, levels_alike, phases_alike}
+use Rattle.boruvka_protocol.proofs.rows.Searches.{search_seen}
 
 -- The node n with other ports: Branch ports are those that were, but for children that haven't reported; at rest Basic ports are.
 module _ (ks : List Key) (g : Network) (v : ℕ) (n : State) (ports : List PortState) (fars : ℕ → Head) (queues : ℕ → List Message)
@@ -63,20 +64,22 @@ module _ (ks : List Key) (g : Network) (v : ℕ) (n : State) (ports : List PortS
 
 module _ (ks : List Key) (g : Network) (w w' : Net State Message) (v : ℕ) (n : State) (own : ℕ → List Message) (ss : Outgoing Message)
     (a : Acts g w w' v n own ss) where
-  -- where the node that acts keeps its variables, all nodes do
-  pub heads_act : (w.node v).head ≡ n.head → (u : ℕ) → (w.node u).head ≡ (w'.node u).head
-  heads_act e u = ⊎_elim
-      (λ (x : u ≡ v).
-      subst (λ y. (w.node y).head ≡ (w'.node y).head) (sym x) (e ∙ ap (λ (z : State). z.head) (sym a.node)))
-      (λ ne. ap (λ (z : State). z.head) (a.others u ne))
+  -- where the node that acts keeps a variable, all nodes do
+  pub variable_act : {A : Type 0} (f : Head → A) → f (w.node v).head ≡ f n.head → (u : ℕ) → f (w.node u).head ≡ f (w'.node u).head
+  variable_act f e u = ⊎_elim
+      (λ (x : u ≡ v). subst (λ y. f (w.node y).head ≡ f (w'.node y).head) (sym x) (e ∙ ap (λ (z : State). f z.head) (sym a.node)))
+      (λ ne. ap (λ (z : State). f z.head) (a.others u ne))
       (cases_eq u v)
 
+  pub heads_act : (w.node v).head ≡ n.head → SameHeads w w'
+  heads_act e = variable_act {A = Head} (λ x. x) e
+
   -- and where no Report comes or goes, and the search of the node that acts keeps its clauses, all searches do
-  pub searches_act : ((u : ℕ) → (w.node u).head ≡ (w'.node u).head) →
-      ((u p : ℕ) → At g u p → reports_in (calls_in (w.queue u p)) ≡ reports_in (calls_in (w'.queue u p))) →
+  pub searches_act : SameHeads w w' → AsManyReports g w w' →
       SearchesFit ks g w → SearchFits ks g v n (λ p. (w.node (far g v p)).head) (λ p. w.queue v p) → SearchesFit ks g w'
-  searches_act heads reports before now u at = search_like ks g u (w'.node u) (λ p. (w.node (far g u p)).head) (λ p. (w'.node (far g u p)).head)
-      (λ p. w.queue u p) (λ p. w'.queue u p) (λ p x. heads (far g u p)) (λ p x. reports u p x)
+  searches_act heads reports before now u at = search_seen ks g u (w'.node u) (λ p. (w.node (far g u p)).head) (λ p. (w'.node (far g u p)).head)
+      (λ p. w.queue u p) (λ p. w'.queue u p) (λ p x. levels_alike w w' heads (far g u p)) (λ p x. phases_alike w w' heads (far g u p))
+      (λ p x. reports u p x)
       (⊎_elim
       (λ (e : u ≡ v).
       subst (λ y. SearchFits ks g y (w'.node y) (λ p. (w.node (far g y p)).head) (λ p. w.queue y p)) (sym e)

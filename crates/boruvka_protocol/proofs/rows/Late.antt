@@ -1,5 +1,5 @@
 -- A Connect of the level below comes late: its sender is called. What that keeps at the link, from both its ends.
-use Rattle.std.proofs.Common.{◌≡◌, ℕ, suc, ◌+◌, inr, ⊎_elim, true, false, Some, None, List, [], ◌∷◌, ◌++◌, length, refl, sym, ◌∙◌, ap, subst, arith}
+use Rattle.std.proofs.Common.{◌≡◌, ℕ, suc, ◌+◌, inr, ⊎_elim, true, Some, None, List, [], ◌∷◌, ◌++◌, length, refl, sym, ◌∙◌, ap, subst, arith}
 use Rattle.ghs_graph.specs.declared.key.Key.{Key}
 use Rattle.ghs_graph.specs.Graph.{Shape, IsGraph}
 use Rattle.ghs_graph.specs.Key.{ends_at}
@@ -9,41 +9,26 @@ use Rattle.ghs_levels.specs.Levels.{Taken, InClass, IsOfLevel}
 use Rattle.ghs_levels.specs.Cores.{IsCore}
 use Rattle.ghs_levels.proofs.lemmas.WaysOut.{next_of_level}
 use Rattle.ghs_protocol.specs.Network.{Network, network_of, port_at, far, far_port}
-use Rattle.boruvka_node.specs.declared.mark.Mark.TheVariants.{Asked, Branch, Inside}
+use Rattle.boruvka_node.specs.declared.mark.Mark.TheVariants.{Branch}
 use Rattle.boruvka_node.specs.declared.message.Message.{Message}
-use Rattle.boruvka_node.specs.declared.message.Message.TheVariants.{Connect, Initiate, Name, Report, ChangeRoot}
+use Rattle.boruvka_node.specs.declared.message.Message.TheVariants.{Connect, Initiate}
 use Rattle.boruvka_node.specs.declared.message.Phase.{Phase}
 use Rattle.boruvka_node.specs.declared.message.Phase.TheVariants.{Search, Rest}
 use Rattle.boruvka_node.specs.Words.{is_basic}
 use Rattle.boruvka_protocol.proofs.invariant.Words.{IsLeast, IsWayUp}
-use Rattle.boruvka_protocol.proofs.invariant.Sides.{Side, AtPort, side_of, far_side_of, Told, calls_in, names_in, initiates_in}
+use Rattle.boruvka_protocol.proofs.invariant.Sides.{Side, AtPort, side_of, far_side_of, calls_in, initiates_in}
 use Rattle.boruvka_protocol.proofs.invariant.Marks.{IsLate}
 use Rattle.boruvka_protocol.proofs.invariant.Names.{AreNamesFrom, ToldFits}
-use Rattle.boruvka_protocol.proofs.invariant.Connects.{HasAsked, Waits, Has_begun, HasChosen, ConnectFits, Called}
+use Rattle.boruvka_protocol.proofs.invariant.Connects.{HasAsked, Waits, Has_begun, HasChosen, Called}
 use Rattle.boruvka_protocol.proofs.invariant.TreeMessages as tree
 use Rattle.boruvka_protocol.proofs.invariant.TreeMessages.{CallFits, CallsFit}
 use Rattle.boruvka_protocol.proofs.invariant.Whole.{LinkFits}
+use Rattle.boruvka_protocol.proofs.Unlike.{branch_is_inside, branch_is_asked, branch_is_plain, true_is_false}
 use Rattle.boruvka_protocol.proofs.levels.Chosen.{chosen_up}
+use Rattle.boruvka_protocol.proofs.rows.Queues.{calls_append, names_before}
+use Rattle.boruvka_protocol.proofs.rows.Parts.{none_by, chosen_far}
 use Rattle.boruvka_protocol.proofs.rows.Leaving.{not_taken}
 use Rattle.boruvka_protocol.proofs.rows.Noted.{basic_no_branch, first_connect}
-
--- One message more in a queue, which is a call.
-
-pub calls_more : (q : List Message) (l : ℕ) (f : Key) → calls_in (q ++ Initiate l f ∷ []) ≡ calls_in q ++ Initiate l f ∷ []
-calls_more [] l f = refl
-calls_more (Connect m ∷ q) l f = ap (λ (x : List Message). Connect m ∷ x) (calls_more q l f)
-calls_more (Initiate m k ∷ q) l f = ap (λ (x : List Message). Initiate m k ∷ x) (calls_more q l f)
-calls_more (Name m k ∷ q) l f = calls_more q l f
-calls_more (Report k ∷ q) l f = ap (λ (x : List Message). Report k ∷ x) (calls_more q l f)
-calls_more (ChangeRoot ∷ q) l f = ap (λ (x : List Message). ChangeRoot ∷ x) (calls_more q l f)
-
-pub names_as_before : (q : List Message) (l : ℕ) (f : Key) → names_in (q ++ Initiate l f ∷ []) ≡ names_in q
-names_as_before [] l f = refl
-names_as_before (Connect m ∷ q) l f = names_as_before q l f
-names_as_before (Initiate m k ∷ q) l f = names_as_before q l f
-names_as_before (Name m k ∷ q) l f = ap (λ (x : List Told). record { level = m; name = k } ∷ x) (names_as_before q l f)
-names_as_before (Report k ∷ q) l f = names_as_before q l f
-names_as_before (ChangeRoot ∷ q) l f = names_as_before q l f
 
 -- the sender has become a child, and its Report is owed
 abbrev pub adopted_at : AtPort → AtPort
@@ -55,20 +40,16 @@ search_rest x s r = cc (s, r)
 -- What waits for the sender, which is at rest and has gone out over the link: nothing.
 module _ (ks : List Key) (s t : Side) (rest : s.phase ≡ Rest) (out : s.out ≡ Some s.port) (search : t.phase ≡ Search)
     (basic : is_basic t.mark ≡ true) (stays : t.out ≡ None) where
-  no_message : {P : Type 0} (m : ℕ) → ConnectFits ks m s t → P
-  no_message m c = go c.chosen.sender
-    where
-      go : {P : Type 0} → HasAsked ks m s t → P
-      go (Waits lv o) = cc (stays, o)
-      go (Has_begun lv least less mark) = basic_no_branch t.mark basic mark
+  not_asked : (m : ℕ) → HasAsked ks m s t → ⊥
+  not_asked m (Waits lv o) = cc (stays, o)
+  not_asked m (Has_begun lv least less mark) = basic_no_branch t.mark basic mark
 
   pub nothing_waits : (x : List Message) → CallsFit ks s t x → x ≡ []
-  nothing_waits _ tree.Nothing = refl
-  nothing_waits _ (tree.Chosen m c) = no_message m c
-  nothing_waits _ (tree.Called l name d) = basic_no_branch t.mark basic d.sender_mark
-  nothing_waits _ (tree.Chosen_called m l name c d) = no_message m c
-  nothing_waits _ (tree.Reported k d) = search_rest s.phase d.search rest
-  nothing_waits _ (tree.Passed d) = cc (out, d.stays)
+  nothing_waits = none_by ks s t
+      (λ m c. not_asked m c.chosen.sender)
+      (λ l name d. basic_no_branch t.mark basic d.sender_mark)
+      (λ k d. search_rest s.phase d.search rest)
+      (λ d. cc (out, d.stays))
 
 -- The link at port p of node v, which is in search with n there; its far end has m, and the Connect of the level below stands at the head.
 module _ (gr : Shape) (ok : IsGraph gr) (v p c : ℕ) (n m : AtPort) (name : Key) (q r : List Message)
@@ -141,9 +122,9 @@ module _ (gr : Shape) (ok : IsGraph gr) (v p c : ℕ) (n m : AtPort) (name : Key
   late_near r' one = record {
     marks = record {
       branch = λ x. subst (λ y. Taken gr.keys y k) level taken;
-      inside = λ x. branch_inside x;
+      inside = λ x. branch_is_inside x;
       late = λ i lv t ne. absurd (ne refl);
-      leads_out = λ b. not_basic b;
+      leads_out = λ b. branch_is_plain b;
     };
     names = record {
       said = h.names.said;
@@ -153,10 +134,10 @@ module _ (gr : Shape) (ok : IsGraph gr) (v p c : ℕ) (n m : AtPort) (name : Key
         basic = h.names.all.basic;
         aside = λ no. let a = h.names.all.aside no in record { apart = a.apart; far = a.far };
       };
-      near = λ b. not_basic b;
+      near = λ b. branch_is_plain b;
       rest = λ x. search_rest n.head.phase search x;
     };
-    connects = record { asked = λ x. branch_asked x; out = λ x. cc (stays, x) };
+    connects = record { asked = λ x. branch_is_asked x; out = λ x. cc (stays, x) };
     calls = subst (λ x. CallsFit gr.keys (side_of g v p (adopted_at n)) f x) (sym none_behind) tree.Nothing;
     children = record {
       child = λ up. record {
@@ -170,22 +151,10 @@ module _ (gr : Shape) (ok : IsGraph gr) (v p c : ℕ) (n m : AtPort) (name : Key
     owes = record {
       child = λ o. (refl, subst (λ x. IsWayUp gr.keys x u k) level up_there);
       open_yet = λ o rep. ⊎_elim (λ lt. absurd (omega (arith, lt, level, sender_out.0))) (λ b. above (sym b.0 ∙ sender_out.0)) rep.past;
-      heard = λ s b up no. true_false no;
+      heard = λ s b up no. true_is_false no;
       rest = λ ne. absurd (ne search);
     };
   }
-    where
-      branch_inside : {P : Type 0} → Branch ≡ Inside → P
-      branch_inside x = cc
-
-      branch_asked : {P : Type 0} → Branch ≡ Asked → P
-      branch_asked x = cc
-
-      not_basic : {P : Type 0} → is_basic Branch ≡ true → P
-      not_basic x = cc
-
-      true_false : {P : Type 0} → true ≡ false → P
-      true_false x = cc
 
   -- The same from the sender's end.
   module _ (hf : LinkFits gr.keys g u (far_port g v p) m n r (Connect c ∷ q)) (there : far g u (far_port g v p) ≡ v)
@@ -207,7 +176,7 @@ module _ (gr : Shape) (ok : IsGraph gr) (v p c : ℕ) (n m : AtPort) (name : Key
 
     -- what waits for the sender now: the call
     pub called_alone : calls_in (r ++ Initiate n.head.level name ∷ []) ≡ Initiate n.head.level name ∷ []
-    called_alone = calls_more r n.head.level name ∙ ap (λ (x : List Message). x ++ Initiate n.head.level name ∷ []) empty
+    called_alone = calls_append r (Initiate n.head.level name ∷ []) ∙ ap (λ (x : List Message). x ++ Initiate n.head.level name ∷ []) empty
 
     up_at : IsWayUp gr.keys (suc m.head.level) u (port_at g u j).key
     up_at = subst (λ x. IsWayUp gr.keys (suc m.head.level) u x) (sym same_key)
@@ -216,10 +185,6 @@ module _ (gr : Shape) (ok : IsGraph gr) (v p c : ℕ) (n m : AtPort) (name : Key
     -- nothing is taken there at the sender's level
     free : {P : Type 0} → Taken gr.keys m.head.level (port_at g u j).key → P
     free x = absurd (untaken (subst (λ y. Taken gr.keys c y) same_key (subst (λ y. Taken gr.keys y (port_at g u j).key) sender_out.0 x)))
-
-    asked_like : (i : ℕ) → HasAsked gr.keys i s t → HasAsked gr.keys i s t'
-    asked_like i (Waits lv out) = Waits lv out
-    asked_like i (Has_begun lv least less mark) = basic_no_branch n.port.mark basic mark
 
     call : CallFits gr.keys n.head.level name s t'
     call = record {
@@ -244,18 +209,20 @@ module _ (gr : Shape) (ok : IsGraph gr) (v p c : ℕ) (n m : AtPort) (name : Key
       };
       names = record {
         said = hf.names.said;
-        next = subst (λ x. AreNamesFrom gr.keys t'.node m.port.level x) (sym (names_as_before r n.head.level name)) hf.names.next;
-        all = subst (λ x. ToldFits gr.keys s t' (m.port.level + length x)) (sym (names_as_before r n.head.level name))
+        next = subst (λ x. AreNamesFrom gr.keys t'.node m.port.level x) (sym (names_before r (Initiate n.head.level name ∷ []) refl)) hf.names.next;
+        all = subst (λ x. ToldFits gr.keys s t' (m.port.level + length x)) (sym (names_before r (Initiate n.head.level name ∷ []) refl))
             (record {
               at_most = hf.names.all.at_most;
-              basic = λ b. no_basic b;
+              basic = λ b. branch_is_plain b;
               aside = λ no. let a = hf.names.all.aside no in record { apart = a.apart; far = a.far };
             });
         near = hf.names.near;
         rest = hf.names.rest;
       };
       connects = record {
-        asked = λ x. let a = hf.connects.asked x in record { least = a.least; past = a.past; sender = asked_like m.head.level a.sender };
+        asked = λ x.
+            chosen_far gr.keys g u j n (record n.port { mark = Branch; owes = true }) n.head.out s (λ o. o) (λ b. refl) m.head.level
+            (hf.connects.asked x);
         out = λ x.
             let o = hf.connects.out x in
             record {
@@ -277,6 +244,3 @@ module _ (gr : Shape) (ok : IsGraph gr) (v p c : ℕ) (n m : AtPort) (name : Key
         rest = hf.owes.rest;
       };
     }
-      where
-        no_basic : {P : Type 0} → is_basic Branch ≡ true → P
-        no_basic x = cc

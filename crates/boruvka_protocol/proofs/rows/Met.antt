@@ -4,13 +4,13 @@ use Rattle.ghs_graph.specs.Graph.{Shape, IsGraph}
 use Rattle.ghs_graph.specs.Ports.{far_end}
 use Rattle.ghs_protocol.specs.Network.{Network, network_of, port_at, At, far, far_port}
 use Rattle.ghs_protocol.proofs.lemmas.Wired.{IsWired}
-use Rattle.ghs_protocol.proofs.lemmas.Graphs.{graph_wired, port_ends}
+use Rattle.ghs_protocol.proofs.lemmas.Graphs.{graph_wired}
 use Rattle.ghs_protocol.proofs.lemmas.Updates.{put_same}
 use Rattle.peer_machine.specs.Net.{Net, put, reacted, take_first}
 use Rattle.boruvka_node.specs.declared.mark.Mark.TheVariants.{Asked}
 use Rattle.boruvka_node.specs.declared.message.Message.{Message}
 use Rattle.boruvka_node.specs.declared.message.Message.TheVariants.{Connect}
-use Rattle.boruvka_node.specs.declared.message.Phase.TheVariants.{Sleeping, Search, Rest}
+use Rattle.boruvka_node.specs.declared.message.Phase.TheVariants.{Sleeping}
 use Rattle.boruvka_node.specs.State as state
 use Rattle.boruvka_node.specs.State.{State, degree, key_at, mark_at, set_mark}
 use Rattle.boruvka_node.specs.Boruvka.{boruvka}
@@ -18,19 +18,21 @@ use Rattle.boruvka_protocol.proofs.invariant.Words.{IsLeast}
 use Rattle.boruvka_protocol.proofs.invariant.Sides.{AtPort, at_port, side_of, far_side_of, calls_in}
 use Rattle.boruvka_protocol.proofs.invariant.Connects.{OutFits}
 use Rattle.boruvka_protocol.proofs.invariant.Children.{ChildrenFit}
-use Rattle.boruvka_protocol.proofs.invariant.Whole.{Ground, LinkFits, Fits, NearlyFits}
+use Rattle.boruvka_protocol.proofs.invariant.Whole.{Ground, Fits, NearlyFits}
+use Rattle.boruvka_protocol.proofs.Unlike.{rest_is_sleeping, search_is_sleeping}
 use Rattle.boruvka_protocol.proofs.every_run.Ground.{ground_taken}
 use Rattle.boruvka_protocol.proofs.rows.Table.{still}
 use Rattle.boruvka_protocol.proofs.rows.Grows.{grows_on, grows_port, grows_entered}
 use Rattle.boruvka_protocol.proofs.rows.Ports.{mark_set}
 use Rattle.boruvka_protocol.proofs.rows.Acts.{Acts, acts_taken}
-use Rattle.boruvka_protocol.proofs.rows.Noted.{asked_at, noted_marks, noted_names, noted_chosen, noted_calls, noted_children}
-use Rattle.boruvka_protocol.proofs.rows.Noting.{asked_here, here, noted_acts, noted_but}
+use Rattle.boruvka_protocol.proofs.rows.OwnPorts.{port_below, is_lesser, is_greater}
+use Rattle.boruvka_protocol.proofs.rows.Noted.{asked_at}
+use Rattle.boruvka_protocol.proofs.rows.Noting.{asked_here, here, end_noted, children_noted, noted_acts, noted_but}
 use Rattle.boruvka_protocol.proofs.rows.Asked.{met_greater, noted_nodes, noted_search, noted_lacks, noted_tokens}
 use Rattle.boruvka_protocol.proofs.rows.EntersDown.{EndFits}
 use Rattle.boruvka_protocol.proofs.rows.Enters.{entry}
 use Rattle.boruvka_protocol.proofs.rows.CalledIn.{enters_only}
-use Rattle.boruvka_protocol.proofs.rows.CoreIn.{AboutToMeet, is_greater, is_lesser, core_after}
+use Rattle.boruvka_protocol.proofs.rows.CoreIn.{AboutToMeet, core_after}
 
 module _ (gr : Shape) (ok : IsGraph gr) (w : Net State Message) (v j l : ℕ) (ms : List Message) (at : At (network_of gr) v j)
     (fits : Fits gr.keys (network_of gr) w) (waits : w.queue v j ≡ Connect l ∷ ms) (level : l ≡ (w.node v).head.level)
@@ -42,7 +44,7 @@ module _ (gr : Shape) (ok : IsGraph gr) (w : Net State Message) (v j l : ℕ) (m
   wired = graph_wired gr ok
 
   port : j < degree (w.node v)
-  port = subst (λ x. j < x) (sym (fits.ground.nodes v).ports) at.port
+  port = port_below (fits.ground.nodes v) j at
 
   abbrev n : AtPort
   n = at_port (w.node v) j
@@ -62,22 +64,8 @@ module _ (gr : Shape) (ok : IsGraph gr) (w : Net State Message) (v j l : ℕ) (m
   a : Acts g w mid v now (put (w.queue v) j ms) []
   a = noted_acts gr ok w v j l ms at fits.links waits port level
 
-  link : LinkFits gr.keys g v j n m (Connect l ∷ ms) r
-  link = here gr ok w v j l ms at fits.links waits port level
-
   own : OutFits gr.keys (side_of g v j n) (far_side_of g v j m) (calls_in (Connect l ∷ ms)) (calls_in r)
-  own = link.connects.out out
-
-  end_noted : EndFits gr.keys g v j (asked_at n) m ms
-  end_noted = record {
-    marks = noted_marks gr.keys g v j n m l ms r link level (port_ends gr ok v j at);
-    names = noted_names gr.keys g v j n m l ms r link level (port_ends gr ok v j at);
-    asked = λ x. noted_chosen gr.keys g v j n m l ms r link level (port_ends gr ok v j at);
-    calls = noted_calls gr.keys g v j n m l ms r link level (port_ends gr ok v j at);
-  }
-
-  children_noted : ChildrenFit gr.keys (side_of g v j (asked_at n)) (far_side_of g v j m) (calls_in ms) (calls_in r)
-  children_noted = noted_children gr.keys g v j n m l ms r link level (port_ends gr ok v j at)
+  own = (here gr ok w v j l ms at fits.links waits port level).connects.out out
 
   own_now : asked_at n ≡ at_port (mid.node v) j
   own_now = sym (asked_here (w.node v) j port) ∙ ap (λ (x : State). at_port x j) (sym a.node)
@@ -99,12 +87,18 @@ module _ (gr : Shape) (ok : IsGraph gr) (w : Net State Message) (v j l : ℕ) (m
     rest = ap (λ (x : State). x.head.phase) a.node ∙ own.rest;
     less = less;
     least = subst (λ (x : State). IsLeast gr.keys x.head.level v (port_at g v j).key) (sym a.node) own.least;
-    ground = ground;
-    nodes = noted_nodes gr ok w v j l ms at fits waits level;
+    all = record {
+      ground = ground;
+      nodes = noted_nodes gr ok w v j l ms at fits waits level;
+      search = noted_search gr ok w v j l ms at fits waits level;
+      lacks = noted_lacks gr ok w v j l ms at fits waits level;
+      tokens = noted_tokens gr ok w v j l ms at fits waits level;
+    };
     links = noted_but gr ok w v j l ms at fits.links waits port level;
     end = subst (λ (x : AtPort). EndFits gr.keys g v j x (at_port (mid.node (far g v j)) (far_port g v j)) (mid.queue v j)) own_now
         (subst (λ (x : AtPort). EndFits gr.keys g v j (asked_at n) x (mid.queue v j)) far_now
-        (subst (λ (x : List Message). EndFits gr.keys g v j (asked_at n) m x) left_now end_noted));
+        (subst (λ (x : List Message). EndFits gr.keys g v j (asked_at n) m x) left_now
+        (end_noted gr ok w v j l ms at fits.links waits port level)));
     children =
         subst (λ (x : AtPort). ChildrenFit gr.keys (side_of g v j x) (far_side_of g v j (at_port (mid.node (far g v j)) (far_port g v j)))
         (calls_in (mid.queue v j)) (calls_in (mid.queue (far g v j) (far_port g v j)))) own_now
@@ -113,30 +107,21 @@ module _ (gr : Shape) (ok : IsGraph gr) (w : Net State Message) (v j l : ℕ) (m
         (subst (λ (x : List Message). ChildrenFit gr.keys (side_of g v j (asked_at n)) (far_side_of g v j m)
         (calls_in x) (calls_in (mid.queue (far g v j) (far_port g v j)))) left_now
         (subst (λ (x : List Message). ChildrenFit gr.keys (side_of g v j (asked_at n)) (far_side_of g v j m)
-        (calls_in ms) (calls_in x)) sent_now children_noted)));
-    search = noted_search gr ok w v j l ms at fits waits level;
-    lacks = noted_lacks gr ok w v j l ms at fits waits level;
-    tokens = noted_tokens gr ok w v j l ms at fits waits level;
+        (calls_in ms) (calls_in x)) sent_now (children_noted gr ok w v j l ms at fits.links waits port level))));
   }
 
   abbrev pub after_core : Net State Message
   after_core = reacted boruvka g v (enters_only now (key_at now j) None) (take_first boruvka g v j (Connect l) ms w)
 
   no_sleep : (w.node v).head.phase ≡ Sleeping → ⊥
-  no_sleep s = rest_sleeping (sym own.rest ∙ s)
-    where
-      rest_sleeping : Rest ≡ Sleeping → ⊥
-      rest_sleeping e = cc
+  no_sleep s = rest_is_sleeping (sym own.rest ∙ s)
 
   pub met_ground : Ground g mid
   met_ground = ground_taken g wired w v j (Connect l) ms (still now) fits.ground at waits (grows_port (w.node v) j _, no_sleep)
 
   pub core_ground : Ground g after_core
   core_ground = ground_taken g wired w v j (Connect l) ms (enters_only now (key_at now j) None) fits.ground at waits
-      (grows_on (grows_port (w.node v) j _) (grows_entered now (entry now (key_at now j) None) (omega arith)), λ s. search_sleeping s)
-    where
-      search_sleeping : Search ≡ Sleeping → ⊥
-      search_sleeping e = cc
+      (grows_on (grows_port (w.node v) j _) (grows_entered now (entry now (key_at now j) None) (omega arith)), λ s. search_is_sleeping s)
 
   -- row Met, at the greater end, which waits to be called: all clauses hold
   pub met_waits : nat_lt now.number (far_end now.number (key_at now j)) ≡ false → Fits gr.keys g mid

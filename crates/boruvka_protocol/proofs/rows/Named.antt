@@ -8,21 +8,20 @@ use Rattle.ghs_graph.specs.Links.{InTree}
 use Rattle.ghs_graph.proofs.lemmas.Joining.{joined_then, joined_back}
 use Rattle.ghs_levels.specs.Levels.{Taken, InClass, IsOfLevel}
 use Rattle.ghs_levels.specs.Cores.{IsCore}
-use Rattle.ghs_levels.proofs.lemmas.Cuts.{taken_in_tree, least_in_tree}
 use Rattle.ghs_levels.proofs.lemmas.WaysOut.{inside_is_tree}
 use Rattle.ghs_levels.proofs.lemmas.Cores.{classes_have_one_core}
 use Rattle.ghs_protocol.specs.Network.{Network, network_of, port_at, far}
-use Rattle.boruvka_node.specs.declared.mark.Mark.TheVariants.{Asked, Branch, Inside}
+use Rattle.boruvka_node.specs.declared.mark.Mark.TheVariants.{Inside}
 use Rattle.boruvka_node.specs.declared.message.Message.{Message}
 use Rattle.boruvka_node.specs.declared.message.Message.TheVariants.{Name}
 use Rattle.boruvka_node.specs.Words.{is_basic}
-use Rattle.boruvka_protocol.proofs.invariant.Words.{IsName, IsLeast}
+use Rattle.boruvka_protocol.proofs.invariant.Words.{IsName}
 use Rattle.boruvka_protocol.proofs.invariant.Sides.{Side, AtPort, side_of, far_side_of, calls_in, names_in}
 use Rattle.boruvka_protocol.proofs.invariant.Names.{AreNamesFrom, ToldFits}
-use Rattle.boruvka_protocol.proofs.invariant.TreeMessages as tree
-use Rattle.boruvka_protocol.proofs.invariant.TreeMessages.{CallsFit}
 use Rattle.boruvka_protocol.proofs.invariant.Whole.{LinkFits}
+use Rattle.boruvka_protocol.proofs.Unlike.{inside_is_branch, inside_is_asked, inside_is_plain}
 use Rattle.boruvka_protocol.proofs.rows.Leaving.{AreEnds}
+use Rattle.boruvka_protocol.proofs.rows.Aside.{never_taken, never_least, calls_aside}
 use Rattle.boruvka_protocol.proofs.rows.Noted.{basic_no_branch}
 
 -- the port has heard; where it leads back into the node's own class, it becomes Inside too
@@ -31,15 +30,6 @@ told_at n l a = record n { port = record n.port { level = l; name = Some a } }
 
 abbrev pub inside_at : AtPort → ℕ → Key → AtPort
 inside_at n l a = record n { port = record n.port { level = l; name = Some a; mark = Inside } }
-
-pub inside_branch : {P : Type 0} → Inside ≡ Branch → P
-inside_branch x = cc
-
-pub inside_asked : {P : Type 0} → Inside ≡ Asked → P
-inside_asked x = cc
-
-inside_basic : {P : Type 0} → is_basic Inside ≡ true → P
-inside_basic x = cc
 
 module _ (gr : Shape) (ok : IsGraph gr) (v p l : ℕ) (a : Key) (n m : AtPort) (q r : List Message)
     (h : LinkFits gr.keys (network_of gr) v p n m (Name l a ∷ q) r) (class : IsOfLevel gr.keys n.head.level v)
@@ -150,30 +140,16 @@ module _ (gr : Shape) (ok : IsGraph gr) (v p l : ℕ) (a : Key) (n m : AtPort) (
             (λ x. joined_back (subst (λ y. InClass gr.keys n.head.level y k.a) x.0 (subst (λ y. InClass gr.keys n.head.level v y) x.1 one_class)))
             ends
 
-    free : {P : Type 0} (i : ℕ) → Taken gr.keys i k → P
-    free i t = absurd (aside (taken_in_tree gr.keys i k t))
-
-    never : {P : Type 0} (i x : ℕ) → IsLeast gr.keys i x k → P
-    never i x least = absurd (aside (least_in_tree gr.keys (Taken gr.keys i) x k least))
-
     abbrev e' : Side
     e' = side_of g v p (inside_at n l a)
-
-    calls_here : (x : List Message) → CallsFit gr.keys e f x → CallsFit gr.keys e' f x
-    calls_here _ tree.Nothing = tree.Nothing
-    calls_here _ (tree.Chosen i c) = never i u c.chosen.least
-    calls_here _ (tree.Called i name d) = free (suc n.head.level) d.up.up.link
-    calls_here _ (tree.Chosen_called i j name c d) = never i u c.chosen.least
-    calls_here _ (tree.Reported i d) = free n.head.level d.up.up.link
-    calls_here _ (tree.Passed d) = free n.head.level d.up.up.link
 
     pub inside_near : LinkFits gr.keys g v p (inside_at n l a) m q r
     inside_near = record {
       marks = record {
-        branch = λ x. inside_branch x;
+        branch = λ x. inside_is_branch x;
         inside = λ x. (one_class, aside);
-        late = λ i s t ne. free n.head.level t;
-        leads_out = λ b. inside_basic b;
+        late = λ i s t ne. never_taken gr.keys k aside n.head.level t;
+        leads_out = λ b. inside_is_plain b;
       };
       names = record {
         said = said;
@@ -184,16 +160,19 @@ module _ (gr : Shape) (ok : IsGraph gr) (v p l : ℕ) (a : Key) (n m : AtPort) (
               basic = h.names.all.basic;
               aside = λ no. let b = h.names.all.aside no in record { apart = b.apart; far = b.far };
             });
-        near = λ b. inside_basic b;
-        rest = λ x lo b. inside_basic b;
+        near = λ b. inside_is_plain b;
+        rest = λ x lo b. inside_is_plain b;
       };
-      connects = record { asked = λ x. inside_asked x; out = λ x. never n.head.level v (h.connects.out x).least };
-      calls = calls_here (calls_in q) h.calls;
-      children = record { child = λ up. free n.head.level up.up.link; parent = λ up. free n.head.level up.up.link };
+      connects = record { asked = λ x. inside_is_asked x; out = λ x. never_least gr.keys k aside n.head.level v (h.connects.out x).least };
+      calls = calls_aside gr.keys e f e' f aside (calls_in q) h.calls;
+      children = record {
+        child = λ up. never_taken gr.keys k aside n.head.level up.up.link;
+        parent = λ up. never_taken gr.keys k aside n.head.level up.up.link;
+      };
       owes = record {
         child = λ o. basic_no_branch n.port.mark basic (h.owes.child o).0;
         open_yet = λ o. basic_no_branch n.port.mark basic (h.owes.child o).0;
-        heard = λ s b. inside_branch b;
+        heard = λ s b. inside_is_branch b;
         rest = h.owes.rest;
       };
     }
@@ -204,6 +183,9 @@ module _ (ks : List Key) (g : Network) (v p l : ℕ) (a : Key) (m n : AtPort) (r
   told_away = record { marks = h.marks; names = h.names; connects = h.connects; calls = h.calls; children = h.children; owes = h.owes }
 
   module _ (aside : InTree ks (port_at g v p).key → ⊥) where
+    abbrev k' : Key
+    k' = (port_at g v p).key
+
     abbrev c : Side
     c = side_of g v p m
 
@@ -213,26 +195,12 @@ module _ (ks : List Key) (g : Network) (v p l : ℕ) (a : Key) (m n : AtPort) (r
     abbrev d' : Side
     d' = far_side_of g v p (inside_at n l a)
 
-    not_taken : {P : Type 0} (i : ℕ) → Taken ks i (port_at g v p).key → P
-    not_taken i x = absurd (aside (taken_in_tree ks i (port_at g v p).key x))
-
-    not_least : {P : Type 0} (i x : ℕ) → IsLeast ks i x (port_at g v p).key → P
-    not_least i x least = absurd (aside (least_in_tree ks (Taken ks i) x (port_at g v p).key least))
-
-    calls_there : (x : List Message) → CallsFit ks c d x → CallsFit ks c d' x
-    calls_there _ tree.Nothing = tree.Nothing
-    calls_there _ (tree.Chosen i x) = not_least i d.node x.chosen.least
-    calls_there _ (tree.Called i name x) = not_taken (suc m.head.level) x.up.up.link
-    calls_there _ (tree.Chosen_called i j name x y) = not_least i d.node x.chosen.least
-    calls_there _ (tree.Reported i x) = not_taken m.head.level x.up.up.link
-    calls_there _ (tree.Passed x) = not_taken m.head.level x.up.up.link
-
     pub inside_away : LinkFits ks g v p m (inside_at n l a) r q
     inside_away = record {
       marks = record {
         branch = h.marks.branch;
         inside = h.marks.inside;
-        late = λ i lv x ne. not_taken m.head.level x;
+        late = λ i lv x ne. never_taken ks k' aside m.head.level x;
         leads_out = h.marks.leads_out;
       };
       names = record {
@@ -240,17 +208,20 @@ module _ (ks : List Key) (g : Network) (v p l : ℕ) (a : Key) (m n : AtPort) (r
         next = h.names.next;
         all = record {
           at_most = h.names.all.at_most;
-          basic = λ b. inside_basic b;
+          basic = λ b. inside_is_plain b;
           aside = λ no. let b = h.names.all.aside no in record { apart = b.apart; far = b.far };
         };
         near = h.names.near;
         rest = h.names.rest;
       };
       connects = record {
-        asked = λ x. not_least m.head.level d.node (h.connects.asked x).least;
-        out = λ x. not_least m.head.level v (h.connects.out x).least;
+        asked = λ x. never_least ks k' aside m.head.level d.node (h.connects.asked x).least;
+        out = λ x. never_least ks k' aside m.head.level v (h.connects.out x).least;
       };
-      calls = calls_there (calls_in r) h.calls;
-      children = record { child = λ up. not_taken m.head.level up.up.link; parent = λ up. not_taken m.head.level up.up.link };
+      calls = calls_aside ks c d c d' aside (calls_in r) h.calls;
+      children = record {
+        child = λ up. never_taken ks k' aside m.head.level up.up.link;
+        parent = λ up. never_taken ks k' aside m.head.level up.up.link;
+      };
       owes = record { child = h.owes.child; open_yet = h.owes.open_yet; heard = h.owes.heard; rest = h.owes.rest };
     }

@@ -13,20 +13,16 @@ use Rattle.boruvka_protocol.proofs.invariant.Marks.{MarksFit}
 use Rattle.boruvka_protocol.proofs.invariant.Names.{NamesFit}
 use Rattle.boruvka_protocol.proofs.invariant.Connects.{HasAsked, Waits, Has_begun, HasChosen, ConnectFits, Answered, Comes, Noted, Called, OutFits}
 use Rattle.boruvka_protocol.proofs.invariant.TreeMessages as tree
-use Rattle.boruvka_protocol.proofs.invariant.TreeMessages.{CallFits, CallsFit, Nothing, Chosen, Chosen_called, Reported, Passed}
+use Rattle.boruvka_protocol.proofs.invariant.TreeMessages.{CallsFit, Nothing, Chosen, Chosen_called}
 use Rattle.boruvka_protocol.proofs.invariant.Children.{ChildrenFit}
 use Rattle.boruvka_protocol.proofs.invariant.Whole.{LinkFits}
+use Rattle.boruvka_protocol.proofs.Unlike.{asked_is_branch, asked_is_inside}
+use Rattle.boruvka_protocol.proofs.rows.Parts.{chosen_near, call_near, chosen_far, calls_far}
 use Rattle.boruvka_protocol.proofs.rows.Leaving.{AreEnds, not_taken, not_joined}
 
 -- a port with the mark Asked
 abbrev pub asked_at : AtPort → AtPort
 asked_at n = record n { port = record n.port { mark = Asked } }
-
-pub asked_branch : {P : Type 0} → Asked ≡ Branch → P
-asked_branch e = cc
-
-asked_inside : {P : Type 0} → Asked ≡ Inside → P
-asked_inside e = cc
 
 pub basic_no_branch : {P : Type 0} (x : Mark) → is_basic x ≡ true → x ≡ Branch → P
 basic_no_branch Basic b e = cc
@@ -88,32 +84,17 @@ module _ (ks : List Key) where
         go (Waits lv out) = lv
         go (Has_begun lv least less mark) = basic_no_branch m.port.mark b mark
 
-    sender_like : (k : ℕ) → HasAsked ks k e f → HasAsked ks k e' f
-    sender_like k (Waits lv out) = Waits lv out
-    sender_like k (Has_begun lv least less mark) = Has_begun lv least less mark
-
-    call_like : (k : ℕ) (name : Key) → CallFits ks k name e f → CallFits ks k name e' f
-    call_like k name d = record {
-      level = d.level;
-      core = d.core;
-      up = d.up;
-      rest = d.rest;
-      sender_level = d.sender_level;
-      sender_search = d.sender_search;
-      sender_mark = d.sender_mark;
-      over = d.over;
-    }
-
     rest_like : (rest : List Message) → CallsFit ks e f (Connect l ∷ rest) → CallsFit ks e' f rest
     rest_like _ (Chosen _ c) = Nothing
-    rest_like _ (Chosen_called _ k name c d) = tree.Called k name (call_like k name d)
+    rest_like _ (Chosen_called _ k name c d) =
+        tree.Called k name (call_near ks g v p n (record n.port { mark = Asked }) n.head.out f (λ o. o) k name d)
 
     -- At the node that notes it.
 
     pub noted_marks : MarksFit ks e' f n.port.level (calls_in q)
     noted_marks = record {
-      branch = λ x. asked_branch x;
-      inside = λ x. asked_inside x;
+      branch = λ x. asked_is_branch x;
+      inside = λ x. asked_is_inside x;
       late = λ k lv t ne. absurd (untaken t);
       leads_out = λ b lo le s. apart s;
     }
@@ -132,7 +113,7 @@ module _ (ks : List Key) where
     }
 
     pub noted_chosen : HasChosen ks n.head.level e' f
-    noted_chosen = record { least = chosen.least; past = chosen.past; sender = sender_like n.head.level chosen.sender }
+    noted_chosen = chosen_near ks g v p n (asked_at n) f n.head.level chosen
 
     pub noted_calls : CallsFit ks e' f (calls_in q)
     noted_calls = rest_like (calls_in q) h.calls
@@ -150,7 +131,7 @@ module _ (ks : List Key) where
       owes = record {
         child = λ o. absurd (not_branch (h.owes.child o).0);
         open_yet = λ o. absurd (not_branch (h.owes.child o).0);
-        heard = λ s b. asked_branch b;
+        heard = λ s b. asked_is_branch b;
         rest = h.owes.rest;
       };
     }
@@ -186,22 +167,6 @@ module _ (ks : List Key) where
     never : {P : Type 0} → n.port.mark ≡ Branch → P
     never b = basic_no_branch n.port.mark basic b
 
-    asked_like : (k : ℕ) → HasAsked ks k s t → HasAsked ks k s t'
-    asked_like k (Waits lv out) = Waits lv out
-    asked_like k (Has_begun lv least less mark) = never mark
-
-    chosen_like : (k : ℕ) → HasChosen ks k s t → HasChosen ks k s t'
-    chosen_like k c = record { least = c.least; past = c.past; sender = asked_like k c.sender }
-
-    calls_like : (x : List Message) → CallsFit ks s t x → CallsFit ks s t' x
-    calls_like _ Nothing = Nothing
-    calls_like _ (Chosen k c) = Chosen k (record { chosen = chosen_like k c.chosen; finds = c.finds })
-    calls_like _ (tree.Called k name d) = never d.sender_mark
-    calls_like _ (Chosen_called j k name c d) = never d.sender_mark
-    calls_like _ (Reported k d) = Reported k
-        (record { up = d.up; sender_level = d.sender_level; sender_rest = d.sender_rest; search = d.search; mark = d.mark; sub = d.sub })
-    calls_like _ (Passed d) = Passed (record { up = d.up; rest = d.rest; stays = d.stays; least = d.least })
-
     pub noted_away : LinkFits ks g v p m (asked_at n) r q
     noted_away = record {
       marks = record {
@@ -224,12 +189,12 @@ module _ (ks : List Key) where
         rest = h.names.rest;
       };
       connects = record {
-        asked = λ x. chosen_like m.head.level (h.connects.asked x);
+        asked = λ x. chosen_far ks g v p n (record n.port { mark = Asked }) n.head.out s (λ o. o) (λ b. never b) m.head.level (h.connects.asked x);
         out = λ x.
             let o = h.connects.out x in
             record { least = o.least; rest = o.rest; basic = o.basic; answer = Noted none refl (sym (sent o.basic)); greater = o.greater };
       };
-      calls = calls_like (calls_in r) h.calls;
+      calls = calls_far ks g v p n (record n.port { mark = Asked }) n.head.out s (λ o. o) (λ b. never b) (calls_in r) h.calls;
       children = record {
         child = λ up.
             let c = h.children.child up in

@@ -6,6 +6,7 @@ use Rattle.ghs_protocol.specs.Network.{Network, network_of, At, far, far_port}
 use Rattle.ghs_protocol.proofs.lemmas.Wired.{IsWired}
 use Rattle.ghs_protocol.proofs.lemmas.Graphs.{graph_wired, port_ends}
 use Rattle.ghs_protocol.proofs.lemmas.Updates.{put_same, put_other}
+use Rattle.ghs_protocol.proofs.lemmas.Wires.{at_in}
 use Rattle.peer_machine.specs.Net.{Net, put, reacted, take_first}
 use Rattle.boruvka_node.specs.declared.mark.Mark.TheVariants.{Asked}
 use Rattle.boruvka_node.specs.declared.message.Message.{Message}
@@ -14,12 +15,14 @@ use Rattle.boruvka_node.specs.declared.port_state.PortState.{PortState}
 use Rattle.boruvka_node.specs.Words.{is_basic}
 use Rattle.boruvka_node.specs.State.{State, degree, port_at, set_mark}
 use Rattle.boruvka_node.specs.Boruvka.{boruvka}
-use Rattle.boruvka_protocol.proofs.invariant.Sides.{AtPort, at_port}
-use Rattle.boruvka_protocol.proofs.invariant.Whole.{LinkFits, LinksFit}
+use Rattle.boruvka_protocol.proofs.invariant.Sides.{AtPort, at_port, side_of, far_side_of, calls_in}
+use Rattle.boruvka_protocol.proofs.invariant.Children.{ChildrenFit}
+use Rattle.boruvka_protocol.proofs.invariant.Whole.{LinkFits, LinkIn, LinksFit}
 use Rattle.boruvka_protocol.proofs.rows.Table.{still}
 use Rattle.boruvka_protocol.proofs.rows.Ports.{port_set, port_kept}
 use Rattle.boruvka_protocol.proofs.rows.Acts.{Acts, acts_taken, fits_like, far_link, links_one, link_by}
-use Rattle.boruvka_protocol.proofs.rows.Noted.{asked_at, was_basic, none_left, sender_level, noted_near, noted_greater, noted_away}
+use Rattle.boruvka_protocol.proofs.rows.Noted.{asked_at, was_basic, none_left, sender_level, noted_marks, noted_names, noted_chosen, noted_calls, noted_children, noted_near, noted_greater, noted_away}
+use Rattle.boruvka_protocol.proofs.rows.EntersDown.{EndFits}
 
 -- what the node has at its ports, when port j has become Asked
 pub asked_here : (n : State) (j : ℕ) → j < degree n → at_port (set_mark n j Asked) j ≡ asked_at (at_port n j)
@@ -64,6 +67,18 @@ module _ (gr : Shape) (ok : IsGraph gr) (w : Net State Message) (v j l : ℕ) (m
   pub basic_there : is_basic n.port.mark ≡ true
   basic_there = was_basic gr.keys g v j n m l ms r here level (port_ends gr ok v j at)
 
+  -- v's end of it, where the Connect is noted, and what that leaves of parent and child
+  pub end_noted : EndFits gr.keys g v j (asked_at n) m ms
+  end_noted = record {
+    marks = noted_marks gr.keys g v j n m l ms r here level (port_ends gr ok v j at);
+    names = noted_names gr.keys g v j n m l ms r here level (port_ends gr ok v j at);
+    asked = λ x. noted_chosen gr.keys g v j n m l ms r here level (port_ends gr ok v j at);
+    calls = noted_calls gr.keys g v j n m l ms r here level (port_ends gr ok v j at);
+  }
+
+  pub children_noted : ChildrenFit gr.keys (side_of g v j (asked_at n)) (far_side_of g v j m) (calls_in ms) (calls_in r)
+  children_noted = noted_children gr.keys g v j n m l ms r here level (port_ends gr ok v j at)
+
   abbrev now : State
   now = set_mark (w.node v) j Asked
 
@@ -84,7 +99,7 @@ module _ (gr : Shape) (ok : IsGraph gr) (w : Net State Message) (v j l : ℕ) (m
 
   pub noted_links_by : LinkFits gr.keys g v j (asked_at n) m ms r → LinksFit gr.keys g after_connect
   noted_links_by near = links_one g wired gr.keys w _ v now left [] noted_acts
-      (record { some = at.some; node = at.node }) links j (λ i ne. sym (asked_there (w.node v) j i ne))
+      (at_in at) links j (λ i ne. sym (asked_there (w.node v) j i ne))
       (λ i ne. sym (put_other (w.queue v) j i ms ne)) (λ i ne. sym (append-nil _))
       (fits_like g wired gr.keys (sym (asked_here (w.node v) j port)) refl (sym (put_same (w.queue v) j ms)) (sym (append-nil r)) near)
       (fits_like g wired gr.keys refl (sym (asked_here (w.node v) j port)) (sym (append-nil r)) (sym (put_same (w.queue v) j ms)) away)
@@ -96,9 +111,8 @@ module _ (gr : Shape) (ok : IsGraph gr) (w : Net State Message) (v j l : ℕ) (m
   greater_links less = noted_links_by (noted_greater gr.keys g v j n m l ms r here level (port_ends gr ok v j at) less)
 
   -- all links but this one at the node itself
-  pub noted_but : (u q : ℕ) → At g u q → (u ≢ v) ⊎ (q ≢ j) → LinkFits gr.keys g u q (at_port (after_connect.node u) q)
-      (at_port (after_connect.node (far g u q)) (far_port g u q)) (after_connect.queue u q) (after_connect.queue (far g u q) (far_port g u q))
-  noted_but u q is but = link_by g wired gr.keys w after_connect v now left [] noted_acts (record { some = at.some; node = at.node })
+  pub noted_but : (u q : ℕ) → At g u q → (u ≢ v) ⊎ (q ≢ j) → LinkIn gr.keys g after_connect u q
+  noted_but u q is but = link_by g wired gr.keys w after_connect v now left [] noted_acts (at_in at)
       (λ x i z ne fne. links x i z)
       (λ i at_i. ⊎_elim
       (λ (e : i ≡ j). subst (λ y. LinkFits gr.keys g (far g v y) (far_port g v y) (across y) (at_port now y) (sent y) (left y)) (sym e)

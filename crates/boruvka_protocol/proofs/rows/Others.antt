@@ -1,9 +1,7 @@
--- What an act leaves of the clauses of nodes, of the search at other nodes, and of tokens.
-use Rattle.std.proofs.Common.{◌≡◌, ℕ, ◌<◌, Option, Some, None, List, ◌∷◌, ◌++◌, sym, ◌∙◌, ap, subst, ⊎_elim}
+-- What an act leaves of the clauses of nodes, of what waits elsewhere, and of tokens.
+use Rattle.std.proofs.Common.{◌≡◌, ℕ, ◌<◌, Option, Some, None, List, [], ◌∷◌, ◌++◌, refl, sym, ◌∙◌, ap, subst, ⊎_elim, append-nil}
 use Rattle.std.proofs.lemmas.Bool.{cases_eq}
 use Rattle.ghs_graph.specs.declared.key.Key.{Key}
-use Rattle.ghs_levels.specs.Levels.{HasWayOut}
-use Rattle.ghs_node.specs.Words.{Best}
 use Rattle.ghs_protocol.specs.Network.{Network, At, InNetwork, far, far_port}
 use Rattle.ghs_protocol.proofs.lemmas.Wired.{IsWired}
 use Rattle.ghs_protocol.proofs.lemmas.Wires.{neighbour}
@@ -13,13 +11,13 @@ use Rattle.peer_machine.specs.Net.{Net, put}
 use Rattle.boruvka_node.specs.declared.head.Head.{Head}
 use Rattle.boruvka_node.specs.declared.message.Message.{Message}
 use Rattle.boruvka_node.specs.State.{State, degree, key_at}
-use Rattle.boruvka_protocol.proofs.invariant.Words.{IsPast, IsRoot, IsWayUp}
-use Rattle.boruvka_protocol.proofs.invariant.Sides.{calls_in, reports_in, passes_in}
+use Rattle.boruvka_protocol.proofs.invariant.Words.{IsWayUp}
 use Rattle.boruvka_protocol.proofs.invariant.Nodes.{ParentIs, NodeFits, AwakeFits}
-use Rattle.boruvka_protocol.proofs.invariant.Search.{HasChild, HasHeard, BestIsHeard, LeadsTo, Own, By_child, BestIsSub, SearchFits}
-use Rattle.boruvka_protocol.proofs.invariant.Token.{Place, IsTokenAt, In_message, Gone_out, Gone_on, At_end, Token, RootIsPast, TokensFit}
+use Rattle.boruvka_protocol.proofs.invariant.Token.{RootIsPast, TokensFit}
 use Rattle.boruvka_protocol.proofs.rows.Sends.{sent_on}
 use Rattle.boruvka_protocol.proofs.rows.Acts.{Acts}
+use Rattle.boruvka_protocol.proofs.rows.Alike.{SameHeads, AsMany, AsManyPasses, levels_alike, phases_alike, past_alike}
+use Rattle.boruvka_protocol.proofs.rows.Tokens.{TokensStay, token_stays, tokens_stay, root_stays, halts_stay}
 
 -- A number that is read of a queue, of which a message that doesn't count is taken.
 pub taken_like : (P : List Message → ℕ) (q : ℕ → List Message) (j : ℕ) (m : Message) (ms : List Message) → q j ≡ m ∷ ms → P (m ∷ ms) ≡ P ms →
@@ -67,7 +65,7 @@ module _ (ks : List Key) where
         (own_same : (i : ℕ) → At g v i → P (w.queue v i) ≡ P (own i))
         (far_same : (i : ℕ) → At g v i →
         P (w.queue (far g v i) (far_port g v i)) ≡ P (w.queue (far g v i) (far_port g v i) ++ sent_on ss i)) where
-      pub waits_like : (u p : ℕ) → At g u p → P (w.queue u p) ≡ P (w'.queue u p)
+      pub waits_like : AsMany g P w w'
       waits_like u p at = ⊎_elim
           (λ (e : u ≡ v). subst (λ y. P (w.queue y p) ≡ P (w'.queue y p)) (sym e)
           (let at_v : At g v p = subst (λ y. At g y p) e at in own_same p at_v ∙ sym (ap P (a.queue p at_v))))
@@ -85,101 +83,38 @@ module _ (ks : List Key) where
               subst (λ y. P (w.queue y p) ≡ P (w'.queue y p)) eu
               (subst (λ y. P (w.queue (far g v i) y) ≡ P (w'.queue (far g v i) y)) ep (far_same i at_i ∙ sym (ap P (a.far_queue i at_i))))
 
-  -- The search at a node, where its far ends have the same variables and as many Reports wait.
-
-  module _ (g : Network) (v : ℕ) (n : State) (fars fars' : ℕ → Head) (queues queues' : ℕ → List Message)
-      (heads : (p : ℕ) → At g v p → fars p ≡ fars' p)
-      (reports : (p : ℕ) → At g v p → reports_in (calls_in (queues p)) ≡ reports_in (calls_in (queues' p))) where
-    child_like : (p : ℕ) → HasChild ks g v n fars queues p → HasChild ks g v n fars' queues' p
-    child_like p c = record { at = c.at; mark = c.mark; child = c.child }
-
-    child_back : (p : ℕ) → HasChild ks g v n fars' queues' p → HasChild ks g v n fars queues p
-    child_back p c = record { at = c.at; mark = c.mark; child = c.child }
-
-    heard_like : (p : ℕ) (k : Key) → HasHeard ks g v n fars queues p k → HasHeard ks g v n fars' queues' p k
-    heard_like p k h = record {
-      child = child_like p h.child;
-      reported = record {
-        past = subst (λ (x : Head). IsPast n.head.level x.level x.phase) (heads p h.child.at) h.reported.past;
-        heard = λ x. sym (reports p h.child.at) ∙ h.reported.heard (ap (λ (y : Head). y.level) (heads p h.child.at) ∙ x);
-      };
-      sub = h.sub;
-    }
-
-    heard_back : (p : ℕ) (k : Key) → HasHeard ks g v n fars' queues' p k → HasHeard ks g v n fars queues p k
-    heard_back p k h = record {
-      child = child_back p h.child;
-      reported = record {
-        past = subst (λ (x : Head). IsPast n.head.level x.level x.phase) (sym (heads p h.child.at)) h.reported.past;
-        heard = λ x. reports p h.child.at ∙ h.reported.heard (sym (ap (λ (y : Head). y.level) (heads p h.child.at)) ∙ x);
-      };
-      sub = h.sub;
-    }
-
-    best_like : (b : Best) → BestIsHeard ks g v n fars queues b → BestIsHeard ks g v n fars' queues' b
-    best_like None h = λ p k x. h p k (heard_back p k x)
-    best_like (Some b) h = (heard_like b.0 b.1 h.0, λ p k x. h.1 p k (heard_back p k x))
-
-    leads_like : (p : ℕ) (k : Key) → LeadsTo ks g v n fars queues p k → LeadsTo ks g v n fars' queues' p k
-    leads_like p k (Own at basic key) = Own at basic key
-    leads_like p k (By_child c sub) = By_child (child_like p c) sub
-
-    sub_like : (b : Best) → BestIsSub ks g v n fars queues b → BestIsSub ks g v n fars' queues' b
-    sub_like None h = h
-    sub_like (Some b) h = (h.0, leads_like b.0 b.1 h.1)
-
-    pub search_like : SearchFits ks g v n fars queues → SearchFits ks g v n fars' queues'
-    search_like h = record {
-      search = λ s. let x = h.search s in record { best = best_like n.head.best x.best; stays = x.stays; goes_on = x.goes_on };
-      rest = λ r lo. sub_like n.head.best (h.rest r lo);
-    }
+  -- so where nothing is taken, and nothing sent
+  pub waits_same : (g : Network) (w w' : Net State Message) (v : ℕ) (n : State) → Acts g w w' v n (w.queue v) [] → IsWired g → InNetwork g v →
+      (P : List Message → ℕ) → AsMany g P w w'
+  waits_same g w w' v n a wired here P =
+      waits_like g w w' v n (w.queue v) [] a wired here P (λ i at. refl) (λ i at. ap P (sym (append-nil _)))
 
   -- Tokens, where all nodes have the same variables and as many ChangeRoots wait.
 
-  module _ (g : Network) (w w' : Net State Message) (heads : (u : ℕ) → (w.node u).head ≡ (w'.node u).head)
-      (passes : (u p : ℕ) → At g u p → passes_in (w.queue u p) ≡ passes_in (w'.queue u p)) where
-    level_like : (u : ℕ) → ◌≡◌ {A = ℕ} (w.node u).head.level (w'.node u).head.level
-    level_like u = ap (λ (x : Head). x.level) (heads u)
+  tokens_alike : (g : Network) (w w' : Net State Message) → SameHeads w w' → AsManyPasses g w w' → TokensStay ks g w w'
+  tokens_alike g w w' heads passes m x place = token_stays ks g w w' m x place (levels_alike w w' heads x)
+      (λ p at lt. subst (λ y. 0 < y) (passes x p at) lt)
+      (λ lv p out. sym (ap (λ (y : Head). y.out) (heads x)) ∙ out)
+      (λ lv h. sym (ap (λ (y : Head). y.halted) (heads x)) ∙ h)
 
-    token_to : (l u : ℕ) (place : Place) → IsTokenAt ks g w l u place → IsTokenAt ks g w' l u place
-    token_to l u _ (In_message p at lv lt) = In_message p at (sym (level_like u) ∙ lv) (subst (λ x. 0 < x) (passes u p at) lt)
-    token_to l u _ (Gone_out p at lv out) = Gone_out p at (sym (level_like u) ∙ lv) (sym (ap (λ (x : Head). x.out) (heads u)) ∙ out)
-    token_to l u _ (Gone_on k lt least end) = Gone_on k (subst (λ x. l < x) (level_like u) lt) least end
-    token_to l u _ (At_end lv halted) = At_end (sym (level_like u) ∙ lv) (sym (ap (λ (x : Head). x.halted) (heads u)) ∙ halted)
+  roots_alike : (g : Network) (w w' : Net State Message) → SameHeads w w' → (l v : ℕ) → RootIsPast ks g w l v → RootIsPast ks g w' l v
+  roots_alike g w w' heads = root_stays ks g w w' (past_alike w w' (levels_alike w w' heads) (phases_alike w w' heads))
 
-    token_from : (l u : ℕ) (place : Place) → IsTokenAt ks g w' l u place → IsTokenAt ks g w l u place
-    token_from l u _ (In_message p at lv lt) = In_message p at (level_like u ∙ lv) (subst (λ x. 0 < x) (sym (passes u p at)) lt)
-    token_from l u _ (Gone_out p at lv out) = Gone_out p at (level_like u ∙ lv) (ap (λ (x : Head). x.out) (heads u) ∙ out)
-    token_from l u _ (Gone_on k lt least end) = Gone_on k (subst (λ x. l < x) (sym (level_like u)) lt) least end
-    token_from l u _ (At_end lv halted) = At_end (level_like u ∙ lv) (ap (λ (x : Head). x.halted) (heads u) ∙ halted)
+  pub tokens_like : (g : Network) (w w' : Net State Message) → SameHeads w w' → AsManyPasses g w w' → TokensFit ks g w → TokensFit ks g w'
+  unfolding tokens_stay
+  tokens_like g w w' heads passes h = record {
+    halted = halts_stay ks g w w' (levels_alike w w' heads) (phases_alike w w' heads) (λ u x. ap (λ (y : Head). y.halted) (heads u) ∙ x) h.halted;
+    one = λ l v at proper.
+        let f = h.one l v at proper in
+        record {
+          some = λ r. tokens_stay ks g w w' (tokens_alike g w w' heads passes) l v (f.some (roots_alike g w' w back l v r));
+          one = λ s t. f.one (tokens_stay ks g w' w before l v s) (tokens_stay ks g w' w before l v t);
+          none = λ t. roots_alike g w w' heads l v (f.none (tokens_stay ks g w' w before l v t));
+        };
+  }
+    where
+      back : SameHeads w' w
+      back u = sym (heads u)
 
-    to : (l v : ℕ) → Token ks g w l v → Token ks g w' l v
-    to l v t = record { node = t.node; place = t.place; inside = t.inside; in_network = t.in_network; at = token_to l t.node t.place t.at }
-
-    from : (l v : ℕ) → Token ks g w' l v → Token ks g w l v
-    from l v t = record { node = t.node; place = t.place; inside = t.inside; in_network = t.in_network; at = token_from l t.node t.place t.at }
-
-    past_to : (l v : ℕ) → RootIsPast ks g w l v → RootIsPast ks g w' l v
-    past_to l v r = record { root = r.root; top = r.top; past = subst (λ (x : Head). IsPast l x.level x.phase) (heads r.root) r.past }
-
-    past_from : (l v : ℕ) → RootIsPast ks g w' l v → RootIsPast ks g w l v
-    past_from l v r = record { root = r.root; top = r.top; past = subst (λ (x : Head). IsPast l x.level x.phase) (sym (heads r.root)) r.past }
-
-    pub tokens_like : TokensFit ks g w → TokensFit ks g w'
-    unfolding from
-    tokens_like h = record {
-      halted = λ v at x.
-          let f = h.halted v at (ap (λ (y : Head). y.halted) (heads v) ∙ x) in
-          record {
-            whole = λ out. f.whole (subst (λ y. HasWayOut ks y v) (sym (level_like v)) out);
-            root = subst (λ y. IsRoot ks y v) (level_like v) f.root;
-            rest = sym (ap (λ (y : Head). y.phase) (heads v)) ∙ f.rest;
-          };
-      one = λ l v at proper.
-          let f = h.one l v at proper in
-          record {
-            some = λ r. to l v (f.some (past_from l v r));
-            one = λ s t. f.one (from l v s) (from l v t);
-            none = λ t. past_to l v (f.none (from l v t));
-          };
-    }
+      before : TokensStay ks g w' w
+      before = tokens_alike g w' w back (λ u p at. sym (passes u p at))

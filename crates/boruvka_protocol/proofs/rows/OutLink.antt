@@ -1,21 +1,20 @@
 -- A node at rest with the token in hand goes out over its class's least way out: what it finds there, and that all links fit behind it.
-use Rattle.std.proofs.Common.{◌≡◌, ◌≢◌, ◌⊎◌, ℕ, suc, ◌<◌, ◌≤◌, inl, inr, ⊎_elim, true, Some, None, List, [], ◌∷◌, ◌++◌, refl, sym, ◌∙◌, ap, subst, arith, append-nil}
+use Rattle.std.proofs.Common.{◌≡◌, ◌≢◌, ◌⊎◌, ℕ, suc, ◌<◌, ◌≤◌, inl, inr, ⊎_elim, true, Some, None, List, [], ◌∷◌, ◌++◌, refl, sym, ◌∙◌, ap, subst, arith}
 use Rattle.std.proofs.lemmas.Bool.{cases_eq}
 use Rattle.std.proofs.lemmas.Option.{same_Some}
 use Rattle.ghs_graph.specs.declared.key.Key.{Key}
 use Rattle.ghs_graph.specs.Graph.{Shape, IsGraph}
 use Rattle.ghs_graph.specs.Links.{Same}
-use Rattle.ghs_levels.specs.Levels.{Taken, InClass, IsOfLevel}
-use Rattle.ghs_levels.specs.WaysUp.{IsTop, IsUp}
+use Rattle.ghs_levels.specs.Levels.{Taken}
 use Rattle.ghs_levels.proofs.lemmas.WaysOut.{next_of_level}
-use Rattle.ghs_levels.proofs.lemmas.WaysUp.{top_at, classes_have_one_top, links_are_ways_up}
 use Rattle.ghs_protocol.specs.Network.{Network, network_of, port_at, At, InNetwork, far, far_port}
 use Rattle.ghs_protocol.proofs.lemmas.Wired.{IsWired}
 use Rattle.ghs_protocol.proofs.lemmas.Graphs.{graph_wired, port_ends}
+use Rattle.ghs_protocol.proofs.lemmas.Wires.{at_in}
 use Rattle.peer_machine.specs.Net.{Net}
 use Rattle.boruvka_node.specs.declared.mark.Mark.TheVariants.{Asked, Branch}
 use Rattle.boruvka_node.specs.declared.message.Message.{Message}
-use Rattle.boruvka_node.specs.declared.message.Message.TheVariants.{Connect, Initiate, Name, Report, ChangeRoot}
+use Rattle.boruvka_node.specs.declared.message.Message.TheVariants.{Connect}
 use Rattle.boruvka_node.specs.declared.message.Phase.TheVariants.{Rest}
 use Rattle.boruvka_node.specs.Words.{is_basic}
 use Rattle.boruvka_node.specs.State.{State, mark_at}
@@ -25,50 +24,19 @@ use Rattle.boruvka_protocol.proofs.invariant.Children.{ChildrenFit}
 use Rattle.boruvka_protocol.proofs.rows.EntersDown.{EndFits}
 use Rattle.boruvka_protocol.proofs.invariant.Connects.{HasAsked, Waits, Has_begun, Finds, ConnectFits, Answered, Comes}
 use Rattle.boruvka_protocol.proofs.invariant.TreeMessages as tree
-use Rattle.boruvka_protocol.proofs.invariant.TreeMessages.{CallFits, CallsFit}
+use Rattle.boruvka_protocol.proofs.invariant.TreeMessages.{CallsFit}
 use Rattle.boruvka_protocol.proofs.invariant.Token.{Token, In_message}
 use Rattle.boruvka_protocol.proofs.invariant.Token as token
-use Rattle.boruvka_protocol.proofs.invariant.Whole.{LinkFits, LinksFit}
+use Rattle.boruvka_protocol.proofs.invariant.Whole.{LinkFits, LinkIn, LinksFit}
+use Rattle.boruvka_protocol.proofs.levels.UpOnce.{up_of_either}
 use Rattle.boruvka_protocol.proofs.rows.Table.{gone}
-use Rattle.boruvka_protocol.proofs.rows.Sends.{sent_on, sent_here, sent_elsewhere}
-use Rattle.boruvka_protocol.proofs.rows.Acts.{Acts, fits_like, far_link, links_act}
-use Rattle.boruvka_protocol.proofs.rows.Leaving.{AreEnds, joined_ends, not_taken}
+use Rattle.boruvka_protocol.proofs.rows.Sends.{sent_on, sent_one, sent_none}
+use Rattle.boruvka_protocol.proofs.rows.Queues.{passes_called, calls_append, names_before}
+use Rattle.boruvka_protocol.proofs.rows.Acts.{Acts, fits_like, far_link, now_near, link_by, links_act}
+use Rattle.boruvka_protocol.proofs.rows.Parts.{none_by, calls_far}
+use Rattle.boruvka_protocol.proofs.rows.Leaving.{AreEnds, not_taken}
 use Rattle.boruvka_protocol.proofs.rows.Noted.{basic_no_branch}
-use Rattle.boruvka_protocol.proofs.rows.There.{LinkNow, link_near, links_there}
-use Rattle.boruvka_protocol.proofs.rows.Gone.{connect_behind, names_before_connect, gone_at, none_some, gone_end, gone_children, gone_near, calls_away, gone_away}
-
--- a taken link is the way up of one of its ends
-pub up_of_ends : (g : Shape) → IsGraph g → (l v u : ℕ) (k : Key) → AreEnds v u k → Taken g.keys l k → IsOfLevel g.keys l v →
-    IsWayUp g.keys l v k ⊎ IsWayUp g.keys l u k
-up_of_ends g ok l v u k ends t proper = ⊎_elim
-    (λ e. go (subst (λ x. InClass g.keys l v x) e.0 Same)
-    (λ up. inl (record { root = top.0; top = top.1; up = subst (λ x. IsUp (Taken g.keys l) top.0 x k) (sym e.0) up }))
-    (λ up. inr (record { root = top.0; top = there; up = subst (λ x. IsUp (Taken g.keys l) top.0 x k) (sym e.1) up })))
-    (λ e. go (subst (λ x. InClass g.keys l v x) e.1 way)
-    (λ up. inr (record { root = top.0; top = there; up = subst (λ x. IsUp (Taken g.keys l) top.0 x k) (sym e.1) up }))
-    (λ up. inl (record { root = top.0; top = top.1; up = subst (λ x. IsUp (Taken g.keys l) top.0 x k) (sym e.0) up })))
-    ends
-  where
-    top : (r : ℕ) × IsTop g.keys l v r × InClass g.keys l v r × ((s : ℕ) → IsTop g.keys l v s → s ≡ r)
-    top = classes_have_one_top g ok l v proper
-
-    way : InClass g.keys l v u
-    way = joined_ends v u k ends t
-
-    there : IsTop g.keys l u top.0
-    there = top_at g.keys l v u top.0 way top.1
-
-    go : {P : Type 0} → InClass g.keys l v k.a → (IsUp (Taken g.keys l) top.0 k.a k → P) → (IsUp (Taken g.keys l) top.0 k.b k → P) → P
-    go {P} inside a b = ⊎_elim (λ up. a up.0) (λ up. b up.0) (links_are_ways_up g ok l v top.0 top.1 k t inside)
-
--- as many ChangeRoots wait among the calls
-pub passes_called : (q : List Message) → ◌≡◌ {A = ℕ} (passes_in (calls_in q)) (passes_in q)
-passes_called [] = refl
-passes_called (Connect m ∷ q) = passes_called q
-passes_called (Initiate m k ∷ q) = passes_called q
-passes_called (Name m k ∷ q) = passes_called q
-passes_called (Report k ∷ q) = passes_called q
-passes_called (ChangeRoot ∷ q) = ap suc (passes_called q)
+use Rattle.boruvka_protocol.proofs.rows.Gone.{gone_at, none_some, gone_end, gone_children, gone_near, gone_away}
 
 module _ (ks : List Key) where
   -- over which link an Initiate comes that waits
@@ -120,7 +88,7 @@ module _ (gr : Shape) (ok : IsGraph gr) (w : Net State Message) (v p : ℕ) (at 
   r = w.queue u b
 
   pub here_v : InNetwork g v
-  here_v = record { some = at.some; node = at.node }
+  here_v = at_in at
 
   ends : AreEnds v u k
   ends = port_ends gr ok v p at
@@ -165,18 +133,12 @@ module _ (gr : Shape) (ok : IsGraph gr) (w : Net State Message) (v p : ℕ) (at 
 
   -- what waits at the far end: nothing but Names
   empty : calls_in r ≡ []
-  empty = go (calls_in r) there.calls
-    where
-      go : (x : List Message) → CallsFit ks s t x → x ≡ []
-      go _ tree.Nothing = refl
-      go _ (tree.Chosen i c) = none_asked i c.chosen.sender
-      go _ (tree.Called i name d) = no_branch d.sender_mark
-      go _ (tree.Chosen_called i j name c d) = none_asked i c.chosen.sender
-      go _ (tree.Reported x d) = untaken (subst (λ y. Taken ks y k) (sym d.sender_level) (subst (λ y. Taken ks m.head.level y) same_key d.up.up.link))
-      go _ (tree.Passed d) = no_branch (there.children.parent d.up).far_mark
+  empty = none_by ks s t (λ i c. none_asked i c.chosen.sender) (λ i name d. no_branch d.sender_mark)
+      (λ x d. untaken (subst (λ y. Taken ks y k) (sym d.sender_level) (subst (λ y. Taken ks m.head.level y) same_key d.up.up.link)))
+      (λ d. no_branch (there.children.parent d.up).far_mark) (calls_in r) there.calls
 
   alone : calls_in (r ++ Connect l ∷ []) ≡ Connect l ∷ []
-  alone = connect_behind r l ∙ ap (λ (x : List Message). x ++ Connect l ∷ []) empty
+  alone = calls_append r (Connect l ∷ []) ∙ ap (λ (x : List Message). x ++ Connect l ∷ []) empty
 
   -- the far end is of v's level, or one above it
   levels : (l ≤ m.head.level) × (m.head.level ≤ suc l)
@@ -201,7 +163,7 @@ module _ (gr : Shape) (ok : IsGraph gr) (w : Net State Message) (v p : ℕ) (at 
       ⊎_elim (λ y. untaken y) (λ o. none_some p stays o) d.0)
       (λ up_u.
       no_branch (there.children.parent (subst (λ y. IsWayUp ks y u s.key) up (subst (λ y. IsWayUp ks (suc l) u y) (sym same_key) up_u))).far_mark)
-      (up_of_ends gr ok (suc l) v u k ends taken (next_of_level ks l v (k, least.link, least.leaves)))
+      (up_of_either gr ok (suc l) v u k (next_of_level ks l v (k, least.link, least.leaves)) ends taken)
 
   finds : Finds ks l s
   finds = ⊎_elim
@@ -224,7 +186,7 @@ module _ (gr : Shape) (ok : IsGraph gr) (w : Net State Message) (v p : ℕ) (at 
   }
 
   away_out : LinkFits ks g u b m (gone_at p n) (r ++ Connect l ∷ []) q
-  away_out = gone_away ks g p u b m n stays r (r ++ Connect l ∷ []) q there (sym (names_before_connect r l))
+  away_out = gone_away ks g p u b m n stays r (r ++ Connect l ∷ []) q there (sym (names_before r (Connect l ∷ []) refl))
       (ap (λ y. initiates_in y) empty ∙ sym (ap (λ y. initiates_in y) alone))
       (ap (λ y. reports_in y) empty ∙ sym (ap (λ y. reports_in y) alone))
       (λ c. (λ o. ap (λ y. connects_in y) alone, λ one. ap (λ y. Some y) (sym same_port)))
@@ -238,7 +200,7 @@ module _ (gr : Shape) (ok : IsGraph gr) (w : Net State Message) (v p : ℕ) (at 
         node = v;
         place = token.Waits;
         inside = Same;
-        in_network = record { some = at.some; node = at.node };
+        in_network = here_v;
         at = In_message i at_i refl (omega (arith, ne));
       })))
       (cases_eq (passes_in (w.queue v i)) 0)
@@ -280,20 +242,19 @@ module _ (gr : Shape) (ok : IsGraph gr) (w : Net State Message) (v p : ℕ) (at 
           λ o. absurd (ne (sym (wired.back_port v i at_i) ∙ sym (same_Some p (far_port g x y) o))),
           λ one. none_some (far_port g x y) stays (c.1 one),
         ))
-        (calls_away ks g p x y (at_port (w.node x) y) (at_port (w.node v) i) stays (w.queue x y) (w.queue x y) (w.queue v i) h
-        (calls_in (w.queue x y)) h.calls)
+        (calls_far ks g x y (at_port (w.node v) i) (at_port (w.node v) i).port (Some p) (side_of g x y (at_port (w.node x) y))
+        (λ o. none_some (far_port g x y) stays o) (λ z. z) (calls_in (w.queue x y)) h.calls)
 
   module _ (w' : Net State Message) (a : Acts g w w' v (gone (w.node v) p) (w.queue v) ((p, Connect l) ∷ [])) where
+    -- what waited at the far end of port i, and what waits there now
+    abbrev back : ℕ → List Message
+    back i = w.queue (far g v i) (far_port g v i)
+
     abbrev sent : ℕ → List Message
-    sent i = w.queue (far g v i) (far_port g v i) ++ sent_on ((p, Connect l) ∷ []) i
+    sent i = back i ++ sent_on ((p, Connect l) ∷ []) i
 
     sent_here_is : r ++ Connect l ∷ [] ≡ sent p
-    sent_here_is = ap (λ (x : List Message). r ++ x) (sym (sent_here (p, Connect l) [] p refl))
-
-    sent_there_is : (i : ℕ) → i ≢ p → w.queue (far g v i) (far_port g v i) ≡ sent i
-    sent_there_is i ne =
-        sym (append-nil _)
-        ∙ ap (λ (x : List Message). w.queue (far g v i) (far_port g v i) ++ x) (sym (sent_elsewhere (p, Connect l) [] i (λ e. ne (sym e))))
+    sent_here_is = sent_one r p (Connect l)
 
     abbrev Near : ℕ → Type 0
     Near i = LinkFits ks g v i (at_port (gone (w.node v) p) i) (at_port (w.node (far g v i)) (far_port g v i)) (w.queue v i) (sent i)
@@ -302,29 +263,26 @@ module _ (gr : Shape) (ok : IsGraph gr) (w : Net State Message) (v p : ℕ) (at 
     Away i = LinkFits ks g (far g v i) (far_port g v i) (at_port (w.node (far g v i)) (far_port g v i)) (at_port (gone (w.node v) p) i) (sent i)
         (w.queue v i)
 
+    away_now : (i : ℕ) → At g v i → Away i
+    away_now i at_i = ⊎_elim
+        (λ (e : i ≡ p). subst (λ y. Away y) (sym e) (fits_like g wired ks refl refl sent_here_is refl away_out))
+        (λ ne. fits_like g wired ks refl refl (sent_none (back i) p (Connect l) i ne) refl (other_away i at_i ne))
+        (cases_eq i p)
+
     pub out_links : (n.port.mark ≡ Asked → u < v) → LinksFit ks g w'
-    out_links greater = links_act g wired ks w w' v (gone (w.node v) p) (w.queue v) ((p, Connect l) ∷ []) a
-        (record { some = at.some; node = at.node }) links
+    out_links greater = links_act g wired ks w w' v (gone (w.node v) p) (w.queue v) ((p, Connect l) ∷ []) a here_v links
         (λ i at_i. ⊎_elim
         (λ (e : i ≡ p). subst (λ y. Near y) (sym e) (fits_like g wired ks refl refl refl sent_here_is (near_out greater)))
-        (λ ne. fits_like g wired ks refl refl refl (sent_there_is i ne) (other_near i at_i ne))
+        (λ ne. fits_like g wired ks refl refl refl (sent_none (back i) p (Connect l) i ne) (other_near i at_i ne))
         (cases_eq i p))
-        (λ i at_i. ⊎_elim
-        (λ (e : i ≡ p). subst (λ y. Away y) (sym e) (fits_like g wired ks refl refl sent_here_is refl away_out))
-        (λ ne. fits_like g wired ks refl refl (sent_there_is i ne) refl (other_away i at_i ne))
-        (cases_eq i p))
+        away_now
 
     -- Behind the act, all links from other nodes, and from v at its other ports.
 
-    pub out_links_there : (y i : ℕ) → At g y i → y ≢ v →
-        LinkNow g wired ks w w' v (gone (w.node v) p) (w.queue v) ((p, Connect l) ∷ []) a here_v links y i
-    out_links_there = links_there g wired ks w w' v (gone (w.node v) p) (w.queue v) ((p, Connect l) ∷ []) a here_v links
-        (λ i at_i. ⊎_elim
-        (λ (e : i ≡ p). subst (λ y. Away y) (sym e) (fits_like g wired ks refl refl sent_here_is refl away_out))
-        (λ ne. fits_like g wired ks refl refl (sent_there_is i ne) refl (other_away i at_i ne))
-        (cases_eq i p))
+    pub out_links_there : (y i : ℕ) → At g y i → y ≢ v → LinkIn ks g w' y i
+    out_links_there y i at_y apart = link_by g wired ks w w' v (gone (w.node v) p) (w.queue v) ((p, Connect l) ∷ []) a here_v
+        (λ x j at_x ne fne. links x j at_x) away_now y i at_y (λ e. absurd (apart e))
 
-    pub out_links_near : (i : ℕ) → At g v i → i ≢ p →
-        LinkNow g wired ks w w' v (gone (w.node v) p) (w.queue v) ((p, Connect l) ∷ []) a here_v links v i
-    out_links_near i at_i ne = link_near g wired ks w w' v (gone (w.node v) p) (w.queue v) ((p, Connect l) ∷ []) a here_v links i at_i
-        (fits_like g wired ks refl refl refl (sent_there_is i ne) (other_near i at_i ne))
+    pub out_links_near : (i : ℕ) → At g v i → i ≢ p → LinkIn ks g w' v i
+    out_links_near i at_i ne = now_near g wired ks w w' v (gone (w.node v) p) (w.queue v) ((p, Connect l) ∷ []) a here_v i at_i
+        (fits_like g wired ks refl refl refl (sent_none (back i) p (Connect l) i ne) (other_near i at_i ne))

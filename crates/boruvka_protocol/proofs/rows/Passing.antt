@@ -1,13 +1,14 @@
 -- A node that moves passes the token on over a Branch, to the child from which or from below which the least way out leaves.
-use Rattle.std.proofs.Common.{◌≡◌, ◌≢◌, ◌⊎◌, ℕ, suc, ◌<◌, inl, inr, ⊎_elim, true, Option, Some, None, List, [], ◌∷◌, ◌++◌, refl, sym, ◌∙◌, ap, subst, arith, append-nil}
+use Rattle.std.proofs.Common.{◌≡◌, ◌≢◌, ◌⊎◌, ℕ, suc, ◌<◌, inl, inr, ⊎_elim, true, Option, Some, None, List, [], ◌∷◌, ◌++◌, refl, sym, ◌∙◌, ap, subst, arith}
 use Rattle.std.proofs.lemmas.Bool.{cases_eq}
 use Rattle.ghs_graph.specs.declared.key.Key.{Key}
 use Rattle.ghs_graph.specs.Graph.{Shape, IsGraph}
-use Rattle.ghs_levels.specs.Levels.{Taken, InClass, HasWayOut}
+use Rattle.ghs_levels.specs.Levels.{Taken, InClass}
 use Rattle.ghs_levels.proofs.lemmas.Cuts.{least_at}
 use Rattle.ghs_protocol.specs.Network.{Network, network_of, port_at, At, InNetwork, far, far_port}
 use Rattle.ghs_protocol.proofs.lemmas.Wired.{IsWired}
-use Rattle.ghs_protocol.proofs.lemmas.Wires.{neighbour}
+use Rattle.ghs_protocol.proofs.lemmas.Wires.{at_in, neighbour}
+use Rattle.ghs_protocol.proofs.lemmas.Updates.{one_place}
 use Rattle.ghs_protocol.proofs.lemmas.Graphs.{graph_wired, port_ends}
 use Rattle.peer_machine.specs.Rules.{Outgoing}
 use Rattle.peer_machine.specs.Net.{Net}
@@ -15,13 +16,15 @@ use Rattle.boruvka_node.specs.declared.head.Head.{Head}
 use Rattle.boruvka_node.specs.declared.mark.Mark.{Mark}
 use Rattle.boruvka_node.specs.declared.mark.Mark.TheVariants.{Basic, Asked, Branch, Inside}
 use Rattle.boruvka_node.specs.declared.message.Message.{Message}
-use Rattle.boruvka_node.specs.declared.message.Message.TheVariants.{Connect, Initiate, Name, Report, ChangeRoot}
+use Rattle.boruvka_node.specs.declared.message.Message.TheVariants.{ChangeRoot}
 use Rattle.boruvka_node.specs.declared.message.Phase.TheVariants.{Sleeping, Search, Rest}
 use Rattle.boruvka_node.specs.Words.{is_basic, is_branch}
 use Rattle.boruvka_node.specs.State.{State, mark_at}
+use Rattle.boruvka_protocol.proofs.Unlike.{rest_is_sleeping}
+use Rattle.boruvka_protocol.proofs.levels.UpOnce.{up_of_either}
 use Rattle.boruvka_protocol.proofs.follows.Ways.{taken_still}
-use Rattle.boruvka_protocol.proofs.invariant.Words.{IsPast, IsLeast, IsRoot, IsWayUp, IsSubAt}
-use Rattle.boruvka_protocol.proofs.invariant.Sides.{Side, AtPort, at_port, side_of, far_side_of, Told, calls_in, names_in, connects_in, initiates_in, reports_in, passes_in}
+use Rattle.boruvka_protocol.proofs.invariant.Words.{IsLeast, IsWayUp, IsSubAt}
+use Rattle.boruvka_protocol.proofs.invariant.Sides.{Side, AtPort, at_port, side_of, far_side_of, calls_in, connects_in, initiates_in, reports_in, passes_in}
 use Rattle.boruvka_protocol.proofs.invariant.Nodes.{NodeFits, AwakeFits}
 use Rattle.boruvka_protocol.proofs.invariant.Children.{HasReported, ChildFits}
 use Rattle.boruvka_protocol.proofs.invariant.Connects.{HasAsked, Waits, Has_begun, ConnectFits}
@@ -29,57 +32,22 @@ use Rattle.boruvka_protocol.proofs.invariant.Search.{LacksSome, HasChild, LeadsT
 use Rattle.boruvka_protocol.proofs.invariant.TreeMessages as tree
 use Rattle.boruvka_protocol.proofs.invariant.TreeMessages.{PassFits, CallsFit}
 use Rattle.boruvka_protocol.proofs.invariant.Token as token
-use Rattle.boruvka_protocol.proofs.invariant.Token.{Place, IsTokenAt, In_message, Gone_out, Gone_on, At_end, Token, HaltFits}
+use Rattle.boruvka_protocol.proofs.invariant.Token.{Place, IsTokenAt, In_message, Gone_out, Gone_on, At_end, HaltsFit}
 use Rattle.boruvka_protocol.proofs.invariant.Whole.{LinkFits, LinksFit, Ground, Fits}
-use Rattle.boruvka_protocol.proofs.rows.Sends.{sent_on, sent_here, sent_elsewhere}
+use Rattle.boruvka_protocol.proofs.rows.Sends.{sent_on, sent_one, sent_none}
 use Rattle.boruvka_protocol.proofs.rows.Acts.{Acts, fits_like, far_link, links_one}
+use Rattle.boruvka_protocol.proofs.rows.Alike.{SameHeads, SameLevels, SamePhases, PastStays, levels_alike, phases_alike, past_alike, AsManyReports}
+use Rattle.boruvka_protocol.proofs.rows.Tokens.{TokensStay, token_stays, halts_stay}
 use Rattle.boruvka_protocol.proofs.rows.Others.{nodes_act, waits_like}
 use Rattle.boruvka_protocol.proofs.rows.Kept.{heads_act, searches_act}
 use Rattle.boruvka_protocol.proofs.rows.Leaving.{AreEnds, joined_ends}
 use Rattle.boruvka_protocol.proofs.rows.Late.{search_rest}
 use Rattle.boruvka_protocol.proofs.rows.Gone.{none_some}
 use Rattle.boruvka_protocol.proofs.rows.Placed.{put_down}
-use Rattle.boruvka_protocol.proofs.rows.OutLink.{up_of_ends, passes_called}
+use Rattle.boruvka_protocol.proofs.rows.Queues.{passes_called, calls_append, passes_append, names_before, reports_before}
 use Rattle.boruvka_protocol.proofs.rows.AboutToMove.{AboutToMove}
 use Rattle.boruvka_protocol.proofs.rows.Moves.{moving_sub}
 use Rattle.boruvka_protocol.proofs.rows.Waits.{ReadsAs, waits_as}
-
--- One message more in a queue, which is a ChangeRoot.
-
-pass_behind : (q : List Message) → calls_in (q ++ ChangeRoot ∷ []) ≡ calls_in q ++ ChangeRoot ∷ []
-pass_behind [] = refl
-pass_behind (Connect m ∷ q) = ap (λ (x : List Message). Connect m ∷ x) (pass_behind q)
-pass_behind (Initiate m k ∷ q) = ap (λ (x : List Message). Initiate m k ∷ x) (pass_behind q)
-pass_behind (Name m k ∷ q) = pass_behind q
-pass_behind (Report k ∷ q) = ap (λ (x : List Message). Report k ∷ x) (pass_behind q)
-pass_behind (ChangeRoot ∷ q) = ap (λ (x : List Message). ChangeRoot ∷ x) (pass_behind q)
-
-names_before_pass : (q : List Message) → names_in (q ++ ChangeRoot ∷ []) ≡ names_in q
-names_before_pass [] = refl
-names_before_pass (Connect m ∷ q) = names_before_pass q
-names_before_pass (Initiate m k ∷ q) = names_before_pass q
-names_before_pass (Name m k ∷ q) = ap (λ (x : List Told). record { level = m; name = k } ∷ x) (names_before_pass q)
-names_before_pass (Report k ∷ q) = names_before_pass q
-names_before_pass (ChangeRoot ∷ q) = names_before_pass q
-
-reports_before_pass : (q : List Message) → ◌≡◌ {A = ℕ} (reports_in (calls_in q)) (reports_in (calls_in (q ++ ChangeRoot ∷ [])))
-reports_before_pass [] = refl
-reports_before_pass (Connect m ∷ q) = reports_before_pass q
-reports_before_pass (Initiate m k ∷ q) = reports_before_pass q
-reports_before_pass (Name m k ∷ q) = reports_before_pass q
-reports_before_pass (Report k ∷ q) = ap suc (reports_before_pass q)
-reports_before_pass (ChangeRoot ∷ q) = reports_before_pass q
-
-some_passes : (q : List Message) → 0 < passes_in (q ++ ChangeRoot ∷ [])
-some_passes [] = omega arith
-some_passes (Connect m ∷ q) = some_passes q
-some_passes (Initiate m k ∷ q) = some_passes q
-some_passes (Name m k ∷ q) = some_passes q
-some_passes (Report k ∷ q) = some_passes q
-some_passes (ChangeRoot ∷ q) = omega arith
-
-rest_asleep : Rest ≡ Sleeping → ⊥
-rest_asleep e = cc
 
 basic_plain : (x : Mark) → is_branch x ≡ true → is_basic x ≡ true → ⊥
 basic_plain Basic a b = cc
@@ -150,7 +118,7 @@ module _ (gr : Shape) (ok : IsGraph gr) (w : Net State Message) (v : ℕ) (here 
   at_there = wired.there v p at
 
   here_there : InNetwork g u
-  here_there = record { some = at_there.some; node = at_there.node }
+  here_there = at_in at_there
 
   abbrev s : Side
   s = side_of g u b m
@@ -191,8 +159,8 @@ module _ (gr : Shape) (ok : IsGraph gr) (w : Net State Message) (v : ℕ) (here 
       let le = c.level in
       let above : suc l ≡ m.head.level = omega (arith, le, lt) in
       none_on u here_there inside (sym above) (c.behind above).search)
-      (up_of_ends gr ok m.head.level u v k (⊎_elim (λ e. inr (e.1, e.0)) (λ e. inl (e.1, e.0)) ends)
-      (taken_still ks l m.head.level k (omega (arith, lt)) taken) node_there.class)
+      (up_of_either gr ok m.head.level u v k node_there.class (⊎_elim (λ e. inr (e.1, e.0)) (λ e. inl (e.1, e.0)) ends)
+      (taken_still ks l m.head.level k (omega (arith, lt)) taken))
     where
       asleep : m.head.phase ≡ Sleeping → ⊥
       asleep z = let e = ap (λ (x : State). x.head.level) (h.ground.untouched u z) in omega (arith, e, lt)
@@ -204,7 +172,7 @@ module _ (gr : Shape) (ok : IsGraph gr) (w : Net State Message) (v : ℕ) (here 
   level = ⊎_elim (λ lt. absurd (not_above lt)) (λ e. e) reported.past
 
   node_at : NodeFits ks u (w.node u)
-  node_at = h.nodes u here_there (λ z. rest_asleep (sym level.1 ∙ z))
+  node_at = h.nodes u here_there (λ z. rest_is_sleeping (sym level.1 ∙ z))
 
   -- it hasn't gone out, and no token waits there
   stays_there : m.head.out ≡ None
@@ -258,7 +226,7 @@ module _ (gr : Shape) (ok : IsGraph gr) (w : Net State Message) (v : ℕ) (here 
       go _ z (tree.Passed d) = absurd (omega (arith, z))
 
   alone : calls_in (r ++ ChangeRoot ∷ []) ≡ ChangeRoot ∷ []
-  alone = pass_behind r ∙ ap (λ (x : List Message). x ++ ChangeRoot ∷ []) empty
+  alone = calls_append r (ChangeRoot ∷ []) ∙ ap (λ (x : List Message). x ++ ChangeRoot ∷ []) empty
 
   passed : PassFits ks s t
   passed = record {
@@ -274,7 +242,7 @@ module _ (gr : Shape) (ok : IsGraph gr) (w : Net State Message) (v : ℕ) (here 
 
   reads : ReadsAs r (r ++ ChangeRoot ∷ [])
   reads = record {
-    names = sym (names_before_pass r);
+    names = sym (names_before r (ChangeRoot ∷ []) refl);
     connects = ap (λ y. connects_in y) empty ∙ sym (ap (λ y. connects_in y) alone);
     initiates = ap (λ y. initiates_in y) empty ∙ sym (ap (λ y. initiates_in y) alone);
     reports = ap (λ y. reports_in y) empty ∙ sym (ap (λ y. reports_in y) alone);
@@ -294,34 +262,34 @@ module _ (gr : Shape) (ok : IsGraph gr) (w : Net State Message) (v : ℕ) (here 
     abbrev ss : Outgoing Message
     ss = (p, ChangeRoot) ∷ []
 
-    abbrev sent : ℕ → List Message
-    sent i = w.queue (far g v i) (far_port g v i) ++ sent_on ss i
+    -- what waited at the far end of port i
+    abbrev back : ℕ → List Message
+    back i = w.queue (far g v i) (far_port g v i)
 
-    sent_here_is : r ++ ChangeRoot ∷ [] ≡ sent p
-    sent_here_is = ap (λ (x : List Message). r ++ x) (sym (sent_here (p, ChangeRoot) [] p refl))
-
-    sent_there_is : (i : ℕ) → i ≢ p → w.queue (far g v i) (far_port g v i) ≡ sent i
-    sent_there_is i ne =
-        sym (append-nil _)
-        ∙ ap (λ (x : List Message). w.queue (far g v i) (far_port g v i) ++ x) (sym (sent_elsewhere (p, ChangeRoot) [] i (λ e. ne (sym e))))
+    sent_here_is : r ++ ChangeRoot ∷ [] ≡ r ++ sent_on ss p
+    sent_here_is = sent_one r p ChangeRoot
 
     links : LinksFit ks g w'
-    links = links_one g wired ks w w' v (w.node v) (w.queue v) ss a here h.links p (λ i ne. refl) (λ i ne. refl) sent_there_is
+    links = links_one g wired ks w w' v (w.node v) (w.queue v) ss a here h.links p (λ i ne. refl) (λ i ne. refl)
+        (λ i ne. sent_none (back i) p ChangeRoot i ne)
         (fits_like g wired ks refl refl refl sent_here_is near) (fits_like g wired ks refl refl sent_here_is refl away)
 
-    heads : (x : ℕ) → (w.node x).head ≡ (w'.node x).head
+    heads : SameHeads w w'
     heads = heads_act ks g w w' v (w.node v) (w.queue v) ss a refl
 
-    same_level : (x : ℕ) → ◌≡◌ {A = ℕ} (w.node x).head.level (w'.node x).head.level
-    same_level x = ap (λ (y : Head). y.level) (heads x)
+    same_level : SameLevels w w'
+    same_level = levels_alike w w' heads
 
-    as_many_reports : (x i : ℕ) → At g x i → ◌≡◌ {A = ℕ} (reports_in (calls_in (w.queue x i))) (reports_in (calls_in (w'.queue x i)))
+    same_phase : SamePhases w w'
+    same_phase = phases_alike w w' heads
+
+    as_many_reports : AsManyReports g w w'
     as_many_reports = waits_like ks g w w' v (w.node v) (w.queue v) ss a wired here (λ x. reports_in (calls_in x)) (λ i at_i. refl)
         (λ i at_i. ⊎_elim
         (λ (e : i ≡ p).
-        subst (λ y. ◌≡◌ {A = ℕ} (reports_in (calls_in (w.queue (far g v y) (far_port g v y)))) (reports_in (calls_in (sent y)))) (sym e)
-        (reports_before_pass r ∙ ap (λ (x : List Message). reports_in (calls_in x)) sent_here_is))
-        (λ ne. ap (λ (x : List Message). reports_in (calls_in x)) (sent_there_is i ne))
+        subst (λ y. ◌≡◌ {A = ℕ} (reports_in (calls_in (back y))) (reports_in (calls_in (back y ++ sent_on ss y)))) (sym e)
+        (reports_before r (ChangeRoot ∷ []) refl ∙ ap (λ (x : List Message). reports_in (calls_in x)) sent_here_is))
+        (λ ne. ap (λ (x : List Message). reports_in (calls_in x)) (sent_none (back i) p ChangeRoot i ne))
         (cases_eq i p))
 
     -- what waits at other ports is what waited there
@@ -342,24 +310,18 @@ module _ (gr : Shape) (ok : IsGraph gr) (w : Net State Message) (v : ℕ) (here 
             let ei : far_port g v j ≡ i = subst (λ y. far_port g y j ≡ i) e (wired.back_port x i at_x) in
             let ne : j ≢ p = λ z. apart (sym ex ∙ ap (λ y. far g v y) z, sym ei ∙ ap (λ y. far_port g v y) z) in
             subst (λ y. w.queue y i ≡ w'.queue y i) ex
-            (subst (λ y. w.queue (far g v j) y ≡ w'.queue (far g v j) y) ei (sent_there_is j ne ∙ sym (a.far_queue j at_j)))
+            (subst (λ y. w.queue (far g v j) y ≡ w'.queue (far g v j) y) ei (sent_none (back j) p ChangeRoot j ne ∙ sym (a.far_queue j at_j)))
 
-    one_place : (x i : ℕ) → ((x ≡ u) × (i ≡ b)) ⊎ ((x ≡ u) × (i ≡ b) → ⊥)
-    one_place x i = ⊎_elim
-        (λ (e : x ≡ u). ⊎_elim (λ (z : i ≡ b). inl (e, z)) (λ ne. inr (λ z. ne z.1)) (cases_eq i b))
-        (λ ne. inr (λ z. ne z.0))
-        (cases_eq x u)
-
-    token_to : (i x : ℕ) (place : Place) → IsTokenAt ks g w i x place → IsTokenAt ks g w' i x place
-    token_to i x _ (In_message j at_j lv lt) = ⊎_elim
+    token_to : TokensStay ks g w w'
+    token_to i x place = token_stays ks g w w' i x place (same_level x)
+        (λ j at_j lt. ⊎_elim
         (λ e.
         let some : 0 < passes_in r = subst (λ y. 0 < passes_in (w.queue u y)) e.1 (subst (λ y. 0 < passes_in (w.queue y j)) e.0 lt) in
         absurd (omega (arith, some, none_waits)))
-        (λ apart. In_message j at_j (sym (same_level x) ∙ lv) (subst (λ (y : List Message). 0 < passes_in y) (queue_there x j at_j apart) lt))
-        (one_place x j)
-    token_to i x _ (Gone_out j at_j lv out) = Gone_out j at_j (sym (same_level x) ∙ lv) (sym (ap (λ (y : Head). y.out) (heads x)) ∙ out)
-    token_to i x _ (Gone_on c lt chosen end) = Gone_on c (subst (λ y. i < y) (same_level x) lt) chosen end
-    token_to i x _ (At_end lv halted) = At_end (sym (same_level x) ∙ lv) (sym (ap (λ (y : Head). y.halted) (heads x)) ∙ halted)
+        (λ apart. subst (λ (y : List Message). 0 < passes_in y) (queue_there x j at_j apart) lt)
+        (one_place u b x j))
+        (λ lv j out. sym (ap (λ (y : Head). y.out) (heads x)) ∙ out)
+        (λ lv z. sym (ap (λ (y : Head). y.halted) (heads x)) ∙ z)
 
     token_from : (i x : ℕ) (place : Place) → IsTokenAt ks g w' i x place →
         IsTokenAt ks g w i x place ⊎ ((i ≡ l) × (x ≡ u) × (place ≡ token.Waits))
@@ -367,28 +329,25 @@ module _ (gr : Shape) (ok : IsGraph gr) (w : Net State Message) (v : ℕ) (here 
         (λ e. inr (sym (subst (λ y. (w.node y).head.level ≡ i) e.0 (same_level x ∙ lv)) ∙ level.0, e.0, refl))
         (λ apart.
         inl (In_message j at_j (same_level x ∙ lv) (subst (λ (y : List Message). 0 < passes_in y) (sym (queue_there x j at_j apart)) lt)))
-        (one_place x j)
+        (one_place u b x j)
     token_from i x _ (Gone_out j at_j lv out) = inl (Gone_out j at_j (same_level x ∙ lv) (ap (λ (y : Head). y.out) (heads x) ∙ out))
     token_from i x _ (Gone_on c lt chosen end) = inl (Gone_on c (subst (λ y. i < y) (sym (same_level x)) lt) chosen end)
     token_from i x _ (At_end lv halted) = inl (At_end (same_level x ∙ lv) (ap (λ (y : Head). y.halted) (heads x) ∙ halted))
 
     waits_now : 0 < passes_in (w'.queue u b)
-    waits_now = subst (λ (y : List Message). 0 < passes_in y) (sent_here_is ∙ sym (a.far_queue p at)) (some_passes r)
+    waits_now = subst (λ (y : List Message). 0 < passes_in y) (sent_here_is ∙ sym (a.far_queue p at)) some
+      where
+        some : 0 < passes_in (r ++ ChangeRoot ∷ [])
+        some = omega (arith, passes_append r (ChangeRoot ∷ []))
 
-    past_to : (i x : ℕ) → IsPast i (w.node x).head.level (w.node x).head.phase → IsPast i (w'.node x).head.level (w'.node x).head.phase
-    past_to i x = λ z. subst (λ (y : Head). IsPast i y.level y.phase) (heads x) z
+    past_to : PastStays w w'
+    past_to = past_alike w w' same_level same_phase
 
-    past_from : (i x : ℕ) → IsPast i (w'.node x).head.level (w'.node x).head.phase → IsPast i (w.node x).head.level (w.node x).head.phase
-    past_from i x = λ z. subst (λ (y : Head). IsPast i y.level y.phase) (sym (heads x)) z
+    past_from : PastStays w' w
+    past_from = past_alike w' w (λ x. sym (same_level x)) (λ x. sym (same_phase x))
 
-    halted : (x : ℕ) → InNetwork g x → (w'.node x).head.halted ≡ true → HaltFits ks g w' x (w'.node x)
-    halted x at_x z =
-        let f = h.tokens.halted x at_x (ap (λ (y : Head). y.halted) (heads x) ∙ z) in
-        record {
-          whole = λ o. f.whole (subst (λ y. HasWayOut ks y x) (sym (same_level x)) o);
-          root = subst (λ y. IsRoot ks y x) (same_level x) f.root;
-          rest = sym (ap (λ (y : Head). y.phase) (heads x)) ∙ f.rest;
-        }
+    halted : HaltsFit ks g w'
+    halted = halts_stay ks g w w' same_level same_phase (λ x z. ap (λ (y : Head). y.halted) (heads x) ∙ z) h.tokens.halted
 
     -- with the ground, which every event keeps
     pub passes_fits : Ground g w' → Fits ks g w'

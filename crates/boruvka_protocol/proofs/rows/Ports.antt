@@ -9,7 +9,8 @@ use Rattle.boruvka_node.specs.declared.message.Message.{Message}
 use Rattle.boruvka_node.specs.declared.message.Message.TheVariants.{Initiate, Name}
 use Rattle.boruvka_node.specs.declared.port_state.PortState.{PortState}
 use Rattle.boruvka_node.specs.State.{State, no_port, port_at, mark_at, degree, set_port}
-use Rattle.boruvka_node.specs.Entering.{joined_mark, entered, entered_port, entered_from, told_as, told_from}
+use Rattle.boruvka_node.specs.Entering.{joined_mark, entered, entered_port, told_as, told_from}
+use Rattle.boruvka_node.proofs.lemmas.Entered.{get_entered}
 use Rattle.boruvka_protocol.proofs.rows.Sends.{sent_on, sent_here, sent_elsewhere, sent_append}
 
 -- one port changes, and no other
@@ -26,16 +27,8 @@ pub mark_kept : (n : State) (j i : ℕ) (x : PortState) → i ≢ j → mark_at 
 mark_kept n j i x ne = ap (λ (y : PortState). y.mark) (port_kept n j i x ne)
 
 -- a node that enters: each port by itself
-entered_at : (e : Entry) (p : ℕ) (xs : List PortState) (i : ℕ) → i < length xs →
-    slice_index_or (entered_from e p xs) i no_port ≡ entered_port e (p + i) (slice_index_or xs i no_port)
-entered_at e p [] i lt = absurd (omega (arith, lt))
-entered_at e p (x ∷ xs) zero lt = ap (λ q. entered_port e q x) (let z : p ≡ p + 0 = omega arith in z)
-entered_at e p (x ∷ xs) (suc i) lt =
-    entered_at e (suc p) xs i (omega (arith, lt))
-    ∙ ap (λ q. entered_port e q (slice_index_or xs i no_port)) (let z : suc p + i ≡ p + suc i = omega arith in z)
-
 pub port_entered : (n : State) (e : Entry) (i : ℕ) → i < degree n → port_at (entered n e) i ≡ entered_port e i (port_at n i)
-port_entered n e i lt = entered_at e 0 n.ports i lt ∙ ap (λ q. entered_port e q (port_at n i)) (let z : 0 + i ≡ i = omega arith in z)
+port_entered n e i lt = get_entered e n.ports i lt
 
 -- what a node that enters tells at a port of this mark: its name where it is Basic, and a call where it is Branch and no parent
 abbrev pub told_by : Entry → Mark → Bool → List Message

@@ -15,6 +15,7 @@ use Rattle.boruvka_node.specs.Words.{is_basic, is_asked, is_branch, is_search, i
 use Rattle.boruvka_node.specs.State.{State, degree, key_at, port_at, mark_at, set_mark}
 use Rattle.boruvka_node.specs.Entering.{entered, told_from}
 use Rattle.boruvka_node.specs.Reaction.{Outcome, GoingOut, says, moves_over, moves, closes_by, reports, root_closes, connects, enters_by, core, core_if_asked, goes_out, wakes, woken, is_over, rested, connect, is_next_name, heard, reported, awake}
+use Rattle.boruvka_protocol.proofs.Unlike.{none_is_some}
 use Rattle.boruvka_protocol.proofs.rows.Table.{said, gone, core_entry, call_entry, Moving, Passes, Goes, Closing, Goes_on, Reports, Halts, Moves, Connecting, Connects, Entering, Enters, Meeting, Waits, Begins, Going, Goes_out, Meets, Waking, Alone, Wakes, Row, Noted, Met, Late, Called, Named, Told, Moved}
 
 -- a test that led to something either way
@@ -22,9 +23,6 @@ pub read_if : {P : Type 0} {A : Type 0} (b : Bool) (x y : Option A) (z : A) → 
     (b ≡ false → y ≡ Some z → P) → P
 read_if true x y z e f g = f refl e
 read_if false x y z e f g = g refl e
-
-pub no_outcome : {P : Type 0} {A : Type 0} (z : A) → None ≡ Some z → P
-no_outcome z e = cc
 
 pub read_says : {P : Type 0} (ss : Outgoing Message) (x : Option Outcome) (z : Outcome) → says ss x ≡ Some z →
     ((o : Outcome) → x ≡ Some o → said ss o ≡ z → P) → P
@@ -57,7 +55,7 @@ entering n e o h = read_if (nat_le e.level TOP_LEVEL) _ _ o h
     (λ t x.
     read_says (told_from e 0 n.ports) (closes_by connects (entered n e)) o x
     (λ y k same. subst (Entering n e) same (Enters (leb-true _ _ t) (closing connects Connecting connecting (entered n e) y k))))
-    (λ t x. no_outcome o x)
+    (λ t x. none_is_some o x)
 
 pub meeting : (n : State) (p : ℕ) (o : Outcome) → core n p ≡ Some o → Meeting n p o
 meeting n p o h = read_if (nat_lt n.number (far_end n.number (key_at n p))) _ _ o h
@@ -91,26 +89,26 @@ row_connect n j l o h = read_if (l == n.head.level) _ _ o h
     (λ both z.
     let b = and_parts _ _ both in
     subst (Row n j (Connect l)) (same_Some _ _ z) (Late (eqb-true _ _ below) b.0 b.1))
-    (λ both z. no_outcome o z))
-    (λ below y. no_outcome o y))
+    (λ both z. none_is_some o z))
+    (λ below y. none_is_some o y))
 
 row_initiate : (n : State) (j l : ℕ) (f : Key) (o : Outcome) → awake n j (Initiate l f) ≡ Some o → Row n j (Initiate l f) o
 row_initiate n j l f o h = read_if (is_rest n.head.phase && (l == suc n.head.level)) _ _ o h
     (λ t x. let b = and_parts _ _ t in Called b.0 (eqb-true _ _ b.1) (entering n (call_entry n j l f) o x))
-    (λ t x. no_outcome o x)
+    (λ t x. none_is_some o x)
 
 row_name : (n : State) (j l : ℕ) (f : Key) (o : Outcome) → awake n j (Name l f) ≡ Some o → Row n j (Name l f) o
 row_name n j l f o h = read_if (is_next_name n j l) _ _ o h
     (λ t x. Named t (closing goes_out Going going (heard n j l f) o x))
-    (λ t x. no_outcome o x)
+    (λ t x. none_is_some o x)
 
 row_report : (n : State) (j : ℕ) (k : Option Key) (o : Outcome) → awake n j (Report k) ≡ Some o → Row n j (Report k) o
 row_report n j k o h = read_if (port_at n j).owes _ _ o h
     (λ t x. Told t (closing goes_out Going going (reported n j k) o x))
-    (λ t x. no_outcome o x)
+    (λ t x. none_is_some o x)
 
 row_change_root : (n : State) (j : ℕ) (o : Outcome) (b : Best) → n.head.best ≡ b → moves n b ≡ Some o → Row n j ChangeRoot o
-row_change_root n j o None e h = no_outcome o h
+row_change_root n j o None e h = none_is_some o h
 row_change_root n j o (Some b) e h = Moved b e (moving goes_out Going going n b.0 o h)
 
 -- a reaction of a node that is awake is a row

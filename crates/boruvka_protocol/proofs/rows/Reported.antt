@@ -5,14 +5,12 @@ use Rattle.ghs_graph.specs.declared.key.Key.{Key}
 use Rattle.ghs_graph.specs.Key.{key_lt}
 use Rattle.ghs_graph.specs.Graph.{Shape, IsGraph}
 use Rattle.ghs_graph.proofs.lemmas.Keys.{lt_irreflexive}
-use Rattle.ghs_levels.specs.Levels.{Taken, InClass, IsOfLevel}
-use Rattle.ghs_levels.specs.WaysUp.{IsTop, IsSub}
+use Rattle.ghs_levels.specs.Levels.{IsOfLevel}
 use Rattle.ghs_levels.proofs.lemmas.KeyOrder.{not_below_less}
-use Rattle.ghs_levels.proofs.lemmas.WaysUp.{classes_have_one_top, nodes_have_one_sub}
 use Rattle.ghs_node.specs.Words.{Best, better}
 use Rattle.ghs_protocol.specs.Network.{Network, network_of, At, InNetwork, far, far_port}
 use Rattle.ghs_protocol.proofs.lemmas.Wired.{IsWired}
-use Rattle.ghs_protocol.proofs.lemmas.Wires.{neighbour}
+use Rattle.ghs_protocol.proofs.lemmas.Wires.{at_in, neighbour}
 use Rattle.ghs_protocol.proofs.lemmas.Graphs.{graph_wired}
 use Rattle.ghs_protocol.proofs.lemmas.Updates.{put_same, put_other}
 use Rattle.peer_machine.specs.Net.{Net, put, reacted, take_first}
@@ -30,11 +28,15 @@ use Rattle.boruvka_protocol.proofs.invariant.Nodes.{NodeFits, AwakeFits}
 use Rattle.boruvka_protocol.proofs.invariant.Children.{HasReported}
 use Rattle.boruvka_protocol.proofs.invariant.TreeMessages.{ReportFits}
 use Rattle.boruvka_protocol.proofs.invariant.Search.{LacksSome, HasHeard, BestIsHeard, IsSearching, SearchFits}
-use Rattle.boruvka_protocol.proofs.invariant.Token.{HaltFits}
+use Rattle.boruvka_protocol.proofs.invariant.Token.{HaltFits, HaltsFit}
 use Rattle.boruvka_protocol.proofs.invariant.Whole.{Ground, LinkFits, LinksFit, Fits, NearlyFits}
+use Rattle.boruvka_protocol.proofs.levels.OneWay.{one_sub}
 use Rattle.boruvka_protocol.proofs.rows.Table.{still}
 use Rattle.boruvka_protocol.proofs.rows.Ports.{port_set, port_kept, mark_set, mark_kept}
 use Rattle.boruvka_protocol.proofs.rows.Acts.{Acts, acts_taken, fits_like, far_link, links_act}
+use Rattle.boruvka_protocol.proofs.rows.Alike.{SameHalted, PastStays}
+use Rattle.boruvka_protocol.proofs.rows.Tokens.{root_stays}
+use Rattle.boruvka_protocol.proofs.rows.OwnPorts.{port_below}
 use Rattle.boruvka_protocol.proofs.rows.Others.{taken_like, parent_like, nodes_act, waits_like}
 use Rattle.boruvka_protocol.proofs.rows.Late.{search_rest}
 use Rattle.boruvka_protocol.proofs.rows.Told.{reported_at, first_report, report_near, report_away}
@@ -70,10 +72,10 @@ module _ (gr : Shape) (ok : IsGraph gr) (w : Net State Message) (v j : ℕ) (k :
   wired = graph_wired gr ok
 
   here : InNetwork g v
-  here = record { some = at.some; node = at.node }
+  here = at_in at
 
   port : j < degree n
-  port = subst (λ x. j < x) (sym (fits.ground.nodes v).ports) at.port
+  port = port_below (fits.ground.nodes v) j at
 
   abbrev m : AtPort
   m = at_port (w.node u) (far_port g v j)
@@ -217,16 +219,6 @@ module _ (gr : Shape) (ok : IsGraph gr) (w : Net State Message) (v j : ℕ) (k :
   class_there = subst (λ y. IsOfLevel gr.keys y u) report.sender_level
       (fits.nodes u (record { some = (wired.there v j at).some; node = (wired.there v j at).node }) (λ s. cc (report.sender_rest, s))).class
 
-  one_sub : (x c : Key) → IsSubAt gr.keys l u x → IsSubAt gr.keys l u c → x ≡ c
-  one_sub x c s t = ⊎_elim
-      (λ o. o.2 x (subst (λ y. IsSub gr.keys (Taken gr.keys l) y u x) (top.3 s.root s.top) s.sub)
-      ∙ sym (o.2 c (subst (λ y. IsSub gr.keys (Taken gr.keys l) y u c) (top.3 t.root t.top) t.sub)))
-      (λ none_leaves. absurd (none_leaves c (subst (λ y. IsSub gr.keys (Taken gr.keys l) y u c) (top.3 t.root t.top) t.sub).is))
-      (nodes_have_one_sub gr ok l u top.0 top.1)
-    where
-      top : (y : ℕ) × IsTop gr.keys l u y × InClass gr.keys l u y × ((s : ℕ) → IsTop gr.keys l u s → s ≡ y)
-      top = classes_have_one_top gr ok l u class_there
-
   -- whoever is heard now was heard, or is the child at j
   by_place : {P : Type 0} (p : ℕ) (x : Key) → IsHeard p x → (IsSubAt gr.keys l u x → P) → (WasHeard p x → P) → P
   by_place p x h own other = ⊎_elim (λ e. own (sub_here p x e h)) (λ ne. other (else_heard p x ne h)) (cases_eq p j)
@@ -241,20 +233,20 @@ module _ (gr : Shape) (ok : IsGraph gr) (w : Net State Message) (v j : ℕ) (k :
   best_now (Some s) sub None h = (
     heard_here s sub,
     λ p x y. by_place p x y
-        (λ t. subst (λ (z : Key). key_lt z s ≡ false) (sym (one_sub x s t sub)) (lt_irreflexive s))
+        (λ t. subst (λ (z : Key). key_lt z s ≡ false) (sym (one_sub gr ok l u x s class_there t sub)) (lt_irreflexive s))
         (λ t. absurd (h p x t)),
   )
   best_now (Some s) sub (Some c) h = ⊎_elim
       (λ less. subst (λ z. BestIsHeard gr.keys g v now fars left (cond z (Some (j, s)) (Some c))) (sym less) (
         heard_here s sub,
         λ p x y. by_place p x y
-            (λ t. subst (λ (z : Key). key_lt z s ≡ false) (sym (one_sub x s t sub)) (lt_irreflexive s))
+            (λ t. subst (λ (z : Key). key_lt z s ≡ false) (sym (one_sub gr ok l u x s class_there t sub)) (lt_irreflexive s))
             (λ t. not_below_less x s c.1 (h.1 p x t) less),
       ))
       (λ same. subst (λ z. BestIsHeard gr.keys g v now fars left (cond z (Some (j, s)) (Some c))) (sym same) (
         heard_else c.0 c.1 (not_before c.0 c.1 h.0) h.0,
         λ p x y. by_place p x y
-            (λ t. subst (λ (z : Key). key_lt z c.1 ≡ false) (sym (one_sub x s t sub)) same)
+            (λ t. subst (λ (z : Key). key_lt z c.1 ≡ false) (sym (one_sub gr ok l u x s class_there t sub)) same)
             (h.1 p x),
       ))
       (cases_Bool (key_lt s c.1))
@@ -302,10 +294,10 @@ module _ (gr : Shape) (ok : IsGraph gr) (w : Net State Message) (v j : ℕ) (k :
       heads_like (λ h h'. SaysBy x p (w.node x).head.level h' (w.queue x p) → SaysBy x p (w.node x).head.level h (w.queue x p)) (λ h y. y) (λ y. y)
       (far g x p) (subst (λ q. SaysBy x p (w.node x).head.level (after.node (far g x p)).head q) (queue_same x p at_x ne) s)
 
-  halts : (x : ℕ) → (w.node x).head.halted ≡ (after.node x).head.halted
+  halts : SameHalted w after
   halts = heads_like (λ h h'. h.halted ≡ h'.halted) (λ h. refl) refl
 
-  halted_fits : (x : ℕ) → InNetwork g x → (after.node x).head.halted ≡ true → HaltFits gr.keys g after x (after.node x)
+  halted_fits : HaltsFit gr.keys g after
   halted_fits x at_x h = ⊎_elim
       (λ (e : x ≡ v).
       absurd (both_ways n.head.halted searching.goes_on (subst (λ y. (w.node y).head.halted ≡ true) e (halts x ∙ h))))
@@ -314,10 +306,10 @@ module _ (gr : Shape) (ok : IsGraph gr) (w : Net State Message) (v j : ℕ) (k :
       subst (λ (y : State). HaltFits gr.keys g after x y) (acts.others x ne) (record { whole = f.whole; root = f.root; rest = f.rest }))
       (cases_eq x v)
 
-  past_to : (i x : ℕ) → IsPast i (w.node x).head.level (w.node x).head.phase → IsPast i (after.node x).head.level (after.node x).head.phase
+  past_to : PastStays w after
   past_to i = heads_like (λ h h'. IsPast i h.level h.phase → IsPast i h'.level h'.phase) (λ h y. y) (λ y. y)
 
-  past_from : (i x : ℕ) → IsPast i (after.node x).head.level (after.node x).head.phase → IsPast i (w.node x).head.level (w.node x).head.phase
+  past_from : PastStays after w
   past_from i = heads_like (λ h h'. IsPast i h'.level h'.phase → IsPast i h.level h.phase) (λ h y. y) (λ y. y)
 
   -- with the ground, which every event keeps
@@ -346,8 +338,8 @@ module _ (gr : Shape) (ok : IsGraph gr) (w : Net State Message) (v j : ℕ) (k :
           i x
           (λ y way lv. heads_like (λ h h'. h.out ≡ h'.out) (λ h. refl) refl y)
           (λ y way lv. halts y)
-          (λ t. record { root = t.root; top = t.top; past = past_to i t.root t.past })
-          (λ t. record { root = t.root; top = t.top; past = past_from i t.root t.past })
+          (root_stays gr.keys g w after past_to i x)
+          (root_stays gr.keys g after w past_from i x)
           (fits.tokens.one i x at_x proper);
     };
   }

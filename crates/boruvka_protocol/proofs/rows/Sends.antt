@@ -28,6 +28,13 @@ module _ {M : Type 0} where
       (λ ne. sent_elsewhere s (a ++ b) i ne ∙ sent_append a b i ∙ sym (ap (λ x. x ++ sent_on b i) (sent_elsewhere s a i ne)))
       (cases_eq s.0 i)
 
+  -- one message that is sent on port p: behind what waits at its far end, and nothing elsewhere
+  pub sent_one : (q : List M) (p : ℕ) (m : M) → q ++ m ∷ [] ≡ q ++ sent_on ((p, m) ∷ []) p
+  sent_one q p m = ap (λ (x : List M). q ++ x) (sym (sent_here (p, m) [] p refl))
+
+  pub sent_none : (q : List M) (p : ℕ) (m : M) (i : ℕ) → i ≢ p → q ≡ q ++ sent_on ((p, m) ∷ []) i
+  sent_none q p m i ne = sym (append-nil q) ∙ ap (λ (x : List M). q ++ x) (sym (sent_elsewhere (p, m) [] i (λ e. ne (sym e))))
+
 module _ {S M : Type 0} (r : Rules S M) (g : Network) (wired : IsWired g) (v : ℕ) where
   one_sent : (i : ℕ) (s : ℕ × M) (w : Net S M) → At g v i →
       (send r g v w s).queue (far g v i) (far_port g v i) ≡ w.queue (far g v i) (far_port g v i) ++ sent_on (s ∷ []) i

@@ -1,5 +1,5 @@
 -- A Report comes in: what that keeps at the link, from both its ends. The node n stands at port p of v, and its far end has m.
-use Rattle.std.proofs.Common.{◌≡◌, ℕ, inr, true, false, Option, List, [], ◌∷◌, refl, sym, ap, subst}
+use Rattle.std.proofs.Common.{◌≡◌, ℕ, inr, false, Option, List, [], ◌∷◌, refl, sym, ap, subst}
 use Rattle.ghs_graph.specs.declared.key.Key.{Key}
 use Rattle.ghs_node.specs.Words.{Best}
 use Rattle.ghs_protocol.specs.Network.{Network}
@@ -10,14 +10,12 @@ use Rattle.boruvka_protocol.proofs.invariant.Connects.{Answered, Comes, Noted, C
 use Rattle.boruvka_protocol.proofs.invariant.TreeMessages as tree
 use Rattle.boruvka_protocol.proofs.invariant.TreeMessages.{ReportFits, CallsFit}
 use Rattle.boruvka_protocol.proofs.invariant.Whole.{LinkFits}
+use Rattle.boruvka_protocol.proofs.Unlike.{false_is_true}
 use Rattle.boruvka_protocol.proofs.rows.Late.{search_rest}
 
 -- the Report isn't owed any more, and best may be another
 abbrev pub reported_at : AtPort → Best → AtPort
 reported_at n b = record { port = record n.port { owes = false }; head = record n.head { best = b } }
-
-pub false_true : {P : Type 0} → false ≡ true → P
-false_true x = cc
 
 module _ (ks : List Key) where
   -- what a Report at the head of a queue says; nothing more waits behind it but Names
@@ -57,8 +55,8 @@ module _ (ks : List Key) where
         parent = h.children.parent;
       };
       owes = record {
-        child = λ o. false_true o;
-        open_yet = λ o. false_true o;
+        child = λ o. false_is_true o;
+        open_yet = λ o. false_is_true o;
         heard = λ s x up o. record {
           past = inr (report.sender_level, report.sender_rest);
           heard = λ y. sym (ap (λ (z : List Message). reports_in z) empty);

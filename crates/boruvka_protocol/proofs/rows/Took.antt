@@ -5,34 +5,36 @@ use Rattle.ghs_graph.specs.declared.key.Key.{Key}
 use Rattle.ghs_graph.specs.Graph.{Shape, IsGraph}
 use Rattle.ghs_graph.specs.Links.{Same}
 use Rattle.ghs_graph.proofs.lemmas.Joining.{joined_back}
-use Rattle.ghs_levels.specs.Levels.{Taken, InClass, IsOfLevel}
-use Rattle.ghs_levels.specs.WaysUp.{IsTop, IsUp, IsSub}
-use Rattle.ghs_levels.proofs.lemmas.WaysUp.{classes_have_one_top, others_have_one_way_up, tops_have_no_way_up}
+use Rattle.ghs_levels.specs.Levels.{Taken, InClass}
 use Rattle.ghs_node.specs.Words.{Best}
 use Rattle.ghs_protocol.specs.Network.{Network, network_of, port_at, At, InNetwork, far, far_port}
 use Rattle.ghs_protocol.proofs.lemmas.Wired.{IsWired}
-use Rattle.ghs_protocol.proofs.lemmas.Graphs.{same_key, graph_wired, graph_keyed}
-use Rattle.ghs_protocol.proofs.lemmas.Updates.{put_same, put_other, put_at_same, put_at_port, put_at_node, put_at_miss}
+use Rattle.ghs_protocol.proofs.lemmas.Graphs.{graph_wired}
+use Rattle.ghs_protocol.proofs.lemmas.Updates.{one_place, put_same, put_other, put_at_same, put_at_port, put_at_node, put_at_miss}
+use Rattle.ghs_protocol.proofs.lemmas.Wires.{at_in}
 use Rattle.peer_machine.specs.Net.{Net, put, take_first}
 use Rattle.boruvka_node.specs.declared.message.Message.{Message}
 use Rattle.boruvka_node.specs.declared.message.Message.TheVariants.{ChangeRoot}
-use Rattle.boruvka_node.specs.declared.message.Phase.TheVariants.{Sleeping, Rest}
 use Rattle.boruvka_node.specs.State.{State}
 use Rattle.boruvka_node.specs.Boruvka.{boruvka}
-use Rattle.boruvka_protocol.proofs.invariant.Words.{IsLeast, IsWayUp, IsSubAt}
+use Rattle.boruvka_protocol.proofs.invariant.Words.{IsLeast}
 use Rattle.boruvka_protocol.proofs.invariant.Sides.{Side, AtPort, at_port, side_of, far_side_of, calls_in, reports_in, passes_in}
 use Rattle.boruvka_protocol.proofs.invariant.Nodes.{NodeFits}
 use Rattle.boruvka_protocol.proofs.invariant.Search.{BestIsSub}
 use Rattle.boruvka_protocol.proofs.invariant.TreeMessages as tree
 use Rattle.boruvka_protocol.proofs.invariant.TreeMessages.{PassFits, CallsFit}
 use Rattle.boruvka_protocol.proofs.invariant.Token as token
-use Rattle.boruvka_protocol.proofs.invariant.Token.{Place, IsTokenAt, In_message, Gone_out, Gone_on, At_end, Token, RootIsPast, TokenFits}
+use Rattle.boruvka_protocol.proofs.invariant.Token.{Place, IsTokenAt, In_message, Gone_out, Gone_on, At_end, Token, TokenFits}
 use Rattle.boruvka_protocol.proofs.invariant.Whole.{LinkFits, LinksFit, Ground, Fits}
+use Rattle.boruvka_protocol.proofs.Unlike.{rest_is_sleeping}
+use Rattle.boruvka_protocol.proofs.levels.OneWay.{one_sub, one_port_up}
 use Rattle.boruvka_protocol.proofs.rows.Acts.{Acts, fits_like, far_link, links_one}
+use Rattle.boruvka_protocol.proofs.rows.Alike.{AsMany}
+use Rattle.boruvka_protocol.proofs.rows.Tokens.{TokensStay, token_stays, token_as, tokens_stay, root_as}
 use Rattle.boruvka_protocol.proofs.rows.Others.{taken_like, waits_like}
 use Rattle.boruvka_protocol.proofs.rows.Kept.{searches_act}
 use Rattle.boruvka_protocol.proofs.rows.AboutToMove.{TokensBut, AboutToMove}
-use Rattle.boruvka_protocol.proofs.rows.OutLink.{passes_called}
+use Rattle.boruvka_protocol.proofs.rows.Queues.{passes_called}
 use Rattle.boruvka_protocol.proofs.rows.Waits.{ReadsAs, waits_as}
 
 -- a message that is taken is an act by which the node stays as it is
@@ -51,30 +53,6 @@ acts_took g wired w v p m ms = record {
   queues = λ u q ne away. put_at_node w.queue v p u q ms ne;
 }
 
--- a node has one way up
-pub way_up_is_one : (g : Shape) → IsGraph g → (l v : ℕ) (j k : Key) → IsOfLevel g.keys l v → IsWayUp g.keys l v j → IsWayUp g.keys l v k → j ≡ k
-way_up_is_one g ok l v j k class a b = one.2 j a.up ∙ sym (one.2 k (subst (λ x. IsUp (Taken g.keys l) x v k) roots b.up))
-  where
-    top : (r : ℕ) × IsTop g.keys l v r × InClass g.keys l v r × ((s : ℕ) → IsTop g.keys l v s → s ≡ r)
-    top = classes_have_one_top g ok l v class
-
-    roots : b.root ≡ a.root
-    roots = top.3 b.root b.top ∙ sym (top.3 a.root a.top)
-
-    one : (i : Key) × IsUp (Taken g.keys l) a.root v i × ((x : Key) → IsUp (Taken g.keys l) a.root v x → x ≡ i)
-    one = others_have_one_way_up g ok l v a.root a.top
-        (λ e. tops_have_no_way_up g ok l v a.root a.top j (subst (λ x. IsUp (Taken g.keys l) a.root x j) e a.up))
-
--- and one least link that leaves from it or below it
-pub sub_is_one : (g : Shape) → IsGraph g → (l v : ℕ) (j k : Key) → IsOfLevel g.keys l v → IsSubAt g.keys l v j → IsSubAt g.keys l v k → j ≡ k
-sub_is_one g ok l v j k class a b = same_key j k (b'.least j a.sub.is) (a.sub.least k b'.is)
-  where
-    top : (r : ℕ) × IsTop g.keys l v r × InClass g.keys l v r × ((s : ℕ) → IsTop g.keys l v s → s ≡ r)
-    top = classes_have_one_top g ok l v class
-
-    b' : IsSub g.keys (Taken g.keys l) a.root v k
-    b' = subst (λ x. IsSub g.keys (Taken g.keys l) x v k) (top.3 b.root b.top ∙ sym (top.3 a.root a.top)) b.sub
-
 module _ (ks : List Key) where
   -- what a ChangeRoot at the head of a queue says; nothing more waits behind it but Names
   pub first_pass : (e f : Side) (rest : List Message) → CallsFit ks e f (ChangeRoot ∷ rest) → PassFits ks e f × (rest ≡ [])
@@ -89,9 +67,6 @@ module _ (ks : List Key) where
   some_pass e f _ (tree.Reported k d) lt = absurd (omega (arith, lt))
   some_pass e f _ (tree.Passed d) lt = d
 
-rest_awake : Rest ≡ Sleeping → ⊥
-rest_awake e = cc
-
 module _ (gr : Shape) (ok : IsGraph gr) (w : Net State Message) (v j : ℕ) (ms : List Message) (at : At (network_of gr) v j)
     (fits : Fits gr.keys (network_of gr) w) (waits : w.queue v j ≡ ChangeRoot ∷ ms) where
   abbrev g : Network
@@ -104,7 +79,7 @@ module _ (gr : Shape) (ok : IsGraph gr) (w : Net State Message) (v j : ℕ) (ms 
   wired = graph_wired gr ok
 
   here : InNetwork g v
-  here = record { some = at.some; node = at.node }
+  here = at_in at
 
   abbrev l : ℕ
   l = (w.node v).head.level
@@ -166,7 +141,7 @@ module _ (gr : Shape) (ok : IsGraph gr) (w : Net State Message) (v j : ℕ) (ms 
       (cases_eq l 0)
 
   node : NodeFits ks v (w.node v)
-  node = fits.nodes v here (λ s. rest_awake (sym first.0.rest ∙ s))
+  node = fits.nodes v here (λ s. rest_is_sleeping (sym first.0.rest ∙ s))
 
   -- The token.
 
@@ -177,35 +152,29 @@ module _ (gr : Shape) (ok : IsGraph gr) (w : Net State Message) (v j : ℕ) (ms 
   none_left : ◌≡◌ {A = ℕ} (passes_in (mid.queue v j)) 0
   none_left = ap (λ x. passes_in x) (put_at_same w.queue v j ms) ∙ sym (passes_called ms) ∙ ap (λ x. passes_in x) first.1
 
-  one_place : (y q : ℕ) → ((y ≡ v) × (q ≡ j)) ⊎ ((y ≡ v) × (q ≡ j) → ⊥)
-  one_place y q = ⊎_elim
-      (λ (e : y ≡ v). ⊎_elim (λ (x : q ≡ j). inl (e, x)) (λ ne. inr (λ z. ne z.1)) (cases_eq q j))
-      (λ ne. inr (λ z. ne z.0))
-      (cases_eq y v)
-
-  token_from : (i x : ℕ) (place : Place) → IsTokenAt ks g mid i x place → IsTokenAt ks g w i x place
-  token_from i x _ (In_message q at_q lv lt) = ⊎_elim
+  token_from : TokensStay ks g mid w
+  token_from i x place = token_stays ks g mid w i x place refl
+      (λ q at_q lt. ⊎_elim
       (λ e.
       let some : 0 < passes_in (mid.queue v j) =
       subst (λ y. 0 < passes_in (mid.queue v y)) e.1 (subst (λ y. 0 < passes_in (mid.queue y q)) e.0 lt) in
       absurd (omega (arith, some, none_left)))
-      (λ apart. In_message q at_q lv (subst (λ y. 0 < y) (sym (same_there x q apart)) lt))
-      (one_place x q)
-  token_from i x _ (Gone_out q at_q lv out) = Gone_out q at_q lv out
-  token_from i x _ (Gone_on k lt chosen end) = Gone_on k lt chosen end
-  token_from i x _ (At_end lv halted) = At_end lv halted
+      (λ apart. subst (λ y. 0 < y) (sym (same_there x q apart)) lt)
+      (one_place v j x q))
+      (λ lv q out. out)
+      (λ lv halted. halted)
 
   token_to : (i x : ℕ) (place : Place) → IsTokenAt ks g w i x place → IsTokenAt ks g mid i x place ⊎ ((l ≡ i) × (x ≡ v))
   token_to i x _ (In_message q at_q lv lt) = ⊎_elim
       (λ e. inr (subst (λ y. (w.node y).head.level ≡ i) e.0 lv, e.0))
       (λ apart. inl (In_message q at_q lv (subst (λ y. 0 < y) (same_there x q apart) lt)))
-      (one_place x q)
+      (one_place v j x q)
   token_to i x _ (Gone_out q at_q lv out) = inl (Gone_out q at_q lv out)
   token_to i x _ (Gone_on k lt chosen end) = inl (Gone_on k lt chosen end)
   token_to i x _ (At_end lv halted) = inl (At_end lv halted)
 
   from : (i u : ℕ) → Token ks g mid i u → Token ks g w i u
-  from i u t = record { node = t.node; place = t.place; inside = t.inside; in_network = t.in_network; at = token_from i t.node t.place t.at }
+  from = tokens_stay ks g mid w token_from
 
   was : Token ks g w l v
   was = record {
@@ -218,14 +187,11 @@ module _ (gr : Shape) (ok : IsGraph gr) (w : Net State Message) (v j : ℕ) (ms 
 
   -- no token of the class is left
   nowhere : Token ks g mid l v → ⊥
-  unfolding from was
+  unfolding from was tokens_stay
   nowhere t =
       let same = (fits.tokens.one l v here node.class).one (from l v t) was in
       go t.node t.place t.at same.0 same.1
     where
-      same_port : (q : ℕ) → At g v q → (port_at g v q).key ≡ (port_at g v j).key → q ≡ j
-      same_port q at_q e = ⊎_elim (λ x. x.1) (λ x. absurd (wired.apart v q at_q x.0)) (graph_keyed gr ok v q v j at_q at e)
-
       at_v : (q : ℕ) → At g v q → 0 < passes_in (mid.queue v q) → ⊥
       at_v q at_q lt = ⊎_elim
           (λ (e : q ≡ j).
@@ -235,7 +201,7 @@ module _ (gr : Shape) (ok : IsGraph gr) (w : Net State Message) (v j : ℕ) (ms 
           subst (λ y. 0 < y) (sym (passes_called (w.queue v q) ∙ same_there v q (λ z. ne z.1))) lt in
           let pass = some_pass ks (side_of g v q (at_port (w.node v) q)) (far_side_of g v q (at_port (w.node (far g v q)) (far_port g v q)))
           (calls_in (w.queue v q)) (fits.links v q at_q).calls some in
-          ne (same_port q at_q (way_up_is_one gr ok l v (port_at g v q).key (port_at g v j).key node.class pass.up first.0.up)))
+          ne (one_port_up gr ok l v q j node.class at_q at pass.up first.0.up))
           (cases_eq q j)
 
       go : (x : ℕ) (place : Place) → IsTokenAt ks g mid l x place → x ≡ v → place ≡ token.Waits → ⊥
@@ -245,24 +211,19 @@ module _ (gr : Shape) (ok : IsGraph gr) (w : Net State Message) (v j : ℕ) (ms 
       go x _ (At_end lv halted) e z = cc
 
   other : (i u : ℕ) → (i ≡ l → InClass ks l v u → ⊥) → TokenFits ks g w i u → TokenFits ks g mid i u
-  unfolding from
+  unfolding from tokens_stay
   other i u apart f = record {
-    some = λ x. to (f.some (record { root = x.root; top = x.top; past = x.past }));
+    some = λ x. to (f.some (root_as ks g mid w i u x x.past));
     one = λ s t. f.one (from i u s) (from i u t);
-    none = λ t. let x = f.none (from i u t) in record { root = x.root; top = x.top; past = x.past };
+    none = λ t. let x = f.none (from i u t) in root_as ks g w mid i u x x.past;
   }
     where
       to : Token ks g w i u → Token ks g mid i u
-      to t = record {
-        node = t.node;
-        place = t.place;
-        inside = t.inside;
-        in_network = t.in_network;
-        at = ⊎_elim
-            (λ x. x)
-            (λ e. absurd (apart (sym e.0) (joined_back (subst (λ x. InClass ks l u x) e.1 (subst (λ x. InClass ks x u t.node) (sym e.0) t.inside)))))
-            (token_to i t.node t.place t.at);
-      }
+      to t = token_as ks g w mid i u t
+          (⊎_elim
+          (λ x. x)
+          (λ e. absurd (apart (sym e.0) (joined_back (subst (λ x. InClass ks l u x) e.1 (subst (λ x. InClass ks x u t.node) (sym e.0) t.inside)))))
+          (token_to i t.node t.place t.at))
 
   tokens : TokensBut ks g mid v
   tokens = record {
@@ -290,10 +251,10 @@ module _ (gr : Shape) (ok : IsGraph gr) (w : Net State Message) (v j : ℕ) (ms 
       go (Some b) e h = record {
         best = b;
         is = e;
-        least = subst (λ x. IsLeast ks l v x) (sub_is_one gr ok l v first.0.least.0 b.1 node.class first.0.least.2 h.0) first.0.least.1;
+        least = subst (λ x. IsLeast ks l v x) (one_sub gr ok l v first.0.least.0 b.1 node.class first.0.least.2 h.0) first.0.least.1;
       }
 
-  as_many : (P : List Message → ℕ) → P (ChangeRoot ∷ ms) ≡ P ms → (u p : ℕ) → At g u p → P (w.queue u p) ≡ P (mid.queue u p)
+  as_many : (P : List Message → ℕ) → P (ChangeRoot ∷ ms) ≡ P ms → AsMany g P w mid
   as_many P none = waits_like ks g w mid v (w.node v) left [] acts wired here P
       (λ i at_i. taken_like P (w.queue v) j ChangeRoot ms waits none i) (λ i at_i. ap P (sym (append-nil _)))
 

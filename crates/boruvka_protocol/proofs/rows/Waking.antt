@@ -29,15 +29,19 @@ use Rattle.boruvka_protocol.proofs.invariant.Words.{IsPast, IsLeast, IsRoot}
 use Rattle.boruvka_protocol.proofs.invariant.Sides.{AtPort, at_port}
 use Rattle.boruvka_protocol.proofs.invariant.Nodes.{NodeFits, AwakeFits}
 use Rattle.boruvka_protocol.proofs.invariant.Search.{LacksSome, SearchFits}
-use Rattle.boruvka_protocol.proofs.invariant.Token.{Place, IsTokenAt, In_message, Gone_out, Gone_on, At_end, Token, RootIsPast, TokenFits}
+use Rattle.boruvka_protocol.proofs.invariant.Token.{Token, RootIsPast, TokenFits}
 use Rattle.boruvka_protocol.proofs.invariant.Whole.{LinksFit, Ground, Fits}
+use Rattle.boruvka_protocol.proofs.Unlike.{rest_is_search, sleeping_is_rest, basic_is_asked}
 use Rattle.boruvka_protocol.proofs.rows.Table.{gone, still}
 use Rattle.boruvka_protocol.proofs.rows.Acts.{Acts, acts_woken, fits_like, far_link, links_act}
+use Rattle.boruvka_protocol.proofs.rows.Alike.{SameLevels, PastStays}
+use Rattle.boruvka_protocol.proofs.rows.Tokens.{TokensStay, token_stays, tokens_stay, root_as, root_stays}
+use Rattle.boruvka_protocol.proofs.rows.Searches.{search_by}
 use Rattle.boruvka_protocol.proofs.rows.Others.{nodes_act}
+use Rattle.boruvka_protocol.proofs.rows.Kept.{variable_act}
 use Rattle.boruvka_protocol.proofs.rows.AboutToMove.{TokensBut}
-use Rattle.boruvka_protocol.proofs.rows.Placed.{search_by}
 use Rattle.boruvka_protocol.proofs.rows.Holding.{Holding, acts_then, out_fits}
-use Rattle.boruvka_protocol.proofs.rows.Woken.{asleep_at, woken_at, basic_asked, asleep_rest, rest_search, asleep_past, woken_near, woken_away}
+use Rattle.boruvka_protocol.proofs.rows.Woken.{asleep_at, woken_at, asleep_past, woken_near, woken_away}
 
 module _ (gr : Shape) (ok : IsGraph gr) (w : Net State Message) (v : ℕ) (here : InNetwork (network_of gr) v) (fits : Fits gr.keys (network_of gr) w)
     (asleep : (w.node v).head.phase ≡ Sleeping) where
@@ -89,15 +93,11 @@ module _ (gr : Shape) (ok : IsGraph gr) (w : Net State Message) (v : ℕ) (here 
 
   -- a variable that waking leaves
   same_at : {A : Type 0} (f : Head → A) → f (woken n).head ≡ f n.head → (u : ℕ) → f (w.node u).head ≡ f (woken_net.node u).head
-  same_at f e u = ⊎_elim
-      (λ (x : u ≡ v).
-      subst (λ y. f (w.node y).head ≡ f (woken_net.node y).head) (sym x)
-      (ap (λ (z : State). f z.head) is_sleeper ∙ sym e ∙ sym (ap (λ (z : State). f z.head) woken_is)))
-      (λ ne. ap (λ (z : State). f z.head) (woken_acts.others u ne))
-      (cases_eq u v)
+  same_at f e =
+      variable_act ks g w woken_net v (woken n) (w.queue v) [] woken_acts f (ap (λ (z : State). f z.head) is_sleeper ∙ sym e)
 
-  same_level : (u : ℕ) → ◌≡◌ {A = ℕ} (w.node u).head.level (woken_net.node u).head.level
-  same_level u = same_at (λ x. x.level) refl u
+  same_level : SameLevels w woken_net
+  same_level = same_at (λ x. x.level) refl
 
   pub woken_level : ◌≡◌ {A = ℕ} (woken_net.node v).head.level 0
   woken_level = ap (λ (x : State). x.head.level) woken_is
@@ -109,7 +109,7 @@ module _ (gr : Shape) (ok : IsGraph gr) (w : Net State Message) (v : ℕ) (here 
   never_past m h = asleep_past m (subst (λ x. IsPast m x Sleeping) level_before (subst (λ x. IsPast m (w.node v).head.level x) asleep h))
 
   -- who was past a level is so, and at levels above 0 nobody else
-  past_to : (m u : ℕ) → IsPast m (w.node u).head.level (w.node u).head.phase → IsPast m (woken_net.node u).head.level (woken_net.node u).head.phase
+  past_to : PastStays w woken_net
   past_to m u h = ⊎_elim
       (λ (e : u ≡ v). never_past m (subst (λ y. IsPast m (w.node y).head.level (w.node y).head.phase) e h))
       (λ ne. subst (λ (x : State). IsPast m x.head.level x.head.phase) (woken_acts.others u ne) h)
@@ -128,23 +128,18 @@ module _ (gr : Shape) (ok : IsGraph gr) (w : Net State Message) (v : ℕ) (here 
       below : m < (woken_net.node v).head.level → ⊥
       below lt = omega (arith, lt, woken_level)
 
-  token_to : (m x : ℕ) (place : Place) → IsTokenAt ks g w m x place → IsTokenAt ks g woken_net m x place
-  token_to m x _ (In_message q at lv lt) = In_message q at (sym (same_level x) ∙ lv) lt
-  token_to m x _ (Gone_out q at lv out) = Gone_out q at (sym (same_level x) ∙ lv) (sym (same_at (λ y. y.out) refl x) ∙ out)
-  token_to m x _ (Gone_on k lt chosen end) = Gone_on k (subst (λ y. m < y) (same_level x) lt) chosen end
-  token_to m x _ (At_end lv halted) = At_end (sym (same_level x) ∙ lv) (sym (same_at (λ y. y.halted) refl x) ∙ halted)
+  token_to : TokensStay ks g w woken_net
+  token_to m x place = token_stays ks g w woken_net m x place (same_level x) (λ q at lt. lt)
+      (λ lv q out. sym (same_at (λ y. y.out) refl x) ∙ out)
+      (λ lv halted. sym (same_at (λ y. y.halted) refl x) ∙ halted)
 
-  token_from : (m x : ℕ) (place : Place) → IsTokenAt ks g woken_net m x place → IsTokenAt ks g w m x place
-  token_from m x _ (In_message q at lv lt) = In_message q at (same_level x ∙ lv) lt
-  token_from m x _ (Gone_out q at lv out) = Gone_out q at (same_level x ∙ lv) (same_at (λ y. y.out) refl x ∙ out)
-  token_from m x _ (Gone_on k lt chosen end) = Gone_on k (subst (λ y. m < y) (sym (same_level x)) lt) chosen end
-  token_from m x _ (At_end lv halted) = At_end (same_level x ∙ lv) (same_at (λ y. y.halted) refl x ∙ halted)
-
-  to : (m u : ℕ) → Token ks g w m u → Token ks g woken_net m u
-  to m u t = record { node = t.node; place = t.place; inside = t.inside; in_network = t.in_network; at = token_to m t.node t.place t.at }
+  token_from : TokensStay ks g woken_net w
+  token_from m x place = token_stays ks g woken_net w m x place (sym (same_level x)) (λ q at lt. lt)
+      (λ lv q out. same_at (λ y. y.out) refl x ∙ out)
+      (λ lv halted. same_at (λ y. y.halted) refl x ∙ halted)
 
   from : (m u : ℕ) → Token ks g woken_net m u → Token ks g w m u
-  from m u t = record { node = t.node; place = t.place; inside = t.inside; in_network = t.in_network; at = token_from m t.node t.place t.at }
+  from = tokens_stay ks g woken_net w token_from
 
   -- v by itself is the class of level 0 whose token it holds
   nowhere : Token ks g w 0 v → ⊥
@@ -153,11 +148,12 @@ module _ (gr : Shape) (ok : IsGraph gr) (w : Net State Message) (v : ℕ) (here 
       never_past 0 (subst (λ y. IsPast 0 (w.node y).head.level (w.node y).head.phase) r.top r.past)
 
   other : (m u : ℕ) → (m ≡ 0 → InClass ks m v u → ⊥) → TokenFits ks g w m u → TokenFits ks g woken_net m u
-  unfolding from
+  unfolding from tokens_stay
   other m u apart f = record {
-    some = λ r. to m u (f.some (record { root = r.root; top = r.top; past = past_from m r.root (λ z. away r z.0 z.1) r.past }));
+    some = λ r. tokens_stay ks g w woken_net token_to m u
+        (f.some (root_as ks g woken_net w m u r (past_from m r.root (λ z. away r z.0 z.1) r.past)));
     one = λ s t. f.one (from m u s) (from m u t);
-    none = λ t. let r = f.none (from m u t) in record { root = r.root; top = r.top; past = past_to m r.root r.past };
+    none = λ t. root_stays ks g w woken_net past_to m u (f.none (from m u t));
   }
     where
       away : (r : RootIsPast ks g woken_net m u) → m ≡ 0 → r.root ≡ v → ⊥
@@ -173,7 +169,7 @@ module _ (gr : Shape) (ok : IsGraph gr) (w : Net State Message) (v : ℕ) (here 
           whole = λ o. f.whole (subst (λ y. HasWayOut ks y u) (sym (same_level u)) o);
           root = subst (λ y. IsRoot ks y u) (same_level u) f.root;
           rest = ⊎_elim
-              (λ (e : u ≡ v). asleep_rest (sym asleep ∙ subst (λ y. (w.node y).head.phase ≡ Rest) e f.rest))
+              (λ (e : u ≡ v). sleeping_is_rest (sym asleep ∙ subst (λ y. (w.node y).head.phase ≡ Rest) e f.rest))
               (λ ne. sym (ap (λ (y : State). y.head.phase) (woken_acts.others u ne)) ∙ f.rest)
               (cases_eq u v);
         };
@@ -189,7 +185,7 @@ module _ (gr : Shape) (ok : IsGraph gr) (w : Net State Message) (v : ℕ) (here 
     others = λ u at ne. subst (λ x. AwakeFits ks u x) (woken_acts.others u ne) (fits.nodes u at);
     links = mid_links;
     search = searches;
-    lacks = nodes_act ks g w woken_net v (woken n) (w.queue v) [] woken_acts (λ y x. LacksSome x) fits.lacks (λ s. rest_search s);
+    lacks = nodes_act ks g w woken_net v (woken n) (w.queue v) [] woken_acts (λ y x. LacksSome x) fits.lacks (λ s. rest_is_search s);
     rest = ap (λ (x : State). x.head.phase) woken_is;
     stays = ap (λ (x : State). x.head.out) woken_is;
     tokens = mid_tokens;
@@ -206,7 +202,7 @@ module _ (gr : Shape) (ok : IsGraph gr) (w : Net State Message) (v : ℕ) (here 
           })
           (nodes_act ks g w woken_net v (woken n) (w.queue v) [] woken_acts
           (λ y x. SearchFits ks g y x (λ q. (w.node (far g y q)).head) (λ q. w.queue y q)) fits.search
-          (record { search = λ s. rest_search s; rest = λ r lo. absurd (omega (arith, lo)) }) u at_u)
+          (record { search = λ s. rest_is_search s; rest = λ r lo. absurd (omega (arith, lo)) }) u at_u)
 
   -- With ports it goes out over the first one.
   module _ (some : 0 < degree (w.node v)) where
@@ -235,7 +231,7 @@ module _ (gr : Shape) (ok : IsGraph gr) (w : Net State Message) (v : ℕ) (here 
         (subst (λ (x : State). Acts g woken_net w' v (gone x 0) (w.queue v) ((0, Connect x.head.level) ∷ [])) (sym woken_is)
         (acts_then g w woken_net w' v (woken n) (gone (woken n) 0) (w.queue v) ((0, Connect 0) ∷ []) woken_acts a))
         (subst (λ (x : State). NodeFits ks v (gone x 0)) (sym woken_is) out_node)
-        (λ e. basic_asked (sym mark ∙ e)) ground'
+        (λ e. basic_is_asked (sym mark ∙ e)) ground'
       where
         mark : mark_at (woken_net.node v) 0 ≡ Basic
         mark = ap (λ (x : State). mark_at x 0) woken_is ∙ ap (λ (x : PortState). x.mark) (fresh 0 at_first)

@@ -1,18 +1,17 @@
 -- A sleeper wakes, before it goes out: what that keeps at each of its links, from both ends.
-use Rattle.std.proofs.Common.{◌≡◌, ℕ, inl, ⊎_elim, true, false, Some, None, List, refl, sym, subst, arith}
+use Rattle.std.proofs.Common.{ℕ, inl, ⊎_elim, List, refl, sym, subst, arith}
 use Rattle.ghs_graph.specs.declared.key.Key.{Key}
 use Rattle.ghs_levels.specs.Levels.{Taken}
 use Rattle.ghs_protocol.specs.Network.{Network}
-use Rattle.boruvka_node.specs.declared.mark.Mark.TheVariants.{Basic, Asked, Branch, Inside}
 use Rattle.boruvka_node.specs.declared.message.Message.{Message}
-use Rattle.boruvka_node.specs.declared.message.Phase.TheVariants.{Sleeping, Search, Rest}
+use Rattle.boruvka_node.specs.declared.message.Phase.TheVariants.{Sleeping, Rest}
 use Rattle.boruvka_node.specs.State.{fresh_port, untouched}
 use Rattle.boruvka_protocol.proofs.invariant.Words.{IsPast}
 use Rattle.boruvka_protocol.proofs.invariant.Sides.{Side, AtPort, side_of, far_side_of, calls_in}
-use Rattle.boruvka_protocol.proofs.invariant.Connects.{HasAsked, Waits, Has_begun, Answered, Comes, Noted, Called}
-use Rattle.boruvka_protocol.proofs.invariant.TreeMessages as tree
-use Rattle.boruvka_protocol.proofs.invariant.TreeMessages.{CallsFit}
+use Rattle.boruvka_protocol.proofs.invariant.Connects.{Answered, Comes, Noted, Called}
 use Rattle.boruvka_protocol.proofs.invariant.Whole.{LinkFits}
+use Rattle.boruvka_protocol.proofs.Unlike.{rest_is_search, sleeping_is_search, sleeping_is_rest, basic_is_branch, basic_is_inside, basic_is_asked, false_is_true, none_is_some}
+use Rattle.boruvka_protocol.proofs.rows.Parts.{calls_by, chosen_near}
 
 -- a sleeper at each of its ports, and the same awake
 abbrev pub asleep_at : AtPort
@@ -21,33 +20,9 @@ asleep_at = record { port = fresh_port; head = untouched }
 abbrev pub woken_at : AtPort
 woken_at = record { port = fresh_port; head = record untouched { phase = Rest } }
 
-basic_branch : {P : Type 0} → Basic ≡ Branch → P
-basic_branch e = cc
-
-basic_inside : {P : Type 0} → Basic ≡ Inside → P
-basic_inside e = cc
-
-pub basic_asked : {P : Type 0} → Basic ≡ Asked → P
-basic_asked e = cc
-
-pub asleep_search : {P : Type 0} → Sleeping ≡ Search → P
-asleep_search e = cc
-
-pub asleep_rest : {P : Type 0} → Sleeping ≡ Rest → P
-asleep_rest e = cc
-
-pub rest_search : {P : Type 0} → Rest ≡ Search → P
-rest_search e = cc
-
-pub nowhere_out : {P A : Type 0} (x : A) → None ≡ Some x → P
-nowhere_out x e = cc
-
-pub false_true : {P : Type 0} → false ≡ true → P
-false_true e = cc
-
 -- no sleeper is past a level
 pub asleep_past : {P : Type 0} (m : ℕ) → IsPast m 0 Sleeping → P
-asleep_past m h = ⊎_elim (λ lt. absurd (omega (arith, lt))) (λ b. asleep_rest b.1) h
+asleep_past m h = ⊎_elim (λ lt. absurd (omega (arith, lt))) (λ b. sleeping_is_rest b.1) h
 
 module _ (ks : List Key) (g : Network) (v i : ℕ) (m : AtPort) (q r : List Message) where
   module _ (h : LinkFits ks g v i asleep_at m q r) where
@@ -60,26 +35,11 @@ module _ (ks : List Key) (g : Network) (v i : ℕ) (m : AtPort) (q r : List Mess
     abbrev f : Side
     f = far_side_of g v i m
 
-    asked_near : (k : ℕ) → HasAsked ks k e f → HasAsked ks k e' f
-    asked_near k (Waits lv o) = Waits lv o
-    asked_near k (Has_begun lv least less mark) = Has_begun lv least less mark
-
-    calls_near : (x : List Message) → CallsFit ks e f x → CallsFit ks e' f x
-    calls_near _ tree.Nothing = tree.Nothing
-    calls_near _ (tree.Chosen k c) = tree.Chosen k (record {
-      chosen = record { least = c.chosen.least; past = c.chosen.past; sender = asked_near k c.chosen.sender };
-      finds = ⊎_elim (λ z. inl z) (λ z. asleep_search z.1) c.finds;
-    })
-    calls_near _ (tree.Called k name d) = asleep_rest d.rest
-    calls_near _ (tree.Chosen_called j k name c d) = asleep_rest d.rest
-    calls_near _ (tree.Reported k d) = asleep_search d.search
-    calls_near _ (tree.Passed d) = asleep_rest d.rest
-
     pub woken_near : LinkFits ks g v i woken_at m q r
     woken_near = record {
       marks = record {
-        branch = λ x. basic_branch x;
-        inside = λ x. basic_inside x;
+        branch = λ x. basic_is_branch x;
+        inside = λ x. basic_is_inside x;
         late = λ k lv. absurd (omega (arith, lv));
         leads_out = λ b lo. absurd (omega (arith, lo));
       };
@@ -94,13 +54,21 @@ module _ (ks : List Key) (g : Network) (v i : ℕ) (m : AtPort) (q r : List Mess
         near = h.names.near;
         rest = λ x lo. absurd (omega (arith, lo));
       };
-      connects = record { asked = λ x. basic_asked x; out = λ x. nowhere_out i x };
-      calls = calls_near (calls_in q) h.calls;
+      connects = record { asked = λ x. basic_is_asked x; out = λ x. none_is_some i x };
+      calls = calls_by ks e f e' f
+          (λ k c. record {
+            chosen = chosen_near ks g v i asleep_at woken_at f k c.chosen;
+            finds = ⊎_elim (λ z. inl z) (λ z. sleeping_is_search z.1) c.finds;
+          })
+          (λ k name d. sleeping_is_rest d.rest)
+          (λ k d. sleeping_is_search d.search)
+          (λ d. sleeping_is_rest d.rest)
+          (calls_in q) h.calls;
       children = record { child = λ up. absurd up.up.link; parent = λ up. absurd up.up.link };
       owes = record {
-        child = λ o. false_true o;
-        open_yet = λ o. false_true o;
-        heard = λ s. rest_search s;
+        child = λ o. false_is_true o;
+        open_yet = λ o. false_is_true o;
+        heard = λ s. rest_is_search s;
         rest = λ ne. refl;
       };
     }
@@ -115,14 +83,6 @@ module _ (ks : List Key) (g : Network) (v i : ℕ) (m : AtPort) (q r : List Mess
 
     abbrev t' : Side
     t' = far_side_of g v i woken_at
-
-    calls_away : (x : List Message) → CallsFit ks s t x → CallsFit ks s t' x
-    calls_away _ tree.Nothing = tree.Nothing
-    calls_away _ (tree.Chosen k c) = asleep_past k c.chosen.past
-    calls_away _ (tree.Called k name d) = asleep_search d.sender_search
-    calls_away _ (tree.Chosen_called j k name c d) = asleep_search d.sender_search
-    calls_away _ (tree.Reported k d) = asleep_rest d.sender_rest
-    calls_away _ (tree.Passed d) = tree.Passed (record { up = d.up; rest = d.rest; stays = d.stays; least = d.least })
 
     answer_away : Answered ks s t (calls_in q) (calls_in r) → Answered ks s t' (calls_in q) (calls_in r)
     answer_away (Comes one ne) = Comes one ne
@@ -156,14 +116,19 @@ module _ (ks : List Key) (g : Network) (v i : ℕ) (m : AtPort) (q r : List Mess
             let o = h.connects.out x in
             record { least = o.least; rest = o.rest; basic = o.basic; answer = answer_away o.answer; greater = o.greater };
       };
-      calls = calls_away (calls_in q) h.calls;
+      calls = calls_by ks s t s t'
+          (λ k c. asleep_past k c.chosen.past)
+          (λ k name d. sleeping_is_search d.sender_search)
+          (λ k d. sleeping_is_rest d.sender_rest)
+          (λ d. record { up = d.up; rest = d.rest; stays = d.stays; least = d.least })
+          (calls_in q) h.calls;
       children = record {
         child = λ up.
             let c = h.children.child up in
             record {
               level = c.level;
               behind = λ z. let b = c.behind z in record { search = b.search; rest = λ x. refl; called = b.called };
-              search = λ lv x. rest_search x;
+              search = λ lv x. rest_is_search x;
               rest = λ x. asleep_past m.head.level (c.rest x).past;
             };
         parent = λ up. let c = h.children.parent up in record { level = c.level; mark = c.mark; far_mark = c.far_mark };
