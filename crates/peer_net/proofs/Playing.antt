@@ -27,7 +27,7 @@ use Rattle.peer_machine.proofs.lemmas.Counts.{sent_in_all, taken_in_all, take_co
 use Rattle.peer_machine.proofs.lemmas.Runs.{after_is_net, after_more, net_after_more}
 use Rattle.peer_machine.proofs.lemmas.Sends.{nodes_put, sent_now, consumed_now}
 use Rattle.peer_net.specs.declared.counts.Counts.{Counts}
-use Rattle.peer_net.specs.NetState.{delivery, work_at}
+use Rattle.peer_net.specs.NetState.{delivery, work_at, AreSends}
 use Rattle.peer_net.specs.Queues.{Lists, HasQueue, queue_at, LeadToQueues, push_all}
 use Rattle.peer_net.specs.Counts.{CountsSends}
 use Rattle.peer_net.specs.Taking.{IsTake, WaitsAt, TakesFirst, TakesIn}
@@ -183,6 +183,10 @@ module _ {S M : Type 0} {r : Rules S M} {bound : Shape → ℕ} {g : Shape} {es 
     where
       same : (x : Outcome S M) → r.reaction (w.node v) (work_at w e) ≡ Some x → x ≡ o
       same x a = same_Some _ _ (sym a ∙ plays.answer)
+
+  -- the messages that go out
+  pub sends : AreSends r (record { graph = g; trace = es }) e o.sends
+  sends = (o, plays.answer, refl)
 
   abbrev next : Net S M
   next = reacted r (network_of g) v o (taken_net r g e w)

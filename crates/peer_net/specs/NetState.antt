@@ -1,13 +1,13 @@
 -- What a net is seen as: a graph and the events that were played on it.
-use Rattle.std.specs.Prelude.{◌≡◌, ℕ, true, List, [], ◌∷◌}
+use Rattle.std.specs.Prelude.{◌≡◌, ℕ, true, Some, List, [], ◌∷◌}
 use Rattle.ghs_graph.specs.Graph.{Shape}
 use Rattle.ghs_protocol.specs.declared.event.Event.{Event}
 use Rattle.ghs_protocol.specs.declared.event.Event.TheVariants as events
 use Rattle.ghs_protocol.specs.Network.{Network, network_of, At}
 use Rattle.peer_machine.specs.declared.work.Work.{Work}
 use Rattle.peer_machine.specs.declared.work.Work.TheVariants.{Wake, Deliver}
-use Rattle.peer_machine.specs.Rules.{Rules}
-use Rattle.peer_machine.specs.Net.{Net, is_lawful}
+use Rattle.peer_machine.specs.Rules.{Rules, Outcome, Outgoing}
+use Rattle.peer_machine.specs.Net.{Net, event_node, is_lawful}
 use Rattle.peer_machine.specs.Run.{net_after}
 
 pub record NetState : Type 0 where
@@ -33,6 +33,11 @@ delivery p (m ∷ ms) = Deliver p m
 abbrev pub work_at : {S M : Type 0} → Net S M → Event → Work M
 work_at w (events.Wake v) = Wake
 work_at w (events.Take v p) = delivery p (w.queue v p)
+
+-- the messages of the reaction of the event's node to what the event brings it
+abbrev pub AreSends : {S M : Type 0} → Rules S M → NetState → Event → Outgoing M → Type 0
+AreSends {S} {M} r s e ss =
+    (o : Outcome S M) × (r.reaction ((net_of r s).node (event_node e)) (work_at (net_of r s) e) ≡ Some o) × (ss ≡ o.sends)
 
 -- no message waits at any port
 abbrev pub IsSilent : {S M : Type 0} → Network → Net S M → Type 0

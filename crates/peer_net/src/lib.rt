@@ -1,11 +1,12 @@
 //! The net of one thread, of any protocol: all nodes and all queues, and the list of what has happened.
 //!
 //! Proved, for each protocol P: a `Net<P>` is the machine's net after its trace, by the rules of P. `Net::play` makes
-//! exactly the one event and appends it (`event`, `trace`); where an allocation is refused the net is as it was (`err`). A
-//! rule is never missing, by the law of P. `ledger` balances, and is within the bound of P (`counts`, `bound`).
+//! exactly the one event, appends it, and answers what its node has sent (`event`, `trace`, `sends`); where an allocation is
+//! refused the net is as it was (`err`). A rule is never missing, by the law of P. `ledger` balances, and is within the bound
+//! of P (`counts`, `bound`).
 //!
-//! `play` takes the time of the reaction and of its sends. Nodes are numbered from 1, ports from 0. Next: `peer_echo`, a
-//! protocol that runs in it.
+//! `play` takes the time of the reaction and of its sends. Nodes are numbered from 1, ports from 0. Next: `peer_runs`, which
+//! plays events by a seed and plays runs again, and `peer_echo`, a protocol that runs in it.
 #![tactic(auto)]
 
 mod counts;

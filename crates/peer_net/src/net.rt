@@ -4,7 +4,7 @@ ghost use Rattle.ghs_graph.specs.Graph.{IsGraph};
 ghost use Rattle.ghs_protocol.specs.Network.{network_of, At};
 ghost use Rattle.peer_machine.specs.Net.{opening, event_node, happens, is_lawful, is_node, is_port};
 ghost use Rattle.peer_machine.specs.Run.{IsRun};
-ghost use Rattle.peer_net.specs.NetState.{network, net_of, work_at, IsLawful, IsSilent};
+ghost use Rattle.peer_net.specs.NetState.{network, net_of, work_at, AreSends, IsLawful, IsSilent};
 ghost use Rattle.peer_net.specs.Ledger.{IsLedger, IsWithin};
 
 use crate::counts::{Counts, count_sends};
@@ -53,8 +53,8 @@ impl<P: Protocol> Net<P> {
     /// ```text
     /// let mut net = Net::<Echo>::open(alloc, graph)?;           // an Err hands the graph back
     /// let event = Event::Wake(1);                               // lawful: net.lawful(event)
-    /// net.play(alloc, event)?;
-    /// // net.trace() is [Event::Wake(1)], and node 1 is awake
+    /// let sends = net.play(alloc, event)?;
+    /// // net.trace() is [Event::Wake(1)], node 1 is awake, and sends are what it has sent, each with its port
     /// ```
     pub fn open(alloc: Global, graph: Graph) -> Result<Net<P>, (Graph, AllocError)>
         ensures graph { IfOk result (λ n. n.graph ≡ graph) }
@@ -144,13 +144,18 @@ impl<P: Protocol> Net<P> {
         self.counts.queued == 0
     }
 
-    /// Plays an event: its node takes the message, reacts, and its messages go out. If an allocation is refused the net is
-    /// as it was.
-    pub fn play(&mut self, alloc: Global, event: Event) -> Result<(), AllocError>
+    /// Plays an event: its node takes the message, reacts, and its messages go out. Answers these messages, each with its
+    /// port, in the order of sending. If an allocation is refused the net is as it was.
+    pub fn play(
+        &mut self,
+        alloc: Global,
+        event: Event,
+    ) -> Result<Vec<(u32, P::Message)>, AllocError>
         requires lawful { IsLawful P.rules self.old event }
         ensures graph { self.new.graph ≡ self.old.graph }
         ensures trace { OnOk result (self.new.trace ≡ self.old.trace ++ event ∷ []) }
         ensures event { OnOk result (happens P.rules (network self.old) (net_of P.rules self.old) event ≡ Some (net_of P.rules self.new)) }
+        ensures sends { IfOk result (λ s. AreSends P.rules self.old event s.items) }
         ensures err { OnErr result (self.new.trace ≡ self.old.trace) }
     {
         let task = self.task(event);
@@ -162,7 +167,7 @@ impl<P: Protocol> Net<P> {
         take_in::<P>(&mut self.queues, &mut self.counts, event);
         P::apply(&mut self.nodes[at], &answer.change);
         self.trace.push_reserved(event);
-        Ok(())
+        Ok(answer.sends)
     }
 
     /// The node of an event, and what the event gives it to do.

@@ -3,7 +3,7 @@ use Rattle.std.proofs.lemmas.List.{get_or_default}
 use Rattle.ghs_protocol.specs.Network.{network_of}
 use Rattle.peer_machine.specs.Net.{event_node}
 use Rattle.peer_machine.proofs.lemmas.Events.{happens_so}
-use Rattle.peer_net.proofs.Playing.{promises_of, can_react, plays_of, node_inside, lead, sends_on, fits_sent, fits_total, waits, fits_taken, some_queued, keeps, happens, next_is}
+use Rattle.peer_net.proofs.Playing.{promises_of, can_react, plays_of, node_inside, lead, sends_on, fits_sent, fits_total, waits, fits_taken, some_queued, keeps, happens, next_is, sends}
 use Rattle.peer_net.proofs.net.Net.play.Goals as goal
 
 pub react-requires : goal.react-requires
@@ -122,3 +122,13 @@ returns-clause-event g c =
     let items = c.push_reserved.ensures.items ∙ ap (λ l. l ++ c.args.event ∷ []) c.reserve.ensures.items in
     rw (← c.self.view_is, items)
     (happens_so g.P.Protocol.rules (network_of c.self.inside.graph) (happens plays) ∙ ap (λ x. Some x) (sym (next_is plays)))
+
+pub returns-clause-sends : goal.returns-clause-sends
+returns-clause-sends g c =
+    let p = promises_of g.met.P.Protocol.has_kinds g.met.P.Protocol.has_rules g.met.P.Protocol.is_bounded g.met.P.Protocol.bound_fits in
+    let lawful = rw (← c.self.view_is) at c.requires.lawful in
+    let work = rw (← c.self.view_is) at c.task-task.ensures.work in
+    let plays =
+    plays_of c.args.event p c.self.invariant lawful c.task-task.result.node c.task-task.ensures.node c.index.result.now c.index.ensures
+    c.task-task.result.work work _ c.in_ok-answer.ensures in
+    rw (← c.self.view_is) (sends plays)

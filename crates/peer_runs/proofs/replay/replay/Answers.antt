@@ -1,0 +1,15 @@
+use Rattle.std.proofs.Common.{ap, length, sym, ◌∙◌}
+use Rattle.peer_net.specs.NetState.{NetState}
+use Rattle.peer_runs.proofs.Replaying.{first_unlawful, never_unlawful}
+use Rattle.peer_runs.proofs.replay.replay.Goals as goal
+
+pub returns-then-not-is_ready-clause-fault : goal.returns-then-not-is_ready-clause-fault
+returns-then-not-is_ready-clause-fault g c =
+    first_unlawful g.P.Protocol.rules c.args.graph c.args.wake c.args.events.now c.loop-event.event-index (length c.trace.result.now)
+    c.loop-event.world _ c.loop-event.invariant c.loop-event-test.true (sym c.is_ready.ensures ∙ c.if-not-is_ready.true) c.net.ensures.run
+    (ap length (c.trace.ensures.trace ∙ ap (λ (n : NetState). n.trace) c.net.ensures.net))
+
+pub returns-then-not-is_ready-clause-run : goal.returns-then-not-is_ready-clause-run
+returns-then-not-is_ready-clause-run g c =
+    λ is_run.
+    absurd (never_unlawful g.P.Protocol.rules c.args.graph c.args.wake c.args.events.now _ is_run (returns-then-not-is_ready-clause-fault g c))

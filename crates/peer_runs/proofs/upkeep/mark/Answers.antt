@@ -1,0 +1,9 @@
+use Rattle.ghs_world.proofs.lemmas.Leaving.{marked_one}
+use Rattle.peer_net.specs.NetState.{network}
+use Rattle.peer_runs.specs.WorldState.{lawful_in}
+use Rattle.peer_runs.proofs.upkeep.mark.Goals as goal
+
+pub returns : goal.returns
+returns g c =
+    marked_one (network c.args.net.now) (lawful_in g.P.Protocol.rules c.args.net.now c.args.wake) c.args.event c.args.index.now c.set.new.self
+    c.may_happen.result (rw c.graph.ensures at c.set.ensures) c.may_happen.ensures c.requires.place
