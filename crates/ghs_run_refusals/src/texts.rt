@@ -19,6 +19,9 @@ use ghs_steps::choice::Choice;
 use ghs_steps::form::Form;
 use ghs_steps::show::{StepsFault, write_steps};
 use ghs_world::wake_set::WakeSet;
+use peer_trace::fault::StoredFault;
+use peer_trace::protocol::Protocol;
+use peer_trace::trace::{read_trace_of, write_trace_of};
 use std::alloc::{AllocError, Global};
 use std::process::Abort;
 use std::test::Fail;
@@ -35,11 +38,12 @@ const ALL: Choice = Choice {
     node: None,
 };
 
-/// The text of a tree, of a run, and of the page round a text.
+/// The text of a tree, of a run, of one that names its protocol, and of the page round a text.
 #[derive(Clone, Copy)]
 enum Made {
     Tree,
     Trace,
+    Stored,
     Page,
 }
 
@@ -49,6 +53,7 @@ fn text_of(alloc: Global, events: &[Event], made: Made) -> Result<Vec<u8>, Alloc
     match made {
         Made::Tree => tree_text(alloc, &[LINK; 3]),
         Made::Trace => write_trace(alloc, events),
+        Made::Stored => write_trace_of(alloc, Protocol::Boruvka, events),
         Made::Page => page(alloc, b"{}\n"),
     }
 }
@@ -76,6 +81,20 @@ fn read(rt: &impl Abort, alloc: Global, events: &[Event], k: usize) -> Turn {
     match answer {
         Ok(found) => assert!(rt; found.as_slice() == events),
         Err(fault) => assert!(rt; fault == TraceFault::Memory),
+    }
+    turn
+}
+
+/// The events of the text of a run that names its protocol.
+fn read_stored(rt: &impl Abort, alloc: Global, events: &[Event], k: usize) -> Turn {
+    assert!(rt; events.len() as u64 <= EVENT_LIMIT);
+    let text = write_trace_of(alloc, Protocol::Boruvka, events).expect(rt, "a text");
+    order(alloc, k);
+    let answer = read_trace_of(alloc, Protocol::Boruvka, &text);
+    let turn = turn_of(alloc, k, &answer);
+    match answer {
+        Ok(found) => assert!(rt; found.as_slice() == events),
+        Err(fault) => assert!(rt; fault == StoredFault::Trace(TraceFault::Memory)),
     }
     turn
 }
@@ -134,9 +153,10 @@ fn push(rt: &impl Abort, alloc: Global, k: usize) -> Turn {
     turn
 }
 
-static MADE: [(&str, Made); 3] = [
+static MADE: [(&str, Made); 4] = [
     ("tree_text", Made::Tree),
     ("write_trace", Made::Trace),
+    ("write_trace_of", Made::Stored),
     ("page", Made::Page),
 ];
 
@@ -157,7 +177,13 @@ fn texts(host: HostRuntime) -> Result<(), Fail> {
     let (rt, alloc) = (&host, host.alloc());
     let events = events_of_run(alloc).expect(rt, "a run");
     refuse_made(rt, alloc, &events, &MADE)?;
-    refuse(rt, alloc, "read_trace", |k| read(rt, alloc, &events, k))
+    refuse(rt, alloc, "read_trace", |k| read(rt, alloc, &events, k))?;
+    refuse(
+        rt,
+        alloc,
+        "read_trace_of",
+        |k| read_stored(rt, alloc, &events, k),
+    )
 }
 
 fn refuse_lines<R: Print + Abort>(

@@ -1,0 +1,59 @@
+-- Worked examples, computed from the definitions. A line feed stands behind each `line`.
+use Rattle.std.specs.Prelude.{ℕ, ◌≡◌, List, [], ◌∷◌, ◌++◌, codes, refl, Some, None}
+use Rattle.std.specs.Fmt.{digits}
+use Rattle.ghs_protocol.specs.declared.event.Event.TheVariants as event
+use Rattle.ghs_sched.specs.declared.line.Line.TheVariants.{Passed, Malformed, Head, Wake, Take}
+use Rattle.peer_trace.specs.Head.{protocol_in}
+use Rattle.peer_trace.specs.Reading.{says}
+use Rattle.peer_trace.specs.Text.{stored_text}
+use Rattle.peer_trace.specs.declared.protocol.Protocol.TheVariants.{Ghs, Boruvka}
+
+abbrev line : List ℕ → List ℕ
+line bytes = bytes ++ (10 ∷ [])
+
+-- texts written
+
+of_ghs : stored_text Ghs (event.Wake 12 ∷ []) ≡ line (codes "trace 1") ++ line (codes "wake 12")
+unfolding digits
+of_ghs = refl
+
+of_boruvka : stored_text Boruvka (event.Wake 12 ∷ []) ≡ line (codes "trace boruvka 1") ++ line (codes "wake 12")
+unfolding digits
+of_boruvka = refl
+
+-- what a head names
+
+ghs_named : protocol_in (line [] ++ codes "trace 3") ≡ Some Ghs
+ghs_named = refl
+
+boruvka_named : protocol_in (line (codes " ") ++ line (codes "trace  boruvka x") ++ codes "trace 3") ≡ Some Boruvka
+boruvka_named = refl
+
+none_for_ghs : protocol_in (codes "trace ghs 3") ≡ None
+none_for_ghs = refl
+
+none_without_count : protocol_in (codes "trace") ≡ None
+none_without_count = refl
+
+-- the count of a run of GHS may be any field
+boruvka_as_count : protocol_in (codes "trace boruvka") ≡ Some Ghs
+boruvka_as_count = refl
+
+none_in_a_text_without_fields : protocol_in (line (codes " ") ++ line []) ≡ None
+none_in_a_text_without_fields = refl
+
+none_behind_another_line : protocol_in (line (codes "wake 1") ++ codes "trace 3") ≡ None
+none_behind_another_line = refl
+
+-- what lines say
+
+without_the_name :
+    says (line [] ++ line (codes "trace boruvka 02") ++ line (codes "wake 1") ++ line [] ++ codes "take 1 0") ≡
+    Passed ∷ Head (Some 2) ∷ Wake (Some 1) ∷ Passed ∷ Take (Some 1) (Some 0) ∷ []
+without_the_name = refl
+
+a_name_in_a_later_line : says (line (codes "trace 1") ++ codes "trace boruvka 1") ≡ Head (Some 1) ∷ Malformed ∷ []
+a_name_in_a_later_line = refl
+
+a_name_that_is_none : says (codes "trace ghs 1") ≡ Malformed ∷ []
+a_name_that_is_none = refl

@@ -1,0 +1,49 @@
+-- The head of a stored run, which names its protocol.
+use Rattle.std.specs.Prelude.{ℕ, codes, cond, map, List, [], ◌∷◌, Option, Some, None}
+use Rattle.std.specs.Str.{bytes_eq}
+use Rattle.ghs_lines.specs.Fields.{fields_of}
+use Rattle.ghs_lines.specs.Lines.{lines_of}
+use Rattle.peer_trace.specs.Protocol.{name_of}
+use Rattle.peer_trace.specs.declared.protocol.Protocol.{Protocol}
+use Rattle.peer_trace.specs.declared.protocol.Protocol.TheVariants.{Ghs, Boruvka}
+
+-- the fields of a head: `trace COUNT` of GHS, and of another protocol its name between the two
+abbrev pub head_fields : Protocol → List ℕ → List (List ℕ)
+head_fields Ghs count = codes "trace" ∷ count ∷ []
+head_fields Boruvka count = codes "trace" ∷ name_of Boruvka ∷ count ∷ []
+
+-- the protocol that the fields behind a `trace` name
+abbrev pub named_behind : List (List ℕ) → Option Protocol
+named_behind (count ∷ []) = Some Ghs
+named_behind (name ∷ count ∷ []) = cond (bytes_eq name (name_of Boruvka)) (Some Boruvka) None
+named_behind _ = None
+
+-- the protocol that a line names as the head: none where its fields are no head's
+abbrev pub named_by : List (List ℕ) → Option Protocol
+named_by [] = None
+named_by (first ∷ more) = cond (bytes_eq first (codes "trace")) (named_behind more) None
+
+-- the lines of a text, each as its fields
+abbrev pub fields_in : List ℕ → List (List (List ℕ))
+fields_in text = map fields_of (lines_of text)
+
+-- the head of lines: the first that has fields
+abbrev pub first_fields : List (List (List ℕ)) → List (List ℕ)
+first_fields [] = []
+first_fields ([] ∷ more) = first_fields more
+first_fields ((first ∷ others) ∷ more) = first ∷ others
+
+-- the protocol that the head of a text names
+abbrev pub protocol_in : List ℕ → Option Protocol
+protocol_in text = named_by (first_fields (fields_in text))
+
+-- the fields of a head that names this protocol, without the name
+abbrev pub plain_head : Option Protocol → List (List ℕ) → List (List ℕ)
+plain_head (Some Boruvka) (first ∷ name ∷ more) = first ∷ more
+plain_head _ fields = fields
+
+-- the same lines, but that in the head no name stands
+abbrev pub plain_lines : List (List (List ℕ)) → List (List (List ℕ))
+plain_lines [] = []
+plain_lines ([] ∷ more) = [] ∷ plain_lines more
+plain_lines ((first ∷ others) ∷ more) = plain_head (named_by (first ∷ others)) (first ∷ others) ∷ more

@@ -1,0 +1,29 @@
+-- What a text is to who asks for a run of a protocol.
+use Rattle.std.specs.Prelude.{ℕ, ◌≡◌, ◌≢◌, map, List, Option, Some, None}
+use Rattle.ghs_protocol.specs.declared.event.Event.{Event}
+use Rattle.ghs_sched.specs.Line.{meaning_of}
+use Rattle.ghs_sched.specs.Reading.{HaveFault, IsTrace}
+use Rattle.ghs_sched.specs.declared.line.Line.{Line}
+use Rattle.peer_trace.specs.Head.{fields_in, plain_lines, protocol_in}
+use Rattle.peer_trace.specs.declared.fault.StoredFault.{StoredFault}
+use Rattle.peer_trace.specs.declared.fault.StoredFault.TheVariants.{Other, Trace}
+use Rattle.peer_trace.specs.declared.protocol.Protocol.{Protocol}
+
+-- what the lines of a text say, each as a line of a trace, the head without its protocol's name
+abbrev pub says : List ℕ → List Line
+says text = map meaning_of (plain_lines (fields_in text))
+
+-- the text is a run of this protocol with these events: its head names the protocol, and the lines are those of a trace
+pub record HasEventsOf (protocol : Protocol) (text : List ℕ) (events : List Event) : Type 0 where
+  pub named : protocol_in text ≡ Some protocol
+  pub trace : IsTrace (says text) events
+
+-- no protocol is named but this one
+abbrev pub IsNoOther : Protocol → Option Protocol → Type 0
+IsNoOther protocol None = Unit {0}
+IsNoOther protocol (Some named) = named ≡ protocol
+
+-- the text is no run of this protocol, for this fault: it is one of another protocol, or its lines are none of a trace
+abbrev pub HasFaultOf : Protocol → List ℕ → StoredFault → Type 0
+HasFaultOf protocol text (Other other) = (protocol_in text ≡ Some other) × (other ≢ protocol)
+HasFaultOf protocol text (Trace fault) = IsNoOther protocol (protocol_in text) × HaveFault (says text) fault

@@ -1,0 +1,17 @@
+-- The text of a stored run.
+use Rattle.std.specs.Prelude.{ℕ, codes, decimal, length, ◌++◌, List, [], ◌∷◌}
+use Rattle.std.specs.List.{flat_map}
+use Rattle.ghs_protocol.specs.declared.event.Event.{Event}
+use Rattle.ghs_sched.specs.Text.{event_text, head_text}
+use Rattle.peer_trace.specs.Protocol.{name_of}
+use Rattle.peer_trace.specs.declared.protocol.Protocol.{Protocol}
+use Rattle.peer_trace.specs.declared.protocol.Protocol.TheVariants.{Ghs, Boruvka}
+
+-- `trace COUNT`, or with the protocol's name between the two
+abbrev pub named_head_text : Protocol → ℕ → List ℕ
+named_head_text Ghs count = head_text count
+named_head_text Boruvka count = codes "trace " ++ name_of Boruvka ++ codes " " ++ decimal count ++ 10 ∷ []
+
+-- the head, and a line for each event
+abbrev pub stored_text : Protocol → List Event → List ℕ
+stored_text protocol events = named_head_text protocol (length events) ++ flat_map event_text events

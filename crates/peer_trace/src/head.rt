@@ -1,0 +1,75 @@
+//! The head of a text: which protocol it names, and the text without that name.
+ghost use Rattle.ghs_lines.specs.Fields.{fields_of};
+ghost use Rattle.peer_trace.specs.Head.{fields_in, head_fields, named_behind, named_by, plain_lines, protocol_in};
+ghost use Rattle.std.specs.Prelude.{IfNone, IfOk, IfSome, None, codes, ◌∷◌, ◌≡◌};
+
+use crate::protocol::Protocol;
+use ghs_lines::fields::{next_field, one_field, two_fields};
+use ghs_lines::lines::next_line;
+use std::alloc::{AllocError, Global};
+
+/// The protocol that a text's head names.
+pub(crate) fn protocol_of(text: &[u8]) -> Option<Protocol>
+    ensures { result ≡ protocol_in text.now }
+{
+    let mut rest = text;
+    'lines: while let Some((line, after)) = next_line(rest) {
+        if next_field(line).is_some() {
+            let (protocol, _) = head_of(line)?;
+            return Some(protocol);
+        }
+        rest = after;
+    }
+    None
+}
+
+/// The text without the name in its head, which has its lines one by one.
+pub(crate) fn without_name(alloc: Global, text: &[u8]) -> Result<Vec<u8>, AllocError>
+    ensures { IfOk result (λ plain. fields_in plain.items ≡ plain_lines (fields_in text.now)) }
+{
+    let mut plain = Vec::with_capacity(alloc, text.len())?;
+    let mut rest = text;
+    'lines: while let Some((line, after)) = next_line(rest) {
+        if let Some((_, count)) = head_of(line) {
+            plain.extend_from_slice(b"trace ")?;
+            plain.extend_from_slice(count)?;
+            plain.extend_from_slice(b"\n")?;
+            plain.extend_from_slice(after)?;
+            return Ok(plain);
+        }
+        if next_field(line).is_some() {
+            plain.extend_from_slice(rest)?;
+            return Ok(plain);
+        }
+        plain.extend_from_slice(b"\n")?;
+        rest = after;
+    }
+    Ok(plain)
+}
+
+/// The protocol that a line names as a head, and the field of its count.
+fn head_of(line: &[u8]) -> Option<(Protocol, &[u8])>
+    ensures some { IfSome result (λ x. fields_of line.now ≡ head_fields x.0 x.1.now) }
+    ensures none { IfNone result (named_by (fields_of line.now) ≡ None) }
+{
+    let (word, fields) = next_field(line)?;
+    match word {
+        b"trace" => behind_word(fields),
+        _ => None,
+    }
+}
+
+/// The same, from the fields behind the `trace`.
+fn behind_word(fields: &[u8]) -> Option<(Protocol, &[u8])>
+    ensures some { IfSome result (λ x. codes "trace" ∷ fields_of fields.now ≡ head_fields x.0 x.1.now) }
+    ensures none { IfNone result (named_behind (fields_of fields.now) ≡ None) }
+{
+    if let Some(count) = one_field(fields) {
+        return Some((Protocol::Ghs, count));
+    }
+    let (name, count) = two_fields(fields)?;
+    if name != Protocol::Boruvka.name().as_bytes() {
+        return None;
+    }
+    Some((Protocol::Boruvka, count))
+}

@@ -1,0 +1,28 @@
+//! Laws of the definitions, which cost nothing to call.
+ghost use Rattle.peer_trace.specs.Laws.{AreReadAsBefore, HasOneProtocol, IsOneReadingOf, ReadsBackOf};
+ghost use Rattle.peer_trace.specs.declared.protocol.Protocol.{Protocol};
+ghost use Rattle.std.specs.Prelude.{List, ℕ};
+
+use ghs_sched::laws::{law_one_reading, law_trace};
+
+/// Within the limits the text of a run of a protocol has these events and no others, and no fault; and whoever asks for
+/// another protocol is told this one.
+pub fn law_stored_trace()
+    ensures { ReadsBackOf }
+{
+    law_trace();
+}
+
+/// Of each protocol a text has one list of events or one fault, and never two. It has events of one protocol at most.
+pub fn law_one_stored_reading()
+    ensures reading { (protocol : Protocol) (text : List ℕ) → IsOneReadingOf protocol text }
+    ensures protocol { (text : List ℕ) → HasOneProtocol text }
+{
+    law_one_reading();
+}
+
+/// A text is a run of GHS exactly where it is a trace's text without any name, and with the same events; its faults are
+/// those of a trace's text, but where it names another protocol.
+pub fn law_ghs_trace()
+    ensures { (text : List ℕ) → AreReadAsBefore text }
+{}
