@@ -1,0 +1,11 @@
+//! Borůvka in step as a protocol that runs: the node of `boruvka_node` with the laws of `boruvka_protocol`, given to
+//! `peer_net` as an `impl` of `Protocol`.
+//!
+//! Proved: nodes open, react and change as the rules `boruvka` say; in every run of every graph each lawful event has a rule,
+//! and at most 2EK + 3NK + N messages are sent, for N nodes, E links and K the floor of log2 N (the laws of the `impl`).
+//!
+//! So a `Net<Boruvka>` is the net of its run, and what `boruvka_protocol` proves of every run holds of it. Next:
+//! `boruvka_report`, the text of a run that has ended.
+#![tactic(auto)]
+
+pub mod protocol;

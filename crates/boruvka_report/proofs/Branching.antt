@@ -1,0 +1,119 @@
+-- The links that are found are the Branch links, and at the end the forest.
+use Rattle.std.proofs.Common.{◌≡◌, ℕ, ◌≤◌, Bool, true, false, ◌||◌, List, refl, sym, ◌∙◌, ap, ap₂, subst, ⊎_elim, arith, Result, IfOk}
+use Rattle.std.specs.List.{Contains, filter}
+use Rattle.std.proofs.lemmas.Bool.{or_cases}
+use Rattle.std.proofs.lemmas.List.Kept.{AllPairs-filter}
+use Rattle.std.proofs.lemmas.Option.{slice_get_within, get_or_from_slice_get}
+use Rattle.std.proofs.lemmas.Result.{IfOk-weaker}
+use Rattle.ghs_graph.specs.declared.key.Key.{Key}
+use Rattle.ghs_graph.specs.declared.port.Port.{Port}
+use Rattle.ghs_graph.specs.Graph.{Shape}
+use Rattle.ghs_graph.specs.Key.{key_lt}
+use Rattle.ghs_graph.specs.Laws.{HasTwoPorts}
+use Rattle.ghs_graph.specs.Links.{InTree, IsTree}
+use Rattle.ghs_graph.specs.Ports.{ports_of, port_number, port_on, no_port, HasPort}
+use Rattle.ghs_graph.proofs.lemmas.Joining.{joined_back}
+use Rattle.ghs_graph.proofs.lemmas.Members.{filter_has, in_filter}
+use Rattle.ghs_graph.proofs.lemmas.Ports.{links_have_two_ports}
+use Rattle.ghs_protocol.specs.Network.{network_of}
+use Rattle.ghs_protocol.proofs.lemmas.Graphs.{has_port, is_key, link_among}
+use Rattle.peer_machine.specs.Net.{Net}
+use Rattle.peer_machine.specs.Run.{IsNetOf}
+use Rattle.boruvka_node.specs.declared.mark.Mark.{Mark}
+use Rattle.boruvka_node.specs.declared.mark.Mark.TheVariants.{Basic, Asked, Branch, Inside}
+use Rattle.boruvka_node.specs.declared.message.Message.{Message}
+use Rattle.boruvka_node.specs.Words.{is_branch}
+use Rattle.boruvka_node.specs.State.{State, mark_at}
+use Rattle.boruvka_node.specs.Boruvka.{boruvka}
+use Rattle.boruvka_protocol.specs.Marks.{IsBranchLink, IsJoinedLink}
+use Rattle.boruvka_protocol.proofs.lemmas.Laws.{branch_links_in_tree, halt_is_end}
+use Rattle.boruvka_report.specs.Branches.{AreBranches, is_branch_at, is_branch_link}
+use Rattle.boruvka_report.specs.Ended.{HasEnded}
+
+branch_so : {m : Mark} → is_branch m ≡ true → m ≡ Branch
+branch_so {m = Basic} e = cc
+branch_so {m = Asked} e = cc
+branch_so {m = Branch} e = refl
+branch_so {m = Inside} e = cc
+
+or_true : (b : Bool) → (b || true) ≡ true
+or_true true = refl
+or_true false = refl
+
+module _ (g : Shape) (w : Net State Message) (is : IsNetOf boruvka g w) where
+  abbrev found : List Key
+  found = filter (is_branch_link g.keys w) g.keys
+
+  -- a port that is marked
+  by_port : (k : Key) (v : ℕ) → 1 ≤ v → v ≤ g.nodes → HasPort g.keys v (port_number g.keys v k) (port_on g.keys v k) →
+      is_branch_at g.keys w v k ≡ true → IsBranchLink (network_of g) w k
+  by_port k v lo hi has t = (
+    v,
+    port_number g.keys v k,
+    record { some = lo; node = hi; port = slice_get_within (ports_of g.keys v) (port_number g.keys v k) (port_on g.keys v k) has },
+    ap (λ (x : Port). x.key) (get_or_from_slice_get (ports_of g.keys v) (port_number g.keys v k) (port_on g.keys v k) no_port has),
+    branch_so t,
+  )
+
+  there : (k : Key) → Contains found k → IsBranchLink (network_of g) w k
+  there k h =
+      let u = in_filter (is_branch_link g.keys w) g.keys k h in
+      let two : HasTwoPorts g.keys k = links_have_two_ports g is.graph k u.0 in
+      let r = link_among g is.graph k u.0 in
+      ⊎_elim
+      (λ (a : is_branch_at g.keys w k.a k ≡ true). by_port k k.a r.0 (omega (arith, r.1, r.2)) two.at_a a)
+      (λ (b : is_branch_at g.keys w k.b k ≡ true). by_port k k.b (omega (arith, r.0, r.1)) r.2 two.at_b b)
+      (or_cases _ _ u.1)
+
+  -- the mark of a port on the link, by the number of the port there
+  marked : (k : Key) (v p u q : ℕ) → (v ≡ u) × (p ≡ q) → mark_at (w.node v) p ≡ Branch → is_branch (mark_at (w.node u) q) ≡ true
+  marked k v p u q e m = ap is_branch (sym (ap₂ (λ (x y : ℕ). mark_at (w.node x) y) e.0 e.1) ∙ m)
+
+  back : (k : Key) → IsBranchLink (network_of g) w k → Contains found k
+  back k l =
+      let has : Contains g.keys k = subst (λ (x : Key). Contains g.keys x) l.3 (is_key g is.graph l.0 l.1 l.2) in
+      let two : HasTwoPorts g.keys k = links_have_two_ports g is.graph k has in
+      filter_has (is_branch_link g.keys w) g.keys k has
+      (⊎_elim
+      (λ (e : (l.0 ≡ k.a) × (l.1 ≡ port_number g.keys k.a k)). at_a (marked k l.0 l.1 k.a (port_number g.keys k.a k) e l.4))
+      (λ (e : (l.0 ≡ k.b) × (l.1 ≡ port_number g.keys k.b k)). at_b (marked k l.0 l.1 k.b (port_number g.keys k.b k) e l.4))
+      (two.only l.0 l.1 _ (has_port g is.graph l.0 l.1 l.2) l.3))
+    where
+      at_a : is_branch_at g.keys w k.a k ≡ true → is_branch_link g.keys w k ≡ true
+      at_a t = ap (λ b. b || is_branch_at g.keys w k.b k) t
+
+      at_b : is_branch_at g.keys w k.b k ≡ true → is_branch_link g.keys w k ≡ true
+      at_b t = ap (λ b. is_branch_at g.keys w k.a k || b) t ∙ or_true (is_branch_at g.keys w k.a k)
+
+  branches_are : AreBranches (network_of g) w found
+  branches_are = record {
+    rising = AllPairs-filter (λ j k. key_lt j k ≡ true) (is_branch_link g.keys w) g.keys is.graph.rising;
+    all = λ k. (there k, back k);
+  }
+
+  -- at the end each link of the forest is Branch
+  of_forest : HasEnded g w → (k : Key) → InTree g.keys k → IsBranchLink (network_of g) w k
+  of_forest ended k tree =
+      let r = link_among g is.graph k tree.0 in
+      let end = ended k.a (record { some = r.0; node = omega (arith, r.1, r.2) }) in
+      let whole = (halt_is_end g w is end.0 end.1 end.3).0 in
+      let joined : IsJoinedLink (network_of g) w k = (whole k tree.0 (joined_back end.2)).0 tree in
+      (joined.0, joined.1, joined.2, joined.3, joined.4)
+
+  forest_is : HasEnded g w → IsTree g.keys found
+  forest_is ended = record {
+    rising = branches_are.rising;
+    has = λ k h. branch_links_in_tree g w is k (there k h);
+    all = λ k t. back k (of_forest ended k t);
+  }
+
+  -- the same of what calls answer
+  pub branches_told : {X E : Type 0} (f : X → List Key) (r : Result X E) → IfOk r (λ x. f x ≡ filter (is_branch_link g.keys w) g.keys) →
+      IfOk r (λ x. AreBranches (network_of g) w (f x))
+  branches_told f r h =
+      IfOk-weaker r (λ x. f x ≡ found) (λ x. AreBranches (network_of g) w (f x)) (λ x e. rw e branches_are) h
+
+  pub forest_told : {X E : Type 0} (f : X → List Key) (r : Result X E) → IfOk r (λ x. f x ≡ filter (is_branch_link g.keys w) g.keys) →
+      IfOk r (λ x. HasEnded g w → IsTree g.keys (f x))
+  forest_told f r h =
+      IfOk-weaker r (λ x. f x ≡ found) (λ x. HasEnded g w → IsTree g.keys (f x)) (λ x e ended. rw e (forest_is ended)) h
