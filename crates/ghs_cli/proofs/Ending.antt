@@ -1,5 +1,5 @@
--- A patient run, one by rounds, or one of what was sent last, with turns for its events doesn't stop at its turns.
-use Rattle.std.proofs.Common.{◌≡◌, ◌∙◌, ℕ, Bool, true, false, List, Option, Some, None, ⊎_elim, ap, subst, sym}
+-- A patient run, one by rounds, one of what was sent last, or one by Borůvka in step, with turns for its events doesn't stop at its turns.
+use Rattle.std.proofs.Common.{◌≡◌, ◌∙◌, ℕ, Bool, true, false, List, Option, Some, None, ⊎_elim, inr, subst, sym}
 use Rattle.std.specs.Prelude.{IfSome, IsErrOf, Result, Ok, Err}
 use Rattle.ghs_gr.specs.Judgement.{IsOneThing, TextIs}
 use Rattle.ghs_gr.specs.RawGraph.{RawShape}
@@ -13,12 +13,14 @@ use Rattle.ghs_protocol.specs.Run.{net_after}
 use Rattle.ghs_world.specs.declared.wake_set.WakeSet.{WakeSet}
 use Rattle.ghs_cli.specs.declared.fault.ServeFault.{ServeFault}
 use Rattle.ghs_cli.specs.declared.fault.ServeFault.TheVariants as serve
+use Rattle.boruvka_runs.specs.Runs.{TurnsSuffice}
+use Rattle.ghs_commands.specs.declared.boruvka.BoruvkaOptions.{BoruvkaOptions}
 use Rattle.ghs_commands.specs.declared.job.RunOptions.{RunOptions}
 use Rattle.ghs_commands.specs.declared.job.Task.{Task}
 use Rattle.ghs_commands.specs.declared.job.Task.TheVariants as task
-use Rattle.ghs_cli.specs.Ending.{IsBounded, IsBoundedTask}
-use Rattle.ghs_cli.specs.Serving.{IsGraphCause, IsRunOutput, IsRunningCause, StopsRun, shape_of}
-use Rattle.ghs_cli.proofs.Runs.{limit_cause}
+use Rattle.ghs_cli.specs.Ending.{IsBounded, IsBoundedBoruvka, IsBoundedRun, IsBoundedTask}
+use Rattle.ghs_cli.specs.InStep as in_step
+use Rattle.ghs_cli.specs.Serving.{IsBoruvkaCause, IsBoruvkaOutput, IsGraphCause, IsRunningCause, StopsRun, shape_of}
 
 -- a run by a bounded schedule, with turns for its events, has ended
 ended_by : (p : ScheduleKind) (seed : ℕ) (wake : WakeSet) (turns : ℕ) (g : Shape) (es : List Event) → IsBounded p →
@@ -29,47 +31,64 @@ ended_by Rounds seed wake turns g es bounded run enough = run.ends enough
 ended_by Waits seed wake turns g es bounded run enough = absurd bounded
 ended_by Lifo seed wake turns g es bounded run enough = run.ends enough
 
--- options whose run stops at its turns, of the one graph whose text the input is
-run_goes_on : (o : RunOptions) (input : List ℕ) → IsOneThing input → IsRunningCause o input serve.TurnLimit → IsBoundedTask (task.Run o) input → ⊥
+-- a text is that of one graph
+same_graph : (input : List ℕ) (one two : RawShape) → IsOneThing input → TextIs input (Ok one) → TextIs input (Ok two) → one ≡ two
+same_graph input one two is first second = let both : Ok one ≡ Ok two = is.one (Ok one) (Ok two) first second in cc
+
+-- a run that stops at its turns, of the one graph whose text the input is, hasn't turns for its events
+pub run_goes_on : (o : RunOptions) (input : List ℕ) → IsOneThing input → IsRunningCause o input serve.TurnLimit → IsBoundedRun o input → ⊥
 run_goes_on o input one cause is =
     ⊎_elim (λ (bad : IsGraphCause input serve.TurnLimit). bad)
     (λ (stops : (graph : RawShape) × TextIs input (Ok graph) × StopsRun o (shape_of graph) serve.TurnLimit).
-    let same : o ≡ is.options = let run = is.run in cc in
-    let graph : is.graph ≡ stops.0 = let both : Ok is.graph ≡ Ok stops.0 = one.one (Ok is.graph) (Ok stops.0) is.text stops.1 in cc in
     let turns : HasTurnsFor (shape_of stops.0) o.turns =
-    subst (λ (g : RawShape). HasTurnsFor (shape_of g) o.turns) graph
-    (subst (λ (p : RunOptions). HasTurnsFor (shape_of is.graph) p.turns) (sym same) is.turns) in
-    let alone : o.workers ≡ 0 = subst (λ (p : RunOptions). p.workers ≡ 0) (sym same) is.alone in
-    let bounded : IsBounded o.schedule_kind = subst (λ (p : RunOptions). IsBounded p.schedule_kind) (sym same) is.bounded in
+    subst (λ (g : RawShape). HasTurnsFor (shape_of g) o.turns) (same_graph input is.graph stops.0 one is.text stops.1) is.turns in
     let stopped = stops.2.1 in
-    stopped.goes_on (ended_by o.schedule_kind o.seed o.wake o.turns (shape_of stops.0) stops.2.0 bounded (stopped.by.picked alone) turns))
+    stopped.goes_on
+    (ended_by o.schedule_kind o.seed o.wake o.turns (shape_of stops.0) stops.2.0 is.bounded (stopped.by.picked is.alone) turns))
+    cause
+
+-- what goes out at the turn limit is of a run by Borůvka in step that has used its turns,
+pub in_step_limit_cause : (o : BoruvkaOptions) (input output : List ℕ) → IsBoruvkaOutput o true input output → IsBoruvkaCause o input serve.TurnLimit
+in_step_limit_cause o input output out = inr (out.0, out.1, (out.2.events, out.2.stopped))
+
+-- and such a run hasn't turns for its events
+pub in_step_goes_on : (o : BoruvkaOptions) → TurnsSuffice → (input : List ℕ) → IsOneThing input → IsBoruvkaCause o input serve.TurnLimit →
+    IsBoundedBoruvka o input → ⊥
+in_step_goes_on o suffice input one cause is =
+    ⊎_elim (λ (bad : IsGraphCause input serve.TurnLimit). bad)
+    (λ (stops : (graph : RawShape) × TextIs input (Ok graph) × in_step.StopsRun o (shape_of graph) serve.TurnLimit).
+    let turns : in_step.HasTurnsFor (shape_of stops.0) o.turns =
+    subst (λ (g : RawShape). in_step.HasTurnsFor (shape_of g) o.turns) (same_graph input is.graph stops.0 one is.text stops.1) is.turns in
+    suffice o.seed o.wake o.turns (shape_of stops.0) stops.2.0 turns stops.2.1)
     cause
 
 -- so a result by such a cause is no turn limit of a bounded run,
-pub ends_by : (o : RunOptions) (input : Option (List ℕ)) (r : Result (Unit {0}) ServeFault) (fault : ServeFault) →
+pub ends_by : (job : Task) (Cause : List ℕ → ServeFault → Type 0) (input : Option (List ℕ)) (r : Result (Unit {0}) ServeFault) (fault : ServeFault) →
     ((text : List ℕ) → IsOneThing text) →
+    ((text : List ℕ) → IsOneThing text → Cause text serve.TurnLimit → IsBoundedTask job text → ⊥) →
     r ≡ Err fault →
-    IfSome input (λ i. IsRunningCause o i fault) →
-    IfSome input (λ i. IsBoundedTask (task.Run o) i → IsErrOf r serve.TurnLimit → ⊥)
-ends_by o None r fault one is cause = tt
-ends_by o (Some i) r fault one is cause = λ bounded limit.
+    IfSome input (λ i. Cause i fault) →
+    IfSome input (λ i. IsBoundedTask job i → IsErrOf r serve.TurnLimit → ⊥)
+ends_by job Cause None r fault one goes_on is cause = tt
+ends_by job Cause (Some i) r fault one goes_on is cause = λ bounded limit.
     let same : fault ≡ serve.TurnLimit = let both : Err fault ≡ Err serve.TurnLimit = sym is ∙ limit in cc in
-    run_goes_on o i (one i) (subst (λ (f : ServeFault). IsRunningCause o i f) same cause) bounded
+    goes_on i (one i) (subst (λ (f : ServeFault). Cause i f) same cause) bounded
 
 -- nor one behind output,
-pub ends_behind : (o : RunOptions) (input : Option (List ℕ)) (output : List ℕ) (r : Result (Unit {0}) ServeFault) →
+pub ends_behind : (job : Task) (Out : List ℕ → Type 0) (input : Option (List ℕ)) (r : Result (Unit {0}) ServeFault) →
     ((text : List ℕ) → IsOneThing text) →
-    IfSome input (λ i. IsRunOutput o true i output) →
-    IfSome input (λ i. IsBoundedTask (task.Run o) i → IsErrOf r serve.TurnLimit → ⊥)
-ends_behind o None output r one out = tt
-ends_behind o (Some i) output r one out = λ bounded limit. run_goes_on o i (one i) (limit_cause o i output out) bounded
+    ((text : List ℕ) → IsOneThing text → Out text → IsBoundedTask job text → ⊥) →
+    IfSome input Out →
+    IfSome input (λ i. IsBoundedTask job i → IsErrOf r serve.TurnLimit → ⊥)
+ends_behind job Out None r one goes_on out = tt
+ends_behind job Out (Some i) r one goes_on out = λ bounded limit. goes_on i (one i) out bounded
 
 -- nor any other
-pub ends_else : (o : RunOptions) (input : Option (List ℕ)) (r : Result (Unit {0}) ServeFault) →
+pub ends_else : (job : Task) (input : Option (List ℕ)) (r : Result (Unit {0}) ServeFault) →
     (IsErrOf r serve.TurnLimit → ⊥) →
-    IfSome input (λ i. IsBoundedTask (task.Run o) i → IsErrOf r serve.TurnLimit → ⊥)
-ends_else o None r other = tt
-ends_else o (Some i) r other = λ bounded limit. other limit
+    IfSome input (λ i. IsBoundedTask job i → IsErrOf r serve.TurnLimit → ⊥)
+ends_else job None r other = tt
+ends_else job (Some i) r other = λ bounded limit. other limit
 
 -- a job ends as its task does,
 pub ends_as : (job other : Task) (input : Option (List ℕ)) (r : Result (Unit {0}) ServeFault) →
@@ -81,7 +100,8 @@ ends_as job other input r is ends = rw is ends
 abbrev is_run : Task → Bool
 is_run (task.Tree core) = false
 is_run (task.Run o) = true
-is_run (task.Replay wake) = false
+is_run (task.Boruvka o) = true
+is_run (task.Replay p wake) = false
 is_run (task.Steps o) = false
 is_run (task.Sweep o) = false
 is_run (task.View o) = false
@@ -90,10 +110,21 @@ is_run (task.Make asked) = false
 is_run (task.Explore o) = false
 
 -- and only runs are bounded
+unbounded : (job : Task) (input : List ℕ) → is_run job ≡ false → IsBoundedTask job input → ⊥
+unbounded (task.Tree core) input unrun bounded = bounded
+unbounded (task.Run o) input unrun bounded = absurd (let bad : true ≡ false = unrun in cc)
+unbounded (task.Boruvka o) input unrun bounded = absurd (let bad : true ≡ false = unrun in cc)
+unbounded (task.Replay p wake) input unrun bounded = bounded
+unbounded (task.Steps o) input unrun bounded = bounded
+unbounded (task.Sweep o) input unrun bounded = bounded
+unbounded (task.View o) input unrun bounded = bounded
+unbounded (task.StoredView o) input unrun bounded = bounded
+unbounded (task.Make asked) input unrun bounded = bounded
+unbounded (task.Explore o) input unrun bounded = bounded
+
 pub ends_other : (job other : Task) (input : Option (List ℕ)) (r : Result (Unit {0}) ServeFault) →
     job ≡ other →
     is_run other ≡ false →
     IfSome input (λ i. IsBoundedTask job i → IsErrOf r serve.TurnLimit → ⊥)
 ends_other job other None r is unrun = tt
-ends_other job other (Some i) r is unrun = λ bounded limit.
-    absurd (let bad : true ≡ false = ap is_run (sym bounded.run ∙ is) ∙ unrun in cc)
+ends_other job other (Some i) r is unrun = λ bounded limit. unbounded other i unrun (subst (λ (t : Task). IsBoundedTask t i) is bounded)

@@ -2,6 +2,7 @@
 mod Charted
 mod Ending
 mod Explorations
+mod InStep
 mod MadeNetworks
 mod Named
 mod Parted

@@ -16,13 +16,11 @@ use Rattle.ghs_sched.specs.declared.run.RunEnd.TheVariants.{Halted}
 use Rattle.ghs_world.specs.declared.wake_set.WakeSet.{WakeSet}
 use Rattle.ghs_world.specs.Wakes.{may_wake}
 use Rattle.ghs_world.specs.WorldState.{WorldState, home, wakers}
-use Rattle.ghs_report.specs.Writing.{HasWritten}
 use Rattle.ghs_cli.specs.declared.fault.ServeFault.{ServeFault}
 use Rattle.ghs_cli.specs.declared.fault.ServeFault.TheVariants as serve
 use Rattle.ghs_commands.specs.declared.job.RunOptions.{RunOptions}
-use Rattle.ghs_commands.specs.declared.job.Task.TheVariants as task
 use Rattle.ghs_cli.specs.Running.{IsOpened, Stops}
-use Rattle.ghs_cli.specs.Serving.{AreItsRounds, IsRunBy, IsRunOutput, IsRunningCause, IsStopped, IsWholeRun, Serves, StopsRun}
+use Rattle.ghs_cli.specs.Serving.{AreItsRounds, IsRunBy, IsRunOutput, IsRunningCause, IsStopped, IsWholeRun, StopsRun}
 
 -- what a world holds of its run, as the options ask
 pub is_run_by : (o : RunOptions) (new : WorldState) (limit : ℕ) →
@@ -180,39 +178,3 @@ stops_at_limit o s stopped = record { cause = (s.net.trace, stopped); used = λ 
 pub stops_for : (o : RunOptions) (s : WorldState) (fault : ServeFault) → StopsRun o s.net.graph fault → (fault ≡ serve.TurnLimit → ⊥) →
     Stops o s fault
 stops_for o s fault cause other = record { cause = cause; used = λ limit. absurd (other limit) }
-
--- what goes out of a run serves its task: all of it,
-pub run_all : (o : RunOptions) (stored input bytes output : List ℕ) (old new : Option (List ℕ)) →
-    bytes ≡ output →
-    HasWritten old new bytes (length bytes) →
-    IsRunOutput o false input output →
-    Serves (task.Run o) stored input old new (Ok tt)
-run_all o stored input bytes output old new same has out = (output, out, subst (λ (b : List ℕ). HasWritten old new b (length b)) same has)
-
--- all of it, and the turns are used,
-pub run_limit : (o : RunOptions) (stored input bytes output : List ℕ) (old new : Option (List ℕ)) →
-    bytes ≡ output →
-    HasWritten old new bytes (length bytes) →
-    IsRunOutput o true input output →
-    Serves (task.Run o) stored input old new (Err serve.TurnLimit)
-run_limit o stored input bytes output old new same has out = (
-  limit_cause o input output out,
-  λ shows. (output, out, subst (λ (b : List ℕ). HasWritten old new b (length b)) same has),
-)
-
--- or its first bytes, where a write failed
-pub run_part : (o : RunOptions) (at_limit : Bool) (stored input bytes output : List ℕ) (old new : Option (List ℕ))
-    (r : Result (Unit {0}) ServeFault) (written : ℕ) →
-    bytes ≡ output →
-    r ≡ Err (serve.Write written) →
-    written < length bytes →
-    HasWritten old new bytes written →
-    IsRunOutput o at_limit input output →
-    Serves (task.Run o) stored input old new r
-run_part o at_limit stored input bytes output old new r written same is less has out =
-    rw is (
-      output,
-      (at_limit, out),
-      subst (λ (b : List ℕ). written < length b) same less,
-      subst (λ (b : List ℕ). HasWritten old new b written) same has,
-    )

@@ -9,6 +9,7 @@ use Rattle.ghs_protocol.specs.declared.event.Event.{Event}
 use Rattle.ghs_protocol.specs.Marks.{HasEnded}
 use Rattle.ghs_protocol.specs.Network.{network_of}
 use Rattle.ghs_protocol.specs.Run.{IsRunUnder, net_after}
+use Rattle.peer_trace.specs.declared.protocol.Protocol.{Protocol}
 use Rattle.ghs_report.specs.ReportText.{IsReportText}
 use Rattle.ghs_report.specs.Writing.{HasWritten}
 use Rattle.ghs_world.specs.declared.wake_set.WakeSet.{WakeSet}
@@ -18,7 +19,7 @@ use Rattle.ghs_cli.specs.declared.fault.ServeFault.TheVariants as serve
 use Rattle.ghs_commands.specs.declared.job.Task.{Task}
 use Rattle.ghs_commands.specs.declared.job.Task.TheVariants as task
 use Rattle.ghs_cli.specs.Printing.{HasGoneOut, HasPrinted}
-use Rattle.ghs_cli.specs.Serving.{GoesOn, HasBegun, IfStored, IsCause, IsPrinted, IsReplayCause, IsReplayText, IsReplayed, IsRunCause, IsTextOf, IsTraceText, IsTried, IsUnread, IsUnwritten, Serves, by_portions, is_late, is_limit, is_memory, is_write, shape_of, shows_events}
+use Rattle.ghs_cli.specs.Serving.{GoesOn, HasBegun, IfStored, IsCause, IsPrinted, IsPrintedAtLimit, IsReplayCause, IsReplayText, IsReplayed, IsReplayedBy, IsRunCause, IsRunCauseBy, IsTextOf, IsTraceText, IsTried, IsUnread, IsUnwritten, Serves, by_portions, is_late, is_limit, is_memory, is_write, shape_of, shows_events}
 
 -- what follows for each text follows where one is known
 pub if_some : (o : Option (List ℕ)) (P Q : List ℕ → Type 0) → ((bytes : List ℕ) → P bytes → Q bytes) → IfSome o P → IfSome o Q
@@ -33,7 +34,8 @@ for_some (Some bytes) P all = all bytes
 begun : (job : Task) (stored input : List ℕ) (old new : Option (List ℕ)) → is_late job serve.Memory ≡ false → HasBegun job stored input old new
 begun (task.Tree core) stored input old new early = tt
 begun (task.Run o) stored input old new early = tt
-begun (task.Replay wake) stored input old new early = tt
+begun (task.Boruvka o) stored input old new early = tt
+begun (task.Replay p wake) stored input old new early = tt
 begun (task.Steps o) stored input old new early = absurd (let bad : true ≡ false = early in cc)
 begun (task.Sweep o) stored input old new early = tt
 begun (task.View o) stored input old new early = tt
@@ -57,6 +59,7 @@ serves_cause job stored input old new serve.TooLong early cause = cause
 serves_cause job stored input old new (serve.TraceBadLine line) early cause = cause
 serves_cause job stored input old new (serve.TraceNumber line) early cause = cause
 serves_cause job stored input old new (serve.TraceCount said found) early cause = cause
+serves_cause job stored input old new (serve.TraceOf other) early cause = cause
 serves_cause job stored input old new (serve.NotLawful k) early cause = cause
 serves_cause job stored input old new serve.PageTooLarge early cause = cause
 serves_cause job stored input old new serve.NodesOutside early cause = cause
@@ -78,47 +81,47 @@ serves_cause job stored input old new (serve.Write written) early cause = cc
 serves_cause job stored input old new serve.Unforeseen early cause = cause
 
 -- a graph and a trace give a fault together
-pub fault_together : (wake : WakeSet) (stored input : List ℕ) (g : Shape) (events : List Event) (fault : ServeFault) →
-    IsTraceText stored events →
+pub fault_together : (p : Protocol) (wake : WakeSet) (stored input : List ℕ) (g : Shape) (events : List Event) (fault : ServeFault) →
+    IsTraceText p stored events →
     IsTextOf input g →
-    IsRunCause wake g events fault →
-    IsReplayCause wake stored input fault
-fault_together wake stored input g events fault trace (raw, text, same) cause = inr (inr (record {
+    IsRunCauseBy p wake g events fault →
+    IsReplayCause p wake stored input fault
+fault_together p wake stored input g events fault trace (raw, text, same) cause = inr (inr (record {
   events = events;
   trace = trace;
   graph = raw;
   text = text;
-  cause = subst (λ (h : Shape). IsRunCause wake h events fault) same cause;
+  cause = subst (λ (h : Shape). IsRunCauseBy p wake h events fault) same cause;
 }))
 
 -- and so does a result of them
-pub faults_together : {A : Type 0} (r : Result A ServeFault) (wake : WakeSet) (g : Shape) (events : List Event)
+pub faults_together : {A : Type 0} (r : Result A ServeFault) (p : Protocol) (wake : WakeSet) (g : Shape) (events : List Event)
     (stored input : Option (List ℕ)) →
-    IfErr r (IsRunCause wake g events) →
-    IfSome stored (λ s. IsTraceText s events) →
+    IfErr r (IsRunCauseBy p wake g events) →
+    IfSome stored (λ s. IsTraceText p s events) →
     IfSome input (λ i. IsTextOf i g) →
-    IfErr r (λ fault. IfSome stored (λ s. IfSome input (λ i. IsReplayCause wake s i fault)))
-faults_together (Ok x) wake g events stored input cause trace text = tt
-faults_together (Err fault) wake g events None input cause trace text = tt
-faults_together (Err fault) wake g events (Some s) None cause trace text = tt
-faults_together (Err fault) wake g events (Some s) (Some i) cause trace text = fault_together wake s i g events fault trace text cause
+    IfErr r (λ fault. IfSome stored (λ s. IfSome input (λ i. IsReplayCause p wake s i fault)))
+faults_together (Ok x) p wake g events stored input cause trace text = tt
+faults_together (Err fault) p wake g events None input cause trace text = tt
+faults_together (Err fault) p wake g events (Some s) None cause trace text = tt
+faults_together (Err fault) p wake g events (Some s) (Some i) cause trace text = fault_together p wake s i g events fault trace text cause
 
 -- or a replay
-pub replay_output : {A : Type 0} (r : Result A ServeFault) (out : A → List ℕ) (wake : WakeSet) (g : Shape) (events : List Event)
+pub replay_output : {A : Type 0} (r : Result A ServeFault) (out : A → List ℕ) (p : Protocol) (wake : WakeSet) (g : Shape) (events : List Event)
     (stored input : Option (List ℕ)) →
-    IfOk r (λ x. IsReplayed wake g events (out x)) →
-    IfSome stored (λ s. IsTraceText s events) →
+    IfOk r (λ x. IsReplayedBy p wake g events (out x)) →
+    IfSome stored (λ s. IsTraceText p s events) →
     IfSome input (λ i. IsTextOf i g) →
-    IfOk r (λ x. IfSome stored (λ s. IfSome input (λ i. IsReplayText wake s i (out x))))
-replay_output (Err fault) out wake g events stored input replayed trace text = tt
-replay_output (Ok x) out wake g events None input replayed trace text = tt
-replay_output (Ok x) out wake g events (Some s) None replayed trace text = tt
-replay_output (Ok x) out wake g events (Some s) (Some i) replayed trace (raw, text, same) = record {
+    IfOk r (λ x. IfSome stored (λ s. IfSome input (λ i. IsReplayText p wake s i (out x))))
+replay_output (Err fault) out p wake g events stored input replayed trace text = tt
+replay_output (Ok x) out p wake g events None input replayed trace text = tt
+replay_output (Ok x) out p wake g events (Some s) None replayed trace text = tt
+replay_output (Ok x) out p wake g events (Some s) (Some i) replayed trace (raw, text, same) = record {
   graph = raw;
   text = text;
   events = events;
   trace = trace;
-  replayed = subst (λ (h : Shape). IsReplayed wake h events (out x)) same replayed;
+  replayed = subst (λ (h : Shape). IsReplayedBy p wake h events (out x)) same replayed;
 }
 
 -- a world that stands at the end of events has their text
@@ -179,6 +182,7 @@ goes_on wake own h g done events serve.TooLong graph trace wakes run goes = absu
 goes_on wake own h g done events (serve.TraceBadLine line) graph trace wakes run goes = absurd goes
 goes_on wake own h g done events (serve.TraceNumber line) graph trace wakes run goes = absurd goes
 goes_on wake own h g done events (serve.TraceCount said found) graph trace wakes run goes = absurd goes
+goes_on wake own h g done events (serve.TraceOf other) graph trace wakes run goes = absurd goes
 goes_on wake own h g done events (serve.NotLawful k) graph trace wakes run goes = absurd goes
 goes_on wake own h g done events serve.Read graph trace wakes run goes = absurd goes
 goes_on wake own h g done events (serve.Write written) graph trace wakes run goes = absurd goes
@@ -211,7 +215,8 @@ serves_fault job stored input old new r fault is early cause = rw is (serves_cau
 tried_of : (job : Task) (stored input output : List ℕ) → IsPrinted job stored input output → IsTried job stored input output
 tried_of (task.Tree core) stored input output printed = printed
 tried_of (task.Run o) stored input output printed = (false, printed)
-tried_of (task.Replay wake) stored input output printed = printed
+tried_of (task.Boruvka o) stored input output printed = (false, printed)
+tried_of (task.Replay p wake) stored input output printed = printed
 tried_of (task.Steps o) stored input output printed = printed
 tried_of (task.Sweep o) stored input output printed = printed
 tried_of (task.View o) stored input output printed = printed
@@ -227,6 +232,43 @@ serves_output : (job : Task) (stored input output : List ℕ) (old new : Option 
 serves_output job stored input output old new (Ok u) printed out = (output, printed, out.whole)
 serves_output job stored input output old new (Err fault) printed out =
     let part = out.part in rw part.is (output, tried_of job stored input output printed, part.less, part.has)
+
+-- an output that a task prints serves it where all of it has gone out,
+pub serves_all : (job : Task) (stored input bytes output : List ℕ) (old new : Option (List ℕ)) →
+    bytes ≡ output →
+    HasWritten old new bytes (length bytes) →
+    IsPrinted job stored input output →
+    Serves job stored input old new (Ok tt)
+serves_all job stored input bytes output old new same has out = (output, out, subst (λ (b : List ℕ). HasWritten old new b (length b)) same has)
+
+-- where all of it has, and the turns are used,
+pub serves_limit : (job : Task) (stored input bytes output : List ℕ) (old new : Option (List ℕ)) →
+    bytes ≡ output →
+    HasWritten old new bytes (length bytes) →
+    IsCause job stored input serve.TurnLimit →
+    IsPrintedAtLimit job input output →
+    Serves job stored input old new (Err serve.TurnLimit)
+serves_limit job stored input bytes output old new same has cause out = (
+  cause,
+  λ shows. (output, out, subst (λ (b : List ℕ). HasWritten old new b (length b)) same has),
+)
+
+-- or its first bytes, where a write failed
+pub serves_part : (job : Task) (stored input bytes output : List ℕ) (old new : Option (List ℕ))
+    (r : Result (Unit {0}) ServeFault) (written : ℕ) →
+    bytes ≡ output →
+    r ≡ Err (serve.Write written) →
+    written < length bytes →
+    HasWritten old new bytes written →
+    IsTried job stored input output →
+    Serves job stored input old new r
+serves_part job stored input bytes output old new r written same is less has out =
+    rw is (
+      output,
+      out,
+      subst (λ (b : List ℕ). written < length b) same less,
+      subst (λ (b : List ℕ). HasWritten old new b written) same has,
+    )
 
 -- a fault is a late one where one of these is true
 none_late : (write memory limit portions events : Bool) → write ≡ false → portions ≡ false → events ≡ false →

@@ -12,6 +12,7 @@ use Rattle.ghs_steps.specs.Shown.{CantShow}
 use Rattle.ghs_steps.specs.declared.show.StepsFault.{StepsFault}
 use Rattle.ghs_steps.specs.declared.show.StepsFault.TheVariants as steps
 use Rattle.ghs_world.specs.Wakes.{may_wake}
+use Rattle.peer_trace.specs.declared.protocol.Protocol.TheVariants.{Ghs}
 use Rattle.ghs_cli.specs.Fault.{of_steps}
 use Rattle.ghs_cli.specs.declared.fault.ServeFault.{ServeFault}
 use Rattle.ghs_cli.specs.declared.fault.ServeFault.TheVariants as serve
@@ -22,7 +23,7 @@ use Rattle.ghs_cli.proofs.Serves.{fault_together}
 
 -- the lines of a graph are those of its text
 lines_of : (o : StepsOptions) (stored input : List ℕ) (g : Shape) (events : List Event) →
-    IsTraceText stored events → IsTextOf input g → IsRunUnder (may_wake g o.wake) (network_of g) events →
+    IsTraceText Ghs stored events → IsTextOf input g → IsRunUnder (may_wake g o.wake) (network_of g) events →
     IsStepsText o stored input (lines o.form g events o.choice)
 lines_of o stored input g events trace (raw, text, same) run = record {
   graph = raw;
@@ -35,7 +36,7 @@ lines_of o stored input g events trace (raw, text, same) run = record {
 
 -- all lines have gone out
 all_lines : (o : StepsOptions) (stored input : List ℕ) (g : Shape) (events : List Event) (old new : Option (List ℕ)) →
-    IsTraceText stored events → IsTextOf input g → IsRunUnder (may_wake g o.wake) (network_of g) events →
+    IsTraceText Ghs stored events → IsTextOf input g → IsRunUnder (may_wake g o.wake) (network_of g) events →
     Appends old new (lines o.form g events o.choice) →
     Serves (task.Steps o) stored input old new (Ok tt)
 all_lines o stored input g events old new trace text run out =
@@ -46,7 +47,7 @@ all_lines o stored input g events old new trace text run out =
     )
 
 pub serves_lines : (o : StepsOptions) (stored input : Option (List ℕ)) (g : Shape) (events : List Event)
-    (old new : Option (List ℕ)) → IfSome stored (λ s. IsTraceText s events) → IfSome input (λ i. IsTextOf i g) →
+    (old new : Option (List ℕ)) → IfSome stored (λ s. IsTraceText Ghs s events) → IfSome input (λ i. IsTextOf i g) →
     IsRunUnder (may_wake g o.wake) (network_of g) events → Appends old new (lines o.form g events o.choice) →
     IfSome stored (λ s. IfSome input (λ i. Serves (task.Steps o) s i old new (Ok tt)))
 serves_lines o None input g events old new trace text run out = tt
@@ -55,15 +56,15 @@ serves_lines o (Some s) (Some i) g events old new trace text run out = all_lines
 
 -- a fault behind the judgement of trace and graph
 cant_show : (o : StepsOptions) (stored input : List ℕ) (g : Shape) (events : List Event)
-    (old new : Option (List ℕ)) (fault : StepsFault) → IsTraceText stored events → IsTextOf input g →
+    (old new : Option (List ℕ)) (fault : StepsFault) → IsTraceText Ghs stored events → IsTextOf input g →
     CantShow g o.wake events (lines o.form g events o.choice) old new fault →
     Serves (task.Steps o) stored input old new (Err (of_steps fault))
 cant_show o stored input g events old new (steps.NotLawful k) trace text has =
-    ((λ is. cc), fault_together o.wake stored input g events (serve.NotLawful k) trace text has.0)
+    ((λ is. cc), fault_together Ghs o.wake stored input g events (serve.NotLawful k) trace text has.0)
 cant_show o stored input g events old new steps.Memory trace text (inl none) =
-    (((λ is. cc), fault_together o.wake stored input g events serve.Memory trace text tt), inl none)
+    (((λ is. cc), fault_together Ghs o.wake stored input g events serve.Memory trace text tt), inl none)
 cant_show o stored input g events old new steps.Memory trace text (inr front) = (
-  ((λ is. cc), fault_together o.wake stored input g events serve.Memory trace text tt),
+  ((λ is. cc), fault_together Ghs o.wake stored input g events serve.Memory trace text tt),
   inr (_, lines_of o stored input g events trace text front.0, front.1),
 )
 cant_show o stored input g events old new (steps.Write k) trace text has =
@@ -73,7 +74,7 @@ pub serves_unshown :
     (o : StepsOptions) (stored input : Option (List ℕ)) (g : Shape) (events : List Event) (old new : Option (List ℕ))
     (r : Result (Unit {0}) ServeFault) (fault : StepsFault) →
     r ≡ Err (of_steps fault) →
-    IfSome stored (λ s. IsTraceText s events) → IfSome input (λ i. IsTextOf i g) →
+    IfSome stored (λ s. IsTraceText Ghs s events) → IfSome input (λ i. IsTextOf i g) →
     CantShow g o.wake events (lines o.form g events o.choice) old new fault →
     IfSome stored (λ s. IfSome input (λ i. Serves (task.Steps o) s i old new r))
 serves_unshown o None input g events old new r fault is trace text has = tt

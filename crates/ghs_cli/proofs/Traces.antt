@@ -4,14 +4,16 @@ use Rattle.std.specs.Prelude.{nat_le}
 use Rattle.std.specs.Str.{all_ascii_digits, bytes_eq}
 use Rattle.std.specs.Str.Parse.{digits_value}
 use Rattle.std.proofs.lemmas.Bool.{leb-true}
-use Rattle.ghs_lines.specs.Fields.{fields_of, is_nonempty}
-use Rattle.ghs_lines.specs.Lines.{lines_of}
+use Rattle.ghs_lines.specs.Fields.{is_nonempty}
 use Rattle.ghs_protocol.specs.declared.event.Event.{Event}
-use Rattle.ghs_sched.specs.Line.{head_of, meaning, meaning_of, take_of, wake_of}
-use Rattle.ghs_sched.specs.Reading.{HasEvents, head_in}
+use Rattle.ghs_sched.specs.Line.{head_of, meaning_of, take_of, wake_of}
+use Rattle.ghs_sched.specs.Reading.{head_in}
 use Rattle.ghs_sched.specs.declared.line.Line.{Line}
 use Rattle.ghs_sched.specs.declared.line.Line.TheVariants.{Passed, Malformed, Head, Wake, Take}
 use Rattle.ghs_sched.specs.declared.trace.TheConstants.{EVENT_LIMIT}
+use Rattle.peer_trace.specs.Head.{fields_in, plain_lines}
+use Rattle.peer_trace.specs.Reading.{HasEventsOf}
+use Rattle.peer_trace.specs.declared.protocol.Protocol.{Protocol}
 
 -- a head says a number within the limit
 abbrev IsSmall : Line → Type 0
@@ -66,10 +68,10 @@ small_next (Head (Some m)) more n small rest e = let is : m ≡ n = cc in rw (�
 small_next (Wake v) more n small rest e = rest e
 small_next (Take v port) more n small rest e = rest e
 
-small_said : (lines : List (List ℕ)) (n : ℕ) → head_in (map meaning lines) ≡ Some n → n ≤ EVENT_LIMIT
+small_said : (lines : List (List (List ℕ))) (n : ℕ) → head_in (map meaning_of lines) ≡ Some n → n ≤ EVENT_LIMIT
 small_said [] n e = cc
-small_said (line ∷ lines) n e = small_next (meaning line) (map meaning lines) n (small_fields (fields_of line)) (small_said lines n) e
+small_said (fields ∷ lines) n e = small_next (meaning_of fields) (map meaning_of lines) n (small_fields fields) (small_said lines n) e
 
 -- a text has as many events as its head says, and that is within the limit
-pub few_events : (text : List ℕ) (events : List Event) → HasEvents text events → length events ≤ EVENT_LIMIT
-few_events text events has = small_said (lines_of text) (length events) has.head
+pub few_events : (p : Protocol) (text : List ℕ) (events : List Event) → HasEventsOf p text events → length events ≤ EVENT_LIMIT
+few_events p text events has = small_said (plain_lines (fields_in text)) (length events) has.trace.head

@@ -3,6 +3,7 @@ use Rattle.std.proofs.Common.{◌≡◌, ℕ, List, Option, Some, None, inr, sub
 use Rattle.std.specs.Prelude.{IfErr, IfOk, IfSome, Result, Ok, Err}
 use Rattle.ghs_graph.specs.Graph.{Shape}
 use Rattle.ghs_protocol.specs.declared.event.Event.{Event}
+use Rattle.peer_trace.specs.declared.protocol.Protocol.TheVariants.{Ghs}
 use Rattle.ghs_cli.specs.declared.fault.ServeFault.{ServeFault}
 use Rattle.ghs_cli.specs.declared.fault.ServeFault.TheVariants as serve
 use Rattle.ghs_commands.specs.declared.job.StoredViewOptions.{StoredViewOptions}
@@ -21,7 +22,7 @@ no_pair_for_memory r fault o beside g is memory = rw (is, memory) tt
 pub stored_view_output : {A : Type 0} (r : Result A ServeFault) (out : A → List ℕ) (o : StoredViewOptions) (g : Shape) (events : List Event)
     (stored input : Option (List ℕ)) →
     IfOk r (λ x. IsStoredView o g events (out x)) →
-    IfSome stored (λ s. IsTraceText s events) →
+    IfSome stored (λ s. IsTraceText Ghs s events) →
     IfSome input (λ i. IsTextOf i g) →
     IfOk r (λ x. IfSome stored (λ s. IfSome input (λ i. IsStoredViewOutput o s i (out x))))
 stored_view_output (Err fault) out o g events stored input view trace text = tt
@@ -38,7 +39,7 @@ stored_view_output (Ok x) out o g events (Some s) (Some i) view trace (raw, text
 -- and a fault of them is one of their texts
 pub stored_view_cause : {A : Type 0} (r : Result A ServeFault) (o : StoredViewOptions) (g : Shape) (events : List Event)
     (stored input : Option (List ℕ)) → IfErr r (HasNoStoredView o g events) →
-    IfSome stored (λ s. IsTraceText s events) →
+    IfSome stored (λ s. IsTraceText Ghs s events) →
     IfSome input (λ i. IsTextOf i g) →
     IfErr r (λ fault. IfSome stored (λ s. IfSome input (λ i. IsStoredViewCause o s i fault)))
 stored_view_cause (Ok x) o g events stored input none trace text = tt

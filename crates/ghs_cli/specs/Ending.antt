@@ -5,9 +5,11 @@ use Rattle.ghs_gr.specs.RawGraph.{RawShape}
 use Rattle.ghs_picking.specs.declared.picking.ScheduleKind.{ScheduleKind}
 use Rattle.ghs_picking.specs.declared.picking.ScheduleKind.TheVariants.{Seeded, Patient, Rounds, Waits, Lifo}
 use Rattle.ghs_picking.specs.Picking.{HasTurnsFor}
+use Rattle.ghs_commands.specs.declared.boruvka.BoruvkaOptions.{BoruvkaOptions}
 use Rattle.ghs_commands.specs.declared.job.RunOptions.{RunOptions}
 use Rattle.ghs_commands.specs.declared.job.Task.{Task}
 use Rattle.ghs_commands.specs.declared.job.Task.TheVariants as task
+use Rattle.ghs_cli.specs.InStep as in_step
 use Rattle.ghs_cli.specs.Serving.{shape_of}
 
 -- the schedules whose runs have a bound on their events: what moves a run on comes first, in some order
@@ -18,12 +20,22 @@ IsBounded Rounds = Unit {0}
 IsBounded Waits = ⊥
 IsBounded Lifo = Unit {0}
 
--- the task runs the graph whose text the input is, by such a schedule and without threads, and has turns for all the events that such a run may have
-pub record IsBoundedTask (job : Task) (input : List ℕ) : Type 0 where
-  pub options : RunOptions
-  pub run : job ≡ task.Run options
-  pub alone : options.workers ≡ 0
-  pub bounded : IsBounded options.schedule_kind
+-- the run of the graph whose text the input is goes by such a schedule and without threads, and has turns for all the events that it may have
+pub record IsBoundedRun (o : RunOptions) (input : List ℕ) : Type 0 where
+  pub alone : o.workers ≡ 0
+  pub bounded : IsBounded o.schedule_kind
   pub graph : RawShape
   pub text : TextIs input (Ok graph)
-  pub turns : HasTurnsFor (shape_of graph) options.turns
+  pub turns : HasTurnsFor (shape_of graph) o.turns
+
+-- by Borůvka in step each run has a bound on its events, and it has turns for so many
+pub record IsBoundedBoruvka (o : BoruvkaOptions) (input : List ℕ) : Type 0 where
+  pub graph : RawShape
+  pub text : TextIs input (Ok graph)
+  pub turns : in_step.HasTurnsFor (shape_of graph) o.turns
+
+-- the task is such a run
+abbrev pub IsBoundedTask : Task → List ℕ → Type 0
+IsBoundedTask (task.Run o) input = IsBoundedRun o input
+IsBoundedTask (task.Boruvka o) input = IsBoundedBoruvka o input
+IsBoundedTask _ input = ⊥

@@ -14,6 +14,8 @@ use Rattle.ghs_report.specs.declared.portions.WriteFault.{WriteFault}
 use Rattle.ghs_report.specs.declared.portions.WriteFault.TheVariants as write
 use Rattle.ghs_steps.specs.declared.show.StepsFault.{StepsFault}
 use Rattle.ghs_steps.specs.declared.show.StepsFault.TheVariants as steps
+use Rattle.peer_trace.specs.declared.fault.StoredFault.{StoredFault}
+use Rattle.peer_trace.specs.declared.fault.StoredFault.TheVariants as stored
 use Rattle.ghs_cli.specs.declared.fault.ServeFault.{ServeFault}
 use Rattle.ghs_cli.specs.declared.fault.ServeFault.TheVariants as serve
 
@@ -41,6 +43,10 @@ of_trace (trace.BadLine line) = serve.TraceBadLine line
 of_trace (trace.Number line) = serve.TraceNumber line
 of_trace (trace.Count said found) = serve.TraceCount said found
 of_trace trace.Memory = serve.Memory
+
+abbrev pub of_stored : StoredFault → ServeFault
+of_stored (stored.Other p) = serve.TraceOf p
+of_stored (stored.Trace fault) = of_trace fault
 
 abbrev pub of_replay : ReplayFault → ServeFault
 of_replay (replay.NotLawful k) = serve.NotLawful k
@@ -80,6 +86,7 @@ status_of serve.TooLong = 1
 status_of (serve.TraceBadLine line) = 1
 status_of (serve.TraceNumber line) = 1
 status_of (serve.TraceCount said found) = 1
+status_of (serve.TraceOf p) = 1
 status_of (serve.NotLawful k) = 1
 status_of serve.PageTooLarge = 1
 status_of serve.NodesOutside = 1

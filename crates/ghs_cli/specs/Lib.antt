@@ -3,6 +3,7 @@ pub mod Charts
 pub mod Ending
 pub mod Exploring
 pub mod Fault
+pub mod InStep
 pub mod Networks
 pub mod Printing
 pub mod Running

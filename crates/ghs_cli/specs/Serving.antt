@@ -22,11 +22,14 @@ use Rattle.ghs_protocol.specs.Run.{IsRunUnder, net_after}
 use Rattle.ghs_report.specs.ReportText.{IsReportText}
 use Rattle.ghs_report.specs.TreeText.{tree_text}
 use Rattle.ghs_report.specs.Writing.{HasWritten}
-use Rattle.ghs_sched.specs.Reading.{HasEvents, HasFault}
 use Rattle.ghs_sched.specs.Replays.{IsFirstUnlawful}
 use Rattle.ghs_sched.specs.Text.{trace_text}
 use Rattle.ghs_sched.specs.declared.fault.TraceFault.TheVariants as trace
 use Rattle.ghs_steps.specs.Lines.{lines}
+use Rattle.peer_trace.specs.Reading.{HasEventsOf, HasFaultOf}
+use Rattle.peer_trace.specs.declared.fault.StoredFault.TheVariants.{Other, Trace}
+use Rattle.peer_trace.specs.declared.protocol.Protocol.{Protocol}
+use Rattle.peer_trace.specs.declared.protocol.Protocol.TheVariants as protocol
 use Rattle.ghs_world.specs.declared.wake_set.WakeSet.{WakeSet}
 use Rattle.ghs_world.specs.Wakes.{may_wake}
 use Rattle.ghs_cli.specs.declared.fault.ServeFault.{ServeFault}
@@ -39,6 +42,7 @@ use Rattle.ghs_make.specs.Text.{text_of}
 use Rattle.ghs_make.specs.declared.fault.MakeFault.TheVariants as make
 use Rattle.ghs_make.specs.declared.network.Network.{Network}
 use Rattle.ghs_make.specs.declared.plan.Asked.{Asked}
+use Rattle.ghs_commands.specs.declared.boruvka.BoruvkaOptions.{BoruvkaOptions}
 use Rattle.ghs_commands.specs.declared.exploring.ExploreOptions.{ExploreOptions}
 use Rattle.ghs_commands.specs.declared.job.StepsOptions.{StepsOptions}
 use Rattle.ghs_commands.specs.declared.job.StoredViewOptions.{StoredViewOptions}
@@ -46,6 +50,7 @@ use Rattle.ghs_commands.specs.declared.job.SweepOptions.{SweepOptions}
 use Rattle.ghs_commands.specs.declared.job.Task.{Task}
 use Rattle.ghs_commands.specs.declared.job.Task.TheVariants as task
 use Rattle.ghs_commands.specs.declared.job.ViewOptions.{ViewOptions}
+use Rattle.ghs_cli.specs.InStep as in_step
 use Rattle.ghs_cli.specs.Exploring.{HasNoExploration, IsExplored}
 use Rattle.ghs_cli.specs.Charts.{IsSweepText}
 use Rattle.ghs_cli.specs.Viewing.{HasNoStoredView, HasNoView, IsStoredView, IsView}
@@ -76,9 +81,9 @@ pub record IsTreeText (core : Bool) (input output : List ℕ) : Type 0 where
   pub least : IsTree (keys_of graph) tree
   pub printed : HaveCores core (shape_of graph) (IsOfGraph (shape_of graph)) (tree_text tree) output
 
--- what is stored is the text of these events
-abbrev pub IsTraceText : List ℕ → List Event → Type 0
-IsTraceText stored events = (IsTooLong stored → ⊥) × HasEvents stored events
+-- what is stored is the text of these events, of a run of the protocol
+abbrev pub IsTraceText : Protocol → List ℕ → List Event → Type 0
+IsTraceText p stored events = (IsTooLong stored → ⊥) × HasEventsOf p stored events
 
 -- events that are a run of the graph which has ended, and the output is the text of its net
 pub record IsReplayed (wake : WakeSet) (g : Shape) (events : List Event) (output : List ℕ) : Type 0 where
@@ -86,13 +91,18 @@ pub record IsReplayed (wake : WakeSet) (g : Shape) (events : List Event) (output
   pub ended : HasEnded g (net_after g events)
   pub printed : IsReportText g (net_after g events) output
 
+-- the same by the rules of a protocol
+abbrev pub IsReplayedBy : Protocol → WakeSet → Shape → List Event → List ℕ → Type 0
+IsReplayedBy protocol.Ghs wake g events output = IsReplayed wake g events output
+IsReplayedBy protocol.Boruvka wake g events output = in_step.IsReplayed wake g events output
+
 -- the input is the text of a graph, what is stored that of a run of it which has ended, and the output that of its net
-pub record IsReplayText (wake : WakeSet) (stored input output : List ℕ) : Type 0 where
+pub record IsReplayText (p : Protocol) (wake : WakeSet) (stored input output : List ℕ) : Type 0 where
   pub graph : RawShape
   pub text : TextIs input (Ok graph)
   pub events : List Event
-  pub trace : IsTraceText stored events
-  pub replayed : IsReplayed wake (shape_of graph) events output
+  pub trace : IsTraceText p stored events
+  pub replayed : IsReplayedBy p wake (shape_of graph) events output
 
 -- events that are a run of a graph as its options ask: under the wake set, within the turns; without threads the seed's schedule picks them
 pub record IsRunBy (o : RunOptions) (g : Shape) (events : List Event) : Type 0 where
@@ -153,12 +163,16 @@ IsRan o g true output = IsStoppedText o g output
 abbrev pub IsRunOutput : RunOptions → Bool → List ℕ → List ℕ → Type 0
 IsRunOutput o at_limit input output = (graph : RawShape) × TextIs input (Ok graph) × IsRan o (shape_of graph) at_limit output
 
+-- the input is the text of a graph, and this goes out of a run of it by Borůvka in step
+abbrev pub IsBoruvkaOutput : BoruvkaOptions → Bool → List ℕ → List ℕ → Type 0
+IsBoruvkaOutput o at_limit input output = (graph : RawShape) × TextIs input (Ok graph) × in_step.IsRan o (shape_of graph) at_limit output
+
 -- the input is the text of a graph, what is stored that of a run of it, and the output the lines of the steps that are chosen of it
 pub record IsStepsText (o : StepsOptions) (stored input output : List ℕ) : Type 0 where
   pub graph : RawShape
   pub text : TextIs input (Ok graph)
   pub events : List Event
-  pub trace : IsTraceText stored events
+  pub trace : IsTraceText protocol.Ghs stored events
   pub run : IsRunUnder (may_wake (shape_of graph) o.wake) (network_of (shape_of graph)) events
   pub printed : output ≡ lines o.form (shape_of graph) events o.choice
 
@@ -175,7 +189,7 @@ pub record IsStoredViewOutput (o : StoredViewOptions) (stored input output : Lis
   pub graph : RawShape
   pub text : TextIs input (Ok graph)
   pub events : List Event
-  pub trace : IsTraceText stored events
+  pub trace : IsTraceText protocol.Ghs stored events
   pub view : IsStoredView o (shape_of graph) events output
 
 -- the output is the text of the network that is asked for
@@ -193,7 +207,8 @@ IsExploreOutput o input output = (graph : RawShape) × TextIs input (Ok graph) �
 abbrev pub IsPrinted : Task → List ℕ → List ℕ → List ℕ → Type 0
 IsPrinted (task.Tree core) stored input output = IsTreeText core input output
 IsPrinted (task.Run o) stored input output = IsRunOutput o false input output
-IsPrinted (task.Replay wake) stored input output = IsReplayText wake stored input output
+IsPrinted (task.Boruvka o) stored input output = IsBoruvkaOutput o false input output
+IsPrinted (task.Replay p wake) stored input output = IsReplayText p wake stored input output
 IsPrinted (task.Steps o) stored input output = IsStepsText o stored input output
 IsPrinted (task.Sweep o) stored input output = IsSweepOutput o input output
 IsPrinted (task.View o) stored input output = IsViewOutput o input output
@@ -205,7 +220,8 @@ IsPrinted (task.Explore o) stored input output = IsExploreOutput o input output
 abbrev pub IsPrintedAtLimit : Task → List ℕ → List ℕ → Type 0
 IsPrintedAtLimit (task.Tree core) input output = ⊥
 IsPrintedAtLimit (task.Run o) input output = IsRunOutput o true input output
-IsPrintedAtLimit (task.Replay wake) input output = ⊥
+IsPrintedAtLimit (task.Boruvka o) input output = IsBoruvkaOutput o true input output
+IsPrintedAtLimit (task.Replay p wake) input output = ⊥
 IsPrintedAtLimit (task.Steps o) input output = ⊥
 IsPrintedAtLimit (task.Sweep o) input output = ⊥
 IsPrintedAtLimit (task.View o) input output = ⊥
@@ -213,15 +229,16 @@ IsPrintedAtLimit (task.StoredView o) input output = ⊥
 IsPrintedAtLimit (task.Make asked) input output = ⊥
 IsPrintedAtLimit (task.Explore o) input output = ⊥
 
--- what is stored gives this fault; it may be too long, and the reader and memory may fail for any
-abbrev pub IsTraceCause : List ℕ → ServeFault → Type 0
-IsTraceCause stored (serve.TraceBadLine line) = (IsTooLong stored → ⊥) × HasFault stored (trace.BadLine line)
-IsTraceCause stored (serve.TraceNumber line) = (IsTooLong stored → ⊥) × HasFault stored (trace.Number line)
-IsTraceCause stored (serve.TraceCount said found) = (IsTooLong stored → ⊥) × HasFault stored (trace.Count said found)
-IsTraceCause stored serve.TooLong = IsTooLong stored
-IsTraceCause stored serve.Memory = Unit {0}
-IsTraceCause stored serve.Read = Unit {0}
-IsTraceCause stored _ = ⊥
+-- what is stored gives this fault to who asks for a run of the protocol; it may be too long, and the reader and memory may fail for any
+abbrev pub IsTraceCause : Protocol → List ℕ → ServeFault → Type 0
+IsTraceCause p stored (serve.TraceBadLine line) = (IsTooLong stored → ⊥) × HasFaultOf p stored (Trace (trace.BadLine line))
+IsTraceCause p stored (serve.TraceNumber line) = (IsTooLong stored → ⊥) × HasFaultOf p stored (Trace (trace.Number line))
+IsTraceCause p stored (serve.TraceCount said found) = (IsTooLong stored → ⊥) × HasFaultOf p stored (Trace (trace.Count said found))
+IsTraceCause p stored (serve.TraceOf other) = (IsTooLong stored → ⊥) × HasFaultOf p stored (Other other)
+IsTraceCause p stored serve.TooLong = IsTooLong stored
+IsTraceCause p stored serve.Memory = Unit {0}
+IsTraceCause p stored serve.Read = Unit {0}
+IsTraceCause p stored _ = ⊥
 
 -- the input gives this fault; the reader and memory may fail for any
 abbrev pub IsGraphCause : List ℕ → ServeFault → Type 0
@@ -250,22 +267,28 @@ IsRunCause wake g events serve.NotEnded = IsRunUnder (may_wake g wake) (network_
 IsRunCause wake g events serve.Memory = Unit {0}
 IsRunCause wake g events _ = ⊥
 
+-- the same by the rules of a protocol
+abbrev pub IsRunCauseBy : Protocol → WakeSet → Shape → List Event → ServeFault → Type 0
+IsRunCauseBy protocol.Ghs wake g events fault = IsRunCause wake g events fault
+IsRunCauseBy protocol.Boruvka wake g events fault = in_step.IsRunCause wake g events fault
+
 -- a trace is stored and the input is the text of a graph, and they give this fault together
-pub record GiveFault (wake : WakeSet) (stored input : List ℕ) (fault : ServeFault) : Type 0 where
+pub record GiveFault (p : Protocol) (wake : WakeSet) (stored input : List ℕ) (fault : ServeFault) : Type 0 where
   pub events : List Event
-  pub trace : IsTraceText stored events
+  pub trace : IsTraceText p stored events
   pub graph : RawShape
   pub text : TextIs input (Ok graph)
-  pub cause : IsRunCause wake (shape_of graph) events fault
+  pub cause : IsRunCauseBy p wake (shape_of graph) events fault
 
 -- why a replay prints nothing: the trace, which is read first, the graph, or the run
-abbrev pub IsReplayCause : WakeSet → List ℕ → List ℕ → ServeFault → Type 0
-IsReplayCause wake stored input fault =
-    IsTraceCause stored fault ⊎ (((events : List Event) × IsTraceText stored events × IsGraphCause input fault) ⊎ GiveFault wake stored input fault)
+abbrev pub IsReplayCause : Protocol → WakeSet → List ℕ → List ℕ → ServeFault → Type 0
+IsReplayCause p wake stored input fault =
+    IsTraceCause p stored fault
+    ⊎ (((events : List Event) × IsTraceText p stored events × IsGraphCause input fault) ⊎ GiveFault p wake stored input fault)
 
 -- why the steps of a stored run aren't printed: as for a replay, but that the run needn't have ended
 abbrev pub IsStepsCause : WakeSet → List ℕ → List ℕ → ServeFault → Type 0
-IsStepsCause wake stored input fault = (fault ≡ serve.NotEnded → ⊥) × IsReplayCause wake stored input fault
+IsStepsCause wake stored input fault = (fault ≡ serve.NotEnded → ⊥) × IsReplayCause protocol.Ghs wake stored input fault
 
 -- why a run of a graph doesn't end well: its turns are used, or threads fail; an event is always ready, and each has a rule
 abbrev pub StopsRun : RunOptions → Shape → ServeFault → Type 0
@@ -279,6 +302,10 @@ StopsRun o g _ = ⊥
 abbrev pub IsRunningCause : RunOptions → List ℕ → ServeFault → Type 0
 IsRunningCause o input fault = IsGraphCause input fault ⊎ ((graph : RawShape) × TextIs input (Ok graph) × StopsRun o (shape_of graph) fault)
 
+-- why a run by Borůvka in step doesn't end well: the graph, or the run of it
+abbrev pub IsBoruvkaCause : BoruvkaOptions → List ℕ → ServeFault → Type 0
+IsBoruvkaCause o input fault = IsGraphCause input fault ⊎ ((graph : RawShape) × TextIs input (Ok graph) × in_step.StopsRun o (shape_of graph) fault)
+
 -- why the page of a run isn't printed: the graph, or the run of it
 abbrev pub IsViewCause : ViewOptions → List ℕ → ServeFault → Type 0
 IsViewCause o input fault = IsGraphCause input fault ⊎ ((graph : RawShape) × TextIs input (Ok graph) × HasNoView o (shape_of graph) fault)
@@ -286,7 +313,7 @@ IsViewCause o input fault = IsGraphCause input fault ⊎ ((graph : RawShape) × 
 -- a trace is stored and the input is the text of a graph, and they have no page
 pub record HaveNoPage (o : StoredViewOptions) (stored input : List ℕ) (fault : ServeFault) : Type 0 where
   pub events : List Event
-  pub trace : IsTraceText stored events
+  pub trace : IsTraceText protocol.Ghs stored events
   pub graph : RawShape
   pub text : TextIs input (Ok graph)
   pub cause : HasNoStoredView o (shape_of graph) events fault
@@ -294,7 +321,8 @@ pub record HaveNoPage (o : StoredViewOptions) (stored input : List ℕ) (fault :
 -- why the page of a stored run isn't printed: the trace, which is read first, the graph, or the run
 abbrev pub IsStoredViewCause : StoredViewOptions → List ℕ → List ℕ → ServeFault → Type 0
 IsStoredViewCause o stored input fault =
-    IsTraceCause stored fault ⊎ (((events : List Event) × IsTraceText stored events × IsGraphCause input fault) ⊎ HaveNoPage o stored input fault)
+    IsTraceCause protocol.Ghs stored fault
+    ⊎ (((events : List Event) × IsTraceText protocol.Ghs stored events × IsGraphCause input fault) ⊎ HaveNoPage o stored input fault)
 
 -- why a network isn't made: what is asked for is refused, it has too many links, or memory runs out
 abbrev pub IsMakeCause : Asked → ServeFault → Type 0
@@ -314,7 +342,8 @@ IsExploreCause o input fault = IsGraphCause input fault ⊎ ((graph : RawShape) 
 abbrev pub IsCause : Task → List ℕ → List ℕ → ServeFault → Type 0
 IsCause (task.Tree core) stored input fault = IsGraphCause input fault
 IsCause (task.Run o) stored input fault = IsRunningCause o input fault
-IsCause (task.Replay wake) stored input fault = IsReplayCause wake stored input fault
+IsCause (task.Boruvka o) stored input fault = IsBoruvkaCause o input fault
+IsCause (task.Replay p wake) stored input fault = IsReplayCause p wake stored input fault
 IsCause (task.Steps o) stored input fault = IsStepsCause o.wake stored input fault
 IsCause (task.Sweep o) stored input fault = IsGraphCause input fault
 IsCause (task.View o) stored input fault = IsViewCause o input fault
@@ -326,7 +355,8 @@ IsCause (task.Explore o) stored input fault = IsExploreCause o input fault
 abbrev pub IsTried : Task → List ℕ → List ℕ → List ℕ → Type 0
 IsTried (task.Tree core) stored input output = IsTreeText core input output
 IsTried (task.Run o) stored input output = (at_limit : Bool) × IsRunOutput o at_limit input output
-IsTried (task.Replay wake) stored input output = IsReplayText wake stored input output
+IsTried (task.Boruvka o) stored input output = (at_limit : Bool) × IsBoruvkaOutput o at_limit input output
+IsTried (task.Replay p wake) stored input output = IsReplayText p wake stored input output
 IsTried (task.Steps o) stored input output = IsStepsText o stored input output
 IsTried (task.Sweep o) stored input output = IsSweepOutput o input output
 IsTried (task.View o) stored input output = IsViewOutput o input output
@@ -343,7 +373,8 @@ is_events Time = false
 abbrev pub shows_events : Task → Bool
 shows_events (task.Tree core) = false
 shows_events (task.Run o) = is_events o.show
-shows_events (task.Replay wake) = false
+shows_events (task.Boruvka o) = in_step.is_events o.show
+shows_events (task.Replay p wake) = false
 shows_events (task.Steps o) = false
 shows_events (task.Sweep o) = false
 shows_events (task.View o) = false
@@ -377,7 +408,8 @@ Serves job stored input old new (Err fault) = IsCause job stored input fault
 abbrev pub IfStored : Task → Option (List ℕ) → (List ℕ → Type 0) → Type 0
 IfStored (task.Tree core) stored P = (bytes : List ℕ) → P bytes
 IfStored (task.Run o) stored P = (bytes : List ℕ) → P bytes
-IfStored (task.Replay wake) stored P = IfSome stored P
+IfStored (task.Boruvka o) stored P = (bytes : List ℕ) → P bytes
+IfStored (task.Replay p wake) stored P = IfSome stored P
 IfStored (task.Steps o) stored P = IfSome stored P
 IfStored (task.Sweep o) stored P = (bytes : List ℕ) → P bytes
 IfStored (task.View o) stored P = (bytes : List ℕ) → P bytes
@@ -406,7 +438,8 @@ is_memory _ = false
 abbrev pub by_portions : Task → Bool
 by_portions (task.Tree core) = false
 by_portions (task.Run o) = false
-by_portions (task.Replay wake) = false
+by_portions (task.Boruvka o) = false
+by_portions (task.Replay p wake) = false
 by_portions (task.Steps o) = true
 by_portions (task.Sweep o) = false
 by_portions (task.View o) = false
@@ -427,7 +460,8 @@ IsUnwritten job old new (Err fault) = is_late job fault ≡ false → new ≡ ol
 abbrev pub IsUnread : {T : Type 0} → Task → T → T → Type 0
 IsUnread (task.Tree core) old new = new ≡ old
 IsUnread (task.Run o) old new = new ≡ old
-IsUnread (task.Replay wake) old new = Unit {0}
+IsUnread (task.Boruvka o) old new = new ≡ old
+IsUnread (task.Replay p wake) old new = Unit {0}
 IsUnread (task.Steps o) old new = Unit {0}
 IsUnread (task.Sweep o) old new = new ≡ old
 IsUnread (task.View o) old new = new ≡ old

@@ -1,5 +1,5 @@
 //! Why the program gives no answer.
-ghost use Rattle.ghs_cli.specs.Fault.{of_gr, of_make, of_replay, of_steps, of_text, of_trace, of_unwritten, status_of};
+ghost use Rattle.ghs_cli.specs.Fault.{of_gr, of_make, of_replay, of_steps, of_stored, of_text, of_trace, of_unwritten, status_of};
 ghost use Rattle.std.specs.Prelude.{◌≡◌};
 
 use ghs_gr::fault::GrFault;
@@ -9,6 +9,8 @@ use ghs_report::portions::WriteFault;
 use ghs_report::write_out::Partial;
 use ghs_sched::fault::{ReplayFault, TraceFault};
 use ghs_steps::show::StepsFault;
+use peer_trace::fault::StoredFault;
+use peer_trace::protocol::Protocol;
 use std::alloc::AllocError;
 use thiserror::Error;
 
@@ -37,6 +39,9 @@ pub enum ServeFault {
     TraceNumber(u64),
     #[error("events said {said}, found {found}")]
     TraceCount { said: u64, found: u64 },
+    /// It is one of this other protocol.
+    #[error("the trace is of --protocol {}", .0.name())]
+    TraceOf(Protocol),
     #[error("trace event {0} is not lawful")]
     NotLawful(u64),
     #[error("page too large: at most 2000 nodes and 100000 events; --to shortens it, --from only opens it later")]
@@ -143,6 +148,17 @@ impl From<TraceFault> for ServeFault {
             TraceFault::Number(line) => ServeFault::TraceNumber(line),
             TraceFault::Count { said, found } => ServeFault::TraceCount { said, found },
             TraceFault::Memory => ServeFault::Memory,
+        }
+    }
+}
+
+impl From<StoredFault> for ServeFault {
+    ghost from_gives = { λ x e. e ≡ of_stored x };
+
+    fn from(fault: StoredFault) -> ServeFault {
+        match fault {
+            StoredFault::Other(protocol) => ServeFault::TraceOf(protocol),
+            StoredFault::Trace(fault) => fault.into(),
         }
     }
 }

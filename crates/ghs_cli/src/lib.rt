@@ -13,6 +13,7 @@ mod beside;
 mod charting;
 mod exploring;
 pub mod fault;
+mod in_step;
 mod making;
 pub mod networks;
 mod parting;

@@ -9,7 +9,9 @@ use ghs_gr::judgement::read_gr;
 use ghs_gr::text::read_text;
 use ghs_graph::graph::Graph;
 use ghs_protocol::event::Event;
-use ghs_sched::trace::{EVENT_LIMIT, read_trace};
+use ghs_sched::trace::EVENT_LIMIT;
+use peer_trace::protocol::Protocol;
+use peer_trace::trace::read_trace_of;
 use std::alloc::Global;
 
 /// The graph whose text the device gives.
@@ -28,15 +30,19 @@ pub(crate) fn graph_of<R: Source>(alloc: Global, graph: &mut R) -> Result<Graph,
     }
 }
 
-/// The events whose text the device gives.
-pub(crate) fn events_of<T: Source>(alloc: Global, trace: &mut T) -> Result<Vec<Event>, ServeFault>
+/// The events whose text the device gives, of a run of a protocol.
+pub(crate) fn events_of<T: Source>(
+    alloc: Global,
+    protocol: Protocol,
+    trace: &mut T,
+) -> Result<Vec<Event>, ServeFault>
     requires { T.has_failed trace.old ≡ false }
-    ensures events { IfOk result (λ events. IfSome (T.left trace.old) (λ stored. IsTraceText stored events.items)) }
+    ensures events { IfOk result (λ events. IfSome (T.left trace.old) (λ stored. IsTraceText protocol stored events.items)) }
     ensures few { IfOk result (λ events. length events.items ≤ EVENT_LIMIT) }
-    ensures fault { IfErr result (λ fault. IfSome (T.left trace.old) (λ stored. IsTraceCause stored fault)) }
+    ensures fault { IfErr result (λ fault. IfSome (T.left trace.old) (λ stored. IsTraceCause protocol stored fault)) }
     ensures early { IfErr result (λ fault. is_write fault ≡ false) }
     ensures read { IsErrOf result ServeFault.Read ↔ (T.has_failed trace.new ≡ true) }
 {
     let text = read_text(alloc, trace)?;
-    Ok(read_trace(alloc, &text)?)
+    Ok(read_trace_of(alloc, protocol, &text)?)
 }

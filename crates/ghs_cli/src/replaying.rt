@@ -4,11 +4,12 @@ ghost use Rattle.ghs_protocol.specs.Marks.{HasEnded};
 ghost use Rattle.ghs_protocol.specs.Run.{IsRunUnder};
 ghost use Rattle.ghs_report.specs.ReportText.{IsReportText};
 ghost use Rattle.ghs_world.specs.WorldState.{home, wakers};
-ghost use Rattle.ghs_cli.specs.Serving.{GoesOn, IsReplayCause, IsReplayText, IsReplayed, IsRunCause, is_write};
+ghost use Rattle.ghs_cli.specs.Serving.{GoesOn, IsReplayCause, IsReplayText, IsReplayed, IsReplayedBy, IsRunCause, IsRunCauseBy, is_write};
 ghost use Rattle.ghs_cli.specs.declared.fault.ServeFault.{ServeFault};
 ghost use Rattle.std.specs.Prelude.{◌≡◌, ◌≤◌, ◌⊎◌, ◌↔◌, false, length, true, IfSome, IsErrOf, OnOk, IfErr, IfOk};
 
 use crate::fault::ServeFault;
+use crate::in_step;
 use crate::reading::{events_of, graph_of};
 use ghs_gr::device::Source;
 use ghs_graph::graph::Graph;
@@ -19,28 +20,48 @@ use ghs_sched::replay::replay;
 use ghs_sched::trace::EVENT_LIMIT;
 use ghs_world::wake_set::WakeSet;
 use ghs_world::world::World;
+use peer_trace::protocol::Protocol;
 use std::alloc::Global;
 
 /// The text of the net that a stored run leaves of the graph that a device gives.
 pub(crate) fn replay_text_of<R: Source, T: Source>(
     alloc: Global,
+    protocol: Protocol,
     wake: WakeSet,
     graph: &mut R,
     trace: &mut T,
 ) -> Result<Vec<u8>, ServeFault>
     requires graph { R.has_failed graph.old ≡ false }
     requires trace { T.has_failed trace.old ≡ false }
-    ensures text { IfOk result (λ text. IfSome (T.left trace.old) (λ stored. IfSome (R.left graph.old) (λ input. IsReplayText wake stored input text.items))) }
-    ensures fault { IfErr result (λ fault. IfSome (T.left trace.old) (λ stored. IfSome (R.left graph.old) (λ input. IsReplayCause wake stored input fault))) }
+    ensures text { IfOk result (λ text. IfSome (T.left trace.old) (λ stored. IfSome (R.left graph.old) (λ input. IsReplayText protocol wake stored input text.items))) }
+    ensures fault { IfErr result (λ fault. IfSome (T.left trace.old) (λ stored. IfSome (R.left graph.old) (λ input. IsReplayCause protocol wake stored input fault))) }
     ensures early { IfErr result (λ fault. is_write fault ≡ false) }
     ensures read { IsErrOf result ServeFault.Read ↔ ((R.has_failed graph.new ≡ true) ⊎ (T.has_failed trace.new ≡ true)) }
 {
-    let events = events_of(alloc, trace)?;
+    let events = events_of(alloc, protocol, trace)?;
     let graph = graph_of(alloc, graph)?;
-    replayed(alloc, wake, graph, &events)
+    replayed_by(alloc, protocol, wake, graph, &events)
 }
 
-/// The text of the net that a list of events leaves of a graph.
+/// The text of the net that a list of events leaves of a graph, by the rules of a protocol.
+fn replayed_by(
+    alloc: Global,
+    protocol: Protocol,
+    wake: WakeSet,
+    graph: Graph,
+    events: &[Event],
+) -> Result<Vec<u8>, ServeFault>
+    requires { length events.now ≤ EVENT_LIMIT }
+    ensures text { IfOk result (λ text. IsReplayedBy protocol wake graph events.now text.items) }
+    ensures fault { IfErr result (λ fault. IsRunCauseBy protocol wake graph events.now fault) }
+{
+    match protocol {
+        Protocol::Ghs => replayed(alloc, wake, graph, events),
+        Protocol::Boruvka => in_step::replayed(alloc, wake, graph, events),
+    }
+}
+
+/// The text of the net that a list of events leaves of a graph, by GHS.
 fn replayed(
     alloc: Global,
     wake: WakeSet,

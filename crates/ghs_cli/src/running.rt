@@ -38,9 +38,9 @@ use std::thread::Threads;
 
 /// What goes out of a run, and whether the answer behind it is that its turns are used.
 #[derive(Drop)]
-struct Output {
-    text: Vec<u8>,
-    at_limit: bool,
+pub(crate) struct Output {
+    pub text: Vec<u8>,
+    pub at_limit: bool,
 }
 
 /// Runs the graph that the device gives, and writes what is asked for of the run. Where its events are asked for, they go

@@ -7,6 +7,7 @@ ghost use Rattle.std.specs.Prelude.{◌≡◌, ◌⊎◌, ◌↔◌, false, true
 
 use crate::exploring::explored_text_of;
 use crate::fault::ServeFault;
+use crate::in_step::write_boruvka_of;
 use crate::making::write_network_of;
 use crate::printing::print;
 use crate::replaying::replay_text_of;
@@ -34,7 +35,7 @@ use std::thread::Threads;
 /// written is passed over. Where the events of a run are asked for, they go out before the answer that its turns are
 /// used, and a write that fails then is answered in its place. A patient run, one by rounds, or one of what was sent
 /// last, without threads, that has turns for 2(B + N) events, B the bound and N the nodes, is never answered by its
-/// turns.
+/// turns; nor is a run by Borůvka in step that has turns for its bound and the nodes.
 ///
 /// ```text
 /// let job = read_job(alloc, &words)?;                       // the word tree
@@ -64,7 +65,10 @@ pub fn serve<R: Source, T: Source, W: Sink, H: Threads + Wait + Eprint + Sync>(
     match &job.task {
         Task::Tree { core } => print(tree_text_of(alloc, *core, graph), out),
         Task::Run(options) => write_run_of(rt, alloc, options, graph, out),
-        Task::Replay { wake } => print(replay_text_of(alloc, *wake, graph, trace), out),
+        Task::Boruvka(options) => write_boruvka_of(alloc, options, graph, out),
+        Task::Replay { protocol, wake } => {
+            print(replay_text_of(alloc, *protocol, *wake, graph, trace), out)
+        }
         Task::Steps(options) => write_steps_of(alloc, options, graph, trace, out),
         Task::Sweep(options) => print(sweep_text_of(rt, alloc, options, graph), out),
         Task::View(options) => print(view_text_of(alloc, options, graph), out),

@@ -9,6 +9,7 @@ use crate::reading::{events_of, graph_of};
 use ghs_commands::job::StepsOptions;
 use ghs_gr::device::{Sink, Source};
 use ghs_steps::show::write_steps;
+use peer_trace::protocol::Protocol;
 use std::alloc::Global;
 
 /// Writes the lines of the chosen steps of a stored run of the graph that a device gives. The trace is judged first, then
@@ -28,7 +29,7 @@ pub(crate) fn write_steps_of<R: Source, T: Source, W: Sink>(
     ensures write { IsWrite result ↔ (W.has_failed out.new ≡ true) }
     ensures unwritten { IfErr result (λ fault. is_late (Task.Steps options.now) fault ≡ false → out.new ≡ out.old) }
 {
-    let events = events_of(alloc, trace)?;
+    let events = events_of(alloc, Protocol::Ghs, trace)?;
     let graph = graph_of(alloc, graph)?;
     write_steps(
         alloc,

@@ -20,6 +20,7 @@ use ghs_sched::trace::EVENT_LIMIT;
 use ghs_view::page::{PageFault, run_page};
 use ghs_view::stored::{StoredFault, stored_page};
 use ghs_world::world::World;
+use peer_trace::protocol::Protocol;
 use std::alloc::Global;
 
 /// The page of the run that a seed picks of the graph that the device gives, or of the runs of two.
@@ -117,7 +118,7 @@ pub(crate) fn stored_view_of<R: Source, T: Source>(
     ensures early { IfErr result (λ fault. is_write fault ≡ false) }
     ensures read { IsErrOf result ServeFault.Read ↔ ((R.has_failed graph.new ≡ true) ⊎ (T.has_failed trace.new ≡ true)) }
 {
-    let events = events_of(alloc, trace)?;
+    let events = events_of(alloc, Protocol::Ghs, trace)?;
     let graph = graph_of(alloc, graph)?;
     stored_viewed(alloc, options, graph, &events)
 }

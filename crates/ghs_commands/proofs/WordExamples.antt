@@ -76,3 +76,19 @@ replay-named = refl
 no_trace-refused : kinds_of (codes "replay" ∷ []) ≡ kind.MissingRequiredArgument ∷ []
 unfolding program clap_on_literals
 no_trace-refused = refl
+
+boruvka-taken : kinds_of (codes "run" ∷ codes "--protocol" ∷ codes "boruvka" ∷ codes "map.gr" ∷ []) ≡ []
+unfolding program clap_on_literals
+boruvka-taken = refl
+
+protocol-not_given : value_in (codes "protocol") (command_in (codes "run" ∷ codes "map.gr" ∷ [])) ≡ Some (codes "ghs")
+unfolding program clap_on_literals
+protocol-not_given = refl
+
+protocol-refused : kinds_of (codes "run" ∷ codes "--protocol" ∷ codes "prim" ∷ []) ≡ kind.InvalidValue ∷ []
+unfolding program clap_on_literals
+protocol-refused = refl
+
+threads-refused : kinds_of (codes "run" ∷ codes "--protocol" ∷ codes "boruvka" ∷ codes "--workers" ∷ codes "2" ∷ []) ≡ kind.InvalidValue ∷ []
+unfolding program clap_on_literals
+threads-refused = refl

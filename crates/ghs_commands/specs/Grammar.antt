@@ -36,6 +36,10 @@ trace_rule = record (new_rule (codes "TRACE")) { required = true }
 abbrev pub option_rule : Text → Text → Rule
 option_rule name default = record (new_rule name) { long = Some name; defaults = default ∷ [] }
 
+-- `--protocol`: which protocol the nodes follow
+abbrev pub protocol_rule : Rule
+protocol_rule = option_rule (codes "protocol") (codes "ghs")
+
 -- `--seed`: which schedule picks the events
 abbrev pub seed_rule : Rule
 seed_rule = option_rule (codes "seed") (codes "1")
@@ -111,18 +115,18 @@ wake_rule = option_rule (codes "wake") (codes "all")
 abbrev pub tree_command : App
 tree_command = with_rules (file_rule ∷ core_rule ∷ []) (new_app (codes "tree"))
 
--- `run [FILE] [--seed S] [--schedule seeded|patient|rounds|waits|lifo] [--workers W] [--wake all|first] [--turns T] [--print report|trace|time]
--- [--core] [--progress] [--tally]`
+-- `run [FILE] [--protocol ghs|boruvka] [--seed S] [--schedule seeded|patient|rounds|waits|lifo] [--workers W] [--wake all|first] [--turns T]
+-- [--print report|trace|time] [--core] [--progress] [--tally]`
 abbrev pub run_command : App
 run_command =
     with_rules
-    (file_rule ∷ seed_rule ∷ schedule_rule ∷ workers_rule ∷ wake_rule
+    (file_rule ∷ protocol_rule ∷ seed_rule ∷ schedule_rule ∷ workers_rule ∷ wake_rule
     ∷ turns_rule ∷ print_rule ∷ core_rule ∷ progress_rule ∷ tally_rule ∷ [])
     (new_app (codes "run"))
 
--- `replay TRACE [FILE] [--wake all|first]`
+-- `replay TRACE [FILE] [--protocol ghs|boruvka] [--wake all|first]`
 abbrev pub replay_command : App
-replay_command = with_rules (trace_rule ∷ file_rule ∷ wake_rule ∷ []) (new_app (codes "replay"))
+replay_command = with_rules (trace_rule ∷ file_rule ∷ protocol_rule ∷ wake_rule ∷ []) (new_app (codes "replay"))
 
 -- `steps TRACE [FILE] [--wake all|first] [--from A] [--to B] [--node V] [--json]`
 abbrev pub steps_command : App

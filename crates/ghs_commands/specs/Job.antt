@@ -1,5 +1,5 @@
 -- Command lines: what the words of the program ask for, and what is said of others.
-use Rattle.std.specs.Prelude.{◌≡◌, ◌≢◌, ◌↔◌, ◌⊎◌, ℕ, ◌≤◌, Bool, true, ◌&&◌, codes, List, [], ◌∷◌, Option, Some, None, unwrap_or, if◌then◌else◌}
+use Rattle.std.specs.Prelude.{◌≡◌, ◌≢◌, ◌↔◌, ◌⊎◌, ℕ, ◌≤◌, Bool, true, ◌&&◌, not, codes, List, [], ◌∷◌, Option, Some, None, unwrap_or, if◌then◌else◌}
 use Rattle.std.specs.Option.{option_and_then, option_map}
 use Rattle.clap.specs.Kinds.{Kinds, IsAmong, or_else}
 use Rattle.clap.specs.Words.{Row, Text, fault_of, first_of, subcommand_of}
@@ -21,6 +21,9 @@ use Rattle.ghs_commands.specs.declared.job.JobFault.{JobFault}
 use Rattle.ghs_commands.specs.declared.job.JobFault.TheVariants as fault
 use Rattle.ghs_steps.specs.declared.form.Form.{Form}
 use Rattle.ghs_steps.specs.declared.form.Form.TheVariants.{Json}
+use Rattle.ghs_commands.specs.declared.boruvka.BoruvkaOptions.{BoruvkaOptions}
+use Rattle.ghs_commands.specs.declared.boruvka.BoruvkaShow.{BoruvkaShow}
+use Rattle.ghs_commands.specs.declared.boruvka.BoruvkaShow.TheVariants as boruvka
 use Rattle.ghs_commands.specs.declared.exploring.ExploreOptions.{ExploreOptions}
 use Rattle.ghs_commands.specs.declared.exploring.Finding.{Finding}
 use Rattle.ghs_commands.specs.declared.exploring.Finding.TheVariants.{Run}
@@ -41,7 +44,11 @@ use Rattle.ghs_commands.specs.declared.two_seeds.TwoSeeds.{TwoSeeds}
 use Rattle.ghs_commands.specs.declared.values.Seeds.{Seeds}
 use Rattle.ghs_commands.specs.Networks.{are_read_once, named_of, values_in}
 use Rattle.ghs_parts.specs.declared.by.By.{By}
-use Rattle.ghs_commands.specs.Parts.{by_named, go_together, is_part}
+use Rattle.peer_trace.specs.Protocol.{protocol_named}
+use Rattle.peer_trace.specs.declared.protocol.Protocol.{Protocol}
+use Rattle.peer_trace.specs.declared.protocol.Protocol.TheVariants.{Boruvka, Ghs}
+use Rattle.ghs_commands.specs.Parts.{by_named, go_together, is_part, is_said}
+use Rattle.ghs_commands.specs.Protocols.{is_protocol}
 use Rattle.ghs_commands.specs.TwoSeeds.{are_two, two_seeds_of}
 use Rattle.ghs_commands.specs.Values.{AreSeeds, are_apart, are_weights, is_among, is_kind, is_number, is_range, number_in, seeds_of}
 
@@ -157,6 +164,21 @@ pub record AreOptions (command : Used) (o : RunOptions) : Type 0 where
   pub progress : IsToldOf command o.progress
   pub tally : IsTallyOf command o.tally
 
+-- the protocol that `--protocol` names; it names one that there is, or the words are refused, and a command without it is of GHS
+abbrev pub protocol_in : Used → Protocol
+protocol_in command = unwrap_or (option_and_then protocol_named (value_in (codes "protocol") command)) Ghs
+
+-- what of a run by Borůvka in step is printed, as `--print` says
+abbrev pub IsBoruvkaShow : Used → BoruvkaShow → Type 0
+IsBoruvkaShow command show = (show ≡ boruvka.Events) ↔ (value_in (codes "print") command ≡ Some (codes "trace"))
+
+-- how a command asks for a network to be run by that protocol
+pub record AreBoruvkaOptions (command : Used) (o : BoruvkaOptions) : Type 0 where
+  pub seed : o.seed ≡ seed_in command
+  pub wake : IsWake command o.wake
+  pub turns : o.turns ≡ turns_in command
+  pub show : IsBoruvkaShow command o.show
+
 -- which runs a command asks to be swept
 pub record AreSweepOptions (command : Used) (o : SweepOptions) : Type 0 where
   pub seeds : o.seeds ≡ seeds_at command
@@ -242,8 +264,9 @@ pub record IsNoOther (command : Used) : Type 0 where
 -- the task that a command asks for
 abbrev pub IsTask : Used → Task → Type 0
 IsTask command (task.Tree core) = IsNoOther command × IsCoreOf command core
-IsTask command (task.Run options) = (name_in command ≡ Some (codes "run")) × AreOptions command options
-IsTask command (task.Replay wake) = (name_in command ≡ Some (codes "replay")) × IsWake command wake
+IsTask command (task.Run options) = (name_in command ≡ Some (codes "run")) × (protocol_in command ≡ Ghs) × AreOptions command options
+IsTask command (task.Boruvka options) = (name_in command ≡ Some (codes "run")) × (protocol_in command ≡ Boruvka) × AreBoruvkaOptions command options
+IsTask command (task.Replay protocol wake) = (name_in command ≡ Some (codes "replay")) × (protocol ≡ protocol_in command) × IsWake command wake
 IsTask command (task.Steps options) = (name_in command ≡ Some (codes "steps")) × AreStepsOptions command options
 IsTask command (task.Sweep options) = (name_in command ≡ Some (codes "sweep")) × AreSweepOptions command options
 IsTask command (task.View options) =
@@ -256,6 +279,10 @@ IsTask command (task.Explore options) = (name_in command ≡ Some (codes "explor
 -- numbers are within their limits
 pub record AreWithinLimits (o : RunOptions) : Type 0 where
   pub workers : o.workers ≤ MOST_WORKERS
+  pub some : 1 ≤ o.turns
+  pub few : o.turns ≤ EVENT_LIMIT
+
+pub record AreBoruvkaLimits (o : BoruvkaOptions) : Type 0 where
   pub some : 1 ≤ o.turns
   pub few : o.turns ≤ EVENT_LIMIT
 
@@ -277,7 +304,8 @@ pub record AreExploreLimits (o : ExploreOptions) : Type 0 where
 abbrev pub IsWithinLimits : Task → Type 0
 IsWithinLimits (task.Tree core) = Unit {0}
 IsWithinLimits (task.Run options) = AreWithinLimits options
-IsWithinLimits (task.Replay wake) = Unit {0}
+IsWithinLimits (task.Boruvka options) = AreBoruvkaLimits options
+IsWithinLimits (task.Replay protocol wake) = Unit {0}
 IsWithinLimits (task.Steps options) = Unit {0}
 IsWithinLimits (task.Sweep options) = AreSweepLimits options
 IsWithinLimits (task.View options) = AreViewLimits options
@@ -333,6 +361,28 @@ has_network command =
 abbrev pub has_seeds : Used → Bool
 has_seeds command = is_range (value_in (codes "seeds") command) && are_two (value_in (codes "pair") command)
 
+-- all that is asked for goes with Borůvka in step: no threads, no other schedule than the seeded, no time, no cores, and nothing is told of the run
+abbrev pub fits_boruvka : Used → Bool
+fits_boruvka command =
+    is_number 0 0 (value_in (codes "workers") command)
+    && is_among (codes "seeded" ∷ []) (value_in (codes "schedule") command)
+    && is_among (codes "report" ∷ codes "trace" ∷ []) (value_in (codes "print") command)
+    && not (is_said (codes "true") (value_in (codes "core") command))
+    && not (is_said (codes "true") (value_in (codes "progress") command))
+    && not (is_said (codes "true") (value_in (codes "tally") command))
+
+-- GHS goes with everything
+abbrev pub fits_by : Protocol → Used → Bool
+fits_by Ghs command = true
+fits_by Boruvka command = fits_boruvka command
+
+abbrev pub fits_protocol : Used → Bool
+fits_protocol command = fits_by (protocol_in command) command
+
+-- there is such a protocol, and all that is asked for goes with it
+abbrev pub has_protocol : Used → Bool
+has_protocol command = is_protocol (value_in (codes "protocol") command) && fits_protocol command
+
 -- the figures of a sweep can be printed as it is asked for
 abbrev pub has_figures : Used → Bool
 has_figures command =
@@ -352,6 +402,7 @@ has_values command =
     && has_numbers command
     && has_network command
     && has_seeds command
+    && has_protocol command
     && has_figures command
     && has_sources command
 

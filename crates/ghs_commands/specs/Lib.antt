@@ -3,5 +3,6 @@ pub mod Grammar
 pub mod Job
 pub mod Networks
 pub mod Parts
+pub mod Protocols
 pub mod TwoSeeds
 pub mod Values

@@ -1,7 +1,7 @@
 //! The words that the program takes.
 ghost use Rattle.clap.specs.Words.{App, app_of, new_app, rule_of, with_subcommand};
 ghost use Rattle.clap.specs.declared.builder.command.Command.TheViews.{out-Command};
-ghost use Rattle.ghs_commands.specs.Grammar.{by_rule, core_rule, end_rule, explore_command, file_rule, files_rule, flag_rule, found_rule, from_rule, json_rule, kind_rule, limit_rule, links_rule, make_command, names_rule, node_rule, nodes_rule, option_rule, pair_rule, place_rule, print_rule, program, progress_rule, replay_command, run_command, schedule_rule, seed_rule, seeds_rule, sheet_rule, steps_command, sweep_command, tally_rule, to_rule, trace_rule, tree_command, turns_rule, valued_rule, view_command, wake_rule, weights_rule, with_rules, workers_rule, stored_rule};
+ghost use Rattle.ghs_commands.specs.Grammar.{by_rule, core_rule, end_rule, explore_command, file_rule, files_rule, flag_rule, found_rule, from_rule, json_rule, kind_rule, limit_rule, links_rule, make_command, names_rule, node_rule, nodes_rule, option_rule, pair_rule, place_rule, print_rule, program, progress_rule, protocol_rule, replay_command, run_command, schedule_rule, seed_rule, seeds_rule, sheet_rule, steps_command, sweep_command, tally_rule, to_rule, trace_rule, tree_command, turns_rule, valued_rule, view_command, wake_rule, weights_rule, with_rules, workers_rule, stored_rule};
 ghost use Rattle.std.specs.List.{All};
 ghost use Rattle.std.specs.Prelude.{◌≡◌, IfOk, false, map};
 
@@ -76,6 +76,7 @@ fn run<'a>(alloc: Global) -> Result<Command<'a>, AllocError>
 {
     let arguments = vec![in alloc;
         file(alloc),
+        protocol(alloc),
         seed(alloc),
         schedule(alloc),
         workers(alloc),
@@ -99,7 +100,7 @@ fn replay<'a>(alloc: Global) -> Result<Command<'a>, AllocError>
     ensures local { IfOk result (λ command. (out-Command command).has_globals ≡ false) }
     ensures app { IfOk result (λ command. app_of command ≡ replay_command) }
 {
-    let arguments = vec![in alloc; trace(alloc), file(alloc), wake(alloc)]?;
+    let arguments = vec![in alloc; trace(alloc), file(alloc), protocol(alloc), wake(alloc)]?;
     Ok(command(
         alloc,
         "replay",
@@ -438,6 +439,16 @@ fn schedule<'a>(alloc: Global) -> Arg<'a>
 {
     option(alloc, "schedule", "seeded").help(
         "Which events the seed picks among: seeded, all that may happen, patient, those that move the run on, rounds, those of them whose message arrives in the round, waits, those that only put a message back as long as there are any, so that such a run needn't end before its turns, or lifo, the one whose message was sent last",
+    )
+}
+
+/// Which protocol the nodes follow.
+fn protocol<'a>(alloc: Global) -> Arg<'a>
+    ensures local { result.global ≡ false }
+    ensures rule { rule_of result ≡ protocol_rule }
+{
+    option(alloc, "protocol", "ghs").help(
+        "Which protocol the nodes follow: ghs, or boruvka, Borůvka in step, without threads and by a seeded schedule alone",
     )
 }
 

@@ -10,10 +10,12 @@ ghost use Rattle.clap.specs.Words.{kind_of, subcommand_rows_of};
 ghost use Rattle.std.specs.Option.{option_map};
 ghost use Rattle.std.specs.Prelude.{◌≡◌, ◌≤◌, ◌↔◌, ◌∷◌, [], IfErr, IfOk, IfSome, OnErr, OnOk, Some, codes, false, map, string_bytes, true};
 
+use crate::boruvka::{BoruvkaOptions, boruvka_of};
 use crate::exploring::{ExploreOptions, MOST_STATES, exploration_of};
 use crate::grammar::program;
 use crate::networks::{are_read_once, input_twice, named_of, values_of};
 use crate::parts::{by_named, go_together, is_part, no_such_sheet};
+use crate::protocols::{check_protocol, protocol_of};
 use crate::two_seeds::{TwoSeeds, are_two, no_two_seeds, two_seeds_in};
 use crate::values::{
     Seeds, are_apart, are_weights, is_among, is_kind, is_number, is_range, is_text, no_kind,
@@ -30,6 +32,7 @@ use ghs_sched::trace::EVENT_LIMIT;
 use ghs_steps::choice::Choice;
 use ghs_steps::form::Form;
 use ghs_world::wake_set::WakeSet;
+use peer_trace::protocol::Protocol;
 use std::alloc::{AllocError, Global};
 
 /// How many nodes a network may have that is made.
@@ -154,8 +157,10 @@ pub enum Task {
     Tree { core: bool },
     /// Run a network.
     Run(RunOptions),
-    /// Play a stored run again.
-    Replay { wake: WakeSet },
+    /// Run a network by Borůvka in step.
+    Boruvka(BoruvkaOptions),
+    /// Play a stored run of a protocol again.
+    Replay { protocol: Protocol, wake: WakeSet },
     /// Print what each event of a stored run does.
     Steps(StepsOptions),
     /// Print the figures of many seeds' runs.
@@ -277,6 +282,7 @@ fn check_options<'a>(alloc: Global, matches: &ArgMatches<'a>) -> Result<(), JobF
     check_numbers(alloc, matches)?;
     check_network(alloc, matches)?;
     check_runs(alloc, matches)?;
+    check_protocol(alloc, matches)?;
     check_figures(alloc, matches)?;
     check_sources(alloc, matches)
 }
@@ -577,9 +583,10 @@ fn task_of<'a>(matches: &ArgMatches<'a>) -> Task
     ensures limits { IsWithinLimits result }
 {
     if matches.subcommand_name() == Some("run") {
-        Task::Run(options_of(matches))
+        run_by(matches)
     } else if matches.subcommand_name() == Some("replay") {
         Task::Replay {
+            protocol: protocol_of(matches),
             wake: wake_of(matches),
         }
     } else if matches.subcommand_name() == Some("steps") {
@@ -596,6 +603,18 @@ fn task_of<'a>(matches: &ArgMatches<'a>) -> Task
         Task::Tree {
             core: is_text(value_of(matches, "core"), "true"),
         }
+    }
+}
+
+/// By which protocol a network is to be run, and how.
+fn run_by<'a>(matches: &ArgMatches<'a>) -> Task
+    requires { name_in (subcommand_rows_of matches.now) ≡ Some (codes "run") }
+    ensures task { IsTask (subcommand_rows_of matches.now) result }
+    ensures limits { IsWithinLimits result }
+{
+    match protocol_of(matches) {
+        Protocol::Ghs => Task::Run(options_of(matches)),
+        Protocol::Boruvka => Task::Boruvka(boruvka_of(matches)),
     }
 }
 

@@ -8,10 +8,12 @@
 //! Limits have names: `MOST_NODES`, `MOST_WORKERS`, `MOST_SEEDS`, `MOST_STATES`. Next: `ghs_cli`, which does the job.
 #![tactic(auto)]
 
+pub mod boruvka;
 pub mod exploring;
 mod grammar;
 pub mod job;
 mod networks;
 pub mod parts;
+mod protocols;
 pub mod two_seeds;
 pub mod values;

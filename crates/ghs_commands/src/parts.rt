@@ -41,7 +41,7 @@ pub(crate) fn go_together(sheet: Option<&str>, by: Option<&str>, json: Option<&s
 }
 
 /// Whether this is the value.
-fn is_said(value: Option<&str>, text: &str) -> bool
+pub(crate) fn is_said(value: Option<&str>, text: &str) -> bool
     ensures { result ≡ is_said text.now (option_map (λ t. t.now) value.entry) }
 {
     match value {

@@ -25,22 +25,25 @@ returns-in-Tree-clause-trace g c = unread_as c.args.job.now.task (task.Tree c.in
 
 pub returns-in-Replay-clause-serves : goal.returns-in-Replay-clause-serves
 returns-in-Replay-clause-serves g c =
-    serves_as c.args.job.now.task (task.Replay c.in-Replay.wake) (g.T.Source.left c.args.trace.now) (g.R.Source.left c.args.graph.now) _ _
+    serves_as c.args.job.now.task (task.Replay c.in-Replay.protocol c.in-Replay.wake) (g.T.Source.left c.args.trace.now)
+    (g.R.Source.left c.args.graph.now) _ _
     c.print-in-Replay.result c.in-Replay.is
-    (serves_stored (task.Replay c.in-Replay.wake) (g.T.Source.left c.args.trace.now) (g.R.Source.left c.args.graph.now) c.replay_text_of.result _ _
+    (serves_stored (task.Replay c.in-Replay.protocol c.in-Replay.wake) (g.T.Source.left c.args.trace.now) (g.R.Source.left c.args.graph.now)
+    c.replay_text_of.result _ _
     c.print-in-Replay.result refl refl c.replay_text_of.ensures.early c.print-in-Replay.ensures.printed
     c.replay_text_of.ensures.text c.replay_text_of.ensures.fault)
 
 pub returns-in-Replay-clause-ends : goal.returns-in-Replay-clause-ends
 returns-in-Replay-clause-ends g c =
-    ends_other c.args.job.now.task (task.Replay c.in-Replay.wake) (g.R.Source.left c.args.graph.now) c.print-in-Replay.result c.in-Replay.is refl
+    ends_other c.args.job.now.task (task.Replay c.in-Replay.protocol c.in-Replay.wake) (g.R.Source.left c.args.graph.now)
+    c.print-in-Replay.result c.in-Replay.is refl
 
 pub returns-in-Replay-clause-unwritten : goal.returns-in-Replay-clause-unwritten
 returns-in-Replay-clause-unwritten g c =
     unwritten_but_for_write c.args.job.now.task _ _ c.print-in-Replay.result c.print-in-Replay.ensures.unwritten
 
 pub returns-in-Replay-clause-trace : goal.returns-in-Replay-clause-trace
-returns-in-Replay-clause-trace g c = unread_as c.args.job.now.task (task.Replay c.in-Replay.wake) _ _ c.in-Replay.is tt
+returns-in-Replay-clause-trace g c = unread_as c.args.job.now.task (task.Replay c.in-Replay.protocol c.in-Replay.wake) _ _ c.in-Replay.is tt
 
 pub returns-in-Sweep-clause-serves : goal.returns-in-Sweep-clause-serves
 returns-in-Sweep-clause-serves g c =
@@ -170,3 +173,21 @@ returns-in-Make-clause-unwritten g c =
 
 pub returns-in-Make-clause-trace : goal.returns-in-Make-clause-trace
 returns-in-Make-clause-trace g c = unread_as c.args.job.now.task (task.Make c.in-Make.asked) _ _ c.in-Make.is refl
+
+pub returns-in-Boruvka-clause-serves : goal.returns-in-Boruvka-clause-serves
+returns-in-Boruvka-clause-serves g c =
+    serves_as c.args.job.now.task (task.Boruvka c.in-Boruvka.options) (g.T.Source.left c.args.trace.now) (g.R.Source.left c.args.graph.now) _ _
+    c.write_boruvka_of.result c.in-Boruvka.is c.write_boruvka_of.ensures.serves
+
+pub returns-in-Boruvka-clause-ends : goal.returns-in-Boruvka-clause-ends
+returns-in-Boruvka-clause-ends g c =
+    ends_as c.args.job.now.task (task.Boruvka c.in-Boruvka.options) (g.R.Source.left c.args.graph.now) c.write_boruvka_of.result c.in-Boruvka.is
+    c.write_boruvka_of.ensures.ends
+
+pub returns-in-Boruvka-clause-unwritten : goal.returns-in-Boruvka-clause-unwritten
+returns-in-Boruvka-clause-unwritten g c =
+    unwritten_as c.args.job.now.task (task.Boruvka c.in-Boruvka.options) _ _ c.write_boruvka_of.result c.in-Boruvka.is
+    c.write_boruvka_of.ensures.unwritten
+
+pub returns-in-Boruvka-clause-trace : goal.returns-in-Boruvka-clause-trace
+returns-in-Boruvka-clause-trace g c = unread_as c.args.job.now.task (task.Boruvka c.in-Boruvka.options) _ _ c.in-Boruvka.is refl

@@ -1,5 +1,6 @@
 use Rattle.std.proofs.Common.{IfSome, List, rules, subst, sym}
 use Rattle.ghs_protocol.specs.declared.event.Event.{Event}
+use Rattle.peer_trace.specs.declared.protocol.Protocol.TheVariants.{Ghs}
 use Rattle.ghs_cli.specs.Serving.{IsTraceText}
 use Rattle.ghs_cli.proofs.Stepped.{serves_lines, serves_unshown}
 use Rattle.ghs_cli.proofs.stepping.write_steps_of.Goals as goal
@@ -7,7 +8,7 @@ use Rattle.ghs_cli.proofs.stepping.write_steps_of.Goals as goal
 pub returns-in_err-write_steps-clause-serves : goal.returns-in_err-write_steps-clause-serves
 returns-in_err-write_steps-clause-serves g c =
     let trace =
-    subst (λ (es : List Event). IfSome (g.T.Source.left c.args.trace.now) (λ s. IsTraceText s es))
+    subst (λ (es : List Event). IfSome (g.T.Source.left c.args.trace.now) (λ s. IsTraceText Ghs s es))
     (sym c.deref.ensures.value) c.in_ok-events.ensures.events in
     serves_unshown c.args.options.now (g.T.Source.left c.args.trace.now)
     (g.R.Source.left c.args.graph.now) c.in_ok-graph.graph c.deref.result.now _ _
@@ -17,7 +18,7 @@ returns-in_err-write_steps-clause-serves g c =
 pub returns-clause-serves : goal.returns-clause-serves
 returns-clause-serves g c =
     let trace =
-    subst (λ (es : List Event). IfSome (g.T.Source.left c.args.trace.now) (λ s. IsTraceText s es))
+    subst (λ (es : List Event). IfSome (g.T.Source.left c.args.trace.now) (λ s. IsTraceText Ghs s es))
     (sym c.deref.ensures.value) c.in_ok-events.ensures.events in
     serves_lines c.args.options.now (g.T.Source.left c.args.trace.now)
     (g.R.Source.left c.args.graph.now) c.in_ok-graph.graph c.deref.result.now _ _

@@ -1,0 +1,83 @@
+-- What running a network by Borůvka in step comes to, and playing a stored run of it again.
+use Rattle.std.specs.Prelude.{◌≡◌, ℕ, ◌+◌, ◌≤◌, Bool, true, false, List}
+use Rattle.ghs_graph.specs.Graph.{Shape}
+use Rattle.ghs_protocol.specs.declared.event.Event.{Event}
+use Rattle.ghs_protocol.specs.Network.{network_of}
+use Rattle.ghs_world.specs.declared.wake_set.WakeSet.{WakeSet}
+use Rattle.ghs_world.specs.Wakes.{may_wake}
+use Rattle.peer_machine.specs.Run.{IsRunUnder, net_after}
+use Rattle.peer_runs.specs.Replays.{IsFirstUnlawful}
+use Rattle.peer_trace.specs.Text.{stored_text}
+use Rattle.peer_trace.specs.declared.protocol.Protocol.TheVariants as protocol
+use Rattle.boruvka_node.specs.Boruvka.{boruvka}
+use Rattle.boruvka_protocol.specs.Bound.{bound_of}
+use Rattle.boruvka_report.specs.Ended.{HasEnded}
+use Rattle.boruvka_report.specs.ReportText.{IsReportText}
+use Rattle.boruvka_runs.specs.Runs.{IsStopped, IsWholeRun}
+use Rattle.ghs_commands.specs.declared.boruvka.BoruvkaOptions.{BoruvkaOptions}
+use Rattle.ghs_commands.specs.declared.boruvka.BoruvkaShow.{BoruvkaShow}
+use Rattle.ghs_commands.specs.declared.boruvka.BoruvkaShow.TheVariants.{Summary, Events}
+use Rattle.ghs_cli.specs.declared.fault.ServeFault.{ServeFault}
+use Rattle.ghs_cli.specs.declared.fault.ServeFault.TheVariants as serve
+
+-- the text of a run's events, whose head names the protocol
+abbrev pub events_text : List Event → List ℕ
+events_text events = stored_text protocol.Boruvka events
+
+-- what is shown of a run that has ended: its report, or its events
+abbrev pub IsShown : BoruvkaShow → Shape → List Event → List ℕ → Type 0
+IsShown Summary g events output = IsReportText g (net_after boruvka g events) output
+IsShown Events g events output = output ≡ events_text events
+
+-- the seed's run of the graph ends, and the output shows it
+pub record IsRun (o : BoruvkaOptions) (g : Shape) (output : List ℕ) : Type 0 where
+  pub events : List Event
+  pub whole : IsWholeRun o.seed o.wake o.turns g events
+  pub printed : IsShown o.show g events output
+
+-- it has used its turns, and the output has its events, which are asked for
+pub record IsStoppedText (o : BoruvkaOptions) (g : Shape) (output : List ℕ) : Type 0 where
+  pub events : List Event
+  pub stopped : IsStopped o.seed o.wake o.turns g events
+  pub asked : o.show ≡ Events
+  pub printed : output ≡ events_text events
+
+-- what goes out of a run of a graph, where it ends, and where its turns are used (true)
+abbrev pub IsRan : BoruvkaOptions → Shape → Bool → List ℕ → Type 0
+IsRan o g false output = IsRun o g output
+IsRan o g true output = IsStoppedText o g output
+
+-- why a run of a graph doesn't end well: its turns are used, or memory runs out
+abbrev pub StopsRun : BoruvkaOptions → Shape → ServeFault → Type 0
+StopsRun o g serve.TurnLimit = (events : List Event) × IsStopped o.seed o.wake o.turns g events
+StopsRun o g serve.Memory = Unit {0}
+StopsRun o g _ = ⊥
+
+-- whether the events are asked for
+abbrev pub is_events : BoruvkaShow → Bool
+is_events Events = true
+is_events Summary = false
+
+-- turns for all messages that may be sent and all nodes
+abbrev pub HasTurnsFor : Shape → ℕ → Type 0
+HasTurnsFor g turns = bound_of g + g.nodes ≤ turns
+
+-- events that are a run of the graph which has ended, and the output is the text of its net
+pub record IsReplayed (wake : WakeSet) (g : Shape) (events : List Event) (output : List ℕ) : Type 0 where
+  pub run : IsRunUnder boruvka (may_wake g wake) (network_of g) events
+  pub ended : HasEnded g (net_after boruvka g events)
+  pub printed : IsReportText g (net_after boruvka g events) output
+
+-- why the net after some events has no text: their run goes on
+abbrev pub GoesOn : Shape → List Event → ServeFault → Type 0
+GoesOn g events serve.NotEnded = HasEnded g (net_after boruvka g events) → ⊥
+GoesOn g events serve.Memory = Unit {0}
+GoesOn g events _ = ⊥
+
+-- these events and this graph give this fault: the first event that isn't lawful, or a run that hasn't ended
+abbrev pub IsRunCause : WakeSet → Shape → List Event → ServeFault → Type 0
+IsRunCause wake g events (serve.NotLawful k) = IsFirstUnlawful boruvka g wake events k
+IsRunCause wake g events serve.NotEnded =
+    IsRunUnder boruvka (may_wake g wake) (network_of g) events × (HasEnded g (net_after boruvka g events) → ⊥)
+IsRunCause wake g events serve.Memory = Unit {0}
+IsRunCause wake g events _ = ⊥
