@@ -7,12 +7,14 @@ _ghs() {
         return
     fi
     case ${COMP_WORDS[1]},$before in
+        run,--protocol) COMPREPLY=($(compgen -W 'ghs boruvka' -- "$word")) && return ;;
         run,--seed) : && return ;;
         run,--schedule) COMPREPLY=($(compgen -W 'seeded patient rounds waits lifo' -- "$word")) && return ;;
         run,--workers) : && return ;;
         run,--wake) COMPREPLY=($(compgen -W 'all first' -- "$word")) && return ;;
         run,--turns) : && return ;;
         run,--print) COMPREPLY=($(compgen -W 'report trace time' -- "$word")) && return ;;
+        replay,--protocol) COMPREPLY=($(compgen -W 'ghs boruvka' -- "$word")) && return ;;
         replay,--wake) COMPREPLY=($(compgen -W 'all first' -- "$word")) && return ;;
         steps,--wake) COMPREPLY=($(compgen -W 'all first' -- "$word")) && return ;;
         steps,--from) : && return ;;
@@ -44,8 +46,8 @@ _ghs() {
     esac
     case ${COMP_WORDS[1]} in
         tree) [[ $word == -* ]] && COMPREPLY=($(compgen -W '--core -h --help' -- "$word")) ;;
-        run) [[ $word == -* ]] && COMPREPLY=($(compgen -W '--seed --schedule --workers --wake --turns --print --core --progress --tally -h --help' -- "$word")) ;;
-        replay) [[ $word == -* ]] && COMPREPLY=($(compgen -W '--wake -h --help' -- "$word")) ;;
+        run) [[ $word == -* ]] && COMPREPLY=($(compgen -W '--protocol --seed --schedule --workers --wake --turns --print --core --progress --tally -h --help' -- "$word")) ;;
+        replay) [[ $word == -* ]] && COMPREPLY=($(compgen -W '--protocol --wake -h --help' -- "$word")) ;;
         steps) [[ $word == -* ]] && COMPREPLY=($(compgen -W '--wake --from --to --node --json -h --help' -- "$word")) ;;
         sweep) [[ $word == -* ]] && COMPREPLY=($(compgen -W '--seeds --schedule --workers --wake --turns --print --by --names --json --progress -h --help' -- "$word")) ;;
         view) [[ $word == -* ]] && COMPREPLY=($(compgen -W '--seed --seeds --schedule --wake --turns --trace --from --to -h --help' -- "$word")) ;;
