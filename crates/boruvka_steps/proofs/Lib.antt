@@ -1,0 +1,6 @@
+-- Serves the proofs: nothing here has to be believed.
+mod Lawful
+mod Marks
+mod Making
+mod Going
+mod Ruled

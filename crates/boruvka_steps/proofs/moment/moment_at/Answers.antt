@@ -1,0 +1,25 @@
+use Rattle.std.proofs.Common.{◌+◌, List, length, ◌∙◌, ap}
+use Rattle.ghs_protocol.specs.declared.event.Event.{Event}
+use Rattle.peer_net.specs.NetState.{net_of}
+use Rattle.boruvka_node.specs.Boruvka.{boruvka}
+use Rattle.boruvka_steps.proofs.Lawful.{lawful_node}
+use Rattle.boruvka_steps.proofs.Making.{moment_is}
+use Rattle.boruvka_steps.proofs.moment.moment_at.Goals as goal
+
+pub far_end-requires-clause-low : goal.far_end-requires-clause-low
+far_end-requires-clause-low c = (lawful_node c.args.net.now c.args.event c.requires).0
+
+pub far_end-requires-clause-high : goal.far_end-requires-clause-high
+far_end-requires-clause-high c = rw c.graph.ensures (lawful_node c.args.net.now c.args.event c.requires).1
+
+pub node-requires-clause-low : goal.node-requires-clause-low
+node-requires-clause-low c = rw c.node_of.ensures (lawful_node c.args.net.now c.args.event c.requires).0
+
+pub node-requires-clause-high : goal.node-requires-clause-high
+node-requires-clause-high c = rw c.node_of.ensures (lawful_node c.args.net.now c.args.event c.requires).1
+
+pub returns : goal.returns
+returns c =
+    let s = c.args.net.now in
+    moment_is s c.args.event _ _ _ _ _ (ap (λ (es : List Event). length es + 1) c.trace.ensures.trace) (rw c.graph.ensures at c.far_end.ensures)
+    c.work_of-work.ensures (c.node.ensures ∙ ap (net_of boruvka s).node c.node_of.ensures) c.row_of.ensures
