@@ -6,7 +6,7 @@
 //! all marks and variables that differ, and nothing else.
 //!
 //! The lines go out by portions, so the memory doesn't grow with the text, and a run is played twice. A line takes the time
-//! of its reaction. Worked runs: `boruvka_step_examples`. Next: `ghs_steps`, which has the same of GHS, and JSON too.
+//! of its reaction. Worked runs: `peer_examples`. Next: `ghs_steps`, which has the same of GHS, and JSON too.
 #![tactic(auto)]
 
 pub mod change;

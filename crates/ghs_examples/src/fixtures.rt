@@ -78,14 +78,19 @@ macro_rules! works {
 
 pub(crate) use works;
 
+/// The node does a piece of work.
+pub(crate) fn act(rt: &impl Abort, alloc: Global, node: &mut Node, work: Work) {
+    let delta = react(alloc, node, work).expect(rt, "a reaction");
+    node.apply(&delta);
+}
+
 /// Node 2 with the first of its ports, after some works.
 pub(crate) fn after(rt: &impl Abort, alloc: Global, degree: usize, works: &[Option<Work>]) -> Node {
     assert!(rt; degree <= 3);
     let mut node = Node::asleep(alloc, 2, &PORTS[..degree]).expect(rt, "memory for a node");
     for work in works {
         if let Some(work) = work {
-            let delta = react(alloc, &node, *work).expect(rt, "a reaction");
-            node.apply(&delta);
+            act(rt, alloc, &mut node, *work);
         }
     }
     node

@@ -1,5 +1,5 @@
 //! The middle node of the path 1-2-3: a whole run of it, works that have no rule, and copies.
-use crate::fixtures::{JOIN, LEFT, NO_LINK, SEARCH, Works, after, at, works};
+use crate::fixtures::{JOIN, LEFT, NO_LINK, SEARCH, Works, act, after, at, works};
 use ghs_node::delta::{Delta, Fate};
 use ghs_node::fault::NodeFault;
 use ghs_node::kind::Kind;
@@ -28,15 +28,24 @@ enum Answer {
 
 use Answer::{Does, Halts, Refuses, Waits};
 
+/// What the node does in a reaction.
+fn deed_of(delta: &Delta) -> Answer {
+    if delta.halts {
+        return Halts;
+    }
+    if delta.fate == Fate::Requeued {
+        return Waits;
+    }
+    Does {
+        mark: delta.mark,
+        sent: delta.sends.as_slice().first().copied(),
+    }
+}
+
 fn answer_of(reply: &Result<Delta, NodeFault>) -> Answer {
     match reply {
+        Ok(delta) => deed_of(delta),
         Err(fault) => Refuses(*fault),
-        Ok(delta) if delta.halts => Halts,
-        Ok(delta) if delta.fate == Fate::Requeued => Waits,
-        Ok(delta) => Does {
-            mark: delta.mark,
-            sent: delta.sends.as_slice().first().copied(),
-        },
     }
 }
 
@@ -216,17 +225,12 @@ fn assert_untouched(rt: &impl Abort, node: &Node) {
     assert!(rt; node.degree() == 2);
 }
 
-fn wake(rt: &impl Abort, alloc: Global, node: &mut Node) {
-    let delta = react(alloc, node, Work::Wake).expect(rt, "a reaction");
-    node.apply(&delta);
-}
-
 #[test]
 fn copies(rt: HostRuntime) {
     let node = after(&rt, rt.alloc(), 2, &[]);
     let mut copy = node.copy(rt.alloc()).expect(&rt, "memory for a copy");
     assert!(rt; copy.same(&node));
-    wake(&rt, rt.alloc(), &mut copy);
+    act(&rt, rt.alloc(), &mut copy, Work::Wake);
     assert!(rt; !copy.same(&node));
     assert_untouched(&rt, &node);
 }

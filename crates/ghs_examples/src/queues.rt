@@ -9,6 +9,10 @@ use std::test::*;
 use std::thread;
 use std::thread::Threads;
 
+fn assert_put(rt: &impl Abort, found: Result<(), Full>, put: Result<(), Full>) {
+    assert_eq!(rt; found, put);
+}
+
 /// A number is put, or the queue is full.
 fn puts<R: Wait + Abort>(
     rt: &R,
@@ -21,7 +25,7 @@ fn puts<R: Wait + Abort>(
     ensures { (pass.new.name ≡ pass.old.name) × (pass.new.shares ≡ pass.old.shares) }
 {
     let found = queue.put(rt, pass, number);
-    assert_eq!(rt; found, put);
+    assert_put(rt, found, put);
 }
 
 /// This number is taken, or none.
@@ -153,6 +157,56 @@ fn a_long_queue_closes(rt: HostRuntime) -> Result<(), Fail> {
     Ok(())
 }
 
+/// Two threads put 1 to 1,000 and 1,001 to 2,000.
+fn put_by_two<R: Threads + Wait + Sync>(
+    rt: &R,
+    queue: &ReadyQueue,
+    first: ReadyPass,
+    second: ReadyPass,
+) -> (ReadyPass, ReadyPass)
+    requires { (first.name ≡ queue.now.name) × (second.name ≡ queue.now.name) × (first.shares ≡ 1) × (second.shares ≡ 1) }
+    ensures { (result.0.name ≡ queue.now.name) × (result.1.name ≡ queue.now.name) × (result.0.shares ≡ 1) × (result.1.shares ≡ 1) }
+{
+    thread::join(
+        rt,
+        move || -> ReadyPass
+            requires { (first.name ≡ queue.now.name) × (first.shares ≡ 1) }
+            ensures { (result.name ≡ queue.entry.now.name) × (result.shares ≡ 1) }
+        { put_all(rt, queue, first, 1, 1001) },
+        move || -> ReadyPass
+            requires { (second.name ≡ queue.now.name) × (second.shares ≡ 1) }
+            ensures { (result.name ≡ queue.entry.now.name) × (result.shares ≡ 1) }
+        { put_all(rt, queue, second, 1001, 2001) },
+    )
+}
+
+/// Two threads take 900 and 1,095 numbers.
+fn take_by_two<R: Threads + Wait + Sync>(
+    rt: &R,
+    alloc: Global,
+    queue: &ReadyQueue,
+    third: ReadyPass,
+    fourth: ReadyPass,
+) -> (
+    (ReadyPass, Result<Vec<u32>, AllocError>),
+    (ReadyPass, Result<Vec<u32>, AllocError>),
+)
+    requires { (third.name ≡ queue.now.name) × (fourth.name ≡ queue.now.name) × (third.shares ≡ 1) × (fourth.shares ≡ 1) }
+    ensures { (result.0.0.name ≡ queue.now.name) × (result.1.0.name ≡ queue.now.name) × (result.0.0.shares ≡ 1) × (result.1.0.shares ≡ 1) }
+{
+    thread::join(
+        rt,
+        move || -> (ReadyPass, Result<Vec<u32>, AllocError>)
+            requires { (third.name ≡ queue.now.name) × (third.shares ≡ 1) }
+            ensures { (result.0.name ≡ queue.entry.now.name) × (result.0.shares ≡ 1) }
+        { take_some(rt, alloc, queue, third, 900) },
+        move || -> (ReadyPass, Result<Vec<u32>, AllocError>)
+            requires { (fourth.name ≡ queue.now.name) × (fourth.shares ≡ 1) }
+            ensures { (result.0.name ≡ queue.entry.now.name) × (result.0.shares ≡ 1) }
+        { take_some(rt, alloc, queue, fourth, 1095) },
+    )
+}
+
 /// Two threads put 1 to 1,000 and 1,001 to 2,000, and two others take 900 and 1,095 of them.
 fn exchange<R: Threads + Wait + Sync>(
     rt: &R,
@@ -168,38 +222,14 @@ fn exchange<R: Threads + Wait + Sync>(
     let putters = move || -> (ReadyPass, ReadyPass)
         requires { (first.name ≡ queue.now.name) × (second.name ≡ queue.now.name) × (first.shares ≡ 1) × (second.shares ≡ 1) }
         ensures { (result.0.name ≡ queue.entry.now.name) × (result.1.name ≡ queue.entry.now.name) × (result.0.shares ≡ 1) × (result.1.shares ≡ 1) }
-    {
-        thread::join(
-            rt,
-            move || -> ReadyPass
-                requires { (first.name ≡ queue.now.name) × (first.shares ≡ 1) }
-                ensures { (result.name ≡ queue.entry.now.name) × (result.shares ≡ 1) }
-            { put_all(rt, queue, first, 1, 1001) },
-            move || -> ReadyPass
-                requires { (second.name ≡ queue.now.name) × (second.shares ≡ 1) }
-                ensures { (result.name ≡ queue.entry.now.name) × (result.shares ≡ 1) }
-            { put_all(rt, queue, second, 1001, 2001) },
-        )
-    };
+    { put_by_two(rt, queue, first, second) };
     let takers = move || -> (
         (ReadyPass, Result<Vec<u32>, AllocError>),
         (ReadyPass, Result<Vec<u32>, AllocError>),
     )
         requires { (third.name ≡ queue.now.name) × (fourth.name ≡ queue.now.name) × (third.shares ≡ 1) × (fourth.shares ≡ 1) }
         ensures { (result.0.0.name ≡ queue.entry.now.name) × (result.1.0.name ≡ queue.entry.now.name) × (result.0.0.shares ≡ 1) × (result.1.0.shares ≡ 1) }
-    {
-        thread::join(
-            rt,
-            move || -> (ReadyPass, Result<Vec<u32>, AllocError>)
-                requires { (third.name ≡ queue.now.name) × (third.shares ≡ 1) }
-                ensures { (result.0.name ≡ queue.entry.now.name) × (result.0.shares ≡ 1) }
-            { take_some(rt, alloc, queue, third, 900) },
-            move || -> (ReadyPass, Result<Vec<u32>, AllocError>)
-                requires { (fourth.name ≡ queue.now.name) × (fourth.shares ≡ 1) }
-                ensures { (result.0.name ≡ queue.entry.now.name) × (result.0.shares ≡ 1) }
-            { take_some(rt, alloc, queue, fourth, 1095) },
-        )
-    };
+    { take_by_two(rt, alloc, queue, third, fourth) };
     let ((mut pass, second), ((third, one), (fourth, two))) = thread::join(rt, putters, takers);
     queue.join(&mut pass, second);
     queue.join(&mut pass, third);

@@ -5,7 +5,7 @@
 //! (`TextIs`). `read_text` gives all bytes to the end. No text has two judgements (`law_one_judgement`).
 //!
 //! Limits: 2^28 bytes (`TEXT_LIMIT`), 2^20 nodes (`NODE_LIMIT`), 2^23 arc lines (`ARC_LIMIT`). Readers that fail or give
-//! few bytes at a time are tested in `ghs_graph_examples` and `ghs_hostile_examples`. Next: `ghs_graph`, which makes
+//! few bytes at a time are tested in `ghs_examples` and `ghs_hostile_examples`. Next: `ghs_graph`, which makes
 //! ports and forests of a `RawGraph`.
 #![tactic(auto)]
 

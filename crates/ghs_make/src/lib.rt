@@ -6,7 +6,7 @@
 //!
 //! 1 to 2^20 nodes, and at most 2^23 links. A network is never kept: which links a node has follows from its `Plan`. That
 //! slow networks are slow and busy ones busy isn't claimed; docs/STUDY.md has figures. Worked examples:
-//! `ghs_make_examples`.
+//! `ghs_tool_examples`.
 #![tactic(auto)]
 
 mod blocks;

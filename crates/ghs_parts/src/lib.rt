@@ -4,7 +4,7 @@
 //! Nothing is left out: what all nodes have sent is what was sent (`law_nodes`), so is what was sent at all levels
 //! (`law_levels`), and all rows together applied as often as events happened (`law_rules`).
 //!
-//! A run of at most 2^40 events is played once more. `ghs_part_examples` has one counted by hand. `ghs sweep --by` prints
+//! A run of at most 2^40 events is played once more. `ghs_tool_examples` has one counted by hand. `ghs sweep --by` prints
 //! them.
 #![tactic(auto)]
 

@@ -59,13 +59,20 @@ pub fn world_after(alloc: Global, events: &[Event]) -> Option<World> {
     replay(alloc, five(alloc)?, WakeSet::All, events).ok()
 }
 
-/// The events of one seed's run of the five nodes.
-pub fn events_of_run(alloc: Global) -> Option<Vec<Event>> {
-    let mut world = opening(alloc)?;
-    run_seeded(alloc, &mut world, &mut Schedule::seeded(7)).ok()?;
+/// The events of a world's run by one seed.
+fn run_of(alloc: Global, world: &mut World) -> Option<Vec<Event>> {
+    run_seeded(alloc, world, &mut Schedule::seeded(7)).ok()?;
     let mut events = Vec::new(alloc);
     events.extend_from_slice(world.trace()).ok()?;
     Some(events)
+}
+
+/// The events of one seed's run of the five nodes.
+pub fn events_of_run(alloc: Global) -> Option<Vec<Event>> {
+    let mut world = opening(alloc)?;
+    let events = run_of(alloc, &mut world);
+    let_go(world);
+    events
 }
 
 /// Whether a world's run of the five nodes has ended, with the one text that it can have.
@@ -92,10 +99,17 @@ pub fn stands(alloc: Global, world: &World, twin: &World) -> bool {
     }
 }
 
+/// Whether a world is as its twin, which is let go of.
+fn is_as(alloc: Global, world: &World, twin: World) -> bool {
+    let is_same = stands(alloc, world, &twin);
+    let_go(twin);
+    is_same
+}
+
 /// Whether a world is as the one after these events.
 pub fn is_after(alloc: Global, world: &World, events: &[Event]) -> bool {
     match world_after(alloc, events) {
-        Some(twin) => stands(alloc, world, &twin),
+        Some(twin) => is_as(alloc, world, twin),
         None => false,
     }
 }

@@ -5,7 +5,7 @@
 //! (`law_rounds_are_chains`). There are at most B + N rounds (`law_rounds_are_few`) and 2(B + N) events
 //! (`law_runs_by_rounds_are_short`), B the bound on messages and N the nodes.
 //!
-//! Only tested (`bench/rounds`): that the messages of a round are those sent before it; `ghs_step_examples` has numbers
+//! Only tested (`bench/rounds`): that the messages of a round are those sent before it; `ghs_tool_examples` has numbers
 //! of rounds that it counts. The world has to stand at its opening.
 #![tactic(auto)]
 

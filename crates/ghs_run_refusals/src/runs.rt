@@ -1,5 +1,6 @@
 //! Runs of the five nodes: seeded, patient, by workers, and done again.
 ghost use Rattle.ghs_pool.specs.Shop.{IsTold};
+ghost use Rattle.std.specs.Prelude.{◌≡◌, []};
 
 use ghs_board::board::{Board, Publisher};
 use ghs_board::progress::Progress;
@@ -127,24 +128,35 @@ fn patient(rt: &impl Abort, alloc: Global, k: usize) -> Turn {
     turn
 }
 
-/// The run that a seed's schedule picks of an opening, with the k-th allocation refused.
-fn go_by_seed(
-    rt: &impl Abort,
-    alloc: Global,
-    schedule_kind: ScheduleKind,
-    k: usize,
-) -> (World, Turn, Option<RunFault>) {
+/// The opening world.
+fn opened(rt: &impl Abort, alloc: Global) -> World
+    ensures trace { result.net.trace ≡ [] }
+    ensures numbers { result.last ≡ 0 }
+{
     let graph = five(alloc).expect(rt, "a graph");
     let world = World::open(alloc, graph, WakeSet::All, EVENT_LIMIT).ok();
-    let mut world = world.expect(rt, "a world");
+    world.expect(rt, "a world")
+}
+
+/// The run that a seed's schedule picks of an opening, with the k-th allocation refused.
+fn go_by_seed(
+    alloc: Global,
+    world: &mut World,
+    schedule_kind: ScheduleKind,
+    k: usize,
+) -> (Turn, Option<RunFault>)
+    requires trace { world.old.net.trace ≡ [] }
+    requires numbers { world.old.last ≡ 0 }
+{
     order(alloc, k);
-    let answer = run_by_seed(alloc, &mut world, schedule_kind, 7);
-    (world, turn_of(alloc, k, &answer), answer.err())
+    let answer = run_by_seed(alloc, world, schedule_kind, 7);
+    (turn_of(alloc, k, &answer), answer.err())
 }
 
 /// The same; stopped, it goes on.
 fn by_seed(rt: &impl Abort, alloc: Global, schedule_kind: ScheduleKind, k: usize) -> Turn {
-    let (mut world, turn, fault) = go_by_seed(rt, alloc, schedule_kind, k);
+    let mut world = opened(rt, alloc);
+    let (turn, fault) = go_by_seed(alloc, &mut world, schedule_kind, k);
     assert_sound(rt, alloc, &world, &[]);
     if is_stopped(rt, fault) {
         end_run(rt, alloc, &mut world, &mut Schedule::seeded(7));
@@ -157,7 +169,8 @@ fn by_seed(rt: &impl Abort, alloc: Global, schedule_kind: ScheduleKind, k: usize
 fn do_again(rt: &impl Abort, alloc: Global, graph: Graph, events: &[Event], fault: ReplayFault) {
     assert!(rt; events.len() as u64 <= EVENT_LIMIT);
     assert!(rt; fault == ReplayFault::Memory && is_five(alloc, &graph));
-    assert!(rt; replay(alloc, graph, WakeSet::All, events).is_ok());
+    let again = replay(alloc, graph, WakeSet::All, events);
+    let_go(again.ok().expect(rt, "a world"));
 }
 
 /// A run that is done again.
@@ -263,12 +276,18 @@ const TWO_COMMITS: Progress = Progress {
     halted: false,
 };
 
+/// A publisher that tells of two events.
+fn publisher(rt: &impl Abort, alloc: Global) -> Publisher {
+    let (_board, publisher, _reader) = Board::open(alloc, TWO_COMMITS).expect(rt, "a board");
+    publisher
+}
+
 /// A world after two events, and a publisher that tells of them.
 fn told_world(rt: &impl Abort, alloc: Global) -> (World, Publisher)
     ensures { IsTold result.0 result.1 }
 {
     let world = world_after(alloc, &FIRST).expect(rt, "a run");
-    let (_board, publisher, _reader) = Board::open(alloc, TWO_COMMITS).expect(rt, "a board");
+    let publisher = publisher(rt, alloc);
     let Ok(shop) = Shop::open(world, publisher) else {
         panic!(rt; "the pair of the world");
     };

@@ -2,6 +2,7 @@
 ghost use Rattle.ghs_sched.specs.declared.trace.TheConstants.{EVENT_LIMIT};
 ghost use Rattle.std.specs.Prelude.{◌≤◌, length};
 
+use crate::comparing::assert_same;
 use ghs_core::event::Event;
 use ghs_gr::device::Device;
 use ghs_graph::key::Key;
@@ -65,9 +66,7 @@ fn make(rt: &impl Abort, alloc: Global, events: &[Event], made: Made, k: usize) 
     order(alloc, k);
     let answer = text_of(alloc, events, made);
     let turn = turn_of(alloc, k, &answer);
-    if let Ok(text) = answer {
-        assert!(rt; text == whole);
-    }
+    assert_same(rt, answer, &whole);
     turn
 }
 

@@ -205,10 +205,15 @@ enum Call {
     Make,
 }
 
+/// The world after these events.
+fn after(rt: &impl Abort, alloc: Global, events: &[Event]) -> World {
+    world_after(alloc, events).expect(rt, "a run")
+}
+
 fn place_after(rt: &impl Abort, alloc: Global, events: &[Event], event: Event) -> Place {
     Place {
-        world: world_after(alloc, events).expect(rt, "a run"),
-        twin: world_after(alloc, events).expect(rt, "a run"),
+        world: after(rt, alloc, events),
+        twin: after(rt, alloc, events),
         event,
         number: (events.len() as u64).saturating_add(1),
     }
@@ -223,11 +228,14 @@ fn assert_happened(rt: &impl Abort, alloc: Global, place: &mut Place) {
 }
 
 /// The run goes on to its end.
-fn end_run(rt: &impl Abort, alloc: Global, mut place: Place) {
+fn end_run(rt: &impl Abort, alloc: Global, place: &mut Place) {
     let world = &mut place.world;
     assert!(rt; run_seeded(alloc, world, &mut Schedule::seeded(3)).is_ok());
     assert!(rt; has_ended(alloc, world));
 }
+
+/// Lets go of a place here, so that the way of its memory isn't in the proof of `serve`.
+fn leave(_place: Place) {}
 
 /// One event after these, with the k-th allocation of a call for it refused; then it happens, and the run goes on to its end.
 fn serve(
@@ -246,7 +254,8 @@ fn serve(
         Call::Make => refuse_make(rt, alloc, &mut place, k),
     };
     assert_happened(rt, alloc, &mut place);
-    end_run(rt, alloc, place);
+    end_run(rt, alloc, &mut place);
+    leave(place);
     turn
 }
 
@@ -323,7 +332,7 @@ fn ask_of(alloc: Global, world: &World, asked: Asked, k: usize) -> Turn {
 }
 
 fn ask(rt: &impl Abort, alloc: Global, events: &[Event], asked: Asked, k: usize) -> Turn {
-    let world = world_after(alloc, events).expect(rt, "a run");
+    let world = after(rt, alloc, events);
     let turn = ask_of(alloc, &world, asked, k);
     assert!(rt; is_after(alloc, &world, events));
     let_go(world);

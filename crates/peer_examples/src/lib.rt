@@ -1,11 +1,30 @@
-//! Worked examples of `peer_net` and `peer_runs` with the echo wave, and of `peer_trace`, as tests alone: the runs, the texts
-//! and the numbers are those of a reckoning by hand, and not what the program printed. The words of a seed are what SplitMix64
-//! and Xoshiro256++ give as their authors publish them.
+//! Worked examples of protocols on the second small stack, as tests alone: the echo wave and Borůvka in step, played event by
+//! event, run by a seed, measured and told line by line; and the texts of stored runs, which name their protocol.
+//!
+//! The runs, the texts, the numbers and the bits were reckoned by hand from the rules and the formats, and not taken from what
+//! the program does. The words of a seed are what SplitMix64 and Xoshiro256++ give as their authors publish them. `runs` has the
+//! runs, and `playing` the nets and worlds of a graph's text.
 #![tactic(auto)]
 
+#[cfg(test)]
+mod boruvka_lengths;
+#[cfg(test)]
+mod boruvka_lines;
+#[cfg(test)]
+mod boruvka_nets;
+#[cfg(test)]
+mod boruvka_nodes;
+#[cfg(test)]
+mod boruvka_texts;
+#[cfg(test)]
+mod echo_lengths;
+#[cfg(test)]
+mod echo_nets;
+#[cfg(test)]
+mod echo_runs;
+#[cfg(test)]
+mod playing;
 #[cfg(test)]
 mod runs;
 #[cfg(test)]
 mod traces;
-#[cfg(test)]
-mod waves;

@@ -8,7 +8,7 @@
 //! longest (`law_bits`), and no chain has more messages than were sent (`law_chain`).
 //!
 //! The events are played once more. The lengths are those that the rules state, so chosen and not measured; Borůvka in step
-//! and the echo wave have them here. Worked examples: `peer_length_examples`. For GHS `ghs_picking` says the same.
+//! and the echo wave have them here. Worked examples: `peer_examples`. For GHS `ghs_picking` says the same.
 #![tactic(auto)]
 
 mod boruvka_bits;

@@ -1,0 +1,126 @@
+//! Runs by part.
+use crate::comparing::assert_same;
+use ghs_core::event::Event;
+use ghs_parts::by::By;
+use ghs_parts::lines::put_run;
+use ghs_parts::part::Part;
+use ghs_parts::parts::parts_of;
+use ghs_refusing::orders::{Turn, order, refuse, turn_of};
+use ghs_refusing::scenes::{events_of_run, is_after, let_go, world_after};
+use ghs_steps::form::Form;
+use ghs_world::world::World;
+use std::alloc::{AllocError, Global};
+use std::process::Abort;
+use std::test::Fail;
+
+/// The figures of a world's run by part.
+fn parts_in(alloc: Global, world: &World, by: By) -> Result<Vec<Part>, AllocError> {
+    let _ = world.turns();
+    parts_of(alloc, world.graph(), world.trace(), by)
+}
+
+/// Parts that are found are those of a world where nothing is refused.
+fn assert_parts(rt: &impl Abort, alloc: Global, world: &World, by: By, parts: &[Part]) {
+    let whole = parts_in(alloc, world, by).expect(rt, "parts");
+    assert!(rt; parts == whole.as_slice());
+}
+
+/// The figures of a world's run by part.
+fn parts_refused(rt: &impl Abort, alloc: Global, world: &World, by: By, k: usize) -> Turn {
+    order(alloc, k);
+    let answer = parts_in(alloc, world, by);
+    let turn = turn_of(alloc, k, &answer);
+    if let Ok(parts) = answer {
+        assert_parts(rt, alloc, world, by, &parts);
+    }
+    turn
+}
+
+/// The same; the world stands.
+fn take_parts(rt: &impl Abort, alloc: Global, events: &[Event], by: By, k: usize) -> Turn {
+    let world = world_after(alloc, events).expect(rt, "a run");
+    let turn = parts_refused(rt, alloc, &world, by, k);
+    assert!(rt; is_after(alloc, &world, events));
+    let_go(world);
+    turn
+}
+
+/// The lines of a world's run by part.
+fn lines_in(alloc: Global, world: &World, form: Form, by: By) -> Result<Vec<u8>, AllocError> {
+    let mut text = Vec::from_slice(alloc, b"head\n")?;
+    let _ = world.turns();
+    put_run(
+        alloc,
+        &mut text,
+        form,
+        b"front,",
+        by,
+        7,
+        world.graph(),
+        world.trace(),
+    )?;
+    Ok(text)
+}
+
+/// The lines are those that are put where nothing is refused.
+fn lines_refused(rt: &impl Abort, alloc: Global, world: &World, form: Form, k: usize) -> Turn {
+    let whole = lines_in(alloc, world, form, By::Level).expect(rt, "lines");
+    order(alloc, k);
+    let answer = lines_in(alloc, world, form, By::Level);
+    let turn = turn_of(alloc, k, &answer);
+    assert_same(rt, answer, &whole);
+    turn
+}
+
+fn put_lines(rt: &impl Abort, alloc: Global, events: &[Event], form: Form, k: usize) -> Turn {
+    let world = world_after(alloc, events).expect(rt, "a run");
+    let turn = lines_refused(rt, alloc, &world, form, k);
+    let_go(world);
+    turn
+}
+
+static BYS: [(&str, By); 3] = [
+    ("parts_of(node)", By::Node),
+    ("parts_of(level)", By::Level),
+    ("parts_of(rule)", By::Rule),
+];
+
+fn refuse_parts<R: Print + Abort>(
+    rt: &R,
+    alloc: Global,
+    events: &[Event],
+    rows: &[(&str, By)],
+) -> Result<(), Fail> {
+    for (name, by) in rows {
+        refuse(rt, alloc, name, |k| take_parts(rt, alloc, events, *by, k))?;
+    }
+    Ok(())
+}
+
+#[test]
+fn parts(host: HostRuntime) -> Result<(), Fail> {
+    let (rt, alloc) = (&host, host.alloc());
+    let events = events_of_run(alloc).expect(rt, "a run");
+    refuse_parts(rt, alloc, &events, &BYS)
+}
+
+static FORMS: [(&str, Form); 2] = [("put_run", Form::Text), ("put_run(JSON)", Form::Json)];
+
+fn refuse_lines<R: Print + Abort>(
+    rt: &R,
+    alloc: Global,
+    events: &[Event],
+    rows: &[(&str, Form)],
+) -> Result<(), Fail> {
+    for (name, form) in rows {
+        refuse(rt, alloc, name, |k| put_lines(rt, alloc, events, *form, k))?;
+    }
+    Ok(())
+}
+
+#[test]
+fn lines_of_parts(host: HostRuntime) -> Result<(), Fail> {
+    let (rt, alloc) = (&host, host.alloc());
+    let events = events_of_run(alloc).expect(rt, "a run");
+    refuse_lines(rt, alloc, &events, &FORMS)
+}
