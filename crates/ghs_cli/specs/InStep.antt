@@ -1,10 +1,14 @@
 -- What running a network by Borůvka in step comes to, and playing a stored run of it again.
-use Rattle.std.specs.Prelude.{◌≡◌, ℕ, ◌+◌, ◌≤◌, Bool, true, false, List}
+use Rattle.std.specs.Prelude.{◌≡◌, ℕ, ◌+◌, ◌≤◌, Bool, true, false, List, None}
 use Rattle.ghs_graph.specs.Graph.{Shape}
 use Rattle.ghs_protocol.specs.declared.event.Event.{Event}
 use Rattle.ghs_protocol.specs.Network.{network_of}
+use Rattle.ghs_picking.specs.Time.{time_text}
+use Rattle.ghs_picking.specs.declared.lengths.RunLengths.{RunLengths}
 use Rattle.ghs_world.specs.declared.wake_set.WakeSet.{WakeSet}
 use Rattle.ghs_world.specs.Wakes.{may_wake}
+use Rattle.peer_lengths.specs.Chain.{longest_chain}
+use Rattle.peer_lengths.specs.Sends.{bits_sent, longest_sent}
 use Rattle.peer_machine.specs.Run.{IsRunUnder, net_after}
 use Rattle.peer_runs.specs.Replays.{IsFirstUnlawful}
 use Rattle.peer_trace.specs.Text.{stored_text}
@@ -15,8 +19,8 @@ use Rattle.boruvka_report.specs.Ended.{HasEnded}
 use Rattle.boruvka_report.specs.ReportText.{IsReportText}
 use Rattle.boruvka_runs.specs.Runs.{IsStopped, IsWholeRun}
 use Rattle.ghs_commands.specs.declared.boruvka.BoruvkaOptions.{BoruvkaOptions}
-use Rattle.ghs_commands.specs.declared.boruvka.BoruvkaShow.{BoruvkaShow}
-use Rattle.ghs_commands.specs.declared.boruvka.BoruvkaShow.TheVariants.{Summary, Events}
+use Rattle.ghs_commands.specs.declared.job.Show.{Show}
+use Rattle.ghs_commands.specs.declared.job.Show.TheVariants.{Summary, Events, Time}
 use Rattle.ghs_cli.specs.declared.fault.ServeFault.{ServeFault}
 use Rattle.ghs_cli.specs.declared.fault.ServeFault.TheVariants as serve
 
@@ -24,10 +28,23 @@ use Rattle.ghs_cli.specs.declared.fault.ServeFault.TheVariants as serve
 abbrev pub events_text : List Event → List ℕ
 events_text events = stored_text protocol.Boruvka events
 
--- what is shown of a run that has ended: its report, or its events
-abbrev pub IsShown : BoruvkaShow → Shape → List Event → List ℕ → Type 0
+-- how long a run is: its longest chain, in messages; and in bits all that it sends together, and the longest message
+abbrev pub lengths_of : Shape → List Event → RunLengths
+lengths_of g events = record {
+  chain = longest_chain boruvka (network_of g) events;
+  bits = bits_sent boruvka g events;
+  longest = longest_sent boruvka g events;
+}
+
+-- the text of its time: that of a run of GHS that goes by no rounds
+abbrev pub timed_text : Shape → List Event → List ℕ
+timed_text g events = time_text (lengths_of g events) None
+
+-- what is shown of a run that has ended: its report, its events, or its time
+abbrev pub IsShown : Show → Shape → List Event → List ℕ → Type 0
 IsShown Summary g events output = IsReportText g (net_after boruvka g events) output
 IsShown Events g events output = output ≡ events_text events
+IsShown Time g events output = output ≡ timed_text g events
 
 -- the seed's run of the graph ends, and the output shows it
 pub record IsRun (o : BoruvkaOptions) (g : Shape) (output : List ℕ) : Type 0 where
@@ -52,11 +69,6 @@ abbrev pub StopsRun : BoruvkaOptions → Shape → ServeFault → Type 0
 StopsRun o g serve.TurnLimit = (events : List Event) × IsStopped o.seed o.wake o.turns g events
 StopsRun o g serve.Memory = Unit {0}
 StopsRun o g _ = ⊥
-
--- whether the events are asked for
-abbrev pub is_events : BoruvkaShow → Bool
-is_events Events = true
-is_events Summary = false
 
 -- turns for all messages that may be sent and all nodes
 abbrev pub HasTurnsFor : Shape → ℕ → Type 0

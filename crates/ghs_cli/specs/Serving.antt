@@ -373,7 +373,7 @@ is_events Time = false
 abbrev pub shows_events : Task → Bool
 shows_events (task.Tree core) = false
 shows_events (task.Run o) = is_events o.show
-shows_events (task.Boruvka o) = in_step.is_events o.show
+shows_events (task.Boruvka o) = is_events o.show
 shows_events (task.Replay p wake) = false
 shows_events (task.Steps o) = false
 shows_events (task.Sweep o) = false

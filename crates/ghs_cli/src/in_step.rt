@@ -3,11 +3,11 @@ ghost use Rattle.boruvka_node.specs.Boruvka.{boruvka};
 ghost use Rattle.boruvka_report.specs.Ended.{HasEnded};
 ghost use Rattle.boruvka_report.specs.ReportText.{IsReportText};
 ghost use Rattle.boruvka_runs.specs.Runs.{IsStopped};
-ghost use Rattle.ghs_cli.specs.InStep.{GoesOn, IsRan, IsReplayed, IsRunCause, IsShown, StopsRun, events_text};
+ghost use Rattle.ghs_cli.specs.InStep.{GoesOn, IsRan, IsReplayed, IsRunCause, IsShown, StopsRun, events_text, timed_text};
 ghost use Rattle.ghs_cli.specs.Ending.{IsBoundedTask};
 ghost use Rattle.ghs_cli.specs.Serving.{IsBoruvkaCause, IsBoruvkaOutput, IsWrite, Serves, is_late};
 ghost use Rattle.ghs_cli.specs.declared.fault.ServeFault.{ServeFault};
-ghost use Rattle.ghs_commands.specs.declared.boruvka.BoruvkaShow.TheVariants.{Events};
+ghost use Rattle.ghs_commands.specs.declared.job.Show.TheVariants.{Events};
 ghost use Rattle.ghs_commands.specs.declared.job.Task.{Task};
 ghost use Rattle.peer_machine.specs.Run.{IsRunUnder, net_after};
 ghost use Rattle.peer_net.specs.NetState.{network};
@@ -17,11 +17,13 @@ ghost use Rattle.std.specs.Prelude.{◌≡◌, ◌↔◌, List, ℕ, false, true
 use crate::fault::ServeFault;
 use crate::reading::graph_of;
 use crate::running::Output;
+use crate::timing::time_text_of;
 use boruvka::protocol::Boruvka;
 use boruvka_report::run_text::run_text;
 use boruvka_runs::laws::law_turns;
 use boruvka_runs::run::{Ran, run_by_seed};
-use ghs_commands::boruvka::{BoruvkaOptions, BoruvkaShow};
+use ghs_commands::boruvka::BoruvkaOptions;
+use ghs_commands::job::Show;
 use ghs_gr::device::{Sink, Source};
 use ghs_gr::laws::law_one_judgement;
 use ghs_graph::graph::Graph;
@@ -96,14 +98,15 @@ fn ran_output(alloc: Global, options: &BoruvkaOptions, graph: Graph) -> Result<O
 }
 
 /// What is shown of a world whose run has ended.
-fn shown(alloc: Global, show: BoruvkaShow, world: &World<Boruvka>) -> Result<Vec<u8>, ServeFault>
+fn shown(alloc: Global, show: Show, world: &World<Boruvka>) -> Result<Vec<u8>, ServeFault>
     requires { HasEnded world.now.net.graph (net_after boruvka world.now.net.graph world.now.net.trace) }
     ensures text { IfOk result (λ text. IsShown show world.now.net.graph world.now.net.trace text.items) }
     ensures err { IfErr result (λ fault. fault ≡ ServeFault.Memory) }
 {
     match show {
-        BoruvkaShow::Summary => reported(alloc, world),
-        BoruvkaShow::Events => Ok(events_text(alloc, world)?),
+        Show::Summary => reported(alloc, world),
+        Show::Events => Ok(events_text(alloc, world)?),
+        Show::Time => Ok(timed(alloc, world)?),
     }
 }
 
@@ -127,6 +130,13 @@ fn events_text(alloc: Global, world: &World<Boruvka>) -> Result<Vec<u8>, AllocEr
     write_trace_of(alloc, Protocol::Boruvka, world.net().trace())
 }
 
+/// The time of a world's run, and its bits.
+fn timed(alloc: Global, world: &World<Boruvka>) -> Result<Vec<u8>, AllocError>
+    ensures { IfOk result (λ text. text.items ≡ timed_text world.now.net.graph world.now.net.trace) }
+{
+    time_text_of(alloc, world.net())
+}
+
 /// What goes out of a world whose run has used its turns: its events, where they are asked for.
 fn stopped(
     alloc: Global,
@@ -140,8 +150,8 @@ fn stopped(
     ensures early { IfErr result (λ fault. is_late (Task.Boruvka options.now) fault ≡ false) }
 {
     match options.show {
-        BoruvkaShow::Summary => Err(ServeFault::TurnLimit),
-        BoruvkaShow::Events => Ok(Output {
+        Show::Summary | Show::Time => Err(ServeFault::TurnLimit),
+        Show::Events => Ok(Output {
             text: events_text(alloc, world)?,
             at_limit: true,
         }),

@@ -25,4 +25,5 @@ mod running;
 pub mod serve;
 mod stepping;
 mod sweeping;
+mod timing;
 mod viewing;

@@ -92,3 +92,7 @@ protocol-refused = refl
 threads-refused : kinds_of (codes "run" ∷ codes "--protocol" ∷ codes "boruvka" ∷ codes "--workers" ∷ codes "2" ∷ []) ≡ kind.InvalidValue ∷ []
 unfolding program clap_on_literals
 threads-refused = refl
+
+time-taken : kinds_of (codes "run" ∷ codes "--protocol" ∷ codes "boruvka" ∷ codes "--print" ∷ codes "time" ∷ []) ≡ []
+unfolding program clap_on_literals
+time-taken = refl

@@ -22,8 +22,6 @@ use Rattle.ghs_commands.specs.declared.job.JobFault.TheVariants as fault
 use Rattle.ghs_steps.specs.declared.form.Form.{Form}
 use Rattle.ghs_steps.specs.declared.form.Form.TheVariants.{Json}
 use Rattle.ghs_commands.specs.declared.boruvka.BoruvkaOptions.{BoruvkaOptions}
-use Rattle.ghs_commands.specs.declared.boruvka.BoruvkaShow.{BoruvkaShow}
-use Rattle.ghs_commands.specs.declared.boruvka.BoruvkaShow.TheVariants as boruvka
 use Rattle.ghs_commands.specs.declared.exploring.ExploreOptions.{ExploreOptions}
 use Rattle.ghs_commands.specs.declared.exploring.Finding.{Finding}
 use Rattle.ghs_commands.specs.declared.exploring.Finding.TheVariants.{Run}
@@ -168,16 +166,12 @@ pub record AreOptions (command : Used) (o : RunOptions) : Type 0 where
 abbrev pub protocol_in : Used → Protocol
 protocol_in command = unwrap_or (option_and_then protocol_named (value_in (codes "protocol") command)) Ghs
 
--- what of a run by Borůvka in step is printed, as `--print` says
-abbrev pub IsBoruvkaShow : Used → BoruvkaShow → Type 0
-IsBoruvkaShow command show = (show ≡ boruvka.Events) ↔ (value_in (codes "print") command ≡ Some (codes "trace"))
-
 -- how a command asks for a network to be run by that protocol
 pub record AreBoruvkaOptions (command : Used) (o : BoruvkaOptions) : Type 0 where
   pub seed : o.seed ≡ seed_in command
   pub wake : IsWake command o.wake
   pub turns : o.turns ≡ turns_in command
-  pub show : IsBoruvkaShow command o.show
+  pub show : IsShow command o.show
 
 -- which runs a command asks to be swept
 pub record AreSweepOptions (command : Used) (o : SweepOptions) : Type 0 where
@@ -361,12 +355,11 @@ has_network command =
 abbrev pub has_seeds : Used → Bool
 has_seeds command = is_range (value_in (codes "seeds") command) && are_two (value_in (codes "pair") command)
 
--- all that is asked for goes with Borůvka in step: no threads, no other schedule than the seeded, no time, no cores, and nothing is told of the run
+-- all that is asked for goes with Borůvka in step: no threads, no other schedule than the seeded, no cores, and nothing is told of the run
 abbrev pub fits_boruvka : Used → Bool
 fits_boruvka command =
     is_number 0 0 (value_in (codes "workers") command)
     && is_among (codes "seeded" ∷ []) (value_in (codes "schedule") command)
-    && is_among (codes "report" ∷ codes "trace" ∷ []) (value_in (codes "print") command)
     && not (is_said (codes "true") (value_in (codes "core") command))
     && not (is_said (codes "true") (value_in (codes "progress") command))
     && not (is_said (codes "true") (value_in (codes "tally") command))

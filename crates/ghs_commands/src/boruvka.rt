@@ -1,23 +1,14 @@
 //! What a run by Borůvka in step is asked for, and what doesn't go with that protocol.
 ghost use Rattle.clap.specs.Words.{subcommand_rows_of};
-ghost use Rattle.ghs_commands.specs.Job.{AreBoruvkaLimits, AreBoruvkaOptions, IsBoruvkaShow, fits_boruvka};
+ghost use Rattle.ghs_commands.specs.Job.{AreBoruvkaLimits, AreBoruvkaOptions, fits_boruvka};
 ghost use Rattle.std.specs.Prelude.{◌≡◌, is_none};
 
-use crate::job::{number_of, value_of, wake_of};
+use crate::job::{Show, number_of, show_of, value_of, wake_of};
 use crate::parts::is_said;
-use crate::values::{is_among, is_number, is_text};
+use crate::values::{is_among, is_number};
 use clap::ArgMatches;
 use ghs_sched::trace::EVENT_LIMIT;
 use ghs_world::wake_set::WakeSet;
-
-/// What of a run by Borůvka in step is printed.
-#[derive(Clone, Copy, Debug, PartialEq, Eq)]
-pub enum BoruvkaShow {
-    /// What `--print report` prints: where it has ended, the text of the net that it leaves.
-    Summary,
-    /// Its events.
-    Events,
-}
 
 /// How a network is run by Borůvka in step.
 #[derive(Clone, Copy, Debug, PartialEq, Eq)]
@@ -29,7 +20,7 @@ pub struct BoruvkaOptions {
     /// How many events there may be, 1 to 2^40.
     pub turns: u64,
     /// What is printed.
-    pub show: BoruvkaShow,
+    pub show: Show,
 }
 
 /// How a network is to be run.
@@ -45,17 +36,6 @@ pub(crate) fn boruvka_of<'a>(matches: &ArgMatches<'a>) -> BoruvkaOptions
     }
 }
 
-/// What of the run is printed.
-fn show_of<'a>(matches: &ArgMatches<'a>) -> BoruvkaShow
-    ensures { IsBoruvkaShow (subcommand_rows_of matches.now) result }
-{
-    if is_text(value_of(matches, "print"), "trace") {
-        BoruvkaShow::Events
-    } else {
-        BoruvkaShow::Summary
-    }
-}
-
 /// The first argument that doesn't go with Borůvka in step.
 pub(crate) fn stranger_in<'a>(matches: &ArgMatches<'a>) -> Option<&'static str>
     ensures { is_none result ≡ fits_boruvka (subcommand_rows_of matches.now) }
@@ -64,8 +44,6 @@ pub(crate) fn stranger_in<'a>(matches: &ArgMatches<'a>) -> Option<&'static str>
         Some("--workers <workers>")
     } else if !is_among(value_of(matches, "schedule"), &["seeded"]) {
         Some("--schedule <schedule>")
-    } else if !is_among(value_of(matches, "print"), &["report", "trace"]) {
-        Some("--print time")
     } else if is_said(value_of(matches, "core"), "true") {
         Some("--core")
     } else if is_said(value_of(matches, "progress"), "true") {

@@ -48,7 +48,8 @@ pub enum Show {
     Summary,
     /// Its events.
     Events,
-    /// Where it has ended, how long its longest chain of messages is, in how many rounds it went, and how many bits it sent.
+    /// Where it has ended, how long its longest chain of messages is, in how many rounds it went, where it goes by rounds, and
+    /// how many bits it sent.
     Time,
 }
 
@@ -855,7 +856,7 @@ fn schedule_kind_of<'a>(matches: &ArgMatches<'a>) -> ScheduleKind
 }
 
 /// What of a run is printed.
-fn show_of<'a>(matches: &ArgMatches<'a>) -> Show
+pub(crate) fn show_of<'a>(matches: &ArgMatches<'a>) -> Show
     ensures { IsShow (subcommand_rows_of matches.now) result }
 {
     if is_text(value_of(matches, "print"), "trace") {
