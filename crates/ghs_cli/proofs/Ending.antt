@@ -103,6 +103,7 @@ is_run (task.Run o) = true
 is_run (task.Boruvka o) = true
 is_run (task.Replay p wake) = false
 is_run (task.Steps o) = false
+is_run (task.BoruvkaSteps o) = false
 is_run (task.Sweep o) = false
 is_run (task.View o) = false
 is_run (task.StoredView o) = false
@@ -116,6 +117,7 @@ unbounded (task.Run o) input unrun bounded = absurd (let bad : true ≡ false = 
 unbounded (task.Boruvka o) input unrun bounded = absurd (let bad : true ≡ false = unrun in cc)
 unbounded (task.Replay p wake) input unrun bounded = bounded
 unbounded (task.Steps o) input unrun bounded = bounded
+unbounded (task.BoruvkaSteps o) input unrun bounded = bounded
 unbounded (task.Sweep o) input unrun bounded = bounded
 unbounded (task.View o) input unrun bounded = bounded
 unbounded (task.StoredView o) input unrun bounded = bounded

@@ -10,6 +10,7 @@ mod Runs
 mod Serves
 mod Sheets
 mod Stepped
+mod SteppedInStep
 mod Texts
 mod Traces
 mod Views

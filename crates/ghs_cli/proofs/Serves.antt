@@ -37,6 +37,7 @@ begun (task.Run o) stored input old new early = tt
 begun (task.Boruvka o) stored input old new early = tt
 begun (task.Replay p wake) stored input old new early = tt
 begun (task.Steps o) stored input old new early = absurd (let bad : true ≡ false = early in cc)
+begun (task.BoruvkaSteps o) stored input old new early = absurd (let bad : true ≡ false = early in cc)
 begun (task.Sweep o) stored input old new early = tt
 begun (task.View o) stored input old new early = tt
 begun (task.StoredView o) stored input old new early = tt
@@ -218,6 +219,7 @@ tried_of (task.Run o) stored input output printed = (false, printed)
 tried_of (task.Boruvka o) stored input output printed = (false, printed)
 tried_of (task.Replay p wake) stored input output printed = printed
 tried_of (task.Steps o) stored input output printed = printed
+tried_of (task.BoruvkaSteps o) stored input output printed = printed
 tried_of (task.Sweep o) stored input output printed = printed
 tried_of (task.View o) stored input output printed = printed
 tried_of (task.StoredView o) stored input output printed = printed

@@ -1,4 +1,4 @@
--- What running a network by Borůvka in step comes to, and playing a stored run of it again.
+-- What running a network by Borůvka in step comes to, and playing a stored run of it again, or telling it.
 use Rattle.std.specs.Prelude.{◌≡◌, ℕ, ◌+◌, ◌≤◌, Bool, true, false, List, None}
 use Rattle.ghs_graph.specs.Graph.{Shape}
 use Rattle.ghs_protocol.specs.declared.event.Event.{Event}
@@ -18,7 +18,9 @@ use Rattle.boruvka_protocol.specs.Bound.{bound_of}
 use Rattle.boruvka_report.specs.Ended.{HasEnded}
 use Rattle.boruvka_report.specs.ReportText.{IsReportText}
 use Rattle.boruvka_runs.specs.Runs.{IsStopped, IsWholeRun}
+use Rattle.boruvka_steps.specs.Lines.{lines}
 use Rattle.ghs_commands.specs.declared.boruvka.BoruvkaOptions.{BoruvkaOptions}
+use Rattle.ghs_commands.specs.declared.boruvka.BoruvkaStepsOptions.{BoruvkaStepsOptions}
 use Rattle.ghs_commands.specs.declared.job.Show.{Show}
 use Rattle.ghs_commands.specs.declared.job.Show.TheVariants.{Summary, Events, Time}
 use Rattle.ghs_cli.specs.declared.fault.ServeFault.{ServeFault}
@@ -79,6 +81,11 @@ pub record IsReplayed (wake : WakeSet) (g : Shape) (events : List Event) (output
   pub run : IsRunUnder boruvka (may_wake g wake) (network_of g) events
   pub ended : HasEnded g (net_after boruvka g events)
   pub printed : IsReportText g (net_after boruvka g events) output
+
+-- events that are a run of the graph, and the output is the lines of those that are chosen
+pub record AreSteps (o : BoruvkaStepsOptions) (g : Shape) (events : List Event) (output : List ℕ) : Type 0 where
+  pub run : IsRunUnder boruvka (may_wake g o.wake) (network_of g) events
+  pub printed : output ≡ lines g o.choice events
 
 -- why the net after some events has no text: their run goes on
 abbrev pub GoesOn : Shape → List Event → ServeFault → Type 0

@@ -43,6 +43,7 @@ use Rattle.ghs_make.specs.declared.fault.MakeFault.TheVariants as make
 use Rattle.ghs_make.specs.declared.network.Network.{Network}
 use Rattle.ghs_make.specs.declared.plan.Asked.{Asked}
 use Rattle.ghs_commands.specs.declared.boruvka.BoruvkaOptions.{BoruvkaOptions}
+use Rattle.ghs_commands.specs.declared.boruvka.BoruvkaStepsOptions.{BoruvkaStepsOptions}
 use Rattle.ghs_commands.specs.declared.exploring.ExploreOptions.{ExploreOptions}
 use Rattle.ghs_commands.specs.declared.job.StepsOptions.{StepsOptions}
 use Rattle.ghs_commands.specs.declared.job.StoredViewOptions.{StoredViewOptions}
@@ -167,14 +168,25 @@ IsRunOutput o at_limit input output = (graph : RawShape) × TextIs input (Ok gra
 abbrev pub IsBoruvkaOutput : BoruvkaOptions → Bool → List ℕ → List ℕ → Type 0
 IsBoruvkaOutput o at_limit input output = (graph : RawShape) × TextIs input (Ok graph) × in_step.IsRan o (shape_of graph) at_limit output
 
--- the input is the text of a graph, what is stored that of a run of it, and the output the lines of the steps that are chosen of it
-pub record IsStepsText (o : StepsOptions) (stored input output : List ℕ) : Type 0 where
+-- events that are a run of the graph, and the output is the lines of those that are chosen
+pub record AreSteps (o : StepsOptions) (g : Shape) (events : List Event) (output : List ℕ) : Type 0 where
+  pub run : IsRunUnder (may_wake g o.wake) (network_of g) events
+  pub printed : output ≡ lines o.form g events o.choice
+
+-- the input is the text of a graph, what is stored that of events of a protocol, and the output tells of both
+pub record IsOfBoth (p : Protocol) (Tells : Shape → List Event → List ℕ → Type 0) (stored input output : List ℕ) : Type 0 where
   pub graph : RawShape
   pub text : TextIs input (Ok graph)
   pub events : List Event
-  pub trace : IsTraceText protocol.Ghs stored events
-  pub run : IsRunUnder (may_wake (shape_of graph) o.wake) (network_of (shape_of graph)) events
-  pub printed : output ≡ lines o.form (shape_of graph) events o.choice
+  pub trace : IsTraceText p stored events
+  pub told : Tells (shape_of graph) events output
+
+-- the lines of the steps that are chosen of a stored run of a graph; of one by Borůvka in step
+abbrev pub IsStepsText : StepsOptions → List ℕ → List ℕ → List ℕ → Type 0
+IsStepsText o stored input output = IsOfBoth protocol.Ghs (AreSteps o) stored input output
+
+abbrev pub IsBoruvkaStepsText : BoruvkaStepsOptions → List ℕ → List ℕ → List ℕ → Type 0
+IsBoruvkaStepsText o stored input output = IsOfBoth protocol.Boruvka (in_step.AreSteps o) stored input output
 
 -- the input is the text of a graph, and the output that of a sweep of it
 abbrev pub IsSweepOutput : SweepOptions → List ℕ → List ℕ → Type 0
@@ -210,6 +222,7 @@ IsPrinted (task.Run o) stored input output = IsRunOutput o false input output
 IsPrinted (task.Boruvka o) stored input output = IsBoruvkaOutput o false input output
 IsPrinted (task.Replay p wake) stored input output = IsReplayText p wake stored input output
 IsPrinted (task.Steps o) stored input output = IsStepsText o stored input output
+IsPrinted (task.BoruvkaSteps o) stored input output = IsBoruvkaStepsText o stored input output
 IsPrinted (task.Sweep o) stored input output = IsSweepOutput o input output
 IsPrinted (task.View o) stored input output = IsViewOutput o input output
 IsPrinted (task.StoredView o) stored input output = IsStoredViewOutput o stored input output
@@ -223,6 +236,7 @@ IsPrintedAtLimit (task.Run o) input output = IsRunOutput o true input output
 IsPrintedAtLimit (task.Boruvka o) input output = IsBoruvkaOutput o true input output
 IsPrintedAtLimit (task.Replay p wake) input output = ⊥
 IsPrintedAtLimit (task.Steps o) input output = ⊥
+IsPrintedAtLimit (task.BoruvkaSteps o) input output = ⊥
 IsPrintedAtLimit (task.Sweep o) input output = ⊥
 IsPrintedAtLimit (task.View o) input output = ⊥
 IsPrintedAtLimit (task.StoredView o) input output = ⊥
@@ -287,8 +301,8 @@ IsReplayCause p wake stored input fault =
     ⊎ (((events : List Event) × IsTraceText p stored events × IsGraphCause input fault) ⊎ GiveFault p wake stored input fault)
 
 -- why the steps of a stored run aren't printed: as for a replay, but that the run needn't have ended
-abbrev pub IsStepsCause : WakeSet → List ℕ → List ℕ → ServeFault → Type 0
-IsStepsCause wake stored input fault = (fault ≡ serve.NotEnded → ⊥) × IsReplayCause protocol.Ghs wake stored input fault
+abbrev pub IsStepsCause : Protocol → WakeSet → List ℕ → List ℕ → ServeFault → Type 0
+IsStepsCause p wake stored input fault = (fault ≡ serve.NotEnded → ⊥) × IsReplayCause p wake stored input fault
 
 -- why a run of a graph doesn't end well: its turns are used, or threads fail; an event is always ready, and each has a rule
 abbrev pub StopsRun : RunOptions → Shape → ServeFault → Type 0
@@ -344,7 +358,8 @@ IsCause (task.Tree core) stored input fault = IsGraphCause input fault
 IsCause (task.Run o) stored input fault = IsRunningCause o input fault
 IsCause (task.Boruvka o) stored input fault = IsBoruvkaCause o input fault
 IsCause (task.Replay p wake) stored input fault = IsReplayCause p wake stored input fault
-IsCause (task.Steps o) stored input fault = IsStepsCause o.wake stored input fault
+IsCause (task.Steps o) stored input fault = IsStepsCause protocol.Ghs o.wake stored input fault
+IsCause (task.BoruvkaSteps o) stored input fault = IsStepsCause protocol.Boruvka o.wake stored input fault
 IsCause (task.Sweep o) stored input fault = IsGraphCause input fault
 IsCause (task.View o) stored input fault = IsViewCause o input fault
 IsCause (task.StoredView o) stored input fault = IsStoredViewCause o stored input fault
@@ -358,6 +373,7 @@ IsTried (task.Run o) stored input output = (at_limit : Bool) × IsRunOutput o at
 IsTried (task.Boruvka o) stored input output = (at_limit : Bool) × IsBoruvkaOutput o at_limit input output
 IsTried (task.Replay p wake) stored input output = IsReplayText p wake stored input output
 IsTried (task.Steps o) stored input output = IsStepsText o stored input output
+IsTried (task.BoruvkaSteps o) stored input output = IsBoruvkaStepsText o stored input output
 IsTried (task.Sweep o) stored input output = IsSweepOutput o input output
 IsTried (task.View o) stored input output = IsViewOutput o input output
 IsTried (task.StoredView o) stored input output = IsStoredViewOutput o stored input output
@@ -376,6 +392,7 @@ shows_events (task.Run o) = is_events o.show
 shows_events (task.Boruvka o) = is_events o.show
 shows_events (task.Replay p wake) = false
 shows_events (task.Steps o) = false
+shows_events (task.BoruvkaSteps o) = false
 shows_events (task.Sweep o) = false
 shows_events (task.View o) = false
 shows_events (task.StoredView o) = false
@@ -391,6 +408,8 @@ HasShown job input old new =
 abbrev pub HasBegun : Task → List ℕ → List ℕ → Option (List ℕ) → Option (List ℕ) → Type 0
 HasBegun (task.Steps o) stored input old new =
     (new ≡ old) ⊎ ((output : List ℕ) × IsStepsText o stored input output × ((k : ℕ) × (k ≤ length output) × HasWritten old new output k))
+HasBegun (task.BoruvkaSteps o) stored input old new =
+    (new ≡ old) ⊎ ((output : List ℕ) × IsBoruvkaStepsText o stored input output × ((k : ℕ) × (k ≤ length output) × HasWritten old new output k))
 HasBegun (task.Make asked) stored input old new =
     (new ≡ old) ⊎ ((output : List ℕ) × IsMade asked output × ((k : ℕ) × (k ≤ length output) × HasWritten old new output k))
 HasBegun _ stored input old new = Unit {0}
@@ -411,6 +430,7 @@ IfStored (task.Run o) stored P = (bytes : List ℕ) → P bytes
 IfStored (task.Boruvka o) stored P = (bytes : List ℕ) → P bytes
 IfStored (task.Replay p wake) stored P = IfSome stored P
 IfStored (task.Steps o) stored P = IfSome stored P
+IfStored (task.BoruvkaSteps o) stored P = IfSome stored P
 IfStored (task.Sweep o) stored P = (bytes : List ℕ) → P bytes
 IfStored (task.View o) stored P = (bytes : List ℕ) → P bytes
 IfStored (task.StoredView o) stored P = IfSome stored P
@@ -441,6 +461,7 @@ by_portions (task.Run o) = false
 by_portions (task.Boruvka o) = false
 by_portions (task.Replay p wake) = false
 by_portions (task.Steps o) = true
+by_portions (task.BoruvkaSteps o) = true
 by_portions (task.Sweep o) = false
 by_portions (task.View o) = false
 by_portions (task.StoredView o) = false
@@ -463,6 +484,7 @@ IsUnread (task.Run o) old new = new ≡ old
 IsUnread (task.Boruvka o) old new = new ≡ old
 IsUnread (task.Replay p wake) old new = Unit {0}
 IsUnread (task.Steps o) old new = Unit {0}
+IsUnread (task.BoruvkaSteps o) old new = Unit {0}
 IsUnread (task.Sweep o) old new = new ≡ old
 IsUnread (task.View o) old new = new ≡ old
 IsUnread (task.StoredView o) old new = Unit {0}

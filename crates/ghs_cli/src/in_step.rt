@@ -1,4 +1,4 @@
-//! Runs of a network by Borůvka in step, and stored ones played again.
+//! Runs of a network by Borůvka in step, and stored ones played again or told.
 ghost use Rattle.boruvka_node.specs.Boruvka.{boruvka};
 ghost use Rattle.boruvka_report.specs.Ended.{HasEnded};
 ghost use Rattle.boruvka_report.specs.ReportText.{IsReportText};
@@ -12,17 +12,18 @@ ghost use Rattle.ghs_commands.specs.declared.job.Task.{Task};
 ghost use Rattle.peer_machine.specs.Run.{IsRunUnder, net_after};
 ghost use Rattle.peer_net.specs.NetState.{network};
 ghost use Rattle.peer_runs.specs.WorldState.{wakers};
-ghost use Rattle.std.specs.Prelude.{◌≡◌, ◌↔◌, List, ℕ, false, true, IfSome, IsErrOf, OnOk, IfErr, IfOk};
+ghost use Rattle.std.specs.Prelude.{◌≡◌, ◌⊎◌, ◌↔◌, List, ℕ, false, true, IfSome, IsErrOf, OnOk, IfErr, IfOk};
 
 use crate::fault::ServeFault;
-use crate::reading::graph_of;
+use crate::reading::{events_of, graph_of};
 use crate::running::Output;
 use crate::timing::time_text_of;
 use boruvka::protocol::Boruvka;
 use boruvka_report::run_text::run_text;
 use boruvka_runs::laws::law_turns;
 use boruvka_runs::run::{Ran, run_by_seed};
-use ghs_commands::boruvka::BoruvkaOptions;
+use boruvka_steps::show::write_steps;
+use ghs_commands::boruvka::{BoruvkaOptions, BoruvkaStepsOptions};
 use ghs_commands::job::Show;
 use ghs_gr::device::{Sink, Source};
 use ghs_gr::laws::law_one_judgement;
@@ -187,4 +188,27 @@ fn finished(alloc: Global, world: &World<Boruvka>) -> Result<Vec<u8>, ServeFault
         Err(ReportFault::NotEnded) => Err(ServeFault::NotEnded),
         Err(ReportFault::Memory) => Err(ServeFault::Memory),
     }
+}
+
+/// Writes the lines of the chosen steps of a stored run of the graph that a device gives. The trace is judged first, then
+/// the graph, then whether each event is lawful: all before the first byte.
+pub(crate) fn write_boruvka_steps_of<R: Source, T: Source, W: Sink>(
+    alloc: Global,
+    options: &BoruvkaStepsOptions,
+    graph: &mut R,
+    trace: &mut T,
+    out: &mut W,
+) -> Result<(), ServeFault>
+    requires graph { R.has_failed graph.old ≡ false }
+    requires trace { T.has_failed trace.old ≡ false }
+    requires out { W.has_failed out.old ≡ false }
+    ensures serves { IfSome (T.left trace.old) (λ stored. IfSome (R.left graph.old) (λ input. Serves (Task.BoruvkaSteps options.now) stored input (W.held out.old) (W.held out.new) result)) }
+    ensures read { IsErrOf result ServeFault.Read ↔ ((R.has_failed graph.new ≡ true) ⊎ (T.has_failed trace.new ≡ true)) }
+    ensures write { IsWrite result ↔ (W.has_failed out.new ≡ true) }
+    ensures unwritten { IfErr result (λ fault. is_late (Task.BoruvkaSteps options.now) fault ≡ false → out.new ≡ out.old) }
+{
+    let events = events_of(alloc, Protocol::Boruvka, trace)?;
+    let graph = graph_of(alloc, graph)?;
+    write_steps(alloc, graph, options.wake, &events, &options.choice, out)?;
+    Ok(())
 }

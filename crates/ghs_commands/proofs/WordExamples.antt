@@ -96,3 +96,11 @@ threads-refused = refl
 time-taken : kinds_of (codes "run" ∷ codes "--protocol" ∷ codes "boruvka" ∷ codes "--print" ∷ codes "time" ∷ []) ≡ []
 unfolding program clap_on_literals
 time-taken = refl
+
+steps_in_step-taken : kinds_of (codes "steps" ∷ codes "--protocol" ∷ codes "boruvka" ∷ codes "run.trace" ∷ []) ≡ []
+unfolding program clap_on_literals
+steps_in_step-taken = refl
+
+json-refused : kinds_of (codes "steps" ∷ codes "--protocol" ∷ codes "boruvka" ∷ codes "--json" ∷ codes "run.trace" ∷ []) ≡ kind.InvalidValue ∷ []
+unfolding program clap_on_literals
+json-refused = refl

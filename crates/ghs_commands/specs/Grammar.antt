@@ -128,9 +128,10 @@ run_command =
 abbrev pub replay_command : App
 replay_command = with_rules (trace_rule ∷ file_rule ∷ protocol_rule ∷ wake_rule ∷ []) (new_app (codes "replay"))
 
--- `steps TRACE [FILE] [--wake all|first] [--from A] [--to B] [--node V] [--json]`
+-- `steps TRACE [FILE] [--protocol ghs|boruvka] [--wake all|first] [--from A] [--to B] [--node V] [--json]`
 abbrev pub steps_command : App
-steps_command = with_rules (trace_rule ∷ file_rule ∷ wake_rule ∷ from_rule ∷ to_rule ∷ node_rule ∷ json_rule ∷ []) (new_app (codes "steps"))
+steps_command =
+    with_rules (trace_rule ∷ file_rule ∷ protocol_rule ∷ wake_rule ∷ from_rule ∷ to_rule ∷ node_rule ∷ json_rule ∷ []) (new_app (codes "steps"))
 
 -- `sweep [FILE ..] --seeds FIRST..LAST [--schedule seeded|patient|rounds|waits|lifo] [--workers W] [--wake all|first] [--turns T]
 -- [--print runs|summary|chart] [--by node|level|rule] [--names] [--json] [--progress]`

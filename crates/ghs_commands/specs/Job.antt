@@ -19,9 +19,11 @@ use Rattle.ghs_world.specs.declared.wake_set.WakeSet.TheVariants.{First}
 use Rattle.ghs_commands.specs.Grammar.{program}
 use Rattle.ghs_commands.specs.declared.job.JobFault.{JobFault}
 use Rattle.ghs_commands.specs.declared.job.JobFault.TheVariants as fault
+use Rattle.ghs_steps.specs.declared.choice.Choice.{Choice}
 use Rattle.ghs_steps.specs.declared.form.Form.{Form}
 use Rattle.ghs_steps.specs.declared.form.Form.TheVariants.{Json}
 use Rattle.ghs_commands.specs.declared.boruvka.BoruvkaOptions.{BoruvkaOptions}
+use Rattle.ghs_commands.specs.declared.boruvka.BoruvkaStepsOptions.{BoruvkaStepsOptions}
 use Rattle.ghs_commands.specs.declared.exploring.ExploreOptions.{ExploreOptions}
 use Rattle.ghs_commands.specs.declared.exploring.Finding.{Finding}
 use Rattle.ghs_commands.specs.declared.exploring.Finding.TheVariants.{Run}
@@ -191,13 +193,21 @@ pub record AreNetworks (command : Used) (names : List Text) : Type 0 where
   pub said : (asked ≡ true) ↔ (value_in (codes "names") command ≡ Some (codes "true"))
   pub named : names ≡ named_of asked (values_in (codes "FILE") command)
 
--- which steps a command asks to be shown
+-- which events a command asks to be shown
+pub record IsChoice (command : Used) (choice : Choice) : Type 0 where
+  pub from : choice.from ≡ from_in command
+  pub to : choice.to ≡ to_in command
+  pub node : choice.node ≡ node_in command
+
+-- which steps of a stored run it asks for: of one of GHS, or of one by Borůvka in step
 pub record AreStepsOptions (command : Used) (o : StepsOptions) : Type 0 where
   pub wake : IsWake command o.wake
-  pub from : o.choice.from ≡ from_in command
-  pub to : o.choice.to ≡ to_in command
-  pub node : o.choice.node ≡ node_in command
+  pub choice : IsChoice command o.choice
   pub form : IsForm command o.form
+
+pub record AreBoruvkaStepsOptions (command : Used) (o : BoruvkaStepsOptions) : Type 0 where
+  pub wake : IsWake command o.wake
+  pub choice : IsChoice command o.choice
 
 -- which page a command asks for: of the run that a seed picks, or of the runs of two, or of a stored one
 pub record AreViewOptions (command : Used) (o : ViewOptions) : Type 0 where
@@ -261,7 +271,9 @@ IsTask command (task.Tree core) = IsNoOther command × IsCoreOf command core
 IsTask command (task.Run options) = (name_in command ≡ Some (codes "run")) × (protocol_in command ≡ Ghs) × AreOptions command options
 IsTask command (task.Boruvka options) = (name_in command ≡ Some (codes "run")) × (protocol_in command ≡ Boruvka) × AreBoruvkaOptions command options
 IsTask command (task.Replay protocol wake) = (name_in command ≡ Some (codes "replay")) × (protocol ≡ protocol_in command) × IsWake command wake
-IsTask command (task.Steps options) = (name_in command ≡ Some (codes "steps")) × AreStepsOptions command options
+IsTask command (task.Steps options) = (name_in command ≡ Some (codes "steps")) × (protocol_in command ≡ Ghs) × AreStepsOptions command options
+IsTask command (task.BoruvkaSteps options) =
+    (name_in command ≡ Some (codes "steps")) × (protocol_in command ≡ Boruvka) × AreBoruvkaStepsOptions command options
 IsTask command (task.Sweep options) = (name_in command ≡ Some (codes "sweep")) × AreSweepOptions command options
 IsTask command (task.View options) =
     (name_in command ≡ Some (codes "view")) × (value_in (codes "TRACE") command ≡ None) × AreViewOptions command options
@@ -301,6 +313,7 @@ IsWithinLimits (task.Run options) = AreWithinLimits options
 IsWithinLimits (task.Boruvka options) = AreBoruvkaLimits options
 IsWithinLimits (task.Replay protocol wake) = Unit {0}
 IsWithinLimits (task.Steps options) = Unit {0}
+IsWithinLimits (task.BoruvkaSteps options) = Unit {0}
 IsWithinLimits (task.Sweep options) = AreSweepLimits options
 IsWithinLimits (task.View options) = AreViewLimits options
 IsWithinLimits (task.StoredView options) = Unit {0}
@@ -355,7 +368,7 @@ has_network command =
 abbrev pub has_seeds : Used → Bool
 has_seeds command = is_range (value_in (codes "seeds") command) && are_two (value_in (codes "pair") command)
 
--- all that is asked for goes with Borůvka in step: no threads, no other schedule than the seeded, no cores, and nothing is told of the run
+-- all that is asked for goes with Borůvka in step: no threads, no other schedule than the seeded, no cores, nothing is told of the run, and no JSON
 abbrev pub fits_boruvka : Used → Bool
 fits_boruvka command =
     is_number 0 0 (value_in (codes "workers") command)
@@ -363,6 +376,7 @@ fits_boruvka command =
     && not (is_said (codes "true") (value_in (codes "core") command))
     && not (is_said (codes "true") (value_in (codes "progress") command))
     && not (is_said (codes "true") (value_in (codes "tally") command))
+    && not (is_said (codes "true") (value_in (codes "json") command))
 
 -- GHS goes with everything
 abbrev pub fits_by : Protocol → Used → Bool

@@ -1,13 +1,14 @@
-//! What a run by Borůvka in step is asked for, and what doesn't go with that protocol.
+//! What a run by Borůvka in step is asked for, or a stored one, and what doesn't go with that protocol.
 ghost use Rattle.clap.specs.Words.{subcommand_rows_of};
-ghost use Rattle.ghs_commands.specs.Job.{AreBoruvkaLimits, AreBoruvkaOptions, fits_boruvka};
+ghost use Rattle.ghs_commands.specs.Job.{AreBoruvkaLimits, AreBoruvkaOptions, AreBoruvkaStepsOptions, fits_boruvka};
 ghost use Rattle.std.specs.Prelude.{◌≡◌, is_none};
 
-use crate::job::{Show, number_of, show_of, value_of, wake_of};
+use crate::job::{Show, choice_of, number_of, show_of, value_of, wake_of};
 use crate::parts::is_said;
 use crate::values::{is_among, is_number};
 use clap::ArgMatches;
 use ghs_sched::trace::EVENT_LIMIT;
+use ghs_steps::choice::Choice;
 use ghs_world::wake_set::WakeSet;
 
 /// How a network is run by Borůvka in step.
@@ -23,6 +24,15 @@ pub struct BoruvkaOptions {
     pub show: Show,
 }
 
+/// Which steps of a stored run by Borůvka in step are shown.
+#[derive(Clone, Copy, Debug, PartialEq, Eq)]
+pub struct BoruvkaStepsOptions {
+    /// Which nodes wake by themselves.
+    pub wake: WakeSet,
+    /// Which events are shown.
+    pub choice: Choice,
+}
+
 /// How a network is to be run.
 pub(crate) fn boruvka_of<'a>(matches: &ArgMatches<'a>) -> BoruvkaOptions
     ensures options { AreBoruvkaOptions (subcommand_rows_of matches.now) result }
@@ -33,6 +43,17 @@ pub(crate) fn boruvka_of<'a>(matches: &ArgMatches<'a>) -> BoruvkaOptions
         wake: wake_of(matches),
         turns: number_of(matches, "turns", 1, EVENT_LIMIT),
         show: show_of(matches),
+    }
+}
+
+/// Which steps are to be shown.
+pub(crate) fn boruvka_steps_of<'a>(matches: &ArgMatches<'a>) -> BoruvkaStepsOptions
+    ensures { AreBoruvkaStepsOptions (subcommand_rows_of matches.now) result }
+{
+    let wake = wake_of(matches);
+    BoruvkaStepsOptions {
+        wake,
+        choice: choice_of(matches),
     }
 }
 
@@ -50,6 +71,8 @@ pub(crate) fn stranger_in<'a>(matches: &ArgMatches<'a>) -> Option<&'static str>
         Some("--progress")
     } else if is_said(value_of(matches, "tally"), "true") {
         Some("--tally")
+    } else if is_said(value_of(matches, "json"), "true") {
+        Some("--json")
     } else {
         None
     }

@@ -117,6 +117,7 @@ fn steps<'a>(alloc: Global) -> Result<Command<'a>, AllocError>
     let arguments = vec![in alloc;
         trace(alloc),
         file(alloc),
+        protocol(alloc),
         wake(alloc),
         from(alloc),
         to(alloc),

@@ -1,7 +1,7 @@
 //! Command lines.
 ghost use Rattle.ghs_commands.specs.declared.job.JobFault.TheVariants.{Memory};
 ghost use Rattle.ghs_commands.specs.Grammar.{program};
-ghost use Rattle.ghs_commands.specs.Job.{AreNetworks, AreOptions, IsAsked, kind_in, links_in, weights_in, AreStepsOptions, AreSweepLimits, AreSweepOptions, AreWithinLimits, by_in, command_in, first_seed_in, has_choices, has_course, has_events, has_figures, has_network, has_numbers, has_prints, has_seeds, has_sizes, has_sources, has_values, kinds_of, name_in, node_in, number_at, option_kinds, pair_in, second_seed_in, seeds_at, value_in, with_name, IsForm, IsScheduleKind, IsRefused, IsSaid, IsSaidOf, IsSheet, IsShow, IsTask, IsWake, IsWithinLimits, AreStoredViewOptions, AreViewLimits, AreViewOptions};
+ghost use Rattle.ghs_commands.specs.Job.{AreNetworks, AreOptions, IsAsked, kind_in, links_in, weights_in, AreStepsOptions, IsChoice, AreSweepLimits, AreSweepOptions, AreWithinLimits, by_in, command_in, first_seed_in, has_choices, has_course, has_events, has_figures, has_network, has_numbers, has_prints, has_seeds, has_sizes, has_sources, has_values, kinds_of, name_in, node_in, number_at, option_kinds, pair_in, second_seed_in, seeds_at, value_in, with_name, IsForm, IsScheduleKind, IsRefused, IsSaid, IsSaidOf, IsSheet, IsShow, IsTask, IsWake, IsWithinLimits, AreStoredViewOptions, AreViewLimits, AreViewOptions};
 ghost use Rattle.ghs_commands.specs.Values.{AreSeeds, are_apart, are_weights, is_among, is_kind, is_number, is_range};
 ghost use Rattle.ghs_commands.specs.Networks.{are_read_once, values_in};
 ghost use Rattle.ghs_commands.specs.Parts.{go_together, is_part};
@@ -10,7 +10,7 @@ ghost use Rattle.clap.specs.Words.{kind_of, subcommand_rows_of};
 ghost use Rattle.std.specs.Option.{option_map};
 ghost use Rattle.std.specs.Prelude.{◌≡◌, ◌≤◌, ◌↔◌, ◌∷◌, [], IfErr, IfOk, IfSome, OnErr, OnOk, Some, codes, false, map, string_bytes, true};
 
-use crate::boruvka::{BoruvkaOptions, boruvka_of};
+use crate::boruvka::{BoruvkaOptions, BoruvkaStepsOptions, boruvka_of, boruvka_steps_of};
 use crate::exploring::{ExploreOptions, MOST_STATES, exploration_of};
 use crate::grammar::program;
 use crate::networks::{are_read_once, input_twice, named_of, values_of};
@@ -164,6 +164,8 @@ pub enum Task {
     Replay { protocol: Protocol, wake: WakeSet },
     /// Print what each event of a stored run does.
     Steps(StepsOptions),
+    /// Print what each event of a stored run by Borůvka in step does.
+    BoruvkaSteps(BoruvkaStepsOptions),
     /// Print the figures of many seeds' runs.
     Sweep(SweepOptions),
     /// Print the page of the run that a seed picks.
@@ -591,7 +593,7 @@ fn task_of<'a>(matches: &ArgMatches<'a>) -> Task
             wake: wake_of(matches),
         }
     } else if matches.subcommand_name() == Some("steps") {
-        Task::Steps(steps_of(matches))
+        steps_by(matches)
     } else if matches.subcommand_name() == Some("sweep") {
         Task::Sweep(sweep_of(matches))
     } else if matches.subcommand_name() == Some("view") {
@@ -637,18 +639,37 @@ fn options_of<'a>(matches: &ArgMatches<'a>) -> RunOptions
     }
 }
 
+/// Of which protocol the run is whose steps are to be shown, and which.
+fn steps_by<'a>(matches: &ArgMatches<'a>) -> Task
+    requires { name_in (subcommand_rows_of matches.now) ≡ Some (codes "steps") }
+    ensures task { IsTask (subcommand_rows_of matches.now) result }
+    ensures limits { IsWithinLimits result }
+{
+    match protocol_of(matches) {
+        Protocol::Ghs => Task::Steps(steps_of(matches)),
+        Protocol::Boruvka => Task::BoruvkaSteps(boruvka_steps_of(matches)),
+    }
+}
+
 /// Which steps are to be shown.
 fn steps_of<'a>(matches: &ArgMatches<'a>) -> StepsOptions
     ensures { AreStepsOptions (subcommand_rows_of matches.now) result }
 {
     StepsOptions {
         wake: wake_of(matches),
-        choice: Choice {
-            from: number_of(matches, "from", 1, EVENT_LIMIT),
-            to: number_of(matches, "to", 1, EVENT_LIMIT),
-            node: node_of(matches),
-        },
+        choice: choice_of(matches),
         form: form_of(matches),
+    }
+}
+
+/// Of which events they are.
+pub(crate) fn choice_of<'a>(matches: &ArgMatches<'a>) -> Choice
+    ensures { IsChoice (subcommand_rows_of matches.now) result }
+{
+    Choice {
+        from: number_of(matches, "from", 1, EVENT_LIMIT),
+        to: number_of(matches, "to", 1, EVENT_LIMIT),
+        node: node_of(matches),
     }
 }
 

@@ -191,3 +191,22 @@ returns-in-Boruvka-clause-unwritten g c =
 
 pub returns-in-Boruvka-clause-trace : goal.returns-in-Boruvka-clause-trace
 returns-in-Boruvka-clause-trace g c = unread_as c.args.job.now.task (task.Boruvka c.in-Boruvka.options) _ _ c.in-Boruvka.is refl
+
+pub returns-in-BoruvkaSteps-clause-serves : goal.returns-in-BoruvkaSteps-clause-serves
+returns-in-BoruvkaSteps-clause-serves g c =
+    serves_as c.args.job.now.task (task.BoruvkaSteps c.in-BoruvkaSteps.options) (g.T.Source.left c.args.trace.now) (g.R.Source.left
+    c.args.graph.now) _ _
+    c.write_boruvka_steps_of.result c.in-BoruvkaSteps.is c.write_boruvka_steps_of.ensures.serves
+
+pub returns-in-BoruvkaSteps-clause-ends : goal.returns-in-BoruvkaSteps-clause-ends
+returns-in-BoruvkaSteps-clause-ends g c =
+    ends_other c.args.job.now.task (task.BoruvkaSteps c.in-BoruvkaSteps.options) (g.R.Source.left c.args.graph.now)
+    c.write_boruvka_steps_of.result c.in-BoruvkaSteps.is refl
+
+pub returns-in-BoruvkaSteps-clause-unwritten : goal.returns-in-BoruvkaSteps-clause-unwritten
+returns-in-BoruvkaSteps-clause-unwritten g c =
+    unwritten_as c.args.job.now.task (task.BoruvkaSteps c.in-BoruvkaSteps.options) _ _ c.write_boruvka_steps_of.result
+    c.in-BoruvkaSteps.is c.write_boruvka_steps_of.ensures.unwritten
+
+pub returns-in-BoruvkaSteps-clause-trace : goal.returns-in-BoruvkaSteps-clause-trace
+returns-in-BoruvkaSteps-clause-trace g c = unread_as c.args.job.now.task (task.BoruvkaSteps c.in-BoruvkaSteps.options) _ _ c.in-BoruvkaSteps.is tt
