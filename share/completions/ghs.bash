@@ -16,6 +16,7 @@ _ghs() {
         run,--print) COMPREPLY=($(compgen -W 'report trace time' -- "$word")) && return ;;
         replay,--protocol) COMPREPLY=($(compgen -W 'ghs boruvka' -- "$word")) && return ;;
         replay,--wake) COMPREPLY=($(compgen -W 'all first' -- "$word")) && return ;;
+        steps,--protocol) COMPREPLY=($(compgen -W 'ghs boruvka' -- "$word")) && return ;;
         steps,--wake) COMPREPLY=($(compgen -W 'all first' -- "$word")) && return ;;
         steps,--from) : && return ;;
         steps,--to) : && return ;;
@@ -48,7 +49,7 @@ _ghs() {
         tree) [[ $word == -* ]] && COMPREPLY=($(compgen -W '--core -h --help' -- "$word")) ;;
         run) [[ $word == -* ]] && COMPREPLY=($(compgen -W '--protocol --seed --schedule --workers --wake --turns --print --core --progress --tally -h --help' -- "$word")) ;;
         replay) [[ $word == -* ]] && COMPREPLY=($(compgen -W '--protocol --wake -h --help' -- "$word")) ;;
-        steps) [[ $word == -* ]] && COMPREPLY=($(compgen -W '--wake --from --to --node --json -h --help' -- "$word")) ;;
+        steps) [[ $word == -* ]] && COMPREPLY=($(compgen -W '--protocol --wake --from --to --node --json -h --help' -- "$word")) ;;
         sweep) [[ $word == -* ]] && COMPREPLY=($(compgen -W '--seeds --schedule --workers --wake --turns --print --by --names --json --progress -h --help' -- "$word")) ;;
         view) [[ $word == -* ]] && COMPREPLY=($(compgen -W '--seed --seeds --schedule --wake --turns --trace --from --to -h --help' -- "$word")) ;;
         make) [[ $word == -* ]] && COMPREPLY=($(compgen -W '--seed --links --weights -h --help' -- "$word"))

@@ -26,6 +26,7 @@ complete -c ghs -n '__fish_seen_subcommand_from run' -s h -l help -d 'Print help
 complete -c ghs -n '__fish_seen_subcommand_from replay' -l protocol -x -a 'ghs boruvka' -d 'Which protocol the nodes follow: ghs, or boruvka, Borůvka in step, without threads and by a seeded schedule alone [default: ghs]'
 complete -c ghs -n '__fish_seen_subcommand_from replay' -l wake -x -a 'all first' -d 'Which nodes wake by themselves: all, or the first of each component [default: all]'
 complete -c ghs -n '__fish_seen_subcommand_from replay' -s h -l help -d 'Print help'
+complete -c ghs -n '__fish_seen_subcommand_from steps' -l protocol -x -a 'ghs boruvka' -d 'Which protocol the nodes follow: ghs, or boruvka, Borůvka in step, without threads and by a seeded schedule alone [default: ghs]'
 complete -c ghs -n '__fish_seen_subcommand_from steps' -l wake -x -a 'all first' -d 'Which nodes wake by themselves: all, or the first of each component [default: all]'
 complete -c ghs -n '__fish_seen_subcommand_from steps' -l from -x -d 'The number of the first event that is shown, counted from 1 [default: 1]'
 complete -c ghs -n '__fish_seen_subcommand_from steps' -l to -x -d 'The number of the last event that is shown [default: 1099511627776]'
