@@ -1,4 +1,5 @@
 //! Bits of runs, by hand from the lengths of their messages.
+use crate::comparing::assert_same_of;
 use crate::nets::{net_of, play_all};
 use ghs_bits::run::bits_of;
 use ghs_sched::trace::read_trace;
@@ -20,8 +21,8 @@ fn assert_bits(rt: &impl Abort, alloc: Global, text: &str, trace: &str, sent: u6
     assert!(rt; net.events() <= 1 << 40);
     let bits = bits_of(alloc, net.graph(), net.trace()).ok();
     let bits = bits.expect(rt, "memory");
-    assert_eq!(rt; bits.sent, sent, "of {text:?}");
-    assert_eq!(rt; bits.longest, longest, "of {text:?}");
+    assert_same_of(rt, &bits.sent, &sent, &text);
+    assert_same_of(rt, &bits.longest, &longest, &text);
 }
 
 /// The pair: a key has seven bits, a level one. Two Connects, two Initiates and two Reports without a key are 8 + 24 + 8.

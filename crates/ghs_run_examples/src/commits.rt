@@ -1,4 +1,5 @@
 //! Runs of worlds, step by step: what is counted, and the text at the end.
+use crate::comparing::assert_same;
 use crate::worlds::{branches_of, commit, do_all, hold, let_go, path, step_of, text_of, world_of};
 use ghs_core::census::FragmentRow;
 use ghs_core::event::Event;
@@ -33,23 +34,23 @@ fn fault_of(alloc: Global, world: &World) -> Option<ReportFault> {
 }
 
 fn assert_ledger(rt: &impl Abort, world: &World, ledger: &Ledger) {
-    assert_eq!(rt; world.ledger(), *ledger);
+    assert_same(rt, &world.ledger(), ledger);
 }
 
 fn assert_census(rt: &impl Abort, alloc: Global, world: &World, rows: &[FragmentRow]) {
     let census = world.census(alloc).expect(rt, "memory");
-    assert_eq!(rt; census.as_slice(), rows);
+    assert_same(rt, &census.as_slice(), &rows);
 }
 
 fn assert_pair_text(rt: &impl Abort, alloc: Global, world: &World) {
     let text = text_of(rt, alloc, world);
-    assert_eq!(rt; text.as_slice(), PAIR_TEXT.as_bytes());
+    assert_same(rt, &text.as_slice(), &PAIR_TEXT.as_bytes());
 }
 
 /// Where a run goes on there is no text.
 fn assert_goes_on(rt: &impl Abort, alloc: Global, world: &World) {
     let fault = fault_of(alloc, world);
-    assert_eq!(rt; fault, Some(ReportFault::NotEnded));
+    assert_same(rt, &fault, &Some(ReportFault::NotEnded));
 }
 
 /// The last step of the two nodes, the seventh: node 1 halts.
@@ -95,7 +96,7 @@ const LONG: Key = Key {
 };
 
 fn assert_branches(rt: &impl Abort, alloc: Global, world: &World, links: &[Key]) {
-    assert_eq!(rt; branches_of(rt, alloc, world).as_slice(), links);
+    assert_same(rt, &branches_of(rt, alloc, world).as_slice(), &links);
 }
 
 /// Three nodes in a row, all of which have woken.
@@ -134,7 +135,7 @@ const AWAKE: [FragmentRow; 2] = [
 fn assert_fragment(rt: &impl Abort, alloc: Global, world: &World, v: u32, nodes: &[u32]) {
     assert!(rt; v >= 1 && v <= world.net().graph().nodes());
     let fragment = world.net().fragment(alloc, v).expect(rt, "memory");
-    assert_eq!(rt; fragment.as_slice(), nodes);
+    assert_same(rt, &fragment.as_slice(), &nodes);
 }
 
 #[test]

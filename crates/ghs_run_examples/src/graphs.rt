@@ -1,4 +1,5 @@
 //! The graphs of texts: roots and components.
+use crate::comparing::assert_same_of;
 use ghs_graph::graph::Graph;
 use ghs_test_graphs::build::graph_of;
 use ghs_test_graphs::graphs::{
@@ -55,7 +56,7 @@ const ROWS: [Row; 7] = [
 
 fn assert_root(rt: &impl Abort, graph: &Graph, v: u32, root: u32) {
     assert!(rt; v >= 1 && v <= graph.nodes());
-    assert_eq!(rt; graph.root(v), root, "of {v}");
+    assert_same_of(rt, &graph.root(v), &root, &v);
 }
 
 fn assert_roots(rt: &impl Abort, graph: &Graph, roots: &[u32]) {
@@ -69,7 +70,7 @@ fn assert_roots(rt: &impl Abort, graph: &Graph, roots: &[u32]) {
 
 fn assert_row(rt: &impl Abort, alloc: Global, row: &Row) {
     let graph = graph_of(alloc, row.text.as_bytes()).expect(rt, "a graph");
-    assert_eq!(rt; graph.components(), row.components, "of {:?}", row.text);
+    assert_same_of(rt, &graph.components(), &row.components, &row.text);
     assert_roots(rt, &graph, row.roots);
 }
 

@@ -10,6 +10,8 @@ mod bits;
 #[cfg(test)]
 mod commits;
 #[cfg(test)]
+mod comparing;
+#[cfg(test)]
 mod graphs;
 #[cfg(test)]
 mod nets;

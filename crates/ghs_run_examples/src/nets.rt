@@ -1,6 +1,7 @@
 //! Nets of one thread, played event by event.
 ghost use Rattle.ghs_core.specs.NetState.{IsLawful, IsAnswer};
 
+use crate::comparing::assert_same;
 use ghs_core::event::Event;
 use ghs_core::ledger::Ledger;
 use ghs_core::net::{Net, node_of};
@@ -76,11 +77,11 @@ fn assert_unlawful(rt: &impl Abort, net: &Net, events: &[Event]) {
 }
 
 fn assert_halted(rt: &impl Abort, net: &Net, halted: Option<u32>) {
-    assert_eq!(rt; net.core_halted(), halted);
+    assert_same(rt, &net.core_halted(), &halted);
 }
 
 fn assert_ended(rt: &impl Abort, net: &Net, ended: bool) {
-    assert_eq!(rt; net.ended(), ended);
+    assert_same(rt, &net.ended(), &ended);
 }
 
 fn assert_trace(rt: &impl Abort, net: &Net, events: &[Event]) {
@@ -89,7 +90,7 @@ fn assert_trace(rt: &impl Abort, net: &Net, events: &[Event]) {
 }
 
 fn assert_ledger(rt: &impl Abort, net: &Net, ledger: &Ledger) {
-    assert_eq!(rt; net.ledger(), *ledger);
+    assert_same(rt, &net.ledger(), ledger);
 }
 
 fn branches_of(rt: &impl Abort, alloc: Global, net: &Net) -> Vec<Key> {
@@ -105,12 +106,12 @@ fn fragment_of(rt: &impl Abort, alloc: Global, net: &Net, v: u32) -> (u8, Vec<u3
 
 fn assert_level(rt: &impl Abort, alloc: Global, net: &Net, v: u32, level: u8) {
     let (found, _) = fragment_of(rt, alloc, net, v);
-    assert_eq!(rt; found, level);
+    assert_same(rt, &found, &level);
 }
 
 fn assert_fragment(rt: &impl Abort, alloc: Global, net: &Net, v: u32, nodes: &[u32]) {
     let (_, found) = fragment_of(rt, alloc, net, v);
-    assert_eq!(rt; found.as_slice(), nodes);
+    assert_same(rt, &found.as_slice(), &nodes);
 }
 
 /// The greatest level of the nodes, once the fragment of each has as many nodes as its level asks.
@@ -135,12 +136,12 @@ fn sent_in(net: &Net) -> u64 {
 }
 
 fn assert_sent(rt: &impl Abort, net: &Net, sent: [u64; 7]) {
-    assert_eq!(rt; net.ledger().sent, sent);
+    assert_same(rt, &net.ledger().sent, &sent);
 }
 
 /// A link is this one: weight, smaller end, larger end.
 fn assert_link(rt: &impl Abort, link: &Key, (weight, a, b): (u32, u32, u32)) {
-    assert_eq!(rt; (link.weight, link.a, link.b), (weight, a, b));
+    assert_same(rt, &(link.weight, link.a, link.b), &(weight, a, b));
 }
 
 /// The Branch links are these: weight, smaller end, larger end.
@@ -392,7 +393,7 @@ fn pieces(rt: HostRuntime) {
     assert_branches(&rt, alloc, &net, &[(5, 1, 2), (6, 3, 4)]);
 }
 
-fn assert_same(rt: &impl Abort, left: &Net, right: &Net, same: bool) {
+fn assert_same_run(rt: &impl Abort, left: &Net, right: &Net, same: bool) {
     assert!(rt; left.same(right) == same);
 }
 
@@ -401,9 +402,9 @@ fn same_runs(rt: HostRuntime) {
     let alloc = rt.alloc();
     let left = played(&rt, alloc, PATH_OF_THREE, &[Event::Wake(2)]);
     let mut right = net_of(&rt, alloc, PATH_OF_THREE);
-    assert_same(&rt, &left, &right, false);
+    assert_same_run(&rt, &left, &right, false);
     play(&rt, alloc, &mut right, Event::Wake(3));
-    assert_same(&rt, &left, &right, false);
+    assert_same_run(&rt, &left, &right, false);
 }
 
 /// The net that another one's graph opens with.
@@ -414,7 +415,7 @@ fn opened_again(rt: &impl Abort, alloc: Global, net: Net) -> Net {
 /// Whether the net is the opening net of a text.
 fn assert_opens(rt: &impl Abort, alloc: Global, net: &Net, text: &str, same: bool) {
     let opening = net_of(rt, alloc, text);
-    assert_same(rt, net, &opening, same);
+    assert_same_run(rt, net, &opening, same);
 }
 
 #[test]

@@ -1,6 +1,7 @@
 //! The queues of a path.
 ghost use Rattle.ghs_channels.specs.Channels.{IsFor, IsPort};
 
+use crate::comparing::{assert_same, assert_same_of};
 use ghs_channels::channels::Channels;
 use ghs_graph::graph::Graph;
 use ghs_graph::key::Key;
@@ -111,10 +112,11 @@ fn sees(
 )
     requires { IsFor graph.now channels.now }
 {
-    assert_eq!(rt;
-        look(rt, channels, graph, v, port),
-        waiting,
-        "at {v}, {port}"
+    assert_same_of(
+        rt,
+        &look(rt, channels, graph, v, port),
+        &waiting,
+        &(v, port),
     );
 }
 
@@ -138,11 +140,11 @@ fn takes(
     ensures { IsFor graph.now channels.new }
 {
     let taken = take(rt, channels, graph, v, port);
-    assert_eq!(rt; taken, message);
+    assert_same(rt, &taken, &message);
 }
 
 fn assert_total(rt: &impl Abort, channels: &Channels, total: u64) {
-    assert_eq!(rt; channels.total(), total);
+    assert_same(rt, &channels.total(), &total);
 }
 
 const CONNECT: Message = Message::Connect(Level::ZERO);

@@ -1,4 +1,5 @@
 //! Runs whose events a schedule picks.
+use crate::comparing::assert_same;
 use crate::worlds::{check_out, let_go, world_of};
 use ghs_core::event::Event;
 use ghs_sched::fault::RunFault;
@@ -25,7 +26,7 @@ const PAIR_RUN: [Event; 6] = [
 fn run_pair(rt: &impl Abort, alloc: Global, world: &mut World, schedule: &mut Schedule) {
     let end = run_seeded(alloc, world, schedule);
     assert!(rt; end == Ok(RunEnd::Halted(1)));
-    assert_eq!(rt; world.trace(), PAIR_RUN.as_slice());
+    assert_same(rt, &world.trace(), &PAIR_RUN.as_slice());
 }
 
 fn pair_of(rt: &impl Abort, alloc: Global) -> World {
@@ -57,7 +58,7 @@ fn a_run_that_has_ended_stays(rt: HostRuntime) {
 
 fn assert_text(rt: &impl Abort, alloc: Global, fault: RunFault, text: &str) {
     let printed = format!(in alloc; "{fault}").expect(rt, "memory");
-    assert_eq!(rt; printed.as_str(), text);
+    assert_same(rt, &printed.as_str(), &text);
 }
 
 #[test]

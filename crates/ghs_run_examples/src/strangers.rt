@@ -1,4 +1,5 @@
 //! Steps and tickets that a world doesn't take: they are of another world, or were called back.
+use crate::comparing::assert_same;
 use crate::worlds::{check_out, commit, do_all, hold, let_go, path, step_of, world_of};
 use ghs_core::event::Event;
 use ghs_sched::trace::EVENT_LIMIT;
@@ -35,7 +36,7 @@ fn assert_step_refused(
     why: (u64, CommitFault),
 ) {
     let refused = refused_step(alloc, world, step);
-    assert_eq!(rt; refused, Some(why));
+    assert_same(rt, &refused, &Some(why));
 }
 
 /// A ticket isn't taken back: its number, and why.
@@ -46,13 +47,13 @@ fn assert_ticket_refused(
     why: (u64, BackFault),
 ) {
     let refused = refused_ticket(world, ticket);
-    assert_eq!(rt; refused, Some(why));
+    assert_same(rt, &refused, &Some(why));
 }
 
 /// Nothing is committed, and one ticket is out.
 fn assert_one_is_out(rt: &impl Abort, world: &World) {
     assert!(rt; world.trace().is_empty());
-    assert_eq!(rt; world.out_count(), 1);
+    assert_same(rt, &world.out_count(), &1);
 }
 
 /// A number is given out, and its ticket taken back.

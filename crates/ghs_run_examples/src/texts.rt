@@ -1,4 +1,5 @@
 //! Texts of nets.
+use crate::comparing::assert_same;
 use crate::nets::{net_of, play};
 use ghs_core::event::Event;
 use ghs_report::report_text::{ReportFault, report_text};
@@ -11,5 +12,5 @@ fn a_piece_goes_on(rt: HostRuntime) {
     let mut net = net_of(&rt, alloc, PAIR_AND_NODE);
     play(&rt, alloc, &mut net, Event::Wake(3));
     let fault = report_text(alloc, &net).err();
-    assert_eq!(rt; fault, Some(ReportFault::NotEnded));
+    assert_same(&rt, &fault, &Some(ReportFault::NotEnded));
 }

@@ -1,4 +1,5 @@
 //! Worlds, from which nodes go out on tickets.
+use crate::comparing::{assert_same, assert_same_of};
 use ghs_core::event::Event;
 use ghs_graph::key::Key;
 use ghs_report::run_text::run_text;
@@ -76,7 +77,7 @@ fn assert_refusal(
     fault: Option<OutFault>,
 ) {
     let found = refusal_of(alloc, world, event);
-    assert_eq!(rt; found, fault, "{event:?}");
+    assert_same_of(rt, &found, &fault, &event);
 }
 
 fn assert_refused(
@@ -102,7 +103,7 @@ fn refused_events(rt: HostRuntime) {
 pub fn hold(rt: &impl Abort, alloc: Global, world: &mut World, event: Event, number: u64) {
     let ticket = check_out(rt, alloc, world, event);
     assert!(rt; ticket.event() == event);
-    assert_eq!(rt; ticket.number(), number);
+    assert_same(rt, &ticket.number(), &number);
 }
 
 fn take_back(rt: &impl Abort, world: &mut World, ticket: Ticket) {
@@ -135,7 +136,7 @@ fn pieces_out(rt: &impl Abort, alloc: Global) -> World {
 }
 
 fn assert_out(rt: &impl Abort, world: &World, count: u64) {
-    assert_eq!(rt; world.out_count(), count);
+    assert_same(rt, &world.out_count(), &count);
 }
 
 #[test]
