@@ -7,7 +7,7 @@ use Rattle.ghs_protocol.specs.Network.{network_of}
 use Rattle.ghs_report.specs.declared.portions.WriteFault.{WriteFault}
 use Rattle.ghs_report.specs.Written.{IsFront, IsOut}
 use Rattle.ghs_report.proofs.lemmas.Gone.{front_longer, out_more}
-use Rattle.ghs_steps.specs.declared.choice.Choice.{Choice}
+use Rattle.ghs_choices.specs.declared.choice.Choice.{Choice}
 use Rattle.peer_machine.specs.Run.{IsRun}
 use Rattle.peer_net.specs.NetState.{NetState, IsLawful}
 use Rattle.boruvka_node.specs.Boruvka.{boruvka}

@@ -2,8 +2,8 @@
 use Rattle.std.specs.Prelude.{ℕ, ◌+◌, List, [], ◌∷◌, ◌++◌, length, if◌then◌else◌}
 use Rattle.ghs_graph.specs.Graph.{Shape}
 use Rattle.ghs_protocol.specs.declared.event.Event.{Event}
-use Rattle.ghs_steps.specs.declared.choice.Choice.{Choice}
-use Rattle.ghs_steps.specs.Choice.{is_chosen}
+use Rattle.ghs_choices.specs.declared.choice.Choice.{Choice}
+use Rattle.ghs_choices.specs.Choice.{is_chosen}
 use Rattle.peer_machine.specs.Net.{event_node}
 use Rattle.boruvka_steps.specs.Step.{moment_of, changes_by, sends_by, total_by}
 use Rattle.boruvka_steps.specs.StepLine.{line_of}

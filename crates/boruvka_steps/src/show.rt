@@ -9,13 +9,13 @@ ghost use Rattle.boruvka_node.specs.Boruvka.{boruvka};
 ghost use Rattle.boruvka_steps.specs.Lines.{lines};
 ghost use Rattle.boruvka_steps.specs.Shown.{CantShow};
 
-use crate::write::write_run;
 use boruvka::protocol::Boruvka;
+use crate::write::write_run;
+use ghs_choices::choice::Choice;
 use ghs_gr::device::Sink;
 use ghs_graph::graph::Graph;
 use ghs_report::portions::WriteFault;
 use ghs_sched::fault::ReplayFault;
-use ghs_steps::choice::Choice;
 pub use ghs_steps::show::StepsFault;
 use ghs_world::wake_set::WakeSet;
 use peer_machine::event::Event;

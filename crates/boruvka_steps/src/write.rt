@@ -10,17 +10,17 @@ ghost use Rattle.boruvka_node.specs.Boruvka.{boruvka};
 ghost use Rattle.boruvka_steps.specs.Step.{changes_by, sends_by};
 ghost use Rattle.boruvka_steps.specs.Lines.{line_by, lines, shown};
 
+use boruvka::protocol::Boruvka;
+use boruvka_node::react::react;
 use crate::change::{Change, changes};
 use crate::line::step_line;
 use crate::moment::{moment_at, work_of};
 use crate::sent::{Sent, sent_by};
-use boruvka::protocol::Boruvka;
-use boruvka_node::react::react;
+use ghs_choices::choice::Choice;
 use ghs_core::net::node_of;
 use ghs_gr::device::Sink;
 use ghs_graph::graph::Graph;
 use ghs_report::portions::{WriteFault, send_off, send_portion};
-use ghs_steps::choice::Choice;
 use peer_machine::event::Event;
 use peer_net::net::Net;
 use std::alloc::{AllocError, Global};
@@ -84,11 +84,11 @@ fn show(
 {
     let number = net.trace().len() as u64 + 1;
     if choice.has(number, node_of(event)) {
-        put_step(alloc, net, event, text)?;
+        put_step(alloc, net, event, text)
     } else {
         net.play(alloc, event)?;
+        Ok(())
     }
-    Ok(())
 }
 
 /// The event happens, and its line is appended. Refusal: out of memory.

@@ -3,7 +3,7 @@ use Rattle.std.proofs.Common.{◌≡◌, ◌++◌, ◌+◌, ◌-◌, ◌<◌, �
 use Rattle.std.specs.Prelude.{IfOk, Result, Ok}
 use Rattle.std.specs.declared.alloc.AllocError.{AllocError}
 use Rattle.ghs_graph.specs.Graph.{Shape}
-use Rattle.ghs_parts.specs.declared.by.By.{By}
+use Rattle.ghs_choices.specs.declared.by.By.{By}
 use Rattle.ghs_commands.specs.declared.job.SweepOptions.{SweepOptions}
 use Rattle.ghs_cli.specs.Sweeping.{ArePartedRuns, IsPartedRun, NextRun, NoRun}
 

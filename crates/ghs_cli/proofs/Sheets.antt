@@ -1,7 +1,7 @@
 -- Sheets of sweeps.
 use Rattle.std.proofs.Common.{◌≡◌, ◌++◌, ◌∙◌, List, ℕ, None, Option, Some, ap, length, refl, subst, sym}
 use Rattle.ghs_graph.specs.Graph.{Shape}
-use Rattle.ghs_parts.specs.declared.by.By.{By}
+use Rattle.ghs_choices.specs.declared.by.By.{By}
 use Rattle.ghs_sweep.specs.declared.figures.Figures.{Figures}
 use Rattle.ghs_sweep.specs.declared.seeded.Setup.{Setup}
 use Rattle.ghs_sweep.specs.Front.{bare_front}

@@ -3,8 +3,8 @@ use Rattle.std.specs.Prelude.{◌≡◌, ℕ, ◌<◌, List, [], ◌∷◌, ◌+
 use Rattle.ghs_report.specs.Writing.{HasWritten}
 use Rattle.ghs_chart.specs.Chart.{chart_head}
 use Rattle.ghs_chart.specs.declared.texts.TheConstants.{CHART_TAIL}
-use Rattle.ghs_steps.specs.declared.form.Form.{Form}
-use Rattle.ghs_steps.specs.declared.form.Form.TheVariants.{Text, Json}
+use Rattle.ghs_choices.specs.declared.form.Form.{Form}
+use Rattle.ghs_choices.specs.declared.form.Form.TheVariants.{Text, Json}
 use Rattle.ghs_sweep.specs.declared.front.TheConstants.{FRONT_HEAD}
 use Rattle.ghs_sweep.specs.Front.{front_of}
 use Rattle.ghs_commands.specs.declared.job.Sheet.{Sheet}

@@ -3,11 +3,11 @@ use Rattle.std.specs.Prelude.{◌≡◌, ℕ, ◌+◌, ◌-◌, List, [], ◌++�
 use Rattle.ghs_graph.specs.Graph.{Shape}
 use Rattle.ghs_protocol.specs.declared.event.Event.{Event}
 use Rattle.ghs_picking.specs.Picking.{IsPickedBy}
-use Rattle.ghs_parts.specs.declared.by.By.{By}
+use Rattle.ghs_choices.specs.declared.by.By.{By}
 use Rattle.ghs_parts.specs.Line.{head_line}
 use Rattle.ghs_parts.specs.Lines.{run_text}
-use Rattle.ghs_steps.specs.declared.form.Form.{Form}
-use Rattle.ghs_steps.specs.declared.form.Form.TheVariants.{Text, Json}
+use Rattle.ghs_choices.specs.declared.form.Form.{Form}
+use Rattle.ghs_choices.specs.declared.form.Form.TheVariants.{Text, Json}
 use Rattle.ghs_sweep.specs.declared.figures.Figures.{Figures}
 use Rattle.ghs_sweep.specs.declared.line.TheConstants.{HEAD_LINE}
 use Rattle.ghs_sweep.specs.declared.seeded.Setup.{Setup}

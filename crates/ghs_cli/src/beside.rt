@@ -26,8 +26,25 @@ pub(crate) fn pair_viewed(
 {
     let same = graph.copy(alloc)?;
     let first = world_of(alloc, options, options.seed, graph)?;
-    let second = world_of(alloc, options, beside, same)?;
-    pair_page_of(alloc, options, beside, &first, &second)
+    viewed_beside(alloc, options, beside, same, &first)
+}
+
+/// The page of a world's run, and beside it of the one that another seed picks of the same graph.
+fn viewed_beside(
+    alloc: Global,
+    options: &ViewOptions,
+    beside: u64,
+    graph: Graph,
+    first: &World,
+) -> Result<Vec<u8>, ServeFault>
+    requires limits { AreViewLimits options.now }
+    requires graph { first.now.net.graph ≡ graph }
+    requires first { IsPickedBy options.now.schedule_kind options.now.seed options.now.wake options.now.turns graph first.now.net.trace }
+    ensures text { IfOk result (λ text. IsPairView options.now beside graph text.items) }
+    ensures fault { IfErr result (λ fault. HasNoPairView options.now beside graph fault) }
+{
+    let second = world_of(alloc, options, beside, graph)?;
+    pair_page_of(alloc, options, beside, first, &second)
 }
 
 /// The page of two worlds of one graph.

@@ -7,10 +7,10 @@ ghost use Rattle.std.specs.Prelude.{◌≡◌, ◌+◌, ◌-◌, ◌<◌, ◌≤
 ghost use Rattle.std.specs.Thread.{IsSync};
 
 use crate::progress::tell_seeds;
+use ghs_choices::by::By;
 use ghs_commands::job::SweepOptions;
 use ghs_commands::values::Seeds;
 use ghs_graph::graph::Graph;
-use ghs_parts::by::By;
 use ghs_parts::lines::put_run;
 use ghs_picking::picking::run_by_seed;
 use ghs_sched::fault::RunFault;

@@ -11,17 +11,17 @@ use Rattle.ghs_make.specs.declared.kind.Kind.{Kind}
 use Rattle.ghs_make.specs.declared.kind.Kind.TheVariants.{Path}
 use Rattle.ghs_make.specs.declared.plan.Asked.{Asked}
 use Rattle.ghs_make.specs.declared.weights.Weights.{Weights}
-use Rattle.ghs_picking.specs.declared.picking.ScheduleKind.{ScheduleKind}
-use Rattle.ghs_picking.specs.declared.picking.ScheduleKind.TheVariants.{Lifo, Patient, Rounds, Waits}
+use Rattle.ghs_choices.specs.declared.schedule_kind.ScheduleKind.{ScheduleKind}
+use Rattle.ghs_choices.specs.declared.schedule_kind.ScheduleKind.TheVariants.{Lifo, Patient, Rounds, Waits}
 use Rattle.ghs_sched.specs.declared.trace.TheConstants.{EVENT_LIMIT}
 use Rattle.ghs_world.specs.declared.wake_set.WakeSet.{WakeSet}
 use Rattle.ghs_world.specs.declared.wake_set.WakeSet.TheVariants.{First}
 use Rattle.ghs_commands.specs.Grammar.{program}
 use Rattle.ghs_commands.specs.declared.job.JobFault.{JobFault}
 use Rattle.ghs_commands.specs.declared.job.JobFault.TheVariants as fault
-use Rattle.ghs_steps.specs.declared.choice.Choice.{Choice}
-use Rattle.ghs_steps.specs.declared.form.Form.{Form}
-use Rattle.ghs_steps.specs.declared.form.Form.TheVariants.{Json}
+use Rattle.ghs_choices.specs.declared.choice.Choice.{Choice}
+use Rattle.ghs_choices.specs.declared.form.Form.{Form}
+use Rattle.ghs_choices.specs.declared.form.Form.TheVariants.{Json}
 use Rattle.ghs_commands.specs.declared.boruvka.BoruvkaOptions.{BoruvkaOptions}
 use Rattle.ghs_commands.specs.declared.boruvka.BoruvkaStepsOptions.{BoruvkaStepsOptions}
 use Rattle.ghs_commands.specs.declared.exploring.ExploreOptions.{ExploreOptions}
@@ -43,7 +43,7 @@ use Rattle.ghs_commands.specs.declared.job.ViewOptions.{ViewOptions}
 use Rattle.ghs_commands.specs.declared.two_seeds.TwoSeeds.{TwoSeeds}
 use Rattle.ghs_commands.specs.declared.values.Seeds.{Seeds}
 use Rattle.ghs_commands.specs.Networks.{are_read_once, named_of, values_in}
-use Rattle.ghs_parts.specs.declared.by.By.{By}
+use Rattle.ghs_choices.specs.declared.by.By.{By}
 use Rattle.peer_trace.specs.Protocol.{protocol_named}
 use Rattle.peer_trace.specs.declared.protocol.Protocol.{Protocol}
 use Rattle.peer_trace.specs.declared.protocol.Protocol.TheVariants.{Boruvka, Ghs}

@@ -2,8 +2,8 @@
 use Rattle.std.specs.Prelude.{Bool, true, false, ◌&&◌, ◌||◌, not, codes, cond, Option, Some, None, is_none, is_some}
 use Rattle.std.specs.Str.{bytes_eq}
 use Rattle.clap.specs.Words.{Text}
-use Rattle.ghs_parts.specs.declared.by.By.{By}
-use Rattle.ghs_parts.specs.declared.by.By.TheVariants.{Node, Level, Rule}
+use Rattle.ghs_choices.specs.declared.by.By.{By}
+use Rattle.ghs_choices.specs.declared.by.By.TheVariants.{Node, Level, Rule}
 
 -- the part of a name
 abbrev pub by_named : Text → Option By

@@ -23,14 +23,14 @@ use crate::values::{
 };
 use clap::error::ErrorKind;
 use clap::{ArgMatches, Error};
+use ghs_choices::by::By;
+use ghs_choices::choice::Choice;
+use ghs_choices::form::Form;
+use ghs_choices::schedule_kind::ScheduleKind;
 use ghs_make::kind::Kind;
 use ghs_make::plan::Asked;
 use ghs_make::weights::Weights;
-use ghs_parts::by::By;
-use ghs_picking::picking::ScheduleKind;
 use ghs_sched::trace::EVENT_LIMIT;
-use ghs_steps::choice::Choice;
-use ghs_steps::form::Form;
 use ghs_world::wake_set::WakeSet;
 use peer_trace::protocol::Protocol;
 use std::alloc::{AllocError, Global};

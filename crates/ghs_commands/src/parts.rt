@@ -5,7 +5,7 @@ ghost use Rattle.std.specs.Option.{option_map};
 ghost use Rattle.std.specs.Prelude.{◌≡◌};
 
 use crate::job::JobFault;
-use ghs_parts::by::By;
+use ghs_choices::by::By;
 use std::alloc::Global;
 
 /// What of this name the messages of a run are counted by.

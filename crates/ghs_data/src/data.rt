@@ -7,13 +7,13 @@ ghost use Rattle.ghs_protocol.specs.Run.{IsRun};
 ghost use Rattle.ghs_steps.specs.Json.{next};
 ghost use Rattle.ghs_data.specs.Data.{counted_json, counts_json, data_json, events_members, head_json, kinds_members, ledger_json, link_json, network_members};
 
+use ghs_choices::form::Form;
 use ghs_core::event::Event;
 use ghs_core::ledger::Ledger;
 use ghs_core::net::Net;
 use ghs_graph::graph::Graph;
 use ghs_graph::key::Key;
 use ghs_lines::numbers::put_number;
-use ghs_steps::form::Form;
 use ghs_steps::json::{put_key_member, put_number_member, put_word_member};
 use ghs_steps::write::put_lines;
 use std::alloc::{AllocError, Global};

@@ -10,7 +10,7 @@ use Rattle.ghs_protocol.specs.Steps.{Happens, Woke, Took}
 use Rattle.ghs_protocol.proofs.lemmas.Events.{happening}
 use Rattle.ghs_protocol.proofs.lemmas.Runs.{both_some}
 use Rattle.ghs_protocol.proofs.lemmas.Sums.{sum_same}
-use Rattle.ghs_parts.specs.declared.by.By.TheVariants.{Node, Level, Rule}
+use Rattle.ghs_choices.specs.declared.by.By.TheVariants.{Node, Level, Rule}
 use Rattle.ghs_parts.specs.Deeds.{Deed, deeds, deeds_behind, sent_of}
 use Rattle.ghs_parts.specs.Laws.{LevelsAddUp, NodesAddUp, PlacesAreRules, RulesAddUp}
 use Rattle.ghs_parts.specs.Parts.{greatest_level, sum_in}

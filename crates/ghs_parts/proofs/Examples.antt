@@ -5,7 +5,7 @@ use Rattle.ghs_graph.specs.Ports.{ports_of}
 use Rattle.ghs_protocol.specs.declared.event.Event.{Event}
 use Rattle.ghs_protocol.specs.declared.event.Event.TheVariants.{Wake, Take}
 use Rattle.ghs_protocol.specs.Run.{net_after}
-use Rattle.ghs_parts.specs.declared.by.By.TheVariants.{Node, Level, Rule}
+use Rattle.ghs_choices.specs.declared.by.By.TheVariants.{Node, Level, Rule}
 use Rattle.ghs_parts.specs.Deeds.{deeds}
 use Rattle.ghs_parts.specs.Parts.{events_by, greatest_level, sent_by}
 use Rattle.ghs_parts.specs.Rule.{rule_place}

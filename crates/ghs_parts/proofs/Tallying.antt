@@ -20,8 +20,8 @@ use Rattle.ghs_protocol.specs.Ledger.{of_kind}
 use Rattle.ghs_protocol.specs.Net.{event_node}
 use Rattle.ghs_protocol.specs.Network.{network_of}
 use Rattle.ghs_protocol.specs.Run.{IsRun, net_after}
-use Rattle.ghs_parts.specs.declared.by.By.{By}
-use Rattle.ghs_parts.specs.declared.by.By.TheVariants.{Node, Level, Rule}
+use Rattle.ghs_choices.specs.declared.by.By.{By}
+use Rattle.ghs_choices.specs.declared.by.By.TheVariants.{Node, Level, Rule}
 use Rattle.ghs_parts.specs.declared.part.Part.{Part}
 use Rattle.ghs_parts.specs.Deeds.{Deed, deed, deeds, sent_of}
 use Rattle.ghs_parts.specs.Parts.{count_of, first_of, greatest_level, part_of, parts_of, place_of_part, sum_in, sums_of}

@@ -6,7 +6,7 @@ use Rattle.ghs_protocol.specs.declared.event.Event.{Event}
 use Rattle.ghs_protocol.specs.Ledger.{sum_below, sum_over_nodes}
 use Rattle.ghs_protocol.specs.Network.{network_of}
 use Rattle.ghs_protocol.specs.Run.{IsRun, net_after}
-use Rattle.ghs_parts.specs.declared.by.By.TheVariants.{Node, Level, Rule}
+use Rattle.ghs_choices.specs.declared.by.By.TheVariants.{Node, Level, Rule}
 use Rattle.ghs_parts.specs.Deeds.{deeds}
 use Rattle.ghs_parts.specs.Parts.{count_of, events_by, greatest_level, sent_by}
 use Rattle.ghs_parts.specs.Rule.{rule_at, rule_place}

@@ -1,8 +1,8 @@
 -- The figures of a part as a line.
 use Rattle.std.specs.Prelude.{ℕ, List, ◌++◌, codes, decimal, slice_index}
 use Rattle.ghs_steps.specs.Words.{row_word}
-use Rattle.ghs_parts.specs.declared.by.By.{By}
-use Rattle.ghs_parts.specs.declared.by.By.TheVariants.{Node, Level, Rule}
+use Rattle.ghs_choices.specs.declared.by.By.{By}
+use Rattle.ghs_choices.specs.declared.by.By.TheVariants.{Node, Level, Rule}
 use Rattle.ghs_parts.specs.declared.part.Part.{Part}
 use Rattle.ghs_parts.specs.Rule.{rule_at}
 

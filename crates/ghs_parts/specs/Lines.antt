@@ -2,9 +2,9 @@
 use Rattle.std.specs.Prelude.{ℕ, ◌+◌, List, [], ◌∷◌, ◌++◌}
 use Rattle.ghs_graph.specs.Graph.{Shape}
 use Rattle.ghs_protocol.specs.declared.event.Event.{Event}
-use Rattle.ghs_steps.specs.declared.form.Form.{Form}
-use Rattle.ghs_steps.specs.declared.form.Form.TheVariants.{Text, Json}
-use Rattle.ghs_parts.specs.declared.by.By.{By}
+use Rattle.ghs_choices.specs.declared.form.Form.{Form}
+use Rattle.ghs_choices.specs.declared.form.Form.TheVariants.{Text, Json}
+use Rattle.ghs_choices.specs.declared.by.By.{By}
 use Rattle.ghs_parts.specs.declared.part.Part.{Part}
 use Rattle.ghs_parts.specs.JsonLine.{json_text}
 use Rattle.ghs_parts.specs.Line.{line_text}

@@ -5,8 +5,8 @@ use Rattle.ghs_graph.specs.Graph.{Shape}
 use Rattle.ghs_node.specs.declared.row_name.RowName.{RowName}
 use Rattle.ghs_protocol.specs.declared.event.Event.{Event}
 use Rattle.ghs_protocol.specs.Net.{event_node}
-use Rattle.ghs_parts.specs.declared.by.By.{By}
-use Rattle.ghs_parts.specs.declared.by.By.TheVariants.{Node, Level, Rule}
+use Rattle.ghs_choices.specs.declared.by.By.{By}
+use Rattle.ghs_choices.specs.declared.by.By.TheVariants.{Node, Level, Rule}
 use Rattle.ghs_parts.specs.declared.part.Part.{Part}
 use Rattle.ghs_parts.specs.Deeds.{Deed, deeds, sent_of}
 use Rattle.ghs_parts.specs.Rule.{rule_place, rules}

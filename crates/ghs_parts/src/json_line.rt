@@ -2,9 +2,9 @@
 ghost use Rattle.ghs_parts.specs.JsonLine.{first_kinds, json_text, kind_members, last_kinds, numbered, part_members};
 ghost use Rattle.std.specs.Prelude.{◌≡◌, ◌++◌, IfOk};
 
-use crate::by::By;
 use crate::part::Part;
 use crate::rule::rule_at;
+use ghs_choices::by::By;
 use ghs_steps::json::{put_number_member, put_word_member};
 use ghs_steps::words::row_word;
 use std::alloc::AllocError;

@@ -8,7 +8,6 @@
 //! them.
 #![tactic(auto)]
 
-pub mod by;
 mod json_line;
 pub mod laws;
 pub mod line;

@@ -2,9 +2,9 @@
 ghost use Rattle.ghs_parts.specs.Line.{field, head_line, kind_fields, line_text, part_fields, word_field};
 ghost use Rattle.std.specs.Prelude.{◌≡◌, ◌++◌, IfOk};
 
-use crate::by::By;
 use crate::part::Part;
 use crate::rule::rule_at;
+use ghs_choices::by::By;
 use ghs_lines::numbers::put_number;
 use ghs_steps::words::row_word;
 use std::alloc::AllocError;

@@ -4,14 +4,14 @@ ghost use Rattle.ghs_protocol.specs.Network.{network_of};
 ghost use Rattle.ghs_protocol.specs.Run.{IsRun};
 ghost use Rattle.std.specs.Prelude.{◌≡◌, ◌+◌, ◌++◌, ◌≤◌, ◌^◌, IfOk, length};
 
-use crate::by::{By, first_of};
 use crate::json_line::put_json_line;
 use crate::line::put_line;
 use crate::part::Part;
-use crate::parts::parts_of;
+use crate::parts::{first_of, parts_of};
+use ghs_choices::by::By;
+use ghs_choices::form::Form;
 use ghs_graph::graph::Graph;
 use ghs_protocol::event::Event;
-use ghs_steps::form::Form;
 use std::alloc::{AllocError, Global};
 
 /// Puts the lines of all parts of a seed's run behind a text, each behind the same front. The events are played once more.

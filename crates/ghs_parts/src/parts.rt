@@ -11,9 +11,9 @@ ghost use Rattle.ghs_protocol.specs.Run.{IsRun};
 ghost use Rattle.ghs_parts.specs.Parts.{first_of, parts_of, place_of_part};
 ghost use Rattle.ghs_parts.specs.Tally.{HasAdded, IsTally, part_at, parts_kept};
 
-use crate::by::By;
 use crate::part::Part;
 use crate::rule::{RULES, rule_place};
+use ghs_choices::by::By;
 use ghs_core::net::{Net, node_of};
 use ghs_graph::graph::Graph;
 use ghs_node::delta::Delta;
@@ -127,6 +127,17 @@ fn answer(alloc: Global, net: &Net, event: Event) -> Result<Delta, AllocError>
     match react(alloc, net.node(node_of(event)), work) {
         Ok(delta) => Ok(delta),
         Err(_) => Err(AllocError),
+    }
+}
+
+/// The number of the first part: nodes are numbered from 1, levels and rows from 0.
+pub fn first_of(by: By) -> u64
+    ensures { result ≡ first_of by }
+{
+    match by {
+        By::Node => 1,
+        By::Level => 0,
+        By::Rule => 0,
     }
 }
 

@@ -11,7 +11,7 @@ use Rattle.ghs_sched.specs.declared.run.RunEnd.{RunEnd}
 use Rattle.ghs_world.specs.declared.wake_set.WakeSet.{WakeSet}
 use Rattle.ghs_chain.specs.Chains.{longest_chain}
 use Rattle.ghs_picking.specs.Picking.{AreRounds}
-use Rattle.ghs_picking.specs.declared.picking.ScheduleKind.TheVariants.{Rounds}
+use Rattle.ghs_choices.specs.declared.schedule_kind.ScheduleKind.TheVariants.{Rounds}
 use Rattle.ghs_picking.proofs.BySeed.{has_ended}
 use Rattle.std.proofs.lemmas.Bool.{and_parts, ltb-true}
 use Rattle.ghs_protocol.specs.declared.event.Event.{Event}

@@ -18,8 +18,8 @@ use Rattle.ghs_patient.specs.Runs.{IsPatientlyPicked}
 use Rattle.ghs_rounds.specs.Runs.{IsPickedByRounds}
 use Rattle.ghs_waits.specs.Runs.{IsPickedWaiting}
 use Rattle.ghs_lifo.specs.Runs.{IsPickedLast}
-use Rattle.ghs_picking.specs.declared.picking.ScheduleKind.{ScheduleKind}
-use Rattle.ghs_picking.specs.declared.picking.ScheduleKind.TheVariants.{Seeded, Patient, Rounds, Waits, Lifo}
+use Rattle.ghs_choices.specs.declared.schedule_kind.ScheduleKind.{ScheduleKind}
+use Rattle.ghs_choices.specs.declared.schedule_kind.ScheduleKind.TheVariants.{Seeded, Patient, Rounds, Waits, Lifo}
 
 -- the events of the seed's run of a graph: all that its schedule picks, from the opening on
 pub record IsSeeded (seed : ℕ) (wake : WakeSet) (turns : ℕ) (g : Shape) (events : List Event) : Type 0 where

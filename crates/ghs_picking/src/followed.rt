@@ -4,8 +4,9 @@ ghost use Rattle.ghs_picking.specs.Picking.{IsPickedBy};
 ghost use Rattle.std.specs.Prelude.{OnOk, [], ◌≡◌};
 
 use crate::patient::run_patient;
-use crate::picking::{ScheduleKind, run_by_seed};
+use crate::picking::run_by_seed;
 use crate::seeded::run_seeded;
+use ghs_choices::schedule_kind::ScheduleKind;
 use ghs_following::follower::Follower;
 use ghs_following::walk::follow_all;
 use ghs_sched::fault::RunFault;

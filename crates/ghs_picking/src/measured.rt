@@ -8,8 +8,9 @@ ghost use Rattle.std.specs.Prelude.{IfOk, OnOk, [], ◌≡◌};
 
 use crate::followed::run_followed;
 use crate::lengths::{RunLengths, begin, lengths_in, lengths_of};
-use crate::picking::{ScheduleKind, run_timed};
+use crate::picking::run_timed;
 use ghs_bits::run::bits_of;
+use ghs_choices::schedule_kind::ScheduleKind;
 use ghs_sched::fault::RunFault;
 use ghs_world::world::World;
 use std::alloc::{AllocError, Global};

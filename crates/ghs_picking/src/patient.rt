@@ -33,23 +33,43 @@ pub(crate) fn run_patient<F: Follower>(
     ensures ends { HasTurns world.old → result ≡ Err RunFault.TurnLimit → ⊥ }
     ensures kept { (result ≡ Err RunFault.Memory → ⊥) → F.is_of world.new.net.graph world.new.net.trace kept.new }
 {
-    law_patience();
-    law_patience_lasts();
-    let _ = world.net().trace();
     world.recall_all();
     if world.ended() {
         return Ok(end_of(world));
     }
-    let mut choices = match Choices::of(alloc, world) {
-        Ok(choices) => choices,
-        Err(_) => return Err(RunFault::Memory),
-    };
+    match Choices::of(alloc, world) {
+        Ok(mut choices) => run_on(alloc, world, &mut choices, schedule, kept),
+        Err(_) => Err(RunFault::Memory),
+    }
+}
+
+/// The same, where nothing is out and the choices are kept.
+fn run_on<F: Follower>(
+    alloc: Global,
+    world: &mut World,
+    choices: &mut Choices,
+    schedule: &mut Schedule,
+    kept: &mut F,
+) -> Result<RunEnd, RunFault>
+    requires outs { world.old.outs ≡ [] }
+    requires choices { AreChoices world.old choices.old }
+    requires kept { F.is_of world.old.net.graph world.old.net.trace kept.old }
+    ensures run { HasRun world.old world.new schedule.old schedule.new }
+    ensures short { IsShort world.old world.new }
+    ensures halted { IfOk result (λ e. IsEnd world.new e) }
+    ensures fault { IfErr result (λ f. EndsFor world.new f) }
+    ensures ends { HasTurns world.old → result ≡ Err RunFault.TurnLimit → ⊥ }
+    ensures kept { (result ≡ Err RunFault.Memory → ⊥) → F.is_of world.new.net.graph world.new.net.trace kept.new }
+{
+    law_patience();
+    law_patience_lasts();
+    let _ = world.net().trace();
     'events: while !world.ended() {
         if !world.has_turn() {
             let _ = world.turns();
             return Err(RunFault::TurnLimit);
         }
-        match make_next(alloc, world, &mut choices, schedule, kept) {
+        match make_next(alloc, world, choices, schedule, kept) {
             Ok(()) => {}
             Err(_) => return Err(RunFault::Memory),
         }

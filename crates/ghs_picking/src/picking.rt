@@ -5,6 +5,7 @@ ghost use Rattle.ghs_sched.specs.Runs.{IsEnd};
 ghost use Rattle.ghs_world.specs.WorldState.{home};
 ghost use Rattle.std.specs.Prelude.{IfErr, IfOk, OnErr, OnOk, [], ◌≡◌};
 
+use ghs_choices::schedule_kind::ScheduleKind;
 use ghs_lifo::run::run_lifo;
 use ghs_patient::run::run_patient;
 use ghs_rounds::laws::{
@@ -17,22 +18,6 @@ use ghs_sched::schedule::Schedule;
 use ghs_waits::run::run_waiting;
 use ghs_world::world::World;
 use std::alloc::Global;
-
-/// Among which events a schedule picks the next one, as `--schedule` names it.
-#[derive(Clone, Copy, Debug, PartialEq, Eq)]
-pub enum ScheduleKind {
-    /// Among all that may happen.
-    Seeded,
-    /// Among those that move the run on, and so every run ends; where there is none, among those that uncover one.
-    Patient,
-    /// Patiently among those of a round: each message takes one unit of time, and computing none.
-    Rounds,
-    /// Among those that only put their message back; where there is none, among all that may happen.
-    Waits,
-    /// Not among several: of the messages that would be consumed the one that was sent last comes first. Where there is none,
-    /// among the wakes, and else among those that uncover one; and so every run ends.
-    Lifo,
-}
 
 /// Runs a world from its opening on, by the schedule of a seed, until the run has ended or its turns are used. Of the
 /// faults TurnLimit comes where the commits have come to the turns, and else Memory. A patient run, one by rounds, or one

@@ -140,15 +140,19 @@ goes_commit old new n e c p = record {
   list = (p.pair ∷ [], p.list);
 }
 
--- and so does a refused one, which leaves all
-pub goes_after : {A E : Type 0} (r : Result A E) (old new : ShopState) (n : ℕ) (e : Event) → OnOk r (Commits old.world n e new.world) →
-    OnOk r (Publishes old.told new.told new.world) → OnErr r (IsSameWorld old.world new.world) → OnErr r (new.told ≡ old.told) → GoesOn new old
-goes_after (Ok a) old new n e c p s t = goes_commit old new n e c p
-goes_after (Err f) old new n e c p s t = record {
+-- what leaves all goes on too
+pub goes_still : (old new : ShopState) → IsSameWorld old.world new.world → new.told ≡ old.told → GoesOn new old
+goes_still old new s t = record {
   world = follows_same old.world new.world s.net.graph s.net.trace s.wake s.turns;
   table = ap (λ (x : Published). x.table) t;
   list = subst (λ (x : Published). StartsWith x.list old.told.list) (sym t) (starts_refl old.told.list);
 }
+
+-- and so does a refused one
+pub goes_after : {A E : Type 0} (r : Result A E) (old new : ShopState) (n : ℕ) (e : Event) → OnOk r (Commits old.world n e new.world) →
+    OnOk r (Publishes old.told new.told new.world) → OnErr r (IsSameWorld old.world new.world) → OnErr r (new.told ≡ old.told) → GoesOn new old
+goes_after (Ok a) old new n e c p s t = goes_commit old new n e c p
+goes_after (Err f) old new n e c p s t = goes_still old new s t
 
 -- so does an event that is made at once
 pub goes_made : (old new : ShopState) (e : Event) → Makes old.world e new.world → Publishes old.told new.told new.world → GoesOn new old

@@ -8,6 +8,7 @@ use Rattle.ghs_protocol.specs.Network.{Network}
 use Rattle.ghs_core.specs.NetState.{network}
 use Rattle.ghs_world.specs.declared.wake_set.WakeSet.{WakeSet}
 use Rattle.ghs_world.specs.Steps.{IsSameWorld}
+use Rattle.ghs_world.specs.Outs.{Outs}
 use Rattle.ghs_world.specs.Wakes.{may_wake}
 use Rattle.ghs_world.specs.WorldState.{WorldState, has_turn, home, wakers}
 use Rattle.ghs_sched.specs.Picks.{IsPick}
@@ -30,6 +31,17 @@ run_begins s t words none e = rw e (record {
   numbers = rw none (omega arith);
   picked = rw none Begun;
 })
+
+-- where nothing is out it begins by itself
+pub run_begins_here : (s : WorldState) (words : List ℕ) → s.net.trace ≡ [] → s.outs ≡ [] → HasRun s s words words 0
+run_begins_here s words none home = run_begins s s words none (ap (λ (o : Outs). record s { outs = o }) home)
+
+-- what was out before doesn't matter
+pub run_recalled : (s t new : WorldState) (words after : List ℕ) (r : ℕ) → t ≡ record s { outs = [] } → HasRun t new words after r →
+    HasRun s new words after r
+run_recalled s t new words after r e run =
+    let z = subst (λ (x : WorldState). HasRun x new words after r) e run in
+    record { graph = z.graph; wake = z.wake; turns = z.turns; outs = z.outs; numbers = z.numbers; picked = z.picked }
 
 module _ (old s : WorldState) (words used : List ℕ) (k : ClockState) (run : HasRun old s words used k.round) (chains : AreChains s.net k.kept) where
   -- the events of the clock are those of the round

@@ -2,6 +2,7 @@
 ghost use Rattle.ghs_chain.specs.Chains.{longest_chain};
 ghost use Rattle.ghs_core.specs.NetState.{network};
 ghost use Rattle.ghs_protocol.specs.Marks.{HasEnded};
+ghost use Rattle.ghs_rounds.specs.Choices.{AreRounds};
 ghost use Rattle.ghs_rounds.specs.Runs.{HasRun};
 ghost use Rattle.ghs_sched.specs.Runs.{EndsFor, IsEnd};
 ghost use Rattle.ghs_world.specs.WorldState.{home};
@@ -44,10 +45,29 @@ pub fn run_rounds(
     if world.ended() {
         return (0, Ok(end_of(world)));
     }
-    let mut rounds = match Rounds::of(alloc, world) {
-        Ok(rounds) => rounds,
-        Err(_) => return (0, Err(RunFault::Memory)),
-    };
+    match Rounds::of(alloc, world) {
+        Ok(mut rounds) => run_on(alloc, world, schedule, &mut rounds),
+        Err(_) => (0, Err(RunFault::Memory)),
+    }
+}
+
+/// The same, where the run goes on, nothing is out, and the first round is kept.
+fn run_on(
+    alloc: Global,
+    world: &mut World,
+    schedule: &mut Schedule,
+    rounds: &mut Rounds,
+) -> (u64, Result<RunEnd, RunFault>)
+    requires trace { world.old.net.trace ≡ [] }
+    requires outs { world.old.outs ≡ [] }
+    requires rounds { AreRounds world.old rounds.old }
+    requires first { rounds.old.clock.round ≡ 0 }
+    ensures run { HasRun world.old world.new schedule.old schedule.new result.0 }
+    ensures chain { longest_chain (network world.new.net) world.new.net.trace ≤ result.0 }
+    ensures halted { IfOk result.1 (λ e. IsEnd world.new e) }
+    ensures going { OnErr result.1 (HasEnded world.new.net.graph (home world.new) → ⊥) }
+    ensures fault { IfErr result.1 (λ f. EndsFor world.new f) }
+{
     'events: while !world.ended() {
         let _ = world.turns();
         if !world.has_turn() {

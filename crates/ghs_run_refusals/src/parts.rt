@@ -1,13 +1,13 @@
 //! Runs by part.
 use crate::comparing::assert_same;
+use ghs_choices::by::By;
+use ghs_choices::form::Form;
 use ghs_core::event::Event;
-use ghs_parts::by::By;
 use ghs_parts::lines::put_run;
 use ghs_parts::part::Part;
 use ghs_parts::parts::parts_of;
 use ghs_refusing::orders::{Turn, order, refuse, turn_of};
 use ghs_refusing::scenes::{events_of_run, is_after, let_go, world_after};
-use ghs_steps::form::Form;
 use ghs_world::world::World;
 use std::alloc::{AllocError, Global};
 use std::process::Abort;

@@ -4,10 +4,11 @@ ghost use Rattle.std.specs.Prelude.{◌≡◌, []};
 
 use ghs_board::board::{Board, Publisher};
 use ghs_board::progress::Progress;
+use ghs_choices::schedule_kind::ScheduleKind;
 use ghs_core::event::Event;
 use ghs_graph::graph::Graph;
 use ghs_patient::run::run_patient;
-use ghs_picking::picking::{ScheduleKind, run_by_seed};
+use ghs_picking::picking::run_by_seed;
 use ghs_pool::end::PoolFault;
 use ghs_pool::gate::OpenGate;
 use ghs_pool::shop::Shop;

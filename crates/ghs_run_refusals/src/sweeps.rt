@@ -4,13 +4,13 @@ ghost use Rattle.ghs_sweep.specs.Sweep.{AreRuns, HasTurns};
 ghost use Rattle.std.specs.Prelude.{◌≡◌, ◌≤◌, ◌^◌, All, IfOk, length};
 
 use crate::comparing::assert_same;
+use ghs_choices::form::Form;
+use ghs_choices::schedule_kind::ScheduleKind;
 use ghs_core::event::Event;
 use ghs_graph::graph::Graph;
-use ghs_picking::picking::ScheduleKind;
 use ghs_refusing::orders::{Turn, order, refuse, turn_of};
 use ghs_refusing::scenes::{events_of_run, five, is_after, is_five, let_go, world_after};
 use ghs_sched::trace::EVENT_LIMIT;
-use ghs_steps::form::Form;
 use ghs_sweep::figures::{Figures, figures_of};
 use ghs_sweep::front::{bare_front, front_of};
 use ghs_sweep::line::put_line;

@@ -3,6 +3,8 @@ ghost use Rattle.ghs_sched.specs.declared.trace.TheConstants.{EVENT_LIMIT};
 ghost use Rattle.std.specs.Prelude.{◌≤◌, length};
 
 use crate::comparing::assert_same;
+use ghs_choices::choice::Choice;
+use ghs_choices::form::Form;
 use ghs_core::event::Event;
 use ghs_gr::device::Device;
 use ghs_graph::key::Key;
@@ -16,8 +18,6 @@ use ghs_refusing::scenes::{events_of_run, five};
 use ghs_report::tree_text::tree_text;
 use ghs_sched::fault::TraceFault;
 use ghs_sched::trace::{EVENT_LIMIT, read_trace, write_trace};
-use ghs_steps::choice::Choice;
-use ghs_steps::form::Form;
 use ghs_steps::show::{StepsFault, write_steps};
 use ghs_world::wake_set::WakeSet;
 use peer_trace::fault::StoredFault;

@@ -7,10 +7,10 @@ use Rattle.ghs_protocol.specs.declared.event.Event.{Event}
 use Rattle.ghs_protocol.specs.Network.{network_of}
 use Rattle.ghs_protocol.specs.Run.{IsRun}
 use Rattle.ghs_core.specs.NetState.{NetState, IsLawful}
-use Rattle.ghs_steps.specs.declared.choice.Choice.{Choice}
+use Rattle.ghs_choices.specs.declared.choice.Choice.{Choice}
 use Rattle.ghs_report.specs.declared.portions.WriteFault.{WriteFault}
 use Rattle.ghs_steps.specs.Step.{chosen, step, steps, steps_behind}
-use Rattle.ghs_steps.specs.declared.form.Form.{Form}
+use Rattle.ghs_choices.specs.declared.form.Form.{Form}
 use Rattle.ghs_steps.specs.Lines.{line_in, lines, shown}
 use Rattle.ghs_report.specs.Written.{IsFront, IsOut}
 use Rattle.ghs_report.proofs.lemmas.Gone.{front_longer, out_more}

@@ -22,12 +22,12 @@ use Rattle.ghs_protocol.specs.Run.{IsRun, net_after, run}
 use Rattle.ghs_protocol.proofs.lemmas.Events.{if_some}
 use Rattle.ghs_protocol.proofs.lemmas.Runs.{both_some, net_after_is, run_splits}
 use Rattle.ghs_core.specs.NetState.{NetState, net_of, work_at}
-use Rattle.ghs_steps.specs.declared.choice.Choice.{Choice}
+use Rattle.ghs_choices.specs.declared.choice.Choice.{Choice}
 use Rattle.ghs_steps.specs.Changes.{changes}
-use Rattle.ghs_steps.specs.Choice.{is_chosen}
+use Rattle.ghs_choices.specs.Choice.{is_chosen}
 use Rattle.ghs_steps.specs.Step.{chosen, step, steps, steps_behind}
 use Rattle.ghs_steps.specs.Told.{Told, event_far, sent_by}
-use Rattle.ghs_steps.specs.declared.form.Form.{Form}
+use Rattle.ghs_choices.specs.declared.form.Form.{Form}
 use Rattle.ghs_steps.specs.Lines.{line_in, lines, shown}
 
 steps_append : (g : Shape) (done es fs : List Event) → steps_behind g done (es ++ fs) ≡ steps_behind g done es ++ steps_behind g (done ++ es) fs

@@ -1,4 +1,3 @@
-pub mod Choice
 pub mod Words
 pub mod Changes
 pub mod Told

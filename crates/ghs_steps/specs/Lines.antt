@@ -3,9 +3,9 @@ use Rattle.std.specs.Prelude.{ℕ, List, [], ◌∷◌}
 use Rattle.std.specs.List.{flat_map}
 use Rattle.ghs_graph.specs.Graph.{Shape}
 use Rattle.ghs_protocol.specs.declared.event.Event.{Event}
-use Rattle.ghs_steps.specs.declared.choice.Choice.{Choice}
-use Rattle.ghs_steps.specs.declared.form.Form.{Form}
-use Rattle.ghs_steps.specs.declared.form.Form.TheVariants.{Text, Json}
+use Rattle.ghs_choices.specs.declared.choice.Choice.{Choice}
+use Rattle.ghs_choices.specs.declared.form.Form.{Form}
+use Rattle.ghs_choices.specs.declared.form.Form.TheVariants.{Text, Json}
 use Rattle.ghs_steps.specs.Json.{step_json}
 use Rattle.ghs_steps.specs.Step.{chosen, step, steps}
 use Rattle.ghs_steps.specs.StepLine.{step_line}

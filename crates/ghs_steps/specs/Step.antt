@@ -11,9 +11,9 @@ use Rattle.ghs_protocol.specs.Net.{event_node}
 use Rattle.ghs_protocol.specs.Ledger.{in_all}
 use Rattle.ghs_protocol.specs.Run.{net_after}
 use Rattle.ghs_core.specs.NetState.{work_at}
-use Rattle.ghs_steps.specs.declared.choice.Choice.{Choice}
+use Rattle.ghs_choices.specs.declared.choice.Choice.{Choice}
 use Rattle.ghs_steps.specs.Changes.{changes}
-use Rattle.ghs_steps.specs.Choice.{is_chosen}
+use Rattle.ghs_choices.specs.Choice.{is_chosen}
 use Rattle.ghs_steps.specs.Told.{Told, event_far, sent_by}
 
 -- Each event of a run has a rule. Where there is none, this stands in for what the node does.

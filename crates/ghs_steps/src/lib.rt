@@ -10,8 +10,6 @@
 #![tactic(auto)]
 
 pub mod change;
-pub mod choice;
-pub mod form;
 pub mod json;
 pub mod laws;
 pub mod line;

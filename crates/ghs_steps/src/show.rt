@@ -8,9 +8,9 @@ ghost use Rattle.ghs_world.specs.Wakes.{may_wake};
 ghost use Rattle.ghs_steps.specs.Shown.{CantShow, is_unlawful, is_write};
 ghost use Rattle.ghs_steps.specs.Lines.{lines};
 
-use crate::choice::Choice;
-use crate::form::Form;
 use crate::write::write_run;
+use ghs_choices::choice::Choice;
+use ghs_choices::form::Form;
 use ghs_core::event::Event;
 use ghs_gr::device::Sink;
 use ghs_graph::graph::Graph;

@@ -14,12 +14,12 @@ ghost use Rattle.ghs_steps.specs.Lines.{line_in, lines, shown};
 ghost use Rattle.ghs_report.specs.Written.{IsFront, is_write};
 
 use crate::change::{Change, changes};
-use crate::choice::Choice;
-use crate::form::Form;
 use crate::json::step_json;
 use crate::line::step_line;
 use crate::moment::{Moment, port_of};
 use crate::sent::{Sent, far_end, sent_by};
+use ghs_choices::choice::Choice;
+use ghs_choices::form::Form;
 use ghs_core::event::Event;
 use ghs_core::net::{Net, node_of};
 use ghs_gr::device::Sink;
@@ -112,11 +112,10 @@ fn show(
 {
     let delta = answer(alloc, net, event)?;
     if choice.has(net.events() + 1, node_of(event)) {
-        put_step(alloc, net, event, &delta, form, text)?;
+        put_step(alloc, net, event, &delta, form, text)
     } else {
-        play(net, event, &delta)?;
+        play(net, event, &delta)
     }
-    Ok(())
 }
 
 /// What the event's node does. A lawful event has a rule, so only memory can run out.

@@ -2,7 +2,7 @@
 use Rattle.std.proofs.Common.{◌≡◌, ◌++◌, ◌+◌, ◌<◌, ◌∙◌, List, ℕ, ap, append_assoc, length, subst, sym, take}
 use Rattle.std.specs.List.{slice_index_or}
 use Rattle.std.proofs.lemmas.List.{take_more}
-use Rattle.ghs_steps.specs.declared.form.Form.{Form}
+use Rattle.ghs_choices.specs.declared.form.Form.{Form}
 use Rattle.ghs_sweep.specs.declared.figures.Figures.{Figures}
 use Rattle.ghs_sweep.specs.declared.measure.Measure.{Measure}
 use Rattle.ghs_sweep.specs.Summary.{AreMeasureLines, IsMeasureLine, NextMeasure}

@@ -2,8 +2,8 @@
 use Rattle.std.specs.Prelude.{ℕ, codes, List, [], ◌++◌}
 use Rattle.csv.specs.Writing.{default_writer, field_text}
 use Rattle.json.specs.Print.{quoted}
-use Rattle.ghs_steps.specs.declared.form.Form.{Form}
-use Rattle.ghs_steps.specs.declared.form.Form.TheVariants.{Text, Json}
+use Rattle.ghs_choices.specs.declared.form.Form.{Form}
+use Rattle.ghs_choices.specs.declared.form.Form.TheVariants.{Text, Json}
 
 -- an object of JSON that has been opened, with a name as its first member
 abbrev pub opened_with : List ℕ → List ℕ

@@ -1,7 +1,7 @@
 -- Runs' figures as lines.
 use Rattle.std.specs.Prelude.{ℕ, ◌+◌, List, [], ◌∷◌, ◌++◌}
-use Rattle.ghs_steps.specs.declared.form.Form.{Form}
-use Rattle.ghs_steps.specs.declared.form.Form.TheVariants.{Text, Json}
+use Rattle.ghs_choices.specs.declared.form.Form.{Form}
+use Rattle.ghs_choices.specs.declared.form.Form.TheVariants.{Text, Json}
 use Rattle.ghs_sweep.specs.declared.figures.Figures.{Figures}
 use Rattle.ghs_sweep.specs.declared.seeded.Setup.{Setup}
 use Rattle.ghs_sweep.specs.JsonLine.{json_text}

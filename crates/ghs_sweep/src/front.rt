@@ -3,7 +3,7 @@ ghost use Rattle.csv.specs.Writing.{default_writer, field_text};
 ghost use Rattle.ghs_sweep.specs.Front.{bare_front, front_of, opened_with};
 ghost use Rattle.std.specs.Prelude.{◌≡◌, IfOk};
 
-use ghs_steps::form::Form;
+use ghs_choices::form::Form;
 use std::alloc::{AllocError, Global};
 
 /// The name of the column of networks, and a comma: what a head line begins with.

@@ -4,8 +4,8 @@ ghost use Rattle.std.specs.Prelude.{◌≡◌, ◌++◌, IfOk};
 
 use crate::figures::Figures;
 use crate::seeded::Setup;
+use ghs_choices::schedule_kind::ScheduleKind;
 use ghs_lines::numbers::put_number;
-use ghs_picking::picking::ScheduleKind;
 use ghs_world::wake_set::WakeSet;
 use std::alloc::AllocError;
 

@@ -6,7 +6,7 @@ use crate::figures::Figures;
 use crate::json_line::put_json_line;
 use crate::line::put_line;
 use crate::seeded::Setup;
-use ghs_steps::form::Form;
+use ghs_choices::form::Form;
 use std::alloc::AllocError;
 
 /// Puts the lines of runs whose seeds rise from the first on behind a text, each behind the same front.

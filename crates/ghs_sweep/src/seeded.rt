@@ -1,11 +1,11 @@
 //! The figures of a seed's run.
 ghost use Rattle.ghs_sweep.specs.Sweep.{AreFiguresOf, HasTurns};
-ghost use Rattle.std.specs.Prelude.{IfOk};
+ghost use Rattle.std.specs.Prelude.{IfOk, [], ◌≡◌};
 
 use crate::figures::{Figures, figures_with};
+use ghs_choices::schedule_kind::ScheduleKind;
 use ghs_graph::graph::Graph;
 use ghs_picking::measured::run_measured;
-use ghs_picking::picking::ScheduleKind;
 use ghs_world::wake_set::WakeSet;
 use ghs_world::world::World;
 use std::alloc::{AllocError, Global};
@@ -32,10 +32,25 @@ pub fn figures_of_seed(
     requires { HasTurns setup }
     ensures { IfOk result (λ f. AreFiguresOf graph.now setup seed f) }
 {
-    let mut world = match World::open(alloc, graph.copy(alloc)?, setup.wake, setup.turns) {
-        Ok(world) => world,
-        Err((_, error)) => return Err(error),
-    };
-    let lengths = run_measured(alloc, &mut world, setup.schedule_kind, seed)?;
+    match World::open(alloc, graph.copy(alloc)?, setup.wake, setup.turns) {
+        Ok(mut world) => figures_in(alloc, &mut world, setup, seed),
+        Err((_, error)) => Err(error),
+    }
+}
+
+/// The same, of a world that stands at its opening.
+fn figures_in(
+    alloc: Global,
+    world: &mut World,
+    setup: Setup,
+    seed: u64,
+) -> Result<Figures, AllocError>
+    requires trace { world.old.net.trace ≡ [] }
+    requires numbers { world.old.last ≡ 0 }
+    requires wake { world.old.wake ≡ setup.wake }
+    requires turns { world.old.turns ≡ setup.turns }
+    ensures { IfOk result (λ f. AreFiguresOf world.old.net.graph setup seed f) }
+{
+    let lengths = run_measured(alloc, world, setup.schedule_kind, seed)?;
     figures_with(alloc, world.net(), lengths)
 }

@@ -1,10 +1,10 @@
 //! A worked run, counted by hand from what its steps say.
 use crate::fixtures::{events_of_text, replayed};
-use ghs_parts::by::By;
+use ghs_choices::by::By;
+use ghs_choices::form::Form;
 use ghs_parts::line::head_line;
 use ghs_parts::lines::put_run;
 use ghs_refusing::scenes::let_go;
-use ghs_steps::form::Form;
 use ghs_test_graphs::graphs::TRIANGLE;
 use ghs_test_graphs::traces::TRIANGLE_TRACE;
 use ghs_world::wake_set::WakeSet;

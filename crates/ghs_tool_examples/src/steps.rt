@@ -1,9 +1,9 @@
 //! Worked runs, line by line.
 use crate::fixtures::{events_of_text, graph_of_text};
+use ghs_choices::choice::Choice;
+use ghs_choices::form::Form;
 use ghs_gr::device::Device;
 use ghs_sched::trace::EVENT_LIMIT;
-use ghs_steps::choice::Choice;
-use ghs_steps::form::Form;
 use ghs_steps::show::{StepsFault, write_steps};
 use ghs_test_graphs::graphs::{NODE_AND_PAIR, PARALLEL_PAIR, PATH_OF_FIVE, TRIANGLE};
 use ghs_test_graphs::traces::{PATH_OF_FIVE_TRACE, TRIANGLE_TRACE};

@@ -1,6 +1,6 @@
 -- Which steps are shown.
 use Rattle.std.specs.Prelude.{ℕ, Bool, true, ◌&&◌, ◌==◌, nat_le, Option, Some, None}
-use Rattle.ghs_steps.specs.declared.choice.Choice.{Choice}
+use Rattle.ghs_choices.specs.declared.choice.Choice.{Choice}
 
 -- the node is the one that is asked for; where none is, all are
 abbrev pub is_wanted : Option ℕ → ℕ → Bool

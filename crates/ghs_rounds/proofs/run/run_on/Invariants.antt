@@ -1,7 +1,7 @@
 use Rattle.std.proofs.Common.{◌-◌, ◌≤◌, length}
 use Rattle.ghs_rounds.specs.Choices.{AreRounds}
 use Rattle.ghs_rounds.specs.Runs.{HasRun}
-use Rattle.ghs_rounds.proofs.run.run_rounds.Given as goal
+use Rattle.ghs_rounds.proofs.run.run_on.Given as goal
 
 abbrev pub invariant-events : goal.invariant-events
 invariant-events l = record {

@@ -1,6 +1,6 @@
 //! Which steps are shown.
 ghost use Rattle.std.specs.Prelude.{◌≡◌};
-ghost use Rattle.ghs_steps.specs.Choice.{is_chosen};
+ghost use Rattle.ghs_choices.specs.Choice.{is_chosen};
 
 /// Events of a run by their numbers, which count from 1: those from `from` to `to`, and of these the ones of one node,
 /// or of all nodes. Where `from` is above `to`, or above the number of events, it is none.

@@ -2,7 +2,7 @@ use Rattle.std.proofs.Common.{◌-◌, length}
 use Rattle.ghs_patient.specs.Choices.{AreChoices}
 use Rattle.ghs_patient.specs.Runs.{HasRun}
 use Rattle.ghs_patient.proofs.lemmas.Growing.{HasGrown}
-use Rattle.ghs_picking.proofs.patient.run_patient.Given as goal
+use Rattle.ghs_picking.proofs.patient.run_on.Given as goal
 
 abbrev pub invariant-events : goal.invariant-events
 invariant-events g l = record {
