@@ -9,8 +9,8 @@ ghost use Rattle.boruvka_node.specs.Boruvka.{boruvka};
 ghost use Rattle.boruvka_steps.specs.Lines.{lines};
 ghost use Rattle.boruvka_steps.specs.Shown.{CantShow};
 
-use boruvka::protocol::Boruvka;
 use crate::write::write_run;
+use boruvka::protocol::Boruvka;
 use ghs_choices::choice::Choice;
 use ghs_gr::device::Sink;
 use ghs_graph::graph::Graph;

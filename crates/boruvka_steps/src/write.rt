@@ -10,12 +10,12 @@ ghost use Rattle.boruvka_node.specs.Boruvka.{boruvka};
 ghost use Rattle.boruvka_steps.specs.Step.{changes_by, sends_by};
 ghost use Rattle.boruvka_steps.specs.Lines.{line_by, lines, shown};
 
-use boruvka::protocol::Boruvka;
-use boruvka_node::react::react;
 use crate::change::{Change, changes};
 use crate::line::step_line;
 use crate::moment::{moment_at, work_of};
 use crate::sent::{Sent, sent_by};
+use boruvka::protocol::Boruvka;
+use boruvka_node::react::react;
 use ghs_choices::choice::Choice;
 use ghs_core::net::node_of;
 use ghs_gr::device::Sink;

@@ -3,10 +3,10 @@ ghost use Rattle.clap.specs.Words.{subcommand_rows_of};
 ghost use Rattle.ghs_commands.specs.Job.{AreBoruvkaLimits, AreBoruvkaOptions, AreBoruvkaStepsOptions, fits_boruvka};
 ghost use Rattle.std.specs.Prelude.{◌≡◌, is_none};
 
-use clap::ArgMatches;
 use crate::job::{Show, choice_of, number_of, show_of, value_of, wake_of};
 use crate::parts::is_said;
 use crate::values::{is_among, is_number};
+use clap::ArgMatches;
 use ghs_choices::choice::Choice;
 use ghs_sched::trace::EVENT_LIMIT;
 use ghs_world::wake_set::WakeSet;

@@ -1,7 +1,7 @@
 //! Worked runs of Borůvka in step, line by line.
-use boruvka_steps::show::{StepsFault, write_steps};
 use crate::playing::graph_of_text;
 use crate::runs::{FOUR_RUN, PAIR_RUN, PATH_RUN, TRIANGLE_RUN};
+use boruvka_steps::show::{StepsFault, write_steps};
 use ghs_choices::choice::Choice;
 use ghs_gr::device::Device;
 use ghs_test_graphs::graphs::{LONE_NODE, PAIR, PATH_OF_FOUR, PATH_OF_THREE, TRIANGLE};
