@@ -39,6 +39,7 @@ begun (task.Replay p wake) stored input old new early = tt
 begun (task.Steps o) stored input old new early = absurd (let bad : true ≡ false = early in cc)
 begun (task.BoruvkaSteps o) stored input old new early = absurd (let bad : true ≡ false = early in cc)
 begun (task.Sweep o) stored input old new early = tt
+begun (task.BoruvkaSweep o) stored input old new early = tt
 begun (task.View o) stored input old new early = tt
 begun (task.StoredView o) stored input old new early = tt
 begun (task.Make asked) stored input old new early = absurd (let bad : true ≡ false = early in cc)
@@ -221,6 +222,7 @@ tried_of (task.Replay p wake) stored input output printed = printed
 tried_of (task.Steps o) stored input output printed = printed
 tried_of (task.BoruvkaSteps o) stored input output printed = printed
 tried_of (task.Sweep o) stored input output printed = printed
+tried_of (task.BoruvkaSweep o) stored input output printed = printed
 tried_of (task.View o) stored input output printed = printed
 tried_of (task.StoredView o) stored input output printed = printed
 tried_of (task.Make asked) stored input output printed = printed

@@ -19,8 +19,11 @@ use Rattle.boruvka_report.specs.Ended.{HasEnded}
 use Rattle.boruvka_report.specs.ReportText.{IsReportText}
 use Rattle.boruvka_runs.specs.Runs.{IsStopped, IsWholeRun}
 use Rattle.boruvka_steps.specs.Lines.{lines}
+use Rattle.boruvka_sweep.specs.Sweep.{IsSweepText}
+use Rattle.boruvka_sweep.specs.declared.sweep.Setup.{Setup}
 use Rattle.ghs_commands.specs.declared.boruvka.BoruvkaOptions.{BoruvkaOptions}
 use Rattle.ghs_commands.specs.declared.boruvka.BoruvkaStepsOptions.{BoruvkaStepsOptions}
+use Rattle.ghs_commands.specs.declared.boruvka.BoruvkaSweepOptions.{BoruvkaSweepOptions}
 use Rattle.ghs_commands.specs.declared.job.Show.{Show}
 use Rattle.ghs_commands.specs.declared.job.Show.TheVariants.{Summary, Events, Time}
 use Rattle.ghs_cli.specs.declared.fault.ServeFault.{ServeFault}
@@ -86,6 +89,14 @@ pub record IsReplayed (wake : WakeSet) (g : Shape) (events : List Event) (output
 pub record AreSteps (o : BoruvkaStepsOptions) (g : Shape) (events : List Event) (output : List ℕ) : Type 0 where
   pub run : IsRunUnder boruvka (may_wake g o.wake) (network_of g) events
   pub printed : output ≡ lines g o.choice events
+
+-- what the runs of a sweep have in common
+abbrev pub setup_of : BoruvkaSweepOptions → Setup
+setup_of o = record { wake = o.wake; turns = o.turns }
+
+-- the figures of the runs of its seeds
+abbrev pub IsSwept : BoruvkaSweepOptions → Shape → List ℕ → Type 0
+IsSwept o g output = IsSweepText g (setup_of o) o.seeds.first o.seeds.last output
 
 -- why the net after some events has no text: their run goes on
 abbrev pub GoesOn : Shape → List Event → ServeFault → Type 0

@@ -44,6 +44,7 @@ use Rattle.ghs_make.specs.declared.network.Network.{Network}
 use Rattle.ghs_make.specs.declared.plan.Asked.{Asked}
 use Rattle.ghs_commands.specs.declared.boruvka.BoruvkaOptions.{BoruvkaOptions}
 use Rattle.ghs_commands.specs.declared.boruvka.BoruvkaStepsOptions.{BoruvkaStepsOptions}
+use Rattle.ghs_commands.specs.declared.boruvka.BoruvkaSweepOptions.{BoruvkaSweepOptions}
 use Rattle.ghs_commands.specs.declared.exploring.ExploreOptions.{ExploreOptions}
 use Rattle.ghs_commands.specs.declared.job.StepsOptions.{StepsOptions}
 use Rattle.ghs_commands.specs.declared.job.StoredViewOptions.{StoredViewOptions}
@@ -192,6 +193,10 @@ IsBoruvkaStepsText o stored input output = IsOfBoth protocol.Boruvka (in_step.Ar
 abbrev pub IsSweepOutput : SweepOptions → List ℕ → List ℕ → Type 0
 IsSweepOutput o input output = (graph : RawShape) × TextIs input (Ok graph) × IsSweepText o.sheet o (shape_of graph) output
 
+-- the input is the text of a graph, and the output that of a sweep of it by Borůvka in step
+abbrev pub IsBoruvkaSweepOutput : BoruvkaSweepOptions → List ℕ → List ℕ → Type 0
+IsBoruvkaSweepOutput o input output = (graph : RawShape) × TextIs input (Ok graph) × in_step.IsSwept o (shape_of graph) output
+
 -- the input is the text of a graph, and the output the page of a run of it
 abbrev pub IsViewOutput : ViewOptions → List ℕ → List ℕ → Type 0
 IsViewOutput o input output = (graph : RawShape) × TextIs input (Ok graph) × IsView o (shape_of graph) output
@@ -224,6 +229,7 @@ IsPrinted (task.Replay p wake) stored input output = IsReplayText p wake stored 
 IsPrinted (task.Steps o) stored input output = IsStepsText o stored input output
 IsPrinted (task.BoruvkaSteps o) stored input output = IsBoruvkaStepsText o stored input output
 IsPrinted (task.Sweep o) stored input output = IsSweepOutput o input output
+IsPrinted (task.BoruvkaSweep o) stored input output = IsBoruvkaSweepOutput o input output
 IsPrinted (task.View o) stored input output = IsViewOutput o input output
 IsPrinted (task.StoredView o) stored input output = IsStoredViewOutput o stored input output
 IsPrinted (task.Make asked) stored input output = IsMade asked output
@@ -238,6 +244,7 @@ IsPrintedAtLimit (task.Replay p wake) input output = ⊥
 IsPrintedAtLimit (task.Steps o) input output = ⊥
 IsPrintedAtLimit (task.BoruvkaSteps o) input output = ⊥
 IsPrintedAtLimit (task.Sweep o) input output = ⊥
+IsPrintedAtLimit (task.BoruvkaSweep o) input output = ⊥
 IsPrintedAtLimit (task.View o) input output = ⊥
 IsPrintedAtLimit (task.StoredView o) input output = ⊥
 IsPrintedAtLimit (task.Make asked) input output = ⊥
@@ -361,6 +368,7 @@ IsCause (task.Replay p wake) stored input fault = IsReplayCause p wake stored in
 IsCause (task.Steps o) stored input fault = IsStepsCause protocol.Ghs o.wake stored input fault
 IsCause (task.BoruvkaSteps o) stored input fault = IsStepsCause protocol.Boruvka o.wake stored input fault
 IsCause (task.Sweep o) stored input fault = IsGraphCause input fault
+IsCause (task.BoruvkaSweep o) stored input fault = IsGraphCause input fault
 IsCause (task.View o) stored input fault = IsViewCause o input fault
 IsCause (task.StoredView o) stored input fault = IsStoredViewCause o stored input fault
 IsCause (task.Make asked) stored input fault = IsMakeCause asked fault
@@ -375,6 +383,7 @@ IsTried (task.Replay p wake) stored input output = IsReplayText p wake stored in
 IsTried (task.Steps o) stored input output = IsStepsText o stored input output
 IsTried (task.BoruvkaSteps o) stored input output = IsBoruvkaStepsText o stored input output
 IsTried (task.Sweep o) stored input output = IsSweepOutput o input output
+IsTried (task.BoruvkaSweep o) stored input output = IsBoruvkaSweepOutput o input output
 IsTried (task.View o) stored input output = IsViewOutput o input output
 IsTried (task.StoredView o) stored input output = IsStoredViewOutput o stored input output
 IsTried (task.Make asked) stored input output = IsMade asked output
@@ -394,6 +403,7 @@ shows_events (task.Replay p wake) = false
 shows_events (task.Steps o) = false
 shows_events (task.BoruvkaSteps o) = false
 shows_events (task.Sweep o) = false
+shows_events (task.BoruvkaSweep o) = false
 shows_events (task.View o) = false
 shows_events (task.StoredView o) = false
 shows_events (task.Make asked) = false
@@ -432,6 +442,7 @@ IfStored (task.Replay p wake) stored P = IfSome stored P
 IfStored (task.Steps o) stored P = IfSome stored P
 IfStored (task.BoruvkaSteps o) stored P = IfSome stored P
 IfStored (task.Sweep o) stored P = (bytes : List ℕ) → P bytes
+IfStored (task.BoruvkaSweep o) stored P = (bytes : List ℕ) → P bytes
 IfStored (task.View o) stored P = (bytes : List ℕ) → P bytes
 IfStored (task.StoredView o) stored P = IfSome stored P
 IfStored (task.Make asked) stored P = (bytes : List ℕ) → P bytes
@@ -463,6 +474,7 @@ by_portions (task.Replay p wake) = false
 by_portions (task.Steps o) = true
 by_portions (task.BoruvkaSteps o) = true
 by_portions (task.Sweep o) = false
+by_portions (task.BoruvkaSweep o) = false
 by_portions (task.View o) = false
 by_portions (task.StoredView o) = false
 by_portions (task.Make asked) = true
@@ -486,6 +498,7 @@ IsUnread (task.Replay p wake) old new = Unit {0}
 IsUnread (task.Steps o) old new = Unit {0}
 IsUnread (task.BoruvkaSteps o) old new = Unit {0}
 IsUnread (task.Sweep o) old new = new ≡ old
+IsUnread (task.BoruvkaSweep o) old new = new ≡ old
 IsUnread (task.View o) old new = new ≡ old
 IsUnread (task.StoredView o) old new = Unit {0}
 IsUnread (task.Make asked) old new = new ≡ old

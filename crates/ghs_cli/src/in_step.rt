@@ -1,11 +1,12 @@
-//! Runs of a network by Borůvka in step, and stored ones played again or told.
+//! Runs of a network by Borůvka in step, stored ones played again or told, and sweeps.
 ghost use Rattle.boruvka_node.specs.Boruvka.{boruvka};
 ghost use Rattle.boruvka_report.specs.Ended.{HasEnded};
 ghost use Rattle.boruvka_report.specs.ReportText.{IsReportText};
 ghost use Rattle.boruvka_runs.specs.Runs.{IsStopped};
 ghost use Rattle.ghs_cli.specs.InStep.{GoesOn, IsRan, IsReplayed, IsRunCause, IsShown, StopsRun, events_text, timed_text};
 ghost use Rattle.ghs_cli.specs.Ending.{IsBoundedTask};
-ghost use Rattle.ghs_cli.specs.Serving.{IsBoruvkaCause, IsBoruvkaOutput, IsWrite, Serves, is_late};
+ghost use Rattle.ghs_cli.specs.Serving.{IsBoruvkaCause, IsBoruvkaOutput, IsBoruvkaSweepOutput, IsGraphCause, IsWrite, Serves, is_late, is_write};
+ghost use Rattle.ghs_commands.specs.Job.{AreBoruvkaSweepLimits};
 ghost use Rattle.ghs_cli.specs.declared.fault.ServeFault.{ServeFault};
 ghost use Rattle.ghs_commands.specs.declared.job.Show.TheVariants.{Events};
 ghost use Rattle.ghs_commands.specs.declared.job.Task.{Task};
@@ -23,8 +24,10 @@ use boruvka_report::run_text::run_text;
 use boruvka_runs::laws::law_turns;
 use boruvka_runs::run::{Ran, run_by_seed};
 use boruvka_steps::show::write_steps;
-use ghs_commands::boruvka::{BoruvkaOptions, BoruvkaStepsOptions};
+use boruvka_sweep::sweep::{Setup, sweep_text};
+use ghs_commands::boruvka::{BoruvkaOptions, BoruvkaStepsOptions, BoruvkaSweepOptions};
 use ghs_commands::job::Show;
+use ghs_commands::values::Seeds;
 use ghs_gr::device::{Sink, Source};
 use ghs_gr::laws::law_one_judgement;
 use ghs_graph::graph::Graph;
@@ -211,4 +214,26 @@ pub(crate) fn write_boruvka_steps_of<R: Source, T: Source, W: Sink>(
     let graph = graph_of(alloc, graph)?;
     write_steps(alloc, graph, options.wake, &events, &options.choice, out)?;
     Ok(())
+}
+
+/// The text of a sweep, by Borůvka in step, of the graph that the device gives.
+pub(crate) fn boruvka_sweep_text_of<S: Source>(
+    alloc: Global,
+    options: &BoruvkaSweepOptions,
+    graph: &mut S,
+) -> Result<Vec<u8>, ServeFault>
+    requires limits { AreBoruvkaSweepLimits options.now }
+    requires graph { S.has_failed graph.old ≡ false }
+    ensures text { IfOk result (λ text. IfSome (S.left graph.old) (λ input. IsBoruvkaSweepOutput options.now input text.items)) }
+    ensures fault { IfErr result (λ fault. IfSome (S.left graph.old) (λ input. IsGraphCause input fault)) }
+    ensures early { IfErr result (λ fault. is_write fault ≡ false) }
+    ensures read { IsErrOf result ServeFault.Read ↔ (S.has_failed graph.new ≡ true) }
+{
+    let graph = graph_of(alloc, graph)?;
+    let Seeds { first, last } = options.seeds;
+    let setup = Setup {
+        wake: options.wake,
+        turns: options.turns,
+    };
+    Ok(sweep_text(alloc, &graph, setup, first, last)?)
 }

@@ -7,7 +7,7 @@ ghost use Rattle.std.specs.Prelude.{◌≡◌, ◌⊎◌, ◌↔◌, false, true
 
 use crate::exploring::explored_text_of;
 use crate::fault::ServeFault;
-use crate::in_step::{write_boruvka_of, write_boruvka_steps_of};
+use crate::in_step::{boruvka_sweep_text_of, write_boruvka_of, write_boruvka_steps_of};
 use crate::making::write_network_of;
 use crate::printing::print;
 use crate::replaying::replay_text_of;
@@ -72,6 +72,7 @@ pub fn serve<R: Source, T: Source, W: Sink, H: Threads + Wait + Eprint + Sync>(
         Task::Steps(options) => write_steps_of(alloc, options, graph, trace, out),
         Task::BoruvkaSteps(options) => write_boruvka_steps_of(alloc, options, graph, trace, out),
         Task::Sweep(options) => print(sweep_text_of(rt, alloc, options, graph), out),
+        Task::BoruvkaSweep(options) => print(boruvka_sweep_text_of(alloc, options, graph), out),
         Task::View(options) => print(view_text_of(alloc, options, graph), out),
         Task::StoredView(options) => print(stored_view_of(alloc, options, graph, trace), out),
         Task::Make(asked) => write_network_of(alloc, asked, out),

@@ -1,7 +1,8 @@
 -- Command lines, computed from the definitions.
-use Rattle.std.proofs.Common.{◌≡◌, codes, Some, None, [], ◌∷◌, refl}
+use Rattle.std.proofs.Common.{◌≡◌, codes, List, Some, None, [], ◌∷◌, refl}
 use Rattle.clap.specs.declared.error.kind.ErrorKind.TheVariants as kind
 use Rattle.clap.proofs.OnLiterals.{clap_on_literals}
+use Rattle.clap.specs.Words.{Text}
 use Rattle.ghs_commands.specs.Grammar.{program}
 use Rattle.ghs_commands.specs.Job.{command_in, kinds_of, name_in, value_in}
 
@@ -104,3 +105,27 @@ steps_in_step-taken = refl
 json-refused : kinds_of (codes "steps" ∷ codes "--protocol" ∷ codes "boruvka" ∷ codes "--json" ∷ codes "run.trace" ∷ []) ≡ kind.InvalidValue ∷ []
 unfolding program clap_on_literals
 json-refused = refl
+
+-- a sweep by Borůvka in step, and what else is asked for
+abbrev in_step : List Text → List Text
+in_step words = codes "sweep" ∷ codes "--protocol" ∷ codes "boruvka" ∷ codes "--seeds" ∷ codes "1..2" ∷ words
+
+sweep_in_step-taken : kinds_of (in_step []) ≡ []
+unfolding program clap_on_literals
+sweep_in_step-taken = refl
+
+summary_in_step-refused : kinds_of (in_step (codes "--print" ∷ codes "summary" ∷ [])) ≡ kind.InvalidValue ∷ []
+unfolding program clap_on_literals
+summary_in_step-refused = refl
+
+runs_in_step-taken : kinds_of (in_step (codes "--print" ∷ codes "runs" ∷ [])) ≡ []
+unfolding program clap_on_literals
+runs_in_step-taken = refl
+
+one_file_in_step-taken : kinds_of (in_step (codes "a" ∷ [])) ≡ []
+unfolding program clap_on_literals
+one_file_in_step-taken = refl
+
+two_files_in_step-refused : kinds_of (in_step (codes "a" ∷ codes "b" ∷ [])) ≡ kind.InvalidValue ∷ []
+unfolding program clap_on_literals
+two_files_in_step-refused = refl

@@ -133,13 +133,13 @@ abbrev pub steps_command : App
 steps_command =
     with_rules (trace_rule ∷ file_rule ∷ protocol_rule ∷ wake_rule ∷ from_rule ∷ to_rule ∷ node_rule ∷ json_rule ∷ []) (new_app (codes "steps"))
 
--- `sweep [FILE ..] --seeds FIRST..LAST [--schedule seeded|patient|rounds|waits|lifo] [--workers W] [--wake all|first] [--turns T]
--- [--print runs|summary|chart] [--by node|level|rule] [--names] [--json] [--progress]`
+-- `sweep [FILE ..] [--protocol ghs|boruvka] --seeds FIRST..LAST [--schedule seeded|patient|rounds|waits|lifo] [--workers W]
+-- [--wake all|first] [--turns T] [--print runs|summary|chart] [--by node|level|rule] [--names] [--json] [--progress]`
 abbrev pub sweep_command : App
 sweep_command =
     with_rules
-    (files_rule ∷ seeds_rule ∷ schedule_rule ∷ workers_rule ∷ wake_rule ∷ turns_rule
-    ∷ sheet_rule ∷ by_rule ∷ names_rule ∷ json_rule ∷ progress_rule ∷ [])
+    (files_rule ∷ protocol_rule ∷ seeds_rule ∷ schedule_rule ∷ workers_rule ∷ wake_rule
+    ∷ turns_rule ∷ sheet_rule ∷ by_rule ∷ names_rule ∷ json_rule ∷ progress_rule ∷ [])
     (new_app (codes "sweep"))
 
 -- `view [FILE] [--seed S] [--seeds FIRST,SECOND] [--schedule seeded|patient|rounds|waits|lifo] [--wake all|first] [--turns T] [--trace TRACE]

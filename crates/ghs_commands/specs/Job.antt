@@ -1,5 +1,5 @@
 -- Command lines: what the words of the program ask for, and what is said of others.
-use Rattle.std.specs.Prelude.{◌≡◌, ◌≢◌, ◌↔◌, ◌⊎◌, ℕ, ◌≤◌, Bool, true, ◌&&◌, not, codes, List, [], ◌∷◌, Option, Some, None, unwrap_or, if◌then◌else◌}
+use Rattle.std.specs.Prelude.{◌≡◌, ◌≢◌, ◌↔◌, ◌⊎◌, ℕ, ◌≤◌, Bool, true, ◌&&◌, not, codes, List, [], ◌∷◌, Option, Some, None, is_none, unwrap_or, if◌then◌else◌}
 use Rattle.std.specs.Option.{option_and_then, option_map}
 use Rattle.clap.specs.Kinds.{Kinds, IsAmong, or_else}
 use Rattle.clap.specs.Words.{Row, Text, fault_of, first_of, subcommand_of}
@@ -24,6 +24,7 @@ use Rattle.ghs_choices.specs.declared.form.Form.{Form}
 use Rattle.ghs_choices.specs.declared.form.Form.TheVariants.{Json}
 use Rattle.ghs_commands.specs.declared.boruvka.BoruvkaOptions.{BoruvkaOptions}
 use Rattle.ghs_commands.specs.declared.boruvka.BoruvkaStepsOptions.{BoruvkaStepsOptions}
+use Rattle.ghs_commands.specs.declared.boruvka.BoruvkaSweepOptions.{BoruvkaSweepOptions}
 use Rattle.ghs_commands.specs.declared.exploring.ExploreOptions.{ExploreOptions}
 use Rattle.ghs_commands.specs.declared.exploring.Finding.{Finding}
 use Rattle.ghs_commands.specs.declared.exploring.Finding.TheVariants.{Run}
@@ -42,7 +43,7 @@ use Rattle.ghs_commands.specs.declared.job.Task.TheVariants as task
 use Rattle.ghs_commands.specs.declared.job.ViewOptions.{ViewOptions}
 use Rattle.ghs_commands.specs.declared.two_seeds.TwoSeeds.{TwoSeeds}
 use Rattle.ghs_commands.specs.declared.values.Seeds.{Seeds}
-use Rattle.ghs_commands.specs.Networks.{are_read_once, named_of, values_in}
+use Rattle.ghs_commands.specs.Networks.{are_read_once, are_several, named_of, values_in}
 use Rattle.ghs_choices.specs.declared.by.By.{By}
 use Rattle.peer_trace.specs.Protocol.{protocol_named}
 use Rattle.peer_trace.specs.declared.protocol.Protocol.{Protocol}
@@ -187,6 +188,12 @@ pub record AreSweepOptions (command : Used) (o : SweepOptions) : Type 0 where
   pub form : IsForm command o.form
   pub progress : IsToldOf command o.progress
 
+-- and which runs by Borůvka in step
+pub record AreBoruvkaSweepOptions (command : Used) (o : BoruvkaSweepOptions) : Type 0 where
+  pub seeds : o.seeds ≡ seeds_at command
+  pub wake : IsWake command o.wake
+  pub turns : o.turns ≡ turns_in command
+
 -- the networks of a sweep whose lines begin with names, as the files and `--names`, which has no value of its own, say
 pub record AreNetworks (command : Used) (names : List Text) : Type 0 where
   pub asked : Bool
@@ -274,7 +281,9 @@ IsTask command (task.Replay protocol wake) = (name_in command ≡ Some (codes "r
 IsTask command (task.Steps options) = (name_in command ≡ Some (codes "steps")) × (protocol_in command ≡ Ghs) × AreStepsOptions command options
 IsTask command (task.BoruvkaSteps options) =
     (name_in command ≡ Some (codes "steps")) × (protocol_in command ≡ Boruvka) × AreBoruvkaStepsOptions command options
-IsTask command (task.Sweep options) = (name_in command ≡ Some (codes "sweep")) × AreSweepOptions command options
+IsTask command (task.Sweep options) = (name_in command ≡ Some (codes "sweep")) × (protocol_in command ≡ Ghs) × AreSweepOptions command options
+IsTask command (task.BoruvkaSweep options) =
+    (name_in command ≡ Some (codes "sweep")) × (protocol_in command ≡ Boruvka) × AreBoruvkaSweepOptions command options
 IsTask command (task.View options) =
     (name_in command ≡ Some (codes "view")) × (value_in (codes "TRACE") command ≡ None) × AreViewOptions command options
 IsTask command (task.StoredView options) =
@@ -298,6 +307,11 @@ pub record AreSweepLimits (o : SweepOptions) : Type 0 where
   pub some : 1 ≤ o.turns
   pub few : o.turns ≤ EVENT_LIMIT
 
+pub record AreBoruvkaSweepLimits (o : BoruvkaSweepOptions) : Type 0 where
+  pub seeds : AreSeeds o.seeds
+  pub some : 1 ≤ o.turns
+  pub few : o.turns ≤ EVENT_LIMIT
+
 pub record AreViewLimits (o : ViewOptions) : Type 0 where
   pub some : 1 ≤ o.turns
   pub few : o.turns ≤ EVENT_LIMIT
@@ -315,6 +329,7 @@ IsWithinLimits (task.Replay protocol wake) = Unit {0}
 IsWithinLimits (task.Steps options) = Unit {0}
 IsWithinLimits (task.BoruvkaSteps options) = Unit {0}
 IsWithinLimits (task.Sweep options) = AreSweepLimits options
+IsWithinLimits (task.BoruvkaSweep options) = AreBoruvkaSweepLimits options
 IsWithinLimits (task.View options) = AreViewLimits options
 IsWithinLimits (task.StoredView options) = Unit {0}
 IsWithinLimits (task.Make asked) = Unit {0}
@@ -368,15 +383,27 @@ has_network command =
 abbrev pub has_seeds : Used → Bool
 has_seeds command = is_range (value_in (codes "seeds") command) && are_two (value_in (codes "pair") command)
 
--- all that is asked for goes with Borůvka in step: no threads, no other schedule than the seeded, no cores, nothing is told of the run, and no JSON
-abbrev pub fits_boruvka : Used → Bool
-fits_boruvka command =
+-- how a network is run goes with Borůvka in step: no threads, no other schedule than the seeded, no cores, nothing is told of the run, no JSON
+abbrev pub runs_in_step : Used → Bool
+runs_in_step command =
     is_number 0 0 (value_in (codes "workers") command)
     && is_among (codes "seeded" ∷ []) (value_in (codes "schedule") command)
     && not (is_said (codes "true") (value_in (codes "core") command))
     && not (is_said (codes "true") (value_in (codes "progress") command))
     && not (is_said (codes "true") (value_in (codes "tally") command))
     && not (is_said (codes "true") (value_in (codes "json") command))
+
+-- what is swept does: one network, without its name, and the figures of its runs alone, by no parts
+abbrev pub sweeps_in_step : Used → Bool
+sweeps_in_step command =
+    is_among (codes "runs" ∷ []) (value_in (codes "sheet") command)
+    && is_none (value_in (codes "by") command)
+    && not (is_said (codes "true") (value_in (codes "names") command))
+    && not (are_several (values_in (codes "FILE") command))
+
+-- all that is asked for does
+abbrev pub fits_boruvka : Used → Bool
+fits_boruvka command = runs_in_step command && sweeps_in_step command
 
 -- GHS goes with everything
 abbrev pub fits_by : Protocol → Used → Bool

@@ -1,11 +1,12 @@
-//! What a run by Borůvka in step is asked for, or a stored one, and what doesn't go with that protocol.
+//! What a run by Borůvka in step is asked for, or a stored one, or a sweep, and what doesn't go with that protocol.
 ghost use Rattle.clap.specs.Words.{subcommand_rows_of};
-ghost use Rattle.ghs_commands.specs.Job.{AreBoruvkaLimits, AreBoruvkaOptions, AreBoruvkaStepsOptions, fits_boruvka};
+ghost use Rattle.ghs_commands.specs.Job.{AreBoruvkaLimits, AreBoruvkaOptions, AreBoruvkaStepsOptions, AreBoruvkaSweepLimits, AreBoruvkaSweepOptions, fits_boruvka, runs_in_step, sweeps_in_step};
 ghost use Rattle.std.specs.Prelude.{◌≡◌, is_none};
 
-use crate::job::{Show, choice_of, number_of, show_of, value_of, wake_of};
+use crate::job::{Show, choice_of, number_of, seeds_of, show_of, value_of, wake_of};
+use crate::networks::{are_several, values_of};
 use crate::parts::is_said;
-use crate::values::{is_among, is_number};
+use crate::values::{Seeds, is_among, is_number};
 use clap::ArgMatches;
 use ghs_choices::choice::Choice;
 use ghs_sched::trace::EVENT_LIMIT;
@@ -33,6 +34,17 @@ pub struct BoruvkaStepsOptions {
     pub choice: Choice,
 }
 
+/// Which runs of a network by Borůvka in step are swept.
+#[derive(Clone, Copy, Debug, PartialEq, Eq)]
+pub struct BoruvkaSweepOptions {
+    /// Whose schedules pick the runs, a million at most.
+    pub seeds: Seeds,
+    /// Which nodes wake by themselves.
+    pub wake: WakeSet,
+    /// How many events each run may have, 1 to 2^40.
+    pub turns: u64,
+}
+
 /// How a network is to be run.
 pub(crate) fn boruvka_of<'a>(matches: &ArgMatches<'a>) -> BoruvkaOptions
     ensures options { AreBoruvkaOptions (subcommand_rows_of matches.now) result }
@@ -57,9 +69,30 @@ pub(crate) fn boruvka_steps_of<'a>(matches: &ArgMatches<'a>) -> BoruvkaStepsOpti
     }
 }
 
+/// Which runs are to be swept.
+pub(crate) fn boruvka_sweep_of<'a>(matches: &ArgMatches<'a>) -> BoruvkaSweepOptions
+    ensures options { AreBoruvkaSweepOptions (subcommand_rows_of matches.now) result }
+    ensures limits { AreBoruvkaSweepLimits result }
+{
+    let seeds = seeds_of(matches);
+    let wake = wake_of(matches);
+    let turns = number_of(matches, "turns", 1, EVENT_LIMIT);
+    BoruvkaSweepOptions { seeds, wake, turns }
+}
+
 /// The first argument that doesn't go with Borůvka in step.
 pub(crate) fn stranger_in<'a>(matches: &ArgMatches<'a>) -> Option<&'static str>
     ensures { is_none result ≡ fits_boruvka (subcommand_rows_of matches.now) }
+{
+    match stranger_of_run(matches) {
+        Some(argument) => Some(argument),
+        None => stranger_of_sweep(matches),
+    }
+}
+
+/// The first that says how a network is run, or what is told of its run.
+fn stranger_of_run<'a>(matches: &ArgMatches<'a>) -> Option<&'static str>
+    ensures { is_none result ≡ runs_in_step (subcommand_rows_of matches.now) }
 {
     if !is_number(value_of(matches, "workers"), 0, 0) {
         Some("--workers <workers>")
@@ -73,6 +106,23 @@ pub(crate) fn stranger_in<'a>(matches: &ArgMatches<'a>) -> Option<&'static str>
         Some("--tally")
     } else if is_said(value_of(matches, "json"), "true") {
         Some("--json")
+    } else {
+        None
+    }
+}
+
+/// The first that says what is swept, or what is printed of a sweep.
+fn stranger_of_sweep<'a>(matches: &ArgMatches<'a>) -> Option<&'static str>
+    ensures { is_none result ≡ sweeps_in_step (subcommand_rows_of matches.now) }
+{
+    if !is_among(value_of(matches, "sheet"), &["runs"]) {
+        Some("--print <sheet>")
+    } else if value_of(matches, "by").is_some() {
+        Some("--by <by>")
+    } else if is_said(value_of(matches, "names"), "true") {
+        Some("--names")
+    } else if are_several(values_of(matches, "FILE")) {
+        Some("[FILE]...")
     } else {
         None
     }

@@ -139,6 +139,7 @@ fn sweep<'a>(alloc: Global) -> Result<Command<'a>, AllocError>
 {
     let arguments = vec![in alloc;
         files(alloc),
+        protocol(alloc),
         seeds(alloc),
         schedule(alloc),
         sharers(alloc),

@@ -10,7 +10,10 @@ ghost use Rattle.clap.specs.Words.{kind_of, subcommand_rows_of};
 ghost use Rattle.std.specs.Option.{option_map};
 ghost use Rattle.std.specs.Prelude.{◌≡◌, ◌≤◌, ◌↔◌, ◌∷◌, [], IfErr, IfOk, IfSome, OnErr, OnOk, Some, codes, false, map, string_bytes, true};
 
-use crate::boruvka::{BoruvkaOptions, BoruvkaStepsOptions, boruvka_of, boruvka_steps_of};
+use crate::boruvka::{
+    BoruvkaOptions, BoruvkaStepsOptions, BoruvkaSweepOptions, boruvka_of, boruvka_steps_of,
+    boruvka_sweep_of,
+};
 use crate::exploring::{ExploreOptions, MOST_STATES, exploration_of};
 use crate::grammar::program;
 use crate::networks::{are_read_once, input_twice, named_of, values_of};
@@ -168,6 +171,8 @@ pub enum Task {
     BoruvkaSteps(BoruvkaStepsOptions),
     /// Print the figures of many seeds' runs.
     Sweep(SweepOptions),
+    /// Print the figures of many seeds' runs by Borůvka in step.
+    BoruvkaSweep(BoruvkaSweepOptions),
     /// Print the page of the run that a seed picks.
     View(ViewOptions),
     /// Print the page of a stored run.
@@ -595,7 +600,7 @@ fn task_of<'a>(matches: &ArgMatches<'a>) -> Task
     } else if matches.subcommand_name() == Some("steps") {
         steps_by(matches)
     } else if matches.subcommand_name() == Some("sweep") {
-        Task::Sweep(sweep_of(matches))
+        sweep_by(matches)
     } else if matches.subcommand_name() == Some("view") {
         shown_by(matches)
     } else if matches.subcommand_name() == Some("make") {
@@ -694,6 +699,18 @@ fn form_of<'a>(matches: &ArgMatches<'a>) -> Form
         Form::Json
     } else {
         Form::Text
+    }
+}
+
+/// By which protocol the runs go that are to be swept, and which.
+fn sweep_by<'a>(matches: &ArgMatches<'a>) -> Task
+    requires { name_in (subcommand_rows_of matches.now) ≡ Some (codes "sweep") }
+    ensures task { IsTask (subcommand_rows_of matches.now) result }
+    ensures limits { IsWithinLimits result }
+{
+    match protocol_of(matches) {
+        Protocol::Ghs => Task::Sweep(sweep_of(matches)),
+        Protocol::Boruvka => Task::BoruvkaSweep(boruvka_sweep_of(matches)),
     }
 }
 
@@ -834,7 +851,7 @@ fn weights_of<'a>(matches: &ArgMatches<'a>) -> Option<Weights>
 }
 
 /// The seeds of a sweep; each has some.
-fn seeds_of<'a>(matches: &ArgMatches<'a>) -> Seeds
+pub(crate) fn seeds_of<'a>(matches: &ArgMatches<'a>) -> Seeds
     ensures seeds { result ≡ seeds_at (subcommand_rows_of matches.now) }
     ensures limits { AreSeeds result }
 {

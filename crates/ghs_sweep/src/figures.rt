@@ -99,7 +99,7 @@ fn greatest_level(census: &[FragmentRow]) -> u8
 }
 
 /// The weights of links, added up.
-fn total_weight(links: &[Key]) -> u128
+pub fn total_weight(links: &[Key]) -> u128
     ensures total { result ≡ total_weight links.now }
     ensures small { result < 2 ^ 96 }
 {

@@ -90,7 +90,7 @@ fn put_lengths(text: &mut Vec<u8>, figures: &Figures) -> Result<(), AllocError>
 
 /// A comma and a number.
 #[tactic(auto, unfolding(crate::specs::Line::field))]
-pub(crate) fn put_field(text: &mut Vec<u8>, number: u128) -> Result<(), AllocError>
+pub fn put_field(text: &mut Vec<u8>, number: u128) -> Result<(), AllocError>
     ensures { IfOk result (λ _. text.new.items ≡ text.old.items ++ field number) }
 {
     text.extend_from_slice(b",")?;
@@ -100,7 +100,7 @@ pub(crate) fn put_field(text: &mut Vec<u8>, number: u128) -> Result<(), AllocErr
 
 /// A comma and a word.
 #[tactic(auto, unfolding(crate::specs::Line::word_field))]
-fn put_word(text: &mut Vec<u8>, word: &[u8]) -> Result<(), AllocError>
+pub fn put_word(text: &mut Vec<u8>, word: &[u8]) -> Result<(), AllocError>
     ensures { IfOk result (λ _. text.new.items ≡ text.old.items ++ word_field word.now) }
 {
     text.extend_from_slice(b",")?;
@@ -120,7 +120,8 @@ pub(crate) fn schedule_word(schedule_kind: ScheduleKind) -> &'static [u8]
     }
 }
 
-pub(crate) fn wake_word(wake: WakeSet) -> &'static [u8]
+/// The name of a wake set, as a command line and a sweep have it.
+pub fn wake_word(wake: WakeSet) -> &'static [u8]
     ensures { result.now ≡ wake_word wake }
 {
     match wake {
@@ -129,7 +130,8 @@ pub(crate) fn wake_word(wake: WakeSet) -> &'static [u8]
     }
 }
 
-pub(crate) fn end_word(ended: bool) -> &'static [u8]
+/// How a run ended: it halted, or its turns were used.
+pub fn end_word(ended: bool) -> &'static [u8]
     ensures { result.now ≡ end_word ended }
 {
     if ended { b"halted" } else { b"turns" }

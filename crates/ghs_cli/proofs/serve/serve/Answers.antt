@@ -63,6 +63,27 @@ returns-in-Sweep-clause-unwritten g c = unwritten_but_for_write c.args.job.now.t
 pub returns-in-Sweep-clause-trace : goal.returns-in-Sweep-clause-trace
 returns-in-Sweep-clause-trace g c = unread_as c.args.job.now.task (task.Sweep c.in-Sweep.options) _ _ c.in-Sweep.is refl
 
+pub returns-in-BoruvkaSweep-clause-serves : goal.returns-in-BoruvkaSweep-clause-serves
+returns-in-BoruvkaSweep-clause-serves g c =
+    serves_as c.args.job.now.task (task.BoruvkaSweep c.in-BoruvkaSweep.options) (g.T.Source.left c.args.trace.now)
+    (g.R.Source.left c.args.graph.now) _ _ c.print-in-BoruvkaSweep.result c.in-BoruvkaSweep.is
+    (serves_unread (task.BoruvkaSweep c.in-BoruvkaSweep.options) (g.R.Source.left c.args.graph.now) c.boruvka_sweep_text_of.result _ _
+    c.print-in-BoruvkaSweep.result refl refl c.boruvka_sweep_text_of.ensures.early c.print-in-BoruvkaSweep.ensures.printed
+    (λ s. c.boruvka_sweep_text_of.ensures.text) (λ s. c.boruvka_sweep_text_of.ensures.fault))
+
+pub returns-in-BoruvkaSweep-clause-ends : goal.returns-in-BoruvkaSweep-clause-ends
+returns-in-BoruvkaSweep-clause-ends g c =
+    ends_other c.args.job.now.task (task.BoruvkaSweep c.in-BoruvkaSweep.options) (g.R.Source.left c.args.graph.now)
+    c.print-in-BoruvkaSweep.result c.in-BoruvkaSweep.is refl
+
+pub returns-in-BoruvkaSweep-clause-unwritten : goal.returns-in-BoruvkaSweep-clause-unwritten
+returns-in-BoruvkaSweep-clause-unwritten g c =
+    unwritten_but_for_write c.args.job.now.task _ _ c.print-in-BoruvkaSweep.result c.print-in-BoruvkaSweep.ensures.unwritten
+
+pub returns-in-BoruvkaSweep-clause-trace : goal.returns-in-BoruvkaSweep-clause-trace
+returns-in-BoruvkaSweep-clause-trace g c =
+    unread_as c.args.job.now.task (task.BoruvkaSweep c.in-BoruvkaSweep.options) _ _ c.in-BoruvkaSweep.is refl
+
 pub returns-in-View-clause-serves : goal.returns-in-View-clause-serves
 returns-in-View-clause-serves g c =
     serves_as c.args.job.now.task (task.View c.in-View.options) (g.T.Source.left c.args.trace.now) (g.R.Source.left c.args.graph.now) _ _

@@ -1,0 +1,41 @@
+use Rattle.std.proofs.Common.{◌≡◌, ◌≤◌, ◌∙◌, ap, arith, rules, slice_index}
+use Rattle.ghs_protocol.proofs.lemmas.Sums.{sum_same}
+use Rattle.peer_machine.specs.Ledger.{in_all}
+use Rattle.boruvka_node.specs.Boruvka.{boruvka}
+use Rattle.boruvka_protocol.specs.Bound.{bound_of}
+use Rattle.boruvka_sweep.proofs.Five.{five_of}
+use Rattle.boruvka_sweep.proofs.figures.figures_of.Goals as goal
+
+-- what was sent is within the bound, which is a number of 64 bits
+pub in_total-requires-clause-fits : goal.in_total-requires-clause-fits
+in_total-requires-clause-fits c =
+    let most : c.message_bound-most.result ≡ bound_of c.args.net.now.graph = c.message_bound-most.ensures ∙ ap bound_of c.graph-graph.ensures in
+    let within : in_all boruvka (λ k. slice_index c.ledger-ledger.result.sent.now k) ≤ bound_of c.args.net.now.graph =
+    c.ledger-ledger.ensures.bound in
+    omega (arith, most, within)
+
+pub returns : goal.returns
+returns c =
+    let ledger = c.ledger-ledger.ensures in
+    let most : c.message_bound-most.result ≡ bound_of c.args.net.now.graph = c.message_bound-most.ensures ∙ ap bound_of c.graph-graph.ensures in
+    let total = c.in_total.ensures in
+    let within : in_all boruvka (λ k. slice_index c.ledger-ledger.result.sent.now k) ≤ bound_of c.args.net.now.graph = ledger.bound in
+    record {
+      nodes = search rules;
+      links = search rules;
+      events = search rules;
+      messages = record {
+        sent = total ∙ sum_same 5 _ _ ledger.counts.sent;
+        kinds = five_of c.ledger-ledger.result.sent.now _ ledger.counts.sent;
+        queued = ledger.counts.queued;
+        bound = most;
+        within = omega (arith, most, total, within);
+      };
+      weight = record {
+        branches = c.in_ok-tree.tree.items;
+        all = c.in_ok-tree.ensures.links;
+        sum = search rules;
+      };
+      ended = c.net_ended.ensures;
+      lengths = record { chain = search rules; bits = search rules; longest = search rules };
+    }
