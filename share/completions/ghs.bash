@@ -21,6 +21,7 @@ _ghs() {
         steps,--from) : && return ;;
         steps,--to) : && return ;;
         steps,--node) : && return ;;
+        sweep,--protocol) COMPREPLY=($(compgen -W 'ghs boruvka' -- "$word")) && return ;;
         sweep,--seeds) : && return ;;
         sweep,--schedule) COMPREPLY=($(compgen -W 'seeded patient rounds waits lifo' -- "$word")) && return ;;
         sweep,--workers) : && return ;;
@@ -50,7 +51,7 @@ _ghs() {
         run) [[ $word == -* ]] && COMPREPLY=($(compgen -W '--protocol --seed --schedule --workers --wake --turns --print --core --progress --tally -h --help' -- "$word")) ;;
         replay) [[ $word == -* ]] && COMPREPLY=($(compgen -W '--protocol --wake -h --help' -- "$word")) ;;
         steps) [[ $word == -* ]] && COMPREPLY=($(compgen -W '--protocol --wake --from --to --node --json -h --help' -- "$word")) ;;
-        sweep) [[ $word == -* ]] && COMPREPLY=($(compgen -W '--seeds --schedule --workers --wake --turns --print --by --names --json --progress -h --help' -- "$word")) ;;
+        sweep) [[ $word == -* ]] && COMPREPLY=($(compgen -W '--protocol --seeds --schedule --workers --wake --turns --print --by --names --json --progress -h --help' -- "$word")) ;;
         view) [[ $word == -* ]] && COMPREPLY=($(compgen -W '--seed --seeds --schedule --wake --turns --trace --from --to -h --help' -- "$word")) ;;
         make) [[ $word == -* ]] && COMPREPLY=($(compgen -W '--seed --links --weights -h --help' -- "$word"))
             [[ $word == -* ]] || { [ "$COMP_CWORD" -eq 2 ] && COMPREPLY=($(compgen -W 'path ring star grid complete tree random road forest slow busy' -- "$word")); return; } ;;

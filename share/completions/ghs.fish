@@ -33,6 +33,7 @@ complete -c ghs -n '__fish_seen_subcommand_from steps' -l to -x -d 'The number o
 complete -c ghs -n '__fish_seen_subcommand_from steps' -l node -x -d 'The node whose events are shown; all nodes'\'' where none is named'
 complete -c ghs -n '__fish_seen_subcommand_from steps' -l json -d 'Prints the lines as JSON'
 complete -c ghs -n '__fish_seen_subcommand_from steps' -s h -l help -d 'Print help'
+complete -c ghs -n '__fish_seen_subcommand_from sweep' -l protocol -x -a 'ghs boruvka' -d 'Which protocol the nodes follow: ghs, or boruvka, Borůvka in step, without threads and by a seeded schedule alone [default: ghs]'
 complete -c ghs -n '__fish_seen_subcommand_from sweep' -l seeds -x -d 'The seeds, FIRST..LAST, both included, 1000000 of them at most'
 complete -c ghs -n '__fish_seen_subcommand_from sweep' -l schedule -x -a 'seeded patient rounds waits lifo' -d 'Which events the seed picks among: seeded, all that may happen, patient, those that move the run on, rounds, those of them whose message arrives in the round, waits, those that only put a message back as long as there are any, so that such a run needn'\''t end before its turns, or lifo, the one whose message was sent last [default: seeded]'
 complete -c ghs -n '__fish_seen_subcommand_from sweep' -l workers -x -d 'How many threads share the runs, 0 to 64; 0 is one, and the text is the same for each [default: 0]'
