@@ -9,6 +9,8 @@ use ghs_node::react::react;
 use ghs_refusing::orders::{Count, NONE, Turn, order, refuse, refuse_each, tell, turn_of};
 use ghs_refusing::scenes::{are_same, events_of_run, five, is_five};
 use ghs_report::report_text::report_text;
+use ghs_test_graphs::build::graph_of;
+use ghs_test_graphs::graphs::STAR_OF_EIGHTEEN;
 use std::alloc::Global;
 use std::process::Abort;
 use std::test::Fail;
@@ -134,8 +136,6 @@ enum Asked {
     Branches,
     Fragment,
     Census,
-    Lift,
-    Copy,
     Asleep,
     Text,
 }
@@ -162,8 +162,6 @@ fn ask_node(
     assert!(rt; net.graph().nodes() >= 3 && ports.len() <= 2);
     match asked {
         Asked::Fragment => turn_of(alloc, k, &net.fragment(alloc, 3)),
-        Asked::Lift => turn_of(alloc, k, &net.lift(alloc, 3)),
-        Asked::Copy => turn_of(alloc, k, &net.node(3).copy(alloc)),
         _ => turn_of(alloc, k, &Node::asleep(alloc, 3, ports)),
     }
 }
@@ -195,12 +193,10 @@ fn ask(rt: &impl Abort, alloc: Global, events: &[Event], asked: Asked, k: usize)
     turn
 }
 
-static ASKED: [(&str, Asked); 7] = [
+static ASKED: [(&str, Asked); 5] = [
     ("Net::branches", Asked::Branches),
     ("Net::fragment", Asked::Fragment),
     ("Net::census", Asked::Census),
-    ("Net::lift", Asked::Lift),
-    ("Node::copy", Asked::Copy),
     ("Node::asleep", Asked::Asleep),
     ("report_text", Asked::Text),
 ];
@@ -215,6 +211,43 @@ fn refuse_asked<R: Print + Abort>(
         refuse(rt, alloc, name, |k| ask(rt, alloc, events, *asked, k))?;
     }
     Ok(())
+}
+
+/// The opening net of a star. Its hub has so many ports that their marks don't stand in the node itself.
+fn star(rt: &impl Abort, alloc: Global) -> Net {
+    let graph = graph_of(alloc, STAR_OF_EIGHTEEN.as_bytes()).expect(rt, "a graph");
+    Net::open(alloc, graph).ok().expect(rt, "a net")
+}
+
+/// The hub is copied, with the k-th allocation refused, and is then as it was.
+fn copy_hub(rt: &impl Abort, alloc: Global, net: &Net, lifted: bool, k: usize) -> Turn {
+    assert!(rt; net.graph().nodes() == 18);
+    order(alloc, k);
+    let answer = if lifted {
+        net.lift(alloc, 18)
+    } else {
+        net.node(18).copy(alloc)
+    };
+    let turn = turn_of(alloc, k, &answer);
+    if let Ok(copy) = answer {
+        assert!(rt; copy.same(net.node(18)));
+    }
+    turn
+}
+
+/// The hub of an opening star, lifted or copied.
+fn take_hub(rt: &impl Abort, alloc: Global, lifted: bool, k: usize) -> Turn {
+    let net = star(rt, alloc);
+    let turn = copy_hub(rt, alloc, &net, lifted, k);
+    let_go(net);
+    turn
+}
+
+#[test]
+fn hubs(host: HostRuntime) -> Result<(), Fail> {
+    let (rt, alloc) = (&host, host.alloc());
+    refuse(rt, alloc, "Net::lift", |k| take_hub(rt, alloc, true, k))?;
+    refuse(rt, alloc, "Node::copy", |k| take_hub(rt, alloc, false, k))
 }
 
 #[test]
