@@ -11,7 +11,7 @@ use Rattle.ghs_protocol.specs.Network.{Network}
 use Rattle.ghs_flags.specs.First.{NonePasses}
 use Rattle.ghs_flags.specs.Flags.{count, at, one_if, IsFirstFrom}
 use Rattle.ghs_index.specs.Places.{node_events, events_to, all_events, takes}
-use Rattle.ghs_index.specs.Index.{IndexState, AreBases, IsIndexOf}
+use Rattle.ghs_index.specs.Index.{IndexState, AreBases, IsOwner, IsIndexOf}
 use Rattle.ghs_index.proofs.lemmas.Lists.{map_at, any_at, none_any, find_at, find_none, get_some, first_found, none_found}
 use Rattle.ghs_index.proofs.lemmas.Places.{length_at, take_at, takes_at, takes_only, length_next, longer, node_place, placed}
 use Rattle.ghs_index.proofs.lemmas.Marks.{is_for}
@@ -188,17 +188,23 @@ module _ (g : Network) (p : Event → Bool) (x : IndexState) (of : IsIndexOf g p
       base_low = base_at low lo top
 
 -- the event at a place
-pub wake_stands : (g : Network) (bases : List ℕ) (v i : ℕ) → AreBases g g.count bases → 1 ≤ v → v + 1 < length bases → i ≡ get_or bases v 0 →
+pub wake_stands : (g : Network) (bases : List ℕ) (v i : ℕ) → AreBases g g.count bases → IsOwner bases i v → i ≡ get_or bases v 0 →
     slice_get (all_events g) i ≡ Some (Wake v)
-wake_stands g bases v i b lo top e =
+wake_stands g bases v i b own e =
+    let lo = own.node in
+    let top = own.last in
     let c = b.count in
     let s = span g bases v b lo (omega arith) in
     let from = s.from in
     ap (slice_get (all_events g)) (e ∙ from) ∙ placed g (Wake v) (lo, omega arith)
 
-pub take_stands : (g : Network) (bases : List ℕ) (v i : ℕ) → AreBases g g.count bases → 1 ≤ v → v + 1 < length bases → get_or bases v 0 ≤ i →
-    i < get_or bases (v + 1) 0 → (i ≡ get_or bases v 0 → ⊥) → slice_get (all_events g) i ≡ Some (Take v (i - get_or bases v 0 - 1))
-take_stands g bases v i b lo top from to ne =
+pub take_stands : (g : Network) (bases : List ℕ) (v i : ℕ) → AreBases g g.count bases → IsOwner bases i v → (i ≡ get_or bases v 0 → ⊥) →
+    slice_get (all_events g) i ≡ Some (Take v (i - get_or bases v 0 - 1))
+take_stands g bases v i b own ne =
+    let lo = own.node in
+    let top = own.last in
+    let from = own.from in
+    let to = own.to in
     let c = b.count in
     let s = span g bases v b lo (omega arith) in
     let sf = s.from in
@@ -237,9 +243,9 @@ module _ (g : Network) (p : Event → Bool) (x : IndexState) (of : IsIndexOf g p
       None ≡ find (λ (v : ℕ). list_any p (node_events g v)) (range_with_len low (g.count + 1 - low))
   no_node_told low a n lo ea en h = sym (no_node g p x of low lo (rw (ea, en) at h))
 
-  pub node_told : (low v a n i : ℕ) → 1 ≤ low → low ≤ g.count + 1 → a ≡ get_or x.bases low 0 → 1 ≤ v → v + 1 < length x.bases →
-      get_or x.bases v 0 ≤ i → i < get_or x.bases (v + 1) 0 →
+  pub node_told : (low v a n i : ℕ) → 1 ≤ low → low ≤ g.count + 1 → a ≡ get_or x.bases low 0 → IsOwner x.bases i v →
       IsFirstFrom x.marks a n (Some i) → Some v ≡ find (λ (u : ℕ). list_any p (node_events g u)) (range_with_len low (g.count + 1 - low))
-  node_told low v a n i lo top ea some last from to h =
+  node_told low v a n i lo top ea own h =
       let c = of.bases.count in
-      sym (one_node g p x of low v i lo top some (omega arith) (rw ea at h.0) from to h.2 (rw ea at h.3))
+      let last = own.last in
+      sym (one_node g p x of low v i lo top own.node (omega arith) (rw ea at h.0) own.from own.to h.2 (rw ea at h.3))

@@ -62,15 +62,6 @@ bases_more g n bases new end d b e f is =
         rw z (get_or_push bases (end + (d + 1)) 0 (suc (n + 1)) (let c = b.count in omega arith) ∙ last))
         (cases_lt m (n + 1))
 
--- a network with a node has an event
-pub some_events : (g : Network) (n : ℕ) (bases : List ℕ) → AreBases g n bases → 1 ≤ n → 0 < get_or bases (n + 1) 0
-some_events g zero bases b lo = absurd (omega arith)
-some_events g (suc n) bases b lo =
-    let up : suc n + 1 ≡ suc (suc n) = omega arith in
-    let last = b.base (suc n) (omega arith) in
-    let next = length_next g n in
-    rw up (omega arith)
-
 -- the last base, whatever stands for what lies past the end
 pub last_base : (g : Network) (n : ℕ) (bases : List ℕ) (i d : ℕ) → AreBases g n bases → i ≡ length bases - 1 →
     get_or bases i d ≡ length (events_to g n)

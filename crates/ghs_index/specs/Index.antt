@@ -1,5 +1,5 @@
 -- An index of a network's events: some of them are marked.
-use Rattle.std.specs.Prelude.{◌≡◌, ℕ, suc, ◌+◌, ◌≤◌, Bool, List, length, map, slice_index}
+use Rattle.std.specs.Prelude.{◌≡◌, ℕ, suc, ◌+◌, ◌-◌, ◌<◌, ◌≤◌, Bool, List, length, map, slice_index}
 use Rattle.std.specs.List.{Contains}
 use Rattle.ghs_protocol.specs.declared.event.Event.{Event}
 use Rattle.ghs_protocol.specs.Network.{Network}
@@ -15,6 +15,18 @@ pub record IndexState : Type 0 where
 pub record AreBases (g : Network) (n : ℕ) (bases : List ℕ) : Type 0 where
   pub count : length bases ≡ n + 2
   pub base : (m : ℕ) → m ≤ n → slice_index bases (suc m) ≡ length (events_to g m)
+
+-- an event of node v stands at the place
+pub record IsOwner (bases : List ℕ) (at v : ℕ) : Type 0 where
+  pub node : 1 ≤ v
+  pub last : v + 1 < length bases
+  pub from : slice_index bases v ≤ at
+  pub to : at < slice_index bases (v + 1)
+
+-- of each place the node whose event stands there
+pub record AreOwners (bases owners : List ℕ) : Type 0 where
+  pub count : length owners ≡ slice_index bases (length bases - 1)
+  pub owner : (at : ℕ) → at < length owners → IsOwner bases at (slice_index owners at)
 
 -- the index has a mark for each event of the network
 pub record IsFor (g : Network) (x : IndexState) : Type 0 where

@@ -8,7 +8,7 @@ ghost use Rattle.ghs_flags.specs.Flags.{count};
 ghost use Rattle.ghs_index.specs.Places.{all_events, far_take, node_events, takes, place, HasPlace};
 ghost use Rattle.ghs_index.specs.Index.{IsFor, IsIndexOf};
 
-use crate::bases::{base_of, event_at, lay_bases, lay_guesses, node_at, place_of, span_of};
+use crate::bases::{base_of, event_at, lay_bases, lay_owners, node_at, place_of, span_of};
 use ghs_flags::flags::Flags;
 use ghs_graph::graph::Graph;
 use ghs_protocol::event::Event;
@@ -16,22 +16,24 @@ use std::alloc::{AllocError, Global};
 use std::marker::Model;
 
 /// Of the events that name a node or port of a graph some are marked. They stand by node, Wake before ports, ports
-/// rising. The index takes 4 bytes a node, and a bit and nine sixteenths an event.
+/// rising. The index takes 4 bytes a node, and 4 bytes, a bit and a sixteenth of a bit an event.
 #[derive(Debug, Drop)]
 pub struct Index {
     /// The place of the first event of each node, and behind them how many events there are; 0 is no node.
     bases: Vec<u32>,
-    /// Where a search among the bases begins.
-    guesses: Vec<u32>,
+    /// The node whose event stands at each place.
+    owners: Vec<u32>,
     marks: Flags,
 }
 
 impl Model for Index {
-    ghost use Rattle.ghs_index.specs.Index.{IndexState};
+    ghost use Rattle.ghs_index.specs.Index.{IndexState, AreOwners};
 
     ghost Value = { IndexState };
 
     ghost view = { λ x. record { bases = x.bases.items; marks = x.marks } };
+
+    ghost invariant = { λ x. AreOwners x.bases.items x.owners.items };
 }
 
 impl Index {
@@ -48,11 +50,11 @@ impl Index {
     {
         let bases = lay_bases(alloc, graph)?;
         let events = bases[bases.len() - 1] as usize;
-        let guesses = lay_guesses(alloc, &bases, graph)?;
+        let owners = lay_owners(alloc, &bases, graph)?;
         let marks = Flags::lowered(alloc, events)?;
         Ok(Index {
             bases,
-            guesses,
+            owners,
             marks,
         })
     }
@@ -92,7 +94,7 @@ impl Index {
         requires within { k < count self.now.marks }
         ensures { (p : Happening → Bool) → IsIndexOf (network_of graph.now) p self.now → slice_get (filter p (all_events (network_of graph.now))) k ≡ Some result }
     {
-        event_at(&self.bases, &self.guesses, graph, self.marks.kth(k))
+        event_at(&self.bases, &self.owners, graph, self.marks.kth(k))
     }
 
     /// Whether an event of a node is marked. O(1).
@@ -136,7 +138,7 @@ impl Index {
         let _ = graph.nodes();
         let base = base_of(&self.bases, graph, low);
         match self.marks.first_from(base) {
-            Some(at) => Some(node_at(&self.bases, &self.guesses, at) as u32),
+            Some(at) => Some(node_at(&self.bases, &self.owners, at) as u32),
             None => None,
         }
     }

@@ -4,28 +4,31 @@ ghost use Rattle.ghs_protocol.specs.Network.{network_of};
 ghost use Rattle.ghs_index.specs.Places.{all_events, place, HasPlace};
 ghost use Rattle.ghs_index.specs.Index.{AreBases};
 
-use crate::bases::{event_at, lay_bases, lay_guesses, place_of};
+use crate::bases::{event_at, lay_bases, lay_owners, place_of};
 use ghs_graph::graph::Graph;
 use ghs_protocol::event::Event;
 use std::alloc::{AllocError, Global};
 use std::marker::Model;
 
 /// The places of a graph's events, as an index has them, for rows that have more than a mark for each event. They take 4
-/// bytes a node, and a sixteenth an event.
+/// bytes a node, and 4 an event.
 #[derive(Debug, Drop)]
 pub struct Places {
     /// The place of the first event of each node, and behind them how many events there are; 0 is no node.
     bases: Vec<u32>,
-    /// Where a search among the bases begins.
-    guesses: Vec<u32>,
+    /// The node whose event stands at each place.
+    owners: Vec<u32>,
 }
 
 impl Model for Places {
     ghost use Rattle.std.specs.Prelude.{List, ℕ};
+    ghost use Rattle.ghs_index.specs.Index.{AreOwners};
 
     ghost Value = { List ℕ };
 
     ghost view = { λ x. x.bases.items };
+
+    ghost invariant = { λ x. AreOwners x.bases.items x.owners.items };
 }
 
 impl Places {
@@ -41,8 +44,8 @@ impl Places {
         ensures few { IfOk result (λ _. length (all_events (network_of graph.now)) ≤ 2 ^ 25) }
     {
         let bases = lay_bases(alloc, graph)?;
-        let guesses = lay_guesses(alloc, &bases, graph)?;
-        Ok(Places { bases, guesses })
+        let owners = lay_owners(alloc, &bases, graph)?;
+        Ok(Places { bases, owners })
     }
 
     /// How many events there are. O(1).
@@ -63,12 +66,12 @@ impl Places {
         place_of(&self.bases, graph, event)
     }
 
-    /// The event at a place. O(log N).
+    /// The event at a place. O(1).
     pub fn event_at(&self, graph: &Graph, at: usize) -> Event
         requires bases { AreBases (network_of graph.now) graph.now.nodes self.now }
         requires within { at < length (all_events (network_of graph.now)) }
         ensures { slice_get (all_events (network_of graph.now)) at ≡ Some result }
     {
-        event_at(&self.bases, &self.guesses, graph, at)
+        event_at(&self.bases, &self.owners, graph, at)
     }
 }

@@ -22,7 +22,7 @@ use ghs_world::world::World;
 use std::alloc::{AllocError, Global};
 use std::marker::Model;
 
-/// The events that a patient schedule picks from, the numbers of messages, and the ranks of the Takes by them: some 25 bytes
+/// The events that a patient schedule picks from, the numbers of messages, and the ranks of the Takes by them: some 36 bytes
 /// an event, and 12 a node.
 #[derive(Debug, Drop)]
 pub struct Latest {

@@ -4,8 +4,8 @@ use Rattle.ghs_index.proofs.bases.event_at.Goals as goal
 
 pub returns-then-at-base : goal.returns-then-at-base
 returns-then-at-base c = wake_stands (network_of c.args.graph.now) c.args.bases.now c.node_at-v.result c.args.at c.requires.bases
-    c.node_at-v.ensures.node c.node_at-v.ensures.last c.if-at-base.true
+    c.node_at-v.ensures c.if-at-base.true
 
 pub returns-else-at-base : goal.returns-else-at-base
 returns-else-at-base c = take_stands (network_of c.args.graph.now) c.args.bases.now c.node_at-v.result c.args.at c.requires.bases
-    c.node_at-v.ensures.node c.node_at-v.ensures.last c.node_at-v.ensures.from c.node_at-v.ensures.to c.if-at-base.false
+    c.node_at-v.ensures c.if-at-base.false
