@@ -152,12 +152,9 @@ impl<J: Start> Floor<J> {
             return Found::NoTurn;
         }
         match self.shop.make(alloc, event) {
-            Ok(delta) => {
+            Ok(woken) => {
                 hand.count_at_once();
-                match self.shop.woken(alloc, event, delta.sends.as_slice()) {
-                    Ok(woken) => self.notes.put_each(rt, &mut hand.feed, woken.as_slice()),
-                    Err(AllocError) => self.lack_memory(),
-                }
+                self.notes.put_each(rt, &mut hand.feed, woken.as_slice());
                 Found::AtOnce
             }
             Err(AllocError) => {

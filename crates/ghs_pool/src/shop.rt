@@ -2,19 +2,18 @@
 ghost use Rattle.std.specs.Prelude.{◌≡◌, ◌≤◌, ◌^◌, ◌&&◌, true, IfOk, IfErr, OnOk, OnErr};
 ghost use Rattle.ghs_graph.specs.Graph.{IsGraph};
 ghost use Rattle.ghs_protocol.specs.Run.{IsRun};
-ghost use Rattle.ghs_core.specs.NetState.{network, IsAnswer};
+ghost use Rattle.ghs_core.specs.NetState.{network};
 ghost use Rattle.ghs_board.specs.Progress.{StartsWith};
 ghost use Rattle.ghs_world.specs.Ready.{is_ready};
-ghost use Rattle.ghs_world.specs.Steps.{Makes, IsSameWorld};
+ghost use Rattle.ghs_world.specs.Steps.{Makes, HasRoused, IsSameWorld};
 ghost use Rattle.ghs_world.specs.WorldState.{has_turn, has_place};
 ghost use Rattle.ghs_pool.specs.Shop.{IsPairOf, IsTold, Publishes};
 
 use crate::moves::{at_once_per_ticket, is_worth_it};
 use ghs_board::board::{Board, Publisher, Reader};
 use ghs_board::progress::Progress;
-use ghs_node::delta::Delta;
-use ghs_node::message::Message;
 use ghs_protocol::event::Event;
+use ghs_world::woken::Woken;
 use ghs_world::world::World;
 use std::alloc::{AllocError, Global};
 use std::marker::Model;
@@ -113,40 +112,6 @@ impl Shop {
         at_once_per_ticket(&self.world, v)
     }
 
-    /// Of an event's node and the nodes to which it sent those that have an event now: their numbers, rising, each once.
-    pub(crate) fn woken(
-        &self,
-        alloc: Global,
-        event: Event,
-        sends: &[(u32, Message)],
-    ) -> Result<Vec<u32>, AllocError> {
-        let (Event::Wake(v) | Event::Take(v, _)) = event;
-        let mut nodes = vec![in alloc; v; 1]?;
-        for (port, _) in sends {
-            if let Some(far) = self.far_of(v, *port) {
-                nodes.push(far)?;
-            }
-        }
-        nodes.sort_unstable();
-        nodes.dedup();
-        nodes.retain(|u| self.has_event(*u));
-        Ok(nodes)
-    }
-
-    /// Whether a node has an event that may be made now.
-    fn has_event(&self, v: u32) -> bool {
-        self.world.has_place(Event::Wake(v)) && self.world.next_event(v, 0).is_some()
-    }
-
-    /// The node at the other end of a node's port; of what is no node or port none.
-    fn far_of(&self, v: u32, port: u32) -> Option<u32> {
-        if !self.world.has_place(Event::Wake(v)) {
-            return None;
-        }
-        let port = self.world.graph().ports(v).get(port as usize)?;
-        Some(port.far)
-    }
-
     /// Whether an event names a node and port of the world's graph and may be made now, turns and memory aside.
     pub(crate) fn is_ready(&self, event: Event) -> bool
         ensures { result ≡ has_place (network self.now.world.net) event && is_ready self.now.world event }
@@ -161,24 +126,24 @@ impl Shop {
         self.world.has_turn()
     }
 
-    /// An event happens at once, without a ticket, and then the new pair is published. What its node did comes back. Where
-    /// memory runs out nothing is published.
-    pub(crate) fn make(&mut self, alloc: Global, event: Event) -> Result<Delta, AllocError>
+    /// An event happens at once, without a ticket, and then the new pair is published. The nodes that it has roused come
+    /// back, as from a commit. Where memory runs out nothing is published.
+    pub(crate) fn make(&mut self, alloc: Global, event: Event) -> Result<Woken, AllocError>
         requires ready { is_ready self.old.world event ≡ true }
         requires turn { has_turn self.old.world ≡ true }
         ensures made { OnOk result (Makes self.old.world event self.new.world) }
-        ensures answer { IfOk result (λ d. IsAnswer self.old.world.net event d) }
+        ensures woken { IfOk result (λ us. HasRoused self.old.world event self.new.world us) }
         ensures published { OnOk result (Publishes self.old.told self.new.told self.new.world) }
         ensures err { OnErr result (IsSameWorld self.old.world self.new.world) }
         ensures unpublished { OnErr result (self.new.told ≡ self.old.told) }
     {
         let _ = pair_of(&self.world);
         let answer = self.world.answer(alloc, event)?;
-        match self.world.make_answered(event, &answer) {
-            Ok(()) => {
+        match self.world.make_rousing(alloc, event, &answer) {
+            Ok(woken) => {
                 let pair = pair_of(&self.world);
                 self.publisher.publish(pair.commits, pair.halted);
-                Ok(answer)
+                Ok(woken)
             }
             Err(error) => Err(error),
         }

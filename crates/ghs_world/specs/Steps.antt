@@ -2,12 +2,13 @@
 use Rattle.std.specs.Prelude.{◌≡◌, ℕ, true, false, ◌+◌, ◌↔◌, List, [], ◌∷◌, ◌++◌, map, Some}
 use Rattle.std.specs.List.{Contains}
 use Rattle.std.specs.List.Sorted.{IsStrictlyIncreasing}
+use Rattle.ghs_node.specs.declared.delta.Delta.{Delta}
 use Rattle.ghs_node.specs.declared.message.Message.{Message}
 use Rattle.ghs_node.specs.Words.{Outgoing}
 use Rattle.ghs_protocol.specs.declared.event.Event.{Event}
 use Rattle.ghs_protocol.specs.Network.{Network, far}
 use Rattle.ghs_protocol.specs.Net.{happens}
-use Rattle.ghs_core.specs.NetState.{network, IsSameNet}
+use Rattle.ghs_core.specs.NetState.{network, event_node, IsAnswer, IsSameNet}
 use Rattle.ghs_world.specs.declared.fault.CommitFault.{CommitFault}
 use Rattle.ghs_world.specs.declared.fault.CommitFault.TheVariants as commits
 use Rattle.ghs_world.specs.Tickets.{TicketState}
@@ -62,6 +63,10 @@ pub record HasEach (some us : List ℕ) : Type 0 where
 pub record AreReadyOf (s : WorldState) (some us : List ℕ) : Type 0 where
   pub rising : IsStrictlyIncreasing us
   pub all : (u : ℕ) → Contains us u ↔ (Contains some u × (has_ready s u ≡ true))
+
+-- of the event's node and the far ends of what its reaction sends those that may be checked out afterwards, rising, each once
+abbrev pub HasRoused : WorldState → Event → WorldState → List ℕ → Type 0
+HasRoused old e new us = (d : Delta) × IsAnswer old.net e d × AreReadyOf new (touched (network old.net) (event_node e) d.sends) us
 
 -- each node that may be checked out now, and might not before, is among these
 abbrev pub HasAllRoused : WorldState → WorldState → List ℕ → Type 0

@@ -5,7 +5,7 @@ ghost use Rattle.ghs_node.specs.Rows.{Row};
 ghost use Rattle.ghs_node.specs.declared.message.Message.{Message as Letter};
 ghost use Rattle.ghs_protocol.specs.Living.{Waits};
 ghost use Rattle.ghs_world.specs.Ready.{all_events, has_lawful, has_ready, is_ready, next_of, next_node_of, ready_events, takes};
-ghost use Rattle.ghs_world.specs.Steps.{Commits, Makes, LeavesOthers, AreReadyOf, HasAllRoused, RefusesStep, IsSameWorld, HasEach, touched};
+ghost use Rattle.ghs_world.specs.Steps.{Commits, Makes, LeavesOthers, AreReadyOf, HasAllRoused, HasRoused, RefusesStep, IsSameWorld, HasEach, touched};
 ghost use Rattle.ghs_graph.specs.Graph.{IsGraph};
 ghost use Rattle.ghs_graph.specs.Ports.{ports_of};
 ghost use Rattle.ghs_graph.specs.Links.{IsTree};
@@ -205,6 +205,25 @@ impl World {
         self.net.reserve(event, answer)?;
         self.happen(event, answer);
         Ok(())
+    }
+
+    /// The same, and the nodes that it has roused come back, as from a commit. All room is taken before any change.
+    pub fn make_rousing(
+        &mut self,
+        alloc: Global,
+        event: Event,
+        delta: &Delta,
+    ) -> Result<Woken, AllocError>
+        requires ready { is_ready self.old event ≡ true }
+        requires turn { has_turn self.old ≡ true }
+        requires answer { IsAnswer self.old.net event delta.now }
+        ensures made { OnOk result (Makes self.old event self.new) }
+        ensures woken { IfOk result (λ us. HasRoused self.old event self.new us) }
+        ensures err { OnErr result (IsSameWorld self.old self.new) }
+    {
+        let nodes = self.make_room(alloc, event, delta)?;
+        self.happen(event, delta);
+        Ok(self.ready_of(nodes))
     }
 
     /// The event of a node that is at home happens, under the next number. Takes no memory.
@@ -417,7 +436,6 @@ impl World {
         delta: &Delta,
     ) -> Result<Vec<u32>, AllocError>
         requires lawful { IsLawful self.old.net event }
-        requires row { Row ((home self.old).node (event_node event)) (work_at (home self.old) event) delta.now }
         requires answer { IsAnswer self.old.net event delta.now }
         ensures same { IsSameWorld self.old self.new }
         ensures room { OnOk result (HasRoomToPlay self.new.net event delta.now) }

@@ -13,11 +13,6 @@ invariant_of-self g c =
     let notes = c.put_each.ensures ∙ c.self.invariant.1 in
     (goes_on _ _ _ c.self.invariant.0 (goes_made _ _ _ ok.made ok.published), nodes_stay _ _ _ notes ok.made.graph)
 
-pub invariant_of-self-in-Err-woken : goal.invariant_of-self-in-Err-woken
-invariant_of-self-in-Err-woken g c =
-    let ok = c.in-Ok.ensures in
-    (goes_on _ _ _ c.self.invariant.0 (goes_made _ _ _ ok.made ok.published), nodes_stay _ _ _ c.self.invariant.1 ok.made.graph)
-
 pub invariant_of-self-in-Err : goal.invariant_of-self-in-Err
 invariant_of-self-in-Err g c =
     let err = c.in-Err.ensures in

@@ -10,14 +10,11 @@ publish-requires-clause-rising c =
 pub invariant_of-self : goal.invariant_of-self
 invariant_of-self c = told_next _ _ _ _ c.publish.ensures.list c.pair_of-pair.ensures.pair
 
-pub invariant_of-self-in-Err-1 : goal.invariant_of-self-in-Err-1
-invariant_of-self-in-Err-1 c = told_again _ _ c.self.inside.publisher c.in-Err.ensures.err c.self.invariant
+pub invariant_of-self-in-Err : goal.invariant_of-self-in-Err
+invariant_of-self-in-Err c = told_again _ _ c.self.inside.publisher c.in-Err.ensures.err c.self.invariant
 
 pub returns-in-Ok-clause-published : goal.returns-in-Ok-clause-published
 returns-in-Ok-clause-published c =
     let now = c.pair_of-pair in
     let told = c.publish.ensures in
     rw (← c.self.view_is) (record { pair = now.result; of_world = now.ensures.pair; table = told.table; list = told.list })
-
-pub returns-in-Err-clause-err : goal.returns-in-Err-clause-err
-returns-in-Err-clause-err c = rw (← c.self.view_is) c.in-Err.ensures.err
