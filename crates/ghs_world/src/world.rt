@@ -1,7 +1,6 @@
 //! The world.
 ghost use Rattle.std.specs.Prelude.{◌≡◌, ◌↔◌, ◌≤◌, ◌+◌, ◌-◌, ◌^◌, [], ◌<◌, length, filter, slice_get, IfOk, IfErr, OnOk, OnErr, IsTrue, Some, true};
 ghost use Rattle.std.specs.List.{find, range_with_len};
-ghost use Rattle.ghs_node.specs.Rows.{Row};
 ghost use Rattle.ghs_node.specs.declared.message.Message.{Message as Letter};
 ghost use Rattle.ghs_protocol.specs.Living.{Waits};
 ghost use Rattle.ghs_world.specs.Ready.{all_events, has_lawful, has_ready, is_ready, next_of, next_node_of, ready_events, takes};
@@ -13,7 +12,7 @@ ghost use Rattle.ghs_protocol.specs.Network.{network_of};
 ghost use Rattle.ghs_protocol.specs.Net.{opening, is_node, is_lawful_under};
 ghost use Rattle.ghs_protocol.specs.Run.{IsRunUnder};
 ghost use Rattle.ghs_protocol.specs.Marks.{HasEnded};
-ghost use Rattle.ghs_core.specs.NetState.{network, net_of, event_node, work_at, IsLawful, IsAnswer, HasRoomToPlay, IsLeastHalted};
+ghost use Rattle.ghs_core.specs.NetState.{network, net_of, event_node, IsLawful, IsAnswer, HasRoomToPlay, IsLeastHalted};
 ghost use Rattle.ghs_core.specs.Census.{IsCensus, AreLarge};
 ghost use Rattle.ghs_core.specs.PutBack.{IsPutBack};
 ghost use Rattle.ghs_core.specs.Ledger.{IsWithinBound};
