@@ -8,32 +8,35 @@ use Rattle.ghs_report.specs.declared.portions.WriteFault.{WriteFault}
 use Rattle.ghs_report.specs.Written.{IsFront, IsOut}
 use Rattle.ghs_report.proofs.lemmas.Gone.{front_longer, out_more}
 use Rattle.ghs_choices.specs.declared.choice.Choice.{Choice}
+use Rattle.ghs_choices.specs.declared.form.Form.{Form}
 use Rattle.peer_machine.specs.Run.{IsRun}
 use Rattle.peer_net.specs.NetState.{NetState, IsLawful}
 use Rattle.boruvka_node.specs.Boruvka.{boruvka}
-use Rattle.boruvka_steps.specs.Lines.{lines, lines_behind, shown}
+use Rattle.boruvka_steps.specs.Lines.{all_lines, line_by, lines, shown, told_behind}
 use Rattle.boruvka_steps.proofs.Lawful.{lawful_here}
 
-lines_append : (g : Shape) (c : Choice) (done es fs : List Event) →
-    lines_behind g c done (es ++ fs) ≡ lines_behind g c done es ++ lines_behind g c (done ++ es) fs
-lines_append g c done [] fs = ap (λ (d : List Event). lines_behind g c d fs) (sym (append-nil done))
-lines_append g c done (e ∷ es) fs =
-    ap (λ t. shown g c done e ++ t)
-    (lines_append g c (done ++ e ∷ []) es fs
-    ∙ ap (λ (d : List Event). lines_behind g c (done ++ e ∷ []) es ++ lines_behind g c d fs) (append_assoc done (e ∷ []) es))
-    ∙ sym (append_assoc (shown g c done e) (lines_behind g c (done ++ e ∷ []) es) (lines_behind g c (done ++ e ∷ es) fs))
+-- of events that come one after another, by what is told of each
+module _ (tells : List Event → Event → List ℕ) where
+  told_append : (done es fs : List Event) → told_behind tells done (es ++ fs) ≡ told_behind tells done es ++ told_behind tells (done ++ es) fs
+  told_append done [] fs = ap (λ (d : List Event). told_behind tells d fs) (sym (append-nil done))
+  told_append done (e ∷ es) fs =
+      ap (λ t. tells done e ++ t)
+      (told_append (done ++ e ∷ []) es fs
+      ∙ ap (λ (d : List Event). told_behind tells (done ++ e ∷ []) es ++ told_behind tells d fs) (append_assoc done (e ∷ []) es))
+      ∙ sym (append_assoc (tells done e) (told_behind tells (done ++ e ∷ []) es) (told_behind tells (done ++ e ∷ es) fs))
 
--- one event more
-lines_more : (g : Shape) (c : Choice) (es : List Event) (i : ℕ) (d : Event) → i < length es →
-    lines g c (take (i + 1) es) ≡ lines g c (take i es) ++ shown g c (take i es) (get_or es i d)
-lines_more g c es i d lt =
-    ap (λ (fs : List Event). lines g c fs) (take_more es i d lt)
-    ∙ (lines_append g c [] (take i es) (get_or es i d ∷ [])
-    ∙ ap (λ t. lines g c (take i es) ++ t) (append-nil (shown g c (take i es) (get_or es i d))))
+  -- one event more
+  told_more : (es : List Event) (i : ℕ) (d : Event) → i < length es →
+      told_behind tells [] (take (i + 1) es) ≡ told_behind tells [] (take i es) ++ tells (take i es) (get_or es i d)
+  told_more es i d lt =
+      ap (told_behind tells []) (take_more es i d lt)
+      ∙ (told_append [] (take i es) (get_or es i d ∷ [])
+      ∙ ap (λ t. told_behind tells [] (take i es) ++ t) (append-nil (tells (take i es) (get_or es i d))))
 
--- the text of the first events is a front of the text
-lines_front : (g : Shape) (c : Choice) (es : List Event) (i : ℕ) → lines g c es ≡ lines g c (take i es) ++ lines_behind g c (take i es) (drop i es)
-lines_front g c es i = ap (λ (fs : List Event). lines g c fs) (sym (take-append-drop i es)) ∙ lines_append g c [] (take i es) (drop i es)
+  -- the text of the first events is a front of the text
+  told_front : (es : List Event) (i : ℕ) →
+      told_behind tells [] es ≡ told_behind tells [] (take i es) ++ told_behind tells (take i es) (drop i es)
+  told_front es i = ap (told_behind tells []) (sym (take-append-drop i es)) ∙ told_append [] (take i es) (drop i es)
 
 pub next_lawful : (s : NetState) (g : Shape) (es : List Event) (i : ℕ) (d : Event) → s.graph ≡ g → s.trace ≡ take i es →
     IsRun boruvka (network_of g) es → i < length es →
@@ -45,15 +48,26 @@ pub grown : (done now es : List Event) (i : ℕ) (d : Event) → done ≡ take i
     now ≡ take (i + 1) es
 grown done now es i d is lt more = more ∙ (ap (λ (fs : List Event). fs ++ get_or es i d ∷ []) is ∙ sym (take_more es i d lt))
 
-pub out_next : (old now : Option (List ℕ)) (g : Shape) (c : Choice) (es : List Event) (i gone : ℕ) (d : Event) (s : NetState)
-    (rest rest' : List ℕ) → s.graph ≡ g → s.trace ≡ take i es → i < length es → IsOut old now (lines g c (take i es)) gone rest →
-    rest' ≡ rest ++ shown s.graph c s.trace (get_or es i d) →
-    IsOut old now (lines g c (take (i + 1) es)) gone rest'
-out_next old now g c es i gone d s rest rest' graph trace lt out more =
-    rw (lines_more g c es i d lt, more, graph, trace) (out_more old now (lines g c (take i es)) rest (shown g c (take i es) (get_or es i d)) gone out)
+pub out_next : (f : Form) (g : Shape) (c : Choice) (old now : Option (List ℕ)) (es : List Event) (i gone : ℕ) (d : Event) (s : NetState)
+    (rest rest' : List ℕ) → s.graph ≡ g → s.trace ≡ take i es → i < length es → IsOut old now (lines f g c (take i es)) gone rest →
+    rest' ≡ rest ++ shown f s.graph c s.trace (get_or es i d) →
+    IsOut old now (lines f g c (take (i + 1) es)) gone rest'
+out_next f g c old now es i gone d s rest rest' graph trace lt out more =
+    rw (told_more (shown f g c) es i d lt, more, graph, trace)
+    (out_more old now (lines f g c (take i es)) rest (shown f g c (take i es) (get_or es i d)) gone out)
 
-pub front_of_lines : (old now : Option (List ℕ)) (g : Shape) (c : Choice) (es : List Event) (i : ℕ) (f : WriteFault) →
-    IsFront old now (lines g c (take i es)) f →
-    IsFront old now (lines g c es) f
-front_of_lines old now g c es i f front =
-    rw (lines_front g c es i) (front_longer old now (lines g c (take i es)) (lines_behind g c (take i es) (drop i es)) f front)
+pub front_of_lines : (old now : Option (List ℕ)) (f : Form) (g : Shape) (c : Choice) (es : List Event) (i : ℕ) (fault : WriteFault) →
+    IsFront old now (lines f g c (take i es)) fault →
+    IsFront old now (lines f g c es) fault
+front_of_lines old now f g c es i fault front =
+    rw (told_front (shown f g c) es i)
+    (front_longer old now (lines f g c (take i es)) (told_behind (shown f g c) (take i es) (drop i es)) fault front)
+
+-- what one event appends, where all are told
+pub lines_put : (f : Form) (s : NetState) (g : Shape) (es : List Event) (i : ℕ) (d : Event) (old so_far now : List ℕ) → s.graph ≡ g →
+    s.trace ≡ take i es → i < length es → so_far ≡ old ++ all_lines f g (take i es) →
+    now ≡ so_far ++ line_by f s.graph s.trace (get_or es i d) →
+    now ≡ old ++ all_lines f g (take (i + 1) es)
+lines_put f s g es i d old so_far now graph trace lt so more =
+    rw (more, so, graph, trace, told_more (line_by f g) es i d lt)
+    (append_assoc old (all_lines f g (take i es)) (line_by f g (take i es) (get_or es i d)))

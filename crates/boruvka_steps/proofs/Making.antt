@@ -2,6 +2,7 @@
 use Rattle.std.proofs.Common.{◌≡◌, ℕ, ◌+◌, List, [], ◌∷◌, ◌++◌, length, Option, Some, map, refl, sym, ◌∙◌, ap, ap₂}
 use Rattle.ghs_graph.specs.Graph.{Shape}
 use Rattle.ghs_protocol.specs.declared.event.Event.{Event}
+use Rattle.ghs_choices.specs.declared.form.Form.{Form}
 use Rattle.ghs_steps.specs.Told.{event_far}
 use Rattle.peer_machine.specs.declared.work.Work.{Work}
 use Rattle.peer_machine.specs.Net.{event_node, happens}
@@ -19,8 +20,7 @@ use Rattle.boruvka_steps.specs.declared.sent.Sent.{Sent}
 use Rattle.boruvka_steps.specs.Changes.{changes}
 use Rattle.boruvka_steps.specs.RowName.{row_name}
 use Rattle.boruvka_steps.specs.Step.{net_at, sent_by, sends_of, moment_of, changes_by, sends_by}
-use Rattle.boruvka_steps.specs.StepLine.{line_of}
-use Rattle.boruvka_steps.specs.Lines.{line_by}
+use Rattle.boruvka_steps.specs.Lines.{line_by, line_in}
 use Rattle.boruvka_steps.proofs.Ruled.{node_by}
 
 -- an event that has happened by a reaction
@@ -42,11 +42,11 @@ module _ (s new : NetState) (e : Event) (n : State) (k : Work Message) (o : Outc
   sends_are = ap (map (sent_by s.graph (event_node e))) (sym (ap sends_of rule))
 
 -- its line
-pub line_is : (g : Shape) (done : List Event) (e : Event) (s : NetState) (m : Moment) (cs : List Change) (ss : List Sent) (total : ℕ) →
+pub line_is : (f : Form) (g : Shape) (done : List Event) (e : Event) (s : NetState) (m : Moment) (cs : List Change) (ss : List Sent) (total : ℕ) →
     s.graph ≡ g → s.trace ≡ done ++ e ∷ [] → m ≡ moment_of g done e → cs ≡ changes_by g done e → ss ≡ sends_by g done e →
     total ≡ in_all boruvka (net_of boruvka s).sent →
-    line_of m cs ss total ≡ line_by g done e
-line_is g done e s m cs ss total graph trace is_m is_cs is_ss is_total = rw (is_m, is_cs, is_ss, is_total, graph, trace) refl
+    line_in f m cs ss total ≡ line_by f g done e
+line_is f g done e s m cs ss total graph trace is_m is_cs is_ss is_total = rw (is_m, is_cs, is_ss, is_total, graph, trace) refl
 
 -- when and how it happens
 pub moment_is : (s : NetState) (e : Event) (n : State) (number : ℕ) (other : Option ℕ) (k : Work Message) (r : RowName) →

@@ -4,5 +4,6 @@ pub mod Words
 pub mod Changes
 pub mod Step
 pub mod StepLine
+pub mod Json
 pub mod Lines
 pub mod Shown

@@ -1,26 +1,39 @@
--- The events of a trace as lines of text.
+-- The events of a trace as lines, of text or of JSON.
 use Rattle.std.specs.Prelude.{ℕ, ◌+◌, List, [], ◌∷◌, ◌++◌, length, if◌then◌else◌}
 use Rattle.ghs_graph.specs.Graph.{Shape}
 use Rattle.ghs_protocol.specs.declared.event.Event.{Event}
 use Rattle.ghs_choices.specs.declared.choice.Choice.{Choice}
+use Rattle.ghs_choices.specs.declared.form.Form.{Form}
+use Rattle.ghs_choices.specs.declared.form.Form.TheVariants.{Text, Json}
 use Rattle.ghs_choices.specs.Choice.{is_chosen}
 use Rattle.peer_machine.specs.Net.{event_node}
+use Rattle.boruvka_steps.specs.declared.change.Change.{Change}
+use Rattle.boruvka_steps.specs.declared.moment.Moment.{Moment}
+use Rattle.boruvka_steps.specs.declared.sent.Sent.{Sent}
+use Rattle.boruvka_steps.specs.Json.{json_of}
 use Rattle.boruvka_steps.specs.Step.{moment_of, changes_by, sends_by, total_by}
 use Rattle.boruvka_steps.specs.StepLine.{line_of}
 
+abbrev pub line_in : Form → Moment → List Change → List Sent → ℕ → List ℕ
+line_in Text m cs ss total = line_of m cs ss total
+line_in Json m cs ss total = json_of m cs ss total
+
 -- the line of an event that comes after these
-abbrev pub line_by : Shape → List Event → Event → List ℕ
-line_by g done e = line_of (moment_of g done e) (changes_by g done e) (sends_by g done e) (total_by g done e)
+abbrev pub line_by : Form → Shape → List Event → Event → List ℕ
+line_by f g done e = line_in f (moment_of g done e) (changes_by g done e) (sends_by g done e) (total_by g done e)
 
 -- the same, if the event is chosen
-abbrev pub shown : Shape → Choice → List Event → Event → List ℕ
-shown g c done e = if is_chosen c (length done + 1) (event_node e) then line_by g done e else []
+abbrev pub shown : Form → Shape → Choice → List Event → Event → List ℕ
+shown f g c done e = if is_chosen c (length done + 1) (event_node e) then line_by f g done e else []
 
--- the lines of the chosen ones of the events that come after some
-abbrev pub lines_behind : Shape → Choice → List Event → List Event → List ℕ
-lines_behind g c done [] = []
-lines_behind g c done (e ∷ es) = shown g c done e ++ lines_behind g c (done ++ e ∷ []) es
+-- what is told of the events that come after some, of each by those before it
+abbrev pub told_behind : (List Event → Event → List ℕ) → List Event → List Event → List ℕ
+told_behind tells done [] = []
+told_behind tells done (e ∷ es) = tells done e ++ told_behind tells (done ++ e ∷ []) es
 
--- of the events of a trace
-abbrev pub lines : Shape → Choice → List Event → List ℕ
-lines g c es = lines_behind g c [] es
+-- the lines of the chosen ones of the events of a trace, and those of all of them
+abbrev pub lines : Form → Shape → Choice → List Event → List ℕ
+lines f g c es = told_behind (shown f g c) [] es
+
+abbrev pub all_lines : Form → Shape → List Event → List ℕ
+all_lines f g es = told_behind (line_by f g) [] es

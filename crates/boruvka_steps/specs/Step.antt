@@ -2,7 +2,7 @@
 use Rattle.std.specs.Prelude.{ℕ, ◌+◌, Option, Some, None, List, [], ◌∷◌, ◌++◌, length, map}
 use Rattle.ghs_graph.specs.Graph.{Shape}
 use Rattle.ghs_protocol.specs.declared.event.Event.{Event}
-use Rattle.ghs_protocol.specs.Network.{network_of, far}
+use Rattle.ghs_protocol.specs.Network.{network_of, port_at}
 use Rattle.ghs_steps.specs.Told.{event_far}
 use Rattle.peer_machine.specs.Rules.{Outgoing}
 use Rattle.peer_machine.specs.Net.{Net, event_node}
@@ -23,9 +23,9 @@ use Rattle.boruvka_steps.specs.RowName.{row_name}
 abbrev pub net_at : Shape → List Event → Net State Message
 net_at g done = net_after boruvka g done
 
--- what node v sends on a port, and the node that it goes to
+-- what node v sends on a port, and the node and the port where it will wait
 abbrev pub sent_by : Shape → ℕ → ℕ × Message → Sent
-sent_by g v s = record { port = s.0; to = far (network_of g) v s.0; message = s.1 }
+sent_by g v s = let end = port_at (network_of g) v s.0 in record { port = s.0; to = end.far; at = end.far_port; message = s.1 }
 
 -- Each event of a run has a rule. Where there is none, nothing goes out.
 abbrev pub sends_of : Option Outcome → Outgoing Message

@@ -12,6 +12,7 @@ ghost use Rattle.boruvka_steps.specs.Shown.{CantShow};
 use crate::write::write_run;
 use boruvka::protocol::Boruvka;
 use ghs_choices::choice::Choice;
+use ghs_choices::form::Form;
 use ghs_gr::device::Sink;
 use ghs_graph::graph::Graph;
 use ghs_report::portions::WriteFault;
@@ -22,13 +23,13 @@ use peer_machine::event::Event;
 use peer_runs::replay::replay;
 use std::alloc::Global;
 
-/// Writes a line for each chosen event of a stored run of Borůvka in step, in order. The run is played twice: whether each
-/// event is lawful is judged before the first byte goes out. A run that hasn't ended is shown too. Want of memory, and a
-/// write that fails, may come behind a front of the lines.
+/// Writes a line for each chosen event of a stored run of Borůvka in step, in order, in the form that is asked for. The run
+/// is played twice: whether each event is lawful is judged before the first byte goes out. A run that hasn't ended is shown
+/// too. Want of memory, and a write that fails, may come behind a front of the lines.
 ///
 /// ```text
 /// let all = Choice { from: 1, to: u64::MAX, node: None };
-/// write_steps(alloc, graph, WakeSet::All, &events, &all, &mut out)?;
+/// write_steps(alloc, graph, WakeSet::All, &events, &all, Form::Text, &mut out)?;
 /// // the run of two nodes begins with `1 2 - - wake Wakes - phase=rest;out=0 0>1:connect(0) 1`
 /// ```
 pub fn write_steps<W: Sink>(
@@ -37,12 +38,13 @@ pub fn write_steps<W: Sink>(
     wake: WakeSet,
     events: &[Event],
     choice: &Choice,
+    form: Form,
     writer: &mut W,
 ) -> Result<(), StepsFault>
     requires sound { W.has_failed writer.old ≡ false }
     ensures run { OnOk result (IsRunUnder boruvka (may_wake graph wake) (network_of graph) events.now) }
-    ensures ok { OnOk result (Appends (W.held writer.old) (W.held writer.new) (lines graph choice.now events.now)) }
-    ensures err { IfErr result (λ fault. CantShow graph wake events.now (lines graph choice.now events.now) (W.held writer.old) (W.held writer.new) fault) }
+    ensures ok { OnOk result (Appends (W.held writer.old) (W.held writer.new) (lines form graph choice.now events.now)) }
+    ensures err { IfErr result (λ fault. CantShow graph wake events.now (lines form graph choice.now events.now) (W.held writer.old) (W.held writer.new) fault) }
     ensures unlawful { IfErr result (λ fault. is_unlawful fault ≡ true → writer.new ≡ writer.old) }
     ensures failed { MatchResult result (λ _. W.has_failed writer.new ≡ false) (λ fault. W.has_failed writer.new ≡ is_write fault) }
 {
@@ -53,7 +55,7 @@ pub fn write_steps<W: Sink>(
     };
     // Read for its clause: the events are a run.
     let _ = world.net();
-    match write_run(alloc, world.into_graph(), events, choice, writer) {
+    match write_run(alloc, world.into_graph(), events, choice, form, writer) {
         Ok(()) => Ok(()),
         Err(WriteFault::Memory) => Err(StepsFault::Memory),
         Err(WriteFault::Write { written }) => Err(StepsFault::Write { written }),

@@ -9,6 +9,7 @@ use Rattle.ghs_node.specs.declared.row_name.RowName.{RowName}
 use Rattle.ghs_node.specs.declared.work.Work.{Work}
 use Rattle.ghs_node.specs.declared.work.Work.TheVariants.{Wake, Deliver}
 use Rattle.ghs_node.specs.Words.{Best}
+use Rattle.ghs_protocol.specs.declared.event.Event.{Event}
 use Rattle.ghs_protocol.specs.Net.{event_node}
 use Rattle.ghs_steps.specs.declared.change.Change.{Change}
 use Rattle.ghs_steps.specs.declared.change.Change.TheVariants as change
@@ -116,24 +117,25 @@ unfoldable pub change_members : List Change → List ℕ
 change_members (change.Mark p m ∷ cs) = change_member (codes ",") (change.Mark p m) ++ set_member cs
 change_members cs = next (codes "mark") null ++ set_member cs
 
--- the port on which a message goes out, the node and the port where it will wait, and the message
+-- the port on which a message goes out, and the node and the port where it will wait
+unfoldable pub way_members : ℕ → ℕ → ℕ → List ℕ
+way_members port to at =
+    member (codes "{") (codes "port") (decimal port) ++ next (codes "to") (decimal to) ++ next (codes "at") (decimal at)
+
+-- its way, and the message
 unfoldable pub send_json : Sent → List ℕ
-send_json s =
-    member (codes "{") (codes "port") (decimal s.port)
-    ++ next (codes "to") (decimal s.to)
-    ++ next (codes "at") (decimal s.at)
-    ++ message_members (codes ",") s.message
-    ++ codes "}"
+send_json s = way_members s.port s.to s.at ++ message_members (codes ",") s.message ++ codes "}"
 
 unfoldable pub sends_member : List Sent → List ℕ
 sends_member ss = codes ",\"send\":[" ++ listed send_json ss ++ codes "]"
 
-unfoldable pub place_members : Moment → List ℕ
-place_members m =
-    member (codes "{") (codes "step") (decimal m.number)
-    ++ next (codes "node") (decimal (event_node m.event))
-    ++ next (codes "port") (number_or_null (event_port m.event))
-    ++ next (codes "far") (number_or_null m.far)
+-- an event's number, whose it is, the port of the message taken, and the node at the other end of it
+unfoldable pub place_members : ℕ → Event → Option ℕ → List ℕ
+place_members number e far =
+    member (codes "{") (codes "step") (decimal number)
+    ++ next (codes "node") (decimal (event_node e))
+    ++ next (codes "port") (number_or_null (event_port e))
+    ++ next (codes "far") (number_or_null far)
 
 unfoldable pub row_members : Work → RowName → Fate → List ℕ
 row_members Wake r f = next (codes "row") (quoted (row_word r)) ++ next (codes "fate") null
@@ -142,7 +144,7 @@ row_members (Deliver p m) r f = next (codes "row") (quoted (row_word r)) ++ next
 -- step, node, port, far, kind and what the message carries, row, fate, mark, set, send, total
 abbrev pub json_of : Moment → List Change → List Sent → List ℕ
 json_of m cs ss =
-    place_members m
+    place_members m.number m.event m.far
     ++ work_members m.work
     ++ row_members m.work m.row m.fate
     ++ change_members cs

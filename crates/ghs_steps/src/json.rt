@@ -1,7 +1,7 @@
 //! A step as a line of JSON.
 ghost use Rattle.std.specs.Prelude.{◌≡◌, ◌++◌, [], codes, decimal, IfOk};
 ghost use Rattle.std.specs.List.{flat_map};
-ghost use Rattle.ghs_steps.specs.Json.{behind_comma, best_or_null, change_json, change_member, change_members, change_name, json_of, key_or_null, listed, member, message_members, number_or_null, pair, place_members, quoted, row_members, send_json, sends_member, set_member, work_members};
+ghost use Rattle.ghs_steps.specs.Json.{behind_comma, best_or_null, change_json, change_member, change_members, change_name, json_of, key_or_null, listed, member, message_members, number_or_null, pair, place_members, quoted, row_members, send_json, sends_member, set_member, way_members, work_members};
 ghost use Rattle.ghs_steps.specs.Words.{key_text};
 
 use crate::change::Change;
@@ -9,6 +9,7 @@ use crate::line::fate_word;
 use crate::moment::{Moment, port_of};
 use crate::sent::Sent;
 use crate::words::{mark_word, phase_word, put_key, row_word};
+use ghs_core::event::Event;
 use ghs_core::net::node_of;
 use ghs_graph::key::Key;
 use ghs_lines::numbers::put_number;
@@ -27,7 +28,7 @@ pub fn step_json(
 ) -> Result<(), AllocError>
     ensures { IfOk result (λ _. text.new.items ≡ text.old.items ++ json_of moment.now changes.now sends.now) }
 {
-    put_place(text, moment)?;
+    put_place(text, moment.number, moment.event, moment.far)?;
     put_work(text, &moment.work)?;
     put_row(text, &moment.work, moment.row, moment.fate)?;
     put_changes(text, changes)?;
@@ -36,14 +37,20 @@ pub fn step_json(
     text.extend_from_slice(b"}\n")
 }
 
+/// Appends what a line of JSON begins with: the event's number, its node, the port of the message taken and its far end.
 #[tactic(auto, unfolding(crate::specs::Json::place_members))]
-fn put_place(text: &mut Vec<u8>, moment: &Moment) -> Result<(), AllocError>
-    ensures { IfOk result (λ _. text.new.items ≡ text.old.items ++ place_members moment.now) }
+pub fn put_place(
+    text: &mut Vec<u8>,
+    number: u64,
+    event: Event,
+    far: Option<u32>,
+) -> Result<(), AllocError>
+    ensures { IfOk result (λ _. text.new.items ≡ text.old.items ++ place_members number event far) }
 {
-    put_number_member(text, b"{", b"step", u128::from(moment.number))?;
-    put_number_member(text, b",", b"node", u128::from(node_of(moment.event)))?;
-    put_optional_member(text, b",", b"port", port_of(moment.event))?;
-    put_optional_member(text, b",", b"far", moment.far)
+    put_number_member(text, b"{", b"step", u128::from(number))?;
+    put_number_member(text, b",", b"node", u128::from(node_of(event)))?;
+    put_optional_member(text, b",", b"port", port_of(event))?;
+    put_optional_member(text, b",", b"far", far)
 }
 
 fn put_work(text: &mut Vec<u8>, work: &Work) -> Result<(), AllocError>
@@ -207,11 +214,19 @@ fn put_other_sends(text: &mut Vec<u8>, sends: &[Sent]) -> Result<(), AllocError>
 fn put_send(text: &mut Vec<u8>, send: &Sent) -> Result<(), AllocError>
     ensures { IfOk result (λ _. text.new.items ≡ text.old.items ++ send_json send.now) }
 {
-    put_number_member(text, b"{", b"port", u128::from(send.port))?;
-    put_number_member(text, b",", b"to", u128::from(send.to))?;
-    put_number_member(text, b",", b"at", u128::from(send.at))?;
+    put_way(text, send.port, send.to, send.at)?;
     put_message(text, b",", &send.message)?;
     text.extend_from_slice(b"}")
+}
+
+/// Appends what a message that goes out begins with: the port on which it does, and the node and its port where it will wait.
+#[tactic(auto, unfolding(crate::specs::Json::way_members))]
+pub fn put_way(text: &mut Vec<u8>, port: u32, to: u32, at: u32) -> Result<(), AllocError>
+    ensures { IfOk result (λ _. text.new.items ≡ text.old.items ++ way_members port to at) }
+{
+    put_number_member(text, b"{", b"port", u128::from(port))?;
+    put_number_member(text, b",", b"to", u128::from(to))?;
+    put_number_member(text, b",", b"at", u128::from(at))
 }
 
 /// A message's kind, and what it carries.
@@ -301,8 +316,9 @@ pub fn put_key_member(
     put_quoted_key(text, link)
 }
 
+/// Appends a member whose value is a link's key, or null.
 #[tactic(auto, unfolding(crate::specs::Json::member))]
-fn put_optional_key_member(
+pub fn put_optional_key_member(
     text: &mut Vec<u8>,
     lead: &[u8],
     name: &[u8],
@@ -314,8 +330,9 @@ fn put_optional_key_member(
     put_key_or_null(text, key)
 }
 
+/// Appends a member whose value is a number, or null.
 #[tactic(auto, unfolding(crate::specs::Json::member))]
-fn put_optional_member(
+pub fn put_optional_member(
     text: &mut Vec<u8>,
     lead: &[u8],
     name: &[u8],
@@ -327,8 +344,9 @@ fn put_optional_member(
     put_number_or_null(text, number)
 }
 
+/// Appends a member whose value is spelled out: null, true, or what JSON has else.
 #[tactic(auto, unfolding(crate::specs::Json::member))]
-pub(crate) fn put_literal_member(
+pub fn put_literal_member(
     text: &mut Vec<u8>,
     lead: &[u8],
     name: &[u8],
@@ -376,9 +394,9 @@ fn put_number_or_null(text: &mut Vec<u8>, number: Option<u32>) -> Result<(), All
     }
 }
 
-/// A port and its mark.
+/// Appends a list of two: a port, and its mark as a string. The mark has no quote and no backslash.
 #[tactic(auto, unfolding(crate::specs::Json::pair))]
-fn put_pair(text: &mut Vec<u8>, port: u32, mark: &[u8]) -> Result<(), AllocError>
+pub fn put_pair(text: &mut Vec<u8>, port: u32, mark: &[u8]) -> Result<(), AllocError>
     ensures { IfOk result (λ _. text.new.items ≡ text.old.items ++ pair port mark.now) }
 {
     text.extend_from_slice(b"[")?;
@@ -388,9 +406,9 @@ fn put_pair(text: &mut Vec<u8>, port: u32, mark: &[u8]) -> Result<(), AllocError
     text.extend_from_slice(b"]")
 }
 
-/// The port of the best link, and its key.
+/// Appends the port of the best link and the key, as a list of two; or null.
 #[tactic(auto, unfolding(crate::specs::Json::pair))]
-fn put_best(text: &mut Vec<u8>, best: Option<(u32, Key)>) -> Result<(), AllocError>
+pub fn put_best(text: &mut Vec<u8>, best: Option<(u32, Key)>) -> Result<(), AllocError>
     ensures { IfOk result (λ _. text.new.items ≡ text.old.items ++ best_or_null best) }
 {
     match best {

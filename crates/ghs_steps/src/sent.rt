@@ -57,7 +57,7 @@ pub fn far_end(graph: &Graph, event: Event) -> Option<u32>
 }
 
 /// A port of node `v`; what is no port leads to node 0.
-fn port_at(graph: &Graph, v: u32, port: u32) -> Port
+pub fn port_at(graph: &Graph, v: u32, port: u32) -> Port
     requires low { 1 ≤ v }
     requires high { v ≤ graph.now.nodes }
     ensures { result ≡ port_at (network_of graph.now) v port }

@@ -1,12 +1,16 @@
 //! Worked runs of Borůvka in step, line by line.
 use crate::playing::graph_of_text;
 use crate::runs::{FOUR_RUN, PAIR_RUN, PATH_RUN, TRIANGLE_RUN};
+use boruvka::protocol::Boruvka;
 use boruvka_steps::show::{StepsFault, write_steps};
+use boruvka_steps::write::put_lines;
 use ghs_choices::choice::Choice;
+use ghs_choices::form::Form;
 use ghs_gr::device::Device;
 use ghs_test_graphs::graphs::{LONE_NODE, PAIR, PATH_OF_FOUR, PATH_OF_THREE, TRIANGLE};
 use ghs_world::wake_set::WakeSet;
 use peer_machine::event::Event;
+use peer_runs::replay::replay;
 use std::alloc::Global;
 use std::process::Abort;
 
@@ -69,6 +73,26 @@ const FOUR_LINES: &str = "\
 17 2 1 3 connect(1) Connect_core done mark.1=branch;level=2;name=3:2-3;phase=search;parent=-;best=-;out=- 0>1:initiate(2,3:2-3);1>3:initiate(2,3:2-3) 15\n\
 ";
 
+const PAIR_JSON: &str =
+    r#"{"step":1,"node":2,"port":null,"far":null,"kind":"wake","row":"Wakes","fate":null,"marks":[],"set":{"phase":"rest","out":0},"send":[{"port":0,"to":1,"at":0,"kind":"connect","level":0}],"total":1}
+{"step":2,"node":1,"port":0,"far":2,"kind":"connect","level":0,"row":"Connect_core","fate":"done","marks":[[0,"branch"]],"set":{"level":1,"name":"5:1-2","phase":"search"},"send":[{"port":0,"to":2,"at":0,"kind":"connect","level":0},{"port":0,"to":2,"at":0,"kind":"initiate","level":1,"key":"5:1-2"}],"total":3}
+{"step":3,"node":2,"port":0,"far":1,"kind":"connect","level":0,"row":"Connect_core","fate":"done","marks":[[0,"asked"]],"set":{},"send":[],"total":3}
+{"step":4,"node":2,"port":0,"far":1,"kind":"initiate","level":1,"key":"5:1-2","row":"Initiate_enters","fate":"done","marks":[[0,"branch"]],"set":{"level":1,"name":"5:1-2","parent":0,"out":null},"send":[{"port":0,"to":1,"at":0,"kind":"report","key":null}],"total":4}
+{"step":5,"node":1,"port":0,"far":2,"kind":"report","key":null,"row":"Report_heard","fate":"done","marks":[],"set":{"phase":"rest","halted":true},"send":[],"total":4}
+"#;
+
+/// Node 2 enters: both its ports become Branch.
+const TRIANGLE_JSON_7: &str =
+    r#"{"step":7,"node":2,"port":0,"far":1,"kind":"initiate","level":1,"key":"1:1-2","row":"Initiate_enters","fate":"done","marks":[[0,"branch"],[1,"branch"]],"set":{"level":1,"name":"1:1-2","phase":"search","parent":0,"out":null},"send":[{"port":1,"to":3,"at":0,"kind":"initiate","level":1,"key":"1:1-2"}],"total":6}
+"#;
+
+/// A link is reported, and the root moves to it.
+const FOUR_JSON: &str =
+    r#"{"step":11,"node":2,"port":1,"far":3,"kind":"name","level":1,"key":"2:3-4","row":"Name_heard","fate":"done","marks":[],"set":{"phase":"rest","best":[1,"3:2-3"]},"send":[{"port":0,"to":1,"at":0,"kind":"report","key":"3:2-3"}],"total":10}
+{"step":12,"node":1,"port":0,"far":2,"kind":"report","key":"3:2-3","row":"Report_heard","fate":"done","marks":[],"set":{"phase":"rest","best":[0,"3:2-3"]},"send":[{"port":0,"to":2,"at":0,"kind":"changeroot"}],"total":11}
+{"step":13,"node":2,"port":0,"far":1,"kind":"changeroot","row":"Root_moves","fate":"done","marks":[],"set":{"out":1},"send":[{"port":1,"to":3,"at":1,"kind":"connect","level":1}],"total":12}
+"#;
+
 /// What is answered and written, of these events of this graph.
 fn steps_of(
     rt: &impl Abort,
@@ -76,15 +100,38 @@ fn steps_of(
     graph: &str,
     events: &[Event],
     choice: &Choice,
+    form: Form,
 ) -> (Result<(), StepsFault>, Vec<u8>) {
     let graph = graph_of_text(rt, alloc, graph);
     let mut written = Vec::new(alloc);
     let mut writer = Device::of(&mut written);
-    let answer = write_steps(alloc, graph, WakeSet::All, events, choice, &mut writer);
+    let answer = write_steps(
+        alloc,
+        graph,
+        WakeSet::All,
+        events,
+        choice,
+        form,
+        &mut writer,
+    );
     (answer, written)
 }
 
-/// The chosen lines of a run are these.
+/// The chosen lines of a run, in this form, are these.
+fn assert_lines_in(
+    rt: &impl Abort,
+    alloc: Global,
+    graph: &str,
+    events: &[Event],
+    choice: &Choice,
+    form: Form,
+    lines: &str,
+) {
+    let (answer, written) = steps_of(rt, alloc, graph, events, choice, form);
+    assert_eq!(rt; answer, Ok(()), "of {graph:?}");
+    assert_eq!(rt; written.as_slice(), lines.as_bytes(), "of {graph:?}");
+}
+
 fn assert_lines(
     rt: &impl Abort,
     alloc: Global,
@@ -93,14 +140,52 @@ fn assert_lines(
     choice: &Choice,
     lines: &str,
 ) {
-    let (answer, written) = steps_of(rt, alloc, graph, events, choice);
-    assert_eq!(rt; answer, Ok(()), "of {graph:?}");
-    assert_eq!(rt; written.as_slice(), lines.as_bytes(), "of {graph:?}");
+    assert_lines_in(rt, alloc, graph, events, choice, Form::Text, lines);
+}
+
+/// The objects of one event of a run and of those behind it, up to another, are these.
+fn assert_objects(
+    rt: &impl Abort,
+    alloc: Global,
+    graph: &str,
+    events: &[Event],
+    from: u64,
+    to: u64,
+    lines: &str,
+) {
+    let choice = Choice {
+        from,
+        to,
+        node: None,
+    };
+    assert_lines_in(rt, alloc, graph, events, &choice, Form::Json, lines);
+}
+
+/// The lines of all events of a run are these, and the net behind them has the run as its trace.
+fn assert_put(
+    rt: &impl Abort,
+    alloc: Global,
+    graph: &str,
+    events: &[Event],
+    form: Form,
+    lines: &str,
+) {
+    let graph = graph_of_text(rt, alloc, graph);
+    let world = match replay::<Boruvka>(alloc, graph, WakeSet::All, events) {
+        Ok(world) => world,
+        Err(_) => panic!(rt; "a run"),
+    };
+    // Read for its clause: the events are a run.
+    let _ = world.net();
+    let mut text = Vec::new(alloc);
+    let net = put_lines(alloc, world.into_graph(), events, form, &mut text).expect(rt, "memory");
+    assert_eq!(rt; net.trace(), events);
+    assert_eq!(rt; text.as_slice(), lines.as_bytes());
 }
 
 /// Events that aren't a run are refused, and nothing is written.
 fn assert_refused(rt: &impl Abort, alloc: Global, graph: &str, events: &[Event], first: u64) {
-    let (answer, written) = steps_of(rt, alloc, graph, events, &ALL);
+    let (answer, written) = steps_of(rt, alloc, graph, events, &ALL, Form::Text);
     assert_eq!(rt; answer, Err(StepsFault::NotLawful(first)), "of {graph:?}");
     assert!(rt; written.is_empty());
 }
@@ -148,6 +233,21 @@ fn two_pairs_that_join(rt: HostRuntime) {
 fn the_line_of_a_lone_node(rt: HostRuntime) {
     let line = "1 1 - - wake Wakes - phase=rest;halted=yes - 0\n";
     assert_lines(&rt, rt.alloc(), LONE_NODE, &[Event::Wake(1)], &ALL, line);
+}
+
+#[test]
+fn the_objects_of_runs(rt: HostRuntime) {
+    let alloc = rt.alloc();
+    assert_objects(&rt, alloc, PAIR, &PAIR_RUN, 1, 5, PAIR_JSON);
+    assert_objects(&rt, alloc, TRIANGLE, &TRIANGLE_RUN, 7, 7, TRIANGLE_JSON_7);
+    assert_objects(&rt, alloc, PATH_OF_FOUR, &FOUR_RUN, 11, 13, FOUR_JSON);
+}
+
+#[test]
+fn all_lines_of_a_run(rt: HostRuntime) {
+    let alloc = rt.alloc();
+    assert_put(&rt, alloc, PAIR, &PAIR_RUN, Form::Json, PAIR_JSON);
+    assert_put(&rt, alloc, PAIR, &PAIR_RUN, Form::Text, PAIR_LINES);
 }
 
 /// A node wakes once, and takes what waits.

@@ -6,7 +6,7 @@ pub returns-clause-text : goal.returns-clause-text
 returns-clause-text c =
     let s = c.args.net.now in
     let made = c.in_ok-effects.ensures in
-    c.in_ok-step_line.ensures
+    c.in_ok-put_line.ensures
     ∙ ap (λ t. c.args.text.now.items ++ t)
-    (line_is s.graph s.trace c.args.event c.make.new.net _ _ _ _ made.graph made.trace c.moment_at-moment.ensures
-    (c.as_slice.ensures.value ∙ made.changes) (c.as_slice-2.ensures.value ∙ made.sends) c.total.ensures)
+    (line_is c.args.form s.graph s.trace c.args.event c.make.new.net _ _ _ _ made.graph made.trace c.moment_at-moment.ensures
+    made.changes made.sends c.total.ensures)

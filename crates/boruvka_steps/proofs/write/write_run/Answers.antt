@@ -14,24 +14,24 @@ show-requires g c =
 
 pub returns-in-Err-show-clause-err : goal.returns-in-Err-show-clause-err
 returns-in-Err-show-clause-err g c =
-    front_of_lines _ _ c.args.graph c.args.choice.now c.args.events.now c.loop-event.event-index Memory
+    front_of_lines _ _ c.args.form c.args.graph c.args.choice.now c.args.events.now c.loop-event.event-index Memory
     (out_front _ _ _ _ _ c.loop-event.invariant.out)
 
 pub returns-in-Err-send_portion-clause-err : goal.returns-in-Err-send_portion-clause-err
 returns-in-Err-send_portion-clause-err g c =
     let inv = c.loop-event.invariant in
     let out =
-    out_next _ _ c.args.graph c.args.choice.now c.args.events.now c.loop-event.event-index _ (Wake 0) c.loop-event.net _ _ inv.graph inv.trace
-    c.loop-event-test.true inv.out c.in-Ok-show.ensures.text in
-    front_of_lines _ _ c.args.graph c.args.choice.now c.args.events.now (c.loop-event.event-index + 1) _
+    out_next c.args.form c.args.graph c.args.choice.now _ _ c.args.events.now c.loop-event.event-index _ (Wake 0) c.loop-event.net _ _
+    inv.graph inv.trace c.loop-event-test.true inv.out c.in-Ok-show.ensures.text in
+    front_of_lines _ _ c.args.form c.args.graph c.args.choice.now c.args.events.now (c.loop-event.event-index + 1) _
     (c.in-Err-send_portion.ensures.front _ _ out)
 
 pub loop-event-preserved : goal.loop-event-preserved
 loop-event-preserved g c =
     let inv = c.loop-event.invariant in
     let out =
-    out_next _ _ c.args.graph c.args.choice.now c.args.events.now c.loop-event.event-index _ (Wake 0) c.loop-event.net _ _ inv.graph inv.trace
-    c.loop-event-test.true inv.out c.in-Ok-show.ensures.text in
+    out_next c.args.form c.args.graph c.args.choice.now _ _ c.args.events.now c.loop-event.event-index _ (Wake 0) c.loop-event.net _ _
+    inv.graph inv.trace c.loop-event-test.true inv.out c.in-Ok-show.ensures.text in
     record {
       graph = c.in-Ok-show.ensures.graph ∙ inv.graph;
       trace = grown c.loop-event.net.trace c.show.new.net.trace c.args.events.now c.loop-event.event-index (Wake 0) inv.trace
@@ -49,5 +49,5 @@ returns-in-Ok-send_off-clause-ok g c =
 
 pub returns-clause-err : goal.returns-clause-err
 returns-clause-err g c =
-    front_of_lines _ _ c.args.graph c.args.choice.now c.args.events.now c.loop-event.event-index _
+    front_of_lines _ _ c.args.form c.args.graph c.args.choice.now c.args.events.now c.loop-event.event-index _
     (c.in-Err-send_off.ensures.front _ _ c.loop-event.invariant.out)

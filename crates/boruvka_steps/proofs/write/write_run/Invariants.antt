@@ -8,6 +8,8 @@ invariant-loop-event g l = record {
   graph : l.net.graph ≡ l.fn.graph;
   trace : l.net.trace ≡ take l.event-index l.events;
   sound : g.W.Sink.has_failed l.writer ≡ false;
-  out : IsOut (g.W.Sink.held l.fn.writer) (g.W.Sink.held l.writer) (lines l.fn.graph l.choice (take l.event-index l.events)) l.gone l.text.items;
+  out :
+      IsOut (g.W.Sink.held l.fn.writer) (g.W.Sink.held l.writer) (lines l.form l.fn.graph l.choice (take l.event-index l.events))
+      l.gone l.text.items;
   small : l.gone ≤ l.event-index * 2 ^ 64;
 }
