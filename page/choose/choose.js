@@ -137,10 +137,10 @@ const wording = (key, o) => {
   const [v, p] = placeOf(key), m = p === undefined ? null : queue(v, p)[0];
   return 'Node ' + v + (m ? ' takes ' + words(m) + ' from node ' + m.from : ' wakes') + (o.waits ? ', and would only put it back' : '');
 };
-const END = 'The run has ended: the Branch links are the minimum spanning forest.';
+const END = () => 'The run has ended: the ' + TREE() + ' links are the minimum spanning forest.';
 function offer() {
-  if (ended && at === G.to && !$('note').textContent) say(END);
-  else if (at < G.to && $('note').textContent === END) say('');
+  if (ended && at === G.to && !$('note').textContent) say(END());
+  else if (at < G.to && $('note').textContent === END()) say('');
   offered = timer || asking ? new Map() : offersAt(at);
   if ($('moving').checked) offered = new Map([...offered].filter(([, o]) => !o.waits));
   if (!offered.has(pointed)) pointed = null;
@@ -318,7 +318,8 @@ function boards() {
 }
 
 // ---- a hundred seeds of the graph at hand: what their runs come to
-const SEEDS = 100, MEASURES = [['first sends', l => l.sent.reduce((a, b) => a + b)], ['requeues', l => l.requeued], ['events', l => l.ledger], ...KINDS.map((k, i) => [NAMES[k], l => l.sent[i]])];
+const SEEDS = 100, MEASURES = [['first sends', l => l.sent.reduce((a, b) => a + b)], ['requeues', l => l.requeued], ['events', l => l.ledger]];
+const measures = () => MEASURES.concat(KINDS.map((k, i) => [NAMES[k], l => l.sent[i]]));
 const ledgerOf = text => { const i = text.lastIndexOf('{"ledger":'); return JSON.parse(text.slice(i, text.indexOf('\n', i))); };
 function hundred() {
   const patient = $('patient').checked, graph = graphText, found = [];
@@ -341,7 +342,7 @@ function printSeeds(found, patient) {
   const sends = found.map(MEASURES[0][1]), low = Math.min(...sends), counts = [];
   for (const x of sends) counts[x - low] = (counts[x - low] || 0) + 1;
   const most = Math.max(...counts.filter(x => x)), w = 560 / counts.length;
-  $('figures').innerHTML = '<p>Seeds 0 to ' + (SEEDS - 1) + ', ' + (patient ? 'patiently' : 'among all events') + '; the bound is ' + G.bound + ' first sends.</p><table><tr><th></th><th class="n">least</th><th class="n">mean</th><th class="n">greatest</th></tr>' + MEASURES.map(row).join('') + '</table>'
+  $('figures').innerHTML = '<p>Seeds 0 to ' + (SEEDS - 1) + ', ' + (patient ? 'patiently' : 'among all events') + '; the bound is ' + G.bound + ' first sends.</p><table><tr><th></th><th class="n">least</th><th class="n">mean</th><th class="n">greatest</th></tr>' + measures().map(row).join('') + '</table>'
     + '<p>How many runs have how many first sends, from ' + low + ' to ' + (low + counts.length - 1) + ':</p><svg width="560" height="90" role="img" aria-label="a bar for each number of first sends">' + Array.from(counts, (x, i) => x ? '<rect x="' + (i * w + .5).toFixed(1) + '" width="' + Math.max(1, w - 1).toFixed(1) + '" y="' + (90 - 88 * x / most).toFixed(1) + '" height="' + (88 * x / most).toFixed(1) + '"><title>' + (low + i) + ': ' + x + '</title></rect>' : '').join('') + '</svg>';
   $('figures').onclick = e => {
     if (!e.target.dataset.seed) return;

@@ -1,6 +1,7 @@
--- The data of a run: the network, the steps from the opening on, and the counts behind the last of them.
+-- The data of a run: the network, the words of the protocol, the steps from the opening on, and the counts behind the last of them.
 use Rattle.std.specs.Prelude.{ℕ, List, ◌++◌, codes, decimal, length}
 use Rattle.std.specs.List.{flat_map}
+use Rattle.ghs_data.specs.declared.protocol.TheConstants.{PROTOCOL}
 use Rattle.ghs_graph.specs.declared.key.Key.{Key}
 use Rattle.ghs_graph.specs.Graph.{Shape}
 use Rattle.ghs_protocol.specs.declared.event.Event.{Event}
@@ -64,11 +65,12 @@ counted_json events sent consumed requeued queued =
 abbrev pub ledger_json : Network → ℕ → Net → List ℕ
 ledger_json n events w = counted_json events w.sent w.consumed w.requeued (waiting n w)
 
--- the network, its links in key order, the steps of the events that are shown, and the counts behind them; the run has
--- so many events in all, and opens before one of them
+-- the network, the words of the protocol, the links in key order, the steps of the events that are shown, and the counts behind
+-- them; the run has so many events in all, and opens before one of them
 abbrev pub data_json : Shape → ℕ → ℕ → ℕ → List Event → List ℕ
 data_json g bound events from shown =
     head_json g bound events from (length shown)
+    ++ PROTOCOL.now
     ++ flat_map link_json g.keys
     ++ flat_map step_json (steps g shown)
     ++ ledger_json (network_of g) (length shown) (net_after g shown)

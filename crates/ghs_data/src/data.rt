@@ -7,6 +7,7 @@ ghost use Rattle.ghs_protocol.specs.Run.{IsRun};
 ghost use Rattle.ghs_steps.specs.Json.{next};
 ghost use Rattle.ghs_data.specs.Data.{counted_json, counts_json, data_json, events_members, head_json, kinds_members, ledger_json, link_json, network_members};
 
+use crate::protocol::PROTOCOL;
 use ghs_choices::form::Form;
 use ghs_core::event::Event;
 use ghs_core::ledger::Ledger;
@@ -18,7 +19,7 @@ use ghs_steps::json::{put_key_member, put_number_member, put_word_member};
 use ghs_steps::write::put_lines;
 use std::alloc::{AllocError, Global};
 
-/// The network, its links, the steps of the events that are shown, and the counts behind them. `events` is how many the
+/// The network, the words of the protocol, the links, the steps of the events that are shown, and the counts behind them. `events` is how many the
 /// whole run has, `from` the event before which it opens, counted from 1, and `bound` the bound on the network's messages.
 /// Refusal: out of memory.
 ///
@@ -42,14 +43,17 @@ pub fn data_of(
 {
     let mut text = Vec::new(alloc);
     put_head(&mut text, &graph, bound, events, from, shown.len() as u64)?;
+    text.extend_from_slice(PROTOCOL)?;
     put_links(&mut text, graph.keys())?;
     let net = put_lines(alloc, graph, shown, Form::Json, &mut text)?;
     put_ledger(&mut text, &net)?;
     Ok(text)
 }
 
+/// Appends the first line: how large the network is and the bound on its messages, how many events the run has, before which
+/// one it opens, and how many are shown.
 #[tactic(auto, unfolding(crate::specs::Data::head_json))]
-fn put_head(
+pub fn put_head(
     text: &mut Vec<u8>,
     graph: &Graph,
     bound: u64,
@@ -84,8 +88,8 @@ fn put_events(text: &mut Vec<u8>, events: u64, from: u64, to: u64) -> Result<(),
     put_count(text, b"to", to)
 }
 
-/// A line for each link.
-fn put_links(text: &mut Vec<u8>, keys: &[Key]) -> Result<(), AllocError>
+/// Appends a line for each link.
+pub fn put_links(text: &mut Vec<u8>, keys: &[Key]) -> Result<(), AllocError>
     ensures { IfOk result (λ _. text.new.items ≡ text.old.items ++ flat_map link_json keys.now) }
 {
     for key in keys {
@@ -151,7 +155,8 @@ fn put_counts(text: &mut Vec<u8>, counts: &[u64; 7]) -> Result<(), AllocError>
     text.extend_from_slice(b"]")
 }
 
-fn put_behind_comma(text: &mut Vec<u8>, count: u64) -> Result<(), AllocError>
+/// Appends a comma and a number.
+pub fn put_behind_comma(text: &mut Vec<u8>, count: u64) -> Result<(), AllocError>
     ensures { IfOk result (λ _. text.new.items ≡ text.old.items ++ codes "," ++ decimal count) }
 {
     text.extend_from_slice(b",")?;

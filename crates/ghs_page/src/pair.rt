@@ -177,7 +177,6 @@ function sameLooks() {
 }
 
 // ---- what the two have in common
-const KNOWN = ['level', 'name', 'phase', 'find_count', 'in_branch', 'probe', 'halted'];
 // the first event that is another one, or that only one of them has; 0 where there is none
 function parting() {
   const [a, b] = runs.map(run => run.see('steps'));
@@ -186,8 +185,8 @@ function parting() {
 }
 // the nodes that are not in the same state
 function differing() {
-  const [a, b] = runs.map(run => run.see('nodes')), out = [];
-  for (let v = 1; v < a.length; v++) if (KNOWN.some(x => a[v][x] !== b[v][x]) || String(a[v].best) !== String(b[v].best) || a[v].marks.some((m, j) => m !== b[v].marks[j])) out.push(v);
+  const [a, b] = runs.map(run => run.see('nodes')), known = Object.keys(runs[0].see('P').opening), out = [];
+  for (let v = 1; v < a.length; v++) if (known.some(x => a[v][x] !== b[v][x] && String(a[v][x]) !== String(b[v][x])) || a[v].marks.some((m, j) => m !== b[v].marks[j])) out.push(v);
   return out;
 }
 const tree = run => run.see("links.filter(branchy).map(l => l.link).join(' ')");
@@ -196,7 +195,7 @@ function verdict(nodes) {
   const differ = nodes.length ? nodes.length + ' of ' + runs[0].see('G.nodes') + (nodes.length > 1 ? ' nodes are' : ' nodes is') + ' in another state' + (nodes.length <= 12 ? ': ' + nodes.join(', ') : '') : 'every node is in the same state';
   if (!ends) return differ + '.';
   const [a, b] = runs.map(tree), weight = runs[0].see('links.filter(branchy).reduce((x, l) => x + l.weight, 0)'), cores = [...new Set(runs[0].see("nodes.filter(n => n && n.halted && n.name).map(n => n.name + ' at level ' + n.level)"))];
-  if (!whole || a !== b) return 'The last events that are shown' + (a === b ? ', and the same Branch links' : '') + ': ' + differ + '.';
+  if (!whole || a !== b) return 'The last events that are shown' + (a === b ? ', and the same ' + runs[0].see('TREE()') + ' links' : '') + ': ' + differ + '.';
   return 'Both have ended, in one tree: ' + (a ? a.split(' ').length : 0) + ' links of weight ' + weight + (cores.length ? ', the core' + (cores.length > 1 ? 's ' : ' ') + cores.slice(0, 4).join(', ') + (cores.length > 4 ? ' ..' : '') : '') + '; ' + differ + (nodes.length && runs.some(run => run.see('ledger.queued')) ? ', as messages are still on their way' : '') + '.';
 }
 const KINDS = () => runs[0].see('KINDS.map(k => [LETTER[k], NAMES[k]])');

@@ -66,8 +66,9 @@ svg text { fill: var(--ink); font-family: inherit; }
 .tiny .body { stroke-width: .9; }
 .tiny .node text, .tiny .node .stop { display: none; }
 .tiny .ring { stroke-width: .8 !important; }
-.half.branch { stroke: var(--ink); stroke-width: var(--thick, 5); }
-.half.rejected { stroke-dasharray: 5 5; }
+.half.asked { stroke: var(--ink); stroke-width: var(--thin, 1.8); stroke-dasharray: 9 3; }
+.half.tree { stroke: var(--ink); stroke-width: var(--thick, 5); }
+.half.closed { stroke-dasharray: 5 5; }
 .cross { fill: none; stroke: var(--ink); stroke-width: 1.8; }
 .core { fill: none; stroke: var(--paper); stroke-width: var(--thin, 1.8); }
 .halo { fill: none; stroke-linecap: round; stroke-width: var(--band, 12px); }
@@ -79,10 +80,10 @@ circle.halo.bx { fill: var(--line); }
 .sw { width: 1.5em; height: 1em; vertical-align: -.15em; margin-right: .3em; }
 .sw rect { stroke: var(--ink); stroke-width: 1.5; }
 .body { fill: var(--paper); stroke: var(--ink); stroke-width: 1.8; }
-.sleeping .body { stroke-dasharray: 3 3; stroke: var(--faint); }
-.sleeping text { fill: var(--dim); }
+.asleep .body { stroke-dasharray: 3 3; stroke: var(--faint); }
+.asleep text { fill: var(--dim); }
 .ring { display: none; fill: none; stroke: none; }
-.find .ring { display: inline; stroke: var(--ink); stroke-width: 1.8; }
+.searching .ring { display: inline; stroke: var(--ink); stroke-width: 1.8; }
 .stop { display: none; fill: none; stroke: none; }
 .halted .stop { display: inline; stroke: var(--ink); stroke-width: 3.5; }
 .at .body { stroke: var(--act); stroke-width: 5.5; stroke-dasharray: none; }
@@ -206,37 +207,29 @@ pub const TAIL: &[u8] = br##"</noembed>
 <script>
 'use strict';
 const $ = id => document.getElementById(id);
-const KINDS = ['connect', 'initiate', 'test', 'accept', 'reject', 'report', 'changeroot'];
-const KIND = Object.fromEntries(KINDS.map((k, i) => [k, i]));
-const NAMES = { connect: 'Connect', initiate: 'Initiate', test: 'Test', accept: 'Accept', reject: 'Reject', report: 'Report', changeroot: 'ChangeRoot' };
-const GROUPS = [['level', 'phase', 'halted'], ['find_count', 'in_branch', 'probe'], ['name'], ['best']];
-const LETTER = { connect: 'C', initiate: 'I', test: 'T', accept: 'A', reject: 'X', report: 'R', changeroot: 'G' };
-const VARS = ['level', 'name', 'phase', 'find_count', 'in_branch', 'best', 'probe', 'halted'];
-const ROWS = {
-  Wakes: 'The node wakes by itself. Its least link is a link of the tree, so it goes out over it.',
-  Wakes_alone: 'The node wakes, has no links, and halts.',
-  Woken_merges: 'The message wakes the node. Both ends have chosen the link: they merge to level 1, and the link is the core.',
-  Woken_connect_waits: 'The message wakes the node. It comes over a link that the node did not choose, so it waits.',
-  Woken_test_waits: 'The message wakes the node. The asking fragment is of a higher level, so the Test waits.',
-  Woken_accepts: 'The message wakes the node. It is in another fragment, so it accepts.',
-  Connect_absorbed: 'A fragment of a lower level is absorbed: its link becomes Branch, and it is told level, name and phase.',
-  Connect_waits: 'The fragment behind is not of a lower level, and this node has not chosen the link: the Connect waits.',
-  Connect_merges: 'Both ends have chosen the link. The two fragments merge to the next level, and the link is the core.',
-  Initiate_rests: 'A new level and name, and no search. The node passes it on.',
-  Initiate_searches: 'A new level and name. The node passes the search on and tests its least Basic link.',
-  Test_waits: 'The asking fragment is of a higher level than this node knows of its own: the Test waits.',
-  Test_accepted: 'Another name and a level at least as high: the link leads out of the asking fragment.',
-  Test_rejected: 'The same name: the link leads back into the fragment, and is no link of the tree.',
-  Tests_cross: 'Both ends test the link at once and have the same name. No answer is needed; the node tests its next link.',
-  Accept_heard: 'The tested link leads out. It is the best so far if it is less than what was heard before.',
-  Reject_heard: 'The tested link leads back into the fragment. The node tests its next link.',
-  Report_heard: 'A report from below. The lesser link is kept.',
-  Report_waits: 'The other end of the core has reported, but this node is still in search: the Report waits.',
-  Report_moves_root: 'This side of the core has the lesser link, so the root moves towards it.',
-  Root_moves: 'The root moves on towards the best link, or goes out over it.',
-  Report_halts: 'Neither side of the core has a link that leads out: the tree is whole.',
-  Report_passes: 'The other side of the core has the lesser link. That side goes on.',
-};
+// ---- the protocol, as the data tell of it: kinds of messages, marks, phases, variables, and what its rows are. The page has none of its own
+let P, KINDS, KIND, NAMES, LETTER, BITS, MARK, PHASE, THEN, PUTS;
+// a mark's look on its half of a link
+const SHOWN = ['open', 'tree', 'closed', 'asked'];
+function adopt(o) {
+  const by = (list, name, f) => Object.fromEntries(list.map((x, i) => [x[name], f(x, i)]));
+  P = o;
+  KINDS = o.kinds.map(k => k.kind);
+  KIND = by(o.kinds, 'kind', (_, i) => i);
+  NAMES = by(o.kinds, 'kind', k => k.name);
+  LETTER = by(o.kinds, 'kind', k => k.letter);
+  BITS = by(o.kinds, 'kind', k => k.bits);
+  MARK = by(o.marks, 'mark', m => ({ ...m, code: SHOWN.indexOf(m.look) }));
+  PHASE = by(o.phases, 'phase', x => x);
+  // what reasons of waiting tell of a node, and whether anything is ever put back
+  THEN = [...new Set([...Object.values(o.waits).join().matchAll(/{node\.(\w+)}/g)].map(x => x[1]))];
+  PUTS = Object.keys(o.waits).length > 0;
+  ledger = zero();
+  for (let v = 1; v <= G.nodes; v++) nodes[v] = { v, ports: [], marks: [], queues: [], ...o.opening };
+}
+const asleep = n => PHASE[n.phase].look === 'asleep';
+const filled = (text, f) => text.replace(/{(?:(\w+)\.)?(\w+)}/g, (_, of, x) => f(x, of));
+const TREE = () => P.marks.find(m => m.look === 'tree').name;
 const KEYS = [['left, right', 'one event back or on'], ['space', 'play, stop'], ['up, down', 'to the previous or next event of the sort chosen under "jump to"'],
   ['Page up, Page down', 'ten events'], ['Home, End', 'start, end'], ['n', 'pins the event\'s node, or lets it go'], ['[ and ]', 'pins the node before or after'],
   ['e', 'to an event\'s number'], ['/', 'search for a node'], ['q', 'asks before it shows what the next event does'], ['w', 'passes over events that only wait'], ['t', 'network, or space and time'], ['c', 'laid out by forces, or as a circle in the order of numbers'], ['d', 'dark, light'],
@@ -253,14 +246,12 @@ const queue = (v, p) => queueAt(v, p).list;
 let changed = new Set();
 // `back`: how many messages in queues were put back
 const zero = () => ({ sent: KINDS.map(() => 0), bits: KINDS.map(() => 0), consumed: KINDS.map(() => 0), requeued: 0, queued: 0, back: 0 });
-let ledger = zero();
-const ASLEEP = { level: 0, name: null, phase: 'sleeping', find_count: 0, in_branch: null, best: null, probe: null, halted: false };
-// a link knows the marks of both its ends
-const CODE = { basic: 0, branch: 1, rejected: 2 };
+let ledger;
+// a link knows the looks of the marks of both its ends
 function setMark(n, port, mark) {
   const l = links[n.ports[port].link];
   n.marks[port] = mark;
-  l.halves = 3 * CODE[nodes[l.a].marks[l.a_port]] + CODE[nodes[l.b].marks[l.b_port]];
+  l.halves = 4 * MARK[nodes[l.a].marks[l.a_port]].code + MARK[nodes[l.b].marks[l.b_port]].code;
 }
 function read(text) {
   // many lines at once: a page may have a hundred thousand
@@ -272,22 +263,21 @@ function read(text) {
   measure();
 }
 function readLine(o) {
-  if ('step' in o) steps.push(o);
+  if (!P && !('ghs' in o || 'protocol' in o)) throw Error('the data tell of no protocol');
+  if ('step' in o) { o.marks ??= o.mark ? [o.mark] : NOTHING; steps.push(o); }
   else if ('link' in o) {
     // links come in key order, and so do the ports of a node
     const i = links.push(o) - 1;
     o.a_port = nodes[o.a].ports.push({ link: i, far: o.b }) - 1;
     o.b_port = nodes[o.b].ports.push({ link: i, far: o.a }) - 1;
-    nodes[o.a].marks.push('basic');
-    nodes[o.b].marks.push('basic');
+    nodes[o.a].marks.push(P.marks[0].mark);
+    nodes[o.b].marks.push(P.marks[0].mark);
     o.halves = 0;
   } else if ('ledger' in o) ledgerEnd = o;
-  else if ('ghs' in o) {
-    G = o;
-    for (let v = 1; v <= o.nodes; v++) nodes[v] = { v, ports: [], marks: [], queues: [], ...ASLEEP };
-  }
+  else if ('protocol' in o) adopt(o);
+  else if ('ghs' in o) G = o;
 }
-// how many bits a message has: 3 for its kind, those of its level and its key, one for a phase, one for whether a Report has a key
+// how many bits a message has: those of its kind, and of its level and its key
 const width = n => n.toString(2).length;
 let widths;
 function measure() {
@@ -295,7 +285,7 @@ function measure() {
   const number = width(G.nodes), weight = width(links.length ? links[links.length - 1].weight : 0);
   widths = { number, weight, level: width(number - 1), key: 2 * number + weight };
 }
-const lengthOf = m => 3 + (m.level === undefined ? 0 : widths.level) + (m.key ? widths.key : 0) + (m.kind === 'initiate' || m.kind === 'report' ? 1 : 0);
+const lengthOf = m => BITS[m.kind] + (m.level === undefined ? 0 : widths.level) + (m.key ? widths.key : 0);
 const message = (m, born, from, to, at) => ({ kind: m.kind, level: m.level, key: m.key, phase: m.phase, bits: lengthOf(m), born, from, to, at, takes: NOTHING, backs: 0, done: 0, number: 0 });
 
 // ---- one step on, one step back. Every value is one that the step carries; what it replaces is kept.
@@ -303,17 +293,17 @@ let at, undo = [];
 const NONE = {}, NOTHING = [];
 const tally = (m, d) => { const k = KIND[m.kind]; ledger.sent[k] += d; ledger.bits[k] += d * m.bits; ledger.queued += d; };
 function on() {
-  const s = steps[at], n = nodes[s.node], u = undo[at] = undo[at] || { set: NONE, sent: s.send.length ? s.send.map(x => message(x, s.step, s.node, x.to, x.at)) : NOTHING, taken: undefined, mark: undefined, number: 0, then: undefined };
+  const s = steps[at], n = nodes[s.node], u = undo[at] = undo[at] || { set: NONE, sent: s.send.length ? s.send.map(x => message(x, s.step, s.node, x.to, x.at)) : NOTHING, taken: undefined, marks: NOTHING, number: 0, then: undefined };
   if (s.port !== null) {
     const q = queueAt(s.node, s.port), m = u.taken = q.list.shift();
     if (!m || m.kind !== s.kind || m.level !== s.level || m.key !== s.key) throw Error('event ' + s.step + ' takes a message that is not first in its queue');
     changed.add(q);
     if (s.fate === 'waits') { q.list.push(m); if (!m.backs++) ledger.back++; ledger.requeued++; } else { ledger.consumed[KIND[m.kind]]++; ledger.queued--; if (m.backs) ledger.back--; }
   }
-  if (s.mark) { u.mark = n.marks[s.mark[0]]; setMark(n, ...s.mark); }
+  if (s.marks.length) { u.marks = s.marks.map(([p]) => n.marks[p]); for (const m of s.marks) setMark(n, ...m); }
   for (const x in s.set) { if (u.set === NONE) u.set = {}; u.set[x] = n[x]; n[x] = s.set[x]; }
   for (const m of u.sent) { const q = queueAt(m.to, m.at); q.list.push(m); changed.add(q); tally(m, 1); }
-  if (s.fate === 'waits' && !u.then) u.then = { level: n.level, phase: n.phase, mark: n.marks[s.port], find_count: n.find_count, probe: n.probe };
+  if (s.fate === 'waits' && !u.then) { u.then = {}; for (const x of THEN) u.then[x] = x === 'mark' ? n.marks[s.port] : n[x]; }
   at++;
 }
 function off() {
@@ -321,7 +311,7 @@ function off() {
   const s = steps[at], n = nodes[s.node], u = undo[at];
   for (let k = u.sent.length; k--;) { const m = u.sent[k], q = queueAt(m.to, m.at); q.list.pop(); changed.add(q); tally(m, -1); }
   for (const x in u.set) n[x] = u.set[x];
-  if (s.mark) setMark(n, s.mark[0], u.mark);
+  s.marks.forEach(([p], i) => setMark(n, p, u.marks[i]));
   if (s.port !== null) {
     const q = queueAt(s.node, s.port), m = u.taken;
     if (s.fate === 'waits') { q.list.pop(); if (!--m.backs) ledger.back--; ledger.requeued--; } else { ledger.consumed[KIND[m.kind]]--; ledger.queued++; if (m.backs) ledger.back++; }
@@ -331,7 +321,7 @@ function off() {
 }
 // the opening at once, where that is nearer than all the steps back
 function rewind() {
-  for (const n of nodes) if (n) { Object.assign(n, ASLEEP); n.marks.fill('basic'); }
+  for (const n of nodes) if (n) { Object.assign(n, P.opening); n.marks.fill(P.marks[0].mark); }
   for (const l of links) l.halves = 0;
   for (const q of queues.values()) { q.list.length = 0; changed.add(q); }
   for (const u of undo) for (const m of u.sent) m.backs = 0;
@@ -342,24 +332,17 @@ function goto(k) { k = Math.max(0, Math.min(G.to, k)); if (at > 2 * k + 1000) re
 const stepNow = () => steps[at - 1];
 const undoNow = () => undo[at - 1];
 
-// ---- why a message waits: the reason that its last step gives, with the numbers of message and node at that event
-const REASON = {
-  Connect_waits: (m, n) => 'Connect of level ' + m.level + ' at a node of level ' + n.level + ', whose mark of the link is ' + cap(n.mark),
-  Test_waits: (m, n) => 'Test of level ' + m.level + ' at a node of level ' + n.level,
-  Report_waits: (m, n) => 'Report from the other end of the core at a node in ' + cap(n.phase) + ', with find_count ' + n.find_count + ' and probe ' + (n.probe ?? '-'),
-};
-REASON.Woken_connect_waits = REASON.Connect_waits;
-REASON.Woken_test_waits = REASON.Test_waits;
+// ---- why a message waits: the reason of its last step, with the numbers of message and node at that event
 const lastBack = m => m.takes[m.backs - 1];
-const reasonOf = m => { const k = lastBack(m) - 1, row = steps[k].row; return REASON[row] ? REASON[row](m, undo[k].then) : row; };
+const reasonOf = m => { const k = lastBack(m) - 1, row = steps[k].row; return filled(P.waits[row] ?? row, (x, of) => value(x, of === 'node' ? undo[k].then[x] : m[x])); };
 const listed = list => (list.length > 6 ? (list.length - 6) + ' before and ' : '') + list.slice(-6).join(', ');
 const backsOf = m => 'put back by event' + (m.backs > 1 ? 's ' : ' ') + listed(m.takes.slice(0, m.backs));
 const bornOf = m => words(m) + ' from node ' + m.from + ' to node ' + m.to + ', sent by event ' + m.born + ', number ' + m.number + ' of its chain, ' + m.bits + ' bits';
 const storyOf = m => bornOf(m) + (m.backs ? '; ' + backsOf(m) + ': ' + reasonOf(m) : '') + '.';
 
 // ---- what the page adds: components of joined links, and curves over the whole run
-const joined = l => l.halves === 4;
-const branchy = l => l.halves === 4 || l.halves % 3 === 1 || l.halves - l.halves % 3 === 3;
+const joined = l => l.halves === 5;
+const branchy = l => l.halves >> 2 === 1 || (l.halves & 3) === 1;
 function classes(n, pairs) {
   const up = Array.from({ length: n + 1 }, (_, i) => i);
   const top = x => { while (up[x] !== x) x = up[x] = up[up[x]]; return x; };
@@ -413,7 +396,7 @@ function survey() {
   curve.push(count, 0, 0, 0);
   before.push(0, 0);
   for (const s of steps) {
-    const slept = nodes[s.node].phase === 'sleeping';
+    const slept = asleep(nodes[s.node]);
     on();
     const u = undoNow(), i = s.step, n = nodes[s.node];
     if (s.port !== null && n.ports[s.port].far !== s.far) throw Error('event ' + i + ' comes from node ' + s.far + ', to which its port does not lead');
@@ -426,7 +409,7 @@ function survey() {
     if (!idle(s)) doings[s.node].push(i);
     lastAt[s.node] = i;
     if (s.set.name) { if (!look.has(s.set.name)) look.set(s.set.name, 0); for (const p of n.ports) clash(n.name, nodes[p.far].name); }
-    if (s.mark && s.mark[1] === 'branch') { const l = links[n.ports[s.mark[0]].link]; if (joined(l)) join(l); }
+    for (const [p] of s.marks) { const l = links[n.ports[p].link]; if (joined(l)) join(l); }
     if (s.set.level < u.set.level) { const r = root[s.node]; head[r] = 0; bands(r, members[r]); }
     else if (s.set.name || s.set.level) bands(root[s.node], [s.node]);
     curve.push(count, s.total, longest, most);
@@ -676,7 +659,11 @@ const wayOf = (i, half = 0) => {
   const p = pos[links[i].a], q = pos[links[i].b], c = ctrl(i), m = half ? curveAt(i, .5) : p, [x, y, z] = half ? half < 2 ? [p, mix(p, c, .5), m] : [m, mix(c, q, .5), q] : [p, c, q];
   return 'M' + f1(x) + (bend[i] ? 'Q' + f1(y) + ' ' : 'L') + f1(z);
 };
-const EXTRA = { b: ['', d => wayOf(d.i, 2)], halo: ['halos', d => wayOf(d.i)], core: ['cores', d => wayOf(d.i)], xa: ['links', d => crossAt(d.i, links[d.i].a)], xb: ['links', d => crossAt(d.i, links[d.i].b)] };
+// a bar across the link, where it has been asked for
+const barAt = (i, v) => { const a = v === links[i].a, [x, y] = curveAt(i, a ? .3 : .7), q = curveAt(i, .5), r = Math.max(radius < 8 ? 2 : 4, radius * .35) / (Math.hypot(q[0] - x, q[1] - y) || 1), u = (y - q[1]) * r, w = (q[0] - x) * r; return 'M' + f1([x - u, y - w]) + 'L' + f1([x + u, y + w]); };
+const ENDS = { x: [crossAt, 'closed'], t: [barAt, 'asked'] };
+const EXTRA = { b: ['', d => wayOf(d.i, 2)], halo: ['halos', d => wayOf(d.i)], core: ['cores', d => wayOf(d.i)] };
+for (const c in ENDS) for (const end of 'ab') EXTRA[c + end] = ['links', d => ENDS[c][0](d.i, links[d.i][end])];
 function extra(d, name, cls) {
   if (!d[name]) { if (!cls) return; d[name] = el('path', { d: EXTRA[name][1](d) }, $(EXTRA[name][0]) || d.g); }
   put(d[name], 'visibility', cls ? 'visible' : 'hidden');
@@ -783,9 +770,12 @@ function pills(i, to, port, list) {
   });
   return html;
 }
-const short = m => big ? (m.kind === 'changeroot' ? 'Root' : m.kind === 'initiate' ? 'Init' : NAMES[m.kind]) + (m.level !== undefined ? ' ' + m.level : m.kind === 'report' ? (m.key ? ' ' + m.key.split(':')[0] : ' inf') : '') : LETTER[m.kind];
+const short = m => {
+  const k = P.kinds[KIND[m.kind]];
+  return big ? k.short + (m.level !== undefined ? ' ' + m.level : k.none ? ' ' + (m.key ? m.key.split(':')[0] : k.none[1]) : '') : k.letter;
+};
 const bandOf = f => f.band ??= f.name ? 'b' + (look.get(f.name) ?? 0) : 'bx';
-const stateOf = v => { const n = nodes[v]; return 'node ' + v + ': level ' + n.level + ', name ' + (n.name ?? '-') + ', ' + cap(n.phase) + (n.halted ? ', halted' : '') + (pin === v ? ', pinned' : ''); };
+const stateOf = v => { const n = nodes[v]; return 'node ' + v + ': level ' + n.level + ', name ' + (n.name ?? '-') + ', ' + PHASE[n.phase].name + (n.halted ? ', halted' : '') + (pin === v ? ', pinned' : ''); };
 function drawNet(c) {
   if (shaped !== zoom.k) shape();
   const s = stepNow(), frag = v => c.of[v], names = new Map([...c.all.values()].filter(f => f.name).map(f => [f.name, f]));
@@ -795,17 +785,16 @@ function drawNet(c) {
     const d = drawn[i], j = joined(l), f = frag(l.a), isCore = j && f.name === l.link, band = j ? bandOf(f) : '';
     // what looks as before isn't touched
     if (!d.sig || d.halves !== l.halves || d.isCore !== isCore || d.band !== band) {
-      const a = nodes[l.a].marks[l.a_port], b = nodes[l.b].marks[l.b_port];
+      const a = SHOWN[l.halves >> 2], b = SHOWN[l.halves & 3];
       d.sig = 1; d.halves = l.halves; d.isCore = isCore; d.band = band;
       // one line where its halves look alike; dashes begin at each end
-      const parted = a !== b || a === 'rejected';
+      const parted = a !== b || l.halves > 5;
       if (d.parted !== parted) { d.parted = parted; put(d.a, 'd', wayOf(i, parted ? 1 : 0)); }
       put(d.a, 'class', 'half ' + a);
       extra(d, 'b', parted && 'half ' + b);
       extra(d, 'halo', j && 'halo ' + bandOf(f));
       extra(d, 'core', isCore && 'core');
-      extra(d, 'xa', a === 'rejected' && 'cross');
-      extra(d, 'xb', b === 'rejected' && 'cross');
+      for (const c in ENDS) { extra(d, c + 'a', a === ENDS[c][1] && 'cross'); extra(d, c + 'b', b === ENDS[c][1] && 'cross'); }
     }
     if (j && names.get(l.link) && radius >= LEGIBLE) html += coreTag(l, i, s, names.get(l.link), size);
   });
@@ -814,14 +803,14 @@ function drawNet(c) {
     const n = nodes[v], f = frag(v), mine = (s && s.node === v ? 1 : 0) + (pin === v ? 2 : 0) + (v === focus ? 4 : 0) + (n.halted ? 8 : 0) + (f.nodes > 1 ? 16 : 0), o = n.sig;
     if (o && o.phase === n.phase && o.level === n.level && o.name === n.name && o.of === f.name && o.mine === mine) continue;
     n.sig = { phase: n.phase, level: n.level, name: n.name, of: f.name, mine };
-    if (n.phase === 'find' && !n.ring) { n.body.before(n.ring = el('circle', { class: 'ring' })); shapeRing(n); }
-    put(n.g, 'class', 'node ' + n.phase + (n.name ? ' named s' + (look.get(n.name) ?? 0) : '') + (n.halted ? ' halted' : '') + (s && s.node === v ? ' at' : '') + (pin === v ? ' pinned' : ''));
+    if (PHASE[n.phase].look === 'searching' && !n.ring) { n.body.before(n.ring = el('circle', { class: 'ring' })); shapeRing(n); }
+    put(n.g, 'class', 'node ' + PHASE[n.phase].look + (n.name ? ' named s' + (look.get(n.name) ?? 0) : '') + (n.halted ? ' halted' : '') + (s && s.node === v ? ' at' : '') + (pin === v ? ' pinned' : ''));
     put(n.g, 'aria-label', stateOf(v));
     put(n.g, 'tabindex', v === focus ? '0' : '-1');
     put(n.halo, 'class', 'halo ' + bandOf(f));
     put(n.halo, 'visibility', f.nodes > 1 ? 'visible' : 'hidden');
     if (radius < LEGIBLE) continue;
-    const t = n.phase === 'sleeping' ? '' : (big ? 'L' : '') + n.level;
+    const t = asleep(n) ? '' : (big ? 'L' : '') + n.level;
     if (n.lev.textContent !== t) n.lev.textContent = t;
     if (t) put(n.lev, 'transform', n.halted ? 'translate(' + n.corner[0] * 6 + ' ' + n.corner[1] * 5 + ')' : '');
   }
@@ -919,14 +908,15 @@ function drawTime() {
   $('lanes').setAttribute('width', Math.max(W - 14, edgeR + 8));
   $('lanes').setAttribute('height', H);
   $('lanes').innerHTML = h;
-  $('legend').innerHTML = '<span>filled, thick: could have acted on event ' + at + ' (' + past.size + ' events); hollow: could not</span><span>small: the message waits (dotted)</span><span>' + KINDS.map(k => LETTER[k] + ' ' + NAMES[k]).join(', ') + '</span>';
+  $('legend').innerHTML = '<span>filled, thick: could have acted on event ' + at + ' (' + past.size + ' events); hollow: could not</span>' + (PUTS ? '<span>small: the message waits (dotted)</span>' : '') + letters();
 }
 
 // ---- words and tables
 const cap = x => x[0].toUpperCase() + x.slice(1);
-const words = m => NAMES[m.kind] + (m.kind === 'report' ? '(' + (m.key ?? 'infinity') + ')' : m.level === undefined ? '' : '(' + [m.level, m.key, m.phase && cap(m.phase)].filter(x => x !== undefined).join(', ') + ')');
-const value = (x, y) => y === null || y === undefined ? '-' : x === 'best' ? y[0] + ': ' + y[1] : x === 'phase' ? cap(y) : x === 'halted' ? (y ? 'yes' : 'no') : String(y);
-const idle = s => s.fate === 'waits' && !s.mark && !s.send.length;
+const words = m => { const k = P.kinds[KIND[m.kind]]; return k.name + (k.has.length ? '(' + k.has.map(x => x === 'key' ? m.key ?? k.none[0] : value(x, m[x])).join(', ') + ')' : ''); };
+const value = (x, y) => y === null || y === undefined ? '-' : Array.isArray(y) ? y[0] + ': ' + y[1] : x === 'phase' ? PHASE[y].name : x === 'mark' ? MARK[y].name : y === true ? 'yes' : y === false ? 'no' : String(y);
+const letters = () => '<span>' + KINDS.map(k => LETTER[k] + ' ' + NAMES[k]).join(', ') + '</span>';
+const idle = s => s.fate === 'waits' && !s.marks.length && !s.send.length;
 const td = (x, c) => '<td' + (c ? ' class="' + c + '"' : '') + '>' + x + '</td>';
 const opens = s => 'Node <b>' + s.node + '</b> ' + (s.port === null ? 'wakes by itself.' : 'takes <b>' + words(s) + '</b> from node <b>' + s.far + '</b> at port ' + s.port + '.');
 // what is read out: the event in one line
@@ -935,19 +925,19 @@ function live(s) {
   if ($('live').textContent !== text) $('live').textContent = text;
 }
 // ask first: the next event, and neither its row nor what it does; then what was guessed beside what is so
-const FATE = { done: 'consumed', waits: 'put back' }, MARKS = ['none', 'branch', 'rejected'];
+const FATE = { done: 'consumed', waits: 'put back' };
 let asking = false, guess = null;
-const markOf = s => s.mark ? s.mark[1] : 'none';
+const marksOf = s => s.marks.length ? [...new Set(s.marks.map(m => m[1]))] : ['none'];
 const choice = (part, value, text) => '<button data-part="' + part + '" data-value="' + value + '" aria-pressed="' + (guess[part] === value) + '">' + text + '</button>';
 function question(s) {
-  return '<div class="ask"><p class="say">Event ' + s.step + ': ' + opens(s) + '</p>' + (s.fate ? '<p>Is the message consumed, or put back? ' + Object.keys(FATE).map(x => choice('fate', x, FATE[x])).join('') + '</p>' : '')
-    + '<p>Which mark does a port of the node get? ' + MARKS.map(x => choice('mark', x, x === 'none' ? 'no change' : cap(x))).join('') + '</p><p><button data-part="show">Show it</button> (right arrow)</p></div>';
+  return '<div class="ask"><p class="say">Event ' + s.step + ': ' + opens(s) + '</p>' + (s.fate && PUTS ? '<p>Is the message consumed, or put back? ' + Object.keys(FATE).map(x => choice('fate', x, FATE[x])).join('') + '</p>' : '')
+    + '<p>Which mark does a port of the node get? ' + choice('mark', 'none', 'no change') + P.marks.slice(1).map(m => choice('mark', m.mark, m.name)).join('') + '</p><p><button data-part="show">Show it</button> (right arrow)</p></div>';
 }
 function verdict(s) {
   if (!guess || guess.step !== s.step) return '';
   const told = [];
   if (guess.fate && s.fate) told.push(FATE[guess.fate] + (guess.fate === s.fate ? ': right' : ': no, ' + FATE[s.fate]));
-  if (guess.mark) told.push('mark ' + guess.mark + (guess.mark === markOf(s) ? ': right' : ': no, ' + markOf(s)));
+  if (guess.mark) told.push('mark ' + guess.mark + (marksOf(s).includes(guess.mark) ? ': right' : ': no, ' + marksOf(s).join(' and ')));
   return told.length ? '<p class="verdict">Your guess, ' + told.join('; ') + '.</p>' : '';
 }
 function choose(e) {
@@ -959,7 +949,7 @@ function choose(e) {
 const tables = {}, table = (id, html) => { if (tables[id] !== html) $(id).innerHTML = tables[id] = html; };
 let pin = 0;
 const pinned = () => pin;
-const LENGTHS = () => 'In bits; each message counts once, as it is sent. It has 3 bits for its kind, ' + widths.level + ' for a level and ' + widths.key + ' for a key, which is two nodes of ' + widths.number + ' and a weight of ' + widths.weight + '. An Initiate has one more for its phase, a Report one for whether it has a key.';
+const LENGTHS = () => 'In bits; each message counts once, as it is sent. ' + filled(P.lengths, x => widths[x]);
 function panel(c) {
   const s = stepNow(), u = s && undoNow();
   $('count').textContent = 'of ' + G.events;
@@ -967,13 +957,13 @@ function panel(c) {
   if (document.activeElement !== $('goto')) $('goto').value = at;
   live(s);
   if (asking) $('say').innerHTML = question(steps[at]);
-  else if (!s) $('say').innerHTML = '<p class="say">' + 'All nodes sleep, all marks are Basic, and nothing is on its way.' + '</p>';
+  else if (!s) $('say').innerHTML = '<p class="say">' + 'All nodes sleep, all marks are ' + P.marks[0].name + ', and nothing is on its way.' + '</p>';
   else {
     let h = verdict(s) + '<p class="say">' + opens(s) + '</p>';
-    h += '<p><span class="row">' + s.row + '</span>. ' + (ROWS[s.row] || '') + (s.fate === 'waits' ? ' <b class="why">' + reasonOf(u.taken) + '.</b>' : '') + '</p>';
-    const ch = [];
-    if (s.mark) ch.push('port ' + s.mark[0] + ': <span class="old">' + cap(u.mark) + '</span> &rarr; <b>' + cap(s.mark[1]) + '</b>');
-    for (const x in s.set) ch.push(x + ': <span class="old">' + value(x, u.set[x]) + '</span> &rarr; <b>' + value(x, s.set[x]) + '</b>');
+    h += '<p><span class="row">' + s.row + '</span>. ' + (P.rows[s.row] || '') + (s.fate === 'waits' ? ' <b class="why">' + reasonOf(u.taken) + '.</b>' : '') + '</p>';
+    const ch = [], change = (what, x, old, now) => ch.push(what + ': <span class="old">' + value(x, old) + '</span> &rarr; <b>' + value(x, now) + '</b>');
+    s.marks.forEach(([p, m], i) => change('port ' + p, 'mark', u.marks[i], m));
+    for (const x in s.set) change(x, x, u.set[x], s.set[x]);
     if (!idle(s)) h += '<p>' + (ch.length ? ch.join('; ') + '.' : 'Nothing changes at the node.') + '</p>';
     h += s.send.map((x, i) => '<p>Sends <b>' + words(x) + '</b>, ' + u.sent[i].bits + ' bits, to node ' + x.to + ' on port ' + x.port + '.</p>').join('');
     if (s.fate === 'waits') h += '<p>The message goes to the end of its queue' + (queue(s.node, s.port).length > 1 ? ', behind ' + (queue(s.node, s.port).length - 1) + ' more' : '') + '. It was sent by event ' + u.taken.born + ', and ' + backsOf(u.taken) + '.</p>';
@@ -984,11 +974,11 @@ function panel(c) {
   $('pinned').textContent = pin ? 'pinned (n lets go)' : 'the event\'s';
   if (document.activeElement !== $('pick')) $('pick').value = v;
   const cell = (x, _, row) => '<th>' + x + '</th><td' + (row.length === 1 ? ' colspan="5"' : '') + (mine && x in s.set ? ' class="new"' : '') + '>' + value(x, n[x]) + '</td>';
-  let h = '<table>' + GROUPS.map(row => '<tr>' + row.map(cell).join('') + '</tr>').join('') + '</table>';
+  let h = '<table>' + P.variables.map(row => '<tr>' + row.map(cell).join('') + '</tr>').join('') + '</table>';
   h += '<table><tr><th class="n">port</th><th>to</th><th>key</th><th>mark</th><th>waiting</th></tr>';
   n.ports.forEach((p, j) => {
     const q = queue(v, j).map(m => '<span class="pill' + (m.backs ? ' back' : '') + '">' + LETTER[m.kind] + '</span>').join(' ');
-    if (n.ports.length <= 12 || n.marks[j] !== 'basic' || q || j === n.probe) h += '<tr' + (mine && s.mark && s.mark[0] === j ? ' class="new"' : '') + '>' + td(j, 'n') + td(p.far) + td(links[p.link].link) + td(cap(n.marks[j])) + td(q) + '</tr>';
+    if (n.ports.length <= 12 || n.marks[j] !== P.marks[0].mark || q || P.ports.some(x => n[x] === j)) h += '<tr' + (mine && s.marks.some(m => m[0] === j) ? ' class="new"' : '') + '>' + td(j, 'n') + td(p.far) + td(links[p.link].link) + td(value('mark', n.marks[j])) + td(q) + '</tr>';
   });
   h += '</table>';
   n.ports.forEach((_, j) => { for (const m of queue(v, j)) if (m.backs) h += '<p class="waiter">' + storyOf(m) + '</p>'; });
@@ -996,10 +986,10 @@ function panel(c) {
   const sum = list => list.reduce((a, b) => a + b), total = sum(ledger.sent), max = G.bound, ems = .64 * (8 + sum(ledger.bits.map(x => Math.max(2, String(x).length)))) + 2.6;
   h = '<div class="bar" role="img" aria-label="' + total + ' of ' + max + '"><i style="width:' + (max ? 100 * total / max : 0) + '%"></i></div><p>first sends <b>' + total + '</b>, bound ' + max + '; <span id="bits" title="' + LENGTHS() + '">bits <b>' + sum(ledger.bits) + '</b></span></p><table class="wide" style="--ems:' + ems + '"><tr><th></th>' + KINDS.map(k => '<th class="n" title="' + NAMES[k] + '"><span class="pill">' + LETTER[k] + '</span></th>').join('') + '</tr>';
   for (const x of ['sent', 'bits', 'consumed']) h += '<tr><th>' + x + '</th>' + ledger[x].map(y => td(y, 'n')).join('') + '</tr>';
-  table('ledger', h + '</table><p>in queues <b>' + ledger.queued + '</b>, of these put back <b>' + ledger.back + '</b>; requeued <b>' + ledger.requeued + '</b></p><p>longest: <span id="chain" title="A message goes out with one more than its sender\'s number; who consumes it, or is woken by it, takes the greater of the two.">chain <b>' + figures(at)[2] + '</b> (at the end ' + figures(G.to)[2] + ')</span>, <span id="long" title="' + LENGTHS() + '">message <b>' + figures(at)[3] + '</b> bits</span></p>');
+  table('ledger', h + '</table><p>in queues <b>' + ledger.queued + '</b>' + (PUTS ? ', of these put back <b>' + ledger.back + '</b>; requeued <b>' + ledger.requeued + '</b>' : '') + '</p><p>longest: <span id="chain" title="A message goes out with one more than its sender\'s number; who consumes it, or is woken by it, takes the greater of the two.">chain <b>' + figures(at)[2] + '</b> (at the end ' + figures(G.to)[2] + ')</span>, <span id="long" title="' + LENGTHS() + '">message <b>' + figures(at)[3] + '</b> bits</span></p>');
   const fr = [...c.all.values()].sort((a, b) => b.nodes - a.nodes || a.least - b.least), many = fr.filter(f => f.nodes > 1);
   const tree = links.filter(branchy), halts = nodes.filter(x => x && x.halted).map(x => x.v);
-    h = '<p><b>' + fr.length + '</b> of ' + G.nodes + ' at the start; Branch links ' + tree.length + ', weight ' + tree.reduce((a, l) => a + l.weight, 0) + (halts.length ? '; <b>halted: ' + halts.slice(0, 9).join(', ') + '</b>' : '') + '</p>';
+    h = '<p><b>' + fr.length + '</b> of ' + G.nodes + ' at the start; ' + TREE() + ' links ' + tree.length + ', weight ' + tree.reduce((a, l) => a + l.weight, 0) + (halts.length ? '; <b>halted: ' + halts.slice(0, 9).join(', ') + '</b>' : '') + '</p>';
   h += '<table><tr><th class="n">level</th><th class="n">nodes</th><th class="n">least</th><th>name (core)</th></tr>' + many.slice(0, 12).map(f => '<tr>' + td(f.level, 'n') + td(f.nodes, 'n') + td(f.least, 'n') + td('<svg class="sw s' + (look.get(f.name) ?? 'x') + '"><rect width="100%" height="100%"' + (f.name ? '' : ' fill="none"') + '/></svg>' + (f.name ?? '-')) + '</tr>').join('') + '</table>';
   h += '<p>' + (many.length > 12 ? (many.length - 12) + ' more, ' : '') + (fr.length - many.length) + ' single nodes</p>';
   table('census', h);
@@ -1036,8 +1026,11 @@ function cursor() {
 }
 const LEGEND = () => {
   const s = (w, body) => '<span><svg width="' + w + '" height="18" viewBox="0 0 ' + w + ' 18">' + body + '</svg>', c = (cls, more = '') => '<g class="' + cls + '" transform="translate(12 9)" ><circle class="ring" r="8"/><circle class="body" r="6"/>' + more + '</g>', l = cls => '<path class="' + cls + '" d="M2 9H30"/>';
-  return s(24, c('sleeping')) + 'sleeps</span>' + s(24, c('found')) + 'Found</span>' + s(24, c('find')) + 'Find (in search)</span>' + s(24, c('found halted', '<rect class="stop" x="-8" y="-8" width="16" height="16"/>')) + 'halted</span>'
-    + s(32, l('half')) + 'Basic</span>' + s(32, '<path class="half" d="M2 9H30"/><path class="half branch" d="M2 9H16"/>') + 'Branch at one end</span>' + s(32, l('half branch')) + 'joined</span>' + s(32, l('half branch') + '<path class="core" d="M2 9H30"/>') + 'core</span>' + s(32, '<path class="half rejected" d="M2 9H30"/><path class="cross" d="M12 5l8 8m0 -8l-8 8"/>') + 'Rejected</span>' + s(30, '<g class="msg back"><path d="M4 3H20L26 9L20 15H4Z"/></g>') + 'put back, waits</span><span>' + KINDS.map(k => LETTER[k] + ' ' + NAMES[k]).join(', ') + '</span>';
+  const half = cls => '<path class="half" d="M2 9H30"/><path class="half ' + cls + '" d="M2 9H16"/>';
+  return P.phases.map(x => s(24, c(x.look)) + x.legend + '</span>').join('') + s(24, c('halted', '<rect class="stop" x="-8" y="-8" width="16" height="16"/>')) + 'halted</span>'
+    + P.marks.map(m => m.look === 'tree' ? s(32, half('tree')) + m.name + ' at one end</span>' + s(32, l('half tree')) + 'joined</span>' + s(32, l('half tree') + '<path class="core" d="M2 9H30"/>') + 'core</span>'
+      : s(32, m.look === 'closed' ? '<path class="half closed" d="M2 9H30"/><path class="cross" d="M12 5l8 8m0 -8l-8 8"/>' : m.look === 'asked' ? half('asked') + '<path class="cross" d="M10 4V14"/>' : l('half')) + m.name + '</span>').join('')
+    + (PUTS ? s(30, '<g class="msg back"><path d="M4 3H20L26 9L20 15H4Z"/></g>') + 'put back, waits</span>' : '') + letters();
 };
 
 // what a message at the pointer is, and why it waits
@@ -1108,14 +1101,14 @@ function play() {
   $('live').setAttribute('aria-live', 'off');
   timer = $('speed').value === 'minute' ? setInterval(minute(performance.now(), at), 40) : setInterval(() => { if (at >= G.to) halt(); else one(1); }, +$('speed').value);
 }
-const GOALS = [['node', 'events of the node'], ['frag', 'fragments merging'], ['level', 'a level rising'], ['waits', 'messages that wait'], ['wake', 'nodes waking'], ['halted', 'a halt'], ...KINDS.map(k => [k, NAMES[k]])];
+const goals = () => [['node', 'events of the node'], ['frag', 'fragments merging'], ['level', 'a level rising'], ...(PUTS ? [['waits', 'messages that wait']] : []), ['wake', 'nodes waking'], ['halted', 'a halt'], ...KINDS.map(k => [k, NAMES[k]])];
 function fits(s, goal) {
   switch (goal) {
     case 'node': return s.node === (pin || (stepNow() ? stepNow().node : 1)) && !($('skip').checked && idle(s));
     case 'frag': return curve[4 * s.step] < curve[4 * s.step - 4];
     case 'level': return 'level' in s.set;
     case 'waits': return s.fate === 'waits';
-    case 'wake': return s.set.phase !== undefined && undo[s.step - 1].set.phase === 'sleeping';
+    case 'wake': return s.set.phase !== undefined && undo[s.step - 1].set.phase === P.opening.phase;
     case 'halted': return s.set.halted === true;
     default: return s.kind === goal && !($('skip').checked && idle(s));
   }
@@ -1218,11 +1211,14 @@ function start() {
   at = 0;
   survey();
   goto(G.from - 1);
-  document.title = 'ghs: ' + G.nodes + ' nodes, ' + G.events + ' events';
+  const title = document.querySelector('header b');
+  title.innerHTML = P.title;
+  $('skip').parentNode.hidden = !PUTS;
+  document.title = title.textContent + ': ' + G.nodes + ' nodes, ' + G.events + ' events';
   $('what').textContent = G.nodes + ' nodes, ' + G.links + ' links, ' + (G.to < G.events ? 'the first ' + G.to + ' of ' : '') + G.events + ' events';
   $('seek').min = 0; $('seek').max = G.to;
   $('pick').max = G.nodes;
-  $('goal').innerHTML = GOALS.map(([k, t]) => '<option value="' + k + '">' + t + '</option>').join('');
+  $('goal').innerHTML = goals().map(([k, t]) => '<option value="' + k + '">' + t + '</option>').join('');
   $('keys').innerHTML = '<table>' + KEYS.map(([k, t]) => '<tr>' + td(k) + td(t) + '</tr>').join('') + '</table><form method="dialog"><button>close</button></form>';
   setTheme(matchMedia('(prefers-color-scheme: dark)').matches);
   only = G.nodes > 12;
