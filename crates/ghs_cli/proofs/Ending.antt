@@ -107,7 +107,8 @@ is_run (task.BoruvkaSteps o) = false
 is_run (task.Sweep o) = false
 is_run (task.BoruvkaSweep o) = false
 is_run (task.View o) = false
-is_run (task.StoredView o) = false
+is_run (task.BoruvkaView o) = false
+is_run (task.StoredView p o) = false
 is_run (task.Make asked) = false
 is_run (task.Explore o) = false
 
@@ -122,7 +123,8 @@ unbounded (task.BoruvkaSteps o) input unrun bounded = bounded
 unbounded (task.Sweep o) input unrun bounded = bounded
 unbounded (task.BoruvkaSweep o) input unrun bounded = bounded
 unbounded (task.View o) input unrun bounded = bounded
-unbounded (task.StoredView o) input unrun bounded = bounded
+unbounded (task.BoruvkaView o) input unrun bounded = bounded
+unbounded (task.StoredView p o) input unrun bounded = bounded
 unbounded (task.Make asked) input unrun bounded = bounded
 unbounded (task.Explore o) input unrun bounded = bounded
 

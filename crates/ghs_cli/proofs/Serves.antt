@@ -41,7 +41,8 @@ begun (task.BoruvkaSteps o) stored input old new early = absurd (let bad : true 
 begun (task.Sweep o) stored input old new early = tt
 begun (task.BoruvkaSweep o) stored input old new early = tt
 begun (task.View o) stored input old new early = tt
-begun (task.StoredView o) stored input old new early = tt
+begun (task.BoruvkaView o) stored input old new early = tt
+begun (task.StoredView p o) stored input old new early = tt
 begun (task.Make asked) stored input old new early = absurd (let bad : true ≡ false = early in cc)
 begun (task.Explore o) stored input old new early = tt
 
@@ -224,7 +225,8 @@ tried_of (task.BoruvkaSteps o) stored input output printed = printed
 tried_of (task.Sweep o) stored input output printed = printed
 tried_of (task.BoruvkaSweep o) stored input output printed = printed
 tried_of (task.View o) stored input output printed = printed
-tried_of (task.StoredView o) stored input output printed = printed
+tried_of (task.BoruvkaView o) stored input output printed = printed
+tried_of (task.StoredView p o) stored input output printed = printed
 tried_of (task.Make asked) stored input output printed = printed
 tried_of (task.Explore o) stored input output printed = printed
 

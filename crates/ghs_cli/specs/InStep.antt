@@ -1,4 +1,4 @@
--- What running a network by Borůvka in step comes to, and playing a stored run of it again, or telling it.
+-- What running a network by Borůvka in step comes to, and playing a stored run of it again, or telling it, or showing it on a page.
 use Rattle.std.specs.Prelude.{◌≡◌, ℕ, ◌+◌, ◌≤◌, Bool, true, false, List, None}
 use Rattle.ghs_graph.specs.Graph.{Shape}
 use Rattle.ghs_protocol.specs.declared.event.Event.{Event}
@@ -19,13 +19,17 @@ use Rattle.boruvka_report.specs.Ended.{HasEnded}
 use Rattle.boruvka_report.specs.ReportText.{IsReportText}
 use Rattle.boruvka_runs.specs.Runs.{IsStopped, IsWholeRun}
 use Rattle.boruvka_steps.specs.Lines.{lines}
-use Rattle.boruvka_sweep.specs.Sweep.{IsSweepText}
+use Rattle.boruvka_sweep.specs.Sweep.{IsRunOf, IsSweepText}
 use Rattle.boruvka_sweep.specs.declared.sweep.Setup.{Setup}
+use Rattle.boruvka_view.specs.RunPage.{IsRunPage}
 use Rattle.ghs_commands.specs.declared.boruvka.BoruvkaOptions.{BoruvkaOptions}
-use Rattle.ghs_commands.specs.declared.boruvka.BoruvkaStepsOptions.{BoruvkaStepsOptions}
 use Rattle.ghs_commands.specs.declared.boruvka.BoruvkaSweepOptions.{BoruvkaSweepOptions}
+use Rattle.ghs_commands.specs.declared.boruvka.BoruvkaViewOptions.{BoruvkaViewOptions}
 use Rattle.ghs_commands.specs.declared.job.Show.{Show}
 use Rattle.ghs_commands.specs.declared.job.Show.TheVariants.{Summary, Events, Time}
+use Rattle.ghs_commands.specs.declared.job.StepsOptions.{StepsOptions}
+use Rattle.ghs_commands.specs.declared.job.StoredViewOptions.{StoredViewOptions}
+use Rattle.ghs_view.specs.RunPage.{IsTooLarge}
 use Rattle.ghs_cli.specs.declared.fault.ServeFault.{ServeFault}
 use Rattle.ghs_cli.specs.declared.fault.ServeFault.TheVariants as serve
 
@@ -86,9 +90,9 @@ pub record IsReplayed (wake : WakeSet) (g : Shape) (events : List Event) (output
   pub printed : IsReportText g (net_after boruvka g events) output
 
 -- events that are a run of the graph, and the output is the lines of those that are chosen
-pub record AreSteps (o : BoruvkaStepsOptions) (g : Shape) (events : List Event) (output : List ℕ) : Type 0 where
+pub record AreSteps (o : StepsOptions) (g : Shape) (events : List Event) (output : List ℕ) : Type 0 where
   pub run : IsRunUnder boruvka (may_wake g o.wake) (network_of g) events
-  pub printed : output ≡ lines g o.choice events
+  pub printed : output ≡ lines o.form g o.choice events
 
 -- what the runs of a sweep have in common
 abbrev pub setup_of : BoruvkaSweepOptions → Setup
@@ -97,6 +101,40 @@ setup_of o = record { wake = o.wake; turns = o.turns }
 -- the figures of the runs of its seeds
 abbrev pub IsSwept : BoruvkaSweepOptions → Shape → List ℕ → Type 0
 IsSwept o g output = IsSweepText g (setup_of o) o.seeds.first o.seeds.last output
+
+-- the run that a seed picks of a graph, to its end or to its last turn
+abbrev pub IsRunShown : BoruvkaViewOptions → Shape → List Event → Type 0
+IsRunShown o g events = IsRunOf o.seed (record { wake = o.wake; turns = o.turns }) g events
+
+-- the page of that run
+pub record IsSeedView (o : BoruvkaViewOptions) (g : Shape) (output : List ℕ) : Type 0 where
+  pub events : List Event
+  pub run : IsRunShown o g events
+  pub page : IsRunPage g events o.from o.to output
+
+-- that run is one that a page can't take
+pub record IsLongSeed (o : BoruvkaViewOptions) (g : Shape) : Type 0 where
+  pub events : List Event
+  pub run : IsRunShown o g events
+  pub large : IsTooLarge g events o.to
+
+-- why there is no page of it
+abbrev pub HasNoSeedView : BoruvkaViewOptions → Shape → ServeFault → Type 0
+HasNoSeedView o g serve.PageTooLarge = IsLongSeed o g
+HasNoSeedView o g serve.Memory = Unit {0}
+HasNoSeedView o g _ = ⊥
+
+-- the page of events that are a run of a graph; it needn't have ended
+pub record IsStoredView (o : StoredViewOptions) (g : Shape) (events : List Event) (output : List ℕ) : Type 0 where
+  pub run : IsRunUnder boruvka (may_wake g o.wake) (network_of g) events
+  pub page : IsRunPage g events o.from o.to output
+
+-- why there is none: the first event that isn't lawful, or a page that would be too large
+abbrev pub HasNoStoredView : StoredViewOptions → Shape → List Event → ServeFault → Type 0
+HasNoStoredView o g events (serve.NotLawful k) = IsFirstUnlawful boruvka g o.wake events k
+HasNoStoredView o g events serve.PageTooLarge = IsRunUnder boruvka (may_wake g o.wake) (network_of g) events × IsTooLarge g events o.to
+HasNoStoredView o g events serve.Memory = Unit {0}
+HasNoStoredView o g events _ = ⊥
 
 -- why the net after some events has no text: their run goes on
 abbrev pub GoesOn : Shape → List Event → ServeFault → Type 0

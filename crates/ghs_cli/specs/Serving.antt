@@ -43,8 +43,8 @@ use Rattle.ghs_make.specs.declared.fault.MakeFault.TheVariants as make
 use Rattle.ghs_make.specs.declared.network.Network.{Network}
 use Rattle.ghs_make.specs.declared.plan.Asked.{Asked}
 use Rattle.ghs_commands.specs.declared.boruvka.BoruvkaOptions.{BoruvkaOptions}
-use Rattle.ghs_commands.specs.declared.boruvka.BoruvkaStepsOptions.{BoruvkaStepsOptions}
 use Rattle.ghs_commands.specs.declared.boruvka.BoruvkaSweepOptions.{BoruvkaSweepOptions}
+use Rattle.ghs_commands.specs.declared.boruvka.BoruvkaViewOptions.{BoruvkaViewOptions}
 use Rattle.ghs_commands.specs.declared.exploring.ExploreOptions.{ExploreOptions}
 use Rattle.ghs_commands.specs.declared.job.StepsOptions.{StepsOptions}
 use Rattle.ghs_commands.specs.declared.job.StoredViewOptions.{StoredViewOptions}
@@ -55,7 +55,7 @@ use Rattle.ghs_commands.specs.declared.job.ViewOptions.{ViewOptions}
 use Rattle.ghs_cli.specs.InStep as in_step
 use Rattle.ghs_cli.specs.Exploring.{HasNoExploration, IsExplored}
 use Rattle.ghs_cli.specs.Charts.{IsSweepText}
-use Rattle.ghs_cli.specs.Viewing.{HasNoStoredView, HasNoView, IsStoredView, IsView}
+use Rattle.ghs_cli.specs.Viewing.{HasNoStoredViewBy, HasNoView, IsStoredViewBy, IsView}
 
 -- the keys of a graph's links
 abbrev pub keys_of : RawShape → List Key
@@ -186,7 +186,7 @@ pub record IsOfBoth (p : Protocol) (Tells : Shape → List Event → List ℕ �
 abbrev pub IsStepsText : StepsOptions → List ℕ → List ℕ → List ℕ → Type 0
 IsStepsText o stored input output = IsOfBoth protocol.Ghs (AreSteps o) stored input output
 
-abbrev pub IsBoruvkaStepsText : BoruvkaStepsOptions → List ℕ → List ℕ → List ℕ → Type 0
+abbrev pub IsBoruvkaStepsText : StepsOptions → List ℕ → List ℕ → List ℕ → Type 0
 IsBoruvkaStepsText o stored input output = IsOfBoth protocol.Boruvka (in_step.AreSteps o) stored input output
 
 -- the input is the text of a graph, and the output that of a sweep of it
@@ -201,13 +201,17 @@ IsBoruvkaSweepOutput o input output = (graph : RawShape) × TextIs input (Ok gra
 abbrev pub IsViewOutput : ViewOptions → List ℕ → List ℕ → Type 0
 IsViewOutput o input output = (graph : RawShape) × TextIs input (Ok graph) × IsView o (shape_of graph) output
 
--- the input is the text of a graph, what is stored that of a run of it, and the output its page
-pub record IsStoredViewOutput (o : StoredViewOptions) (stored input output : List ℕ) : Type 0 where
+-- the same of a run by Borůvka in step
+abbrev pub IsBoruvkaViewOutput : BoruvkaViewOptions → List ℕ → List ℕ → Type 0
+IsBoruvkaViewOutput o input output = (graph : RawShape) × TextIs input (Ok graph) × in_step.IsSeedView o (shape_of graph) output
+
+-- the input is the text of a graph, what is stored that of a run of it by a protocol, and the output its page
+pub record IsStoredViewOutput (p : Protocol) (o : StoredViewOptions) (stored input output : List ℕ) : Type 0 where
   pub graph : RawShape
   pub text : TextIs input (Ok graph)
   pub events : List Event
-  pub trace : IsTraceText protocol.Ghs stored events
-  pub view : IsStoredView o (shape_of graph) events output
+  pub trace : IsTraceText p stored events
+  pub view : IsStoredViewBy p o (shape_of graph) events output
 
 -- the output is the text of the network that is asked for
 pub record IsMade (asked : Asked) (output : List ℕ) : Type 0 where
@@ -231,7 +235,8 @@ IsPrinted (task.BoruvkaSteps o) stored input output = IsBoruvkaStepsText o store
 IsPrinted (task.Sweep o) stored input output = IsSweepOutput o input output
 IsPrinted (task.BoruvkaSweep o) stored input output = IsBoruvkaSweepOutput o input output
 IsPrinted (task.View o) stored input output = IsViewOutput o input output
-IsPrinted (task.StoredView o) stored input output = IsStoredViewOutput o stored input output
+IsPrinted (task.BoruvkaView o) stored input output = IsBoruvkaViewOutput o input output
+IsPrinted (task.StoredView p o) stored input output = IsStoredViewOutput p o stored input output
 IsPrinted (task.Make asked) stored input output = IsMade asked output
 IsPrinted (task.Explore o) stored input output = IsExploreOutput o input output
 
@@ -246,7 +251,8 @@ IsPrintedAtLimit (task.BoruvkaSteps o) input output = ⊥
 IsPrintedAtLimit (task.Sweep o) input output = ⊥
 IsPrintedAtLimit (task.BoruvkaSweep o) input output = ⊥
 IsPrintedAtLimit (task.View o) input output = ⊥
-IsPrintedAtLimit (task.StoredView o) input output = ⊥
+IsPrintedAtLimit (task.BoruvkaView o) input output = ⊥
+IsPrintedAtLimit (task.StoredView p o) input output = ⊥
 IsPrintedAtLimit (task.Make asked) input output = ⊥
 IsPrintedAtLimit (task.Explore o) input output = ⊥
 
@@ -331,19 +337,23 @@ IsBoruvkaCause o input fault = IsGraphCause input fault ⊎ ((graph : RawShape) 
 abbrev pub IsViewCause : ViewOptions → List ℕ → ServeFault → Type 0
 IsViewCause o input fault = IsGraphCause input fault ⊎ ((graph : RawShape) × TextIs input (Ok graph) × HasNoView o (shape_of graph) fault)
 
+abbrev pub IsBoruvkaViewCause : BoruvkaViewOptions → List ℕ → ServeFault → Type 0
+IsBoruvkaViewCause o input fault =
+    IsGraphCause input fault ⊎ ((graph : RawShape) × TextIs input (Ok graph) × in_step.HasNoSeedView o (shape_of graph) fault)
+
 -- a trace is stored and the input is the text of a graph, and they have no page
-pub record HaveNoPage (o : StoredViewOptions) (stored input : List ℕ) (fault : ServeFault) : Type 0 where
+pub record HaveNoPage (p : Protocol) (o : StoredViewOptions) (stored input : List ℕ) (fault : ServeFault) : Type 0 where
   pub events : List Event
-  pub trace : IsTraceText protocol.Ghs stored events
+  pub trace : IsTraceText p stored events
   pub graph : RawShape
   pub text : TextIs input (Ok graph)
-  pub cause : HasNoStoredView o (shape_of graph) events fault
+  pub cause : HasNoStoredViewBy p o (shape_of graph) events fault
 
 -- why the page of a stored run isn't printed: the trace, which is read first, the graph, or the run
-abbrev pub IsStoredViewCause : StoredViewOptions → List ℕ → List ℕ → ServeFault → Type 0
-IsStoredViewCause o stored input fault =
-    IsTraceCause protocol.Ghs stored fault
-    ⊎ (((events : List Event) × IsTraceText protocol.Ghs stored events × IsGraphCause input fault) ⊎ HaveNoPage o stored input fault)
+abbrev pub IsStoredViewCause : Protocol → StoredViewOptions → List ℕ → List ℕ → ServeFault → Type 0
+IsStoredViewCause p o stored input fault =
+    IsTraceCause p stored fault
+    ⊎ (((events : List Event) × IsTraceText p stored events × IsGraphCause input fault) ⊎ HaveNoPage p o stored input fault)
 
 -- why a network isn't made: what is asked for is refused, it has too many links, or memory runs out
 abbrev pub IsMakeCause : Asked → ServeFault → Type 0
@@ -370,7 +380,8 @@ IsCause (task.BoruvkaSteps o) stored input fault = IsStepsCause protocol.Boruvka
 IsCause (task.Sweep o) stored input fault = IsGraphCause input fault
 IsCause (task.BoruvkaSweep o) stored input fault = IsGraphCause input fault
 IsCause (task.View o) stored input fault = IsViewCause o input fault
-IsCause (task.StoredView o) stored input fault = IsStoredViewCause o stored input fault
+IsCause (task.BoruvkaView o) stored input fault = IsBoruvkaViewCause o input fault
+IsCause (task.StoredView p o) stored input fault = IsStoredViewCause p o stored input fault
 IsCause (task.Make asked) stored input fault = IsMakeCause asked fault
 IsCause (task.Explore o) stored input fault = IsExploreCause o input fault
 
@@ -385,7 +396,8 @@ IsTried (task.BoruvkaSteps o) stored input output = IsBoruvkaStepsText o stored 
 IsTried (task.Sweep o) stored input output = IsSweepOutput o input output
 IsTried (task.BoruvkaSweep o) stored input output = IsBoruvkaSweepOutput o input output
 IsTried (task.View o) stored input output = IsViewOutput o input output
-IsTried (task.StoredView o) stored input output = IsStoredViewOutput o stored input output
+IsTried (task.BoruvkaView o) stored input output = IsBoruvkaViewOutput o input output
+IsTried (task.StoredView p o) stored input output = IsStoredViewOutput p o stored input output
 IsTried (task.Make asked) stored input output = IsMade asked output
 IsTried (task.Explore o) stored input output = IsExploreOutput o input output
 
@@ -405,7 +417,8 @@ shows_events (task.BoruvkaSteps o) = false
 shows_events (task.Sweep o) = false
 shows_events (task.BoruvkaSweep o) = false
 shows_events (task.View o) = false
-shows_events (task.StoredView o) = false
+shows_events (task.BoruvkaView o) = false
+shows_events (task.StoredView p o) = false
 shows_events (task.Make asked) = false
 shows_events (task.Explore o) = false
 
@@ -444,7 +457,8 @@ IfStored (task.BoruvkaSteps o) stored P = IfSome stored P
 IfStored (task.Sweep o) stored P = (bytes : List ℕ) → P bytes
 IfStored (task.BoruvkaSweep o) stored P = (bytes : List ℕ) → P bytes
 IfStored (task.View o) stored P = (bytes : List ℕ) → P bytes
-IfStored (task.StoredView o) stored P = IfSome stored P
+IfStored (task.BoruvkaView o) stored P = (bytes : List ℕ) → P bytes
+IfStored (task.StoredView p o) stored P = IfSome stored P
 IfStored (task.Make asked) stored P = (bytes : List ℕ) → P bytes
 IfStored (task.Explore o) stored P = (bytes : List ℕ) → P bytes
 
@@ -476,7 +490,8 @@ by_portions (task.BoruvkaSteps o) = true
 by_portions (task.Sweep o) = false
 by_portions (task.BoruvkaSweep o) = false
 by_portions (task.View o) = false
-by_portions (task.StoredView o) = false
+by_portions (task.BoruvkaView o) = false
+by_portions (task.StoredView p o) = false
 by_portions (task.Make asked) = true
 by_portions (task.Explore o) = false
 
@@ -500,6 +515,7 @@ IsUnread (task.BoruvkaSteps o) old new = Unit {0}
 IsUnread (task.Sweep o) old new = new ≡ old
 IsUnread (task.BoruvkaSweep o) old new = new ≡ old
 IsUnread (task.View o) old new = new ≡ old
-IsUnread (task.StoredView o) old new = Unit {0}
+IsUnread (task.BoruvkaView o) old new = new ≡ old
+IsUnread (task.StoredView p o) old new = Unit {0}
 IsUnread (task.Make asked) old new = new ≡ old
 IsUnread (task.Explore o) old new = new ≡ old

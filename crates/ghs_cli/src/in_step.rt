@@ -25,8 +25,8 @@ use boruvka_runs::laws::law_turns;
 use boruvka_runs::run::{Ran, run_by_seed};
 use boruvka_steps::show::write_steps;
 use boruvka_sweep::sweep::{Setup, sweep_text};
-use ghs_commands::boruvka::{BoruvkaOptions, BoruvkaStepsOptions, BoruvkaSweepOptions};
-use ghs_commands::job::Show;
+use ghs_commands::boruvka::{BoruvkaOptions, BoruvkaSweepOptions};
+use ghs_commands::job::{Show, StepsOptions};
 use ghs_commands::values::Seeds;
 use ghs_gr::device::{Sink, Source};
 use ghs_gr::laws::law_one_judgement;
@@ -197,7 +197,7 @@ fn finished(alloc: Global, world: &World<Boruvka>) -> Result<Vec<u8>, ServeFault
 /// the graph, then whether each event is lawful: all before the first byte.
 pub(crate) fn write_boruvka_steps_of<R: Source, T: Source, W: Sink>(
     alloc: Global,
-    options: &BoruvkaStepsOptions,
+    options: &StepsOptions,
     graph: &mut R,
     trace: &mut T,
     out: &mut W,
@@ -212,7 +212,15 @@ pub(crate) fn write_boruvka_steps_of<R: Source, T: Source, W: Sink>(
 {
     let events = events_of(alloc, Protocol::Boruvka, trace)?;
     let graph = graph_of(alloc, graph)?;
-    write_steps(alloc, graph, options.wake, &events, &options.choice, out)?;
+    write_steps(
+        alloc,
+        graph,
+        options.wake,
+        &events,
+        &options.choice,
+        options.form,
+        out,
+    )?;
     Ok(())
 }
 

@@ -16,6 +16,7 @@ pub mod fault;
 mod in_step;
 mod making;
 pub mod networks;
+mod pages_in_step;
 mod parting;
 mod printing;
 mod progress;

@@ -9,6 +9,7 @@ use crate::exploring::explored_text_of;
 use crate::fault::ServeFault;
 use crate::in_step::{boruvka_sweep_text_of, write_boruvka_of, write_boruvka_steps_of};
 use crate::making::write_network_of;
+use crate::pages_in_step::boruvka_view_of;
 use crate::printing::print;
 use crate::replaying::replay_text_of;
 use crate::running::write_run_of;
@@ -74,7 +75,10 @@ pub fn serve<R: Source, T: Source, W: Sink, H: Threads + Wait + Eprint + Sync>(
         Task::Sweep(options) => print(sweep_text_of(rt, alloc, options, graph), out),
         Task::BoruvkaSweep(options) => print(boruvka_sweep_text_of(alloc, options, graph), out),
         Task::View(options) => print(view_text_of(alloc, options, graph), out),
-        Task::StoredView(options) => print(stored_view_of(alloc, options, graph, trace), out),
+        Task::BoruvkaView(options) => print(boruvka_view_of(alloc, options, graph), out),
+        Task::StoredView { protocol, options } => {
+            print(stored_view_of(alloc, *protocol, options, graph, trace), out)
+        }
         Task::Make(asked) => write_network_of(alloc, asked, out),
         Task::Explore(options) => print(explored_text_of(rt, alloc, options, graph), out),
     }

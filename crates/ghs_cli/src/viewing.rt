@@ -1,7 +1,7 @@
 //! Pages of runs: of the run that a seed picks, of the runs of two, and of a stored one.
 ghost use Rattle.ghs_commands.specs.Job.{AreViewLimits};
 ghost use Rattle.ghs_cli.specs.Serving.{IsStoredViewCause, IsStoredViewOutput, IsViewCause, IsViewOutput, is_write};
-ghost use Rattle.ghs_cli.specs.Viewing.{HasNoSeedView, HasNoStoredView, HasNoView, IsSeedView, IsStoredView, IsView};
+ghost use Rattle.ghs_cli.specs.Viewing.{HasNoSeedView, HasNoStoredView, HasNoStoredViewBy, HasNoView, IsSeedView, IsStoredView, IsStoredViewBy, IsView};
 ghost use Rattle.ghs_cli.specs.declared.fault.ServeFault.{ServeFault};
 ghost use Rattle.ghs_picking.specs.Picking.{IsPickedBy};
 ghost use Rattle.ghs_view.specs.RunPage.{IsRunPage, IsTooLarge};
@@ -9,6 +9,7 @@ ghost use Rattle.std.specs.Prelude.{◌≡◌, ◌≤◌, ◌⊎◌, ◌↔◌, 
 
 use crate::beside::pair_viewed;
 use crate::fault::ServeFault;
+use crate::pages_in_step;
 use crate::reading::{events_of, graph_of};
 use ghs_commands::job::{StoredViewOptions, ViewOptions};
 use ghs_gr::device::Source;
@@ -107,23 +108,42 @@ fn page_of(alloc: Global, options: &ViewOptions, world: &World) -> Result<Vec<u8
 /// The page of a stored run of the graph that a device gives. The trace is judged first, then the graph.
 pub(crate) fn stored_view_of<R: Source, T: Source>(
     alloc: Global,
+    protocol: Protocol,
     options: &StoredViewOptions,
     graph: &mut R,
     trace: &mut T,
 ) -> Result<Vec<u8>, ServeFault>
     requires graph { R.has_failed graph.old ≡ false }
     requires trace { T.has_failed trace.old ≡ false }
-    ensures text { IfOk result (λ text. IfSome (T.left trace.old) (λ stored. IfSome (R.left graph.old) (λ input. IsStoredViewOutput options.now stored input text.items))) }
-    ensures fault { IfErr result (λ fault. IfSome (T.left trace.old) (λ stored. IfSome (R.left graph.old) (λ input. IsStoredViewCause options.now stored input fault))) }
+    ensures text { IfOk result (λ text. IfSome (T.left trace.old) (λ stored. IfSome (R.left graph.old) (λ input. IsStoredViewOutput protocol options.now stored input text.items))) }
+    ensures fault { IfErr result (λ fault. IfSome (T.left trace.old) (λ stored. IfSome (R.left graph.old) (λ input. IsStoredViewCause protocol options.now stored input fault))) }
     ensures early { IfErr result (λ fault. is_write fault ≡ false) }
     ensures read { IsErrOf result ServeFault.Read ↔ ((R.has_failed graph.new ≡ true) ⊎ (T.has_failed trace.new ≡ true)) }
 {
-    let events = events_of(alloc, Protocol::Ghs, trace)?;
+    let events = events_of(alloc, protocol, trace)?;
     let graph = graph_of(alloc, graph)?;
-    stored_viewed(alloc, options, graph, &events)
+    stored_viewed_by(alloc, protocol, options, graph, &events)
 }
 
-/// The page of events, once they are known to be a run of a graph.
+/// The page of events, once they are known to be a run of a graph by a protocol.
+fn stored_viewed_by(
+    alloc: Global,
+    protocol: Protocol,
+    options: &StoredViewOptions,
+    graph: Graph,
+    events: &[Event],
+) -> Result<Vec<u8>, ServeFault>
+    requires { length events.now ≤ EVENT_LIMIT }
+    ensures text { IfOk result (λ text. IsStoredViewBy protocol options.now graph events.now text.items) }
+    ensures fault { IfErr result (λ fault. HasNoStoredViewBy protocol options.now graph events.now fault) }
+{
+    match protocol {
+        Protocol::Ghs => stored_viewed(alloc, options, graph, events),
+        Protocol::Boruvka => pages_in_step::stored_viewed(alloc, options, graph, events),
+    }
+}
+
+/// The same by GHS.
 fn stored_viewed(
     alloc: Global,
     options: &StoredViewOptions,

@@ -102,9 +102,18 @@ steps_in_step-taken : kinds_of (codes "steps" ∷ codes "--protocol" ∷ codes "
 unfolding program clap_on_literals
 steps_in_step-taken = refl
 
-json-refused : kinds_of (codes "steps" ∷ codes "--protocol" ∷ codes "boruvka" ∷ codes "--json" ∷ codes "run.trace" ∷ []) ≡ kind.InvalidValue ∷ []
+json_in_step-taken : kinds_of (codes "steps" ∷ codes "--protocol" ∷ codes "boruvka" ∷ codes "--json" ∷ codes "run.trace" ∷ []) ≡ []
 unfolding program clap_on_literals
-json-refused = refl
+json_in_step-taken = refl
+
+page_in_step-taken : kinds_of (codes "view" ∷ codes "--protocol" ∷ codes "boruvka" ∷ codes "map.gr" ∷ []) ≡ []
+unfolding program clap_on_literals
+page_in_step-taken = refl
+
+two_runs_in_step-refused :
+    kinds_of (codes "view" ∷ codes "--protocol" ∷ codes "boruvka" ∷ codes "--seeds" ∷ codes "1,2" ∷ []) ≡ kind.InvalidValue ∷ []
+unfolding program clap_on_literals
+two_runs_in_step-refused = refl
 
 -- a sweep by Borůvka in step, and what else is asked for
 abbrev in_step : List Text → List Text
@@ -117,6 +126,10 @@ sweep_in_step-taken = refl
 summary_in_step-refused : kinds_of (in_step (codes "--print" ∷ codes "summary" ∷ [])) ≡ kind.InvalidValue ∷ []
 unfolding program clap_on_literals
 summary_in_step-refused = refl
+
+json_of_a_sweep-refused : kinds_of (in_step (codes "--json" ∷ [])) ≡ kind.InvalidValue ∷ []
+unfolding program clap_on_literals
+json_of_a_sweep-refused = refl
 
 runs_in_step-taken : kinds_of (in_step (codes "--print" ∷ codes "runs" ∷ [])) ≡ []
 unfolding program clap_on_literals

@@ -142,12 +142,12 @@ sweep_command =
     ∷ turns_rule ∷ sheet_rule ∷ by_rule ∷ names_rule ∷ json_rule ∷ progress_rule ∷ [])
     (new_app (codes "sweep"))
 
--- `view [FILE] [--seed S] [--seeds FIRST,SECOND] [--schedule seeded|patient|rounds|waits|lifo] [--wake all|first] [--turns T] [--trace TRACE]
--- [--from A] [--to B]`
+-- `view [FILE] [--protocol ghs|boruvka] [--seed S] [--seeds FIRST,SECOND] [--schedule seeded|patient|rounds|waits|lifo] [--wake all|first]
+-- [--turns T] [--trace TRACE] [--from A] [--to B]`
 abbrev pub view_command : App
 view_command =
     with_rules
-    (file_rule ∷ seed_rule ∷ pair_rule ∷ schedule_rule ∷ wake_rule
+    (file_rule ∷ protocol_rule ∷ seed_rule ∷ pair_rule ∷ schedule_rule ∷ wake_rule
     ∷ turns_rule ∷ stored_rule ∷ from_rule ∷ to_rule ∷ [])
     (new_app (codes "view"))
 

@@ -1,5 +1,5 @@
 -- Command lines: what the words of the program ask for, and what is said of others.
-use Rattle.std.specs.Prelude.{◌≡◌, ◌≢◌, ◌↔◌, ◌⊎◌, ℕ, ◌≤◌, Bool, true, ◌&&◌, not, codes, List, [], ◌∷◌, Option, Some, None, is_none, unwrap_or, if◌then◌else◌}
+use Rattle.std.specs.Prelude.{◌≡◌, ◌≢◌, ◌↔◌, ◌⊎◌, ℕ, ◌≤◌, Bool, true, ◌&&◌, ◌||◌, not, codes, List, [], ◌∷◌, Option, Some, None, is_none, unwrap_or, if◌then◌else◌}
 use Rattle.std.specs.Option.{option_and_then, option_map}
 use Rattle.clap.specs.Kinds.{Kinds, IsAmong, or_else}
 use Rattle.clap.specs.Words.{Row, Text, fault_of, first_of, subcommand_of}
@@ -23,8 +23,8 @@ use Rattle.ghs_choices.specs.declared.choice.Choice.{Choice}
 use Rattle.ghs_choices.specs.declared.form.Form.{Form}
 use Rattle.ghs_choices.specs.declared.form.Form.TheVariants.{Json}
 use Rattle.ghs_commands.specs.declared.boruvka.BoruvkaOptions.{BoruvkaOptions}
-use Rattle.ghs_commands.specs.declared.boruvka.BoruvkaStepsOptions.{BoruvkaStepsOptions}
 use Rattle.ghs_commands.specs.declared.boruvka.BoruvkaSweepOptions.{BoruvkaSweepOptions}
+use Rattle.ghs_commands.specs.declared.boruvka.BoruvkaViewOptions.{BoruvkaViewOptions}
 use Rattle.ghs_commands.specs.declared.exploring.ExploreOptions.{ExploreOptions}
 use Rattle.ghs_commands.specs.declared.exploring.Finding.{Finding}
 use Rattle.ghs_commands.specs.declared.exploring.Finding.TheVariants.{Run}
@@ -206,21 +206,24 @@ pub record IsChoice (command : Used) (choice : Choice) : Type 0 where
   pub to : choice.to ≡ to_in command
   pub node : choice.node ≡ node_in command
 
--- which steps of a stored run it asks for: of one of GHS, or of one by Borůvka in step
+-- which steps of a stored run it asks for
 pub record AreStepsOptions (command : Used) (o : StepsOptions) : Type 0 where
   pub wake : IsWake command o.wake
   pub choice : IsChoice command o.choice
   pub form : IsForm command o.form
 
-pub record AreBoruvkaStepsOptions (command : Used) (o : BoruvkaStepsOptions) : Type 0 where
-  pub wake : IsWake command o.wake
-  pub choice : IsChoice command o.choice
-
--- which page a command asks for: of the run that a seed picks, or of the runs of two, or of a stored one
+-- which page a command asks for: of the run that a seed picks, or of the runs of two; of a seed's run by Borůvka in step; of a stored one
 pub record AreViewOptions (command : Used) (o : ViewOptions) : Type 0 where
   pub seed : o.seed ≡ first_seed_in command
   pub beside : o.beside ≡ second_seed_in command
   pub schedule_kind : IsScheduleKind command o.schedule_kind
+  pub wake : IsWake command o.wake
+  pub turns : o.turns ≡ turns_in command
+  pub from : o.from ≡ from_in command
+  pub to : o.to ≡ to_in command
+
+pub record AreBoruvkaViewOptions (command : Used) (o : BoruvkaViewOptions) : Type 0 where
+  pub seed : o.seed ≡ seed_in command
   pub wake : IsWake command o.wake
   pub turns : o.turns ≡ turns_in command
   pub from : o.from ≡ from_in command
@@ -272,6 +275,18 @@ pub record IsNoOther (command : Used) : Type 0 where
   pub make : name_in command ≢ Some (codes "make")
   pub explore : name_in command ≢ Some (codes "explore")
 
+-- it asks for a page of a run by a protocol
+pub record IsView (protocol : Protocol) (command : Used) : Type 0 where
+  pub view : name_in command ≡ Some (codes "view")
+  pub by : protocol_in command ≡ protocol
+
+-- of a seed's run, or of a stored one
+abbrev pub IsOfSeed : Used → Type 0
+IsOfSeed command = value_in (codes "TRACE") command ≡ None
+
+abbrev pub IsOfStored : Used → Type 0
+IsOfStored command = value_in (codes "TRACE") command ≢ None
+
 -- the task that a command asks for
 abbrev pub IsTask : Used → Task → Type 0
 IsTask command (task.Tree core) = IsNoOther command × IsCoreOf command core
@@ -280,14 +295,13 @@ IsTask command (task.Boruvka options) = (name_in command ≡ Some (codes "run"))
 IsTask command (task.Replay protocol wake) = (name_in command ≡ Some (codes "replay")) × (protocol ≡ protocol_in command) × IsWake command wake
 IsTask command (task.Steps options) = (name_in command ≡ Some (codes "steps")) × (protocol_in command ≡ Ghs) × AreStepsOptions command options
 IsTask command (task.BoruvkaSteps options) =
-    (name_in command ≡ Some (codes "steps")) × (protocol_in command ≡ Boruvka) × AreBoruvkaStepsOptions command options
+    (name_in command ≡ Some (codes "steps")) × (protocol_in command ≡ Boruvka) × AreStepsOptions command options
 IsTask command (task.Sweep options) = (name_in command ≡ Some (codes "sweep")) × (protocol_in command ≡ Ghs) × AreSweepOptions command options
 IsTask command (task.BoruvkaSweep options) =
     (name_in command ≡ Some (codes "sweep")) × (protocol_in command ≡ Boruvka) × AreBoruvkaSweepOptions command options
-IsTask command (task.View options) =
-    (name_in command ≡ Some (codes "view")) × (value_in (codes "TRACE") command ≡ None) × AreViewOptions command options
-IsTask command (task.StoredView options) =
-    (name_in command ≡ Some (codes "view")) × (value_in (codes "TRACE") command ≢ None) × AreStoredViewOptions command options
+IsTask command (task.View options) = IsView Ghs command × IsOfSeed command × AreViewOptions command options
+IsTask command (task.BoruvkaView options) = IsView Boruvka command × IsOfSeed command × AreBoruvkaViewOptions command options
+IsTask command (task.StoredView protocol options) = IsView protocol command × IsOfStored command × AreStoredViewOptions command options
 IsTask command (task.Make asked) = (name_in command ≡ Some (codes "make")) × IsAsked command asked
 IsTask command (task.Explore options) = (name_in command ≡ Some (codes "explore")) × AreExploreOptions command options
 
@@ -316,6 +330,10 @@ pub record AreViewLimits (o : ViewOptions) : Type 0 where
   pub some : 1 ≤ o.turns
   pub few : o.turns ≤ EVENT_LIMIT
 
+pub record AreBoruvkaViewLimits (o : BoruvkaViewOptions) : Type 0 where
+  pub some : 1 ≤ o.turns
+  pub few : o.turns ≤ EVENT_LIMIT
+
 pub record AreExploreLimits (o : ExploreOptions) : Type 0 where
   pub some : 1 ≤ o.limit
   pub first : 1 ≤ o.end
@@ -331,7 +349,8 @@ IsWithinLimits (task.BoruvkaSteps options) = Unit {0}
 IsWithinLimits (task.Sweep options) = AreSweepLimits options
 IsWithinLimits (task.BoruvkaSweep options) = AreBoruvkaSweepLimits options
 IsWithinLimits (task.View options) = AreViewLimits options
-IsWithinLimits (task.StoredView options) = Unit {0}
+IsWithinLimits (task.BoruvkaView options) = AreBoruvkaViewLimits options
+IsWithinLimits (task.StoredView protocol options) = Unit {0}
 IsWithinLimits (task.Make asked) = Unit {0}
 IsWithinLimits (task.Explore options) = AreExploreLimits options
 
@@ -383,7 +402,7 @@ has_network command =
 abbrev pub has_seeds : Used → Bool
 has_seeds command = is_range (value_in (codes "seeds") command) && are_two (value_in (codes "pair") command)
 
--- how a network is run goes with Borůvka in step: no threads, no other schedule than the seeded, no cores, nothing is told of the run, no JSON
+-- how a network is run goes with Borůvka in step: no threads, no other schedule than the seeded, no cores, nothing is told of the run
 abbrev pub runs_in_step : Used → Bool
 runs_in_step command =
     is_number 0 0 (value_in (codes "workers") command)
@@ -391,19 +410,23 @@ runs_in_step command =
     && not (is_said (codes "true") (value_in (codes "core") command))
     && not (is_said (codes "true") (value_in (codes "progress") command))
     && not (is_said (codes "true") (value_in (codes "tally") command))
-    && not (is_said (codes "true") (value_in (codes "json") command))
 
--- what is swept does: one network, without its name, and the figures of its runs alone, by no parts
+-- what is swept does: one network, without its name, and the figures of its runs alone, by no parts, as text; only a sweep has a sheet
 abbrev pub sweeps_in_step : Used → Bool
 sweeps_in_step command =
     is_among (codes "runs" ∷ []) (value_in (codes "sheet") command)
     && is_none (value_in (codes "by") command)
     && not (is_said (codes "true") (value_in (codes "names") command))
     && not (are_several (values_in (codes "FILE") command))
+    && (is_none (value_in (codes "sheet") command) || not (is_said (codes "true") (value_in (codes "json") command)))
+
+-- what is shown does: one run
+abbrev pub shows_in_step : Used → Bool
+shows_in_step command = is_none (value_in (codes "pair") command)
 
 -- all that is asked for does
 abbrev pub fits_boruvka : Used → Bool
-fits_boruvka command = runs_in_step command && sweeps_in_step command
+fits_boruvka command = runs_in_step command && sweeps_in_step command && shows_in_step command
 
 -- GHS goes with everything
 abbrev pub fits_by : Protocol → Used → Bool

@@ -166,6 +166,7 @@ fn view<'a>(alloc: Global) -> Result<Command<'a>, AllocError>
 {
     let arguments = vec![in alloc;
         file(alloc),
+        protocol(alloc),
         seed(alloc),
         pair(alloc),
         schedule(alloc),

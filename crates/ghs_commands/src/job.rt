@@ -1,7 +1,7 @@
 //! Command lines.
 ghost use Rattle.ghs_commands.specs.declared.job.JobFault.TheVariants.{Memory};
 ghost use Rattle.ghs_commands.specs.Grammar.{program};
-ghost use Rattle.ghs_commands.specs.Job.{AreNetworks, AreOptions, IsAsked, kind_in, links_in, weights_in, AreStepsOptions, IsChoice, AreSweepLimits, AreSweepOptions, AreWithinLimits, by_in, command_in, first_seed_in, has_choices, has_course, has_events, has_figures, has_network, has_numbers, has_prints, has_seeds, has_sizes, has_sources, has_values, kinds_of, name_in, node_in, number_at, option_kinds, pair_in, second_seed_in, seeds_at, value_in, with_name, IsForm, IsScheduleKind, IsRefused, IsSaid, IsSaidOf, IsSheet, IsShow, IsTask, IsWake, IsWithinLimits, AreStoredViewOptions, AreViewLimits, AreViewOptions};
+ghost use Rattle.ghs_commands.specs.Job.{AreNetworks, AreOptions, IsAsked, kind_in, links_in, weights_in, AreStepsOptions, IsChoice, AreSweepLimits, AreSweepOptions, AreWithinLimits, by_in, command_in, first_seed_in, has_choices, has_course, has_events, has_figures, has_network, has_numbers, has_prints, has_seeds, has_sizes, has_sources, has_values, kinds_of, name_in, node_in, number_at, option_kinds, pair_in, second_seed_in, seeds_at, value_in, with_name, IsForm, IsOfSeed, IsScheduleKind, IsRefused, IsSaid, IsSaidOf, IsSheet, IsShow, IsTask, IsWake, IsWithinLimits, AreStoredViewOptions, AreViewLimits, AreViewOptions};
 ghost use Rattle.ghs_commands.specs.Values.{AreSeeds, are_apart, are_weights, is_among, is_kind, is_number, is_range};
 ghost use Rattle.ghs_commands.specs.Networks.{are_read_once, values_in};
 ghost use Rattle.ghs_commands.specs.Parts.{go_together, is_part};
@@ -11,8 +11,8 @@ ghost use Rattle.std.specs.Option.{option_map};
 ghost use Rattle.std.specs.Prelude.{◌≡◌, ◌≤◌, ◌↔◌, ◌∷◌, [], IfErr, IfOk, IfSome, OnErr, OnOk, Some, codes, false, map, string_bytes, true};
 
 use crate::boruvka::{
-    BoruvkaOptions, BoruvkaStepsOptions, BoruvkaSweepOptions, boruvka_of, boruvka_steps_of,
-    boruvka_sweep_of,
+    BoruvkaOptions, BoruvkaSweepOptions, BoruvkaViewOptions, boruvka_of, boruvka_sweep_of,
+    boruvka_view_of,
 };
 use crate::exploring::{ExploreOptions, MOST_STATES, exploration_of};
 use crate::grammar::program;
@@ -158,25 +158,35 @@ pub struct StoredViewOptions {
 #[derive(Clone, Copy, Debug, PartialEq, Eq)]
 pub enum Task {
     /// Print the minimum spanning forest, and each component's core where that is asked for.
-    Tree { core: bool },
+    Tree {
+        core: bool,
+    },
     /// Run a network.
     Run(RunOptions),
     /// Run a network by Borůvka in step.
     Boruvka(BoruvkaOptions),
     /// Play a stored run of a protocol again.
-    Replay { protocol: Protocol, wake: WakeSet },
+    Replay {
+        protocol: Protocol,
+        wake: WakeSet,
+    },
     /// Print what each event of a stored run does.
     Steps(StepsOptions),
     /// Print what each event of a stored run by Borůvka in step does.
-    BoruvkaSteps(BoruvkaStepsOptions),
+    BoruvkaSteps(StepsOptions),
     /// Print the figures of many seeds' runs.
     Sweep(SweepOptions),
     /// Print the figures of many seeds' runs by Borůvka in step.
     BoruvkaSweep(BoruvkaSweepOptions),
     /// Print the page of the run that a seed picks.
     View(ViewOptions),
-    /// Print the page of a stored run.
-    StoredView(StoredViewOptions),
+    /// Print the page of the run that a seed picks by Borůvka in step.
+    BoruvkaView(BoruvkaViewOptions),
+    /// Print the page of a stored run of a protocol.
+    StoredView {
+        protocol: Protocol,
+        options: StoredViewOptions,
+    },
     /// Make a network, and print it.
     Make(Asked),
     /// Print with which counts of messages all runs of a network end, or the events of one of them.
@@ -652,7 +662,7 @@ fn steps_by<'a>(matches: &ArgMatches<'a>) -> Task
 {
     match protocol_of(matches) {
         Protocol::Ghs => Task::Steps(steps_of(matches)),
-        Protocol::Boruvka => Task::BoruvkaSteps(boruvka_steps_of(matches)),
+        Protocol::Boruvka => Task::BoruvkaSteps(steps_of(matches)),
     }
 }
 
@@ -668,7 +678,7 @@ fn steps_of<'a>(matches: &ArgMatches<'a>) -> StepsOptions
 }
 
 /// Of which events they are.
-pub(crate) fn choice_of<'a>(matches: &ArgMatches<'a>) -> Choice
+fn choice_of<'a>(matches: &ArgMatches<'a>) -> Choice
     ensures { IsChoice (subcommand_rows_of matches.now) result }
 {
     Choice {
@@ -739,8 +749,25 @@ fn shown_by<'a>(matches: &ArgMatches<'a>) -> Task
     ensures limits { IsWithinLimits result }
 {
     match value_of(matches, "TRACE") {
-        Some(_) => Task::StoredView(stored_view_of(matches)),
-        None => Task::View(view_of(matches)),
+        Some(_) => {
+            let protocol = protocol_of(matches);
+            let options = stored_view_of(matches);
+            Task::StoredView { protocol, options }
+        }
+        None => seed_shown_by(matches),
+    }
+}
+
+/// By which protocol the run goes of which a page is to be made, and whose it is.
+fn seed_shown_by<'a>(matches: &ArgMatches<'a>) -> Task
+    requires view { name_in (subcommand_rows_of matches.now) ≡ Some (codes "view") }
+    requires seed { IsOfSeed (subcommand_rows_of matches.now) }
+    ensures task { IsTask (subcommand_rows_of matches.now) result }
+    ensures limits { IsWithinLimits result }
+{
+    match protocol_of(matches) {
+        Protocol::Ghs => Task::View(view_of(matches)),
+        Protocol::Boruvka => Task::BoruvkaView(boruvka_view_of(matches)),
     }
 }
 

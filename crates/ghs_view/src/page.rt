@@ -64,8 +64,8 @@ pub fn run_page(
     Ok(page(alloc, &data)?)
 }
 
-/// The events up to a number.
-pub(crate) fn first_events(events: &[Event], to: u64) -> &[Event]
+/// The events up to a number, which count from 1.
+pub fn first_events(events: &[Event], to: u64) -> &[Event]
     ensures { result.now ≡ events_to to events.now }
 {
     &events[..to.min(events.len() as u64) as usize]

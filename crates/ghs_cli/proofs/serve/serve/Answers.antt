@@ -102,27 +102,49 @@ returns-in-View-clause-unwritten g c = unwritten_but_for_write c.args.job.now.ta
 pub returns-in-View-clause-trace : goal.returns-in-View-clause-trace
 returns-in-View-clause-trace g c = unread_as c.args.job.now.task (task.View c.in-View.options) _ _ c.in-View.is refl
 
+pub returns-in-BoruvkaView-clause-serves : goal.returns-in-BoruvkaView-clause-serves
+returns-in-BoruvkaView-clause-serves g c =
+    serves_as c.args.job.now.task (task.BoruvkaView c.in-BoruvkaView.options) (g.T.Source.left c.args.trace.now)
+    (g.R.Source.left c.args.graph.now) _ _ c.print-in-BoruvkaView.result c.in-BoruvkaView.is
+    (serves_unread (task.BoruvkaView c.in-BoruvkaView.options) (g.R.Source.left c.args.graph.now) c.boruvka_view_of.result _ _
+    c.print-in-BoruvkaView.result refl refl c.boruvka_view_of.ensures.early c.print-in-BoruvkaView.ensures.printed
+    (λ s. c.boruvka_view_of.ensures.text) (λ s. c.boruvka_view_of.ensures.fault))
+
+pub returns-in-BoruvkaView-clause-ends : goal.returns-in-BoruvkaView-clause-ends
+returns-in-BoruvkaView-clause-ends g c =
+    ends_other c.args.job.now.task (task.BoruvkaView c.in-BoruvkaView.options) (g.R.Source.left c.args.graph.now)
+    c.print-in-BoruvkaView.result c.in-BoruvkaView.is refl
+
+pub returns-in-BoruvkaView-clause-unwritten : goal.returns-in-BoruvkaView-clause-unwritten
+returns-in-BoruvkaView-clause-unwritten g c =
+    unwritten_but_for_write c.args.job.now.task _ _ c.print-in-BoruvkaView.result c.print-in-BoruvkaView.ensures.unwritten
+
+pub returns-in-BoruvkaView-clause-trace : goal.returns-in-BoruvkaView-clause-trace
+returns-in-BoruvkaView-clause-trace g c =
+    unread_as c.args.job.now.task (task.BoruvkaView c.in-BoruvkaView.options) _ _ c.in-BoruvkaView.is refl
+
 pub returns-in-StoredView-clause-serves : goal.returns-in-StoredView-clause-serves
 returns-in-StoredView-clause-serves g c =
-    serves_as c.args.job.now.task (task.StoredView c.in-StoredView.options) (g.T.Source.left c.args.trace.now) (g.R.Source.left
-    c.args.graph.now) _ _
+    let page = task.StoredView c.in-StoredView.protocol c.in-StoredView.options in
+    serves_as c.args.job.now.task page (g.T.Source.left c.args.trace.now) (g.R.Source.left c.args.graph.now) _ _
     c.print-in-StoredView.result c.in-StoredView.is
-    (serves_stored (task.StoredView c.in-StoredView.options) (g.T.Source.left c.args.trace.now) (g.R.Source.left c.args.graph.now)
-    c.stored_view_of.result _ _
+    (serves_stored page (g.T.Source.left c.args.trace.now) (g.R.Source.left c.args.graph.now) c.stored_view_of.result _ _
     c.print-in-StoredView.result refl refl c.stored_view_of.ensures.early c.print-in-StoredView.ensures.printed
     c.stored_view_of.ensures.text c.stored_view_of.ensures.fault)
 
 pub returns-in-StoredView-clause-ends : goal.returns-in-StoredView-clause-ends
 returns-in-StoredView-clause-ends g c =
-    ends_other c.args.job.now.task (task.StoredView c.in-StoredView.options) (g.R.Source.left c.args.graph.now) c.print-in-StoredView.result
-    c.in-StoredView.is refl
+    let page = task.StoredView c.in-StoredView.protocol c.in-StoredView.options in
+    ends_other c.args.job.now.task page (g.R.Source.left c.args.graph.now) c.print-in-StoredView.result c.in-StoredView.is refl
 
 pub returns-in-StoredView-clause-unwritten : goal.returns-in-StoredView-clause-unwritten
 returns-in-StoredView-clause-unwritten g c =
     unwritten_but_for_write c.args.job.now.task _ _ c.print-in-StoredView.result c.print-in-StoredView.ensures.unwritten
 
 pub returns-in-StoredView-clause-trace : goal.returns-in-StoredView-clause-trace
-returns-in-StoredView-clause-trace g c = unread_as c.args.job.now.task (task.StoredView c.in-StoredView.options) _ _ c.in-StoredView.is tt
+returns-in-StoredView-clause-trace g c =
+    let page = task.StoredView c.in-StoredView.protocol c.in-StoredView.options in
+    unread_as c.args.job.now.task page _ _ c.in-StoredView.is tt
 
 pub returns-in-Explore-clause-serves : goal.returns-in-Explore-clause-serves
 returns-in-Explore-clause-serves g c =

@@ -1,0 +1,15 @@
+-- The first events of a run are a run.
+use Rattle.std.proofs.Common.{ℕ, List, take, drop, ◌∙◌, ap}
+use Rattle.std.proofs.lemmas.List.{take-append-drop}
+use Rattle.ghs_protocol.specs.declared.event.Event.{Event}
+use Rattle.ghs_protocol.specs.Network.{Network}
+use Rattle.peer_machine.specs.Net.{opening}
+use Rattle.peer_machine.specs.Run.{IsRun, run}
+use Rattle.peer_machine.proofs.lemmas.Runs.{run_splits}
+use Rattle.boruvka_node.specs.Boruvka.{boruvka}
+
+pub front_is_run : (n : Network) (es : List Event) (k : ℕ) → IsRun boruvka n es → IsRun boruvka n (take k es)
+front_is_run n es k is_run =
+    run_splits boruvka n (take k es) (drop k es) (opening boruvka n) is_run.0
+    (ap (λ (fs : List Event). run boruvka n fs (opening boruvka n)) (take-append-drop k es) ∙ is_run.1)
+    (λ x front rest. (x, front))

@@ -1,0 +1,21 @@
+use Rattle.std.proofs.Common.{◌∙◌, ap, arith, length, rules, ⊎_elim}
+use Rattle.ghs_page.specs.Page.{page_text}
+use Rattle.ghs_protocol.specs.Network.{network_of}
+use Rattle.boruvka_view.proofs.Front.{front_is_run}
+use Rattle.boruvka_view.proofs.page.run_page.Goals as goal
+
+pub data_of-requires : goal.data_of-requires
+data_of-requires c = rw c.first_events-shown.ensures (front_is_run (network_of c.args.graph) c.args.events.now _ c.requires.run)
+
+pub returns-clause-page : goal.returns-clause-page
+returns-clause-page c =
+    c.in_ok-page.ensures ∙ ap page_text (c.deref.ensures.value ∙ rw c.first_events-shown.ensures at c.in_ok-data.ensures)
+
+-- a page that is made isn't too large
+pub returns-clause-large : goal.returns-clause-large
+returns-clause-large c =
+    let many = c.if-nodes-gt-PAGE_NODES.false in
+    let nodes = c.nodes.ensures.nodes in
+    let long = c.if-shown-gt-PAGE_EVENTS.false in
+    let shown = ap length c.first_events-shown.ensures in
+    (λ e. search rules, λ large. absurd (⊎_elim (λ m. omega (arith, m, many, nodes)) (λ m. omega (arith, m, long, shown)) large))

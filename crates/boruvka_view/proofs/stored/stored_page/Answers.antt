@@ -1,0 +1,9 @@
+use Rattle.boruvka_view.proofs.stored.stored_page.Goals as goal
+
+pub returns-in-Ok-run_page-clause-run : goal.returns-in-Ok-run_page-clause-run
+returns-in-Ok-run_page-clause-run c =
+    let ok = c.in-Ok.ensures.ok in
+    rw (ok.graph, ok.wake_set, ok.trace) at c.net.ensures.run
+
+pub returns-in-Ok-run_page-clause-page : goal.returns-in-Ok-run_page-clause-page
+returns-in-Ok-run_page-clause-page c = rw (c.into_graph.ensures, c.in-Ok.ensures.ok.graph) at c.in-Ok-run_page.ensures.page

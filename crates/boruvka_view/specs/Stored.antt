@@ -1,0 +1,19 @@
+-- Why a stored run of Borůvka in step has no page.
+use Rattle.std.specs.Prelude.{ℕ, List}
+use Rattle.ghs_graph.specs.Graph.{Shape}
+use Rattle.ghs_protocol.specs.declared.event.Event.{Event}
+use Rattle.ghs_protocol.specs.Network.{network_of}
+use Rattle.ghs_view.specs.RunPage.{IsTooLarge}
+use Rattle.ghs_view.specs.declared.stored.StoredFault.{StoredFault}
+use Rattle.ghs_view.specs.declared.stored.StoredFault.TheVariants.{Memory, NotLawful, TooLarge}
+use Rattle.ghs_world.specs.declared.wake_set.WakeSet.{WakeSet}
+use Rattle.ghs_world.specs.Wakes.{may_wake}
+use Rattle.peer_machine.specs.Run.{IsRunUnder}
+use Rattle.peer_runs.specs.Replays.{IsFirstUnlawful}
+use Rattle.boruvka_node.specs.Boruvka.{boruvka}
+
+-- the first event that can't happen where it stands; a run that a page can't take; out of memory may come anywhere
+abbrev pub HasNoPage : Shape → WakeSet → List Event → ℕ → StoredFault → Type 0
+HasNoPage g wake es to (NotLawful k) = IsFirstUnlawful boruvka g wake es k
+HasNoPage g wake es to TooLarge = IsRunUnder boruvka (may_wake g wake) (network_of g) es × IsTooLarge g es to
+HasNoPage g wake es to Memory = Unit {0}

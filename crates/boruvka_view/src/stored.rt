@@ -1,0 +1,54 @@
+//! The page of a stored run of Borůvka in step, which is judged first.
+ghost use Rattle.ghs_protocol.specs.Network.{network_of};
+ghost use Rattle.ghs_world.specs.Wakes.{may_wake};
+ghost use Rattle.peer_machine.specs.Run.{IsRunUnder};
+ghost use Rattle.boruvka_node.specs.Boruvka.{boruvka};
+ghost use Rattle.boruvka_view.specs.RunPage.{IsRunPage};
+ghost use Rattle.boruvka_view.specs.Stored.{HasNoPage};
+ghost use Rattle.std.specs.Prelude.{IfErr, IfOk, OnOk};
+
+use crate::page::run_page;
+use boruvka::protocol::Boruvka;
+use ghs_graph::graph::Graph;
+use ghs_sched::fault::ReplayFault;
+use ghs_view::page::PageFault;
+pub use ghs_view::stored::StoredFault;
+use ghs_world::wake_set::WakeSet;
+use peer_machine::event::Event;
+use peer_runs::replay::replay;
+use std::alloc::Global;
+
+/// The page of a stored run, from the opening on to the event `to`; it opens before the event `from`. A run that hasn't
+/// ended is shown too. Refusals, in this order: an event isn't lawful; the page is too large; out of memory comes where
+/// it is met.
+///
+/// ```text
+/// let events = read_trace_of(alloc, Protocol::Boruvka, &text)?;
+/// let html = stored_page(alloc, graph, WakeSet::All, &events, 1, u64::MAX)?;
+/// // Err(StoredFault::NotLawful(2)) where the second event isn't lawful
+/// ```
+pub fn stored_page(
+    alloc: Global,
+    graph: Graph,
+    wake: WakeSet,
+    events: &[Event],
+    from: u64,
+    to: u64,
+) -> Result<Vec<u8>, StoredFault>
+    ensures run { OnOk result (IsRunUnder boruvka (may_wake graph wake) (network_of graph) events.now) }
+    ensures page { IfOk result (λ text. IsRunPage graph events.now from to text.items) }
+    ensures fault { IfErr result (λ fault. HasNoPage graph wake events.now to fault) }
+{
+    let world = match replay::<Boruvka>(alloc, graph, wake, events) {
+        Ok(world) => world,
+        Err((_, ReplayFault::NotLawful(event))) => return Err(StoredFault::NotLawful(event)),
+        Err((_, _)) => return Err(StoredFault::Memory),
+    };
+    // Read for its clause: the events are a run.
+    let _ = world.net();
+    match run_page(alloc, world.into_graph(), events, from, to) {
+        Ok(text) => Ok(text),
+        Err(PageFault::TooLarge) => Err(StoredFault::TooLarge),
+        Err(PageFault::Memory) => Err(StoredFault::Memory),
+    }
+}
