@@ -29,6 +29,7 @@ _ghs() {
         sweep,--turns) : && return ;;
         sweep,--print) COMPREPLY=($(compgen -W 'runs summary chart' -- "$word")) && return ;;
         sweep,--by) COMPREPLY=($(compgen -W 'node level rule' -- "$word")) && return ;;
+        view,--protocol) COMPREPLY=($(compgen -W 'ghs boruvka' -- "$word")) && return ;;
         view,--seed) : && return ;;
         view,--seeds) : && return ;;
         view,--schedule) COMPREPLY=($(compgen -W 'seeded patient rounds waits lifo' -- "$word")) && return ;;
@@ -52,7 +53,7 @@ _ghs() {
         replay) [[ $word == -* ]] && COMPREPLY=($(compgen -W '--protocol --wake -h --help' -- "$word")) ;;
         steps) [[ $word == -* ]] && COMPREPLY=($(compgen -W '--protocol --wake --from --to --node --json -h --help' -- "$word")) ;;
         sweep) [[ $word == -* ]] && COMPREPLY=($(compgen -W '--protocol --seeds --schedule --workers --wake --turns --print --by --names --json --progress -h --help' -- "$word")) ;;
-        view) [[ $word == -* ]] && COMPREPLY=($(compgen -W '--seed --seeds --schedule --wake --turns --trace --from --to -h --help' -- "$word")) ;;
+        view) [[ $word == -* ]] && COMPREPLY=($(compgen -W '--protocol --seed --seeds --schedule --wake --turns --trace --from --to -h --help' -- "$word")) ;;
         make) [[ $word == -* ]] && COMPREPLY=($(compgen -W '--seed --links --weights -h --help' -- "$word"))
             [[ $word == -* ]] || { [ "$COMP_CWORD" -eq 2 ] && COMPREPLY=($(compgen -W 'path ring star grid complete tree random road forest slow busy' -- "$word")); return; } ;;
         explore) [[ $word == -* ]] && COMPREPLY=($(compgen -W '--wake --limit --print --end --progress -h --help' -- "$word")) ;;

@@ -45,6 +45,7 @@ complete -c ghs -n '__fish_seen_subcommand_from sweep' -l names -d 'Begins each 
 complete -c ghs -n '__fish_seen_subcommand_from sweep' -l json -d 'Prints the lines as JSON'
 complete -c ghs -n '__fish_seen_subcommand_from sweep' -l progress -d 'Tells standard error how many of the seeds have been run'
 complete -c ghs -n '__fish_seen_subcommand_from sweep' -s h -l help -d 'Print help'
+complete -c ghs -n '__fish_seen_subcommand_from view' -l protocol -x -a 'ghs boruvka' -d 'Which protocol the nodes follow: ghs, or boruvka, Borůvka in step, without threads and by a seeded schedule alone [default: ghs]'
 complete -c ghs -n '__fish_seen_subcommand_from view' -l seed -x -d 'The number that picks the order of the events [default: 1]'
 complete -c ghs -n '__fish_seen_subcommand_from view' -l seeds -x -d 'Two seeds, FIRST,SECOND, whose runs are shown beside each other, in place of the one of --seed'
 complete -c ghs -n '__fish_seen_subcommand_from view' -l schedule -x -a 'seeded patient rounds waits lifo' -d 'Which events the seed picks among: seeded, all that may happen, patient, those that move the run on, rounds, those of them whose message arrives in the round, waits, those that only put a message back as long as there are any, so that such a run needn'\''t end before its turns, or lifo, the one whose message was sent last [default: seeded]'
