@@ -18,6 +18,13 @@ module _ {X : Type 0} (f : X → ℕ) where
   front_le (x ∷ xs) (suc i) zero le = absurd (omega arith)
   front_le (x ∷ xs) (suc i) (suc j) le = omega (arith, front_le xs i j (omega arith), sum_by-cons f x (take i xs), sum_by-cons f x (take j xs))
 
+  -- behind a front that falls short of the whole there is more
+  pub within_short : (xs : List X) (i r : ℕ) → sum_by f (take i xs) + r < sum_by f xs → i < length xs
+  within_short xs i r short = ⊎_elim
+      (λ (lt : i < length xs). lt)
+      (λ (past : length xs ≤ i). let all = ap (sum_by f) (take_all i xs past) in absurd (omega arith))
+      (cases_lt i (length xs))
+
   -- what a front sums up to once one place is written to
   pub front_set : (xs : List X) (m p : ℕ) (y d : X) → p < length xs → p < m
       → sum_by f (take m (set xs p y)) + f (get_or xs p d) ≡ sum_by f (take m xs) + f y

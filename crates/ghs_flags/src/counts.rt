@@ -117,14 +117,13 @@ fn find_from(counts: &[u32], start: usize, mut rest: u32) -> (usize, u32)
     requires { sum (take start counts.now) + rest < sum counts.now }
     ensures { PassesAt counts.now (sum (take start counts.now) + rest) result.0 result.1 }
 {
-    for at in start..counts.len() {
-        let here = counts[at];
-        if rest < here {
-            return (at, rest);
-        }
-        rest -= here;
+    let mut at = start;
+    // No step asks whether the list ends: the sum is passed before.
+    while rest >= counts[at] {
+        rest -= counts[at];
+        at += 1;
     }
-    unreachable!()
+    (at, rest)
 }
 
 /// The sum of the counts from one place up to another.

@@ -115,14 +115,13 @@ fn find_bit(words: &[u64], start: usize, mut rest: u32) -> usize
     requires some { ones_of start words.now + rest < sum_by count_ones words.now }
     ensures { IsNthFlag words.now (ones_of start words.now + rest) result }
 {
-    for at in start..words.len() {
-        let ones = words[at].count_ones();
-        if rest < ones {
-            return at * BITS + nth_bit(words[at], rest) as usize;
-        }
-        rest -= ones;
+    let mut at = start;
+    // No step asks whether the words end: the set bit comes before.
+    while rest >= words[at].count_ones() {
+        rest -= words[at].count_ones();
+        at += 1;
     }
-    unreachable!()
+    at * BITS + nth_bit(words[at], rest) as usize
 }
 
 /// The first set bit from that of one flag up to that of another.
