@@ -40,3 +40,8 @@ place g (Take v p) = length (events_to g (v - 1)) + suc p
 -- the Take at the far end of a port
 abbrev pub far_take : Network → ℕ → ℕ → Event
 far_take g v p = Take (far g v p) (far_port g v p)
+
+-- the place at the far end: of a Take that of the Take at the far end of its port; a Wake is its own
+abbrev pub far_place : Network → Event → ℕ
+far_place g (Wake v) = place g (Wake v)
+far_place g (Take v p) = place g (far_take g v p)

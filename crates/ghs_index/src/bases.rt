@@ -87,20 +87,21 @@ pub fn event_at(bases: &[u32], owners: &[u32], graph: &Graph, at: usize) -> Even
     ensures { slice_get (all_events (network_of graph.now)) at ≡ Some result }
 {
     let _ = graph.nodes();
-    let v = node_at(bases, owners, at);
-    let base = bases[v] as usize;
-    if at == base {
-        Event::Wake(v as u32)
-    } else {
-        Event::Take(v as u32, (at - base - 1) as u32)
-    }
+    event_of(bases, graph, owners[at], at)
 }
 
-/// The node whose event stands at a place. O(1).
-pub fn node_at(bases: &[u32], owners: &[u32], at: usize) -> usize
-    requires owners { AreOwners bases.now owners.now }
-    requires high { at < slice_index bases.now (length bases.now - 1) }
-    ensures { IsOwner bases.now at result }
+/// The event of a node at a place. O(1).
+pub fn event_of(bases: &[u32], graph: &Graph, v: u32, at: usize) -> Event
+    requires bases { AreBases (network_of graph.now) graph.now.nodes bases.now }
+    requires owner { IsOwner bases.now at v }
+    requires within { at < length (all_events (network_of graph.now)) }
+    ensures { slice_get (all_events (network_of graph.now)) at ≡ Some result }
 {
-    owners[at] as usize
+    let _ = graph.nodes();
+    let base = bases[v as usize] as usize;
+    if at == base {
+        Event::Wake(v)
+    } else {
+        Event::Take(v, (at - base - 1) as u32)
+    }
 }

@@ -8,7 +8,8 @@ ghost use Rattle.ghs_flags.specs.Flags.{count};
 ghost use Rattle.ghs_index.specs.Places.{all_events, far_take, node_events, takes, place, HasPlace};
 ghost use Rattle.ghs_index.specs.Index.{IsFor, IsIndexOf};
 
-use crate::bases::{base_of, event_at, lay_bases, lay_owners, node_at, place_of, span_of};
+use crate::bases::{base_of, event_of, lay_bases, place_of, span_of};
+use crate::ends::{Ends, far_at, lay_ends, owner_at};
 use ghs_flags::flags::Flags;
 use ghs_graph::graph::Graph;
 use ghs_protocol::event::Event;
@@ -16,24 +17,25 @@ use std::alloc::{AllocError, Global};
 use std::marker::Model;
 
 /// Of the events that name a node or port of a graph some are marked. They stand by node, Wake before ports, ports
-/// rising. The index takes 4 bytes a node, and 4 bytes, a bit and a sixteenth of a bit an event.
+/// rising. The index takes 4 bytes a node, and 8 bytes, a bit and a sixteenth of a bit an event.
 #[derive(Debug, Drop)]
 pub struct Index {
     /// The place of the first event of each node, and behind them how many events there are; 0 is no node.
     bases: Vec<u32>,
-    /// The node whose event stands at each place.
-    owners: Vec<u32>,
+    /// Of each place the node whose event stands there, and the place at the far end. They lie side by side: a run looks
+    /// up the node of the event that it picks, and then the far places of the ports of that node, which are near.
+    ends: Vec<Ends>,
     marks: Flags,
 }
 
 impl Model for Index {
-    ghost use Rattle.ghs_index.specs.Index.{IndexState, AreOwners};
+    ghost use Rattle.ghs_index.specs.Index.{IndexState, AreOwners, fars_in, owners_in};
 
     ghost Value = { IndexState };
 
-    ghost view = { λ x. record { bases = x.bases.items; marks = x.marks } };
+    ghost view = { λ x. record { bases = x.bases.items; fars = fars_in x.ends.items; marks = x.marks } };
 
-    ghost invariant = { λ x. AreOwners x.bases.items x.owners.items };
+    ghost invariant = { λ x. AreOwners x.bases.items (owners_in x.ends.items) };
 }
 
 impl Index {
@@ -50,13 +52,9 @@ impl Index {
     {
         let bases = lay_bases(alloc, graph)?;
         let events = bases[bases.len() - 1] as usize;
-        let owners = lay_owners(alloc, &bases, graph)?;
+        let ends = lay_ends(alloc, &bases, graph)?;
         let marks = Flags::lowered(alloc, events)?;
-        Ok(Index {
-            bases,
-            owners,
-            marks,
-        })
+        Ok(Index { bases, ends, marks })
     }
 
     /// Marks an event of the index's graph, or takes its mark away. O(1), and takes no memory.
@@ -76,8 +74,9 @@ impl Index {
         ensures { self.new ≡ record self.old { marks = slice_set self.old.marks (place (network_of graph.now) (far_take (network_of graph.now) v port)) true } }
     {
         let _ = graph.nodes();
-        let end = &graph.ports(v)[port as usize];
-        self.set(graph, Event::Take(end.far, end.far_port), true);
+        let at = place_of(&self.bases, graph, Event::Take(v, port));
+        let far = far_at(&self.ends, at);
+        self.marks.set(far, true);
     }
 
     /// How many events are marked. O(1).
@@ -94,7 +93,9 @@ impl Index {
         requires within { k < count self.now.marks }
         ensures { (p : Happening → Bool) → IsIndexOf (network_of graph.now) p self.now → slice_get (filter p (all_events (network_of graph.now))) k ≡ Some result }
     {
-        event_at(&self.bases, &self.owners, graph, self.marks.kth(k))
+        let at = self.marks.kth(k);
+        let v = owner_at(&self.bases, &self.ends, at);
+        event_of(&self.bases, graph, v, at)
     }
 
     /// Whether an event of a node is marked. O(1).
@@ -138,7 +139,7 @@ impl Index {
         let _ = graph.nodes();
         let base = base_of(&self.bases, graph, low);
         match self.marks.first_from(base) {
-            Some(at) => Some(node_at(&self.bases, &self.owners, at) as u32),
+            Some(at) => Some(owner_at(&self.bases, &self.ends, at)),
             None => None,
         }
     }

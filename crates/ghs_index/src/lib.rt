@@ -5,11 +5,12 @@
 //! `first_take` and `node_from` answer for exactly the marked events (`IsIndexOf`). `Places` says which event stands
 //! where, for rows that keep more than a mark.
 //!
-//! An index takes 4 bytes a node, and 4 bytes, a bit and a sixteenth of a bit an event: the node of each place is stored,
-//! and not searched for. A world keeps its lawful events in one (`ghs_world`), a patient run those that move it on
-//! (`ghs_patient`).
+//! An index takes 4 bytes a node, and 8 bytes, a bit and a sixteenth of a bit an event: the node of each place and the
+//! place at its far end are stored, and not searched for. A world keeps its lawful events in one (`ghs_world`), a patient
+//! run those that move it on (`ghs_patient`).
 #![tactic(auto)]
 
 mod bases;
+mod ends;
 pub mod index;
 pub mod places;

@@ -1,5 +1,5 @@
 -- Marks of the choices, set one by one.
-use Rattle.std.proofs.Common.{◌≡◌, ◌≢◌, ℕ, ◌+◌, ◌<◌, ◌≤◌, true, Some, length, ◌∙◌, length-set}
+use Rattle.std.proofs.Common.{◌≡◌, ◌≢◌, ℕ, ◌+◌, ◌<◌, ◌≤◌, true, Some, length}
 use Rattle.std.specs.List.{All}
 use Rattle.ghs_graph.specs.Graph.{IsGraph}
 use Rattle.ghs_graph.specs.Ports.{ports_of}
@@ -13,7 +13,7 @@ use Rattle.ghs_protocol.specs.declared.event.Event.TheVariants.{Wake, Take}
 use Rattle.ghs_protocol.specs.Net.{event_node}
 use Rattle.ghs_core.specs.NetState.{network}
 use Rattle.ghs_index.specs.Places.{HasPlace, place}
-use Rattle.ghs_index.proofs.lemmas.Marks.{of_but}
+use Rattle.ghs_index.proofs.lemmas.Marks.{for_set, of_but}
 use Rattle.ghs_world.specs.WorldState.{WorldState, home}
 use Rattle.ghs_patient.specs.Choices.{AreChoices, AreChoicesBut, AreFor, ChoicesState, IsStirred, are_alike, far_takes, is_double, marked, marked_all, marked_to, moves_in}
 use Rattle.ghs_patient.proofs.lemmas.Places.{own_node}
@@ -23,8 +23,8 @@ use Rattle.ghs_patient.proofs.lemmas.Walks as walks
 module _ (s : WorldState) where
   pub for_marked : (e : Event) (c : ChoicesState) → AreFor (network s.net) c → AreFor (network s.net) (marked s e c)
   for_marked e c h = record {
-    moving = record { bases = h.moving.bases; many = length-set c.moving.marks (place (network s.net) e) (moves_in s e) ∙ h.moving.many };
-    double = record { bases = h.double.bases; many = length-set c.double.marks (place (network s.net) e) (is_double (home s) e) ∙ h.double.many };
+    moving = for_set (network s.net) c.moving (place (network s.net) e) (moves_in s e) h.moving;
+    double = for_set (network s.net) c.double (place (network s.net) e) (is_double (home s) e) h.double;
   }
 
   pub right_marked : (wrong : Event → Type 0) (e : Event) (c : ChoicesState) → AreChoicesBut s wrong c → HasPlace (network s.net) e →

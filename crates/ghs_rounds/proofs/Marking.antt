@@ -1,5 +1,5 @@
 -- Marks of the choices, set one by one.
-use Rattle.std.proofs.Common.{◌≡◌, ◌≢◌, ℕ, ◌+◌, ◌<◌, ◌≤◌, true, Some, List, length, ◌∙◌, length-set}
+use Rattle.std.proofs.Common.{◌≡◌, ◌≢◌, ℕ, ◌+◌, ◌<◌, ◌≤◌, true, Some, List, length}
 use Rattle.std.specs.List.{All, Contains}
 use Rattle.ghs_graph.specs.Graph.{IsGraph}
 use Rattle.ghs_graph.specs.Ports.{ports_of}
@@ -13,7 +13,7 @@ use Rattle.ghs_protocol.specs.declared.event.Event.TheVariants.{Wake, Take}
 use Rattle.ghs_protocol.specs.Net.{event_node}
 use Rattle.ghs_core.specs.NetState.{network}
 use Rattle.ghs_index.specs.Places.{HasPlace, place}
-use Rattle.ghs_index.proofs.lemmas.Marks.{of_but}
+use Rattle.ghs_index.proofs.lemmas.Marks.{for_set, of_but}
 use Rattle.ghs_world.specs.WorldState.{WorldState}
 use Rattle.ghs_patient.specs.Choices.{IsStirred, are_alike, far_takes}
 use Rattle.ghs_patient.proofs.lemmas.Places.{own_node}
@@ -25,8 +25,8 @@ use Rattle.ghs_rounds.specs.Clock.{ClockState}
 module _ (s : WorldState) (clock : ClockState) where
   pub for_marked : (e : Event) (c : ChoicesState) → AreFor (network s.net) c → AreFor (network s.net) (marked s clock e c)
   for_marked e c h = record {
-    moving = record { bases = h.moving.bases; many = length-set c.moving.marks (place (network s.net) e) (moves_in s clock e) ∙ h.moving.many };
-    hidden = record { bases = h.hidden.bases; many = length-set c.hidden.marks (place (network s.net) e) (hides_in s clock e) ∙ h.hidden.many };
+    moving = for_set (network s.net) c.moving (place (network s.net) e) (moves_in s clock e) h.moving;
+    hidden = for_set (network s.net) c.hidden (place (network s.net) e) (hides_in s clock e) h.hidden;
   }
 
   pub right_marked : (wrong : Event → Type 0) (e : Event) (c : ChoicesState) → AreChoicesBut s clock wrong c → HasPlace (network s.net) e →

@@ -1,5 +1,5 @@
 -- Marks of the index, set one by one.
-use Rattle.std.proofs.Common.{◌≡◌, ◌≢◌, ℕ, ◌+◌, ◌<◌, ◌≤◌, true, Some, length, ◌∙◌, length-set}
+use Rattle.std.proofs.Common.{◌≡◌, ◌≢◌, ℕ, ◌+◌, ◌<◌, ◌≤◌, true, Some, length}
 use Rattle.std.specs.List.{All}
 use Rattle.ghs_graph.specs.Graph.{IsGraph}
 use Rattle.ghs_graph.specs.Ports.{ports_of}
@@ -14,7 +14,7 @@ use Rattle.ghs_protocol.specs.Net.{event_node}
 use Rattle.ghs_core.specs.NetState.{network}
 use Rattle.ghs_index.specs.Index.{IndexState, IsFor}
 use Rattle.ghs_index.specs.Places.{HasPlace, place}
-use Rattle.ghs_index.proofs.lemmas.Marks.{of_but}
+use Rattle.ghs_index.proofs.lemmas.Marks.{for_set, of_but}
 use Rattle.ghs_world.specs.WorldState.{WorldState, home}
 use Rattle.ghs_patient.specs.Choices.{IsStirred, are_alike, far_takes}
 use Rattle.ghs_patient.specs.Patience.{puts_back}
@@ -25,7 +25,7 @@ use Rattle.ghs_waits.specs.Marks.{AreMarks, AreMarksBut, marked, marked_all, mar
 
 module _ (s : WorldState) where
   pub for_marked : (e : Event) (c : IndexState) → IsFor (network s.net) c → IsFor (network s.net) (marked s e c)
-  for_marked e c h = record { bases = h.bases; many = length-set c.marks (place (network s.net) e) (puts_back (home s) e) ∙ h.many }
+  for_marked e c h = for_set (network s.net) c (place (network s.net) e) (puts_back (home s) e) h
 
   pub right_marked : (wrong : Event → Type 0) (e : Event) (c : IndexState) → AreMarksBut s wrong c → HasPlace (network s.net) e →
       AreMarksBut s (λ f. wrong f × (f ≢ e)) (marked s e c)

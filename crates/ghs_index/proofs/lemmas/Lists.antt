@@ -19,11 +19,14 @@ module _ {X : Type 0} where
   get_some (x ∷ xs) zero lt = (x, refl)
   get_some (x ∷ xs) (suc i) lt = get_some xs i (omega arith)
 
+  pub map_get : {Y : Type 0} (f : X → Y) (d : Y) (xs : List X) (i : ℕ) (x : X) → slice_get xs i ≡ Some x → get_or (map f xs) i d ≡ f x
+  map_get f d [] i x e = cc
+  map_get f d (y ∷ ys) zero x e = ap f (same_Some y x e)
+  map_get f d (y ∷ ys) (suc i) x e = map_get f d ys i x e
+
   module _ (p : X → Bool) where
     pub map_at : (xs : List X) (i : ℕ) (x : X) → slice_get xs i ≡ Some x → get_or (map p xs) i false ≡ p x
-    map_at [] i x e = cc
-    map_at (y ∷ ys) zero x e = ap p (same_Some y x e)
-    map_at (y ∷ ys) (suc i) x e = map_at ys i x e
+    map_at xs i x e = map_get p false xs i x e
 
     pub map_of : (xs : List X) (bs : List Bool) → length bs ≡ length xs →
         ((i : ℕ) (x : X) → slice_get xs i ≡ Some x → get_or bs i false ≡ p x) → bs ≡ map p xs

@@ -1,5 +1,5 @@
 -- Marks that are set one by one.
-use Rattle.std.proofs.Common.{◌≡◌, ◌≢◌, suc, Bool, true, false, List, [], ◌∷◌, length, map, filter, set, refl, sym, ◌∙◌, ap, ⊎_elim, arith, length-set, get_or-set_same, get_or-set_other}
+use Rattle.std.proofs.Common.{◌≡◌, ◌≢◌, ℕ, suc, Bool, true, false, List, [], ◌∷◌, length, map, filter, set, refl, sym, ◌∙◌, ap, ⊎_elim, arith, length-set, get_or-set_same, get_or-set_other}
 use Rattle.std.specs.List.{Contains, slice_get}
 use Rattle.std.proofs.lemmas.Bool.{cases_eq, cases_Bool}
 use Rattle.std.proofs.lemmas.Option.{same_Some}
@@ -22,11 +22,15 @@ count_is p (x ∷ xs) = sum_by-cons one_if (p x) (map p xs) ∙ ⊎_elim
 
 module _ (g : Network) where
   pub is_for : (p : Event → Bool) (x : IndexState) → IsIndexOf g p x → IsFor g x
-  is_for p x of = record { bases = of.bases; many = ap length of.marks ∙ many p (all_events g) }
+  is_for p x of = record { bases = of.bases; fars = of.fars; many = ap length of.marks ∙ many p (all_events g) }
     where
       many : (p : Event → Bool) (es : List Event) → length (map p es) ≡ length es
       many p [] = refl
       many p (e ∷ es) = ap suc (many p es)
+
+  -- a mark more is set, or taken away
+  pub for_set : (x : IndexState) (i : ℕ) (marked : Bool) → IsFor g x → IsFor g (record x { marks = set x.marks i marked })
+  for_set x i marked is = record { bases = is.bases; fars = is.fars; many = length-set x.marks i marked ∙ is.many }
 
   pub mark_is : (p : Event → Bool) (x : IndexState) (e : Event) → IsIndexOf g p x → HasPlace g e → at x.marks (place g e) ≡ p e
   mark_is p x e of has = ap (λ bs. at bs (place g e)) of.marks ∙ map_at p (all_events g) (place g e) e (placed g e has)
@@ -43,6 +47,7 @@ module _ (g : Network) where
   pub of_but : (p : Event → Bool) (x : IndexState) → IsIndexBut g p [] x → IsIndexOf g p x
   of_but p x but = record {
     bases = but.index.bases;
+    fars = but.index.fars;
     marks = map_of p (all_events g) x.marks but.index.many
         (λ i e h. let there = only_place g i e h in ap (at x.marks) there.1 ∙ but.marks e there.0 (nothing_in e));
   }
@@ -51,7 +56,7 @@ module _ (g : Network) where
   pub but_set : (p : Event → Bool) (e : Event) (some : List Event) (x : IndexState) (marked : Bool) → IsIndexBut g p (e ∷ some) x → HasPlace g e →
       marked ≡ p e → IsIndexBut g p some (record x { marks = set x.marks (place g e) marked })
   but_set p e some x marked but has right = record {
-    index = record { bases = but.index.bases; many = length-set x.marks (place g e) marked ∙ but.index.many };
+    index = for_set x (place g e) marked but.index;
     marks = λ f there none. ⊎_elim
         (λ (same : place g f ≡ place g e).
         let one : f ≡ e = same_Some f e (sym (placed g f there) ∙ ap (slice_get (all_events g)) same ∙ placed g e has) in

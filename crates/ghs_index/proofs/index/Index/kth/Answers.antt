@@ -7,5 +7,5 @@ use Rattle.ghs_index.proofs.index.Index.kth.Goals as goal
 pub returns : goal.returns
 returns c = λ p x.
     let marks = rw (← c.self.view_is) at x.marks in
-    kth_is p (all_events (network_of c.args.graph.now)) c.kth.result c.args.k (rw marks at c.kth.ensures.kth.raised)
-    (rw marks at c.kth.ensures.kth.before) ∙ c.event_at.ensures
+    kth_is p (all_events (network_of c.args.graph.now)) c.kth-at.result c.args.k (rw marks at c.kth-at.ensures.kth.raised)
+    (rw marks at c.kth-at.ensures.kth.before) ∙ c.event_of.ensures

@@ -7,9 +7,9 @@ use Rattle.ghs_index.proofs.index.Index.node_from.Goals as goal
 
 pub returns-in-Some : goal.returns-in-Some
 returns-in-Some c = λ p of.
-    node_told (network_of c.args.graph.now) p (the_view c.self.inside) (rw (← c.self.view_is) at of) c.args.low c.node_at.result
+    node_told (network_of c.args.graph.now) p (the_view c.self.inside) (rw (← c.self.view_is) at of) c.args.low c.owner_at.result
     c.base_of-base.result (length c.self.inside.marks) c.in-Some.at c.requires.low c.requires.high
-    (rw c.deref.ensures.value at c.base_of-base.ensures.base) (rw c.deref-in-Some.ensures.value at c.node_at.ensures)
+    (rw c.deref.ensures.value at c.base_of-base.ensures.base) (rw c.deref-in-Some.ensures.value at c.owner_at.ensures)
     (subst (λ (o : Option ℕ). IsFirstFrom c.self.inside.marks c.base_of-base.result (length c.self.inside.marks) o) c.in-Some.is c.first_from.ensures)
 
 pub returns-in-None : goal.returns-in-None

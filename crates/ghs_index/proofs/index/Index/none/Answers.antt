@@ -9,4 +9,8 @@ returns c =
     let many =
     c.index.ensures ∙ last_base (network_of c.args.graph.now) c.args.graph.now.nodes c.in_ok-bases.bases.items _ _ c.in_ok-bases.ensures.bases
     (omega arith) in
-    record { bases = c.in_ok-bases.ensures.bases; marks = c.in_ok-marks.ensures ∙ all_false (all_events (network_of c.args.graph.now)) _ many }
+    record {
+      bases = c.in_ok-bases.ensures.bases;
+      fars = c.in_ok-ends.ensures.fars;
+      marks = c.in_ok-marks.ensures ∙ all_false (all_events (network_of c.args.graph.now)) _ many;
+    }

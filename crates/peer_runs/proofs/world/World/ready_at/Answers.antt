@@ -10,3 +10,12 @@ overflow_cast-k g c =
     let within = c.requires.within in
     let fits = c.count.type_inv in
     omega (arith, many, within, fits)
+
+pub kth-requires-clause-within : goal.kth-requires-clause-within
+kth-requires-clause-within g c =
+    let many =
+    subst (λ (s : WorldState). c.count.result ≡ length (ready_events g.P.Protocol.rules s)) c.self.view_is
+    (c.count.ensures.pass _ _ c.self.invariant.index) in
+    let within = c.requires.within in
+    let marks = c.count.ensures.count in
+    omega (arith, many, within, marks)
