@@ -41,7 +41,7 @@ pub fn empty_queues(alloc: Global, count: usize) -> Result<Vec<Queue>, AllocErro
 {
     let mut queues = Vec::with_capacity(alloc, count)?;
     for _ in 0..count {
-        queues.push(Queue::new(alloc))?;
+        queues.push(Queue::new())?;
     }
     Ok(queues)
 }

@@ -15,6 +15,7 @@ use std::marker::Model;
 /// far end, so each direction of a link is a channel. Nodes are numbered from 1, ports from 0.
 #[derive(Debug, Drop)]
 pub struct Channels {
+    alloc: Global,
     /// Where the queues of each number begin; 0 is no node.
     starts: Vec<u32>,
     queues: Vec<Queue>,
@@ -56,6 +57,7 @@ impl Channels {
         let far = far_places(alloc, graph, &starts)?;
         let claims = vec![in alloc; 0usize; widest]?;
         Ok(Channels {
+            alloc,
             starts,
             queues,
             far,
@@ -74,7 +76,7 @@ impl Channels {
         ensures full { OnErr result (HasRoomFor v sends.now self.old → ⊥) }
     {
         let far = part(&self.starts, &self.far, v);
-        make_room(far, &mut self.queues, &mut self.claims, sends)
+        make_room(self.alloc, far, &mut self.queues, &mut self.claims, sends)
     }
 
     /// Sends a message out on a port: it is appended to the queue at the far end. Takes no memory.

@@ -6,10 +6,11 @@ ghost use Rattle.ghs_channels.specs.Kept.{ClaimsOnly, KeepsEach, HasRoomAt, coun
 
 use crate::queue::Queue;
 use ghs_node::message::Message;
-use std::alloc::AllocError;
+use std::alloc::{AllocError, Global};
 
 /// Makes room at the far ends of a node's ports, which have these places, for what goes out on them.
 pub fn make_room(
+    alloc: Global,
     far: &[u32],
     queues: &mut [Queue],
     claims: &mut [usize],
@@ -24,13 +25,14 @@ pub fn make_room(
     ensures full { OnErr result (HasRoomAt far.now sends.now queues.old → ⊥) }
     ensures unclaimed { (k : ℕ) → slice_index claims.new k ≡ 0 }
 {
-    let granted = claim(far, queues, claims, sends);
+    let granted = claim(alloc, far, queues, claims, sends);
     unclaim(claims, sends);
     granted
 }
 
 /// The claims say afterwards, for each port, how many messages have been seen to go out on it.
 fn claim(
+    alloc: Global,
     far: &[u32],
     queues: &mut [Queue],
     claims: &mut [usize],
@@ -48,7 +50,7 @@ fn claim(
     for (port, _) in sends {
         let at = *port as usize;
         claims[at] += 1;
-        queues[far[at] as usize].reserve(claims[at])?;
+        queues[far[at] as usize].reserve(alloc, claims[at])?;
     }
     Ok(())
 }

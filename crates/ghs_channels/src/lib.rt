@@ -12,3 +12,4 @@ mod blocks;
 pub mod channels;
 mod claims;
 mod queue;
+mod rest;

@@ -2,9 +2,9 @@
 ghost use Rattle.std.specs.Prelude.{◌≡◌, ℕ, ◌+◌, ◌-◌, ◌<◌, ◌≤◌, [], length, slice_get, OnOk, OnErr};
 ghost use Rattle.ghs_channels.specs.Queue.{QueueState, pushed, taken, requeued};
 
+use crate::rest::Rest;
 use ghs_node::message::Message;
 use std::alloc::{AllocError, Global};
-use std::collections::VecDeque;
 use std::marker::Model;
 
 /// Messages that wait, the first come first. Its room is for how many more there is memory. The first message
@@ -12,29 +12,27 @@ use std::marker::Model;
 #[derive(Debug, Drop)]
 pub struct Queue {
     first: Option<Message>,
-    /// What waits behind the first message.
-    rest: VecDeque<Message>,
+    rest: Rest,
 }
 
 impl Model for Queue {
     ghost use Rattle.ghs_channels.specs.Queue.{QueueState, in_line, free_beside, IsLine};
-    ghost use Rattle.std.specs.VecDeque.{deque_len, deque_capacity};
 
     ghost Value = { QueueState };
 
-    ghost view = { λ q. record { list = in_line q.first q.rest.items; room = free_beside q.first (deque_len q.rest) (deque_capacity q.rest) } };
+    ghost view = { λ q. record { list = in_line q.first q.rest.list; room = free_beside q.first q.rest.room } };
 
-    ghost invariant = { λ q. IsLine q.first q.rest.items };
+    ghost invariant = { λ q. IsLine q.first q.rest.list };
 }
 
 impl Queue {
     /// No message, and room for one.
-    pub fn new(alloc: Global) -> Queue
+    pub fn new() -> Queue
         ensures { result.list ≡ [] }
     {
         Queue {
             first: None,
-            rest: VecDeque::new(alloc),
+            rest: Rest::none(),
         }
     }
 
@@ -43,7 +41,7 @@ impl Queue {
         ensures { result ≡ length self.now.list }
     {
         match self.first {
-            Some(_) => 1 + self.rest.len() as u64,
+            Some(_) => 1 + self.rest.len(),
             None => 0,
         }
     }
@@ -56,17 +54,17 @@ impl Queue {
     }
 
     /// Makes room for `additional` messages.
-    pub fn reserve(&mut self, additional: usize) -> Result<(), AllocError>
+    pub fn reserve(&mut self, alloc: Global, additional: usize) -> Result<(), AllocError>
         ensures list { self.new.list ≡ self.old.list }
         ensures room { OnOk result (additional ≤ self.new.room) }
         ensures kept { self.old.room ≤ self.new.room }
         ensures full { OnErr result (self.old.room < additional) }
     {
         match self.first {
-            Some(_) => self.rest.reserve(additional),
+            Some(_) => self.rest.reserve(alloc, additional),
             None => {
                 if additional > 1 {
-                    self.rest.reserve(additional - 1)?;
+                    self.rest.reserve(alloc, additional - 1)?;
                 }
                 Ok(())
             }
@@ -79,7 +77,7 @@ impl Queue {
         ensures { self.new ≡ pushed self.old message }
     {
         match self.first {
-            Some(_) => self.rest.push_back_reserved(message),
+            Some(_) => self.rest.push(message),
             None => self.first = Some(message),
         }
     }
@@ -90,7 +88,7 @@ impl Queue {
         ensures left { self.new ≡ taken self.old }
     {
         let first = self.first;
-        self.first = self.rest.pop_front();
+        self.first = self.rest.take_front();
         first
     }
 
@@ -99,8 +97,8 @@ impl Queue {
         ensures { self.new ≡ requeued self.old }
     {
         if let Some(first) = self.first {
-            if let Some(second) = self.rest.pop_front() {
-                self.rest.push_back_reserved(first);
+            if let Some(second) = self.rest.take_front() {
+                self.rest.push(first);
                 self.first = Some(second);
             }
         }

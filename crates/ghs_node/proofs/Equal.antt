@@ -65,48 +65,48 @@ best_decides b c =
 abbrev head_eq : Head → Head → Bool
 head_eq g h =
     (g.level == h.level) &&
-    (option_eq key_eq g.name h.name &&
     (sameb phases.the_type g.phase h.phase &&
-    ((g.find_count == h.find_count) &&
+    (beq g.halted h.halted &&
     (option_eq (λ a b. a == b) g.in_branch h.in_branch &&
-    (option_eq best_eq g.best h.best && (option_eq (λ a b. a == b) g.probe h.probe && beq g.halted h.halted))))))
+    ((g.find_count == h.find_count) &&
+    (option_eq (λ a b. a == b) g.probe h.probe && (option_eq key_eq g.name h.name && option_eq best_eq g.best h.best))))))
 
 pub head_decides : (g h : Head) → Decides (head_eq g h) (g ≡ h)
 head_decides g h =
     let d =
     Decides-and _ _ (Decides-eqb g.level h.level)
-    (Decides-and _ _ (option_decides key_decides g.name h.name)
     (Decides-and _ _ (phase_decides g.phase h.phase)
-    (Decides-and _ _ (Decides-eqb g.find_count h.find_count)
+    (Decides-and _ _ (booleans_Decides g.halted h.halted)
     (Decides-and _ _ (option_decides Decides-eqb g.in_branch h.in_branch)
-    (Decides-and _ _ (option_decides best_decides g.best h.best)
+    (Decides-and _ _ (Decides-eqb g.find_count h.find_count)
     (Decides-and _ _ (option_decides Decides-eqb g.probe h.probe)
-    (booleans_Decides g.halted h.halted))))))) in (
+    (Decides-and _ _ (option_decides key_decides g.name h.name)
+    (option_decides best_decides g.best h.best))))))) in (
       λ t.
           (let e = d.0 t in
           λ i.
           record {
             level = e.0 i;
-            name = e.1.0 i;
-            phase = e.1.1.0 i;
-            find_count = e.1.1.1.0 i;
-            in_branch = e.1.1.1.1.0 i;
-            best = e.1.1.1.1.1.0 i;
-            probe = e.1.1.1.1.1.1.0 i;
-            halted = e.1.1.1.1.1.1.1 i;
+            phase = e.1.0 i;
+            halted = e.1.1.0 i;
+            in_branch = e.1.1.1.0 i;
+            find_count = e.1.1.1.1.0 i;
+            probe = e.1.1.1.1.1.0 i;
+            name = e.1.1.1.1.1.1.0 i;
+            best = e.1.1.1.1.1.1.1 i;
           }),
       λ e.
           d.1 (
             ap (λ (x : Head). x.level) e,
             (
-              ap (λ (x : Head). x.name) e,
+              ap (λ (x : Head). x.phase) e,
               (
-                ap (λ (x : Head). x.phase) e,
+                ap (λ (x : Head). x.halted) e,
                 (
-                  ap (λ (x : Head). x.find_count) e,
+                  ap (λ (x : Head). x.in_branch) e,
                   (
-                    ap (λ (x : Head). x.in_branch) e,
-                    (ap (λ (x : Head). x.best) e, (ap (λ (x : Head). x.probe) e, ap (λ (x : Head). x.halted) e)),
+                    ap (λ (x : Head). x.find_count) e,
+                    (ap (λ (x : Head). x.probe) e, (ap (λ (x : Head). x.name) e, ap (λ (x : Head). x.best) e)),
                   ),
                 ),
               ),

@@ -8,24 +8,25 @@ use crate::level::Level;
 use crate::message::Phase;
 use ghs_graph::key::Key;
 
-/// A node's own variables. Ports are numbered from 0 in key order.
+/// A node's own variables. Ports are numbered from 0 in key order. They lie in memory as they stand here: the small ones
+/// side by side, and first what tells whether a message only waits.
 #[derive(Clone, Copy, Debug, PartialEq, Eq)]
 pub struct Head {
     /// The fragment's level, as far as the node knows.
     pub level: Level,
-    /// The fragment's name; none before the first Initiate.
-    pub name: Option<Key>,
     pub phase: Phase,
-    /// How many Reports the node waits for.
-    pub find_count: u32,
-    /// The port towards the fragment's core; none before the first Initiate.
-    pub in_branch: Option<u32>,
-    /// The best outgoing link heard of: the port that leads to it, and its key.
-    pub best: Option<(u32, Key)>,
-    /// The port whose Test isn't answered yet.
-    pub probe: Option<u32>,
     /// Whether the node has halted as a core node.
     pub halted: bool,
+    /// The port towards the fragment's core; none before the first Initiate.
+    pub in_branch: Option<u32>,
+    /// How many Reports the node waits for.
+    pub find_count: u32,
+    /// The port whose Test isn't answered yet.
+    pub probe: Option<u32>,
+    /// The fragment's name; none before the first Initiate.
+    pub name: Option<Key>,
+    /// The best outgoing link heard of: the port that leads to it, and its key.
+    pub best: Option<(u32, Key)>,
 }
 
 impl Head {
@@ -35,13 +36,13 @@ impl Head {
     {
         Head {
             level: Level::ZERO,
-            name: None,
             phase: Phase::Sleeping,
-            find_count: 0,
-            in_branch: None,
-            best: None,
-            probe: None,
             halted: false,
+            in_branch: None,
+            find_count: 0,
+            probe: None,
+            name: None,
+            best: None,
         }
     }
 

@@ -16,11 +16,12 @@ pub enum Phase {
 
 /// A message of the protocol. A fragment's name is the key of its core link; a Report without a key says
 /// that no outgoing link was found.
-#[derive(Clone, Copy, Debug, PartialEq, Eq)]
+#[derive(Clone, Copy, Debug, Default, PartialEq, Eq)]
 pub enum Message {
     Connect(Level),
     Initiate(Level, Key, Phase),
     Test(Level, Key),
+    #[default]
     Accept,
     Reject,
     Report(Option<Key>),

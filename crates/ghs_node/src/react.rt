@@ -19,8 +19,8 @@ use crate::work::Work;
 use std::alloc::Global;
 
 /// What a node does with a piece of work, by the procedures of Gallager, Humblet and Spira (ACM TOPLAS
-/// 5(1), 1983, appendix). The node itself stays as it is: `Node::apply` makes the change. The sends are
-/// all that takes memory.
+/// 5(1), 1983, appendix). The node itself stays as it is: `Node::apply` makes the change. Sends behind
+/// the first are all that takes memory.
 ///
 /// ```text
 /// let delta = react(alloc, &node, Work::Wake)?;

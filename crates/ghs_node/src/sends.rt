@@ -3,13 +3,19 @@ ghost use Rattle.std.specs.Prelude.{◌≡◌, ℕ, List, [], ◌∷◌, ◌++�
 ghost use Rattle.ghs_node.specs.declared.message.Message.{Message};
 
 use crate::message::Message;
+use smallvec::SmallVec;
 use std::alloc::{AllocError, Global};
 use std::marker::Model;
 
-/// The messages of a reaction, each with the port it goes out on, in the order of sending.
+/// How many messages stand in the list itself. Most reactions that send at all send one; room for a second makes every
+/// reaction larger, and costs more than it saves.
+const INLINE: usize = 1;
+
+/// The messages of a reaction, each with the port it goes out on, in the order of sending. Those of a reaction that
+/// sends no more than one take no memory of their own.
 #[derive(Debug, Drop)]
 pub struct Sends {
-    list: Vec<(u32, Message)>,
+    list: SmallVec<(u32, Message), INLINE>,
 }
 
 impl Model for Sends {
@@ -24,23 +30,8 @@ impl Sends {
         ensures { result ≡ [] }
     {
         Sends {
-            list: Vec::new(alloc),
+            list: SmallVec::new(alloc),
         }
-    }
-
-    /// These messages, each with its port.
-    pub fn of(list: Vec<(u32, Message)>) -> Sends
-        ensures { result ≡ list.items }
-    {
-        Sends { list }
-    }
-
-    /// The vector that it was made from, with what was pushed.
-    pub fn into_vec(self) -> Vec<(u32, Message)>
-        ensures { result.items ≡ self }
-    {
-        let Sends { list } = self;
-        list
     }
 
     /// One message more, the last.

@@ -9,7 +9,6 @@ use ghs_core::event::Event;
 use ghs_gr::device::Device;
 use ghs_graph::key::Key;
 use ghs_lines::numbers::put_number;
-use ghs_node::level::Level;
 use ghs_node::message::Message;
 use ghs_node::sends::Sends;
 use ghs_page::page::page;
@@ -141,14 +140,15 @@ fn put_digits(rt: &impl Abort, alloc: Global, k: usize) -> Turn {
     turn
 }
 
-/// One message more; refused, there is none more.
+/// One message more than stands in the list itself; refused, there is none more.
 fn push(rt: &impl Abort, alloc: Global, k: usize) -> Turn {
-    let message = Message::Connect(Level::of(0).expect(rt, "a level"));
     let mut sends = Sends::none(alloc);
+    let first = sends.push(0, Message::Accept);
+    assert!(rt; first.is_ok());
     order(alloc, k);
-    let answer = sends.push(0, message);
+    let answer = sends.push(1, Message::Reject);
     let turn = turn_of(alloc, k, &answer);
-    assert!(rt; sends.as_slice().is_empty() == (turn == Turn::Refused));
+    assert!(rt; (sends.as_slice().len() == 1) == (turn == Turn::Refused));
     turn
 }
 

@@ -75,3 +75,11 @@ returns-clause-rounds c =
     c.in_ok-delta.ensures heard
     graph is_run z.low z.high (answer_sends c.args.world.now.net graph is_run c.pick-event.result c.in_ok-delta.delta z.lawful c.in_ok-delta.ensures)
     timely c.follow.new.self c.follow.ensures
+
+pub returns-clause-ok : goal.returns-clause-ok
+returns-clause-ok c = record {
+  event = c.pick-event.result;
+  pick = rw (← c.self.view_is, ← c.in_ok-rest.ensures) c.pick-event.ensures.pick;
+  made = c.in_ok-make_answered.ensures.made;
+  rest = rw (← c.in_ok-rest.ensures) c.pick-event.ensures.next;
+}

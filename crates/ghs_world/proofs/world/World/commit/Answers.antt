@@ -14,3 +14,8 @@ carry_out-woken-requires-clause-answer c =
     rw (← c.is_counterfoil.ensures.event c.if-not-is_counterfoil.false, c.make_room.ensures.same.net.graph, c.make_room.ensures.same.net.trace)
     (step_answers c.args.self.now c.ticket.result.now c.delta-3.result.now out c.ticket.ensures.rule
     (rw c.ticket.ensures.ticket c.delta-3.ensures.row))
+
+pub returns-clause-roused : goal.returns-clause-roused
+returns-clause-roused c = λ u now before.
+    let same = c.make_room.ensures.same in
+    c.carry_out-woken.ensures.roused u now (rw (same.net.graph, same.net.trace, same.wake, same.outs) before)
