@@ -1,7 +1,7 @@
 -- The figures of a run by Borůvka in step as a line.
 use Rattle.std.specs.Prelude.{ℕ, List, ◌++◌, codes, decimal, slice_index}
 use Rattle.ghs_world.specs.declared.wake_set.WakeSet.{WakeSet}
-use Rattle.ghs_sweep.specs.Line.{end_word, field, wake_word, word_field}
+use Rattle.ghs_report.specs.Fields.{end_word, field, wake_word, word_field}
 use Rattle.boruvka_sweep.specs.declared.figures.Figures.{Figures}
 
 unfoldable pub size_fields : Figures → List ℕ

@@ -7,7 +7,7 @@ use boruvka_report::bound::message_bound;
 use boruvka_report::branches::branches;
 use boruvka_report::ended::net_ended;
 use boruvka_report::report_text::in_total;
-use ghs_sweep::figures::total_weight;
+use ghs_report::weight::total_weight;
 use peer_lengths::lengths::{Lengths, lengths_of};
 use peer_net::net::Net;
 use std::alloc::{AllocError, Global};

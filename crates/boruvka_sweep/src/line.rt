@@ -4,7 +4,7 @@ ghost use Rattle.std.specs.Prelude.{◌≡◌, ◌++◌, IfOk};
 
 use crate::figures::Figures;
 use ghs_lines::numbers::put_number;
-use ghs_sweep::line::{end_word, put_field, put_word, wake_word};
+use ghs_report::fields::{end_word, put_field, put_word, wake_word};
 use ghs_world::wake_set::WakeSet;
 use std::alloc::AllocError;
 

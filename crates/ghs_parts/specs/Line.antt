@@ -1,18 +1,11 @@
 -- The figures of a part as a line.
 use Rattle.std.specs.Prelude.{ℕ, List, ◌++◌, codes, decimal, slice_index}
+use Rattle.ghs_report.specs.Fields.{field, word_field}
 use Rattle.ghs_steps.specs.Words.{row_word}
 use Rattle.ghs_choices.specs.declared.by.By.{By}
 use Rattle.ghs_choices.specs.declared.by.By.TheVariants.{Node, Level, Rule}
 use Rattle.ghs_parts.specs.declared.part.Part.{Part}
 use Rattle.ghs_parts.specs.Rule.{rule_at}
-
--- a comma and a number
-unfoldable pub field : ℕ → List ℕ
-field n = codes "," ++ decimal n
-
--- a comma and a word
-unfoldable pub word_field : List ℕ → List ℕ
-word_field word = codes "," ++ word
 
 -- the messages of each kind
 unfoldable pub kind_fields : Part → List ℕ

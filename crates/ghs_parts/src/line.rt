@@ -1,11 +1,13 @@
 //! The figures of a part as a line of comma separated values.
-ghost use Rattle.ghs_parts.specs.Line.{field, head_line, kind_fields, line_text, part_fields, word_field};
+ghost use Rattle.ghs_parts.specs.Line.{head_line, kind_fields, line_text, part_fields};
+ghost use Rattle.ghs_report.specs.Fields.{field};
 ghost use Rattle.std.specs.Prelude.{◌≡◌, ◌++◌, IfOk};
 
 use crate::part::Part;
 use crate::rule::rule_at;
 use ghs_choices::by::By;
 use ghs_lines::numbers::put_number;
+use ghs_report::fields::{put_field, put_word};
 use ghs_steps::words::row_word;
 use std::alloc::AllocError;
 
@@ -51,7 +53,7 @@ fn put_part(text: &mut Vec<u8>, by: By, number: u64, part: &Part) -> Result<(), 
 fn put_counts(text: &mut Vec<u8>, number: u64, part: &Part) -> Result<(), AllocError>
     ensures { IfOk result (λ _. text.new.items ≡ text.old.items ++ field number ++ kind_fields part.now) }
 {
-    put_field(text, number)?;
+    put_field(text, u128::from(number))?;
     put_kinds(text, part)
 }
 
@@ -60,7 +62,7 @@ fn put_times(text: &mut Vec<u8>, number: u64, part: &Part) -> Result<(), AllocEr
     ensures { IfOk result (λ _. text.new.items ≡ text.old.items ++ part_fields By.Rule number part.now) }
 {
     put_word(text, row_word(rule_at(number)))?;
-    put_field(text, part.events)
+    put_field(text, u128::from(part.events))
 }
 
 /// Messages of each kind.
@@ -68,32 +70,12 @@ fn put_times(text: &mut Vec<u8>, number: u64, part: &Part) -> Result<(), AllocEr
 fn put_kinds(text: &mut Vec<u8>, part: &Part) -> Result<(), AllocError>
     ensures { IfOk result (λ _. text.new.items ≡ text.old.items ++ kind_fields part.now) }
 {
-    put_field(text, part.kinds[0])?;
-    put_field(text, part.kinds[1])?;
-    put_field(text, part.kinds[2])?;
-    put_field(text, part.kinds[3])?;
-    put_field(text, part.kinds[4])?;
-    put_field(text, part.kinds[5])?;
-    put_field(text, part.kinds[6])?;
-    Ok(())
-}
-
-/// A comma and a number.
-#[tactic(auto, unfolding(crate::specs::Line::field))]
-fn put_field(text: &mut Vec<u8>, number: u64) -> Result<(), AllocError>
-    ensures { IfOk result (λ _. text.new.items ≡ text.old.items ++ field number) }
-{
-    text.extend_from_slice(b",")?;
-    put_number(text, u128::from(number))?;
-    Ok(())
-}
-
-/// A comma and a word.
-#[tactic(auto, unfolding(crate::specs::Line::word_field))]
-fn put_word(text: &mut Vec<u8>, word: &[u8]) -> Result<(), AllocError>
-    ensures { IfOk result (λ _. text.new.items ≡ text.old.items ++ word_field word.now) }
-{
-    text.extend_from_slice(b",")?;
-    text.extend_from_slice(word)?;
+    put_field(text, u128::from(part.kinds[0]))?;
+    put_field(text, u128::from(part.kinds[1]))?;
+    put_field(text, u128::from(part.kinds[2]))?;
+    put_field(text, u128::from(part.kinds[3]))?;
+    put_field(text, u128::from(part.kinds[4]))?;
+    put_field(text, u128::from(part.kinds[5]))?;
+    put_field(text, u128::from(part.kinds[6]))?;
     Ok(())
 }

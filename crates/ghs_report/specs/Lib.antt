@@ -1,4 +1,5 @@
 -- To be believed: contracts cite what stands here, and what it is made of.
+pub mod Fields
 pub mod ReportText
 pub mod TreeText
 pub mod Writing

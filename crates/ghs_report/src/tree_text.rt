@@ -2,12 +2,12 @@
 ghost use Rattle.std.specs.Prelude.{◌≡◌, ◌++◌, IfOk};
 ghost use Rattle.ghs_report.specs.TreeText.{tree_text, link_line, total_line};
 
+use crate::weight::total_weight;
 use ghs_graph::key::Key;
 use ghs_lines::numbers::put_number;
 use std::alloc::{AllocError, Global};
 
-/// A line `t A B W` for each link, and a line `w TOTAL` with the sum of their weights. The sum of a list of any
-/// length fits, so nothing is asked of it.
+/// A line `t A B W` for each link, and a line `w TOTAL` with the sum of their weights.
 ///
 /// ```text
 /// let text = tree_text(alloc, &tree_of(alloc, &raw)?)?;
@@ -17,12 +17,10 @@ pub fn tree_text(alloc: Global, tree: &[Key]) -> Result<Vec<u8>, AllocError>
     ensures { IfOk result (λ text. text.items ≡ tree_text tree.now) }
 {
     let mut text = Vec::new(alloc);
-    let mut total: u128 = 0;
     for key in tree {
         put_link(&mut text, key)?;
-        total += u128::from(key.weight);
     }
-    put_total(&mut text, total)?;
+    put_total(&mut text, total_weight(tree))?;
     Ok(text)
 }
 

@@ -3,7 +3,8 @@ use Rattle.std.specs.Prelude.{ℕ, List, [], ◌++◌, codes, decimal, slice_ind
 use Rattle.ghs_steps.specs.Json.{member, quoted}
 use Rattle.ghs_sweep.specs.declared.figures.Figures.{Figures}
 use Rattle.ghs_sweep.specs.declared.seeded.Setup.{Setup}
-use Rattle.ghs_sweep.specs.Line.{end_word, schedule_word, wake_word}
+use Rattle.ghs_report.specs.Fields.{end_word, wake_word}
+use Rattle.ghs_sweep.specs.Line.{schedule_word}
 
 -- a member that isn't the first, and a number
 unfoldable pub numbered : List ℕ → ℕ → List ℕ

@@ -1,19 +1,10 @@
 -- A run's figures as a line.
-use Rattle.std.specs.Prelude.{ℕ, Bool, true, false, List, ◌++◌, codes, decimal, slice_index}
-use Rattle.ghs_world.specs.declared.wake_set.WakeSet.{WakeSet}
-use Rattle.ghs_world.specs.declared.wake_set.WakeSet.TheVariants.{All, First}
+use Rattle.std.specs.Prelude.{ℕ, List, ◌++◌, codes, decimal, slice_index}
+use Rattle.ghs_report.specs.Fields.{end_word, field, wake_word, word_field}
 use Rattle.ghs_choices.specs.declared.schedule_kind.ScheduleKind.{ScheduleKind}
 use Rattle.ghs_choices.specs.declared.schedule_kind.ScheduleKind.TheVariants.{Seeded, Patient, Rounds, Waits, Lifo}
 use Rattle.ghs_sweep.specs.declared.seeded.Setup.{Setup}
 use Rattle.ghs_sweep.specs.declared.figures.Figures.{Figures}
-
--- a comma and a number
-unfoldable pub field : ℕ → List ℕ
-field n = codes "," ++ decimal n
-
--- a comma and a word
-unfoldable pub word_field : List ℕ → List ℕ
-word_field word = codes "," ++ word
 
 abbrev pub schedule_word : ScheduleKind → List ℕ
 schedule_word Seeded = codes "seeded"
@@ -21,14 +12,6 @@ schedule_word Patient = codes "patient"
 schedule_word Rounds = codes "rounds"
 schedule_word Waits = codes "waits"
 schedule_word Lifo = codes "lifo"
-
-abbrev pub wake_word : WakeSet → List ℕ
-wake_word All = codes "all"
-wake_word First = codes "first"
-
-abbrev pub end_word : Bool → List ℕ
-end_word true = codes "halted"
-end_word false = codes "turns"
 
 unfoldable pub size_fields : Figures → List ℕ
 size_fields f = field f.nodes ++ field f.links ++ field f.events

@@ -8,7 +8,7 @@ use Rattle.ghs_steps.specs.Json.{member, quoted}
 use Rattle.ghs_sweep.specs.declared.figures.Figures.{Figures}
 use Rattle.ghs_sweep.specs.declared.measure.Measure.{Measure}
 use Rattle.ghs_sweep.specs.JsonLine.{numbered}
-use Rattle.ghs_sweep.specs.Line.{field}
+use Rattle.ghs_report.specs.Fields.{field}
 use Rattle.ghs_sweep.specs.Measure.{fixed_value, measures, name_of, value_of}
 
 -- the same numbers in rising order

@@ -1,5 +1,4 @@
 //! How a run stands, in numbers.
-ghost use Rattle.ghs_graph.specs.Links.{total_weight};
 ghost use Rattle.ghs_picking.specs.Lengths.{lengths_of};
 ghost use Rattle.ghs_protocol.specs.Ledger.{in_all};
 ghost use Rattle.ghs_sweep.specs.Figures.{AreFigures, greatest_level};
@@ -8,8 +7,8 @@ ghost use Rattle.std.specs.Prelude.{◌≡◌, ◌<◌, ◌≤◌, ◌^◌, leng
 use ghs_core::census::FragmentRow;
 use ghs_core::net::Net;
 use ghs_graph::bounds::bound;
-use ghs_graph::key::Key;
 use ghs_picking::lengths::{RunLengths, lengths_of};
+use ghs_report::weight::total_weight;
 use std::alloc::{AllocError, Global};
 
 /// How a run stands, in numbers.
@@ -96,16 +95,4 @@ fn greatest_level(census: &[FragmentRow]) -> u8
         level = level.max(row.level);
     }
     level
-}
-
-/// The weights of links, added up.
-pub fn total_weight(links: &[Key]) -> u128
-    ensures total { result ≡ total_weight links.now }
-    ensures small { result < 2 ^ 96 }
-{
-    let mut total: u128 = 0;
-    for link in links {
-        total += u128::from(link.weight);
-    }
-    total
 }

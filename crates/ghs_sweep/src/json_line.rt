@@ -3,8 +3,9 @@ ghost use Rattle.ghs_sweep.specs.JsonLine.{answers, end_members, first_kinds, he
 ghost use Rattle.std.specs.Prelude.{◌≡◌, ◌++◌, IfOk};
 
 use crate::figures::Figures;
-use crate::line::{end_word, schedule_word, wake_word};
+use crate::line::schedule_word;
 use crate::seeded::Setup;
+use ghs_report::fields::{end_word, wake_word};
 use ghs_steps::json::{put_number_member, put_word_member};
 use std::alloc::AllocError;
 

@@ -1,12 +1,12 @@
 //! A run's figures as a line of comma separated values.
-ghost use Rattle.ghs_sweep.specs.Line.{end_word, field, lengths_fields, line_text, messages_fields, outcome_fields, schedule_word, size_fields, wake_word, word_field};
+ghost use Rattle.ghs_sweep.specs.Line.{lengths_fields, line_text, messages_fields, outcome_fields, schedule_word, size_fields};
 ghost use Rattle.std.specs.Prelude.{◌≡◌, ◌++◌, IfOk};
 
 use crate::figures::Figures;
 use crate::seeded::Setup;
 use ghs_choices::schedule_kind::ScheduleKind;
 use ghs_lines::numbers::put_number;
-use ghs_world::wake_set::WakeSet;
+use ghs_report::fields::{end_word, put_field, put_word, wake_word};
 use std::alloc::AllocError;
 
 /// The names of a line's fields, as a line.
@@ -88,26 +88,6 @@ fn put_lengths(text: &mut Vec<u8>, figures: &Figures) -> Result<(), AllocError>
     Ok(())
 }
 
-/// A comma and a number.
-#[tactic(auto, unfolding(crate::specs::Line::field))]
-pub fn put_field(text: &mut Vec<u8>, number: u128) -> Result<(), AllocError>
-    ensures { IfOk result (λ _. text.new.items ≡ text.old.items ++ field number) }
-{
-    text.extend_from_slice(b",")?;
-    put_number(text, number)?;
-    Ok(())
-}
-
-/// A comma and a word.
-#[tactic(auto, unfolding(crate::specs::Line::word_field))]
-pub fn put_word(text: &mut Vec<u8>, word: &[u8]) -> Result<(), AllocError>
-    ensures { IfOk result (λ _. text.new.items ≡ text.old.items ++ word_field word.now) }
-{
-    text.extend_from_slice(b",")?;
-    text.extend_from_slice(word)?;
-    Ok(())
-}
-
 pub(crate) fn schedule_word(schedule_kind: ScheduleKind) -> &'static [u8]
     ensures { result.now ≡ schedule_word schedule_kind }
 {
@@ -118,21 +98,4 @@ pub(crate) fn schedule_word(schedule_kind: ScheduleKind) -> &'static [u8]
         ScheduleKind::Waits => b"waits",
         ScheduleKind::Lifo => b"lifo",
     }
-}
-
-/// The name of a wake set, as a command line and a sweep have it.
-pub fn wake_word(wake: WakeSet) -> &'static [u8]
-    ensures { result.now ≡ wake_word wake }
-{
-    match wake {
-        WakeSet::All => b"all",
-        WakeSet::First => b"first",
-    }
-}
-
-/// How a run ended: it halted, or its turns were used.
-pub fn end_word(ended: bool) -> &'static [u8]
-    ensures { result.now ≡ end_word ended }
-{
-    if ended { b"halted" } else { b"turns" }
 }

@@ -7,9 +7,9 @@ ghost use Rattle.std.specs.Prelude.{◌≡◌, ◌++◌, ◌<◌, ◌≤◌, ◌
 
 use crate::figures::Figures;
 use crate::json_line::put_numbered;
-use crate::line::put_field;
 use crate::measure::{MEASURES, Measure};
 use ghs_choices::form::Form;
+use ghs_report::fields::put_field;
 use ghs_steps::json::put_word_member;
 use std::alloc::{AllocError, Global};
 

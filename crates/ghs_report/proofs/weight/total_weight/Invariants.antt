@@ -1,6 +1,6 @@
 use Rattle.std.proofs.Common.{◌≡◌, ◌≤◌, ◌*◌, take}
 use Rattle.ghs_graph.specs.Links.{total_weight}
-use Rattle.ghs_sweep.proofs.figures.total_weight.Given as goal
+use Rattle.ghs_report.proofs.weight.total_weight.Given as goal
 
 abbrev pub invariant-loop-link : goal.invariant-loop-link
 invariant-loop-link l = record {
