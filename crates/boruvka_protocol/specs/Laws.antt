@@ -6,8 +6,8 @@ use Rattle.ghs_graph.specs.declared.port.Port.{Port}
 use Rattle.ghs_graph.specs.Graph.{Shape, IsGraph}
 use Rattle.ghs_graph.specs.Links.{Joined, links, InTree}
 use Rattle.ghs_graph.specs.Bound.{IsFloorLog2}
-use Rattle.ghs_protocol.specs.declared.event.Event.{Event}
-use Rattle.ghs_protocol.specs.Network.{Network, network_of, InNetwork, At, far, far_port}
+use Rattle.peer_network.specs.declared.event.Event.{Event}
+use Rattle.peer_network.specs.Network.{Network, network_of, InNetwork, At, far, far_port}
 use Rattle.peer_machine.specs.Net.{Net}
 use Rattle.peer_machine.specs.Run.{IsAfter, IsNetOf, IsLater, IsRun}
 use Rattle.peer_machine.specs.Ledger.{in_all}

@@ -1,7 +1,7 @@
 -- Links by their marks, and the halt.
 use Rattle.std.specs.Prelude.{◌≡◌, ℕ, true}
 use Rattle.ghs_graph.specs.declared.key.Key.{Key}
-use Rattle.ghs_protocol.specs.Network.{Network, At, port_at, far, far_port}
+use Rattle.peer_network.specs.Network.{Network, At, port_at, far, far_port}
 use Rattle.peer_machine.specs.Net.{Net}
 use Rattle.boruvka_node.specs.declared.mark.Mark.{Mark}
 use Rattle.boruvka_node.specs.declared.mark.Mark.TheVariants.{Branch, Inside}

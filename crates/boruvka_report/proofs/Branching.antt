@@ -15,8 +15,8 @@ use Rattle.ghs_graph.specs.Ports.{ports_of, port_number, port_on, no_port, HasPo
 use Rattle.ghs_graph.proofs.lemmas.Joining.{joined_back}
 use Rattle.ghs_graph.proofs.lemmas.Members.{filter_has, in_filter}
 use Rattle.ghs_graph.proofs.lemmas.Ports.{links_have_two_ports}
-use Rattle.ghs_protocol.specs.Network.{network_of}
-use Rattle.ghs_protocol.proofs.lemmas.Graphs.{has_port, is_key, link_among}
+use Rattle.peer_network.specs.Network.{network_of}
+use Rattle.peer_network.proofs.lemmas.Graphs.{has_port, is_key, link_among}
 use Rattle.peer_machine.specs.Net.{Net}
 use Rattle.peer_machine.specs.Run.{IsNetOf}
 use Rattle.boruvka_node.specs.declared.mark.Mark.{Mark}

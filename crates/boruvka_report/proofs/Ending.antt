@@ -4,12 +4,11 @@ use Rattle.std.proofs.lemmas.Bool.{and_parts, false_from_ne_true}
 use Rattle.ghs_graph.specs.Graph.{Shape, IsGraph}
 use Rattle.ghs_graph.specs.Links.{Joined, links}
 use Rattle.ghs_graph.proofs.lemmas.Joining.{joined_then, joined_back}
-use Rattle.ghs_protocol.specs.declared.event.Event.{Event}
-use Rattle.ghs_protocol.specs.declared.event.Event.TheVariants.{Wake, Take}
-use Rattle.ghs_protocol.specs.Network.{network_of, InNetwork, At}
-use Rattle.ghs_protocol.specs.Net.{is_node, is_port}
-use Rattle.ghs_protocol.specs.Schedules.{AllMayWake}
-use Rattle.ghs_protocol.proofs.lemmas.Events.{node_of, at_of}
+use Rattle.peer_network.specs.declared.event.Event.{Event}
+use Rattle.peer_network.specs.declared.event.Event.TheVariants.{Wake, Take}
+use Rattle.peer_network.specs.Network.{network_of, InNetwork, At, is_node, is_port}
+use Rattle.peer_network.specs.Wakes.{AllMayWake}
+use Rattle.peer_network.proofs.lemmas.Events.{node_of, at_of}
 use Rattle.peer_machine.specs.Net.{Net, is_lawful}
 use Rattle.peer_machine.specs.Run.{IsRun, IsNetOf, net_after}
 use Rattle.peer_machine.proofs.lemmas.Events.{woke_lawful, took_lawful}

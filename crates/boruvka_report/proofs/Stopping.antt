@@ -4,13 +4,12 @@ use Rattle.std.specs.List.{Contains}
 use Rattle.std.proofs.lemmas.Bool.{and_parts, and_from, false_from_ne_true}
 use Rattle.ghs_graph.specs.Graph.{IsGraph}
 use Rattle.ghs_graph.proofs.lemmas.Members.{filter_has, in_filter, first_in}
-use Rattle.ghs_protocol.specs.declared.event.Event.{Event}
-use Rattle.ghs_protocol.specs.declared.event.Event.TheVariants.{Wake, Take}
-use Rattle.ghs_protocol.specs.Net.{is_node, is_port}
-use Rattle.ghs_world.specs.WorldState.{has_place}
-use Rattle.ghs_world.specs.Ready.{all_events}
-use Rattle.ghs_world.proofs.lemmas.Listed.{listed}
-use Rattle.ghs_world.proofs.lemmas.Waking.{each_is_woken}
+use Rattle.peer_network.specs.declared.event.Event.{Event}
+use Rattle.peer_network.specs.declared.event.Event.TheVariants.{Wake, Take}
+use Rattle.peer_network.specs.Network.{is_node, is_port}
+use Rattle.peer_index.specs.Places.{has_place, all_events}
+use Rattle.peer_index.proofs.lemmas.Listed.{listed}
+use Rattle.peer_network.proofs.lemmas.Waking.{each_is_woken}
 use Rattle.peer_machine.specs.Net.{is_lawful}
 use Rattle.peer_machine.specs.Run.{IsRun, IsNetOf}
 use Rattle.peer_net.specs.NetState.{network, net_of}

@@ -4,7 +4,7 @@ use Rattle.std.specs.List.{Contains}
 use Rattle.ghs_graph.specs.declared.key.Key.{Key}
 use Rattle.ghs_graph.specs.Links.{IsRising}
 use Rattle.ghs_graph.specs.Ports.{port_number}
-use Rattle.ghs_protocol.specs.Network.{Network}
+use Rattle.peer_network.specs.Network.{Network}
 use Rattle.peer_machine.specs.Net.{Net}
 use Rattle.boruvka_node.specs.declared.message.Message.{Message}
 use Rattle.boruvka_node.specs.Words.{is_branch}

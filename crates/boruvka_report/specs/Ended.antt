@@ -2,7 +2,7 @@
 use Rattle.std.specs.Prelude.{◌≡◌, ℕ, false}
 use Rattle.ghs_graph.specs.Graph.{Shape}
 use Rattle.ghs_graph.specs.Links.{Joined, links}
-use Rattle.ghs_protocol.specs.Network.{Network, network_of, InNetwork}
+use Rattle.peer_network.specs.Network.{Network, network_of, InNetwork}
 use Rattle.peer_machine.specs.Net.{Net}
 use Rattle.boruvka_node.specs.declared.message.Message.{Message}
 use Rattle.boruvka_node.specs.Boruvka.{boruvka}

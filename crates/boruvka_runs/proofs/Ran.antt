@@ -2,11 +2,11 @@
 use Rattle.std.proofs.Common.{◌≡◌, ◌∙◌, ℕ, ◌<◌, Bool, true, List, [], ◌∷◌, length, ap, arith, refl, subst, sym}
 use Rattle.std.specs.Prelude.{◌↔◌, IsTrue, OnOk, Result, Ok, Err}
 use Rattle.ghs_graph.specs.Graph.{Shape, IsGraph}
-use Rattle.ghs_protocol.specs.declared.event.Event.{Event}
-use Rattle.ghs_protocol.specs.Network.{network_of}
-use Rattle.ghs_sched.specs.Schedule.{seeded}
-use Rattle.ghs_world.specs.declared.wake_set.WakeSet.{WakeSet}
-use Rattle.ghs_world.specs.Wakes.{may_wake}
+use Rattle.peer_network.specs.declared.event.Event.{Event}
+use Rattle.peer_network.specs.Network.{network_of}
+use Rattle.peer_schedule.specs.Schedule.{seeded}
+use Rattle.peer_network.specs.declared.wake_set.WakeSet.{WakeSet}
+use Rattle.peer_network.specs.Wakes.{may_wake}
 use Rattle.peer_machine.specs.Run.{IsRunUnder, net_after}
 use Rattle.peer_runs.specs.declared.fault.RunFault.{RunFault}
 use Rattle.peer_runs.specs.declared.fault.RunFault.TheVariants.{TurnLimit}

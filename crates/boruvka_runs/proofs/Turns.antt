@@ -4,11 +4,11 @@ use Rattle.std.specs.List.{Contains}
 use Rattle.std.proofs.lemmas.Bool.{and_parts}
 use Rattle.ghs_graph.specs.Graph.{Shape, IsGraph}
 use Rattle.ghs_graph.proofs.lemmas.Members.{first_in, in_filter}
-use Rattle.ghs_protocol.specs.declared.event.Event.{Event}
-use Rattle.ghs_protocol.specs.declared.event.Event.TheVariants.{Wake, Take}
-use Rattle.ghs_protocol.specs.Network.{Network, network_of}
-use Rattle.ghs_index.specs.Places.{all_events}
-use Rattle.ghs_world.specs.Wakes.{may_wake}
+use Rattle.peer_network.specs.declared.event.Event.{Event}
+use Rattle.peer_network.specs.declared.event.Event.TheVariants.{Wake, Take}
+use Rattle.peer_network.specs.Network.{Network, network_of}
+use Rattle.peer_index.specs.Places.{all_events}
+use Rattle.peer_network.specs.Wakes.{may_wake}
 use Rattle.peer_machine.specs.Net.{Net, effect, is_lawful, opening}
 use Rattle.peer_machine.specs.Run.{IsAfter, IsNetOf, IsRun, net_after}
 use Rattle.peer_machine.proofs.lemmas.Events.{lawful_happens}

@@ -5,11 +5,11 @@ ghost use Rattle.std.specs.Prelude.{IfOk};
 use boruvka::protocol::Boruvka;
 use boruvka_report::ended::ended;
 use ghs_graph::graph::Graph;
-use ghs_sched::schedule::Schedule;
-use ghs_world::wake_set::WakeSet;
+use peer_network::wake_set::WakeSet;
 use peer_runs::fault::RunFault;
 use peer_runs::run::run_seeded;
 use peer_runs::world::World;
+use peer_schedule::schedule::Schedule;
 use std::alloc::{AllocError, Global};
 
 /// What a run has left.

@@ -4,10 +4,10 @@ use Rattle.std.proofs.Math.Seq.{split_at}
 use Rattle.std.proofs.lemmas.Bool.{and_parts}
 use Rattle.std.proofs.lemmas.Option.{same_Some}
 use Rattle.ghs_graph.specs.Graph.{Shape}
-use Rattle.ghs_protocol.specs.declared.event.Event.{Event}
-use Rattle.ghs_protocol.specs.declared.event.Event.TheVariants as events
-use Rattle.ghs_protocol.specs.Network.{network_of, At}
-use Rattle.ghs_protocol.proofs.lemmas.Events.{at_of, if_some, node_of}
+use Rattle.peer_network.specs.declared.event.Event.{Event}
+use Rattle.peer_network.specs.declared.event.Event.TheVariants as events
+use Rattle.peer_network.specs.Network.{network_of, At}
+use Rattle.peer_network.proofs.lemmas.Events.{at_of, if_some, node_of}
 use Rattle.peer_machine.specs.declared.work.Work.TheVariants.{Wake, Deliver}
 use Rattle.peer_machine.specs.Net.{effect, event_node, happens, is_lawful, opening}
 use Rattle.peer_machine.specs.Run.{IsRun, net_after, run}

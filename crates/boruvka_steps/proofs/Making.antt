@@ -1,7 +1,7 @@
 -- What is at hand of an event is what its line says.
 use Rattle.std.proofs.Common.{◌≡◌, ℕ, ◌+◌, List, [], ◌∷◌, ◌++◌, length, Option, Some, map, refl, sym, ◌∙◌, ap, ap₂}
 use Rattle.ghs_graph.specs.Graph.{Shape}
-use Rattle.ghs_protocol.specs.declared.event.Event.{Event}
+use Rattle.peer_network.specs.declared.event.Event.{Event}
 use Rattle.ghs_choices.specs.declared.form.Form.{Form}
 use Rattle.ghs_steps.specs.Told.{event_far}
 use Rattle.peer_machine.specs.declared.work.Work.{Work}

@@ -1,9 +1,9 @@
 //! The steps of a stored run, judged and written out.
 ghost use Rattle.std.specs.Prelude.{◌≡◌, false, true, IfErr, MatchResult, OnOk};
 ghost use Rattle.std.specs.Io.KnownBytes.{Appends};
-ghost use Rattle.ghs_protocol.specs.Network.{network_of};
+ghost use Rattle.peer_network.specs.Network.{network_of};
 ghost use Rattle.ghs_steps.specs.Shown.{is_unlawful, is_write};
-ghost use Rattle.ghs_world.specs.Wakes.{may_wake};
+ghost use Rattle.peer_network.specs.Wakes.{may_wake};
 ghost use Rattle.peer_machine.specs.Run.{IsRunUnder};
 ghost use Rattle.boruvka_node.specs.Boruvka.{boruvka};
 ghost use Rattle.boruvka_steps.specs.Lines.{lines};
@@ -16,11 +16,11 @@ use ghs_choices::form::Form;
 use ghs_gr::device::Sink;
 use ghs_graph::graph::Graph;
 use ghs_report::portions::WriteFault;
-use ghs_sched::fault::ReplayFault;
 pub use ghs_steps::show::StepsFault;
-use ghs_world::wake_set::WakeSet;
 use peer_machine::event::Event;
+use peer_network::wake_set::WakeSet;
 use peer_runs::replay::replay;
+use peer_schedule::fault::ReplayFault;
 use std::alloc::Global;
 
 /// Writes a line for each chosen event of a stored run of Borůvka in step, in order, in the form that is asked for. The run

@@ -1,7 +1,7 @@
 //! The steps of a whole run, written out.
 ghost use Rattle.std.specs.Prelude.{◌≡◌, ◌++◌, ◌∷◌, [], false, length, slice_index, IfErr, IfOk, OnOk, MatchResult};
 ghost use Rattle.std.specs.Io.KnownBytes.{Appends};
-ghost use Rattle.ghs_protocol.specs.Network.{network_of};
+ghost use Rattle.peer_network.specs.Network.{network_of};
 ghost use Rattle.ghs_report.specs.Written.{IsFront, is_write};
 ghost use Rattle.peer_machine.specs.Ledger.{in_all};
 ghost use Rattle.peer_machine.specs.Run.{IsRun};

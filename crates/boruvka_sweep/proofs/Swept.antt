@@ -4,7 +4,7 @@ use Rattle.std.specs.Prelude.{Result, Ok, Err, IfOk}
 use Rattle.std.proofs.lemmas.List.{append_assoc}
 use Rattle.std.specs.declared.alloc.AllocError.{AllocError}
 use Rattle.ghs_graph.specs.Graph.{Shape}
-use Rattle.ghs_protocol.specs.declared.event.Event.{Event}
+use Rattle.peer_network.specs.declared.event.Event.{Event}
 use Rattle.peer_net.specs.NetState.{NetState}
 use Rattle.boruvka_sweep.specs.declared.figures.Figures.{Figures}
 use Rattle.boruvka_sweep.specs.declared.sweep.Setup.{Setup}

@@ -1,6 +1,6 @@
 -- The figures of a run by Borůvka in step as a line.
 use Rattle.std.specs.Prelude.{ℕ, List, ◌++◌, codes, decimal, slice_index}
-use Rattle.ghs_world.specs.declared.wake_set.WakeSet.{WakeSet}
+use Rattle.peer_network.specs.declared.wake_set.WakeSet.{WakeSet}
 use Rattle.ghs_report.specs.Fields.{end_word, field, wake_word, word_field}
 use Rattle.boruvka_sweep.specs.declared.figures.Figures.{Figures}
 

@@ -1,7 +1,7 @@
 -- The runs of many seeds.
 use Rattle.std.specs.Prelude.{◌≡◌, ◌⊎◌, ℕ, ◌+◌, ◌-◌, List, [], ◌++◌}
 use Rattle.ghs_graph.specs.Graph.{Shape}
-use Rattle.ghs_protocol.specs.declared.event.Event.{Event}
+use Rattle.peer_network.specs.declared.event.Event.{Event}
 use Rattle.boruvka_runs.specs.Runs.{IsStopped, IsWholeRun}
 use Rattle.boruvka_sweep.specs.declared.figures.Figures.{Figures}
 use Rattle.boruvka_sweep.specs.declared.line.TheConstants.{HEAD_LINE}

@@ -5,7 +5,7 @@ ghost use Rattle.std.specs.Prelude.{◌≡◌, ◌++◌, IfOk};
 use crate::figures::Figures;
 use ghs_lines::numbers::put_number;
 use ghs_report::fields::{end_word, put_field, put_word, wake_word};
-use ghs_world::wake_set::WakeSet;
+use peer_network::wake_set::WakeSet;
 use std::alloc::AllocError;
 
 /// The names of a line's fields, as a line.

@@ -6,7 +6,7 @@ use crate::figures::{Figures, figures_of};
 use crate::line::{HEAD_LINE, put_line};
 use boruvka_runs::run::{Ran, run_by_seed};
 use ghs_graph::graph::Graph;
-use ghs_world::wake_set::WakeSet;
+use peer_network::wake_set::WakeSet;
 use std::alloc::{AllocError, Global};
 
 /// What the runs of a sweep have in common.

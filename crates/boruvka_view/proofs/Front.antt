@@ -1,8 +1,8 @@
 -- The first events of a run are a run.
 use Rattle.std.proofs.Common.{ℕ, List, take, drop, ◌∙◌, ap}
 use Rattle.std.proofs.lemmas.List.{take-append-drop}
-use Rattle.ghs_protocol.specs.declared.event.Event.{Event}
-use Rattle.ghs_protocol.specs.Network.{Network}
+use Rattle.peer_network.specs.declared.event.Event.{Event}
+use Rattle.peer_network.specs.Network.{Network}
 use Rattle.peer_machine.specs.Net.{opening}
 use Rattle.peer_machine.specs.Run.{IsRun, run}
 use Rattle.peer_machine.proofs.lemmas.Runs.{run_splits}

@@ -5,8 +5,8 @@ use Rattle.std.specs.List.{flat_map}
 use Rattle.ghs_choices.specs.declared.form.Form.TheVariants.{Json}
 use Rattle.ghs_data.specs.Data.{head_json, link_json}
 use Rattle.ghs_graph.specs.Graph.{Shape}
-use Rattle.ghs_protocol.specs.declared.event.Event.{Event}
-use Rattle.ghs_protocol.specs.Network.{Network, network_of}
+use Rattle.peer_network.specs.declared.event.Event.{Event}
+use Rattle.peer_network.specs.Network.{Network, network_of}
 use Rattle.ghs_steps.specs.Json.{member, next}
 use Rattle.peer_machine.specs.Ledger.{waiting}
 use Rattle.peer_machine.specs.Net.{Net}

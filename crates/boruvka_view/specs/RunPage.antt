@@ -2,7 +2,7 @@
 use Rattle.std.specs.Prelude.{◌≡◌, ℕ, List, length}
 use Rattle.ghs_graph.specs.Graph.{Shape}
 use Rattle.ghs_page.specs.Page.{page_text}
-use Rattle.ghs_protocol.specs.declared.event.Event.{Event}
+use Rattle.peer_network.specs.declared.event.Event.{Event}
 use Rattle.ghs_view.specs.RunPage.{events_to}
 use Rattle.boruvka_view.specs.Data.{data_json}
 

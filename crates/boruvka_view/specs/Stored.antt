@@ -1,13 +1,13 @@
 -- Why a stored run of Borůvka in step has no page.
 use Rattle.std.specs.Prelude.{ℕ, List}
 use Rattle.ghs_graph.specs.Graph.{Shape}
-use Rattle.ghs_protocol.specs.declared.event.Event.{Event}
-use Rattle.ghs_protocol.specs.Network.{network_of}
+use Rattle.peer_network.specs.declared.event.Event.{Event}
+use Rattle.peer_network.specs.Network.{network_of}
 use Rattle.ghs_view.specs.RunPage.{IsTooLarge}
 use Rattle.ghs_view.specs.declared.stored.StoredFault.{StoredFault}
 use Rattle.ghs_view.specs.declared.stored.StoredFault.TheVariants.{Memory, NotLawful, TooLarge}
-use Rattle.ghs_world.specs.declared.wake_set.WakeSet.{WakeSet}
-use Rattle.ghs_world.specs.Wakes.{may_wake}
+use Rattle.peer_network.specs.declared.wake_set.WakeSet.{WakeSet}
+use Rattle.peer_network.specs.Wakes.{may_wake}
 use Rattle.peer_machine.specs.Run.{IsRunUnder}
 use Rattle.peer_runs.specs.Replays.{IsFirstUnlawful}
 use Rattle.boruvka_node.specs.Boruvka.{boruvka}

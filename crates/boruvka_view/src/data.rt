@@ -1,6 +1,6 @@
 //! The data of a run of Borůvka in step, as lines of JSON.
 ghost use Rattle.std.specs.Prelude.{◌≡◌, ◌++◌, IfOk, codes, decimal, length, slice_index};
-ghost use Rattle.ghs_protocol.specs.Network.{network_of};
+ghost use Rattle.peer_network.specs.Network.{network_of};
 ghost use Rattle.ghs_steps.specs.Json.{next};
 ghost use Rattle.peer_machine.specs.Run.{IsRun};
 ghost use Rattle.peer_net.specs.NetState.{net_of, network};

@@ -1,6 +1,6 @@
 //! The page of a run of Borůvka in step.
 ghost use Rattle.std.specs.Prelude.{◌↔◌, IfOk, IsErrOf};
-ghost use Rattle.ghs_protocol.specs.Network.{network_of};
+ghost use Rattle.peer_network.specs.Network.{network_of};
 ghost use Rattle.ghs_view.specs.RunPage.{IsTooLarge};
 ghost use Rattle.ghs_view.specs.declared.page.PageFault.TheVariants.{TooLarge};
 ghost use Rattle.peer_machine.specs.Run.{IsRun};

@@ -1,6 +1,6 @@
 //! The page of a stored run of Borůvka in step, which is judged first.
-ghost use Rattle.ghs_protocol.specs.Network.{network_of};
-ghost use Rattle.ghs_world.specs.Wakes.{may_wake};
+ghost use Rattle.peer_network.specs.Network.{network_of};
+ghost use Rattle.peer_network.specs.Wakes.{may_wake};
 ghost use Rattle.peer_machine.specs.Run.{IsRunUnder};
 ghost use Rattle.boruvka_node.specs.Boruvka.{boruvka};
 ghost use Rattle.boruvka_view.specs.RunPage.{IsRunPage};
@@ -10,12 +10,12 @@ ghost use Rattle.std.specs.Prelude.{IfErr, IfOk, OnOk};
 use crate::page::run_page;
 use boruvka::protocol::Boruvka;
 use ghs_graph::graph::Graph;
-use ghs_sched::fault::ReplayFault;
 use ghs_view::page::PageFault;
 pub use ghs_view::stored::StoredFault;
-use ghs_world::wake_set::WakeSet;
 use peer_machine::event::Event;
+use peer_network::wake_set::WakeSet;
 use peer_runs::replay::replay;
+use peer_schedule::fault::ReplayFault;
 use std::alloc::Global;
 
 /// The page of a stored run, from the opening on to the event `to`; it opens before the event `from`. A run that hasn't

@@ -5,18 +5,19 @@ use Rattle.std.proofs.lemmas.Option.{same_Some}
 use Rattle.ghs_node.specs.declared.delta.Delta.{Delta}
 use Rattle.ghs_node.specs.declared.message.Message.{Message}
 use Rattle.ghs_node.specs.Reaction.{reaction}
-use Rattle.ghs_protocol.specs.declared.event.Event.{Event}
-use Rattle.ghs_protocol.specs.declared.event.Event.TheVariants.{Wake, Take}
+use Rattle.peer_network.specs.declared.event.Event.{Event}
+use Rattle.peer_network.specs.declared.event.Event.TheVariants.{Wake, Take}
 use Rattle.ghs_protocol.specs.Ledger.{in_all, of_kind}
-use Rattle.ghs_protocol.specs.Net.{Net, after_take, after_wake, change, event_node, happens, is_lawful, is_waiting, opening, send_all, take_first, takes_from}
-use Rattle.ghs_protocol.specs.Network.{Network}
+use Rattle.ghs_protocol.specs.Net.{Net, after_take, after_wake, change, happens, is_lawful, is_waiting, opening, send_all, take_first, takes_from}
+use Rattle.peer_network.specs.Events.{event_node}
+use Rattle.peer_network.specs.Network.{Network}
 use Rattle.ghs_protocol.specs.Run.{IsAfter, IsRun, and_then, run}
 use Rattle.ghs_protocol.specs.Steps.{Happens, Woke, Took}
 use Rattle.ghs_protocol.proofs.lemmas.Balance.{kinds_in_all, of_kind_append}
 use Rattle.ghs_protocol.proofs.lemmas.Events.{happening, lawful_happens}
 use Rattle.ghs_protocol.proofs.lemmas.Runs.{after_is_net}
 use Rattle.ghs_protocol.proofs.lemmas.Sends.{sent_now}
-use Rattle.ghs_protocol.proofs.lemmas.Sums.{sum_same}
+use Rattle.peer_network.proofs.lemmas.Sums.{sum_same}
 use Rattle.ghs_core.specs.NetState.{IsAnswer, IsLawful, NetState, delivery, net_of, network, work_at}
 use Rattle.ghs_bits.specs.Bits.{all_sent, if_then, messages_of, sends_after, sends_at, sends_of}
 

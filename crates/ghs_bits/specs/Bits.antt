@@ -5,9 +5,10 @@ use Rattle.ghs_node.specs.declared.delta.Delta.{Delta}
 use Rattle.ghs_node.specs.declared.message.Message.{Message}
 use Rattle.ghs_node.specs.Reaction.{reaction}
 use Rattle.ghs_node.specs.Words.{Outgoing}
-use Rattle.ghs_protocol.specs.declared.event.Event.{Event}
-use Rattle.ghs_protocol.specs.Net.{Net, event_node, happens, opening}
-use Rattle.ghs_protocol.specs.Network.{Network, network_of}
+use Rattle.peer_network.specs.declared.event.Event.{Event}
+use Rattle.ghs_protocol.specs.Net.{Net, happens, opening}
+use Rattle.peer_network.specs.Events.{event_node}
+use Rattle.peer_network.specs.Network.{Network, network_of}
 use Rattle.ghs_core.specs.NetState.{NetState, work_at}
 use Rattle.ghs_bits.specs.declared.bits.Bits.{Bits}
 use Rattle.ghs_bits.specs.declared.widths.Widths.{Widths}

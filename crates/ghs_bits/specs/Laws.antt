@@ -7,8 +7,8 @@ use Rattle.ghs_node.specs.declared.kind.Kind.TheVariants as kinds
 use Rattle.ghs_node.specs.declared.message.Message.{Message}
 use Rattle.ghs_node.specs.declared.message.Message.TheVariants.{Connect, Initiate, Test, Accept, Reject, Report, ChangeRoot}
 use Rattle.ghs_node.specs.Kind.{place_of}
-use Rattle.ghs_protocol.specs.declared.event.Event.{Event}
-use Rattle.ghs_protocol.specs.Network.{network_of}
+use Rattle.peer_network.specs.declared.event.Event.{Event}
+use Rattle.peer_network.specs.Network.{network_of}
 use Rattle.ghs_protocol.specs.Net.{Net}
 use Rattle.ghs_protocol.specs.Run.{IsAfter}
 use Rattle.ghs_bits.specs.declared.widths.Widths.{Widths}

@@ -8,7 +8,7 @@ use ghs_following::follower::Follower;
 use ghs_graph::graph::Graph;
 use ghs_node::delta::Delta;
 use ghs_node::message::Message;
-use ghs_protocol::event::Event;
+use peer_network::event::Event;
 use std::alloc::AllocError;
 
 /// How many bits have been sent, each message counted once, and how many the longest message has; 0, where none was sent.

@@ -1,13 +1,13 @@
 //! The bits of a whole run.
 ghost use Rattle.ghs_bits.specs.Bits.{bits_sent, longest_sent};
-ghost use Rattle.ghs_protocol.specs.Network.{network_of};
+ghost use Rattle.peer_network.specs.Network.{network_of};
 ghost use Rattle.ghs_protocol.specs.Run.{IsRun};
 ghost use Rattle.std.specs.Prelude.{◌≡◌, ◌≤◌, ◌^◌, IfOk, length};
 
 use crate::bits::Bits;
 use ghs_following::walk::follow_all;
 use ghs_graph::graph::Graph;
-use ghs_protocol::event::Event;
+use peer_network::event::Event;
 use std::alloc::{AllocError, Global};
 
 /// How many bits the messages of a run have that were sent, and how many the longest of them has. The events are played once

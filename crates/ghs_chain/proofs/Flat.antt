@@ -5,10 +5,10 @@ use Rattle.std.proofs.lemmas.Bool.{cases_eq, cases_lt}
 use Rattle.std.proofs.lemmas.List.{get_or-take, get_or-drop, get_or_append_left, get_or_default, get_or_past, get_or_push, length-take}
 use Rattle.ghs_graph.specs.Graph.{Shape, IsGraph}
 use Rattle.ghs_graph.specs.Ports.{ports_of}
-use Rattle.ghs_protocol.specs.Ledger.{sum_below}
-use Rattle.ghs_protocol.specs.Net.{put_at}
-use Rattle.ghs_protocol.proofs.lemmas.Graphs.{twice_links}
-use Rattle.ghs_protocol.proofs.lemmas.Updates.{put_at_hit, put_at_miss}
+use Rattle.peer_network.specs.Sums.{sum_below}
+use Rattle.peer_network.specs.Updates.{put_at}
+use Rattle.peer_network.proofs.lemmas.Graphs.{twice_links}
+use Rattle.peer_network.proofs.lemmas.Updates.{put_at_hit, put_at_miss}
 use Rattle.ghs_chain.specs.Kept.{ChangesLine, line_at, line_of}
 use Rattle.ghs_chain.specs.Rows.{AreBases, AreRising, part, rows_from, rows_on}
 

@@ -7,9 +7,9 @@ use Rattle.std.proofs.lemmas.List.{get_or-replicate, get_or_past, length-replica
 use Rattle.ghs_node.specs.declared.message.Message.{Message}
 use Rattle.ghs_node.specs.declared.delta.Fate.{Fate}
 use Rattle.ghs_node.specs.Words.{Outgoing}
-use Rattle.ghs_protocol.specs.Network.{Network, far, far_port}
-use Rattle.ghs_protocol.specs.Net.{put, put_at}
-use Rattle.ghs_protocol.proofs.lemmas.Updates.{put_same, put_other}
+use Rattle.peer_network.specs.Network.{Network, far, far_port}
+use Rattle.peer_network.specs.Updates.{put, put_at}
+use Rattle.peer_network.proofs.lemmas.Updates.{put_same, put_other}
 use Rattle.ghs_chain.specs.Chains.{Chains, behind, heard, no_chains, sent, sent_on, taken, with_last}
 use Rattle.ghs_chain.specs.Kept.{ChangesLine, HasPlace, Kept, SamePlaces, line_at, line_of, row_of, seen, stepped}
 

@@ -17,25 +17,28 @@ use Rattle.ghs_node.specs.Reaction.{reaction, after}
 use Rattle.ghs_node.specs.Rows.{Row}
 use Rattle.ghs_node.specs.Words.{Outgoing, is_sleeping}
 use Rattle.ghs_node.proofs.lemmas.{reaction_inverts, row_ported}
-use Rattle.ghs_protocol.specs.declared.event.Event.{Event}
-use Rattle.ghs_protocol.specs.declared.event.Event.TheVariants.{Wake, Take}
+use Rattle.peer_network.specs.declared.event.Event.{Event}
+use Rattle.peer_network.specs.declared.event.Event.TheVariants.{Wake, Take}
 use Rattle.ghs_protocol.specs.Laws.{IsNetOf}
 use Rattle.ghs_protocol.specs.Ledger.{of_kind}
-use Rattle.ghs_protocol.specs.Net.{Net, change, effect, event_node, happens, is_lawful, is_node, is_port, is_waiting, left_of, one_if_consumed, one_if_requeued, opening, put, put_at, send, send_all, take_first, takes_from, after_take, after_wake}
-use Rattle.ghs_protocol.specs.Network.{Network, At, far, far_port, network_of}
+use Rattle.ghs_protocol.specs.Net.{Net, change, effect, happens, is_lawful, is_waiting, left_of, one_if_consumed, one_if_requeued, opening, send, send_all, take_first, takes_from, after_take, after_wake}
+use Rattle.peer_network.specs.Network.{is_node, is_port, Network, At, far, far_port, network_of}
+use Rattle.peer_network.specs.Events.{event_node}
+use Rattle.peer_network.specs.Updates.{put, put_at}
 use Rattle.ghs_protocol.specs.Run.{and_then, run}
 use Rattle.ghs_protocol.specs.Steps as steps
 use Rattle.ghs_protocol.specs.Steps.{sent_on}
-use Rattle.ghs_protocol.proofs.lemmas.Events.{at_of, lawful_happens, node_of}
-use Rattle.ghs_protocol.proofs.lemmas.Graphs.{graph_few, graph_wired}
+use Rattle.ghs_protocol.proofs.lemmas.Events.{lawful_happens}
+use Rattle.peer_network.proofs.lemmas.Events.{at_of, node_of}
+use Rattle.peer_network.proofs.lemmas.Graphs.{graph_few, graph_wired}
 use Rattle.ghs_protocol.proofs.lemmas.Laws.{events_have_rules}
 use Rattle.ghs_protocol.proofs.lemmas.Nodes.{ports_many}
 use Rattle.ghs_protocol.proofs.lemmas.Queues.{all_first, all_rest}
 use Rattle.ghs_protocol.proofs.lemmas.Runs.{run_joins}
-use Rattle.ghs_protocol.proofs.lemmas.Sends.{consumed_sent, count_sent, messages, node_sent, put_count, requeued_sent}
-use Rattle.ghs_protocol.proofs.lemmas.Updates.{put_other, put_same}
+use Rattle.ghs_protocol.proofs.lemmas.Sends.{consumed_sent, count_sent, messages, node_sent, requeued_sent}
+use Rattle.peer_network.proofs.lemmas.Updates.{put_count, put_other, put_same}
 use Rattle.ghs_protocol.proofs.lemmas.WellFormed.{IsWellFormed, after_formed, event_row}
-use Rattle.ghs_protocol.proofs.lemmas.Wired.{IsWired}
+use Rattle.peer_network.proofs.lemmas.Wired.{IsWired}
 use Rattle.ghs_core.specs.Dispatch.{arriving}
 use Rattle.ghs_core.specs.NetState.{delivery}
 use Rattle.ghs_chain.specs.Chains.{Chains, answered, behind, chains_after, chains_of, chains_then, heard, hears, if_then, most_below, no_chains, sent, sent_on as number_on, taken}

@@ -5,10 +5,12 @@ use Rattle.ghs_node.specs.declared.delta.Fate.TheVariants.{Consumed, Requeued}
 use Rattle.ghs_node.specs.declared.delta.Delta.{Delta}
 use Rattle.ghs_node.specs.Words.{Outgoing, is_sleeping}
 use Rattle.ghs_node.specs.Reaction.{reaction}
-use Rattle.ghs_protocol.specs.declared.event.Event.{Event}
-use Rattle.ghs_protocol.specs.declared.event.Event.TheVariants.{Wake, Take}
-use Rattle.ghs_protocol.specs.Network.{Network, port_at}
-use Rattle.ghs_protocol.specs.Net.{Net, event_node, opening, put, put_at, happens}
+use Rattle.peer_network.specs.declared.event.Event.{Event}
+use Rattle.peer_network.specs.declared.event.Event.TheVariants.{Wake, Take}
+use Rattle.peer_network.specs.Network.{Network, port_at}
+use Rattle.ghs_protocol.specs.Net.{Net, opening, happens}
+use Rattle.peer_network.specs.Events.{event_node}
+use Rattle.peer_network.specs.Updates.{put, put_at}
 use Rattle.ghs_core.specs.NetState.{work_at}
 
 -- how many messages have led to each node, one because of another, and to each message that waits, itself the last

@@ -2,9 +2,9 @@
 use Rattle.std.specs.Prelude.{ℕ, ◌≤◌, List, length}
 use Rattle.ghs_graph.specs.Bound.{IsBound}
 use Rattle.ghs_graph.specs.Graph.{Shape, IsGraph}
-use Rattle.ghs_protocol.specs.declared.event.Event.{Event}
+use Rattle.peer_network.specs.declared.event.Event.{Event}
 use Rattle.ghs_protocol.specs.Ledger.{in_all}
-use Rattle.ghs_protocol.specs.Network.{Network, network_of}
+use Rattle.peer_network.specs.Network.{Network, network_of}
 use Rattle.ghs_protocol.specs.Net.{Net}
 use Rattle.ghs_protocol.specs.Run.{IsAfter}
 use Rattle.ghs_chain.specs.Chains.{longest_chain}

@@ -4,10 +4,11 @@ use Rattle.ghs_graph.specs.Graph.{Shape, IsGraph}
 use Rattle.ghs_node.specs.declared.delta.Delta.{Delta}
 use Rattle.ghs_node.specs.declared.delta.Fate.TheVariants.{Requeued}
 use Rattle.ghs_node.specs.Reaction.{reaction}
-use Rattle.ghs_protocol.specs.declared.event.Event.{Event}
-use Rattle.ghs_protocol.specs.declared.event.Event.TheVariants.{Take}
-use Rattle.ghs_protocol.specs.Network.{Network, network_of}
-use Rattle.ghs_protocol.specs.Net.{Net, event_node, is_lawful, opening}
+use Rattle.peer_network.specs.declared.event.Event.{Event}
+use Rattle.peer_network.specs.declared.event.Event.TheVariants.{Take}
+use Rattle.peer_network.specs.Network.{Network, network_of}
+use Rattle.ghs_protocol.specs.Net.{Net, is_lawful, opening}
+use Rattle.peer_network.specs.Events.{event_node}
 use Rattle.ghs_protocol.specs.Run.{IsAfter, IsRun, run}
 use Rattle.ghs_core.specs.Dispatch.{arriving}
 use Rattle.ghs_core.specs.NetState.{work_at}

@@ -1,13 +1,13 @@
 //! The longest chain of messages of a run.
 ghost use Rattle.ghs_chain.specs.Chains.{longest_chain};
-ghost use Rattle.ghs_protocol.specs.Network.{network_of};
+ghost use Rattle.peer_network.specs.Network.{network_of};
 ghost use Rattle.ghs_protocol.specs.Run.{IsRun};
 ghost use Rattle.std.specs.Prelude.{◌≡◌, ◌≤◌, ◌^◌, IfOk, length};
 
 use crate::chains::Chains;
 use ghs_following::walk::follow_all;
 use ghs_graph::graph::Graph;
-use ghs_protocol::event::Event;
+use peer_network::event::Event;
 use std::alloc::{AllocError, Global};
 
 /// How many messages the longest chain of a run has, each sent because of the one before, and each heard: its node has

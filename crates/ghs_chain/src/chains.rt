@@ -2,7 +2,7 @@
 ghost use Rattle.ghs_chain.specs.Chains.{heard, hears, most_below, no_chains, sent, taken, with_last};
 ghost use Rattle.ghs_chain.specs.Kept.{Fits, HasPlace, HasPlaceOf, SamePlaces, seen};
 ghost use Rattle.ghs_graph.specs.Ports.{ports_of};
-ghost use Rattle.ghs_protocol.specs.Network.{far, far_port, network_of};
+ghost use Rattle.peer_network.specs.Network.{far, far_port, network_of};
 ghost use Rattle.std.specs.List.{All};
 ghost use Rattle.std.specs.Prelude.{◌≡◌, ◌+◌, ◌-◌, ◌<◌, ◌≤◌, ◌^◌, IfOk, length, OnOk, slice_get, slice_index};
 
@@ -10,7 +10,7 @@ use crate::rows::Rows;
 use ghs_graph::graph::Graph;
 use ghs_node::delta::Fate;
 use ghs_node::message::Message;
-use ghs_protocol::event::Event;
+use peer_network::event::Event;
 use std::alloc::{AllocError, Global};
 use std::marker::Model;
 

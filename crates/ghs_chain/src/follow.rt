@@ -5,7 +5,7 @@ use crate::chains::Chains;
 use ghs_core::net::{Net, is_asleep, node_of};
 use ghs_following::follower::Follower;
 use ghs_node::delta::{Delta, Fate};
-use ghs_protocol::event::Event;
+use peer_network::event::Event;
 use std::alloc::AllocError;
 
 /// Chains follow the events of their run.

@@ -8,9 +8,9 @@ use Rattle.ghs_explore.specs.States.{HasStates}
 use Rattle.ghs_explore.specs.Text.{IsExploredText}
 use Rattle.ghs_explore.specs.declared.row.EndRow.{EndRow}
 use Rattle.ghs_graph.specs.Graph.{IsGraph, Shape}
-use Rattle.ghs_protocol.specs.declared.event.Event.{Event}
-use Rattle.ghs_sched.specs.Text.{trace_text}
-use Rattle.ghs_world.specs.declared.wake_set.WakeSet.{WakeSet}
+use Rattle.peer_network.specs.declared.event.Event.{Event}
+use Rattle.peer_texts.specs.Text.{trace_text}
+use Rattle.peer_network.specs.declared.wake_set.WakeSet.{WakeSet}
 use Rattle.ghs_commands.specs.declared.exploring.ExploreOptions.{ExploreOptions}
 use Rattle.ghs_cli.specs.Exploring.{AreEndsOf, IsRunOf}
 

@@ -3,11 +3,11 @@ use Rattle.std.proofs.Common.{◌≡◌, ℕ, List, Option, inl, inr, refl}
 use Rattle.std.specs.Prelude.{IfSome, Result, Ok, Err}
 use Rattle.std.specs.Io.KnownBytes.{Appends}
 use Rattle.ghs_graph.specs.Graph.{Shape}
-use Rattle.ghs_protocol.specs.declared.event.Event.{Event}
-use Rattle.ghs_protocol.specs.Network.{network_of}
+use Rattle.peer_network.specs.declared.event.Event.{Event}
+use Rattle.peer_network.specs.Network.{network_of}
 use Rattle.ghs_steps.specs.declared.show.StepsFault.{StepsFault}
 use Rattle.ghs_steps.specs.declared.show.StepsFault.TheVariants as steps
-use Rattle.ghs_world.specs.Wakes.{may_wake}
+use Rattle.peer_network.specs.Wakes.{may_wake}
 use Rattle.peer_machine.specs.Run.{IsRunUnder}
 use Rattle.peer_trace.specs.declared.protocol.Protocol.TheVariants.{Boruvka}
 use Rattle.boruvka_node.specs.Boruvka.{boruvka}

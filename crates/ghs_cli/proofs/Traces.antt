@@ -5,12 +5,12 @@ use Rattle.std.specs.Str.{all_ascii_digits, bytes_eq}
 use Rattle.std.specs.Str.Parse.{digits_value}
 use Rattle.std.proofs.lemmas.Bool.{leb-true}
 use Rattle.ghs_lines.specs.Fields.{is_nonempty}
-use Rattle.ghs_protocol.specs.declared.event.Event.{Event}
-use Rattle.ghs_sched.specs.Line.{head_of, meaning_of, take_of, wake_of}
-use Rattle.ghs_sched.specs.Reading.{head_in}
-use Rattle.ghs_sched.specs.declared.line.Line.{Line}
-use Rattle.ghs_sched.specs.declared.line.Line.TheVariants.{Passed, Malformed, Head, Wake, Take}
-use Rattle.ghs_sched.specs.declared.trace.TheConstants.{EVENT_LIMIT}
+use Rattle.peer_network.specs.declared.event.Event.{Event}
+use Rattle.peer_texts.specs.Line.{head_of, meaning_of, take_of, wake_of}
+use Rattle.peer_texts.specs.Reading.{head_in}
+use Rattle.peer_texts.specs.declared.line.Line.{Line}
+use Rattle.peer_texts.specs.declared.line.Line.TheVariants.{Passed, Malformed, Head, Wake, Take}
+use Rattle.peer_texts.specs.declared.trace.TheConstants.{EVENT_LIMIT}
 use Rattle.peer_trace.specs.Head.{fields_in, plain_lines}
 use Rattle.peer_trace.specs.Reading.{HasEventsOf}
 use Rattle.peer_trace.specs.declared.protocol.Protocol.{Protocol}

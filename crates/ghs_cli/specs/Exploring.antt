@@ -6,8 +6,8 @@ use Rattle.ghs_explore.specs.States.{HasMoreStates, HasStates}
 use Rattle.ghs_explore.specs.Text.{IsExploredText}
 use Rattle.ghs_explore.specs.declared.row.EndRow.{EndRow}
 use Rattle.ghs_graph.specs.Graph.{Shape}
-use Rattle.ghs_protocol.specs.declared.event.Event.{Event}
-use Rattle.ghs_sched.specs.Text.{trace_text}
+use Rattle.peer_network.specs.declared.event.Event.{Event}
+use Rattle.peer_texts.specs.Text.{trace_text}
 use Rattle.ghs_cli.specs.declared.fault.ServeFault.{ServeFault}
 use Rattle.ghs_cli.specs.declared.fault.ServeFault.TheVariants as serve
 use Rattle.ghs_commands.specs.declared.exploring.ExploreOptions.{ExploreOptions}

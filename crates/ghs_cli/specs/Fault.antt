@@ -4,10 +4,10 @@ use Rattle.ghs_gr.specs.declared.fault.GrFault.{GrFault}
 use Rattle.ghs_gr.specs.declared.fault.GrFault.TheVariants as gr
 use Rattle.ghs_gr.specs.declared.text.TextFault.{TextFault}
 use Rattle.ghs_gr.specs.declared.text.TextFault.TheVariants as text
-use Rattle.ghs_sched.specs.declared.fault.ReplayFault.{ReplayFault}
-use Rattle.ghs_sched.specs.declared.fault.ReplayFault.TheVariants as replay
-use Rattle.ghs_sched.specs.declared.fault.TraceFault.{TraceFault}
-use Rattle.ghs_sched.specs.declared.fault.TraceFault.TheVariants as trace
+use Rattle.peer_schedule.specs.declared.fault.ReplayFault.{ReplayFault}
+use Rattle.peer_schedule.specs.declared.fault.ReplayFault.TheVariants as replay
+use Rattle.peer_texts.specs.declared.fault.TraceFault.{TraceFault}
+use Rattle.peer_texts.specs.declared.fault.TraceFault.TheVariants as trace
 use Rattle.ghs_make.specs.declared.fault.MakeFault.{MakeFault}
 use Rattle.ghs_make.specs.declared.fault.MakeFault.TheVariants as make
 use Rattle.ghs_report.specs.declared.portions.WriteFault.{WriteFault}

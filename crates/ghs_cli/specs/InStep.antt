@@ -1,12 +1,12 @@
 -- What running a network by Borůvka in step comes to, and playing a stored run of it again, or telling it, or showing it on a page.
 use Rattle.std.specs.Prelude.{◌≡◌, ℕ, ◌+◌, ◌≤◌, Bool, true, false, List, None}
 use Rattle.ghs_graph.specs.Graph.{Shape}
-use Rattle.ghs_protocol.specs.declared.event.Event.{Event}
-use Rattle.ghs_protocol.specs.Network.{network_of}
+use Rattle.peer_network.specs.declared.event.Event.{Event}
+use Rattle.peer_network.specs.Network.{network_of}
 use Rattle.ghs_picking.specs.Time.{time_text}
 use Rattle.ghs_picking.specs.declared.lengths.RunLengths.{RunLengths}
-use Rattle.ghs_world.specs.declared.wake_set.WakeSet.{WakeSet}
-use Rattle.ghs_world.specs.Wakes.{may_wake}
+use Rattle.peer_network.specs.declared.wake_set.WakeSet.{WakeSet}
+use Rattle.peer_network.specs.Wakes.{may_wake}
 use Rattle.peer_lengths.specs.Chain.{longest_chain}
 use Rattle.peer_lengths.specs.Sends.{bits_sent, longest_sent}
 use Rattle.peer_machine.specs.Run.{IsRunUnder, net_after}

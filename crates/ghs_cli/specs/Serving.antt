@@ -14,24 +14,24 @@ use Rattle.ghs_cores.specs.Text.{HaveLines}
 use Rattle.ghs_picking.specs.Lengths.{lengths_of}
 use Rattle.ghs_picking.specs.Picking.{AreRounds, IsPickedBy}
 use Rattle.ghs_picking.specs.Time.{time_text}
-use Rattle.ghs_protocol.specs.declared.event.Event.{Event}
+use Rattle.peer_network.specs.declared.event.Event.{Event}
 use Rattle.ghs_protocol.specs.Marks.{HasEnded}
 use Rattle.ghs_protocol.specs.Net.{Net}
-use Rattle.ghs_protocol.specs.Network.{network_of}
+use Rattle.peer_network.specs.Network.{network_of}
 use Rattle.ghs_protocol.specs.Run.{IsRunUnder, net_after}
 use Rattle.ghs_report.specs.ReportText.{IsReportText}
 use Rattle.ghs_report.specs.TreeText.{tree_text}
 use Rattle.ghs_report.specs.Writing.{HasWritten}
 use Rattle.ghs_sched.specs.Replays.{IsFirstUnlawful}
-use Rattle.ghs_sched.specs.Text.{trace_text}
-use Rattle.ghs_sched.specs.declared.fault.TraceFault.TheVariants as trace
+use Rattle.peer_texts.specs.Text.{trace_text}
+use Rattle.peer_texts.specs.declared.fault.TraceFault.TheVariants as trace
 use Rattle.ghs_steps.specs.Lines.{lines}
 use Rattle.peer_trace.specs.Reading.{HasEventsOf, HasFaultOf}
 use Rattle.peer_trace.specs.declared.fault.StoredFault.TheVariants.{Other, Trace}
 use Rattle.peer_trace.specs.declared.protocol.Protocol.{Protocol}
 use Rattle.peer_trace.specs.declared.protocol.Protocol.TheVariants as protocol
-use Rattle.ghs_world.specs.declared.wake_set.WakeSet.{WakeSet}
-use Rattle.ghs_world.specs.Wakes.{may_wake}
+use Rattle.peer_network.specs.declared.wake_set.WakeSet.{WakeSet}
+use Rattle.peer_network.specs.Wakes.{may_wake}
 use Rattle.ghs_cli.specs.declared.fault.ServeFault.{ServeFault}
 use Rattle.ghs_cli.specs.declared.fault.ServeFault.TheVariants as serve
 use Rattle.ghs_commands.specs.declared.job.RunOptions.{RunOptions}

@@ -1,7 +1,7 @@
 -- Sweeps of a graph.
 use Rattle.std.specs.Prelude.{◌≡◌, ℕ, ◌+◌, ◌-◌, List, [], ◌++◌, length, Option, Some, None}
 use Rattle.ghs_graph.specs.Graph.{Shape}
-use Rattle.ghs_protocol.specs.declared.event.Event.{Event}
+use Rattle.peer_network.specs.declared.event.Event.{Event}
 use Rattle.ghs_picking.specs.Picking.{IsPickedBy}
 use Rattle.ghs_choices.specs.declared.by.By.{By}
 use Rattle.ghs_parts.specs.Line.{head_line}

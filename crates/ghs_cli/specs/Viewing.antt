@@ -2,13 +2,13 @@
 use Rattle.std.specs.Prelude.{ℕ, List, Option, Some, None}
 use Rattle.ghs_graph.specs.Graph.{Shape}
 use Rattle.ghs_picking.specs.Picking.{IsPickedBy}
-use Rattle.ghs_protocol.specs.declared.event.Event.{Event}
-use Rattle.ghs_protocol.specs.Network.{network_of}
+use Rattle.peer_network.specs.declared.event.Event.{Event}
+use Rattle.peer_network.specs.Network.{network_of}
 use Rattle.ghs_protocol.specs.Run.{IsRunUnder}
 use Rattle.ghs_sched.specs.Replays.{IsFirstUnlawful}
 use Rattle.ghs_view.specs.PairPage.{IsPairPage, IsPairTooLarge}
 use Rattle.ghs_view.specs.RunPage.{IsRunPage, IsTooLarge}
-use Rattle.ghs_world.specs.Wakes.{may_wake}
+use Rattle.peer_network.specs.Wakes.{may_wake}
 use Rattle.ghs_cli.specs.declared.fault.ServeFault.{ServeFault}
 use Rattle.ghs_cli.specs.declared.fault.ServeFault.TheVariants as serve
 use Rattle.ghs_commands.specs.declared.job.StoredViewOptions.{StoredViewOptions}

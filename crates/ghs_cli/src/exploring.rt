@@ -17,7 +17,7 @@ use ghs_explore::laws::law_range;
 use ghs_explore::text::explored_text;
 use ghs_gr::device::Source;
 use ghs_graph::graph::Graph;
-use ghs_sched::trace::write_trace;
+use peer_texts::trace::write_trace;
 use std::alloc::{AllocError, Global};
 
 /// What is found of all runs of the graph that the device gives.

@@ -14,9 +14,9 @@ use ghs_commands::boruvka::BoruvkaViewOptions;
 use ghs_commands::job::StoredViewOptions;
 use ghs_gr::device::Source;
 use ghs_graph::graph::Graph;
-use ghs_protocol::event::Event;
 use ghs_view::page::PageFault;
 use ghs_view::stored::StoredFault;
+use peer_network::event::Event;
 use peer_runs::world::World;
 use std::alloc::Global;
 

@@ -1,8 +1,7 @@
 //! Sweeps by parts: the messages of each run by node or level, or how often each rule applied.
 ghost use Rattle.ghs_commands.specs.Job.{AreSweepLimits};
-ghost use Rattle.ghs_cli.specs.Sweeping.{ArePartedRuns, IsPartedRun, count_of};
+ghost use Rattle.ghs_cli.specs.Sweeping.{ArePartedRuns, IsPartedRun, count_of, AreLines};
 ghost use Rattle.ghs_picking.specs.Picking.{IsPickedBy};
-ghost use Rattle.ghs_cli.specs.Sweeping.{AreLines};
 ghost use Rattle.std.specs.Prelude.{◌≡◌, ◌+◌, ◌-◌, ◌<◌, ◌≤◌, ◌^◌, ◌++◌, List, ℕ, Some, IfOk};
 ghost use Rattle.std.specs.Thread.{IsSync};
 

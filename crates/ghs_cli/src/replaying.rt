@@ -13,13 +13,13 @@ use crate::in_step;
 use crate::reading::{events_of, graph_of};
 use ghs_gr::device::Source;
 use ghs_graph::graph::Graph;
-use ghs_protocol::event::Event;
 use ghs_report::report_text::ReportFault;
 use ghs_report::run_text::run_text;
 use ghs_sched::replay::replay;
-use ghs_sched::trace::EVENT_LIMIT;
-use ghs_world::wake_set::WakeSet;
 use ghs_world::world::World;
+use peer_network::event::Event;
+use peer_network::wake_set::WakeSet;
+use peer_texts::trace::EVENT_LIMIT;
 use peer_trace::protocol::Protocol;
 use std::alloc::Global;
 

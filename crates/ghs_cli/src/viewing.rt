@@ -15,12 +15,12 @@ use ghs_commands::job::{StoredViewOptions, ViewOptions};
 use ghs_gr::device::Source;
 use ghs_graph::graph::Graph;
 use ghs_picking::picking::run_by_seed;
-use ghs_protocol::event::Event;
 use ghs_sched::fault::RunFault;
-use ghs_sched::trace::EVENT_LIMIT;
 use ghs_view::page::{PageFault, run_page};
 use ghs_view::stored::{StoredFault, stored_page};
 use ghs_world::world::World;
+use peer_network::event::Event;
+use peer_texts::trace::EVENT_LIMIT;
 use peer_trace::protocol::Protocol;
 use std::alloc::Global;
 

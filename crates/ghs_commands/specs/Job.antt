@@ -13,9 +13,9 @@ use Rattle.ghs_make.specs.declared.plan.Asked.{Asked}
 use Rattle.ghs_make.specs.declared.weights.Weights.{Weights}
 use Rattle.ghs_choices.specs.declared.schedule_kind.ScheduleKind.{ScheduleKind}
 use Rattle.ghs_choices.specs.declared.schedule_kind.ScheduleKind.TheVariants.{Lifo, Patient, Rounds, Waits}
-use Rattle.ghs_sched.specs.declared.trace.TheConstants.{EVENT_LIMIT}
-use Rattle.ghs_world.specs.declared.wake_set.WakeSet.{WakeSet}
-use Rattle.ghs_world.specs.declared.wake_set.WakeSet.TheVariants.{First}
+use Rattle.peer_texts.specs.declared.trace.TheConstants.{EVENT_LIMIT}
+use Rattle.peer_network.specs.declared.wake_set.WakeSet.{WakeSet}
+use Rattle.peer_network.specs.declared.wake_set.WakeSet.TheVariants.{First}
 use Rattle.ghs_commands.specs.Grammar.{program}
 use Rattle.ghs_commands.specs.declared.job.JobFault.{JobFault}
 use Rattle.ghs_commands.specs.declared.job.JobFault.TheVariants as fault

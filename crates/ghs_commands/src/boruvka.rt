@@ -8,8 +8,8 @@ use crate::networks::{are_several, values_of};
 use crate::parts::is_said;
 use crate::values::{Seeds, is_among, is_number};
 use clap::ArgMatches;
-use ghs_sched::trace::EVENT_LIMIT;
-use ghs_world::wake_set::WakeSet;
+use peer_network::wake_set::WakeSet;
+use peer_texts::trace::EVENT_LIMIT;
 
 /// How a network is run by Borůvka in step.
 #[derive(Clone, Copy, Debug, PartialEq, Eq)]

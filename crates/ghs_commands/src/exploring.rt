@@ -5,7 +5,7 @@ ghost use Rattle.ghs_commands.specs.Job.{AreExploreLimits, AreExploreOptions, Is
 use crate::job::{number_of, value_of, wake_of};
 use crate::values::is_text;
 use clap::ArgMatches;
-use ghs_world::wake_set::WakeSet;
+use peer_network::wake_set::WakeSet;
 
 /// How many states the runs may lead to at most.
 pub const MOST_STATES: u32 = 10_000_000;

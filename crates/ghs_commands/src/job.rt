@@ -33,8 +33,8 @@ use ghs_choices::schedule_kind::ScheduleKind;
 use ghs_make::kind::Kind;
 use ghs_make::plan::Asked;
 use ghs_make::weights::Weights;
-use ghs_sched::trace::EVENT_LIMIT;
-use ghs_world::wake_set::WakeSet;
+use peer_network::wake_set::WakeSet;
+use peer_texts::trace::EVENT_LIMIT;
 use peer_trace::protocol::Protocol;
 use std::alloc::{AllocError, Global};
 

@@ -4,14 +4,14 @@ use Rattle.std.proofs.lemmas.Bool.{cases_eq}
 use Rattle.ghs_node.specs.declared.message.Message.{Message}
 use Rattle.ghs_node.specs.Kind.{kind_of, place_of}
 use Rattle.ghs_node.specs.Words.{Outgoing}
-use Rattle.ghs_protocol.specs.Network.{Network, At, far, far_port}
-use Rattle.ghs_protocol.proofs.lemmas.Wired.{IsWired}
+use Rattle.peer_network.specs.Network.{Network, At, far, far_port}
+use Rattle.peer_network.proofs.lemmas.Wired.{IsWired}
 use Rattle.ghs_protocol.specs.Net.{Net, send_all}
 use Rattle.ghs_protocol.specs.Ledger.{of_kind}
 use Rattle.ghs_protocol.specs.Steps.{sent_on}
 use Rattle.ghs_protocol.proofs.lemmas.Pushes.{sent_cons}
 use Rattle.ghs_protocol.proofs.lemmas.Sends.{queue_sent, queue_kept}
-use Rattle.ghs_protocol.proofs.lemmas.Wires.{neighbour}
+use Rattle.peer_network.proofs.lemmas.Wires.{neighbour}
 use Rattle.ghs_core.specs.Dispatch.{arriving, messages_of}
 
 -- one message more, at the end

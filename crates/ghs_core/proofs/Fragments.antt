@@ -21,8 +21,8 @@ use Rattle.ghs_graph.proofs.lemmas.Members.{filter_has, in_filter}
 use Rattle.ghs_node.specs.declared.mark.Mark.TheVariants.{Branch}
 use Rattle.ghs_node.specs.NodeState.{NodeState, mark_at, degree}
 use Rattle.ghs_channels.specs.Channels.{ChannelsState}
-use Rattle.ghs_protocol.specs.declared.event.Event.{Event}
-use Rattle.ghs_protocol.specs.Network.{Network, network_of, At, port_at}
+use Rattle.peer_network.specs.declared.event.Event.{Event}
+use Rattle.peer_network.specs.Network.{Network, network_of, At, port_at}
 use Rattle.ghs_protocol.specs.Net.{Net}
 use Rattle.ghs_protocol.specs.Run.{net_after}
 use Rattle.ghs_protocol.specs.Marks.{IsBranchLink, IsJoinedLink, InOneFragment}
@@ -36,7 +36,7 @@ use Rattle.ghs_core.specs.Marked.{is_wanted, has_branch, HavePorts, AreBranches,
 use Rattle.ghs_core.proofs.Reading.{formed}
 use Rattle.ghs_core.proofs.Sides.{branch_from, branch_to, joined_from, joined_to}
 use Rattle.ghs_node.proofs.lemmas.{branch_mark}
-use Rattle.ghs_protocol.proofs.lemmas.Graphs.{link_among}
+use Rattle.peer_network.proofs.lemmas.Graphs.{link_among}
 
 or_true : (b : Bool) → (b || true) ≡ true
 or_true true = refl

@@ -4,27 +4,25 @@ use Rattle.std.specs.Prelude.{IsSome, IfOk, Result, Ok, Err, Option, Some, None,
 use Rattle.std.proofs.lemmas.Bool.{and_parts}
 use Rattle.ghs_graph.specs.Graph.{Shape, IsGraph}
 use Rattle.ghs_node.specs.NodeState.{mark_at}
-use Rattle.ghs_node.specs.declared.mark.Mark.TheVariants.{Rejected}
+use Rattle.ghs_node.specs.declared.mark.Mark.TheVariants.{Rejected, Branch}
 use Rattle.ghs_node.specs.declared.message.Message.{Message}
 use Rattle.ghs_node.specs.declared.work.Work.{Work}
 use Rattle.ghs_node.specs.Reaction.{reaction}
-use Rattle.ghs_protocol.specs.declared.event.Event.{Event}
-use Rattle.ghs_protocol.specs.declared.event.Event.TheVariants.{Wake, Take}
+use Rattle.peer_network.specs.declared.event.Event.{Event}
+use Rattle.peer_network.specs.declared.event.Event.TheVariants.{Wake, Take}
 use Rattle.ghs_protocol.specs.Net.{Net, is_lawful, is_waiting}
-use Rattle.ghs_protocol.specs.Network.{Network, network_of, port_at, far, At}
+use Rattle.peer_network.specs.Network.{Network, network_of, port_at, far, At}
 use Rattle.ghs_protocol.specs.Run.{IsRun, net_after}
-use Rattle.ghs_protocol.specs.Marks.{InOneFragment}
+use Rattle.ghs_protocol.specs.Marks.{InOneFragment, IsBranchLink, HasHalted, HasEnded}
 use Rattle.ghs_protocol.specs.Laws.{IsNetOf}
 use Rattle.ghs_protocol.specs.Interleavings.{HaveAtLeast, Asks, To_wake, To_take}
 use Rattle.ghs_node.proofs.lemmas.{sleeping_is}
-use Rattle.ghs_protocol.proofs.lemmas.Events.{node_of}
+use Rattle.peer_network.proofs.lemmas.Events.{node_of}
 use Rattle.ghs_protocol.proofs.lemmas.Runs.{after_is_net}
 use Rattle.ghs_graph.specs.declared.key.Key.{Key}
 use Rattle.ghs_graph.specs.Links.{InTree, IsTree}
-use Rattle.ghs_node.specs.declared.mark.Mark.TheVariants.{Branch}
-use Rattle.ghs_protocol.specs.Marks.{IsBranchLink, HasHalted, HasEnded}
 use Rattle.ghs_protocol.proofs.lemmas.Laws.{branch_links_in_tree, rejected_links_aside, halt_is_exact, end_is_tree, sends_within, sends_within_sharp, fragments_are_large, rejected_links_inside, work_has_reaction}
-use Rattle.ghs_protocol.proofs.lemmas.Sums.{sum_same}
+use Rattle.peer_network.proofs.lemmas.Sums.{sum_same}
 use Rattle.ghs_protocol.specs.Ledger.{in_all}
 use Rattle.ghs_core.specs.declared.ledger.Ledger.{Ledger}
 use Rattle.ghs_core.specs.Ledger.{IsLedger, IsWithinBound}

@@ -1,8 +1,8 @@
 -- The laws on all orders, of two runs of one graph.
 use Rattle.std.proofs.Common.{◌≡◌, List, sym, subst}
 use Rattle.ghs_graph.specs.Graph.{Shape, IsGraph}
-use Rattle.ghs_protocol.specs.declared.event.Event.{Event}
-use Rattle.ghs_protocol.specs.Network.{network_of}
+use Rattle.peer_network.specs.declared.event.Event.{Event}
+use Rattle.peer_network.specs.Network.{network_of}
 use Rattle.ghs_protocol.specs.Run.{IsRun, net_after}
 use Rattle.ghs_protocol.proofs.lemmas.Merging.{connects_agree, one_core_of_all, one_end_of_all}
 use Rattle.ghs_core.specs.OneEnd.{HaveOneEnd}

@@ -10,16 +10,16 @@ use Rattle.ghs_node.specs.Rows.{Row}
 use Rattle.ghs_node.proofs.lemmas.{row_ported}
 use Rattle.ghs_channels.specs.Channels.{ChannelsState, IsFor, GoOut, HasRoomFor, KeepsLists, room_at, total_of}
 use Rattle.ghs_channels.proofs.lemmas.Ports.{same_for}
-use Rattle.ghs_protocol.specs.declared.event.Event.{Event}
-use Rattle.ghs_protocol.specs.Network.{network_of, At}
-use Rattle.ghs_protocol.proofs.lemmas.Wired.{IsWired}
+use Rattle.peer_network.specs.declared.event.Event.{Event}
+use Rattle.peer_network.specs.Network.{network_of, At}
+use Rattle.peer_network.proofs.lemmas.Wired.{IsWired}
 use Rattle.ghs_protocol.specs.Net.{Net, is_lawful, happens}
 use Rattle.ghs_protocol.specs.Run.{net_after}
 use Rattle.ghs_protocol.specs.Ledger.{in_all}
 use Rattle.ghs_protocol.specs.Nodes.{IsNodeOf}
 use Rattle.ghs_protocol.specs.Steps.{reacted, Happens}
 use Rattle.ghs_protocol.proofs.lemmas.Events.{happens_so}
-use Rattle.ghs_protocol.proofs.lemmas.Graphs.{graph_wired}
+use Rattle.peer_network.proofs.lemmas.Graphs.{graph_wired}
 use Rattle.ghs_protocol.proofs.lemmas.Lasting.{event_lasts}
 use Rattle.ghs_protocol.proofs.lemmas.Nodes.{ports_many}
 use Rattle.ghs_protocol.proofs.lemmas.Runs.{after_more, net_after_more}

@@ -10,10 +10,10 @@ use Rattle.ghs_node.specs.declared.message.Message.{Message}
 use Rattle.ghs_node.specs.NodeState.{NodeState, degree}
 use Rattle.ghs_node.specs.Reaction.{after, reaction, requeues}
 use Rattle.ghs_channels.specs.Channels.{ChannelsState, queue_at}
-use Rattle.ghs_protocol.specs.declared.event.Event.{Event}
-use Rattle.ghs_protocol.specs.declared.event.Event.TheVariants.{Take}
+use Rattle.peer_network.specs.declared.event.Event.{Event}
+use Rattle.peer_network.specs.declared.event.Event.TheVariants.{Take}
 use Rattle.ghs_protocol.specs.Living.{Waits}
-use Rattle.ghs_protocol.specs.Network.{At, network_of}
+use Rattle.peer_network.specs.Network.{At, network_of}
 use Rattle.ghs_protocol.specs.Run.{net_after}
 use Rattle.ghs_protocol.proofs.lemmas.Waiting.{waits_reaction}
 use Rattle.ghs_core.specs.declared.counts.Counts.{Counts}

@@ -11,11 +11,11 @@ use Rattle.ghs_node.specs.Words.{Outgoing}
 use Rattle.ghs_channels.specs.Queue.{QueueState, pushed}
 use Rattle.ghs_channels.specs.Channels.{ChannelsState, HasQueue, IsPort, IsFor, SamePorts, GoOut, HasRoomFor, Changes, state_at, queue_at, room_at, port_of, far_end, destination_of}
 use Rattle.ghs_channels.proofs.lemmas.Ports.{same_then, same_alike, same_for, same_destination, far_queue}
-use Rattle.ghs_protocol.specs.Network.{Network, At, network_of, far}
-use Rattle.ghs_protocol.proofs.lemmas.Wired.{IsWired}
-use Rattle.ghs_protocol.proofs.lemmas.Graphs.{graph_wired}
-use Rattle.ghs_protocol.proofs.lemmas.Updates.{one_place}
-use Rattle.ghs_protocol.proofs.lemmas.Wires.{far_apart}
+use Rattle.peer_network.specs.Network.{Network, At, network_of, far}
+use Rattle.peer_network.proofs.lemmas.Wired.{IsWired}
+use Rattle.peer_network.proofs.lemmas.Graphs.{graph_wired}
+use Rattle.peer_network.proofs.lemmas.Updates.{one_place}
+use Rattle.peer_network.proofs.lemmas.Wires.{far_apart}
 use Rattle.ghs_protocol.specs.Ledger.{of_kind}
 use Rattle.ghs_core.specs.Dispatch.{Arrives, CountsSends, arriving, messages_of}
 use Rattle.ghs_core.proofs.Arriving.{arriving_push, one_arrives, one_misses, kinds_push}

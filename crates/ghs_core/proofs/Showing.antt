@@ -9,14 +9,14 @@ use Rattle.ghs_node.specs.Kind.{kind_of, place_of}
 use Rattle.ghs_node.specs.NodeState.{NodeState}
 use Rattle.ghs_node.specs.Reaction.{after}
 use Rattle.ghs_channels.specs.Channels.{ChannelsState, HasQueue, IsFor, queue_at}
-use Rattle.ghs_protocol.specs.declared.event.Event.{Event}
-use Rattle.ghs_protocol.specs.Network.{Network, network_of, At}
+use Rattle.peer_network.specs.declared.event.Event.{Event}
+use Rattle.peer_network.specs.Network.{Network, network_of, At}
 use Rattle.ghs_protocol.specs.Net.{Net, take_first, change, left_of, one_if_consumed}
 use Rattle.ghs_protocol.specs.Ledger.{of_kind}
 use Rattle.ghs_protocol.specs.Steps.{reacted}
-use Rattle.ghs_protocol.proofs.lemmas.Graphs.{graph_wired}
-use Rattle.ghs_protocol.proofs.lemmas.Updates.{one_place, put_at_hit, put_at_miss}
-use Rattle.ghs_protocol.proofs.lemmas.Sends.{put_count, node_here, node_there, sent_now, consumed_now, requeued_now}
+use Rattle.peer_network.proofs.lemmas.Graphs.{graph_wired}
+use Rattle.peer_network.proofs.lemmas.Updates.{one_place, put_at_hit, put_at_miss, put_count}
+use Rattle.ghs_protocol.proofs.lemmas.Sends.{node_here, node_there, sent_now, consumed_now, requeued_now}
 use Rattle.ghs_core.specs.declared.counts.Counts.{Counts}
 use Rattle.ghs_core.specs.Dispatch.{Arrives, CountsSends, Met, CountsFate, Disposes, WaitsAt, arriving, messages_of}
 use Rattle.ghs_core.specs.Kept.{Shows, no_node}

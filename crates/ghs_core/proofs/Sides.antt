@@ -10,10 +10,10 @@ use Rattle.ghs_graph.specs.Ports.{ports_of, port_number, far_end, port_on, no_po
 use Rattle.ghs_graph.proofs.lemmas.Ports.{links_have_two_ports}
 use Rattle.ghs_node.specs.declared.mark.Mark.TheVariants.{Branch}
 use Rattle.ghs_node.specs.NodeState.{mark_at}
-use Rattle.ghs_protocol.specs.Network.{Network, network_of, At, port_at, far, far_port}
+use Rattle.peer_network.specs.Network.{Network, network_of, At, port_at, far, far_port}
 use Rattle.ghs_protocol.specs.Net.{Net}
 use Rattle.ghs_protocol.specs.Marks.{IsBranchLink, IsJoined, IsJoinedLink}
-use Rattle.ghs_protocol.proofs.lemmas.Graphs.{link_among}
+use Rattle.peer_network.proofs.lemmas.Graphs.{link_among}
 
 module _ (g : Shape) (ok : IsGraph g) (k : Key) (in_graph : Contains g.keys k) where
   abbrev net : Network

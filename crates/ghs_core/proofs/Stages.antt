@@ -9,13 +9,13 @@ use Rattle.ghs_node.specs.NodeState.{NodeState}
 use Rattle.ghs_node.specs.Reaction.{reaction, IsReaction}
 use Rattle.ghs_node.specs.Rows.{Row}
 use Rattle.ghs_node.proofs.lemmas.{reaction_inverts, sleeping_is}
-use Rattle.ghs_protocol.specs.declared.event.Event.{Event}
-use Rattle.ghs_protocol.specs.declared.event.Event.TheVariants.{Wake, Take}
-use Rattle.ghs_protocol.specs.Network.{Network, At}
+use Rattle.peer_network.specs.declared.event.Event.{Event}
+use Rattle.peer_network.specs.declared.event.Event.TheVariants.{Wake, Take}
+use Rattle.peer_network.specs.Network.{Network, At}
 use Rattle.ghs_protocol.specs.Net.{Net, is_lawful, is_waiting, take_first}
 use Rattle.ghs_protocol.specs.Nodes.{IsNodeOf}
 use Rattle.ghs_protocol.specs.Steps.{Happens, Woke, Took, reacted}
-use Rattle.ghs_protocol.proofs.lemmas.Events.{node_of, at_of}
+use Rattle.peer_network.proofs.lemmas.Events.{node_of, at_of}
 use Rattle.ghs_protocol.proofs.lemmas.Nodes.{ports_many}
 use Rattle.ghs_core.specs.NetState.{event_node, work_at, delivery}
 

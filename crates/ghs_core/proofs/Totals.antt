@@ -11,11 +11,11 @@ use Rattle.ghs_node.specs.NodeState.{NodeState}
 use Rattle.ghs_graph.specs.Graph.{Shape}
 use Rattle.ghs_channels.specs.Channels.{ChannelsState, HasQueue, IsFor, SamePorts, HasRoomFor, room_at, far_end, destination_of, total_of}
 use Rattle.ghs_channels.proofs.lemmas.Ports.{same_alike, same_destination, far_queue}
-use Rattle.ghs_protocol.specs.declared.event.Event.{Event}
-use Rattle.ghs_protocol.specs.Network.{network_of}
+use Rattle.peer_network.specs.declared.event.Event.{Event}
+use Rattle.peer_network.specs.Network.{network_of}
 use Rattle.ghs_protocol.specs.Net.{Net, one_if_consumed}
 use Rattle.ghs_protocol.specs.Ledger.{of_kind, in_all}
-use Rattle.ghs_protocol.proofs.lemmas.Sums.{sum_same, sum_none, sum_add, term_le}
+use Rattle.peer_network.proofs.lemmas.Sums.{sum_same, sum_none, sum_add, term_le}
 use Rattle.ghs_protocol.proofs.lemmas.Balance.{kinds_in_all, none_or_none, one_fate}
 use Rattle.ghs_core.specs.declared.counts.Counts.{Counts}
 use Rattle.ghs_core.specs.Dispatch.{Arrives, CountsSends, Disposes, messages_of}

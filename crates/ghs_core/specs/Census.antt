@@ -2,7 +2,7 @@
 use Rattle.std.specs.Prelude.{◌≡◌, ℕ, ◌+◌, ◌≤◌, ◌<◌, ◌^◌, Bool, nat_lt, max, List, length, slice_index, slice_index_or, filter}
 use Rattle.std.specs.List.{All, AllPairs, Contains}
 use Rattle.ghs_node.specs.NodeState.{NodeState}
-use Rattle.ghs_protocol.specs.Network.{Network}
+use Rattle.peer_network.specs.Network.{Network}
 use Rattle.ghs_protocol.specs.Net.{Net}
 use Rattle.ghs_protocol.specs.Marks.{InOneFragment}
 use Rattle.ghs_core.specs.declared.census.FragmentRow.{FragmentRow}

@@ -6,12 +6,12 @@ use Rattle.ghs_node.specs.declared.delta.Fate.{Fate}
 use Rattle.ghs_node.specs.Kind.{kind_of, place_of}
 use Rattle.ghs_node.specs.Words.{Outgoing}
 use Rattle.ghs_channels.specs.Channels.{ChannelsState, HasQueue, SamePorts, queue_at, room_at, total_of}
-use Rattle.ghs_protocol.specs.Network.{Network, network_of, At, far, far_port}
+use Rattle.peer_network.specs.Network.{Network, network_of, At, far, far_port}
 use Rattle.ghs_protocol.specs.Net.{left_of, one_if_consumed, one_if_requeued}
 use Rattle.ghs_protocol.specs.Ledger.{of_kind}
 use Rattle.ghs_protocol.specs.Steps.{sent_on}
-use Rattle.ghs_protocol.specs.declared.event.Event.{Event}
-use Rattle.ghs_protocol.specs.declared.event.Event.TheVariants.{Wake, Take}
+use Rattle.peer_network.specs.declared.event.Event.{Event}
+use Rattle.peer_network.specs.declared.event.Event.TheVariants.{Wake, Take}
 use Rattle.ghs_core.specs.declared.counts.Counts.{Counts}
 
 -- what comes in at port r of node u of the messages that node v sends

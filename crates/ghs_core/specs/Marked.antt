@@ -9,7 +9,7 @@ use Rattle.ghs_graph.specs.Links.{IsRising, Joined, links, InTree}
 use Rattle.ghs_graph.specs.Ports.{ports_of, port_number}
 use Rattle.ghs_node.specs.NodeState.{NodeState, mark_at, degree}
 use Rattle.ghs_node.specs.Words.{is_branch}
-use Rattle.ghs_protocol.specs.Network.{Network, network_of}
+use Rattle.peer_network.specs.Network.{Network, network_of}
 use Rattle.ghs_protocol.specs.Net.{Net}
 use Rattle.ghs_protocol.specs.Marks.{IsBranchLink, IsJoinedLink, InOneFragment}
 use Rattle.ghs_core.specs.declared.marked.Ends.{Ends}

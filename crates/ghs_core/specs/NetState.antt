@@ -7,10 +7,10 @@ use Rattle.ghs_node.specs.declared.work.Work.{Work}
 use Rattle.ghs_node.specs.declared.work.Work.TheVariants as works
 use Rattle.ghs_node.specs.Reaction.{reaction}
 use Rattle.ghs_channels.specs.Channels.{ChannelsState, HasRoomFor, KeepsLists, room_at}
-use Rattle.ghs_protocol.specs.declared.event.Event.{Event}
-use Rattle.ghs_protocol.specs.declared.event.Event.TheVariants.{Wake, Take}
-use Rattle.ghs_protocol.specs.Network.{Network, network_of, At}
-pub use Rattle.ghs_protocol.specs.Net.{event_node}
+use Rattle.peer_network.specs.declared.event.Event.{Event}
+use Rattle.peer_network.specs.declared.event.Event.TheVariants.{Wake, Take}
+use Rattle.peer_network.specs.Network.{Network, network_of, At}
+pub use Rattle.peer_network.specs.Events.{event_node}
 use Rattle.ghs_protocol.specs.Net.{Net, is_lawful}
 use Rattle.ghs_protocol.specs.Run.{net_after}
 use Rattle.ghs_core.specs.Dispatch.{arriving}

@@ -1,7 +1,7 @@
 -- Messages that a node only puts back.
 use Rattle.std.specs.Prelude.{ℕ}
 use Rattle.ghs_node.specs.Reaction.{requeues}
-use Rattle.ghs_protocol.specs.declared.event.Event.TheVariants.{Take}
+use Rattle.peer_network.specs.declared.event.Event.TheVariants.{Take}
 use Rattle.ghs_core.specs.NetState.{NetState, net_of, IsAnswer}
 
 -- all that node v does with the first message at its port p is to put it back

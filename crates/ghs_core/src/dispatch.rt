@@ -9,7 +9,7 @@ use crate::counts::Counts;
 use ghs_channels::channels::Channels;
 use ghs_node::delta::Fate;
 use ghs_node::message::Message;
-use ghs_protocol::event::Event;
+use peer_network::event::Event;
 
 /// Sends messages out from node `v`, in their order. There is room for them at the far ends.
 pub fn send_all(channels: &mut Channels, sent: &mut [u64; 7], v: u32, sends: &[(u32, Message)])

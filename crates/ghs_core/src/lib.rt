@@ -20,4 +20,4 @@ pub mod one_end;
 mod parts;
 pub mod waits;
 
-pub use ghs_protocol::event;
+pub use peer_network::event;

@@ -4,10 +4,10 @@ use Rattle.std.specs.List.{flat_map}
 use Rattle.ghs_data.specs.declared.protocol.TheConstants.{PROTOCOL}
 use Rattle.ghs_graph.specs.declared.key.Key.{Key}
 use Rattle.ghs_graph.specs.Graph.{Shape}
-use Rattle.ghs_protocol.specs.declared.event.Event.{Event}
+use Rattle.peer_network.specs.declared.event.Event.{Event}
 use Rattle.ghs_protocol.specs.Ledger.{waiting}
 use Rattle.ghs_protocol.specs.Net.{Net}
-use Rattle.ghs_protocol.specs.Network.{Network, network_of}
+use Rattle.peer_network.specs.Network.{Network, network_of}
 use Rattle.ghs_protocol.specs.Run.{net_after}
 use Rattle.ghs_steps.specs.Json.{member, next, quoted, step_json}
 use Rattle.ghs_steps.specs.Step.{steps}

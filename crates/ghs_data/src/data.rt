@@ -2,7 +2,7 @@
 ghost use Rattle.std.specs.Prelude.{◌≡◌, ◌++◌, ◌≤◌, ◌^◌, IfOk, codes, decimal, length, slice_index};
 ghost use Rattle.std.specs.List.{flat_map};
 ghost use Rattle.ghs_core.specs.NetState.{net_of, network};
-ghost use Rattle.ghs_protocol.specs.Network.{network_of};
+ghost use Rattle.peer_network.specs.Network.{network_of};
 ghost use Rattle.ghs_protocol.specs.Run.{IsRun};
 ghost use Rattle.ghs_steps.specs.Json.{next};
 ghost use Rattle.ghs_data.specs.Data.{counted_json, counts_json, data_json, events_members, head_json, kinds_members, ledger_json, link_json, network_members};

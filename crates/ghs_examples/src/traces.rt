@@ -1,9 +1,9 @@
 //! Texts of traces, with ample memory, and picks of schedules.
-use ghs_protocol::event::Event;
-use ghs_sched::fault::TraceFault;
-use ghs_sched::schedule::Schedule;
-use ghs_sched::trace::{read_trace, write_trace};
 use ghs_test_graphs::traces::PAIR_TRACE;
+use peer_network::event::Event;
+use peer_schedule::schedule::Schedule;
+use peer_texts::fault::TraceFault;
+use peer_texts::trace::{read_trace, write_trace};
 use std::alloc::Global;
 use std::process::Abort;
 

@@ -5,7 +5,7 @@
 //! which k are raised (`IsKth`), and `first_from` the first from a place on (`IsFirstFrom`).
 //!
 //! At most 2^31 flags (`FLAG_LIMIT`). Only `lowered` allocates. Steps are counted in comments, and not proved. Next:
-//! `ghs_index`, which keeps a network's events in such a row.
+//! `peer_index`, which keeps a network's events in such a row.
 #![tactic(auto)]
 
 mod counts;

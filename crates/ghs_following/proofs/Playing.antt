@@ -4,11 +4,11 @@ use Rattle.std.specs.List.{slice_index_or}
 use Rattle.std.proofs.lemmas.List.{length-take-le, take-append-drop}
 use Rattle.std.proofs.Math.Seq.{drop-cons}
 use Rattle.ghs_graph.specs.Graph.{Shape}
-use Rattle.ghs_protocol.specs.declared.event.Event.{Event}
+use Rattle.peer_network.specs.declared.event.Event.{Event}
 use Rattle.ghs_protocol.specs.Net.{Net, happens, is_lawful, opening}
-use Rattle.ghs_protocol.specs.Network.{network_of}
+use Rattle.peer_network.specs.Network.{network_of}
 use Rattle.ghs_protocol.specs.Run.{IsRun, net_after, run}
-use Rattle.ghs_protocol.proofs.lemmas.Events.{if_some}
+use Rattle.peer_network.proofs.lemmas.Events.{if_some}
 use Rattle.ghs_protocol.proofs.lemmas.Runs.{both_some, net_after_is, run_splits}
 use Rattle.ghs_core.specs.NetState.{IsLawful, NetState, net_of, network}
 

@@ -2,12 +2,12 @@
 ghost use Rattle.ghs_core.specs.NetState.{IsAnswer, IsLawful};
 ghost use Rattle.ghs_core.specs.PutBack.{IsPutBack};
 ghost use Rattle.ghs_graph.specs.Graph.{Shape};
-ghost use Rattle.ghs_protocol.specs.declared.event.Event.{Event as Happening};
+ghost use Rattle.peer_network.specs.declared.event.Event.{Event as Happening};
 ghost use Rattle.std.specs.Prelude.{[], ◌∷◌, ◌++◌, ◌<◌, ◌^◌, List, OnOk, length};
 
 use ghs_core::net::Net;
 use ghs_node::delta::Delta;
-use ghs_protocol::event::Event;
+use peer_network::event::Event;
 use std::alloc::AllocError;
 
 /// What follows the events of a run, one after another, each before it happens.

@@ -2,7 +2,7 @@
 use crate::follower::Follower;
 use ghs_core::net::Net;
 use ghs_node::delta::Delta;
-use ghs_protocol::event::Event;
+use peer_network::event::Event;
 use std::alloc::AllocError;
 
 /// Each of two keeps what is its own.

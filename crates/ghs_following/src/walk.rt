@@ -1,7 +1,7 @@
 //! The walk of a run whose events are followed.
 ghost use Rattle.ghs_core.specs.NetState.{IsLawful};
 ghost use Rattle.ghs_core.specs.PutBack.{IsPutBack};
-ghost use Rattle.ghs_protocol.specs.Network.{network_of};
+ghost use Rattle.peer_network.specs.Network.{network_of};
 ghost use Rattle.ghs_protocol.specs.Run.{IsRun};
 ghost use Rattle.std.specs.Prelude.{[], ◌≡◌, ◌++◌, ◌<◌, ◌≤◌, ◌^◌, ◌∷◌, length, OnOk};
 
@@ -9,7 +9,7 @@ use crate::follower::Follower;
 use ghs_core::net::{Net, node_of};
 use ghs_graph::graph::Graph;
 use ghs_node::react::react;
-use ghs_protocol::event::Event;
+use peer_network::event::Event;
 use std::alloc::{AllocError, Global};
 
 /// Plays the events of a run once more, each followed before it happens. O(1) for each event and each message, beside what

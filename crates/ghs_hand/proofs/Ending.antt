@@ -9,7 +9,7 @@ use Rattle.ghs_patient.specs.Runs.{IsPatientlyPicked}
 use Rattle.ghs_sched.specs.Picks.{IsPicked}
 use Rattle.ghs_sched.specs.Runs as sched
 use Rattle.ghs_sched.specs.Runs.{EndsFor, IsEnd}
-use Rattle.ghs_sched.specs.Schedule.{seeded}
+use Rattle.peer_schedule.specs.Schedule.{seeded}
 use Rattle.ghs_sched.specs.declared.fault.RunFault.{RunFault}
 use Rattle.ghs_sched.specs.declared.fault.RunFault.TheVariants.{TurnLimit}
 use Rattle.ghs_sched.specs.declared.run.RunEnd.{RunEnd}

@@ -1,12 +1,12 @@
 -- Why two texts lead nowhere, by what each of them is.
 use Rattle.std.proofs.Common.{ℕ, List}
 use Rattle.ghs_graph.specs.Graph.{Shape}
-use Rattle.ghs_protocol.specs.declared.event.Event.{Event}
-use Rattle.ghs_sched.specs.Reading.{HasEvents}
+use Rattle.peer_network.specs.declared.event.Event.{Event}
+use Rattle.peer_texts.specs.Reading.{HasEvents}
 use Rattle.ghs_sched.specs.Replays.{CantReplay}
-use Rattle.ghs_sched.specs.declared.fault.ReplayFault.{ReplayFault}
-use Rattle.ghs_sched.specs.declared.fault.ReplayFault.TheVariants as replays
-use Rattle.ghs_world.specs.declared.wake_set.WakeSet.{WakeSet}
+use Rattle.peer_schedule.specs.declared.fault.ReplayFault.{ReplayFault}
+use Rattle.peer_schedule.specs.declared.fault.ReplayFault.TheVariants as replays
+use Rattle.peer_network.specs.declared.wake_set.WakeSet.{WakeSet}
 use Rattle.ghs_hand.specs.declared.fault.HandFault.{HandFault}
 use Rattle.ghs_hand.specs.declared.fault.HandFault.TheVariants.{Graph, Trace, NotLawful, TurnLimit, Memory}
 use Rattle.ghs_hand.specs.Led.{HasNoEvents, HasNoGraph, IsTextOf, LeadsNowhere, of_replay}

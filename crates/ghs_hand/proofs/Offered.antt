@@ -6,19 +6,22 @@ use Rattle.std.proofs.lemmas.Bool.{and_from, and_parts}
 use Rattle.std.proofs.lemmas.List.Elements.{All-contains, All-push, Contains-push}
 use Rattle.ghs_graph.specs.Graph.{IsGraph}
 use Rattle.ghs_graph.proofs.lemmas.Members.{filter_has, in_filter}
-use Rattle.ghs_protocol.specs.declared.event.Event.{Event}
-use Rattle.ghs_protocol.specs.declared.event.Event.TheVariants.{Wake, Take}
+use Rattle.peer_network.specs.declared.event.Event.{Event}
+use Rattle.peer_network.specs.declared.event.Event.TheVariants.{Wake, Take}
 use Rattle.ghs_protocol.specs.Interleavings.{EventsHaveRules}
-use Rattle.ghs_protocol.specs.Network.{Network}
-use Rattle.ghs_protocol.specs.Net.{Net, effect, event_node, happens, is_lawful, is_node, is_port, opening}
-use Rattle.ghs_protocol.specs.Run.{IsAfter, IsRunUnder, MayWake}
-use Rattle.ghs_protocol.proofs.lemmas.Events.{if_some, lawful_happens}
+use Rattle.peer_network.specs.Network.{Network, is_node, is_port}
+use Rattle.ghs_protocol.specs.Net.{Net, effect, happens, is_lawful, opening}
+use Rattle.peer_network.specs.Events.{event_node, MayWake}
+use Rattle.ghs_protocol.specs.Run.{IsAfter, IsRunUnder}
+use Rattle.ghs_protocol.proofs.lemmas.Events.{lawful_happens}
+use Rattle.peer_network.proofs.lemmas.Events.{if_some}
 use Rattle.ghs_protocol.proofs.lemmas.Runs.{after_is_net, lawful_under, run_more}
 use Rattle.ghs_core.specs.NetState.{network}
 use Rattle.ghs_world.specs.Outs.{Outs, is_out}
-use Rattle.ghs_world.specs.Ready.{all_events, is_ready, ready_events}
-use Rattle.ghs_world.specs.WorldState.{WorldState, has_place, home, may_happen, wakers}
-use Rattle.ghs_world.proofs.lemmas.Listed.{listed}
+use Rattle.ghs_world.specs.Ready.{is_ready, ready_events}
+use Rattle.peer_index.specs.Places.{all_events, has_place}
+use Rattle.ghs_world.specs.WorldState.{WorldState, home, may_happen, wakers}
+use Rattle.peer_index.proofs.lemmas.Listed.{listed}
 use Rattle.ghs_hand.specs.Laws.{OfferedAreNext}
 
 -- a lawful event names a node and a port of the network

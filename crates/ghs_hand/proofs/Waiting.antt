@@ -5,10 +5,12 @@ use Rattle.std.proofs.lemmas.Bool.{and_parts}
 use Rattle.std.proofs.lemmas.Bool.Decides.{same_from_decides}
 use Rattle.ghs_node.specs.declared.message.Message.{Message}
 use Rattle.ghs_node.specs.NodeState.{NodeState}
-use Rattle.ghs_protocol.specs.declared.event.Event.{Event}
-use Rattle.ghs_protocol.specs.declared.event.Event.TheVariants.{Take}
+use Rattle.peer_network.specs.declared.event.Event.{Event}
+use Rattle.peer_network.specs.declared.event.Event.TheVariants.{Take}
 use Rattle.ghs_protocol.specs.Living.{Waits}
-use Rattle.ghs_protocol.specs.Net.{event_node, is_port, is_waiting}
+use Rattle.ghs_protocol.specs.Net.{is_waiting}
+use Rattle.peer_network.specs.Network.{is_port}
+use Rattle.peer_network.specs.Events.{event_node}
 use Rattle.ghs_core.specs.NetState.{NetState, net_of, network}
 use Rattle.ghs_core.specs.Waits.{waits}
 use Rattle.ghs_core.proofs.lemmas.Waiting.{waits_so, waits_test}

@@ -1,8 +1,8 @@
 -- The texts that answer a page, and how they are handed over.
 use Rattle.std.specs.Prelude.{◌≡◌, ◌⊎◌, ℕ, ◌<◌, ◌≤◌, Bool, List, ◌++◌, drop, length}
-use Rattle.ghs_protocol.specs.declared.event.Event.{Event}
-use Rattle.ghs_sched.specs.Text.{trace_text}
-use Rattle.ghs_world.specs.declared.wake_set.WakeSet.{WakeSet}
+use Rattle.peer_network.specs.declared.event.Event.{Event}
+use Rattle.peer_texts.specs.Text.{trace_text}
+use Rattle.peer_network.specs.declared.wake_set.WakeSet.{WakeSet}
 use Rattle.ghs_world.specs.WorldState.{WorldState}
 use Rattle.ghs_hand.specs.declared.fault.HandFault.{HandFault}
 use Rattle.ghs_hand.specs.Led.{IsLed, LeadsNowhere}

@@ -1,11 +1,11 @@
 -- Runs that go on by a seed from wherever they stand.
 use Rattle.std.specs.Prelude.{◌≡◌, ◌≤◌, ℕ, Bool, true, false, List, length}
 use Rattle.ghs_patient.specs.Runs.{IsPatientlyPicked}
-use Rattle.ghs_protocol.specs.declared.event.Event.{Event}
+use Rattle.peer_network.specs.declared.event.Event.{Event}
 use Rattle.ghs_protocol.specs.Marks.{HasEnded}
 use Rattle.ghs_protocol.specs.Run.{net_after}
 use Rattle.ghs_sched.specs.Picks.{IsPicked}
-use Rattle.ghs_sched.specs.Schedule.{seeded}
+use Rattle.peer_schedule.specs.Schedule.{seeded}
 use Rattle.ghs_world.specs.WorldState.{WorldState, wakers}
 use Rattle.ghs_hand.specs.declared.fault.HandFault.{HandFault}
 use Rattle.ghs_hand.specs.declared.fault.HandFault.TheVariants.{TurnLimit, Memory}

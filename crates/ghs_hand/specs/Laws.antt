@@ -2,7 +2,7 @@
 use Rattle.std.specs.Prelude.{◌≡◌, ◌↔◌, List, [], ◌∷◌, ◌++◌}
 use Rattle.std.specs.List.{Contains}
 use Rattle.ghs_graph.specs.Graph.{IsGraph}
-use Rattle.ghs_protocol.specs.declared.event.Event.{Event}
+use Rattle.peer_network.specs.declared.event.Event.{Event}
 use Rattle.ghs_protocol.specs.Run.{IsRunUnder}
 use Rattle.ghs_core.specs.NetState.{network}
 use Rattle.ghs_world.specs.Ready.{ready_events}

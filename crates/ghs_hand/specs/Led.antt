@@ -6,14 +6,14 @@ use Rattle.ghs_gr.specs.declared.fault.GrFault.{GrFault}
 use Rattle.ghs_gr.specs.declared.fault.GrFault.TheVariants as gr
 use Rattle.ghs_graph.specs.Graph.{Shape}
 use Rattle.ghs_graph.specs.Key.{key_of}
-use Rattle.ghs_protocol.specs.declared.event.Event.{Event}
-use Rattle.ghs_sched.specs.Reading.{HasEvents, HasFault}
+use Rattle.peer_network.specs.declared.event.Event.{Event}
+use Rattle.peer_texts.specs.Reading.{HasEvents, HasFault}
 use Rattle.ghs_sched.specs.Replays.{HasReplayed, IsFirstUnlawful}
-use Rattle.ghs_sched.specs.declared.fault.ReplayFault.{ReplayFault}
-use Rattle.ghs_sched.specs.declared.fault.ReplayFault.TheVariants as replays
-use Rattle.ghs_sched.specs.declared.fault.TraceFault.{TraceFault}
-use Rattle.ghs_sched.specs.declared.fault.TraceFault.TheVariants as trace
-use Rattle.ghs_world.specs.declared.wake_set.WakeSet.{WakeSet}
+use Rattle.peer_schedule.specs.declared.fault.ReplayFault.{ReplayFault}
+use Rattle.peer_schedule.specs.declared.fault.ReplayFault.TheVariants as replays
+use Rattle.peer_texts.specs.declared.fault.TraceFault.{TraceFault}
+use Rattle.peer_texts.specs.declared.fault.TraceFault.TheVariants as trace
+use Rattle.peer_network.specs.declared.wake_set.WakeSet.{WakeSet}
 use Rattle.ghs_world.specs.WorldState.{WorldState}
 use Rattle.ghs_hand.specs.declared.fault.HandFault.{HandFault}
 use Rattle.ghs_hand.specs.declared.fault.HandFault.TheVariants.{Graph, Trace, NotLawful, TurnLimit, Memory}

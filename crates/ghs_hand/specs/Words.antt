@@ -2,8 +2,8 @@
 use Rattle.std.specs.Prelude.{ℕ, List, ◌++◌, codes, decimal}
 use Rattle.ghs_gr.specs.declared.fault.GrFault.{GrFault}
 use Rattle.ghs_gr.specs.declared.fault.GrFault.TheVariants as gr
-use Rattle.ghs_sched.specs.declared.fault.TraceFault.{TraceFault}
-use Rattle.ghs_sched.specs.declared.fault.TraceFault.TheVariants as trace
+use Rattle.peer_texts.specs.declared.fault.TraceFault.{TraceFault}
+use Rattle.peer_texts.specs.declared.fault.TraceFault.TheVariants as trace
 use Rattle.ghs_hand.specs.declared.fault.HandFault.{HandFault}
 use Rattle.ghs_hand.specs.declared.fault.HandFault.TheVariants.{Graph, Trace, NotLawful, TurnLimit, Memory}
 

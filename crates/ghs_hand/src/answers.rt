@@ -10,9 +10,9 @@ use crate::going::go_on;
 use crate::led::led;
 use crate::seen::seen;
 use crate::words::fault_line;
-use ghs_sched::trace::write_trace;
-use ghs_world::wake_set::WakeSet;
 use ghs_world::world::World;
+use peer_network::wake_set::WakeSet;
+use peer_texts::trace::write_trace;
 use std::alloc::Global;
 
 /// The line of the fault that can't be told of for lack of memory.

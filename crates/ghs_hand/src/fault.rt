@@ -4,7 +4,8 @@ ghost use Rattle.ghs_hand.specs.declared.fault.HandFault.TheVariants.{Memory};
 ghost use Rattle.std.specs.Prelude.{◌≡◌};
 
 use ghs_gr::fault::GrFault;
-use ghs_sched::fault::{ReplayFault, TraceFault};
+use peer_schedule::fault::ReplayFault;
+use peer_texts::fault::TraceFault;
 use std::alloc::AllocError;
 
 /// Why there is no answer. Events are counted from 1.

@@ -6,8 +6,8 @@ use crate::fault::HandFault;
 use ghs_patient::run::run_patient;
 use ghs_sched::fault::RunFault;
 use ghs_sched::run::{RunEnd, run_seeded};
-use ghs_sched::schedule::Schedule;
 use ghs_world::world::World;
+use peer_schedule::schedule::Schedule;
 use std::alloc::Global;
 
 /// Runs a world on, from wherever it stands, by the schedule of a seed until the run has ended: among all events that may

@@ -1,17 +1,17 @@
 //! The world to which two texts lead.
 ghost use Rattle.ghs_hand.specs.Led.{HasNoEvents, HasNoGraph, IsLed, IsTextOf, LeadsNowhere};
-ghost use Rattle.ghs_sched.specs.Reading.{HasEvents};
-ghost use Rattle.ghs_sched.specs.declared.trace.TheConstants.{EVENT_LIMIT};
+ghost use Rattle.peer_texts.specs.Reading.{HasEvents};
+ghost use Rattle.peer_texts.specs.declared.trace.TheConstants.{EVENT_LIMIT};
 ghost use Rattle.std.specs.Prelude.{◌≡◌, ◌≤◌, IfErr, IfOk, length};
 
 use crate::fault::HandFault;
 use ghs_gr::judgement::judge;
 use ghs_graph::graph::Graph;
-use ghs_protocol::event::Event;
 use ghs_sched::replay::replay;
-use ghs_sched::trace::{EVENT_LIMIT, read_trace};
-use ghs_world::wake_set::WakeSet;
 use ghs_world::world::World;
+use peer_network::event::Event;
+use peer_network::wake_set::WakeSet;
+use peer_texts::trace::{EVENT_LIMIT, read_trace};
 use std::alloc::Global;
 
 /// The world of a graph's text after the events of a trace's text: nothing is out, and turns are left as far as they may go.

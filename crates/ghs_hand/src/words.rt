@@ -5,7 +5,7 @@ ghost use Rattle.std.specs.Prelude.{◌≡◌, ◌++◌, IfOk};
 use crate::fault::HandFault;
 use ghs_gr::fault::GrFault;
 use ghs_lines::numbers::put_number;
-use ghs_sched::fault::TraceFault;
+use peer_texts::fault::TraceFault;
 use std::alloc::{AllocError, Global};
 
 /// The line of a fault: what has it, and its words, which are those of the program. Refusal: out of memory.

@@ -6,14 +6,14 @@ use Rattle.ghs_node.specs.declared.delta.Delta.{Delta}
 use Rattle.ghs_node.specs.declared.message.Message.{Message}
 use Rattle.ghs_node.specs.Reaction.{reaction}
 use Rattle.ghs_node.specs.Words.{Outgoing}
-use Rattle.ghs_protocol.specs.declared.event.Event.{Event}
-use Rattle.ghs_protocol.specs.declared.event.Event.TheVariants.{Wake, Take}
-use Rattle.ghs_protocol.specs.Net.{Net, change, happens, is_port, is_waiting, left_of, opening, send, send_all, take_first}
-use Rattle.ghs_protocol.specs.Network.{Network, far, far_port}
+use Rattle.peer_network.specs.declared.event.Event.{Event}
+use Rattle.peer_network.specs.declared.event.Event.TheVariants.{Wake, Take}
+use Rattle.ghs_protocol.specs.Net.{Net, change, happens, is_waiting, left_of, opening, send, send_all, take_first}
+use Rattle.peer_network.specs.Network.{is_port, Network, far, far_port}
 use Rattle.ghs_protocol.specs.Run.{and_then, run}
 use Rattle.ghs_protocol.specs.Steps.{Happens, Took, Woke}
 use Rattle.ghs_protocol.proofs.lemmas.Events.{happening}
-use Rattle.ghs_protocol.proofs.lemmas.Updates.{one_place, put_at_hit, put_at_miss}
+use Rattle.peer_network.proofs.lemmas.Updates.{one_place, put_at_hit, put_at_miss}
 use Rattle.ghs_core.specs.NetState.{delivery, work_at}
 use Rattle.ghs_patient.specs.Patience.{moves_on}
 use Rattle.ghs_lifo.specs.Laws.{LatestIsOne}

@@ -6,20 +6,20 @@ use Rattle.ghs_graph.specs.Graph.{IsGraph}
 use Rattle.ghs_node.specs.declared.delta.Delta.{Delta}
 use Rattle.ghs_node.specs.declared.message.Message.{Message}
 use Rattle.ghs_node.specs.Reaction.{reaction}
-use Rattle.ghs_protocol.specs.declared.event.Event.{Event}
-use Rattle.ghs_protocol.specs.declared.event.Event.TheVariants.{Wake, Take}
+use Rattle.peer_network.specs.declared.event.Event.{Event}
+use Rattle.peer_network.specs.declared.event.Event.TheVariants.{Wake, Take}
 use Rattle.ghs_protocol.specs.Laws.{SendsAreBounded}
-use Rattle.ghs_protocol.specs.Ledger.{in_all}
-use Rattle.ghs_protocol.specs.Net.{Net, event_node, happens, opening, take_first}
-use Rattle.ghs_protocol.specs.Network.{Network}
+use Rattle.ghs_protocol.specs.Ledger.{in_all, of_kind}
+use Rattle.ghs_protocol.specs.Net.{Net, happens, opening, take_first}
+use Rattle.peer_network.specs.Events.{event_node}
+use Rattle.peer_network.specs.Network.{Network}
 use Rattle.ghs_protocol.specs.Run.{IsRun, and_then, run}
 use Rattle.ghs_protocol.specs.Steps.{Happens, Took, Woke, reacted}
 use Rattle.ghs_protocol.proofs.lemmas.Balance.{kinds_in_all}
 use Rattle.ghs_protocol.proofs.lemmas.Events.{happening}
 use Rattle.ghs_protocol.proofs.lemmas.Runs.{after_is_net}
 use Rattle.ghs_protocol.proofs.lemmas.Sends.{messages, sent_now}
-use Rattle.ghs_protocol.specs.Ledger.{of_kind}
-use Rattle.ghs_protocol.proofs.lemmas.Sums.{sum_add, sum_same}
+use Rattle.peer_network.proofs.lemmas.Sums.{sum_add, sum_same}
 use Rattle.ghs_core.specs.NetState.{IsAnswer, NetState, delivery, net_of, network, work_at}
 use Rattle.ghs_lifo.specs.Newest.{Newest, answered, if_then, newest_after, newest_of, newest_then, none_sent, sent}
 use Rattle.ghs_lifo.proofs.Numbering.{sent_count}

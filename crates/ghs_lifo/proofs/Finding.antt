@@ -2,14 +2,13 @@
 use Rattle.std.proofs.Common.{◌≡◌, ℕ, suc, ◌<◌, Bool, true, false, Some, List, get_or, refl, ◌∙◌, ap, subst, ⊎_elim, arith, slice_get}
 use Rattle.std.proofs.lemmas.Bool.{and_parts, cases_Bool}
 use Rattle.ghs_maxima.specs.Maxima.{AreZeros, IsGreatest}
-use Rattle.ghs_protocol.specs.declared.event.Event.{Event}
-use Rattle.ghs_protocol.specs.declared.event.Event.TheVariants.{Wake, Take}
-use Rattle.ghs_protocol.specs.Net.{is_port}
-use Rattle.ghs_protocol.specs.Network.{At}
-use Rattle.ghs_protocol.proofs.lemmas.Events.{at_of}
+use Rattle.peer_network.specs.declared.event.Event.{Event}
+use Rattle.peer_network.specs.declared.event.Event.TheVariants.{Wake, Take}
+use Rattle.peer_network.specs.Network.{is_port, At}
+use Rattle.peer_network.proofs.lemmas.Events.{at_of}
 use Rattle.ghs_core.specs.NetState.{network}
-use Rattle.ghs_index.specs.Places.{HasPlace, all_events, place}
-use Rattle.ghs_index.proofs.lemmas.Places.{only_place}
+use Rattle.peer_index.specs.Places.{HasPlace, all_events, place}
+use Rattle.peer_index.proofs.lemmas.Places.{only_place}
 use Rattle.ghs_world.specs.WorldState.{WorldState}
 use Rattle.ghs_patient.specs.Choices.{moves_in}
 use Rattle.ghs_lifo.specs.Kept.{AreNumbers, AreRanks, NumbersState, rank_if}

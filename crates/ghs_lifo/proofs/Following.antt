@@ -7,14 +7,14 @@ use Rattle.ghs_graph.proofs.lemmas.Members.{later_in}
 use Rattle.ghs_node.specs.declared.delta.Delta.{Delta}
 use Rattle.ghs_node.specs.declared.head.Head.{Head}
 use Rattle.ghs_node.specs.declared.message.Message.{Message}
-use Rattle.ghs_protocol.specs.declared.event.Event.{Event}
-use Rattle.ghs_protocol.specs.declared.event.Event.TheVariants.{Wake, Take}
+use Rattle.peer_network.specs.declared.event.Event.{Event}
+use Rattle.peer_network.specs.declared.event.Event.TheVariants.{Wake, Take}
 use Rattle.ghs_protocol.specs.Laws.{SendsAreBounded}
-use Rattle.ghs_protocol.specs.Net.{event_node}
+use Rattle.peer_network.specs.Events.{event_node}
 use Rattle.ghs_protocol.specs.Run.{IsRun}
-use Rattle.ghs_protocol.proofs.lemmas.Graphs.{graph_wired}
+use Rattle.peer_network.proofs.lemmas.Graphs.{graph_wired}
 use Rattle.ghs_core.specs.NetState.{network}
-use Rattle.ghs_index.specs.Places.{HasPlace, place}
+use Rattle.peer_index.specs.Places.{HasPlace, place}
 use Rattle.ghs_world.specs.WorldState.{WorldState}
 use Rattle.ghs_patient.specs.Choices.{far_takes, moves_in}
 use Rattle.ghs_lifo.specs.Kept.{AreLatestBefore, AreNumbers, AreRanksBut, IsUnranked, LatestState, NumbersState, rank_if, rank_in, with_all}

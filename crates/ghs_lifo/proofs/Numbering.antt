@@ -4,14 +4,14 @@ use Rattle.std.specs.List.{All, Contains}
 use Rattle.ghs_graph.proofs.lemmas.Members.{first_in, later_in}
 use Rattle.ghs_node.specs.declared.message.Message.{Message}
 use Rattle.ghs_node.specs.Words.{Outgoing}
-use Rattle.ghs_protocol.specs.declared.event.Event.{Event}
-use Rattle.ghs_protocol.specs.declared.event.Event.TheVariants.{Take}
-use Rattle.ghs_protocol.specs.Net.{put_at}
-use Rattle.ghs_protocol.specs.Network.{At, Network, far, far_port}
-use Rattle.ghs_protocol.proofs.lemmas.Wired.{IsWired}
-use Rattle.ghs_protocol.proofs.lemmas.Updates.{one_place, put_at_hit, put_at_miss}
-use Rattle.ghs_index.specs.Places.{HasPlace, place}
-use Rattle.ghs_index.proofs.lemmas.Places.{place_apart, place_within}
+use Rattle.peer_network.specs.declared.event.Event.{Event}
+use Rattle.peer_network.specs.declared.event.Event.TheVariants.{Take}
+use Rattle.peer_network.specs.Updates.{put_at}
+use Rattle.peer_network.specs.Network.{At, Network, far, far_port}
+use Rattle.peer_network.proofs.lemmas.Wired.{IsWired}
+use Rattle.peer_network.proofs.lemmas.Updates.{one_place, put_at_hit, put_at_miss}
+use Rattle.peer_index.specs.Places.{HasPlace, place}
+use Rattle.peer_index.proofs.lemmas.Places.{place_apart, place_within}
 use Rattle.ghs_patient.specs.Choices.{far_takes}
 use Rattle.ghs_lifo.specs.Kept.{AreFor, AreNumbers, NumbersState, with_all, with_one}
 use Rattle.ghs_lifo.specs.Newest.{Newest, sent, sent_on}

@@ -1,14 +1,15 @@
 -- What is kept of a run that begins.
 use Rattle.std.proofs.Common.{◌≡◌, ℕ, ◌<◌, Bool, true, false, ◌&&◌, List, [], replicate, length, get_or, refl, sym, ◌∙◌, ap, subst}
 use Rattle.std.proofs.lemmas.List.{get_or-replicate, length-replicate}
-use Rattle.ghs_protocol.specs.declared.event.Event.{Event}
-use Rattle.ghs_protocol.specs.declared.event.Event.TheVariants.{Wake, Take}
-use Rattle.ghs_protocol.specs.Net.{Net, is_port, opening}
+use Rattle.peer_network.specs.declared.event.Event.{Event}
+use Rattle.peer_network.specs.declared.event.Event.TheVariants.{Wake, Take}
+use Rattle.ghs_protocol.specs.Net.{Net, opening}
+use Rattle.peer_network.specs.Network.{is_port}
 use Rattle.ghs_protocol.specs.Run.{net_after}
 use Rattle.ghs_protocol.proofs.lemmas.Runs.{net_after_is}
 use Rattle.ghs_core.specs.NetState.{network}
-use Rattle.ghs_index.specs.Places.{all_events, place}
-use Rattle.ghs_index.proofs.lemmas.Places.{place_within}
+use Rattle.peer_index.specs.Places.{all_events, place}
+use Rattle.peer_index.proofs.lemmas.Places.{place_within}
 use Rattle.ghs_world.specs.WorldState.{WorldState, home, wakers}
 use Rattle.ghs_patient.specs.Choices.{AreChoices, ChoicesState}
 use Rattle.ghs_patient.specs.Patience.{moves_on}

@@ -10,12 +10,12 @@ use Rattle.ghs_node.specs.declared.head.Head.{Head}
 use Rattle.ghs_node.specs.declared.mark.Mark.{Mark}
 use Rattle.ghs_node.specs.declared.message.Message.{Message}
 use Rattle.ghs_node.specs.Words.{Outgoing}
-use Rattle.ghs_protocol.specs.declared.event.Event.{Event}
-use Rattle.ghs_protocol.specs.declared.event.Event.TheVariants.{Wake, Take}
-use Rattle.ghs_protocol.specs.Net.{event_node}
+use Rattle.peer_network.specs.declared.event.Event.{Event}
+use Rattle.peer_network.specs.declared.event.Event.TheVariants.{Wake, Take}
+use Rattle.peer_network.specs.Events.{event_node}
 use Rattle.ghs_core.specs.NetState.{network}
-use Rattle.ghs_index.specs.Places.{HasPlace, all_events, place}
-use Rattle.ghs_index.proofs.lemmas.Places.{place_apart, place_within}
+use Rattle.peer_index.specs.Places.{HasPlace, all_events, place}
+use Rattle.peer_index.proofs.lemmas.Places.{place_apart, place_within}
 use Rattle.ghs_world.specs.WorldState.{WorldState}
 use Rattle.ghs_patient.specs.Choices.{IsOwn, are_alike, far_takes}
 use Rattle.ghs_patient.proofs.lemmas.Places.{own_node}

@@ -2,19 +2,18 @@
 use Rattle.std.proofs.Common.{◌≡◌, ℕ, true, not, List, [], ◌∷◌, ◌++◌, refl, ap, subst₂, ⊎_elim}
 use Rattle.std.proofs.lemmas.Bool.{and_from, and_parts}
 use Rattle.ghs_graph.specs.Graph.{Shape}
-use Rattle.ghs_protocol.specs.declared.event.Event.{Event}
-use Rattle.ghs_protocol.specs.declared.event.Event.TheVariants.{Wake, Take}
+use Rattle.peer_network.specs.declared.event.Event.{Event}
+use Rattle.peer_network.specs.declared.event.Event.TheVariants.{Wake, Take}
 use Rattle.ghs_protocol.specs.Marks.{HasEnded}
-use Rattle.ghs_protocol.specs.Net.{is_port}
-use Rattle.ghs_protocol.specs.Network.{network_of}
+use Rattle.peer_network.specs.Network.{is_port, network_of}
 use Rattle.ghs_protocol.specs.Run.{net_after}
-use Rattle.ghs_protocol.proofs.lemmas.Events.{at_of}
+use Rattle.peer_network.proofs.lemmas.Events.{at_of}
 use Rattle.ghs_core.specs.NetState.{network}
-use Rattle.ghs_world.specs.declared.wake_set.WakeSet.{WakeSet}
+use Rattle.peer_network.specs.declared.wake_set.WakeSet.{WakeSet}
 use Rattle.ghs_world.specs.Outs.{Outs, is_out}
-use Rattle.ghs_world.specs.Wakes.{may_wake}
+use Rattle.peer_network.specs.Wakes.{may_wake}
 use Rattle.ghs_world.specs.WorldState.{WorldState, has_turn, home, may_happen, wakers}
-use Rattle.ghs_sched.specs.Picks.{IsPick}
+use Rattle.peer_schedule.specs.Picks.{IsPick}
 use Rattle.ghs_sched.proofs.lemmas.Runs.{run_more, still_going, turn_left}
 use Rattle.ghs_patient.specs.Keeping.{HasGone, HasGoneOn}
 use Rattle.ghs_patient.specs.Patience.{patient_events}

@@ -3,13 +3,14 @@ use Rattle.std.specs.Prelude.{◌≡◌, ℕ, suc, ◌≤◌, Bool, true, false,
 use Rattle.ghs_node.specs.declared.delta.Delta.{Delta}
 use Rattle.ghs_node.specs.declared.head.Head.{Head}
 use Rattle.ghs_node.specs.Words.{Outgoing}
-use Rattle.ghs_protocol.specs.declared.event.Event.{Event}
-use Rattle.ghs_protocol.specs.declared.event.Event.TheVariants.{Wake, Take}
-use Rattle.ghs_protocol.specs.Network.{At, Network, far_port, far}
-use Rattle.ghs_protocol.specs.Net.{Net, event_node}
+use Rattle.peer_network.specs.declared.event.Event.{Event}
+use Rattle.peer_network.specs.declared.event.Event.TheVariants.{Wake, Take}
+use Rattle.peer_network.specs.Network.{At, Network, far_port, far}
+use Rattle.ghs_protocol.specs.Net.{Net}
+use Rattle.peer_network.specs.Events.{event_node}
 use Rattle.ghs_core.specs.NetState.{network}
-use Rattle.ghs_index.specs.Index.{AreBases}
-use Rattle.ghs_index.specs.Places.{HasPlace, all_events, place}
+use Rattle.peer_index.specs.Index.{AreBases}
+use Rattle.peer_index.specs.Places.{HasPlace, all_events, place}
 use Rattle.ghs_world.specs.WorldState.{WorldState, home, wakers}
 use Rattle.ghs_patient.specs.Choices.{AreChoices, AreChoicesBut, ChoicesState, IsStirred}
 use Rattle.ghs_patient.specs.Patience.{moves_on}

@@ -1,7 +1,7 @@
 -- What holds of every run.
 use Rattle.std.specs.Prelude.{◌≡◌, ℕ, Bool, List}
-use Rattle.ghs_protocol.specs.declared.event.Event.{Event}
-use Rattle.ghs_protocol.specs.Network.{Network}
+use Rattle.peer_network.specs.declared.event.Event.{Event}
+use Rattle.peer_network.specs.Network.{Network}
 use Rattle.ghs_protocol.specs.Net.{Net}
 use Rattle.ghs_protocol.specs.Run.{IsAfter}
 use Rattle.ghs_lifo.specs.Latest.{IsLatest}

@@ -3,9 +3,11 @@ use Rattle.std.specs.Prelude.{ℕ, suc, Option, Some, None, List, [], ◌∷◌}
 use Rattle.ghs_node.specs.declared.delta.Delta.{Delta}
 use Rattle.ghs_node.specs.Reaction.{reaction}
 use Rattle.ghs_node.specs.Words.{Outgoing}
-use Rattle.ghs_protocol.specs.declared.event.Event.{Event}
-use Rattle.ghs_protocol.specs.Network.{Network, port_at}
-use Rattle.ghs_protocol.specs.Net.{Net, event_node, happens, opening, put_at}
+use Rattle.peer_network.specs.declared.event.Event.{Event}
+use Rattle.peer_network.specs.Network.{Network, port_at}
+use Rattle.ghs_protocol.specs.Net.{Net, happens, opening}
+use Rattle.peer_network.specs.Events.{event_node}
+use Rattle.peer_network.specs.Updates.{put_at}
 use Rattle.ghs_core.specs.NetState.{work_at}
 
 -- how many messages were sent, and for each port, by its node and place, the number of the last one that was sent to it; 0 where none was

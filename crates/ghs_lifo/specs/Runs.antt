@@ -1,15 +1,15 @@
 -- Runs that take first what was sent last: what they leave of a world and a schedule.
 use Rattle.std.specs.Prelude.{◌≡◌, ℕ, Bool, ◌<◌, ◌⊎◌, List, [], ◌∷◌, ◌++◌, length}
 use Rattle.ghs_graph.specs.Graph.{Shape}
-use Rattle.ghs_protocol.specs.declared.event.Event.{Event}
+use Rattle.peer_network.specs.declared.event.Event.{Event}
 use Rattle.ghs_protocol.specs.Marks.{HasEnded}
-use Rattle.ghs_protocol.specs.Network.{network_of}
+use Rattle.peer_network.specs.Network.{network_of}
 use Rattle.ghs_protocol.specs.Run.{net_after}
 use Rattle.ghs_core.specs.NetState.{network}
 use Rattle.ghs_world.specs.WorldState.{WorldState, home, wakers}
-use Rattle.ghs_sched.specs.Picks.{IsPick}
+use Rattle.peer_schedule.specs.Picks.{IsPick}
 use Rattle.ghs_sched.specs.Runs.{HasRunBy}
-use Rattle.ghs_sched.specs.Schedule.{next_of}
+use Rattle.peer_schedule.specs.Schedule.{next_of}
 use Rattle.ghs_patient.specs.Choices.{patient_in}
 use Rattle.ghs_patient.specs.Patience.{patient_events}
 use Rattle.ghs_lifo.specs.Latest.{IsLatest, NoTakeMoves}

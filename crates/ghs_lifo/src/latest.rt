@@ -4,7 +4,7 @@ ghost use Rattle.std.specs.List.{All};
 ghost use Rattle.ghs_graph.specs.Ports.{ports_of};
 ghost use Rattle.ghs_node.specs.declared.message.Message.{Message as Letter};
 ghost use Rattle.ghs_core.specs.NetState.{network, event_node};
-ghost use Rattle.ghs_index.specs.Places.{HasPlace};
+ghost use Rattle.peer_index.specs.Places.{HasPlace};
 ghost use Rattle.ghs_patient.specs.Choices.{IsMarked, SecondsGo, patient_in};
 ghost use Rattle.ghs_lifo.specs.Kept.{AreLatest, AreLatestBefore};
 ghost use Rattle.ghs_lifo.specs.Runs.{IsNext};
@@ -17,8 +17,8 @@ use ghs_node::delta::Delta;
 use ghs_node::head::Head;
 use ghs_patient::choices::Choices;
 use ghs_protocol::laws::law_sends;
-use ghs_sched::schedule::Schedule;
 use ghs_world::world::World;
+use peer_schedule::schedule::Schedule;
 use std::alloc::{AllocError, Global};
 use std::marker::Model;
 

@@ -3,15 +3,15 @@ ghost use Rattle.std.specs.Prelude.{◌≡◌, ℕ, ◌+◌, ◌<◌, ◌≤◌,
 ghost use Rattle.std.specs.List.{All};
 ghost use Rattle.ghs_graph.specs.Ports.{ports_of};
 ghost use Rattle.ghs_node.specs.declared.message.Message.{Message as Letter};
-ghost use Rattle.ghs_protocol.specs.Network.{At, network_of};
-ghost use Rattle.ghs_index.specs.Places.{HasPlace, place};
+ghost use Rattle.peer_network.specs.Network.{At, network_of};
+ghost use Rattle.peer_index.specs.Places.{HasPlace, place};
 ghost use Rattle.ghs_lifo.specs.Kept.{AreFor, AreNumbers, with_all, with_one};
 ghost use Rattle.ghs_lifo.specs.Newest.{none_sent};
 
 use ghs_graph::graph::Graph;
-use ghs_index::places::Places;
 use ghs_node::message::Message;
-use ghs_protocol::event::Event;
+use peer_index::places::Places;
+use peer_network::event::Event;
 use std::alloc::{AllocError, Global};
 use std::marker::Model;
 

@@ -4,7 +4,7 @@ ghost use Rattle.std.specs.List.{All};
 ghost use Rattle.ghs_graph.specs.Ports.{ports_of};
 ghost use Rattle.ghs_node.specs.declared.message.Message.{Message as Letter};
 ghost use Rattle.ghs_core.specs.NetState.{network, event_node};
-ghost use Rattle.ghs_index.specs.Places.{HasPlace, all_events};
+ghost use Rattle.peer_index.specs.Places.{HasPlace, all_events};
 ghost use Rattle.ghs_patient.specs.Choices.{IsMarked, far_takes};
 ghost use Rattle.ghs_lifo.specs.Kept.{AreFor, AreNumbers, AreRanks, AreRanksBut, IsUnranked, rank_in, ranked, ranked_all, ranked_to};
 ghost use Rattle.ghs_lifo.specs.Runs.{IsLatestIn, NoTakeMovesIn, newest_in};

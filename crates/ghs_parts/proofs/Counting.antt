@@ -9,11 +9,12 @@ use Rattle.ghs_node.specs.declared.row_name.RowName.TheVariants as names
 use Rattle.ghs_node.specs.declared.work.Work.{Work}
 use Rattle.ghs_node.specs.Reaction.{reaction, requeues}
 use Rattle.ghs_node.specs.Words.{Outgoing}
-use Rattle.ghs_protocol.specs.declared.event.Event.{Event}
-use Rattle.ghs_protocol.specs.declared.event.Event.TheVariants.{Wake, Take}
+use Rattle.peer_network.specs.declared.event.Event.{Event}
+use Rattle.peer_network.specs.declared.event.Event.TheVariants.{Wake, Take}
 use Rattle.ghs_protocol.specs.Ledger.{of_kind}
-use Rattle.ghs_protocol.specs.Net.{Net, event_node, happens, opening}
-use Rattle.ghs_protocol.specs.Network.{network_of}
+use Rattle.ghs_protocol.specs.Net.{Net, happens, opening}
+use Rattle.peer_network.specs.Events.{event_node}
+use Rattle.peer_network.specs.Network.{network_of}
 use Rattle.ghs_protocol.specs.Run.{IsAfter, IsRun, net_after, run}
 use Rattle.ghs_protocol.specs.Steps.{Happens, Woke, Took}
 use Rattle.ghs_protocol.proofs.lemmas.Effects.{taken_sent}

@@ -3,14 +3,15 @@ use Rattle.std.proofs.Common.{◌≡◌, ◌≢◌, ℕ, ◌≤◌, max, Option,
 use Rattle.std.proofs.lemmas.Bool.{cases_eq}
 use Rattle.ghs_graph.specs.Graph.{Shape, IsGraph}
 use Rattle.ghs_node.specs.NodeState.{NodeState}
-use Rattle.ghs_protocol.specs.declared.event.Event.{Event}
-use Rattle.ghs_protocol.specs.Net.{Net, event_node, happens, opening}
-use Rattle.ghs_protocol.specs.Network.{Network, network_of}
+use Rattle.peer_network.specs.declared.event.Event.{Event}
+use Rattle.ghs_protocol.specs.Net.{Net, happens, opening}
+use Rattle.peer_network.specs.Events.{event_node}
+use Rattle.peer_network.specs.Network.{Network, network_of}
 use Rattle.ghs_protocol.specs.Run.{IsAfter, net_after, run}
 use Rattle.ghs_protocol.specs.Steps.{Happens, Woke, Took}
 use Rattle.ghs_protocol.proofs.lemmas.Effects.{taken_there}
 use Rattle.ghs_protocol.proofs.lemmas.Events.{happening}
-use Rattle.ghs_protocol.proofs.lemmas.Graphs.{graph_few, graph_wired}
+use Rattle.peer_network.proofs.lemmas.Graphs.{graph_few, graph_wired}
 use Rattle.ghs_protocol.proofs.lemmas.Lasting.{run_lasts}
 use Rattle.ghs_protocol.proofs.lemmas.Runs.{both_some, net_after_is, run_joins}
 use Rattle.ghs_protocol.proofs.lemmas.Sends.{node_there}

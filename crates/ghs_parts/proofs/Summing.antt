@@ -3,8 +3,8 @@ use Rattle.std.proofs.Common.{◌≡◌, ◌≢◌, ℕ, zero, suc, ◌+◌, ◌
 use Rattle.std.specs.List.{sum_by}
 use Rattle.std.proofs.lemmas.Bool.{cases_eq}
 use Rattle.std.proofs.lemmas.List.Sums.{sum_by-append, sum_by-le-sum_by}
-use Rattle.ghs_protocol.specs.Ledger.{sum_below}
-use Rattle.ghs_protocol.proofs.lemmas.Sums.{sum_same, sum_none, sum_add}
+use Rattle.peer_network.specs.Sums.{sum_below}
+use Rattle.peer_network.proofs.lemmas.Sums.{sum_same, sum_none, sum_add}
 use Rattle.ghs_choices.specs.declared.by.By.{By}
 use Rattle.ghs_parts.specs.Deeds.{Deed}
 use Rattle.ghs_parts.specs.Parts.{part_of, sum_in}

@@ -15,10 +15,10 @@ use Rattle.ghs_node.specs.RowName.{row_name}
 use Rattle.ghs_node.specs.Words.{Outgoing}
 use Rattle.ghs_core.specs.Dispatch.{CountsSends, messages_of}
 use Rattle.ghs_core.specs.NetState.{NetState, net_of, work_at}
-use Rattle.ghs_protocol.specs.declared.event.Event.{Event}
+use Rattle.peer_network.specs.declared.event.Event.{Event}
 use Rattle.ghs_protocol.specs.Ledger.{of_kind}
-use Rattle.ghs_protocol.specs.Net.{event_node}
-use Rattle.ghs_protocol.specs.Network.{network_of}
+use Rattle.peer_network.specs.Events.{event_node}
+use Rattle.peer_network.specs.Network.{network_of}
 use Rattle.ghs_protocol.specs.Run.{IsRun, net_after}
 use Rattle.ghs_choices.specs.declared.by.By.{By}
 use Rattle.ghs_choices.specs.declared.by.By.TheVariants.{Node, Level, Rule}

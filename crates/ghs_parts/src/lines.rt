@@ -1,6 +1,6 @@
 //! The figures of parts as lines.
 ghost use Rattle.ghs_parts.specs.Lines.{line_behind, part_lines, run_text};
-ghost use Rattle.ghs_protocol.specs.Network.{network_of};
+ghost use Rattle.peer_network.specs.Network.{network_of};
 ghost use Rattle.ghs_protocol.specs.Run.{IsRun};
 ghost use Rattle.std.specs.Prelude.{◌≡◌, ◌+◌, ◌++◌, ◌≤◌, ◌^◌, IfOk, length};
 
@@ -11,7 +11,7 @@ use crate::parts::{first_of, parts_of};
 use ghs_choices::by::By;
 use ghs_choices::form::Form;
 use ghs_graph::graph::Graph;
-use ghs_protocol::event::Event;
+use peer_network::event::Event;
 use std::alloc::{AllocError, Global};
 
 /// Puts the lines of all parts of a seed's run behind a text, each behind the same front. The events are played once more.

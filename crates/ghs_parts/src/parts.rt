@@ -5,8 +5,8 @@ ghost use Rattle.ghs_core.specs.NetState.{net_of, work_at, IsAnswer, IsLawful};
 ghost use Rattle.ghs_node.specs.Reaction.{IsReaction};
 ghost use Rattle.ghs_node.specs.Rows.{Row};
 ghost use Rattle.ghs_protocol.specs.Ledger.{of_kind};
-ghost use Rattle.ghs_protocol.specs.Net.{event_node};
-ghost use Rattle.ghs_protocol.specs.Network.{network_of};
+ghost use Rattle.peer_network.specs.Events.{event_node};
+ghost use Rattle.peer_network.specs.Network.{network_of};
 ghost use Rattle.ghs_protocol.specs.Run.{IsRun};
 ghost use Rattle.ghs_parts.specs.Parts.{first_of, parts_of, place_of_part};
 ghost use Rattle.ghs_parts.specs.Tally.{HasAdded, IsTally, part_at, parts_kept};
@@ -21,7 +21,7 @@ use ghs_node::level::TOP_LEVEL;
 use ghs_node::message::Message;
 use ghs_node::react::react;
 use ghs_node::row_name::{RowName, row_of};
-use ghs_protocol::event::Event;
+use peer_network::event::Event;
 use std::alloc::{AllocError, Global};
 
 /// The figures of a run by part, one part behind another: all nodes from 1 on, the levels from 0 to the greatest that a

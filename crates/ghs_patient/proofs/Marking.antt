@@ -8,12 +8,12 @@ use Rattle.ghs_node.specs.declared.head.Head.{Head}
 use Rattle.ghs_node.specs.declared.mark.Mark.{Mark}
 use Rattle.ghs_node.specs.declared.message.Message.{Message}
 use Rattle.ghs_node.specs.Words.{Outgoing}
-use Rattle.ghs_protocol.specs.declared.event.Event.{Event}
-use Rattle.ghs_protocol.specs.declared.event.Event.TheVariants.{Wake, Take}
-use Rattle.ghs_protocol.specs.Net.{event_node}
+use Rattle.peer_network.specs.declared.event.Event.{Event}
+use Rattle.peer_network.specs.declared.event.Event.TheVariants.{Wake, Take}
+use Rattle.peer_network.specs.Events.{event_node}
 use Rattle.ghs_core.specs.NetState.{network}
-use Rattle.ghs_index.specs.Places.{HasPlace, place}
-use Rattle.ghs_index.proofs.lemmas.Marks.{for_set, of_but}
+use Rattle.peer_index.specs.Places.{HasPlace, place}
+use Rattle.peer_index.proofs.lemmas.Marks.{for_set, of_but}
 use Rattle.ghs_world.specs.WorldState.{WorldState, home}
 use Rattle.ghs_patient.specs.Choices.{AreChoices, AreChoicesBut, AreFor, ChoicesState, IsStirred, are_alike, far_takes, is_double, marked, marked_all, marked_to, moves_in}
 use Rattle.ghs_patient.proofs.lemmas.Places.{own_node}

@@ -7,15 +7,15 @@ use Rattle.ghs_node.specs.declared.mark.Mark.{Mark}
 use Rattle.ghs_node.specs.declared.message.Message.{Message}
 use Rattle.ghs_node.specs.Phases.{same_phase}
 use Rattle.ghs_node.specs.Words.{Outgoing, is_at, is_missing}
-use Rattle.ghs_protocol.specs.declared.event.Event.{Event}
-use Rattle.ghs_protocol.specs.declared.event.Event.TheVariants.{Wake, Take}
-use Rattle.ghs_protocol.specs.Network.{Network, far, far_port}
-use Rattle.ghs_protocol.specs.Net.{Net, event_node}
+use Rattle.peer_network.specs.declared.event.Event.{Event}
+use Rattle.peer_network.specs.declared.event.Event.TheVariants.{Wake, Take}
+use Rattle.peer_network.specs.Network.{Network, far, far_port}
+use Rattle.ghs_protocol.specs.Net.{Net}
+use Rattle.peer_network.specs.Events.{event_node}
 use Rattle.ghs_core.specs.NetState.{network}
 use Rattle.ghs_flags.specs.Flags.{at}
-use Rattle.ghs_index.specs.Index.{IndexState, IsFor, IsIndexOf}
-use Rattle.ghs_index.specs.Places.{HasPlace, place}
-use Rattle.ghs_world.specs.Ready.{all_events}
+use Rattle.peer_index.specs.Index.{IndexState, IsFor, IsIndexOf}
+use Rattle.peer_index.specs.Places.{HasPlace, place, all_events}
 use Rattle.ghs_world.specs.Upkeep.{changed}
 use Rattle.ghs_world.specs.WorldState.{WorldState, home, wakers}
 use Rattle.ghs_patient.specs.Patience.{moves_on, patient_events, uncovers}

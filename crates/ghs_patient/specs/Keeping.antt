@@ -3,14 +3,15 @@ use Rattle.std.specs.Prelude.{◌≡◌, ℕ, true, List}
 use Rattle.ghs_graph.specs.Graph.{IsGraph}
 use Rattle.ghs_node.specs.declared.delta.Delta.{Delta}
 use Rattle.ghs_node.specs.declared.head.Head.{Head}
-use Rattle.ghs_protocol.specs.declared.event.Event.{Event}
+use Rattle.peer_network.specs.declared.event.Event.{Event}
 use Rattle.ghs_protocol.specs.Marks.{HasEnded}
 use Rattle.ghs_protocol.specs.Run.{IsRun}
 use Rattle.ghs_core.specs.NetState.{IsAnswer, IsLawful, event_node, network}
 use Rattle.ghs_world.specs.Steps.{IsSameWorld, Makes}
 use Rattle.ghs_world.specs.WorldState.{WorldState, has_turn, home, wakers}
-use Rattle.ghs_sched.specs.Picks.{IsPick, Offers}
-use Rattle.ghs_sched.specs.Schedule.{next_of}
+use Rattle.ghs_sched.specs.Picks.{Offers}
+use Rattle.peer_schedule.specs.Picks.{IsPick}
+use Rattle.peer_schedule.specs.Schedule.{next_of}
 
 -- the next word picks the event of these, and leaves the words behind it
 abbrev pub IsByWord : List Event → List ℕ → Event → List ℕ → Type 0

@@ -2,12 +2,12 @@
 use Rattle.std.specs.Prelude.{ℕ, Bool, false, ◌&&◌, not, List, [], ◌∷◌, filter}
 use Rattle.ghs_node.specs.declared.message.Message.{Message}
 use Rattle.ghs_node.specs.NodeState.{NodeState}
-use Rattle.ghs_protocol.specs.declared.event.Event.{Event}
-use Rattle.ghs_protocol.specs.declared.event.Event.TheVariants.{Wake, Take}
-use Rattle.ghs_protocol.specs.Network.{Network}
+use Rattle.peer_network.specs.declared.event.Event.{Event}
+use Rattle.peer_network.specs.declared.event.Event.TheVariants.{Wake, Take}
+use Rattle.peer_network.specs.Network.{Network}
 use Rattle.ghs_protocol.specs.Net.{Net, is_lawful_under}
 use Rattle.ghs_core.specs.Waits.{waits}
-use Rattle.ghs_world.specs.Ready.{all_events}
+use Rattle.peer_index.specs.Places.{all_events}
 
 -- of the messages at a port of a node the first would be put back
 abbrev pub first_waits : NodeState → ℕ → List Message → Bool

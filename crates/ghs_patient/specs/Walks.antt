@@ -1,7 +1,7 @@
 -- Something done for one event after another.
 use Rattle.std.specs.Prelude.{ℕ, List, [], ◌∷◌, zero, suc}
-use Rattle.ghs_protocol.specs.declared.event.Event.{Event}
-use Rattle.ghs_protocol.specs.declared.event.Event.TheVariants.{Take}
+use Rattle.peer_network.specs.declared.event.Event.{Event}
+use Rattle.peer_network.specs.declared.event.Event.TheVariants.{Take}
 
 -- for the Takes at the first n ports of a node
 abbrev pub on_takes : {C : Type 0} → (Event → C → C) → ℕ → ℕ → C → C

@@ -3,10 +3,10 @@ ghost use Rattle.std.specs.Prelude.{◌≡◌, ◌<◌, ◌≤◌, ◌^◌, ℕ,
 ghost use Rattle.std.specs.List.{All};
 ghost use Rattle.ghs_graph.specs.Ports.{ports_of};
 ghost use Rattle.ghs_node.specs.declared.message.Message.{Message as Letter};
-ghost use Rattle.ghs_protocol.specs.declared.event.Event.{Event as Happening};
+ghost use Rattle.peer_network.specs.declared.event.Event.{Event as Happening};
 ghost use Rattle.ghs_protocol.specs.Marks.{HasEnded};
 ghost use Rattle.ghs_core.specs.NetState.{network, event_node};
-ghost use Rattle.ghs_index.specs.Places.{HasPlace};
+ghost use Rattle.peer_index.specs.Places.{HasPlace};
 ghost use Rattle.ghs_world.specs.Ready.{is_ready, ready_events};
 ghost use Rattle.ghs_world.specs.Steps.{IsSameWorld};
 ghost use Rattle.ghs_world.specs.WorldState.{WorldState, has_turn, home};
@@ -17,11 +17,11 @@ ghost use Rattle.ghs_patient.specs.Keeping.{HasAnswered, HasGone, HasGoneOn};
 use ghs_core::net::node_of;
 use ghs_node::delta::Delta;
 use ghs_node::head::Head;
-use ghs_protocol::event::Event;
 use ghs_sched::fault::RunFault;
 use ghs_sched::run::{RunEnd, end_of};
-use ghs_sched::schedule::Schedule;
 use ghs_world::world::World;
+use peer_network::event::Event;
+use peer_schedule::schedule::Schedule;
 use std::alloc::{AllocError, Global};
 
 /// What a schedule keeps of a world, to find the next event by.

@@ -11,12 +11,12 @@ use crate::choices::Choices;
 use crate::keeping::{Keeper, run_by};
 use ghs_node::delta::Delta;
 use ghs_node::head::Head;
-use ghs_protocol::event::Event;
 use ghs_protocol::interleavings::{law_one_waits, law_patience, law_patience_lasts};
 use ghs_sched::fault::RunFault;
 use ghs_sched::run::RunEnd;
-use ghs_sched::schedule::Schedule;
 use ghs_world::world::World;
+use peer_network::event::Event;
+use peer_schedule::schedule::Schedule;
 use std::alloc::{AllocError, Global};
 
 /// Runs a world on until the run has ended. All that is out is recalled first; then each word of the schedule picks one of

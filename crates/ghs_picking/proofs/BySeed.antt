@@ -3,18 +3,18 @@ use Rattle.std.proofs.Common.{◌≡◌, ℕ, Bool, ◌+◌, ◌*◌, ◌-◌, �
 use Rattle.std.specs.Prelude.{IfErr, IfOk, OnErr, OnOk, Result, Ok, Err}
 use Rattle.std.proofs.lemmas.List.{length_push}
 use Rattle.ghs_graph.specs.Graph.{IsGraph, Shape}
-use Rattle.ghs_protocol.specs.declared.event.Event.{Event}
+use Rattle.peer_network.specs.declared.event.Event.{Event}
 use Rattle.ghs_protocol.specs.Marks.{HasEnded}
 use Rattle.ghs_protocol.specs.Run.{net_after}
 use Rattle.ghs_sched.specs.Picks.{IsPickedAmong, IsSeededRun, Offers}
 use Rattle.ghs_sched.specs.Runs.{EndsFor, HasRunAmong, HasRunBy, IsEnd, IsWhole}
-use Rattle.ghs_sched.specs.Schedule.{seeded}
+use Rattle.peer_schedule.specs.Schedule.{seeded}
 use Rattle.ghs_sched.specs.declared.fault.RunFault.{RunFault}
 use Rattle.ghs_sched.specs.declared.fault.RunFault.TheVariants.{TurnLimit, Stalled, Unforeseen, Memory}
 use Rattle.ghs_sched.specs.declared.run.RunEnd.{RunEnd}
 use Rattle.ghs_sched.specs.declared.run.RunEnd.TheVariants.{Halted}
 use Rattle.ghs_world.specs.WorldState.{WorldState, home, wakers}
-use Rattle.ghs_world.proofs.lemmas.Waking.{each_is_woken}
+use Rattle.peer_network.proofs.lemmas.Waking.{each_is_woken}
 use Rattle.ghs_sched.proofs.lemmas.Runs.{picked_within}
 use Rattle.ghs_patient.specs.Runs as patient
 use Rattle.ghs_patient.specs.Runs.{HasTurns, IsPatientlyPicked, IsShort}

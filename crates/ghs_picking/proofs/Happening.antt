@@ -3,18 +3,18 @@ use Rattle.std.proofs.Common.{◌≡◌, ◌≤◌, ◌<◌, ◌+◌, ◌^◌, �
 use Rattle.std.specs.Prelude.{IfOk, Result, Ok, Err}
 use Rattle.std.proofs.lemmas.Option.{same_Some}
 use Rattle.ghs_graph.specs.Graph.{Shape}
-use Rattle.ghs_protocol.specs.Network.{network_of}
+use Rattle.peer_network.specs.Network.{network_of}
 use Rattle.ghs_sched.specs.Runs.{IsEnd}
 use Rattle.ghs_sched.specs.declared.fault.RunFault.{RunFault}
 use Rattle.ghs_sched.specs.declared.fault.RunFault.TheVariants.{TurnLimit, Memory}
 use Rattle.ghs_sched.specs.declared.run.RunEnd.{RunEnd}
-use Rattle.ghs_world.specs.declared.wake_set.WakeSet.{WakeSet}
+use Rattle.peer_network.specs.declared.wake_set.WakeSet.{WakeSet}
 use Rattle.ghs_chain.specs.Chains.{longest_chain}
 use Rattle.ghs_picking.specs.Picking.{AreRounds}
 use Rattle.ghs_choices.specs.declared.schedule_kind.ScheduleKind.TheVariants.{Rounds}
 use Rattle.ghs_picking.proofs.BySeed.{has_ended}
 use Rattle.std.proofs.lemmas.Bool.{and_parts, ltb-true}
-use Rattle.ghs_protocol.specs.declared.event.Event.{Event}
+use Rattle.peer_network.specs.declared.event.Event.{Event}
 use Rattle.ghs_core.specs.NetState.{NetState, network}
 use Rattle.ghs_world.specs.Steps.{Makes}
 use Rattle.ghs_world.specs.WorldState.{WorldState, has_turn}

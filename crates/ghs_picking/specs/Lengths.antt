@@ -1,8 +1,8 @@
 -- How long a run is.
 use Rattle.std.specs.Prelude.{List}
 use Rattle.ghs_graph.specs.Graph.{Shape}
-use Rattle.ghs_protocol.specs.declared.event.Event.{Event}
-use Rattle.ghs_protocol.specs.Network.{network_of}
+use Rattle.peer_network.specs.declared.event.Event.{Event}
+use Rattle.peer_network.specs.Network.{network_of}
 use Rattle.ghs_chain.specs.Chains.{longest_chain}
 use Rattle.ghs_bits.specs.Bits.{bits_sent, longest_sent}
 use Rattle.ghs_picking.specs.declared.lengths.RunLengths.{RunLengths}

@@ -11,8 +11,8 @@ use ghs_following::follower::Follower;
 use ghs_following::walk::follow_all;
 use ghs_sched::fault::RunFault;
 use ghs_sched::run::RunEnd;
-use ghs_sched::schedule::Schedule;
 use ghs_world::world::World;
+use peer_schedule::schedule::Schedule;
 use std::alloc::Global;
 
 /// Runs a world from its opening on as `run_by_seed` does, and has its events followed. Where memory runs out what is kept

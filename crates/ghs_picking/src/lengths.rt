@@ -3,16 +3,16 @@ ghost use Rattle.ghs_bits.specs.Bits.{AreBitsOf};
 ghost use Rattle.ghs_chain.specs.Kept.{AreChainsOf};
 ghost use Rattle.ghs_graph.specs.Graph.{Shape};
 ghost use Rattle.ghs_picking.specs.Lengths.{lengths_of};
-ghost use Rattle.ghs_protocol.specs.Network.{network_of};
+ghost use Rattle.peer_network.specs.Network.{network_of};
 ghost use Rattle.ghs_protocol.specs.Run.{IsRun};
-ghost use Rattle.ghs_protocol.specs.declared.event.Event.{Event as Happening};
+ghost use Rattle.peer_network.specs.declared.event.Event.{Event as Happening};
 ghost use Rattle.std.specs.Prelude.{[], ◌≡◌, ◌≤◌, ◌^◌, IfOk, List, length};
 
 use ghs_bits::bits::Bits;
 use ghs_chain::chains::Chains;
 use ghs_following::walk::follow_all;
 use ghs_graph::graph::Graph;
-use ghs_protocol::event::Event;
+use peer_network::event::Event;
 use std::alloc::{AllocError, Global};
 
 /// How long a run is, in messages and in bits.

@@ -6,8 +6,8 @@ ghost use Rattle.ghs_world.specs.WorldState.{has_turn};
 ghost use Rattle.std.specs.Prelude.{OnErr, OnOk, true, ◌≡◌};
 
 use ghs_following::follower::Follower;
-use ghs_protocol::event::Event;
 use ghs_world::world::World;
+use peer_network::event::Event;
 use std::alloc::{AllocError, Global};
 
 /// An event happens, and is followed. A refusal leaves the world; what is kept is then of no use.

@@ -14,8 +14,8 @@ use ghs_patient::choices::Choices;
 use ghs_protocol::interleavings::{law_one_waits, law_patience, law_patience_lasts};
 use ghs_sched::fault::RunFault;
 use ghs_sched::run::{RunEnd, end_of};
-use ghs_sched::schedule::Schedule;
 use ghs_world::world::World;
+use peer_schedule::schedule::Schedule;
 use std::alloc::{AllocError, Global};
 
 /// Runs a world on as `ghs_patient` does, each event followed. Where memory runs out what is kept is of no use.

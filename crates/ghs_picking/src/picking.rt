@@ -14,9 +14,9 @@ use ghs_rounds::laws::{
 use ghs_rounds::run::run_rounds;
 use ghs_sched::fault::RunFault;
 use ghs_sched::run::{RunEnd, run_seeded};
-use ghs_sched::schedule::Schedule;
 use ghs_waits::run::run_waiting;
 use ghs_world::world::World;
+use peer_schedule::schedule::Schedule;
 use std::alloc::Global;
 
 /// Runs a world from its opening on, by the schedule of a seed, until the run has ended or its turns are used. Of the

@@ -10,8 +10,8 @@ use crate::making::make;
 use ghs_following::follower::Follower;
 use ghs_sched::fault::RunFault;
 use ghs_sched::run::{RunEnd, end_of};
-use ghs_sched::schedule::Schedule;
 use ghs_world::world::World;
+use peer_schedule::schedule::Schedule;
 use std::alloc::{AllocError, Global};
 
 /// Runs a world on as `ghs_sched` does, each event followed. Where memory runs out what is kept is of no use.

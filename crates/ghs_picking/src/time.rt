@@ -1,14 +1,14 @@
 //! The time of a run and its bits, as a text.
 ghost use Rattle.ghs_picking.specs.Lengths.{lengths_of};
 ghost use Rattle.ghs_picking.specs.Time.{bits_line, chain_line, rounds_line, rounds_lines, time_text};
-ghost use Rattle.ghs_protocol.specs.Network.{network_of};
+ghost use Rattle.peer_network.specs.Network.{network_of};
 ghost use Rattle.ghs_protocol.specs.Run.{IsRun};
 ghost use Rattle.std.specs.Prelude.{◌≡◌, ◌++◌, ◌≤◌, ◌^◌, IfOk, length};
 
 use crate::lengths::lengths_of;
 use ghs_graph::graph::Graph;
 use ghs_lines::numbers::put_number;
-use ghs_protocol::event::Event;
+use peer_network::event::Event;
 use std::alloc::{AllocError, Global};
 
 /// The time of a run and its bits: a line of its longest chain, behind it, where the run went by rounds, one of these, and

@@ -9,10 +9,10 @@ ghost use Rattle.ghs_world.specs.WorldState.{home, refusal, Refuses, ticket_of, 
 ghost use Rattle.ghs_pool.specs.Shop.{Publishes};
 
 use crate::shop::{Shop, pair_of};
-use ghs_protocol::event::Event;
 use ghs_world::fault::{BackFault, CommitFault, OutFault};
 use ghs_world::ticket::{Step, Ticket};
 use ghs_world::woken::Committed;
+use peer_network::event::Event;
 use std::alloc::Global;
 
 /// A lent shop. Each call answers and refuses as the world's call of that name.

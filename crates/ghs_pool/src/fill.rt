@@ -3,8 +3,8 @@ use crate::desk::Desk;
 use crate::floor::{Floor, Start};
 use crate::hand::{Hand, MOST};
 use crate::pace::PAIR;
-use ghs_protocol::event::Event;
 use ghs_world::fault::OutFault;
+use peer_network::event::Event;
 use std::alloc::{AllocError, Global};
 use std::sync::Wait;
 

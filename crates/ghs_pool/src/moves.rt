@@ -1,11 +1,11 @@
 //! Which events are worth a ticket, and which are made at once.
-ghost use Rattle.ghs_protocol.specs.Network.{At};
+ghost use Rattle.peer_network.specs.Network.{At};
 ghost use Rattle.ghs_core.specs.NetState.{network};
 
 use ghs_core::net::Net;
 use ghs_core::waits::waits;
-use ghs_protocol::event::Event;
 use ghs_world::world::World;
+use peer_network::event::Event;
 
 /// For so many ports of its node an event may pay. A ticket copies the marks of all ports of its node, and a commit compares
 /// marks and keys, both under the lock, and the reaction looks over them only where a level begins: so a node of more ports

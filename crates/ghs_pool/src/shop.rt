@@ -6,15 +6,16 @@ ghost use Rattle.ghs_core.specs.NetState.{network};
 ghost use Rattle.ghs_board.specs.Progress.{StartsWith};
 ghost use Rattle.ghs_world.specs.Ready.{is_ready};
 ghost use Rattle.ghs_world.specs.Steps.{Makes, HasRoused, IsSameWorld};
-ghost use Rattle.ghs_world.specs.WorldState.{has_turn, has_place};
+ghost use Rattle.ghs_world.specs.WorldState.{has_turn};
+ghost use Rattle.peer_index.specs.Places.{has_place};
 ghost use Rattle.ghs_pool.specs.Shop.{IsPairOf, IsTold, Publishes};
 
 use crate::moves::{at_once_per_ticket, is_worth_it};
 use ghs_board::board::{Board, Publisher, Reader};
 use ghs_board::progress::Progress;
-use ghs_protocol::event::Event;
 use ghs_world::woken::Woken;
 use ghs_world::world::World;
+use peer_network::event::Event;
 use std::alloc::{AllocError, Global};
 use std::marker::Model;
 

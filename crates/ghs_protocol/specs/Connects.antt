@@ -2,7 +2,7 @@
 use Rattle.std.specs.Prelude.{◌≡◌, ◌≢◌, ℕ, ◌≤◌}
 use Rattle.ghs_node.specs.declared.mark.Mark.TheVariants.{Basic, Branch}
 use Rattle.ghs_node.specs.NodeState.{mark_at}
-use Rattle.ghs_protocol.specs.Network.{Network, far, far_port}
+use Rattle.peer_network.specs.Network.{Network, far, far_port}
 use Rattle.ghs_protocol.specs.Net.{Net}
 use Rattle.ghs_protocol.specs.Ledger.{of_kind}
 

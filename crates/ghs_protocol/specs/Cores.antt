@@ -6,7 +6,7 @@ use Rattle.ghs_graph.specs.Links.{Joined, links, InTree}
 use Rattle.ghs_node.specs.declared.mark.Mark.TheVariants.{Branch}
 use Rattle.ghs_node.specs.declared.message.Phase.TheVariants.{Sleeping, Found}
 use Rattle.ghs_node.specs.NodeState.{mark_at}
-use Rattle.ghs_protocol.specs.Network.{Network, network_of, At, port_at}
+use Rattle.peer_network.specs.Network.{Network, network_of, At, port_at}
 use Rattle.ghs_protocol.specs.Net.{Net}
 use Rattle.ghs_protocol.specs.Marks.{IsJoined, HasHalted, HasEnded}
 use Rattle.ghs_protocol.specs.Laws.{IsNetOf}

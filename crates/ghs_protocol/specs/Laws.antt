@@ -7,12 +7,13 @@ use Rattle.ghs_node.specs.declared.mark.Mark.TheVariants.{Basic, Branch}
 use Rattle.ghs_node.specs.declared.message.Phase.TheVariants.{Sleeping}
 use Rattle.ghs_node.specs.NodeState.{mark_at}
 use Rattle.ghs_node.specs.Laws.{HasLevel}
-use Rattle.ghs_protocol.specs.declared.event.Event.{Event}
-use Rattle.ghs_protocol.specs.Network.{network_of, At}
+use Rattle.peer_network.specs.declared.event.Event.{Event}
+use Rattle.peer_network.specs.Network.{network_of, At}
 use Rattle.ghs_protocol.specs.Net.{Net, opening, happens}
 use Rattle.ghs_protocol.specs.Run.{IsAfter}
 use Rattle.ghs_protocol.specs.Marks.{IsJoinedLink, InOneFragment, HasHalted}
-use Rattle.ghs_protocol.specs.Ledger.{IsBalanced, in_all, IsBalancedInAll, takes_in}
+use Rattle.ghs_protocol.specs.Ledger.{IsBalanced, in_all, IsBalancedInAll}
+use Rattle.peer_network.specs.Events.{takes_in}
 use Rattle.ghs_protocol.specs.Nodes.{IsNodeOf}
 use Rattle.ghs_protocol.specs.Steps.{Happens, Steps}
 use Rattle.ghs_protocol.specs.Connects.{ConnectsFit}

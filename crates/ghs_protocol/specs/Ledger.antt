@@ -1,24 +1,10 @@
 -- Messages counted.
-use Rattle.std.specs.Prelude.{◌≡◌, ℕ, zero, suc, ◌+◌, ◌==◌, List, [], ◌∷◌, length, if◌then◌else◌}
+use Rattle.std.specs.Prelude.{◌≡◌, ℕ, ◌+◌, ◌==◌, List, [], ◌∷◌, length, if◌then◌else◌}
 use Rattle.ghs_node.specs.declared.message.Message.{Message}
 use Rattle.ghs_node.specs.Kind.{kind_of, place_of}
-use Rattle.ghs_protocol.specs.declared.event.Event.{Event}
-use Rattle.ghs_protocol.specs.declared.event.Event.TheVariants.{Wake, Take}
-use Rattle.ghs_protocol.specs.Network.{Network}
+use Rattle.peer_network.specs.Network.{Network}
+use Rattle.peer_network.specs.Sums.{sum_below, sum_over_ports}
 use Rattle.ghs_protocol.specs.Net.{Net}
-
--- f 0 + .. + f (n - 1)
-abbrev pub sum_below : ℕ → (ℕ → ℕ) → ℕ
-sum_below zero f = 0
-sum_below (suc n) f = sum_below n f + f n
-
--- a number for each node, added up
-abbrev pub sum_over_nodes : Network → (ℕ → ℕ) → ℕ
-sum_over_nodes g f = sum_below g.count (λ i. f (suc i))
-
--- a number for each port of each node, added up
-abbrev pub sum_over_ports : Network → (ℕ → ℕ → ℕ) → ℕ
-sum_over_ports g f = sum_below g.count (λ i. sum_below (length (g.ports (suc i))) (f (suc i)))
 
 -- how many messages have the kind at place k
 abbrev pub of_kind : ℕ → List Message → ℕ
@@ -43,9 +29,3 @@ in_all f = sum_below 7 f
 -- over all kinds: what was sent was consumed or waits
 abbrev pub IsBalancedInAll : Network → Net → Type 0
 IsBalancedInAll g w = in_all w.sent ≡ in_all w.consumed + waiting g w
-
--- how many of the events take a message
-abbrev pub takes_in : List Event → ℕ
-takes_in [] = 0
-takes_in (Wake v ∷ es) = takes_in es
-takes_in (Take v p ∷ es) = suc (takes_in es)

@@ -1,5 +1,4 @@
 -- To be believed: contracts cite what stands here, and what it is made of.
-pub mod Network
 pub mod Net
 pub mod Run
 pub mod Marks

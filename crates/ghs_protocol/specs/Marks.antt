@@ -5,7 +5,7 @@ use Rattle.ghs_graph.specs.Graph.{Shape}
 use Rattle.ghs_graph.specs.Links.{Joined, links}
 use Rattle.ghs_node.specs.declared.mark.Mark.TheVariants.{Branch, Rejected}
 use Rattle.ghs_node.specs.NodeState.{mark_at}
-use Rattle.ghs_protocol.specs.Network.{Network, At, port_at, far, far_port}
+use Rattle.peer_network.specs.Network.{Network, At, port_at, far, far_port}
 use Rattle.ghs_protocol.specs.Net.{Net}
 
 -- the link with this key is Branch at one end at least

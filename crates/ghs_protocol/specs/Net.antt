@@ -1,5 +1,5 @@
 -- All nodes and all queues of a network, and what one event does to them.
-use Rattle.std.specs.Prelude.{ℕ, suc, ◌+◌, Bool, true, false, ◌&&◌, ◌==◌, nat_lt, nat_le, Option, Some, None, List, [], ◌∷◌, ◌++◌, length, if◌then◌else◌}
+use Rattle.std.specs.Prelude.{ℕ, suc, ◌+◌, Bool, true, false, ◌&&◌, Option, Some, None, List, [], ◌∷◌, ◌++◌, if◌then◌else◌}
 use Rattle.ghs_node.specs.declared.message.Message.{Message}
 use Rattle.ghs_node.specs.declared.delta.Fate.{Fate}
 use Rattle.ghs_node.specs.declared.delta.Fate.TheVariants.{Consumed, Requeued}
@@ -9,9 +9,10 @@ use Rattle.ghs_node.specs.Kind.{kind_of, place_of}
 use Rattle.ghs_node.specs.Words.{Outgoing, is_sleeping}
 use Rattle.ghs_node.specs.NodeState.{NodeState, sleeper}
 use Rattle.ghs_node.specs.Reaction.{reaction, after}
-use Rattle.ghs_protocol.specs.declared.event.Event.{Event}
-use Rattle.ghs_protocol.specs.declared.event.Event.TheVariants as events
-use Rattle.ghs_protocol.specs.Network.{Network, port_at}
+use Rattle.peer_network.specs.declared.event.Event.{Event}
+use Rattle.peer_network.specs.declared.event.Event.TheVariants as events
+use Rattle.peer_network.specs.Network.{Network, port_at, is_node, is_port}
+use Rattle.peer_network.specs.Updates.{put, put_at}
 
 -- the state of each node, the messages that wait at each of its ports, and the counts by a kind's place
 pub record Net : Type 0 where
@@ -20,13 +21,6 @@ pub record Net : Type 0 where
   pub sent : ℕ → ℕ
   pub consumed : ℕ → ℕ
   pub requeued : ℕ
-
--- the function, with x at i
-abbrev pub put : {A : Type 0} → (ℕ → A) → ℕ → A → ℕ → A
-put f i x j = if j == i then x else f j
-
-abbrev pub put_at : {A : Type 0} → (ℕ → ℕ → A) → ℕ → ℕ → A → ℕ → ℕ → A
-put_at f v p x = put f v (put (f v) p x)
 
 -- all nodes asleep, no message anywhere
 abbrev pub opening : Network → Net
@@ -69,17 +63,6 @@ take_first f v p m ms w =
       consumed = put w.consumed k (w.consumed k + one_if_consumed f);
       requeued = w.requeued + one_if_requeued f;
     }
-
--- the node of an event
-abbrev pub event_node : Event → ℕ
-event_node (events.Wake v) = v
-event_node (events.Take v p) = v
-
-abbrev pub is_node : Network → ℕ → Bool
-is_node g v = nat_lt 0 v && nat_le v g.count
-
-abbrev pub is_port : Network → ℕ → ℕ → Bool
-is_port g v p = is_node g v && nat_lt p (length (g.ports v))
 
 abbrev pub is_waiting : List Message → Bool
 is_waiting [] = false

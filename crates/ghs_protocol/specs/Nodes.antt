@@ -2,7 +2,7 @@
 use Rattle.std.specs.Prelude.{◌≡◌, ℕ, map}
 use Rattle.ghs_graph.specs.declared.port.Port.{Port}
 use Rattle.ghs_node.specs.NodeState.{NodeState, IsNode}
-use Rattle.ghs_protocol.specs.Network.{Network}
+use Rattle.peer_network.specs.Network.{Network}
 
 -- the state of node v: its number, the keys of its ports, and what every node keeps
 pub record IsNodeOf (g : Network) (v : ℕ) (n : NodeState) : Type 0 where

@@ -3,11 +3,13 @@ use Rattle.std.specs.Prelude.{◌≡◌, ℕ, suc, ◌+◌, ◌-◌, ◌≤◌, 
 use Rattle.ghs_node.specs.declared.message.Message.{Message}
 use Rattle.ghs_node.specs.declared.message.Message.TheVariants.{Accept, Initiate}
 use Rattle.ghs_node.specs.Words.{is_at}
-use Rattle.ghs_protocol.specs.declared.event.Event.{Event}
-use Rattle.ghs_protocol.specs.declared.event.Event.TheVariants.{Wake, Take}
-use Rattle.ghs_protocol.specs.Network.{Network}
-use Rattle.ghs_protocol.specs.Net.{Net, opening, event_node, happens}
-use Rattle.ghs_protocol.specs.Ledger.{sum_below, sum_over_nodes, sum_over_ports, of_kind, waiting_of}
+use Rattle.peer_network.specs.declared.event.Event.{Event}
+use Rattle.peer_network.specs.declared.event.Event.TheVariants.{Wake, Take}
+use Rattle.peer_network.specs.Network.{Network}
+use Rattle.ghs_protocol.specs.Net.{Net, opening, happens}
+use Rattle.peer_network.specs.Events.{event_node}
+use Rattle.ghs_protocol.specs.Ledger.{of_kind, waiting_of}
+use Rattle.peer_network.specs.Sums.{sum_below, sum_over_nodes, sum_over_ports}
 
 -- by how much a count rises where the event is one of node v that leaves it at level l
 abbrev pub risen : (Net → ℕ) → ℕ → ℕ → Net → Event → Net → ℕ

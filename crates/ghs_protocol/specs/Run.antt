@@ -1,10 +1,10 @@
 -- Runs: lists of events, from the opening net on.
-use Rattle.std.specs.Prelude.{◌≡◌, ℕ, Bool, true, Option, Some, None, List, [], ◌∷◌, unwrap_or}
+use Rattle.std.specs.Prelude.{◌≡◌, ℕ, Bool, Option, Some, None, List, [], ◌∷◌, unwrap_or}
 use Rattle.std.specs.List.{All}
 use Rattle.ghs_graph.specs.Graph.{Shape}
-use Rattle.ghs_protocol.specs.declared.event.Event.{Event}
-use Rattle.ghs_protocol.specs.declared.event.Event.TheVariants.{Wake, Take}
-use Rattle.ghs_protocol.specs.Network.{Network, network_of}
+use Rattle.peer_network.specs.declared.event.Event.{Event}
+use Rattle.peer_network.specs.Events.{MayWake}
+use Rattle.peer_network.specs.Network.{Network, network_of}
 use Rattle.ghs_protocol.specs.Net.{Net, opening, happens}
 
 abbrev pub and_then : Option Net → (Net → Option Net) → Option Net
@@ -23,11 +23,6 @@ IsAfter g es w = run g es (opening g) ≡ Some w
 -- each event can happen where it stands
 abbrev pub IsRun : Network → List Event → Type 0
 IsRun g es = (w : Net) × IsAfter g es w
-
--- a wake is of a node that may wake by itself
-abbrev pub MayWake : (ℕ → Bool) → Event → Type 0
-MayWake may (Wake v) = may v ≡ true
-MayWake may (Take v p) = Unit {0}
 
 -- a run in which only some nodes wake by themselves
 abbrev pub IsRunUnder : (ℕ → Bool) → Network → List Event → Type 0

@@ -7,11 +7,13 @@ use Rattle.ghs_graph.specs.Links.{Joined, links}
 use Rattle.ghs_node.specs.declared.message.Message.{Message}
 use Rattle.ghs_node.specs.declared.message.Phase.TheVariants.{Sleeping}
 use Rattle.ghs_node.specs.declared.delta.Delta.{Delta}
-use Rattle.ghs_protocol.specs.declared.event.Event.{Event}
-use Rattle.ghs_protocol.specs.declared.event.Event.TheVariants.{Wake, Take}
-use Rattle.ghs_protocol.specs.Network.{Network, network_of, At}
-use Rattle.ghs_protocol.specs.Net.{Net, event_node, is_lawful, is_lawful_under}
-use Rattle.ghs_protocol.specs.Run.{run, MayWake}
+use Rattle.peer_network.specs.declared.event.Event.{Event}
+use Rattle.peer_network.specs.declared.event.Event.TheVariants.{Wake, Take}
+use Rattle.peer_network.specs.Network.{Network, network_of, At}
+use Rattle.ghs_protocol.specs.Net.{Net, is_lawful, is_lawful_under}
+use Rattle.peer_network.specs.Events.{event_node, MayWake}
+use Rattle.peer_network.specs.Wakes.{AllMayWake}
+use Rattle.ghs_protocol.specs.Run.{run}
 use Rattle.ghs_protocol.specs.Marks.{HasEnded, HasHalted, Leads}
 use Rattle.ghs_protocol.specs.Steps.{Happens}
 use Rattle.ghs_protocol.specs.Halting.{Reacts}
@@ -33,10 +35,6 @@ OthersLeaveAlone = (g : Network) (v : ℕ) (es : List Event) (w w' : Net) → Al
 -- no event can happen, where only some nodes wake by themselves
 abbrev pub NothingIsReady : (ℕ → Bool) → Network → Net → Type 0
 NothingIsReady may g w = (e : Event) → is_lawful_under may g w e ≡ false
-
--- each node is joined with one that may wake by itself
-abbrev pub AllMayWake : (ℕ → Bool) → Shape → Type 0
-AllMayWake may g = (v : ℕ) → 1 ≤ v → v ≤ g.nodes → (u : ℕ) × (1 ≤ u) × (u ≤ g.nodes) × Joined (links g.keys) v u × (may u ≡ true)
 
 -- where nothing can happen, each component with a node that may wake has ended; if each component has one, the run has
 abbrev pub StillnessIsEnd : Type 0

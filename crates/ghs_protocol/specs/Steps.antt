@@ -8,9 +8,9 @@ use Rattle.ghs_node.specs.Words.{Outgoing}
 use Rattle.ghs_node.specs.NodeState.{NodeState}
 use Rattle.ghs_node.specs.Reaction.{reaction, at_wake}
 use Rattle.ghs_node.specs.Rows.{AwakeRow}
-use Rattle.ghs_protocol.specs.declared.event.Event.{Event}
-use Rattle.ghs_protocol.specs.declared.event.Event.TheVariants as events
-use Rattle.ghs_protocol.specs.Network.{Network, At}
+use Rattle.peer_network.specs.declared.event.Event.{Event}
+use Rattle.peer_network.specs.declared.event.Event.TheVariants as events
+use Rattle.peer_network.specs.Network.{Network, At}
 use Rattle.ghs_protocol.specs.Net.{Net, change, send_all, take_first}
 
 -- node v has reacted, and its messages are out

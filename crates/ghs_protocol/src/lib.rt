@@ -1,6 +1,5 @@
-//! The network as one pure machine: events in, states and counts out. But for `Event` there is no code: the definitions
-//! stand in `specs/`, and each theorem is the contract of a function without a body, in `laws`, `interleavings` and
-//! `cores`.
+//! The network as one pure machine: events in, states and counts out. There is no code: the definitions stand in `specs/`,
+//! and each theorem is the contract of a function without a body, in `laws`, `interleavings` and `cores`.
 //!
 //! Proved of every run of every graph, in every order of its events: messages sent are within the bound (`law_bound`);
 //! Branch links lie in the minimum spanning forest (`law_branch_links`), and where the run has ended they are it
@@ -12,6 +11,7 @@
 #![tactic(auto)]
 
 pub mod cores;
-pub mod event;
 pub mod interleavings;
 pub mod laws;
+
+pub use peer_network::event;

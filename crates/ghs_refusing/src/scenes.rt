@@ -5,12 +5,12 @@ use ghs_graph::graph::Graph;
 use ghs_report::run_text::run_text;
 use ghs_sched::replay::replay;
 use ghs_sched::run::run_seeded;
-use ghs_sched::schedule::Schedule;
-use ghs_sched::trace::EVENT_LIMIT;
 use ghs_test_graphs::build::graph_of;
 use ghs_test_graphs::graphs::PATH_OF_FIVE;
-use ghs_world::wake_set::WakeSet;
 use ghs_world::world::World;
+use peer_network::wake_set::WakeSet;
+use peer_schedule::schedule::Schedule;
+use peer_texts::trace::EVENT_LIMIT;
 use std::alloc::Global;
 
 /// The text of every run of the five nodes.

@@ -1,7 +1,7 @@
 -- Fields of lines of comma separated values, and the words that stand in them.
 use Rattle.std.specs.Prelude.{ℕ, Bool, true, false, List, ◌++◌, codes, decimal}
-use Rattle.ghs_world.specs.declared.wake_set.WakeSet.{WakeSet}
-use Rattle.ghs_world.specs.declared.wake_set.WakeSet.TheVariants.{All, First}
+use Rattle.peer_network.specs.declared.wake_set.WakeSet.{WakeSet}
+use Rattle.peer_network.specs.declared.wake_set.WakeSet.TheVariants.{All, First}
 
 -- a comma and a number
 unfoldable pub field : ℕ → List ℕ

@@ -3,7 +3,7 @@ ghost use Rattle.std.specs.Prelude.{◌≡◌, ◌++◌, IfOk};
 ghost use Rattle.ghs_report.specs.Fields.{end_word, field, wake_word, word_field};
 
 use ghs_lines::numbers::put_number;
-use ghs_world::wake_set::WakeSet;
+use peer_network::wake_set::WakeSet;
 use std::alloc::AllocError;
 
 /// A comma and a number.

@@ -1,7 +1,7 @@
 -- What the clock asks of an event before it hears of it.
 use Rattle.std.proofs.Common.{ℕ, ◌-◌, ◌^◌, ◌<◌, Bool, length, sym, subst, arith}
 use Rattle.ghs_node.specs.declared.delta.Fate.{Fate}
-use Rattle.ghs_protocol.specs.declared.event.Event.{Event}
+use Rattle.peer_network.specs.declared.event.Event.{Event}
 use Rattle.ghs_core.specs.NetState.{NetState, network}
 use Rattle.ghs_chain.specs.Chains.{Chains, hears}
 use Rattle.ghs_chain.specs.Kept.{AreChains, Kept, seen}

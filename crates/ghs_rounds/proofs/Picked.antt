@@ -9,21 +9,22 @@ use Rattle.ghs_node.specs.declared.message.Message.{Message}
 use Rattle.ghs_node.specs.Reaction.{reaction, requeues}
 use Rattle.ghs_node.specs.Words.{is_sleeping}
 use Rattle.ghs_node.proofs.lemmas.{is_sleeping_not}
-use Rattle.ghs_protocol.specs.declared.event.Event.{Event}
-use Rattle.ghs_protocol.specs.declared.event.Event.TheVariants.{Wake, Take}
-use Rattle.ghs_protocol.specs.Network.{Network}
-use Rattle.ghs_protocol.specs.Net.{Net, event_node, is_lawful_under, is_port, is_waiting}
+use Rattle.peer_network.specs.declared.event.Event.{Event}
+use Rattle.peer_network.specs.declared.event.Event.TheVariants.{Wake, Take}
+use Rattle.peer_network.specs.Network.{Network, is_port}
+use Rattle.ghs_protocol.specs.Net.{Net, is_lawful_under, is_waiting}
+use Rattle.peer_network.specs.Events.{event_node}
 use Rattle.ghs_protocol.specs.Run.{IsRun}
-use Rattle.ghs_protocol.proofs.lemmas.Events.{is_port_of}
+use Rattle.peer_network.proofs.lemmas.Events.{is_port_of}
 use Rattle.ghs_protocol.proofs.lemmas.Runs.{lawful_under}
 use Rattle.ghs_protocol.proofs.lemmas.Waiting.{waits_awake, waits_reaction}
 use Rattle.ghs_core.specs.NetState.{IsAnswer, IsLawful, NetState, delivery, net_of, network}
 use Rattle.ghs_core.proofs.lemmas.Waiting.{waits_so}
-use Rattle.ghs_index.specs.Places.{HasPlace, all_events}
+use Rattle.peer_index.specs.Places.{HasPlace, all_events}
 use Rattle.ghs_world.specs.Outs.{Outs, is_out}
 use Rattle.ghs_world.specs.Ready.{is_ready}
 use Rattle.ghs_world.specs.WorldState.{WorldState, home, may_happen, wakers}
-use Rattle.ghs_sched.specs.Picks.{IsPick}
+use Rattle.peer_schedule.specs.Picks.{IsPick}
 use Rattle.ghs_chain.specs.Chains.{Chains}
 use Rattle.ghs_chain.specs.Kept.{seen}
 use Rattle.ghs_patient.specs.Patience.{first_waits, moves_on, or_else, puts_back}

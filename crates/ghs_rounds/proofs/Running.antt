@@ -4,14 +4,14 @@ use Rattle.std.proofs.lemmas.Bool.{and_parts, ltb-true}
 use Rattle.std.proofs.lemmas.List.{length_push}
 use Rattle.ghs_graph.specs.Graph.{Shape}
 use Rattle.ghs_protocol.specs.Marks.{HasEnded}
-use Rattle.ghs_protocol.specs.Network.{Network}
+use Rattle.peer_network.specs.Network.{Network}
 use Rattle.ghs_core.specs.NetState.{network}
-use Rattle.ghs_world.specs.declared.wake_set.WakeSet.{WakeSet}
+use Rattle.peer_network.specs.declared.wake_set.WakeSet.{WakeSet}
 use Rattle.ghs_world.specs.Steps.{IsSameWorld}
 use Rattle.ghs_world.specs.Outs.{Outs}
-use Rattle.ghs_world.specs.Wakes.{may_wake}
+use Rattle.peer_network.specs.Wakes.{may_wake}
 use Rattle.ghs_world.specs.WorldState.{WorldState, has_turn, home, wakers}
-use Rattle.ghs_sched.specs.Picks.{IsPick}
+use Rattle.peer_schedule.specs.Picks.{IsPick}
 use Rattle.ghs_sched.proofs.lemmas.Runs.{still_going, turn_left}
 use Rattle.ghs_chain.specs.Chains.{Chains, chains_of, longest_chain}
 use Rattle.ghs_chain.proofs.lemmas.Bounding.{most_within}

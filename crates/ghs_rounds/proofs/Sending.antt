@@ -7,11 +7,12 @@ use Rattle.ghs_node.specs.declared.delta.Delta.{Delta}
 use Rattle.ghs_node.specs.declared.delta.Fate.{Fate}
 use Rattle.ghs_node.specs.declared.delta.Fate.TheVariants.{Requeued}
 use Rattle.ghs_node.specs.Words.{Outgoing, is_sleeping}
-use Rattle.ghs_protocol.specs.declared.event.Event.{Event}
-use Rattle.ghs_protocol.specs.declared.event.Event.TheVariants.{Wake, Take}
-use Rattle.ghs_protocol.specs.Network.{Network, far, far_port}
-use Rattle.ghs_protocol.specs.Net.{Net, event_node}
-use Rattle.ghs_protocol.proofs.lemmas.Updates.{one_place, put_at_hit, put_at_miss}
+use Rattle.peer_network.specs.declared.event.Event.{Event}
+use Rattle.peer_network.specs.declared.event.Event.TheVariants.{Wake, Take}
+use Rattle.peer_network.specs.Network.{Network, far, far_port}
+use Rattle.ghs_protocol.specs.Net.{Net}
+use Rattle.peer_network.specs.Events.{event_node}
+use Rattle.peer_network.proofs.lemmas.Updates.{one_place, put_at_hit, put_at_miss}
 use Rattle.ghs_world.specs.Upkeep.{changed}
 use Rattle.ghs_chain.specs.Chains.{Chains, behind, heard, hears, reacted, sent, sent_on, taken}
 use Rattle.ghs_chain.proofs.lemmas.Bounding.{Below, IsWithin, behind_below, heard_within, put_below, put_node, sent_within}

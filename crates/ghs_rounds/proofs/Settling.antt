@@ -5,21 +5,21 @@ use Rattle.std.proofs.lemmas.Bool.{and_from, and_parts, cases_Bool, le-leb}
 use Rattle.ghs_graph.specs.Graph.{Shape, IsGraph}
 use Rattle.ghs_graph.proofs.lemmas.Members.{filter_has, first_in, in_filter, nothing_in}
 use Rattle.ghs_node.specs.declared.message.Message.{Message}
-use Rattle.ghs_protocol.specs.declared.event.Event.{Event}
-use Rattle.ghs_protocol.specs.declared.event.Event.TheVariants.{Wake, Take}
+use Rattle.peer_network.specs.declared.event.Event.{Event}
+use Rattle.peer_network.specs.declared.event.Event.TheVariants.{Wake, Take}
 use Rattle.ghs_protocol.specs.Marks.{HasEnded}
-use Rattle.ghs_protocol.specs.Net.{Net, is_lawful_under, is_port, is_waiting, opening}
-use Rattle.ghs_protocol.specs.Network.{Network}
+use Rattle.ghs_protocol.specs.Net.{Net, is_lawful_under, is_waiting, opening}
+use Rattle.peer_network.specs.Network.{is_port, Network}
 use Rattle.ghs_protocol.specs.Run.{IsRun, run}
 use Rattle.ghs_protocol.specs.Schedules.{PatienceLasts}
-use Rattle.ghs_protocol.proofs.lemmas.Events.{is_port_of}
+use Rattle.peer_network.proofs.lemmas.Events.{is_port_of}
 use Rattle.ghs_protocol.proofs.lemmas.Queues.{all_first, all_rest}
 use Rattle.ghs_protocol.proofs.lemmas.Runs.{after_is_net}
 use Rattle.ghs_core.specs.NetState.{network}
-use Rattle.ghs_index.specs.Places.{all_events}
-use Rattle.ghs_index.proofs.lemmas.Marks.{is_for, mark_is}
+use Rattle.peer_index.specs.Places.{all_events}
+use Rattle.peer_index.proofs.lemmas.Marks.{is_for, mark_is}
 use Rattle.ghs_world.specs.WorldState.{WorldState, home, wakers}
-use Rattle.ghs_world.proofs.lemmas.Waking.{each_is_woken}
+use Rattle.peer_network.proofs.lemmas.Waking.{each_is_woken}
 use Rattle.std.proofs.lemmas.List.Elements.{All-nil}
 use Rattle.ghs_chain.specs.Chains.{Chains, no_chains}
 use Rattle.ghs_chain.specs.Kept.{Fits, seen}

@@ -17,29 +17,30 @@ use Rattle.ghs_node.specs.NodeState.{NodeState}
 use Rattle.ghs_node.specs.Reaction.{reaction}
 use Rattle.ghs_node.specs.Words.{is_sleeping}
 use Rattle.ghs_node.proofs.lemmas.{is_sleeping_not, reaction_inverts, row_awake, sleeping_is}
-use Rattle.ghs_protocol.specs.declared.event.Event.{Event}
-use Rattle.ghs_protocol.specs.declared.event.Event.TheVariants.{Wake, Take}
+use Rattle.peer_network.specs.declared.event.Event.{Event}
+use Rattle.peer_network.specs.declared.event.Event.TheVariants.{Wake, Take}
 use Rattle.ghs_protocol.specs.Interleavings.{EventsHaveRules, SendsWithinBound}
 use Rattle.ghs_protocol.specs.Laws.{IsLater, IsNetOf, LedgerBalances, NodesStayAwake, TakesAreCounted}
-use Rattle.ghs_protocol.specs.Ledger.{takes_in}
+use Rattle.peer_network.specs.Events.{takes_in, event_node}
 use Rattle.ghs_protocol.specs.Marks.{HasEnded}
-use Rattle.ghs_protocol.specs.Net.{Net, event_node, is_lawful, one_if_requeued, opening}
-use Rattle.ghs_protocol.specs.Network.{Network, network_of}
+use Rattle.ghs_protocol.specs.Net.{Net, is_lawful, one_if_requeued, opening}
+use Rattle.peer_network.specs.Network.{Network, network_of}
 use Rattle.ghs_protocol.specs.Run.{net_after}
-use Rattle.ghs_protocol.specs.Schedules.{AllMayWake, PatienceLasts}
+use Rattle.ghs_protocol.specs.Schedules.{PatienceLasts}
+use Rattle.peer_network.specs.Wakes.{AllMayWake}
 use Rattle.ghs_protocol.specs.Steps as steps
 use Rattle.ghs_protocol.specs.Steps.{Happens, Woke, Took}
 use Rattle.ghs_protocol.proofs.lemmas.Effects.{taken_here, taken_requeued}
-use Rattle.ghs_protocol.proofs.lemmas.Events.{is_port_of}
+use Rattle.peer_network.proofs.lemmas.Events.{is_port_of}
 use Rattle.ghs_protocol.proofs.lemmas.Runs.{after_is_net, after_more, lawful_under, net_after_is}
 use Rattle.ghs_protocol.proofs.lemmas.Sends.{node_here, requeued_now}
 use Rattle.ghs_protocol.proofs.lemmas.Woken.{asleep_or_not}
 use Rattle.ghs_core.specs.NetState.{delivery, work_at}
-use Rattle.ghs_index.specs.Places.{HasPlace, all_events}
-use Rattle.ghs_index.proofs.lemmas.Lists.{get_some}
-use Rattle.ghs_world.proofs.lemmas.Listed.{listed}
-use Rattle.ghs_sched.specs.Picks.{IsPick}
-use Rattle.ghs_sched.specs.Schedule.{next_of, word_of}
+use Rattle.peer_index.specs.Places.{HasPlace, all_events}
+use Rattle.peer_index.proofs.lemmas.Lists.{get_some}
+use Rattle.peer_index.proofs.lemmas.Listed.{listed}
+use Rattle.peer_schedule.specs.Picks.{IsPick}
+use Rattle.peer_schedule.specs.Schedule.{next_of, word_of}
 use Rattle.ghs_chain.specs.Chains.{Chains, chains_of, reacted}
 use Rattle.ghs_patient.specs.Patience.{first_waits, or_else, puts_back}
 use Rattle.ghs_patient.proofs.lemmas.Picks.{some_patient}

@@ -15,28 +15,31 @@ use Rattle.ghs_node.specs.NodeState.{NodeState, degree}
 use Rattle.ghs_node.specs.Reaction.{reaction, requeues}
 use Rattle.ghs_node.specs.Words.{is_sleeping}
 use Rattle.ghs_node.proofs.lemmas.{is_sleeping_not, sleeping_is}
-use Rattle.ghs_protocol.specs.declared.event.Event.{Event}
-use Rattle.ghs_protocol.specs.declared.event.Event.TheVariants.{Wake, Take}
+use Rattle.peer_network.specs.declared.event.Event.{Event}
+use Rattle.peer_network.specs.declared.event.Event.TheVariants.{Wake, Take}
 use Rattle.ghs_protocol.specs.Laws.{IsLater, IsNetOf, NodesStayAwake}
 use Rattle.ghs_protocol.specs.Living.{OneWaits, RequeuesAreWaits, Turned, WaitingTakesTurn, Waits}
-use Rattle.ghs_protocol.specs.Net.{Net, event_node, is_lawful, is_lawful_under, is_node, is_port, is_waiting, put}
-use Rattle.ghs_protocol.specs.Network.{At, Network, network_of}
+use Rattle.ghs_protocol.specs.Net.{Net, is_lawful, is_lawful_under, is_waiting}
+use Rattle.peer_network.specs.Network.{is_node, is_port, At, Network, network_of}
+use Rattle.peer_network.specs.Events.{event_node}
+use Rattle.peer_network.specs.Updates.{put}
 use Rattle.ghs_protocol.specs.Run.{and_then, run}
 use Rattle.ghs_protocol.specs.Schedules.{OthersLeaveAlone}
 use Rattle.ghs_protocol.specs.Steps.{Happens}
-use Rattle.ghs_protocol.proofs.lemmas.Events.{at_of, happens_so, is_port_of}
-use Rattle.ghs_protocol.proofs.lemmas.Graphs.{graph_few, graph_wired}
+use Rattle.ghs_protocol.proofs.lemmas.Events.{happens_so}
+use Rattle.peer_network.proofs.lemmas.Events.{at_of, is_port_of}
+use Rattle.peer_network.proofs.lemmas.Graphs.{graph_few, graph_wired}
 use Rattle.ghs_protocol.proofs.lemmas.Nodes.{ports_many}
 use Rattle.ghs_protocol.proofs.lemmas.Runs.{after_more}
-use Rattle.ghs_protocol.proofs.lemmas.Updates.{one_place, put_at_hit, put_at_miss, put_other, put_same}
+use Rattle.peer_network.proofs.lemmas.Updates.{one_place, put_at_hit, put_at_miss, put_other, put_same}
 use Rattle.ghs_protocol.proofs.lemmas.Waiting.{waits_awake, waits_reaction}
 use Rattle.ghs_protocol.proofs.lemmas.WellFormed.{after_formed}
 use Rattle.ghs_protocol.proofs.lemmas.Woken.{asleep_or_not}
 use Rattle.ghs_core.specs.NetState.{delivery, work_at}
 use Rattle.ghs_core.specs.Waits.{waits}
 use Rattle.ghs_core.proofs.lemmas.Waiting.{waits_so, waits_test}
-use Rattle.ghs_index.specs.Places.{all_events}
-use Rattle.ghs_world.proofs.lemmas.Listed.{listed}
+use Rattle.peer_index.specs.Places.{all_events}
+use Rattle.peer_index.proofs.lemmas.Listed.{listed}
 use Rattle.ghs_chain.specs.Chains.{Chains, hears, reacted, taken}
 use Rattle.ghs_chain.proofs.lemmas.Bounding.{IsWithin, more_within}
 use Rattle.ghs_patient.specs.Patience.{first_waits, moves_on, or_else, puts_back}

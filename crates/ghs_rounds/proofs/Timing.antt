@@ -7,13 +7,13 @@ use Rattle.ghs_node.specs.declared.delta.Fate.TheVariants.{Consumed, Requeued}
 use Rattle.ghs_node.specs.declared.message.Message.{Message}
 use Rattle.ghs_node.specs.NodeState.{NodeState}
 use Rattle.ghs_node.specs.Words.{Outgoing}
-use Rattle.ghs_protocol.specs.declared.event.Event.{Event}
-use Rattle.ghs_protocol.specs.declared.event.Event.TheVariants.{Wake, Take}
+use Rattle.peer_network.specs.declared.event.Event.{Event}
+use Rattle.peer_network.specs.declared.event.Event.TheVariants.{Wake, Take}
 use Rattle.ghs_protocol.specs.Living.{Waits}
-use Rattle.ghs_protocol.specs.Net.{event_node}
-use Rattle.ghs_protocol.specs.Network.{Network, far, far_port}
+use Rattle.peer_network.specs.Events.{event_node}
+use Rattle.peer_network.specs.Network.{Network, far, far_port}
 use Rattle.ghs_protocol.proofs.lemmas.Queues.{all_first, all_rest}
-use Rattle.ghs_protocol.proofs.lemmas.Updates.{one_place, put_at_hit, put_at_miss}
+use Rattle.peer_network.proofs.lemmas.Updates.{one_place, put_at_hit, put_at_miss}
 use Rattle.ghs_chain.specs.Chains.{Chains, behind, heard, hears, sent, sent_on, taken}
 
 -- Of a queue: who takes from its front what doesn't wait, takes a message that arrives in round r or later, if it hasn't waited before one that does.

@@ -12,22 +12,25 @@ use Rattle.ghs_node.specs.declared.message.Message.{Message}
 use Rattle.ghs_node.specs.NodeState.{NodeState}
 use Rattle.ghs_node.specs.Reaction.{reaction}
 use Rattle.ghs_node.specs.Words.{is_sleeping}
-use Rattle.ghs_protocol.specs.declared.event.Event.{Event}
-use Rattle.ghs_protocol.specs.declared.event.Event.TheVariants.{Wake, Take}
+use Rattle.peer_network.specs.declared.event.Event.{Event}
+use Rattle.peer_network.specs.declared.event.Event.TheVariants.{Wake, Take}
 use Rattle.ghs_protocol.specs.Interleavings.{EventsHaveRules}
 use Rattle.ghs_protocol.specs.Laws.{IsNetOf}
 use Rattle.ghs_protocol.specs.Marks.{HasEnded, HasHalted}
-use Rattle.ghs_protocol.specs.Net.{Net, effect, event_node, happens, is_lawful, is_lawful_under, opening}
-use Rattle.ghs_protocol.specs.Network.{At, Network, network_of}
+use Rattle.ghs_protocol.specs.Net.{Net, effect, happens, is_lawful, is_lawful_under, opening}
+use Rattle.peer_network.specs.Events.{event_node}
+use Rattle.peer_network.specs.Network.{At, Network, network_of}
 use Rattle.ghs_protocol.specs.Run.{IsAfter, IsRun, net_after, run}
-use Rattle.ghs_protocol.specs.Schedules.{AllMayWake, PatienceLasts}
+use Rattle.ghs_protocol.specs.Schedules.{PatienceLasts}
+use Rattle.peer_network.specs.Wakes.{AllMayWake}
 use Rattle.ghs_protocol.specs.Steps.{Happens, Woke, Took}
-use Rattle.ghs_protocol.proofs.lemmas.Events.{happening, happens_so, is_port_of, lawful_happens}
+use Rattle.ghs_protocol.proofs.lemmas.Events.{happening, happens_so, lawful_happens}
+use Rattle.peer_network.proofs.lemmas.Events.{is_port_of}
 use Rattle.ghs_protocol.proofs.lemmas.Runs.{after_is_net, after_more, lawful_under, net_after_is, net_after_more}
 use Rattle.ghs_core.specs.NetState.{delivery, work_at}
-use Rattle.ghs_index.specs.Places.{HasPlace, all_events}
-use Rattle.ghs_world.proofs.lemmas.Listed.{listed}
-use Rattle.ghs_sched.specs.Picks.{IsPick}
+use Rattle.peer_index.specs.Places.{HasPlace, all_events}
+use Rattle.peer_index.proofs.lemmas.Listed.{listed}
+use Rattle.peer_schedule.specs.Picks.{IsPick}
 use Rattle.ghs_chain.specs.Chains.{Chains, answered, chains_after, chains_of, chains_then, hears, longest_chain, most_below, no_chains, reacted}
 use Rattle.ghs_chain.proofs.lemmas.Bounding.{IsWithin, most_within}
 use Rattle.ghs_chain.proofs.lemmas.Following.{chains_more}

@@ -1,16 +1,16 @@
 -- What is kept of a world and a clock from event to event, so that a pick of a round needs no look over all events.
 use Rattle.std.specs.Prelude.{◌≡◌, ◌⊎◌, ℕ, suc, ◌<◌, ◌≤◌, Bool, List, [], ◌++◌, length, slice_set}
 use Rattle.std.specs.List.{All, Contains}
-use Rattle.ghs_protocol.specs.declared.event.Event.{Event}
-use Rattle.ghs_protocol.specs.declared.event.Event.TheVariants.{Wake, Take}
-use Rattle.ghs_protocol.specs.Network.{Network}
+use Rattle.peer_network.specs.declared.event.Event.{Event}
+use Rattle.peer_network.specs.declared.event.Event.TheVariants.{Wake, Take}
+use Rattle.peer_network.specs.Network.{Network}
 use Rattle.ghs_core.specs.NetState.{network}
 use Rattle.ghs_flags.specs.Flags.{at}
-use Rattle.ghs_index.specs.Index.{IndexState, IsFor, IsIndexOf}
-use Rattle.ghs_index.specs.Places.{HasPlace, place}
+use Rattle.peer_index.specs.Index.{IndexState, IsFor, IsIndexOf}
+use Rattle.peer_index.specs.Places.{HasPlace, place}
 use Rattle.ghs_world.specs.WorldState.{WorldState, home, wakers}
 use Rattle.ghs_node.specs.declared.delta.Delta.{Delta}
-use Rattle.ghs_protocol.specs.Net.{event_node}
+use Rattle.peer_network.specs.Events.{event_node}
 use Rattle.ghs_chain.specs.Chains.{reacted}
 use Rattle.ghs_chain.specs.Kept.{AreChains, SamePlaces, seen}
 use Rattle.ghs_patient.specs.Choices.{far_takes}

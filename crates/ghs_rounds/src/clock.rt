@@ -2,8 +2,8 @@
 ghost use Rattle.ghs_chain.specs.Chains.{hears, no_chains, sent};
 ghost use Rattle.ghs_chain.specs.Kept.{Fits, HasPlace, HasPlaceOf, SamePlaces, seen};
 ghost use Rattle.ghs_graph.specs.Ports.{ports_of};
-ghost use Rattle.ghs_protocol.specs.Net.{event_node};
-ghost use Rattle.ghs_protocol.specs.Network.{far, far_port, network_of};
+ghost use Rattle.peer_network.specs.Events.{event_node};
+ghost use Rattle.peer_network.specs.Network.{far, far_port, network_of};
 ghost use Rattle.ghs_rounds.specs.Rounds.{has_due_second, is_by, is_due};
 ghost use Rattle.std.specs.List.{All};
 ghost use Rattle.std.specs.Prelude.{◌≡◌, ℕ, ◌-◌, ◌<◌, ◌≤◌, ◌^◌, suc, IfOk, length, OnOk};
@@ -12,7 +12,7 @@ use ghs_chain::chains::Chains;
 use ghs_core::net::node_of;
 use ghs_graph::graph::Graph;
 use ghs_node::delta::Delta;
-use ghs_protocol::event::Event;
+use peer_network::event::Event;
 use std::alloc::{AllocError, Global};
 use std::marker::Model;
 

@@ -11,8 +11,8 @@ ghost use Rattle.std.specs.Prelude.{IfErr, IfOk, OnErr, [], ◌≡◌, ◌≤◌
 use crate::rounds::Rounds;
 use ghs_sched::fault::RunFault;
 use ghs_sched::run::{RunEnd, end_of};
-use ghs_sched::schedule::Schedule;
 use ghs_world::world::World;
+use peer_schedule::schedule::Schedule;
 use std::alloc::Global;
 
 /// Runs a world from its opening on by rounds until the run has ended, and says in how many. All that is out is recalled

@@ -2,9 +2,9 @@
 use crate::comparing::assert_same_of;
 use crate::nets::{net_of, play_all};
 use ghs_bits::run::bits_of;
-use ghs_sched::trace::read_trace;
 use ghs_test_graphs::graphs::{LONE_NODE, PAIR, PATH_OF_FIVE, TRIANGLE};
 use ghs_test_graphs::traces::{PAIR_TRACE, PATH_OF_FIVE_TRACE, TRIANGLE_TRACE};
+use peer_texts::trace::read_trace;
 use std::alloc::Global;
 use std::process::Abort;
 

@@ -7,10 +7,10 @@ use ghs_core::ledger::Ledger;
 use ghs_graph::key::Key;
 use ghs_report::report_text::ReportFault;
 use ghs_report::run_text::run_text;
-use ghs_sched::trace::EVENT_LIMIT;
 use ghs_test_graphs::graphs::{PAIR, PATH_OF_FIVE, PATH_OF_FOUR, TRIANGLE};
-use ghs_world::wake_set::WakeSet;
 use ghs_world::world::World;
+use peer_network::wake_set::WakeSet;
+use peer_texts::trace::EVENT_LIMIT;
 use std::alloc::Global;
 use std::process::Abort;
 

@@ -4,11 +4,11 @@ use crate::worlds::{check_out, let_go, world_of};
 use ghs_core::event::Event;
 use ghs_sched::fault::RunFault;
 use ghs_sched::run::{RunEnd, run_seeded};
-use ghs_sched::schedule::Schedule;
-use ghs_sched::trace::EVENT_LIMIT;
 use ghs_test_graphs::graphs::PAIR;
-use ghs_world::wake_set::WakeSet;
 use ghs_world::world::World;
+use peer_network::wake_set::WakeSet;
+use peer_schedule::schedule::Schedule;
+use peer_texts::trace::EVENT_LIMIT;
 use std::alloc::Global;
 use std::process::Abort;
 

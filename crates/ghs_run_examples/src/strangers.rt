@@ -2,12 +2,12 @@
 use crate::comparing::assert_same;
 use crate::worlds::{check_out, commit, do_all, hold, let_go, path, step_of, world_of};
 use ghs_core::event::Event;
-use ghs_sched::trace::EVENT_LIMIT;
 use ghs_test_graphs::graphs::HEAVIER_PATH_OF_THREE;
 use ghs_world::fault::{BackFault, CommitFault};
 use ghs_world::ticket::{Step, Ticket};
-use ghs_world::wake_set::WakeSet;
 use ghs_world::world::World;
+use peer_network::wake_set::WakeSet;
+use peer_texts::trace::EVENT_LIMIT;
 use std::alloc::Global;
 use std::process::Abort;
 

@@ -3,14 +3,14 @@ use crate::comparing::{assert_same, assert_same_of};
 use ghs_core::event::Event;
 use ghs_graph::key::Key;
 use ghs_report::run_text::run_text;
-use ghs_sched::trace::EVENT_LIMIT;
 use ghs_test_graphs::build::graph_of;
 use ghs_test_graphs::graphs::{PATH_OF_THREE, TWO_PAIRS_AND_NODE};
 use ghs_world::fault::OutFault;
 use ghs_world::ticket::{Step, Ticket};
-use ghs_world::wake_set::WakeSet;
 use ghs_world::woken::Committed;
 use ghs_world::world::World;
+use peer_network::wake_set::WakeSet;
+use peer_texts::trace::EVENT_LIMIT;
 use std::alloc::Global;
 use std::process::Abort;
 

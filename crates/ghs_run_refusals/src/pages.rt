@@ -1,5 +1,5 @@
 //! The pages of a stored run, and of two.
-ghost use Rattle.ghs_sched.specs.declared.trace.TheConstants.{EVENT_LIMIT};
+ghost use Rattle.peer_texts.specs.declared.trace.TheConstants.{EVENT_LIMIT};
 ghost use Rattle.std.specs.Prelude.{◌≤◌, length};
 
 use crate::comparing::assert_same;
@@ -7,10 +7,10 @@ use ghs_core::event::Event;
 use ghs_graph::graph::Graph;
 use ghs_refusing::orders::{Turn, order, refuse, turn_of};
 use ghs_refusing::scenes::{events_of_run, five};
-use ghs_sched::trace::EVENT_LIMIT;
 use ghs_view::stored::{StoredFault, stored_page};
 use ghs_view::stored_pair::{StoredPairFault, stored_pair_page};
-use ghs_world::wake_set::WakeSet;
+use peer_network::wake_set::WakeSet;
+use peer_texts::trace::EVENT_LIMIT;
 use std::alloc::{AllocError, Global};
 use std::process::Abort;
 use std::test::Fail;

@@ -17,13 +17,14 @@ use ghs_refusing::orders::{Turn, order, refuse, turn_of};
 use ghs_refusing::scenes::{
     are_same, events_of_run, five, has_ended, is_five, let_go, opening, world_after,
 };
-use ghs_sched::fault::{ReplayFault, RunFault};
+use ghs_sched::fault::RunFault;
 use ghs_sched::replay::replay;
 use ghs_sched::run::run_seeded;
-use ghs_sched::schedule::Schedule;
-use ghs_sched::trace::EVENT_LIMIT;
-use ghs_world::wake_set::WakeSet;
 use ghs_world::world::World;
+use peer_network::wake_set::WakeSet;
+use peer_schedule::fault::ReplayFault;
+use peer_schedule::schedule::Schedule;
+use peer_texts::trace::EVENT_LIMIT;
 use std::alloc::Global;
 use std::process::Abort;
 use std::sync::Wait;

@@ -1,5 +1,5 @@
 //! Texts: of numbers, trees, traces and steps.
-ghost use Rattle.ghs_sched.specs.declared.trace.TheConstants.{EVENT_LIMIT};
+ghost use Rattle.peer_texts.specs.declared.trace.TheConstants.{EVENT_LIMIT};
 ghost use Rattle.std.specs.Prelude.{◌≤◌, length};
 
 use crate::comparing::assert_same;
@@ -15,10 +15,10 @@ use ghs_page::page::page;
 use ghs_refusing::orders::{Turn, order, refuse, turn_of};
 use ghs_refusing::scenes::{events_of_run, five};
 use ghs_report::tree_text::tree_text;
-use ghs_sched::fault::TraceFault;
-use ghs_sched::trace::{EVENT_LIMIT, read_trace, write_trace};
 use ghs_steps::show::{StepsFault, write_steps};
-use ghs_world::wake_set::WakeSet;
+use peer_network::wake_set::WakeSet;
+use peer_texts::fault::TraceFault;
+use peer_texts::trace::{EVENT_LIMIT, read_trace, write_trace};
 use peer_trace::fault::StoredFault;
 use peer_trace::protocol::Protocol;
 use peer_trace::trace::{read_trace_of, write_trace_of};

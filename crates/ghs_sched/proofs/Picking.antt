@@ -4,11 +4,12 @@ use Rattle.std.proofs.lemmas.Bool.{cases_lt}
 use Rattle.std.proofs.lemmas.List.{take-append-le}
 use Rattle.std.proofs.lemmas.Option.{same_Some}
 use Rattle.ghs_graph.specs.Graph.{Shape}
-use Rattle.ghs_protocol.specs.declared.event.Event.{Event}
+use Rattle.peer_network.specs.declared.event.Event.{Event}
 use Rattle.ghs_protocol.specs.Marks.{HasEnded}
 use Rattle.ghs_protocol.specs.Run.{net_after}
-use Rattle.ghs_sched.specs.Picks.{Begun, IsPick, IsPicked, IsSeededRun, Picked, PicksAreOne, SeededRunIsOne, lawful_events}
-use Rattle.ghs_sched.specs.Schedule.{next_of, word_of}
+use Rattle.ghs_sched.specs.Picks.{Begun, IsPicked, IsSeededRun, Picked, PicksAreOne, SeededRunIsOne, lawful_events}
+use Rattle.peer_schedule.specs.Picks.{IsPick}
+use Rattle.peer_schedule.specs.Schedule.{next_of, word_of}
 
 module _ (may : ℕ → Bool) (g : Shape) (turns : ℕ) (trace : List Event) (words : List ℕ) where
   longer : {es : List Event} {s : List ℕ} → IsPicked may g turns trace words es s → length trace ≤ length es

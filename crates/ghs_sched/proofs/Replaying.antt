@@ -4,17 +4,18 @@ use Rattle.std.proofs.Math.Seq.{split_at}
 use Rattle.std.proofs.lemmas.Bool.{false≢true}
 use Rattle.std.proofs.lemmas.Option.{same_Some, slice_get-get_or}
 use Rattle.ghs_graph.specs.Graph.{Shape}
-use Rattle.ghs_protocol.specs.declared.event.Event.{Event}
-use Rattle.ghs_protocol.specs.Network.{Network, network_of}
+use Rattle.peer_network.specs.declared.event.Event.{Event}
+use Rattle.peer_network.specs.Network.{Network, network_of}
 use Rattle.ghs_protocol.specs.Net.{Net, effect, happens, is_lawful, is_lawful_under, opening}
-use Rattle.ghs_protocol.specs.Run.{IsRunUnder, MayWake, net_after, run}
-use Rattle.ghs_protocol.proofs.lemmas.Events.{if_some}
+use Rattle.ghs_protocol.specs.Run.{IsRunUnder, net_after, run}
+use Rattle.peer_network.specs.Events.{MayWake}
+use Rattle.peer_network.proofs.lemmas.Events.{if_some}
 use Rattle.ghs_protocol.proofs.lemmas.Runs.{both_some, lawful_under, net_after_is, run_splits}
 use Rattle.ghs_core.specs.NetState.{event_node, network}
-use Rattle.ghs_world.specs.declared.wake_set.WakeSet.{WakeSet}
+use Rattle.peer_network.specs.declared.wake_set.WakeSet.{WakeSet}
 use Rattle.ghs_world.specs.Outs.{is_out}
 use Rattle.ghs_world.specs.Ready.{is_ready}
-use Rattle.ghs_world.specs.Wakes.{may_wake}
+use Rattle.peer_network.specs.Wakes.{may_wake}
 use Rattle.ghs_world.specs.WorldState.{WorldState, may_happen, wakers}
 use Rattle.ghs_sched.specs.Replays.{HasReplayed, IsFirstUnlawful}
 

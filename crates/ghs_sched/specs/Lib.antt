@@ -1,10 +1,4 @@
 -- To be believed: contracts cite what stands here, and what it is made of.
-pub mod Laws
-pub mod Line
 pub mod Picks
-pub mod Reading
-pub mod Reads
 pub mod Replays
 pub mod Runs
-pub mod Schedule
-pub mod Text

@@ -1,21 +1,18 @@
 -- Runs whose events a schedule picks.
-use Rattle.std.specs.Prelude.{◌≡◌, ℕ, ◌%◌, ◌<◌, ◌≤◌, ◌⊎◌, Bool, Some, List, [], ◌∷◌, ◌++◌, filter, length, slice_get, take}
+use Rattle.std.specs.Prelude.{◌≡◌, ℕ, ◌<◌, ◌≤◌, ◌⊎◌, Bool, List, [], ◌∷◌, ◌++◌, filter, length, take}
 use Rattle.ghs_graph.specs.Graph.{Shape}
-use Rattle.ghs_protocol.specs.declared.event.Event.{Event}
+use Rattle.peer_network.specs.declared.event.Event.{Event}
 use Rattle.ghs_protocol.specs.Marks.{HasEnded}
 use Rattle.ghs_protocol.specs.Net.{is_lawful_under}
-use Rattle.ghs_protocol.specs.Network.{network_of}
+use Rattle.peer_network.specs.Network.{network_of}
 use Rattle.ghs_protocol.specs.Run.{net_after}
-use Rattle.ghs_world.specs.Ready.{all_events}
-use Rattle.ghs_sched.specs.Schedule.{next_of, word_of}
+use Rattle.peer_index.specs.Places.{all_events}
+use Rattle.peer_schedule.specs.Picks.{IsPick, PicksAgree}
+use Rattle.peer_schedule.specs.Schedule.{next_of}
 
 -- the lawful events of the net after a trace, by node, Wake before ports, ports rising
 abbrev pub lawful_events : (ℕ → Bool) → Shape → List Event → List Event
 lawful_events may g es = filter (is_lawful_under may (network_of g) (net_after g es)) (all_events (network_of g))
-
--- event e is the one that the next word picks of them
-abbrev pub IsPick : List Event → List ℕ → Event → Type 0
-IsPick events words e = (0 < length events) × (slice_get events (word_of words % length events) ≡ Some e)
 
 -- which events a schedule picks from after a trace
 abbrev pub Offers : Type 0
@@ -42,12 +39,6 @@ IsOver may g turns es = HasEnded g (net_after g es) ⊎ (turns ≤ length es) �
 pub record IsSeededRun (may : ℕ → Bool) (g : Shape) (turns : ℕ) (trace : List Event) (words : List ℕ) (es : List Event) (s : List ℕ) : Type 0 where
   pub picked : IsPicked may g turns trace words es s
   pub over : IsOver may g turns es
-
--- of two lists that a schedule has picked from one trace on the longer begins with the other; where they have one length,
--- the schedule's states are the same too
-pub record PicksAgree (es fs : List Event) (s t : List ℕ) : Type 0 where
-  pub begins : length es ≤ length fs → take (length es) fs ≡ es
-  pub state : length es ≡ length fs → s ≡ t
 
 abbrev pub PicksAreOne : Type 0
 PicksAreOne =

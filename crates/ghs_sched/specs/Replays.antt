@@ -1,16 +1,16 @@
 -- Runs done again.
 use Rattle.std.specs.Prelude.{◌≡◌, ℕ, ◌-◌, ◌≤◌, false, Some, List, [], length, take, slice_get}
 use Rattle.ghs_graph.specs.Graph.{Shape}
-use Rattle.ghs_protocol.specs.declared.event.Event.{Event}
-use Rattle.ghs_protocol.specs.Network.{network_of}
+use Rattle.peer_network.specs.declared.event.Event.{Event}
+use Rattle.peer_network.specs.Network.{network_of}
 use Rattle.ghs_protocol.specs.Net.{is_lawful_under}
 use Rattle.ghs_protocol.specs.Run.{net_after, IsRunUnder}
-use Rattle.ghs_world.specs.declared.wake_set.WakeSet.{WakeSet}
-use Rattle.ghs_world.specs.Wakes.{may_wake}
+use Rattle.peer_network.specs.declared.wake_set.WakeSet.{WakeSet}
+use Rattle.peer_network.specs.Wakes.{may_wake}
 use Rattle.ghs_world.specs.WorldState.{WorldState}
-use Rattle.ghs_sched.specs.declared.fault.ReplayFault.{ReplayFault}
-use Rattle.ghs_sched.specs.declared.fault.ReplayFault.TheVariants.{NotLawful, Unforeseen, Memory}
-use Rattle.ghs_sched.specs.declared.trace.TheConstants.{EVENT_LIMIT}
+use Rattle.peer_schedule.specs.declared.fault.ReplayFault.{ReplayFault}
+use Rattle.peer_schedule.specs.declared.fault.ReplayFault.TheVariants.{NotLawful, Unforeseen, Memory}
+use Rattle.peer_texts.specs.declared.trace.TheConstants.{EVENT_LIMIT}
 
 -- the world of the graph after these events: nothing is out, and turns are left as far as they may go
 pub record HasReplayed (g : Shape) (wake : WakeSet) (events : List Event) (s : WorldState) : Type 0 where

@@ -1,13 +1,14 @@
 -- Seeded runs: what they leave of a world and a schedule, and how they end.
 use Rattle.std.specs.Prelude.{◌≡◌, ℕ, ◌+◌, ◌≤◌, ◌⊎◌, Some, List, [], length}
-use Rattle.ghs_protocol.specs.declared.event.Event.{Event}
+use Rattle.peer_network.specs.declared.event.Event.{Event}
 use Rattle.ghs_protocol.specs.Marks.{HasEnded}
 use Rattle.ghs_core.specs.NetState.{IsLeastHalted, network}
 use Rattle.ghs_world.specs.Ready.{ready_events}
 use Rattle.ghs_world.specs.Steps.{Makes}
 use Rattle.ghs_world.specs.WorldState.{WorldState, home, wakers}
-use Rattle.ghs_sched.specs.Picks.{IsPick, IsPickedAmong, IsSeededRun, Offers, lawful_events}
-use Rattle.ghs_sched.specs.Schedule.{next_of}
+use Rattle.ghs_sched.specs.Picks.{IsPickedAmong, IsSeededRun, Offers, lawful_events}
+use Rattle.peer_schedule.specs.Picks.{IsPick}
+use Rattle.peer_schedule.specs.Schedule.{next_of}
 use Rattle.ghs_sched.specs.declared.fault.RunFault.{RunFault}
 use Rattle.ghs_sched.specs.declared.fault.RunFault.TheVariants.{TurnLimit, Stalled, Unforeseen, Memory}
 use Rattle.ghs_sched.specs.declared.run.RunEnd.{RunEnd}

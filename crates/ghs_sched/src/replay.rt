@@ -1,18 +1,18 @@
 //! Runs done again.
-ghost use Rattle.ghs_protocol.specs.Network.{network_of};
+ghost use Rattle.peer_network.specs.Network.{network_of};
 ghost use Rattle.ghs_protocol.specs.Run.{IsRunUnder};
 ghost use Rattle.ghs_sched.specs.Replays.{CantReplay, HasReplayed};
-ghost use Rattle.ghs_sched.specs.declared.fault.ReplayFault.TheVariants.{Memory};
+ghost use Rattle.peer_schedule.specs.declared.fault.ReplayFault.TheVariants.{Memory};
 ghost use Rattle.ghs_world.specs.Ready.{is_ready};
-ghost use Rattle.ghs_world.specs.Wakes.{may_wake};
+ghost use Rattle.peer_network.specs.Wakes.{may_wake};
 ghost use Rattle.std.specs.Prelude.{IfErr, IfOk, length, ◌≡◌, ◌≤◌};
 
-use crate::fault::ReplayFault;
-use crate::trace::EVENT_LIMIT;
 use ghs_graph::graph::Graph;
-use ghs_protocol::event::Event;
-use ghs_world::wake_set::WakeSet;
 use ghs_world::world::World;
+use peer_network::event::Event;
+use peer_network::wake_set::WakeSet;
+use peer_schedule::fault::ReplayFault;
+use peer_texts::trace::EVENT_LIMIT;
 use std::alloc::Global;
 
 /// The world that a list of events leaves, done in order from the opening of the graph on: nothing is out, and there are

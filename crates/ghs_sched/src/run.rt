@@ -8,8 +8,8 @@ ghost use Rattle.ghs_world.specs.WorldState.{has_turn, home};
 ghost use Rattle.std.specs.Prelude.{IfErr, IfOk, OnErr, OnOk, [], true, ◌<◌, ◌≡◌, ◌-◌, ◌^◌};
 
 use crate::fault::RunFault;
-use crate::schedule::Schedule;
 use ghs_world::world::World;
+use peer_schedule::schedule::Schedule;
 use std::alloc::{AllocError, Global};
 
 /// How a run ends.

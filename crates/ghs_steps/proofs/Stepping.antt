@@ -14,12 +14,13 @@ use Rattle.ghs_node.specs.Reaction.{reaction}
 use Rattle.ghs_node.specs.RowName.{row_name}
 use Rattle.ghs_steps.specs.declared.change.Change.{Change}
 use Rattle.ghs_steps.specs.declared.sent.Sent.{Sent}
-use Rattle.ghs_protocol.specs.declared.event.Event.{Event}
-use Rattle.ghs_protocol.specs.Network.{network_of}
+use Rattle.peer_network.specs.declared.event.Event.{Event}
+use Rattle.peer_network.specs.Network.{network_of}
 use Rattle.ghs_protocol.specs.Ledger.{in_all}
-use Rattle.ghs_protocol.specs.Net.{effect, event_node, happens, is_lawful, opening}
+use Rattle.ghs_protocol.specs.Net.{effect, happens, is_lawful, opening}
+use Rattle.peer_network.specs.Events.{event_node}
 use Rattle.ghs_protocol.specs.Run.{IsRun, net_after, run}
-use Rattle.ghs_protocol.proofs.lemmas.Events.{if_some}
+use Rattle.peer_network.proofs.lemmas.Events.{if_some}
 use Rattle.ghs_protocol.proofs.lemmas.Runs.{both_some, net_after_is, run_splits}
 use Rattle.ghs_core.specs.NetState.{NetState, net_of, work_at}
 use Rattle.ghs_choices.specs.declared.choice.Choice.{Choice}

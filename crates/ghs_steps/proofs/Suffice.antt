@@ -9,14 +9,15 @@ use Rattle.ghs_node.specs.NodeState.{NodeState, degree}
 use Rattle.ghs_node.specs.Reaction.{HasPort, after, reaction, requeues}
 use Rattle.ghs_node.specs.Words.{Outgoing}
 use Rattle.ghs_node.proofs.lemmas.{reaction_inverts, row_halts}
-use Rattle.ghs_protocol.specs.declared.event.Event.{Event}
-use Rattle.ghs_protocol.specs.declared.event.Event.TheVariants as events
-use Rattle.ghs_protocol.specs.Net.{Net, change, happens, left_of, opening, put, put_at, send, send_all, take_first}
-use Rattle.ghs_protocol.specs.Network.{network_of}
+use Rattle.peer_network.specs.declared.event.Event.{Event}
+use Rattle.peer_network.specs.declared.event.Event.TheVariants as events
+use Rattle.ghs_protocol.specs.Net.{Net, change, happens, left_of, opening, send, send_all, take_first}
+use Rattle.peer_network.specs.Updates.{put, put_at}
+use Rattle.peer_network.specs.Network.{network_of}
 use Rattle.ghs_protocol.specs.Run.{IsAfter, net_after, run}
 use Rattle.ghs_protocol.specs.Steps.{Happens, Woke, Took}
 use Rattle.ghs_protocol.proofs.lemmas.Events.{happening}
-use Rattle.ghs_protocol.proofs.lemmas.Graphs.{graph_few, graph_wired}
+use Rattle.peer_network.proofs.lemmas.Graphs.{graph_few, graph_wired}
 use Rattle.ghs_protocol.proofs.lemmas.Nodes.{ports_many}
 use Rattle.ghs_protocol.proofs.lemmas.Runs.{after_more, both_some, net_after_is, run_splits}
 use Rattle.ghs_protocol.proofs.lemmas.WellFormed.{IsWellFormed, after_formed}

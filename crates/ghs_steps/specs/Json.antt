@@ -9,8 +9,8 @@ use Rattle.ghs_node.specs.declared.row_name.RowName.{RowName}
 use Rattle.ghs_node.specs.declared.work.Work.{Work}
 use Rattle.ghs_node.specs.declared.work.Work.TheVariants.{Wake, Deliver}
 use Rattle.ghs_node.specs.Words.{Best}
-use Rattle.ghs_protocol.specs.declared.event.Event.{Event}
-use Rattle.ghs_protocol.specs.Net.{event_node}
+use Rattle.peer_network.specs.declared.event.Event.{Event}
+use Rattle.peer_network.specs.Events.{event_node}
 use Rattle.ghs_steps.specs.declared.change.Change.{Change}
 use Rattle.ghs_steps.specs.declared.change.Change.TheVariants as change
 use Rattle.ghs_steps.specs.declared.moment.Moment.{Moment}

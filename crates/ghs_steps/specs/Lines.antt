@@ -2,7 +2,7 @@
 use Rattle.std.specs.Prelude.{ℕ, List, [], ◌∷◌}
 use Rattle.std.specs.List.{flat_map}
 use Rattle.ghs_graph.specs.Graph.{Shape}
-use Rattle.ghs_protocol.specs.declared.event.Event.{Event}
+use Rattle.peer_network.specs.declared.event.Event.{Event}
 use Rattle.ghs_choices.specs.declared.choice.Choice.{Choice}
 use Rattle.ghs_choices.specs.declared.form.Form.{Form}
 use Rattle.ghs_choices.specs.declared.form.Form.TheVariants.{Text, Json}

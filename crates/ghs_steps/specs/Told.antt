@@ -2,9 +2,9 @@
 use Rattle.std.specs.Prelude.{ℕ, Option, Some, None, List}
 use Rattle.ghs_graph.specs.Graph.{Shape}
 use Rattle.ghs_node.specs.declared.message.Message.{Message}
-use Rattle.ghs_protocol.specs.declared.event.Event.{Event}
-use Rattle.ghs_protocol.specs.declared.event.Event.TheVariants.{Wake, Take}
-use Rattle.ghs_protocol.specs.Network.{network_of, far, port_at}
+use Rattle.peer_network.specs.declared.event.Event.{Event}
+use Rattle.peer_network.specs.declared.event.Event.TheVariants.{Wake, Take}
+use Rattle.peer_network.specs.Network.{network_of, far, port_at}
 use Rattle.ghs_steps.specs.declared.change.Change.{Change}
 use Rattle.ghs_steps.specs.declared.moment.Moment.{Moment}
 use Rattle.ghs_steps.specs.declared.sent.Sent.{Sent}

@@ -1,7 +1,7 @@
 //! Laws of the definitions, which cost nothing to call.
 ghost use Rattle.std.specs.Prelude.{List};
 ghost use Rattle.ghs_graph.specs.Graph.{IsGraph, Shape};
-ghost use Rattle.ghs_protocol.specs.declared.event.Event.{Event};
+ghost use Rattle.peer_network.specs.declared.event.Event.{Event};
 ghost use Rattle.ghs_steps.specs.Deltas.{DeltasSuffice};
 
 /// What the lines of a run say of marks, variables, fates and sends is enough: from the state at any moment of a run they

@@ -1,7 +1,7 @@
 //! Messages that go out, with the places where they will wait.
 ghost use Rattle.std.specs.Prelude.{◌≡◌, ◌≤◌, IfOk, map};
-ghost use Rattle.ghs_protocol.specs.Net.{event_node};
-ghost use Rattle.ghs_protocol.specs.Network.{network_of, port_at};
+ghost use Rattle.peer_network.specs.Events.{event_node};
+ghost use Rattle.peer_network.specs.Network.{network_of, port_at};
 ghost use Rattle.ghs_steps.specs.Told.{event_far, sent_by};
 
 use ghs_core::event::Event;

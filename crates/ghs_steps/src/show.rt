@@ -1,10 +1,10 @@
 //! The steps of a stored run, judged and written out.
 ghost use Rattle.std.specs.Prelude.{◌≡◌, ◌≤◌, false, length, true, IfErr, MatchResult, OnOk};
 ghost use Rattle.std.specs.Io.KnownBytes.{Appends};
-ghost use Rattle.ghs_protocol.specs.Network.{network_of};
+ghost use Rattle.peer_network.specs.Network.{network_of};
 ghost use Rattle.ghs_protocol.specs.Run.{IsRunUnder};
-ghost use Rattle.ghs_sched.specs.declared.trace.TheConstants.{EVENT_LIMIT};
-ghost use Rattle.ghs_world.specs.Wakes.{may_wake};
+ghost use Rattle.peer_texts.specs.declared.trace.TheConstants.{EVENT_LIMIT};
+ghost use Rattle.peer_network.specs.Wakes.{may_wake};
 ghost use Rattle.ghs_steps.specs.Shown.{CantShow, is_unlawful, is_write};
 ghost use Rattle.ghs_steps.specs.Lines.{lines};
 
@@ -15,9 +15,9 @@ use ghs_core::event::Event;
 use ghs_gr::device::Sink;
 use ghs_graph::graph::Graph;
 use ghs_report::portions::WriteFault;
-use ghs_sched::fault::ReplayFault;
 use ghs_sched::replay::replay;
-use ghs_world::wake_set::WakeSet;
+use peer_network::wake_set::WakeSet;
+use peer_schedule::fault::ReplayFault;
 use std::alloc::Global;
 use thiserror::Error;
 

@@ -13,8 +13,8 @@ use Rattle.ghs_graph.proofs.lemmas.Members.{first_in, in_cases, later_in, nothin
 use Rattle.ghs_protocol.specs.Laws.{IsNetOf}
 use Rattle.ghs_protocol.specs.Marks.{HasEnded, Here, InOneFragment, Over}
 use Rattle.ghs_protocol.specs.Net.{Net}
-use Rattle.ghs_protocol.specs.Network.{network_of}
-use Rattle.ghs_protocol.specs.declared.event.Event.{Event}
+use Rattle.peer_network.specs.Network.{network_of}
+use Rattle.peer_network.specs.declared.event.Event.{Event}
 use Rattle.ghs_protocol.specs.Run.{IsRun, net_after}
 use Rattle.ghs_protocol.proofs.lemmas.Runs.{after_is_net}
 use Rattle.ghs_protocol.proofs.lemmas.Laws.{end_is_tree, fragments_are_joined}

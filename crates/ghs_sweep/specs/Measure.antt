@@ -1,8 +1,8 @@
 -- What is measured of each run of a sweep.
 use Rattle.std.specs.Prelude.{◌≡◌, ℕ, Bool, true, false, List, [], ◌∷◌, codes, slice_index, if◌then◌else◌}
 use Rattle.ghs_graph.specs.Graph.{Shape, IsGraph}
-use Rattle.ghs_protocol.specs.declared.event.Event.{Event}
-use Rattle.ghs_protocol.specs.Network.{network_of}
+use Rattle.peer_network.specs.declared.event.Event.{Event}
+use Rattle.peer_network.specs.Network.{network_of}
 use Rattle.ghs_protocol.specs.Run.{IsRun}
 use Rattle.ghs_sweep.specs.declared.figures.Figures.{Figures}
 use Rattle.ghs_sweep.specs.declared.measure.Measure.{Measure}

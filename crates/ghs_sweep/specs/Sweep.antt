@@ -1,7 +1,7 @@
 -- The runs of many seeds.
 use Rattle.std.specs.Prelude.{ℕ, ◌+◌, ◌≤◌, ◌^◌, List, [], ◌∷◌, ◌++◌, length}
 use Rattle.ghs_graph.specs.Graph.{Shape}
-use Rattle.ghs_protocol.specs.declared.event.Event.{Event}
+use Rattle.peer_network.specs.declared.event.Event.{Event}
 use Rattle.ghs_picking.specs.Picking.{IsPickedBy}
 use Rattle.ghs_sweep.specs.declared.figures.Figures.{Figures}
 use Rattle.ghs_sweep.specs.declared.seeded.Setup.{Setup}

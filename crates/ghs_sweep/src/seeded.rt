@@ -6,8 +6,8 @@ use crate::figures::{Figures, figures_with};
 use ghs_choices::schedule_kind::ScheduleKind;
 use ghs_graph::graph::Graph;
 use ghs_picking::measured::run_measured;
-use ghs_world::wake_set::WakeSet;
 use ghs_world::world::World;
+use peer_network::wake_set::WakeSet;
 use std::alloc::{AllocError, Global};
 
 /// What the runs of a sweep have in common.

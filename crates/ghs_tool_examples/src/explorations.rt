@@ -7,8 +7,8 @@ use ghs_explore::fault::ExploreFault;
 use ghs_explore::text::explored_text;
 use ghs_refusing::scenes::let_go;
 use ghs_test_graphs::graphs::PATH_OF_THIRTEEN;
-use ghs_world::wake_set::WakeSet;
 use ghs_world::world::World;
+use peer_network::wake_set::WakeSet;
 use std::alloc::Global;
 use std::process::Abort;
 

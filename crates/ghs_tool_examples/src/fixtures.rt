@@ -1,11 +1,11 @@
 //! Graphs and events of texts, and the worlds after them.
 use ghs_graph::graph::Graph;
-use ghs_protocol::event::Event;
 use ghs_sched::replay::replay;
-use ghs_sched::trace::{EVENT_LIMIT, read_trace};
 use ghs_test_graphs::build::graph_of;
-use ghs_world::wake_set::WakeSet;
 use ghs_world::world::World;
+use peer_network::event::Event;
+use peer_network::wake_set::WakeSet;
+use peer_texts::trace::{EVENT_LIMIT, read_trace};
 use std::alloc::Global;
 use std::process::Abort;
 

@@ -7,8 +7,8 @@ use ghs_parts::lines::put_run;
 use ghs_refusing::scenes::let_go;
 use ghs_test_graphs::graphs::TRIANGLE;
 use ghs_test_graphs::traces::TRIANGLE_TRACE;
-use ghs_world::wake_set::WakeSet;
 use ghs_world::world::World;
+use peer_network::wake_set::WakeSet;
 use std::alloc::Global;
 use std::process::Abort;
 

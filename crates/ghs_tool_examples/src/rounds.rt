@@ -2,11 +2,11 @@
 use crate::fixtures::graph_of_text;
 use ghs_refusing::scenes::let_go;
 use ghs_rounds::run::run_rounds;
-use ghs_sched::schedule::Schedule;
-use ghs_sched::trace::EVENT_LIMIT;
 use ghs_test_graphs::graphs::{PATH_OF_THREE, STAR_OF_NINE};
-use ghs_world::wake_set::WakeSet;
 use ghs_world::world::World;
+use peer_network::wake_set::WakeSet;
+use peer_schedule::schedule::Schedule;
+use peer_texts::trace::EVENT_LIMIT;
 use std::alloc::Global;
 use std::process::Abort;
 

@@ -3,11 +3,11 @@ use crate::fixtures::{events_of_text, graph_of_text};
 use ghs_choices::choice::Choice;
 use ghs_choices::form::Form;
 use ghs_gr::device::Device;
-use ghs_sched::trace::EVENT_LIMIT;
 use ghs_steps::show::{StepsFault, write_steps};
 use ghs_test_graphs::graphs::{NODE_AND_PAIR, PARALLEL_PAIR, PATH_OF_FIVE, TRIANGLE};
 use ghs_test_graphs::traces::{PATH_OF_FIVE_TRACE, TRIANGLE_TRACE};
-use ghs_world::wake_set::WakeSet;
+use peer_network::wake_set::WakeSet;
+use peer_texts::trace::EVENT_LIMIT;
 use std::alloc::Global;
 use std::process::Abort;
 

@@ -4,7 +4,7 @@ use Rattle.ghs_data.specs.Data.{data_json}
 use Rattle.ghs_graph.specs.Bound.{IsBound}
 use Rattle.ghs_graph.specs.Graph.{Shape}
 use Rattle.ghs_page.specs.Page.{page_text}
-use Rattle.ghs_protocol.specs.declared.event.Event.{Event}
+use Rattle.peer_network.specs.declared.event.Event.{Event}
 use Rattle.ghs_view.specs.declared.page.TheConstants.{PAGE_EVENTS, PAGE_NODES}
 
 -- the events up to a number, which count from 1

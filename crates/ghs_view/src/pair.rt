@@ -1,6 +1,6 @@
 //! The page of two runs.
 ghost use Rattle.std.specs.Prelude.{◌≡◌, ◌≤◌, ◌^◌, ◌↔◌, IfOk, IsErrOf, length};
-ghost use Rattle.ghs_protocol.specs.Network.{network_of};
+ghost use Rattle.peer_network.specs.Network.{network_of};
 ghost use Rattle.ghs_protocol.specs.Run.{IsRun};
 ghost use Rattle.ghs_view.specs.PairPage.{IsPairPage, IsPairTooLarge};
 ghost use Rattle.ghs_view.specs.declared.page.PageFault.TheVariants.{TooLarge};

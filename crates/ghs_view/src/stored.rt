@@ -1,18 +1,18 @@
 //! The page of a stored run, which is judged first.
-ghost use Rattle.ghs_protocol.specs.Network.{network_of};
+ghost use Rattle.peer_network.specs.Network.{network_of};
 ghost use Rattle.ghs_protocol.specs.Run.{IsRunUnder};
-ghost use Rattle.ghs_sched.specs.declared.trace.TheConstants.{EVENT_LIMIT};
+ghost use Rattle.peer_texts.specs.declared.trace.TheConstants.{EVENT_LIMIT};
 ghost use Rattle.ghs_view.specs.RunPage.{IsRunPage};
 ghost use Rattle.ghs_view.specs.Stored.{HasNoPage};
-ghost use Rattle.ghs_world.specs.Wakes.{may_wake};
+ghost use Rattle.peer_network.specs.Wakes.{may_wake};
 ghost use Rattle.std.specs.Prelude.{◌≡◌, ◌≤◌, IfErr, IfOk, OnOk, length};
 
 use crate::page::{PageFault, run_page};
 use ghs_core::event::Event;
 use ghs_graph::graph::Graph;
-use ghs_sched::fault::ReplayFault;
 use ghs_sched::replay::replay;
-use ghs_world::wake_set::WakeSet;
+use peer_network::wake_set::WakeSet;
+use peer_schedule::fault::ReplayFault;
 use std::alloc::Global;
 
 /// Why a stored run has no page. Events are counted from 1.

@@ -3,18 +3,19 @@ use Rattle.std.proofs.Common.{◌≡◌, ℕ, ◌<◌, ◌%◌, Bool, true, not,
 use Rattle.std.specs.List.{Contains}
 use Rattle.std.proofs.lemmas.Bool.{and_from}
 use Rattle.ghs_graph.proofs.lemmas.Members.{in_filter}
-use Rattle.ghs_protocol.specs.declared.event.Event.{Event}
-use Rattle.ghs_protocol.specs.declared.event.Event.TheVariants.{Wake, Take}
-use Rattle.ghs_protocol.specs.Network.{Network}
-use Rattle.ghs_protocol.specs.Net.{Net, event_node, is_lawful_under, is_port, is_waiting}
-use Rattle.ghs_protocol.proofs.lemmas.Events.{is_port_of}
+use Rattle.peer_network.specs.declared.event.Event.{Event}
+use Rattle.peer_network.specs.declared.event.Event.TheVariants.{Wake, Take}
+use Rattle.peer_network.specs.Network.{Network, is_port}
+use Rattle.ghs_protocol.specs.Net.{Net, is_lawful_under, is_waiting}
+use Rattle.peer_network.specs.Events.{event_node}
+use Rattle.peer_network.proofs.lemmas.Events.{is_port_of}
 use Rattle.ghs_core.specs.NetState.{network}
-use Rattle.ghs_index.specs.Places.{all_events}
+use Rattle.peer_index.specs.Places.{all_events}
 use Rattle.ghs_world.specs.Outs.{Outs, is_out}
 use Rattle.ghs_world.specs.Ready.{is_ready, ready_events}
 use Rattle.ghs_world.specs.WorldState.{WorldState, home, may_happen, wakers}
-use Rattle.ghs_sched.specs.Picks.{IsPick}
-use Rattle.ghs_sched.specs.Schedule.{word_of}
+use Rattle.peer_schedule.specs.Picks.{IsPick}
+use Rattle.peer_schedule.specs.Schedule.{word_of}
 use Rattle.ghs_patient.specs.Patience.{or_else, puts_back}
 use Rattle.ghs_patient.proofs.lemmas.Picked.{first_there, in_either, picked_in}
 use Rattle.ghs_patient.proofs.lemmas.Places.{placed_of}

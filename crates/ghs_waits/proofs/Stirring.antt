@@ -3,16 +3,16 @@ use Rattle.std.proofs.Common.{◌≡◌, ◌∙◌, sym, subst}
 use Rattle.ghs_graph.specs.Graph.{Shape}
 use Rattle.ghs_node.specs.declared.delta.Delta.{Delta}
 use Rattle.ghs_node.specs.declared.head.Head.{Head}
-use Rattle.ghs_protocol.specs.declared.event.Event.{Event}
-use Rattle.ghs_protocol.specs.Network.{network_of}
-use Rattle.ghs_protocol.specs.Net.{event_node}
+use Rattle.peer_network.specs.declared.event.Event.{Event}
+use Rattle.peer_network.specs.Network.{network_of}
+use Rattle.peer_network.specs.Events.{event_node}
 use Rattle.ghs_core.specs.NetState.{IsAnswer, network}
 use Rattle.ghs_flags.specs.Flags.{at}
-use Rattle.ghs_index.specs.Index.{IndexState, IsFor}
-use Rattle.ghs_index.specs.Places.{HasPlace, place}
-use Rattle.ghs_index.proofs.lemmas.Marks.{is_for, mark_is}
+use Rattle.peer_index.specs.Index.{IndexState, IsFor}
+use Rattle.peer_index.specs.Places.{HasPlace, place}
+use Rattle.peer_index.proofs.lemmas.Marks.{is_for, mark_is}
 use Rattle.ghs_world.specs.Steps.{Makes}
-use Rattle.ghs_world.specs.Wakes.{may_wake}
+use Rattle.peer_network.specs.Wakes.{may_wake}
 use Rattle.ghs_world.specs.WorldState.{WorldState, home}
 use Rattle.ghs_patient.specs.Choices.{IsStirred}
 use Rattle.ghs_patient.specs.Patience.{puts_back}

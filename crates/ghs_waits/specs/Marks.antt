@@ -1,10 +1,10 @@
 -- An index of the events of a world that only put their message back, kept from event to event.
 use Rattle.std.specs.Prelude.{◌≡◌, ℕ, List, slice_set}
-use Rattle.ghs_protocol.specs.declared.event.Event.{Event}
+use Rattle.peer_network.specs.declared.event.Event.{Event}
 use Rattle.ghs_core.specs.NetState.{network}
 use Rattle.ghs_flags.specs.Flags.{at}
-use Rattle.ghs_index.specs.Index.{IndexState, IsFor, IsIndexOf}
-use Rattle.ghs_index.specs.Places.{HasPlace, place}
+use Rattle.peer_index.specs.Index.{IndexState, IsFor, IsIndexOf}
+use Rattle.peer_index.specs.Places.{HasPlace, place}
 use Rattle.ghs_world.specs.WorldState.{WorldState, home}
 use Rattle.ghs_patient.specs.Patience.{puts_back}
 use Rattle.ghs_patient.specs.Walks.{on_each, on_takes}

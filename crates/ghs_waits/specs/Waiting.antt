@@ -1,10 +1,10 @@
 -- The events that a schedule picks from which prefers what waits.
 use Rattle.std.specs.Prelude.{ℕ, Bool, List, filter}
-use Rattle.ghs_protocol.specs.declared.event.Event.{Event}
-use Rattle.ghs_protocol.specs.Network.{Network}
+use Rattle.peer_network.specs.declared.event.Event.{Event}
+use Rattle.peer_network.specs.Network.{Network}
 use Rattle.ghs_protocol.specs.Net.{Net, is_lawful_under}
 use Rattle.ghs_core.specs.NetState.{network}
-use Rattle.ghs_world.specs.Ready.{all_events}
+use Rattle.peer_index.specs.Places.{all_events}
 use Rattle.ghs_world.specs.WorldState.{WorldState, home, wakers}
 use Rattle.ghs_patient.specs.Patience.{or_else, puts_back}
 

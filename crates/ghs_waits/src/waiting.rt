@@ -4,24 +4,24 @@ ghost use Rattle.std.specs.List.{All};
 ghost use Rattle.ghs_graph.specs.Ports.{ports_of};
 ghost use Rattle.ghs_node.specs.declared.message.Message.{Message as Letter};
 ghost use Rattle.ghs_core.specs.NetState.{network, event_node};
-ghost use Rattle.ghs_index.specs.Index.{IsFor};
-ghost use Rattle.ghs_index.specs.Places.{HasPlace};
+ghost use Rattle.peer_index.specs.Index.{IsFor};
+ghost use Rattle.peer_index.specs.Places.{HasPlace};
 ghost use Rattle.ghs_patient.specs.Choices.{IsMarked, IsStirred, far_takes};
-ghost use Rattle.ghs_sched.specs.Picks.{IsPick};
-ghost use Rattle.ghs_sched.specs.Schedule.{next_of};
+ghost use Rattle.peer_schedule.specs.Picks.{IsPick};
+ghost use Rattle.peer_schedule.specs.Schedule.{next_of};
 ghost use Rattle.ghs_world.specs.Ready.{ready_events};
 ghost use Rattle.ghs_waits.specs.Marks.{AreMarks, AreMarksBut, marked, marked_all, marked_to};
 ghost use Rattle.ghs_waits.specs.Waiting.{waiting_in};
 
 use ghs_core::event::Event;
 use ghs_core::net::node_of;
-use ghs_index::index::Index;
 use ghs_node::delta::Delta;
 use ghs_node::head::Head;
 use ghs_node::message::Message;
 use ghs_patient::choices::{are_alike, puts_back};
-use ghs_sched::schedule::Schedule;
 use ghs_world::world::World;
+use peer_index::index::Index;
+use peer_schedule::schedule::Schedule;
 use std::alloc::{AllocError, Global};
 use std::marker::Model;
 
@@ -32,7 +32,7 @@ pub struct Waiting {
 }
 
 impl Model for Waiting {
-    ghost use Rattle.ghs_index.specs.Index.{IndexState};
+    ghost use Rattle.peer_index.specs.Index.{IndexState};
 
     ghost Value = { IndexState };
 

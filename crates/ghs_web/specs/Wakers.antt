@@ -1,7 +1,7 @@
 -- Which nodes wake by themselves, as a page says it.
 use Rattle.std.specs.Prelude.{Bool, true, false}
-use Rattle.ghs_world.specs.declared.wake_set.WakeSet.{WakeSet}
-use Rattle.ghs_world.specs.declared.wake_set.WakeSet.TheVariants.{All, First}
+use Rattle.peer_network.specs.declared.wake_set.WakeSet.{WakeSet}
+use Rattle.peer_network.specs.declared.wake_set.WakeSet.TheVariants.{All, First}
 
 -- all nodes, or the first of each piece
 abbrev pub wakers_of : Bool → WakeSet

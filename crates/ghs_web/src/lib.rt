@@ -13,7 +13,7 @@ ghost use Rattle.ghs_web.specs.Wakers.{wakers_of};
 ghost use Rattle.std.specs.Prelude.{◌≡◌};
 
 use ghs_hand::answers::{hand_run, hand_seen};
-use ghs_world::wake_set::WakeSet;
+use peer_network::wake_set::WakeSet;
 use std::alloc::Global;
 
 /// What a page is told of the world to which a graph's text and a trace's text lead, or the fault for which they lead to

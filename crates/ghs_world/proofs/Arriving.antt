@@ -8,21 +8,21 @@ use Rattle.ghs_node.specs.declared.message.Message.{Message}
 use Rattle.ghs_node.specs.declared.delta.Delta.{Delta}
 use Rattle.ghs_node.specs.Words.{Outgoing}
 use Rattle.ghs_node.specs.Reaction.{reaction}
-use Rattle.ghs_protocol.specs.declared.event.Event.{Event}
+use Rattle.peer_network.specs.declared.event.Event.{Event}
 use Rattle.ghs_graph.specs.Graph.{Shape, IsGraph}
 use Rattle.ghs_graph.specs.Ports.{ports_of}
-use Rattle.ghs_protocol.specs.Network.{Network, network_of, far, far_port, At}
+use Rattle.peer_network.specs.Network.{Network, network_of, far, far_port, At}
 use Rattle.ghs_protocol.specs.Net.{Net, send, send_all, change, take_first, is_waiting, happens}
 use Rattle.ghs_protocol.specs.Steps.{Happens, Woke, Took}
 use Rattle.ghs_protocol.proofs.lemmas.Events.{happening}
-use Rattle.ghs_protocol.proofs.lemmas.Updates.{put_at_hit}
+use Rattle.peer_network.proofs.lemmas.Updates.{put_at_hit}
 use Rattle.ghs_core.specs.NetState.{NetState, network, net_of, event_node, work_at, delivery, IsAnswer}
-use Rattle.ghs_index.specs.Places.{far_take, place}
-use Rattle.ghs_index.specs.Index.{IndexState, IsIndexBut}
-use Rattle.ghs_world.specs.declared.wake_set.WakeSet.{WakeSet}
-use Rattle.ghs_world.specs.WorldState.{has_place}
+use Rattle.peer_index.specs.Places.{far_take, place, has_place}
+use Rattle.peer_index.specs.Index.{IndexState, IsIndexBut}
+use Rattle.peer_network.specs.declared.wake_set.WakeSet.{WakeSet}
 use Rattle.ghs_world.specs.Upkeep.{HaveArrived, lawful_in}
-use Rattle.ghs_world.proofs.lemmas.Leaving.{arrivals, far_place, marked_one, next_arrival, node_place, place_there}
+use Rattle.ghs_world.proofs.lemmas.Leaving.{arrivals, far_place, next_arrival, node_place, place_there}
+use Rattle.peer_index.proofs.lemmas.Marks.{marked_one}
 use Rattle.ghs_world.proofs.Staying.{grows, waits_still}
 
 pub last_waits : (q : List Message) (m : Message) → is_waiting (q ++ m ∷ []) ≡ true

@@ -5,17 +5,17 @@ use Rattle.std.proofs.lemmas.Bool.{cases_lt}
 use Rattle.ghs_graph.specs.Graph.{Shape}
 use Rattle.ghs_graph.proofs.lemmas.Members.{first_in, later_in}
 use Rattle.ghs_node.specs.declared.delta.Delta.{Delta}
-use Rattle.ghs_protocol.specs.declared.event.Event.{Event}
-use Rattle.ghs_protocol.specs.declared.event.Event.TheVariants.{Wake, Take}
-use Rattle.ghs_protocol.specs.Network.{network_of}
-use Rattle.ghs_protocol.specs.Net.{Net, is_port, is_lawful_under, happens, opening}
-use Rattle.ghs_protocol.proofs.lemmas.Events.{is_node_of}
+use Rattle.peer_network.specs.declared.event.Event.{Event}
+use Rattle.peer_network.specs.declared.event.Event.TheVariants.{Wake, Take}
+use Rattle.peer_network.specs.Network.{network_of, is_port}
+use Rattle.ghs_protocol.specs.Net.{Net, is_lawful_under, happens, opening}
+use Rattle.peer_network.proofs.lemmas.Events.{is_node_of}
 use Rattle.ghs_core.specs.NetState.{NetState, network, net_of, IsAnswer, IsSameNet}
-use Rattle.ghs_index.specs.Places.{HasPlace}
-use Rattle.ghs_index.specs.Index.{IndexState, IsIndexOf, IsIndexBut}
-use Rattle.ghs_index.proofs.lemmas.Marks.{but_of}
-use Rattle.ghs_world.specs.declared.wake_set.WakeSet.{WakeSet}
-use Rattle.ghs_world.specs.Wakes.{may_wake}
+use Rattle.peer_index.specs.Places.{HasPlace}
+use Rattle.peer_index.specs.Index.{IndexState, IsIndexOf, IsIndexBut}
+use Rattle.peer_index.proofs.lemmas.Marks.{but_of}
+use Rattle.peer_network.specs.declared.wake_set.WakeSet.{WakeSet}
+use Rattle.peer_network.specs.Wakes.{may_wake}
 use Rattle.ghs_world.specs.Upkeep.{lawful_in, lawful_first, changed}
 use Rattle.ghs_world.specs.WorldState.{WorldState, IsWorld}
 use Rattle.ghs_world.proofs.Keeping.{world_same}

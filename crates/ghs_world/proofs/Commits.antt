@@ -8,17 +8,18 @@ use Rattle.std.proofs.lemmas.List.Elements.{All-nil, All-cons, All-append}
 use Rattle.ghs_graph.specs.Graph.{Shape}
 use Rattle.ghs_node.specs.declared.delta.Delta.{Delta}
 use Rattle.ghs_node.specs.Rows.{Row}
-use Rattle.ghs_protocol.specs.declared.event.Event.{Event}
-use Rattle.ghs_protocol.specs.Network.{network_of}
+use Rattle.peer_network.specs.declared.event.Event.{Event}
+use Rattle.peer_network.specs.Network.{network_of}
 use Rattle.ghs_protocol.specs.Net.{is_lawful_under, happens}
-use Rattle.ghs_protocol.specs.Run.{MayWake}
+use Rattle.peer_network.specs.Events.{MayWake}
 use Rattle.ghs_protocol.proofs.lemmas.Runs.{lawful_under}
 use Rattle.ghs_core.specs.NetState.{NetState, network, net_of, event_node, IsAnswer}
 use Rattle.ghs_world.specs.Tickets.{TicketState, HasRule}
 use Rattle.ghs_world.specs.Outs.{event_out, without, is_out}
 use Rattle.ghs_world.specs.WorldState.{WorldState, IsWorld, IsOut, home, wakers, may_happen, has_turn}
 use Rattle.ghs_world.specs.Steps.{LeavesOthers, HasAllRoused, AreReadyOf, HasEach, touched}
-use Rattle.ghs_world.specs.Ready.{has_ready, is_ready, node_events}
+use Rattle.ghs_world.specs.Ready.{has_ready, is_ready}
+use Rattle.peer_index.specs.Places.{node_events}
 use Rattle.ghs_world.proofs.Going.{all_without, all_same, length_without, out_same, event_same, is_there}
 use Rattle.ghs_world.proofs.Listing.{any_same}
 use Rattle.ghs_world.proofs.Reacting.{answers}

@@ -4,8 +4,8 @@ use Rattle.std.specs.BTreeMap.{insert_entry, is_at}
 use Rattle.std.specs.Map.{lookup, remove_entry}
 use Rattle.std.proofs.lemmas.Bool.{cases_eq, cases_order, eq-eqb, ne_eqb, le-ltb, lt-ltb, or_left, or_right, or_parts, both_ways}
 use Rattle.std.proofs.lemmas.Option.{same_Some}
-use Rattle.ghs_protocol.specs.declared.event.Event.{Event}
-use Rattle.ghs_protocol.specs.declared.event.Event.TheVariants.{Wake, Take}
+use Rattle.peer_network.specs.declared.event.Event.{Event}
+use Rattle.peer_network.specs.declared.event.Event.TheVariants.{Wake, Take}
 use Rattle.ghs_core.specs.NetState.{event_node}
 use Rattle.ghs_world.specs.Outs.{Outs, event_out, without, is_out, message_of, messages_out, RiseTo, AreApart, AreOfNodes, AreKept, AllOut}
 

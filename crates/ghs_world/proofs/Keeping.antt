@@ -2,13 +2,14 @@
 use Rattle.std.proofs.Common.{◌≡◌, ℕ, ◌+◌, ◌<◌, ◌≤◌, Bool, true, false, not, cond, [], ◌∷◌, length, Some, None, refl, arith, length-append, ltb-true, zero-le, ◌^◌}
 use Rattle.std.proofs.lemmas.Bool.{and_parts}
 use Rattle.std.proofs.lemmas.List.Elements.{All-nil}
-use Rattle.ghs_protocol.specs.Run.{MayWake}
-use Rattle.ghs_protocol.specs.declared.event.Event.{Event}
+use Rattle.peer_network.specs.Events.{MayWake}
+use Rattle.peer_network.specs.declared.event.Event.{Event}
 use Rattle.ghs_core.specs.NetState.{NetState, network, net_of, event_node, IsLawful, IsSameNet}
 use Rattle.ghs_core.proofs.lemmas.Lawful as lawful
 use Rattle.ghs_world.specs.declared.fault.OutFault.TheVariants.{NoSuch, Busy, Nothing, TurnLimit}
 use Rattle.ghs_world.specs.Outs.{event_out, without, is_out}
-use Rattle.ghs_world.specs.WorldState.{WorldState, IsWorld, wakers, may_happen, has_place, has_turn, refusal, gone_out}
+use Rattle.ghs_world.specs.WorldState.{WorldState, IsWorld, wakers, may_happen, has_turn, refusal, gone_out}
+use Rattle.peer_index.specs.Places.{has_place}
 use Rattle.ghs_world.proofs.Going.{all_more, all_without, all_at, length_without}
 use Rattle.ghs_world.proofs.lemmas.Ready.{may_lawful}
 

@@ -2,7 +2,6 @@
 mod Arriving
 mod Changing
 mod Commits
-mod Firsts
 mod Going
 mod Keeping
 mod Listing

@@ -4,14 +4,15 @@ use Rattle.std.specs.List.{list_any, find, filter}
 use Rattle.std.proofs.lemmas.List.Folds.{list_any-append, find-append}
 use Rattle.std.specs.Option.{option_or}
 use Rattle.std.specs.Prelude.{if◌then◌else◌}
-use Rattle.ghs_protocol.specs.declared.event.Event.{Event}
-use Rattle.ghs_protocol.specs.declared.event.Event.TheVariants.{Wake, Take}
-use Rattle.ghs_protocol.specs.Network.{Network}
-use Rattle.ghs_protocol.specs.Net.{Net, is_node, is_lawful_under}
+use Rattle.peer_network.specs.declared.event.Event.{Event}
+use Rattle.peer_network.specs.declared.event.Event.TheVariants.{Wake, Take}
+use Rattle.peer_network.specs.Network.{Network, is_node}
+use Rattle.ghs_protocol.specs.Net.{Net, is_lawful_under}
 use Rattle.ghs_core.specs.NetState.{network, event_node}
 use Rattle.ghs_world.specs.Outs.{is_out}
 use Rattle.ghs_world.specs.WorldState.{WorldState, home, wakers, may_happen}
-use Rattle.ghs_world.specs.Ready.{events_at, events_to, all_events, takes, next_of, is_ready, ready_events, has_ready}
+use Rattle.ghs_world.specs.Ready.{next_of, is_ready, ready_events, has_ready}
+use Rattle.peer_index.specs.Places.{events_at, events_to, all_events, takes}
 
 or_none : (b : Bool) → (b || false) ≡ b
 or_none true = refl

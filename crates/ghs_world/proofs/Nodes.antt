@@ -4,7 +4,7 @@ use Rattle.std.specs.List.{find, range_with_len}
 use Rattle.std.proofs.lemmas.Bool.{cases_lt, cases_Bool}
 use Rattle.std.proofs.lemmas.Option.{same_Some}
 use Rattle.std.proofs.lemmas.List.Folds.{find-append}
-use Rattle.ghs_index.proofs.lemmas.Lists.{first_found, none_found}
+use Rattle.peer_index.proofs.lemmas.Lists.{first_found, none_found}
 use Rattle.ghs_world.specs.Outs.{is_out}
 use Rattle.ghs_world.specs.WorldState.{WorldState}
 use Rattle.ghs_world.specs.Ready.{has_lawful, has_ready, next_node_of}

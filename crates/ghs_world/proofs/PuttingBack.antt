@@ -6,22 +6,23 @@ use Rattle.ghs_graph.specs.Graph.{Shape, IsGraph}
 use Rattle.ghs_node.specs.declared.message.Message.{Message}
 use Rattle.ghs_node.specs.NodeState.{NodeState}
 use Rattle.ghs_node.specs.Words.{is_sleeping}
-use Rattle.ghs_protocol.specs.declared.event.Event.{Event}
-use Rattle.ghs_protocol.specs.declared.event.Event.TheVariants.{Wake, Take}
+use Rattle.peer_network.specs.declared.event.Event.{Event}
+use Rattle.peer_network.specs.declared.event.Event.TheVariants.{Wake, Take}
 use Rattle.ghs_protocol.specs.Living.{Turned, Waits, WaitingTakesTurn}
-use Rattle.ghs_protocol.specs.Network.{Network, network_of}
-use Rattle.ghs_protocol.specs.Net.{Net, happens, is_lawful_under, is_node, is_port, is_waiting}
+use Rattle.peer_network.specs.Network.{Network, network_of, is_node, is_port}
+use Rattle.ghs_protocol.specs.Net.{Net, happens, is_lawful_under, is_waiting}
 use Rattle.ghs_protocol.specs.Run.{IsRun}
 use Rattle.ghs_protocol.specs.Laws.{IsNetOf}
-use Rattle.ghs_protocol.proofs.lemmas.Events.{at_of, happening}
+use Rattle.ghs_protocol.proofs.lemmas.Events.{happening}
+use Rattle.peer_network.proofs.lemmas.Events.{at_of}
 use Rattle.ghs_protocol.proofs.lemmas.Runs.{after_is_net}
-use Rattle.ghs_protocol.proofs.lemmas.Updates.{one_place}
+use Rattle.peer_network.proofs.lemmas.Updates.{one_place}
 use Rattle.ghs_core.specs.NetState.{NetState, network, net_of, IsLawful}
-use Rattle.ghs_index.specs.Index.{IndexState, IsIndexOf}
-use Rattle.ghs_index.proofs.lemmas.Marks.{but_of, of_but}
-use Rattle.ghs_world.specs.declared.wake_set.WakeSet.{WakeSet}
+use Rattle.peer_index.specs.Index.{IndexState, IsIndexOf}
+use Rattle.peer_index.proofs.lemmas.Marks.{but_of, of_but}
+use Rattle.peer_network.specs.declared.wake_set.WakeSet.{WakeSet}
 use Rattle.ghs_world.specs.Upkeep.{lawful_in}
-use Rattle.ghs_world.specs.Wakes.{may_wake}
+use Rattle.peer_network.specs.Wakes.{may_wake}
 use Rattle.ghs_world.proofs.Arriving.{last_waits}
 
 module _ (g : Network) (may : ℕ → Bool) (w w' : Net) (v p : ℕ) (m : Message) (ms : List Message) (waits : w.queue v p ≡ m ∷ ms)

@@ -13,7 +13,7 @@ use Rattle.ghs_node.proofs.lemmas.{row_computes, reaction_inverts}
 use Rattle.ghs_node.specs.declared.work.Work.{Work}
 use Rattle.ghs_node.specs.Reaction.{reaction, HasPort}
 use Rattle.ghs_world.specs.Tickets.{HasRule}
-use Rattle.ghs_protocol.specs.declared.event.Event.{Event}
+use Rattle.peer_network.specs.declared.event.Event.{Event}
 use Rattle.ghs_protocol.specs.Run.{IsRun}
 use Rattle.ghs_core.specs.NetState.{NetState, event_node, work_at, IsLawful, network, net_of}
 use Rattle.ghs_core.proofs.lemmas.Reacting.{work_port}

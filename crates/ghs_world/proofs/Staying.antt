@@ -10,15 +10,15 @@ use Rattle.ghs_node.specs.declared.delta.Delta.{Delta}
 use Rattle.ghs_node.specs.Words.{Outgoing, is_sleeping}
 use Rattle.ghs_node.specs.NodeState.{NodeState}
 use Rattle.ghs_node.specs.Reaction.{reaction}
-use Rattle.ghs_protocol.specs.declared.event.Event.{Event}
-use Rattle.ghs_protocol.specs.declared.event.Event.TheVariants.{Wake, Take}
-use Rattle.ghs_protocol.specs.Network.{Network, far, far_port}
-use Rattle.ghs_protocol.specs.Net.{Net, send, send_all, change, take_first, left_of, is_node, is_port, is_waiting, is_lawful, is_lawful_under, happens}
+use Rattle.peer_network.specs.declared.event.Event.{Event}
+use Rattle.peer_network.specs.declared.event.Event.TheVariants.{Wake, Take}
+use Rattle.peer_network.specs.Network.{Network, far, far_port, is_node, is_port}
+use Rattle.ghs_protocol.specs.Net.{Net, send, send_all, change, take_first, left_of, is_waiting, is_lawful, is_lawful_under, happens}
 use Rattle.ghs_protocol.specs.Steps.{Happens, Woke, Took}
 use Rattle.ghs_protocol.proofs.lemmas.Effects.{taken_there}
 use Rattle.ghs_protocol.proofs.lemmas.Events.{happening}
 use Rattle.ghs_protocol.proofs.lemmas.Sends.{node_there}
-use Rattle.ghs_protocol.proofs.lemmas.Updates.{put_at_node, put_at_miss, put_at_hit, one_place}
+use Rattle.peer_network.proofs.lemmas.Updates.{put_at_node, put_at_miss, put_at_hit, one_place}
 use Rattle.ghs_core.specs.NetState.{event_node, work_at, delivery}
 use Rattle.ghs_world.specs.Steps.{touched}
 use Rattle.ghs_world.proofs.lemmas.Leaving.{NodesStay}

@@ -4,20 +4,21 @@ use Rattle.std.specs.List.{Contains}
 use Rattle.std.proofs.lemmas.Bool.{and_parts, cases_Bool}
 use Rattle.ghs_graph.specs.Graph.{IsGraph}
 use Rattle.ghs_graph.proofs.lemmas.Members.{filter_has, nothing_in}
-use Rattle.ghs_protocol.specs.declared.event.Event.{Event}
-use Rattle.ghs_protocol.specs.declared.event.Event.TheVariants.{Wake, Take}
+use Rattle.peer_network.specs.declared.event.Event.{Event}
+use Rattle.peer_network.specs.declared.event.Event.TheVariants.{Wake, Take}
 use Rattle.ghs_protocol.specs.Laws.{IsNetOf}
 use Rattle.ghs_protocol.specs.Marks.{HasEnded}
-use Rattle.ghs_protocol.specs.Network.{Network}
-use Rattle.ghs_protocol.specs.Net.{Net, is_lawful, is_lawful_under, is_node, is_port}
+use Rattle.peer_network.specs.Network.{Network, is_node, is_port}
+use Rattle.ghs_protocol.specs.Net.{Net, is_lawful, is_lawful_under}
 use Rattle.ghs_protocol.specs.Run.{IsRun}
 use Rattle.ghs_protocol.specs.Schedules.{NothingIsReady, StillnessIsEnd}
 use Rattle.ghs_protocol.proofs.lemmas.Runs.{after_is_net}
 use Rattle.ghs_core.specs.NetState.{network}
-use Rattle.ghs_world.specs.WorldState.{WorldState, has_place, home, may_happen, wakers}
-use Rattle.ghs_world.specs.Ready.{all_events, is_ready, ready_events}
-use Rattle.ghs_world.proofs.lemmas.Listed.{listed}
-use Rattle.ghs_world.proofs.lemmas.Waking.{each_is_woken}
+use Rattle.ghs_world.specs.WorldState.{WorldState, home, may_happen, wakers}
+use Rattle.peer_index.specs.Places.{has_place, all_events}
+use Rattle.ghs_world.specs.Ready.{is_ready, ready_events}
+use Rattle.peer_index.proofs.lemmas.Listed.{listed}
+use Rattle.peer_network.proofs.lemmas.Waking.{each_is_woken}
 
 -- what may happen names such
 pub placed : (may : ℕ → Bool) (g : Network) (w : Net) (e : Event) → is_lawful_under may g w e ≡ true → has_place g e ≡ true

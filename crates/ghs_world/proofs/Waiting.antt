@@ -2,13 +2,14 @@
 use Rattle.std.proofs.Common.{◌≡◌, ◌≢◌, ℕ, ◌+◌, ◌≤◌, Bool, true, false, ◌==◌, List, [], ◌∷◌, length, refl, ⊎_elim, arith, cond, ne_eqb, zero-le}
 use Rattle.std.proofs.lemmas.Bool.{and_parts, or_parts, both_ways, eq-eqb, cases_eq}
 use Rattle.ghs_node.specs.declared.message.Message.{Message}
-use Rattle.ghs_protocol.specs.declared.event.Event.{Event}
-use Rattle.ghs_protocol.specs.declared.event.Event.TheVariants.{Wake, Take}
-use Rattle.ghs_protocol.specs.Network.{Network, At}
+use Rattle.peer_network.specs.declared.event.Event.{Event}
+use Rattle.peer_network.specs.declared.event.Event.TheVariants.{Wake, Take}
+use Rattle.peer_network.specs.Network.{Network, At}
 use Rattle.ghs_protocol.specs.Net.{Net, is_waiting, is_lawful_under}
-use Rattle.ghs_protocol.specs.Ledger.{sum_over_ports, waiting}
-use Rattle.ghs_protocol.proofs.lemmas.Events.{at_of}
-use Rattle.ghs_protocol.proofs.lemmas.Sums.{ports_one}
+use Rattle.ghs_protocol.specs.Ledger.{waiting}
+use Rattle.peer_network.specs.Sums.{sum_over_ports}
+use Rattle.peer_network.proofs.lemmas.Events.{at_of}
+use Rattle.peer_network.proofs.lemmas.Sums.{ports_one}
 use Rattle.ghs_core.specs.NetState.{event_node}
 use Rattle.ghs_world.specs.Outs.{Outs, is_out, message_of, messages_out, AreApart, AllOut}
 

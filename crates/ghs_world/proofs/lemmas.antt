@@ -1,5 +1,3 @@
 -- What proofs about worlds above this crate may use.
 pub mod Leaving
-pub mod Listed
 pub mod Ready
-pub mod Waking

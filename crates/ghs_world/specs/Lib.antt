@@ -1,5 +1,4 @@
 -- To be believed: contracts cite what stands here, and what it is made of.
-pub mod Wakes
 pub mod Tickets
 pub mod Outs
 pub mod WorldState

@@ -1,10 +1,10 @@
 -- The events of a network in order, and those that may be checked out.
 use Rattle.std.specs.Prelude.{ℕ, ◌+◌, ◌-◌, Option, Bool, ◌&&◌, not, List, ◌∷◌, ◌++◌, length, filter}
 use Rattle.std.specs.List.{list_any, find, range_with_len}
-use Rattle.ghs_protocol.specs.declared.event.Event.{Event}
-use Rattle.ghs_protocol.specs.declared.event.Event.TheVariants.{Wake}
-use Rattle.ghs_protocol.specs.Network.{Network}
-pub use Rattle.ghs_index.specs.Places.{events_at, node_events, events_to, all_events, takes}
+use Rattle.peer_network.specs.declared.event.Event.{Event}
+use Rattle.peer_network.specs.declared.event.Event.TheVariants.{Wake}
+use Rattle.peer_network.specs.Network.{Network}
+use Rattle.peer_index.specs.Places.{node_events, all_events, takes}
 use Rattle.ghs_core.specs.NetState.{network, event_node}
 use Rattle.ghs_world.specs.Outs.{is_out}
 use Rattle.ghs_world.specs.WorldState.{WorldState, may_happen}

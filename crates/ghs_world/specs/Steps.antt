@@ -5,8 +5,8 @@ use Rattle.std.specs.List.Sorted.{IsStrictlyIncreasing}
 use Rattle.ghs_node.specs.declared.delta.Delta.{Delta}
 use Rattle.ghs_node.specs.declared.message.Message.{Message}
 use Rattle.ghs_node.specs.Words.{Outgoing}
-use Rattle.ghs_protocol.specs.declared.event.Event.{Event}
-use Rattle.ghs_protocol.specs.Network.{Network, far}
+use Rattle.peer_network.specs.declared.event.Event.{Event}
+use Rattle.peer_network.specs.Network.{Network, far}
 use Rattle.ghs_protocol.specs.Net.{happens}
 use Rattle.ghs_core.specs.NetState.{network, event_node, IsAnswer, IsSameNet}
 use Rattle.ghs_world.specs.declared.fault.CommitFault.{CommitFault}

@@ -5,7 +5,7 @@ use Rattle.ghs_node.specs.declared.work.Work.{Work}
 use Rattle.ghs_node.specs.NodeState.{NodeState}
 use Rattle.ghs_node.specs.Reaction.{reaction, HasPort}
 use Rattle.ghs_node.specs.Rows.{Row}
-use Rattle.ghs_protocol.specs.declared.event.Event.{Event}
+use Rattle.peer_network.specs.declared.event.Event.{Event}
 
 -- a node, its event and its work, under a number
 pub record TicketState : Type 0 where

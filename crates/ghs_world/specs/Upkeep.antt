@@ -4,13 +4,13 @@ use Rattle.std.specs.List.{All}
 use Rattle.ghs_graph.specs.Graph.{Shape}
 use Rattle.ghs_node.specs.declared.message.Message.{Message}
 use Rattle.ghs_node.specs.Words.{Outgoing}
-use Rattle.ghs_protocol.specs.declared.event.Event.{Event}
-use Rattle.ghs_protocol.specs.declared.event.Event.TheVariants.{Wake, Take}
-use Rattle.ghs_protocol.specs.Network.{Network, network_of, far, far_port}
+use Rattle.peer_network.specs.declared.event.Event.{Event}
+use Rattle.peer_network.specs.declared.event.Event.TheVariants.{Wake, Take}
+use Rattle.peer_network.specs.Network.{Network, network_of, far, far_port}
 use Rattle.ghs_protocol.specs.Net.{Net, opening, is_lawful_under, is_waiting}
 use Rattle.ghs_core.specs.NetState.{NetState, network, net_of, event_node}
-use Rattle.ghs_world.specs.declared.wake_set.WakeSet.{WakeSet}
-use Rattle.ghs_world.specs.Wakes.{may_wake}
+use Rattle.peer_network.specs.declared.wake_set.WakeSet.{WakeSet}
+use Rattle.peer_network.specs.Wakes.{may_wake}
 
 -- the event is lawful in a net, under a wake set
 abbrev pub lawful_in : NetState → WakeSet → Event → Bool

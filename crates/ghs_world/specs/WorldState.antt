@@ -1,18 +1,17 @@
 -- What a world is seen as, and what its calls do.
 use Rattle.std.specs.Prelude.{◌≡◌, ℕ, ◌+◌, ◌≤◌, ◌^◌, Bool, ◌&&◌, not, nat_lt, Option, Some, None, [], ◌∷◌, ◌++◌, length, if◌then◌else◌}
 use Rattle.std.specs.List.{All as Each}
-use Rattle.ghs_protocol.specs.declared.event.Event.{Event}
-use Rattle.ghs_protocol.specs.declared.event.Event.TheVariants.{Wake, Take}
-use Rattle.ghs_protocol.specs.Network.{Network}
-use Rattle.ghs_protocol.specs.Net.{Net, is_node, is_port, is_lawful_under}
-use Rattle.ghs_protocol.specs.Run.{MayWake}
+use Rattle.peer_network.specs.declared.event.Event.{Event}
+use Rattle.ghs_protocol.specs.Net.{Net, is_lawful_under}
+use Rattle.peer_network.specs.Events.{MayWake}
 use Rattle.ghs_core.specs.NetState.{NetState, network, net_of, event_node, work_at}
-use Rattle.ghs_world.specs.declared.wake_set.WakeSet.{WakeSet}
+use Rattle.peer_network.specs.declared.wake_set.WakeSet.{WakeSet}
 use Rattle.ghs_world.specs.declared.fault.OutFault.{OutFault}
 use Rattle.ghs_world.specs.declared.fault.OutFault.TheVariants as outs
 use Rattle.ghs_world.specs.declared.fault.BackFault.{BackFault}
 use Rattle.ghs_world.specs.declared.fault.BackFault.TheVariants as backs
-use Rattle.ghs_world.specs.Wakes.{may_wake}
+use Rattle.peer_network.specs.Wakes.{may_wake}
+use Rattle.peer_index.specs.Places.{has_place}
 use Rattle.ghs_world.specs.Tickets.{TicketState}
 use Rattle.ghs_world.specs.Outs.{Outs, event_out, is_out, AllOut}
 
@@ -32,11 +31,6 @@ home s = net_of s.net
 -- which nodes wake by themselves here
 abbrev pub wakers : WorldState → ℕ → Bool
 wakers s = may_wake s.net.graph s.wake
-
--- the network has the event's node and port
-abbrev pub has_place : Network → Event → Bool
-has_place g (Wake v) = is_node g v
-has_place g (Take v p) = is_port g v p
 
 -- the event is lawful in the home view, under the wake set
 abbrev pub may_happen : WorldState → Event → Bool

@@ -1,15 +1,9 @@
 //! What holds of the words in which the world is described. Each law is a function that does nothing.
 ghost use Rattle.std.specs.Prelude.{◌≡◌};
 ghost use Rattle.ghs_core.specs.OneEnd.{HaveOneEnd};
-ghost use Rattle.ghs_world.specs.Wakes.{FirstAreRoots};
 ghost use Rattle.ghs_world.specs.WorldState.{home};
 
 use crate::world::World;
-
-/// In the set First are the nodes that are their own roots: the least of each component.
-pub fn law_first()
-    ensures { FirstAreRoots }
-{}
 
 /// Two worlds of one graph, whoever wakes in each and whatever was committed: what is at home in both has one end, as
 /// `ghs_core::one_end::law_one_end` says it of two nets.

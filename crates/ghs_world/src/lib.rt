@@ -16,8 +16,8 @@ mod outs;
 pub mod ready;
 pub mod ticket;
 mod upkeep;
-pub mod wake_set;
 pub mod woken;
 pub mod world;
 
 pub use ghs_core::event;
+pub use peer_network::wake_set;

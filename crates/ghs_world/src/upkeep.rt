@@ -3,19 +3,19 @@ ghost use Rattle.std.specs.Prelude.{◌≡◌, ℕ, ◌<◌, List, length, ◌�
 ghost use Rattle.std.specs.List.{All};
 ghost use Rattle.ghs_graph.specs.Ports.{ports_of};
 ghost use Rattle.ghs_node.specs.declared.message.Message.{Message as Letter};
-ghost use Rattle.ghs_protocol.specs.declared.event.Event.{Event as Happening};
-ghost use Rattle.ghs_protocol.specs.Network.{network_of};
+ghost use Rattle.peer_network.specs.declared.event.Event.{Event as Happening};
+ghost use Rattle.peer_network.specs.Network.{network_of};
 ghost use Rattle.ghs_core.specs.NetState.{network, net_of, event_node};
-ghost use Rattle.ghs_index.specs.Index.{IsFor, IsIndexOf, IsIndexBut};
-ghost use Rattle.ghs_world.specs.WorldState.{has_place};
+ghost use Rattle.peer_index.specs.Index.{IsFor, IsIndexOf, IsIndexBut};
+ghost use Rattle.peer_index.specs.Places.{has_place};
 ghost use Rattle.ghs_world.specs.Upkeep.{HaveArrived, lawful_in, lawful_first, changed};
 
-use crate::wake_set::WakeSet;
 use ghs_core::event::Event;
 use ghs_core::net::{Net, node_of};
 use ghs_graph::graph::Graph;
-use ghs_index::index::Index;
 use ghs_node::message::Message;
+use peer_index::index::Index;
+use peer_network::wake_set::WakeSet;
 use std::alloc::{AllocError, Global};
 
 /// The index of a graph's opening net: the nodes that may wake by themselves. O(N + E).

@@ -3,13 +3,14 @@ ghost use Rattle.std.specs.Prelude.{◌≡◌, ◌↔◌, ◌≤◌, ◌+◌, �
 ghost use Rattle.std.specs.List.{find, range_with_len};
 ghost use Rattle.ghs_node.specs.declared.message.Message.{Message as Letter};
 ghost use Rattle.ghs_protocol.specs.Living.{Waits};
-ghost use Rattle.ghs_world.specs.Ready.{all_events, has_lawful, has_ready, is_ready, next_of, next_node_of, ready_events, takes};
+ghost use Rattle.ghs_world.specs.Ready.{has_lawful, has_ready, is_ready, next_of, next_node_of, ready_events};
+ghost use Rattle.peer_index.specs.Places.{all_events, takes, has_place};
 ghost use Rattle.ghs_world.specs.Steps.{Commits, Makes, LeavesOthers, AreReadyOf, HasAllRoused, HasRoused, RefusesStep, IsSameWorld, HasEach, touched};
 ghost use Rattle.ghs_graph.specs.Graph.{IsGraph};
 ghost use Rattle.ghs_graph.specs.Ports.{ports_of};
 ghost use Rattle.ghs_graph.specs.Links.{IsTree};
-ghost use Rattle.ghs_protocol.specs.Network.{network_of};
-ghost use Rattle.ghs_protocol.specs.Net.{opening, is_node, is_lawful_under};
+ghost use Rattle.peer_network.specs.Network.{network_of, is_node};
+ghost use Rattle.ghs_protocol.specs.Net.{opening, is_lawful_under};
 ghost use Rattle.ghs_protocol.specs.Run.{IsRunUnder};
 ghost use Rattle.ghs_protocol.specs.Marks.{HasEnded};
 ghost use Rattle.ghs_core.specs.NetState.{network, net_of, event_node, IsLawful, IsAnswer, HasRoomToPlay, IsLeastHalted};
@@ -20,13 +21,12 @@ ghost use Rattle.ghs_core.specs.Marked.{AreBranches, AreInTree, IsExact, IsExact
 ghost use Rattle.ghs_world.specs.Outs.{event_out, without};
 ghost use Rattle.ghs_world.specs.Tickets.{HasRule};
 ghost use Rattle.ghs_world.specs.WorldLedger.{IsWorldLedger};
-ghost use Rattle.ghs_world.specs.WorldState.{home, wakers, has_place, may_happen, has_turn, refusal, Refuses, ticket_of, gone_out, IsOut, RefusesTicket};
+ghost use Rattle.ghs_world.specs.WorldState.{home, wakers, may_happen, has_turn, refusal, Refuses, ticket_of, gone_out, IsOut, RefusesTicket};
 
 use crate::fault::{BackFault, CommitFault, OutFault};
 use crate::outs::Outs;
 use crate::ticket::{Step, Ticket};
 use crate::upkeep::{mark_changed, may_happen, open_index};
-use crate::wake_set::WakeSet;
 use crate::woken::{Committed, Woken, touched};
 use ghs_core::census::FragmentRow;
 use ghs_core::event::Event;
@@ -34,13 +34,14 @@ use ghs_core::ledger::Ledger;
 use ghs_core::net::{Net, node_of};
 use ghs_graph::graph::Graph;
 use ghs_graph::key::Key;
-use ghs_index::index::Index;
 use ghs_node::delta::Delta;
 use ghs_node::fault::NodeFault;
 use ghs_node::laws::law_list_has_no_row;
 use ghs_node::react::react;
 use ghs_node::work::Work;
 use ghs_protocol::interleavings::{law_stillness, law_turns};
+use peer_index::index::Index;
+use peer_network::wake_set::WakeSet;
 use std::alloc::{AllocError, Global};
 use std::marker::Model;
 
@@ -65,7 +66,7 @@ pub struct World {
 impl Model for World {
     ghost use Rattle.std.specs.Prelude.{◌≡◌};
     ghost use Rattle.ghs_core.specs.NetState.{network};
-    ghost use Rattle.ghs_index.specs.Index.{IsIndexOf};
+    ghost use Rattle.peer_index.specs.Index.{IsIndexOf};
     ghost use Rattle.ghs_world.specs.Upkeep.{lawful_in};
     ghost use Rattle.ghs_world.specs.WorldState.{WorldState, IsWorld};
 

@@ -8,12 +8,12 @@ use ghs_refusing::scenes::{
 };
 use ghs_report::run_text::run_text;
 use ghs_sched::run::run_seeded;
-use ghs_sched::schedule::Schedule;
-use ghs_sched::trace::EVENT_LIMIT;
 use ghs_world::fault::{CommitFault, OutFault};
 use ghs_world::ticket::{Step, Ticket};
-use ghs_world::wake_set::WakeSet;
 use ghs_world::world::World;
+use peer_network::wake_set::WakeSet;
+use peer_schedule::schedule::Schedule;
+use peer_texts::trace::EVENT_LIMIT;
 use std::alloc::Global;
 use std::process::Abort;
 use std::test::Fail;

@@ -3,17 +3,16 @@ use Rattle.std.proofs.Common.{◌≡◌, ◌≢◌, ℕ, zero, suc, ◌+◌, ◌
 use Rattle.std.proofs.lemmas.Option.{same_Some}
 use Rattle.std.proofs.lemmas.Bool.{and_parts, and_from, cases_eq, cases_Bool}
 use Rattle.ghs_graph.specs.Ports.{ports_of}
-use Rattle.ghs_protocol.specs.declared.event.Event.{Event}
-use Rattle.ghs_protocol.specs.declared.event.Event.TheVariants as events
-use Rattle.ghs_protocol.specs.Network.{Network, network_of}
-use Rattle.ghs_protocol.specs.Ledger.{sum_over_nodes}
-use Rattle.ghs_protocol.proofs.lemmas.Events.{at_of}
-use Rattle.ghs_protocol.proofs.lemmas.Graphs.{twice_links}
-use Rattle.ghs_protocol.proofs.lemmas.Sums.{sum_one, sum_none, sum_most}
-use Rattle.ghs_protocol.proofs.lemmas.Updates.{put_same, put_other}
+use Rattle.peer_network.specs.declared.event.Event.{Event}
+use Rattle.peer_network.specs.declared.event.Event.TheVariants as events
+use Rattle.peer_network.specs.Network.{Network, network_of, is_port}
+use Rattle.peer_network.specs.Sums.{sum_over_nodes}
+use Rattle.peer_network.proofs.lemmas.Events.{at_of}
+use Rattle.peer_network.proofs.lemmas.Graphs.{twice_links}
+use Rattle.peer_network.proofs.lemmas.Sums.{sum_one, sum_none, sum_most}
+use Rattle.peer_network.proofs.lemmas.Updates.{put_same, put_other}
 use Rattle.peer_machine.specs.declared.work.Work.TheVariants.{Wake, Deliver}
 use Rattle.peer_machine.specs.Rules.{Outcome, Outgoing, HasKinds}
-use Rattle.ghs_protocol.specs.Net.{is_port}
 use Rattle.peer_machine.specs.Net.{Net, opening, put, is_lawful, are_on_ports, reacted, take_first, if_reacted, takes_from, effect}
 use Rattle.peer_machine.specs.Run.{IsAfter}
 use Rattle.peer_machine.specs.Ledger.{in_all}

@@ -5,17 +5,17 @@
 use crate::echo_nets::has_sent;
 use crate::playing::{graph_of_text, leave, world_of};
 use crate::runs::{THREE_WAVES, WAVE};
-use ghs_sched::fault::ReplayFault;
-use ghs_sched::schedule::Schedule;
-use ghs_sched::trace::EVENT_LIMIT;
 use ghs_test_graphs::graphs::{PATH_OF_FIVE, PATH_OF_THREE, TWO_PAIRS_AND_NODE};
-use ghs_world::wake_set::WakeSet;
 use peer_echo::echo::Echo;
 use peer_machine::event::Event;
+use peer_network::wake_set::WakeSet;
 use peer_runs::fault::RunFault;
 use peer_runs::replay::replay;
 use peer_runs::run::run_seeded;
 use peer_runs::world::World;
+use peer_schedule::fault::ReplayFault;
+use peer_schedule::schedule::Schedule;
+use peer_texts::trace::EVENT_LIMIT;
 use std::alloc::Global;
 use std::process::Abort;
 

@@ -1,12 +1,12 @@
 //! Nets and worlds of the graph of a text, played event by event, and how long their runs are. Any protocol will do.
 use ghs_graph::graph::Graph;
 use ghs_test_graphs::build::graph_of;
-use ghs_world::wake_set::WakeSet;
 use peer_lengths::lengths::{Lengths, lengths_of};
 use peer_lengths::measured::Measured;
 use peer_machine::event::Event;
 use peer_machine::protocol::Protocol;
 use peer_net::net::Net;
+use peer_network::wake_set::WakeSet;
 use peer_runs::world::World;
 use std::alloc::Global;
 use std::process::Abort;

@@ -1,7 +1,7 @@
 //! Texts of stored runs that name their protocol, with ample memory. The texts and the faults are written by hand, from the
 //! format.
-use ghs_sched::fault::TraceFault;
 use peer_machine::event::Event;
+use peer_texts::fault::TraceFault;
 use peer_trace::fault::StoredFault;
 use peer_trace::protocol::Protocol;
 use peer_trace::trace::{read_trace_of, write_trace_of};

@@ -3,10 +3,10 @@ use Rattle.std.proofs.Common.{◌≡◌, ℕ, suc, ◌+◌, ◌<◌, ◌≤◌, 
 use Rattle.std.proofs.lemmas.Bool.{and_parts}
 use Rattle.ghs_graph.specs.Graph.{Shape}
 use Rattle.ghs_node.specs.declared.delta.Fate.TheVariants.{Consumed}
-use Rattle.ghs_protocol.specs.declared.event.Event.{Event}
-use Rattle.ghs_protocol.specs.declared.event.Event.TheVariants.{Wake, Take}
-use Rattle.ghs_protocol.specs.Network.{network_of}
-use Rattle.ghs_protocol.proofs.lemmas.Events.{at_of}
+use Rattle.peer_network.specs.declared.event.Event.{Event}
+use Rattle.peer_network.specs.declared.event.Event.TheVariants.{Wake, Take}
+use Rattle.peer_network.specs.Network.{network_of}
+use Rattle.peer_network.proofs.lemmas.Events.{at_of}
 use Rattle.ghs_chain.specs.Chains.{Chains, no_chains, hears, most_below}
 use Rattle.ghs_chain.specs.Kept.{Kept, Fits, HasPlaceOf, seen}
 use Rattle.ghs_chain.proofs.lemmas.Bounding.{IsWithin, hears_within}

@@ -2,10 +2,10 @@
 use Rattle.std.proofs.Common.{◌≡◌, ℕ, suc, ◌+◌, ◌*◌, ◌<◌, ◌≤◌, ◌^◌, ◌==◌, cond, max, List, [], ◌∷◌, ◌++◌, length, take, get_or, refl, sym, ◌∙◌, ap, subst, arith, length-append, eq-eqb, ne_eqb}
 use Rattle.std.proofs.lemmas.List.{length-map, map-append, take_more}
 use Rattle.ghs_graph.specs.Graph.{Shape}
-use Rattle.ghs_protocol.specs.declared.event.Event.{Event}
-use Rattle.ghs_protocol.specs.Ledger.{sum_below}
-use Rattle.ghs_protocol.specs.Network.{network_of}
-use Rattle.ghs_protocol.proofs.lemmas.Sums.{sum_add, sum_none, sum_one}
+use Rattle.peer_network.specs.declared.event.Event.{Event}
+use Rattle.peer_network.specs.Sums.{sum_below}
+use Rattle.peer_network.specs.Network.{network_of}
+use Rattle.peer_network.proofs.lemmas.Sums.{sum_add, sum_none, sum_one}
 use Rattle.peer_machine.specs.Rules.{Rules, Outgoing, HasKinds, messages}
 use Rattle.peer_machine.specs.Net.{Net}
 use Rattle.peer_machine.specs.Protocol.{IsBoundedBy, FitsGraphs}

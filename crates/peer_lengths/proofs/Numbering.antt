@@ -5,8 +5,8 @@ use Rattle.std.proofs.lemmas.List.{take_more}
 use Rattle.std.proofs.lemmas.List.Elements.{All-nil}
 use Rattle.std.proofs.lemmas.Option.{same_Some}
 use Rattle.ghs_node.specs.declared.delta.Fate.TheVariants.{Consumed}
-use Rattle.ghs_protocol.specs.declared.event.Event.{Event}
-use Rattle.ghs_protocol.specs.Network.{Network}
+use Rattle.peer_network.specs.declared.event.Event.{Event}
+use Rattle.peer_network.specs.Network.{Network}
 use Rattle.ghs_chain.specs.Chains.{Chains, no_chains, sent_on}
 use Rattle.ghs_chain.specs.Kept.{Kept, seen}
 use Rattle.ghs_chain.proofs.lemmas.Bounding.{IsWithin, more_within, sent_on_within, hears_within, most_within}

@@ -6,10 +6,10 @@ use Rattle.std.proofs.lemmas.Bool.{and_parts}
 use Rattle.std.proofs.lemmas.List.{take_more}
 use Rattle.std.proofs.lemmas.List.Elements.{All-nil, All-cons}
 use Rattle.ghs_graph.specs.Graph.{Shape, IsGraph}
-use Rattle.ghs_protocol.specs.declared.event.Event.{Event}
-use Rattle.ghs_protocol.specs.declared.event.Event.TheVariants as events
-use Rattle.ghs_protocol.specs.Network.{Network, network_of}
-use Rattle.ghs_protocol.proofs.lemmas.Events.{if_some}
+use Rattle.peer_network.specs.declared.event.Event.{Event}
+use Rattle.peer_network.specs.declared.event.Event.TheVariants as events
+use Rattle.peer_network.specs.Network.{Network, network_of}
+use Rattle.peer_network.proofs.lemmas.Events.{if_some}
 use Rattle.peer_machine.specs.Rules.{Rules, Outcome, Outgoing, HasKinds, messages}
 use Rattle.peer_machine.specs.Net.{Net, event_node, happens, is_lawful, effect, opening, are_on_ports}
 use Rattle.peer_machine.specs.Run.{IsAfter, IsRun, net_after, run}

@@ -2,8 +2,8 @@
 -- led to it, one because of another. The numbers are kept as those of runs of GHS are; here each message that is taken is consumed.
 use Rattle.std.specs.Prelude.{ℕ, suc, false, List, [], ◌∷◌}
 use Rattle.ghs_node.specs.declared.delta.Fate.TheVariants.{Consumed}
-use Rattle.ghs_protocol.specs.declared.event.Event.{Event}
-use Rattle.ghs_protocol.specs.Network.{Network}
+use Rattle.peer_network.specs.declared.event.Event.{Event}
+use Rattle.peer_network.specs.Network.{Network}
 use Rattle.ghs_chain.specs.Chains.{Chains, no_chains, hears, sent_on, most_below}
 use Rattle.peer_machine.specs.Rules.{Rules, Outgoing}
 use Rattle.peer_machine.specs.Net.{Net, event_node, opening}

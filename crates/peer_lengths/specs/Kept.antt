@@ -1,8 +1,8 @@
 -- What is kept of a run.
 use Rattle.std.specs.Prelude.{◌≡◌, ◌*◌, ◌^◌, ◌≤◌, List, length}
 use Rattle.ghs_graph.specs.Graph.{Shape}
-use Rattle.ghs_protocol.specs.declared.event.Event.{Event}
-use Rattle.ghs_protocol.specs.Network.{network_of}
+use Rattle.peer_network.specs.declared.event.Event.{Event}
+use Rattle.peer_network.specs.Network.{network_of}
 use Rattle.ghs_chain.specs.Kept.{Kept, Fits, seen}
 use Rattle.peer_machine.specs.Rules.{Rules}
 use Rattle.peer_lengths.specs.declared.sent.Sent.{Sent}

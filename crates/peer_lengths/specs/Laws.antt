@@ -1,9 +1,9 @@
 -- What holds of the length of every run, under any rules.
 use Rattle.std.specs.Prelude.{◌≡◌, ◌*◌, ◌≤◌, List, length}
 use Rattle.ghs_graph.specs.Graph.{Shape}
-use Rattle.ghs_protocol.specs.declared.event.Event.{Event}
-use Rattle.ghs_protocol.specs.Ledger.{sum_below}
-use Rattle.ghs_protocol.specs.Network.{Network, network_of}
+use Rattle.peer_network.specs.declared.event.Event.{Event}
+use Rattle.peer_network.specs.Sums.{sum_below}
+use Rattle.peer_network.specs.Network.{Network, network_of}
 use Rattle.peer_machine.specs.Rules.{Rules, HasKinds}
 use Rattle.peer_machine.specs.Net.{Net}
 use Rattle.peer_machine.specs.Run.{IsAfter}

@@ -1,8 +1,8 @@
 -- What a run sends, and how many bits it has.
 use Rattle.std.specs.Prelude.{ℕ, ◌+◌, ◌==◌, max, Option, Some, None, List, [], ◌∷◌, ◌++◌, if◌then◌else◌}
 use Rattle.ghs_graph.specs.Graph.{Shape}
-use Rattle.ghs_protocol.specs.declared.event.Event.{Event}
-use Rattle.ghs_protocol.specs.Network.{Network, network_of}
+use Rattle.peer_network.specs.declared.event.Event.{Event}
+use Rattle.peer_network.specs.Network.{Network, network_of}
 use Rattle.peer_machine.specs.Rules.{Rules, Outcome, Outgoing, messages}
 use Rattle.peer_machine.specs.Net.{Net, event_node, happens, opening}
 use Rattle.peer_net.specs.NetState.{work_at}

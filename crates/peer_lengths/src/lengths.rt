@@ -1,6 +1,6 @@
 //! How long a run is.
 ghost use Rattle.std.specs.Prelude.{◌≡◌, IfOk};
-ghost use Rattle.ghs_protocol.specs.Network.{network_of};
+ghost use Rattle.peer_network.specs.Network.{network_of};
 ghost use Rattle.peer_machine.specs.Run.{IsRun};
 ghost use Rattle.peer_lengths.specs.Sends.{bits_sent, longest_sent};
 ghost use Rattle.peer_lengths.specs.Chain.{longest_chain};

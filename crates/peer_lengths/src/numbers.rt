@@ -2,7 +2,7 @@
 ghost use Rattle.std.specs.Prelude.{◌≡◌, ℕ, ◌+◌, ◌<◌, ◌≤◌, ◌^◌, [], ◌∷◌, ◌++◌, Some, IfOk, OnOk, length, slice_index};
 ghost use Rattle.std.specs.List.{All};
 ghost use Rattle.ghs_graph.specs.Ports.{ports_of};
-ghost use Rattle.ghs_protocol.specs.Network.{network_of};
+ghost use Rattle.peer_network.specs.Network.{network_of};
 ghost use Rattle.ghs_chain.specs.Kept.{Fits, seen};
 ghost use Rattle.peer_machine.specs.Net.{happens};
 ghost use Rattle.peer_net.specs.NetState.{network, net_of, AreSends, IsLawful};

@@ -1,9 +1,9 @@
 -- What holds under any rules, in every run of every graph, as one fact a law.
 use Rattle.std.specs.Prelude.{◌≡◌, ◌≢◌, ◌↔◌, ℕ, ◌+◌, ◌≤◌, List, ◌++◌, Some}
 use Rattle.ghs_graph.specs.Graph.{Shape}
-use Rattle.ghs_protocol.specs.declared.event.Event.{Event}
-use Rattle.ghs_protocol.specs.Network.{Network, network_of, far, far_port}
-use Rattle.ghs_protocol.specs.Ledger.{takes_in}
+use Rattle.peer_network.specs.declared.event.Event.{Event}
+use Rattle.peer_network.specs.Network.{Network, network_of, far, far_port}
+use Rattle.peer_network.specs.Events.{takes_in}
 use Rattle.peer_machine.specs.Rules.{Rules, HasKinds}
 use Rattle.peer_machine.specs.Net.{Net, event_node, happens}
 use Rattle.peer_machine.specs.Run.{IsAfter, IsNetOf, IsLater}

@@ -1,7 +1,7 @@
 -- Messages counted.
 use Rattle.std.specs.Prelude.{◌≡◌, ℕ, ◌+◌, ◌==◌, List, [], ◌∷◌, length, if◌then◌else◌}
-use Rattle.ghs_protocol.specs.Network.{Network}
-use Rattle.ghs_protocol.specs.Ledger.{sum_below, sum_over_ports}
+use Rattle.peer_network.specs.Network.{Network}
+use Rattle.peer_network.specs.Sums.{sum_below, sum_over_ports}
 use Rattle.peer_machine.specs.Rules.{Rules}
 use Rattle.peer_machine.specs.Net.{Net}
 

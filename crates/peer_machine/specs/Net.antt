@@ -1,9 +1,11 @@
 -- All nodes and all queues of a network under some rules, and what one event does to them. No message is ever put back.
 use Rattle.std.specs.Prelude.{ℕ, suc, Bool, true, ◌&&◌, nat_lt, Option, Some, None, List, [], ◌∷◌, ◌++◌, length, if◌then◌else◌}
-use Rattle.ghs_protocol.specs.declared.event.Event.{Event}
-use Rattle.ghs_protocol.specs.declared.event.Event.TheVariants as events
-use Rattle.ghs_protocol.specs.Network.{Network, port_at}
-pub use Rattle.ghs_protocol.specs.Net.{put, put_at, event_node, is_node, is_port}
+use Rattle.peer_network.specs.declared.event.Event.{Event}
+use Rattle.peer_network.specs.declared.event.Event.TheVariants as events
+use Rattle.peer_network.specs.Network.{Network, port_at}
+pub use Rattle.peer_network.specs.Network.{is_node, is_port}
+pub use Rattle.peer_network.specs.Events.{event_node}
+pub use Rattle.peer_network.specs.Updates.{put, put_at}
 use Rattle.peer_machine.specs.declared.work.Work.TheVariants.{Wake, Deliver}
 use Rattle.peer_machine.specs.Rules.{Rules, Outcome, Outgoing}
 

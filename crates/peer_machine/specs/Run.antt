@@ -2,9 +2,9 @@
 use Rattle.std.specs.Prelude.{◌≡◌, ℕ, Bool, Option, Some, List, [], ◌∷◌, ◌++◌, unwrap_or, option_and_then}
 use Rattle.std.specs.List.{All}
 use Rattle.ghs_graph.specs.Graph.{Shape, IsGraph}
-use Rattle.ghs_protocol.specs.declared.event.Event.{Event}
-use Rattle.ghs_protocol.specs.Network.{Network, network_of}
-use Rattle.ghs_protocol.specs.Run.{MayWake}
+use Rattle.peer_network.specs.declared.event.Event.{Event}
+use Rattle.peer_network.specs.Network.{Network, network_of}
+use Rattle.peer_network.specs.Events.{MayWake}
 use Rattle.peer_machine.specs.Rules.{Rules}
 use Rattle.peer_machine.specs.Net.{Net, opening, happens}
 

@@ -1,8 +1,8 @@
 -- What happens in a net, as a relation: an event with its reaction.
 use Rattle.std.specs.Prelude.{◌≡◌, ℕ, ◌≤◌, true, Some, List, ◌∷◌}
-use Rattle.ghs_protocol.specs.declared.event.Event.{Event}
-use Rattle.ghs_protocol.specs.declared.event.Event.TheVariants as events
-use Rattle.ghs_protocol.specs.Network.{Network, At}
+use Rattle.peer_network.specs.declared.event.Event.{Event}
+use Rattle.peer_network.specs.declared.event.Event.TheVariants as events
+use Rattle.peer_network.specs.Network.{Network, At}
 use Rattle.peer_machine.specs.declared.work.Work.TheVariants.{Wake, Deliver}
 use Rattle.peer_machine.specs.Rules.{Rules, Outcome}
 use Rattle.peer_machine.specs.Net.{Net, take_first, reacted, are_on_ports}

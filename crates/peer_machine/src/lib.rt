@@ -7,12 +7,12 @@
 //! alone (`law_others`, `law_queues`).
 //!
 //! A `Protocol` has its rules as a ghost member, and as laws that each lawful event has a rule, and that what is sent is
-//! within a bound. The machine mirrors that of `ghs_protocol`, of which it takes the networks and the events; here no message
-//! is ever put back. Read `specs/Rules.antt` and `specs/Net.antt` first.
+//! within a bound. The machine mirrors that of `ghs_protocol`, over the same networks and events (`peer_network`); here no
+//! message is ever put back. Read `specs/Rules.antt` and `specs/Net.antt` first.
 #![tactic(auto)]
 
 pub mod laws;
 pub mod protocol;
 pub mod work;
 
-pub use ghs_protocol::event;
+pub use peer_network::event;

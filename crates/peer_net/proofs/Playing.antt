@@ -7,13 +7,13 @@ use Rattle.std.proofs.lemmas.List.Elements.{All-nil, All-cons}
 use Rattle.std.proofs.lemmas.List.{length-set, get_or-set_same, get_or-set_other, get_or_default}
 use Rattle.ghs_graph.specs.Graph.{Shape}
 use Rattle.ghs_graph.specs.Ports.{ports_of}
-use Rattle.ghs_protocol.specs.declared.event.Event.{Event}
-use Rattle.ghs_protocol.specs.declared.event.Event.TheVariants as events
-use Rattle.ghs_protocol.specs.Network.{network_of, At}
-use Rattle.ghs_protocol.proofs.lemmas.Events.{node_of, at_of}
-use Rattle.ghs_protocol.proofs.lemmas.Graphs.{graph_wired}
-use Rattle.ghs_protocol.proofs.lemmas.Sums.{term_le}
-use Rattle.ghs_protocol.proofs.lemmas.Updates.{put_same, put_other}
+use Rattle.peer_network.specs.declared.event.Event.{Event}
+use Rattle.peer_network.specs.declared.event.Event.TheVariants as events
+use Rattle.peer_network.specs.Network.{network_of, At}
+use Rattle.peer_network.proofs.lemmas.Events.{node_of, at_of}
+use Rattle.peer_network.proofs.lemmas.Graphs.{graph_wired}
+use Rattle.peer_network.proofs.lemmas.Sums.{term_le}
+use Rattle.peer_network.proofs.lemmas.Updates.{put_same, put_other}
 use Rattle.peer_machine.specs.declared.work.Work.{Work}
 use Rattle.peer_machine.specs.declared.work.Work.TheVariants.{Wake}
 use Rattle.peer_machine.specs.Rules.{Rules, Outcome, Outgoing, HasKinds}

@@ -3,11 +3,11 @@ use Rattle.std.proofs.Common.{◌≡◌, ◌≢◌, ℕ, ◌+◌, ◌<◌, ◌�
 use Rattle.std.proofs.lemmas.Bool.{and_parts, cases_eq}
 use Rattle.ghs_graph.specs.Graph.{Shape, IsGraph}
 use Rattle.ghs_graph.specs.Ports.{ports_of}
-use Rattle.ghs_protocol.specs.Network.{network_of, far, far_port, At}
-use Rattle.ghs_protocol.proofs.lemmas.Graphs.{graph_wired}
-use Rattle.ghs_protocol.proofs.lemmas.Updates.{put_at_hit, put_at_miss, put_at_same, one_place}
-use Rattle.ghs_protocol.proofs.lemmas.Wired.{IsWired}
-use Rattle.ghs_protocol.proofs.lemmas.Wires.{no_loop}
+use Rattle.peer_network.specs.Network.{network_of, far, far_port, At}
+use Rattle.peer_network.proofs.lemmas.Graphs.{graph_wired}
+use Rattle.peer_network.proofs.lemmas.Updates.{put_at_hit, put_at_miss, put_at_same, one_place}
+use Rattle.peer_network.proofs.lemmas.Wired.{IsWired}
+use Rattle.peer_network.proofs.lemmas.Wires.{no_loop}
 use Rattle.peer_machine.specs.Rules.{Rules, Outgoing}
 use Rattle.peer_machine.specs.Net.{Net, put_at, send, send_all, take_first, are_on_ports}
 use Rattle.peer_machine.proofs.lemmas.Sends.{queue_kept}

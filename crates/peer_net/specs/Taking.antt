@@ -1,7 +1,7 @@
 -- The message that an event takes.
 use Rattle.std.specs.Prelude.{◌≡◌, ℕ, ◌<◌, List, ◌∷◌, length}
-use Rattle.ghs_protocol.specs.declared.event.Event.{Event}
-use Rattle.ghs_protocol.specs.declared.event.Event.TheVariants.{Wake, Take}
+use Rattle.peer_network.specs.declared.event.Event.{Event}
+use Rattle.peer_network.specs.declared.event.Event.TheVariants.{Wake, Take}
 use Rattle.peer_machine.specs.Rules.{Rules}
 use Rattle.peer_net.specs.declared.counts.Counts.{Counts}
 use Rattle.peer_net.specs.Counts.{CountsTake}

@@ -1,7 +1,7 @@
 //! The net of one thread.
 ghost use Rattle.std.specs.Prelude.{◌≡◌, ℕ, ◌≤◌, [], ◌∷◌, ◌++◌, length, IfOk, IfErr, OnOk, OnErr, IsSome, IsTrue, Some, ◌↔◌, slice_get};
 ghost use Rattle.ghs_graph.specs.Graph.{IsGraph};
-ghost use Rattle.ghs_protocol.specs.Network.{network_of, At};
+ghost use Rattle.peer_network.specs.Network.{network_of, At};
 ghost use Rattle.peer_machine.specs.Net.{opening, event_node, happens, is_lawful, is_node, is_port};
 ghost use Rattle.peer_machine.specs.Run.{IsRun};
 ghost use Rattle.peer_net.specs.NetState.{network, net_of, work_at, AreSends, IsLawful, IsSilent};

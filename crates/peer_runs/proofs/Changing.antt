@@ -5,11 +5,11 @@ use Rattle.std.proofs.lemmas.Bool.{and_parts}
 use Rattle.std.proofs.lemmas.Option.{same_Some}
 use Rattle.std.proofs.lemmas.List.Elements.{All-nil, All-cons}
 use Rattle.ghs_graph.proofs.lemmas.Members.{first_in, later_in}
-use Rattle.ghs_protocol.specs.declared.event.Event.{Event}
-use Rattle.ghs_protocol.specs.declared.event.Event.TheVariants.{Wake, Take}
-use Rattle.ghs_protocol.specs.Network.{Network, far, far_port}
-use Rattle.ghs_protocol.proofs.lemmas.Updates.{put_at_hit, put_at_miss}
-use Rattle.ghs_index.specs.Places.{far_take}
+use Rattle.peer_network.specs.declared.event.Event.{Event}
+use Rattle.peer_network.specs.declared.event.Event.TheVariants.{Wake, Take}
+use Rattle.peer_network.specs.Network.{Network, far, far_port}
+use Rattle.peer_network.proofs.lemmas.Updates.{put_at_hit, put_at_miss}
+use Rattle.peer_index.specs.Places.{far_take}
 use Rattle.peer_machine.specs.Rules.{Rules, Outcome, Outgoing}
 use Rattle.peer_machine.specs.Net.{Net, event_node, is_node, is_port, put, send, send_all, take_first, reacted, are_on_ports}
 use Rattle.peer_machine.specs.Steps.{Happens, Woke, Took}

@@ -4,18 +4,17 @@ use Rattle.std.specs.List.{All}
 use Rattle.std.proofs.lemmas.Bool.{and_from}
 use Rattle.std.proofs.lemmas.List.Elements.{All-get_or, All-push}
 use Rattle.ghs_graph.specs.Graph.{Shape, IsGraph}
-use Rattle.ghs_protocol.specs.declared.event.Event.{Event}
-use Rattle.ghs_protocol.specs.declared.event.Event.TheVariants.{Wake, Take}
-use Rattle.ghs_protocol.specs.Network.{Network, network_of, far, far_port}
-use Rattle.ghs_protocol.specs.Run.{MayWake}
-use Rattle.ghs_protocol.proofs.lemmas.Events.{is_port_of}
-use Rattle.ghs_protocol.proofs.lemmas.Graphs.{graph_wired}
-use Rattle.ghs_index.specs.Places.{HasPlace, far_take, place}
-use Rattle.ghs_index.specs.Index.{IndexState, IsIndexOf, IsIndexBut}
-use Rattle.ghs_index.proofs.lemmas.Marks.{but_of}
-use Rattle.ghs_world.specs.declared.wake_set.WakeSet.{WakeSet}
-use Rattle.ghs_world.specs.Wakes.{may_wake}
-use Rattle.ghs_world.proofs.lemmas.Leaving.{marked_one}
+use Rattle.peer_network.specs.declared.event.Event.{Event}
+use Rattle.peer_network.specs.declared.event.Event.TheVariants.{Wake, Take}
+use Rattle.peer_network.specs.Network.{Network, network_of, far, far_port}
+use Rattle.peer_network.specs.Events.{MayWake}
+use Rattle.peer_network.proofs.lemmas.Events.{is_port_of}
+use Rattle.peer_network.proofs.lemmas.Graphs.{graph_wired}
+use Rattle.peer_index.specs.Places.{HasPlace, far_take, place}
+use Rattle.peer_index.specs.Index.{IndexState, IsIndexOf, IsIndexBut}
+use Rattle.peer_index.proofs.lemmas.Marks.{but_of, marked_one}
+use Rattle.peer_network.specs.declared.wake_set.WakeSet.{WakeSet}
+use Rattle.peer_network.specs.Wakes.{may_wake}
 use Rattle.peer_machine.specs.Rules.{Rules, Outgoing}
 use Rattle.peer_machine.specs.Net.{Net, event_node, is_lawful, happens}
 use Rattle.peer_machine.proofs.lemmas.Events.{happening}

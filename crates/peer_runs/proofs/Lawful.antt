@@ -1,12 +1,12 @@
 -- Events that are lawful under a wake set, by their parts.
 use Rattle.std.proofs.Common.{◌≡◌, ℕ, Bool, true}
 use Rattle.std.proofs.lemmas.Bool.{and_parts, and_from}
-use Rattle.ghs_protocol.specs.declared.event.Event.{Event}
-use Rattle.ghs_protocol.specs.declared.event.Event.TheVariants.{Wake, Take}
-use Rattle.ghs_protocol.specs.Network.{Network}
-use Rattle.ghs_protocol.specs.Run.{MayWake}
-use Rattle.ghs_protocol.proofs.lemmas.Events.{node_of, at_of}
-use Rattle.ghs_index.specs.Places.{HasPlace}
+use Rattle.peer_network.specs.declared.event.Event.{Event}
+use Rattle.peer_network.specs.declared.event.Event.TheVariants.{Wake, Take}
+use Rattle.peer_network.specs.Network.{Network}
+use Rattle.peer_network.specs.Events.{MayWake}
+use Rattle.peer_network.proofs.lemmas.Events.{node_of, at_of}
+use Rattle.peer_index.specs.Places.{HasPlace}
 use Rattle.peer_machine.specs.Rules.{Rules}
 use Rattle.peer_machine.specs.Net.{Net, is_lawful}
 use Rattle.peer_runs.specs.Lawful.{is_lawful_under}

@@ -3,12 +3,12 @@ use Rattle.std.proofs.Common.{◌≡◌, ℕ, zero, suc, ◌+◌, ◌-◌, ◌<�
 use Rattle.std.specs.List.{Contains, range_with_len}
 use Rattle.std.proofs.lemmas.Bool.{cases_lt}
 use Rattle.ghs_graph.proofs.lemmas.Members.{first_in, later_in}
-use Rattle.ghs_protocol.specs.declared.event.Event.{Event}
-use Rattle.ghs_protocol.specs.declared.event.Event.TheVariants.{Wake, Take}
-use Rattle.ghs_index.specs.Places.{HasPlace}
-use Rattle.ghs_index.specs.Index.{IndexState, IsIndexOf, IsIndexBut}
-use Rattle.ghs_index.proofs.lemmas.Marks.{but_of}
-use Rattle.ghs_world.specs.declared.wake_set.WakeSet.{WakeSet}
+use Rattle.peer_network.specs.declared.event.Event.{Event}
+use Rattle.peer_network.specs.declared.event.Event.TheVariants.{Wake, Take}
+use Rattle.peer_index.specs.Places.{HasPlace}
+use Rattle.peer_index.specs.Index.{IndexState, IsIndexOf, IsIndexBut}
+use Rattle.peer_index.proofs.lemmas.Marks.{but_of}
+use Rattle.peer_network.specs.declared.wake_set.WakeSet.{WakeSet}
 use Rattle.peer_machine.specs.Rules.{Rules}
 use Rattle.peer_machine.specs.Net.{Net, opening, is_port}
 use Rattle.peer_machine.specs.Run.{net_after}

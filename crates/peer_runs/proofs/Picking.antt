@@ -4,9 +4,9 @@ use Rattle.std.proofs.lemmas.Bool.{cases_lt}
 use Rattle.std.proofs.lemmas.List.{take-append-le}
 use Rattle.std.proofs.lemmas.Option.{same_Some}
 use Rattle.ghs_graph.specs.Graph.{Shape}
-use Rattle.ghs_protocol.specs.declared.event.Event.{Event}
-use Rattle.ghs_sched.specs.Picks.{IsPick}
-use Rattle.ghs_sched.specs.Schedule.{next_of, word_of}
+use Rattle.peer_network.specs.declared.event.Event.{Event}
+use Rattle.peer_schedule.specs.Picks.{IsPick}
+use Rattle.peer_schedule.specs.Schedule.{next_of, word_of}
 use Rattle.peer_machine.specs.Rules.{Rules}
 use Rattle.peer_runs.specs.Lawful.{lawful_events}
 use Rattle.peer_runs.specs.Picks.{IsPicked, Begun, Picked, IsSeededRun, PicksAreOne, SeededRunIsOne}

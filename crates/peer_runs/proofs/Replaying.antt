@@ -5,12 +5,12 @@ use Rattle.std.proofs.lemmas.Bool.{false≢true}
 use Rattle.std.proofs.lemmas.Option.{slice_get-get_or, get_or_from_slice_get, slice_get_within}
 use Rattle.std.proofs.lemmas.List.{take_more}
 use Rattle.ghs_graph.specs.Graph.{Shape}
-use Rattle.ghs_protocol.specs.declared.event.Event.{Event}
-use Rattle.ghs_protocol.specs.Network.{network_of}
-use Rattle.ghs_protocol.specs.Run.{MayWake}
-use Rattle.ghs_protocol.proofs.lemmas.Events.{if_some}
-use Rattle.ghs_world.specs.declared.wake_set.WakeSet.{WakeSet}
-use Rattle.ghs_world.specs.Wakes.{may_wake}
+use Rattle.peer_network.specs.declared.event.Event.{Event}
+use Rattle.peer_network.specs.Network.{network_of}
+use Rattle.peer_network.specs.Events.{MayWake}
+use Rattle.peer_network.proofs.lemmas.Events.{if_some}
+use Rattle.peer_network.specs.declared.wake_set.WakeSet.{WakeSet}
+use Rattle.peer_network.specs.Wakes.{may_wake}
 use Rattle.peer_machine.specs.Rules.{Rules}
 use Rattle.peer_machine.specs.Net.{Net, effect, happens, is_lawful, opening}
 use Rattle.peer_machine.specs.Run.{IsRunUnder, net_after, run}

@@ -6,12 +6,12 @@ use Rattle.std.proofs.lemmas.List.Elements.{Contains-get_or}
 use Rattle.std.proofs.lemmas.Option.{get_or_from_slice_get, slice_get_within}
 use Rattle.ghs_graph.specs.Graph.{Shape}
 use Rattle.ghs_graph.proofs.lemmas.Members.{in_filter}
-use Rattle.ghs_protocol.specs.declared.event.Event.{Event}
-use Rattle.ghs_index.specs.Places.{all_events}
-use Rattle.ghs_world.specs.declared.wake_set.WakeSet.{WakeSet}
-use Rattle.ghs_world.specs.Wakes.{may_wake}
-use Rattle.ghs_sched.specs.Picks.{IsPick}
-use Rattle.ghs_sched.specs.Schedule.{next_of, word_of}
+use Rattle.peer_network.specs.declared.event.Event.{Event}
+use Rattle.peer_index.specs.Places.{all_events}
+use Rattle.peer_network.specs.declared.wake_set.WakeSet.{WakeSet}
+use Rattle.peer_network.specs.Wakes.{may_wake}
+use Rattle.peer_schedule.specs.Picks.{IsPick}
+use Rattle.peer_schedule.specs.Schedule.{next_of, word_of}
 use Rattle.peer_machine.specs.Rules.{Rules}
 use Rattle.peer_net.specs.NetState.{network}
 use Rattle.peer_runs.specs.Lawful.{lawful_events}

@@ -1,10 +1,10 @@
 -- Which events are lawful where some nodes alone wake by themselves.
 use Rattle.std.specs.Prelude.{ℕ, Bool, ◌&&◌, List, filter}
 use Rattle.ghs_graph.specs.Graph.{Shape}
-use Rattle.ghs_protocol.specs.declared.event.Event.{Event}
-use Rattle.ghs_protocol.specs.declared.event.Event.TheVariants.{Wake, Take}
-use Rattle.ghs_protocol.specs.Network.{Network, network_of}
-use Rattle.ghs_index.specs.Places.{all_events}
+use Rattle.peer_network.specs.declared.event.Event.{Event}
+use Rattle.peer_network.specs.declared.event.Event.TheVariants.{Wake, Take}
+use Rattle.peer_network.specs.Network.{Network, network_of}
+use Rattle.peer_index.specs.Places.{all_events}
 use Rattle.peer_machine.specs.Rules.{Rules}
 use Rattle.peer_machine.specs.Net.{Net, is_lawful}
 use Rattle.peer_machine.specs.Run.{net_after}

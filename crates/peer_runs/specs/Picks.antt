@@ -1,9 +1,9 @@
 -- Runs whose events a schedule picks.
 use Rattle.std.specs.Prelude.{◌≡◌, ℕ, ◌<◌, ◌≤◌, ◌⊎◌, Bool, List, [], ◌∷◌, ◌++◌, length, take}
 use Rattle.ghs_graph.specs.Graph.{Shape}
-use Rattle.ghs_protocol.specs.declared.event.Event.{Event}
-use Rattle.ghs_sched.specs.Picks.{IsPick, PicksAgree}
-use Rattle.ghs_sched.specs.Schedule.{next_of}
+use Rattle.peer_network.specs.declared.event.Event.{Event}
+use Rattle.peer_schedule.specs.Picks.{IsPick, PicksAgree}
+use Rattle.peer_schedule.specs.Schedule.{next_of}
 use Rattle.peer_machine.specs.Rules.{Rules}
 use Rattle.peer_runs.specs.Lawful.{lawful_events}
 

@@ -1,12 +1,12 @@
 -- Runs done again.
 use Rattle.std.specs.Prelude.{◌≡◌, ℕ, ◌-◌, ◌≤◌, false, Some, List, take, slice_get}
 use Rattle.ghs_graph.specs.Graph.{Shape}
-use Rattle.ghs_protocol.specs.declared.event.Event.{Event}
-use Rattle.ghs_protocol.specs.Network.{network_of}
-use Rattle.ghs_world.specs.declared.wake_set.WakeSet.{WakeSet}
-use Rattle.ghs_world.specs.Wakes.{may_wake}
-use Rattle.ghs_sched.specs.declared.fault.ReplayFault.{ReplayFault}
-use Rattle.ghs_sched.specs.declared.fault.ReplayFault.TheVariants.{NotLawful, Unforeseen, Memory}
+use Rattle.peer_network.specs.declared.event.Event.{Event}
+use Rattle.peer_network.specs.Network.{network_of}
+use Rattle.peer_network.specs.declared.wake_set.WakeSet.{WakeSet}
+use Rattle.peer_network.specs.Wakes.{may_wake}
+use Rattle.peer_schedule.specs.declared.fault.ReplayFault.{ReplayFault}
+use Rattle.peer_schedule.specs.declared.fault.ReplayFault.TheVariants.{NotLawful, Unforeseen, Memory}
 use Rattle.peer_machine.specs.Rules.{Rules}
 use Rattle.peer_machine.specs.Run.{IsRunUnder, net_after}
 use Rattle.peer_runs.specs.Lawful.{is_lawful_under}

@@ -1,8 +1,8 @@
 -- What a seeded run leaves of a world and a schedule.
 use Rattle.std.specs.Prelude.{◌≡◌, ℕ, ◌<◌, ◌≤◌, List, length}
-use Rattle.ghs_protocol.specs.declared.event.Event.{Event}
-use Rattle.ghs_sched.specs.Picks.{IsPick}
-use Rattle.ghs_sched.specs.Schedule.{next_of}
+use Rattle.peer_network.specs.declared.event.Event.{Event}
+use Rattle.peer_schedule.specs.Picks.{IsPick}
+use Rattle.peer_schedule.specs.Schedule.{next_of}
 use Rattle.peer_machine.specs.Rules.{Rules}
 use Rattle.peer_runs.specs.Picks.{IsPicked, IsSeededRun}
 use Rattle.peer_runs.specs.WorldState.{WorldState, wakers, ready_events, HasPlayed}

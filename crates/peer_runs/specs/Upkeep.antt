@@ -1,12 +1,12 @@
 -- Which events may have changed once one has happened.
 use Rattle.std.specs.Prelude.{ℕ, ◌<◌, List, ◌∷◌, length, map}
 use Rattle.std.specs.List.{All}
-use Rattle.ghs_protocol.specs.declared.event.Event.{Event}
-use Rattle.ghs_protocol.specs.declared.event.Event.TheVariants.{Wake}
-use Rattle.ghs_protocol.specs.Network.{Network, At, far, far_port}
-use Rattle.ghs_index.specs.Places.{HasPlace, far_take}
-use Rattle.ghs_index.specs.Index.{IndexState, IsIndexBut}
-use Rattle.ghs_world.specs.declared.wake_set.WakeSet.{WakeSet}
+use Rattle.peer_network.specs.declared.event.Event.{Event}
+use Rattle.peer_network.specs.declared.event.Event.TheVariants.{Wake}
+use Rattle.peer_network.specs.Network.{Network, At, far, far_port}
+use Rattle.peer_index.specs.Places.{HasPlace, far_take}
+use Rattle.peer_index.specs.Index.{IndexState, IsIndexBut}
+use Rattle.peer_network.specs.declared.wake_set.WakeSet.{WakeSet}
 use Rattle.peer_machine.specs.Rules.{Rules, Outgoing}
 use Rattle.peer_machine.specs.Net.{Net, event_node}
 use Rattle.peer_net.specs.NetState.{NetState, network, net_of}

@@ -1,11 +1,11 @@
 -- What a world is seen as: a net, and which nodes wake by themselves.
 use Rattle.std.specs.Prelude.{◌≡◌, ℕ, Bool, Some, List, [], ◌∷◌, ◌++◌}
 use Rattle.std.specs.List.{All}
-use Rattle.ghs_protocol.specs.declared.event.Event.{Event}
-use Rattle.ghs_protocol.specs.Run.{MayWake}
-use Rattle.ghs_index.specs.Index.{IndexState, IsIndexOf}
-use Rattle.ghs_world.specs.declared.wake_set.WakeSet.{WakeSet}
-use Rattle.ghs_world.specs.Wakes.{may_wake}
+use Rattle.peer_network.specs.declared.event.Event.{Event}
+use Rattle.peer_network.specs.Events.{MayWake}
+use Rattle.peer_index.specs.Index.{IndexState, IsIndexOf}
+use Rattle.peer_network.specs.declared.wake_set.WakeSet.{WakeSet}
+use Rattle.peer_network.specs.Wakes.{may_wake}
 use Rattle.peer_machine.specs.Rules.{Rules}
 use Rattle.peer_machine.specs.Net.{happens}
 use Rattle.peer_net.specs.NetState.{NetState, network, net_of}

@@ -1,17 +1,17 @@
 //! Runs done again.
 ghost use Rattle.std.specs.Prelude.{◌≡◌, IfErr, IfOk};
-ghost use Rattle.ghs_protocol.specs.Network.{network_of};
-ghost use Rattle.ghs_sched.specs.declared.fault.ReplayFault.TheVariants.{Memory};
-ghost use Rattle.ghs_world.specs.Wakes.{may_wake};
+ghost use Rattle.peer_network.specs.Network.{network_of};
+ghost use Rattle.peer_schedule.specs.declared.fault.ReplayFault.TheVariants.{Memory};
+ghost use Rattle.peer_network.specs.Wakes.{may_wake};
 ghost use Rattle.peer_machine.specs.Run.{IsRunUnder};
 ghost use Rattle.peer_runs.specs.Replays.{CantReplay, HasReplayed};
 
 use crate::world::World;
 use ghs_graph::graph::Graph;
-use ghs_sched::fault::ReplayFault;
-use ghs_world::wake_set::WakeSet;
 use peer_machine::protocol::Protocol;
 use peer_net::event::Event;
+use peer_network::wake_set::WakeSet;
+use peer_schedule::fault::ReplayFault;
 use std::alloc::Global;
 
 /// The world that a list of events leaves, done in order from the opening of the graph on. A fault hands the graph back. A

@@ -5,8 +5,8 @@ ghost use Rattle.peer_runs.specs.WorldState.{ready_events};
 
 use crate::fault::RunFault;
 use crate::world::World;
-use ghs_sched::schedule::Schedule;
 use peer_machine::protocol::Protocol;
+use peer_schedule::schedule::Schedule;
 use std::alloc::{AllocError, Global};
 
 /// Runs a world on by a schedule: each word picks one of the events that are ready, and it happens, until none is ready or

@@ -1,18 +1,18 @@
 //! The index of the events that may happen, and its upkeep.
 ghost use Rattle.std.specs.Prelude.{◌≡◌, List, [], ◌∷◌, IfOk};
-ghost use Rattle.ghs_protocol.specs.declared.event.Event.{Event as Happening};
-ghost use Rattle.ghs_index.specs.Places.{HasPlace};
-ghost use Rattle.ghs_index.specs.Index.{IsFor, IsIndexOf, IsIndexBut};
+ghost use Rattle.peer_network.specs.declared.event.Event.{Event as Happening};
+ghost use Rattle.peer_index.specs.Places.{HasPlace};
+ghost use Rattle.peer_index.specs.Index.{IsFor, IsIndexOf, IsIndexBut};
 ghost use Rattle.peer_machine.specs.Net.{event_node};
 ghost use Rattle.peer_net.specs.NetState.{network};
 ghost use Rattle.peer_runs.specs.Upkeep.{IsStale};
 ghost use Rattle.peer_runs.specs.WorldState.{lawful_in};
 
-use ghs_index::index::Index;
-use ghs_world::wake_set::WakeSet;
+use peer_index::index::Index;
 use peer_machine::protocol::Protocol;
 use peer_net::event::Event;
 use peer_net::net::Net;
+use peer_network::wake_set::WakeSet;
 use std::alloc::{AllocError, Global};
 
 /// The index of an opening net: the wakes of the nodes that sleep and may wake by themselves. O(N + E).

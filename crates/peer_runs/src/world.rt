@@ -6,11 +6,11 @@ ghost use Rattle.peer_runs.specs.WorldState.{wakers, is_ready, ready_events, Has
 
 use crate::upkeep::{mark_changed, may_happen, open_index};
 use ghs_graph::graph::Graph;
-use ghs_index::index::Index;
-use ghs_world::wake_set::WakeSet;
+use peer_index::index::Index;
 use peer_machine::protocol::Protocol;
 use peer_net::event::Event;
 use peer_net::net::Net;
+use peer_network::wake_set::WakeSet;
 use std::alloc::{AllocError, Global};
 use std::marker::Model;
 

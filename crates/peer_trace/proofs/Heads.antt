@@ -5,7 +5,7 @@ use Rattle.std.proofs.lemmas.Simd.{map-map}
 use Rattle.ghs_lines.specs.Fields.{fields_of}
 use Rattle.ghs_lines.specs.Lines.{lines_of}
 use Rattle.ghs_lines.proofs.lemmas.Words.{fields_of-last, fields_of-word, has_no_feed-last, has_no_feed-word, lines_of-line}
-use Rattle.ghs_sched.specs.Line.{meaning_of, meanings}
+use Rattle.peer_texts.specs.Line.{meaning_of, meanings}
 use Rattle.peer_trace.specs.Head.{fields_in, head_fields, first_fields, named_by, plain_head, plain_lines, protocol_in}
 use Rattle.peer_trace.specs.Reading.{says}
 use Rattle.peer_trace.specs.declared.protocol.Protocol.{Protocol}

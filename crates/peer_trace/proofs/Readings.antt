@@ -3,13 +3,13 @@ use Rattle.std.proofs.Common.{◌≡◌, ◌≢◌, ◌⊎◌, ◌∙◌, ℕ, s
 use Rattle.std.specs.Str.{bytes_eq}
 use Rattle.std.proofs.lemmas.Bool.{cond-true}
 use Rattle.std.proofs.lemmas.Option.{same_Some}
-use Rattle.ghs_protocol.specs.declared.event.Event.{Event}
-use Rattle.ghs_sched.specs.Laws.{IsOneReading}
-use Rattle.ghs_sched.specs.Line.{head_of, meaning_of, meanings, take_of, wake_of}
-use Rattle.ghs_sched.specs.Reading.{HaveFault, IsTrace, line_fault}
-use Rattle.ghs_sched.specs.declared.fault.TraceFault.{TraceFault}
-use Rattle.ghs_sched.specs.declared.line.Line.{Line}
-use Rattle.ghs_sched.specs.declared.line.Line.TheVariants.{Passed, Malformed}
+use Rattle.peer_network.specs.declared.event.Event.{Event}
+use Rattle.peer_texts.specs.Laws.{IsOneReading}
+use Rattle.peer_texts.specs.Line.{head_of, meaning_of, meanings, take_of, wake_of}
+use Rattle.peer_texts.specs.Reading.{HaveFault, IsTrace, line_fault}
+use Rattle.peer_texts.specs.declared.fault.TraceFault.{TraceFault}
+use Rattle.peer_texts.specs.declared.line.Line.{Line}
+use Rattle.peer_texts.specs.declared.line.Line.TheVariants.{Passed, Malformed}
 use Rattle.peer_trace.specs.Head.{fields_in, first_fields, named_by, plain_lines, protocol_in}
 use Rattle.peer_trace.specs.Laws.{AreReadAsBefore, HasOneProtocol, IsOneReadingOf}
 use Rattle.peer_trace.specs.Reading.{HasEventsOf, HasFaultOf, IsNoOther, says}

@@ -1,8 +1,8 @@
 -- Worked examples, computed from the definitions. A line feed stands behind each `line`.
 use Rattle.std.specs.Prelude.{ℕ, ◌≡◌, List, [], ◌∷◌, ◌++◌, codes, refl, Some, None}
 use Rattle.std.specs.Fmt.{digits}
-use Rattle.ghs_protocol.specs.declared.event.Event.TheVariants as event
-use Rattle.ghs_sched.specs.declared.line.Line.TheVariants.{Passed, Malformed, Head, Wake, Take}
+use Rattle.peer_network.specs.declared.event.Event.TheVariants as event
+use Rattle.peer_texts.specs.declared.line.Line.TheVariants.{Passed, Malformed, Head, Wake, Take}
 use Rattle.peer_trace.specs.Head.{protocol_in}
 use Rattle.peer_trace.specs.Reading.{says}
 use Rattle.peer_trace.specs.Text.{stored_text}

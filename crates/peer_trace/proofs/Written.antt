@@ -5,11 +5,11 @@ use Rattle.std.proofs.lemmas.Fmt.{decimal_nonempty}
 use Rattle.std.proofs.lemmas.Option.{same_Some}
 use Rattle.ghs_lines.specs.Fields.{fields_of}
 use Rattle.ghs_lines.proofs.lemmas.Words.{decimal_plain, fields_of-last, fields_of-word, has_no_feed, has_no_feed-last, has_no_feed-word, lines_of-line}
-use Rattle.ghs_protocol.specs.declared.event.Event.{Event}
-use Rattle.ghs_sched.specs.Laws.{IsReadBack, ReadsBack}
-use Rattle.ghs_sched.specs.Line.{meaning_of, meanings}
-use Rattle.ghs_sched.specs.Reading.{HaveFault, IsTrace}
-use Rattle.ghs_sched.specs.Text.{event_text, trace_text}
+use Rattle.peer_network.specs.declared.event.Event.{Event}
+use Rattle.peer_texts.specs.Laws.{IsReadBack, ReadsBack}
+use Rattle.peer_texts.specs.Line.{meaning_of, meanings}
+use Rattle.peer_texts.specs.Reading.{HaveFault, IsTrace}
+use Rattle.peer_texts.specs.Text.{event_text, trace_text}
 use Rattle.peer_trace.specs.Head.{fields_in, head_fields, first_fields, named_by, plain_lines, protocol_in}
 use Rattle.peer_trace.specs.Laws.{ReadsBackOf}
 use Rattle.peer_trace.specs.Reading.{HasFaultOf, says}

@@ -1,11 +1,11 @@
 -- What holds of the texts of stored runs.
 use Rattle.std.specs.Prelude.{ℕ, ◌≡◌, ◌≢◌, ◌≤◌, ◌⊎◌, ◌↔◌, length, List}
 use Rattle.std.specs.List.{All}
-use Rattle.ghs_protocol.specs.declared.event.Event.{Event}
-use Rattle.ghs_sched.specs.Laws.{IsNarrow}
-use Rattle.ghs_sched.specs.Reading.{HasEvents, HasFault}
-use Rattle.ghs_sched.specs.declared.fault.TraceFault.{TraceFault}
-use Rattle.ghs_sched.specs.declared.trace.TheConstants.{EVENT_LIMIT}
+use Rattle.peer_network.specs.declared.event.Event.{Event}
+use Rattle.peer_texts.specs.Laws.{IsNarrow}
+use Rattle.peer_texts.specs.Reading.{HasEvents, HasFault}
+use Rattle.peer_texts.specs.declared.fault.TraceFault.{TraceFault}
+use Rattle.peer_texts.specs.declared.trace.TheConstants.{EVENT_LIMIT}
 use Rattle.peer_trace.specs.Head.{protocol_in}
 use Rattle.peer_trace.specs.Reading.{HasEventsOf, HasFaultOf, IsNoOther}
 use Rattle.peer_trace.specs.Text.{stored_text}

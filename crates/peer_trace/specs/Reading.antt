@@ -1,9 +1,9 @@
 -- What a text is to who asks for a run of a protocol.
 use Rattle.std.specs.Prelude.{ℕ, ◌≡◌, ◌≢◌, map, List, Option, Some, None}
-use Rattle.ghs_protocol.specs.declared.event.Event.{Event}
-use Rattle.ghs_sched.specs.Line.{meaning_of}
-use Rattle.ghs_sched.specs.Reading.{HaveFault, IsTrace}
-use Rattle.ghs_sched.specs.declared.line.Line.{Line}
+use Rattle.peer_network.specs.declared.event.Event.{Event}
+use Rattle.peer_texts.specs.Line.{meaning_of}
+use Rattle.peer_texts.specs.Reading.{HaveFault, IsTrace}
+use Rattle.peer_texts.specs.declared.line.Line.{Line}
 use Rattle.peer_trace.specs.Head.{fields_in, plain_lines, protocol_in}
 use Rattle.peer_trace.specs.declared.fault.StoredFault.{StoredFault}
 use Rattle.peer_trace.specs.declared.fault.StoredFault.TheVariants.{Other, Trace}

@@ -1,8 +1,8 @@
 -- The text of a stored run.
 use Rattle.std.specs.Prelude.{ℕ, codes, decimal, length, ◌++◌, List, [], ◌∷◌}
 use Rattle.std.specs.List.{flat_map}
-use Rattle.ghs_protocol.specs.declared.event.Event.{Event}
-use Rattle.ghs_sched.specs.Text.{event_text, head_text}
+use Rattle.peer_network.specs.declared.event.Event.{Event}
+use Rattle.peer_texts.specs.Text.{event_text, head_text}
 use Rattle.peer_trace.specs.Protocol.{name_of}
 use Rattle.peer_trace.specs.declared.protocol.Protocol.{Protocol}
 use Rattle.peer_trace.specs.declared.protocol.Protocol.TheVariants.{Ghs, Boruvka}

@@ -1,10 +1,10 @@
 //! Why a text is no stored run of a protocol.
-ghost use Rattle.ghs_sched.specs.declared.fault.TraceFault.TheVariants.{Memory};
+ghost use Rattle.peer_texts.specs.declared.fault.TraceFault.TheVariants.{Memory};
 ghost use Rattle.peer_trace.specs.declared.fault.StoredFault.TheVariants.{Trace};
 ghost use Rattle.std.specs.Prelude.{◌≡◌};
 
 use crate::protocol::Protocol;
-use ghs_sched::fault::TraceFault;
+use peer_texts::fault::TraceFault;
 use std::alloc::AllocError;
 use thiserror::Error;
 

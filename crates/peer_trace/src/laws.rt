@@ -3,7 +3,7 @@ ghost use Rattle.peer_trace.specs.Laws.{AreReadAsBefore, HasOneProtocol, IsOneRe
 ghost use Rattle.peer_trace.specs.declared.protocol.Protocol.{Protocol};
 ghost use Rattle.std.specs.Prelude.{List, ℕ};
 
-use ghs_sched::laws::{law_one_reading, law_trace};
+use peer_texts::laws::{law_one_reading, law_trace};
 
 /// Within the limits the text of a run of a protocol has these events and no others, and no fault; and whoever asks for
 /// another protocol is told this one.

@@ -1,16 +1,16 @@
 //! Texts of stored runs whose head names the protocol.
 //!
-//! A run of GHS is stored as `trace COUNT` and a line for each event, as `ghs_sched` writes and reads it. A run of another
+//! A run of GHS is stored as `trace COUNT` and a line for each event, as `peer_texts` writes and reads it. A run of another
 //! protocol has its name in the head: `trace boruvka COUNT`.
 //!
 //! Proved: `write_trace_of` writes exactly that text (`stored_text`). `read_trace_of` gives the events exactly where the head
 //! names the protocol that is asked for and the lines are a trace's (`HasEventsOf`); a text whose head names another one is
 //! refused by its name, and every other with its first fault, in the stored text's own lines (`HasFaultOf`). What was written
 //! is read back, and refused when another protocol is asked for (`law_stored_trace`); a text has one reading
-//! (`law_one_stored_reading`); runs of GHS are read as `ghs_sched` reads them (`law_ghs_trace`).
+//! (`law_one_stored_reading`); runs of GHS are read as `peer_texts` reads them (`law_ghs_trace`).
 //!
 //! Whether the events are a run of a graph isn't asked here. A text of Borůvka in step is copied once, without the name, to be
-//! read. Read `specs/Head.antt` first. Next: `ghs_sched`, which has the lines and the faults.
+//! read. Read `specs/Head.antt` first. Next: `peer_texts`, which has the lines and the faults.
 #![tactic(auto)]
 
 pub mod fault;

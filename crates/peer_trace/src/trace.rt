@@ -1,6 +1,6 @@
 //! The text of a stored run, written and read.
-ghost use Rattle.ghs_sched.specs.Reading.{HaveFault, IsTrace};
-ghost use Rattle.ghs_sched.specs.declared.fault.TraceFault.TheVariants.{Memory};
+ghost use Rattle.peer_texts.specs.Reading.{HaveFault, IsTrace};
+ghost use Rattle.peer_texts.specs.declared.fault.TraceFault.TheVariants.{Memory};
 ghost use Rattle.peer_trace.specs.Head.{protocol_in};
 ghost use Rattle.peer_trace.specs.Protocol.{name_of};
 ghost use Rattle.peer_trace.specs.Reading.{HasEventsOf, HasFaultOf, IsNoOther, says};
@@ -12,9 +12,9 @@ ghost use Rattle.std.specs.Prelude.{IfErr, IfNone, IfOk, IfSome, IsTrue, Some, c
 use crate::fault::StoredFault;
 use crate::head::{protocol_of, without_name};
 use crate::protocol::Protocol;
-use ghs_protocol::event::Event;
-use ghs_sched::fault::TraceFault;
-use ghs_sched::trace::{read_trace, write_trace};
+use peer_network::event::Event;
+use peer_texts::fault::TraceFault;
+use peer_texts::trace::{read_trace, write_trace};
 use std::alloc::{AllocError, Global};
 
 /// The text of a run of this protocol: the head, which names it and says how many events there are, and a line for each of

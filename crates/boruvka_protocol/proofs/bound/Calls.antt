@@ -2,8 +2,7 @@
 use Rattle.std.proofs.Common.{◌≡◌, ℕ, ◌+◌, ◌≤◌, ◌==◌, Bool, true, false, List, [], ◌∷◌, length, cond, refl, arith}
 use Rattle.ghs_graph.specs.declared.key.Key.{Key}
 use Rattle.peer_machine.specs.Ledger.{of_kind}
-use Rattle.peer_machine.specs.Rules.{Outgoing}
-use Rattle.peer_machine.specs.Rules.{messages}
+use Rattle.peer_machine.specs.Rules.{Outgoing, messages}
 use Rattle.boruvka_node.specs.declared.message.Message.{Message}
 use Rattle.boruvka_node.specs.declared.message.Message.TheVariants.{Connect, Initiate, Name, Report, ChangeRoot}
 use Rattle.boruvka_node.specs.Boruvka.{boruvka}

@@ -1,13 +1,12 @@
 -- Names, Initiates and Reports are paid for by levels: those heard at ports, those of nodes, and those whose search has ended.
 use Rattle.std.proofs.Common.{◌≡◌, ◌≢◌, ℕ, ◌+◌, ◌<◌, ◌≤◌, ◌==◌, Bool, true, false, List, [], ◌∷◌, length, cond, refl, sym, ap, subst, arith, ⊎_elim}
 use Rattle.std.proofs.lemmas.Bool.{cases_eq}
-use Rattle.ghs_protocol.specs.Network.{Network, At}
-use Rattle.ghs_protocol.specs.Ledger.{sum_below, sum_over_nodes, sum_over_ports}
-use Rattle.ghs_protocol.proofs.lemmas.Sums.{sum_none}
+use Rattle.peer_network.specs.Network.{Network, At}
+use Rattle.peer_network.specs.Sums.{sum_below, sum_over_nodes, sum_over_ports}
+use Rattle.peer_network.proofs.lemmas.Sums.{sum_none}
 use Rattle.peer_machine.specs.Net.{Net, opening}
 use Rattle.peer_machine.specs.Ledger.{of_kind}
-use Rattle.peer_machine.specs.Rules.{Outgoing}
-use Rattle.peer_machine.specs.Rules.{messages}
+use Rattle.peer_machine.specs.Rules.{Outgoing, messages}
 use Rattle.boruvka_node.specs.declared.message.Message.{Message}
 use Rattle.boruvka_node.specs.declared.message.Message.TheVariants.{ChangeRoot}
 use Rattle.boruvka_node.specs.declared.message.Phase.{Phase}

@@ -3,12 +3,12 @@ use Rattle.std.proofs.Common.{◌≡◌, ◌≢◌, ◌⊎◌, ℕ, zero, suc, �
 use Rattle.std.proofs.lemmas.Bool.{cases_eq}
 use Rattle.ghs_graph.specs.declared.key.Key.{Key}
 use Rattle.ghs_graph.specs.Graph.{Shape, IsGraph}
-use Rattle.ghs_protocol.specs.Network.{network_of, At, port_at, far, far_port}
-use Rattle.ghs_protocol.specs.Ledger.{sum_over_nodes}
-use Rattle.ghs_protocol.proofs.lemmas.Wired.{IsWired}
-use Rattle.ghs_protocol.proofs.lemmas.Wires.{neighbour}
-use Rattle.ghs_protocol.proofs.lemmas.Graphs.{graph_wired}
-use Rattle.ghs_protocol.proofs.lemmas.Updates.{put_same, put_other}
+use Rattle.peer_network.specs.Network.{network_of, At, port_at, far, far_port}
+use Rattle.peer_network.specs.Sums.{sum_over_nodes}
+use Rattle.peer_network.proofs.lemmas.Wired.{IsWired}
+use Rattle.peer_network.proofs.lemmas.Wires.{neighbour}
+use Rattle.peer_network.proofs.lemmas.Graphs.{graph_wired}
+use Rattle.peer_network.proofs.lemmas.Updates.{put_same, put_other}
 use Rattle.peer_machine.specs.Net.{Net, put, opening}
 use Rattle.peer_machine.specs.Ledger.{of_kind}
 use Rattle.peer_machine.specs.Rules.{messages}

@@ -1,10 +1,10 @@
 -- Runs: what is paid is kept by every event of a run whose nets keep the invariant, so that no run sends more than the bound.
 use Rattle.std.proofs.Common.{◌≡◌, ℕ, ◌≤◌, List, [], ◌∷◌, ◌++◌, length, refl, sym, subst, arith}
 use Rattle.ghs_graph.specs.Graph.{Shape, IsGraph}
-use Rattle.ghs_protocol.specs.declared.event.Event.{Event}
-use Rattle.ghs_protocol.specs.Network.{network_of, At}
-use Rattle.ghs_protocol.proofs.lemmas.Wired.{IsWired}
-use Rattle.ghs_protocol.proofs.lemmas.Graphs.{graph_wired}
+use Rattle.peer_network.specs.declared.event.Event.{Event}
+use Rattle.peer_network.specs.Network.{network_of, At}
+use Rattle.peer_network.proofs.lemmas.Wired.{IsWired}
+use Rattle.peer_network.proofs.lemmas.Graphs.{graph_wired}
 use Rattle.peer_machine.specs.Net.{Net, opening}
 use Rattle.peer_machine.specs.Run.{IsNetOf}
 use Rattle.peer_machine.specs.Steps.{Happens}

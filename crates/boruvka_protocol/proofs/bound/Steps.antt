@@ -1,10 +1,10 @@
 -- An event, as its node fares in it.
 use Rattle.std.proofs.Common.{◌≡◌, ◌≢◌, ℕ, ◌+◌, ◌≤◌, List, [], ◌∷◌, refl, ◌∙◌, ap, arith}
-use Rattle.ghs_protocol.specs.Network.{Network, At, InNetwork}
-use Rattle.ghs_protocol.specs.declared.event.Event.{Event}
-use Rattle.ghs_protocol.proofs.lemmas.Wired.{IsWired}
-use Rattle.ghs_protocol.proofs.lemmas.Updates.{put_same, put_other}
-use Rattle.ghs_protocol.proofs.lemmas.Wires.{at_in}
+use Rattle.peer_network.specs.Network.{Network, At, InNetwork}
+use Rattle.peer_network.specs.declared.event.Event.{Event}
+use Rattle.peer_network.proofs.lemmas.Wired.{IsWired}
+use Rattle.peer_network.proofs.lemmas.Updates.{put_same, put_other}
+use Rattle.peer_network.proofs.lemmas.Wires.{at_in}
 use Rattle.peer_machine.specs.Net.{Net, put, take_first}
 use Rattle.peer_machine.specs.Ledger.{of_kind}
 use Rattle.peer_machine.specs.Steps.{Happens, Woke, Took}

@@ -2,9 +2,9 @@
 use Rattle.std.proofs.Common.{◌≡◌, ◌≢◌, ℕ, zero, suc, ◌+◌, ◌*◌, ◌<◌, ◌≤◌, length, ⊎_elim, arith, suc-mul}
 use Rattle.std.proofs.Math.Nat.{add-mul}
 use Rattle.std.proofs.lemmas.Bool.{cases_eq}
-use Rattle.ghs_protocol.specs.Network.{Network, InNetwork, At}
-use Rattle.ghs_protocol.specs.Ledger.{sum_below, sum_over_nodes, sum_over_ports}
-use Rattle.ghs_protocol.proofs.lemmas.Sums.{sum_none, sum_most, sum_one, sum_less}
+use Rattle.peer_network.specs.Network.{Network, InNetwork, At}
+use Rattle.peer_network.specs.Sums.{sum_below, sum_over_nodes, sum_over_ports}
+use Rattle.peer_network.proofs.lemmas.Sums.{sum_none, sum_most, sum_one, sum_less}
 
 -- where no term is above c
 pub sum_bounded : (n c : ℕ) (f : ℕ → ℕ) → ((i : ℕ) → i < n → f i ≤ c) → sum_below n f ≤ n * c

@@ -5,8 +5,7 @@ use Rattle.std.proofs.lemmas.List.Sums.{sum_by-cons}
 use Rattle.ghs_graph.specs.declared.key.Key.{Key}
 use Rattle.ghs_node.specs.Words.{is_at, best_key}
 use Rattle.peer_machine.specs.Ledger.{of_kind}
-use Rattle.peer_machine.specs.Rules.{Outgoing}
-use Rattle.peer_machine.specs.Rules.{messages}
+use Rattle.peer_machine.specs.Rules.{Outgoing, messages}
 use Rattle.peer_machine.specs.declared.work.Work.{Work}
 use Rattle.peer_machine.specs.declared.work.Work.TheVariants.{Wake, Deliver}
 use Rattle.boruvka_node.specs.declared.change.Entry.{Entry}

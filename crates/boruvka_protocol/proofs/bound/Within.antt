@@ -9,11 +9,11 @@ use Rattle.ghs_graph.proofs.lemmas.Joining.{joined_back}
 use Rattle.ghs_levels.specs.Levels.{IsOfLevel, InClass}
 use Rattle.ghs_levels.proofs.lemmas.Sizes.{levels_are_few}
 use Rattle.ghs_levels.proofs.lemmas.WaysUp.{level_at}
-use Rattle.ghs_protocol.specs.Network.{network_of, At, InNetwork, port_at, far, far_port}
-use Rattle.ghs_protocol.specs.Ledger.{sum_below, sum_over_nodes}
-use Rattle.ghs_protocol.proofs.lemmas.Wires.{at_in}
-use Rattle.ghs_protocol.proofs.lemmas.Graphs.{graph_wired, port_ends, twice_links}
-use Rattle.ghs_protocol.proofs.lemmas.Sums.{ports_add, sum_add}
+use Rattle.peer_network.specs.Network.{network_of, At, InNetwork, port_at, far, far_port}
+use Rattle.peer_network.specs.Sums.{sum_below, sum_over_nodes}
+use Rattle.peer_network.proofs.lemmas.Wires.{at_in}
+use Rattle.peer_network.proofs.lemmas.Graphs.{graph_wired, port_ends, twice_links}
+use Rattle.peer_network.proofs.lemmas.Sums.{ports_add, sum_add}
 use Rattle.peer_machine.specs.Net.{Net}
 use Rattle.peer_machine.specs.Ledger.{of_kind, IsBalanced, in_all}
 use Rattle.boruvka_node.specs.declared.message.Message.{Message}

@@ -1,13 +1,13 @@
 -- A run has as many events as it takes messages and wakes nodes; no node wakes twice.
 use Rattle.std.proofs.Common.{◌≡◌, ◌≢◌, ℕ, suc, ◌+◌, ◌≤◌, true, Some, List, [], ◌∷◌, length, refl, sym, ◌∙◌, ap, subst, arith}
-use Rattle.ghs_protocol.specs.declared.event.Event.{Event}
-use Rattle.ghs_protocol.specs.declared.event.Event.TheVariants as events
-use Rattle.ghs_protocol.specs.Network.{Network, network_of}
-use Rattle.ghs_protocol.specs.Ledger.{sum_below, takes_in}
-use Rattle.ghs_protocol.proofs.lemmas.Wired.{IsWired}
-use Rattle.ghs_protocol.proofs.lemmas.Graphs.{graph_wired}
-use Rattle.ghs_protocol.proofs.lemmas.Nodes.{node_before}
-use Rattle.ghs_protocol.proofs.lemmas.Sums.{sum_most, sum_few, sum_less}
+use Rattle.peer_network.specs.declared.event.Event.{Event}
+use Rattle.peer_network.specs.declared.event.Event.TheVariants as events
+use Rattle.peer_network.specs.Network.{Network, network_of}
+use Rattle.peer_network.specs.Sums.{sum_below}
+use Rattle.peer_network.specs.Events.{takes_in}
+use Rattle.peer_network.proofs.lemmas.Wired.{IsWired}
+use Rattle.peer_network.proofs.lemmas.Graphs.{graph_wired}
+use Rattle.peer_network.proofs.lemmas.Sums.{node_before, sum_most, sum_few, sum_less}
 use Rattle.peer_machine.specs.declared.work.Work.TheVariants.{Wake}
 use Rattle.peer_machine.specs.Rules.{HasKinds}
 use Rattle.peer_machine.specs.Net.{Net, opening, happens, reacted, take_first}

@@ -1,9 +1,9 @@
 -- Laws of nodes: they keep their ports, stay awake and lose no level; sleepers are untouched and silent.
 use Rattle.std.proofs.Common.{◌≡◌, ℕ, Some, sym, ◌∙◌}
 use Rattle.ghs_graph.specs.Graph.{Shape}
-use Rattle.ghs_protocol.specs.declared.event.Event.{Event}
-use Rattle.ghs_protocol.specs.Network.{network_of}
-use Rattle.ghs_protocol.proofs.lemmas.Graphs.{graph_wired}
+use Rattle.peer_network.specs.declared.event.Event.{Event}
+use Rattle.peer_network.specs.Network.{network_of}
+use Rattle.peer_network.proofs.lemmas.Graphs.{graph_wired}
 use Rattle.peer_machine.specs.Net.{Net, opening}
 use Rattle.peer_machine.specs.Run.{run, IsLater}
 use Rattle.peer_machine.specs.Steps.{Happens}

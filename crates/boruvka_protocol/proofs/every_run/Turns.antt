@@ -8,10 +8,10 @@ use Rattle.ghs_graph.specs.Ports.{far_end}
 use Rattle.ghs_levels.specs.Levels.{InClass, IsOfLevel}
 use Rattle.ghs_levels.proofs.lemmas.WaysUp.{classes_have_one_top}
 use Rattle.ghs_node.specs.Words.{is_at}
-use Rattle.ghs_protocol.specs.Network.{Network, network_of, At, InNetwork, far, far_port}
-use Rattle.ghs_protocol.proofs.lemmas.Wired.{IsWired}
-use Rattle.ghs_protocol.proofs.lemmas.Graphs.{graph_wired}
-use Rattle.ghs_protocol.proofs.lemmas.Wires.{at_in}
+use Rattle.peer_network.specs.Network.{Network, network_of, At, InNetwork, far, far_port}
+use Rattle.peer_network.proofs.lemmas.Wired.{IsWired}
+use Rattle.peer_network.proofs.lemmas.Graphs.{graph_wired}
+use Rattle.peer_network.proofs.lemmas.Wires.{at_in}
 use Rattle.peer_machine.specs.Rules.{Outgoing}
 use Rattle.peer_machine.specs.Net.{Net, put, reacted, take_first}
 use Rattle.boruvka_node.specs.declared.change.Entry.{Entry}

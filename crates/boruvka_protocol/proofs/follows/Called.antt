@@ -6,7 +6,7 @@ use Rattle.ghs_graph.specs.Links.{Joined, Same, Back}
 use Rattle.ghs_graph.specs.Ports.{far_end}
 use Rattle.ghs_graph.specs.Graph.{Shape, IsGraph}
 use Rattle.ghs_graph.proofs.lemmas.Ports.{ends_b, end_cases, far_end_a, far_end_b}
-use Rattle.ghs_protocol.proofs.lemmas.Graphs.{link_among}
+use Rattle.peer_network.proofs.lemmas.Graphs.{link_among}
 use Rattle.ghs_levels.specs.Levels.{Taken, IsOfLevel}
 use Rattle.ghs_levels.specs.WaysUp.{IsTop, Away}
 use Rattle.ghs_levels.proofs.lemmas.KeyOrder.{keys_decided}

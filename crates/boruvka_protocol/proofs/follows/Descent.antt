@@ -4,9 +4,8 @@ use Rattle.std.proofs.lemmas.Bool.{false_from_ne_true, or_cases}
 use Rattle.ghs_graph.specs.declared.key.Key.{Key}
 use Rattle.ghs_graph.specs.Graph.{Shape, IsGraph}
 use Rattle.ghs_graph.specs.Ports.{far_end}
-use Rattle.ghs_protocol.specs.Ledger.{sum_below}
-use Rattle.ghs_protocol.proofs.lemmas.Nodes.{node_before}
-use Rattle.ghs_protocol.proofs.lemmas.Sums.{sum_less}
+use Rattle.peer_network.specs.Sums.{sum_below}
+use Rattle.peer_network.proofs.lemmas.Sums.{node_before, sum_less}
 use Rattle.ghs_levels.specs.Levels.{Taken}
 use Rattle.ghs_levels.specs.WaysUp.{IsTop, IsUp, IsBelow, Here, Up}
 use Rattle.ghs_levels.proofs.lemmas.WaysUp.{top_at, others_have_one_way_up, tops_have_no_way_up, ways_up_lead_to_top}

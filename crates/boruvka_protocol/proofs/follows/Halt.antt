@@ -7,7 +7,7 @@ use Rattle.ghs_graph.specs.declared.key.Key.{Key}
 use Rattle.ghs_graph.specs.Graph.{Shape}
 use Rattle.ghs_graph.specs.Links.{Joined, links}
 use Rattle.ghs_graph.proofs.lemmas.Joining.{joined_then, joined_back}
-use Rattle.ghs_protocol.specs.Network.{network_of, far, InNetwork, At}
+use Rattle.peer_network.specs.Network.{network_of, far, InNetwork, At}
 use Rattle.ghs_levels.specs.Levels.{HasWayOut}
 use Rattle.ghs_levels.proofs.lemmas.WaysOut.{way_out_at}
 use Rattle.peer_machine.specs.Net.{Net}

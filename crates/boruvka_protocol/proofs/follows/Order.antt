@@ -3,7 +3,7 @@ use Rattle.std.proofs.Common.{◌≡◌, ℕ, ⊎_elim, List, [], ◌∷◌, len
 use Rattle.std.proofs.lemmas.Bool.{both_ways, cases_lt}
 use Rattle.ghs_graph.specs.declared.key.Key.{Key}
 use Rattle.ghs_graph.specs.Graph.{Shape}
-use Rattle.ghs_protocol.specs.Network.{network_of, far, At}
+use Rattle.peer_network.specs.Network.{network_of, far, At}
 use Rattle.ghs_levels.specs.Levels.{InClass}
 use Rattle.peer_machine.specs.Net.{Net}
 use Rattle.boruvka_node.specs.declared.mark.Mark.{Mark}

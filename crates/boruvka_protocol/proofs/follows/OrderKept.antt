@@ -8,12 +8,12 @@ use Rattle.ghs_graph.specs.Key.{ends_at}
 use Rattle.ghs_graph.proofs.lemmas.Ports.{ends_a, ends_b}
 use Rattle.ghs_levels.specs.Levels.{InClass}
 use Rattle.ghs_levels.proofs.lemmas.WaysOut.{ways_out_lift}
-use Rattle.ghs_protocol.specs.declared.event.Event.{Event}
-use Rattle.ghs_protocol.specs.Network as network
-use Rattle.ghs_protocol.specs.Network.{Network, network_of, far, far_port, At}
-use Rattle.ghs_protocol.proofs.lemmas.Graphs.{graph_wired, graph_keyed, port_ends}
-use Rattle.ghs_protocol.proofs.lemmas.Updates.{put_same, put_other}
-use Rattle.ghs_protocol.proofs.lemmas.Wires.{at_in}
+use Rattle.peer_network.specs.declared.event.Event.{Event}
+use Rattle.peer_network.specs.Network as network
+use Rattle.peer_network.specs.Network.{Network, network_of, far, far_port, At}
+use Rattle.peer_network.proofs.lemmas.Graphs.{graph_wired, graph_keyed, port_ends}
+use Rattle.peer_network.proofs.lemmas.Updates.{put_same, put_other}
+use Rattle.peer_network.proofs.lemmas.Wires.{at_in}
 use Rattle.peer_machine.specs.Net.{Net, opening, put, reacted, take_first}
 use Rattle.peer_machine.specs.Run.{IsNetOf}
 use Rattle.peer_machine.specs.Steps.{Happens, Woke, Took}

@@ -4,10 +4,10 @@ use Rattle.std.proofs.lemmas.Bool.{cases_eq, cases_lt}
 use Rattle.ghs_graph.specs.Graph.{Shape}
 use Rattle.ghs_levels.specs.Levels.{InClass, IsOfLevel}
 use Rattle.ghs_node.specs.Words.{is_at}
-use Rattle.ghs_protocol.specs.Network.{Network, network_of, far, far_port, InNetwork, At}
-use Rattle.ghs_protocol.proofs.lemmas.Wired.{IsWired}
-use Rattle.ghs_protocol.proofs.lemmas.Wires.{neighbour}
-use Rattle.ghs_protocol.proofs.lemmas.Graphs.{graph_wired}
+use Rattle.peer_network.specs.Network.{Network, network_of, far, far_port, InNetwork, At}
+use Rattle.peer_network.proofs.lemmas.Wired.{IsWired}
+use Rattle.peer_network.proofs.lemmas.Wires.{neighbour}
+use Rattle.peer_network.proofs.lemmas.Graphs.{graph_wired}
 use Rattle.peer_machine.specs.Net.{Net}
 use Rattle.peer_machine.specs.Rules.{Outgoing}
 use Rattle.boruvka_node.specs.declared.change.Entry.{Entry}

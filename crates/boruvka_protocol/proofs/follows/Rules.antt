@@ -12,11 +12,11 @@ use Rattle.ghs_graph.proofs.lemmas.Logs.{floor_log2_is_one}
 use Rattle.ghs_node.specs.declared.level.TheConstants.{TOP_LEVEL}
 use Rattle.ghs_node.specs.Words.{Best, is_at}
 use Rattle.ghs_node.proofs.lemmas.{at_is}
-use Rattle.ghs_protocol.specs.declared.event.Event.{Event}
-use Rattle.ghs_protocol.specs.declared.event.Event.TheVariants as events
-use Rattle.ghs_protocol.specs.Network.{network_of, far, far_port, InNetwork, At}
-use Rattle.ghs_protocol.proofs.lemmas.Events.{node_of, at_of}
-use Rattle.ghs_protocol.proofs.lemmas.Wires.{at_in}
+use Rattle.peer_network.specs.declared.event.Event.{Event}
+use Rattle.peer_network.specs.declared.event.Event.TheVariants as events
+use Rattle.peer_network.specs.Network.{network_of, far, far_port, InNetwork, At}
+use Rattle.peer_network.proofs.lemmas.Events.{node_of, at_of}
+use Rattle.peer_network.proofs.lemmas.Wires.{at_in}
 use Rattle.ghs_levels.specs.Levels.{HasWayOut, IsOfLevel}
 use Rattle.ghs_levels.specs.Cores.{IsCore}
 use Rattle.ghs_levels.proofs.lemmas.Cuts.{taken_links}

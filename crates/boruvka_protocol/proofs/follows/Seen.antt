@@ -5,9 +5,9 @@ use Rattle.ghs_graph.specs.declared.key.Key.{Key}
 use Rattle.ghs_graph.specs.Graph.{Shape}
 use Rattle.ghs_graph.specs.Links.{Joined, links}
 use Rattle.ghs_graph.proofs.lemmas.Joining.{joined_nodes}
-use Rattle.ghs_protocol.specs.Network.{Network, network_of, far, far_port, InNetwork, At}
-use Rattle.ghs_protocol.proofs.lemmas.Wired.{IsWired}
-use Rattle.ghs_protocol.proofs.lemmas.Graphs.{graph_wired, port_ends, is_key}
+use Rattle.peer_network.specs.Network.{Network, network_of, far, far_port, InNetwork, At}
+use Rattle.peer_network.proofs.lemmas.Wired.{IsWired}
+use Rattle.peer_network.proofs.lemmas.Graphs.{graph_wired, port_ends, is_key}
 use Rattle.peer_machine.specs.Net.{Net}
 use Rattle.boruvka_node.specs.declared.message.Message.{Message}
 use Rattle.boruvka_node.specs.declared.message.Phase.TheVariants.{Sleeping}

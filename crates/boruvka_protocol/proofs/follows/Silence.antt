@@ -17,8 +17,8 @@ use Rattle.ghs_graph.specs.Ports.{far_end}
 use Rattle.ghs_graph.proofs.lemmas.Joining.{joined_then, joined_back, Decided, decided, joins_tells}
 use Rattle.ghs_graph.proofs.lemmas.Ports.{ends_a, ends_b, far_end_a, far_end_b}
 use Rattle.ghs_graph.specs.Computing.{joins}
-use Rattle.ghs_protocol.specs.Network.{network_of, port_at, far, far_port, InNetwork, At}
-use Rattle.ghs_protocol.proofs.lemmas.Graphs.{graph_wired, graph_keyed, link_among}
+use Rattle.peer_network.specs.Network.{network_of, port_at, far, far_port, InNetwork, At}
+use Rattle.peer_network.proofs.lemmas.Graphs.{graph_wired, graph_keyed, link_among}
 use Rattle.ghs_levels.specs.Levels.{Leaves, Taken, InClass, IsOfLevel}
 use Rattle.ghs_levels.specs.WaysUp.{IsTop, IsUp}
 use Rattle.ghs_levels.proofs.lemmas.KeyOrder.{key_cases, stands_earlier}

@@ -7,7 +7,7 @@ use Rattle.ghs_graph.specs.Links.{Joined, Over, Same, links, InTree}
 use Rattle.ghs_graph.specs.Ports.{far_end}
 use Rattle.ghs_graph.proofs.lemmas.Joining.{joined_then, joined_back}
 use Rattle.ghs_graph.proofs.lemmas.Ports.{ends_a, far_end_a}
-use Rattle.ghs_protocol.specs.Network.{network_of, port_at, far, far_port, InNetwork}
+use Rattle.peer_network.specs.Network.{network_of, port_at, far, far_port, InNetwork}
 use Rattle.ghs_levels.specs.Levels.{Taken, InClass, HasWayOut}
 use Rattle.ghs_levels.specs.WaysUp.{IsTop, IsUp, IsBelow, Here, Up}
 use Rattle.ghs_levels.proofs.lemmas.Cuts.{taken_in_tree, taken_links}

@@ -11,8 +11,8 @@ use Rattle.ghs_graph.specs.Ports.{far_end, ports_of, HasPort, no_port}
 use Rattle.ghs_graph.specs.Graph.{Shape, IsGraph}
 use Rattle.ghs_graph.specs.Laws.{HasTwoPorts}
 use Rattle.ghs_graph.proofs.lemmas.Ports.{end_cases, far_end_a, far_end_b, links_have_two_ports}
-use Rattle.ghs_protocol.specs.Network.{Network, network_of, port_at, far, At}
-use Rattle.ghs_protocol.proofs.lemmas.Graphs.{link_among, port_ends, is_key}
+use Rattle.peer_network.specs.Network.{Network, network_of, port_at, far, At}
+use Rattle.peer_network.proofs.lemmas.Graphs.{link_among, port_ends, is_key}
 use Rattle.ghs_levels.specs.Levels.{Taken, InClass, HasWayOut, IsOfLevel}
 use Rattle.ghs_levels.specs.WaysUp.{IsTop}
 use Rattle.ghs_levels.proofs.lemmas.Cuts.{taken_in_tree}

@@ -1,7 +1,7 @@
 -- A link as it is seen from one of its ends, and what waits there.
 use Rattle.std.specs.Prelude.{ℕ, suc, Option, List, [], ◌∷◌}
 use Rattle.ghs_graph.specs.declared.key.Key.{Key}
-use Rattle.ghs_protocol.specs.Network.{Network, port_at, far, far_port}
+use Rattle.peer_network.specs.Network.{Network, port_at, far, far_port}
 use Rattle.boruvka_node.specs.declared.head.Head.{Head}
 use Rattle.boruvka_node.specs.declared.mark.Mark.{Mark}
 use Rattle.boruvka_node.specs.declared.message.Message.{Message}

@@ -4,7 +4,7 @@ use Rattle.ghs_graph.specs.declared.key.Key.{Key}
 use Rattle.ghs_graph.specs.Key.{ends_at}
 use Rattle.ghs_levels.specs.Levels.{InClass, HasWayOut, IsOfLevel}
 use Rattle.ghs_levels.specs.WaysUp.{IsTop}
-use Rattle.ghs_protocol.specs.Network.{Network, InNetwork, At}
+use Rattle.peer_network.specs.Network.{Network, InNetwork, At}
 use Rattle.peer_machine.specs.Net.{Net}
 use Rattle.boruvka_node.specs.declared.message.Message.{Message}
 use Rattle.boruvka_node.specs.declared.message.Phase.TheVariants.{Rest}

@@ -9,7 +9,7 @@ use Rattle.ghs_graph.specs.Ports.{far_end}
 use Rattle.ghs_graph.proofs.lemmas.Keys.{lt_asymmetric}
 use Rattle.ghs_graph.proofs.lemmas.Joining.{joined_then, joined_back}
 use Rattle.ghs_graph.proofs.lemmas.Ports.{end_cases, far_end_a, far_end_b}
-use Rattle.ghs_protocol.proofs.lemmas.Graphs.{link_among}
+use Rattle.peer_network.proofs.lemmas.Graphs.{link_among}
 use Rattle.ghs_levels.specs.Levels.{Leaves, IsLeastOut, Taken, IsOfLevel}
 use Rattle.ghs_levels.specs.Cores.{IsCore, LeadsTo, There, Falls}
 use Rattle.ghs_levels.specs.WaysUp.{Away}

@@ -6,7 +6,7 @@ use Rattle.ghs_graph.specs.Links.{Same, Back}
 use Rattle.ghs_graph.specs.Ports.{far_end}
 use Rattle.ghs_graph.specs.Graph.{Shape, IsGraph}
 use Rattle.ghs_graph.proofs.lemmas.Joining.{joined_back}
-use Rattle.ghs_protocol.proofs.lemmas.Graphs.{link_among}
+use Rattle.peer_network.proofs.lemmas.Graphs.{link_among}
 use Rattle.ghs_levels.specs.Levels.{Taken, InClass, IsOfLevel}
 use Rattle.ghs_levels.specs.Cores.{IsCore}
 use Rattle.ghs_levels.specs.WaysUp.{IsTop, IsUp}

@@ -2,7 +2,7 @@
 use Rattle.std.specs.Prelude.{◌≡◌, ℕ, Some, None, List}
 use Rattle.ghs_graph.specs.declared.key.Key.{Key}
 use Rattle.ghs_levels.specs.Levels.{InClass, IsOfLevel}
-use Rattle.ghs_protocol.specs.Network.{Network, InNetwork}
+use Rattle.peer_network.specs.Network.{Network, InNetwork}
 use Rattle.peer_machine.specs.Net.{Net}
 use Rattle.boruvka_node.specs.declared.message.Message.{Message}
 use Rattle.boruvka_node.specs.declared.message.Phase.TheVariants.{Rest}

@@ -2,10 +2,10 @@
 use Rattle.std.proofs.Common.{◌≡◌, ◌≢◌, ℕ, List, ◌++◌, refl, sym, ◌∙◌, ap, subst, ⊎_elim}
 use Rattle.std.proofs.lemmas.Bool.{cases_eq}
 use Rattle.ghs_graph.specs.declared.key.Key.{Key}
-use Rattle.ghs_protocol.specs.Network.{Network, At, InNetwork, far, far_port}
-use Rattle.ghs_protocol.proofs.lemmas.Wired.{IsWired}
-use Rattle.ghs_protocol.proofs.lemmas.Wires.{neighbour}
-use Rattle.ghs_protocol.proofs.lemmas.Updates.{put_same, put_other, put_at_same, put_at_port, put_at_node}
+use Rattle.peer_network.specs.Network.{Network, At, InNetwork, far, far_port}
+use Rattle.peer_network.proofs.lemmas.Wired.{IsWired}
+use Rattle.peer_network.proofs.lemmas.Wires.{neighbour}
+use Rattle.peer_network.proofs.lemmas.Updates.{put_same, put_other, put_at_same, put_at_port, put_at_node}
 use Rattle.peer_machine.specs.Rules.{Outgoing}
 use Rattle.peer_machine.specs.Net.{Net, put, reacted, take_first}
 use Rattle.peer_machine.proofs.lemmas.Sends.{node_here, node_there, queue_kept}

@@ -1,6 +1,6 @@
 -- Two nets that agree in what clauses read of their nodes and queues.
 use Rattle.std.proofs.Common.{◌≡◌, ℕ, Bool, Option, List, ap, subst}
-use Rattle.ghs_protocol.specs.Network.{Network, At}
+use Rattle.peer_network.specs.Network.{Network, At}
 use Rattle.peer_machine.specs.Net.{Net}
 use Rattle.boruvka_node.specs.declared.head.Head.{Head}
 use Rattle.boruvka_node.specs.declared.message.Message.{Message}

@@ -9,11 +9,11 @@ use Rattle.ghs_graph.proofs.lemmas.Joining.{joined_back}
 use Rattle.ghs_node.specs.Words.{is_at}
 use Rattle.ghs_levels.specs.Levels.{Taken, IsOfLevel}
 use Rattle.ghs_levels.proofs.lemmas.WaysUp.{level_at, top_at}
-use Rattle.ghs_protocol.specs.Network.{Network, network_of, port_at, At, InNetwork, far, far_port}
-use Rattle.ghs_protocol.proofs.lemmas.Wired.{IsWired}
-use Rattle.ghs_protocol.proofs.lemmas.Graphs.{graph_wired, port_ends}
-use Rattle.ghs_protocol.proofs.lemmas.Updates.{put_same, put_other}
-use Rattle.ghs_protocol.proofs.lemmas.Wires.{at_in}
+use Rattle.peer_network.specs.Network.{Network, network_of, port_at, At, InNetwork, far, far_port}
+use Rattle.peer_network.proofs.lemmas.Wired.{IsWired}
+use Rattle.peer_network.proofs.lemmas.Graphs.{graph_wired, port_ends}
+use Rattle.peer_network.proofs.lemmas.Updates.{put_same, put_other}
+use Rattle.peer_network.proofs.lemmas.Wires.{at_in}
 use Rattle.peer_machine.specs.Net.{Net, put, reacted, take_first}
 use Rattle.boruvka_node.specs.declared.mark.Mark.{Mark}
 use Rattle.boruvka_node.specs.declared.mark.Mark.TheVariants.{Branch}

@@ -12,7 +12,7 @@ use Rattle.ghs_levels.proofs.lemmas.Computing.{in_class_decided}
 use Rattle.ghs_levels.proofs.lemmas.WaysOut.{least_out}
 use Rattle.ghs_levels.proofs.lemmas.WaysUp.{top_inside, top_at, sub_of_top_is_least}
 use Rattle.ghs_node.specs.Words.{Best, best_key}
-use Rattle.ghs_protocol.specs.Network.{Network, network_of, InNetwork, At, port_at, far}
+use Rattle.peer_network.specs.Network.{Network, network_of, InNetwork, At, port_at, far}
 use Rattle.peer_machine.specs.Rules.{Outgoing}
 use Rattle.peer_machine.specs.Net.{Net}
 use Rattle.boruvka_node.specs.declared.message.Message.{Message}

@@ -12,7 +12,7 @@ use Rattle.ghs_graph.specs.Graph.{Shape}
 use Rattle.ghs_graph.specs.Ports as ports
 use Rattle.ghs_graph.specs.Ports.{HasPort, ports_of, port_on}
 use Rattle.ghs_graph.proofs.lemmas.Ports as lemmas
-use Rattle.ghs_protocol.specs.Network.{network_of, InNetwork, At, port_at}
+use Rattle.peer_network.specs.Network.{network_of, InNetwork, At, port_at}
 use Rattle.boruvka_node.specs.declared.port_state.PortState.{PortState}
 use Rattle.boruvka_node.specs.Words.{is_basic}
 use Rattle.boruvka_node.specs.State as state

@@ -3,7 +3,7 @@ use Rattle.std.proofs.Common.{◌≡◌, ◌≢◌, ◌⊎◌, ℕ, suc, ◌<◌
 use Rattle.ghs_graph.specs.declared.key.Key.{Key}
 use Rattle.ghs_levels.specs.Levels.{Taken}
 use Rattle.ghs_node.specs.Words.{Best}
-use Rattle.ghs_protocol.specs.Network.{Network, port_at, far}
+use Rattle.peer_network.specs.Network.{Network, port_at, far}
 use Rattle.boruvka_node.specs.declared.mark.Mark.{Mark}
 use Rattle.boruvka_node.specs.declared.mark.Mark.TheVariants.{Basic, Asked, Branch, Inside}
 use Rattle.boruvka_node.specs.declared.message.Message.{Message}
@@ -23,7 +23,7 @@ use Rattle.boruvka_protocol.proofs.rows.Parts.{none_by, chosen_near}
 use Rattle.boruvka_protocol.proofs.rows.Leaving.{AreEnds, joined_ends}
 use Rattle.boruvka_protocol.proofs.rows.Late.{search_rest}
 use Rattle.boruvka_protocol.proofs.rows.Noted.{basic_no_branch}
-use Rattle.ghs_protocol.proofs.lemmas.Nodes.{node_before}
+use Rattle.peer_network.proofs.lemmas.Sums.{node_before}
 
 -- the search is over: the node is at rest with its best, and perhaps has halted
 abbrev pub closed_at : AtPort → Best → Bool → AtPort

@@ -9,10 +9,10 @@ use Rattle.ghs_levels.specs.Levels.{Taken, InClass}
 use Rattle.ghs_levels.specs.WaysUp.{IsTop, IsUp}
 use Rattle.ghs_levels.proofs.lemmas.WaysUp.{top_at, classes_have_one_top, links_are_ways_up}
 use Rattle.ghs_node.specs.Words.{Best}
-use Rattle.ghs_protocol.specs.Network.{Network, network_of, InNetwork, At, port_at, far, far_port}
-use Rattle.ghs_protocol.proofs.lemmas.Wired.{IsWired}
-use Rattle.ghs_protocol.proofs.lemmas.Wires.{neighbour}
-use Rattle.ghs_protocol.proofs.lemmas.Graphs.{graph_wired}
+use Rattle.peer_network.specs.Network.{Network, network_of, InNetwork, At, port_at, far, far_port}
+use Rattle.peer_network.proofs.lemmas.Wired.{IsWired}
+use Rattle.peer_network.proofs.lemmas.Wires.{neighbour}
+use Rattle.peer_network.proofs.lemmas.Graphs.{graph_wired}
 use Rattle.peer_machine.specs.Rules.{Outgoing}
 use Rattle.peer_machine.specs.Net.{Net}
 use Rattle.boruvka_node.specs.declared.mark.Mark.TheVariants.{Branch}

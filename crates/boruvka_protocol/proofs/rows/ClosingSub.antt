@@ -15,8 +15,8 @@ use Rattle.ghs_levels.proofs.lemmas.Cuts.{taken_in_tree}
 use Rattle.ghs_levels.proofs.lemmas.KeyOrder.{not_below_less, less_through}
 use Rattle.ghs_levels.proofs.lemmas.WaysUp.{top_at, classes_have_one_top, nodes_have_one_sub, subs_are_of_children}
 use Rattle.ghs_node.specs.Words.{Best, better}
-use Rattle.ghs_protocol.specs.Network.{Network, network_of, InNetwork, At, port_at, far, far_port}
-use Rattle.ghs_protocol.proofs.lemmas.Graphs.{port_ends, is_key, link_among, graph_rising}
+use Rattle.peer_network.specs.Network.{Network, network_of, InNetwork, At, port_at, far, far_port}
+use Rattle.peer_network.proofs.lemmas.Graphs.{port_ends, is_key, link_among, graph_rising}
 use Rattle.peer_machine.specs.Net.{Net}
 use Rattle.boruvka_node.specs.declared.head.Head.{Head}
 use Rattle.boruvka_node.specs.declared.mark.Mark.TheVariants.{Branch}

@@ -9,9 +9,9 @@ use Rattle.ghs_levels.specs.Levels.{InClass, IsOfLevel}
 use Rattle.ghs_levels.specs.Cores.{IsCore}
 use Rattle.ghs_levels.proofs.lemmas.Cores.{least_is_one}
 use Rattle.ghs_levels.proofs.lemmas.WaysOut.{next_of_level}
-use Rattle.ghs_protocol.specs.Network.{Network, network_of, port_at, At, InNetwork, far, far_port}
-use Rattle.ghs_protocol.proofs.lemmas.Graphs.{port_ends, link_among}
-use Rattle.ghs_protocol.proofs.lemmas.Wires.{at_in}
+use Rattle.peer_network.specs.Network.{Network, network_of, port_at, At, InNetwork, far, far_port}
+use Rattle.peer_network.proofs.lemmas.Graphs.{port_ends, link_among}
+use Rattle.peer_network.proofs.lemmas.Wires.{at_in}
 use Rattle.peer_machine.specs.Rules.{Outgoing}
 use Rattle.peer_machine.specs.Net.{Net}
 use Rattle.boruvka_node.specs.declared.mark.Mark.TheVariants.{Asked}

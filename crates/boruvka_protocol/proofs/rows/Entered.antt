@@ -8,10 +8,10 @@ use Rattle.ghs_graph.specs.Links.{Same}
 use Rattle.ghs_node.specs.Words.{is_at}
 use Rattle.ghs_levels.specs.Levels.{Taken, InClass, HasWayOut, IsOfLevel}
 use Rattle.ghs_levels.specs.Cores.{IsCore}
-use Rattle.ghs_protocol.specs.Network.{Network, network_of, port_at, At, InNetwork, far, far_port}
-use Rattle.ghs_protocol.proofs.lemmas.Wired.{IsWired}
-use Rattle.ghs_protocol.proofs.lemmas.Wires.{at_in, neighbour}
-use Rattle.ghs_protocol.proofs.lemmas.Graphs.{graph_wired, port_ends}
+use Rattle.peer_network.specs.Network.{Network, network_of, port_at, At, InNetwork, far, far_port}
+use Rattle.peer_network.proofs.lemmas.Wired.{IsWired}
+use Rattle.peer_network.proofs.lemmas.Wires.{at_in, neighbour}
+use Rattle.peer_network.proofs.lemmas.Graphs.{graph_wired, port_ends}
 use Rattle.peer_machine.specs.Net.{Net}
 use Rattle.boruvka_node.specs.declared.change.Entry.{Entry}
 use Rattle.boruvka_node.specs.declared.mark.Mark.{Mark}

@@ -12,7 +12,7 @@ use Rattle.ghs_levels.proofs.lemmas.Cuts.{least_at_end}
 use Rattle.ghs_levels.proofs.lemmas.Cores.{classes_have_one_core}
 use Rattle.ghs_levels.proofs.lemmas.WaysOut.{inside_is_tree}
 use Rattle.ghs_levels.proofs.lemmas.WaysUp.{core_at}
-use Rattle.ghs_protocol.specs.Network.{Network, network_of, port_at, far, far_port}
+use Rattle.peer_network.specs.Network.{Network, network_of, port_at, far, far_port}
 use Rattle.boruvka_node.specs.declared.mark.Mark.{Mark}
 use Rattle.boruvka_node.specs.declared.mark.Mark.TheVariants.{Basic, Asked, Branch}
 use Rattle.boruvka_node.specs.declared.message.Message.{Message}

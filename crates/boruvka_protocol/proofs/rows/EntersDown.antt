@@ -4,7 +4,7 @@ use Rattle.ghs_graph.specs.declared.key.Key.{Key}
 use Rattle.ghs_levels.specs.Levels.{Taken}
 use Rattle.ghs_levels.specs.Cores.{IsCore}
 use Rattle.ghs_levels.proofs.lemmas.Cuts.{taken_in_tree}
-use Rattle.ghs_protocol.specs.Network.{Network, port_at, far, far_port}
+use Rattle.peer_network.specs.Network.{Network, port_at, far, far_port}
 use Rattle.boruvka_node.specs.declared.mark.Mark.TheVariants.{Asked, Branch}
 use Rattle.boruvka_node.specs.declared.message.Message.{Message}
 use Rattle.boruvka_node.specs.declared.message.Message.TheVariants.{Initiate}

@@ -4,7 +4,7 @@ use Rattle.ghs_graph.specs.declared.key.Key.{Key}
 use Rattle.ghs_graph.specs.Links.{InTree}
 use Rattle.ghs_levels.specs.Levels.{InClass}
 use Rattle.ghs_levels.specs.Cores.{IsCore}
-use Rattle.ghs_protocol.specs.Network.{Network, port_at, far}
+use Rattle.peer_network.specs.Network.{Network, port_at, far}
 use Rattle.boruvka_node.specs.declared.mark.Mark.{Mark}
 use Rattle.boruvka_node.specs.declared.mark.Mark.TheVariants.{Inside}
 use Rattle.boruvka_node.specs.declared.message.Message.{Message}

@@ -3,7 +3,7 @@ use Rattle.std.proofs.Common.{◌≡◌, ℕ, suc, inl, ⊎_elim, false, Option,
 use Rattle.ghs_graph.specs.declared.key.Key.{Key}
 use Rattle.ghs_graph.specs.Links.{InTree}
 use Rattle.ghs_levels.proofs.lemmas.Cuts.{taken_in_tree}
-use Rattle.ghs_protocol.specs.Network.{Network, port_at, far, far_port}
+use Rattle.peer_network.specs.Network.{Network, port_at, far, far_port}
 use Rattle.boruvka_node.specs.declared.mark.Mark.TheVariants.{Branch}
 use Rattle.boruvka_node.specs.declared.message.Message.{Message}
 use Rattle.boruvka_node.specs.declared.message.Message.TheVariants.{Initiate}

@@ -1,7 +1,7 @@
 -- A node goes out over a port: what that keeps at each of its links, from both ends. The node stands at port i with n there, and goes out over p.
 use Rattle.std.proofs.Common.{◌≡◌, ◌↔◌, ℕ, ◌+◌, Option, Some, None, List, length, sym, ◌∙◌, subst, arith}
 use Rattle.ghs_graph.specs.declared.key.Key.{Key}
-use Rattle.ghs_protocol.specs.Network.{Network, far_port}
+use Rattle.peer_network.specs.Network.{Network, far_port}
 use Rattle.boruvka_node.specs.declared.message.Message.{Message}
 use Rattle.boruvka_protocol.proofs.invariant.Sides.{Side, AtPort, side_of, far_side_of, Told, calls_in, names_in, connects_in, initiates_in, reports_in, passes_in}
 use Rattle.boruvka_protocol.proofs.invariant.Names.{AreNamesFrom, ToldFits}

@@ -7,9 +7,9 @@ use Rattle.ghs_graph.specs.Graph.{Shape, IsGraph}
 use Rattle.ghs_graph.specs.Links.{Same}
 use Rattle.ghs_levels.specs.Levels.{HasWayOut}
 use Rattle.ghs_levels.proofs.lemmas.FirstPorts.{no_port_no_way_out}
-use Rattle.ghs_protocol.specs.Network.{Network, network_of, InNetwork, far}
-use Rattle.ghs_protocol.proofs.lemmas.Wired.{IsWired}
-use Rattle.ghs_protocol.proofs.lemmas.Graphs.{graph_wired}
+use Rattle.peer_network.specs.Network.{Network, network_of, InNetwork, far}
+use Rattle.peer_network.proofs.lemmas.Wired.{IsWired}
+use Rattle.peer_network.proofs.lemmas.Graphs.{graph_wired}
 use Rattle.peer_machine.specs.Net.{Net}
 use Rattle.boruvka_node.specs.declared.message.Message.{Message}
 use Rattle.boruvka_node.specs.declared.message.Phase.TheVariants.{Sleeping}

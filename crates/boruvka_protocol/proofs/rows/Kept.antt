@@ -3,7 +3,7 @@ use Rattle.std.proofs.Common.{◌≡◌, ℕ, List, Some, None, sym, ◌∙◌, 
 use Rattle.std.proofs.lemmas.Bool.{cases_eq}
 use Rattle.ghs_graph.specs.declared.key.Key.{Key}
 use Rattle.ghs_node.specs.Words.{Best}
-use Rattle.ghs_protocol.specs.Network.{Network, far}
+use Rattle.peer_network.specs.Network.{Network, far}
 use Rattle.peer_machine.specs.Rules.{Outgoing}
 use Rattle.peer_machine.specs.Net.{Net}
 use Rattle.boruvka_node.specs.declared.head.Head.{Head}

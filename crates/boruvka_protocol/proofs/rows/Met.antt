@@ -2,10 +2,10 @@
 use Rattle.std.proofs.Common.{◌≡◌, ℕ, ◌<◌, nat_lt, true, false, Some, None, List, [], ◌∷◌, sym, ◌∙◌, ap, subst, append-nil, arith}
 use Rattle.ghs_graph.specs.Graph.{Shape, IsGraph}
 use Rattle.ghs_graph.specs.Ports.{far_end}
-use Rattle.ghs_protocol.specs.Network.{Network, network_of, port_at, At, far, far_port}
-use Rattle.ghs_protocol.proofs.lemmas.Wired.{IsWired}
-use Rattle.ghs_protocol.proofs.lemmas.Graphs.{graph_wired}
-use Rattle.ghs_protocol.proofs.lemmas.Updates.{put_same}
+use Rattle.peer_network.specs.Network.{Network, network_of, port_at, At, far, far_port}
+use Rattle.peer_network.proofs.lemmas.Wired.{IsWired}
+use Rattle.peer_network.proofs.lemmas.Graphs.{graph_wired}
+use Rattle.peer_network.proofs.lemmas.Updates.{put_same}
 use Rattle.peer_machine.specs.Net.{Net, put, reacted, take_first}
 use Rattle.boruvka_node.specs.declared.mark.Mark.TheVariants.{Asked}
 use Rattle.boruvka_node.specs.declared.message.Message.{Message}

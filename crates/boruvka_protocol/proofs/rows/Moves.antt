@@ -5,7 +5,7 @@ use Rattle.std.proofs.lemmas.Option.{same_Some}
 use Rattle.ghs_graph.specs.declared.key.Key.{Key}
 use Rattle.ghs_graph.specs.Graph.{Shape, IsGraph}
 use Rattle.ghs_node.specs.Words.{Best}
-use Rattle.ghs_protocol.specs.Network.{Network, network_of, port_at, At, InNetwork, far}
+use Rattle.peer_network.specs.Network.{Network, network_of, port_at, At, InNetwork, far}
 use Rattle.peer_machine.specs.Net.{Net}
 use Rattle.boruvka_node.specs.declared.mark.Mark.{Mark}
 use Rattle.boruvka_node.specs.declared.mark.Mark.TheVariants.{Asked, Branch}

@@ -10,7 +10,7 @@ use Rattle.ghs_levels.specs.Levels.{Taken, InClass, IsOfLevel}
 use Rattle.ghs_levels.specs.Cores.{IsCore}
 use Rattle.ghs_levels.proofs.lemmas.WaysOut.{inside_is_tree}
 use Rattle.ghs_levels.proofs.lemmas.Cores.{classes_have_one_core}
-use Rattle.ghs_protocol.specs.Network.{Network, network_of, port_at, far}
+use Rattle.peer_network.specs.Network.{Network, network_of, port_at, far}
 use Rattle.boruvka_node.specs.declared.mark.Mark.TheVariants.{Inside}
 use Rattle.boruvka_node.specs.declared.message.Message.{Message}
 use Rattle.boruvka_node.specs.declared.message.Message.TheVariants.{Name}

@@ -2,7 +2,7 @@
 use Rattle.std.proofs.Common.{◌≡◌, ℕ, ◌<◌, true, Some, List, ◌∷◌, refl, sym, subst}
 use Rattle.ghs_graph.specs.declared.key.Key.{Key}
 use Rattle.ghs_levels.specs.Levels.{Taken, InClass}
-use Rattle.ghs_protocol.specs.Network.{Network, port_at, far}
+use Rattle.peer_network.specs.Network.{Network, port_at, far}
 use Rattle.boruvka_node.specs.declared.mark.Mark.{Mark}
 use Rattle.boruvka_node.specs.declared.mark.Mark.TheVariants.{Basic, Asked, Branch, Inside}
 use Rattle.boruvka_node.specs.declared.message.Message.{Message}

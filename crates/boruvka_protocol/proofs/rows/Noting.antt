@@ -2,11 +2,11 @@
 use Rattle.std.proofs.Common.{◌≡◌, ◌≢◌, ◌⊎◌, ℕ, ◌<◌, true, Some, List, [], ◌∷◌, ◌++◌, refl, sym, ap, subst, ⊎_elim, append-nil}
 use Rattle.std.proofs.lemmas.Bool.{cases_eq}
 use Rattle.ghs_graph.specs.Graph.{Shape, IsGraph}
-use Rattle.ghs_protocol.specs.Network.{Network, network_of, At, far, far_port}
-use Rattle.ghs_protocol.proofs.lemmas.Wired.{IsWired}
-use Rattle.ghs_protocol.proofs.lemmas.Graphs.{graph_wired, port_ends}
-use Rattle.ghs_protocol.proofs.lemmas.Updates.{put_same, put_other}
-use Rattle.ghs_protocol.proofs.lemmas.Wires.{at_in}
+use Rattle.peer_network.specs.Network.{Network, network_of, At, far, far_port}
+use Rattle.peer_network.proofs.lemmas.Wired.{IsWired}
+use Rattle.peer_network.proofs.lemmas.Graphs.{graph_wired, port_ends}
+use Rattle.peer_network.proofs.lemmas.Updates.{put_same, put_other}
+use Rattle.peer_network.proofs.lemmas.Wires.{at_in}
 use Rattle.peer_machine.specs.Net.{Net, put, reacted, take_first}
 use Rattle.boruvka_node.specs.declared.mark.Mark.TheVariants.{Asked}
 use Rattle.boruvka_node.specs.declared.message.Message.{Message}

@@ -8,8 +8,8 @@ use Rattle.ghs_graph.specs.declared.port.Port.{Port}
 use Rattle.ghs_graph.specs.Graph.{Shape, IsGraph}
 use Rattle.ghs_graph.specs.Key.{ends_at, no_key}
 use Rattle.ghs_graph.specs.Ports.{far_end, no_port}
-use Rattle.ghs_protocol.specs.Network.{Network, network_of, port_at, At, far}
-use Rattle.ghs_protocol.proofs.lemmas.Graphs.{graph_wired, port_ends}
+use Rattle.peer_network.specs.Network.{Network, network_of, port_at, At, far}
+use Rattle.peer_network.proofs.lemmas.Graphs.{graph_wired, port_ends}
 use Rattle.boruvka_node.specs.State.{State, degree, key_at}
 use Rattle.boruvka_protocol.specs.Laws.{IsNodeOf}
 use Rattle.boruvka_protocol.proofs.rows.Leaving.{end_there}

@@ -1,7 +1,7 @@
 -- What waits at a port, message by message: it fits still where each of them does, and nothing is there where none of them can be.
 use Rattle.std.proofs.Common.{◌≡◌, ℕ, Option, Some, List, [], inl, inr, ⊎_elim, refl}
 use Rattle.ghs_graph.specs.declared.key.Key.{Key}
-use Rattle.ghs_protocol.specs.Network.{Network, far_port}
+use Rattle.peer_network.specs.Network.{Network, far_port}
 use Rattle.boruvka_node.specs.declared.mark.Mark.TheVariants.{Branch}
 use Rattle.boruvka_node.specs.declared.message.Message.{Message}
 use Rattle.boruvka_node.specs.declared.port_state.PortState.{PortState}

@@ -5,11 +5,11 @@ use Rattle.ghs_graph.specs.declared.key.Key.{Key}
 use Rattle.ghs_graph.specs.Graph.{Shape, IsGraph}
 use Rattle.ghs_levels.specs.Levels.{Taken, InClass}
 use Rattle.ghs_levels.proofs.lemmas.Cuts.{least_at}
-use Rattle.ghs_protocol.specs.Network.{Network, network_of, port_at, At, InNetwork, far, far_port}
-use Rattle.ghs_protocol.proofs.lemmas.Wired.{IsWired}
-use Rattle.ghs_protocol.proofs.lemmas.Wires.{at_in, neighbour}
-use Rattle.ghs_protocol.proofs.lemmas.Updates.{one_place}
-use Rattle.ghs_protocol.proofs.lemmas.Graphs.{graph_wired, port_ends}
+use Rattle.peer_network.specs.Network.{Network, network_of, port_at, At, InNetwork, far, far_port}
+use Rattle.peer_network.proofs.lemmas.Wired.{IsWired}
+use Rattle.peer_network.proofs.lemmas.Wires.{at_in, neighbour}
+use Rattle.peer_network.proofs.lemmas.Updates.{one_place}
+use Rattle.peer_network.proofs.lemmas.Graphs.{graph_wired, port_ends}
 use Rattle.peer_machine.specs.Rules.{Outgoing}
 use Rattle.peer_machine.specs.Net.{Net}
 use Rattle.boruvka_node.specs.declared.head.Head.{Head}

@@ -6,7 +6,7 @@ use Rattle.ghs_graph.proofs.lemmas.Joining.{joined_then, joined_back}
 use Rattle.ghs_levels.specs.Levels.{InClass, IsOfLevel}
 use Rattle.ghs_levels.proofs.lemmas.Computing.{in_class_decided}
 use Rattle.ghs_levels.proofs.lemmas.WaysUp.{top_at}
-use Rattle.ghs_protocol.specs.Network.{Network, InNetwork}
+use Rattle.peer_network.specs.Network.{Network, InNetwork}
 use Rattle.peer_machine.specs.Net.{Net}
 use Rattle.boruvka_node.specs.declared.message.Message.{Message}
 use Rattle.boruvka_node.specs.State.{State}

@@ -8,11 +8,11 @@ use Rattle.ghs_graph.proofs.lemmas.Keys.{lt_irreflexive}
 use Rattle.ghs_levels.specs.Levels.{IsOfLevel}
 use Rattle.ghs_levels.proofs.lemmas.KeyOrder.{not_below_less}
 use Rattle.ghs_node.specs.Words.{Best, better}
-use Rattle.ghs_protocol.specs.Network.{Network, network_of, At, InNetwork, far, far_port}
-use Rattle.ghs_protocol.proofs.lemmas.Wired.{IsWired}
-use Rattle.ghs_protocol.proofs.lemmas.Wires.{at_in, neighbour}
-use Rattle.ghs_protocol.proofs.lemmas.Graphs.{graph_wired}
-use Rattle.ghs_protocol.proofs.lemmas.Updates.{put_same, put_other}
+use Rattle.peer_network.specs.Network.{Network, network_of, At, InNetwork, far, far_port}
+use Rattle.peer_network.proofs.lemmas.Wired.{IsWired}
+use Rattle.peer_network.proofs.lemmas.Wires.{at_in, neighbour}
+use Rattle.peer_network.proofs.lemmas.Graphs.{graph_wired}
+use Rattle.peer_network.proofs.lemmas.Updates.{put_same, put_other}
 use Rattle.peer_machine.specs.Net.{Net, put, reacted, take_first}
 use Rattle.boruvka_node.specs.declared.head.Head.{Head}
 use Rattle.boruvka_node.specs.declared.message.Message.{Message}

@@ -1,10 +1,10 @@
 -- What a reaction's sends leave in each queue.
 use Rattle.std.proofs.Common.{◌≡◌, ◌≢◌, ℕ, ◌==◌, List, [], ◌∷◌, ◌++◌, refl, sym, ◌∙◌, ap, cond, ⊎_elim, eq-eqb, ne_eqb, append_assoc, append-nil}
 use Rattle.std.proofs.lemmas.Bool.{cases_eq}
-use Rattle.ghs_protocol.specs.Network.{Network, At, far, far_port}
-use Rattle.ghs_protocol.proofs.lemmas.Wired.{IsWired}
-use Rattle.ghs_protocol.proofs.lemmas.Wires.{far_apart, no_loop}
-use Rattle.ghs_protocol.proofs.lemmas.Updates.{put_at_same, put_at_miss}
+use Rattle.peer_network.specs.Network.{Network, At, far, far_port}
+use Rattle.peer_network.proofs.lemmas.Wired.{IsWired}
+use Rattle.peer_network.proofs.lemmas.Wires.{far_apart, no_loop}
+use Rattle.peer_network.proofs.lemmas.Updates.{put_at_same, put_at_miss}
 use Rattle.peer_machine.specs.Rules.{Rules, Outcome, Outgoing}
 use Rattle.peer_machine.specs.Net.{Net, put, send, send_all, reacted}
 use Rattle.peer_machine.proofs.lemmas.Sends.{queue_kept}

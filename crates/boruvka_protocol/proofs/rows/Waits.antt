@@ -1,7 +1,7 @@
 -- A link with the same at its ends, where other messages wait that read alike.
 use Rattle.std.proofs.Common.{◌≡◌, ℕ, List, sym, ◌∙◌, subst}
 use Rattle.ghs_graph.specs.declared.key.Key.{Key}
-use Rattle.ghs_protocol.specs.Network.{Network}
+use Rattle.peer_network.specs.Network.{Network}
 use Rattle.boruvka_node.specs.declared.message.Message.{Message}
 use Rattle.boruvka_protocol.proofs.invariant.Sides.{Side, AtPort, side_of, far_side_of, heard_at, Told, calls_in, names_in, connects_in, initiates_in, reports_in}
 use Rattle.boruvka_protocol.proofs.invariant.Names.{NamesFit}

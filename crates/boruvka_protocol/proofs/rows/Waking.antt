@@ -9,11 +9,11 @@ use Rattle.ghs_graph.specs.Links.{Same}
 use Rattle.ghs_levels.specs.Levels.{Taken, HasWayOut, InClass}
 use Rattle.ghs_levels.specs.WaysUp.{IsTop}
 use Rattle.ghs_levels.proofs.lemmas.FirstPorts.{first_port_is_least}
-use Rattle.ghs_protocol.specs.Network.{Network, network_of, port_at, At, InNetwork, far, far_port}
-use Rattle.ghs_protocol.proofs.lemmas.Wired.{IsWired}
-use Rattle.ghs_protocol.proofs.lemmas.Graphs.{graph_wired, has_port}
+use Rattle.peer_network.specs.Network.{Network, network_of, port_at, At, InNetwork, far, far_port}
+use Rattle.peer_network.proofs.lemmas.Wired.{IsWired}
+use Rattle.peer_network.proofs.lemmas.Graphs.{graph_wired, has_port}
 use Rattle.peer_machine.specs.Net.{Net, put}
-use Rattle.ghs_protocol.proofs.lemmas.Updates.{put_same}
+use Rattle.peer_network.proofs.lemmas.Updates.{put_same}
 use Rattle.boruvka_node.specs.declared.head.Head.{Head}
 use Rattle.boruvka_node.specs.declared.mark.Mark.{Mark}
 use Rattle.boruvka_node.specs.declared.mark.Mark.TheVariants.{Basic}

@@ -2,7 +2,7 @@
 use Rattle.std.proofs.Common.{ℕ, inl, ⊎_elim, List, refl, sym, subst, arith}
 use Rattle.ghs_graph.specs.declared.key.Key.{Key}
 use Rattle.ghs_levels.specs.Levels.{Taken}
-use Rattle.ghs_protocol.specs.Network.{Network}
+use Rattle.peer_network.specs.Network.{Network}
 use Rattle.boruvka_node.specs.declared.message.Message.{Message}
 use Rattle.boruvka_node.specs.declared.message.Phase.TheVariants.{Sleeping, Rest}
 use Rattle.boruvka_node.specs.State.{fresh_port, untouched}

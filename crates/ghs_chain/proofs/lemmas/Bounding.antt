@@ -11,11 +11,13 @@ use Rattle.ghs_node.specs.declared.delta.Fate.TheVariants.{Consumed, Requeued}
 use Rattle.ghs_node.specs.declared.message.Message.{Message}
 use Rattle.ghs_node.specs.Reaction.{reaction}
 use Rattle.ghs_node.specs.Words.{Outgoing, is_sleeping}
-use Rattle.ghs_protocol.specs.declared.event.Event.{Event}
-use Rattle.ghs_protocol.specs.declared.event.Event.TheVariants.{Wake, Take}
+use Rattle.peer_network.specs.declared.event.Event.{Event}
+use Rattle.peer_network.specs.declared.event.Event.TheVariants.{Wake, Take}
 use Rattle.ghs_protocol.specs.Ledger.{in_all, of_kind}
-use Rattle.ghs_protocol.specs.Net.{Net, event_node, happens, opening, put, put_at, take_first}
-use Rattle.ghs_protocol.specs.Network.{Network, far, far_port, network_of}
+use Rattle.ghs_protocol.specs.Net.{Net, happens, opening, take_first}
+use Rattle.peer_network.specs.Events.{event_node}
+use Rattle.peer_network.specs.Updates.{put, put_at}
+use Rattle.peer_network.specs.Network.{Network, far, far_port, network_of}
 use Rattle.ghs_protocol.specs.Steps as steps
 use Rattle.ghs_protocol.specs.Run.{and_then, run}
 use Rattle.ghs_protocol.specs.Steps.{Happens, Woke, Took}
@@ -23,8 +25,8 @@ use Rattle.ghs_protocol.proofs.lemmas.Balance.{kinds_in_all}
 use Rattle.ghs_protocol.proofs.lemmas.Events.{happening}
 use Rattle.ghs_protocol.proofs.lemmas.Queues.{all_first, all_rest}
 use Rattle.ghs_protocol.proofs.lemmas.Sends.{messages, sent_now}
-use Rattle.ghs_protocol.proofs.lemmas.Sums.{sum_add, sum_same}
-use Rattle.ghs_protocol.proofs.lemmas.Updates.{one_place, put_at_hit, put_at_miss, put_other, put_same}
+use Rattle.peer_network.proofs.lemmas.Sums.{sum_add, sum_same}
+use Rattle.peer_network.proofs.lemmas.Updates.{one_place, put_at_hit, put_at_miss, put_other, put_same}
 use Rattle.ghs_core.specs.NetState.{delivery, work_at}
 use Rattle.ghs_protocol.proofs.lemmas.Laws.{sends_within as bounded_sends}
 use Rattle.ghs_chain.specs.Chains.{Chains, answered, behind, chains_after, chains_of, chains_then, heard, hears, if_then, most_below, no_chains, reacted, sent, sent_on, taken}

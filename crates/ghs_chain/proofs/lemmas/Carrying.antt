@@ -1,5 +1,5 @@
 -- Chains that follow an event before it happens.
-use Rattle.std.proofs.Common.{◌≡◌, ℕ, suc, Bool, false, List, [], ◌∷◌, ◌++◌, length, refl, sym, ◌∙◌, ap, ap₂, arith, add-one}
+use Rattle.std.proofs.Common.{◌≡◌, ℕ, suc, Bool, false, List, [], ◌∷◌, ◌++◌, length, refl, sym, ◌∙◌, ap, ap₂, arith, add-one, ⊎_elim}
 use Rattle.std.specs.List.{All}
 use Rattle.std.proofs.Math.Path.{fun_ext}
 use Rattle.ghs_graph.specs.Graph.{Shape, IsGraph}
@@ -8,17 +8,17 @@ use Rattle.ghs_node.specs.declared.delta.Fate.TheVariants.{Requeued}
 use Rattle.ghs_node.specs.declared.message.Message.{Message}
 use Rattle.ghs_node.specs.Reaction.{requeues}
 use Rattle.ghs_node.specs.Words.{is_sleeping}
-use Rattle.ghs_protocol.specs.declared.event.Event.{Event}
-use Rattle.ghs_protocol.specs.declared.event.Event.TheVariants.{Take}
-use Rattle.ghs_protocol.specs.Net.{event_node, put}
-use Rattle.ghs_protocol.specs.Network.{far, far_port, network_of}
+use Rattle.peer_network.specs.declared.event.Event.{Event}
+use Rattle.peer_network.specs.declared.event.Event.TheVariants.{Take}
+use Rattle.peer_network.specs.Events.{event_node}
+use Rattle.peer_network.specs.Updates.{put}
+use Rattle.peer_network.specs.Network.{far, far_port, network_of}
 use Rattle.ghs_protocol.specs.Run.{IsRun}
-use Rattle.ghs_protocol.proofs.lemmas.Graphs.{graph_few, graph_wired}
+use Rattle.peer_network.proofs.lemmas.Graphs.{graph_few, graph_wired}
 use Rattle.ghs_protocol.proofs.lemmas.Runs.{after_is_net}
-use Rattle.ghs_protocol.proofs.lemmas.Updates.{put_other, put_same}
+use Rattle.peer_network.proofs.lemmas.Updates.{put_other, put_same}
 use Rattle.ghs_protocol.proofs.lemmas.WellFormed.{after_formed}
 use Rattle.std.proofs.lemmas.Bool.{cases_eq}
-use Rattle.std.proofs.Common.{⊎_elim}
 use Rattle.ghs_core.specs.NetState.{IsAnswer, IsLawful, NetState, net_of, network}
 use Rattle.ghs_core.specs.PutBack.{IsPutBack}
 use Rattle.ghs_chain.specs.Chains.{Chains, chains_of, hears, longest_chain, most_below, reacted, sent, taken}

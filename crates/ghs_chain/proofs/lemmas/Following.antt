@@ -5,12 +5,12 @@ use Rattle.std.proofs.lemmas.Option.{same_Some}
 use Rattle.ghs_graph.specs.Graph.{Shape}
 use Rattle.ghs_node.specs.declared.delta.Delta.{Delta}
 use Rattle.ghs_node.specs.declared.delta.Fate.{Fate}
-use Rattle.ghs_protocol.specs.declared.event.Event.{Event}
-use Rattle.ghs_protocol.specs.declared.event.Event.TheVariants.{Wake, Take}
+use Rattle.peer_network.specs.declared.event.Event.{Event}
+use Rattle.peer_network.specs.declared.event.Event.TheVariants.{Wake, Take}
 use Rattle.ghs_protocol.specs.Net.{Net, happens, opening}
-use Rattle.ghs_protocol.specs.Network.{At, Network, network_of}
+use Rattle.peer_network.specs.Network.{At, Network, network_of}
 use Rattle.ghs_protocol.specs.Run.{IsRun, and_then, run}
-use Rattle.ghs_protocol.proofs.lemmas.Events.{at_of}
+use Rattle.peer_network.proofs.lemmas.Events.{at_of}
 use Rattle.ghs_protocol.proofs.lemmas.Runs.{after_is_net}
 use Rattle.ghs_core.specs.NetState.{IsAnswer, IsLawful, NetState, net_of, network}
 use Rattle.ghs_chain.specs.Chains.{Chains, answered, chains_after, chains_of, chains_then, hears, if_then, no_chains, reacted}

@@ -1,10 +1,10 @@
 -- What hearing leaves as it was.
 use Rattle.std.proofs.Common.{◌≡◌, ◌≢◌, ℕ, Bool, List, [], ◌∷◌, refl}
 use Rattle.ghs_node.specs.declared.delta.Fate.{Fate}
-use Rattle.ghs_protocol.specs.declared.event.Event.{Event}
-use Rattle.ghs_protocol.specs.declared.event.Event.TheVariants.{Wake, Take}
-use Rattle.ghs_protocol.specs.Net.{event_node}
-use Rattle.ghs_protocol.proofs.lemmas.Updates.{put_other}
+use Rattle.peer_network.specs.declared.event.Event.{Event}
+use Rattle.peer_network.specs.declared.event.Event.TheVariants.{Wake, Take}
+use Rattle.peer_network.specs.Events.{event_node}
+use Rattle.peer_network.proofs.lemmas.Updates.{put_other}
 use Rattle.ghs_chain.specs.Chains.{Chains, heard, hears, taken}
 
 -- the numbers of other nodes

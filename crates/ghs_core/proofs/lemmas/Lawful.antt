@@ -1,11 +1,12 @@
 -- The node of a lawful event is one of the network.
 use Rattle.std.proofs.Common.{◌≡◌, ◌≤◌, true}
 use Rattle.std.proofs.lemmas.Bool.{and_parts}
-use Rattle.ghs_protocol.specs.declared.event.Event.{Event}
-use Rattle.ghs_protocol.specs.declared.event.Event.TheVariants.{Wake, Take}
-use Rattle.ghs_protocol.specs.Network.{Network}
-use Rattle.ghs_protocol.specs.Net.{Net, event_node, is_lawful}
-use Rattle.ghs_protocol.proofs.lemmas.Events.{at_of, node_of}
+use Rattle.peer_network.specs.declared.event.Event.{Event}
+use Rattle.peer_network.specs.declared.event.Event.TheVariants.{Wake, Take}
+use Rattle.peer_network.specs.Network.{Network}
+use Rattle.ghs_protocol.specs.Net.{Net, is_lawful}
+use Rattle.peer_network.specs.Events.{event_node}
+use Rattle.peer_network.proofs.lemmas.Events.{at_of, node_of}
 
 pub lawful_node : (g : Network) (w : Net) (e : Event) → is_lawful g w e ≡ true → (1 ≤ event_node e) × (event_node e ≤ g.count)
 lawful_node g w (Wake v) h = node_of g v (and_parts _ _ h).0

@@ -8,10 +8,9 @@ use Rattle.ghs_node.specs.declared.message.Message.{Message}
 use Rattle.ghs_node.specs.declared.message.Message.TheVariants.{Connect, Initiate, Test, Accept, Reject, Report, ChangeRoot}
 use Rattle.ghs_node.specs.NodeState.{NodeState, mark_at}
 use Rattle.ghs_node.specs.Words.{is_basic, is_find, is_sleeping}
-use Rattle.ghs_node.proofs.lemmas.{basic_is}
+use Rattle.ghs_node.proofs.lemmas.{basic_is, find_is, at_is, is_at_is}
 use Rattle.ghs_protocol.specs.Living.{Waits, Connect_waits, Test_waits, Report_waits}
 use Rattle.ghs_core.specs.Waits.{waits}
-use Rattle.ghs_node.proofs.lemmas.{find_is, at_is, is_at_is}
 
 awake_so : (s : Phase) → not (is_sleeping s) ≡ true → s ≢ Sleeping
 awake_so Sleeping h = cc

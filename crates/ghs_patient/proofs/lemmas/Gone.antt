@@ -1,6 +1,6 @@
 -- What a run by what is kept of a world comes to.
 use Rattle.std.proofs.Common.{◌≡◌, ℕ, true, List, [], refl}
-use Rattle.ghs_protocol.specs.declared.event.Event.{Event}
+use Rattle.peer_network.specs.declared.event.Event.{Event}
 use Rattle.ghs_protocol.specs.Marks.{HasEnded}
 use Rattle.ghs_protocol.specs.Schedules.{IsPatientIn}
 use Rattle.ghs_core.specs.NetState.{network}

@@ -5,20 +5,21 @@ use Rattle.std.proofs.lemmas.List.{length_push}
 use Rattle.std.proofs.lemmas.Option.{same_Some}
 use Rattle.ghs_graph.specs.Bound.{IsBound}
 use Rattle.ghs_graph.specs.Graph.{Shape}
-use Rattle.ghs_protocol.specs.declared.event.Event.{Event}
+use Rattle.peer_network.specs.declared.event.Event.{Event}
 use Rattle.ghs_protocol.specs.Laws.{IsNetOf}
 use Rattle.ghs_protocol.specs.Marks.{HasEnded}
-use Rattle.ghs_protocol.specs.Network.{Network, network_of}
+use Rattle.peer_network.specs.Network.{Network, network_of}
 use Rattle.ghs_protocol.specs.Net.{Net, happens}
 use Rattle.ghs_protocol.specs.Run.{and_then, net_after, run}
-use Rattle.ghs_protocol.specs.Schedules.{AllMayWake, And_then, IsPatient, IsPatientIn, No_more, PatienceLasts, PatientRunsAreShort}
+use Rattle.ghs_protocol.specs.Schedules.{And_then, IsPatient, IsPatientIn, No_more, PatienceLasts, PatientRunsAreShort}
+use Rattle.peer_network.specs.Wakes.{AllMayWake}
 use Rattle.ghs_protocol.specs.Steps.{Happens}
 use Rattle.ghs_protocol.proofs.lemmas.Events.{happening, happens_so}
 use Rattle.ghs_protocol.proofs.lemmas.Runs.{after_more, run_keeps, run_more}
 use Rattle.ghs_core.specs.NetState.{network}
 use Rattle.ghs_world.specs.Steps.{IsSameWorld, Makes}
 use Rattle.ghs_world.specs.WorldState.{WorldState, has_turn, home, wakers}
-use Rattle.ghs_world.proofs.lemmas.Waking.{each_is_woken}
+use Rattle.peer_network.proofs.lemmas.Waking.{each_is_woken}
 use Rattle.ghs_sched.proofs.lemmas.Runs.{still_going}
 use Rattle.ghs_patient.specs.Runs.{HasTurns, IsShort}
 

@@ -6,14 +6,14 @@ use Rattle.std.proofs.lemmas.List.Elements.{Contains-get_or}
 use Rattle.std.proofs.lemmas.Option.{get_or_from_slice_get, slice_get_within}
 use Rattle.ghs_node.specs.declared.message.Message.{Message}
 use Rattle.ghs_node.specs.NodeState.{NodeState}
-use Rattle.ghs_protocol.specs.declared.event.Event.{Event}
-use Rattle.ghs_protocol.specs.declared.event.Event.TheVariants.{Take}
-use Rattle.ghs_protocol.specs.Network.{Network}
-use Rattle.ghs_protocol.specs.Net.{Net, is_lawful_under, is_port, is_waiting}
+use Rattle.peer_network.specs.declared.event.Event.{Event}
+use Rattle.peer_network.specs.declared.event.Event.TheVariants.{Take}
+use Rattle.peer_network.specs.Network.{Network, is_port}
+use Rattle.ghs_protocol.specs.Net.{Net, is_lawful_under, is_waiting}
 use Rattle.ghs_protocol.specs.Schedules.{IsPatientIn, Moves_on}
 use Rattle.ghs_core.specs.Waits.{waits}
 use Rattle.ghs_core.proofs.lemmas.Waiting.{waits_test}
-use Rattle.ghs_sched.specs.Picks.{IsPick}
+use Rattle.peer_schedule.specs.Picks.{IsPick}
 use Rattle.ghs_patient.specs.Patience.{first_waits, or_else, puts_back, second_goes}
 
 -- it stands in one of the lists, and in the second only where the first is empty

@@ -6,27 +6,30 @@ use Rattle.ghs_graph.specs.Graph.{Shape, IsGraph}
 use Rattle.ghs_graph.proofs.lemmas.Members.{filter_has, first_in, in_filter, later_in, nothing_in}
 use Rattle.ghs_node.specs.declared.message.Message.{Message}
 use Rattle.ghs_node.specs.Words.{is_sleeping}
-use Rattle.ghs_protocol.specs.declared.event.Event.{Event}
-use Rattle.ghs_protocol.specs.declared.event.Event.TheVariants.{Wake, Take}
+use Rattle.peer_network.specs.declared.event.Event.{Event}
+use Rattle.peer_network.specs.declared.event.Event.TheVariants.{Wake, Take}
 use Rattle.ghs_protocol.specs.Laws.{IsNetOf}
 use Rattle.ghs_protocol.specs.Living.{OneWaits}
 use Rattle.ghs_protocol.specs.Marks.{HasEnded}
-use Rattle.ghs_protocol.specs.Network.{At, Network, network_of}
-use Rattle.ghs_protocol.specs.Net.{Net, event_node, is_lawful_under, is_node, is_port, is_waiting}
-use Rattle.ghs_protocol.specs.Run.{IsRun, MayWake}
-use Rattle.ghs_protocol.specs.Schedules.{A_wake, AllMayWake, IsPatientIn, Moves_on, PatienceLasts, Uncovers}
+use Rattle.peer_network.specs.Network.{At, Network, network_of, is_node, is_port}
+use Rattle.ghs_protocol.specs.Net.{Net, is_lawful_under, is_waiting}
+use Rattle.peer_network.specs.Events.{event_node, MayWake}
+use Rattle.ghs_protocol.specs.Run.{IsRun}
+use Rattle.ghs_protocol.specs.Schedules.{A_wake, IsPatientIn, Moves_on, PatienceLasts, Uncovers}
+use Rattle.peer_network.specs.Wakes.{AllMayWake}
 use Rattle.ghs_protocol.specs.Steps.{Happens, Woke}
-use Rattle.ghs_protocol.proofs.lemmas.Events.{is_node_of, is_port_of, taken_at}
+use Rattle.ghs_protocol.proofs.lemmas.Events.{taken_at}
+use Rattle.peer_network.proofs.lemmas.Events.{is_node_of, is_port_of}
 use Rattle.ghs_protocol.proofs.lemmas.Runs.{after_is_net, lawful_under}
 use Rattle.ghs_core.specs.NetState.{IsLawful, NetState, net_of, network}
 use Rattle.ghs_core.specs.Waits.{waits}
 use Rattle.ghs_core.proofs.lemmas.Waiting.{waits_so, waits_test}
-use Rattle.ghs_index.specs.Places.{HasPlace, all_events}
+use Rattle.peer_index.specs.Places.{HasPlace, all_events}
 use Rattle.ghs_world.specs.Outs.{Outs, is_out}
 use Rattle.ghs_world.specs.Ready.{is_ready}
 use Rattle.ghs_world.specs.WorldState.{WorldState, home, may_happen, wakers}
-use Rattle.ghs_world.proofs.lemmas.Listed.{listed}
-use Rattle.ghs_sched.specs.Picks.{IsPick}
+use Rattle.peer_index.proofs.lemmas.Listed.{listed}
+use Rattle.peer_schedule.specs.Picks.{IsPick}
 use Rattle.ghs_patient.specs.Patience.{first_waits, moves_on, or_else, patient_events, puts_back, second_goes, uncovers}
 use Rattle.ghs_patient.specs.Choices.{has_second, is_double}
 use Rattle.ghs_patient.proofs.lemmas.Picked.{in_either, picked_in, second_there, take_patient}

@@ -3,14 +3,15 @@ use Rattle.std.proofs.Common.{◌≡◌, ℕ, ◌≤◌, Bool, true, subst, sym,
 use Rattle.std.specs.List.{Contains}
 use Rattle.std.proofs.lemmas.Bool.{and_parts}
 use Rattle.std.proofs.lemmas.Option.{get_or_from_slice_get}
-use Rattle.ghs_protocol.specs.declared.event.Event.{Event}
-use Rattle.ghs_protocol.specs.declared.event.Event.TheVariants.{Wake, Take}
-use Rattle.ghs_protocol.specs.Network.{Network}
-use Rattle.ghs_protocol.specs.Net.{Net, event_node, is_lawful, is_lawful_under, is_node, is_port}
-use Rattle.ghs_protocol.proofs.lemmas.Events.{at_of, node_of}
-use Rattle.ghs_index.specs.Places.{HasPlace, all_events}
-use Rattle.ghs_index.proofs.lemmas.Lists.{get_some}
-use Rattle.ghs_index.proofs.lemmas.Places.{only_place}
+use Rattle.peer_network.specs.declared.event.Event.{Event}
+use Rattle.peer_network.specs.declared.event.Event.TheVariants.{Wake, Take}
+use Rattle.peer_network.specs.Network.{Network, is_node, is_port}
+use Rattle.ghs_protocol.specs.Net.{Net, is_lawful, is_lawful_under}
+use Rattle.peer_network.specs.Events.{event_node}
+use Rattle.peer_network.proofs.lemmas.Events.{at_of, node_of}
+use Rattle.peer_index.specs.Places.{HasPlace, all_events}
+use Rattle.peer_index.proofs.lemmas.Lists.{get_some}
+use Rattle.peer_index.proofs.lemmas.Places.{only_place}
 
 -- an event with a place is one of a node
 pub own_node : (g : Network) (e : Event) → HasPlace g e → (1 ≤ event_node e) × (event_node e ≤ g.count)

@@ -7,7 +7,7 @@ use Rattle.ghs_node.specs.declared.delta.Delta.{Delta}
 use Rattle.ghs_node.specs.Laws.{MarkChange, Stays, To_branch, To_rejected}
 use Rattle.ghs_node.specs.NodeState.{NodeState, degree}
 use Rattle.ghs_node.proofs.lemmas.{row_marks}
-use Rattle.ghs_protocol.specs.declared.event.Event.{Event}
+use Rattle.peer_network.specs.declared.event.Event.{Event}
 use Rattle.ghs_protocol.specs.Run.{IsRun}
 use Rattle.ghs_protocol.proofs.lemmas.Nodes.{ports_many}
 use Rattle.ghs_core.specs.NetState.{IsAnswer, IsLawful, NetState, event_node, net_of, network, work_at}

@@ -12,15 +12,16 @@ use Rattle.ghs_node.specs.declared.message.Message.TheVariants.{Connect, Initiat
 use Rattle.ghs_node.specs.NodeState.{NodeState, degree, mark_at, with_mark}
 use Rattle.ghs_node.specs.Reaction.{after, reaction}
 use Rattle.ghs_node.proofs.lemmas.{same_phase_is}
-use Rattle.ghs_protocol.specs.declared.event.Event.{Event}
-use Rattle.ghs_protocol.specs.declared.event.Event.TheVariants.{Wake, Take}
-use Rattle.ghs_protocol.specs.Network.{At, Network, network_of}
-use Rattle.ghs_protocol.specs.Net.{Net, event_node, happens}
+use Rattle.peer_network.specs.declared.event.Event.{Event}
+use Rattle.peer_network.specs.declared.event.Event.TheVariants.{Wake, Take}
+use Rattle.peer_network.specs.Network.{At, Network, network_of}
+use Rattle.ghs_protocol.specs.Net.{Net, happens}
+use Rattle.peer_network.specs.Events.{event_node}
 use Rattle.ghs_protocol.specs.Run.{IsRun}
 use Rattle.ghs_protocol.specs.Steps.{Happens, Woke, Took}
 use Rattle.ghs_protocol.proofs.lemmas.Effects.{taken_here}
 use Rattle.ghs_protocol.proofs.lemmas.Events.{happening}
-use Rattle.ghs_protocol.proofs.lemmas.Graphs.{graph_few, graph_wired}
+use Rattle.peer_network.proofs.lemmas.Graphs.{graph_few, graph_wired}
 use Rattle.ghs_protocol.proofs.lemmas.Nodes.{ports_many}
 use Rattle.ghs_protocol.proofs.lemmas.Runs.{after_is_net}
 use Rattle.ghs_protocol.proofs.lemmas.Sends.{node_here}
@@ -28,11 +29,11 @@ use Rattle.ghs_protocol.proofs.lemmas.WellFormed.{after_formed}
 use Rattle.ghs_core.specs.NetState.{IsAnswer, NetState, delivery, net_of, network, work_at}
 use Rattle.ghs_core.specs.Waits.{waits}
 use Rattle.ghs_flags.specs.Flags.{at}
-use Rattle.ghs_index.specs.Places.{HasPlace, place}
-use Rattle.ghs_index.proofs.lemmas.Marks.{is_for, mark_is}
+use Rattle.peer_index.specs.Places.{HasPlace, place}
+use Rattle.peer_index.proofs.lemmas.Marks.{is_for, mark_is}
 use Rattle.ghs_world.specs.Steps.{IsSameWorld, Makes}
-use Rattle.ghs_world.specs.declared.wake_set.WakeSet.{WakeSet}
-use Rattle.ghs_world.specs.Wakes.{may_wake}
+use Rattle.peer_network.specs.declared.wake_set.WakeSet.{WakeSet}
+use Rattle.peer_network.specs.Wakes.{may_wake}
 use Rattle.ghs_world.specs.WorldState.{WorldState, home}
 use Rattle.ghs_world.proofs.lemmas.Leaving.{Leaves, leaves, same_else}
 use Rattle.ghs_patient.specs.Patience.{first_waits, moves_on, puts_back}

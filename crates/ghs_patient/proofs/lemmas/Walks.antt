@@ -10,15 +10,15 @@ use Rattle.ghs_node.specs.declared.head.Head.{Head}
 use Rattle.ghs_node.specs.declared.mark.Mark.{Mark}
 use Rattle.ghs_node.specs.declared.message.Message.{Message}
 use Rattle.ghs_node.specs.Words.{Outgoing}
-use Rattle.ghs_protocol.specs.declared.event.Event.{Event}
-use Rattle.ghs_protocol.specs.declared.event.Event.TheVariants.{Wake, Take}
-use Rattle.ghs_protocol.specs.Network.{Network, far, far_port, network_of}
-use Rattle.ghs_protocol.proofs.lemmas.Graphs.{graph_wired}
-use Rattle.ghs_protocol.specs.Net.{event_node}
+use Rattle.peer_network.specs.declared.event.Event.{Event}
+use Rattle.peer_network.specs.declared.event.Event.TheVariants.{Wake, Take}
+use Rattle.peer_network.specs.Network.{Network, far, far_port, network_of}
+use Rattle.peer_network.proofs.lemmas.Graphs.{graph_wired}
+use Rattle.peer_network.specs.Events.{event_node}
 use Rattle.ghs_flags.specs.Flags.{at}
-use Rattle.ghs_index.specs.Index.{IndexState, IsFor}
-use Rattle.ghs_index.specs.Places.{HasPlace, place}
-use Rattle.ghs_index.proofs.lemmas.Places.{place_apart, place_within}
+use Rattle.peer_index.specs.Index.{IndexState, IsFor}
+use Rattle.peer_index.specs.Places.{HasPlace, place}
+use Rattle.peer_index.proofs.lemmas.Places.{place_apart, place_within}
 use Rattle.ghs_patient.specs.Choices.{IsMarked, IsOwn, IsStirred, are_alike, far_takes}
 use Rattle.ghs_patient.specs.Walks.{on_each, on_takes}
 use Rattle.ghs_patient.proofs.lemmas.Places.{own_node}

@@ -8,9 +8,10 @@ use Rattle.ghs_node.specs.declared.message.Message.TheVariants.{Connect, Initiat
 use Rattle.ghs_node.specs.declared.delta.Delta.{Delta}
 use Rattle.ghs_node.specs.NodeState.{mark_at}
 use Rattle.ghs_node.specs.Reaction.{after}
-use Rattle.ghs_protocol.specs.Network.{Network, port_at}
-use Rattle.ghs_protocol.specs.Net.{Net, put_at, send, send_all}
-use Rattle.ghs_protocol.proofs.lemmas.Updates.{put_at_same, put_at_miss}
+use Rattle.peer_network.specs.Network.{Network, port_at}
+use Rattle.ghs_protocol.specs.Net.{Net, send, send_all}
+use Rattle.peer_network.specs.Updates.{put_at}
+use Rattle.peer_network.proofs.lemmas.Updates.{put_at_same, put_at_miss}
 use Rattle.ghs_protocol.proofs.clauses.Scene.{Seen, unseen, add, adds, see, Member, member, Ghost, push_all}
 use Rattle.ghs_protocol.proofs.lemmas.Pushes.{add_all_append}
 

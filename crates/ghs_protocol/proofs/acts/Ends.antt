@@ -1,16 +1,16 @@
 -- What an act leaves at the two ends of each link.
 use Rattle.std.proofs.Common.{◌≡◌, ◌≢◌, ℕ, ◌≤◌, refl, sym, ◌∙◌, ap, subst, subst₂}
 use Rattle.ghs_node.specs.Words.{Outgoing}
-use Rattle.ghs_protocol.specs.Network.{Network, port_at, At, far, far_port}
-use Rattle.ghs_protocol.proofs.lemmas.Wired.{IsWired}
-use Rattle.ghs_protocol.specs.Net.{put}
+use Rattle.peer_network.specs.Network.{Network, port_at, At, far, far_port}
+use Rattle.peer_network.proofs.lemmas.Wired.{IsWired}
+use Rattle.peer_network.specs.Updates.{put}
 use Rattle.ghs_protocol.specs.Steps.{sent_on}
 use Rattle.ghs_protocol.proofs.lemmas.Pushes.{pushed, unpushed}
 use Rattle.ghs_graph.specs.declared.key.Key.{Key}
 use Rattle.ghs_protocol.proofs.clauses.Acts.{Side}
 use Rattle.ghs_protocol.proofs.acts.Sides.{acts_at}
-use Rattle.ghs_protocol.proofs.lemmas.Updates.{put_same, put_other}
-use Rattle.ghs_protocol.proofs.lemmas.Wires.{no_loop, neighbour}
+use Rattle.peer_network.proofs.lemmas.Updates.{put_same, put_other}
+use Rattle.peer_network.proofs.lemmas.Wires.{no_loop, neighbour}
 use Rattle.ghs_protocol.proofs.clauses.Scene.{Seen, add, adds, Member, Scene, End, end, acts}
 
 module _ (g : Network) (wired : IsWired g) where

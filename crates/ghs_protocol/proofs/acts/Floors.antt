@@ -9,8 +9,8 @@ use Rattle.ghs_node.specs.declared.mark.Mark.TheVariants.{Branch}
 use Rattle.ghs_node.specs.declared.message.Phase.TheVariants.{Sleeping, Found}
 use Rattle.ghs_node.specs.declared.message.Message.{Message}
 use Rattle.ghs_node.specs.declared.message.Message.TheVariants.{Report, ChangeRoot}
-use Rattle.ghs_protocol.specs.Network.{Network, port_at, At, far, far_port, InNetwork}
-use Rattle.ghs_protocol.proofs.lemmas.Wired.{IsWired}
+use Rattle.peer_network.specs.Network.{Network, port_at, At, far, far_port, InNetwork}
+use Rattle.peer_network.proofs.lemmas.Wired.{IsWired}
 use Rattle.ghs_protocol.specs.Marks.{Leads, Here, Over}
 use Rattle.ghs_protocol.proofs.clauses.Scene.{Scene, End, tree_end, end, forest, far_end}
 use Rattle.ghs_protocol.proofs.clauses.Changes.{seen_beyond}
@@ -24,7 +24,7 @@ use Rattle.ghs_protocol.proofs.rest.Halt.{Back, Old, Half, back}
 use Rattle.ghs_protocol.proofs.root.AtRoot.{AtRoot, root_sent}
 use Rattle.ghs_protocol.proofs.rows.Link.{link_fits, link_clauses, joined_clauses}
 use Rattle.ghs_protocol.proofs.acts.Situations.{begun_at_top, all_awake}
-use Rattle.ghs_protocol.proofs.lemmas.Wires.{at_in}
+use Rattle.peer_network.proofs.lemmas.Wires.{at_in}
 
 -- The order of floors.
 

@@ -4,7 +4,7 @@ use Rattle.std.proofs.lemmas.Bool.{eqb-false}
 use Rattle.std.specs.List.{All, AllPairs, filter}
 use Rattle.std.proofs.lemmas.List.Elements.{All-nil, All-cons, All-head, All-tail, All-append, All-weaker}
 use Rattle.std.proofs.lemmas.List.Kept.{AllPairs-cons, AllPairs-filter}
-use Rattle.ghs_protocol.specs.Network.{Network, InNetwork}
+use Rattle.peer_network.specs.Network.{Network, InNetwork}
 use Rattle.ghs_protocol.specs.Interleavings.{HaveAtLeast}
 
 abbrev pub Differ : ℕ → ℕ → Type 0

@@ -9,12 +9,13 @@ use Rattle.ghs_node.specs.declared.delta.Delta.{Delta}
 use Rattle.ghs_node.specs.declared.delta.Fate.TheVariants.{Consumed}
 use Rattle.ghs_node.specs.NodeState.{NodeState, mark_at}
 use Rattle.ghs_node.specs.Reaction.{after, requeues}
-use Rattle.ghs_protocol.specs.Network.{Network}
-use Rattle.ghs_protocol.specs.Net.{Net, put, put_at, change, take_first}
+use Rattle.peer_network.specs.Network.{Network}
+use Rattle.ghs_protocol.specs.Net.{Net, change, take_first}
+use Rattle.peer_network.specs.Updates.{put, put_at}
 use Rattle.ghs_protocol.specs.Steps.{reacted, taken}
 use Rattle.ghs_protocol.proofs.clauses.Scene.{Seen, see, Member, member, Scene, scene, Ghost, push_all, acts}
 use Rattle.ghs_protocol.proofs.clauses.Uniting.{joining, relabel}
-use Rattle.ghs_protocol.proofs.lemmas.Updates.{put_same, put_other, put_put}
+use Rattle.peer_network.proofs.lemmas.Updates.{put_same, put_other, put_put}
 use Rattle.ghs_protocol.proofs.lemmas.Sends.{node_sent}
 use Rattle.ghs_protocol.proofs.acts.AsRead.{seen_sent, see_put, reacts}
 

@@ -7,13 +7,13 @@ use Rattle.ghs_node.specs.declared.mark.Mark.{Mark}
 use Rattle.ghs_node.specs.declared.mark.Mark.TheVariants.{Branch, Basic, Rejected}
 use Rattle.ghs_node.specs.Words.{is_branch, Outgoing}
 use Rattle.ghs_node.specs.declared.message.Phase.TheVariants.{Sleeping, Found}
-use Rattle.ghs_protocol.specs.Network.{Network, port_at, At, far, far_port, InNetwork}
-use Rattle.ghs_protocol.proofs.lemmas.Wired.{IsWired}
-use Rattle.ghs_protocol.specs.Net.{put}
+use Rattle.peer_network.specs.Network.{Network, port_at, At, far, far_port, InNetwork}
+use Rattle.peer_network.proofs.lemmas.Wired.{IsWired}
+use Rattle.peer_network.specs.Updates.{put}
 use Rattle.ghs_protocol.specs.Steps.{sent_on}
-use Rattle.ghs_protocol.proofs.lemmas.Updates.{put_same, put_other, put_alike}
-use Rattle.ghs_protocol.proofs.lemmas.Sums.{sum_same}
-use Rattle.ghs_protocol.specs.Ledger.{sum_below}
+use Rattle.peer_network.proofs.lemmas.Updates.{put_same, put_other, put_alike}
+use Rattle.peer_network.proofs.lemmas.Sums.{sum_same}
+use Rattle.peer_network.specs.Sums.{sum_below}
 use Rattle.ghs_protocol.proofs.clauses.Scene.{Seen, adds, Member, Scene, End, end, Forest, forest, acts, far_end}
 use Rattle.ghs_protocol.proofs.clauses.Changes.{seen_beyond}
 use Rattle.ghs_protocol.proofs.clauses.Nodes.{NodeFits}

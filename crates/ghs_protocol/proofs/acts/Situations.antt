@@ -8,7 +8,7 @@ use Rattle.ghs_node.specs.Words.{is_branch, Best}
 use Rattle.ghs_node.specs.declared.message.Phase.{Phase}
 use Rattle.ghs_node.specs.declared.message.Phase.TheVariants.{Sleeping, Find, Found}
 use Rattle.ghs_node.specs.declared.message.Message.{Message}
-use Rattle.ghs_protocol.specs.Network.{Network, InNetwork}
+use Rattle.peer_network.specs.Network.{Network, InNetwork}
 use Rattle.ghs_protocol.proofs.clauses.Scene.{Member, Scene, TreeEnd, Forest}
 use Rattle.ghs_protocol.proofs.clauses.Changes.{rejected, marked}
 use Rattle.ghs_protocol.proofs.clauses.Nodes.{NodeFits, LevelLags}
@@ -17,7 +17,7 @@ use Rattle.ghs_protocol.proofs.clauses.Search.{SearchFits}
 use Rattle.ghs_protocol.proofs.clauses.Fragments.{Names, JoinedWithin}
 use Rattle.ghs_protocol.proofs.clauses.Rest.{Alone}
 use Rattle.ghs_protocol.proofs.clauses.Wiring.{IsKeyed}
-use Rattle.ghs_protocol.proofs.lemmas.Updates.{put_same, put_other}
+use Rattle.peer_network.proofs.lemmas.Updates.{put_same, put_other}
 use Rattle.ghs_protocol.proofs.acts.SameForest.{branch_mark}
 
 pub is_find' : (s : Phase) → (s ≡ Find) ⊎ (s ≢ Find)

@@ -14,16 +14,17 @@ use Rattle.ghs_node.specs.NodeState.{NodeState}
 use Rattle.ghs_node.specs.Words.{Outgoing, is_at, better, on_branches_from}
 use Rattle.ghs_node.specs.Reaction.{Ending, Probing, Reporting, Waiting, last_sends, phase_after, probe_after, no_probe, answered, heard, initiated, root_message}
 use Rattle.ghs_node.specs.Rows.{Closes, Reports, Waits}
-use Rattle.ghs_protocol.specs.Network.{Network}
+use Rattle.peer_network.specs.Network.{Network}
 use Rattle.ghs_protocol.specs.Net.{Net}
-use Rattle.ghs_protocol.specs.Ledger.{of_kind, sum_over_nodes}
+use Rattle.ghs_protocol.specs.Ledger.{of_kind}
+use Rattle.peer_network.specs.Sums.{sum_over_nodes}
 use Rattle.ghs_protocol.specs.Payments.{testing}
 use Rattle.ghs_protocol.proofs.clauses.Charges.{finding, moved_on, busy, IsLow, Charges, Pays, Acted}
 use Rattle.ghs_protocol.proofs.clauses.Scene.{scene}
 use Rattle.ghs_protocol.proofs.clauses.Whole.{opening_ghost}
 use Rattle.ghs_protocol.proofs.charges.Due.{all_more}
 use Rattle.ghs_protocol.proofs.lemmas.Sends.{messages}
-use Rattle.ghs_protocol.proofs.lemmas.Sums.{sum_one}
+use Rattle.peer_network.proofs.lemmas.Sums.{sum_one}
 
 -- the number of one node changes
 pub nodes_one : (g : Network) (f h : ℕ → ℕ) (v : ℕ) →

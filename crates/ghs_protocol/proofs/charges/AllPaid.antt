@@ -16,13 +16,15 @@ use Rattle.ghs_node.specs.Words.{is_at}
 use Rattle.ghs_node.specs.Reaction.{Ending, Probing, Reporting, Waiting, answered, heard, last_sends, no_probe, passed_on, probe_after, reject_at, root_message, searching}
 use Rattle.ghs_node.specs.Rows.{Accept_heard, Awake, AwakeRow, Closes, Connect_absorbed, Connect_merges, Connect_waits, Initiate_rests, Initiate_searches, Reject_heard, Report_halts, Report_heard, Report_moves_root, Report_passes, Report_waits, Reports, Root_moves, Row, Settles, Test_accepted, Test_rejected, Test_waits, Tests_cross, Waits, Wakes, Wakes_alone, Woken_accepts, Woken_connect_waits, Woken_merges, Woken_test_waits}
 use Rattle.ghs_node.proofs.lemmas.{reaction_inverts}
-use Rattle.ghs_protocol.specs.declared.event.Event.{Event}
-use Rattle.ghs_protocol.specs.declared.event.Event.TheVariants as events
+use Rattle.peer_network.specs.declared.event.Event.{Event}
+use Rattle.peer_network.specs.declared.event.Event.TheVariants as events
 use Rattle.ghs_protocol.specs.Interleavings.{SendsArePaid}
-use Rattle.ghs_protocol.specs.Network.{Network, network_of, At, InNetwork}
-use Rattle.ghs_protocol.specs.Net.{Net, opening, event_node, happens, one_if_consumed}
+use Rattle.peer_network.specs.Network.{Network, network_of, At, InNetwork}
+use Rattle.ghs_protocol.specs.Net.{Net, opening, happens, one_if_consumed}
+use Rattle.peer_network.specs.Events.{event_node}
 use Rattle.ghs_protocol.specs.Run.{IsAfter}
-use Rattle.ghs_protocol.specs.Ledger.{sum_below, sum_over_nodes, sum_over_ports, of_kind, IsBalanced}
+use Rattle.ghs_protocol.specs.Ledger.{of_kind, IsBalanced}
+use Rattle.peer_network.specs.Sums.{sum_below, sum_over_nodes, sum_over_ports}
 use Rattle.ghs_protocol.specs.Nodes.{IsNodeOf}
 use Rattle.ghs_protocol.specs.Steps.{Happens, Took, Woke, reacted}
 use Rattle.ghs_protocol.specs.Payments.{AllIsPaid, accepts, added_up, calls, failed, no_accept_first, paid_by, paid_by_levels, paid_by_ports, port_pays, reports, risen, roots, testing, tests_out, then_count}
@@ -33,13 +35,14 @@ use Rattle.ghs_protocol.proofs.clauses.Floors.{Sound}
 use Rattle.ghs_protocol.proofs.clauses.Charges.{Charges, HasCharges}
 use Rattle.ghs_protocol.proofs.lemmas.Balance.{after_balanced}
 use Rattle.ghs_protocol.proofs.lemmas.Effects.{taken_consumed, taken_here, taken_sent, taken_there}
-use Rattle.ghs_protocol.proofs.lemmas.Graphs.{graph_few, graph_wired}
-use Rattle.ghs_protocol.proofs.lemmas.Nodes.{ports_many, node_before}
+use Rattle.peer_network.proofs.lemmas.Graphs.{graph_few, graph_wired}
+use Rattle.ghs_protocol.proofs.lemmas.Nodes.{ports_many}
+use Rattle.peer_network.proofs.lemmas.Sums.{node_before, ports_none, ports_one, sum_none, sum_one, sum_same}
 use Rattle.ghs_protocol.proofs.lemmas.Sends.{consumed_now, messages, node_here, node_there, sent_now}
 use Rattle.ghs_protocol.proofs.lemmas.Steps.{event_by_steps}
-use Rattle.ghs_protocol.proofs.lemmas.Sums.{ports_none, ports_one, sum_none, sum_one, sum_same}
 use Rattle.ghs_protocol.proofs.lemmas.Woken.{asleep_or_not, awake_row, step_node}
-use Rattle.ghs_protocol.proofs.lemmas.WellFormed.{HasFewPorts, IsWellFormed, opening_formed}
+use Rattle.ghs_protocol.proofs.lemmas.WellFormed.{IsWellFormed, opening_formed}
+use Rattle.peer_network.proofs.lemmas.Wired.{HasFewPorts}
 use Rattle.ghs_protocol.proofs.charges.Acts.{all_calls, kinds_append, nodes_one}
 use Rattle.ghs_protocol.proofs.charges.Runs.{by_memory, charged, opening_has, stepped}
 use Rattle.ghs_protocol.proofs.charges.Rows.{closes_probe, search_free}
@@ -49,7 +52,7 @@ use Rattle.ghs_protocol.proofs.charges.PortsPay.{Taking, taking, accepted_one, f
 use Rattle.ghs_protocol.proofs.rows.Read.{reject_marks}
 use Rattle.ghs_protocol.proofs.charges.Taken.{next_basic}
 use Rattle.ghs_protocol.proofs.tests.Links.{not_basic}
-use Rattle.ghs_protocol.proofs.lemmas.Updates.{put_same}
+use Rattle.peer_network.proofs.lemmas.Updates.{put_same}
 use Rattle.ghs_protocol.proofs.lemmas.Events.{taken_at}
 use Rattle.ghs_protocol.proofs.acts.Grounds.{graph_ground}
 

@@ -2,10 +2,11 @@
 use Rattle.std.proofs.Common.{◌≡◌, ℕ, zero, suc, ◌+◌, ◌*◌, ◌≤◌, length, sym, arith, suc-mul, zero-mul}
 use Rattle.ghs_graph.specs.Bound.{IsFloorLog2}
 use Rattle.ghs_graph.specs.Graph.{Shape}
-use Rattle.ghs_protocol.specs.Network.{Network, network_of, InNetwork}
-use Rattle.ghs_protocol.proofs.lemmas.Wired.{IsWired}
+use Rattle.peer_network.specs.Network.{Network, network_of, InNetwork}
+use Rattle.peer_network.proofs.lemmas.Wired.{IsWired}
 use Rattle.ghs_protocol.specs.Net.{Net}
-use Rattle.ghs_protocol.specs.Ledger.{sum_below, of_kind, IsBalanced, in_all, sum_over_nodes}
+use Rattle.ghs_protocol.specs.Ledger.{of_kind, IsBalanced, in_all}
+use Rattle.peer_network.specs.Sums.{sum_below, sum_over_nodes}
 use Rattle.ghs_protocol.specs.Laws.{IsNetOf}
 use Rattle.ghs_protocol.specs.Interleavings.{SendsWithinBound, SendsWithinSharpBound}
 use Rattle.ghs_protocol.proofs.clauses.Floors.{Sound}
@@ -14,8 +15,8 @@ use Rattle.ghs_protocol.proofs.clauses.Whole.{opening_ghost}
 use Rattle.ghs_protocol.specs.Payments.{testing}
 use Rattle.ghs_protocol.proofs.clauses.Charges.{busy, moved_on, paid_at, Charges, HasCharges}
 use Rattle.ghs_protocol.proofs.lemmas.Balance.{after_balanced}
-use Rattle.ghs_protocol.proofs.lemmas.Graphs.{graph_wired, graph_few, twice_links}
-use Rattle.ghs_protocol.proofs.lemmas.Sums.{sum_most, sum_add}
+use Rattle.peer_network.proofs.lemmas.Graphs.{graph_wired, graph_few, twice_links}
+use Rattle.peer_network.proofs.lemmas.Sums.{sum_most, sum_add}
 use Rattle.ghs_protocol.proofs.charges.Runs.{after_charges, by_memory}
 use Rattle.ghs_protocol.proofs.charges.Waiting.{level_most, calls_most, quota, accepts_most, ports_most, roots_most}
 use Rattle.ghs_protocol.proofs.acts.Grounds.{graph_ground}

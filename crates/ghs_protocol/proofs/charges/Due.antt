@@ -7,15 +7,16 @@ use Rattle.ghs_node.specs.declared.mark.Mark.TheVariants.{Basic, Branch, Rejecte
 use Rattle.ghs_node.specs.declared.message.Message.{Message}
 use Rattle.ghs_node.specs.declared.message.Message.TheVariants.{Connect, Initiate, Test, Accept, Reject, Report, ChangeRoot}
 use Rattle.ghs_node.specs.Words.{Outgoing, is_at}
-use Rattle.ghs_protocol.specs.Network.{Network, At, far, far_port, InNetwork}
-use Rattle.ghs_protocol.proofs.lemmas.Wired.{IsWired}
-use Rattle.ghs_protocol.specs.Ledger.{sum_below, sum_over_ports, of_kind}
+use Rattle.peer_network.specs.Network.{Network, At, far, far_port, InNetwork}
+use Rattle.peer_network.proofs.lemmas.Wired.{IsWired}
+use Rattle.ghs_protocol.specs.Ledger.{of_kind}
+use Rattle.peer_network.specs.Sums.{sum_below, sum_over_ports}
 use Rattle.ghs_protocol.specs.Steps.{sent_on}
 use Rattle.ghs_protocol.proofs.clauses.Scene.{Seen, add, adds, Member, Scene, end, TestEnd, test_end, acts}
 use Rattle.ghs_protocol.proofs.clauses.Changes.{seen_beyond}
 use Rattle.ghs_protocol.proofs.clauses.Charges.{any_test, settled, due, paid, paid_at, Rises}
 use Rattle.ghs_protocol.proofs.lemmas.Sends.{messages}
-use Rattle.ghs_protocol.proofs.lemmas.Sums.{sum_most}
+use Rattle.peer_network.proofs.lemmas.Sums.{sum_most}
 use Rattle.ghs_protocol.proofs.acts.Ends.{acts_read}
 
 -- sums that rise

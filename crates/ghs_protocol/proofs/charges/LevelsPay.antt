@@ -7,12 +7,14 @@ use Rattle.ghs_graph.proofs.lemmas.Logs.{floor_log2_is_one}
 use Rattle.ghs_node.specs.declared.head.Head.{Head}
 use Rattle.ghs_node.specs.declared.message.Phase.{Phase}
 use Rattle.ghs_node.specs.declared.message.Phase.TheVariants.{Sleeping, Find, Found}
-use Rattle.ghs_protocol.specs.declared.event.Event.{Event}
-use Rattle.ghs_protocol.specs.Network.{Network, network_of, InNetwork}
-use Rattle.ghs_protocol.proofs.lemmas.Wired.{IsWired}
-use Rattle.ghs_protocol.specs.Net.{Net, opening, event_node, happens}
+use Rattle.peer_network.specs.declared.event.Event.{Event}
+use Rattle.peer_network.specs.Network.{Network, network_of, InNetwork}
+use Rattle.peer_network.proofs.lemmas.Wired.{IsWired, HasFewPorts}
+use Rattle.ghs_protocol.specs.Net.{Net, opening, happens}
+use Rattle.peer_network.specs.Events.{event_node}
 use Rattle.ghs_protocol.specs.Run.{run, IsAfter}
-use Rattle.ghs_protocol.specs.Ledger.{sum_below, of_kind}
+use Rattle.ghs_protocol.specs.Ledger.{of_kind}
+use Rattle.peer_network.specs.Sums.{sum_below}
 use Rattle.ghs_protocol.specs.Steps.{Happens}
 use Rattle.ghs_protocol.specs.Payments.{calls_at, added_up, LevelPays, risen, then_count, paid_by, roots, reports, calls, accepts, testing}
 use Rattle.ghs_protocol.specs.Interleavings.{LevelsPayOnce}
@@ -21,11 +23,11 @@ use Rattle.ghs_protocol.proofs.clauses.Nodes.{NodeFits}
 use Rattle.ghs_protocol.proofs.clauses.Wiring.{Ground}
 use Rattle.ghs_protocol.proofs.clauses.Charges.{Acted, HasCharges, busy, finding, moved_on}
 use Rattle.ghs_protocol.proofs.lemmas.Events.{happening}
-use Rattle.ghs_protocol.proofs.lemmas.Graphs.{graph_few}
+use Rattle.peer_network.proofs.lemmas.Graphs.{graph_few}
 use Rattle.ghs_protocol.proofs.lemmas.Runs.{both_some}
 use Rattle.ghs_protocol.proofs.lemmas.Steps.{step_formed}
 use Rattle.ghs_protocol.proofs.lemmas.Woken.{StepBy, StepsBy, One_by, Two_by, event_steps_by}
-use Rattle.ghs_protocol.proofs.lemmas.WellFormed.{HasFewPorts, IsWellFormed, event_formed, opening_formed}
+use Rattle.ghs_protocol.proofs.lemmas.WellFormed.{IsWellFormed, event_formed, opening_formed}
 use Rattle.ghs_protocol.proofs.charges.Acts.{busy_most, busy_some, busy_top, charges_keep, finding_most, moved_most}
 use Rattle.ghs_protocol.proofs.charges.Runs.{Stepped, opening_has, stepped}
 use Rattle.ghs_protocol.proofs.charges.Waiting.{accepts_one, calls_one, level_most}

@@ -8,15 +8,15 @@ use Rattle.ghs_node.specs.declared.message.Message.{Message}
 use Rattle.ghs_node.specs.declared.message.Message.TheVariants.{Test}
 use Rattle.ghs_node.specs.Words.{Outgoing, is_at}
 use Rattle.ghs_node.specs.Reaction.{Ending, Probing, Reporting, Waiting, last_sends, probe_after, name_of}
-use Rattle.ghs_protocol.specs.Network.{Network, At, far, far_port, InNetwork}
-use Rattle.ghs_protocol.proofs.lemmas.Wired.{IsWired}
-use Rattle.ghs_protocol.specs.Net.{put}
+use Rattle.peer_network.specs.Network.{Network, At, far, far_port, InNetwork}
+use Rattle.peer_network.proofs.lemmas.Wired.{IsWired}
+use Rattle.peer_network.specs.Updates.{put}
 use Rattle.ghs_protocol.specs.Steps.{sent_on}
 use Rattle.ghs_protocol.proofs.clauses.Scene.{Seen, adds, Member, Scene, acts}
 use Rattle.ghs_protocol.proofs.clauses.Changes.{seen_beyond, rejected, marked}
 use Rattle.ghs_protocol.proofs.clauses.Charges.{any_test, settled, due, Rises}
 use Rattle.ghs_protocol.proofs.lemmas.Sends.{messages}
-use Rattle.ghs_protocol.proofs.lemmas.Updates.{put_same, put_other}
+use Rattle.peer_network.proofs.lemmas.Updates.{put_same, put_other}
 use Rattle.ghs_protocol.proofs.tests.Links.{not_basic}
 use Rattle.ghs_protocol.proofs.charges.Due.{Grows, due_most, due_basic, NoTests, tests_stay, sent_none, sent_aside, Fares, Same, Tested, Done, here_was, there_was, here_is, there_is, paid_most, paid_more}
 

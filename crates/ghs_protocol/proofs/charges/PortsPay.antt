@@ -13,13 +13,12 @@ use Rattle.ghs_node.specs.declared.delta.Delta.{Delta}
 use Rattle.ghs_node.specs.declared.work.Work.TheVariants.{Deliver}
 use Rattle.ghs_node.specs.NodeState.{NodeState, key_at, mark_at}
 use Rattle.ghs_node.specs.Words.{is_at}
-use Rattle.ghs_node.specs.Reaction.{Ending, Probing, Reporting, Waiting, answered, heard, last_sends, no_probe, passed_on, root_message, searching}
+use Rattle.ghs_node.specs.Reaction.{Ending, Probing, Reporting, Waiting, answered, heard, last_sends, no_probe, passed_on, root_message, searching, reaction}
 use Rattle.ghs_node.specs.Rows.{Accept_heard, Awake, AwakeRow, Connect_absorbed, Connect_merges, Connect_waits, Initiate_rests, Initiate_searches, Reject_heard, Report_halts, Report_heard, Report_moves_root, Report_passes, Report_waits, Root_moves, Row, Test_accepted, Test_rejected, Test_waits, Tests_cross, Woken_accepts, Woken_connect_waits, Woken_merges, Woken_test_waits}
-use Rattle.ghs_node.specs.Reaction.{reaction}
-use Rattle.ghs_protocol.specs.declared.event.Event.{Event}
-use Rattle.ghs_protocol.specs.declared.event.Event.TheVariants as events
+use Rattle.peer_network.specs.declared.event.Event.{Event}
+use Rattle.peer_network.specs.declared.event.Event.TheVariants as events
 use Rattle.ghs_protocol.specs.Interleavings.{PortsPayOnce}
-use Rattle.ghs_protocol.specs.Network.{Network, network_of, At}
+use Rattle.peer_network.specs.Network.{Network, network_of, At}
 use Rattle.ghs_protocol.specs.Net.{Net, opening}
 use Rattle.ghs_protocol.specs.Run.{IsAfter}
 use Rattle.ghs_protocol.specs.Ledger.{of_kind}
@@ -32,18 +31,18 @@ use Rattle.ghs_protocol.proofs.clauses.Whole.{opening_ghost}
 use Rattle.ghs_protocol.proofs.clauses.Floors.{Sound}
 use Rattle.ghs_protocol.proofs.clauses.Charges.{Charges, HasCharges, Rises, paid_at}
 use Rattle.ghs_protocol.proofs.lemmas.Effects.{taken_here, taken_sent}
-use Rattle.ghs_protocol.proofs.lemmas.Graphs.{graph_few}
+use Rattle.peer_network.proofs.lemmas.Graphs.{graph_few}
 use Rattle.ghs_protocol.proofs.lemmas.Sends.{messages}
 use Rattle.ghs_protocol.proofs.lemmas.Steps.{step_formed}
 use Rattle.ghs_protocol.proofs.lemmas.Woken.{One_by, StepBy, StepsBy, Two_by, asleep_or_not, awake_row, event_steps_by}
-use Rattle.ghs_protocol.proofs.lemmas.WellFormed.{HasFewPorts, IsWellFormed, event_row, opening_formed}
+use Rattle.ghs_protocol.proofs.lemmas.WellFormed.{IsWellFormed, event_row, opening_formed}
+use Rattle.peer_network.proofs.lemmas.Wired.{HasFewPorts, IsWired}
 use Rattle.ghs_protocol.proofs.charges.Acts.{all_calls, charges_keep, kinds_append}
 use Rattle.ghs_protocol.proofs.charges.Runs.{Stepped, by_memory, opening_has, stepped}
 use Rattle.ghs_protocol.proofs.charges.Due.{paid_not, paid_once}
 use Rattle.ghs_protocol.proofs.charges.Rows.{closes_probe, cross_rises, heard_rises, rejected_rises, search_free}
 use Rattle.ghs_protocol.proofs.charges.LevelsPay.{counted}
 use Rattle.ghs_protocol.proofs.acts.Grounds.{graph_ground}
-use Rattle.ghs_protocol.proofs.lemmas.Wired.{IsWired}
 
 -- no Test has failed where the port is probed as before, where none was, and where an Accept came
 pub probes_on : (b c : Bool) → ◌≡◌ {A = ℕ} (if b && (not b && c) then 1 else 0) 0

@@ -15,8 +15,9 @@ use Rattle.ghs_node.specs.NodeState.{degree, key_at, mark_at, with_mark}
 use Rattle.ghs_node.specs.Words.{below, best_key, is_at, is_branch, is_name}
 use Rattle.ghs_node.specs.Reaction.{Ending, Probing, absorbs, answered, does, ends, heard, last_sends, merges, moves_root, no_probe, passed_on, probe_after, reject_at, requeues, rests, root_mark, root_message, searching, stops}
 use Rattle.ghs_node.specs.Rows.{Accept_heard, AwakeRow, Closes, Reports, Waits, Connect_absorbed, Connect_merges, Connect_waits, Initiate_rests, Initiate_searches, Reject_heard, Report_halts, Report_heard, Report_moves_root, Report_passes, Report_waits, Root_moves, Settles, Test_accepted, Test_rejected, Test_waits, Tests_cross}
-use Rattle.ghs_protocol.specs.Network.{At, Network, far, far_port, InNetwork}
-use Rattle.ghs_protocol.specs.Net.{Net, put, one_if_consumed}
+use Rattle.peer_network.specs.Network.{At, Network, far, far_port, InNetwork}
+use Rattle.ghs_protocol.specs.Net.{Net, one_if_consumed}
+use Rattle.peer_network.specs.Updates.{put}
 use Rattle.ghs_protocol.specs.Nodes.{IsNodeOf}
 use Rattle.ghs_protocol.specs.Steps.{taken}
 use Rattle.ghs_protocol.proofs.clauses.Scene.{Ghost, Seen, TreeEnd, Scene, end, see, test_end, tree_end, scene, far_end}
@@ -29,7 +30,7 @@ use Rattle.ghs_protocol.proofs.clauses.Floors.{Sound}
 use Rattle.ghs_protocol.proofs.clauses.Charges.{Acted, Charges, IsLow, Pays, Rises, any_test}
 use Rattle.ghs_protocol.proofs.lemmas.Nodes.{ports_many}
 use Rattle.ghs_protocol.proofs.lemmas.Sends.{messages}
-use Rattle.ghs_protocol.proofs.lemmas.Updates.{put_same, put_other}
+use Rattle.peer_network.proofs.lemmas.Updates.{put_same, put_other}
 use Rattle.ghs_protocol.proofs.charges.Acts.{all_calls, pays_accept, pays_idle, pays_report, pays_rest, pays_root, pays_search, pays_turn}
 use Rattle.ghs_protocol.proofs.search.Initiate as initiating
 use Rattle.ghs_protocol.proofs.charges.TopLevel.{below_top}
@@ -47,7 +48,7 @@ use Rattle.ghs_protocol.proofs.rows.Rows.{ups_after, connect_again, report_again
 use Rattle.ghs_protocol.proofs.acts.Reactions.{round_scene}
 use Rattle.ghs_protocol.proofs.charges.Taken.{arrives, fewer, lone, next_basic, no_probing, none_left, taken_pays}
 use Rattle.ghs_protocol.proofs.tests.Links.{accepted_apart, not_basic, probe_is, rejected_facts}
-use Rattle.ghs_protocol.proofs.lemmas.Wires.{at_in}
+use Rattle.peer_network.proofs.lemmas.Wires.{at_in}
 use Rattle.ghs_protocol.proofs.lemmas.Balance.{none_or_none}
 use Rattle.ghs_node.proofs.lemmas.{is_at_is, is_at_not}
 

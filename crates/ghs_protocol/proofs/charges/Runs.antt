@@ -7,13 +7,14 @@ use Rattle.ghs_node.specs.declared.message.Phase.TheVariants.{Sleeping}
 use Rattle.ghs_node.specs.declared.delta.Delta.{Delta}
 use Rattle.ghs_node.specs.NodeState.{NodeState, mark_at, degree, with_mark}
 use Rattle.ghs_node.specs.Reaction.{at_wake, wakes, wakes_alone}
-use Rattle.ghs_protocol.specs.declared.event.Event.{Event}
-use Rattle.ghs_protocol.specs.Network.{At, Network}
-use Rattle.ghs_protocol.proofs.lemmas.Wired.{IsWired}
-use Rattle.ghs_protocol.specs.Net.{Net, opening, put}
+use Rattle.peer_network.specs.declared.event.Event.{Event}
+use Rattle.peer_network.specs.Network.{At, Network}
+use Rattle.peer_network.proofs.lemmas.Wired.{IsWired, HasFewPorts}
+use Rattle.ghs_protocol.specs.Net.{Net, opening}
+use Rattle.peer_network.specs.Updates.{put}
 use Rattle.ghs_protocol.specs.Run.{IsAfter}
 use Rattle.ghs_protocol.specs.Nodes.{IsNodeOf}
-use Rattle.ghs_protocol.proofs.lemmas.WellFormed.{AreNodes, HasFewPorts}
+use Rattle.ghs_protocol.proofs.lemmas.WellFormed.{AreNodes}
 use Rattle.ghs_protocol.specs.Steps.{Step, Takes_one, Wakes_up, reacted, taken, waking}
 use Rattle.ghs_protocol.proofs.clauses.Scene.{Ghost, Scene, see, scene}
 use Rattle.ghs_protocol.proofs.clauses.Nodes.{Untouched}
@@ -25,8 +26,8 @@ use Rattle.ghs_protocol.proofs.clauses.Charges.{Acted, Charges, HasCharges, Pays
 use Rattle.ghs_protocol.proofs.lemmas.Nodes.{ports_many}
 use Rattle.ghs_protocol.proofs.lemmas.Sends.{messages, consumed_now, node_here, node_there, sent_now}
 use Rattle.ghs_protocol.proofs.lemmas.Steps.{run_by_steps}
-use Rattle.ghs_protocol.proofs.lemmas.Sums.{sum_none}
-use Rattle.ghs_protocol.proofs.lemmas.Updates.{put_same, put_other}
+use Rattle.peer_network.proofs.lemmas.Sums.{sum_none}
+use Rattle.peer_network.proofs.lemmas.Updates.{put_same, put_other}
 use Rattle.ghs_protocol.proofs.lemmas.Woken.{asleep_basic, step_node}
 use Rattle.ghs_protocol.proofs.charges.Acts.{charges_keep, pays_alone, pays_wake}
 use Rattle.ghs_protocol.proofs.charges.Due.{Grows, NoTests}

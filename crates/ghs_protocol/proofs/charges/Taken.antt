@@ -15,8 +15,9 @@ use Rattle.ghs_node.specs.Words.{is_basic}
 use Rattle.ghs_node.specs.Reaction.{Ending, Probing}
 use Rattle.ghs_node.specs.Rows.{Closes, Reports, Waits, Settles, Probes, Exhausts}
 use Rattle.ghs_node.proofs.lemmas.{basic_is}
-use Rattle.ghs_protocol.specs.Network.{Network}
-use Rattle.ghs_protocol.specs.Net.{Net, put, one_if_consumed}
+use Rattle.peer_network.specs.Network.{Network}
+use Rattle.ghs_protocol.specs.Net.{Net, one_if_consumed}
+use Rattle.peer_network.specs.Updates.{put}
 use Rattle.ghs_protocol.specs.Steps.{taken}
 use Rattle.ghs_protocol.proofs.clauses.Scene.{Seen, unseen, add, see, Scene, scene, acts, TestEnd}
 use Rattle.ghs_protocol.proofs.clauses.Tests.{TestsFit}
@@ -24,7 +25,7 @@ use Rattle.ghs_protocol.proofs.clauses.Whole.{opening_ghost}
 use Rattle.ghs_protocol.proofs.clauses.Charges.{Acted, Pays, Rises, any_test}
 use Rattle.ghs_protocol.proofs.lemmas.Effects.{taken_here, taken_there, taken_sent, taken_consumed}
 use Rattle.ghs_protocol.proofs.lemmas.Sends.{messages}
-use Rattle.ghs_protocol.proofs.lemmas.Updates.{put_same, put_other}
+use Rattle.peer_network.proofs.lemmas.Updates.{put_same, put_other}
 use Rattle.ghs_protocol.proofs.acts.AsRead.{reacts, see_first}
 use Rattle.ghs_protocol.proofs.acts.Reactions.{taken_acts}
 use Rattle.ghs_protocol.proofs.tests.Links.{probe_is}

@@ -1,7 +1,7 @@
 -- How high levels rise: a fragment of level l has 2^l nodes.
 use Rattle.std.proofs.Common.{◌≡◌, ◌≢◌, ℕ, suc, ◌^◌, ◌≤◌, ◌<◌, sym, ◌∙◌, ⊎_elim, ◌⊎◌, pow_mono}
 use Rattle.ghs_graph.specs.Bound.{IsFloorLog2}
-use Rattle.ghs_protocol.specs.Network.{Network, InNetwork}
+use Rattle.peer_network.specs.Network.{Network, InNetwork}
 use Rattle.ghs_protocol.specs.Interleavings.{HaveAtLeast}
 use Rattle.ghs_protocol.proofs.clauses.Scene.{Scene}
 use Rattle.ghs_protocol.proofs.clauses.Whole.{Invariant}

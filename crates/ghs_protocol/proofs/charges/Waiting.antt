@@ -6,10 +6,11 @@ use Rattle.ghs_graph.specs.Bound.{IsFloorLog2}
 use Rattle.ghs_node.specs.declared.message.Message.{Message}
 use Rattle.ghs_node.specs.declared.message.Message.TheVariants.{Connect, Initiate, Test, Accept, Reject, Report, ChangeRoot}
 use Rattle.ghs_node.specs.Words.{is_branch}
-use Rattle.ghs_protocol.specs.Network.{Network, At, far, InNetwork}
-use Rattle.ghs_protocol.proofs.lemmas.Wired.{IsWired}
+use Rattle.peer_network.specs.Network.{Network, At, far, InNetwork}
+use Rattle.peer_network.proofs.lemmas.Wired.{IsWired}
 use Rattle.ghs_protocol.specs.Net.{Net}
-use Rattle.ghs_protocol.specs.Ledger.{sum_below, of_kind}
+use Rattle.ghs_protocol.specs.Ledger.{of_kind}
+use Rattle.peer_network.specs.Sums.{sum_below}
 use Rattle.ghs_protocol.specs.Payments.{calls_at, testing}
 use Rattle.ghs_protocol.proofs.clauses.Scene.{Ghost, Seen, TreeEnd, add, adds, end, see, test_end, tree_end, unseen, scene, far_end}
 use Rattle.ghs_protocol.proofs.clauses.Links.{Joins, Ups, Child}
@@ -18,7 +19,7 @@ use Rattle.ghs_protocol.proofs.clauses.TreeMessages.{TreeFits, Upward, Nothing_u
 use Rattle.ghs_protocol.proofs.clauses.Whole.{Invariant, opening_ghost}
 use Rattle.ghs_protocol.proofs.clauses.Charges.{IsLow, busy, moved_on, paid_at}
 use Rattle.ghs_protocol.proofs.lemmas.Balance.{of_kind_append}
-use Rattle.ghs_protocol.proofs.lemmas.Sums.{sum_none, sum_few}
+use Rattle.peer_network.proofs.lemmas.Sums.{sum_none, sum_few}
 use Rattle.ghs_protocol.proofs.charges.Acts.{busy_below, busy_some, busy_top, moved_most}
 use Rattle.ghs_protocol.proofs.every_run.Foreseen.{sum_lacks}
 use Rattle.ghs_protocol.proofs.charges.TopLevel.{below_top, coming_most}

@@ -2,8 +2,8 @@
 use Rattle.std.specs.Prelude.{ℕ, List, [], ◌∷◌, ◌++◌}
 use Rattle.ghs_node.specs.declared.message.Message.{Message}
 use Rattle.ghs_node.specs.Words.{Outgoing}
-use Rattle.ghs_protocol.specs.Network.{Network, port_at}
-use Rattle.ghs_protocol.specs.Net.{put, put_at}
+use Rattle.peer_network.specs.Network.{Network, port_at}
+use Rattle.peer_network.specs.Updates.{put, put_at}
 
 -- messages more, one after another, by what adds one
 abbrev pub add_all : {Q : Type 0} → (Q → Message → Q) → Q → List Message → Q

@@ -8,9 +8,10 @@ use Rattle.ghs_node.specs.declared.message.Phase.{Phase}
 use Rattle.ghs_node.specs.declared.message.Phase.TheVariants.{Sleeping, Find, Found}
 use Rattle.ghs_node.specs.declared.message.Message.{Message}
 use Rattle.ghs_node.specs.Words.{is_at}
-use Rattle.ghs_protocol.specs.Network.{Network, far, far_port, At, InNetwork}
+use Rattle.peer_network.specs.Network.{Network, far, far_port, At, InNetwork}
 use Rattle.ghs_protocol.specs.Net.{Net}
-use Rattle.ghs_protocol.specs.Ledger.{sum_over_nodes, sum_over_ports, of_kind}
+use Rattle.ghs_protocol.specs.Ledger.{of_kind}
+use Rattle.peer_network.specs.Sums.{sum_over_nodes, sum_over_ports}
 use Rattle.ghs_protocol.specs.Payments.{testing}
 use Rattle.ghs_protocol.proofs.clauses.Scene.{Ghost, Scene, scene, end, TestEnd, test_end}
 use Rattle.ghs_protocol.proofs.clauses.Whole.{opening_ghost}

@@ -7,7 +7,7 @@ use Rattle.ghs_node.specs.declared.mark.Mark.TheVariants.{Basic, Branch}
 use Rattle.ghs_node.specs.declared.message.Phase.TheVariants.{Sleeping, Find, Found}
 use Rattle.ghs_node.specs.declared.message.Message.TheVariants.{Report, ChangeRoot}
 use Rattle.ghs_node.specs.Words.{below, best_key, is_find, is_at}
-use Rattle.ghs_protocol.specs.Network.{Network, port_at, far, far_port, At, InNetwork}
+use Rattle.peer_network.specs.Network.{Network, port_at, far, far_port, At, InNetwork}
 use Rattle.ghs_protocol.specs.Marks.{Leads}
 use Rattle.ghs_protocol.specs.Net.{Net}
 use Rattle.ghs_protocol.proofs.clauses.Whole.{Invariant}

@@ -1,7 +1,7 @@
 -- Clauses of fragments, of the links that join them, and of their roots.
 use Rattle.std.specs.Prelude.{◌⊎◌, ◌≡◌, ℕ, ◌^◌, true, false, Some, None}
 use Rattle.ghs_graph.specs.declared.key.Key.{Key}
-use Rattle.ghs_protocol.specs.Network.{Network, port_at, far, far_port, At, InNetwork}
+use Rattle.peer_network.specs.Network.{Network, port_at, far, far_port, At, InNetwork}
 use Rattle.ghs_protocol.specs.Marks.{Leads}
 use Rattle.ghs_protocol.specs.Interleavings.{HaveAtLeast}
 use Rattle.ghs_protocol.proofs.clauses.Scene.{Forest}

@@ -2,7 +2,7 @@
 use Rattle.std.specs.Prelude.{◌⊎◌, ◌≡◌, ◌≢◌, ℕ, suc, ◌<◌, false, Option, Some}
 use Rattle.ghs_graph.specs.declared.key.Key.{Key}
 use Rattle.ghs_graph.specs.Key.{key_lt}
-use Rattle.ghs_protocol.specs.Network.{Network, port_at, far, far_port, At}
+use Rattle.peer_network.specs.Network.{Network, port_at, far, far_port, At}
 use Rattle.ghs_protocol.specs.Net.{Net}
 use Rattle.ghs_protocol.proofs.clauses.Scene.{Ghost, scene}
 use Rattle.ghs_protocol.proofs.clauses.Floors.{Sound}

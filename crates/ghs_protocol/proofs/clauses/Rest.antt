@@ -5,8 +5,8 @@ use Rattle.ghs_node.specs.declared.message.Phase.TheVariants.{Sleeping, Find, Fo
 use Rattle.ghs_node.specs.declared.message.Message.{Message}
 use Rattle.ghs_node.specs.declared.message.Message.TheVariants.{Initiate, Report}
 use Rattle.ghs_node.specs.Words.{is_find, is_at}
-use Rattle.ghs_protocol.specs.Network.{Network, far, far_port, At, InNetwork}
-use Rattle.ghs_protocol.specs.Ledger.{sum_below}
+use Rattle.peer_network.specs.Network.{Network, far, far_port, At, InNetwork}
+use Rattle.peer_network.specs.Sums.{sum_below}
 use Rattle.ghs_protocol.proofs.clauses.Scene.{Scene, End, end, tree_end, forest}
 use Rattle.ghs_protocol.proofs.clauses.Links.{Out}
 use Rattle.ghs_protocol.proofs.clauses.TreeMessages.{Moved}

@@ -8,9 +8,10 @@ use Rattle.ghs_node.specs.declared.message.Message.TheVariants.{Connect, Initiat
 use Rattle.ghs_node.specs.declared.head.Head.{Head}
 use Rattle.ghs_node.specs.Words.{Outgoing, Best, is_branch}
 use Rattle.ghs_node.specs.NodeState.{mark_at}
-use Rattle.ghs_protocol.specs.Network.{Network, port_at, far, far_port}
+use Rattle.peer_network.specs.Network.{Network, port_at, far, far_port}
 use Rattle.ghs_protocol.proofs.clauses.Acts.{add_all, push_all as pushes}
-use Rattle.ghs_protocol.specs.Net.{Net, put}
+use Rattle.ghs_protocol.specs.Net.{Net}
+use Rattle.peer_network.specs.Updates.{put}
 
 -- What is read of a queue: its tree messages in order, its Tests in order, and how many Accepts and Rejects.
 -- The place of Tests and answers among the other messages never matters.

@@ -9,7 +9,7 @@ use Rattle.ghs_node.specs.declared.message.Phase.TheVariants.{Sleeping, Find, Fo
 use Rattle.ghs_node.specs.declared.message.Message.{Message}
 use Rattle.ghs_node.specs.declared.message.Message.TheVariants.{Initiate}
 use Rattle.ghs_node.specs.Words.{Best, below, best_key, is_zero, is_missing}
-use Rattle.ghs_protocol.specs.Network.{Network, far, far_port, At, InNetwork}
+use Rattle.peer_network.specs.Network.{Network, far, far_port, At, InNetwork}
 use Rattle.ghs_protocol.proofs.clauses.Scene.{Scene, Member, End, end}
 use Rattle.ghs_protocol.proofs.clauses.Rest.{has_report}
 

@@ -7,7 +7,7 @@ use Rattle.ghs_node.specs.declared.message.Phase.TheVariants.{Found}
 use Rattle.ghs_node.specs.declared.message.Message.{Message}
 use Rattle.ghs_node.specs.declared.message.Message.TheVariants.{Report, ChangeRoot}
 use Rattle.ghs_node.specs.Words.{below, best_key}
-use Rattle.ghs_protocol.specs.Network.{Network, port_at, far}
+use Rattle.peer_network.specs.Network.{Network, port_at, far}
 use Rattle.ghs_protocol.proofs.clauses.Scene.{Member, Scene}
 
 -- a node of fragment c or a comes to fragment a, of this coming level and name

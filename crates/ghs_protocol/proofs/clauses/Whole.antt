@@ -1,7 +1,7 @@
 -- The invariant: all clauses together.
 use Rattle.std.specs.Prelude.{ℕ, None, length}
 use Rattle.ghs_graph.specs.declared.key.Key.{Key}
-use Rattle.ghs_protocol.specs.Network.{Network, far, far_port, At, InNetwork}
+use Rattle.peer_network.specs.Network.{Network, far, far_port, At, InNetwork}
 use Rattle.ghs_protocol.specs.Net.{Net}
 use Rattle.ghs_protocol.proofs.clauses.Scene.{Ghost, Scene, scene, End, end, tree_end, test_end, forest}
 use Rattle.ghs_protocol.proofs.clauses.Nodes.{NodeFits}

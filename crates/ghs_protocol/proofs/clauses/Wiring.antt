@@ -1,8 +1,8 @@
 -- What every graph keeps beyond its wiring: each link has a key of its own, and each node's ports stand in key order.
 use Rattle.std.specs.Prelude.{◌⊎◌, ◌≡◌, ℕ, ◌<◌, true}
 use Rattle.ghs_graph.specs.Key.{key_lt}
-use Rattle.ghs_protocol.specs.Network.{Network, port_at, far, far_port, At}
-use Rattle.ghs_protocol.proofs.lemmas.Wired.{IsWired}
+use Rattle.peer_network.specs.Network.{Network, port_at, far, far_port, At}
+use Rattle.peer_network.proofs.lemmas.Wired.{IsWired}
 
 -- two ports with one key are the same, or each other's far end
 abbrev pub IsKeyed : Network → Type 0

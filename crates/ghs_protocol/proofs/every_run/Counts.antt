@@ -8,15 +8,16 @@ use Rattle.ghs_node.specs.declared.delta.Delta.{Delta}
 use Rattle.ghs_node.specs.declared.work.Work.TheVariants.{Wake}
 use Rattle.ghs_node.specs.Kind.{kind_of, place_of}
 use Rattle.ghs_node.proofs.lemmas.{reaction_inverts}
-use Rattle.ghs_protocol.specs.declared.event.Event.{Event}
-use Rattle.ghs_protocol.specs.Network.{Network}
-use Rattle.ghs_protocol.proofs.lemmas.Wired.{IsWired}
+use Rattle.peer_network.specs.declared.event.Event.{Event}
+use Rattle.peer_network.specs.Network.{Network}
+use Rattle.peer_network.proofs.lemmas.Wired.{IsWired}
 use Rattle.ghs_protocol.specs.Net.{Net, happens, take_first, one_if_consumed}
 use Rattle.ghs_protocol.specs.Run.{run}
-use Rattle.ghs_protocol.specs.Ledger.{in_all, of_kind, takes_in}
+use Rattle.ghs_protocol.specs.Ledger.{in_all, of_kind}
+use Rattle.peer_network.specs.Events.{takes_in}
 use Rattle.ghs_protocol.specs.Steps.{reacted, taken, Happens, Woke, Took}
 use Rattle.ghs_protocol.proofs.lemmas.Sends.{messages, sent_now, consumed_now, requeued_now}
-use Rattle.ghs_protocol.proofs.lemmas.Sums.{sum_same, sum_add}
+use Rattle.peer_network.proofs.lemmas.Sums.{sum_same, sum_add}
 use Rattle.ghs_protocol.proofs.lemmas.Balance.{kinds_in_all, one_fate}
 use Rattle.ghs_protocol.proofs.lemmas.Effects.{taken_consumed, taken_requeued}
 use Rattle.ghs_protocol.proofs.lemmas.Events.{happening}

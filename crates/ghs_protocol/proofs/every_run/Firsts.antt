@@ -1,11 +1,11 @@
 -- The first facts of every run of a graph, put together.
 use Rattle.std.proofs.Common.{◌≡◌, sym, ◌∙◌, arith, zero-add, Some}
 use Rattle.ghs_graph.specs.Graph.{Shape}
-use Rattle.ghs_protocol.specs.Network.{network_of}
+use Rattle.peer_network.specs.Network.{network_of}
 use Rattle.ghs_protocol.specs.Net.{Net, opening}
 use Rattle.ghs_protocol.specs.Run.{run}
 use Rattle.ghs_protocol.specs.Laws.{IsNetOf, IsLater, BranchMarksStay, MarkedPortsStay, NodesStayAwake, LevelsStay, HaltsStay, HaltedByReaction, NodesAreNodes, MessagesHaveLevels, NothingElsewhere, KindsBalance, LedgerBalances, TakesAreCounted, SendsAreBounded, EventsHappenSo, SleepersWakeFirst, FragmentsAreJoined}
-use Rattle.ghs_protocol.proofs.lemmas.Graphs.{graph_wired, graph_few}
+use Rattle.peer_network.proofs.lemmas.Graphs.{graph_wired, graph_few}
 use Rattle.ghs_protocol.proofs.lemmas.Events.{happening, happens_so}
 use Rattle.ghs_protocol.proofs.lemmas.Runs.{run_joins}
 use Rattle.ghs_protocol.proofs.lemmas.Woken.{event_steps}

@@ -11,11 +11,11 @@ use Rattle.ghs_node.specs.declared.work.Work.TheVariants.{Deliver}
 use Rattle.ghs_node.specs.Words.{is_branch, is_at, on_branches, find_more}
 use Rattle.ghs_node.specs.NodeState.{degree}
 use Rattle.ghs_node.specs.NoRule.{NoRule, IsForAwake, An_initiate, An_accept, A_reject, A_report, A_change_root, Still_asleep, Initiate_too_low, Initiate_to_sleep, Accept_untested, Reject_untested, Report_unowed, Root_without_best, Merge_above_levels, Absorbs_too_many, Searches_too_many}
-use Rattle.ghs_protocol.specs.Network.{Network, At, port_at, far, far_port, InNetwork}
-use Rattle.ghs_protocol.proofs.lemmas.Wired.{IsWired}
+use Rattle.peer_network.specs.Network.{Network, At, port_at, far, far_port, InNetwork}
+use Rattle.peer_network.proofs.lemmas.Wired.{IsWired}
 use Rattle.ghs_protocol.specs.Net.{Net}
 use Rattle.ghs_protocol.specs.Nodes.{IsNodeOf}
-use Rattle.ghs_protocol.specs.Ledger.{sum_below}
+use Rattle.peer_network.specs.Sums.{sum_below}
 use Rattle.ghs_protocol.proofs.acts.Many.{few_nodes}
 use Rattle.ghs_protocol.proofs.clauses.Scene.{End, end, tree_end, see, scene, Ghost, far_end}
 use Rattle.ghs_protocol.proofs.clauses.Changes.{marked}
@@ -24,7 +24,7 @@ use Rattle.ghs_protocol.proofs.clauses.Nodes.{Searching}
 use Rattle.ghs_protocol.proofs.clauses.Rest.{owes, debt}
 use Rattle.ghs_protocol.proofs.clauses.Whole.{Invariant, NamesOf}
 use Rattle.ghs_protocol.proofs.lemmas.Nodes.{ports_many}
-use Rattle.ghs_protocol.proofs.lemmas.Sums.{sum_same, term_le, sum_few}
+use Rattle.peer_network.proofs.lemmas.Sums.{sum_same, term_le, sum_few}
 use Rattle.ghs_protocol.proofs.rows.Link.{link_leads, link_clauses}
 use Rattle.ghs_protocol.proofs.search.ReportGone.{debt_one, debt_up}
 use Rattle.ghs_protocol.proofs.search.FirstReport as reports

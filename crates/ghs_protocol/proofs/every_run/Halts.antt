@@ -8,10 +8,10 @@ use Rattle.ghs_node.specs.declared.work.Work.TheVariants.{Wake, Deliver}
 use Rattle.ghs_node.specs.NodeState.{NodeState}
 use Rattle.ghs_node.specs.Reaction.{reaction}
 use Rattle.ghs_node.proofs.lemmas.{reaction_inverts, row_halts}
-use Rattle.ghs_protocol.specs.declared.event.Event.{Event}
-use Rattle.ghs_protocol.specs.declared.event.Event.TheVariants as events
-use Rattle.ghs_protocol.specs.Network.{Network}
-use Rattle.ghs_protocol.proofs.lemmas.Wired.{IsWired}
+use Rattle.peer_network.specs.declared.event.Event.{Event}
+use Rattle.peer_network.specs.declared.event.Event.TheVariants as events
+use Rattle.peer_network.specs.Network.{Network}
+use Rattle.peer_network.proofs.lemmas.Wired.{IsWired, HasFewPorts}
 use Rattle.ghs_protocol.specs.Net.{Net, opening, happens, take_first}
 use Rattle.ghs_protocol.specs.Run.{run, and_then, IsAfter}
 use Rattle.ghs_protocol.specs.Marks.{HasHalted}
@@ -20,7 +20,7 @@ use Rattle.ghs_protocol.specs.Halting.{Reacts, By_waking, By_taking, Halts, Now,
 use Rattle.ghs_protocol.proofs.lemmas.Events.{happening}
 use Rattle.ghs_protocol.proofs.lemmas.Runs.{both_some}
 use Rattle.ghs_protocol.proofs.lemmas.Sends.{node_here, node_there}
-use Rattle.ghs_protocol.proofs.lemmas.WellFormed.{HasFewPorts, IsWellFormed, event_row, event_formed, opening_formed}
+use Rattle.ghs_protocol.proofs.lemmas.WellFormed.{IsWellFormed, event_row, event_formed, opening_formed}
 use Rattle.ghs_protocol.proofs.lemmas.Lasting.{run_lasts}
 use Rattle.ghs_protocol.proofs.lemmas.Queues.{same_first}
 

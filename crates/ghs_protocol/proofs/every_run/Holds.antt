@@ -12,11 +12,11 @@ use Rattle.ghs_node.specs.Reaction.{reaction}
 use Rattle.ghs_node.specs.NodeState.{mark_at}
 use Rattle.ghs_node.specs.Words.{is_sleeping}
 use Rattle.ghs_node.proofs.lemmas.{sleeping_is, reaction_ruleless, branch_mark}
-use Rattle.ghs_protocol.specs.declared.event.Event.{Event}
-use Rattle.ghs_protocol.specs.declared.event.Event.TheVariants as events
-use Rattle.ghs_protocol.specs.Network.{Network, At, far, InNetwork}
-use Rattle.ghs_protocol.proofs.lemmas.Wired.{IsWired}
-use Rattle.ghs_protocol.specs.Net.{Net, is_lawful, effect, takes_from, after_take, is_waiting, is_node}
+use Rattle.peer_network.specs.declared.event.Event.{Event}
+use Rattle.peer_network.specs.declared.event.Event.TheVariants as events
+use Rattle.peer_network.specs.Network.{Network, At, far, InNetwork, is_node}
+use Rattle.peer_network.proofs.lemmas.Wired.{IsWired, HasFewPorts}
+use Rattle.ghs_protocol.specs.Net.{Net, is_lawful, effect, takes_from, after_take, is_waiting}
 use Rattle.ghs_protocol.specs.Run.{run, IsAfter}
 use Rattle.ghs_protocol.specs.Marks.{Leads, Here, Over, InOneFragment}
 use Rattle.ghs_protocol.specs.Interleavings.{HaveAtLeast, Asks, To_wake, To_take}
@@ -25,8 +25,8 @@ use Rattle.ghs_protocol.proofs.clauses.Scene.{forest, scene}
 use Rattle.ghs_protocol.proofs.clauses.Fragments.{IsJoinedIn}
 use Rattle.ghs_protocol.proofs.clauses.Wiring.{Ground}
 use Rattle.ghs_protocol.proofs.clauses.Whole.{HasInvariant}
-use Rattle.ghs_protocol.proofs.lemmas.Events.{at_of}
-use Rattle.ghs_protocol.proofs.lemmas.WellFormed.{HasFewPorts, IsWellFormed, after_formed}
+use Rattle.peer_network.proofs.lemmas.Events.{at_of}
+use Rattle.ghs_protocol.proofs.lemmas.WellFormed.{IsWellFormed, after_formed}
 use Rattle.ghs_protocol.proofs.rows.Rows.{step_keeps}
 use Rattle.ghs_protocol.proofs.every_run.Sound.{after_sound}
 use Rattle.ghs_protocol.proofs.clauses.Floors.{HasSound}

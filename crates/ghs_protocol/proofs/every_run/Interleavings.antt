@@ -1,11 +1,11 @@
 -- What holds however the events of a run interleave, put together.
 use Rattle.ghs_graph.specs.Graph.{Shape}
-use Rattle.ghs_protocol.specs.Network.{network_of}
+use Rattle.peer_network.specs.Network.{network_of}
 use Rattle.ghs_protocol.specs.Net.{Net}
 use Rattle.ghs_protocol.specs.Laws.{IsNetOf}
 use Rattle.ghs_protocol.specs.Interleavings.{FragmentsAreLarge, RejectedLinksInside, RejectedMarksStay, EventsHaveRules, WorkHasReaction}
 use Rattle.ghs_protocol.proofs.every_run.Firsts.{earlier, further}
-use Rattle.ghs_protocol.proofs.lemmas.Graphs.{graph_wired, graph_few}
+use Rattle.peer_network.proofs.lemmas.Graphs.{graph_wired, graph_few}
 use Rattle.ghs_protocol.proofs.every_run.Holds as runs
 use Rattle.ghs_protocol.proofs.acts.Grounds.{graph_ground}
 

@@ -8,9 +8,9 @@ use Rattle.ghs_node.specs.NodeState.{NodeState, mark_at, with_mark}
 use Rattle.ghs_node.specs.Rows.{AwakeRow}
 use Rattle.ghs_node.specs.Laws.{MarkChange, Stays, To_branch, To_rejected}
 use Rattle.ghs_node.proofs.lemmas.{awake_marks, mark_set}
-use Rattle.ghs_protocol.specs.declared.event.Event.{Event}
-use Rattle.ghs_protocol.specs.Network.{Network, At}
-use Rattle.ghs_protocol.proofs.lemmas.Wired.{IsWired}
+use Rattle.peer_network.specs.declared.event.Event.{Event}
+use Rattle.peer_network.specs.Network.{Network, At}
+use Rattle.peer_network.proofs.lemmas.Wired.{IsWired}
 use Rattle.ghs_protocol.specs.Net.{Net, take_first}
 use Rattle.ghs_protocol.specs.Run.{run}
 use Rattle.ghs_protocol.proofs.lemmas.WellFormed.{IsWellFormed}

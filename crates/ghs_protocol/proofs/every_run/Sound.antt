@@ -6,12 +6,12 @@ use Rattle.ghs_graph.specs.Links.{Joined, Same, Over as Along, links, InTree}
 use Rattle.ghs_graph.specs.Ports.{port_number}
 use Rattle.std.proofs.lemmas.List.Elements.{All-contains}
 use Rattle.ghs_graph.proofs.lemmas.Joining.{joined_then, joined_back}
-use Rattle.ghs_protocol.specs.declared.event.Event.{Event}
-use Rattle.ghs_protocol.specs.Network.{Network, network_of, port_at, At, InNetwork}
+use Rattle.peer_network.specs.declared.event.Event.{Event}
+use Rattle.peer_network.specs.Network.{Network, network_of, port_at, At, InNetwork}
 use Rattle.ghs_protocol.specs.Net.{Net, opening}
 use Rattle.ghs_protocol.specs.Run.{IsAfter}
 use Rattle.ghs_protocol.specs.Marks.{IsBranchLink, IsJoinedLink, HasHalted}
-use Rattle.ghs_protocol.proofs.lemmas.WellFormed.{HasFewPorts}
+use Rattle.peer_network.proofs.lemmas.Wired.{HasFewPorts}
 use Rattle.ghs_protocol.specs.Laws.{IsNetOf}
 use Rattle.ghs_protocol.specs.Interleavings.{BranchLinksInTree, RejectedLinksAside, HaltIsExact, EndIsTree}
 use Rattle.ghs_protocol.proofs.clauses.Scene.{scene, forest}
@@ -20,7 +20,7 @@ use Rattle.ghs_protocol.proofs.clauses.Wiring.{Ground}
 use Rattle.ghs_protocol.proofs.clauses.Fragments.{IsJoinedIn}
 use Rattle.ghs_protocol.proofs.clauses.Whole.{opening_ghost}
 use Rattle.ghs_protocol.proofs.clauses.Floors.{HasSound, Sound}
-use Rattle.ghs_protocol.proofs.lemmas.Graphs.{graph_few, port_ends}
+use Rattle.peer_network.proofs.lemmas.Graphs.{graph_few, port_ends}
 use Rattle.ghs_protocol.proofs.lemmas.Steps.{run_by_steps}
 use Rattle.ghs_protocol.proofs.wake.Opening.{opening_holds}
 use Rattle.ghs_protocol.proofs.search.ScanOrder.{opening_floors, opening_scans, opening_lives}

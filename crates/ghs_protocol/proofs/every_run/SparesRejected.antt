@@ -11,8 +11,8 @@ use Rattle.ghs_node.specs.Words.{below, best_key}
 use Rattle.ghs_node.specs.NodeState.{NodeState, mark_at}
 use Rattle.ghs_node.specs.Reaction.{root_mark, reject_at}
 use Rattle.ghs_node.specs.Rows.{AwakeRow, Connect_absorbed, Test_rejected, Tests_cross, Reject_heard, Report_moves_root, Root_moves}
-use Rattle.ghs_protocol.specs.Network.{Network, At}
-use Rattle.ghs_protocol.proofs.lemmas.Wired.{IsWired}
+use Rattle.peer_network.specs.Network.{Network, At}
+use Rattle.peer_network.proofs.lemmas.Wired.{IsWired}
 use Rattle.ghs_protocol.specs.Net.{Net}
 use Rattle.ghs_protocol.proofs.clauses.Scene.{end, tree_end, see, scene, Ghost, far_end}
 use Rattle.ghs_protocol.proofs.clauses.Changes.{rejected}
@@ -23,7 +23,7 @@ use Rattle.ghs_protocol.proofs.rows.Link.{node_fits, link_fits, link_fits', link
 use Rattle.ghs_protocol.proofs.union.CoreAnswered.{Asked, asked_on}
 use Rattle.ghs_protocol.proofs.root.AtRoot.{at_root}
 use Rattle.ghs_protocol.proofs.rows.Read.{tree_first}
-use Rattle.ghs_protocol.proofs.lemmas.Wires.{at_in}
+use Rattle.peer_network.proofs.lemmas.Wires.{at_in}
 
 -- a port that turns Rejected doesn't turn Branch
 reject_no_branch : (n : NodeState) (j q : ℕ) → reject_at n j ≡ Some (q, Branch) → ⊥

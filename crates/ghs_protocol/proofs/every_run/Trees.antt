@@ -14,13 +14,13 @@ use Rattle.ghs_graph.proofs.lemmas.Forests.{none_is_spare}
 use Rattle.ghs_graph.proofs.lemmas.Ports.{links_have_two_ports, among_at, far_end_a}
 use Rattle.ghs_node.specs.Words.{is_branch}
 use Rattle.ghs_node.specs.declared.mark.Mark.TheVariants.{Branch, Rejected}
-use Rattle.ghs_protocol.specs.Network.{Network, network_of, port_at, At, far, far_port, InNetwork}
+use Rattle.peer_network.specs.Network.{Network, network_of, port_at, At, far, far_port, InNetwork}
 use Rattle.ghs_protocol.specs.Marks.{Leads, Here, Over}
 use Rattle.ghs_protocol.proofs.clauses.Scene.{Scene, forest}
 use Rattle.ghs_protocol.proofs.clauses.Fragments.{IsJoinedIn}
 use Rattle.ghs_protocol.proofs.clauses.Whole.{Invariant}
 use Rattle.ghs_protocol.proofs.clauses.Floors.{Floor, Floors}
-use Rattle.ghs_protocol.proofs.lemmas.Graphs.{graph_wired, graph_keyed, is_key, port_ends}
+use Rattle.peer_network.proofs.lemmas.Graphs.{graph_wired, graph_keyed, is_key, port_ends}
 use Rattle.ghs_protocol.proofs.lemmas.Fragments.{leads_on, leads_back}
 use Rattle.ghs_protocol.proofs.search.FirstReport.{mark_is}
 use Rattle.ghs_protocol.proofs.rows.Link.{link_fits}

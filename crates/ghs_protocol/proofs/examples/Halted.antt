@@ -4,9 +4,9 @@ use Rattle.ghs_graph.specs.Bound.{IsBound}
 use Rattle.ghs_graph.specs.Graph.{Shape}
 use Rattle.ghs_graph.specs.Links.{AreAmong, IsRising}
 use Rattle.ghs_graph.specs.Ports.{ports_of}
-use Rattle.ghs_protocol.specs.declared.event.Event.{Event}
-use Rattle.ghs_protocol.specs.declared.event.Event.TheVariants.{Wake, Take}
-use Rattle.ghs_protocol.specs.Network.{network_of}
+use Rattle.peer_network.specs.declared.event.Event.{Event}
+use Rattle.peer_network.specs.declared.event.Event.TheVariants.{Wake, Take}
+use Rattle.peer_network.specs.Network.{network_of}
 use Rattle.ghs_protocol.specs.Net.{opening}
 use Rattle.ghs_protocol.specs.Payments.{accepts, added_up, calls, paid_by, port_pays, reports, roots}
 use Rattle.ghs_protocol.specs.Run.{net_after}

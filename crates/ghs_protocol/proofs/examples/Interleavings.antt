@@ -4,9 +4,9 @@ use Rattle.ghs_graph.specs.declared.key.Key.{Key}
 use Rattle.ghs_graph.specs.Ports.{ports_of}
 use Rattle.ghs_node.specs.Words.{is_branch}
 use Rattle.ghs_node.specs.NodeState.{mark_at}
-use Rattle.ghs_protocol.specs.declared.event.Event.{Event}
-use Rattle.ghs_protocol.specs.declared.event.Event.TheVariants.{Wake, Take}
-use Rattle.ghs_protocol.specs.Network.{Network, network_of, far, far_port}
+use Rattle.peer_network.specs.declared.event.Event.{Event}
+use Rattle.peer_network.specs.declared.event.Event.TheVariants.{Wake, Take}
+use Rattle.peer_network.specs.Network.{Network, network_of, far, far_port}
 use Rattle.ghs_protocol.specs.Net.{Net, opening, happens}
 use Rattle.ghs_protocol.specs.Ledger.{waiting}
 

@@ -6,9 +6,9 @@ use Rattle.ghs_graph.specs.Links.{AreAmong, IsRising}
 use Rattle.ghs_graph.specs.Ports.{ports_of}
 use Rattle.ghs_node.specs.declared.message.Phase.TheVariants.{Find}
 use Rattle.ghs_node.specs.declared.message.Message.TheVariants.{Initiate, Test, Report}
-use Rattle.ghs_protocol.specs.declared.event.Event.{Event}
-use Rattle.ghs_protocol.specs.declared.event.Event.TheVariants.{Wake, Take}
-use Rattle.ghs_protocol.specs.Network.{network_of, InNetwork}
+use Rattle.peer_network.specs.declared.event.Event.{Event}
+use Rattle.peer_network.specs.declared.event.Event.TheVariants.{Wake, Take}
+use Rattle.peer_network.specs.Network.{network_of, InNetwork}
 use Rattle.ghs_protocol.specs.Run.{net_after}
 use Rattle.ghs_protocol.specs.Marks.{HasHalted}
 use Rattle.ghs_protocol.specs.Laws.{IsNetOf}

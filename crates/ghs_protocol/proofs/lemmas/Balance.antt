@@ -9,19 +9,20 @@ use Rattle.ghs_node.specs.declared.work.Work.TheVariants.{Wake, Deliver}
 use Rattle.ghs_node.specs.Kind.{kind_of, place_of}
 use Rattle.ghs_node.specs.Words.{Outgoing}
 use Rattle.ghs_node.proofs.lemmas.{reaction_inverts}
-use Rattle.ghs_protocol.specs.declared.event.Event.{Event}
-use Rattle.ghs_protocol.specs.Network.{Network, far, far_port, At}
-use Rattle.ghs_protocol.proofs.lemmas.Wired.{IsWired}
-use Rattle.ghs_protocol.specs.Net.{Net, opening, put_at, send, send_all, change, take_first, left_of, one_if_consumed, one_if_requeued}
+use Rattle.peer_network.specs.declared.event.Event.{Event}
+use Rattle.peer_network.specs.Network.{Network, far, far_port, At}
+use Rattle.peer_network.proofs.lemmas.Wired.{IsWired, HasFewPorts}
+use Rattle.ghs_protocol.specs.Net.{Net, opening, send, send_all, change, take_first, left_of, one_if_consumed, one_if_requeued}
+use Rattle.peer_network.specs.Updates.{put_at}
 use Rattle.ghs_protocol.specs.Run.{run, IsAfter}
-use Rattle.ghs_protocol.specs.Ledger.{sum_below, sum_over_ports, of_kind, waiting_of, waiting, IsBalanced, in_all, IsBalancedInAll}
+use Rattle.ghs_protocol.specs.Ledger.{of_kind, waiting_of, waiting, IsBalanced, in_all, IsBalancedInAll}
+use Rattle.peer_network.specs.Sums.{sum_below, sum_over_ports}
 use Rattle.ghs_protocol.specs.Steps.{Happens, Woke, Took}
-use Rattle.ghs_protocol.proofs.lemmas.Updates.{put_at_same, put_at_miss}
-use Rattle.ghs_protocol.proofs.lemmas.Sends.{put_count}
-use Rattle.ghs_protocol.proofs.lemmas.Sums.{sum_same, sum_add, ports_one, ports_none, ports_same, ports_add}
+use Rattle.peer_network.proofs.lemmas.Updates.{put_at_same, put_at_miss, put_count}
+use Rattle.peer_network.proofs.lemmas.Sums.{sum_same, sum_add, ports_one, ports_none, ports_same, ports_add}
 use Rattle.ghs_protocol.proofs.lemmas.Queues.{all_first, all_rest}
 use Rattle.ghs_protocol.proofs.lemmas.Runs.{run_keeps}
-use Rattle.ghs_protocol.proofs.lemmas.WellFormed.{HasFewPorts, IsWellFormed, sends_arrive, event_row, event_formed, opening_formed}
+use Rattle.ghs_protocol.proofs.lemmas.WellFormed.{IsWellFormed, sends_arrive, event_row, event_formed, opening_formed}
 
 pub of_kind_append : (k : ℕ) (a b : List Message) → of_kind k (a ++ b) ≡ of_kind k a + of_kind k b
 of_kind_append k [] b = omega arith

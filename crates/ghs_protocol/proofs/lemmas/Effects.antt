@@ -4,11 +4,12 @@ use Rattle.ghs_node.specs.declared.message.Message.{Message}
 use Rattle.ghs_node.specs.declared.delta.Delta.{Delta}
 use Rattle.ghs_node.specs.Kind.{kind_of, place_of}
 use Rattle.ghs_node.specs.Reaction.{after}
-use Rattle.ghs_protocol.specs.Network.{Network}
+use Rattle.peer_network.specs.Network.{Network}
 use Rattle.ghs_protocol.specs.Net.{Net, take_first, one_if_consumed, one_if_requeued}
 use Rattle.ghs_protocol.specs.Ledger.{of_kind}
 use Rattle.ghs_protocol.specs.Steps.{taken}
-use Rattle.ghs_protocol.proofs.lemmas.Sends.{messages, put_count, node_here, node_there, sent_now, consumed_now, requeued_now}
+use Rattle.ghs_protocol.proofs.lemmas.Sends.{messages, node_here, node_there, sent_now, consumed_now, requeued_now}
+use Rattle.peer_network.proofs.lemmas.Updates.{put_count}
 
 module _ (g : Network) (v p : ℕ) (m : Message) (ms : List Message) (d : Delta) (w : Net) where
   -- node v has reacted, and no other node has changed

@@ -5,11 +5,11 @@ use Rattle.ghs_graph.specs.Graph.{Shape, IsGraph}
 use Rattle.ghs_graph.specs.Links.{Joined, Same, Over as Along, Back}
 use Rattle.ghs_node.specs.declared.mark.Mark.TheVariants.{Branch}
 use Rattle.ghs_node.specs.NodeState.{mark_at}
-use Rattle.ghs_protocol.specs.Network.{Network, network_of, port_at, far, far_port, At}
-use Rattle.ghs_protocol.proofs.lemmas.Wired.{IsWired}
+use Rattle.peer_network.specs.Network.{Network, network_of, port_at, far, far_port, At}
+use Rattle.peer_network.proofs.lemmas.Wired.{IsWired}
 use Rattle.ghs_protocol.specs.Net.{Net}
 use Rattle.ghs_protocol.specs.Marks.{Leads, Here, Over, IsJoined, IsJoinedLink, InOneFragment}
-use Rattle.ghs_protocol.proofs.lemmas.Graphs.{graph_wired, port_ends}
+use Rattle.peer_network.proofs.lemmas.Graphs.{graph_wired, port_ends}
 
 module _ (g : Network) where
   -- ways one after another

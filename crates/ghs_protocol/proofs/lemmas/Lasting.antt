@@ -11,9 +11,9 @@ use Rattle.ghs_node.specs.Reaction.{after}
 use Rattle.ghs_node.specs.Rows.{Row}
 use Rattle.ghs_node.specs.Laws.{MarkChange, Stays, To_branch, To_rejected}
 use Rattle.ghs_node.proofs.lemmas.{reaction_inverts, row_marks, mark_set, branch_stays, row_level, row_awake, row_halts}
-use Rattle.ghs_protocol.specs.declared.event.Event.{Event}
-use Rattle.ghs_protocol.specs.Network.{Network}
-use Rattle.ghs_protocol.proofs.lemmas.Wired.{IsWired}
+use Rattle.peer_network.specs.declared.event.Event.{Event}
+use Rattle.peer_network.specs.Network.{Network}
+use Rattle.peer_network.proofs.lemmas.Wired.{IsWired}
 use Rattle.ghs_protocol.specs.Net.{Net, take_first}
 use Rattle.ghs_protocol.specs.Run.{run}
 use Rattle.ghs_protocol.specs.Steps.{Happens, Woke, Took}

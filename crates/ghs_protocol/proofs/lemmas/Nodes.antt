@@ -1,5 +1,5 @@
 -- Facts of one node, carried over what one node does.
-use Rattle.std.proofs.Common.{◌≡◌, ◌≢◌, ℕ, length, refl, sym, ◌∙◌, ap, subst, ⊎_elim, zero, suc, ◌≤◌, arith}
+use Rattle.std.proofs.Common.{◌≡◌, ◌≢◌, ℕ, length, refl, sym, ◌∙◌, ap, subst, ⊎_elim}
 use Rattle.std.proofs.lemmas.Bool.{cases_eq}
 use Rattle.std.proofs.lemmas.List.{length-map}
 use Rattle.ghs_node.specs.declared.message.Message.{Message}
@@ -8,11 +8,12 @@ use Rattle.ghs_node.specs.declared.delta.Delta.{Delta}
 use Rattle.ghs_node.specs.NodeState.{NodeState, degree}
 use Rattle.ghs_node.specs.Reaction.{after}
 use Rattle.ghs_node.specs.Rows.{AwakeRow}
-use Rattle.ghs_protocol.specs.Network.{Network}
-use Rattle.ghs_protocol.specs.Net.{Net, put, take_first}
+use Rattle.peer_network.specs.Network.{Network}
+use Rattle.ghs_protocol.specs.Net.{Net, take_first}
+use Rattle.peer_network.specs.Updates.{put}
 use Rattle.ghs_protocol.specs.Steps.{reacted, waking, Step, Wakes_up, Takes_one}
 use Rattle.ghs_protocol.specs.Nodes.{IsNodeOf}
-use Rattle.ghs_protocol.proofs.lemmas.Updates.{put_same, put_other}
+use Rattle.peer_network.proofs.lemmas.Updates.{put_same, put_other}
 use Rattle.ghs_protocol.proofs.lemmas.Sends.{nodes_put}
 
 -- a node has as many marks as ports
@@ -54,7 +55,3 @@ pub node_step : (g : Network) (I : ℕ → NodeState → Type 0) →
 node_step g I k w w' b (Wakes_up u lo hi s) = node_kept g u (waking (w.node u)) w w refl I b (k.wakes u (w.node u) (b u) s)
 node_step g I k w w' b (Takes_one u j m ms d at q up row) =
     node_kept g u d w (take_first d.fate u j m ms w) refl I b (k.takes u (w.node u) j m d (b u) up row)
-
-pub node_before : (v : ℕ) → 1 ≤ v → (i : ℕ) × (v ≡ suc i)
-node_before zero lo = absurd (omega (arith, lo))
-node_before (suc i) lo = (i, refl)

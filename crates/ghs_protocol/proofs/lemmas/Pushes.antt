@@ -3,12 +3,12 @@ use Rattle.std.proofs.Common.{◌≡◌, ◌≢◌, ℕ, Bool, true, false, ◌=
 use Rattle.std.proofs.lemmas.Bool.{cases_eq}
 use Rattle.ghs_node.specs.declared.message.Message.{Message}
 use Rattle.ghs_node.specs.Words.{Outgoing}
-use Rattle.ghs_protocol.specs.Network.{Network, far, far_port, At}
-use Rattle.ghs_protocol.proofs.lemmas.Wired.{IsWired}
+use Rattle.peer_network.specs.Network.{Network, far, far_port, At}
+use Rattle.peer_network.proofs.lemmas.Wired.{IsWired}
 use Rattle.ghs_protocol.specs.Steps.{sent_on}
 use Rattle.ghs_protocol.proofs.clauses.Acts.{add_all, at_end, push, push_all}
-use Rattle.ghs_protocol.proofs.lemmas.Updates.{put_at_same, put_at_miss}
-use Rattle.ghs_protocol.proofs.lemmas.Wires.{far_apart}
+use Rattle.peer_network.proofs.lemmas.Updates.{put_at_same, put_at_miss}
+use Rattle.peer_network.proofs.lemmas.Wires.{far_apart}
 
 pub sent_cons : (s : ℕ × Message) (ss : Outgoing) (i : ℕ) → sent_on (s ∷ ss) i ≡ sent_on (s ∷ []) i ++ sent_on ss i
 sent_cons s ss i = go (s.0 == i)

@@ -6,9 +6,9 @@ use Rattle.ghs_node.specs.declared.message.Message.{Message}
 use Rattle.ghs_node.specs.declared.delta.Fate.{Fate}
 use Rattle.ghs_node.specs.declared.delta.Fate.TheVariants.{Consumed, Requeued}
 use Rattle.ghs_node.specs.Words.{Outgoing}
-use Rattle.ghs_protocol.specs.Network.{Network, far, far_port, At}
+use Rattle.peer_network.specs.Network.{Network, far, far_port, At}
 use Rattle.ghs_protocol.specs.Net.{Net, send, send_all, left_of, take_first}
-use Rattle.ghs_protocol.proofs.lemmas.Updates.{one_place, put_at_hit, put_at_miss}
+use Rattle.peer_network.proofs.lemmas.Updates.{one_place, put_at_hit, put_at_miss}
 
 pub all_first : {X : Type 0} (P : X → Type 0) (x : X) (xs : List X) → All P (x ∷ xs) → P x
 all_first P x xs h = h 0 x (omega arith)

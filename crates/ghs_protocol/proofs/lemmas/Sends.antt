@@ -1,29 +1,24 @@
 -- What sends change, and what they leave.
-use Rattle.std.proofs.Common.{◌≡◌, ◌≢◌, ℕ, suc, ◌+◌, ◌==◌, List, [], ◌∷◌, ◌++◌, map, refl, sym, ◌∙◌, ap, cond, ⊎_elim, eq-eqb, ne_eqb, add-zero, arith}
-use Rattle.std.proofs.lemmas.Bool.{cases_eq}
+use Rattle.std.proofs.Common.{◌≡◌, ◌≢◌, ℕ, suc, ◌+◌, List, [], ◌∷◌, ◌++◌, map, refl, sym, ◌∙◌, ap, add-zero, arith}
 use Rattle.ghs_node.specs.declared.message.Message.{Message}
 use Rattle.ghs_node.specs.declared.delta.Delta.{Delta}
 use Rattle.ghs_node.specs.Kind.{kind_of, place_of}
 use Rattle.ghs_node.specs.Words.{Outgoing}
 use Rattle.ghs_node.specs.NodeState.{NodeState}
 use Rattle.ghs_node.specs.Reaction.{after}
-use Rattle.ghs_protocol.specs.Network.{Network, far, far_port, At}
-use Rattle.ghs_protocol.proofs.lemmas.Wired.{IsWired}
-use Rattle.ghs_protocol.specs.Net.{Net, put, send, send_all, change}
+use Rattle.peer_network.specs.Network.{Network, far, far_port, At}
+use Rattle.peer_network.proofs.lemmas.Wired.{IsWired}
+use Rattle.ghs_protocol.specs.Net.{Net, send, send_all, change}
+use Rattle.peer_network.specs.Updates.{put}
 use Rattle.ghs_protocol.specs.Ledger.{of_kind}
 use Rattle.ghs_protocol.specs.Steps.{sent_on, reacted}
 use Rattle.ghs_protocol.proofs.clauses.Acts.{at_end, push_all}
-use Rattle.ghs_protocol.proofs.lemmas.Updates.{put_same, put_other}
+use Rattle.peer_network.proofs.lemmas.Updates.{put_same, put_other, put_count}
 use Rattle.ghs_protocol.proofs.lemmas.Pushes.{add_all_end, pushed, unpushed}
 
 -- the messages without their ports
 abbrev pub messages : Outgoing → List Message
 messages ss = map (λ (s : ℕ × Message). s.1) ss
-
--- a count that rises by c at i
-pub put_count : (f : ℕ → ℕ) (i c x k : ℕ) → x ≡ f i + c → put f i x k ≡ f k + cond (i == k) c 0
-put_count f i c x k q =
-    ⊎_elim (λ (e : k ≡ i). rw (e, eq-eqb i i refl) q) (λ ne. rw (ne_eqb k i ne, ne_eqb i k (λ z. ne (sym z)), add-zero)) (cases_eq k i)
 
 module _ (g : Network) (v : ℕ) where
   -- sends touch no node, nor the counts of what was consumed and requeued

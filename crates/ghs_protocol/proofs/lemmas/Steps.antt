@@ -3,17 +3,17 @@ use Rattle.std.proofs.Common.{◌≡◌, List, arith, Some}
 use Rattle.ghs_node.specs.declared.work.Work.TheVariants.{Deliver}
 use Rattle.ghs_node.specs.Rows.{Awake}
 use Rattle.ghs_node.proofs.lemmas.{row_computes}
-use Rattle.ghs_protocol.specs.declared.event.Event.{Event}
-use Rattle.ghs_protocol.specs.declared.event.Event.TheVariants as events
-use Rattle.ghs_protocol.specs.Network.{Network}
-use Rattle.ghs_protocol.proofs.lemmas.Wired.{IsWired}
+use Rattle.peer_network.specs.declared.event.Event.{Event}
+use Rattle.peer_network.specs.declared.event.Event.TheVariants as events
+use Rattle.peer_network.specs.Network.{Network}
+use Rattle.peer_network.proofs.lemmas.Wired.{IsWired, HasFewPorts}
 use Rattle.ghs_protocol.specs.Net.{Net, opening}
 use Rattle.ghs_protocol.specs.Run.{run, IsAfter}
 use Rattle.ghs_protocol.specs.Steps.{waking, Happens, Woke, Took, Step, Wakes_up, Takes_one, Steps, One, Two}
 use Rattle.ghs_protocol.proofs.lemmas.Nodes.{ports_many}
 use Rattle.ghs_protocol.proofs.lemmas.Runs.{run_keeps, run_relates}
 use Rattle.ghs_protocol.proofs.lemmas.Woken.{event_steps}
-use Rattle.ghs_protocol.proofs.lemmas.WellFormed.{HasFewPorts, IsWellFormed, event_formed, opening_formed}
+use Rattle.ghs_protocol.proofs.lemmas.WellFormed.{IsWellFormed, event_formed, opening_formed}
 
 module _ (g : Network) where
   -- a step is an event that happens

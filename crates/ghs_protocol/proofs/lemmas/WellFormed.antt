@@ -15,9 +15,9 @@ use Rattle.ghs_node.specs.Reaction.{reaction, after}
 use Rattle.ghs_node.specs.Rows.{Row}
 use Rattle.ghs_node.specs.Laws.{HasLevel, WorkHasLevel}
 use Rattle.ghs_node.proofs.lemmas.{reaction_inverts, row_kept, row_ported, row_leveled}
-use Rattle.ghs_protocol.specs.declared.event.Event.{Event}
-use Rattle.ghs_protocol.specs.Network.{Network, far, far_port, At}
-use Rattle.ghs_protocol.proofs.lemmas.Wired.{IsWired}
+use Rattle.peer_network.specs.declared.event.Event.{Event}
+use Rattle.peer_network.specs.Network.{Network, far, far_port, At}
+use Rattle.peer_network.proofs.lemmas.Wired.{IsWired, HasFewPorts}
 use Rattle.ghs_protocol.specs.Net.{Net, opening, change, take_first}
 use Rattle.ghs_protocol.specs.Run.{run, IsAfter}
 use Rattle.ghs_protocol.specs.Nodes.{IsNodeOf}
@@ -29,10 +29,6 @@ use Rattle.ghs_protocol.proofs.lemmas.Queues.{all_first, taken_all, sent_all, ta
 -- all nodes are the network's
 abbrev pub AreNodes : Network → Net → Type 0
 AreNodes g w = (v : ℕ) → IsNodeOf g v (w.node v)
-
--- no node has more ports than a node may have
-abbrev pub HasFewPorts : Network → Type 0
-HasFewPorts g = (v : ℕ) → length (g.ports v) ≤ 8388608
 
 -- The nodes are nodes, the levels in the messages that wait are levels, and where no port is nothing waits.
 pub record IsWellFormed (g : Network) (w : Net) : Type 0 where

@@ -15,14 +15,16 @@ use Rattle.ghs_node.specs.NodeState.{NodeState, mark_at, degree, with_mark, IsNo
 use Rattle.ghs_node.specs.Reaction.{at_wake, wakes, wakes_alone, woken, once_woken, after}
 use Rattle.ghs_node.specs.Rows.{AwakeRow, Connect_waits, Connect_merges, Test_waits, Test_accepted, Row, Wakes, Wakes_alone, Woken_merges, Woken_connect_waits, Woken_test_waits, Woken_accepts, Awake}
 use Rattle.ghs_node.proofs.lemmas.{reaction_inverts}
-use Rattle.ghs_protocol.specs.declared.event.Event.{Event}
-use Rattle.ghs_protocol.specs.Network.{Network, far, far_port, At}
-use Rattle.ghs_protocol.proofs.lemmas.Wired.{IsWired}
-use Rattle.ghs_protocol.specs.Net.{Net, event_node, put, put_at, send, send_all, change, left_of, take_first}
+use Rattle.peer_network.specs.declared.event.Event.{Event}
+use Rattle.peer_network.specs.Network.{Network, far, far_port, At}
+use Rattle.peer_network.proofs.lemmas.Wired.{IsWired}
+use Rattle.ghs_protocol.specs.Net.{Net, send, send_all, change, left_of, take_first}
+use Rattle.peer_network.specs.Events.{event_node}
+use Rattle.peer_network.specs.Updates.{put, put_at}
 use Rattle.ghs_protocol.specs.Nodes.{IsNodeOf}
 use Rattle.ghs_protocol.proofs.lemmas.WellFormed.{AreNodes}
 use Rattle.ghs_protocol.specs.Steps.{reacted, taken, waking, Happens, Woke, Took, Step, Wakes_up, Takes_one, Steps, One, Two}
-use Rattle.ghs_protocol.proofs.lemmas.Updates.{put_same, put_other, put_at_miss, put_at_swap}
+use Rattle.peer_network.proofs.lemmas.Updates.{put_same, put_other, put_at_miss, put_at_swap}
 use Rattle.ghs_protocol.proofs.lemmas.Nodes.{ports_many}
 use Rattle.ghs_protocol.proofs.lemmas.Sends.{node_here}
 

@@ -6,7 +6,7 @@ use Rattle.ghs_graph.specs.declared.key.Key.{Key}
 use Rattle.ghs_graph.specs.Key.{key_lt}
 use Rattle.ghs_protocol.specs.Merging.{Fragments, united, Between, IsLeastOut}
 use Rattle.ghs_protocol.proofs.merging.United.{Either, still_one, was_one}
-use Rattle.ghs_protocol.proofs.lemmas.Graphs.{same_key}
+use Rattle.peer_network.proofs.lemmas.Graphs.{same_key}
 
 -- the order of keys
 pub not_below : (i j k : Key) → key_lt i j ≡ false → key_lt j k ≡ false → key_lt i k ≡ false

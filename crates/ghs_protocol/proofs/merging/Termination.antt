@@ -4,13 +4,13 @@ use Rattle.std.specs.List.{Contains}
 use Rattle.std.proofs.lemmas.Bool.{cases_eq, ne_eqb}
 use Rattle.ghs_graph.specs.declared.key.Key.{Key}
 use Rattle.ghs_graph.specs.Graph.{Shape, IsGraph}
-use Rattle.ghs_protocol.specs.Ledger.{sum_below}
+use Rattle.peer_network.specs.Sums.{sum_below}
 use Rattle.ghs_protocol.specs.Merging.{Fragments, singles, united, Between, Unites, Merge, Absorb, Merging, Done, Then, IsEnd}
 use Rattle.ghs_protocol.proofs.merging.United.{Either, either_cases, inside, outside, min_either, IsEven}
 use Rattle.ghs_protocol.proofs.merging.OneEnd.{step_even, singles_even}
 use Rattle.ghs_protocol.proofs.merging.Ends.{first_out, Step, step_from, end_of_none}
-use Rattle.ghs_protocol.proofs.lemmas.Sums.{sum_less}
-use Rattle.ghs_protocol.proofs.lemmas.Graphs.{link_among}
+use Rattle.peer_network.proofs.lemmas.Sums.{sum_less}
+use Rattle.peer_network.proofs.lemmas.Graphs.{link_among}
 
 -- names are nodes, and each names the fragment that it lies in
 pub record Named (n : ℕ) (m : Fragments) : Type 0 where

@@ -7,7 +7,7 @@ use Rattle.ghs_protocol.specs.Merging.{Fragments, singles, one_connect, IsWhole}
 use Rattle.ghs_protocol.specs.Cores.{MergesTo, OneCore}
 use Rattle.ghs_protocol.proofs.merging.OneEnd.{merging_even, singles_even}
 use Rattle.ghs_protocol.proofs.one_core.Runs.{halted_merges_to, merges_alike}
-use Rattle.ghs_protocol.proofs.lemmas.Graphs.{link_among}
+use Rattle.peer_network.proofs.lemmas.Graphs.{link_among}
 
 -- links don't leave the graph
 pub joined_in : (s : Shape) → IsGraph s → {v u : ℕ} → Joined (links s.keys) v u → (1 ≤ v) × (v ≤ s.nodes) → (1 ≤ u) × (u ≤ s.nodes)

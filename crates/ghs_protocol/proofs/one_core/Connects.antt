@@ -16,14 +16,15 @@ use Rattle.ghs_node.specs.Reaction.{after, answered, heard, no_probe, searching,
 use Rattle.ghs_node.specs.Rows.{AwakeRow, Connect_absorbed, Connect_waits, Connect_merges, Initiate_rests, Initiate_searches, Test_waits, Test_accepted, Test_rejected, Tests_cross, Accept_heard, Reject_heard, Report_heard, Report_waits, Report_moves_root, Report_halts, Report_passes, Root_moves}
 use Rattle.ghs_node.specs.Words.{Outgoing, is_branch}
 use Rattle.ghs_node.proofs.lemmas.{awake_marks}
-use Rattle.ghs_protocol.specs.Network.{Network, At, InNetwork}
+use Rattle.peer_network.specs.Network.{Network, At, InNetwork}
 use Rattle.ghs_protocol.specs.Net.{Net, take_first}
-use Rattle.ghs_protocol.specs.Ledger.{sum_over_ports, of_kind}
+use Rattle.ghs_protocol.specs.Ledger.{of_kind}
+use Rattle.peer_network.specs.Sums.{sum_over_ports}
 use Rattle.ghs_protocol.specs.Nodes.{IsNodeOf}
 use Rattle.ghs_protocol.specs.Steps.{Step, Wakes_up, Takes_one, reacted, waking}
 use Rattle.ghs_protocol.proofs.lemmas.Nodes.{ports_many}
 use Rattle.ghs_protocol.proofs.lemmas.Sends.{messages, node_here, node_there, sent_now}
-use Rattle.ghs_protocol.proofs.lemmas.Sums.{ports_one, ports_same}
+use Rattle.peer_network.proofs.lemmas.Sums.{ports_one, ports_same}
 use Rattle.ghs_protocol.proofs.charges.Acts.{kinds_append, all_calls}
 use Rattle.ghs_protocol.proofs.rows.Rows.{takes_in, step_takes}
 

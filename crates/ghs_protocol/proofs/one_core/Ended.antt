@@ -6,7 +6,7 @@ use Rattle.ghs_graph.specs.Links.{Joined, links}
 use Rattle.ghs_graph.proofs.lemmas.Joining.{joined_back}
 use Rattle.ghs_node.specs.NodeState.{mark_at}
 use Rattle.ghs_node.specs.declared.mark.Mark.TheVariants.{Branch}
-use Rattle.ghs_protocol.specs.Network.{network_of, At, far, far_port, port_at}
+use Rattle.peer_network.specs.Network.{network_of, At, far, far_port, port_at}
 use Rattle.ghs_protocol.specs.Net.{Net}
 use Rattle.ghs_protocol.specs.Laws.{IsNetOf}
 use Rattle.ghs_protocol.specs.Marks.{HasEnded, HasHalted}
@@ -14,7 +14,7 @@ use Rattle.ghs_protocol.specs.Merging.{singles, MergesAll, one_connect, IsLeastO
 use Rattle.ghs_protocol.specs.Cores.{HaltedAreHighest, ConnectsOfGraph, ConnectsAgree}
 use Rattle.ghs_protocol.proofs.clauses.Scene.{scene}
 use Rattle.ghs_protocol.proofs.every_run.Sound.{end_is_tree}
-use Rattle.ghs_protocol.proofs.lemmas.Sums.{ports_same}
+use Rattle.peer_network.proofs.lemmas.Sums.{ports_same}
 use Rattle.ghs_protocol.proofs.merging.OneEnd.{one_end, singles_even}
 use Rattle.ghs_protocol.proofs.one_core.Components.{joined_in, joined_whole}
 use Rattle.ghs_protocol.proofs.one_core.Connects.{one_if_branch, not_one, branch_ports}
@@ -23,7 +23,7 @@ use Rattle.ghs_protocol.proofs.one_core.Joins.{one_if_joined, not_joined, joined
 use Rattle.ghs_protocol.proofs.one_core.Links.{joined_at}
 use Rattle.ghs_protocol.proofs.one_core.Runs.{simulated, whole_of}
 use Rattle.ghs_protocol.proofs.search.FirstReport.{mark_is}
-use Rattle.ghs_protocol.proofs.lemmas.Graphs.{link_among}
+use Rattle.peer_network.proofs.lemmas.Graphs.{link_among}
 
 -- a node that has halted stands at the level of its fragment, which is its component
 module _ (g : Shape) (w : Net) (n : IsNetOf g w) (v : ℕ) (lo : 1 ≤ v) (hi : v ≤ g.nodes) (h : HasHalted w v) where

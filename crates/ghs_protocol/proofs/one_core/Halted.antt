@@ -11,7 +11,7 @@ use Rattle.ghs_node.specs.declared.delta.Delta.{Delta}
 use Rattle.ghs_node.specs.NodeState.{NodeState}
 use Rattle.ghs_node.specs.Reaction.{at_wake}
 use Rattle.ghs_node.specs.Rows.{AwakeRow, Report_halts}
-use Rattle.ghs_protocol.specs.Network.{Network, port_at, At, far, InNetwork}
+use Rattle.peer_network.specs.Network.{Network, port_at, At, far, InNetwork}
 use Rattle.ghs_protocol.specs.Net.{Net, take_first}
 use Rattle.ghs_protocol.specs.Marks.{HasHalted}
 use Rattle.ghs_protocol.specs.Steps.{Step, Wakes_up, Takes_one, waking, reacted}

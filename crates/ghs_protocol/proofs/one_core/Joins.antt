@@ -9,18 +9,19 @@ use Rattle.ghs_node.specs.NodeState.{NodeState, mark_at, with_mark}
 use Rattle.ghs_node.specs.Reaction.{after}
 use Rattle.ghs_node.specs.Words.{is_branch}
 use Rattle.ghs_node.proofs.lemmas.{mark_set, awake_marks, branch_mark}
-use Rattle.ghs_protocol.specs.Network.{Network, At, InNetwork, far, far_port}
-use Rattle.ghs_protocol.specs.Net.{Net, put, put_at, take_first}
+use Rattle.peer_network.specs.Network.{Network, At, InNetwork, far, far_port}
+use Rattle.ghs_protocol.specs.Net.{Net, take_first}
+use Rattle.peer_network.specs.Updates.{put, put_at}
 use Rattle.ghs_protocol.specs.Marks.{Leads, Here, Over}
-use Rattle.ghs_protocol.specs.Ledger.{sum_over_ports}
+use Rattle.peer_network.specs.Sums.{sum_over_ports}
 use Rattle.ghs_protocol.specs.Nodes.{IsNodeOf}
 use Rattle.ghs_protocol.specs.Steps.{Step, Wakes_up, Takes_one, reacted, waking}
-use Rattle.ghs_protocol.proofs.lemmas.Wired.{IsWired}
+use Rattle.peer_network.proofs.lemmas.Wired.{IsWired}
 use Rattle.ghs_protocol.proofs.lemmas.Nodes.{ports_many}
 use Rattle.ghs_protocol.proofs.lemmas.Sends.{node_here, node_there}
-use Rattle.ghs_protocol.proofs.lemmas.Sums.{ports_one, ports_same}
+use Rattle.peer_network.proofs.lemmas.Sums.{ports_one, ports_same}
 use Rattle.ghs_protocol.proofs.lemmas.Lasting.{AllLast}
-use Rattle.ghs_protocol.proofs.lemmas.Updates.{put_same, put_other}
+use Rattle.peer_network.proofs.lemmas.Updates.{put_same, put_other}
 use Rattle.ghs_protocol.proofs.clauses.Scene.{Ghost, scene, forest}
 use Rattle.ghs_protocol.proofs.clauses.Fragments.{IsJoinedIn}
 use Rattle.ghs_protocol.proofs.clauses.Whole.{Invariant}

@@ -5,14 +5,14 @@ use Rattle.ghs_graph.specs.declared.key.Key.{Key}
 use Rattle.ghs_graph.specs.Key.{key_lt}
 use Rattle.ghs_graph.specs.Graph.{Shape, IsGraph}
 use Rattle.ghs_graph.specs.Ports.{port_number}
-use Rattle.ghs_protocol.specs.Network.{Network, network_of, port_at, At, far, far_port}
+use Rattle.peer_network.specs.Network.{Network, network_of, port_at, At, far, far_port}
 use Rattle.ghs_node.specs.NodeState.{mark_at}
 use Rattle.ghs_node.specs.declared.mark.Mark.TheVariants.{Branch}
 use Rattle.ghs_protocol.specs.Net.{Net}
 use Rattle.ghs_protocol.specs.Marks.{IsJoined, IsJoinedLink}
 use Rattle.ghs_protocol.specs.Merging.{Fragments, Between, IsLeastOut}
 use Rattle.ghs_protocol.proofs.clauses.Growing.{LeastPort}
-use Rattle.ghs_protocol.proofs.lemmas.Graphs.{graph_wired, graph_keyed, is_key, port_ends}
+use Rattle.peer_network.proofs.lemmas.Graphs.{graph_wired, graph_keyed, is_key, port_ends}
 use Rattle.ghs_protocol.proofs.every_run.Trees.{at_a, key_there, far_there}
 
 -- the port of node s over link j, which leads to t

@@ -8,13 +8,13 @@ use Rattle.ghs_node.specs.Words.{Best, is_branch}
 use Rattle.ghs_node.specs.declared.mark.Mark.{Mark}
 use Rattle.ghs_node.specs.declared.mark.Mark.TheVariants.{Basic, Branch, Rejected}
 use Rattle.ghs_node.specs.NodeState.{mark_at}
-use Rattle.ghs_protocol.specs.Network.{network_of, At, InNetwork}
+use Rattle.peer_network.specs.Network.{network_of, At, InNetwork}
 use Rattle.ghs_protocol.specs.Net.{Net}
 use Rattle.ghs_protocol.specs.Marks.{HasHalted}
 use Rattle.ghs_protocol.specs.Cores.{IsCoreEnd, Ends_core, By_itself, IsQuietAt, OneEnd}
 use Rattle.ghs_protocol.proofs.clauses.Scene.{scene, forest}
 use Rattle.ghs_protocol.proofs.clauses.Fragments.{IsJoinedIn}
-use Rattle.ghs_protocol.proofs.lemmas.Graphs.{is_key}
+use Rattle.peer_network.proofs.lemmas.Graphs.{is_key}
 use Rattle.ghs_protocol.proofs.lemmas.Nodes.{ports_many}
 use Rattle.ghs_protocol.proofs.acts.Grounds.{graph_ground}
 use Rattle.ghs_protocol.proofs.every_run.Trees.{leads_join}

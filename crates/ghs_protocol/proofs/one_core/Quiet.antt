@@ -7,7 +7,7 @@ use Rattle.ghs_graph.proofs.lemmas.Joining.{joined_then, joined_back}
 use Rattle.ghs_node.specs.declared.mark.Mark.TheVariants.{Branch}
 use Rattle.ghs_node.specs.declared.message.Phase.TheVariants.{Sleeping, Find, Found}
 use Rattle.ghs_node.specs.NodeState.{mark_at}
-use Rattle.ghs_protocol.specs.Network.{network_of, port_at, At, InNetwork}
+use Rattle.peer_network.specs.Network.{network_of, port_at, At, InNetwork}
 use Rattle.ghs_protocol.specs.Net.{Net}
 use Rattle.ghs_protocol.specs.Marks.{HasHalted, IsJoined, Leads, Here, Over}
 use Rattle.ghs_protocol.specs.Living.{AnyLink}
@@ -18,7 +18,7 @@ use Rattle.ghs_protocol.proofs.clauses.Fragments.{IsJoinedIn}
 use Rattle.ghs_protocol.proofs.clauses.Nodes.{NodeFits}
 use Rattle.ghs_protocol.proofs.clauses.UnderWay.{Living}
 use Rattle.ghs_protocol.proofs.lemmas.Nodes.{ports_many}
-use Rattle.ghs_protocol.proofs.lemmas.Graphs.{graph_wired, is_key, port_ends}
+use Rattle.peer_network.proofs.lemmas.Graphs.{graph_wired, is_key, port_ends}
 use Rattle.ghs_protocol.proofs.acts.Grounds.{graph_ground}
 use Rattle.ghs_protocol.proofs.every_run.Trees.{leads_join}
 use Rattle.ghs_protocol.proofs.progress.Awaits.{net_lives, net_awaits}

@@ -2,12 +2,12 @@
 use Rattle.std.proofs.Common.{◌≡◌, ◌≢◌, ℕ, suc, Option, Some, List, [], ◌∷◌, ◌+◌, ◌*◌, length, inl, inr, refl, sym, ◌∙◌, ap, subst, subst₂, ⊎_elim, arith}
 use Rattle.ghs_graph.specs.declared.key.Key.{Key}
 use Rattle.ghs_graph.specs.Graph.{Shape, IsGraph}
-use Rattle.ghs_protocol.specs.Network.{network_of, port_at, At, far, far_port}
+use Rattle.peer_network.specs.Network.{network_of, port_at, At, far, far_port}
 use Rattle.ghs_protocol.specs.Merging.{Fragments, singles, one_connect, united, IsLeastOut, Merge, Absorb, Merging, Done, Then}
 use Rattle.ghs_protocol.proofs.clauses.Scene.{Ghost}
 use Rattle.ghs_protocol.proofs.clauses.Whole.{opening_ghost}
 use Rattle.ghs_protocol.proofs.clauses.Growing.{Grouped, Grows, As_it_was, Meets, Takes_in}
-use Rattle.ghs_protocol.proofs.lemmas.Graphs.{graph_wired}
+use Rattle.peer_network.proofs.lemmas.Graphs.{graph_wired}
 use Rattle.ghs_protocol.proofs.merging.United.{Either, either_cases, inside, outside, still_one, was_one}
 use Rattle.ghs_protocol.proofs.one_core.Links.{least_out}
 

@@ -4,8 +4,8 @@ use Rattle.std.specs.List.{Contains}
 use Rattle.ghs_graph.specs.declared.key.Key.{Key}
 use Rattle.ghs_graph.specs.Graph.{Shape, IsGraph}
 use Rattle.ghs_node.specs.Words.{is_branch}
-use Rattle.ghs_protocol.specs.declared.event.Event.{Event}
-use Rattle.ghs_protocol.specs.Network.{Network, network_of, port_at, At, far, far_port, InNetwork}
+use Rattle.peer_network.specs.declared.event.Event.{Event}
+use Rattle.peer_network.specs.Network.{Network, network_of, port_at, At, far, far_port, InNetwork}
 use Rattle.ghs_protocol.specs.Net.{Net, opening}
 use Rattle.ghs_protocol.specs.Run.{IsAfter}
 use Rattle.ghs_protocol.specs.Marks.{HasHalted}
@@ -27,7 +27,7 @@ use Rattle.ghs_protocol.proofs.clauses.Scene.{Ghost, scene, see, tree_end, end, 
 use Rattle.ghs_protocol.proofs.clauses.Floors.{Sound}
 use Rattle.ghs_protocol.proofs.clauses.Whole.{opening_ghost}
 use Rattle.ghs_protocol.proofs.lemmas.WellFormed.{IsWellFormed}
-use Rattle.ghs_protocol.proofs.lemmas.Graphs.{graph_wired, graph_few, is_key}
+use Rattle.peer_network.proofs.lemmas.Graphs.{graph_wired, graph_few, is_key}
 use Rattle.ghs_protocol.proofs.lemmas.Lasting.{AllLast, event_lasts}
 use Rattle.ghs_protocol.proofs.lemmas.Steps.{step_happens, run_by_steps}
 use Rattle.ghs_protocol.proofs.acts.Grounds.{graph_ground}
@@ -37,7 +37,7 @@ use Rattle.ghs_protocol.proofs.merging.OneEnd.{Stays, merging_on, whole_stays_on
 use Rattle.ghs_protocol.proofs.one_core.Links.{dart, between}
 use Rattle.ghs_protocol.proofs.one_core.Renamed.{Renamed, opening_renamed, Went, grows_merges}
 use Rattle.ghs_protocol.proofs.one_core.Connects.{one_if_branch, not_one, branch_ports, step_connects}
-use Rattle.ghs_protocol.proofs.lemmas.Sums.{ports_none}
+use Rattle.peer_network.proofs.lemmas.Sums.{ports_none}
 use Rattle.ghs_protocol.proofs.one_core.Joins.{one_if_joined, not_joined, joined_ports, step_branched, join_count}
 use Rattle.ghs_protocol.proofs.one_core.Halted.{AtCore, On_core, No_link, IsCoreNode, step_halts}
 use Rattle.ghs_node.proofs.lemmas.{branch_mark}

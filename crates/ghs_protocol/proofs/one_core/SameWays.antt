@@ -1,7 +1,7 @@
 -- In two scenes where nothing waits, with the same core and the same joined links, the ways to the root are the same.
 use Rattle.std.proofs.Common.{◌≡◌, ◌≢◌, ℕ, Some, sym, ◌∙◌, ⊎_elim}
 use Rattle.ghs_node.specs.declared.message.Phase.TheVariants.{Sleeping}
-use Rattle.ghs_protocol.specs.Network.{Network, At, far, InNetwork}
+use Rattle.peer_network.specs.Network.{Network, At, far, InNetwork}
 use Rattle.ghs_protocol.proofs.clauses.Scene.{Scene, unseen, forest}
 use Rattle.ghs_protocol.proofs.clauses.Fragments.{IsJoinedIn, Reach, At_root, By_step}
 use Rattle.ghs_protocol.proofs.clauses.Wiring.{Ground}

@@ -4,7 +4,7 @@ use Rattle.ghs_graph.specs.declared.key.Key.{Key}
 use Rattle.ghs_node.specs.Words.{Best, best_key}
 use Rattle.ghs_node.specs.declared.mark.Mark.TheVariants.{Basic, Branch}
 use Rattle.ghs_node.specs.declared.message.Phase.TheVariants.{Sleeping}
-use Rattle.ghs_protocol.specs.Network.{Network, port_at, At, far, far_port, InNetwork}
+use Rattle.peer_network.specs.Network.{Network, port_at, At, far, far_port, InNetwork}
 use Rattle.ghs_protocol.proofs.clauses.Scene.{Scene, unseen, forest}
 use Rattle.ghs_protocol.proofs.clauses.Floors.{Floor, lower, Sound}
 use Rattle.ghs_protocol.proofs.clauses.Wiring.{Ground}

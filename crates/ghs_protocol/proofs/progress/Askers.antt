@@ -3,9 +3,9 @@ use Rattle.std.proofs.Common.{◌≡◌, ◌≢◌, ℕ, zero, suc, ◌<◌, ◌
 use Rattle.ghs_node.specs.declared.mark.Mark.TheVariants.{Branch}
 use Rattle.ghs_node.specs.declared.message.Phase.TheVariants.{Find}
 use Rattle.ghs_node.specs.Words.{is_find, is_at, is_branch, is_zero, is_missing}
-use Rattle.ghs_protocol.specs.Network.{Network, At, far, far_port, InNetwork}
-use Rattle.ghs_protocol.proofs.lemmas.Wired.{IsWired}
-use Rattle.ghs_protocol.specs.Ledger.{sum_below}
+use Rattle.peer_network.specs.Network.{Network, At, far, far_port, InNetwork}
+use Rattle.peer_network.proofs.lemmas.Wired.{IsWired}
+use Rattle.peer_network.specs.Sums.{sum_below}
 use Rattle.ghs_protocol.proofs.clauses.Scene.{Scene, End, end, forest}
 use Rattle.ghs_protocol.proofs.clauses.Fragments.{IsJoinedIn, Reach}
 use Rattle.ghs_protocol.proofs.clauses.Rest.{owes, debt, has_call, has_report}

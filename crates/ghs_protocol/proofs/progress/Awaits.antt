@@ -11,17 +11,16 @@ use Rattle.ghs_node.specs.Words.{is_zero, is_missing, find_more, Outgoing}
 use Rattle.ghs_node.specs.NodeState.{NodeState, degree, with_mark}
 use Rattle.ghs_node.specs.Reaction.{after, at_wake, ends, Ending}
 use Rattle.ghs_node.specs.Rows.{AwakeRow, Closes, Reports, Waits, Settles, Probes, Exhausts, Connect_absorbed, Connect_waits, Connect_merges, Initiate_rests, Initiate_searches, Test_waits, Test_accepted, Test_rejected, Tests_cross, Accept_heard, Reject_heard, Report_heard, Report_waits, Report_moves_root, Report_halts, Report_passes, Root_moves}
-use Rattle.ghs_protocol.specs.Network.{Network, network_of}
-use Rattle.ghs_protocol.proofs.lemmas.Wired.{IsWired}
+use Rattle.peer_network.specs.Network.{Network, network_of}
+use Rattle.peer_network.proofs.lemmas.Wired.{IsWired, HasFewPorts}
 use Rattle.ghs_protocol.specs.Net.{Net}
 use Rattle.ghs_protocol.specs.Run.{IsAfter}
 use Rattle.ghs_protocol.specs.Steps.{waking}
-use Rattle.ghs_protocol.proofs.lemmas.WellFormed.{HasFewPorts}
 use Rattle.ghs_protocol.proofs.lemmas.Nodes.{NodeKept, node_step, ports_many}
 use Rattle.ghs_protocol.proofs.lemmas.Steps.{run_by_steps}
 use Rattle.ghs_protocol.specs.Laws.{IsNetOf}
 use Rattle.ghs_graph.specs.Graph.{Shape}
-use Rattle.ghs_protocol.proofs.lemmas.Graphs.{graph_wired, graph_few}
+use Rattle.peer_network.proofs.lemmas.Graphs.{graph_wired, graph_few}
 use Rattle.ghs_protocol.proofs.every_run.Firsts.{formed}
 use Rattle.ghs_protocol.proofs.clauses.Scene.{Ghost, scene}
 use Rattle.ghs_protocol.proofs.clauses.UnderWay.{Lives, Living}

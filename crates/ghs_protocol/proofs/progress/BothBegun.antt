@@ -6,7 +6,7 @@ use Rattle.ghs_node.specs.declared.mark.Mark.TheVariants.{Basic, Branch}
 use Rattle.ghs_node.specs.declared.message.Phase.TheVariants.{Sleeping, Find}
 use Rattle.ghs_node.specs.declared.message.Message.{Message}
 use Rattle.ghs_node.specs.declared.message.Message.TheVariants.{Connect, Initiate, Test, Accept, Reject, Report, ChangeRoot}
-use Rattle.ghs_protocol.specs.Network.{Network, port_at, far, far_port}
+use Rattle.peer_network.specs.Network.{Network, port_at, far, far_port}
 use Rattle.ghs_protocol.proofs.clauses.Scene.{Scene, Member, TreeEnd, end, tree_end, forest}
 use Rattle.ghs_protocol.proofs.clauses.Links.{Mutual}
 use Rattle.ghs_protocol.proofs.clauses.TreeMessages.{CoreFits, CoreQueue, Plain, With_report, Stage, Asking, Called, Begun, AtStage, asked, called, MovedFits, To_here, To_there}

@@ -19,20 +19,22 @@ use Rattle.ghs_node.specs.Rows.{Row}
 use Rattle.ghs_node.specs.Reaction.{reaction}
 use Rattle.ghs_node.proofs.lemmas.{reaction_inverts, sleeping_is, sleeping_not, is_sleeping_not, row_awake}
 use Rattle.ghs_node.specs.Words.{is_sleeping}
-use Rattle.ghs_protocol.specs.declared.event.Event.{Event}
-use Rattle.ghs_protocol.specs.declared.event.Event.TheVariants.{Take}
-use Rattle.ghs_protocol.specs.declared.event.Event.TheVariants as events
-use Rattle.ghs_protocol.specs.Network.{Network, network_of, port_at, At, far, InNetwork}
-use Rattle.ghs_protocol.proofs.lemmas.Wired.{IsWired}
+use Rattle.peer_network.specs.declared.event.Event.{Event}
+use Rattle.peer_network.specs.declared.event.Event.TheVariants.{Take}
+use Rattle.peer_network.specs.declared.event.Event.TheVariants as events
+use Rattle.peer_network.specs.Network.{Network, network_of, port_at, At, far, InNetwork}
+use Rattle.peer_network.proofs.lemmas.Wired.{IsWired}
 use Rattle.ghs_protocol.specs.Net.{Net, opening, happens, is_lawful, effect, one_if_requeued}
 use Rattle.ghs_protocol.specs.Run.{and_then, run}
-use Rattle.ghs_protocol.specs.Ledger.{sum_below, in_all}
+use Rattle.ghs_protocol.specs.Ledger.{in_all}
+use Rattle.peer_network.specs.Sums.{sum_below}
 use Rattle.ghs_protocol.specs.Marks.{HasHalted, Leads, Here, Over}
 use Rattle.ghs_protocol.specs.Steps.{Happens, Woke, Took, taken, reacted}
 use Rattle.ghs_protocol.specs.Laws.{IsNetOf}
 use Rattle.ghs_protocol.specs.Living.{Waits, Unended, GoesOn, IsTake, AnyLink, Finish, EveryRunCanEnd, SilentNetsHaveEnded, SilentNetsAreExact, RunsAreShort}
-use Rattle.ghs_protocol.proofs.lemmas.Graphs.{graph_wired, graph_few, port_ends, is_key}
-use Rattle.ghs_protocol.proofs.lemmas.Events.{happening, happens_so, lawful_happens, is_port_of}
+use Rattle.peer_network.proofs.lemmas.Graphs.{graph_wired, graph_few, port_ends, is_key}
+use Rattle.ghs_protocol.proofs.lemmas.Events.{happening, happens_so, lawful_happens}
+use Rattle.peer_network.proofs.lemmas.Events.{is_port_of}
 use Rattle.ghs_protocol.proofs.lemmas.Runs.{after_more, run_joins, both_some}
 use Rattle.ghs_protocol.proofs.every_run.Counts.{run_counts}
 use Rattle.ghs_protocol.proofs.lemmas.Sends.{node_here, consumed_now, requeued_now}
@@ -40,7 +42,7 @@ use Rattle.ghs_protocol.proofs.lemmas.Effects.{taken_here, taken_requeued}
 use Rattle.ghs_protocol.proofs.lemmas.Lasting.{event_lasts}
 use Rattle.ghs_protocol.proofs.every_run.Firsts.{ledger_balances}
 use Rattle.ghs_protocol.proofs.every_run.Interleavings.{events_have_rules}
-use Rattle.ghs_protocol.proofs.lemmas.Sums.{sum_most, sum_few, sum_less}
+use Rattle.peer_network.proofs.lemmas.Sums.{sum_most, sum_few, sum_less, node_before}
 use Rattle.ghs_protocol.proofs.lemmas.Woken.{awake_row}
 use Rattle.ghs_protocol.proofs.lemmas.WellFormed.{IsWellFormed, after_formed, opening_formed, event_formed, event_row}
 use Rattle.ghs_protocol.proofs.progress.Requeues.{fate_is, turned, turns, turn_happens}
@@ -48,7 +50,6 @@ use Rattle.ghs_protocol.proofs.every_run.Trees.{join_leads, leads_join}
 use Rattle.ghs_protocol.proofs.every_run.Sound.{halt_is_exact}
 use Rattle.ghs_protocol.proofs.charges.Bound.{sends_within}
 use Rattle.ghs_protocol.proofs.progress.Runs.{no_run_is_stuck, silence_is_end}
-use Rattle.ghs_protocol.proofs.lemmas.Nodes.{node_before}
 use Rattle.ghs_protocol.proofs.lemmas.Queues.{same_first}
 
 -- 1 where the node is awake

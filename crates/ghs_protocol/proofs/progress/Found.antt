@@ -8,7 +8,7 @@ use Rattle.ghs_node.specs.declared.message.Phase.TheVariants.{Sleeping, Find}
 use Rattle.ghs_node.specs.declared.message.Message.{Message}
 use Rattle.ghs_node.specs.declared.message.Message.TheVariants.{Connect, Initiate, Test, Accept, Reject, Report, ChangeRoot}
 use Rattle.ghs_node.specs.NodeState.{NodeState, mark_at}
-use Rattle.ghs_protocol.specs.Network.{Network, At, InNetwork}
+use Rattle.peer_network.specs.Network.{Network, At, InNetwork}
 use Rattle.ghs_protocol.specs.Net.{Net}
 use Rattle.ghs_protocol.proofs.clauses.Scene.{Member, Seen, Ghost, scene, add, adds, see, unseen}
 use Rattle.ghs_protocol.proofs.clauses.Wiring.{Ground}

@@ -13,18 +13,18 @@ use Rattle.ghs_node.specs.Rows as rows
 use Rattle.ghs_node.specs.Kind.{kind_of, place_of}
 use Rattle.ghs_node.specs.NodeState.{NodeState}
 use Rattle.ghs_node.proofs.lemmas.{reaction_inverts}
-use Rattle.ghs_protocol.specs.declared.event.Event.TheVariants as events
-use Rattle.ghs_protocol.specs.Network.{Network, network_of, At}
+use Rattle.peer_network.specs.declared.event.Event.TheVariants as events
+use Rattle.peer_network.specs.Network.{Network, network_of, At}
 use Rattle.ghs_protocol.specs.Net.{Net}
 use Rattle.ghs_protocol.specs.Nodes.{IsNodeOf}
 use Rattle.ghs_protocol.specs.Steps.{Happens, Took, taken}
 use Rattle.ghs_protocol.specs.Living.{Waits, Turned, RequeuesAreWaits, WaitingTakesTurn}
 use Rattle.ghs_protocol.specs.Living as living
 use Rattle.ghs_protocol.proofs.lemmas.Nodes.{ports_many}
-use Rattle.ghs_protocol.proofs.lemmas.Graphs.{graph_wired, graph_few}
+use Rattle.peer_network.proofs.lemmas.Graphs.{graph_wired, graph_few}
 use Rattle.ghs_protocol.proofs.lemmas.WellFormed.{after_formed}
 use Rattle.ghs_protocol.proofs.lemmas.Events.{happens_so}
-use Rattle.ghs_protocol.proofs.lemmas.Updates.{put_same, put_other, put_at_same, put_at_miss}
+use Rattle.peer_network.proofs.lemmas.Updates.{put_same, put_other, put_at_same, put_at_miss}
 use Rattle.ghs_protocol.proofs.lemmas.Waiting.{waits_reaction}
 use Rattle.ghs_protocol.proofs.lemmas.Woken.{awake_row}
 

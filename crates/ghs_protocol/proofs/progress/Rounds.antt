@@ -3,19 +3,19 @@ use Rattle.std.proofs.Common.{◌≡◌, ℕ, zero, suc, ◌≤◌, ◌+◌, Boo
 use Rattle.std.specs.List.{All}
 use Rattle.ghs_graph.specs.Graph.{Shape, IsGraph}
 use Rattle.ghs_node.specs.declared.message.Message.{Message}
-use Rattle.ghs_protocol.specs.declared.event.Event.{Event}
-use Rattle.ghs_protocol.specs.declared.event.Event.TheVariants as events
-use Rattle.ghs_protocol.specs.declared.event.Event.TheVariants.{Take}
-use Rattle.ghs_protocol.specs.Network.{network_of, At}
+use Rattle.peer_network.specs.declared.event.Event.{Event}
+use Rattle.peer_network.specs.declared.event.Event.TheVariants as events
+use Rattle.peer_network.specs.declared.event.Event.TheVariants.{Take}
+use Rattle.peer_network.specs.Network.{network_of, At}
 use Rattle.ghs_protocol.specs.Net.{Net, happens}
 use Rattle.ghs_protocol.specs.Ledger.{in_all}
 use Rattle.ghs_protocol.specs.Laws.{IsNetOf}
 use Rattle.ghs_protocol.specs.Steps.{Happens, Woke}
 use Rattle.ghs_protocol.specs.Living.{Waits, Turned, GoesOn, if_can, all_that_can, Stands, Now, Soon, StandsTwice, Now_and_soon, Soon_twice, IsRound, Comes, FairRunsEnd}
-use Rattle.ghs_protocol.proofs.lemmas.Graphs.{graph_wired}
+use Rattle.peer_network.proofs.lemmas.Graphs.{graph_wired}
 use Rattle.ghs_protocol.proofs.lemmas.Events.{happening, happens_so}
 use Rattle.ghs_protocol.proofs.lemmas.Sends.{consumed_now}
-use Rattle.ghs_protocol.proofs.lemmas.Updates.{one_place}
+use Rattle.peer_network.proofs.lemmas.Updates.{one_place}
 use Rattle.ghs_protocol.proofs.progress.Requeues.{turned_by}
 use Rattle.ghs_protocol.proofs.progress.Finish.{reached, Held, real, component, later, can_take, formed, grows, most, going, advance, woken_more}
 use Rattle.ghs_protocol.proofs.charges.Bound.{sends_within}

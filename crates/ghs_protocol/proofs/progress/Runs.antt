@@ -5,8 +5,8 @@ use Rattle.ghs_node.specs.declared.mark.Mark.TheVariants.{Branch}
 use Rattle.ghs_node.specs.declared.message.Message.{Message}
 use Rattle.ghs_node.specs.declared.message.Phase.TheVariants.{Sleeping}
 use Rattle.ghs_node.specs.Words.{is_branch}
-use Rattle.ghs_protocol.specs.Network.{Network, network_of, port_at, At, far, far_port, InNetwork}
-use Rattle.ghs_protocol.proofs.lemmas.Wired.{IsWired}
+use Rattle.peer_network.specs.Network.{Network, network_of, port_at, At, far, far_port, InNetwork}
+use Rattle.peer_network.proofs.lemmas.Wired.{IsWired}
 use Rattle.ghs_protocol.specs.Living.{SilenceIsEnd, NoRunIsStuck, OneWaits}
 use Rattle.ghs_protocol.proofs.clauses.Scene.{Scene, scene, forest}
 use Rattle.ghs_protocol.proofs.clauses.Nodes.{IsUp}
@@ -14,7 +14,7 @@ use Rattle.ghs_protocol.proofs.clauses.Fragments.{Root, Goes_out, Both_ways, Rea
 use Rattle.ghs_protocol.proofs.clauses.Whole.{Invariant}
 use Rattle.ghs_protocol.proofs.clauses.Floors.{Floor, lower, Floors}
 use Rattle.ghs_protocol.proofs.progress.Awaits.{net_lives}
-use Rattle.ghs_protocol.proofs.lemmas.Graphs.{graph_wired}
+use Rattle.peer_network.proofs.lemmas.Graphs.{graph_wired}
 use Rattle.ghs_protocol.proofs.acts.SameForest.{mark_branch}
 use Rattle.ghs_protocol.proofs.tests.Links.{probe_is}
 use Rattle.ghs_protocol.proofs.acts.Floors.{near_fits, lower_on, lower_self, not_above}

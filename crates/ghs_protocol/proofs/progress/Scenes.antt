@@ -9,7 +9,7 @@ use Rattle.ghs_node.specs.declared.message.Phase.TheVariants.{Sleeping, Find, Fo
 use Rattle.ghs_node.specs.declared.message.Message.{Message}
 use Rattle.ghs_node.specs.declared.message.Message.TheVariants.{Connect, Initiate, Test, Accept, Reject, Report, ChangeRoot}
 use Rattle.ghs_node.specs.Words.{Best, is_branch, below, best_key}
-use Rattle.ghs_protocol.specs.Network.{Network, port_at, At, far, far_port, InNetwork}
+use Rattle.peer_network.specs.Network.{Network, port_at, At, far, far_port, InNetwork}
 use Rattle.ghs_protocol.proofs.clauses.Scene.{Scene, Member, End, end, tree_end, forest, Seen, far_end}
 use Rattle.ghs_protocol.proofs.clauses.Changes.{seen_beyond}
 use Rattle.ghs_protocol.proofs.clauses.TreeMessages.{ConnectUnderWay}
@@ -26,7 +26,7 @@ use Rattle.ghs_protocol.proofs.progress.Askers.{Asker, someone_asks}
 use Rattle.ghs_protocol.proofs.progress.Halves.{RootLink, Stands, no_tie}
 use Rattle.ghs_protocol.proofs.progress.KeyDescent.{key_descent}
 use Rattle.std.proofs.lemmas.Bool.{cases_Bool}
-use Rattle.ghs_protocol.proofs.lemmas.Graphs.{same_key}
+use Rattle.peer_network.proofs.lemmas.Graphs.{same_key}
 use Rattle.ghs_protocol.proofs.progress.BothBegun.{BegunCore, both_begun, tree_waits, AllOf, first_of}
 use Rattle.ghs_node.proofs.lemmas.{branch_mark}
 

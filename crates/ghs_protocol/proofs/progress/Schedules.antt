@@ -17,26 +17,30 @@ use Rattle.ghs_node.specs.NodeState.{NodeState}
 use Rattle.ghs_node.specs.Reaction.{reaction}
 use Rattle.ghs_node.specs.Words.{Outgoing, is_sleeping}
 use Rattle.ghs_node.proofs.lemmas.{reaction_inverts, row_awake}
-use Rattle.ghs_protocol.specs.declared.event.Event.{Event}
-use Rattle.ghs_protocol.specs.declared.event.Event.TheVariants as events
-use Rattle.ghs_protocol.specs.Network.{Network, network_of, At, far, far_port}
-use Rattle.ghs_protocol.specs.Net.{Net, event_node, happens, is_lawful, is_lawful_under, is_waiting, is_node, is_port, send, send_all, change}
-use Rattle.ghs_protocol.specs.Run.{run, MayWake}
+use Rattle.peer_network.specs.declared.event.Event.{Event}
+use Rattle.peer_network.specs.declared.event.Event.TheVariants as events
+use Rattle.peer_network.specs.Network.{Network, network_of, At, far, far_port, is_node, is_port}
+use Rattle.ghs_protocol.specs.Net.{Net, happens, is_lawful, is_lawful_under, is_waiting, send, send_all, change}
+use Rattle.peer_network.specs.Events.{event_node, MayWake}
+use Rattle.ghs_protocol.specs.Run.{run}
 use Rattle.ghs_protocol.specs.Ledger.{in_all}
 use Rattle.ghs_protocol.specs.Marks.{HasHalted, HasEnded, Leads}
 use Rattle.ghs_protocol.specs.Steps.{Happens, Woke, Took, taken, reacted, waking}
 use Rattle.ghs_protocol.specs.Halting.{Reacts, By_waking, By_taking}
 use Rattle.ghs_protocol.specs.Laws.{IsNetOf}
 use Rattle.ghs_protocol.specs.Living.{AnyLink, Waits, GoesOn, Finish, IsTake}
-use Rattle.ghs_protocol.specs.Schedules.{OthersLeaveAlone, NothingIsReady, AllMayWake, StillnessIsEnd, EveryRunCanEndWhole, IsPatientIn, A_wake, Moves_on, Uncovers, IsPatient, And_then, PatientRunsAreShort, PatienceGoesOn, PatienceLasts, RealEventsAreFew}
+use Rattle.ghs_protocol.specs.Schedules.{OthersLeaveAlone, NothingIsReady, StillnessIsEnd, EveryRunCanEndWhole, IsPatientIn, A_wake, Moves_on, Uncovers, IsPatient, And_then, PatientRunsAreShort, PatienceGoesOn, PatienceLasts, RealEventsAreFew}
+use Rattle.peer_network.specs.Wakes.{AllMayWake}
 use Rattle.ghs_protocol.proofs.lemmas.Effects.{taken_there}
-use Rattle.ghs_protocol.proofs.lemmas.Events.{happening, happens_so, is_node_of, is_port_of, taken_at}
-use Rattle.ghs_protocol.proofs.lemmas.Graphs.{graph_wired, is_key}
-use Rattle.ghs_protocol.proofs.lemmas.Nodes.{ports_many, node_before}
+use Rattle.ghs_protocol.proofs.lemmas.Events.{happening, happens_so, taken_at}
+use Rattle.peer_network.proofs.lemmas.Events.{is_node_of, is_port_of}
+use Rattle.peer_network.proofs.lemmas.Graphs.{graph_wired, is_key}
+use Rattle.ghs_protocol.proofs.lemmas.Nodes.{ports_many}
+use Rattle.peer_network.proofs.lemmas.Sums.{node_before}
 use Rattle.ghs_protocol.proofs.lemmas.Lasting.{AllLast, event_lasts, run_lasts}
 use Rattle.ghs_protocol.proofs.lemmas.Runs.{both_some, run_joins, run_keeps, run_more}
 use Rattle.ghs_protocol.proofs.lemmas.Sends.{node_here, node_there}
-use Rattle.ghs_protocol.proofs.lemmas.Updates.{one_place, put_at_hit, put_at_miss, put_at_node}
+use Rattle.peer_network.proofs.lemmas.Updates.{one_place, put_at_hit, put_at_miss, put_at_node}
 use Rattle.ghs_protocol.proofs.lemmas.Woken.{asleep_or_not}
 use Rattle.ghs_protocol.proofs.lemmas.Waiting.{waits_awake}
 use Rattle.ghs_protocol.proofs.progress.Requeues.{requeues_are_waits, turned_by}

@@ -6,8 +6,8 @@ use Rattle.ghs_node.specs.Words.{is_branch}
 use Rattle.ghs_node.specs.declared.message.Phase.TheVariants.{Sleeping, Find, Found}
 use Rattle.ghs_node.specs.declared.message.Message.{Message}
 use Rattle.ghs_node.specs.declared.message.Message.TheVariants.{Report}
-use Rattle.ghs_protocol.specs.Network.{Network, At, far, far_port, InNetwork}
-use Rattle.ghs_protocol.proofs.lemmas.Wired.{IsWired}
+use Rattle.peer_network.specs.Network.{Network, At, far, far_port, InNetwork}
+use Rattle.peer_network.proofs.lemmas.Wired.{IsWired}
 use Rattle.ghs_protocol.specs.Marks.{Leads, Here, Over}
 use Rattle.ghs_protocol.proofs.clauses.Scene.{Scene, End, TreeEnd, tree_end, end, forest, far_end}
 use Rattle.ghs_protocol.proofs.clauses.Changes.{seen_beyond}
@@ -20,7 +20,7 @@ use Rattle.ghs_protocol.proofs.acts.OneLink.{at_near, at_far}
 use Rattle.ghs_protocol.proofs.search.FirstReport.{Joint, joint, Down_here, Down_there, On_core, On_moved, mark_is}
 use Rattle.ghs_protocol.proofs.tests.Links.{probe_is}
 use Rattle.ghs_protocol.proofs.rest.Halt.{owed_finds}
-use Rattle.ghs_protocol.proofs.lemmas.Wires.{at_in}
+use Rattle.peer_network.proofs.lemmas.Wires.{at_in}
 use Rattle.ghs_protocol.proofs.acts.Situations.{all_awake}
 use Rattle.ghs_protocol.proofs.lemmas.Woken.{at_rest}
 use Rattle.ghs_node.proofs.lemmas.{is_at_is}

@@ -2,7 +2,7 @@
 use Rattle.std.proofs.Common.{◌≡◌, ◌≢◌, ℕ, sym, ◌∙◌, ap, subst}
 use Rattle.ghs_node.specs.declared.mark.Mark.TheVariants.{Branch}
 use Rattle.ghs_node.specs.Words.{is_branch}
-use Rattle.ghs_protocol.specs.Network.{Network}
+use Rattle.peer_network.specs.Network.{Network}
 use Rattle.ghs_protocol.proofs.clauses.Scene.{Scene, Forest, forest}
 use Rattle.ghs_protocol.proofs.clauses.Rest.{Quiet, Resting}
 use Rattle.ghs_node.proofs.lemmas.{branch_mark}

@@ -7,8 +7,8 @@ use Rattle.ghs_node.specs.Words.{below, best_key}
 use Rattle.ghs_node.specs.declared.message.Phase.TheVariants.{Found}
 use Rattle.ghs_node.specs.declared.message.Message.{Message}
 use Rattle.ghs_node.specs.declared.message.Message.TheVariants.{Report, ChangeRoot}
-use Rattle.ghs_protocol.specs.Network.{Network, port_at, At, far, far_port, InNetwork}
-use Rattle.ghs_protocol.proofs.lemmas.Wired.{IsWired}
+use Rattle.peer_network.specs.Network.{Network, port_at, At, far, far_port, InNetwork}
+use Rattle.peer_network.proofs.lemmas.Wired.{IsWired}
 use Rattle.ghs_protocol.proofs.clauses.Scene.{Scene, TreeEnd, tree_end, end, far_end}
 use Rattle.ghs_protocol.proofs.clauses.Links.{Joins, Ups}
 use Rattle.ghs_protocol.proofs.clauses.TreeMessages.{TreeFits, Chain, Upward, Nothing_up, Report_up, Downward, Initiates, Old_report, CoreFits, CoreQueue, Plain, With_report, Moved, Moving, MovedFits, To_here, To_there, Stage, Asking, Called, Begun, asked, called}

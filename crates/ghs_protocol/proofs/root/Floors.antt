@@ -9,9 +9,9 @@ use Rattle.ghs_node.specs.Words.{best_key}
 use Rattle.ghs_node.specs.declared.message.Phase.TheVariants.{Find, Found}
 use Rattle.ghs_node.specs.declared.message.Message.{Message}
 use Rattle.ghs_node.specs.declared.message.Message.TheVariants.{Connect, ChangeRoot}
-use Rattle.ghs_protocol.specs.Network.{Network, port_at, At, far, far_port, InNetwork}
-use Rattle.ghs_protocol.proofs.lemmas.Wired.{IsWired}
-use Rattle.ghs_protocol.specs.Net.{put}
+use Rattle.peer_network.specs.Network.{Network, port_at, At, far, far_port, InNetwork}
+use Rattle.peer_network.proofs.lemmas.Wired.{IsWired}
+use Rattle.peer_network.specs.Updates.{put}
 use Rattle.ghs_protocol.proofs.clauses.Scene.{Seen, add, adds, Member, Scene, End, tree_end, end, acts, far_end}
 use Rattle.ghs_protocol.proofs.clauses.Changes.{left_tree, seen_beyond, pointing, sent_out}
 use Rattle.ghs_protocol.proofs.clauses.TreeMessages.{Upward, Nothing_up, Report_up}
@@ -20,7 +20,7 @@ use Rattle.ghs_protocol.proofs.clauses.Wiring.{Ground}
 use Rattle.ghs_protocol.proofs.clauses.Uniting.{SendsRoot, meet}
 use Rattle.ghs_protocol.proofs.clauses.Whole.{Invariant}
 use Rattle.ghs_protocol.proofs.clauses.Floors.{Floor, FloorsAt, IsTreeLink, Floors}
-use Rattle.ghs_protocol.proofs.lemmas.Updates.{put_same, put_other}
+use Rattle.peer_network.proofs.lemmas.Updates.{put_same, put_other}
 use Rattle.ghs_protocol.proofs.acts.Reactions.{put_again}
 use Rattle.ghs_protocol.proofs.root.AtRoot.{AtRoot, at_root}
 use Rattle.ghs_protocol.proofs.root.Sent.{by_ports_at}

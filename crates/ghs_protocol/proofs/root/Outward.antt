@@ -6,9 +6,9 @@ use Rattle.ghs_node.specs.Words.{is_branch}
 use Rattle.ghs_node.specs.declared.mark.Mark.TheVariants.{Branch}
 use Rattle.ghs_node.specs.declared.message.Message.{Message}
 use Rattle.ghs_node.specs.declared.message.Message.TheVariants.{Connect}
-use Rattle.ghs_protocol.specs.Network.{Network, port_at, At, far, far_port, InNetwork}
-use Rattle.ghs_protocol.proofs.lemmas.Wired.{IsWired}
-use Rattle.ghs_protocol.specs.Net.{put}
+use Rattle.peer_network.specs.Network.{Network, port_at, At, far, far_port, InNetwork}
+use Rattle.peer_network.proofs.lemmas.Wired.{IsWired}
+use Rattle.peer_network.specs.Updates.{put}
 use Rattle.ghs_protocol.proofs.clauses.Scene.{Member, Scene, End, TreeEnd, TestEnd, tree_end, end, forest, acts, far_end, test_end}
 use Rattle.ghs_protocol.proofs.clauses.Changes.{left_tree, seen_beyond, sent_out}
 use Rattle.ghs_protocol.proofs.clauses.TreeMessages.{TreeFits}
@@ -18,7 +18,7 @@ use Rattle.ghs_protocol.proofs.clauses.Fragments.{Goes_out}
 use Rattle.ghs_protocol.proofs.clauses.Rest.{debt}
 use Rattle.ghs_protocol.proofs.clauses.Whole.{LinkFits, Invariant, NamesOf}
 use Rattle.ghs_protocol.proofs.clauses.Uniting.{SendsRoot}
-use Rattle.ghs_protocol.proofs.lemmas.Updates.{put_same, put_other}
+use Rattle.peer_network.proofs.lemmas.Updates.{put_same, put_other}
 use Rattle.ghs_protocol.proofs.root.AtRoot.{AtRoot, at_root}
 use Rattle.ghs_protocol.proofs.root.Ways.{Turns}
 use Rattle.ghs_protocol.proofs.root.OldLink.{call_append, report_append}

@@ -9,10 +9,10 @@ use Rattle.ghs_node.specs.declared.mark.Mark.{Mark}
 use Rattle.ghs_node.specs.declared.mark.Mark.TheVariants.{Branch}
 use Rattle.ghs_node.specs.declared.message.Phase.TheVariants.{Sleeping, Found}
 use Rattle.ghs_node.specs.declared.message.Message.{Message}
-use Rattle.ghs_protocol.specs.Network.{Network, port_at, At, far, far_port, InNetwork}
-use Rattle.ghs_protocol.proofs.lemmas.Wired.{IsWired}
-use Rattle.ghs_protocol.specs.Net.{put}
-use Rattle.ghs_protocol.specs.Ledger.{sum_below}
+use Rattle.peer_network.specs.Network.{Network, port_at, At, far, far_port, InNetwork}
+use Rattle.peer_network.proofs.lemmas.Wired.{IsWired}
+use Rattle.peer_network.specs.Updates.{put}
+use Rattle.peer_network.specs.Sums.{sum_below}
 use Rattle.ghs_protocol.proofs.clauses.Scene.{Seen, add, adds, Member, Scene, End, end, tree_end, forest, acts, far_end}
 use Rattle.ghs_protocol.proofs.clauses.Changes.{left_tree, seen_beyond}
 use Rattle.ghs_protocol.proofs.clauses.Nodes.{NodeFits}
@@ -21,7 +21,7 @@ use Rattle.ghs_protocol.proofs.clauses.TreeMessages.{Moved}
 use Rattle.ghs_protocol.proofs.clauses.Fragments.{Names, ForestFits}
 use Rattle.ghs_protocol.proofs.clauses.Rest.{Quiet, Resting, owes, debt, DebtsCounted, has_call, has_report}
 use Rattle.ghs_protocol.proofs.clauses.Whole.{LinkFits, Invariant, NamesOf}
-use Rattle.ghs_protocol.proofs.lemmas.Updates.{put_same, put_other, put_alike}
+use Rattle.peer_network.proofs.lemmas.Updates.{put_same, put_other, put_alike}
 use Rattle.ghs_protocol.proofs.acts.Ends.{acts_keeps}
 use Rattle.ghs_protocol.proofs.acts.SameForest.{near', far', node_after, quiet_after, sums_after, branch_mark}
 use Rattle.ghs_protocol.proofs.acts.OneLink.{sends_one}

@@ -3,13 +3,13 @@ use Rattle.std.proofs.Common.{◌≡◌, ◌≢◌, ℕ, Bool, true, false, Some
 use Rattle.std.proofs.lemmas.Bool.{cases_eq}
 use Rattle.std.proofs.lemmas.Option.{same_Some}
 use Rattle.ghs_graph.specs.declared.key.Key.{Key}
-use Rattle.ghs_protocol.specs.Network.{Network, At, far, far_port}
-use Rattle.ghs_protocol.proofs.lemmas.Wired.{IsWired}
-use Rattle.ghs_protocol.specs.Net.{put}
+use Rattle.peer_network.specs.Network.{Network, At, far, far_port}
+use Rattle.peer_network.proofs.lemmas.Wired.{IsWired}
+use Rattle.peer_network.specs.Updates.{put}
 use Rattle.ghs_protocol.specs.Marks.{Leads, Here, Over}
 use Rattle.ghs_protocol.proofs.clauses.Scene.{Forest}
 use Rattle.ghs_protocol.proofs.clauses.Fragments.{IsJoinedIn, Names, ForestFits, Root, Goes_out, Both_ways, Reach, At_root, By_step}
-use Rattle.ghs_protocol.proofs.lemmas.Updates.{put_same, put_other}
+use Rattle.peer_network.proofs.lemmas.Updates.{put_same, put_other}
 
 -- what is joined by some links is joined by more
 pub leads_map : {g : Network} {S T : ℕ → ℕ → Type 0} → ((v p : ℕ) → At g v p → S v p → T v p) → {v u : ℕ} → Leads g S v u → Leads g T v u

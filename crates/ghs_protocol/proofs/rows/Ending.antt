@@ -12,15 +12,15 @@ use Rattle.ghs_node.specs.Reaction.{Ending, Probing, Reporting, Waiting, last_se
 use Rattle.ghs_node.specs.Rows.{Closes, Reports, Waits, Settles, Probes, Exhausts}
 use Rattle.ghs_node.proofs.lemmas.{basic_is}
 use Rattle.ghs_protocol.proofs.clauses.Wiring.{Ground}
-use Rattle.ghs_protocol.specs.Network.{Network, port_at, At, InNetwork}
-use Rattle.ghs_protocol.specs.Net.{put}
+use Rattle.peer_network.specs.Network.{Network, port_at, At, InNetwork}
+use Rattle.peer_network.specs.Updates.{put}
 use Rattle.ghs_protocol.proofs.clauses.Scene.{Seen, Member, Scene, acts}
 use Rattle.ghs_protocol.proofs.clauses.Nodes.{Searching}
 use Rattle.ghs_protocol.proofs.clauses.Floors.{Floors, ScansInOrder, Sound, Nearly, lower}
 use Rattle.ghs_protocol.proofs.rows.Tried.{tried_same, tried_put, tried_fewer}
 use Rattle.ghs_graph.specs.declared.key.Key.{Key}
 use Rattle.ghs_protocol.proofs.clauses.UnderWay.{Lives}
-use Rattle.ghs_protocol.proofs.lemmas.Updates.{put_same}
+use Rattle.peer_network.proofs.lemmas.Updates.{put_same}
 use Rattle.ghs_protocol.proofs.tests.UnderWay.{scan_lives, closes_lives}
 use Rattle.ghs_protocol.proofs.acts.Reactions.{put_again, acts_split}
 use Rattle.ghs_protocol.proofs.rows.EndingAct.{Tests_next, Reports_now, ended, ends_alone}

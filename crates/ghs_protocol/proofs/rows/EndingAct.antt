@@ -6,9 +6,9 @@ use Rattle.ghs_node.specs.declared.message.Phase.TheVariants.{Find}
 use Rattle.ghs_node.specs.declared.message.Message.TheVariants.{Report}
 use Rattle.ghs_node.specs.Words.{best_key}
 use Rattle.ghs_node.specs.Reaction.{Ending, Probing, Reporting, Waiting, phase_after, probe_after, last_sends, name_of, core_port}
-use Rattle.ghs_protocol.specs.Network.{Network, At, InNetwork}
-use Rattle.ghs_protocol.proofs.lemmas.Wired.{IsWired}
-use Rattle.ghs_protocol.specs.Net.{put}
+use Rattle.peer_network.specs.Network.{Network, At, InNetwork}
+use Rattle.peer_network.proofs.lemmas.Wired.{IsWired}
+use Rattle.peer_network.specs.Updates.{put}
 use Rattle.ghs_protocol.proofs.clauses.Scene.{Seen, Member, Scene, acts}
 use Rattle.ghs_protocol.proofs.clauses.Nodes.{NodeFits, Searching}
 use Rattle.ghs_protocol.proofs.clauses.Whole.{Invariant}

@@ -3,8 +3,8 @@ use Rattle.std.proofs.Common.{◌≡◌, ◌≢◌, ℕ, Option, Some, length, s
 use Rattle.std.proofs.lemmas.Option.{same_Some}
 use Rattle.ghs_node.specs.declared.mark.Mark.TheVariants.{Branch}
 use Rattle.ghs_node.specs.Words.{is_branch}
-use Rattle.ghs_protocol.specs.Network.{Network, At, InNetwork, far, far_port}
-use Rattle.ghs_protocol.proofs.lemmas.Wired.{IsWired}
+use Rattle.peer_network.specs.Network.{Network, At, InNetwork, far, far_port}
+use Rattle.peer_network.proofs.lemmas.Wired.{IsWired}
 use Rattle.ghs_protocol.proofs.clauses.Scene.{Scene, end, tree_end, far_end, forest}
 use Rattle.ghs_protocol.proofs.clauses.Links.{Joins, Ups}
 use Rattle.ghs_protocol.proofs.clauses.TreeMessages.{ConnectUnderWay}

@@ -13,13 +13,14 @@ use Rattle.ghs_node.specs.NodeState.{NodeState, key_at, mark_at, with_mark, degr
 use Rattle.ghs_graph.specs.Key.{no_key}
 use Rattle.ghs_node.specs.Words.{is_name}
 use Rattle.ghs_node.specs.Reaction.{reject_at}
-use Rattle.ghs_protocol.specs.Network.{Network, port_at}
+use Rattle.peer_network.specs.Network.{Network, port_at}
 use Rattle.ghs_graph.specs.Ports.{no_port}
-use Rattle.ghs_protocol.specs.Net.{put, Net}
+use Rattle.ghs_protocol.specs.Net.{Net}
+use Rattle.peer_network.specs.Updates.{put}
 use Rattle.ghs_protocol.specs.Nodes.{IsNodeOf}
 use Rattle.ghs_protocol.proofs.clauses.Scene.{Seen, unseen, add, see, Ghost, scene}
 use Rattle.ghs_protocol.proofs.clauses.Changes.{marked}
-use Rattle.ghs_protocol.proofs.lemmas.Updates.{put_same, put_other}
+use Rattle.peer_network.proofs.lemmas.Updates.{put_same, put_other}
 use Rattle.ghs_protocol.proofs.acts.AsRead.{both, same_seen, see_first}
 use Rattle.ghs_protocol.proofs.acts.Reactions.{put_again}
 use Rattle.ghs_protocol.proofs.clauses.Uniting.{MarksAre}

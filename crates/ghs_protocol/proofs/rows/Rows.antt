@@ -24,7 +24,7 @@ use Rattle.ghs_protocol.proofs.rows.Steps.{absorb_sound, accept_nearly, accept_s
 use Rattle.ghs_protocol.proofs.acts.Reactions.{grouped_scene, regrouped, round_scene, taken_acts, taken_up, wake_acts, with_up}
 use Rattle.ghs_protocol.proofs.lemmas.Nodes.{ports_many}
 use Rattle.ghs_protocol.proofs.clauses.Growing.{As_it_was, Grouped, Grows, Kept, LeastPort, Meets, Takes_in}
-use Rattle.ghs_protocol.proofs.lemmas.Updates.{put_same}
+use Rattle.peer_network.proofs.lemmas.Updates.{put_same}
 use Rattle.ghs_protocol.proofs.union.Absorb.{came}
 use Rattle.ghs_protocol.proofs.union.ConnectIn.{Came}
 use Rattle.ghs_protocol.proofs.union.LeastLinks.{came_least, grouped, root_least, root_levels, wake_least, wake_levels}
@@ -33,13 +33,14 @@ use Rattle.ghs_protocol.proofs.clauses.Uniting.{By_report, By_root, SendsRoot, a
 use Rattle.ghs_protocol.proofs.clauses.Wiring.{Ground}
 use Rattle.ghs_protocol.proofs.clauses.Scene.{Ghost, Member, Seen, Scene, acts, end, see, test_end, tree_end, scene, far_end}
 use Rattle.ghs_protocol.proofs.clauses.Changes.{marked}
-use Rattle.ghs_protocol.specs.Net.{Net, put}
-use Rattle.ghs_protocol.specs.Network.{At, Network, far, far_port, port_at, InNetwork}
+use Rattle.ghs_protocol.specs.Net.{Net}
+use Rattle.peer_network.specs.Updates.{put}
+use Rattle.peer_network.specs.Network.{At, Network, far, far_port, port_at, InNetwork}
 use Rattle.ghs_protocol.specs.Nodes.{IsNodeOf}
 use Rattle.ghs_protocol.proofs.lemmas.WellFormed.{AreNodes}
 use Rattle.ghs_protocol.specs.Steps.{Step, Takes_one, Wakes_up, reacted, taken, waking}
 use Rattle.std.proofs.Common.{List, None, Option, Some, [], ap, ap₂, arith, false, get_or, inl, inr, length, refl, subst, suc, sym, true, ℕ, ⊎_elim, ◌++◌, ◌+◌, ◌<◌, ◌∙◌, ◌∷◌, ◌≡◌, ◌≢◌, ◌≤◌}
-use Rattle.ghs_protocol.proofs.lemmas.Wires.{at_in}
+use Rattle.peer_network.proofs.lemmas.Wires.{at_in}
 use Rattle.ghs_protocol.proofs.root.AtRoot.{at_root}
 
 -- the ways to the root after a row: that of v, where it sends the root on

@@ -8,16 +8,16 @@ use Rattle.ghs_node.specs.declared.message.Phase.TheVariants.{Sleeping, Find, Fo
 use Rattle.ghs_node.specs.declared.message.Message.{Message}
 use Rattle.ghs_node.specs.declared.message.Message.TheVariants.{Connect, Initiate, Accept, Reject, Report, ChangeRoot}
 use Rattle.ghs_node.specs.Words.{below, best_key, on_branches}
-use Rattle.ghs_protocol.specs.Network.{Network, port_at, At, far, far_port, InNetwork}
-use Rattle.ghs_protocol.proofs.lemmas.Wired.{IsWired}
-use Rattle.ghs_protocol.specs.Net.{put}
+use Rattle.peer_network.specs.Network.{Network, port_at, At, far, far_port, InNetwork}
+use Rattle.peer_network.proofs.lemmas.Wired.{IsWired}
+use Rattle.peer_network.specs.Updates.{put}
 use Rattle.ghs_protocol.proofs.clauses.Scene.{Member, Scene, acts}
 use Rattle.ghs_protocol.proofs.clauses.Changes.{left_tree, left_tests, left_accepts, left_rejects, rejected, marked, rules_out, took_reject, took_accept, took_report, took_initiate, took_rest, with_halt, halts_alone, pointing, sent_out, took_child, awakened}
 use Rattle.ghs_protocol.proofs.clauses.Wiring.{IsKeyed, Ground}
 use Rattle.ghs_protocol.proofs.clauses.Uniting.{MarksAre, SendsRoot, relabel, meet, absorb}
 use Rattle.ghs_protocol.proofs.clauses.Floors.{ScansInOrder, AllScan, Sound, Nearly, Tried}
 use Rattle.ghs_protocol.proofs.rows.Tried.{tried_same, tried_put, tried_relabel, tried_fewer, better_none, tried_woken}
-use Rattle.ghs_protocol.proofs.lemmas.Updates.{put_same, put_other}
+use Rattle.peer_network.proofs.lemmas.Updates.{put_same, put_other}
 use Rattle.ghs_protocol.proofs.tests.Links.{not_basic}
 use Rattle.ghs_protocol.proofs.acts.Situations.{probing_finds}
 use Rattle.ghs_protocol.proofs.tests.Steps.{accept_sends, reject_sends, crosses, hears_reject}

@@ -4,15 +4,15 @@ use Rattle.std.proofs.lemmas.Bool.{cases_eq}
 use Rattle.ghs_graph.specs.declared.key.Key.{Key}
 use Rattle.ghs_node.specs.Words.{Best, below, best_key, better}
 use Rattle.ghs_node.specs.declared.mark.Mark.TheVariants.{Basic, Branch}
-use Rattle.ghs_protocol.specs.Network.{Network, port_at, InNetwork}
-use Rattle.ghs_protocol.specs.Net.{put}
+use Rattle.peer_network.specs.Network.{Network, port_at, InNetwork}
+use Rattle.peer_network.specs.Updates.{put}
 use Rattle.ghs_protocol.proofs.clauses.Scene.{Member, Scene}
 use Rattle.ghs_protocol.proofs.clauses.Changes.{awakened}
 use Rattle.ghs_protocol.proofs.clauses.Nodes.{NodeFits, Untouched}
 use Rattle.ghs_protocol.proofs.clauses.Uniting.{relabel}
 use Rattle.ghs_protocol.proofs.clauses.Wiring.{Ground}
 use Rattle.ghs_protocol.proofs.clauses.Floors.{Floor, lower, Tried, AllTried}
-use Rattle.ghs_protocol.proofs.lemmas.Updates.{put_same, put_other}
+use Rattle.peer_network.proofs.lemmas.Updates.{put_same, put_other}
 use Rattle.ghs_protocol.proofs.acts.Floors.{below_lower}
 use Rattle.ghs_protocol.proofs.union.Floors.{joining_as}
 

@@ -7,8 +7,8 @@ use Rattle.ghs_node.specs.declared.mark.Mark.TheVariants.{Branch}
 use Rattle.ghs_node.specs.declared.message.Phase.TheVariants.{Find}
 use Rattle.ghs_node.specs.declared.message.Message.{Message}
 use Rattle.ghs_node.specs.declared.message.Message.TheVariants.{Report}
-use Rattle.ghs_protocol.specs.Network.{Network, port_at, At, far, far_port, InNetwork}
-use Rattle.ghs_protocol.proofs.lemmas.Wired.{IsWired}
+use Rattle.peer_network.specs.Network.{Network, port_at, At, far, far_port, InNetwork}
+use Rattle.peer_network.proofs.lemmas.Wired.{IsWired}
 use Rattle.ghs_protocol.proofs.clauses.Scene.{Seen, Member, Scene, End, tree_end, test_end, end, acts, far_end}
 use Rattle.ghs_protocol.proofs.clauses.Changes.{left_tree, left_accepts, seen_beyond, took_accept, took_report}
 use Rattle.ghs_protocol.proofs.clauses.TreeMessages.{Reported}

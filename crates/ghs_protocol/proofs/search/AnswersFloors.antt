@@ -9,9 +9,9 @@ use Rattle.ghs_node.specs.Words.{Best, is_branch, is_find, is_at, below, better,
 use Rattle.ghs_node.specs.declared.message.Phase.TheVariants.{Find, Found}
 use Rattle.ghs_node.specs.declared.message.Message.{Message}
 use Rattle.ghs_node.specs.declared.message.Message.TheVariants.{Report}
-use Rattle.ghs_protocol.specs.Network.{Network, port_at, At, far, InNetwork}
-use Rattle.ghs_protocol.proofs.lemmas.Wired.{IsWired}
-use Rattle.ghs_protocol.specs.Net.{put}
+use Rattle.peer_network.specs.Network.{Network, port_at, At, far, InNetwork}
+use Rattle.peer_network.proofs.lemmas.Wired.{IsWired}
+use Rattle.peer_network.specs.Updates.{put}
 use Rattle.ghs_protocol.proofs.clauses.Scene.{Seen, Member, Scene, End, TreeEnd, tree_end, test_end, end, acts, far_end}
 use Rattle.ghs_protocol.proofs.clauses.Changes.{left_tree, left_accepts, seen_beyond, took_accept, took_report, with_halt}
 use Rattle.ghs_protocol.proofs.clauses.Links.{Joins, Child}

@@ -8,9 +8,9 @@ use Rattle.ghs_node.specs.declared.message.Phase.{Phase}
 use Rattle.ghs_node.specs.declared.message.Phase.TheVariants.{Sleeping, Find, Found}
 use Rattle.ghs_node.specs.declared.message.Message.{Message}
 use Rattle.ghs_node.specs.declared.message.Message.TheVariants.{Report}
-use Rattle.ghs_protocol.specs.Network.{Network, port_at, At, far, far_port, InNetwork}
-use Rattle.ghs_protocol.proofs.lemmas.Wired.{IsWired}
-use Rattle.ghs_protocol.specs.Net.{put}
+use Rattle.peer_network.specs.Network.{Network, port_at, At, far, far_port, InNetwork}
+use Rattle.peer_network.proofs.lemmas.Wired.{IsWired}
+use Rattle.peer_network.specs.Updates.{put}
 use Rattle.ghs_protocol.proofs.clauses.Scene.{Seen, Member, Scene, End, tree_end, end, acts, far_end}
 use Rattle.ghs_protocol.proofs.clauses.Changes.{seen_beyond}
 use Rattle.ghs_protocol.proofs.clauses.Links.{Joins, Out, Child}
@@ -18,8 +18,8 @@ use Rattle.ghs_protocol.proofs.clauses.TreeMessages.{Moved}
 use Rattle.ghs_protocol.proofs.clauses.Rest.{Quiet, owes, debt, has_report, has_call}
 use Rattle.ghs_protocol.proofs.clauses.Whole.{Invariant, LinkFits, NamesOf}
 use Rattle.ghs_protocol.proofs.clauses.Floors.{Floor, lower, FloorsAt, NodeFloor, IsTreeLink, BranchesInTree, HaltedIsWhole, Floors, AllNodeFloors}
-use Rattle.ghs_protocol.proofs.lemmas.Updates.{put_same, put_other}
-use Rattle.ghs_protocol.proofs.lemmas.Sums.{term_le}
+use Rattle.peer_network.proofs.lemmas.Updates.{put_same, put_other}
+use Rattle.peer_network.proofs.lemmas.Sums.{term_le}
 use Rattle.ghs_protocol.proofs.acts.Ends.{acts_read}
 use Rattle.ghs_protocol.proofs.acts.SameForest.{near', far'}
 use Rattle.ghs_protocol.proofs.acts.OneLink.{by_port_at, sends_one}

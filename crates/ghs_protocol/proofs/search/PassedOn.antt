@@ -4,9 +4,9 @@ use Rattle.ghs_node.specs.declared.mark.Mark.{Mark}
 use Rattle.ghs_node.specs.declared.mark.Mark.TheVariants.{Basic, Branch, Rejected}
 use Rattle.ghs_node.specs.declared.message.Message.{Message}
 use Rattle.ghs_node.specs.Words.{is_branch, on_branches, on_branches_from}
-use Rattle.ghs_protocol.specs.Ledger.{sum_below}
+use Rattle.peer_network.specs.Sums.{sum_below}
 use Rattle.ghs_protocol.specs.Steps.{sent_on}
-use Rattle.ghs_protocol.proofs.lemmas.Sums.{sum_same}
+use Rattle.peer_network.proofs.lemmas.Sums.{sum_same}
 
 -- nothing goes out on a port that the walk has passed
 passed : (ms : List Mark) (q j p : ℕ) (m : Message) → p < q → sent_on (on_branches_from q ms j m) p ≡ []

@@ -7,13 +7,14 @@ use Rattle.ghs_node.specs.declared.mark.Mark.TheVariants.{Basic, Branch}
 use Rattle.ghs_node.specs.Words.{Outgoing}
 use Rattle.ghs_node.specs.declared.message.Phase.TheVariants.{Sleeping, Find}
 use Rattle.ghs_protocol.proofs.clauses.Wiring.{IsOrdered}
-use Rattle.ghs_protocol.specs.Network.{Network, port_at, At}
-use Rattle.ghs_protocol.specs.Net.{put, opening}
+use Rattle.peer_network.specs.Network.{Network, port_at, At}
+use Rattle.ghs_protocol.specs.Net.{opening}
+use Rattle.peer_network.specs.Updates.{put}
 use Rattle.ghs_protocol.proofs.clauses.Scene.{Seen, Member, Scene, scene, acts}
 use Rattle.ghs_protocol.proofs.clauses.Whole.{opening_ghost}
 use Rattle.ghs_protocol.proofs.clauses.UnderWay.{Lives}
 use Rattle.ghs_protocol.proofs.clauses.Floors.{Floors, ScansInOrder, AllScan, AllScanBut}
-use Rattle.ghs_protocol.proofs.lemmas.Updates.{put_same, put_other}
+use Rattle.peer_network.proofs.lemmas.Updates.{put_same, put_other}
 use Rattle.ghs_graph.proofs.lemmas.Keys.{lt_asymmetric, lt_irreflexive}
 use Rattle.ghs_protocol.proofs.wake.Opening.{unmarked}
 

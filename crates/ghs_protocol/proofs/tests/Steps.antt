@@ -6,10 +6,10 @@ use Rattle.ghs_node.specs.declared.mark.Mark.{Mark}
 use Rattle.ghs_node.specs.declared.mark.Mark.TheVariants.{Basic}
 use Rattle.ghs_node.specs.declared.message.Phase.TheVariants.{Sleeping, Find}
 use Rattle.ghs_node.specs.declared.message.Message.TheVariants.{Accept, Reject, Test}
-use Rattle.ghs_protocol.specs.Network.{Network, port_at, At, far, far_port, InNetwork}
-use Rattle.ghs_protocol.proofs.lemmas.Wired.{IsWired}
-use Rattle.ghs_protocol.specs.Net.{put}
-use Rattle.ghs_protocol.proofs.lemmas.Updates.{put_same, put_other}
+use Rattle.peer_network.specs.Network.{Network, port_at, At, far, far_port, InNetwork}
+use Rattle.peer_network.proofs.lemmas.Wired.{IsWired}
+use Rattle.peer_network.specs.Updates.{put}
+use Rattle.peer_network.proofs.lemmas.Updates.{put_same, put_other}
 use Rattle.ghs_protocol.proofs.clauses.Scene.{Seen, Member, Scene, End, tree_end, test_end, end, forest, acts, far_end}
 use Rattle.ghs_protocol.proofs.clauses.Changes.{left_tests, left_rejects, seen_beyond, rejected, marked, rules_out, took_reject}
 use Rattle.ghs_protocol.proofs.clauses.Nodes.{NodeFits}

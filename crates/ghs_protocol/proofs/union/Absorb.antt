@@ -9,8 +9,8 @@ use Rattle.ghs_node.specs.declared.mark.Mark.TheVariants.{Branch}
 use Rattle.ghs_node.specs.declared.message.Phase.TheVariants.{Sleeping, Find, Found}
 use Rattle.ghs_node.specs.declared.message.Message.{Message}
 use Rattle.ghs_node.specs.declared.message.Message.TheVariants.{Connect, Initiate}
-use Rattle.ghs_protocol.specs.Network.{Network, port_at, At, far, far_port, InNetwork}
-use Rattle.ghs_protocol.specs.Net.{put}
+use Rattle.peer_network.specs.Network.{Network, port_at, At, far, far_port, InNetwork}
+use Rattle.peer_network.specs.Updates.{put}
 use Rattle.ghs_protocol.specs.Interleavings.{HaveAtLeast}
 use Rattle.ghs_protocol.proofs.clauses.Scene.{Seen, adds, Member, Scene, End, end, tree_end, test_end, forest, acts, far_end}
 use Rattle.ghs_protocol.proofs.clauses.Changes.{left_tree, seen_beyond, took_child}
@@ -20,7 +20,7 @@ use Rattle.ghs_protocol.proofs.clauses.Rest.{Quiet, Resting, DebtsCounted, debt,
 use Rattle.ghs_protocol.proofs.clauses.Whole.{Invariant, NamesOf, LinkFits}
 use Rattle.ghs_protocol.proofs.clauses.Wiring.{Ground}
 use Rattle.ghs_protocol.proofs.clauses.Uniting.{absorb, joining}
-use Rattle.ghs_protocol.proofs.lemmas.Updates.{put_same, put_other, put_alike}
+use Rattle.peer_network.proofs.lemmas.Updates.{put_same, put_other, put_alike}
 use Rattle.ghs_protocol.proofs.acts.Ends.{here_seen, far_seen, other_seen}
 use Rattle.ghs_protocol.proofs.acts.SameForest.{near', far', branch_mark, not_branch}
 use Rattle.ghs_protocol.proofs.acts.OneLink.{sends_one, at_near, at_far, sums_one, there}

@@ -8,10 +8,10 @@ use Rattle.ghs_node.specs.declared.message.Phase.{Phase}
 use Rattle.ghs_node.specs.declared.message.Phase.TheVariants.{Sleeping, Find, Found}
 use Rattle.ghs_node.specs.declared.message.Message.{Message}
 use Rattle.ghs_node.specs.declared.message.Message.TheVariants.{Connect, Initiate, ChangeRoot, Report}
-use Rattle.ghs_protocol.specs.Network.{Network, port_at, At, far, far_port, InNetwork}
-use Rattle.ghs_protocol.proofs.lemmas.Wired.{IsWired}
+use Rattle.peer_network.specs.Network.{Network, port_at, At, far, far_port, InNetwork}
+use Rattle.peer_network.proofs.lemmas.Wired.{IsWired}
 use Rattle.ghs_protocol.specs.Marks.{Leads}
-use Rattle.ghs_protocol.specs.Net.{put}
+use Rattle.peer_network.specs.Updates.{put}
 use Rattle.ghs_protocol.proofs.clauses.Scene.{Seen, adds, Member, Scene, tree_end, end, acts, far_end}
 use Rattle.ghs_protocol.proofs.clauses.Changes.{left_tree, seen_beyond, took_child}
 use Rattle.ghs_protocol.proofs.clauses.Links.{Joins, Mutual}
@@ -20,7 +20,7 @@ use Rattle.ghs_protocol.proofs.clauses.Wiring.{Ground}
 use Rattle.ghs_protocol.proofs.clauses.Uniting.{absorb}
 use Rattle.ghs_protocol.proofs.clauses.Whole.{Invariant}
 use Rattle.ghs_protocol.proofs.clauses.Floors.{Floor, lower, owing, FloorsAt, IsTreeLink, Floors}
-use Rattle.ghs_protocol.proofs.lemmas.Updates.{put_same, put_other, put_alike}
+use Rattle.peer_network.proofs.lemmas.Updates.{put_same, put_other, put_alike}
 use Rattle.ghs_protocol.proofs.lemmas.Fragments.{leads_back}
 use Rattle.ghs_protocol.proofs.root.Ways.{leads_map}
 use Rattle.ghs_protocol.proofs.acts.Ends.{here_seen, far_seen}

@@ -7,15 +7,15 @@ use Rattle.ghs_node.specs.Words.{is_branch}
 use Rattle.ghs_node.specs.declared.message.Phase.TheVariants.{Sleeping}
 use Rattle.ghs_node.specs.declared.message.Message.{Message}
 use Rattle.ghs_node.specs.declared.message.Message.TheVariants.{Connect, Initiate}
-use Rattle.ghs_protocol.specs.Network.{Network, At, far, far_port, InNetwork}
-use Rattle.ghs_protocol.specs.Net.{put}
+use Rattle.peer_network.specs.Network.{Network, At, far, far_port, InNetwork}
+use Rattle.peer_network.specs.Updates.{put}
 use Rattle.ghs_protocol.proofs.clauses.Scene.{Seen, Member, Scene, end, acts}
 use Rattle.ghs_protocol.proofs.clauses.Changes.{left_tree, seen_beyond, took_child}
 use Rattle.ghs_protocol.proofs.clauses.Wiring.{Ground}
 use Rattle.ghs_protocol.proofs.clauses.Uniting.{absorb}
 use Rattle.ghs_protocol.proofs.clauses.Whole.{Invariant}
 use Rattle.ghs_protocol.proofs.clauses.UnderWay.{IsCore, Lives}
-use Rattle.ghs_protocol.proofs.lemmas.Updates.{put_same, put_other, put_alike}
+use Rattle.peer_network.proofs.lemmas.Updates.{put_same, put_other, put_alike}
 use Rattle.ghs_protocol.proofs.acts.OneLink.{sends_one}
 use Rattle.ghs_protocol.proofs.union.Absorb.{absorbs_in, came, below, way_not}
 use Rattle.ghs_protocol.proofs.tests.UnderWay.{touches_lives, near_asks, far_asks, near_brought, far_brought, near_heard, far_heard, brought_by_call}

@@ -7,9 +7,9 @@ use Rattle.ghs_node.specs.declared.mark.Mark.TheVariants.{Basic}
 use Rattle.ghs_node.specs.declared.message.Phase.TheVariants.{Find}
 use Rattle.ghs_node.specs.declared.message.Message.{Message}
 use Rattle.ghs_node.specs.declared.message.Message.TheVariants.{Connect, Initiate, Report, ChangeRoot}
-use Rattle.ghs_protocol.specs.Network.{Network, port_at, At, far, far_port, InNetwork}
-use Rattle.ghs_protocol.proofs.lemmas.Wired.{IsWired}
-use Rattle.ghs_protocol.specs.Net.{put}
+use Rattle.peer_network.specs.Network.{Network, port_at, At, far, far_port, InNetwork}
+use Rattle.peer_network.proofs.lemmas.Wired.{IsWired}
+use Rattle.peer_network.specs.Updates.{put}
 use Rattle.ghs_protocol.proofs.clauses.Scene.{Member, Scene, End, TreeEnd, tree_end, end, forest, acts, adds, far_end}
 use Rattle.ghs_protocol.proofs.clauses.Changes.{left_tree, seen_beyond}
 use Rattle.ghs_protocol.proofs.clauses.TreeMessages.{TreeFits, Chain, Upward, Nothing_up, Report_up, Downward, Initiates, Old_report, CoreFits, CoreQueue, Plain, With_report, Core, Moved, MovedFits, To_here, To_there, Stage, Asking, Called, Begun, AtStage, Served, asked, called}
@@ -18,7 +18,7 @@ use Rattle.ghs_protocol.proofs.clauses.Links.{Joins, Out, Ups}
 use Rattle.ghs_protocol.proofs.clauses.Fragments.{Root, Goes_out, Both_ways}
 use Rattle.ghs_protocol.proofs.clauses.Rest.{debt, Quiet, Resting, has_call}
 use Rattle.ghs_protocol.proofs.acts.SameForest.{quiet_after, branch_mark, not_branch}
-use Rattle.ghs_protocol.proofs.lemmas.Updates.{put_same, put_other}
+use Rattle.peer_network.proofs.lemmas.Updates.{put_same, put_other}
 use Rattle.ghs_protocol.proofs.acts.OneLink.{sends_one, sums_one, kept_at}
 use Rattle.ghs_protocol.proofs.search.ReportGone.{search_trees, debt_up}
 use Rattle.ghs_protocol.proofs.search.FirstReport.{Joint, joint, Down_here, Down_there, On_core, On_moved, mark_is}

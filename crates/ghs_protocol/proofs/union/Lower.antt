@@ -1,11 +1,11 @@
 -- The act of a node with which two fragments become one: what it leaves of all nodes, and who lies below the new level.
 use Rattle.std.proofs.Common.{◌≡◌, ℕ, suc, ◌<◌, ◌⊎◌, inl, inr, ⊎_elim, sym, ◌∙◌, arith}
 use Rattle.ghs_node.specs.Words.{Outgoing}
-use Rattle.ghs_protocol.specs.Network.{Network, far, InNetwork}
+use Rattle.peer_network.specs.Network.{Network, far, InNetwork}
 use Rattle.ghs_protocol.proofs.clauses.Scene.{Seen, Member, Scene, tree_end, end, far_end, acts}
 use Rattle.ghs_protocol.proofs.clauses.TreeMessages.{ConnectUnderWay}
 use Rattle.ghs_protocol.proofs.clauses.Whole.{Invariant}
-use Rattle.ghs_protocol.proofs.lemmas.Updates.{put_alike}
+use Rattle.peer_network.proofs.lemmas.Updates.{put_alike}
 
 -- fragments, what comes to them, levels and ways are as they were
 pub record SameParts (w w' : Scene) : Type 0 where

@@ -5,14 +5,14 @@ use Rattle.ghs_node.specs.declared.mark.Mark.TheVariants.{Branch}
 use Rattle.ghs_node.specs.declared.message.Phase.TheVariants.{Found}
 use Rattle.ghs_node.specs.declared.message.Message.{Message}
 use Rattle.ghs_node.specs.declared.message.Message.TheVariants.{Connect}
-use Rattle.ghs_protocol.specs.Network.{Network, port_at, At, far, far_port, InNetwork}
-use Rattle.ghs_protocol.specs.Net.{put}
+use Rattle.peer_network.specs.Network.{Network, port_at, At, far, far_port, InNetwork}
+use Rattle.peer_network.specs.Updates.{put}
 use Rattle.ghs_protocol.proofs.clauses.Scene.{Scene, End, end, acts, far_end}
 use Rattle.ghs_protocol.proofs.clauses.Changes.{left_tree, seen_beyond, sent_out}
 use Rattle.ghs_protocol.proofs.clauses.Whole.{Invariant}
 use Rattle.ghs_protocol.proofs.clauses.Wiring.{Ground}
 use Rattle.ghs_protocol.proofs.clauses.Uniting.{SendsRoot, meet}
-use Rattle.ghs_protocol.proofs.lemmas.Updates.{put_same, put_other}
+use Rattle.peer_network.proofs.lemmas.Updates.{put_same, put_other}
 use Rattle.ghs_protocol.proofs.search.ReportGone.{debt_up}
 use Rattle.ghs_protocol.proofs.root.AtRoot.{AtRoot, at_root}
 use Rattle.ghs_protocol.proofs.root.OldLink.{call_append}

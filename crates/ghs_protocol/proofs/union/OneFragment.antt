@@ -5,8 +5,8 @@ use Rattle.ghs_graph.specs.declared.key.Key.{Key}
 use Rattle.ghs_node.specs.declared.message.Phase.TheVariants.{Sleeping, Found}
 use Rattle.ghs_node.specs.declared.head.Head.{Head}
 use Rattle.ghs_node.specs.Words.{is_branch, is_find, is_at}
-use Rattle.ghs_protocol.specs.Network.{Network, port_at, At, far, far_port, InNetwork}
-use Rattle.ghs_protocol.proofs.lemmas.Wired.{IsWired}
+use Rattle.peer_network.specs.Network.{Network, port_at, At, far, far_port, InNetwork}
+use Rattle.peer_network.proofs.lemmas.Wired.{IsWired}
 use Rattle.ghs_protocol.specs.Marks.{Leads, Here, Over}
 use Rattle.ghs_protocol.specs.Interleavings.{HaveAtLeast}
 use Rattle.ghs_protocol.proofs.acts.Many.{many_as}
@@ -17,7 +17,7 @@ use Rattle.ghs_protocol.proofs.clauses.Links.{Joins, Out, Mutual}
 use Rattle.ghs_protocol.proofs.clauses.Fragments.{IsJoinedIn, Names, NamesWithin, LargeFragments, FragmentsJoined, JoinedWithin, JoinedLinksLead, Root, Goes_out, Both_ways, OneRoot, Reach, At_root, By_step, RootsReached, GhostsByFragment}
 use Rattle.ghs_protocol.proofs.clauses.Rest.{Alone, Named, Resting, has_call, has_report, owes, debt, debts, DebtsCounted}
 use Rattle.ghs_protocol.proofs.clauses.Whole.{Invariant, NamesOf, LinkFits, NodesFit}
-use Rattle.ghs_protocol.proofs.lemmas.Sums.{sum_same, term_le}
+use Rattle.peer_network.proofs.lemmas.Sums.{sum_same, term_le}
 use Rattle.ghs_protocol.proofs.search.ReportGone.{debt_one}
 use Rattle.ghs_protocol.proofs.acts.Situations.{probing_finds}
 use Rattle.ghs_protocol.proofs.union.Risen.{tree_named, Lifts, tree_lifted, tree_lifted_here, tree_lifted_there, search_lifted, search_lifted_there, tests_lifted, tests_lifted_here, tests_lifted_there}

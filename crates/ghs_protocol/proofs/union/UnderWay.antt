@@ -3,7 +3,7 @@ use Rattle.std.proofs.Common.{◌≡◌, ◌≢◌, ℕ, ◌<◌, true, Option, 
 use Rattle.ghs_node.specs.declared.mark.Mark.TheVariants.{Branch}
 use Rattle.ghs_node.specs.Words.{is_branch}
 use Rattle.ghs_graph.specs.declared.key.Key.{Key}
-use Rattle.ghs_protocol.specs.Network.{Network, port_at, At, far, far_port, InNetwork}
+use Rattle.peer_network.specs.Network.{Network, port_at, At, far, far_port, InNetwork}
 use Rattle.ghs_protocol.proofs.clauses.Scene.{Member, Scene, End, end, forest}
 use Rattle.ghs_protocol.proofs.clauses.Fragments.{Names}
 use Rattle.ghs_protocol.proofs.clauses.Wiring.{IsKeyed}

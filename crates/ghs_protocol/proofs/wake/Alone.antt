@@ -1,10 +1,10 @@
 -- A node without ports wakes and halts.
 use Rattle.std.proofs.Common.{◌≡◌, ◌≢◌, ℕ, [], refl, sym, ◌∙◌, ap, subst, length, arith}
 use Rattle.ghs_node.specs.declared.message.Phase.TheVariants.{Sleeping, Find, Found}
-use Rattle.ghs_protocol.specs.Network.{Network, At, far_port, InNetwork}
-use Rattle.ghs_protocol.proofs.lemmas.Wired.{IsWired}
-use Rattle.ghs_protocol.proofs.lemmas.Updates.{put_other}
-use Rattle.ghs_protocol.proofs.lemmas.Sums.{sum_same}
+use Rattle.peer_network.specs.Network.{Network, At, far_port, InNetwork}
+use Rattle.peer_network.proofs.lemmas.Wired.{IsWired}
+use Rattle.peer_network.proofs.lemmas.Updates.{put_other}
+use Rattle.peer_network.proofs.lemmas.Sums.{sum_same}
 use Rattle.ghs_protocol.proofs.clauses.Scene.{Member, Scene, acts}
 use Rattle.ghs_protocol.proofs.clauses.Changes.{halts_alone}
 use Rattle.ghs_protocol.proofs.clauses.Nodes.{NodeFits, Untouched}

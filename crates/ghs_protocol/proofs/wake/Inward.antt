@@ -7,9 +7,9 @@ use Rattle.ghs_node.specs.declared.mark.Mark.TheVariants.{Branch}
 use Rattle.ghs_node.specs.declared.message.Phase.TheVariants.{Sleeping, Find, Found}
 use Rattle.ghs_node.specs.declared.message.Message.TheVariants.{Connect}
 use Rattle.ghs_node.specs.Words.{Outgoing, is_branch, is_at}
-use Rattle.ghs_protocol.specs.Network.{Network, port_at, At, far, far_port, InNetwork}
-use Rattle.ghs_protocol.proofs.lemmas.Wired.{IsWired}
-use Rattle.ghs_protocol.specs.Ledger.{sum_below}
+use Rattle.peer_network.specs.Network.{Network, port_at, At, far, far_port, InNetwork}
+use Rattle.peer_network.proofs.lemmas.Wired.{IsWired}
+use Rattle.peer_network.specs.Sums.{sum_below}
 use Rattle.ghs_protocol.proofs.clauses.Scene.{Seen, adds, Member, Scene, End, TreeEnd, end, tree_end, test_end, forest, acts, far_end}
 use Rattle.ghs_protocol.proofs.clauses.Changes.{seen_beyond, awakened}
 use Rattle.ghs_protocol.proofs.clauses.Nodes.{NodeFits, Untouched}
@@ -20,7 +20,7 @@ use Rattle.ghs_protocol.proofs.clauses.Rest.{Quiet, has_call, owes, debt, DebtsC
 use Rattle.ghs_protocol.proofs.clauses.Whole.{Invariant, NamesOf, LinkFits}
 use Rattle.ghs_protocol.proofs.clauses.Wiring.{Ground}
 use Rattle.ghs_protocol.proofs.clauses.Uniting.{meet}
-use Rattle.ghs_protocol.proofs.lemmas.Updates.{put_same, put_other}
+use Rattle.peer_network.proofs.lemmas.Updates.{put_same, put_other}
 use Rattle.ghs_protocol.proofs.acts.Ends.{here_seen}
 use Rattle.ghs_protocol.proofs.acts.SameForest.{near', far', sums_after, branch_mark}
 use Rattle.ghs_protocol.proofs.acts.OneLink.{sends_one, debt_within}
@@ -30,8 +30,8 @@ use Rattle.ghs_protocol.proofs.search.FirstReport.{mark_is}
 use Rattle.ghs_protocol.proofs.root.OldLink.{report_append}
 use Rattle.ghs_protocol.proofs.union.Met.{meets}
 use Rattle.ghs_protocol.proofs.rows.Link.{node_clauses}
-use Rattle.ghs_protocol.proofs.lemmas.Wires.{at_in}
-use Rattle.ghs_protocol.specs.Net.{put}
+use Rattle.peer_network.proofs.lemmas.Wires.{at_in}
+use Rattle.peer_network.specs.Updates.{put}
 
 -- a node that isn't on the link, awake now, at level 0 as before
 abbrev pub woke : TreeEnd → Option ℕ → TreeEnd

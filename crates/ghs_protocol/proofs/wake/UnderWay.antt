@@ -4,8 +4,8 @@ use Rattle.ghs_node.specs.declared.mark.Mark.TheVariants.{Branch}
 use Rattle.ghs_node.specs.Words.{Outgoing}
 use Rattle.ghs_node.specs.declared.message.Phase.TheVariants.{Sleeping}
 use Rattle.ghs_node.specs.declared.message.Message.TheVariants.{Connect}
-use Rattle.ghs_protocol.specs.Network.{Network, port_at, At, far, far_port, InNetwork}
-use Rattle.ghs_protocol.proofs.lemmas.Wired.{IsWired}
+use Rattle.peer_network.specs.Network.{Network, port_at, At, far, far_port, InNetwork}
+use Rattle.peer_network.proofs.lemmas.Wired.{IsWired}
 use Rattle.ghs_protocol.proofs.clauses.Scene.{Member, Scene, acts}
 use Rattle.ghs_protocol.proofs.clauses.Changes.{awakened}
 use Rattle.ghs_protocol.proofs.clauses.Wiring.{Ground}

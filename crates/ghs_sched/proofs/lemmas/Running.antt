@@ -7,16 +7,17 @@ use Rattle.std.proofs.lemmas.List.Elements.{Contains-get_or}
 use Rattle.std.proofs.lemmas.Option.{get_or_from_slice_get, slice_get_within}
 use Rattle.ghs_graph.specs.Graph.{Shape}
 use Rattle.ghs_graph.proofs.lemmas.Members.{in_filter}
-use Rattle.ghs_protocol.specs.declared.event.Event.{Event}
+use Rattle.peer_network.specs.declared.event.Event.{Event}
 use Rattle.ghs_protocol.specs.Marks.{HasEnded}
 use Rattle.ghs_protocol.specs.Run.{net_after}
 use Rattle.ghs_core.specs.NetState.{network}
-use Rattle.ghs_world.specs.Ready.{all_events, is_ready, ready_events}
+use Rattle.ghs_world.specs.Ready.{is_ready, ready_events}
+use Rattle.peer_index.specs.Places.{all_events}
 use Rattle.ghs_world.specs.Steps.{IsSameWorld, Makes}
 use Rattle.ghs_world.specs.WorldState.{WorldState, has_turn, home, wakers}
 use Rattle.ghs_sched.specs.Picks.{IsPicked, lawful_events}
 use Rattle.ghs_sched.specs.Runs.{HasMadeNext, HasMadeOneOf, HasRun, IsWhole}
-use Rattle.ghs_sched.specs.Schedule.{next_of, word_of}
+use Rattle.peer_schedule.specs.Schedule.{next_of, word_of}
 use Rattle.ghs_sched.proofs.lemmas.Runs as runs
 
 -- with nothing out, what is ready is what is lawful

@@ -3,14 +3,15 @@ use Rattle.std.proofs.Common.{◌≡◌, ℕ, ◌+◌, ◌<◌, ◌≤◌, Bool,
 use Rattle.std.proofs.lemmas.Bool.{and_parts, ltb-true}
 use Rattle.std.proofs.lemmas.List.{length_push}
 use Rattle.ghs_graph.specs.Graph.{Shape}
-use Rattle.ghs_protocol.specs.declared.event.Event.{Event}
+use Rattle.peer_network.specs.declared.event.Event.{Event}
 use Rattle.ghs_protocol.specs.Marks.{HasEnded}
 use Rattle.ghs_protocol.specs.Run.{net_after}
 use Rattle.ghs_world.specs.Steps.{IsSameWorld, Makes}
-use Rattle.ghs_world.specs.declared.wake_set.WakeSet.{WakeSet}
-use Rattle.ghs_world.specs.Wakes.{may_wake}
+use Rattle.peer_network.specs.declared.wake_set.WakeSet.{WakeSet}
+use Rattle.peer_network.specs.Wakes.{may_wake}
 use Rattle.ghs_world.specs.WorldState.{WorldState, has_turn, home, wakers}
-use Rattle.ghs_sched.specs.Picks.{Begun, IsPick, IsPickedAmong, Offers, Picked}
+use Rattle.ghs_sched.specs.Picks.{Begun, IsPickedAmong, Offers, Picked}
+use Rattle.peer_schedule.specs.Picks.{IsPick}
 use Rattle.ghs_sched.specs.Runs.{HasMadeOneOf, HasRunAmong, HasRunBy}
 
 -- it begins with nothing out

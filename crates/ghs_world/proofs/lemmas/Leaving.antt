@@ -1,5 +1,5 @@
--- What an event leaves as it was, and the marks of an index that it changes.
-use Rattle.std.proofs.Common.{◌≡◌, ◌≢◌, ℕ, suc, ◌+◌, ◌<◌, ◌≤◌, Bool, true, ◌&&◌, List, [], ◌∷◌, map, length, drop, drop-cons, get_or, set, Some, refl, sym, ◌∙◌, ap, subst, arith}
+-- What an event leaves as it was.
+use Rattle.std.proofs.Common.{◌≡◌, ◌≢◌, ℕ, suc, ◌+◌, ◌<◌, ◌≤◌, Bool, true, ◌&&◌, List, [], ◌∷◌, map, length, drop, drop-cons, get_or, Some, refl, sym, ◌∙◌, ap, subst, arith}
 use Rattle.std.specs.List.{Contains}
 use Rattle.std.proofs.lemmas.Bool.{and_parts}
 use Rattle.std.proofs.lemmas.Option.{same_Some}
@@ -11,21 +11,19 @@ use Rattle.ghs_node.specs.declared.delta.Delta.{Delta}
 use Rattle.ghs_node.specs.Words.{Outgoing, is_sleeping}
 use Rattle.ghs_node.specs.NodeState.{NodeState}
 use Rattle.ghs_node.specs.Reaction.{reaction}
-use Rattle.ghs_protocol.specs.declared.event.Event.{Event}
-use Rattle.ghs_protocol.specs.declared.event.Event.TheVariants.{Wake, Take}
-use Rattle.ghs_protocol.specs.Network.{Network, network_of, far, far_port}
-use Rattle.ghs_protocol.specs.Net.{Net, send, send_all, change, take_first, left_of, is_node, is_port, is_waiting, is_lawful_under, happens}
+use Rattle.peer_network.specs.declared.event.Event.{Event}
+use Rattle.peer_network.specs.declared.event.Event.TheVariants.{Wake, Take}
+use Rattle.peer_network.specs.Network.{Network, network_of, far, far_port, is_node, is_port}
+use Rattle.ghs_protocol.specs.Net.{Net, send, send_all, change, take_first, left_of, is_waiting, is_lawful_under, happens}
 use Rattle.ghs_protocol.specs.Steps.{Happens, Woke, Took}
 use Rattle.ghs_protocol.proofs.lemmas.Effects.{taken_there}
-use Rattle.ghs_protocol.proofs.lemmas.Events.{happening, node_of, at_of, is_node_of, is_port_of}
-use Rattle.ghs_protocol.proofs.lemmas.Graphs.{graph_wired}
+use Rattle.ghs_protocol.proofs.lemmas.Events.{happening}
+use Rattle.peer_network.proofs.lemmas.Events.{node_of, at_of, is_node_of, is_port_of}
+use Rattle.peer_network.proofs.lemmas.Graphs.{graph_wired}
 use Rattle.ghs_protocol.proofs.lemmas.Sends.{node_there}
-use Rattle.ghs_protocol.proofs.lemmas.Updates.{put_at_miss}
+use Rattle.peer_network.proofs.lemmas.Updates.{put_at_miss}
 use Rattle.ghs_core.specs.NetState.{NetState, network, event_node, work_at, delivery, IsLawful}
-use Rattle.ghs_index.specs.Places.{HasPlace, place}
-use Rattle.ghs_index.specs.Index.{IndexState, IsIndexBut}
-use Rattle.ghs_index.proofs.lemmas.Marks.{but_set}
-use Rattle.ghs_world.specs.WorldState.{has_place}
+use Rattle.peer_index.specs.Places.{HasPlace, has_place}
 use Rattle.ghs_world.specs.Upkeep.{changed}
 
 pub place_there : (g : Network) (e : Event) → has_place g e ≡ true → HasPlace g e
@@ -106,12 +104,6 @@ module _ (g : Network) where
       ap (λ (n : NodeState). may u && (is_node g u && is_sleeping n.head.phase))
       (after.node u (λ z. (past (Wake (event_node e)) e (Wake u) _ none).0 (ap Wake z)))
   same_else may w w' e d (Take u q) after none = ap (λ (l : List Message). is_port g u q && is_waiting l) (after.queue u q none)
-
--- one event more is marked as it should be
-pub marked_one : (g : Network) (p : Event → Bool) (e : Event) (x y : IndexState) (marked : Bool) →
-    y ≡ record x { marks = set x.marks (place g e) marked } → marked ≡ p e → HasPlace g e →
-    (others : List Event) → IsIndexBut g p (e ∷ others) x → IsIndexBut g p others y
-marked_one g p e x y marked same right has others but = rw same (but_set g p e others x marked but has right)
 
 -- a far end is a port
 pub far_place : (g : Shape) (v p : ℕ) → IsGraph g → 1 ≤ v → v ≤ g.nodes → p < length (ports_of g.keys v) →

@@ -1,7 +1,7 @@
 -- What may happen, and what is ready, is lawful.
 use Rattle.std.proofs.Common.{◌≡◌, true}
 use Rattle.std.proofs.lemmas.Bool.{and_parts}
-use Rattle.ghs_protocol.specs.declared.event.Event.{Event}
+use Rattle.peer_network.specs.declared.event.Event.{Event}
 use Rattle.ghs_protocol.proofs.lemmas.Runs.{lawful_under}
 use Rattle.ghs_core.specs.NetState.{IsLawful, network}
 use Rattle.ghs_world.specs.Ready.{is_ready}

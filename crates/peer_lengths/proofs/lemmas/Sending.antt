@@ -3,10 +3,10 @@ use Rattle.std.proofs.Common.{◌≡◌, ℕ, ◌+◌, Option, Some, None, List,
 use Rattle.std.specs.Prelude.{option_and_then}
 use Rattle.std.proofs.lemmas.List.{length-map}
 use Rattle.std.proofs.lemmas.Option.{same_Some}
-use Rattle.ghs_protocol.specs.declared.event.Event.{Event}
-use Rattle.ghs_protocol.specs.declared.event.Event.TheVariants as events
-use Rattle.ghs_protocol.specs.Network.{Network}
-use Rattle.ghs_protocol.proofs.lemmas.Sums.{sum_none}
+use Rattle.peer_network.specs.declared.event.Event.{Event}
+use Rattle.peer_network.specs.declared.event.Event.TheVariants as events
+use Rattle.peer_network.specs.Network.{Network}
+use Rattle.peer_network.proofs.lemmas.Sums.{sum_none}
 use Rattle.peer_machine.specs.Rules.{Rules, Outcome, HasKinds, messages}
 use Rattle.peer_machine.specs.Net.{Net, opening, happens, take_first}
 use Rattle.peer_machine.specs.Run.{run, IsAfter}

@@ -1,13 +1,12 @@
 -- In every net of a run what was sent was consumed or waits.
 use Rattle.std.proofs.Common.{◌≡◌, ℕ, zero, suc, ◌+◌, ◌<◌, ◌≤◌, ◌==◌, true, List, [], ◌∷◌, ◌++◌, length, refl, sym, ◌∙◌, ap, cond, arith, ltb-true, eq-eqb, ne_eqb}
 use Rattle.std.proofs.lemmas.Bool.{and_parts}
-use Rattle.ghs_protocol.specs.declared.event.Event.{Event}
-use Rattle.ghs_protocol.specs.Network.{Network, far, far_port, At}
-use Rattle.ghs_protocol.specs.Ledger.{sum_below, sum_over_ports}
-use Rattle.ghs_protocol.proofs.lemmas.Wired.{IsWired}
-use Rattle.ghs_protocol.proofs.lemmas.Updates.{put_at_same, put_at_miss}
-use Rattle.ghs_protocol.proofs.lemmas.Sends.{put_count}
-use Rattle.ghs_protocol.proofs.lemmas.Sums.{sum_same, sum_add, sum_none, sum_one, ports_one, ports_none, ports_same, ports_add}
+use Rattle.peer_network.specs.declared.event.Event.{Event}
+use Rattle.peer_network.specs.Network.{Network, far, far_port, At}
+use Rattle.peer_network.specs.Sums.{sum_below, sum_over_ports}
+use Rattle.peer_network.proofs.lemmas.Wired.{IsWired}
+use Rattle.peer_network.proofs.lemmas.Updates.{put_at_same, put_at_miss, put_count}
+use Rattle.peer_network.proofs.lemmas.Sums.{sum_same, sum_add, sum_none, sum_one, ports_one, ports_none, ports_same, ports_add}
 use Rattle.peer_machine.specs.Rules.{Rules, Outgoing, HasKinds}
 use Rattle.peer_machine.specs.Net.{Net, opening, put_at, send, send_all, take_first, are_on_ports}
 use Rattle.peer_machine.specs.Run.{IsAfter}

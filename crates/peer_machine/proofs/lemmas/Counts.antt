@@ -2,11 +2,11 @@
 use Rattle.std.proofs.Common.{◌≡◌, ℕ, suc, ◌+◌, ◌≤◌, ◌==◌, List, [], ◌∷◌, length, refl, sym, ◌∙◌, ap, cond, arith, Some, add-zero}
 use Rattle.std.proofs.lemmas.List.{length-map}
 use Rattle.std.proofs.lemmas.Option.{same_Some}
-use Rattle.ghs_protocol.specs.declared.event.Event.{Event}
-use Rattle.ghs_protocol.specs.Network.{Network}
-use Rattle.ghs_protocol.specs.Ledger.{takes_in}
-use Rattle.ghs_protocol.proofs.lemmas.Sends.{put_count}
-use Rattle.ghs_protocol.proofs.lemmas.Sums.{sum_same, sum_add, sum_none}
+use Rattle.peer_network.specs.declared.event.Event.{Event}
+use Rattle.peer_network.specs.Network.{Network}
+use Rattle.peer_network.specs.Events.{takes_in}
+use Rattle.peer_network.proofs.lemmas.Updates.{put_count}
+use Rattle.peer_network.proofs.lemmas.Sums.{sum_same, sum_add, sum_none}
 use Rattle.peer_machine.specs.Rules.{Rules, Outcome, HasKinds, messages}
 use Rattle.peer_machine.specs.Net.{Net, opening, happens, reacted, take_first}
 use Rattle.peer_machine.specs.Run.{run, IsAfter}

@@ -2,10 +2,10 @@
 use Rattle.std.proofs.Common.{◌≡◌, ℕ, ◌≤◌, true, nat_lt, List, [], ◌∷◌, length, refl, ◌∙◌, ap, subst, Option, Some, None, lt-ltb, arith}
 use Rattle.std.proofs.lemmas.Bool.{and_parts, and_from}
 use Rattle.std.proofs.lemmas.Option.{same_Some}
-use Rattle.ghs_protocol.specs.declared.event.Event.{Event}
-use Rattle.ghs_protocol.specs.declared.event.Event.TheVariants as events
-use Rattle.ghs_protocol.specs.Network.{Network, At}
-use Rattle.ghs_protocol.proofs.lemmas.Events.{if_some, node_of, is_node_of, at_of, is_port_of}
+use Rattle.peer_network.specs.declared.event.Event.{Event}
+use Rattle.peer_network.specs.declared.event.Event.TheVariants as events
+use Rattle.peer_network.specs.Network.{Network, At}
+use Rattle.peer_network.proofs.lemmas.Events.{if_some, node_of, is_node_of, at_of, is_port_of}
 use Rattle.peer_machine.specs.declared.work.Work.TheVariants.{Wake, Deliver}
 use Rattle.peer_machine.specs.Rules.{Rules, Outcome}
 use Rattle.peer_machine.specs.Net.{Net, is_lawful, are_on_ports, reacted, take_first, if_reacted, takes_from, effect, happens}

@@ -1,8 +1,8 @@
 -- What an event leaves at other nodes than its own.
 use Rattle.std.proofs.Common.{◌≡◌, ◌≢◌, ℕ, List, ◌++◌, ◌∙◌, ap}
-use Rattle.ghs_protocol.specs.declared.event.Event.{Event}
-use Rattle.ghs_protocol.specs.Network.{Network, far, far_port}
-use Rattle.ghs_protocol.proofs.lemmas.Updates.{put_at_node}
+use Rattle.peer_network.specs.declared.event.Event.{Event}
+use Rattle.peer_network.specs.Network.{Network, far, far_port}
+use Rattle.peer_network.proofs.lemmas.Updates.{put_at_node}
 use Rattle.peer_machine.specs.Rules.{Rules, Outcome}
 use Rattle.peer_machine.specs.Net.{Net, put, event_node, reacted, take_first}
 use Rattle.peer_machine.specs.Steps.{Happens, Woke, Took}

@@ -1,8 +1,7 @@
 -- What sends change, and what they leave.
 use Rattle.std.proofs.Common.{◌≡◌, ◌≢◌, ℕ, suc, ◌+◌, List, [], ◌∷◌, ◌++◌, refl, sym, ◌∙◌, ap, ⊎_elim, add-zero, arith, append-nil, append_assoc}
-use Rattle.ghs_protocol.specs.Network.{Network, far, far_port}
-use Rattle.ghs_protocol.proofs.lemmas.Sends.{put_count}
-use Rattle.ghs_protocol.proofs.lemmas.Updates.{put_same, put_other, put_at_hit, put_at_miss, one_place}
+use Rattle.peer_network.specs.Network.{Network, far, far_port}
+use Rattle.peer_network.proofs.lemmas.Updates.{put_count, put_same, put_other, put_at_hit, put_at_miss, one_place}
 use Rattle.peer_machine.specs.Rules.{Rules, Outcome, Outgoing, messages}
 use Rattle.peer_machine.specs.Net.{Net, put, send, send_all, reacted}
 use Rattle.peer_machine.specs.Ledger.{of_kind}

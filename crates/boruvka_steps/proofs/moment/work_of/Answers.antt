@@ -1,5 +1,5 @@
 use Rattle.std.proofs.Common.{subst}
-use Rattle.ghs_protocol.specs.declared.event.Event.{Event}
+use Rattle.peer_network.specs.declared.event.Event.{Event}
 use Rattle.peer_net.specs.NetState.{IsLawful}
 use Rattle.boruvka_node.specs.Boruvka.{boruvka}
 use Rattle.boruvka_steps.proofs.Lawful.{lawful_port}

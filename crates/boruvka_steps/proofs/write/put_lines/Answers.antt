@@ -1,5 +1,5 @@
 use Rattle.std.proofs.Common.{◌∙◌}
-use Rattle.ghs_protocol.specs.declared.event.Event.TheVariants.{Wake}
+use Rattle.peer_network.specs.declared.event.Event.TheVariants.{Wake}
 use Rattle.boruvka_steps.proofs.Going.{grown, lines_put, next_lawful}
 use Rattle.boruvka_steps.proofs.write.put_lines.Goals as goal
 

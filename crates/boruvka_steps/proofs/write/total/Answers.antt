@@ -1,5 +1,5 @@
 use Rattle.std.proofs.Common.{◌∙◌}
-use Rattle.ghs_protocol.proofs.lemmas.Sums.{sum_same}
+use Rattle.peer_network.proofs.lemmas.Sums.{sum_same}
 use Rattle.boruvka_steps.proofs.write.total.Goals as goal
 
 pub returns : goal.returns

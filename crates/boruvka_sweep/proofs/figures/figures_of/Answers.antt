@@ -1,5 +1,5 @@
 use Rattle.std.proofs.Common.{◌≡◌, ◌≤◌, ◌∙◌, ap, arith, rules, slice_index}
-use Rattle.ghs_protocol.proofs.lemmas.Sums.{sum_same}
+use Rattle.peer_network.proofs.lemmas.Sums.{sum_same}
 use Rattle.peer_machine.specs.Ledger.{in_all}
 use Rattle.boruvka_node.specs.Boruvka.{boruvka}
 use Rattle.boruvka_protocol.specs.Bound.{bound_of}

@@ -1,5 +1,5 @@
 use Rattle.std.proofs.Common.{◌+◌, ap, arith, length}
-use Rattle.ghs_protocol.proofs.lemmas.Graphs.{graph_few}
+use Rattle.peer_network.proofs.lemmas.Graphs.{graph_few}
 use Rattle.ghs_chain.proofs.Flat.{ports_few}
 use Rattle.ghs_chain.proofs.rows.lay_bases.Goals as goal
 

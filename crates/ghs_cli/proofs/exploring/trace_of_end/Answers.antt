@@ -1,5 +1,5 @@
 use Rattle.std.proofs.Common.{◌≤◌, length, rules, ap, ◌∙◌}
-use Rattle.ghs_sched.specs.Text.{trace_text}
+use Rattle.peer_texts.specs.Text.{trace_text}
 use Rattle.ghs_cli.proofs.Explorations.{run_printed}
 use Rattle.ghs_cli.proofs.exploring.trace_of_end.Goals as goal
 

@@ -1,6 +1,6 @@
 use Rattle.std.proofs.Common.{List, subst}
 use Rattle.std.specs.Prelude.{IfErr, IfOk}
-use Rattle.ghs_protocol.specs.declared.event.Event.{Event}
+use Rattle.peer_network.specs.declared.event.Event.{Event}
 use Rattle.ghs_cli.specs.Serving.{IsReplayedBy, IsRunCauseBy}
 use Rattle.ghs_cli.proofs.Serves.{faults_together, replay_output}
 use Rattle.ghs_cli.proofs.replaying.replay_text_of.Goals as goal

@@ -1,5 +1,5 @@
 use Rattle.std.proofs.Common.{IfSome, List, rules, subst, sym}
-use Rattle.ghs_protocol.specs.declared.event.Event.{Event}
+use Rattle.peer_network.specs.declared.event.Event.{Event}
 use Rattle.peer_trace.specs.declared.protocol.Protocol.TheVariants.{Ghs}
 use Rattle.ghs_cli.specs.Serving.{IsTraceText}
 use Rattle.ghs_cli.proofs.Stepped.{serves_lines, serves_unshown}

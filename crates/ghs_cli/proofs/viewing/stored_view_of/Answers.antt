@@ -1,6 +1,6 @@
 use Rattle.std.proofs.Common.{List, subst}
 use Rattle.std.specs.Prelude.{IfErr, IfOk}
-use Rattle.ghs_protocol.specs.declared.event.Event.{Event}
+use Rattle.peer_network.specs.declared.event.Event.{Event}
 use Rattle.ghs_cli.specs.Viewing.{HasNoStoredViewBy, IsStoredViewBy}
 use Rattle.ghs_cli.proofs.Views.{stored_view_cause, stored_view_output}
 use Rattle.ghs_cli.proofs.viewing.stored_view_of.Goals as goal

@@ -1,9 +1,10 @@
 use Rattle.std.proofs.Common.{◌≡◌, ◌∙◌, true, List, subst, sym}
 use Rattle.std.specs.List.{All}
 use Rattle.std.proofs.lemmas.List.Elements.{filter_passes}
-use Rattle.ghs_protocol.specs.declared.event.Event.{Event}
+use Rattle.peer_network.specs.declared.event.Event.{Event}
 use Rattle.ghs_core.specs.NetState.{network}
-use Rattle.ghs_world.specs.Ready.{all_events, is_ready}
+use Rattle.ghs_world.specs.Ready.{is_ready}
+use Rattle.peer_index.specs.Places.{all_events}
 use Rattle.ghs_hand.proofs.seen.seen.Goals as goal
 
 pub put_choices-requires : goal.put_choices-requires

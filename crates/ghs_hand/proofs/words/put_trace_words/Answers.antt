@@ -1,6 +1,6 @@
 use Rattle.std.proofs.Common.{◌≡◌, ◌++◌, subst, sym}
 use Rattle.std.specs.Prelude.{IfOk}
-use Rattle.ghs_sched.specs.declared.fault.TraceFault.{TraceFault}
+use Rattle.peer_texts.specs.declared.fault.TraceFault.{TraceFault}
 use Rattle.ghs_hand.specs.Words.{trace_words}
 use Rattle.ghs_hand.proofs.words.put_trace_words.Goals as goal
 

@@ -1,8 +1,8 @@
 use Rattle.std.proofs.Common.{◌≡◌, ◌+◌, ◌∙◌, ◌++◌, ◌∷◌, [], List, ap, arith, sym, take}
 use Rattle.std.specs.List.{slice_index_or}
 use Rattle.std.proofs.lemmas.List.{take_all, take_more}
-use Rattle.ghs_protocol.specs.declared.event.Event.{Event}
-use Rattle.ghs_protocol.specs.declared.event.Event.TheVariants.{Wake}
+use Rattle.peer_network.specs.declared.event.Event.{Event}
+use Rattle.peer_network.specs.declared.event.Event.TheVariants.{Wake}
 use Rattle.ghs_parts.specs.Tally.{parts_kept}
 use Rattle.ghs_steps.proofs.lemmas.{lawful_net}
 use Rattle.ghs_parts.proofs.Tallying.{kept_count, kept_parts, parts_listed}

@@ -1,5 +1,5 @@
 use Rattle.std.proofs.Common.{List, subst, sym}
-use Rattle.ghs_protocol.specs.declared.event.Event.{Event}
+use Rattle.peer_network.specs.declared.event.Event.{Event}
 use Rattle.ghs_sched.specs.Picks.{lawful_events}
 use Rattle.ghs_patient.specs.Runs.{patient_after}
 use Rattle.ghs_picking.proofs.BySeed.{HasGoneOn, at_limit_patient, gone_among, is_seeded, on_ok_patient, on_ok_seeded}

@@ -1,4 +1,4 @@
-use Rattle.ghs_protocol.specs.declared.event.Event.TheVariants.{Take}
+use Rattle.peer_network.specs.declared.event.Event.TheVariants.{Take}
 use Rattle.ghs_picking.proofs.Happening.{made_kept}
 use Rattle.ghs_picking.proofs.making.put_back.Goals as goal
 

@@ -4,7 +4,7 @@ use Rattle.ghs_protocol.specs.Run.{IsRun}
 use Rattle.ghs_protocol.specs.Laws.{IsNetOf}
 use Rattle.ghs_graph.specs.Graph.{IsGraph}
 use Rattle.ghs_world.specs.WorldState.{home, wakers}
-use Rattle.ghs_world.proofs.lemmas.Waking.{each_is_woken}
+use Rattle.peer_network.proofs.lemmas.Waking.{each_is_woken}
 use Rattle.ghs_patient.proofs.lemmas.Picks.{is_net, pickable, seconds_go, some_patient}
 use Rattle.ghs_core.proofs.lemmas.Reacting.{answer_sends}
 use Rattle.ghs_patient.proofs.lemmas.Ports.{marks_own}

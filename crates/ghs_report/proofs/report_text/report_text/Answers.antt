@@ -5,7 +5,7 @@ use Rattle.ghs_graph.specs.declared.key.Key.{Key}
 use Rattle.ghs_protocol.specs.Ledger.{in_all}
 use Rattle.ghs_protocol.specs.Net.{Net}
 use Rattle.ghs_protocol.specs.Marks.{HasEnded}
-use Rattle.ghs_protocol.proofs.lemmas.Sums.{sum_same}
+use Rattle.peer_network.proofs.lemmas.Sums.{sum_same}
 use Rattle.ghs_report.proofs.Counts.{same_bound, same_line}
 use Rattle.ghs_report.specs.ReportText.{messages_line, sends_line}
 use Rattle.ghs_report.specs.TreeText.{tree_text}

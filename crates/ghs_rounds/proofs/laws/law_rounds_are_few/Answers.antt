@@ -1,5 +1,5 @@
 use Rattle.std.proofs.Common.{◌≤◌, arith}
-use Rattle.ghs_protocol.specs.Network.{network_of}
+use Rattle.peer_network.specs.Network.{network_of}
 use Rattle.ghs_chain.specs.Chains.{longest_chain}
 use Rattle.ghs_rounds.proofs.Steps.{Promised}
 use Rattle.ghs_rounds.proofs.Told.{rounds_are_near, told}

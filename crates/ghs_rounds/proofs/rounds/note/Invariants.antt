@@ -1,5 +1,5 @@
 use Rattle.std.proofs.Common.{◌≡◌, ◌++◌, drop}
-use Rattle.ghs_protocol.specs.Network.{network_of}
+use Rattle.peer_network.specs.Network.{network_of}
 use Rattle.ghs_patient.specs.Choices.{far_takes}
 use Rattle.ghs_rounds.proofs.rounds.note.Given as goal
 

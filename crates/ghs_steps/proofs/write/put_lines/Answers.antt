@@ -1,5 +1,5 @@
 use Rattle.std.proofs.Common.{◌∙◌}
-use Rattle.ghs_protocol.specs.declared.event.Event.TheVariants.{Wake}
+use Rattle.peer_network.specs.declared.event.Event.TheVariants.{Wake}
 use Rattle.ghs_steps.proofs.Going.{lawful_net, lines_put, trace_more}
 use Rattle.ghs_steps.proofs.write.put_lines.Goals as goal
 

@@ -1,5 +1,5 @@
 use Rattle.std.proofs.Common.{◌+◌, ◌++◌, ◌∙◌, ap, refl}
-use Rattle.ghs_protocol.specs.Net.{event_node}
+use Rattle.peer_network.specs.Events.{event_node}
 use Rattle.ghs_core.specs.NetState.{net_of}
 use Rattle.ghs_steps.proofs.Stepping.{put_is}
 use Rattle.ghs_steps.proofs.write.put_step.Goals as goal

@@ -1,6 +1,6 @@
 use Rattle.std.proofs.Common.{◌≡◌, ◌+◌, ◌∙◌, arith, take}
 use Rattle.std.proofs.lemmas.List.{take_all}
-use Rattle.ghs_protocol.specs.declared.event.Event.TheVariants.{Wake}
+use Rattle.peer_network.specs.declared.event.Event.TheVariants.{Wake}
 use Rattle.ghs_report.specs.declared.portions.WriteFault.TheVariants.{Memory}
 use Rattle.ghs_steps.proofs.Going.{front_of_all, lawful_net, out_shown, trace_more}
 use Rattle.ghs_report.proofs.lemmas.Gone.{out_all, out_front}

@@ -1,7 +1,7 @@
 use Rattle.std.proofs.Common.{◌∙◌, ap, List}
 use Rattle.ghs_graph.specs.Graph.{Shape}
 use Rattle.ghs_picking.specs.Lengths.{lengths_of}
-use Rattle.ghs_protocol.specs.declared.event.Event.{Event}
+use Rattle.peer_network.specs.declared.event.Event.{Event}
 use Rattle.ghs_sweep.proofs.figures.figures_of.Goals as goal
 
 pub figures_with-requires : goal.figures_with-requires

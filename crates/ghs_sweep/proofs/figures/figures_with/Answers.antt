@@ -3,7 +3,7 @@ use Rattle.ghs_core.specs.NetState.{net_of}
 use Rattle.ghs_graph.specs.Bound.{IsBound}
 use Rattle.ghs_protocol.specs.Ledger.{in_all}
 use Rattle.ghs_protocol.specs.Net.{Net}
-use Rattle.ghs_protocol.proofs.lemmas.Sums.{sum_same}
+use Rattle.peer_network.proofs.lemmas.Sums.{sum_same}
 use Rattle.ghs_sweep.proofs.figures.figures_with.Goals as goal
 
 -- what was sent is within the bound, which is a number of 64 bits

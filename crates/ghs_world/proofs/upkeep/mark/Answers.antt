@@ -1,6 +1,7 @@
 use Rattle.ghs_core.specs.NetState.{network}
 use Rattle.ghs_world.specs.Upkeep.{lawful_in}
-use Rattle.ghs_world.proofs.lemmas.Leaving.{place_there, marked_one}
+use Rattle.ghs_world.proofs.lemmas.Leaving.{place_there}
+use Rattle.peer_index.proofs.lemmas.Marks.{marked_one}
 use Rattle.ghs_world.proofs.upkeep.mark.Goals as goal
 
 pub returns : goal.returns

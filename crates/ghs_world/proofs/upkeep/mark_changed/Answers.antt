@@ -1,6 +1,6 @@
 use Rattle.std.proofs.Math.ListN.{drop_of_length-le}
 use Rattle.ghs_core.specs.NetState.{network, event_node}
-use Rattle.ghs_index.proofs.lemmas.Marks.{of_but}
+use Rattle.peer_index.proofs.lemmas.Marks.{of_but}
 use Rattle.ghs_world.specs.Upkeep.{lawful_in}
 use Rattle.ghs_world.proofs.Arriving.{arrival_marked, sent_port}
 use Rattle.ghs_world.proofs.upkeep.mark_changed.Goals as goal

@@ -1,6 +1,6 @@
 use Rattle.std.proofs.Common.{drop}
 use Rattle.ghs_core.specs.NetState.{network, event_node}
-use Rattle.ghs_index.specs.Index.{IsIndexBut}
+use Rattle.peer_index.specs.Index.{IsIndexBut}
 use Rattle.ghs_world.specs.Upkeep.{lawful_in}
 use Rattle.ghs_world.proofs.lemmas.Leaving.{arrivals}
 use Rattle.ghs_world.proofs.upkeep.mark_changed.Given as goal

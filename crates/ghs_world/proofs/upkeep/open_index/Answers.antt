@@ -1,12 +1,11 @@
 use Rattle.std.proofs.Common.{◌≡◌, ◌≤◌, ◌+◌, ◌-◌, ◌∙◌, sym, subst, arith, List, ℕ}
-use Rattle.ghs_protocol.specs.declared.event.Event.{Event}
-use Rattle.ghs_protocol.specs.declared.event.Event.TheVariants.{Wake}
-use Rattle.ghs_protocol.specs.Network.{network_of}
-use Rattle.ghs_index.specs.Index.{IsIndexBut}
-use Rattle.ghs_index.proofs.lemmas.Marks.{of_but}
+use Rattle.peer_network.specs.declared.event.Event.{Event}
+use Rattle.peer_network.specs.declared.event.Event.TheVariants.{Wake}
+use Rattle.peer_network.specs.Network.{network_of}
+use Rattle.peer_index.specs.Index.{IsIndexBut}
+use Rattle.peer_index.proofs.lemmas.Marks.{of_but, marked_one}
 use Rattle.ghs_world.specs.Upkeep.{lawful_first}
 use Rattle.ghs_world.proofs.Changing.{wakes, none_but_wakes, first_wake, one_wake_less}
-use Rattle.ghs_world.proofs.lemmas.Leaving.{marked_one}
 use Rattle.ghs_world.proofs.upkeep.open_index.Goals as goal
 
 pub loop-v-init : goal.loop-v-init

@@ -1,6 +1,6 @@
 use Rattle.std.proofs.Common.{◌+◌, ◌-◌}
-use Rattle.ghs_protocol.specs.Network.{network_of}
-use Rattle.ghs_index.specs.Index.{IsIndexBut}
+use Rattle.peer_network.specs.Network.{network_of}
+use Rattle.peer_index.specs.Index.{IsIndexBut}
 use Rattle.ghs_world.specs.Upkeep.{lawful_first}
 use Rattle.ghs_world.proofs.Changing.{wakes}
 use Rattle.ghs_world.proofs.upkeep.open_index.Given as goal

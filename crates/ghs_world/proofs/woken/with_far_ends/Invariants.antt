@@ -1,5 +1,5 @@
 use Rattle.std.proofs.Common.{◌≡◌, take}
-use Rattle.ghs_protocol.specs.Network.{network_of}
+use Rattle.peer_network.specs.Network.{network_of}
 use Rattle.ghs_world.specs.Steps.{touched}
 use Rattle.ghs_world.proofs.woken.with_far_ends.Given as goal
 

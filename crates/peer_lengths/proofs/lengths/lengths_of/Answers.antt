@@ -2,7 +2,7 @@ use Rattle.std.proofs.Common.{◌∙◌, arith, subst, sym}
 use Rattle.std.specs.List.{slice_index_or}
 use Rattle.std.proofs.lemmas.List.{take_all}
 use Rattle.ghs_graph.specs.Graph.{Shape}
-use Rattle.ghs_protocol.specs.declared.event.Event.TheVariants.{Wake}
+use Rattle.peer_network.specs.declared.event.Event.TheVariants.{Wake}
 use Rattle.ghs_following.proofs.lemmas.Moved.{moved}
 use Rattle.peer_machine.specs.Rules.{messages}
 use Rattle.peer_net.specs.NetState.{net_of}

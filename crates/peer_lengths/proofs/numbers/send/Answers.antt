@@ -2,8 +2,8 @@ use Rattle.std.proofs.Common.{◌<◌, ℕ, [], arith, length, take}
 use Rattle.std.proofs.lemmas.List.Elements.{All-nil, All-cons}
 use Rattle.ghs_graph.specs.Ports.{ports_of}
 use Rattle.ghs_node.specs.declared.message.Message.{Message}
-use Rattle.ghs_protocol.specs.Network.{far, far_port, network_of}
-use Rattle.ghs_protocol.proofs.lemmas.Graphs.{graph_wired}
+use Rattle.peer_network.specs.Network.{far, far_port, network_of}
+use Rattle.peer_network.proofs.lemmas.Graphs.{graph_wired}
 use Rattle.ghs_chain.specs.Kept.{HasPlace}
 use Rattle.ghs_chain.proofs.lemmas.Following.{fits_kept, place_at}
 use Rattle.peer_lengths.proofs.Numbering.{number_kept, one_numbered}

@@ -1,5 +1,5 @@
 use Rattle.std.proofs.Common.{◌≡◌, take}
-use Rattle.ghs_protocol.specs.Network.{network_of}
+use Rattle.peer_network.specs.Network.{network_of}
 use Rattle.ghs_chain.specs.Kept.{Fits, seen}
 use Rattle.peer_lengths.specs.Chain.{numbered}
 use Rattle.peer_lengths.proofs.numbers.send.Given as goal

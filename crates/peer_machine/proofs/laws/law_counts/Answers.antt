@@ -1,4 +1,4 @@
-use Rattle.ghs_protocol.specs.Network.{network_of}
+use Rattle.peer_network.specs.Network.{network_of}
 use Rattle.peer_machine.specs.Net.{opening}
 use Rattle.peer_machine.proofs.lemmas.Runs.{run_joins}
 use Rattle.peer_machine.proofs.lemmas.Counts.{run_rises}

@@ -1,5 +1,5 @@
-use Rattle.ghs_protocol.specs.Network.{network_of}
-use Rattle.ghs_protocol.proofs.lemmas.Graphs.{graph_wired}
+use Rattle.peer_network.specs.Network.{network_of}
+use Rattle.peer_network.proofs.lemmas.Graphs.{graph_wired}
 use Rattle.peer_machine.proofs.lemmas.Balance.{after_balanced}
 use Rattle.peer_machine.proofs.laws.law_kinds.Goals as goal
 

@@ -1,5 +1,5 @@
 use Rattle.std.proofs.Common.{◌+◌, arith}
-use Rattle.ghs_protocol.proofs.lemmas.Graphs.{graph_few}
+use Rattle.peer_network.proofs.lemmas.Graphs.{graph_few}
 use Rattle.peer_net.proofs.parts.open_nodes.Goals as goal
 
 pub open-requires : goal.open-requires

@@ -1,4 +1,4 @@
-use Rattle.ghs_world.proofs.lemmas.Leaving.{marked_one}
+use Rattle.peer_index.proofs.lemmas.Marks.{marked_one}
 use Rattle.peer_net.specs.NetState.{network}
 use Rattle.peer_runs.specs.WorldState.{lawful_in}
 use Rattle.peer_runs.proofs.upkeep.mark.Goals as goal

@@ -2,7 +2,7 @@ use Rattle.std.proofs.Common.{ℕ, sym, subst}
 use Rattle.std.proofs.Math.ListN.{drop_of_length-le}
 use Rattle.std.proofs.lemmas.List.Elements.{All-get_or}
 use Rattle.peer_machine.specs.Net.{event_node}
-use Rattle.ghs_index.proofs.lemmas.Marks.{of_but}
+use Rattle.peer_index.proofs.lemmas.Marks.{of_but}
 use Rattle.peer_net.specs.NetState.{network, net_of}
 use Rattle.peer_runs.specs.WorldState.{lawful_in}
 use Rattle.peer_runs.specs.Upkeep.{HasArrived}

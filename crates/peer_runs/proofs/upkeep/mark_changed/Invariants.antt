@@ -1,5 +1,5 @@
 use Rattle.std.proofs.Common.{drop}
-use Rattle.ghs_index.specs.Index.{IsIndexBut}
+use Rattle.peer_index.specs.Index.{IsIndexBut}
 use Rattle.peer_machine.specs.Net.{event_node}
 use Rattle.peer_net.specs.NetState.{network}
 use Rattle.peer_runs.specs.WorldState.{lawful_in}

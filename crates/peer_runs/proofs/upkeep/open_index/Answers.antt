@@ -1,8 +1,8 @@
 use Rattle.std.proofs.Common.{◌∙◌, ap, subst, arith, List}
 use Rattle.ghs_graph.specs.Graph.{Shape}
-use Rattle.ghs_protocol.specs.declared.event.Event.{Event}
-use Rattle.ghs_index.specs.Index.{IsIndexBut}
-use Rattle.ghs_index.proofs.lemmas.Marks.{of_but}
+use Rattle.peer_network.specs.declared.event.Event.{Event}
+use Rattle.peer_index.specs.Index.{IsIndexBut}
+use Rattle.peer_index.proofs.lemmas.Marks.{of_but}
 use Rattle.peer_net.specs.NetState.{network}
 use Rattle.peer_runs.specs.WorldState.{lawful_in}
 use Rattle.peer_runs.proofs.Opening.{none_but_wakes, next_wake, no_wake}

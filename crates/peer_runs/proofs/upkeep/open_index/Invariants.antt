@@ -1,4 +1,4 @@
-use Rattle.ghs_index.specs.Index.{IsIndexBut}
+use Rattle.peer_index.specs.Index.{IsIndexBut}
 use Rattle.peer_net.specs.NetState.{network}
 use Rattle.peer_runs.specs.WorldState.{lawful_in}
 use Rattle.peer_runs.proofs.Opening.{wakes_from}

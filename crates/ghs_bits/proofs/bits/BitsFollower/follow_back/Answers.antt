@@ -1,6 +1,6 @@
 use Rattle.std.proofs.Common.{refl}
 use Rattle.ghs_node.specs.Reaction.{requeues}
-use Rattle.ghs_protocol.specs.declared.event.Event.TheVariants.{Take}
+use Rattle.peer_network.specs.declared.event.Event.TheVariants.{Take}
 use Rattle.ghs_core.specs.NetState.{net_of}
 use Rattle.ghs_bits.proofs.Bounding.{put_back_are}
 use Rattle.ghs_bits.proofs.bits.BitsFollower.follow_back.Goals as goal

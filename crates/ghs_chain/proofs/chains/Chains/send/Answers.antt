@@ -4,7 +4,7 @@ use Rattle.std.proofs.lemmas.List.{get_or_default}
 use Rattle.ghs_graph.specs.declared.port.Port.{Port}
 use Rattle.ghs_graph.specs.Ports.{no_port}
 use Rattle.ghs_node.specs.declared.message.Message.{Message}
-use Rattle.ghs_protocol.specs.Network.{far, far_port, network_of}
+use Rattle.peer_network.specs.Network.{far, far_port, network_of}
 use Rattle.ghs_chain.specs.Chains.{with_last}
 use Rattle.ghs_chain.specs.Kept.{HasPlace, seen}
 use Rattle.ghs_chain.proofs.Placing.{one_sent, place_kept, same_then}

@@ -1,5 +1,5 @@
 use Rattle.std.proofs.Common.{◌≡◌, take}
-use Rattle.ghs_protocol.specs.Network.{network_of}
+use Rattle.peer_network.specs.Network.{network_of}
 use Rattle.ghs_chain.specs.Chains.{sent}
 use Rattle.ghs_chain.specs.Kept.{SamePlaces, seen}
 use Rattle.ghs_chain.proofs.chains.Chains.send.Given as goal

@@ -4,8 +4,8 @@ use Rattle.ghs_node.specs.NodeState.{NodeState}
 use Rattle.ghs_node.specs.declared.head.Head.{Head}
 use Rattle.ghs_node.specs.Reaction.{requeues}
 use Rattle.ghs_node.specs.Words.{is_sleeping}
-use Rattle.ghs_protocol.specs.declared.event.Event.{Event}
-use Rattle.ghs_protocol.specs.declared.event.Event.TheVariants.{Take}
+use Rattle.peer_network.specs.declared.event.Event.{Event}
+use Rattle.peer_network.specs.declared.event.Event.TheVariants.{Take}
 use Rattle.ghs_core.specs.NetState.{net_of}
 use Rattle.ghs_chain.specs.Chains.{hears}
 use Rattle.ghs_chain.specs.Kept.{seen}

@@ -1,7 +1,6 @@
 use Rattle.std.proofs.Common.{◌≡◌, true, refl, sym, ◌∙◌}
-use Rattle.ghs_protocol.specs.Net.{is_node}
-use Rattle.ghs_protocol.specs.Network.{network_of}
-use Rattle.ghs_protocol.proofs.lemmas.Events.{node_of}
+use Rattle.peer_network.specs.Network.{is_node, network_of}
+use Rattle.peer_network.proofs.lemmas.Events.{node_of}
 use Rattle.ghs_core.proofs.Reading.{node_ports}
 use Rattle.ghs_core.proofs.net.Net.has_port.Goals as goal
 

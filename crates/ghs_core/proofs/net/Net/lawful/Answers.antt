@@ -1,7 +1,7 @@
 use Rattle.std.proofs.Common.{◌≡◌, true, sym, ◌∙◌}
-use Rattle.ghs_protocol.specs.Net.{is_port}
+use Rattle.peer_network.specs.Network.{is_port}
 use Rattle.ghs_core.specs.NetState.{network}
-use Rattle.ghs_protocol.proofs.lemmas.Events.{at_of}
+use Rattle.peer_network.proofs.lemmas.Events.{at_of}
 use Rattle.ghs_core.proofs.Showing.{port_queue}
 use Rattle.ghs_core.proofs.net.Net.lawful.Goals as goal
 

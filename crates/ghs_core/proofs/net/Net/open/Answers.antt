@@ -1,5 +1,5 @@
 use Rattle.std.proofs.Common.{[], refl}
-use Rattle.ghs_protocol.specs.Network.{network_of}
+use Rattle.peer_network.specs.Network.{network_of}
 use Rattle.ghs_protocol.specs.Net.{opening}
 use Rattle.ghs_protocol.proofs.lemmas.Runs.{net_after_is}
 use Rattle.ghs_core.proofs.Reading.{opened}

@@ -1,6 +1,6 @@
 use Rattle.std.proofs.Common.{◌≡◌, subst}
 use Rattle.ghs_graph.specs.Graph.{IsGraph}
-use Rattle.ghs_protocol.specs.Net.{event_node}
+use Rattle.peer_network.specs.Events.{event_node}
 use Rattle.ghs_protocol.specs.Run.{IsRun}
 use Rattle.ghs_core.specs.NetState.{NetState, network}
 use Rattle.ghs_lifo.specs.Kept.{with_all}

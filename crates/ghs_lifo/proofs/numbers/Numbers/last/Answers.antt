@@ -1,7 +1,7 @@
 use Rattle.std.proofs.Common.{◌≡◌, ◌<◌, ◌≤◌, ◌∙◌, ℕ, ap, get_or, length, arith}
 use Rattle.std.proofs.lemmas.List.{get_or_default}
-use Rattle.ghs_protocol.specs.Network.{network_of}
-use Rattle.ghs_index.proofs.lemmas.Places.{place_within}
+use Rattle.peer_network.specs.Network.{network_of}
+use Rattle.peer_index.proofs.lemmas.Places.{place_within}
 use Rattle.ghs_lifo.proofs.numbers.Numbers.last.Goals as goal
 
 pub index-requires : goal.index-requires

@@ -4,7 +4,7 @@ use Rattle.std.proofs.lemmas.List.Elements.{All-get_or}
 use Rattle.ghs_graph.specs.Ports.{ports_of}
 use Rattle.ghs_node.specs.declared.message.Message.{Message}
 use Rattle.ghs_node.specs.Words.{Outgoing}
-use Rattle.ghs_protocol.specs.Network.{Network, network_of}
+use Rattle.peer_network.specs.Network.{Network, network_of}
 use Rattle.ghs_lifo.specs.Kept.{NumbersState, with_all, with_one}
 use Rattle.ghs_lifo.proofs.Numbering.{for_one}
 use Rattle.ghs_lifo.proofs.numbers.Numbers.send.Goals as goal

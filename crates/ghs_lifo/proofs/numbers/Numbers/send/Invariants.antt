@@ -1,5 +1,5 @@
 use Rattle.std.proofs.Common.{◌≡◌, ◌+◌, drop}
-use Rattle.ghs_protocol.specs.Network.{network_of}
+use Rattle.peer_network.specs.Network.{network_of}
 use Rattle.ghs_lifo.specs.Kept.{AreFor, with_all}
 use Rattle.ghs_lifo.proofs.numbers.Numbers.send.Given as goal
 

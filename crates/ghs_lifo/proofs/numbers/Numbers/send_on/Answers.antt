@@ -1,9 +1,9 @@
 use Rattle.std.proofs.Common.{◌≡◌, arith}
-use Rattle.ghs_protocol.specs.declared.event.Event.TheVariants.{Take}
-use Rattle.ghs_protocol.specs.Network.{far, far_port, network_of}
-use Rattle.ghs_protocol.proofs.lemmas.Graphs.{graph_wired}
-use Rattle.ghs_index.specs.Places.{place}
-use Rattle.ghs_index.proofs.lemmas.Places.{place_within}
+use Rattle.peer_network.specs.declared.event.Event.TheVariants.{Take}
+use Rattle.peer_network.specs.Network.{far, far_port, network_of}
+use Rattle.peer_network.proofs.lemmas.Graphs.{graph_wired}
+use Rattle.peer_index.specs.Places.{place}
+use Rattle.peer_index.proofs.lemmas.Places.{place_within}
 use Rattle.ghs_lifo.proofs.numbers.Numbers.send_on.Goals as goal
 
 pub place_of-at-requires-clause-place : goal.place_of-at-requires-clause-place

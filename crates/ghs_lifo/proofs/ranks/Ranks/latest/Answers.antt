@@ -1,8 +1,8 @@
 use Rattle.std.proofs.Common.{◌≡◌, List, ℕ, Some, slice_get, subst, sym}
 use Rattle.ghs_graph.specs.Graph.{Shape}
-use Rattle.ghs_protocol.specs.Network.{network_of}
+use Rattle.peer_network.specs.Network.{network_of}
 use Rattle.ghs_core.specs.NetState.{network}
-use Rattle.ghs_index.specs.Places.{all_events}
+use Rattle.peer_index.specs.Places.{all_events}
 use Rattle.ghs_lifo.specs.Kept.{AreRanks}
 use Rattle.ghs_lifo.proofs.Finding.{found, found_none}
 use Rattle.ghs_lifo.proofs.ranks.Ranks.latest.Goals as goal

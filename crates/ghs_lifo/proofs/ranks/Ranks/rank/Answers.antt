@@ -1,9 +1,9 @@
 use Rattle.std.proofs.Common.{◌≡◌, ◌∙◌, ap, arith}
 use Rattle.ghs_graph.specs.Graph.{Shape}
-use Rattle.ghs_protocol.specs.Network.{network_of}
+use Rattle.peer_network.specs.Network.{network_of}
 use Rattle.ghs_core.specs.NetState.{network}
-use Rattle.ghs_index.specs.Places.{place}
-use Rattle.ghs_index.proofs.lemmas.Places.{place_within}
+use Rattle.peer_index.specs.Places.{place}
+use Rattle.peer_index.proofs.lemmas.Places.{place_within}
 use Rattle.ghs_lifo.proofs.ranks.Ranks.rank.Goals as goal
 
 pub set-requires : goal.set-requires

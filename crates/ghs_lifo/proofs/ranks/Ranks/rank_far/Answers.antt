@@ -4,12 +4,12 @@ use Rattle.std.proofs.lemmas.List.Elements.{All-get_or}
 use Rattle.ghs_graph.specs.Graph.{IsGraph}
 use Rattle.ghs_graph.specs.Ports.{ports_of}
 use Rattle.ghs_node.specs.declared.message.Message.{Message}
-use Rattle.ghs_protocol.specs.declared.event.Event.{Event}
-use Rattle.ghs_protocol.specs.declared.event.Event.TheVariants.{Take}
-use Rattle.ghs_protocol.specs.Network.{far, far_port}
-use Rattle.ghs_protocol.proofs.lemmas.Graphs.{graph_wired}
+use Rattle.peer_network.specs.declared.event.Event.{Event}
+use Rattle.peer_network.specs.declared.event.Event.TheVariants.{Take}
+use Rattle.peer_network.specs.Network.{far, far_port}
+use Rattle.peer_network.proofs.lemmas.Graphs.{graph_wired}
 use Rattle.ghs_core.specs.NetState.{NetState, network}
-use Rattle.ghs_index.specs.Places.{place}
+use Rattle.peer_index.specs.Places.{place}
 use Rattle.ghs_world.proofs.lemmas.Leaving.{next_arrival}
 use Rattle.ghs_patient.specs.Choices.{far_takes}
 use Rattle.ghs_lifo.specs.Kept.{rank_in, ranked, ranked_all}

@@ -1,10 +1,10 @@
 use Rattle.std.proofs.Common.{◌≡◌, ◌+◌, ◌∙◌, ℕ, suc, ap, length, length-set, arith}
 use Rattle.ghs_graph.specs.Graph.{Shape}
 use Rattle.ghs_graph.specs.Ports.{ports_of}
-use Rattle.ghs_protocol.specs.declared.event.Event.TheVariants.{Take}
-use Rattle.ghs_protocol.proofs.lemmas.Graphs.{graph_few}
+use Rattle.peer_network.specs.declared.event.Event.TheVariants.{Take}
+use Rattle.peer_network.proofs.lemmas.Graphs.{graph_few}
 use Rattle.ghs_core.specs.NetState.{network}
-use Rattle.ghs_index.specs.Places.{place}
+use Rattle.peer_index.specs.Places.{place}
 use Rattle.ghs_lifo.specs.Kept.{rank_in, ranked, ranked_to}
 use Rattle.ghs_lifo.proofs.ranks.Ranks.rank_ports.Goals as goal
 

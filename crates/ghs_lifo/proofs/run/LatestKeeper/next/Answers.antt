@@ -3,7 +3,7 @@ use Rattle.ghs_graph.specs.Graph.{IsGraph}
 use Rattle.ghs_protocol.specs.Laws.{IsNetOf}
 use Rattle.ghs_core.specs.NetState.{NetState, net_of}
 use Rattle.ghs_world.specs.WorldState.{home, wakers}
-use Rattle.ghs_world.proofs.lemmas.Waking.{each_is_woken}
+use Rattle.peer_network.proofs.lemmas.Waking.{each_is_woken}
 use Rattle.ghs_patient.proofs.lemmas.Picks.{is_net, seconds_go, some_patient}
 use Rattle.ghs_lifo.proofs.Running.{pickable}
 use Rattle.ghs_lifo.proofs.run.LatestKeeper.next.Goals as goal

@@ -1,8 +1,8 @@
 use Rattle.std.proofs.Common.{◌≡◌, ◌+◌, ◌∙◌, ℕ, suc, ap, length, arith}
 use Rattle.ghs_graph.specs.Graph.{Shape}
 use Rattle.ghs_graph.specs.Ports.{ports_of}
-use Rattle.ghs_protocol.specs.declared.event.Event.TheVariants.{Take}
-use Rattle.ghs_protocol.proofs.lemmas.Graphs.{graph_few}
+use Rattle.peer_network.specs.declared.event.Event.TheVariants.{Take}
+use Rattle.peer_network.proofs.lemmas.Graphs.{graph_few}
 use Rattle.ghs_patient.specs.Choices.{marked, marked_to}
 use Rattle.ghs_patient.proofs.Marking.{for_marked}
 use Rattle.ghs_patient.proofs.choices.Choices.mark_ports.Goals as goal

@@ -3,7 +3,7 @@ use Rattle.ghs_graph.specs.Graph.{IsGraph}
 use Rattle.ghs_protocol.specs.Laws.{IsNetOf}
 use Rattle.ghs_core.specs.NetState.{NetState, net_of}
 use Rattle.ghs_world.specs.WorldState.{home, wakers}
-use Rattle.ghs_world.proofs.lemmas.Waking.{each_is_woken}
+use Rattle.peer_network.proofs.lemmas.Waking.{each_is_woken}
 use Rattle.ghs_patient.proofs.lemmas.Picks.{is_net, pickable, seconds_go, some_patient}
 use Rattle.ghs_patient.proofs.run.ChoicesKeeper.next.Goals as goal
 

@@ -1,6 +1,6 @@
 use Rattle.std.proofs.Common.{filter}
 use Rattle.ghs_core.specs.NetState.{network}
-use Rattle.ghs_index.specs.Places.{all_events}
+use Rattle.peer_index.specs.Places.{all_events}
 use Rattle.ghs_rounds.specs.Choices.{hides_in, moves_in}
 use Rattle.ghs_rounds.proofs.Picked.{none_left}
 use Rattle.ghs_rounds.proofs.choices.Choices.are_none.Goals as goal

@@ -1,8 +1,8 @@
 use Rattle.std.proofs.Common.{◌≡◌, ◌≤◌, ◌∙◌, ap, subst, refl, arith}
 use Rattle.ghs_graph.specs.Graph.{Shape}
-use Rattle.ghs_protocol.specs.Network.{network_of}
-use Rattle.ghs_index.specs.Index.{IsFor}
-use Rattle.ghs_index.proofs.lemmas.Marks.{is_for}
+use Rattle.peer_network.specs.Network.{network_of}
+use Rattle.peer_index.specs.Index.{IsFor}
+use Rattle.peer_index.proofs.lemmas.Marks.{is_for}
 use Rattle.ghs_rounds.proofs.Marking.{all_nodes, none_yet, one_node}
 use Rattle.ghs_rounds.proofs.choices.Choices.of.Goals as goal
 

@@ -1,6 +1,6 @@
 use Rattle.std.proofs.Common.{◌≡◌, drop}
 use Rattle.ghs_core.specs.NetState.{network}
-use Rattle.ghs_index.specs.Index.{IsFor}
+use Rattle.peer_index.specs.Index.{IsFor}
 use Rattle.ghs_patient.specs.Choices.{far_takes}
 use Rattle.ghs_waits.specs.Marks.{marked_all}
 use Rattle.ghs_waits.proofs.waiting.Waiting.mark_far.Given as goal

@@ -1,6 +1,6 @@
 use Rattle.std.proofs.Common.{◌≡◌}
 use Rattle.ghs_core.specs.NetState.{network}
-use Rattle.ghs_index.specs.Index.{IsFor}
+use Rattle.peer_index.specs.Index.{IsFor}
 use Rattle.ghs_waits.specs.Marks.{marked_to}
 use Rattle.ghs_waits.proofs.waiting.Waiting.mark_ports.Given as goal
 

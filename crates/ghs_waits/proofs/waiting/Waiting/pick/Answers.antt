@@ -1,6 +1,6 @@
 use Rattle.std.proofs.Common.{◌≡◌, arith, subst, sym}
 use Rattle.ghs_core.specs.NetState.{network}
-use Rattle.ghs_index.specs.Index.{IsIndexOf}
+use Rattle.peer_index.specs.Index.{IsIndexOf}
 use Rattle.ghs_patient.specs.Patience.{puts_back}
 use Rattle.ghs_world.specs.WorldState.{home}
 use Rattle.ghs_waits.proofs.Picks.{picked_of_all}

@@ -1,7 +1,6 @@
 use Rattle.std.proofs.Common.{sym, ◌∙◌, ap}
 use Rattle.ghs_graph.specs.Graph.{Shape}
-use Rattle.ghs_protocol.specs.Net.{is_node}
-use Rattle.ghs_protocol.specs.Network.{network_of}
+use Rattle.peer_network.specs.Network.{is_node, network_of}
 use Rattle.ghs_world.specs.contracts.world.World.{the_view}
 use Rattle.ghs_world.proofs.Listing.{none_ready}
 use Rattle.ghs_world.proofs.world.World.has_ready.Goals as goal

@@ -1,8 +1,8 @@
 use Rattle.std.proofs.Common.{◌≡◌, ◌∙◌, sym, ap, length, ◌-◌, arith, Option}
 use Rattle.std.specs.List.{find}
 use Rattle.ghs_graph.specs.Ports.{ports_of}
-use Rattle.ghs_protocol.specs.declared.event.Event.{Event}
-use Rattle.ghs_world.specs.Ready.{takes}
+use Rattle.peer_network.specs.declared.event.Event.{Event}
+use Rattle.peer_index.specs.Places.{takes}
 use Rattle.std.specs.Option.{option_or}
 use Rattle.ghs_world.specs.Outs.{is_out}
 use Rattle.ghs_world.specs.WorldState.{WorldState, may_happen}

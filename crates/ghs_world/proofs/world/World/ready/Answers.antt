@@ -4,7 +4,7 @@ use Rattle.ghs_graph.specs.Ports.{ports_of}
 use Rattle.ghs_core.specs.NetState.{network}
 use Rattle.ghs_world.specs.Ready.{is_ready}
 use Rattle.ghs_world.proofs.Listing.{listed_node}
-use Rattle.ghs_protocol.proofs.lemmas.Graphs.{graph_few}
+use Rattle.peer_network.proofs.lemmas.Graphs.{graph_few}
 use Rattle.ghs_world.proofs.world.World.ready.Goals as goal
 
 pub overflow_cast-port-end : goal.overflow_cast-port-end

@@ -1,6 +1,7 @@
 use Rattle.std.proofs.Common.{◌≡◌, ◌-◌, ◌++◌, filter}
 use Rattle.ghs_core.specs.NetState.{network}
-use Rattle.ghs_world.specs.Ready.{is_ready, events_to, events_at}
+use Rattle.ghs_world.specs.Ready.{is_ready}
+use Rattle.peer_index.specs.Places.{events_to, events_at}
 use Rattle.ghs_world.proofs.world.World.ready.Given as goal
 
 abbrev pub invariant-loop-v : goal.invariant-loop-v

@@ -1,6 +1,6 @@
 use Rattle.std.proofs.Common.{◌≡◌, ap, length, filter, subst, arith}
 use Rattle.ghs_core.specs.NetState.{network}
-use Rattle.ghs_world.specs.Ready.{all_events}
+use Rattle.peer_index.specs.Places.{all_events}
 use Rattle.ghs_world.specs.WorldState.{WorldState, may_happen}
 use Rattle.ghs_world.proofs.Listing.{ready_all}
 use Rattle.ghs_world.proofs.world.World.ready_at.Goals as goal

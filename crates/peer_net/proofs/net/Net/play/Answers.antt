@@ -1,6 +1,6 @@
 use Rattle.std.proofs.Common.{◌-◌, [], ◌∷◌, ◌++◌, Some, slice_set, sym, ap, ◌∙◌}
 use Rattle.std.proofs.lemmas.List.{get_or_default}
-use Rattle.ghs_protocol.specs.Network.{network_of}
+use Rattle.peer_network.specs.Network.{network_of}
 use Rattle.peer_machine.specs.Net.{event_node}
 use Rattle.peer_machine.proofs.lemmas.Events.{happens_so}
 use Rattle.peer_net.proofs.Playing.{promises_of, can_react, plays_of, node_inside, lead, sends_on, fits_sent, fits_total, waits, fits_taken, some_queued, keeps, happens, next_is, sends}

@@ -1,6 +1,6 @@
 use Rattle.std.proofs.lemmas.List.Elements.{All-nil}
-use Rattle.ghs_protocol.specs.Run.{MayWake}
-use Rattle.ghs_world.specs.Wakes.{may_wake}
+use Rattle.peer_network.specs.Events.{MayWake}
+use Rattle.peer_network.specs.Wakes.{may_wake}
 use Rattle.peer_runs.proofs.world.World.open.Goals as goal
 
 pub invariant_of-result : goal.invariant_of-result

@@ -1,5 +1,5 @@
 use Rattle.peer_net.specs.NetState.{network, net_of}
-use Rattle.ghs_world.specs.Wakes.{may_wake}
+use Rattle.peer_network.specs.Wakes.{may_wake}
 use Rattle.peer_runs.proofs.Lawful.{lawful_parts}
 use Rattle.peer_runs.proofs.Keeping.{stale, played, still}
 use Rattle.peer_runs.proofs.world.World.play.Goals as goal

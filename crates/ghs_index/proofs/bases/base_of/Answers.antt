@@ -1,6 +1,0 @@
-use Rattle.ghs_protocol.specs.Network.{network_of}
-use Rattle.ghs_index.proofs.Finding.{base_within}
-use Rattle.ghs_index.proofs.bases.base_of.Goals as goal
-
-pub returns-clause-within : goal.returns-clause-within
-returns-clause-within c = base_within (network_of c.args.graph.now) c.args.bases.now c.args.v c.requires.bases c.requires.low c.requires.high

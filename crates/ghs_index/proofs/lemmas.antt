@@ -1,4 +1,0 @@
--- What proofs about the index above this crate may use.
-pub mod Lists
-pub mod Places
-pub mod Marks

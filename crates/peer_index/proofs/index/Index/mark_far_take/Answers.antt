@@ -1,0 +1,33 @@
+use Rattle.std.proofs.Common.{refl, arith}
+use Rattle.peer_network.specs.declared.event.Event.TheVariants.{Take}
+use Rattle.peer_network.specs.Network.{network_of}
+use Rattle.peer_index.specs.Places.{far_take}
+use Rattle.peer_index.specs.contracts.index.Index.{the_view}
+use Rattle.peer_index.proofs.lemmas.Places.{place_within}
+use Rattle.peer_index.proofs.FarEnds.{ends_of_all, far_has, far_read}
+use Rattle.peer_index.proofs.index.Index.mark_far_take.Goals as goal
+
+pub far_at-far-requires : goal.far_at-far-requires
+far_at-far-requires c =
+    let is = rw (← c.self.view_is) at c.requires.index in
+    let many = ends_of_all (network_of c.args.graph.now) (the_view c.self.inside) c.self.inside.ends.items is refl in
+    let within = place_within (network_of c.args.graph.now) (Take c.args.v c.args.port) c.requires.port in
+    let at = c.place_of-at.ensures in
+    rw c.deref-2.ensures.value (omega arith)
+
+pub set-requires : goal.set-requires
+set-requires c =
+    let is = rw (← c.self.view_is) at c.requires.index in
+    let far = far_read (network_of c.args.graph.now) (the_view c.self.inside) c.self.inside.ends.items c.args.v c.args.port _ _ is refl
+    c.requires.port c.place_of-at.ensures (rw c.deref-2.ensures.value at c.far_at-far.ensures) in
+    let within = place_within (network_of c.args.graph.now) (far_take (network_of c.args.graph.now) c.args.v c.args.port)
+    (far_has c.args.graph.now c.args.v c.args.port c.nodes.ensures.graph c.requires.port) in
+    let many = is.many in
+    omega arith
+
+pub returns : goal.returns
+returns c =
+    let is = rw (← c.self.view_is) at c.requires.index in
+    let far = far_read (network_of c.args.graph.now) (the_view c.self.inside) c.self.inside.ends.items c.args.v c.args.port _ _ is refl
+    c.requires.port c.place_of-at.ensures (rw c.deref-2.ensures.value at c.far_at-far.ensures) in
+    rw (← c.self.view_is, c.set.ensures, far) refl

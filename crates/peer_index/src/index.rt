@@ -1,0 +1,146 @@
+//! The index.
+ghost use Rattle.std.specs.Prelude.{◌≡◌, ℕ, Bool, ◌+◌, ◌-◌, ◌<◌, ◌≤◌, false, true, length, filter, slice_get, slice_set, Some, IfOk};
+ghost use Rattle.std.specs.List.{find, list_any, range_with_len};
+ghost use Rattle.ghs_graph.specs.Ports.{ports_of};
+ghost use Rattle.peer_network.specs.declared.event.Event.{Event as Happening};
+ghost use Rattle.peer_network.specs.Network.{At, Network, network_of};
+ghost use Rattle.ghs_flags.specs.Flags.{count};
+ghost use Rattle.peer_index.specs.Places.{all_events, far_take, node_events, takes, place, HasPlace};
+ghost use Rattle.peer_index.specs.Index.{IsFor, IsIndexOf};
+
+use crate::bases::{base_of, event_of, lay_bases, place_of, span_of};
+use crate::ends::{Ends, far_at, lay_ends, owner_at};
+use ghs_flags::flags::Flags;
+use ghs_graph::graph::Graph;
+use peer_network::event::Event;
+use std::alloc::{AllocError, Global};
+use std::marker::Model;
+
+/// Of the events that name a node or port of a graph some are marked. They stand by node, Wake before ports, ports
+/// rising. The index takes 4 bytes a node, and 8 bytes, a bit and a sixteenth of a bit an event.
+#[derive(Debug, Drop)]
+pub struct Index {
+    /// The place of the first event of each node, and behind them how many events there are; 0 is no node.
+    bases: Vec<u32>,
+    /// Of each place the node whose event stands there, and the place at the far end. They lie side by side: a run looks
+    /// up the node of the event that it picks, and then the far places of the ports of that node, which are near.
+    ends: Vec<Ends>,
+    marks: Flags,
+}
+
+impl Model for Index {
+    ghost use Rattle.peer_index.specs.Index.{IndexState, AreOwners, fars_in, owners_in};
+
+    ghost Value = { IndexState };
+
+    ghost view = { λ x. record { bases = x.bases.items; fars = fars_in x.ends.items; marks = x.marks } };
+
+    ghost invariant = { λ x. AreOwners x.bases.items (owners_in x.ends.items) };
+}
+
+impl Index {
+    /// No event of the graph is marked. O(N + E).
+    ///
+    /// ```text
+    /// let mut index = Index::none(alloc, &graph)?;
+    /// index.set(&graph, Event::Wake(3), true);
+    /// index.set(&graph, Event::Take(2, 1), true);
+    /// // index.count() is 2, and index.kth(&graph, 0) is Event::Take(2, 1): it stands before the events of node 3
+    /// ```
+    pub fn none(alloc: Global, graph: &Graph) -> Result<Index, AllocError>
+        ensures { IfOk result (IsIndexOf (network_of graph.now) (λ _. false)) }
+    {
+        let bases = lay_bases(alloc, graph)?;
+        let events = bases[bases.len() - 1] as usize;
+        let ends = lay_ends(alloc, &bases, graph)?;
+        let marks = Flags::lowered(alloc, events)?;
+        Ok(Index { bases, ends, marks })
+    }
+
+    /// Marks an event of the index's graph, or takes its mark away. O(1), and takes no memory.
+    pub fn set(&mut self, graph: &Graph, event: Event, marked: bool)
+        requires index { IsFor (network_of graph.now) self.old }
+        requires place { HasPlace (network_of graph.now) event }
+        ensures { self.new ≡ record self.old { marks = slice_set self.old.marks (place (network_of graph.now) event) marked } }
+    {
+        let at = place_of(&self.bases, graph, event);
+        self.marks.set(at, marked);
+    }
+
+    /// Marks the Take at the far end of a port. O(1), and takes no memory.
+    pub fn mark_far_take(&mut self, graph: &Graph, v: u32, port: u32)
+        requires index { IsFor (network_of graph.now) self.old }
+        requires port { At (network_of graph.now) v port }
+        ensures { self.new ≡ record self.old { marks = slice_set self.old.marks (place (network_of graph.now) (far_take (network_of graph.now) v port)) true } }
+    {
+        let _ = graph.nodes();
+        let at = place_of(&self.bases, graph, Event::Take(v, port));
+        let far = far_at(&self.ends, at);
+        self.marks.set(far, true);
+    }
+
+    /// How many events are marked. O(1).
+    pub fn count(&self) -> u32
+        ensures count { result ≡ count self.now.marks }
+        ensures pass { (g : Network) (p : Happening → Bool) → IsIndexOf g p self.now → result ≡ length (filter p (all_events g)) }
+    {
+        self.marks.count()
+    }
+
+    /// Of the marked events the one at place `k`, counted from 0. O(log N).
+    pub fn kth(&self, graph: &Graph, k: u32) -> Event
+        requires index { IsFor (network_of graph.now) self.now }
+        requires within { k < count self.now.marks }
+        ensures { (p : Happening → Bool) → IsIndexOf (network_of graph.now) p self.now → slice_get (filter p (all_events (network_of graph.now))) k ≡ Some result }
+    {
+        let at = self.marks.kth(k);
+        let v = owner_at(&self.bases, &self.ends, at);
+        event_of(&self.bases, graph, v, at)
+    }
+
+    /// Whether an event of a node is marked. O(1).
+    pub fn has_any(&self, graph: &Graph, v: u32) -> bool
+        requires index { IsFor (network_of graph.now) self.now }
+        requires low { 1 ≤ v }
+        requires high { v ≤ graph.now.nodes }
+        ensures { (p : Happening → Bool) → IsIndexOf (network_of graph.now) p self.now → result ≡ list_any p (node_events (network_of graph.now) v) }
+    {
+        let (base, end) = span_of(&self.bases, graph, v);
+        self.marks.first_from_to(base, end).is_some()
+    }
+
+    /// The first marked Take of a node at a port or later. O(1).
+    pub fn first_take(&self, graph: &Graph, v: u32, low: u32) -> Option<Event>
+        requires index { IsFor (network_of graph.now) self.now }
+        requires low { 1 ≤ v }
+        requires high { v ≤ graph.now.nodes }
+        ensures { (p : Happening → Bool) → IsIndexOf (network_of graph.now) p self.now →
+            result ≡ find p (takes v low (length (ports_of graph.now.keys v) - low)) }
+    {
+        let (wake, end) = span_of(&self.bases, graph, v);
+        let start = wake + 1 + low as usize;
+        if end < start {
+            return None;
+        }
+        match self.marks.first_from_to(start, end) {
+            Some(at) => Some(Event::Take(v, (at - wake - 1) as u32)),
+            None => None,
+        }
+    }
+
+    /// The first node from `low` on that has a marked event. O(log N).
+    pub fn node_from(&self, graph: &Graph, low: u32) -> Option<u32>
+        requires index { IsFor (network_of graph.now) self.now }
+        requires low { 1 ≤ low }
+        requires high { low ≤ graph.now.nodes + 1 }
+        ensures { (p : Happening → Bool) → IsIndexOf (network_of graph.now) p self.now →
+            result ≡ find (λ (v : ℕ). list_any p (node_events (network_of graph.now) v)) (range_with_len low (graph.now.nodes + 1 - low)) }
+    {
+        let _ = graph.nodes();
+        let base = base_of(&self.bases, graph, low);
+        match self.marks.first_from(base) {
+            Some(at) => Some(owner_at(&self.bases, &self.ends, at)),
+            None => None,
+        }
+    }
+}

@@ -1,0 +1,3 @@
+-- Serves the proofs: nothing here has to be believed. lemmas is what proofs above this crate may use.
+mod Firsts
+pub mod lemmas
