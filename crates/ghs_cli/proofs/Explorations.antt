@@ -51,7 +51,7 @@ ends_printed (Ok y) text o g x graph wake few is range ends reached printed =
     (are_ends o x.graph x.wake x.rows x.states (text y) wake few (subst IsGraph (sym graph) is) range ends reached printed)
 
 -- an element at each place of a list
-there : {X : Type 0} (xs : List X) (i : ℕ) → i < length xs → (x : X) × (slice_get xs i ≡ Some x)
+pub there : {X : Type 0} (xs : List X) (i : ℕ) → i < length xs → (x : X) × (slice_get xs i ≡ Some x)
 there {X = X} xs i within =
     ⊎_elim
     (λ (found : (x : X) × (i < length xs) × (slice_get xs i ≡ Some x) × (get_or xs i x ≡ x)). (found.0, found.2))

@@ -2,6 +2,7 @@
 mod Charted
 mod Ending
 mod Explorations
+mod ExplorationsInStep
 mod InStep
 mod MadeNetworks
 mod Named

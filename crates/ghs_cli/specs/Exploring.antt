@@ -8,6 +8,9 @@ use Rattle.ghs_explore.specs.declared.row.EndRow.{EndRow}
 use Rattle.ghs_graph.specs.Graph.{Shape}
 use Rattle.peer_network.specs.declared.event.Event.{Event}
 use Rattle.peer_texts.specs.Text.{trace_text}
+use Rattle.peer_trace.specs.declared.protocol.Protocol.{Protocol}
+use Rattle.peer_trace.specs.declared.protocol.Protocol.TheVariants.{Boruvka, Ghs}
+use Rattle.ghs_cli.specs.ExploringInStep as in_step
 use Rattle.ghs_cli.specs.declared.fault.ServeFault.{ServeFault}
 use Rattle.ghs_cli.specs.declared.fault.ServeFault.TheVariants as serve
 use Rattle.ghs_commands.specs.declared.exploring.ExploreOptions.{ExploreOptions}
@@ -41,8 +44,13 @@ abbrev pub IsFound : Finding → ExploreOptions → Shape → List ℕ → Type 
 IsFound Ends o g output = AreEndsOf o g output
 IsFound Run o g output = IsRunOf o g output
 
+-- by the protocol that is asked for
+abbrev pub IsExploredBy : Protocol → ExploreOptions → Shape → List ℕ → Type 0
+IsExploredBy Ghs o g output = IsFound o.finding o g output
+IsExploredBy Boruvka o g output = in_step.IsFound o.finding o g output
+
 abbrev pub IsExplored : ExploreOptions → Shape → List ℕ → Type 0
-IsExplored o g output = IsFound o.finding o g output
+IsExplored o g output = IsExploredBy o.protocol o g output
 
 -- runs end with the counts of so many rows, and one behind these is asked for
 pub record IsBehind (o : ExploreOptions) (g : Shape) (ends : ℕ) : Type 0 where
@@ -53,9 +61,17 @@ pub record IsBehind (o : ExploreOptions) (g : Shape) (ends : ℕ) : Type 0 where
   pub behind : ends < o.end
 
 -- why nothing is: the graph is too large, its runs lead to more states than they may, or there is no such row
+abbrev pub FindsNothing : ExploreOptions → Shape → ServeFault → Type 0
+FindsNothing o g serve.TooLargeToExplore = IsSmall g → ⊥
+FindsNothing o g (serve.StateLimit limit) = (limit ≡ o.limit) × HasMoreStates g o.wake o.limit
+FindsNothing o g (serve.NoSuchEnd ends) = IsBehind o g ends
+FindsNothing o g serve.Memory = Unit {0}
+FindsNothing o g _ = ⊥
+
+-- by the protocol that is asked for
+abbrev pub HasNoExplorationBy : Protocol → ExploreOptions → Shape → ServeFault → Type 0
+HasNoExplorationBy Ghs o g fault = FindsNothing o g fault
+HasNoExplorationBy Boruvka o g fault = in_step.FindsNothing o g fault
+
 abbrev pub HasNoExploration : ExploreOptions → Shape → ServeFault → Type 0
-HasNoExploration o g serve.TooLargeToExplore = IsSmall g → ⊥
-HasNoExploration o g (serve.StateLimit limit) = (limit ≡ o.limit) × HasMoreStates g o.wake o.limit
-HasNoExploration o g (serve.NoSuchEnd ends) = IsBehind o g ends
-HasNoExploration o g serve.Memory = Unit {0}
-HasNoExploration o g _ = ⊥
+HasNoExploration o g fault = HasNoExplorationBy o.protocol o g fault

@@ -2,6 +2,7 @@
 pub mod Charts
 pub mod Ending
 pub mod Exploring
+pub mod ExploringInStep
 pub mod Fault
 pub mod InStep
 pub mod Networks

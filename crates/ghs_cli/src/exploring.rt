@@ -1,11 +1,12 @@
 //! Explorations: with which counts of messages all runs of a small network end, and a run of each.
-ghost use Rattle.ghs_cli.specs.Exploring.{AreEndsOf, HasNoExploration, IsBehind, IsExplored, IsRunOf};
+ghost use Rattle.ghs_cli.specs.Exploring.{AreEndsOf, FindsNothing, HasNoExploration, IsBehind, IsExplored, IsFound, IsRunOf};
 ghost use Rattle.ghs_cli.specs.Serving.{IsExploreCause, IsExploreOutput, is_write};
 ghost use Rattle.ghs_cli.specs.declared.fault.ServeFault.{ServeFault};
 ghost use Rattle.ghs_commands.specs.Job.{AreExploreLimits};
 ghost use Rattle.ghs_commands.specs.declared.exploring.Finding.{Finding};
 ghost use Rattle.std.specs.Prelude.{◌≡◌, ◌≤◌, ◌↔◌, false, true, IfErr, IfOk, IfSome, IsErrOf};
 
+use crate::exploring_in_step::found_in_step;
 use crate::fault::ServeFault;
 use crate::progress::Teller;
 use crate::reading::graph_of;
@@ -18,6 +19,7 @@ use ghs_explore::text::explored_text;
 use ghs_gr::device::Source;
 use ghs_graph::graph::Graph;
 use peer_texts::trace::write_trace;
+use peer_trace::protocol::Protocol;
 use std::alloc::{AllocError, Global};
 
 /// What is found of all runs of the graph that the device gives.
@@ -35,7 +37,24 @@ pub(crate) fn explored_text_of<S: Source, R: Eprint>(
     ensures read { IsErrOf result ServeFault.Read ↔ (S.has_failed graph.new ≡ true) }
 {
     let graph = graph_of(alloc, graph)?;
-    found(rt, alloc, options, &graph)
+    found_by(rt, alloc, options, &graph)
+}
+
+/// What is found of all runs of a graph by the protocol that is asked for.
+fn found_by<R: Eprint>(
+    rt: &R,
+    alloc: Global,
+    options: &ExploreOptions,
+    graph: &Graph,
+) -> Result<Vec<u8>, ServeFault>
+    requires { AreExploreLimits options.now }
+    ensures text { IfOk result (λ text. IsExplored options.now graph.now text.items) }
+    ensures fault { IfErr result (λ fault. HasNoExploration options.now graph.now fault) }
+{
+    match options.protocol {
+        Protocol::Ghs => found(rt, alloc, options, graph),
+        Protocol::Boruvka => found_in_step(rt, alloc, options, graph),
+    }
 }
 
 /// What is found of all runs of a graph.
@@ -46,8 +65,8 @@ fn found<R: Eprint>(
     graph: &Graph,
 ) -> Result<Vec<u8>, ServeFault>
     requires { AreExploreLimits options.now }
-    ensures text { IfOk result (λ text. IsExplored options.now graph.now text.items) }
-    ensures fault { IfErr result (λ fault. HasNoExploration options.now graph.now fault) }
+    ensures text { IfOk result (λ text. IsFound options.now.finding options.now graph.now text.items) }
+    ensures fault { IfErr result (FindsNothing options.now graph.now) }
 {
     let teller = Teller::new(rt, options.progress);
     match explore_watched(alloc, graph, options.wake, options.limit, &teller) {
@@ -71,8 +90,8 @@ fn found_text(
     requires graph { explored.now.graph ≡ graph.now }
     requires wake { explored.now.wake ≡ options.now.wake }
     requires few { explored.now.states ≤ options.now.limit }
-    ensures text { IfOk result (λ text. IsExplored options.now graph.now text.items) }
-    ensures fault { IfErr result (λ fault. HasNoExploration options.now graph.now fault) }
+    ensures text { IfOk result (λ text. IsFound options.now.finding options.now graph.now text.items) }
+    ensures fault { IfErr result (FindsNothing options.now graph.now) }
 {
     match options.finding {
         Finding::Ends => Ok(ends_text(alloc, options, graph, explored)?),
@@ -113,7 +132,7 @@ fn trace_of_end(
     requires graph { explored.now.graph ≡ graph.now }
     requires wake { explored.now.wake ≡ options.now.wake }
     ensures text { IfOk result (λ text. IsRunOf options.now graph.now text.items) }
-    ensures fault { IfErr result (λ fault. HasNoExploration options.now graph.now fault) }
+    ensures fault { IfErr result (FindsNothing options.now graph.now) }
 {
     let ends = explored.rows().len();
     if options.end as usize > ends {

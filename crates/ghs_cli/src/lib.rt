@@ -12,6 +12,7 @@
 mod beside;
 mod charting;
 mod exploring;
+mod exploring_in_step;
 pub mod fault;
 mod in_step;
 mod making;

@@ -259,6 +259,7 @@ IsFinding command finding = (finding ≡ Run) ↔ (value_in (codes "found") comm
 
 -- which exploration a command asks for
 pub record AreExploreOptions (command : Used) (o : ExploreOptions) : Type 0 where
+  pub protocol : o.protocol ≡ protocol_in command
   pub wake : IsWake command o.wake
   pub limit : o.limit ≡ number_at (codes "limit") 1 MOST_STATES command
   pub finding : IsFinding command o.finding
@@ -402,13 +403,14 @@ has_network command =
 abbrev pub has_seeds : Used → Bool
 has_seeds command = is_range (value_in (codes "seeds") command) && are_two (value_in (codes "pair") command)
 
--- how a network is run goes with Borůvka in step: no threads, no other schedule than the seeded, no cores, nothing is told of the run
+-- how a network is run goes with Borůvka in step: no threads, no other schedule than the seeded, no cores, nothing is told of the
+-- run; an exploration may tell how far it has come, and only an exploration has a limit
 abbrev pub runs_in_step : Used → Bool
 runs_in_step command =
     is_number 0 0 (value_in (codes "workers") command)
     && is_among (codes "seeded" ∷ []) (value_in (codes "schedule") command)
     && not (is_said (codes "true") (value_in (codes "core") command))
-    && not (is_said (codes "true") (value_in (codes "progress") command))
+    && (not (is_none (value_in (codes "limit") command)) || not (is_said (codes "true") (value_in (codes "progress") command)))
     && not (is_said (codes "true") (value_in (codes "tally") command))
 
 -- what is swept does: one network, without its name, and the figures of its runs alone, by no parts, as text; only a sweep has a sheet

@@ -112,7 +112,9 @@ fn stranger_of_run<'a>(matches: &ArgMatches<'a>) -> Option<&'static str>
         Some("--schedule <schedule>")
     } else if is_said(value_of(matches, "core"), "true") {
         Some("--core")
-    } else if is_said(value_of(matches, "progress"), "true") {
+    } else if value_of(matches, "limit").is_none()
+        && is_said(value_of(matches, "progress"), "true")
+    {
         Some("--progress")
     } else if is_said(value_of(matches, "tally"), "true") {
         Some("--tally")

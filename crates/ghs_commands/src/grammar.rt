@@ -211,6 +211,7 @@ fn explore<'a>(alloc: Global) -> Result<Command<'a>, AllocError>
 {
     let arguments = vec![in alloc;
         file(alloc),
+        protocol(alloc),
         wake(alloc),
         limit(alloc),
         found(alloc),

@@ -1,9 +1,8 @@
-use Rattle.std.proofs.Common.{inl, inr, subst, sym}
-use Rattle.std.specs.Prelude.{IfErr, IfOk}
+use Rattle.std.proofs.Common.{inl, subst, sym}
 use Rattle.ghs_graph.specs.Graph.{Shape}
 use Rattle.boruvka_runs.specs.Runs.{IsRan}
 use Rattle.boruvka_runs.specs.declared.run.Ran.{Ran}
-use Rattle.ghs_cli.specs.InStep.{HasNoSeedView, IsRunShown, IsSeedView}
+use Rattle.ghs_cli.specs.InStep.{IsRunShown}
 use Rattle.ghs_cli.proofs.pages_in_step.seed_viewed.Goals as goal
 
 pub page_of-requires : goal.page_of-requires
