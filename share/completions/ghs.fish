@@ -60,6 +60,7 @@ complete -c ghs -n '__fish_seen_subcommand_from make' -l links -x -d 'How many l
 complete -c ghs -n '__fish_seen_subcommand_from make' -l weights -x -a 'random rising falling equal' -d 'How links weigh: random, rising, falling or equal; without it random, but for slow and busy, which have weights of their own'
 complete -c ghs -n '__fish_seen_subcommand_from make' -s h -l help -d 'Print help'
 complete -c ghs -n '__fish_seen_subcommand_from make' -f -a 'path ring star grid complete tree random road forest slow busy'
+complete -c ghs -n '__fish_seen_subcommand_from explore' -l protocol -x -a 'ghs boruvka' -d 'Which protocol the nodes follow: ghs, or boruvka, Borůvka in step, without threads and by a seeded schedule alone [default: ghs]'
 complete -c ghs -n '__fish_seen_subcommand_from explore' -l wake -x -a 'all first' -d 'Which nodes wake by themselves: all, or the first of each component [default: all]'
 complete -c ghs -n '__fish_seen_subcommand_from explore' -l limit -x -d 'How many states the runs may lead to, 1 to 10000000; with more there is no answer [default: 1000000]'
 complete -c ghs -n '__fish_seen_subcommand_from explore' -l print -x -a 'report trace' -d 'What is printed: report, the counts with which runs end, or trace, the events of a run that ends with those of --end [default: report]'
