@@ -9,7 +9,7 @@ use Rattle.std.proofs.lemmas.List.FromFn.{length-map-range_with_len, get_or-map-
 use Rattle.std.proofs.lemmas.List.Sums.{sum_by-set, get_or-le-sum_by, sum_by-cons, sum_by-append}
 use Rattle.ghs_node.specs.declared.message.Message.{Message}
 use Rattle.ghs_channels.specs.Queue.{QueueState, no_queue, pushed, taken, without_first, counted, requeued, rotated}
-use Rattle.ghs_channels.specs.Channels.{HasQueue, SamePorts, Changes, state_at, queues_of, destination_of, total_of}
+use Rattle.ghs_channels.specs.Channels.{HasQueue, SamePorts, Changes, first_queue, state_at, queues_of, destination_of, total_of}
 use Rattle.ghs_channels.specs.Kept.{Laid, AreInOrder, IsKept, start_of, part_of, node_at, port_at, seen, waiting_in}
 
 -- the queue of port p of node v has its place
@@ -156,6 +156,16 @@ module _ (l : Laid) (order : AreInOrder l) where
       ap length (seen_part v inside) ∙ part_length l.queues v refl inside in
       record { node = omega (arith, inside, seen_count); port = omega (arith, port, width) }
 
+  -- where the queues of a node begin
+  pub first_is : (v : ℕ) → v < length l.starts → first_queue (seen l) v ≡ start_of l v
+  first_is zero lt = sym order.first
+  first_is (suc v) lt =
+      let before = first_is v (omega arith) in
+      let up = order.rising v (v + 1) (omega arith) (omega arith) in
+      let width = ap length (seen_part v (omega arith)) ∙ part_length l.queues v refl (omega arith) in
+      let next : start_of l (v + 1) ≡ start_of l (suc v) = ap (start_of l) (add-one v) in
+      omega (arith, before, up, width, next)
+
   pub state_is : (v p : ℕ) → HasPlace l v p → state_at (seen l) v p ≡ get_or l.queues (start_of l v + p) no_queue
   state_is v p h = ap (λ (qs : List QueueState). get_or qs p no_queue) (seen_part v h.node) ∙ part_at l.queues v p no_queue h.port
 
@@ -299,6 +309,21 @@ changed_by l order v p start f x r has found was now =
 -- where the queue at a port stands
 pub stands : (l : Laid) → AreInOrder l → (v p : ℕ) → HasQueue (seen l) v p → v < length l.starts
 stands l order v p has = let h = has_place l order v p has in let n = h.node in omega arith
+
+-- a start that is the node's stands in the list
+pub start_told : (l : Laid) → AreInOrder l → (v start : ℕ) → v < length l.starts → start ≡ first_queue (seen l) v → start ≡ get_or l.starts v start
+start_told l order v start lt told = told ∙ first_is l order v lt ∙ get_or_default l.starts v 0 start lt
+
+pub port_told : (l : Laid) → AreInOrder l → (v p start : ℕ) → HasQueue (seen l) v p → start ≡ first_queue (seen l) v → start ≡ get_or l.starts v start
+port_told l order v p start has told = start_told l order v start (stands l order v p has) told
+
+-- and the other way
+pub node_inside : (l : Laid) → AreInOrder l → (v : ℕ) → v < length (seen l).queues → v < length l.starts
+node_inside l order v lt = let n = seen_count l order in omega (arith, n, lt)
+
+pub first_found : (l : Laid) → AreInOrder l → (v start : ℕ) → v < length (seen l).queues → start ≡ get_or l.starts v start → start ≡ first_queue (seen l) v
+first_found l order v start inside found =
+    let lt = node_inside l order v inside in found ∙ get_or_default l.starts v start 0 lt ∙ sym (first_is l order v lt)
 
 pub stands_at : (l : Laid) → AreInOrder l → (v p start : ℕ) → HasQueue (seen l) v p → start ≡ get_or l.starts v start → start + p < length l.queues
 stands_at l order v p start has found =

@@ -1,5 +1,5 @@
 -- The queues of a network: one list of messages for each port of each node.
-use Rattle.std.specs.Prelude.{◌≡◌, ℕ, ◌+◌, ◌<◌, ◌≤◌, ◌==◌, ◌↔◌, List, [], length, slice_index_or}
+use Rattle.std.specs.Prelude.{◌≡◌, ℕ, zero, suc, ◌+◌, ◌<◌, ◌≤◌, ◌==◌, ◌↔◌, List, [], length, slice_index_or}
 use Rattle.std.specs.List.{All, sum_by, count_by}
 use Rattle.ghs_graph.specs.declared.port.Port.{Port}
 use Rattle.ghs_graph.specs.Graph.{Shape, IsGraph}
@@ -20,6 +20,11 @@ queues_of l v = slice_index_or l.queues v []
 pub record HasQueue (l : ChannelsState) (v p : ℕ) : Type 0 where
   pub node : v < length l.queues
   pub port : p < length (queues_of l v)
+
+-- how many queues the nodes of lower numbers have: so many stand before those of node v
+abbrev pub first_queue : ChannelsState → ℕ → ℕ
+first_queue l zero = 0
+first_queue l (suc v) = first_queue l v + length (queues_of l v)
 
 -- what waits at port p of node v, and the room beside it
 abbrev pub state_at : ChannelsState → ℕ → ℕ → QueueState

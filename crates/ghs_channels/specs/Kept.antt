@@ -1,5 +1,5 @@
 -- How all queues are laid out, and what their fields keep.
-use Rattle.std.specs.Prelude.{◌≡◌, ℕ, ◌+◌, ◌-◌, ◌*◌, ◌<◌, ◌≤◌, ◌==◌, nat_le, List, [], length, map, take, count_by, slice_index, slice_index_or}
+use Rattle.std.specs.Prelude.{◌≡◌, ℕ, ◌+◌, ◌-◌, ◌<◌, ◌≤◌, ◌==◌, nat_le, List, [], length, map, take, count_by, slice_index, slice_index_or}
 use Rattle.std.specs.List.{range_with_len, slice_range, sum_by}
 use Rattle.ghs_graph.specs.Graph.{Shape, nodes_of}
 use Rattle.ghs_graph.specs.Ports.{ports_of}

@@ -1,7 +1,7 @@
 //! Where the queues of each node stand.
-ghost use Rattle.std.specs.Prelude.{◌≡◌, ◌+◌, ◌<◌, ◌≤◌, length, slice_index, IfOk};
+ghost use Rattle.std.specs.Prelude.{◌≡◌, ◌+◌, ◌≤◌, length, take, drop, slice_index, IfOk};
 ghost use Rattle.ghs_graph.specs.Graph.{IsGraph};
-ghost use Rattle.ghs_channels.specs.Kept.{AreBlocks, AreParts, LeadFar, EachEmpty, part_of};
+ghost use Rattle.ghs_channels.specs.Kept.{AreBlocks, AreParts, LeadFar, EachEmpty};
 
 use crate::queue::Queue;
 use ghs_graph::graph::Graph;
@@ -62,13 +62,11 @@ pub fn far_places(alloc: Global, graph: &Graph, starts: &[u32]) -> Result<Vec<u3
     Ok(far)
 }
 
-/// The part of node `v` of a list that has something for each queue.
-pub fn part<'a>(starts: &[u32], list: &'a [u32], v: u32) -> &'a [u32]
-    requires node { v + 1 < length starts.now }
-    requires order { slice_index starts.now v ≤ slice_index starts.now (v + 1) }
-    requires within { slice_index starts.now (v + 1) ≤ length list.now }
-    ensures { result.now ≡ part_of starts.now list.now v }
+/// So many numbers of a list from a place on; fewer, where the list ends before.
+pub fn stretch(list: &[u32], from: usize, most: usize) -> &[u32]
+    requires { from ≤ length list.now }
+    ensures { result.now ≡ take most (drop from list.now) }
 {
-    let at = v as usize;
-    &list[starts[at] as usize..starts[at + 1] as usize]
+    let rest = &list[from..];
+    &rest[..rest.len().min(most)]
 }

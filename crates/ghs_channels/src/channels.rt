@@ -1,9 +1,9 @@
 //! All channels of a network.
 ghost use Rattle.std.specs.Prelude.{◌≡◌, ℕ, ◌+◌, ◌-◌, ◌<◌, ◌≤◌, ◌^◌, [], length, slice_get, slice_index, slice_index_or, IfOk, OnOk, OnErr};
 ghost use Rattle.ghs_channels.specs.Queue.{pushed, taken, requeued, counted};
-ghost use Rattle.ghs_channels.specs.Channels.{HasQueue, IsFor, AllEmpty, Changes, KeepsLists, GoOut, HasRoomFor, state_at, queue_at, room_at, total_of, destination_of};
+ghost use Rattle.ghs_channels.specs.Channels.{HasQueue, first_queue, IsFor, AllEmpty, Changes, KeepsLists, GoOut, HasRoomFor, state_at, queue_at, room_at, total_of, destination_of};
 
-use crate::blocks::{Blocks, empty_queues, far_places, lay_blocks, part};
+use crate::blocks::{Blocks, empty_queues, far_places, lay_blocks, stretch};
 use crate::claims::make_room;
 use crate::queue::Queue;
 use ghs_graph::graph::Graph;
@@ -66,6 +66,14 @@ impl Channels {
         })
     }
 
+    /// Where the queues of a node begin among all queues.
+    pub fn start(&self, v: u32) -> u32
+        requires { v < length self.now.queues }
+        ensures { result ≡ first_queue self.now v }
+    {
+        self.starts[v as usize]
+    }
+
     /// Makes room for the messages that node `v` sends, at the far ends of the ports that they go out on. It is refused
     /// only where there was no room for them.
     pub fn reserve_for(&mut self, v: u32, sends: &[(u32, Message)]) -> Result<(), AllocError>
@@ -75,7 +83,25 @@ impl Channels {
         ensures room { OnOk result (HasRoomFor v sends.now self.new) }
         ensures full { OnErr result (HasRoomFor v sends.now self.old → ⊥) }
     {
-        let far = part(&self.starts, &self.far, v);
+        self.reserve_from(self.start(v), v, sends)
+    }
+
+    /// The same, where it is known where the queues of the node begin.
+    pub fn reserve_from(
+        &mut self,
+        start: u32,
+        v: u32,
+        sends: &[(u32, Message)],
+    ) -> Result<(), AllocError>
+        requires node { v < length self.old.queues }
+        requires start { start ≡ first_queue self.old v }
+        requires ports { GoOut self.old v sends.now }
+        ensures lists { KeepsLists self.old self.new }
+        ensures room { OnOk result (HasRoomFor v sends.now self.new) }
+        ensures full { OnErr result (HasRoomFor v sends.now self.old → ⊥) }
+    {
+        // No node has more ports than there are claims.
+        let far = stretch(&self.far, start as usize, self.claims.len());
         make_room(self.alloc, far, &mut self.queues, &mut self.claims, sends)
     }
 
@@ -86,7 +112,18 @@ impl Channels {
         requires total { total_of self.old < 2 ^ 64 - 1 }
         ensures { let to = destination_of self.old v port in Changes self.old self.new to.0 to.1 (pushed (state_at self.old to.0 to.1) message) }
     {
-        let to = self.far[self.starts[v as usize] as usize + port as usize];
+        self.send_from(self.start(v), v, port, message);
+    }
+
+    /// The same, where it is known where the queues of the node begin.
+    pub fn send_from(&mut self, start: u32, v: u32, port: u32, message: Message)
+        requires start { start ≡ first_queue self.old v }
+        requires port { HasQueue self.old v port }
+        requires room { let to = destination_of self.old v port in 0 < room_at self.old to.0 to.1 }
+        requires total { total_of self.old < 2 ^ 64 - 1 }
+        ensures { let to = destination_of self.old v port in Changes self.old self.new to.0 to.1 (pushed (state_at self.old to.0 to.1) message) }
+    {
+        let to = self.far[start as usize + port as usize];
         self.queues[to as usize].push(message);
         self.total += 1;
     }
@@ -109,8 +146,17 @@ impl Channels {
         ensures first { result ≡ slice_get (queue_at self.old v port) 0 }
         ensures left { Changes self.old self.new v port (taken (state_at self.old v port)) }
     {
-        let at = self.starts[v as usize] as usize + port as usize;
-        let first = self.queues[at].take_front();
+        self.take_front_from(self.start(v), v, port)
+    }
+
+    /// The same, where it is known where the queues of the node begin.
+    pub fn take_front_from(&mut self, start: u32, v: u32, port: u32) -> Option<Message>
+        requires start { start ≡ first_queue self.old v }
+        requires port { HasQueue self.old v port }
+        ensures first { result ≡ slice_get (queue_at self.old v port) 0 }
+        ensures left { Changes self.old self.new v port (taken (state_at self.old v port)) }
+    {
+        let first = self.queues[start as usize + port as usize].take_front();
         self.total -= count(&first);
         first
     }
@@ -120,8 +166,16 @@ impl Channels {
         requires port { HasQueue self.old v port }
         ensures { Changes self.old self.new v port (requeued (state_at self.old v port)) }
     {
-        let at = self.starts[v as usize] as usize + port as usize;
-        self.queues[at].requeue();
+        self.requeue_from(self.start(v), v, port);
+    }
+
+    /// The same, where it is known where the queues of the node begin.
+    pub fn requeue_from(&mut self, start: u32, v: u32, port: u32)
+        requires start { start ≡ first_queue self.old v }
+        requires port { HasQueue self.old v port }
+        ensures { Changes self.old self.new v port (requeued (state_at self.old v port)) }
+    {
+        self.queues[start as usize + port as usize].requeue();
     }
 
     /// The first message that waits at a port.
@@ -129,7 +183,16 @@ impl Channels {
         requires { HasQueue self.now v port }
         ensures { result ≡ slice_get (queue_at self.now v port) 0 }
     {
-        self.queues[self.starts[v as usize] as usize + port as usize].front()
+        self.front_from(self.start(v), v, port)
+    }
+
+    /// The same, where it is known where the queues of the node begin.
+    pub fn front_from(&self, start: u32, v: u32, port: u32) -> Option<Message>
+        requires start { start ≡ first_queue self.now v }
+        requires port { HasQueue self.now v port }
+        ensures { result ≡ slice_get (queue_at self.now v port) 0 }
+    {
+        self.queues[start as usize + port as usize].front()
     }
 
     /// How many messages wait at a port.

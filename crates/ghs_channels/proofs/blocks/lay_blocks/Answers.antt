@@ -1,4 +1,4 @@
-use Rattle.std.proofs.Common.{◌≡◌, ◌≤◌, ◌+◌, length, refl, ap, arith}
+use Rattle.std.proofs.Common.{◌≡◌, ◌+◌, length, refl, ap, arith}
 use Rattle.std.proofs.lemmas.Grind.{common_steps}
 use Rattle.ghs_channels.proofs.lemmas.Ports.{ports_few}
 use Rattle.ghs_channels.proofs.Laying.{no_blocks, blocks_step, next_few}
