@@ -1,5 +1,5 @@
 -- Ends laid one after another, and far places read.
-use Rattle.std.proofs.Common.{◌≡◌, ℕ, suc, ◌+◌, ◌-◌, ◌<◌, ◌≤◌, List, [], ◌∷◌, ◌++◌, length, get_or, sym, ◌∙◌, ap, ap₂, subst, ⊎_elim, arith, length-append, append_assoc}
+use Rattle.std.proofs.Common.{◌≡◌, ℕ, suc, ◌+◌, ◌-◌, ◌<◌, ◌≤◌, List, [], ◌∷◌, ◌++◌, length, map, get_or, sym, ◌∙◌, ap, ap₂, subst, ⊎_elim, arith, length-append, append_assoc}
 use Rattle.std.proofs.lemmas.Bool.{cases_lt}
 use Rattle.std.proofs.lemmas.List.{map-append, length-map, get_or_push, get_or_append_left, get_or-map}
 use Rattle.ghs_graph.specs.Graph.{Shape, IsGraph}
@@ -9,7 +9,7 @@ use Rattle.peer_network.specs.Network.{Network, At, network_of}
 use Rattle.peer_network.proofs.lemmas.Graphs.{graph_wired}
 use Rattle.peer_index.specs.declared.ends.Ends.{Ends}
 use Rattle.peer_index.specs.Places.{events_at, events_to, all_events, far_place, far_take, place, HasPlace}
-use Rattle.peer_index.specs.Index.{IndexState, AreBases, AreEnds, AreFars, AreOwners, IsFor, IsOwner, fars_in, owners_in}
+use Rattle.peer_index.specs.Index.{IndexState, AreBases, AreEnds, AreFars, AreOwnBases, AreOwners, IsFor, IsOwner, fars_in, own_bases_in, owners_in}
 use Rattle.peer_index.proofs.lemmas.Lists.{map_get}
 use Rattle.peer_index.proofs.lemmas.Places.{length_at, place_within, placed}
 use Rattle.peer_index.proofs.Finding.{span}
@@ -21,6 +21,15 @@ pub owner_told : (bases : List ℕ) (ends : List Ends) (at : ℕ) (d : Ends) →
 owner_told bases ends at d are lt =
     subst (IsOwner bases at) (get_or-map (λ (x : Ends). x.owner) ends at d 0 lt)
     (are.owner at (omega (arith, lt, length-map ends (λ (x : Ends). x.owner))))
+
+-- where the events of its owner begin stands there too
+pub base_told : (bases : List ℕ) (ends : List Ends) (at : ℕ) (d : Ends) → AreOwnBases bases (owners_in ends) (own_bases_in ends) →
+    at < length ends → (get_or ends at d).base ≡ get_or bases (get_or ends at d).owner 0
+base_told bases ends at d are lt =
+    sym (get_or-map (λ (x : Ends). x.base) ends at d 0 lt)
+    ∙ ap (λ (l : List ℕ). get_or l at 0) are
+    ∙ get_or-map (λ (v : ℕ). get_or bases v 0) (owners_in ends) at 0 0 (omega (arith, lt, length-map ends (λ (x : Ends). x.owner)))
+    ∙ ap (λ (v : ℕ). get_or bases v 0) (get_or-map (λ (x : Ends). x.owner) ends at d 0 lt)
 
 -- a far place is a place, and few are
 pub far_has : (g : Shape) (v p : ℕ) → IsGraph g → At (network_of g) v p → HasPlace (network_of g) (far_take (network_of g) v p)
@@ -50,8 +59,8 @@ module _ (g : Network) where
 
   module _ (bases : List ℕ) where
     one_more : (es : List Event) (e : Event) (ends : List Ends) (x : Ends) → AreEnds g bases es ends → IsOwner bases (length es) x.owner →
-        x.far ≡ far_place g e → AreEnds g bases (es ++ e ∷ []) (ends ++ x ∷ [])
-    one_more es e ends x before own is = record { owner = at; fars = fars }
+        x.far ≡ far_place g e → x.base ≡ get_or bases x.owner 0 → AreEnds g bases (es ++ e ∷ []) (ends ++ x ∷ [])
+    one_more es e ends x before own is begins = record { owner = at; fars = fars; own = own_bases }
       where
         many : length (owners_in ends) ≡ length es
         many = length-map ends (λ (y : Ends). y.owner) ∙ many_ends es ends before.fars
@@ -62,6 +71,12 @@ module _ (g : Network) where
         fars : AreFars g (es ++ e ∷ []) (fars_in (ends ++ x ∷ []))
         fars = map-append (λ (y : Ends). y.far) ends (x ∷ []) ∙ ap₂ (λ (ns ms : List ℕ). ns ++ ms) before.fars (ap (λ n. n ∷ []) is)
             ∙ sym (map-append (far_place g) es (e ∷ []))
+
+        own_bases : AreOwnBases bases (owners_in (ends ++ x ∷ [])) (own_bases_in (ends ++ x ∷ []))
+        own_bases = map-append (λ (y : Ends). y.base) ends (x ∷ [])
+            ∙ ap₂ (λ (ns ms : List ℕ). ns ++ ms) before.own (ap (λ n. n ∷ []) begins)
+            ∙ sym (map-append (λ (v : ℕ). get_or bases v 0) (owners_in ends) (x.owner ∷ []))
+            ∙ ap (map (λ (v : ℕ). get_or bases v 0)) (sym owners)
 
         at : (i : ℕ) → i < length (ends ++ x ∷ []) → IsOwner bases i (get_or (owners_in (ends ++ x ∷ [])) i 0)
         at i lt = ⊎_elim
@@ -88,22 +103,22 @@ module _ (g : Network) where
           let count = are.count in
           record { node = low; last = omega arith; from = omega arith; to = omega arith }
 
-      pub wake_laid : (ends new : List Ends) (f : ℕ) → AreEnds g bases (events_to g (v - 1)) ends → f ≡ place g (Wake v) →
-          new ≡ ends ++ (record { owner = v; far = f }) ∷ [] → AreEnds g bases (events_to g (v - 1) ++ events_at v 0) new
-      wake_laid ends new f before is same =
+      pub wake_laid : (ends new : List Ends) (b : ℕ) → AreEnds g bases (events_to g (v - 1)) ends → b ≡ get_or bases v 0 →
+          new ≡ ends ++ (record { owner = v; far = b; base = b }) ∷ [] → AreEnds g bases (events_to g (v - 1) ++ events_at v 0) new
+      wake_laid ends new b before is same =
           let next : length (events_to g (v - 1)) + 0 ≡ length (events_to g (v - 1)) = omega arith in
-          rw same (one_more (events_to g (v - 1)) (Wake v) ends (record { owner = v; far = f }) before
-          (subst (λ (i : ℕ). IsOwner bases i v) next (own 0 (omega arith))) is)
+          rw same (one_more (events_to g (v - 1)) (Wake v) ends (record { owner = v; far = b; base = b }) before
+          (subst (λ (i : ℕ). IsOwner bases i v) next (own 0 (omega arith))) (is ∙ (span g bases v are low high).from) is)
 
-      pub take_laid : (j : ℕ) (ends new : List Ends) (f : ℕ) → j < length (g.ports v) → AreEnds g bases (events_to g (v - 1) ++ events_at v j) ends →
-          f ≡ place g (far_take g v j) → new ≡ ends ++ (record { owner = v; far = f }) ∷ [] →
+      pub take_laid : (j : ℕ) (ends new : List Ends) (f b : ℕ) → j < length (g.ports v) → AreEnds g bases (events_to g (v - 1) ++ events_at v j) ends →
+          f ≡ place g (far_take g v j) → b ≡ get_or bases v 0 → new ≡ ends ++ (record { owner = v; far = f; base = b }) ∷ [] →
           AreEnds g bases (events_to g (v - 1) ++ events_at v (j + 1)) new
-      take_laid j ends new f lt before is same =
+      take_laid j ends new f b lt before is begins same =
           let up : j + 1 ≡ suc j = omega arith in
           let l = length-append (events_to g (v - 1)) (events_at v j) in
           let m = length_at v j in
           let next : length (events_to g (v - 1)) + suc j ≡ length (events_to g (v - 1) ++ events_at v j) = omega arith in
-          rw (same, up) (subst (λ (es : List Event). AreEnds g bases es (ends ++ (record { owner = v; far = f }) ∷ []))
+          rw (same, up) (subst (λ (es : List Event). AreEnds g bases es (ends ++ (record { owner = v; far = f; base = b }) ∷ []))
           (append_assoc (events_to g (v - 1)) (events_at v j) (Take v j ∷ []))
-          (one_more (events_to g (v - 1) ++ events_at v j) (Take v j) ends (record { owner = v; far = f }) before
-          (subst (λ (i : ℕ). IsOwner bases i v) next (own (suc j) lt)) is))
+          (one_more (events_to g (v - 1) ++ events_at v j) (Take v j) ends (record { owner = v; far = f; base = b }) before
+          (subst (λ (i : ℕ). IsOwner bases i v) next (own (suc j) lt)) is begins))

@@ -1,19 +1,20 @@
 -- Marked events are found.
-use Rattle.std.proofs.Common.{◌≡◌, ℕ, zero, suc, ◌+◌, ◌-◌, ◌<◌, ◌≤◌, Bool, true, false, List, [], ◌∷◌, length, map, filter, take, get_or, Option, Some, None, refl, sym, ◌∙◌, ap, ⊎_elim, arith}
+use Rattle.std.proofs.Common.{◌≡◌, ◌≢◌, ℕ, zero, suc, ◌+◌, ◌-◌, ◌<◌, ◌≤◌, Bool, true, false, List, [], ◌∷◌, length, map, filter, take, get_or, Option, Some, None, refl, sym, ◌∙◌, ap, ⊎_elim, arith}
 use Rattle.std.specs.List.{slice_get, find, list_any, range_with_len}
 use Rattle.std.specs.Option.{is_some}
-use Rattle.std.proofs.lemmas.Bool.{cases_lt, cases_Bool}
+use Rattle.std.proofs.lemmas.Bool.{cases_eq, cases_lt, cases_Bool}
 use Rattle.std.proofs.lemmas.List.Sums.{sum_by-cons}
-use Rattle.std.proofs.lemmas.Option.{slice_get_within}
+use Rattle.std.proofs.lemmas.Option.{same_Some, slice_get_within}
 use Rattle.peer_network.specs.declared.event.Event.{Event}
 use Rattle.peer_network.specs.declared.event.Event.TheVariants.{Wake, Take}
+use Rattle.peer_network.specs.Events.{event_node}
 use Rattle.peer_network.specs.Network.{Network}
 use Rattle.ghs_flags.specs.First.{NonePasses}
 use Rattle.ghs_flags.specs.Flags.{count, at, one_if, IsFirstFrom}
-use Rattle.peer_index.specs.Places.{node_events, events_to, all_events, takes}
+use Rattle.peer_index.specs.Places.{node_events, events_to, all_events, takes, place, IsPlaced}
 use Rattle.peer_index.specs.Index.{IndexState, AreBases, IsOwner, IsIndexOf}
 use Rattle.peer_index.proofs.lemmas.Lists.{map_at, any_at, none_any, find_at, find_none, get_some, first_found, none_found}
-use Rattle.peer_index.proofs.lemmas.Places.{length_at, take_at, takes_at, takes_only, length_next, longer, node_place, placed}
+use Rattle.peer_index.proofs.lemmas.Places.{length_at, take_at, takes_at, takes_only, length_next, longer, node_place, only_place, placed}
 use Rattle.peer_index.proofs.lemmas.Marks.{is_for}
 
 -- the k-th mark stands where the k-th event that passes does
@@ -214,6 +215,24 @@ take_stands g bases v i b own ne =
     ⊎_elim (λ (lt : get_or bases v 0 < i). lt) (λ (le : i ≤ get_or bases v 0). absurd (ne (omega arith))) (cases_lt (get_or bases v 0) i) in
     let here : i ≡ length (events_to g (v - 1)) + suc (i - get_or bases v 0 - 1) = omega arith in
     ap (slice_get (all_events g)) here ∙ placed g (Take v (i - get_or bases v 0 - 1)) (record { some = lo; node = omega arith; port = omega arith })
+
+-- an event is of the owner of its place, and so placed by that one's base
+pub placed_told : (g : Network) (bases : List ℕ) (v i b : ℕ) (e : Event) → AreBases g g.count bases → IsOwner bases i v → b ≡ get_or bases v 0 →
+    slice_get (all_events g) i ≡ Some e → IsPlaced g (record { event = e; base = b })
+placed_told g bases v i b e are own is here = record { event = (only_place g i e here).0; base = is ∙ from ∙ ap (λ (u : ℕ). place g (Wake u)) (sym of) }
+  where
+    lo : 1 ≤ v
+    lo = own.node
+
+    from : get_or bases v 0 ≡ length (events_to g (v - 1))
+    from = (let c = are.count in let top = own.last in (span g bases v are lo (omega arith)).from)
+
+    of : event_node e ≡ v
+    of = ⊎_elim
+        (λ (at : i ≡ get_or bases v 0). ap event_node (same_Some e (Wake v) (sym here ∙ wake_stands g bases v i are own at)))
+        (λ (past : i ≢ get_or bases v 0).
+        ap event_node (same_Some e (Take v (i - get_or bases v 0 - 1)) (sym here ∙ take_stands g bases v i are own past)))
+        (cases_eq i (get_or bases v 0))
 
 pub base_within : (g : Network) (bases : List ℕ) (v : ℕ) → AreBases g g.count bases → 1 ≤ v → v ≤ g.count + 1 →
     get_or bases v 0 ≤ length (all_events g)

@@ -34,17 +34,25 @@ pub record AreOwners (bases owners : List ℕ) : Type 0 where
 abbrev pub AreFars : Network → List Event → List ℕ → Type 0
 AreFars g es fars = fars ≡ map (far_place g) es
 
--- the owners, and the far places, that stand side by side in one list
+-- of each place where the events of its owner begin
+abbrev pub AreOwnBases : List ℕ → List ℕ → List ℕ → Type 0
+AreOwnBases bases owners own = own ≡ map (λ (v : ℕ). slice_index bases v) owners
+
+-- the owners, the far places and the owners' bases, that stand side by side in one list
 abbrev pub owners_in : List Ends → List ℕ
 owners_in ends = map (λ (e : Ends). e.owner) ends
 
 abbrev pub fars_in : List Ends → List ℕ
 fars_in ends = map (λ (e : Ends). e.far) ends
 
--- of the first events the owners and far places
+abbrev pub own_bases_in : List Ends → List ℕ
+own_bases_in ends = map (λ (e : Ends). e.base) ends
+
+-- of the first events the owners, far places and owners' bases
 pub record AreEnds (g : Network) (bases : List ℕ) (es : List Event) (ends : List Ends) : Type 0 where
   pub owner : (at : ℕ) → at < length ends → IsOwner bases at (slice_index (owners_in ends) at)
   pub fars : AreFars g es (fars_in ends)
+  pub own : AreOwnBases bases (owners_in ends) (own_bases_in ends)
 
 -- the index has a far place and a mark for each event of the network
 pub record IsFor (g : Network) (x : IndexState) : Type 0 where

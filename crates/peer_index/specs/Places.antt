@@ -1,8 +1,10 @@
 -- Where the events of a network stand among all of them.
-use Rattle.std.specs.Prelude.{ℕ, zero, suc, ◌+◌, ◌-◌, ◌≤◌, Bool, List, [], ◌∷◌, ◌++◌, length}
+use Rattle.std.specs.Prelude.{◌≡◌, ℕ, zero, suc, ◌+◌, ◌-◌, ◌≤◌, Bool, List, [], ◌∷◌, ◌++◌, length}
 use Rattle.peer_network.specs.declared.event.Event.{Event}
 use Rattle.peer_network.specs.declared.event.Event.TheVariants.{Wake, Take}
+use Rattle.peer_network.specs.Events.{event_node}
 use Rattle.peer_network.specs.Network.{Network, At, far, far_port, is_node, is_port}
+use Rattle.peer_index.specs.declared.placed.Placed.{Placed}
 
 -- the events of node v at its first d ports: Wake, then the ports rising
 abbrev pub events_at : ℕ → ℕ → List Event
@@ -50,3 +52,8 @@ far_take g v p = Take (far g v p) (far_port g v p)
 abbrev pub far_place : Network → Event → ℕ
 far_place g (Wake v) = place g (Wake v)
 far_place g (Take v p) = place g (far_take g v p)
+
+-- an event of the network, and the place of the Wake of its node
+pub record IsPlaced (g : Network) (x : Placed) : Type 0 where
+  pub event : HasPlace g x.event
+  pub base : x.base ≡ place g (Wake (event_node x.event))

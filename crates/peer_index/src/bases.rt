@@ -1,9 +1,12 @@
 //! Where the events of each node begin among all events.
 ghost use Rattle.std.specs.Prelude.{◌≡◌, ◌+◌, ◌-◌, ◌<◌, ◌≤◌, ◌^◌, Some, length, slice_get, slice_index, IfOk};
+ghost use Rattle.peer_network.specs.declared.event.Event.TheVariants.{Wake};
+ghost use Rattle.peer_network.specs.Events.{event_node};
 ghost use Rattle.peer_network.specs.Network.{network_of};
-ghost use Rattle.peer_index.specs.Places.{all_events, place, HasPlace};
+ghost use Rattle.peer_index.specs.Places.{all_events, place, HasPlace, IsPlaced};
 ghost use Rattle.peer_index.specs.Index.{AreBases, AreOwners, IsOwner};
 
+use crate::placed::Placed;
 use ghs_graph::graph::Graph;
 use peer_network::event::Event;
 use std::alloc::{AllocError, Global};
@@ -35,6 +38,30 @@ pub fn place_of(bases: &[u32], graph: &Graph, event: Event) -> usize
     match event {
         Event::Wake(v) => bases[v as usize] as usize,
         Event::Take(v, port) => bases[v as usize] as usize + 1 + port as usize,
+    }
+}
+
+/// The place of a placed event, which looks nothing up. O(1).
+pub fn place_behind(graph: &Graph, placed: Placed) -> usize
+    requires { IsPlaced (network_of graph.now) placed }
+    ensures { result ≡ place (network_of graph.now) placed.event }
+{
+    match placed.event {
+        Event::Wake(_) => placed.base as usize,
+        Event::Take(_, port) => placed.base as usize + 1 + port as usize,
+    }
+}
+
+/// The place of the Wake of an event's node. O(1).
+pub fn wake_place_of(bases: &[u32], graph: &Graph, event: Event) -> u32
+    requires bases { AreBases (network_of graph.now) graph.now.nodes bases.now }
+    requires place { HasPlace (network_of graph.now) event }
+    ensures { result ≡ place (network_of graph.now) (Wake (event_node event)) }
+{
+    let _ = graph.nodes();
+    match event {
+        Event::Wake(v) => bases[v as usize],
+        Event::Take(v, _) => bases[v as usize],
     }
 }
 
@@ -98,10 +125,22 @@ pub fn event_of(bases: &[u32], graph: &Graph, v: u32, at: usize) -> Event
     ensures { slice_get (all_events (network_of graph.now)) at ≡ Some result }
 {
     let _ = graph.nodes();
-    let base = bases[v as usize] as usize;
-    if at == base {
+    event_behind(bases, graph, v, bases[v as usize], at)
+}
+
+/// The same, where the place of the node's first event is at hand: the bases only say what is meant. O(1).
+pub fn event_behind(bases: &[u32], graph: &Graph, v: u32, base: u32, at: usize) -> Event
+    requires bases { AreBases (network_of graph.now) graph.now.nodes bases.now }
+    requires owner { IsOwner bases.now at v }
+    requires base { base ≡ slice_index bases.now v }
+    requires within { at < length (all_events (network_of graph.now)) }
+    ensures { slice_get (all_events (network_of graph.now)) at ≡ Some result }
+{
+    let _ = graph.nodes();
+    let wake = base as usize;
+    if at == wake {
         Event::Wake(v)
     } else {
-        Event::Take(v, (at - base - 1) as u32)
+        Event::Take(v, (at - wake - 1) as u32)
     }
 }

@@ -3,13 +3,15 @@ ghost use Rattle.std.specs.Prelude.{◌≡◌, ℕ, Bool, ◌+◌, ◌-◌, ◌<
 ghost use Rattle.std.specs.List.{find, list_any, range_with_len};
 ghost use Rattle.ghs_graph.specs.Ports.{ports_of};
 ghost use Rattle.peer_network.specs.declared.event.Event.{Event as Happening};
+ghost use Rattle.peer_network.specs.Events.{event_node};
 ghost use Rattle.peer_network.specs.Network.{At, Network, network_of};
 ghost use Rattle.ghs_flags.specs.Flags.{count};
-ghost use Rattle.peer_index.specs.Places.{all_events, far_take, node_events, takes, place, HasPlace};
+ghost use Rattle.peer_index.specs.Places.{all_events, far_take, node_events, takes, place, HasPlace, IsPlaced};
 ghost use Rattle.peer_index.specs.Index.{IsFor, IsIndexOf};
 
-use crate::bases::{base_of, event_of, lay_bases, place_of, span_of};
-use crate::ends::{Ends, far_at, lay_ends, owner_at};
+use crate::bases::{base_of, event_behind, lay_bases, place_behind, span_of, wake_place_of};
+use crate::ends::{Ends, ends_at, far_at, lay_ends, owner_at};
+use crate::placed::Placed;
 use ghs_flags::flags::Flags;
 use ghs_graph::graph::Graph;
 use peer_network::event::Event;
@@ -17,25 +19,26 @@ use std::alloc::{AllocError, Global};
 use std::marker::Model;
 
 /// Of the events that name a node or port of a graph some are marked. They stand by node, Wake before ports, ports
-/// rising. The index takes 4 bytes a node, and 8 bytes, a bit and a sixteenth of a bit an event.
+/// rising. The index takes 4 bytes a node, and 12 bytes, a bit and a sixteenth of a bit an event.
 #[derive(Debug, Drop)]
 pub struct Index {
     /// The place of the first event of each node, and behind them how many events there are; 0 is no node.
     bases: Vec<u32>,
-    /// Of each place the node whose event stands there, and the place at the far end. They lie side by side: a run looks
-    /// up the node of the event that it picks, and then the far places of the ports of that node, which are near.
+    /// Of each place the node whose event stands there, the place at the far end, and where the node's events begin. They
+    /// lie side by side: a run looks up the node of the event that it picks and where its events begin, and then the far
+    /// places of the ports of that node, which are near.
     ends: Vec<Ends>,
     marks: Flags,
 }
 
 impl Model for Index {
-    ghost use Rattle.peer_index.specs.Index.{IndexState, AreOwners, fars_in, owners_in};
+    ghost use Rattle.peer_index.specs.Index.{IndexState, AreOwnBases, AreOwners, fars_in, own_bases_in, owners_in};
 
     ghost Value = { IndexState };
 
     ghost view = { λ x. record { bases = x.bases.items; fars = fars_in x.ends.items; marks = x.marks } };
 
-    ghost invariant = { λ x. AreOwners x.bases.items (owners_in x.ends.items) };
+    ghost invariant = { λ x. AreOwners x.bases.items (owners_in x.ends.items) × AreOwnBases x.bases.items (owners_in x.ends.items) (own_bases_in x.ends.items) };
 }
 
 impl Index {
@@ -63,8 +66,17 @@ impl Index {
         requires place { HasPlace (network_of graph.now) event }
         ensures { self.new ≡ record self.old { marks = slice_set self.old.marks (place (network_of graph.now) event) marked } }
     {
-        let at = place_of(&self.bases, graph, event);
-        self.marks.set(at, marked);
+        let placed = self.placed(graph, event);
+        self.set_placed(graph, placed, marked);
+    }
+
+    /// Marks a placed event, or takes its mark away. O(1), and takes no memory.
+    pub fn set_placed(&mut self, graph: &Graph, placed: Placed, marked: bool)
+        requires index { IsFor (network_of graph.now) self.old }
+        requires placed { IsPlaced (network_of graph.now) placed }
+        ensures { self.new ≡ record self.old { marks = slice_set self.old.marks (place (network_of graph.now) placed.event) marked } }
+    {
+        self.marks.set(place_behind(graph, placed), marked);
     }
 
     /// Marks the Take at the far end of a port. O(1), and takes no memory.
@@ -73,10 +85,32 @@ impl Index {
         requires port { At (network_of graph.now) v port }
         ensures { self.new ≡ record self.old { marks = slice_set self.old.marks (place (network_of graph.now) (far_take (network_of graph.now) v port)) true } }
     {
+        let placed = self.placed(graph, Event::Wake(v));
+        self.mark_far_take_placed(graph, placed, port);
+    }
+
+    /// Marks the Take at the far end of a port of a placed event's node. O(1), and takes no memory.
+    pub fn mark_far_take_placed(&mut self, graph: &Graph, placed: Placed, port: u32)
+        requires index { IsFor (network_of graph.now) self.old }
+        requires placed { IsPlaced (network_of graph.now) placed }
+        requires port { At (network_of graph.now) (event_node placed.event) port }
+        ensures { let g = network_of graph.now in self.new ≡ record self.old { marks = slice_set self.old.marks (place g (far_take g (event_node placed.event) port)) true } }
+    {
         let _ = graph.nodes();
-        let at = place_of(&self.bases, graph, Event::Take(v, port));
+        let at = placed.base as usize + 1 + port as usize;
         let far = far_at(&self.ends, at);
         self.marks.set(far, true);
+    }
+
+    /// An event with where those of its node begin. O(1).
+    pub fn placed(&self, graph: &Graph, event: Event) -> Placed
+        requires index { IsFor (network_of graph.now) self.now }
+        requires place { HasPlace (network_of graph.now) event }
+        ensures event { result.event ≡ event }
+        ensures placed { IsPlaced (network_of graph.now) result }
+    {
+        let base = wake_place_of(&self.bases, graph, event);
+        Placed { event, base }
     }
 
     /// How many events are marked. O(1).
@@ -93,9 +127,23 @@ impl Index {
         requires within { k < count self.now.marks }
         ensures { (p : Happening → Bool) → IsIndexOf (network_of graph.now) p self.now → slice_get (filter p (all_events (network_of graph.now))) k ≡ Some result }
     {
+        self.kth_placed(graph, k).event
+    }
+
+    /// Of the marked events the one at place `k`, counted from 0, and where the events of its node begin. O(log N).
+    pub fn kth_placed(&self, graph: &Graph, k: u32) -> Placed
+        requires index { IsFor (network_of graph.now) self.now }
+        requires within { k < count self.now.marks }
+        ensures event { (p : Happening → Bool) → IsIndexOf (network_of graph.now) p self.now → slice_get (filter p (all_events (network_of graph.now))) k ≡ Some result.event }
+        ensures placed { IsPlaced (network_of graph.now) result }
+    {
         let at = self.marks.kth(k);
-        let v = owner_at(&self.bases, &self.ends, at);
-        event_of(&self.bases, graph, v, at)
+        let here = ends_at(&self.bases, &self.ends, at);
+        let event = event_behind(&self.bases, graph, here.owner, here.base, at);
+        Placed {
+            event,
+            base: here.base,
+        }
     }
 
     /// Whether an event of a node is marked. O(1).
