@@ -18,4 +18,5 @@ pub mod Interleaved
 pub mod Enough
 pub mod CensusRows
 pub mod lemmas
+pub mod Starts
 mod OneEnd

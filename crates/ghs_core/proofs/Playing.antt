@@ -8,8 +8,8 @@ use Rattle.ghs_node.specs.NodeState.{NodeState}
 use Rattle.ghs_node.specs.Reaction.{reaction, after, IsReaction}
 use Rattle.ghs_node.specs.Rows.{Row}
 use Rattle.ghs_node.proofs.lemmas.{row_ported}
-use Rattle.ghs_channels.specs.Channels.{ChannelsState, IsFor, GoOut, HasRoomFor, KeepsLists, room_at, total_of}
-use Rattle.ghs_channels.proofs.lemmas.Ports.{same_for}
+use Rattle.ghs_channels.specs.Channels.{ChannelsState, IsFor, first_queue, GoOut, HasRoomFor, KeepsLists, room_at, total_of}
+use Rattle.ghs_channels.proofs.lemmas.Ports.{same_first, same_for}
 use Rattle.peer_network.specs.declared.event.Event.{Event}
 use Rattle.peer_network.specs.Network.{network_of, At}
 use Rattle.peer_network.proofs.lemmas.Wired.{IsWired}
@@ -108,6 +108,9 @@ module _ {g : Shape} {es : List Event} {nodes : List NodeState} {channels : Chan
 
     pub disposed_for : IsFor g l
     disposed_for = same_for g channels l so_far.ports plays.kept.queues
+
+    pub first_still : first_queue l (event_node e) ≡ first_queue channels (event_node e)
+    first_still = same_first channels l so_far.ports (event_node e)
 
     pub out_still : GoOut l (event_node e) d.sends
     out_still i x lt = (so_far.ports.queues (event_node e) _).0 (go_out i x lt)

@@ -1,5 +1,5 @@
 -- A link's two sides, and how they are marked.
-use Rattle.std.proofs.Common.{◌≡◌, ℕ, ◌⊎◌, inl, inr, true, get_or, refl, sym, ◌∙◌, ap, ap₂, ⊎_elim, arith, ne_eqb, eq-eqb}
+use Rattle.std.proofs.Common.{◌≡◌, ℕ, ◌⊎◌, inl, inr, refl, sym, ◌∙◌, ap, ap₂, ⊎_elim, arith, ne_eqb, eq-eqb}
 use Rattle.std.specs.List.{Contains}
 use Rattle.std.proofs.lemmas.Option.{slice_get_within, slice_get-get_or, get_or_from_slice_get}
 use Rattle.ghs_graph.specs.declared.key.Key.{Key}

@@ -16,6 +16,8 @@ ghost use Rattle.ghs_core.specs.Marked.{AreBranches, AreInTree, IsExactWhere, Is
 ghost use Rattle.ghs_core.specs.Census.{IsCensus, AreLarge};
 ghost use Rattle.ghs_core.specs.PutBack.{IsPutBack};
 ghost use Rattle.ghs_node.specs.declared.message.Message.{Message as Letter};
+ghost use Rattle.ghs_channels.specs.Channels.{first_queue};
+ghost use Rattle.peer_index.specs.Places.{IsPlaced};
 ghost use Rattle.ghs_protocol.specs.Living.{Waits};
 
 use crate::census::{FragmentRow, count_classes};
@@ -36,6 +38,7 @@ use ghs_node::mark::Mark;
 use ghs_node::message::{Message, Phase};
 use ghs_node::node::Node;
 use ghs_node::work::Work;
+use peer_index::placed::Placed;
 use peer_network::event::Event;
 use std::alloc::{AllocError, Global};
 use std::marker::Model;
@@ -104,9 +107,50 @@ impl Net {
         }
     }
 
+    /// Where the queues of a node begin among all queues. Who plays many events has that from elsewhere (`start_of`), and
+    /// goes on from there: nothing is looked up then to come from an event to its queue.
+    pub fn start(&self, v: u32) -> u32
+        requires low { 1 ≤ v }
+        requires high { v ≤ self.now.graph.nodes }
+        ensures { result ≡ first_queue self.now.channels v }
+    {
+        self.channels.start(v)
+    }
+
+    /// The same of the node of a placed event, from where its events begin. Nothing is looked up.
+    pub fn start_of(&self, placed: Placed) -> u32
+        requires { IsPlaced (network self.now) placed }
+        ensures { result ≡ first_queue self.now.channels (event_node placed.event) }
+    {
+        let _ = &self.channels;
+        placed.base - (node_of(placed.event) - 1)
+    }
+
+    /// Whether an event of a node whose queues begin at `start` may happen now.
+    pub fn lawful_from(&self, start: u32, event: Event) -> bool
+        requires { start ≡ first_queue self.now.channels (event_node event) }
+        ensures { result ≡ is_lawful (network self.now) (net_of self.now) event }
+    {
+        match event {
+            Event::Wake(v) => self.has_node(v) && is_asleep(self.nodes[v as usize - 1].head()),
+            Event::Take(v, port) => self.has_port(v, port)
+                && self.channels.front_from(start, v, port).is_some(),
+        }
+    }
+
     /// The work that an event brings to its node. The node's reaction to it has a rule.
     pub fn work(&self, event: Event) -> Work
         requires { IsLawful self.now event }
+        ensures work { result ≡ work_at (net_of self.now) event }
+        ensures rule { IsSome (reaction ((net_of self.now).node (event_node event)) result) }
+    {
+        self.work_from(self.start_of_lawful(event), event)
+    }
+
+    /// The same, where the queues of its node begin at `start`.
+    pub fn work_from(&self, start: u32, event: Event) -> Work
+        requires start { start ≡ first_queue self.now.channels (event_node event) }
+        requires lawful { IsLawful self.now event }
         ensures work { result ≡ work_at (net_of self.now) event }
         ensures rule { IsSome (reaction ((net_of self.now).node (event_node event)) result) }
     {
@@ -114,7 +158,7 @@ impl Net {
             Event::Wake(_) => Work::Wake,
             Event::Take(v, port) => Work::Deliver {
                 port,
-                message: self.channels.front(v, port).unwrap(),
+                message: self.channels.front_from(start, v, port).unwrap(),
             },
         }
     }
@@ -141,7 +185,17 @@ impl Net {
         ensures waits { (m : Letter) → slice_get ((net_of self.now).queue v port) 0 ≡ Some m → IsTrue result ↔ Waits ((net_of self.now).node v) port m }
         ensures back { IsTrue result → IsPutBack self.now v port }
     {
-        match self.channels.front(v, port) {
+        self.waits_from(self.start_of_lawful(Event::Take(v, port)), v, port)
+    }
+
+    /// The same, where the queues of the node begin at `start`.
+    pub fn waits_from(&self, start: u32, v: u32, port: u32) -> bool
+        requires start { start ≡ first_queue self.now.channels v }
+        requires lawful { IsLawful self.now (Event.Take v port) }
+        ensures waits { (m : Letter) → slice_get ((net_of self.now).queue v port) 0 ≡ Some m → IsTrue result ↔ Waits ((net_of self.now).node v) port m }
+        ensures back { IsTrue result → IsPutBack self.now v port }
+    {
+        match self.channels.front_from(start, v, port) {
             Some(message) => waits(&self.nodes[v as usize - 1], port, &message),
             None => false,
         }
@@ -322,9 +376,27 @@ impl Net {
         ensures room { OnOk result (HasRoomToPlay self.new event delta.now) }
         ensures full { OnErr result (HasRoomToPlay self.old event delta.now → ⊥) }
     {
+        let start = self.start_of_lawful(event);
+        self.reserve_from(start, event, delta)
+    }
+
+    /// The same, where the queues of its node begin at `start`.
+    pub fn reserve_from(
+        &mut self,
+        start: u32,
+        event: Event,
+        delta: &Delta,
+    ) -> Result<(), AllocError>
+        requires start { start ≡ first_queue self.old.channels (event_node event) }
+        requires lawful { IsLawful self.old event }
+        requires answer { IsAnswer self.old event delta.now }
+        ensures net { IsSameNet self.old self.new }
+        ensures room { OnOk result (HasRoomToPlay self.new event delta.now) }
+        ensures full { OnErr result (HasRoomToPlay self.old event delta.now → ⊥) }
+    {
         self.trace.reserve(1)?;
         self.channels
-            .reserve_for(node_of(event), delta.sends.as_slice())
+            .reserve_from(start, node_of(event), delta.sends.as_slice())
     }
 
     /// Plays an event: its node reacts as the delta says. Takes no memory, and lets go of none.
@@ -338,13 +410,36 @@ impl Net {
         ensures event { happens (network self.old) (net_of self.old) event ≡ Some (net_of self.new) }
         ensures room { KeepsRoom self.old self.new event delta.now }
     {
-        dispose(&mut self.channels, &mut self.counts, event, delta.fate);
+        let start = self.start_of_lawful(event);
+        self.play_from(start, event, delta);
+    }
+
+    /// The same, where the queues of its node begin at `start`.
+    pub fn play_from(&mut self, start: u32, event: Event, delta: &Delta)
+        requires start { start ≡ first_queue self.old.channels (event_node event) }
+        requires lawful { IsLawful self.old event }
+        requires answer { IsAnswer self.old event delta.now }
+        requires few { length self.old.trace < 2 ^ 40 }
+        requires room { HasRoomToPlay self.old event delta.now }
+        ensures graph { self.new.graph ≡ self.old.graph }
+        ensures trace { self.new.trace ≡ self.old.trace ++ event ∷ [] }
+        ensures event { happens (network self.old) (net_of self.old) event ≡ Some (net_of self.new) }
+        ensures room { KeepsRoom self.old self.new event delta.now }
+    {
+        dispose(
+            &mut self.channels,
+            &mut self.counts,
+            start,
+            event,
+            delta.fate,
+        );
         let v = node_of(event);
         let node = &mut self.nodes[v as usize - 1];
         node.apply(delta);
         send_all(
             &mut self.channels,
             &mut self.counts.sent,
+            start,
             v,
             delta.sends.as_slice(),
         );
@@ -365,10 +460,40 @@ impl Net {
         ensures err { OnErr result (IsSameNet self.old self.new) }
         ensures full { OnErr result (self.old.spare ≡ 0) }
     {
+        let start = self.start_of_lawful(Event::Take(v, port));
+        self.put_back_from(start, v, port)
+    }
+
+    /// The same, where the queues of the node begin at `start`.
+    pub fn put_back_from(&mut self, start: u32, v: u32, port: u32) -> Result<(), AllocError>
+        requires start { start ≡ first_queue self.old.channels v }
+        requires lawful { IsLawful self.old (Event.Take v port) }
+        requires back { IsPutBack self.old v port }
+        requires few { length self.old.trace < 2 ^ 40 }
+        ensures graph { OnOk result (self.new.graph ≡ self.old.graph) }
+        ensures trace { OnOk result (self.new.trace ≡ self.old.trace ++ Event.Take v port ∷ []) }
+        ensures event { OnOk result (happens (network self.old) (net_of self.old) (Event.Take v port) ≡ Some (net_of self.new)) }
+        ensures err { OnErr result (IsSameNet self.old self.new) }
+        ensures full { OnErr result (self.old.spare ≡ 0) }
+    {
         let take = Event::Take(v, port);
         self.trace.push(take)?;
-        dispose(&mut self.channels, &mut self.counts, take, Fate::Requeued);
+        dispose(
+            &mut self.channels,
+            &mut self.counts,
+            start,
+            take,
+            Fate::Requeued,
+        );
         Ok(())
+    }
+
+    /// Where the queues of the node of an event begin that may happen.
+    fn start_of_lawful(&self, event: Event) -> u32
+        requires { IsLawful self.now event }
+        ensures { result ≡ first_queue self.now.channels (event_node event) }
+    {
+        self.channels.start(node_of(event))
     }
 }
 

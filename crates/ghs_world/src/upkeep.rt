@@ -4,10 +4,11 @@ ghost use Rattle.std.specs.List.{All};
 ghost use Rattle.ghs_graph.specs.Ports.{ports_of};
 ghost use Rattle.ghs_node.specs.declared.message.Message.{Message as Letter};
 ghost use Rattle.peer_network.specs.declared.event.Event.{Event as Happening};
+ghost use Rattle.peer_network.specs.declared.event.Event.TheVariants.{Wake};
 ghost use Rattle.peer_network.specs.Network.{network_of};
 ghost use Rattle.ghs_core.specs.NetState.{network, net_of, event_node};
 ghost use Rattle.peer_index.specs.Index.{IsFor, IsIndexOf, IsIndexBut};
-ghost use Rattle.peer_index.specs.Places.{has_place};
+ghost use Rattle.peer_index.specs.Places.{has_place, IsPlaced};
 ghost use Rattle.ghs_world.specs.Upkeep.{HaveArrived, lawful_in, lawful_first, changed};
 
 use ghs_core::event::Event;
@@ -15,6 +16,7 @@ use ghs_core::net::{Net, node_of};
 use ghs_graph::graph::Graph;
 use ghs_node::message::Message;
 use peer_index::index::Index;
+use peer_index::placed::Placed;
 use peer_network::wake_set::WakeSet;
 use std::alloc::{AllocError, Global};
 
@@ -40,37 +42,60 @@ pub fn may_happen(net: &Net, wake: WakeSet, event: Event) -> bool
     }
 }
 
-/// Marks anew what an event has changed in a net: its node's wake, itself, and the Takes at the far ends of what its
+/// The same of a placed event.
+fn may_happen_placed(net: &Net, wake: WakeSet, placed: Placed) -> bool
+    requires { IsPlaced (network net.now) placed }
+    ensures { result ≡ lawful_in net.now wake placed.event }
+{
+    let start = net.start_of(placed);
+    match placed.event {
+        Event::Wake(v) => wake.has(net.graph(), v) && net.lawful_from(start, placed.event),
+        Event::Take(..) => net.lawful_from(start, placed.event),
+    }
+}
+
+/// Marks anew what a placed event has changed in a net: its node's wake, itself, and the Takes at the far ends of what its
 /// node sent. O(1) for each, and takes no memory.
 pub fn mark_changed(
     index: &mut Index,
     net: &Net,
     wake: WakeSet,
-    event: Event,
+    placed: Placed,
     sends: &[(u32, Message)],
 )
-    requires place { has_place (network net.now) event ≡ true }
-    requires ports { All (λ (s : ℕ × Letter). s.0 < length (ports_of net.now.graph.keys (event_node event))) sends.now }
-    requires arrived { HaveArrived (network net.now) (net_of net.now) (event_node event) sends.now }
-    requires index { IsIndexBut (network net.now) (lawful_in net.now wake) (changed (network net.now) event sends.now) index.old }
+    requires placed { IsPlaced (network net.now) placed }
+    requires ports { All (λ (s : ℕ × Letter). s.0 < length (ports_of net.now.graph.keys (event_node placed.event))) sends.now }
+    requires arrived { HaveArrived (network net.now) (net_of net.now) (event_node placed.event) sends.now }
+    requires index { IsIndexBut (network net.now) (lawful_in net.now wake) (changed (network net.now) placed.event sends.now) index.old }
     ensures { IsIndexOf (network net.now) (lawful_in net.now wake) index.new }
 {
     let _ = net.trace();
-    let v = node_of(event);
-    mark(index, net, wake, Event::Wake(v));
-    mark(index, net, wake, event);
+    mark(index, net, wake, wake_of(net, placed));
+    mark(index, net, wake, placed);
     for (port, _) in sends {
         // What was sent waits there, so neither the node nor the queue is looked at.
-        index.mark_far_take(net.graph(), v, *port);
+        index.mark_far_take_placed(net.graph(), placed, *port);
+    }
+}
+
+/// The Wake of a placed event's node.
+fn wake_of(net: &Net, placed: Placed) -> Placed
+    requires { IsPlaced (network net.now) placed }
+    ensures event { result.event ≡ Wake (event_node placed.event) }
+    ensures placed { IsPlaced (network net.now) result }
+{
+    Placed {
+        event: Event::Wake(node_of(placed.event)),
+        base: placed.base,
     }
 }
 
 /// Marks one event anew.
-fn mark(index: &mut Index, net: &Net, wake: WakeSet, event: Event)
-    requires place { has_place (network net.now) event ≡ true }
+fn mark(index: &mut Index, net: &Net, wake: WakeSet, placed: Placed)
+    requires placed { IsPlaced (network net.now) placed }
     requires index { IsFor (network net.now) index.old }
-    ensures { (others : List Happening) → IsIndexBut (network net.now) (lawful_in net.now wake) (event ∷ others) index.old →
+    ensures { (others : List Happening) → IsIndexBut (network net.now) (lawful_in net.now wake) (placed.event ∷ others) index.old →
         IsIndexBut (network net.now) (lawful_in net.now wake) others index.new }
 {
-    index.set(net.graph(), event, may_happen(net, wake, event));
+    index.set_placed(net.graph(), placed, may_happen_placed(net, wake, placed));
 }

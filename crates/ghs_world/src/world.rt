@@ -4,7 +4,7 @@ ghost use Rattle.std.specs.List.{find, range_with_len};
 ghost use Rattle.ghs_node.specs.declared.message.Message.{Message as Letter};
 ghost use Rattle.ghs_protocol.specs.Living.{Waits};
 ghost use Rattle.ghs_world.specs.Ready.{has_lawful, has_ready, is_ready, next_of, next_node_of, ready_events};
-ghost use Rattle.peer_index.specs.Places.{all_events, takes, has_place};
+ghost use Rattle.peer_index.specs.Places.{all_events, takes, has_place, HasPlace, IsPlaced};
 ghost use Rattle.ghs_world.specs.Steps.{Commits, Makes, LeavesOthers, AreReadyOf, HasAllRoused, HasRoused, RefusesStep, IsSameWorld, HasEach, touched};
 ghost use Rattle.ghs_graph.specs.Graph.{IsGraph};
 ghost use Rattle.ghs_graph.specs.Ports.{ports_of};
@@ -13,6 +13,7 @@ ghost use Rattle.peer_network.specs.Network.{network_of, is_node};
 ghost use Rattle.ghs_protocol.specs.Net.{opening, is_lawful_under};
 ghost use Rattle.ghs_protocol.specs.Run.{IsRunUnder};
 ghost use Rattle.ghs_protocol.specs.Marks.{HasEnded};
+ghost use Rattle.ghs_channels.specs.Channels.{first_queue};
 ghost use Rattle.ghs_core.specs.NetState.{network, net_of, event_node, IsLawful, IsAnswer, HasRoomToPlay, IsLeastHalted};
 ghost use Rattle.ghs_core.specs.Census.{IsCensus, AreLarge};
 ghost use Rattle.ghs_core.specs.PutBack.{IsPutBack};
@@ -41,6 +42,7 @@ use ghs_node::react::react;
 use ghs_node::work::Work;
 use ghs_protocol::interleavings::{law_stillness, law_turns};
 use peer_index::index::Index;
+use peer_index::placed::Placed;
 use peer_network::wake_set::WakeSet;
 use std::alloc::{AllocError, Global};
 use std::marker::Model;
@@ -168,19 +170,33 @@ impl World {
         ensures made { OnOk result (Makes self.old event self.new) }
         ensures err { OnErr result (IsSameWorld self.old self.new) }
     {
+        let placed = self.placed(event);
+        self.make_placed(alloc, placed)
+    }
+
+    /// The same of a placed event, as `ready_placed` has it: nothing is looked up to come to its queue.
+    pub fn make_placed(&mut self, alloc: Global, placed: Placed) -> Result<(), AllocError>
+        requires placed { IsPlaced (network self.old.net) placed }
+        requires ready { is_ready self.old placed.event ≡ true }
+        requires turn { has_turn self.old ≡ true }
+        ensures made { OnOk result (Makes self.old placed.event self.new) }
+        ensures err { OnErr result (IsSameWorld self.old self.new) }
+    {
+        let start = self.net.start_of(placed);
         // This is asked first, since then no node is touched. `react` asks it again: a reaction is whole by itself.
-        if let Event::Take(v, port) = event {
-            if self.net.waits_at(v, port) {
-                return self.put_back(v, port);
+        if let Event::Take(v, port) = placed.event {
+            if self.net.waits_from(start, v, port) {
+                return self.put_back(start, v, port);
             }
         }
-        let delta = self.answer(alloc, event)?;
-        self.make_answered(event, &delta)
+        let delta = self.answer_from(alloc, start, placed.event)?;
+        self.make_answer(placed, &delta)
     }
 
     /// The Take of a message that its node only puts back happens, under the next number. Neither a node nor the index is
     /// touched: a message still waits there, and nothing else has changed.
-    fn put_back(&mut self, v: u32, port: u32) -> Result<(), AllocError>
+    fn put_back(&mut self, start: u32, v: u32, port: u32) -> Result<(), AllocError>
+        requires start { start ≡ first_queue self.old.net.channels v }
         requires ready { is_ready self.old (Event.Take v port) ≡ true }
         requires turn { has_turn self.old ≡ true }
         requires waits { (m : Letter) → slice_get ((home self.old).queue v port) 0 ≡ Some m → Waits ((home self.old).node v) port m }
@@ -190,7 +206,7 @@ impl World {
     {
         law_turns();
         let _ = self.net.trace();
-        self.net.put_back(v, port)?;
+        self.net.put_back_from(start, v, port)?;
         Ok(self.outs.skip_number())
     }
 
@@ -202,9 +218,32 @@ impl World {
         ensures made { OnOk result (Makes self.old event self.new) }
         ensures err { OnErr result (IsSameWorld self.old self.new) }
     {
-        self.net.reserve(event, answer)?;
-        self.happen(event, answer);
+        let placed = self.placed(event);
+        self.make_answer(placed, answer)
+    }
+
+    /// The same of a placed event.
+    fn make_answer(&mut self, placed: Placed, answer: &Delta) -> Result<(), AllocError>
+        requires placed { IsPlaced (network self.old.net) placed }
+        requires ready { is_ready self.old placed.event ≡ true }
+        requires turn { has_turn self.old ≡ true }
+        requires answer { IsAnswer self.old.net placed.event answer.now }
+        ensures made { OnOk result (Makes self.old placed.event self.new) }
+        ensures err { OnErr result (IsSameWorld self.old self.new) }
+    {
+        let start = self.net.start_of(placed);
+        self.net.reserve_from(start, placed.event, answer)?;
+        self.happen(placed, answer);
         Ok(())
+    }
+
+    /// An event that may be checked out, with where the events of its node begin.
+    fn placed(&self, event: Event) -> Placed
+        requires { HasPlace (network self.now.net) event }
+        ensures event { result.event ≡ event }
+        ensures placed { IsPlaced (network self.now.net) result }
+    {
+        self.index.placed(self.net.graph(), event)
     }
 
     /// The same, and the nodes that it has roused come back, as from a commit. All room is taken before any change.
@@ -222,22 +261,25 @@ impl World {
         ensures err { OnErr result (IsSameWorld self.old self.new) }
     {
         let nodes = self.make_room(alloc, event, delta)?;
-        self.happen(event, delta);
+        let placed = self.placed(event);
+        self.happen(placed, delta);
         Ok(self.ready_of(nodes))
     }
 
     /// The event of a node that is at home happens, under the next number. Takes no memory.
-    fn happen(&mut self, event: Event, answer: &Delta)
-        requires ready { is_ready self.old event ≡ true }
+    fn happen(&mut self, placed: Placed, answer: &Delta)
+        requires placed { IsPlaced (network self.old.net) placed }
+        requires ready { is_ready self.old placed.event ≡ true }
         requires turn { has_turn self.old ≡ true }
-        requires answer { IsAnswer self.old.net event answer.now }
-        requires room { HasRoomToPlay self.old.net event answer.now }
-        ensures { Makes self.old event self.new }
+        requires answer { IsAnswer self.old.net placed.event answer.now }
+        requires room { HasRoomToPlay self.old.net placed.event answer.now }
+        ensures { Makes self.old placed.event self.new }
     {
         let _ = self.net.trace();
-        self.net.play(event, answer);
+        let start = self.net.start_of(placed);
+        self.net.play_from(start, placed.event, answer);
         let sends = answer.sends.as_slice();
-        mark_changed(&mut self.index, &self.net, self.wake, event, sends);
+        mark_changed(&mut self.index, &self.net, self.wake, placed, sends);
         self.outs.skip_number();
     }
 
@@ -246,9 +288,19 @@ impl World {
         requires { IsLawful self.now.net event }
         ensures { IfOk result (λ d. IsAnswer self.now.net event d) }
     {
+        let start = self.net.start_of(self.placed(event));
+        self.answer_from(alloc, start, event)
+    }
+
+    /// The same, where the queues of its node begin at `start`.
+    fn answer_from(&self, alloc: Global, start: u32, event: Event) -> Result<Delta, AllocError>
+        requires start { start ≡ first_queue self.now.net.channels (event_node event) }
+        requires lawful { IsLawful self.now.net event }
+        ensures { IfOk result (λ d. IsAnswer self.now.net event d) }
+    {
         let _ = self.net.trace();
         law_list_has_no_row();
-        let given = self.net.work(event);
+        let given = self.net.work_from(start, event);
         match react(alloc, self.net.node(node_of(event)), given) {
             Ok(delta) => Ok(delta),
             Err(NodeFault::Memory) => Err(AllocError),
@@ -371,8 +423,18 @@ impl World {
         requires within { k < length (ready_events self.now) }
         ensures { slice_get (ready_events self.now) k ≡ Some result }
     {
+        self.ready_placed(k).event
+    }
+
+    /// The same, with where the events of its node begin, for `make_placed`. O(log N).
+    pub fn ready_placed(&self, k: usize) -> Placed
+        requires home { self.now.outs ≡ [] }
+        requires within { k < length (ready_events self.now) }
+        ensures event { slice_get (ready_events self.now) k ≡ Some result.event }
+        ensures placed { IsPlaced (network self.now.net) result }
+    {
         let _ = self.index.count();
-        self.index.kth(self.net.graph(), k as u32)
+        self.index.kth_placed(self.net.graph(), k as u32)
     }
 
     /// Whether one of a node's events is lawful in the home view, under the wake set.
@@ -464,9 +526,11 @@ impl World {
         ensures roused { HasAllRoused self.old self.new result }
     {
         let _ = self.net.trace();
-        self.net.play(event, delta);
+        let placed = self.placed(event);
+        let start = self.net.start_of(placed);
+        self.net.play_from(start, event, delta);
         let sends = delta.sends.as_slice();
-        mark_changed(&mut self.index, &self.net, self.wake, event, sends);
+        mark_changed(&mut self.index, &self.net, self.wake, placed, sends);
         self.outs.remove(out, event);
         self.ready_of(nodes)
     }

@@ -1,4 +1,5 @@
-use Rattle.std.proofs.Common.{take, arith, ℕ, length-take, ap, ◌∙◌}
+use Rattle.std.proofs.Common.{take, arith, ℕ, length-take, ap, sym, ◌∙◌}
+use Rattle.ghs_channels.proofs.lemmas.Ports.{same_first}
 use Rattle.ghs_node.specs.declared.message.Message.{Message}
 use Rattle.ghs_node.specs.Kind.{place_of}
 use Rattle.ghs_core.proofs.Sending.{port_out, room_for_next, kind_few, none_sent, one_sent}
@@ -7,14 +8,19 @@ use Rattle.ghs_core.proofs.dispatch.send_all.Goals as goal
 pub loop-port-init : goal.loop-port-init
 loop-port-init c = λ g for. none_sent g c.args.v c.args.sends.now c.args.channels.now c.args.sent.now c.requires.room
 
-pub send-requires-clause-port : goal.send-requires-clause-port
-send-requires-clause-port c =
+pub send_from-requires-clause-start : goal.send_from-requires-clause-start
+send_from-requires-clause-start c =
+    let so_far = c.loop-port.invariant c.requires.queues.0 c.requires.queues.1 in
+    c.requires.start ∙ sym (same_first c.args.channels.now c.loop-port.channels so_far.arrives.ports c.args.v)
+
+pub send_from-requires-clause-port : goal.send_from-requires-clause-port
+send_from-requires-clause-port c =
     let so_far = c.loop-port.invariant c.requires.queues.0 c.requires.queues.1 in
     port_out c.args.channels.now c.loop-port.channels c.args.v c.args.sends.now c.loop-port.port-index c.loop-port-item.result c.requires.ports
     so_far.arrives.ports c.loop-port-test.true c.loop-port-item.is
 
-pub send-requires-clause-room : goal.send-requires-clause-room
-send-requires-clause-room c =
+pub send_from-requires-clause-room : goal.send_from-requires-clause-room
+send_from-requires-clause-room c =
     let x = c.loop-port-item.result in
     let so_far = c.loop-port.invariant c.requires.queues.0 c.requires.queues.1 in
     let port =
@@ -22,8 +28,8 @@ send-requires-clause-room c =
     c.loop-port-test.true c.loop-port-item.is in
     room_for_next c.args.v c.loop-port.channels c.args.sends.now c.loop-port.port-index x x c.loop-port-test.true c.loop-port-item.is port so_far.room
 
-pub send-requires-clause-total : goal.send-requires-clause-total
-send-requires-clause-total c =
+pub send_from-requires-clause-total : goal.send_from-requires-clause-total
+send_from-requires-clause-total c =
     let so_far = c.loop-port.invariant c.requires.queues.0 c.requires.queues.1 in
     let total = so_far.arrives.total in
     omega (arith, total, length-take {A = ℕ × Message} c.loop-port.port-index c.args.sends.now)
@@ -42,4 +48,4 @@ loop-port-preserved c = λ g for.
     let x = c.loop-port-item.result in
     one_sent g c.args.v c.args.sends.now c.loop-port.port-index x x c.args.channels.now c.loop-port.channels _ c.args.sent.now c.loop-port.sent
     c.place.result for c.requires.ports (omega arith) c.loop-port-test.true c.loop-port-item.is
-    (c.place.ensures.place ∙ ap place_of c.kind.ensures) c.place.ensures.bound (c.loop-port.invariant g for) c.send.ensures
+    (c.place.ensures.place ∙ ap place_of c.kind.ensures) c.place.ensures.bound (c.loop-port.invariant g for) c.send_from.ensures

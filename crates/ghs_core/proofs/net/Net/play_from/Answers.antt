@@ -1,6 +1,6 @@
-use Rattle.std.proofs.Common.{arith}
-use Rattle.ghs_core.proofs.Playing.{plays_of, can_react, waits, out_still, disposed_for, room_still, total_below, sent_below, played, played_rooms, played_event}
-use Rattle.ghs_core.proofs.net.Net.play.Goals as goal
+use Rattle.std.proofs.Common.{arith, sym, ◌∙◌}
+use Rattle.ghs_core.proofs.Playing.{plays_of, can_react, waits, first_still, out_still, disposed_for, room_still, total_below, sent_below, played, played_rooms, played_event}
+use Rattle.ghs_core.proofs.net.Net.play_from.Goals as goal
 
 pub dispose-requires-clause-waits : goal.dispose-requires-clause-waits
 dispose-requires-clause-waits c =
@@ -69,3 +69,13 @@ returns-clause-room c =
       queues =
           played_rooms plays c.dispose.new.channels c.dispose.new.counts c.dispose.ensures c.send_all.new.channels c.send_all.new.sent arrives told;
     })
+
+pub dispose-requires-clause-start : goal.dispose-requires-clause-start
+dispose-requires-clause-start c = rw (← c.self.view_is) at c.requires.start
+
+pub send_all-requires-clause-start : goal.send_all-requires-clause-start
+send_all-requires-clause-start c =
+    let plays = plays_of c.self.invariant c.self.view_is c.requires.lawful c.requires.answer in
+    rw c.node_of-v.ensures
+    ((rw (← c.self.view_is) at c.requires.start) ∙
+    sym (first_still plays c.dispose.new.channels c.dispose.new.counts c.dispose.ensures))
