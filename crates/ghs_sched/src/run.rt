@@ -66,7 +66,7 @@ fn make_next(alloc: Global, world: &mut World, schedule: &mut Schedule) -> Resul
 {
     let mut rest = schedule.copy()?;
     let place = rest.pick(world.ready_count());
-    world.make(alloc, world.ready_at(place))?;
+    world.make_placed(alloc, world.ready_placed(place))?;
     *schedule = rest;
     Ok(())
 }

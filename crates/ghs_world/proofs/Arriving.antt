@@ -1,5 +1,5 @@
 -- What was sent waits at the far ends.
-use Rattle.std.proofs.Common.{◌≡◌, ℕ, ◌+◌, ◌<◌, true, Some, List, [], ◌∷◌, ◌++◌, length, drop, get_or, set, refl, sym, ◌∙◌, ap, subst}
+use Rattle.std.proofs.Common.{◌≡◌, ℕ, ◌+◌, ◌<◌, ◌≤◌, true, Some, List, [], ◌∷◌, ◌++◌, length, drop, get_or, set, refl, sym, ◌∙◌, ap, subst}
 use Rattle.std.specs.List.{All}
 use Rattle.std.proofs.lemmas.Bool.{and_from}
 use Rattle.std.proofs.lemmas.Option.{same_Some}
@@ -9,6 +9,7 @@ use Rattle.ghs_node.specs.declared.delta.Delta.{Delta}
 use Rattle.ghs_node.specs.Words.{Outgoing}
 use Rattle.ghs_node.specs.Reaction.{reaction}
 use Rattle.peer_network.specs.declared.event.Event.{Event}
+use Rattle.peer_network.specs.declared.event.Event.TheVariants.{Wake, Take}
 use Rattle.ghs_graph.specs.Graph.{Shape, IsGraph}
 use Rattle.ghs_graph.specs.Ports.{ports_of}
 use Rattle.peer_network.specs.Network.{Network, network_of, far, far_port, At}
@@ -17,11 +18,11 @@ use Rattle.ghs_protocol.specs.Steps.{Happens, Woke, Took}
 use Rattle.ghs_protocol.proofs.lemmas.Events.{happening}
 use Rattle.peer_network.proofs.lemmas.Updates.{put_at_hit}
 use Rattle.ghs_core.specs.NetState.{NetState, network, net_of, event_node, work_at, delivery, IsAnswer}
-use Rattle.peer_index.specs.Places.{far_take, place, has_place}
+use Rattle.peer_index.specs.Places.{far_take, place, HasPlace}
 use Rattle.peer_index.specs.Index.{IndexState, IsIndexBut}
 use Rattle.peer_network.specs.declared.wake_set.WakeSet.{WakeSet}
 use Rattle.ghs_world.specs.Upkeep.{HaveArrived, lawful_in}
-use Rattle.ghs_world.proofs.lemmas.Leaving.{arrivals, far_place, next_arrival, node_place, place_there}
+use Rattle.ghs_world.proofs.lemmas.Leaving.{arrivals, far_place, next_arrival, place_there}
 use Rattle.peer_index.proofs.lemmas.Marks.{marked_one}
 use Rattle.ghs_world.proofs.Staying.{grows, waits_still}
 
@@ -63,12 +64,17 @@ pub arrived_in : (old new : NetState) (e : Event) (d : Delta) → new.graph ≡ 
     IsAnswer old e d → HaveArrived (network new) (net_of new) (event_node e) d.sends
 arrived_in old new e d graph event answer = arrived_at old new.graph (net_of new) e d (sym graph) event answer
 
+-- the node of an event that has a place
+node_placed : (g : Network) (e : Event) → HasPlace g e → (1 ≤ event_node e) × (event_node e ≤ g.count)
+node_placed g (Wake v) has = has
+node_placed g (Take v p) has = (has.some, has.node)
+
 -- the port on which something was sent
-pub sent_port : (g : Shape) (e : Event) (ss : Outgoing) (i : ℕ) (s : ℕ × Message) → has_place (network_of g) e ≡ true →
+pub sent_port : (g : Shape) (e : Event) (ss : Outgoing) (i : ℕ) (s : ℕ × Message) → HasPlace (network_of g) e →
     All (λ (x : ℕ × Message). x.0 < length (ports_of g.keys (event_node e))) ss → i < length ss → s ≡ get_or ss i s →
     At (network_of g) (event_node e) s.0
 sent_port g e ss i s has ports lt is =
-    let node = node_place (network_of g) e has in
+    let node = node_placed (network_of g) e has in
     let port = All-get_or (λ (x : ℕ × Message). x.0 < length (ports_of g.keys (event_node e))) ss i s lt ports in
     record { some = node.0; node = node.1; port = subst (λ (x : ℕ × Message). x.0 < length (ports_of g.keys (event_node e))) (sym is) port }
 

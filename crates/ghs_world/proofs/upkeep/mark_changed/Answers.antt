@@ -6,28 +6,28 @@ use Rattle.ghs_world.proofs.Arriving.{arrival_marked, sent_port}
 use Rattle.ghs_world.proofs.upkeep.mark_changed.Goals as goal
 
 pub mark-requires-2-clause-index : goal.mark-requires-2-clause-index
-mark-requires-2-clause-index c = ((rw c.node_of-v.ensures at c.mark.ensures) _ c.requires.index).index
+mark-requires-2-clause-index c = ((rw c.wake_of.ensures.event at c.mark.ensures) _ c.requires.index).index
 
 pub loop-port-init : goal.loop-port-init
-loop-port-init c = c.mark-2.ensures _ ((rw c.node_of-v.ensures at c.mark.ensures) _ c.requires.index)
+loop-port-init c = c.mark-2.ensures _ ((rw c.wake_of.ensures.event at c.mark.ensures) _ c.requires.index)
 
-pub mark_far_take-requires-clause-index : goal.mark_far_take-requires-clause-index
-mark_far_take-requires-clause-index c = rw c.graph.ensures c.loop-port.invariant.index
+pub mark_far_take_placed-requires-clause-index : goal.mark_far_take_placed-requires-clause-index
+mark_far_take_placed-requires-clause-index c = rw c.graph.ensures c.loop-port.invariant.index
 
-pub mark_far_take-requires-clause-port : goal.mark_far_take-requires-clause-port
-mark_far_take-requires-clause-port c =
-    rw (c.graph.ensures, c.node_of-v.ensures)
-    (sent_port c.args.net.now.graph c.args.event c.args.sends.now c.loop-port.port-index c.loop-port-item.result
-    c.requires.place c.requires.ports c.loop-port-test.true c.loop-port-item.is)
+pub mark_far_take_placed-requires-clause-port : goal.mark_far_take_placed-requires-clause-port
+mark_far_take_placed-requires-clause-port c =
+    rw c.graph.ensures
+    (sent_port c.args.net.now.graph c.args.placed.event c.args.sends.now c.loop-port.port-index c.loop-port-item.result
+    c.requires.placed.event c.requires.ports c.loop-port-test.true c.loop-port-item.is)
 
 pub loop-port-preserved : goal.loop-port-preserved
 loop-port-preserved c =
-    let at = sent_port c.args.net.now.graph c.args.event c.args.sends.now c.loop-port.port-index c.loop-port-item.result
-    c.requires.place c.requires.ports c.loop-port-test.true c.loop-port-item.is in
+    let at = sent_port c.args.net.now.graph c.args.placed.event c.args.sends.now c.loop-port.port-index c.loop-port-item.result
+    c.requires.placed.event c.requires.ports c.loop-port-test.true c.loop-port-item.is in
     arrival_marked c.args.net.now c.args.wake
-    (event_node c.args.event) c.loop-port.port-index c.args.sends.now c.loop-port-item.result c.loop-port.index
-    c.mark_far_take.new.self c.trace.ensures.graph at c.requires.arrived c.loop-port-test.true c.loop-port-item.is
-    (rw (c.graph.ensures, c.node_of-v.ensures) at c.mark_far_take.ensures) c.loop-port.invariant
+    (event_node c.args.placed.event) c.loop-port.port-index c.args.sends.now c.loop-port-item.result c.loop-port.index
+    c.mark_far_take_placed.new.self c.trace.ensures.graph at c.requires.arrived c.loop-port-test.true c.loop-port-item.is
+    (rw c.graph.ensures at c.mark_far_take_placed.ensures) c.loop-port.invariant
 
 pub returns : goal.returns
 returns c =

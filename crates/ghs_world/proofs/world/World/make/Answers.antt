@@ -1,0 +1,8 @@
+use Rattle.ghs_core.specs.NetState.{network}
+use Rattle.ghs_world.proofs.lemmas.Leaving.{lawful_place, place_there}
+use Rattle.ghs_world.proofs.lemmas.Ready.{ready_lawful}
+use Rattle.ghs_world.proofs.world.World.make.Goals as goal
+
+pub placed-placed-requires : goal.placed-placed-requires
+placed-placed-requires c = place_there (network c.args.self.now.net) c.args.event (lawful_place c.args.self.now.net c.args.event
+    (ready_lawful c.args.self.now c.args.event c.requires.ready))

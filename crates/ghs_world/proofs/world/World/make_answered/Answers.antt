@@ -1,9 +1,8 @@
-use Rattle.ghs_world.specs.contracts.world.World.{the_view}
-use Rattle.ghs_world.proofs.Changing.{whole_still}
+use Rattle.ghs_core.specs.NetState.{network}
+use Rattle.ghs_world.proofs.lemmas.Leaving.{lawful_place, place_there}
+use Rattle.ghs_world.proofs.lemmas.Ready.{ready_lawful}
 use Rattle.ghs_world.proofs.world.World.make_answered.Goals as goal
 
-pub invariant_of-self : goal.invariant_of-self
-invariant_of-self c = whole_still (the_view c.self.inside) _ _ c.reserve.new.self c.self.invariant c.reserve.ensures.net
-
-pub invariant_of-self-2 : goal.invariant_of-self-2
-invariant_of-self-2 c = whole_still (the_view c.self.inside) _ _ c.reserve.new.self c.self.invariant c.reserve.ensures.net
+pub placed-placed-requires : goal.placed-placed-requires
+placed-placed-requires c = place_there (network c.args.self.now.net) c.args.event (lawful_place c.args.self.now.net c.args.event
+    (ready_lawful c.args.self.now c.args.event c.requires.ready))

@@ -3,7 +3,7 @@ use Rattle.ghs_core.specs.NetState.{network}
 use Rattle.peer_index.specs.Places.{all_events}
 use Rattle.ghs_world.specs.WorldState.{WorldState, may_happen}
 use Rattle.ghs_world.proofs.Listing.{ready_all}
-use Rattle.ghs_world.proofs.world.World.ready_at.Goals as goal
+use Rattle.ghs_world.proofs.world.World.ready_placed.Goals as goal
 
 pub overflow_cast-k : goal.overflow_cast-k
 overflow_cast-k c =
