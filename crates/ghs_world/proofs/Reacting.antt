@@ -1,9 +1,9 @@
 -- A lawful event's work has a rule.
-use Rattle.std.proofs.Common.{◌≡◌, ◌↔◌, Option, Some, None, Result, Err, refl}
+use Rattle.std.proofs.Common.{◌≡◌, ◌↔◌, Option, Some, None, Result, Ok, Err, refl}
 use Rattle.ghs_node.specs.Rows.{Row}
 use Rattle.ghs_graph.specs.Graph.{IsGraph}
 use Rattle.ghs_node.specs.NodeState.{NodeState}
-use Rattle.std.specs.Prelude.{IsSome, IsErrOf}
+use Rattle.std.specs.Prelude.{IfErr, IsSome, IsErrOf}
 use Rattle.ghs_node.specs.declared.delta.Delta.{Delta}
 use Rattle.ghs_node.specs.declared.fault.NodeFault.{NodeFault}
 use Rattle.ghs_node.specs.declared.fault.NodeFault.TheVariants.{NoPort, Unforeseen, Memory}
@@ -44,6 +44,16 @@ only_memory apart n k r Unforeseen has e port rule = absurd (unlisted (reaction 
     unlisted None same some none = cc
     unlisted (Some d) same some none = apart n k d none (reaction_inverts n k d has.port same)
 only_memory apart n k r Memory has e port rule = refl
+
+pub memory_alone :
+    ListHasNoRow →
+    (n : NodeState) (k : Work) (r : Result Delta NodeFault) →
+    HasRule n k →
+    (IsErrOf r NoPort ↔ (HasPort n k → ⊥)) →
+    (IsErrOf r Unforeseen ↔ (HasPort n k × NoRule n k)) →
+    IfErr r (λ f. f ≡ Memory)
+memory_alone apart n k (Ok d) has port rule = tt
+memory_alone apart n k (Err f) has port rule = only_memory apart n k (Err f) f has refl port rule
 
 -- the row is the node's answer
 pub answers : (n : NodeState) (k : Work) (d : Delta) → HasRule n k → Row n k d → reaction n k ≡ Some d

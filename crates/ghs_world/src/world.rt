@@ -189,8 +189,38 @@ impl World {
                 return self.put_back(start, v, port);
             }
         }
-        let delta = self.answer_from(alloc, start, placed.event)?;
-        self.make_answer(placed, &delta)
+        self.make_reacting(alloc, start, placed)
+    }
+
+    /// The same of an event to which its node reacts. It stands apart, so that who puts a message back has no room laid
+    /// out for a reaction, and the reaction is looked at where it is, and not moved.
+    fn make_reacting(&mut self, alloc: Global, start: u32, placed: Placed) -> Result<(), AllocError>
+        requires start { start ≡ first_queue self.old.net.channels (event_node placed.event) }
+        requires placed { IsPlaced (network self.old.net) placed }
+        requires ready { is_ready self.old placed.event ≡ true }
+        requires turn { has_turn self.old ≡ true }
+        ensures made { OnOk result (Makes self.old placed.event self.new) }
+        ensures err { OnErr result (IsSameWorld self.old self.new) }
+    {
+        let answer = self.reaction_from(alloc, start, placed.event);
+        match &answer {
+            Ok(delta) => self.make_answer(placed, delta),
+            Err(_) => Err(AllocError),
+        }
+    }
+
+    /// The reaction of the node of an event that may happen, where its queues begin at `start`; lack of memory is the one
+    /// fault.
+    fn reaction_from(&self, alloc: Global, start: u32, event: Event) -> Result<Delta, NodeFault>
+        requires start { start ≡ first_queue self.now.net.channels (event_node event) }
+        requires lawful { IsLawful self.now.net event }
+        ensures answer { IfOk result (λ d. IsAnswer self.now.net event d) }
+        ensures memory { IfErr result (λ f. f ≡ NodeFault.Memory) }
+    {
+        let _ = self.net.trace();
+        law_list_has_no_row();
+        let given = self.net.work_from(start, event);
+        react(alloc, self.net.node(node_of(event)), given)
     }
 
     /// The Take of a message that its node only puts back happens, under the next number. Neither a node nor the index is
@@ -289,23 +319,9 @@ impl World {
         ensures { IfOk result (λ d. IsAnswer self.now.net event d) }
     {
         let start = self.net.start_of(self.placed(event));
-        self.answer_from(alloc, start, event)
-    }
-
-    /// The same, where the queues of its node begin at `start`.
-    fn answer_from(&self, alloc: Global, start: u32, event: Event) -> Result<Delta, AllocError>
-        requires start { start ≡ first_queue self.now.net.channels (event_node event) }
-        requires lawful { IsLawful self.now.net event }
-        ensures { IfOk result (λ d. IsAnswer self.now.net event d) }
-    {
-        let _ = self.net.trace();
-        law_list_has_no_row();
-        let given = self.net.work_from(start, event);
-        match react(alloc, self.net.node(node_of(event)), given) {
+        match self.reaction_from(alloc, start, event) {
             Ok(delta) => Ok(delta),
-            Err(NodeFault::Memory) => Err(AllocError),
-            Err(NodeFault::NoPort) => unreachable!(),
-            Err(NodeFault::Unforeseen) => unreachable!(),
+            Err(_) => Err(AllocError),
         }
     }
 
