@@ -321,7 +321,8 @@ port_told l order v p start has told = start_told l order v start (stands l orde
 pub node_inside : (l : Laid) → AreInOrder l → (v : ℕ) → v < length (seen l).queues → v < length l.starts
 node_inside l order v lt = let n = seen_count l order in omega (arith, n, lt)
 
-pub first_found : (l : Laid) → AreInOrder l → (v start : ℕ) → v < length (seen l).queues → start ≡ get_or l.starts v start → start ≡ first_queue (seen l) v
+pub first_found : (l : Laid) → AreInOrder l → (v start : ℕ) → v < length (seen l).queues → start ≡ get_or l.starts v start → start ≡ first_queue
+    (seen l) v
 first_found l order v start inside found =
     let lt = node_inside l order v inside in found ∙ get_or_default l.starts v start 0 lt ∙ sym (first_is l order v lt)
 

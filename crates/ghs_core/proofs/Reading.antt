@@ -6,15 +6,14 @@ use Rattle.ghs_graph.specs.Graph.{Shape}
 use Rattle.ghs_node.specs.NodeState.{NodeState, degree}
 use Rattle.ghs_channels.specs.Channels.{ChannelsState, IsFor, AllEmpty, total_of}
 use Rattle.peer_network.specs.declared.event.Event.{Event}
-use Rattle.peer_network.specs.declared.event.Event.TheVariants.{Wake, Take}
-use Rattle.peer_network.specs.Events.{event_node}
+use Rattle.peer_network.specs.declared.event.Event.TheVariants.{Take}
 use Rattle.peer_network.specs.Network.{Network, network_of, At}
 use Rattle.ghs_protocol.specs.Net.{Net, opening, is_lawful}
 use Rattle.ghs_protocol.specs.Run.{IsAfter, net_after}
 use Rattle.ghs_protocol.specs.Ledger.{in_all}
 use Rattle.peer_network.proofs.lemmas.Sums.{sum_same}
 use Rattle.ghs_protocol.proofs.lemmas.Balance.{after_balanced, balanced_in_all}
-use Rattle.peer_network.proofs.lemmas.Events.{at_of, node_of}
+use Rattle.peer_network.proofs.lemmas.Events.{at_of}
 use Rattle.peer_network.proofs.lemmas.Graphs.{graph_wired, graph_few}
 use Rattle.ghs_protocol.proofs.lemmas.Nodes.{ports_many}
 use Rattle.ghs_protocol.proofs.lemmas.Runs.{after_is_net, net_after_is}
@@ -70,10 +69,6 @@ module _ {g : Shape} {es : List Event} {nodes : List NodeState} {channels : Chan
 
 pub lawful_port : (g : Network) (w : Net) (v p : ℕ) → is_lawful g w (Take v p) ≡ true → At g v p
 lawful_port g w v p l = let b = and_parts _ _ l in at_of g v p b.0
-
-pub lawful_node : (g : Network) (w : Net) (e : Event) → is_lawful g w e ≡ true → (1 ≤ event_node e) × (event_node e ≤ g.count)
-lawful_node g w (Wake v) l = node_of g v (and_parts _ _ l).0
-lawful_node g w (Take v p) l = let at = lawful_port g w v p l in (at.some, at.node)
 
 -- the fields of an opening net
 pub opened : (g : Shape) (nodes : List NodeState) (channels : ChannelsState) (counts : Counts) (halts : Halts) →

@@ -110,7 +110,8 @@ module _ (g : Network) where
           rw same (one_more (events_to g (v - 1)) (Wake v) ends (record { owner = v; far = b; base = b }) before
           (subst (λ (i : ℕ). IsOwner bases i v) next (own 0 (omega arith))) (is ∙ (span g bases v are low high).from) is)
 
-      pub take_laid : (j : ℕ) (ends new : List Ends) (f b : ℕ) → j < length (g.ports v) → AreEnds g bases (events_to g (v - 1) ++ events_at v j) ends →
+      pub take_laid : (j : ℕ) (ends new : List Ends) (f b : ℕ) → j < length (g.ports v) →
+          AreEnds g bases (events_to g (v - 1) ++ events_at v j) ends →
           f ≡ place g (far_take g v j) → b ≡ get_or bases v 0 → new ≡ ends ++ (record { owner = v; far = f; base = b }) ∷ [] →
           AreEnds g bases (events_to g (v - 1) ++ events_at v (j + 1)) new
       take_laid j ends new f b lt before is begins same =

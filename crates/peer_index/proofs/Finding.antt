@@ -219,7 +219,8 @@ take_stands g bases v i b own ne =
 -- an event is of the owner of its place, and so placed by that one's base
 pub placed_told : (g : Network) (bases : List ℕ) (v i b : ℕ) (e : Event) → AreBases g g.count bases → IsOwner bases i v → b ≡ get_or bases v 0 →
     slice_get (all_events g) i ≡ Some e → IsPlaced g (record { event = e; base = b })
-placed_told g bases v i b e are own is here = record { event = (only_place g i e here).0; base = is ∙ from ∙ ap (λ (u : ℕ). place g (Wake u)) (sym of) }
+placed_told g bases v i b e are own is here =
+    record { event = (only_place g i e here).0; base = is ∙ from ∙ ap (λ (u : ℕ). place g (Wake u)) (sym of) }
   where
     lo : 1 ≤ v
     lo = own.node

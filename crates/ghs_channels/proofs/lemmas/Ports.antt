@@ -64,7 +64,8 @@ same_first a b s zero = refl
 same_first a b s (suc v) = let before = same_first a b s v in let here = same_many a b s v in omega (arith, before, here)
 
 -- a node of a graph has a queue for each port, and the number 0 has none
-pub queues_are_ports : (g : Shape) (l : ChannelsState) → IsFor g l → (v : ℕ) → 1 ≤ v → v ≤ g.nodes → length (queues_of l v) ≡ length (ports_of g.keys v)
+pub queues_are_ports : (g : Shape) (l : ChannelsState) → IsFor g l → (v : ℕ) → 1 ≤ v → v ≤ g.nodes → length (queues_of l v) ≡ length
+    (ports_of g.keys v)
 queues_are_ports g l for v low high =
     let count = for.count in
     ⊎_elim

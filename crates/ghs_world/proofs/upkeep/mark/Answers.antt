@@ -5,5 +5,6 @@ use Rattle.ghs_world.proofs.upkeep.mark.Goals as goal
 
 pub returns : goal.returns
 returns c =
-    marked_one (network c.args.net.now) (lawful_in c.args.net.now c.args.wake) c.args.placed.event c.args.index.now c.set_placed.new.self c.may_happen_placed.result
+    marked_one (network c.args.net.now) (lawful_in c.args.net.now c.args.wake) c.args.placed.event c.args.index.now c.set_placed.new.self
+    c.may_happen_placed.result
     (rw c.graph.ensures at c.set_placed.ensures) c.may_happen_placed.ensures c.requires.placed.event

@@ -7,4 +7,5 @@ use Rattle.ghs_world.proofs.upkeep.mark_changed.Given as goal
 
 abbrev pub invariant-loop-port : goal.invariant-loop-port
 invariant-loop-port l =
-    IsIndexBut (network l.net) (lawful_in l.net l.fn.wake) (arrivals (network l.net) (event_node l.fn.placed.event) (drop l.port-index l.sends)) l.index
+    IsIndexBut (network l.net) (lawful_in l.net l.fn.wake) (arrivals (network l.net) (event_node l.fn.placed.event) (drop l.port-index l.sends))
+    l.index

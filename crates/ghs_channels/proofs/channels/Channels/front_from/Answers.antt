@@ -6,11 +6,15 @@ use Rattle.ghs_channels.proofs.channels.Channels.front_from.Goals as goal
 
 pub index-requires : goal.index-requires
 index-requires c =
-    let s = stands_at _ c.self.invariant.order c.args.v c.args.port _ (rw (← c.self.view_is) at c.requires.port) (port_told _ c.self.invariant.order c.args.v c.args.port _ (rw (← c.self.view_is) at c.requires.port) (rw (← c.self.view_is) at c.requires.start)) in
+    let s = stands_at _ c.self.invariant.order c.args.v c.args.port _ (rw (← c.self.view_is) at c.requires.port)
+    (port_told _ c.self.invariant.order c.args.v c.args.port _ (rw (← c.self.view_is) at c.requires.port)
+    (rw (← c.self.view_is) at c.requires.start)) in
     omega (arith, s)
 
 pub returns : goal.returns
 returns c =
     let state =
-    state_found _ c.self.invariant.order c.args.v c.args.port _ _ (rw (← c.self.view_is) at c.requires.port) (port_told _ c.self.invariant.order c.args.v c.args.port _ (rw (← c.self.view_is) at c.requires.port) (rw (← c.self.view_is) at c.requires.start)) c.index.ensures in
+    state_found _ c.self.invariant.order c.args.v c.args.port _ _ (rw (← c.self.view_is) at c.requires.port)
+    (port_told _ c.self.invariant.order c.args.v c.args.port _ (rw (← c.self.view_is) at c.requires.port)
+    (rw (← c.self.view_is) at c.requires.start)) c.index.ensures in
     c.front.ensures ∙ ap (λ (q : QueueState). slice_get q.list 0) state ∙ rw c.self.view_is refl

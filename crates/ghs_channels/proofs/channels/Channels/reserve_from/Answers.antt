@@ -4,23 +4,30 @@ use Rattle.ghs_channels.proofs.Reserving.{start_within, ports_in_stretch, stretc
 use Rattle.ghs_channels.proofs.channels.Channels.reserve_from.Goals as goal
 
 pub stretch-far-requires : goal.stretch-far-requires
-stretch-far-requires c = rw c.deref.ensures.value (start_within _ c.self.invariant.order c.args.v _ (rw (← c.self.view_is) at c.requires.node) (rw (← c.self.view_is) at c.requires.start) _ _ c.self.invariant)
+stretch-far-requires c =
+    rw c.deref.ensures.value (start_within _ c.self.invariant.order c.args.v _ (rw (← c.self.view_is) at c.requires.node)
+    (rw (← c.self.view_is) at c.requires.start) _ _ c.self.invariant)
 
 pub make_room-requires-clause-ports : goal.make_room-requires-clause-ports
 make_room-requires-clause-ports c =
     let n : c.len.result ≡ length c.self.inside.claims.items = omega (arith, c.len.ensures) in
     rw (c.stretch-far.ensures, c.deref.ensures.value, n)
-    (ports_in_stretch _ c.self.invariant.order c.args.v _ (rw (← c.self.view_is) at c.requires.node) (rw (← c.self.view_is) at c.requires.start) _ _ c.self.invariant c.args.sends.now (rw (← c.self.view_is) at c.requires.ports))
+    (ports_in_stretch _ c.self.invariant.order c.args.v _ (rw (← c.self.view_is) at c.requires.node) (rw (← c.self.view_is) at c.requires.start) _ _
+    c.self.invariant c.args.sends.now (rw (← c.self.view_is) at c.requires.ports))
 
 pub make_room-requires-clause-wide : goal.make_room-requires-clause-wide
 make_room-requires-clause-wide c =
     let n : c.len.result ≡ length c.self.inside.claims.items = omega (arith, c.len.ensures) in
-    rw (c.stretch-far.ensures, c.deref.ensures.value, n, c.deref_mut-2.ensures.value) (stretch_few _ c.self.invariant.order c.args.v _ (rw (← c.self.view_is) at c.requires.node) (rw (← c.self.view_is) at c.requires.start) _ _ c.self.invariant)
+    rw (c.stretch-far.ensures, c.deref.ensures.value, n, c.deref_mut-2.ensures.value)
+    (stretch_few _ c.self.invariant.order c.args.v _ (rw (← c.self.view_is) at c.requires.node) (rw (← c.self.view_is) at c.requires.start) _ _
+    c.self.invariant)
 
 pub make_room-requires-clause-among : goal.make_room-requires-clause-among
 make_room-requires-clause-among c =
     let n : c.len.result ≡ length c.self.inside.claims.items = omega (arith, c.len.ensures) in
-    rw (c.stretch-far.ensures, c.deref.ensures.value, n, c.deref_mut.ensures.value) (stretch_among _ c.self.invariant.order c.args.v _ (rw (← c.self.view_is) at c.requires.node) (rw (← c.self.view_is) at c.requires.start) _ _ c.self.invariant)
+    rw (c.stretch-far.ensures, c.deref.ensures.value, n, c.deref_mut.ensures.value)
+    (stretch_among _ c.self.invariant.order c.args.v _ (rw (← c.self.view_is) at c.requires.node) (rw (← c.self.view_is) at c.requires.start) _ _
+    c.self.invariant)
 
 pub invariant_of-self : goal.invariant_of-self
 invariant_of-self c =
@@ -49,7 +56,8 @@ returns-clause-room c =
     let q : length c.make_room.new.queues ≡ length queues.items = c.make_room.auto.queues ∙ ap length c.deref_mut.ensures.value in
     let room = rw (c.stretch-far.ensures, c.deref.ensures.value, n) at c.make_room.ensures.room in
     rw (written_over queues.len c.make_room.new.queues queues.items (omega arith) q)
-    (on_ok_weaker c.make_room.result (room_there _ c.self.invariant.order c.args.v _ (rw (← c.self.view_is) at c.requires.node) (rw (← c.self.view_is) at c.requires.start) _ _ c.self.invariant c.args.sends.now _ q) room)
+    (on_ok_weaker c.make_room.result (room_there _ c.self.invariant.order c.args.v _ (rw (← c.self.view_is) at c.requires.node)
+    (rw (← c.self.view_is) at c.requires.start) _ _ c.self.invariant c.args.sends.now _ q) room)
 
 pub returns-clause-full : goal.returns-clause-full
 returns-clause-full c =
@@ -57,5 +65,6 @@ returns-clause-full c =
     let full = rw (c.stretch-far.ensures, c.deref.ensures.value, n, c.deref_mut.ensures.value) at c.make_room.ensures.full in
     rw (← c.self.view_is)
     (on_err_weaker c.make_room.result
-    (λ none room. none (room_here _ c.self.invariant.order c.args.v _ (rw (← c.self.view_is) at c.requires.node) (rw (← c.self.view_is) at c.requires.start) _ _ c.self.invariant c.args.sends.now (rw (← c.self.view_is) at c.requires.ports) room))
+    (λ none room. none (room_here _ c.self.invariant.order c.args.v _ (rw (← c.self.view_is) at c.requires.node)
+    (rw (← c.self.view_is) at c.requires.start) _ _ c.self.invariant c.args.sends.now (rw (← c.self.view_is) at c.requires.ports) room))
     full)

@@ -5,19 +5,23 @@ use Rattle.ghs_channels.proofs.channels.Channels.send_from.Goals as goal
 
 pub index-to-requires : goal.index-to-requires
 index-to-requires c =
-    let s = stands_at _ c.self.invariant.order c.args.v c.args.port _ (rw (← c.self.view_is) at c.requires.port) (port_told _ c.self.invariant.order c.args.v c.args.port _ (rw (← c.self.view_is) at c.requires.port) (rw (← c.self.view_is) at c.requires.start)) in
+    let s = stands_at _ c.self.invariant.order c.args.v c.args.port _ (rw (← c.self.view_is) at c.requires.port)
+    (port_told _ c.self.invariant.order c.args.v c.args.port _ (rw (← c.self.view_is) at c.requires.port)
+    (rw (← c.self.view_is) at c.requires.start)) in
     let wide = c.self.invariant.order.wide in
     omega (arith, s, wide)
 
 pub index_mut-requires : goal.index_mut-requires
 index_mut-requires c =
-    let s = far_found _ c.self.invariant.order c.args.v c.args.port _ _ (rw (← c.self.view_is) at c.requires.port) (port_told _ c.self.invariant.order c.args.v c.args.port _ (rw (← c.self.view_is) at c.requires.port) (rw (← c.self.view_is) at c.requires.start))
+    let s = far_found _ c.self.invariant.order c.args.v c.args.port _ _ (rw (← c.self.view_is) at c.requires.port)
+    (port_told _ c.self.invariant.order c.args.v c.args.port _ (rw (← c.self.view_is) at c.requires.port) (rw (← c.self.view_is) at c.requires.start))
     c.index-to.ensures in
     omega (arith, s)
 
 pub push-requires : goal.push-requires
 push-requires c =
-    rw (far_state _ c.self.invariant.order c.args.v c.args.port _ _ (rw (← c.self.view_is) at c.requires.port) (port_told _ c.self.invariant.order c.args.v c.args.port _ (rw (← c.self.view_is) at c.requires.port) (rw (← c.self.view_is) at c.requires.start))
+    rw (far_state _ c.self.invariant.order c.args.v c.args.port _ _ (rw (← c.self.view_is) at c.requires.port)
+    (port_told _ c.self.invariant.order c.args.v c.args.port _ (rw (← c.self.view_is) at c.requires.port) (rw (← c.self.view_is) at c.requires.start))
     c.index-to.ensures _ c.index_mut.ensures.value)
     (rw (← c.self.view_is) at c.requires.room)
 
@@ -29,7 +33,8 @@ overflow_add-self c =
 
 pub invariant_of-self : goal.invariant_of-self
 invariant_of-self c =
-    let s = far_found _ c.self.invariant.order c.args.v c.args.port _ _ (rw (← c.self.view_is) at c.requires.port) (port_told _ c.self.invariant.order c.args.v c.args.port _ (rw (← c.self.view_is) at c.requires.port) (rw (← c.self.view_is) at c.requires.start))
+    let s = far_found _ c.self.invariant.order c.args.v c.args.port _ _ (rw (← c.self.view_is) at c.requires.port)
+    (port_told _ c.self.invariant.order c.args.v c.args.port _ (rw (← c.self.view_is) at c.requires.port) (rw (← c.self.view_is) at c.requires.start))
     c.index-to.ensures in
     let more = pushed_length _ _ _ c.push.ensures in
     kept_with _ _ _ _ _ _ _ c.self.invariant s c.index_mut.ensures.value (omega (arith, more))
@@ -37,5 +42,6 @@ invariant_of-self c =
 pub returns : goal.returns
 returns c =
     rw (← c.self.view_is)
-    (far_changed _ c.self.invariant.order c.args.v c.args.port _ _ (rw (← c.self.view_is) at c.requires.port) (port_told _ c.self.invariant.order c.args.v c.args.port _ (rw (← c.self.view_is) at c.requires.port) (rw (← c.self.view_is) at c.requires.start))
+    (far_changed _ c.self.invariant.order c.args.v c.args.port _ _ (rw (← c.self.view_is) at c.requires.port)
+    (port_told _ c.self.invariant.order c.args.v c.args.port _ (rw (← c.self.view_is) at c.requires.port) (rw (← c.self.view_is) at c.requires.start))
     c.index-to.ensures (λ q. pushed q c.args.message) _ _ c.index_mut.ensures.value c.push.ensures)

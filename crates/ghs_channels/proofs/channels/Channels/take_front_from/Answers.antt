@@ -6,31 +6,39 @@ use Rattle.ghs_channels.proofs.channels.Channels.take_front_from.Goals as goal
 
 pub index_mut-requires : goal.index_mut-requires
 index_mut-requires c =
-    let s = stands_at _ c.self.invariant.order c.args.v c.args.port _ (rw (← c.self.view_is) at c.requires.port) (port_told _ c.self.invariant.order c.args.v c.args.port _ (rw (← c.self.view_is) at c.requires.port) (rw (← c.self.view_is) at c.requires.start)) in
+    let s = stands_at _ c.self.invariant.order c.args.v c.args.port _ (rw (← c.self.view_is) at c.requires.port)
+    (port_told _ c.self.invariant.order c.args.v c.args.port _ (rw (← c.self.view_is) at c.requires.port)
+    (rw (← c.self.view_is) at c.requires.start)) in
     omega (arith, s)
 
 pub overflow_sub-self : goal.overflow_sub-self
 overflow_sub-self c =
-    let s = stands_at _ c.self.invariant.order c.args.v c.args.port _ (rw (← c.self.view_is) at c.requires.port) (port_told _ c.self.invariant.order c.args.v c.args.port _ (rw (← c.self.view_is) at c.requires.port) (rw (← c.self.view_is) at c.requires.start)) in
+    let s = stands_at _ c.self.invariant.order c.args.v c.args.port _ (rw (← c.self.view_is) at c.requires.port)
+    (port_told _ c.self.invariant.order c.args.v c.args.port _ (rw (← c.self.view_is) at c.requires.port)
+    (rw (← c.self.view_is) at c.requires.start)) in
     let fewer = taken_length _ _ _ c.take_front-first.ensures.left c.take_front-first.ensures.first in
     let some = one_waits _ _ _ _ _ c.self.invariant s c.index_mut.ensures.value in
     omega (arith, fewer, some, c.count.ensures)
 
 pub invariant_of-self : goal.invariant_of-self
 invariant_of-self c =
-    let s = stands_at _ c.self.invariant.order c.args.v c.args.port _ (rw (← c.self.view_is) at c.requires.port) (port_told _ c.self.invariant.order c.args.v c.args.port _ (rw (← c.self.view_is) at c.requires.port) (rw (← c.self.view_is) at c.requires.start)) in
+    let s = stands_at _ c.self.invariant.order c.args.v c.args.port _ (rw (← c.self.view_is) at c.requires.port)
+    (port_told _ c.self.invariant.order c.args.v c.args.port _ (rw (← c.self.view_is) at c.requires.port)
+    (rw (← c.self.view_is) at c.requires.start)) in
     let fewer = taken_length _ _ _ c.take_front-first.ensures.left c.take_front-first.ensures.first in
     let some = one_waits _ _ _ _ _ c.self.invariant s c.index_mut.ensures.value in
     kept_with _ _ _ _ _ _ _ c.self.invariant s c.index_mut.ensures.value (omega (arith, fewer, some, c.count.ensures))
 
 pub returns-clause-first : goal.returns-clause-first
 returns-clause-first c =
-    let state = state_found _ c.self.invariant.order c.args.v c.args.port _ _ (rw (← c.self.view_is) at c.requires.port) (port_told _ c.self.invariant.order c.args.v c.args.port _ (rw (← c.self.view_is) at c.requires.port) (rw (← c.self.view_is) at c.requires.start))
+    let state = state_found _ c.self.invariant.order c.args.v c.args.port _ _ (rw (← c.self.view_is) at c.requires.port)
+    (port_told _ c.self.invariant.order c.args.v c.args.port _ (rw (← c.self.view_is) at c.requires.port) (rw (← c.self.view_is) at c.requires.start))
     c.index_mut.ensures.value in
     c.take_front-first.ensures.first ∙ ap (λ (q : QueueState). slice_get q.list 0) state ∙ rw c.self.view_is refl
 
 pub returns-clause-left : goal.returns-clause-left
 returns-clause-left c =
     rw (← c.self.view_is)
-    (changed_by _ c.self.invariant.order c.args.v c.args.port _ taken _ _ (rw (← c.self.view_is) at c.requires.port) (port_told _ c.self.invariant.order c.args.v c.args.port _ (rw (← c.self.view_is) at c.requires.port) (rw (← c.self.view_is) at c.requires.start))
+    (changed_by _ c.self.invariant.order c.args.v c.args.port _ taken _ _ (rw (← c.self.view_is) at c.requires.port)
+    (port_told _ c.self.invariant.order c.args.v c.args.port _ (rw (← c.self.view_is) at c.requires.port) (rw (← c.self.view_is) at c.requires.start))
     c.index_mut.ensures.value c.take_front-first.ensures.left)

@@ -18,7 +18,8 @@ pub mark_changed-requires-clause-ports : goal.mark_changed-requires-clause-ports
 mark_changed-requires-clause-ports c =
     rw (c.play_from.ensures.graph, c.as_slice-sends.ensures)
     (answer_sends c.self.inside.net c.trace.ensures.graph c.trace.ensures.run c.args.placed.event c.args.answer.now
-    (ready_lawful (the_view c.self.inside) c.args.placed.event (rw (← c.self.view_is) at c.requires.ready)) (rw (← c.self.view_is) at c.requires.answer))
+    (ready_lawful (the_view c.self.inside) c.args.placed.event (rw (← c.self.view_is) at c.requires.ready))
+    (rw (← c.self.view_is) at c.requires.answer))
 
 pub mark_changed-requires-clause-arrived : goal.mark_changed-requires-clause-arrived
 mark_changed-requires-clause-arrived c =

@@ -20,7 +20,8 @@ pub set-requires : goal.set-requires
 set-requires c =
     let is = rw (← c.self.view_is) at c.requires.index in
     let base = c.requires.placed.base in
-    let at : c.args.placed.base + 1 + c.args.port ≡ place (network_of c.args.graph.now) (Take (event_node c.args.placed.event) c.args.port) = omega arith in
+    let at : c.args.placed.base + 1 + c.args.port ≡ place (network_of c.args.graph.now) (Take (event_node c.args.placed.event) c.args.port) = omega
+    arith in
     let far = far_read (network_of c.args.graph.now) (the_view c.self.inside) c.self.inside.ends.items (event_node c.args.placed.event) c.args.port
     _ _ is refl c.requires.port at (rw c.deref.ensures.value at c.far_at-far.ensures) in
     let within = place_within (network_of c.args.graph.now) (far_take (network_of c.args.graph.now) (event_node c.args.placed.event) c.args.port)
@@ -32,7 +33,8 @@ pub returns : goal.returns
 returns c =
     let is = rw (← c.self.view_is) at c.requires.index in
     let base = c.requires.placed.base in
-    let at : c.args.placed.base + 1 + c.args.port ≡ place (network_of c.args.graph.now) (Take (event_node c.args.placed.event) c.args.port) = omega arith in
+    let at : c.args.placed.base + 1 + c.args.port ≡ place (network_of c.args.graph.now) (Take (event_node c.args.placed.event) c.args.port) = omega
+    arith in
     let far = far_read (network_of c.args.graph.now) (the_view c.self.inside) c.self.inside.ends.items (event_node c.args.placed.event) c.args.port
     _ _ is refl c.requires.port at (rw c.deref.ensures.value at c.far_at-far.ensures) in
     rw (← c.self.view_is, c.set.ensures, far) refl
