@@ -11,5 +11,5 @@
 mod blocks;
 pub mod channels;
 mod claims;
+mod line;
 mod queue;
-mod rest;

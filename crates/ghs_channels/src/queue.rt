@@ -2,27 +2,30 @@
 ghost use Rattle.std.specs.Prelude.{◌≡◌, ℕ, ◌+◌, ◌-◌, ◌<◌, ◌≤◌, [], length, slice_get, OnOk, OnErr};
 ghost use Rattle.ghs_channels.specs.Queue.{QueueState, pushed, taken, requeued};
 
-use crate::rest::Rest;
+use crate::line::{Line, room_behind};
 use ghs_node::message::Message;
 use std::alloc::{AllocError, Global};
 use std::marker::Model;
+use std::mem;
 
 /// Messages that wait, the first come first. Its room is for how many more there is memory. The first message
-/// stands in the queue itself, so that a queue in which no second one waits takes no memory of its own.
+/// stands in the queue itself, so that a queue in which no second one waits takes no memory of its own. One tag says
+/// whether there is a first message and whether there is memory for more: so a queue takes 32 bytes.
 #[derive(Debug, Drop)]
 pub struct Queue {
-    first: Option<Message>,
-    rest: Rest,
+    line: Line,
 }
 
+const _: () = prove!(mem::size_of::<Queue>() == 32);
+
 impl Model for Queue {
-    ghost use Rattle.ghs_channels.specs.Queue.{QueueState, in_line, free_beside, IsLine};
+    ghost use Rattle.ghs_channels.specs.Queue.{QueueState, in_line, IsLine};
 
     ghost Value = { QueueState };
 
-    ghost view = { λ q. record { list = in_line q.first q.rest.list; room = free_beside q.first q.rest.room } };
+    ghost view = { λ q. in_line q.line };
 
-    ghost invariant = { λ q. IsLine q.first q.rest.list };
+    ghost invariant = { λ q. IsLine q.line };
 }
 
 impl Queue {
@@ -30,19 +33,17 @@ impl Queue {
     pub fn new() -> Queue
         ensures { result.list ≡ [] }
     {
-        Queue {
-            first: None,
-            rest: Rest::none(),
-        }
+        Queue { line: Line::Empty }
     }
 
     /// How many messages wait.
     pub fn len(&self) -> u64
         ensures { result ≡ length self.now.list }
     {
-        match self.first {
-            Some(_) => 1 + self.rest.len(),
-            None => 0,
+        match &self.line {
+            Line::OneBeside(_, rest) => 1 + rest.len() as u64,
+            Line::One(_) => 1,
+            _ => 0,
         }
     }
 
@@ -50,7 +51,10 @@ impl Queue {
     pub fn front(&self) -> Option<Message>
         ensures { result ≡ slice_get self.now.list 0 }
     {
-        self.first
+        match &self.line {
+            Line::OneBeside(first, _) | Line::One(first) => Some(*first),
+            _ => None,
+        }
     }
 
     /// Makes room for `additional` messages.
@@ -60,15 +64,26 @@ impl Queue {
         ensures kept { self.old.room ≤ self.new.room }
         ensures full { OnErr result (self.old.room < additional) }
     {
-        match self.first {
-            Some(_) => self.rest.reserve(alloc, additional),
-            None => {
-                if additional > 1 {
-                    self.rest.reserve(alloc, additional - 1)?;
+        match &mut self.line {
+            Line::OneBeside(_, rest) => rest.reserve(additional)?,
+            Line::One(first) => {
+                let first = *first;
+                if additional > 0 {
+                    self.line = Line::OneBeside(first, room_behind(alloc, additional)?);
                 }
-                Ok(())
+            }
+            Line::EmptyBeside(rest) => {
+                if additional > 1 {
+                    rest.reserve(additional - 1)?;
+                }
+            }
+            Line::Empty => {
+                if additional > 1 {
+                    self.line = Line::EmptyBeside(room_behind(alloc, additional - 1)?);
+                }
             }
         }
+        Ok(())
     }
 
     /// One message more, the last.
@@ -76,9 +91,15 @@ impl Queue {
         requires { 0 < self.old.room }
         ensures { self.new ≡ pushed self.old message }
     {
-        match self.first {
-            Some(_) => self.rest.push(message),
-            None => self.first = Some(message),
+        match &mut self.line {
+            Line::OneBeside(_, rest) => rest.push_back_reserved(message),
+            Line::One(_) => (),
+            Line::EmptyBeside(_) => {
+                if let Line::EmptyBeside(rest) = mem::replace(&mut self.line, Line::Empty) {
+                    self.line = Line::OneBeside(message, rest);
+                }
+            }
+            Line::Empty => self.line = Line::One(message),
         }
     }
 
@@ -87,19 +108,33 @@ impl Queue {
         ensures first { result ≡ slice_get self.old.list 0 }
         ensures left { self.new ≡ taken self.old }
     {
-        let first = self.first;
-        self.first = self.rest.take_front();
-        first
+        match &mut self.line {
+            Line::OneBeside(first, rest) => {
+                let taken = *first;
+                if let Some(second) = rest.pop_front() {
+                    *first = second;
+                } else if let Line::OneBeside(_, rest) = mem::replace(&mut self.line, Line::Empty) {
+                    self.line = Line::EmptyBeside(rest);
+                }
+                Some(taken)
+            }
+            Line::One(first) => {
+                let taken = *first;
+                self.line = Line::Empty;
+                Some(taken)
+            }
+            _ => None,
+        }
     }
 
     /// The first message goes to the end.
     pub fn requeue(&mut self)
         ensures { self.new ≡ requeued self.old }
     {
-        if let Some(first) = self.first {
-            if let Some(second) = self.rest.take_front() {
-                self.rest.push(first);
-                self.first = Some(second);
+        if let Line::OneBeside(first, rest) = &mut self.line {
+            if let Some(second) = rest.pop_front() {
+                rest.push_back_reserved(*first);
+                *first = second;
             }
         }
     }

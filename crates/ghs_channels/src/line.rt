@@ -1,0 +1,34 @@
+//! What a queue is made of.
+ghost use Rattle.std.specs.Prelude.{◌≡◌, ◌-◌, ◌≤◌, [], IfOk};
+ghost use Rattle.std.specs.VecDeque.{deque_len, deque_capacity};
+
+use ghs_node::message::Message;
+use std::alloc::{AllocError, Global};
+use std::collections::VecDeque;
+
+/// Messages that wait, and whether there is memory for more. Most queues never have two at a time, so what is behind a
+/// first message lies elsewhere, once there is room for it.
+#[derive(Debug, Drop)]
+pub(crate) enum Line {
+    /// Nothing waits, and there is room for one.
+    Empty,
+    /// One message waits, and there is no room.
+    One(Message),
+    /// Nothing waits, nor behind what comes first.
+    EmptyBeside(Box<VecDeque<Message>>),
+    /// A first message, and what waits behind it.
+    OneBeside(Message, Box<VecDeque<Message>>),
+}
+
+/// No message, and room for `additional`.
+pub(crate) fn room_behind(
+    alloc: Global,
+    additional: usize,
+) -> Result<Box<VecDeque<Message>>, AllocError>
+    ensures none { IfOk result (λ b. b.value.items ≡ []) }
+    ensures room { IfOk result (λ b. additional ≤ deque_capacity b.value - deque_len b.value) }
+{
+    let mut messages = VecDeque::new(alloc);
+    messages.reserve(additional)?;
+    Ok(Box::new(alloc, messages)?)
+}
