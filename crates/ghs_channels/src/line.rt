@@ -14,7 +14,7 @@ pub(crate) enum Line {
     Empty,
     /// One message waits, and there is no room.
     One(Message),
-    /// Nothing waits, nor behind what comes first.
+    /// Nothing waits. There is room for one, and elsewhere, where nothing waits either, for more behind it.
     EmptyBeside(Box<VecDeque<Message>>),
     /// A first message, and what waits behind it.
     OneBeside(Message, Box<VecDeque<Message>>),

@@ -81,7 +81,12 @@ new_world : (c : goal.After-ready_of) → the_view (record {
   index = c.mark_changed.new.index;
 }) ≡ after_commit (the_view c.self.inside) c.args.out c.play_from.new.self
 new_world c =
-    ap (λ (o : OutsState). record { net = c.play_from.new.self; wake = c.self.inside.wake; turns = c.self.inside.turns; outs = o.list; last = o.last
+    ap (λ (o : OutsState). record {
+      net = c.play_from.new.self;
+      wake = c.self.inside.wake;
+      turns = c.self.inside.turns;
+      outs = o.list;
+      last = o.last;
     })
     c.remove.ensures.out
 
