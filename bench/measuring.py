@@ -61,26 +61,30 @@ def run(words, output):
 
 
 def measure(programs, path, runs):
-    """The best of so many runs of each program, which take turns and have to print the same."""
-    best = {}
+    """The best of so many runs of each program, which take turns and have to print the same: seconds, MiB, and the least and
+    the greatest ratio of its seconds to the first program's in the same turn."""
+    best, ratios = {}, {}
     printed = {label: os.path.join(OUT, "printed." + label) for label in programs}
     for _ in range(runs):
-        for label, words in programs.items():
-            measured = run(words + [path], printed[label])
+        turn = {label: run(words + [path], printed[label]) for label, words in programs.items()}
+        base = next(iter(turn.values()))[0]
+        for label, measured in turn.items():
             best[label] = tuple(map(min, measured, best.get(label, measured)))
+            ratios.setdefault(label, []).append(measured[0] / base)
     first, *others = printed.values()
     for other in others:
         if not same_bytes(first, other):
             sys.exit(f"{path}: {first} and {other} differ")
-    return best
+    return {label: (*best[label], min(ratios[label]), max(ratios[label])) for label in programs}
 
 
 def heading():
-    print(f"{'graph':48} {'program':8} {'seconds':>8} {'MiB':>6} {'time':>6} {'memory':>7}")
+    print(f"{'graph':48} {'program':8} {'seconds':>8} {'MiB':>6} {'time':>6} {'memory':>7} {'turns':>11}")
 
 
 def print_rows(graph, best):
-    """A line for each program; ratios are to the first one."""
+    """A line for each program; ratios are to the first one, at the end those of time in the turns, the least and the greatest."""
     base = next(iter(best.values()))
-    for label, (seconds, memory) in best.items():
-        print(f"{graph:48} {label:8} {seconds:8.3f} {memory:6.0f} {seconds / base[0]:6.2f} {memory / base[1]:7.2f}", flush=True)
+    for label, (seconds, memory, low, high) in best.items():
+        ratios = f"{seconds / base[0]:6.2f} {memory / base[1]:7.2f} {low:5.2f} {high:5.2f}"
+        print(f"{graph:48} {label:8} {seconds:8.3f} {memory:6.0f} {ratios}", flush=True)
