@@ -1,4 +1,5 @@
 -- Serves the proofs: nothing here has to be believed.
+pub mod Eight
 pub mod Found
 pub mod Judgements
 pub mod Keys
@@ -10,3 +11,4 @@ pub mod Plain
 pub mod Readings
 pub mod Rows
 pub mod Slow
+pub mod Stops

@@ -1,5 +1,10 @@
 -- Arc lines of the plainest form: one space between fields, and nothing else.
-use Rattle.std.proofs.Common.{◌≡◌, ◌∙◌, ℕ, true, List, [], ◌∷◌, ◌++◌, append_assoc, refl, sym, ap, arith, Some, map}
+use Rattle.std.proofs.Common.{◌≡◌, ◌∙◌, ℕ, true, List, [], ◌∷◌, ◌++◌, append_assoc, refl, sym, ap, ap₂, arith, Some, map, length, take, drop, slice_index, add-one, ◌+◌, ◌-◌, ◌<◌, ◌≤◌, ◌^◌}
+use Rattle.std.proofs.Math.Seq.{split_at}
+use Rattle.std.proofs.lemmas.List.{length-take}
+use Rattle.std.specs.Str.{all_ascii_digits}
+use Rattle.std.specs.Str.Parse.{digits_value}
+use Rattle.ghs_lines.proofs.lemmas.Digits.{number_of-digits}
 use Rattle.ghs_lines.specs.Fields.{fields_of}
 use Rattle.ghs_lines.specs.Lines.{lines_of}
 use Rattle.ghs_lines.proofs.lemmas.Words.{digits_plain, fields_of-last, fields_of-word, has_no_feed, has_no_feed-last, has_no_feed-word, lines_of-line}
@@ -31,3 +36,16 @@ plain text r1 r2 rest u v w a b c =
     ∙ ap (λ n. Arc (arc_with n (number_in b.digits) (number_in c.digits)) ∷ meanings rest) a.number
     ∙ ap (λ n. Arc (arc_with (Some u) n (number_in c.digits)) ∷ meanings rest) b.number
     ∙ ap (λ n. Arc (arc_with (Some u) (Some v) n) ∷ meanings rest) c.number
+
+-- the number that the first n bytes are, with a byte behind it
+pub number_cut : (end : ℕ) (text rest : List ℕ) (value n : ℕ) → 1 ≤ n → n < length text → all_ascii_digits (take n text) ≡ true
+    → value ≡ digits_value 10 (take n text) → value < 2 ^ 32 → slice_index text n ≡ end → rest ≡ drop (n + 1) text → IsNumberBefore end text value rest
+number_cut end text rest value n some within digits is small here behind =
+    let long : length (take n text) ≡ n = omega (arith, length-take n text) in
+    record {
+      digits = take n text;
+      some = omega (arith, long);
+      all = digits;
+      number = sym (number_of-digits (2 ^ 32 - 1) (take n text) (omega (arith, long)) digits (omega (arith, is))) ∙ ap Some (sym is);
+      cut = split_at text n 0 within ∙ ap₂ (λ b bs. take n text ++ b ∷ bs) here (ap (λ k. drop k text) (sym (add-one n)) ∙ sym behind);
+    }

@@ -9,4 +9,5 @@ pub mod Pass
 pub mod Problem
 pub mod RawGraph
 pub mod Reading
+pub mod Stops
 pub mod Text

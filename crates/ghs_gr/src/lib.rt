@@ -12,6 +12,7 @@
 mod arc;
 mod check;
 pub mod device;
+mod digits;
 pub mod fault;
 pub mod judgement;
 mod key;

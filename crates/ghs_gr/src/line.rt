@@ -1,11 +1,13 @@
 //! What the lines of a graph text say.
 ghost use Rattle.ghs_gr.specs.Arc.{arc_with};
 ghost use Rattle.ghs_gr.specs.Line.{IsNumberBefore, arc_of, meaning, meanings, number_in, problem_of};
+ghost use Rattle.ghs_gr.specs.Stops.{AreStops};
 ghost use Rattle.ghs_gr.specs.declared.line.Line.TheVariants as line;
 ghost use Rattle.ghs_lines.specs.Fields.{fields_of};
 ghost use Rattle.std.specs.Prelude.{IfNone, IfSome, Some, [], length, ◌<◌, ◌≡◌, ◌≢◌, ◌∷◌};
 
 use crate::arc::Arc;
+use crate::digits::{stops_in, value_of};
 use ghs_lines::fields::next_field;
 use ghs_lines::lines::next_line;
 use ghs_lines::numbers::number as number_up_to;
@@ -46,14 +48,34 @@ fn plain_arc(text: &[u8]) -> Option<(Arc, &[u8])>
     ensures shorter { IfSome result (λ x. length x.1.now < length text.now) }
 {
     let fields = text.strip_prefix(b"a ")?;
-    let (from, rest) = number_before(b' ', fields)?;
-    let (to, rest) = number_before(b' ', rest)?;
-    let (weight, rest) = number_before(b'\n', rest)?;
+    let (from, rest, stops) = number_before(b' ', fields, stops_in(fields))?;
+    let (to, rest, stops) = number_before(b' ', rest, stops)?;
+    let (weight, rest, _) = number_before(b'\n', rest, stops)?;
     Some((Arc { from, to, weight }, rest))
 }
 
-/// The plain number of the digits at the front, where this byte stands right behind them, and what is behind that byte.
-fn number_before(end: u8, text: &[u8]) -> Option<(u32, &[u8])>
+/// The plain number of the digits at the front, where this byte stands right behind them, what is behind that byte, and
+/// which bytes there are no digits, as far as it is told of the whole text.
+fn number_before(end: u8, text: &[u8], stops: u64) -> Option<(u32, &[u8], u64)>
+    requires { AreStops stops text.now }
+    ensures number { IfSome result (λ x. IsNumberBefore end text.now x.0 x.1.now) }
+    ensures stops { IfSome result (λ x. AreStops x.2 x.1.now) }
+{
+    let count = stops.trailing_zeros() as usize;
+    match text.first_chunk() {
+        Some(front) if 1 <= count && count <= 8 && text[count] == end => {
+            let (_, rest) = text.split_at(count + 1);
+            Some((value_of(*front, count) as u32, rest, stops >> (count + 1)))
+        }
+        _ => {
+            let (number, rest) = number_by_bytes(end, text)?;
+            Some((number, rest, 0))
+        }
+    }
+}
+
+/// The same of a text whose digits are too many or too close to its end to be read together.
+fn number_by_bytes(end: u8, text: &[u8]) -> Option<(u32, &[u8])>
     ensures { IfSome result (λ x. IsNumberBefore end text.now x.0 x.1.now) }
 {
     let mut value = 0u64;

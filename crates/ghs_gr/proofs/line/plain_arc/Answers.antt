@@ -11,4 +11,4 @@ returns-clause-some c =
     ap meanings (strip_prefix_is Decides-eqb c.args.text.now (codes "a ") (Some c.in_ok-fields.fields) c.in_ok-fields.ensures.cases)
     ∙ plain c.in_ok-fields.fields.now c.in_ok-from.rest.now c.in_ok-to.rest.now c.in_ok-weight.rest.now
     c.in_ok-from.from c.in_ok-to.to c.in_ok-weight.weight
-    c.in_ok-from.ensures c.in_ok-to.ensures c.in_ok-weight.ensures
+    c.in_ok-from.ensures.number c.in_ok-to.ensures.number c.in_ok-weight.ensures.number
