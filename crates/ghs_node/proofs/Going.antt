@@ -8,21 +8,20 @@ use Rattle.ghs_node.specs.declared.message.Phase.TheVariants.{Sleeping}
 use Rattle.ghs_node.specs.declared.message.Message.TheVariants.{Connect, Test, Accept, Reject, Report, ChangeRoot}
 use Rattle.ghs_node.specs.declared.delta.Delta.{Delta}
 use Rattle.ghs_node.specs.declared.work.Work.TheVariants.{Deliver}
-use Rattle.ghs_node.specs.declared.draft.Draft.{Draft}
 use Rattle.ghs_node.specs.Words.{is_sleeping}
 use Rattle.ghs_node.specs.NodeState.{NodeState, IsNode, mark_at, degree}
-use Rattle.ghs_node.specs.Reaction.{awake, asleep, reaction, woken, root_to}
-use Rattle.ghs_node.specs.Draft.{blank, waking, begun_in, drafted, later, goes_on}
+use Rattle.ghs_node.specs.Reaction.{awake, asleep, reaction, still, woken, root_to}
+use Rattle.ghs_node.specs.Draft.{waking, begun_in, drafted, later, goes_on}
 use Rattle.ghs_node.proofs.Tests.{sleeping_is}
 
 later_none : (m : Option (ℕ × Mark)) → later None m ≡ m
 later_none None = refl
 later_none (Some k) = refl
 
--- to go on from a draft that does nothing is to react
-pub blank_goes_on : (n : NodeState) (o : Option Delta) → goes_on (blank n) o ≡ o
-blank_goes_on n None = refl
-blank_goes_on n (Some e) = ap (λ (m : Option (ℕ × Mark)). Some (record e { mark = m })) (later_none e.mark)
+-- to go on from nothing is to react
+pub still_goes_on : (n : NodeState) (o : Option Delta) → goes_on (still n) o ≡ o
+still_goes_on n None = refl
+still_goes_on n (Some e) = ap (λ (m : Option (ℕ × Mark)). Some (record e { mark = m })) (later_none e.mark)
 
 module _ (n : NodeState) (f : IsNode n) (s : n.head.phase ≡ Sleeping) where
   -- of a node that has woken port 0 is a Branch, and each other port is Basic
@@ -49,8 +48,8 @@ module _ (n : NodeState) (f : IsNode n) (s : n.head.phase ≡ Sleeping) where
       go true e = let z = eqb-true l 0 e in rw (z, nameless)
       go false e = let ne = eqb-false l 0 e in rw (e, lt-ltb 0 l (omega arith))
 
--- by a draft that was begun
-module _ (n : NodeState) (f : IsNode n) (d : Draft) (begun : d ≡ begun_in n) where
+-- by a reaction that was begun
+module _ (n : NodeState) (f : IsNode n) (d : Delta) (begun : d ≡ begun_in n) where
   pub begun_count : d.head.find_count ≤ degree n
   begun_count = rw begun (go (is_sleeping n.head.phase) refl)
     where
@@ -70,7 +69,7 @@ module _ (n : NodeState) (f : IsNode n) (d : Draft) (begun : d ≡ begun_in n) w
     where
       go : (b : Bool) → is_sleeping n.head.phase ≡ b
           → goes_on (begun_in n) (awake (drafted n (begun_in n)) j (Connect l)) ≡ reaction n (Deliver j (Connect l))
-      go false e = rw e (blank_goes_on n (awake n j (Connect l)))
+      go false e = rw e (still_goes_on n (awake n j (Connect l)))
       go true e = rw e (connect_goes_on n f (sleeping_is _ e) j l lt)
 
   pub test_begins : (j l : ℕ) (k : Key) → j < degree n → goes_on d (awake (drafted n d) j (Test l k)) ≡ reaction n (Deliver j (Test l k))
@@ -78,7 +77,7 @@ module _ (n : NodeState) (f : IsNode n) (d : Draft) (begun : d ≡ begun_in n) w
     where
       go : (b : Bool) → is_sleeping n.head.phase ≡ b
           → goes_on (begun_in n) (awake (drafted n (begun_in n)) j (Test l k)) ≡ reaction n (Deliver j (Test l k))
-      go false e = rw e (blank_goes_on n (awake n j (Test l k)))
+      go false e = rw e (still_goes_on n (awake n j (Test l k)))
       go true e = rw e (test_goes_on n f (sleeping_is _ e) j l k lt)
 
 -- a node asleep has no rule for the other messages, by the rules of a node that is awake too

@@ -28,6 +28,10 @@ core_port h = unwrap_or h.in_branch 0
 abbrev pub does : Head → Option (ℕ × Mark) → Outgoing → Delta
 does h m s = record { head = h; mark = m; sends = s; fate = Consumed; halts = false }
 
+-- a reaction that does nothing but be done with its message
+abbrev pub still : NodeState → Delta
+still n = does n.head None []
+
 -- the message goes to the end of its queue, and nothing else happens
 abbrev pub requeues : Head → Delta
 requeues h = record { head = h; mark = None; sends = []; fate = Requeued; halts = false }

@@ -1,8 +1,8 @@
-//! Reactions in the making.
-ghost use Rattle.std.specs.Prelude.{◌≡◌, ◌<◌, ◌≤◌, ◌++◌, ◌∷◌, [], true, IfOk};
+//! Reactions in the making. A reaction is worked out where it is handed out, so nothing of it is moved.
+ghost use Rattle.std.specs.Prelude.{◌≡◌, ◌<◌, ◌≤◌, ◌++◌, ◌∷◌, [], true, OnOk};
 ghost use Rattle.ghs_node.specs.NodeState.{mark_at, degree};
-ghost use Rattle.ghs_node.specs.Reaction.{does, reject_at};
-ghost use Rattle.ghs_node.specs.Draft.{blank, drafted, later};
+ghost use Rattle.ghs_node.specs.Reaction.{does, reject_at, still};
+ghost use Rattle.ghs_node.specs.Draft.{drafted, later};
 
 use crate::delta::{Delta, Fate};
 use crate::head::Head;
@@ -12,29 +12,30 @@ use crate::node::Node;
 use crate::sends::Sends;
 use std::alloc::{AllocError, Global};
 
-/// What a reaction has come to so far: the node's head, the mark that has changed, and what goes out.
-#[derive(Debug, Drop)]
-pub(crate) struct Draft {
-    pub(crate) head: Head,
-    pub(crate) mark: Option<(u32, Mark)>,
-    pub(crate) sends: Sends,
-}
-
-impl Draft {
-    /// The draft of a reaction that does nothing yet.
-    pub(crate) fn of(alloc: Global, node: &Node) -> Draft
-        ensures { result ≡ blank node.now }
+impl Delta {
+    /// The reaction that does nothing, and is done with its message: `react_into` begins with it.
+    pub fn still(alloc: Global, node: &Node) -> Delta
+        ensures { result ≡ still node.now }
     {
-        Draft {
+        Delta {
             head: *node.head(),
             mark: None,
             sends: Sends::none(alloc),
+            fate: Fate::Consumed,
+            halts: false,
         }
+    }
+
+    /// The node's head, as it now is.
+    pub(crate) fn head(&self) -> &Head
+        ensures { result.now ≡ self.now.head }
+    {
+        &self.head
     }
 
     /// The reaction sends one message more, the last.
     pub(crate) fn send(&mut self, port: u32, message: Message) -> Result<(), AllocError>
-        ensures { IfOk result (λ _. self.new ≡ record self.old { sends = self.old.sends ++ (port, message) ∷ [] }) }
+        ensures { OnOk result (self.new ≡ record self.old { sends = self.old.sends ++ (port, message) ∷ [] }) }
     {
         self.sends.push(port, message)
     }
@@ -61,35 +62,27 @@ impl Draft {
     }
 
     /// The reaction is done, and with it the message.
-    pub(crate) fn done(self) -> Delta
-        ensures { result ≡ does self.head self.mark self.sends }
+    pub(crate) fn done(&mut self)
+        ensures { self.new ≡ does self.old.head self.old.mark self.old.sends }
     {
-        Delta {
-            head: self.head,
-            mark: self.mark,
-            sends: self.sends,
-            fate: Fate::Consumed,
-            halts: false,
-        }
+        self.fate = Fate::Consumed;
+        self.halts = false;
     }
 
     /// The reaction is done, and the message goes to the end of its queue.
-    pub(crate) fn requeued(self) -> Delta
-        ensures { result ≡ record (does self.head self.mark self.sends) { fate = Fate.Requeued } }
+    pub(crate) fn requeued(&mut self)
+        ensures { self.new ≡ record (does self.old.head self.old.mark self.old.sends) { fate = Fate.Requeued } }
     {
-        Delta {
-            fate: Fate::Requeued,
-            ..self.done()
-        }
+        self.fate = Fate::Requeued;
+        self.halts = false;
     }
 
     /// The reaction is done, and the node halts.
-    pub(crate) fn halted(self) -> Delta
-        ensures { result ≡ record (does (record self.head { halted = true }) self.mark self.sends) { halts = true } }
+    pub(crate) fn halted(&mut self)
+        ensures { self.new ≡ record (does (record self.old.head { halted = true }) self.old.mark self.old.sends) { halts = true } }
     {
-        let mut delta = self.done();
-        delta.head.halted = true;
-        delta.halts = true;
-        delta
+        self.head.halted = true;
+        self.fate = Fate::Consumed;
+        self.halts = true;
     }
 }

@@ -1,4 +1,5 @@
-//! Five nodes in a row: their graph, its runs, and whether nets and worlds of them are the same.
+//! Five nodes in a row: their graph, its runs, and whether nets and worlds of them are the same. Where a reaction has to send
+//! so much that it takes memory, another graph.
 use ghs_core::event::Event;
 use ghs_core::net::Net;
 use ghs_graph::graph::Graph;
@@ -48,15 +49,25 @@ pub fn are_same(net: &Net, other: &Net) -> bool {
 
 /// The opening world of the five nodes.
 pub fn opening(alloc: Global) -> Option<World> {
-    World::open(alloc, five(alloc)?, WakeSet::All, EVENT_LIMIT).ok()
+    opening_of(alloc, PATH_OF_FIVE)
+}
+
+/// The opening world of the graph of a text.
+fn opening_of(alloc: Global, graph: &str) -> Option<World> {
+    World::open(alloc, graph_of(alloc, graph.as_bytes())?, WakeSet::All, EVENT_LIMIT).ok()
 }
 
 /// The world after these events, from which nothing is out.
 pub fn world_after(alloc: Global, events: &[Event]) -> Option<World> {
+    world_of_after(alloc, PATH_OF_FIVE, events)
+}
+
+/// The world of the graph of a text after these events, from which nothing is out.
+pub fn world_of_after(alloc: Global, graph: &str, events: &[Event]) -> Option<World> {
     if events.len() as u64 > EVENT_LIMIT {
         return None;
     }
-    replay(alloc, five(alloc)?, WakeSet::All, events).ok()
+    replay(alloc, graph_of(alloc, graph.as_bytes())?, WakeSet::All, events).ok()
 }
 
 /// The events of a world's run by one seed.
@@ -69,7 +80,12 @@ fn run_of(alloc: Global, world: &mut World) -> Option<Vec<Event>> {
 
 /// The events of one seed's run of the five nodes.
 pub fn events_of_run(alloc: Global) -> Option<Vec<Event>> {
-    let mut world = opening(alloc)?;
+    events_of(alloc, PATH_OF_FIVE)
+}
+
+/// The events of one seed's run of the graph of a text.
+pub fn events_of(alloc: Global, graph: &str) -> Option<Vec<Event>> {
+    let mut world = opening_of(alloc, graph)?;
     let events = run_of(alloc, &mut world);
     let_go(world);
     events

@@ -55,6 +55,11 @@ pub const PATH_AND_PAIR: &str = "p sp 6 4\na 5 6 1\na 4 6 2\na 2 4 3\na 1 3 9";
 pub const STAR_OF_NINE: &str =
     "p sp 9 8\na 1 9 1\na 2 9 2\na 3 9 3\na 4 9 4\na 5 9 5\na 6 9 6\na 7 9 7\na 8 9 8";
 
+/// A hub with five leaves, and a pair that its heaviest link leads to. When the two merge, the hub passes an Initiate on to
+/// each of its leaves: five messages at once.
+pub const HUB_AND_PAIR: &str =
+    "p sp 8 7\na 1 2 1\na 1 3 2\na 1 4 3\na 1 5 4\na 1 6 5\na 7 8 6\na 1 7 7\n";
+
 /// A star of seventeen links, whose hub is node 18.
 pub const STAR_OF_EIGHTEEN: &str =
     "p sp 18 17\na 1 18 1\na 2 18 2\na 3 18 3\na 4 18 4\na 5 18 5\na 6 18 6\na 7 18 7\na 8 18 8\na 9 18 9\na 10 18 10\na 11 18 11\na 12 18 12\na 13 18 13\na 14 18 14\na 15 18 15\na 16 18 16\na 17 18 17";

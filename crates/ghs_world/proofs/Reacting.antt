@@ -31,7 +31,7 @@ has_rule s e k graph run lawful same rule = record { port = rw same (work_port s
 -- where there is a rule, lack of memory is the one fault
 pub only_memory :
     ListHasNoRow →
-    (n : NodeState) (k : Work) (r : Result Delta NodeFault) (f : NodeFault) →
+    {A : Type 0} (n : NodeState) (k : Work) (r : Result A NodeFault) (f : NodeFault) →
     HasRule n k →
     r ≡ Err f →
     (IsErrOf r NoPort ↔ (HasPort n k → ⊥)) →
@@ -47,7 +47,7 @@ only_memory apart n k r Memory has e port rule = refl
 
 pub memory_alone :
     ListHasNoRow →
-    (n : NodeState) (k : Work) (r : Result Delta NodeFault) →
+    {A : Type 0} (n : NodeState) (k : Work) (r : Result A NodeFault) →
     HasRule n k →
     (IsErrOf r NoPort ↔ (HasPort n k → ⊥)) →
     (IsErrOf r Unforeseen ↔ (HasPort n k × NoRule n k)) →

@@ -1,6 +1,7 @@
 //! The world.
 ghost use Rattle.std.specs.Prelude.{◌≡◌, ◌↔◌, ◌≤◌, ◌+◌, ◌-◌, ◌^◌, [], ◌<◌, length, filter, slice_get, IfOk, IfErr, OnOk, OnErr, IsTrue, Some, true};
 ghost use Rattle.std.specs.List.{find, range_with_len};
+ghost use Rattle.ghs_node.specs.Reaction.{still};
 ghost use Rattle.ghs_node.specs.declared.message.Message.{Message as Letter};
 ghost use Rattle.ghs_protocol.specs.Living.{Waits};
 ghost use Rattle.ghs_world.specs.Ready.{has_lawful, has_ready, is_ready, next_of, next_node_of, ready_events};
@@ -38,7 +39,7 @@ use ghs_graph::key::Key;
 use ghs_node::delta::Delta;
 use ghs_node::fault::NodeFault;
 use ghs_node::laws::law_list_has_no_row;
-use ghs_node::react::react;
+use ghs_node::react::react_into;
 use ghs_node::work::Work;
 use ghs_protocol::interleavings::{law_stillness, law_turns};
 use peer_index::index::Index;
@@ -193,7 +194,7 @@ impl World {
     }
 
     /// The same of an event to which its node reacts. It stands apart, so that who puts a message back has no room laid
-    /// out for a reaction, and the reaction is looked at where it is, and not moved.
+    /// out for a reaction. The reaction is worked out and looked at where it is, and not moved.
     fn make_reacting(&mut self, alloc: Global, start: u32, placed: Placed) -> Result<(), AllocError>
         requires start { start ≡ first_queue self.old.net.channels (event_node placed.event) }
         requires placed { IsPlaced (network self.old.net) placed }
@@ -202,25 +203,26 @@ impl World {
         ensures made { OnOk result (Makes self.old placed.event self.new) }
         ensures err { OnErr result (IsSameWorld self.old self.new) }
     {
-        let answer = self.reaction_from(alloc, start, placed.event);
-        match &answer {
-            Ok(delta) => self.make_answer(placed, delta),
+        let mut delta = Delta::still(alloc, self.net.node(node_of(placed.event)));
+        match self.react_from(start, placed.event, &mut delta) {
+            Ok(()) => self.make_answer(placed, &delta),
             Err(_) => Err(AllocError),
         }
     }
 
-    /// The reaction of the node of an event that may happen, where its queues begin at `start`; lack of memory is the one
-    /// fault.
-    fn reaction_from(&self, alloc: Global, start: u32, event: Event) -> Result<Delta, NodeFault>
+    /// The reaction of the node of an event that may happen, where its queues begin at `start`, worked out in place; lack
+    /// of memory is the one fault.
+    fn react_from(&self, start: u32, event: Event, delta: &mut Delta) -> Result<(), NodeFault>
         requires start { start ≡ first_queue self.now.net.channels (event_node event) }
         requires lawful { IsLawful self.now.net event }
-        ensures answer { IfOk result (λ d. IsAnswer self.now.net event d) }
+        requires still { delta.old ≡ still ((home self.now).node (event_node event)) }
+        ensures answer { OnOk result (IsAnswer self.now.net event delta.new) }
         ensures memory { IfErr result (λ f. f ≡ NodeFault.Memory) }
     {
         let _ = self.net.trace();
         law_list_has_no_row();
         let given = self.net.work_from(start, event);
-        react(alloc, self.net.node(node_of(event)), given)
+        react_into(delta, self.net.node(node_of(event)), given)
     }
 
     /// The Take of a message that its node only puts back happens, under the next number. Neither a node nor the index is
@@ -319,8 +321,9 @@ impl World {
         ensures { IfOk result (λ d. IsAnswer self.now.net event d) }
     {
         let start = self.net.start_of(self.placed(event));
-        match self.reaction_from(alloc, start, event) {
-            Ok(delta) => Ok(delta),
+        let mut delta = Delta::still(alloc, self.net.node(node_of(event)));
+        match self.react_from(start, event, &mut delta) {
+            Ok(()) => Ok(delta),
             Err(_) => Err(AllocError),
         }
     }

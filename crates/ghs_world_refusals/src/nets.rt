@@ -7,10 +7,10 @@ use ghs_node::fault::NodeFault;
 use ghs_node::node::Node;
 use ghs_node::react::react;
 use ghs_refusing::orders::{Count, NONE, Turn, order, refuse, refuse_each, tell, turn_of};
-use ghs_refusing::scenes::{are_same, events_of_run, five, is_five};
+use ghs_refusing::scenes::{are_same, events_of, events_of_run, five, is_five};
 use ghs_report::report_text::report_text;
 use ghs_test_graphs::build::graph_of;
-use ghs_test_graphs::graphs::STAR_OF_EIGHTEEN;
+use ghs_test_graphs::graphs::{HUB_AND_PAIR, PATH_OF_FIVE, STAR_OF_EIGHTEEN};
 use std::alloc::Global;
 use std::process::Abort;
 use std::test::Fail;
@@ -79,9 +79,14 @@ fn play(rt: &impl Abort, alloc: Global, net: &mut Net, event: Event, k: usize) -
     turn
 }
 
-/// The net after these events.
+/// The net of the five nodes after these events.
 fn net_after(rt: &impl Abort, alloc: Global, events: &[Event]) -> Net {
-    let graph = five(alloc).expect(rt, "a graph");
+    net_of_after(rt, alloc, PATH_OF_FIVE, events)
+}
+
+/// The net of the graph of a text after these events.
+fn net_of_after(rt: &impl Abort, alloc: Global, graph: &str, events: &[Event]) -> Net {
+    let graph = graph_of(alloc, graph.as_bytes()).expect(rt, "a graph");
     let mut net = Net::open(alloc, graph).ok().expect(rt, "a net");
     for event in events {
         assert!(rt; play(rt, alloc, &mut net, *event, 0) != Turn::Refused);
@@ -89,18 +94,23 @@ fn net_after(rt: &impl Abort, alloc: Global, events: &[Event]) -> Net {
     net
 }
 
-/// A net is the one after these events.
+/// A net of the five nodes is the one after these events.
 fn assert_after(rt: &impl Abort, alloc: Global, net: &Net, events: &[Event]) {
-    let twin = net_after(rt, alloc, events);
+    assert_of_after(rt, alloc, PATH_OF_FIVE, net, events);
+}
+
+/// A net of the graph of a text is the one after these events.
+fn assert_of_after(rt: &impl Abort, alloc: Global, graph: &str, net: &Net, events: &[Event]) {
+    let twin = net_of_after(rt, alloc, graph, events);
     assert!(rt; are_same(net, &twin));
     let_go(twin);
 }
 
-/// One event after these, with the k-th allocation of its reaction refused.
+/// One event of a hub's run after these, with the k-th allocation of its reaction refused.
 fn react_after(rt: &impl Abort, alloc: Global, events: &[Event], event: Event, k: usize) -> Turn {
-    let net = net_after(rt, alloc, events);
+    let net = net_of_after(rt, alloc, HUB_AND_PAIR, events);
     let turn = reaction(rt, alloc, &net, event, k);
-    assert_after(rt, alloc, &net, events);
+    assert_of_after(rt, alloc, HUB_AND_PAIR, &net, events);
     let_go(net);
     turn
 }
@@ -258,7 +268,7 @@ fn nets(host: HostRuntime) -> Result<(), Fail> {
     refuse_asked(rt, alloc, &events, &ASKED)
 }
 
-/// Each event of a run in turn, with each allocation of its reaction refused.
+/// Each event of a hub's run in turn, with each allocation of its reaction refused.
 fn refuse_reactions(
     rt: &impl Abort,
     alloc: Global,
@@ -275,7 +285,7 @@ fn refuse_reactions(
 #[test]
 fn reactions(host: HostRuntime) -> Result<(), Fail> {
     let (rt, alloc) = (&host, host.alloc());
-    let events = events_of_run(alloc).expect(rt, "a run");
+    let events = events_of(alloc, HUB_AND_PAIR).expect(rt, "a run");
     let mut count = NONE;
     refuse_reactions(rt, alloc, &events, &mut count)?;
     tell(rt, alloc, "react", count)

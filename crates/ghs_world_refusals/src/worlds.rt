@@ -4,12 +4,14 @@ use ghs_graph::graph::Graph;
 use ghs_node::fault::NodeFault;
 use ghs_refusing::orders::{Count, NONE, Turn, order, refuse, refuse_each, tell, turn_of};
 use ghs_refusing::scenes::{
-    events_of_run, five, has_ended, is_after, is_five, let_go, stands, world_after,
+    events_of, events_of_run, five, has_ended, is_after, is_five, let_go, stands, world_after,
+    world_of_after,
 };
 use ghs_report::run_text::run_text;
 use ghs_sched::run::run_seeded;
 use ghs_world::fault::{CommitFault, OutFault};
 use ghs_world::ticket::{Step, Ticket};
+use ghs_test_graphs::graphs::{HUB_AND_PAIR, PATH_OF_FIVE};
 use ghs_world::world::World;
 use peer_network::wake_set::WakeSet;
 use peer_schedule::schedule::Schedule;
@@ -205,15 +207,29 @@ enum Call {
     Make,
 }
 
-/// The world after these events.
+/// The text of the graph on which a call is made. To perform takes memory only where more is sent than a node of the five
+/// nodes sends.
+fn graph_for(call: Call) -> &'static str {
+    match call {
+        Call::Perform => HUB_AND_PAIR,
+        _ => PATH_OF_FIVE,
+    }
+}
+
+/// The world of the five nodes after these events.
 fn after(rt: &impl Abort, alloc: Global, events: &[Event]) -> World {
     world_after(alloc, events).expect(rt, "a run")
 }
 
-fn place_after(rt: &impl Abort, alloc: Global, events: &[Event], event: Event) -> Place {
+/// The world of the call's graph after these events.
+fn after_for(rt: &impl Abort, alloc: Global, call: Call, events: &[Event]) -> World {
+    world_of_after(alloc, graph_for(call), events).expect(rt, "a run")
+}
+
+fn place_after(rt: &impl Abort, alloc: Global, call: Call, events: &[Event], event: Event) -> Place {
     Place {
-        world: after(rt, alloc, events),
-        twin: after(rt, alloc, events),
+        world: after_for(rt, alloc, call, events),
+        twin: after_for(rt, alloc, call, events),
         event,
         number: (events.len() as u64).saturating_add(1),
     }
@@ -228,10 +244,10 @@ fn assert_happened(rt: &impl Abort, alloc: Global, place: &mut Place) {
 }
 
 /// The run goes on to its end.
-fn end_run(rt: &impl Abort, alloc: Global, place: &mut Place) {
+fn end_run(rt: &impl Abort, alloc: Global, place: &mut Place, call: Call) {
     let world = &mut place.world;
     assert!(rt; run_seeded(alloc, world, &mut Schedule::seeded(3)).is_ok());
-    assert!(rt; has_ended(alloc, world));
+    assert!(rt; world.ended() && (call == Call::Perform || has_ended(alloc, world)));
 }
 
 /// Lets go of a place here, so that the way of its memory isn't in the proof of `serve`.
@@ -246,7 +262,7 @@ fn serve(
     call: Call,
     k: usize,
 ) -> Turn {
-    let mut place = place_after(rt, alloc, events, event);
+    let mut place = place_after(rt, alloc, call, events, event);
     let turn = match call {
         Call::CheckOut => refuse_out(rt, alloc, &mut place, k),
         Call::Perform => refuse_perform(rt, alloc, &mut place, k),
@@ -254,7 +270,7 @@ fn serve(
         Call::Make => refuse_make(rt, alloc, &mut place, k),
     };
     assert_happened(rt, alloc, &mut place);
-    end_run(rt, alloc, &mut place);
+    end_run(rt, alloc, &mut place, call);
     leave(place);
     turn
 }
@@ -284,23 +300,22 @@ static CALLS: [(&str, Call); 4] = [
 fn refuse_call<R: Print + Abort>(
     rt: &R,
     alloc: Global,
-    events: &[Event],
     name: &str,
     call: Call,
 ) -> Result<(), Fail> {
+    let events = events_of(alloc, graph_for(call)).expect(rt, "a run");
     let mut count = NONE;
-    serve_each(rt, alloc, events, call, &mut count)?;
+    serve_each(rt, alloc, &events, call, &mut count)?;
     tell(rt, alloc, name, count)
 }
 
 fn refuse_calls<R: Print + Abort>(
     rt: &R,
     alloc: Global,
-    events: &[Event],
     rows: &[(&str, Call)],
 ) -> Result<(), Fail> {
     for (name, call) in rows {
-        refuse_call(rt, alloc, events, name, *call)?;
+        refuse_call(rt, alloc, name, *call)?;
     }
     Ok(())
 }
@@ -308,8 +323,7 @@ fn refuse_calls<R: Print + Abort>(
 #[test]
 fn events(host: HostRuntime) -> Result<(), Fail> {
     let (rt, alloc) = (&host, host.alloc());
-    let events = events_of_run(alloc).expect(rt, "a run");
-    refuse_calls(rt, alloc, &events, &CALLS)
+    refuse_calls(rt, alloc, &CALLS)
 }
 
 /// What is asked of a world, and leaves it as it was.
