@@ -17,28 +17,32 @@ use ghs_graph::graph::Graph;
 use peer_network::event::Event;
 use std::alloc::{AllocError, Global};
 use std::marker::Model;
+use std::sync::ArcSlice;
 
 /// Of the events that name a node or port of a graph some are marked. They stand by node, Wake before ports, ports
-/// rising. The index takes 4 bytes a node, and 12 bytes, a bit and a sixteenth of a bit an event.
+/// rising. The index takes 4 bytes a node, and 12 bytes, a bit and a sixteenth of a bit an event; of these only the bits
+/// where it shares the rest with another index of the graph (`unmarked`).
 #[derive(Debug, Drop)]
 pub struct Index {
     /// The place of the first event of each node, and behind them how many events there are; 0 is no node.
-    bases: Vec<u32>,
+    bases: ArcSlice<u32>,
     /// Of each place the node whose event stands there, the place at the far end, and where the node's events begin. They
     /// lie side by side: a run looks up the node of the event that it picks and where its events begin, and then the far
     /// places of the ports of that node, which are near.
-    ends: Vec<Ends>,
+    ends: ArcSlice<Ends>,
     marks: Flags,
 }
 
 impl Model for Index {
+    ghost use Rattle.std.specs.Arc.{arc_slice_items};
     ghost use Rattle.peer_index.specs.Index.{IndexState, AreOwnBases, AreOwners, fars_in, own_bases_in, owners_in};
 
     ghost Value = { IndexState };
 
-    ghost view = { λ x. record { bases = x.bases.items; fars = fars_in x.ends.items; marks = x.marks } };
+    ghost view = { λ x. record { bases = arc_slice_items x.bases; fars = fars_in (arc_slice_items x.ends); marks = x.marks } };
 
-    ghost invariant = { λ x. AreOwners x.bases.items (owners_in x.ends.items) × AreOwnBases x.bases.items (owners_in x.ends.items) (own_bases_in x.ends.items) };
+    ghost invariant = { λ x. let bases = arc_slice_items x.bases in let ends = arc_slice_items x.ends in
+        AreOwners bases (owners_in ends) × AreOwnBases bases (owners_in ends) (own_bases_in ends) };
 }
 
 impl Index {
@@ -57,7 +61,25 @@ impl Index {
         let events = bases[bases.len() - 1] as usize;
         let ends = lay_ends(alloc, &bases, graph)?;
         let marks = Flags::lowered(alloc, events)?;
-        Ok(Index { bases, ends, marks })
+        Ok(Index {
+            bases: ArcSlice::from_vec(bases)?,
+            ends: ArcSlice::from_vec(ends)?,
+            marks,
+        })
+    }
+
+    /// Another index of the same graph, in which no event is marked. The two share all but the marks, so it takes a bit and
+    /// a sixteenth of a bit an event, and O(E / 64).
+    pub fn unmarked(&self, alloc: Global, graph: &Graph) -> Result<Index, AllocError>
+        requires { IsFor (network_of graph.now) self.now }
+        ensures { IfOk result (IsIndexOf (network_of graph.now) (λ _. false)) }
+    {
+        let _ = graph.nodes();
+        Ok(Index {
+            bases: self.bases.clone()?,
+            ends: self.ends.clone()?,
+            marks: Flags::lowered(alloc, self.marks.len())?,
+        })
     }
 
     /// Marks an event of the index's graph, or takes its mark away. O(1), and takes no memory.
@@ -138,6 +160,30 @@ impl Index {
         ensures placed { IsPlaced (network_of graph.now) result }
     {
         let at = self.marks.kth(k);
+        self.placed_at(graph, at)
+    }
+
+    /// The Take at the far end of a port of a placed event's node, and where the events of its own node begin. O(1).
+    pub fn far_take_placed(&self, graph: &Graph, placed: Placed, port: u32) -> Placed
+        requires index { IsFor (network_of graph.now) self.now }
+        requires placed { IsPlaced (network_of graph.now) placed }
+        requires port { At (network_of graph.now) (event_node placed.event) port }
+        ensures event { result.event ≡ far_take (network_of graph.now) (event_node placed.event) port }
+        ensures placed { IsPlaced (network_of graph.now) result }
+    {
+        let _ = graph.nodes();
+        let at = placed.base as usize + 1 + port as usize;
+        let far = far_at(&self.ends, at);
+        self.placed_at(graph, far)
+    }
+
+    /// The event at a place, and where the events of its node begin. O(1).
+    fn placed_at(&self, graph: &Graph, at: usize) -> Placed
+        requires index { IsFor (network_of graph.now) self.now }
+        requires within { at < length (all_events (network_of graph.now)) }
+        ensures event { slice_get (all_events (network_of graph.now)) at ≡ Some result.event }
+        ensures placed { IsPlaced (network_of graph.now) result }
+    {
         let here = ends_at(&self.bases, &self.ends, at);
         let event = event_behind(&self.bases, graph, here.owner, here.base, at);
         Placed {

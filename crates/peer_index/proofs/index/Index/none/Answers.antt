@@ -10,7 +10,7 @@ returns c =
     c.index.ensures ∙ last_base (network_of c.args.graph.now) c.args.graph.now.nodes c.in_ok-bases.bases.items _ _ c.in_ok-bases.ensures.bases
     (omega arith) in
     record {
-      bases = c.in_ok-bases.ensures.bases;
-      fars = c.in_ok-ends.ensures.fars;
+      bases = rw c.in_ok-from_vec.ensures c.in_ok-bases.ensures.bases;
+      fars = rw c.in_ok-from_vec-2.ensures c.in_ok-ends.ensures.fars;
       marks = c.in_ok-marks.ensures ∙ all_false (all_events (network_of c.args.graph.now)) _ many;
     }
