@@ -200,7 +200,16 @@ impl Channels {
         requires { HasQueue self.now v port }
         ensures { result ≡ length (queue_at self.now v port) }
     {
-        self.queues[self.starts[v as usize] as usize + port as usize].len()
+        self.len_from(self.start(v), v, port)
+    }
+
+    /// The same, where it is known where the queues of the node begin.
+    pub fn len_from(&self, start: u32, v: u32, port: u32) -> u64
+        requires start { start ≡ first_queue self.now v }
+        requires port { HasQueue self.now v port }
+        ensures { result ≡ length (queue_at self.now v port) }
+    {
+        self.queues[start as usize + port as usize].len()
     }
 
     /// How many messages wait at all ports.

@@ -171,12 +171,30 @@ impl Net {
         self.channels.front(v, port)
     }
 
+    /// The same, where the queues of the node begin at `start`.
+    pub fn front_from(&self, start: u32, v: u32, port: u32) -> Option<Message>
+        requires start { start ≡ first_queue self.now.channels v }
+        requires port { At (network self.now) v port }
+        ensures { result ≡ slice_get ((net_of self.now).queue v port) 0 }
+    {
+        self.channels.front_from(start, v, port)
+    }
+
     /// How many messages wait at a port.
     pub fn waiting_at(&self, v: u32, port: u32) -> u64
         requires { At (network self.now) v port }
         ensures { result ≡ length ((net_of self.now).queue v port) }
     {
         self.channels.len_at(v, port)
+    }
+
+    /// The same, where the queues of the node begin at `start`.
+    pub fn waiting_from(&self, start: u32, v: u32, port: u32) -> u64
+        requires start { start ≡ first_queue self.now.channels v }
+        requires port { At (network self.now) v port }
+        ensures { result ≡ length ((net_of self.now).queue v port) }
+    {
+        self.channels.len_from(start, v, port)
     }
 
     /// Whether the node of a Take that may happen would only put back the message that it takes. O(1).

@@ -5,6 +5,7 @@ use Rattle.std.proofs.lemmas.Bool.{cases_lt}
 use Rattle.std.proofs.lemmas.Option.{same_Some, slice_get_within}
 use Rattle.peer_network.specs.declared.event.Event.{Event}
 use Rattle.peer_network.specs.declared.event.Event.TheVariants.{Wake, Take}
+use Rattle.peer_network.specs.Events.{event_node}
 use Rattle.peer_network.specs.Sums.{sum_below}
 use Rattle.peer_network.specs.Network.{Network}
 use Rattle.peer_index.specs.Places.{events_at, node_events, events_to, all_events, takes, HasPlace, place}
@@ -133,3 +134,8 @@ module _ (g : Network) where
   -- two events have two places
   pub place_apart : (e f : Event) → HasPlace g e → HasPlace g f → place g e ≡ place g f → e ≡ f
   place_apart e f has there same = same_Some e f (sym (placed e has) ∙ ap (slice_get (all_events g)) same ∙ placed f there)
+
+  -- the node of an event has a Wake
+  pub of_own_node : (e : Event) → HasPlace g e → HasPlace g (Wake (event_node e))
+  of_own_node (Wake v) h = h
+  of_own_node (Take v p) h = (h.some, h.node)
