@@ -4,7 +4,6 @@ ghost use Rattle.std.specs.List.{All};
 ghost use Rattle.ghs_graph.specs.Ports.{ports_of};
 ghost use Rattle.ghs_node.specs.declared.message.Message.{Message as Letter};
 ghost use Rattle.peer_network.specs.declared.event.Event.{Event as Happening};
-ghost use Rattle.peer_network.specs.declared.event.Event.TheVariants.{Wake};
 ghost use Rattle.peer_network.specs.Network.{network_of};
 ghost use Rattle.ghs_core.specs.NetState.{network, net_of, event_node};
 ghost use Rattle.peer_index.specs.Index.{IsFor, IsIndexOf, IsIndexBut};
@@ -12,7 +11,7 @@ ghost use Rattle.peer_index.specs.Places.{has_place, IsPlaced};
 ghost use Rattle.ghs_world.specs.Upkeep.{HaveArrived, lawful_in, lawful_first, changed};
 
 use ghs_core::event::Event;
-use ghs_core::net::{Net, node_of};
+use ghs_core::net::Net;
 use ghs_graph::graph::Graph;
 use ghs_node::message::Message;
 use peer_index::index::Index;
@@ -70,23 +69,11 @@ pub fn mark_changed(
     ensures { IsIndexOf (network net.now) (lawful_in net.now wake) index.new }
 {
     let _ = net.trace();
-    mark(index, net, wake, wake_of(net, placed));
+    mark(index, net, wake, placed.wake());
     mark(index, net, wake, placed);
     for (port, _) in sends {
         // What was sent waits there, so neither the node nor the queue is looked at.
         index.mark_far_take_placed(net.graph(), placed, *port);
-    }
-}
-
-/// The Wake of a placed event's node.
-fn wake_of(net: &Net, placed: Placed) -> Placed
-    requires { IsPlaced (network net.now) placed }
-    ensures event { result.event ≡ Wake (event_node placed.event) }
-    ensures placed { IsPlaced (network net.now) result }
-{
-    Placed {
-        event: Event::Wake(node_of(placed.event)),
-        base: placed.base,
     }
 }
 

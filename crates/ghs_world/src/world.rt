@@ -1,16 +1,17 @@
 //! The world.
-ghost use Rattle.std.specs.Prelude.{◌≡◌, ◌↔◌, ◌≤◌, ◌+◌, ◌-◌, ◌^◌, [], ◌<◌, length, filter, slice_get, IfOk, IfErr, OnOk, OnErr, IsTrue, Some, true};
+ghost use Rattle.std.specs.Prelude.{◌≡◌, ◌↔◌, ◌≤◌, ◌+◌, ◌-◌, ◌^◌, [], ◌<◌, length, filter, slice_get, IfOk, IfErr, OnOk, OnErr, IsTrue, Some, false, true};
 ghost use Rattle.std.specs.List.{find, range_with_len};
 ghost use Rattle.ghs_node.specs.Reaction.{still};
 ghost use Rattle.ghs_node.specs.declared.message.Message.{Message as Letter};
 ghost use Rattle.ghs_protocol.specs.Living.{Waits};
 ghost use Rattle.ghs_world.specs.Ready.{has_lawful, has_ready, is_ready, next_of, next_node_of, ready_events};
-ghost use Rattle.peer_index.specs.Places.{all_events, takes, has_place, HasPlace, IsPlaced};
+ghost use Rattle.peer_index.specs.Index.{IsIndexOf};
+ghost use Rattle.peer_index.specs.Places.{all_events, far_take, takes, has_place, HasPlace, IsPlaced};
 ghost use Rattle.ghs_world.specs.Steps.{Commits, Makes, LeavesOthers, AreReadyOf, HasAllRoused, HasRoused, RefusesStep, IsSameWorld, HasEach, touched};
 ghost use Rattle.ghs_graph.specs.Graph.{IsGraph};
 ghost use Rattle.ghs_graph.specs.Ports.{ports_of};
 ghost use Rattle.ghs_graph.specs.Links.{IsTree};
-ghost use Rattle.peer_network.specs.Network.{network_of, is_node};
+ghost use Rattle.peer_network.specs.Network.{At, network_of, is_node};
 ghost use Rattle.ghs_protocol.specs.Net.{opening, is_lawful_under};
 ghost use Rattle.ghs_protocol.specs.Run.{IsRunUnder};
 ghost use Rattle.ghs_protocol.specs.Marks.{HasEnded};
@@ -205,7 +206,7 @@ impl World {
     {
         let mut delta = Delta::still(alloc, self.net.node(node_of(placed.event)));
         match self.react_from(start, placed.event, &mut delta) {
-            Ok(()) => self.make_answer(placed, &delta),
+            Ok(()) => self.make_answered_placed(placed, &delta),
             Err(_) => Err(AllocError),
         }
     }
@@ -251,11 +252,11 @@ impl World {
         ensures err { OnErr result (IsSameWorld self.old self.new) }
     {
         let placed = self.placed(event);
-        self.make_answer(placed, answer)
+        self.make_answered_placed(placed, answer)
     }
 
-    /// The same of a placed event.
-    fn make_answer(&mut self, placed: Placed, answer: &Delta) -> Result<(), AllocError>
+    /// The same of a placed event, for an answer from `answer_placed`: nothing is looked up to come to its queue.
+    pub fn make_answered_placed(&mut self, placed: Placed, answer: &Delta) -> Result<(), AllocError>
         requires placed { IsPlaced (network self.old.net) placed }
         requires ready { is_ready self.old placed.event ≡ true }
         requires turn { has_turn self.old ≡ true }
@@ -267,15 +268,6 @@ impl World {
         self.net.reserve_from(start, placed.event, answer)?;
         self.happen(placed, answer);
         Ok(())
-    }
-
-    /// An event that may be checked out, with where the events of its node begin.
-    fn placed(&self, event: Event) -> Placed
-        requires { HasPlace (network self.now.net) event }
-        ensures event { result.event ≡ event }
-        ensures placed { IsPlaced (network self.now.net) result }
-    {
-        self.index.placed(self.net.graph(), event)
     }
 
     /// The same, and the nodes that it has roused come back, as from a commit. All room is taken before any change.
@@ -320,9 +312,19 @@ impl World {
         requires { IsLawful self.now.net event }
         ensures { IfOk result (λ d. IsAnswer self.now.net event d) }
     {
-        let start = self.net.start_of(self.placed(event));
-        let mut delta = Delta::still(alloc, self.net.node(node_of(event)));
-        match self.react_from(start, event, &mut delta) {
+        let placed = self.placed(event);
+        self.answer_placed(alloc, placed)
+    }
+
+    /// The same of a placed event: nothing is looked up to come to its queue.
+    pub fn answer_placed(&self, alloc: Global, placed: Placed) -> Result<Delta, AllocError>
+        requires placed { IsPlaced (network self.now.net) placed }
+        requires lawful { IsLawful self.now.net placed.event }
+        ensures { IfOk result (λ d. IsAnswer self.now.net placed.event d) }
+    {
+        let start = self.net.start_of(placed);
+        let mut delta = Delta::still(alloc, self.net.node(node_of(placed.event)));
+        match self.react_from(start, placed.event, &mut delta) {
             Ok(()) => Ok(delta),
             Err(_) => Err(AllocError),
         }
@@ -408,6 +410,26 @@ impl World {
         }
     }
 
+    /// An event that names a node or port of the graph, with where the events of its node begin. O(1).
+    pub fn placed(&self, event: Event) -> Placed
+        requires { HasPlace (network self.now.net) event }
+        ensures event { result.event ≡ event }
+        ensures placed { IsPlaced (network self.now.net) result }
+    {
+        self.index.placed(self.net.graph(), event)
+    }
+
+    /// The Take at the far end of a port of a placed event's node, with where the events of its own node begin. O(1), and
+    /// the graph is not read.
+    pub fn far_take_placed(&self, placed: Placed, port: u32) -> Placed
+        requires placed { IsPlaced (network self.now.net) placed }
+        requires port { At (network self.now.net) (event_node placed.event) port }
+        ensures event { result.event ≡ far_take (network self.now.net) (event_node placed.event) port }
+        ensures placed { IsPlaced (network self.now.net) result }
+    {
+        self.index.far_take_placed(self.net.graph(), placed, port)
+    }
+
     /// Whether an event that names a node or port of the graph may be checked out, turns and memory aside.
     pub fn is_ready(&self, event: Event) -> bool
         requires { has_place (network self.now.net) event ≡ true }
@@ -454,6 +476,14 @@ impl World {
     {
         let _ = self.index.count();
         self.index.kth_placed(self.net.graph(), k as u32)
+    }
+
+    /// An index of the graph in which no event is marked, for who keeps marks of his own. It shares what the world's own
+    /// index knows of places, so it takes a bit and a sixteenth of a bit an event, and O(E / 64).
+    pub fn unmarked_index(&self, alloc: Global) -> Result<Index, AllocError>
+        ensures { IfOk result (IsIndexOf (network self.now.net) (λ _. false)) }
+    {
+        self.index.unmarked(alloc, self.net.graph())
     }
 
     /// Whether one of a node's events is lawful in the home view, under the wake set.

@@ -6,10 +6,10 @@ use Rattle.ghs_world.proofs.Arriving.{arrival_marked, sent_port}
 use Rattle.ghs_world.proofs.upkeep.mark_changed.Goals as goal
 
 pub mark-requires-2-clause-index : goal.mark-requires-2-clause-index
-mark-requires-2-clause-index c = ((rw c.wake_of.ensures.event at c.mark.ensures) _ c.requires.index).index
+mark-requires-2-clause-index c = ((rw c.wake.ensures.event at c.mark.ensures) _ c.requires.index).index
 
 pub loop-port-init : goal.loop-port-init
-loop-port-init c = c.mark-2.ensures _ ((rw c.wake_of.ensures.event at c.mark.ensures) _ c.requires.index)
+loop-port-init c = c.mark-2.ensures _ ((rw c.wake.ensures.event at c.mark.ensures) _ c.requires.index)
 
 pub mark_far_take_placed-requires-clause-index : goal.mark_far_take_placed-requires-clause-index
 mark_far_take_placed-requires-clause-index c = rw c.graph.ensures c.loop-port.invariant.index

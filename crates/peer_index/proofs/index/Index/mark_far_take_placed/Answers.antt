@@ -23,8 +23,8 @@ set-requires c =
     let base = c.requires.placed.base in
     let at : c.args.placed.base + 1 + c.args.port ≡ place (network_of c.args.graph.now) (Take (event_node c.args.placed.event) c.args.port) = omega
     arith in
-    let far = far_read (network_of c.args.graph.now) (the_view c.self.inside) (arc_slice_items c.self.inside.ends) (event_node c.args.placed.event) c.args.port
-    _ _ is refl c.requires.port at (rw c.deref.ensures.value at c.far_at-far.ensures) in
+    let far = far_read (network_of c.args.graph.now) (the_view c.self.inside) (arc_slice_items c.self.inside.ends)
+    (event_node c.args.placed.event) c.args.port _ _ is refl c.requires.port at (rw c.deref.ensures.value at c.far_at-far.ensures) in
     let within = place_within (network_of c.args.graph.now) (far_take (network_of c.args.graph.now) (event_node c.args.placed.event) c.args.port)
     (far_has c.args.graph.now (event_node c.args.placed.event) c.args.port c.nodes.ensures.graph c.requires.port) in
     let many = is.many in
@@ -36,6 +36,6 @@ returns c =
     let base = c.requires.placed.base in
     let at : c.args.placed.base + 1 + c.args.port ≡ place (network_of c.args.graph.now) (Take (event_node c.args.placed.event) c.args.port) = omega
     arith in
-    let far = far_read (network_of c.args.graph.now) (the_view c.self.inside) (arc_slice_items c.self.inside.ends) (event_node c.args.placed.event) c.args.port
-    _ _ is refl c.requires.port at (rw c.deref.ensures.value at c.far_at-far.ensures) in
+    let far = far_read (network_of c.args.graph.now) (the_view c.self.inside) (arc_slice_items c.self.inside.ends)
+    (event_node c.args.placed.event) c.args.port _ _ is refl c.requires.port at (rw c.deref.ensures.value at c.far_at-far.ensures) in
     rw (← c.self.view_is, c.set.ensures, far) refl
