@@ -19,7 +19,7 @@ use std::alloc::Global;
 
 /// What a node does with a piece of work, by the procedures of Gallager, Humblet and Spira (ACM TOPLAS
 /// 5(1), 1983, appendix). The node itself stays as it is: `Node::apply` makes the change. Sends behind the
-/// fourth are all that takes memory.
+/// second are all that takes memory.
 ///
 /// ```text
 /// let delta = react(alloc, &node, Work::Wake)?;

@@ -143,13 +143,13 @@ fn put_digits(rt: &impl Abort, alloc: Global, k: usize) -> Turn {
 /// One message more than stands in the list itself; refused, there is none more.
 fn push(rt: &impl Abort, alloc: Global, k: usize) -> Turn {
     let mut sends = Sends::none(alloc);
-    for port in 0..4 {
+    for port in 0..2 {
         assert!(rt; sends.push(port, Message::Accept).is_ok());
     }
     order(alloc, k);
-    let answer = sends.push(4, Message::Reject);
+    let answer = sends.push(2, Message::Reject);
     let turn = turn_of(alloc, k, &answer);
-    assert!(rt; (sends.as_slice().len() == 4) == (turn == Turn::Refused));
+    assert!(rt; (sends.as_slice().len() == 2) == (turn == Turn::Refused));
     turn
 }
 
