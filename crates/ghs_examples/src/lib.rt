@@ -14,6 +14,8 @@
 #[cfg(test)]
 mod boards;
 #[cfg(test)]
+mod digits;
+#[cfg(test)]
 mod fixtures;
 #[cfg(test)]
 mod flags;

@@ -1,5 +1,5 @@
 -- Which bytes of a text are no digits.
-use Rattle.std.proofs.Common.{◌≡◌, ◌∙◌, ◌+◌, ◌-◌, ◌*◌, ◌/◌, ◌%◌, ◌<◌, ◌≤◌, ◌^◌, ◌&&◌, ℕ, zero, suc, Bool, true, false, not, cond, leb, List, [], ◌∷◌, length, take, drop, map, replicate, add-one, arith, refl, sym, subst, ap, ap₂, w8, Fits, T}
+use Rattle.std.proofs.Common.{◌≡◌, ◌∙◌, ◌+◌, ◌-◌, ◌*◌, ◌/◌, ◌%◌, ◌<◌, ◌≤◌, ◌^◌, ◌&&◌, ℕ, zero, suc, Bool, true, false, not, cond, leb, List, [], ◌∷◌, length, take, drop, map, replicate, arith, refl, sym, subst, ap, ap₂, w8, Fits}
 use Rattle.std.proofs.Math.Nat.{div-div-eq-div-mul, pow-suc, zero-div, mul_comm}
 use Rattle.std.proofs.lemmas.Bool.{and_from, leb-true, leb-false, le-leb, lt-leb}
 use Rattle.std.proofs.lemmas.List.{length-map, drop-map, length-drop, length-take}
@@ -25,21 +25,26 @@ mask_l-drop (m ∷ ms) (suc k) =
     ∙ ap (λ n. n / 2 ^ k) (half m (mask_l ms))
     ∙ mask_l-drop ms k
 
--- where a bit is 1, digits stand before the first that is
+abbrev digits_in : List ℕ → ℕ
+digits_in xs = prefix_len (λ x. not (is_stop x)) xs
+
+-- these bytes are digits, with another behind them
 record AreFirst (xs : List ℕ) (n : ℕ) : Type 0 where
   within : n < length xs
   digits : all_ascii_digits (take n xs) ≡ true
 
-first_of : (x : ℕ) (xs : List ℕ) (b : Bool) → is_ascii_digit x ≡ b → (0 < mask_l (map is_stop xs) → AreFirst xs (prefix_len (λ x. not (is_stop x)) xs))
-    → 0 < cond (not b) 1 0 + 2 * mask_l (map is_stop xs) → AreFirst (x ∷ xs) (cond (not (not b)) (1 + prefix_len (λ x. not (is_stop x)) xs) 0)
-first_of x xs true e more some =
-    let n : ℕ = prefix_len (λ y. not (is_stop y)) xs in
-    let rest : AreFirst xs n = more (omega arith) in
-    let next : suc n ≡ 1 + n = omega arith in
-    record { within = omega (arith, rest.within); digits = subst (λ k. all_ascii_digits (take k (x ∷ xs)) ≡ true) next (and_from _ _ e rest.digits) }
-first_of x xs false e more some = record { within = omega arith; digits = refl }
+first_of : (x : ℕ) (xs : List ℕ) (b : Bool) → is_ascii_digit x ≡ b → (0 < mask_l (map is_stop xs) → AreFirst xs (digits_in xs))
+    → 0 < cond (not b) 1 0 + 2 * mask_l (map is_stop xs) → AreFirst (x ∷ xs) (cond (not (not b)) (1 + digits_in xs) 0)
+first_of x xs true is more some =
+    let rest : AreFirst xs (digits_in xs) = more (omega arith) in
+    let next : suc (digits_in xs) ≡ 1 + digits_in xs = omega arith in
+    record {
+      within = omega (arith, rest.within);
+      digits = subst (λ n. all_ascii_digits (take n (x ∷ xs)) ≡ true) next (and_from _ _ is rest.digits);
+    }
+first_of x xs false is more some = record { within = omega arith; digits = refl }
 
-is_first : (xs : List ℕ) → 0 < mask_l (map is_stop xs) → AreFirst xs (prefix_len (λ x. not (is_stop x)) xs)
+is_first : (xs : List ℕ) → 0 < mask_l (map is_stop xs) → AreFirst xs (digits_in xs)
 is_first [] some = absurd (omega arith)
 is_first (x ∷ xs) some = first_of x xs (is_ascii_digit x) refl (is_first xs) some
 
@@ -60,7 +65,7 @@ digits_before stops text are some =
     let n : ℕ = count_trailing_zeros 64 stops in
     let set : 0 < mask_l (map is_stop xs) = subst (λ m. 0 < m) are.bits (positive stops some) in
     let short : length xs ≤ 64 = omega (arith, are.few, are.within, length-take are.count text) in
-    let same : n ≡ prefix_len (λ x. not (is_stop x)) xs = ap (count_trailing_zeros 64) are.bits ∙ trailing_mask_l is_stop 64 xs short set in
+    let same : n ≡ digits_in xs = ap (count_trailing_zeros 64) are.bits ∙ trailing_mask_l is_stop 64 xs short set in
     let first : AreFirst xs n = subst (AreFirst xs) (sym same) (is_first xs set) in
     let less : n ≤ are.count = omega (arith, first.within, length-take are.count text) in
     (omega (arith, first.within, length-take are.count text), ap all_ascii_digits (sym (take_less n are.count text less)) ∙ first.digits)
@@ -77,31 +82,39 @@ cut (suc k) (suc n) (x ∷ xs) = cut k n xs ∙ ap (λ m. take m (drop k xs)) (o
 
 pub stops_behind : (stops : ℕ) (text : List ℕ) (k : ℕ) → AreStops stops text → AreStops (stops / 2 ^ k) (drop k text)
 stops_behind stops text k are =
-    let bits = are.bits in
+    let xs : List ℕ = take are.count text in
+    let rest = drop-map is_stop k xs ∙ ap (map is_stop) (cut k are.count text) in
     record {
       count = are.count - k;
       few = omega (arith, are.few);
       within = omega (arith, are.within, length-drop k text);
-      bits = ap (λ n. n / 2 ^ k) bits ∙ mask_l-drop (map is_stop (take are.count text)) k ∙ ap mask_l (drop-map is_stop k (take are.count text) ∙ ap (map is_stop) (cut k are.count text));
+      bits = ap (λ n. n / 2 ^ k) are.bits ∙ mask_l-drop (map is_stop xs) k ∙ ap mask_l rest;
     }
 
-byte_by : (x : ℕ) → x < 256 → (a b : Bool) → leb 48 x ≡ a → leb x 57 ≡ b → top 7 (cond (leb 10 ((x + (256 - 48)) % 256)) 255 0) ≡ not (a && b)
-byte_by x small true true e f = ap (λ t. top 7 (cond t 255 0)) (lt-leb 10 ((x + 208) % 256) (omega (arith, leb-true 48 x e, leb-true x 57 f)))
-byte_by x small true false e f = ap (λ t. top 7 (cond t 255 0)) (le-leb 10 ((x + 208) % 256) (omega (arith, leb-false x 57 f)))
-byte_by x small false b e f = ap (λ t. top 7 (cond t 255 0)) (le-leb 10 ((x + 208) % 256) (omega (arith, leb-false 48 x e)))
+-- what the vector's operations make of two bytes
+abbrev less : ℕ → ℕ → ℕ
+less a b = (a + (256 - b)) % 256
 
-byte_is : (x : ℕ) → x < 256 → top 7 (cond (leb 10 ((x + (256 - 48)) % 256)) 255 0) ≡ is_stop x
-byte_is x small = byte_by x small (leb 48 x) (leb x 57) refl refl
+abbrev at_most : ℕ → ℕ → ℕ
+at_most a b = cond (leb a b) 255 0
 
-bytes_are : (xs : List ℕ) → Each1 (Fits w8) xs → map (λ x. top 7 (cond (leb 10 ((x + (256 - 48)) % 256)) 255 0)) xs ≡ map is_stop xs
+byte_by : (x : ℕ) → x < 256 → (a b : Bool) → leb 48 x ≡ a → leb x 57 ≡ b → top 7 (at_most 10 (less x 48)) ≡ not (a && b)
+byte_by x small true true e f = ap (λ t. top 7 (cond t 255 0)) (lt-leb 10 (less x 48) (omega (arith, leb-true 48 x e, leb-true x 57 f)))
+byte_by x small true false e f = ap (λ t. top 7 (cond t 255 0)) (le-leb 10 (less x 48) (omega (arith, leb-false x 57 f)))
+byte_by x small false b e f = ap (λ t. top 7 (cond t 255 0)) (le-leb 10 (less x 48) (omega (arith, leb-false 48 x e)))
+
+bytes_are : (xs : List ℕ) → Each1 (Fits w8) xs → map (λ x. top 7 (at_most 10 (less x 48))) xs ≡ map is_stop xs
 bytes_are [] fit = refl
-bytes_are (x ∷ xs) fit = ap₂ (λ b bs. b ∷ bs) (byte_is x fit.0.fits) (bytes_are xs fit.1)
+bytes_are (x ∷ xs) fit = ap₂ (λ b bs. b ∷ bs) (byte_by x fit.0.fits (leb 48 x) (leb x 57) refl refl) (bytes_are xs fit.1)
 
 pub stops_are : (v : List ℕ) → length v ≡ 32 → Each1 (Fits w8) v
-    → mask_l (map (top 7) (zip2 (λ a b. cond (leb a b) 255 0) (replicate 32 10) (zip2 (λ a b. (a + (256 - b)) % 256) v (replicate 32 48)))) % 2 ^ 64
-    ≡ mask_l (map is_stop v)
+    → mask_l (map (top 7) (zip2 at_most (replicate 32 10) (zip2 less v (replicate 32 48)))) % 2 ^ 64 ≡ mask_l (map is_stop v)
 stops_are v long fit =
-    ap (λ l. mask_l (map (top 7) (zip2 (λ a b. cond (leb a b) 255 0) (replicate 32 10) l)) % 2 ^ 64) (zip2_splat (λ a b. (a + (256 - b)) % 256) v 32 48 long)
-    ∙ ap (λ l. mask_l (map (top 7) l) % 2 ^ 64) (zip2_splat_left (λ a b. cond (leb a b) 255 0) 10 32 (map (λ a. (a + (256 - 48)) % 256) v) (length-map v _ ∙ long))
-    ∙ ap (λ l. mask_l l % 2 ^ 64) (map-map (top 7) (λ y. cond (leb 10 y) 255 0) (map (λ a. (a + (256 - 48)) % 256) v) ∙ map-map (λ y. top 7 (cond (leb 10 y) 255 0)) (λ a. (a + (256 - 48)) % 256) v ∙ bytes_are v fit)
+    let reduced : List ℕ = map (λ x. less x 48) v in
+    let first = zip2_splat less v 32 48 long in
+    let second = zip2_splat_left at_most 10 32 reduced (length-map v (λ x. less x 48) ∙ long) in
+    let tops = map-map (top 7) (at_most 10) reduced ∙ map-map (λ y. top 7 (at_most 10 y)) (λ x. less x 48) v ∙ bytes_are v fit in
+    ap (λ l. mask_l (map (top 7) (zip2 at_most (replicate 32 10) l)) % 2 ^ 64) first
+    ∙ ap (λ l. mask_l (map (top 7) l) % 2 ^ 64) second
+    ∙ ap (λ l. mask_l l % 2 ^ 64) tops
     ∙ mask_l-mod (map is_stop v) 64 (omega (arith, length-map v is_stop, long))

@@ -10,6 +10,9 @@ use std::simd::prelude::*;
 /// How many bytes are looked at together for those that are no digits: as many as a plain arc line mostly has at most.
 const LANES: usize = 32;
 
+/// Eight digits 0, one a byte.
+const ZEROS: u64 = 0x3030_3030_3030_3030;
+
 /// A bit for each byte at the front, from the lowest on, which is 1 where the byte is no digit. Of a text of few bytes
 /// nothing is said.
 pub fn stops_in(text: &[u8]) -> u64
@@ -36,10 +39,10 @@ pub fn value_of(bytes: [u8; 8], count: usize) -> u64
     ensures value { result ≡ digits_value 10 (take count bytes) }
     ensures below { result < 10 ^ 8 }
 {
-    // The digits come to stand at the end of the word, behind zeros. Then those next to each other are joined: two by two,
-    // four by four, and all eight.
+    // Of bytes from the lowest on, the digits become the last, with zeros before them. Then neighbours are joined: digits,
+    // pairs, and fours.
     let behind = 8 * (8 - count);
-    let digits = (u64::from_le_bytes(bytes) << behind) - (0x3030_3030_3030_3030 << behind);
+    let digits = (u64::from_le_bytes(bytes) << behind) - (ZEROS << behind);
     let pairs = digits * 10 + digits / 256;
     let first = pairs % 256 * 100 + pairs / 0x1_0000 % 256;
     let second = pairs / 0x1_0000_0000 % 256 * 100 + pairs / 0x1_0000_0000_0000 % 256;

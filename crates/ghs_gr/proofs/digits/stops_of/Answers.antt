@@ -1,4 +1,3 @@
-use Rattle.std.proofs.Common.{arith}
 use Rattle.ghs_gr.proofs.Stops.{stops_are}
 use Rattle.ghs_gr.proofs.digits.stops_of.Goals as goal
 
