@@ -9,6 +9,7 @@ use Rattle.peer_network.specs.Network.{is_port, network_of}
 use Rattle.ghs_protocol.specs.Run.{net_after}
 use Rattle.peer_network.proofs.lemmas.Events.{at_of}
 use Rattle.ghs_core.specs.NetState.{network}
+use Rattle.peer_index.specs.Places.{HasPlace}
 use Rattle.peer_network.specs.declared.wake_set.WakeSet.{WakeSet}
 use Rattle.ghs_world.specs.Outs.{Outs, is_out}
 use Rattle.peer_network.specs.Wakes.{may_wake}
@@ -41,6 +42,10 @@ latest_pickable s (Take v p) out h =
       ready = and_from (not (is_out s.outs v)) (may_happen s (Take v p)) (ap (λ (o : Outs). not (is_out o v)) out) t.0;
       patient = take_patient (wakers s) (network s.net) (home s) v p ((home s).queue v p) refl t.0 t.1;
     }
+
+pub latest_place : (s : WorldState) (e : Event) → IsLatestIn s e → HasPlace (network s.net) e
+latest_place s (Wake v) h = absurd h
+latest_place s (Take v p) h = at_of (network s.net) v p (and_parts (is_port (network s.net) v p) _ (and_parts _ _ h.0).0).0
 
 pub pickable : (s : WorldState) (words : List ℕ) (e : Event) (after : List ℕ) → s.outs ≡ [] → IsNext s words e after → Pickable s e
 pickable s words e after out next = ⊎_elim (λ h. latest_pickable s e out h.0) (λ h. patient.pickable s words e out h.1) next

@@ -4,26 +4,25 @@ ghost use Rattle.std.specs.List.{All};
 ghost use Rattle.ghs_graph.specs.Ports.{ports_of};
 ghost use Rattle.ghs_node.specs.declared.message.Message.{Message as Letter};
 ghost use Rattle.ghs_core.specs.NetState.{network, event_node};
-ghost use Rattle.peer_index.specs.Places.{HasPlace};
+ghost use Rattle.peer_index.specs.Places.{IsPlaced};
 ghost use Rattle.ghs_patient.specs.Choices.{IsMarked, SecondsGo, patient_in};
 ghost use Rattle.ghs_lifo.specs.Kept.{AreLatest, AreLatestBefore};
 ghost use Rattle.ghs_lifo.specs.Runs.{IsNext};
 
 use crate::numbers::Numbers;
 use crate::ranks::Ranks;
-use ghs_core::event::Event;
-use ghs_core::net::node_of;
 use ghs_node::delta::Delta;
 use ghs_node::head::Head;
 use ghs_patient::choices::Choices;
 use ghs_protocol::laws::law_sends;
 use ghs_world::world::World;
+use peer_index::placed::Placed;
 use peer_schedule::schedule::Schedule;
 use std::alloc::{AllocError, Global};
 use std::marker::Model;
 
-/// The events that a patient schedule picks from, the numbers of messages, and the ranks of the Takes by them: some 36 bytes
-/// an event, and 12 a node.
+/// The events that a patient schedule picks from, the numbers of messages, and the ranks of the Takes by them: some 28 bytes
+/// an event, and 4 a node.
 #[derive(Debug, Drop)]
 pub struct Latest {
     choices: Choices,
@@ -57,36 +56,38 @@ impl Latest {
     }
 
     /// The next event: the Take at the port to which a message was sent last, of those whose first message would be
-    /// consumed; where there is none what the next word of a schedule picks. O(log N).
-    pub fn pick(&self, world: &World, schedule: &mut Schedule) -> Event
+    /// consumed; where there is none what the next word of a schedule picks. It comes with where the events of its node
+    /// begin. O(log N).
+    pub fn pick(&self, world: &World, schedule: &mut Schedule) -> Placed
         requires latest { AreLatest world.now self.now }
         requires seconds { SecondsGo world.now }
         requires some { 0 < length (patient_in world.now) }
-        ensures { IsNext world.now schedule.old result schedule.new }
+        ensures next { IsNext world.now schedule.old result.event schedule.new }
+        ensures placed { IsPlaced (network world.now.net) result }
     {
         match self.ranks.latest(world, &self.numbers) {
-            Some(event) => event,
+            Some(event) => world.placed(event),
             None => self.choices.pick(world, schedule),
         }
     }
 
     /// Keeps up with an event that has happened, by the head of its node before it and what the node did. Takes O(log N)
     /// for each message sent; where phase, level or in_branch of the node have changed, for each of its ports too.
-    pub fn follow(&mut self, world: &World, event: Event, before: &Head, delta: &Delta)
+    pub fn follow(&mut self, world: &World, placed: Placed, before: &Head, delta: &Delta)
         requires home { world.now.outs ≡ [] }
-        requires place { HasPlace (network world.now.net) event }
-        requires ports { All (λ (s : ℕ × Letter). s.0 < length (ports_of world.now.net.graph.keys (event_node event))) delta.now.sends }
-        requires own { (q : ℕ) → IsMarked delta.now.mark q → q < length (ports_of world.now.net.graph.keys (event_node event)) }
+        requires placed { IsPlaced (network world.now.net) placed }
+        requires ports { All (λ (s : ℕ × Letter). s.0 < length (ports_of world.now.net.graph.keys (event_node placed.event))) delta.now.sends }
+        requires own { (q : ℕ) → IsMarked delta.now.mark q → q < length (ports_of world.now.net.graph.keys (event_node placed.event)) }
         requires few { length world.now.net.trace ≤ 2 ^ 40 }
-        requires latest { AreLatestBefore world.now event before.now delta.now self.old }
+        requires latest { AreLatestBefore world.now placed.event before.now delta.now self.old }
         ensures { AreLatest world.now self.new }
     {
         law_sends();
         let _ = world.net().trace();
-        self.choices.follow(world, event, before, delta);
+        self.choices.follow(world, placed, before, delta);
         self.numbers
-            .send(world.graph(), node_of(event), delta.sends.as_slice());
+            .send(world.graph(), placed.node(), delta.sends.as_slice());
         self.ranks
-            .follow(world, &self.numbers, event, before, delta);
+            .follow(world, &self.numbers, placed.event, before, delta);
     }
 }

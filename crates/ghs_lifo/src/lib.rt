@@ -5,7 +5,7 @@
 //! the nodes (`short`), and where turns for so many are left it ends, unless memory runs out (`ends`). Which Take is next
 //! is determined by the events so far (`law_latest_is_one`).
 //!
-//! The world has to stand at its opening. `Latest` takes some 36 bytes an event, and 12 a node; that each event takes
+//! The world has to stand at its opening. `Latest` takes some 28 bytes an event, and 4 a node; that each event takes
 //! O(log N) steps is not proved.
 #![tactic(auto)]
 

@@ -2,6 +2,7 @@
 pub mod Gone
 pub mod Growing
 pub mod Picked
+pub mod Picking
 pub mod Picks
 pub mod Places
 pub mod Ports

@@ -6,7 +6,7 @@ ghost use Rattle.ghs_node.specs.declared.message.Message.{Message as Letter};
 ghost use Rattle.peer_network.specs.declared.event.Event.{Event as Happening};
 ghost use Rattle.ghs_protocol.specs.Marks.{HasEnded};
 ghost use Rattle.ghs_core.specs.NetState.{network, event_node};
-ghost use Rattle.peer_index.specs.Places.{HasPlace};
+ghost use Rattle.peer_index.specs.Places.{IsPlaced};
 ghost use Rattle.ghs_world.specs.Ready.{is_ready, ready_events};
 ghost use Rattle.ghs_world.specs.Steps.{IsSameWorld};
 ghost use Rattle.ghs_world.specs.WorldState.{WorldState, has_turn, home};
@@ -14,13 +14,12 @@ ghost use Rattle.ghs_sched.specs.Runs.{EndsFor, IsEnd};
 ghost use Rattle.ghs_patient.specs.Choices.{IsMarked};
 ghost use Rattle.ghs_patient.specs.Keeping.{HasAnswered, HasGone, HasGoneOn};
 
-use ghs_core::net::node_of;
 use ghs_node::delta::Delta;
 use ghs_node::head::Head;
 use ghs_sched::fault::RunFault;
 use ghs_sched::run::{RunEnd, end_of};
 use ghs_world::world::World;
-use peer_network::event::Event;
+use peer_index::placed::Placed;
 use peer_schedule::schedule::Schedule;
 use std::alloc::{AllocError, Global};
 
@@ -41,23 +40,24 @@ pub trait Keeper {
         requires trace { can_begin world.now.net.trace }
         ensures { IfOk result (λ k. is_of world.now k) };
 
-    /// The next event.
-    fn next(&self, world: &World, schedule: &mut Schedule) -> Event
+    /// The next event, with where the events of its node begin.
+    fn next(&self, world: &World, schedule: &mut Schedule) -> Placed
         requires home { world.now.outs ≡ [] }
         requires going { HasEnded world.now.net.graph (home world.now) → ⊥ }
         requires some { ready_events world.now ≡ [] → ⊥ }
         requires kept { is_of world.now self.now }
-        ensures next { is_next world.now schedule.old result schedule.new }
-        ensures ready { is_ready world.now result ≡ true };
+        ensures next { is_next world.now schedule.old result.event schedule.new }
+        ensures placed { IsPlaced (network world.now.net) result }
+        ensures ready { is_ready world.now result.event ≡ true };
 
-    /// Keeps up with an event that has happened, by the head of its node before it and what the node did.
-    fn keep_up(&mut self, world: &World, event: Event, before: &Head, delta: &Delta)
+    /// Keeps up with a placed event that has happened, by the head of its node before it and what the node did.
+    fn keep_up(&mut self, world: &World, placed: Placed, before: &Head, delta: &Delta)
         requires home { world.now.outs ≡ [] }
         requires few { length world.now.net.trace ≤ 2 ^ 40 }
-        requires place { HasPlace (network world.now.net) event }
-        requires ports { All (λ (s : ℕ × Letter). s.0 < length (ports_of world.now.net.graph.keys (event_node event))) delta.now.sends }
-        requires own { (q : ℕ) → IsMarked delta.now.mark q → q < length (ports_of world.now.net.graph.keys (event_node event)) }
-        requires kept { (old : WorldState) × is_of old self.old × HasAnswered old world.now event before.now delta.now }
+        requires placed { IsPlaced (network world.now.net) placed }
+        requires ports { All (λ (s : ℕ × Letter). s.0 < length (ports_of world.now.net.graph.keys (event_node placed.event))) delta.now.sends }
+        requires own { (q : ℕ) → IsMarked delta.now.mark q → q < length (ports_of world.now.net.graph.keys (event_node placed.event)) }
+        requires kept { (old : WorldState) × is_of old self.old × HasAnswered old world.now placed.event before.now delta.now }
         ensures { is_of world.now self.new };
 }
 
@@ -135,11 +135,11 @@ fn make_next<K: Keeper>(
     let _ = world.net().trace();
     let _ = world.turns();
     let mut rest = schedule.copy()?;
-    let event = kept.next(world, &mut rest);
-    let before = *world.net().node(node_of(event)).head();
-    let delta = world.answer(alloc, event)?;
-    world.make_answered(event, &delta)?;
-    kept.keep_up(world, event, &before, &delta);
+    let placed = kept.next(world, &mut rest);
+    let before = *world.net().node(placed.node()).head();
+    let delta = world.answer_placed(alloc, placed)?;
+    world.make_answered_placed(placed, &delta)?;
+    kept.keep_up(world, placed, &before, &delta);
     *schedule = rest;
     Ok(())
 }

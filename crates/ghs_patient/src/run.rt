@@ -15,7 +15,7 @@ use ghs_protocol::interleavings::{law_one_waits, law_patience, law_patience_last
 use ghs_sched::fault::RunFault;
 use ghs_sched::run::RunEnd;
 use ghs_world::world::World;
-use peer_network::event::Event;
+use peer_index::placed::Placed;
 use peer_schedule::schedule::Schedule;
 use std::alloc::{AllocError, Global};
 
@@ -61,14 +61,14 @@ impl Keeper for Choices {
         Choices::of(alloc, world)
     }
 
-    fn next(&self, world: &World, schedule: &mut Schedule) -> Event {
+    fn next(&self, world: &World, schedule: &mut Schedule) -> Placed {
         law_one_waits();
         law_patience_lasts();
         let _ = world.net().trace();
         self.pick(world, schedule)
     }
 
-    fn keep_up(&mut self, world: &World, event: Event, before: &Head, delta: &Delta) {
-        self.follow(world, event, before, delta);
+    fn keep_up(&mut self, world: &World, placed: Placed, before: &Head, delta: &Delta) {
+        self.follow(world, placed, before, delta);
     }
 }

@@ -8,7 +8,6 @@ ghost use Rattle.ghs_world.specs.Steps.{IsSameWorld};
 ghost use Rattle.ghs_world.specs.WorldState.{has_turn, home};
 ghost use Rattle.std.specs.Prelude.{IfErr, IfOk, OnErr, OnOk, [], true, ◌≡◌};
 
-use ghs_core::net::node_of;
 use ghs_following::follower::Follower;
 use ghs_patient::choices::Choices;
 use ghs_protocol::interleavings::{law_one_waits, law_patience, law_patience_lasts};
@@ -101,12 +100,12 @@ fn make_next<F: Follower>(
     let _ = world.net().trace();
     let _ = world.turns();
     let mut rest = schedule.copy()?;
-    let event = choices.pick(world, &mut rest);
-    let before = *world.net().node(node_of(event)).head();
-    let delta = world.answer(alloc, event)?;
-    kept.follow(world.net(), event, &delta)?;
-    world.make_answered(event, &delta)?;
-    choices.follow(world, event, &before, &delta);
+    let placed = choices.pick(world, &mut rest);
+    let before = *world.net().node(placed.node()).head();
+    let delta = world.answer_placed(alloc, placed)?;
+    kept.follow(world.net(), placed.event, &delta)?;
+    world.make_answered_placed(placed, &delta)?;
+    choices.follow(world, placed, &before, &delta);
     *schedule = rest;
     Ok(())
 }

@@ -5,7 +5,7 @@ ghost use Rattle.ghs_graph.specs.Ports.{ports_of};
 ghost use Rattle.ghs_node.specs.declared.message.Message.{Message as Letter};
 ghost use Rattle.peer_network.specs.declared.event.Event.{Event as Happening};
 ghost use Rattle.ghs_core.specs.NetState.{network, event_node};
-ghost use Rattle.peer_index.specs.Places.{HasPlace};
+ghost use Rattle.peer_index.specs.Places.{HasPlace, IsPlaced};
 ghost use Rattle.peer_schedule.specs.Picks.{IsPick};
 ghost use Rattle.peer_schedule.specs.Schedule.{next_of};
 ghost use Rattle.ghs_chain.specs.Kept.{Fits};
@@ -21,6 +21,7 @@ use ghs_node::message::Message;
 use ghs_patient::choices::{are_alike, puts_back};
 use ghs_world::world::World;
 use peer_index::index::Index;
+use peer_index::placed::Placed;
 use peer_schedule::schedule::Schedule;
 use std::alloc::{AllocError, Global};
 use std::marker::Model;
@@ -50,8 +51,8 @@ impl Choices {
     {
         let graph = world.graph();
         let mut choices = Choices {
-            moving: Index::none(alloc, graph)?,
-            hidden: Index::none(alloc, graph)?,
+            moving: world.unmarked_index(alloc)?,
+            hidden: world.unmarked_index(alloc)?,
         };
         for v in 1..graph.nodes() + 1 {
             choices.mark(world, clock, Event::Wake(v));
@@ -69,21 +70,22 @@ impl Choices {
         self.moving.count() == 0 && self.hidden.count() == 0
     }
 
-    /// The event that the next word of a schedule picks.
-    pub fn pick(&self, world: &World, clock: &Clock, schedule: &mut Schedule) -> Event
+    /// The event that the next word of a schedule picks, with where the events of its node begin. O(log N).
+    pub fn pick(&self, world: &World, clock: &Clock, schedule: &mut Schedule) -> Placed
         requires choices { AreChoices world.now clock.now self.now }
         requires some { 0 < length (events_of world.now clock.now) }
-        ensures pick { IsPick (events_of world.now clock.now) schedule.old result }
+        ensures pick { IsPick (events_of world.now clock.now) schedule.old result.event }
+        ensures placed { IsPlaced (network world.now.net) result }
         ensures next { schedule.new ≡ next_of schedule.old }
     {
         let moving = self.moving.count();
         if moving > 0 {
             let k = schedule.pick(moving as usize);
-            return self.moving.kth(world.graph(), k as u32);
+            return self.moving.kth_placed(world.graph(), k as u32);
         }
         let hidden = self.hidden.count();
         let k = schedule.pick(hidden as usize);
-        self.hidden.kth(world.graph(), k as u32)
+        self.hidden.kth_placed(world.graph(), k as u32)
     }
 
     /// Keeps up with an event that has happened, by the head of its node before it and what the node did. Takes O(1)
@@ -175,8 +177,11 @@ impl Choices {
         ensures { self.new ≡ marked world.now clock.now event self.old }
     {
         let graph = world.graph();
-        self.moving.set(graph, event, moves_on(world, clock, event));
-        self.hidden.set(graph, event, hides(world, clock, event));
+        let placed = world.placed(event);
+        self.moving
+            .set_placed(graph, placed, moves_on(world, clock, event));
+        self.hidden
+            .set_placed(graph, placed, hides(world, clock, event));
     }
 }
 

@@ -108,13 +108,13 @@ impl Rounds {
         let _ = world.net().trace();
         let _ = world.turns();
         let mut rest = schedule.copy()?;
-        let event = self.choices.pick(world, &self.clock, &mut rest);
-        let before = *world.net().node(node_of(event)).head();
-        let delta = world.answer(alloc, event)?;
-        self.hear(world, event, is_asleep(&before), &delta)?;
-        world.make_answered(event, &delta)?;
+        let placed = self.choices.pick(world, &self.clock, &mut rest);
+        let before = *world.net().node(placed.node()).head();
+        let delta = world.answer_placed(alloc, placed)?;
+        self.hear(world, placed.event, is_asleep(&before), &delta)?;
+        world.make_answered_placed(placed, &delta)?;
         self.choices
-            .follow(world, &self.clock, event, &before, &delta);
+            .follow(world, &self.clock, placed.event, &before, &delta);
         *schedule = rest;
         Ok(())
     }

@@ -14,7 +14,7 @@ use ghs_patient::keeping::{Keeper, run_by};
 use ghs_sched::fault::RunFault;
 use ghs_sched::run::RunEnd;
 use ghs_world::world::World;
-use peer_network::event::Event;
+use peer_index::placed::Placed;
 use peer_schedule::schedule::Schedule;
 use std::alloc::{AllocError, Global};
 
@@ -55,11 +55,11 @@ impl Keeper for Waiting {
         Waiting::of(alloc, world)
     }
 
-    fn next(&self, world: &World, schedule: &mut Schedule) -> Event {
+    fn next(&self, world: &World, schedule: &mut Schedule) -> Placed {
         self.pick(world, schedule)
     }
 
-    fn keep_up(&mut self, world: &World, event: Event, before: &Head, delta: &Delta) {
-        self.follow(world, event, before, delta);
+    fn keep_up(&mut self, world: &World, placed: Placed, before: &Head, delta: &Delta) {
+        self.follow(world, placed.event, before, delta);
     }
 }

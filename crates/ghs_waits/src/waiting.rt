@@ -5,7 +5,7 @@ ghost use Rattle.ghs_graph.specs.Ports.{ports_of};
 ghost use Rattle.ghs_node.specs.declared.message.Message.{Message as Letter};
 ghost use Rattle.ghs_core.specs.NetState.{network, event_node};
 ghost use Rattle.peer_index.specs.Index.{IsFor};
-ghost use Rattle.peer_index.specs.Places.{HasPlace};
+ghost use Rattle.peer_index.specs.Places.{HasPlace, IsPlaced};
 ghost use Rattle.ghs_patient.specs.Choices.{IsMarked, IsStirred, far_takes};
 ghost use Rattle.peer_schedule.specs.Picks.{IsPick};
 ghost use Rattle.peer_schedule.specs.Schedule.{next_of};
@@ -21,6 +21,7 @@ use ghs_node::message::Message;
 use ghs_patient::choices::{are_alike, puts_back};
 use ghs_world::world::World;
 use peer_index::index::Index;
+use peer_index::placed::Placed;
 use peer_schedule::schedule::Schedule;
 use std::alloc::{AllocError, Global};
 use std::marker::Model;
@@ -47,7 +48,7 @@ impl Waiting {
     {
         let graph = world.graph();
         let mut waiting = Waiting {
-            index: Index::none(alloc, graph)?,
+            index: world.unmarked_index(alloc)?,
         };
         for v in 1..graph.nodes() + 1 {
             waiting.mark(world, Event::Wake(v));
@@ -56,21 +57,22 @@ impl Waiting {
         Ok(waiting)
     }
 
-    /// The event that the next word of a schedule picks. O(log N).
-    pub fn pick(&self, world: &World, schedule: &mut Schedule) -> Event
+    /// The event that the next word of a schedule picks, with where the events of its node begin. O(log N).
+    pub fn pick(&self, world: &World, schedule: &mut Schedule) -> Placed
         requires home { world.now.outs ≡ [] }
         requires marks { AreMarks world.now self.now }
         requires some { ready_events world.now ≡ [] → ⊥ }
-        ensures pick { IsPick (waiting_in world.now) schedule.old result }
+        ensures pick { IsPick (waiting_in world.now) schedule.old result.event }
+        ensures placed { IsPlaced (network world.now.net) result }
         ensures next { schedule.new ≡ next_of schedule.old }
     {
         let waiting = self.index.count();
         if waiting > 0 {
             let k = schedule.pick(waiting as usize);
-            return self.index.kth(world.graph(), k as u32);
+            return self.index.kth_placed(world.graph(), k as u32);
         }
         let k = schedule.pick(world.ready_count());
-        world.ready_at(k)
+        world.ready_placed(k)
     }
 
     /// Keeps up with an event that has happened, by the head of its node before it and what the node did. Takes O(1)

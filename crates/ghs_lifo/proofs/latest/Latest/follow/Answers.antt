@@ -13,7 +13,7 @@ send-requires-clause-few c =
     let graph : IsGraph s.net.graph = subst (λ (n : NetState). IsGraph n.graph) c.net.ensures.net c.trace.ensures.graph in
     let h = rw (← c.self.view_is) at c.requires.latest in
     let is_run : IsRun (network s.net) s.net.trace = subst (λ (n : NetState). IsRun (network n) n.trace) c.net.ensures.net c.trace.ensures.run in
-    rw c.as_slice.ensures (room_for s c.args.event c.args.before.now c.args.delta.now _ h graph c.requires.place c.requires.ports
+    rw c.as_slice.ensures (room_for s c.args.placed.event c.args.before.now c.args.delta.now _ h graph c.requires.placed.event c.requires.ports
     c.law_sends.ensures is_run c.requires.few)
 
 pub follow-requires-2-clause-few : goal.follow-requires-2-clause-few
@@ -22,19 +22,19 @@ follow-requires-2-clause-few c =
     let graph : IsGraph s.net.graph = subst (λ (n : NetState). IsGraph n.graph) c.net.ensures.net c.trace.ensures.graph in
     let h = rw (← c.self.view_is) at c.requires.latest in
     let is_run : IsRun (network s.net) s.net.trace = subst (λ (n : NetState). IsRun (network n) n.trace) c.net.ensures.net c.trace.ensures.run in
-    let is : c.send.new.self ≡ with_all (network s.net) (event_node c.args.event) c.args.delta.now.sends c.self.inside.numbers =
-    rw (c.graph.ensures, c.node_of.ensures, c.as_slice.ensures) at c.send.ensures in
-    rw is (count_then s c.args.event c.args.before.now c.args.delta.now _ h graph c.requires.place c.requires.ports c.law_sends.ensures is_run
-    c.requires.few)
+    let is : c.send.new.self ≡ with_all (network s.net) (event_node c.args.placed.event) c.args.delta.now.sends c.self.inside.numbers =
+    rw (c.graph.ensures, c.node.ensures, c.as_slice.ensures) at c.send.ensures in
+    rw is (count_then s c.args.placed.event c.args.before.now c.args.delta.now _ h graph c.requires.placed.event c.requires.ports
+    c.law_sends.ensures is_run c.requires.few)
 
 pub follow-requires-2-clause-kept : goal.follow-requires-2-clause-kept
 follow-requires-2-clause-kept c =
     let s = c.args.world.now in
     let graph : IsGraph s.net.graph = subst (λ (n : NetState). IsGraph n.graph) c.net.ensures.net c.trace.ensures.graph in
     let h = rw (← c.self.view_is) at c.requires.latest in
-    let is : c.send.new.self ≡ with_all (network s.net) (event_node c.args.event) c.args.delta.now.sends c.self.inside.numbers =
-    rw (c.graph.ensures, c.node_of.ensures, c.as_slice.ensures) at c.send.ensures in
-    let numbers = numbers_then s c.args.event c.args.before.now c.args.delta.now _ h graph c.requires.place c.requires.ports in
+    let is : c.send.new.self ≡ with_all (network s.net) (event_node c.args.placed.event) c.args.delta.now.sends c.self.inside.numbers =
+    rw (c.graph.ensures, c.node.ensures, c.as_slice.ensures) at c.send.ensures in
+    let numbers = numbers_then s c.args.placed.event c.args.before.now c.args.delta.now _ h graph c.requires.placed.event c.requires.ports in
     rw is numbers.for_all
 
 pub follow-requires-2-clause-ranks : goal.follow-requires-2-clause-ranks
@@ -42,19 +42,19 @@ follow-requires-2-clause-ranks c =
     let s = c.args.world.now in
     let graph : IsGraph s.net.graph = subst (λ (n : NetState). IsGraph n.graph) c.net.ensures.net c.trace.ensures.graph in
     let h = rw (← c.self.view_is) at c.requires.latest in
-    let is : c.send.new.self ≡ with_all (network s.net) (event_node c.args.event) c.args.delta.now.sends c.self.inside.numbers =
-    rw (c.graph.ensures, c.node_of.ensures, c.as_slice.ensures) at c.send.ensures in
-    rw is (ranks_then s c.args.event c.args.before.now c.args.delta.now _ h graph c.requires.place c.requires.ports)
+    let is : c.send.new.self ≡ with_all (network s.net) (event_node c.args.placed.event) c.args.delta.now.sends c.self.inside.numbers =
+    rw (c.graph.ensures, c.node.ensures, c.as_slice.ensures) at c.send.ensures in
+    rw is (ranks_then s c.args.placed.event c.args.before.now c.args.delta.now _ h graph c.requires.placed.event c.requires.ports)
 
 pub returns : goal.returns
 returns c =
     let s = c.args.world.now in
     let graph : IsGraph s.net.graph = subst (λ (n : NetState). IsGraph n.graph) c.net.ensures.net c.trace.ensures.graph in
     let h = rw (← c.self.view_is) at c.requires.latest in
-    let is : c.send.new.self ≡ with_all (network s.net) (event_node c.args.event) c.args.delta.now.sends c.self.inside.numbers =
-    rw (c.graph.ensures, c.node_of.ensures, c.as_slice.ensures) at c.send.ensures in
+    let is : c.send.new.self ≡ with_all (network s.net) (event_node c.args.placed.event) c.args.delta.now.sends c.self.inside.numbers =
+    rw (c.graph.ensures, c.node.ensures, c.as_slice.ensures) at c.send.ensures in
     record {
       choices = c.follow.ensures;
-      numbers = rw is (numbers_then s c.args.event c.args.before.now c.args.delta.now _ h graph c.requires.place c.requires.ports);
+      numbers = rw is (numbers_then s c.args.placed.event c.args.before.now c.args.delta.now _ h graph c.requires.placed.event c.requires.ports);
       ranks = c.follow-2.ensures;
     }

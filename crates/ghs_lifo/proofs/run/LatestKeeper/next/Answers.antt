@@ -22,4 +22,4 @@ pick-requires-clause-some c =
 
 pub returns-clause-ready : goal.returns-clause-ready
 returns-clause-ready c =
-    (pickable c.args.world.now c.args.schedule.now c.pick.result c.pick.new.schedule c.requires.home c.pick.ensures).ready
+    (pickable c.args.world.now c.args.schedule.now c.pick.result.event c.pick.new.schedule c.requires.home c.pick.ensures.next).ready

@@ -23,4 +23,4 @@ pub returns-clause-next : goal.returns-clause-next
 returns-clause-next c = (c.pick.ensures.pick, c.pick.ensures.next)
 
 pub returns-clause-ready : goal.returns-clause-ready
-returns-clause-ready c = (pickable c.args.world.now c.args.schedule.now c.pick.result c.requires.home c.pick.ensures.pick).ready
+returns-clause-ready c = (pickable c.args.world.now c.args.schedule.now c.pick.result.event c.requires.home c.pick.ensures.pick).ready

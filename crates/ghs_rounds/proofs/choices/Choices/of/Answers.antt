@@ -1,17 +1,13 @@
-use Rattle.std.proofs.Common.{◌≡◌, ◌≤◌, ◌∙◌, ap, subst, refl, arith}
+use Rattle.std.proofs.Common.{◌≡◌, ◌≤◌, ◌∙◌, ap, refl, arith}
 use Rattle.ghs_graph.specs.Graph.{Shape}
-use Rattle.peer_network.specs.Network.{network_of}
-use Rattle.peer_index.specs.Index.{IsFor}
 use Rattle.peer_index.proofs.lemmas.Marks.{is_for}
 use Rattle.ghs_rounds.proofs.Marking.{all_nodes, none_yet, one_node}
 use Rattle.ghs_rounds.proofs.choices.Choices.of.Goals as goal
 
 pub loop-v-init : goal.loop-v-init
 loop-v-init c = none_yet c.args.world.now c.args.clock.now _ (record {
-  moving =
-      subst (λ (g : Shape). IsFor (network_of g) c.in_ok-none.field-0) c.graph-graph.ensures (is_for _ _ c.in_ok-none.field-0 c.in_ok-none.ensures);
-  hidden = subst (λ (g : Shape). IsFor (network_of g) c.in_ok-none-2.field-0) c.graph-graph.ensures
-      (is_for _ _ c.in_ok-none-2.field-0 c.in_ok-none-2.ensures);
+  moving = is_for _ _ c.in_ok-unmarked_index.field-0 c.in_ok-unmarked_index.ensures;
+  hidden = is_for _ _ c.in_ok-unmarked_index-2.field-0 c.in_ok-unmarked_index-2.ensures;
 })
 
 pub loop-v-preserved : goal.loop-v-preserved
