@@ -24,15 +24,15 @@ pick-placed-requires-clause-some g c =
     (subst (λ (n : NetState). IsNetOf n.graph (net_of n)) c.net.ensures.net (is_net c.net.result.now c.trace.ensures.graph c.trace.ensures.run))
     (each_is_woken c.args.world.now.net.graph c.args.world.now.wake graph) c.requires.going
 
-pub node-requires-clause-low : goal.node-requires-clause-low
-node-requires-clause-low g c =
+pub node-requires-2-clause-low : goal.node-requires-2-clause-low
+node-requires-2-clause-low g c =
     let z = pickable c.args.world.now c.in_ok-rest.rest c.pick-placed.result.event c.requires.home c.pick-placed.ensures.pick in
-    rw c.node-2.ensures z.low
+    rw c.node.ensures z.low
 
-pub node-requires-clause-high : goal.node-requires-clause-high
-node-requires-clause-high g c =
+pub node-requires-2-clause-high : goal.node-requires-2-clause-high
+node-requires-2-clause-high g c =
     let z = pickable c.args.world.now c.in_ok-rest.rest c.pick-placed.result.event c.requires.home c.pick-placed.ensures.pick in
-    rw (c.node-2.ensures, c.net-2.ensures.net) z.high
+    rw (c.node.ensures, c.net-2.ensures.net) z.high
 
 pub answer_placed-requires-clause-lawful : goal.answer_placed-requires-clause-lawful
 answer_placed-requires-clause-lawful g c =
@@ -66,7 +66,7 @@ follow-requires-2-clause-own g c =
 
 pub follow-requires-2-clause-choices : goal.follow-requires-2-clause-choices
 follow-requires-2-clause-choices g c =
-    rw (c.head.ensures.head, c.node.ensures, c.net-2.ensures.net, c.node-2.ensures)
+    rw (c.head.ensures.head, c.node-2.ensures, c.net-2.ensures.net, c.node.ensures)
     (keeps c.args.world.now c.make_answered_placed.new.self c.pick-placed.result.event c.in_ok-delta.delta c.args.choices.now c.requires.choices
     c.in_ok-make_answered_placed.ensures.made c.in_ok-delta.ensures)
 

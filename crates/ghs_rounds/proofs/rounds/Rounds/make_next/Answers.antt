@@ -12,15 +12,15 @@ use Rattle.ghs_rounds.proofs.Picked.{pickable}
 use Rattle.ghs_rounds.proofs.Sending.{IsTimely}
 use Rattle.ghs_rounds.proofs.rounds.Rounds.make_next.Goals as goal
 
-pub node-requires-clause-low : goal.node-requires-clause-low
-node-requires-clause-low c =
+pub node-requires-2-clause-low : goal.node-requires-2-clause-low
+node-requires-2-clause-low c =
     let z = pickable c.args.world.now c.self.inside.clock c.in_ok-rest.rest c.pick-placed.result.event c.requires.home c.pick-placed.ensures.pick in
-    rw c.node-2.ensures z.low
+    rw c.node.ensures z.low
 
-pub node-requires-clause-high : goal.node-requires-clause-high
-node-requires-clause-high c =
+pub node-requires-2-clause-high : goal.node-requires-2-clause-high
+node-requires-2-clause-high c =
     let z = pickable c.args.world.now c.self.inside.clock c.in_ok-rest.rest c.pick-placed.result.event c.requires.home c.pick-placed.ensures.pick in
-    rw (c.node-2.ensures, c.net-2.ensures.net) z.high
+    rw (c.node.ensures, c.net-2.ensures.net) z.high
 
 pub answer_placed-requires-clause-lawful : goal.answer_placed-requires-clause-lawful
 answer_placed-requires-clause-lawful c =
@@ -56,7 +56,7 @@ pub follow-requires-clause-choices : goal.follow-requires-clause-choices
 follow-requires-clause-choices c =
     let are = c.requires.rounds in
     let heard = rw (← c.self-2.view_is) at c.in_ok-hear.ensures in
-    rw (c.head.ensures.head, c.node.ensures, c.net-2.ensures.net, c.node-2.ensures)
+    rw (c.head.ensures.head, c.node-2.ensures, c.net-2.ensures.net, c.node.ensures)
     (keeps c.args.world.now c.make_answered_placed.new.self c.pick-placed.result.event c.in_ok-delta.delta _ _ are
     c.in_ok-make_answered_placed.ensures.made c.in_ok-delta.ensures heard)
 
