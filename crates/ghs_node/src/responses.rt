@@ -181,7 +181,7 @@ pub(crate) fn on_reject(delta: &mut Delta, node: &Node, port: u32) -> Result<(),
     requires still { delta.old ≡ still node.now }
     ensures { Answers result delta.new (awake node.now port Message.Reject) }
 {
-    if !delta.head().is_probing(port) {
+    if !node.head().is_probing(port) {
         return Err(NodeFault::Unforeseen);
     }
     delta.reject(node, port);
