@@ -50,7 +50,9 @@ static OTHERS: [&str; 6] = [
 
 /// What an arc line has before a number and behind it, where that is a node or the weight.
 static AROUND_FROM: (&str, &str) = ("", " 1048576 5");
+
 static AROUND_TO: (&str, &str) = ("1048576 ", " 5");
+
 static AROUND_WEIGHT: (&str, &str) = ("1 1048576 ", "");
 
 /// A comment, or at least its front, which a text has behind its line of numbers.
@@ -61,7 +63,13 @@ fn put(rt: &impl Abort, text: &mut Vec<u8>, bytes: &[u8]) {
 }
 
 /// The text of an arc with this number, and so many bytes of a comment behind it.
-fn text_of(rt: &impl Abort, alloc: Global, around: &(&str, &str), number: &[u8], behind: usize) -> Vec<u8> {
+fn text_of(
+    rt: &impl Abort,
+    alloc: Global,
+    around: &(&str, &str),
+    number: &[u8],
+    behind: usize,
+) -> Vec<u8> {
     let mut text = Vec::new(alloc);
     put(rt, &mut text, b"p sp 1048576 1\na ");
     put(rt, &mut text, around.0.as_bytes());
@@ -84,7 +92,13 @@ fn assert_link(rt: &impl Abort, alloc: Global, around: &(&str, &str), number: &s
 #[test]
 fn reads_weights(rt: HostRuntime) {
     for (number, weight) in &WEIGHTS {
-        assert_link(&rt, rt.alloc(), &AROUND_WEIGHT, number, (*weight, 1, 1_048_576));
+        assert_link(
+            &rt,
+            rt.alloc(),
+            &AROUND_WEIGHT,
+            number,
+            (*weight, 1, 1_048_576),
+        );
     }
 }
 

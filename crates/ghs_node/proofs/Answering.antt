@@ -27,7 +27,8 @@ module _ (n : NodeState) (w : Work) (f : IsNode n) (h : HasPort n w) where
   sending_row None e s = absurd s
   sending_row (Some d) e s = (d, reaction_inverts n w d h e, s)
 
-  pub answered_memory : (r : Result (Unit {0}) NodeFault) (d : Delta) → Answers r d (reaction n w) → IsErrOf r Memory → (e : Delta) × Row n w e × (0 < length e.sends)
+  pub answered_memory : (r : Result (Unit {0}) NodeFault) (d : Delta) → Answers r d (reaction n w)
+      → IsErrOf r Memory → (e : Delta) × Row n w e × (0 < length e.sends)
   answered_memory (Ok u) d a e = absurd cc
   answered_memory (Err NoPort) d a e = absurd a
   answered_memory (Err Unforeseen) d a e = absurd cc

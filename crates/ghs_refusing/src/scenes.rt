@@ -54,7 +54,13 @@ pub fn opening(alloc: Global) -> Option<World> {
 
 /// The opening world of the graph of a text.
 fn opening_of(alloc: Global, graph: &str) -> Option<World> {
-    World::open(alloc, graph_of(alloc, graph.as_bytes())?, WakeSet::All, EVENT_LIMIT).ok()
+    World::open(
+        alloc,
+        graph_of(alloc, graph.as_bytes())?,
+        WakeSet::All,
+        EVENT_LIMIT,
+    )
+    .ok()
 }
 
 /// The world after these events, from which nothing is out.
@@ -67,7 +73,13 @@ pub fn world_of_after(alloc: Global, graph: &str, events: &[Event]) -> Option<Wo
     if events.len() as u64 > EVENT_LIMIT {
         return None;
     }
-    replay(alloc, graph_of(alloc, graph.as_bytes())?, WakeSet::All, events).ok()
+    replay(
+        alloc,
+        graph_of(alloc, graph.as_bytes())?,
+        WakeSet::All,
+        events,
+    )
+    .ok()
 }
 
 /// The events of a world's run by one seed.

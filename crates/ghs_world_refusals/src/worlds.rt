@@ -9,9 +9,9 @@ use ghs_refusing::scenes::{
 };
 use ghs_report::run_text::run_text;
 use ghs_sched::run::run_seeded;
+use ghs_test_graphs::graphs::{HUB_AND_PAIR, PATH_OF_FIVE};
 use ghs_world::fault::{CommitFault, OutFault};
 use ghs_world::ticket::{Step, Ticket};
-use ghs_test_graphs::graphs::{HUB_AND_PAIR, PATH_OF_FIVE};
 use ghs_world::world::World;
 use peer_network::wake_set::WakeSet;
 use peer_schedule::schedule::Schedule;
@@ -226,7 +226,13 @@ fn after_for(rt: &impl Abort, alloc: Global, call: Call, events: &[Event]) -> Wo
     world_of_after(alloc, graph_for(call), events).expect(rt, "a run")
 }
 
-fn place_after(rt: &impl Abort, alloc: Global, call: Call, events: &[Event], event: Event) -> Place {
+fn place_after(
+    rt: &impl Abort,
+    alloc: Global,
+    call: Call,
+    events: &[Event],
+    event: Event,
+) -> Place {
     Place {
         world: after_for(rt, alloc, call, events),
         twin: after_for(rt, alloc, call, events),

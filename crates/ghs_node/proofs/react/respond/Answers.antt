@@ -24,15 +24,22 @@ returns-in_ok-begin-in-Test c =
     c.on_test.ensures)
 
 pub returns-in-Accept : goal.returns-in-Accept
-returns-in-Accept c = rw c.in-Accept.is (subst (λ o. Answers c.on_accept.result c.on_accept.new.delta o) (accept_answers _ c.args.port c.requires.node) c.on_accept.ensures)
+returns-in-Accept c =
+    rw c.in-Accept.is
+    (subst (λ o. Answers c.on_accept.result c.on_accept.new.delta o) (accept_answers _ c.args.port c.requires.node) c.on_accept.ensures)
 
 pub returns-in-Reject : goal.returns-in-Reject
-returns-in-Reject c = rw c.in-Reject.is (subst (λ o. Answers c.on_reject.result c.on_reject.new.delta o) (reject_answers _ c.args.port c.requires.node) c.on_reject.ensures)
+returns-in-Reject c =
+    rw c.in-Reject.is
+    (subst (λ o. Answers c.on_reject.result c.on_reject.new.delta o) (reject_answers _ c.args.port c.requires.node) c.on_reject.ensures)
 
 pub returns-in-Report : goal.returns-in-Report
 returns-in-Report c =
-    rw c.in-Report.is (subst (λ o. Answers c.on_report.result c.on_report.new.delta o) (report_answers _ c.args.port c.requires.node c.in-Report.key) c.on_report.ensures)
+    rw c.in-Report.is
+    (subst (λ o. Answers c.on_report.result c.on_report.new.delta o) (report_answers _ c.args.port c.requires.node c.in-Report.key)
+    c.on_report.ensures)
 
 pub returns-in-ChangeRoot : goal.returns-in-ChangeRoot
 returns-in-ChangeRoot c =
-    rw c.in-ChangeRoot.is (subst (λ o. Answers c.change_root.result c.change_root.new.delta o) (root_answers _ c.args.port c.requires.node) c.change_root.ensures)
+    rw c.in-ChangeRoot.is
+    (subst (λ o. Answers c.change_root.result c.change_root.new.delta o) (root_answers _ c.args.port c.requires.node) c.change_root.ensures)
