@@ -1,10 +1,10 @@
 -- Whether a Take moves a run on, by the first message of its queue.
-use Rattle.std.proofs.Common.{◌≡◌, ℕ, Bool, true, false, not, List, [], ◌∷◌, Option, Some, None, refl, sym, ◌∙◌, ap}
+use Rattle.std.proofs.Common.{◌≡◌, ℕ, Bool, false, not, List, [], ◌∷◌, Some, None, refl, ap}
 use Rattle.std.specs.List.{slice_get}
 use Rattle.std.proofs.lemmas.Option.{same_Some}
 use Rattle.ghs_node.specs.declared.message.Message.{Message}
 use Rattle.peer_network.specs.declared.event.Event.TheVariants.{Take}
-use Rattle.peer_network.specs.Network.{At, Network, is_port}
+use Rattle.peer_network.specs.Network.{At, Network}
 use Rattle.peer_network.proofs.lemmas.Events.{is_port_of}
 use Rattle.ghs_protocol.specs.Net.{Net}
 use Rattle.ghs_core.specs.Waits.{waits}

@@ -1,6 +1,4 @@
 use Rattle.std.proofs.Common.{◌∙◌, ap, not, sym, subst}
-use Rattle.peer_network.specs.declared.event.Event.{Event}
-use Rattle.peer_network.specs.Network.{At}
 use Rattle.ghs_core.specs.NetState.{net_of, network}
 use Rattle.peer_index.specs.Places.{HasPlace}
 use Rattle.ghs_patient.proofs.Going.{first_goes, none_goes}

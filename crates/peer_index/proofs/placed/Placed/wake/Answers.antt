@@ -1,7 +1,3 @@
-use Rattle.std.proofs.Common.{◌∙◌, ap}
-use Rattle.peer_network.specs.declared.event.Event.TheVariants.{Wake}
-use Rattle.peer_network.specs.Network.{Network}
-use Rattle.peer_index.specs.Places.{IsPlaced, place}
 use Rattle.peer_index.proofs.lemmas.Places.{of_own_node}
 use Rattle.peer_index.proofs.placed.Placed.wake.Goals as goal
 
