@@ -3,8 +3,8 @@
 //! Tests alone.
 //!
 //! Graph texts (`graph_texts`) have the fault that docs/FORMATS.md gives each, and are read from readers of all kinds and
-//! by `judge`; `trees` has logarithms, bounds, ports and forests, of graphs that are small enough to check by hand
-//! (`ghs_test_graphs`).
+//! by `judge`, and so are their numbers (`digits`); `trees` has logarithms, bounds, ports and forests, of graphs that are
+//! small enough to check by hand (`ghs_test_graphs`).
 //!
 //! The reactions (`rows`, `paths`) are of node 2 of a small graph (`fixtures`), found by hand from the table in
 //! docs/PROTOCOL.md. The picks are what SplitMix64 and Xoshiro256++ give as their authors publish them. Boards are also

@@ -39,8 +39,8 @@ plain text r1 r2 rest u v w a b c =
 
 -- the number that the first n bytes are, with a byte behind it
 pub number_cut : (end : ℕ) (text rest : List ℕ) (value n : ℕ) → 1 ≤ n → n < length text → all_ascii_digits (take n text) ≡ true
-    → value ≡ digits_value 10 (take n text) → value < 2 ^ 32 → slice_index text n ≡ end
-    → rest ≡ drop (n + 1) text → IsNumberBefore end text value rest
+    → value ≡ digits_value 10 (take n text) → value < 2 ^ 32 → slice_index text n ≡ end → rest ≡ drop (n + 1) text
+    → IsNumberBefore end text value rest
 number_cut end text rest value n some within digits is small here behind =
     let long : length (take n text) ≡ n = omega (arith, length-take n text) in
     record {
