@@ -13,8 +13,8 @@ const LANES: usize = 32;
 /// Eight digits 0, one a byte.
 const ZEROS: u64 = 0x3030_3030_3030_3030;
 
-/// A bit for each byte at the front, from the lowest on, which is 1 where the byte is no digit. Of a text of few bytes
-/// nothing is said.
+/// A bit for each byte at the front, from the lowest on, which is 1 where the byte is no digit. Where there are few bytes,
+/// nothing is said of them: no bit is 1.
 pub fn stops_in(text: &[u8]) -> u64
     ensures { AreStops result text.now }
 {
@@ -24,6 +24,7 @@ pub fn stops_in(text: &[u8]) -> u64
     stops_of(u8x32::from_slice(text))
 }
 
+/// A bit for each of these bytes, from the lowest on, which is 1 where the byte is no digit.
 fn stops_of(bytes: u8x32) -> u64
     ensures { result ≡ mask_l (map is_stop bytes) }
 {

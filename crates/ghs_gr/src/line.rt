@@ -54,8 +54,8 @@ fn plain_arc(text: &[u8]) -> Option<(Arc, &[u8])>
     Some((Arc { from, to, weight }, rest))
 }
 
-/// The plain number of the digits at the front, where this byte stands right behind them, what is behind that byte, and
-/// which bytes there are no digits, as far as it is told of the whole text.
+/// The plain number of the digits at the front, where this byte stands right behind them, and what is behind that byte.
+/// Of both texts, bits say which bytes are no digits, as far as is known.
 fn number_before(end: u8, text: &[u8], stops: u64) -> Option<(u32, &[u8], u64)>
     requires { AreStops stops text.now }
     ensures number { IfSome result (λ x. IsNumberBefore end text.now x.0 x.1.now) }
@@ -74,7 +74,7 @@ fn number_before(end: u8, text: &[u8], stops: u64) -> Option<(u32, &[u8], u64)>
     }
 }
 
-/// The same of a text whose digits are too many or too close to its end to be read together.
+/// The same, byte by byte: of more digits than are read together, or close to the end of the text.
 fn number_by_bytes(end: u8, text: &[u8]) -> Option<(u32, &[u8])>
     ensures { IfSome result (λ x. IsNumberBefore end text.now x.0 x.1.now) }
 {
