@@ -1,10 +1,9 @@
 -- What is told of every run by rounds.
-use Rattle.std.proofs.Common.{◌≡◌, ◌≢◌, ℕ, zero, suc, ◌<◌, ◌≤◌, ◌+◌, Bool, true, false, max, Some, None, Option, List, [], ◌∷◌, ◌++◌, length, filter, refl, sym, ◌∙◌, ap, subst, ⊎_elim, inl, inr, ◌⊎◌, arith}
+use Rattle.std.proofs.Common.{◌≡◌, ◌≢◌, ℕ, zero, suc, ◌<◌, ◌≤◌, Bool, true, Some, None, Option, List, [], ◌∷◌, ◌++◌, length, refl, ◌∙◌, ap, subst, ⊎_elim, inl, inr, ◌⊎◌, arith}
 use Rattle.std.specs.Prelude.{IsSome}
-use Rattle.std.specs.List.{All, Contains}
+use Rattle.std.specs.List.{Contains}
 use Rattle.std.proofs.lemmas.Bool.{cases_eq}
 use Rattle.std.proofs.lemmas.List.Elements.{All-nil}
-use Rattle.ghs_graph.specs.Bound.{IsBound}
 use Rattle.ghs_graph.specs.Graph.{Shape, IsGraph}
 use Rattle.ghs_graph.proofs.lemmas.Members.{filter_has, nothing_in}
 use Rattle.ghs_node.specs.declared.delta.Delta.{Delta}
@@ -16,27 +15,26 @@ use Rattle.peer_network.specs.declared.event.Event.{Event}
 use Rattle.peer_network.specs.declared.event.Event.TheVariants.{Wake, Take}
 use Rattle.ghs_protocol.specs.Interleavings.{EventsHaveRules}
 use Rattle.ghs_protocol.specs.Laws.{IsNetOf}
-use Rattle.ghs_protocol.specs.Marks.{HasEnded, HasHalted}
-use Rattle.ghs_protocol.specs.Net.{Net, effect, happens, is_lawful, is_lawful_under, opening}
+use Rattle.ghs_protocol.specs.Marks.{HasEnded}
+use Rattle.ghs_protocol.specs.Net.{Net, effect, happens, is_lawful, opening}
 use Rattle.peer_network.specs.Events.{event_node}
-use Rattle.peer_network.specs.Network.{At, Network, network_of}
-use Rattle.ghs_protocol.specs.Run.{IsAfter, IsRun, net_after, run}
+use Rattle.peer_network.specs.Network.{Network, network_of}
+use Rattle.ghs_protocol.specs.Run.{IsAfter, IsRun, net_after}
 use Rattle.ghs_protocol.specs.Schedules.{PatienceLasts}
 use Rattle.peer_network.specs.Wakes.{AllMayWake}
 use Rattle.ghs_protocol.specs.Steps.{Happens, Woke, Took}
-use Rattle.ghs_protocol.proofs.lemmas.Events.{happening, happens_so, lawful_happens}
+use Rattle.ghs_protocol.proofs.lemmas.Events.{happening, lawful_happens}
 use Rattle.peer_network.proofs.lemmas.Events.{is_port_of}
-use Rattle.ghs_protocol.proofs.lemmas.Runs.{after_is_net, after_more, lawful_under, net_after_is, net_after_more}
+use Rattle.ghs_protocol.proofs.lemmas.Runs.{after_is_net, after_more, lawful_under, net_after_is}
 use Rattle.ghs_core.specs.NetState.{delivery, work_at}
 use Rattle.peer_index.specs.Places.{HasPlace, all_events}
 use Rattle.peer_index.proofs.lemmas.Listed.{listed}
-use Rattle.peer_schedule.specs.Picks.{IsPick}
-use Rattle.ghs_chain.specs.Chains.{Chains, answered, chains_after, chains_of, chains_then, hears, longest_chain, most_below, no_chains, reacted}
-use Rattle.ghs_chain.proofs.lemmas.Bounding.{IsWithin, most_within}
+use Rattle.ghs_chain.specs.Chains.{Chains, answered, chains_after, chains_of, hears, longest_chain, most_below, no_chains, reacted}
+use Rattle.ghs_chain.proofs.lemmas.Bounding.{most_within}
 use Rattle.ghs_chain.proofs.lemmas.Following.{chains_more}
 use Rattle.ghs_patient.specs.Patience.{or_else}
 use Rattle.ghs_patient.proofs.lemmas.Picks.{some_patient}
-use Rattle.ghs_rounds.specs.Rounds.{events_in, hides_due, moves_due, round_events}
+use Rattle.ghs_rounds.specs.Rounds.{events_in, hides_due, moves_due}
 use Rattle.ghs_rounds.specs.Runs.{Begun, IsPickedByRounds, Over, Picked}
 use Rattle.ghs_chain.proofs.lemmas.Lengths.{SameLengths, same_lengths}
 use Rattle.ghs_rounds.proofs.Picked.{lawful_pick, picked}

@@ -1,4 +1,4 @@
-use Rattle.std.proofs.Common.{◌≡◌, ◌∙◌, [], Some, arith, filter, subst, sym}
+use Rattle.std.proofs.Common.{◌≡◌, [], Some, arith, filter, subst, sym}
 use Rattle.std.specs.List.{slice_get}
 use Rattle.ghs_graph.specs.Graph.{Shape}
 use Rattle.peer_network.specs.Network.{network_of}
