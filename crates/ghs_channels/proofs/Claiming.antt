@@ -57,28 +57,30 @@ module _ (far : List ℕ) (ss : Outgoing) (i : ℕ) (old qs : List QueueState) (
   at_place : get_or qs place x ≡ get_or qs place no_queue
   at_place = get_or_default qs place x no_queue inside
 
+  list_was : (get_or qs place x).list ≡ (get_or qs place no_queue).list
+  list_was = ap (λ (q : QueueState). q.list) at_place
+
+  room_was : (get_or qs place x).room ≡ (get_or qs place no_queue).room
+  room_was = ap (λ (q : QueueState). q.room) at_place
+
+  pub kept_more : r.list ≡ (get_or qs (get_or far s.0 0) x).list → (get_or qs (get_or far s.0 0) x).room ≤ r.room →
+      KeepsEach old (set qs (get_or far s.0 0) r)
+  kept_more list more j =
+      ⊎_elim
+      (λ (z : j ≡ place).
+      let now = get_or-set_same qs place r no_queue inside in
+      let k = claimed.kept place in
+      rw z (rw now (list ∙ list_was ∙ k.0, let b = k.1 in omega (arith, more, room_was, b))))
+      (λ ne. rw (get_or-set_other qs place j r no_queue ne) (claimed.kept j))
+      (cases_eq j place)
+
   pub claimed_more :
       r.list ≡ (get_or qs (get_or far s.0 0) x).list →
       (get_or qs (get_or far s.0 0) x).room ≤ r.room →
       get_or claims s.0 0 + 1 ≤ r.room →
       Claimed far ss (i + 1) old (set qs (get_or far s.0 0) r) (set claims s.0 (get_or claims s.0 0 + 1))
-  claimed_more list more enough = record { kept = kept; counts = counts; room = room }
+  claimed_more list more enough = record { kept = kept_more list more; counts = counts; room = room }
     where
-      list_was : (get_or qs place x).list ≡ (get_or qs place no_queue).list
-      list_was = ap (λ (q : QueueState). q.list) at_place
-
-      room_was : (get_or qs place x).room ≡ (get_or qs place no_queue).room
-      room_was = ap (λ (q : QueueState). q.room) at_place
-
-      kept : KeepsEach old (set qs place r)
-      kept j = ⊎_elim
-          (λ (z : j ≡ place).
-          let now = get_or-set_same qs place r no_queue inside in
-          let k = claimed.kept place in
-          rw z (rw now (list ∙ list_was ∙ k.0, let b = k.1 in omega (arith, more, room_was, b))))
-          (λ ne. rw (get_or-set_other qs place j r no_queue ne) (claimed.kept j))
-          (cases_eq j place)
-
       counts : (k : ℕ) → get_or (set claims s.0 (get_or claims s.0 0 + 1)) k 0 ≡ count_on k (take (i + 1) ss)
       counts k = ⊎_elim
           (λ (z : k ≡ s.0).
@@ -131,16 +133,13 @@ module _ (far : List ℕ) (ss : Outgoing) (i : ℕ) (old qs : List QueueState) (
       let r = had s.0 port in
       omega (arith, here, few, count, kept, room, r, full)
 
--- the port of the message at hand, and the place of its far end
+-- the port of the message at hand
 pub its_port : (far : List ℕ) (ss : Outgoing) (i : ℕ) (s : ℕ × Message) →
     All (λ x. x.0 < length far) ss →
     i < length ss →
     s ≡ get_or ss i s →
     s.0 < length far
 its_port far ss i s all lt is = let P : ℕ × Message → Type 0 = λ x. x.0 < length far in subst P (sym is) (all i s lt)
-
-pub its_place : (far : List ℕ) (qs : List QueueState) (p n : ℕ) → All (λ i. i < n) far → p < length far → n ≡ length qs → get_or far p 0 < length qs
-its_place far qs p n all lt e = let a = all p 0 lt in omega (arith, a, e)
 
 pub claim_is : (claims : List ℕ) (p : ℕ) → p < length claims → get_or (set claims p (get_or claims p 0 + 1)) p 0 ≡ get_or claims p 0 + 1
 claim_is claims p lt = get_or-set_same claims p (get_or claims p 0 + 1) 0 lt

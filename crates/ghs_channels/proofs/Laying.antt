@@ -1,16 +1,16 @@
 -- Blocks of queues, one node after another.
 use Rattle.std.proofs.Common.{◌≡◌, ℕ, zero, suc, ◌+◌, ◌-◌, ◌<◌, ◌≤◌, List, [], ◌∷◌, ◌++◌, length, get_or, replicate, refl, sym, ◌∙◌, ap, ⊎_elim, arith, length-append}
 use Rattle.std.proofs.lemmas.Bool.{cases_lt, cases_eq}
-use Rattle.std.proofs.lemmas.List.{get_or_default, get_or_push, get_or_append_left, get_or-replicate, get_or_past, length-replicate}
+use Rattle.std.proofs.lemmas.List.{get_or_push, get_or_append_left, get_or-replicate, get_or_past, length-replicate, length-map, map-append}
 use Rattle.std.proofs.lemmas.List.FromFn.{length-range_with_len, get_or-range_with_len}
 use Rattle.std.proofs.lemmas.List.Sums.{sum_by-cons, sum_by_more, sum_by_more_le, sum_by-take-le}
 use Rattle.std.specs.List.{sum_by}
 use Rattle.ghs_graph.specs.Graph.{Shape, IsGraph, nodes_of}
 use Rattle.ghs_graph.specs.Ports.{ports_of}
 use Rattle.ghs_graph.proofs.lemmas.Degrees.{degrees_are_twice}
-use Rattle.ghs_channels.specs.Queue.{QueueState, no_queue}
+use Rattle.ghs_channels.specs.Queue.{QueueState, Slot, no_queue}
 use Rattle.ghs_channels.specs.Channels.{IsPort, IsFor, AllEmpty, port_of, total_of}
-use Rattle.ghs_channels.specs.Kept.{Laid, AreBlocks, AreInOrder, EachEmpty, IsKept, LeadFar, AreParts, port_at, seen}
+use Rattle.ghs_channels.specs.Kept.{Laid, AreBlocks, AreInOrder, EachEmpty, IsKept, LeadFar, AreParts, port_at, queues_in, places_in, seen}
 use Rattle.ghs_channels.proofs.lemmas.Ports.{far_port_is}
 use Rattle.ghs_channels.proofs.Places.{HasPlace, place_within, place_of_port, port_of_place, places_apart, has_place, place_has, state_is, destination_is, total_is, seen_count}
 
@@ -137,17 +137,6 @@ zeros_at n k =
     (λ le. get_or_past (replicate n 0) k 0 (omega (arith, length-replicate {A = ℕ} n 0, le)))
     (cases_lt k n)
 
--- where the last part ends
-pub last_part : (g : Shape) (starts : List ℕ) (widest n end : ℕ) →
-    AreBlocks g g.nodes starts widest →
-    n ≡ length starts →
-    end ≡ get_or starts (n - 1) end →
-    end ≡ get_or starts (g.nodes + 1) 0
-last_part g starts widest n end b len is =
-    let count = b.count in
-    let at : n - 1 ≡ g.nodes + 1 = omega (arith, count, len) in
-    is ∙ get_or_default starts (n - 1) end 0 (omega (arith, count, len)) ∙ ap (λ (i : ℕ). get_or starts i 0) at
-
 -- The queues of a graph, once its nodes have their parts.
 module _ (g : Shape) (graph : IsGraph g) (starts : List ℕ) (widest : ℕ) (b : AreBlocks g g.nodes starts widest) (qs : List QueueState)
     (e : length qs ≡ get_or starts (g.nodes + 1) 0) where
@@ -264,6 +253,18 @@ module _ (g : Shape) (graph : IsGraph g) (starts : List ℕ) (widest : ℕ) (b :
             (λ (le : v ≤ 0). let z : v ≡ 0 = omega arith in rw z (omega (arith, b.first, b.second)))
             (cases_lt 0 v)
 
+-- so many slots, with empty queues, and each leads to the far end
+pub record AreSlots (g : Shape) (starts : List ℕ) (slots : List Slot) (n : ℕ) : Type 0 where
+  pub count : length slots ≡ n
+  pub empty : EachEmpty (queues_in slots)
+  pub far : LeadFar g starts (places_in slots)
+
+empty_more : (qs : List QueueState) (q : QueueState) → EachEmpty qs → q.list ≡ [] → EachEmpty (qs ++ q ∷ [])
+empty_more [] q each none zero = none
+empty_more [] q each none (suc i) = refl
+empty_more (x ∷ qs) q each none zero = each 0
+empty_more (x ∷ qs) q each none (suc i) = empty_more qs q (λ k. each (suc k)) none i
+
 -- the next port of node i + 1
 pub next_port : (g : Shape) (i j : ℕ) → i < g.nodes → j < length (ports_of g.keys (i + 1)) → IsPort g (i + 1) j
 next_port g i j lt port = record { some = omega arith; node = omega arith; port = port }
@@ -276,9 +277,9 @@ pub far_inside : (g : Shape) →
 far_inside g graph starts parts v p lt =
     let there = far_port_is g graph v p lt in let node = there.node in let count = parts.1.count in omega (arith, node, count)
 
--- the place of a far end is few
+-- the place of a far end is few: three bytes hold it
 pub far_few : (g : Shape) → IsGraph g → (starts : List ℕ) → AreParts g starts → (v p : ℕ) → p < length (ports_of g.keys v) →
-    get_or starts (port_of g v p).far 0 + (port_of g v p).far_port ≤ 16777216
+    get_or starts (port_of g v p).far 0 + (port_of g v p).far_port < 16777216
 far_few g graph starts parts v p lt =
     let b = parts.1 in
     let there = far_port_is g graph v p lt in
@@ -290,19 +291,25 @@ far_few g graph starts parts v p lt =
     let up = b.rising ((port_of g v p).far + 1) (g.nodes + 1) (omega arith) (omega (arith, count)) in
     omega (arith, port, next, up, blocks_few g graph g.nodes starts parts.0 b)
 
-pub far_step : (g : Shape) →
+-- one slot more, whose queue is empty and which leads to the far end of the next port
+pub slot_step : (g : Shape) →
     IsGraph g →
     (starts : List ℕ) → AreParts g starts →
-    (far fs : List ℕ) (i j x : ℕ) → i < g.nodes →
+    (slots ss : List Slot) (q : Slot) (i j x : ℕ) → i < g.nodes →
     j < length (ports_of g.keys (i + 1)) →
-    LeadFar g starts far × (length far ≡ get_or starts (i + 1) 0 + j) →
+    AreSlots g starts slots (get_or starts (i + 1) 0 + j) →
     x ≡ get_or starts (port_of g (i + 1) j).far 0 + (port_of g (i + 1) j).far_port →
-    fs ≡ far ++ x ∷ [] →
-    LeadFar g starts fs × (length fs ≡ get_or starts (i + 1) 0 + (j + 1))
-far_step g graph starts parts far fs i j x lt port so_far is e =
-    let count = get_or starts (g.nodes + 1) 0 in
-    rw e (
-      far_more g graph starts parts.0 parts.1 (replicate count no_queue) (length-replicate count no_queue) far (i + 1) j x so_far.0
-          (next_port g i j lt port) so_far.1 is,
-      (let n = so_far.1 in omega (arith, n, length-append far (x ∷ []))),
-    )
+    q.queue.list ≡ [] →
+    q.far ≡ x →
+    ss ≡ slots ++ q ∷ [] →
+    AreSlots g starts ss (get_or starts (i + 1) 0 + (j + 1))
+slot_step g graph starts parts slots ss q i j x lt port so_far is none leads e =
+    let places : places_in ss ≡ places_in slots ++ q.far ∷ [] = ap places_in e ∙ map-append (λ (s : Slot). s.far) slots (q ∷ []) in
+    let queues : queues_in ss ≡ queues_in slots ++ q.queue ∷ [] = ap queues_in e ∙ map-append (λ (s : Slot). s.queue) slots (q ∷ []) in
+    record {
+      count = let n = so_far.count in rw e (omega (arith, n, length-append slots (q ∷ [])));
+      empty = rw queues (empty_more (queues_in slots) q.queue so_far.empty none);
+      far = rw places (far_more g graph starts parts.0 parts.1 (replicate (get_or starts (g.nodes + 1) 0) no_queue)
+          (length-replicate (get_or starts (g.nodes + 1) 0) no_queue) (places_in slots) (i + 1) j q.far so_far.far (next_port g i j lt port)
+          (length-map slots (λ (s : Slot). s.far) ∙ so_far.count) (leads ∙ is));
+    }

@@ -4,3 +4,5 @@ mod Places
 mod Laying
 mod Claiming
 mod Reserving
+mod Slots
+mod SlotClaims

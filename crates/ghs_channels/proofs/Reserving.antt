@@ -1,5 +1,5 @@
 -- What a reserve leaves as it was, and where it makes room.
-use Rattle.std.proofs.Common.{◌≡◌, ◌≢◌, ℕ, ◌+◌, ◌-◌, ◌<◌, ◌≤◌, ◌==◌, List, [], ◌∷◌, ◌++◌, length, get_or, take, drop, min, cond, refl, sym, ◌∙◌, ap, ⊎_elim, ne_eqb, arith, suc, length-take, length-drop}
+use Rattle.std.proofs.Common.{◌≡◌, ◌≢◌, ℕ, ◌+◌, ◌-◌, ◌<◌, ◌==◌, List, [], ◌∷◌, ◌++◌, length, get_or, take, drop, min, cond, refl, sym, ◌∙◌, ap, ⊎_elim, ne_eqb, arith, suc, length-take, length-drop}
 use Rattle.std.specs.List.{All, sum_by}
 use Rattle.std.proofs.lemmas.Bool.{cases_lt}
 use Rattle.std.proofs.lemmas.List.{get_or_default, get_or-take, get_or-drop}
@@ -11,7 +11,7 @@ use Rattle.ghs_channels.specs.Queue.{QueueState, no_queue}
 use Rattle.ghs_channels.specs.Channels.{KeepsLists, GoOut, HasRoomFor, first_queue, state_at, destination_of}
 use Rattle.ghs_channels.specs.Kept.{Laid, AreInOrder, IsKept, KeepsEach, HasRoomAt, count_on, start_of, port_at, seen}
 use Rattle.ghs_channels.proofs.lemmas.Ports.{same_destination}
-use Rattle.ghs_channels.proofs.Places.{HasPlace, ends, first_is, place_within, has_place, place_has, place_of_port, state_is, destination_is, total_is, seen_count, same_ports, still_in_order}
+use Rattle.ghs_channels.proofs.Places.{HasPlace, first_is, place_within, has_place, place_has, place_of_port, state_is, destination_is, total_is, seen_count, same_ports, still_in_order}
 
 -- a list that was written over whole
 pub written_over : {X : Type 0} (n : ℕ) (ws xs : List X) → n ≡ length xs → length ws ≡ length xs → take n (ws ++ drop (length ws) xs) ≡ ws
@@ -86,14 +86,6 @@ module _ (l : Laid) (order : AreInOrder l) (v start : ℕ) (node : v < length (s
   start_is : start ≡ start_of l v
   start_is = told ∙ first_is l order v (let n = next_inside in omega arith)
 
-  pub start_within : start ≤ length l.far
-  start_within =
-      let n = next_inside in
-      let z = start_is in
-      let end = ends l order v (omega arith) in
-      let wide = order.wide in
-      omega arith
-
   stretch_length : length stretch ≡ min (length claims) (length l.far - start)
   stretch_length = length-take (length claims) (drop start l.far) ∙ ap (min (length claims)) (length-drop start l.far)
 
@@ -126,9 +118,6 @@ module _ (l : Laid) (order : AreInOrder l) (v start : ℕ) (node : v < length (s
 
   pub ports_in_stretch : (ss : Outgoing) → GoOut (seen l) v ss → All (λ s. s.0 < length stretch) ss
   ports_in_stretch ss out i d lt = in_stretch (get_or ss i d).0 (has_place l order v (get_or ss i d).0 (out i d lt))
-
-  pub stretch_few : length stretch ≤ length claims
-  stretch_few = let w = stretch_length in omega arith
 
   -- where there is room at the destinations
   far_room : (rs : List QueueState) → length rs ≡ length l.queues → (p : ℕ) → HasPlace l v p →

@@ -1,10 +1,10 @@
 -- How all queues are laid out, and what their fields keep.
-use Rattle.std.specs.Prelude.{◌≡◌, ℕ, ◌+◌, ◌-◌, ◌<◌, ◌≤◌, ◌==◌, nat_le, List, [], length, map, take, count_by, slice_index, slice_index_or}
+use Rattle.std.specs.Prelude.{◌≡◌, ℕ, ◌+◌, ◌-◌, ◌<◌, ◌≤◌, ◌==◌, nat_le, List, [], length, map, take, drop, count_by, slice_index, slice_index_or}
 use Rattle.std.specs.List.{range_with_len, slice_range, sum_by}
 use Rattle.ghs_graph.specs.Graph.{Shape, nodes_of}
 use Rattle.ghs_graph.specs.Ports.{ports_of}
 use Rattle.ghs_node.specs.Words.{Outgoing}
-use Rattle.ghs_channels.specs.Queue.{QueueState, no_queue}
+use Rattle.ghs_channels.specs.Queue.{QueueState, Slot, no_queue}
 use Rattle.ghs_channels.specs.Channels.{ChannelsState, IsPort, port_of}
 
 -- All queues in one list, node by node; where those of each node begin, with an end; and for each queue the place of the one at the
@@ -13,6 +13,20 @@ pub record Laid : Type 0 where
   pub starts : List ℕ
   pub queues : List QueueState
   pub far : List ℕ
+
+-- of each slot its queue, and the place that it leads to
+abbrev pub queues_in : List Slot → List QueueState
+queues_in = map (λ s. s.queue)
+
+abbrev pub places_in : List Slot → List ℕ
+places_in = map (λ s. s.far)
+
+abbrev pub laid : List ℕ → List Slot → Laid
+laid starts slots = record { starts = starts; queues = queues_in slots; far = places_in slots }
+
+-- the places that the slots from one on lead to, so many at most
+abbrev pub places_from : ℕ → ℕ → List Slot → List ℕ
+places_from start most slots = take most (drop start (places_in slots))
 
 abbrev pub start_of : Laid → ℕ → ℕ
 start_of l v = slice_index l.starts v

@@ -1,7 +1,7 @@
 //! Where the queues of each node stand.
-ghost use Rattle.std.specs.Prelude.{◌≡◌, ◌+◌, ◌≤◌, length, take, drop, slice_index, IfOk};
+ghost use Rattle.std.specs.Prelude.{◌≡◌, ◌+◌, length, slice_index, IfOk};
 ghost use Rattle.ghs_graph.specs.Graph.{IsGraph};
-ghost use Rattle.ghs_channels.specs.Kept.{AreBlocks, AreParts, LeadFar, EachEmpty};
+ghost use Rattle.ghs_channels.specs.Kept.{AreBlocks, AreParts, LeadFar, EachEmpty, queues_in, places_in};
 
 use crate::queue::Queue;
 use ghs_graph::graph::Graph;
@@ -34,39 +34,19 @@ pub fn lay_blocks(alloc: Global, graph: &Graph) -> Result<Blocks, AllocError>
     Ok(Blocks { starts, widest })
 }
 
-/// So many queues without a message.
-pub fn empty_queues(alloc: Global, count: usize) -> Result<Vec<Queue>, AllocError>
-    ensures count { IfOk result (λ q. length q.items ≡ count) }
-    ensures empty { IfOk result (λ q. EachEmpty q.items) }
-{
-    let mut queues = Vec::with_capacity(alloc, count)?;
-    for _ in 0..count {
-        queues.push(Queue::new())?;
-    }
-    Ok(queues)
-}
-
-/// For each queue the place of the one at the far end of its link.
-pub fn far_places(alloc: Global, graph: &Graph, starts: &[u32]) -> Result<Vec<u32>, AllocError>
+/// A queue without a message for each port, with the place of the one at the far end of its link.
+pub fn empty_queues(alloc: Global, graph: &Graph, starts: &[u32]) -> Result<Vec<Queue>, AllocError>
     requires { AreParts graph.now starts.now }
-    ensures count { IfOk result (λ f. length f.items ≡ slice_index starts.now (graph.now.nodes + 1)) }
-    ensures far { IfOk result (λ f. LeadFar graph.now starts.now f.items) }
+    ensures count { IfOk result (λ q. length q.items ≡ slice_index starts.now (graph.now.nodes + 1)) }
+    ensures empty { IfOk result (λ q. EachEmpty (queues_in q.items)) }
+    ensures far { IfOk result (λ q. LeadFar graph.now starts.now (places_in q.items)) }
 {
     let nodes = graph.nodes();
-    let mut far = Vec::with_capacity(alloc, starts[nodes as usize + 1] as usize)?;
+    let mut queues = Vec::with_capacity(alloc, starts[nodes as usize + 1] as usize)?;
     for i in 0..nodes {
         for port in graph.ports(i + 1) {
-            far.push(starts[port.far as usize] + port.far_port)?;
+            queues.push(Queue::new(starts[port.far as usize] + port.far_port))?;
         }
     }
-    Ok(far)
-}
-
-/// So many numbers of a list from a place on; fewer, where the list ends before.
-pub fn stretch(list: &[u32], from: usize, most: usize) -> &[u32]
-    requires { from ≤ length list.now }
-    ensures { result.now ≡ take most (drop from list.now) }
-{
-    let rest = &list[from..];
-    &rest[..rest.len().min(most)]
+    Ok(queues)
 }

@@ -3,7 +3,7 @@ ghost use Rattle.std.specs.Prelude.{◌≡◌, ℕ, ◌+◌, ◌-◌, ◌<◌, �
 ghost use Rattle.ghs_channels.specs.Queue.{pushed, taken, requeued, counted};
 ghost use Rattle.ghs_channels.specs.Channels.{HasQueue, first_queue, IsFor, AllEmpty, Changes, KeepsLists, GoOut, HasRoomFor, state_at, queue_at, room_at, total_of, destination_of};
 
-use crate::blocks::{Blocks, empty_queues, far_places, lay_blocks, stretch};
+use crate::blocks::{Blocks, empty_queues, lay_blocks};
 use crate::claims::make_room;
 use crate::queue::Queue;
 use ghs_graph::graph::Graph;
@@ -18,9 +18,8 @@ pub struct Channels {
     alloc: Global,
     /// Where the queues of each number begin; 0 is no node.
     starts: Vec<u32>,
+    /// Each with the place of the one at the far end of its link.
     queues: Vec<Queue>,
-    /// For each queue the place of the one at the far end of its link.
-    far: Vec<u32>,
     /// For each port of a node, how much room the reserve at hand has asked for at its far end.
     claims: Vec<usize>,
     total: u64,
@@ -28,13 +27,13 @@ pub struct Channels {
 
 impl Model for Channels {
     ghost use Rattle.ghs_channels.specs.Channels.{ChannelsState};
-    ghost use Rattle.ghs_channels.specs.Kept.{IsKept, seen};
+    ghost use Rattle.ghs_channels.specs.Kept.{IsKept, laid, seen};
 
     ghost Value = { ChannelsState };
 
-    ghost view = { λ l. seen (record { starts = l.starts.items; queues = l.queues.items; far = l.far.items }) };
+    ghost view = { λ l. seen (laid l.starts.items l.queues.items) };
 
-    ghost invariant = { λ l. IsKept (record { starts = l.starts.items; queues = l.queues.items; far = l.far.items }) l.claims.items l.total };
+    ghost invariant = { λ l. IsKept (laid l.starts.items l.queues.items) l.claims.items l.total };
 }
 
 impl Channels {
@@ -53,14 +52,12 @@ impl Channels {
         ensures total { IfOk result (λ l. total_of l ≡ 0) }
     {
         let Blocks { starts, widest } = lay_blocks(alloc, graph)?;
-        let queues = empty_queues(alloc, starts[starts.len() - 1] as usize)?;
-        let far = far_places(alloc, graph, &starts)?;
+        let queues = empty_queues(alloc, graph, &starts)?;
         let claims = vec![in alloc; 0usize; widest]?;
         Ok(Channels {
             alloc,
             starts,
             queues,
-            far,
             claims,
             total: 0,
         })
@@ -100,9 +97,13 @@ impl Channels {
         ensures room { OnOk result (HasRoomFor v sends.now self.new) }
         ensures full { OnErr result (HasRoomFor v sends.now self.old → ⊥) }
     {
-        // No node has more ports than there are claims.
-        let far = stretch(&self.far, start as usize, self.claims.len());
-        make_room(self.alloc, far, &mut self.queues, &mut self.claims, sends)
+        make_room(
+            self.alloc,
+            start as usize,
+            &mut self.queues,
+            &mut self.claims,
+            sends,
+        )
     }
 
     /// Sends a message out on a port: it is appended to the queue at the far end. Takes no memory.
@@ -123,7 +124,7 @@ impl Channels {
         requires total { total_of self.old < 2 ^ 64 - 1 }
         ensures { let to = destination_of self.old v port in Changes self.old self.new to.0 to.1 (pushed (state_at self.old to.0 to.1) message) }
     {
-        let to = self.far[start as usize + port as usize];
+        let to = self.queues[start as usize + port as usize].far();
         self.queues[to as usize].push(message);
         self.total += 1;
     }

@@ -2,30 +2,30 @@
 ghost use Rattle.std.specs.Prelude.{◌≡◌, ℕ, ◌<◌, ◌≤◌, length, slice_index, slice_index_or, OnOk, OnErr};
 ghost use Rattle.std.specs.List.{All};
 ghost use Rattle.ghs_channels.specs.Queue.{no_queue};
-ghost use Rattle.ghs_channels.specs.Kept.{ClaimsOnly, KeepsEach, HasRoomAt, count_on};
+ghost use Rattle.ghs_channels.specs.Kept.{ClaimsOnly, KeepsEach, HasRoomAt, count_on, places_from, places_in, queues_in};
 
 use crate::queue::Queue;
 use ghs_node::message::Message;
 use std::alloc::{AllocError, Global};
 
-/// Makes room at the far ends of a node's ports, which have these places, for what goes out on them.
+/// Makes room at the far ends of the ports of a node, whose queues begin at `start`, for what goes out on them.
 pub fn make_room(
     alloc: Global,
-    far: &[u32],
+    start: usize,
     queues: &mut [Queue],
     claims: &mut [usize],
     sends: &[(u32, Message)],
 ) -> Result<(), AllocError>
-    requires ports { All (λ s. s.0 < length far.now) sends.now }
-    requires wide { length far.now ≤ length claims.old }
-    requires among { All (λ i. i < length queues.old) far.now }
+    requires ports { All (λ s. s.0 < length (places_from start (length claims.old) queues.old)) sends.now }
+    requires among { All (λ i. i < length queues.old) (places_from start (length claims.old) queues.old) }
     requires unclaimed { (k : ℕ) → slice_index claims.old k ≡ 0 }
-    ensures kept { KeepsEach queues.old queues.new }
-    ensures room { OnOk result (HasRoomAt far.now sends.now queues.new) }
-    ensures full { OnErr result (HasRoomAt far.now sends.now queues.old → ⊥) }
+    ensures kept { KeepsEach (queues_in queues.old) (queues_in queues.new) }
+    ensures places { places_in queues.new ≡ places_in queues.old }
+    ensures room { OnOk result (HasRoomAt (places_from start (length claims.old) queues.old) sends.now (queues_in queues.new)) }
+    ensures full { OnErr result (HasRoomAt (places_from start (length claims.old) queues.old) sends.now (queues_in queues.old) → ⊥) }
     ensures unclaimed { (k : ℕ) → slice_index claims.new k ≡ 0 }
 {
-    let granted = claim(alloc, far, queues, claims, sends);
+    let granted = claim(alloc, start, queues, claims, sends);
     unclaim(claims, sends);
     granted
 }
@@ -33,24 +33,25 @@ pub fn make_room(
 /// The claims say afterwards, for each port, how many messages have been seen to go out on it.
 fn claim(
     alloc: Global,
-    far: &[u32],
+    start: usize,
     queues: &mut [Queue],
     claims: &mut [usize],
     sends: &[(u32, Message)],
 ) -> Result<(), AllocError>
-    requires ports { All (λ s. s.0 < length far.now) sends.now }
-    requires wide { length far.now ≤ length claims.old }
-    requires among { All (λ i. i < length queues.old) far.now }
+    requires ports { All (λ s. s.0 < length (places_from start (length claims.old) queues.old)) sends.now }
+    requires among { All (λ i. i < length queues.old) (places_from start (length claims.old) queues.old) }
     requires unclaimed { (k : ℕ) → slice_index claims.old k ≡ 0 }
-    ensures kept { KeepsEach queues.old queues.new }
-    ensures room { OnOk result (HasRoomAt far.now sends.now queues.new) }
-    ensures full { OnErr result (HasRoomAt far.now sends.now queues.old → ⊥) }
+    ensures kept { KeepsEach (queues_in queues.old) (queues_in queues.new) }
+    ensures places { places_in queues.new ≡ places_in queues.old }
+    ensures room { OnOk result (HasRoomAt (places_from start (length claims.old) queues.old) sends.now (queues_in queues.new)) }
+    ensures full { OnErr result (HasRoomAt (places_from start (length claims.old) queues.old) sends.now (queues_in queues.old) → ⊥) }
     ensures claims { ClaimsOnly sends.now claims.new }
 {
     for (port, _) in sends {
         let at = *port as usize;
         claims[at] += 1;
-        queues[far[at] as usize].reserve(alloc, claims[at])?;
+        let far = queues[start + at].far() as usize;
+        queues[far].reserve(alloc, claims[at])?;
     }
     Ok(())
 }

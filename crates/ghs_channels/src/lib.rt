@@ -12,4 +12,5 @@ mod blocks;
 pub mod channels;
 mod claims;
 mod line;
+mod place;
 mod queue;

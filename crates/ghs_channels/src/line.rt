@@ -2,22 +2,23 @@
 ghost use Rattle.std.specs.Prelude.{◌≡◌, ◌-◌, ◌≤◌, [], IfOk};
 ghost use Rattle.std.specs.VecDeque.{deque_len, deque_capacity};
 
+use crate::place::Place;
 use ghs_node::message::Message;
 use std::alloc::{AllocError, Global};
 use std::collections::VecDeque;
 
 /// Messages that wait, and whether there is memory for more. Most queues never have two at a time, so what is behind a
-/// first message lies elsewhere, once there is room for it.
+/// first message lies elsewhere, once there is room for it. Before them stands the place of the far end.
 #[derive(Debug, Drop)]
 pub(crate) enum Line {
     /// Nothing waits, and there is room for one.
-    Empty,
+    Empty(Place),
     /// One message waits, and there is no room.
-    One(Message),
+    One(Place, Message),
     /// Nothing waits. There is room for one, and elsewhere, where nothing waits either, for more behind it.
-    EmptyBeside(Box<VecDeque<Message>>),
+    EmptyBeside(Place, Box<VecDeque<Message>>),
     /// A first message, and what waits behind it.
-    OneBeside(Message, Box<VecDeque<Message>>),
+    OneBeside(Place, Message, Box<VecDeque<Message>>),
 }
 
 /// No message, and room for `additional`.

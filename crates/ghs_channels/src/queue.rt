@@ -1,16 +1,18 @@
 //! One list of messages.
-ghost use Rattle.std.specs.Prelude.{◌≡◌, ℕ, ◌+◌, ◌-◌, ◌<◌, ◌≤◌, [], length, slice_get, OnOk, OnErr};
-ghost use Rattle.ghs_channels.specs.Queue.{QueueState, pushed, taken, requeued};
+ghost use Rattle.std.specs.Prelude.{◌≡◌, ℕ, ◌+◌, ◌-◌, ◌<◌, ◌≤◌, ◌^◌, [], length, slice_get, OnOk, OnErr};
+ghost use Rattle.ghs_channels.specs.Queue.{QueueState, Slot, pushed, taken, requeued};
 
 use crate::line::{Line, room_behind};
+use crate::place::Place;
 use ghs_node::message::Message;
 use std::alloc::{AllocError, Global};
 use std::marker::Model;
 use std::mem;
 
-/// Messages that wait, the first come first. Its room is for how many more there is memory. The first message
-/// stands in the queue itself, so that a queue in which no second one waits takes no memory of its own. One tag says
-/// whether there is a first message and whether there is memory for more: so a queue takes 32 bytes.
+/// Messages that wait, the first come first, and the place of the queue at the far end of the link. Its room is for
+/// how many more there is memory. The first message stands in the queue itself, so that a queue in which no second one
+/// waits takes no memory of its own. One tag says whether there is a first message and whether there is memory for more,
+/// and the place fills the gap behind it: so a queue takes 32 bytes.
 #[derive(Debug, Drop)]
 pub struct Queue {
     line: Line,
@@ -19,67 +21,86 @@ pub struct Queue {
 const _: () = prove!(mem::size_of::<Queue>() == 32);
 
 impl Model for Queue {
-    ghost use Rattle.ghs_channels.specs.Queue.{QueueState, in_line, IsLine};
+    ghost use Rattle.ghs_channels.specs.Queue.{Slot, in_line, far_of_line, IsLine};
 
-    ghost Value = { QueueState };
+    ghost Value = { Slot };
 
-    ghost view = { λ q. in_line q.line };
+    ghost view = { λ q. record { queue = in_line q.line; far = far_of_line q.line } };
 
     ghost invariant = { λ q. IsLine q.line };
 }
 
 impl Queue {
-    /// No message, and room for one.
-    pub fn new() -> Queue
-        ensures { result.list ≡ [] }
+    /// No message, and room for one. The queue at the far end stands at `far`.
+    pub fn new(far: u32) -> Queue
+        requires { far < 2 ^ 24 }
+        ensures list { result.queue.list ≡ [] }
+        ensures far { result.far ≡ far }
     {
-        Queue { line: Line::Empty }
+        Queue {
+            line: Line::Empty(Place::of(far)),
+        }
+    }
+
+    /// Where the queue at the far end of the link stands.
+    pub fn far(&self) -> u32
+        ensures { result ≡ self.now.far }
+    {
+        match &self.line {
+            Line::Empty(far)
+            | Line::One(far, _)
+            | Line::EmptyBeside(far, _)
+            | Line::OneBeside(far, _, _) => far.get(),
+        }
     }
 
     /// How many messages wait.
     pub fn len(&self) -> u64
-        ensures { result ≡ length self.now.list }
+        ensures { result ≡ length self.now.queue.list }
     {
         match &self.line {
-            Line::OneBeside(_, rest) => 1 + rest.len() as u64,
-            Line::One(_) => 1,
+            Line::OneBeside(_, _, rest) => 1 + rest.len() as u64,
+            Line::One(_, _) => 1,
             _ => 0,
         }
     }
 
     /// The first message.
     pub fn front(&self) -> Option<Message>
-        ensures { result ≡ slice_get self.now.list 0 }
+        ensures { result ≡ slice_get self.now.queue.list 0 }
     {
         match &self.line {
-            Line::OneBeside(first, _) | Line::One(first) => Some(*first),
+            Line::OneBeside(_, first, _) | Line::One(_, first) => Some(*first),
             _ => None,
         }
     }
 
     /// Makes room for `additional` messages.
     pub fn reserve(&mut self, alloc: Global, additional: usize) -> Result<(), AllocError>
-        ensures list { self.new.list ≡ self.old.list }
-        ensures room { OnOk result (additional ≤ self.new.room) }
-        ensures kept { self.old.room ≤ self.new.room }
-        ensures full { OnErr result (self.old.room < additional) }
+        ensures list { self.new.queue.list ≡ self.old.queue.list }
+        ensures room { OnOk result (additional ≤ self.new.queue.room) }
+        ensures kept { self.old.queue.room ≤ self.new.queue.room }
+        ensures full { OnErr result (self.old.queue.room < additional) }
+        ensures far { self.new.far ≡ self.old.far }
     {
         match &mut self.line {
-            Line::OneBeside(_, rest) => rest.reserve(additional)?,
-            Line::One(first) => {
+            Line::OneBeside(_, _, rest) => rest.reserve(additional)?,
+            Line::One(far, first) => {
+                let far = *far;
                 let first = *first;
                 if additional > 0 {
-                    self.line = Line::OneBeside(first, room_behind(alloc, additional)?);
+                    self.line = Line::OneBeside(far, first, room_behind(alloc, additional)?);
                 }
             }
-            Line::EmptyBeside(rest) => {
+            Line::EmptyBeside(_, rest) => {
                 if additional > 1 {
                     rest.reserve(additional - 1)?;
                 }
             }
-            Line::Empty => {
+            Line::Empty(far) => {
+                let far = *far;
                 if additional > 1 {
-                    self.line = Line::EmptyBeside(room_behind(alloc, additional - 1)?);
+                    self.line = Line::EmptyBeside(far, room_behind(alloc, additional - 1)?);
                 }
             }
         }
@@ -88,39 +109,50 @@ impl Queue {
 
     /// One message more, the last.
     pub fn push(&mut self, message: Message)
-        requires { 0 < self.old.room }
-        ensures { self.new ≡ pushed self.old message }
+        requires { 0 < self.old.queue.room }
+        ensures queue { self.new.queue ≡ pushed self.old.queue message }
+        ensures far { self.new.far ≡ self.old.far }
     {
         match &mut self.line {
-            Line::OneBeside(_, rest) => rest.push_back_reserved(message),
-            Line::One(_) => (),
-            Line::EmptyBeside(_) => {
-                if let Line::EmptyBeside(rest) = mem::replace(&mut self.line, Line::Empty) {
-                    self.line = Line::OneBeside(message, rest);
+            Line::OneBeside(_, _, rest) => rest.push_back_reserved(message),
+            Line::One(_, _) => unreachable!(),
+            Line::EmptyBeside(far, _) => {
+                let far = *far;
+                if let Line::EmptyBeside(_, rest) = mem::replace(&mut self.line, Line::Empty(far)) {
+                    self.line = Line::OneBeside(far, message, rest);
                 }
             }
-            Line::Empty => self.line = Line::One(message),
+            Line::Empty(far) => {
+                let far = *far;
+                self.line = Line::One(far, message);
+            }
         }
     }
 
     /// Takes the first message out.
     pub fn take_front(&mut self) -> Option<Message>
-        ensures first { result ≡ slice_get self.old.list 0 }
-        ensures left { self.new ≡ taken self.old }
+        ensures first { result ≡ slice_get self.old.queue.list 0 }
+        ensures left { self.new.queue ≡ taken self.old.queue }
+        ensures far { self.new.far ≡ self.old.far }
     {
         match &mut self.line {
-            Line::OneBeside(first, rest) => {
+            Line::OneBeside(far, first, rest) => {
+                let far = *far;
                 let taken = *first;
                 if let Some(second) = rest.pop_front() {
                     *first = second;
-                } else if let Line::OneBeside(_, rest) = mem::replace(&mut self.line, Line::Empty) {
-                    self.line = Line::EmptyBeside(rest);
+                } else if let Line::OneBeside(_, _, rest) = mem::replace(
+                    &mut self.line,
+                    Line::Empty(far),
+                ) {
+                    self.line = Line::EmptyBeside(far, rest);
                 }
                 Some(taken)
             }
-            Line::One(first) => {
+            Line::One(far, first) => {
+                let far = *far;
                 let taken = *first;
-                self.line = Line::Empty;
+                self.line = Line::Empty(far);
                 Some(taken)
             }
             _ => None,
@@ -129,9 +161,10 @@ impl Queue {
 
     /// The first message goes to the end.
     pub fn requeue(&mut self)
-        ensures { self.new ≡ requeued self.old }
+        ensures queue { self.new.queue ≡ requeued self.old.queue }
+        ensures far { self.new.far ≡ self.old.far }
     {
-        if let Line::OneBeside(first, rest) = &mut self.line {
+        if let Line::OneBeside(_, first, rest) = &mut self.line {
             if let Some(second) = rest.pop_front() {
                 rest.push_back_reserved(*first);
                 *first = second;

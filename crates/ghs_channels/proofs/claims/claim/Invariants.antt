@@ -1,5 +1,6 @@
-use Rattle.ghs_channels.proofs.Claiming.{Claimed}
+use Rattle.std.proofs.Common.{length}
+use Rattle.ghs_channels.proofs.SlotClaims.{SlotsClaimed}
 use Rattle.ghs_channels.proofs.claims.claim.Given as goal
 
 abbrev pub invariant-loop-port : goal.invariant-loop-port
-invariant-loop-port l = Claimed l.far l.sends l.port-index l.fn.queues l.queues l.claims
+invariant-loop-port l = SlotsClaimed l.start (length l.fn.claims) l.sends l.port-index l.fn.queues l.queues l.claims

@@ -1,12 +1,13 @@
 use Rattle.std.proofs.Common.{arith, ap, refl, ◌∙◌}
 use Rattle.std.specs.List.{slice_get}
 use Rattle.ghs_channels.specs.Queue.{QueueState}
-use Rattle.ghs_channels.proofs.Places.{stands_at, state_found, port_told}
+use Rattle.ghs_channels.proofs.Places.{port_told}
+use Rattle.ghs_channels.proofs.Slots.{slot_stands, slot_state}
 use Rattle.ghs_channels.proofs.channels.Channels.front_from.Goals as goal
 
 pub index-requires : goal.index-requires
 index-requires c =
-    let s = stands_at _ c.self.invariant.order c.args.v c.args.port _ (rw (← c.self.view_is) at c.requires.port)
+    let s = slot_stands _ _ c.self.invariant.order c.args.v c.args.port _ (rw (← c.self.view_is) at c.requires.port)
     (port_told _ c.self.invariant.order c.args.v c.args.port _ (rw (← c.self.view_is) at c.requires.port)
     (rw (← c.self.view_is) at c.requires.start)) in
     omega (arith, s)
@@ -14,7 +15,7 @@ index-requires c =
 pub returns : goal.returns
 returns c =
     let state =
-    state_found _ c.self.invariant.order c.args.v c.args.port _ _ (rw (← c.self.view_is) at c.requires.port)
+    slot_state _ _ c.self.invariant.order c.args.v c.args.port _ _ (rw (← c.self.view_is) at c.requires.port)
     (port_told _ c.self.invariant.order c.args.v c.args.port _ (rw (← c.self.view_is) at c.requires.port)
     (rw (← c.self.view_is) at c.requires.start)) c.index.ensures in
     c.front.ensures ∙ ap (λ (q : QueueState). slice_get q.list 0) state ∙ rw c.self.view_is refl

@@ -1,6 +1,7 @@
 use Rattle.std.proofs.Common.{arith}
 use Rattle.ghs_channels.specs.Queue.{pushed}
-use Rattle.ghs_channels.proofs.Places.{stands, stands_at, state_found, changed_by, kept_with, total_is, pushed_length}
+use Rattle.ghs_channels.proofs.Places.{stands, total_is, pushed_length}
+use Rattle.ghs_channels.proofs.Slots.{slot_stands, slot_state, slot_changed, slot_kept}
 use Rattle.ghs_channels.proofs.channels.Channels.push.Goals as goal
 
 pub index-requires : goal.index-requires
@@ -10,12 +11,12 @@ index-requires c =
 
 pub index_mut-requires : goal.index_mut-requires
 index_mut-requires c =
-    let s = stands_at _ c.self.invariant.order c.args.v c.args.port _ (rw (← c.self.view_is) at c.requires.port) c.index.ensures in
+    let s = slot_stands _ _ c.self.invariant.order c.args.v c.args.port _ (rw (← c.self.view_is) at c.requires.port) c.index.ensures in
     omega (arith, s)
 
 pub push-requires : goal.push-requires
 push-requires c =
-    rw (state_found _ c.self.invariant.order c.args.v c.args.port _ _ (rw (← c.self.view_is) at c.requires.port) c.index.ensures
+    rw (slot_state _ _ c.self.invariant.order c.args.v c.args.port _ _ (rw (← c.self.view_is) at c.requires.port) c.index.ensures
     c.index_mut.ensures.value)
     (rw (← c.self.view_is) at c.requires.room)
 
@@ -27,12 +28,12 @@ overflow_add-self c =
 
 pub invariant_of-self : goal.invariant_of-self
 invariant_of-self c =
-    let s = stands_at _ c.self.invariant.order c.args.v c.args.port _ (rw (← c.self.view_is) at c.requires.port) c.index.ensures in
-    let more = pushed_length _ _ _ c.push.ensures in
-    kept_with _ _ _ _ _ _ _ c.self.invariant s c.index_mut.ensures.value (omega (arith, more))
+    let s = slot_stands _ _ c.self.invariant.order c.args.v c.args.port _ (rw (← c.self.view_is) at c.requires.port) c.index.ensures in
+    let more = pushed_length _ _ _ c.push.ensures.queue in
+    slot_kept _ _ _ _ _ _ _ _ c.self.invariant s c.index_mut.ensures.value c.push.ensures.far (omega (arith, more))
 
 pub returns : goal.returns
 returns c =
     rw (← c.self.view_is)
-    (changed_by _ c.self.invariant.order c.args.v c.args.port _ (λ q. pushed q c.args.message) _ _ (rw (← c.self.view_is) at c.requires.port)
-    c.index.ensures c.index_mut.ensures.value c.push.ensures)
+    (slot_changed _ _ c.self.invariant.order c.args.v c.args.port _ (λ q. pushed q c.args.message) _ _ (rw (← c.self.view_is) at c.requires.port)
+    c.index.ensures c.index_mut.ensures.value c.push.ensures.queue c.push.ensures.far)

@@ -1,37 +1,39 @@
 use Rattle.std.proofs.Common.{arith, ap, refl, ◌∙◌}
 use Rattle.std.specs.List.{slice_get}
 use Rattle.ghs_channels.specs.Queue.{QueueState, taken}
-use Rattle.ghs_channels.proofs.Places.{port_told, stands_at, state_found, changed_by, kept_with, taken_length, one_waits}
+use Rattle.ghs_channels.proofs.Places.{port_told, taken_length}
+use Rattle.ghs_channels.proofs.Slots.{slot_stands, slot_state, slot_changed, slot_kept, slot_waits}
 use Rattle.ghs_channels.proofs.channels.Channels.take_front_from.Goals as goal
 
 pub index_mut-requires : goal.index_mut-requires
 index_mut-requires c =
-    let s = stands_at _ c.self.invariant.order c.args.v c.args.port _ (rw (← c.self.view_is) at c.requires.port)
+    let s = slot_stands _ _ c.self.invariant.order c.args.v c.args.port _ (rw (← c.self.view_is) at c.requires.port)
     (port_told _ c.self.invariant.order c.args.v c.args.port _ (rw (← c.self.view_is) at c.requires.port)
     (rw (← c.self.view_is) at c.requires.start)) in
     omega (arith, s)
 
 pub overflow_sub-self : goal.overflow_sub-self
 overflow_sub-self c =
-    let s = stands_at _ c.self.invariant.order c.args.v c.args.port _ (rw (← c.self.view_is) at c.requires.port)
+    let s = slot_stands _ _ c.self.invariant.order c.args.v c.args.port _ (rw (← c.self.view_is) at c.requires.port)
     (port_told _ c.self.invariant.order c.args.v c.args.port _ (rw (← c.self.view_is) at c.requires.port)
     (rw (← c.self.view_is) at c.requires.start)) in
     let fewer = taken_length _ _ _ c.take_front-first.ensures.left c.take_front-first.ensures.first in
-    let some = one_waits _ _ _ _ _ c.self.invariant s c.index_mut.ensures.value in
+    let some = slot_waits _ _ _ _ _ _ c.self.invariant s c.index_mut.ensures.value in
     omega (arith, fewer, some, c.count.ensures)
 
 pub invariant_of-self : goal.invariant_of-self
 invariant_of-self c =
-    let s = stands_at _ c.self.invariant.order c.args.v c.args.port _ (rw (← c.self.view_is) at c.requires.port)
+    let s = slot_stands _ _ c.self.invariant.order c.args.v c.args.port _ (rw (← c.self.view_is) at c.requires.port)
     (port_told _ c.self.invariant.order c.args.v c.args.port _ (rw (← c.self.view_is) at c.requires.port)
     (rw (← c.self.view_is) at c.requires.start)) in
     let fewer = taken_length _ _ _ c.take_front-first.ensures.left c.take_front-first.ensures.first in
-    let some = one_waits _ _ _ _ _ c.self.invariant s c.index_mut.ensures.value in
-    kept_with _ _ _ _ _ _ _ c.self.invariant s c.index_mut.ensures.value (omega (arith, fewer, some, c.count.ensures))
+    let some = slot_waits _ _ _ _ _ _ c.self.invariant s c.index_mut.ensures.value in
+    slot_kept _ _ _ _ _ _ _ _ c.self.invariant s c.index_mut.ensures.value c.take_front-first.ensures.far
+    (omega (arith, fewer, some, c.count.ensures))
 
 pub returns-clause-first : goal.returns-clause-first
 returns-clause-first c =
-    let state = state_found _ c.self.invariant.order c.args.v c.args.port _ _ (rw (← c.self.view_is) at c.requires.port)
+    let state = slot_state _ _ c.self.invariant.order c.args.v c.args.port _ _ (rw (← c.self.view_is) at c.requires.port)
     (port_told _ c.self.invariant.order c.args.v c.args.port _ (rw (← c.self.view_is) at c.requires.port) (rw (← c.self.view_is) at c.requires.start))
     c.index_mut.ensures.value in
     c.take_front-first.ensures.first ∙ ap (λ (q : QueueState). slice_get q.list 0) state ∙ rw c.self.view_is refl
@@ -39,6 +41,6 @@ returns-clause-first c =
 pub returns-clause-left : goal.returns-clause-left
 returns-clause-left c =
     rw (← c.self.view_is)
-    (changed_by _ c.self.invariant.order c.args.v c.args.port _ taken _ _ (rw (← c.self.view_is) at c.requires.port)
+    (slot_changed _ _ c.self.invariant.order c.args.v c.args.port _ taken _ _ (rw (← c.self.view_is) at c.requires.port)
     (port_told _ c.self.invariant.order c.args.v c.args.port _ (rw (← c.self.view_is) at c.requires.port) (rw (← c.self.view_is) at c.requires.start))
-    c.index_mut.ensures.value c.take_front-first.ensures.left)
+    c.index_mut.ensures.value c.take_front-first.ensures.left c.take_front-first.ensures.far)

@@ -1,6 +1,6 @@
 use Rattle.std.proofs.Common.{◌+◌, refl, arith}
-use Rattle.ghs_channels.proofs.Laying.{far_inside, far_few, far_step}
-use Rattle.ghs_channels.proofs.blocks.far_places.Goals as goal
+use Rattle.ghs_channels.proofs.Laying.{far_inside, far_few, slot_step}
+use Rattle.ghs_channels.proofs.blocks.empty_queues.Goals as goal
 
 pub bounds-starts-port : goal.bounds-starts-port
 bounds-starts-port c =
@@ -14,9 +14,15 @@ overflow_add-starts c =
     let few = far_few c.args.graph.now c.nodes-nodes.ensures.graph c.args.starts.now c.requires (c.loop-i.i + 1) c.loop-port.port-index lt in
     rw c.ports-port-items.ensures (omega (arith, few))
 
+pub new-requires : goal.new-requires
+new-requires c =
+    let lt = rw c.ports-port-items.ensures at c.loop-port-test.true in
+    let few = far_few c.args.graph.now c.nodes-nodes.ensures.graph c.args.starts.now c.requires (c.loop-i.i + 1) c.loop-port.port-index lt in
+    rw c.ports-port-items.ensures (omega (arith, few))
+
 pub loop-port-preserved : goal.loop-port-preserved
 loop-port-preserved c =
     let lt = rw c.ports-port-items.ensures at c.loop-port-test.true in
-    far_step c.args.graph.now c.nodes-nodes.ensures.graph c.args.starts.now c.requires c.loop-port.far.items _ c.loop-i.i
+    slot_step c.args.graph.now c.nodes-nodes.ensures.graph c.args.starts.now c.requires c.loop-port.queues.items _ _ c.loop-i.i
     c.loop-port.port-index _ (omega (arith, c.nodes-nodes.ensures.nodes)) lt c.loop-port.invariant (rw c.ports-port-items.ensures refl)
-    c.in_ok-push.ensures.items
+    c.new.ensures.list c.new.ensures.far c.in_ok-push.ensures.items
