@@ -1,5 +1,5 @@
 #!/usr/bin/env python3
-"""Plays a stored run of Borůvka in step by the rules of docs/COMPARE.md, and shares nothing with `ghs`.
+"""Plays a stored run of Borůvka in step by the rules of docs/class/COMPARE.md, and shares nothing with `ghs`.
 
 usage: bench/in_step.py GRAPH TRACE      prints its steps as docs/FORMATS.md has them, and behind them its time
 

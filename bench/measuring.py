@@ -1,5 +1,6 @@
 """What the comparisons share: programs built from their sources, generated graphs, and measured runs."""
 import filecmp
+import glob
 import os
 import shutil
 import subprocess
@@ -25,6 +26,15 @@ def build(name, *flags):
         compiler = shutil.which("clang++") or "g++"
         subprocess.run([compiler, "-O2", "-std=c++17", *flags, "-o", program, source], check=True)
     return program
+
+
+def build_peers():
+    """The five protocols of bench/peers.cpp, built anew where one of its headers has changed; nothing where there is no compiler."""
+    program = os.path.join(OUT, "peers")
+    headers = glob.glob(os.path.join(HERE, "peers_*.h"))
+    if os.path.exists(program) and os.path.getmtime(program) < max(map(os.path.getmtime, headers)):
+        os.remove(program)
+    return build("peers") if shutil.which("clang++") or shutil.which("g++") else None
 
 
 def road(nodes, links, order):

@@ -1,5 +1,5 @@
 // Runs of one network by five protocols that find its minimum spanning tree, and a line of figures for each run.
-// bench/peers has the usage; docs/COMPARE.md says what the figures mean. Nothing here is proved.
+// bench/peers has the usage; docs/class/COMPARE.md says what the figures mean. Nothing here is proved.
 #include "peers_boruvka.h"
 #include "peers_flood.h"
 #include "peers_gather.h"

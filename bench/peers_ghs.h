@@ -58,9 +58,21 @@ class Ghs : public Protocol {
         send(out, node, 0, CONNECT, 0);
     }
 
+    // Whether a node that is awake would only put the message back.
+    bool waits(Node node, uint32_t port, const Message &message) const {
+        const State &state = states[node];
+        switch (message.kind) {
+        case CONNECT: return message.level >= state.level && state.marks[port] == BASIC;
+        case TEST: return message.level > state.level;
+        case REPORT: return port == state.in_branch && state.phase == FIND;
+        default: return false;
+        }
+    }
+
     bool take(Outbox &out, Node node, uint32_t port, const Message &message) override {
         State &state = states[node];
         if (state.phase == SLEEPING) wake(out, node);
+        if (waits(node, port, message)) return false;
         switch (message.kind) {
         case CONNECT:
             if (message.level < state.level) {
@@ -69,12 +81,10 @@ class Ghs : public Protocol {
                 send(out, node, port, INITIATE, state.level, state.name, state.phase == FIND);
                 return true;
             }
-            if (state.marks[port] == BASIC) return false;
             send(out, node, port, INITIATE, state.level + 1, graph.ports[node][port].link, true);
             return true;
         case INITIATE: initiate(out, node, port, message); return true;
         case TEST:
-            if (message.level > state.level) return false;
             if (message.key != state.name) send(out, node, port, ACCEPT);
             else same_fragment(out, node, port);
             return true;
@@ -95,7 +105,6 @@ class Ghs : public Protocol {
                 report(out, node);
                 return true;
             }
-            if (state.phase == FIND) return false;
             if (message.key > state.best_key) change_root(out, node);
             else if (message.key == NO_LINK && state.best_key == NO_LINK) halt_component(node);
             return true;

@@ -4,7 +4,7 @@
     page/independent.py GRAPH TRACE [--protocol ghs|boruvka] [--json | --page | --html] [--from A] [--to B] [--node V]
 
 It plays the events of a trace by the node's procedures as docs/PROTOCOL.md states them, or by the rules of Borůvka in step
-as docs/COMPARE.md does, and writes what each of them changed: its steps as text or as JSON Lines, the data of its page, or
+as docs/class/COMPARE.md does, and writes what each of them changed: its steps as text or as JSON Lines, the data of its page, or
 the page (docs/FORMATS.md). Parallel links, loops and graphs in pieces are taken.
 """
 import argparse
@@ -57,7 +57,7 @@ def key_text(k):
 
 
 def lengths(n, keys):
-    """How many bits a message has in a network, as docs/COMPARE.md says: a function of the message."""
+    """How many bits a message has in a network, as docs/class/COMPARE.md says: a function of the message."""
     def needs(greatest):
         return max(1, greatest.bit_length())
     widths = {'level': needs(n.bit_length() - 1), 'key': 2 * needs(n) + needs(max((weight for weight, _, _ in keys), default=0)), 'phase': 1}

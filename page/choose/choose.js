@@ -39,6 +39,8 @@ const faultOf = text => text.startsWith('{"fault"') ? JSON.parse(text) : null;
 
 // ---- what is led: the graph's text and the events; the moment at which one looks is the page's
 let graphText = '', wakeFirst = false, offered = new Map(), offers = new Map(), ended = false, pointed = null, givenUp = null;
+// where the nodes of a drawn network stand
+let placed = null;
 const keyOf = e => e.join(' ');
 const eventsNow = () => steps.map(s => s.port === null ? [s.node] : [s.node, s.port]);
 const traceOf = es => 'trace ' + es.length + '\n' + es.map(e => (e.length === 1 ? 'wake ' : 'take ') + keyOf(e) + '\n').join('');
@@ -48,10 +50,27 @@ const choicesIn = text => {
 };
 const hasEnded = text => text.endsWith('{"ended":true}\n');
 function say(text, back) {
+  const was = $('note').textContent;
   $('note').textContent = text || '';
   if (back) { const b = document.createElement('button'); b.id = 'bring'; b.textContent = 'bring it back'; b.onclick = bringBack; $('note').append(b); }
+  if ($('note').textContent !== was) fitGuide();
 }
 const refuse = fault => { say((fault.fault === 'memory' ? '' : fault.fault + ': ') + fault.words + '. Nothing has changed.'); return false; };
+// the whole state, and the page as it was in one
+const stateNow = () => ({ graph: graphText, first: wakeFirst, trace: traceOf(eventsNow()), at, placed, events: steps.length });
+function restore(was) {
+  const now = wakeFirst;
+  wakeFirst = was.first;
+  if (!load(was.graph, was.trace, was.at, was.placed)) { wakeFirst = now; return false; }
+  $('wakers').value = wakeFirst ? 'first' : '';
+  return true;
+}
+// nothing is lost without a word: what was led is kept, and a button brings it back
+function setAside(was, why) {
+  if (!was.graph || !was.events) return;
+  givenUp = was;
+  say(why + (was.events === 1 ? ' Your run of one event is set aside.' : ' Your run of ' + was.events + ' events is set aside.'), true);
+}
 
 // the page's state is that of these texts, at an event; the elements of a graph that stays are kept
 function fill(text, same) {
@@ -75,14 +94,16 @@ function fill(text, same) {
   survey();
 }
 // a graph and a trace, judged by the module, are shown at an event; a refusal changes nothing
-function load(graph, trace, k) {
+function load(graph, trace, k, places = null) {
   const text = seenOf(graph, trace), fault = faultOf(text);
   if (fault) return refuse(fault);
   if (timer) halt();
-  const same = graph === graphText;
+  const same = graph === graphText && (!places || String(places) === String(placed));
   asking = false;
   fill(text, same);
   graphText = graph;
+  if (!same) placed = places && places.length === G.nodes ? places : null;
+  if (placed) unit = unitOf(placed);
   offers = new Map([[G.to, choicesIn(text)]]);
   ended = hasEnded(text);
   $('seek').max = $('goto').max = G.to;
@@ -90,6 +111,8 @@ function load(graph, trace, k) {
   $('what').textContent = G.nodes + ' nodes, ' + G.links + ' links, ' + G.events + ' events';
   goto(k);
   only = same ? only : G.nodes > 12;
+  $('example').value = Object.keys(EXAMPLES).find(name => EXAMPLES[name] === graph) || '';
+  $('editit').disabled = G.nodes > EDITED;
   say('');
   if (same) { strip(); show(); } else relay();
   return true;
@@ -101,11 +124,16 @@ function offersAt(k) {
 }
 // the event happens at the moment that is shown; another that had come there is given up, with all behind it
 function lead(key) {
-  const o = offersAt(at).get(key), es = eventsNow();
+  // while the run plays, a click stops it
+  if (timer) return halt();
+  const o = offersAt(at).get(key), es = eventsNow(), k = at;
   if (!o) return;
-  if (es[at] && keyOf(es[at]) === key) return move(at + 1);
-  const lost = es.length - at, was = { trace: traceOf(es), at };
-  if (load(graphText, traceOf(es.slice(0, at).concat([o.may])), at + 1) && lost) giveUp(lost, was);
+  if (es[at] && keyOf(es[at]) === key) return guessing(key) ? guessAt(k) : move(at + 1);
+  const lost = es.length - at, was = stateNow(), asks = guessing(key);
+  if (!load(graphText, traceOf(es.slice(0, at).concat([o.may])), asks ? k : k + 1)) return;
+  if (lost) giveUp(lost, was);
+  if (asks) guessAt(k);
+  ledOn();
 }
 function giveUp(lost, was) {
   givenUp = was;
@@ -114,34 +142,37 @@ function giveUp(lost, was) {
 function bringBack() {
   const was = givenUp;
   givenUp = null;
-  if (was) load(graphText, was.trace, was.at);
+  if (was) restore(was);
 }
 function takeBack() {
-  const es = eventsNow(), lost = es.length - at, was = { trace: traceOf(es), at };
-  if (at && load(graphText, traceOf(es.slice(0, at - 1)), at - 1) && lost) giveUp(lost, was);
+  if (asking && guess && guess.own) return move(at);
+  const es = eventsNow(), lost = es.length - at, was = stateNow();
+  if (at && load(graphText, traceOf(es.slice(0, at - 1)), at - 1)) { if (lost) giveUp(lost, was); ledOn(); }
 }
 function goOn() {
-  const es = eventsNow(), k = at, lost = es.length - k, was = { trace: traceOf(es), at: k };
+  const es = eventsNow(), k = at, lost = es.length - k, was = stateNow();
   const seed = $('seed').value.trim();
   if (!/^\d{1,20}$/.test(seed) || BigInt(seed) >= 1n << 64n) return say('A seed is a number from 0 to 18446744073709551615.');
   const text = runOf(graphText, traceOf(es.slice(0, k)), $('patient').checked, seed), fault = faultOf(text);
   if (fault) return refuse(fault);
   if (!load(graphText, text, k)) return;
   if (lost) giveUp(lost, was);
-  if (at < G.to) play();
+  ledOn();
+  // what may come next isn't marked while the run plays
+  if (at < G.to) { play(); offer(); }
 }
 
 // ---- what may come next, in the network and in the pane
 const placeOf = key => key.split(' ').map(Number);
 const wording = (key, o) => {
   const [v, p] = placeOf(key), m = p === undefined ? null : queue(v, p)[0];
-  return 'Node ' + v + (m ? ' takes ' + words(m) + ' from node ' + m.from : ' wakes') + (o.waits ? ', and would only put it back' : '');
+  return 'Node ' + v + (m ? ' takes ' + words(m) + ' from node ' + m.from : ' wakes') + (o.waits ? ', and would defer it' : '');
 };
-const END = () => 'The run has ended: the ' + TREE() + ' links are the minimum spanning forest.';
+const END = () => 'The run has ended: the ' + TREE() + ' links are the minimum spanning forest.' + (offersAt(G.to).size ? ' A message that is still on its way changes nothing more.' : '');
 function offer() {
   if (ended && at === G.to && !$('note').textContent) say(END());
   else if (at < G.to && $('note').textContent === END()) say('');
-  offered = timer || asking ? new Map() : offersAt(at);
+  offered = timer || asking || touring() ? new Map() : offersAt(at);
   if ($('moving').checked) offered = new Map([...offered].filter(([, o]) => !o.waits));
   if (!offered.has(pointed)) pointed = null;
   const next = at < G.to ? keyOf(eventsNow()[at]) : null;
@@ -171,7 +202,7 @@ function offer() {
 const LISTED = 60;
 function list(next) {
   const all = [...offered], html = all.slice(0, LISTED).map(([key, o]) => '<button data-may="' + key + '" class="' + (o.waits ? 'idle ' : '') + (key === next ? 'next ' : '') + (key === pointed ? 'pointed' : '') + '">' + wording(key, o) + (key === next ? ' (next in this run)' : '') + '</button>');
-  $('may').innerHTML = timer ? '<p>The run is played.</p>' : html.join('') + (all.length > LISTED ? '<p>and ' + (all.length - LISTED) + ' more</p>' : '') || '<p>' + (at === G.to && ended ? 'Nothing: the run has ended.' : 'Nothing.') + '</p>';
+  $('may').innerHTML = timer ? '<p>The run is played.</p>' : html.join('') + (all.length > LISTED ? '<p>and ' + (all.length - LISTED) + ' more</p>' : '') || '<p>' + (asking ? 'First your guess.' : at === G.to && ended ? 'Nothing: the run has ended.' : 'Nothing.') + '</p>';
   $('maycount').textContent = timer ? '' : all.length;
 }
 function point(d) {
@@ -183,17 +214,26 @@ function point(d) {
   $('live').textContent = wording(pointed, offered.get(pointed));
 }
 const showRun = show, haltRun = halt, tipOf = tip;
-show = function () { showRun(); if (graphText) offer(); };
+show = function () {
+  showRun();
+  const rule = $('say').querySelector('.row');
+  if (rule && ROWS[rule.textContent]) { rule.tabIndex = 0; rule.setAttribute('role', 'button'); rule.title = 'shows the rule'; }
+  if (graphText) { offer(); guide(); }
+};
 halt = function () { const was = timer; haltRun(); if (was && graphText) offer(); };
 // what a message is that may be taken, or stands behind another
+// after a click nothing lies over what it has changed, until the pointer has moved on
+let clicked = null;
 tip = function (e) {
+  if (clicked && e.pointerType === 'mouse' && Math.hypot(e.clientX - clicked[0], e.clientY - clicked[1]) < 12) return;
+  clicked = null;
   tipOf(e);
   const g = e.target.closest('.msg, .node'), t = $('hint');
   if (!g || t.hidden) return;
   if (g.matches('.node')) { if (g.matches('.can')) t.textContent += '. A click wakes it, a click with shift pins it.'; return; }
   const [v, p, k] = g.dataset.q.split(' ').map(Number);
   if (k > 0) t.textContent += ' It stands behind ' + (k === 1 ? 'one other' : k + ' others') + ' at node ' + v + '\'s port ' + p + '.';
-  else if (g.matches('.idle')) t.textContent += ' A click gives it to its node, where it would wait again.';
+  else if (g.matches('.idle')) t.textContent += ' A click delivers it; its node would defer it.';
   else if (g.matches('.can')) t.textContent += ' A click gives it to its node.';
 };
 
@@ -207,22 +247,22 @@ const addressOf = address, goAddressOf = goAddress;
 address = function () {
   const head = addressOf();
   if (graphText.length > ADDRESS) return head;
-  const whole = head + '&g=' + coded(graphText) + '&e=' + short_events(eventsNow()) + (wakeFirst ? '&first' : '');
+  if (touring()) return '#tour=' + (tourAt + 1);
+  const whole = head + '&g=' + coded(graphText) + '&e=' + short_events(eventsNow()) + (wakeFirst ? '&first' : '') + (placed ? '&p=' + placed.map(p => p.map(Math.round).join('.')).join(',') : '') + (task ? '&task=' + task.id : '');
   return whole.length > ADDRESS ? head : whole;
 };
 const ledIn = hash => {
-  const found = /^#(\d+)[^&]*&g=([^&]*)&e=([^&]*)(&first)?$/.exec(hash);
-  try { return found && { at: +found[1], graph: decoded(found[2]), events: long_events(found[3]), first: !!found[4] }; } catch { return null; }
+  const found = /^#(\d+)[^&]*&g=([^&]*)&e=([^&]*)((?:&[^&]*)*)$/.exec(hash), more = new URLSearchParams(found ? found[4] : '');
+  try { return found && { at: +found[1], graph: decoded(found[2]), events: long_events(found[3]), first: more.has('first'), task: more.get('task'), placed: more.has('p') ? more.get('p').split(',').map(p => p.split('.').map(Number)) : null }; } catch { return null; }
 };
 goAddress = function (hash = location.hash) {
   if (!graphText || hash === address()) return;
+  if (goGuide(hash)) return;
   const led = ledIn(hash), head = hash.split('&')[0];
   if (led && (led.graph !== graphText || led.first !== wakeFirst || short_events(led.events) !== short_events(eventsNow()))) {
-    const was = wakeFirst;
-    wakeFirst = led.first;
-    if (!load(led.graph, traceOf(led.events), led.at)) { wakeFirst = was; return; }
-    $('wakers').value = wakeFirst ? 'first' : '';
+    if (!restore({ ...led, trace: traceOf(led.events) })) return;
   }
+  if (led) setTask(led.task);
   history.replaceState(null, '', head);
   goAddressOf(head);
 };
@@ -230,14 +270,49 @@ goAddress = function (hash = location.hash) {
 // ---- graphs and traces from elsewhere, and kept
 const EXAMPLES = {
   'triangle': 'p sp 3 3\na 1 2 1\na 2 3 2\na 1 3 3\n',
+  'two pairs': 'p sp 4 3\na 1 2 1\na 3 4 2\na 2 3 3\n',
   'path of 5': 'p sp 5 4\na 1 2 1\na 2 3 2\na 4 5 3\na 3 4 4\n',
+  'star of 5': 'p sp 5 4\na 1 2 1\na 1 3 2\na 1 4 3\na 1 5 4\n',
   'ring of 6': 'p sp 6 6\na 1 2 4\na 2 3 1\na 3 4 5\na 4 5 2\na 5 6 6\na 6 1 3\n',
-  'two pieces': 'p sp 6 6\na 1 2 3\na 2 3 1\na 1 3 2\na 4 5 6\na 5 6 4\na 4 6 5\n',
+  'two components': 'p sp 6 6\na 1 2 3\na 2 3 1\na 1 3 2\na 4 5 6\na 5 6 4\na 4 6 5\n',
+  'eight nodes': 'p sp 8 10\na 1 2 1\na 3 4 2\na 5 6 3\na 7 8 4\na 2 3 5\na 6 7 6\na 4 5 7\na 1 8 8\na 1 4 9\na 5 8 10\n',
   'grid of 9': 'p sp 9 12\na 1 2 5\na 2 3 9\na 4 5 2\na 5 6 7\na 7 8 11\na 8 9 1\na 1 4 8\na 2 5 3\na 3 6 12\na 4 7 6\na 5 8 10\na 6 9 4\n',
 };
+// what a graph's comments say of it: who may wake, and where its nodes stand
+const COMMENTS = /^c (?:wake|place) .*\n/gm;
+function commented() {
+  const head = (wakeFirst ? 'c wake first\n' : '') + (placed ? placed.map((p, i) => 'c place ' + (i + 1) + ' ' + p.map(Math.round).join(' ') + '\n').join('') : '');
+  return head + graphText;
+}
+function takeGraph(text, places = null) {
+  const was = stateNow(), wake = /^c wake (all|first)\s*$/m.exec(text), told = [...text.matchAll(/^c place (\d+) (\d+) (\d+)\s*$/gm)];
+  for (const [, v, x, y] of told) (places ??= [])[v - 1] = [+x, +y];
+  if (wake) wakeFirst = wake[1] === 'first';
+  if (!load(text.replace(COMMENTS, ''), 'trace 0\n', 0, places)) { wakeFirst = was.first; return false; }
+  $('wakers').value = wakeFirst ? 'first' : '';
+  leaveGuide();
+  setAside(was, 'Another network.');
+  return true;
+}
+// a run that fits the other wake set alone is taken with it, and that is said
+function takeTrace(text) {
+  const was = stateNow(), fault = faultOf(seenOf(graphText, text));
+  if (fault) {
+    wakeFirst = !wakeFirst;
+    if (faultOf(seenOf(graphText, text))) { wakeFirst = !wakeFirst; return refuse(fault); }
+    $('wakers').value = wakeFirst ? 'first' : '';
+  }
+  load(graphText, text, 0);
+  ledOn();
+  const why = fault ? 'This run fits only if ' + (wakeFirst ? 'the first node of each component' : 'all nodes') + ' may wake by themselves, so "wake" is changed.' : '';
+  setAside(was, why);
+  if (why && !$('note').textContent) say(why);
+  return true;
+}
 function take(text) {
-  if (/^\s*trace\b/.test(text)) return load(graphText, text, 0);
-  return load(text, 'trace 0\n', 0);
+  $('start').close();
+  if (/^\s*hand-in\b/.test(text)) return openHandIn(text);
+  return /^\s*trace\b/.test(text) ? takeTrace(text) : takeGraph(text);
 }
 const takeFile = file => file.text().then(take);
 function keep(name, text) {
@@ -248,77 +323,14 @@ function keep(name, text) {
   setTimeout(() => URL.revokeObjectURL(a.href), 1000);
 }
 function setWakers(value) {
-  const was = wakeFirst, trace = traceOf(eventsNow());
+  const was = stateNow();
   wakeFirst = value === 'first';
-  if (faultOf(seenOf(graphText, trace)) ? !load(graphText, 'trace 0\n', 0) : !load(graphText, trace, at)) { wakeFirst = was; $('wakers').value = was ? 'first' : ''; }
-}
-
-// ---- a graph drawn by hand: nodes and links by the pointer, weights typed
-const drawing = { points: [], lines: [], held: 0, from: 0 };
-function board() {
-  const { points, lines, held } = drawing, at = v => points[v - 1];
-  $('board').innerHTML = lines.map(([a, b, w]) => { const [p, q] = [at(a), at(b)]; return '<line x1="' + p[0] + '" y1="' + p[1] + '" x2="' + q[0] + '" y2="' + q[1] + '"/><text class="weight" x="' + (p[0] + q[0]) / 2 + '" y="' + (p[1] + q[1]) / 2 + '">' + w + '</text>'; }).join('')
-    + points.map(([x, y], i) => '<g><circle data-node="' + (i + 1) + '" class="' + (held === i + 1 ? 'held' : '') + '" cx="' + x + '" cy="' + y + '" r="16"/><text x="' + x + '" y="' + y + '">' + (i + 1) + '</text></g>').join('');
-}
-function rows() {
-  $('drawn').innerHTML = '<table>' + drawing.lines.map(([a, b, w], i) => '<tr><td>' + a + ' - ' + b + '</td><td><input type="number" min="1" data-line="' + i + '" value="' + w + '" aria-label="weight of the link of ' + a + ' and ' + b + '"></td><td><button data-gone="' + i + '" aria-label="takes the link of ' + a + ' and ' + b + ' away">x</button></td></tr>').join('') + '</table>';
-}
-function redraw() { board(); rows(); }
-function joinDrawn(a, b) {
-  if (a === b || drawing.lines.some(([x, y]) => Math.min(x, y) === Math.min(a, b) && Math.max(x, y) === Math.max(a, b))) return;
-  drawing.lines.push([a, b, 1 + Math.max(0, ...drawing.lines.map(l => +l[2]))]);
-}
-function removeHeld() {
-  const v = drawing.held, less = x => x > v ? x - 1 : x;
-  if (!v) return;
-  drawing.points.splice(v - 1, 1);
-  drawing.lines = drawing.lines.filter(([a, b]) => a !== v && b !== v).map(([a, b, w]) => [less(a), less(b), w]);
-  drawing.held = 0;
-  redraw();
-}
-const drawnText = () => 'p sp ' + drawing.points.length + ' ' + drawing.lines.length + '\n' + drawing.lines.map(l => 'a ' + l.join(' ') + '\n').join('');
-// the nodes stand where they were drawn, at the scale that the page's own layout has
-function asDrawn() {
-  const far = ([a, b]) => Math.hypot(...[0, 1].map(i => drawing.points[a - 1][i] - drawing.points[b - 1][i])), long = drawing.lines.length ? drawing.lines.reduce((x, l) => x + far(l), 0) / drawing.lines.length : 100;
-  unit = [{ list: drawing.points.map((_, i) => i + 1), P: drawing.points.map(p => p.map(x => x / (long || 100))) }];
-}
-function useDrawn() {
-  const fault = faultOf(seenOf(drawnText(), 'trace 0\n'));
-  if (fault) { $('drawnote').textContent = fault.words; return; }
-  $('draw').close();
-  load(drawnText(), 'trace 0\n', 0);
-  asDrawn();
-  relay();
-}
-function boards() {
-  const place = e => { const b = $('board').getBoundingClientRect(); return [Math.round((e.clientX - b.left) * 600 / b.width), Math.round((e.clientY - b.top) * 400 / b.height)]; };
-  const nodeAt = e => { const hit = document.elementFromPoint(e.clientX, e.clientY); return hit && hit.dataset.node ? +hit.dataset.node : 0; };
-  $('board').onpointerdown = e => {
-    drawing.from = nodeAt(e);
-    if (drawing.from) return;
-    drawing.points.push(place(e));
-    drawing.held = 0;
-    redraw();
-  };
-  $('board').onpointerup = e => {
-    const to = nodeAt(e), from = drawing.from;
-    drawing.from = 0;
-    if (!to || !from) return;
-    if (to !== from) { joinDrawn(from, to); drawing.held = 0; }
-    else if (drawing.held && drawing.held !== to) { joinDrawn(drawing.held, to); drawing.held = 0; }
-    else drawing.held = drawing.held === to ? 0 : to;
-    redraw();
-  };
-  $('drawn').onchange = e => { if (e.target.dataset.line) { drawing.lines[e.target.dataset.line][2] = e.target.value; board(); } };
-  $('drawn').onclick = e => { if (e.target.dataset.gone) { drawing.lines.splice(+e.target.dataset.gone, 1); redraw(); } };
-  $('drawit').onclick = () => { $('drawnote').textContent = ''; redraw(); $('draw').showModal(); };
-  $('usedrawn').onclick = useDrawn;
-  $('cleardrawn').onclick = () => { drawing.points = []; drawing.lines = []; drawing.held = 0; redraw(); };
-  $('closedrawn').onclick = () => $('draw').close();
+  if (faultOf(seenOf(graphText, was.trace))) { if (load(graphText, 'trace 0\n', 0)) setAside(was, 'The run does not fit this wake set.'); } else load(graphText, was.trace, was.at);
+  leaveTask();
 }
 
 // ---- a hundred seeds of the graph at hand: what their runs come to
-const SEEDS = 100, MEASURES = [['first sends', l => l.sent.reduce((a, b) => a + b)], ['requeues', l => l.requeued], ['events', l => l.ledger]];
+const SEEDS = 100, MEASURES = [['messages sent', l => l.sent.reduce((a, b) => a + b)], ['deferrals', l => l.requeued], ['events', l => l.ledger]];
 const measures = () => MEASURES.concat(KINDS.map((k, i) => [NAMES[k], l => l.sent[i]]));
 const ledgerOf = text => { const i = text.lastIndexOf('{"ledger":'); return JSON.parse(text.slice(i, text.indexOf('\n', i))); };
 function hundred() {
@@ -341,50 +353,55 @@ function printSeeds(found, patient) {
   };
   const sends = found.map(MEASURES[0][1]), low = Math.min(...sends), counts = [];
   for (const x of sends) counts[x - low] = (counts[x - low] || 0) + 1;
-  const most = Math.max(...counts.filter(x => x)), w = 560 / counts.length;
-  $('figures').innerHTML = '<p>Seeds 0 to ' + (SEEDS - 1) + ', ' + (patient ? 'patiently' : 'among all events') + '; the bound is ' + G.bound + ' first sends.</p><table><tr><th></th><th class="n">least</th><th class="n">mean</th><th class="n">greatest</th></tr>' + measures().map(row).join('') + '</table>'
-    + '<p>How many runs have how many first sends, from ' + low + ' to ' + (low + counts.length - 1) + ':</p><svg width="560" height="90" role="img" aria-label="a bar for each number of first sends">' + Array.from(counts, (x, i) => x ? '<rect x="' + (i * w + .5).toFixed(1) + '" width="' + Math.max(1, w - 1).toFixed(1) + '" y="' + (90 - 88 * x / most).toFixed(1) + '" height="' + (88 * x / most).toFixed(1) + '"><title>' + (low + i) + ': ' + x + '</title></rect>' : '').join('') + '</svg>';
+  const most = Math.max(...counts.filter(x => x)), bars = counts.length, w = Math.min(60, 520 / bars), last = low + bars - 1, mid = (i, x) => '<text x="' + (40 + (i + .5) * w).toFixed(1) + '" y="112">' + x + '</text>';
+  $('figures').innerHTML = '<p>Seeds 0 to ' + (SEEDS - 1) + ', ' + (patient ? 'skipping useless deliveries' : 'among all events') + '. At most ' + G.bound + ' messages are sent.</p><table><tr><th></th><th class="n">fewest</th><th class="n">mean</th><th class="n">most</th></tr>' + measures().map(row).join('') + '</table>'
+    + (bars < 2 ? '<p>All ' + found.length + ' runs send ' + low + ' messages.</p>' : '<p>How many runs send how many messages:</p><svg viewBox="0 0 570 120" role="img" aria-label="a bar for each number of messages sent">' + Array.from(counts, (x, i) => x ? '<rect x="' + (40 + i * w + .5).toFixed(1) + '" width="' + Math.max(1, w - 1).toFixed(1) + '" y="' + (96 - 84 * x / most).toFixed(1) + '" height="' + (84 * x / most).toFixed(1) + '"><title>' + (low + i) + ' messages: ' + x + ' runs</title></rect>' : '').join('')
+      + '<path d="M38 10V96H566"/><text class="left" x="34" y="16">' + most + '</text><text class="left" x="34" y="98">0</text>' + mid(0, low) + mid(bars - 1, last) + (bars > 4 ? mid((bars - 1) / 2, ((low + last) / 2).toFixed(0)) : '') + '</svg>');
   $('figures').onclick = e => {
     if (!e.target.dataset.seed) return;
     $('many').close();
     $('seed').value = e.target.dataset.seed;
-    load(graphText, runOf(graphText, 'trace 0\n', patient, e.target.dataset.seed), 0);
+    const was = stateNow();
+    if (load(graphText, runOf(graphText, 'trace 0\n', patient, e.target.dataset.seed), 0)) { ledOn(); setAside(was, ''); }
   };
 }
 
 // ---- clicks and keys
 function hands() {
   const key = g => g.dataset.q.split(' ').slice(0, 2).join(' ');
-  $('msgs').onclick = e => { const g = e.target.closest('.msg.can'); if (g && !fingers.moved) lead(key(g)); };
+  $('msgs').onclick = e => { const g = e.target.closest('.msg.can'); if (g && !fingers.moved) { clicked = [e.clientX, e.clientY]; $('hint').hidden = true; lead(key(g)); } };
   const pinned = $('nodes').onclick;
-  $('nodes').onclick = e => { const g = e.target.closest('.node.can'); if (g && !fingers.moved && !e.shiftKey) lead(g.dataset.v); else pinned(e); };
+  $('nodes').onclick = e => { const g = e.target.closest('.node.can'); if (g && !fingers.moved && !e.shiftKey) { clicked = [e.clientX, e.clientY]; $('hint').hidden = true; lead(g.dataset.v); } else pinned(e); };
   $('may').onclick = e => { if (e.target.dataset.may) lead(e.target.dataset.may); };
   $('msgs').onpointerover = $('msgs').onpointerdown = $('nodes').onpointerover = tip;
   $('undo').onclick = takeBack;
   $('on').onclick = goOn;
   $('moving').onchange = offer;
-  $('example').innerHTML = '<option value="">..</option>' + Object.keys(EXAMPLES).map(x => '<option>' + x + '</option>').join('');
-  $('example').onchange = e => { const text = EXAMPLES[e.target.value]; e.target.value = ''; if (text) take(text); };
+  $('example').innerHTML = '<option value="">your own</option>' + Object.keys(EXAMPLES).map(x => '<option>' + x + '</option>').join('');
+  $('example').onchange = e => { const text = EXAMPLES[e.target.value]; if (text) take(text); else $('drawit').click(); };
   $('wakers').onchange = e => setWakers(e.target.value);
   $('open').onclick = () => $('file').click();
   $('file').onchange = e => { const file = e.target.files[0]; e.target.value = ''; if (file) takeFile(file); };
-  $('savegraph').onclick = () => keep('graph.gr', graphText);
+  $('savegraph').onclick = () => keep('graph.gr', commented());
   $('savetrace').onclick = () => keep('run.trace', traceOf(eventsNow()));
   $('hundred').onclick = hundred;
   $('closemany').onclick = () => $('many').close();
   boards();
-  addEventListener('paste', e => { const text = e.clipboardData.getData('text'); if (!e.target.matches('input') && text.trim()) { e.preventDefault(); take(text); } });
+  guides();
+  addEventListener('paste', e => { const text = e.clipboardData.getData('text'); if (!e.target.matches('input, textarea') && text.trim()) { e.preventDefault(); take(text); } });
   addEventListener('dragover', e => e.preventDefault());
   addEventListener('drop', e => { e.preventDefault(); const file = e.dataTransfer.files[0], text = e.dataTransfer.getData('text'); if (file) takeFile(file); else if (text.trim()) take(text); });
   Object.assign(ACTS, { m: () => point(1), M: () => point(-1), Backspace: takeBack, r: goOn });
-  KEYS.unshift(['m, M', 'round what may come next'], ['Enter', 'that event happens'], ['Backspace', 'takes the last event back'], ['r', 'plays on by the seed']);
+  KEYS.unshift(['m, M', 'goes through what may come next'], ['Enter', 'that event happens'], ['Backspace', 'takes the last event back'], ['r', 'plays on by the seed']);
   // keys of a dialog are its own; Enter is the node's that may wake, or the event's that is pointed to
   addEventListener('keydown', e => {
-    if ($('draw').open || $('many').open) {
+    if (document.querySelector('dialog[open]:not(#keys)')) {
       if ((e.key === 'Delete' || e.key === 'Backspace') && $('draw').open && !e.target.matches('input')) removeHeld();
       if (!$('keys').open) e.stopImmediatePropagation();
       return;
     }
+    if (touring() && (e.key === 'ArrowRight' || e.key === 'ArrowLeft') && !e.target.matches('input, select')) { e.preventDefault(); e.stopImmediatePropagation(); return goTour(tourAt + (e.key === 'ArrowRight' ? 1 : -1)); }
+    if (e.key === 'Enter' && e.target.matches('.row')) { e.preventDefault(); e.stopImmediatePropagation(); return openRule(e.target.textContent); }
     if (e.key !== 'Enter' || e.ctrlKey || e.altKey || e.metaKey || $('keys').open || e.target.matches('button, select, input')) return;
     const on = e.target.matches('.node.can') ? e.target.dataset.v : pointed;
     if (on === null) return;
@@ -393,25 +410,3 @@ function hands() {
     lead(on);
   }, true);
 }
-async function begin() {
-  const led = ledIn(location.hash), graph = led ? led.graph : EXAMPLES.triangle;
-  wakeFirst = !!led && led.first;
-  await power();
-  let text = seenOf(graph, traceOf(led ? led.events : [])), fault = faultOf(text);
-  if (fault) { wakeFirst = false; text = seenOf(EXAMPLES.triangle, 'trace 0\n'); }
-  graphText = '';
-  $('steps').textContent = text;
-  start();
-  hands();
-  $('keys').innerHTML = '<table>' + KEYS.map(([k, t]) => '<tr>' + td(k) + td(t) + '</tr>').join('') + '</table><form method="dialog"><button>close</button></form>';
-  graphText = fault ? EXAMPLES.triangle : graph;
-  offers = new Map([[G.to, choicesIn(text)]]);
-  ended = hasEnded(text);
-  $('wakers').value = wakeFirst ? 'first' : '';
-  $('what').textContent = G.nodes + ' nodes, ' + G.links + ' links, ' + G.events + ' events';
-  document.title = 'ghs: a run that you lead';
-  goto(led && !fault ? led.at : 0);
-  show();
-  if (fault) refuse(fault);
-}
-begin().catch(e => { const d = document.createElement('div'); d.className = 'bad'; d.id = 'fault'; d.textContent = 'This page cannot be shown: ' + e.message + '. It wants a browser with WebAssembly and its 64-bit numbers: Chromium 85, Firefox 78, Safari 14.1, or later.'; document.body.prepend(d); console.error(e); });

@@ -9,7 +9,7 @@ _ghs() {
     case ${COMP_WORDS[1]},$before in
         run,--protocol) COMPREPLY=($(compgen -W 'ghs boruvka' -- "$word")) && return ;;
         run,--seed) : && return ;;
-        run,--schedule) COMPREPLY=($(compgen -W 'seeded patient rounds waits lifo' -- "$word")) && return ;;
+        run,--schedule) COMPREPLY=($(compgen -W 'seeded patient rounds waits lifo round-robin' -- "$word")) && return ;;
         run,--workers) : && return ;;
         run,--wake) COMPREPLY=($(compgen -W 'all first' -- "$word")) && return ;;
         run,--turns) : && return ;;
@@ -23,7 +23,7 @@ _ghs() {
         steps,--node) : && return ;;
         sweep,--protocol) COMPREPLY=($(compgen -W 'ghs boruvka' -- "$word")) && return ;;
         sweep,--seeds) : && return ;;
-        sweep,--schedule) COMPREPLY=($(compgen -W 'seeded patient rounds waits lifo' -- "$word")) && return ;;
+        sweep,--schedule) COMPREPLY=($(compgen -W 'seeded patient rounds waits lifo round-robin' -- "$word")) && return ;;
         sweep,--workers) : && return ;;
         sweep,--wake) COMPREPLY=($(compgen -W 'all first' -- "$word")) && return ;;
         sweep,--turns) : && return ;;
@@ -32,7 +32,7 @@ _ghs() {
         view,--protocol) COMPREPLY=($(compgen -W 'ghs boruvka' -- "$word")) && return ;;
         view,--seed) : && return ;;
         view,--seeds) : && return ;;
-        view,--schedule) COMPREPLY=($(compgen -W 'seeded patient rounds waits lifo' -- "$word")) && return ;;
+        view,--schedule) COMPREPLY=($(compgen -W 'seeded patient rounds waits lifo round-robin' -- "$word")) && return ;;
         view,--wake) COMPREPLY=($(compgen -W 'all first' -- "$word")) && return ;;
         view,--turns) : && return ;;
         view,--trace) COMPREPLY=($(compgen -f -- "$word")) && return ;;
@@ -56,7 +56,7 @@ _ghs() {
         sweep) [[ $word == -* ]] && COMPREPLY=($(compgen -W '--protocol --seeds --schedule --workers --wake --turns --print --by --names --json --progress -h --help' -- "$word")) ;;
         view) [[ $word == -* ]] && COMPREPLY=($(compgen -W '--protocol --seed --seeds --schedule --wake --turns --trace --from --to -h --help' -- "$word")) ;;
         make) [[ $word == -* ]] && COMPREPLY=($(compgen -W '--seed --links --weights -h --help' -- "$word"))
-            [[ $word == -* ]] || { [ "$COMP_CWORD" -eq 2 ] && COMPREPLY=($(compgen -W 'path ring star grid complete tree random road forest slow busy' -- "$word")); return; } ;;
+            [[ $word == -* ]] || { [ "$COMP_CWORD" -eq 2 ] && COMPREPLY=($(compgen -W 'path ring star grid complete tree random road forest slow busy farcore chainwake' -- "$word")); return; } ;;
         explore) [[ $word == -* ]] && COMPREPLY=($(compgen -W '--protocol --wake --limit --print --end --progress -h --help' -- "$word")) ;;
     esac
     [[ $word == -* ]] || COMPREPLY=($(compgen -f -- "$word"))

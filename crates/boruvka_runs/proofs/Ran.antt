@@ -46,7 +46,7 @@ module _ (seed : ℕ) (wake : WakeSet) (turns : ℕ) (g : Shape) (old new : Worl
   pub ended_by : (done : Bool) (r : Result (Unit {0}) RunFault) → r ≡ Ok tt → OnOk r (ready_events boruvka new ≡ []) →
       (IsTrue done ↔ (ready_events boruvka new ≡ [])) →
       (IsTrue done ↔ HasEnded new.net.graph (net_after boruvka new.net.graph new.net.trace)) →
-      (new.net.graph ≡ g) × IsWholeRun seed wake turns g new.net.trace
+      (new.net.graph ≡ g) × IsWholeRun seed wake turns g new.net.trace × (new.wake ≡ wake)
   ended_by done r end over ready ended =
       let none : ready_events boruvka new ≡ [] = subst (λ (x : Result (Unit {0}) RunFault). OnOk x (ready_events boruvka new ≡ [])) end over in (
         same,
@@ -54,13 +54,14 @@ module _ (seed : ℕ) (wake : WakeSet) (turns : ℕ) (g : Shape) (old new : Worl
           by = ran_by;
           ended = subst (λ (s : Shape). HasEnded s (net_after boruvka s new.net.trace)) same (ended.0 (ready.1 none));
         },
+        woken,
       )
 
   -- and at the turns, with something ready, it hasn't
   pub stopped_by : (done : Bool) (r : Result (Unit {0}) RunFault) → r ≡ Err TurnLimit → (r ≡ Err TurnLimit → IsAtLimit boruvka turns new) →
       (IsTrue done ↔ (ready_events boruvka new ≡ [])) →
       (IsTrue done ↔ HasEnded new.net.graph (net_after boruvka new.net.graph new.net.trace)) →
-      (new.net.graph ≡ g) × IsStopped seed wake turns g new.net.trace
+      (new.net.graph ≡ g) × IsStopped seed wake turns g new.net.trace × (new.wake ≡ wake)
   stopped_by done r end limit ready ended =
       let at = limit end in
       let some = at.ready in (
@@ -77,4 +78,5 @@ module _ (seed : ℕ) (wake : WakeSet) (turns : ℕ) (g : Shape) (old new : Worl
               let zero : length (ready_events boruvka new) ≡ 0 = ap length none in
               omega (arith, some, zero);
         },
+        woken,
       )

@@ -35,10 +35,10 @@ module _ (seed : ℕ) (wake : WakeSet) (turns : ℕ) (g : Shape) where
     pub more : 0 < length (lawful_events boruvka (may_wake g wake) g events)
     pub goes_on : HasEnded g (net_after boruvka g events) → ⊥
 
-  -- a world of the graph after a whole run, or after one that has used its turns
+  -- a world of the graph under the wake set, after a whole run, or after one that has used its turns
   abbrev pub IsRan : Ran → Type 0
-  IsRan (Ended w) = (w.net.graph ≡ g) × IsWholeRun w.net.trace
-  IsRan (Stopped w) = (w.net.graph ≡ g) × IsStopped w.net.trace
+  IsRan (Ended w) = (w.net.graph ≡ g) × IsWholeRun w.net.trace × (w.wake ≡ wake)
+  IsRan (Stopped w) = (w.net.graph ≡ g) × IsStopped w.net.trace × (w.wake ≡ wake)
 
 -- with turns for all messages that may be sent and all nodes a run is whole
 abbrev pub TurnsSuffice : Type 0

@@ -10,7 +10,7 @@ ghost use Rattle.boruvka_view.specs.RunPage.{IsRunPage};
 use crate::data::data_of;
 use ghs_graph::graph::Graph;
 use ghs_page::page::page;
-use ghs_view::page::{PAGE_EVENTS, PAGE_NODES, PageFault, first_events};
+use ghs_view::page::{PageFault, first_events, is_too_large};
 use peer_machine::event::Event;
 use std::alloc::Global;
 
@@ -33,10 +33,10 @@ pub fn run_page(
     ensures page { IfOk result (λ text. IsRunPage graph events.now from to text.items) }
     ensures large { IsErrOf result TooLarge ↔ IsTooLarge graph events.now to }
 {
-    let shown = first_events(events, to);
-    if graph.nodes() > PAGE_NODES || shown.len() > PAGE_EVENTS {
+    if is_too_large(&graph, events, to) {
         return Err(PageFault::TooLarge);
     }
+    let shown = first_events(events, to);
     let data = data_of(alloc, graph, shown, events.len() as u64, from)?;
     Ok(page(alloc, &data)?)
 }

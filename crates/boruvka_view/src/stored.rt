@@ -5,6 +5,7 @@ ghost use Rattle.peer_machine.specs.Run.{IsRunUnder};
 ghost use Rattle.boruvka_node.specs.Boruvka.{boruvka};
 ghost use Rattle.boruvka_view.specs.RunPage.{IsRunPage};
 ghost use Rattle.boruvka_view.specs.Stored.{HasNoPage};
+ghost use Rattle.ghs_view.specs.RunPage.{IsTooLarge};
 ghost use Rattle.std.specs.Prelude.{IfErr, IfOk, OnOk};
 
 use crate::page::run_page;
@@ -37,6 +38,7 @@ pub fn stored_page(
 ) -> Result<Vec<u8>, StoredFault>
     ensures run { OnOk result (IsRunUnder boruvka (may_wake graph wake) (network_of graph) events.now) }
     ensures page { IfOk result (λ text. IsRunPage graph events.now from to text.items) }
+    ensures small { OnOk result (IsTooLarge graph events.now to → ⊥) }
     ensures fault { IfErr result (λ fault. HasNoPage graph wake events.now to fault) }
 {
     let world = match replay::<Boruvka>(alloc, graph, wake, events) {

@@ -28,6 +28,7 @@ use ghs_report::write_out::write_out;
 use std::alloc::{AllocError, Global};
 use std::env::Args;
 use std::fs::File;
+use std::io::Read;
 use std::process::ExitCode;
 use std::rt::Runtime;
 use std::sync::Wait;
@@ -36,6 +37,10 @@ use std::{env, io};
 
 /// The exit status of a command line that is refused.
 const REFUSED: u8 = 2;
+
+/// Why words that can't be read are refused, as `clap` says it.
+const NOT_UTF8: &str =
+    "error: invalid UTF-8 was detected in one or more arguments\n\nFor more information, try '--help'.\n";
 
 fn main(rt: HostRuntime) -> ExitCode {
     let alloc = rt.alloc();
@@ -75,7 +80,7 @@ fn unread<R: Runtime>(rt: &R, error: &io::Error) -> u8
 {
     match error.kind() {
         io::ErrorKind::OutOfMemory => tell(rt, &ServeFault::Memory),
-        _ => refuse(rt, "ghs: the command line could not be read\n"),
+        _ => refuse(rt, NOT_UTF8),
     }
 }
 
@@ -150,7 +155,8 @@ fn network_of<R: Runtime + AllocGlobal>(
 }
 
 /// Opens the files and does the job, the trace's before the graph's; `-` is standard input. A file that can't be opened
-/// can't be read. What a file holds no contract says, and so nothing is said of what comes of it.
+/// can't be read, nor can standard input that is closed. What a file holds no contract says, and so nothing is said of what
+/// comes of it.
 fn do_job<R: Runtime + AllocGlobal + Threads + Wait + Sync>(
     rt: &R,
     alloc: Global,
@@ -158,6 +164,9 @@ fn do_job<R: Runtime + AllocGlobal + Threads + Wait + Sync>(
 ) -> Result<(), ServeFault>
     requires { IsWithinLimits job.now.task }
 {
+    if reads_input_and_a_file(job) && !has_input(rt) {
+        return Err(ServeFault::Read);
+    }
     match &job.trace {
         Some(path) if is_dash(path) => do_job_with_trace(
             rt,
@@ -171,6 +180,21 @@ fn do_job<R: Runtime + AllocGlobal + Threads + Wait + Sync>(
         },
         None => do_job_with_trace(rt, alloc, job, &mut Device::of(b"".as_slice())),
     }
+}
+
+/// Whether of trace and graph one is a file and the other one is read from standard input.
+fn reads_input_and_a_file(job: &Job) -> bool {
+    match (&job.trace, &job.graph) {
+        (Some(trace), Some(graph)) => is_dash(trace) != is_dash(graph),
+        (Some(trace), None) => !is_dash(trace),
+        (None, _) => false,
+    }
+}
+
+/// Whether standard input is open, by a read of no byte. A file that is opened takes the place of one that isn't, and would
+/// be read for it: so this is asked before.
+fn has_input<R: Runtime>(rt: &R) -> bool {
+    rt.reader().read(&mut []).is_ok()
 }
 
 /// Opens the graph's file and does the job with this trace.

@@ -17,7 +17,7 @@ use std::alloc::{AllocError, Global};
 /// ```text
 /// let world = replay(alloc, graph, WakeSet::All, &events)?;
 /// let length = longest_chain(alloc, world.graph(), world.trace())?;
-/// // 8 in the run of the triangle that docs/LESSON.md tells
+/// // 8 in the run of the triangle that docs/class/LESSON.md tells
 /// ```
 pub fn longest_chain(alloc: Global, graph: &Graph, events: &[Event]) -> Result<u64, AllocError>
     requires run { IsRun (network_of graph.now) events.now }

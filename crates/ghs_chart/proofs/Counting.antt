@@ -1,5 +1,5 @@
 -- How many values stand in a column.
-use Rattle.std.proofs.Common.{◌≡◌, ℕ, zero, suc, ◌<◌, ◌≤◌, max, List, arith, ⊎_elim, ◌++◌, ◌∙◌, append_assoc, ap, subst, sym, ◌+◌, refl}
+use Rattle.std.proofs.Common.{◌≡◌, ℕ, zero, suc, ◌<◌, ◌≤◌, List, arith, ⊎_elim, ◌++◌, ◌∙◌, append_assoc, ap, subst, ◌+◌}
 use Rattle.std.proofs.lemmas.Bool.{cases_eq}
 use Rattle.ghs_chart.specs.Strip.{bar, bars, count_in, most_of}
 

@@ -1,5 +1,6 @@
 -- Charts: a panel for each network, with a strip for each figure of its runs.
-use Rattle.std.specs.Prelude.{ℕ, ◌+◌, ◌*◌, cond, eqb, nat_lt, codes, decimal, List, [], ◌∷◌, ◌++◌}
+use Rattle.std.specs.Prelude.{ℕ, ◌+◌, ◌*◌, Bool, ◌||◌, cond, eqb, chars, codes, decimal, encode_utf8, List, ◌++◌}
+use Rattle.std.specs.Char.{is_control}
 use Rattle.std.specs.List.{flat_map}
 use Rattle.ghs_chart.specs.declared.panel.Caption.{Caption}
 use Rattle.ghs_chart.specs.declared.texts.TheConstants.{CAPTION, CHAIN, FONT, GROUP_END, LEGEND, NAME, OPENING, PANEL, PANEL_END, PAPER, PAPER_END, PUT_BACK, SCALE, SENT, SIZE, STYLE, TEXT_END}
@@ -25,12 +26,19 @@ paper high = around PAPER.now high PAPER_END.now
 unfoldable pub chart_head : ℕ → List ℕ
 chart_head panels = opening (height_of panels) ++ STYLE.now ++ paper (height_of panels) ++ LEGEND.now
 
--- a byte of a text as SVG holds it; a control character, which it may not hold, is a question mark
-abbrev pub escaped : ℕ → List ℕ
-escaped b = cond (eqb b 38) (codes "&amp;") (cond (eqb b 60) (codes "&lt;") (cond (nat_lt b 32) (codes "?") (b ∷ [])))
+-- a character for which a question mark stands: a control character, or one of the two others that XML can't hold
+abbrev pub is_masked : ℕ → Bool
+is_masked c = is_control c || (eqb c 0xFFFE || eqb c 0xFFFF)
 
+-- a character of a text as SVG holds it; of > it could hold some alone, but none behind two closing brackets
+abbrev pub escaped : ℕ → List ℕ
+escaped c =
+    cond (is_masked c) (codes "?")
+    (cond (eqb c 38) (codes "&amp;") (cond (eqb c 60) (codes "&lt;") (cond (eqb c 62) (codes "&gt;") (encode_utf8 c))))
+
+-- the name that these bytes spell
 unfoldable pub name_text : List ℕ → List ℕ
-name_text name = NAME.now ++ flat_map escaped name ++ TEXT_END.now
+name_text name = NAME.now ++ flat_map escaped (chars name) ++ TEXT_END.now
 
 unfoldable pub caption_text : Caption → List ℕ
 caption_text c =

@@ -1,7 +1,7 @@
 //! The panel of a network.
-ghost use Rattle.ghs_chart.specs.Chart.{caption_text, escaped, last_strip, name_text, panel_text, strips, top_of};
+ghost use Rattle.ghs_chart.specs.Chart.{caption_text, escaped, is_masked, last_strip, name_text, panel_text, strips, top_of};
 ghost use Rattle.std.specs.List.{flat_map};
-ghost use Rattle.std.specs.Prelude.{◌≡◌, ◌++◌, ◌≤◌, ◌^◌, IfOk, length};
+ghost use Rattle.std.specs.Prelude.{◌≡◌, ◌++◌, ◌≤◌, ◌^◌, IfOk, chars, length};
 
 use crate::around::put_around;
 use crate::strip::put_strip;
@@ -27,14 +27,14 @@ pub struct Caption {
 /// ```text
 /// put_chart_head(&mut text, 1)?;                            // a chart of one panel
 /// let caption = Caption { nodes: 5, links: 4, runs: 3, bound: 58 };
-/// put_panel(&mut text, 0, b"five", caption, &[34, 34, 34], &requeued, &chains)?;
+/// put_panel(&mut text, 0, "five", caption, &[34, 34, 34], &requeued, &chains)?;
 /// text.extend_from_slice(CHART_TAIL)?;
 /// ```
 #[tactic(auto, unfolding(crate::specs::Chart::panel_text))]
 pub fn put_panel(
     text: &mut Vec<u8>,
     place: u64,
-    name: &[u8],
+    name: &str,
     caption: Caption,
     sent: &[u128],
     requeued: &[u128],
@@ -90,7 +90,7 @@ fn top_of(place: u64) -> u128
 
 /// The name.
 #[tactic(auto, unfolding(crate::specs::Chart::name_text))]
-fn put_name(text: &mut Vec<u8>, name: &[u8]) -> Result<(), AllocError>
+fn put_name(text: &mut Vec<u8>, name: &str) -> Result<(), AllocError>
     ensures { IfOk result (λ _. text.new.items ≡ text.old.items ++ name_text name.now) }
 {
     text.extend_from_slice(NAME)?;
@@ -110,26 +110,35 @@ fn put_caption(text: &mut Vec<u8>, caption: Caption) -> Result<(), AllocError>
 }
 
 /// A text as SVG holds it.
-fn put_escaped(text: &mut Vec<u8>, bytes: &[u8]) -> Result<(), AllocError>
-    ensures { IfOk result (λ _. text.new.items ≡ text.old.items ++ flat_map escaped bytes.now) }
+fn put_escaped(text: &mut Vec<u8>, name: &str) -> Result<(), AllocError>
+    ensures { IfOk result (λ _. text.new.items ≡ text.old.items ++ flat_map escaped (chars name.now)) }
 {
-    for byte in bytes {
-        put_escape(text, *byte)?;
+    for letter in name.chars() {
+        put_escape(text, letter)?;
     }
     Ok(())
 }
 
-/// A byte of such a text; a control character, which SVG may not hold, becomes a question mark.
-fn put_escape(text: &mut Vec<u8>, byte: u8) -> Result<(), AllocError>
-    ensures { IfOk result (λ _. text.new.items ≡ text.old.items ++ escaped byte) }
+/// A character of such a text; for one that SVG may not hold, and for each control character, a question mark stands.
+fn put_escape(text: &mut Vec<u8>, letter: char) -> Result<(), AllocError>
+    ensures { IfOk result (λ _. text.new.items ≡ text.old.items ++ escaped letter) }
 {
-    if byte == b'&' {
-        text.extend_from_slice(b"&amp;")
-    } else if byte == b'<' {
-        text.extend_from_slice(b"&lt;")
-    } else if byte < 32 {
+    if is_masked(letter) {
         text.extend_from_slice(b"?")
+    } else if letter == '&' {
+        text.extend_from_slice(b"&amp;")
+    } else if letter == '<' {
+        text.extend_from_slice(b"&lt;")
+    } else if letter == '>' {
+        text.extend_from_slice(b"&gt;")
     } else {
-        text.extend_from_slice(&[byte])
+        text.extend_from_slice(letter.encode_utf8(&mut [0; 4]).as_bytes())
     }
+}
+
+/// Whether a question mark stands for a character.
+fn is_masked(letter: char) -> bool
+    ensures { result ≡ is_masked letter }
+{
+    letter.is_control() || letter == '\u{fffe}' || letter == '\u{ffff}'
 }

@@ -14,4 +14,7 @@ pub enum ScheduleKind {
     /// Not among several: of the messages that would be consumed the one that was sent last comes first. Where there is none,
     /// among the wakes, and else among those that uncover one; and so every run ends.
     Lifo,
+    /// Not among several: lap after lap the ports are gone over, and one message is taken from each that holds any when its
+    /// place comes; nodes wake in the first lap. So every run ends, and a seed has no effect.
+    RoundRobin,
 }

@@ -1,11 +1,12 @@
--- A patient run, one by rounds, one of what was sent last, or one by Borůvka in step, with turns for its events doesn't stop at its turns.
+-- A patient run, one by rounds, one of what was sent last, one by round robin, or one by Borůvka in step, with turns for its events doesn't stop at
+-- its turns.
 use Rattle.std.proofs.Common.{◌≡◌, ◌∙◌, ℕ, Bool, true, false, List, Option, Some, None, ⊎_elim, inr, subst, sym}
 use Rattle.std.specs.Prelude.{IfSome, IsErrOf, Result, Ok, Err}
 use Rattle.ghs_gr.specs.Judgement.{IsOneThing, TextIs}
 use Rattle.ghs_gr.specs.RawGraph.{RawShape}
 use Rattle.ghs_choices.specs.declared.schedule_kind.ScheduleKind.{ScheduleKind}
-use Rattle.ghs_choices.specs.declared.schedule_kind.ScheduleKind.TheVariants.{Seeded, Patient, Rounds, Waits, Lifo}
-use Rattle.ghs_picking.specs.Picking.{HasTurnsFor, IsPickedBy}
+use Rattle.ghs_choices.specs.declared.schedule_kind.ScheduleKind.TheVariants.{Seeded, Patient, Rounds, Waits, Lifo, RoundRobin}
+use Rattle.ghs_picking.specs.Picking.{IsPickedBy}
 use Rattle.ghs_graph.specs.Graph.{Shape}
 use Rattle.peer_network.specs.declared.event.Event.{Event}
 use Rattle.ghs_protocol.specs.Marks.{HasEnded}
@@ -18,18 +19,19 @@ use Rattle.ghs_commands.specs.declared.boruvka.BoruvkaOptions.{BoruvkaOptions}
 use Rattle.ghs_commands.specs.declared.job.RunOptions.{RunOptions}
 use Rattle.ghs_commands.specs.declared.job.Task.{Task}
 use Rattle.ghs_commands.specs.declared.job.Task.TheVariants as task
-use Rattle.ghs_cli.specs.Ending.{IsBounded, IsBoundedBoruvka, IsBoundedRun, IsBoundedTask}
+use Rattle.ghs_cli.specs.Ending.{HasTurnsBy, IsBoundedBoruvka, IsBoundedRun, IsBoundedTask}
 use Rattle.ghs_cli.specs.InStep as in_step
 use Rattle.ghs_cli.specs.Serving.{IsBoruvkaCause, IsBoruvkaOutput, IsGraphCause, IsRunningCause, StopsRun, shape_of}
 
 -- a run by a bounded schedule, with turns for its events, has ended
-ended_by : (p : ScheduleKind) (seed : ℕ) (wake : WakeSet) (turns : ℕ) (g : Shape) (es : List Event) → IsBounded p →
-    IsPickedBy p seed wake turns g es → HasTurnsFor g turns → HasEnded g (net_after g es)
-ended_by Seeded seed wake turns g es bounded run enough = absurd bounded
-ended_by Patient seed wake turns g es bounded run enough = run.ends enough
-ended_by Rounds seed wake turns g es bounded run enough = run.ends enough
-ended_by Waits seed wake turns g es bounded run enough = absurd bounded
-ended_by Lifo seed wake turns g es bounded run enough = run.ends enough
+ended_by : (p : ScheduleKind) (seed : ℕ) (wake : WakeSet) (turns : ℕ) (g : Shape) (es : List Event) → IsPickedBy p seed wake turns g es →
+    HasTurnsBy p g turns → HasEnded g (net_after g es)
+ended_by Seeded seed wake turns g es run enough = absurd enough
+ended_by Patient seed wake turns g es run enough = run.ends enough
+ended_by Rounds seed wake turns g es run enough = run.ends enough
+ended_by Waits seed wake turns g es run enough = absurd enough
+ended_by Lifo seed wake turns g es run enough = run.ends enough
+ended_by RoundRobin seed wake turns g es run enough = run.ends enough
 
 -- a text is that of one graph
 same_graph : (input : List ℕ) (one two : RawShape) → IsOneThing input → TextIs input (Ok one) → TextIs input (Ok two) → one ≡ two
@@ -40,11 +42,11 @@ pub run_goes_on : (o : RunOptions) (input : List ℕ) → IsOneThing input → I
 run_goes_on o input one cause is =
     ⊎_elim (λ (bad : IsGraphCause input serve.TurnLimit). bad)
     (λ (stops : (graph : RawShape) × TextIs input (Ok graph) × StopsRun o (shape_of graph) serve.TurnLimit).
-    let turns : HasTurnsFor (shape_of stops.0) o.turns =
-    subst (λ (g : RawShape). HasTurnsFor (shape_of g) o.turns) (same_graph input is.graph stops.0 one is.text stops.1) is.turns in
+    let turns : HasTurnsBy o.schedule_kind (shape_of stops.0) o.turns =
+    subst (λ (g : RawShape). HasTurnsBy o.schedule_kind (shape_of g) o.turns) (same_graph input is.graph stops.0 one is.text stops.1) is.turns in
     let stopped = stops.2.1 in
     stopped.goes_on
-    (ended_by o.schedule_kind o.seed o.wake o.turns (shape_of stops.0) stops.2.0 is.bounded (stopped.by.picked is.alone) turns))
+    (ended_by o.schedule_kind o.seed o.wake o.turns (shape_of stops.0) stops.2.0 (stopped.by.picked is.alone) turns))
     cause
 
 -- what goes out at the turn limit is of a run by Borůvka in step that has used its turns,

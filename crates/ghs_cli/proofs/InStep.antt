@@ -52,6 +52,7 @@ goes_on wake own h g done events serve.TooManyLinks graph trace wakes run goes =
 goes_on wake own h g done events serve.TooLargeToExplore graph trace wakes run goes = absurd goes
 goes_on wake own h g done events (serve.NoSuchEnd ends) graph trace wakes run goes = absurd goes
 goes_on wake own h g done events (serve.StateLimit limit) graph trace wakes run goes = absurd goes
+goes_on wake own h g done events serve.PartLimit graph trace wakes run goes = absurd goes
 goes_on wake own h g done events serve.TurnLimit graph trace wakes run goes = absurd goes
 goes_on wake own h g done events serve.Stalled graph trace wakes run goes = absurd goes
 goes_on wake own h g done events serve.NotEnded graph trace wakes run goes = (

@@ -73,6 +73,7 @@ serves_cause job stored input old new serve.TooManyLinks early cause = cause
 serves_cause job stored input old new serve.TooLargeToExplore early cause = cause
 serves_cause job stored input old new (serve.NoSuchEnd ends) early cause = cause
 serves_cause job stored input old new (serve.StateLimit limit) early cause = cause
+serves_cause job stored input old new serve.PartLimit early cause = cause
 serves_cause job stored input old new serve.TurnLimit early cause = (cause, λ shows. absurd (let bad : true ≡ false = sym shows ∙ early in cc))
 serves_cause job stored input old new serve.Stalled early cause = cause
 serves_cause job stored input old new serve.NotEnded early cause = cause
@@ -163,6 +164,7 @@ goes_on wake own h g done events serve.TooManyLinks graph trace wakes run goes =
 goes_on wake own h g done events serve.TooLargeToExplore graph trace wakes run goes = absurd goes
 goes_on wake own h g done events (serve.NoSuchEnd ends) graph trace wakes run goes = absurd goes
 goes_on wake own h g done events (serve.StateLimit limit) graph trace wakes run goes = absurd goes
+goes_on wake own h g done events serve.PartLimit graph trace wakes run goes = absurd goes
 goes_on wake own h g done events serve.TurnLimit graph trace wakes run goes = absurd goes
 goes_on wake own h g done events serve.Stalled graph trace wakes run goes = absurd goes
 goes_on wake own h g done events serve.NotEnded graph trace wakes run goes = (

@@ -3,8 +3,9 @@ use Rattle.std.specs.Prelude.{◌≡◌, ℕ, List, Ok}
 use Rattle.ghs_gr.specs.Judgement.{TextIs}
 use Rattle.ghs_gr.specs.RawGraph.{RawShape}
 use Rattle.ghs_choices.specs.declared.schedule_kind.ScheduleKind.{ScheduleKind}
-use Rattle.ghs_choices.specs.declared.schedule_kind.ScheduleKind.TheVariants.{Seeded, Patient, Rounds, Waits, Lifo}
-use Rattle.ghs_picking.specs.Picking.{HasTurnsFor}
+use Rattle.ghs_choices.specs.declared.schedule_kind.ScheduleKind.TheVariants.{Seeded, Patient, Rounds, Waits, Lifo, RoundRobin}
+use Rattle.ghs_graph.specs.Graph.{Shape}
+use Rattle.ghs_picking.specs.Picking.{HasTurnsFor, HasTurnsInTurn}
 use Rattle.ghs_commands.specs.declared.boruvka.BoruvkaOptions.{BoruvkaOptions}
 use Rattle.ghs_commands.specs.declared.job.RunOptions.{RunOptions}
 use Rattle.ghs_commands.specs.declared.job.Task.{Task}
@@ -12,21 +13,22 @@ use Rattle.ghs_commands.specs.declared.job.Task.TheVariants as task
 use Rattle.ghs_cli.specs.InStep as in_step
 use Rattle.ghs_cli.specs.Serving.{shape_of}
 
--- the schedules whose runs have a bound on their events: what moves a run on comes first, in some order
-abbrev pub IsBounded : ScheduleKind → Type 0
-IsBounded Seeded = ⊥
-IsBounded Patient = Unit {0}
-IsBounded Rounds = Unit {0}
-IsBounded Waits = ⊥
-IsBounded Lifo = Unit {0}
+-- Some schedules have runs with a bound on their events, since what moves a run on comes first in some order, or each port has its turn; and there
+-- are turns for so many.
+abbrev pub HasTurnsBy : ScheduleKind → Shape → ℕ → Type 0
+HasTurnsBy Seeded g turns = ⊥
+HasTurnsBy Patient g turns = HasTurnsFor g turns
+HasTurnsBy Rounds g turns = HasTurnsFor g turns
+HasTurnsBy Waits g turns = ⊥
+HasTurnsBy Lifo g turns = HasTurnsFor g turns
+HasTurnsBy RoundRobin g turns = HasTurnsInTurn g turns
 
 -- the run of the graph whose text the input is goes by such a schedule and without threads, and has turns for all the events that it may have
 pub record IsBoundedRun (o : RunOptions) (input : List ℕ) : Type 0 where
   pub alone : o.workers ≡ 0
-  pub bounded : IsBounded o.schedule_kind
   pub graph : RawShape
   pub text : TextIs input (Ok graph)
-  pub turns : HasTurnsFor (shape_of graph) o.turns
+  pub turns : HasTurnsBy o.schedule_kind (shape_of graph) o.turns
 
 -- by Borůvka in step each run has a bound on its events, and it has turns for so many
 pub record IsBoundedBoruvka (o : BoruvkaOptions) (input : List ℕ) : Type 0 where

@@ -60,11 +60,13 @@ pub record IsBehind (o : ExploreOptions) (g : Shape) (ends : ℕ) : Type 0 where
   pub count : ends ≡ length rows
   pub behind : ends < o.end
 
--- why nothing is: the graph is too large, its runs lead to more states than they may, or there is no such row
+-- why nothing is: the graph is too large, its runs lead to more states than they may, or there is no such row; that the parts of
+-- states have no numbers left, or memory runs out, may come anywhere
 abbrev pub FindsNothing : ExploreOptions → Shape → ServeFault → Type 0
 FindsNothing o g serve.TooLargeToExplore = IsSmall g → ⊥
 FindsNothing o g (serve.StateLimit limit) = (limit ≡ o.limit) × HasMoreStates g o.wake o.limit
 FindsNothing o g (serve.NoSuchEnd ends) = IsBehind o g ends
+FindsNothing o g serve.PartLimit = Unit {0}
 FindsNothing o g serve.Memory = Unit {0}
 FindsNothing o g _ = ⊥
 

@@ -97,6 +97,7 @@ status_of serve.TooManyLinks = 1
 status_of serve.TooLargeToExplore = 1
 status_of (serve.NoSuchEnd ends) = 1
 status_of (serve.StateLimit limit) = 3
+status_of serve.PartLimit = 3
 status_of serve.TurnLimit = 3
 status_of serve.Stalled = 3
 status_of serve.NotEnded = 3

@@ -45,9 +45,9 @@ lengths_of g events = record {
   longest = longest_sent boruvka g events;
 }
 
--- the text of its time: that of a run of GHS that goes by no rounds
+-- the text of its time: that of a run of GHS that goes by no rounds and no laps
 abbrev pub timed_text : Shape → List Event → List ℕ
-timed_text g events = time_text (lengths_of g events) None
+timed_text g events = time_text (lengths_of g events) None None
 
 -- what is shown of a run that has ended: its report, its events, or its time
 abbrev pub IsShown : Show → Shape → List Event → List ℕ → Type 0

@@ -11,9 +11,10 @@ use Rattle.ghs_graph.specs.Links.{IsTree}
 use Rattle.ghs_cores.specs.declared.component.Component.{Component}
 use Rattle.ghs_cores.specs.Components.{HasEndedIn, IsOfGraph}
 use Rattle.ghs_cores.specs.Text.{HaveLines}
-use Rattle.ghs_picking.specs.Lengths.{lengths_of}
+use Rattle.ghs_picking.specs.Laps.{AreLaps}
 use Rattle.ghs_picking.specs.Picking.{AreRounds, IsPickedBy}
-use Rattle.ghs_picking.specs.Time.{time_text}
+use Rattle.ghs_picking.specs.Time.{IsTimeText}
+use Rattle.ghs_picking.specs.declared.laps.LapCount.{LapCount}
 use Rattle.peer_network.specs.declared.event.Event.{Event}
 use Rattle.ghs_protocol.specs.Marks.{HasEnded}
 use Rattle.ghs_protocol.specs.Net.{Net}
@@ -133,9 +134,18 @@ pub record AreItsRounds (o : RunOptions) (g : Shape) (events : List Event) (roun
   pub by_schedule : o.workers ≡ 0 → AreRounds o.schedule_kind o.seed o.wake o.turns g events rounds
   pub by_threads : 1 ≤ o.workers → rounds ≡ None
 
--- the time of a run: its longest chain of messages, and its rounds; and its bits
-abbrev pub IsTime : RunOptions → Shape → List Event → List ℕ → Type 0
-IsTime o g events output = (rounds : Option ℕ) × AreItsRounds o g events rounds × (output ≡ time_text (lengths_of g events) rounds)
+-- in how many laps it went, where the schedule goes by round robin
+pub record AreItsLaps (o : RunOptions) (g : Shape) (events : List Event) (laps : Option LapCount) : Type 0 where
+  pub by_schedule : o.workers ≡ 0 → AreLaps o.schedule_kind g events laps
+  pub by_threads : 1 ≤ o.workers → laps ≡ None
+
+-- the time of a run: its longest chain of messages, and its rounds or laps with the bound on them; and its bits
+pub record IsTime (o : RunOptions) (g : Shape) (events : List Event) (output : List ℕ) : Type 0 where
+  pub rounds : Option ℕ
+  pub are_rounds : AreItsRounds o g events rounds
+  pub laps : Option LapCount
+  pub are_laps : AreItsLaps o g events laps
+  pub text : IsTimeText o.wake g events rounds laps output
 
 -- what is shown of a run that has ended: its report, its events, or its time
 abbrev pub IsShown : Show → RunOptions → Shape → List Event → List ℕ → Type 0

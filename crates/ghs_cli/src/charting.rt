@@ -32,7 +32,7 @@ pub(crate) fn nameless_chart<R: Threads + Sync + Eprint>(
 {
     let mut text = Vec::new(alloc);
     put_chart_head(&mut text, 1)?;
-    put_network_panel(rt, alloc, &mut text, options, 0, b"", graph)?;
+    put_network_panel(rt, alloc, &mut text, options, 0, "", graph)?;
     text.extend_from_slice(CHART_TAIL)?;
     Ok(text)
 }
@@ -67,7 +67,7 @@ fn put_panels<R: Threads + Sync + Eprint>(
     ensures { IfOk result (λ _. (panels : List ℕ) × ArePanels options.now networks.now panels × (text.new.items ≡ text.old.items ++ panels)) }
 {
     for (place, network) in networks.iter().enumerate() {
-        let name = network.name.as_bytes();
+        let name = network.name.as_str();
         put_network_panel(rt, alloc, text, options, place as u64, name, &network.graph)?;
         tell_networks(rt, options.progress, place + 1, networks.len());
     }
@@ -81,7 +81,7 @@ fn put_network_panel<R: Threads + Sync + Eprint>(
     text: &mut Vec<u8>,
     options: &SweepOptions,
     place: u64,
-    name: &[u8],
+    name: &str,
     graph: &Graph,
 ) -> Result<(), AllocError>
     requires { AreSweepLimits options.now }
@@ -97,7 +97,7 @@ fn put_runs_panel(
     alloc: Global,
     text: &mut Vec<u8>,
     place: u64,
-    name: &[u8],
+    name: &str,
     graph: &Graph,
     runs: &[Figures],
 ) -> Result<(), AllocError>

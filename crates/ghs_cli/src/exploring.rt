@@ -75,6 +75,7 @@ fn found<R: Eprint>(
         Err(ExploreFault::TooMany) => Err(ServeFault::StateLimit {
             limit: options.limit,
         }),
+        Err(ExploreFault::PartLimit) => Err(ServeFault::PartLimit),
         Err(ExploreFault::Memory) => Err(ServeFault::Memory),
     }
 }

@@ -42,6 +42,7 @@ pub(crate) fn found_in_step<R: Eprint>(
         Err(ExploreFault::TooMany) => Err(ServeFault::StateLimit {
             limit: options.limit,
         }),
+        Err(ExploreFault::PartLimit) => Err(ServeFault::PartLimit),
         Err(ExploreFault::Memory) => Err(ServeFault::Memory),
     }
 }

@@ -3,11 +3,14 @@ ghost use Rattle.ghs_cli.specs.Fault.{of_gr, of_make, of_replay, of_steps, of_st
 ghost use Rattle.std.specs.Prelude.{◌≡◌};
 
 use ghs_gr::fault::GrFault;
+use ghs_gr::raw_graph::{ARC_LIMIT, NODE_LIMIT};
 use ghs_gr::text::TextFault;
 use ghs_make::fault::MakeFault;
 use ghs_report::portions::WriteFault;
 use ghs_report::write_out::Partial;
 use ghs_steps::show::StepsFault;
+use ghs_view::page::{PAGE_EVENTS, PAGE_NODES};
+use peer_explore::fault::{MOST_LINKS, MOST_NODES, NUMBERS};
 use peer_schedule::fault::ReplayFault;
 use peer_texts::fault::TraceFault;
 use peer_trace::fault::StoredFault;
@@ -45,9 +48,9 @@ pub enum ServeFault {
     TraceOf(Protocol),
     #[error("trace event {0} is not lawful")]
     NotLawful(u64),
-    #[error("page too large: at most 2000 nodes and 100000 events; --to shortens it, --from only opens it later")]
+    #[error("page too large: at most {nodes} nodes and {events} events; --to shortens it, --from only opens it later", nodes = PAGE_NODES, events = PAGE_EVENTS)]
     PageTooLarge,
-    #[error("nodes: 1 to 1048576")]
+    #[error("nodes: 1 to {most}", most = NODE_LIMIT)]
     NodesOutside,
     #[error("this kind takes no number of links")]
     LinksGiven,
@@ -55,14 +58,16 @@ pub enum ServeFault {
     WeightsGiven,
     #[error("links: {least} to {most}")]
     LinksOutside { least: u32, most: u32 },
-    #[error("more than 8388608 links")]
+    #[error("more than {most} links", most = ARC_LIMIT)]
     TooManyLinks,
-    #[error("too large to explore: at most 12 nodes and 20 links")]
+    #[error("too large to explore: at most {nodes} nodes and {links} links", nodes = MOST_NODES, links = MOST_LINKS)]
     TooLargeToExplore,
     #[error("no such end: there are {ends}")]
     NoSuchEnd { ends: u64 },
     #[error("more than {limit} states")]
     StateLimit { limit: u32 },
+    #[error("more than {most} states of nodes, messages or contents of queues", most = NUMBERS)]
+    PartLimit,
     #[error("turn limit reached")]
     TurnLimit,
     /// Never answered: while a run goes on, an event is ready.
@@ -88,7 +93,7 @@ pub enum ServeFault {
 
 impl ServeFault {
     /// The program's exit status: 1 where the input is refused, 3 where a run hasn't ended or there are more states than
-    /// may be, 4 for lack of memory or of a thread, 5 where a read or a write failed, 6 for workers that stop without a
+    /// may be, or more of their parts, 4 for lack of memory or of a thread, 5 where a read or a write failed, 6 for workers that stop without a
     /// reason and a state that has no rule.
     pub fn status(&self) -> u8
         ensures { result ≡ status_of self.now }
@@ -96,6 +101,7 @@ impl ServeFault {
         match self {
             ServeFault::TurnLimit => 3,
             ServeFault::StateLimit { limit: _ } => 3,
+            ServeFault::PartLimit => 3,
             ServeFault::Stalled => 3,
             ServeFault::NotEnded => 3,
             ServeFault::Memory => 4,

@@ -1,18 +1,18 @@
 //! Runs of a network: by the schedule of a seed, or by threads.
-ghost use Rattle.ghs_picking.specs.Lengths.{lengths_of};
-ghost use Rattle.ghs_picking.specs.Time.{time_text};
 ghost use Rattle.ghs_protocol.specs.Marks.{HasEnded};
+ghost use Rattle.ghs_protocol.specs.Run.{IsRun};
+ghost use Rattle.peer_network.specs.Network.{network_of};
 ghost use Rattle.ghs_pool.specs.Ends.{EndFits};
 ghost use Rattle.ghs_pool.specs.Follows.{Follows};
 ghost use Rattle.ghs_world.specs.WorldState.{home};
 ghost use Rattle.ghs_commands.specs.Job.{AreWithinLimits};
 ghost use Rattle.ghs_cli.specs.Ending.{IsBoundedTask};
 ghost use Rattle.ghs_cli.specs.Running.{IsOpened, Stops};
-ghost use Rattle.ghs_cli.specs.Serving.{AreItsRounds, IsRan, IsReport, IsRunOutput, IsRunningCause, IsShown, IsStopped, IsWholeRun, IsWrite, Serves, StopsRun, is_late};
+ghost use Rattle.ghs_cli.specs.Serving.{AreItsLaps, AreItsRounds, IsRan, IsReport, IsRunOutput, IsRunningCause, IsShown, IsStopped, IsTime, IsWholeRun, IsWrite, Serves, StopsRun, is_late};
 ghost use Rattle.ghs_commands.specs.declared.job.Show.TheVariants.{Events};
 ghost use Rattle.ghs_commands.specs.declared.job.Task.{Task};
 ghost use Rattle.ghs_cli.specs.declared.fault.ServeFault.{ServeFault};
-ghost use Rattle.std.specs.Prelude.{◌≡◌, ◌≤◌, ◌↔◌, List, ℕ, false, true, IfSome, IsErrOf, OnOk, IfErr, IfOk};
+ghost use Rattle.std.specs.Prelude.{◌≡◌, ◌≤◌, ◌↔◌, ◌^◌, List, ℕ, length, false, true, IfSome, IsErrOf, OnOk, IfErr, IfOk};
 
 use crate::fault::ServeFault;
 use crate::progress::{Tallying, run_told, tell_end};
@@ -21,6 +21,8 @@ use ghs_commands::job::{RunOptions, Show};
 use ghs_cores::text::put_ended_cores;
 use ghs_gr::device::{Sink, Source};
 use ghs_gr::laws::law_one_judgement;
+use ghs_graph::graph::Graph;
+use ghs_picking::laps::{LapCount, lap_count};
 use ghs_picking::picking::run_timed;
 use ghs_picking::time::time_text;
 use ghs_pool::end::PoolFault;
@@ -31,6 +33,7 @@ use ghs_report::write_out::write_out;
 use ghs_sched::fault::RunFault;
 use ghs_sched::run::RunEnd;
 use ghs_world::world::World;
+use peer_network::event::Event;
 use peer_texts::trace::write_trace;
 use std::alloc::Global;
 use std::sync::Wait;
@@ -247,19 +250,45 @@ fn shown(
     match options.show {
         Show::Summary => reported(alloc, world, options.core),
         Show::Events => Ok(write_trace(alloc, world.trace())?),
-        Show::Time => timed(alloc, world, rounds),
+        Show::Time => timed(alloc, options, world, rounds),
     }
 }
 
 /// The time of a world's run, and its bits.
-fn timed(alloc: Global, world: &World, rounds: Option<u64>) -> Result<Vec<u8>, ServeFault>
-    ensures text { IfOk result (λ text. text.items ≡ time_text (lengths_of world.now.net.graph world.now.net.trace) rounds) }
+fn timed(
+    alloc: Global,
+    options: &RunOptions,
+    world: &World,
+    rounds: Option<u64>,
+) -> Result<Vec<u8>, ServeFault>
+    requires rounds { AreItsRounds options.now world.now.net.graph world.now.net.trace rounds }
+    ensures text { IfOk result (λ text. IsTime options.now world.now.net.graph world.now.net.trace text.items) }
     ensures err { IfErr result (λ fault. fault ≡ ServeFault.Memory) }
 {
     // Read for their clauses: the events are a run, and no more than 2^40.
     let _ = world.net();
     let _ = world.turns();
-    Ok(time_text(alloc, world.graph(), world.trace(), rounds)?)
+    let laps = laps_by(options, world.graph(), world.trace());
+    Ok(time_text(
+        alloc,
+        world.graph(),
+        options.wake,
+        world.trace(),
+        rounds,
+        laps,
+    )?)
+}
+
+/// The laps of a run, where its schedule goes by round robin; threads go by none.
+fn laps_by(options: &RunOptions, graph: &Graph, events: &[Event]) -> Option<LapCount>
+    requires run { IsRun (network_of graph.now) events.now }
+    requires few { length events.now ≤ 2 ^ 40 }
+    ensures { AreItsLaps options.now graph.now events.now result }
+{
+    if options.workers == 0 {
+        return lap_count(graph, events, options.schedule_kind);
+    }
+    None
 }
 
 /// The report of a run that has ended, with its cores where they are asked for.

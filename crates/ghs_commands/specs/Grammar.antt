@@ -115,8 +115,8 @@ wake_rule = option_rule (codes "wake") (codes "all")
 abbrev pub tree_command : App
 tree_command = with_rules (file_rule ∷ core_rule ∷ []) (new_app (codes "tree"))
 
--- `run [FILE] [--protocol ghs|boruvka] [--seed S] [--schedule seeded|patient|rounds|waits|lifo] [--workers W] [--wake all|first] [--turns T]
--- [--print report|trace|time] [--core] [--progress] [--tally]`
+-- `run [FILE] [--protocol ghs|boruvka] [--seed S] [--schedule seeded|patient|rounds|waits|lifo|round-robin] [--workers W] [--wake all|first]
+-- [--turns T] [--print report|trace|time] [--core] [--progress] [--tally]`
 abbrev pub run_command : App
 run_command =
     with_rules
@@ -133,7 +133,7 @@ abbrev pub steps_command : App
 steps_command =
     with_rules (trace_rule ∷ file_rule ∷ protocol_rule ∷ wake_rule ∷ from_rule ∷ to_rule ∷ node_rule ∷ json_rule ∷ []) (new_app (codes "steps"))
 
--- `sweep [FILE ..] [--protocol ghs|boruvka] --seeds FIRST..LAST [--schedule seeded|patient|rounds|waits|lifo] [--workers W]
+-- `sweep [FILE ..] [--protocol ghs|boruvka] --seeds FIRST..LAST [--schedule seeded|patient|rounds|waits|lifo|round-robin] [--workers W]
 -- [--wake all|first] [--turns T] [--print runs|summary|chart] [--by node|level|rule] [--names] [--json] [--progress]`
 abbrev pub sweep_command : App
 sweep_command =
@@ -142,8 +142,8 @@ sweep_command =
     ∷ turns_rule ∷ sheet_rule ∷ by_rule ∷ names_rule ∷ json_rule ∷ progress_rule ∷ [])
     (new_app (codes "sweep"))
 
--- `view [FILE] [--protocol ghs|boruvka] [--seed S] [--seeds FIRST,SECOND] [--schedule seeded|patient|rounds|waits|lifo] [--wake all|first]
--- [--turns T] [--trace TRACE] [--from A] [--to B]`
+-- `view [FILE] [--protocol ghs|boruvka] [--seed S] [--seeds FIRST,SECOND] [--schedule seeded|patient|rounds|waits|lifo|round-robin]
+-- [--wake all|first] [--turns T] [--trace TRACE] [--from A] [--to B]`
 abbrev pub view_command : App
 view_command =
     with_rules

@@ -12,7 +12,7 @@ use Rattle.ghs_make.specs.declared.kind.Kind.TheVariants.{Path}
 use Rattle.ghs_make.specs.declared.plan.Asked.{Asked}
 use Rattle.ghs_make.specs.declared.weights.Weights.{Weights}
 use Rattle.ghs_choices.specs.declared.schedule_kind.ScheduleKind.{ScheduleKind}
-use Rattle.ghs_choices.specs.declared.schedule_kind.ScheduleKind.TheVariants.{Lifo, Patient, Rounds, Waits}
+use Rattle.ghs_choices.specs.declared.schedule_kind.ScheduleKind.TheVariants.{Lifo, Patient, RoundRobin, Rounds, Waits}
 use Rattle.peer_texts.specs.declared.trace.TheConstants.{EVENT_LIMIT}
 use Rattle.peer_network.specs.declared.wake_set.WakeSet.{WakeSet}
 use Rattle.peer_network.specs.declared.wake_set.WakeSet.TheVariants.{First}
@@ -97,6 +97,7 @@ pub record IsScheduleKind (command : Used) (schedule_kind : ScheduleKind) : Type
   pub rounds : (schedule_kind ≡ Rounds) ↔ (value_in (codes "schedule") command ≡ Some (codes "rounds"))
   pub waits : (schedule_kind ≡ Waits) ↔ (value_in (codes "schedule") command ≡ Some (codes "waits"))
   pub lifo : (schedule_kind ≡ Lifo) ↔ (value_in (codes "schedule") command ≡ Some (codes "lifo"))
+  pub round_robin : (schedule_kind ≡ RoundRobin) ↔ (value_in (codes "schedule") command ≡ Some (codes "round-robin"))
 
 -- whether it is told how far the run has come, as `--progress` says, which has no value of its own
 abbrev pub IsToldOf : Used → Bool → Type 0
@@ -367,7 +368,8 @@ abbrev pub has_choices : Used → Bool
 has_choices command =
     is_among (codes "all" ∷ codes "first" ∷ []) (value_in (codes "wake") command)
     && has_prints command
-    && is_among (codes "seeded" ∷ codes "patient" ∷ codes "rounds" ∷ codes "waits" ∷ codes "lifo" ∷ []) (value_in (codes "schedule") command)
+    && is_among (codes "seeded" ∷ codes "patient" ∷ codes "rounds" ∷ codes "waits" ∷ codes "lifo" ∷ codes "round-robin" ∷ [])
+    (value_in (codes "schedule") command)
 
 -- the numbers of how a network is run, of which events are shown, and of a network that is made and of an exploration
 abbrev pub has_course : Used → Bool

@@ -274,7 +274,7 @@ fn kind<'a>(alloc: Global) -> Arg<'a>
     ensures rule { rule_of result ≡ kind_rule }
 {
     place(alloc, "KIND").help(
-        "The kind: path, ring, star, grid, complete, tree, random, road, forest, slow or busy",
+        "The kind: path, ring, star, grid, complete, tree, random, road, forest, slow, busy, farcore or chainwake",
     )
 }
 
@@ -318,7 +318,7 @@ fn weights<'a>(alloc: Global) -> Arg<'a>
     ensures rule { rule_of result ≡ weights_rule }
 {
     valued(alloc, "weights", "weights").help(
-        "How links weigh: random, rising, falling or equal; without it random, but for slow and busy, which have weights of their own",
+        "How links weigh: random, rising, falling or equal; without it random, but for slow, busy, farcore and chainwake, which have weights of their own",
     )
 }
 
@@ -442,7 +442,7 @@ fn schedule<'a>(alloc: Global) -> Arg<'a>
     ensures rule { rule_of result ≡ schedule_rule }
 {
     option(alloc, "schedule", "seeded").help(
-        "Which events the seed picks among: seeded, all that may happen, patient, those that move the run on, rounds, those of them whose message arrives in the round, waits, those that only put a message back as long as there are any, so that such a run needn't end before its turns, or lifo, the one whose message was sent last",
+        "Which events the seed picks among: seeded, all that may happen, patient, those that move the run on, rounds, those of them whose message arrives in the round, waits, those that only put a message back as long as there are any, so that such a run needn't end before its turns, or lifo, the one whose message was sent last; or round-robin, where the ports that hold a message are gone over lap after lap and a seed has no effect",
     )
 }
 

@@ -318,7 +318,14 @@ fn check_choices<'a>(alloc: Global, matches: &ArgMatches<'a>) -> Result<(), JobF
         matches,
         "schedule",
         "schedule",
-        &["seeded", "patient", "rounds", "waits", "lifo"],
+        &[
+            "seeded",
+            "patient",
+            "rounds",
+            "waits",
+            "lifo",
+            "round-robin",
+        ],
     )
 }
 
@@ -915,6 +922,8 @@ fn schedule_kind_of<'a>(matches: &ArgMatches<'a>) -> ScheduleKind
         ScheduleKind::Waits
     } else if is_text(value_of(matches, "schedule"), "lifo") {
         ScheduleKind::Lifo
+    } else if is_text(value_of(matches, "schedule"), "round-robin") {
+        ScheduleKind::RoundRobin
     } else {
         ScheduleKind::Seeded
     }

@@ -265,7 +265,7 @@ pub(crate) fn no_kind(alloc: Global, value: Option<&str>) -> JobFault
 {
     let value = value.unwrap_or("");
     match format!(in alloc;
-        "error: invalid value '{value}' for '<KIND>'\n  [possible values: path, ring, star, grid, complete, tree, random, road, forest, slow, busy]\n\nFor more information, try '--help'.\n"
+        "error: invalid value '{value}' for '<KIND>'\n  [possible values: path, ring, star, grid, complete, tree, random, road, forest, slow, busy, farcore, chainwake]\n\nFor more information, try '--help'.\n"
     ) {
         Ok(text) => JobFault::Refused(text),
         Err(_) => JobFault::Memory,

@@ -2,6 +2,7 @@
 pub mod Halts
 pub mod NetState
 pub mod Dispatch
+pub mod Fairness
 pub mod Kept
 pub mod Ledger
 pub mod Marked

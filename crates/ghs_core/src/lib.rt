@@ -12,6 +12,7 @@
 pub mod census;
 mod counts;
 mod dispatch;
+pub mod fairness;
 mod halts;
 pub mod ledger;
 mod marked;

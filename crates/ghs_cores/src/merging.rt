@@ -14,7 +14,7 @@ use std::alloc::{AllocError, Global};
 ///
 /// ```text
 /// let components = components_of(alloc, &graph)?;
-/// // of the path of five in docs/LESSON.md: one, of root 1 and level 2, whose core is the link 3-4 of weight 4
+/// // of the path of five in docs/class/LESSON.md: one, of root 1 and level 2, whose core is the link 3-4 of weight 4
 /// ```
 pub fn components_of(alloc: Global, graph: &Graph) -> Result<Vec<Component>, AllocError>
     ensures { IfOk result (λ cs. AreAll graph.now (IsOfGraph graph.now) cs.items) }

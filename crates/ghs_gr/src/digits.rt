@@ -1,6 +1,6 @@
 //! Digits, many at a time.
-ghost use Rattle.ghs_gr.specs.Stops.{AreStops, is_stop};
-ghost use Rattle.std.specs.Prelude.{map, take, true, ◌<◌, ◌^◌, ◌≡◌, ◌≤◌};
+ghost use Rattle.ghs_gr.specs.Stops.{AreStops, is_stop, word_of};
+ghost use Rattle.std.specs.Prelude.{length, map, take, true, ◌<◌, ◌^◌, ◌≡◌, ◌≤◌};
 ghost use Rattle.std.specs.Simd.Lanes.{mask_l};
 ghost use Rattle.std.specs.Str.{all_ascii_digits};
 ghost use Rattle.std.specs.Str.Parse.{digits_value};
@@ -13,10 +13,12 @@ const LANES: usize = 32;
 /// Eight digits 0, one a byte.
 const ZEROS: u64 = 0x3030_3030_3030_3030;
 
-/// A bit for each byte at the front, from the lowest on, which is 1 where the byte is no digit. Where there are few bytes,
-/// nothing is said of them: no bit is 1.
+/// A bit for each of the first `LANES` bytes, from the lowest on, which is 1 where the byte is no digit. Where there are fewer
+/// bytes, nothing is said of them: no bit is 1.
 pub fn stops_in(text: &[u8]) -> u64
-    ensures { AreStops result text.now }
+    ensures stops { AreStops result text.now }
+    ensures word { LANES ≤ length text.now → result ≡ word_of LANES text.now }
+    ensures none { length text.now < LANES → result ≡ 0 }
 {
     if text.len() < LANES {
         return 0;

@@ -2,8 +2,8 @@
 //! picks patiently.
 //!
 //! Proved: `run_lifo` is exactly that (`run`, by `IsLatest`), has at most 2(B + N) events, B the bound on messages and N
-//! the nodes (`short`), and where turns for so many are left it ends, unless memory runs out (`ends`). Which Take is next
-//! is determined by the events so far (`law_latest_is_one`).
+//! the nodes (`short`), and where turns and ticket numbers for so many are left it ends, unless memory runs out (`ends`).
+//! Which Take is next is determined by the events so far (`law_latest_is_one`).
 //!
 //! The world has to stand at its opening. `Latest` takes some 28 bytes an event, and 4 a node; that each event takes
 //! O(log N) steps is not proved.

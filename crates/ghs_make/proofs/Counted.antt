@@ -1,16 +1,15 @@
 -- A network whose links a seed picks has as many as are asked for.
-use Rattle.std.proofs.Common.{◌≡◌, ◌≢◌, ◌∙◌, ℕ, zero, suc, ◌+◌, ◌-◌, ◌<◌, ◌≤◌, List, [], ◌∷◌, ◌++◌, length, length-append, refl, sym, ap, arith}
+use Rattle.std.proofs.Common.{◌≡◌, ◌∙◌, ℕ, zero, suc, ◌+◌, ◌-◌, [], ◌∷◌, length, length-append, refl, sym, ap, arith}
 use Rattle.ghs_make.specs.Ends.{ends_by, firsts, links_among, pick, picked_ends, smaller_ends}
 use Rattle.ghs_make.specs.Network.{IsNetwork, count_of, count_of_nodes}
 use Rattle.ghs_make.specs.Plan.{IsPlan}
-use Rattle.ghs_make.specs.declared.kind.Kind.{Kind}
 use Rattle.ghs_make.specs.declared.kind.Kind.TheVariants.{Random, Forest}
 use Rattle.ghs_make.specs.declared.network.Network.{Network}
 use Rattle.ghs_make.specs.declared.plan.Plan.{Plan}
 use Rattle.ghs_make.proofs.Counts.{count_more, count_none}
 use Rattle.ghs_make.proofs.Picking.{forest_all, mono_by, none_among, random_all}
 
-length_firsts : (f : ℕ → ℕ) (d : ℕ) → length (firsts f d) ≡ d
+pub length_firsts : (f : ℕ → ℕ) (d : ℕ) → length (firsts f d) ≡ d
 length_firsts f zero = refl
 length_firsts f (suc d) =
     let inner = length_firsts f d in
@@ -20,7 +19,7 @@ pub picked_forest : (p : Plan) → p.kind ≡ Forest → (v : ℕ) → smaller_e
 unfolding smaller_ends
 picked_forest p is v = ap (λ k. ends_by k p v) is
 
-picked_random : (p : Plan) → p.kind ≡ Random → (v : ℕ) → smaller_ends p v ≡ picked_ends p v
+pub picked_random : (p : Plan) → p.kind ≡ Random → (v : ℕ) → smaller_ends p v ≡ picked_ends p v
 unfolding smaller_ends
 picked_random p is v = ap (λ k. ends_by k p v) is
 
@@ -42,7 +41,7 @@ count_is p h is (suc k) =
     let two : suc k + 1 ≡ k + 2 = omega arith in
     rw (two, one) (omega (arith, inner, more, long, mono))
 
-count_whole : (p : Plan) → IsPlan p → ((v : ℕ) → smaller_ends p v ≡ picked_ends p v) → links_among p p.nodes ≡ p.links → count_of p ≡ p.links
+pub count_whole : (p : Plan) → IsPlan p → ((v : ℕ) → smaller_ends p v ≡ picked_ends p v) → links_among p p.nodes ≡ p.links → count_of p ≡ p.links
 count_whole p h is all =
     let some = h.some in
     let same : p.nodes - 1 + 1 ≡ p.nodes = omega arith in

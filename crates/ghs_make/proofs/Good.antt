@@ -1,20 +1,21 @@
 -- The smaller ends of a node's links are smaller nodes, and no node is one twice.
 use Rattle.std.proofs.Common.{◌≡◌, ◌≢◌, ◌∙◌, ℕ, zero, suc, ◌+◌, ◌-◌, ◌*◌, ◌/◌, ◌%◌, ◌<◌, ◌≤◌, ◌^◌, ◌⊎◌, ⊎_elim, Bool, true, false, not, ◌&&◌, ◌||◌, ◌==◌, cond, List, [], ◌∷◌, ◌++◌, length, max, refl, sym, ap, subst, arith}
-use Rattle.std.specs.Prelude.{nat_le, nat_lt}
-use Rattle.std.specs.Int.{is_power_of_two}
+use Rattle.std.specs.Prelude.{min, nat_le, nat_lt}
+use Rattle.std.specs.Int.{is_power_of_two, trailing_zeros, w32}
 use Rattle.std.proofs.Math.Nat.{mod-lt, mod-one, one-le-pow}
-use Rattle.std.proofs.lemmas.Bool.{and_parts, eqb-false, leb-true, ltb-true, not-true, leb-false}
-use Rattle.ghs_make.specs.Ends.{above_picked, across, both_picked, busy_ends, chain_end, block_end, complete_ends, cross_ends, crosses, ends_by, firsts, front, front_by, goes_beside, goes_up, grid_ends, has_above, has_beside, last_block, links_among, one_if, part_start, path_ends, pick, picked_ends, place, ring_ends, road_ends, smaller_ends, star_ends}
+use Rattle.std.proofs.lemmas.Nat.Bits.{bit_at-trailing_zeros, bit_at_above}
+use Rattle.std.proofs.lemmas.Bool.{and_parts, cases_lt, eqb-false, leb-true, ltb-true, not-true, leb-false}
+use Rattle.ghs_make.specs.Ends.{above_picked, across, along_ends, behind_ends, blocks, both_picked, busy_ends, chain_end, block_end, complete_ends, cross_ends, crosses, ends_by, firsts, front, front_by, goes_beside, goes_up, grid_ends, has_above, has_beside, hung_ends, is_high_asker, last_block, links_among, low_askers, one_and_run, one_if, part_start, path_ends, pick, picked_ends, place, ring_ends, road_ends, smaller_ends, star_ends, twos, wake_ends}
 use Rattle.ghs_make.specs.Plan.{IsPlan}
 use Rattle.ghs_make.specs.Word.{word}
 use Rattle.ghs_make.specs.declared.kind.Kind.{Kind}
-use Rattle.ghs_make.specs.declared.kind.Kind.TheVariants.{Path, Ring, Star, Grid, Complete, Tree, Random, Road, Forest, Slow, Busy}
+use Rattle.ghs_make.specs.declared.kind.Kind.TheVariants.{Path, Ring, Star, Grid, Complete, Tree, Random, Road, Forest, Slow, Busy, FarCore, ChainWake}
 use Rattle.ghs_make.specs.declared.plan.Plan.{Plan}
 use Rattle.ghs_make.specs.declared.word.TheConstants.{PICKS}
 use Rattle.ghs_make.proofs.Each.{Each, Apart, each_append, each_map, apart_append}
 use Rattle.ghs_make.proofs.Parts.{part_some, part_within}
 use Rattle.ghs_make.proofs.Picking.{div_mono, parts_fit}
-use Rattle.ghs_make.proofs.Powers.{half_within}
+use Rattle.ghs_make.proofs.Powers.{half_within, lt_pow, quarter_within}
 
 -- a smaller node
 abbrev pub IsBelow : ℕ → ℕ → Type 0
@@ -110,7 +111,7 @@ good_picks seed first v d low fits =
     let more = inside j high in
     omega (arith, parts, less.1, more.0))
 
-good_picked : (p : Plan) → IsPlan p → (v : ℕ) → 2 ≤ v → AreGood v (picked_ends p v)
+pub good_picked : (p : Plan) → IsPlan p → (v : ℕ) → 2 ≤ v → AreGood v (picked_ends p v)
 good_picked p h v low =
     let fit = parts_fit p h v low in
     good_picks p.seed (links_among p (v - 1)) v (links_among p v - links_among p (v - 1)) low (omega (arith, fit))
@@ -129,6 +130,8 @@ front_by_some Random p h = let most = h.levels.at_most in omega (arith, most)
 front_by_some Road p h = let most = h.levels.at_most in omega (arith, most)
 front_by_some Forest p h = let most = h.levels.at_most in omega (arith, most)
 front_by_some Busy p h = let most = h.levels.at_most in omega (arith, most)
+front_by_some FarCore p h = let quarter = quarter_within p h in omega (arith, quarter)
+front_by_some ChainWake p h = let most = h.levels.at_most in omega (arith, most)
 
 block_by : (v f : ℕ) (b c : Bool) → 2 ≤ f → f < v → (b ≡ true → c ≡ false → 3 ≤ v + 1 - f)
     → IsBelow v (cond b (cond c 1 (f + (v + 1 - f) / 2 - 2)) (v - 1))
@@ -218,21 +221,97 @@ good_busy p h v low =
       apart = (each_map (IsAcross p v) (λ u. chain_end p v ≢ u) (cross_ends p v) (λ u k. k.1) cross.0, cross.1);
     }
 
-good_by : (k : Kind) (p : Plan) → IsPlan p → (v : ℕ) → 2 ≤ v → AreGood v (ends_by k p v)
-good_by Path p h v low = one v (v - 1) (omega arith, omega arith)
-good_by Ring p h v low =
-    good_ring p v ((v == p.nodes) && nat_lt 2 v) low (λ e. ltb-true 2 v (and_parts (v == p.nodes) (nat_lt 2 v) e).1)
-good_by Star p h v low = one v 1 (omega arith, omega arith)
-good_by Grid p h v low = good_rows p h v low (has_above p v) (has_beside p v) (λ e. e) (λ e. e)
-good_by Complete p h v low = rising_firsts v (λ i. i + 1) (v - 1) (λ i lt. (omega arith, omega arith)) (λ i j l m. omega arith)
-good_by Tree p h v low = good_picked p h v low
-good_by Random p h v low = good_picked p h v low
-good_by Road p h v low =
-    good_rows p h v low (goes_up p v) (goes_beside p v) (λ e. (and_parts (has_above p v) _ e).0) (λ e. (and_parts (has_beside p v) _ e).0)
-good_by Forest p h v low = good_picked p h v low
-good_by Slow p h v low = one v (chain_end p v) (chain_below p h v low)
-good_by Busy p h v low = good_busy p h v low
+-- far cores and chain wakes
 
-pub good_ends : (p : Plan) → IsPlan p → (v : ℕ) → 2 ≤ v → AreGood v (smaller_ends p v)
+good_run : (v u s c : ℕ) → IsBelow v u → ((i : ℕ) → i < c → IsBelow v (s + i) × (u ≢ s + i)) → AreGood v (one_and_run u s c)
+good_run v u s c h f =
+    let run = rising_firsts v (λ i. s + i) c (λ i lt. (f i lt).0) (λ i j l m. omega (arith, l)) in
+    record {
+      below = (h, run.below);
+      apart = (each_firsts (λ b. u ≢ b) (λ i. s + i) c (λ i lt. (f i lt).1), run.apart);
+    }
+
+along_by : (p : Plan) (v : ℕ) (b : Bool) → 2 ≤ v
+    → AreGood v (cond b (one_and_run (v - 1) 1 (v - 2)) (one_and_run (v - 1) 2 (min (low_askers p) (v - 3))))
+along_by p v true low =
+    good_run v (v - 1) 1 (v - 2) (omega arith, omega arith) (λ i lt. ((omega arith, omega (arith, lt)), λ e. absurd (omega (arith, lt, e))))
+along_by p v false low =
+    good_run v (v - 1) 2 (min (low_askers p) (v - 3)) (omega arith, omega arith)
+    (λ i lt. let few : i < v - 3 = omega (arith, lt) in ((omega arith, omega (arith, few)), λ e. absurd (omega (arith, few, e))))
+
+-- f nodes on the path, n blocks, of which this is block k
+hung_by : (v k f n : ℕ) (even last : Bool) → f < v → n + 3 ≤ f → k ≤ n
+    → AreGood v (one_and_run (cond even 1 f) (cond even (f - k / 2 - cond last (f - 2 - n) 1) (2 + k / 2)) (cond last (f - 2 - n) 1))
+hung_by v k f n true true behind long le =
+    good_run v 1 (f - k / 2 - (f - 2 - n)) (f - 2 - n) (omega arith, omega arith)
+    (λ i lt. ((omega (arith, lt), omega (arith, lt)), λ e. absurd (omega (arith, lt, e))))
+hung_by v k f n true false behind long le =
+    good_run v 1 (f - k / 2 - 1) 1 (omega arith, omega arith)
+    (λ i lt. ((omega (arith, lt), omega (arith, lt)), λ e. absurd (omega (arith, lt, e))))
+hung_by v k f n false true behind long le =
+    good_run v f (2 + k / 2) (f - 2 - n) (omega arith, omega arith)
+    (λ i lt. ((omega (arith, lt), omega (arith, lt)), λ e. absurd (omega (arith, lt, e))))
+hung_by v k f n false false behind long le =
+    good_run v f (2 + k / 2) 1 (omega arith, omega arith)
+    (λ i lt. ((omega (arith, lt), omega (arith, lt)), λ e. absurd (omega (arith, lt, e))))
+
+-- the path of a far core has three nodes more than there are blocks, where there is a node behind it
+long_path : (n l f : ℕ) → 2 ^ l ≤ n → f ≡ n + 2 - 2 ^ (l - 2) → f < n → (l - 3) + 3 ≤ f
+long_path n zero f most is lt = absurd (omega (arith, is, lt))
+long_path n (suc zero) f most is lt = absurd (omega (arith, is, lt))
+long_path n (suc (suc l)) f most is lt =
+    let more : l < 2 ^ l = lt_pow l in
+    let four : 2 ^ suc (suc l) ≡ 4 * 2 ^ l = omega arith in
+    let down : suc (suc l) - 2 ≡ l = omega arith in
+    let long : f ≡ n + 2 - 2 ^ l = rw down at is in
+    omega (arith, most, long, more, four)
+
+-- the place of a block's first node is a power of two below that which all blocks make together
+block_of : (q l : ℕ) → 1 ≤ q → q < 2 ^ 32 → q < 2 ^ l → twos q < l
+unfolding twos
+block_of q l some small few = ⊎_elim (λ lt. lt)
+    (λ ge.
+    let set = (bit_at-trailing_zeros w32 q some small).1 in
+    let clear = bit_at_above q l (trailing_zeros w32 q) few ge in
+    absurd (let both : 1 ≡ 0 = sym set ∙ clear in cc))
+    (cases_lt (trailing_zeros w32 q) l)
+
+behind_by : (p : Plan) → IsPlan p → p.kind ≡ FarCore → (v : ℕ) (b : Bool) → 2 ≤ v → v ≤ p.nodes → front p < v
+    → AreGood v (cond b (hung_ends p (twos (place p v))) ((v - 1) ∷ []))
+behind_by p h is v true low high behind =
+    let f : front p ≡ p.nodes + 2 - 2 ^ (p.levels - 2) = ap (λ k. front_by k p) is in
+    let few = h.few in
+    let k = twos (place p v) in
+    let one : k < p.levels - 2 = block_of (place p v) (p.levels - 2) (omega arith) (omega arith) (omega (arith, f, quarter_within p h)) in
+    hung_by v k (front p) (blocks p) (k % 2 == 0) (k == blocks p) behind
+    (long_path p.nodes p.levels (front p) h.levels.at_most f (omega arith)) (omega (arith, one))
+behind_by p h is v false low high behind = one v (v - 1) (omega arith, omega arith)
+
+far_by : (p : Plan) → IsPlan p → p.kind ≡ FarCore → (v : ℕ) (b : Bool) → b ≡ nat_le v (front p) → 2 ≤ v → v ≤ p.nodes
+    → AreGood v (cond b (along_ends p v) (behind_ends p v))
+far_by p h is v true e low high = along_by p v (is_high_asker p v) low
+far_by p h is v false e low high = behind_by p h is v (is_power_of_two (place p v)) low high (leb-false v (front p) (sym e))
+
+good_wake : (v : ℕ) → 2 ≤ v → AreGood v (wake_ends v)
+good_wake v low = good_run v 1 3 (v - 3) (omega arith, omega arith) (λ i lt. ((omega arith, omega (arith, lt)), λ e. absurd (omega (arith, e))))
+
+good_by : (k : Kind) (p : Plan) → IsPlan p → p.kind ≡ k → (v : ℕ) → 2 ≤ v → v ≤ p.nodes → AreGood v (ends_by k p v)
+good_by Path p h is v low high = one v (v - 1) (omega arith, omega arith)
+good_by Ring p h is v low high =
+    good_ring p v ((v == p.nodes) && nat_lt 2 v) low (λ e. ltb-true 2 v (and_parts (v == p.nodes) (nat_lt 2 v) e).1)
+good_by Star p h is v low high = one v 1 (omega arith, omega arith)
+good_by Grid p h is v low high = good_rows p h v low (has_above p v) (has_beside p v) (λ e. e) (λ e. e)
+good_by Complete p h is v low high = rising_firsts v (λ i. i + 1) (v - 1) (λ i lt. (omega arith, omega arith)) (λ i j l m. omega arith)
+good_by Tree p h is v low high = good_picked p h v low
+good_by Random p h is v low high = good_picked p h v low
+good_by Road p h is v low high =
+    good_rows p h v low (goes_up p v) (goes_beside p v) (λ e. (and_parts (has_above p v) _ e).0) (λ e. (and_parts (has_beside p v) _ e).0)
+good_by Forest p h is v low high = good_picked p h v low
+good_by Slow p h is v low high = one v (chain_end p v) (chain_below p h v low)
+good_by Busy p h is v low high = good_busy p h v low
+good_by FarCore p h is v low high = far_by p h is v (nat_le v (front p)) refl low high
+good_by ChainWake p h is v low high = good_wake v low
+
+pub good_ends : (p : Plan) → IsPlan p → (v : ℕ) → 2 ≤ v → v ≤ p.nodes → AreGood v (smaller_ends p v)
 unfolding smaller_ends
-good_ends p h v low = good_by p.kind p h v low
+good_ends p h v low high = good_by p.kind p h refl v low high

@@ -1,6 +1,7 @@
 -- What the links of a network join: where each node from 2 on has a link to a smaller one, all.
 use Rattle.std.proofs.Common.{◌≡◌, ◌≢◌, ◌∙◌, ℕ, zero, suc, ◌+◌, ◌-◌, ◌%◌, ◌<◌, ◌≤◌, ◌⊎◌, ⊎_elim, inl, inr, Bool, true, false, not, ◌&&◌, ◌||◌, ◌==◌, List, [], ◌∷◌, ◌++◌, length, map, refl, sym, ap, subst, arith}
-use Rattle.std.specs.Prelude.{nat_lt}
+use Rattle.std.specs.Prelude.{cond, min, nat_le, nat_lt}
+use Rattle.std.specs.Int.{is_power_of_two}
 use Rattle.std.specs.List.{Contains}
 use Rattle.std.proofs.Math.Nat.{mod-eq_of_lt}
 use Rattle.std.proofs.lemmas.Bool.{cases_Bool, cases_lt, ltb-false, ne_eqb, not_from_false}
@@ -11,12 +12,12 @@ use Rattle.ghs_graph.specs.Key.{key_of}
 use Rattle.ghs_graph.specs.Links.{Joined, Same, Over, Back, links}
 use Rattle.ghs_graph.proofs.lemmas.Joining.{joined_back, joined_then}
 use Rattle.ghs_graph.proofs.lemmas.Members.{first_in, in_cases, later_in, nothing_in}
-use Rattle.ghs_make.specs.Ends.{above_picked, both_picked, ends_by, firsts, goes_beside, goes_up, has_above, has_beside, links_among, links_by, one_if, picked_ends, smaller_ends}
+use Rattle.ghs_make.specs.Ends.{above_picked, both_picked, ends_by, firsts, front, goes_beside, goes_up, has_above, has_beside, hung_ends, is_high_asker, links_among, links_by, low_askers, one_and_run, one_if, picked_ends, place, smaller_ends, twos}
 use Rattle.ghs_make.specs.Laws.{JoinedIn}
 use Rattle.ghs_make.specs.Network.{IsNetwork, count_of_nodes, links_at, links_of, links_of_nodes, weight_of}
 use Rattle.ghs_make.specs.Plan.{IsPlan, TakesLinks}
 use Rattle.ghs_make.specs.declared.kind.Kind.{Kind}
-use Rattle.ghs_make.specs.declared.kind.Kind.TheVariants.{Path, Ring, Star, Grid, Complete, Tree, Random, Road, Forest, Slow, Busy}
+use Rattle.ghs_make.specs.declared.kind.Kind.TheVariants.{Path, Ring, Star, Grid, Complete, Tree, Random, Road, Forest, Slow, Busy, FarCore, ChainWake}
 use Rattle.ghs_make.specs.declared.network.Network.{Network}
 use Rattle.ghs_make.specs.declared.plan.Plan.{Plan}
 use Rattle.ghs_make.proofs.Counts.{links_more}
@@ -57,6 +58,14 @@ roads_go true true true d h e = absurd (let f : true ≡ false = e in cc)
 roads_go true true false true h e = absurd (let f : true ≡ false = e in cc)
 roads_go true true false false h e = refl
 
+first_far : (p : Plan) (v : ℕ) (a b c : Bool)
+    → HasFirst (cond a (cond b (one_and_run (v - 1) 1 (v - 2)) (one_and_run (v - 1) 2 (min (low_askers p) (v - 3))))
+    (cond c (hung_ends p (twos (place p v))) ((v - 1) ∷ [])))
+first_far p v true true c = (_, _, refl)
+first_far p v true false c = (_, _, refl)
+first_far p v false b true = (_, _, refl)
+first_far p v false b false = (_, _, refl)
+
 first_by : (k : Kind) (p : Plan) → TakesLinks k p.nodes p.links → k ≢ Forest → (v : ℕ) → 2 ≤ v
     → ((k ≡ Tree) ⊎ (k ≡ Random) → 1 ≤ links_among p v - links_among p (v - 1)) → HasFirst (ends_by k p v)
 first_by Path p h ne v low d = (v - 1, [], refl)
@@ -72,6 +81,8 @@ first_by Road p h ne v low d =
 first_by Forest p h ne v low d = absurd (ne refl)
 first_by Slow p h ne v low d = (_, [], refl)
 first_by Busy p h ne v low d = (_, _, refl)
+first_by FarCore p h ne v low d = first_far p v (nat_le v (front p)) (is_high_asker p v) (is_power_of_two (place p v))
+first_by ChainWake p h ne v low d = (_, _, refl)
 
 pub first_end : (p : Plan) → IsPlan p → p.kind ≢ Forest → (v : ℕ) → 2 ≤ v → HasFirst (smaller_ends p v)
 unfolding smaller_ends
@@ -120,7 +131,7 @@ joined_first n h ne (suc m) (suc (suc k)) le low high =
     let v = k + 2 in
     let same : k + 2 ≡ suc (suc k) = omega arith in
     let first = first_end n.plan h.plan ne v (omega arith) in
-    let below : Each (IsBelow v) (first.0 ∷ first.1) = rw first.2 at (good_ends n.plan h.plan v (omega arith)).below in
+    let below : Each (IsBelow v) (first.0 ∷ first.1) = rw first.2 at (good_ends n.plan h.plan v (omega arith) (omega arith)).below in
     let under = below.0 in
     let inner = joined_first n h ne m first.0 (omega (arith, under.1)) under.0 (omega (arith, under.1)) in
     let link = first_link n k first.0 first.1 (omega arith) first.2 in

@@ -1,6 +1,7 @@
 pub mod Counted
 pub mod Counts
 pub mod Each
+pub mod Few
 pub mod Going
 pub mod Good
 pub mod Joining

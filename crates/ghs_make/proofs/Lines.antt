@@ -17,7 +17,7 @@ use Rattle.ghs_make.specs.Network.{links_of}
 use Rattle.ghs_make.specs.Text.{arc_line, command_words, comment_line, head_of, kind_words, links_words, problem_line, text_of, weights_words}
 use Rattle.ghs_make.specs.Weights.{weights_name}
 use Rattle.ghs_make.specs.declared.kind.Kind.{Kind}
-use Rattle.ghs_make.specs.declared.kind.Kind.TheVariants.{Path, Ring, Star, Grid, Complete, Tree, Random, Road, Forest, Slow, Busy}
+use Rattle.ghs_make.specs.declared.kind.Kind.TheVariants.{Path, Ring, Star, Grid, Complete, Tree, Random, Road, Forest, Slow, Busy, FarCore, ChainWake}
 use Rattle.ghs_make.specs.declared.network.Network.{Network}
 use Rattle.ghs_make.specs.declared.plan.Plan.{Plan}
 use Rattle.ghs_make.specs.declared.weights.Weights.{Weights}
@@ -45,6 +45,8 @@ no_feed_kind Road = refl
 no_feed_kind Forest = refl
 no_feed_kind Slow = refl
 no_feed_kind Busy = refl
+no_feed_kind FarCore = refl
+no_feed_kind ChainWake = refl
 
 no_feed_weights : (o : Option Weights) → has_no_feed (weights_words o) ≡ true
 no_feed_weights None = refl
@@ -176,7 +178,7 @@ text_says n h fine =
 
 -- how long texts are
 
-length_kind : (k : Kind) → length (kind_name k) ≤ 8
+length_kind : (k : Kind) → length (kind_name k) ≤ 9
 length_kind Path = omega arith
 length_kind Ring = omega arith
 length_kind Star = omega arith
@@ -188,6 +190,8 @@ length_kind Road = omega arith
 length_kind Forest = omega arith
 length_kind Slow = omega arith
 length_kind Busy = omega arith
+length_kind FarCore = omega arith
+length_kind ChainWake = omega arith
 
 length_weights : (o : Option Weights) → length (weights_words o) ≤ 30
 length_weights None = omega arith

@@ -6,7 +6,7 @@ use Rattle.std.proofs.lemmas.Nat.{div-mul-add, div_below, le-div}
 use Rattle.ghs_make.specs.Ends.{links_among, links_by, spare_pairs}
 use Rattle.ghs_make.specs.Plan.{IsPlan, TakesLinks, pairs}
 use Rattle.ghs_make.specs.declared.kind.Kind.{Kind}
-use Rattle.ghs_make.specs.declared.kind.Kind.TheVariants.{Path, Ring, Star, Grid, Complete, Tree, Random, Road, Forest, Slow, Busy}
+use Rattle.ghs_make.specs.declared.kind.Kind.TheVariants.{Path, Ring, Star, Grid, Complete, Tree, Random, Road, Forest, Slow, Busy, FarCore, ChainWake}
 use Rattle.ghs_make.specs.declared.plan.Plan.{Plan}
 
 -- a sum's quotient
@@ -92,6 +92,8 @@ fits_by Complete p u h = omega arith
 fits_by Road p u h = omega arith
 fits_by Slow p u h = omega arith
 fits_by Busy p u h = omega arith
+fits_by FarCore p u h = omega arith
+fits_by ChainWake p u h = omega arith
 
 -- no more parts than nodes before
 pub parts_fit : (p : Plan) → IsPlan p → (v : ℕ) → 2 ≤ v → links_among p v ≤ links_among p (v - 1) + (v - 1)
@@ -114,6 +116,8 @@ mono_kind Complete p u h = omega arith
 mono_kind Road p u h = omega arith
 mono_kind Slow p u h = omega arith
 mono_kind Busy p u h = omega arith
+mono_kind FarCore p u h = omega arith
+mono_kind ChainWake p u h = omega arith
 
 -- more nodes have no fewer links
 pub mono_by : (p : Plan) → IsPlan p → (u : ℕ) → links_among p (u + 1) ≤ links_among p (u + 2)
@@ -136,6 +140,8 @@ some_kind Complete p u h is = absurd (⊎_elim (λ e. cc) (λ e. cc) is)
 some_kind Road p u h is = absurd (⊎_elim (λ e. cc) (λ e. cc) is)
 some_kind Slow p u h is = absurd (⊎_elim (λ e. cc) (λ e. cc) is)
 some_kind Busy p u h is = absurd (⊎_elim (λ e. cc) (λ e. cc) is)
+some_kind FarCore p u h is = absurd (⊎_elim (λ e. cc) (λ e. cc) is)
+some_kind ChainWake p u h is = absurd (⊎_elim (λ e. cc) (λ e. cc) is)
 
 -- a node of a tree or a random network has a link to a smaller node
 pub some_by : (p : Plan) → IsPlan p → (v : ℕ) → 2 ≤ v → (p.kind ≡ Tree) ⊎ (p.kind ≡ Random) → 1 ≤ links_among p v - links_among p (v - 1)
@@ -164,6 +170,8 @@ none_by Complete p = refl
 none_by Road p = refl
 none_by Slow p = refl
 none_by Busy p = refl
+none_by FarCore p = refl
+none_by ChainWake p = refl
 
 pub none_among : (p : Plan) → links_among p 1 ≡ 0
 unfolding links_among

@@ -21,7 +21,7 @@ use Rattle.ghs_make.specs.declared.plan.Plan.{Plan}
 use Rattle.ghs_make.proofs.Counted.{length_picked, picked_forest}
 use Rattle.ghs_make.proofs.Counts.{count_more, count_none, links_more, links_none}
 use Rattle.ghs_make.proofs.Each.{Apart, Each, apart_append, pairs_apart, each_append, each_map}
-use Rattle.ghs_make.proofs.Good.{IsBelow, good_ends}
+use Rattle.ghs_make.proofs.Good.{IsBelow, good_ends, good_picked}
 use Rattle.ghs_make.proofs.Joining.{first_link, link_joins}
 use Rattle.ghs_make.proofs.Picking.{forest_few}
 
@@ -39,42 +39,43 @@ abbrev head_by : Plan → ℕ → ℕ → ℕ
 head_by p zero v = v
 head_by p (suc m) v = step_of (ends_of p v) v (head_by p m)
 
-below_of : (p : Plan) → IsPlan p → (v : ℕ) → Each (IsBelow v) (ends_of p v)
-below_of p h zero = tt
-below_of p h (suc zero) = tt
-below_of p h (suc (suc k)) = let same : k + 2 ≡ suc (suc k) = omega arith in
-    subst (λ v. Each (IsBelow v) (smaller_ends p (k + 2))) same (good_ends p h (k + 2) (omega arith)).below
+below_of : (p : Plan) → IsPlan p → p.kind ≡ Forest → (v : ℕ) → Each (IsBelow v) (ends_of p v)
+below_of p h is zero = tt
+below_of p h is (suc zero) = tt
+below_of p h is (suc (suc k)) = let same : k + 2 ≡ suc (suc k) = omega arith in
+    let below : Each (IsBelow (k + 2)) (smaller_ends p (k + 2)) = rw (picked_forest p is (k + 2)) (good_picked p h (k + 2) (omega arith)).below in
+    subst (λ v. Each (IsBelow v) (smaller_ends p (k + 2))) same below
 
 -- with as many steps as the node's number all are gone
 same_by : (us : List ℕ) (v : ℕ) (f g : ℕ → ℕ) → Each (IsBelow v) us → ((u : ℕ) → u < v → f u ≡ g u) → step_of us v f ≡ step_of us v g
 same_by [] v f g below same = refl
 same_by (u ∷ us) v f g below same = same u below.0.1
 
-steps_same : (p : Plan) → IsPlan p → (m k v : ℕ) → v ≤ m → v ≤ k → head_by p m v ≡ head_by p k v
-steps_same p h zero zero v a b = refl
-steps_same p h zero (suc k) v a b = let none : v ≡ 0 = omega (arith, a) in rw none refl
-steps_same p h (suc m) zero v a b = let none : v ≡ 0 = omega (arith, b) in rw none refl
-steps_same p h (suc m) (suc k) v a b =
-    same_by (ends_of p v) v (head_by p m) (head_by p k) (below_of p h v) (λ u lt. steps_same p h m k u (omega arith) (omega arith))
+steps_same : (p : Plan) → IsPlan p → p.kind ≡ Forest → (m k v : ℕ) → v ≤ m → v ≤ k → head_by p m v ≡ head_by p k v
+steps_same p h is zero zero v a b = refl
+steps_same p h is zero (suc k) v a b = let none : v ≡ 0 = omega (arith, a) in rw none refl
+steps_same p h is (suc m) zero v a b = let none : v ≡ 0 = omega (arith, b) in rw none refl
+steps_same p h is (suc m) (suc k) v a b =
+    same_by (ends_of p v) v (head_by p m) (head_by p k) (below_of p h is v) (λ u lt. steps_same p h is m k u (omega arith) (omega arith))
 
 -- the least node of a node's piece
 abbrev head_of : Plan → ℕ → ℕ
 head_of p v = head_by p v v
 
-one_step : (p : Plan) → IsPlan p → (v u : ℕ) → ends_of p v ≡ u ∷ [] → head_of p v ≡ head_of p u
-one_step p h zero u e = absurd (let f : (let n : List ℕ = [] in n) ≡ u ∷ [] = e in cc)
-one_step p h (suc v) u e =
-    let below : Each (IsBelow (suc v)) (u ∷ []) = rw e at (below_of p h (suc v)) in
+one_step : (p : Plan) → IsPlan p → p.kind ≡ Forest → (v u : ℕ) → ends_of p v ≡ u ∷ [] → head_of p v ≡ head_of p u
+one_step p h is zero u e = absurd (let f : (let n : List ℕ = [] in n) ≡ u ∷ [] = e in cc)
+one_step p h is (suc v) u e =
+    let below : Each (IsBelow (suc v)) (u ∷ []) = rw e at (below_of p h is (suc v)) in
     let under : u < suc v = below.0.1 in
-    ap (λ us. step_of us (suc v) (head_by p v)) e ∙ steps_same p h v u u (omega (arith, under)) (omega arith)
+    ap (λ us. step_of us (suc v) (head_by p v)) e ∙ steps_same p h is v u u (omega (arith, under)) (omega arith)
 
 at_most_by : (us : List ℕ) (v : ℕ) (f : ℕ → ℕ) → Each (IsBelow v) us → ((u : ℕ) → f u ≤ u) → step_of us v f ≤ v
 at_most_by [] v f below low = omega arith
 at_most_by (u ∷ us) v f below low = let less : f u ≤ u = low u in let under = below.0.1 in omega (arith, less, under)
 
-head_at_most : (p : Plan) → IsPlan p → (m v : ℕ) → head_by p m v ≤ v
-head_at_most p h zero v = omega arith
-head_at_most p h (suc m) v = at_most_by (ends_of p v) v (head_by p m) (below_of p h v) (λ u. head_at_most p h m u)
+head_at_most : (p : Plan) → IsPlan p → p.kind ≡ Forest → (m v : ℕ) → head_by p m v ≤ v
+head_at_most p h is zero v = omega arith
+head_at_most p h is (suc m) v = at_most_by (ends_of p v) v (head_by p m) (below_of p h is v) (λ u. head_at_most p h is m u)
 
 head_is : (p : Plan) (v : ℕ) → ends_of p v ≡ [] → head_of p v ≡ v
 head_is p zero e = refl
@@ -126,7 +127,7 @@ one_head : (n : Network) → IsPlan n.plan → n.plan.kind ≡ Forest → Each (
 one_head n h is =
     each_key (HasOneHead n.plan) (links_of n)
     (each_map (IsOnlyLink n.plan) (λ k. HasOneHead n.plan (key_of k)) (links_of n)
-    (λ k e. one_step n.plan h k.2 k.1 e) (only_links n h is (n.plan.nodes - 1)))
+    (λ k e. one_step n.plan h is k.2 k.1 e) (only_links n h is (n.plan.nodes - 1)))
 
 joined_heads : (p : Plan) (ks : List Key) {u v : ℕ} → Each (HasOneHead p) ks → Joined (links ks) u v → head_of p u ≡ head_of p v
 joined_heads p ks h Same = refl
@@ -216,7 +217,7 @@ root_by n h k [] le e least = refl
 root_by n h k (u ∷ us) le e least =
     let link = first_link n k u us le e in
     let way : JoinedIn n (k + 2) u = link_joins n link.0 u (k + 2) u link.1 Same in
-    let below : Each (IsBelow (k + 2)) (u ∷ us) = rw e at (good_ends n.plan h.plan (k + 2) (omega arith)).below in
+    let below : Each (IsBelow (k + 2)) (u ∷ us) = rw e at (good_ends n.plan h.plan (k + 2) (omega arith) le).below in
     let under = below.0.1 in
     let over = least u way in
     absurd (omega (arith, under, over))
@@ -252,7 +253,7 @@ in_pieces n h is =
               least = λ u way.
                   let same : head_of p v ≡ head_of p u = joined_heads p (map key_of (links_of n)) heads_one way in
                   let own = head_is p v head.2 in
-                  let low = head_at_most p h.plan u u in
+                  let low = head_at_most p h.plan is u u in
                   omega (arith, same, own, low);
             },
           );

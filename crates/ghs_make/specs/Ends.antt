@@ -1,9 +1,9 @@
 -- The links of each kind. A link stands at its larger end: here are, for a node from 2 on, the smaller ends of its links.
-use Rattle.std.specs.Prelude.{ℕ, zero, suc, ◌+◌, ◌-◌, ◌*◌, ◌/◌, ◌%◌, ◌^◌, ◌==◌, Bool, true, false, cond, max, nat_le, nat_lt, not, ◌&&◌, ◌||◌, List, [], ◌∷◌, ◌++◌}
-use Rattle.std.specs.Int.{is_power_of_two}
+use Rattle.std.specs.Prelude.{ℕ, zero, suc, ◌+◌, ◌-◌, ◌*◌, ◌/◌, ◌%◌, ◌^◌, ◌==◌, Bool, true, false, cond, max, min, nat_le, nat_lt, not, ◌&&◌, ◌||◌, List, [], ◌∷◌, ◌++◌}
+use Rattle.std.specs.Int.{is_power_of_two, trailing_zeros, w32}
 use Rattle.ghs_make.specs.Word.{word}
 use Rattle.ghs_make.specs.declared.kind.Kind.{Kind}
-use Rattle.ghs_make.specs.declared.kind.Kind.TheVariants.{Path, Ring, Star, Grid, Complete, Tree, Random, Road, Forest, Slow, Busy}
+use Rattle.ghs_make.specs.declared.kind.Kind.TheVariants.{Path, Ring, Star, Grid, Complete, Tree, Random, Road, Forest, Slow, Busy, FarCore, ChainWake}
 use Rattle.ghs_make.specs.declared.plan.Plan.{Plan}
 use Rattle.ghs_make.specs.declared.word.TheConstants.{PICKS, DEAD_ENDS}
 
@@ -107,11 +107,12 @@ picked_ends p v =
     let d = links_among p v - first in
     firsts (pick p.seed first (v - 1) d) d
 
--- Slow and busy networks: a path, and blocks of 2, 4, 8 and more nodes that are hung to its two ends in turn.
+-- Slow and busy networks and far cores: a path, and blocks of 2, 4, 8 and more nodes that are hung to its two ends in turn.
 
 -- how many nodes the path has
 abbrev pub front_by : Kind → Plan → ℕ
 front_by Slow p = p.nodes + 2 - 2 ^ (p.levels - 1)
+front_by FarCore p = p.nodes + 2 - 2 ^ (p.levels - 2)
 front_by _ p = p.nodes + 2 - 2 ^ p.levels
 
 abbrev pub front : Plan → ℕ
@@ -150,6 +151,60 @@ cross_ends p v = cond (nat_lt (p.nodes - last_block p) v)
 abbrev pub busy_ends : Plan → ℕ → List ℕ
 busy_ends p v = chain_end p v ∷ cross_ends p v
 
+-- Far cores: each block is a path of its own, whose first node is linked with an end of the path.
+
+-- how often 2 divides a number
+unfoldable pub twos : ℕ → ℕ
+twos n = trailing_zeros w32 n
+
+-- one node, and so many from another one on
+abbrev pub one_and_run : ℕ → ℕ → ℕ → List ℕ
+one_and_run u start count = u ∷ firsts (λ i. start + i) count
+
+-- how many blocks there are
+abbrev pub blocks : Plan → ℕ
+blocks p = p.levels - 3
+
+-- askers are linked with the whole path: half of them stand behind its first node, the others before its last one
+abbrev pub low_askers : Plan → ℕ
+low_askers p = blocks p / 2
+
+abbrev pub high_askers : Plan → ℕ
+high_askers p = blocks p - low_askers p
+
+abbrev pub is_high_asker : Plan → ℕ → Bool
+is_high_asker p v = nat_le (front p - high_askers p) v && nat_lt v (front p)
+
+-- on the path: the node before, and the askers among those before it; for an asker before the last node all before it
+abbrev pub along_ends : Plan → ℕ → List ℕ
+along_ends p v = cond (is_high_asker p v) (one_and_run (v - 1) 1 (v - 2)) (one_and_run (v - 1) 2 (min (low_askers p) (v - 3)))
+
+-- the path's end at which block k hangs
+abbrev pub hanging_end : Plan → ℕ → ℕ
+hanging_end p k = cond (k % 2 == 0) 1 (front p)
+
+-- the first node of block k is linked with one asker of the other end, and that of the last block with all of the path but its
+-- ends and the askers: how many these are, and the first of them
+abbrev pub watched : Plan → ℕ → ℕ
+watched p k = cond (k == blocks p) (front p - 2 - blocks p) 1
+
+abbrev pub first_watched : Plan → ℕ → ℕ
+first_watched p k = cond (k % 2 == 0) (front p - k / 2 - watched p k) (2 + k / 2)
+
+abbrev pub hung_ends : Plan → ℕ → List ℕ
+hung_ends p k = one_and_run (hanging_end p k) (first_watched p k) (watched p k)
+
+-- behind the path: for the first node of a block the ends above, for another one the node before
+abbrev pub behind_ends : Plan → ℕ → List ℕ
+behind_ends p v = let q = place p v in cond (is_power_of_two q) (hung_ends p (twos q)) ((v - 1) ∷ [])
+
+abbrev pub far_ends : Plan → ℕ → List ℕ
+far_ends p v = cond (nat_le v (front p)) (along_ends p v) (behind_ends p v)
+
+-- Chain wakes: node 1 with each other node, and any two nodes from 3 on.
+abbrev pub wake_ends : ℕ → List ℕ
+wake_ends v = one_and_run 1 3 (v - 3)
+
 -- The smaller ends of a node's links.
 abbrev pub ends_by : Kind → Plan → ℕ → List ℕ
 ends_by Path p v = path_ends v
@@ -163,6 +218,8 @@ ends_by Road p v = road_ends p v
 ends_by Forest p v = picked_ends p v
 ends_by Slow p v = chain_end p v ∷ []
 ends_by Busy p v = busy_ends p v
+ends_by FarCore p v = far_ends p v
+ends_by ChainWake p v = wake_ends v
 
 unfoldable pub smaller_ends : Plan → ℕ → List ℕ
 smaller_ends p v = ends_by p.kind p v

@@ -2,7 +2,7 @@
 use Rattle.std.specs.Prelude.{ℕ, Bool, true, false, codes, cond, List, Option, Some, None}
 use Rattle.std.specs.Str.{bytes_eq}
 use Rattle.ghs_make.specs.declared.kind.Kind.{Kind}
-use Rattle.ghs_make.specs.declared.kind.Kind.TheVariants.{Path, Ring, Star, Grid, Complete, Tree, Random, Road, Forest, Slow, Busy}
+use Rattle.ghs_make.specs.declared.kind.Kind.TheVariants.{Path, Ring, Star, Grid, Complete, Tree, Random, Road, Forest, Slow, Busy, FarCore, ChainWake}
 
 abbrev pub kind_name : Kind → List ℕ
 kind_name Path = codes "path"
@@ -16,6 +16,8 @@ kind_name Road = codes "road"
 kind_name Forest = codes "forest"
 kind_name Slow = codes "slow"
 kind_name Busy = codes "busy"
+kind_name FarCore = codes "farcore"
+kind_name ChainWake = codes "chainwake"
 
 -- the kind of a name
 abbrev pub kind_named : List ℕ → Option Kind
@@ -30,7 +32,9 @@ kind_named name =
     (cond (bytes_eq name (codes "road")) (Some Road)
     (cond (bytes_eq name (codes "forest")) (Some Forest)
     (cond (bytes_eq name (codes "slow")) (Some Slow)
-    (cond (bytes_eq name (codes "busy")) (Some Busy) None))))))))))
+    (cond (bytes_eq name (codes "busy")) (Some Busy)
+    (cond (bytes_eq name (codes "farcore")) (Some FarCore)
+    (cond (bytes_eq name (codes "chainwake")) (Some ChainWake) None))))))))))))
 
 -- the kind takes a number of links
 abbrev pub takes_links : Kind → Bool
@@ -42,4 +46,6 @@ takes_links _ = false
 abbrev pub has_own_weights : Kind → Bool
 has_own_weights Slow = true
 has_own_weights Busy = true
+has_own_weights FarCore = true
+has_own_weights ChainWake = true
 has_own_weights _ = false

@@ -1,20 +1,16 @@
 -- What holds of every network, as one fact a law.
-use Rattle.std.specs.Prelude.{ℕ, ◌≡◌, ◌≢◌, ◌+◌, ◌-◌, ◌<◌, ◌≤◌, ◌^◌, length, map, List, Ok, Result}
+use Rattle.std.specs.Prelude.{ℕ, ◌≡◌, ◌≢◌, ◌-◌, ◌<◌, ◌≤◌, ◌^◌, length, map, Ok}
 use Rattle.std.specs.List.{All, AllPairs}
 use Rattle.ghs_gr.specs.Judgement.{TextIs}
 use Rattle.ghs_gr.specs.Key.{AreSameKeys}
-use Rattle.ghs_gr.specs.RawGraph.{IsLinkOf, RawShape, Triple}
+use Rattle.ghs_gr.specs.RawGraph.{IsLinkOf, RawShape}
 use Rattle.ghs_graph.specs.Components.{HasComponents}
-use Rattle.ghs_graph.specs.Graph.{Shape}
 use Rattle.ghs_graph.specs.Key.{key_of}
 use Rattle.ghs_graph.specs.Links.{Joined, links}
-use Rattle.ghs_make.specs.Network.{IsNetwork, count_of, links_of}
-use Rattle.ghs_make.specs.Plan.{IsPlan}
+use Rattle.ghs_make.specs.Network.{IsNetwork, links_of}
 use Rattle.ghs_make.specs.Text.{text_of}
-use Rattle.ghs_make.specs.declared.kind.Kind.{Kind}
-use Rattle.ghs_make.specs.declared.kind.Kind.TheVariants.{Tree, Random, Forest}
+use Rattle.ghs_make.specs.declared.kind.Kind.TheVariants.{Random, Forest}
 use Rattle.ghs_make.specs.declared.network.Network.{Network}
-use Rattle.ghs_make.specs.declared.plan.Plan.{Plan}
 
 -- a network's text is read without a fault, and what is read has the network's nodes and its links
 pub record IsRead (n : Network) : Type 0 where

@@ -1,14 +1,16 @@
 -- Networks: their links, in order, with their weights.
-use Rattle.std.specs.Prelude.{ℕ, zero, suc, ◌≡◌, ◌+◌, ◌-◌, ◌%◌, ◌<◌, ◌≤◌, ◌==◌, cond, nat_le, length, List, [], ◌∷◌, ◌++◌, Option, Some, None, unwrap_or}
-use Rattle.std.specs.Int.{w32, trailing_zeros}
+use Rattle.std.specs.Prelude.{ℕ, zero, suc, ◌≡◌, ◌+◌, ◌-◌, ◌%◌, ◌<◌, ◌≤◌, ◌==◌, cond, nat_le, ◌||◌, length, List, [], ◌∷◌, ◌++◌, Option, Some, None, unwrap_or}
+use Rattle.std.specs.Int.{is_power_of_two}
 use Rattle.ghs_gr.specs.RawGraph.{Triple}
 use Rattle.ghs_gr.specs.declared.raw_graph.TheConstants.{ARC_LIMIT}
-use Rattle.ghs_make.specs.Ends.{chain_end, front, place, smaller_ends}
+use Rattle.ghs_make.specs.Ends.{chain_end, front, place, smaller_ends, twos}
 use Rattle.ghs_make.specs.Kind.{has_own_weights}
 use Rattle.ghs_make.specs.Plan.{IsPlan, IsPlanOf, refusal}
 use Rattle.ghs_make.specs.Word.{word}
 use Rattle.ghs_make.specs.declared.fault.MakeFault.{MakeFault}
 use Rattle.ghs_make.specs.declared.fault.MakeFault.TheVariants.{TooManyLinks, Memory}
+use Rattle.ghs_make.specs.declared.kind.Kind.{Kind}
+use Rattle.ghs_make.specs.declared.kind.Kind.TheVariants.{FarCore, ChainWake}
 use Rattle.ghs_make.specs.declared.network.Network.{Network}
 use Rattle.ghs_make.specs.declared.plan.Asked.{Asked}
 use Rattle.ghs_make.specs.declared.plan.Plan.{Plan}
@@ -18,14 +20,34 @@ use Rattle.ghs_make.specs.declared.word.TheConstants.{WEIGHING}
 
 -- Weights.
 
--- how often 2 divides a number
-unfoldable pub twos : ℕ → ℕ
-twos n = trailing_zeros w32 n
-
 -- along the chain of a slow or busy network the path's links weigh 1, and behind it each as much more as 2 divides the place of its
 -- outer end; a link across weighs more than all of these
+abbrev pub chain_weight : Plan → ℕ → ℕ → ℕ
+chain_weight p u v = cond (u == chain_end p v) (cond (nat_le v (front p)) 1 (1 + twos (place p v))) 64
+
+-- in a far core the path's links weigh 1, and those along a block as in slow networks; the first node of block k has a link of weight
+-- 32 + k to the path's end, and its others weigh 64; those of askers weigh most
+abbrev pub hung_weight : Plan → ℕ → ℕ → ℕ
+hung_weight p u k = cond ((u == 1) || (u == front p)) (32 + k) 64
+
+abbrev pub behind_weight : Plan → ℕ → ℕ → ℕ
+behind_weight p u v = let q = place p v in cond (is_power_of_two q) (hung_weight p u (twos q)) (1 + twos q)
+
+abbrev pub far_weight : Plan → ℕ → ℕ → ℕ
+far_weight p u v = cond (nat_le v (front p)) (cond (u == v - 1) 1 65) (behind_weight p u v)
+
+-- in a chain wake a node's link to the one before it weighs less than its others to smaller nodes, and that to node 1 more
+abbrev pub wake_weight : ℕ → ℕ → ℕ
+wake_weight u v = cond (u == 1) (v + 1) (cond (u == v - 1) (v - 1) v)
+
+abbrev pub own_weight_by : Kind → Plan → ℕ → ℕ → ℕ
+own_weight_by FarCore p u v = far_weight p u v
+own_weight_by ChainWake p u v = wake_weight u v
+own_weight_by _ p u v = chain_weight p u v
+
+-- the weight of a link of a kind that has weights of its own
 unfoldable pub own_weight : Plan → ℕ → ℕ → ℕ
-own_weight p u v = cond (u == chain_end p v) (cond (nat_le v (front p)) 1 (1 + twos (place p v))) 64
+own_weight p u v = own_weight_by p.kind p u v
 
 -- the weight of the link of this number, counted from 0, which joins u and v
 abbrev pub weight_by : Option Weights → Network → ℕ → ℕ → ℕ → ℕ
@@ -79,8 +101,17 @@ pub record IsNetworkOf (asked : Asked) (n : Network) : Type 0 where
   pub plan : IsPlanOf asked n.plan
   pub weights : n.weights ≡ weights_asked asked
 
--- why there is no network: it was refused, it has too many links, or memory runs out
+-- of these kinds too a network may have more links than there may be
+pub data HasManyEnds : Kind → Type 0 where
+  A_far_core : HasManyEnds FarCore
+  A_chain_wake : HasManyEnds ChainWake
+
+-- what is asked for has more links than there may be
+abbrev pub HasTooMany : Asked → Type 0
+HasTooMany asked = (p : Plan) × IsPlan p × IsPlanOf asked p × (refusal asked ≡ None) × (ARC_LIMIT < count_of p)
+
+-- why there is no network: it was refused, or it has too many links; memory comes after these
 abbrev pub IsRefusal : Asked → MakeFault → Type 0
-IsRefusal asked TooManyLinks = (p : Plan) × IsPlan p × IsPlanOf asked p × (refusal asked ≡ None) × (ARC_LIMIT < count_of p)
-IsRefusal asked Memory = Unit {0}
+IsRefusal asked TooManyLinks = HasTooMany asked
+IsRefusal asked Memory = (refusal asked ≡ None) × (HasTooMany asked → ⊥)
 IsRefusal asked fault = refusal asked ≡ Some fault

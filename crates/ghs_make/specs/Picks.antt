@@ -1,5 +1,5 @@
 -- Nodes that are cut into parts.
-use Rattle.std.specs.Prelude.{ℕ, ◌<◌, ◌≤◌, ◌+◌, ◌^◌}
+use Rattle.std.specs.Prelude.{ℕ, ◌<◌, ◌≤◌, ◌^◌}
 use Rattle.ghs_gr.specs.declared.raw_graph.TheConstants.{NODE_LIMIT}
 use Rattle.ghs_make.specs.declared.picks.Parting.{Parting}
 

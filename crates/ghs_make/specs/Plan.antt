@@ -1,5 +1,5 @@
 -- What is asked for, and what it comes to.
-use Rattle.std.specs.Prelude.{ℕ, ◌≡◌, ◌+◌, ◌-◌, ◌*◌, ◌/◌, ◌<◌, ◌≤◌, ◌^◌, Bool, cond, min, nat_lt, not, ◌&&◌, ◌||◌, is_some, Option, Some, None}
+use Rattle.std.specs.Prelude.{ℕ, ◌≡◌, ◌+◌, ◌-◌, ◌*◌, ◌/◌, ◌<◌, ◌≤◌, cond, min, nat_lt, not, ◌&&◌, ◌||◌, is_some, Option, Some, None}
 use Rattle.ghs_gr.specs.declared.raw_graph.TheConstants.{ARC_LIMIT, NODE_LIMIT}
 use Rattle.ghs_graph.specs.Bound.{IsFloorLog2}
 use Rattle.ghs_make.specs.Kind.{has_own_weights, takes_links}

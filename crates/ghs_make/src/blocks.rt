@@ -1,4 +1,4 @@
-//! Slow and busy networks: a path with blocks of nodes at its ends.
+//! A path with blocks of nodes at its ends: slow and busy networks.
 ghost use Rattle.ghs_make.specs.Ends.{across as across_of, block_end as block_end_of, busy_ends, chain_end as chain_end_of, crosses as crosses_of, front as front_of, last_block as last_block_of, place as place_of};
 ghost use Rattle.ghs_make.specs.Plan.{IsPlan};
 ghost use Rattle.std.specs.Prelude.{IfOk, ◌++◌, ◌+◌, ◌<◌, ◌^◌, ◌≡◌, ◌≤◌};
@@ -76,6 +76,7 @@ pub fn front(plan: &Plan) -> u32
 {
     match plan.kind {
         Kind::Slow => plan.nodes + 2 - power(plan.levels.saturating_sub(1)),
+        Kind::FarCore => plan.nodes + 2 - power(plan.levels.saturating_sub(2)),
         _ => plan.nodes + 2 - power(plan.levels),
     }
 }

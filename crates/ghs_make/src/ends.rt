@@ -4,6 +4,7 @@ ghost use Rattle.ghs_make.specs.Plan.{IsPlan};
 ghost use Rattle.std.specs.Prelude.{IfOk, ◌++◌, ◌≡◌, ◌≤◌};
 
 use crate::blocks::{chain_end, put_busy_ends};
+use crate::far::{put_far_ends, put_one_and_run};
 use crate::kind::Kind;
 use crate::picks::put_picked_ends;
 use crate::plan::Plan;
@@ -30,6 +31,8 @@ pub fn put_smaller_ends(plan: &Plan, node: u32, ends: &mut Vec<u32>) -> Result<(
         Kind::Forest => put_picked_ends(plan, node, ends)?,
         Kind::Slow => ends.push(chain_end(plan, node))?,
         Kind::Busy => put_busy_ends(plan, node, ends)?,
+        Kind::FarCore => put_far_ends(plan, node, ends)?,
+        Kind::ChainWake => put_one_and_run(1, 3, node.saturating_sub(3), ends)?,
     }
     Ok(())
 }

@@ -27,6 +27,10 @@ pub enum Kind {
     Slow,
     /// A sparse network on which a run sends nearly as many messages as the bound allows.
     Busy,
+    /// A path with its core at one end, on which a run in which all nodes wake takes nearly as many rounds as it may.
+    FarCore,
+    /// A dense network, whose nodes wake one after the other where node 1 alone wakes by itself.
+    ChainWake,
 }
 
 impl Kind {
@@ -46,6 +50,8 @@ impl Kind {
             Kind::Forest => "forest",
             Kind::Slow => "slow",
             Kind::Busy => "busy",
+            Kind::FarCore => "farcore",
+            Kind::ChainWake => "chainwake",
         }
     }
 
@@ -86,6 +92,12 @@ impl Kind {
         if name == "busy" {
             return Some(Kind::Busy);
         }
+        if name == "farcore" {
+            return Some(Kind::FarCore);
+        }
+        if name == "chainwake" {
+            return Some(Kind::ChainWake);
+        }
         None
     }
 
@@ -100,6 +112,9 @@ impl Kind {
     pub fn has_own_weights(self) -> bool
         ensures { result ≡ has_own_weights_of self }
     {
-        matches!(self, Kind::Slow | Kind::Busy)
+        matches!(
+            self,
+            Kind::Slow | Kind::Busy | Kind::FarCore | Kind::ChainWake
+        )
     }
 }

@@ -5,12 +5,13 @@
 //! twice (`law_simple`), and all nodes are joined unless it is a forest (`law_connected`).
 //!
 //! 1 to 2^20 nodes, and at most 2^23 links. A network is never kept: which links a node has follows from its `Plan`. That
-//! slow networks are slow and busy ones busy isn't claimed; docs/STUDY.md has figures. Worked examples:
-//! `ghs_tool_examples`.
+//! slow networks are slow, busy ones busy, and far cores and chain wakes near the bounds on rounds isn't claimed;
+//! docs/class/STUDY.md has figures. Worked examples: `ghs_tool_examples`.
 #![tactic(auto)]
 
 mod blocks;
 mod ends;
+mod far;
 pub mod fault;
 pub mod kind;
 pub mod laws;

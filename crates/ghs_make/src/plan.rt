@@ -117,7 +117,7 @@ fn most_links(kind: Kind, nodes: u32) -> u32
 }
 
 /// How many pairs so many nodes make.
-fn pairs(nodes: u32) -> u64
+pub(crate) fn pairs(nodes: u32) -> u64
     requires { 1 ≤ nodes }
     ensures { result ≡ pairs_of nodes }
 {

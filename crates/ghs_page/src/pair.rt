@@ -9,7 +9,7 @@ pub const PAIR_HEAD: &[u8] = br##"<!doctype html>
 <title>ghs: two runs of one network</title>
 <style>
 :root { --paper: #fff; --ink: #111; --dim: #555; --faint: #8a8a8a; --line: #c8c8c8; --panel: #f3f3f1; --act: #c2185b; --num: 17px; }
-:root.dark { --paper: #121417; --ink: #f2f2f2; --dim: #b4b4b4; --faint: #8c8c8c; --line: #42464d; --panel: #1c1f24; --act: #ff7eb6; }
+:root.dark { --paper: #121417; --ink: #f2f2f2; --dim: #b4b4b4; --faint: #8c8c8c; --line: #42464d; --panel: #1c1f24; --act: #ff7eb6; color-scheme: dark; }
 * { box-sizing: border-box; }
 html, body { height: 100%; margin: 0; }
 body { display: grid; grid-template: auto minmax(0, 1fr) auto auto / minmax(0, 1fr); font: var(--num)/1.35 system-ui, "Segoe UI", "DejaVu Sans", sans-serif; color: var(--ink); background: var(--paper); }
@@ -85,7 +85,7 @@ dialog td:first-child { font-weight: bold; padding-right: 1.2em; }
 <button id="play" title="space" aria-label="play">Play</button><button id="next" title="right arrow" aria-label="one event on">&gt;</button><button id="last" title="End" aria-label="to the end">&gt;|</button>
 <button id="part" title="r">where they part</button>
 <label><span class="wordy">speed</span> <select id="speed" aria-label="speed"><option value="1500">slow</option><option value="600" selected>middle</option><option value="150">fast</option><option value="16">rush</option><option value="minute">a run in a minute</option></select></label>
-<label class="wordy"><input type="checkbox" id="skip"> pass over waits</label>
+<label class="wordy"><input type="checkbox" id="skip"> skip deferrals</label>
 <label><span class="wordy">jump to</span> <select id="goal" aria-label="jump to"></select></label>
 <button id="jumpback" title="up arrow" aria-label="jump back">&lt;&lt;</button><button id="jump" title="down arrow" aria-label="jump on">&gt;&gt;</button>
 </footer>
@@ -112,12 +112,12 @@ const $ = id => document.getElementById(id);
 const PANE = '<style>header, .legend, footer > div, #seek, aside h2, #ledger, #census { display: none !important; }'
   + 'body { grid-template: minmax(0, 1fr) auto 8.6em / minmax(0, 1fr) !important; } main { grid-row: 1; } footer { grid-row: 2; grid-column: 1; padding: 0 .3rem; } #strip { height: 56px; }'
   + 'aside { grid-row: 3; display: grid !important; grid-template-columns: minmax(0, 5fr) minmax(0, 6fr); gap: .6em; border: 0; border-top: 1px solid var(--line); padding: .1rem .3rem 0 .6rem; overflow: hidden !important; }'
-  + 'aside #say, aside #vars { min-height: 0; height: 8.4em; } @media (max-width: 560px) { #vars { font-size: .85em; } }'
+  + 'aside #say, aside #vars { min-height: 0; height: 8.4em; overflow-y: auto; } @media (max-width: 560px) { #vars { font-size: .85em; } }'
   + '.shown .legend { display: block !important; }'
   + '@media (max-width: 400px) { body { grid-template-rows: minmax(0, 1fr) auto 6.2em !important; } aside { grid-template-columns: 1fr; } aside #say { height: 6em; } #vars { display: none; } #strip { height: 40px; } }'
   + '@media print { html, body { height: 100% !important; } #strip { height: 40px; } }</style>';
 const KEYS = [['1, b, 2', 'leads the first run alone, both together, the second alone'], ['r', 'where the runs part: the first event that is another one'], ['left, right', 'one event back or on'], ['space', 'play, stop'],
-  ['up, down', 'to the previous or next event of the sort chosen under "jump to", in each run that is led'], ['Page up, Page down', 'ten events'], ['Home, End', 'start, end'], ['e', 'to an event\'s number'], ['w', 'passes over events that only wait'],
+  ['up, down', 'to the previous or next event of the sort chosen under "jump to", in each run that is led'], ['Page up, Page down', 'ten events'], ['Home, End', 'start, end'], ['e', 'to an event\'s number'], ['w', 'skips events that only defer'],
   ['n', 'pins the event\'s node in both, or lets it go; a click on a node does too'], ['[ and ]', 'pins the node before or after'], ['t', 'network, or space and time'], ['x', 'space and time: only causes and effects'], ['c', 'laid out by forces, or as a circle'],
   ['f', 'follows the event\'s node, larger'], ['+ - 0', 'larger, smaller, whole network; the mouse drags and its wheel zooms, in both'], ['k', 'weights of links'], ['g', 'legend'], ['d', 'dark, light'], ['?', 'this list']];
 const runs = [0, 1].map(i => ({ i, frame: $('frame' + i) }));
@@ -193,7 +193,7 @@ const tree = run => run.see("links.filter(branchy).map(l => l.link).join(' ')");
 function verdict(nodes) {
   const ends = runs.every(run => run.see('at === G.to')), whole = runs.every(run => run.see('G.to === G.events && nodes.some(n => n && n.halted)'));
   const differ = nodes.length ? nodes.length + ' of ' + runs[0].see('G.nodes') + (nodes.length > 1 ? ' nodes are' : ' nodes is') + ' in another state' + (nodes.length <= 12 ? ': ' + nodes.join(', ') : '') : 'every node is in the same state';
-  if (!ends) return differ + '.';
+  if (!ends) return differ[0].toUpperCase() + differ.slice(1) + '.';
   const [a, b] = runs.map(tree), weight = runs[0].see('links.filter(branchy).reduce((x, l) => x + l.weight, 0)'), cores = [...new Set(runs[0].see("nodes.filter(n => n && n.halted && n.name).map(n => n.name + ' at level ' + n.level)"))];
   if (!whole || a !== b) return 'The last events that are shown' + (a === b ? ', and the same ' + runs[0].see('TREE()') + ' links' : '') + ': ' + differ + '.';
   return 'Both have ended, in one tree: ' + (a ? a.split(' ').length : 0) + ' links of weight ' + weight + (cores.length ? ', the core' + (cores.length > 1 ? 's ' : ' ') + cores.slice(0, 4).join(', ') + (cores.length > 4 ? ' ..' : '') : '') + '; ' + differ + (nodes.length && runs.some(run => run.see('ledger.queued')) ? ', as messages are still on their way' : '') + '.';
@@ -204,7 +204,7 @@ function tell() {
   const sum = list => list.reduce((a, b) => a + b, 0), rows = seen.map(s => [s.at + ' of ' + s.events, ...s.sent, sum(s.sent), sum(s.bits), s.now[3], sum(s.consumed), s.queued, s.requeued, s.now[0], s.now[2]]);
   $('counts').innerHTML = rows.map((row, i) => '<tr><th>' + (i ? 'Second run' : 'First run') + '</th>' + row.map((x, k) => '<td' + (x !== rows[1 - i][k] && k ? ' class="other"' : '') + '>' + x + '</td>').join('')
     + '<td class="wide"><div class="bar" role="img" aria-label="' + row[8] + ' of ' + seen[i].bound + '"><i style="width:' + (seen[i].bound ? 100 * row[8] / seen[i].bound : 0) + '%"></i></div></td></tr>').join('');
-  const same = parts && seen.every(s => s.at < parts) && seen[0].at === seen[1].at, text = (parts ? same ? 'The same events so far; the runs part in event ' + parts + '. ' : 'The runs part in event ' + parts + '; ' : 'The runs are the same. ') + verdict(differing());
+  const same = parts && seen.every(s => s.at < parts) && seen[0].at === seen[1].at, text = (parts ? same ? 'The same events so far; the runs part in event ' + parts + '. ' : 'The runs part in event ' + parts + '. ' : 'The runs are the same. ') + verdict(differing());
   if ($('told').textContent !== text) $('told').textContent = text;
   runs.forEach((run, i) => {
     $('said' + i).textContent = 'event ' + seen[i].at + ' of ' + seen[i].events + (seen[i].to < seen[i].events ? ', shown to ' + seen[i].to : '');
@@ -276,7 +276,7 @@ async function start() {
   document.title = 'ghs: two runs of ' + nodes + ' nodes';
   $('what').textContent = 'two runs of one network: ' + nodes + ' nodes, ' + links + ' links';
   $('goal').innerHTML = runs[0].$('goal').innerHTML;
-  $('names').innerHTML = '<tr><th></th><th>event</th>' + KINDS().map(([letter, name]) => '<th title="sent: ' + name + '"><span class="pill">' + letter + '</span></th>').join('') + '<th>sent</th><th title="the bits of what was sent">bits</th><th title="the bits of the longest message">longest message</th><th>consumed</th><th>in queues</th><th>requeued</th><th>fragments</th><th>longest chain</th><th class="wide">of the bound, ' + runs[0].see('G.bound') + '</th></tr>';
+  $('names').innerHTML = '<tr><th></th><th>event</th>' + KINDS().map(([letter, name]) => '<th title="sent: ' + name + '"><span class="pill">' + letter + '</span></th>').join('') + '<th>sent</th><th title="the bits of what was sent">bits</th><th title="the bits of the longest message">longest message</th><th>consumed</th><th>in queues</th><th>deferrals</th><th>fragments</th><th>longest chain</th><th class="wide">of the bound, ' + runs[0].see('G.bound') + '</th></tr>';
   $('keys').innerHTML = '<table>' + KEYS.map(([k, t]) => '<tr><td>' + k + '</td><td>' + t + '</td></tr>').join('') + '</table><form method="dialog"><button>close</button></form>';
   for (const [id, name] of [['first', 'Home'], ['last', 'End'], ['back', 'ArrowLeft'], ['next', 'ArrowRight'], ['play', ' '], ['part', 'r'], ['jump', 'ArrowDown'], ['jumpback', 'ArrowUp'], ['theme', 'd'], ['help', '?'], ['tab', 't'], ['lead0', '1'], ['lead1', '2'], ['leadboth', 'b']]) $(id).onclick = e => { ACTS[name](); if (e.detail) e.target.blur(); };
   $('skip').onchange = () => setSkip($('skip').checked);

@@ -10,9 +10,8 @@ pub const HEAD: &[u8] = br##"<!doctype html>
 <style>
 :root { --paper: #fff; --ink: #111; --dim: #555; --faint: #8a8a8a; --line: #c8c8c8; --panel: #f3f3f1; --act: #c2185b; --on-act: #fff; --num: 17px;
   --c0: hsl(190 85% 62%); --c1: hsl(60 85% 80%); --c2: hsl(340 85% 62%); --c3: hsl(210 85% 56%); --c4: hsl(60 85% 50%); --c5: hsl(30 60% 50%); }
-:root.dark { --paper: #121417; --ink: #f2f2f2; --dim: #b4b4b4; --faint: #8c8c8c; --line: #42464d; --panel: #1c1f24; --act: #ff7eb6; --on-act: #111;
+:root.dark { --paper: #121417; --ink: #f2f2f2; --dim: #b4b4b4; --faint: #8c8c8c; --line: #42464d; --panel: #1c1f24; --act: #ff7eb6; --on-act: #111; color-scheme: dark;
   --c0: hsl(200 60% 35%); --c1: hsl(10 85% 40%); --c2: hsl(240 85% 50%); --c3: hsl(20 35% 20%); --c4: hsl(260 60% 55%); --c5: hsl(240 85% 20%); }
-:root { --b0: color-mix(in srgb, var(--c0) 50%, var(--paper)); --b1: color-mix(in srgb, var(--c1) 50%, var(--paper)); --b2: color-mix(in srgb, var(--c2) 50%, var(--paper)); --b3: color-mix(in srgb, var(--c3) 50%, var(--paper)); --b4: color-mix(in srgb, var(--c4) 50%, var(--paper)); --b5: color-mix(in srgb, var(--c5) 50%, var(--paper)); }
 * { box-sizing: border-box; }
 html, body { height: 100%; margin: 0; }
 body { display: grid; grid-template: auto minmax(0, 1fr) auto / minmax(0, 1fr) 24.5rem; font: var(--num)/1.35 system-ui, "Segoe UI", "DejaVu Sans", sans-serif;
@@ -29,12 +28,15 @@ main > svg { position: absolute; inset: 0; width: 100%; height: 100%; display: b
 #time { overflow: auto; position: absolute; inset: 0 0 2.9rem 0; }
 [hidden] { display: none !important; }
 aside { display: flex; flex-direction: column; min-height: 0; overflow-y: auto; border-left: 1px solid var(--line); padding: .4rem .3rem .3rem .8rem; }
-aside > div { overflow-y: auto; scrollbar-gutter: stable; flex: none; }
-aside > #live { flex: none; }
+aside > div { flex: none; }
 aside h2 { font-size: 1em; margin: .35rem 0 .1rem; }
-aside #say { flex: 0 1 auto; min-height: 7em; }
-aside #vars { flex: 1 3 auto; min-height: 7.7em; }
-aside #census { flex: 0 4 auto; min-height: 7em; }
+/* the explanation is whole; what a node knows and the accounts give way */
+aside #say { min-height: 5em; }
+aside #vars { flex: 1 3 auto; min-height: 7.5em; overflow-y: auto; }
+aside #census { flex: 0 4 auto; min-height: 7em; overflow-y: auto; }
+.fold { all: unset; cursor: pointer; }
+.fold::before { content: "\25BE "; }
+.fold[aria-expanded=false]::before { content: "\25B8 "; }
 aside p { margin: .15rem 0; }
 table { border-collapse: collapse; width: 100%; font-variant-numeric: tabular-nums; font-size: .92em; }
 th, td { text-align: left; padding: 0 .4em 0 0; font-weight: normal; vertical-align: top; white-space: nowrap; }
@@ -120,6 +122,7 @@ circle.halo.bx { fill: var(--line); }
 .arrow { fill: none; stroke: var(--dim); stroke-width: 1.5; }
 .arrow.past { stroke: var(--ink); stroke-width: 2.5; }
 .arrow.open { stroke-dasharray: 6 4; }
+.arrow.chain { stroke: var(--act); stroke-width: 4; }
 .arrow.idle { stroke-dasharray: 2 3; stroke-width: 1.5; }
 .dot { fill: var(--paper); stroke: var(--dim); stroke-width: 1.6; cursor: pointer; }
 .dot.past { fill: var(--ink); stroke: var(--ink); }
@@ -127,22 +130,22 @@ circle.halo.bx { fill: var(--line); }
 .nowline { stroke: var(--act); stroke-width: 1.5; stroke-dasharray: 3 4; }
 .plot { fill: none; stroke: var(--ink); stroke-width: 2; }
 .plot.b { stroke-dasharray: 5 3; }
-#strip text { paint-order: stroke; stroke: var(--panel); stroke-width: 4px; }
+#strip text { paint-order: stroke; stroke: var(--panel); stroke-width: 10px; stroke-linejoin: round; }
 .tickline { stroke: var(--dim); stroke-width: 1; }
 dialog { color: var(--ink); background: var(--paper); border: 2px solid var(--ink); max-width: 46rem; }
 dialog td:first-child { font-weight: bold; padding-right: 1.2em; }
 dialog td { white-space: normal; }
 @media (min-width: 1500px) { body { grid-template-columns: minmax(0, 1fr) 29rem; } }
-@media (max-height: 905px), (max-width: 1499px) and (max-height: 1030px) { :root { --num: 15px; } aside { font-size: 13.5px; line-height: 1.25; } aside #vars { min-height: 7em; } #strip { height: 60px; } }
-@media (max-height: 719px) { aside { font-size: 12.5px; } aside #say { min-height: 5em; } }
-@media (max-width: 900px) { body { grid-template: auto minmax(0, 1fr) minmax(0, 14rem) auto / minmax(0, 1fr); } header, footer, .bad { grid-column: 1; } aside { display: block; overflow-y: auto; border-left: 0; border-top: 1px solid var(--line); } }
-@media (max-width: 500px) { :root { --num: 14px; } header, footer { padding: .2rem .4rem; gap: .25rem; } footer div { gap: .25rem; } button { min-width: 2em; padding: .1em .35em; } #what, .legend, .wordy { display: none; } #strip { height: 44px; } #strip text { font-size: 11px; } body { grid-template-rows: auto minmax(0, 1fr) minmax(0, 12rem) auto; } #goal { max-width: 9em; } }
+@media (max-height: 905px), (max-width: 1499px) and (max-height: 1030px) { :root { --num: 15px; } aside { font-size: 13.5px; line-height: 1.25; } #strip { height: 60px; } }
+@media (max-height: 719px) { aside { font-size: 12.5px; } }
+@media (max-width: 900px) { body { grid-template: auto minmax(0, 1fr) minmax(0, 18rem) auto / minmax(0, 1fr); } header, footer, .bad { grid-column: 1; } aside { display: block; overflow-y: auto; border-left: 0; border-top: 1px solid var(--line); } }
+@media (max-width: 500px) { :root { --num: 14px; } header, footer { padding: .2rem .4rem; gap: .25rem; } footer div { gap: .25rem; } button { min-width: 2em; padding: .1em .35em; } #what, .legend, .wordy { display: none; } #strip { height: 44px; } #strip text { font-size: 11px; } body { grid-template-rows: auto minmax(0, 1fr) minmax(0, 18rem) auto; } #goal { max-width: 9em; } }
 .sr { position: absolute; width: 1px; height: 1px; overflow: hidden; clip-path: inset(50%); }
 #glass { position: absolute; inset: 0; }
 #glass, #net, #under { touch-action: none; }
 #net, #under { pointer-events: none; }
 #view, #lower { pointer-events: auto; }
-/* what an event seldom changes is painted by itself, and once; where links are too thin to be met, the glass takes all */
+/* painted by itself, as events seldom change it; links too thin to be met leave all to the glass */
 #under, #plots { will-change: transform; }
 #under.tiny { touch-action: auto; }
 .tiny #lower { pointer-events: none; }
@@ -156,6 +159,7 @@ dialog td { white-space: normal; }
   html, body { height: 178mm; width: 100%; overflow: hidden; }
   body { grid-template: auto minmax(0, 1fr) auto / minmax(0, 1fr) 88mm; }
   header, footer { grid-column: 1 / 3; }
+  aside > [hidden] { display: block !important; }
   aside { display: flex; font-size: 11px; line-height: 1.2; border-left: 1px solid var(--line); border-top: 0; }
   header button, footer button, footer label, #seek, #hint, dialog { display: none !important; }
   #strip { height: 60px; }
@@ -169,7 +173,7 @@ dialog td { white-space: normal; }
 <b>ghs</b><span id="what"></span><span class="gap"></span>
 <span role="tablist"><button role="tab" id="tabnet" aria-selected="true" title="t">Network</button>
 <button role="tab" id="tabtime" aria-selected="false" title="t">Space and time</button></span>
-<button id="only" title="x" aria-pressed="false" hidden>causes only</button><button id="follow" title="f" aria-pressed="false">follow</button><button id="layout" title="c">circle</button><button id="save" title="p: the picture as a file (SVG)">picture</button><button id="theme" title="d">dark</button><button id="help" title="?">?</button>
+<button id="only" data-key="x" title="x" aria-pressed="false" hidden>causes only</button><button id="follow" data-key="f" title="f" aria-pressed="false">follow</button><button id="layout" data-key="c" title="c">circle</button><button id="save" data-key="p" title="p: the picture as a file (SVG)">picture</button><button id="theme" data-key="d" title="d">dark</button><button id="help" data-key="?" title="?">?</button>
 </header>
 <main id="stage">
 <div id="glass"></div><svg id="under"><g id="lower"><g id="halos"></g><g id="weights"></g><g id="links"></g><g id="cores"></g></g></svg>
@@ -182,18 +186,18 @@ dialog td { white-space: normal; }
 <div class="sr" aria-live="polite" id="live"></div><div id="say"></div>
 <h2><label>Node <input id="pick" type="number" min="1" style="width:6em" title="/: search for a node, which pins it; empty: the event's node"></label> <span id="pinned" class="old"></span></h2>
 <div id="vars"></div>
-<h2>Messages</h2><div id="ledger"></div>
-<h2>Fragments</h2><div id="census"></div>
+<h2><button class="fold">Messages</button></h2><div id="ledger"></div>
+<h2><button class="fold">Fragments</button></h2><div id="census"></div>
 </aside>
 <footer>
 <div><label>Event <input id="goto" type="number" min="0" style="width:5.5em" title="e: to an event's number"></label> <span id="count"></span>
-<button id="first" title="Home" aria-label="to the start">|&lt;</button><button id="back" title="left arrow" aria-label="one event back">&lt;</button>
-<button id="play" title="space" aria-label="play">Play</button><button id="next" title="right arrow" aria-label="one event on">&gt;</button><button id="last" title="End" aria-label="to the end">&gt;|</button>
+<button id="first" data-key="Home" title="Home" aria-label="to the start">|&lt;</button><button id="back" data-key="ArrowLeft" title="left arrow" aria-label="one event back">&lt;</button>
+<button id="play" data-key=" " title="space" aria-label="play">Play</button><button id="next" data-key="ArrowRight" title="right arrow" aria-label="one event on">&gt;</button><button id="last" data-key="End" title="End" aria-label="to the end">&gt;|</button>
 <label>speed <select id="speed"><option value="1500">slow</option><option value="600" selected>middle</option><option value="150">fast</option><option value="16">rush</option><option value="minute">a run in a minute</option></select></label> <span id="pace"></span>
-<label><input type="checkbox" id="skip"> pass over waits</label>
+<label><input type="checkbox" id="skip"> skip deferrals</label>
 <label><input type="checkbox" id="ask"> ask first</label>
 <label>jump to <select id="goal"></select></label>
-<button id="jumpback" title="up arrow" aria-label="jump back">&lt;&lt;</button><button id="jump" title="down arrow" aria-label="jump on">&gt;&gt;</button></div>
+<button id="jumpback" data-key="ArrowUp" title="up arrow" aria-label="jump back">&lt;&lt;</button><button id="jump" data-key="ArrowDown" title="down arrow" aria-label="jump on">&gt;&gt;</button></div>
 <svg id="strip" aria-hidden="true"></svg>
 <input type="range" id="seek" aria-label="event">
 </footer>
@@ -207,7 +211,7 @@ pub const TAIL: &[u8] = br##"</noembed>
 <script>
 'use strict';
 const $ = id => document.getElementById(id);
-// ---- the protocol, as the data tell of it: kinds of messages, marks, phases, variables, and what its rows are. The page has none of its own
+// ---- the protocol, as the data tell of it. The page has none of its own
 let P, KINDS, KIND, NAMES, LETTER, BITS, MARK, PHASE, THEN, PUTS;
 // a mark's look on its half of a link
 const SHOWN = ['open', 'tree', 'closed', 'asked'];
@@ -221,7 +225,7 @@ function adopt(o) {
   BITS = by(o.kinds, 'kind', k => k.bits);
   MARK = by(o.marks, 'mark', m => ({ ...m, code: SHOWN.indexOf(m.look) }));
   PHASE = by(o.phases, 'phase', x => x);
-  // what reasons of waiting tell of a node, and whether anything is ever put back
+  // what reasons of deferring tell of a node, and whether there are any
   THEN = [...new Set([...Object.values(o.waits).join().matchAll(/{node\.(\w+)}/g)].map(x => x[1]))];
   PUTS = Object.keys(o.waits).length > 0;
   ledger = zero();
@@ -232,7 +236,7 @@ const filled = (text, f) => text.replace(/{(?:(\w+)\.)?(\w+)}/g, (_, of, x) => f
 const TREE = () => P.marks.find(m => m.look === 'tree').name;
 const KEYS = [['left, right', 'one event back or on'], ['space', 'play, stop'], ['up, down', 'to the previous or next event of the sort chosen under "jump to"'],
   ['Page up, Page down', 'ten events'], ['Home, End', 'start, end'], ['n', 'pins the event\'s node, or lets it go'], ['[ and ]', 'pins the node before or after'],
-  ['e', 'to an event\'s number'], ['/', 'search for a node'], ['q', 'asks before it shows what the next event does'], ['w', 'passes over events that only wait'], ['t', 'network, or space and time'], ['c', 'laid out by forces, or as a circle in the order of numbers'], ['d', 'dark, light'],
+  ['e', 'to an event\'s number'], ['/', 'search for a node'], ['q', 'asks you what the next event does'], ['w', 'skips events that only defer'], ['t', 'network, or space and time'], ['c', 'laid out by forces, or as a circle in the order of numbers'], ['d', 'dark, light'],
   ['x', 'space and time: only what acted on the event or what it acts on'], ['f', 'follows the event\'s node, larger'],
   ['+ - 0', 'larger, smaller, whole network; the mouse drags and its wheel zooms'], ['k', 'weights of links'], ['p', 'the picture as a file (SVG)'], ['g', 'legend'], ['?', 'this list']];
 
@@ -244,7 +248,7 @@ const newQueue = q => { queues.set(q, q); return q; };
 const queue = (v, p) => queueAt(v, p).list;
 // the queues that may look otherwise than they were drawn
 let changed = new Set();
-// `back`: how many messages in queues were put back
+// `back`: how many messages in queues were deferred
 const zero = () => ({ sent: KINDS.map(() => 0), bits: KINDS.map(() => 0), consumed: KINDS.map(() => 0), requeued: 0, queued: 0, back: 0 });
 let ledger;
 // a link knows the looks of the marks of both its ends
@@ -281,14 +285,14 @@ function readLine(o) {
 const width = n => n.toString(2).length;
 let widths;
 function measure() {
-  // links come in key order, so the last one has the greatest weight; the highest level is the floor of log2 of the nodes
+  // the last link has the greatest weight; the highest level is the floor of log2 of the nodes
   const number = width(G.nodes), weight = width(links.length ? links[links.length - 1].weight : 0);
   widths = { number, weight, level: width(number - 1), key: 2 * number + weight };
 }
 const lengthOf = m => BITS[m.kind] + (m.level === undefined ? 0 : widths.level) + (m.key ? widths.key : 0);
 const message = (m, born, from, to, at) => ({ kind: m.kind, level: m.level, key: m.key, phase: m.phase, bits: lengthOf(m), born, from, to, at, takes: NOTHING, backs: 0, done: 0, number: 0 });
 
-// ---- one step on, one step back. Every value is one that the step carries; what it replaces is kept.
+// ---- one step on, one step back: every value is one that the step carries; what it replaces is kept
 let at, undo = [];
 const NONE = {}, NOTHING = [];
 const tally = (m, d) => { const k = KIND[m.kind]; ledger.sent[k] += d; ledger.bits[k] += d * m.bits; ledger.queued += d; };
@@ -332,16 +336,19 @@ function goto(k) { k = Math.max(0, Math.min(G.to, k)); if (at > 2 * k + 1000) re
 const stepNow = () => steps[at - 1];
 const undoNow = () => undo[at - 1];
 
-// ---- why a message waits: the reason of its last step, with the numbers of message and node at that event
+// ---- why a message waits, with the numbers of message and node at that event
 const lastBack = m => m.takes[m.backs - 1];
 const reasonOf = m => { const k = lastBack(m) - 1, row = steps[k].row; return filled(P.waits[row] ?? row, (x, of) => value(x, of === 'node' ? undo[k].then[x] : m[x])); };
 const listed = list => (list.length > 6 ? (list.length - 6) + ' before and ' : '') + list.slice(-6).join(', ');
-const backsOf = m => 'put back by event' + (m.backs > 1 ? 's ' : ' ') + listed(m.takes.slice(0, m.backs));
+const backsOf = m => 'deferred by event' + (m.backs > 1 ? 's ' : ' ') + listed(m.takes.slice(0, m.backs));
 const bornOf = m => words(m) + ' from node ' + m.from + ' to node ' + m.to + ', sent by event ' + m.born + ', number ' + m.number + ' of its chain, ' + m.bits + ' bits';
 const storyOf = m => bornOf(m) + (m.backs ? '; ' + backsOf(m) + ': ' + reasonOf(m) : '') + '.';
 
 // ---- what the page adds: components of joined links, and curves over the whole run
 const joined = l => l.halves === 5;
+// two fragments merge over a link until an end enters the next level: till then they have one level, and two names or none
+const merging = l => joined(l) && nodes[l.a].level === nodes[l.b].level && (nodes[l.a].name !== nodes[l.b].name || !nodes[l.a].name);
+const whole = l => joined(l) && !merging(l);
 const branchy = l => l.halves >> 2 === 1 || (l.halves & 3) === 1;
 function classes(n, pairs) {
   const up = Array.from({ length: n + 1 }, (_, i) => i);
@@ -350,27 +357,27 @@ function classes(n, pairs) {
   return top;
 }
 function census() {
-  const top = classes(G.nodes, links.filter(joined).map(l => [l.a, l.b])), all = new Map(), of = [];
+  const top = classes(G.nodes, links.filter(whole).map(l => [l.a, l.b])), all = new Map(), of = [];
   for (let v = 1; v <= G.nodes; v++) {
     const t = top(v), n = nodes[v];
     let f = of[t];
     if (!f) all.set(t, f = of[t] = { least: t, level: 0, name: null, nodes: 0 });
     of[v] = f;
     f.nodes++;
-    if (n.level >= f.level && n.name) { f.level = n.level; f.name = n.name; }
+    if (n.name && (!f.name || n.level > f.level)) { f.level = n.level; f.name = n.name; }
   }
   // each fragment by its least node, and that of each node
   return { top, all, of };
 }
-// four numbers for each event, two, and for each node the events in which it does something
+// four numbers for each event, two, and for each node its events
 let curve = [], before = [], doings = [], look = new Map(), clashes = new Map();
 const figures = i => curve.slice(4 * i, 4 * i + 4);
 function survey() {
-  // once through the run: number of fragments, first sends, which names stand beside one another, who came before
   let count = G.nodes;
   const lastAt = [], root = nodes.map((_, v) => v), members = nodes.map((_, v) => [v]), band = [], head = [];
   const clash = (x, y) => { if (x && y && x !== y && !clashes.get(x)?.has(y)) for (const [a, b] of [[x, y], [y, x]]) { if (!clashes.has(a)) clashes.set(a, new Set()); clashes.get(a).add(b); } };
   const join = l => {
+    if (!whole(l)) return;
     let a = root[l.a], b = root[l.b];
     if (a === b) return;
     if (members[a].length < members[b].length) [a, b] = [b, a];
@@ -378,9 +385,9 @@ function survey() {
     count--;
     bands(a, members[b]);
   };
-  // the name of a fragment is the one that census finds; where it's new, or for nodes that are, it's held to what lies beside
+  // a fragment's name that is new, or has new nodes, is held to what lies next to it
   const bands = (r, fresh) => {
-    for (const v of fresh) { const n = nodes[v], m = nodes[head[r]]; if (n.name && (!m || n.level > m.level || n.level === m.level && v > m.v)) head[r] = v; }
+    for (const v of fresh) { const n = nodes[v], m = nodes[head[r]]; if (n.name && (!m || n.level > m.level)) head[r] = v; }
     const name = head[r] ? nodes[head[r]].name : null;
     for (const v of band[r] === name ? fresh : members[r]) {
       clash(name, nodes[v].name);
@@ -388,10 +395,11 @@ function survey() {
     }
     band[r] = name;
   };
-  // chains: a message goes out with one more than its sender's number; who consumes it, or is woken by it, takes the greater
+  // chains: a message carries its sender's number plus one; who consumes it, or is woken by it, takes the greater
   const number = nodes.map(() => 0);
   let longest = 0, sent = 0, most = 0;
   clashes = new Map();
+  chained = null;
   doings = nodes.map(() => []);
   curve.push(count, 0, 0, 0);
   before.push(0, 0);
@@ -408,35 +416,37 @@ function survey() {
     before.push(lastAt[s.node] || 0, u.taken ? u.taken.born : 0);
     if (!idle(s)) doings[s.node].push(i);
     lastAt[s.node] = i;
-    if (s.set.name) { if (!look.has(s.set.name)) look.set(s.set.name, 0); for (const p of n.ports) clash(n.name, nodes[p.far].name); }
-    for (const [p] of s.marks) { const l = links[n.ports[p].link]; if (joined(l)) join(l); }
+    if (s.set.name) { if (!look.has(s.set.name)) look.set(s.set.name, 0); for (const p of n.ports) { clash(n.name, nodes[p.far].name); join(links[p.link]); } }
+    for (const [p] of s.marks) join(links[n.ports[p].link]);
     if (s.set.level < u.set.level) { const r = root[s.node]; head[r] = 0; bands(r, members[r]); }
     else if (s.set.name || s.set.level) bands(root[s.node], [s.node]);
     curve.push(count, s.total, longest, most);
     sent += u.sent.length;
-    if (s.total !== sent) throw Error('event ' + i + ' counts ' + s.total + ' first sends');
+    if (s.total !== sent) throw Error('event ' + i + ' counts ' + s.total + ' messages sent');
   }
   looks(clashes);
   if (ledgerEnd) for (const x of ['requeued', 'queued', 'sent', 'consumed'])
     if (JSON.stringify(ledgerEnd[x]) !== JSON.stringify(ledger[x])) throw Error('the last ledger does not fit the steps: ' + x);
   if (at !== G.to) throw Error('the steps end at event ' + at + ', not ' + G.to);
 }
-// a look is a colour and a pattern; no two names that ever stand beside one another have the same, as long as there are enough
+// a look is a colour and a pattern; names that ever stand side by side differ, as long as there are enough
 const COLOURS = 6, PATTERNS = 4, LOOKS = COLOURS * PATTERNS;
 function looks(clashes) {
-  const order = [...look.keys()].map((name, i) => [name, i, (clashes.get(name) || new Set()).size]).sort((a, b) => b[2] - a[2] || a[1] - b[1]), given = new Map();
+  const order = [...look.keys()].map((name, i) => [name, i, (clashes.get(name) || new Set()).size]).sort((a, b) => b[2] - a[2] || a[1] - b[1]), given = new Map(), spent = new Array(LOOKS).fill(0);
   for (const [name, i] of order) {
     const used = new Array(LOOKS).fill(0);
     for (const other of clashes.get(name) || []) if (given.has(other)) used[given.get(other)]++;
     let best = -1;
-    for (let t = 0; t < LOOKS; t++) { const x = t - t % COLOURS + (t + i) % COLOURS; if (best < 0 || used[x] < used[best]) best = x; }
+    for (let t = 0; t < LOOKS; t++) { const x = t - t % COLOURS + (t + i) % COLOURS; if (best < 0 || used[x] < used[best] || used[x] === used[best] && spent[x] < spent[best]) best = x; }
+    spent[best]++;
     given.set(name, best);
   }
   look = given;
 }
 const PATTERN = ['', '<path d="M0 2H7"/>', '<circle cx="3.5" cy="3.5" r="1.5"/>', '<path d="M0 3.5H7M3.5 0V7"/>'];
 function paintLooks() {
-  let defs = '', css = '';
+  // a band's colors are those of the fills, half paper
+  let defs = '', css = ':root {' + Array.from({ length: COLOURS }, (_, i) => '--b' + i + ': color-mix(in srgb, var(--c' + i + ') 50%, var(--paper));').join('') + '}\n';
   for (let i = 0; i < LOOKS; i++) {
     const c = i % COLOURS, p = Math.floor(i / COLOURS);
     for (const [kind, colour] of [['s', '--c' + c], ['b', '--b' + c]]) {
@@ -449,30 +459,38 @@ function paintLooks() {
   $('looks').textContent = css;
 }
 
-// ---- where the nodes stand: stress majorization over distances in links, begun by classical scaling; no chance in it
-function place(list, far) {
-  const n = list.length;
-  if (n === 1) return [[0, 0]];
-  const idx = new Map(list.map((v, i) => [v, i])), D = [];
-  for (let i = 0; i < n; i++) {
-    const d = D[i] = new Float64Array(n).fill(-1), q = [i];
-    d[i] = 0;
-    for (let h = 0; h < q.length; h++) for (const w of far(list[q[h]])) { const j = idx.get(w); if (d[j] < 0) { d[j] = d[q[h]] + 1; q.push(j); } }
-  }
-  const mean = D.map(d => d.reduce((a, x) => a + x * x, 0) / n), all = mean.reduce((a, b) => a + b) / n;
+// ---- where the nodes stand: classical scaling, then stress majorization over distances in links; no chance in it
+// the two strongest axes of a symmetric matrix
+function twoAxes(n, rounds, times) {
   const axes = [];
   for (let a = 0; a < 2; a++) {
     let v = Float64Array.from({ length: n }, (_, i) => Math.sin(1 + i * (a ? 2.3 : 1.3)) + .01 * i), norm = 1;
-    for (let t = 0; t < 40; t++) {
-      const w = new Float64Array(n);
-      for (let i = 0; i < n; i++) { let s = 0; for (let j = 0; j < n; j++) s -= (D[i][j] * D[i][j] - mean[i] - mean[j] + all) * v[j]; w[i] = s / 2; }
-      for (const u of axes) { let s = 0; for (let i = 0; i < n; i++) s += u[i] * w[i]; for (let i = 0; i < n; i++) w[i] -= s * u[i]; }
+    for (let t = 0; t < rounds; t++) {
+      const w = times(v);
+      for (const u of axes) { const s = u.reduce((s, x, i) => s + x * w[i], 0); u.forEach((x, i) => { w[i] -= s * x; }); }
       norm = Math.hypot(...w) || 1;
       v = w.map(x => x / norm);
     }
     axes.push(v);
-    axes[a].size = Math.sqrt(norm);
+    v.size = Math.sqrt(norm);
   }
+  return axes;
+}
+const nearOf = (list, far) => { const idx = new Map(list.map((v, i) => [v, i])); return list.map(v => [...new Set(far(v).map(w => idx.get(w)))]); };
+function hops(near, i) {
+  const d = new Float64Array(near.length).fill(-1), q = [i];
+  d[i] = 0;
+  for (const h of q) for (const j of near[h]) if (d[j] < 0) { d[j] = d[h] + 1; q.push(j); }
+  return d;
+}
+function place(list, far) {
+  const n = list.length, hub = list.find(v => far(v).length > 8 && far(v).length === n - 1);
+  if (n === 1) return [[0, 0]];
+  // the leaves of a star stand round it
+  if (hub && list.every(v => v === hub || far(v).length === 1)) return list.map((v, i) => v === hub ? [0, 0] : [Math.cos(6.283 * i / (n - 1)), Math.sin(6.283 * i / (n - 1))]);
+  const near = nearOf(list, far), D = near.map((_, i) => hops(near, i));
+  const mean = D.map(d => d.reduce((a, x) => a + x * x, 0) / n), all = mean.reduce((a, b) => a + b) / n;
+  const axes = twoAxes(n, 40, v => v.map((_, i) => { let s = 0; for (let j = 0; j < n; j++) s -= (D[i][j] * D[i][j] - mean[i] - mean[j] + all) * v[j]; return s / 2; }));
   const P = list.map((_, i) => [axes[0][i] * axes[0].size + 1e-3 * Math.sin(i * 7 + 1), axes[1][i] * axes[1].size + 1e-3 * Math.cos(i * 5 + 2)]);
   for (let t = 0; t < (n > 300 ? 30 : 120); t++)
     for (let i = 0; i < n; i++) {
@@ -489,12 +507,10 @@ function place(list, far) {
 // many nodes: distances to some pivots alone, then stress over these and the neighbours
 const PIVOTS = 50, MANY = 300;
 function placeMany(list, far) {
-  const n = list.length, idx = new Map(list.map((v, i) => [v, i])), near = list.map(v => [...new Set(far(v).map(w => idx.get(w)))]);
+  const n = list.length, near = nearOf(list, far);
   const K = Math.min(PIVOTS, n), D = [], pivots = [], least = new Float64Array(n).fill(1e9), region = new Int32Array(n), weight = new Float64Array(K);
   for (let k = 0, p = 0; k < K; k++) {
-    const d = new Float64Array(n).fill(-1), q = [p];
-    d[p] = 0;
-    for (let h = 0; h < q.length; h++) for (const j of near[q[h]]) if (d[j] < 0) { d[j] = d[q[h]] + 1; q.push(j); }
+    const d = hops(near, p);
     for (let i = 0; i < n; i++) if (d[i] < least[i]) { least[i] = d[i]; region[i] = k; }
     D.push(d); pivots.push(p);
     // the next pivot is the node farthest from all of them
@@ -503,24 +519,15 @@ function placeMany(list, far) {
   region.forEach(k => weight[k]++);
   // begun by classical scaling over the pivots
   const mean = D.map(d => d.reduce((a, x) => a + x * x, 0) / n), row = Float64Array.from({ length: n }, (_, i) => D.reduce((s, d) => s + d[i] * d[i], 0) / K), all = mean.reduce((a, b) => a + b) / K;
-  const C = D.map((d, k) => d.map((x, i) => (row[i] + mean[k] - all - x * x) / 2)), M = C.map(a => C.map(b => { let s = 0; for (let i = 0; i < n; i++) s += a[i] * b[i]; return s; })), axes = [];
-  for (let a = 0; a < 2; a++) {
-    let v = Float64Array.from({ length: K }, (_, i) => Math.sin(1 + i * (a ? 2.3 : 1.3)) + .01 * i);
-    for (let t = 0; t < 60; t++) {
-      const w = Float64Array.from(M, r => r.reduce((s, x, i) => s + x * v[i], 0));
-      for (const u of axes) { const s = u.reduce((s, x, i) => s + x * w[i], 0); u.forEach((x, i) => { w[i] -= s * x; }); }
-      const norm = Math.hypot(...w) || 1;
-      v = w.map(x => x / norm);
-    }
-    axes.push(v);
-  }
+  const C = D.map((d, k) => d.map((x, i) => (row[i] + mean[k] - all - x * x) / 2)), M = C.map(a => C.map(b => { let s = 0; for (let i = 0; i < n; i++) s += a[i] * b[i]; return s; }));
+  const axes = twoAxes(K, 60, v => Float64Array.from(M, r => r.reduce((s, x, i) => s + x * v[i], 0)));
   const X = new Float64Array(n), Y = new Float64Array(n);
   for (let i = 0; i < n; i++) for (let k = 0; k < K; k++) { X[i] += C[k][i] * axes[0][k]; Y[i] += C[k][i] * axes[1][k]; }
   // to the size at which the pivots' distances fit best
   let up = 0, low = 1e-9;
   for (let k = 0; k < K; k++) for (let i = 0; i < n; i++) { const e = Math.hypot(X[i] - X[pivots[k]], Y[i] - Y[pivots[k]]); up += D[k][i] * e; low += e * e; }
   for (let i = 0; i < n; i++) { X[i] = X[i] * up / low + .05 * Math.sin(i * 7 + 1); Y[i] = Y[i] * up / low + .05 * Math.cos(i * 5 + 2); }
-  // what each node is held to, in one row: other node, distance, weight; two links away counts too, where that's few
+  // what each node is held to: other node, distance, weight; two links away counts too, where that's few
   const first = new Int32Array(n + 1), seen = new Int32Array(n).fill(-1), end = [], d = [], w = [], tie = (j, far, pull) => { end.push(j); d.push(far); w.push(pull); };
   for (let i = 0; i < n; i++) {
     first[i] = end.length;
@@ -610,7 +617,7 @@ function layout() {
   for (let v = 1; v <= N; v++) P[v] = [(raw[v][0] - (x0 + x1) / 2) * kx + W / 2, (raw[v][1] - (y0 + y1) / 2) * ky + (H - low) / 2];
   let r = Math.max(2.5, Math.min(24, Math.sqrt(W * H / N) * .2));
   if (!circle) apart(P, r * 2.9);
-  for (let v = 1; v <= N; v++) P[v] = [Math.max(r + 10, Math.min(W - r - 12, P[v][0])), Math.max(r + 12, Math.min(H - low - r - 8, P[v][1]))];
+  for (let v = 1; v <= N; v++) P[v] = [Math.max(r + 10, Math.min(W - r - 24, P[v][0])), Math.max(r + 12, Math.min(H - low - r - 8, P[v][1]))];
   const lens = links.map(l => Math.hypot(P[l.a][0] - P[l.b][0], P[l.a][1] - P[l.b][1])).sort((a, b) => a - b), len = lens.length ? lens[lens.length >> 2] : 100;
   r = Math.min(r, Math.max(N > MANY ? 2.5 : 5, len * .24));
   // what stood in the middle stays there
@@ -654,12 +661,11 @@ function build() {
   tagged = null;
 }
 const crossAt = (i, v) => { const [x, y] = curveAt(i, v === links[i].a ? .4 : .6), r = Math.max(radius < 8 ? 1.5 : 3, radius * .3); return 'M' + f1([x - r, y - r]) + 'l' + f1([2 * r, 2 * r]) + 'm0 ' + (-2 * r).toFixed(1) + 'l' + f1([-2 * r, 2 * r]); };
-// a link as a path: the whole, its first half, its second
+// a link as a path: whole, or its first or second half
 const wayOf = (i, half = 0) => {
   const p = pos[links[i].a], q = pos[links[i].b], c = ctrl(i), m = half ? curveAt(i, .5) : p, [x, y, z] = half ? half < 2 ? [p, mix(p, c, .5), m] : [m, mix(c, q, .5), q] : [p, c, q];
   return 'M' + f1(x) + (bend[i] ? 'Q' + f1(y) + ' ' : 'L') + f1(z);
 };
-// a bar across the link, where it has been asked for
 const barAt = (i, v) => { const a = v === links[i].a, [x, y] = curveAt(i, a ? .3 : .7), q = curveAt(i, .5), r = Math.max(radius < 8 ? 2 : 4, radius * .35) / (Math.hypot(q[0] - x, q[1] - y) || 1), u = (y - q[1]) * r, w = (q[0] - x) * r; return 'M' + f1([x - u, y - w]) + 'L' + f1([x + u, y + w]); };
 const ENDS = { x: [crossAt, 'closed'], t: [barAt, 'asked'] };
 const EXTRA = { b: ['', d => wayOf(d.i, 2)], halo: ['halos', d => wayOf(d.i)], core: ['cores', d => wayOf(d.i)] };
@@ -669,7 +675,7 @@ function extra(d, name, cls) {
   put(d[name], 'visibility', cls ? 'visible' : 'hidden');
   if (cls) put(d[name], 'class', cls);
 }
-// where and how large all is at the zoom of now: nodes move apart, circles and letters keep their size once they can be read
+// zoomed, nodes move apart; circles and letters keep their size once they can be read
 const FULL = 20, LEGIBLE = 8;
 function shape() {
   const k = shaped = zoom.k, N = G.nodes;
@@ -690,7 +696,7 @@ function shape() {
   for (const q of queues.values()) { q.sig = null; changed.add(q); }
 }
 const set = (e, attrs) => { for (const a in attrs) e.setAttribute(a, attrs[a]); };
-// where a node stands in its group: among many nodes a transform costs too much, each is a layer of its own to a browser
+// among many nodes a transform costs too much: each is a layer of its own to a browser
 const centre = v => G.nodes > MANY ? pos[v].map(x => Math.round(x * 10) / 10) : [0, 0];
 const shapeRing = n => { const [cx, cy] = centre(n.v); set(n.ring, { r: radius + (radius < LEGIBLE ? 1.5 : 4), cx, cy }); };
 function shapeNode(v, r) {
@@ -709,24 +715,25 @@ function shapeNode(v, r) {
   }
   set(n.stop, { x: x - r - 4, y: y - r - 4, width: 2 * r + 8, height: 2 * r + 8 });
   set(n.text, { x, y, 'font-size': Math.min(18, r * (v > 999 ? .68 : v > 99 ? .8 : 1)) });
-  // the level stands in the corner that lies freest of links, where the upper right one isn't free
+  // the level stands upper right, or in the corner that lies freest of links
   const away = n.ports.map(({ link: i }) => { const [a, b] = curveAt(i, links[i].a === v ? .2 : .8); return Math.atan2(b - cy, a - cx); });
   const gap = ([a, b]) => Math.min(9, ...away.map(t => Math.abs(Math.atan2(Math.sin(t - Math.atan2(b, a)), Math.cos(t - Math.atan2(b, a))))));
   const corner = n.corner = [[1, -1], [-1, -1], [1, 1], [-1, 1]].reduce((p, q) => gap(p) > .7 || gap(q) <= gap(p) ? p : q);
   set(n.lev, { x: x + corner[0] * (r * .75 + 2), y: y + corner[1] * (r * .95 + 2), 'font-size': Math.max(6, Math.min(14, r * .8)), style: corner[0] < 0 ? 'text-anchor:end' : '' });
 }
-// weights stand beside their links, and under all links; by themselves only where they fit
+// weights stand under all links; by themselves only where they fit
 function placeWeights() {
   const size = Math.max(8, Math.min(13, radius * .85)), asked = weights === true;
-  const fits = links.map(l => Math.hypot(pos[l.a][0] - pos[l.b][0], pos[l.a][1] - pos[l.b][1]) > 2 * radius + String(l.weight).length * size * .6 + 6);
-  roomy = radius >= LEGIBLE && links.length <= 90 * Math.max(1, zoom.k * zoom.k) && fits.filter(x => x).length >= links.length * .8;
+  const sizes = links.map(l => Math.min(size, (Math.hypot(pos[l.a][0] - pos[l.b][0], pos[l.a][1] - pos[l.b][1]) - 2 * radius - 6) / String(l.weight).length / .6));
+  roomy = radius >= LEGIBLE && links.length <= Math.min(90 * Math.max(1, zoom.k * zoom.k), 3 * G.nodes) && sizes.filter(x => x >= 8).length >= links.length * .8;
   $('weights').innerHTML = !(weights ?? roomy) ? '' : links.map((l, i) => {
-    if (!asked && !fits[i]) return '';
+    const size = Math.max(6, sizes[i]);
+    if (!asked && sizes[i] < 8) return '';
     const [x, y] = curveAt(i, .5), p = pos[l.a], q = pos[l.b], turned = p[0] > q[0] || p[0] === q[0] && p[1] < q[1], a = Math.atan2(turned ? p[1] - q[1] : q[1] - p[1], turned ? p[0] - q[0] : q[0] - p[0]), o = size * .62 + 3;
     return '<text font-size="' + size.toFixed(1) + '" transform="translate(' + f1([x + Math.sin(a) * o, y - Math.cos(a) * o]) + ') rotate(' + (a * 180 / Math.PI).toFixed(1) + ')">' + l.weight + '</text>';
   }).join('');
 }
-const tag = (cls, x, y, text, size) => { const w = text.length * size * .58 + size * .6; return '<g class="tag ' + cls + '"><rect rx="4" x="' + (x - w / 2).toFixed(1) + '" y="' + (y - size * .65).toFixed(1) + '" width="' + w.toFixed(1) + '" height="' + size * 1.3 + '"/><text x="' + x.toFixed(1) + '" y="' + y.toFixed(1) + '" font-size="' + size + '">' + text + '</text></g>'; };
+const tag = (cls, x, y, text, size) => { const w = text.length * size * .6 + size * .7; return '<g class="tag ' + cls + '"><rect rx="4" x="' + (x - w / 2).toFixed(1) + '" y="' + (y - size * .65).toFixed(1) + '" width="' + w.toFixed(1) + '" height="' + size * 1.3 + '"/><text x="' + x.toFixed(1) + '" y="' + y.toFixed(1) + '" font-size="' + size + '">' + text + '</text></g>'; };
 const cellOf = x => Math.floor(x / 64);
 // whether a pill would lie over a node
 function covers(x, y, a, w, h) {
@@ -737,7 +744,7 @@ function covers(x, y, a, w, h) {
   }
   return false;
 }
-// messages on their way: pills that point to their receiver; the first of the queue stands nearest to it
+// messages on their way: pills that point to their receiver, the first of the queue nearest to it
 function pills(i, to, port, list) {
   const l = links[i], back = l.b === to, L = Math.hypot(pos[l.a][0] - pos[l.b][0], pos[l.a][1] - pos[l.b][1]) || 1;
   const h = big ? 11 : radius < LEGIBLE ? Math.max(1.5, radius * .5) : Math.max(5, radius * .58), span = t => big ? t.length * 8.6 + 18 : h * 2.3, sum = list => list.reduce((x, t) => x + span(t), 0);
@@ -782,7 +789,7 @@ function drawNet(c) {
   const size = big ? 15 : Math.max(8, Math.min(13, radius * .85)), focus = pin || (s ? s.node : 1);
   let html = '';
   links.forEach((l, i) => {
-    const d = drawn[i], j = joined(l), f = frag(l.a), isCore = j && f.name === l.link, band = j ? bandOf(f) : '';
+    const d = drawn[i], j = joined(l), m = merging(l), f = frag(l.a), isCore = m || j && f.name === l.link, band = j && !m ? bandOf(f) : '';
     // what looks as before isn't touched
     if (!d.sig || d.halves !== l.halves || d.isCore !== isCore || d.band !== band) {
       const a = SHOWN[l.halves >> 2], b = SHOWN[l.halves & 3];
@@ -792,11 +799,11 @@ function drawNet(c) {
       if (d.parted !== parted) { d.parted = parted; put(d.a, 'd', wayOf(i, parted ? 1 : 0)); }
       put(d.a, 'class', 'half ' + a);
       extra(d, 'b', parted && 'half ' + b);
-      extra(d, 'halo', j && 'halo ' + bandOf(f));
+      extra(d, 'halo', band && 'halo ' + band);
       extra(d, 'core', isCore && 'core');
       for (const c in ENDS) { extra(d, c + 'a', a === ENDS[c][1] && 'cross'); extra(d, c + 'b', b === ENDS[c][1] && 'cross'); }
     }
-    if (j && names.get(l.link) && radius >= LEGIBLE) html += coreTag(l, i, s, names.get(l.link), size);
+    if (j && (m || names.get(l.link)) && radius >= LEGIBLE) html += coreTag(l, i, s, m ? big ? 'merging' : '+' : (big ? 'level ' : 'L') + names.get(l.link).level, size);
   });
   if (tagged !== html) $('tags').innerHTML = tagged = html;
   for (let v = 1; v <= G.nodes; v++) {
@@ -810,7 +817,7 @@ function drawNet(c) {
     put(n.halo, 'class', 'halo ' + bandOf(f));
     put(n.halo, 'visibility', f.nodes > 1 ? 'visible' : 'hidden');
     if (radius < LEGIBLE) continue;
-    const t = asleep(n) ? '' : (big ? 'L' : '') + n.level;
+    const t = asleep(n) ? '' : 'L' + n.level;
     if (n.lev.textContent !== t) n.lev.textContent = t;
     if (t) put(n.lev, 'transform', n.halted ? 'translate(' + n.corner[0] * 6 + ' ' + n.corner[1] * 5 + ')' : '');
   }
@@ -826,12 +833,12 @@ function pinMark(v) {
   const r = Math.max(radius + 9, 13), [x, y] = pos[v], d = [[1, 0], [-1, 0], [0, 1], [0, -1]].map(([a, b]) => 'M' + f1([a * r, b * r]) + 'l' + f1([a * 14, b * 14])).join('');
   return '<g class="pinmark" transform="translate(' + f1([x, y]) + ')"><path class="under" d="' + d + '"/><circle class="under" r="' + r + '"/><path d="' + d + '"/><circle r="' + r + '"/>' + (radius < LEGIBLE ? tag('frag', 0, -r - 26, 'node ' + v, 15) : '') + '</g>';
 }
-function coreTag(l, i, s, f, size) {
+function coreTag(l, i, s, text, size) {
   const [x, y] = curveAt(i, .5), dx = pos[l.b][0] - pos[l.a][0], dy = pos[l.b][1] - pos[l.a][1], d = Math.hypot(dx, dy) || 1;
   // small letters beside the messages, where these go one way only
   const to = (v, p) => queue(v, p).length || s && s.node === v && s.port === p && s.fate === 'done', ways = (to(l.b, l.b_port) ? 1 : 0) - (to(l.a, l.a_port) ? 1 : 0);
   const o = big ? 36 + 30 * Math.abs(dy) / d : ways ? size * 1.1 : 0, w = !big && ways || (dx > 0 || !dx && dy < 0 ? 1 : -1);
-  return tag('frag', x + dy / d * o * w, y - dx / d * o * w, big ? 'level ' + f.level : 'L' + f.level, size);
+  return tag('frag', x + dy / d * o * w, y - dx / d * o * w, text, size);
 }
 // a queue is drawn anew only where it looks different
 function drawMessages(s, u) {
@@ -866,6 +873,19 @@ function futureOf(k) {
   seen.delete(k);
   return seen;
 }
+// the messages of the longest chain, back from the last event that heard it
+let chained = null;
+function chain() {
+  chained = new Set();
+  let k = 1;
+  while (k < G.to && figures(k)[2] < figures(G.to)[2]) k++;
+  while (k) {
+    const { number, taken } = undo[k - 1], earlier = before[2 * k];
+    if (earlier && undo[earlier - 1].number === number) k = earlier;
+    else { if (number) chained.add(taken); k = number && taken.born; }
+  }
+  return chained;
+}
 let only = null;
 function drawTime() {
   const box = $('time').getBoundingClientRect(), W = box.width - 4, left = G.nodes > 99 ? 96 : 78, gap = 34, room = Math.max(6, Math.floor((W - left - 30) / gap));
@@ -885,19 +905,19 @@ function drawTime() {
   const order = [...lanes].sort((a, b) => a - b), high = Math.max(22, Math.min(90, (box.height - 60) / Math.max(order.length, 1)));
   const yOf = new Map(order.map((v, i) => [v, 34 + high * (i + .5)])), H = 34 + high * order.length + 20;
   const edgeL = left + 4, edgeR = left + 20 + list.length * gap;
-  let h = '<defs>' + ['', 'past'].map(c => '<marker id="tip' + c + '" viewBox="0 0 8 8" refX="7" refY="4" markerWidth="' + (c ? 5 : 7) + '" markerHeight="' + (c ? 5 : 7) + '" orient="auto"><path d="M0 0L8 4L0 8Z" fill="var(--' + (c ? 'ink' : 'dim') + ')"/></marker>').join('') + '</defs>';
+  let h = '<defs>' + [['', 7, 'dim'], ['past', 5, 'ink'], ['chain', 4, 'act']].map(([c, w, ink]) => '<marker id="tip' + c + '" viewBox="0 0 8 8" refX="7" refY="4" markerWidth="' + w + '" markerHeight="' + w + '" orient="auto"><path d="M0 0L8 4L0 8Z" fill="var(--' + ink + ')"/></marker>').join('') + '</defs>';
   for (const v of order) h += '<line class="lane" x1="' + left + '" x2="' + edgeR + '" y1="' + yOf.get(v) + '" y2="' + yOf.get(v) + '"/><text x="8" y="' + (yOf.get(v) + 5) + '"' + (pinned() === v ? ' font-weight="bold"' : '') + '>node ' + v + '</text>';
   if (xOf.has(at)) h += '<line class="nowline" x1="' + xOf.get(at) + '" x2="' + xOf.get(at) + '" y1="24" y2="' + H + '"/>';
-  const arrow = (cls, x0, y0, x1, y1, m, tx, ty) => '<path class="arrow ' + cls + '" marker-end="url(#tip' + (cls === 'past' ? 'past' : '') + ')" d="M' + x0 + ' ' + y0.toFixed(1) + 'L' + x1.toFixed(1) + ' ' + y1.toFixed(1) + '"><title>' + words(m) + ' from ' + m.from + ' to ' + m.to + ', ' + m.bits + ' bits</title></path><text font-size="13" x="' + tx.toFixed(1) + '" y="' + ty.toFixed(1) + '">' + LETTER[m.kind] + '</text>';
+  const arrow = (cls, x0, y0, x1, y1, m, tx, ty) => '<path class="arrow ' + cls + '" marker-end="url(#tip' + (cls.length > 4 ? 'chain' : cls === 'past' ? cls : '') + ')" d="M' + x0 + ' ' + y0.toFixed(1) + 'L' + x1.toFixed(1) + ' ' + y1.toFixed(1) + '"><title>' + words(m) + ' from ' + m.from + ' to ' + m.to + ', ' + m.bits + ' bits</title></path><text font-size="13" x="' + tx.toFixed(1) + '" y="' + ty.toFixed(1) + '">' + LETTER[m.kind] + '</text>';
   for (const m of flights) {
     const y0 = yOf.get(m.from), y1 = yOf.get(m.to), x0 = xOf.get(m.born), inside = m.takes.filter(t => xOf.has(t)), hit = inside[0], x1 = xOf.get(hit);
     const early = m.takes.some(t => t < first) || (m.born < first && m.takes.length && m.takes[0] < hit), later = !m.done || m.done > end;
-    const caused = m.takes.some(t => t === at || past.has(t)) && past.has(m.born), down = m.to > m.from ? 1 : -1;
+    const caused = (m.takes.some(t => t === at || past.has(t)) && past.has(m.born) ? 'past' : '') + ((chained || chain()).has(m) ? ' chain' : ''), down = m.to > m.from ? 1 : -1;
     if (x0 !== undefined && x1 !== undefined) {
       const dx = x1 - x0, dy = y1 - y0, d = Math.hypot(dx, dy), cut = 8 / d;
-      h += arrow(caused ? 'past' : '', x0, y0, x1 - dx * cut, y1 - dy * cut, m, x0 + dx * .45 + 5, y0 + dy * .45 - (dy > 0 ? 4 : -10));
+      h += arrow(caused, x0, y0, x1 - dx * cut, y1 - dy * cut, m, x0 + dx * .45 + 5, y0 + dy * .45 - (dy > 0 ? 4 : -10));
     } else if (x0 !== undefined) h += arrow('open', x0, y0, x0 + 24, y0 + 17 * down, m, x0 + 26, y0 + 17 * down + (down > 0 ? 6 : 4));
-    else if (x1 !== undefined && !early) h += arrow(caused ? 'past' : 'open', x1 - 26, y1 - 17 * down, x1 - 7, y1 - 5 * down, m, x1 - 36, y1 - 17 * down + 5);
+    else if (x1 !== undefined && !early) h += arrow(caused || 'open', x1 - 26, y1 - 17 * down, x1 - 7, y1 - 5 * down, m, x1 - 36, y1 - 17 * down + 5);
     // from the first try to the last, where it waits
     if (x1 !== undefined && (inside.length > 1 || early || later)) h += '<path class="arrow idle" d="M' + (early ? edgeL : x1) + ' ' + (y1 - 10) + 'H' + (later ? edgeR : xOf.get(inside[inside.length - 1])) + '"/>';
   }
@@ -908,7 +928,7 @@ function drawTime() {
   $('lanes').setAttribute('width', Math.max(W - 14, edgeR + 8));
   $('lanes').setAttribute('height', H);
   $('lanes').innerHTML = h;
-  $('legend').innerHTML = '<span>filled, thick: could have acted on event ' + at + ' (' + past.size + ' events); hollow: could not</span>' + (PUTS ? '<span>small: the message waits (dotted)</span>' : '') + letters();
+  $('legend').innerHTML = '<span>filled, thick: could have acted on event ' + at + ' (' + past.size + ' events)</span><span>colored: the longest chain (' + figures(G.to)[2] + ' messages)</span>' + (PUTS ? '<span>small, dotted: deferred</span>' : '') + letters();
 }
 
 // ---- words and tables
@@ -919,26 +939,26 @@ const letters = () => '<span>' + KINDS.map(k => LETTER[k] + ' ' + NAMES[k]).join
 const idle = s => s.fate === 'waits' && !s.marks.length && !s.send.length;
 const td = (x, c) => '<td' + (c ? ' class="' + c + '"' : '') + '>' + x + '</td>';
 const opens = s => 'Node <b>' + s.node + '</b> ' + (s.port === null ? 'wakes by itself.' : 'takes <b>' + words(s) + '</b> from node <b>' + s.far + '</b> at port ' + s.port + '.');
-// what is read out: the event in one line
 function live(s) {
   const a = asking ? steps[at] : s, text = !a ? 'The start' : 'Event ' + a.step + ': node ' + a.node + (a.port === null ? ' wakes by itself' : ' takes ' + words(a) + ' from node ' + a.far) + (asking ? '. What happens?' : '. ' + a.row + (a.fate ? ', ' + FATE[a.fate] : '') + '.');
   if ($('live').textContent !== text) $('live').textContent = text;
 }
-// ask first: the next event, and neither its row nor what it does; then what was guessed beside what is so
-const FATE = { done: 'consumed', waits: 'put back' };
+// ask first: the next event without what it does; then what was guessed, and what is so
+const FATE = { done: 'consumed', waits: 'deferred' };
 let asking = false, guess = null;
 const marksOf = s => s.marks.length ? [...new Set(s.marks.map(m => m[1]))] : ['none'];
 const choice = (part, value, text) => '<button data-part="' + part + '" data-value="' + value + '" aria-pressed="' + (guess[part] === value) + '">' + text + '</button>';
 function question(s) {
-  return '<div class="ask"><p class="say">Event ' + s.step + ': ' + opens(s) + '</p>' + (s.fate && PUTS ? '<p>Is the message consumed, or put back? ' + Object.keys(FATE).map(x => choice('fate', x, FATE[x])).join('') + '</p>' : '')
+  return '<div class="ask"><p class="say">Event ' + s.step + ': ' + opens(s) + '</p>' + (s.fate && PUTS ? '<p>Is the message consumed or deferred? ' + Object.keys(FATE).map(x => choice('fate', x, FATE[x])).join('') + '</p>' : '')
     + '<p>Which mark does a port of the node get? ' + choice('mark', 'none', 'no change') + P.marks.slice(1).map(m => choice('mark', m.mark, m.name)).join('') + '</p><p><button data-part="show">Show it</button> (right arrow)</p></div>';
 }
 function verdict(s) {
   if (!guess || guess.step !== s.step) return '';
   const told = [];
-  if (guess.fate && s.fate) told.push(FATE[guess.fate] + (guess.fate === s.fate ? ': right' : ': no, ' + FATE[s.fate]));
-  if (guess.mark) told.push('mark ' + guess.mark + (marksOf(s).includes(guess.mark) ? ': right' : ': no, ' + marksOf(s).join(' and ')));
-  return told.length ? '<p class="verdict">Your guess, ' + told.join('; ') + '.</p>' : '';
+  const tell = (you, right, so) => told.push('You said: ' + you + '. ' + (right ? 'Right.' : so)), called = m => m === 'none' ? 'no change' : MARK[m].name;
+  if (guess.fate && s.fate) tell(FATE[guess.fate], guess.fate === s.fate, 'The message is ' + FATE[s.fate] + '.');
+  if (guess.mark) tell(called(guess.mark), marksOf(s).includes(guess.mark), s.marks.length ? 'The link becomes ' + marksOf(s).map(called).join(' or ') + '.' : 'No mark changes.');
+  return told.length ? '<p class="verdict">' + told.join(' ') + '</p>' : '';
 }
 function choose(e) {
   const d = e.target.dataset;
@@ -984,13 +1004,15 @@ function panel(c) {
   n.ports.forEach((_, j) => { for (const m of queue(v, j)) if (m.backs) h += '<p class="waiter">' + storyOf(m) + '</p>'; });
   table('vars', h);
   const sum = list => list.reduce((a, b) => a + b), total = sum(ledger.sent), max = G.bound, ems = .64 * (8 + sum(ledger.bits.map(x => Math.max(2, String(x).length)))) + 2.6;
-  h = '<div class="bar" role="img" aria-label="' + total + ' of ' + max + '"><i style="width:' + (max ? 100 * total / max : 0) + '%"></i></div><p>first sends <b>' + total + '</b>, bound ' + max + '; <span id="bits" title="' + LENGTHS() + '">bits <b>' + sum(ledger.bits) + '</b></span></p><table class="wide" style="--ems:' + ems + '"><tr><th></th>' + KINDS.map(k => '<th class="n" title="' + NAMES[k] + '"><span class="pill">' + LETTER[k] + '</span></th>').join('') + '</tr>';
+  h = '<div class="bar" role="img" aria-label="' + total + ' of ' + max + '"><i style="width:' + (max ? 100 * total / max : 0) + '%"></i></div><p>messages sent <b>' + total + '</b>, bound ' + max + '; <span id="bits" title="' + LENGTHS() + '">bits <b>' + sum(ledger.bits) + '</b></span></p><table class="wide" style="--ems:' + ems + '"><tr><th></th>' + KINDS.map(k => '<th class="n" title="' + NAMES[k] + '"><span class="pill">' + LETTER[k] + '</span></th>').join('') + '</tr>';
   for (const x of ['sent', 'bits', 'consumed']) h += '<tr><th>' + x + '</th>' + ledger[x].map(y => td(y, 'n')).join('') + '</tr>';
-  table('ledger', h + '</table><p>in queues <b>' + ledger.queued + '</b>' + (PUTS ? ', of these put back <b>' + ledger.back + '</b>; requeued <b>' + ledger.requeued + '</b>' : '') + '</p><p>longest: <span id="chain" title="A message goes out with one more than its sender\'s number; who consumes it, or is woken by it, takes the greater of the two.">chain <b>' + figures(at)[2] + '</b> (at the end ' + figures(G.to)[2] + ')</span>, <span id="long" title="' + LENGTHS() + '">message <b>' + figures(at)[3] + '</b> bits</span></p>');
+  table('ledger', h + '</table><p>in queues <b>' + ledger.queued + '</b>' + (PUTS ? ', deferred <b>' + ledger.back + '</b>; deferrals <b>' + ledger.requeued + '</b>' : '') + '</p><p>longest: <span id="chain" title="A message goes out with one more than its sender\'s number; who consumes it, or is woken by it, takes the greater of the two.">chain <b>' + figures(at)[2] + '</b> (at the end ' + figures(G.to)[2] + ')</span>, <span id="long" title="' + LENGTHS() + '">message <b>' + figures(at)[3] + '</b> bits</span></p>');
   const fr = [...c.all.values()].sort((a, b) => b.nodes - a.nodes || a.least - b.least), many = fr.filter(f => f.nodes > 1);
   const tree = links.filter(branchy), halts = nodes.filter(x => x && x.halted).map(x => x.v);
     h = '<p><b>' + fr.length + '</b> of ' + G.nodes + ' at the start; ' + TREE() + ' links ' + tree.length + ', weight ' + tree.reduce((a, l) => a + l.weight, 0) + (halts.length ? '; <b>halted: ' + halts.slice(0, 9).join(', ') + '</b>' : '') + '</p>';
   h += '<table><tr><th class="n">level</th><th class="n">nodes</th><th class="n">least</th><th>name (core)</th></tr>' + many.slice(0, 12).map(f => '<tr>' + td(f.level, 'n') + td(f.nodes, 'n') + td(f.least, 'n') + td('<svg class="sw s' + (look.get(f.name) ?? 'x') + '"><rect width="100%" height="100%"' + (f.name ? '' : ' fill="none"') + '/></svg>' + (f.name ?? '-')) + '</tr>').join('') + '</table>';
+  const who = v => c.of[v].name ?? 'node ' + v;
+  for (const l of links.filter(merging)) h += '<p class="merges">merging: ' + who(l.a) + ' and ' + who(l.b) + '</p>';
   h += '<p>' + (many.length > 12 ? (many.length - 12) + ' more, ' : '') + (fr.length - many.length) + ' single nodes</p>';
   table('census', h);
 }
@@ -1015,7 +1037,7 @@ function cursor() {
   $('cursor').setAttribute('x1', x); $('cursor').setAttribute('x2', x);
   const [f, sent] = figures(at), end = figures(G.to);
   $('cap1').textContent = 'fragments ' + f + ' (from ' + curve[0] + ' to ' + end[0] + ')';
-  $('cap2').textContent = 'first sends ' + sent + ' (to ' + end[1] + '; bound, the line above: ' + G.bound + ')';
+  $('cap2').textContent = 'messages sent ' + sent + ' (to ' + end[1] + '; bound, the line above: ' + G.bound + ')';
   const v = pin || (stepNow() ? stepNow().node : 0);
   if (strip.ticksOf !== v) {
     strip.ticksOf = v;
@@ -1030,7 +1052,7 @@ const LEGEND = () => {
   return P.phases.map(x => s(24, c(x.look)) + x.legend + '</span>').join('') + s(24, c('halted', '<rect class="stop" x="-8" y="-8" width="16" height="16"/>')) + 'halted</span>'
     + P.marks.map(m => m.look === 'tree' ? s(32, half('tree')) + m.name + ' at one end</span>' + s(32, l('half tree')) + 'joined</span>' + s(32, l('half tree') + '<path class="core" d="M2 9H30"/>') + 'core</span>'
       : s(32, m.look === 'closed' ? '<path class="half closed" d="M2 9H30"/><path class="cross" d="M12 5l8 8m0 -8l-8 8"/>' : m.look === 'asked' ? half('asked') + '<path class="cross" d="M10 4V14"/>' : l('half')) + m.name + '</span>').join('')
-    + (PUTS ? s(30, '<g class="msg back"><path d="M4 3H20L26 9L20 15H4Z"/></g>') + 'put back, waits</span>' : '') + letters();
+    + (PUTS ? s(30, '<g class="msg back"><path d="M4 3H20L26 9L20 15H4Z"/></g>') + 'deferred</span>' : '') + letters();
 };
 
 // what a message at the pointer is, and why it waits
@@ -1056,12 +1078,12 @@ function show() {
   clearTimeout(show.later);
   show.later = setTimeout(() => { try { history.replaceState(null, '', address()); } catch { } }, 300);
 }
-// the address holds the event, the pinned node, the tab and, but for the whole network, zoom and middle
+// the address holds event, pinned node, tab, zoom and middle
 function address() {
   const whole = zoom.k === 1 && !zoom.x && !zoom.y, part = (x, size) => ((size / 2 - x) / zoom.k / size).toFixed(4);
   return '#' + at + (pin ? ',n' + pin : '') + (tab === 'time' ? ',time' : '') + (whole || !base ? '' : ',k' + zoom.k.toFixed(3) + ',x' + part(zoom.x, base.W) + ',y' + part(zoom.y, base.H));
 }
-// where an address leads that was given; by now the page may have written its own in its place
+// where an address leads; by now the page may have written its own in its place
 function goAddress(hash = location.hash) {
   const found = /^#(\d+)((?:,[-a-z0-9.]+)*)$/.exec(hash);
   if (!found || hash === address()) return;
@@ -1086,7 +1108,7 @@ function one(d) {
   move(k);
 }
 function halt() { clearInterval(timer); timer = 0; $('play').textContent = 'Play'; $('live').setAttribute('aria-live', 'polite'); $('pace').textContent = ''; }
-// the whole run in a minute: the clock says which event is due; what is stepped over is said
+// the whole run in a minute: the clock says which event is due
 const minute = (start, from) => () => {
   const due = Math.min(G.to, from + Math.floor((performance.now() - start) / 60000 * G.to)), over = due - at;
   if (at >= G.to) return halt();
@@ -1099,9 +1121,9 @@ function play() {
   if (at >= G.to) goto(0);
   $('play').textContent = 'Stop';
   $('live').setAttribute('aria-live', 'off');
-  timer = $('speed').value === 'minute' ? setInterval(minute(performance.now(), at), 40) : setInterval(() => { if (at >= G.to) halt(); else one(1); }, +$('speed').value);
+  timer = $('speed').value === 'minute' ? setInterval(minute(performance.now(), at), 40) : setInterval(() => { if (at >= G.to) halt(); else if (!asking) one(1); }, +$('speed').value);
 }
-const goals = () => [['node', 'events of the node'], ['frag', 'fragments merging'], ['level', 'a level rising'], ...(PUTS ? [['waits', 'messages that wait']] : []), ['wake', 'nodes waking'], ['halted', 'a halt'], ...KINDS.map(k => [k, NAMES[k]])];
+const goals = () => [['node', 'events of the node'], ['frag', 'fragments merging'], ['level', 'a level rising'], ...(PUTS ? [['waits', 'deferrals']] : []), ['wake', 'nodes waking'], ['halted', 'a halt'], ...KINDS.map(k => [k, NAMES[k]])];
 function fits(s, goal) {
   switch (goal) {
     case 'node': return s.node === (pin || (stepNow() ? stepNow().node : 1)) && !($('skip').checked && idle(s));
@@ -1122,7 +1144,6 @@ function setPin(v) {
   if (document.activeElement.matches('.node') && pin) nodes[pin].g.focus();
   show();
 }
-// a node that was searched for is brought into sight
 function search(v) {
   setPin(v);
   if (!pin || tab !== 'net') return;
@@ -1159,8 +1180,12 @@ function setTab(x) {
   if (x === 'net') $('legend').innerHTML = LEGEND();
   show();
 }
+// accounts are open where there's room, until a hand opens or closes one
+let folded = false;
+function fold(b, shut) { b.setAttribute('aria-expanded', !shut); b.parentNode.nextSibling.hidden = shut; }
 // sizes are read before anything is written, so that the browser measures once
 function relay() {
+  if (!folded) for (const b of document.querySelectorAll('.fold')) fold(b, innerHeight < (innerWidth > 1499 ? 940 : 790) || innerWidth < 901);
   if (tab === 'net') $('legend').innerHTML = LEGEND();
   layout();
   strip();
@@ -1170,6 +1195,8 @@ function relay() {
 }
 const setCircle = () => { circle = !circle; $('layout').textContent = circle ? 'forces' : 'circle'; relay(); };
 const setTheme = dark => { document.documentElement.classList.toggle('dark', dark); $('theme').textContent = dark ? 'light' : 'dark'; };
+// what a reader chose stays chosen, where the browser keeps such things
+const recall = (name, value) => { try { name = 'ghs ' + name; if (value !== undefined) localStorage.setItem(name, value); return localStorage.getItem(name); } catch { return null; } };
 function scale(f, x, y) { zoom.x = x - (x - zoom.x) * f; zoom.y = y - (y - zoom.y) * f; zoom.k *= f; moveView(); clearTimeout(scale.later); scale.later = setTimeout(show, G.nodes > MANY ? 90 : 0); }
 function mid(f) { const b = $('stage').getBoundingClientRect(); scale(f, b.width / 2, b.height / 2); }
 const wheel = e => { e.preventDefault(); const b = $('stage').getBoundingClientRect(); scale(Math.exp(-e.deltaY / 400), e.clientX - b.left, e.clientY - b.top); };
@@ -1179,7 +1206,7 @@ const ACTS = {
   '[': () => setPin(Math.max(1, (pin || (stepNow() ? stepNow().node : 1)) - 1)), ']': () => setPin(Math.min(G.nodes, (pin || (stepNow() ? stepNow().node : 0)) + 1)),
   x: () => { only = !only; setTab('time'); }, f: () => { follow = !follow; $('follow').setAttribute('aria-pressed', follow); zoom = { k: follow ? Math.max(1.6, 16 / base.r) : 1, x: 0, y: 0 }; show(); },
   w: () => { $('skip').checked = !$('skip').checked; show(); }, t: () => setTab(tab === 'net' ? 'time' : 'net'), c: setCircle,
-  d: () => setTheme(!document.documentElement.classList.contains('dark')), '+': () => mid(1.25), '-': () => mid(.8), 0: () => { if (follow) ACTS.f(); zoom = { k: 1, x: 0, y: 0 }; show(); },
+  d: () => { setTheme(!document.documentElement.classList.contains('dark')); recall('theme', $('theme').textContent); }, '+': () => mid(1.25), '-': () => mid(.8), 0: () => { if (follow) ACTS.f(); zoom = { k: 1, x: 0, y: 0 }; show(); },
   e: () => $('goto').select(), '/': () => $('pick').select(), q: () => { $('ask').checked = !$('ask').checked; asking = false; show(); }, p: save,
   k: () => { weights = !(weights ?? roomy); placeWeights(); },
   g: () => { $('legend').hidden = !$('legend').hidden; relay(); }, '?': () => $('keys').open ? $('keys').close() : $('keys').showModal(),
@@ -1220,13 +1247,12 @@ function start() {
   $('pick').max = G.nodes;
   $('goal').innerHTML = goals().map(([k, t]) => '<option value="' + k + '">' + t + '</option>').join('');
   $('keys').innerHTML = '<table>' + KEYS.map(([k, t]) => '<tr>' + td(k) + td(t) + '</tr>').join('') + '</table><form method="dialog"><button>close</button></form>';
-  setTheme(matchMedia('(prefers-color-scheme: dark)').matches);
+  setTheme(recall('theme') ? recall('theme') === 'light' : matchMedia('(prefers-color-scheme: dark)').matches);
   only = G.nodes > 12;
   paintLooks();
   relay();
   goAddress();
-  $('first').onclick = ACTS.Home; $('last').onclick = ACTS.End; $('back').onclick = ACTS.ArrowLeft; $('next').onclick = ACTS.ArrowRight; $('play').onclick = play;
-  $('jump').onclick = ACTS.ArrowDown; $('jumpback').onclick = ACTS.ArrowUp; $('layout').onclick = setCircle; $('theme').onclick = ACTS.d; $('help').onclick = ACTS['?']; $('only').onclick = ACTS.x; $('follow').onclick = ACTS.f;
+  for (const b of document.querySelectorAll('[data-key]')) b.onclick = () => ACTS[b.dataset.key]();
   $('tabnet').onclick = () => setTab('net'); $('tabtime').onclick = () => setTab('time');
   $('seek').oninput = () => move(+$('seek').value);
   $('speed').onchange = () => { if (timer) { halt(); play(); } };
@@ -1239,7 +1265,7 @@ function start() {
   }
   $('ask').onchange = () => { asking = false; show(); };
   $('say').onclick = choose;
-  $('save').onclick = save;
+  for (const b of document.querySelectorAll('.fold')) b.onclick = () => { folded = true; fold(b, b.getAttribute('aria-expanded') === 'true'); };
   $('nodes').onclick = e => { const g = e.target.closest('.node'); if (g && !fingers.moved) setPin(pin === +g.dataset.v ? 0 : +g.dataset.v); };
   $('links').onpointerover = e => { if (e.target.parentNode.i >= 0) titled(e.target.parentNode); };
   $('msgs').onpointerover = $('msgs').onpointerdown = $('nodes').onpointerover = tip;

@@ -2,8 +2,10 @@
 use Rattle.std.proofs.Common.{◌≡◌, ℕ, Bool, ◌+◌, ◌*◌, ◌-◌, ◌≤◌, ◌<◌, ◌^◌, ◌⊎◌, ⊎_elim, inl, inr, List, [], ◌∷◌, ◌++◌, ap, arith, length, subst}
 use Rattle.std.specs.Prelude.{IfErr, IfOk, OnErr, OnOk, Result, Ok, Err}
 use Rattle.std.proofs.lemmas.List.{length_push}
+use Rattle.ghs_graph.specs.Bound.{IsBound}
 use Rattle.ghs_graph.specs.Graph.{IsGraph, Shape}
 use Rattle.peer_network.specs.declared.event.Event.{Event}
+use Rattle.peer_network.specs.Network.{network_of}
 use Rattle.ghs_protocol.specs.Marks.{HasEnded}
 use Rattle.ghs_protocol.specs.Run.{net_after}
 use Rattle.ghs_sched.specs.Picks.{IsPickedAmong, IsSeededRun, Offers}
@@ -18,14 +20,19 @@ use Rattle.peer_network.proofs.lemmas.Waking.{each_is_woken}
 use Rattle.ghs_sched.proofs.lemmas.Runs.{picked_within}
 use Rattle.ghs_patient.specs.Runs as patient
 use Rattle.ghs_patient.specs.Runs.{HasTurns, IsPatientlyPicked, IsShort}
-use Rattle.ghs_rounds.specs.Laws.{RoundsAreChains, RoundsAreFew, RunsByRoundsAreShort, RunsByRoundsEnd}
+use Rattle.ghs_rounds.specs.Laws.{AwakeRoundsAreFew, PicksAreByRounds, RoundsAreChains, RoundsAreFew, RoundsAreFewer, RunsByRoundsAreShort, RunsByRoundsEnd}
 use Rattle.ghs_rounds.specs.Runs as by_rounds
 use Rattle.ghs_rounds.specs.Runs.{IsPickedByRounds}
 use Rattle.ghs_waits.specs.Runs as waits
 use Rattle.ghs_waits.specs.Runs.{IsPickedWaiting}
 use Rattle.ghs_lifo.specs.Runs as lifo
 use Rattle.ghs_lifo.specs.Runs.{IsPickedLast}
-use Rattle.ghs_picking.specs.Picking.{HasTurnsFor, IsByRounds, IsInRounds, IsLast, IsPatient, IsSeeded, IsWaiting, StopsFor}
+use Rattle.ghs_round_robin.specs.Picks as in_turn
+use Rattle.ghs_round_robin.specs.Laps.{laps_in}
+use Rattle.ghs_round_robin.specs.Picks.{IsPickedInTurn, most_events}
+use Rattle.ghs_round_robin.specs.Runs as round_robin
+use Rattle.ghs_picking.proofs.Rounds.{rounds_within}
+use Rattle.ghs_picking.specs.Picking.{HasTurnsFor, HasTurnsInTurn, IsByRounds, IsInRounds, IsInTurn, IsLast, IsPatient, IsSeeded, IsWaiting, StopsFor}
 
 -- what a schedule picks stays within the turns
 few_by_rounds : (may : ℕ → Bool) (g : Shape) (turns : ℕ) (words : List ℕ) (es : List Event) (r : ℕ) (s : List ℕ) →
@@ -44,6 +51,11 @@ few_last may g turns trace words _ _ lifo.Begun few = few
 few_last may g turns trace words _ _ (lifo.Latest es s e before goes less latest) few =
     let more : length (es ++ e ∷ []) ≡ length es + 1 = length_push es e in omega (arith, more, less)
 few_last may g turns trace words _ _ (lifo.Picked es s e before goes less none pick) few =
+    let more : length (es ++ e ∷ []) ≡ length es + 1 = length_push es e in omega (arith, more, less)
+
+few_in_turn : (may : ℕ → Bool) (g : Shape) (turns : ℕ) (es : List Event) → IsPickedInTurn may g turns es → length es ≤ turns
+few_in_turn may g turns _ in_turn.Begun = omega arith
+few_in_turn may g turns _ (in_turn.Picked es e before goes less next) =
     let more : length (es ++ e ∷ []) ≡ length es + 1 = length_push es e in omega (arith, more, less)
 
 -- a world from its opening on: as many numbers are used as there are events, and a number is left
@@ -102,6 +114,19 @@ gone_last old new words after limit none first is few ran =
     let nothing : length old.net.trace ≡ 0 = ap length none in
     gone_on (lifo.IsPickedFrom old words) old new after limit none first is few ran
     (few_last _ _ _ _ _ _ _ ran.picked (omega (arith, nothing)))
+
+pub gone_in_turn : (old new : WorldState) (limit : ℕ) →
+    old.net.trace ≡ [] →
+    old.last ≡ 0 →
+    limit ≡ old.turns →
+    limit ≤ 2 ^ 40 →
+    round_robin.HasRun old new →
+    HasGoneOn old new
+gone_in_turn old new limit none first is few ran =
+    let nothing : length old.net.trace ≡ 0 = ap length none in
+    let numbers = ran.numbers in
+    let most : length new.net.trace ≤ old.turns = few_in_turn (wakers old) old.net.graph old.turns new.net.trace ran.picked in
+    record { none = none; graph = ran.graph; turns = ran.turns; numbers = omega (arith, numbers, nothing, first, most, is, few) }
 
 -- with a number left, it is the turns that are used
 pub stops_for : (old new : WorldState) (r : Result RunEnd RunFault) → HasGoneOn old new → IfErr r (λ f. EndsFor new f) → IfErr r (λ f. StopsFor new f)
@@ -223,6 +248,9 @@ at_limit_patient seed old new words after limit r begun gone first is few ran sh
 pub record Laws : Type 0 where
   pub chains : RoundsAreChains
   pub few : RoundsAreFew
+  pub picks : PicksAreByRounds
+  pub awake : AwakeRoundsAreFew
+  pub fewer : RoundsAreFewer
   pub short : RunsByRoundsAreShort
   pub end : RunsByRoundsEnd
 
@@ -238,6 +266,8 @@ is_in_rounds laws seed old new words after rounds ok begun ran =
     record {
       words = after;
       picked = subst (λ (s : List ℕ). IsPickedByRounds (wakers old) g old.turns s new.net.trace rounds after) begun ran.picked;
+      within = λ ended b is.
+          rounds_within laws.picks laws.awake laws.fewer g ok old.turns words new.net.trace rounds after ended old.wake woken ran.picked b is;
       few = λ b is. laws.few (wakers old) g old.turns words new.net.trace rounds after ok woken b is ran.picked;
       chain = λ ended. laws.chains (wakers old) g old.turns words new.net.trace rounds after ok ran.picked ended;
     }
@@ -376,3 +406,56 @@ pub at_limit_last : (seed : ℕ) (old new : WorldState) (words after : List ℕ)
     IsLast seed old.wake old.turns old.net.graph new.net.trace
 at_limit_last seed old new words after limit r begun gone first is few ran short ends surely at_limit =
     at_limit_short _ old new limit r gone first is few ends surely (is_last seed old new words after begun gone ran short) at_limit
+
+-- a run by round robin that is over
+is_in_turn : (old new : WorldState) →
+    HasGoneOn old new →
+    round_robin.HasRun old new →
+    round_robin.HasFewLaps new →
+    round_robin.IsShort new →
+    HasEnded old.net.graph (net_after old.net.graph new.net.trace) ⊎ (old.turns ≤ length new.net.trace) →
+    (HasTurnsInTurn old.net.graph old.turns → HasEnded old.net.graph (net_after old.net.graph new.net.trace)) →
+    IsInTurn old.wake old.turns old.net.graph new.net.trace
+is_in_turn old new gone ran laps short over ends = record {
+  picked = ran.picked;
+  over = over;
+  laps = subst
+      (λ (h : Shape). (b : ℕ) → IsBound h.nodes (length h.keys) b → laps_in (network_of h) new.net.trace ≤ 2 * (b + h.nodes)) gone.graph laps;
+  short = subst (λ (h : Shape). (b : ℕ) → IsBound h.nodes (length h.keys) b → length new.net.trace ≤ most_events h b) gone.graph short;
+  ends = ends;
+}
+
+pub on_ok_in_turn : (old new : WorldState) (r : Result RunEnd RunFault) →
+    HasGoneOn old new →
+    round_robin.HasRun old new →
+    round_robin.HasFewLaps new →
+    round_robin.IsShort new →
+    IfOk r (λ e. IsEnd new e) →
+    OnOk r (IsInTurn old.wake old.turns old.net.graph new.net.trace)
+on_ok_in_turn old new (Ok e) gone ran laps short end =
+    let ended = has_ended old.net.graph new e gone.graph end in is_in_turn old new gone ran laps short (inl ended) (λ _. ended)
+on_ok_in_turn old new (Err f) gone ran laps short end = tt
+
+pub at_limit_in_turn : (old new : WorldState) (limit : ℕ) (r : Result RunEnd RunFault) →
+    HasGoneOn old new →
+    old.last ≡ 0 →
+    limit ≡ old.turns →
+    limit ≤ 2 ^ 40 →
+    round_robin.HasRun old new →
+    round_robin.HasFewLaps new →
+    round_robin.IsShort new →
+    IfErr r (λ f. EndsFor new f) →
+    (round_robin.HasTurns old → r ≡ Err TurnLimit → ⊥) →
+    r ≡ Err TurnLimit →
+    IsInTurn old.wake old.turns old.net.graph new.net.trace
+at_limit_in_turn old new limit r gone first same few ran laps short ends surely at_limit =
+    let used : StopsFor new TurnLimit =
+    subst (λ (x : Result RunEnd RunFault). IfErr x (λ f. StopsFor new f)) at_limit (stops_for old new r gone ends) in
+    let turns = gone.turns in
+    is_in_turn old new gone ran laps short (inr (omega (arith, used, turns)))
+    (λ has. absurd (surely (record {
+      bound = has.bound;
+      is = has.is;
+      turns = has.enough;
+      numbers = let enough = has.enough in omega (arith, enough, few, same, first);
+    }) at_limit))

@@ -43,6 +43,9 @@ pub(crate) fn run_followed<F: Follower>(
         ScheduleKind::Rounds => played_again(alloc, world, ScheduleKind::Rounds, seed, kept),
         ScheduleKind::Waits => played_again(alloc, world, ScheduleKind::Waits, seed, kept),
         ScheduleKind::Lifo => played_again(alloc, world, ScheduleKind::Lifo, seed, kept),
+        ScheduleKind::RoundRobin => {
+            played_again(alloc, world, ScheduleKind::RoundRobin, seed, kept)
+        }
     }
 }
 

@@ -31,7 +31,7 @@ pub struct RunLengths {
 ///
 /// ```text
 /// let lengths = lengths_of(alloc, world.graph(), world.trace())?;
-/// // lengths.chain == 8 in the run of the triangle that docs/LESSON.md tells
+/// // lengths.chain == 8 in the run of the triangle that docs/class/LESSON.md tells
 /// ```
 pub fn lengths_of(alloc: Global, graph: &Graph, events: &[Event]) -> Result<RunLengths, AllocError>
     requires run { IsRun (network_of graph.now) events.now }

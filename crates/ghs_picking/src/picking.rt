@@ -8,8 +8,10 @@ ghost use Rattle.std.specs.Prelude.{IfErr, IfOk, OnErr, OnOk, [], ◌≡◌};
 use ghs_choices::schedule_kind::ScheduleKind;
 use ghs_lifo::run::run_lifo;
 use ghs_patient::run::run_patient;
+use ghs_round_robin::run::run_round_robin;
 use ghs_rounds::laws::{
-    law_rounds_are_chains, law_rounds_are_few, law_runs_by_rounds_are_short, law_runs_by_rounds_end,
+    law_awake_rounds, law_picks_are_by_rounds, law_rounds_are_chains, law_rounds_are_few,
+    law_rounds_are_fewer, law_runs_by_rounds_are_short, law_runs_by_rounds_end,
 };
 use ghs_rounds::run::run_rounds;
 use ghs_sched::fault::RunFault;
@@ -22,8 +24,9 @@ use std::alloc::Global;
 /// Runs a world from its opening on, by the schedule of a seed, until the run has ended or its turns are used. Of the
 /// faults TurnLimit comes where the commits have come to the turns, and else Memory. A patient run, one by rounds, or one
 /// that takes first what was sent last, that has turns for 2(B + N) events, B the bound on messages and N the nodes,
-/// ends, or memory runs out; a run that prefers what waits needn't end. At every end nothing is out, and the world
-/// stands after the events so far.
+/// ends, or memory runs out; so does one by round robin that has turns for 4E(B + N) + N, E the links, and on which the seed
+/// has no effect; a run that prefers what waits needn't end. At every end nothing is out, and the world stands after the
+/// events so far.
 ///
 /// ```text
 /// let mut world = World::open(alloc, graph, WakeSet::All, 1 << 40)?;
@@ -53,7 +56,7 @@ pub fn run_by_seed(
 }
 
 /// The same, and in how many rounds the run went, where it goes by rounds: B + N at most, and once it has ended as many as
-/// its longest chain has messages.
+/// its longest chain has messages, and no more than `round_bound` says.
 pub fn run_timed(
     alloc: Global,
     world: &mut World,
@@ -75,6 +78,9 @@ pub fn run_timed(
 {
     law_rounds_are_chains();
     law_rounds_are_few();
+    law_picks_are_by_rounds();
+    law_awake_rounds();
+    law_rounds_are_fewer();
     law_runs_by_rounds_are_short();
     law_runs_by_rounds_end();
     let mut schedule = Schedule::seeded(seed);
@@ -89,5 +95,6 @@ pub fn run_timed(
         }
         ScheduleKind::Waits => (None, run_waiting(alloc, world, &mut schedule)),
         ScheduleKind::Lifo => (None, run_lifo(alloc, world, &mut schedule)),
+        ScheduleKind::RoundRobin => (None, run_round_robin(alloc, world)),
     }
 }

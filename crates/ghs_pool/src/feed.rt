@@ -16,6 +16,7 @@ pub struct Feed<'q> {
 impl<'q> Feed<'q> {
     pub fn new(queue: &'q ReadyQueue, pass: ReadyPass) -> Feed<'q>
         requires { pass.name ≡ queue.now.name }
+        ensures { result.pass ≡ pass }
     {
         Feed { queue, pass }
     }
@@ -50,8 +51,18 @@ impl<'q> Feed<'q> {
     }
 
     /// One number more, and whether there was room for it.
-    pub fn put<R: Wait>(&mut self, rt: &R, v: u32) -> bool {
+    fn put_one<R: Wait>(&mut self, rt: &R, v: u32) -> bool {
         let queue = self.queue;
         queue.put(rt, &mut self.pass, v).is_ok()
+    }
+
+    /// Numbers more, each behind the one before; those for which there is no room are left out. Whether there was room for
+    /// all.
+    pub fn put<R: Wait>(&mut self, rt: &R, numbers: &[u32]) -> bool {
+        let mut had_room = true;
+        for v in numbers {
+            had_room = self.put_one(rt, *v) && had_room;
+        }
+        had_room
     }
 }

@@ -1,8 +1,10 @@
 //! A worker's hand is filled: events of nodes go out, or are made at once.
+ghost use Rattle.std.specs.Prelude.{◌≡◌};
+
 use crate::desk::Desk;
 use crate::floor::{Floor, Start};
 use crate::hand::{Hand, MOST};
-use crate::pace::PAIR;
+use crate::pace::{PAIR, part_of_look};
 use ghs_world::fault::OutFault;
 use peer_network::event::Event;
 use std::alloc::{AllocError, Global};
@@ -42,11 +44,10 @@ impl<J: Start> Floor<J> {
                 return has_made;
             };
             hand.pace.take();
-            self.notes.take(v);
             match self.begin_event(rt, alloc, v, hand) {
                 Found::Out | Found::Nothing => {}
                 Found::AtOnce => has_made = true,
-                Found::More => self.notes.put(rt, &mut hand.feed, v),
+                Found::More => self.put(rt, &mut hand.feed, &[v]),
                 Found::NoTurn => return has_made,
             }
             if hand.tickets() >= part {
@@ -56,22 +57,52 @@ impl<J: Start> Floor<J> {
         has_made
     }
 
-    /// Looks over the nodes, from behind the one that the last look found, for one that has an event that is worth it. Where
-    /// no node has an event at all, and nothing is out, the workers are to end. Whether an event was made at once.
+    /// Looks over the nodes, from behind the one that the last look found, for those that have an event that is worth it: for
+    /// one, and while looks haven't come to all nodes for as many as fill a look's part of the hand. Where no node has an event
+    /// at all, and nothing is out, the workers are to end. Whether events were made at once.
     pub fn look<R: Wait>(&mut self, rt: &R, alloc: Global, hand: &mut Hand<'_>) -> bool {
-        for _ in 0..NODES {
+        let part = part_of_look(self.notes.nodes()).min(self.unlooked);
+        let most = part.saturating_sub(hand.tickets()).max(1);
+        let mut has_made = false;
+        let mut begun = 0usize;
+        let mut passed = 0usize;
+        for _ in 0..MOST {
             let Some(v) = self.shop.next_node(self.found.saturating_add(1)) else {
+                self.unlooked = 0;
                 self.stop_if_home();
-                return false;
+                return has_made;
             };
-            self.found = v;
+            self.come_to(v);
             match self.begin_event(rt, alloc, v, hand) {
-                Found::AtOnce => return true,
-                Found::Out | Found::NoTurn => return false,
-                Found::Nothing | Found::More => {}
+                Found::Out => begun = begun.saturating_add(1),
+                Found::AtOnce => {
+                    has_made = true;
+                    begun = begun.saturating_add(1);
+                }
+                Found::Nothing | Found::More => passed = passed.saturating_add(1),
+                Found::NoTurn => return has_made,
+            }
+            if begun >= most || passed >= NODES {
+                return has_made;
             }
         }
-        false
+        has_made
+    }
+
+    /// A look comes to a node, and has passed over those before it.
+    fn come_to(&mut self, v: u32)
+        ensures { self.new ≡ self.old }
+    {
+        let nodes = self.notes.nodes();
+        let passed = if v > self.found {
+            (v - self.found) as usize
+        } else {
+            nodes
+                .saturating_sub(self.found as usize)
+                .saturating_add(v as usize)
+        };
+        self.unlooked = self.unlooked.saturating_sub(passed);
+        self.found = v;
     }
 
     /// An event of a node goes out or is made at once, if the node has one that is worth it.
@@ -154,7 +185,7 @@ impl<J: Start> Floor<J> {
         match self.shop.make(alloc, event) {
             Ok(woken) => {
                 hand.count_at_once();
-                self.notes.put_each(rt, &mut hand.feed, woken.as_slice());
+                self.put(rt, &mut hand.feed, woken.as_slice());
                 Found::AtOnce
             }
             Err(AllocError) => {

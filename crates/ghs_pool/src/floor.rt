@@ -43,6 +43,8 @@ pub struct Floor<J: Start> {
     pub at_work: u32,
     /// The node that the last look found.
     pub found: u32,
+    /// How many nodes looks have still to come to: all at first, and again where a number found no room.
+    pub unlooked: usize,
     /// Whether the workers are to end.
     pub stopped: bool,
     pub lacks: Lacks,
@@ -67,12 +69,14 @@ impl<J: Start> Floor<J> {
         requires notes { notes ≡ shop.world.net.graph.nodes }
         ensures { result ≡ shop }
     {
+        let unlooked = notes.nodes();
         Floor {
             shop,
             notes,
             workers,
             at_work: workers,
             found: 0,
+            unlooked,
             stopped: false,
             lacks: Lacks {
                 thread: false,
@@ -128,18 +132,12 @@ impl<J: Start> Floor<J> {
         self.lack_memory();
     }
 
-    /// The numbers of all nodes that have an event go into the queue.
-    pub fn put_ready<R: Wait>(&mut self, rt: &R, feed: &mut Feed<'_>) {
-        let mut from = 1u32;
-        for _ in 0..self.notes.nodes() {
-            let Some(v) = self.shop.next_node(from) else {
-                return;
-            };
-            if v < from {
-                return;
-            }
-            self.notes.put(rt, feed, v);
-            from = v.saturating_add(1);
+    /// Numbers of nodes go into the queue. One for which there is no room is left out: looks will come to its node.
+    pub fn put<R: Wait>(&mut self, rt: &R, feed: &mut Feed<'_>, nodes: &[u32])
+        ensures { self.new ≡ self.old }
+    {
+        if !feed.put(rt, nodes) {
+            self.unlooked = self.notes.nodes();
         }
     }
 }

@@ -20,8 +20,8 @@ pub trait Gate {
     /// For each ticket, between the check-out and the commit, while the lock isn't held.
     fn between(&self, ticket: u64);
 
-    /// Once, at its end.
-    fn ended(&self, tally: Tally);
+    /// Once, at its end. Does nothing unless the gate says more.
+    fn ended(&self, _tally: Tally) {}
 }
 
 /// Does nothing.
@@ -30,6 +30,4 @@ pub struct OpenGate;
 
 impl Gate for OpenGate {
     fn between(&self, _ticket: u64) {}
-
-    fn ended(&self, _tally: Tally) {}
 }

@@ -1,11 +1,9 @@
 //! What the workers keep of each node.
 ghost use Rattle.std.specs.Prelude.{◌≡◌, ◌≤◌, IfOk};
 
-use crate::feed::Feed;
 use peer_network::event::Event;
 use std::alloc::{AllocError, Global};
 use std::marker::Model;
-use std::sync::Wait;
 
 /// What the workers keep of each node. A contract sees of how many nodes that is.
 #[derive(Drop)]
@@ -14,8 +12,6 @@ pub struct Notes {
     ports: Vec<u32>,
     /// How many events it has made since it went out last, where it has many ports.
     since_out: Vec<u32>,
-    /// Whether its number waits in the queue.
-    waits: Vec<bool>,
 }
 
 impl Model for Notes {
@@ -27,14 +23,13 @@ impl Model for Notes {
 }
 
 impl Notes {
-    /// No event began or was made, and no number waits.
+    /// No event began or was made.
     pub fn fresh(alloc: Global, nodes: u32) -> Result<Notes, AllocError>
         ensures { IfOk result (λ n. n ≡ nodes) }
     {
         Ok(Notes {
             ports: vec![in alloc; 0; nodes as usize]?,
             since_out: vec![in alloc; 0; nodes as usize]?,
-            waits: vec![in alloc; false; nodes as usize]?,
         })
     }
 
@@ -79,36 +74,5 @@ impl Notes {
             since_out.saturating_add(1)
         };
         goes_out
-    }
-
-    /// Puts numbers of nodes into the queue.
-    pub fn put_each<R: Wait>(&mut self, rt: &R, feed: &mut Feed<'_>, nodes: &[u32])
-        ensures { self.new ≡ self.old }
-    {
-        for v in nodes {
-            self.put(rt, feed, *v);
-        }
-    }
-
-    /// Puts a node's number into the queue, unless it waits there. One for which there is no room is left out: a look will
-    /// find its node.
-    pub fn put<R: Wait>(&mut self, rt: &R, feed: &mut Feed<'_>, v: u32)
-        ensures { self.new ≡ self.old }
-    {
-        let Some(waits) = self.waits.get_mut((v as usize).wrapping_sub(1)) else {
-            return;
-        };
-        if !*waits {
-            *waits = feed.put(rt, v);
-        }
-    }
-
-    /// A node's number was taken.
-    pub fn take(&mut self, v: u32)
-        ensures { self.new ≡ self.old }
-    {
-        if let Some(waits) = self.waits.get_mut((v as usize).wrapping_sub(1)) {
-            *waits = false;
-        }
     }
 }

@@ -33,6 +33,18 @@ const CROWD: usize = 32;
 /// In a small network a number for each so many nodes is a crowd too.
 const CROWD_NODES: usize = 32;
 
+/// A look brings one node for each so many, 64 at most: one in a small network, so that its interleavings stay fine. Where
+/// fewer numbers wait looks go on, until they have come to all nodes: so a run begins everywhere, though the queue begins
+/// empty.
+const LOOK_NODES: usize = 16;
+
+const LOOK: usize = 64;
+
+/// How many tickets a look puts into a hand.
+pub fn part_of_look(nodes: usize) -> usize {
+    (nodes / LOOK_NODES).clamp(1, LOOK)
+}
+
 /// From how many numbers on a second worker is worth it: few in a small network, so that several take part in a short run.
 pub fn crowd_of(nodes: usize) -> usize {
     (nodes / CROWD_NODES).clamp(1, CROWD)
@@ -67,10 +79,6 @@ impl Pace {
         }
     }
 
-    pub fn is_away(&self) -> bool {
-        self.is_away
-    }
-
     /// The worker comes to the lock; whether it was away.
     pub fn come(&mut self) -> bool {
         let was_away = self.is_away;
@@ -78,10 +86,11 @@ impl Pace {
         was_away
     }
 
-    /// Whether the worker has enough of it where so many numbers wait at so many nodes, and others are at work too.
-    pub fn has_enough(&self, waiting: usize, nodes: usize, workers: u32) -> bool {
-        waiting == 0
-            || (self.stint > 0 && waiting < crowd_of(nodes))
+    /// Whether the worker has enough of it where so many numbers wait at so many nodes, looks have still to come to so many of
+    /// them, and others are at work too.
+    pub fn has_enough(&self, waiting: usize, unlooked: usize, nodes: usize, workers: u32) -> bool {
+        let is_enough_for_one = waiting == 0 || (self.stint > 0 && waiting < crowd_of(nodes));
+        (is_enough_for_one && unlooked == 0)
             || (self.stint as usize >= stint_of(nodes) && workers > PAIR)
     }
 

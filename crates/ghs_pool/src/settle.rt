@@ -20,7 +20,7 @@ impl<J: Start> Floor<J> {
             };
             if let Some(woken) = self.commit(alloc, step) {
                 hand.count_committed(is_beside);
-                self.notes.put_each(rt, &mut hand.feed, woken.as_slice());
+                self.put(rt, &mut hand.feed, woken.as_slice());
             }
         }
     }

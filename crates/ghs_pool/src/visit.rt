@@ -5,7 +5,7 @@ use crate::desk::Desk;
 use crate::feed::Feed;
 use crate::floor::{Floor, Start};
 use crate::hand::Hand;
-use crate::pace::{PAIR, crowd_of};
+use crate::pace::{PAIR, crowd_of, part_of_look};
 use std::alloc::Global;
 use std::sync::Wait;
 
@@ -29,7 +29,8 @@ pub enum Next {
 
 impl<J: Start> Floor<J> {
     /// A worker's visit: the steps in its hand happen, and what it performs next goes out. Where the queue gave it nothing it
-    /// looks over all nodes, and else when a look is due; or it leaves the lock to others.
+    /// looks over all nodes, and else where a look is due, or few numbers wait and looks haven't come to all nodes; or it
+    /// leaves the lock to others.
     pub fn visit<R: Wait>(&mut self, rt: &R, alloc: Global, hand: &mut Hand<'_>) -> Next {
         hand.is_crowded = self.is_crowded(rt, &mut hand.feed);
         self.settle(rt, alloc, hand);
@@ -48,13 +49,19 @@ impl<J: Start> Floor<J> {
             return Next::Leave;
         }
         let mut has_made = self.fill(rt, alloc, hand);
-        if (hand.tickets() == 0 && !has_made) || hand.pace.is_due() {
+        let found_none = hand.tickets() == 0 && !has_made;
+        if found_none || hand.pace.is_due() || self.has_few(waiting) {
             hand.pace.look();
             if self.look(rt, alloc, hand) {
                 has_made = true;
             }
         }
         self.next(hand, has_made)
+    }
+
+    /// Whether few numbers wait, while nodes may be ready to which no look has come.
+    fn has_few(&self, waiting: usize) -> bool {
+        self.unlooked > 0 && waiting < part_of_look(self.notes.nodes())
     }
 
     /// Whether many nodes are ready: their numbers wait, or they are out.
@@ -75,7 +82,9 @@ impl<J: Start> Floor<J> {
         // a look may have put one ticket more into a full hand than a visit performs
         let leaves = hand.tickets() == 0
             && self.at_work > 1
-            && hand.pace.has_enough(waiting, nodes, self.workers);
+            && hand
+                .pace
+                .has_enough(waiting, self.unlooked, nodes, self.workers);
         if leaves {
             self.at_work = self.at_work.saturating_sub(1);
             hand.pace.leave();

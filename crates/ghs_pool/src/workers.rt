@@ -95,45 +95,46 @@ pub fn run_watched<G: Gate + Sync, R: Threads + Wait + Sync>(
         unreachable!()
     };
     let feed = Feed::new(&queue, pass);
-    run_from::<Brand, G, R>(rt, alloc, shop, notes, gate, feed)
+    run_from::<Brand, G, R>(rt, alloc, shop, notes, workers, gate, feed)
 }
 
-/// A queue with room for each node and a share for each worker, and one for who starts them; its pass; and what is kept of
-/// each node.
+/// An empty queue with room for each node and a share for each worker, and one for who starts them; its pass; and what is kept
+/// of each node.
 fn prepare(
     alloc: Global,
     nodes: u32,
     workers: u32,
 ) -> Result<(ReadyQueue, ReadyPass, Notes), AllocError>
+    requires few { workers ≤ 64 }
     ensures pass { IfOk result (λ r. r.1.name ≡ r.0.name) }
+    ensures shares { IfOk result (λ r. r.1.shares ≡ workers + 1) }
     ensures notes { IfOk result (λ r. r.2 ≡ nodes) }
 {
-    let (queue, pass) = ReadyQueue::open(alloc, nodes.max(1), workers.saturating_add(1))?;
+    let (queue, pass) = ReadyQueue::open(alloc, nodes.max(1), workers + 1)?;
     let notes = Notes::fresh(alloc, nodes)?;
     Ok((queue, pass, notes))
 }
 
-/// Runs on from the shop that `J` names.
+/// Runs on from the shop that `J` names, by so many workers.
 fn run_from<J: Start + Send + Sync, G: Gate + Sync, R: Threads + Wait + Sync>(
     rt: &R,
     alloc: Global,
     shop: Shop,
     notes: Notes,
+    workers: u32,
     gate: &G,
-    mut feed: Feed<'_>,
+    feed: Feed<'_>,
 ) -> (World, Publisher, Result<RunEnd, PoolFault>)
     requires goes_on { GoesOn shop J.first }
     requires notes { notes ≡ shop.world.net.graph.nodes }
+    requires shares { feed.pass.shares ≡ workers + 1 }
     ensures out { result.0.outs ≡ [] }
     ensures follows { Follows result.0 J.first.world }
     ensures told { IsTold result.0 result.1 }
     ensures board { (result.1.table ≡ J.first.told.table) × StartsWith result.1.list J.first.told.list }
     ensures end { EndFits result.0 result.2 }
 {
-    let workers = feed.shares().saturating_sub(1);
-    let mut floor = Floor::<J>::new(shop, notes, workers);
-    floor.put_ready(rt, &mut feed);
-    let floor = Mutex::new(floor);
+    let floor = Mutex::new(Floor::<J>::new(shop, notes, workers));
     let bell = Bell::new();
     start_workers(rt, alloc, &floor, &bell, gate, feed);
     let (shop, lacks) = floor.into_inner().close();
@@ -196,7 +197,7 @@ fn worker_loop<J: Start, G: Gate, R: Wait>(
     unreachable!()
 }
 
-/// A visit to the lock. A worker that is away leaves it alone while no number waits and the run goes on.
+/// A visit to the lock.
 fn come<J: Start, R: Wait>(
     rt: &R,
     alloc: Global,
@@ -204,9 +205,6 @@ fn come<J: Start, R: Wait>(
     bell: &Bell,
     hand: &mut Hand<'_>,
 ) -> Next {
-    if hand.pace.is_away() && hand.feed.len(rt) == 0 && !bell.has_rung() {
-        return Next::Leave;
-    }
     if hand.gives_way {
         bell.give_way(hand.tally.worker);
     }

@@ -4,3 +4,4 @@ pub mod Graphs
 pub mod Interleavings
 pub mod Progress
 pub mod Halted
+pub mod Fair

@@ -17,3 +17,4 @@ pub mod Steps
 pub mod Woken
 pub mod Laws
 pub mod Waiting
+pub mod Time

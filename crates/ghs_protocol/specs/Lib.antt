@@ -12,5 +12,7 @@ pub mod Interleavings
 pub mod Connects
 pub mod Living
 pub mod Schedules
+pub mod Fairness
 pub mod Merging
 pub mod Cores
+pub mod Time

@@ -1,7 +1,9 @@
 //! What holds in every run of every graph, however its events interleave. Each law is a function that does nothing.
 ghost use Rattle.ghs_protocol.specs.Interleavings.{FragmentsAreLarge, RejectedLinksInside, RejectedMarksStay, EventsHaveRules, WorkHasReaction, BranchLinksInTree, RejectedLinksAside, HaltIsExact, EndIsTree, SendsWithinBound, SendsWithinSharpBound, LevelsPayOnce, PortsPayOnce, SendsArePaid};
 ghost use Rattle.ghs_protocol.specs.Living.{NodesAwait, RequeuesAreWaits, WaitingTakesTurn, SilenceIsEnd, NoRunIsStuck, OneWaits, EveryRunCanEnd, SilentNetsHaveEnded, SilentNetsAreExact, RunsAreShort, FairRunsEnd};
+ghost use Rattle.ghs_protocol.specs.Time.{SomethingGoesAtLeast, TreeMessagesAreFew};
 ghost use Rattle.ghs_protocol.specs.Schedules.{OthersLeaveAlone, StillnessIsEnd, EveryRunCanEndWhole, PatientRunsAreShort, PatienceGoesOn, PatienceLasts, RealEventsAreFew};
+ghost use Rattle.ghs_protocol.specs.Fairness.{NoMessageIsStuck, AllTakenIsLap, LapsAre, TwoLapsGetOn, FullLapGetsOn, LapsAreFew, FullLapsAreFew, ServedRunsAreShort, PromptRunsAreShort, SingleRoundsEnd, AllTakenIsFair, NoFairRunIsEndless, FairCoursesEnd, FairCoursesAre};
 
 /// The fragment of a node of level L has at least 2^L nodes.
 pub fn law_fragment_sizes()
@@ -61,6 +63,12 @@ pub fn law_silence()
 /// In such a set where none has halted a message can be taken that isn't put back, behind one that is at most.
 pub fn law_progress()
     ensures { NoRunIsStuck }
+{}
+
+/// Where a message waits in a set of nodes that no link leaves, one can be taken there that isn't put back, behind one that
+/// is at most; also after the end.
+pub fn law_no_message_is_stuck()
+    ensures { NoMessageIsStuck }
 {}
 
 /// Of the first two messages of a queue one at least isn't put back.
@@ -172,4 +180,82 @@ pub fn law_patience_goes_on()
 /// There is such an event under the wake set until the run has ended.
 pub fn law_patience_lasts()
     ensures { PatienceLasts }
+{}
+
+/// Two laps in a row consume a message or wake a node, if anything happens in them. In a lap each queue that holds a
+/// message that doesn't wait is taken from.
+pub fn law_two_laps()
+    ensures { TwoLapsGetOn }
+{}
+
+/// One in which each such message that stands first or second is taken does so alone.
+pub fn law_full_lap()
+    ensures { FullLapGetsOn }
+{}
+
+/// Whoever takes from each queue in which a message waits makes a lap.
+pub fn law_all_taken_is_lap()
+    ensures { AllTakenIsLap }
+{}
+
+/// From each net of a run such a lap can be made, by at most two Takes for each link.
+pub fn law_laps_are()
+    ensures { LapsAre }
+{}
+
+/// In whatever way a run is cut into laps, there are at most twice as many as the bound on messages and the nodes together.
+pub fn law_laps()
+    ensures { LapsAreFew }
+{}
+
+/// And at most half as many full ones.
+pub fn law_full_laps()
+    ensures { FullLapsAreFew }
+{}
+
+/// A run in which no queue that holds a message that doesn't wait is passed over for f events in a row has at most 2f events
+/// for each of the bound on messages and the nodes together.
+pub fn law_served()
+    ensures { ServedRunsAreShort }
+{}
+
+/// One in which no such message, first or second in its queue, isn't taken for f events has at most f.
+pub fn law_prompt()
+    ensures { PromptRunsAreShort }
+{}
+
+/// Rounds in which each queue has one turn end each run too, if there are twice as many.
+pub fn law_single_rounds()
+    ensures { SingleRoundsEnd }
+{}
+
+/// No run goes on for ever in which no queue that holds a message that doesn't wait is passed over for ever.
+pub fn law_no_fair_run_is_endless()
+    ensures { NoFairRunIsEndless }
+{}
+
+/// Each fair course comes to a moment at which the run has ended and from which on nothing happens, if each component has a
+/// node that wakes by itself.
+pub fn law_fair_courses_end()
+    ensures { FairCoursesEnd }
+{}
+
+/// Whoever takes then or later from each queue in which a message waits is fair.
+pub fn law_all_taken_is_fair()
+    ensures { AllTakenIsFair }
+{}
+
+/// From each net of a run a fair course leads on in which all wake who may.
+pub fn law_fair_courses()
+    ensures { FairCoursesAre }
+{}
+
+/// At most three Connects, Initiates, Reports and ChangeRoots are consumed for each node and level.
+pub fn law_tree_messages()
+    ensures { TreeMessagesAreFew }
+{}
+
+/// Where all nodes are awake that links join, and none has halted, a tree message goes, or a node of the least level probes.
+pub fn law_goes_at_least()
+    ensures { SomethingGoesAtLeast }
 {}

@@ -1,12 +1,20 @@
 -- Serves the proofs: nothing here has to be believed.
+mod AnyOrder
 mod Hearing
 mod Keeping
 mod Marking
 mod Picked
 mod Running
 mod Sending
+mod Sent
 mod Settling
 mod Short
 mod Steps
 mod Timing
 mod Told
+mod Due
+mod Examples
+mod Paying
+mod Paid
+mod Awake
+mod Simple

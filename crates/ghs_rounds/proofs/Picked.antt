@@ -1,5 +1,6 @@
 -- What a pick of a round's events gives.
 use Rattle.std.proofs.Common.{◌≡◌, ℕ, ◌≤◌, Bool, true, false, not, nat_eq, Some, List, [], ◌∷◌, length, filter, refl, sym, ◌∙◌, ap, ⊎_elim, inl, inr, ◌⊎◌, arith}
+use Rattle.std.specs.List.{Contains}
 use Rattle.std.proofs.lemmas.Bool.{and_from, and_parts, eqb-true}
 use Rattle.std.proofs.lemmas.Option.{same_Some}
 use Rattle.ghs_graph.specs.Graph.{IsGraph}
@@ -46,12 +47,14 @@ module _ (may : ℕ → Bool) (g : Network) (w : Net) (c : Chains) (r : ℕ) whe
   abbrev pub Picked : Event → Type 0
   Picked e = HasPlace g e × ((moves_due may g w c r e ≡ true) ⊎ (hides_due w c r e ≡ true))
 
-  pub picked : (words : List ℕ) (e : Event) → IsPick (round_events may g w c r) words e → Picked e
-  picked words e h = ⊎_elim
+  pub of_round : (e : Event) → Contains (round_events may g w c r) e → Picked e
+  of_round e h = ⊎_elim
       (λ k. let t = in_filter (moves_due may g w c r) (all_events g) e k in (placed_of g e t.0, inl t.1))
       (λ k. let t = in_filter (hides_due w c r) (all_events g) e k.1 in (placed_of g e t.0, inr t.1))
-      (in_either (filter (moves_due may g w c r) (all_events g)) (filter (hides_due w c r) (all_events g)) e
-      (picked_in (round_events may g w c r) words e h))
+      (in_either (filter (moves_due may g w c r) (all_events g)) (filter (hides_due w c r) (all_events g)) e h)
+
+  pub picked : (words : List ℕ) (e : Event) → IsPick (round_events may g w c r) words e → Picked e
+  picked words e h = of_round e (picked_in (round_events may g w c r) words e h)
 
   lawful_back : (e : Event) → HasPlace g e → puts_back w e ≡ true → is_lawful_under may g w e ≡ true
   lawful_back (Wake v) there t = cc

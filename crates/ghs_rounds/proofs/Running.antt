@@ -1,9 +1,10 @@
 -- What a run by rounds keeps.
-use Rattle.std.proofs.Common.{◌≡◌, ℕ, suc, ◌+◌, ◌-◌, ◌<◌, ◌≤◌, true, List, [], ◌∷◌, ◌++◌, length, refl, sym, ◌∙◌, ap, subst, ⊎_elim, arith}
+use Rattle.std.proofs.Common.{◌≡◌, ℕ, suc, ◌+◌, ◌-◌, ◌<◌, ◌≤◌, true, List, [], ◌∷◌, ◌++◌, length, refl, sym, ◌∙◌, ap, subst, ⊎_elim, arith, Result, Ok, Err, IfOk}
 use Rattle.std.proofs.lemmas.Bool.{and_parts, ltb-true}
 use Rattle.std.proofs.lemmas.List.{length_push}
-use Rattle.ghs_graph.specs.Graph.{Shape}
+use Rattle.ghs_graph.specs.Graph.{Shape, IsGraph}
 use Rattle.ghs_protocol.specs.Marks.{HasEnded}
+use Rattle.ghs_protocol.specs.Run.{net_after}
 use Rattle.peer_network.specs.Network.{Network}
 use Rattle.ghs_core.specs.NetState.{network}
 use Rattle.peer_network.specs.declared.wake_set.WakeSet.{WakeSet}
@@ -12,12 +13,17 @@ use Rattle.ghs_world.specs.Outs.{Outs}
 use Rattle.peer_network.specs.Wakes.{may_wake}
 use Rattle.ghs_world.specs.WorldState.{WorldState, has_turn, home, wakers}
 use Rattle.peer_schedule.specs.Picks.{IsPick}
+use Rattle.ghs_sched.specs.declared.fault.RunFault.{RunFault}
+use Rattle.ghs_sched.specs.declared.run.RunEnd.{RunEnd}
+use Rattle.ghs_sched.specs.declared.run.RunEnd.TheVariants.{Halted}
+use Rattle.ghs_sched.specs.Runs.{IsEnd}
 use Rattle.ghs_sched.proofs.lemmas.Runs.{still_going, turn_left}
 use Rattle.ghs_chain.specs.Chains.{Chains, chains_of, longest_chain}
 use Rattle.ghs_chain.proofs.lemmas.Bounding.{most_within}
 use Rattle.ghs_chain.specs.Kept.{AreChains}
 use Rattle.ghs_rounds.specs.Choices.{AreRounds, IsNextClock, RoundsState, events_of}
 use Rattle.ghs_rounds.specs.Clock.{ClockState}
+use Rattle.ghs_rounds.specs.Laws.{AreFewRounds, AwakeRoundsAreFew, PicksAreByRounds, RoundsAreFewer, SimpleRoundsAreFew}
 use Rattle.ghs_rounds.specs.Rounds.{events_in, round_events}
 use Rattle.ghs_rounds.specs.Runs.{Begun, HasMadeNext, HasRun, Over, Picked}
 
@@ -136,3 +142,22 @@ none_yet g = most_within (suc g.count) 0 (chains_of g []).node (λ v. omega arit
 
 pub chain_begins : (s t : WorldState) → s.net.trace ≡ [] → t ≡ record s { outs = [] } → longest_chain (network t.net) t.net.trace ≤ 0
 chain_begins s t none e = rw (e, none) (none_yet (network s.net))
+
+-- The bounds of an ended run.
+module _ (by : PicksAreByRounds) (any : RoundsAreFewer) (awake : AwakeRoundsAreFew) (simple : SimpleRoundsAreFew) where
+  pub few_rounds : (old new : WorldState) (words after : List ℕ) (r : ℕ) → IsGraph old.net.graph → HasRun old new words after r →
+      HasEnded new.net.graph (home new) → AreFewRounds (wakers old) old.net.graph r
+  few_rounds old new words after r ok run ended =
+      let t = by (wakers old) old.net.graph old.turns words new.net.trace r after ok run.picked in
+      let over : HasEnded old.net.graph (net_after old.net.graph new.net.trace) =
+      subst (λ (g : Shape). HasEnded g (net_after g new.net.trace)) run.graph ended in
+      record {
+        any = λ two b bound. any (wakers old) old.net.graph new.net.trace r t.0 ok two b bound t.1 over;
+        awake = λ wake k log d few. awake (wakers old) old.net.graph new.net.trace r t.0 ok wake k log d few t.1 over;
+        simple = λ is wake k log. simple (wakers old) old.net.graph new.net.trace r t.0 ok is wake k log t.1 over;
+      }
+
+  pub few_if_ended : (old new : WorldState) (words after : List ℕ) (r : ℕ) (end : Result RunEnd RunFault) → IsGraph old.net.graph →
+      HasRun old new words after r → IfOk end (λ e. IsEnd new e) → IfOk end (λ e. AreFewRounds (wakers old) old.net.graph r)
+  few_if_ended old new words after r (Ok (Halted v)) ok run is = few_rounds old new words after r ok run is.0
+  few_if_ended old new words after r (Err f) ok run is = is

@@ -1,12 +1,11 @@
 -- How many events a run by rounds has at most.
-use Rattle.std.proofs.Common.{◌≡◌, ◌≢◌, ℕ, zero, suc, ◌<◌, ◌≤◌, ◌+◌, ◌*◌, ◌%◌, Bool, true, false, Some, List, [], ◌∷◌, ◌++◌, length, filter, refl, sym, ◌∙◌, ap, subst, ⊎_elim, inl, inr, ◌⊎◌, arith}
+use Rattle.std.proofs.Common.{◌≡◌, ◌≢◌, ℕ, zero, suc, ◌<◌, ◌≤◌, ◌+◌, ◌*◌, Bool, true, false, Some, List, [], ◌∷◌, ◌++◌, length, filter, refl, sym, ◌∙◌, ap, subst, ⊎_elim, inl, inr, ◌⊎◌, arith}
 use Rattle.std.specs.List.{Contains}
 use Rattle.std.proofs.lemmas.Bool.{and_parts, cases_eq}
 use Rattle.std.proofs.lemmas.List.{length_push}
-use Rattle.std.proofs.Math.Nat.{mod-lt}
 use Rattle.ghs_graph.specs.Bound.{IsBound}
 use Rattle.ghs_graph.specs.Graph.{Shape, IsGraph}
-use Rattle.ghs_graph.proofs.lemmas.Members.{filter_has, in_filter, nothing_in}
+use Rattle.ghs_graph.proofs.lemmas.Members.{filter_has, first_in, in_filter, nothing_in}
 use Rattle.ghs_node.specs.declared.delta.Delta.{Delta}
 use Rattle.ghs_node.specs.declared.delta.Fate.{Fate}
 use Rattle.ghs_node.specs.declared.delta.Fate.TheVariants.{Consumed, Requeued}
@@ -37,18 +36,15 @@ use Rattle.ghs_protocol.proofs.lemmas.Sends.{node_here, requeued_now}
 use Rattle.ghs_protocol.proofs.lemmas.Woken.{asleep_or_not}
 use Rattle.ghs_core.specs.NetState.{delivery, work_at}
 use Rattle.peer_index.specs.Places.{HasPlace, all_events}
-use Rattle.peer_index.proofs.lemmas.Lists.{get_some}
 use Rattle.peer_index.proofs.lemmas.Listed.{listed}
-use Rattle.peer_schedule.specs.Picks.{IsPick}
-use Rattle.peer_schedule.specs.Schedule.{next_of, word_of}
 use Rattle.ghs_chain.specs.Chains.{Chains, chains_of, reacted}
 use Rattle.ghs_patient.specs.Patience.{first_waits, or_else, puts_back}
 use Rattle.ghs_patient.proofs.lemmas.Picks.{some_patient}
-use Rattle.ghs_rounds.specs.Rounds.{events_in, hides_due, moves_due, round_events}
-use Rattle.ghs_rounds.specs.Runs.{Begun, IsPickedByRounds, Over, Picked}
+use Rattle.ghs_rounds.specs.Rounds.{events_in, hides_due, moves_due}
 use Rattle.ghs_chain.proofs.lemmas.Lengths.{same_lengths}
-use Rattle.ghs_patient.proofs.lemmas.Picked.{in_either, picked_in}
-use Rattle.ghs_rounds.proofs.Picked.{lawful_pick, picked}
+use Rattle.ghs_patient.proofs.lemmas.Picked.{in_either}
+use Rattle.ghs_rounds.proofs.AnyOrder.{Begun, ByNumbers, Over, Went}
+use Rattle.ghs_rounds.proofs.Picked.{lawful_pick, of_round}
 use Rattle.ghs_rounds.proofs.Settling.{some_now}
 use Rattle.ghs_rounds.proofs.Steps.{Promised, Turns, back_turns, moves_fate, port_in}
 use Rattle.ghs_rounds.proofs.Told as of
@@ -178,8 +174,7 @@ at_most_twice : (n m : ℕ) (P : Type 0) → (suc n ≤ 2 * m) ⊎ ((n ≤ 2 * m
 at_most_twice n m P (inl le) = omega (arith, le)
 at_most_twice n m P (inr z) = z.0
 
-module _ (law : Promised) (rules : EventsHaveRules) (lasts : PatienceLasts) (may : ℕ → Bool) (g : Shape) (ok : IsGraph g) (turns : ℕ)
-    (words : List ℕ) where
+module _ (law : Promised) (rules : EventsHaveRules) (lasts : PatienceLasts) (may : ℕ → Bool) (g : Shape) (ok : IsGraph g) where
   module _ (es : List Event) (r : ℕ) (is : IsTold may g es r) (going : HasEnded g (net_after g es) → ⊥) (so_far : IsCounted may g es r) where
     abbrev w : Net
     w = net_after g es
@@ -188,14 +183,14 @@ module _ (law : Promised) (rules : EventsHaveRules) (lasts : PatienceLasts) (may
     c = chains_of (network_of g) es
 
     n : IsNetOf g w
-    n = of.is_net law rules lasts may g ok turns words es r is going
+    n = of.is_net law rules lasts may g ok es r is going
 
     counted_moves : (e : Event) (there : HasPlace (network_of g) e) (lawful : is_lawful (network_of g) w e ≡ true) →
         moves_due may (network_of g) w c r e ≡ true → IsCounted may g (es ++ e ∷ []) r
     counted_moves e there lawful moves =
-        let x = of.x law rules lasts may g ok turns words es r is going e there lawful in
-        let so = of.so law rules lasts may g ok turns words es r is going e there lawful in
-        let net = of.net_is law rules lasts may g ok turns words es r is going e there lawful in
+        let x = of.x law rules lasts may g ok es r is going e there lawful in
+        let so = of.so law rules lasts may g ok es r is going e there lawful in
+        let net = of.net_is law rules lasts may g ok es r is going e there lawful in
         let one : Counts w x e g.nodes =
         counts (network_of g) w x e so (nobody_sleeps law.awake g w x e n so)
         (λ v p d own answer.
@@ -219,14 +214,14 @@ module _ (law : Promised) (rules : EventsHaveRules) (lasts : PatienceLasts) (may
     counted_back (Wake v) there lawful hides none = cc
     counted_back (Take v p) there lawful hides none =
         let e = Take v p in
-        let x = of.x law rules lasts may g ok turns words es r is going e there lawful in
-        let so = of.so law rules lasts may g ok turns words es r is going e there lawful in
-        let d = of.d law rules lasts may g ok turns words es r is going e there lawful in
-        let net = of.net_is law rules lasts may g ok turns words es r is going e there lawful in
-        let chains = of.chains_are law rules lasts may g ok turns words es r is going e there lawful in
+        let x = of.x law rules lasts may g ok es r is going e there lawful in
+        let so = of.so law rules lasts may g ok es r is going e there lawful in
+        let d = of.d law rules lasts may g ok es r is going e there lawful in
+        let net = of.net_is law rules lasts may g ok es r is going e there lawful in
+        let chains = of.chains_are law rules lasts may g ok es r is going e there lawful in
         let t : Turns law may g w n c r is.timed v p d x =
-        back_turns law may g w n c r is.timed v p there (of.same law rules lasts may g ok turns words es r is going) d x
-        (of.answer law rules lasts may g ok turns words es r is going e there lawful) so hides in
+        back_turns law may g w n c r is.timed v p there (of.same law rules lasts may g ok es r is going) d x
+        (of.answer law rules lasts may g ok es r is going e there lawful) so hides in
         let stay : (u : ℕ) → sleeps_at x u ≡ true → sleeps_at w u ≡ true =
         λ u s. subst (λ (y : NodeState). is_sleeping y.head.phase ≡ true) (t.node u) s in
         let fewer = no_more w x stay g.nodes in
@@ -276,32 +271,29 @@ module _ (law : Promised) (rules : EventsHaveRules) (lasts : PatienceLasts) (may
       let few = sleepers_few (opening (network_of g)) g.nodes in
       record { moves = 0; paid = rw net (omega (arith, few)); few = inr (omega arith, inl refl) }
 
-  counted : (es : List Event) (r : ℕ) (s : List ℕ) → IsPickedByRounds may g turns words es r s → IsCounted may g es r
-  counted _ _ _ Begun = counted_begun
-  counted _ _ _ (Picked es r s e before going less pick) =
-      let is = told law rules lasts may g ok turns words es r s before in
-      let so_far = counted es r s before in
+  counted : (es : List Event) (r : ℕ) → ByNumbers may g es r → IsCounted may g es r
+  counted _ _ Begun = counted_begun
+  counted _ _ (Went es r e before going one) =
+      let is = told law rules lasts may g ok es r before in
+      let so_far = counted es r before in
       let w = net_after g es in
       let c = chains_of (network_of g) es in
-      let z = picked may (network_of g) w c r s e pick in
+      let z = of_round may (network_of g) w c r e one in
       let lawful : is_lawful (network_of g) w e ≡ true = ((lawful_under may (network_of g) w e).0 (lawful_pick may (network_of g) w c r e z)).1 in
-      let one =
-      in_either (filter (moves_due may (network_of g) w c r) (all_events (network_of g))) (filter (hides_due w c r) (all_events (network_of g))) e
-      (picked_in (round_events may (network_of g) w c r) s e pick) in
       ⊎_elim
       (λ h. counted_moves es r is going so_far e z.0 lawful (in_filter (moves_due may (network_of g) w c r) (all_events (network_of g)) e h).1)
       (λ h. counted_back es r is going so_far e z.0 lawful (in_filter (hides_due w c r) (all_events (network_of g)) e h.1).1 h.0)
-      one
-  counted _ _ _ (Over es r s before going less over) =
-      counted_over es r (told law rules lasts may g ok turns words es r s before) going (counted es r s before) over
+      (in_either (filter (moves_due may (network_of g) w c r) (all_events (network_of g)))
+      (filter (hides_due w c r) (all_events (network_of g))) e one)
+  counted _ _ (Over es r before going over) = counted_over es r (told law rules lasts may g ok es r before) going (counted es r before) over
 
   pub runs_are_short : TakesAreCounted → LedgerBalances → SendsWithinBound → (b : ℕ) → IsBound g.nodes (length g.keys) b →
-      (es : List Event) (r : ℕ) (s : List ℕ) → IsPickedByRounds may g turns words es r s → length es ≤ 2 * (b + g.nodes)
-  runs_are_short takes balance sends b bound es r s by =
-      let run = (told law rules lasts may g ok turns words es r s by).is_run in
+      (es : List Event) (r : ℕ) → ByNumbers may g es r → length es ≤ 2 * (b + g.nodes)
+  runs_are_short takes balance sends b bound es r by =
+      let run = (told law rules lasts may g ok es r by).is_run in
       let after = after_is_net g es run in
       let net : IsNetOf g (net_after g es) = record { graph = ok; events = es; run = after } in
-      let k = counted es r s by in
+      let k = counted es r by in
       let paid = k.paid in
       let all = takes g ok es (net_after g es) after in
       let out = balance g (net_after g es) net in
@@ -309,47 +301,28 @@ module _ (law : Promised) (rules : EventsHaveRules) (lasts : PatienceLasts) (may
       let twice = at_most_twice (length es) k.moves _ k.few in
       omega (arith, paid, all, out, most, twice)
 
--- More turns leave a run as it is.
-more_turns : (may : ℕ → Bool) (g : Shape) (turns others : ℕ) (words : List ℕ) (es : List Event) (r : ℕ) (s : List ℕ) → turns ≤ others →
-    IsPickedByRounds may g turns words es r s → IsPickedByRounds may g others words es r s
-more_turns may g turns others words _ _ _ le Begun = Begun
-more_turns may g turns others words _ _ _ le (Picked es r s e before going less pick) =
-    Picked es r s e (more_turns may g turns others words es r s le before) going (omega (arith, less, le)) pick
-more_turns may g turns others words _ _ _ le (Over es r s before going less over) =
-    Over es r s (more_turns may g turns others words es r s le before) going (omega (arith, less, le)) over
+  -- A run that hasn't ended can go on, so it has fewer events.
+  pub runs_are_shorter : TakesAreCounted → LedgerBalances → SendsWithinBound → AllMayWake may g → (b : ℕ) → IsBound g.nodes (length g.keys) b →
+      (es : List Event) (r : ℕ) → ByNumbers may g es r → (HasEnded g (net_after g es) → ⊥) → length es < 2 * (b + g.nodes)
+  runs_are_shorter takes balance sends all b bound es r by going = go (events_in may g es r) refl
+    where
+      is : IsTold may g es r
+      is = told law rules lasts may g ok es r by
 
-next_pick : (events : List Event) (words : List ℕ) → 0 < length events → (e : Event) × IsPick events words e
-next_pick events words some =
-    let z = get_some events (word_of words % length events) (mod-lt (word_of words) some) in
-    (z.0, (some, z.1))
+      -- in either round something can happen
+      on : (k : ℕ) → ByNumbers may g es k → (now : List Event) → events_in may g es k ≡ now → 0 < length now → length es < 2 * (b + g.nodes)
+      on k before [] same some = absurd (omega (arith, some))
+      on k before (e ∷ now) same some =
+          let one : Contains (events_in may g es k) e = subst (λ (l : List Event). Contains l e) (sym same) (first_in e now) in
+          let most = runs_are_short takes balance sends b bound (es ++ e ∷ []) k (Went es k e before going one) in
+          let count : length (es ++ e ∷ []) ≡ length es + 1 = length_push es e in
+          omega (arith, most, count)
 
--- A run that hasn't ended can go on, so it has fewer events.
-pub runs_are_shorter : (law : Promised) → EventsHaveRules → PatienceLasts → TakesAreCounted → LedgerBalances → SendsWithinBound →
-    (may : ℕ → Bool) (g : Shape) (ok : IsGraph g) (turns : ℕ) (words : List ℕ) → AllMayWake may g → (b : ℕ) → IsBound g.nodes (length g.keys) b →
-    (es : List Event) (r : ℕ) (s : List ℕ) → IsPickedByRounds may g turns words es r s → (HasEnded g (net_after g es) → ⊥) →
-    length es < 2 * (b + g.nodes)
-runs_are_shorter law rules lasts takes balance sends may g ok turns words all b bound es r s by going = go (events_in may g es r) refl
-  where
-    same : IsPickedByRounds may g (turns + suc (length es)) words es r s
-    same = more_turns may g turns (turns + suc (length es)) words es r s (omega arith) by
+      net : IsNetOf g (net_after g es)
+      net = record { graph = ok; events = es; run = after_is_net g es is.is_run }
 
-    is : IsTold may g es r
-    is = told law rules lasts may g ok turns words es r s by
-
-    -- in either round something can be picked
-    on : (k : ℕ) → IsPickedByRounds may g (turns + suc (length es)) words es k s → 0 < length (events_in may g es k) → length es < 2 * (b + g.nodes)
-    on k before some =
-        let z = next_pick (events_in may g es k) s some in
-        let most = runs_are_short law rules lasts may g ok (turns + suc (length es)) words takes balance sends b bound (es ++ z.0 ∷ []) k (next_of s)
-        (Picked es k s z.0 before going (omega arith) z.1) in
-        let count : length (es ++ z.0 ∷ []) ≡ length es + 1 = length_push es z.0 in
-        omega (arith, most, count)
-
-    net : IsNetOf g (net_after g es)
-    net = record { graph = ok; events = es; run = after_is_net g es is.is_run }
-
-    go : (now : List Event) → events_in may g es r ≡ now → length es < 2 * (b + g.nodes)
-    go [] e = on (suc r) (Over es r s same going (omega arith) e)
-        (some_now (network_of g) may (net_after g es) (chains_of (network_of g) es) (suc r) (same_lengths (network_of g) es (net_after g es) net.run)
-        is.timed.within.queue (some_patient g may (net_after g es) lasts net all going))
-    go (x ∷ xs) e = on r same (let z = ap length e in omega (arith, z))
+      go : (now : List Event) → events_in may g es r ≡ now → length es < 2 * (b + g.nodes)
+      go [] e = on (suc r) (Over es r by going e) (events_in may g es (suc r)) refl
+          (some_now (network_of g) may (net_after g es) (chains_of (network_of g) es) (suc r)
+          (same_lengths (network_of g) es (net_after g es) net.run) is.timed.within.queue (some_patient g may (net_after g es) lasts net all going))
+      go (x ∷ xs) e = on r by (events_in may g es r) refl (let z = ap length e in omega (arith, z))

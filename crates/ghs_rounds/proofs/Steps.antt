@@ -297,6 +297,7 @@ module _ (law : Promised) (may : ℕ → Bool) (g : Shape) (w : Net) (n : IsNetO
     pub node : (a : ℕ) → x.node a ≡ w.node a
     pub number : (a : ℕ) → (reacted (network_of g) w (Take v p) d c).node a ≡ c.node a
     pub requeued : x.requeued ≡ suc w.requeued
+    pub sends : d.sends ≡ []
 
   pub back_turns : (v p : ℕ) → At (network_of g) v p → SameLengths w c → (d : Delta) (x : Net) → reaction (w.node v) (work_at w (Take v p)) ≡ Some d →
       Happens (network_of g) w (Take v p) x → hides_due w c r (Take v p) ≡ true → Turns v p d x
@@ -319,6 +320,7 @@ module _ (law : Promised) (may : ℕ → Bool) (g : Shape) (w : Net) (n : IsNetO
             node = λ a. node_still v p at m k ks e waiting t u us f by same d x answer h a;
             number = λ a. number_still v p at m k ks e waiting t u us f by same d x answer h a;
             requeued = (turned v p at m k ks e waiting t u us f by same d x answer h).requeued;
+            sends = ap (λ (y : Delta). y.sends) (d_is v p at m k ks e waiting t u us f by same d x answer h);
           }
 
   -- The next round, where this one is over.

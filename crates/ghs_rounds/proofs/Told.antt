@@ -35,9 +35,9 @@ use Rattle.ghs_chain.proofs.lemmas.Following.{chains_more}
 use Rattle.ghs_patient.specs.Patience.{or_else}
 use Rattle.ghs_patient.proofs.lemmas.Picks.{some_patient}
 use Rattle.ghs_rounds.specs.Rounds.{events_in, hides_due, moves_due}
-use Rattle.ghs_rounds.specs.Runs.{Begun, IsPickedByRounds, Over, Picked}
 use Rattle.ghs_chain.proofs.lemmas.Lengths.{SameLengths, same_lengths}
-use Rattle.ghs_rounds.proofs.Picked.{lawful_pick, picked}
+use Rattle.ghs_rounds.proofs.AnyOrder.{Begun, ByNumbers, Over, Went}
+use Rattle.ghs_rounds.proofs.Picked.{lawful_pick, of_round}
 use Rattle.ghs_rounds.proofs.Settling.{some_now}
 use Rattle.ghs_rounds.proofs.Steps.{IsTimed, Promised, Turns, back_turns, moves_give, timed_moves, timed_next}
 use Rattle.ghs_rounds.proofs.Timing.{sent_node}
@@ -69,7 +69,7 @@ unfolding chains_of
 chains_of_then g es e w x d r h a =
     chains_more g es e (opening g) w x no_chains r h ∙ ap (λ (o : Option Delta). answered g w e o (chains_after g es (opening g) no_chains)) a
 
-chains_begin : (g : Network) → chains_of g [] ≡ no_chains
+pub chains_begin : (g : Network) → chains_of g [] ≡ no_chains
 unfolding chains_of
 chains_begin g = refl
 
@@ -84,8 +84,7 @@ pub record IsTold (may : ℕ → Bool) (g : Shape) (es : List Event) (r : ℕ) :
   pub behind : AllMayWake may g →
       (r ≤ longest_chain (network_of g) es) ⊎ ((r ≤ suc (longest_chain (network_of g) es)) × (0 < length (events_in may g es r)))
 
-module _ (law : Promised) (rules : EventsHaveRules) (lasts : PatienceLasts) (may : ℕ → Bool) (g : Shape) (ok : IsGraph g) (turns : ℕ)
-    (words : List ℕ) where
+module _ (law : Promised) (rules : EventsHaveRules) (lasts : PatienceLasts) (may : ℕ → Bool) (g : Shape) (ok : IsGraph g) where
   module _ (es : List Event) (r : ℕ) (told : IsTold may g es r) (going : HasEnded g (net_after g es) → ⊥) where
     abbrev pub w : Net
     w = net_after g es
@@ -205,6 +204,17 @@ module _ (law : Promised) (rules : EventsHaveRules) (lasts : PatienceLasts) (may
             (λ a. let k = ap (λ (y : Chains). y.node a) (chains_are e there lawful) ∙ still a in omega (arith, k)) in
             ⊎_elim (λ le. omega (arith, le, grows)) (λ z. let le = z.0 in omega (arith, le, grows)) before
 
+    -- who puts a message back sends nothing
+    pub back_sends : (e : Event) (there : HasPlace (network_of g) e) (lawful : is_lawful (network_of g) w e ≡ true) → hides_due w c r e ≡ true →
+        (d e there lawful).sends ≡ []
+    back_sends (Wake v) there lawful hides = cc
+    back_sends (Take v p) there lawful hides =
+        let e = Take v p in
+        let t : Turns law may g w is_net c r told.timed v p (d e there lawful) (x e there lawful) =
+        back_turns law may g w is_net c r told.timed v p there same (d e there lawful) (x e there lawful) (answer e there lawful)
+        (so e there lawful) hides in
+        t.sends
+
     -- a round that is over
     pub told_over : events_in may g es r ≡ [] → IsTold may g es (suc r)
     told_over over = record {
@@ -229,25 +239,23 @@ module _ (law : Promised) (rules : EventsHaveRules) (lasts : PatienceLasts) (may
     behind = λ all. inl (omega arith);
   }
 
-  pub told : (es : List Event) (r : ℕ) (s : List ℕ) → IsPickedByRounds may g turns words es r s → IsTold may g es r
-  told _ _ _ Begun = told_begun
-  told _ _ _ (Picked es r s e before going less pick) =
-      let so_far = told es r s before in
+  pub told : (es : List Event) (r : ℕ) → ByNumbers may g es r → IsTold may g es r
+  told _ _ Begun = told_begun
+  told _ _ (Went es r e before going one) =
+      let so_far = told es r before in
       let w = net_after g es in
       let c = chains_of (network_of g) es in
-      let z = picked may (network_of g) w c r s e pick in
+      let z = of_round may (network_of g) w c r e one in
       let lawful : is_lawful (network_of g) w e ≡ true = ((lawful_under may (network_of g) w e).0 (lawful_pick may (network_of g) w c r e z)).1 in
       ⊎_elim (λ moves. told_moves es r so_far going e z.0 lawful moves) (λ hides. told_back es r so_far going e z.0 lawful hides) z.1
-  told _ _ _ (Over es r s before going less over) = told_over es r (told es r s before) going over
+  told _ _ (Over es r before going over) = told_over es r (told es r before) going over
 
-  pub rounds_are_chains : (es : List Event) (r : ℕ) (s : List ℕ) → IsPickedByRounds may g turns words es r s → HasEnded g (net_after g es) →
-      longest_chain (network_of g) es ≡ r
-  rounds_are_chains es r s by ended =
-      let t = told es r s by in
+  pub rounds_are_chains : (es : List Event) (r : ℕ) → ByNumbers may g es r → HasEnded g (net_after g es) → longest_chain (network_of g) es ≡ r
+  rounds_are_chains es r by ended =
+      let t = told es r by in
       let least = t.reached ended in
       let most = most_within (suc (network_of g).count) r (chains_of (network_of g) es).node t.timed.within.node in
       omega (arith, least, most)
 
-  pub rounds_are_near : (es : List Event) (r : ℕ) (s : List ℕ) → IsPickedByRounds may g turns words es r s → AllMayWake may g →
-      r ≤ suc (longest_chain (network_of g) es)
-  rounds_are_near es r s by all = ⊎_elim (λ le. omega (arith, le)) (λ z. z.0) ((told es r s by).behind all)
+  pub rounds_are_near : (es : List Event) (r : ℕ) → ByNumbers may g es r → AllMayWake may g → r ≤ suc (longest_chain (network_of g) es)
+  rounds_are_near es r by all = ⊎_elim (λ le. omega (arith, le)) (λ z. z.0) ((told es r by).behind all)

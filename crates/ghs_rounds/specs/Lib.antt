@@ -2,5 +2,6 @@
 pub mod Choices
 pub mod Clock
 pub mod Laws
+pub mod Moments
 pub mod Rounds
 pub mod Runs

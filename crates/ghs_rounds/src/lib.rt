@@ -5,8 +5,11 @@
 //! (`law_rounds_are_chains`). There are at most B + N rounds (`law_rounds_are_few`) and 2(B + N) events
 //! (`law_runs_by_rounds_are_short`), B the bound on messages and N the nodes.
 //!
-//! Only tested (`bench/rounds`): that the messages of a round are those sent before it; `ghs_tool_examples` has numbers
-//! of rounds that it counts. The world has to stand at its opening.
+//! The rounds are told by chains; that the messages of a round are those sent before it is a law
+//! (`law_picks_are_by_moments`). The bounds of the literature hold of every run by rounds, in whatever order
+//! (`law_awake_rounds`, `law_simple_rounds`).
+//!
+//! `ghs_tool_examples` has numbers of rounds that `bench/rounds` counts. The world has to stand at its opening.
 #![tactic(auto)]
 
 mod choices;

@@ -3,11 +3,15 @@ ghost use Rattle.ghs_chain.specs.Chains.{longest_chain};
 ghost use Rattle.ghs_core.specs.NetState.{network};
 ghost use Rattle.ghs_protocol.specs.Marks.{HasEnded};
 ghost use Rattle.ghs_rounds.specs.Choices.{AreRounds};
+ghost use Rattle.ghs_rounds.specs.Laws.{AreFewRounds};
 ghost use Rattle.ghs_rounds.specs.Runs.{HasRun};
 ghost use Rattle.ghs_sched.specs.Runs.{EndsFor, IsEnd};
-ghost use Rattle.ghs_world.specs.WorldState.{home};
+ghost use Rattle.ghs_world.specs.WorldState.{home, wakers};
 ghost use Rattle.std.specs.Prelude.{IfErr, IfOk, OnErr, [], ◌≡◌, ◌≤◌};
 
+use crate::laws::{
+    law_awake_rounds, law_picks_are_by_rounds, law_rounds_are_fewer, law_simple_rounds,
+};
 use crate::rounds::Rounds;
 use ghs_sched::fault::RunFault;
 use ghs_sched::run::{RunEnd, end_of};
@@ -19,9 +23,11 @@ use std::alloc::Global;
 /// first. In round 0 all nodes wake that may wake by themselves. A message that ends a chain of r messages arrives in round
 /// r. In a round each word of the schedule picks one of the messages that have arrived and wouldn't only be put back; where
 /// there is none it picks one to be put back behind which stands such a message; and where there is none of these either the
-/// next round begins. No chain is longer than there were rounds. Of the faults TurnLimit comes where the commits have come to
-/// the turns or no ticket number is left, and else Memory. At every end nothing is out, and the world stands after the events
-/// so far. O(1) an event and a message; where phase, level or in_branch of a node have changed, O(1) for each of its ports.
+/// next round begins. No chain is longer than there were rounds. A run that has ended has no more rounds than the bounds of
+/// `laws` (`few`): for those where all wake a caller knows the ports of each node by `Graph::ports`. Of the faults TurnLimit
+/// comes where the commits have come to the turns or no ticket number is left, and else Memory. At every end nothing is out,
+/// and the world stands after the events so far. O(1) an event and a message; where phase, level or in_branch of a node have
+/// changed, O(1) for each of its ports.
 ///
 /// ```text
 /// let mut world = World::open(alloc, graph, WakeSet::First, 1 << 40)?;
@@ -35,11 +41,16 @@ pub fn run_rounds(
 ) -> (u64, Result<RunEnd, RunFault>)
     requires trace { world.old.net.trace ≡ [] }
     ensures run { HasRun world.old world.new schedule.old schedule.new result.0 }
+    ensures few { IfOk result.1 (λ e. AreFewRounds (wakers world.old) world.old.net.graph result.0) }
     ensures chain { longest_chain (network world.new.net) world.new.net.trace ≤ result.0 }
     ensures halted { IfOk result.1 (λ e. IsEnd world.new e) }
     ensures going { OnErr result.1 (HasEnded world.new.net.graph (home world.new) → ⊥) }
     ensures fault { IfErr result.1 (λ f. EndsFor world.new f) }
 {
+    law_picks_are_by_rounds();
+    law_rounds_are_fewer();
+    law_awake_rounds();
+    law_simple_rounds();
     let _ = world.net().trace();
     world.recall_all();
     if world.ended() {

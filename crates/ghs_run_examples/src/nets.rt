@@ -13,7 +13,8 @@ use ghs_node::react::react;
 use ghs_test_graphs::build::graph_of;
 use ghs_test_graphs::graphs::{
     EQUAL_TRIANGLE, FALLING_PATH_OF_THREE, FORKED_PATH, LONE_NODE, PAIR, PARALLEL_PAIR,
-    PATH_OF_FIVE, PATH_OF_FOUR, PATH_OF_THREE, STAR_OF_THREE, TRIANGLE, TWO_PAIRS_AND_NODE,
+    PATH_OF_FIVE, PATH_OF_FOUR, PATH_OF_THREE, STAR_OF_THREE, TRIANGLE, TWO_PAIRS,
+    TWO_PAIRS_AND_NODE,
 };
 use std::alloc::Global;
 use std::process::Abort;
@@ -354,6 +355,41 @@ fn parallel_links(rt: HostRuntime) {
     run_parallel_links(&rt, alloc, &[2, 1]);
     run_parallel_links(&rt, alloc, &[1, 1, 1, 2]);
     run_parallel_links(&rt, alloc, &[2, 2, 1]);
+}
+
+/// Graphs in pieces: both have two pairs of nodes, and one has a node more.
+const PIECES: [Example; 2] = [
+    Example {
+        text: TWO_PAIRS,
+        nodes: 4,
+        level: 1,
+        most: 36,
+        tree: &[(5, 1, 2), (6, 3, 4)],
+    },
+    Example {
+        text: TWO_PAIRS_AND_NODE,
+        nodes: 5,
+        level: 1,
+        most: 44,
+        tree: &[(5, 1, 2), (6, 3, 4)],
+    },
+];
+
+/// A run of two pairs that serves the nodes in this order sends the messages of both.
+fn run_pieces(rt: &impl Abort, alloc: Global, example: &Example, order: &[u32]) {
+    let mut net = net_of(rt, alloc, example.text);
+    run_in_order(rt, alloc, &mut net, example, order);
+    assert_branches(rt, alloc, &net, example.tree);
+    assert_sent(rt, &net, [4, 4, 0, 0, 0, 4, 0]);
+}
+
+/// In a graph in pieces too, after each event no more messages were sent than a run sends.
+#[test]
+fn pieces_in_turn(rt: HostRuntime) {
+    for example in &PIECES {
+        run_pieces(&rt, rt.alloc(), example, &[1, 2, 3, 4, 5]);
+        run_pieces(&rt, rt.alloc(), example, &[5, 3, 4, 2, 1]);
+    }
 }
 
 /// A run of the second pair of two.

@@ -23,15 +23,7 @@ const CHAINS: [u128; 3] = [14, 14, 58];
 /// The panel of a network whose name needs escapes, behind what there is.
 fn panel_of(alloc: Global) -> Result<Vec<u8>, AllocError> {
     let mut text = Vec::from_slice(alloc, b"<svg>\n")?;
-    put_panel(
-        &mut text,
-        1,
-        b"a <five>",
-        CAPTION,
-        &SENT,
-        &REQUEUED,
-        &CHAINS,
-    )?;
+    put_panel(&mut text, 1, "a <five>", CAPTION, &SENT, &REQUEUED, &CHAINS)?;
     Ok(text)
 }
 

@@ -39,6 +39,7 @@ pub fn run_seeded(
     ensures halted { IfOk result (λ e. IsEnd world.new e) }
     ensures going { OnErr result (HasEnded world.new.net.graph (home world.new) → ⊥) }
     ensures fault { IfErr result (λ f. EndsFor world.new f) }
+    ensures at_limit { result ≡ Err RunFault.Memory → has_turn world.new ≡ true }
     ensures limit { result ≡ Err RunFault.TurnLimit → world.new.last < 2 ^ 64 - 1 → IsWhole world.old world.new schedule.old schedule.new }
 {
     world.recall_all();

@@ -2,7 +2,7 @@
 use Rattle.std.specs.Prelude.{ℕ, List, ◌++◌, codes, decimal, slice_index}
 use Rattle.ghs_report.specs.Fields.{end_word, field, wake_word, word_field}
 use Rattle.ghs_choices.specs.declared.schedule_kind.ScheduleKind.{ScheduleKind}
-use Rattle.ghs_choices.specs.declared.schedule_kind.ScheduleKind.TheVariants.{Seeded, Patient, Rounds, Waits, Lifo}
+use Rattle.ghs_choices.specs.declared.schedule_kind.ScheduleKind.TheVariants.{Seeded, Patient, Rounds, Waits, Lifo, RoundRobin}
 use Rattle.ghs_sweep.specs.declared.seeded.Setup.{Setup}
 use Rattle.ghs_sweep.specs.declared.figures.Figures.{Figures}
 
@@ -12,6 +12,7 @@ schedule_word Patient = codes "patient"
 schedule_word Rounds = codes "rounds"
 schedule_word Waits = codes "waits"
 schedule_word Lifo = codes "lifo"
+schedule_word RoundRobin = codes "round-robin"
 
 unfoldable pub size_fields : Figures → List ℕ
 size_fields f = field f.nodes ++ field f.links ++ field f.events

@@ -97,5 +97,6 @@ pub(crate) fn schedule_word(schedule_kind: ScheduleKind) -> &'static [u8]
         ScheduleKind::Rounds => b"rounds",
         ScheduleKind::Waits => b"waits",
         ScheduleKind::Lifo => b"lifo",
+        ScheduleKind::RoundRobin => b"round-robin",
     }
 }

@@ -37,7 +37,7 @@ fn made(alloc: Global, asked: &Asked, held: &mut Vec<u8>) -> Result<(), ()> {
 }
 
 /// Networks of kinds in which no seed picks anything, by hand.
-static BY_HAND: [(Words, &str); 9] = [
+static BY_HAND: [(Words, &str); 12] = [
     (
         (Kind::Path, 1, 1, None, Some(Weights::Rising)),
         "c ghs make path 1 --seed 1 --weights rising\np sp 1 0\n",
@@ -73,6 +73,18 @@ static BY_HAND: [(Words, &str); 9] = [
     (
         (Kind::Busy, 7, 1, None, None),
         "c ghs make busy 7 --seed 1\np sp 7 11\na 1 2 1\na 2 3 1\na 3 4 1\na 4 5 1\na 1 6 2\na 2 6 64\na 4 6 64\na 6 7 1\na 1 7 64\na 3 7 64\na 5 7 64\n",
+    ),
+    (
+        (Kind::FarCore, 3, 1, None, None),
+        "c ghs make farcore 3 --seed 1\np sp 3 2\na 1 2 1\na 2 3 1\n",
+    ),
+    (
+        (Kind::FarCore, 16, 1, None, None),
+        "c ghs make farcore 16 --seed 1\np sp 16 37\na 1 2 1\na 2 3 1\na 3 4 1\na 4 5 1\na 5 6 1\na 6 7 1\na 7 8 1\na 8 9 1\na 9 10 1\na 10 11 1\na 11 12 1\na 12 13 1\na 1 13 65\na 2 13 65\na 3 13 65\na 4 13 65\na 5 13 65\na 6 13 65\na 7 13 65\na 8 13 65\na 9 13 65\na 10 13 65\na 11 13 65\na 13 14 1\na 14 15 33\na 2 15 64\na 3 15 64\na 4 15 64\na 5 15 64\na 6 15 64\na 7 15 64\na 8 15 64\na 9 15 64\na 10 15 64\na 11 15 64\na 12 15 64\na 15 16 1\n",
+    ),
+    (
+        (Kind::ChainWake, 5, 1, None, None),
+        "c ghs make chainwake 5 --seed 1\np sp 5 7\na 1 2 3\na 1 3 4\na 1 4 5\na 3 4 3\na 1 5 6\na 3 5 5\na 4 5 4\n",
     ),
 ];
 
@@ -126,7 +138,7 @@ fn seeds_pick_links_and_weights(rt: HostRuntime) {
 }
 
 /// What isn't made, and why.
-static REFUSED: [(Words, MakeFault); 9] = [
+static REFUSED: [(Words, MakeFault); 11] = [
     (
         (Kind::Slow, 0, 1, Some(3), Some(Weights::Equal)),
         MakeFault::Nodes,
@@ -138,6 +150,14 @@ static REFUSED: [(Words, MakeFault); 9] = [
     ),
     (
         (Kind::Busy, 9, 1, None, Some(Weights::Equal)),
+        MakeFault::WeightsGiven,
+    ),
+    (
+        (Kind::FarCore, 20, 1, None, Some(Weights::Equal)),
+        MakeFault::WeightsGiven,
+    ),
+    (
+        (Kind::ChainWake, 9, 1, None, Some(Weights::Equal)),
         MakeFault::WeightsGiven,
     ),
     (

@@ -1,5 +1,5 @@
 //! The page of a run.
-ghost use Rattle.std.specs.Prelude.{◌≡◌, ◌≤◌, ◌^◌, ◌↔◌, IfOk, IsErrOf, length};
+ghost use Rattle.std.specs.Prelude.{◌≡◌, ◌≤◌, ◌^◌, ◌↔◌, IfOk, IsErrOf, IsTrue, length};
 ghost use Rattle.peer_network.specs.Network.{network_of};
 ghost use Rattle.ghs_protocol.specs.Run.{IsRun};
 ghost use Rattle.ghs_view.specs.RunPage.{IsRunPage, IsTooLarge, events_to};
@@ -55,13 +55,24 @@ pub fn run_page(
     ensures page { IfOk result (λ text. IsRunPage graph events.now from to text.items) }
     ensures large { IsErrOf result TooLarge ↔ IsTooLarge graph events.now to }
 {
-    let shown = first_events(events, to);
-    if graph.nodes() > PAGE_NODES || shown.len() > PAGE_EVENTS {
+    if is_too_large(&graph, events, to) {
         return Err(PageFault::TooLarge);
     }
+    let shown = first_events(events, to);
     let most = bound(graph.nodes(), graph.links());
     let data = data_of(alloc, graph, most, shown, events.len() as u64, from)?;
     Ok(page(alloc, &data)?)
+}
+
+/// Whether a page can't show the events of a run up to the event `to`: its network has more than `PAGE_NODES` nodes, or
+/// more than `PAGE_EVENTS` of its events are to be shown. It takes no memory.
+pub fn is_too_large(graph: &Graph, events: &[Event], to: u64) -> bool
+    ensures { IsTrue result ↔ IsTooLarge graph.now events.now to }
+{
+    if graph.nodes() > PAGE_NODES {
+        return true;
+    }
+    first_events(events, to).len() > PAGE_EVENTS
 }
 
 /// The events up to a number, which count from 1.

@@ -5,7 +5,7 @@ ghost use Rattle.ghs_protocol.specs.Run.{IsRun};
 ghost use Rattle.ghs_view.specs.PairPage.{IsPairPage, IsPairTooLarge};
 ghost use Rattle.ghs_view.specs.declared.page.PageFault.TheVariants.{TooLarge};
 
-use crate::page::{PAGE_EVENTS, PAGE_NODES, PageFault, first_events};
+use crate::page::{PageFault, first_events, is_too_large};
 use ghs_core::event::Event;
 use ghs_data::data::data_of;
 use ghs_graph::bounds::bound;
@@ -31,11 +31,11 @@ pub fn pair_page(
     ensures page { IfOk result (λ text. IsPairPage graph first.now second.now from to text.items) }
     ensures large { IsErrOf result TooLarge ↔ IsPairTooLarge graph first.now second.now to }
 {
-    let shown = first_events(first, to);
-    let beside = first_events(second, to);
-    if graph.nodes() > PAGE_NODES || shown.len() > PAGE_EVENTS || beside.len() > PAGE_EVENTS {
+    if is_too_large(&graph, first, to) || is_too_large(&graph, second, to) {
         return Err(PageFault::TooLarge);
     }
+    let shown = first_events(first, to);
+    let beside = first_events(second, to);
     let most = bound(graph.nodes(), graph.links());
     let same = graph.copy(alloc)?;
     let data = data_of(alloc, graph, most, shown, first.len() as u64, from)?;

@@ -2,7 +2,7 @@
 ghost use Rattle.peer_network.specs.Network.{network_of};
 ghost use Rattle.ghs_protocol.specs.Run.{IsRunUnder};
 ghost use Rattle.peer_texts.specs.declared.trace.TheConstants.{EVENT_LIMIT};
-ghost use Rattle.ghs_view.specs.RunPage.{IsRunPage};
+ghost use Rattle.ghs_view.specs.RunPage.{IsRunPage, IsTooLarge};
 ghost use Rattle.ghs_view.specs.Stored.{HasNoPage};
 ghost use Rattle.peer_network.specs.Wakes.{may_wake};
 ghost use Rattle.std.specs.Prelude.{◌≡◌, ◌≤◌, IfErr, IfOk, OnOk, length};
@@ -46,6 +46,7 @@ pub fn stored_page(
     requires few { length events.now ≤ EVENT_LIMIT }
     ensures run { OnOk result (IsRunUnder (may_wake graph wake) (network_of graph) events.now) }
     ensures page { IfOk result (λ text. IsRunPage graph events.now from to text.items) }
+    ensures small { OnOk result (IsTooLarge graph events.now to → ⊥) }
     ensures fault { IfErr result (λ fault. HasNoPage graph wake events.now to fault) }
 {
     let world = match replay(alloc, graph, wake, events) {

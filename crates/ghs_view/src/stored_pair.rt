@@ -3,7 +3,7 @@ ghost use Rattle.peer_network.specs.Network.{network_of};
 ghost use Rattle.ghs_protocol.specs.Run.{IsRunUnder};
 ghost use Rattle.ghs_sched.specs.Replays.{CantReplay};
 ghost use Rattle.peer_texts.specs.declared.trace.TheConstants.{EVENT_LIMIT};
-ghost use Rattle.ghs_view.specs.PairPage.{IsPairPage};
+ghost use Rattle.ghs_view.specs.PairPage.{IsPairPage, IsPairTooLarge};
 ghost use Rattle.ghs_view.specs.StoredPair.{HasNoPairPage};
 ghost use Rattle.ghs_view.specs.declared.stored_pair.StoredPairFault.TheVariants.{Memory};
 ghost use Rattle.peer_network.specs.Wakes.{may_wake};
@@ -56,6 +56,7 @@ pub fn stored_pair_page(
     ensures first { OnOk result (IsRunUnder (may_wake graph wake) (network_of graph) first.now) }
     ensures second { OnOk result (IsRunUnder (may_wake graph wake) (network_of graph) second.now) }
     ensures page { IfOk result (λ text. IsPairPage graph first.now second.now from to text.items) }
+    ensures small { OnOk result (IsPairTooLarge graph first.now second.now to → ⊥) }
     ensures fault { IfErr result (λ fault. HasNoPairPage graph wake first.now second.now to fault) }
 {
     let same = graph.copy(alloc)?;

@@ -9,7 +9,7 @@ use ghs_refusing::scenes::{
 };
 use ghs_report::run_text::run_text;
 use ghs_sched::run::run_seeded;
-use ghs_test_graphs::graphs::{HUB_AND_PAIR, PATH_OF_FIVE};
+use ghs_test_graphs::graphs::{HUB_AND_PAIR, PATH_OF_FIVE, PATH_OF_THREE};
 use ghs_world::fault::{CommitFault, OutFault};
 use ghs_world::ticket::{Step, Ticket};
 use ghs_world::world::World;
@@ -207,35 +207,26 @@ enum Call {
     Make,
 }
 
-/// The text of the graph on which a call is made. To perform takes memory only where more is sent than a node of the five
-/// nodes sends.
-fn graph_for(call: Call) -> &'static str {
-    match call {
-        Call::Perform => HUB_AND_PAIR,
-        _ => PATH_OF_FIVE,
-    }
-}
-
 /// The world of the five nodes after these events.
 fn after(rt: &impl Abort, alloc: Global, events: &[Event]) -> World {
     world_after(alloc, events).expect(rt, "a run")
 }
 
-/// The world of the call's graph after these events.
-fn after_for(rt: &impl Abort, alloc: Global, call: Call, events: &[Event]) -> World {
-    world_of_after(alloc, graph_for(call), events).expect(rt, "a run")
+/// The world of the graph of a text after these events.
+fn after_of(rt: &impl Abort, alloc: Global, graph: &str, events: &[Event]) -> World {
+    world_of_after(alloc, graph, events).expect(rt, "a run")
 }
 
 fn place_after(
     rt: &impl Abort,
     alloc: Global,
-    call: Call,
+    graph: &str,
     events: &[Event],
     event: Event,
 ) -> Place {
     Place {
-        world: after_for(rt, alloc, call, events),
-        twin: after_for(rt, alloc, call, events),
+        world: after_of(rt, alloc, graph, events),
+        twin: after_of(rt, alloc, graph, events),
         event,
         number: (events.len() as u64).saturating_add(1),
     }
@@ -249,11 +240,20 @@ fn assert_happened(rt: &impl Abort, alloc: Global, place: &mut Place) {
     assert!(rt; place.stands(alloc));
 }
 
-/// The run goes on to its end.
-fn end_run(rt: &impl Abort, alloc: Global, place: &mut Place, call: Call) {
+/// Whether all links of a graph that is a tree are Branch.
+fn has_tree(alloc: Global, world: &World) -> bool {
+    match world.branches(alloc) {
+        Ok(links) => links.as_slice() == world.graph().keys(),
+        Err(_) => false,
+    }
+}
+
+/// The run goes on to its end, with the graph's tree; that of the five nodes has one text.
+fn end_run(rt: &impl Abort, alloc: Global, place: &mut Place) {
     let world = &mut place.world;
     assert!(rt; run_seeded(alloc, world, &mut Schedule::seeded(3)).is_ok());
-    assert!(rt; world.ended() && (call == Call::Perform || has_ended(alloc, world)));
+    assert!(rt; world.ended() && has_tree(alloc, world));
+    assert!(rt; world.graph().nodes() != 5 || has_ended(alloc, world));
 }
 
 /// Lets go of a place here, so that the way of its memory isn't in the proof of `serve`.
@@ -263,12 +263,13 @@ fn leave(_place: Place) {}
 fn serve(
     rt: &impl Abort,
     alloc: Global,
+    graph: &str,
     events: &[Event],
     event: Event,
     call: Call,
     k: usize,
 ) -> Turn {
-    let mut place = place_after(rt, alloc, call, events, event);
+    let mut place = place_after(rt, alloc, graph, events, event);
     let turn = match call {
         Call::CheckOut => refuse_out(rt, alloc, &mut place, k),
         Call::Perform => refuse_perform(rt, alloc, &mut place, k),
@@ -276,7 +277,7 @@ fn serve(
         Call::Make => refuse_make(rt, alloc, &mut place, k),
     };
     assert_happened(rt, alloc, &mut place);
-    end_run(rt, alloc, &mut place, call);
+    end_run(rt, alloc, &mut place);
     leave(place);
     turn
 }
@@ -285,51 +286,105 @@ fn serve(
 fn serve_each(
     rt: &impl Abort,
     alloc: Global,
-    events: &[Event],
+    graph: &str,
     call: Call,
     count: &mut Count,
 ) -> Result<(), Fail> {
+    let events = events_of(alloc, graph).expect(rt, "a run");
     for (place, event) in events.iter().enumerate() {
         let before = &events[..place];
-        refuse_each(alloc, count, |k| serve(rt, alloc, before, *event, call, k))?;
+        refuse_each(alloc, count, |k| {
+            serve(rt, alloc, graph, before, *event, call, k)
+        })?;
     }
     Ok(())
 }
 
-static CALLS: [(&str, Call); 4] = [
-    ("World::check_out", Call::CheckOut),
-    ("Ticket::perform", Call::Perform),
-    ("World::commit", Call::Commit),
-    ("World::make", Call::Make),
+/// A call by its name, and the text of the graph on which it is made.
+#[derive(Clone, Copy)]
+struct CallRow {
+    name: &'static str,
+    call: Call,
+    graph: &'static str,
+}
+
+/// To perform takes memory only where more is sent than a node of the five nodes sends.
+static CALLS: [CallRow; 4] = [
+    CallRow {
+        name: "World::check_out",
+        call: Call::CheckOut,
+        graph: PATH_OF_FIVE,
+    },
+    CallRow {
+        name: "Ticket::perform",
+        call: Call::Perform,
+        graph: HUB_AND_PAIR,
+    },
+    CallRow {
+        name: "World::commit",
+        call: Call::Commit,
+        graph: PATH_OF_FIVE,
+    },
+    CallRow {
+        name: "World::make",
+        call: Call::Make,
+        graph: PATH_OF_FIVE,
+    },
 ];
 
-fn refuse_call<R: Print + Abort>(
-    rt: &R,
-    alloc: Global,
-    name: &str,
-    call: Call,
-) -> Result<(), Fail> {
-    let events = events_of(alloc, graph_for(call)).expect(rt, "a run");
+fn refuse_call<R: Print + Abort>(rt: &R, alloc: Global, row: &CallRow) -> Result<(), Fail> {
     let mut count = NONE;
-    serve_each(rt, alloc, &events, call, &mut count)?;
-    tell(rt, alloc, name, count)
+    serve_each(rt, alloc, row.graph, row.call, &mut count)?;
+    tell(rt, alloc, row.name, count)
 }
 
-fn refuse_calls<R: Print + Abort>(
-    rt: &R,
-    alloc: Global,
-    rows: &[(&str, Call)],
-) -> Result<(), Fail> {
-    for (name, call) in rows {
-        refuse_call(rt, alloc, name, *call)?;
+fn refuse_calls<R: Print + Abort>(rt: &R, alloc: Global, rows: &[CallRow]) -> Result<(), Fail> {
+    for row in rows {
+        refuse_call(rt, alloc, row)?;
     }
     Ok(())
+}
+
+/// Each reaction of the five nodes with its first allocation to be refused: it has none.
+fn perform_without_memory(rt: &impl Abort, alloc: Global) -> Result<(), Fail> {
+    let mut count = NONE;
+    serve_each(rt, alloc, PATH_OF_FIVE, Call::Perform, &mut count)?;
+    assert!(rt; count == NONE);
+    Ok(())
+}
+
+/// Nothing is out; then node 1 wakes.
+fn wake_again(rt: &impl Abort, alloc: Global, world: &mut World, fault: OutFault) -> Ticket {
+    assert!(rt; fault == OutFault::Memory && world.out_count() == 0);
+    out(rt, alloc, world, Event::Wake(1))
+}
+
+/// Node 1 of three wakes, with the k-th allocation of its check-out refused; asked again it is ticket 1.
+fn wake_of_three(rt: &impl Abort, alloc: Global, k: usize) -> Turn {
+    let mut world = after_of(rt, alloc, PATH_OF_THREE, &[]);
+    order(alloc, k);
+    let answer = world.check_out(alloc, Event::Wake(1));
+    let turn = turn_of(alloc, k, &answer);
+    let ticket = match answer {
+        Ok(ticket) => ticket,
+        Err(fault) => wake_again(rt, alloc, &mut world, fault),
+    };
+    assert!(rt; ticket.number() == 1);
+    let_go(world);
+    turn
 }
 
 #[test]
 fn events(host: HostRuntime) -> Result<(), Fail> {
     let (rt, alloc) = (&host, host.alloc());
-    refuse_calls(rt, alloc, &CALLS)
+    refuse_calls(rt, alloc, &CALLS)?;
+    perform_without_memory(rt, alloc)?;
+    refuse(
+        rt,
+        alloc,
+        "World::check_out(Wake(1))",
+        |k| wake_of_three(rt, alloc, k),
+    )
 }
 
 /// What is asked of a world, and leaves it as it was.

@@ -10,8 +10,9 @@ use peer_schedule::schedule::Schedule;
 use std::alloc::{AllocError, Global};
 
 /// Runs a world on by a schedule: each word picks one of the events that are ready, and it happens, until none is ready or
-/// the events, those before the call among them, have come to the turns. Where memory is refused the world stands after the
-/// events so far, and the word whose event was refused is picked by again.
+/// the events, those before the call among them, have come to the turns. That is asked before memory is, so where memory is
+/// refused a turn was left; the world stands after the events so far, and the word whose event was refused is picked by
+/// again.
 ///
 /// ```text
 /// let mut world = World::<Echo>::open(alloc, graph, WakeSet::All)?;
@@ -28,6 +29,7 @@ pub fn run_seeded<P: Protocol>(
     ensures whole { OnOk result (IsWhole P.rules turns world.old world.new schedule.old schedule.new) }
     ensures over { OnOk result (ready_events P.rules world.new ≡ []) }
     ensures limit { result ≡ Err RunFault.TurnLimit → IsAtLimit P.rules turns world.new }
+    ensures at_limit { IsAtLimit P.rules turns world.new → result ≡ Err RunFault.TurnLimit }
 {
     'events: while world.ready_count() > 0 {
         if world.net().trace().len() as u64 >= turns {

@@ -9,6 +9,7 @@ use Rattle.ghs_protocol.specs.Ledger.{of_kind, IsBalanced, in_all}
 use Rattle.peer_network.specs.Sums.{sum_below, sum_over_nodes}
 use Rattle.ghs_protocol.specs.Laws.{IsNetOf}
 use Rattle.ghs_protocol.specs.Interleavings.{SendsWithinBound, SendsWithinSharpBound}
+use Rattle.ghs_protocol.specs.Time.{TreeMessagesAreFew}
 use Rattle.ghs_protocol.proofs.clauses.Floors.{Sound}
 use Rattle.ghs_protocol.proofs.clauses.Scene.{Ghost, scene}
 use Rattle.ghs_protocol.proofs.clauses.Whole.{opening_ghost}
@@ -94,6 +95,9 @@ module _ (g : Network) where
         let a = charges.accepts in let c = charges.tests in let n = sum_all g.count k in let m = sum_all g.count s in
         omega (arith, each, left, right, ports, both, a, c, n, m)
 
+    pub trees_within : w.sent 0 + w.sent 1 + w.sent 5 + w.sent 6 ≤ 3 * (g.count * k)
+    trees_within = let a = all_calls in let b = all_reports in let c = all_roots in omega (arith, a, b, c)
+
     pub within : in_all w.sent + 2 * (g.count * s) ≤ sum_over_nodes g (λ v. length (g.ports v)) + 5 * (g.count * k)
     within = let a = all_calls in let b = all_reports in let c = all_roots in let d = all_accepts in let e = all_tests in omega (arith, a, b, c, d, e)
 
@@ -116,3 +120,13 @@ sends_within g w n b is = let z = bounded g w n is.levels is.log2 0 (omega arith
 pub sends_within_sharp : SendsWithinSharpBound
 sends_within_sharp g w n b two is =
     let z = bounded g w n is.levels is.log2 1 (omega arith) (is.log2.greatest 1 (omega (arith, two))) in let y = is.bound in omega (arith, z, y)
+
+-- Connects, Initiates, Reports and ChangeRoots are consumed at most three times the nodes times their floor of log2
+pub tree_messages_are_few : TreeMessagesAreFew
+tree_messages_are_few g w n k log =
+    let h = paid g w n k log in
+    let balanced = after_balanced (network_of g) (graph_wired g n.graph) (graph_few g n.graph) n.events w n.run in
+    let z = trees_within (network_of g) (graph_wired g n.graph) k log w h.sound.ghost h.sound.holds
+    (by_memory (network_of g) (graph_ground g n.graph) k log h.sound h.charges) balanced 0 (omega arith) (omega arith) in
+    let a = balanced 0 in let b = balanced 1 in let c = balanced 5 in let d = balanced 6 in
+    omega (arith, z, a, b, c, d)

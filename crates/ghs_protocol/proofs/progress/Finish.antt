@@ -28,7 +28,7 @@ use Rattle.ghs_protocol.specs.Net.{Net, opening, happens, is_lawful, effect, one
 use Rattle.ghs_protocol.specs.Run.{and_then, run}
 use Rattle.ghs_protocol.specs.Ledger.{in_all}
 use Rattle.peer_network.specs.Sums.{sum_below}
-use Rattle.ghs_protocol.specs.Marks.{HasHalted, Leads, Here, Over}
+use Rattle.ghs_protocol.specs.Marks.{HasEnded, HasHalted, Leads, Here, Over}
 use Rattle.ghs_protocol.specs.Steps.{Happens, Woke, Took, taken, reacted}
 use Rattle.ghs_protocol.specs.Laws.{IsNetOf}
 use Rattle.ghs_protocol.specs.Living.{Waits, Unended, GoesOn, IsTake, AnyLink, Finish, EveryRunCanEnd, SilentNetsHaveEnded, SilentNetsAreExact, RunsAreShort}
@@ -56,17 +56,17 @@ use Rattle.ghs_protocol.proofs.lemmas.Queues.{same_first}
 abbrev pub awake_one : NodeState → ℕ
 awake_one n = cond (is_sleeping n.head.phase) 0 1
 
-awake_few : (n : NodeState) → awake_one n ≤ 1
+pub awake_few : (n : NodeState) → awake_one n ≤ 1
 awake_few n = go (is_sleeping n.head.phase)
   where
     go : (b : Bool) → cond b 0 1 ≤ 1
     go true = omega arith
     go false = omega arith
 
-awake_is : (n : NodeState) → n.head.phase ≢ Sleeping → awake_one n ≡ 1
+pub awake_is : (n : NodeState) → n.head.phase ≢ Sleeping → awake_one n ≡ 1
 awake_is n up = ap (λ b. cond b 0 1) (is_sleeping_not n.head.phase up)
 
-asleep_is : (n : NodeState) → n.head.phase ≡ Sleeping → awake_one n ≡ 0
+pub asleep_is : (n : NodeState) → n.head.phase ≡ Sleeping → awake_one n ≡ 0
 asleep_is n e = ap (λ b. cond b 0 1) (ap is_sleeping e)
 
 -- asleep or not
@@ -95,10 +95,10 @@ requeue_few Consumed = omega arith
 requeue_few Requeued = omega arith
 
 -- Looking through the nodes.
-abbrev Found_in : (ℕ → Type 0) → ℕ → Type 0
+abbrev pub Found_in : (ℕ → Type 0) → ℕ → Type 0
 Found_in P n = (v : ℕ) × (1 ≤ v) × (v ≤ n) × P v
 
-search : (P Q : ℕ → Type 0) → ((v : ℕ) → P v ⊎ Q v) → (n : ℕ) → Found_in P n ⊎ ((v : ℕ) → 1 ≤ v → v ≤ n → Q v)
+pub search : (P Q : ℕ → Type 0) → ((v : ℕ) → P v ⊎ Q v) → (n : ℕ) → Found_in P n ⊎ ((v : ℕ) → 1 ≤ v → v ≤ n → Q v)
 search P Q test zero = inr (λ v lo hi. absurd (omega (arith, lo, hi)))
 search P Q test (suc n) =
     ⊎_elim (λ z. inl (z.0, z.1, (let hi = z.2 in omega (arith, hi)), z.3)) (λ none. last none (test (suc n))) (search P Q test n)
@@ -125,12 +125,17 @@ truth : (b : Bool) → (b ≡ true) ⊎ (b ≢ true)
 truth true = inl refl
 truth false = inr (λ e. cc)
 
+joined_map : {S T : Key → Type 0} → ((k : Key) → S k → T k) → {u v : ℕ} → Joined S u v → Joined T u v
+joined_map f Same = Same
+joined_map f (Along k s j) = Along k (f k s) (joined_map f j)
+joined_map f (Back k s j) = Back k (f k s) (joined_map f j)
+
 module _ (g : Shape) (graph : IsGraph g) where
   abbrev any : Key → Type 0
   any = passing (λ k. true) g.keys
 
   -- one port further is in the same component
-  over_port : (x p : ℕ) → At (network_of g) x p → Joined (passing (λ k. true) g.keys) x (far (network_of g) x p)
+  pub over_port : (x p : ℕ) → At (network_of g) x p → Joined (passing (λ k. true) g.keys) x (far (network_of g) x p)
   over_port x p at =
       ⊎_elim (λ e. subst₂ (Joined any) (sym e.0) (sym e.1) (Along k has Same))
       (λ e. subst₂ (Joined any) (sym e.0) (sym e.1) (Back k has Same))
@@ -145,29 +150,38 @@ module _ (g : Shape) (graph : IsGraph g) where
   pub component : ℕ → ℕ → Bool
   component v x = holds_in (decided_joined (λ k. true) g.keys v x)
 
-  comes : (v x : ℕ) → component v x ≡ true → Leads (network_of g) AnyLink v x
+  pub comes : (v x : ℕ) → component v x ≡ true → Leads (network_of g) AnyLink v x
   unfolding component
   comes v x e = join_leads g graph any AnyLink (λ k t. t.0) (λ a p at t. tt) (λ a p at t. tt) (holds_so (decided_joined (λ k. true) g.keys v x) e)
 
-  component_self : (v : ℕ) → component v v ≡ true
+  pub component_self : (v : ℕ) → component v v ≡ true
   unfolding component
   component_self v = so_holds (decided_joined (λ k. true) g.keys v v) Same
 
-  component_closed : (v x p : ℕ) → At (network_of g) x p → component v x ≡ true → component v (far (network_of g) x p) ≡ true
+  pub component_closed : (v x p : ℕ) → At (network_of g) x p → component v x ≡ true → component v (far (network_of g) x p) ≡ true
   unfolding component
   component_closed v x p at e =
       so_holds (decided_joined (λ k. true) g.keys v (far (network_of g) x p))
       (joined_then (holds_so (decided_joined (λ k. true) g.keys v x) e) (over_port x p at))
 
+  -- a component is what links join
+  pub component_joined : (v x : ℕ) → component v x ≡ true → Joined (links g.keys) v x
+  unfolding component
+  component_joined v x e = joined_map (λ k t. t.0) (holds_so (decided_joined (λ k. true) g.keys v x) e)
+
+  pub joined_component : (v x : ℕ) → Joined (links g.keys) v x → component v x ≡ true
+  unfolding component
+  joined_component v x j = so_holds (decided_joined (λ k. true) g.keys v x) (joined_map (λ k t. (t, refl)) j)
+
   module _ (w : Net) where
     -- awake, in a component where none has halted
-    abbrev Open : ℕ → Type 0
+    abbrev pub Open : ℕ → Type 0
     Open v = ((w.node v).head.phase ≢ Sleeping) × ((u : ℕ) → 1 ≤ u → u ≤ g.nodes → component v u ≡ true → HasHalted w u → ⊥)
 
-    abbrev Ended : ℕ → Type 0
+    abbrev pub Ended : ℕ → Type 0
     Ended v = (w.node v).head.phase ≢ Sleeping → (u : ℕ) × Leads (network_of g) AnyLink v u × HasHalted w u
 
-    abbrev Halt : ℕ → ℕ → Type 0
+    abbrev pub Halt : ℕ → ℕ → Type 0
     Halt v u = (component v u ≡ true) × HasHalted w u
 
     halt : (v u : ℕ) → Halt v u ⊎ (component v u ≡ true → HasHalted w u → ⊥)
@@ -176,14 +190,14 @@ module _ (g : Shape) (graph : IsGraph g) where
         (λ c. ⊎_elim (λ h. inl (c, h)) (λ ne. inr (λ x h. ne h)) (truth (w.node u).head.halted))
         (λ ne. inr (λ c h. ne c)) (truth (component v u))
 
-    test : (v : ℕ) → Open v ⊎ Ended v
+    pub test : (v : ℕ) → Open v ⊎ Ended v
     test v =
         ⊎_elim (λ e. inr (λ up. absurd (up e)))
         (λ up. ⊎_elim (λ z. inr (λ y. (z.0, comes v z.0 z.3.0, z.3.1))) (λ none. inl (up, none))
         (search (Halt v) (λ u. component v u ≡ true → HasHalted w u → ⊥) (halt v) g.nodes))
         (phase_is (w.node v))
 
-    unended : (v : ℕ) → 1 ≤ v → v ≤ g.nodes → Open v → Unended (network_of g) w (component v)
+    pub unended : (v : ℕ) → 1 ≤ v → v ≤ g.nodes → Open v → Unended (network_of g) w (component v)
     unended v lo hi o = record {
       closed = λ x p at. component_closed v x p at;
       node = v;
@@ -192,6 +206,17 @@ module _ (g : Shape) (graph : IsGraph g) where
       awake = o.0;
       none_halted = λ u is c. o.1 u is.some is.node c;
     }
+
+    -- a component in which none has halted, or the run has ended
+    abbrev pub NoneHalted : ℕ → Type 0
+    NoneHalted v = (u : ℕ) → 1 ≤ u → u ≤ g.nodes → component v u ≡ true → HasHalted w u → ⊥
+
+    pub open_or_ended : Found_in NoneHalted g.nodes ⊎ HasEnded g w
+    open_or_ended = ⊎_elim
+        inl
+        (λ all. inr (λ v lo hi. let z = all v lo hi in (z.0, z.1, z.2, component_joined v z.0 z.3.0, z.3.1)))
+        (search NoneHalted (λ v. Found_in (Halt v) g.nodes)
+        (λ v. ⊎_elim inr inl (search (Halt v) (λ u. component v u ≡ true → HasHalted w u → ⊥) (halt v) g.nodes)) g.nodes)
 
     -- an unended component, or each node that is awake comes to one that has halted
     pub going :

@@ -17,7 +17,7 @@ use Rattle.ghs_protocol.specs.Living.{Unended}
 use Rattle.ghs_protocol.proofs.clauses.UnderWay.{Living}
 use Rattle.ghs_protocol.proofs.tests.Links.{probe_is}
 use Rattle.ghs_protocol.proofs.acts.Situations.{is_find'}
-use Rattle.ghs_protocol.proofs.progress.Scenes.{ConnectsLeast, test_waits, AllTests, SeenWaits, not_stuck}
+use Rattle.ghs_protocol.proofs.progress.Scenes.{ConnectsLeast, test_waits, AllTests, SeenWaits, has_ports, not_stuck}
 use Rattle.ghs_protocol.proofs.lemmas.Woken.{asleep_or_not}
 use Rattle.ghs_protocol.proofs.progress.BothBegun.{tree_waits, AllOf}
 
@@ -31,7 +31,7 @@ node_waits n p ChangeRoot = Prim.⊥
 node_waits n p Accept = Prim.⊥
 node_waits n p Reject = Prim.⊥
 
-tree_end : (P : Message → Type 0) (xs : List Message) (x : Message) → AllOf P xs → P x → AllOf P (xs ++ x ∷ [])
+pub tree_end : (P : Message → Type 0) (xs : List Message) (x : Message) → AllOf P xs → P x → AllOf P (xs ++ x ∷ [])
 tree_end P [] x a h = (h, tt)
 tree_end P (y ∷ xs) x a h = (a.0, tree_end P xs x a.1 h)
 
@@ -170,6 +170,7 @@ module _ (g : Network) (ground : Ground g) (w : Net) (gh : Ghost) (holds : Invar
       ⊎_elim (λ h. h)
       (λ all.
       absurd (not_stuck g ground (scene w gh) holds lives S going.closed (λ v p at m. seen_waits g w gh v p (all v p at m))
+      (λ v is m. has_ports g (scene w gh) lives v is (going.none_halted v is m))
       (λ v is m. going.none_halted v is m) least
       going.node going.is going.member going.awake))
       (look g w S)

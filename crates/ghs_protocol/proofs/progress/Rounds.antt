@@ -59,7 +59,7 @@ module _ (g : Shape) (graph : IsGraph g) where
       go (Some x) h = by x e (happening (network_of g) w x e h)
 
   -- several
-  net_all : (es : List Event) (w : Net) → IsNetOf g w → IsNetOf g (all_that_can (network_of g) w es)
+  pub net_all : (es : List Event) (w : Net) → IsNetOf g w → IsNetOf g (all_that_can (network_of g) w es)
   net_all [] w n = n
   net_all (e ∷ es) w n = net_all es (if_can (network_of g) w e) (net_one w e n)
 
@@ -68,13 +68,13 @@ module _ (g : Shape) (graph : IsGraph g) where
   least_all (e ∷ es) w n = let a = least_one w e n in let z = least_all es (if_can (network_of g) w e) (net_one w e n) in omega (arith, a, z)
 
   -- behind at most k messages at this port stands one that doesn't wait
-  record Ready (v p k : ℕ) (w : Net) : Type 0 where
-    before : List Message
-    message : Message
-    behind : List Message
-    queue : w.queue v p ≡ before ++ message ∷ behind
-    few : length before ≤ k
-    goes : Waits (w.node v) p message → ⊥
+  pub record Ready (v p k : ℕ) (w : Net) : Type 0 where
+    pub before : List Message
+    pub message : Message
+    pub behind : List Message
+    pub queue : w.queue v p ≡ before ++ message ∷ behind
+    pub few : length before ≤ k
+    pub goes : Waits (w.node v) p message → ⊥
 
   -- where nodes and the queue stay it stands there still
   stays : (v p k : ℕ) (w w' : Net) → (w'.node v ≡ w.node v) → (w'.queue v p ≡ w.queue v p) → Ready v p k w → Ready v p k w'
@@ -117,7 +117,7 @@ module _ (g : Shape) (graph : IsGraph g) where
         go (x ∷ bs) e f = omega (arith, f)
 
     -- any event that happens gets on, or leaves it there; one at this very port, if it doesn't get on, brings it nearer
-    happened : (w w' : Net) (e : Event) →
+    pub happened : (w w' : Net) (e : Event) →
         IsNetOf g w →
         Happens (network_of g) w e w' →
         (suc (reached (network_of g) w) ≤ reached (network_of g) w') ⊎
@@ -242,7 +242,7 @@ module _ (g : Shape) (graph : IsGraph g) where
         (λ r'. let a = least_one w x n in let z = twice es s (if_can (network_of g) w x) (net_one w x n) r' in omega (arith, a, z)) (step 1 w x n r)
 
   -- a round gets on, where a component has still to end
-  round_gets_on : (w : Net) →
+  pub round_gets_on : (w : Net) →
       IsNetOf g w →
       (S : ℕ → Bool) → GoesOn (network_of g) w S →
       (es : List Event) → IsRound (network_of g) es →
@@ -253,10 +253,10 @@ module _ (g : Shape) (graph : IsGraph g) where
 
   module _ (b : ℕ) (within : (w : Net) → IsNetOf g w → in_all w.sent ≤ b) where
     -- whoever has got as far as can be has come to the end
-    at_most : (w : Net) → IsNetOf g w → b + g.nodes ≤ reached (network_of g) w → (S : ℕ → Bool) → GoesOn (network_of g) w S → ⊥
+    pub at_most : (w : Net) → IsNetOf g w → b + g.nodes ≤ reached (network_of g) w → (S : ℕ → Bool) → GoesOn (network_of g) w S → ⊥
     at_most w n le S z = let a = advance g graph w n S z in let m = most g graph b within a.next a.is in let x = a.more in omega (arith, le, m, x)
 
-    onto : (w : Net) (es : List Event) (rs : List (List Event)) →
+    pub onto : (w : Net) (es : List Event) (rs : List (List Event)) →
         Comes (network_of g) (all_that_can (network_of g) w es) rs →
         Comes (network_of g) w (es ∷ rs)
     onto w es rs c = record { first = es ∷ c.first; others = c.others; whole = ap (λ xs. es ∷ xs) c.whole; ended = c.ended }

@@ -109,17 +109,24 @@ ConnectsLeast g w =
     (w.at (far g u q)).fragment ≢ (w.at a).fragment →
     key_lt (port_at g u q).key (port_at g a j).key ≡ false
 
+-- a node that is awake and hasn't halted has ports
+pub has_ports : (g : Network) (w : Scene) → Living g w → (v : ℕ) → InNetwork g v →
+    (w.at v).head.halted ≢ true →
+    (w.at v).head.phase ≢ Sleeping →
+    0 < length (g.ports v)
+has_ports g w lives v is going awake = more (length (g.ports v)) refl
+  where
+    more : (n : ℕ) → length (g.ports v) ≡ n → 0 < length (g.ports v)
+    more zero e = absurd (going (lives.no_port v is awake e))
+    more (suc n) e = omega (arith, e)
+
 module _ (g : Network) (ground : Ground g) (w : Scene) (holds : Invariant g w) (lives : Living g w)
     (S : ℕ → Bool) (closed : (v p : ℕ) → At g v p → S v ≡ true → S (far g v p) ≡ true)
-    (stuck : (v p : ℕ) → At g v p → S v ≡ true → SeenWaits (w.at v) p (w.seen v p))
-    (unended : (v : ℕ) → InNetwork g v → S v ≡ true → (w.at v).head.halted ≢ true) where
-  -- a node that is awake in S has ports
-  ports : (v : ℕ) → InNetwork g v → S v ≡ true → (w.at v).head.phase ≢ Sleeping → 0 < length (g.ports v)
-  ports v is m awake = more (length (g.ports v)) refl
-    where
-      more : (n : ℕ) → length (g.ports v) ≡ n → 0 < length (g.ports v)
-      more zero e = absurd (unended v is m (lives.no_port v is awake e))
-      more (suc n) e = omega (arith, e)
+    (trees : (v p : ℕ) → At g v p → S v ≡ true → AllOf (tree_waits (w.at v) p) (w.seen v p).tree)
+    (ports : (v : ℕ) → InNetwork g v → S v ≡ true → (w.at v).head.phase ≢ Sleeping → 0 < length (g.ports v)) where
+  -- none of S has halted
+  abbrev pub NoneHalted : Type 0
+  NoneHalted = (v : ℕ) → InNetwork g v → S v ≡ true → (w.at v).head.halted ≢ true
 
   reach : (v : ℕ) → InNetwork g v → S v ≡ true → (w.at v).head.phase ≢ Sleeping → Reach g (forest w) v
   reach v is m awake = let z = (holds.nodes v is).points awake (ports v is m awake) in holds.trees.reached v z.port is z.up
@@ -166,7 +173,7 @@ module _ (g : Network) (ground : Ground g) (w : Scene) (holds : Invariant g w) (
   connect_waits a j at m here away =
       first_of (tree_waits (w.at (far g a j)) (far_port g a j)) (Connect (w.at a).head.level) [] (seen_beyond g w a j).tree
       (connect a j at here away).one
-      (stuck (far g a j) (far_port g a j) (ground.wired.there a j at) (closed a j at m)).tree
+      (trees (far g a j) (far_port g a j) (ground.wired.there a j at) (closed a j at m))
 
   module _ (a j : ℕ) (m : S a ≡ true) (r : RootLink g (forest w) a j) where
     at' : At g (far g a j) (far_port g a j)
@@ -190,8 +197,8 @@ module _ (g : Network) (ground : Ground g) (w : Scene) (holds : Invariant g w) (
     -- both ends have begun
     pub begun : BegunCore g w a j
     begun =
-        both_begun g w holds a j r (stuck a j r.at m).tree
-        (stuck (far g a j) (far_port g a j) (ground.wired.there a j r.at) (closed a j r.at m)).tree
+        both_begun g w holds a j r (trees a j r.at m)
+        (trees (far g a j) (far_port g a j) (ground.wired.there a j r.at) (closed a j r.at m))
 
     abbrev e1 : End
     e1 = end g w a j
@@ -202,12 +209,12 @@ module _ (g : Network) (ground : Ground g) (w : Scene) (holds : Invariant g w) (
     no_reports : (v p : ℕ) → At g v p → S v ≡ true → (w.at v).head.phase ≡ Found → has_report (w.seen v p).tree ≡ false
     no_reports v p at y f =
         ⊎_elim
-        (λ h. absurd (let z = (report_waits (w.at v) p (w.seen v p).tree (stuck v p at y).tree h).1 in cc (z, f)))
+        (λ h. absurd (let z = (report_waits (w.at v) p (w.seen v p).tree (trees v p at y) h).1 in cc (z, f)))
         (λ h. h) (cases_Bool _)
 
     -- the ends aren't both done
-    pub not_done : (w.at a).head.phase ≡ Found → (w.at (far g a j)).head.phase ≡ Found → ⊥
-    not_done phase phase' = by_keys (even f1.is.head.best e1.is.head.best h.key h'.key)
+    pub not_done : NoneHalted → (w.at a).head.phase ≡ Found → (w.at (far g a j)).head.phase ≡ Found → ⊥
+    not_done unended phase phase' = by_keys (even f1.is.head.best e1.is.head.best h.key h'.key)
       where
         linked : (w.at (far g a j)).coming_name ≡ (w.at a).coming_name
         linked = (holds.trees.by_fragment (far g a j) a (sym (holds.trees.joined_within a j r.at r.joined))).1
@@ -262,10 +269,10 @@ module _ (g : Network) (ground : Ground g) (w : Scene) (holds : Invariant g w) (
           (w.at v).head.level ≡ (w.at v).coming
       by_child ne top =
           let b = lives.links.brought v p at (branch_mark _ joined.here, branch_mark _ joined.there, up, ne) in
-          sym (none_brought (w.at v) p (w.at v).head.level (w.seen v p).tree (stuck v p at m).tree) ∙ b ∙ top ∙
+          sym (none_brought (w.at v) p (w.at v).head.level (w.seen v p).tree (trees v p at m)) ∙ b ∙ top ∙
           (holds.trees.by_fragment (far g v p) v (sym (holds.trees.joined_within v p at joined))).0
 
-  top : (v : ℕ) → InNetwork g v → S v ≡ true → (w.at v).head.phase ≢ Sleeping → (w.at v).head.level ≡ (w.at v).coming
+  pub top : (v : ℕ) → InNetwork g v → S v ≡ true → (w.at v).head.phase ≢ Sleeping → (w.at v).head.level ≡ (w.at v).coming
   top v is m awake = levels (reach v is m awake) m
 
   -- a node that is awake, in S, and comes to this level
@@ -276,19 +283,165 @@ module _ (g : Network) (ground : Ground g) (w : Scene) (holds : Invariant g w) (
     pub awake : (w.at node).head.phase ≢ Sleeping
     pub comes : (w.at node).coming ≡ l
 
-  -- below a search there is a lower level
-  pub search_lower : (v : ℕ) → InNetwork g v → S v ≡ true → (w.at v).head.phase ≡ Find → (l : ℕ) × (l < (w.at v).coming) × At_level l
-  search_lower v is m finds =
-      asks (someone_asks g ground.wired w holds lives.awaits S closed
-      (λ x p at y h. calls_none (w.at x) p (w.seen x p).tree (stuck x p at y).tree h)
-      no_report v (reach v is m (λ e. cc (e, finds))) is m finds)
+  -- in the fragment of who searches somebody probes
+  pub search_asks : (v : ℕ) → InNetwork g v → S v ≡ true → (w.at v).head.phase ≡ Find → Asker g w S (w.at v).fragment
+  search_asks v is m finds =
+      someone_asks g ground.wired w holds lives.awaits S closed
+      (λ x p at y h. calls_none (w.at x) p (w.seen x p).tree (trees x p at y) h)
+      no_report v (reach v is m (λ e. cc (e, finds))) is m finds
     where
       no_report : (x p : ℕ) → At g x p → S x ≡ true → (w.at x).head.phase ≡ Find → (w.at x).up ≢ Some p → has_report (w.seen x p).tree ≢ true
       no_report x p at y f ne h =
           let s = (holds.nodes x (record { some = at.some; node = at.node })).searching f in
-          ne (s.up ∙ sym s.in_branch ∙ (report_waits (w.at x) p (w.seen x p).tree (stuck x p at y).tree h).0)
+          ne (s.up ∙ sym s.in_branch ∙ (report_waits (w.at x) p (w.seen x p).tree (trees x p at y) h).0)
 
-      asks : Asker g w S (w.at v).fragment → (l : ℕ) × (l < (w.at v).coming) × At_level l
+  -- and has the fragment's coming level
+  pub asker_level : (v : ℕ) → (k : Asker g w S (w.at v).fragment) → (w.at k.node).head.level ≡ (w.at v).coming
+  asker_level v k = ((holds.nodes k.node k.is).searching k.finds).level ∙ (holds.trees.by_fragment k.node v k.inside).0
+
+  -- who searches, where below each search there is a lower level
+  module _ (search_lower : (v : ℕ) → InNetwork g v → S v ≡ true → (w.at v).head.phase ≡ Find → (l : ℕ) × (l < (w.at v).coming) × At_level l) where
+    -- a fragment's root, where its Connect is under way
+    pub record OutRoot (v : ℕ) : Type 0 where
+      pub node : ℕ
+      pub port : ℕ
+      pub at : At g node port
+      pub member : S node ≡ true
+      pub same : (w.at node).fragment ≡ (w.at v).fragment
+      pub here : (w.at node).mark port ≡ Branch
+      pub away : is_branch ((w.at (far g node port)).mark (far_port g node port)) ≡ false
+
+    pub data Next (v : ℕ) : Type 0 where
+      Lower : (l : ℕ) → l < (w.at v).coming → At_level l → Next v
+      Outward : OutRoot v → Next v
+
+    next : NoneHalted → (v : ℕ) → InNetwork g v → S v ≡ true → (w.at v).head.phase ≢ Sleeping → Next v
+    next unended v is m awake = by_root (root_of (reach v is m awake) m)
+      where
+        lower : (x : ℕ) → (w.at x).fragment ≡ (w.at v).fragment → (l : ℕ) × (l < (w.at x).coming) × At_level l → Next v
+        lower x e t = let lt = t.1 in let c = (holds.trees.by_fragment x v e).0 in Lower t.0 (omega (arith, lt, c)) t.2
+
+        phase_of : (x p : ℕ) → At g x p → (w.at x).mark p ≡ Branch → ((w.at x).head.phase ≡ Found) ⊎ ((w.at x).head.phase ≡ Find)
+        phase_of x p at b = go (w.at x).head.phase refl
+          where
+            go : (s : Phase) → (w.at x).head.phase ≡ s → ((w.at x).head.phase ≡ Found) ⊎ ((w.at x).head.phase ≡ Find)
+            go Found e = inl e
+            go Find e = inr e
+            go Sleeping e = absurd (((holds.nodes x (record { some = at.some; node = at.node })).untouched e).marks p b)
+
+        by_core : (a j : ℕ) → S a ≡ true → (w.at a).fragment ≡ (w.at v).fragment → RootLink g (forest w) a j → Next v
+        by_core a j y e r =
+            ⊎_elim
+            (λ f. ⊎_elim (λ f'. absurd (not_done a j y r unended f f')) (λ f'.
+            lower (far g a j) (sym (holds.trees.joined_within a j r.at r.joined) ∙ e)
+            (search_lower (far g a j)
+            (record { some = (ground.wired.there a j r.at).some; node = (ground.wired.there a j r.at).node }) (closed a j r.at y) f'))
+            (phase_of (far g a j) (far_port g a j) (ground.wired.there a j r.at) (branch_mark _ r.joined.there)))
+            (λ f. lower a e (search_lower a (record { some = r.at.some; node = r.at.node }) y f))
+            (phase_of a j r.at (branch_mark _ r.joined.here))
+
+        by_root : RootOf v → Next v
+        by_root z = go z.root
+          where
+            go : Root g (forest w) z.node z.port → Next v
+            go (Goes_out x y) =
+                Outward (record { node = z.node; port = z.port; at = z.at; member = z.member; same = z.same; here = branch_mark _ x; away = y })
+            go (Both_ways x y t) = by_core z.node z.port z.member z.same (record { at = z.at; joined = x; up = y; up_beyond = t })
+
+    module _ (unended : NoneHalted) (least : ConnectsLeast g w) where
+      module _ (l : ℕ) (low : (x : ℕ) → x < l → At_level x → ⊥) where
+        abbrev P : Key → Type 0
+        P k =
+            (a j : ℕ) → At g a j →
+            S a ≡ true →
+            (w.at a).coming ≡ l →
+            (w.at a).mark j ≡ Branch →
+            is_branch ((w.at (far g a j)).mark (far_port g a j)) ≡ false →
+            (port_at g a j).key ≡ k →
+            ⊥
+
+        out_step : (k : Key) → ((j : Key) → key_lt j k ≡ true → P j) → P k
+        out_step k r a j at m c here away e = go (next unended y is' m' awake)
+          where
+            y : ℕ
+            y = far g a j
+
+            at' : At g (far g a j) (far_port g a j)
+            at' = ground.wired.there a j at
+
+            is' : InNetwork g (far g a j)
+            is' = record { some = at'.some; node = at'.node }
+
+            m' : S (far g a j) ≡ true
+            m' = closed a j at m
+
+            under : ConnectUnderWay (tree_end (end g w a j)) (tree_end (end g w (far g a j) (far_port g a j)))
+            under = connect a j at here away
+
+            waits : tree_waits (w.at (far g a j)) (far_port g a j) (Connect (w.at a).head.level)
+            waits = connect_waits a j at m here away
+
+            awake : (w.at (far g a j)).head.phase ≢ Sleeping
+            awake = waits.0
+
+            comes : (w.at (far g a j)).coming ≡ l
+            comes =
+                let t = top (far g a j) is' m' awake in let x = waits.1 in let h = under.higher in let v = under.level in omega (arith, t, x, h, v, c)
+
+            go : Next (far g a j) → ⊥
+            go (Lower x lt z) = low x (omega (arith, lt, comes)) z
+            go (Outward o) =
+                ⊎_elim (λ h.
+                r (port_at g o.node o.port).key (subst (λ z. key_lt (port_at g o.node o.port).key z ≡ true) e h) o.node o.port o.at o.member
+                ((holds.trees.by_fragment o.node (far g a j) o.same).0 ∙ comes) o.here o.away refl)
+                (λ h. same h) (cases_Bool _)
+              where
+                not_less : key_lt (port_at g a j).key (port_at g o.node o.port).key ≡ false
+                not_less =
+                    subst (λ z. key_lt z (port_at g o.node o.port).key ≡ false) (ground.wired.same_key a j at)
+                    (least o.node o.port o.at o.here o.away (far g a j) (far_port g a j) at' (sym o.same)
+                    (λ h. under.apart (sym o.same ∙ sym h ∙ ap (λ z. (w.at z).fragment) (ground.wired.back a j at))))
+
+                same : key_lt (port_at g o.node o.port).key (port_at g a j).key ≡ false → ⊥
+                same h =
+                    ⊎_elim (λ t. under.apart (sym o.same ∙ ap (λ z. (w.at z).fragment) (sym t.0)))
+                    (λ t.
+                    let b : (w.at (far g a j)).mark (far_port g a j) ≡ Branch = subst₂ (λ z q. (w.at z).mark q ≡ Branch) (sym t.0) (sym t.1) o.here in
+                    let x : Basic ≡ Branch = sym waits.2 ∙ b in cc)
+                    (ground.keyed a j o.node o.port at o.at (same_key _ _ not_less h))
+
+        none_at : At_level l → ⊥
+        none_at z = go (next unended z.node z.is z.member z.awake)
+          where
+            go : Next z.node → ⊥
+            go (Lower x lt y) = low x (let c = z.comes in omega (arith, lt, c)) y
+            go (Outward o) =
+                key_descent P out_step (port_at g o.node o.port).key o.node o.port o.at o.member
+                ((holds.trees.by_fragment o.node z.node o.same).0 ∙ z.comes) o.here o.away refl
+
+      below_level : (n l : ℕ) → l < n → At_level l → ⊥
+      below_level zero l lt z = omega (arith, lt)
+      below_level (suc n) l lt z = none_at l (λ x le y. below_level n x (omega (arith, le, lt)) y) z
+
+      -- nobody is awake
+      pub nobody_awake : (v : ℕ) → InNetwork g v → S v ≡ true → (w.at v).head.phase ≢ Sleeping → ⊥
+      nobody_awake v is m awake =
+          below_level (suc (w.at v).coming) (w.at v).coming (omega arith) (record { node = v; is = is; member = m; awake = awake; comes = refl })
+
+-- all messages wait, those that aren't tree messages too
+module _ (g : Network) (ground : Ground g) (w : Scene) (holds : Invariant g w) (lives : Living g w)
+    (S : ℕ → Bool) (closed : (v p : ℕ) → At g v p → S v ≡ true → S (far g v p) ≡ true)
+    (stuck : (v p : ℕ) → At g v p → S v ≡ true → SeenWaits (w.at v) p (w.seen v p))
+    (ports : (v : ℕ) → InNetwork g v → S v ≡ true → (w.at v).head.phase ≢ Sleeping → 0 < length (g.ports v)) where
+  pub trees : (v p : ℕ) → At g v p → S v ≡ true → AllOf (tree_waits (w.at v) p) (w.seen v p).tree
+  trees v p at m = (stuck v p at m).tree
+
+  -- below a search there is a lower level
+  pub search_lower : (v : ℕ) → InNetwork g v → S v ≡ true → (w.at v).head.phase ≡ Find → (l : ℕ) ×
+      (l < (w.at v).coming) × At_level g ground w holds lives S closed trees ports l
+  search_lower v is m finds = asks (search_asks g ground w holds lives S closed trees ports v is m finds)
+    where
+      asks : Asker g w S (w.at v).fragment → (l : ℕ) × (l < (w.at v).coming) × At_level g ground w holds lives S closed trees ports l
       asks k = go (lives.links.asks k.node k.port at k.probe)
         where
           u : ℕ
@@ -304,14 +457,14 @@ module _ (g : Network) (ground : Ground g) (w : Scene) (holds : Invariant g w) (
           m' = closed k.node k.port at k.member
 
           level : (w.at k.node).head.level ≡ (w.at v).coming
-          level = ((holds.nodes k.node k.is).searching k.finds).level ∙ (holds.trees.by_fragment k.node v k.inside).0
+          level = asker_level g ground w holds lives S closed trees ports v k
 
           lower :
               ((w.at (far g k.node k.port)).head.phase ≢ Sleeping) × ((w.at (far g k.node k.port)).head.level < (w.at k.node).head.level) →
-              (l : ℕ) × (l < (w.at v).coming) × At_level l
+              (l : ℕ) × (l < (w.at v).coming) × At_level g ground w holds lives S closed trees ports l
           lower (awake, lt) =
               let is' : InNetwork g (far g k.node k.port) = record { some = at'.some; node = at'.node } in
-              let t = top (far g k.node k.port) is' m' awake in (
+              let t = top g ground w holds lives S closed trees ports (far g k.node k.port) is' m' awake in (
                 (w.at (far g k.node k.port)).coming,
                 omega (arith, lt, t, level),
                 record { node = far g k.node k.port; is = is'; member = m'; awake = awake; comes = refl },
@@ -320,7 +473,7 @@ module _ (g : Network) (ground : Ground g) (w : Scene) (holds : Invariant g w) (
           go :
               Answering (w.seen (far g k.node k.port) (far_port g k.node k.port)).tests (w.seen k.node k.port).accepts (w.seen k.node k.port).rejects
               (w.seen k.node k.port).tests (w.at (far g k.node k.port)).head.probe (far_port g k.node k.port) →
-              (l : ℕ) × (l < (w.at v).coming) × At_level l
+              (l : ℕ) × (l < (w.at v).coming) × At_level g ground w holds lives S closed trees ports l
           go (Test_there le) =
               lower (above (w.at (far g k.node k.port)) (w.at k.node).head.level (w.at k.node).head.name
               (w.seen (far g k.node k.port) (far_port g k.node k.port)).tests le ((holds.links k.node k.port at).tests.probing k.probe).from
@@ -333,129 +486,7 @@ module _ (g : Network) (ground : Ground g) (w : Scene) (holds : Invariant g w) (
               (stuck k.node k.port at k.member).tests in
               let lt = z.1 in absurd (omega (arith, lt))
 
-  -- a fragment's root, where its Connect is under way
-  pub record OutRoot (v : ℕ) : Type 0 where
-    pub node : ℕ
-    pub port : ℕ
-    pub at : At g node port
-    pub member : S node ≡ true
-    pub same : (w.at node).fragment ≡ (w.at v).fragment
-    pub here : (w.at node).mark port ≡ Branch
-    pub away : is_branch ((w.at (far g node port)).mark (far_port g node port)) ≡ false
-
-  pub data Next (v : ℕ) : Type 0 where
-    Lower : (l : ℕ) → l < (w.at v).coming → At_level l → Next v
-    Outward : OutRoot v → Next v
-
-  next : (v : ℕ) → InNetwork g v → S v ≡ true → (w.at v).head.phase ≢ Sleeping → Next v
-  next v is m awake = by_root (root_of (reach v is m awake) m)
-    where
-      lower : (x : ℕ) → (w.at x).fragment ≡ (w.at v).fragment → (l : ℕ) × (l < (w.at x).coming) × At_level l → Next v
-      lower x e t = let lt = t.1 in let c = (holds.trees.by_fragment x v e).0 in Lower t.0 (omega (arith, lt, c)) t.2
-
-      phase_of : (x p : ℕ) → At g x p → (w.at x).mark p ≡ Branch → ((w.at x).head.phase ≡ Found) ⊎ ((w.at x).head.phase ≡ Find)
-      phase_of x p at b = go (w.at x).head.phase refl
-        where
-          go : (s : Phase) → (w.at x).head.phase ≡ s → ((w.at x).head.phase ≡ Found) ⊎ ((w.at x).head.phase ≡ Find)
-          go Found e = inl e
-          go Find e = inr e
-          go Sleeping e = absurd (((holds.nodes x (record { some = at.some; node = at.node })).untouched e).marks p b)
-
-      by_core : (a j : ℕ) → S a ≡ true → (w.at a).fragment ≡ (w.at v).fragment → RootLink g (forest w) a j → Next v
-      by_core a j y e r =
-          ⊎_elim
-          (λ f. ⊎_elim (λ f'. absurd (not_done a j y r f f')) (λ f'.
-          lower (far g a j) (sym (holds.trees.joined_within a j r.at r.joined) ∙ e)
-          (search_lower (far g a j)
-          (record { some = (ground.wired.there a j r.at).some; node = (ground.wired.there a j r.at).node }) (closed a j r.at y) f'))
-          (phase_of (far g a j) (far_port g a j) (ground.wired.there a j r.at) (branch_mark _ r.joined.there)))
-          (λ f. lower a e (search_lower a (record { some = r.at.some; node = r.at.node }) y f))
-          (phase_of a j r.at (branch_mark _ r.joined.here))
-
-      by_root : RootOf v → Next v
-      by_root z = go z.root
-        where
-          go : Root g (forest w) z.node z.port → Next v
-          go (Goes_out x y) =
-              Outward (record { node = z.node; port = z.port; at = z.at; member = z.member; same = z.same; here = branch_mark _ x; away = y })
-          go (Both_ways x y t) = by_core z.node z.port z.member z.same (record { at = z.at; joined = x; up = y; up_beyond = t })
-
-  module _ (least : ConnectsLeast g w) where
-    module _ (l : ℕ) (low : (x : ℕ) → x < l → At_level x → ⊥) where
-      abbrev P : Key → Type 0
-      P k =
-          (a j : ℕ) → At g a j →
-          S a ≡ true →
-          (w.at a).coming ≡ l →
-          (w.at a).mark j ≡ Branch →
-          is_branch ((w.at (far g a j)).mark (far_port g a j)) ≡ false →
-          (port_at g a j).key ≡ k →
-          ⊥
-
-      out_step : (k : Key) → ((j : Key) → key_lt j k ≡ true → P j) → P k
-      out_step k r a j at m c here away e = go (next y is' m' awake)
-        where
-          y : ℕ
-          y = far g a j
-
-          at' : At g (far g a j) (far_port g a j)
-          at' = ground.wired.there a j at
-
-          is' : InNetwork g (far g a j)
-          is' = record { some = at'.some; node = at'.node }
-
-          m' : S (far g a j) ≡ true
-          m' = closed a j at m
-
-          under : ConnectUnderWay (tree_end (end g w a j)) (tree_end (end g w (far g a j) (far_port g a j)))
-          under = connect a j at here away
-
-          waits : tree_waits (w.at (far g a j)) (far_port g a j) (Connect (w.at a).head.level)
-          waits = connect_waits a j at m here away
-
-          awake : (w.at (far g a j)).head.phase ≢ Sleeping
-          awake = waits.0
-
-          comes : (w.at (far g a j)).coming ≡ l
-          comes =
-              let t = top (far g a j) is' m' awake in let x = waits.1 in let h = under.higher in let v = under.level in omega (arith, t, x, h, v, c)
-
-          go : Next (far g a j) → ⊥
-          go (Lower x lt z) = low x (omega (arith, lt, comes)) z
-          go (Outward o) =
-              ⊎_elim (λ h.
-              r (port_at g o.node o.port).key (subst (λ z. key_lt (port_at g o.node o.port).key z ≡ true) e h) o.node o.port o.at o.member
-              ((holds.trees.by_fragment o.node (far g a j) o.same).0 ∙ comes) o.here o.away refl)
-              (λ h. same h) (cases_Bool _)
-            where
-              not_less : key_lt (port_at g a j).key (port_at g o.node o.port).key ≡ false
-              not_less =
-                  subst (λ z. key_lt z (port_at g o.node o.port).key ≡ false) (ground.wired.same_key a j at)
-                  (least o.node o.port o.at o.here o.away (far g a j) (far_port g a j) at' (sym o.same)
-                  (λ h. under.apart (sym o.same ∙ sym h ∙ ap (λ z. (w.at z).fragment) (ground.wired.back a j at))))
-
-              same : key_lt (port_at g o.node o.port).key (port_at g a j).key ≡ false → ⊥
-              same h =
-                  ⊎_elim (λ t. under.apart (sym o.same ∙ ap (λ z. (w.at z).fragment) (sym t.0)))
-                  (λ t.
-                  let b : (w.at (far g a j)).mark (far_port g a j) ≡ Branch = subst₂ (λ z q. (w.at z).mark q ≡ Branch) (sym t.0) (sym t.1) o.here in
-                  let x : Basic ≡ Branch = sym waits.2 ∙ b in cc)
-                  (ground.keyed a j o.node o.port at o.at (same_key _ _ not_less h))
-
-      none_at : At_level l → ⊥
-      none_at z = go (next z.node z.is z.member z.awake)
-        where
-          go : Next z.node → ⊥
-          go (Lower x lt y) = low x (let c = z.comes in omega (arith, lt, c)) y
-          go (Outward o) =
-              key_descent P out_step (port_at g o.node o.port).key o.node o.port o.at o.member
-              ((holds.trees.by_fragment o.node z.node o.same).0 ∙ z.comes) o.here o.away refl
-
-    below_level : (n l : ℕ) → l < n → At_level l → ⊥
-    below_level zero l lt z = omega (arith, lt)
-    below_level (suc n) l lt z = none_at l (λ x le y. below_level n x (omega (arith, le, lt)) y) z
-
-    -- no net is stuck
-    pub not_stuck : (v : ℕ) → InNetwork g v → S v ≡ true → (w.at v).head.phase ≢ Sleeping → ⊥
-    not_stuck v is m awake =
-        below_level (suc (w.at v).coming) (w.at v).coming (omega arith) (record { node = v; is = is; member = m; awake = awake; comes = refl })
+  -- no net is stuck
+  pub not_stuck : ((v : ℕ) → InNetwork g v → S v ≡ true → (w.at v).head.halted ≢ true) → ConnectsLeast g w → (v : ℕ) → InNetwork g v →
+      S v ≡ true → (w.at v).head.phase ≢ Sleeping → ⊥
+  not_stuck = nobody_awake g ground w holds lives S closed trees ports search_lower

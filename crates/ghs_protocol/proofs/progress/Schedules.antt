@@ -54,7 +54,7 @@ use Rattle.ghs_protocol.proofs.lemmas.Queues.{same_first}
 -- Other nodes' events.
 
 -- what sends do to a queue: something is appended, or nothing
-abbrev Longer : List Message → List Message → Type 0
+abbrev pub Longer : List Message → List Message → Type 0
 Longer q q' = (came : List Message) × (q' ≡ q ++ came)
 
 longer_same : (q q' : List Message) → q' ≡ q → Longer q q'
@@ -75,7 +75,7 @@ send_longer g u w s v p = ⊎_elim
     (put_at_miss w.queue (far g u s.0) (far_port g u s.0) v p (w.queue (far g u s.0) (far_port g u s.0) ++ s.1 ∷ []) ne))
     (one_place (far g u s.0) (far_port g u s.0) v p)
 
-sends_longer : (g : Network) (u : ℕ) (ss : Outgoing) (w : Net) (v p : ℕ) → Longer (w.queue v p) ((send_all g u ss w).queue v p)
+pub sends_longer : (g : Network) (u : ℕ) (ss : Outgoing) (w : Net) (v p : ℕ) → Longer (w.queue v p) ((send_all g u ss w).queue v p)
 sends_longer g u [] w v p = longer_same (w.queue v p) (w.queue v p) refl
 sends_longer g u (s ∷ ss) w v p =
     longer_then (w.queue v p) ((send g u w s).queue v p) ((send_all g u ss (send g u w s)).queue v p) (send_longer g u w s v p)
@@ -165,10 +165,10 @@ module _ (g : Shape) (ok : IsGraph g) where
   leads_joined way = leads_join g ok (links g.keys) AnyLink (λ a p at x. is_key g ok a p at) way
 
   -- a node that links lead to and that has halted ends the component
-  abbrev EndFor : Net → ℕ → Type 0
+  abbrev pub EndFor : Net → ℕ → Type 0
   EndFor w v = (u : ℕ) × (1 ≤ u) × (u ≤ g.nodes) × Joined (links g.keys) v u × HasHalted w u
 
-  end_for : (w : Net) (v : ℕ) → 1 ≤ v → v ≤ g.nodes → (u : ℕ) × Leads (network_of g) AnyLink v u × HasHalted w u → EndFor w v
+  pub end_for : (w : Net) (v : ℕ) → 1 ≤ v → v ≤ g.nodes → (u : ℕ) × Leads (network_of g) AnyLink v u × HasHalted w u → EndFor w v
   end_for w v lo hi h = let z = leads_in h.1 lo hi in (h.0, z.0, z.1, leads_joined h.1, h.2)
 
   -- where each node is joined with one for which there is an end, the run has ended
@@ -360,20 +360,20 @@ patient_runs_are_short g w n b is es p = let a = (patient_left g n.graph b (λ x
 
 -- The end, with wakes.
 
-can_wake : (g : Network) (w : Net) (v : ℕ) → 1 ≤ v → v ≤ g.count → (w.node v).head.phase ≡ Sleeping → (x : Net) × Happens g w (events.Wake v) x
+pub can_wake : (g : Network) (w : Net) (v : ℕ) → 1 ≤ v → v ≤ g.count → (w.node v).head.phase ≡ Sleeping → (x : Net) × Happens g w (events.Wake v) x
 can_wake g w v lo hi s = (reacted g v (waking (w.node v)) w, Woke v (waking (w.node v)) lo hi s (rw s))
 
-woken_is_awake : (g : Network) (w : Net) (v : ℕ) (x : Net) → Happens g w (events.Wake v) x → (x.node v).head.phase ≢ Sleeping
+pub woken_is_awake : (g : Network) (w : Net) (v : ℕ) (x : Net) → Happens g w (events.Wake v) x → (x.node v).head.phase ≢ Sleeping
 woken_is_awake g w _ _ (Woke v d lo hi s r) =
     subst (λ (y : NodeState). y.head.phase ≢ Sleeping) (sym (node_here g v d w))
     (row_awake (w.node v) Wake d (reaction_inverts (w.node v) Wake d tt r))
 
 -- one who may wake sleeps, or none does
 module _ (g : Shape) (may : ℕ → Bool) (w : Net) where
-  abbrev Sleeper : Type 0
+  abbrev pub Sleeper : Type 0
   Sleeper = (v : ℕ) × (1 ≤ v) × (v ≤ g.nodes) × (may v ≡ true) × ((w.node v).head.phase ≡ Sleeping)
 
-  sleeper_to : (k : ℕ) → k ≤ g.nodes → Sleeper ⊎ ((v : ℕ) → 1 ≤ v → v ≤ k → may v ≡ true → (w.node v).head.phase ≢ Sleeping)
+  pub sleeper_to : (k : ℕ) → k ≤ g.nodes → Sleeper ⊎ ((v : ℕ) → 1 ≤ v → v ≤ k → may v ≡ true → (w.node v).head.phase ≢ Sleeping)
   sleeper_to zero le = inr (λ v lo hi can. absurd (omega (arith, lo, hi)))
   sleeper_to (suc k) le = ⊎_elim inl next (sleeper_to k (omega (arith, le)))
     where

@@ -92,3 +92,7 @@ is_whole old s words used run ended = record {
 -- the same world has ended as it had
 pub same_end : (s new : WorldState) → IsSameWorld s new → HasEnded new.net.graph (home new) → HasEnded s.net.graph (home s)
 same_end s new same h = (rw (same.net.graph, same.net.trace) at h)
+
+-- and has a turn left as it had
+pub same_turn : (s new : WorldState) → IsSameWorld s new → has_turn s ≡ true → has_turn new ≡ true
+same_turn s new same h = rw (same.net.trace, same.outs, same.turns, same.last) h

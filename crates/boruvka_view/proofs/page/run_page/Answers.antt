@@ -1,4 +1,5 @@
-use Rattle.std.proofs.Common.{◌∙◌, ap, arith, length, rules, ⊎_elim}
+use Rattle.std.proofs.Common.{◌∙◌, ap, rules, sym}
+use Rattle.std.proofs.lemmas.Bool.{false≢true}
 use Rattle.ghs_page.specs.Page.{page_text}
 use Rattle.peer_network.specs.Network.{network_of}
 use Rattle.boruvka_view.proofs.Front.{front_is_run}
@@ -14,8 +15,4 @@ returns-clause-page c =
 -- a page that is made isn't too large
 pub returns-clause-large : goal.returns-clause-large
 returns-clause-large c =
-    let many = c.if-nodes-gt-PAGE_NODES.false in
-    let nodes = c.nodes.ensures.nodes in
-    let long = c.if-shown-gt-PAGE_EVENTS.false in
-    let shown = ap length c.first_events-shown.ensures in
-    (λ e. search rules, λ large. absurd (⊎_elim (λ m. omega (arith, m, many, nodes)) (λ m. omega (arith, m, long, shown)) large))
+    (λ e. search rules, λ large. absurd (false≢true (sym c.if-is_too_large.false ∙ c.is_too_large.ensures.1 large)))

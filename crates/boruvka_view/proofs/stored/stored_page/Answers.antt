@@ -7,3 +7,8 @@ returns-in-Ok-run_page-clause-run c =
 
 pub returns-in-Ok-run_page-clause-page : goal.returns-in-Ok-run_page-clause-page
 returns-in-Ok-run_page-clause-page c = rw (c.into_graph.ensures, c.in-Ok.ensures.ok.graph) at c.in-Ok-run_page.ensures.page
+
+pub returns-in-Ok-run_page-clause-small : goal.returns-in-Ok-run_page-clause-small
+returns-in-Ok-run_page-clause-small c =
+    let exact = rw (c.into_graph.ensures, c.in-Ok.ensures.ok.graph) at c.in-Ok-run_page.ensures.large in
+    λ large. let made = exact.1 large in cc

@@ -1,4 +1,4 @@
-use Rattle.std.proofs.Common.{arith, ℕ, ◌≤◌, length, rules}
+use Rattle.std.proofs.Common.{arith, ◌≤◌}
 use Rattle.ghs_chart.specs.declared.strip.TheConstants.{COLUMNS}
 use Rattle.ghs_chart.specs.Strip.{count_in, most_in}
 use Rattle.ghs_chart.proofs.Counting.{one_bar_more, within_most}

@@ -4,7 +4,7 @@ use Rattle.ghs_graph.specs.Graph.{IsGraph}
 use Rattle.ghs_sched.specs.Picks.{lawful_events}
 use Rattle.ghs_patient.specs.Runs.{patient_after}
 use Rattle.ghs_waits.specs.Runs.{waiting_after}
-use Rattle.ghs_picking.proofs.BySeed.{HasGoneOn, Laws, at_limit_by_rounds, at_limit_last, at_limit_patient, at_limit_waiting, gone_among, gone_by_rounds, gone_last, is_in_rounds, is_seeded, on_ok_by_rounds, on_ok_last, on_ok_patient, on_ok_seeded, on_ok_waiting}
+use Rattle.ghs_picking.proofs.BySeed.{HasGoneOn, Laws, at_limit_by_rounds, at_limit_in_turn, at_limit_last, at_limit_patient, at_limit_waiting, gone_among, gone_by_rounds, gone_in_turn, gone_last, is_in_rounds, is_seeded, on_ok_by_rounds, on_ok_in_turn, on_ok_last, on_ok_patient, on_ok_seeded, on_ok_waiting}
 use Rattle.ghs_picking.proofs.picking.run_timed.Goals as goal
 
 pub returns-in-Seeded-clause-whole : goal.returns-in-Seeded-clause-whole
@@ -50,6 +50,9 @@ laws_of : (c : goal.After-run_rounds-rounds) → Laws
 laws_of c = record {
   chains = c.law_rounds_are_chains.ensures;
   few = c.law_rounds_are_few.ensures;
+  picks = c.law_picks_are_by_rounds.ensures;
+  awake = c.law_awake_rounds.ensures;
+  fewer = c.law_rounds_are_fewer.ensures;
   short = c.law_runs_by_rounds_are_short.ensures;
   end = c.law_runs_by_rounds_end.ensures;
 }
@@ -127,3 +130,22 @@ returns-in-Lifo-clause-limit c =
     (λ limit. at_limit_last c.args.seed c.args.world.now ran.new.world c.seeded-schedule.result ran.new.schedule c.turns.result ran.result
     c.seeded-schedule.ensures gone c.requires.numbers
     c.turns.ensures.turns c.turns.ensures.few ran.ensures.run ran.ensures.short ran.ensures.fault ran.ensures.ends limit)
+
+pub returns-in-RoundRobin-clause-whole : goal.returns-in-RoundRobin-clause-whole
+returns-in-RoundRobin-clause-whole c =
+    let ran = c.run_round_robin in
+    let gone : HasGoneOn c.args.world.now ran.new.world =
+    gone_in_turn c.args.world.now ran.new.world c.turns.result c.requires.trace c.requires.numbers c.turns.ensures.turns c.turns.ensures.few
+    ran.ensures.run in
+    rw c.in-RoundRobin.is
+    (on_ok_in_turn c.args.world.now ran.new.world ran.result gone ran.ensures.run ran.ensures.laps ran.ensures.short ran.ensures.halted)
+
+pub returns-in-RoundRobin-clause-limit : goal.returns-in-RoundRobin-clause-limit
+returns-in-RoundRobin-clause-limit c =
+    let ran = c.run_round_robin in
+    let gone : HasGoneOn c.args.world.now ran.new.world =
+    gone_in_turn c.args.world.now ran.new.world c.turns.result c.requires.trace c.requires.numbers c.turns.ensures.turns c.turns.ensures.few
+    ran.ensures.run in
+    rw c.in-RoundRobin.is
+    (λ limit. at_limit_in_turn c.args.world.now ran.new.world c.turns.result ran.result gone c.requires.numbers
+    c.turns.ensures.turns c.turns.ensures.few ran.ensures.run ran.ensures.laps ran.ensures.short ran.ensures.fault ran.ensures.ends limit)

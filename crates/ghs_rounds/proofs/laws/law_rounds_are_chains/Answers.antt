@@ -1,3 +1,4 @@
+use Rattle.ghs_rounds.proofs.AnyOrder.{by_numbers}
 use Rattle.ghs_rounds.proofs.Steps.{Promised}
 use Rattle.ghs_rounds.proofs.Told.{rounds_are_chains}
 use Rattle.ghs_rounds.proofs.laws.law_rounds_are_chains.Goals as goal
@@ -13,4 +14,4 @@ returns c =
       awake = c.law_awake.ensures;
     } in
     λ may g turns words es r after ok by ended.
-    rounds_are_chains law c.law_rules.ensures c.law_patience_lasts.ensures may g ok turns words es r after by ended
+    rounds_are_chains law c.law_rules.ensures c.law_patience_lasts.ensures may g ok es r (by_numbers may g turns words es r after by) ended

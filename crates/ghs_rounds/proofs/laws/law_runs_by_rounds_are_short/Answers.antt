@@ -1,5 +1,6 @@
-use Rattle.ghs_rounds.proofs.Steps.{Promised}
+use Rattle.ghs_rounds.proofs.AnyOrder.{by_numbers}
 use Rattle.ghs_rounds.proofs.Short.{runs_are_short}
+use Rattle.ghs_rounds.proofs.Steps.{Promised}
 use Rattle.ghs_rounds.proofs.laws.law_runs_by_rounds_are_short.Goals as goal
 
 pub returns : goal.returns
@@ -13,5 +14,5 @@ returns c =
       awake = c.law_awake.ensures;
     } in
     λ may g turns words es r after ok b bound by.
-    runs_are_short law c.law_rules.ensures c.law_patience_lasts.ensures may g ok turns words c.law_takes.ensures c.law_ledger.ensures
-    c.law_bound.ensures b bound es r after by
+    runs_are_short law c.law_rules.ensures c.law_patience_lasts.ensures may g ok c.law_takes.ensures c.law_ledger.ensures
+    c.law_bound.ensures b bound es r (by_numbers may g turns words es r after by)

@@ -1,5 +1,6 @@
-use Rattle.ghs_rounds.proofs.Steps.{Promised}
+use Rattle.ghs_rounds.proofs.AnyOrder.{by_numbers}
 use Rattle.ghs_rounds.proofs.Short.{runs_are_shorter}
+use Rattle.ghs_rounds.proofs.Steps.{Promised}
 use Rattle.ghs_rounds.proofs.laws.law_runs_by_rounds_end.Goals as goal
 
 pub returns : goal.returns
@@ -13,5 +14,6 @@ returns c =
       awake = c.law_awake.ensures;
     } in
     λ may g turns words es r after ok all b bound by going.
-    runs_are_shorter law c.law_rules.ensures c.law_patience_lasts.ensures c.law_takes.ensures c.law_ledger.ensures c.law_bound.ensures may g ok turns
-    words all b bound es r after by going
+    runs_are_shorter law c.law_rules.ensures c.law_patience_lasts.ensures may g ok c.law_takes.ensures c.law_ledger.ensures
+    c.law_bound.ensures all b bound es r
+    (by_numbers may g turns words es r after by) going

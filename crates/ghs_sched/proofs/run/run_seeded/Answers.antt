@@ -1,5 +1,5 @@
 use Rattle.std.proofs.Common.{◌∙◌, sym}
-use Rattle.ghs_sched.proofs.lemmas.Running.{is_whole, not_so, run_begins, run_more, run_stays, same_end}
+use Rattle.ghs_sched.proofs.lemmas.Running.{is_whole, not_so, run_begins, run_more, run_stays, same_end, same_turn}
 use Rattle.ghs_sched.proofs.run.run_seeded.Goals as goal
 
 pub events-init : goal.events-init
@@ -16,6 +16,9 @@ returns-in-Err-clause-run c = rw c.in-Err.ensures.word
 
 pub returns-in-Err-clause-going : goal.returns-in-Err-clause-going
 returns-in-Err-clause-going c = λ h. not_so c.ended.result c.ended.ensures.ended c.events-test.true (same_end _ _ c.in-Err.ensures.err h)
+
+pub returns-in-Err-clause-at_limit : goal.returns-in-Err-clause-at_limit
+returns-in-Err-clause-at_limit c = λ e. same_turn _ _ c.in-Err.ensures.err (sym c.has_turn.ensures ∙ c.if-not-has_turn.false)
 
 pub returns-clause-whole : goal.returns-clause-whole
 returns-clause-whole c =

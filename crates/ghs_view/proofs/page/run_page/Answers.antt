@@ -1,4 +1,5 @@
-use Rattle.std.proofs.Common.{◌∙◌, ap, arith, length, rules, ⊎_elim}
+use Rattle.std.proofs.Common.{◌∙◌, ap, rules, sym}
+use Rattle.std.proofs.lemmas.Bool.{false≢true}
 use Rattle.ghs_page.specs.Page.{page_text}
 use Rattle.peer_network.specs.Network.{network_of}
 use Rattle.ghs_view.proofs.Front.{front_is_run}
@@ -11,15 +12,11 @@ data_of-requires-clause-run c =
 pub returns-clause-page : goal.returns-clause-page
 returns-clause-page c = record {
   bound = c.bound-most.result;
-  is_bound = rw (c.nodes-2.ensures.nodes, c.links.ensures) at c.bound-most.ensures;
+  is_bound = rw (c.nodes.ensures.nodes, c.links.ensures) at c.bound-most.ensures;
   printed = c.in_ok-page.ensures ∙ ap page_text (c.deref.ensures.value ∙ rw c.first_events-shown.ensures at c.in_ok-data.ensures);
 }
 
 -- a page that is made isn't too large
 pub returns-clause-large : goal.returns-clause-large
 returns-clause-large c =
-    let many = c.if-nodes-gt-PAGE_NODES.false in
-    let nodes = c.nodes.ensures.nodes in
-    let long = c.if-shown-gt-PAGE_EVENTS.false in
-    let shown = ap length c.first_events-shown.ensures in
-    (λ e. search rules, λ large. absurd (⊎_elim (λ m. omega (arith, m, many, nodes)) (λ m. omega (arith, m, long, shown)) large))
+    (λ e. search rules, λ large. absurd (false≢true (sym c.if-is_too_large.false ∙ c.is_too_large.ensures.1 large)))

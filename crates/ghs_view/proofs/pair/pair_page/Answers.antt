@@ -1,4 +1,5 @@
-use Rattle.std.proofs.Common.{◌≡◌, ◌∙◌, ap, arith, length, rules, sym, ⊎_elim, ℕ, List}
+use Rattle.std.proofs.Common.{◌≡◌, ◌∙◌, ap, rules, sym, ⊎_elim, ℕ, List}
+use Rattle.std.proofs.lemmas.Bool.{false≢true}
 use Rattle.ghs_page.specs.Page.{pair_text}
 use Rattle.peer_network.specs.Network.{network_of}
 use Rattle.ghs_view.specs.RunPage.{run_json}
@@ -21,7 +22,7 @@ returns-clause-page c =
     c.deref-2.ensures.value ∙ rw (c.first_events-beside.ensures, c.in_ok-same.ensures) at c.in_ok-other.ensures in
     record {
       bound = c.bound-most.result;
-      is_bound = rw (c.nodes-2.ensures.nodes, c.links.ensures) at c.bound-most.ensures;
+      is_bound = rw (c.nodes.ensures.nodes, c.links.ensures) at c.bound-most.ensures;
       printed =
           c.in_ok-pair_page.ensures ∙ (ap (λ text. pair_text text c.deref-2.result.now) first
           ∙ ap (pair_text (run_json c.args.graph c.args.first.now c.args.from c.args.to c.bound-most.result)) second);
@@ -29,15 +30,8 @@ returns-clause-page c =
 
 -- a page that is made isn't too large
 pub returns-clause-large : goal.returns-clause-large
-returns-clause-large c =
-    let many = c.if-nodes-gt-PAGE_NODES.false in
-    let nodes = c.nodes.ensures.nodes in
-    let long = c.if-shown-gt-PAGE_EVENTS.false in
-    let shown = ap length c.first_events-shown.ensures in
-    let longer = c.if-beside-gt-PAGE_EVENTS.false in
-    let beside = ap length c.first_events-beside.ensures in (
-      λ e. search rules,
-      λ large. absurd (⊎_elim
-          (λ first. ⊎_elim (λ m. omega (arith, m, many, nodes)) (λ m. omega (arith, m, long, shown)) first)
-          (λ second. ⊎_elim (λ m. omega (arith, m, many, nodes)) (λ m. omega (arith, m, longer, beside)) second) large),
-    )
+returns-clause-large c = (
+  λ e. search rules,
+  λ large. absurd (⊎_elim (λ first. false≢true (sym c.if-is_too_large.false ∙ c.is_too_large.ensures.1 first))
+      (λ second. false≢true (sym c.if-is_too_large-2.false ∙ c.is_too_large-else-is_too_large.ensures.1 second)) large),
+)

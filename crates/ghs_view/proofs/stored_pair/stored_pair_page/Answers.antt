@@ -27,3 +27,8 @@ returns-in-Err-TooLarge-clause-fault c =
       },
       rw c.in-Ok.ensures.graph at large,
     )
+
+pub returns-in-Ok-pair_page-clause-small : goal.returns-in-Ok-pair_page-clause-small
+returns-in-Ok-pair_page-clause-small c =
+    let exact = rw c.in-Ok.ensures.graph at c.in-Ok-pair_page.ensures.large in
+    λ large. let made = exact.1 large in cc

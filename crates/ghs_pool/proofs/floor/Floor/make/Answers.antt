@@ -10,8 +10,7 @@ nodes_stay notes old new is same = is ∙ sym (ap (λ (g : Shape). g.nodes) same
 pub invariant_of-self : goal.invariant_of-self
 invariant_of-self g c =
     let ok = c.in-Ok.ensures in
-    let notes = c.put_each.ensures ∙ c.self.invariant.1 in
-    (goes_on _ _ _ c.self.invariant.0 (goes_made _ _ _ ok.made ok.published), nodes_stay _ _ _ notes ok.made.graph)
+    (goes_on _ _ _ c.self.invariant.0 (goes_made _ _ _ ok.made ok.published), nodes_stay _ _ _ c.self.invariant.1 ok.made.graph)
 
 pub invariant_of-self-in-Err : goal.invariant_of-self-in-Err
 invariant_of-self-in-Err g c =

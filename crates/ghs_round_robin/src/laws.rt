@@ -1,0 +1,12 @@
+//! What holds of every run. The laws are functions that do nothing.
+ghost use Rattle.ghs_round_robin.specs.Laws.{TurnIsOne, WakesComeFirst};
+
+/// One event at most is next in turn, so the run is determined.
+pub fn law_turn_is_one()
+    ensures { TurnIsOne }
+{}
+
+/// Each wake is one of the first lap.
+pub fn law_wakes_come_first()
+    ensures { WakesComeFirst }
+{}
