@@ -10,12 +10,12 @@ use crate::row_name::RowName;
 use crate::sent::Sent;
 use crate::words::{mark_word, phase_word, put_key, row_word};
 use boruvka_node::message::Message;
-use ghs_core::net::node_of;
 use ghs_graph::key::Key;
 use ghs_lines::numbers::put_number;
 use ghs_steps::moment::port_of;
 use peer_machine::event::Event;
 use peer_machine::work::Work;
+use peer_network::event::node_of;
 use std::alloc::AllocError;
 
 /// Appends the line of a step: ten fields, one blank between them, and a line feed. The total is that of all messages sent by

@@ -7,11 +7,11 @@ ghost use Rattle.boruvka_steps.specs.Step.{moment_of};
 use crate::row_name::{RowName, row_of};
 use boruvka::protocol::Boruvka;
 use boruvka_node::message::Message;
-use ghs_core::net::node_of;
 use ghs_steps::sent::far_end;
 use peer_machine::event::Event;
 use peer_machine::work::Work;
 use peer_net::net::Net;
+use peer_network::event::node_of;
 
 /// An event of a run, and what a line says of it before it happens.
 #[derive(Clone, Copy, Debug)]

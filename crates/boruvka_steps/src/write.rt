@@ -19,12 +19,12 @@ use boruvka::protocol::Boruvka;
 use boruvka_node::react::react;
 use ghs_choices::choice::Choice;
 use ghs_choices::form::Form;
-use ghs_core::net::node_of;
 use ghs_gr::device::Sink;
 use ghs_graph::graph::Graph;
 use ghs_report::portions::{WriteFault, send_off, send_portion};
 use peer_machine::event::Event;
 use peer_net::net::Net;
+use peer_network::event::node_of;
 use std::alloc::{AllocError, Global};
 
 /// What an event has done.

@@ -2,10 +2,10 @@
 ghost use Rattle.ghs_chain.specs.Kept.{AreChainsOf};
 
 use crate::chains::Chains;
-use ghs_core::net::{Net, is_asleep, node_of};
+use ghs_core::net::{Net, is_asleep};
 use ghs_following::follower::Follower;
 use ghs_node::delta::{Delta, Fate};
-use peer_network::event::Event;
+use peer_network::event::{Event, node_of};
 use std::alloc::AllocError;
 
 /// Chains follow the events of their run.

@@ -39,7 +39,7 @@ use ghs_node::message::{Message, Phase};
 use ghs_node::node::Node;
 use ghs_node::work::Work;
 use peer_index::placed::Placed;
-use peer_network::event::Event;
+use peer_network::event::{Event, node_of};
 use std::alloc::{AllocError, Global};
 use std::marker::Model;
 
@@ -512,16 +512,6 @@ impl Net {
         ensures { result ≡ first_queue self.now.channels (event_node event) }
     {
         self.channels.start(node_of(event))
-    }
-}
-
-/// The node at which an event happens.
-pub fn node_of(event: Event) -> u32
-    ensures { result ≡ event_node event }
-{
-    match event {
-        Event::Wake(v) => v,
-        Event::Take(v, _) => v,
     }
 }
 

@@ -6,10 +6,10 @@ ghost use Rattle.ghs_protocol.specs.Run.{IsRun};
 ghost use Rattle.std.specs.Prelude.{[], ◌≡◌, ◌++◌, ◌<◌, ◌≤◌, ◌^◌, ◌∷◌, length, OnOk};
 
 use crate::follower::Follower;
-use ghs_core::net::{Net, node_of};
+use ghs_core::net::Net;
 use ghs_graph::graph::Graph;
 use ghs_node::react::react;
-use peer_network::event::Event;
+use peer_network::event::{Event, node_of};
 use std::alloc::{AllocError, Global};
 
 /// Plays the events of a run once more, each followed before it happens. O(1) for each event and each message, beside what

@@ -10,8 +10,7 @@ ghost use Rattle.ghs_lifo.specs.Kept.{AreFor, AreNumbers, AreRanks, AreRanksBut,
 ghost use Rattle.ghs_lifo.specs.Runs.{IsLatestIn, NoTakeMovesIn, newest_in};
 
 use crate::numbers::Numbers;
-use ghs_core::event::Event;
-use ghs_core::net::node_of;
+use ghs_core::event::{Event, node_of};
 use ghs_maxima::maxima::Maxima;
 use ghs_node::delta::Delta;
 use ghs_node::head::Head;

@@ -14,14 +14,14 @@ ghost use Rattle.ghs_parts.specs.Tally.{HasAdded, IsTally, part_at, parts_kept};
 use crate::part::Part;
 use crate::rule::{RULES, rule_place};
 use ghs_choices::by::By;
-use ghs_core::net::{Net, node_of};
+use ghs_core::net::Net;
 use ghs_graph::graph::Graph;
 use ghs_node::delta::Delta;
 use ghs_node::level::TOP_LEVEL;
 use ghs_node::message::Message;
 use ghs_node::react::react;
 use ghs_node::row_name::{RowName, row_of};
-use peer_network::event::Event;
+use peer_network::event::{Event, node_of};
 use std::alloc::{AllocError, Global};
 
 /// The figures of a run by part, one part behind another: all nodes from 1 on, the levels from 0 to the greatest that a

@@ -4,8 +4,7 @@ ghost use Rattle.peer_index.specs.Places.{HasPlace, place};
 ghost use Rattle.peer_network.specs.Network.{Network};
 ghost use Rattle.std.specs.Prelude.{◌≡◌, nat_lt};
 
-use ghs_core::event::Event;
-use ghs_core::net::node_of;
+use ghs_core::event::{Event, node_of};
 
 /// How many of its node's ports stand at an event's place or before it.
 pub fn ports_done(event: Event) -> u64

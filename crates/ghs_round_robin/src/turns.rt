@@ -8,8 +8,7 @@ ghost use Rattle.peer_network.specs.declared.event.Event.TheVariants.{Wake};
 ghost use Rattle.std.specs.Prelude.{[], suc, ◌≡◌, ◌≢◌, ◌≤◌, MatchOption};
 
 use crate::order::{is_before, ports_done};
-use ghs_core::event::Event;
-use ghs_core::net::node_of;
+use ghs_core::event::{Event, node_of};
 use ghs_world::world::World;
 
 /// The event that is next in turn, if anything may happen: the first behind the last event of the trace, and else the first

@@ -13,8 +13,7 @@ ghost use Rattle.ghs_patient.specs.Choices.{IsMarked, IsStirred, far_takes};
 ghost use Rattle.ghs_rounds.specs.Choices.{AreChoices, AreChoicesBut, AreFor, events_of, hides_in, marked, marked_all, marked_to, moves_in};
 
 use crate::clock::Clock;
-use ghs_core::event::Event;
-use ghs_core::net::node_of;
+use ghs_core::event::{Event, node_of};
 use ghs_node::delta::Delta;
 use ghs_node::head::Head;
 use ghs_node::message::Message;

@@ -9,10 +9,9 @@ ghost use Rattle.std.specs.List.{All};
 ghost use Rattle.std.specs.Prelude.{◌≡◌, ℕ, ◌-◌, ◌<◌, ◌≤◌, ◌^◌, suc, IfOk, length, OnOk};
 
 use ghs_chain::chains::Chains;
-use ghs_core::net::node_of;
 use ghs_graph::graph::Graph;
 use ghs_node::delta::Delta;
-use peer_network::event::Event;
+use peer_network::event::{Event, node_of};
 use std::alloc::{AllocError, Global};
 use std::marker::Model;
 

@@ -15,13 +15,13 @@ ghost use Rattle.ghs_world.specs.WorldState.{has_turn, home};
 
 use crate::choices::Choices;
 use crate::clock::Clock;
-use ghs_core::net::{is_asleep, node_of};
+use ghs_core::net::is_asleep;
 use ghs_graph::graph::Graph;
 use ghs_node::delta::Delta;
 use ghs_node::message::Message;
 use ghs_protocol::interleavings::law_patience_lasts;
 use ghs_world::world::World;
-use peer_network::event::Event;
+use peer_network::event::{Event, node_of};
 use peer_schedule::schedule::Schedule;
 use std::alloc::{AllocError, Global};
 use std::marker::Model;

@@ -2,9 +2,9 @@
 ghost use Rattle.ghs_core.specs.NetState.{IsLawful, IsAnswer};
 
 use crate::comparing::assert_same;
-use ghs_core::event::Event;
+use ghs_core::event::{Event, node_of};
 use ghs_core::ledger::Ledger;
-use ghs_core::net::{Net, node_of};
+use ghs_core::net::Net;
 use ghs_graph::graph::Graph;
 use ghs_graph::key::Key;
 use ghs_node::delta::Delta;

@@ -13,8 +13,7 @@ ghost use Rattle.ghs_world.specs.Ready.{ready_events};
 ghost use Rattle.ghs_waits.specs.Marks.{AreMarks, AreMarksBut, marked, marked_all, marked_to};
 ghost use Rattle.ghs_waits.specs.Waiting.{waiting_in};
 
-use ghs_core::event::Event;
-use ghs_core::net::node_of;
+use ghs_core::event::{Event, node_of};
 use ghs_node::delta::Delta;
 use ghs_node::head::Head;
 use ghs_node::message::Message;

@@ -1,6 +1,6 @@
 //! Nodes and nets of one thread.
-use ghs_core::event::Event;
-use ghs_core::net::{Net, node_of};
+use ghs_core::event::{Event, node_of};
+use ghs_core::net::Net;
 use ghs_graph::graph::Graph;
 use ghs_graph::port::Port;
 use ghs_node::fault::NodeFault;

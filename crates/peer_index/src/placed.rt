@@ -5,7 +5,7 @@ ghost use Rattle.peer_network.specs.Events.{event_node};
 ghost use Rattle.peer_network.specs.Network.{At, Network};
 ghost use Rattle.peer_index.specs.Places.{IsPlaced};
 
-use peer_network::event::Event;
+use peer_network::event::{Event, node_of};
 
 /// An event, and where those of its node begin among all events: so nobody who has one looks that up.
 #[derive(Clone, Copy, Debug)]
@@ -42,9 +42,6 @@ impl Placed {
     pub fn node(self) -> u32
         ensures { result ≡ event_node self.event }
     {
-        match self.event {
-            Event::Wake(v) => v,
-            Event::Take(v, _) => v,
-        }
+        node_of(self.event)
     }
 }

@@ -1,4 +1,6 @@
 //! What may happen in a network.
+ghost use Rattle.std.specs.Prelude.{◌≡◌};
+ghost use Rattle.peer_network.specs.Events.{event_node};
 
 /// An event of the network: a sleeping node wakes by itself, or a node takes the first message that waits at
 /// one of its ports. Nodes are numbered from 1, ports from 0.
@@ -11,4 +13,14 @@
 pub enum Event {
     Wake(u32),
     Take(u32, u32),
+}
+
+/// The node at which an event happens.
+pub fn node_of(event: Event) -> u32
+    ensures { result ≡ event_node event }
+{
+    match event {
+        Event::Wake(v) => v,
+        Event::Take(v, _) => v,
+    }
 }

@@ -12,6 +12,7 @@ use peer_index::index::Index;
 use peer_machine::protocol::Protocol;
 use peer_net::event::Event;
 use peer_net::net::Net;
+use peer_network::event::node_of;
 use peer_network::wake_set::WakeSet;
 use std::alloc::{AllocError, Global};
 
@@ -72,14 +73,4 @@ fn mark<P: Protocol>(index: &mut Index, net: &Net<P>, wake: WakeSet, event: Even
         IsIndexBut (network net.now) (lawful_in P.rules net.now wake) others index.new }
 {
     index.set(net.graph(), event, may_happen(net, wake, event));
-}
-
-/// The node of an event.
-fn node_of(event: Event) -> u32
-    ensures { result ≡ event_node event }
-{
-    match event {
-        Event::Wake(v) => v,
-        Event::Take(v, _) => v,
-    }
 }
