@@ -1,5 +1,5 @@
 //! What holds of every run. The laws are functions that do nothing.
-ghost use Rattle.ghs_round_robin.specs.Laws.{TurnIsOne, WakesComeFirst};
+ghost use Rattle.ghs_round_robin.specs.Laws.{LapsAreFair, TurnIsOne, WakesComeFirst};
 
 /// One event at most is next in turn, so the run is determined.
 pub fn law_turn_is_one()
@@ -9,4 +9,10 @@ pub fn law_turn_is_one()
 /// Each wake is one of the first lap.
 pub fn law_wakes_come_first()
     ensures { WakesComeFirst }
+{}
+
+/// It is weakly fair: each of its laps, the last once it is completed, takes from each port that holds a message that doesn't wait
+/// when the lap begins.
+pub fn law_laps_are_fair()
+    ensures { LapsAreFair }
 {}

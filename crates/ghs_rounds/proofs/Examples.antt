@@ -1,14 +1,15 @@
 -- Runs by rounds of three nodes, computed from the moments of sending: the triangle, where all wake, and where the first node does.
-use Rattle.std.proofs.Common.{◌≡◌, ℕ, zero, suc, ◌+◌, ◌*◌, ◌^◌, ◌≤◌, Bool, true, false, ◌&&◌, not, Option, Some, None, List, [], ◌∷◌, ◌++◌, length, refl, sym, subst, ⊎_elim, arith, pow_mono}
+use Rattle.std.proofs.Common.{◌≡◌, ◌≢◌, ℕ, zero, suc, ◌+◌, ◌*◌, ◌^◌, ◌≤◌, ◌==◌, Bool, true, false, ◌&&◌, not, Option, Some, None, List, [], ◌∷◌, ◌++◌, length, cond, refl, sym, ◌∙◌, ap₂, subst, ⊎_elim, arith, pow_mono}
 use Rattle.std.specs.List.{Contains}
 use Rattle.std.proofs.lemmas.Bool.{and_parts, both_ways, cases_eq, not-true}
-use Rattle.ghs_graph.specs.Bound.{IsFloorLog2}
+use Rattle.ghs_graph.specs.Bound.{IsBound, IsFloorLog2}
 use Rattle.ghs_graph.specs.declared.key.Key.{Key}
 use Rattle.ghs_graph.specs.Graph.{Shape, IsGraph}
 use Rattle.ghs_graph.specs.Links.{AreAmong, Back, IsRising, Joined, Same, links}
 use Rattle.ghs_graph.specs.Ports.{ports_of}
-use Rattle.ghs_graph.proofs.lemmas.Members.{first_in, later_in}
+use Rattle.ghs_graph.proofs.lemmas.Members.{first_in, in_cases, later_in, nothing_in}
 use Rattle.ghs_node.specs.declared.delta.Delta.{Delta}
+use Rattle.ghs_node.specs.declared.message.Phase.TheVariants.{Sleeping}
 use Rattle.ghs_node.specs.Reaction.{reaction}
 use Rattle.peer_network.specs.declared.event.Event.{Event}
 use Rattle.peer_network.specs.declared.event.Event.TheVariants.{Wake, Take}
@@ -19,7 +20,8 @@ use Rattle.ghs_protocol.specs.Net.{Net}
 use Rattle.ghs_protocol.specs.Run.{net_after}
 use Rattle.ghs_core.specs.NetState.{work_at}
 use Rattle.ghs_chain.specs.Chains.{chains_of, longest_chain}
-use Rattle.ghs_rounds.specs.Moments.{Happened, IsByRounds, Moments, Passed, Stands, moved, none_sent, round_of}
+use Rattle.ghs_rounds.specs.Laws.{IsSimple}
+use Rattle.ghs_rounds.specs.Moments.{GoesByRounds, Happened, IsByRounds, Moments, Passed, Stands, moved, none_sent, round_of}
 
 -- The run in which always the first event of the round happens.
 
@@ -67,7 +69,7 @@ module _ (may : ℕ → Bool) (g : Shape) where
   steps zero m = m
   steps (suc n) m = steps n (step m)
 
-  -- they make a run by rounds
+  -- they make a run by rounds, and go on from any of its moments by rounds
   halted_not : (w : Net) (n : ℕ) → none_halted w n ≡ true → (u : ℕ) → 1 ≤ u → u ≤ n → HasHalted w u → ⊥
   halted_not w zero t u lo hi h = omega (arith, lo, hi)
   halted_not w (suc n) t u lo hi h =
@@ -83,29 +85,30 @@ module _ (may : ℕ → Bool) (g : Shape) where
   going_on : (m : Moment) → 1 ≤ g.nodes → none_halted (net m) g.nodes ≡ true → HasEnded g (net m) → ⊥
   going_on m some t ended = let z = ended 1 (omega arith) some in halted_not (net m) g.nodes t z.0 z.1 z.2 z.4
 
-  abbrev Is : Moment → Type 0
-  Is m = IsByRounds may g m.events m.round m.sent
+  -- from one moment to another
+  abbrev Goes : Moment → Moment → Type 0
+  Goes s m = GoesByRounds may g s.events s.round s.sent m.events m.round m.sent
 
-  step_is : 1 ≤ g.nodes → (m : Moment) → Is m → Is (step m)
-  step_is some m is = if_so (none_halted (net m) g.nodes) refl
+  step_goes : 1 ≤ g.nodes → (s m : Moment) → Goes s m → Goes s (step m)
+  step_goes some s m is = if_so (none_halted (net m) g.nodes) refl
     where
       by_so : (HasEnded g (net m) → ⊥) → (es : List Event) → now m ≡ es → (e : Event) → Contains es e → (o : Option Delta) → answer m e ≡ o →
-          Is (by_answer m e o)
+          Goes s (by_answer m e o)
       by_so going es same e one None a = is
       by_so going es same e one (Some d) a =
           Happened m.events m.round m.sent e d is going (subst (λ (l : List Event). Contains l e) (sym same) one) a
 
-      go : (HasEnded g (net m) → ⊥) → (es : List Event) → now m ≡ es → Is (by_events m es)
+      go : (HasEnded g (net m) → ⊥) → (es : List Event) → now m ≡ es → Goes s (by_events m es)
       go going [] same = Passed m.events m.round m.sent is going same
       go going (e ∷ es) same = by_so going (e ∷ es) same e (first_in e es) (answer m e) refl
 
-      if_so : (b : Bool) → none_halted (net m) g.nodes ≡ b → Is (if_going b m (by_events m (now m)))
+      if_so : (b : Bool) → none_halted (net m) g.nodes ≡ b → Goes s (if_going b m (by_events m (now m)))
       if_so true t = go (going_on m some t) (now m) refl
       if_so false t = is
 
-  steps_are : 1 ≤ g.nodes → (n : ℕ) (m : Moment) → Is m → Is (steps n m)
-  steps_are some zero m is = is
-  steps_are some (suc n) m is = steps_are some n (step m) (step_is some m is)
+  steps_go : 1 ≤ g.nodes → (n : ℕ) (s m : Moment) → Goes s m → Goes s (steps n m)
+  steps_go some zero s m is = is
+  steps_go some (suc n) s m is = steps_go some n s (step m) (step_goes some s m is)
 
 -- The triangle, where each node may wake by itself.
 abbrev light : Key
@@ -180,7 +183,7 @@ graph = record { some = omega arith; nodes = omega arith; links = omega arith; a
 by_rounds : IsByRounds all g events 5 end.sent
 by_rounds =
     subst (λ (es : List Event). IsByRounds all g es 5 end.sent) its_events
-    (subst (λ (r : ℕ). IsByRounds all g end.events r end.sent) rounds (steps_are all g (omega arith) 21 opened Stands))
+    (subst (λ (r : ℕ). IsByRounds all g end.events r end.sent) rounds (steps_go all g (omega arith) 21 opened opened Stands))
 
 greatest : (j : ℕ) → 2 ^ j ≤ 3 → j ≤ 1
 greatest zero le = omega arith
@@ -222,3 +225,72 @@ within = omega arith
 chain : longest_chain (network_of g) events ≡ 5
 unfolding chains_of ports_of
 chain = refl
+
+bound : IsBound 3 3 21
+bound = record { levels = 1; log2 = log2; bound = refl }
+
+-- no two of its links have the same ends, since these tell the link
+abbrev by_ends : ℕ → ℕ → Key
+by_ends a b = cond (a == 2) middle (cond (b == 2) light heavy)
+
+told : (k : Key) → Contains g.keys k → k ≡ by_ends k.a k.b
+told k h =
+    let is = λ (x : Key). x ≡ by_ends x.a x.b in
+    ⊎_elim
+    (λ t. ⊎_elim
+    (λ u. ⊎_elim (λ z. absurd (nothing_in k z)) (λ e. subst is e refl) (in_cases heavy k [] u))
+    (λ e. subst is e refl)
+    (in_cases middle k (heavy ∷ []) t))
+    (λ e. subst is e refl)
+    (in_cases light k (middle ∷ heavy ∷ []) h)
+
+simple : IsSimple g
+simple j k at there a b = told j at ∙ ap₂ by_ends a b ∙ sym (told k there)
+
+-- The triangle, where only node 1 may wake by itself: all are awake in round 3, and it ends in round 7, within the bound for who has woken.
+abbrev first : ℕ → Bool
+first v = v == 1
+
+-- 6 events and 3 ends of rounds, and then 9 and 4
+abbrev woken : Moment
+woken = steps first g 9 opened
+
+abbrev done : Moment
+done = steps first g 13 woken
+
+woken_by_rounds : Goes first g opened woken
+woken_by_rounds = steps_go first g (omega arith) 9 opened opened Stands
+
+goes_on_by_rounds : Goes first g woken done
+goes_on_by_rounds = steps_go first g (omega arith) 13 woken woken Stands
+
+-- its events, the rounds 0 to 3, and those to 7
+abbrev events_to_woken : List Event
+events_to_woken = Wake 1 ∷ Take 2 0 ∷ Take 1 0 ∷ Take 1 0 ∷ Take 2 0 ∷ Take 3 1 ∷ []
+
+abbrev events_to_done : List Event
+events_to_done =
+    Wake 1 ∷ Take 2 0 ∷ Take 1 0 ∷ Take 1 0 ∷ Take 2 0 ∷ Take 3 1 ∷
+    Take 2 1 ∷ Take 3 0 ∷ Take 3 0 ∷ Take 3 0 ∷ Take 3 1 ∷ Take 1 1 ∷ Take 2 1 ∷ Take 2 1 ∷ Take 1 0 ∷ []
+
+its_rounds : (woken.round ≡ 3) × (woken.events ≡ events_to_woken) × (done.round ≡ 7) × (done.events ≡ events_to_done)
+unfolding net_after ports_of
+its_rounds = (refl, refl, refl, refl)
+
+all_are_awake : (v : ℕ) → 1 ≤ v → v ≤ 3 → ((net_after g events_to_woken).node v).head.phase ≢ Sleeping
+unfolding net_after ports_of
+all_are_awake zero lo hi = absurd (omega (arith, lo))
+all_are_awake (suc zero) lo hi = λ e. cc
+all_are_awake (suc (suc zero)) lo hi = λ e. cc
+all_are_awake (suc (suc (suc zero))) lo hi = λ e. cc
+all_are_awake (suc (suc (suc (suc v)))) lo hi = absurd (omega (arith, hi))
+
+done_halted : ((net_after g events_to_done).node 1).head.halted ≡ true
+unfolding net_after ports_of
+done_halted = refl
+
+done_ended : HasEnded g (net_after g events_to_done)
+done_ended v lo hi = (1, omega arith, omega arith, joined v lo hi, done_halted)
+
+done_within : 7 ≤ 3 + (3 * (3 * 1) + 2 * (1 * 1))
+done_within = omega arith

@@ -1,5 +1,6 @@
 -- Rounds by the moments of sending, as the literature has them: each message takes one unit of time, and computing none. In round 0 the nodes wake.
--- In each later round the messages that were sent before it are taken, in whatever order; it is over when each of them was consumed, or waits.
+-- In each later round the messages that were sent before it are taken, in any order, but that one is put back only where none can be consumed. The
+-- round is over when each of them was consumed, or waits, or stands behind one that was sent in the round.
 use Rattle.std.specs.Prelude.{◌≡◌, ℕ, suc, ◌<◌, Bool, false, ◌&&◌, ◌==◌, nat_lt, Option, Some, None, List, [], ◌∷◌, ◌++◌, filter, length}
 use Rattle.std.specs.List.{Contains, slice_get}
 use Rattle.ghs_graph.specs.Graph.{Shape}
@@ -66,8 +67,7 @@ is_before_early r sent (Wake v) = false
 is_before_early r sent (Take v p) = is_before r (slice_get (sent v p) 1)
 
 -- The events of round r: of what was sent before it a message is taken that doesn't wait; where there is none, one that waits makes way for one
--- behind it that was sent before the round. Where there is none of these either, all that was sent before it was consumed, or waits: so the round
--- is over.
+-- behind it that was sent before the round. Where there is none of these either, the round is over.
 abbrev pub round_of : (ℕ → Bool) → Network → Net → Moments → ℕ → List Event
 round_of may g w sent r =
     or_else (filter (λ e. moves_on may g w e && is_early r sent e) (all_events g))
