@@ -4,8 +4,14 @@
 //! Proved: nodes open, react and change as the rules `boruvka` say; in every run of every graph each lawful event has a rule,
 //! and at most 2EK + 3NK + N messages are sent, for N nodes, E links and K the floor of log2 N (the laws of the `impl`).
 //!
-//! So a `Net<Boruvka>` is the net of its run, and what `boruvka_protocol` proves of every run holds of it. Next:
-//! `boruvka_report`, the text of a run that has ended.
+//! So a `Net<Boruvka>` is the net of its run, and what `boruvka_protocol` proves of every run holds of it. Its messages have the
+//! lengths that the rules state (`Measured`). Its runs can be explored (`Explorable`): a face tells the states of a network's
+//! nodes apart, a copy is the same node, messages are compared as they are, on 12 nodes and 20 links no run sends more than
+//! 65,535 messages, and each run comes to its end. Next: `boruvka_report`, the text of a run that has ended.
 #![tactic(auto)]
 
+mod bits;
+mod copy;
+mod explorable;
+mod face;
 pub mod protocol;

@@ -1,5 +1,5 @@
 -- The rules of Borůvka in step, as the rules of a protocol.
-use Rattle.std.specs.Prelude.{ℕ}
+use Rattle.std.specs.Prelude.{ℕ, false}
 use Rattle.ghs_bits.specs.Length.{widths_of}
 use Rattle.peer_machine.specs.Rules.{Rules}
 use Rattle.boruvka_node.specs.declared.message.Message.{Message}
@@ -23,6 +23,7 @@ boruvka = record {
   is_asleep = λ n. is_sleeping n.head.phase;
   has_halted = λ n. n.head.halted;
   reaction = reaction;
+  defers = λ n k. false;
   kinds = 5;
   kind_of = kind_of;
   bits = λ g m. length_of (widths_of g) m;

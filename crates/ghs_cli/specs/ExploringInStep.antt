@@ -4,7 +4,7 @@ use Rattle.boruvka_explore.specs.Text.{IsExploredText}
 use Rattle.boruvka_node.specs.Boruvka.{boruvka}
 use Rattle.ghs_graph.specs.Graph.{Shape}
 use Rattle.peer_explore.specs.Ends.{AreEnds, EndsIn, IsRange, greatest_sum, least_sum}
-use Rattle.peer_explore.specs.Explorable.{IsSmall}
+use Rattle.peer_machine.specs.Explorable.{IsSmall}
 use Rattle.peer_explore.specs.States.{HasMoreStates, HasStates}
 use Rattle.peer_explore.specs.declared.row.EndRow.{EndRow}
 use Rattle.peer_network.specs.declared.event.Event.{Event}

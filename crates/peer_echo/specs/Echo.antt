@@ -60,6 +60,7 @@ echo = record {
   is_asleep = λ n. not n.head.awake;
   has_halted = λ n. n.head.awake && is_none n.head.parent && n.head.awaits == 0;
   reaction = reaction;
+  defers = λ n k. false;
   kinds = 2;
   kind_of = kind_of;
   bits = λ g m. 1;

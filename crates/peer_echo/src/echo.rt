@@ -70,6 +70,12 @@ impl Protocol for Echo {
         }
     }
 
+    fn defers(_node: &Node, _work: Work<Message>) -> bool
+        ensures { result ≡ echo.defers _node.now _work }
+    {
+        false
+    }
+
     fn apply(node: &mut Node, change: &Head) {
         node.head = *change;
     }

@@ -1,5 +1,5 @@
-//! Worked examples of protocols on the second small stack, as tests alone: the echo wave and Borůvka in step, played event by
-//! event, run by a seed, measured and told line by line; and the texts of stored runs, which name their protocol.
+//! Worked examples of protocols on the second small stack, as tests alone: the echo wave, knocking and Borůvka in step, played
+//! event by event, run by a seed, measured and told line by line; and the texts of stored runs, which name their protocol.
 //!
 //! The runs, the texts, the numbers and the bits were reckoned by hand from the rules and the formats, and not taken from what
 //! the program does. The words of a seed are what SplitMix64 and Xoshiro256++ give as their authors publish them. `runs` has the
@@ -22,6 +22,8 @@ mod echo_lengths;
 mod echo_nets;
 #[cfg(test)]
 mod echo_runs;
+#[cfg(test)]
+mod knock_nets;
 #[cfg(test)]
 mod playing;
 #[cfg(test)]

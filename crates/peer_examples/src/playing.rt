@@ -2,8 +2,8 @@
 use ghs_graph::graph::Graph;
 use ghs_test_graphs::build::graph_of;
 use peer_lengths::lengths::{Lengths, lengths_of};
-use peer_lengths::measured::Measured;
 use peer_machine::event::Event;
+use peer_machine::measured::Measured;
 use peer_machine::protocol::Protocol;
 use peer_net::net::Net;
 use peer_network::wake_set::WakeSet;

@@ -1,8 +1,8 @@
 -- The numbers of a run, one event more.
-use Rattle.std.proofs.Common.{◌≡◌, ℕ, suc, ◌+◌, ◌<◌, ◌≤◌, ◌^◌, false, List, [], ◌∷◌, ◌++◌, length, slice_index, sym, ◌∙◌, ap, ap₂, subst, arith, add-one}
+use Rattle.std.proofs.Common.{◌≡◌, ℕ, suc, ◌+◌, ◌<◌, ◌≤◌, ◌^◌, Bool, List, [], ◌∷◌, ◌++◌, length, slice_index, sym, ◌∙◌, ap, ap₂, subst, arith, add-one}
 use Rattle.std.proofs.lemmas.Bool.{and_parts}
 use Rattle.ghs_graph.specs.Graph.{Shape}
-use Rattle.ghs_node.specs.declared.delta.Fate.TheVariants.{Consumed}
+use Rattle.ghs_node.specs.declared.delta.Fate.{Fate}
 use Rattle.peer_network.specs.declared.event.Event.{Event}
 use Rattle.peer_network.specs.declared.event.Event.TheVariants.{Wake, Take}
 use Rattle.peer_network.specs.Network.{network_of}
@@ -16,8 +16,8 @@ use Rattle.peer_machine.specs.Rules.{Rules, Outgoing, HasKinds}
 use Rattle.peer_machine.specs.Net.{Net, event_node, opening}
 use Rattle.peer_machine.specs.Ledger.{in_all}
 use Rattle.peer_machine.specs.Protocol.{IsBoundedBy, FitsGraphs}
-use Rattle.peer_net.specs.NetState.{NetState, network, net_of, IsLawful}
-use Rattle.peer_lengths.specs.Chain.{numbered, numbers_then, numbers_of, longest_chain}
+use Rattle.peer_net.specs.NetState.{NetState, network, net_of, is_deferred, IsLawful}
+use Rattle.peer_lengths.specs.Chain.{numbered, fate_of, numbers_then, numbers_of, longest_chain}
 use Rattle.peer_lengths.specs.Kept.{AreNumbersOf}
 use Rattle.peer_lengths.proofs.lemmas.Following.{followed_more}
 use Rattle.peer_lengths.proofs.Numbering.{run_within}
@@ -42,7 +42,14 @@ module _ {S M : Type 0} (r : Rules S M) where
       value ∙ ap₂ (λ (m : ℕ) (c : Chains). most_below m c.node) count are.same
 
   module _ (s : NetState) (e : Event) (y : Net S M) (ss : Outgoing M) (played : Played r s e y ss) (k k1 : Kept)
-      (are : AreNumbersOf r s.graph s.trace k) (heard : seen k1 ≡ hears e false Consumed (seen k)) where
+      (are : AreNumbersOf r s.graph s.trace k)
+      (heard : seen k1 ≡ hears e (r.is_asleep ((net_of r s).node (event_node e))) (fate_of (is_deferred r (net_of r s) e)) (seen k)) where
+    abbrev asleep : Bool
+    asleep = r.is_asleep ((net_of r s).node (event_node e))
+
+    abbrev fate : Fate
+    fate = fate_of (is_deferred r (net_of r s) e)
+
     -- the sender's number leaves room for what it sends
     pub small : HasKinds r → (bound : Shape → ℕ) → IsBoundedBy r bound → FitsGraphs bound →
         slice_index k1.numbers (event_node e) + length ss < 2 ^ 64
@@ -50,8 +57,8 @@ module _ {S M : Type 0} (r : Rules S M) where
     small kinds bound bounded fit =
         let n = in_all r (net_of r s).sent in
         let within : IsWithin n n (seen k1) =
-        subst (λ (c : Chains). IsWithin n n c) (sym (heard ∙ ap (hears e false Consumed) are.same))
-        (hears_within e n false Consumed _ (run_within r (network s) kinds s.trace (net_of r s) (before r s e y ss played))) in
+        subst (λ (c : Chains). IsWithin n n c) (sym (heard ∙ ap (hears e asleep fate) are.same))
+        (hears_within e n asleep fate _ (run_within r (network s) kinds s.trace (net_of r s) (before r s e y ss played))) in
         let at : slice_index k1.numbers (event_node e) ≤ n = within.node (event_node e) in
         let many = count_more r s e y ss played kinds in
         let limit = few r s e y ss played bound bounded fit in
@@ -65,7 +72,7 @@ module _ {S M : Type 0} (r : Rules S M) where
       fits = f;
       same =
           out ∙ ap₂ (λ (l : Outgoing M) (c : Chains). numbered (network s) (event_node e) l c) (sends_are r s e y ss played)
-          (heard ∙ ap (hears e false Consumed) are.same)
+          (heard ∙ ap (hears e asleep fate) are.same)
           ∙ sym (followed_more r (numbers_then r (network s)) (network s) s.trace e (opening r (network s)) (net_of r s) y no_chains
           (before r s e y ss played) played.event);
     }

@@ -1,10 +1,9 @@
 -- The numbers of nodes and messages: those of messages that go out, and how great they are.
-use Rattle.std.proofs.Common.{◌≡◌, ℕ, suc, ◌+◌, ◌<◌, ◌≤◌, false, Option, Some, None, List, [], ◌∷◌, ◌++◌, length, take, get_or, slice_index, refl, sym, ◌∙◌, ap, subst, arith}
+use Rattle.std.proofs.Common.{◌≡◌, ℕ, suc, ◌+◌, ◌<◌, ◌≤◌, Option, Some, None, List, [], ◌∷◌, ◌++◌, length, take, get_or, slice_index, refl, sym, ◌∙◌, ap, subst, arith}
 use Rattle.std.specs.Prelude.{option_and_then}
 use Rattle.std.proofs.lemmas.List.{take_more}
 use Rattle.std.proofs.lemmas.List.Elements.{All-nil}
 use Rattle.std.proofs.lemmas.Option.{same_Some}
-use Rattle.ghs_node.specs.declared.delta.Fate.TheVariants.{Consumed}
 use Rattle.peer_network.specs.declared.event.Event.{Event}
 use Rattle.peer_network.specs.Network.{Network}
 use Rattle.ghs_chain.specs.Chains.{Chains, no_chains, sent_on}
@@ -17,7 +16,8 @@ use Rattle.peer_machine.specs.Ledger.{in_all}
 use Rattle.peer_machine.specs.Steps.{Happens}
 use Rattle.peer_machine.proofs.lemmas.Events.{happening}
 use Rattle.peer_lengths.specs.Sends.{if_net, sends_at, followed}
-use Rattle.peer_lengths.specs.Chain.{numbered, numbers_then, numbers_of}
+use Rattle.peer_net.specs.NetState.{is_deferred}
+use Rattle.peer_lengths.specs.Chain.{numbered, fate_of, numbers_then, numbers_of}
 use Rattle.peer_lengths.specs.Laws.{ChainsAreSent}
 use Rattle.peer_lengths.proofs.lemmas.Sending.{event_sends}
 
@@ -63,7 +63,8 @@ module _ {S M : Type 0} (r : Rules S M) (g : Network) (kinds : HasKinds r) where
       let count = event_sends r g kinds w x e h in
       more_within (in_all r w.sent + length (sends_at r w e)) (in_all r w.sent + length (sends_at r w e)) _ _ _
       (omega (arith, count)) (omega (arith, count))
-      (numbered_within g (event_node e) (in_all r w.sent) (sends_at r w e) _ (hears_within e (in_all r w.sent) false Consumed c i))
+      (numbered_within g (event_node e) (in_all r w.sent) (sends_at r w e) _
+      (hears_within e (in_all r w.sent) (r.is_asleep (w.node (event_node e))) (fate_of (is_deferred r w e)) c i))
 
   after_within : (es : List Event) (w x : Net S M) (c : Chains) → IsWithin (in_all r w.sent) (in_all r w.sent) c → run r g es w ≡ Some x →
       IsWithin (in_all r x.sent) (in_all r x.sent) (followed r (numbers_then r g) g es w c)

@@ -5,12 +5,12 @@ ghost use Rattle.peer_machine.specs.Run.{IsRun};
 ghost use Rattle.peer_lengths.specs.Sends.{bits_sent, longest_sent};
 ghost use Rattle.peer_lengths.specs.Chain.{longest_chain};
 
-use crate::measured::Measured;
 use crate::numbers::play;
 use crate::sent::{Sent, measure};
 use ghs_chain::chains::Chains;
 use ghs_graph::graph::Graph;
 use peer_machine::event::Event;
+use peer_machine::measured::Measured;
 use peer_net::net::Net;
 use std::alloc::{AllocError, Global};
 

@@ -7,14 +7,10 @@
 //! (`law_sends`), their bits are those of each kind together (`law_bits_by_kind`), no more than if each were as long as the
 //! longest (`law_bits`), and no chain has more messages than were sent (`law_chain`).
 //!
-//! The events are played once more. The lengths are those that the rules state, so chosen and not measured; Borůvka in step
-//! and the echo wave have them here. Worked examples: `peer_examples`. For GHS `ghs_picking` says the same.
+//! The events are played once more. The lengths are those that the rules state, so chosen and not measured. Worked examples: `peer_examples`. For GHS `ghs_picking` says the same.
 #![tactic(auto)]
 
-mod boruvka_bits;
-mod echo_bits;
 pub mod laws;
 pub mod lengths;
-pub mod measured;
 mod numbers;
 mod sent;

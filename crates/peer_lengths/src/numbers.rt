@@ -6,17 +6,17 @@ ghost use Rattle.peer_network.specs.Network.{network_of};
 ghost use Rattle.ghs_chain.specs.Kept.{Fits, seen};
 ghost use Rattle.peer_machine.specs.Net.{happens};
 ghost use Rattle.peer_net.specs.NetState.{network, net_of, AreSends, IsLawful};
-ghost use Rattle.peer_lengths.specs.Chain.{numbered};
+ghost use Rattle.peer_lengths.specs.Chain.{fate_of, numbered};
 ghost use Rattle.peer_lengths.specs.Kept.{AreNumbersOf};
 
 use ghs_chain::chains::Chains;
-use ghs_core::net::node_of;
 use ghs_graph::graph::Graph;
 use ghs_node::delta::Fate;
 use ghs_node::message::Message;
 use peer_machine::event::Event;
 use peer_machine::protocol::Protocol;
 use peer_net::net::Net;
+use peer_network::event::node_of;
 use std::alloc::{AllocError, Global};
 
 /// An event happens in a net, and the numbers follow it. Answers what its node has sent. Refusal: out of memory; the numbers
@@ -36,10 +36,24 @@ pub fn play<P: Protocol>(
     ensures numbers { OnOk result (AreNumbersOf P.rules net.new.graph net.new.trace chains.new) }
 {
     let _ = net.trace();
+    let v = node_of(event);
+    let asleep = P::is_asleep(net.node(v));
+    let fate = fate_of(net.defers(event));
     let sends = net.play(alloc, event)?;
-    chains.hear(event, false, Fate::Consumed)?;
-    send(chains, net.graph(), node_of(event), &sends)?;
+    chains.hear(event, asleep, fate)?;
+    send(chains, net.graph(), v, &sends)?;
     Ok(sends)
+}
+
+/// What becomes of a message, in the words of `Chains`.
+fn fate_of(later: bool) -> Fate
+    ensures { result ≡ fate_of later }
+{
+    if later {
+        Fate::Requeued
+    } else {
+        Fate::Consumed
+    }
 }
 
 /// A node sends messages. A number doesn't depend on what is sent, so an Accept of GHS stands for each.

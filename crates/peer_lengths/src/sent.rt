@@ -4,7 +4,7 @@ ghost use Rattle.ghs_graph.specs.Graph.{Shape};
 ghost use Rattle.peer_machine.specs.Rules.{messages};
 ghost use Rattle.peer_lengths.specs.Kept.{AreMeasured};
 
-use crate::measured::Measured;
+use peer_machine::measured::Measured;
 
 /// How many messages were sent, how many bits they have together, and how many the longest has; 0, where none was sent.
 #[derive(Clone, Copy, Debug)]

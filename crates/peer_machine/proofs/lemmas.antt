@@ -5,3 +5,4 @@ pub mod Runs
 pub mod Balance
 pub mod Counts
 pub mod Others
+pub mod Ends

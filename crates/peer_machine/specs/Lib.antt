@@ -6,3 +6,4 @@ pub mod Ledger
 pub mod Steps
 pub mod Laws
 pub mod Protocol
+pub mod Explorable

@@ -1,5 +1,5 @@
--- All nodes and all queues of a network under some rules, and what one event does to them. No message is ever put back.
-use Rattle.std.specs.Prelude.{ℕ, suc, Bool, true, ◌&&◌, nat_lt, Option, Some, None, List, [], ◌∷◌, ◌++◌, length, if◌then◌else◌}
+-- All nodes and all queues of a network under some rules, and what one event does to them.
+use Rattle.std.specs.Prelude.{ℕ, suc, Bool, true, false, ◌&&◌, nat_lt, Option, Some, None, List, [], ◌∷◌, ◌++◌, length, if◌then◌else◌}
 use Rattle.peer_network.specs.declared.event.Event.{Event}
 use Rattle.peer_network.specs.declared.event.Event.TheVariants as events
 use Rattle.peer_network.specs.Network.{Network, port_at}
@@ -9,17 +9,23 @@ pub use Rattle.peer_network.specs.Updates.{put, put_at}
 use Rattle.peer_machine.specs.declared.work.Work.TheVariants.{Wake, Deliver}
 use Rattle.peer_machine.specs.Rules.{Rules, Outcome, Outgoing}
 
--- the state of each node, the messages that wait at each of its ports, and the counts by kind
+-- the state of each node, the messages that wait at each of its ports, the counts by kind, and how many times a message was deferred
 pub record Net (S M : Type 0) : Type 0 where
   pub node : ℕ → S
   pub queue : ℕ → ℕ → List M
   pub sent : ℕ → ℕ
   pub consumed : ℕ → ℕ
+  pub deferred : ℕ
+
+-- what waits once the first message m was taken, with ms behind it: m is at the end where it was deferred, else it is gone
+abbrev pub left_of : {M : Type 0} → Bool → M → List M → List M
+left_of true m ms = ms ++ m ∷ []
+left_of false m ms = ms
 
 module _ {S M : Type 0} (r : Rules S M) (g : Network) where
   -- each node as it opens, no message anywhere
   abbrev pub opening : Net S M
-  opening = record { node = λ v. r.opening v (g.ports v); queue = λ v p. []; sent = λ k. 0; consumed = λ k. 0 }
+  opening = record { node = λ v. r.opening v (g.ports v); queue = λ v p. []; sent = λ k. 0; consumed = λ k. 0; deferred = 0 }
 
   -- one message goes out on a port of node v: to the end of the queue at the far end's port
   abbrev pub send : ℕ → Net S M → ℕ × M → Net S M
@@ -32,11 +38,16 @@ module _ {S M : Type 0} (r : Rules S M) (g : Network) where
   send_all v [] w = w
   send_all v (s ∷ ss) w = send_all v ss (send v w s)
 
-  -- the first message m of a queue is consumed, and ms wait behind it
+  -- the first message m of a queue is taken, and ms wait behind it: it is consumed, or deferred
   abbrev pub take_first : ℕ → ℕ → M → List M → Net S M → Net S M
   take_first v p m ms w =
+      let later = r.defers (w.node v) (Deliver p m) in
       let k = r.kind_of m in
-      record w { queue = put_at w.queue v p ms; consumed = put w.consumed k (suc (w.consumed k)) }
+      record w {
+        queue = put_at w.queue v p (left_of later m ms);
+        consumed = if later then w.consumed else put w.consumed k (suc (w.consumed k));
+        deferred = if later then suc w.deferred else w.deferred;
+      }
 
   -- node v has reacted, and its messages are out
   abbrev pub reacted : ℕ → Outcome S M → Net S M → Net S M

@@ -1,5 +1,5 @@
 -- The rules of a protocol: what one node does, for any type S of a node's states and any type M of messages.
-use Rattle.std.specs.Prelude.{ℕ, ◌<◌, Bool, Option, List, map}
+use Rattle.std.specs.Prelude.{◌≡◌, ℕ, ◌<◌, Bool, false, Option, List, map}
 use Rattle.ghs_graph.specs.declared.port.Port.{Port}
 use Rattle.ghs_graph.specs.Graph.{Shape}
 use Rattle.peer_machine.specs.declared.work.Work.{Work}
@@ -18,12 +18,14 @@ pub record Outcome (S M : Type 0) : Type 0 where
   pub sends : Outgoing M
 
 -- A node's state at the opening, by its number and its ports; whether it sleeps, and whether it has halted; its reaction to a wake or to a message
--- at a port, none where no rule is; how many kinds of messages there are, the kind of each, and its length in bits by the graph.
+-- at a port, none where no rule is; whether it defers that message, so that it goes to the end of its queue; how many kinds of messages there are,
+-- the kind of each, and its length in bits by the graph.
 pub record Rules (S M : Type 0) : Type 0 where
   pub opening : ℕ → List Port → S
   pub is_asleep : S → Bool
   pub has_halted : S → Bool
   pub reaction : S → Work M → Option (Outcome S M)
+  pub defers : S → Work M → Bool
   pub kinds : ℕ
   pub kind_of : M → ℕ
   pub bits : Shape → M → ℕ
@@ -31,3 +33,7 @@ pub record Rules (S M : Type 0) : Type 0 where
 -- each message is of one of the kinds
 abbrev pub HasKinds : {S M : Type 0} → Rules S M → Type 0
 HasKinds {S} {M} r = (m : M) → r.kind_of m < r.kinds
+
+-- no message is ever deferred
+abbrev pub NeverDefers : {S M : Type 0} → Rules S M → Type 0
+NeverDefers {S} {M} r = (n : S) (k : Work M) → r.defers n k ≡ false

@@ -1,7 +1,7 @@
 //! What holds under any rules, in every run of every graph. Each law is a function that does nothing; `S` is the type of a
 //! node's states, `M` that of messages.
 ghost use Rattle.peer_machine.specs.Rules.{Rules};
-ghost use Rattle.peer_machine.specs.Laws.{EventsHappenSo, KindsBalance, LedgerBalances, CountsStay, TakesAreCounted, OthersStay, OthersQueue};
+ghost use Rattle.peer_machine.specs.Laws.{EventsHappenSo, KindsBalance, LedgerBalances, CountsStay, TakesAreCounted, DeferredGoLast, TakenOnce, EventsAreFew, OthersStay, OthersQueue};
 
 /// What an event does is what the relation says.
 pub fn law_events<S, M>()
@@ -18,14 +18,30 @@ pub fn law_ledger<S, M>()
     ensures { (r : Rules S M) → LedgerBalances r }
 {}
 
-/// No count of messages sent or consumed ever falls.
+/// No count of messages sent, consumed or deferred ever falls.
 pub fn law_counts<S, M>()
     ensures { (r : Rules S M) → CountsStay r }
 {}
 
-/// Each take consumes one message, and a wake none.
+/// Each take consumes one message or defers it, and a wake none.
 pub fn law_takes<S, M>()
     ensures { (r : Rules S M) → TakesAreCounted r }
+{}
+
+/// A message that is deferred goes to the end of its queue.
+pub fn law_deferred<S, M>()
+    ensures { (r : Rules S M) → DeferredGoLast r }
+{}
+
+/// Where no message is ever deferred, a run takes none twice.
+pub fn law_taken_once<S, M>()
+    ensures { (r : Rules S M) → TakenOnce r }
+{}
+
+/// Where besides each event leaves its node awake, a run has at most as many events as messages sent and nodes together. So a
+/// bound on what is sent bounds each run.
+pub fn law_ends<S, M>()
+    ensures { (r : Rules S M) → EventsAreFew r }
 {}
 
 /// An event changes no node but its own.

@@ -2,16 +2,21 @@
 //! machine that they make of a network, and the trait of a protocol as a program.
 //!
 //! Proved for any rules, in every run of every graph: of each kind of messages, what was sent was consumed or waits
-//! (`law_kinds`), and so over all kinds (`law_ledger`); no count falls (`law_counts`); each take consumes one message
-//! (`law_takes`); an event changes no node but its own, and of others' queues the ends of those at its node's far ends
-//! alone (`law_others`, `law_queues`).
+//! (`law_kinds`), and so over all kinds (`law_ledger`); no count falls (`law_counts`); each take consumes one message, or
+//! defers it, and then it goes to the end of its queue (`law_takes`, `law_deferred`); an event changes no node but its own,
+//! and of others' queues the ends of those at its node's far ends alone (`law_others`, `law_queues`). Under rules that never
+//! defer a run takes no message twice (`law_taken_once`), and if each event leaves its node awake, it has at most as many
+//! events as messages sent and nodes together (`law_ends`).
 //!
 //! A `Protocol` has its rules as a ghost member, and as laws that each lawful event has a rule, and that what is sent is
-//! within a bound. The machine mirrors that of `ghs_protocol`, over the same networks and events (`peer_network`); here no
-//! message is ever put back. Read `specs/Rules.antt` and `specs/Net.antt` first.
+//! within a bound. One whose messages have lengths is `Measured` (`peer_lengths`); one all of whose runs can be explored is
+//! `Explorable` (`peer_explore`). The machine mirrors that of `ghs_protocol`, over the same networks and events (`peer_network`). Read
+//! `specs/Rules.antt` and `specs/Net.antt` first.
 #![tactic(auto)]
 
+pub mod explorable;
 pub mod laws;
+pub mod measured;
 pub mod protocol;
 pub mod work;
 

@@ -51,6 +51,11 @@ pub trait Protocol {
         requires rule { IsSome (rules.reaction node.now work) }
         ensures { IfOk result (λ a. rules.reaction node.now work ≡ Some (record { state = after node.now a.change; sends = a.sends.items })) };
 
+    /// Whether a node defers the message that the work brings: then it goes to the end of its queue. A protocol that never
+    /// does answers `false`.
+    fn defers(node: &Self::Node, work: Work<Self::Message>) -> bool
+        ensures { result ≡ rules.defers node.now work };
+
     /// The node changes. Takes no memory.
     fn apply(node: &mut Self::Node, change: &Self::Change)
         ensures { node.new ≡ after node.old change.now };

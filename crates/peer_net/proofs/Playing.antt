@@ -9,28 +9,29 @@ use Rattle.ghs_graph.specs.Graph.{Shape}
 use Rattle.ghs_graph.specs.Ports.{ports_of}
 use Rattle.peer_network.specs.declared.event.Event.{Event}
 use Rattle.peer_network.specs.declared.event.Event.TheVariants as events
+use Rattle.peer_network.specs.Events.{takes_in}
 use Rattle.peer_network.specs.Network.{network_of, At}
 use Rattle.peer_network.proofs.lemmas.Events.{node_of, at_of}
 use Rattle.peer_network.proofs.lemmas.Graphs.{graph_wired}
 use Rattle.peer_network.proofs.lemmas.Sums.{term_le}
 use Rattle.peer_network.proofs.lemmas.Updates.{put_same, put_other}
 use Rattle.peer_machine.specs.declared.work.Work.{Work}
-use Rattle.peer_machine.specs.declared.work.Work.TheVariants.{Wake}
+use Rattle.peer_machine.specs.declared.work.Work.TheVariants.{Deliver}
 use Rattle.peer_machine.specs.Rules.{Rules, Outcome, Outgoing, HasKinds}
-use Rattle.peer_machine.specs.Net.{Net, is_port, event_node, put, put_at, is_lawful, are_on_ports, reacted, send_all, take_first, if_reacted, takes_from, effect}
+use Rattle.peer_machine.specs.Net.{Net, left_of, is_port, event_node, put, put_at, is_lawful, are_on_ports, reacted, send_all, take_first, if_reacted, takes_from, effect}
 use Rattle.peer_machine.specs.Run.{IsAfter, IsNetOf, net_after}
 use Rattle.peer_machine.specs.Ledger.{in_all}
 use Rattle.peer_machine.specs.Protocol.{HasRules, IsBoundedBy, FitsGraphs}
 use Rattle.peer_machine.specs.Steps.{Happens, Woke, Took}
 use Rattle.peer_machine.proofs.lemmas.Balance.{after_balanced, balanced_in_all}
-use Rattle.peer_machine.proofs.lemmas.Counts.{sent_in_all, taken_in_all, take_counts}
+use Rattle.peer_machine.proofs.lemmas.Counts.{sent_in_all, taken_in_all, take_counts, take_defers, after_counts}
 use Rattle.peer_machine.proofs.lemmas.Runs.{after_is_net, after_more, net_after_more}
-use Rattle.peer_machine.proofs.lemmas.Sends.{nodes_put, sent_now, consumed_now}
+use Rattle.peer_machine.proofs.lemmas.Sends.{nodes_put, sent_now, consumed_now, deferred_now}
 use Rattle.peer_net.specs.declared.counts.Counts.{Counts}
 use Rattle.peer_net.specs.NetState.{delivery, work_at, AreSends}
 use Rattle.peer_net.specs.Queues.{Lists, HasQueue, queue_at, LeadToQueues, push_all}
 use Rattle.peer_net.specs.Counts.{CountsSends}
-use Rattle.peer_net.specs.Taking.{IsTake, WaitsAt, TakesFirst, TakesIn}
+use Rattle.peer_net.specs.Taking.{Consumes, WaitsAt, TakesFirst, TakesIn}
 use Rattle.peer_net.specs.Kept.{AreQueues, AreCounts, AreNodes, Shows, IsKept, no_node}
 use Rattle.peer_net.proofs.Showing.{has_queue, changed, shown_as, leads, pushed, alike, own_kept, taken_after}
 
@@ -43,6 +44,15 @@ first_taken r g v p (m ∷ ms) w = take_first r (network_of g) v p m ms w
 abbrev taken_net : {S M : Type 0} → Rules S M → Shape → Event → Net S M → Net S M
 taken_net r g (events.Wake v) w = w
 taken_net r g (events.Take v p) w = first_taken r g v p (w.queue v p) w
+
+-- whether the event's message is deferred
+abbrev pub defers_at : {S M : Type 0} → Rules S M → Net S M → Event → Bool
+defers_at r w e = r.defers (w.node (event_node e)) (work_at w e)
+
+takes_few : (es : List Event) → takes_in es ≤ length es
+takes_few [] = omega arith
+takes_few (events.Wake v ∷ es) = omega (arith, takes_few es)
+takes_few (events.Take v p ∷ es) = omega (arith, takes_few es)
 
 module _ {S M : Type 0} (r : Rules S M) (g : Shape) where
   pub lawful_node : (w : Net S M) (e : Event) → is_lawful r (network_of g) w e ≡ true → (1 ≤ event_node e) × (event_node e ≤ g.nodes)
@@ -123,6 +133,13 @@ module _ {S M : Type 0} {r : Rules S M} {g : Shape} {es : List Event} {states : 
   pub port_queue : (v p : ℕ) → At (network_of g) v p → HasQueue q v p
   port_queue v p at = has_queue g kept.shows.queues v p at
 
+  -- what was deferred is counted in the trace, so a trace with room for one more has room in this count
+  pub room : {bound : Shape → ℕ} → Promises r bound → (n cap : ℕ) → n ≡ length es → n + 1 ≤ cap → cap < 2 ^ 63 → c.deferred + 1 < 2 ^ 64
+  room p n cap is fits small =
+      let a = kept.shows.deferred in
+      let b = after_counts r (network_of g) p.kinds es (net_after r g es) after in
+      omega (arith, is, fits, small, a, b, takes_few es)
+
   -- an event that is lawful has a rule
   pub has_reaction : {bound : Shape → ℕ} → Promises r bound → (e : Event) → is_lawful r (network_of g) (net_after r g es) e ≡ true →
       IsSome (r.reaction ((net_after r g es).node (event_node e)) (work_at (net_after r g es) e))
@@ -149,6 +166,10 @@ module _ {S M : Type 0} {r : Rules S M} {bound : Shape → ℕ} {g : Shape} {es 
     can_react =
         subst (λ y. IsSome (r.reaction y k)) (sym the_node)
         (subst (λ z. IsSome (r.reaction ((net_after r g es).node (event_node e)) z)) (sym is_work) (has_reaction kept promises e lawful))
+
+    -- it is deferred as the rules say
+    pub later_is : (b : Bool) → b ≡ r.defers x k → b ≡ defers_at r (net_after r g es) e
+    later_is b h = h ∙ ap (λ y. r.defers y k) the_node ∙ ap (r.defers ((net_after r g es).node (event_node e))) is_work
 
     pub plays_of : (o : Outcome S M) → r.reaction x k ≡ Some o → Plays r bound g es states q c e o
     plays_of o a = record {
@@ -271,38 +292,57 @@ module _ {S M : Type 0} {r : Rules S M} {bound : Shape → ℕ} {g : Shape} {es 
           absurd (let y = ltb-true 0 0 (ap (λ (t : List M). nat_lt 0 (length t)) (sym z) ∙ b) in omega (arith, y))
       go (m ∷ ms) z = f u p m ms (at_of (network_of g) u p (and_parts (is_port (network_of g) u p) (nat_lt 0 (length (w.queue u p))) h).0) z
 
-  -- what an event consumes
+  -- what an event consumes, and what it defers
   abbrev consumes : Event → ℕ
   consumes (events.Wake u) = 0
-  consumes (events.Take u p) = 1
+  consumes (events.Take u p) = cond (defers_at r w (events.Take u p)) 0 1
+
+  abbrev puts_off : Event → ℕ
+  puts_off (events.Wake u) = 0
+  puts_off (events.Take u p) = cond (defers_at r w (events.Take u p)) 1 0
+
+  later_so : (u p : ℕ) (m : M) (ms : List M) → w.queue u p ≡ m ∷ ms → defers_at r w (events.Take u p) ≡ r.defers (w.node u) (Deliver p m)
+  later_so u p m ms z = ap (λ (l : List M). r.defers (w.node u) (delivery p l)) z
 
   taken_consumed : (x : Event) → is_lawful r (network_of g) w x ≡ true → in_all r (taken_net r g x w).consumed ≡ in_all r w.consumed + consumes x
   taken_consumed =
       of_take (λ x. in_all r (taken_net r g x w).consumed ≡ in_all r w.consumed + consumes x)
       (λ u p m ms at z.
-      ap (λ (l : List M). in_all r (first_taken r g u p l w).consumed) z ∙ taken_in_all r (network_of g) plays.promises.kinds u p m ms w)
+      ap (λ (l : List M). in_all r (first_taken r g u p l w).consumed) z ∙ taken_in_all r (network_of g) plays.promises.kinds u p m ms w
+      ∙ ap (λ b. in_all r w.consumed + cond b 0 1) (sym (later_so u p m ms z)))
       (λ u. omega arith)
+
+  taken_deferred : (x : Event) → is_lawful r (network_of g) w x ≡ true → (taken_net r g x w).deferred ≡ w.deferred + puts_off x
+  taken_deferred =
+      of_take (λ x. (taken_net r g x w).deferred ≡ w.deferred + puts_off x)
+      (λ u p m ms at z.
+      ap (λ (l : List M). (first_taken r g u p l w).deferred) z ∙ take_defers r (network_of g) u p m ms w
+      ∙ ap (λ b. w.deferred + cond b 1 0) (sym (later_so u p m ms z)))
+      (λ u. omega arith)
+
+  next_deferred : next.deferred ≡ w.deferred + puts_off e
+  next_deferred = deferred_now r (network_of g) v o (taken_net r g e w) ∙ taken_deferred e plays.lawful
 
   next_consumed : in_all r next.consumed ≡ in_all r w.consumed + consumes e
   next_consumed =
       ap (λ (f : ℕ → ℕ). in_all r f) (consumed_now r (network_of g) v o (taken_net r g e w)) ∙ taken_consumed e plays.lawful
 
-  one : IsTake e → consumes e ≡ 1
+  one : Consumes (defers_at r w e) e → consumes e ≡ 1
   one = go e
     where
-      go : (x : Event) → IsTake x → consumes x ≡ 1
+      go : (x : Event) → Consumes (defers_at r w x) x → consumes x ≡ 1
       go (events.Wake u) z = absurd z
-      go (events.Take u p) z = refl
+      go (events.Take u p) z = rw z refl
 
   -- once the sends are counted
   module _ (c' : Counts) (s : CountsSends r o.sends c c') where
-    pub fits_taken : IsTake e → (k : ℕ) → k < r.kinds → get_or c'.consumed.items k 0 + 1 < 2 ^ 64
+    pub fits_taken : Consumes (defers_at r w e) e → (k : ℕ) → k < r.kinds → get_or c'.consumed.items k 0 + 1 < 2 ^ 64
     fits_taken t k lt =
         let a = ap (λ (l : List ℕ). get_or l k 0) s.consumed ∙ shows.consumed.each k lt in
         let b : w.consumed k ≤ in_all r w.consumed = term_le r.kinds k w.consumed lt in
         omega (arith, a, b, next_consumed, one t, next_balance, next_few)
 
-    pub some_queued : IsTake e → 0 < c'.queued
+    pub some_queued : Consumes (defers_at r w e) e → 0 < c'.queued
     some_queued t =
         let a = shows.queued in
         let b = s.queued in
@@ -332,7 +372,7 @@ module _ {S M : Type 0} {r : Rules S M} {bound : Shape → ℕ} {g : Shape} {es 
           (has_queue g out u p at, subst (λ (l : List M). 0 < length l) (sym (still_first u p z at)) (ltb-true 0 _ b.1))
 
   -- at the end
-  module _ (c' d : Counts) (q2 : Lists M) (s : CountsSends r o.sends c c') (t : TakesIn r e q1 q2 c' d) where
+  module _ (c' d : Counts) (q2 : Lists M) (s : CountsSends r o.sends c c') (t : TakesIn r (defers_at r w e) e q1 q2 c' d) where
     -- the node's own change touches no queue
     as_reacted : (x : Net S M) (a b : ℕ) → (send_all r (network_of g) v o.sends x).queue a b ≡ (reacted r (network_of g) v o x).queue a b
     as_reacted x a b = alike r g kept.graph v a b o.sends x (record x { node = put x.node v o.state }) refl
@@ -340,12 +380,14 @@ module _ {S M : Type 0} {r : Rules S M} {bound : Shape → ℕ} {g : Shape} {es 
     -- what the event has taken, if anything
     takes : (P : Event → Type 0) →
         ((u p : ℕ) (m : M) (ms : List M) → u ≡ v → At (network_of g) u p → w.queue u p ≡ m ∷ ms →
-        TakesFirst r u p m ms q1 q2 c' d → P (events.Take u p)) →
+        TakesFirst r (r.defers (w.node u) (Deliver p m)) u p m ms q1 q2 c' d → P (events.Take u p)) →
         ((u : ℕ) → q2 ≡ q1 → d ≡ c' → P (events.Wake u)) →
         P e
     takes P f k =
-        of_take (λ y. event_node y ≡ v → TakesIn r y q1 q2 c' d → P y)
-        (λ u p m ms at l z x. f u p m ms z at l (x m ms (still_first u p z at ∙ l))) (λ u z x. k u x.0 x.1) e plays.lawful refl t
+        of_take (λ y. event_node y ≡ v → TakesIn r (defers_at r w y) y q1 q2 c' d → P y)
+        (λ u p m ms at l z x.
+        f u p m ms z at l (subst (λ b. TakesFirst r b u p m ms q1 q2 c' d) (later_so u p m ms l) (x m ms (still_first u p z at ∙ l))))
+        (λ u z x. k u x.0 x.1) e plays.lawful refl t
 
     new_queues : AreQueues g next.queue q2
     new_queues =
@@ -353,11 +395,11 @@ module _ {S M : Type 0} {r : Rules S M} {bound : Shape → ℕ} {g : Shape} {es 
         (λ u p m ms z at l taken.
         subst (λ x. AreQueues g (reacted r (network_of g) v o (first_taken r g u p x w)).queue q2) (sym l)
         (subst (AreQueues g (reacted r (network_of g) v o (take_first r (network_of g) u p m ms w)).queue) (sym taken.queues)
-        (shown_as g (changed g out u p at ms ms refl) (λ a b k. swap u p m ms z at a b))))
+        (shown_as g (changed g out u p at _ (left_of (r.defers (w.node u) (Deliver p m)) m ms) refl) (λ a b k. swap u p m ms z at a b))))
         (λ u x y. subst (AreQueues g (reacted r (network_of g) v o w).queue) (sym x) (shown_as g out (λ a b k. as_reacted w a b)))
       where
         swap : (u p : ℕ) (m : M) (ms : List M) → u ≡ v → At (network_of g) u p → (a b : ℕ) →
-            put_at (send_all r (network_of g) v o.sends w).queue u p ms a b ≡
+            put_at (send_all r (network_of g) v o.sends w).queue u p (left_of (r.defers (w.node u) (Deliver p m)) m ms) a b ≡
             (reacted r (network_of g) v o (take_first r (network_of g) u p m ms w)).queue a b
         swap u p m ms z at a b =
             rw z (taken_after r g kept.graph v p m ms o.sends w (subst (λ y. At (network_of g) y p) z at) a b)
@@ -409,9 +451,20 @@ module _ {S M : Type 0} {r : Rules S M} {bound : Shape → ℕ} {g : Shape} {es 
         let a = shows.queued in
         let b = s.queued in
         let x =
-        takes (λ x. d.queued + consumes x ≡ c'.queued) (λ u p m ms z at l taken. taken.counts.queued)
+        takes (λ x. d.queued + consumes x ≡ c'.queued)
+        (λ u p m ms z at l taken. ap (λ b. d.queued + cond b 0 1) (later_so u p m ms l) ∙ taken.counts.queued)
         (λ u x y. let n = ap (λ (n : Counts). n.queued) y in omega (arith, n)) in
         omega (arith, a, b, x, next_sent, next_consumed)
+
+    new_deferred : d.deferred ≡ next.deferred
+    new_deferred =
+        let a = shows.deferred in
+        let b = s.deferred in
+        let x =
+        takes (λ x. d.deferred ≡ c'.deferred + puts_off x)
+        (λ u p m ms z at l taken. taken.counts.deferred ∙ ap (λ b. c'.deferred + cond b 1 0) (sym (later_so u p m ms l)))
+        (λ u x y. let n = ap (λ (n : Counts). n.deferred) y in omega (arith, n)) in
+        omega (arith, a, b, x, next_deferred)
 
     new_states : (l : List S) → l ≡ set states (v - 1) o.state → AreNodes r g next.node l
     new_states l z = rw z (record {
@@ -446,5 +499,6 @@ module _ {S M : Type 0} {r : Rules S M} {bound : Shape → ℕ} {g : Shape} {es 
         sent = new_sent;
         consumed = new_consumed;
         queued = new_queued;
+        deferred = new_deferred;
       });
     }

@@ -38,9 +38,9 @@ module _ {S M : Type 0} {r : Rules S M} {g : Shape} {es : List Event} {states : 
         omega (arith, a, b)
 
     -- the ledger
-    pub told : (l : Ledger) → l.sent.now ≡ c.sent.items → l.consumed.now ≡ c.consumed.items → l.queued ≡ c.queued →
+    pub told : (l : Ledger) → l.sent.now ≡ c.sent.items → l.consumed.now ≡ c.consumed.items → l.queued ≡ c.queued → l.deferred ≡ c.deferred →
         IsLedger r (network_of g) w l
-    told l s d n =
+    told l s d n f =
         let balanced = after_balanced r (network_of g) (graph_wired g kept.graph) es w (after kept) in
         let sent : (k : ℕ) → k < r.kinds → get_or l.sent.now k 0 ≡ w.sent k =
         λ k lt. ap (λ (x : List ℕ). get_or x k 0) s ∙ kept.shows.sent.each k lt in
@@ -55,6 +55,7 @@ module _ {S M : Type 0} {r : Rules S M} {g : Shape} {es : List Event} {states : 
           sent = sent;
           consumed = consumed;
           queued = n ∙ queued_is;
+          deferred = f ∙ kept.shows.deferred;
           kinds = λ k lt. let x = sent k lt in let y = consumed k lt in let b = balanced k in omega (arith, x, y, b);
           balance = omega (arith, all_sent, all_consumed, a, n);
         }
@@ -120,5 +121,6 @@ module _ {S M : Type 0} (r : Rules S M) (g : Shape) where
           let a = n.queued in
           let z = sum_none r.kinds (λ k. 0) (λ k lt. refl) in
           omega (arith, a, z);
+      deferred = n.deferred;
     });
   }

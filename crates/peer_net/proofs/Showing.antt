@@ -1,5 +1,5 @@
 -- Queues of a net as the fields show them: one changes, messages go out, and in which order a message is taken.
-use Rattle.std.proofs.Common.{◌≡◌, ◌≢◌, ℕ, ◌+◌, ◌<◌, ◌≤◌, true, List, [], ◌∷◌, ◌++◌, sym, ◌∙◌, ap, subst, ⊎_elim, arith, ltb-true}
+use Rattle.std.proofs.Common.{◌≡◌, ◌≢◌, ℕ, ◌<◌, ◌≤◌, true, List, [], ◌∷◌, ◌++◌, sym, ◌∙◌, ap, subst, ⊎_elim, arith, ltb-true}
 use Rattle.std.proofs.lemmas.Bool.{and_parts, cases_eq}
 use Rattle.ghs_graph.specs.Graph.{Shape, IsGraph}
 use Rattle.ghs_graph.specs.Ports.{ports_of}
@@ -9,7 +9,8 @@ use Rattle.peer_network.proofs.lemmas.Updates.{put_at_hit, put_at_miss, put_at_s
 use Rattle.peer_network.proofs.lemmas.Wired.{IsWired}
 use Rattle.peer_network.proofs.lemmas.Wires.{no_loop}
 use Rattle.peer_machine.specs.Rules.{Rules, Outgoing}
-use Rattle.peer_machine.specs.Net.{Net, put_at, send, send_all, take_first, are_on_ports}
+use Rattle.peer_machine.specs.declared.work.Work.TheVariants.{Deliver}
+use Rattle.peer_machine.specs.Net.{Net, left_of, put_at, send, send_all, take_first, are_on_ports}
 use Rattle.peer_machine.proofs.lemmas.Sends.{queue_kept}
 use Rattle.peer_net.specs.Queues.{Lists, HasQueue, queue_at, with_queue, LeadToQueues, push_one, push_all}
 use Rattle.peer_net.specs.Kept.{AreQueues}
@@ -91,25 +92,28 @@ module _ {S M : Type 0} (r : Rules S M) (g : Shape) (ok : IsGraph g) where
 
   -- a message is taken once those of the reaction are out: it is as if it had been taken before
   pub taken_after : (v p : ℕ) (m : M) (ms : List M) (ss : Outgoing M) (w : Net S M) → At (network_of g) v p → (a b : ℕ) →
-      put_at (send_all r (network_of g) v ss w).queue v p ms a b ≡
+      put_at (send_all r (network_of g) v ss w).queue v p (left_of (r.defers (w.node v) (Deliver p m)) m ms) a b ≡
       (send_all r (network_of g) v ss (take_first r (network_of g) v p m ms w)).queue a b
   taken_after v p m ms ss w at a b = ⊎_elim own others (cases_eq a v)
     where
-      own : a ≡ v → put_at (send_all r (network_of g) v ss w).queue v p ms a b ≡
+      left : List M
+      left = left_of (r.defers (w.node v) (Deliver p m)) m ms
+
+      own : a ≡ v → put_at (send_all r (network_of g) v ss w).queue v p left a b ≡
           (send_all r (network_of g) v ss (take_first r (network_of g) v p m ms w)).queue a b
       own e = rw e (⊎_elim here there (one_place v p v b) ∙ sym (own_kept v b at.some at.node ss (take_first r (network_of g) v p m ms w)))
         where
-          here : (v ≡ v) × (b ≡ p) → put_at (send_all r (network_of g) v ss w).queue v p ms v b ≡ (take_first r (network_of g) v p m ms w).queue v b
-          here z = put_at_hit (send_all r (network_of g) v ss w).queue v p v b ms z.0 z.1 ∙ sym (put_at_hit w.queue v p v b ms z.0 z.1)
+          here : (v ≡ v) × (b ≡ p) → put_at (send_all r (network_of g) v ss w).queue v p left v b ≡ (take_first r (network_of g) v p m ms w).queue v b
+          here z = put_at_hit (send_all r (network_of g) v ss w).queue v p v b left z.0 z.1 ∙ sym (put_at_hit w.queue v p v b left z.0 z.1)
 
-          there : ((v ≡ v) × (b ≡ p) → ⊥) → put_at (send_all r (network_of g) v ss w).queue v p ms v b ≡
+          there : ((v ≡ v) × (b ≡ p) → ⊥) → put_at (send_all r (network_of g) v ss w).queue v p left v b ≡
               (take_first r (network_of g) v p m ms w).queue v b
           there ne =
-              put_at_miss (send_all r (network_of g) v ss w).queue v p v b ms ne
-              ∙ own_kept v b at.some at.node ss w ∙ sym (put_at_miss w.queue v p v b ms ne)
+              put_at_miss (send_all r (network_of g) v ss w).queue v p v b left ne
+              ∙ own_kept v b at.some at.node ss w ∙ sym (put_at_miss w.queue v p v b left ne)
 
-      others : a ≢ v → put_at (send_all r (network_of g) v ss w).queue v p ms a b ≡
+      others : a ≢ v → put_at (send_all r (network_of g) v ss w).queue v p left a b ≡
           (send_all r (network_of g) v ss (take_first r (network_of g) v p m ms w)).queue a b
       others ne =
-          put_at_miss (send_all r (network_of g) v ss w).queue v p a b ms (λ z. ne z.0) ∙ alike v a b ss w (take_first r (network_of g) v p m ms w)
-          (sym (put_at_miss w.queue v p a b ms (λ z. ne z.0)))
+          put_at_miss (send_all r (network_of g) v ss w).queue v p a b left (λ z. ne z.0) ∙ alike v a b ss w (take_first r (network_of g) v p m ms w)
+          (sym (put_at_miss w.queue v p a b left (λ z. ne z.0)))

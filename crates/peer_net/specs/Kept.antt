@@ -44,6 +44,7 @@ module _ {S M : Type 0} (r : Rules S M) where
     pub sent : AreCounts r.kinds w.sent c.sent.items
     pub consumed : AreCounts r.kinds w.consumed c.consumed.items
     pub queued : c.queued + in_all r w.consumed ≡ in_all r w.sent
+    pub deferred : c.deferred ≡ w.deferred
 
   -- the fields are those of the net after a run of the graph
   pub record IsKept (g : Shape) (es : List Event) (nodes : List S) (q : Lists M) (c : Counts) : Type 0 where

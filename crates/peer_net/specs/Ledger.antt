@@ -13,6 +13,7 @@ pub record IsLedger {S M : Type 0} (r : Rules S M) (g : Network) (w : Net S M) (
   pub sent : (k : ℕ) → k < r.kinds → slice_index l.sent.now k ≡ w.sent k
   pub consumed : (k : ℕ) → k < r.kinds → slice_index l.consumed.now k ≡ w.consumed k
   pub queued : l.queued ≡ waiting g w
+  pub deferred : l.deferred ≡ w.deferred
   pub kinds : (k : ℕ) → k < r.kinds → slice_index l.sent.now k ≡ slice_index l.consumed.now k + waiting_of r g w k
   pub balance : in_all r (λ k. slice_index l.sent.now k) ≡ in_all r (λ k. slice_index l.consumed.now k) + l.queued
 

@@ -1,5 +1,5 @@
 -- What a net is seen as: a graph and the events that were played on it.
-use Rattle.std.specs.Prelude.{◌≡◌, ℕ, true, Some, List, [], ◌∷◌}
+use Rattle.std.specs.Prelude.{◌≡◌, ℕ, Bool, true, false, Some, List, [], ◌∷◌}
 use Rattle.ghs_graph.specs.Graph.{Shape}
 use Rattle.peer_network.specs.declared.event.Event.{Event}
 use Rattle.peer_network.specs.declared.event.Event.TheVariants as events
@@ -33,6 +33,11 @@ delivery p (m ∷ ms) = Deliver p m
 abbrev pub work_at : {S M : Type 0} → Net S M → Event → Work M
 work_at w (events.Wake v) = Wake
 work_at w (events.Take v p) = delivery p (w.queue v p)
+
+-- whether the event takes a message that its node defers
+abbrev pub is_deferred : {S M : Type 0} → Rules S M → Net S M → Event → Bool
+is_deferred r w (events.Wake v) = false
+is_deferred r w (events.Take v p) = r.defers (w.node v) (delivery p (w.queue v p))
 
 -- the messages of the reaction of the event's node to what the event brings it
 abbrev pub AreSends : {S M : Type 0} → Rules S M → NetState → Event → Outgoing M → Type 0

@@ -1,16 +1,17 @@
 //! Counts of messages.
-ghost use Rattle.std.specs.Prelude.{◌≡◌, ℕ, ◌+◌, ◌<◌, ◌^◌, length, replicate, slice_index, IfOk};
+ghost use Rattle.std.specs.Prelude.{◌≡◌, ℕ, false, ◌+◌, ◌<◌, ◌^◌, length, replicate, slice_index, IfOk};
 ghost use Rattle.peer_net.specs.Counts.{AreNone, CountsSends, CountsTake};
 
 use peer_machine::protocol::Protocol;
 use std::alloc::{AllocError, Global};
 
-/// How many messages of each kind were sent and were consumed, and how many wait.
+/// How many messages of each kind were sent and were consumed, how many wait, and how many times one was deferred.
 #[derive(Debug, Drop)]
 pub struct Counts {
     pub sent: Vec<u64>,
     pub consumed: Vec<u64>,
     pub queued: u64,
+    pub deferred: u64,
 }
 
 impl Counts {
@@ -22,6 +23,7 @@ impl Counts {
             sent: vec![in alloc; 0u64; kinds]?,
             consumed: vec![in alloc; 0u64; kinds]?,
             queued: 0,
+            deferred: 0,
         })
     }
 }
@@ -45,8 +47,16 @@ pub fn count_take<P: Protocol>(counts: &mut Counts, message: P::Message)
     requires kinds { length counts.old.consumed.items ≡ P.rules.kinds }
     requires fits { (k : ℕ) → k < P.rules.kinds → slice_index counts.old.consumed.items k + 1 < 2 ^ 64 }
     requires waits { 0 < counts.old.queued }
-    ensures { CountsTake P.rules message counts.old counts.new }
+    ensures { CountsTake P.rules false message counts.old counts.new }
 {
     counts.consumed[P::kind(message)] += 1;
     counts.queued -= 1;
+}
+
+/// Counts a message that is deferred.
+pub fn count_deferred(counts: &mut Counts)
+    requires { counts.old.deferred + 1 < 2 ^ 64 }
+    ensures { counts.new ≡ record counts.old { deferred = counts.old.deferred + 1 } }
+{
+    counts.deferred += 1;
 }

@@ -9,4 +9,6 @@ pub struct Ledger<'a> {
     pub consumed: &'a [u64],
     /// How many wait in queues.
     pub queued: u64,
+    /// How many times one was deferred: it waits on, and is neither sent again nor received.
+    pub deferred: u64,
 }

@@ -4,7 +4,7 @@ ghost use Rattle.ghs_graph.specs.Graph.{IsGraph};
 ghost use Rattle.peer_network.specs.Network.{network_of, At};
 ghost use Rattle.peer_machine.specs.Net.{opening, event_node, happens, is_lawful, is_node, is_port};
 ghost use Rattle.peer_machine.specs.Run.{IsRun};
-ghost use Rattle.peer_net.specs.NetState.{network, net_of, work_at, AreSends, IsLawful, IsSilent};
+ghost use Rattle.peer_net.specs.NetState.{network, net_of, work_at, is_deferred, AreSends, IsLawful, IsSilent};
 ghost use Rattle.peer_net.specs.Ledger.{IsLedger, IsWithin};
 
 use crate::counts::{Counts, count_sends};
@@ -124,8 +124,8 @@ impl<P: Protocol> Net<P> {
         self.graph
     }
 
-    /// How many messages were sent and consumed, by kind, and how many wait. They balance, and those sent are within the
-    /// protocol's bound.
+    /// How many messages were sent and consumed, by kind, how many wait, and how many times one was deferred. They balance,
+    /// and those sent are within the protocol's bound.
     pub fn ledger(&self) -> Ledger<'_>
         ensures counts { IsLedger P.rules (network self.now) (net_of P.rules self.now) result }
         ensures bound { IsWithin P.rules (P.bound self.now.graph) result }
@@ -134,6 +134,7 @@ impl<P: Protocol> Net<P> {
             sent: self.counts.sent.as_slice(),
             consumed: self.counts.consumed.as_slice(),
             queued: self.counts.queued,
+            deferred: self.counts.deferred,
         }
     }
 
@@ -144,8 +145,21 @@ impl<P: Protocol> Net<P> {
         self.counts.queued == 0
     }
 
-    /// Plays an event: its node takes the message, reacts, and its messages go out. Answers these messages, each with its
-    /// port, in the order of sending. If an allocation is refused the net is as it was.
+    /// Whether an event's message is deferred: then it stays in its queue, at the end.
+    pub fn defers(&self, event: Event) -> bool
+        requires lawful { IsLawful P.rules self.now event }
+        ensures { result ≡ is_deferred P.rules (net_of P.rules self.now) event }
+    {
+        let task = self.task(event);
+        match event {
+            Event::Wake(_) => false,
+            Event::Take(v, _) => P::defers(self.node(v), task.work),
+        }
+    }
+
+    /// Plays an event: its node takes the message, reacts, and its messages go out; a message that the node defers goes to
+    /// the end of its queue. Answers the messages that went out, each with its port, in the order of sending. If an
+    /// allocation is refused the net is as it was.
     pub fn play(
         &mut self,
         alloc: Global,
@@ -160,11 +174,13 @@ impl<P: Protocol> Net<P> {
     {
         let task = self.task(event);
         let at = task.node as usize - 1;
-        let answer = P::react(alloc, &self.nodes[at], task.work)?;
+        let node = &self.nodes[at];
+        let later = P::defers(node, task.work);
+        let answer = P::react(alloc, node, task.work)?;
         self.trace.reserve(1)?;
         send_all(&mut self.queues, self.graph.ports(task.node), &answer.sends)?;
         count_sends::<P>(&mut self.counts, &answer.sends);
-        take_in::<P>(&mut self.queues, &mut self.counts, event);
+        take_in::<P>(&mut self.queues, &mut self.counts, event, later);
         P::apply(&mut self.nodes[at], &answer.change);
         self.trace.push_reserved(event);
         Ok(answer.sends)

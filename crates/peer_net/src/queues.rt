@@ -1,5 +1,5 @@
 //! The queues of a network.
-ghost use Rattle.std.specs.Prelude.{◌≡◌, ℕ, List, ◌+◌, ◌<◌, ◌≤◌, [], ◌∷◌, ◌++◌, length, drop, replicate, slice_get, OnOk, OnErr, IfOk};
+ghost use Rattle.std.specs.Prelude.{◌≡◌, ℕ, List, ◌+◌, ◌<◌, ◌≤◌, [], ◌∷◌, ◌++◌, length, take, drop, replicate, slice_get, OnOk, OnErr, IfOk};
 ghost use Rattle.peer_net.specs.Queues.{HasQueue, AreEmptyFor, queue_at, with_queue};
 
 use ghs_graph::graph::Graph;
@@ -54,6 +54,14 @@ impl<M: Copy> Queue<M> {
         ensures left { self.new ≡ drop 1 self.old }
     {
         self.messages.pop_front()
+    }
+
+    /// The first message goes to the end. Takes no memory.
+    fn defer_front(&mut self)
+        requires { 0 < length self.old }
+        ensures { self.new ≡ drop 1 self.old ++ take 1 self.old }
+    {
+        self.messages.rotate_left(1);
     }
 
     /// Takes back the message that came last.
@@ -144,6 +152,15 @@ impl<M: Copy> Queues<M> {
         ensures left { self.new ≡ with_queue self.old v port (drop 1 (queue_at self.old v port)) }
     {
         self.rows[v as usize].queues[port as usize].take_front()
+    }
+
+    /// The first message that waits at a port goes to the end. Takes no memory.
+    pub fn defer_front(&mut self, v: u32, port: u32)
+        requires queue { HasQueue self.old v port }
+        requires waits { 0 < length (queue_at self.old v port) }
+        ensures { self.new ≡ with_queue self.old v port (drop 1 (queue_at self.old v port) ++ take 1 (queue_at self.old v port)) }
+    {
+        self.rows[v as usize].queues[port as usize].defer_front();
     }
 
     /// Takes back the message that came last to a port.

@@ -2,9 +2,9 @@
 ghost use Rattle.std.specs.Prelude.{◌≡◌, ℕ, List, ◌+◌, ◌<◌, ◌^◌, length, slice_index, OnOk, OnErr};
 ghost use Rattle.std.specs.List.{All};
 ghost use Rattle.peer_net.specs.Queues.{LeadToQueues, push_all};
-ghost use Rattle.peer_net.specs.Taking.{IsTake, WaitsAt, TakesIn};
+ghost use Rattle.peer_net.specs.Taking.{Consumes, WaitsAt, TakesIn};
 
-use crate::counts::{Counts, count_take};
+use crate::counts::{Counts, count_deferred, count_take};
 use crate::queues::Queues;
 use ghs_graph::port::Port;
 use peer_machine::event::Event;
@@ -51,16 +51,26 @@ fn take_back_all<M: Copy>(queues: &mut Queues<M>, ports: &[Port], sends: &[(u32,
     }
 }
 
-/// Takes out the message that an event takes, and counts it.
-pub fn take_in<P: Protocol>(queues: &mut Queues<P::Message>, counts: &mut Counts, event: Event)
+/// Takes the message that an event takes: out of its queue, or, if it is deferred, to the end of it. Counts it, and takes no
+/// memory.
+pub fn take_in<P: Protocol>(
+    queues: &mut Queues<P::Message>,
+    counts: &mut Counts,
+    event: Event,
+    later: bool,
+)
     requires waits { WaitsAt event queues.old }
     requires kinds { length counts.old.consumed.items ≡ P.rules.kinds }
-    requires fits { IsTake event → (k : ℕ) → k < P.rules.kinds → slice_index counts.old.consumed.items k + 1 < 2 ^ 64 }
-    requires queued { IsTake event → 0 < counts.old.queued }
-    ensures { TakesIn P.rules event queues.old queues.new counts.old counts.new }
+    requires fits { Consumes later event → (k : ℕ) → k < P.rules.kinds → slice_index counts.old.consumed.items k + 1 < 2 ^ 64 }
+    requires queued { Consumes later event → 0 < counts.old.queued }
+    requires room { counts.old.deferred + 1 < 2 ^ 64 }
+    ensures { TakesIn P.rules later event queues.old queues.new counts.old counts.new }
 {
     if let Event::Take(v, port) = event {
-        if let Some(message) = queues.take_front(v, port) {
+        if later {
+            queues.defer_front(v, port);
+            count_deferred(counts);
+        } else if let Some(message) = queues.take_front(v, port) {
             count_take::<P>(counts, message);
         }
     }

@@ -101,7 +101,7 @@ module _ {S M : Type 0} (r : Rules S M) (g : Network) where
     on_ports = t;
     taken = take_first r g v p m ms w;
     nodes = λ u. refl;
-    queues = λ u q ne. put_at_miss w.queue v p u q ms (λ z. ne (ap (λ a. Take a q) z.0 ∙ ap (Take v) z.1));
+    queues = λ u q ne. put_at_miss w.queue v p u q _ (λ z. ne (ap (λ a. Take a q) z.0 ∙ ap (Take v) z.1));
     is = refl;
   }
 

@@ -1,5 +1,5 @@
 -- In every net of a run what was sent was consumed or waits.
-use Rattle.std.proofs.Common.{◌≡◌, ℕ, zero, suc, ◌+◌, ◌<◌, ◌≤◌, ◌==◌, true, List, [], ◌∷◌, ◌++◌, length, refl, sym, ◌∙◌, ap, cond, arith, ltb-true, eq-eqb, ne_eqb}
+use Rattle.std.proofs.Common.{◌≡◌, ℕ, zero, suc, ◌+◌, ◌<◌, ◌≤◌, ◌==◌, Bool, true, false, List, [], ◌∷◌, ◌++◌, length, refl, sym, ◌∙◌, ap, cond, arith, ltb-true, eq-eqb, ne_eqb}
 use Rattle.std.proofs.lemmas.Bool.{and_parts}
 use Rattle.peer_network.specs.declared.event.Event.{Event}
 use Rattle.peer_network.specs.Network.{Network, far, far_port, At}
@@ -7,12 +7,14 @@ use Rattle.peer_network.specs.Sums.{sum_below, sum_over_ports}
 use Rattle.peer_network.proofs.lemmas.Wired.{IsWired}
 use Rattle.peer_network.proofs.lemmas.Updates.{put_at_same, put_at_miss, put_count}
 use Rattle.peer_network.proofs.lemmas.Sums.{sum_same, sum_add, sum_none, sum_one, ports_one, ports_none, ports_same, ports_add}
+use Rattle.peer_machine.specs.declared.work.Work.TheVariants.{Deliver}
 use Rattle.peer_machine.specs.Rules.{Rules, Outgoing, HasKinds}
 use Rattle.peer_machine.specs.Net.{Net, opening, put_at, send, send_all, take_first, are_on_ports}
 use Rattle.peer_machine.specs.Run.{IsAfter}
 use Rattle.peer_machine.specs.Ledger.{of_kind, waiting_of, waiting, IsBalanced, in_all, IsBalancedInAll}
 use Rattle.peer_machine.specs.Steps.{Happens, Woke, Took}
 use Rattle.peer_machine.proofs.lemmas.Runs.{run_keeps}
+use Rattle.peer_machine.proofs.lemmas.Sends.{taken_if}
 
 -- of numbers that are 1 at one place and 0 elsewhere
 one_term : (n j : ℕ) → j < n → sum_below n (λ k. cond (j == k) 1 0) ≡ 1
@@ -51,16 +53,28 @@ module _ {S M : Type 0} (r : Rules S M) where
           b k,
         )
 
-    balanced_take : (v p : ℕ) (m : M) (ms : List M) (w : Net S M) → At g v p → w.queue v p ≡ m ∷ ms → IsBalanced r g w →
-        IsBalanced r g (take_first r g v p m ms w)
-    balanced_take v p m ms w at q b k =
+    balanced_if : (later : Bool) (v p : ℕ) (m : M) (ms : List M) (w : Net S M) → At g v p → w.queue v p ≡ m ∷ ms → IsBalanced r g w →
+        IsBalanced r g (taken_if r later v p m ms w)
+    balanced_if true v p m ms w at q b k =
         omega (
           arith,
-          put_count w.consumed (r.kind_of m) 1 (suc (w.consumed (r.kind_of m))) k (omega arith),
-          waiting_put w (take_first r g v p m ms w) v p k ms at refl,
+          waiting_put w (taken_if r true v p m ms w) v p k (ms ++ m ∷ []) at refl,
+          of_kind_append k ms (m ∷ []),
           ap (of_kind r k) q,
           b k,
         )
+    balanced_if false v p m ms w at q b k =
+        omega (
+          arith,
+          put_count w.consumed (r.kind_of m) 1 (suc (w.consumed (r.kind_of m))) k (omega arith),
+          waiting_put w (taken_if r false v p m ms w) v p k ms at refl,
+          ap (of_kind r k) q,
+          b k,
+        )
+
+    balanced_take : (v p : ℕ) (m : M) (ms : List M) (w : Net S M) → At g v p → w.queue v p ≡ m ∷ ms → IsBalanced r g w →
+        IsBalanced r g (take_first r g v p m ms w)
+    balanced_take v p m ms w at q b = balanced_if (r.defers (w.node v) (Deliver p m)) v p m ms w at q b
 
     opening_balanced : IsBalanced r g (opening r g)
     opening_balanced k = omega (arith, ports_none g (λ v p. 0) (λ v p. refl))

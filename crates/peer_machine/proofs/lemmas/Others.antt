@@ -3,8 +3,9 @@ use Rattle.std.proofs.Common.{◌≡◌, ◌≢◌, ℕ, List, ◌++◌, ◌∙�
 use Rattle.peer_network.specs.declared.event.Event.{Event}
 use Rattle.peer_network.specs.Network.{Network, far, far_port}
 use Rattle.peer_network.proofs.lemmas.Updates.{put_at_node}
+use Rattle.peer_machine.specs.declared.work.Work.TheVariants.{Deliver}
 use Rattle.peer_machine.specs.Rules.{Rules, Outcome}
-use Rattle.peer_machine.specs.Net.{Net, put, event_node, reacted, take_first}
+use Rattle.peer_machine.specs.Net.{Net, left_of, put, event_node, reacted, take_first}
 use Rattle.peer_machine.specs.Steps.{Happens, Woke, Took}
 use Rattle.peer_machine.proofs.lemmas.Sends.{node_there, queue_grows, queue_kept}
 
@@ -30,5 +31,5 @@ module _ {S M : Type 0} (r : Rules S M) (g : Network) where
   queue_appends w _ _ (Took v p m ms o at l e t) u q ne =
       let x = take_first r g v p m ms w in
       let rest = reacted_appends v o x u q in
-      let same : x.queue u q ≡ w.queue u q = put_at_node w.queue v p u q ms ne in
+      let same : x.queue u q ≡ w.queue u q = put_at_node w.queue v p u q (left_of (r.defers (w.node v) (Deliver p m)) m ms) ne in
       (rest.0, rest.1 ∙ ap (λ y. y ++ rest.0) same, λ away. rest.2 away ∙ same)

@@ -1,13 +1,21 @@
 -- What sends change, and what they leave.
-use Rattle.std.proofs.Common.{◌≡◌, ◌≢◌, ℕ, suc, ◌+◌, List, [], ◌∷◌, ◌++◌, refl, sym, ◌∙◌, ap, ⊎_elim, add-zero, arith, append-nil, append_assoc}
+use Rattle.std.proofs.Common.{◌≡◌, ◌≢◌, ℕ, suc, ◌+◌, Bool, cond, List, [], ◌∷◌, ◌++◌, refl, sym, ◌∙◌, ap, ⊎_elim, add-zero, arith, append-nil, append_assoc}
 use Rattle.peer_network.specs.Network.{Network, far, far_port}
 use Rattle.peer_network.proofs.lemmas.Updates.{put_count, put_same, put_other, put_at_hit, put_at_miss, one_place}
 use Rattle.peer_machine.specs.Rules.{Rules, Outcome, Outgoing, messages}
-use Rattle.peer_machine.specs.Net.{Net, put, send, send_all, reacted}
+use Rattle.peer_machine.specs.Net.{Net, left_of, put, put_at, send, send_all, reacted}
 use Rattle.peer_machine.specs.Ledger.{of_kind}
 
+-- what take_first makes, where it is known whether the message is deferred
+abbrev pub taken_if : {S M : Type 0} → Rules S M → Bool → ℕ → ℕ → M → List M → Net S M → Net S M
+taken_if r later v p m ms w = record w {
+  queue = put_at w.queue v p (left_of later m ms);
+  consumed = cond later w.consumed (put w.consumed (r.kind_of m) (suc (w.consumed (r.kind_of m))));
+  deferred = cond later (suc w.deferred) w.deferred;
+}
+
 module _ {S M : Type 0} (r : Rules S M) (g : Network) (v : ℕ) where
-  -- sends touch no node, nor the counts of what was consumed
+  -- sends touch no node, nor the counts of what was consumed and deferred
   pub node_sent : (ss : Outgoing M) (w : Net S M) → (send_all r g v ss w).node ≡ w.node
   node_sent [] w = refl
   node_sent (s ∷ ss) w = node_sent ss (send r g v w s)
@@ -15,6 +23,10 @@ module _ {S M : Type 0} (r : Rules S M) (g : Network) (v : ℕ) where
   pub consumed_sent : (ss : Outgoing M) (w : Net S M) → (send_all r g v ss w).consumed ≡ w.consumed
   consumed_sent [] w = refl
   consumed_sent (s ∷ ss) w = consumed_sent ss (send r g v w s)
+
+  pub deferred_sent : (ss : Outgoing M) (w : Net S M) → (send_all r g v ss w).deferred ≡ w.deferred
+  deferred_sent [] w = refl
+  deferred_sent (s ∷ ss) w = deferred_sent ss (send r g v w s)
 
   -- each send counts once
   pub count_sent : (ss : Outgoing M) (w : Net S M) (k : ℕ) → (send_all r g v ss w).sent k ≡ w.sent k + of_kind r k (messages ss)
@@ -66,3 +78,6 @@ module _ {S M : Type 0} (r : Rules S M) (g : Network) (v : ℕ) (o : Outcome S M
 
   pub consumed_now : (reacted r g v o w).consumed ≡ w.consumed
   consumed_now = consumed_sent r g v o.sends (record w { node = put w.node v o.state })
+
+  pub deferred_now : (reacted r g v o w).deferred ≡ w.deferred
+  deferred_now = deferred_sent r g v o.sends (record w { node = put w.node v o.state })

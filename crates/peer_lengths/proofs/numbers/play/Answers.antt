@@ -12,14 +12,14 @@ send-requires-clause-low g c =
     let r = g.P.Protocol.rules in
     let played : Played r c.args.net.now c.args.event (net_of r c.play.new.self) c.in_ok-sends.sends.items =
     record { graph = c.trace.ensures.graph; run = c.trace.ensures.run; event = c.in_ok-sends.ensures.event; sends = c.in_ok-sends.ensures.sends } in
-    rw c.node_of.ensures (low r _ _ _ _ played)
+    rw c.node_of-v.ensures (low r _ _ _ _ played)
 
 pub send-requires-clause-high : goal.send-requires-clause-high
 send-requires-clause-high g c =
     let r = g.P.Protocol.rules in
     let played : Played r c.args.net.now c.args.event (net_of r c.play.new.self) c.in_ok-sends.sends.items =
     record { graph = c.trace.ensures.graph; run = c.trace.ensures.run; event = c.in_ok-sends.ensures.event; sends = c.in_ok-sends.ensures.sends } in
-    rw (c.graph.ensures, c.play.ensures.graph, c.node_of.ensures) (high r _ _ _ _ played)
+    rw (c.graph.ensures, c.play.ensures.graph, c.node_of-v.ensures) (high r _ _ _ _ played)
 
 pub send-requires-clause-fits : goal.send-requires-clause-fits
 send-requires-clause-fits g c =
@@ -31,22 +31,25 @@ send-requires-clause-small g c =
     let r = g.P.Protocol.rules in
     let played : Played r c.args.net.now c.args.event (net_of r c.play.new.self) c.in_ok-sends.sends.items =
     record { graph = c.trace.ensures.graph; run = c.trace.ensures.run; event = c.in_ok-sends.ensures.event; sends = c.in_ok-sends.ensures.sends } in
-    rw (c.deref.ensures.value, c.node_of.ensures)
-    (small r _ _ _ _ played c.args.chains.now c.hear.new.self c.requires.numbers c.in_ok-hear.ensures.heard g.met.P.Protocol.has_kinds
-    g.P.Protocol.bound g.met.P.Protocol.is_bounded g.met.P.Protocol.bound_fits)
+    rw (c.deref.ensures.value, c.node_of-v.ensures)
+    (small r _ _ _ _ played c.args.chains.now c.hear.new.self c.requires.numbers
+    (rw (c.is_asleep-asleep.ensures, c.node.ensures, c.node_of-v.ensures, c.fate_of-fate.ensures, c.defers.ensures) at c.in_ok-hear.ensures.heard)
+    g.met.P.Protocol.has_kinds g.P.Protocol.bound g.met.P.Protocol.is_bounded g.met.P.Protocol.bound_fits)
 
 pub send-requires-clause-ports : goal.send-requires-clause-ports
 send-requires-clause-ports g c =
     let r = g.P.Protocol.rules in
     let played : Played r c.args.net.now c.args.event (net_of r c.play.new.self) c.in_ok-sends.sends.items =
     record { graph = c.trace.ensures.graph; run = c.trace.ensures.run; event = c.in_ok-sends.ensures.event; sends = c.in_ok-sends.ensures.sends } in
-    rw (c.deref.ensures.value, c.graph.ensures, c.play.ensures.graph, c.node_of.ensures) (on_ports r _ _ _ _ played)
+    rw (c.deref.ensures.value, c.graph.ensures, c.play.ensures.graph, c.node_of-v.ensures) (on_ports r _ _ _ _ played)
 
 pub returns-clause-numbers : goal.returns-clause-numbers
 returns-clause-numbers g c =
     let r = g.P.Protocol.rules in
     let played : Played r c.args.net.now c.args.event (net_of r c.play.new.self) c.in_ok-sends.sends.items =
     record { graph = c.trace.ensures.graph; run = c.trace.ensures.run; event = c.in_ok-sends.ensures.event; sends = c.in_ok-sends.ensures.sends } in
-    carried_to r _ _ _ _ played c.args.chains.now c.hear.new.self c.requires.numbers c.in_ok-hear.ensures.heard c.play.new.self c.send.new.chains
+    carried_to r _ _ _ _ played c.args.chains.now c.hear.new.self c.requires.numbers
+    (rw (c.is_asleep-asleep.ensures, c.node.ensures, c.node_of-v.ensures, c.fate_of-fate.ensures, c.defers.ensures) at c.in_ok-hear.ensures.heard)
+    c.play.new.self c.send.new.chains
     c.play.ensures.graph c.in_ok-sends.ensures.trace (rw c.graph.ensures at c.in_ok-send.ensures.fits)
-    (rw (c.graph.ensures, c.node_of.ensures, c.deref.ensures.value) at c.in_ok-send.ensures.sent)
+    (rw (c.graph.ensures, c.node_of-v.ensures, c.deref.ensures.value) at c.in_ok-send.ensures.sent)

@@ -1,0 +1,108 @@
+//! Knocking as a protocol.
+ghost use Rattle.std.specs.Prelude.{◌≡◌, ℕ, [], Some, IsSome, IfOk, OnOk};
+ghost use Rattle.peer_knock.specs.Knock.{knocking, knocks};
+
+use crate::node::{Change, Message, Node};
+use ghs_graph::port::Port;
+use peer_machine::protocol::Protocol;
+use peer_machine::work::{Answer, Work};
+use std::alloc::{AllocError, Global};
+
+/// A node that wakes knocks at all its neighbors; a sleeping node defers knocks.
+#[derive(Clone, Copy, Debug)]
+pub struct Knocking {}
+
+impl Protocol for Knocking {
+    ghost use Rattle.std.specs.Prelude.{◌≡◌, ℕ, ◌*◌, length, Some, IsSome, IfOk};
+    ghost use Rattle.peer_knock.specs.Knock.{knocking, after_knock};
+    ghost use Rattle.peer_knock.specs.Proved.{knock_kinds, knock_rules, knock_bound, knock_fits};
+
+    type Node = Node;
+
+    type Message = Message;
+
+    type Change = Change;
+
+    ghost rules = { knocking };
+
+    ghost after = { after_knock };
+
+    ghost bound = { λ g. 2 * length g.keys };
+
+    fn open(_alloc: Global, _v: u32, ports: &[Port]) -> Result<Node, AllocError> {
+        Ok(Node {
+            ports: ports.len() as u32,
+            awake: false,
+        })
+    }
+
+    fn is_asleep(node: &Node) -> bool {
+        !node.awake
+    }
+
+    fn react(
+        alloc: Global,
+        node: &Node,
+        work: Work<Message>,
+    ) -> Result<Answer<Change, Message>, AllocError>
+        requires rule { IsSome (knocking.reaction node.now work) }
+        ensures { IfOk result (λ a. knocking.reaction node.now work ≡ Some (record { state = after_knock node.now a.change; sends = a.sends.items })) }
+    {
+        let mut sends = Vec::new(alloc);
+        match work {
+            Work::Wake => {
+                knock(&mut sends, node.ports)?;
+                Ok(Answer {
+                    change: Change { awake: true },
+                    sends,
+                })
+            }
+            Work::Deliver { .. } => Ok(Answer {
+                change: Change { awake: node.awake },
+                sends,
+            }),
+        }
+    }
+
+    fn defers(node: &Node, work: Work<Message>) -> bool
+        ensures { result ≡ knocking.defers node.now work }
+    {
+        match work {
+            Work::Wake => false,
+            Work::Deliver { .. } => !node.awake,
+        }
+    }
+
+    fn apply(node: &mut Node, change: &Change) {
+        node.awake = change.awake;
+    }
+
+    fn kinds() -> usize {
+        1
+    }
+
+    fn kind(message: Message) -> usize {
+        match message {
+            Message::Knock => 0,
+        }
+    }
+
+    ghost has_kinds = { knock_kinds };
+
+    ghost has_rules = { knock_rules };
+
+    ghost is_bounded = { knock_bound };
+
+    ghost bound_fits = { knock_fits };
+}
+
+/// A Knock on each port.
+fn knock(sends: &mut Vec<(u32, Message)>, ports: u32) -> Result<(), AllocError>
+    requires { sends.old.items ≡ [] }
+    ensures { OnOk result (sends.new.items ≡ knocks ports) }
+{
+    for port in 0..ports {
+        sends.push((port, Message::Knock))?;
+    }
+    Ok(())
+}
