@@ -1,14 +1,13 @@
 //! Time: how long the longest chain of messages of a run is, each sent because of the one before.
 //!
-//! Proved: `longest_chain` is the number that is defined over lists of events (`specs/Chains.antt`). It is at most what
-//! was sent (`law_chain_is_sent`), and so within the bound (`law_chain_within_bound`); to swap neighbours that have
-//! nothing to do with each other doesn't change it (`law_swap`).
+//! Proved: `Chains`, which follow the events of a run while they are made (`Follower`), have the numbers that are defined
+//! over lists of events (`specs/Chains.antt`). The greatest of a node's is the longest chain. It is at most what was sent
+//! (`law_chain_is_sent`), and so within the bound (`law_chain_within_bound`); to swap neighbors that have nothing to do with
+//! each other doesn't change it (`law_swap`).
 //!
-//! `longest_chain` plays a run of at most 2^40 events once more; `Chains` follows events while they are made (`Follower`).
-//! Next: `ghs_rounds`, whose rounds are this number, and `ghs_picking`, which says it of a seed's run.
+//! Next: `ghs_rounds`, whose rounds are this number, and `ghs_picking`, which says it of a run (`lengths_of`).
 #![tactic(auto)]
 
-pub mod chain;
 pub mod chains;
 pub mod follow;
 pub mod laws;

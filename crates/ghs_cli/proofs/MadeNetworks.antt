@@ -32,14 +32,16 @@ serves_made asked n old new sound of out stored input = (
 
 -- only a front of it has
 serves_part : (asked : Asked) (n : Network) (old new : Option (List ℕ)) (fault : WriteFault) → IsNetwork n → IsNetworkOf asked n
-    → IsFront old new (text_of n) fault → (stored input : List ℕ) → Serves (task.Make asked) stored input old new (Err (of_unwritten fault))
-serves_part asked n old new write.Memory sound of front stored input = (tt, inr (text_of n, made_of asked n sound of, front))
-serves_part asked n old new (write.Write k) sound of front stored input = (text_of n, made_of asked n sound of, front.0, front.1)
+    → IsRefusal asked make.Memory → IsFront old new (text_of n) fault → (stored input : List ℕ)
+    → Serves (task.Make asked) stored input old new (Err (of_unwritten fault))
+serves_part asked n old new write.Memory sound of none front stored input = (none, inr (text_of n, made_of asked n sound of, front))
+serves_part asked n old new (write.Write k) sound of none front stored input = (text_of n, made_of asked n sound of, front.0, front.1)
 
 pub serves_unmade : (asked : Asked) (n : Network) (old new : Option (List ℕ)) (r : Result (Unit {0}) ServeFault) (fault : WriteFault)
-    → r ≡ Err (of_unwritten fault) → IsNetwork n → IsNetworkOf asked n
+    → r ≡ Err (of_unwritten fault) → IsNetwork n → IsNetworkOf asked n → IsRefusal asked make.Memory
     → IsFront old new (text_of n) fault → (stored input : List ℕ) → Serves (task.Make asked) stored input old new r
-serves_unmade asked n old new r fault is sound of front stored input = rw is (serves_part asked n old new fault sound of front stored input)
+serves_unmade asked n old new r fault is sound of none front stored input =
+    rw is (serves_part asked n old new fault sound of none front stored input)
 
 -- none is made
 refused : (asked : Asked) (o : Option (List ℕ)) (fault : MakeFault) → IsRefusal asked fault → (stored input : List ℕ)
@@ -49,7 +51,7 @@ refused asked o make.LinksGiven is stored input = is
 refused asked o make.WeightsGiven is stored input = is
 refused asked o (make.Links least most) is stored input = is
 refused asked o make.TooManyLinks is stored input = is
-refused asked o make.Memory is stored input = (tt, inl refl)
+refused asked o make.Memory is stored input = (is, inl refl)
 
 pub serves_refused : (asked : Asked) (o : Option (List ℕ)) (r : Result (Unit {0}) ServeFault) (fault : MakeFault)
     → r ≡ Err (of_make fault) → IsRefusal asked fault → (stored input : List ℕ) → Serves (task.Make asked) stored input o o r

@@ -365,14 +365,14 @@ IsStoredViewCause p o stored input fault =
     IsTraceCause p stored fault
     ⊎ (((events : List Event) × IsTraceText p stored events × IsGraphCause input fault) ⊎ HaveNoPage p o stored input fault)
 
--- why a network isn't made: what is asked for is refused, it has too many links, or memory runs out
+-- why a network isn't made: what is asked for is refused, it has too many links, or, if it is neither, memory runs out
 abbrev pub IsMakeCause : Asked → ServeFault → Type 0
 IsMakeCause asked serve.NodesOutside = IsRefusal asked make.Nodes
 IsMakeCause asked serve.LinksGiven = IsRefusal asked make.LinksGiven
 IsMakeCause asked serve.WeightsGiven = IsRefusal asked make.WeightsGiven
 IsMakeCause asked (serve.LinksOutside least most) = IsRefusal asked (make.Links least most)
 IsMakeCause asked serve.TooManyLinks = IsRefusal asked make.TooManyLinks
-IsMakeCause asked serve.Memory = Unit {0}
+IsMakeCause asked serve.Memory = IsRefusal asked make.Memory
 IsMakeCause asked _ = ⊥
 
 -- why an exploration prints nothing: the graph, or what is found of it

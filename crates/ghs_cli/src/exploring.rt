@@ -4,7 +4,7 @@ ghost use Rattle.ghs_cli.specs.Serving.{IsExploreCause, IsExploreOutput, is_writ
 ghost use Rattle.ghs_cli.specs.declared.fault.ServeFault.{ServeFault};
 ghost use Rattle.ghs_commands.specs.Job.{AreExploreLimits};
 ghost use Rattle.ghs_commands.specs.declared.exploring.Finding.{Finding};
-ghost use Rattle.std.specs.Prelude.{◌≡◌, ◌≤◌, ◌↔◌, false, true, IfErr, IfOk, IfSome, IsErrOf};
+ghost use Rattle.std.specs.Prelude.{◌≡◌, ◌<◌, ◌≤◌, ◌↔◌, false, true, Err, IfErr, IfOk, IfSome, IsErrOf, length};
 
 use crate::exploring_in_step::found_in_step;
 use crate::fault::ServeFault;
@@ -134,6 +134,7 @@ fn trace_of_end(
     requires wake { explored.now.wake ≡ options.now.wake }
     ensures text { IfOk result (λ text. IsRunOf options.now graph.now text.items) }
     ensures fault { IfErr result (FindsNothing options.now graph.now) }
+    ensures behind { length explored.now.rows < options.now.end → result ≡ Err (ServeFault.NoSuchEnd (length explored.now.rows)) }
 {
     let ends = explored.rows().len();
     if options.end as usize > ends {

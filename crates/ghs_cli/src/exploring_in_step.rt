@@ -2,11 +2,11 @@
 ghost use Rattle.ghs_cli.specs.ExploringInStep.{AreEndsOf, FindsNothing, IsBehind, IsFound, IsRunOf};
 ghost use Rattle.ghs_commands.specs.Job.{AreExploreLimits};
 ghost use Rattle.ghs_commands.specs.declared.exploring.Finding.{Finding};
-ghost use Rattle.std.specs.Prelude.{◌≡◌, ◌≤◌, IfErr, IfOk};
+ghost use Rattle.std.specs.Prelude.{◌≡◌, ◌<◌, ◌≤◌, Err, IfErr, IfOk, length};
 
 use crate::fault::ServeFault;
 use crate::progress::Teller;
-use boruvka_explore::explorable::SmallBoruvka;
+use boruvka::protocol::Boruvka;
 use boruvka_explore::text::explored_text;
 use ghs_commands::exploring::{ExploreOptions, Finding};
 use ghs_graph::graph::Graph;
@@ -30,7 +30,7 @@ pub(crate) fn found_in_step<R: Eprint>(
     ensures fault { IfErr result (FindsNothing options.now graph.now) }
 {
     let teller = Teller::new(rt, options.progress);
-    match explore_watched::<SmallBoruvka, Teller<R>>(
+    match explore_watched::<Boruvka, Teller<R>>(
         alloc,
         graph,
         options.wake,
@@ -52,7 +52,7 @@ fn found_text(
     alloc: Global,
     options: &ExploreOptions,
     graph: &Graph,
-    explored: &Explored<SmallBoruvka>,
+    explored: &Explored<Boruvka>,
 ) -> Result<Vec<u8>, ServeFault>
     requires limits { AreExploreLimits options.now }
     requires graph { explored.now.graph ≡ graph.now }
@@ -72,7 +72,7 @@ fn ends_text(
     alloc: Global,
     options: &ExploreOptions,
     graph: &Graph,
-    explored: &Explored<SmallBoruvka>,
+    explored: &Explored<Boruvka>,
 ) -> Result<Vec<u8>, AllocError>
     requires graph { explored.now.graph ≡ graph.now }
     requires wake { explored.now.wake ≡ options.now.wake }
@@ -81,7 +81,7 @@ fn ends_text(
 {
     // Called for their clauses: what the rows and the states are, and that the first and the last row have the least and the
     // greatest sum.
-    law_range::<SmallBoruvka>();
+    law_range::<Boruvka>();
     let _ = graph.nodes();
     let _ = explored.rows();
     let _ = explored.states();
@@ -93,7 +93,7 @@ fn trace_of_end(
     alloc: Global,
     options: &ExploreOptions,
     graph: &Graph,
-    explored: &Explored<SmallBoruvka>,
+    explored: &Explored<Boruvka>,
 ) -> Result<Vec<u8>, ServeFault>
     requires asked { options.now.finding ≡ Finding.Run }
     requires limits { AreExploreLimits options.now }
@@ -101,6 +101,7 @@ fn trace_of_end(
     requires wake { explored.now.wake ≡ options.now.wake }
     ensures text { IfOk result (λ text. IsRunOf options.now graph.now text.items) }
     ensures fault { IfErr result (FindsNothing options.now graph.now) }
+    ensures behind { length explored.now.rows < options.now.end → result ≡ Err (ServeFault.NoSuchEnd (length explored.now.rows)) }
 {
     let ends = explored.rows().len();
     if options.end as usize > ends {

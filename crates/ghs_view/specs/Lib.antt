@@ -2,4 +2,3 @@
 pub mod PairPage
 pub mod RunPage
 pub mod Stored
-pub mod StoredPair

@@ -1,8 +1,8 @@
 //! A run as one page: the page's constant text round what the run is and does; and two runs of one network as a page.
 //!
 //! Proved: `run_page` is exactly that text round the run's data, and is refused exactly where the page would be too large
-//! (`page`, `large`); so is `pair_page`. `stored_page` and `stored_pair_page` judge the events first, and name the first
-//! that isn't lawful (`fault`).
+//! (`page`, `large`); so is `pair_page`. `stored_page` judges the events first, and names the first that isn't lawful
+//! (`fault`).
 //!
 //! At most 2,000 nodes (`PAGE_NODES`) and 100,000 events that are shown (`PAGE_EVENTS`). What a browser makes of a page
 //! is tested and not proved (`ghs_page`).
@@ -11,4 +11,3 @@
 pub mod page;
 pub mod pair;
 pub mod stored;
-pub mod stored_pair;

@@ -10,7 +10,8 @@ returns-in_err-network-clause-serves g c =
 pub returns-in_err-write_network-clause-serves : goal.returns-in_err-write_network-clause-serves
 returns-in_err-write_network-clause-serves g c =
     serves_unmade c.args.asked.now c.in_ok-network.network _ _ c.from_residual-in_err-write_network.result c.in_err-write_network.field-0.0
-    (search rules) c.in_ok-network.ensures.network c.in_ok-network.ensures.asked c.in_err-write_network.ensures.err
+    (search rules) c.in_ok-network.ensures.network c.in_ok-network.ensures.asked c.in_ok-network.ensures.unrefused
+    c.in_err-write_network.ensures.err
 
 pub returns-clause-serves : goal.returns-clause-serves
 returns-clause-serves g c =
