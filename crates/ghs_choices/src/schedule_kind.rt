@@ -11,8 +11,8 @@ pub enum ScheduleKind {
     Rounds,
     /// Among those that only put their message back; where there is none, among all that may happen.
     Waits,
-    /// Not among several: of the messages that would be consumed the one that was sent last comes first. Where there is none,
-    /// among the wakes, and else among those that uncover one; and so every run ends.
+    /// Not among several: of the ports whose first message would be consumed, the one to which a message was sent last. Where
+    /// there is none, among the wakes, and else among those that uncover one; and so every run ends.
     Lifo,
     /// Not among several: lap after lap the ports are gone over, and one message is taken from each that holds any when its
     /// place comes; nodes wake in the first lap. So every run ends, and a seed has no effect.

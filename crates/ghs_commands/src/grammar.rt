@@ -442,7 +442,7 @@ fn schedule<'a>(alloc: Global) -> Arg<'a>
     ensures rule { rule_of result ≡ schedule_rule }
 {
     option(alloc, "schedule", "seeded").help(
-        "Which events the seed picks among: seeded, all that may happen, patient, those that move the run on, rounds, those of them whose message arrives in the round, waits, those that only put a message back as long as there are any, so that such a run needn't end before its turns, or lifo, the one whose message was sent last; or round-robin, where the ports that hold a message are gone over lap after lap and a seed has no effect",
+        "Which events the seed picks among: seeded, all that may happen, patient, those that move the run on, rounds, those of them whose message arrives in the round, waits, those that only put a message back as long as there are any, so that such a run needn't end before its turns, or lifo, that of the port to which a message was sent last; or round-robin, where the ports that hold a message are gone over lap after lap and a seed has no effect",
     )
 }
 
@@ -480,7 +480,7 @@ fn print<'a>(alloc: Global) -> Arg<'a>
     ensures rule { rule_of result ≡ print_rule }
 {
     option(alloc, "print", "report").help(
-        "What is printed: report, the tree and the counts, trace, the events, or time, the longest chain of messages, the rounds and the bits",
+        "What is printed: report, the tree and the counts, trace, the events, or time, the longest chain of messages, the rounds or laps with their bound, and the bits",
     )
 }
 
