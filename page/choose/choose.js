@@ -67,6 +67,8 @@ function restore(was) {
 }
 // nothing is lost without a word: what was led is kept, and a button brings it back
 function setAside(was, why) {
+  // the tour's runs are nobody's: what was set aside before them still is
+  if (ofTour(was)) was = givenUp || {};
   if (!was.graph || !was.events) return;
   givenUp = was;
   say(why + (was.events === 1 ? ' Your run of one event is set aside.' : ' Your run of ' + was.events + ' events is set aside.'), true);
@@ -136,6 +138,7 @@ function lead(key) {
   ledOn();
 }
 function giveUp(lost, was) {
+  if (givenUp && ofTour(was)) return setAside(was, '');
   givenUp = was;
   say((lost === 1 ? 'One event that came after is' : lost + ' events that came after are') + ' given up.', true);
 }
@@ -164,11 +167,13 @@ function goOn() {
 
 // ---- what may come next, in the network and in the pane
 const placeOf = key => key.split(' ').map(Number);
+// while a guess is asked first, nothing tells which events only defer
+const hides = () => $('guessing').checked;
 const wording = (key, o) => {
   const [v, p] = placeOf(key), m = p === undefined ? null : queue(v, p)[0];
-  return 'Node ' + v + (m ? ' takes ' + words(m) + ' from node ' + m.from : ' wakes') + (o.waits ? ', and would defer it' : '');
+  return 'Node ' + v + (m ? ' takes ' + words(m) + ' from node ' + m.from : ' wakes') + (o.waits && !hides() ? ' (it would defer it)' : '');
 };
-const END = () => 'The run has ended: the ' + TREE() + ' links are the minimum spanning forest.' + (offersAt(G.to).size ? ' A message that is still on its way changes nothing more.' : '');
+const END = () => 'The run has ended: the ' + TREE() + ' links are the minimum spanning forest.' + (offersAt(G.to).size ? ' Messages still under way can\'t change the tree.' : '');
 function offer() {
   if (ended && at === G.to && !$('note').textContent) say(END());
   else if (at < G.to && $('note').textContent === END()) say('');
@@ -185,7 +190,7 @@ function offer() {
   for (const g of $('msgs').querySelectorAll('.msg')) {
     const [v, p, k] = g.dataset.q.split(' '), key = v + ' ' + p, can = k === '0' && offered.has(key), c = g.classList;
     c.toggle('can', can);
-    c.toggle('idle', can && !!offered.get(key).waits);
+    c.toggle('idle', can && !!offered.get(key).waits && !hides());
     c.toggle('behind', +k > 0);
     c.toggle('next', can && key === next);
     c.toggle('pointed', can && pointed === key);
@@ -201,7 +206,7 @@ function offer() {
 }
 const LISTED = 60;
 function list(next) {
-  const all = [...offered], html = all.slice(0, LISTED).map(([key, o]) => '<button data-may="' + key + '" class="' + (o.waits ? 'idle ' : '') + (key === next ? 'next ' : '') + (key === pointed ? 'pointed' : '') + '">' + wording(key, o) + (key === next ? ' (next in this run)' : '') + '</button>');
+  const all = [...offered], html = all.slice(0, LISTED).map(([key, o]) => '<button data-may="' + key + '" class="' + (o.waits && !hides() ? 'idle ' : '') + (key === next ? 'next ' : '') + (key === pointed ? 'pointed' : '') + '">' + wording(key, o) + (key === next ? ' (next in this run)' : '') + '</button>');
   $('may').innerHTML = timer ? '<p>The run is played.</p>' : html.join('') + (all.length > LISTED ? '<p>and ' + (all.length - LISTED) + ' more</p>' : '') || '<p>' + (asking ? 'First your guess.' : at === G.to && ended ? 'Nothing: the run has ended.' : 'Nothing.') + '</p>';
   $('maycount').textContent = timer ? '' : all.length;
 }
@@ -240,7 +245,7 @@ tip = function (e) {
 // ---- the address holds the graph and the events too, as long as it stays short
 const ADDRESS = 8000;
 const coded = text => btoa(String.fromCharCode(...UTF8.encode(text))).replace(/\+/g, '-').replace(/\//g, '_').replace(/=/g, '');
-const decoded = text => TEXT.decode(Uint8Array.from(atob(text.replace(/-/g, '+').replace(/_/g, '/')), c => c.charCodeAt(0)));
+const decoded = (text, by = TEXT) => by.decode(Uint8Array.from(atob(text.replace(/-/g, '+').replace(/_/g, '/')), c => c.charCodeAt(0)));
 const short_events = es => es.map(e => e.length === 1 ? 'w' + e[0] : e.join('.')).join(',');
 const long_events = text => text.split(',').filter(x => x).map(x => x[0] === 'w' ? [+x.slice(1)] : x.split('.').map(Number));
 const addressOf = address, goAddressOf = goAddress;
@@ -262,7 +267,7 @@ goAddress = function (hash = location.hash) {
   if (led && (led.graph !== graphText || led.first !== wakeFirst || short_events(led.events) !== short_events(eventsNow()))) {
     if (!restore({ ...led, trace: traceOf(led.events) })) return;
   }
-  if (led) setTask(led.task);
+  if (led) setTaskOf(led);
   history.replaceState(null, '', head);
   goAddressOf(head);
 };
@@ -367,6 +372,7 @@ function printSeeds(found, patient) {
 }
 
 // ---- clicks and keys
+const MOVES = [' ', 'Home', 'End', 'PageUp', 'PageDown', 'ArrowUp', 'ArrowDown', 'Backspace', 'e', 'q', 'r', 'w'];
 function hands() {
   const key = g => g.dataset.q.split(' ').slice(0, 2).join(' ');
   $('msgs').onclick = e => { const g = e.target.closest('.msg.can'); if (g && !fingers.moved) { clicked = [e.clientX, e.clientY]; $('hint').hidden = true; lead(key(g)); } };
@@ -391,7 +397,7 @@ function hands() {
   addEventListener('paste', e => { const text = e.clipboardData.getData('text'); if (!e.target.matches('input, textarea') && text.trim()) { e.preventDefault(); take(text); } });
   addEventListener('dragover', e => e.preventDefault());
   addEventListener('drop', e => { e.preventDefault(); const file = e.dataTransfer.files[0], text = e.dataTransfer.getData('text'); if (file) takeFile(file); else if (text.trim()) take(text); });
-  Object.assign(ACTS, { m: () => point(1), M: () => point(-1), Backspace: takeBack, r: goOn });
+  Object.assign(ACTS, { m: () => point(1), M: () => point(-1), Backspace: takeBack, r: () => { if (!task) goOn(); } });
   KEYS.unshift(['m, M', 'goes through what may come next'], ['Enter', 'that event happens'], ['Backspace', 'takes the last event back'], ['r', 'plays on by the seed']);
   // keys of a dialog are its own; Enter is the node's that may wake, or the event's that is pointed to
   addEventListener('keydown', e => {
@@ -401,6 +407,8 @@ function hands() {
       return;
     }
     if (touring() && (e.key === 'ArrowRight' || e.key === 'ArrowLeft') && !e.target.matches('input, select')) { e.preventDefault(); e.stopImmediatePropagation(); return goTour(tourAt + (e.key === 'ArrowRight' ? 1 : -1)); }
+    // the run of a tour's step stays at the moment that the step speaks of
+    if (touring() && MOVES.includes(e.key) && !e.target.matches(e.key === ' ' ? 'button, select, input' : 'select, input')) { e.preventDefault(); e.stopImmediatePropagation(); return; }
     if (e.key === 'Enter' && e.target.matches('.row')) { e.preventDefault(); e.stopImmediatePropagation(); return openRule(e.target.textContent); }
     if (e.key !== 'Enter' || e.ctrlKey || e.altKey || e.metaKey || $('keys').open || e.target.matches('button, select, input')) return;
     const on = e.target.matches('.node.can') ? e.target.dataset.v : pointed;

@@ -62,9 +62,13 @@ function openBoard() {
   redraw();
 }
 function boards() {
-  const place = e => { const b = $('board').getBoundingClientRect(), inside = (x, most) => Math.max(NODE, Math.min(most - NODE, Math.round(x))); return [inside(e.clientX - b.left, b.width), inside(e.clientY - b.top, b.height)]; };
+  // in the board's own numbers: the window may have been turned since they were set
+  const place = e => { const view = $('board').viewBox.baseVal, p = new DOMPoint(e.clientX, e.clientY).matrixTransform($('board').getScreenCTM().inverse()), inside = (x, most) => Math.max(NODE, Math.min(most - NODE, Math.round(x))); return [inside(p.x, view.width), inside(p.y, view.height)]; };
+  const narrow = 'A node needs more room than that.';
+  let full = false;
+  const close = (p, but = 0) => drawing.points.some((q, i) => i + 1 !== but && Math.hypot(p[0] - q[0], p[1] - q[1]) <= 2 * NODE + 6);
   // the node under the pointer; a finger is wider than a circle
-  const nodeAt = (e, reach = NODE + 8) => { const p = place(e), near = drawing.points.map((q, i) => [Math.hypot(p[0] - q[0], p[1] - q[1]), i + 1]).sort((a, b) => a[0] - b[0])[0]; return near && near[0] <= reach ? near[1] : 0; };
+  const nodeAt = e => { const p = place(e), near = drawing.points.map((q, i) => [Math.hypot(p[0] - q[0], p[1] - q[1]), i + 1]).sort((a, b) => a[0] - b[0])[0]; return near && near[0] <= NODE + 8 ? near[1] : 0; };
   const far = e => drawing.down && Math.hypot(e.clientX - drawing.down[0], e.clientY - drawing.down[1]) > 6;
   $('board').onpointerdown = e => {
     e.preventDefault();
@@ -74,7 +78,7 @@ function boards() {
     drawing.to = null;
     if (drawing.from) return;
     // no node lies over another
-    if (nodeAt(e, 2 * NODE + 6)) { drawing.down = null; $('drawnote').textContent = 'A node needs more room than that.'; return; }
+    if (close(place(e))) { drawing.down = null; $('drawnote').textContent = narrow; return; }
     drawing.points.push(place(e));
     drawing.held = 0;
     redraw();
@@ -82,7 +86,10 @@ function boards() {
   $('board').onpointermove = e => {
     if (!drawing.from || !far(e)) return;
     // a selected node is moved, from any other a link is drawn
-    if (drawing.held === drawing.from) drawing.points[drawing.from - 1] = place(e); else drawing.to = place(e);
+    const spot = place(e), moves = drawing.held === drawing.from;
+    full = moves && close(spot, drawing.from);
+    if (moves) $('drawnote').textContent = full ? narrow : '';
+    if (!moves) drawing.to = spot; else if (!full) drawing.points[drawing.from - 1] = spot;
     board();
   };
   $('board').onpointerup = e => {
@@ -94,6 +101,8 @@ function boards() {
     else if (drawing.held && drawing.held !== from) { joinDrawn(drawing.held, from); drawing.held = 0; }
     else drawing.held = drawing.held === from ? 0 : from;
     redraw();
+    if (full) $('drawnote').textContent = narrow;
+    full = false;
   };
   $('drawn').oninput = e => { if (e.target.dataset.line) { drawing.lines[e.target.dataset.line][2] = e.target.value; board(); judgeWeights(); } };
   $('drawn').onclick = e => { if (e.target.dataset.gone) { drawing.lines.splice(+e.target.dataset.gone, 1); redraw(); } };

@@ -84,12 +84,13 @@ function explore(t, m, answer) {
 }
 
 // ---- the task at hand
-let task = null, taskState = { key: '' }, answered = 0, doneTasks = new Set((recall('done') || '').split(' ').filter(x => x));
+let task = null, taskState = { key: '' }, answered = 0, theirs = false, doneTasks = new Set((recall('done') || '').split(' ').filter(x => x));
 const taskOf = id => TASKS.find(t => t.id === id) || null;
 const wakeOf = t => t.wake === 'first';
 const ownTask = () => task && graphText === EXAMPLES[task.graph] && wakeFirst === wakeOf(task);
-function setTask(id) {
-  task = taskOf(id || ''); taskState = { key: '' }; answered = 0;
+// a run that somebody else has led doesn't do the task for the reader
+function setTask(id, another = false) {
+  task = taskOf(id || ''); taskState = { key: '' }; answered = 0; theirs = another;
   if (task && recall('guess') === null) $('guessing').checked = true;
   document.body.classList.toggle('tasked', !!task); guide();
   fitGuide();
@@ -104,6 +105,8 @@ function beginTask(id) {
   setTask(id);
   setAside(was, '');
 }
+// a run that comes with an address is judged as somebody else's, if it does the task already
+function setTaskOf(led) { setTask(led.task, true); theirs = !!task && taskSays()[0] === 'done'; }
 function leaveTask() { if (task && !ownTask()) setTask(''); }
 function leaveGuide() { leaveTour(); leaveTask(); }
 // what is said of the run: done, and by which event; that it can't be done any more; else nothing
@@ -120,10 +123,10 @@ function taskNow() {
 function taskSays() {
   if (!ownTask()) return ['', 'This is another network than the task\'s.'];
   const { m, hopeless } = taskNow();
-  if (m.done && task.ask && answered !== task.right) return ['half', 'The run is done, by event ' + m.done + '. ' + (answered ? 'That is not the reason.' : 'Now the question:')];
+  if (m.done && task.ask && answered !== task.right) return ['half', 'Event ' + m.done + ' completes the run. ' + (answered ? 'That is not the reason.' : 'Now answer:')];
   if (m.done) return ['done', 'Done by event ' + m.done + '.'];
-  if (m.lost) return ['lost', 'It can\'t be done any more: event ' + m.lost + ' decides it. Take back, or start over.'];
-  if (hopeless) return ['lost', 'It can\'t be done any more: all ' + hopeless + (hopeless > 1 ? ' states' : ' state') + ' that can follow were tried. Take back, or start over.'];
+  if (m.lost) return ['lost', 'This run can no longer do it: event ' + m.lost + ' rules it out. Take back, or start over.'];
+  if (hopeless) return ['lost', 'This run can no longer do it: the page tried ' + (hopeless > 1 ? 'all ' + hopeless + ' states' : 'the only state') + ' that can follow. Take back, or start over.'];
   return ['', ''];
 }
 
@@ -131,6 +134,7 @@ function taskSays() {
 const TOUR = @TOUR@, TOUR_RUNS = @TOUR_RUNS@;
 let tourAt = -1, tourLast = 0, beforeTour = null;
 const touring = () => tourAt >= 0;
+const ofTour = was => !was.first && Object.entries(TOUR_RUNS).some(([name, run]) => was.graph === EXAMPLES[name] && was.trace === run);
 function goTour(k) {
   const was = stateNow(), began = !touring();
   setTask('');
@@ -162,7 +166,8 @@ function leaveTour() {
 }
 // rings round what a step speaks of: nodes, links, and messages by their receiver and its port
 function rings() {
-  if (!touring() || graphText !== EXAMPLES[TOUR[tourAt].graph]) return;
+  if (tab !== 'net') $('rings').innerHTML = '';
+  if (!touring() || tab !== 'net' || graphText !== EXAMPLES[TOUR[tourAt].graph]) return;
   const stage = $('stage').getBoundingClientRect(), round = (x, y, r) => '<i style="left:' + (x - r).toFixed(1) + 'px;top:' + (y - r).toFixed(1) + 'px;width:' + (2 * r).toFixed(1) + 'px;height:' + (2 * r).toFixed(1) + 'px"></i>';
   const middle = e => { const b = e.getBoundingClientRect(); return [b.left + b.width / 2 - stage.left, b.top + b.height / 2 - stage.top, Math.max(b.width, b.height) / 2 + 7]; };
   $('rings').innerHTML = TOUR[tourAt].look.map(x => {
@@ -188,14 +193,20 @@ function guide() {
     rings();
   } else if (task) {
     const [how, words] = taskSays(), i = TASKS.indexOf(task), done = how === 'done';
-    if (done && !doneTasks.has(task.id)) { doneTasks.add(task.id); recall('done', [...doneTasks].join(' ')); }
+    if (done && !theirs && !doneTasks.has(task.id)) { doneTasks.add(task.id); recall('done', [...doneTasks].join(' ')); }
     const asks = task.ask && (how === 'half' || done) ? '<p>' + task.ask + '</p>' + task.answers.map((x, k) => '<label><input type="radio" name="answer" value="' + (k + 1) + '"' + (answered === k + 1 ? ' checked' : '') + '> ' + x + '</label>').join('') : '';
     table('guidetext', '<b>Task ' + (i + 1) + ' of ' + TASKS.length + ': ' + task.title + '.</b> ' + task.text + ' <span id="taskstate" role="status" class="' + how + '">' + words + '</span>' + asks);
     table('guidedo', (done ? button('tasknext', 'next task') : button('taskhint', 'hint', ' aria-expanded="false"')) + button('taskover', 'start over') + button('taskhand', 'hand in') + button('tasklistgo', 'all tasks') + button('taskleave', 'leave'));
   }
   // what the head holds is measured where it may have changed
   const holds = bar.hidden ? '' : $('guidetext').textContent + $('guidedo').textContent;
-  if (holds !== held) { held = holds; fitGuide(); }
+  if (holds !== held) {
+    held = holds;
+    fitGuide();
+    // a question that is asked is in sight
+    const text = $('guidetext'), state = $('taskstate');
+    if (state && text.querySelector('input')) text.scrollTop += state.getBoundingClientRect().top - text.getBoundingClientRect().top;
+  }
 }
 function listTasks() {
   $('tasklist').innerHTML = TASKS.map(t => '<li><button data-task="' + t.id + '"><b>' + t.title + '</b> <i>' + t.graph + '</i>' + (doneTasks.has(t.id) ? ' <span class="done">done</span>' : '') + '</button></li>').join('');
@@ -232,37 +243,43 @@ function openRule(row) {
   if (!name) return;
   const { work, does } = RULES.works[name];
   $('rulename').textContent = row;
-  $('rulework').innerHTML = marked(work) + ': ' + (does.length > 1 ? 'the first line that fits.' : 'what the node does.');
+  $('rulework').innerHTML = marked(work) + ': ' + (lines.length > 1 ? 'a sleeping node first does <b>wakeup</b>. Then the first line that fits.' : does.length > 1 ? 'the first line that fits.' : 'what the node does.');
   $('rulelines').innerHTML = does.map((x, i) => '<tr' + (lines.includes(i) ? ' class="mine" aria-current="true"' : '') + '><td>' + (lines.includes(i) ? '&#9654;' : '') + '</td><td>' + marked(x) + '</td></tr>').join('');
   $('ruleterms').innerHTML = RULES.terms.filter(([term]) => does.join().toLowerCase().includes('**' + term.toLowerCase() + '**')).map(([term, text]) => '<p><b>' + term + '.</b> ' + marked(text) + '</p>').join('') + '<p class="small">' + marked(RULES.head) + '</p>';
   $('rule').showModal();
 }
 
 // ---- handing in: one text, as a file or in a link (docs/FORMATS.md, "Hand-in")
-const CONTROL = /[\x00-\x1f\x7f]/g, plainName = x => x.replace(CONTROL, ' ').trim().slice(0, 60);
+const CONTROL = /[\x00-\x1f\x7f-\x9f]/g, clean = x => x.replace(CONTROL, '?'), plainName = x => x.replace(CONTROL, ' ').trim().slice(0, 60);
 function handInText() {
   const graph = graphText.replace(/\n*$/, '\n'), lines = graph.split('\n').length - 1, name = plainName($('handname').value);
   return 'hand-in 1\n' + (task ? 'task ' + task.id + '\n' : '') + (name ? 'name ' + name + '\n' : '') + 'wake ' + (wakeFirst ? 'first' : 'all') + '\n' + (task && task.ask && answered ? 'answer ' + answered + '\n' : '')
     + 'graph ' + lines + '\n' + graph + traceOf(eventsNow());
 }
-// the hand-ins of a text: each starts with its head line, and a link holds one
+// the hand-ins of a text: each starts with its head line, and a link holds one. Other words before them count for nothing;
+// a text that holds no hand-in at all is one that is refused
+const STRICT = new TextDecoder('utf-8', { fatal: true });
 function handInsOf(text) {
-  const out = [], put = part => { try { out.push(handIn(part)); } catch (e) { out.push({ refused: e.message }); } };
-  const plain = text.replace(/\S*#hand=([\w-]*)\S*/g, (link, code) => { let part = ''; try { part = decoded(code); } catch { part = ''; } put(part); return ''; });
-  for (const part of plain.split(/^(?=hand-in\b)/m)) if (part.trim()) put(part);
+  const out = [], put = part => { try { out.push(handIn(part)); } catch (e) { out.push({ refused: clean(e.message) }); } };
+  const plain = text.replace(/\S*#hand=([\w-]*)\S*/g, (link, code) => { let part = ''; try { part = decoded(code, STRICT); } catch { part = ''; } put(part); return ''; });
+  // the line feed before a head line ends what stands before it
+  const parts = ('\n' + plain).split(/\n\ufeff?(?=hand-in [0-9])/).slice(1);
+  parts.forEach((part, i) => put(i + 1 < parts.length ? part + '\n' : part));
+  if (!out.length && text.trim()) put(text);
   return out;
 }
 function handIn(text) {
-  const lines = text.replace(/\r/g, '').split('\n'), o = { task: '', name: '', wake: '', answer: 0, graph: '', trace: '' };
+  const lines = text.replace(/^\ufeff/, '').replace(/\r/g, '').split('\n'), o = { task: '', name: '', wake: '', answer: '', graph: '', trace: '' };
   if (lines.shift() !== 'hand-in 1') throw Error('it does not begin with "hand-in 1"');
   for (const seen = new Set(); ;) {
     const line = lines.shift() ?? '', [word, ...more] = line.split(' '), rest = more.join(' ');
     if (word === 'trace') { o.trace = [line, ...lines].join('\n'); break; }
     if (!['task', 'name', 'wake', 'answer', 'graph'].includes(word) || seen.has(word)) throw Error('this line is not of the format: ' + line.slice(0, 60));
     seen.add(word);
-    if (word === 'name' && (Array.from(rest).length > 60 || rest.search(CONTROL) >= 0)) throw Error('the name is no name');
+    if (word === 'name' && (Array.from(rest).length > 60 || rest.search(CONTROL) >= 0)) throw Error('the name is too long or has a control character');
+    if (line.search(CONTROL) >= 0) throw Error('this line has a control character: ' + line.slice(0, 60));
     if (word === 'graph') { if (!/^\d{1,7}$/.test(rest) || +rest > lines.length) throw Error('the graph has fewer lines than it says'); o.graph = lines.splice(0, +rest).map(x => x + '\n').join(''); }
-    else o[word] = word === 'answer' ? +rest : rest;
+    else o[word] = rest;
   }
   if (!o.graph || !['all', 'first'].includes(o.wake)) throw Error(o.graph ? 'it does not say who may wake' : 'it holds no graph');
   return o;
@@ -282,20 +299,25 @@ function judgeHandIn(o) {
   if (bare(o.graph) !== bare(EXAMPLES[t.graph])) return { ...o, how: 'refused', why: 'another network than the task\'s' };
   if (o.wake !== (wakeOf(t) ? 'first' : 'all')) return { ...o, how: 'refused', why: 'another wake set than the task\'s' };
   const m = judge(t, ran);
-  if (m.done && t.ask && o.answer !== t.right) return { ...o, how: 'not done', why: 'the run is done by event ' + m.done + ', the answer is not' };
+  if (m.done && t.ask && o.answer !== String(t.right)) return { ...o, how: 'not done', why: 'the run is done by event ' + m.done + ', the answer is not' };
   return m.done ? { ...o, how: 'done', why: 'by event ' + m.done } : { ...o, how: 'not done', why: m.lost ? 'event ' + m.lost + ' decides it' : '' };
 }
 function openHandIn(text) {
   const [o] = handInsOf(text), found = judgeHandIn(o || { refused: 'nothing was handed in' });
   if (found.how === 'refused' && !found.trace) return refuse({ fault: 'hand-in', words: found.why });
+  return showHandIn(found);
+}
+// one that was handed in is shown at its end, and the run that was there is set aside
+function showHandIn(o) {
+  const was = stateNow(), words = (o.name || 'Somebody') + (o.task ? ', task ' + o.task : '') + ': ' + o.how + (o.why ? ', ' + o.why : '') + '.';
   leaveTour();
-  const first = o.wake === 'first';
-  if (!restore({ graph: o.graph, first, trace: o.trace, at: 0, placed: null })) return false;
+  if (!restore({ graph: o.graph, first: o.wake === 'first', trace: o.trace, at: 0, placed: null })) return false;
   move(G.to);
-  setTask(o.task);
-  answered = o.answer;
+  setTask(o.task, true);
+  answered = /^[1-9]$/.test(o.answer) ? +o.answer : 0;
   guide();
-  say((o.name || 'Somebody') + (o.task ? ', task ' + o.task : '') + ': ' + found.how + (found.why ? ', ' + found.why : '') + '.');
+  say(words);
+  if (was.graph !== graphText || was.trace !== traceOf(eventsNow())) setAside(was, words);
   return true;
 }
 const safe = x => String(x).replace(/&/g, '&amp;').replace(/</g, '&lt;');
@@ -344,6 +366,7 @@ function guides() {
   $('startcheck').onclick = shut(() => $('check').showModal());
   $('gotour').onclick = () => goTour(tourLast);
   $('gostart').onclick = () => $('start').showModal();
+  $('moretools').onclick = () => { const all = $('tools').classList.toggle('all'); $('moretools').setAttribute('aria-expanded', all); $('moretools').textContent = all ? 'less' : 'more'; fitGuide(); };
   $('tasklist').onclick = e => { const b = e.target.closest('[data-task]'); if (b) beginTask(b.dataset.task); };
   $('guide').onclick = e => {
     const does = {
@@ -356,15 +379,17 @@ function guides() {
   $('guide').onchange = e => { if (e.target.name === 'answer') { answered = +e.target.value; guide(); } };
   $('say').onclick = ownGuess;
   $('guessing').checked = recall('guess') === 'yes';
-  $('guessing').onchange = () => { recall('guess', $('guessing').checked ? 'yes' : 'no'); if (asking && guess && guess.own) move(at + 1); };
+  $('guessing').onchange = () => { recall('guess', $('guessing').checked ? 'yes' : 'no'); if (asking && guess && guess.own) move(at + 1); else offer(); };
   $('handit').onclick = openHandInDialog;
   $('handname').oninput = writeHandIn;
+  // after a click a field for text keeps the keys
+  $('handname').onclick = e => e.stopPropagation();
   $('handcopy').onclick = async () => { $('handlink').select(); let ok = false; try { await navigator.clipboard.writeText($('handlink').value); ok = true; } catch { ok = document.execCommand('copy'); } $('handnote').textContent = ok ? 'Copied.' : 'Copy it by hand: it is selected.'; };
   $('handsave').onclick = () => keep((task ? task.id : 'run') + '.hand', handInText());
   $('checkgo').onclick = () => checkAll($('checktext').value);
   $('checkopen').onclick = () => $('checkfiles').click();
   $('checkfiles').onchange = async e => { const texts = await Promise.all([...e.target.files].map(f => f.text())); e.target.value = ''; $('checktext').value = texts.map(x => x.replace(/\n*$/, '\n')).join(''); checkAll($('checktext').value); };
-  $('checked').onclick = e => { const i = e.target.dataset.open; if (i === undefined) return; $('check').close(); const o = handed[i]; const first = wakeFirst; wakeFirst = o.wake === 'first'; const bad = faultOf(seenOf(o.graph, o.trace)); wakeFirst = first; if (bad) refuse(bad); else if (restore({ graph: o.graph, first: o.wake === 'first', trace: o.trace, at: 0, placed: null })) { move(G.to); setTask(o.task); answered = o.answer; guide(); say((o.name || 'Somebody') + ': ' + o.how + (o.why ? ', ' + o.why : '') + '.'); } };
+  $('checked').onclick = e => { const i = e.target.dataset.open; if (i === undefined) return; $('check').close(); showHandIn(handed[i]); };
   for (const id of ['tasks', 'rule', 'handin', 'check']) $('close' + id).onclick = () => $(id).close();
 }
 async function begin() {
@@ -389,7 +414,7 @@ async function begin() {
   document.title = 'ghs: how a network finds its minimum spanning tree';
   goto(led && !fault ? led.at : 0);
   show();
-  if (led && !fault) setTask(led.task);
+  if (led && !fault) setTaskOf(led);
   if (fault) refuse(fault);
   if (!goGuide(hash) && !led && hash.length < 2) $('start').showModal();
 }
