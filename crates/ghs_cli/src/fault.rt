@@ -8,7 +8,7 @@ use ghs_gr::text::TextFault;
 use ghs_make::fault::MakeFault;
 use ghs_report::portions::WriteFault;
 use ghs_report::write_out::Partial;
-use ghs_steps::show::StepsFault;
+use peer_steps::fault::StepsFault;
 use ghs_view::page::{PAGE_EVENTS, PAGE_NODES};
 use peer_explore::fault::{MOST_LINKS, MOST_NODES, NUMBERS};
 use peer_schedule::fault::ReplayFault;
