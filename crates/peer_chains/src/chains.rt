@@ -30,7 +30,14 @@ impl Model for Chains {
 }
 
 impl Chains {
-    /// No message has been sent.
+    /// No message has been sent. Refusal: out of memory.
+    ///
+    /// ```text
+    /// let mut chains = Chains::none(alloc, &graph)?;      // of nodes 1 and 2, and a link
+    /// chains.send(&graph, 1, &[(0, "wake up")])?;         // node 1 sends on its port 0; any type of message will do
+    /// chains.hear(Event::Take(2, 0), true, false)?;       // node 2, asleep, consumes it
+    /// // chains.longest() is 1: node 2 has heard of one message
+    /// ```
     pub fn none(alloc: Global, graph: &Graph) -> Result<Chains, AllocError>
         ensures fits { IfOk result (λ c. Fits graph.now c) }
         ensures none { IfOk result (λ c. seen c ≡ no_chains) }
