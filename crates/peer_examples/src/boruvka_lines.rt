@@ -179,7 +179,9 @@ fn assert_put(
     // Read for its clause: the events are a run.
     let _ = world.net();
     let mut text = Vec::new(alloc);
-    let net = put_lines::<Boruvka>(alloc, world.into_graph(), events, form, &mut text).expect(rt, "memory");
+    let net = put_lines::<Boruvka>(alloc, world.into_graph(), events, form, &mut text).expect(
+        rt, "memory",
+    );
     assert_eq!(rt; net.trace(), events);
     assert_eq!(rt; text.as_slice(), lines.as_bytes());
 }

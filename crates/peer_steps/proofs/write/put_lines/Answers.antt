@@ -19,6 +19,6 @@ loop-event-preserved g c =
       trace = grown c.loop-event.net.trace c.put_step.new.net.trace c.args.events.now c.loop-event.event-index (Wake 0) inv.trace
           c.loop-event-test.true put.trace;
       text = lines_put g.P.Protocol.rules g.P.Spoken.words c.args.form c.loop-event.net c.args.graph c.args.events.now c.loop-event.event-index
-      (Wake 0) _ _ _ inv.graph inv.trace
+          (Wake 0) _ _ _ inv.graph inv.trace
           c.loop-event-test.true inv.text put.text;
     }
