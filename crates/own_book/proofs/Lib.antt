@@ -1,0 +1,10 @@
+-- Serves the proofs: nothing here has to be believed.
+mod Cuts
+mod Entries
+mod Joined
+mod Judged
+mod Lists
+mod Readings
+mod Rows
+mod Signs
+mod Written
