@@ -1,4 +1,5 @@
 -- Serves the proofs: nothing here has to be believed.
+mod Queries
 mod Cuts
 mod Entries
 mod Joined

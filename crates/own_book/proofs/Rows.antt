@@ -76,6 +76,9 @@ opens_asleep = refl
 no_state : saying Opening (codes "asleep") ≡ None
 no_state = refl
 
+blank_in_a_state : saying Opening (codes "a=b c") ≡ None
+blank_in_a_state = refl
+
 sends_two : saying Take (codes "asleep=no done 0>accept 1>connect(0)") ≡ Some (reacts (codes "asleep=no") false (codes "0>accept 1>connect(0)"))
 sends_two = refl
 

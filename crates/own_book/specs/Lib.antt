@@ -1,5 +1,6 @@
 -- To be believed: contracts cite what stands here, and what it is made of.
 pub mod Answer
+pub mod Asking
 pub mod Book
 pub mod Entry
 pub mod Laws

@@ -1,5 +1,5 @@
 -- What fields are made of: words, numbers, states and messages.
-use Rattle.std.specs.Prelude.{ℕ, Bool, false, cond, ◌&&◌, ◌||◌, ◌==◌, nat_le, List, [], ◌∷◌, Option, Some, None}
+use Rattle.std.specs.Prelude.{ℕ, Bool, false, cond, not, ◌&&◌, ◌||◌, ◌==◌, nat_le, List, [], ◌∷◌, Option, Some, None}
 use Rattle.std.specs.Char.{is_ascii_alphanumeric}
 use Rattle.std.specs.List.{list_all}
 use Rattle.std.specs.Option.{is_some}
@@ -14,6 +14,10 @@ is_printable byte = nat_le 32 byte && nat_le byte 126
 -- a letter, a digit or `_`
 abbrev pub is_word_byte : ℕ → Bool
 is_word_byte byte = is_ascii_alphanumeric byte || byte == 95
+
+-- no blank, so that a text is one field of a line
+abbrev pub has_no_blank : List ℕ → Bool
+has_no_blank text = list_all (λ b. not (b == 32)) text
 
 -- a word: letters, digits and `_`, one at least
 abbrev pub is_word : List ℕ → Bool
@@ -53,9 +57,9 @@ has_name (Some (name, value)) = is_word name
 abbrev pub is_variable : List ℕ → Bool
 is_variable part = has_name (cut_at 61 part)
 
--- variables, a `;` between two
+-- variables, a `;` between two, and no blank
 abbrev pub is_state : List ℕ → Bool
-is_state field = list_all is_variable (parts_at 59 field)
+is_state field = has_no_blank field && list_all is_variable (parts_at 59 field)
 
 -- `VALUE,..)`, with something in front of the `)`
 abbrev pub are_arguments : Option (List ℕ) → Bool
@@ -67,6 +71,6 @@ abbrev pub are_message_parts : Option (List ℕ × List ℕ) → List ℕ → Bo
 are_message_parts None field = is_word field
 are_message_parts (Some (kind, arguments)) field = is_word kind && are_arguments (closed arguments)
 
--- `KIND`, or `KIND(VALUE,..)`
+-- `KIND`, or `KIND(VALUE,..)`, without a blank
 abbrev pub is_message : List ℕ → Bool
-is_message field = are_message_parts (cut_at 40 field) field
+is_message field = has_no_blank field && are_message_parts (cut_at 40 field) field

@@ -1,4 +1,5 @@
 //! Laws of the definitions, which cost nothing to call.
+ghost use Rattle.own_book.specs.Asking.{AsksTake, AsksWake};
 ghost use Rattle.own_book.specs.Laws.{IsMadeOf, IsOneReading, ReadsBack};
 ghost use Rattle.std.specs.Prelude.{List, ℕ};
 
@@ -15,4 +16,10 @@ pub fn law_book()
 /// Each text is one book or has one fault, and never both.
 pub fn law_one_book()
     ensures { (text : List ℕ) → IsOneReading text }
+{}
+
+/// What a run asks of a node of 32 bits in a state, with a message and a port of 32 bits, is a question.
+pub fn law_question()
+    ensures wake { (node : ℕ) (state : List ℕ) → AsksWake node state }
+    ensures take { (node port : ℕ) (message state : List ℕ) → AsksTake node port message state }
 {}

@@ -18,6 +18,7 @@
 #![tactic(auto)]
 
 pub mod answer;
+pub mod asking;
 pub mod book;
 pub mod fault;
 pub mod kind;

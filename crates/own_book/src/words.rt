@@ -1,6 +1,6 @@
 //! What fields are made of: words, numbers, states and messages.
-ghost use Rattle.own_book.specs.Parts.{closed as closed_of, cut_at};
-ghost use Rattle.own_book.specs.Words.{are_arguments, are_ends, has_leading_zero, is_key as is_key_of, is_message as is_message_of, is_printable, is_state as is_state_of, is_variable as is_variable_of, is_word as is_word_of, is_word_byte as is_word_byte_of, plain_number as plain_number_of};
+ghost use Rattle.own_book.specs.Parts.{closed as closed_of, cut_at, parts_at};
+ghost use Rattle.own_book.specs.Words.{are_arguments, are_ends, are_message_parts, has_leading_zero, has_no_blank as has_no_blank_of, is_key as is_key_of, is_message as is_message_of, is_printable, is_state as is_state_of, is_variable as is_variable_of, is_word as is_word_of, is_word_byte as is_word_byte_of, plain_number as plain_number_of};
 ghost use Rattle.std.specs.List.{list_all};
 ghost use Rattle.std.specs.Prelude.{◌≡◌};
 
@@ -93,6 +93,13 @@ fn has_ends(ends: &[u8]) -> bool
 pub(crate) fn is_state(field: &[u8]) -> bool
     ensures { result ≡ is_state_of field.now }
 {
+    has_no_blank(field) && are_variables(field)
+}
+
+/// Whether all parts are variables.
+fn are_variables(field: &[u8]) -> bool
+    ensures { result ≡ list_all is_variable_of (parts_at 59 field.now) }
+{
     let mut rest = field;
     while let Some((part, after)) = cut(rest, b';') {
         if !is_variable(part) {
@@ -101,6 +108,20 @@ pub(crate) fn is_state(field: &[u8]) -> bool
         rest = after;
     }
     is_variable(rest)
+}
+
+/// Whether a text is one field.
+fn has_no_blank(text: &[u8]) -> bool
+    ensures { result ≡ has_no_blank_of text.now }
+{
+    let mut rest = text;
+    while let Some((byte, after)) = rest.split_first() {
+        if *byte == b' ' {
+            return false;
+        }
+        rest = after;
+    }
+    true
 }
 
 /// Whether a part of a state is `NAME=VALUE`.
@@ -116,6 +137,12 @@ fn is_variable(part: &[u8]) -> bool
 /// Whether a field is a message: `KIND`, or `KIND(VALUE,..)`.
 pub(crate) fn is_message(field: &[u8]) -> bool
     ensures { result ≡ is_message_of field.now }
+{
+    has_no_blank(field) && has_message_parts(field)
+}
+
+fn has_message_parts(field: &[u8]) -> bool
+    ensures { result ≡ are_message_parts (cut_at 40 field.now) field.now }
 {
     match cut(field, b'(') {
         Some((kind, arguments)) => is_word(kind) && has_arguments(arguments),

@@ -1,5 +1,6 @@
 //! Questions and answers, taken apart.
 use own_book::answer::{Answer, next_sent, read_answer};
+use own_book::asking::{put_take, put_wake};
 use own_book::fault::LineFault;
 use own_book::kind::{ArgumentType, next_kind, next_type};
 use own_book::line::read_line;
@@ -88,6 +89,27 @@ fn a_reaction_is_taken_apart(rt: HostRuntime) {
     assert_eq!(rt; second.port, 12);
     assert_eq!(rt; second.message, b"connect(0)".as_slice());
     assert!(rt; next_sent(rest).is_none());
+}
+
+#[test]
+fn questions_are_written(rt: HostRuntime) {
+    let mut text = Vec::new(rt.alloc());
+    put_wake(&mut text, 1, b"asleep=yes").expect(&rt, "memory for a question");
+    assert_eq!(rt; text.as_slice(), b"wake 1 asleep=yes".as_slice());
+    assert_eq!(rt; asked_of(&text), Ok(Asked::Wake));
+    let mut text = Vec::new(rt.alloc());
+    put_take(&mut text, 20, 0, b"test(1,1:1-2)", b"level=0").expect(&rt, "memory for a question");
+    assert_eq!(rt;
+        text.as_slice(),
+        b"take 20 0 test(1,1:1-2) level=0".as_slice()
+    );
+    assert_eq!(rt; asked_of(&text), Ok(Asked::Take));
+}
+
+#[test]
+fn a_state_has_no_blank(rt: HostRuntime) {
+    assert!(rt; read_answer(Asked::Opening, b"asleep=yes;a=").is_some());
+    assert!(rt; read_answer(Asked::Opening, b"asleep=yes a=1").is_none());
 }
 
 #[test]
