@@ -1,10 +1,12 @@
 //! Knocking, the smallest protocol that defers messages: a node that wakes by itself knocks at all its neighbors, and a sleeping
 //! node defers a knock until it wakes. It shows how a protocol defers, and that the machine's deferral isn't empty.
 //!
-//! Proved: the reactions and what is deferred are those of the rules (`Knocking`, an `impl Protocol`); in every run of every
-//! graph, whoever wakes, each lawful event has a rule, and at most twice as many messages are sent as there are links (the laws
-//! of the `impl`). Its runs have no bound, since a sleeping node may take and defer a knock again and again. Next:
-//! `peer_examples`, which plays such a run.
+//! Proved: the reactions and what is deferred are those of the rules (`Knocking`, an `impl Protocol`). In every run of every
+//! graph, whichever nodes wake, each lawful event has a rule, and at most twice as many messages are sent as there are links
+//! (the laws of the `impl`).
+//!
+//! Not claimed: that its runs end. A sleeping node may take and defer a knock again and again. Next: `peer_examples`, which
+//! plays such a run.
 #![tactic(auto)]
 
 pub mod knock;
