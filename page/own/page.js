@@ -1,0 +1,350 @@
+// ---- the page: what is typed, run, shown
+const $ = id => document.getElementById(id);
+const NETWORKS = {
+  triangle: 'p sp 3 3\na 1 2 1\na 2 3 2\na 1 3 3\n',
+  'ring of six': 'p sp 6 6\na 1 2 4\na 2 3 1\na 3 4 5\na 4 5 2\na 5 6 6\na 6 1 3\n',
+  'path of five': 'p sp 5 4\na 1 2 1\na 2 3 2\na 4 5 3\na 3 4 4\n',
+  'grid of six': 'p sp 6 7\na 1 2 4\na 1 3 6\na 2 4 1\na 3 4 5\na 3 5 7\na 4 6 2\na 5 6 3\n',
+};
+const SUITS = { echo: { wake: 'first', end: 'quiet', check: 'spanning' }, ghs: { wake: 'all', end: 'halted', check: 'tree' } };
+const escaped = s => String(s).replace(/[&<>"]/g, c => ({ '&': '&amp;', '<': '&lt;', '>': '&gt;', '"': '&quot;' })[c]);
+
+// ---- the proved code
+let box = null, room = 0n, roomSize = 1 << 18;
+function allot(n) {
+  const at = box.heap_take(BigInt(Math.max(1, n)));
+  if (!at) throw new Refused('The page is out of memory.');
+  return at;
+}
+function proved(f, graph, trace, ...more) {
+  const hold = text => { const bytes = new TextEncoder().encode(text), at = allot(bytes.length); new Uint8Array(box.memory.buffer).set(bytes, Number(at)); return [at, BigInt(bytes.length)]; };
+  const g = hold(graph), t = hold(trace);
+  for (;;) {
+    room = room || allot(roomSize);
+    const n = Number(f(here.wake === 'first' ? 1 : 0, ...g, ...t, ...more, room, BigInt(roomSize)));
+    if (n <= roomSize) {
+      const text = new TextDecoder().decode(new Uint8Array(box.memory.buffer, Number(room), n));
+      box.heap_free(g[0]);
+      box.heap_free(t[0]);
+      return text;
+    }
+    box.heap_free(room);
+    room = 0n;
+    roomSize = 2 * n;
+  }
+}
+
+// ---- what is at hand: the graph, the rules or a book, and the run that is looked at
+const here = { graphText: null, graph: null, rulesText: null, rules: null, asked: null, book: null, net: null, wake: 'all' };
+const seen = trace => proved(box.ghs_web_seen, here.graphText, trace);
+function readGraph() {
+  const text = $('graph').value;
+  if (text === here.graphText) return;
+  const told = proved(box.ghs_web_seen, text, 'trace 0\n');
+  if (told.startsWith('{"fault"')) throw new Refused('The graph is refused: ' + JSON.parse(told).words + '.');
+  const lines = linesOf(told), nodes = lines[0].nodes;
+  if (nodes > LIMITS.nodes) throw new Refused('The graph has ' + nodes + ' nodes, and this page takes at most ' + LIMITS.nodes + '.');
+  Object.assign(here, { graphText: text, graph: new Graph(nodes, lines.filter(x => x.link)), rules: null, net: null, places: null });
+  const was = $('wake').value;
+  $('wake').innerHTML = '<option value="all">all nodes</option><option value="first">the first of each component</option>' + Array.from({ length: nodes }, (_, i) => '<option value="' + (i + 1) + '">node ' + (i + 1) + '</option>').join('');
+  $('wake').value = was;
+  if ($('wake').selectedIndex < 0) $('wake').value = 'all';
+}
+// the rules for the graph at hand; other rules or another graph begin another book
+async function ready() {
+  readGraph();
+  here.wake = $('wake').value;
+  const text = $('rules').value;
+  if (!here.book && text !== here.rulesText) { here.asked?.close(); here.asked = new Asked(LIBRARY, here.rulesText = text); here.rules = null; }
+  if (!here.rules) here.net = null;
+  if (!here.rules) {
+    const rules = new Rules(here.graph, here.book ? null : here.asked, here.book || new Map());
+    here.last = rules;
+    here.rules = await rules.begin();
+  }
+  here.last = here.rules;
+  keep();
+  return here.rules;
+}
+const options = () => ({ wake: here.wake, end: $('end').value, check: $('check').value, limit: Math.max(1, Math.min(1000000, +$('limit').value || 1)) });
+const seedNow = () => { const s = $('seed').value; if (!/^\d{1,20}$/.test(s) || BigInt(s) >= 1n << 64n) throw new Refused('A seed is a whole number below 2^64.'); return s; };
+function keep() { try { for (const id of ['rules', 'graph']) sessionStorage.setItem('own.' + id, here.book && id === 'rules' ? here.rulesText || '' : $(id).value); } catch { /* then nothing is kept */ } }
+
+// ---- commands, one at a time
+let busy = false, stopped = false;
+const pause = {
+  next: 0,
+  due() { return performance.now() > this.next; },
+  async now(states) {
+    if (states) tell('', '<p>' + states + ' states so far.</p>');
+    await new Promise(done => setTimeout(done));
+    if (stopped) throw new Refused('Stopped' + (states ? ' after ' + states + ' states' : '') + '; nothing is said of the rest.');
+    this.next = performance.now() + 60;
+  },
+};
+function tell(how, html) { $('verdict').className = how; $('verdict').innerHTML = html; }
+const table = rows => '<table>' + rows.filter(r => r[1] !== undefined && r[1] !== '').map(([a, b]) => '<tr><th>' + a + '</th><td>' + escaped(b) + '</td></tr>').join('') + '</table>';
+const orderText = events => events.length ? events.map(eventText).join('; ') : 'none: before the first event';
+async function command(f) {
+  if (busy) return;
+  busy = true;
+  stopped = false;
+  pause.next = performance.now() + 60;
+  for (const b of document.querySelectorAll('#acts button')) b.disabled = b.id !== 'stop';
+  document.body.dataset.busy = 'yes';
+  try {
+    const rules = await ready();
+    await f(rules, options());
+    await rules.again();
+  } catch (e) {
+    if (e instanceof NodeFault) await tellFault(e);
+    else if (e instanceof Refused) tell('wrong', '<p>' + escaped(e.message) + '</p>');
+    else tell('wrong', '<p>This page has a fault of its own: ' + escaped(e.message) + '</p>');
+  } finally {
+    for (const b of document.querySelectorAll('#acts button')) b.disabled = b.id === 'stop';
+    busy = false;
+    delete document.body.dataset.busy;
+    show();
+  }
+}
+async function tellFault(e) {
+  const events = e.events || [];
+  tell('wrong', '<p><b>' + e.name + '</b>: ' + escaped(e.message) + '.</p>' + table([
+    ['question', e.question], ['answer', e.answer === undefined ? 'none' : e.answer],
+    e.name === 'WAVERS' ? ['how', 'The page asks every question a second time.'] : ['events that led there', events.length + ': ' + orderText(events)]]));
+  if (events.length && here.rules) await open(events.slice(0, -1));
+}
+async function open(events) {
+  here.net = new Net(here.rules, here.wake);
+  for (const e of events) await here.net.play(e);
+}
+const forestOf = m => (m.both.length ? m.both.join(', ') : 'none') + (m.one.length ? '; at one end alone: ' + m.one.join(', ') : '');
+const ENDS = { halted: 'ended, each component with a halted node', quiet: 'ended, and nothing may happen any more', stuck: 'came to a standstill: nothing may happen any more, and not every component has a node that has halted', turns: 'did not end within ' + LIMITS.turns + ' events' };
+async function runOne(rules, o) {
+  const net = new Net(rules, o.wake), seed = seedNow();
+  here.net = net;
+  const end = await runBy(net, seed, o.end, LIMITS.turns, pause), wrong = end === 'stuck' || end === 'turns' ? null : wrongAtEnd(net.graph, net.state, o.check);
+  const bad = wrong || end === 'stuck' || end === 'turns';
+  tell(bad ? 'wrong' : '', '<p>The run of seed ' + seed + ' ' + ENDS[end] + ': ' + net.steps.length + ' events, ' + net.total + ' messages, ' + net.deferred + ' deferred.</p>' + (wrong ? '<p>It ends wrong: ' + escaped(wrong) + '.</p>' : '') +
+    table([['messages', rules.kinds.map(k => k + '=' + net.sent[k]).join(' ')], ['marked links', forestOf(net.marked())], ['minimum spanning forest', net.graph.forest.join(', ') || 'none'], ['questions', rules.book.size + ' in the book']]));
+}
+async function hundred(rules, o) {
+  const ends = {}, marks = new Map(), sums = [];
+  for (let seed = 0; seed < 100; seed++) {
+    const net = new Net(rules, o.wake), end = await runBy(net, seed, o.end, LIMITS.turns, pause);
+    ends[end] = (ends[end] || 0) + 1;
+    const m = net.marked(), wrong = end === 'halted' || end === 'quiet' ? wrongAtEnd(net.graph, net.state, o.check) : ENDS[end], text = forestOf(m);
+    if (!marks.has(text)) marks.set(text, { seed, many: 0, forest: !m.one.length && m.both.join() === net.graph.forest.join(), wrong });
+    marks.get(text).many++;
+    marks.get(text).wrong ||= wrong;
+    sums.push([net.total, seed]);
+  }
+  const least = sums.reduce((a, b) => b[0] < a[0] ? b : a), most = sums.reduce((a, b) => b[0] > a[0] ? b : a), button = seed => ' <button data-seed="' + seed + '">seed ' + seed + '</button>';
+  const right = [...marks.values()].filter(m => m.forest).reduce((n, m) => n + m.many, 0);
+  tell([...marks.values()].some(m => m.wrong) ? 'wrong' : '', '<p>Seeds 0 to 99: ' + Object.entries(ends).map(([k, n]) => n + ' ' + ENDS[k]).join('; ') + '.</p><p>' + (least[0] === most[0] ? least[0] : least[0] + button(least[1]) + ' to ' + most[0] + button(most[1])) + ' messages. The marked links are the minimum spanning forest in ' + right + ' of 100.</p>' +
+    '<table><tr><th>seeds</th><th>marked links</th><th></th></tr>' + [...marks].map(([text, m]) => '<tr><td>' + m.many + '</td><td>' + escaped(text) + (m.forest ? ' (the minimum spanning forest)' : '') + (m.wrong ? '; wrong: ' + escaped(m.wrong) : '') + '</td><td>' + button(m.seed) + '</td></tr>').join('') + '</table>');
+}
+const between = (least, most) => least === most ? least : least + ' to ' + most;
+const tooMany = told => '<p>There are more than ' + told.states + ' states. The search stops here and says nothing of the rest: take a smaller network, or allow more states.</p>';
+async function orders(rules, o) {
+  const told = await allOrders(rules, o, pause);
+  if (told.many) return tell('wrong', tooMany(told));
+  if (told.wrong) {
+    await open(told.way);
+    return tell('wrong', '<p>An order of ' + told.way.length + ' events ends wrong: ' + escaped(told.wrong) + '. No shorter order does.</p>' + table([['order', orderText(told.way)], ['states seen', told.states]]));
+  }
+  const sums = told.ends.map(c => c.reduce((a, b) => a + b, 0));
+  told.ends.sort((a, b) => a.reduce((x, y) => x + y, 0) - b.reduce((x, y) => x + y, 0));
+  tell('', '<p>All orders of this network: ' + told.states + ' states, ' + told.events + ' events tried, and each order that ends is right. They end with ' + between(Math.min(...sums), Math.max(...sums)) + ' messages.</p>' +
+    table(told.ends.slice(0, 40).map(c => [c.reduce((a, b) => a + b, 0), rules.kinds.map((k, i) => k + '=' + c[i]).join(' ')])));
+}
+const saidKind = k => k === 'changeroot' ? 'ChangeRoot' : k[0].toUpperCase() + k.slice(1);
+const said = m => { const i = m.indexOf('('); return i < 0 ? saidKind(m) : saidKind(m.slice(0, i)) + m.slice(i).replace(/,/g, ', ').replace('(-)', '(nothing)'); };
+const reaction = (v, told, halts) => [told.waits ? 'the message waits' : '', told.sends.length ? 'sends ' + told.sends.map(([p, m]) => said(m) + ' to node ' + here.graph.ports[v][p].far).join(', ') : '', halts ? 'halts' : ''].filter(x => x).join(', and ') || 'sends nothing';
+async function tellDifference(d, head) {
+  const told = linesOf(seen('trace 0\n')).find(x => x.protocol), level = d.m ? (/\((\d+)/.exec(d.m) || [])[1] : undefined, phase = told.phases.find(x => x.phase === d.before.phase);
+  const why = d.proved.waits && told.waits[d.proved.row], mark = d.p === null ? '' : d.before.marks[d.p] || 'basic';
+  // a message that wakes the node meets what it has become by waking, as the row's words have it
+  const node = d.before.phase === 'sleeping' ? { ...d.before, phase: 'found', mark: d.p === 0 ? 'branch' : mark } : { ...d.before, mark };
+  // where the node gives no answer the run is shown to the event before
+  await open(d.told.fault ? d.way.slice(0, -1) : d.way);
+  const number = d.shortest ? d.event : d.way.length;
+  tell('wrong', '<p>' + head + '</p>' + table([
+    ['event ' + number, 'node ' + d.v + (d.before.phase === 'sleeping' ? ', asleep' : ', ' + phase.name + ' at level ' + d.before.level) + ', ' + (d.p === null ? 'wakes by itself' : 'takes ' + said(d.m) + ' on port ' + d.p + ', from node ' + here.graph.ports[d.v][d.p].far)],
+    ['by row ' + d.proved.row, reaction(d.v, d.proved, d.proved.halts)],
+    ['your node', d.told.fault ? 'gives no answer: ' + d.told.fault.name + ': ' + d.told.fault.message : reaction(d.v, d.told, d.told.halts && !isOn(d.old, 'halted'))],
+    ['the row', told.rows[d.proved.row]],
+    ['it waits', why ? why.replace(/\{(\w+)\.(\w+)\}/g, (_, of, x) => of === 'message' ? level : node[x] ?? '-') : undefined],
+    ['your node before it', d.old],
+    [(d.shortest ? 'a shortest order' : 'its causes alone') + ', ' + d.way.length + ' events', orderText(d.way)]]));
+}
+async function compare(rules, o) {
+  const rows = new Set();
+  let events = 0;
+  const seeds = [...new Set([String(seedNow()), ...Array.from({ length: 100 }, (_, i) => String(i))])];
+  for (const seed of seeds) {
+    const net = new Net(rules, o.wake);
+    let fault = null;
+    try { await runBy(net, seed, 'halted', 2000, pause); } catch (e) { if (!(e instanceof NodeFault)) throw e; fault = e; }
+    const d = await besideRun(rules, fault ? fault.events : net.events(), seen, rows);
+    if (d.way) return tellDifference(d, 'Your node differs from the proved node at event ' + d.event + ' of the run of seed ' + escaped(seed) + '; its causes alone are a run of ' + d.way.length + ' events.');
+    if (fault) throw fault;
+    events += d.events;
+    if (pause.due()) await pause.now();
+  }
+  tell('', '<p>Your node reacts as the proved node in all ' + events + ' events of ' + seeds.length + ' seeds; ' + rows.size + ' of 23 rows were met.</p>');
+}
+async function compareAll(rules, o) {
+  const rows = new Set(), d = await besideAll(rules, o, seen, rows, pause);
+  if (d.way) return tellDifference(d, 'Your node differs from the proved node. No shorter order shows it.');
+  if (d.many) return tell('wrong', tooMany(d));
+  tell('', '<p>Your node reacts as the proved node on every order of this network: ' + d.states + ' states, ' + d.events + ' events; ' + rows.size + ' of 23 rows were met.</p>');
+}
+
+// ---- files
+function save(text, name) {
+  const link = document.createElement('a');
+  link.href = URL.createObjectURL(new Blob([text], { type: 'text/plain' }));
+  link.download = name;
+  link.click();
+  setTimeout(() => URL.revokeObjectURL(link.href), 10000);
+}
+function takeBook(text) {
+  try {
+    const book = readBook(text);
+    Object.assign(here, { book, rules: null, net: null });
+    $('source').textContent = '(a book of ' + book.size + ' answers is loaded, and answers in their place)';
+    $('rules').disabled = true;
+    $('leavebook').hidden = false;
+    const net = [...book.keys()].filter(q => q.startsWith('open ')).length;
+    tell('', '<p>The book is read: ' + book.size + ' answers, of ' + net + ' nodes.</p>');
+  } catch (e) { if (!(e instanceof Refused)) throw e; tell('wrong', '<p>' + escaped(e.message) + '</p>'); }
+  show();
+}
+function leaveBook() {
+  Object.assign(here, { book: null, rules: null, net: null });
+  $('source').textContent = '';
+  $('rules').disabled = false;
+  $('leavebook').hidden = true;
+  show();
+}
+
+// ---- what is seen of the run
+const el = (name, attrs, parent) => { const e = document.createElementNS('http://www.w3.org/2000/svg', name); for (const a in attrs) e.setAttribute(a, attrs[a]); if (parent) parent.append(e); return e; };
+@PLACES@
+// each component by itself, side by side
+function placesOf(graph) {
+  const at = [], far = v => graph.ports[v].map(p => p.far);
+  let left = 0;
+  for (const r of graph.roots) {
+    const list = graph.root.map((x, v) => x === r ? v : 0).filter(v => v), spots = place(list, far), xs = spots.map(s => s[0]), ys = spots.map(s => s[1]);
+    const x0 = Math.min(...xs), y0 = (Math.min(...ys) + Math.max(...ys)) / 2;
+    list.forEach((v, i) => { at[v] = [left + spots[i][0] - x0, spots[i][1] - y0]; });
+    left += Math.max(...xs) - x0 + 1;
+  }
+  const xs = at.slice(1).map(s => s[0]), ys = at.slice(1).map(s => s[1]), wide = Math.max(...xs) - Math.min(...xs), high = Math.max(...ys) - Math.min(...ys);
+  const unit = Math.min(540 / (wide || 1), 230 / (high || 1), 150), x0 = (Math.max(...xs) + Math.min(...xs)) / 2, y0 = (Math.max(...ys) + Math.min(...ys)) / 2;
+  return at.map(s => [320 + (s[0] - x0) * unit, 150 + (s[1] - y0) * unit]);
+}
+const LOOKS = { branch: 'tree', rejected: 'closed' };
+function draw(net, step) {
+  const svg = $('net'), graph = here.graph, at = here.places ??= placesOf(graph), pairs = new Map(), r = graph.nodes > 30 ? 9 : 15;
+  svg.textContent = '';
+  svg.setAttribute('viewBox', '0 0 640 300');
+  for (const l of graph.links) {
+    const pair = l.a + ' ' + l.b, k = pairs.get(pair) || 0, [xa, ya] = at[l.a], [xb, yb] = at[l.b], long = Math.hypot(xb - xa, yb - ya) || 1;
+    pairs.set(pair, k + 1);
+    // parallel links are bent apart
+    const bend = Math.ceil(k / 2) * (k % 2 ? 26 : -26), mx = (xa + xb) / 2 - (yb - ya) / long * bend, my = (ya + yb) / 2 + (xb - xa) / long * bend;
+    for (const [v, p, x, y, far, q] of [[l.a, l.pa, xa, ya, l.b, l.pb], [l.b, l.pb, xb, yb, l.a, l.pa]]) {
+      const mark = net ? marksOf(net.state[v])[p] || 'basic' : 'basic';
+      el('path', { class: 'half ' + (LOOKS[mark] || ''), d: 'M' + x + ' ' + y + 'L' + mx + ' ' + my }, svg);
+      const list = net ? net.queues[v][p] : [], d = Math.hypot(mx - x, my - y) || 1;
+      list.slice(0, 3).forEach((m, i) => {
+        const t = Math.min(.95, (r + 13 + 17 * i) / d), px = x + (mx - x) * t, py = y + (my - y) * t, fresh = step && step.told.sends.some(([port, text]) => step.v === far && port === q && text === m) && i === list.lastIndexOf(m);
+        const g = el('g', { class: 'pillmark' + (fresh ? ' fresh' : '') }, svg);
+        el('title', {}, g).textContent = m + ' waits at node ' + v + ', from node ' + far;
+        el('rect', { x: px - 8, y: py - 8, width: 16, height: 16, rx: 6 }, g);
+        el('text', { x: px, y: py }, g).textContent = i === 2 && list.length > 3 ? '+' + (list.length - 2) : m[0].toUpperCase();
+      });
+    }
+    if (graph.links.length < 100) el('text', { class: 'weight', x: mx, y: my }, svg).textContent = l.weight;
+  }
+  for (let v = 1; v <= graph.nodes; v++) {
+    const state = net ? net.state[v] : '', g = el('g', { class: 'node' + (isOn(state, 'asleep') ? ' asleep' : '') + (isOn(state, 'halted') ? ' halted' : '') + (step && step.v === v ? ' at' : '') }, svg);
+    el('title', {}, g).textContent = 'node ' + v + (state ? ': ' + state : '');
+    el('circle', { class: 'body', cx: at[v][0], cy: at[v][1], r }, g);
+    el('circle', { class: 'stop', cx: at[v][0], cy: at[v][1], r: r + 5 }, g);
+    el('text', { x: at[v][0], y: at[v][1] }, g).textContent = v;
+  }
+}
+function show() {
+  const net = here.net, n = net ? net.steps.length : 0, at = net ? net.at : 0, step = at > 0 ? net.steps[at - 1] : null;
+  $('seek').max = n;
+  $('seek').value = at;
+  $('count').textContent = net ? 'event ' + at + ' of ' + n : 'no run yet';
+  for (const [id, off] of [['first', at === 0], ['back', at === 0], ['forth', at === n], ['last', at === n]]) $(id).disabled = !net || off;
+  if (here.graph) draw(net, step);
+  $('savebook').disabled = !here.last || !here.last.book.size;
+  $('savetrace').disabled = !net;
+  $('trace').textContent = net ? traceText(here.rules.name, net.events()) : '';
+  if (!net) { for (const id of ['vars', 'queues', 'say', 'line']) $(id).textContent = ''; return; }
+  const far = (v, p) => here.graph.ports[v][p].far, now = net.state.map((s, v) => v ? varsOf(s) : null), was = step ? varsOf(step.old) : {}, names = [...new Set(now.slice(1).flatMap(x => Object.keys(x)))];
+  $('vars').innerHTML = '<table><tr><th>node</th>' + names.map(k => '<th>' + escaped(k) + '</th>').join('') + '</tr>' + now.map((x, v) => v ? '<tr data-node="' + v + '"' + (step && step.v === v ? ' class="at"' : '') + '><td>' + v + '</td>' + names.map(k => '<td' + (step && step.v === v && was[k] !== x[k] ? ' class="new"' : '') + '>' + escaped(x[k] ?? '') + '</td>').join('') + '</tr>' : '').join('') + '</table>';
+  const lines = [];
+  for (let v = 1; v <= net.graph.nodes; v++) net.queues[v].forEach((q, p) => { if (q.length) lines.push('<tr><td>node ' + v + ', port ' + p + ', from node ' + far(v, p) + '</td><td>' + q.map(escaped).join(', ') + '</td></tr>'); });
+  $('queues').innerHTML = lines.length ? '<table>' + lines.join('') + '</table>' : 'none';
+  if (!step) { $('say').textContent = 'The opening: all nodes sleep.'; $('line').textContent = ''; return; }
+  const then = varsOf(step.told.state), changes = Object.keys(then).filter(k => was[k] !== then[k]).map(k => k + ' ' + (was[k] ?? 'none') + ' becomes ' + then[k]);
+  $('say').innerHTML = '<b>Event ' + at + '</b>: node ' + step.v + (step.p === null ? ' wakes by itself' : ' takes ' + escaped(step.m) + ' on port ' + step.p + ', from node ' + far(step.v, step.p) + (step.told.waits ? ', and it waits' : '')) + '. ' +
+    (step.told.sends.length ? 'It sends ' + step.told.sends.map(([p, m]) => escaped(m) + ' to node ' + far(step.v, p)).join(', ') + '. ' : 'It sends nothing. ') + (changes.length ? escaped(changes.join('; ')) + '.' : 'No variable changes.');
+  const q = here.rules.question(step.v, step.p, step.m, step.old);
+  $('line').textContent = lineOf(q, here.rules.book.get(q));
+}
+function move(k) { if (here.net && !busy) { here.net.goto(k); show(); } }
+const setTheme = dark => { document.documentElement.classList.toggle('dark', dark); $('theme').textContent = dark ? 'light' : 'dark'; };
+
+async function start() {
+  try { setTheme(matchMedia('(prefers-color-scheme: dark)').matches); } catch { /* then it is light */ }
+  $('theme').onclick = () => setTheme(!document.documentElement.classList.contains('dark'));
+  const pick = (id, from) => { $(id).innerHTML = '<option value="">choose ..</option>' + Object.keys(from).map(k => '<option>' + k + '</option>').join(''); };
+  pick('example', EXAMPLES);
+  pick('network', NETWORKS);
+  const kept = id => { try { return sessionStorage.getItem('own.' + id); } catch { return null; } };
+  $('rules').value = kept('rules') || EXAMPLES.ghs;
+  $('graph').value = kept('graph') || NETWORKS.triangle;
+  try {
+    box = (await WebAssembly.instantiate(Uint8Array.from(atob($('module').textContent.trim()), c => c.charCodeAt(0)), {})).instance.exports;
+    readGraph();
+  } catch (e) { tell('wrong', '<p>' + escaped(e instanceof Refused ? e.message : 'This browser cannot start the proved code: ' + e.message) + '</p>'); if (!box) return; }
+  const suit = name => { for (const k in SUITS[name]) $(k).value = SUITS[name][k]; };
+  suit(/class\s+Echo\b/.test($('rules').value) ? 'echo' : 'ghs');
+  $('example').onchange = e => { const name = e.target.value; if (!name || busy) return; if (here.book) leaveBook(); $('rules').value = EXAMPLES[name]; suit(name); here.net = null; tell('', ''); show(); e.target.value = ''; };
+  $('network').onchange = e => { if (!e.target.value || busy) return; $('graph').value = NETWORKS[e.target.value]; fresh(); e.target.value = ''; };
+  const fresh = () => { try { readGraph(); tell('', ''); } catch (e) { tell('wrong', '<p>' + escaped(e.message) + '</p>'); } show(); };
+  $('graph').onchange = () => { if (!busy) fresh(); };
+  for (const [id, f] of [['run', runOne], ['hundred', hundred], ['orders', orders], ['compare', compare], ['compareall', compareAll]]) $(id).onclick = () => command(f);
+  $('stop').onclick = () => { stopped = true; };
+  $('verdict').onclick = e => { const seed = e.target.dataset?.seed; if (seed !== undefined) { $('seed').value = seed; command(runOne); } };
+  $('saverules').onclick = () => save($('rules').value, 'rules.js');
+  $('savegraph').onclick = () => save($('graph').value, 'graph.gr');
+  $('savebook').onclick = () => save(bookText(here.last.book), 'node.book');
+  $('savetrace').onclick = () => save($('trace').textContent, 'run.trace');
+  $('loadbook').onclick = () => $('bookfile').click();
+  $('bookfile').onchange = async e => { const file = e.target.files[0]; e.target.value = ''; if (file && !busy) takeBook(new TextDecoder('latin1').decode(await file.arrayBuffer())); };
+  $('leavebook').onclick = () => { if (!busy) leaveBook(); };
+  $('first').onclick = () => move(0);
+  $('last').onclick = () => move(Infinity);
+  $('back').onclick = () => move(here.net.at - 1);
+  $('forth').onclick = () => move(here.net.at + 1);
+  $('seek').oninput = e => move(+e.target.value);
+  addEventListener('keydown', e => {
+    if (e.key === 'Enter' && e.ctrlKey) { e.preventDefault(); command(runOne); return; }
+    if (e.target.matches('textarea, input, select, .scroll') || e.ctrlKey || e.altKey || e.metaKey || !here.net) return;
+    const to = { ArrowLeft: here.net.at - 1, ArrowRight: here.net.at + 1, Home: 0, End: Infinity }[e.key];
+    if (to !== undefined) { e.preventDefault(); move(to); }
+  });
+  show();
+  document.body.dataset.ready = 'yes';
+}
+start();
