@@ -62,7 +62,7 @@ async function ready() {
     here.last = rules;
     here.rules = await rules.begin();
   }
-  here.last = here.rules;
+  here.rules.faults.clear();
   keep();
   return here.rules;
 }
@@ -84,7 +84,7 @@ const pause = {
 };
 function tell(how, html) { $('verdict').className = how; $('verdict').innerHTML = html; }
 const table = rows => '<table>' + rows.filter(r => r[1] !== undefined && r[1] !== '').map(([a, b]) => '<tr><th>' + a + '</th><td>' + escaped(b) + '</td></tr>').join('') + '</table>';
-const orderText = events => events.length ? events.map(eventText).join('; ') : 'none: before the first event';
+const orderText = events => events.length ? (events.length > 1000 ? '.. the last 1000: ' : '') + events.slice(-1000).map(eventText).join('; ') : 'none: before the first event';
 async function command(f) {
   if (busy) return;
   busy = true;
@@ -212,7 +212,7 @@ function save(text, name) {
 function takeBook(text) {
   try {
     const book = readBook(text);
-    Object.assign(here, { book, rules: null, net: null });
+    Object.assign(here, { book, rules: null, net: null, last: { book } });
     $('source').textContent = '(a book of ' + book.size + ' answers is loaded, and answers in their place)';
     $('rules').disabled = true;
     $('leavebook').hidden = false;
@@ -292,7 +292,7 @@ function show() {
   const far = (v, p) => here.graph.ports[v][p].far, now = net.state.map((s, v) => v ? varsOf(s) : null), was = step ? varsOf(step.old) : {}, names = [...new Set(now.slice(1).flatMap(x => Object.keys(x)))];
   $('vars').innerHTML = '<table><tr><th>node</th>' + names.map(k => '<th>' + escaped(k) + '</th>').join('') + '</tr>' + now.map((x, v) => v ? '<tr data-node="' + v + '"' + (step && step.v === v ? ' class="at"' : '') + '><td>' + v + '</td>' + names.map(k => '<td' + (step && step.v === v && was[k] !== x[k] ? ' class="new"' : '') + '>' + escaped(x[k] ?? '') + '</td>').join('') + '</tr>' : '').join('') + '</table>';
   const lines = [];
-  for (let v = 1; v <= net.graph.nodes; v++) net.queues[v].forEach((q, p) => { if (q.length) lines.push('<tr><td>node ' + v + ', port ' + p + ', from node ' + far(v, p) + '</td><td>' + q.map(escaped).join(', ') + '</td></tr>'); });
+  for (let v = 1; v <= net.graph.nodes; v++) net.queues[v].forEach((q, p) => { if (q.length) lines.push('<tr><td>node ' + v + ', port ' + p + ', from node ' + far(v, p) + '</td><td>' + q.slice(0, 50).map(escaped).join(', ') + (q.length > 50 ? ', and ' + (q.length - 50) + ' more' : '') + '</td></tr>'); });
   $('queues').innerHTML = lines.length ? '<table>' + lines.join('') + '</table>' : 'none';
   if (!step) { $('say').textContent = 'The opening: all nodes sleep.'; $('line').textContent = ''; return; }
   const then = varsOf(step.told.state), changes = Object.keys(then).filter(k => was[k] !== then[k]).map(k => k + ' ' + (was[k] ?? 'none') + ' becomes ' + then[k]);
