@@ -153,6 +153,10 @@ async function orders(rules, o) {
     await open(told.way);
     return tell('wrong', '<p>An order of ' + told.way.length + ' events ends wrong: ' + escaped(told.wrong) + '. No shorter order does.</p>' + table([['order', orderText(told.way)], ['states seen', told.states]]));
   }
+  if (told.lost) {
+    await open(told.way);
+    return tell('wrong', told.way.length ? '<p>After an order of ' + told.way.length + ' events no order ends any more. No shorter order leads there.</p>' + table([['order', orderText(told.way)], ['states', told.states]]) : '<p>No order of this network ends: ' + told.states + ' states.</p>');
+  }
   const sums = told.ends.map(c => c.reduce((a, b) => a + b, 0));
   told.ends.sort((a, b) => a.reduce((x, y) => x + y, 0) - b.reduce((x, y) => x + y, 0));
   tell('', '<p>All orders of this network: ' + told.states + ' states, ' + told.events + ' events tried, and each order that ends is right. They end with ' + between(Math.min(...sums), Math.max(...sums)) + ' messages.</p>' +
@@ -233,7 +237,7 @@ function leaveBook() {
 const el = (name, attrs, parent) => { const e = document.createElementNS('http://www.w3.org/2000/svg', name); for (const a in attrs) e.setAttribute(a, attrs[a]); if (parent) parent.append(e); return e; };
 @PLACES@
 // each component by itself, side by side
-function placesOf(graph) {
+function placesOf(graph, width) {
   const at = [], far = v => graph.ports[v].map(p => p.far);
   let left = 0;
   for (const r of graph.roots) {
@@ -243,14 +247,16 @@ function placesOf(graph) {
     left += Math.max(...xs) - x0 + 1;
   }
   const xs = at.slice(1).map(s => s[0]), ys = at.slice(1).map(s => s[1]), wide = Math.max(...xs) - Math.min(...xs), high = Math.max(...ys) - Math.min(...ys);
-  const unit = Math.min(540 / (wide || 1), 230 / (high || 1), 150), x0 = (Math.max(...xs) + Math.min(...xs)) / 2, y0 = (Math.max(...ys) + Math.min(...ys)) / 2;
-  return at.map(s => [320 + (s[0] - x0) * unit, 150 + (s[1] - y0) * unit]);
+  const unit = Math.min((width - 80) / (wide || 1), 230 / (high || 1), 150), x0 = (Math.max(...xs) + Math.min(...xs)) / 2, y0 = (Math.max(...ys) + Math.min(...ys)) / 2;
+  return at.map(s => [width / 2 + (s[0] - x0) * unit, 150 + (s[1] - y0) * unit]);
 }
 const LOOKS = { branch: 'tree', rejected: 'closed' };
 function draw(net, step) {
-  const svg = $('net'), graph = here.graph, at = here.places ??= placesOf(graph), pairs = new Map(), r = graph.nodes > 30 ? 9 : 15;
+  const svg = $('net'), graph = here.graph, width = Math.max(330, Math.min(640, svg.clientWidth || 640)), pairs = new Map(), r = graph.nodes > 30 ? 9 : 15;
+  if (here.width !== width) Object.assign(here, { width, places: null });
+  const at = here.places ??= placesOf(graph, width);
   svg.textContent = '';
-  svg.setAttribute('viewBox', '0 0 640 300');
+  svg.setAttribute('viewBox', '0 0 ' + width + ' 300');
   for (const l of graph.links) {
     const pair = l.a + ' ' + l.b, k = pairs.get(pair) || 0, [xa, ya] = at[l.a], [xb, yb] = at[l.b], long = Math.hypot(xb - xa, yb - ya) || 1;
     pairs.set(pair, k + 1);
@@ -344,6 +350,7 @@ async function start() {
     const to = { ArrowLeft: here.net.at - 1, ArrowRight: here.net.at + 1, Home: 0, End: Infinity }[e.key];
     if (to !== undefined) { e.preventDefault(); move(to); }
   });
+  addEventListener('resize', () => { if (!busy) show(); });
   show();
   document.body.dataset.ready = 'yes';
 }
