@@ -74,11 +74,12 @@ function keep() { try { for (const id of ['rules', 'graph']) sessionStorage.setI
 let busy = false, stopped = false;
 const pause = {
   next: 0,
+  what: '',
   due() { return performance.now() > this.next; },
-  async now(states) {
-    if (states) tell('', '<p>' + states + ' states so far.</p>');
+  async now(what = this.what) {
+    if (what) tell('', '<p>' + escaped(what) + ' so far.</p>');
     await new Promise(done => setTimeout(done));
-    if (stopped) throw new Refused('Stopped' + (states ? ' after ' + states + ' states' : '') + '; nothing is said of the rest.');
+    if (stopped) throw new Refused('Stopped' + (what ? ' after ' + what : '') + '; nothing is said of the rest.');
     this.next = performance.now() + 60;
   },
 };
@@ -89,7 +90,7 @@ async function command(f) {
   if (busy) return;
   busy = true;
   stopped = false;
-  pause.next = performance.now() + 60;
+  Object.assign(pause, { next: performance.now() + 60, what: '' });
   for (const b of document.querySelectorAll('#acts button')) b.disabled = b.id !== 'stop';
   document.body.dataset.busy = 'yes';
   try {
@@ -118,7 +119,8 @@ async function open(events) {
   here.net = new Net(here.rules, here.wake);
   for (const e of events) await here.net.play(e);
 }
-const forestOf = m => (m.both.length ? m.both.join(', ') : 'none') + (m.one.length ? '; at one end alone: ' + m.one.join(', ') : '');
+const listed = list => list.length ? list.slice(0, 24).join(', ') + (list.length > 24 ? ', and ' + (list.length - 24) + ' more' : '') : 'none';
+const marksText = m => listed(m.both) + (m.one.length ? '; at one end alone: ' + listed(m.one) : '');
 const ENDS = { halted: 'ended, each component with a halted node', quiet: 'ended, and nothing may happen any more', stuck: 'came to a standstill: nothing may happen any more, and not every component has a node that has halted', turns: 'did not end within ' + LIMITS.turns + ' events' };
 async function runOne(rules, o) {
   const net = new Net(rules, o.wake), seed = seedNow();
@@ -126,23 +128,24 @@ async function runOne(rules, o) {
   const end = await runBy(net, seed, o.end, LIMITS.turns, pause), wrong = end === 'stuck' || end === 'turns' ? null : wrongAtEnd(net.graph, net.state, o.check);
   const bad = wrong || end === 'stuck' || end === 'turns';
   tell(bad ? 'wrong' : '', '<p>The run of seed ' + seed + ' ' + ENDS[end] + ': ' + net.steps.length + ' events, ' + net.total + ' messages, ' + net.deferred + ' deferred.</p>' + (wrong ? '<p>It ends wrong: ' + escaped(wrong) + '.</p>' : '') +
-    table([['messages', rules.kinds.map(k => k + '=' + net.sent[k]).join(' ')], ['marked links', forestOf(net.marked())], ['minimum spanning forest', net.graph.forest.join(', ') || 'none'], ['questions', rules.book.size + ' in the book']]));
+    table([['messages', rules.kinds.map(k => k + '=' + net.sent[k]).join(' ')], ['marked links', marksText(net.marked())], ['minimum spanning forest', listed(net.graph.forest)], ['questions', rules.book.size + ' in the book']]));
 }
 async function hundred(rules, o) {
   const ends = {}, marks = new Map(), sums = [];
   for (let seed = 0; seed < 100; seed++) {
+    pause.what = seed + ' of 100 seeds';
     const net = new Net(rules, o.wake), end = await runBy(net, seed, o.end, LIMITS.turns, pause);
     ends[end] = (ends[end] || 0) + 1;
-    const m = net.marked(), wrong = end === 'halted' || end === 'quiet' ? wrongAtEnd(net.graph, net.state, o.check) : ENDS[end], text = forestOf(m);
-    if (!marks.has(text)) marks.set(text, { seed, many: 0, forest: !m.one.length && m.both.join() === net.graph.forest.join(), wrong });
-    marks.get(text).many++;
-    marks.get(text).wrong ||= wrong;
+    const m = net.marked(), wrong = end === 'halted' || end === 'quiet' ? wrongAtEnd(net.graph, net.state, o.check) : ENDS[end], key = JSON.stringify(m);
+    if (!marks.has(key)) marks.set(key, { text: marksText(m), seed, many: 0, forest: !m.one.length && m.both.join() === net.graph.forest.join(), wrong });
+    marks.get(key).many++;
+    marks.get(key).wrong ||= wrong;
     sums.push([net.total, seed]);
   }
   const least = sums.reduce((a, b) => b[0] < a[0] ? b : a), most = sums.reduce((a, b) => b[0] > a[0] ? b : a), button = seed => ' <button data-seed="' + seed + '">seed ' + seed + '</button>';
   const right = [...marks.values()].filter(m => m.forest).reduce((n, m) => n + m.many, 0);
   tell([...marks.values()].some(m => m.wrong) ? 'wrong' : '', '<p>Seeds 0 to 99: ' + Object.entries(ends).map(([k, n]) => n + ' ' + ENDS[k]).join('; ') + '.</p><p>' + (least[0] === most[0] ? least[0] : least[0] + button(least[1]) + ' to ' + most[0] + button(most[1])) + ' messages. The marked links are the minimum spanning forest in ' + right + ' of 100.</p>' +
-    '<table><tr><th>seeds</th><th>marked links</th><th></th></tr>' + [...marks].map(([text, m]) => '<tr><td>' + m.many + '</td><td>' + escaped(text) + (m.forest ? ' (the minimum spanning forest)' : '') + (m.wrong ? '; wrong: ' + escaped(m.wrong) : '') + '</td><td>' + button(m.seed) + '</td></tr>').join('') + '</table>');
+    '<table><tr><th>seeds</th><th>marked links</th><th></th></tr>' + [...marks.values()].map(m => '<tr><td>' + m.many + '</td><td>' + escaped(m.text) + (m.forest ? ' (the minimum spanning forest)' : '') + (m.wrong ? '; wrong: ' + escaped(m.wrong) : '') + '</td><td>' + button(m.seed) + '</td></tr>').join('') + '</table>');
 }
 const between = (least, most) => least === most ? least : least + ' to ' + most;
 const tooMany = told => '<p>There are more than ' + told.states + ' states. The search stops here and says nothing of the rest: take a smaller network, or allow more states.</p>';
@@ -186,7 +189,8 @@ async function compare(rules, o) {
   const rows = new Set();
   let events = 0;
   const seeds = [...new Set([String(seedNow()), ...Array.from({ length: 100 }, (_, i) => String(i))])];
-  for (const seed of seeds) {
+  for (const [i, seed] of seeds.entries()) {
+    pause.what = i + ' of ' + seeds.length + ' seeds';
     const net = new Net(rules, o.wake);
     let fault = null;
     try { await runBy(net, seed, 'halted', 2000, pause); } catch (e) { if (!(e instanceof NodeFault)) throw e; fault = e; }
@@ -237,7 +241,7 @@ function leaveBook() {
 const el = (name, attrs, parent) => { const e = document.createElementNS('http://www.w3.org/2000/svg', name); for (const a in attrs) e.setAttribute(a, attrs[a]); if (parent) parent.append(e); return e; };
 @PLACES@
 // each component by itself, side by side
-function placesOf(graph, width) {
+function placesOf(graph, width, height) {
   const at = [], far = v => graph.ports[v].map(p => p.far);
   let left = 0;
   for (const r of graph.roots) {
@@ -247,16 +251,16 @@ function placesOf(graph, width) {
     left += Math.max(...xs) - x0 + 1;
   }
   const xs = at.slice(1).map(s => s[0]), ys = at.slice(1).map(s => s[1]), wide = Math.max(...xs) - Math.min(...xs), high = Math.max(...ys) - Math.min(...ys);
-  const unit = Math.min((width - 80) / (wide || 1), 230 / (high || 1), 150), x0 = (Math.max(...xs) + Math.min(...xs)) / 2, y0 = (Math.max(...ys) + Math.min(...ys)) / 2;
-  return at.map(s => [width / 2 + (s[0] - x0) * unit, 150 + (s[1] - y0) * unit]);
+  const unit = Math.min((width - 80) / (wide || 1), (height - 70) / (high || 1), 150), x0 = (Math.max(...xs) + Math.min(...xs)) / 2, y0 = (Math.max(...ys) + Math.min(...ys)) / 2;
+  return at.map(s => [width / 2 + (s[0] - x0) * unit, height / 2 + (s[1] - y0) * unit]);
 }
 const LOOKS = { branch: 'tree', rejected: 'closed' };
 function draw(net, step) {
-  const svg = $('net'), graph = here.graph, width = Math.max(330, Math.min(640, svg.clientWidth || 640)), pairs = new Map(), r = graph.nodes > 30 ? 9 : 15;
+  const svg = $('net'), graph = here.graph, width = Math.max(330, Math.min(640, svg.clientWidth || 640)), height = graph.nodes > 12 ? 480 : 300, pairs = new Map(), r = graph.nodes > 30 ? 11 : 15;
   if (here.width !== width) Object.assign(here, { width, places: null });
-  const at = here.places ??= placesOf(graph, width);
+  const at = here.places ??= placesOf(graph, width, height);
   svg.textContent = '';
-  svg.setAttribute('viewBox', '0 0 ' + width + ' 300');
+  svg.setAttribute('viewBox', '0 0 ' + width + ' ' + height);
   for (const l of graph.links) {
     const pair = l.a + ' ' + l.b, k = pairs.get(pair) || 0, [xa, ya] = at[l.a], [xb, yb] = at[l.b], long = Math.hypot(xb - xa, yb - ya) || 1;
     pairs.set(pair, k + 1);
