@@ -53,7 +53,8 @@ class OwnProgram {
   constructor(rules) { this.rules = rules; this.opened = new Map(); }
   greeting() {
     const kinds = Array.isArray(this.rules.kinds) ? Object.fromEntries(this.rules.kinds.map(k => [k, ''])) : this.rules.kinds;
-    return 'own 1 ' + this.rules.name.toLowerCase() + Object.entries(kinds || {}).map(([kind, types]) => ' ' + kind + '(' + types + ')').join('');
+    if (!Object.keys(kinds || {}).length) throw new Unwritable('the class has no static kinds = { KIND: TYPES }');
+    return 'own 1 ' + this.rules.name.toLowerCase() + Object.entries(kinds).map(([kind, types]) => ' ' + kind + '(' + types + ')').join('');
   }
   make(v) {
     ownNext = { ...this.opened.get(v), sends: [], waits: false, sleeps: null };

@@ -7,6 +7,7 @@ const NETWORKS = {
   'grid of six': 'p sp 6 7\na 1 2 4\na 1 3 6\na 2 4 1\na 3 4 5\na 3 5 7\na 4 6 2\na 5 6 3\n',
 };
 const SUITS = { echo: { wake: 'first', end: 'quiet', check: 'spanning' }, ghs: { wake: 'all', end: 'halted', check: 'tree' } };
+const many = (n, word) => n + ' ' + word + (n === 1 ? '' : 's');
 const escaped = s => String(s).replace(/[&<>"]/g, c => ({ '&': '&amp;', '<': '&lt;', '>': '&gt;', '"': '&quot;' })[c]);
 
 // ---- the proved code
@@ -66,7 +67,7 @@ async function ready() {
   keep();
   return here.rules;
 }
-const options = () => ({ wake: here.wake, end: $('end').value, check: $('check').value, limit: Math.max(1, Math.min(1000000, +$('limit').value || 1)) });
+const options = () => ({ wake: here.wake, end: $('end').value, check: $('check').value, limit: Math.max(1, Math.min(500000, +$('limit').value || 1)) });
 const seedNow = () => { const s = $('seed').value; if (!/^\d{1,20}$/.test(s) || BigInt(s) >= 1n << 64n) throw new Refused('A seed is a whole number below 2^64.'); return s; };
 function keep() { try { for (const id of ['rules', 'graph']) sessionStorage.setItem('own.' + id, here.book && id === 'rules' ? here.rulesText || '' : $(id).value); } catch { /* then nothing is kept */ } }
 
@@ -112,7 +113,7 @@ async function tellFault(e) {
   const events = e.events || [];
   tell('wrong', '<p><b>' + e.name + '</b>: ' + escaped(e.message) + '.</p>' + table([
     ['question', e.question], ['answer', e.answer === undefined ? 'none' : e.answer],
-    e.name === 'WAVERS' ? ['how', 'The page asks every question a second time.'] : ['events that led there', events.length + ': ' + orderText(events)]]));
+    ['events that led there', events.length ? events.length + ': ' + orderText(events) : orderText(events)]]));
   if (events.length && here.rules) await open(events.slice(0, -1));
 }
 async function open(events) {
@@ -127,7 +128,7 @@ async function runOne(rules, o) {
   here.net = net;
   const end = await runBy(net, seed, o.end, LIMITS.turns, pause), wrong = end === 'stuck' || end === 'turns' ? null : wrongAtEnd(net.graph, net.state, o.check);
   const bad = wrong || end === 'stuck' || end === 'turns';
-  tell(bad ? 'wrong' : '', '<p>The run of seed ' + seed + ' ' + ENDS[end] + ': ' + net.steps.length + ' events, ' + net.total + ' messages, ' + net.deferred + ' deferred.</p>' + (wrong ? '<p>It ends wrong: ' + escaped(wrong) + '.</p>' : '') +
+  tell(bad ? 'wrong' : '', '<p>The run of seed ' + seed + ' ' + ENDS[end] + ': ' + many(net.steps.length, 'event') + ', ' + many(net.total, 'message') + ', ' + net.deferred + ' deferred.</p>' + (wrong ? '<p>It ends wrong: ' + escaped(wrong) + '.</p>' : '') +
     table([['messages', rules.kinds.map(k => k + '=' + net.sent[k]).join(' ')], ['marked links', marksText(net.marked())], ['minimum spanning forest', listed(net.graph.forest)], ['questions', rules.book.size + ' in the book']]));
 }
 async function hundred(rules, o) {
@@ -154,15 +155,15 @@ async function orders(rules, o) {
   if (told.many) return tell('wrong', tooMany(told));
   if (told.wrong) {
     await open(told.way);
-    return tell('wrong', '<p>An order of ' + told.way.length + ' events ends wrong: ' + escaped(told.wrong) + '. No shorter order does.</p>' + table([['order', orderText(told.way)], ['states seen', told.states]]));
+    return tell('wrong', '<p>An order of ' + many(told.way.length, 'event') + ' ends wrong: ' + escaped(told.wrong) + '. No shorter order does.</p>' + table([['order', orderText(told.way)], ['states seen', told.states]]));
   }
   if (told.lost) {
     await open(told.way);
-    return tell('wrong', told.way.length ? '<p>After an order of ' + told.way.length + ' events no order ends any more. No shorter order leads there.</p>' + table([['order', orderText(told.way)], ['states', told.states]]) : '<p>No order of this network ends: ' + told.states + ' states.</p>');
+    return tell('wrong', told.way.length ? '<p>After an order of ' + many(told.way.length, 'event') + ' no order ends any more. No shorter order leads there.</p>' + table([['order', orderText(told.way)], ['states', told.states]]) : '<p>No order of this network ends: ' + many(told.states, 'state') + '.</p>');
   }
   const sums = told.ends.map(c => c.reduce((a, b) => a + b, 0));
   told.ends.sort((a, b) => a.reduce((x, y) => x + y, 0) - b.reduce((x, y) => x + y, 0));
-  tell('', '<p>All orders of this network: ' + told.states + ' states, ' + told.events + ' events tried, and each order that ends is right. They end with ' + between(Math.min(...sums), Math.max(...sums)) + ' messages.</p>' +
+  tell('', '<p>All orders of this network: ' + many(told.states, 'state') + ', ' + many(told.events, 'event') + ' tried, and each order that ends is right. They end with ' + between(Math.min(...sums), Math.max(...sums)) + ' messages.</p>' +
     table(told.ends.slice(0, 40).map(c => [c.reduce((a, b) => a + b, 0), rules.kinds.map((k, i) => k + '=' + c[i]).join(' ')])));
 }
 const saidKind = k => k === 'changeroot' ? 'ChangeRoot' : k[0].toUpperCase() + k.slice(1);
@@ -183,30 +184,30 @@ async function tellDifference(d, head) {
     ['the row', told.rows[d.proved.row]],
     ['it waits', why ? why.replace(/\{(\w+)\.(\w+)\}/g, (_, of, x) => of === 'message' ? level : node[x] ?? '-') : undefined],
     ['your node before it', d.old],
-    [(d.shortest ? 'a shortest order' : 'its causes alone') + ', ' + d.way.length + ' events', orderText(d.way)]]));
+    [(d.shortest ? 'a shortest order' : 'its causes alone') + ', ' + many(d.way.length, 'event'), orderText(d.way)]]));
 }
 async function compare(rules, o) {
   const rows = new Set();
-  let events = 0;
+  let events = 0, cut = 0;
   const seeds = [...new Set([String(seedNow()), ...Array.from({ length: 100 }, (_, i) => String(i))])];
   for (const [i, seed] of seeds.entries()) {
     pause.what = i + ' of ' + seeds.length + ' seeds';
     const net = new Net(rules, o.wake);
     let fault = null;
-    try { await runBy(net, seed, 'halted', 2000, pause); } catch (e) { if (!(e instanceof NodeFault)) throw e; fault = e; }
+    try { if (await runBy(net, seed, 'halted', LIMITS.compared, pause) === 'turns') cut++; } catch (e) { if (!(e instanceof NodeFault)) throw e; fault = e; }
     const d = await besideRun(rules, fault ? fault.events : net.events(), seen, rows);
-    if (d.way) return tellDifference(d, 'Your node differs from the proved node at event ' + d.event + ' of the run of seed ' + escaped(seed) + '; its causes alone are a run of ' + d.way.length + ' events.');
+    if (d.way) return tellDifference(d, 'Your node differs from the proved node at event ' + d.event + ' of the run of seed ' + escaped(seed) + '; its causes alone are a run of ' + many(d.way.length, 'event') + '.');
     if (fault) throw fault;
     events += d.events;
     if (pause.due()) await pause.now();
   }
-  tell('', '<p>Your node reacts as the proved node in all ' + events + ' events of ' + seeds.length + ' seeds; ' + rows.size + ' of 23 rows were met.</p>');
+  tell('', '<p>Your node reacts as the proved node in all ' + events + ' events of ' + seeds.length + ' seeds; ' + rows.size + ' of 23 rows were met.' + (cut ? ' The runs of ' + many(cut, 'seed') + ' were cut at ' + LIMITS.compared + ' events.' : '') + '</p>');
 }
 async function compareAll(rules, o) {
   const rows = new Set(), d = await besideAll(rules, o, seen, rows, pause);
   if (d.way) return tellDifference(d, 'Your node differs from the proved node. No shorter order shows it.');
   if (d.many) return tell('wrong', tooMany(d));
-  tell('', '<p>Your node reacts as the proved node on every order of this network: ' + d.states + ' states, ' + d.events + ' events; ' + rows.size + ' of 23 rows were met.</p>');
+  tell('', '<p>Your node reacts as the proved node on every order of this network: ' + many(d.states, 'state') + ', ' + many(d.events, 'event') + '; ' + rows.size + ' of 23 rows were met.</p>');
 }
 
 // ---- files
