@@ -121,3 +121,5 @@ self.onmessage = ({ data }) => {
     ownPost({ amiss: 'the rules are refused: ' + (e && e.name ? e.name + ': ' + e.message : e) + (at ? ' (line ' + at[1] + ')' : ''), syntax: e instanceof SyntaxError });
   }
 };
+// the time of the rules begins now
+ownPost({ started: true });
