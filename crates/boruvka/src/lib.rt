@@ -7,7 +7,8 @@
 //! So a `Net<Boruvka>` is the net of its run, and what `boruvka_protocol` proves of every run holds of it. Its messages have the
 //! lengths that the rules state (`Measured`). Its runs can be explored (`Explorable`): a face tells the states of a network's
 //! nodes apart, a copy is the same node, messages are compared as they are, on 12 nodes and 20 links no run sends more than
-//! 65,535 messages, and each run comes to its end. Next: `boruvka_report`, the text of a run that has ended.
+//! 65,535 messages, and each run comes to its end. Its runs can be told (`Spoken`): `row_of` is the row by which a node reacts,
+//! and a change keeps the marks of all ports but those that it touches. Next: `boruvka_report`, the text of a run that has ended.
 #![tactic(auto)]
 
 mod bits;
@@ -15,3 +16,5 @@ mod copy;
 mod explorable;
 mod face;
 pub mod protocol;
+pub mod row_name;
+mod spoken;

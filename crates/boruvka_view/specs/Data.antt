@@ -7,7 +7,7 @@ use Rattle.ghs_data.specs.Data.{head_json, link_json}
 use Rattle.ghs_graph.specs.Graph.{Shape}
 use Rattle.peer_network.specs.declared.event.Event.{Event}
 use Rattle.peer_network.specs.Network.{Network, network_of}
-use Rattle.ghs_steps.specs.Json.{member, next}
+use Rattle.peer_words.specs.Json.{member, next}
 use Rattle.peer_machine.specs.Ledger.{waiting}
 use Rattle.peer_machine.specs.Net.{Net}
 use Rattle.peer_machine.specs.Run.{net_after}
@@ -15,7 +15,8 @@ use Rattle.boruvka_node.specs.Boruvka.{boruvka}
 use Rattle.boruvka_node.specs.State.{State}
 use Rattle.boruvka_node.specs.declared.message.Message.{Message}
 use Rattle.boruvka_protocol.specs.Bound.{bound_of}
-use Rattle.boruvka_steps.specs.Lines.{all_lines}
+use Rattle.boruvka.specs.Words.{words}
+use Rattle.peer_steps.specs.Lines.{all_lines}
 use Rattle.boruvka_view.specs.declared.protocol.TheConstants.{PROTOCOL}
 
 -- the counts of the five kinds: of Connect, Initiate and Name, then of Report and ChangeRoot
@@ -50,5 +51,5 @@ data_json g events from shown =
     head_json g (bound_of g) events from (length shown)
     ++ PROTOCOL.now
     ++ flat_map link_json g.keys
-    ++ all_lines Json g shown
+    ++ all_lines boruvka words Json g shown
     ++ ledger_json (network_of g) (length shown) (net_after boruvka g shown)

@@ -1,7 +1,7 @@
 //! The data of a run of Borůvka in step, as lines of JSON.
 ghost use Rattle.std.specs.Prelude.{◌≡◌, ◌++◌, IfOk, codes, decimal, length, slice_index};
 ghost use Rattle.peer_network.specs.Network.{network_of};
-ghost use Rattle.ghs_steps.specs.Json.{next};
+ghost use Rattle.peer_words.specs.Json.{next};
 ghost use Rattle.peer_machine.specs.Run.{IsRun};
 ghost use Rattle.peer_net.specs.NetState.{net_of, network};
 ghost use Rattle.boruvka_node.specs.Boruvka.{boruvka};
@@ -10,15 +10,15 @@ ghost use Rattle.boruvka_view.specs.Data.{back_json, counted_json, counts_json, 
 use crate::protocol::PROTOCOL;
 use boruvka::protocol::Boruvka;
 use boruvka_report::bound::message_bound;
-use boruvka_steps::write::put_lines;
 use ghs_choices::form::Form;
 use ghs_data::data::{put_behind_comma, put_head, put_links};
 use ghs_graph::graph::Graph;
 use ghs_lines::numbers::put_number;
-use ghs_steps::json::put_number_member;
 use peer_machine::event::Event;
 use peer_net::ledger::Ledger;
 use peer_net::net::Net;
+use peer_steps::write::put_lines;
+use peer_words::json::put_number_member;
 use std::alloc::{AllocError, Global};
 
 /// The network, the words of the protocol, the links, the steps of the events that are shown, and the counts behind them.
@@ -44,7 +44,7 @@ pub fn data_of(
     put_head(&mut text, &graph, most, events, from, shown.len() as u64)?;
     text.extend_from_slice(PROTOCOL)?;
     put_links(&mut text, graph.keys())?;
-    let net = put_lines(alloc, graph, shown, Form::Json, &mut text)?;
+    let net = put_lines::<Boruvka>(alloc, graph, shown, Form::Json, &mut text)?;
     put_ledger(&mut text, &net)?;
     Ok(text)
 }

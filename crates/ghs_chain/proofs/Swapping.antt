@@ -41,11 +41,12 @@ use Rattle.ghs_protocol.proofs.lemmas.WellFormed.{IsWellFormed, after_formed, ev
 use Rattle.peer_network.proofs.lemmas.Wired.{IsWired}
 use Rattle.ghs_core.specs.Dispatch.{arriving}
 use Rattle.ghs_core.specs.NetState.{delivery}
-use Rattle.ghs_chain.specs.Chains.{Chains, answered, behind, chains_after, chains_of, chains_then, heard, hears, if_then, most_below, no_chains, sent, sent_on as number_on, taken}
+use Rattle.peer_chains.specs.Chains.{Chains, behind, heard, hears, most_below, no_chains, sent, sent_on as number_on, taken}
+use Rattle.ghs_chain.specs.Chains.{answered, chains_after, chains_of, chains_then, if_then, is_deferred}
 use Rattle.ghs_chain.specs.Swaps.{AreAlike, AreApart, No_swap, OrdersAreAlike, PutsBackAt, SendsTo, Swap_more, SwapsAreAlike, answer}
 use Rattle.ghs_chain.proofs.Filling.{IsFit, OnPorts, StaysClear, acts, acts_swap, comes, fills, first_stays, on_port, taking, turned}
 use Rattle.ghs_chain.proofs.lemmas.Lengths.{SameLengths, same_lengths}
-use Rattle.ghs_chain.proofs.lemmas.Hears.{hears_node}
+use Rattle.peer_chains.proofs.lemmas.Hears.{hears_node, sent_node}
 
 -- The net after an event, by what its node does.
 
@@ -374,21 +375,21 @@ stamped n (s ∷ ss) = (s.0, n) ∷ stamped n ss
 
 -- the chains once a node, asleep or not, has heard and sent
 abbrev told : Network → Bool → Event → Delta → Chains → Chains
-told g b e d c = sent g (event_node e) d.sends (hears e b d.fate c)
+told g b e d c = sent g (event_node e) d.sends (hears e b (is_deferred d.fate) c)
 
 -- the number that a node has once it has heard
 abbrev number : Event → Bool → Fate → Chains → ℕ
-number e b f c = (hears e b f c).node (event_node e)
+number e b f c = (hears e b (is_deferred f) c).node (event_node e)
 
-hears_queue : (e : Event) (b : Bool) (f : Fate) (c : Chains) → IsThere c.queue e → (hears e b f c).queue ≡ taking e f c.queue
+hears_queue : (e : Event) (b : Bool) (f : Fate) (c : Chains) → IsThere c.queue e → (hears e b (is_deferred f) c).queue ≡ taking e f c.queue
 hears_queue (Wake u) b f c there = refl
 hears_queue (Take u p) b f c there = go (c.queue u p) refl
   where
-    behind_is : (x : Fate) (t : ℕ) (ts : List ℕ) → behind x t ts ≡ turned x (t ∷ ts)
+    behind_is : (x : Fate) (t : ℕ) (ts : List ℕ) → behind (is_deferred x) t ts ≡ turned x (t ∷ ts)
     behind_is Consumed t ts = refl
     behind_is Requeued t ts = refl
 
-    go : (l : List ℕ) → c.queue u p ≡ l → (taken u p b f l c).queue ≡ put_at c.queue u p (turned f (c.queue u p))
+    go : (l : List ℕ) → c.queue u p ≡ l → (taken u p b (is_deferred f) l c).queue ≡ put_at c.queue u p (turned f (c.queue u p))
     go [] q = absurd (there u p refl q)
     go (t ∷ ts) q = ap (put_at c.queue u p) (behind_is f t ts ∙ ap (turned f) (sym q))
 
@@ -398,33 +399,32 @@ number_same : (e : Event) (b : Bool) (f : Fate) (c c' : Chains) → IsThere c.qu
 number_same (Wake u) b f c c' there node grown = node
 number_same (Take u p) b f c c' there node grown = let r = grown u p refl in go (c.queue u p) (there u p refl) (c'.queue u p) r.0 r.1
   where
-    of : (t : ℕ) (ts : List ℕ) (z : Chains) → (taken u p b f (t ∷ ts) z).node u ≡ heard f b (z.node u) t
+    of : (t : ℕ) (ts : List ℕ) (z : Chains) → (taken u p b (is_deferred f) (t ∷ ts) z).node u ≡ heard (is_deferred f) b (z.node u) t
     of t ts z = put_same z.node u _
 
-    go : (l : List ℕ) → l ≢ [] → (l' r : List ℕ) → l' ≡ l ++ r → (taken u p b f l' c').node u ≡ (taken u p b f l c).node u
+    go : (l : List ℕ) → l ≢ [] → (l' r : List ℕ) → l' ≡ l ++ r → (taken u p b (is_deferred f) l' c').node u ≡ (taken u p b (is_deferred f) l c).node u
     go [] some l' r e = absurd (some refl)
     go (t ∷ ts) some l' r e =
-        ap (λ (x : List ℕ). (taken u p b f x c').node u) e ∙ of t (ts ++ r) c' ∙ ap (λ (n : ℕ). heard f b n t) node ∙ sym (of t ts c)
+        ap (λ (x : List ℕ). (taken u p b (is_deferred f) x c').node u) e ∙ of t (ts ++ r) c'
+        ∙ ap (λ (n : ℕ). heard (is_deferred f) b n t) node ∙ sym (of t ts c)
 
 module _ (g : Network) (v : ℕ) where
-  sent_node : (ss : Outgoing) (c : Chains) → (sent g v ss c).node ≡ c.node
-  sent_node [] c = refl
-  sent_node (s ∷ ss) c = sent_node ss (number_on g v s.0 c)
-
   sent_queue : (ss : Outgoing) (c : Chains) → (sent g v ss c).queue ≡ fills g v (stamped (suc (c.node v)) ss) c.queue
   sent_queue [] c = refl
   sent_queue (s ∷ ss) c = sent_queue ss (number_on g v s.0 c)
 
 module _ (g : Network) (b : Bool) (e : Event) (d : Delta) (c : Chains) where
   told_here : (told g b e d c).node (event_node e) ≡ number e b d.fate c
-  told_here = ap (λ (n : ℕ → ℕ). n (event_node e)) (sent_node g (event_node e) d.sends (hears e b d.fate c))
+  told_here = ap (λ (n : ℕ → ℕ). n (event_node e)) (sent_node g (event_node e) d.sends (hears e b (is_deferred d.fate) c))
 
   told_there : (v : ℕ) → v ≢ event_node e → (told g b e d c).node v ≡ c.node v
-  told_there v ne = ap (λ (n : ℕ → ℕ). n v) (sent_node g (event_node e) d.sends (hears e b d.fate c)) ∙ hears_node e b d.fate c v ne
+  told_there v ne =
+      ap (λ (n : ℕ → ℕ). n v) (sent_node g (event_node e) d.sends (hears e b (is_deferred d.fate) c))
+      ∙ hears_node e b (is_deferred d.fate) c v ne
 
   told_queue : IsThere c.queue e → (told g b e d c).queue ≡ acts g e d.fate (stamped (suc (number e b d.fate c)) d.sends) c.queue
   told_queue there =
-      sent_queue g (event_node e) d.sends (hears e b d.fate c)
+      sent_queue g (event_node e) d.sends (hears e b (is_deferred d.fate) c)
       ∙ ap (fills g (event_node e) (stamped (suc (number e b d.fate c)) d.sends)) (hears_queue e b d.fate c there)
 
 stamped_on : (g : Network) (v n : ℕ) (ss : Outgoing) → OnPorts g v ss → OnPorts g v (stamped n ss)

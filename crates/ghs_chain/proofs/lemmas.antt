@@ -2,5 +2,4 @@
 pub mod Bounding
 pub mod Carrying
 pub mod Following
-pub mod Hears
 pub mod Lengths

@@ -1,7 +1,5 @@
 -- To be believed: contracts cite what stands here, and what it is made of.
 pub mod Chains
-pub mod Held
 pub mod Kept
 pub mod Laws
-pub mod Rows
 pub mod Swaps

@@ -1,15 +1,54 @@
-//! The chains of a run, kept by whoever makes its events.
+//! The chains of a run of GHS, kept by whoever makes its events.
+ghost use Rattle.ghs_chain.specs.Chains.{longest_chain};
 ghost use Rattle.ghs_chain.specs.Kept.{AreChainsOf};
+ghost use Rattle.ghs_graph.specs.Graph.{Shape};
+ghost use Rattle.peer_network.specs.declared.event.Event.{Event as Happening};
+ghost use Rattle.peer_network.specs.Network.{network_of};
+ghost use Rattle.std.specs.Prelude.{[], ◌≡◌, IfOk, List};
 
-use crate::chains::Chains;
+use crate::fate::is_deferred;
 use ghs_core::net::{Net, is_asleep};
 use ghs_following::follower::Follower;
-use ghs_node::delta::{Delta, Fate};
+use ghs_graph::graph::Graph;
+use ghs_node::delta::Delta;
+use peer_chains::chains::Chains;
 use peer_network::event::{Event, node_of};
-use std::alloc::AllocError;
+use std::alloc::{AllocError, Global};
+use std::marker::Model;
+
+/// The chains of a run of GHS, by its events so far.
+#[derive(Debug, Drop)]
+pub struct RunChains {
+    chains: Chains,
+}
+
+impl Model for RunChains {
+    ghost use Rattle.peer_chains.specs.Kept.{Kept};
+
+    ghost Value = { Kept };
+
+    ghost view = { λ c. c.chains };
+}
+
+impl RunChains {
+    /// Those of a run that has no event yet.
+    pub fn none(alloc: Global, graph: &Graph) -> Result<RunChains, AllocError>
+        ensures { IfOk result (λ c. AreChainsOf graph.now [] c) }
+    {
+        let chains = Chains::none(alloc, graph)?;
+        Ok(RunChains { chains })
+    }
+
+    /// How many messages the longest chain of the run has; 0, where none was heard.
+    pub fn longest(&self) -> u64
+        ensures { (g : Shape) (es : List Happening) → AreChainsOf g es self.now → result ≡ longest_chain (network_of g) es }
+    {
+        self.chains.longest()
+    }
+}
 
 /// Chains follow the events of their run.
-impl Follower for Chains {
+impl Follower for RunChains {
     ghost is_of = { λ g es c. AreChainsOf g es c };
 
     /// O(1), and so for each message that is sent.
@@ -17,8 +56,8 @@ impl Follower for Chains {
         let _ = net.trace();
         let v = node_of(event);
         let asleep = is_asleep(net.node(v).head());
-        self.hear(event, asleep, delta.fate)?;
-        self.send(net.graph(), v, delta.sends.as_slice())?;
+        self.chains.hear(event, asleep, is_deferred(delta.fate))?;
+        self.chains.send(net.graph(), v, delta.sends.as_slice())?;
         Ok(())
     }
 
@@ -29,7 +68,7 @@ impl Follower for Chains {
         if !asleep && net.waiting_at(v, port) == 1 {
             return Ok(());
         }
-        self.hear(Event::Take(v, port), asleep, Fate::Requeued)?;
+        self.chains.hear(Event::Take(v, port), asleep, true)?;
         Ok(())
     }
 }

@@ -9,8 +9,8 @@ use Rattle.peer_network.specs.Network.{network_of}
 use Rattle.ghs_protocol.specs.Run.{IsRunUnder}
 use Rattle.ghs_steps.specs.Lines.{lines}
 use Rattle.ghs_steps.specs.Shown.{CantShow}
-use Rattle.ghs_steps.specs.declared.show.StepsFault.{StepsFault}
-use Rattle.ghs_steps.specs.declared.show.StepsFault.TheVariants as steps
+use Rattle.peer_steps.specs.declared.fault.StepsFault.{StepsFault}
+use Rattle.peer_steps.specs.declared.fault.StepsFault.TheVariants as steps
 use Rattle.peer_network.specs.Wakes.{may_wake}
 use Rattle.peer_trace.specs.declared.protocol.Protocol.{Protocol}
 use Rattle.peer_trace.specs.declared.protocol.Protocol.TheVariants.{Ghs}

@@ -12,8 +12,8 @@ use Rattle.ghs_make.specs.declared.fault.MakeFault.{MakeFault}
 use Rattle.ghs_make.specs.declared.fault.MakeFault.TheVariants as make
 use Rattle.ghs_report.specs.declared.portions.WriteFault.{WriteFault}
 use Rattle.ghs_report.specs.declared.portions.WriteFault.TheVariants as write
-use Rattle.ghs_steps.specs.declared.show.StepsFault.{StepsFault}
-use Rattle.ghs_steps.specs.declared.show.StepsFault.TheVariants as steps
+use Rattle.peer_steps.specs.declared.fault.StepsFault.{StepsFault}
+use Rattle.peer_steps.specs.declared.fault.StepsFault.TheVariants as steps
 use Rattle.peer_trace.specs.declared.fault.StoredFault.{StoredFault}
 use Rattle.peer_trace.specs.declared.fault.StoredFault.TheVariants as stored
 use Rattle.ghs_cli.specs.declared.fault.ServeFault.{ServeFault}

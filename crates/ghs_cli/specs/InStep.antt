@@ -18,7 +18,8 @@ use Rattle.boruvka_protocol.specs.Bound.{bound_of}
 use Rattle.boruvka_report.specs.Ended.{HasEnded}
 use Rattle.boruvka_report.specs.ReportText.{IsReportText}
 use Rattle.boruvka_runs.specs.Runs.{IsStopped, IsWholeRun}
-use Rattle.boruvka_steps.specs.Lines.{lines}
+use Rattle.boruvka.specs.Words.{words}
+use Rattle.peer_steps.specs.Lines.{lines}
 use Rattle.boruvka_sweep.specs.Sweep.{IsRunOf, IsSweepText}
 use Rattle.boruvka_sweep.specs.declared.sweep.Setup.{Setup}
 use Rattle.boruvka_view.specs.RunPage.{IsRunPage}
@@ -92,7 +93,7 @@ pub record IsReplayed (wake : WakeSet) (g : Shape) (events : List Event) (output
 -- events that are a run of the graph, and the output is the lines of those that are chosen
 pub record AreSteps (o : StepsOptions) (g : Shape) (events : List Event) (output : List ℕ) : Type 0 where
   pub run : IsRunUnder boruvka (may_wake g o.wake) (network_of g) events
-  pub printed : output ≡ lines o.form g o.choice events
+  pub printed : output ≡ lines boruvka words o.form g o.choice events
 
 -- what the runs of a sweep have in common
 abbrev pub setup_of : BoruvkaSweepOptions → Setup

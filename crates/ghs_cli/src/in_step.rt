@@ -23,7 +23,6 @@ use boruvka::protocol::Boruvka;
 use boruvka_report::run_text::run_text;
 use boruvka_runs::laws::law_turns;
 use boruvka_runs::run::{Ran, run_by_seed};
-use boruvka_steps::show::write_steps;
 use boruvka_sweep::sweep::{Setup, sweep_text};
 use ghs_commands::boruvka::{BoruvkaOptions, BoruvkaSweepOptions};
 use ghs_commands::job::{Show, StepsOptions};
@@ -37,6 +36,7 @@ use peer_network::event::Event;
 use peer_network::wake_set::WakeSet;
 use peer_runs::replay::replay;
 use peer_runs::world::World;
+use peer_steps::show::write_steps;
 use peer_trace::protocol::Protocol;
 use peer_trace::trace::write_trace_of;
 use std::alloc::{AllocError, Global};
@@ -212,7 +212,7 @@ pub(crate) fn write_boruvka_steps_of<R: Source, T: Source, W: Sink>(
 {
     let events = events_of(alloc, Protocol::Boruvka, trace)?;
     let graph = graph_of(alloc, graph)?;
-    write_steps(
+    write_steps::<Boruvka, W>(
         alloc,
         graph,
         options.wake,

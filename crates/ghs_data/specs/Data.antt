@@ -9,9 +9,10 @@ use Rattle.ghs_protocol.specs.Ledger.{waiting}
 use Rattle.ghs_protocol.specs.Net.{Net}
 use Rattle.peer_network.specs.Network.{Network, network_of}
 use Rattle.ghs_protocol.specs.Run.{net_after}
-use Rattle.ghs_steps.specs.Json.{member, next, quoted, step_json}
+use Rattle.peer_words.specs.Json.{member, next, quoted}
+use Rattle.ghs_steps.specs.Json.{step_json}
 use Rattle.ghs_steps.specs.Step.{steps}
-use Rattle.ghs_steps.specs.Words.{key_text}
+use Rattle.peer_words.specs.Text.{key_text}
 
 -- how large the network is, and the bound on its messages
 unfoldable pub network_members : Shape → ℕ → List ℕ

@@ -4,7 +4,7 @@ ghost use Rattle.std.specs.List.{flat_map};
 ghost use Rattle.ghs_core.specs.NetState.{net_of, network};
 ghost use Rattle.peer_network.specs.Network.{network_of};
 ghost use Rattle.ghs_protocol.specs.Run.{IsRun};
-ghost use Rattle.ghs_steps.specs.Json.{next};
+ghost use Rattle.peer_words.specs.Json.{next};
 ghost use Rattle.ghs_data.specs.Data.{counted_json, counts_json, data_json, events_members, head_json, kinds_members, ledger_json, link_json, network_members};
 
 use crate::protocol::PROTOCOL;
@@ -15,8 +15,8 @@ use ghs_core::net::Net;
 use ghs_graph::graph::Graph;
 use ghs_graph::key::Key;
 use ghs_lines::numbers::put_number;
-use ghs_steps::json::{put_key_member, put_number_member, put_word_member};
 use ghs_steps::write::put_lines;
+use peer_words::json::{put_key_member, put_number_member, put_word_member};
 use std::alloc::{AllocError, Global};
 
 /// The network, the words of the protocol, the links, the steps of the events that are shown, and the counts behind them. `events` is how many the

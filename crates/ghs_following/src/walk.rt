@@ -16,7 +16,7 @@ use std::alloc::{AllocError, Global};
 /// the follower takes. Refusal: out of memory; what is kept is then of no use.
 ///
 /// ```text
-/// let mut chains = Chains::none(alloc, graph)?;
+/// let mut chains = RunChains::none(alloc, graph)?;
 /// follow_all(alloc, graph, events, &mut chains)?;
 /// // chains.longest() messages, each sent because of the one before
 /// ```

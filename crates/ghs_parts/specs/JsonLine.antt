@@ -1,6 +1,6 @@
 -- The figures of a part as a line of JSON: an object whose members are named as the columns.
 use Rattle.std.specs.Prelude.{ℕ, List, [], ◌++◌, codes, decimal, slice_index}
-use Rattle.ghs_steps.specs.Json.{member, quoted}
+use Rattle.peer_words.specs.Json.{member, quoted}
 use Rattle.ghs_steps.specs.Words.{row_word}
 use Rattle.ghs_choices.specs.declared.by.By.{By}
 use Rattle.ghs_choices.specs.declared.by.By.TheVariants.{Node, Level, Rule}

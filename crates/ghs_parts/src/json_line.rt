@@ -5,8 +5,8 @@ ghost use Rattle.std.specs.Prelude.{◌≡◌, ◌++◌, IfOk};
 use crate::part::Part;
 use crate::rule::rule_at;
 use ghs_choices::by::By;
-use ghs_steps::json::{put_number_member, put_word_member};
 use ghs_steps::words::row_word;
+use peer_words::json::{put_number_member, put_word_member};
 use std::alloc::AllocError;
 
 /// Puts the members of a part of a seed's run, which are named as the columns, behind a text that has opened an object, and

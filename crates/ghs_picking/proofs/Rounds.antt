@@ -15,8 +15,8 @@ use Rattle.peer_network.specs.declared.wake_set.WakeSet.{WakeSet}
 use Rattle.peer_network.specs.declared.wake_set.WakeSet.TheVariants.{All, First}
 use Rattle.ghs_protocol.specs.Marks.{HasEnded}
 use Rattle.ghs_protocol.specs.Run.{net_after}
-use Rattle.ghs_chain.specs.Chains.{most_below}
-use Rattle.ghs_chain.proofs.lemmas.Bounding.{most_within}
+use Rattle.peer_chains.specs.Chains.{most_below}
+use Rattle.peer_chains.proofs.lemmas.Bounding.{most_within}
 use Rattle.ghs_rounds.specs.Laws.{AwakeRoundsAreFew, PicksAreByRounds, RoundsAreFewer}
 use Rattle.ghs_rounds.specs.Runs.{IsPickedByRounds}
 use Rattle.ghs_picking.specs.RoundBound.{IsRoundBound, most_ports}

@@ -5,7 +5,7 @@ use Rattle.ghs_graph.specs.Graph.{Shape}
 use Rattle.ghs_graph.specs.Ports.{ports_of}
 use Rattle.peer_network.specs.declared.wake_set.WakeSet.{WakeSet}
 use Rattle.peer_network.specs.declared.wake_set.WakeSet.TheVariants.{All, First}
-use Rattle.ghs_chain.specs.Chains.{most_below}
+use Rattle.peer_chains.specs.Chains.{most_below}
 
 -- how many ports the node has that has most
 abbrev pub most_ports : Shape → ℕ

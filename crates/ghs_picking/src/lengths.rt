@@ -9,7 +9,7 @@ ghost use Rattle.peer_network.specs.declared.event.Event.{Event as Happening};
 ghost use Rattle.std.specs.Prelude.{[], ◌≡◌, ◌≤◌, ◌^◌, IfOk, List, length};
 
 use ghs_bits::bits::Bits;
-use ghs_chain::chains::Chains;
+use ghs_chain::follow::RunChains;
 use ghs_following::walk::follow_all;
 use ghs_graph::graph::Graph;
 use peer_network::event::Event;
@@ -44,16 +44,16 @@ pub fn lengths_of(alloc: Global, graph: &Graph, events: &[Event]) -> Result<RunL
 }
 
 /// The chains and the bits of a run that has no event yet.
-pub(crate) fn begin(alloc: Global, graph: &Graph) -> Result<(Chains, Bits), AllocError>
+pub(crate) fn begin(alloc: Global, graph: &Graph) -> Result<(RunChains, Bits), AllocError>
     ensures chains { IfOk result (λ k. AreChainsOf graph.now [] k.0) }
     ensures bits { IfOk result (λ k. AreBitsOf graph.now [] k.1) }
 {
-    let chains = Chains::none(alloc, graph)?;
+    let chains = RunChains::none(alloc, graph)?;
     Ok((chains, Bits::none(graph)))
 }
 
 /// How long a run is that has these chains and these bits.
-pub(crate) fn lengths_in(kept: &(Chains, Bits)) -> RunLengths
+pub(crate) fn lengths_in(kept: &(RunChains, Bits)) -> RunLengths
     ensures { (g : Shape) (es : List Happening) → AreChainsOf g es kept.now.0 → AreBitsOf g es kept.now.1 → result ≡ lengths_of g es }
 {
     let (chains, bits) = kept;

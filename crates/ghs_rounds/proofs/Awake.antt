@@ -29,7 +29,8 @@ use Rattle.ghs_protocol.proofs.lemmas.Laws.{halts_stay, tree_messages_are_few}
 use Rattle.ghs_protocol.proofs.lemmas.Runs.{after_is_net, after_more, lawful_under}
 use Rattle.ghs_protocol.proofs.lemmas.Time.{component, halting_counts, joined_component, open_or_ended}
 use Rattle.ghs_core.specs.NetState.{delivery, work_at}
-use Rattle.ghs_chain.specs.Chains.{Chains, chains_of, reacted}
+use Rattle.peer_chains.specs.Chains.{Chains}
+use Rattle.ghs_chain.specs.Chains.{chains_of, reacted}
 use Rattle.ghs_chain.proofs.lemmas.Lengths.{same_lengths}
 use Rattle.peer_index.specs.Places.{HasPlace}
 use Rattle.ghs_rounds.specs.Rounds.{events_in}

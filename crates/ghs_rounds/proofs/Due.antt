@@ -25,7 +25,8 @@ use Rattle.ghs_protocol.proofs.lemmas.Queues.{all_first, all_rest}
 use Rattle.ghs_protocol.proofs.lemmas.Time.{Came, Has, queue_hit, queue_miss}
 use Rattle.ghs_core.specs.Waits.{waits}
 use Rattle.ghs_core.proofs.lemmas.Waiting.{waits_so, waits_test}
-use Rattle.ghs_chain.specs.Chains.{Chains, behind, hears, reacted, taken}
+use Rattle.peer_chains.specs.Chains.{Chains, behind, hears, taken}
+use Rattle.ghs_chain.specs.Chains.{is_deferred, reacted}
 use Rattle.ghs_rounds.proofs.Timing.{AreLate, sent_come}
 
 abbrev pub Due : (Message → Type 0) → ℕ → List Message → List ℕ → Type 0
@@ -52,7 +53,8 @@ module _ (P : Message → Type 0) (r : ℕ) where
       let many : length ts ≡ length ms = let z : suc (length ts) ≡ suc (length ms) = same in omega (arith, z) in
       (all_first (λ t. t ≤ r) t ts all, ⊎_elim inl (λ k. inr (due_all ms ts many (all_rest (λ t. t ≤ r) t ts all) k)) h)
 
-  due_left : (f : Fate) (m : Message) (ms : List Message) (t : ℕ) (ts : List ℕ) → Due P r ms ts → Due P r (left_of f m ms) (behind f t ts)
+  due_left : (f : Fate) (m : Message) (ms : List Message) (t : ℕ) (ts : List ℕ) → Due P r ms ts →
+      Due P r (left_of f m ms) (behind (is_deferred f) t ts)
   due_left Consumed m ms t ts h = h
   due_left Requeued m ms t ts h = due_append ms ts (m ∷ []) (t ∷ []) h
 
@@ -74,22 +76,22 @@ module _ (P : Message → Type 0) (r : ℕ) where
     x = steps.taken (network_of g) a j m ms d w
 
     abbrev heard : Chains
-    heard = hears (Take a j) (is_sleeping (w.node a).head.phase) d.fate c
+    heard = hears (Take a j) (is_sleeping (w.node a).head.phase) (is_deferred d.fate) c
 
     abbrev after : Chains
     after = reacted (network_of g) w (Take a j) d c
 
-    heard_hit : (t : ℕ) (us : List ℕ) → c.queue a j ≡ t ∷ us → heard.queue a j ≡ behind d.fate t us
+    heard_hit : (t : ℕ) (us : List ℕ) → c.queue a j ≡ t ∷ us → heard.queue a j ≡ behind (is_deferred d.fate) t us
     heard_hit t us e =
-        ap (λ (l : List ℕ). (taken a j (is_sleeping (w.node a).head.phase) d.fate l c).queue a j) e
-        ∙ put_at_hit c.queue a j a j (behind d.fate t us) refl refl
+        ap (λ (l : List ℕ). (taken a j (is_sleeping (w.node a).head.phase) (is_deferred d.fate) l c).queue a j) e
+        ∙ put_at_hit c.queue a j a j (behind (is_deferred d.fate) t us) refl refl
 
     heard_miss : (y k : ℕ) → ((y ≡ a) × (k ≡ j) → ⊥) → heard.queue y k ≡ c.queue y k
     heard_miss y k ne = go (c.queue a j)
       where
-        go : (ts : List ℕ) → (taken a j (is_sleeping (w.node a).head.phase) d.fate ts c).queue y k ≡ c.queue y k
+        go : (ts : List ℕ) → (taken a j (is_sleeping (w.node a).head.phase) (is_deferred d.fate) ts c).queue y k ≡ c.queue y k
         go [] = refl
-        go (t ∷ ts) = put_at_miss c.queue a j y k (behind d.fate t ts) ne
+        go (t ∷ ts) = put_at_miss c.queue a j y k (behind (is_deferred d.fate) t ts) ne
 
     hit : (ts : List ℕ) → c.queue a j ≡ ts → Due P r (m ∷ ms) ts → P m ⊎ Due P r (x.queue a j) (after.queue a j)
     hit [] e h = absurd h
@@ -98,8 +100,9 @@ module _ (P : Message → Type 0) (r : ℕ) where
         (λ k.
         let q : Came (left_of d.fate m ms) (x.queue a j) = queue_hit g w n a j m ms d at first answer up in
         let nums = sent_come (network_of g) a d.sends heard a j in
-        let is : after.queue a j ≡ behind d.fate t us ++ nums.came = nums.is ∙ ap (λ (l : List ℕ). l ++ nums.came) (heard_hit t us e) in
-        inr (subst₂ (Due P r) (sym q.1) (sym is) (due_append (left_of d.fate m ms) (behind d.fate t us) q.0 nums.came (due_left d.fate m ms t us k))))
+        let is : after.queue a j ≡ behind (is_deferred d.fate) t us ++ nums.came = nums.is ∙ ap (λ (l : List ℕ). l ++ nums.came) (heard_hit t us e) in
+        inr (subst₂ (Due P r) (sym q.1) (sym is)
+        (due_append (left_of d.fate m ms) (behind (is_deferred d.fate) t us) q.0 nums.came (due_left d.fate m ms t us k))))
         h.1
 
     pub due_on : (y k : ℕ) → Due P r (w.queue y k) (c.queue y k) → ((y ≡ a) × (k ≡ j) × P m) ⊎ Due P r (x.queue y k) (after.queue y k)
@@ -114,5 +117,6 @@ module _ (P : Message → Type 0) (r : ℕ) where
         let q : Came (w.queue y k) (x.queue y k) = queue_miss g w n a j m ms d at first answer up y k ne in
         let nums = sent_come (network_of g) a d.sends heard y k in
         let is : after.queue y k ≡ c.queue y k ++ nums.came = nums.is ∙ ap (λ (l : List ℕ). l ++ nums.came) (heard_miss y k ne) in
-        inr (subst₂ (Due P r) (sym q.1) (sym is) (due_append (w.queue y k) (c.queue y k) q.0 nums.came h)))
+        inr (subst₂ (Due P r) (sym q.1) (sym is)
+        (due_append (w.queue y k) (c.queue y k) q.0 nums.came h)))
         (one_place a j y k)

@@ -26,8 +26,8 @@ use Rattle.ghs_world.specs.Outs.{Outs, is_out}
 use Rattle.ghs_world.specs.Ready.{is_ready}
 use Rattle.ghs_world.specs.WorldState.{WorldState, home, may_happen, wakers}
 use Rattle.peer_schedule.specs.Picks.{IsPick}
-use Rattle.ghs_chain.specs.Chains.{Chains}
-use Rattle.ghs_chain.specs.Kept.{seen}
+use Rattle.peer_chains.specs.Chains.{Chains}
+use Rattle.peer_chains.specs.Kept.{seen}
 use Rattle.ghs_patient.specs.Patience.{first_waits, moves_on, or_else, puts_back}
 use Rattle.ghs_patient.proofs.lemmas.Stirring.{port_below}
 use Rattle.ghs_patient.proofs.lemmas.Picked.{first_there, in_either, picked_in}

@@ -14,8 +14,9 @@ use Rattle.ghs_protocol.specs.Net.{Net}
 use Rattle.peer_network.specs.Events.{event_node}
 use Rattle.peer_network.proofs.lemmas.Updates.{one_place, put_at_hit, put_at_miss}
 use Rattle.ghs_world.specs.Upkeep.{changed}
-use Rattle.ghs_chain.specs.Chains.{Chains, behind, heard, hears, reacted, sent, sent_on, taken}
-use Rattle.ghs_chain.proofs.lemmas.Bounding.{Below, IsWithin, behind_below, heard_within, put_below, put_node, sent_within}
+use Rattle.peer_chains.specs.Chains.{Chains, behind, heard, hears, sent, sent_on, taken}
+use Rattle.ghs_chain.specs.Chains.{is_deferred, reacted}
+use Rattle.peer_chains.proofs.lemmas.Bounding.{Below, IsWithin, behind_below, heard_within, put_below, put_node, sent_within}
 use Rattle.ghs_patient.specs.Choices.{far_takes}
 use Rattle.ghs_rounds.specs.Rounds.{is_by, is_due}
 
@@ -31,11 +32,12 @@ module _ (g : Network) (v : ℕ) where
 
 -- a queue from which nothing is taken
 untaken : (v p : ℕ) (asleep : Bool) (f : Fate) (ts : List ℕ) (c : Chains) (u q : ℕ) → ((u ≡ v) × (q ≡ p) → ⊥) →
-    (taken v p asleep f ts c).queue u q ≡ c.queue u q
+    (taken v p asleep (is_deferred f) ts c).queue u q ≡ c.queue u q
 untaken v p asleep f [] c u q ne = refl
-untaken v p asleep f (t ∷ ts) c u q ne = put_at_miss c.queue v p u q (behind f t ts) ne
+untaken v p asleep f (t ∷ ts) c u q ne = put_at_miss c.queue v p u q (behind (is_deferred f) t ts) ne
 
-pub unheard : (e : Event) (asleep : Bool) (f : Fate) (c : Chains) (u q : ℕ) → e ≢ Take u q → (hears e asleep f c).queue u q ≡ c.queue u q
+pub unheard : (e : Event) (asleep : Bool) (f : Fate) (c : Chains) (u q : ℕ) → e ≢ Take u q →
+    (hears e asleep (is_deferred f) c).queue u q ≡ c.queue u q
 unheard (Wake v) asleep f c u q ne = refl
 unheard (Take v p) asleep f c u q ne = untaken v p asleep f (c.queue v p) c u q (λ z. ne (ap (λ a. Take a p) (sym z.0) ∙ ap (Take u) (sym z.1)))
 
@@ -43,7 +45,7 @@ unheard (Take v p) asleep f c u q ne = untaken v p asleep f (c.queue v p) c u q 
 pub chains_leave : (g : Network) (w : Net) (e : Event) (d : Delta) (c : Chains) (u q : ℕ) → (Contains (changed g e d.sends) (Take u q) → ⊥) →
     (reacted g w e d c).queue u q ≡ c.queue u q
 chains_leave g w e d c u q none =
-    unsent g (event_node e) d.sends (hears e (is_sleeping (w.node (event_node e)).head.phase) d.fate c) u q
+    unsent g (event_node e) d.sends (hears e (is_sleeping (w.node (event_node e)).head.phase) (is_deferred d.fate) c) u q
     (λ h. none (later_in (Wake (event_node e)) (Take u q) (e ∷ far_takes g (event_node e) d.sends)
     (later_in e (Take u q) (far_takes g (event_node e) d.sends) h)))
     ∙ unheard e (is_sleeping (w.node (event_node e)).head.phase) d.fate c u q
@@ -52,18 +54,18 @@ chains_leave g w e d c u q none =
 
 -- What is no greater than a number is so after a taking.
 taken_below : (v p n : ℕ) (asleep : Bool) (f : Fate) (ts : List ℕ) (c : Chains) (u q : ℕ) → c.queue v p ≡ ts → Below n (c.queue u q) →
-    Below n ((taken v p asleep f ts c).queue u q)
+    Below n ((taken v p asleep (is_deferred f) ts c).queue u q)
 taken_below v p n asleep f [] c u q is b = b
 taken_below v p n asleep f (t ∷ ts) c u q is b = ⊎_elim
     (λ (e : (u ≡ v) × (q ≡ p)).
     let P : List ℕ → Type 0 = Below n in
     let here : c.queue u q ≡ t ∷ ts = ap (λ a. c.queue a q) e.0 ∙ ap (c.queue v) e.1 ∙ is in
-    subst P (sym (put_at_hit c.queue v p u q (behind f t ts) e.0 e.1)) (behind_below f n t ts (subst P here b)))
-    (λ ne. let P : List ℕ → Type 0 = Below n in subst P (sym (put_at_miss c.queue v p u q (behind f t ts) ne)) b)
+    subst P (sym (put_at_hit c.queue v p u q (behind (is_deferred f) t ts) e.0 e.1)) (behind_below (is_deferred f) n t ts (subst P here b)))
+    (λ ne. let P : List ℕ → Type 0 = Below n in subst P (sym (put_at_miss c.queue v p u q (behind (is_deferred f) t ts) ne)) b)
     (one_place v p u q)
 
 pub heard_below : (e : Event) (n : ℕ) (asleep : Bool) (f : Fate) (c : Chains) (u q : ℕ) → Below n (c.queue u q) →
-    Below n ((hears e asleep f c).queue u q)
+    Below n ((hears e asleep (is_deferred f) c).queue u q)
 heard_below (Wake v) n asleep f c u q b = b
 heard_below (Take v p) n asleep f c u q b = taken_below v p n asleep f (c.queue v p) c u q refl b
 
@@ -73,7 +75,7 @@ pub kept_below : (g : Network) (w : Net) (e : Event) (d : Delta) (c : Chains) (n
 kept_below g w e d c n u q none b =
     let P : List ℕ → Type 0 = Below n in
     let asleep = is_sleeping (w.node (event_node e)).head.phase in
-    subst P (sym (unsent g (event_node e) d.sends (hears e asleep d.fate c) u q none)) (heard_below e n asleep d.fate c u q b)
+    subst P (sym (unsent g (event_node e) d.sends (hears e asleep (is_deferred d.fate) c) u q none)) (heard_below e n asleep d.fate c u q b)
 
 -- By rounds.
 
@@ -81,22 +83,22 @@ kept_below g w e d c n u q none b =
 abbrev pub IsTimely : Chains → ℕ → Event → Bool → Fate → Type 0
 IsTimely c r e asleep f = (is_due c r e ≡ true) ⊎ ((asleep ≡ false) × (f ≡ Requeued))
 
-heard_timely : (f : Fate) (asleep : Bool) (n t r : ℕ) → n ≤ r → (t ≤ r) ⊎ ((asleep ≡ false) × (f ≡ Requeued)) → heard f asleep n t ≤ r
-heard_timely f asleep n t r le (inl due) = heard_within f asleep r r n t le due
+heard_timely : (f : Fate) (asleep : Bool) (n t r : ℕ) → n ≤ r → (t ≤ r) ⊎ ((asleep ≡ false) × (f ≡ Requeued)) → heard (is_deferred f) asleep n t ≤ r
+heard_timely f asleep n t r le (inl due) = heard_within (is_deferred f) asleep r r n t le due
 heard_timely f asleep n t r le (inr back) = rw (back.0, back.1) le
 
 taken_timely : (v p r : ℕ) (asleep : Bool) (f : Fate) (ts : List ℕ) (c : Chains) → c.queue v p ≡ ts → IsWithin r (suc r) c →
-    (is_by r (slice_get ts 0) ≡ true) ⊎ ((asleep ≡ false) × (f ≡ Requeued)) → IsWithin r (suc r) (taken v p asleep f ts c)
+    (is_by r (slice_get ts 0) ≡ true) ⊎ ((asleep ≡ false) × (f ≡ Requeued)) → IsWithin r (suc r) (taken v p asleep (is_deferred f) ts c)
 taken_timely v p r asleep f [] c is w timely = w
 taken_timely v p r asleep f (t ∷ ts) c is w timely = record {
-  node = put_node r c.node v (heard f asleep (c.node v) t) w.node
+  node = put_node r c.node v (heard (is_deferred f) asleep (c.node v) t) w.node
       (heard_timely f asleep (c.node v) t r (w.node v) (⊎_elim (λ b. inl (leb-true t r b)) inr timely));
-  queue = put_below (suc r) c.queue v p (behind f t ts) w.queue
-      (behind_below f (suc r) t ts (let P : List ℕ → Type 0 = Below (suc r) in subst P is (w.queue v p)));
+  queue = put_below (suc r) c.queue v p (behind (is_deferred f) t ts) w.queue
+      (behind_below (is_deferred f) (suc r) t ts (let P : List ℕ → Type 0 = Below (suc r) in subst P is (w.queue v p)));
 }
 
 pub hears_timely : (e : Event) (r : ℕ) (asleep : Bool) (f : Fate) (c : Chains) → IsWithin r (suc r) c → IsTimely c r e asleep f →
-    IsWithin r (suc r) (hears e asleep f c)
+    IsWithin r (suc r) (hears e asleep (is_deferred f) c)
 hears_timely (Wake v) r asleep f c w timely = w
 hears_timely (Take v p) r asleep f c w timely = taken_timely v p r asleep f (c.queue v p) c refl w timely
 

@@ -23,7 +23,8 @@ use Rattle.ghs_protocol.specs.Schedules.{PatienceLasts}
 use Rattle.ghs_protocol.proofs.lemmas.Runs.{lawful_under}
 use Rattle.peer_index.specs.Places.{HasPlace, all_events}
 use Rattle.peer_schedule.specs.Picks.{IsPick}
-use Rattle.ghs_chain.specs.Chains.{Chains, behind, chains_of, hears, reacted, sent, sent_on, taken}
+use Rattle.peer_chains.specs.Chains.{Chains, behind, hears, sent, sent_on, taken}
+use Rattle.ghs_chain.specs.Chains.{chains_of, is_deferred, reacted}
 use Rattle.ghs_patient.specs.Patience.{moves_on, or_else, puts_back}
 use Rattle.ghs_patient.proofs.lemmas.Picked.{picked_in}
 use Rattle.ghs_rounds.specs.Moments.{GoesByRounds, IsByRounds, IsPickedByMoments, IsReaction, Moments, first_taken, is_before, is_before_early, is_early, moved, none_sent, round_of, sent_in, taken_by}
@@ -51,7 +52,7 @@ abbrev pub AreSent : Chains → Moments → Type 0
 AreSent c m = (v p : ℕ) → c.queue v p ≡ nexts (m v p)
 
 -- What is taken.
-left_sent : (f : Fate) (t : ℕ) (ts : List ℕ) → behind f (suc t) (nexts ts) ≡ nexts (first_taken f (t ∷ ts))
+left_sent : (f : Fate) (t : ℕ) (ts : List ℕ) → behind (is_deferred f) (suc t) (nexts ts) ≡ nexts (first_taken f (t ∷ ts))
 left_sent Consumed t ts = refl
 left_sent Requeued t ts = sym (nexts_append ts (t ∷ []))
 
@@ -63,7 +64,7 @@ module _ (v p : ℕ) (asleep : Bool) (f : Fate) (c : Chains) (m : Moments) (are 
   here : (u q : ℕ) → (u ≡ v) × (q ≡ p) → m u q ≡ m v p
   here u q e = ap (λ a. m a q) e.0 ∙ ap (m v) e.1
 
-  taken_sent : (ts : List ℕ) → m v p ≡ ts → AreSent (taken v p asleep f (nexts ts) c) (put_at m v p (first_taken f ts))
+  taken_sent : (ts : List ℕ) → m v p ≡ ts → AreSent (taken v p asleep (is_deferred f) (nexts ts) c) (put_at m v p (first_taken f ts))
   taken_sent [] is u q = ⊎_elim
       (λ (e : (u ≡ v) × (q ≡ p)).
       are u q ∙ ap nexts (here u q e ∙ is ∙ sym (none_left f) ∙ sym (put_at_hit m v p u q (first_taken f []) e.0 e.1)))
@@ -71,19 +72,20 @@ module _ (v p : ℕ) (asleep : Bool) (f : Fate) (c : Chains) (m : Moments) (are 
       (one_place v p u q)
   taken_sent (t ∷ ts) is u q = ⊎_elim
       (λ (e : (u ≡ v) × (q ≡ p)).
-      put_at_hit c.queue v p u q (behind f (suc t) (nexts ts)) e.0 e.1
+      put_at_hit c.queue v p u q (behind (is_deferred f) (suc t) (nexts ts)) e.0 e.1
       ∙ left_sent f t ts
       ∙ ap nexts (sym (put_at_hit m v p u q (first_taken f (t ∷ ts)) e.0 e.1)))
       (λ ne.
-      put_at_miss c.queue v p u q (behind f (suc t) (nexts ts)) ne
+      put_at_miss c.queue v p u q (behind (is_deferred f) (suc t) (nexts ts)) ne
       ∙ are u q
       ∙ ap nexts (sym (put_at_miss m v p u q (first_taken f (t ∷ ts)) ne)))
       (one_place v p u q)
 
-hears_sent : (e : Event) (asleep : Bool) (f : Fate) (c : Chains) (m : Moments) → AreSent c m → AreSent (hears e asleep f c) (taken_by e f m)
+hears_sent : (e : Event) (asleep : Bool) (f : Fate) (c : Chains) (m : Moments) → AreSent c m →
+    AreSent (hears e asleep (is_deferred f) c) (taken_by e f m)
 hears_sent (Wake v) asleep f c m are = are
 hears_sent (Take v p) asleep f c m are =
-    subst (λ (l : List ℕ). AreSent (taken v p asleep f l c) (put_at m v p (first_taken f (m v p)))) (sym (are v p))
+    subst (λ (l : List ℕ). AreSent (taken v p asleep (is_deferred f) l c) (put_at m v p (first_taken f (m v p)))) (sym (are v p))
     (taken_sent v p asleep f c m are (m v p) refl)
 
 -- What is sent by a node that has the round's number.
@@ -201,11 +203,11 @@ module _ (law : Promised) (rules : EventsHaveRules) (lasts : PatienceLasts) (may
           let came = hears_sent e asleep reacts.fate c m are in
           ⊎_elim
           (λ moves.
-          all_sent r (network_of g) (event_node e) reacts.sends (hears e asleep reacts.fate c) (taken_by e reacts.fate m)
+          all_sent r (network_of g) (event_node e) reacts.sends (hears e asleep (is_deferred reacts.fate) c) (taken_by e reacts.fate m)
           (moves_give law may g w (of.is_net law rules lasts may g ok es r so_far going) c r so_far.timed e reacts answers moves) came)
           (λ hides.
           none_sent_there r (network_of g) (event_node e) reacts.sends
-          (of.back_sends law rules lasts may g ok es r so_far going e chosen.0 lawful hides) (hears e asleep reacts.fate c)
+          (of.back_sends law rules lasts may g ok es r so_far going e chosen.0 lawful hides) (hears e asleep (is_deferred reacts.fate) c)
           (taken_by e reacts.fate m) came)
           chosen.1
 

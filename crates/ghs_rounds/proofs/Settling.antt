@@ -21,8 +21,8 @@ use Rattle.peer_index.proofs.lemmas.Marks.{is_for, mark_is}
 use Rattle.ghs_world.specs.WorldState.{WorldState, home, wakers}
 use Rattle.peer_network.proofs.lemmas.Waking.{each_is_woken}
 use Rattle.std.proofs.lemmas.List.Elements.{All-nil}
-use Rattle.ghs_chain.specs.Chains.{Chains, no_chains}
-use Rattle.ghs_chain.specs.Kept.{Fits, seen}
+use Rattle.peer_chains.specs.Chains.{Chains, no_chains}
+use Rattle.peer_chains.specs.Kept.{Fits, seen}
 use Rattle.ghs_chain.proofs.lemmas.Following.{none_are}
 use Rattle.ghs_patient.specs.Patience.{moves_on, or_else, patient_events, puts_back, second_goes, uncovers}
 use Rattle.ghs_patient.proofs.lemmas.Picks.{is_net, some_patient}

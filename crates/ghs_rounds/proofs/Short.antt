@@ -37,7 +37,8 @@ use Rattle.ghs_protocol.proofs.lemmas.Woken.{asleep_or_not}
 use Rattle.ghs_core.specs.NetState.{delivery, work_at}
 use Rattle.peer_index.specs.Places.{HasPlace, all_events}
 use Rattle.peer_index.proofs.lemmas.Listed.{listed}
-use Rattle.ghs_chain.specs.Chains.{Chains, chains_of, reacted}
+use Rattle.peer_chains.specs.Chains.{Chains}
+use Rattle.ghs_chain.specs.Chains.{chains_of, reacted}
 use Rattle.ghs_patient.specs.Patience.{first_waits, or_else, puts_back}
 use Rattle.ghs_patient.proofs.lemmas.Picks.{some_patient}
 use Rattle.ghs_rounds.specs.Rounds.{events_in, hides_due, moves_due}

@@ -40,12 +40,13 @@ use Rattle.ghs_core.specs.Waits.{waits}
 use Rattle.ghs_core.proofs.lemmas.Waiting.{waits_so, waits_test}
 use Rattle.peer_index.specs.Places.{all_events}
 use Rattle.peer_index.proofs.lemmas.Listed.{listed}
-use Rattle.ghs_chain.specs.Chains.{Chains, hears, reacted, taken}
-use Rattle.ghs_chain.proofs.lemmas.Bounding.{IsWithin, more_within}
+use Rattle.peer_chains.specs.Chains.{Chains, hears, taken}
+use Rattle.ghs_chain.specs.Chains.{is_deferred, reacted}
+use Rattle.peer_chains.proofs.lemmas.Bounding.{IsWithin, more_within}
 use Rattle.ghs_patient.specs.Patience.{first_waits, moves_on, or_else, puts_back}
 use Rattle.ghs_rounds.specs.Rounds.{has_due_second, hides_due, is_by, is_due, moves_due, round_events}
 use Rattle.ghs_chain.proofs.lemmas.Lengths.{SameLengths}
-use Rattle.ghs_chain.proofs.lemmas.Hears.{hears_node}
+use Rattle.peer_chains.proofs.lemmas.Hears.{hears_node}
 use Rattle.ghs_rounds.proofs.Sending.{reacted_timely}
 use Rattle.ghs_rounds.proofs.Timing.{AreLate, HasCome, heard_is, hears_queue, late_all, late_append, sent_come, sent_node}
 
@@ -113,7 +114,7 @@ module _ (law : Promised) (may : ℕ → Bool) (g : Shape) (w : Net) (n : IsNetO
   taken_is : (v p : ℕ) (d : Delta) (q : List Message) (ts : List ℕ) → At (network_of g) v p → is_waiting q ≡ true →
       not (first_waits (w.node v) p q) ≡ true →
       is_by r (slice_get ts 0) ≡ true → (c.node v ≡ r) ⊎ AreLate (w.node v) p r q ts → reaction (w.node v) (delivery p q) ≡ Some d →
-      (taken v p (is_sleeping (w.node v).head.phase) d.fate ts c).node v ≡ r
+      (taken v p (is_sleeping (w.node v).head.phase) (is_deferred d.fate) ts c).node v ≡ r
   taken_is v p d [] ts at there goes_on by late answer = cc
   taken_is v p d (m ∷ ms) [] at there goes_on by late answer = cc
   taken_is v p d (m ∷ ms) (t ∷ ts) at there goes_on by late answer =
@@ -129,7 +130,7 @@ module _ (law : Promised) (may : ℕ → Bool) (g : Shape) (w : Net) (n : IsNetO
       fate_is v p d (w.queue v p) (at_of (network_of g) v p l.0) l.1 (stays (Take v p) d answer moves) answer
 
   pub moves_give : (e : Event) (d : Delta) → reaction (w.node (event_node e)) (work_at w e) ≡ Some d → moves_due may (network_of g) w c r e ≡ true →
-      (hears e (is_sleeping (w.node (event_node e)).head.phase) d.fate c).node (event_node e) ≡ r
+      (hears e (is_sleeping (w.node (event_node e)).head.phase) (is_deferred d.fate) c).node (event_node e) ≡ r
   moves_give (Wake v) d answer moves =
       let le = timed.within.node v in
       ⊎_elim (λ (z : r ≡ 0). omega (arith, z, le))
@@ -156,7 +157,7 @@ module _ (law : Promised) (may : ℕ → Bool) (g : Shape) (w : Net) (n : IsNetO
         (asleep_or_not (w.node v).head.phase)
 
     abbrev heard : Chains
-    heard = hears e (is_sleeping (w.node (event_node e)).head.phase) d.fate c
+    heard = hears e (is_sleeping (w.node (event_node e)).head.phase) (is_deferred d.fate) c
 
     run_one : run (network_of g) (e ∷ []) w ≡ Some x
     run_one = ap (λ (o : Option Net). and_then o (λ y. run (network_of g) [] y)) (happens_so h)
@@ -165,7 +166,7 @@ module _ (law : Promised) (may : ℕ → Bool) (g : Shape) (w : Net) (n : IsNetO
         ((reacted (network_of g) w e d c).node u ≡ r) ⊎ AreLate (x.node u) q r (x.queue u q) ((reacted (network_of g) w e d c).queue u q)
     others_late gives u q ne (inl is) =
         inl (sent_node (network_of g) (event_node e) d.sends heard u
-        ∙ hears_node e (is_sleeping (w.node (event_node e)).head.phase) d.fate c u ne ∙ is)
+        ∙ hears_node e (is_sleeping (w.node (event_node e)).head.phase) (is_deferred d.fate) c u ne ∙ is)
     others_late gives u q ne (inr late) =
         let alone =
         law.others (network_of g) u (e ∷ []) w x
@@ -215,13 +216,13 @@ module _ (law : Promised) (may : ℕ → Bool) (g : Shape) (w : Net) (n : IsNetO
     up = is_sleeping_not (w.node v).head.phase (waits_awake (w.node v) p m waits_here)
 
     abbrev put_back : Chains
-    put_back = taken v p false Requeued (t ∷ u ∷ us) c
+    put_back = taken v p false true (t ∷ u ∷ us) c
 
     reacted_is : reacted (network_of g) w (Take v p) d c ≡ put_back
     reacted_is =
         ap (λ (y : Delta). reacted (network_of g) w (Take v p) y c) d_is
-        ∙ ap (λ (b : Bool). taken v p b Requeued (c.queue v p) c) up
-        ∙ ap (λ (l : List ℕ). taken v p false Requeued l c) numbers
+        ∙ ap (λ (b : Bool). taken v p b true (c.queue v p) c) up
+        ∙ ap (λ (l : List ℕ). taken v p false true l c) numbers
 
     node_same : (a : ℕ) → put_back.node a ≡ c.node a
     node_same a = ⊎_elim

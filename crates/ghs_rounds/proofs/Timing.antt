@@ -14,7 +14,8 @@ use Rattle.peer_network.specs.Events.{event_node}
 use Rattle.peer_network.specs.Network.{Network, far, far_port}
 use Rattle.ghs_protocol.proofs.lemmas.Queues.{all_first, all_rest}
 use Rattle.peer_network.proofs.lemmas.Updates.{one_place, put_at_hit, put_at_miss}
-use Rattle.ghs_chain.specs.Chains.{Chains, behind, heard, hears, sent, sent_on, taken}
+use Rattle.peer_chains.specs.Chains.{Chains, behind, heard, hears, sent, sent_on, taken}
+use Rattle.ghs_chain.specs.Chains.{is_deferred}
 
 -- Of a queue: who takes from its front what doesn't wait, takes a message that arrives in round r or later, if it hasn't waited before one that does.
 abbrev pub AreLate : NodeState → ℕ → ℕ → List Message → List ℕ → Type 0
@@ -78,16 +79,19 @@ module _ (g : Network) (v : ℕ) where
   sent_node (s ∷ ss) c u = sent_node ss (sent_on g v s.0 c) u
 
 -- Hearing changes the queues of the event's node alone.
-taken_queue : (v p : ℕ) (asleep : Bool) (f : Fate) (ts : List ℕ) (c : Chains) (u q : ℕ) → u ≢ v → (taken v p asleep f ts c).queue u q ≡ c.queue u q
+taken_queue : (v p : ℕ) (asleep : Bool) (f : Fate) (ts : List ℕ) (c : Chains) (u q : ℕ) → u ≢ v →
+    (taken v p asleep (is_deferred f) ts c).queue u q ≡ c.queue u q
 taken_queue v p asleep f [] c u q ne = refl
-taken_queue v p asleep f (t ∷ ts) c u q ne = put_at_miss c.queue v p u q (behind f t ts) (λ z. ne z.0)
+taken_queue v p asleep f (t ∷ ts) c u q ne = put_at_miss c.queue v p u q (behind (is_deferred f) t ts) (λ z. ne z.0)
 
-pub hears_queue : (e : Event) (asleep : Bool) (f : Fate) (c : Chains) (u q : ℕ) → u ≢ event_node e → (hears e asleep f c).queue u q ≡ c.queue u q
+pub hears_queue : (e : Event) (asleep : Bool) (f : Fate) (c : Chains) (u q : ℕ) → u ≢ event_node e →
+    (hears e asleep (is_deferred f) c).queue u q ≡ c.queue u q
 hears_queue (Wake v) asleep f c u q ne = refl
 hears_queue (Take v p) asleep f c u q ne = taken_queue v p asleep f (c.queue v p) c u q ne
 
 -- A message of the round, or a later one's, gives who hears of it the round's number.
-pub heard_is : (f : Fate) (asleep : Bool) (k t r : ℕ) → k ≤ r → t ≤ r → (k ≡ r) ⊎ (r ≤ t) → (f ≡ Consumed) ⊎ (asleep ≡ true) → heard f asleep k t ≡ r
+pub heard_is : (f : Fate) (asleep : Bool) (k t r : ℕ) → k ≤ r → t ≤ r → (k ≡ r) ⊎ (r ≤ t) → (f ≡ Consumed) ⊎ (asleep ≡ true) →
+    heard (is_deferred f) asleep k t ≡ r
 heard_is Consumed asleep k t r a b c d = ⊎_elim (λ e. omega (arith, a, b, e)) (λ le. omega (arith, a, b, le)) c
 heard_is Requeued true k t r a b c d = ⊎_elim (λ e. omega (arith, a, b, e)) (λ le. omega (arith, a, b, le)) c
 heard_is Requeued false k t r a b c d = absurd (⊎_elim (λ z. cc) (λ z. cc) d)

@@ -29,8 +29,9 @@ use Rattle.ghs_protocol.proofs.lemmas.Runs.{after_is_net, after_more, lawful_und
 use Rattle.ghs_core.specs.NetState.{delivery, work_at}
 use Rattle.peer_index.specs.Places.{HasPlace, all_events}
 use Rattle.peer_index.proofs.lemmas.Listed.{listed}
-use Rattle.ghs_chain.specs.Chains.{Chains, answered, chains_after, chains_of, hears, longest_chain, most_below, no_chains, reacted}
-use Rattle.ghs_chain.proofs.lemmas.Bounding.{most_within}
+use Rattle.peer_chains.specs.Chains.{Chains, hears, most_below, no_chains}
+use Rattle.ghs_chain.specs.Chains.{answered, chains_after, chains_of, is_deferred, longest_chain, reacted}
+use Rattle.peer_chains.proofs.lemmas.Bounding.{most_within}
 use Rattle.ghs_chain.proofs.lemmas.Following.{chains_more}
 use Rattle.ghs_patient.specs.Patience.{or_else}
 use Rattle.ghs_patient.proofs.lemmas.Picks.{some_patient}
@@ -152,7 +153,8 @@ module _ (law : Promised) (rules : EventsHaveRules) (lasts : PatienceLasts) (may
         number : (chains_of (network_of g) more).node (event_node e) ≡ r
         number =
             ap (λ (y : Chains). y.node (event_node e)) chains_are
-            ∙ sent_node (network_of g) (event_node e) d.sends (hears e (is_sleeping (w.node (event_node e)).head.phase) d.fate c) (event_node e)
+            ∙ sent_node (network_of g) (event_node e) d.sends
+            (hears e (is_sleeping (w.node (event_node e)).head.phase) (is_deferred d.fate) c) (event_node e)
             ∙ moves_give law may g w is_net c r told.timed e d answer moves
 
         longest : r ≤ longest_chain (network_of g) more

@@ -9,7 +9,8 @@ use Rattle.peer_network.specs.Network.{Network, network_of}
 use Rattle.ghs_protocol.specs.Net.{Net}
 use Rattle.ghs_protocol.specs.Run.{net_after}
 use Rattle.peer_index.specs.Places.{all_events}
-use Rattle.ghs_chain.specs.Chains.{Chains, chains_of}
+use Rattle.peer_chains.specs.Chains.{Chains}
+use Rattle.ghs_chain.specs.Chains.{chains_of}
 use Rattle.ghs_patient.specs.Patience.{moves_on, or_else, puts_back}
 
 -- there is a message, and the chain that it ends has r messages at most: by round r it has arrived

@@ -8,7 +8,7 @@ ghost use Rattle.ghs_core.specs.NetState.{network, event_node};
 ghost use Rattle.peer_index.specs.Places.{HasPlace, IsPlaced};
 ghost use Rattle.peer_schedule.specs.Picks.{IsPick};
 ghost use Rattle.peer_schedule.specs.Schedule.{next_of};
-ghost use Rattle.ghs_chain.specs.Kept.{Fits};
+ghost use Rattle.peer_chains.specs.Kept.{Fits};
 ghost use Rattle.ghs_patient.specs.Choices.{IsMarked, IsStirred, far_takes};
 ghost use Rattle.ghs_rounds.specs.Choices.{AreChoices, AreChoicesBut, AreFor, events_of, hides_in, marked, marked_all, marked_to, moves_in};
 

@@ -1,6 +1,7 @@
 //! Which round it is, and what is due in it.
-ghost use Rattle.ghs_chain.specs.Chains.{hears, no_chains, sent};
-ghost use Rattle.ghs_chain.specs.Kept.{Fits, HasPlace, HasPlaceOf, SamePlaces, seen};
+ghost use Rattle.peer_chains.specs.Chains.{hears, no_chains, sent};
+ghost use Rattle.ghs_chain.specs.Chains.{is_deferred};
+ghost use Rattle.peer_chains.specs.Kept.{Fits, HasPlace, HasPlaceOf, SamePlaces, seen};
 ghost use Rattle.ghs_graph.specs.Ports.{ports_of};
 ghost use Rattle.peer_network.specs.Events.{event_node};
 ghost use Rattle.peer_network.specs.Network.{far, far_port, network_of};
@@ -8,9 +9,10 @@ ghost use Rattle.ghs_rounds.specs.Rounds.{has_due_second, is_by, is_due};
 ghost use Rattle.std.specs.List.{All};
 ghost use Rattle.std.specs.Prelude.{◌≡◌, ℕ, ◌-◌, ◌<◌, ◌≤◌, ◌^◌, suc, IfOk, length, OnOk};
 
-use ghs_chain::chains::Chains;
+use ghs_chain::fate::is_deferred;
 use ghs_graph::graph::Graph;
 use ghs_node::delta::Delta;
+use peer_chains::chains::Chains;
 use peer_network::event::{Event, node_of};
 use std::alloc::{AllocError, Global};
 use std::marker::Model;
@@ -101,14 +103,14 @@ impl Clock {
         requires low { 1 ≤ event_node event }
         requires high { event_node event ≤ graph.now.nodes }
         requires node { event_node event < length self.old.kept.numbers }
-        requires small { (v : ℕ) → (hears event asleep delta.now.fate (seen self.old.kept)).node v < 2 ^ 64 - 1 }
+        requires small { (v : ℕ) → (hears event asleep (is_deferred delta.now.fate) (seen self.old.kept)).node v < 2 ^ 64 - 1 }
         requires ports { All (λ s. s.0 < length (ports_of graph.now.keys (event_node event))) delta.now.sends }
         requires far { All (λ s. HasPlace self.old.kept (far (network_of graph.now) (event_node event) s.0) (far_port (network_of graph.now) (event_node event) s.0)) delta.now.sends }
         ensures round { OnOk result (self.new.round ≡ self.old.round) }
         ensures places { OnOk result (SamePlaces self.old.kept self.new.kept) }
-        ensures chains { OnOk result (seen self.new.kept ≡ sent (network_of graph.now) (event_node event) delta.now.sends (hears event asleep delta.now.fate (seen self.old.kept))) }
+        ensures chains { OnOk result (seen self.new.kept ≡ sent (network_of graph.now) (event_node event) delta.now.sends (hears event asleep (is_deferred delta.now.fate) (seen self.old.kept))) }
     {
-        self.chains.hear(event, asleep, delta.fate)?;
+        self.chains.hear(event, asleep, is_deferred(delta.fate))?;
         self.chains
             .send(graph, node_of(event), delta.sends.as_slice())?;
         Ok(())

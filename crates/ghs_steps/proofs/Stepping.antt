@@ -27,7 +27,8 @@ use Rattle.ghs_choices.specs.declared.choice.Choice.{Choice}
 use Rattle.ghs_steps.specs.Changes.{changes}
 use Rattle.ghs_choices.specs.Choice.{is_chosen}
 use Rattle.ghs_steps.specs.Step.{chosen, step, steps, steps_behind}
-use Rattle.ghs_steps.specs.Told.{Told, event_far, sent_by}
+use Rattle.ghs_steps.specs.Told.{Told, sent_by}
+use Rattle.peer_steps.specs.Told.{event_far}
 use Rattle.ghs_choices.specs.declared.form.Form.{Form}
 use Rattle.ghs_steps.specs.Lines.{line_in, lines, shown}
 

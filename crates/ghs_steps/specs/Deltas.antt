@@ -14,7 +14,8 @@ use Rattle.ghs_steps.specs.declared.change.Change.{Change}
 use Rattle.ghs_steps.specs.declared.change.Change.TheVariants as change
 use Rattle.ghs_steps.specs.declared.sent.Sent.{Sent}
 use Rattle.ghs_steps.specs.Step.{steps_behind}
-use Rattle.ghs_steps.specs.Told.{Told, event_port}
+use Rattle.peer_steps.specs.Told.{event_port}
+use Rattle.ghs_steps.specs.Told.{Told}
 
 -- the state of each node, and the messages that wait at each port
 pub record State : Type 0 where

@@ -1,5 +1,5 @@
 -- Why the steps of a trace aren't shown, or not to their end.
-use Rattle.std.specs.Prelude.{◌≡◌, ◌⊎◌, ℕ, Bool, false, true, Option, List}
+use Rattle.std.specs.Prelude.{◌≡◌, ◌⊎◌, ℕ, Option, List}
 use Rattle.ghs_graph.specs.Graph.{Shape}
 use Rattle.peer_network.specs.declared.event.Event.{Event}
 use Rattle.peer_network.specs.Network.{network_of}
@@ -7,8 +7,8 @@ use Rattle.ghs_protocol.specs.Run.{IsRunUnder}
 use Rattle.peer_network.specs.declared.wake_set.WakeSet.{WakeSet}
 use Rattle.peer_network.specs.Wakes.{may_wake}
 use Rattle.ghs_sched.specs.Replays.{IsFirstUnlawful}
-use Rattle.ghs_steps.specs.declared.show.StepsFault.{StepsFault}
-use Rattle.ghs_steps.specs.declared.show.StepsFault.TheVariants.{NotLawful, Memory, Write}
+use Rattle.peer_steps.specs.declared.fault.StepsFault.{StepsFault}
+use Rattle.peer_steps.specs.declared.fault.StepsFault.TheVariants.{NotLawful, Memory, Write}
 use Rattle.ghs_report.specs.declared.portions.WriteFault.TheVariants as writes
 use Rattle.ghs_report.specs.Written.{IsFront}
 
@@ -18,13 +18,3 @@ abbrev pub CantShow : Shape → WakeSet → List Event → List ℕ → Option (
 CantShow g wake es text old new (NotLawful k) = IsFirstUnlawful g wake es k × (new ≡ old)
 CantShow g wake es text old new Memory = (new ≡ old) ⊎ (IsRunUnder (may_wake g wake) (network_of g) es × IsFront old new text writes.Memory)
 CantShow g wake es text old new (Write k) = IsRunUnder (may_wake g wake) (network_of g) es × IsFront old new text (writes.Write k)
-
--- the run is at fault
-abbrev pub is_unlawful : StepsFault → Bool
-is_unlawful (NotLawful k) = true
-is_unlawful _ = false
-
--- the writer failed, or took no byte
-abbrev pub is_write : StepsFault → Bool
-is_write (Write k) = true
-is_write _ = false

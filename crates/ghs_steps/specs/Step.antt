@@ -14,7 +14,8 @@ use Rattle.ghs_core.specs.NetState.{work_at}
 use Rattle.ghs_choices.specs.declared.choice.Choice.{Choice}
 use Rattle.ghs_steps.specs.Changes.{changes}
 use Rattle.ghs_choices.specs.Choice.{is_chosen}
-use Rattle.ghs_steps.specs.Told.{Told, event_far, sent_by}
+use Rattle.peer_steps.specs.Told.{event_far}
+use Rattle.ghs_steps.specs.Told.{Told, sent_by}
 
 -- Each event of a run has a rule. Where there is none, this stands in for what the node does.
 abbrev pub delta_of : NodeState → Work → Delta

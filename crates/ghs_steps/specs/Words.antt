@@ -1,16 +1,18 @@
 -- The words that texts of steps have in common.
-use Rattle.std.specs.Prelude.{ℕ, List, ◌++◌, codes, decimal}
+use Rattle.std.specs.Prelude.{ℕ, List, [], ◌∷◌, Option, Some, codes}
 use Rattle.ghs_graph.specs.declared.key.Key.{Key}
 use Rattle.ghs_node.specs.declared.mark.Mark.{Mark}
 use Rattle.ghs_node.specs.declared.mark.Mark.TheVariants.{Basic, Branch, Rejected}
+use Rattle.ghs_node.specs.declared.message.Message.{Message}
+use Rattle.ghs_node.specs.declared.message.Message.TheVariants.{Connect, Initiate, Test, Accept, Reject, Report, ChangeRoot}
 use Rattle.ghs_node.specs.declared.message.Phase.{Phase}
 use Rattle.ghs_node.specs.declared.message.Phase.TheVariants.{Sleeping, Find, Found}
 use Rattle.ghs_node.specs.declared.row_name.RowName.{RowName}
 use Rattle.ghs_node.specs.declared.row_name.RowName.TheVariants as names
-
--- `WEIGHT:SMALLER-LARGER`
-unfoldable pub key_text : Key → List ℕ
-key_text k = decimal k.weight ++ codes ":" ++ decimal k.a ++ codes "-" ++ decimal k.b
+use Rattle.peer_words.specs.declared.value.Carried.TheVariants.{Nothing, One, Two, Three}
+use Rattle.peer_words.specs.declared.value.Said.{Said}
+use Rattle.peer_words.specs.declared.value.Saying.{Saying}
+use Rattle.peer_words.specs.declared.value.Value.TheVariants.{Link, Number, Word}
 
 abbrev pub phase_word : Phase → List ℕ
 phase_word Sleeping = codes "sleeping"
@@ -47,3 +49,22 @@ row_word names.ReportMovesRoot = codes "Report_moves_root"
 row_word names.RootMoves = codes "Root_moves"
 row_word names.ReportHalts = codes "Report_halts"
 row_word names.ReportPasses = codes "Report_passes"
+
+abbrev pub level_said : ℕ → Said
+level_said l = record { name = codes "level"; value = Number l }
+
+abbrev pub key_said : Option Key → Said
+key_said k = record { name = codes "key"; value = Link k }
+
+abbrev pub phase_said : Phase → Said
+phase_said s = record { name = codes "phase"; value = Word (phase_word s) }
+
+-- a message in words
+abbrev pub says : Message → Saying
+says (Connect l) = record { kind = codes "connect"; carried = One (level_said l ∷ []) }
+says (Initiate l f s) = record { kind = codes "initiate"; carried = Three (level_said l ∷ key_said (Some f) ∷ phase_said s ∷ []) }
+says (Test l f) = record { kind = codes "test"; carried = Two (level_said l ∷ key_said (Some f) ∷ []) }
+says Accept = record { kind = codes "accept"; carried = Nothing }
+says Reject = record { kind = codes "reject"; carried = Nothing }
+says (Report w) = record { kind = codes "report"; carried = One (key_said w ∷ []) }
+says ChangeRoot = record { kind = codes "changeroot"; carried = Nothing }

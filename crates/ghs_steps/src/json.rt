@@ -1,21 +1,23 @@
 //! A step as a line of JSON.
 ghost use Rattle.std.specs.Prelude.{◌≡◌, ◌++◌, [], codes, decimal, IfOk};
 ghost use Rattle.std.specs.List.{flat_map};
-ghost use Rattle.ghs_steps.specs.Json.{behind_comma, best_or_null, change_json, change_member, change_members, change_name, json_of, key_or_null, listed, member, message_members, number_or_null, pair, place_members, quoted, row_members, send_json, sends_member, set_member, way_members, work_members};
-ghost use Rattle.ghs_steps.specs.Words.{key_text};
+ghost use Rattle.peer_steps.specs.Json.{behind_comma, listed};
+ghost use Rattle.ghs_steps.specs.Json.{change_json, change_member, change_members, change_name, json_of, row_members, send_json, sends_member, set_member, work_members};
 
 use crate::change::Change;
 use crate::line::fate_word;
-use crate::moment::{Moment, port_of};
+use crate::moment::Moment;
 use crate::sent::Sent;
-use crate::words::{mark_word, phase_word, put_key, row_word};
-use ghs_core::event::{Event, node_of};
-use ghs_graph::key::Key;
+use crate::words::{mark_word, phase_word, row_word, says};
 use ghs_lines::numbers::put_number;
 use ghs_node::delta::Fate;
-use ghs_node::message::Message;
 use ghs_node::row_name::RowName;
 use ghs_node::work::Work;
+use peer_steps::json::{put_place, put_way};
+use peer_words::json::{
+    put_best, put_key_or_null, put_literal_member, put_message_members, put_name,
+    put_number_member, put_number_or_null, put_pair, put_quoted, put_word_member,
+};
 use std::alloc::AllocError;
 
 /// Appends the line of a step: one JSON object without blanks, and a line feed.
@@ -36,28 +38,12 @@ pub fn step_json(
     text.extend_from_slice(b"}\n")
 }
 
-/// Appends what a line of JSON begins with: the event's number, its node, the port of the message taken and its far end.
-#[tactic(auto, unfolding(crate::specs::Json::place_members))]
-pub fn put_place(
-    text: &mut Vec<u8>,
-    number: u64,
-    event: Event,
-    far: Option<u32>,
-) -> Result<(), AllocError>
-    ensures { IfOk result (λ _. text.new.items ≡ text.old.items ++ place_members number event far) }
-{
-    put_number_member(text, b"{", b"step", u128::from(number))?;
-    put_number_member(text, b",", b"node", u128::from(node_of(event)))?;
-    put_optional_member(text, b",", b"port", port_of(event))?;
-    put_optional_member(text, b",", b"far", far)
-}
-
 fn put_work(text: &mut Vec<u8>, work: &Work) -> Result<(), AllocError>
     ensures { IfOk result (λ _. text.new.items ≡ text.old.items ++ work_members work.now) }
 {
     match work {
         Work::Wake => put_word_member(text, b",", b"kind", b"wake"),
-        Work::Deliver { port: _, message } => put_message(text, b",", message),
+        Work::Deliver { port: _, message } => put_message_members(text, b",", &says(message)),
     }
 }
 
@@ -104,7 +90,7 @@ fn put_set(text: &mut Vec<u8>, changes: &[Change]) -> Result<(), AllocError>
 }
 
 /// The changes, with a comma between each and the next.
-#[tactic(auto, unfolding(crate::specs::Json::listed))]
+#[tactic(auto, unfolding(peer_steps::specs::Json::listed))]
 pub(crate) fn put_each_change(text: &mut Vec<u8>, changes: &[Change]) -> Result<(), AllocError>
     ensures { IfOk result (λ _. text.new.items ≡ text.old.items ++ listed (change_member []) changes.now) }
 {
@@ -118,7 +104,7 @@ pub(crate) fn put_each_change(text: &mut Vec<u8>, changes: &[Change]) -> Result<
 }
 
 /// Each behind a comma.
-#[tactic(auto, unfolding(crate::specs::Json::behind_comma))]
+#[tactic(auto, unfolding(peer_steps::specs::Json::behind_comma))]
 fn put_other_changes(text: &mut Vec<u8>, changes: &[Change]) -> Result<(), AllocError>
     ensures { IfOk result (λ _. text.new.items ≡ text.old.items ++ flat_map (behind_comma (change_member [])) changes.now) }
 {
@@ -130,14 +116,11 @@ fn put_other_changes(text: &mut Vec<u8>, changes: &[Change]) -> Result<(), Alloc
 }
 
 /// One mark or variable, with its new value.
-#[tactic(auto, unfolding(crate::specs::Json::change_member, crate::specs::Json::member))]
+#[tactic(auto, unfolding(crate::specs::Json::change_member, peer_words::specs::Json::member))]
 fn put_change(text: &mut Vec<u8>, lead: &[u8], change: &Change) -> Result<(), AllocError>
     ensures { IfOk result (λ _. text.new.items ≡ text.old.items ++ change_member lead.now change.now) }
 {
-    text.extend_from_slice(lead)?;
-    text.extend_from_slice(b"\"")?;
-    text.extend_from_slice(change_name(change))?;
-    text.extend_from_slice(b"\":")?;
+    put_name(text, lead, change_name(change))?;
     put_change_value(text, change)
 }
 
@@ -183,7 +166,7 @@ fn put_sends_member(text: &mut Vec<u8>, sends: &[Sent]) -> Result<(), AllocError
 }
 
 /// The messages that go out, with a comma between each and the next.
-#[tactic(auto, unfolding(crate::specs::Json::listed))]
+#[tactic(auto, unfolding(peer_steps::specs::Json::listed))]
 fn put_sends(text: &mut Vec<u8>, sends: &[Sent]) -> Result<(), AllocError>
     ensures { IfOk result (λ _. text.new.items ≡ text.old.items ++ listed send_json sends.now) }
 {
@@ -197,7 +180,7 @@ fn put_sends(text: &mut Vec<u8>, sends: &[Sent]) -> Result<(), AllocError>
 }
 
 /// Each behind a comma.
-#[tactic(auto, unfolding(crate::specs::Json::behind_comma))]
+#[tactic(auto, unfolding(peer_steps::specs::Json::behind_comma))]
 fn put_other_sends(text: &mut Vec<u8>, sends: &[Sent]) -> Result<(), AllocError>
     ensures { IfOk result (λ _. text.new.items ≡ text.old.items ++ flat_map (behind_comma send_json) sends.now) }
 {
@@ -214,210 +197,6 @@ fn put_send(text: &mut Vec<u8>, send: &Sent) -> Result<(), AllocError>
     ensures { IfOk result (λ _. text.new.items ≡ text.old.items ++ send_json send.now) }
 {
     put_way(text, send.port, send.to, send.at)?;
-    put_message(text, b",", &send.message)?;
+    put_message_members(text, b",", &says(&send.message))?;
     text.extend_from_slice(b"}")
-}
-
-/// Appends what a message that goes out begins with: the port on which it does, and the node and its port where it will wait.
-#[tactic(auto, unfolding(crate::specs::Json::way_members))]
-pub fn put_way(text: &mut Vec<u8>, port: u32, to: u32, at: u32) -> Result<(), AllocError>
-    ensures { IfOk result (λ _. text.new.items ≡ text.old.items ++ way_members port to at) }
-{
-    put_number_member(text, b"{", b"port", u128::from(port))?;
-    put_number_member(text, b",", b"to", u128::from(to))?;
-    put_number_member(text, b",", b"at", u128::from(at))
-}
-
-/// A message's kind, and what it carries.
-#[tactic(auto, unfolding(crate::specs::Json::message_members))]
-pub(crate) fn put_message(
-    text: &mut Vec<u8>,
-    lead: &[u8],
-    message: &Message,
-) -> Result<(), AllocError>
-    ensures { IfOk result (λ _. text.new.items ≡ text.old.items ++ message_members lead.now message.now) }
-{
-    match message {
-        Message::Connect(level) => {
-            put_word_member(text, lead, b"kind", b"connect")?;
-            put_number_member(text, b",", b"level", u128::from(level.get()))
-        }
-        Message::Initiate(level, name, phase) => {
-            put_word_member(text, lead, b"kind", b"initiate")?;
-            put_number_member(text, b",", b"level", u128::from(level.get()))?;
-            put_key_member(text, b",", b"key", *name)?;
-            put_word_member(text, b",", b"phase", phase_word(*phase))
-        }
-        Message::Test(level, name) => {
-            put_word_member(text, lead, b"kind", b"test")?;
-            put_number_member(text, b",", b"level", u128::from(level.get()))?;
-            put_key_member(text, b",", b"key", *name)
-        }
-        Message::Accept => put_word_member(text, lead, b"kind", b"accept"),
-        Message::Reject => put_word_member(text, lead, b"kind", b"reject"),
-        Message::Report(key) => {
-            put_word_member(text, lead, b"kind", b"report")?;
-            put_optional_key_member(text, b",", b"key", *key)
-        }
-        Message::ChangeRoot => put_word_member(text, lead, b"kind", b"changeroot"),
-    }
-}
-
-/// What stands before a member, and its name.
-fn put_name(text: &mut Vec<u8>, lead: &[u8], name: &[u8]) -> Result<(), AllocError>
-    ensures { IfOk result (λ _. text.new.items ≡ text.old.items ++ lead.now ++ codes "\"" ++ name.now ++ codes "\":") }
-{
-    text.extend_from_slice(lead)?;
-    text.extend_from_slice(b"\"")?;
-    text.extend_from_slice(name)?;
-    text.extend_from_slice(b"\":")
-}
-
-/// Appends a member of an object whose value is a number: what stands before it, its name, and the number.
-#[tactic(auto, unfolding(crate::specs::Json::member))]
-pub fn put_number_member(
-    text: &mut Vec<u8>,
-    lead: &[u8],
-    name: &[u8],
-    number: u128,
-) -> Result<(), AllocError>
-    ensures { IfOk result (λ _. text.new.items ≡ text.old.items ++ member lead.now name.now (decimal number)) }
-{
-    put_name(text, lead, name)?;
-    put_number(text, number)
-}
-
-/// Appends a member whose value is a word. The word has no quote and no backslash.
-#[tactic(auto, unfolding(crate::specs::Json::member))]
-pub fn put_word_member(
-    text: &mut Vec<u8>,
-    lead: &[u8],
-    name: &[u8],
-    word: &[u8],
-) -> Result<(), AllocError>
-    ensures { IfOk result (λ _. text.new.items ≡ text.old.items ++ member lead.now name.now (quoted word.now)) }
-{
-    put_name(text, lead, name)?;
-    put_quoted(text, word)
-}
-
-/// Appends a member whose value is a link's key.
-#[tactic(auto, unfolding(crate::specs::Json::member))]
-pub fn put_key_member(
-    text: &mut Vec<u8>,
-    lead: &[u8],
-    name: &[u8],
-    link: Key,
-) -> Result<(), AllocError>
-    ensures { IfOk result (λ _. text.new.items ≡ text.old.items ++ member lead.now name.now (quoted (key_text link))) }
-{
-    put_name(text, lead, name)?;
-    put_quoted_key(text, link)
-}
-
-/// Appends a member whose value is a link's key, or null.
-#[tactic(auto, unfolding(crate::specs::Json::member))]
-pub fn put_optional_key_member(
-    text: &mut Vec<u8>,
-    lead: &[u8],
-    name: &[u8],
-    key: Option<Key>,
-) -> Result<(), AllocError>
-    ensures { IfOk result (λ _. text.new.items ≡ text.old.items ++ member lead.now name.now (key_or_null key)) }
-{
-    put_name(text, lead, name)?;
-    put_key_or_null(text, key)
-}
-
-/// Appends a member whose value is a number, or null.
-#[tactic(auto, unfolding(crate::specs::Json::member))]
-pub fn put_optional_member(
-    text: &mut Vec<u8>,
-    lead: &[u8],
-    name: &[u8],
-    number: Option<u32>,
-) -> Result<(), AllocError>
-    ensures { IfOk result (λ _. text.new.items ≡ text.old.items ++ member lead.now name.now (number_or_null number)) }
-{
-    put_name(text, lead, name)?;
-    put_number_or_null(text, number)
-}
-
-/// Appends a member whose value is spelled out: null, true, or what JSON has else.
-#[tactic(auto, unfolding(crate::specs::Json::member))]
-pub fn put_literal_member(
-    text: &mut Vec<u8>,
-    lead: &[u8],
-    name: &[u8],
-    value: &[u8],
-) -> Result<(), AllocError>
-    ensures { IfOk result (λ _. text.new.items ≡ text.old.items ++ member lead.now name.now value.now) }
-{
-    put_name(text, lead, name)?;
-    text.extend_from_slice(value)
-}
-
-#[tactic(auto, unfolding(crate::specs::Json::quoted))]
-pub(crate) fn put_quoted(text: &mut Vec<u8>, word: &[u8]) -> Result<(), AllocError>
-    ensures { IfOk result (λ _. text.new.items ≡ text.old.items ++ quoted word.now) }
-{
-    text.extend_from_slice(b"\"")?;
-    text.extend_from_slice(word)?;
-    text.extend_from_slice(b"\"")
-}
-
-#[tactic(auto, unfolding(crate::specs::Json::quoted))]
-fn put_quoted_key(text: &mut Vec<u8>, key: Key) -> Result<(), AllocError>
-    ensures { IfOk result (λ _. text.new.items ≡ text.old.items ++ quoted (key_text key)) }
-{
-    text.extend_from_slice(b"\"")?;
-    put_key(text, key)?;
-    text.extend_from_slice(b"\"")
-}
-
-fn put_key_or_null(text: &mut Vec<u8>, key: Option<Key>) -> Result<(), AllocError>
-    ensures { IfOk result (λ _. text.new.items ≡ text.old.items ++ key_or_null key) }
-{
-    match key {
-        Some(key) => put_quoted_key(text, key),
-        None => text.extend_from_slice(b"null"),
-    }
-}
-
-fn put_number_or_null(text: &mut Vec<u8>, number: Option<u32>) -> Result<(), AllocError>
-    ensures { IfOk result (λ _. text.new.items ≡ text.old.items ++ number_or_null number) }
-{
-    match number {
-        Some(number) => put_number(text, u128::from(number)),
-        None => text.extend_from_slice(b"null"),
-    }
-}
-
-/// Appends a list of two: a port, and its mark as a string. The mark has no quote and no backslash.
-#[tactic(auto, unfolding(crate::specs::Json::pair))]
-pub fn put_pair(text: &mut Vec<u8>, port: u32, mark: &[u8]) -> Result<(), AllocError>
-    ensures { IfOk result (λ _. text.new.items ≡ text.old.items ++ pair port mark.now) }
-{
-    text.extend_from_slice(b"[")?;
-    put_number(text, u128::from(port))?;
-    text.extend_from_slice(b",")?;
-    put_quoted(text, mark)?;
-    text.extend_from_slice(b"]")
-}
-
-/// Appends the port of the best link and the key, as a list of two; or null.
-#[tactic(auto, unfolding(crate::specs::Json::pair))]
-pub fn put_best(text: &mut Vec<u8>, best: Option<(u32, Key)>) -> Result<(), AllocError>
-    ensures { IfOk result (λ _. text.new.items ≡ text.old.items ++ best_or_null best) }
-{
-    match best {
-        Some((port, key)) => {
-            text.extend_from_slice(b"[")?;
-            put_number(text, u128::from(port))?;
-            text.extend_from_slice(b",")?;
-            put_quoted_key(text, key)?;
-            text.extend_from_slice(b"]")
-        }
-        None => text.extend_from_slice(b"null"),
-    }
 }

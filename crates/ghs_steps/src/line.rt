@@ -1,19 +1,23 @@
 //! A step as a line of text.
 ghost use Rattle.std.specs.Prelude.{◌≡◌, ◌++◌, decimal, IfOk};
 ghost use Rattle.std.specs.List.{flat_map};
-ghost use Rattle.ghs_steps.specs.StepLine.{behind_semicolon, best_text, change_name, change_text, change_value, fate_word, field, joined, key_or_dash, line_of, message_text, number_or_dash, place_fields, send_text, work_fields};
+ghost use Rattle.peer_words.specs.Text.{message_text, number_or_dash};
+ghost use Rattle.peer_steps.specs.StepLine.{behind_semicolon, field, joined, place_fields};
+ghost use Rattle.ghs_steps.specs.StepLine.{change_name, change_text, change_value, fate_word, line_of, send_text, work_fields};
+ghost use Rattle.ghs_steps.specs.Words.{says};
 
 use crate::change::Change;
-use crate::moment::{Moment, port_of};
+use crate::moment::Moment;
 use crate::sent::Sent;
-use crate::words::{mark_word, phase_word, put_key, row_word};
+use crate::words::{mark_word, phase_word, row_word, says};
 use ghs_core::event::{Event, node_of};
-use ghs_graph::key::Key;
 use ghs_lines::numbers::put_number;
 use ghs_node::delta::Fate;
 use ghs_node::message::Message;
 use ghs_node::row_name::RowName;
 use ghs_node::work::Work;
+use peer_steps::moment::port_of;
+use peer_words::text::{put_best, put_key_or_dash, put_message, put_number_or_dash};
 use std::alloc::AllocError;
 
 /// Appends the line of a step: ten fields, one blank between them, and a line feed.
@@ -35,7 +39,7 @@ pub fn step_line(
 }
 
 /// A number and a blank.
-#[tactic(auto, unfolding(crate::specs::StepLine::field))]
+#[tactic(auto, unfolding(peer_steps::specs::StepLine::field))]
 fn put_number_field(text: &mut Vec<u8>, number: u64) -> Result<(), AllocError>
     ensures { IfOk result (λ _. text.new.items ≡ text.old.items ++ field (decimal number)) }
 {
@@ -44,7 +48,7 @@ fn put_number_field(text: &mut Vec<u8>, number: u64) -> Result<(), AllocError>
 }
 
 /// A word and a blank.
-#[tactic(auto, unfolding(crate::specs::StepLine::field))]
+#[tactic(auto, unfolding(peer_steps::specs::StepLine::field))]
 fn put_word_field(text: &mut Vec<u8>, word: &[u8]) -> Result<(), AllocError>
     ensures { IfOk result (λ _. text.new.items ≡ text.old.items ++ field word.now) }
 {
@@ -53,7 +57,7 @@ fn put_word_field(text: &mut Vec<u8>, word: &[u8]) -> Result<(), AllocError>
 }
 
 /// The fields of an event's node, port and far end.
-#[tactic(auto, unfolding(crate::specs::StepLine::place_fields))]
+#[tactic(auto, unfolding(peer_steps::specs::StepLine::place_fields))]
 fn put_place(text: &mut Vec<u8>, event: Event, far: Option<u32>) -> Result<(), AllocError>
     ensures { IfOk result (λ _. text.new.items ≡ text.old.items ++ place_fields event far) }
 {
@@ -63,7 +67,7 @@ fn put_place(text: &mut Vec<u8>, event: Event, far: Option<u32>) -> Result<(), A
 }
 
 /// A number or a dash, and a blank.
-#[tactic(auto, unfolding(crate::specs::StepLine::field))]
+#[tactic(auto, unfolding(peer_steps::specs::StepLine::field))]
 fn put_optional_field(text: &mut Vec<u8>, number: Option<u32>) -> Result<(), AllocError>
     ensures { IfOk result (λ _. text.new.items ≡ text.old.items ++ field (number_or_dash number)) }
 {
@@ -100,16 +104,16 @@ pub(crate) fn fate_word(fate: Fate) -> &'static [u8]
 }
 
 /// A message and a blank.
-#[tactic(auto, unfolding(crate::specs::StepLine::field))]
+#[tactic(auto, unfolding(peer_steps::specs::StepLine::field))]
 fn put_message_field(text: &mut Vec<u8>, message: &Message) -> Result<(), AllocError>
-    ensures { IfOk result (λ _. text.new.items ≡ text.old.items ++ field (message_text message.now)) }
+    ensures { IfOk result (λ _. text.new.items ≡ text.old.items ++ field (message_text (says message.now))) }
 {
-    put_message(text, message)?;
+    put_message(text, &says(message))?;
     text.extend_from_slice(b" ")
 }
 
 /// The field of what differs at the node.
-#[tactic(auto, unfolding(crate::specs::StepLine::field, crate::specs::StepLine::joined))]
+#[tactic(auto, unfolding(peer_steps::specs::StepLine::field, peer_steps::specs::StepLine::joined))]
 fn put_changes(text: &mut Vec<u8>, changes: &[Change]) -> Result<(), AllocError>
     ensures { IfOk result (λ _. text.new.items ≡ text.old.items ++ field (joined change_text changes.now)) }
 {
@@ -124,7 +128,7 @@ fn put_changes(text: &mut Vec<u8>, changes: &[Change]) -> Result<(), AllocError>
 }
 
 /// Each behind a semicolon.
-#[tactic(auto, unfolding(crate::specs::StepLine::behind_semicolon))]
+#[tactic(auto, unfolding(peer_steps::specs::StepLine::behind_semicolon))]
 fn put_other_changes(text: &mut Vec<u8>, changes: &[Change]) -> Result<(), AllocError>
     ensures { IfOk result (λ _. text.new.items ≡ text.old.items ++ flat_map (behind_semicolon change_text) changes.now) }
 {
@@ -136,7 +140,7 @@ fn put_other_changes(text: &mut Vec<u8>, changes: &[Change]) -> Result<(), Alloc
 }
 
 /// The field of what the event's node sends.
-#[tactic(auto, unfolding(crate::specs::StepLine::field, crate::specs::StepLine::joined))]
+#[tactic(auto, unfolding(peer_steps::specs::StepLine::field, peer_steps::specs::StepLine::joined))]
 fn put_sends(text: &mut Vec<u8>, sends: &[Sent]) -> Result<(), AllocError>
     ensures { IfOk result (λ _. text.new.items ≡ text.old.items ++ field (joined send_text sends.now)) }
 {
@@ -151,7 +155,7 @@ fn put_sends(text: &mut Vec<u8>, sends: &[Sent]) -> Result<(), AllocError>
 }
 
 /// Each behind a semicolon.
-#[tactic(auto, unfolding(crate::specs::StepLine::behind_semicolon))]
+#[tactic(auto, unfolding(peer_steps::specs::StepLine::behind_semicolon))]
 fn put_other_sends(text: &mut Vec<u8>, sends: &[Sent]) -> Result<(), AllocError>
     ensures { IfOk result (λ _. text.new.items ≡ text.old.items ++ flat_map (behind_semicolon send_text) sends.now) }
 {
@@ -171,7 +175,7 @@ fn put_send(text: &mut Vec<u8>, send: &Sent) -> Result<(), AllocError>
     text.extend_from_slice(b">")?;
     put_number(text, u128::from(send.to))?;
     text.extend_from_slice(b":")?;
-    put_message(text, &send.message)
+    put_message(text, &says(&send.message))
 }
 
 /// One variable or mark, with its new value.
@@ -216,75 +220,5 @@ fn put_change_value(text: &mut Vec<u8>, change: &Change) -> Result<(), AllocErro
         Change::Best(best) => put_best(text, *best),
         Change::Probe(port) => put_number_or_dash(text, *port),
         Change::Halted => text.extend_from_slice(b"yes"),
-    }
-}
-
-/// A message with what it carries.
-#[tactic(auto, unfolding(crate::specs::StepLine::message_text))]
-fn put_message(text: &mut Vec<u8>, message: &Message) -> Result<(), AllocError>
-    ensures { IfOk result (λ _. text.new.items ≡ text.old.items ++ message_text message.now) }
-{
-    match message {
-        Message::Connect(level) => {
-            text.extend_from_slice(b"connect(")?;
-            put_number(text, u128::from(level.get()))?;
-            text.extend_from_slice(b")")
-        }
-        Message::Initiate(level, name, phase) => {
-            text.extend_from_slice(b"initiate(")?;
-            put_number(text, u128::from(level.get()))?;
-            text.extend_from_slice(b",")?;
-            put_key(text, *name)?;
-            text.extend_from_slice(b",")?;
-            text.extend_from_slice(phase_word(*phase))?;
-            text.extend_from_slice(b")")
-        }
-        Message::Test(level, name) => {
-            text.extend_from_slice(b"test(")?;
-            put_number(text, u128::from(level.get()))?;
-            text.extend_from_slice(b",")?;
-            put_key(text, *name)?;
-            text.extend_from_slice(b")")
-        }
-        Message::Accept => text.extend_from_slice(b"accept"),
-        Message::Reject => text.extend_from_slice(b"reject"),
-        Message::Report(key) => {
-            text.extend_from_slice(b"report(")?;
-            put_key_or_dash(text, *key)?;
-            text.extend_from_slice(b")")
-        }
-        Message::ChangeRoot => text.extend_from_slice(b"changeroot"),
-    }
-}
-
-fn put_key_or_dash(text: &mut Vec<u8>, key: Option<Key>) -> Result<(), AllocError>
-    ensures { IfOk result (λ _. text.new.items ≡ text.old.items ++ key_or_dash key) }
-{
-    match key {
-        Some(key) => put_key(text, key),
-        None => text.extend_from_slice(b"-"),
-    }
-}
-
-fn put_number_or_dash(text: &mut Vec<u8>, number: Option<u32>) -> Result<(), AllocError>
-    ensures { IfOk result (λ _. text.new.items ≡ text.old.items ++ number_or_dash number) }
-{
-    match number {
-        Some(number) => put_number(text, u128::from(number)),
-        None => text.extend_from_slice(b"-"),
-    }
-}
-
-/// The port of the best link, and its key.
-fn put_best(text: &mut Vec<u8>, best: Option<(u32, Key)>) -> Result<(), AllocError>
-    ensures { IfOk result (λ _. text.new.items ≡ text.old.items ++ best_text best) }
-{
-    match best {
-        Some((port, key)) => {
-            put_number(text, u128::from(port))?;
-            text.extend_from_slice(b"@")?;
-            put_key(text, key)
-        }
-        None => text.extend_from_slice(b"-"),
     }
 }

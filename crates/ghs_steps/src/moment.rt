@@ -1,6 +1,4 @@
 //! When and how an event happens.
-ghost use Rattle.std.specs.Prelude.{◌≡◌};
-ghost use Rattle.ghs_steps.specs.Told.{event_port};
 
 use ghs_core::event::Event;
 use ghs_node::delta::Fate;
@@ -23,14 +21,4 @@ pub struct Moment {
     pub fate: Fate,
     /// How many messages were sent for the first time by then, this event's among them.
     pub total: u128,
-}
-
-/// The port from which an event takes a message; none for a wake.
-pub fn port_of(event: Event) -> Option<u32>
-    ensures { result ≡ event_port event }
-{
-    match event {
-        Event::Wake(_) => None,
-        Event::Take(_, port) => Some(port),
-    }
 }

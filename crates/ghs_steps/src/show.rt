@@ -5,7 +5,8 @@ ghost use Rattle.peer_network.specs.Network.{network_of};
 ghost use Rattle.ghs_protocol.specs.Run.{IsRunUnder};
 ghost use Rattle.peer_texts.specs.declared.trace.TheConstants.{EVENT_LIMIT};
 ghost use Rattle.peer_network.specs.Wakes.{may_wake};
-ghost use Rattle.ghs_steps.specs.Shown.{CantShow, is_unlawful, is_write};
+ghost use Rattle.peer_steps.specs.Shown.{is_unlawful, is_write};
+ghost use Rattle.ghs_steps.specs.Shown.{CantShow};
 ghost use Rattle.ghs_steps.specs.Lines.{lines};
 
 use crate::write::write_run;
@@ -18,20 +19,8 @@ use ghs_report::portions::WriteFault;
 use ghs_sched::replay::replay;
 use peer_network::wake_set::WakeSet;
 use peer_schedule::fault::ReplayFault;
+use peer_steps::fault::StepsFault;
 use std::alloc::Global;
-use thiserror::Error;
-
-/// Why the steps of a stored run aren't written, or not to their end. Events are counted from 1.
-#[derive(Clone, Copy, Debug, Drop, PartialEq, Eq, Error)]
-pub enum StepsFault {
-    /// The first event that isn't lawful where it stands.
-    #[error("trace event {0} is not lawful")]
-    NotLawful(u64),
-    #[error("out of memory")]
-    Memory,
-    #[error("output failed after {written} bytes")]
-    Write { written: u128 },
-}
 
 /// Writes a line for each chosen event of a stored run, in order, in the form that is asked for. The run is played twice:
 /// whether each event is lawful is judged before the first byte goes out. A run that hasn't ended is shown too. Want of

@@ -1,25 +1,13 @@
 //! The words that texts of steps have in common.
-ghost use Rattle.std.specs.Prelude.{◌≡◌, ◌++◌, IfOk};
-ghost use Rattle.ghs_steps.specs.Words.{key_text, mark_word, phase_word, row_word};
+ghost use Rattle.std.specs.Prelude.{◌≡◌};
+ghost use Rattle.ghs_steps.specs.Words.{key_said, level_said, mark_word, phase_said, phase_word, row_word, says};
 
 use ghs_graph::key::Key;
-use ghs_lines::numbers::put_number;
+use ghs_node::level::Level;
 use ghs_node::mark::Mark;
-use ghs_node::message::Phase;
+use ghs_node::message::{Message, Phase};
 use ghs_node::row_name::RowName;
-use std::alloc::AllocError;
-
-/// Appends a key: its weight, smaller end and larger end.
-#[tactic(auto, unfolding(crate::specs::Words::key_text))]
-pub(crate) fn put_key(text: &mut Vec<u8>, key: Key) -> Result<(), AllocError>
-    ensures { IfOk result (λ _. text.new.items ≡ text.old.items ++ key_text key) }
-{
-    put_number(text, u128::from(key.weight))?;
-    text.extend_from_slice(b":")?;
-    put_number(text, u128::from(key.a))?;
-    text.extend_from_slice(b"-")?;
-    put_number(text, u128::from(key.b))
-}
+use peer_words::value::{Carried, Said, Saying, Value, Word};
 
 pub(crate) fn phase_word(phase: Phase) -> &'static [u8]
     ensures { result.now ≡ phase_word phase }
@@ -70,4 +58,52 @@ pub fn row_word(row: RowName) -> &'static [u8]
         RowName::ReportHalts => b"Report_halts",
         RowName::ReportPasses => b"Report_passes",
     }
+}
+
+/// A message in words.
+///
+/// ```text
+/// let saying = says(&Message::Accept);
+/// // its kind is `accept`, and it carries nothing
+/// ```
+pub fn says(message: &Message) -> Saying
+    ensures { result ≡ says message.now }
+{
+    match message {
+        Message::Connect(level) => Saying::new(b"connect", Carried::One([level_said(*level)])),
+        Message::Initiate(level, name, phase) => Saying::new(
+            b"initiate",
+            Carried::Three([
+                level_said(*level),
+                key_said(Some(*name)),
+                phase_said(*phase),
+            ]),
+        ),
+        Message::Test(level, name) => Saying::new(
+            b"test",
+            Carried::Two([level_said(*level), key_said(Some(*name))]),
+        ),
+        Message::Accept => Saying::new(b"accept", Carried::Nothing),
+        Message::Reject => Saying::new(b"reject", Carried::Nothing),
+        Message::Report(key) => Saying::new(b"report", Carried::One([key_said(*key)])),
+        Message::ChangeRoot => Saying::new(b"changeroot", Carried::Nothing),
+    }
+}
+
+fn level_said(level: Level) -> Said
+    ensures { result ≡ level_said level }
+{
+    Said::new(b"level", Value::Number(u64::from(level.get())))
+}
+
+fn key_said(key: Option<Key>) -> Said
+    ensures { result ≡ key_said key }
+{
+    Said::new(b"key", Value::Link(key))
+}
+
+fn phase_said(phase: Phase) -> Said
+    ensures { result ≡ phase_said phase }
+{
+    Said::new(b"phase", Value::Word(Word::of(phase_word(phase))))
 }

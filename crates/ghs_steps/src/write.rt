@@ -16,8 +16,8 @@ ghost use Rattle.ghs_report.specs.Written.{IsFront, is_write};
 use crate::change::{Change, changes};
 use crate::json::step_json;
 use crate::line::step_line;
-use crate::moment::{Moment, port_of};
-use crate::sent::{Sent, far_end, sent_by};
+use crate::moment::Moment;
+use crate::sent::{Sent, sent_by};
 use ghs_choices::choice::Choice;
 use ghs_choices::form::Form;
 use ghs_core::event::{Event, node_of};
@@ -28,6 +28,7 @@ use ghs_node::delta::Delta;
 use ghs_node::react::react;
 use ghs_node::row_name::row_of;
 use ghs_report::portions::{WriteFault, send_off, send_portion};
+use peer_steps::moment::far_end;
 use std::alloc::{AllocError, Global};
 
 /// Writes a line for each chosen event of a run, in order, in the form that is asked for. The lines go out by portions,

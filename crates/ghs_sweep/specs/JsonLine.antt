@@ -1,6 +1,6 @@
 -- A run's figures as a line of JSON: an object whose members are named as the columns.
 use Rattle.std.specs.Prelude.{ℕ, List, [], ◌++◌, codes, decimal, slice_index}
-use Rattle.ghs_steps.specs.Json.{member, quoted}
+use Rattle.peer_words.specs.Json.{member, quoted}
 use Rattle.ghs_sweep.specs.declared.figures.Figures.{Figures}
 use Rattle.ghs_sweep.specs.declared.seeded.Setup.{Setup}
 use Rattle.ghs_report.specs.Fields.{end_word, wake_word}

@@ -4,7 +4,7 @@ use Rattle.std.specs.List.{sum}
 use Rattle.std.specs.List.Sorted.{IsNonDecreasing}
 use Rattle.ghs_choices.specs.declared.form.Form.{Form}
 use Rattle.ghs_choices.specs.declared.form.Form.TheVariants.{Text, Json}
-use Rattle.ghs_steps.specs.Json.{member, quoted}
+use Rattle.peer_words.specs.Json.{member, quoted}
 use Rattle.ghs_sweep.specs.declared.figures.Figures.{Figures}
 use Rattle.ghs_sweep.specs.declared.measure.Measure.{Measure}
 use Rattle.ghs_sweep.specs.JsonLine.{numbered}

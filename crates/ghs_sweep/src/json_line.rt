@@ -6,7 +6,7 @@ use crate::figures::Figures;
 use crate::line::schedule_word;
 use crate::seeded::Setup;
 use ghs_report::fields::{end_word, wake_word};
-use ghs_steps::json::{put_number_member, put_word_member};
+use peer_words::json::{put_number_member, put_word_member};
 use std::alloc::AllocError;
 
 /// Puts the members of a seed's run, which are named as the columns, behind a text that has opened an object, and closes it.

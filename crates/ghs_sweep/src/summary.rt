@@ -10,7 +10,7 @@ use crate::json_line::put_numbered;
 use crate::measure::{MEASURES, Measure};
 use ghs_choices::form::Form;
 use ghs_report::fields::put_field;
-use ghs_steps::json::put_word_member;
+use peer_words::json::put_word_member;
 use std::alloc::{AllocError, Global};
 
 /// The names of a summary's fields, as a line.

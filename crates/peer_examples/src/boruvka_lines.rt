@@ -2,8 +2,6 @@
 use crate::playing::graph_of_text;
 use crate::runs::{FOUR_RUN, PAIR_RUN, PATH_RUN, TRIANGLE_RUN};
 use boruvka::protocol::Boruvka;
-use boruvka_steps::show::{StepsFault, write_steps};
-use boruvka_steps::write::put_lines;
 use ghs_choices::choice::Choice;
 use ghs_choices::form::Form;
 use ghs_gr::device::Device;
@@ -11,6 +9,9 @@ use ghs_test_graphs::graphs::{LONE_NODE, PAIR, PATH_OF_FOUR, PATH_OF_THREE, TRIA
 use peer_machine::event::Event;
 use peer_network::wake_set::WakeSet;
 use peer_runs::replay::replay;
+use peer_steps::fault::StepsFault;
+use peer_steps::show::write_steps;
+use peer_steps::write::put_lines;
 use std::alloc::Global;
 use std::process::Abort;
 
@@ -105,7 +106,7 @@ fn steps_of(
     let graph = graph_of_text(rt, alloc, graph);
     let mut written = Vec::new(alloc);
     let mut writer = Device::of(&mut written);
-    let answer = write_steps(
+    let answer = write_steps::<Boruvka, _>(
         alloc,
         graph,
         WakeSet::All,
@@ -178,7 +179,9 @@ fn assert_put(
     // Read for its clause: the events are a run.
     let _ = world.net();
     let mut text = Vec::new(alloc);
-    let net = put_lines(alloc, world.into_graph(), events, form, &mut text).expect(rt, "memory");
+    let net = put_lines::<Boruvka>(alloc, world.into_graph(), events, form, &mut text).expect(
+        rt, "memory",
+    );
     assert_eq!(rt; net.trace(), events);
     assert_eq!(rt; text.as_slice(), lines.as_bytes());
 }

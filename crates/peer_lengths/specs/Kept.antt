@@ -3,7 +3,7 @@ use Rattle.std.specs.Prelude.{◌≡◌, ◌*◌, ◌^◌, ◌≤◌, List, leng
 use Rattle.ghs_graph.specs.Graph.{Shape}
 use Rattle.peer_network.specs.declared.event.Event.{Event}
 use Rattle.peer_network.specs.Network.{network_of}
-use Rattle.ghs_chain.specs.Kept.{Kept, Fits, seen}
+use Rattle.peer_chains.specs.Kept.{Kept, Fits, seen}
 use Rattle.peer_machine.specs.Rules.{Rules}
 use Rattle.peer_lengths.specs.declared.sent.Sent.{Sent}
 use Rattle.peer_lengths.specs.Sends.{bits_in, longest_in}

@@ -7,8 +7,8 @@ ghost use Rattle.peer_lengths.specs.Chain.{longest_chain};
 
 use crate::numbers::play;
 use crate::sent::{Sent, measure};
-use ghs_chain::chains::Chains;
 use ghs_graph::graph::Graph;
+use peer_chains::chains::Chains;
 use peer_machine::event::Event;
 use peer_machine::measured::Measured;
 use peer_net::net::Net;

@@ -1,32 +1,30 @@
 -- Chains that follow an event before it happens.
-use Rattle.std.proofs.Common.{◌≡◌, ℕ, suc, Bool, false, List, [], ◌∷◌, ◌++◌, length, refl, sym, ◌∙◌, ap, ap₂, arith, add-one, ⊎_elim}
+use Rattle.std.proofs.Common.{◌≡◌, ℕ, suc, Bool, true, false, List, [], ◌∷◌, ◌++◌, length, refl, sym, ◌∙◌, ap, ap₂, add-one}
 use Rattle.std.specs.List.{All}
-use Rattle.std.proofs.Math.Path.{fun_ext}
 use Rattle.ghs_graph.specs.Graph.{Shape, IsGraph}
 use Rattle.ghs_node.specs.declared.delta.Delta.{Delta}
-use Rattle.ghs_node.specs.declared.delta.Fate.TheVariants.{Requeued}
 use Rattle.ghs_node.specs.declared.message.Message.{Message}
 use Rattle.ghs_node.specs.Reaction.{requeues}
 use Rattle.ghs_node.specs.Words.{is_sleeping}
 use Rattle.peer_network.specs.declared.event.Event.{Event}
 use Rattle.peer_network.specs.declared.event.Event.TheVariants.{Take}
 use Rattle.peer_network.specs.Events.{event_node}
-use Rattle.peer_network.specs.Updates.{put}
 use Rattle.peer_network.specs.Network.{far, far_port, network_of}
 use Rattle.ghs_protocol.specs.Run.{IsRun}
 use Rattle.peer_network.proofs.lemmas.Graphs.{graph_few, graph_wired}
 use Rattle.ghs_protocol.proofs.lemmas.Runs.{after_is_net}
-use Rattle.peer_network.proofs.lemmas.Updates.{put_other, put_same}
 use Rattle.ghs_protocol.proofs.lemmas.WellFormed.{after_formed}
-use Rattle.std.proofs.lemmas.Bool.{cases_eq}
 use Rattle.ghs_core.specs.NetState.{IsAnswer, IsLawful, NetState, net_of, network}
 use Rattle.ghs_core.specs.PutBack.{IsPutBack}
-use Rattle.ghs_chain.specs.Chains.{Chains, chains_of, hears, longest_chain, most_below, reacted, sent, taken}
-use Rattle.ghs_chain.specs.Kept.{AreChains, AreChainsOf, AreChainsThen, Fits, HasPlace, Kept, SamePlaces, seen}
+use Rattle.peer_chains.specs.Chains.{Chains, hears, most_below, sent, taken}
+use Rattle.peer_chains.specs.Kept.{Fits, HasPlace, Kept, SamePlaces, seen}
+use Rattle.peer_chains.proofs.lemmas.Fitting.{fits_kept, place_at, same_then}
+use Rattle.peer_chains.proofs.lemmas.Hears.{turned_alone}
+use Rattle.ghs_chain.specs.Chains.{chains_of, is_deferred, longest_chain, reacted}
+use Rattle.ghs_chain.specs.Kept.{AreChains, AreChainsOf, AreChainsThen}
 use Rattle.ghs_chain.proofs.Filling.{OnPorts}
-use Rattle.ghs_chain.proofs.lemmas.Following.{chains_of_more, fits_kept, place_at}
+use Rattle.ghs_chain.proofs.lemmas.Following.{chains_of_more}
 use Rattle.ghs_chain.proofs.lemmas.Lengths.{same_lengths}
-use Rattle.ghs_chain.proofs.Placing.{put_at_none, same_then}
 use Rattle.ghs_chain.proofs.Swapping.{happens_made, made, on_ports}
 
 module _ (s : NetState) (graph : IsGraph s.graph) (r : IsRun (network s) s.trace) (e : Event) (lawful : IsLawful s e) (d : Delta)
@@ -48,26 +46,17 @@ module _ (s : NetState) (graph : IsGraph s.graph) (r : IsRun (network s) s.trace
 
   -- the chains have heard and sent
   pub carried : (k k1 k' : Kept) → AreChains s k → SamePlaces k k1 →
-      seen k1 ≡ hears e (is_sleeping ((net_of s).node (event_node e)).head.phase) d.fate (seen k) → SamePlaces k1 k' →
+      seen k1 ≡ hears e (is_sleeping ((net_of s).node (event_node e)).head.phase) (is_deferred d.fate) (seen k) → SamePlaces k1 k' →
       seen k' ≡ sent (network s) (event_node e) d.sends (seen k1) → AreChainsThen s e k'
   carried k k1 k' are p1 heard p2 out = record {
     fits = fits_kept s.graph k k' (same_then k k1 k' p1 p2) are.fits;
     same =
         out ∙ ap (sent (network s) (event_node e) d.sends)
-        (heard ∙ ap (hears e (is_sleeping ((net_of s).node (event_node e)).head.phase) d.fate) are.same)
+        (heard ∙ ap (hears e (is_sleeping ((net_of s).node (event_node e)).head.phase) (is_deferred d.fate)) are.same)
         ∙ sym happened;
   }
 
--- the only number of a queue is put behind itself
-turned_alone : (c : Chains) (v p : ℕ) (l : List ℕ) → c.queue v p ≡ l → length l ≡ 1 → taken v p false Requeued l c ≡ c
-turned_alone c v p [] q one = refl
-turned_alone c v p (t ∷ []) q one = λ i. record { node = nodes i; queue = put_at_none c.queue v p (t ∷ []) (sym q) i }
-  where
-    nodes : put c.node v (c.node v) ≡ c.node
-    nodes = fun_ext (λ u. ⊎_elim (λ (h : u ≡ v). rw h (put_same c.node v (c.node v))) (λ ne. put_other c.node v u (c.node v) ne) (cases_eq u v))
-turned_alone c v p (t ∷ x ∷ l) q one = absurd (let z : suc (suc (length l)) ≡ 1 = one in omega (arith, z))
-
--- so nothing changes
+-- where the only number of a queue is put behind itself, nothing changes
 pub carried_alone : (s : NetState) (v p : ℕ) (k : Kept) → IsGraph s.graph → IsRun (network s) s.trace → IsLawful s (Take v p) → IsPutBack s v p →
     is_sleeping ((net_of s).node v).head.phase ≡ false → length ((net_of s).queue v p) ≡ 1 → AreChains s k → AreChainsThen s (Take v p) k
 carried_alone s v p k graph r lawful back awake one are =
@@ -76,7 +65,7 @@ carried_alone s v p k graph r lawful back awake one are =
     let d : Delta = requeues ((net_of s).node v).head in
     let lengths = (same_lengths g s.trace (net_of s) (after_is_net s.graph s.trace r)).queue v p in
     let then : chains_of g (s.trace ++ Take v p ∷ []) ≡ c =
-    happened s graph r (Take v p) lawful d back ∙ ap (λ (b : Bool). taken v p b Requeued (c.queue v p) c) awake
+    happened s graph r (Take v p) lawful d back ∙ ap (λ (b : Bool). taken v p b true (c.queue v p) c) awake
     ∙ turned_alone c v p (c.queue v p) refl (lengths ∙ one) in
     record { fits = are.fits; same = are.same ∙ sym then }
 

@@ -4,18 +4,21 @@ use Rattle.std.proofs.lemmas.Bool.{and_parts}
 use Rattle.std.proofs.lemmas.Option.{same_Some}
 use Rattle.ghs_graph.specs.Graph.{Shape}
 use Rattle.ghs_node.specs.declared.delta.Delta.{Delta}
-use Rattle.ghs_node.specs.declared.delta.Fate.{Fate}
 use Rattle.peer_network.specs.declared.event.Event.{Event}
 use Rattle.peer_network.specs.declared.event.Event.TheVariants.{Wake, Take}
 use Rattle.ghs_protocol.specs.Net.{Net, happens, opening}
-use Rattle.peer_network.specs.Network.{At, Network, network_of}
+use Rattle.peer_network.specs.Network.{Network}
 use Rattle.ghs_protocol.specs.Run.{IsRun, and_then, run}
 use Rattle.peer_network.proofs.lemmas.Events.{at_of}
 use Rattle.ghs_protocol.proofs.lemmas.Runs.{after_is_net}
 use Rattle.ghs_core.specs.NetState.{IsAnswer, IsLawful, NetState, net_of, network}
-use Rattle.ghs_chain.specs.Chains.{Chains, answered, chains_after, chains_of, chains_then, hears, if_then, no_chains, reacted}
-use Rattle.ghs_chain.specs.Kept.{AreChains, AreChainsOf, Fits, HasPlace, HasPlaceOf, Kept, SamePlaces, seen}
-use Rattle.ghs_chain.proofs.lemmas.Bounding.{IsWithin, hears_within, run_within}
+use Rattle.peer_chains.specs.Chains.{Chains, hears, no_chains}
+use Rattle.peer_chains.specs.Kept.{Fits, HasPlaceOf, Kept, seen}
+use Rattle.peer_chains.proofs.lemmas.Bounding.{IsWithin, hears_within}
+use Rattle.peer_chains.proofs.lemmas.Fitting.{place_at}
+use Rattle.ghs_chain.specs.Chains.{answered, chains_after, chains_of, chains_then, if_then, reacted}
+use Rattle.ghs_chain.specs.Kept.{AreChains, AreChainsOf}
+use Rattle.ghs_chain.proofs.lemmas.Bounding.{run_within}
 
 -- an event that happens has its part in the chains
 pub one_after : (g : Network) (w y : Net) (e : Event) (c : Chains) → happens g w e ≡ Some y → chains_after g (e ∷ []) w c ≡ chains_then g w e c
@@ -49,23 +52,13 @@ chains_of_more s e d y r h a =
     chains_more g s.trace e (opening g) (net_of s) y no_chains (after_is_net s.graph s.trace r) h
     ∙ ap (λ (o : Option Delta). answered g (net_of s) e o c) a
 
-pub fits_kept : (g : Shape) (k k' : Kept) → SamePlaces k k' → Fits g k → Fits g k'
-fits_kept g k k' p f = record { numbers = p.numbers ∙ f.numbers; rows = p.rows ∙ f.rows; ports = λ v lo hi. p.ports v ∙ f.ports v lo hi }
-
--- a port of the graph is kept
-pub place_at : (g : Shape) (k : Kept) (v p : ℕ) → Fits g k → At (network_of g) v p → HasPlace k v p
-place_at g k v p f at = record {
-  node = let a = f.numbers in let b = at.node in omega (arith, a, b);
-  row = let a = f.rows in let b = at.node in omega (arith, a, b);
-  port = let a = f.ports v at.some at.node in let b = at.port in omega (arith, a, b);
-}
-
+-- where an event takes a message, its port is kept
 pub place_of : (s : NetState) (k : Kept) (e : Event) → Fits s.graph k → IsLawful s e → HasPlaceOf k e
 place_of s k (Wake v) f l = tt
 place_of s k (Take v p) f l = place_at s.graph k v p f (at_of (network s) v p (and_parts _ _ l).0)
 
 -- no number comes near the end of its range
-pub small_number : (s : NetState) (k k1 : Kept) (e : Event) (asleep : Bool) (f : Fate) (v : ℕ) → AreChains s k → seen k1 ≡ hears e asleep f (seen k) →
+pub small_number : (s : NetState) (k k1 : Kept) (e : Event) (asleep f : Bool) (v : ℕ) → AreChains s k → seen k1 ≡ hears e asleep f (seen k) →
     length s.trace < 2 ^ 40 → slice_index k1.numbers v < 2 ^ 64 - 1
 unfolding seen
 small_number s k k1 e asleep f v are heard few =

@@ -18,7 +18,8 @@ use Rattle.ghs_protocol.specs.Steps.{Happens, Woke, Took}
 use Rattle.ghs_protocol.proofs.lemmas.Events.{happening}
 use Rattle.peer_network.proofs.lemmas.Updates.{one_place, put_at_hit, put_at_miss}
 use Rattle.ghs_core.specs.NetState.{delivery, work_at}
-use Rattle.ghs_chain.specs.Chains.{Chains, answered, behind, chains_after, chains_of, chains_then, if_then, no_chains, reacted, sent, sent_on, taken}
+use Rattle.peer_chains.specs.Chains.{Chains, behind, no_chains, sent, sent_on, taken}
+use Rattle.ghs_chain.specs.Chains.{answered, chains_after, chains_of, chains_then, if_then, is_deferred, reacted}
 
 pub record SameLengths (w : Net) (c : Chains) : Type 0 where
   pub queue : (v p : ℕ) → length (c.queue v p) ≡ length (w.queue v p)
@@ -42,15 +43,15 @@ sends g v (s ∷ ss) w c same = sends g v ss (send g v w s) (sent_on g v s.0 c) 
 })
 
 behind_same : (f : Fate) (t : ℕ) (ts : List ℕ) (m : Message) (ms : List Message) → length ts ≡ length ms →
-    length (behind f t ts) ≡ length (left_of f m ms)
+    length (behind (is_deferred f) t ts) ≡ length (left_of f m ms)
 behind_same Consumed t ts m ms e = e
 behind_same Requeued t ts m ms e = one_more ts ms t m e
 
 takes : (v p : ℕ) (asleep : Bool) (f : Fate) (ts : List ℕ) (m : Message) (ms : List Message) (w : Net) (c : Chains) → length ts ≡ length (m ∷ ms) →
-    SameLengths w c → SameLengths (take_first f v p m ms w) (taken v p asleep f ts c)
+    SameLengths w c → SameLengths (take_first f v p m ms w) (taken v p asleep (is_deferred f) ts c)
 takes v p asleep f [] m ms w c many same = absurd (let z : 0 ≡ suc (length ms) = many in omega (arith, z))
 takes v p asleep f (t ∷ ts) m ms w c many same = record {
-  queue = same_put c.queue w.queue v p (behind f t ts) (left_of f m ms) same.queue
+  queue = same_put c.queue w.queue v p (behind (is_deferred f) t ts) (left_of f m ms) same.queue
       (behind_same f t ts m ms (let z : suc (length ts) ≡ suc (length ms) = many in omega (arith, z)));
 }
 
@@ -62,11 +63,12 @@ happened g w _ _ c (Woke v d lo hi s r) same =
 happened g w _ _ c (Took v p m ms d at q r) same =
     let b = is_sleeping (w.node v).head.phase in
     let many : length (c.queue v p) ≡ length (m ∷ ms) = same.queue v p ∙ ap length q in
-    let one : SameLengths (take_first d.fate v p m ms w) (taken v p b d.fate (c.queue v p) c) = takes v p b d.fate (c.queue v p) m ms w c many same in
+    let one : SameLengths (take_first d.fate v p m ms w) (taken v p b (is_deferred d.fate) (c.queue v p) c) =
+    takes v p b d.fate (c.queue v p) m ms w c many same in
     let rule : reaction (w.node v) (work_at w (Take v p)) ≡ Some d = ap (λ (l : List Message). reaction (w.node v) (delivery p l)) q ∙ r in
     let is : chains_then g w (Take v p) c ≡ reacted g w (Take v p) d c = ap (λ (o : Option Delta). answered g w (Take v p) o c) rule in
     subst (λ (z : Chains). SameLengths (send_all g v d.sends (change v d (take_first d.fate v p m ms w))) z) (sym is)
-    (sends g v d.sends (change v d (take_first d.fate v p m ms w)) (taken v p b d.fate (c.queue v p) c) (record { queue = one.queue }))
+    (sends g v d.sends (change v d (take_first d.fate v p m ms w)) (taken v p b (is_deferred d.fate) (c.queue v p) c) (record { queue = one.queue }))
 
 after : (g : Network) (es : List Event) (w x : Net) (c : Chains) → SameLengths w c → run g es w ≡ Some x → SameLengths x (chains_after g es w c)
 after g [] w x c i r = let same : w ≡ x = same_Some w x r in subst (λ (z : Net). SameLengths z c) same i

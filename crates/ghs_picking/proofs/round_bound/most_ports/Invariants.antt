@@ -1,5 +1,5 @@
 use Rattle.std.proofs.Common.{◌≡◌, ◌+◌, length}
-use Rattle.ghs_chain.specs.Chains.{most_below}
+use Rattle.peer_chains.specs.Chains.{most_below}
 use Rattle.ghs_graph.specs.Ports.{ports_of}
 use Rattle.ghs_picking.proofs.round_bound.most_ports.Given as goal
 

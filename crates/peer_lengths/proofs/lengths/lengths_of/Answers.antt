@@ -1,9 +1,9 @@
-use Rattle.std.proofs.Common.{◌∙◌, arith, subst, sym}
+use Rattle.std.proofs.Common.{◌∙◌, List, arith, subst, subst₂, sym}
 use Rattle.std.specs.List.{slice_index_or}
 use Rattle.std.proofs.lemmas.List.{take_all}
 use Rattle.ghs_graph.specs.Graph.{Shape}
+use Rattle.peer_network.specs.declared.event.Event.{Event}
 use Rattle.peer_network.specs.declared.event.Event.TheVariants.{Wake}
-use Rattle.ghs_following.proofs.lemmas.Moved.{moved}
 use Rattle.peer_machine.specs.Rules.{messages}
 use Rattle.peer_net.specs.NetState.{net_of}
 use Rattle.peer_lengths.specs.Kept.{AreNumbersOf, AreMeasured}
@@ -20,7 +20,7 @@ loop-event-init g c =
       graph = graph;
       trace = c.in-Ok.ensures.trace;
       numbers =
-          moved (AreNumbersOf r) _ _ _ _ _ graph c.in-Ok.ensures.trace
+          subst₂ (λ (h : Shape) (es : List Event). AreNumbersOf r h es c.in_ok-chains.chains) (sym graph) (sym c.in-Ok.ensures.trace)
           (begun_are r c.args.graph.now c.in_ok-chains.chains c.in_ok-chains.ensures.fits c.in_ok-chains.ensures.none);
       sent = none_measured r _ _ _ c.in-Ok.ensures.trace c.none-sent.ensures.count c.none-sent.ensures.bits c.none-sent.ensures.longest;
     }
@@ -64,7 +64,8 @@ loop-event-preserved g c =
           c.loop-event.invariant.trace c.in_ok-sends.ensures.trace;
       numbers = c.in_ok-sends.ensures.numbers;
       sent =
-          moved (IsRunMeasured r) _ _ _ _ _ c.in_ok-sends.ensures.graph c.in_ok-sends.ensures.trace
+          subst₂ (λ (h : Shape) (es : List Event). IsRunMeasured r h es c.add.new.self) (sym c.in_ok-sends.ensures.graph)
+          (sym c.in_ok-sends.ensures.trace)
           (grown r s e _ _ played c.loop-event.sent c.measure.result c.loop-event.invariant.sent more c.add.new.self c.add.ensures.count
           c.add.ensures.bits c.add.ensures.longest);
     }
@@ -75,11 +76,12 @@ returns g c =
     let all = c.loop-event.invariant.trace ∙ take_all c.loop-event.event-index c.args.events.now (omega (arith, c.loop-event-test.false)) in
     let graph = c.loop-event.invariant.graph in
     let sent : IsRunMeasured r c.args.graph.now c.args.events.now c.loop-event.sent =
-    moved (IsRunMeasured r) _ _ _ _ _ (sym graph) (sym all) c.loop-event.invariant.sent in
+    subst₂ (λ (h : Shape) (es : List Event). IsRunMeasured r h es c.loop-event.sent) graph all c.loop-event.invariant.sent in
     record {
       chain =
           longest_are r c.args.graph.now c.args.events.now c.loop-event.chains _
-          (moved (AreNumbersOf r) _ _ _ _ _ (sym graph) (sym all) c.loop-event.invariant.numbers) c.longest.ensures;
+          (subst₂ (λ (h : Shape) (es : List Event). AreNumbersOf r h es c.loop-event.chains) graph all c.loop-event.invariant.numbers)
+          c.longest.ensures;
       bits = sent.bits;
       longest = sent.longest;
     }

@@ -1,7 +1,6 @@
-use Rattle.ghs_chain.proofs.lemmas.Following.{fits_kept}
 use Rattle.peer_net.specs.NetState.{net_of}
 use Rattle.peer_lengths.proofs.Playing.{Played, low, high, on_ports}
-use Rattle.peer_lengths.proofs.Carrying.{place_of, small, carried_to}
+use Rattle.peer_lengths.proofs.Carrying.{carried_to, node_kept, out_to, place_of, small}
 use Rattle.peer_lengths.proofs.numbers.play.Goals as goal
 
 pub hear-requires : goal.hear-requires
@@ -21,10 +20,14 @@ send-requires-clause-high g c =
     record { graph = c.trace.ensures.graph; run = c.trace.ensures.run; event = c.in_ok-sends.ensures.event; sends = c.in_ok-sends.ensures.sends } in
     rw (c.graph.ensures, c.play.ensures.graph, c.node_of-v.ensures) (high r _ _ _ _ played)
 
-pub send-requires-clause-fits : goal.send-requires-clause-fits
-send-requires-clause-fits g c =
-    rw (c.graph.ensures, c.play.ensures.graph)
-    (fits_kept c.args.net.now.graph c.args.chains.now c.hear.new.self c.in_ok-hear.ensures.places c.requires.numbers.fits)
+pub send-requires-clause-node : goal.send-requires-clause-node
+send-requires-clause-node g c =
+    let r = g.P.Protocol.rules in
+    let played : Played r c.args.net.now c.args.event (net_of r c.play.new.self) c.in_ok-sends.sends.items =
+    record { graph = c.trace.ensures.graph; run = c.trace.ensures.run; event = c.in_ok-sends.ensures.event; sends = c.in_ok-sends.ensures.sends } in
+    rw c.node_of-v.ensures
+    (node_kept r _ _ _ _ played c.args.chains.now c.hear.new.self c.requires.numbers c.in_ok-hear.ensures.places
+    (rw (c.is_asleep-asleep.ensures, c.node.ensures, c.node_of-v.ensures, c.defers-deferred.ensures) at c.in_ok-hear.ensures.heard))
 
 pub send-requires-clause-small : goal.send-requires-clause-small
 send-requires-clause-small g c =
@@ -32,8 +35,8 @@ send-requires-clause-small g c =
     let played : Played r c.args.net.now c.args.event (net_of r c.play.new.self) c.in_ok-sends.sends.items =
     record { graph = c.trace.ensures.graph; run = c.trace.ensures.run; event = c.in_ok-sends.ensures.event; sends = c.in_ok-sends.ensures.sends } in
     rw (c.deref.ensures.value, c.node_of-v.ensures)
-    (small r _ _ _ _ played c.args.chains.now c.hear.new.self c.requires.numbers
-    (rw (c.is_asleep-asleep.ensures, c.node.ensures, c.node_of-v.ensures, c.fate_of-fate.ensures, c.defers.ensures) at c.in_ok-hear.ensures.heard)
+    (small r _ _ _ _ played c.args.chains.now c.hear.new.self c.requires.numbers c.in_ok-hear.ensures.places
+    (rw (c.is_asleep-asleep.ensures, c.node.ensures, c.node_of-v.ensures, c.defers-deferred.ensures) at c.in_ok-hear.ensures.heard)
     g.met.P.Protocol.has_kinds g.P.Protocol.bound g.met.P.Protocol.is_bounded g.met.P.Protocol.bound_fits)
 
 pub send-requires-clause-ports : goal.send-requires-clause-ports
@@ -43,13 +46,22 @@ send-requires-clause-ports g c =
     record { graph = c.trace.ensures.graph; run = c.trace.ensures.run; event = c.in_ok-sends.ensures.event; sends = c.in_ok-sends.ensures.sends } in
     rw (c.deref.ensures.value, c.graph.ensures, c.play.ensures.graph, c.node_of-v.ensures) (on_ports r _ _ _ _ played)
 
+pub send-requires-clause-far : goal.send-requires-clause-far
+send-requires-clause-far g c =
+    let r = g.P.Protocol.rules in
+    let played : Played r c.args.net.now c.args.event (net_of r c.play.new.self) c.in_ok-sends.sends.items =
+    record { graph = c.trace.ensures.graph; run = c.trace.ensures.run; event = c.in_ok-sends.ensures.event; sends = c.in_ok-sends.ensures.sends } in
+    rw (c.deref.ensures.value, c.graph.ensures, c.play.ensures.graph, c.node_of-v.ensures)
+    (out_to r _ _ _ _ played c.args.chains.now c.hear.new.self c.requires.numbers c.in_ok-hear.ensures.places
+    (rw (c.is_asleep-asleep.ensures, c.node.ensures, c.node_of-v.ensures, c.defers-deferred.ensures) at c.in_ok-hear.ensures.heard))
+
 pub returns-clause-numbers : goal.returns-clause-numbers
 returns-clause-numbers g c =
     let r = g.P.Protocol.rules in
     let played : Played r c.args.net.now c.args.event (net_of r c.play.new.self) c.in_ok-sends.sends.items =
     record { graph = c.trace.ensures.graph; run = c.trace.ensures.run; event = c.in_ok-sends.ensures.event; sends = c.in_ok-sends.ensures.sends } in
-    carried_to r _ _ _ _ played c.args.chains.now c.hear.new.self c.requires.numbers
-    (rw (c.is_asleep-asleep.ensures, c.node.ensures, c.node_of-v.ensures, c.fate_of-fate.ensures, c.defers.ensures) at c.in_ok-hear.ensures.heard)
-    c.play.new.self c.send.new.chains
-    c.play.ensures.graph c.in_ok-sends.ensures.trace (rw c.graph.ensures at c.in_ok-send.ensures.fits)
+    carried_to r _ _ _ _ played c.args.chains.now c.hear.new.self c.requires.numbers c.in_ok-hear.ensures.places
+    (rw (c.is_asleep-asleep.ensures, c.node.ensures, c.node_of-v.ensures, c.defers-deferred.ensures) at c.in_ok-hear.ensures.heard)
+    c.play.new.self c.send.new.self
+    c.play.ensures.graph c.in_ok-sends.ensures.trace c.in_ok-send.ensures.places
     (rw (c.graph.ensures, c.node_of-v.ensures, c.deref.ensures.value) at c.in_ok-send.ensures.sent)

@@ -4,7 +4,7 @@ use Rattle.ghs_protocol.specs.Run.{IsRun}
 use Rattle.ghs_node.specs.Words.{is_sleeping}
 use Rattle.ghs_core.specs.NetState.{NetState, event_node, network}
 use Rattle.ghs_world.specs.WorldState.{home}
-use Rattle.ghs_chain.specs.Kept.{seen}
+use Rattle.peer_chains.specs.Kept.{seen}
 use Rattle.ghs_core.proofs.lemmas.Reacting.{answer_sends}
 use Rattle.ghs_patient.proofs.lemmas.Ports.{marks_own}
 use Rattle.ghs_rounds.proofs.Keeping.{keeps, next_are}

@@ -1,8 +1,0 @@
-use Rattle.std.proofs.Common.{◌≡◌, ◌++◌, take}
-use Rattle.std.specs.List.{flat_map}
-use Rattle.ghs_steps.specs.StepLine.{behind_semicolon}
-use Rattle.boruvka_steps.specs.StepLine.{change_text}
-use Rattle.boruvka_steps.proofs.line.put_other_changes.Given as goal
-
-abbrev pub invariant-loop-change : goal.invariant-loop-change
-invariant-loop-change l = l.text.items ≡ l.fn.text.items ++ flat_map (behind_semicolon change_text) (take l.change-index l.changes)

@@ -1,0 +1,30 @@
+//! The text of a book: what a user's node answers to questions.
+//!
+//! A node that a user brings is a function from text to text. The runtime asks, for example, what node 2 does in this state with
+//! this message; the answer says the state after it, whether the message waits, and what is sent. A *book* is such a function
+//! as a text, a line `QUESTION = ANSWER` for each question that was asked.
+//!
+//! Proved: a line is a question with an answer exactly where the grammar says so (`meaning`), and `read_answer` says what an
+//! answer says (`saying`). Memory aside, `read_book` gives a book exactly where no line has a fault, with the entries of those
+//! lines (`IsBook`); it refuses every other text with the first fault of its first faulty line (`HasFault`). Two different
+//! answers to one question are refused by the numbers of both lines. `Book::answer` says what the book says. What was read and
+//! written is read back (`law_book`), and each text is one book or has one fault (`law_one_book`).
+//!
+//! A question may stand twice with the same answer: the second line says nothing new, so two books of one node put behind each
+//! other are a book exactly where they don't contradict each other.
+//!
+//! Whether an answer names a port that the node has, a kind that its greeting has, or leaves a node asleep that got work, isn't
+//! asked here. Read `specs/Question.antt` and `specs/Answer.antt` first, then `specs/Book.antt`.
+#![tactic(auto)]
+
+pub mod answer;
+pub mod asking;
+pub mod book;
+pub mod fault;
+pub mod kind;
+pub mod laws;
+pub mod line;
+mod parts;
+pub mod question;
+mod words;
+pub mod writing;

@@ -1,0 +1,7 @@
+-- To be believed: contracts cite what stands here, and what it is made of.
+pub mod Items
+pub mod Text
+pub mod Json
+pub mod Same
+pub mod Touched
+pub mod Words

@@ -1,0 +1,60 @@
+//! Protocols that have words.
+use crate::value::{Said, Saying, Word};
+use peer_machine::protocol::Protocol;
+use peer_machine::work::Work;
+use std::alloc::AllocError;
+
+/// The ports whose marks a change may change.
+#[derive(Clone, Copy, Debug, PartialEq, Eq)]
+pub enum Touched {
+    NoPort,
+    OnePort(u32),
+    AllPorts,
+}
+
+/// A protocol whose runs can be told: what its messages, rows, marks and variables are called.
+///
+/// ```text
+/// impl Spoken for Boruvka { .. }   // its name, its messages in words, the row of a reaction, a node's variables and marks
+/// let saying = Boruvka::says(&Message::ChangeRoot);
+/// // its kind is `changeroot`, and it carries nothing
+/// ```
+pub trait Spoken: Protocol {
+    ghost use Rattle.std.specs.Prelude.{◌≡◌, ℕ, ◌++◌, false, IfOk};
+    ghost use Rattle.peer_words.specs.Touched.{is_touched};
+    ghost use Rattle.peer_words.specs.declared.spoken.Touched.{Touched};
+    ghost use Rattle.peer_words.specs.Words.{Words};
+
+    /// The words that the functions below say.
+    ghost words: { Words Self.Node Self.Message };
+
+    /// The ports whose marks a change may change.
+    ghost touched: { Self.Change → Touched };
+
+    /// The protocol's name, as options and stored runs have it.
+    fn name() -> Word
+        ensures { result ≡ words.name };
+
+    /// A message in words.
+    fn says(message: &Self::Message) -> Saying
+        ensures { result ≡ words.says message.now };
+
+    /// The row by which a node reacts to some work.
+    fn row(node: &Self::Node, work: &Work<Self::Message>) -> Word
+        ensures { result ≡ words.row node.now work.now };
+
+    /// Appends the variables of a node, in the order of the texts. Refusal: out of memory.
+    fn put_variables(list: &mut Vec<Said>, node: &Self::Node) -> Result<(), AllocError>
+        ensures { IfOk result (λ _. list.new.items ≡ list.old.items ++ words.variables node.now) };
+
+    /// The mark of a node's port.
+    fn mark(node: &Self::Node, port: u32) -> Word
+        ensures { result ≡ words.mark node.now port };
+
+    /// The ports whose marks a change may change. O(1).
+    fn touches(change: &Self::Change) -> Touched
+        ensures { result ≡ touched change.now };
+
+    /// A change keeps the marks of all other ports.
+    ghost keeps_marks: { (n : Self.Node) (c : Self.Change) (p : ℕ) → is_touched (touched c) p ≡ false → words.mark (Self.after n c) p ≡ words.mark n p };
+}
