@@ -1,5 +1,11 @@
-// Flood, as a warning: each node sends its row, which is its links, to all. Who has the rows of all nodes that it has
-// heard of computes the forest, and halts.
+// Flood, as a warning: each node sends its row, which is its links, to all.
+//
+// The rules of a node:
+//   - To wake: it sends its row on all ports.
+//   - A row that is new to it: it sends the row on all ports but the one on which it came.
+//   - When it has the row of each node that it has heard of: it computes the forest, and halts.
+//
+// In a connected network that is 2E·N - N(N - 1) messages in every order.
 #pragma once
 #include "peers_protocol.h"
 

@@ -1,5 +1,19 @@
-// Gather: each node that wakes by itself starts a wave, and the wave of the least number wins. Links come in with the
+// Gather: each node that wakes by itself starts a wave, and the wave of the smallest number wins. Links come in with the
 // answers, the leader computes the forest, and each node tells each child which of the links that it sent are in it.
+//
+// The rules of a node:
+//   - To wake: it joins the wave of its own number.
+//   - To join wave x: it forgets what other waves brought, sends Explore(x) on each port but its parent, and awaits an answer
+//     from each.
+//   - Explore(x): if it sleeps, or x is below its wave, it joins x, with that port as its parent. If x is its wave, the message
+//     is an answer. It ignores a greater x.
+//   - Back(x, links), x its wave: an answer too. It knows these links now, and the port leads to a child.
+//   - When it awaits no answer any more: it takes the minimum spanning forest of the links that it knows, its own among them
+//     (a link that is heaviest on a cycle isn't in the tree), and sends it to its parent as Back. Without a parent, that forest
+//     is the tree.
+//   - Tree(links): its ports in it become Branch, it sends each child those links of the tree that the child had sent, and halts.
+//
+// If one node wakes in a connected network, that is 2E + N - 1 messages in every order.
 #pragma once
 #include "peers_protocol.h"
 #include <iterator>

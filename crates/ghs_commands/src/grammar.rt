@@ -127,7 +127,7 @@ fn steps<'a>(alloc: Global) -> Result<Command<'a>, AllocError>
     Ok(command(
         alloc,
         "steps",
-        "Prints what each event of a stored run does, an event a line",
+        "Prints one line for each event of a stored run: what the event does",
         arguments,
     )?)
 }
@@ -154,7 +154,7 @@ fn sweep<'a>(alloc: Global) -> Result<Command<'a>, AllocError>
     Ok(command(
         alloc,
         "sweep",
-        "Runs the networks of graphs by the schedules of many seeds, and prints a line of figures for each run, or what they come to",
+        "Runs networks by the schedules of many seeds, and prints a line of figures for each run, or statistics of all runs",
         arguments,
     )?)
 }
@@ -179,7 +179,7 @@ fn view<'a>(alloc: Global) -> Result<Command<'a>, AllocError>
     Ok(command(
         alloc,
         "view",
-        "Prints a run as one page for a browser, to step through, or two runs beside each other",
+        "Prints a run, or two runs side by side, as one page for a browser",
         arguments,
     )?)
 }
@@ -199,7 +199,7 @@ fn make<'a>(alloc: Global) -> Result<Command<'a>, AllocError>
     Ok(command(
         alloc,
         "make",
-        "Makes a network of a kind by a seed, and prints it in the .gr format",
+        "Makes a network of a kind, and prints it in the .gr format",
         arguments,
     )?)
 }
@@ -221,7 +221,7 @@ fn explore<'a>(alloc: Global) -> Result<Command<'a>, AllocError>
     Ok(command(
         alloc,
         "explore",
-        "Explores all runs of a small network, and prints with which counts of messages they end",
+        "Explores all runs of a small network, and prints how many messages they send",
         arguments,
     )?)
 }
@@ -246,7 +246,7 @@ fn limit<'a>(alloc: Global) -> Arg<'a>
     ensures rule { rule_of result ≡ limit_rule }
 {
     option(alloc, "limit", "1000000").help(
-        "How many states the runs may lead to, 1 to 10000000; with more there is no answer",
+        "How many states the search may meet, 1 to 10000000; if there are more, it gives no answer",
     )
 }
 
@@ -256,7 +256,7 @@ fn found<'a>(alloc: Global) -> Arg<'a>
     ensures rule { rule_of result ≡ found_rule }
 {
     valued(alloc, "found", "print").default_value("report").help(
-        "What is printed: report, the counts with which runs end, or trace, the events of a run that ends with those of --end",
+        "What is printed. report: the counts of messages that runs end with; trace: the events of a run that ends with those of --end",
     )
 }
 
@@ -265,7 +265,7 @@ fn end<'a>(alloc: Global) -> Arg<'a>
     ensures local { result.global ≡ false }
     ensures rule { rule_of result ≡ end_rule }
 {
-    option(alloc, "end", "1").help("The number of the line of the report whose run is printed")
+    option(alloc, "end", "1").help("The number of the report's line whose run is printed")
 }
 
 /// The kind of the network.
@@ -308,7 +308,7 @@ fn links<'a>(alloc: Global) -> Arg<'a>
     ensures rule { rule_of result ≡ links_rule }
 {
     valued(alloc, "links", "links").help(
-        "How many links a random network or a forest has; without it two for each node, and in a forest three for four",
+        "How many links a random network or a forest has; by default two per node, and in a forest three per four nodes",
     )
 }
 
@@ -318,7 +318,7 @@ fn weights<'a>(alloc: Global) -> Arg<'a>
     ensures rule { rule_of result ≡ weights_rule }
 {
     valued(alloc, "weights", "weights").help(
-        "How links weigh: random, rising, falling or equal; without it random, but for slow, busy, farcore and chainwake, which have weights of their own",
+        "How links weigh: random, rising, falling or equal; by default random. slow, busy, farcore and chainwake have weights of their own",
     )
 }
 
@@ -328,7 +328,7 @@ fn trace<'a>(alloc: Global) -> Arg<'a>
     ensures rule { rule_of result ≡ trace_rule }
 {
     Arg::new(alloc, "TRACE")
-        .help("The stored run: the text of its events; - is standard input")
+        .help("The stored run, as the text of its events; - is standard input")
         .required(true)
 }
 
@@ -337,7 +337,7 @@ fn from<'a>(alloc: Global) -> Arg<'a>
     ensures local { result.global ≡ false }
     ensures rule { rule_of result ≡ from_rule }
 {
-    option(alloc, "from", "1").help("The number of the first event that is shown, counted from 1")
+    option(alloc, "from", "1").help("The number of the first event to show, counted from 1")
 }
 
 /// The number of the last.
@@ -345,7 +345,7 @@ fn to<'a>(alloc: Global) -> Arg<'a>
     ensures local { result.global ≡ false }
     ensures rule { rule_of result ≡ to_rule }
 {
-    option(alloc, "to", "1099511627776").help("The number of the last event that is shown")
+    option(alloc, "to", "1099511627776").help("The number of the last event to show")
 }
 
 /// Whose events are shown.
@@ -353,9 +353,7 @@ fn node<'a>(alloc: Global) -> Arg<'a>
     ensures local { result.global ≡ false }
     ensures rule { rule_of result ≡ node_rule }
 {
-    valued(alloc, "node", "node").help(
-        "The node whose events are shown; all nodes' where none is named",
-    )
+    valued(alloc, "node", "node").help("Shows the events of this node only")
 }
 
 /// Whether the lines are JSON.
@@ -372,7 +370,7 @@ fn file<'a>(alloc: Global) -> Arg<'a>
     ensures rule { rule_of result ≡ file_rule }
 {
     Arg::new(alloc, "FILE").help(
-        "The graph, in the .gr format; standard input where it is - or none is named",
+        "The graph, in the .gr format; standard input if it is - or left out",
     )
 }
 
@@ -382,7 +380,7 @@ fn files<'a>(alloc: Global) -> Arg<'a>
     ensures rule { rule_of result ≡ files_rule }
 {
     Arg::new(alloc, "FILE").action(ArgAction::Append).help(
-        "The graphs, in the .gr format; standard input where one is - or none is named",
+        "The graphs, in the .gr format; standard input for -, or if none is named",
     )
 }
 
@@ -394,7 +392,7 @@ fn names<'a>(alloc: Global) -> Arg<'a>
     flag(
         alloc,
         "names",
-        "Begins each line with the name of the graph's file, as where several are named",
+        "Begins each line with the name of the graph's file, as with several files",
     )
 }
 
@@ -422,7 +420,7 @@ fn pair<'a>(alloc: Global) -> Arg<'a>
     ensures rule { rule_of result ≡ pair_rule }
 {
     valued(alloc, "pair", "seeds").help(
-        "Two seeds, FIRST,SECOND, whose runs are shown beside each other, in place of the one of --seed",
+        "Two seeds, FIRST,SECOND, whose runs are shown side by side, in place of the run of --seed",
     )
 }
 
@@ -432,7 +430,7 @@ fn sharers<'a>(alloc: Global) -> Arg<'a>
     ensures rule { rule_of result ≡ workers_rule }
 {
     option(alloc, "workers", "0").help(
-        "How many threads share the runs, 0 to 64; 0 is one, and the text is the same for each",
+        "How many threads share the runs, 0 to 64; 0 means 1. The output is the same for each number",
     )
 }
 
@@ -442,7 +440,7 @@ fn schedule<'a>(alloc: Global) -> Arg<'a>
     ensures rule { rule_of result ≡ schedule_rule }
 {
     option(alloc, "schedule", "seeded").help(
-        "Which events the seed picks among: seeded, all that may happen, patient, those that move the run on, rounds, those of them whose message arrives in the round, waits, those that only put a message back as long as there are any, so that such a run needn't end before its turns, or lifo, that of the port to which a message was sent last; or round-robin, where the ports that hold a message are gone over lap after lap and a seed has no effect",
+        "How the seed picks the next event. seeded: among all that may happen; patient: among those that don't only defer a message; rounds: among those of them whose message arrives in the round; waits: among those that only defer a message, while there are any, so such a run may use up its turns; lifo: that of the port to which a message was sent last; round-robin: each port that holds a message in turn, and the seed has no effect",
     )
 }
 
@@ -452,7 +450,7 @@ fn protocol<'a>(alloc: Global) -> Arg<'a>
     ensures rule { rule_of result ≡ protocol_rule }
 {
     option(alloc, "protocol", "ghs").help(
-        "Which protocol the nodes follow: ghs, or boruvka, Borůvka in step, without threads and by a seeded schedule alone",
+        "Which protocol the nodes follow: ghs, or boruvka (Borůvka in step, which runs without threads and by a seeded schedule)",
     )
 }
 
@@ -462,7 +460,7 @@ fn workers<'a>(alloc: Global) -> Arg<'a>
     ensures rule { rule_of result ≡ workers_rule }
 {
     option(alloc, "workers", "0").help(
-        "How many threads take part, 0 to 64; with 0 the seed's schedule picks the events",
+        "How many threads take part, 0 to 64; with 0 the schedule picks the events",
     )
 }
 
@@ -480,7 +478,7 @@ fn print<'a>(alloc: Global) -> Arg<'a>
     ensures rule { rule_of result ≡ print_rule }
 {
     option(alloc, "print", "report").help(
-        "What is printed: report, the tree and the counts, trace, the events, or time, the longest chain of messages, the rounds or laps with their bound, and the bits",
+        "What is printed. report: the tree and the counts; trace: the events; time: the longest chain of messages, the rounds or laps with their bound, and the bits",
     )
 }
 
@@ -490,7 +488,7 @@ fn sheet<'a>(alloc: Global) -> Arg<'a>
     ensures rule { rule_of result ≡ sheet_rule }
 {
     valued(alloc, "sheet", "print").default_value("runs").help(
-        "What is printed: runs, a line of figures for each, summary, their range, percentiles and sums, or chart, a picture of them as SVG",
+        "What is printed. runs: a line of figures for each run; summary: their range, percentiles and sums; chart: a picture of them as SVG",
     )
 }
 
@@ -500,7 +498,7 @@ fn by<'a>(alloc: Global) -> Arg<'a>
     ensures rule { rule_of result ≡ by_rule }
 {
     valued(alloc, "by", "by").help(
-        "Counts the messages of each run by node or level, or how often each rule applied, by rule, a line for each",
+        "Prints a line for each part of a run: the messages of each node or level, or how often each rule applied",
     )
 }
 
@@ -510,7 +508,7 @@ fn stored<'a>(alloc: Global) -> Arg<'a>
     ensures rule { rule_of result ≡ stored_rule }
 {
     valued(alloc, "TRACE", "trace").help(
-        "The stored run that is shown, the text of its events, from standard input where it is -; without it the seed's",
+        "The stored run to show, as the text of its events; - is standard input. Without it the seed's run is shown",
     )
 }
 
@@ -522,7 +520,7 @@ fn core<'a>(alloc: Global) -> Arg<'a>
     flag(
         alloc,
         "core",
-        "Prints behind the tree, or the report of a run, each component's core and its level",
+        "Prints each component's core and its level after the tree or the report",
     )
 }
 
@@ -534,7 +532,7 @@ fn progress<'a>(alloc: Global) -> Arg<'a>
     flag(
         alloc,
         "progress",
-        "Tells standard error how far the run has come",
+        "Reports on standard error how far the run has come",
     )
 }
 
@@ -546,7 +544,7 @@ fn tally<'a>(alloc: Global) -> Arg<'a>
     flag(
         alloc,
         "tally",
-        "Tells standard error at the end what each of the threads has done",
+        "Reports on standard error, at the end, what each thread has done",
     )
 }
 
@@ -558,7 +556,7 @@ fn seeds_told<'a>(alloc: Global) -> Arg<'a>
     flag(
         alloc,
         "progress",
-        "Tells standard error how many of the seeds have been run",
+        "Reports on standard error how many seeds it has run",
     )
 }
 
@@ -570,7 +568,7 @@ fn states_told<'a>(alloc: Global) -> Arg<'a>
     flag(
         alloc,
         "progress",
-        "Tells standard error how many states have been met",
+        "Reports on standard error how many states it has met",
     )
 }
 
@@ -580,7 +578,7 @@ fn wake<'a>(alloc: Global) -> Arg<'a>
     ensures rule { rule_of result ≡ wake_rule }
 {
     option(alloc, "wake", "all").help(
-        "Which nodes wake by themselves: all, or the first of each component",
+        "Which nodes wake by themselves: all, or first, the smallest node of each component",
     )
 }
 
