@@ -122,7 +122,7 @@ async function open(events) {
 }
 const listed = list => list.length ? list.slice(0, 24).join(', ') + (list.length > 24 ? ', and ' + (list.length - 24) + ' more' : '') : 'none';
 const marksText = m => listed(m.both) + (m.one.length ? '; at one end alone: ' + listed(m.one) : '');
-const ENDS = { halted: 'ended, each component with a halted node', quiet: 'ended, and nothing may happen any more', stuck: 'came to a standstill: nothing may happen any more, and not every component has a node that has halted', turns: 'did not end within ' + LIMITS.turns + ' events' };
+const ENDS = { halted: 'ended, each component with a halted node', quiet: 'ended, and nothing may happen any more', stuck: 'came to a standstill: nothing may happen any more, and not every component has a node that has halted', turns: 'did not end within ' + LIMITS.turns + ' events, or sent more than ' + LIMITS.messages + ' messages' };
 async function runOne(rules, o) {
   const net = new Net(rules, o.wake), seed = seedNow();
   here.net = net;
